@@ -3,7 +3,7 @@
 
 usage: laying.py [PROGRAM [MEGABYTES]]
 
-PROGRAM is the built program lay_value; without it, crates/lay_value/out/lay_value. The value is made in a temporary folder, of bytes by
+PROGRAM is the built program time_value; without it, crates/time_value/out/time_value. The value is made in a temporary folder, of bytes by
 chance. Prints a Markdown table of user time, user and system time together, and peak memory, the least of five runs. `cat` hands the bytes
 through, Python's `bytearray` copies them once in memory. What laying out takes is the difference of the program's two rows.
 """
@@ -38,13 +38,13 @@ def least(words, text):
 
 
 def main():
-    program = sys.argv[1] if len(sys.argv) > 1 else str(TOP / "crates/lay_value/out/lay_value")
+    program = sys.argv[1] if len(sys.argv) > 1 else str(TOP / "crates/time_value/out/time_value")
     megabytes = int(sys.argv[2]) if len(sys.argv) > 2 else 200
     if not pathlib.Path(program).is_file():
-        sys.exit(f"{program} isn't there; `rt run` in crates/lay_value builds it")
+        sys.exit(f"{program} isn't there; `rt run` in crates/time_value builds it")
     rows = [
-        ("`lay_value`, reads and lays out", [program]),
-        ("`lay_value`, only reads", [program, "read"]),
+        ("`time_value`, reads and lays out", [program]),
+        ("`time_value`, only reads", [program, "read"]),
         ("Python, reads and copies", [sys.executable, "-c", COPY]),
         ("Python, only reads", [sys.executable, "-c", READ]),
         ("`cat`", ["cat"]),

@@ -3,10 +3,10 @@
 
 usage: loading.py [PROGRAM [PAIRS]]
 
-PROGRAM is the built program load_text; without it, crates/load_text/out/load_text. Two tables of user time and peak memory are printed, the
+PROGRAM is the built program time_load; without it, crates/time_load/out/time_load. Two tables of user time and peak memory are printed, the
 least of three runs each. The first has the texts of reading.py: a btree's, with keys of ten digits in order and data of 72 bytes; it writes the
 file. The second has keys in scrambled order, each key twice, with data of ten digits: `settle` makes the list alone. With the word `read`
-load_text only reads, so what the rest takes is the difference. Where the program or the library's tool is missing, nothing is timed.
+time_load only reads, so what the rest takes is the difference. Where the program or the library's tool is missing, nothing is timed.
 """
 import os
 import pathlib
@@ -26,11 +26,11 @@ def write_scrambled(path, pairs):
 
 
 def main():
-    program, most = arguments("load_text")
+    program, most = arguments("time_load")
     sizes = (most // 4, most // 2, most)
     with tempfile.TemporaryDirectory() as folder:
         text, image = os.path.join(folder, "text"), os.path.join(folder, "image")
-        print("| pairs in order | `load_text`, s | reads, s | settles and builds, s | `db5.3_load`, s | peak MB | its peak MB |")
+        print("| pairs in order | `time_load`, s | reads, s | settles and builds, s | `db5.3_load`, s | peak MB | its peak MB |")
         print("|---:|---:|---:|---:|---:|---:|---:|")
         for pairs in sizes:
             write_text(text, pairs)

@@ -3,7 +3,7 @@
 
 usage: reading.py [PROGRAM [PAIRS]]
 
-PROGRAM is the built program dump_again; without it, crates/dump_again/out/dump_again. The text is made in a temporary folder: a
+PROGRAM is the built program check_dumps; without it, crates/check_dumps/out/check_dumps. The text is made in a temporary folder: a
 btree's, in bytevalue, with keys of ten digits in order and data of 72 bytes. Prints a Markdown table of user time and peak memory,
 the least of three runs. Where the program or the library's tool is missing, nothing is timed.
 """
@@ -47,7 +47,7 @@ def arguments(name):
 
 
 def main():
-    program, pairs = arguments("dump_again")
+    program, pairs = arguments("check_dumps")
     with tempfile.TemporaryDirectory() as folder:
         text, image = os.path.join(folder, "text"), os.path.join(folder, "image")
         write_text(text, pairs)

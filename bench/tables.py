@@ -3,8 +3,8 @@
 
 usage: tables.py [PROGRAM [PAIRS]]
 
-PROGRAM is the built program grow_table; without it, crates/grow_table/out/grow_table. The texts have keys of ten digits in scrambled order and data of
-72 bytes. With a word grow_table only makes the list, so what building takes is the difference of its two runs. Prints a Markdown table of user time
+PROGRAM is the built program time_table; without it, crates/time_table/out/time_table. The texts have keys of ten digits in scrambled order and data of
+72 bytes. With a word time_table only makes the list, so what building takes is the difference of its two runs. Prints a Markdown table of user time
 and peak memory, the least of three runs. Where the program or the library's tool is missing, nothing is timed.
 """
 import os
@@ -24,7 +24,7 @@ def write_text(path, pairs):
 
 
 def main():
-    program, most = arguments("grow_table")
+    program, most = arguments("time_table")
     print("| pairs | reads, settles and builds, s | reads and settles, s | builds, s | `db5.3_load`, s | peak MB | its peak MB |")
     print("|---:|---:|---:|---:|---:|---:|---:|")
     with tempfile.TemporaryDirectory() as folder:

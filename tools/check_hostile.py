@@ -321,7 +321,7 @@ def main():
     parser.add_argument("program", nargs="?", default=str(TOP / "crates/bdbtool/out/bdbtool"))
     given = parser.parse_args()
     runs, copies = Runs(given.program), 0
-    for file in sorted(TOP / "crates/nothing_lost/data" / text.name.removesuffix(".dump") for text in (TOP / "real/dumps").iterdir()):
+    for file in sorted(TOP / "crates/check_salvage/data" / text.name.removesuffix(".dump") for text in (TOP / "real/dumps").iterdir()):
         image = file.read_bytes()
         draw = random.Random(f"{given.seed} {file.name}")
         for number in range(given.copies):

@@ -18,11 +18,11 @@ import tempfile
 TOP = pathlib.Path(__file__).resolve().parent.parent
 SECONDS_A_RUN = 60
 MEMORY = 7
-NAMED, LONG = (TOP / "crates/nothing_lost/data" / name for name in ("sub_one_512_le.db", "bt_dup_ovdata_1024_le.db"))
+NAMED, LONG = (TOP / "crates/check_salvage/data" / name for name in ("sub_one_512_le.db", "bt_dup_ovdata_1024_le.db"))
 TEXTS = [TOP / "real/dumps" / f"{it.name}.dump" for it in (NAMED, LONG)]
 # Files of which several things are told: a fault of ten leaves and pages, a case that is left out beside a fault, and faults of a master.
-OUT_OF_ORDER = TOP / "crates/nothing_lost/data/bt_owncmp_1024_be.db"
-LEFT_OUT, NAMED_TWICE = (TOP / "crates/bdb_images/data" / f"{it}.db" for it in ("stage2-code15-many-1", "stage7-code04-many-0"))
+OUT_OF_ORDER = TOP / "crates/check_salvage/data/bt_owncmp_1024_be.db"
+LEFT_OUT, NAMED_TWICE = (TOP / "crates/check_images/data" / f"{it}.db" for it in ("stage2-code15-many-1", "stage7-code04-many-0"))
 # The words, the input, and the status of the whole run.
 COMMANDS = [
     *[([command], file, 0) for command in ("verify", "list", "dump", "salvage") for file in (NAMED, LONG)],

@@ -155,7 +155,7 @@ def large_file(folder, kind, pairs):
 
 def check_again(program, folder, pairs):
     """How many dumps were asked for, and how many are the same text once more."""
-    files = sorted(TOP / "crates/nothing_lost/data" / text.name.removesuffix(".dump") for text in (TOP / "real/dumps").iterdir())
+    files = sorted(TOP / "crates/check_salvage/data" / text.name.removesuffix(".dump") for text in (TOP / "real/dumps").iterdir())
     files += [large_file(folder, kind, pairs) for kind in ("btree", "hash", "recno", "queue") if pairs]
     asked = held = 0
     for file in files:
@@ -210,7 +210,7 @@ def converted_wrong(program, folder, image):
 def check_converted(program, folder):
     """How many real files are sound, and how many of them are converted as they should be."""
     asked = held = 0
-    for file in sorted((TOP / "crates/nothing_lost/data").iterdir()):
+    for file in sorted((TOP / "crates/check_salvage/data").iterdir()):
         image = file.read_bytes()
         if run(program, "verify", given=image).returncode:
             continue
@@ -273,7 +273,7 @@ def repaired_wrong(program, folder, image, guess, words, kind, which):
 def check_repaired(program, folder):
     """How many damaged copies of real files were repaired, and how many of the new files are as they should be."""
     asked = held = 0
-    for file in sorted((TOP / "crates/nothing_lost/data").iterdir()):
+    for file in sorted((TOP / "crates/check_salvage/data").iterdir()):
         image = file.read_bytes()
         guess = ("--order", order_words(image)[0], "--page-size", str(int.from_bytes(image[20:24], order_words(image)[0])))
         for part, first, left in DAMAGES:
@@ -339,7 +339,7 @@ def onto_wrong(program, folder, image):
 def check_onto(program, folder):
     """How many real files are sound, for the original too, and have a database; and onto how many of them a text is loaded as the original does."""
     asked = held = 0
-    for file in sorted((TOP / "crates/nothing_lost/data").iterdir()):
+    for file in sorted((TOP / "crates/check_salvage/data").iterdir()):
         image = file.read_bytes()
         if run(program, "verify", given=image).returncode or not run(program, "list", given=image).stdout or verifier_told(file):
             continue

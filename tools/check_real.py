@@ -21,7 +21,7 @@ from typing import NamedTuple
 TOP = pathlib.Path(__file__).resolve().parent.parent
 REAL = TOP / "real"
 # Where the gate wants the files of a program that it runs.
-FILES = TOP / "crates/nothing_lost/data"
+FILES = TOP / "crates/check_salvage/data"
 SECONDS_A_RUN = 60
 NOT_BTREE = 12
 LONGEST_SHOWN = 120

@@ -3,7 +3,7 @@
 
 usage: check_texts.py [PROGRAM]
 
-PROGRAM is the built program dump_again; without it, crates/dump_again/out/dump_again, which `rt run` builds in its crate. A text
+PROGRAM is the built program check_dumps; without it, crates/check_dumps/out/check_dumps, which `rt run` builds in its crate. A text
 with one of the header lines of REFUSED must be refused at that line, by its reason. Prints a line for each text that is answered
 otherwise, and then how many hold and how many of these are refused; the exit status is 1 where one doesn't hold.
 """
@@ -37,9 +37,9 @@ def holds(program, text):
 
 
 def main():
-    program = sys.argv[1] if len(sys.argv) > 1 else TOP / "crates/dump_again/out/dump_again"
+    program = sys.argv[1] if len(sys.argv) > 1 else TOP / "crates/check_dumps/out/check_dumps"
     if not pathlib.Path(program).is_file():
-        sys.exit(f"{program} isn't there; `rt run` in crates/dump_again builds it")
+        sys.exit(f"{program} isn't there; `rt run` in crates/check_dumps builds it")
     files = sorted((TOP / "real/dumps").iterdir())
     held = refused = 0
     for file in files:

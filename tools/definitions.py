@@ -12,7 +12,7 @@ PAGE = TOP / "docs/DEFINITIONS.md"
 MARKER = "<!-- From here on the page is written by tools/definitions.py. -->\n"
 DEFINITION = re.compile(r"(?:abbrev |unfoldable |opaque )?pub (?!use |mod )(?:record |data )?(?P<name>[^\s({]+)(?P<rest>.*)")
 # The definitions of these crates are the bytes of files, and answers for them.
-BYTES = re.compile(r"_samples$|_tests$|^bdb_images$")
+BYTES = re.compile(r"^sample_|_tests$|^check_images$")
 
 
 def crates():

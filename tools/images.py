@@ -1,5 +1,5 @@
 #!/usr/bin/env python3
-"""images.py [--check]: writes the images of crates/tool_runs/data from its fields.txt, or with --check says which of them differ.
+"""images.py [--check]: writes the images of crates/check_runs/data from its fields.txt, or with --check says which of them differ.
 
 A part, `part NAME`, and a file, `file NAME LENGTH: PARTS..`, has lines of its own behind it: the number of a first byte, bytes as hexadecimal digits
 (`62*400`: so often), and what they are. A file is zeros, its parts one after another, and its own lines over them, cut at its length.
@@ -8,7 +8,7 @@ A part, `part NAME`, and a file, `file NAME LENGTH: PARTS..`, has lines of its o
 import sys
 from pathlib import Path
 
-DATA = Path(__file__).resolve().parent.parent / "crates/tool_runs/data"
+DATA = Path(__file__).resolve().parent.parent / "crates/check_runs/data"
 
 
 def bytes_of(spelled):

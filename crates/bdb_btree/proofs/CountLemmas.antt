@@ -105,7 +105,8 @@ none_passed has image p page left forest keyed is all =
 -- one more item
 pub more_passed : (before now after : List Fault → Type 0) (file : File) (p : ℕ) (counts below sum : Counts) (wrong out : Bool) (item : InternalItem)
     (rest left : List InternalItem)
-    → left ≡ item ∷ rest → sum ≡ added counts below → out ≡ (nat_lt item.count below.live || nat_lt below.all item.count) → item.count < 2 ^ 32 → IsPassed before now file p counts wrong left → below ≡ counts_of (tree_pairs file item.child)
+    → left ≡ item ∷ rest → sum ≡ added counts below → out ≡ (nat_lt item.count below.live || nat_lt below.all item.count) → item.count < 2 ^ 32
+    → IsPassed before now file p counts wrong left → below ≡ counts_of (tree_pairs file item.child)
     → NotesAll now after (faults_at Count (λ q. has_wrong_count file (page_at file q)) (inner_pages file item.child))
     → IsPassed before after file p sum (wrong || out) rest
 more_passed before now after file p counts below sum wrong out item rest left next sum_is out_is small so_far is noted =

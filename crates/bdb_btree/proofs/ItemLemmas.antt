@@ -115,7 +115,8 @@ pairs_joined image p page forest is =
     ap (flat_map (pairs_of file)) (leaves_of_inner image p (map (λ (it : InternalItem). it.child) page.items) forest (ap children_in is))
     ∙ (flat_map_twice (pairs_of file) (leaves file) (map (λ (it : InternalItem). it.child) page.items) ∙ mapped page.items)
   where
-    mapped : (items : List InternalItem) → flat_map (λ c. flat_map (pairs_of (file_of image)) (leaves (file_of image) c)) (map (λ (it : InternalItem). it.child) items)
+    mapped : (items : List InternalItem) → flat_map (λ c. flat_map (pairs_of (file_of image)) (leaves (file_of image) c))
+        (map (λ (it : InternalItem). it.child) items)
         ≡ flat_map (λ (item : InternalItem). flat_map (pairs_of (file_of image)) (leaves (file_of image) item.child)) items
     mapped [] = refl
     mapped (item ∷ items) = ap (λ ps. flat_map (pairs_of (file_of image)) (leaves (file_of image) item.child) ++ ps) (mapped items)

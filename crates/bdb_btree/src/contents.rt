@@ -140,7 +140,8 @@ fn note_counted<F: FaultSink>(
 ) -> Result<(), AllocError>
     requires { IsKeyed (file_of forest.now) root }
     ensures { OnOk result (NotesAll (F.has_noted found.old) (F.has_noted found.new)
-        (if keeps_counts then faults_at Count (λ p. has_wrong_count (file_of forest.now) (page_at (file_of forest.now) p)) (inner_pages (file_of forest.now) root) else [])) }
+        (if keeps_counts then faults_at Count (λ p. has_wrong_count (file_of forest.now) (page_at (file_of forest.now) p))
+        (inner_pages (file_of forest.now) root) else [])) }
 {
     if keeps_counts {
         note_counts(forest, root, found)?;

@@ -49,7 +49,8 @@ pub(crate) fn is_not_above(
 ) -> Result<bool, AllocError>
     requires before { FitsAny (file_of known.old) before }
     requires value { FitsHeld (file_of known.old) value }
-    ensures above { IfOk result (λ is. is ≡ is_not_above (option_map (value_held (file_of known.old)) before.entry) (value_held (file_of known.old) value.entry)) }
+    ensures above { IfOk result (λ is. is ≡ is_not_above (option_map (value_held (file_of known.old)) before.entry)
+        (value_held (file_of known.old) value.entry)) }
     ensures same { known.new ≡ known.old }
 {
     match before {

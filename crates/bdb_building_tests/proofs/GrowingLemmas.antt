@@ -7,7 +7,7 @@ use Rattle.bdb_format.specs.ContentRows.{ascends, ascends_from}
 use Rattle.bdb_format.specs.Less.{less}
 use Rattle.bdb_format.specs.Reading.{is_zero}
 use Rattle.bdb_pack.specs.Built.{Built}
-use Rattle.bdb_leaves.specs.Units.{KeyedUnit, TreeUnit, key_of}
+use Rattle.bdb_mkleaves.specs.Units.{KeyedUnit, TreeUnit, key_of}
 use Rattle.bdb_mktree.specs.Building.{Building, units_of}
 use Rattle.bdb_mktree.specs.Units.{IsNext}
 use Rattle.bdb_mktree.specs.declared.builder.TreeBuilder.{TreeBuilder}
@@ -34,7 +34,8 @@ grown old_pages new_pages old new before key values growing above building setti
       building = building;
       kind = ap (λ s. s.kind) settings ∙ growing.kind;
       next = λ other higher.
-          subst (λ keys. ascends (keys ++ (other ∷ [])) ≡ true) (sym (ap (map key_of) units ∙ map-append key_of (units_of old old_pages) (KeyedUnit key values ∷ [])))
+          subst (λ keys. ascends (keys ++ (other ∷ [])) ≡ true) (sym (ap (map key_of) units ∙ map-append key_of (units_of old old_pages)
+          (KeyedUnit key values ∷ [])))
           (more (map key_of (units_of old old_pages)) key other (growing.next key above) higher);
     }
 

@@ -6,7 +6,7 @@ use Rattle.bdb_format.specs.declared.kinds.Kind.TheVariants.{Btree}
 use Rattle.bdb_text_format.specs.declared.pairs.Pair.{Pair}
 use Rattle.bdb_text_format.specs.declared.pairs.Key.TheVariants.{Number}
 use Rattle.bdb_pack.specs.Built.{Built}
-use Rattle.bdb_leaves.specs.Units.{key_of}
+use Rattle.bdb_mkleaves.specs.Units.{key_of}
 use Rattle.bdb_mktree.specs.Building.{Building, units_of}
 use Rattle.bdb_mktree.specs.declared.builder.TreeBuilder.{TreeBuilder}
 use Rattle.bdb_text_format.specs.declared.lent.PairRef.{PairRef}

@@ -4,7 +4,7 @@ ghost use Rattle.std.specs.Prelude.{◌≡◌, ◌<◌, ◌^◌, ◌∷◌, [], 
 ghost use Rattle.bdb_format.specs.HeadOf.{is_page_size};
 ghost use Rattle.bdb_format.specs.declared.kinds.Kind.TheVariants.{Btree};
 ghost use Rattle.bdb_places.specs.Places.{value_at};
-ghost use Rattle.bdb_leaves.specs.Units.{KeyedUnit};
+ghost use Rattle.bdb_mkleaves.specs.Units.{KeyedUnit};
 ghost use Rattle.bdb_mktree.specs.Units.{unit_seen};
 ghost use Rattle.bdb_building_tests.specs.Trees.{is_above};
 

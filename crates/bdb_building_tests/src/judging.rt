@@ -3,9 +3,9 @@
 use crate::built_table;
 use crate::trees::{TreeImage, built_tree};
 use bdb_format::Settings;
-use bdb_judging::gives;
 use bdb_text_format::PairSlice;
 use std::alloc::{AllocError, Global};
+use test_lists::gives;
 
 /// How many levels a tree has, and how many pages its file, the metadata among them.
 #[derive(Clone, Copy)]

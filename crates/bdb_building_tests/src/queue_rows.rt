@@ -5,11 +5,11 @@ use crate::settings::queue_settings;
 use crate::values::ORDERS;
 use bdb_format::{Bytes, Kind, Order};
 use bdb_gen::generate;
-use bdb_judging::gives;
 use bdb_layout::u32_at;
 use bdb_text_format::{KeyRef, PairRef, TextPairs};
 use std::alloc::{AllocError, Global};
 use std::test::Fail;
+use test_lists::gives;
 
 /// A queue of records with these numbers: what its metadata says, how many pages the file has, and which of them are zero pages.
 #[derive(Clone, Copy)]

@@ -6,10 +6,10 @@ use crate::settings::{plain, tree_settings};
 use crate::trees::tree_image;
 use crate::values::{Keyed, Numbered, ORDERS, copy, keyed, numbered, push};
 use bdb_format::{Bytes, Kind, Order};
-use bdb_judging::gives;
 use bdb_text_format::{KeyRef, TextPairs};
 use std::alloc::{AllocError, Global};
 use std::test::Fail;
+use test_lists::gives;
 
 /// Flags, the pairs, a key that isn't there, levels and pages of 512 bytes.
 type KeyedRow = (u32, &'static [Keyed], &'static [u8], u8, usize);

@@ -3,8 +3,8 @@
 use crate::btree_separators::{SEPARATOR_IN_ANOTHER, SEPARATOR_IN_ONE};
 use crate::btrees::told_of;
 use crate::told::{Judged, Told};
-use bdb_fixtures::{Field, Sample};
 use std::alloc::Global;
+use test_images::{Field, Sample};
 
 const DUPLICATES_IN_ONE: Judged = Judged {
     sample: Sample {

@@ -1,7 +1,7 @@
 //! Btrees with a wrong separator, which was told apart from this code.
 
 use crate::told::{Judged, Told};
-use bdb_fixtures::{Field, Sample};
+use test_images::{Field, Sample};
 
 pub const SEPARATOR_IN_ONE: Judged = Judged {
     sample: Sample {

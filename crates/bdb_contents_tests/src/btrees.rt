@@ -4,13 +4,13 @@ ghost use Rattle.std.specs.Prelude.{◌≡◌};
 
 use crate::told::{Told, told_by};
 use bdb_btree::{HeldPair, check, pairs};
-use bdb_fixtures::{Field, btree_of, has_sound_trees, is_keyed, write};
 use bdb_format::{Order, Steps};
 use bdb_graph::{Linked, link, open_image};
 use bdb_overflow::{Held, is_deleted, leaf_held};
 use std::alloc::Global;
 use std::marker::Brand;
 use std::sync::ledger::{Blank, Ledger};
+use test_images::{Field, btree_of, has_sound_trees, is_keyed, write};
 
 const SIZE: usize = 4 * 512;
 

@@ -1,6 +1,6 @@
 //! Hash files with a fault of contents, which was told apart from this code.
 
-use bdb_fixtures::{Field, Sample};
+use test_images::{Field, Sample};
 
 pub const DUPLICATES: Sample = Sample {
     size: 2048,

@@ -11,7 +11,6 @@ use crate::hash_samples::{
     DUPLICATES, DUPLICATES_TWICE, ELSEWHERE, ELSEWHERE_FIRST, KEY_TWICE, KEY_TWICE_LATER, UNSORTED,
     UNSORTED_FIRST, WRONG_SET,
 };
-use bdb_fixtures::{Field, Sample, has_sound_trees, write};
 use bdb_format::{CheckError, Fault, HashMeta, Order, Steps};
 use bdb_graph::{Linked, Meta, link, open_image};
 use bdb_hash::{Found, Scan, check, find, scan};
@@ -20,6 +19,7 @@ use std::alloc::Global;
 use std::cmp::Ordering;
 use std::marker::Brand;
 use std::sync::ledger::{Blank, Ledger};
+use test_images::{Field, Sample, has_sound_trees, write};
 
 const SIZE: usize = 9 * 512;
 

@@ -1,6 +1,6 @@
 //! Btrees written a field a line, with what they list and what is found in them.
 
-use bdb_fixtures::Field;
+use test_images::Field;
 
 /// A key with one of its data.
 #[derive(Clone, Copy)]

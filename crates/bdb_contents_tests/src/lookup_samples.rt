@@ -2,8 +2,8 @@
 
 use crate::lookup_cases::Entry;
 use crate::lookups::has_list;
-use bdb_fixtures::{Field, Sample};
 use std::alloc::Global;
+use test_images::{Field, Sample};
 
 /// A file with the list of its btree, and keys that aren't in it.
 struct Listed {

@@ -10,7 +10,6 @@ ghost use Rattle.bdb_format.specs.Flags.{is_recno};
 
 use crate::lookup_cases::{CASES, Case, Entry, Part};
 use bdb_btree::{Found, Scan, check, find, scan};
-use bdb_fixtures::{btree_of, has_sound_trees, is_keyed, write};
 use bdb_format::{BtreeMeta, Order, Steps};
 use bdb_graph::{Linked, link, open_image};
 use bdb_overflow::{Datum, KeyView, compare_datum};
@@ -18,6 +17,7 @@ use std::alloc::Global;
 use std::cmp::Ordering;
 use std::marker::Brand;
 use std::sync::ledger::{Blank, Ledger};
+use test_images::{btree_of, has_sound_trees, is_keyed, write};
 
 const SIZE: usize = 9 * 512;
 

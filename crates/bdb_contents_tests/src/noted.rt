@@ -11,13 +11,12 @@ use crate::btrees::COUNTED;
 use crate::hashes::THREE_BUCKETS;
 use crate::recnos::THREE_LEVELS;
 use bdb_faults::NamedList;
-use bdb_fixtures::{Field, has_sound_trees, is_keyed, is_recno, write};
 use bdb_format::{BtreeMeta, HashMeta, Order, Steps};
 use bdb_graph::{Linked, Meta, link, open_image};
-use bdb_naming::has_rows;
 use std::alloc::Global;
 use std::marker::Brand;
 use std::sync::ledger::{Blank, Ledger};
+use test_images::{Field, has_rows, has_sound_trees, is_keyed, is_recno, write};
 
 const SIZE: usize = 8 * 512;
 

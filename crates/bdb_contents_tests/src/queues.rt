@@ -5,7 +5,6 @@ ghost use Rattle.bdb_graph.specs.Linked.{HasMetadata};
 ghost use Rattle.bdb_format.specs.File.{file_of};
 ghost use Rattle.bdb_format.specs.Page.{QueueFields};
 
-use bdb_fixtures::{Field, write};
 use bdb_format::{Order, QueueMeta, Steps};
 use bdb_graph::{Linked, Meta, link, open_image};
 use bdb_overflow::{Datum, KeyView};
@@ -13,6 +12,7 @@ use bdb_queue::{Scan, find, scan};
 use std::alloc::Global;
 use std::marker::Brand;
 use std::sync::ledger::{Blank, Ledger};
+use test_images::{Field, write};
 
 const SIZE: usize = 4 * 512;
 

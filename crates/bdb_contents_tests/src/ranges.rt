@@ -11,13 +11,13 @@ ghost use Rattle.bdb_format.specs.Flags.{is_recno};
 use crate::lookup_cases::{Entry, Part};
 use crate::lookups::{is_next_entry, write_part};
 use bdb_btree::check;
-use bdb_fixtures::{Field, btree_of, has_sound_trees, is_keyed};
 use bdb_format::{BtreeMeta, Order, Steps};
 use bdb_graph::{Linked, link, open_image};
 use bdb_range::{RangePairs, pairs_of, span};
 use std::alloc::Global;
 use std::marker::Brand;
 use std::sync::ledger::{Blank, Ledger};
+use test_images::{Field, btree_of, has_sound_trees, is_keyed};
 
 /// Two bounds; the first leaf of their range, and how many leaves it has; and its pairs.
 struct Asked {

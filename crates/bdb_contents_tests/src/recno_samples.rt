@@ -2,8 +2,8 @@
 
 use crate::recnos::told_of;
 use crate::told::{Judged, Told};
-use bdb_fixtures::{Field, Sample};
 use std::alloc::Global;
+use test_images::{Field, Sample};
 
 const COUNT_IN_ONE: Judged = Judged {
     sample: Sample {

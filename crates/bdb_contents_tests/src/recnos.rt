@@ -10,7 +10,6 @@ ghost use Rattle.bdb_format.specs.Verdict.{structure_faults};
 ghost use Rattle.bdb_format.specs.Flags.{is_recno};
 
 use crate::told::{Told, told_by};
-use bdb_fixtures::{Field, btree_of, has_sound_trees, is_recno, write};
 use bdb_format::{BtreeMeta, Order, Steps};
 use bdb_graph::{Linked, link, open_image};
 use bdb_overflow::{Datum, KeyView};
@@ -18,6 +17,7 @@ use bdb_recno::{Scan, check, find, scan};
 use std::alloc::Global;
 use std::marker::Brand;
 use std::sync::ledger::{Blank, Ledger};
+use test_images::{Field, btree_of, has_sound_trees, is_recno, write};
 
 const SIZE: usize = 8 * 512;
 

@@ -1,7 +1,7 @@
 //! What the check of a database says, and samples beside it.
 
-use bdb_fixtures::Sample;
 use bdb_format::{CheckError, Fault};
+use test_images::Sample;
 
 /// What the check of a database says; refused is a file on which it is not run.
 #[derive(Clone, Copy, Debug, PartialEq, Eq)]

@@ -1,5 +1,6 @@
 -- The faults of each stage ascend by page and code.
-use Rattle.std.proofs.Common.{◌≡◌, ℕ, zero, suc, ◌+◌, ◌-◌, ◌<◌, ◌≤◌, Bool, true, false, cond, List, [], ◌∷◌, ◌++◌, map, arith, refl, sym, ◌∙◌, ap, subst, inl, inr}
+use Rattle.std.proofs.Common.{◌≡◌, ℕ, zero, suc, ◌+◌, ◌-◌, ◌<◌, ◌≤◌, Bool, true, false, cond, List, [], ◌∷◌, ◌++◌, map, arith, refl, sym, ◌∙◌, ap, subst, inl}
+use Rattle.std.proofs.Common.{inr}
 use Rattle.std.specs.Prelude.{◌==◌, if◌then◌else◌, Option, Some, None}
 use Rattle.std.specs.List.{Contains, range_with_len}
 use Rattle.std.specs.Option.{option_to_list}
@@ -18,7 +19,9 @@ use Rattle.bdb_format.specs.HeadOf.{head_of, head_rows, left_out_as, form_fault,
 use Rattle.bdb_format.specs.Rows.{form_code}
 use Rattle.bdb_format.specs.Master.{master_rows}
 use Rattle.bdb_format.specs.ContentRows.{contents_rows, holds_somewhere}
-use Rattle.bdb_format.specs.Verdict.{Judgement, Faulty, judged, judgement_of, holding, by_page, or_else, stage_faults, faults_in, head_faults, tail_faults, form_faults, reference_faults, ownership_faults, reach_faults, structure_faults, master_faults, contents_faults, tail_rows, reference_rows, ownership_rows, reach_rows, structure_rows}
+use Rattle.bdb_format.specs.Verdict.{Judgement, Faulty, judged, judgement_of, holding, by_page, or_else, stage_faults, faults_in, head_faults, tail_faults}
+use Rattle.bdb_format.specs.Verdict.{form_faults, reference_faults, ownership_faults, reach_faults, structure_faults, master_faults, contents_faults, tail_rows}
+use Rattle.bdb_format.specs.Verdict.{reference_rows, ownership_rows, reach_rows, structure_rows}
 use Rattle.bdb_format.proofs.ListLemmas.{only_member}
 use Rattle.bdb_format.proofs.MemberLemmas.{first_member, later_member, member_cases, no_member, of_map}
 use Rattle.bdb_format.proofs.VerdictLemmas.{IsOfStage, of_by_page}
@@ -37,7 +40,8 @@ judged_page stage page (NamedCase name) = refl
 -- a fault stands at its page
 pub at_page : (fault : Fault) → page_of (judgement_of fault) ≡ fault.page
 at_page fault =
-    cond_both (fault.stage == 1) (judged 1 fault.page (head_fault fault.code)) (cond (fault.stage == 2) (judged 2 fault.page (form_fault fault.code)) (Faulty fault))
+    cond_both (fault.stage == 1) (judged 1 fault.page (head_fault fault.code))
+    (cond (fault.stage == 2) (judged 2 fault.page (form_fault fault.code)) (Faulty fault))
     (λ j. page_of j ≡ fault.page) (λ first. judged_page 1 fault.page (head_fault fault.code))
     (λ later. cond_both (fault.stage == 2) (judged 2 fault.page (form_fault fault.code)) (Faulty fault) (λ j. page_of j ≡ fault.page)
     (λ second. judged_page 2 fault.page (form_fault fault.code)) (λ other. refl))
@@ -134,7 +138,8 @@ page_ascends stage page (code ∷ codes) placed rise = (
   page_ascends stage page codes (λ later at. placed later (later_member code codes later at)) rise.1,
 )
   where
-    before : (later : ℕ) → code < later → IsPlaced stage code → IsPlaced stage later → ComesBefore (judgement_of (named stage page code)) (judgement_of (named stage page later))
+    before : (later : ℕ) → code < later → IsPlaced stage code → IsPlaced stage later
+        → ComesBefore (judgement_of (named stage page code)) (judgement_of (named stage page later))
     before later low here there =
         inr (at_page (named stage page code) ∙ sym (at_page (named stage page later)), omega (arith, here page, there page))
 
@@ -157,7 +162,8 @@ placed_ascend stage from (suc n) codes placed rise =
     let page_y : page_of y ≡ second.0.page = ap page_of (sym second.2) ∙ at_page second.0 in
     inl (omega (arith, of.from_low, page_x, page_y))))
 
-pub by_page_ascends : (stage from n : ℕ) (codes : ℕ → List ℕ) → 3 ≤ stage → ((page : ℕ) → CodesRise (codes page)) → Ascends (map judgement_of (by_page stage from n codes))
+pub by_page_ascends : (stage from n : ℕ) (codes : ℕ → List ℕ) → 3 ≤ stage → ((page : ℕ) → CodesRise (codes page))
+    → Ascends (map judgement_of (by_page stage from n codes))
 by_page_ascends stage from n codes late rise = placed_ascend stage from n codes (λ page code at. late_placed stage code late) rise
 
 -- those of a table whose codes rise, from stage 3 on
@@ -201,7 +207,8 @@ tail_up image =
 form_up : (image : List ℕ) → AreUp (form_faults image)
 unfolding form_faults
 form_up image =
-    placed_ascend 2 0 ((head_of image).last + 1) _ (λ page code at. form_placed code) (λ p. one_rises (form_code (head_of image) p (page_bytes (head_of image) image p)))
+    placed_ascend 2 0 ((head_of image).last + 1) _ (λ page code at. form_placed code)
+    (λ p. one_rises (form_code (head_of image) p (page_bytes (head_of image) image p)))
 
 chosen : (image : List ℕ) (stage k : ℕ) (here others : List ℕ → List Fault) → AreUp (here image) → AreUp (others image)
     → AreUp ((if stage == k then here else others) image)

@@ -4,7 +4,8 @@ use Rattle.std.specs.Prelude.{◌==◌}
 use Rattle.std.proofs.lemmas.Bool.{cases_eq, eqb-true}
 use Rattle.std.proofs.lemmas.List.{get_or_past}
 use Rattle.bdb_format.specs.declared.kinds.Unsupported.{Unsupported}
-use Rattle.bdb_format.specs.declared.kinds.Unsupported.TheVariants.{Version, Heap, LargePage, Encryption, Checksum, Partition, Extent, Compression, OwnHash, WrappedQueue}
+use Rattle.bdb_format.specs.declared.kinds.Unsupported.TheVariants.{Version, Heap, LargePage, Encryption, Checksum, Partition, Extent, Compression, OwnHash}
+use Rattle.bdb_format.specs.declared.kinds.Unsupported.TheVariants.{WrappedQueue}
 use Rattle.bdb_format.specs.declared.metadata.MetaFault.{MetaFault}
 use Rattle.bdb_format.specs.declared.metadata.MetaFault.TheVariants.{Fault as CodeFault, Unsupported as NamedCase}
 use Rattle.bdb_format.specs.FaultNames.{fault_name, row_names, unsupported_name}
@@ -104,7 +105,13 @@ no_form_case code beyond =
           far 7 (omega arith) (omega arith),
           (
             far 8 (omega arith) (omega arith),
-            (far 9 (omega arith) (omega arith), (far 11 (omega arith) (omega arith), (far 15 (omega arith) (omega arith), (far 18 (omega arith) (omega arith), tt)))),
+            (
+              far 9 (omega arith) (omega arith),
+              (
+                far 11 (omega arith) (omega arith),
+                (far 15 (omega arith) (omega arith), (far 18 (omega arith) (omega arith), tt)),
+              ),
+            ),
           ),
         ),
       ),

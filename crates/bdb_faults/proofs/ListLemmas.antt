@@ -36,7 +36,11 @@ first_same a b ls rs up_a up_b same =
 -- and so are the later ones
 later_of : (a b other : Judgement) (ls rs : List Judgement) → Ascends (a ∷ ls) → a ≡ b → Contains ls other → Contains (b ∷ rs) other → Contains rs other
 later_of a b other ls rs up is at there =
-    elim (member_cases b rs other there) [ inl here ↦ absurd (not_itself other (subst (λ j. ComesBefore j other) (is ∙ here) (up.0 other at))) | inr later ↦ later ]
+    elim (member_cases b rs other there) [
+      | inl here ↦ absurd (not_itself other (subst (λ j. ComesBefore j other) (is ∙ here) (up.0 other at)))
+      | inr later ↦
+          later
+    ]
 
 pub same_list : (ls rs : List Judgement) → Ascends ls → Ascends rs → Same ls rs → ls ≡ rs
 same_list [] [] up_a up_b same = refl

@@ -2,15 +2,19 @@
 use Rattle.std.specs.Prelude.{ℕ, Option, Some, None}
 use Rattle.bdb_format.specs.declared.kinds.Fault.{Fault}
 use Rattle.bdb_format.specs.declared.kinds.Unsupported.{Unsupported}
-use Rattle.bdb_format.specs.declared.kinds.Unsupported.TheVariants.{Version, Heap, LargePage, Encryption, Checksum, Partition, Extent, Compression, OwnHash, WrappedQueue}
+use Rattle.bdb_format.specs.declared.kinds.Unsupported.TheVariants.{Version, Heap, LargePage, Encryption, Checksum, Partition, Extent, Compression, OwnHash}
+use Rattle.bdb_format.specs.declared.kinds.Unsupported.TheVariants.{WrappedQueue}
 use Rattle.bdb_format.specs.declared.metadata.MetaFault.{MetaFault}
 use Rattle.bdb_format.specs.declared.metadata.MetaFault.TheVariants.{Fault as CodeFault, Unsupported as NamedCase}
 use Rattle.bdb_format.specs.Verdict.{Judgement, Faulty, LeftOut}
 use Rattle.bdb_faults.specs.Rows.{file_code, form_code as form_row_code, row_code}
 use Rattle.bdb_faults.specs.declared.rows.FileRow.{FileRow}
-use Rattle.bdb_faults.specs.declared.rows.FileRow.TheVariants.{Heap as HeapRow, Version as VersionRow, LargePage as LargePageRow, Encryption as EncryptionRow, Checksum as ChecksumRow, Partition as PartitionRow}
+use Rattle.bdb_faults.specs.declared.rows.FileRow.TheVariants.{Heap as HeapRow, Version as VersionRow, LargePage as LargePageRow, Encryption as EncryptionRow}
+use Rattle.bdb_faults.specs.declared.rows.FileRow.TheVariants.{Checksum as ChecksumRow, Partition as PartitionRow}
 use Rattle.bdb_faults.specs.declared.rows.FormRow.{FormRow}
-use Rattle.bdb_faults.specs.declared.rows.FormRow.TheVariants.{Version as VersionOfPage, Encryption as EncryptionOfPage, Checksum as ChecksumOfPage, Partition as PartitionOfPage, Compression as CompressionRow, OwnHash as OwnHashRow, Extent as ExtentRow, WrappedQueue as WrappedQueueRow}
+use Rattle.bdb_faults.specs.declared.rows.FormRow.TheVariants.{Version as VersionOfPage, Encryption as EncryptionOfPage, Checksum as ChecksumOfPage}
+use Rattle.bdb_faults.specs.declared.rows.FormRow.TheVariants.{Partition as PartitionOfPage, Compression as CompressionRow, OwnHash as OwnHashRow}
+use Rattle.bdb_faults.specs.declared.rows.FormRow.TheVariants.{Extent as ExtentRow, WrappedQueue as WrappedQueueRow}
 use Rattle.bdb_faults.specs.declared.rows.Row.{Row}
 use Rattle.bdb_faults.specs.declared.rows.Row.TheVariants.{File, Form}
 

@@ -3,9 +3,15 @@ use Rattle.std.specs.Prelude.{◌≡◌, ◌⊎◌, ◌<◌, Option, Some, None,
 use Rattle.bdb_format.specs.declared.kinds.Fault.{Fault}
 use Rattle.bdb_format.specs.FaultNames.{row_names}
 use Rattle.bdb_faults.specs.declared.rows.FileRow.{FileRow}
-use Rattle.bdb_faults.specs.declared.rows.FileRow.TheVariants.{Short, Magic, Heap, Version as VersionOfFile, PageSize, LargePage, Encryption as EncryptionOfFile, Checksum as ChecksumOfFile, Partition as PartitionOfFile, Ragged, LastPage, Tail}
+use Rattle.bdb_faults.specs.declared.rows.FileRow.TheVariants.{Short, Magic, Heap, Version as VersionOfFile, PageSize, LargePage}
+use Rattle.bdb_faults.specs.declared.rows.FileRow.TheVariants.{Encryption as EncryptionOfFile, Checksum as ChecksumOfFile, Partition as PartitionOfFile, Ragged}
+use Rattle.bdb_faults.specs.declared.rows.FileRow.TheVariants.{LastPage, Tail}
 use Rattle.bdb_faults.specs.declared.rows.FormRow.{FormRow}
-use Rattle.bdb_faults.specs.declared.rows.FormRow.TheVariants.{PageNumber, PageType, MetaMagic, Version as VersionOfForm, MetaPageSize, Encryption as EncryptionOfForm, Checksum as ChecksumOfForm, Partition as PartitionOfForm, Compression, BtreeFlags, OwnHash, HashFlags, HashMasks, HashBuckets, Extent, QueueRecord, QueueFirst, WrappedQueue, IndexRoom, Level, EntryCount, ItemOffset, ItemType, ItemExtent, OverflowRoom}
+use Rattle.bdb_faults.specs.declared.rows.FormRow.TheVariants.{PageNumber, PageType, MetaMagic, Version as VersionOfForm, MetaPageSize}
+use Rattle.bdb_faults.specs.declared.rows.FormRow.TheVariants.{Encryption as EncryptionOfForm, Checksum as ChecksumOfForm, Partition as PartitionOfForm}
+use Rattle.bdb_faults.specs.declared.rows.FormRow.TheVariants.{Compression, BtreeFlags, OwnHash, HashFlags, HashMasks, HashBuckets, Extent, QueueRecord}
+use Rattle.bdb_faults.specs.declared.rows.FormRow.TheVariants.{QueueFirst, WrappedQueue, IndexRoom, Level, EntryCount, ItemOffset, ItemType, ItemExtent}
+use Rattle.bdb_faults.specs.declared.rows.FormRow.TheVariants.{OverflowRoom}
 use Rattle.bdb_faults.specs.declared.rows.ReferenceRow.{ReferenceRow}
 use Rattle.bdb_faults.specs.declared.rows.ReferenceRow.TheVariants.{OutOfRange, WrongKind, WrongLevel, WrongBack}
 use Rattle.bdb_faults.specs.declared.rows.OwnershipRow.{OwnershipRow}
@@ -17,7 +23,8 @@ use Rattle.bdb_faults.specs.declared.rows.StructureRow.TheVariants.{ChainLength,
 use Rattle.bdb_faults.specs.declared.rows.MasterRow.{MasterRow}
 use Rattle.bdb_faults.specs.declared.rows.MasterRow.TheVariants.{Unnamed, EntrySize, EntryTarget, NameTwice, MetaTwice}
 use Rattle.bdb_faults.specs.declared.rows.ContentsRow.{ContentsRow}
-use Rattle.bdb_faults.specs.declared.rows.ContentsRow.TheVariants.{Duplicates, DuplicateKind, KeyOrder, Separator, DuplicateOrder, Count, RecordLength, Bucket, KeyTwice}
+use Rattle.bdb_faults.specs.declared.rows.ContentsRow.TheVariants.{Duplicates, DuplicateKind, KeyOrder, Separator, DuplicateOrder, Count, RecordLength, Bucket}
+use Rattle.bdb_faults.specs.declared.rows.ContentsRow.TheVariants.{KeyTwice}
 use Rattle.bdb_faults.specs.declared.rows.Row.{Row}
 use Rattle.bdb_faults.specs.declared.rows.Row.TheVariants.{File, Form, Reference, Ownership, Reach, Structure, Master, Contents}
 

@@ -3,7 +3,8 @@
 ghost use Rattle.std.specs.Prelude.{◌≡◌, None, Some};
 ghost use Rattle.bdb_faults.specs.Named.{case_seen};
 ghost use Rattle.bdb_faults.specs.Rows.{contents_code, file_code, form_code, master_code, ownership_code, reach_code, reference_code, structure_code};
-ghost use Rattle.bdb_format.specs.FaultNames.{contents_names, file_names, form_names, master_names, ownership_names, reach_names, reference_names, structure_names, numbered_name};
+ghost use Rattle.bdb_format.specs.FaultNames.{contents_names, file_names, form_names, master_names, ownership_names, reach_names, reference_names};
+ghost use Rattle.bdb_format.specs.FaultNames.{structure_names, numbered_name};
 ghost use Rattle.bdb_format.specs.HeadOf.{form_fault, head_fault};
 
 use crate::rows::{

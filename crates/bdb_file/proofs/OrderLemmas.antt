@@ -220,7 +220,8 @@ order_contents has image begun found empty none after start first second =
         λ at. elim (in_either image fault at) [
           | inl (asked, other) ↦ Contains-append_left left second.0 fault
               (in_filter is_other others.0 fault ((others.2 fault).1 (in_asked Others file asked.page fault asked.is_page asked.asked asked.on)) other)
-          | inr asked ↦ Contains-append_right left second.0 fault ((second.1 fault).1 (in_asked Master file asked.page fault asked.is_page asked.asked asked.on))
+          | inr asked ↦ Contains-append_right left second.0 fault ((second.1 fault).1
+              (in_asked Master file asked.page fault asked.is_page asked.asked asked.on))
         ],
       ),
     )

@@ -12,7 +12,8 @@ use Rattle.bdb_format.specs.declared.kinds.Verdict.TheVariants.{Fault as FaultVe
 use Rattle.bdb_format.specs.Databases.{Database, databases}
 use Rattle.bdb_format.specs.File.{File, file_of, page_at}
 use Rattle.bdb_format.specs.Master.{master_in}
-use Rattle.bdb_format.specs.Verdict.{IsFirstOf, contents_faults, faults_in, faults_of, first_fault, first_judgement, master_faults, or_else, stage_faults, structure_faults, verdict_of}
+use Rattle.bdb_format.specs.Verdict.{IsFirstOf, contents_faults, faults_in, faults_of, first_fault, first_judgement, master_faults, or_else, stage_faults}
+use Rattle.bdb_format.specs.Verdict.{structure_faults, verdict_of}
 use Rattle.bdb_format.proofs.MemberLemmas.{first_member, later_member}
 use Rattle.bdb_format.proofs.VerdictLemmas.{none_within, or_else_none, or_else_nothing}
 use Rattle.bdb_file.specs.AnyOrder.{contents_by, counts, faults_by_rows, holds_under, is_of_order, stages_by, verdict_by}

@@ -6,7 +6,8 @@ use Rattle.std.specs.Option.{option_map}
 use Rattle.bdb_format.specs.declared.kinds.CheckError.{CheckError}
 use Rattle.bdb_format.specs.declared.kinds.CheckError.TheVariants.{Fault as FaultError, Memory as MemoryError}
 use Rattle.bdb_format.specs.declared.kinds.Verdict.{Verdict}
-use Rattle.bdb_format.specs.Verdict.{Faulty, IsFirstOf, Judgement, LeftOut, as_verdict, faults_in, first_fault, first_judgement, judgement_of, or_else, stage_faults, verdict_in}
+use Rattle.bdb_format.specs.Verdict.{Faulty, IsFirstOf, Judgement, LeftOut, as_verdict, faults_in, first_fault, first_judgement, judgement_of, or_else}
+use Rattle.bdb_format.specs.Verdict.{stage_faults, verdict_in}
 use Rattle.bdb_format.proofs.VerdictLemmas.{or_else_both, skip_stage, skip_stages, stage_in_order, verdict_after, verdict_in_more}
 use Rattle.bdb_format.proofs.MemberLemmas.{first_member, no_member}
 use Rattle.bdb_format.specs.declared.kinds.Fault.{Fault}
@@ -104,7 +105,8 @@ first_late : (faults : List Fault) (fault : Fault) → AreLate faults → first_
 first_late [] fault late is = absurd cc
 first_late (first ∷ faults) fault late is =
     let same : first ≡ fault = cc in
-    ap (λ (j : Judgement). Some j) (ap judgement_of same ∙ late_judgement fault (subst (λ (f : Fault). 3 ≤ f.stage) same (late first (first_member first faults))))
+    ap (λ (j : Judgement). Some j) (ap judgement_of same ∙ late_judgement fault
+    (subst (λ (f : Fault). 3 ≤ f.stage) same (late first (first_member first faults))))
 
 pub file_refused : (rows : Rows) (image : List ℕ) (error : CheckError) → faults_in (1 ∷ 2 ∷ []) image ≡ [] → faults_in (3 ∷ 4 ∷ 5 ∷ []) image ≡ []
     → IsFirstOf (stages_by rows (6 ∷ 7 ∷ []) image) error

@@ -57,7 +57,8 @@ contents_last rows image structure master =
 abbrev Says : (List Fault → Type 0) → Bool → Type 0
 Says has empty = (noted : List Fault) → has noted → empty ≡ (length noted == 0)
 
-module _ (rows : Rows) (image : List ℕ) (before first : List Fault → Type 0) (start : before []) (structure : NotesAll before first (structure_faults (file_of image))) where
+module _ (rows : Rows) (image : List ℕ) (before first : List Fault → Type 0) (start : before [])
+    (structure : NotesAll before first (structure_faults (file_of image))) where
   pub no_structure_noted : (empty : Bool) → empty ≡ true → Says first empty → structure_faults (file_of image) ≡ []
   no_structure_noted empty is says =
       none_noted before first (structure_faults (file_of image)) start structure (λ noted at. sym is ∙ says noted at)

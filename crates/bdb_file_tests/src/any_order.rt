@@ -6,12 +6,11 @@ use crate::files::TWO_DATABASES;
 use crate::judging::SIZE;
 use bdb_faults::{AllError, Named};
 use bdb_file::{Readable, Rows, verify_all, verify_all_by, verify_by};
-use bdb_fixtures::{Field, write};
 use bdb_format::{Fault, Order, Steps, Verdict};
-use bdb_naming::is_list_of;
 use std::alloc::Global;
 use std::marker::Brand;
 use std::sync::ledger::{Blank, Ledger};
+use test_images::{Field, is_list_of, write};
 
 /// What is written over the file of two databases, and what is named of it, with all rows and in any order.
 #[derive(Clone, Copy)]

@@ -4,12 +4,12 @@ ghost use Rattle.std.specs.Prelude.{◌≡◌};
 
 use crate::judging::{SIZE, Told, verdict_told};
 use bdb_file::check_file;
-use bdb_fixtures::{Field, write};
 use bdb_format::{CheckError, Fault, Order, Steps, Unsupported};
 use bdb_graph::{link, open_image};
 use std::alloc::Global;
 use std::marker::Brand;
 use std::sync::ledger::{Blank, Ledger};
+use test_images::{Field, write};
 
 /// What is written over the file, and what comes of it.
 #[derive(Clone, Copy)]

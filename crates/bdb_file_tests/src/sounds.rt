@@ -8,12 +8,12 @@ use crate::files::TWO_DATABASES;
 use crate::judging::SIZE;
 use crate::worked::{ONE_PAIR, QUEUE};
 use bdb_file::{Db, Scan, Sound, verify};
-use bdb_fixtures::{Field, write};
 use bdb_format::{Bytes, Kind, Order, Steps};
 use bdb_overflow::{Datum, KeyView};
 use std::alloc::{AllocError, Global};
 use std::marker::Brand;
 use std::sync::ledger::{Blank, Ledger};
+use test_images::{Field, write};
 
 fn kind_word(kind: Kind) -> &'static [u8] {
     match kind {

@@ -1,5 +1,6 @@
 -- What it means for a page with an index that no row of form holds for it.
-use Rattle.std.proofs.Common.{[], ◌∷◌, ◌≡◌, ℕ, ◌%◌, ◌<◌, ◌≤◌, List, length, drop, ◌+◌, arith, refl, sym, ◌∙◌, ap, ltb-false, nat_eq, eq-eqb, eqb-true, ◌*◌, ◌-◌, le-leb}
+use Rattle.std.proofs.Common.{[], ◌∷◌, ◌≡◌, ℕ, ◌%◌, ◌<◌, ◌≤◌, List, length, drop, ◌+◌, arith, refl, sym, ◌∙◌, ap, ltb-false, nat_eq, eq-eqb, eqb-true, ◌*◌, ◌-◌}
+use Rattle.std.proofs.Common.{le-leb}
 use Rattle.std.specs.Prelude.{cond, nat_le, slice_index, not, ◌==◌, IsTrue, Bool, true, false, Option, Some, None}
 use Rattle.bdb_format.specs.declared.kinds.Order.{Order}
 use Rattle.bdb_format.specs.declared.kinds.Order.TheVariants.{Big}

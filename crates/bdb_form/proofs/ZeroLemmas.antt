@@ -1,5 +1,6 @@
 -- Bytes that are all 0: the first is, and each other is the one before it.
-use Rattle.std.proofs.Common.{◌≡◌, ℕ, zero, suc, ◌-◌, ◌<◌, Bool, true, false, true≢false, List, [], ◌∷◌, length, take, drop, get_or, arith, refl, sym, ◌∙◌, ap, subst, inl, inr}
+use Rattle.std.proofs.Common.{◌≡◌, ℕ, zero, suc, ◌-◌, ◌<◌, Bool, true, false, true≢false, List, [], ◌∷◌, length, take, drop, get_or, arith, refl, sym, ◌∙◌, ap}
+use Rattle.std.proofs.Common.{subst, inl, inr}
 use Rattle.std.specs.Prelude.{◌==◌, ◌&&◌}
 use Rattle.std.specs.List.{list_all}
 use Rattle.std.specs.Str.{bytes_eq}
@@ -47,7 +48,8 @@ same_answer b bs first =
           ]
     ]
 
-pub shifted : (bytes : List ℕ) → get_or bytes 0 0 ≡ 0 → ((length bytes == 0) ≡ false) → bytes_eq (take (length bytes - 1) (drop 1 bytes)) (take (length bytes - 1) bytes) ≡ is_zero bytes
+pub shifted : (bytes : List ℕ) → get_or bytes 0 0 ≡ 0 → ((length bytes == 0) ≡ false)
+    → bytes_eq (take (length bytes - 1) (drop 1 bytes)) (take (length bytes - 1) bytes) ≡ is_zero bytes
 shifted [] first some = absurd (true≢false some)
 shifted (b ∷ bs) first some =
     let all_but_last : length (b ∷ bs) - 1 ≡ length bs = omega arith in

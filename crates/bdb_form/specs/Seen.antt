@@ -5,7 +5,8 @@ use Rattle.bdb_form.specs.declared.view.PageView.TheVariants.{Zero, Free, Meta, 
 use Rattle.bdb_format.specs.declared.pages.Header.{Header}
 use Rattle.bdb_format.specs.File.{no_header}
 use Rattle.bdb_format.specs.Page.{Page, Zero as ZeroPage, Free as FreePage, Meta as AnyMeta, Leaf as AnyLeaf, Internal as AnyInternal}
-use Rattle.bdb_format.specs.Page.{RecnoLeaf as AnyRecnoLeaf, RecnoInternal as AnyRecnoInternal, DupLeaf as AnyDupLeaf, Hash as AnyHash, Overflow as AnyOverflow, Queue as AnyQueue}
+use Rattle.bdb_format.specs.Page.{RecnoLeaf as AnyRecnoLeaf, RecnoInternal as AnyRecnoInternal, DupLeaf as AnyDupLeaf, Hash as AnyHash, Overflow as AnyOverflow}
+use Rattle.bdb_format.specs.Page.{Queue as AnyQueue}
 
 abbrev pub page_seen : PageView → Page
 page_seen (Zero view) = ZeroPage

@@ -18,29 +18,35 @@ fails : (key : List ℕ) → is_number key ≡ false → None ≡ number_in key
 fails key test = ap (λ b. cond b (Some (digits_value key)) None) (sym test)
 
 pub no_digits : (key : List ℕ) → length key ≡ 0 → None ≡ number_in key
-no_digits key none = fails key (and_left (has_room key) (list_all is_digit key) (and_left (nat_le 1 (length key)) (nat_le (length key) 10) (lt-leb 1 (length key) (omega arith))))
+no_digits key none = fails key (and_left (has_room key) (list_all is_digit key)
+    (and_left (nat_le 1 (length key)) (nat_le (length key) 10) (lt-leb 1 (length key) (omega arith))))
 
 pub many_digits : (key : List ℕ) → 10 < length key → None ≡ number_in key
-many_digits key many = fails key (and_left (has_room key) (list_all is_digit key) (and_right (nat_le 1 (length key)) (nat_le (length key) 10) (lt-leb (length key) 10 many)))
+many_digits key many = fails key (and_left (has_room key) (list_all is_digit key)
+    (and_right (nat_le 1 (length key)) (nat_le (length key) 10) (lt-leb (length key) 10 many)))
 
 pub wrong_digit : (key : List ℕ) (i : ℕ) → i < length key → is_digit (get_or key i 0) ≡ false → None ≡ number_in key
 wrong_digit key i below wrong = fails key (and_right (has_room key) (list_all is_digit key) (list_all_at is_digit key i 0 below wrong))
 
 -- Numbers.
 
-pub whole_number : (key : List ℕ) (i number : ℕ) → 1 ≤ length key → length key ≤ 10 → length key ≤ i → list_all is_digit (take i key) ≡ true → number ≡ digits_value (take i key) → Some number ≡ number_in key
+pub whole_number : (key : List ℕ) (i number : ℕ) → 1 ≤ length key → length key ≤ 10 → length key ≤ i → list_all is_digit (take i key) ≡ true
+    → number ≡ digits_value (take i key) → Some number ≡ number_in key
 whole_number key i number some few past all is =
     let whole : take i key ≡ key = take_all i key past in
     let digits : list_all is_digit key ≡ true = ap (list_all is_digit) (sym whole) ∙ all in
     let room : has_room key ≡ true = and_from (nat_le 1 (length key)) (nat_le (length key) 10) (le-leb 1 (length key) some) (le-leb (length key) 10 few) in
-    ap (λ n. Some n) (is ∙ ap digits_value whole) ∙ ap (λ b. cond b (Some (digits_value key)) None) (sym (and_from (has_room key) (list_all is_digit key) room digits))
+    ap (λ n. Some n) (is ∙ ap digits_value whole) ∙ ap (λ b. cond b (Some (digits_value key)) None)
+    (sym (and_from (has_room key) (list_all is_digit key) room digits))
 
 -- One digit more.
 
-pub more_digits : (key : List ℕ) (i : ℕ) → i < length key → list_all is_digit (take i key) ≡ true → is_digit (get_or key i 0) ≡ true → list_all is_digit (take (i + 1) key) ≡ true
+pub more_digits : (key : List ℕ) (i : ℕ) → i < length key → list_all is_digit (take i key) ≡ true → is_digit (get_or key i 0) ≡ true
+    → list_all is_digit (take (i + 1) key) ≡ true
 more_digits key i below all one = list_all_more is_digit key i 0 below ∙ and_from (list_all is_digit (take i key)) (is_digit (get_or key i 0)) all one
 
-pub next_value : (key : List ℕ) (i number : ℕ) → i < length key → number ≡ digits_value (take i key) → 10 * number + (get_or key i 0 - 48) ≡ digits_value (take (i + 1) key)
+pub next_value : (key : List ℕ) (i number : ℕ) → i < length key → number ≡ digits_value (take i key) → 10 * number + (get_or key i 0 - 48)
+    ≡ digits_value (take (i + 1) key)
 next_value key i number below is = ap (λ n. 10 * n + (get_or key i 0 - 48)) is ∙ sym (fold_more (λ n byte. 10 * n + (byte - 48)) 0 key i 0 below)
 
 pub digit_low : (byte : ℕ) → is_digit byte ≡ true → 48 ≤ byte

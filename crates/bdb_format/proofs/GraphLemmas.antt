@@ -1,5 +1,6 @@
 -- Laws of references that fit, owners and roles.
-use Rattle.std.proofs.Common.{◌≡◌, ◌⊎◌, ℕ, zero, suc, ◌+◌, ◌<◌, ◌≤◌, Bool, true, false, not, ◌&&◌, ◌||◌, List, [], ◌∷◌, map, length, Option, None, arith, refl, sym, ◌∙◌, ap, inl, inr, true≢false}
+use Rattle.std.proofs.Common.{◌≡◌, ◌⊎◌, ℕ, zero, suc, ◌+◌, ◌<◌, ◌≤◌, Bool, true, false, not, ◌&&◌, ◌||◌, List, [], ◌∷◌, map, length, Option, None, arith, refl}
+use Rattle.std.proofs.Common.{sym, ◌∙◌, ap, inl, inr, true≢false}
 use Rattle.std.specs.Prelude.{nat_lt, ◌==◌}
 use Rattle.std.specs.List.{Contains, list_any, range_with_len}
 use Rattle.std.specs.Option.{option_to_list}
@@ -19,8 +20,10 @@ use Rattle.bdb_format.specs.Rows.{code_of, identity_rows, may_have_type, typed_c
 use Rattle.bdb_format.specs.HeadOf.{head_of}
 use Rattle.bdb_format.specs.File.{File, file_of, page_bytes, page_at, header_in, type_in}
 use Rattle.bdb_format.specs.References.{refs, Asked, asked_by, root_types, child_types, is_zero_page, has_type, fit_rows, fit_code}
-use Rattle.bdb_format.specs.Graph.{Owner, all_references, owners, is_meta, is_hash_meta, is_anchor_in, is_anchor, is_spare, is_unowned, is_reserve, has_heads_alone, reaches, HasRole}
-use Rattle.bdb_format.specs.Verdict.{holding, fails_as, some_fails, reference_rows, reference_faults, ownership_rows, ownership_faults, reach_rows, reach_faults, form_faults, RolesExclude, RolesExcludeEachOther, EachPageHasOneRole}
+use Rattle.bdb_format.specs.Graph.{Owner, all_references, owners, is_meta, is_hash_meta, is_anchor_in, is_anchor, is_spare, is_unowned, is_reserve}
+use Rattle.bdb_format.specs.Graph.{has_heads_alone, reaches, HasRole}
+use Rattle.bdb_format.specs.Verdict.{holding, fails_as, some_fails, reference_rows, reference_faults, ownership_rows, ownership_faults, reach_rows}
+use Rattle.bdb_format.specs.Verdict.{reach_faults, form_faults, RolesExclude, RolesExcludeEachOther, EachPageHasOneRole}
 use Rattle.bdb_format.proofs.PageLemmas.{later_type}
 use Rattle.bdb_format.proofs.ReferenceLemmas.{no_refs, of_all}
 use Rattle.std.proofs.lemmas.Bool.Decides.{nat_tests}
@@ -51,7 +54,8 @@ unfolding fit_code
 fails_as_none file p reference = none_of_four _ _ _ _
 
 -- after stage 3 each reference fits
-pub each_fits : (file : File) (p : ℕ) (reference : Reference) → reference_faults file ≡ [] → p ≤ file.last → Contains (refs file p) reference → fit_code file p reference ≡ None
+pub each_fits : (file : File) (p : ℕ) (reference : Reference) → reference_faults file ≡ [] → p ≤ file.last → Contains (refs file p) reference
+    → fit_code file p reference ≡ None
 unfolding reference_faults
 each_fits file p reference none inside at =
     let fail = no_rows_at 3 0 (file.last + 1) p (reference_rows file) none (omega arith) (omega arith) in
@@ -74,7 +78,8 @@ is_owner file p owner at =
     let all = of_all file owner passed.0 in
     record { inside = all.0; held = all.1; names = eqb-true owner.reference.target p passed.1 }
 
-pub owner_fits : (file : File) (p : ℕ) (owner : Owner) → reference_faults file ≡ [] → Contains (owners file p) owner → fit_code file owner.holder owner.reference ≡ None
+pub owner_fits : (file : File) (p : ℕ) (owner : Owner) → reference_faults file ≡ [] → Contains (owners file p) owner
+    → fit_code file owner.holder owner.reference ≡ None
 owner_fits file p owner none at =
     let is : IsOwner file p owner = is_owner file p owner at in
     each_fits file owner.holder owner.reference none is.inside is.held
@@ -104,7 +109,8 @@ no_metadata_among (type ∷ types) (BtreeFields fields) none = grind (arith, no_
 no_metadata_among (type ∷ types) (HashFields fields) none = grind (arith, no_metadata_among types (HashFields fields))
 no_metadata_among (type ∷ types) (QueueFields fields) none = grind (arith, no_metadata_among types (QueueFields fields))
 
-metadata_misfits : (asked : Asked) (page : Page) → list_any is_metadata_type asked.types ≡ false → is_meta page ≡ true → not (has_type asked.types (type_in page) || (asked.or_zero && is_zero_page page)) ≡ true
+metadata_misfits : (asked : Asked) (page : Page) → list_any is_metadata_type asked.types ≡ false → is_meta page ≡ true
+    → not (has_type asked.types (type_in page) || (asked.or_zero && is_zero_page page)) ≡ true
 metadata_misfits asked (Meta meta) none is = grind (arith, no_metadata_among asked.types meta none)
 metadata_misfits asked page none is = absurd cc
 
@@ -135,7 +141,8 @@ anchor_unowned file p none is =
     let owns : IsOwner file p owner = is_owner file p owner at in
     elim (anchor_is file p is) [
       | inl queue ↦ no_member (refs file owner.holder) owner.reference (no_refs file owner.holder queue) owns.held
-      | inr meta ↦ fits_no_metadata file owner.holder owner.reference (owner_fits file p owner none at) (ap (λ target. is_meta (page_at file target)) owns.names ∙ meta)
+      | inr meta ↦ fits_no_metadata file owner.holder owner.reference (owner_fits file p owner none at) (ap (λ target. is_meta (page_at file target)) owns.names
+          ∙ meta)
     ])
 
 -- what makes a page a reserve
@@ -167,7 +174,8 @@ abbrev RoleBy : Bool → Bool → Bool → ℕ → ℕ → Type 0
 RoleBy anchor reserve heads n counted =
     (anchor ≡ true) ⊎ ((reserve ≡ true) ⊎ (((n ≡ 1) × (heads ≡ true → 1 ≤ counted)) ⊎ ((heads ≡ true) × (0 < n) × (n ≤ counted))))
 
-role_by_rows : (anchor reserve heads : Bool) (n counted : ℕ) → has_no_owner anchor reserve n ≡ false → has_too_many heads n counted ≡ false → RoleBy anchor reserve heads n counted
+role_by_rows : (anchor reserve heads : Bool) (n counted : ℕ) → has_no_owner anchor reserve n ≡ false → has_too_many heads n counted ≡ false
+    → RoleBy anchor reserve heads n counted
 role_by_rows true reserve heads n counted owned few = inl refl
 role_by_rows false true heads n counted owned few = inr (inl refl)
 role_by_rows false false true n counted owned few = inr (inr (inr (refl, grind (arith, nat_tests), grind (arith, nat_tests))))
@@ -229,7 +237,8 @@ roles_exclude file p none no_table =
 -- Queue files: a page is a zero page, the metadata of a queue, or a queue page.
 
 -- where a code of a page that isn't empty is none, no row of its number and type holds, and no later one
-of_no_code : (empty : Bool) (order : Order) (number : ℕ) (page : List ℕ) (is_type : ℕ → Bool) (rest : PageType → Option ℕ) → empty ≡ false → code_of empty order number page is_type rest ≡ None
+of_no_code : (empty : Bool) (order : Order) (number : ℕ) (page : List ℕ) (is_type : ℕ → Bool) (rest : PageType → Option ℕ) → empty ≡ false
+    → code_of empty order number page is_type rest ≡ None
     → (first_row (identity_rows order page number is_type) ≡ None) × (rest (page_type (byte_at page 25)) ≡ None)
 of_no_code true order number page is_type rest some none = absurd cc
 of_no_code false order number page is_type rest some none =
@@ -237,17 +246,21 @@ of_no_code false order number page is_type rest some none =
 
 -- a page of sound form that isn't a zero page: no row of its number and type holds, and none of a page of its type
 formed_rows : (head : Head) (number : ℕ) (page : List ℕ) → is_zero page ≡ false → form_code head number page ≡ None
-    → (first_row (identity_rows head.order page number (may_have_type head.kind number)) ≡ None) × (typed_code head number page (page_type (byte_at page 25)) ≡ None)
+    → (first_row (identity_rows head.order page number (may_have_type head.kind number)) ≡ None)
+    × (typed_code head number page (page_type (byte_at page 25)) ≡ None)
 unfolding form_code
 formed_rows head number page some none =
-    of_no_code (nat_lt 0 number && is_zero page) head.order number page (may_have_type head.kind number) (typed_code head number page) (and_right (nat_lt 0 number) (is_zero page) some) none
+    of_no_code (nat_lt 0 number && is_zero page) head.order number page (may_have_type head.kind number) (typed_code head number page)
+    (and_right (nat_lt 0 number) (is_zero page) some) none
 
 -- a page of sound form that isn't a zero page has no row of a page of its type
-pub typed_none : (head : Head) (number : ℕ) (page : List ℕ) → is_zero page ≡ false → form_code head number page ≡ None → typed_code head number page (page_type (byte_at page 25)) ≡ None
+pub typed_none : (head : Head) (number : ℕ) (page : List ℕ) → is_zero page ≡ false → form_code head number page ≡ None
+    → typed_code head number page (page_type (byte_at page 25)) ≡ None
 typed_none head number page some none = (formed_rows head number page some none).1
 
 -- a page of sound form that isn't a zero page has a type that it may have
-pub type_fits : (head : Head) (number : ℕ) (page : List ℕ) → is_zero page ≡ false → form_code head number page ≡ None → may_have_type head.kind number (byte_at page 25) ≡ true
+pub type_fits : (head : Head) (number : ℕ) (page : List ℕ) → is_zero page ≡ false → form_code head number page ≡ None
+    → may_have_type head.kind number (byte_at page 25) ≡ true
 type_fits head number page some none =
     let rows : List (Row ℕ) = identity_rows head.order page number (may_have_type head.kind number) in
     let first : first_row rows ≡ None = (formed_rows head number page some none).0 in
@@ -270,12 +283,14 @@ pub typed_page : (order : Order) (page : List ℕ) → is_zero page ≡ false �
 unfolding abstract_page
 typed_page order page some = rw (some, abstract_page) refl
 
-queue_page_is_no_table : (head : Head) (number : ℕ) (page : List ℕ) → head.kind ≡ QueueFile → form_code head number page ≡ None → is_hash_meta (abstract_page head.order page) ≡ false
+queue_page_is_no_table : (head : Head) (number : ℕ) (page : List ℕ) → head.kind ≡ QueueFile → form_code head number page ≡ None
+    → is_hash_meta (abstract_page head.order page) ≡ false
 queue_page_is_no_table head number page queue none =
     elim (cases_Bool (is_zero page)) [
       | inl empty ↦ ap is_hash_meta (zero_page head.order page empty)
       | inr some ↦
-          let may : may_have_type QueueFile number (byte_at page 25) ≡ true = ap (λ kind. may_have_type kind number (byte_at page 25)) (sym queue) ∙ type_fits head number page some none in
+          let may : may_have_type QueueFile number (byte_at page 25) ≡ true = ap (λ kind. may_have_type kind number (byte_at page 25)) (sym queue)
+          ∙ type_fits head number page some none in
           ap is_hash_meta (typed_page head.order page some) ∙ no_table_of_type head.order page (byte_at page 25) (queue_types number (byte_at page 25) may)
     ]
 

@@ -44,7 +44,8 @@ first_of_three a b c = first_row (22 :? a ∷ 23 :? b ∷ 24 :? c ∷ [])
 -- one more item
 one_more : (a b c : Bool) (fault : Option ItemFault)
     → lesser (first_of_three a b c) (option_map item_code fault)
-    ≡ first_of_three (a || is_code 22 (option_map item_code fault)) (b || is_code 23 (option_map item_code fault)) (c || is_code 24 (option_map item_code fault))
+    ≡ first_of_three (a || is_code 22 (option_map item_code fault)) (b || is_code 23 (option_map item_code fault))
+    (c || is_code 24 (option_map item_code fault))
 one_more a b c None = grind arith
 one_more a b c (Some Offset) = grind arith
 one_more a b c (Some Kind) = grind arith
@@ -61,7 +62,8 @@ least_is_first fault (suc n) =
     let more : (code : ℕ) → any code (suc n) ≡ (any code n || is_code code (f n)) = λ code. any_more (λ i. is_code code (f i)) 0 n n (omega arith) in
     rw (more 22, more 23, more 24) (ap (λ code. lesser code (f n)) (least_is_first fault n) ∙ one_more (any 22 n) (any 23 n) (any 24 n) (fault n))
 
-pub least_items : (t : PageType) (order : Order) (page : List ℕ) → least_below (item_row t order page) (entries_of order page) ≡ first_row (all_item_rows t order page)
+pub least_items : (t : PageType) (order : Order) (page : List ℕ) → least_below (item_row t order page) (entries_of order page)
+    ≡ first_row (all_item_rows t order page)
 least_items t order page = least_is_first (λ index. first_row (item_rows t order page index)) (entries_of order page)
 
 -- The rows of the index come first.
@@ -74,11 +76,13 @@ first_none : (rows others : List (Row ℕ)) → first_row rows ≡ None → firs
 first_none [] others none = refl
 first_none (row ∷ rows) others none = grind (arith, first_none rows others)
 
-pub index_first : (t : PageType) (order : Order) (page : List ℕ) (code : ℕ) → first_row (index_rows order page t) ≡ Some code → listed_code order page t ≡ Some code
+pub index_first : (t : PageType) (order : Order) (page : List ℕ) (code : ℕ) → first_row (index_rows order page t) ≡ Some code
+    → listed_code order page t ≡ Some code
 unfolding listed_code
 index_first t order page code some = first_some (index_rows order page t) (all_item_rows t order page) code some
 
-pub items_next : (t : PageType) (order : Order) (page : List ℕ) → first_row (index_rows order page t) ≡ None → listed_code order page t ≡ first_row (all_item_rows t order page)
+pub items_next : (t : PageType) (order : Order) (page : List ℕ) → first_row (index_rows order page t) ≡ None
+    → listed_code order page t ≡ first_row (all_item_rows t order page)
 unfolding listed_code
 items_next t order page none = first_none (index_rows order page t) (all_item_rows t order page) none
 
@@ -87,7 +91,8 @@ items_next t order page none = first_none (index_rows order page t) (all_item_ro
 pub no_index_row : (order : Order) (page : List ℕ) (t : PageType) → listed_code order page t ≡ None → first_row (index_rows order page t) ≡ None
 no_index_row order page t none = grind (arith, index_first t order page)
 
-pub no_item_row : (order : Order) (page : List ℕ) (t : PageType) (i : ℕ) → listed_code order page t ≡ None → i < entries_of order page → first_row (item_rows t order page i) ≡ None
+pub no_item_row : (order : Order) (page : List ℕ) (t : PageType) (i : ℕ) → listed_code order page t ≡ None → i < entries_of order page
+    → first_row (item_rows t order page i) ≡ None
 no_item_row order page t i none lt =
     let least : least_below (item_row t order page) (entries_of order page) ≡ None =
     least_items t order page ∙ sym (items_next t order page (no_index_row order page t none)) ∙ none in

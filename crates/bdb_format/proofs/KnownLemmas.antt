@@ -7,7 +7,8 @@ use Rattle.std.proofs.lemmas.List.{take_all}
 use Rattle.std.proofs.Math.Seq.{take-add}
 
 -- n more of the bytes from d on
-pub appends_next : (a b c : Option (List ℕ)) (xs : List ℕ) (d n : ℕ) → Appends a b (take d xs) → Appends b c (take n (take (length xs - d) (drop d xs))) → Appends a c (take (d + n) xs)
+pub appends_next : (a b c : Option (List ℕ)) (xs : List ℕ) (d n : ℕ) → Appends a b (take d xs) → Appends b c (take n (take (length xs - d) (drop d xs)))
+    → Appends a c (take (d + n) xs)
 appends_next a b c xs d n p q =
     let rest : take (length xs - d) (drop d xs) ≡ drop d xs = take_all (length xs - d) (drop d xs) (omega (arith, length-drop d xs)) in
     let both = ap (λ ys. take d xs ++ take n ys) rest ∙ sym (take-add d n xs) in

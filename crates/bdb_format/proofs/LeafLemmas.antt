@@ -6,11 +6,13 @@ use Rattle.bdb_format.specs.Reading.{entries_of, leaf_item_at, listed, is_delete
 use Rattle.bdb_format.specs.References.{no_item}
 
 -- an item of a leaf is what stands at its offset
-pub leaf_item_is : (order : Order) (page : List ℕ) (i : ℕ) → i < entries_of order page → get_or (listed order page (leaf_item_at order page)).items i no_item ≡ leaf_item_at order page i
+pub leaf_item_is : (order : Order) (page : List ℕ) (i : ℕ) → i < entries_of order page → get_or (listed order page (leaf_item_at order page)).items i no_item
+    ≡ leaf_item_at order page i
 unfolding listed
 leaf_item_is order page i there = get_or-map-range_with_len (leaf_item_at order page) 0 (entries_of order page) i i no_item there (omega arith)
 
 -- two entries of one offset are the same item
-pub one_offset : (order : Order) (page : List ℕ) (i j : ℕ) → offset_of order page i ≡ offset_of order page j → leaf_item_at order page i ≡ leaf_item_at order page j
+pub one_offset : (order : Order) (page : List ℕ) (i j : ℕ) → offset_of order page i ≡ offset_of order page j
+    → leaf_item_at order page i ≡ leaf_item_at order page j
 unfolding leaf_item_at
 one_offset order page i j same = ap (λ at. record { content = leaf_content order page at (kind_at page at); deleted = is_deleted page at }) same

@@ -24,14 +24,16 @@ pub length_items : {I : Type 0} (order : Order) (page : List ℕ) (item_at : ℕ
 unfolding listed
 length_items order page item_at = length-map-range_with_len item_at 0 (entries_of order page)
 
-pub get_item : {I : Type 0} (order : Order) (page : List ℕ) (item_at : ℕ → I) (i : ℕ) → i < entries_of order page → slice_get (listed order page item_at).items i ≡ Some (item_at i)
+pub get_item : {I : Type 0} (order : Order) (page : List ℕ) (item_at : ℕ → I) (i : ℕ) → i < entries_of order page
+    → slice_get (listed order page item_at).items i ≡ Some (item_at i)
 unfolding listed
 get_item order page item_at i lt =
     slice_get-get_or _ i (item_at i) (omega (arith, length_items order page item_at))
     ∙ ap (λ x. Some x) (get_or-map-range_with_len item_at 0 (entries_of order page) i i (item_at i) lt (omega arith))
 
 -- an entry of the index
-pub index_offset : {I : Type 0} (order : Order) (page : List ℕ) (item_at : ℕ → I) (i : ℕ) → i < entries_of order page → slice_index (listed order page item_at).offsets i ≡ offset_of order page i
+pub index_offset : {I : Type 0} (order : Order) (page : List ℕ) (item_at : ℕ → I) (i : ℕ) → i < entries_of order page
+    → slice_index (listed order page item_at).offsets i ≡ offset_of order page i
 unfolding listed
 index_offset order page item_at i lt = get_or-map-range_with_len (offset_of order page) 0 (entries_of order page) i i 0 lt (omega arith)
 
@@ -44,7 +46,8 @@ zeros_are (byte ∷ bytes) zeros = grind (arith, nat_tests, zeros_are bytes)
 zero_number : (n : ℕ) (order : Order) (k at : ℕ) → at + n ≤ k → number_at n order (replicate k 0) at ≡ number order (replicate n 0)
 unfolding number_at
 zero_number n order k at inside =
-    let few : n ≤ k - at = omega arith in ap (λ bytes. number order (take n bytes)) (drop-replicate at k 0) ∙ ap (number order) (take-replicate n (k - at) 0 few)
+    let few : n ≤ k - at = omega arith in ap (λ bytes. number order (take n bytes)) (drop-replicate at k 0)
+    ∙ ap (number order) (take-replicate n (k - at) 0 few)
 
 zero_four : (order : Order) (k at : ℕ) → at + 4 ≤ k → four_at order (replicate k 0) at ≡ 0
 zero_four Little k at inside = zero_number 4 Little k at inside
@@ -87,7 +90,8 @@ pub later_type : (kind : FileKind) (n byte : ℕ) → may_have_type kind (suc n)
 later_type kind n byte = ap (λ b. cond b (byte == type_of kind) (cond (is_queue kind) (is_queue_type byte) (is_tree_type byte))) (eqb-suc-zero n)
 
 -- metadata that has its number and its type is judged by its fields
-pub metadata_code : (order : Order) (page : List ℕ) (number last : ℕ) (kind : FileKind) (is_type : ℕ → Bool) → first_row (identity_rows order page number is_type) ≡ None
+pub metadata_code : (order : Order) (page : List ℕ) (number last : ℕ) (kind : FileKind) (is_type : ℕ → Bool)
+    → first_row (identity_rows order page number is_type) ≡ None
     → byte_at page 25 ≡ type_of kind → first_row (metadata_rows order page number last kind) ≡ first_row (field_rows order page number last kind)
 unfolding metadata_rows
 metadata_code order page number last kind is_type passed is = grind (arith, eq-eqb (byte_at page 25) (type_of kind) is)

@@ -12,7 +12,8 @@ use Rattle.bdb_format.specs.File.{File}
 use Rattle.bdb_format.specs.Verdict.{holding}
 
 -- the second of two neighbours is one of the pairs
-pub neighbour_from : (pair : StoredPair) (pairs : List StoredPair) (two : StoredPair × StoredPair) → Contains (neighbours_from pair pairs) two → Contains pairs two.1
+pub neighbour_from : (pair : StoredPair) (pairs : List StoredPair) (two : StoredPair × StoredPair) → Contains (neighbours_from pair pairs) two
+    → Contains pairs two.1
 neighbour_from pair [] two at = absurd (no_member [] two refl at)
 neighbour_from pair (next ∷ pairs) two at =
     elim (member_cases (pair, next) (neighbours_from next pairs) two at) [
@@ -29,9 +30,11 @@ neighbour_in (pair ∷ pairs) two at = later_member pair pairs two.1 (neighbour_
 pub get_append : (xs ys : List (ListKey × List ℕ)) (key : ListKey) → get (xs ++ ys) key ≡ get xs key ++ get ys key
 get_append xs ys key =
     ap (map (λ (entry : ListKey × List ℕ). entry.1)) (filter-append (λ (entry : ListKey × List ℕ). is_key entry.0 key) xs ys)
-    ∙ map-append (λ (entry : ListKey × List ℕ). entry.1) (filter (λ (entry : ListKey × List ℕ). is_key entry.0 key) xs) (filter (λ (entry : ListKey × List ℕ). is_key entry.0 key) ys)
+    ∙ map-append (λ (entry : ListKey × List ℕ). entry.1) (filter (λ (entry : ListKey × List ℕ). is_key entry.0 key) xs)
+    (filter (λ (entry : ListKey × List ℕ). is_key entry.0 key) ys)
 
 -- the rows of a btree that is no recno
-pub keyed_rows : (file : File) (meta : BtreeMeta) (p : ℕ) (b : Bool) → b ≡ false → holding (cond b (recno_contents file meta p) (btree_contents file meta p)) ≡ [] → holding (btree_contents file meta p) ≡ []
+pub keyed_rows : (file : File) (meta : BtreeMeta) (p : ℕ) (b : Bool) → b ≡ false → holding (cond b (recno_contents file meta p) (btree_contents file meta p))
+    ≡ [] → holding (btree_contents file meta p) ≡ []
 keyed_rows file meta p true is none = absurd cc
 keyed_rows file meta p false is none = none

@@ -26,14 +26,17 @@ unfolding refs
 no_refs file p queue = rw (no_names file.kind p (page_at file p) queue) refl
 
 -- a reference of a page is one of the file
-pub held_in_all : (file : File) (p : ℕ) (reference : Reference) → p ≤ file.last → Contains (refs file p) reference → Contains (all_references file) (record { holder = p; reference = reference })
+pub held_in_all : (file : File) (p : ℕ) (reference : Reference) → p ≤ file.last → Contains (refs file p) reference
+    → Contains (all_references file) (record { holder = p; reference = reference })
 unfolding all_references
 held_in_all file p reference low held =
-    in_flat_map (held_by file) (range_with_len 0 (file.last + 1)) p (record { holder = p; reference = reference }) (in_range 0 (file.last + 1) p (omega arith) (omega arith))
+    in_flat_map (held_by file) (range_with_len 0 (file.last + 1)) p (record { holder = p; reference = reference })
+    (in_range 0 (file.last + 1) p (omega arith) (omega arith))
     (in_map (λ r. record { holder = p; reference = r }) (refs file p) reference held)
 
 -- a reference of a file is one of its holder
-pub of_all : (file : File) (owner : Owner) → Contains (all_references file) owner → (owner.holder ≤ file.last) × Contains (refs file owner.holder) owner.reference
+pub of_all : (file : File) (owner : Owner) → Contains (all_references file) owner
+    → (owner.holder ≤ file.last) × Contains (refs file owner.holder) owner.reference
 unfolding all_references
 of_all file owner at =
     let page = of_flat_map (held_by file) (range_with_len 0 (file.last + 1)) owner at in

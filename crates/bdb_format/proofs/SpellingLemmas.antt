@@ -1,6 +1,8 @@
 -- What is read from bytes that spell a value, wherever they stand.
-use Rattle.std.proofs.Common.{◌≡◌, ℕ, zero, suc, ◌+◌, ◌-◌, ◌*◌, ◌/◌, ◌%◌, ◌^◌, ◌<◌, ◌≤◌, List, [], ◌∷◌, ◌++◌, length, take, drop, reverse, refl, sym, ap, ◌∙◌, arith, append_assoc, length-append, length-take, length-drop}
-use Rattle.std.proofs.Math.Nat.{add-mul, add_assoc, div-add-mod', div-div-eq-div-mul, div-one, mod-eq_of_lt, mod-lt, mul-add-mod_self_right, mul-le-mul_right, mul_assoc, one-le-pow, pow-suc}
+use Rattle.std.proofs.Common.{◌≡◌, ℕ, zero, suc, ◌+◌, ◌-◌, ◌*◌, ◌/◌, ◌%◌, ◌^◌, ◌<◌, ◌≤◌, List, [], ◌∷◌, ◌++◌, length, take, drop, reverse, refl, sym, ap, ◌∙◌}
+use Rattle.std.proofs.Common.{arith, append_assoc, length-append, length-take, length-drop}
+use Rattle.std.proofs.Math.Nat.{add-mul, add_assoc, div-add-mod', div-div-eq-div-mul, div-one, mod-eq_of_lt, mod-lt, mul-add-mod_self_right, mul-le-mul_right}
+use Rattle.std.proofs.Math.Nat.{mul_assoc, one-le-pow, pow-suc}
 use Rattle.std.proofs.Math.Seq.{drop-append_seam}
 use Rattle.std.proofs.lemmas.List.{reverse-append, take_at, drop_at, drop-drop, get_or-drop}
 use Rattle.std.specs.Int.{byte_at as byte_of, bytes_low_first, bytes_high_first}
@@ -92,7 +94,8 @@ byte_at-from bytes at k = sym (get_or-drop at bytes k 0)
 
 -- what is read behind a front is read in the rest
 pub number_at-behind : (n : ℕ) (order : Order) (front rest : List ℕ) (k : ℕ) → number_at n order (front ++ rest) (length front + k) ≡ number_at n order rest k
-number_at-behind n order front rest k = number_at-from n order (front ++ rest) (length front) k ∙ ap (λ (bs : List ℕ). number_at n order bs k) (drop-append_seam front rest)
+number_at-behind n order front rest k = number_at-from n order (front ++ rest) (length front) k ∙ ap (λ (bs : List ℕ). number_at n order bs k)
+    (drop-append_seam front rest)
 
 -- a number is read where it was spelled
 pub number_at-spelled : (n : ℕ) (order : Order) (x : ℕ) (before after : List ℕ) → x < 256 ^ n
@@ -130,7 +133,14 @@ slice_range-in bytes at place end front piece rest e p q =
 
 pub length-overwritten : (bytes : List ℕ) (at : ℕ) (piece : List ℕ) → at + length piece ≤ length bytes → length (overwritten bytes at piece) ≡ length bytes
 length-overwritten bytes at piece room =
-    omega (arith, length-append (take at bytes) (piece ++ drop (at + length piece) bytes), length-append piece (drop (at + length piece) bytes), length-take at bytes, length-drop (at + length piece) bytes)
+    omega (
+      arith,
+      length-append (take at bytes) (piece ++ drop (at + length piece) bytes),
+      length-append piece (drop (at + length piece) bytes),
+      length-take at
+          bytes,
+      length-drop (at + length piece) bytes,
+    )
 
 -- a piece that is written right behind another is written with it
 pub overwritten_next : (bytes : List ℕ) (at place : ℕ) (a b : List ℕ) → place ≡ at + length a → place ≤ length bytes
@@ -142,7 +152,8 @@ overwritten_next bytes at place a b p room =
     let long : length front ≡ place = omega (arith, length-append (take at bytes) a, length-take at bytes) in
     let before : take place (overwritten bytes at a) ≡ front = ap (take place) e ∙ take_at front rest place long in
     let behind : drop (place + length b) (overwritten bytes at a) ≡ drop (length b) rest =
-    sym (drop-drop (length b) place (overwritten bytes at a)) ∙ ap (λ (bs : List ℕ). drop (length b) (drop place bs)) e ∙ ap (drop (length b)) (drop_at front rest place long) in
+    sym (drop-drop (length b) place (overwritten bytes at a)) ∙ ap (λ (bs : List ℕ). drop (length b) (drop place bs)) e
+    ∙ ap (drop (length b)) (drop_at front rest place long) in
     let end : at + length a + length b ≡ at + length (a ++ b) = omega (arith, length-append a b) in
     let last : drop (length b) rest ≡ drop (at + length (a ++ b)) bytes = drop-drop (length b) (at + length a) bytes ∙ ap (λ (k : ℕ). drop k bytes) end in
     let all : overwritten (overwritten bytes at a) place b ≡ front ++ (b ++ drop (at + length (a ++ b)) bytes) =
@@ -157,7 +168,8 @@ pub record Wrote (old new : List ℕ) (at end : ℕ) (piece : List ℕ) : Type 0
   pub end_is : end ≡ at + length piece
   pub room : end ≤ length old
 
-pub wrote : (old : List ℕ) {new : List ℕ} (at : ℕ) (piece : List ℕ) (end : ℕ) → new ≡ overwritten old at piece → end ≡ at + length piece → end ≤ length old → Wrote old new at end piece
+pub wrote : (old : List ℕ) {new : List ℕ} (at : ℕ) (piece : List ℕ) (end : ℕ) → new ≡ overwritten old at piece → end ≡ at + length piece → end ≤ length old
+    → Wrote old new at end piece
 wrote old at piece end e p h = record { is = e; end_is = p; room = h }
 
 -- and then another, right behind it

@@ -33,8 +33,10 @@ either_types P true xs ys p q = p
 either_types P false xs ys p q = q
 
 -- below a page with keys are pages with keys
-pub keyed_below : (page : Page) (children : List ℕ) → has_type (3 ∷ 5 ∷ 12 ∷ []) (type_in page) ≡ true → children_in page ≡ Some children → AllTypes (λ type. has_type (3 ∷ 5 ∷ 12 ∷ []) type ≡ true) (child_types page)
-keyed_below (Internal page) children keyed are = either_types (λ type. has_type (3 ∷ 5 ∷ 12 ∷ []) type ≡ true) (page.header.level == 2) (5 ∷ 12 ∷ []) (3 ∷ []) (refl, (refl, tt)) (refl, tt)
+pub keyed_below : (page : Page) (children : List ℕ) → has_type (3 ∷ 5 ∷ 12 ∷ []) (type_in page) ≡ true → children_in page ≡ Some children
+    → AllTypes (λ type. has_type (3 ∷ 5 ∷ 12 ∷ []) type ≡ true) (child_types page)
+keyed_below (Internal page) children keyed are = either_types (λ type. has_type (3 ∷ 5 ∷ 12 ∷ []) type ≡ true) (page.header.level == 2) (5 ∷ 12 ∷ []) (3 ∷ [])
+    (refl, (refl, tt)) (refl, tt)
 keyed_below page children keyed are = absurd cc
 
 -- a page with keys is one of a tree

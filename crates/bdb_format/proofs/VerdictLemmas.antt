@@ -1,5 +1,6 @@
 -- Laws of the faults of a file, stage by stage.
-use Rattle.std.proofs.Common.{◌≡◌, ◌⊎◌, ℕ, zero, suc, ◌+◌, ◌-◌, ◌<◌, ◌≤◌, Bool, true, false, cond, List, [], ◌∷◌, ◌++◌, map, Option, Some, None, arith, refl, sym, ◌∙◌, ap, subst, inl, inr}
+use Rattle.std.proofs.Common.{◌≡◌, ◌⊎◌, ℕ, zero, suc, ◌+◌, ◌-◌, ◌<◌, ◌≤◌, Bool, true, false, cond, List, [], ◌∷◌, ◌++◌, map, Option, Some, None, arith, refl}
+use Rattle.std.proofs.Common.{sym, ◌∙◌, ap, subst, inl, inr}
 use Rattle.std.specs.Prelude.{◌==◌, if◌then◌else◌}
 use Rattle.std.specs.List.{Contains, range_with_len}
 use Rattle.std.specs.Option.{option_map, option_to_list}
@@ -9,7 +10,10 @@ use borrow.Author.Count.{below_none, below_more}
 use Rattle.bdb_format.specs.ByPage.{ComesFirst}
 use Rattle.bdb_format.specs.declared.kinds.Fault.{Fault}
 use Rattle.bdb_format.specs.Table.{Row, ◌:?◌, first_row}
-use Rattle.bdb_format.specs.Verdict.{holding, by_page, head_faults, tail_faults, form_faults, reference_faults, ownership_faults, reach_faults, structure_faults, master_faults, contents_faults, or_else, file_faults, within_file, faults_by, stage_faults, Holds, faults_in, faults_of, first_fault, judgement_of, verdict_in, Judgement, Faulty, tail_rows, reference_rows, ownership_rows, reach_rows, structure_rows, SoundWhereNoRowHolds, FirstIsLeast}
+use Rattle.bdb_format.specs.Verdict.{holding, by_page, head_faults, tail_faults, form_faults, reference_faults, ownership_faults, reach_faults}
+use Rattle.bdb_format.specs.Verdict.{structure_faults, master_faults, contents_faults, or_else, file_faults, within_file, faults_by, stage_faults, Holds}
+use Rattle.bdb_format.specs.Verdict.{faults_in, faults_of, first_fault, judgement_of, verdict_in, Judgement, Faulty, tail_rows, reference_rows, ownership_rows}
+use Rattle.bdb_format.specs.Verdict.{reach_rows, structure_rows, SoundWhereNoRowHolds, FirstIsLeast}
 use Rattle.bdb_format.specs.declared.metadata.Head.{Head}
 use Rattle.bdb_format.specs.HeadOf.{head_of, head_rows}
 use Rattle.bdb_format.specs.Rows.{form_code}
@@ -17,7 +21,8 @@ use Rattle.bdb_format.specs.Master.{master_rows}
 use Rattle.bdb_format.specs.ContentRows.{contents_rows, holds_somewhere}
 use Rattle.bdb_format.specs.File.{File, file_of, page_bytes}
 use Rattle.bdb_format.proofs.ListLemmas.{only_member}
-use Rattle.bdb_format.proofs.MemberLemmas.{first_member, member_cases, no_member, is_empty, first_of_parts, of_map, in_map, of_flat_map, in_flat_map, of_range, in_range}
+use Rattle.bdb_format.proofs.MemberLemmas.{first_member, member_cases, no_member, is_empty, first_of_parts, of_map, in_map, of_flat_map, in_flat_map, of_range}
+use Rattle.bdb_format.proofs.MemberLemmas.{in_range}
 
 abbrev named : ℕ → ℕ → ℕ → Fault
 named stage page code = record { stage = stage; page = page; code = code }
@@ -88,7 +93,8 @@ pub record IsOfStage (stage low high : ℕ) (codes : ℕ → List ℕ) (fault : 
   pub below_high : fault.page < high
   pub is_code : Contains (codes fault.page) fault.code
 
-pub of_by_page : (stage from n : ℕ) (codes : ℕ → List ℕ) (fault : Fault) → Contains (by_page stage from n codes) fault → IsOfStage stage from (from + n) codes fault
+pub of_by_page : (stage from n : ℕ) (codes : ℕ → List ℕ) (fault : Fault) → Contains (by_page stage from n codes) fault
+    → IsOfStage stage from (from + n) codes fault
 of_by_page stage from n codes fault at =
     let page = of_flat_map (λ p. map (named stage p) (codes p)) (range_with_len from n) fault at in
     let code = of_map (named stage page.0) (codes page.0) fault page.2 in
@@ -96,7 +102,8 @@ of_by_page stage from n codes fault at =
     subst (IsOfStage stage from (from + n) codes) code.2
     (record { same_stage = refl; from_low = within.0; below_high = within.1; is_code = code.1 })
 
-pub in_by_page : (stage from n page code : ℕ) (codes : ℕ → List ℕ) → from ≤ page → page < from + n → Contains (codes page) code → Contains (by_page stage from n codes) (record { stage = stage; page = page; code = code })
+pub in_by_page : (stage from n page code : ℕ) (codes : ℕ → List ℕ) → from ≤ page → page < from + n → Contains (codes page) code
+    → Contains (by_page stage from n codes) (record { stage = stage; page = page; code = code })
 in_by_page stage from n page code codes low high at =
     in_flat_map (λ p. map (named stage p) (codes p)) (range_with_len from n) page (named stage page code) (in_range from n page low high)
     (in_map (named stage page) (codes page) code at)
@@ -123,14 +130,16 @@ abbrev pub FirstComesFirst : List Fault → Type 0
 FirstComesFirst faults = (first : Fault) (rest : List Fault) (fault : Fault) → faults ≡ first ∷ rest → Contains faults fault → ComesFirst first fault
 
 -- the first fault of a page has the page's first code
-first_of_page : (stage page : ℕ) (codes : List ℕ) (first : Fault) (rest : List Fault) → LeastFirst codes → map (named stage page) codes ≡ first ∷ rest → (first.page ≡ page) × ((x : ℕ) → Contains codes x → first.code ≤ x)
+first_of_page : (stage page : ℕ) (codes : List ℕ) (first : Fault) (rest : List Fault) → LeastFirst codes → map (named stage page) codes ≡ first ∷ rest
+    → (first.page ≡ page) × ((x : ℕ) → Contains codes x → first.code ≤ x)
 first_of_page stage page [] first rest least same = absurd cc
 first_of_page stage page (c ∷ cs) first rest least same =
     let is : named stage page c ≡ first = cc in
     (ap (λ (f : Fault). f.page) (sym is), λ x at. subst (λ (f : Fault). f.code ≤ x) is (least c cs x refl at))
 
 -- the faults of one page and then those of the pages above it
-two_parts : (stage page high : ℕ) (codes : ℕ → List ℕ) (later : List Fault) → LeastFirst (codes page) → FirstComesFirst later → ((fault : Fault) → Contains later fault → IsOfStage stage (page + 1) high codes fault)
+two_parts : (stage page high : ℕ) (codes : ℕ → List ℕ) (later : List Fault) → LeastFirst (codes page) → FirstComesFirst later
+    → ((fault : Fault) → Contains later fault → IsOfStage stage (page + 1) high codes fault)
     → FirstComesFirst (map (named stage page) (codes page) ++ later)
 two_parts stage page high codes later least comes above first rest fault same at =
     let here : List Fault = map (named stage page) (codes page) in
@@ -167,7 +176,8 @@ pub or_else_nothing : (faults : List Fault) → or_else faults (λ _. []) ≡ fa
 or_else_nothing [] = refl
 or_else_nothing (fault ∷ faults) = refl
 
-or_else_first : (faults others : List Fault) (first : Fault) (rest : List Fault) → or_else faults (λ _. others) ≡ first ∷ rest → (faults ≡ first ∷ rest) ⊎ ((faults ≡ []) × (others ≡ first ∷ rest))
+or_else_first : (faults others : List Fault) (first : Fault) (rest : List Fault) → or_else faults (λ _. others) ≡ first ∷ rest
+    → (faults ≡ first ∷ rest) ⊎ ((faults ≡ []) × (others ≡ first ∷ rest))
 or_else_first [] others first rest same = inr (refl, same)
 or_else_first (fault ∷ faults) others first rest same = inl same
 
@@ -385,7 +395,8 @@ first_holds image fault faults is = record {
   row = subst (λ fs. Contains fs fault) (sym is.faults_are) (first_member fault faults);
 }
 
-none_is_first : (image : List ℕ) (faults : List Fault) → faults_of image ≡ faults → ((stage page code : ℕ) → Holds image stage page code → ⊥) → faults_of image ≡ []
+none_is_first : (image : List ℕ) (faults : List Fault) → faults_of image ≡ faults → ((stage page code : ℕ) → Holds image stage page code → ⊥)
+    → faults_of image ≡ []
 none_is_first image [] same none = same
 none_is_first image (fault ∷ faults) same none =
     absurd (none fault.stage fault.page fault.code (first_holds image fault faults (first_stage image fault faults same)))
@@ -397,7 +408,8 @@ sound_where_no_row_holds image = (
 )
 
 -- a row holds in the stage of the first fault alone
-same_stage : (image : List ℕ) (stage page code : ℕ) (fault : Fault) → Holds image fault.stage fault.page fault.code → Holds image stage page code → stage ≡ fault.stage
+same_stage : (image : List ℕ) (stage page code : ℕ) (fault : Fault) → Holds image fault.stage fault.page fault.code → Holds image stage page code
+    → stage ≡ fault.stage
 same_stage image stage page code fault first holds =
     elim (cases_order stage fault.stage) [
       | inl same ↦ same

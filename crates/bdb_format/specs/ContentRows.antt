@@ -1,5 +1,6 @@
 -- The rows of stage 8: what a database holds keeps its rules. Source: docs/FORMAT.md, "Stage 8, contents".
-use Rattle.std.specs.Prelude.{ℕ, zero, suc, ◌+◌, ◌-◌, nat_lt, nat_le, ◌==◌, ◌&&◌, ◌||◌, not, if◌then◌else◌, Bool, true, false, List, [], ◌∷◌, ◌++◌, map, length, take, drop, get_or}
+use Rattle.std.specs.Prelude.{ℕ, zero, suc, ◌+◌, ◌-◌, nat_lt, nat_le, ◌==◌, ◌&&◌, ◌||◌, not, if◌then◌else◌, Bool, true, false, List, [], ◌∷◌, ◌++◌, map, length}
+use Rattle.std.specs.Prelude.{take, drop, get_or}
 use Rattle.std.specs.List.{enumerate_from, filter, flat_map, list_any, range_with_len, take_while}
 use Rattle.std.specs.Option.{unwrap_or, is_some}
 use Rattle.std.specs.Str.{bytes_eq}
@@ -10,7 +11,8 @@ use Rattle.bdb_format.specs.declared.pages.RecnoItem.{RecnoItem}
 use Rattle.bdb_format.specs.Less.{less}
 use Rattle.bdb_format.specs.Hashing.{hash5, bucket}
 use Rattle.bdb_format.specs.Table.{Row, ◌:?◌}
-use Rattle.bdb_format.specs.Page.{Content, Inline, Set, Chain, Tree, Unknown, Item, InternalItem, Metadata, BtreeFields, HashFields, QueueFields, Page, Meta, Internal, RecnoInternal}
+use Rattle.bdb_format.specs.Page.{Content, Inline, Set, Chain, Tree, Unknown, Item, InternalItem, Metadata, BtreeFields, HashFields, QueueFields, Page, Meta}
+use Rattle.bdb_format.specs.Page.{Internal, RecnoInternal}
 use Rattle.bdb_format.specs.Flags.{is_recno, has_duplicates, is_sorted, counts_records, is_fixed}
 use Rattle.bdb_format.specs.File.{File, page_at, header_in, type_in}
 use Rattle.bdb_format.specs.References.{has_type}

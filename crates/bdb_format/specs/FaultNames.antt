@@ -1,7 +1,8 @@
 -- The names of the rows of the fault table, and of the cases that are left out. Source: docs/FORMAT.md, "Faults".
 use Rattle.std.specs.Prelude.{ℕ, ◌-◌, ◌==◌, if◌then◌else◌, List, [], ◌∷◌, codes, get_or}
 use Rattle.bdb_format.specs.declared.kinds.Unsupported.{Unsupported}
-use Rattle.bdb_format.specs.declared.kinds.Unsupported.TheVariants.{Version, Heap, LargePage, Encryption, Checksum, Partition, Extent, Compression, OwnHash, WrappedQueue}
+use Rattle.bdb_format.specs.declared.kinds.Unsupported.TheVariants.{Version, Heap, LargePage, Encryption, Checksum, Partition, Extent, Compression, OwnHash}
+use Rattle.bdb_format.specs.declared.kinds.Unsupported.TheVariants.{WrappedQueue}
 
 -- the name beside a number in a table of names that are numbered from one on
 abbrev pub numbered_name : List (List ℕ) → ℕ → List ℕ
@@ -9,14 +10,18 @@ numbered_name names n = if n == 0 then [] else get_or names (n - 1) []
 
 abbrev pub file_names : List (List ℕ)
 file_names =
-    codes "Short" ∷ codes "Magic" ∷ codes "Heap" ∷ codes "Version" ∷ codes "PageSize" ∷ codes "LargePage" ∷ codes "Encryption" ∷ codes "Checksum" ∷ codes "Partition"
+    codes "Short" ∷ codes "Magic" ∷ codes "Heap" ∷ codes "Version" ∷ codes "PageSize" ∷ codes "LargePage" ∷ codes "Encryption" ∷ codes "Checksum"
+    ∷ codes "Partition"
     ∷ codes "Ragged" ∷ codes "LastPage" ∷ codes "Tail" ∷ []
 
 abbrev pub form_names : List (List ℕ)
 form_names =
-    codes "PageNumber" ∷ codes "PageType" ∷ codes "MetaMagic" ∷ codes "Version" ∷ codes "MetaPageSize" ∷ codes "Encryption" ∷ codes "Checksum" ∷ codes "Partition"
-    ∷ codes "Compression" ∷ codes "BtreeFlags" ∷ codes "OwnHash" ∷ codes "HashFlags" ∷ codes "HashMasks" ∷ codes "HashBuckets" ∷ codes "Extent" ∷ codes "QueueRecord"
-    ∷ codes "QueueFirst" ∷ codes "WrappedQueue" ∷ codes "IndexRoom" ∷ codes "Level" ∷ codes "EntryCount" ∷ codes "ItemOffset" ∷ codes "ItemType" ∷ codes "ItemExtent"
+    codes "PageNumber" ∷ codes "PageType" ∷ codes "MetaMagic" ∷ codes "Version" ∷ codes "MetaPageSize" ∷ codes "Encryption" ∷ codes "Checksum"
+    ∷ codes "Partition"
+    ∷ codes "Compression" ∷ codes "BtreeFlags" ∷ codes "OwnHash" ∷ codes "HashFlags" ∷ codes "HashMasks" ∷ codes "HashBuckets" ∷ codes "Extent"
+    ∷ codes "QueueRecord"
+    ∷ codes "QueueFirst" ∷ codes "WrappedQueue" ∷ codes "IndexRoom" ∷ codes "Level" ∷ codes "EntryCount" ∷ codes "ItemOffset" ∷ codes "ItemType"
+    ∷ codes "ItemExtent"
     ∷ codes "OverflowRoom" ∷ []
 
 abbrev pub reference_names : List (List ℕ)
@@ -36,7 +41,8 @@ master_names = codes "Unnamed" ∷ codes "EntrySize" ∷ codes "EntryTarget" ∷
 
 abbrev pub contents_names : List (List ℕ)
 contents_names =
-    codes "Duplicates" ∷ codes "DuplicateKind" ∷ codes "KeyOrder" ∷ codes "Separator" ∷ codes "DuplicateOrder" ∷ codes "Count" ∷ codes "RecordLength" ∷ codes "Bucket"
+    codes "Duplicates" ∷ codes "DuplicateKind" ∷ codes "KeyOrder" ∷ codes "Separator" ∷ codes "DuplicateOrder" ∷ codes "Count" ∷ codes "RecordLength"
+    ∷ codes "Bucket"
     ∷ codes "KeyTwice" ∷ []
 
 -- the names of a stage

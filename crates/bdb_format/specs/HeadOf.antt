@@ -4,7 +4,8 @@ use Rattle.std.specs.List.{list_any}
 use Rattle.bdb_format.specs.declared.kinds.Order.{Order}
 use Rattle.bdb_format.specs.declared.kinds.Order.TheVariants.{Big, Little}
 use Rattle.bdb_format.specs.declared.kinds.Unsupported.{Unsupported}
-use Rattle.bdb_format.specs.declared.kinds.Unsupported.TheVariants.{Version, Heap, LargePage, Encryption, Checksum, Partition, Extent, Compression, OwnHash, WrappedQueue}
+use Rattle.bdb_format.specs.declared.kinds.Unsupported.TheVariants.{Version, Heap, LargePage, Encryption, Checksum, Partition, Extent, Compression, OwnHash}
+use Rattle.bdb_format.specs.declared.kinds.Unsupported.TheVariants.{WrappedQueue}
 use Rattle.bdb_format.specs.declared.metadata.FileKind.{FileKind}
 use Rattle.bdb_format.specs.declared.metadata.FileKind.TheVariants.{Btree, Hash, Queue}
 use Rattle.bdb_format.specs.declared.metadata.Head.{Head}
@@ -84,7 +85,8 @@ head_fault code =
 
 abbrev pub form_fault : ℕ → MetaFault
 form_fault code =
-    left_out_as ((4, Version) ∷ (6, Encryption) ∷ (7, Checksum) ∷ (8, Partition) ∷ (9, Compression) ∷ (11, OwnHash) ∷ (15, Extent) ∷ (18, WrappedQueue) ∷ []) code
+    left_out_as ((4, Version) ∷ (6, Encryption) ∷ (7, Checksum) ∷ (8, Partition) ∷ (9, Compression) ∷ (11, OwnHash) ∷ (15, Extent) ∷ (18, WrappedQueue) ∷ [])
+    code
 
 -- an answer with its rows as faults
 abbrev pub faulted : {T : Type 0} → (ℕ → MetaFault) → Result T ℕ → Result T MetaFault

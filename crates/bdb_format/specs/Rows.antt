@@ -1,5 +1,6 @@
 -- The rows of the fault table that speak of one page. Source: docs/FORMAT.md, "Stage 2, the form of a page".
-use Rattle.std.specs.Prelude.{ℕ, ◌+◌, ◌-◌, ◌/◌, ◌%◌, nat_lt, nat_le, ◌==◌, ◌||◌, ◌&&◌, not, if◌then◌else◌, Bool, true, false, List, [], ◌∷◌, ◌++◌, length, slice_range, slice_index, Option, Some, None, is_none}
+use Rattle.std.specs.Prelude.{ℕ, ◌+◌, ◌-◌, ◌/◌, ◌%◌, nat_lt, nat_le, ◌==◌, ◌||◌, ◌&&◌, not, if◌then◌else◌, Bool, true, false, List, [], ◌∷◌, ◌++◌, length}
+use Rattle.std.specs.Prelude.{slice_range, slice_index, Option, Some, None, is_none}
 use Rattle.std.specs.Option.{option_map}
 use Rattle.std.specs.Int.{is_power_of_two}
 use Rattle.std.specs.List.{list_any, range_with_len}
@@ -14,7 +15,8 @@ use Rattle.bdb_format.specs.declared.metadata.QueueMeta.{QueueMeta}
 use Rattle.bdb_format.specs.Numbers.{byte_at, two_at, four_at, has_bit, pad4}
 use Rattle.bdb_format.specs.Hashing.{group}
 use Rattle.bdb_format.specs.Table.{Row, ◌:?◌, first_row}
-use Rattle.bdb_format.specs.Page.{PageType, FreePage, HashPage, InternalPage, RecnoInternalPage, LeafPage, RecnoLeafPage, OverflowPage, HashMetaPage, BtreeMetaPage, QueueMetaPage, QueuePage, DupLeafPage, OtherPage}
+use Rattle.bdb_format.specs.Page.{PageType, FreePage, HashPage, InternalPage, RecnoInternalPage, LeafPage, RecnoLeafPage, OverflowPage, HashMetaPage}
+use Rattle.bdb_format.specs.Page.{BtreeMetaPage, QueueMetaPage, QueuePage, DupLeafPage, OtherPage}
 use Rattle.bdb_format.specs.Reading.{entries_of, index_end, offset_of, kind_at, blocks_of, hash_end, hash_fields, queue_fields, is_zero, page_type}
 
 -- the magic number, the version and the type of metadata
@@ -224,7 +226,8 @@ btree_rows order page number =
 abbrev pub are_masks : HashMeta → Bool
 are_masks meta =
     (meta.max_bucket == 0 && meta.high_mask == 0)
-    || (nat_le 1 meta.high_mask && is_power_of_two (meta.high_mask + 1) && meta.low_mask == meta.high_mask / 2 && nat_le meta.low_mask meta.max_bucket && nat_le meta.max_bucket meta.high_mask)
+    || (nat_le 1 meta.high_mask && is_power_of_two (meta.high_mask + 1) && meta.low_mask == meta.high_mask / 2 && nat_le meta.low_mask meta.max_bucket
+    && nat_le meta.max_bucket meta.high_mask)
 
 -- a group of a bucket up to the greatest has the spare 0
 abbrev pub lacks_spare : HashMeta → Bool

@@ -1,5 +1,6 @@
 -- Pages of chains that are passed over.
-use Rattle.std.proofs.Common.{◌≡◌, ℕ, zero, suc, ◌+◌, ◌<◌, ◌≤◌, List, [], ◌∷◌, length, set, arith, refl, sym, ◌∙◌, ap, subst, inl, inr, get_or, get_or-set_other}
+use Rattle.std.proofs.Common.{◌≡◌, ℕ, zero, suc, ◌+◌, ◌<◌, ◌≤◌, List, [], ◌∷◌, length, set, arith, refl, sym, ◌∙◌, ap, subst, inl, inr, get_or}
+use Rattle.std.proofs.Common.{get_or-set_other}
 use Rattle.std.specs.List.{range_with_len}
 use Rattle.std.proofs.lemmas.Bool.{cases_eq, cases_lt}
 use Rattle.std.proofs.lemmas.List.{get_or-set_same, get_or_past}
@@ -21,12 +22,14 @@ no_bytes [] none = refl
 no_bytes (b ∷ bs) none = absurd (omega (arith, none))
 
 -- the page after one without data
-pub next_after : (file : File) (p q len next : ℕ) → IsAfter file p q → 1 ≤ q → q ≤ file.last → len ≡ length (piece_in (page_at file q)) → len ≡ 0 → next ≡ next_of file q
+pub next_after : (file : File) (p q len next : ℕ) → IsAfter file p q → 1 ≤ q → q ≤ file.last → len ≡ length (piece_in (page_at file q)) → len ≡ 0
+    → next ≡ next_of file q
     → IsAfter file p next
 next_after file p q len next after low high is_len none is_next =
     record {
       blanks = suc after.blanks;
-      comes = subst (ComesAfter (suc after.blanks) file p) (sym is_next) (one_more after.blanks file p q after.comes (record { low = low; high = high; none = no_bytes (piece_in (page_at file q)) (sym is_len ∙ none) }));
+      comes = subst (ComesAfter (suc after.blanks) file p) (sym is_next)
+          (one_more after.blanks file p q after.comes (record { low = low; high = high; none = no_bytes (piece_in (page_at file q)) (sym is_len ∙ none) }));
     }
 
 -- where each page stands for itself, none is passed over
@@ -45,7 +48,8 @@ pub passed_more : (file : File) (nexts : List ℕ) (p q : ℕ) → ArePassed fil
 passed_more file nexts p q are after low = record {
   each = λ r.
       elim (cases_eq r p) [
-        | inl same ↦ subst (IsAfter file r) (sym (ap (λ s. get_or (set nexts p q) s s) same ∙ get_or-set_same nexts p q p low)) (subst (λ s. IsAfter file s q) (sym same) after)
+        | inl same ↦ subst (IsAfter file r) (sym (ap (λ s. get_or (set nexts p q) s s) same ∙ get_or-set_same nexts p q p low))
+            (subst (λ s. IsAfter file s q) (sym same) after)
         | inr other ↦ subst (IsAfter file r) (sym (get_or-set_other nexts p r q r other)) (are.each r)
       ];
 }

@@ -1,5 +1,6 @@
 -- The buckets of a group stand on consecutive pages, and a run of them is judged by the last pages that fail.
-use Rattle.std.proofs.Common.{◌≡◌, ◌≢◌, ℕ, zero, suc, ◌+◌, ◌-◌, ◌^◌, ◌<◌, ◌≤◌, Bool, true, false, cond, List, [], ◌∷◌, ◌++◌, length, map, ap, ◌∙◌, arith, refl, sym, subst, inl, inr, add-zero}
+use Rattle.std.proofs.Common.{◌≡◌, ◌≢◌, ℕ, zero, suc, ◌+◌, ◌-◌, ◌^◌, ◌<◌, ◌≤◌, Bool, true, false, cond, List, [], ◌∷◌, ◌++◌, length, map, ap, ◌∙◌, arith, refl}
+use Rattle.std.proofs.Common.{sym, subst, inl, inr, add-zero}
 use Rattle.std.proofs.Math.Nat.{le_antisymm}
 use Rattle.std.proofs.Math.Pow.{pow_mono}
 use Rattle.std.proofs.Math.Bool.{or-false}
@@ -230,7 +231,8 @@ run_misfits file holder place first n target page_type previous some target_is t
 -- Zero pages.
 
 -- a page without a fault of form has its number, unless it's a zero page
-unnumbered_zero : (head : Head) (number : ℕ) (page : List ℕ) → 0 < number → form_code head number page ≡ None → four_at head.order page 8 ≡ 0 → is_zero page ≡ true
+unnumbered_zero : (head : Head) (number : ℕ) (page : List ℕ) → 0 < number → form_code head number page ≡ None → four_at head.order page 8 ≡ 0
+    → is_zero page ≡ true
 unfolding form_code
 unnumbered_zero head number page above none unnumbered =
     let identity : Option ℕ = first_row (identity_rows head.order page number (may_have_type head.kind number)) in
@@ -246,11 +248,13 @@ unnumbered_zero head number page above none unnumbered =
 
 -- so a page without a number fits as a bucket
 pub unnumbered_fits : (image : List ℕ) (p : ℕ) → 0 < p → p ≤ (file_of image).last → form_code (head_of image) p (page_bytes (head_of image) image p) ≡ None
-    → four_at (head_of image).order (page_bytes (head_of image) image p) 8 ≡ 0 → None ≡ fit_code (file_of image) 0 (record { place = 0; sort = Bucket; target = p })
+    → four_at (head_of image).order (page_bytes (head_of image) image p) 8 ≡ 0
+    → None ≡ fit_code (file_of image) 0 (record { place = 0; sort = Bucket; target = p })
 unnumbered_fits image p above low none unnumbered =
     let reference : Reference = record { place = 0; sort = Bucket; target = p } in
     let asked : Asked = asked_by 0 (page_at (file_of image) 0) Bucket in
-    let empty : is_zero (page_bytes (head_of image) image p) ≡ true = unnumbered_zero (head_of image) p (page_bytes (head_of image) image p) above none unnumbered in
+    let empty : is_zero (page_bytes (head_of image) image p) ≡ true = unnumbered_zero (head_of image) p (page_bytes (head_of image) image p) above none
+    unnumbered in
     let zero_there : page_at (file_of image) p ≡ Zero =
     page_is image p (omega (arith, last_page image)) ∙ zero_page (head_of image).order (page_bytes (head_of image) image p) empty in
     let fits : None ≡ first_row (page_rows asked (page_at (file_of image) p)) = ap (λ page. first_row (page_rows asked page)) (sym zero_there) in

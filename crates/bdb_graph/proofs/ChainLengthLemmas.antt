@@ -1,5 +1,6 @@
 -- How long chains are, page by page, and what is kept of that.
-use Rattle.std.proofs.Common.{◌≡◌, ℕ, suc, ◌+◌, ◌*◌, ◌-◌, ◌^◌, ◌<◌, ◌≤◌, Bool, true, false, true≢false, cond, List, [], ◌∷◌, ◌++◌, map, length, drop, get_or, arith, refl, sym, ◌∙◌, ap, subst, inl, inr, length-append, length-drop, length-take}
+use Rattle.std.proofs.Common.{◌≡◌, ℕ, suc, ◌+◌, ◌*◌, ◌-◌, ◌^◌, ◌<◌, ◌≤◌, Bool, true, false, true≢false, cond, List, [], ◌∷◌, ◌++◌, map, length, drop, get_or}
+use Rattle.std.proofs.Common.{arith, refl, sym, ◌∙◌, ap, subst, inl, inr, length-append, length-drop, length-take}
 use Rattle.std.specs.Prelude.{◌==◌, ◌||◌, not, min}
 use Rattle.std.specs.List.{list_any, range_with_len}
 use Rattle.std.proofs.Math.Nat.{mul-le-mul_right}
@@ -14,7 +15,8 @@ use Rattle.bdb_format.specs.File.{File, file_of, header_in, page_at, page_bytes,
 use Rattle.bdb_format.specs.Graph.{all_references, is_head_reference}
 use Rattle.bdb_format.specs.HeadOf.{head_of}
 use Rattle.bdb_format.specs.Numbers.{byte_at, two_at}
-use Rattle.bdb_format.specs.Page.{Page, PageType, FreePage, HashPage, InternalPage, RecnoInternalPage, LeafPage, RecnoLeafPage, OverflowPage, HashMetaPage, BtreeMetaPage, QueueMetaPage, QueuePage, DupLeafPage, OtherPage}
+use Rattle.bdb_format.specs.Page.{Page, PageType, FreePage, HashPage, InternalPage, RecnoInternalPage, LeafPage, RecnoLeafPage, OverflowPage, HashMetaPage}
+use Rattle.bdb_format.specs.Page.{BtreeMetaPage, QueueMetaPage, QueuePage, DupLeafPage, OtherPage}
 use Rattle.bdb_format.specs.Reading.{abstract_page, is_zero, page_as, page_type}
 use Rattle.bdb_format.specs.References.{asked_by, fit_code, fit_rows, has_type}
 use Rattle.bdb_format.proofs.FileLemmas.{page_is}
@@ -146,7 +148,8 @@ named_head image head forest fits =
     none_is_first_row (fit_rows file (asked_by holder (page_at file holder) fits.owner.reference.sort) fits.owner.reference.target)
     (each_fits file holder fits.owner.reference (sound_graph image forest.linked).references held.0 held.1) in
     let rows : asked OverflowHead head = subst (λ sort. asked sort head) fits.sort_is (subst (asked fits.owner.reference.sort) fits.target_is fail) in
-    asked_head target (only_one (has_type (7 ∷ []) (type_in target)) rows.1.0) (sym (eqb-true 0 (header_in target).previous (not-false (0 == (header_in target).previous) rows.1.1.1.0)))
+    asked_head target (only_one (has_type (7 ∷ []) (type_in target)) rows.1.0)
+    (sym (eqb-true 0 (header_in target).previous (not-false (0 == (header_in target).previous) rows.1.1.1.0)))
 
 pub all_kept : (image : List ℕ) (lengths : List ℕ) → IsForest image
     → lengths ≡ map (kept_length (file_of image)) (range_with_len 0 ((file_of image).last + 1)) → AreLengths (file_of image) lengths
@@ -187,7 +190,8 @@ pub at_next : (file : File) (head turn page total length' next : ℕ) → IsAdde
 at_next file head turn page total length' next added below is_length is_next small more =
     let rest : ℕ = length_in (file.count - (turn + 1)) file (next_of file page) in
     let whole : total + (length (piece_in (page_at file page)) + rest) ≡ chain_length file head =
-    subst (λ b. total + (length (piece_in (page_at file page)) + cond b 0 rest) ≡ chain_length file head) (ne_eqb (next_of file page) 0 (λ none. more (is_next ∙ none)))
+    subst (λ b. total + (length (piece_in (page_at file page)) + cond b 0 rest) ≡ chain_length file head)
+    (ne_eqb (next_of file page) 0 (λ none. more (is_next ∙ none)))
     (at_page file head turn page total added below) in
     let same : length_in (file.count - (turn + 1)) file next ≡ rest = ap (λ n. length_in (file.count - (turn + 1)) file n) is_next in
     let step : (turn + 1) * file.size ≡ turn * file.size + file.size = omega arith in

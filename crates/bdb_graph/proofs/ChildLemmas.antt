@@ -1,5 +1,6 @@
 -- The children of an internal page are the targets of its references to children, and a queue file has no such page.
-use Rattle.std.proofs.Common.{◌≡◌, ◌⊎◌, ℕ, ◌+◌, ◌≤◌, Bool, true, false, cond, List, [], ◌∷◌, ◌++◌, map, Some, None, arith, refl, sym, ◌∙◌, ap, inl, inr, true≢false}
+use Rattle.std.proofs.Common.{◌≡◌, ◌⊎◌, ℕ, ◌+◌, ◌≤◌, Bool, true, false, cond, List, [], ◌∷◌, ◌++◌, map, Some, None, arith, refl, sym, ◌∙◌, ap, inl, inr}
+use Rattle.std.proofs.Common.{true≢false}
 use Rattle.std.specs.List.{Contains, enumerate_from, filter, flat_map}
 use Rattle.bdb_format.specs.declared.kinds.Order.{Order}
 use Rattle.bdb_format.specs.declared.metadata.FileKind.TheVariants.{Queue as QueueFile}
@@ -35,13 +36,18 @@ is_queue_page page = false
 
 queue_typed : (order : Order) (page : List ℕ) (byte : ℕ) → (byte ≡ 10) ⊎ (byte ≡ 11) → is_queue_page (page_as order page (page_type byte)) ≡ true
 queue_typed order page byte types =
-    elim types [ inl is ↦ ap (λ b. is_queue_page (page_as order page (page_type b))) is | inr is ↦ ap (λ b. is_queue_page (page_as order page (page_type b))) is ]
+    elim types [
+      | inl is ↦ ap (λ b. is_queue_page (page_as order page (page_type b))) is
+      | inr is ↦ ap (λ b. is_queue_page (page_as order page (page_type b))) is
+    ]
 
-queue_abstract : (head : Head) (number : ℕ) (page : List ℕ) → head.kind ≡ QueueFile → form_code head number page ≡ None → is_queue_page (abstract_page head.order page) ≡ true
+queue_abstract : (head : Head) (number : ℕ) (page : List ℕ) → head.kind ≡ QueueFile → form_code head number page ≡ None
+    → is_queue_page (abstract_page head.order page) ≡ true
 unfolding abstract_page
 queue_abstract head number page queue none =
     let byte : ℕ = byte_at page 25 in
-    elim (is_zero page) as (λ zeros. is_zero page ≡ zeros → is_queue_page (elim zeros [ true ↦ Zero | false ↦ page_as head.order page (page_type byte) ]) ≡ true) [
+    elim (is_zero page) as (λ zeros. is_zero page ≡ zeros → is_queue_page (elim zeros [ true ↦ Zero | false ↦ page_as head.order page (page_type byte) ])
+    ≡ true) [
       | true ↦ λ _. refl
       | false ↦ λ some.
           queue_typed head.order page byte
@@ -49,7 +55,8 @@ queue_abstract head number page queue none =
     ] refl
 
 -- the pages of a queue file are zero pages, metadata and pages of records
-pub queue_page : (image : List ℕ) (head : Head) (p : ℕ) → IsFormed image head → p ≤ (file_of image).last → (file_of image).kind ≡ QueueFile → is_queue_page (page_at (file_of image) p) ≡ true
+pub queue_page : (image : List ℕ) (head : Head) (p : ℕ) → IsFormed image head → p ≤ (file_of image).last → (file_of image).kind ≡ QueueFile
+    → is_queue_page (page_at (file_of image) p) ≡ true
 queue_page image head p formed low queue =
     let inside : p ≤ (head_of image).last = omega (arith, low, last_page image) in
     let none : form_code (head_of image) p (page_bytes (head_of image) image p) ≡ None = formed_page image p formed.form inside in
@@ -72,13 +79,15 @@ abbrev as_reference : (ℕ × (Sort × ℕ)) → Reference
 as_reference named = record { place = named.0; sort = named.1.0; target = named.1.1 }
 
 placed_children : (n : ℕ) (names : List (Sort × ℕ))
-    → map (λ (reference : Reference). reference.target) (filter (λ (reference : Reference). is_child reference.sort) (map as_reference (enumerate_from n names))) ≡ named_children names
+    → map (λ (reference : Reference). reference.target) (filter (λ (reference : Reference). is_child reference.sort)
+    (map as_reference (enumerate_from n names))) ≡ named_children names
 placed_children n [] = refl
 placed_children n (name ∷ names) =
     let rest : List Reference = filter (λ (reference : Reference). is_child reference.sort) (map as_reference (enumerate_from (n + 1) names)) in
     elim (is_child name.0) as (λ b.
     map (λ (reference : Reference). reference.target) (cond b (as_reference (n, name) ∷ rest) rest)
-    ≡ map (λ (named : Sort × ℕ). named.1) (cond b (name ∷ filter (λ (named : Sort × ℕ). is_child named.0) names) (filter (λ (named : Sort × ℕ). is_child named.0) names))) [
+    ≡ map (λ (named : Sort × ℕ). named.1) (cond b (name ∷ filter (λ (named : Sort × ℕ). is_child named.0) names)
+    (filter (λ (named : Sort × ℕ). is_child named.0) names))) [
       | true ↦ ap (λ ps. name.1 ∷ ps) (placed_children (n + 1) names)
       | false ↦ placed_children (n + 1) names
     ]
@@ -96,7 +105,8 @@ internal_children (item ∷ items) =
     ap (λ ps. item.child ∷ ps)
     (no_child_named item.key (flat_map internal_targets items) ∙ internal_children items)
 
-recno_children : (items : List RecnoItem) → named_children (map (λ (item : RecnoItem). (Child, item.child)) items) ≡ map (λ (item : RecnoItem). item.child) items
+recno_children : (items : List RecnoItem) → named_children (map (λ (item : RecnoItem). (Child, item.child)) items)
+    ≡ map (λ (item : RecnoItem). item.child) items
 recno_children [] = refl
 recno_children (item ∷ items) = ap (λ ps. item.child ∷ ps) (recno_children items)
 
@@ -111,11 +121,13 @@ no_queue_page (RecnoInternal page) cs some = refl
 no_queue_page page cs some = absurd cc
 
 -- the children of an internal page are the targets of its references to children
-pub children_are : (image : List ℕ) (p : ℕ) (cs : List ℕ) → IsForest image → p ≤ (file_of image).last → children_in (page_at (file_of image) p) ≡ Some cs → children_of (file_of image) p ≡ cs
+pub children_are : (image : List ℕ) (p : ℕ) (cs : List ℕ) → IsForest image → p ≤ (file_of image).last → children_in (page_at (file_of image) p) ≡ Some cs
+    → children_of (file_of image) p ≡ cs
 unfolding refs
 children_are image p cs forest low some =
     let file : File = file_of image in
-    let other : file.kind ≡ QueueFile → ⊥ = λ queue. true≢false (sym (queue_page image (head_of image) p forest.formed low queue) ∙ no_queue_page (page_at file p) cs some) in
+    let other : file.kind ≡ QueueFile → ⊥ = λ queue. true≢false (sym (queue_page image (head_of image) p forest.formed low queue)
+    ∙ no_queue_page (page_at file p) cs some) in
     placed_children 0 (targets_of file.kind p (page_at file p))
     ∙ (ap named_children (forest_names file.kind p (page_at file p) other) ∙ page_children p (page_at file p) cs some)
 

@@ -13,9 +13,11 @@ use Rattle.bdb_format.specs.declared.metadata.MetaFault.{MetaFault}
 use Rattle.bdb_format.specs.declared.metadata.MetaFault.TheVariants.{Fault as CodeFault}
 use Rattle.bdb_format.specs.HeadOf.{faulted, form_fault}
 use Rattle.bdb_format.specs.Numbers.{byte_at, four_at, two_at}
-use Rattle.bdb_format.specs.Page.{PageType, FreePage, HashPage, InternalPage, RecnoInternalPage, LeafPage, RecnoLeafPage, OverflowPage, HashMetaPage, BtreeMetaPage, QueueMetaPage, QueuePage, DupLeafPage, OtherPage}
+use Rattle.bdb_format.specs.Page.{PageType, FreePage, HashPage, InternalPage, RecnoInternalPage, LeafPage, RecnoLeafPage, OverflowPage, HashMetaPage}
+use Rattle.bdb_format.specs.Page.{BtreeMetaPage, QueueMetaPage, QueuePage, DupLeafPage, OtherPage}
 use Rattle.bdb_format.specs.Reading.{is_zero, page_type}
-use Rattle.bdb_format.specs.Rows.{body_code, form_code, identity_rows, index_rows, is_queue_type, is_tree_type, all_item_rows, field_rows, listed_code, may_have_type, metadata_rows, page_code, queue_code, type_of, typed_code}
+use Rattle.bdb_format.specs.Rows.{body_code, form_code, identity_rows, index_rows, is_queue_type, is_tree_type, all_item_rows, field_rows, listed_code}
+use Rattle.bdb_format.specs.Rows.{may_have_type, metadata_rows, page_code, queue_code, type_of, typed_code}
 use Rattle.bdb_format.specs.Table.{Row, ◌:?◌, answer, first_row}
 use Rattle.bdb_format.proofs.PageLemmas.{later_type, metadata_code}
 use Rattle.bdb_format.proofs.SizeLemmas.{size_bounds}
@@ -24,10 +26,12 @@ use Rattle.bdb_format.specs.HeadOf.{is_page_size}
 -- What the calls answer.
 
 -- the fault of an answer is that of the first row that holds
-pub fault_of_rows : {T : Type 0} (fault : ℕ → MetaFault) (rows : List (Row ℕ)) (value : T) → result_err (faulted fault (answer rows value)) ≡ option_map fault (first_row rows)
+pub fault_of_rows : {T : Type 0} (fault : ℕ → MetaFault) (rows : List (Row ℕ)) (value : T) → result_err (faulted fault (answer rows value))
+    ≡ option_map fault (first_row rows)
 fault_of_rows fault [] value = refl
 fault_of_rows {T = T} fault (row ∷ rows) value =
-    elim row.holds as (λ b. result_err {T = T} (faulted fault (cond b (Err row.code) (answer rows value))) ≡ option_map fault (cond b (Some row.code) (first_row rows))) [
+    elim row.holds as (λ b. result_err {T = T} (faulted fault (cond b (Err row.code) (answer rows value)))
+    ≡ option_map fault (cond b (Some row.code) (first_row rows))) [
       | true ↦ refl
       | false ↦ fault_of_rows fault rows value
     ]
@@ -100,7 +104,8 @@ plain_queue : (order : Order) (number : ℕ) (page : List ℕ) → ArePlain (que
 unfolding queue_code
 plain_queue order number page =
     plain_unless (is_zero page) _
-    (plain_or (first_row (identity_rows order page number is_queue_type)) None (plain_first (identity_rows order page number is_queue_type) (refl, (refl, tt))) tt)
+    (plain_or (first_row (identity_rows order page number is_queue_type)) None (plain_first (identity_rows order page number is_queue_type) (refl, (refl, tt)))
+    tt)
 
 plain_fault : (code : Option ℕ) → ArePlain code → option_map form_fault code ≡ option_map (λ c. CodeFault c) code
 plain_fault None plain = refl
@@ -117,7 +122,8 @@ is_same a b same =
 
 -- two rows are passed once, whether they are looked at before the type or in its own table
 twice : (a b : Bool) (typed rest : Option ℕ) → (b ≡ false → typed ≡ rest)
-    → ◌≡◌ {A = Option ℕ} (elim (cond {A = Option ℕ} a (Some 1) (cond b (Some 2) None)) [ Some code ↦ Some code | None ↦ typed ]) (cond {A = Option ℕ} a (Some 1) (cond b (Some 2) rest))
+    → ◌≡◌ {A = Option ℕ} (elim (cond {A = Option ℕ} a (Some 1) (cond b (Some 2) None)) [ Some code ↦ Some code | None ↦ typed ])
+    (cond {A = Option ℕ} a (Some 1) (cond b (Some 2) rest))
 twice true b typed rest same = refl
 twice false true typed rest same = refl
 twice false false typed rest same = same refl
@@ -142,12 +148,14 @@ first_page_code head page =
 abbrev pub code_by : Bool → Option ℕ → Option ℕ → Option ℕ
 code_by zeros identity typed = elim zeros [ true ↦ None | false ↦ elim identity [ Some code ↦ Some code | None ↦ typed ] ]
 
-pub code_same : (zeros : Bool) (identity typed other : Option ℕ) → (identity ≡ None → typed ≡ other) → code_by zeros identity typed ≡ code_by zeros identity other
+pub code_same : (zeros : Bool) (identity typed other : Option ℕ) → (identity ≡ None → typed ≡ other) → code_by zeros identity typed
+    ≡ code_by zeros identity other
 code_same true identity typed other same = refl
 code_same false (Some code) typed other same = refl
 code_same false None typed other same = same refl
 
-code_some : (zeros : Bool) (identity typed other : Option ℕ) (code : ℕ) → code_by zeros identity typed ≡ Some code → (typed ≡ Some code → other ≡ Some code) → code_by zeros identity other ≡ Some code
+code_some : (zeros : Bool) (identity typed other : Option ℕ) (code : ℕ) → code_by zeros identity typed ≡ Some code → (typed ≡ Some code → other ≡ Some code)
+    → code_by zeros identity other ≡ Some code
 code_some true identity typed other code some same = absurd cc
 code_some false (Some c) typed other code some same = some
 code_some false None typed other code some same = same some
@@ -187,16 +195,20 @@ ten_fails same = absurd cc
 
 -- the code of a page above 0 of a btree or hash file
 pub tree_code : (head : Head) (number : ℕ) (page : List ℕ) → 0 < number → (head.kind ≡ Queue → ⊥)
-    → form_code head number page ≡ code_by (is_zero page) (first_row (identity_rows head.order page number is_tree_type)) (typed_code head number page (page_type (byte_at page 25)))
+    → form_code head number page ≡ code_by (is_zero page) (first_row (identity_rows head.order page number is_tree_type))
+    (typed_code head number page (page_type (byte_at page 25)))
 unfolding form_code
 tree_code head zero page above tree = absurd (omega arith)
 tree_code head (suc n) page above tree =
     let typed : Option ℕ = typed_code head (suc n) page (page_type (byte_at page 25)) in
-    ap (λ zeros. code_by zeros (first_row (identity_rows head.order page (suc n) (may_have_type head.kind (suc n)))) typed) (above_zero (suc n) (is_zero page) above)
-    ∙ ap (λ fits. code_by (is_zero page) (first_row (1 :? not (four_at head.order page 8 == suc n) ∷ 2 :? not fits ∷ [])) typed) (tree_types head.kind n (byte_at page 25) tree)
+    ap (λ zeros. code_by zeros (first_row (identity_rows head.order page (suc n) (may_have_type head.kind (suc n)))) typed)
+    (above_zero (suc n) (is_zero page) above)
+    ∙ ap (λ fits. code_by (is_zero page) (first_row (1 :? not (four_at head.order page 8 == suc n) ∷ 2 :? not fits ∷ [])) typed)
+    (tree_types head.kind n (byte_at page 25) tree)
 
 -- a page that is refused by its form
-typed_body : (head : Head) (number : ℕ) (page : List ℕ) (t : PageType) (code : ℕ) → body_code head.order page t ≡ Some code → typed_code head number page t ≡ Some code
+typed_body : (head : Head) (number : ℕ) (page : List ℕ) (t : PageType) (code : ℕ) → body_code head.order page t ≡ Some code → typed_code head number page t
+    ≡ Some code
 typed_body head number page HashMetaPage code some = absurd cc
 typed_body head number page BtreeMetaPage code some = absurd cc
 typed_body head number page QueueMetaPage code some = absurd cc
@@ -223,8 +235,10 @@ not_zero page kind size is =
     let long : 25 < length page = let bounds : 512 ≤ length page = (size_bounds (length page) size).0 in omega arith in
     list_all_at (λ byte. byte == 0) page 25 0 long (ap (λ byte. byte == 0) is ∙ some_type kind)
 
-pub tree_metadata : (head : Head) (number : ℕ) (page : List ℕ) (kind : FileKind) → 0 < number → (head.kind ≡ Queue → ⊥) → page_code head.order number page ≡ None
-    → is_page_size (length page) ≡ true → byte_at page 25 ≡ type_of kind → form_code head number page ≡ first_row (metadata_rows head.order page number head.last kind)
+pub tree_metadata : (head : Head) (number : ℕ) (page : List ℕ) (kind : FileKind) → 0 < number → (head.kind ≡ Queue → ⊥) → page_code head.order number page
+    ≡ None
+    → is_page_size (length page) ≡ true → byte_at page 25 ≡ type_of kind
+    → form_code head number page ≡ first_row (metadata_rows head.order page number head.last kind)
 unfolding page_code
 tree_metadata head number page kind above tree passed size is =
     let t : PageType = page_type (byte_at page 25) in
@@ -233,7 +247,8 @@ tree_metadata head number page kind above tree passed size is =
     tree_code head number page above tree
     ∙ code_none (is_zero page) identity (body_code head.order page t) (typed_code head number page t) some passed
     ∙ typed_metadata head number page kind is
-    ∙ sym (metadata_code head.order page number head.last kind is_tree_type (identity_fails (is_zero page) identity (body_code head.order page t) some passed) is)
+    ∙ sym (metadata_code head.order page number head.last kind is_tree_type (identity_fails (is_zero page) identity (body_code head.order page t) some passed)
+    is)
 
 -- a type that isn't one of metadata
 pub record IsBody (t : PageType) : Type 0 where
@@ -300,8 +315,10 @@ form_queue head zero page above queue = absurd (omega arith)
 form_queue head (suc n) page above queue =
     let typed : Option ℕ = typed_code head (suc n) page (page_type (byte_at page 25)) in
     let identity : Option ℕ = first_row (identity_rows head.order page (suc n) is_queue_type) in
-    ap (λ zeros. code_by zeros (first_row (identity_rows head.order page (suc n) (may_have_type head.kind (suc n)))) typed) (above_zero (suc n) (is_zero page) above)
-    ∙ ap (λ fits. code_by (is_zero page) (first_row (1 :? not (four_at head.order page 8 == suc n) ∷ 2 :? not fits ∷ [])) typed) (queue_types head.kind n (byte_at page 25) queue)
+    ap (λ zeros. code_by zeros (first_row (identity_rows head.order page (suc n) (may_have_type head.kind (suc n)))) typed)
+    (above_zero (suc n) (is_zero page) above)
+    ∙ ap (λ fits. code_by (is_zero page) (first_row (1 :? not (four_at head.order page 8 == suc n) ∷ 2 :? not fits ∷ [])) typed)
+    (queue_types head.kind n (byte_at page 25) queue)
     ∙ code_same (is_zero page) identity typed None (λ none. typed_queue head (suc n) page (is_same (byte_at page 25) 11 (two_none _ _ none)))
 
 -- the fault of a page above 0 of a queue file is the code of its form

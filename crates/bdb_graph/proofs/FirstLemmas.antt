@@ -14,10 +14,12 @@ use Rattle.bdb_graph.proofs.FormedLemmas.{IsPaged, accepted_paged}
 use Rattle.bdb_graph.specs.Formed.{IsAccepted, IsFormed}
 
 -- an answer that is a value: no row holds
-pub faulted_value : {T : Type 0} (fault : ℕ → MetaFault) (rows : List (Row ℕ)) (value found : T) → Ok found ≡ faulted fault (answer rows value) → (found ≡ value) × (first_row rows ≡ None)
+pub faulted_value : {T : Type 0} (fault : ℕ → MetaFault) (rows : List (Row ℕ)) (value found : T) → Ok found ≡ faulted fault (answer rows value)
+    → (found ≡ value) × (first_row rows ≡ None)
 faulted_value fault [] value found same = (cc, refl)
 faulted_value {T = T} fault (row ∷ rows) value found same =
-    elim row.holds as (λ b. ◌≡◌ {A = Result T MetaFault} (Ok found) (faulted fault (cond b (Err row.code) (answer rows value))) → (found ≡ value) × (cond b (Some row.code) (first_row rows) ≡ None)) [
+    elim row.holds as (λ b. ◌≡◌ {A = Result T MetaFault} (Ok found) (faulted fault (cond b (Err row.code) (answer rows value)))
+    → (found ≡ value) × (cond b (Some row.code) (first_row rows) ≡ None)) [
       | true ↦ λ is. absurd cc
       | false ↦ λ is. faulted_value fault rows value found is
     ] same

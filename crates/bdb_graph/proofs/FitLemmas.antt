@@ -11,7 +11,8 @@ use Rattle.bdb_format.specs.declared.pages.Header.{Header}
 use Rattle.bdb_format.specs.declared.references.Reference.{Reference}
 use Rattle.bdb_format.specs.File.{File, header_in, no_header, page_at, type_in}
 use Rattle.bdb_format.specs.Numbers.{byte_at, four_at, has_bit, two_at}
-use Rattle.bdb_format.specs.Page.{Page, PageType, FreePage, HashPage, InternalPage, RecnoInternalPage, LeafPage, RecnoLeafPage, OverflowPage, HashMetaPage, BtreeMetaPage, QueueMetaPage, QueuePage, DupLeafPage, OtherPage, Zero}
+use Rattle.bdb_format.specs.Page.{Page, PageType, FreePage, HashPage, InternalPage, RecnoInternalPage, LeafPage, RecnoLeafPage, OverflowPage, HashMetaPage}
+use Rattle.bdb_format.specs.Page.{BtreeMetaPage, QueueMetaPage, QueuePage, DupLeafPage, OtherPage, Zero}
 use Rattle.bdb_format.specs.Reading.{abstract_page, header_of, is_zero, listed, page_as, page_type}
 use Rattle.bdb_format.specs.References.{Asked, asked_by, child_types, fit_code, has_type, is_zero_page, root_types}
 use Rattle.bdb_format.specs.Table.{Row, first_row, lesser}
@@ -83,14 +84,27 @@ zero_type order page empty = sym (ap type_in (zero_page order page empty))
 pub zero_header : (order : Order) (page : List ℕ) → is_zero page ≡ true → no_header ≡ header_in (abstract_page order page)
 zero_header order page empty = sym (ap header_in (zero_page order page empty))
 
-pub typed : (order : Order) (page : List ℕ) → is_zero page ≡ false → list_any (λ t. t == byte_at page 25) typed_bytes ≡ true → Some (byte_at page 25) ≡ type_in (abstract_page order page)
+pub typed : (order : Order) (page : List ℕ) → is_zero page ≡ false → list_any (λ t. t == byte_at page 25) typed_bytes ≡ true
+    → Some (byte_at page 25) ≡ type_in (abstract_page order page)
 unfolding listed
 typed order page some one =
-    let all : AllOf (HasType order page) typed_bytes =
-    (λ is. refl, (λ is. ap (λ n. Some n) is, (λ is. refl, (λ is. refl, (λ is. refl, (λ is. refl, (λ is. refl, (λ is. refl, (λ is. refl, (λ is. refl, (λ is. refl, (λ is. refl, (λ is. ap (λ n. Some n) is, tt))))))))))))) in
+    let all : AllOf (HasType order page) typed_bytes = (
+      λ is. refl,
+      (
+        λ is. ap (λ n. Some n) is,
+        (
+          λ is. refl,
+          (
+            λ is. refl,
+            (λ is. refl, (λ is. refl, (λ is. refl, (λ is. refl, (λ is. refl, (λ is. refl, (λ is. refl, (λ is. refl, (λ is. ap (λ n. Some n) is, tt))))))))),
+          ),
+        ),
+      ),
+    ) in
     sym (ap type_in (typed_page order page some) ∙ one_of (HasType order page) (byte_at page 25) typed_bytes all one refl)
 
-headed_type : (order : Order) (page : List ℕ) → is_zero page ≡ false → list_any (λ t. t == byte_at page 25) headed_bytes ≡ true → header_of order page ≡ header_in (abstract_page order page)
+headed_type : (order : Order) (page : List ℕ) → is_zero page ≡ false → list_any (λ t. t == byte_at page 25) headed_bytes ≡ true
+    → header_of order page ≡ header_in (abstract_page order page)
 unfolding listed
 headed_type order page some one =
     let all : AllOf (HasHeader order page) headed_bytes = (refl, (refl, (refl, (refl, (refl, (refl, (refl, (refl, (refl, tt))))))))) in
@@ -100,7 +114,8 @@ no_type : (order : Order) (page : List ℕ) (byte : ℕ) → IsNoneOf byte typed
 no_type order page byte (n0, (n2, (n3, (n4, (n5, (n6, (n7, (n8, (n9, (n10, (n11, (n12, (n13, end))))))))))))) =
     rw (n0, n2, n3, n4, n5, n6, n7, n8, n9, n10, n11, n12, n13) refl
 
-pub untyped : (order : Order) (page : List ℕ) → is_zero page ≡ false → list_any (λ t. t == byte_at page 25) typed_bytes ≡ false → None ≡ type_in (abstract_page order page)
+pub untyped : (order : Order) (page : List ℕ) → is_zero page ≡ false → list_any (λ t. t == byte_at page 25) typed_bytes ≡ false
+    → None ≡ type_in (abstract_page order page)
 untyped order page some none = sym (ap type_in (typed_page order page some) ∙ no_type order page (byte_at page 25) (none_of (byte_at page 25) typed_bytes none))
 
 without_header : (order : Order) (page : List ℕ) (a b c d : Bool)
@@ -115,13 +130,16 @@ no_header_as : (order : Order) (page : List ℕ) (byte : ℕ) → IsNoneOf byte 
 no_header_as order page byte (n0, (n2, (n3, (n4, (n5, (n6, (n7, (n12, (n13, end))))))))) =
     rw (n0, n2, n3, n4, n5, n6, n7, n12, n13) (without_header order page (byte == 8) (byte == 9) (byte == 10) (byte == 11))
 
-unheaded_type : (order : Order) (page : List ℕ) → is_zero page ≡ false → list_any (λ t. t == byte_at page 25) headed_bytes ≡ false → no_header ≡ header_in (abstract_page order page)
-unheaded_type order page some none = sym (ap header_in (typed_page order page some) ∙ no_header_as order page (byte_at page 25) (none_of (byte_at page 25) headed_bytes none))
+unheaded_type : (order : Order) (page : List ℕ) → is_zero page ≡ false → list_any (λ t. t == byte_at page 25) headed_bytes ≡ false
+    → no_header ≡ header_in (abstract_page order page)
+unheaded_type order page some none = sym (ap header_in (typed_page order page some)
+    ∙ no_header_as order page (byte_at page 25) (none_of (byte_at page 25) headed_bytes none))
 
 -- a page that begins with the fields of a header has them
 headed : (order : Order) (page : List ℕ) → is_headed page ≡ true → header_of order page ≡ header_in (abstract_page order page)
 headed order page is =
-    elim (is_zero page) as (λ b. is_zero page ≡ b → (not b && list_any (λ t. t == byte_at page 25) headed_bytes) ≡ true → header_of order page ≡ header_in (abstract_page order page)) [
+    elim (is_zero page) as (λ b. is_zero page ≡ b → (not b && list_any (λ t. t == byte_at page 25) headed_bytes) ≡ true
+    → header_of order page ≡ header_in (abstract_page order page)) [
       | true ↦ λ empty no. absurd cc
       | false ↦ λ some one. headed_type order page some one
     ] refl is
@@ -141,7 +159,8 @@ headed_level order page is = ap (λ (header : Header). header.level) (headed ord
 -- another page has none
 pub unheaded : (order : Order) (page : List ℕ) → is_headed page ≡ false → no_header ≡ header_in (abstract_page order page)
 unheaded order page is =
-    elim (is_zero page) as (λ b. is_zero page ≡ b → (not b && list_any (λ t. t == byte_at page 25) headed_bytes) ≡ false → no_header ≡ header_in (abstract_page order page)) [
+    elim (is_zero page) as (λ b. is_zero page ≡ b → (not b && list_any (λ t. t == byte_at page 25) headed_bytes) ≡ false
+    → no_header ≡ header_in (abstract_page order page)) [
       | true ↦ λ empty no. zero_header order page empty
       | false ↦ λ some none. unheaded_type order page some none
     ] refl is
@@ -162,7 +181,8 @@ no_seven byte (n0, (n2, (n3, (n4, (n5, (n6, (n7, others))))))) = n7
 pub overflow_is : (order : Order) (page : List ℕ) → 26 ≤ length page → (byte_at page 25 == 7) ≡ has_type (7 ∷ []) (type_in (abstract_page order page))
 overflow_is order page long =
     elim (cases_Bool (is_zero page)) [
-      | inl empty ↦ ap (λ byte. byte == 7) (sym (ap (λ (header : Header). header.page_type) (zero_fields Big page long empty))) ∙ ap (has_type (7 ∷ [])) (zero_type order page empty)
+      | inl empty ↦ ap (λ byte. byte == 7) (sym (ap (λ (header : Header). header.page_type) (zero_fields Big page long empty)))
+          ∙ ap (has_type (7 ∷ [])) (zero_type order page empty)
       | inr some ↦
           elim (cases_Bool (list_any (λ t. t == byte_at page 25) typed_bytes)) [
             | inl one ↦ same_seven (byte_at page 25) ∙ ap (has_type (7 ∷ [])) (typed order page some one)
@@ -216,33 +236,40 @@ zero_child order page empty = sym (ap child_types (zero_page order page empty))
 
 pub no_root : (order : Order) (page : List ℕ) → is_zero page ≡ false → (byte_at page 25 ≡ 9 → ⊥) → [] ≡ root_types (abstract_page order page)
 no_root order page some other =
-    by_type (λ t. [] ≡ root_types (page_as order page t)) (byte_at page 25) (plain_root order page) (λ is. refl) (λ is. refl) (λ is. absurd (other (eqb-true (byte_at page 25) 9 is)))
+    by_type (λ t. [] ≡ root_types (page_as order page t)) (byte_at page 25) (plain_root order page) (λ is. refl) (λ is. refl)
+    (λ is. absurd (other (eqb-true (byte_at page 25) 9 is)))
     ∙ sym (ap root_types (typed_page order page some))
 
-pub no_child : (order : Order) (page : List ℕ) → is_zero page ≡ false → (byte_at page 25 ≡ 3 → ⊥) → (byte_at page 25 ≡ 4 → ⊥) → [] ≡ child_types (abstract_page order page)
+pub no_child : (order : Order) (page : List ℕ) → is_zero page ≡ false → (byte_at page 25 ≡ 3 → ⊥) → (byte_at page 25 ≡ 4 → ⊥)
+    → [] ≡ child_types (abstract_page order page)
 no_child order page some other another =
     by_type (λ t. [] ≡ child_types (page_as order page t)) (byte_at page 25) (plain_child order page) (λ is. absurd (other (eqb-true (byte_at page 25) 3 is)))
     (λ is. absurd (another (eqb-true (byte_at page 25) 4 is))) (λ is. refl)
     ∙ sym (ap child_types (typed_page order page some))
 
-page_of_byte : (order : Order) (page : List ℕ) (byte : ℕ) → is_zero page ≡ false → byte_at page 25 ≡ byte → abstract_page order page ≡ page_as order page (page_type byte)
+page_of_byte : (order : Order) (page : List ℕ) (byte : ℕ) → is_zero page ≡ false → byte_at page 25 ≡ byte
+    → abstract_page order page ≡ page_as order page (page_type byte)
 page_of_byte order page byte some is = typed_page order page some ∙ ap (λ b. page_as order page (page_type b)) is
 
-pub tree_root : (order : Order) (page : List ℕ) → is_zero page ≡ false → byte_at page 25 ≡ 9 → cond (has_bit (four_at order page 48) 2) (4 ∷ 6 ∷ []) (3 ∷ 5 ∷ []) ≡ root_types (abstract_page order page)
+pub tree_root : (order : Order) (page : List ℕ) → is_zero page ≡ false → byte_at page 25 ≡ 9
+    → cond (has_bit (four_at order page 48) 2) (4 ∷ 6 ∷ []) (3 ∷ 5 ∷ []) ≡ root_types (abstract_page order page)
 tree_root order page some is = sym (ap root_types (page_of_byte order page 9 some is))
 
-pub internal_child : (order : Order) (page : List ℕ) → is_zero page ≡ false → byte_at page 25 ≡ 3 → cond (byte_at page 24 == 2) (5 ∷ 12 ∷ []) (3 ∷ []) ≡ child_types (abstract_page order page)
+pub internal_child : (order : Order) (page : List ℕ) → is_zero page ≡ false → byte_at page 25 ≡ 3 → cond (byte_at page 24 == 2) (5 ∷ 12 ∷ []) (3 ∷ [])
+    ≡ child_types (abstract_page order page)
 unfolding listed
 internal_child order page some is = sym (ap child_types (page_of_byte order page 3 some is))
 
-pub recno_child : (order : Order) (page : List ℕ) → is_zero page ≡ false → byte_at page 25 ≡ 4 → cond (byte_at page 24 == 2) (6 ∷ []) (4 ∷ []) ≡ child_types (abstract_page order page)
+pub recno_child : (order : Order) (page : List ℕ) → is_zero page ≡ false → byte_at page 25 ≡ 4 → cond (byte_at page 24 == 2) (6 ∷ []) (4 ∷ [])
+    ≡ child_types (abstract_page order page)
 unfolding listed
 recno_child order page some is = sym (ap child_types (page_of_byte order page 4 some is))
 
 -- The rows of one reference.
 
 -- a reference to a page that isn't there
-pub fits_nowhere : (file : File) (p : ℕ) (reference : Reference) → (reference.target == 0 || nat_lt file.last reference.target) ≡ true → Some 1 ≡ fit_code file p reference
+pub fits_nowhere : (file : File) (p : ℕ) (reference : Reference) → (reference.target == 0 || nat_lt file.last reference.target) ≡ true
+    → Some 1 ≡ fit_code file p reference
 unfolding fit_code
 fits_nowhere file p reference out =
     ap (λ b. cond b (Some 1) (first_row (page_rows (asked_by p (page_at file p) reference.sort) (page_at file reference.target)))) (sym out)
@@ -264,7 +291,8 @@ names_above file p reference above =
     fits_nowhere file p reference (ap (λ b. reference.target == 0 || b) (lt-ltb file.last reference.target above) ∙ or-true (reference.target == 0))
 
 -- a reference to a page that is there, by what it asks and what that page is
-pub names_page : (file : File) (p : ℕ) (reference : Reference) (asked : Asked) (holder target : Page) (code : Option ℕ) → (reference.target ≡ 0 → ⊥) → reference.target ≤ file.last
+pub names_page : (file : File) (p : ℕ) (reference : Reference) (asked : Asked) (holder target : Page) (code : Option ℕ) → (reference.target ≡ 0 → ⊥)
+    → reference.target ≤ file.last
     → code ≡ first_row (page_rows asked target) → asked ≡ asked_by p holder reference.sort → holder ≡ page_at file p → target ≡ page_at file reference.target
     → code ≡ fit_code file p reference
 names_page file p reference asked holder target code some low code_is asked_is holder_is target_is =
@@ -272,7 +300,8 @@ names_page file p reference asked holder target code some low code_is asked_is h
     ∙ (ap (λ (demand : Asked). first_row (page_rows demand target)) asked_is
     ∙ (ap (λ (page : Page). first_row (page_rows (asked_by p page reference.sort) target)) holder_is
     ∙ (ap (λ (page : Page). first_row (page_rows (asked_by p (page_at file p) reference.sort) page)) target_is
-    ∙ fits_there file p reference (or_from (reference.target == 0) (nat_lt file.last reference.target) (ne_eqb reference.target 0 some) (le-ltb file.last reference.target low)))))
+    ∙ fits_there file p reference (or_from (reference.target == 0) (nat_lt file.last reference.target) (ne_eqb reference.target 0 some)
+    (le-ltb file.last reference.target low)))))
 
 -- The first fault of a stage.
 

@@ -1,11 +1,13 @@
 -- In a file that linking accepts each page leads up, and no way has a page twice: the turns that a page takes fall on the way up.
-use Rattle.std.proofs.Common.{◌≡◌, ◌⊎◌, ℕ, zero, suc, ◌+◌, ◌<◌, ◌≤◌, Bool, true, false, not, ◌&&◌, ◌||◌, List, [], ◌∷◌, length, Option, Some, None, arith, refl, sym, ◌∙◌, ap, inl, inr, true≢false}
+use Rattle.std.proofs.Common.{◌≡◌, ◌⊎◌, ℕ, zero, suc, ◌+◌, ◌<◌, ◌≤◌, Bool, true, false, not, ◌&&◌, ◌||◌, List, [], ◌∷◌, length, Option, Some, None, arith, refl}
+use Rattle.std.proofs.Common.{sym, ◌∙◌, ap, inl, inr, true≢false}
 use Rattle.std.specs.Prelude.{nat_lt, ◌==◌}
 use Rattle.std.specs.List.{Contains, list_all, range_with_len}
 use Rattle.std.proofs.lemmas.Bool.{cases_Bool, eqb-false, eq-eqb, ltb-false, or_parts, or_from}
 use Rattle.bdb_format.specs.File.{File, file_of, page_at}
 use Rattle.bdb_format.specs.References.{refs, asked_by, fit_rows, fit_code}
-use Rattle.bdb_format.specs.Graph.{Owner, all_references, first_holder, has_heads_alone, held_by, if_some, is_anchor, is_head_reference, is_reserve, owners, reaches_in}
+use Rattle.bdb_format.specs.Graph.{Owner, all_references, first_holder, has_heads_alone, held_by, if_some, is_anchor, is_head_reference, is_reserve, owners}
+use Rattle.bdb_format.specs.Graph.{reaches_in}
 use Rattle.bdb_format.specs.Verdict.{holding, stage_faults, ownership_faults, ownership_rows, reach_faults, reference_faults, faults_in}
 use Rattle.bdb_format.proofs.GraphLemmas.{IsOwner, anchor_unowned, is_owner, owner_fits, reserve_is, reached_of}
 use Rattle.bdb_format.proofs.MemberLemmas.{first_member, in_flat_map, in_map, in_range, member_cases, no_member, in_filter}
@@ -57,7 +59,8 @@ owned_inside file p h none some =
           let is : IsOwner file p owner = is_owner file p owner at in
           let rows = fit_rows file (asked_by owner.holder (page_at file owner.holder) owner.reference.sort) owner.reference.target in
           let fail : AllFail rows = none_is_first_row rows (owner_fits file p owner none at) in
-          let range : ((owner.reference.target == 0) ≡ false) × (nat_lt file.last owner.reference.target ≡ false) = or_parts (owner.reference.target == 0) (nat_lt file.last owner.reference.target) fail.0 in
+          let range : ((owner.reference.target == 0) ≡ false) × (nat_lt file.last owner.reference.target ≡ false) = or_parts (owner.reference.target == 0)
+          (nat_lt file.last owner.reference.target) fail.0 in
           let some : owner.reference.target ≡ 0 → ⊥ = eqb-false owner.reference.target 0 range.0 in
           let low : owner.reference.target ≤ file.last = ltb-false file.last owner.reference.target range.1 in
           (omega (arith, is.names), omega (arith, is.names))
@@ -70,20 +73,28 @@ unfolding reaches_in
 fewer t file p no' = (or_parts (reaches_in t file p) (if_some (first_holder (owners file p)) (reaches_in t file)) no').0
 
 -- a page that reaches in a turn more has a holder that reaches
-onward : (t : ℕ) (file : File) (p : ℕ) → reaches_in t file p ≡ false → reaches_in (suc t) file p ≡ true → (h : ℕ) × (first_holder (owners file p) ≡ Some h) × (reaches_in t file h ≡ true)
+onward : (t : ℕ) (file : File) (p : ℕ) → reaches_in t file p ≡ false → reaches_in (suc t) file p ≡ true → (h : ℕ) × (first_holder (owners file p) ≡ Some h)
+    × (reaches_in t file h ≡ true)
 unfolding reaches_in
 onward t file p no' does = of (first_holder (owners file p)) refl
   where
     of : (o : Option ℕ) → first_holder (owners file p) ≡ o → (h : ℕ) × (first_holder (owners file p) ≡ Some h) × (reaches_in t file h ≡ true)
-    of None none = absurd (let f : true ≡ false = sym does ∙ (or_from (reaches_in t file p) (if_some (first_holder (owners file p)) (reaches_in t file)) no' (ap (λ o. if_some o (reaches_in t file)) none)) in cc)
-    of (Some h) some = (h, some, of_some (reaches_in t file p) (if_some (first_holder (owners file p)) (reaches_in t file)) no' does (ap (λ o. if_some o (reaches_in t file)) some))
+    of None none = absurd (let f : true ≡ false = sym does ∙ (or_from (reaches_in t file p) (if_some (first_holder (owners file p)) (reaches_in t file)) no'
+        (ap (λ o. if_some o (reaches_in t file)) none)) in cc)
+    of (Some h) some = (
+      h,
+      some,
+      of_some (reaches_in t file p) (if_some (first_holder (owners file p)) (reaches_in t file)) no' does
+          (ap (λ o. if_some o (reaches_in t file)) some),
+    )
       where
         of_some : (a b : Bool) → a ≡ false → (a || b) ≡ true → b ≡ reaches_in t file h → reaches_in t file h ≡ true
         of_some true b no' does same = absurd cc
         of_some false b no' does same = sym same ∙ does
 
 -- an owned page reaches a turn after the holder of its first reference
-pub step : (t : ℕ) (file : File) (p h : ℕ) → reference_faults file ≡ [] → first_holder (owners file p) ≡ Some h → reaches_in (suc t) file p ≡ reaches_in t file h
+pub step : (t : ℕ) (file : File) (p h : ℕ) → reference_faults file ≡ [] → first_holder (owners file p) ≡ Some h
+    → reaches_in (suc t) file p ≡ reaches_in t file h
 unfolding reaches_in
 step zero file p h none some = rw (no_top file p h none some, some) refl
 step (suc t) file p h none some =
@@ -147,13 +158,15 @@ LeadsDown file p [] = Unit {0}
 LeadsDown file p (q ∷ qs) = (first_holder (owners file q) ≡ Some p) × LeadsDown file q qs
 
 -- a page that takes fewer turns isn't below
-not_below : (t : ℕ) (file : File) (p q : ℕ) (qs : List ℕ) → reference_faults file ≡ [] → reaches_in t file p ≡ true → reaches_in t file q ≡ false → LeadsDown file q qs → NotIn p (q ∷ qs)
+not_below : (t : ℕ) (file : File) (p q : ℕ) (qs : List ℕ) → reference_faults file ≡ [] → reaches_in t file p ≡ true → reaches_in t file q ≡ false
+    → LeadsDown file q qs → NotIn p (q ∷ qs)
 not_below t file p q [] none does no' lead = (λ same. differ t file q p no' does (sym same), tt)
 not_below t file p q (r ∷ rs) none does no' lead =
     (λ same. differ t file q p no' does (sym same), not_below t file p r rs none does (fewer t file r (step t file r q none lead.0 ∙ no')) lead.1)
 
 -- the holder of a page that reaches has a way up
-holder_way : (t : ℕ) (file : File) (p q : ℕ) → reference_faults file ≡ [] → first_holder (owners file q) ≡ Some p → reaches_in t file q ≡ true → (hs : List ℕ) × IsWayUp file p hs
+holder_way : (t : ℕ) (file : File) (p q : ℕ) → reference_faults file ≡ [] → first_holder (owners file q) ≡ Some p → reaches_in t file q ≡ true
+    → (hs : List ℕ) × IsWayUp file p hs
 unfolding reaches_in
 holder_way zero file p q none some does = absurd (true≢false (sym does ∙ no_top file q p none some))
 holder_way (suc t) file p q none some does = let way = way_of t file p (sym (step t file q p none some) ∙ does) in (way.0, way.1)
@@ -163,18 +176,21 @@ down_distinct file p [] sound lead = (tt, tt)
 down_distinct file p (q ∷ qs) sound lead =
     let inside = owned_inside file q p sound.references lead.0 in
     let way = holder_way file.count file p q sound.references lead.0 (reached_of file q sound.reach inside.0 inside.1) in (
-      not_below (length way.0) file p q qs sound.references (way_reaches file p way.0 sound.references way.1) (way_exact file q p way.0 sound.references (lead.0, way.1)) lead.1,
+      not_below (length way.0) file p q qs sound.references (way_reaches file p way.0 sound.references way.1)
+          (way_exact file q p way.0 sound.references (lead.0, way.1)) lead.1,
       down_distinct file q qs sound lead.1,
     )
 
 -- One owner.
 
 -- a reference to a page is among its owners
-pub named_owner : (file : File) (p q : ℕ) (names : Names file p q) → p ≤ file.last → Contains (owners file q) (record { holder = p; reference = names.reference })
+pub named_owner : (file : File) (p q : ℕ) (names : Names file p q) → p ≤ file.last
+    → Contains (owners file q) (record { holder = p; reference = names.reference })
 unfolding owners all_references
 named_owner file p q names low =
     in_filter (λ (owner : Owner). owner.reference.target == q) (all_references file) (record { holder = p; reference = names.reference })
-    (in_flat_map (held_by file) (range_with_len 0 (file.last + 1)) p (record { holder = p; reference = names.reference }) (in_range 0 (file.last + 1) p (omega arith) (omega arith))
+    (in_flat_map (held_by file) (range_with_len 0 (file.last + 1)) p (record { holder = p; reference = names.reference })
+    (in_range 0 (file.last + 1) p (omega arith) (omega arith))
     (in_map (λ r. record { holder = p; reference = r }) (refs file p) names.reference names.held))
     (eq-eqb names.reference.target q names.target)
 
@@ -188,7 +204,11 @@ not_all test (y ∷ ys) x at fails =
 
 one_only : (os : List Owner) (owner : Owner) → Contains os owner → length os ≤ 1 → first_holder os ≡ Some owner.holder
 one_only [] owner at few = absurd (no_member [] owner refl at)
-one_only (o ∷ []) owner at few = elim (member_cases o [] owner at) [ inl same ↦ ap (λ (x : Owner). Some x.holder) same | inr later ↦ absurd (no_member [] owner refl later) ]
+one_only (o ∷ []) owner at few = elim (member_cases o [] owner at) [
+  | inl same ↦ ap (λ (x : Owner). Some x.holder) same
+  | inr later ↦ absurd
+      (no_member [] owner refl later)
+]
 one_only (o ∷ (p ∷ os)) owner at few = absurd (omega (arith, few))
 
 pub few_owners : (heads : Bool) (n counted : ℕ) → heads ≡ false → ((heads && nat_lt counted n) || (not heads && nat_lt 1 n)) ≡ false → n ≤ 1
@@ -204,7 +224,8 @@ first_names file p q sound low names =
     let some : (h : ℕ) × (first_holder (owners file q) ≡ Some h) =
     elim (some_or_none (owners file q)) [ inl (o, _, first) ↦ (o.holder, first) | inr empty ↦ absurd (no_member (owners file q) owner empty at) ] in
     let inside : (1 ≤ q) × (q ≤ file.last) = owned_inside file q some.0 sound.references some.1 in
-    let codes : holding (ownership_rows file q) ≡ [] = no_codes_at 4 1 file.last q (λ page. holding (ownership_rows file page)) sound.ownership inside.0 (omega (arith, inside.1)) in
+    let codes : holding (ownership_rows file q) ≡ [] = no_codes_at 4 1 file.last q (λ page. holding (ownership_rows file page)) sound.ownership inside.0
+    (omega (arith, inside.1)) in
     let fail : AllFail (ownership_rows file q) = all_fail (ownership_rows file q) codes in
     let other : has_heads_alone file q ≡ false = not_all (λ (o : Owner). is_head_reference o.reference.sort) (owners file q) owner at names.other in
     one_only (owners file q) owner at (few_owners (has_heads_alone file q) (length (owners file q)) _ other fail.1.0)

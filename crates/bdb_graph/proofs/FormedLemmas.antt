@@ -1,5 +1,6 @@
 -- What an accepted page 0 says of the pages, and what a formed image says of each of them.
-use Rattle.std.proofs.Common.{◌≡◌, ℕ, zero, suc, ◌+◌, ◌*◌, ◌-◌, ◌/◌, ◌%◌, ◌^◌, ◌<◌, ◌≤◌, Bool, true, false, List, length, take, drop, arith, refl, sym, ◌∙◌, ap, subst}
+use Rattle.std.proofs.Common.{◌≡◌, ℕ, zero, suc, ◌+◌, ◌*◌, ◌-◌, ◌/◌, ◌%◌, ◌^◌, ◌<◌, ◌≤◌, Bool, true, false, List, length, take, drop, arith, refl, sym, ◌∙◌, ap}
+use Rattle.std.proofs.Common.{subst}
 use Rattle.std.specs.Prelude.{◌==◌, ◌||◌, not, None}
 use Rattle.std.proofs.Math.Nat.{mul-le-mul_left, mul-le-mul_right}
 use Rattle.std.proofs.lemmas.Bool.{eqb-true, leb-false, ltb-false, not-false}
@@ -67,14 +68,16 @@ pub accepted_paged : (image : List ℕ) (head : Head) → IsAccepted image head 
 accepted_paged image head accepted = subst (IsPaged image) (sym accepted.head_is) (paged image accepted.size accepted.accepted)
 
 -- a page lies within the image
-pub page_room : (image : List ℕ) (head : Head) (number : ℕ) → IsAccepted image head → number < head.pages → number * head.page_size + head.page_size ≤ length image
+pub page_room : (image : List ℕ) (head : Head) (number : ℕ) → IsAccepted image head → number < head.pages
+    → number * head.page_size + head.page_size ≤ length image
 page_room image head number accepted below =
     let is : IsPaged image head = accepted_paged image head accepted in
     let next : number + 1 ≤ head.pages = omega arith in
     let room : (number + 1) * head.page_size ≤ head.pages * head.page_size = mul-le-mul_right head.page_size next in
     omega (arith, is.whole)
 
-pub page_length : (image : List ℕ) (head : Head) (number : ℕ) → IsAccepted image head → number < head.pages → length (page_bytes head image number) ≡ head.page_size
+pub page_length : (image : List ℕ) (head : Head) (number : ℕ) → IsAccepted image head → number < head.pages → length (page_bytes head image number)
+    ≡ head.page_size
 page_length image head number accepted below =
     let room : number * head.page_size + head.page_size ≤ length image = page_room image head number accepted below in
     length-take-le head.page_size (drop (number * head.page_size) image) (omega (arith, length-drop (number * head.page_size) image))

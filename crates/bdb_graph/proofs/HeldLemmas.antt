@@ -3,7 +3,9 @@ use Rattle.std.proofs.Common.{◌≡◌, ℕ, zero, suc, ◌≤◌, Bool, true, 
 use Rattle.std.specs.Prelude.{Option, Some, None, ◌==◌, ◌&&◌, nat_lt}
 use Rattle.std.proofs.lemmas.Bool.{ltb-false, or_parts}
 use Rattle.bdb_form.specs.declared.view.PageView.{PageView}
-use Rattle.bdb_form.specs.declared.view.PageView.TheVariants.{Zero as ZeroView, Free as FreeView, Meta as MetaView, Leaf as LeafView, Internal as InternalView, RecnoLeaf as RecnoLeafView, RecnoInternal as RecnoInternalView, DupLeaf as DupLeafView, Hash as HashView, Overflow as OverflowView, Queue as QueueView}
+use Rattle.bdb_form.specs.declared.view.PageView.TheVariants.{Zero as ZeroView, Free as FreeView, Meta as MetaView, Leaf as LeafView, Internal as InternalView}
+use Rattle.bdb_form.specs.declared.view.PageView.TheVariants.{RecnoLeaf as RecnoLeafView, RecnoInternal as RecnoInternalView, DupLeaf as DupLeafView}
+use Rattle.bdb_form.specs.declared.view.PageView.TheVariants.{Hash as HashView, Overflow as OverflowView, Queue as QueueView}
 use Rattle.bdb_form.specs.Seen.{page_seen}
 use Rattle.bdb_format.specs.declared.kinds.Order.{Order}
 use Rattle.bdb_format.specs.declared.metadata.FileKind.{FileKind}
@@ -12,7 +14,8 @@ use Rattle.bdb_format.specs.declared.metadata.Head.{Head}
 use Rattle.bdb_format.specs.File.{file_of, page_at, page_bytes}
 use Rattle.bdb_format.specs.HeadOf.{head_of, is_page_size}
 use Rattle.bdb_format.specs.Numbers.{byte_at}
-use Rattle.bdb_format.specs.Page.{Zero, Meta, BtreeFields, HashFields, PageType, FreePage, HashPage, InternalPage, RecnoInternalPage, LeafPage, RecnoLeafPage, OverflowPage, HashMetaPage, BtreeMetaPage, QueueMetaPage, QueuePage, DupLeafPage, OtherPage}
+use Rattle.bdb_format.specs.Page.{Zero, Meta, BtreeFields, HashFields, PageType, FreePage, HashPage, InternalPage, RecnoInternalPage, LeafPage, RecnoLeafPage}
+use Rattle.bdb_format.specs.Page.{OverflowPage, HashMetaPage, BtreeMetaPage, QueueMetaPage, QueuePage, DupLeafPage, OtherPage}
 use Rattle.bdb_format.specs.Reading.{abstract_page, btree_fields, hash_fields, is_zero, page_as, page_type}
 use Rattle.bdb_format.specs.References.{targets_of, refs}
 use Rattle.bdb_format.specs.Rows.{body_code, form_code, identity_rows, is_tree_type, lacks_spare, may_have_type, metadata_rows, page_code, type_of, typed_code}
@@ -34,14 +37,16 @@ refs_of_page image p low =
 -- Metadata.
 
 -- where no row holds, none of the number and the type does, and none of the type's own
-parts_none : (above zeros : Bool) (identity typed : Option ℕ) → zeros ≡ false → code_by (above && zeros) identity typed ≡ None → (identity ≡ None) × (typed ≡ None)
+parts_none : (above zeros : Bool) (identity typed : Option ℕ) → zeros ≡ false → code_by (above && zeros) identity typed ≡ None
+    → (identity ≡ None) × (typed ≡ None)
 parts_none above true identity typed other none = absurd cc
 parts_none true false (Some code) typed other none = absurd cc
 parts_none false false (Some code) typed other none = absurd cc
 parts_none true false None typed other none = (refl, none)
 parts_none false false None typed other none = (refl, none)
 
-pub metadata_formed : (head : Head) (number : ℕ) (page : List ℕ) (kind : FileKind) → is_page_size (length page) ≡ true → byte_at page 25 ≡ type_of kind → form_code head number page ≡ None
+pub metadata_formed : (head : Head) (number : ℕ) (page : List ℕ) (kind : FileKind) → is_page_size (length page) ≡ true → byte_at page 25 ≡ type_of kind
+    → form_code head number page ≡ None
     → first_row (metadata_rows head.order page number head.last kind) ≡ None
 unfolding form_code
 metadata_formed head number page kind size is none =
@@ -56,18 +61,22 @@ table_formed head number page size is none = metadata_formed head number page Ha
 
 pub tree_formed : (head : Head) (number : ℕ) (page : List ℕ) → is_page_size (length page) ≡ true → byte_at page 25 ≡ 9 → form_code head number page ≡ None
     → first_row (metadata_rows head.order page number 0 Btree) ≡ None
-tree_formed head number page size is none = ap first_row (sym (btree_last head.order page number head.last)) ∙ metadata_formed head number page Btree size is none
+tree_formed head number page size is none = ap first_row (sym (btree_last head.order page number head.last)) ∙ metadata_formed head number page Btree size is
+    none
 
-pub table_page : (order : Order) (page : List ℕ) → is_page_size (length page) ≡ true → byte_at page 25 ≡ 8 → abstract_page order page ≡ Meta (HashFields (hash_fields order page))
+pub table_page : (order : Order) (page : List ℕ) → is_page_size (length page) ≡ true → byte_at page 25 ≡ 8
+    → abstract_page order page ≡ Meta (HashFields (hash_fields order page))
 unfolding abstract_page
 table_page order page size is = rw (not_zero page Hash size is, abstract_page) (ap (λ byte. page_as order page (page_type byte)) is)
 
-pub tree_page : (order : Order) (page : List ℕ) → is_page_size (length page) ≡ true → byte_at page 25 ≡ 9 → abstract_page order page ≡ Meta (BtreeFields (btree_fields order page))
+pub tree_page : (order : Order) (page : List ℕ) → is_page_size (length page) ≡ true → byte_at page 25 ≡ 9
+    → abstract_page order page ≡ Meta (BtreeFields (btree_fields order page))
 unfolding abstract_page
 tree_page order page size is = rw (not_zero page Btree size is, abstract_page) (ap (λ byte. page_as order page (page_type byte)) is)
 
 -- the buckets are no more than the pages
-pub few_buckets : (order : Order) (page : List ℕ) (number last : ℕ) → first_row (metadata_rows order page number last Hash) ≡ None → (hash_fields order page).max_bucket ≤ last
+pub few_buckets : (order : Order) (page : List ℕ) (number last : ℕ) → first_row (metadata_rows order page number last Hash) ≡ None
+    → (hash_fields order page).max_bucket ≤ last
 unfolding metadata_rows
 few_buckets order page number last none =
     let fail : AllFail (metadata_rows order page number last Hash) = none_is_first_row (metadata_rows order page number last Hash) none in
@@ -95,7 +104,8 @@ page_zero : (head : Head) (page : List ℕ) → (head.kind ≡ Queue → ⊥) �
 unfolding form_code
 page_zero head page forest none table tree =
     let identity : Option ℕ = first_row (identity_rows head.order page 0 (may_have_type head.kind 0)) in
-    let own : byte_at page 25 ≡ type_of head.kind = is_same _ _ (two_none _ _ (identity_none identity (typed_code head 0 page (page_type (byte_at page 25))) none)) in
+    let own : byte_at page 25 ≡ type_of head.kind = is_same _ _ (two_none _ _
+    (identity_none identity (typed_code head 0 page (page_type (byte_at page 25))) none)) in
     not_own head.kind (byte_at page 25) own forest table tree
 
 pub other_formed : (head : Head) (number : ℕ) (page : List ℕ) → (head.kind ≡ Queue → ⊥) → form_code head number page ≡ None
@@ -146,13 +156,15 @@ other_page order page BtreeMetaPage other = absurd cc
 other_page order page QueueMetaPage other = absurd cc
 other_page order page t other = refl
 
-other_abstract : (order : Order) (number : ℕ) (page : List ℕ) → page_code order number page ≡ None → (byte_at page 25 ≡ 8 → ⊥) → (byte_at page 25 ≡ 9 → ⊥) → is_meta (abstract_page order page) ≡ false
+other_abstract : (order : Order) (number : ℕ) (page : List ℕ) → page_code order number page ≡ None → (byte_at page 25 ≡ 8 → ⊥) → (byte_at page 25 ≡ 9 → ⊥)
+    → is_meta (abstract_page order page) ≡ false
 unfolding page_code abstract_page
 other_abstract order number page none table tree =
     let byte : ℕ = byte_at page 25 in
     let identity : Option ℕ = first_row (identity_rows order page number is_tree_type) in
     let typed : Option ℕ = body_code order page (page_type byte) in
-    elim (is_zero page) as (λ zeros. code_by zeros identity typed ≡ None → is_meta (elim zeros [ true ↦ Zero | false ↦ page_as order page (page_type byte) ]) ≡ false) [
+    elim (is_zero page) as (λ zeros. code_by zeros identity typed ≡ None → is_meta (elim zeros [ true ↦ Zero | false ↦ page_as order page (page_type byte) ])
+    ≡ false) [
       | true ↦ λ _. refl
       | false ↦ λ passed.
           other_page order page (page_type byte)
@@ -173,6 +185,7 @@ other_view (OverflowView view) other = tt
 other_view (QueueView view) other = tt
 
 -- the view of a page without the type of metadata shows none
-pub no_metadata : (view : PageView) (order : Order) (number : ℕ) (page : List ℕ) → page_seen view ≡ abstract_page order page → page_code order number page ≡ None
+pub no_metadata : (view : PageView) (order : Order) (number : ℕ) (page : List ℕ) → page_seen view ≡ abstract_page order page
+    → page_code order number page ≡ None
     → (byte_at page 25 ≡ 8 → ⊥) → (byte_at page 25 ≡ 9 → ⊥) → IsNoMetadata view
 no_metadata view order number page seen none table tree = other_view view (ap is_meta seen ∙ other_abstract order number page none table tree)

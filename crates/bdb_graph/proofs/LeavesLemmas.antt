@@ -1,5 +1,6 @@
 -- In a file that linking accepts the leaves below a page have no page twice: a child has one holder, so two ways up from a page are one.
-use Rattle.std.proofs.Common.{◌≡◌, ◌⊎◌, ℕ, zero, suc, ◌+◌, ◌≤◌, Bool, true, false, cond, List, [], ◌∷◌, ◌++◌, map, length, Option, Some, None, arith, refl, sym, ◌∙◌, ap, subst, inl, inr, length-append}
+use Rattle.std.proofs.Common.{◌≡◌, ◌⊎◌, ℕ, zero, suc, ◌+◌, ◌≤◌, Bool, true, false, cond, List, [], ◌∷◌, ◌++◌, map, length, Option, Some, None, arith, refl, sym}
+use Rattle.std.proofs.Common.{◌∙◌, ap, subst, inl, inr, length-append}
 use Rattle.std.specs.Prelude.{nat_lt, ◌==◌}
 use Rattle.std.specs.List.{Contains, filter, flat_map, range_with_len}
 use Rattle.std.proofs.lemmas.Bool.{cases_Bool, eqb-false, eq-eqb, ltb-false, or_parts}
@@ -36,9 +37,11 @@ one_member (z ∷ []) x y few at_x at_y = sym (only_member z x at_x) ∙ only_me
 one_member (z ∷ (w ∷ xs)) x y few at_x at_y = absurd (omega (arith, few))
 
 kept_of_tail : {X : Type 0} (test : X → Bool) (x : X) (xs : List X) → length (filter test xs) ≤ length (filter test (x ∷ xs))
-kept_of_tail test x xs = elim (test x) as (λ b. length (filter test xs) ≤ length (cond b (x ∷ filter test xs) (filter test xs))) [ true ↦ omega arith | false ↦ omega arith ]
+kept_of_tail test x xs = elim (test x) as (λ b. length (filter test xs) ≤ length (cond b (x ∷ filter test xs) (filter test xs)))
+    [ true ↦ omega arith | false ↦ omega arith ]
 
-kept_of_part : {X Y : Type 0} (test : Y → Bool) (f : X → List Y) (xs : List X) (x : X) → Contains xs x → length (filter test (f x)) ≤ length (filter test (flat_map f xs))
+kept_of_part : {X Y : Type 0} (test : Y → Bool) (f : X → List Y) (xs : List X) (x : X) → Contains xs x
+    → length (filter test (f x)) ≤ length (filter test (flat_map f xs))
 kept_of_part test f [] x at = absurd (no_member [] x refl at)
 kept_of_part test f (w ∷ xs) x at =
     let sum : length (filter test (f w ++ flat_map f xs)) ≡ length (filter test (f w)) + length (filter test (flat_map f xs)) =
@@ -79,7 +82,8 @@ distinct_parts : (f : ℕ → List ℕ) (cs : List ℕ)
 distinct_parts f [] distinct each one = tt
 distinct_parts f (c ∷ cs) distinct each one =
     distinct_append (f c) (flat_map f cs) (each c (first_member c cs))
-    (distinct_parts f cs distinct.1 (λ d at. each d (later_member c cs d at)) (λ d e x at_d at_e. one d e x (later_member c cs d at_d) (later_member c cs e at_e)))
+    (distinct_parts f cs distinct.1 (λ d at. each d (later_member c cs d at))
+    (λ d e x at_d at_e. one d e x (later_member c cs d at_d) (later_member c cs e at_e)))
     (λ x left right.
     let part : (d : ℕ) × Contains cs d × Contains (f d) x = of_flat_map f cs x right in
     let same : c ≡ part.0 = one c part.0 x (first_member c cs) (later_member c cs part.0 part.1) left part.2 in
@@ -91,7 +95,8 @@ child_is_other : (sort : Sort) → is_child sort ≡ true → is_head_reference 
 child_is_other Child child = refl
 child_is_other sort child = absurd cc
 
-reference_names : (file : File) (p : ℕ) (reference : Reference) → Contains (refs file p) reference → is_child reference.sort ≡ true → Names file p reference.target
+reference_names : (file : File) (p : ℕ) (reference : Reference) → Contains (refs file p) reference → is_child reference.sort ≡ true
+    → Names file p reference.target
 reference_names file p reference held child = record { reference = reference; held = held; target = refl; other = child_is_other reference.sort child }
 
 child_names : (file : File) (p q : ℕ) → Contains (children_of file p) q → Names file p q
@@ -116,7 +121,8 @@ owned_once : (file : File) (p q : ℕ) → IsSoundGraph file → p ≤ file.last
 unfolding ownership_faults
 owned_once file p q sound low names =
     let inside : (1 ≤ q) × (q ≤ file.last) = named_inside file p q sound.references low names in
-    let codes : holding (ownership_rows file q) ≡ [] = no_codes_at 4 1 file.last q (λ page. holding (ownership_rows file page)) sound.ownership inside.0 (omega (arith, inside.1)) in
+    let codes : holding (ownership_rows file q) ≡ [] = no_codes_at 4 1 file.last q (λ page. holding (ownership_rows file page)) sound.ownership inside.0
+    (omega (arith, inside.1)) in
     let fail : AllFail (ownership_rows file q) = all_fail (ownership_rows file q) codes in
     let owner : Owner = record { holder = p; reference = names.reference } in
     let at : Contains (owners file q) owner = named_owner file p q names low in
@@ -127,7 +133,8 @@ owned_once file p q sound low names =
 one_holder : (file : File) (p h q : ℕ) → IsSoundGraph file → p ≤ file.last → h ≤ file.last → Names file p q → Names file h q → p ≡ h
 one_holder file p h q sound low_p low_h by_p by_h =
     ap (λ (o : Owner). o.holder)
-    (one_member (owners file q) (record { holder = p; reference = by_p.reference }) (record { holder = h; reference = by_h.reference }) (owned_once file p q sound low_p by_p) (named_owner file p q by_p low_p) (named_owner file h q by_h low_h))
+    (one_member (owners file q) (record { holder = p; reference = by_p.reference }) (record { holder = h; reference = by_h.reference })
+    (owned_once file p q sound low_p by_p) (named_owner file p q by_p low_p) (named_owner file h q by_h low_h))
 
 -- Children.
 
@@ -139,7 +146,8 @@ distinct_targets test (r ∷ rs) few =
     let rest : AllDistinct (map (λ (s : Reference). s.target) (filter test rs)) =
     distinct_targets test rs (λ s at passes.
     let all : length (filter (λ (t : Reference). t.target == s.target) (r ∷ rs)) ≤ 1 = few s (later_member r rs s at) passes in
-    let less : length (filter (λ (t : Reference). t.target == s.target) rs) ≤ length (filter (λ (t : Reference). t.target == s.target) (r ∷ rs)) = kept_of_tail (λ (t : Reference). t.target == s.target) r rs in
+    let less : length (filter (λ (t : Reference). t.target == s.target) rs) ≤ length (filter (λ (t : Reference). t.target == s.target) (r ∷ rs)) = kept_of_tail
+    (λ (t : Reference). t.target == s.target) r rs in
     at_most _ _ less all) in
     elim (cases_Bool (test r)) [
       | inl passes ↦ rw passes (not_in r.target (map (λ (s : Reference). s.target) (filter test rs)) (again passes), rest)
@@ -157,12 +165,15 @@ distinct_targets test (r ∷ rs) few =
 
 -- references of one page, with and without their holder
 held_count : (p q : ℕ) (rs : List Reference)
-    → length (filter (λ (r : Reference). r.target == q) rs) ≡ length (filter (λ (o : Owner). o.reference.target == q) (map (λ r. record { holder = p; reference = r }) rs))
+    → length (filter (λ (r : Reference). r.target == q) rs) ≡ length (filter (λ (o : Owner). o.reference.target == q)
+    (map (λ r. record { holder = p; reference = r }) rs))
 held_count p q [] = refl
 held_count p q (r ∷ rs) =
     elim (r.target == q) as (λ b.
     length (cond b (r ∷ filter (λ (s : Reference). s.target == q) rs) (filter (λ (s : Reference). s.target == q) rs))
-    ≡ length (cond b (record { holder = p; reference = r } ∷ filter (λ (o : Owner). o.reference.target == q) (map (λ s. record { holder = p; reference = s }) rs)) (filter (λ (o : Owner). o.reference.target == q) (map (λ s. record { holder = p; reference = s }) rs)))) [
+    ≡ length (cond b (record { holder = p; reference = r } ∷ filter (λ (o : Owner). o.reference.target == q)
+    (map (λ s. record { holder = p; reference = s }) rs)) (filter (λ (o : Owner). o.reference.target == q)
+    (map (λ s. record { holder = p; reference = s }) rs)))) [
       | true ↦ ap (λ n. suc n) (held_count p q rs)
       | false ↦ held_count p q rs
     ]
@@ -171,7 +182,8 @@ held_few : (file : File) (p q : ℕ) → p ≤ file.last → length (filter (λ 
 unfolding owners all_references
 held_few file p q low =
     subst (λ n. n ≤ length (owners file q)) (sym (held_count p q (refs file p)))
-    (kept_of_part (λ (o : Owner). o.reference.target == q) (held_by file) (range_with_len 0 (file.last + 1)) p (in_range 0 (file.last + 1) p (omega arith) (omega arith)))
+    (kept_of_part (λ (o : Owner). o.reference.target == q) (held_by file) (range_with_len 0 (file.last + 1)) p
+    (in_range 0 (file.last + 1) p (omega arith) (omega arith)))
 
 children_distinct : (file : File) (p : ℕ) → IsSoundGraph file → p ≤ file.last → AllDistinct (children_of file p)
 children_distinct file p sound low =
@@ -197,7 +209,8 @@ leaf_case : (levels : ℕ) (file : File) (c x : ℕ) → children_in (page_at fi
 unfolding leaves_in
 leaf_case levels file c x none at = only_member c x (subst (λ o. Contains (leaves_under (leaves_in levels file) c o) x) none at)
 
-below_case : (levels : ℕ) (file : File) (c x : ℕ) (cs : List ℕ) → children_in (page_at file c) ≡ Some cs → Contains (leaves_in (suc levels) file c) x → (d : ℕ) × Contains cs d × Contains (leaves_in levels file d) x
+below_case : (levels : ℕ) (file : File) (c x : ℕ) (cs : List ℕ) → children_in (page_at file c) ≡ Some cs → Contains (leaves_in (suc levels) file c) x
+    → (d : ℕ) × Contains cs d × Contains (leaves_in levels file d) x
 unfolding leaves_in
 below_case levels file c x cs some at = of_flat_map (leaves_in levels file) cs x (subst (λ o. Contains (leaves_under (leaves_in levels file) c o) x) some at)
 
@@ -211,7 +224,8 @@ record IsBelow (file : File) (p : ℕ) (cs : List ℕ) : Type 0 where
   inside : (c : ℕ) → Contains cs c → c ≤ file.last
   distinct : AllDistinct cs
 
-is_below : (image : List ℕ) (p : ℕ) (cs : List ℕ) → IsForest image → p ≤ (file_of image).last → children_in (page_at (file_of image) p) ≡ Some cs → IsBelow (file_of image) p cs
+is_below : (image : List ℕ) (p : ℕ) (cs : List ℕ) → IsForest image → p ≤ (file_of image).last → children_in (page_at (file_of image) p) ≡ Some cs
+    → IsBelow (file_of image) p cs
 is_below image p cs forest low some =
     let file : File = file_of image in
     let sound : IsSoundGraph file = sound_graph image forest.linked in
@@ -223,7 +237,8 @@ is_below image p cs forest low some =
     subst (IsBelow file p) (children_are image p cs forest low some) below
 
 -- from a leaf at or below a page holders lead up to that page
-leaf_climbs : (levels : ℕ) (image : List ℕ) (c x : ℕ) → IsForest image → c ≤ (file_of image).last → Contains (leaves_in levels (file_of image) c) x → (k : ℕ) × Climbs k (file_of image) x c
+leaf_climbs : (levels : ℕ) (image : List ℕ) (c x : ℕ) → IsForest image → c ≤ (file_of image).last → Contains (leaves_in levels (file_of image) c) x
+    → (k : ℕ) × Climbs k (file_of image) x c
 leaf_climbs zero image c x forest low at = (zero, sym (no_level (file_of image) c x at))
 leaf_climbs (suc levels) image c x forest low at =
     elim (children_case (children_in (page_at (file_of image) c))) [
@@ -270,7 +285,8 @@ leaf_alone : (levels : ℕ) (file : File) (p : ℕ) → children_in (page_at fil
 unfolding leaves_in
 leaf_alone levels file p none = subst (λ o. AllDistinct (leaves_under (leaves_in levels file) p o)) (sym none) (tt, tt)
 
-parts_distinct : (levels : ℕ) (file : File) (p : ℕ) (cs : List ℕ) → children_in (page_at file p) ≡ Some cs → AllDistinct (flat_map (leaves_in levels file) cs) → AllDistinct (leaves_in (suc levels) file p)
+parts_distinct : (levels : ℕ) (file : File) (p : ℕ) (cs : List ℕ) → children_in (page_at file p) ≡ Some cs → AllDistinct (flat_map (leaves_in levels file) cs)
+    → AllDistinct (leaves_in (suc levels) file p)
 unfolding leaves_in
 parts_distinct levels file p cs some distinct = subst (λ o. AllDistinct (leaves_under (leaves_in levels file) p o)) (sym some) distinct
 

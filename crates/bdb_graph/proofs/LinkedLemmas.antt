@@ -1,5 +1,6 @@
 -- What the pages of a linked image are, and which pages its metadata names.
-use Rattle.std.proofs.Common.{◌≡◌, ◌⊎◌, ℕ, zero, suc, ◌+◌, ◌<◌, ◌≤◌, Bool, true, false, not, cond, List, [], ◌∷◌, length, map, arith, refl, sym, ◌∙◌, ap, subst, inl, inr}
+use Rattle.std.proofs.Common.{◌≡◌, ◌⊎◌, ℕ, zero, suc, ◌+◌, ◌<◌, ◌≤◌, Bool, true, false, not, cond, List, [], ◌∷◌, length, map, arith, refl, sym, ◌∙◌, ap, subst}
+use Rattle.std.proofs.Common.{inl, inr}
 use Rattle.std.specs.Prelude.{Option, Some, None, ◌==◌, get_or, nat_lt}
 use Rattle.std.specs.Option.{option_map}
 use Rattle.std.specs.List.{Contains, enumerate_from, filter, range_with_len}
@@ -70,10 +71,12 @@ zero_code head page forest none =
     let byte : ℕ = byte_at page 25 in
     let identity : first_row (identity_rows head.order page 0 (may_have_type head.kind 0)) ≡ None = identity_none _ _ none in
     let meta : IsTreeMeta head.order page byte = tree_meta head.kind head.order page byte (is_same byte (type_of head.kind) (two_none _ _ identity)) forest in
-    passes (is_zero page) (not (four_at head.order page 8 == 0)) (not (is_tree_type byte)) (body_code head.order page (page_type byte)) (first_none _ _ identity) meta.type meta.body
+    passes (is_zero page) (not (four_at head.order page 8 == 0)) (not (is_tree_type byte)) (body_code head.order page (page_type byte))
+    (first_none _ _ identity) meta.type meta.body
 
 -- a page of a btree or hash file has the form that its view asks for
-pub forest_code : (head : Head) (number : ℕ) (page : List ℕ) → (head.kind ≡ Queue → ⊥) → form_code head number page ≡ None → page_code head.order number page ≡ None
+pub forest_code : (head : Head) (number : ℕ) (page : List ℕ) → (head.kind ≡ Queue → ⊥) → form_code head number page ≡ None → page_code head.order number page
+    ≡ None
 forest_code head zero page forest none = zero_code head page forest none
 forest_code head (suc n) page forest none = of (page_code head.order (suc n) page) refl
   where
@@ -82,7 +85,8 @@ forest_code head (suc n) page forest none = of (page_code head.order (suc n) pag
     of (Some code) same = absurd (let other = tree_refused head (suc n) page code (omega arith) forest same ∙ ap (option_map form_fault) none in cc)
 
 -- and so has one above 0 of a queue file
-pub records_code : (head : Head) (number : ℕ) (page : List ℕ) → 0 < number → head.kind ≡ Queue → form_code head number page ≡ None → queue_code head.order number page ≡ None
+pub records_code : (head : Head) (number : ℕ) (page : List ℕ) → 0 < number → head.kind ≡ Queue → form_code head number page ≡ None
+    → queue_code head.order number page ≡ None
 records_code head number page above queue none = sym (form_queue head number page above queue) ∙ none
 
 -- page 0 of a queue file is its metadata
@@ -117,13 +121,19 @@ queue_byte (suc number) byte may = inr (eqb-true byte 11 (sym (later_type Queue 
 
 no_forest_of : (order : Order) (page : List ℕ) (byte : ℕ) → (byte ≡ 10) ⊎ (byte ≡ 11) → is_forest_meta (page_as order page (page_type byte)) ≡ false
 no_forest_of order page byte types =
-    elim types [ inl is ↦ ap (λ b. is_forest_meta (page_as order page (page_type b))) is | inr is ↦ ap (λ b. is_forest_meta (page_as order page (page_type b))) is ]
+    elim types [
+      | inl is ↦ ap (λ b. is_forest_meta (page_as order page (page_type b))) is
+      | inr is ↦ ap (λ b. is_forest_meta (page_as order page (page_type b)))
+          is
+    ]
 
-no_forest_page : (head : Head) (number : ℕ) (page : List ℕ) → head.kind ≡ Queue → form_code head number page ≡ None → is_forest_meta (abstract_page head.order page) ≡ false
+no_forest_page : (head : Head) (number : ℕ) (page : List ℕ) → head.kind ≡ Queue → form_code head number page ≡ None
+    → is_forest_meta (abstract_page head.order page) ≡ false
 unfolding abstract_page
 no_forest_page head number page queue none =
     let byte : ℕ = byte_at page 25 in
-    elim (is_zero page) as (λ zeros. is_zero page ≡ zeros → is_forest_meta (elim zeros [ true ↦ Zero | false ↦ page_as head.order page (page_type byte) ]) ≡ false) [
+    elim (is_zero page) as (λ zeros. is_zero page ≡ zeros → is_forest_meta (elim zeros [ true ↦ Zero | false ↦ page_as head.order page (page_type byte) ])
+    ≡ false) [
       | true ↦ λ _. refl
       | false ↦ λ some.
           no_forest_of head.order page byte
@@ -131,15 +141,18 @@ no_forest_page head number page queue none =
     ] refl
 
 -- metadata of a btree or a hash table stands in no queue file
-no_queue : (image : List ℕ) (head : Head) (p : ℕ) → IsFormed image head → p ≤ (file_of image).last → is_forest_meta (page_at (file_of image) p) ≡ true → (file_of image).kind ≡ Queue → ⊥
+no_queue : (image : List ℕ) (head : Head) (p : ℕ) → IsFormed image head → p ≤ (file_of image).last → is_forest_meta (page_at (file_of image) p) ≡ true
+    → (file_of image).kind ≡ Queue → ⊥
 no_queue image head p formed low is queue =
     let inside : p ≤ (head_of image).last = omega (arith, low, last_page image) in
     let none : form_code (head_of image) p (page_bytes (head_of image) image p) ≡ None = formed_page image p formed.form inside in
-    true≢false (sym is ∙ (ap is_forest_meta (page_is image p inside) ∙ no_forest_page (head_of image) p (page_bytes (head_of image) image p) (sym (kind_is image) ∙ queue) none))
+    true≢false (sym is ∙ (ap is_forest_meta (page_is image p inside) ∙ no_forest_page (head_of image) p (page_bytes (head_of image) image p)
+    (sym (kind_is image) ∙ queue) none))
 
 -- What a page names is the target of a reference.
 
-pub named_target : (file : File) (p : ℕ) (sort : Sort) (target : ℕ) → p ≤ file.last → Contains (targets_of file.kind p (page_at file p)) (sort, target) → IsTarget file sort target
+pub named_target : (file : File) (p : ℕ) (sort : Sort) (target : ℕ) → p ≤ file.last → Contains (targets_of file.kind p (page_at file p)) (sort, target)
+    → IsTarget file sort target
 unfolding refs
 named_target file p sort target low at =
     let found : (i : ℕ) × Contains (enumerate_from 0 (targets_of file.kind p (page_at file p))) (i, (sort, target)) =
@@ -150,24 +163,29 @@ named_target file p sort target low at =
     (enumerate_from 0 (targets_of file.kind p (page_at file p))) (found.0, (sort, target)) found.1 in
     record { owner = record { holder = p; reference = reference }; held = held_in_all file p reference low held; sort_is = refl; target_is = refl }
 
-target_of : (image : List ℕ) (head : Head) (p : ℕ) (page : Page) (sort : Sort) (target : ℕ) → IsFormed image head → p ≤ (file_of image).last → page_at (file_of image) p ≡ page
+target_of : (image : List ℕ) (head : Head) (p : ℕ) (page : Page) (sort : Sort) (target : ℕ) → IsFormed image head → p ≤ (file_of image).last
+    → page_at (file_of image) p ≡ page
     → is_forest_meta page ≡ true → Contains (targets_in p page) (sort, target) → IsTarget (file_of image) sort target
 target_of image head p page sort target formed low is forest at =
     let names : targets_of (file_of image).kind p (page_at (file_of image) p) ≡ targets_in p page =
     forest_names (file_of image).kind p (page_at (file_of image) p) (no_queue image head p formed low (ap is_forest_meta is ∙ forest)) ∙ ap (targets_in p) is in
     named_target (file_of image) p sort target low (subst (λ ns. Contains ns (sort, target)) (sym names) at)
 
-pub root_fits : (image : List ℕ) (head : Head) (meta : BtreeMeta) → IsFormed image head → HasMetadata (file_of image) (BtreeFields meta) → IsTarget (file_of image) Root meta.root
+pub root_fits : (image : List ℕ) (head : Head) (meta : BtreeMeta) → IsFormed image head → HasMetadata (file_of image) (BtreeFields meta)
+    → IsTarget (file_of image) Root meta.root
 root_fits image head meta formed has =
     target_of image head has.page (Meta (BtreeFields meta)) Root meta.root formed has.inside has.is refl
     (Contains-append_right (first_free has.page meta.free) ((Root, meta.root) ∷ []) (Root, meta.root) (first_member (Root, meta.root) []))
 
-pub bucket_fits : (image : List ℕ) (head : Head) (meta : HashMeta) (b : ℕ) → IsFormed image head → HasMetadata (file_of image) (HashFields meta) → b ≤ meta.max_bucket
+pub bucket_fits : (image : List ℕ) (head : Head) (meta : HashMeta) (b : ℕ) → IsFormed image head → HasMetadata (file_of image) (HashFields meta)
+    → b ≤ meta.max_bucket
     → IsTarget (file_of image) Bucket (first_page b meta.spares)
 bucket_fits image head meta b formed has few =
     target_of image head has.page (Meta (HashFields meta)) Bucket (first_page b meta.spares) formed has.inside has.is refl
-    (Contains-append_right (first_free has.page meta.free) (map (λ n. (Bucket, first_page n meta.spares)) (range_with_len 0 (meta.max_bucket + 1))) (Bucket, first_page b meta.spares)
-    (in_map (λ n. (Bucket, first_page n meta.spares)) (range_with_len 0 (meta.max_bucket + 1)) b (in_range 0 (meta.max_bucket + 1) b (omega arith) (omega arith))))
+    (Contains-append_right (first_free has.page meta.free) (map (λ n. (Bucket, first_page n meta.spares)) (range_with_len 0 (meta.max_bucket + 1)))
+    (Bucket, first_page b meta.spares)
+    (in_map (λ n. (Bucket, first_page n meta.spares)) (range_with_len 0 (meta.max_bucket + 1)) b
+    (in_range 0 (meta.max_bucket + 1) b (omega arith) (omega arith))))
 
 -- Targets are there.
 
@@ -179,7 +197,8 @@ target_inside image sort p none is =
     let held = of_all file owner is.held in
     let rows = fit_rows file (asked_by owner.holder (page_at file owner.holder) owner.reference.sort) owner.reference.target in
     let fail : AllFail rows = none_is_first_row rows (each_fits file owner.holder owner.reference (sound_graph image none).references held.0 held.1) in
-    let low : owner.reference.target ≤ file.last = ltb-false file.last owner.reference.target (or_parts (owner.reference.target == 0) (nat_lt file.last owner.reference.target) fail.0).1 in
+    let low : owner.reference.target ≤ file.last = ltb-false file.last owner.reference.target
+    (or_parts (owner.reference.target == 0) (nat_lt file.last owner.reference.target) fail.0).1 in
     omega (arith, is.target_is, low)
 
 same_last : (image : List ℕ) (head : Head) → IsFormed image head → (file_of image).last ≡ head.last
@@ -187,7 +206,12 @@ same_last image head formed = last_page image ∙ ap (λ (h : Head). h.last) (sy
 
 pub root_inside : (image : List ℕ) (head : Head) (meta : BtreeMeta) → IsFormed image head → faults_in (3 ∷ 4 ∷ 5 ∷ []) image ≡ []
     → HasMetadata (file_of image) (BtreeFields meta) → meta.root ≤ head.last
-root_inside image head meta formed none has = omega (arith, target_inside image Root meta.root none (root_fits image head meta formed has), same_last image head formed)
+root_inside image head meta formed none has = omega (
+  arith,
+  target_inside image Root meta.root none (root_fits image head meta formed has),
+  same_last image head
+      formed,
+)
 
 pub bucket_inside : (image : List ℕ) (head : Head) (meta : HashMeta) (b : ℕ) → IsFormed image head → faults_in (3 ∷ 4 ∷ 5 ∷ []) image ≡ []
     → HasMetadata (file_of image) (HashFields meta) → b ≤ meta.max_bucket
@@ -214,16 +238,19 @@ few_metas image =
     omega (arith, few, length-range_with_len 0 ((file_of image).last + 1), last_page image)
 
 -- a number that is listed is that of a metadata page
-listed : (file : File) (i number : ℕ) → i < length (meta_pages file) → number ≡ get_or (meta_pages file) i number → (number ≤ file.last) × (is_meta (page_at file number) ≡ true)
+listed : (file : File) (i number : ℕ) → i < length (meta_pages file) → number ≡ get_or (meta_pages file) i number
+    → (number ≤ file.last) × (is_meta (page_at file number) ≡ true)
 unfolding meta_pages
 listed file i number below is =
     let test : ℕ → Bool = λ p. is_meta (page_at file p) in
-    let passed = of_filter test (range_with_len 0 (file.last + 1)) number (subst (Contains (meta_pages file)) (sym is) (Contains-get_or (meta_pages file) i number below)) in
+    let passed = of_filter test (range_with_len 0 (file.last + 1)) number
+    (subst (Contains (meta_pages file)) (sym is) (Contains-get_or (meta_pages file) i number below)) in
     let within = of_range 0 (file.last + 1) number passed.0 in
     (omega (arith, within.1), passed.1)
 
 pub meta_inside : (file : File) (i number : ℕ) → i < length (meta_pages file) → number ≡ get_or (meta_pages file) i number → number ≤ file.last
 meta_inside file i number below is = (listed file i number below is).0
 
-pub meta_there : (file : File) (i number : ℕ) → i < length (meta_pages file) → number ≡ get_or (meta_pages file) i number → None ≡ meta_in (page_at file number) → ⊥
+pub meta_there : (file : File) (i number : ℕ) → i < length (meta_pages file) → number ≡ get_or (meta_pages file) i number → None ≡ meta_in (page_at file number)
+    → ⊥
 meta_there file i number below is none = true≢false (sym (listed file i number below is).1 ∙ is_by_fields (page_at file number) none)

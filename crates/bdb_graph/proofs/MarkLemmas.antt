@@ -75,7 +75,8 @@ pub comes_to : (file : File) (marks : List Mark) (from at : ℕ) (reached : Bool
 comes_to file marks from at reached fit climbing is = sym (same_reach file marks from at fit climbing ∙ climbing.marked.found at reached is)
 
 -- the way comes to a page of its own
-pub comes_back : (file : File) (marks : List Mark) (from at : ℕ) → IsFit file → IsClimbing file marks from at → mark_at marks at ≡ Way → false ≡ reaches file from
+pub comes_back : (file : File) (marks : List Mark) (from at : ℕ) → IsFit file → IsClimbing file marks from at → mark_at marks at ≡ Way
+    → false ≡ reaches file from
 comes_back file marks from at fit climbing is =
     sym
     (same_reach file marks from at fit climbing
@@ -85,7 +86,8 @@ comes_back file marks from at fit climbing is =
     ]) at is)
 
 -- the way comes to a page without a holder
-pub comes_alone : (file : File) (marks : List Mark) (from at : ℕ) → IsFit file → IsClimbing file marks from at → first_holder (owners file at) ≡ None → is_top file at ≡ reaches file from
+pub comes_alone : (file : File) (marks : List Mark) (from at : ℕ) → IsFit file → IsClimbing file marks from at → first_holder (owners file at) ≡ None
+    → is_top file at ≡ reaches file from
 comes_alone file marks from at fit climbing none = reaches_alone file at none ∙ sym (same_reach file marks from at fit climbing)
 
 -- an open page goes onto the way
@@ -235,7 +237,8 @@ module _ (file : File) (marks : List Mark) (at : ℕ) (reached : Bool) (marking 
       (subst IsKnown (sym (get_or-set_same marks at (Known reached) Open inside)) tt)
 
   -- it's known of the holder of a page of which it is, unless the page is this one
-  now_closed : (q h : ℕ) → IsKnown (mark_at (set marks at (Known reached)) q) → IsHeldBy file q h → IsKnown (mark_at (set marks at (Known reached)) h) ⊎ (q ≡ at)
+  now_closed : (q h : ℕ) → IsKnown (mark_at (set marks at (Known reached)) q) → IsHeldBy file q h → IsKnown (mark_at (set marks at (Known reached)) h)
+      ⊎ (q ≡ at)
   now_closed q h known held =
       elim (after_set marks at q (Known reached) inside) [
         | inl set' ↦ inr set'.0

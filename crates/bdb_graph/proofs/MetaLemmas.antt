@@ -1,5 +1,6 @@
 -- What a page without a fault of form is, where it's metadata.
-use Rattle.std.proofs.Common.{◌≡◌, ℕ, zero, suc, ◌+◌, ◌≤◌, Bool, true, false, cond, inl, inr, List, [], ◌∷◌, ◌++◌, length, arith, refl, sym, ◌∙◌, ap, subst, append-nil}
+use Rattle.std.proofs.Common.{◌≡◌, ℕ, zero, suc, ◌+◌, ◌≤◌, Bool, true, false, cond, inl, inr, List, [], ◌∷◌, ◌++◌, length, arith, refl, sym, ◌∙◌, ap, subst}
+use Rattle.std.proofs.Common.{append-nil}
 use Rattle.std.specs.Prelude.{Some, None}
 use Rattle.std.specs.List.{filter, range_with_len}
 use Rattle.std.proofs.lemmas.Bool.{true≢false, cases_eq}
@@ -28,7 +29,8 @@ use Rattle.bdb_format.proofs.FileLemmas.{page_is}
 
 -- Queue metadata.
 
-pub queue_page : (order : Order) (page : List ℕ) → is_page_size (length page) ≡ true → byte_at page 25 ≡ 10 → abstract_page order page ≡ Meta (QueueFields (queue_fields order page))
+pub queue_page : (order : Order) (page : List ℕ) → is_page_size (length page) ≡ true → byte_at page 25 ≡ 10
+    → abstract_page order page ≡ Meta (QueueFields (queue_fields order page))
 unfolding abstract_page
 queue_page order page size is = rw (not_zero page Queue size is, abstract_page) (ap (λ byte. page_as order page (page_type byte)) is)
 
@@ -53,18 +55,21 @@ no_fields : (page : Page) → is_meta page ≡ false → meta_in page ≡ None
 no_fields (Meta fields) other = absurd cc
 no_fields page other = refl
 
-pub no_meta : (order : Order) (page : List ℕ) → (byte_at page 25 ≡ 8 → ⊥) → (byte_at page 25 ≡ 9 → ⊥) → (byte_at page 25 ≡ 10 → ⊥) → meta_in (abstract_page order page) ≡ None
+pub no_meta : (order : Order) (page : List ℕ) → (byte_at page 25 ≡ 8 → ⊥) → (byte_at page 25 ≡ 9 → ⊥) → (byte_at page 25 ≡ 10 → ⊥)
+    → meta_in (abstract_page order page) ≡ None
 unfolding abstract_page
 no_meta order page table tree queue =
     let byte : ℕ = byte_at page 25 in
     elim (is_zero page) as (λ zeros. meta_in (elim zeros [ true ↦ Zero | false ↦ page_as order page (page_type byte) ]) ≡ None) [
       | true ↦ refl
-      | false ↦ no_fields (page_as order page (page_type byte)) (other_page order page (page_type byte) (other_type byte (differs byte 8 table) (differs byte 9 tree) (differs byte 10 queue)))
+      | false ↦ no_fields (page_as order page (page_type byte)) (other_page order page (page_type byte)
+          (other_type byte (differs byte 8 table) (differs byte 9 tree) (differs byte 10 queue)))
     ]
 
 -- The file.
 
-pub meta_of_page : (image : List ℕ) (p : ℕ) → p ≤ (head_of image).last → meta_in (page_at (file_of image) p) ≡ meta_in (abstract_page (head_of image).order (page_bytes (head_of image) image p))
+pub meta_of_page : (image : List ℕ) (p : ℕ) → p ≤ (head_of image).last → meta_in (page_at (file_of image) p)
+    ≡ meta_in (abstract_page (head_of image).order (page_bytes (head_of image) image p))
 meta_of_page image p low = ap meta_in (page_is image p low)
 
 -- a page that shows none is no metadata
@@ -92,8 +97,10 @@ pub few_buckets_known : (head : Head) (number : ℕ) (page : List ℕ) (meta : H
 few_buckets_known head number page meta size none some =
     elim (cases_eq (byte_at page 25) 8) [
       | inl table ↦
-          let same : HashFields meta ≡ HashFields (hash_fields head.order page) = (let e = ap meta_in (table_page head.order page size table) in cc (e, some)) in
-          let few : (hash_fields head.order page).max_bucket ≤ head.last = few_buckets head.order page number head.last (table_formed head number page size table none) in
+          let same : HashFields meta ≡ HashFields (hash_fields head.order page) = (let e = ap meta_in (table_page head.order page size table) in cc (e, some))
+          in
+          let few : (hash_fields head.order page).max_bucket ≤ head.last = few_buckets head.order page number head.last
+          (table_formed head number page size table none) in
           (let is : meta ≡ hash_fields head.order page = cc same in rw is few)
       | inr no_table' ↦
           elim (cases_eq (byte_at page 25) 9) [
@@ -114,11 +121,13 @@ one_page_more file n =
     let same : 0 + n ≡ n = omega arith in
     ap (filter test) (range_more 0 n ∙ ap (λ m. range_with_len 0 n ++ m ∷ []) same) ∙ filter-append test (range_with_len 0 n) (n ∷ [])
 
-pub one_more_meta : (file : File) (n : ℕ) (metas : List ℕ) → metas ≡ metas_below file n → true ≡ is_meta (page_at file n) → metas ++ n ∷ [] ≡ metas_below file (n + 1)
+pub one_more_meta : (file : File) (n : ℕ) (metas : List ℕ) → metas ≡ metas_below file n → true ≡ is_meta (page_at file n)
+    → metas ++ n ∷ [] ≡ metas_below file (n + 1)
 one_more_meta file n metas below is = ap (λ ms. ms ++ n ∷ []) below ∙ sym (one_page_more file n ∙ ap (λ b. metas_below file n ++ cond b (n ∷ []) []) (sym is))
 
 pub no_more_meta : (file : File) (n : ℕ) (metas : List ℕ) → metas ≡ metas_below file n → false ≡ is_meta (page_at file n) → metas ≡ metas_below file (n + 1)
-no_more_meta file n metas below other = below ∙ sym (one_page_more file n ∙ ap (λ b. metas_below file n ++ cond b (n ∷ []) []) (sym other) ∙ append-nil (metas_below file n))
+no_more_meta file n metas below other = below ∙ sym (one_page_more file n ∙ ap (λ b. metas_below file n ++ cond b (n ∷ []) []) (sym other)
+    ∙ append-nil (metas_below file n))
 
 -- all of them
 pub all_metas : (file : File) (n : ℕ) (metas : List ℕ) → n ≡ file.last + 1 → metas ≡ metas_below file n → metas ≡ meta_pages file

@@ -1,5 +1,6 @@
 -- The faults that are noted, page by page and stage by stage.
-use Rattle.std.proofs.Common.{◌≡◌, ℕ, ◌+◌, ◌-◌, ◌≤◌, Bool, true, false, not, List, [], ◌∷◌, ◌++◌, length, Option, Some, None, arith, refl, sym, ◌∙◌, ap, subst, append-nil}
+use Rattle.std.proofs.Common.{◌≡◌, ℕ, ◌+◌, ◌-◌, ◌≤◌, Bool, true, false, not, List, [], ◌∷◌, ◌++◌, length, Option, Some, None, arith, refl, sym, ◌∙◌, ap, subst}
+use Rattle.std.proofs.Common.{append-nil}
 use Rattle.std.specs.Prelude.{◌==◌, ◌&&◌, ◌||◌, Err}
 use Rattle.std.specs.List.{list_any}
 use Rattle.std.specs.Option.{option_map, option_to_list}
@@ -33,7 +34,8 @@ use Rattle.bdb_format.specs.Reading.{is_zero}
 use Rattle.bdb_format.specs.References.{fit_code, refs}
 use Rattle.bdb_format.specs.Rows.{form_code as row_of_form}
 use Rattle.bdb_format.specs.Table.{Row, ◌:?◌, answer, first_row}
-use Rattle.bdb_format.specs.Verdict.{Judgement, by_page, fails_as, faults_in, form_faults, head_faults, holding, or_else, ownership_faults, ownership_rows, reach_faults, reach_rows, reference_faults, reference_rows, some_fails, stage_faults, tail_faults, tail_rows}
+use Rattle.bdb_format.specs.Verdict.{Judgement, by_page, fails_as, faults_in, form_faults, head_faults, holding, or_else, ownership_faults, ownership_rows}
+use Rattle.bdb_format.specs.Verdict.{reach_faults, reach_rows, reference_faults, reference_rows, some_fails, stage_faults, tail_faults, tail_rows}
 use Rattle.bdb_format.specs.Graph.{is_anchor, is_owned_twice, is_reserve, is_shared_too_often, is_unowned, reaches}
 use Rattle.bdb_format.proofs.MemberLemmas.{first_member, no_member}
 use Rattle.bdb_format.proofs.VerdictLemmas.{or_else_none, or_else_nothing}
@@ -44,7 +46,8 @@ use Rattle.bdb_graph.specs.Noted.{misfit_faults, misfits_of, more_misfits, page_
 -- Page by page.
 
 -- those of one more page of a stage
-pub page_noted : (before middle after : List Fault → Type 0) (stage from n : ℕ) (codes : ℕ → List ℕ) → from ≤ n → NotesAll before middle (by_page stage from (n - from) codes)
+pub page_noted : (before middle after : List Fault → Type 0) (stage from n : ℕ) (codes : ℕ → List ℕ) → from ≤ n
+    → NotesAll before middle (by_page stage from (n - from) codes)
     → NotesAll middle after (page_faults stage n (codes n)) → NotesAll before after (by_page stage from (n + 1 - from) codes)
 page_noted before middle after stage from n codes low first second =
     let next : n + 1 - from ≡ n - from + 1 = omega arith in
@@ -52,7 +55,8 @@ page_noted before middle after stage from n codes low first second =
     (notes_more before middle after (λ p. page_faults stage p (codes p)) from (n - from) n (omega arith) first second)
 
 -- no page is passed yet
-pub none_noted : (before : List Fault → Type 0) (stage from n : ℕ) (codes : ℕ → List ℕ) → n ≡ from → NotesAll before before (by_page stage from (n - from) codes)
+pub none_noted : (before : List Fault → Type 0) (stage from n : ℕ) (codes : ℕ → List ℕ) → n ≡ from
+    → NotesAll before before (by_page stage from (n - from) codes)
 none_noted before stage from n codes is =
     let none : n - from ≡ 0 = omega arith in subst (λ k. NotesAll before before (by_page stage from k codes)) (sym none) (notes_none before)
 
@@ -70,7 +74,8 @@ row_alone row stage page code holds is = sym (append-nil (fault_if row page hold
 
 -- Stage 3.
 
-any_more : (test : Reference → Bool) (before : List Reference) (reference : Reference) → (list_any test before || test reference) ≡ list_any test (before ++ (reference ∷ []))
+any_more : (test : Reference → Bool) (before : List Reference) (reference : Reference) → (list_any test before || test reference)
+    ≡ list_any test (before ++ (reference ∷ []))
 any_more test before reference = sym (list_any-append test before (reference ∷ []) ∙ ap (λ b. list_any test before || b) (or-false (test reference)))
 
 pub same_misfits : (a b c d e f g h : Bool) → a ≡ e → b ≡ f → c ≡ g → d ≡ h
@@ -86,7 +91,8 @@ one_more_misfit fit before reference =
     (any_more (λ r. fails_as 3 (fit r)) before reference) (any_more (λ r. fails_as 4 (fit r)) before reference)
 
 -- what is noted of the references of a page are its faults
-pub misfits_noted : (before after : List Fault → Type 0) (file : File) (page : ℕ) (misfits : Misfits) → misfits ≡ misfits_of (fit_code file page) (refs file page)
+pub misfits_noted : (before after : List Fault → Type 0) (file : File) (page : ℕ) (misfits : Misfits)
+    → misfits ≡ misfits_of (fit_code file page) (refs file page)
     → Notes before after (misfit_faults misfits page) → NotesAll before after (page_faults 3 page (holding (reference_rows file page)))
 misfits_noted before after file page misfits is noted =
     let a : Bool = some_fails file page 1 in
@@ -96,8 +102,10 @@ misfits_noted before after file page misfits is noted =
     let same : misfit_faults (misfits_of (fit_code file page) (refs file page)) page ≡ page_faults 3 page (holding (reference_rows file page)) =
     row_held (ReferenceRow OutOfRange) 3 page 1 a (2 :? b ∷ 3 :? c ∷ 4 :? d ∷ [])
     (fault_if (ReferenceRow WrongKind) page b ++ (fault_if (ReferenceRow WrongLevel) page c ++ fault_if (ReferenceRow WrongBack) page d)) refl
-    (row_held (ReferenceRow WrongKind) 3 page 2 b (3 :? c ∷ 4 :? d ∷ []) (fault_if (ReferenceRow WrongLevel) page c ++ fault_if (ReferenceRow WrongBack) page d) refl
-    (row_held (ReferenceRow WrongLevel) 3 page 3 c (4 :? d ∷ []) (fault_if (ReferenceRow WrongBack) page d) refl (row_alone (ReferenceRow WrongBack) 3 page 4 d refl))) in
+    (row_held (ReferenceRow WrongKind) 3 page 2 b (3 :? c ∷ 4 :? d ∷ []) (fault_if (ReferenceRow WrongLevel) page c ++ fault_if (ReferenceRow WrongBack) page d)
+    refl
+    (row_held (ReferenceRow WrongLevel) 3 page 3 c (4 :? d ∷ []) (fault_if (ReferenceRow WrongBack) page d) refl
+    (row_alone (ReferenceRow WrongBack) 3 page 4 d refl))) in
     subst (NotesAll before after) (ap (λ (m : Misfits). misfit_faults m page) is ∙ same) (notes_one before after (misfit_faults misfits page) noted)
 
 -- all pages are passed
@@ -122,7 +130,8 @@ both_noted : (before middle after : List Fault → Type 0) (page : ℕ) (lacks m
     → Notes middle after (fault_if (Ownership TooMany) page many) → NotesAll before after (page_faults 4 page (holding (1 :? lacks ∷ 2 :? many ∷ [])))
 both_noted before middle after page lacks many first second =
     subst (NotesAll before after)
-    (row_held (Ownership NoOwner) 4 page 1 lacks (2 :? many ∷ []) (fault_if (Ownership TooMany) page many) refl (row_alone (Ownership TooMany) 4 page 2 many refl))
+    (row_held (Ownership NoOwner) 4 page 1 lacks (2 :? many ∷ []) (fault_if (Ownership TooMany) page many) refl
+    (row_alone (Ownership TooMany) 4 page 2 many refl))
     (notes_both before middle after (fault_if (Ownership NoOwner) page lacks) (fault_if (Ownership TooMany) page many) (notes_one before middle _ first)
     (notes_one middle after _ second))
 
@@ -145,7 +154,8 @@ owners_noted before after file n all noted =
 pub reached_noted : (before after : List Fault → Type 0) (file : File) (page : ℕ) (reached : Bool) → reached ≡ reaches file page
     → Notes before after (fault_if (Reach Unreached) page (not reached)) → NotesAll before after (page_faults 5 page (holding (reach_rows file page)))
 reached_noted before after file page reached is noted =
-    subst (λ b. NotesAll before after (page_faults 5 page (holding (1 :? not b ∷ [])))) is (row_noted before after (Reach Unreached) 5 page 1 (not reached) refl noted)
+    subst (λ b. NotesAll before after (page_faults 5 page (holding (1 :? not b ∷ [])))) is
+    (row_noted before after (Reach Unreached) 5 page 1 (not reached) refl noted)
 
 pub reach_noted : (before after : List Fault → Type 0) (file : File) (n : ℕ) → n ≡ file.last + 1
     → NotesAll before after (by_page 5 1 (n - 1) (λ p. holding (reach_rows file p))) → NotesAll before after (reach_faults file)
@@ -162,7 +172,8 @@ zero_noted before after image head page zeros bytes is bytes_are noted =
     (row_noted before after (FileRow Tail) 1 page 12 (not zeros) refl noted)
 
 pub tail_noted : (before after : List Fault → Type 0) (image : List ℕ) (head : Head) (n : ℕ) → head ≡ head_of image → n ≡ head.pages
-    → NotesAll before after (by_page 1 (head.last + 1) (n - (head.last + 1)) (λ p. holding (tail_rows head image p))) → NotesAll before after (tail_faults image)
+    → NotesAll before after (by_page 1 (head.last + 1) (n - (head.last + 1)) (λ p. holding (tail_rows head image p)))
+    → NotesAll before after (tail_faults image)
 unfolding tail_faults
 tail_noted before after image head n is all noted =
     subst (λ (h : Head). NotesAll before after (by_page 1 (h.last + 1) (h.pages - (h.last + 1)) (λ p. holding (tail_rows h image p)))) is
@@ -184,7 +195,8 @@ form_passed before page None is = notes_none before
 form_passed before page (Some code) is = absurd cc
 
 pub forms_noted : (before after : List Fault → Type 0) (image : List ℕ) (head : Head) (n : ℕ) → head ≡ head_of image → n ≡ head.last + 1
-    → NotesAll before after (by_page 2 0 (n - 0) (λ p. option_to_list (row_of_form head p (page_bytes head image p)))) → NotesAll before after (form_faults image)
+    → NotesAll before after (by_page 2 0 (n - 0) (λ p. option_to_list (row_of_form head p (page_bytes head image p))))
+    → NotesAll before after (form_faults image)
 unfolding form_faults
 forms_noted before after image head n is all noted =
     let same : n - 0 ≡ head.last + 1 = omega arith in
@@ -206,14 +218,17 @@ pub head_refused : (image : List ℕ) (fault : MetaFault) → Err fault ≡ faul
     → faults_in (1 ∷ 2 ∷ []) image ≡ fault_of_head fault ∷ []
 unfolding faults_in head_faults
 head_refused image fault same =
-    let first : Some fault ≡ option_map head_fault (first_row (head_rows image)) = ap result_err same ∙ fault_of_rows head_fault (head_rows image) (head_of image) in
-    ap (λ (faults : List Fault). or_else (or_else faults (λ _. tail_faults image)) (λ _. faults_in (2 ∷ []) image)) (head_alone (first_row (head_rows image)) fault first)
+    let first : Some fault ≡ option_map head_fault (first_row (head_rows image)) = ap result_err same
+    ∙ fault_of_rows head_fault (head_rows image) (head_of image) in
+    ap (λ (faults : List Fault). or_else (or_else faults (λ _. tail_faults image)) (λ _. faults_in (2 ∷ []) image))
+    (head_alone (first_row (head_rows image)) fault first)
 
 -- page 0 is accepted: stage 1 is what is noted of the pages above the last one
 pub head_passed : (image : List ℕ) → first_row (head_rows image) ≡ None → faults_in (1 ∷ 2 ∷ []) image ≡ or_else (tail_faults image) (λ _. form_faults image)
 unfolding faults_in head_faults
 head_passed image none =
-    ap (λ (code : Option ℕ). or_else (or_else (by_page 1 0 1 (λ p. option_to_list code)) (λ _. tail_faults image)) (λ _. or_else (form_faults image) (λ _. []))) none
+    ap (λ (code : Option ℕ). or_else (or_else (by_page 1 0 1 (λ p. option_to_list code)) (λ _. tail_faults image)) (λ _. or_else (form_faults image) (λ _. [])))
+    none
     ∙ ap (λ (forms : List Fault). or_else (tail_faults image) (λ _. forms)) (or_else_nothing (form_faults image))
 
 -- Stage by stage.
@@ -232,7 +247,8 @@ nothing_in : (faults : List Fault) → (length faults == 0) ≡ true → faults 
 nothing_in [] none = refl
 nothing_in (fault ∷ faults) none = absurd (let zero : length (fault ∷ faults) ≡ 0 = eqb-true _ _ none in omega arith)
 
-module _ (before middle : List Fault → Type 0) (faults : List Fault) (empty : Bool) (new : before []) (first : NotesAll before middle faults) (tells : TellsEmpty empty middle) where
+module _ (before middle : List Fault → Type 0) (faults : List Fault) (empty : Bool) (new : before []) (first : NotesAll before middle faults)
+    (tells : TellsEmpty empty middle) where
   empty_is : empty ≡ (length faults == 0)
   empty_is = let it = noted_all before middle faults new first in tells it.0 it.1 ∙ same_empty it.0 faults it.2
 
@@ -269,7 +285,8 @@ module _ (before middle : List Fault → Type 0) (faults : List Fault) (empty : 
       subst (λ fs. NotesAll before middle (or_else fs (λ _. faults_in stages image))) (sym same) (alone_noted (faults_in stages image) is)
 
   -- the stage has faults
-  pub stage_there : (image : List ℕ) (stage : ℕ) (stages : List ℕ) → stage_faults image stage ≡ faults → empty ≡ false → faults_in (stage ∷ stages) image ≡ [] → ⊥
+  pub stage_there : (image : List ℕ) (stage : ℕ) (stages : List ℕ) → stage_faults image stage ≡ faults → empty ≡ false → faults_in (stage ∷ stages) image ≡ []
+      → ⊥
   unfolding faults_in
   stage_there image stage stages same is none =
       let nothing : faults ≡ [] = sym same ∙ (or_else_none (stage_faults image stage) (faults_in stages image) none).0 in

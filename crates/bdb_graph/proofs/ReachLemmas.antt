@@ -1,5 +1,6 @@
 -- When a page reaches: following the holders of first references.
-use Rattle.std.proofs.Common.{◌≡◌, ℕ, zero, suc, ◌≤◌, true, false, List, [], ◌∷◌, refl, sym, ◌∙◌, ap, subst, ◌+◌, ◌-◌, ◌<◌, ◌||◌, length, Option, Some, None, inl, inr, arith}
+use Rattle.std.proofs.Common.{◌≡◌, ℕ, zero, suc, ◌≤◌, true, false, List, [], ◌∷◌, refl, sym, ◌∙◌, ap, subst, ◌+◌, ◌-◌, ◌<◌, ◌||◌, length, Option, Some, None}
+use Rattle.std.proofs.Common.{inl, inr, arith}
 use Rattle.std.specs.Prelude.{Some, None, ◌||◌, ◌==◌}
 use Rattle.std.specs.List.{Contains, AllByRecursion, IsDistinct, list_any}
 use Rattle.bdb_format.specs.File.{File, file_of}
@@ -45,7 +46,17 @@ holder_there file p holder first = holder_of file p holder (owners file p) refl 
 
 pub fit_file : (image : List ℕ) (head : Head) → IsFormed image head → reference_faults (file_of image) ≡ [] → IsFit (file_of image)
 fit_file image head formed none =
-    record { references = none; there = omega (arith, formed_last image head formed, last_page image, count_is image, ap (λ (h : Head). h.last) formed.head_is, ap (λ (h : Head). h.pages) formed.head_is) }
+    record {
+      references = none;
+      there = omega (
+        arith,
+        formed_last image head formed,
+        last_page image,
+        count_is image,
+        ap (λ (h : Head). h.last) formed.head_is,
+        ap (λ (h : Head). h.pages) formed.head_is,
+      );
+    }
 
 -- Numbers up to another, none twice, are few.
 
@@ -82,7 +93,8 @@ holders_inside file p (h ∷ hs) way = (holder_there file p h way.0, holders_ins
 more_turns : (k t : ℕ) (file : File) (p : ℕ) → reaches_in t file p ≡ true → reaches_in (k + t) file p ≡ true
 unfolding reaches_in
 more_turns zero t file p does = rw zero-add does
-more_turns (suc k) t file p does = rw suc-add (let sooner = more_turns k t file p does in ap (λ b. b || if_some (first_holder (owners file p)) (reaches_in (k + t) file)) sooner)
+more_turns (suc k) t file p does = rw suc-add (let sooner = more_turns k t file p does in ap
+    (λ b. b || if_some (first_holder (owners file p)) (reaches_in (k + t) file)) sooner)
 
 enough : (file : File) (t p : ℕ) → IsFit file → p ≤ file.last → reaches_in t file p ≡ true → reaches file p ≡ true
 enough file t p fit low does =
@@ -114,11 +126,13 @@ reaches_above zero file p q fit up = ap (reaches file) up
 reaches_above (suc k) file p q fit up = reaches_onward file p up.0 fit up.1 ∙ reaches_above k file up.0 q fit up.2
 
 -- where pages lead to one another alone, and none of them is an anchor or a reserve, none reaches
-pub never : (t : ℕ) (file : File) (Shut : ℕ → Type 0) → ((q : ℕ) → Shut q → is_top file q ≡ false) → ((q h : ℕ) → Shut q → IsHeldBy file q h → Shut h) → (p : ℕ) → Shut p
+pub never : (t : ℕ) (file : File) (Shut : ℕ → Type 0) → ((q : ℕ) → Shut q → is_top file q ≡ false) → ((q h : ℕ) → Shut q → IsHeldBy file q h → Shut h) → (p : ℕ)
+    → Shut p
     → reaches_in t file p ≡ false
 unfolding reaches_in
 never zero file Shut low on p shut = low p shut
-never (suc t) file Shut low on p shut = rw (never t file Shut low on p shut) (of (first_holder (owners file p)) (λ h held. never t file Shut low on h (on p h shut held)))
+never (suc t) file Shut low on p shut = rw (never t file Shut low on p shut)
+    (of (first_holder (owners file p)) (λ h held. never t file Shut low on h (on p h shut held)))
   where
     of : (o : Option ℕ) → ((h : ℕ) → o ≡ Some h → reaches_in t file h ≡ false) → if_some o (reaches_in t file) ≡ false
     of None above = refl

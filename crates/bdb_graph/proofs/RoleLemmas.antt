@@ -8,7 +8,8 @@ use Rattle.bdb_format.specs.declared.kinds.Order.{Order}
 use Rattle.bdb_format.specs.File.{File, file_of, page_at}
 use Rattle.bdb_format.specs.Graph.{is_hash_meta, is_meta, is_spare}
 use Rattle.bdb_format.specs.Numbers.{byte_at}
-use Rattle.bdb_format.specs.Page.{NoType, PageType, FreePage, HashPage, InternalPage, RecnoInternalPage, LeafPage, RecnoLeafPage, OverflowPage, HashMetaPage, BtreeMetaPage, QueueMetaPage, QueuePage, DupLeafPage, OtherPage}
+use Rattle.bdb_format.specs.Page.{NoType, PageType, FreePage, HashPage, InternalPage, RecnoInternalPage, LeafPage, RecnoLeafPage, OverflowPage, HashMetaPage}
+use Rattle.bdb_format.specs.Page.{BtreeMetaPage, QueueMetaPage, QueuePage, DupLeafPage, OtherPage}
 use Rattle.bdb_format.specs.Reading.{abstract_page, hash_item_at, header_of, is_zero, page_as, page_type}
 use Rattle.bdb_format.proofs.PageLemmas.{header_listed}
 use Rattle.bdb_format.proofs.ListLemmas.{none_of_list}
@@ -21,7 +22,8 @@ use Rattle.bdb_format.proofs.FileLemmas.{pages_counted}
 some_byte : (page : List ℕ) (byte : ℕ) → 512 ≤ length page → byte_at page 25 ≡ byte → (byte == 0) ≡ false → is_zero page ≡ false
 some_byte page byte long is other = list_all_at (λ b. b == 0) page 25 0 (omega arith) (ap (λ b. b == 0) is ∙ other)
 
-page_of_byte : (order : Order) (page : List ℕ) (byte : ℕ) → 512 ≤ length page → byte_at page 25 ≡ byte → (byte == 0) ≡ false → abstract_page order page ≡ page_as order page (page_type byte)
+page_of_byte : (order : Order) (page : List ℕ) (byte : ℕ) → 512 ≤ length page → byte_at page 25 ≡ byte → (byte == 0) ≡ false
+    → abstract_page order page ≡ page_as order page (page_type byte)
 page_of_byte order page byte long is other = typed_page order page (some_byte page byte long is other) ∙ ap (λ b. page_as order page (page_type b)) is
 
 -- Tests of a type that fail.
@@ -35,7 +37,8 @@ test_past : (f : PageType → Bool) (b : Bool) (s t : PageType) → b ≡ false 
 test_past f true s t none second = absurd cc
 test_past f false s t none second = second
 
-no_meta_type : (order : Order) (page : List ℕ) (byte : ℕ) → (byte == 8) ≡ false → (byte == 9) ≡ false → (byte == 10) ≡ false → is_meta (page_as order page (page_type byte)) ≡ false
+no_meta_type : (order : Order) (page : List ℕ) (byte : ℕ) → (byte == 8) ≡ false → (byte == 9) ≡ false → (byte == 10) ≡ false
+    → is_meta (page_as order page (page_type byte)) ≡ false
 no_meta_type order page byte table tree queue =
     let f : PageType → Bool = λ t. is_meta (page_as order page t) in
     test_of f (byte == 0) FreePage _ refl
@@ -69,7 +72,8 @@ no_hash_meta_type order page byte table =
     (test_of f (byte == 12) DupLeafPage _ refl
     (test_of f (byte == 13) HashPage OtherPage refl refl))))))))))))
 
-no_spare_type : (order : Order) (page : List ℕ) (byte : ℕ) → (byte == 0) ≡ false → (byte == 2) ≡ false → (byte == 13) ≡ false → is_spare (page_as order page (page_type byte)) ≡ false
+no_spare_type : (order : Order) (page : List ℕ) (byte : ℕ) → (byte == 0) ≡ false → (byte == 2) ≡ false → (byte == 13) ≡ false
+    → is_spare (page_as order page (page_type byte)) ≡ false
 no_spare_type order page byte free hash sorted =
     let f : PageType → Bool = λ t. is_spare (page_as order page t) in
     test_past f (byte == 0) FreePage _ free
@@ -88,31 +92,39 @@ no_spare_type order page byte free hash sorted =
 
 -- Metadata.
 
-no_meta : (order : Order) (page : List ℕ) (byte : ℕ) → byte_at page 25 ≡ byte → (byte == 8) ≡ false → (byte == 9) ≡ false → (byte == 10) ≡ false → is_meta (abstract_page order page) ≡ false
+no_meta : (order : Order) (page : List ℕ) (byte : ℕ) → byte_at page 25 ≡ byte → (byte == 8) ≡ false → (byte == 9) ≡ false → (byte == 10) ≡ false
+    → is_meta (abstract_page order page) ≡ false
 no_meta order page byte is table tree queue =
     elim (cases_Bool (is_zero page)) [
       | inl empty ↦ ap is_meta (zero_page order page empty)
-      | inr some ↦ ap is_meta (typed_page order page some) ∙ (ap (λ b. is_meta (page_as order page (page_type b))) is ∙ no_meta_type order page byte table tree queue)
+      | inr some ↦ ap is_meta (typed_page order page some) ∙ (ap (λ b. is_meta (page_as order page (page_type b))) is
+          ∙ no_meta_type order page byte table tree queue)
     ]
 
-meta_by : (order : Order) (page : List ℕ) (byte : ℕ) → 512 ≤ length page → byte_at page 25 ≡ byte → is_meta (abstract_page order page) ≡ (byte == 8 || byte == 9 || byte == 10)
+meta_by : (order : Order) (page : List ℕ) (byte : ℕ) → 512 ≤ length page → byte_at page 25 ≡ byte → is_meta (abstract_page order page)
+    ≡ (byte == 8 || byte == 9 || byte == 10)
 meta_by order page byte long is =
     elim (cases_eq byte 8) [
-      | inl table ↦ subst (λ b. byte_at page 25 ≡ b → is_meta (abstract_page order page) ≡ (b == 8 || b == 9 || b == 10)) (sym table) (λ same. ap is_meta (page_of_byte order page 8 long same refl)) is
+      | inl table ↦ subst (λ b. byte_at page 25 ≡ b → is_meta (abstract_page order page) ≡ (b == 8 || b == 9 || b == 10)) (sym table)
+          (λ same. ap is_meta (page_of_byte order page 8 long same refl)) is
       | inr no_table ↦
           elim (cases_eq byte 9) [
-            | inl tree ↦ subst (λ b. byte_at page 25 ≡ b → is_meta (abstract_page order page) ≡ (b == 8 || b == 9 || b == 10)) (sym tree) (λ same. ap is_meta (page_of_byte order page 9 long same refl)) is
+            | inl tree ↦ subst (λ b. byte_at page 25 ≡ b → is_meta (abstract_page order page) ≡ (b == 8 || b == 9 || b == 10)) (sym tree)
+                (λ same. ap is_meta (page_of_byte order page 9 long same refl)) is
             | inr no_tree ↦
                 elim (cases_eq byte 10) [
-                  | inl queue ↦ subst (λ b. byte_at page 25 ≡ b → is_meta (abstract_page order page) ≡ (b == 8 || b == 9 || b == 10)) (sym queue) (λ same. ap is_meta (page_of_byte order page 10 long same refl)) is
+                  | inl queue ↦ subst (λ b. byte_at page 25 ≡ b → is_meta (abstract_page order page) ≡ (b == 8 || b == 9 || b == 10)) (sym queue)
+                      (λ same. ap is_meta (page_of_byte order page 10 long same refl)) is
                   | inr no_queue ↦
                       no_meta order page byte is (ne_eqb _ _ no_table) (ne_eqb _ _ no_tree) (ne_eqb _ _ no_queue)
-                      ∙ sym (or_from (byte == 8 || byte == 9) (byte == 10) (or_from (byte == 8) (byte == 9) (ne_eqb _ _ no_table) (ne_eqb _ _ no_tree)) (ne_eqb _ _ no_queue))
+                      ∙ sym (or_from (byte == 8 || byte == 9) (byte == 10) (or_from (byte == 8) (byte == 9) (ne_eqb _ _ no_table) (ne_eqb _ _ no_tree))
+                      (ne_eqb _ _ no_queue))
                 ]
           ]
     ]
 
-pub meta_is : (order : Order) (page : List ℕ) → 512 ≤ length page → is_meta (abstract_page order page) ≡ (byte_at page 25 == 8 || byte_at page 25 == 9 || byte_at page 25 == 10)
+pub meta_is : (order : Order) (page : List ℕ) → 512 ≤ length page → is_meta (abstract_page order page)
+    ≡ (byte_at page 25 == 8 || byte_at page 25 == 9 || byte_at page 25 == 10)
 meta_is order page long = meta_by order page (byte_at page 25) long refl
 
 pub hash_meta_is : (order : Order) (page : List ℕ) → 512 ≤ length page → is_hash_meta (abstract_page order page) ≡ (byte_at page 25 == 8)
@@ -132,10 +144,12 @@ hash_meta_is order page long =
 pub spare_zero : (order : Order) (page : List ℕ) → is_zero page ≡ true → is_spare (abstract_page order page) ≡ true
 spare_zero order page empty = ap is_spare (zero_page order page empty)
 
-pub spare_free : (order : Order) (page : List ℕ) → is_zero page ≡ false → byte_at page 25 ≡ 0 → is_spare (abstract_page order page) ≡ ((header_of order page).next == 0)
+pub spare_free : (order : Order) (page : List ℕ) → is_zero page ≡ false → byte_at page 25 ≡ 0 → is_spare (abstract_page order page)
+    ≡ ((header_of order page).next == 0)
 spare_free order page some is = ap is_spare (typed_page order page some) ∙ ap (λ b. is_spare (page_as order page (page_type b))) is
 
-spare_table : (order : Order) (page : List ℕ) → is_spare (page_as order page HashPage) ≡ ((header_of order page).entries == 0 && (header_of order page).previous == 0 && (header_of order page).next == 0)
+spare_table : (order : Order) (page : List ℕ) → is_spare (page_as order page HashPage)
+    ≡ ((header_of order page).entries == 0 && (header_of order page).previous == 0 && (header_of order page).next == 0)
 spare_table order page = ap (λ header. header.entries == 0 && header.previous == 0 && header.next == 0) (header_listed order page (hash_item_at order page))
 
 -- either type of hash page
@@ -150,13 +164,15 @@ spare_hash order page byte some is hash =
     ]
     ∙ spare_table order page))
 
-pub spare_other : (order : Order) (page : List ℕ) → is_zero page ≡ false → (byte_at page 25 ≡ 0 → ⊥) → (byte_at page 25 ≡ 2 → ⊥) → (byte_at page 25 ≡ 13 → ⊥) → is_spare (abstract_page order page) ≡ false
+pub spare_other : (order : Order) (page : List ℕ) → is_zero page ≡ false → (byte_at page 25 ≡ 0 → ⊥) → (byte_at page 25 ≡ 2 → ⊥) → (byte_at page 25 ≡ 13 → ⊥)
+    → is_spare (abstract_page order page) ≡ false
 spare_other order page some free hash sorted =
     ap is_spare (typed_page order page some) ∙ no_spare_type order page (byte_at page 25) (ne_eqb _ _ free) (ne_eqb _ _ hash) (ne_eqb _ _ sorted)
 
 -- The file.
 
-pub some_table : (image : List ℕ) (p : ℕ) → p ≤ (file_of image).last → is_hash_meta (page_at (file_of image) p) ≡ true → list_any is_hash_meta (file_of image).pages ≡ true
+pub some_table : (image : List ℕ) (p : ℕ) → p ≤ (file_of image).last → is_hash_meta (page_at (file_of image) p) ≡ true
+    → list_any is_hash_meta (file_of image).pages ≡ true
 some_table image p low is = list_any_at is_hash_meta (file_of image).pages p NoType (omega (arith, pages_counted image)) is
 
 -- no page below a number is the metadata of a table

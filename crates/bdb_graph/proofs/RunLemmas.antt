@@ -1,5 +1,6 @@
 -- References to a run of pages: those that are full, or aren't there, are counted no more.
-use Rattle.std.proofs.Common.{◌≡◌, ℕ, zero, suc, ◌+◌, ◌-◌, ◌^◌, ◌<◌, ◌≤◌, ◌⊎◌, Bool, true, false, List, [], ◌∷◌, ◌++◌, length, map, ap, ◌∙◌, arith, refl, sym, subst, inl, inr, append-nil, append_assoc, length-append, get_or, zero-add}
+use Rattle.std.proofs.Common.{◌≡◌, ℕ, zero, suc, ◌+◌, ◌-◌, ◌^◌, ◌<◌, ◌≤◌, ◌⊎◌, Bool, true, false, List, [], ◌∷◌, ◌++◌, length, map, ap, ◌∙◌, arith, refl, sym}
+use Rattle.std.proofs.Common.{subst, inl, inr, append-nil, append_assoc, length-append, get_or, zero-add}
 use Rattle.std.proofs.lemmas.List.{map-append}
 use Rattle.std.proofs.lemmas.List.FromFn.{get_or-range_with_len, length-range_with_len}
 use Rattle.std.proofs.lemmas.Bool.{and_left, and_parts, cases_Bool, eqb-true, ltb-true, not-true}
@@ -137,7 +138,8 @@ noted_more old tallies new leaps later holder first n at next is below note len 
       let noted : AreTallies new (os ++ map (owner holder) (run_refs place first (m + 1))) = subst (AreTallies new) (joined os holder place first m 1) one in
       let k : ℕ = min (next - first) n - (m + 1) in
       let all : m + 1 + k ≡ min (next - first) n = omega (arith, is.on) in
-      let over : AreTallies new ((os ++ map (owner holder) (run_refs place first (m + 1))) ++ map (owner holder) (run_refs (place + (m + 1)) (first + (m + 1)) k)) =
+      let over : AreTallies new ((os ++ map (owner holder) (run_refs place first (m + 1)))
+      ++ map (owner holder) (run_refs (place + (m + 1)) (first + (m + 1)) k)) =
       over_run new _ holder (place + (m + 1)) (first + (m + 1)) k noted (λ q from low there. full q (omega (arith, is.on)) (omega (arith, is.on))) in
       subst (λ k. AreTallies new (os ++ map (owner holder) (run_refs place first k))) all
       (subst (AreTallies new) (joined os holder place first (m + 1) k) over);

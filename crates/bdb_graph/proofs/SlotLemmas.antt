@@ -1,5 +1,6 @@
 -- The slots of a page, one after another, are what the page names.
-use Rattle.std.proofs.Common.{◌≡◌, ℕ, zero, suc, ◌+◌, ◌*◌, ◌-◌, ◌/◌, ◌%◌, ◌<◌, ◌≤◌, true, false, List, [], ◌∷◌, ◌++◌, length, get_or, drop, map, arith, refl, append_assoc, append-nil, add-one, le-ltb, lt-ltb, nat_eq, eq-eqb, ne_eqb}
+use Rattle.std.proofs.Common.{◌≡◌, ℕ, zero, suc, ◌+◌, ◌*◌, ◌-◌, ◌/◌, ◌%◌, ◌<◌, ◌≤◌, true, false, List, [], ◌∷◌, ◌++◌, length, get_or, drop, map, arith, refl}
+use Rattle.std.proofs.Common.{append_assoc, append-nil, add-one, le-ltb, lt-ltb, nat_eq, eq-eqb, ne_eqb}
 use Rattle.std.specs.Prelude.{nat_lt}
 use Rattle.std.specs.List.{flat_map, range_with_len}
 use Rattle.std.proofs.Math.Seq.{drop-cons}
@@ -66,8 +67,16 @@ each_of_internal page i zero k m all place twice =
     rw (drop_all i page.items (omega arith), none) refl
 each_of_internal page i (suc n) k m all place twice =
     let two : m ≡ suc (suc (2 * n)) = omega arith in
-    let cut : drop i page.items ≡ get_or page.items i no_internal_item ∷ drop (i + 1) page.items = rw add-one (drop-cons page.items i no_internal_item (omega arith)) in
-    rw (two, cut, even_slot page i k place, odd_slot page i (k + 1) (omega arith), each_of_internal page (i + 1) n (k + 1 + 1) (2 * n) (omega arith) (omega arith) refl) refl
+    let cut : drop i page.items ≡ get_or page.items i no_internal_item ∷ drop (i + 1) page.items = rw add-one
+    (drop-cons page.items i no_internal_item (omega arith)) in
+    rw (
+      two,
+      cut,
+      even_slot page i k place,
+      odd_slot page i (k + 1) (omega arith),
+      each_of_internal page (i + 1) n (k + 1 + 1) (2 * n) (omega arith)
+          (omega arith) refl,
+    ) refl
 
 -- the buckets from one on, each with the slot after its number
 pub each_bucket : (free last : ℕ) (spares : List ℕ) (b n : ℕ)

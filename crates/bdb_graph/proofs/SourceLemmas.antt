@@ -6,7 +6,8 @@ use Rattle.bdb_format.specs.declared.metadata.BtreeMeta.{BtreeMeta}
 use Rattle.bdb_format.specs.declared.metadata.HashMeta.{HashMeta}
 use Rattle.bdb_format.specs.declared.pages.RecnoItem.{RecnoItem}
 use Rattle.bdb_format.specs.declared.references.Sort.TheVariants.{Free as FreeRef, HashNext, Child}
-use Rattle.bdb_format.specs.Page.{Item, InternalItem, Listed, Meta, BtreeFields, HashFields, Leaf as AnyLeaf, RecnoLeaf as AnyRecnoLeaf, DupLeaf as AnyDupLeaf, RecnoInternal as AnyRecnoInternal, Internal as AnyInternal, Hash as AnyHash}
+use Rattle.bdb_format.specs.Page.{Item, InternalItem, Listed, Meta, BtreeFields, HashFields, Leaf as AnyLeaf, RecnoLeaf as AnyRecnoLeaf, DupLeaf as AnyDupLeaf}
+use Rattle.bdb_format.specs.Page.{RecnoInternal as AnyRecnoInternal, Internal as AnyInternal, Hash as AnyHash}
 use Rattle.bdb_format.specs.References.{content_targets, first_free, targets_in, no_item, unless_zero}
 use Rattle.bdb_format.proofs.TargetLemmas.{each_content, each_own}
 use Rattle.bdb_graph.specs.declared.source.Source.TheVariants.{Nothing, Tree, Table, Leaf, RecnoLeaf, DupLeaf, RecnoInternal, Internal, Hash}
@@ -53,7 +54,8 @@ pub of_recno_internal : (p : ℕ) (page : Listed RecnoItem) → names_from (Recn
 unfolding names_from
 of_recno_internal p page =
     let all : length page.items - 0 ≡ length page.items = omega arith in
-    rw all (each_item (λ item. (Child, item.child) ∷ []) no_recno_item page.items 0 (length page.items) (omega arith) ∙ flat_map_single (λ item. (Child, item.child)) page.items)
+    rw all (each_item (λ item. (Child, item.child) ∷ []) no_recno_item page.items 0 (length page.items) (omega arith)
+    ∙ flat_map_single (λ item. (Child, item.child)) page.items)
 
 pub of_internal : (p : ℕ) (page : Listed InternalItem) → names_from (Internal page) 0 ≡ targets_in p (AnyInternal page)
 unfolding names_from

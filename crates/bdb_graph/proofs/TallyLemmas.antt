@@ -1,5 +1,6 @@
 -- The tallies of all pages, page by page.
-use Rattle.std.proofs.Common.{◌≡◌, ℕ, zero, suc, ◌+◌, List, [], ◌∷◌, ◌++◌, length, take, drop, map, flat_map, ap, ◌∙◌, append-nil, add-one, add-zero, arith, refl, sym, subst}
+use Rattle.std.proofs.Common.{◌≡◌, ℕ, zero, suc, ◌+◌, List, [], ◌∷◌, ◌++◌, length, take, drop, map, flat_map, ap, ◌∙◌, append-nil, add-one, add-zero, arith}
+use Rattle.std.proofs.Common.{refl, sym, subst}
 use Rattle.std.specs.List.{range_with_len}
 use Rattle.std.proofs.lemmas.Grind.{common_steps}
 use Rattle.std.proofs.lemmas.List.Concat.{flat_map-append}
@@ -22,14 +23,17 @@ range_more a (suc n) = ap (λ xs. a ∷ xs) (range_more (a + 1) n ∙ ap (λ k. 
 -- the next page adds its own
 pub held_more : (file : File) (n : ℕ) → held_below file (n + 1) ≡ held_below file n ++ map (owner n) (refs file n)
 held_more file n =
-    let more : range_with_len 0 (n + 1) ≡ range_with_len 0 n ++ n ∷ [] = ap (range_with_len 0) (add-one n) ∙ (range_more 0 n ∙ ap (λ k. range_with_len 0 n ++ k ∷ []) (omega arith)) in
+    let more : range_with_len 0 (n + 1) ≡ range_with_len 0 n ++ n ∷ [] = ap (range_with_len 0) (add-one n)
+    ∙ (range_more 0 n ∙ ap (λ k. range_with_len 0 n ++ k ∷ []) (omega arith)) in
     ap (flat_map (held_by file)) more ∙ rw (flat_map-append (held_by file) (range_with_len 0 n) (n ∷ []), append-nil) refl
 
-pub tallied_more : (file : File) (n : ℕ) (tallies : List Tally) → AreTallies tallies (held_below file n ++ map (owner n) (refs file n)) → AreTallies tallies (held_below file (n + 1))
+pub tallied_more : (file : File) (n : ℕ) (tallies : List Tally) → AreTallies tallies (held_below file n ++ map (owner n) (refs file n))
+    → AreTallies tallies (held_below file (n + 1))
 tallied_more file n tallies are = subst (AreTallies tallies) (sym (held_more file n)) are
 
 -- after the last page the tallies are those of the file
-pub tallied_all : (file : File) (n : ℕ) (tallies : List Tally) → n ≡ file.last + 1 → length tallies ≡ n → AreTallies tallies (held_below file n) → AreTalliesOf file tallies
+pub tallied_all : (file : File) (n : ℕ) (tallies : List Tally) → n ≡ file.last + 1 → length tallies ≡ n → AreTallies tallies (held_below file n)
+    → AreTalliesOf file tallies
 unfolding owners all_references
 tallied_all file n tallies all len are =
     let whole : AreTallies tallies (held_below file (file.last + 1)) = subst (λ k. AreTallies tallies (held_below file k)) all are in

@@ -10,4 +10,5 @@ use Rattle.bdb_graph.specs.Linked.{IsTarget}
 
 -- a file with a reference is no queue file
 pub is_no_queue : (file : File) (sort : Sort) (p : ℕ) → IsTarget file sort p → file.kind ≡ Queue → ⊥
-is_no_queue file sort p is queue = no_member (refs file is.owner.holder) is.owner.reference (no_refs file is.owner.holder queue) (of_all file is.owner is.held).1
+is_no_queue file sort p is queue = no_member (refs file is.owner.holder) is.owner.reference (no_refs file is.owner.holder queue)
+    (of_all file is.owner is.held).1

@@ -140,7 +140,8 @@ fn tally_page<L: Ledger>(
     requires len { length tallies.old ≡ (file_of formed.now).last + 1 }
     requires known { AreKnownIfAny (file_of formed.now) tallies.old known.old }
     ensures kinds { OnOk result ((os : List Owner) → AreKinds kinds.old os → AreKinds kinds.new (os ++ map (owner holder) (refs (file_of formed.now) holder))) }
-    ensures tallies { OnOk result ((os : List Owner) → AreTallies tallies.old os → AreTallies tallies.new (os ++ map (owner holder) (refs (file_of formed.now) holder))) }
+    ensures tallies { OnOk result ((os : List Owner) → AreTallies tallies.old os
+        → AreTallies tallies.new (os ++ map (owner holder) (refs (file_of formed.now) holder))) }
     ensures known { OnOk result (AreKnownIfAny (file_of formed.now) tallies.new known.new) }
     ensures misfits { IfOk result (λ misfits. misfits ≡ misfits_of (fit_code (file_of formed.now) holder) (refs (file_of formed.now) holder)) }
     ensures cost { steps.new ≡ steps.old + 1 }

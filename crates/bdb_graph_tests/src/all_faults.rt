@@ -4,13 +4,12 @@ ghost use Rattle.std.specs.Prelude.{◌≡◌, ◌≤◌, ◌^◌, length};
 
 use crate::linking::{PAIR, TREE};
 use bdb_faults::{AllError, Named};
-use bdb_fixtures::{Field, write};
 use bdb_format::{Fault, Order, Steps, Unsupported};
 use bdb_graph::{link_all, open_all};
-use bdb_naming::is_list_of;
 use std::alloc::Global;
 use std::marker::Brand;
 use std::sync::ledger::{Blank, Ledger};
+use test_images::{Field, is_list_of, write};
 
 const SIZE: usize = 5 * 512;
 

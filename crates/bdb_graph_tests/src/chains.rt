@@ -5,7 +5,6 @@ ghost use Rattle.bdb_graph.specs.Linked.{FitsChain};
 ghost use Rattle.bdb_format.specs.File.{file_of};
 
 use crate::fields::BTREE;
-use bdb_fixtures::{Field, write};
 use bdb_form::PageView;
 use bdb_format::{Fault, Order, Steps};
 use bdb_graph::{Linked, link, open_image};
@@ -15,6 +14,7 @@ use std::alloc::Global;
 use std::cmp::Ordering;
 use std::marker::Brand;
 use std::sync::ledger::{Blank, Ledger};
+use test_images::{Field, write};
 
 const PAGE: usize = 512;
 

@@ -10,7 +10,6 @@ ghost use Rattle.bdb_format.specs.Less.{less};
 ghost use Rattle.bdb_format.specs.References.{has_type};
 ghost use Rattle.bdb_tree.specs.Descent.{IsMonotone};
 
-use bdb_fixtures::{Field, write};
 use bdb_form::{InternalView, PageView};
 use bdb_format::{Order, Steps};
 use bdb_graph::{Linked, Meta, Ref, TreeRoot, link, open_image};
@@ -20,6 +19,7 @@ use std::alloc::Global;
 use std::cmp::Ordering;
 use std::marker::Brand;
 use std::sync::ledger::{Blank, Ledger};
+use test_images::{Field, write};
 
 const SIZE: usize = 9 * 512;
 

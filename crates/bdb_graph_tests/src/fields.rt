@@ -1,6 +1,6 @@
 //! The pages that many files have.
 
-use bdb_fixtures::Field;
+use test_images::Field;
 
 /// Page 0 of a btree file of pages of 512 bytes: see docs/FORMAT.md, "The sample file".
 pub const BTREE: [Field; 6] = [

@@ -3,12 +3,12 @@
 ghost use Rattle.std.specs.Prelude.{◌≡◌};
 
 use crate::fields::BTREE;
-use bdb_fixtures::{Field, write};
 use bdb_format::{Order, Steps};
 use bdb_graph::{References, Sort, open_image, references};
 use std::alloc::Global;
 use std::marker::Brand;
 use std::sync::ledger::{Blank, Ledger};
+use test_images::{Field, write};
 
 const SIZE: usize = 512;
 

@@ -1,6 +1,6 @@
 //! Files with a fault of chains or of leaves, which was told apart from this code.
 
-use bdb_fixtures::{Field, Sample};
+use test_images::{Field, Sample};
 
 pub const WRONG_LENGTH: Sample = Sample {
     size: 2048,

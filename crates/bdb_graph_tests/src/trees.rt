@@ -2,7 +2,6 @@
 
 ghost use Rattle.std.specs.Prelude.{◌≡◌};
 
-use bdb_fixtures::{Field, write};
 use bdb_form::PageView;
 use bdb_format::{CheckError, Fault, Order, Steps};
 use bdb_graph::{Linked, link, open_image};
@@ -10,6 +9,7 @@ use bdb_tree::{check_trees, leaves_below, next_level};
 use std::alloc::Global;
 use std::marker::Brand;
 use std::sync::ledger::{Blank, Ledger};
+use test_images::{Field, write};
 
 const SIZE: usize = 5 * 512;
 

@@ -5,13 +5,13 @@ ghost use Rattle.bdb_graph.specs.Linked.{FitsTreeRoot};
 ghost use Rattle.bdb_format.specs.File.{file_of};
 
 use crate::fields::BTREE;
-use bdb_fixtures::{Field, has_sound_trees, write};
 use bdb_format::{Order, Steps};
 use bdb_graph::{Linked, Meta, Ref, TreeRoot, link, open_image};
 use bdb_tree::{first_leaf, leaves};
 use std::alloc::Global;
 use std::marker::Brand;
 use std::sync::ledger::{Blank, Ledger};
+use test_images::{Field, has_sound_trees, write};
 
 const SIZE: usize = 9 * 512;
 

@@ -50,7 +50,8 @@ bucket_of_file image known pages ps are same =
 
 -- The head of a key.
 
-pub is_headed : (image : List ℕ) (pair : StoredPair) (content : Content) → pair.key ≡ value_of (file_of image) content → IsHeaded (chain_head content) (told image pair)
+pub is_headed : (image : List ℕ) (pair : StoredPair) (content : Content) → pair.key ≡ value_of (file_of image) content
+    → IsHeaded (chain_head content) (told image pair)
 unfolding value_of
 is_headed image pair (Chain head total) is = is
 is_headed image pair (Inline bytes) is = tt
@@ -70,7 +71,8 @@ either true b is = refl
 either false b is = is
 
 -- the keys before stay
-pub has_before : (old new : BTreeSet (List ℕ)) (key other : List ℕ) → Updates (slice_cmp nat_cmp) old new key true → has_key old other ≡ true → has_key new other ≡ true
+pub has_before : (old new : BTreeSet (List ℕ)) (key other : List ℕ) → Updates (slice_cmp nat_cmp) old new key true → has_key old other ≡ true
+    → has_key new other ≡ true
 has_before old new key other updates has = updates.0 other ∙ either _ (has_key old other) has
 
 -- a pair whose key is among them repeats it, and adds none
@@ -119,7 +121,8 @@ among_more seen old new head among has updates = record {
 
 -- the same where the insertion may have failed
 pub among_inserted : {X E : Type 0} (result : Result X E) (seen : Seen) (old new : BTreeSet ℕ) (head : ℕ) → AreAmong seen old
-    → has_key seen.keys (chain_value seen.image head) ≡ true → OnOk result (Updates nat_cmp old new head true) → OnErr result (IsUnchanged old new) → AreAmong seen new
+    → has_key seen.keys (chain_value seen.image head) ≡ true → OnOk result (Updates nat_cmp old new head true) → OnErr result (IsUnchanged old new)
+    → AreAmong seen new
 among_inserted (Ok x) seen old new head among has updates failed = among_more seen old new head among has updates
 among_inserted (Err e) seen old new head among has updates failed = record { each = λ other is. among.each other (rw (← failed) is) }
 

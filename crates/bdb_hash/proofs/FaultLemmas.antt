@@ -194,7 +194,8 @@ covered image meta strayed fault table has is at =
     elim (page_holds (bucket_pairs file meta) (buckets_of meta) (tests_of file meta) (repeated (table_pairs file meta)) fault.page fault.code
     (subst (λ codes. Contains codes fault.code) (codes_are image meta fault.page table has) of.is_code)) [
       | inl (_, by, holds) ↦
-          subst (Contains (table_noted image meta strayed)) (same_parts 8 fault.stage by.pair.page fault.page fault.code fault.code (sym of.same_stage) by.at refl)
+          subst (Contains (table_noted image meta strayed)) (same_parts 8 fault.stage by.pair.page fault.page fault.code fault.code (sym of.same_stage) by.at
+          refl)
           (own_noted image meta strayed by.bucket by.pair fault.code by.listed by.held holds)
       | inr (pair, held, at_page, nine) ↦
           subst (Contains (table_noted image meta strayed)) (same_parts 8 fault.stage pair.page fault.page 9 fault.code (sym of.same_stage) at_page (sym nine))

@@ -1,5 +1,6 @@
 -- Pairs of a bucket whose keys have different hashes have different keys.
-use Rattle.std.proofs.Common.{◌≡◌, ◌≢◌, ℕ, zero, suc, ◌+◌, ◌-◌, ◌<◌, ◌≤◌, Bool, true, false, not, ◌&&◌, List, [], ◌∷◌, ◌++◌, map, length, get_or, arith, refl, sym, ◌∙◌, ap, subst}
+use Rattle.std.proofs.Common.{◌≡◌, ◌≢◌, ℕ, zero, suc, ◌+◌, ◌-◌, ◌<◌, ◌≤◌, Bool, true, false, not, ◌&&◌, List, [], ◌∷◌, ◌++◌, map, length, get_or, arith, refl}
+use Rattle.std.proofs.Common.{sym, ◌∙◌, ap, subst}
 use Rattle.std.specs.Prelude.{nat_eq, slice_index}
 use Rattle.std.specs.BTreeSet.{BTreeSet}
 use Rattle.std.specs.List.{AllPairs, Contains, IsDistinct, flat_map, range_with_len}
@@ -84,7 +85,8 @@ sorted_missed old new twice moved sorted each =
     let n : ℕ = j - (i + 1) in
     let place : i + 1 + n ≡ j = omega arith in
     let first = rising new i sorted (omega arith) in
-    let later : get_or new (i + 1) 0 ≤ get_or new j 0 = subst (λ k. get_or new (i + 1) 0 ≤ get_or new k 0) place (rising_to new (i + 1) n sorted (omega arith)) in
+    let later : get_or new (i + 1) 0 ≤ get_or new j 0 = subst (λ k. get_or new (i + 1) 0 ≤ get_or new k 0) place (rising_to new (i + 1) n sorted (omega arith))
+    in
     each i (omega arith) (omega (arith, first, later, same))))))
 
 -- the hashes of one more bucket

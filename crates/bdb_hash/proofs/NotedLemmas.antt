@@ -12,7 +12,8 @@ contents_fault page code = record { stage = 8; page = page; code = code }
 
 -- the faults of a pair are those of the rows that hold
 pub rows_noted : (page : ℕ) (a b c d : Bool)
-    → fault_if (Contents Duplicates) page a ++ fault_if (Contents DuplicateKind) page b ++ fault_if (Contents DuplicateOrder) page c ++ fault_if (Contents Bucket) page d
+    → fault_if (Contents Duplicates) page a ++ fault_if (Contents DuplicateKind) page b ++ fault_if (Contents DuplicateOrder) page c
+    ++ fault_if (Contents Bucket) page d
     ≡ map (contents_fault page) (holding (1 :? a ∷ 2 :? b ∷ 5 :? c ∷ 8 :? d ∷ []))
 rows_noted page true true true true = refl
 rows_noted page true true true false = refl

@@ -34,7 +34,8 @@ fn note_by_bucket<'a, F: FaultSink>(
     requires meta { HasMetadata (file_of linked.now) (HashFields meta.now) }
     requires stage { structure_faults (file_of linked.now) ≡ [] }
     requires known { known.old ≡ linked.now }
-    ensures noted { OnOk result (Notes (F.has_noted found.old) (F.has_noted found.new) (flat_map (bucket_faults linked.now meta.now) (range_with_len 0 (meta.now.max_bucket + 1)))) }
+    ensures noted { OnOk result (Notes (F.has_noted found.old) (F.has_noted found.new)
+        (flat_map (bucket_faults linked.now meta.now) (range_with_len 0 (meta.now.max_bucket + 1)))) }
     ensures stray { IfOk result (λ strayed. strayed ≡ has_stray linked.now meta.now) }
     ensures table { IsTable linked.now }
     ensures same { known.new ≡ known.old }

@@ -59,7 +59,8 @@ fn next_entry<'a>(
     key: &mut Datum<'a>,
     values: &mut Data<'a>,
 ) -> Option<(KeyView<'a>, Datum<'a>)>
-    ensures { YieldsFirstBy entry_seen (λ (left : List (ListKey × List ℕ)). left) (entry_list (datum_seen key.old) values.old ++ flat_map listed_told rest.old) result (entry_list (datum_seen key.new) values.new ++ flat_map listed_told rest.new) }
+    ensures { YieldsFirstBy entry_seen (λ (left : List (ListKey × List ℕ)). left) (entry_list (datum_seen key.old) values.old ++ flat_map listed_told rest.old)
+        result (entry_list (datum_seen key.new) values.new ++ flat_map listed_told rest.new) }
 {
     loop {
         if let Some(value) = values.next() {

@@ -32,7 +32,8 @@ fn note_kept<'a, F: FaultSink>(
 ) -> Result<(), AllocError>
     requires seen { pair.now.image ≡ keys.old.image }
     requires hashed { pair.now.image ≡ known.old }
-    ensures noted { OnOk result (NotesRepeats keys.old.keys keys.new.keys (F.has_noted found.old) (F.has_noted found.new) (filter (is_kept twice.now) (pair.now ∷ []))) }
+    ensures noted { OnOk result (NotesRepeats keys.old.keys keys.new.keys (F.has_noted found.old) (F.has_noted found.new)
+        (filter (is_kept twice.now) (pair.now ∷ []))) }
     ensures seen { keys.new.image ≡ keys.old.image }
     ensures hashed { known.new ≡ known.old }
 {
@@ -54,7 +55,8 @@ fn note_page<'a, F: FaultSink>(
 ) -> Result<(), AllocError>
     requires seen { AreOf keys.old.image page }
     requires hashed { AreOf known.old page }
-    ensures noted { OnOk result (NotesRepeats keys.old.keys keys.new.keys (F.has_noted found.old) (F.has_noted found.new) (filter (is_kept twice.now) page.entry)) }
+    ensures noted { OnOk result (NotesRepeats keys.old.keys keys.new.keys (F.has_noted found.old) (F.has_noted found.new)
+        (filter (is_kept twice.now) page.entry)) }
     ensures seen { keys.new.image ≡ keys.old.image }
     ensures hashed { known.new ≡ known.old }
 {
@@ -75,7 +77,8 @@ fn note_bucket<'a, F: FaultSink>(
 ) -> Result<(), AllocError>
     requires seen { AreAllOf keys.old.image pages }
     requires hashed { AreAllOf known.old pages }
-    ensures noted { OnOk result (NotesRepeats keys.old.keys keys.new.keys (F.has_noted found.old) (F.has_noted found.new) (filter (is_kept twice.now) (joined_pages pages.entry))) }
+    ensures noted { OnOk result (NotesRepeats keys.old.keys keys.new.keys (F.has_noted found.old) (F.has_noted found.new)
+        (filter (is_kept twice.now) (joined_pages pages.entry))) }
     ensures seen { keys.new.image ≡ keys.old.image }
     ensures hashed { known.new ≡ known.old }
 {

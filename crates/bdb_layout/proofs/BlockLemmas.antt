@@ -1,5 +1,6 @@
 -- A run goes on after its first block, in any number of turns that is enough; its blocks, spelled, are its bytes.
-use Rattle.std.proofs.Common.{◌≡◌, ℕ, ◌+◌, ◌*◌, ◌/◌, ◌%◌, ◌<◌, ◌≤◌, zero, suc, List, [], ◌∷◌, ◌++◌, length, take, drop, get_or, refl, ap, inl, inr, arith, ◌∙◌, length-drop, length-take, drop-cons, append_assoc}
+use Rattle.std.proofs.Common.{◌≡◌, ℕ, ◌+◌, ◌*◌, ◌/◌, ◌%◌, ◌<◌, ◌≤◌, zero, suc, List, [], ◌∷◌, ◌++◌, length, take, drop, get_or, refl, ap, inl, inr, arith, ◌∙◌}
+use Rattle.std.proofs.Common.{length-drop, length-take, drop-cons, append_assoc}
 use Rattle.std.specs.Prelude.{Bool, true, false, not, ◌||◌, nat_lt, ◌==◌, if◌then◌else◌, Option, Some, None, IsSome, is_some}
 use Rattle.std.specs.List.{flat_map}
 use Rattle.std.specs.Option.{option_map, unwrap_or}
@@ -36,7 +37,8 @@ more_turns (suc t) (suc u) order (b ∷ bytes) p q =
     ap (with_first order (b ∷ bytes)) (more_turns t u order (after_first order (b ∷ bytes)) (omega arith) (omega arith))
 
 -- one turn
-pub blocks_of-cons : (order : Order) (b : ℕ) (bytes : List ℕ) → blocks_of order (b ∷ bytes) ≡ with_first order (b ∷ bytes) (blocks_of order (after_first order (b ∷ bytes)))
+pub blocks_of-cons : (order : Order) (b : ℕ) (bytes : List ℕ) → blocks_of order (b ∷ bytes)
+    ≡ with_first order (b ∷ bytes) (blocks_of order (after_first order (b ∷ bytes)))
 unfolding blocks_of
 blocks_of-cons order b bytes =
     let rest : List ℕ = after_first order (b ∷ bytes) in
@@ -56,7 +58,8 @@ no_room order bytes n is short = no_block order bytes (grind (arith, nat_tests))
 pub no_end : (order : Order) (bytes : List ℕ) (n m : ℕ) → n ≡ two_at order bytes 0 → m ≡ two_at order bytes (n + 2) → (m ≡ n → ⊥) → BeginsNoBlock order bytes
 no_end order bytes n m first last differ = no_block order bytes (rw (← first, ← last) (grind (arith, nat_tests)))
 
-pub whole_block : (order : Order) (bytes : List ℕ) (n m : ℕ) → n ≡ two_at order bytes 0 → n + 4 ≤ length bytes → m ≡ two_at order bytes (n + 2) → m ≡ n → GoesOn order bytes (take n (drop 2 bytes)) (drop (n + 4) bytes)
+pub whole_block : (order : Order) (bytes : List ℕ) (n m : ℕ) → n ≡ two_at order bytes 0 → n + 4 ≤ length bytes → m ≡ two_at order bytes (n + 2) → m ≡ n
+    → GoesOn order bytes (take n (drop 2 bytes)) (drop (n + 4) bytes)
 whole_block order [] n m first long last same = absurd (omega arith)
 whole_block order (b ∷ bytes) n m first long last same =
     let whole : lacks_block order (b ∷ bytes) ≡ false = rw (← first, ← last) (grind (arith, nat_tests)) in
@@ -107,12 +110,14 @@ spelled_pair Little = spelled_little
 spelled_pair Big = spelled_big
 
 -- two bytes spell the number that they are
-spelled-two_at : (order : Order) (bytes : List ℕ) (at : ℕ) → ((i : ℕ) → get_or bytes i 0 < 256) → at + 2 ≤ length bytes → spelled 2 order (two_at order bytes at) ≡ take 2 (drop at bytes)
+spelled-two_at : (order : Order) (bytes : List ℕ) (at : ℕ) → ((i : ℕ) → get_or bytes i 0 < 256) → at + 2 ≤ length bytes
+    → spelled 2 order (two_at order bytes at) ≡ take 2 (drop at bytes)
 unfolding number_at
 spelled-two_at order bytes at fit room = rw (two_bytes at bytes room) (spelled_pair order (get_or bytes at 0) (get_or bytes (suc at) 0) (fit at) (fit (suc at)))
 
 -- the two lengths, the block between them and what comes after
-pieces : (n : ℕ) (bytes first last : List ℕ) → first ≡ take 2 bytes → last ≡ take 2 (drop (n + 2) bytes) → (first ++ (take n (drop 2 bytes) ++ last)) ++ drop (n + 4) bytes ≡ bytes
+pieces : (n : ℕ) (bytes first last : List ℕ) → first ≡ take 2 bytes → last ≡ take 2 (drop (n + 2) bytes) → (first ++ (take n (drop 2 bytes) ++ last))
+    ++ drop (n + 4) bytes ≡ bytes
 pieces n bytes first last is_first is_last =
     let on : drop 2 (drop (n + 2) bytes) ≡ drop (n + 4) bytes = drop-drop 2 (n + 2) bytes ∙ ap (λ m. drop m bytes) (omega arith) in
     let behind : take 2 (drop (n + 2) bytes) ++ drop (n + 4) bytes ≡ drop (n + 2) bytes = rw (← on) (take-append-drop 2 (drop (n + 2) bytes)) in
@@ -132,7 +137,8 @@ joined order bytes fit lacks =
     let last : spelled 2 order n ≡ take 2 (drop (n + 2) bytes) = rw same at (spelled-two_at order bytes (n + 2) fit (omega arith)) in
     rw block (pieces n bytes (spelled 2 order n) (spelled 2 order n) first last)
 
-spelled_rest : (order : Order) (bytes : List ℕ) (blocks : List (List ℕ)) (rest : Option (List (List ℕ))) → ((i : ℕ) → get_or bytes i 0 < 256) → lacks_block order bytes ≡ false
+spelled_rest : (order : Order) (bytes : List ℕ) (blocks : List (List ℕ)) (rest : Option (List (List ℕ))) → ((i : ℕ) → get_or bytes i 0 < 256)
+    → lacks_block order bytes ≡ false
     → ((others : List (List ℕ)) → rest ≡ Some others → flat_map (block_bytes order) others ≡ after_first order bytes)
     → option_map (λ others. take (two_at order bytes 0) (drop 2 bytes) ∷ others) rest ≡ Some blocks → flat_map (block_bytes order) blocks ≡ bytes
 spelled_rest order bytes blocks None fit whole on run = cc
@@ -152,16 +158,19 @@ spelled_turn order bytes blocks rest fit on run =
           spelled_rest order bytes blocks rest fit is on some
     ] refl
 
-spelled_in : (turns : ℕ) (order : Order) (bytes : List ℕ) (blocks : List (List ℕ)) → ((i : ℕ) → get_or bytes i 0 < 256) → blocks_in turns order bytes ≡ Some blocks → flat_map (block_bytes order) blocks ≡ bytes
+spelled_in : (turns : ℕ) (order : Order) (bytes : List ℕ) (blocks : List (List ℕ)) → ((i : ℕ) → get_or bytes i 0 < 256)
+    → blocks_in turns order bytes ≡ Some blocks → flat_map (block_bytes order) blocks ≡ bytes
 spelled_in turns order [] blocks fit run =
     let none : blocks ≡ [] = cc in rw none refl
 spelled_in zero order (b ∷ bytes) blocks fit run = cc
 spelled_in (suc turns) order (b ∷ bytes) blocks fit run =
     let rest : List ℕ = after_first order (b ∷ bytes) in
-    let rest_fit : (i : ℕ) → get_or rest i 0 < 256 = λ i. rw (get_or-drop (two_at order (b ∷ bytes) 0 + 4) (b ∷ bytes) i 0) (fit (two_at order (b ∷ bytes) 0 + 4 + i)) in
+    let rest_fit : (i : ℕ) → get_or rest i 0 < 256 = λ i. rw (get_or-drop (two_at order (b ∷ bytes) 0 + 4) (b ∷ bytes) i 0)
+    (fit (two_at order (b ∷ bytes) 0 + 4 + i)) in
     spelled_turn order (b ∷ bytes) blocks (blocks_in turns order rest) fit (λ others run. spelled_in turns order rest others rest_fit run) run
 
 -- the blocks of a run, spelled, are the run
-pub blocks_spelled : (order : Order) (bytes : List ℕ) (blocks : List (List ℕ)) → ((i : ℕ) → get_or bytes i 0 < 256) → blocks_of order bytes ≡ Some blocks → flat_map (block_bytes order) blocks ≡ bytes
+pub blocks_spelled : (order : Order) (bytes : List ℕ) (blocks : List (List ℕ)) → ((i : ℕ) → get_or bytes i 0 < 256) → blocks_of order bytes ≡ Some blocks
+    → flat_map (block_bytes order) blocks ≡ bytes
 unfolding blocks_of
 blocks_spelled order bytes = spelled_in (length bytes) order bytes

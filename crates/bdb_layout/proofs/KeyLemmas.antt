@@ -11,7 +11,8 @@ use Rattle.bdb_layout.specs.Seen.{OrderingIs}
 use Rattle.std.proofs.lemmas.Bool.Decides.{nat_tests}
 use Rattle.std.proofs.lemmas.List.{drop_more, length-drop, take_all}
 
-first_then : (r s : Ordering) (x y : ℕ) (xs ys : List ℕ) → MatchOrdering r (x < y) (x ≡ y) (y < x) → OrderingIs s xs ys → OrderingIs (ordering_then r s) (x ∷ xs) (y ∷ ys)
+first_then : (r s : Ordering) (x y : ℕ) (xs ys : List ℕ) → MatchOrdering r (x < y) (x ≡ y) (y < x) → OrderingIs s xs ys
+    → OrderingIs (ordering_then r s) (x ∷ xs) (y ∷ ys)
 first_then Below s x y xs ys below rest = grind (arith, nat_tests)
 first_then Greater s x y xs ys above rest = grind (arith, nat_tests)
 first_then Equal Below x y xs ys same rest = grind (arith, nat_tests)

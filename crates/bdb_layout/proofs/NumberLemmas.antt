@@ -1,5 +1,6 @@
 -- What `byteorder` reads and writes is the number at a place.
-use Rattle.std.proofs.Common.{◌≡◌, ℕ, zero, suc, ◌+◌, ◌*◌, ◌^◌, ◌≤◌, ◌<◌, ◌-◌, List, [], ◌∷◌, ◌++◌, length, take, drop, get_or, refl, ap, arith, drop-cons, length-drop, length-take, ◌∙◌, append-nil}
+use Rattle.std.proofs.Common.{◌≡◌, ℕ, zero, suc, ◌+◌, ◌*◌, ◌^◌, ◌≤◌, ◌<◌, ◌-◌, List, [], ◌∷◌, ◌++◌, length, take, drop, get_or, refl, ap, arith, drop-cons}
+use Rattle.std.proofs.Common.{length-drop, length-take, ◌∙◌, append-nil}
 use Rattle.std.specs.Prelude.{reverse}
 use Rattle.std.proofs.lemmas.Grind.{reverse_onto}
 use Rattle.std.proofs.lemmas.List.{take_all, drop_all, drop-drop, length-reverse}
@@ -31,7 +32,8 @@ big_from-is i (suc n) xs h =
     let lt : i < length xs = omega arith in
     let rest : List ℕ = take n (drop (suc i) xs) in
     let len : length (reverse rest) ≡ n = omega (arith, length-reverse rest, length-take n (drop (suc i) xs), length-drop (suc i) xs) in
-    let last : from_low_end (reverse rest ++ get_or xs i 0 ∷ []) ≡ get_or xs i 0 * 256 ^ length (reverse rest) + from_low_end (reverse rest) = from_low_end-last (reverse rest) (get_or xs i 0) in
+    let last : from_low_end (reverse rest ++ get_or xs i 0 ∷ []) ≡ get_or xs i 0 * 256 ^ length (reverse rest) + from_low_end (reverse rest) = from_low_end-last
+    (reverse rest) (get_or xs i 0) in
     rw (drop-cons xs i 0, reverse_onto rest (get_or xs i 0) [], last, len) (ap (λ m. get_or xs i 0 * 256 ^ n + m) (big_from-is (suc i) n xs (omega arith)))
 
 -- a slice from a place to the end
@@ -47,15 +49,18 @@ unfolding number_at
 big_at n at xs h = rw (to_end at xs) (big_from-is 0 n (drop at xs) (omega (arith, length-drop at xs)))
 
 -- a piece that fills the part of a slice that it is written to
-pub put_piece : (at n : ℕ) (xs ys piece : List ℕ) → length piece ≡ n → ys ≡ piece ++ drop n (take (at + n - at) (drop at xs)) → put_mid at (at + n - at) xs ys ≡ overwritten xs at piece
+pub put_piece : (at n : ℕ) (xs ys piece : List ℕ) → length piece ≡ n → ys ≡ piece ++ drop n (take (at + n - at) (drop at xs)) → put_mid at (at + n - at) xs ys
+    ≡ overwritten xs at piece
 put_piece at n xs ys piece len is =
     let width : at + n - at ≡ n = add-sub_cancel_left at n in
     let nothing : drop n (take n (drop at xs)) ≡ [] = drop_all n (take n (drop at xs)) (omega (arith, length-take n (drop at xs))) in
     let whole : ys ≡ piece = is ∙ rw (width, nothing) (append-nil piece) in
     rw (whole, width, drop-drop n at xs, len) refl
 
-pub put_little : (at n x : ℕ) (xs ys : List ℕ) → ys ≡ spelled n Little x ++ drop n (take (at + n - at) (drop at xs)) → put_mid at (at + n - at) xs ys ≡ overwritten xs at (spelled n Little x)
+pub put_little : (at n x : ℕ) (xs ys : List ℕ) → ys ≡ spelled n Little x ++ drop n (take (at + n - at) (drop at xs)) → put_mid at (at + n - at) xs ys
+    ≡ overwritten xs at (spelled n Little x)
 put_little at n x xs ys = put_piece at n xs ys (spelled n Little x) (length-spelled n Little x)
 
-pub put_big : (at n x : ℕ) (xs ys : List ℕ) → ys ≡ spelled n Big x ++ drop n (take (at + n - at) (drop at xs)) → put_mid at (at + n - at) xs ys ≡ overwritten xs at (spelled n Big x)
+pub put_big : (at n x : ℕ) (xs ys : List ℕ) → ys ≡ spelled n Big x ++ drop n (take (at + n - at) (drop at xs)) → put_mid at (at + n - at) xs ys
+    ≡ overwritten xs at (spelled n Big x)
 put_big at n x xs ys = put_piece at n xs ys (spelled n Big x) (length-spelled n Big x)

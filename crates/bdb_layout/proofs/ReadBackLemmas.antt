@@ -1,5 +1,6 @@
 -- An item that stands at its offset is read from there: each kind of item of a leaf, an internal page and a hash page.
-use Rattle.std.proofs.Common.{◌≡◌, ℕ, suc, ◌+◌, ◌%◌, ◌^◌, ◌<◌, ◌≤◌, Bool, true, false, List, [], ◌∷◌, ◌++◌, length, take, drop, replicate, refl, sym, ap, ◌∙◌, arith, append_assoc, length-append, le-ltb, eq-eqb}
+use Rattle.std.proofs.Common.{◌≡◌, ℕ, suc, ◌+◌, ◌%◌, ◌^◌, ◌<◌, ◌≤◌, Bool, true, false, List, [], ◌∷◌, ◌++◌, length, take, drop, replicate, refl, sym, ap, ◌∙◌}
+use Rattle.std.proofs.Common.{arith, append_assoc, length-append, le-ltb, eq-eqb}
 use Rattle.std.specs.Prelude.{slice_range, nat_le, nat_lt, ◌==◌, Some}
 use Rattle.std.specs.Option.{option_map}
 use Rattle.std.specs.List.{All, flat_map}
@@ -8,8 +9,10 @@ use Rattle.std.proofs.lemmas.List.{take_at}
 use Rattle.bdb_format.specs.declared.kinds.Order.{Order}
 use Rattle.bdb_format.specs.Numbers.{byte_at, spelled, two_at, four_at}
 use Rattle.bdb_format.specs.Page.{Content, Inline, Set, Chain, Tree, Unknown}
-use Rattle.bdb_format.specs.Reading.{offset_of, leaf_item_at, leaf_content, internal_item_at, internal_key, recno_item_at, blocks_of, hash_end, hash_content, hash_item_at}
-use Rattle.bdb_format.specs.Spelling.{leaf_bytes, leaf_content_bytes, kind_byte, IsLeafContent, LeafItemsReadBack, internal_bytes, internal_content_bytes, IsKey, InternalItemsReadBack, recno_bytes, RecnoItemsReadBack, block_bytes, hash_bytes, IsHashContent, HashItemsReadBack}
+use Rattle.bdb_format.specs.Reading.{offset_of, leaf_item_at, leaf_content, internal_item_at, internal_key, recno_item_at, blocks_of, hash_end, hash_content}
+use Rattle.bdb_format.specs.Reading.{hash_item_at}
+use Rattle.bdb_format.specs.Spelling.{leaf_bytes, leaf_content_bytes, kind_byte, IsLeafContent, LeafItemsReadBack, internal_bytes, internal_content_bytes}
+use Rattle.bdb_format.specs.Spelling.{IsKey, InternalItemsReadBack, recno_bytes, RecnoItemsReadBack, block_bytes, hash_bytes, IsHashContent, HashItemsReadBack}
 use Rattle.bdb_layout.proofs.BlockLemmas.{blocks_of-cons}
 use Rattle.bdb_format.proofs.SpellingLemmas.{length-spelled, drop-behind, number_at-in, byte_at-in, slice_range-in}
 
@@ -46,21 +49,27 @@ pair-in : (order : Order) (x y : ℕ) (page : List ℕ) (at place next : ℕ) (f
     → drop at page ≡ front ++ ((spelled 4 order x ++ spelled 4 order y) ++ after) → place ≡ at + length front → next ≡ place + 4 → x < 2 ^ 32 → y < 2 ^ 32
     → ReadsPair order page place next x y
 pair-in order x y page at place next front after e p q fits_x fits_y =
-    let e : drop at page ≡ front ++ (spelled 4 order x ++ (spelled 4 order y ++ after)) = e ∙ ap (λ (bs : List ℕ). front ++ bs) (append_assoc (spelled 4 order x) (spelled 4 order y) after) in
-    let both : length (front ++ spelled 4 order x) ≡ length front + 4 = length-append front (spelled 4 order x) ∙ ap (λ (n : ℕ). length front + n) (length-spelled 4 order x) in
+    let e : drop at page ≡ front ++ (spelled 4 order x ++ (spelled 4 order y ++ after)) = e
+    ∙ ap (λ (bs : List ℕ). front ++ bs) (append_assoc (spelled 4 order x) (spelled 4 order y) after) in
+    let both : length (front ++ spelled 4 order x) ≡ length front + 4 = length-append front (spelled 4 order x)
+    ∙ ap (λ (n : ℕ). length front + n) (length-spelled 4 order x) in
     record {
       first = number_at-in 4 order x page at place front (spelled 4 order y ++ after) e p fits_x;
-      second = number_at-in 4 order y page at next (front ++ spelled 4 order x) after (e ∙ sym (append_assoc front (spelled 4 order x) (spelled 4 order y ++ after))) (omega arith) fits_y;
+      second = number_at-in 4 order y page at next (front ++ spelled 4 order x) after
+          (e ∙ sym (append_assoc front (spelled 4 order x) (spelled 4 order y ++ after))) (omega arith) fits_y;
     }
 
 leaf_content-back : (order : Order) (content : Content) (deleted : Bool) (page after : List ℕ) (index at : ℕ) → IsLeafContent content
     → offset_of order page index ≡ at → drop at page ≡ leaf_content_bytes order content deleted ++ after
     → leaf_item_at order page index ≡ record { content = content; deleted = deleted }
 leaf_content-back order (Inline bytes) deleted page after index at fits o e =
-    let e : drop at page ≡ spelled 2 order (length bytes) ++ (kind_byte 1 deleted ∷ (bytes ++ after)) = e ∙ append_assoc (spelled 2 order (length bytes)) (kind_byte 1 deleted ∷ bytes) after in
+    let e : drop at page ≡ spelled 2 order (length bytes) ++ (kind_byte 1 deleted ∷ (bytes ++ after)) = e ∙ append_assoc (spelled 2 order (length bytes))
+    (kind_byte 1 deleted ∷ bytes) after in
     let two = length-spelled 2 order (length bytes) in
-    let n : two_at order page at ≡ length bytes = number_at-in 2 order (length bytes) page at at [] (kind_byte 1 deleted ∷ (bytes ++ after)) e (omega arith) (omega arith) in
-    let b : byte_at page (at + 2) ≡ kind_byte 1 deleted = byte_at-in page at (at + 2) (spelled 2 order (length bytes)) (kind_byte 1 deleted) (bytes ++ after) e (omega arith) in
+    let n : two_at order page at ≡ length bytes = number_at-in 2 order (length bytes) page at at [] (kind_byte 1 deleted ∷ (bytes ++ after)) e (omega arith)
+    (omega arith) in
+    let b : byte_at page (at + 2) ≡ kind_byte 1 deleted = byte_at-in page at (at + 2) (spelled 2 order (length bytes)) (kind_byte 1 deleted) (bytes ++ after) e
+    (omega arith) in
     let piece : slice_range page (at + 3) (at + 3 + length bytes) ≡ bytes =
     slice_range-in page at (at + 3) (at + 3 + length bytes) (spelled 2 order (length bytes) ++ (kind_byte 1 deleted ∷ [])) bytes after
     (e ∙ sym (append_assoc (spelled 2 order (length bytes)) (kind_byte 1 deleted ∷ []) (bytes ++ after)))
@@ -68,13 +77,15 @@ leaf_content-back order (Inline bytes) deleted page after index at fits o e =
     leaf_item-at order page index at (kind_byte 1 deleted) 1 (Inline bytes) deleted o b (says_kind_1 deleted) (rw (n, piece) refl)
 leaf_content-back order (Tree root) deleted page after index at fits o e =
     let four = length-spelled 4 order root in
-    let b : byte_at page (at + 2) ≡ kind_byte 2 deleted = byte_at-in page at (at + 2) (0 ∷ 0 ∷ []) (kind_byte 2 deleted) (0 ∷ ((spelled 4 order root ++ replicate 4 0) ++ after)) e (omega arith) in
+    let b : byte_at page (at + 2) ≡ kind_byte 2 deleted = byte_at-in page at (at + 2) (0 ∷ 0 ∷ []) (kind_byte 2 deleted)
+    (0 ∷ ((spelled 4 order root ++ replicate 4 0) ++ after)) e (omega arith) in
     let front : List ℕ = 0 ∷ 0 ∷ kind_byte 2 deleted ∷ 0 ∷ [] in
     let r : four_at order page (at + 4) ≡ root = number_at-in 4 order root page at (at + 4) front (replicate 4 0 ++ after)
     (e ∙ ap (λ (bs : List ℕ). front ++ bs) (append_assoc (spelled 4 order root) (replicate 4 0) after)) (omega arith) fits in
     leaf_item-at order page index at (kind_byte 2 deleted) 2 (Tree root) deleted o b (says_kind_2 deleted) (rw r refl)
 leaf_content-back order (Chain head total) deleted page after index at fits o e =
-    let b : byte_at page (at + 2) ≡ kind_byte 3 deleted = byte_at-in page at (at + 2) (0 ∷ 0 ∷ []) (kind_byte 3 deleted) (0 ∷ ((spelled 4 order head ++ spelled 4 order total) ++ after)) e (omega arith) in
+    let b : byte_at page (at + 2) ≡ kind_byte 3 deleted = byte_at-in page at (at + 2) (0 ∷ 0 ∷ []) (kind_byte 3 deleted)
+    (0 ∷ ((spelled 4 order head ++ spelled 4 order total) ++ after)) e (omega arith) in
     let both = pair-in order head total page at (at + 4) (at + 8) (0 ∷ 0 ∷ kind_byte 3 deleted ∷ 0 ∷ []) after e (omega arith) (omega arith) fits.0 fits.1 in
     leaf_item-at order page index at (kind_byte 3 deleted) 3 (Chain head total) deleted o b (says_kind_3 deleted) (rw (both.first, both.second) refl)
 leaf_content-back order content deleted page after index at fits o e = absurd fits
@@ -83,30 +94,40 @@ pub leaf_items_read_back : LeafItemsReadBack
 unfolding leaf_bytes
 leaf_items_read_back order item before after index fits o =
     let page : List ℕ = before ++ (leaf_content_bytes order item.content item.deleted ++ after) in
-    leaf_content-back order item.content item.deleted page after index (length before) fits o (drop-append_seam before (leaf_content_bytes order item.content item.deleted ++ after))
+    leaf_content-back order item.content item.deleted page after index (length before) fits o
+    (drop-append_seam before (leaf_content_bytes order item.content item.deleted ++ after))
 
 -- an item of an internal page, from what its place says
 internal_item-at : (order : Order) (page : List ℕ) (index at byte child count : ℕ) (key : Content)
-    → offset_of order page index ≡ at → byte_at page (at + 2) ≡ byte → ReadsPair order page (at + 4) (at + 8) child count → internal_key order page at (byte % 128) ≡ key
+    → offset_of order page index ≡ at → byte_at page (at + 2) ≡ byte → ReadsPair order page (at + 4) (at + 8) child count
+    → internal_key order page at (byte % 128) ≡ key
     → internal_item_at order page index ≡ record { child = child; count = count; key = key }
 unfolding internal_item_at
 internal_item-at order page index at byte child count key o b p e = rw (o, b, p.first, p.second, e) refl
 
-internal_content-back : (order : Order) (content : Content) (child count : ℕ) (page after : List ℕ) (index at : ℕ) → IsKey content → child < 2 ^ 32 → count < 2 ^ 32
+internal_content-back : (order : Order) (content : Content) (child count : ℕ) (page after : List ℕ) (index at : ℕ) → IsKey content → child < 2 ^ 32
+    → count < 2 ^ 32
     → offset_of order page index ≡ at → drop at page ≡ internal_content_bytes order (spelled 4 order child ++ spelled 4 order count) content ++ after
     → internal_item_at order page index ≡ record { child = child; count = count; key = content }
 internal_content-back order (Inline key) child count page after index at fits p q o e =
     let size : List ℕ = spelled 2 order (length key) in
     let names : List ℕ = spelled 4 order child ++ spelled 4 order count in
     let two : length size ≡ 2 = length-spelled 2 order (length key) in
-    let eight : length names ≡ 8 = omega (arith, length-append (spelled 4 order child) (spelled 4 order count), length-spelled 4 order child, length-spelled 4 order count) in
+    let eight : length names ≡ 8 = omega (
+      arith,
+      length-append (spelled 4 order child) (spelled 4 order count),
+      length-spelled 4 order child,
+      length-spelled 4
+          order count,
+    ) in
     let e1 : drop at page ≡ size ++ (1 ∷ 0 ∷ ((names ++ key) ++ after)) = e ∙ append_assoc size (1 ∷ 0 ∷ (names ++ key)) after in
     let e2 : drop at page ≡ size ++ (1 ∷ 0 ∷ (names ++ (key ++ after))) = e1 ∙ ap (λ (bs : List ℕ). size ++ (1 ∷ 0 ∷ bs)) (append_assoc names key after) in
     let n : two_at order page at ≡ length key = number_at-in 2 order (length key) page at at [] (1 ∷ 0 ∷ ((names ++ key) ++ after)) e1 (omega arith) fits in
     let b : byte_at page (at + 2) ≡ 1 = byte_at-in page at (at + 2) size 1 (0 ∷ ((names ++ key) ++ after)) e1 (omega arith) in
     let front : List ℕ = size ++ (1 ∷ 0 ∷ []) in
     let long : length front ≡ 4 = omega (arith, length-append size (1 ∷ 0 ∷ [])) in
-    let both = pair-in order child count page at (at + 4) (at + 8) front (key ++ after) (e2 ∙ sym (append_assoc size (1 ∷ 0 ∷ []) (names ++ (key ++ after)))) (omega arith) (omega arith) p q in
+    let both = pair-in order child count page at (at + 4) (at + 8) front (key ++ after) (e2 ∙ sym (append_assoc size (1 ∷ 0 ∷ []) (names ++ (key ++ after))))
+    (omega arith) (omega arith) p q in
     let whole : List ℕ = size ++ (1 ∷ 0 ∷ names) in
     let piece : slice_range page (at + 12) (at + 12 + length key) ≡ key =
     slice_range-in page at (at + 12) (at + 12 + length key) whole key after (e2 ∙ sym (append_assoc size (1 ∷ 0 ∷ names) (key ++ after)))
@@ -117,17 +138,27 @@ internal_content-back order (Chain head total) child count page after index at f
     let names : List ℕ = spelled 4 order child ++ spelled 4 order count in
     let chain : List ℕ = spelled 4 order head ++ spelled 4 order total in
     let two : length size ≡ 2 = length-spelled 2 order 12 in
-    let eight : length names ≡ 8 = omega (arith, length-append (spelled 4 order child) (spelled 4 order count), length-spelled 4 order child, length-spelled 4 order count) in
-    let e1 : drop at page ≡ size ++ (3 ∷ 0 ∷ ((names ++ (0 ∷ 0 ∷ 3 ∷ 0 ∷ chain)) ++ after)) = e ∙ append_assoc size (3 ∷ 0 ∷ (names ++ (0 ∷ 0 ∷ 3 ∷ 0 ∷ chain))) after in
-    let e2 : drop at page ≡ size ++ (3 ∷ 0 ∷ (names ++ (0 ∷ 0 ∷ 3 ∷ 0 ∷ (chain ++ after)))) = e1 ∙ ap (λ (bs : List ℕ). size ++ (3 ∷ 0 ∷ bs)) (append_assoc names (0 ∷ 0 ∷ 3 ∷ 0 ∷ chain) after) in
+    let eight : length names ≡ 8 = omega (
+      arith,
+      length-append (spelled 4 order child) (spelled 4 order count),
+      length-spelled 4 order child,
+      length-spelled 4
+          order count,
+    ) in
+    let e1 : drop at page ≡ size ++ (3 ∷ 0 ∷ ((names ++ (0 ∷ 0 ∷ 3 ∷ 0 ∷ chain)) ++ after)) = e ∙ append_assoc size (3 ∷ 0 ∷ (names ++ (0 ∷ 0 ∷ 3 ∷ 0 ∷ chain)))
+    after in
+    let e2 : drop at page ≡ size ++ (3 ∷ 0 ∷ (names ++ (0 ∷ 0 ∷ 3 ∷ 0 ∷ (chain ++ after)))) = e1
+    ∙ ap (λ (bs : List ℕ). size ++ (3 ∷ 0 ∷ bs)) (append_assoc names (0 ∷ 0 ∷ 3 ∷ 0 ∷ chain) after) in
     let b : byte_at page (at + 2) ≡ 3 = byte_at-in page at (at + 2) size 3 (0 ∷ ((names ++ (0 ∷ 0 ∷ 3 ∷ 0 ∷ chain)) ++ after)) e1 (omega arith) in
     let front : List ℕ = size ++ (3 ∷ 0 ∷ []) in
     let long : length front ≡ 4 = omega (arith, length-append size (3 ∷ 0 ∷ [])) in
-    let both = pair-in order child count page at (at + 4) (at + 8) front (0 ∷ 0 ∷ 3 ∷ 0 ∷ (chain ++ after)) (e2 ∙ sym (append_assoc size (3 ∷ 0 ∷ []) (names ++ (0 ∷ 0 ∷ 3 ∷ 0 ∷ (chain ++ after))))) (omega arith) (omega arith) p q in
+    let both = pair-in order child count page at (at + 4) (at + 8) front (0 ∷ 0 ∷ 3 ∷ 0 ∷ (chain ++ after))
+    (e2 ∙ sym (append_assoc size (3 ∷ 0 ∷ []) (names ++ (0 ∷ 0 ∷ 3 ∷ 0 ∷ (chain ++ after))))) (omega arith) (omega arith) p q in
     let inner : List ℕ = names ++ (0 ∷ 0 ∷ 3 ∷ 0 ∷ []) in
     let whole : List ℕ = size ++ (3 ∷ 0 ∷ inner) in
     let e3 : drop at page ≡ whole ++ (chain ++ after) =
-    e2 ∙ ap (λ (bs : List ℕ). size ++ (3 ∷ 0 ∷ bs)) (sym (append_assoc names (0 ∷ 0 ∷ 3 ∷ 0 ∷ []) (chain ++ after))) ∙ sym (append_assoc size (3 ∷ 0 ∷ inner) (chain ++ after)) in
+    e2 ∙ ap (λ (bs : List ℕ). size ++ (3 ∷ 0 ∷ bs)) (sym (append_assoc names (0 ∷ 0 ∷ 3 ∷ 0 ∷ []) (chain ++ after)))
+    ∙ sym (append_assoc size (3 ∷ 0 ∷ inner) (chain ++ after)) in
     let sixteen : length whole ≡ 16 = omega (arith, length-append size (3 ∷ 0 ∷ inner), length-append names (0 ∷ 0 ∷ 3 ∷ 0 ∷ [])) in
     let ends = pair-in order head total page at (at + 16) (at + 20) whole after e3 (omega arith) (omega arith) fits.0 fits.1 in
     internal_item-at order page index at 3 child count (Chain head total) o b both (rw (ends.first, ends.second) refl)
@@ -137,7 +168,8 @@ pub internal_items_read_back : InternalItemsReadBack
 unfolding internal_bytes
 internal_items_read_back order item before after index fits p q o =
     let piece : List ℕ = internal_content_bytes order (spelled 4 order item.child ++ spelled 4 order item.count) item.key in
-    internal_content-back order item.key item.child item.count (before ++ (piece ++ after)) after index (length before) fits p q o (drop-append_seam before (piece ++ after))
+    internal_content-back order item.key item.child item.count (before ++ (piece ++ after)) after index (length before) fits p q o
+    (drop-append_seam before (piece ++ after))
 
 recno_item-at : (order : Order) (page : List ℕ) (index at child count : ℕ) → offset_of order page index ≡ at → ReadsPair order page at (at + 4) child count
     → recno_item_at order page index ≡ record { child = child; count = count }
@@ -149,7 +181,8 @@ unfolding recno_bytes
 recno_items_read_back order item before after index p q o =
     let piece : List ℕ = spelled 4 order item.child ++ spelled 4 order item.count in
     let at : ℕ = length before in
-    let both = pair-in order item.child item.count (before ++ (piece ++ after)) at at (at + 4) [] after (drop-append_seam before (piece ++ after)) (omega arith) (omega arith) p q in
+    let both = pair-in order item.child item.count (before ++ (piece ++ after)) at at (at + 4) [] after (drop-append_seam before (piece ++ after)) (omega arith)
+    (omega arith) p q in
     recno_item-at order (before ++ (piece ++ after)) index at item.child item.count o both
 
 -- Sets of a hash page.
@@ -179,18 +212,21 @@ block_begins order block rest short =
       fits = omega (arith, ap length e3, length-append whole rest);
       size = number_at-in 2 order (length block) bytes 0 0 [] (block ++ (size ++ rest)) e1 (omega arith) short;
       again = number_at-in 2 order (length block) bytes 0 (length block + 2) front rest e2 (omega arith) short;
-      block_is = ap (take (length block)) (drop-behind bytes 0 2 size (block ++ (size ++ rest)) e1 (omega arith)) ∙ take_at block (size ++ rest) (length block) refl;
+      block_is = ap (take (length block)) (drop-behind bytes 0 2 size (block ++ (size ++ rest)) e1 (omega arith)) ∙ take_at block (size ++ rest) (length block)
+          refl;
       rest_is = drop-behind bytes 0 (length block + 4) whole rest e3 (omega arith);
     }
 
-first_block : (order : Order) (bytes block rest : List ℕ) → BeginsBlock order bytes block rest → blocks_of order bytes ≡ option_map (λ blocks. block ∷ blocks) (blocks_of order rest)
+first_block : (order : Order) (bytes block rest : List ℕ) → BeginsBlock order bytes block rest
+    → blocks_of order bytes ≡ option_map (λ blocks. block ∷ blocks) (blocks_of order rest)
 first_block order [] block rest is = absurd (omega (arith, is.fits))
 first_block order (b ∷ bs) block rest is =
     let room : nat_lt (length (b ∷ bs)) (length block + 4) ≡ false = le-ltb (length (b ∷ bs)) (length block + 4) is.fits in
     let same : (length block == length block) ≡ true = eq-eqb (length block) (length block) refl in
     blocks_of-cons order b bs ∙ rw (is.size, room, is.again, same, is.block_is, is.rest_is) refl
 
-pub blocks_of-back : (order : Order) (blocks : List (List ℕ)) → All (λ block. length block < 2 ^ 16) blocks → blocks_of order (flat_map (block_bytes order) blocks) ≡ Some blocks
+pub blocks_of-back : (order : Order) (blocks : List (List ℕ)) → All (λ block. length block < 2 ^ 16) blocks
+    → blocks_of order (flat_map (block_bytes order) blocks) ≡ Some blocks
 unfolding blocks_of
 blocks_of-back order [] short = refl
 blocks_of-back order (block ∷ blocks) short =
@@ -211,12 +247,14 @@ hash_content-back : (order : Order) (content : Content) (page after : List ℕ) 
 unfolding hash_bytes
 hash_content-back order (Inline bytes) page after index at fits o p e =
     let b : byte_at page at ≡ 1 = byte_at-in page at at [] 1 (bytes ++ after) e (omega arith) in
-    let piece : slice_range page (at + 1) (at + suc (length bytes)) ≡ bytes = slice_range-in page at (at + 1) (at + suc (length bytes)) (1 ∷ []) bytes after e (omega arith) (omega arith) in
+    let piece : slice_range page (at + 1) (at + suc (length bytes)) ≡ bytes = slice_range-in page at (at + 1) (at + suc (length bytes)) (1 ∷ []) bytes after e
+    (omega arith) (omega arith) in
     hash_item-at order page index at (at + suc (length bytes)) 1 (Inline bytes) o p b (rw piece refl)
 hash_content-back order (Set blocks) page after index at fits o p e =
     let run : List ℕ = flat_map (block_bytes order) blocks in
     let b : byte_at page at ≡ 2 = byte_at-in page at at [] 2 (run ++ after) e (omega arith) in
-    let piece : slice_range page (at + 1) (at + suc (length run)) ≡ run = slice_range-in page at (at + 1) (at + suc (length run)) (2 ∷ []) run after e (omega arith) (omega arith) in
+    let piece : slice_range page (at + 1) (at + suc (length run)) ≡ run = slice_range-in page at (at + 1) (at + suc (length run)) (2 ∷ []) run after e
+    (omega arith) (omega arith) in
     hash_item-at order page index at (at + suc (length run)) 2 (Set blocks) o p b (rw (piece, blocks_of-back order blocks fits) refl)
 hash_content-back order (Chain head total) page after index at fits o p e =
     let b : byte_at page at ≡ 3 = byte_at-in page at at [] 3 (0 ∷ 0 ∷ 0 ∷ ((spelled 4 order head ++ spelled 4 order total) ++ after)) e (omega arith) in
@@ -230,4 +268,5 @@ hash_content-back order Unknown page after index at fits o p e = absurd fits
 
 pub hash_items_read_back : HashItemsReadBack
 hash_items_read_back order content before after index fits o p =
-    hash_content-back order content (before ++ (hash_bytes order content ++ after)) after index (length before) fits o p (drop-append_seam before (hash_bytes order content ++ after))
+    hash_content-back order content (before ++ (hash_bytes order content ++ after)) after index (length before) fits o p
+    (drop-append_seam before (hash_bytes order content ++ after))

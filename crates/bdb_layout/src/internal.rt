@@ -60,7 +60,12 @@ pub fn known_internal_item(page: &[u8], order: Order, index: u16) -> InternalIte
 // The item at an offset.
 fn internal_item_from(page: &[u8], order: Order, at: usize) -> InternalItem<'_>
     requires { FitsInternal order page.now at }
-    ensures { internal_item_seen result ≡ record { child = four_at order page.now (at + 4); count = four_at order page.now (at + 8); key = internal_key order page.now at (kind_at page.now at) } }
+    ensures { internal_item_seen result ≡ record {
+      child = four_at order page.now (at + 4);
+      count = four_at order page.now (at + 8);
+      key = internal_key order
+          page.now at (kind_at page.now at);
+    } }
 {
     InternalItem {
         child: u32_at(page, at + 4, order),

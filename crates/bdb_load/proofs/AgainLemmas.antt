@@ -11,9 +11,9 @@ use Rattle.bdb_format.specs.HeadOf.{head_of}
 use Rattle.bdb_format.specs.Less.{less}
 use Rattle.bdb_text_format.specs.declared.sections.Section.{Section}
 use Rattle.bdb_text_format.specs.Written.{header_lines}
-use Rattle.bdb_leaves.proofs.UnitLemmas.{ascends_later}
-use Rattle.bdb_kept.specs.Dumps.{AreKept, AreKeptAs, IsLoadedOf, bytes_of_section}
-use Rattle.bdb_kept.proofs.DumpLemmas.{dumps_are_kept, loaded_dumps_are_the_same}
+use Rattle.bdb_mkleaves.proofs.UnitLemmas.{ascends_later}
+use Rattle.bdb_law_kept.specs.Dumps.{AreKept, AreKeptAs, IsLoadedOf, bytes_of_section}
+use Rattle.bdb_law_kept.proofs.DumpLemmas.{dumps_are_kept, loaded_dumps_are_the_same}
 use Rattle.bdb_load.specs.Again.{DumpsLoadToThemselves, whole_dump}
 use Rattle.bdb_mkfile.specs.Builds.{AreLoadedAs, IsLoadedAs, in_file_of, in_name_order, name_of, put_named}
 

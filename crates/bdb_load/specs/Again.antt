@@ -7,8 +7,8 @@ use Rattle.bdb_text_format.specs.Sections.{Reads}
 use Rattle.bdb_text_format.specs.Written.{dump_text}
 use Rattle.bdb_settle.specs.LoadErrors.{load_error}
 use Rattle.bdb_text.specs.WrittenLaw.{AreBytes}
-use Rattle.bdb_kept.specs.Dumps.{HasNoEmptyRecords}
-use Rattle.bdb_kept.specs.Kept.{IsSound}
+use Rattle.bdb_law_kept.specs.Dumps.{HasNoEmptyRecords}
+use Rattle.bdb_law_kept.specs.Kept.{IsSound}
 use Rattle.bdb_mkfile.specs.Builds.{Builds}
 
 -- the text of all databases of an image

@@ -4,6 +4,6 @@
 
 pub mod laws;
 
-pub use bdb_count::need;
 pub use bdb_mkfile::{in_name_order, load};
+pub use bdb_need::need;
 pub use bdb_settle::{LoadError, settle};

@@ -3,12 +3,12 @@ use crate::loaded::{Answer, loaded};
 use crate::settled::list_of;
 use bdb_format::{Bytes, Kind};
 use bdb_gen::generate;
-use bdb_judging::gives;
 use bdb_text::push_line_text;
 use bdb_text_format::{KeyRef, PairSlice};
 use std::alloc::{AllocError, Global};
 use std::process::Abort;
 use std::test::Fail;
+use test_lists::gives;
 
 // A line of data: a space, and two digits for each byte.
 fn push_line(text: &mut Bytes, bytes: &[u8]) -> Result<(), AllocError> {

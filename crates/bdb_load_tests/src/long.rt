@@ -2,8 +2,8 @@
 use crate::loaded::{Answer, loaded};
 use crate::settled::list_of;
 use bdb_format::Bytes;
-use bdb_judging::gives;
 use std::test::Fail;
+use test_lists::gives;
 
 #[test]
 fn long_datum_is_found_in_its_chain(rt: HostRuntime) -> Result<(), Fail> {

@@ -14,13 +14,13 @@ use crate::settled::list_of;
 use bdb_file::{Db, Sound, verify};
 use bdb_format::{BtreeMeta, Kind, Steps};
 use bdb_graph::{Linked, Meta};
-use bdb_judging::{is_pair_at, pair_of};
 use bdb_range::{pairs_of, span};
 use bdb_text_format::{KeyRef, PairSlice};
 use std::alloc::Global;
 use std::marker::Brand;
 use std::sync::ledger::{Blank, Ledger};
 use std::test::Fail;
+use test_lists::{is_pair_at, pair_of};
 
 // How many pairs a range has.
 const PAIRS: usize = 10;

@@ -2,7 +2,7 @@
 ghost use Rattle.std.specs.Prelude.{◌≡◌};
 
 use bdb_format::{Kind, Steps};
-use bdb_writing::trial_text;
+use bdb_tool_build::trial_text;
 use std::alloc::Global;
 use std::marker::Brand;
 use std::sync::ledger::{Blank, Ledger};

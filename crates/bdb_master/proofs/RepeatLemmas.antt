@@ -88,7 +88,8 @@ begun has keys file all empty = record {
   whole = refl;
 }
 
-pub all_noted : (before after : List Fault → Type 0) (keys : BTreeSet (List ℕ)) (file : File) (all left : List ItemPair) → IsNoted before after keys file all left
+pub all_noted : (before after : List Fault → Type 0) (keys : BTreeSet (List ℕ)) (file : File) (all left : List ItemPair)
+    → IsNoted before after keys file all left
     → left ≡ [] → NotesAll before after (by_repeat (live_entries file all))
 all_noted before after keys file all left noted none =
     subst (NotesAll before after)

@@ -1,5 +1,6 @@
 -- A page of zeros that is written from its front on.
-use Rattle.std.proofs.Common.{◌≡◌, ℕ, ◌+◌, ◌-◌, ◌≤◌, Bool, List, [], ◌∷◌, ◌++◌, length, take, drop, IsTrue, refl, sym, ap, ◌∙◌, arith, append_assoc, length-append}
+use Rattle.std.proofs.Common.{◌≡◌, ℕ, ◌+◌, ◌-◌, ◌≤◌, Bool, List, [], ◌∷◌, ◌++◌, length, take, drop, IsTrue, refl, sym, ap, ◌∙◌, arith, append_assoc}
+use Rattle.std.proofs.Common.{length-append}
 use Rattle.std.specs.Prelude.{◌==◌, ◌&&◌, slice_set}
 use Rattle.std.proofs.Math.Seq.{drop-append-add}
 use Rattle.std.proofs.lemmas.List.{take_at, set_at, drop-replicate, length-replicate, replicate-append-replicate}
@@ -55,16 +56,19 @@ filled_piece {page} {new} {front} {size} {at} piece end f wrote ends room =
     let before : take at page ≡ front = ap (take at) f.is ∙ take_at front (zeros (size - at)) at f.long in
     let place : at + n ≡ length front + n = omega (arith, f.long) in
     let behind : drop (at + n) page ≡ zeros (size - at - n) =
-    ap (drop (at + n)) f.is ∙ ap (λ k. drop k (front ++ zeros (size - at))) place ∙ drop-append-add front (zeros (size - at)) n ∙ drop-replicate n (size - at) 0 in
+    ap (drop (at + n)) f.is ∙ ap (λ k. drop k (front ++ zeros (size - at))) place ∙ drop-append-add front (zeros (size - at)) n
+    ∙ drop-replicate n (size - at) 0 in
     let left : size - at - n ≡ size - end = omega (arith, ends) in
     record {
-      is = wrote ∙ ap (λ xs. xs ++ (piece ++ drop (at + n) page)) before ∙ ap (λ xs. front ++ (piece ++ xs)) (behind ∙ ap zeros left) ∙ sym (append_assoc front piece (zeros (size - end)));
+      is = wrote ∙ ap (λ xs. xs ++ (piece ++ drop (at + n) page)) before ∙ ap (λ xs. front ++ (piece ++ xs)) (behind ∙ ap zeros left)
+          ∙ sym (append_assoc front piece (zeros (size - end)));
       long = omega (arith, f.long, ends, length-append front piece);
       room = room;
     }
 
 -- a number is written next
-pub filled_number : {page new front : List ℕ} {size at : ℕ} (order : Order) (x end : ℕ) → Filled page size front at → new ≡ overwritten page at (spelled 4 order x)
+pub filled_number : {page new front : List ℕ} {size at : ℕ} (order : Order) (x end : ℕ) → Filled page size front at
+    → new ≡ overwritten page at (spelled 4 order x)
     → end ≡ at + 4 → end ≤ size → Filled new size (front ++ spelled 4 order x) end
 filled_number order x end f wrote ends room = filled_piece (spelled 4 order x) end f wrote (omega (arith, ends, length-spelled 4 order x)) room
 
@@ -74,7 +78,8 @@ pub filled_byte : {page new front : List ℕ} {size at : ℕ} (b : ℕ) → Fill
 filled_byte {page} {new} {front} {size} {at} b f wrote room =
     let split : zeros (size - at) ≡ 0 ∷ zeros (size - (at + 1)) = zeros-split size at 1 room in
     record {
-      is = wrote ∙ ap (λ xs. slice_set xs at b) (f.is ∙ ap (λ rest. front ++ rest) split) ∙ set_at front 0 (zeros (size - (at + 1))) b at f.long ∙ sym (append_assoc front (b ∷ []) (zeros (size - (at + 1))));
+      is = wrote ∙ ap (λ xs. slice_set xs at b) (f.is ∙ ap (λ rest. front ++ rest) split) ∙ set_at front 0 (zeros (size - (at + 1))) b at f.long
+          ∙ sym (append_assoc front (b ∷ []) (zeros (size - (at + 1))));
       long = omega (arith, f.long, length-append front (b ∷ []));
       room = room;
     }

@@ -31,7 +31,8 @@ answer-code [] value code h = cc
 answer-code (row ∷ xs) value code h = grind (arith, answer-code xs value code)
 
 -- the rows of page 0, group by group, where it is long enough
-head_rows-groups : {T : Type 0} → (image : List ℕ) (value : T) → 512 ≤ length image → answer (head_rows image) value ≡ answer (version_rows image ++ (page_rows image ++ length_rows image)) value
+head_rows-groups : {T : Type 0} → (image : List ℕ) (value : T) → 512 ≤ length image → answer (head_rows image) value
+    ≡ answer (version_rows image ++ (page_rows image ++ length_rows image)) value
 unfolding head_rows
 head_rows-groups image value h =
     let long : nat_lt (length image) 512 ≡ false = grind arith in
@@ -75,7 +76,8 @@ metadata-groups : {T : Type 0} → (order : Order) (page : List ℕ) (number las
 unfolding metadata_rows
 metadata-groups order page number last kind value =
     ap (λ rows. answer rows value)
-    (sym (append_assoc (identity_rows order page number (λ byte. byte == type_of kind)) (meta_rows order page number kind) (kind_rows order page number last kind)))
+    (sym (append_assoc (identity_rows order page number (λ byte. byte == type_of kind)) (meta_rows order page number kind)
+    (kind_rows order page number last kind)))
 
 pub metadata-kind : {T : Type 0} → (order : Order) (page : List ℕ) (number last : ℕ) (kind : FileKind) (value : T)
     → answer {T = Unit {0}} (common_rows order page number kind) tt ≡ Ok tt

@@ -1,5 +1,6 @@
 -- The spares of a table, group by group: how they are written, and what is read from them.
-use Rattle.std.proofs.Common.{◌≡◌, ℕ, zero, suc, ◌+◌, ◌*◌, ◌^◌, ◌<◌, ◌≤◌, List, [], ◌∷◌, ◌++◌, length, get_or, take, drop, refl, sym, ap, ◌∙◌, arith, append_assoc, append-nil, length-append, length-take}
+use Rattle.std.proofs.Common.{◌≡◌, ℕ, zero, suc, ◌+◌, ◌*◌, ◌^◌, ◌<◌, ◌≤◌, List, [], ◌∷◌, ◌++◌, length, get_or, take, drop, refl, sym, ap, ◌∙◌, arith}
+use Rattle.std.proofs.Common.{append_assoc, append-nil, length-append, length-take}
 use Rattle.std.specs.List.{flat_map}
 use Rattle.std.proofs.lemmas.Grind.{flat_map-append}
 use Rattle.std.proofs.lemmas.List.{take_more}
@@ -15,7 +16,13 @@ spares_bytes order spares = flat_map (λ spare. spelled 4 order spare) spares
 
 pub length-spares : (order : Order) (spares : List ℕ) → length (spares_bytes order spares) ≡ 4 * length spares
 length-spares order [] = refl
-length-spares order (x ∷ spares) = omega (arith, length-append (spelled 4 order x) (spares_bytes order spares), length-spelled 4 order x, length-spares order spares)
+length-spares order (x ∷ spares) = omega (
+  arith,
+  length-append (spelled 4 order x) (spares_bytes order spares),
+  length-spelled 4 order x,
+  length-spares order
+      spares,
+)
 
 -- one spare more
 spares_more : (order : Order) (spares : List ℕ) (group : ℕ) → group < length spares

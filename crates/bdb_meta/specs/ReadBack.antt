@@ -46,16 +46,19 @@ abbrev pub BtreeReadsBack : Type 0
 BtreeReadsBack =
     (order : Order) (size number last : ℕ) (meta : BtreeMeta) → BtreeFits meta
     → first_row (metadata_rows order (btree_bytes order size number last meta) number 0 Btree) ≡ None
-    → faulted form_fault (answer (metadata_rows order (btree_bytes order size number last meta) number 0 Btree) (btree_fields order (btree_bytes order size number last meta))) ≡ Ok meta
+    → faulted form_fault (answer (metadata_rows order (btree_bytes order size number last meta) number 0 Btree)
+    (btree_fields order (btree_bytes order size number last meta))) ≡ Ok meta
 
 abbrev pub TableReadsBack : Type 0
 TableReadsBack =
     (order : Order) (size number last elements : ℕ) (meta : HashMeta) → TableFits meta → SparesFit meta
     → first_row (metadata_rows order (table_bytes order size number last elements meta) number last Hash) ≡ None
-    → faulted form_fault (answer (metadata_rows order (table_bytes order size number last elements meta) number last Hash) (hash_fields order (table_bytes order size number last elements meta))) ≡ Ok meta
+    → faulted form_fault (answer (metadata_rows order (table_bytes order size number last elements meta) number last Hash)
+    (hash_fields order (table_bytes order size number last elements meta))) ≡ Ok meta
 
 abbrev pub QueueReadsBack : Type 0
 QueueReadsBack =
     (order : Order) (size last : ℕ) (meta : QueueMeta) → QueueFits meta
     → first_row (metadata_rows order (queue_bytes order size last meta) 0 0 Queue) ≡ None
-    → faulted form_fault (answer (metadata_rows order (queue_bytes order size last meta) 0 0 Queue) (queue_fields order (queue_bytes order size last meta))) ≡ Ok meta
+    → faulted form_fault (answer (metadata_rows order (queue_bytes order size last meta) 0 0 Queue) (queue_fields order (queue_bytes order size last meta)))
+    ≡ Ok meta

@@ -127,7 +127,8 @@ pub fn put_generic(page: &mut [u8], order: Order, fields: Generic)
     requires zero { IsTrue (is_zero page.old) }
     requires room { 72 ≤ length page.old }
     requires size { length page.old < 2 ^ 32 }
-    ensures { page.new ≡ common_bytes order fields.kind (length page.old) fields.number fields.free (last_field fields.number fields.last) fields.flags ++ zeros (length page.old - 72) }
+    ensures { page.new ≡ common_bytes order fields.kind (length page.old) fields.number fields.free (last_field fields.number fields.last) fields.flags
+        ++ zeros (length page.old - 72) }
 {
     let size = page.len() as u32;
     put_u32(page, 4, order, 1);

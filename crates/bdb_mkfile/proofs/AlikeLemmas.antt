@@ -4,14 +4,14 @@ use Rattle.bdb_format.specs.declared.kinds.Kind.{Kind}
 use Rattle.bdb_format.specs.declared.kinds.Kind.TheVariants.{Btree, Recno, Hash, Queue}
 use Rattle.bdb_format.specs.declared.settings.Settings.{Settings}
 use Rattle.bdb_text_format.specs.declared.pairs.Pair.{Pair}
-use Rattle.bdb_leaves.proofs.RunLemmas.{all_map}
-use Rattle.bdb_leaves.specs.Spread.{tree_size}
+use Rattle.bdb_mkleaves.proofs.RunLemmas.{all_map}
+use Rattle.bdb_mkleaves.specs.Spread.{tree_size}
 use Rattle.bdb_mktree.specs.Lists.{IsKeyFor, IsTreeList, IsPairFor, is_in_order, may_follow, units_in}
 use Rattle.bdb_mktree.specs.Units.{leaf_type_of}
-use Rattle.bdb_count.specs.Need.{list_pages}
-use Rattle.bdb_alone.specs.Settled.{file_settings, own_settings}
-use Rattle.bdb_alone.specs.Trees.{IsTreeSettings}
-use Rattle.bdb_alone.proofs.SettingsLemmas.{fit_in_file, list_own, own_kind, sorted_in_file}
+use Rattle.bdb_need.specs.Need.{list_pages}
+use Rattle.bdb_mkfile.specs.FileSettings.{file_settings, own_settings}
+use Rattle.bdb_mkfile.specs.Trees.{IsTreeSettings}
+use Rattle.bdb_mkfile.proofs.SettingsLemmas.{fit_in_file, list_own, own_kind, sorted_in_file}
 use Rattle.bdb_mkfile.specs.Settled.{IsBuildable}
 
 -- settings that say the same of a tree's list

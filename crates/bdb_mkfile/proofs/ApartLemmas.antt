@@ -14,7 +14,7 @@ use Rattle.bdb_format.specs.Databases.{is_name}
 use Rattle.bdb_format.specs.Less.{less}
 use Rattle.bdb_format.proofs.LessLemmas.{eq_self, same_unless_less}
 use Rattle.bdb_text_format.specs.declared.sections.Section.{Section}
-use Rattle.bdb_sections.specs.Fit.{AreNamedBehind}
+use Rattle.bdb_law_sections.specs.Fit.{AreNamedBehind}
 use Rattle.bdb_mkfile.specs.Builds.{in_name_order, name_of, put_named}
 use Rattle.bdb_mkfile.specs.Order.{AreApart, IsApart, named_before, with_named}
 use Rattle.bdb_mkfile.proofs.NameLemmas.{swapped}

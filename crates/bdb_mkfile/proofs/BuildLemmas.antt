@@ -19,12 +19,12 @@ use Rattle.bdb_settle.specs.declared.load_error.LoadError.{LoadError}
 use Rattle.bdb_settle.specs.declared.load_error.LoadError.TheVariants.{TooLarge, Memory}
 use Rattle.bdb_settle.specs.LoadErrors.{IsSettleRefusal, load_error, page_size_in}
 use Rattle.bdb_settle.specs.Loaded.{loaded, loaded_section}
-use Rattle.bdb_buckets.specs.Tables.{HasBuiltTable}
-use Rattle.bdb_need.specs.Need.{unlined_pairs}
-use Rattle.bdb_count.specs.Need.{list_pages, master_pages, need_of, section_pages}
-use Rattle.bdb_alone.specs.Settled.{file_settings, own_settings}
-use Rattle.bdb_alone.proofs.SettingsLemmas.{own_size, settings_shown}
-use Rattle.bdb_named.specs.Images.{AreNamed, HasBuiltTables, IsDatabaseOf, IsNamed, IsNamedImage, names_pages}
+use Rattle.bdb_law_buckets.specs.Tables.{HasBuiltTable}
+use Rattle.bdb_need.specs.TreePages.{unlined_pairs}
+use Rattle.bdb_need.specs.Need.{list_pages, master_pages, need_of, section_pages}
+use Rattle.bdb_mkfile.specs.FileSettings.{file_settings, own_settings}
+use Rattle.bdb_mkfile.proofs.SettingsLemmas.{own_size, settings_shown}
+use Rattle.bdb_mkfile.specs.NamedImages.{AreNamed, HasBuiltTables, IsDatabaseOf, IsNamed, IsNamedImage, names_pages}
 use Rattle.bdb_mkfile.specs.Builds.{Builds, IsLoadedAs, image_size, in_file_of, in_name_order}
 use Rattle.bdb_mkfile.specs.Loading.{IsLoadRefusal, IsLoadRefusalBy, loading_error, or_else, size_error}
 use Rattle.bdb_mkfile.specs.Order.{with_named}
@@ -32,7 +32,7 @@ use Rattle.bdb_mkfile.specs.Settled.{AreBuildable, AreNamedApart, IsAloneImage, 
 use Rattle.bdb_mkfile.proofs.AlikeLemmas.{pages_own}
 use Rattle.bdb_mkfile.proofs.ApartLemmas.{fold_is_order, order_all, order_map, order_sum}
 use Rattle.bdb_mkfile.proofs.MasterLemmas.{master_same, names_ascend}
-use Rattle.bdb_count.proofs.NeedLemmas.{listed_again}
+use Rattle.bdb_need.proofs.NeedLemmas.{listed_again}
 
 -- One section alone.
 

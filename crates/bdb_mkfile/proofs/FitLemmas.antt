@@ -16,8 +16,8 @@ use Rattle.bdb_text_format.specs.declared.pairs.Key.{Key}
 use Rattle.bdb_text_format.specs.declared.pairs.Key.TheVariants.{Bytes, Number}
 use Rattle.bdb_text_format.specs.declared.sections.Section.{Section}
 use Rattle.bdb_text_format.specs.Written.{holds_records}
-use Rattle.bdb_sections.specs.Fit.{AreFit, AreFitSettings, AreNamedBehind, IsFitSection, is_number}
-use Rattle.bdb_leaves.specs.Runs.{IsShort}
+use Rattle.bdb_law_sections.specs.Fit.{AreFit, AreFitSettings, AreNamedBehind, IsFitSection, is_number}
+use Rattle.bdb_mkleaves.specs.Runs.{IsShort}
 use Rattle.bdb_mktree.specs.Lists.{IsTreeList}
 use Rattle.bdb_mktree.specs.Units.{IsTreeKind}
 use Rattle.bdb_mkhash.specs.Table.{IsTableList}
@@ -28,19 +28,19 @@ use Rattle.bdb_settle.specs.Loaded.{filled_section, loaded, loaded_section, orde
 use Rattle.bdb_settle.proofs.FillingLemmas.{sections_filled}
 use Rattle.bdb_settle.proofs.ErrorLemmas.{sound_pairs}
 use Rattle.bdb_settle.proofs.ListLawLemmas.{load_into_lists}
-use Rattle.bdb_need.specs.Need.{unlined_pairs}
-use Rattle.bdb_count.specs.Need.{AreSettled, IsListOf, IsSettled, list_pages, name_in, need_of, sized}
-use Rattle.bdb_alone.specs.Images.{queue_pages}
-use Rattle.bdb_alone.specs.Lists.{IsQueueAlone}
-use Rattle.bdb_alone.specs.Trees.{IsTreeSettings}
-use Rattle.bdb_alone.proofs.ListLemmas.{load_into_tables, queues_are_alone, records_are_few}
-use Rattle.bdb_named.specs.Images.{AreNamedSettings, IsNamed}
+use Rattle.bdb_need.specs.TreePages.{unlined_pairs}
+use Rattle.bdb_need.specs.Need.{AreSettled, IsListOf, IsSettled, list_pages, name_in, need_of, sized}
+use Rattle.bdb_mkfile.specs.LoneImages.{queue_pages}
+use Rattle.bdb_mkfile.specs.Lists.{IsQueueAlone}
+use Rattle.bdb_mkfile.specs.Trees.{IsTreeSettings}
+use Rattle.bdb_mkfile.proofs.ListLemmas.{load_into_tables, queues_are_alone, records_are_few}
+use Rattle.bdb_mkfile.specs.NamedImages.{AreNamedSettings, IsNamed}
 use Rattle.bdb_mkfile.specs.Order.{AreApart}
 use Rattle.bdb_mkfile.specs.Settled.{AreBuildable, AreNamedApart, IsBuildable, IsUnnamedAlone}
 use Rattle.bdb_mkfile.proofs.AlikeLemmas.{list_alike}
 use Rattle.bdb_mkfile.proofs.ApartLemmas.{HasName, all_named, alone_unnamed, named_apart}
 use Rattle.bdb_mkfile.proofs.ShortLemmas.{HasShortList, loaded_short, settled_apart}
-use Rattle.bdb_count.proofs.NeedLemmas.{listed_again}
+use Rattle.bdb_need.proofs.NeedLemmas.{listed_again}
 
 -- Each section.
 

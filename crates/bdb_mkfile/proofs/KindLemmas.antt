@@ -8,9 +8,9 @@ use Rattle.bdb_text_format.specs.declared.pairs.Pair.{Pair}
 use Rattle.bdb_mktree.specs.Lists.{IsTreeList}
 use Rattle.bdb_mktree.specs.Units.{IsTreeKind}
 use Rattle.bdb_mkqueue.specs.Layout.{queue_meta}
-use Rattle.bdb_count.specs.Need.{list_pages}
-use Rattle.bdb_alone.specs.Images.{IsQueueImage}
-use Rattle.bdb_alone.specs.Trees.{IsTreeSettings}
+use Rattle.bdb_need.specs.Need.{list_pages}
+use Rattle.bdb_mkfile.specs.LoneImages.{IsQueueImage}
+use Rattle.bdb_mkfile.specs.Trees.{IsTreeSettings}
 use Rattle.bdb_mkfile.specs.Settled.{IsAloneImage, IsBuildable}
 
 pub of_tree : (settings : Settings) (pairs : List Pair) → IsTreeKind settings.kind → IsBuildable settings.kind settings pairs

@@ -18,16 +18,16 @@ use Rattle.bdb_format.proofs.SizeLemmas.{size_bounds}
 use Rattle.bdb_text_format.specs.declared.pairs.Pair.{Pair}
 use Rattle.bdb_text_format.specs.declared.pairs.Key.{Key}
 use Rattle.bdb_text_format.specs.declared.pairs.Key.TheVariants.{Bytes, Number}
-use Rattle.bdb_leaves.specs.Placed.{values_in}
-use Rattle.bdb_leaves.specs.Spread.{leaves_and_levels, own_pages, set_pages, set_type}
-use Rattle.bdb_leaves.specs.Units.{EntryUnit, KeyedUnit, TreeUnit, chain_pages, has_own_tree, key_of}
+use Rattle.bdb_mkleaves.specs.Placed.{values_in}
+use Rattle.bdb_mkleaves.specs.Spread.{leaves_and_levels, own_pages, set_pages, set_type}
+use Rattle.bdb_mkleaves.specs.Units.{EntryUnit, KeyedUnit, TreeUnit, chain_pages, has_own_tree, key_of}
 use Rattle.bdb_mktree.specs.Lists.{HasNumber, bytes_in, keyed_units, missing, onto_units, record_units}
 use Rattle.bdb_text_format.specs.Pairs.{number_of}
 use Rattle.bdb_mkhash.specs.Buckets.{keyed_of, table_units}
 use Rattle.bdb_mkhash.specs.Costs.{data_form, keyed_own_pages, pages_in, stand_together}
 use Rattle.bdb_mkhash.proofs.CostLemmas.{together_inline}
 use Rattle.bdb_settle.specs.ListLaw.{HasShortBytes}
-use Rattle.bdb_count.specs.Need.{list_pages}
+use Rattle.bdb_need.specs.Need.{list_pages}
 
 -- One value.
 
@@ -202,14 +202,16 @@ pub short_keyed : (settings : Settings) (pages : ℕ) (list : List Pair) → is_
 short_keyed settings pages list legal few (inl tree) =
     let units : List TreeUnit = keyed_units list in
     let low = sum_low (chains settings.page_size) (own_pages settings.page_size settings.sorted) (own_holds settings.page_size settings.sorted) units in
-    short_pairs settings.page_size (sum_by (chains settings.page_size) units) pages list legal (omega (arith, low, tree)) few (keyed_held settings.page_size list)
+    short_pairs settings.page_size (sum_by (chains settings.page_size) units) pages list legal (omega (arith, low, tree)) few
+    (keyed_held settings.page_size list)
 short_keyed settings pages list legal few (inr table) =
     let units : List TreeUnit = keyed_units list in
     let own : TreeUnit → ℕ = λ unit. keyed_own_pages settings.page_size settings.sorted (keyed_of unit) in
     let low = sum_low (chains settings.page_size) own (keyed_holds settings.page_size settings.sorted) units in
     let same : sum_by (keyed_own_pages settings.page_size settings.sorted) (table_units list) ≡ sum_by own units =
     fold-map (λ sum unit. sum + keyed_own_pages settings.page_size settings.sorted unit) keyed_of 0 units in
-    short_pairs settings.page_size (sum_by (chains settings.page_size) units) pages list legal (omega (arith, low, same, table)) few (keyed_held settings.page_size list)
+    short_pairs settings.page_size (sum_by (chains settings.page_size) units) pages list legal (omega (arith, low, same, table)) few
+    (keyed_held settings.page_size list)
 
 -- and that of a recno
 pub short_records : (settings : Settings) (pages : ℕ) (list : List Pair) → settings.kind ≡ Recno → is_page_size settings.page_size ≡ true

@@ -7,9 +7,9 @@ use Rattle.bdb_format.specs.Less.{less}
 use Rattle.bdb_format.specs.ContentRows.{ascends}
 use Rattle.bdb_text_format.specs.declared.sections.Section.{Section}
 use Rattle.bdb_settle.specs.Loaded.{loaded_pair, with_loaded}
-use Rattle.bdb_need.specs.Need.{tree_pages}
-use Rattle.bdb_count.specs.Need.{master_pages, master_settings, name_in, name_pair}
-use Rattle.bdb_named.specs.Images.{name_entry, names_pages}
+use Rattle.bdb_need.specs.TreePages.{tree_pages}
+use Rattle.bdb_need.specs.Need.{master_pages, master_settings, name_in, name_pair}
+use Rattle.bdb_mkfile.specs.NamedImages.{name_entry, names_pages}
 use Rattle.bdb_mkfile.specs.Builds.{in_name_order, name_of, put_named}
 use Rattle.bdb_mkfile.specs.Order.{AreApart, IsApart, named_before, with_named}
 use Rattle.bdb_mkfile.proofs.ApartLemmas.{fold_is_order, order_ascends, put_all}

@@ -19,8 +19,8 @@ use Rattle.bdb_text_format.specs.declared.pairs.Key.TheVariants.{Bytes, Number}
 use Rattle.bdb_text_format.specs.declared.pairs.TextPair.{TextPair}
 use Rattle.bdb_text_format.specs.declared.sections.Section.{Section}
 use Rattle.bdb_text_format.specs.Written.{holds_records}
-use Rattle.bdb_sections.specs.Fit.{AreFit, AreNamedBehind, IsFitPair, IsFitSection, is_number}
-use Rattle.bdb_leaves.specs.Runs.{IsShort}
+use Rattle.bdb_law_sections.specs.Fit.{AreFit, AreNamedBehind, IsFitPair, IsFitSection, is_number}
+use Rattle.bdb_mkleaves.specs.Runs.{IsShort}
 use Rattle.bdb_mktree.specs.Lists.{HasNumber, bytes_in}
 use Rattle.bdb_settle.specs.declared.load_error.LoadError.TheVariants.{TooLarge}
 use Rattle.bdb_settle.specs.ListLaw.{HasShortBytes}
@@ -30,9 +30,9 @@ use Rattle.bdb_settle.proofs.ErrorLemmas.{IsSound, sound_pairs}
 use Rattle.bdb_settle.proofs.FillingLemmas.{fill, fold_filled}
 use Rattle.bdb_settle.proofs.ListLawLemmas.{filled_short}
 use Rattle.bdb_settle.proofs.OrderedLemmas.{fold_all}
-use Rattle.bdb_count.specs.Need.{list_pages, master_pages, master_settings, name_in, need_of, section_pages, sized}
-use Rattle.bdb_count.proofs.NeedLemmas.{listed_again}
-use Rattle.bdb_named.specs.Images.{name_entry}
+use Rattle.bdb_need.specs.Need.{list_pages, master_pages, master_settings, name_in, need_of, section_pages, sized}
+use Rattle.bdb_need.proofs.NeedLemmas.{listed_again}
+use Rattle.bdb_mkfile.specs.NamedImages.{name_entry}
 use Rattle.bdb_mkfile.specs.Builds.{image_size, in_name_order, put_named}
 use Rattle.bdb_mkfile.specs.Lengths.{is_short, is_short_pair, is_short_section}
 use Rattle.bdb_mkfile.specs.Loading.{size_error}

@@ -12,7 +12,7 @@ use Rattle.bdb_text_format.specs.declared.sections.Section.{Section}
 use Rattle.bdb_text_format.specs.Pairs.{listed}
 use Rattle.bdb_text_format.specs.Written.{header_lines}
 use Rattle.bdb_settle.specs.Loaded.{loaded, loaded_section}
-use Rattle.bdb_count.specs.Need.{need_of}
+use Rattle.bdb_need.specs.Need.{need_of}
 
 -- Sections in the byte order of their names.
 

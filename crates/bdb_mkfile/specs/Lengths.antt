@@ -4,7 +4,7 @@ use Rattle.std.specs.List.{list_all}
 use Rattle.bdb_text_format.specs.declared.pairs.TextPair.{TextPair}
 use Rattle.bdb_text_format.specs.declared.sections.Section.{Section}
 use Rattle.bdb_mktree.specs.Lists.{bytes_in}
-use Rattle.bdb_count.specs.Need.{name_in}
+use Rattle.bdb_need.specs.Need.{name_in}
 
 -- whether bytes are few enough
 abbrev pub is_short : List ℕ → Bool

@@ -1,3 +1,14 @@
+pub mod LoneImages
+pub mod Lists
+pub mod FileSettings
+pub mod Trees
+pub mod WrittenTables
+pub mod NamedImages
+pub mod NamedLaws
+pub mod Layout
+pub mod Metas
+pub mod Standing
+pub mod WrittenMetadata
 pub mod Builds
 pub mod Lengths
 pub mod Loading

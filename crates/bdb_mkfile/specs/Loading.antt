@@ -2,7 +2,7 @@
 use Rattle.std.specs.Prelude.{◌≡◌, ◌⊎◌, ℕ, nat_lt, if◌then◌else◌, List, Option, Some, None}
 use Rattle.bdb_text_format.specs.declared.sections.Section.{Section}
 use Rattle.bdb_text_format.specs.Sections.{Reads}
-use Rattle.bdb_sections.specs.Fit.{AreFit}
+use Rattle.bdb_law_sections.specs.Fit.{AreFit}
 use Rattle.bdb_settle.specs.declared.load_error.LoadError.{LoadError}
 use Rattle.bdb_settle.specs.declared.load_error.LoadError.TheVariants.{TooLarge, Memory}
 use Rattle.bdb_settle.specs.LoadErrors.{load_error}

@@ -17,11 +17,11 @@ use Rattle.bdb_text_format.specs.Pairs.{listed}
 use Rattle.bdb_mktree.specs.Lists.{IsTreeList}
 use Rattle.bdb_mkhash.specs.Table.{IsTableList}
 use Rattle.bdb_mkqueue.specs.Lists.{IsQueueList}
-use Rattle.bdb_buckets.specs.Tables.{HasBuiltTable}
-use Rattle.bdb_need.specs.Need.{unlined_pairs}
-use Rattle.bdb_count.specs.Need.{list_pages, need_of}
-use Rattle.bdb_alone.specs.Trees.{IsTreeSettings}
-use Rattle.bdb_named.specs.Images.{HasBuiltTables, IsDatabaseOf, IsNamed}
+use Rattle.bdb_law_buckets.specs.Tables.{HasBuiltTable}
+use Rattle.bdb_need.specs.TreePages.{unlined_pairs}
+use Rattle.bdb_need.specs.Need.{list_pages, need_of}
+use Rattle.bdb_mkfile.specs.Trees.{IsTreeSettings}
+use Rattle.bdb_mkfile.specs.NamedImages.{HasBuiltTables, IsDatabaseOf, IsNamed}
 use Rattle.bdb_mkfile.specs.Builds.{in_name_order}
 use Rattle.bdb_mkfile.specs.Order.{AreApart}
 

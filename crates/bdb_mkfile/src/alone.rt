@@ -1,10 +1,13 @@
 ghost use Rattle.std.specs.Prelude.{◌≡◌, IfOk};
 ghost use Rattle.bdb_text_format.specs.Placed.{pairs_of};
-ghost use Rattle.bdb_alone.specs.Settled.{file_settings};
-ghost use Rattle.bdb_need.specs.Need.{unlined_pairs};
+ghost use Rattle.bdb_mkfile.specs.FileSettings.{file_settings};
+ghost use Rattle.bdb_need.specs.TreePages.{unlined_pairs};
 ghost use Rattle.bdb_mkfile.specs.Settled.{IsAloneImage, IsBuildable};
 
-use bdb_alone::{file_settings, queue_image, table_image, tree_image};
+use crate::metadata::file_settings;
+use crate::queue::queue_image;
+use crate::table::table_image;
+use crate::trees::tree_image;
 use bdb_format::{Kind, Settings};
 use bdb_io::Image;
 use bdb_text_format::{PairSlice, Section};

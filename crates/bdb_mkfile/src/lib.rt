@@ -1,12 +1,26 @@
-//! From the sections of a dump text to a sound image.
+//! From the sections of a dump text to a sound image: of one database without a name, or of several under names.
 #![tactic(auto)]
 
 mod alone;
+mod databases;
+mod image;
+pub mod laws;
 mod lengths;
 mod loading;
+mod master;
+mod metadata;
+mod named_metadata;
 mod order;
+mod queue;
+mod table;
+mod trees;
 
-pub use bdb_count::need;
+pub use bdb_need::need;
 pub use bdb_settle::{LoadError, settle};
+pub use image::named_image;
 pub use loading::load;
+pub use metadata::{file_settings, plain_settings, tree_meta};
 pub use order::in_name_order;
+pub use queue::queue_image;
+pub use table::{element_count, table_image};
+pub use trees::tree_image;

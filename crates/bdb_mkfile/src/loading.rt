@@ -1,16 +1,16 @@
 ghost use Rattle.std.specs.Prelude.{◌≡◌, ◌*◌, ◌≤◌, ◌^◌, nat_lt, None, IfErr, IfOk, OnOk};
-ghost use Rattle.bdb_named.specs.Images.{HasBuiltTables};
+ghost use Rattle.bdb_mkfile.specs.NamedImages.{HasBuiltTables};
 ghost use Rattle.bdb_mkfile.specs.Builds.{Builds};
 ghost use Rattle.bdb_mkfile.specs.Loading.{AreLoadable, IsLoadRefusal, loading_error};
 ghost use Rattle.bdb_mkfile.specs.Settled.{AreBuildable, IsImageOfSections};
 ghost use Rattle.bdb_settle.specs.LoadErrors.{page_size_in};
 
 use crate::alone::section_image;
+use crate::image::named_image;
 use crate::lengths::are_short;
 use crate::order::in_name_order;
-use bdb_count::filled_need;
 use bdb_io::Image;
-use bdb_named::named_image;
+use bdb_need::filled_need;
 use bdb_settle::{LoadError, filled, ordered};
 use bdb_text_format::Sections;
 use std::alloc::{AllocError, Global};

@@ -1,5 +1,6 @@
 -- The number of buckets, and keys that are dealt into them.
-use Rattle.std.proofs.Common.{◌≡◌, ℕ, zero, suc, ◌+◌, ◌-◌, ◌*◌, ◌<◌, ◌≤◌, Bool, true, false, cond, List, [], ◌∷◌, ◌++◌, get_or, set, drop, map, length, replicate, append_assoc, pow-suc, arith, refl, sym, ◌∙◌, ap, inl, inr}
+use Rattle.std.proofs.Common.{◌≡◌, ℕ, zero, suc, ◌+◌, ◌-◌, ◌*◌, ◌<◌, ◌≤◌, Bool, true, false, cond, List, [], ◌∷◌, ◌++◌, get_or, set, drop, map, length}
+use Rattle.std.proofs.Common.{replicate, append_assoc, pow-suc, arith, refl, sym, ◌∙◌, ap, inl, inr}
 use Rattle.std.specs.Prelude.{◌^◌, ◌/◌, ◌==◌, nat_le}
 use Rattle.std.specs.List.{find, range_with_len}
 use Rattle.std.specs.Option.{unwrap_or}
@@ -9,9 +10,9 @@ use Rattle.std.proofs.lemmas.List.Elements.{filter-append}
 use Rattle.std.proofs.lemmas.List.FromFn.{get_or-map-range_with_len, length-map-range_with_len}
 use Rattle.std.proofs.lemmas.Nat.{pow_pos}
 use Rattle.bdb_text_format.specs.declared.pairs.Pair.{Pair}
-use Rattle.bdb_leaves.specs.Units.{KeyedUnit, page_room}
+use Rattle.bdb_mkleaves.specs.Units.{KeyedUnit, page_room}
 use Rattle.bdb_mktree.specs.Lists.{IsRunAt}
-use Rattle.bdb_buckets.specs.Tables.{Keyed, bucket_among, dealt}
+use Rattle.bdb_law_buckets.specs.Tables.{Keyed, bucket_among, dealt}
 use Rattle.bdb_mkhash.specs.Buckets.{bits_for, buckets_of, keyed_of, table_units}
 
 -- How many buckets.

@@ -17,24 +17,24 @@ use Rattle.bdb_format.specs.Less.{less}
 use Rattle.bdb_format.specs.Page.{HashFields}
 use Rattle.bdb_format.proofs.ListLemmas.{all_of}
 use Rattle.bdb_format.proofs.MemberLemmas.{of_filter}
-use Rattle.bdb_grove.specs.Growing.{IsLater}
-use Rattle.bdb_grove.specs.Part.{IsPart, between}
-use Rattle.bdb_grove.proofs.ChainLemmas.{between_is, is_between}
+use Rattle.bdb_law_grove.specs.Growing.{IsLater}
+use Rattle.bdb_law_grove.specs.Part.{IsPart, between}
+use Rattle.bdb_law_grove.proofs.ChainLemmas.{between_is, is_between}
 use Rattle.bdb_text_format.specs.Pairs.{listed}
 use Rattle.bdb_text_format.specs.declared.pairs.Pair.{Pair}
 use Rattle.bdb_pack.specs.Built.{Built, file_so_far}
-use Rattle.bdb_leaves.specs.Leaves.{KeepsAll}
-use Rattle.bdb_leaves.specs.Units.{EntryUnit, KeyedUnit, TreeUnit, key_of as tree_key, listed_keyed}
-use Rattle.bdb_leaves.proofs.RunLemmas.{later_before}
+use Rattle.bdb_mkleaves.specs.Leaves.{KeepsAll}
+use Rattle.bdb_mkleaves.specs.Units.{EntryUnit, KeyedUnit, TreeUnit, key_of as tree_key, listed_keyed}
+use Rattle.bdb_mkleaves.proofs.RunLemmas.{later_before}
 use Rattle.bdb_mktree.specs.Lists.{HasBytes, keyed_units}
 use Rattle.bdb_mktree.specs.Units.{IsShortUnit as IsShortTreeUnit, Suits}
 use Rattle.bdb_mktree.proofs.ListLemmas.{units_listed}
 use Rattle.bdb_mktree.proofs.OrderLemmas.{FitUnits, keys_fit, units_fit}
-use Rattle.bdb_buckets.specs.Tables.{HasBuiltBuckets, Keyed, PlacedUnit, SuitsTable, TableStands, bucket_among, dealt, key_of, listed_unit, table_meta}
-use Rattle.bdb_buckets.specs.Tables.{unit_of, units_on}
-use Rattle.bdb_buckets.proofs.DealLemmas.{deal, dealt_back, insert_unit, units_by_key}
-use Rattle.bdb_buckets.proofs.TableLemmas.{among_low, tables_are_parts}
-use Rattle.bdb_buckets.proofs.UnsortedLemmas.{tables_are_built}
+use Rattle.bdb_law_buckets.specs.Tables.{HasBuiltBuckets, Keyed, PlacedUnit, SuitsTable, TableStands, bucket_among, dealt, key_of, listed_unit, table_meta}
+use Rattle.bdb_law_buckets.specs.Tables.{unit_of, units_on}
+use Rattle.bdb_law_buckets.proofs.DealLemmas.{deal, dealt_back, insert_unit, units_by_key}
+use Rattle.bdb_law_buckets.proofs.TableLemmas.{among_low, tables_are_parts}
+use Rattle.bdb_law_buckets.proofs.UnsortedLemmas.{tables_are_built}
 use Rattle.bdb_mkhash.specs.Buckets.{buckets_of, keyed_of, spread_bucket, table_bits, table_units}
 use Rattle.bdb_mkhash.specs.Costs.{keyed_own_pages, keyed_cost}
 use Rattle.bdb_mkhash.specs.Filling.{AreFilled, of_buckets}

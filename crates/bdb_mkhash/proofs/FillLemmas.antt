@@ -13,15 +13,15 @@ use Rattle.bdb_format.specs.File.{File}
 use Rattle.bdb_format.specs.Page.{Content}
 use Rattle.bdb_format.specs.Rows.{page_code}
 use Rattle.bdb_format.proofs.SizeLemmas.{size_bounds}
-use Rattle.bdb_grove.specs.Growing.{IsLater}
-use Rattle.bdb_grove.specs.Part.{between}
-use Rattle.bdb_grove.proofs.ChainLemmas.{between_is, is_between}
+use Rattle.bdb_law_grove.specs.Growing.{IsLater}
+use Rattle.bdb_law_grove.specs.Part.{between}
+use Rattle.bdb_law_grove.proofs.ChainLemmas.{between_is, is_between}
 use Rattle.bdb_pack.specs.Built.{AreWhole, Built, bytes_of, file_so_far, with_page}
 use Rattle.bdb_pack.proofs.OpenLemmas.{open_is}
-use Rattle.bdb_leaves.specs.Leaves.{KeepsAll}
-use Rattle.bdb_leaves.specs.Units.{page_room}
-use Rattle.bdb_leaves.proofs.RunLemmas.{later_before}
-use Rattle.bdb_buckets.specs.Tables.{Keyed, PlacedUnit, UnitStands, UnitsStand, contents_of, contents_on, unit_of}
+use Rattle.bdb_mkleaves.specs.Leaves.{KeepsAll}
+use Rattle.bdb_mkleaves.specs.Units.{page_room}
+use Rattle.bdb_mkleaves.proofs.RunLemmas.{later_before}
+use Rattle.bdb_law_buckets.specs.Tables.{Keyed, PlacedUnit, UnitStands, UnitsStand, contents_of, contents_on, unit_of}
 use Rattle.bdb_mkhash.specs.Costs.{keyed_own_pages, keyed_cost}
 use Rattle.bdb_mkhash.specs.Filling.{AreEmptyPages, ArePut, IsEmptyPage, IsFollowed, IsOpenPage, IsUnitPut, IsWholePage, no_unit}
 use Rattle.bdb_mkhash.specs.Units.{IsShortUnit, unit_seen, units_seen}

@@ -1,5 +1,6 @@
 -- The keys of a bucket, page by page.
-use Rattle.std.proofs.Common.{◌≡◌, ◌⊎◌, ℕ, ◌+◌, ◌-◌, ◌<◌, ◌≤◌, Bool, true, List, [], ◌∷◌, ◌++◌, map, length, get_or, take, take-add, drop, None, append_assoc, arith, refl, sym}
+use Rattle.std.proofs.Common.{◌≡◌, ◌⊎◌, ℕ, ◌+◌, ◌-◌, ◌<◌, ◌≤◌, Bool, true, List, [], ◌∷◌, ◌++◌, map, length, get_or, take, take-add, drop, None, append_assoc}
+use Rattle.std.proofs.Common.{arith, refl, sym}
 use Rattle.std.proofs.Common.{◌∙◌, ap, subst, inl, inr, length-append, length-drop, true≢false}
 use Rattle.std.specs.Prelude.{◌==◌, ◌&&◌, not}
 use Rattle.std.specs.List.{sum_by}
@@ -11,15 +12,15 @@ use Rattle.bdb_format.specs.File.{File, page_at}
 use Rattle.bdb_format.specs.Page.{Content, Hash, Item, Listed, NoType, Overflow, Page}
 use Rattle.bdb_format.specs.Reading.{abstract_page}
 use Rattle.bdb_format.specs.Rows.{page_code}
-use Rattle.bdb_grove.specs.Growing.{IsCounted, IsLater, IsSamePage}
-use Rattle.bdb_grove.specs.Part.{between}
-use Rattle.bdb_grove.proofs.ChainLemmas.{between_is, is_between}
+use Rattle.bdb_law_grove.specs.Growing.{IsCounted, IsLater, IsSamePage}
+use Rattle.bdb_law_grove.specs.Part.{between}
+use Rattle.bdb_law_grove.proofs.ChainLemmas.{between_is, is_between}
 use Rattle.bdb_pack.specs.Built.{Built, bytes_of, file_so_far}
-use Rattle.bdb_leaves.specs.Spread.{spread_on}
-use Rattle.bdb_leaves.specs.Units.{page_room}
-use Rattle.bdb_leaves.proofs.RunLemmas.{later_before}
-use Rattle.bdb_buckets.specs.Pages.{IsHashIn}
-use Rattle.bdb_buckets.specs.Tables.{BucketStands, Keyed, PlacedUnit, UnitsStand, contents_on, unit_of}
+use Rattle.bdb_mkleaves.specs.Spread.{spread_on}
+use Rattle.bdb_mkleaves.specs.Units.{page_room}
+use Rattle.bdb_mkleaves.proofs.RunLemmas.{later_before}
+use Rattle.bdb_law_buckets.specs.Pages.{IsHashIn}
+use Rattle.bdb_law_buckets.specs.Tables.{BucketStands, Keyed, PlacedUnit, UnitsStand, contents_on, unit_of}
 use Rattle.bdb_mkhash.specs.Costs.{keyed_own_pages, keyed_cost}
 use Rattle.bdb_mkhash.specs.Filling.{IsBucketFilled, IsBucketOpen, IsFollowed, IsPageFilled, closed_of, no_unit, of_bucket, room_on}
 use Rattle.bdb_mkhash.specs.Pages.{HoldsContents, HoldsContentsOn}
@@ -333,7 +334,8 @@ module _ (p : ℕ) (old now mid new : Built) (sorted : Bool) (units : List Keyed
         let added = filled.put.count in
         let sums : sum_by (keyed_own_pages old.size sorted) (take (done + m) units)
         ≡ sum_by (keyed_own_pages old.size sorted) (take done units) + sum_by (keyed_own_pages old.size sorted) (take m (drop done units)) =
-        ap (sum_by (keyed_own_pages old.size sorted)) take_both ∙ sum_by-append (keyed_own_pages old.size sorted) (take done units) (take m (drop done units)) in
+        ap (sum_by (keyed_own_pages old.size sorted)) take_both ∙ sum_by-append (keyed_own_pages old.size sorted) (take done units) (take m (drop done units))
+        in
         omega (arith, before, one, added, sums, own_same (take m (drop done units)), length-append was.closed (was.last ∷ []));
   }
     where

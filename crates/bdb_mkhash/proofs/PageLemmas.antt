@@ -28,11 +28,12 @@ use Rattle.bdb_pack.proofs.PlacedLemmas.{IsPlaced, is_below}
 use Rattle.bdb_pack.proofs.PlaceLemmas.{behind, byte_same, number_before, number_here, number_same}
 use Rattle.bdb_pack.proofs.PlacingLaws.{items_are_placed}
 use Rattle.bdb_pack.proofs.StandingLemmas.{end_same, hash_item_same, typed}
-use Rattle.bdb_leaves.proofs.EntryLemmas.{bytes_with}
-use Rattle.bdb_leaves.proofs.LeafLemmas.{HasLinks, linked_begun, linked_page, offset_linked, with_links}
-use Rattle.bdb_buckets.specs.Pages.{hash_item}
+use Rattle.bdb_mkleaves.proofs.EntryLemmas.{bytes_with}
+use Rattle.bdb_mkleaves.proofs.LeafLemmas.{HasLinks, linked_begun, linked_page, offset_linked, with_links}
+use Rattle.bdb_law_buckets.specs.Pages.{hash_item}
 use Rattle.bdb_mkhash.specs.Filling.{IsGrown}
-use Rattle.bdb_mkhash.specs.Pages.{CanTakeContent, HashPagesAreFormed, HashPagesStand, HoldsContents, HoldsContentsOn, content_cost, page_header, room_of, with_hash_page, with_next}
+use Rattle.bdb_mkhash.specs.Pages.{CanTakeContent, HashPagesAreFormed, HashPagesStand, HoldsContents, HoldsContentsOn, content_cost, page_header, room_of}
+use Rattle.bdb_mkhash.specs.Pages.{with_hash_page, with_next}
 use Rattle.bdb_pack.proofs.NewRowLemmas.{hash_least as some_bytes}
 
 -- The page by its bytes.

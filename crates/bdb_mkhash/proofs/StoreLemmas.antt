@@ -23,24 +23,24 @@ use Rattle.bdb_layout.specs.Blocks.{BlockRun, run_in}
 use Rattle.bdb_layout.proofs.WritingLemmas.{length-hash_chain, length-hash_inline, length-hash_tree}
 use Rattle.bdb_format.proofs.SpellingLemmas.{length-spelled}
 use Rattle.bdb_format.proofs.SizeLemmas.{size_bounds}
-use Rattle.bdb_grove.specs.Growing.{IsCounted, IsLater}
-use Rattle.bdb_grove.specs.Leaves.{ContentFits}
-use Rattle.bdb_grove.specs.Part.{between}
-use Rattle.bdb_grove.proofs.BranchLemmas.{no_branch}
-use Rattle.bdb_grove.proofs.ChainLemmas.{between_is, is_between}
+use Rattle.bdb_law_grove.specs.Growing.{IsCounted, IsLater}
+use Rattle.bdb_law_grove.specs.Leaves.{ContentFits}
+use Rattle.bdb_law_grove.specs.Part.{between}
+use Rattle.bdb_law_grove.proofs.BranchLemmas.{no_branch}
+use Rattle.bdb_law_grove.proofs.ChainLemmas.{between_is, is_between}
 use Rattle.bdb_pack.specs.Built.{Built, bytes_of, file_so_far}
 use Rattle.bdb_pack.specs.Items.{IsWritable, OnLeaf}
 use Rattle.bdb_pack.specs.Values.{HasChain}
 use Rattle.bdb_pack.proofs.OpenLemmas.{open_is}
-use Rattle.bdb_leaves.specs.Leaves.{KeepsAll, KeepsOthers}
-use Rattle.bdb_leaves.specs.Puts.{ValueStands}
-use Rattle.bdb_leaves.specs.Sets.{IsSetBuilt}
-use Rattle.bdb_leaves.proofs.FilledLemmas.{value_read}
-use Rattle.bdb_leaves.proofs.PutLemmas.{chain_item, inline_item}
-use Rattle.bdb_leaves.proofs.RunLemmas.{later_before}
-use Rattle.bdb_leaves.proofs.StandLemmas.{values_stand_on}
-use Rattle.bdb_buckets.specs.Tables.{ContentsStand, HasSum, Keyed, PlacedUnit}
-use Rattle.bdb_buckets.proofs.OverLemmas.{contents_follow}
+use Rattle.bdb_mkleaves.specs.Leaves.{KeepsAll, KeepsOthers}
+use Rattle.bdb_mkleaves.specs.Puts.{ValueStands}
+use Rattle.bdb_mkleaves.specs.Sets.{IsSetBuilt}
+use Rattle.bdb_mkleaves.proofs.FilledLemmas.{value_read}
+use Rattle.bdb_mkleaves.proofs.PutLemmas.{chain_item, inline_item}
+use Rattle.bdb_mkleaves.proofs.RunLemmas.{later_before}
+use Rattle.bdb_mkleaves.proofs.StandLemmas.{values_stand_on}
+use Rattle.bdb_law_buckets.specs.Tables.{ContentsStand, HasSum, Keyed, PlacedUnit}
+use Rattle.bdb_law_buckets.proofs.OverLemmas.{contents_follow}
 use Rattle.bdb_mkhash.specs.Costs.{cost_in, data_cost, data_form, first_value, hash_item_cost, pages_in, blocks_cost, stand_together, keyed_cost}
 use Rattle.bdb_mkhash.specs.Filling.{AreDataPut, DataStand, IsGrown, IsHalfPage, IsHashItem, IsOpenPage, IsUnitPut, IsValuePut, IsWholePage, room_on}
 use Rattle.bdb_mkhash.specs.Pages.{CanTakeContent, HoldsContents, HoldsContentsOn, content_cost, room_of}

@@ -10,18 +10,18 @@ use Rattle.bdb_format.specs.Contents.{data_of}
 use Rattle.bdb_format.specs.File.{File, header_in, page_at}
 use Rattle.bdb_format.specs.Leaves.{children_in}
 use Rattle.bdb_format.specs.Page.{Item, Listed, Tree}
-use Rattle.bdb_grove.specs.Growing.{IsCounted, IsLater}
-use Rattle.bdb_levels.specs.Nodes.{IsTower, Node}
+use Rattle.bdb_law_grove.specs.Growing.{IsCounted, IsLater}
+use Rattle.bdb_law_levels.specs.Nodes.{IsTower, Node}
 use Rattle.bdb_pack.specs.Built.{Built, file_so_far}
-use Rattle.bdb_leaves.specs.Laid.{AreLaid, Counts, IsNodeOf, IsTreeLaid, entries_on, inner_of, number_on}
-use Rattle.bdb_leaves.specs.Layout.{IsTreeOn, live_entry}
-use Rattle.bdb_leaves.specs.LeafEntries.{leaf_of}
-use Rattle.bdb_leaves.specs.Placed.{LeafUnits, Placed, PlacedEntry, PlacedPairs, PlacedTree, entries_of, unit_of}
-use Rattle.bdb_leaves.specs.Spread.{set_type, spread_units}
-use Rattle.bdb_leaves.specs.Units.{page_room}
-use Rattle.bdb_leaves.specs.declared.leaf_type.LeafType.{LeafType}
-use Rattle.bdb_leaves.specs.declared.leaf_type.LeafType.TheVariants.{Pairs, Records, SortedData}
-use Rattle.bdb_buckets.specs.Tables.{HasSum}
+use Rattle.bdb_mkleaves.specs.Laid.{AreLaid, Counts, IsNodeOf, IsTreeLaid, entries_on, inner_of, number_on}
+use Rattle.bdb_mkleaves.specs.Layout.{IsTreeOn, live_entry}
+use Rattle.bdb_mkleaves.specs.LeafEntries.{leaf_of}
+use Rattle.bdb_mkleaves.specs.Placed.{LeafUnits, Placed, PlacedEntry, PlacedPairs, PlacedTree, entries_of, unit_of}
+use Rattle.bdb_mkleaves.specs.Spread.{set_type, spread_units}
+use Rattle.bdb_mkleaves.specs.Units.{page_room}
+use Rattle.bdb_mkleaves.specs.declared.leaf_type.LeafType.{LeafType}
+use Rattle.bdb_mkleaves.specs.declared.leaf_type.LeafType.TheVariants.{Pairs, Records, SortedData}
+use Rattle.bdb_law_buckets.specs.Tables.{HasSum}
 use Rattle.bdb_mkhash.proofs.SpreadLemmas.{spread_all}
 
 -- How many entries leaves have.

@@ -8,12 +8,12 @@ use Rattle.std.proofs.lemmas.List.{length-map, map-append, take_more}
 use Rattle.std.proofs.lemmas.List.Sums.{sum_by_push}
 use Rattle.bdb_format.specs.File.{File}
 use Rattle.bdb_format.specs.Rows.{page_code}
-use Rattle.bdb_grove.specs.Growing.{IsLater}
-use Rattle.bdb_grove.specs.Part.{between}
-use Rattle.bdb_grove.proofs.ChainLemmas.{between_is, is_between}
+use Rattle.bdb_law_grove.specs.Growing.{IsLater}
+use Rattle.bdb_law_grove.specs.Part.{between}
+use Rattle.bdb_law_grove.proofs.ChainLemmas.{between_is, is_between}
 use Rattle.bdb_pack.specs.Built.{Built, bytes_of, file_so_far}
-use Rattle.bdb_leaves.proofs.RunLemmas.{later_before}
-use Rattle.bdb_buckets.specs.Tables.{BucketStands, Keyed, PlacedUnit, TableStands, unit_of}
+use Rattle.bdb_mkleaves.proofs.RunLemmas.{later_before}
+use Rattle.bdb_law_buckets.specs.Tables.{BucketStands, Keyed, PlacedUnit, TableStands, unit_of}
 use Rattle.bdb_mkhash.specs.Buckets.{spread_bucket}
 use Rattle.bdb_mkhash.specs.Costs.{keyed_own_pages}
 use Rattle.bdb_mkhash.specs.Filling.{AreEmptyPages, AreFilled, IsBucketFilled, of_bucket, of_buckets}

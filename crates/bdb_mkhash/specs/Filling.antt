@@ -9,17 +9,17 @@ use Rattle.bdb_format.specs.File.{File}
 use Rattle.bdb_format.specs.Contents.{data_of}
 use Rattle.bdb_format.specs.ContentRows.{is_set, is_wrong_set}
 use Rattle.bdb_format.specs.Rows.{page_code}
-use Rattle.bdb_grove.specs.Growing.{IsCounted, IsLater}
-use Rattle.bdb_grove.specs.Part.{between}
+use Rattle.bdb_law_grove.specs.Growing.{IsCounted, IsLater}
+use Rattle.bdb_law_grove.specs.Part.{between}
 use Rattle.bdb_pack.specs.Built.{Built, bytes_of, file_so_far}
 use Rattle.bdb_pack.specs.Items.{HasPlace, IsWritable, OnHash}
-use Rattle.bdb_leaves.specs.Leaves.{KeepsOthers}
-use Rattle.bdb_leaves.specs.Puts.{IsItemOf}
-use Rattle.bdb_leaves.specs.Spread.{spread_on}
-use Rattle.bdb_leaves.specs.Units.{page_room}
-use Rattle.bdb_buckets.specs.Pages.{hash_item}
-use Rattle.bdb_buckets.specs.Tables.{BucketStands, ContentsStand, HasSum, Keyed, PlacedUnit, TableStands, UnitStands, UnitsStand, contents_of, contents_on}
-use Rattle.bdb_buckets.specs.Tables.{unit_of}
+use Rattle.bdb_mkleaves.specs.Leaves.{KeepsOthers}
+use Rattle.bdb_mkleaves.specs.Puts.{IsItemOf}
+use Rattle.bdb_mkleaves.specs.Spread.{spread_on}
+use Rattle.bdb_mkleaves.specs.Units.{page_room}
+use Rattle.bdb_law_buckets.specs.Pages.{hash_item}
+use Rattle.bdb_law_buckets.specs.Tables.{BucketStands, ContentsStand, HasSum, Keyed, PlacedUnit, TableStands, UnitStands, UnitsStand, contents_of, contents_on}
+use Rattle.bdb_law_buckets.specs.Tables.{unit_of}
 use Rattle.bdb_mkhash.specs.Buckets.{spread_bucket}
 use Rattle.bdb_mkhash.specs.Costs.{data_cost, data_form, hash_item_cost, keyed_own_pages, pages_in, keyed_cost}
 use Rattle.bdb_mkhash.specs.Pages.{HoldsContentsOn, content_cost, room_of}

@@ -12,7 +12,7 @@ use Rattle.bdb_format.specs.Spelling.{hash_bytes}
 use Rattle.bdb_pack.specs.Built.{Built, bytes_of, with_page, with_zeros}
 use Rattle.bdb_pack.specs.Items.{HasPlace, IsWritable, OnHash}
 use Rattle.bdb_pack.specs.Placing.{IsBegun, begun_page, high_free_of}
-use Rattle.bdb_buckets.specs.Pages.{IsHashIn, hash_item}
+use Rattle.bdb_law_buckets.specs.Pages.{IsHashIn, hash_item}
 
 -- the bytes that an item takes of its page: two of the index, and its own
 abbrev pub content_cost : Order → Content → ℕ

@@ -7,13 +7,13 @@ use Rattle.bdb_format.specs.File.{File}
 use Rattle.bdb_format.specs.Lists.{ListKey}
 use Rattle.bdb_format.specs.Page.{HashFields}
 use Rattle.bdb_format.specs.Rows.{page_code}
-use Rattle.bdb_grove.specs.Growing.{IsCounted, IsLater}
-use Rattle.bdb_grove.specs.Part.{IsPart, between}
+use Rattle.bdb_law_grove.specs.Growing.{IsCounted, IsLater}
+use Rattle.bdb_law_grove.specs.Part.{IsPart, between}
 use Rattle.bdb_text_format.specs.declared.pairs.Pair.{Pair}
 use Rattle.bdb_pack.specs.Built.{Built, bytes_of, file_so_far}
-use Rattle.bdb_leaves.specs.Leaves.{KeepsAll}
+use Rattle.bdb_mkleaves.specs.Leaves.{KeepsAll}
 use Rattle.bdb_mktree.specs.Lists.{IsTreeList}
-use Rattle.bdb_buckets.specs.Tables.{HasBuiltBuckets, Keyed, PlacedUnit, TableStands, table_meta, unit_of}
+use Rattle.bdb_law_buckets.specs.Tables.{HasBuiltBuckets, Keyed, PlacedUnit, TableStands, table_meta, unit_of}
 use Rattle.bdb_mkhash.specs.Buckets.{buckets_of, spread_bucket, table_bits, table_size}
 
 -- a list in its order, with the rule that a btree of these settings has

@@ -2,8 +2,8 @@
 use Rattle.std.specs.Prelude.{◌<◌, List, length, map}
 use Rattle.std.specs.List.{All}
 use Rattle.bdb_places.specs.Places.{values_seen}
-use Rattle.bdb_leaves.specs.Runs.{IsShort}
-use Rattle.bdb_buckets.specs.Tables.{Keyed}
+use Rattle.bdb_mkleaves.specs.Runs.{IsShort}
+use Rattle.bdb_law_buckets.specs.Tables.{Keyed}
 use Rattle.bdb_mkhash.specs.declared.unit.Unit.{Unit as CodeUnit}
 
 -- a key with its data, without where its bytes lie

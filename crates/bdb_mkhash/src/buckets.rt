@@ -3,7 +3,7 @@ ghost use Rattle.std.specs.List.{All};
 ghost use Rattle.bdb_format.specs.HeadOf.{is_page_size};
 ghost use Rattle.bdb_places.specs.Places.{values_seen};
 ghost use Rattle.bdb_text_format.specs.Placed.{pairs_of};
-ghost use Rattle.bdb_buckets.specs.Tables.{Keyed, bucket_among};
+ghost use Rattle.bdb_law_buckets.specs.Tables.{Keyed, bucket_among};
 ghost use Rattle.bdb_mktree.specs.Lists.{HasBytes};
 ghost use Rattle.bdb_mkhash.specs.Buckets.{bits_for, buckets_of, table_cost, table_units};
 ghost use Rattle.bdb_mkhash.specs.Units.{units_seen};

@@ -2,7 +2,7 @@ ghost use Rattle.std.specs.Prelude.{◌≡◌, ◌≤◌, ◌+◌, ◌-◌, ◌+
 ghost use Rattle.bdb_format.specs.declared.kinds.Kind.TheVariants.{Hash as HashKind};
 ghost use Rattle.bdb_text_format.specs.Pairs.{listed};
 ghost use Rattle.bdb_text_format.specs.Placed.{pairs_of};
-ghost use Rattle.bdb_buckets.specs.Tables.{table_meta};
+ghost use Rattle.bdb_law_buckets.specs.Tables.{table_meta};
 ghost use Rattle.bdb_mkhash.specs.Buckets.{table_units};
 ghost use Rattle.bdb_mkhash.specs.Table.{IsTableBuilt, IsTableList};
 

@@ -2,7 +2,7 @@ ghost use Rattle.std.specs.Prelude.{◌≡◌, ◌+◌, ◌<◌, ◌≤◌, ◌%
 ghost use Rattle.std.specs.List.{All};
 ghost use Rattle.bdb_format.specs.HeadOf.{is_page_size};
 ghost use Rattle.bdb_places.specs.Places.{values_seen};
-ghost use Rattle.bdb_leaves.specs.Runs.{IsShort};
+ghost use Rattle.bdb_mkleaves.specs.Runs.{IsShort};
 ghost use Rattle.bdb_mkhash.specs.Costs.{data_cost, data_form, hash_item_cost, keyed_cost};
 ghost use Rattle.bdb_mkhash.specs.Filling.{AreDataPut, IsHalfPage, IsOpenPage, IsUnitPut, IsValuePut, IsWholePage, room_on};
 ghost use Rattle.bdb_mkhash.specs.Units.{IsShortUnit, unit_seen};
@@ -14,7 +14,7 @@ use crate::sets::spell_set;
 use crate::store::store;
 use crate::unit::{Unit, data_form};
 use bdb_layout::{DupBlocks, HashItem};
-use bdb_leaves::build_set;
+use bdb_mkleaves::build_set;
 use bdb_pack::Pages;
 use bdb_places::Values;
 use std::alloc::{AllocError, Global};

@@ -1,7 +1,7 @@
 ghost use Rattle.std.specs.Prelude.{◌≡◌, ◌+◌, ◌<◌, ◌≤◌, ◌^◌, [], IfOk, IsTrue, length, map};
 ghost use Rattle.std.specs.List.{All};
 ghost use Rattle.bdb_format.specs.HeadOf.{is_page_size};
-ghost use Rattle.bdb_leaves.specs.Leaves.{KeepsAll};
+ghost use Rattle.bdb_mkleaves.specs.Leaves.{KeepsAll};
 ghost use Rattle.bdb_mkhash.specs.Filling.{AreEmptyPages, AreFilled, IsBucketFilled, IsEmptyPage, IsFollowed, IsOpenPage, IsPageFilled};
 ghost use Rattle.bdb_mkhash.specs.Pages.{HoldsContentsOn};
 ghost use Rattle.bdb_mkhash.specs.Units.{IsShortUnit, units_seen};

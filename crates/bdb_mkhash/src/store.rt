@@ -1,7 +1,7 @@
 ghost use Rattle.std.specs.Prelude.{◌≡◌, ◌-◌, ◌*◌, ◌<◌, ◌≤◌, ◌^◌, IfOk, IsTrue, length};
 ghost use Rattle.bdb_format.specs.HeadOf.{is_page_size};
 ghost use Rattle.bdb_layout.specs.Seen.{HasOrder, hash_content_seen};
-ghost use Rattle.bdb_leaves.specs.Runs.{IsShort};
+ghost use Rattle.bdb_mkleaves.specs.Runs.{IsShort};
 ghost use Rattle.bdb_mkhash.specs.Filling.{IsHashItem};
 
 use crate::page::MAX_PAGES;

@@ -29,7 +29,8 @@ pub key_here : (pairs : List TextPair) (place number : ℕ) (pair : TextPair) �
     → number ≡ number_of (pair_at (unlined_pairs pairs) place).key
 key_here pairs place number pair at is = is ∙ ap (λ (pair : Pair). number_of pair.key) (pair_here pairs place pair at)
 
-pub value_here : (pairs : List TextPair) (place : ℕ) (pair : TextPair) → slice_get pairs place ≡ Some pair → pair.value ≡ (pair_at (unlined_pairs pairs) place).value
+pub value_here : (pairs : List TextPair) (place : ℕ) (pair : TextPair) → slice_get pairs place ≡ Some pair
+    → pair.value ≡ (pair_at (unlined_pairs pairs) place).value
 value_here pairs place pair at = ap (λ (pair : Pair). pair.value) (pair_here pairs place pair at)
 
 -- the last key

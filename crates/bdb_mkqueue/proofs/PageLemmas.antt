@@ -22,7 +22,7 @@ use Rattle.bdb_pack.proofs.AddedLemmas.{zeros_are}
 use Rattle.bdb_pack.proofs.CutLemmas.{suc-times}
 use Rattle.bdb_pack.proofs.HeaderLemmas.{header_read, length-header}
 use Rattle.bdb_mkqueue.specs.Layout.{queue_page, records_header, records_page, slot_bytes}
-use Rattle.bdb_join.proofs.HeadLemmas.{none_by}
+use Rattle.bdb_law_join.proofs.HeadLemmas.{none_by}
 
 -- Slots.
 

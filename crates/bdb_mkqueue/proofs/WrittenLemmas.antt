@@ -28,15 +28,15 @@ use Rattle.bdb_meta.proofs.CommonLemmas.{length-common}
 use Rattle.bdb_meta.proofs.FilledLemmas.{zeros-spelled}
 use Rattle.bdb_pack.specs.Built.{AreWhole, Built, bytes_of, joined_pages, with_page}
 use Rattle.bdb_pack.proofs.CutLemmas.{all_size, page_whole}
-use Rattle.bdb_join.specs.Queues.{IsSoundQueue}
-use Rattle.bdb_join.proofs.CommonLemmas.{ReadsAs, reads_common}
-use Rattle.bdb_join.proofs.HeadLemmas.{IsImage, first_of_none, head_accepted, image_head}
-use Rattle.bdb_join.proofs.QueueLemmas.{queues_are_sound}
-use Rattle.bdb_join.proofs.ReadLemmas.{page_read}
-use Rattle.bdb_join.proofs.StageLemmas.{form_none, head_none, tail_none}
+use Rattle.bdb_law_join.specs.Queues.{IsSoundQueue}
+use Rattle.bdb_law_join.proofs.CommonLemmas.{ReadsAs, reads_common}
+use Rattle.bdb_law_join.proofs.HeadLemmas.{IsImage, first_of_none, head_accepted, image_head}
+use Rattle.bdb_law_join.proofs.QueueLemmas.{queues_are_sound}
+use Rattle.bdb_law_join.proofs.ReadLemmas.{page_read}
+use Rattle.bdb_law_join.proofs.StageLemmas.{form_none, head_none, tail_none}
 use Rattle.bdb_mkqueue.specs.Building.{HasPages, SaysQueue}
 use Rattle.bdb_mkqueue.specs.Written.{IsWrittenQueue, WrittenQueuesAreSound}
-use Rattle.bdb_join.proofs.WrittenLemmas.{above_stay as later_page}
+use Rattle.bdb_law_join.proofs.WrittenLemmas.{above_stay as later_page}
 
 -- The page of metadata.
 

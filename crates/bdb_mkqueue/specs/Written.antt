@@ -13,7 +13,7 @@ use Rattle.bdb_format.specs.Verdict.{faults_of, verdict_of}
 use Rattle.bdb_text_format.specs.declared.pairs.Pair.{Pair}
 use Rattle.bdb_text_format.specs.Pairs.{listed}
 use Rattle.bdb_pack.specs.Built.{Built, joined_pages, with_page}
-use Rattle.bdb_join.specs.Written.{AreLegal}
+use Rattle.bdb_law_join.specs.Written.{AreLegal}
 use Rattle.bdb_mkqueue.specs.Building.{IsQueueBuilt}
 
 -- the image of pages after queue metadata is written over page 0

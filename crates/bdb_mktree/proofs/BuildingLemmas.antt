@@ -1,5 +1,6 @@
 -- Trees that are being built: the units that are read from their leaves, and one more.
-use Rattle.std.proofs.Common.{Bool, ◌≡◌, ℕ, ◌+◌, ◌<◌, ◌≤◌, true, false, List, [], ◌∷◌, ◌++◌, length, map, arith, refl, sym, ◌∙◌, ap, subst, inl, inr, length-append}
+use Rattle.std.proofs.Common.{Bool, ◌≡◌, ℕ, ◌+◌, ◌<◌, ◌≤◌, true, false, List, [], ◌∷◌, ◌++◌, length, map, arith, refl, sym, ◌∙◌, ap, subst, inl, inr}
+use Rattle.std.proofs.Common.{length-append}
 use Rattle.std.specs.Prelude.{◌⊎◌}
 use Rattle.std.specs.List.{All, flat_map}
 use Rattle.std.proofs.lemmas.List.{append_assoc, map-append}
@@ -11,28 +12,29 @@ use Rattle.bdb_format.specs.File.{File}
 use Rattle.bdb_format.specs.HeadOf.{is_page_size}
 use Rattle.bdb_format.proofs.MemberLemmas.{first_member}
 use Rattle.bdb_format.proofs.ListLemmas.{map_joined}
-use Rattle.bdb_grove.specs.Growing.{IsLater}
+use Rattle.bdb_law_grove.specs.Growing.{IsLater}
 use Rattle.bdb_pack.specs.Built.{Built, file_so_far}
-use Rattle.bdb_leaves.specs.Counted.{AreCounted, CountedNow}
-use Rattle.bdb_leaves.specs.Filled.{AreFilled, IsPushed, rest_of}
-use Rattle.bdb_leaves.specs.Laid.{AreLaid}
-use Rattle.bdb_leaves.specs.Leaves.{KeepsBefore, KeepsOthers, LeavesFrom, first_of, has_room}
-use Rattle.bdb_leaves.specs.Moved.{first_leaf, numbers_of}
-use Rattle.bdb_leaves.specs.Rooted.{placed_on}
-use Rattle.bdb_leaves.specs.Placed.{HoldsUnits, LeafUnits, Placed, PlacedEntry, PlacedPairs, PlacedTree, StandsPlaced, entries_of, has_wrong_root, pages_of, unit_of}
-use Rattle.bdb_leaves.specs.Sets.{IsKeyedPushed}
-use Rattle.bdb_leaves.specs.Units.{EntryUnit, TreeUnit, unit_cost, units_on}
-use Rattle.bdb_leaves.specs.declared.leaf_type.LeafType.{LeafType}
-use Rattle.bdb_leaves.specs.declared.leaves.Leaves.{Leaves}
-use Rattle.bdb_leaves.proofs.CountedLaws.{begun_leaves_are_counted, pushed_units_are_counted}
-use Rattle.bdb_leaves.proofs.FilledLemmas.{later_self}
-use Rattle.bdb_leaves.proofs.NumberedLemmas.{AreNumbered, are_numbered}
-use Rattle.bdb_leaves.proofs.GrownLemmas.{all_joined, laid_leaves}
-use Rattle.bdb_leaves.proofs.LaidLemmas.{hold_units}
-use Rattle.bdb_leaves.proofs.MovedLemmas.{any_order}
-use Rattle.bdb_leaves.proofs.NodesLemmas.{all_units}
-use Rattle.bdb_leaves.proofs.PlacedLaws.{units_are_read}
-use Rattle.bdb_leaves.proofs.RestLemmas.{is_one}
+use Rattle.bdb_mkleaves.specs.Counted.{AreCounted, CountedNow}
+use Rattle.bdb_mkleaves.specs.Filled.{AreFilled, IsPushed, rest_of}
+use Rattle.bdb_mkleaves.specs.Laid.{AreLaid}
+use Rattle.bdb_mkleaves.specs.Leaves.{KeepsBefore, KeepsOthers, LeavesFrom, first_of, has_room}
+use Rattle.bdb_mkleaves.specs.Moved.{first_leaf, numbers_of}
+use Rattle.bdb_mkleaves.specs.Rooted.{placed_on}
+use Rattle.bdb_mkleaves.specs.Placed.{HoldsUnits, LeafUnits, Placed, PlacedEntry, PlacedPairs, PlacedTree, StandsPlaced, entries_of, has_wrong_root, pages_of}
+use Rattle.bdb_mkleaves.specs.Placed.{unit_of}
+use Rattle.bdb_mkleaves.specs.Sets.{IsKeyedPushed}
+use Rattle.bdb_mkleaves.specs.Units.{EntryUnit, TreeUnit, unit_cost, units_on}
+use Rattle.bdb_mkleaves.specs.declared.leaf_type.LeafType.{LeafType}
+use Rattle.bdb_mkleaves.specs.declared.leaves.Leaves.{Leaves}
+use Rattle.bdb_mkleaves.proofs.CountedLaws.{begun_leaves_are_counted, pushed_units_are_counted}
+use Rattle.bdb_mkleaves.proofs.FilledLemmas.{later_self}
+use Rattle.bdb_mkleaves.proofs.NumberedLemmas.{AreNumbered, are_numbered}
+use Rattle.bdb_mkleaves.proofs.GrownLemmas.{all_joined, laid_leaves}
+use Rattle.bdb_mkleaves.proofs.LaidLemmas.{hold_units}
+use Rattle.bdb_mkleaves.proofs.MovedLemmas.{any_order}
+use Rattle.bdb_mkleaves.proofs.NodesLemmas.{all_units}
+use Rattle.bdb_mkleaves.proofs.PlacedLaws.{units_are_read}
+use Rattle.bdb_mkleaves.proofs.RestLemmas.{is_one}
 use Rattle.bdb_mktree.specs.Building.{Building, all_placed, units_of}
 use Rattle.bdb_mktree.specs.Units.{IsNext, IsTreeKind, KeysAscend, Suits, leaf_type_of}
 use Rattle.bdb_mktree.specs.declared.builder.TreeBuilder.{TreeBuilder}

@@ -16,32 +16,33 @@ use Rattle.bdb_format.specs.Flags.{btree_kind, counts_records, has_duplicates, i
 use Rattle.bdb_format.specs.ContentRows.{ascends}
 use Rattle.bdb_format.specs.Databases.{btree_settings, recno_settings, settings_of}
 use Rattle.bdb_format.proofs.ListLemmas.{map_joined}
-use Rattle.bdb_grove.specs.Growing.{IsCounted, IsLater}
-use Rattle.bdb_grove.specs.Part.{IsPart, between}
-use Rattle.bdb_grove.proofs.ChainLemmas.{is_between}
+use Rattle.bdb_law_grove.specs.Growing.{IsCounted, IsLater}
+use Rattle.bdb_law_grove.specs.Part.{IsPart, between}
+use Rattle.bdb_law_grove.proofs.ChainLemmas.{is_between}
 use Rattle.bdb_pack.specs.Built.{Built, file_so_far}
-use Rattle.bdb_leaves.specs.Filled.{AreFilled, rest_of}
-use Rattle.bdb_leaves.specs.Finished.{HasFirstRoot, HasLaidTree}
-use Rattle.bdb_leaves.specs.Laid.{Counts, Suits as SuitsTree, is_laid}
-use Rattle.bdb_leaves.specs.Layout.{HasTreeOn, HaveTreesOn, IsTreeOn, contents_below, placed_below}
-use Rattle.bdb_leaves.specs.Moved.{first_leaf, numbers_of}
-use Rattle.bdb_leaves.specs.Placed.{HasLength, IsAllowed, IsPlacedBySize, LeafUnits, Placed, PlacedEntry, PlacedPairs, PlacedTree, has_several, has_wrong_root, unit_of, units_in, values_in}
-use Rattle.bdb_leaves.specs.Rooted.{CountsLeaves}
-use Rattle.bdb_leaves.specs.Spread.{tree_size}
-use Rattle.bdb_leaves.specs.Units.{key_of, list_of_units}
-use Rattle.bdb_leaves.specs.declared.leaf_type.LeafType.{LeafType}
-use Rattle.bdb_leaves.specs.declared.leaf_type.LeafType.TheVariants.{Pairs, Records}
-use Rattle.bdb_leaves.specs.declared.leaves.Leaves.{Leaves}
-use Rattle.bdb_leaves.proofs.CountedLaws.{finished_trees_have_size}
-use Rattle.bdb_leaves.proofs.FinishedLaws.{finished_trees_keep_pages}
-use Rattle.bdb_leaves.proofs.GrownLaws.{first_roots_are_laid}
-use Rattle.bdb_leaves.proofs.GrownLemmas.{all_joined, contents_held}
-use Rattle.bdb_leaves.proofs.KeptLemmas.{finished_trees_are_formed, finished_trees_keep_older_pages}
-use Rattle.bdb_leaves.proofs.LaidPartLemmas.{laid_trees_are_parts}
-use Rattle.bdb_leaves.proofs.LayoutLemmas.{finished_trees_are_laid_out, finished_trees_keep_trees}
-use Rattle.bdb_leaves.proofs.LaterLemmas.{later_chain, later_fewer}
-use Rattle.bdb_leaves.proofs.NodesLemmas.{all_units}
-use Rattle.bdb_leaves.proofs.RestLemmas.{rest_is}
+use Rattle.bdb_mkleaves.specs.Filled.{AreFilled, rest_of}
+use Rattle.bdb_mkleaves.specs.Finished.{HasFirstRoot, HasLaidTree}
+use Rattle.bdb_mkleaves.specs.Laid.{Counts, Suits as SuitsTree, is_laid}
+use Rattle.bdb_mkleaves.specs.Layout.{HasTreeOn, HaveTreesOn, IsTreeOn, contents_below, placed_below}
+use Rattle.bdb_mkleaves.specs.Moved.{first_leaf, numbers_of}
+use Rattle.bdb_mkleaves.specs.Placed.{HasLength, IsAllowed, IsPlacedBySize, LeafUnits, Placed, PlacedEntry, PlacedPairs, PlacedTree, has_several}
+use Rattle.bdb_mkleaves.specs.Placed.{has_wrong_root, unit_of, units_in, values_in}
+use Rattle.bdb_mkleaves.specs.Rooted.{CountsLeaves}
+use Rattle.bdb_mkleaves.specs.Spread.{tree_size}
+use Rattle.bdb_mkleaves.specs.Units.{key_of, list_of_units}
+use Rattle.bdb_mkleaves.specs.declared.leaf_type.LeafType.{LeafType}
+use Rattle.bdb_mkleaves.specs.declared.leaf_type.LeafType.TheVariants.{Pairs, Records}
+use Rattle.bdb_mkleaves.specs.declared.leaves.Leaves.{Leaves}
+use Rattle.bdb_mkleaves.proofs.CountedLaws.{finished_trees_have_size}
+use Rattle.bdb_mkleaves.proofs.FinishedLaws.{finished_trees_keep_pages}
+use Rattle.bdb_mkleaves.proofs.GrownLaws.{first_roots_are_laid}
+use Rattle.bdb_mkleaves.proofs.GrownLemmas.{all_joined, contents_held}
+use Rattle.bdb_mkleaves.proofs.KeptLemmas.{finished_trees_are_formed, finished_trees_keep_older_pages}
+use Rattle.bdb_mkleaves.proofs.LaidPartLemmas.{laid_trees_are_parts}
+use Rattle.bdb_mkleaves.proofs.LayoutLemmas.{finished_trees_are_laid_out, finished_trees_keep_trees}
+use Rattle.bdb_mkleaves.proofs.LaterLemmas.{later_chain, later_fewer}
+use Rattle.bdb_mkleaves.proofs.NodesLemmas.{all_units}
+use Rattle.bdb_mkleaves.proofs.RestLemmas.{rest_is}
 use Rattle.bdb_mktree.specs.Building.{Building, IsTreeBuilt, all_placed, units_of}
 use Rattle.bdb_mktree.specs.Units.{Suits, is_counted, leaf_type_of}
 use Rattle.bdb_mktree.specs.declared.builder.TreeBuilder.{TreeBuilder}

@@ -1,5 +1,6 @@
 -- Lists and their units: the run of a key, the record that comes next, and the list that units give back.
-use Rattle.std.proofs.Common.{Bool, ◌≡◌, ℕ, suc, zero, ◌+◌, ◌-◌, ◌<◌, ◌≤◌, ◌^◌, true, false, cond, get_or, slice_get, None, Option, Some, option_map, List, [], ◌∷◌, ◌++◌, length, map, take, drop, replicate}
+use Rattle.std.proofs.Common.{Bool, ◌≡◌, ℕ, suc, zero, ◌+◌, ◌-◌, ◌<◌, ◌≤◌, ◌^◌, true, false, cond, get_or, slice_get, None, Option, Some, option_map, List, []}
+use Rattle.std.proofs.Common.{◌∷◌, ◌++◌, length, map, take, drop, replicate}
 use Rattle.std.proofs.Common.{arith, refl, sym, ◌∙◌, ap, subst, inl, inr, true≢false}
 use Rattle.std.specs.List.{All, enumerate_from, flat_map, prefix_len}
 use Rattle.std.specs.Str.{bytes_eq}
@@ -16,7 +17,7 @@ use Rattle.bdb_text_format.specs.declared.pairs.Pair.{Pair}
 use Rattle.bdb_text_format.specs.declared.pairs.TextPair.{TextPair}
 use Rattle.bdb_text_format.specs.declared.pairs.Key.{Key}
 use Rattle.bdb_text_format.specs.declared.pairs.Key.TheVariants.{Bytes, Number}
-use Rattle.bdb_leaves.specs.Units.{EntryUnit, KeyedUnit, TreeUnit, list_of_units, listed_keyed, listed_record}
+use Rattle.bdb_mkleaves.specs.Units.{EntryUnit, KeyedUnit, TreeUnit, list_of_units, listed_keyed, listed_record}
 use Rattle.bdb_mktree.specs.Lists.{AreKeysOf, HasBytes, IsRecordAt, IsRunAt, bytes_in, has_key, has_key_at, keyed_units, missing, record_units, units_in}
 use Rattle.bdb_mktree.specs.Lists.{onto_units}
 use Rattle.bdb_mktree.specs.Units.{IsTreeKind}
@@ -229,7 +230,8 @@ is_run pairs start n key pair all at is long =
           run_is_unit key (drop start (unlined_pairs pairs)) n (All-drop (λ (pair : Pair). HasBytes pair.key) start (unlined_pairs pairs) all)
           (ap (λ ps. prefix_len (has_key key) (keys_of ps)) from ∙ sym long) some
           ∙ (ap (λ vs. KeyedUnit key vs ∷ keyed_units (drop n (drop start (unlined_pairs pairs)))) data_are
-          ∙ ap (λ ps. KeyedUnit key (map (λ (pair : TextPair). pair.value) (take n (drop start pairs))) ∷ keyed_units ps) (drop-drop n start (unlined_pairs pairs)));
+          ∙ ap (λ ps. KeyedUnit key (map (λ (pair : TextPair). pair.value) (take n (drop start pairs))) ∷ keyed_units ps)
+          (drop-drop n start (unlined_pairs pairs)));
     }
   where
     from : drop start (unlined_pairs pairs) ≡ unlined_pairs (drop start pairs)

@@ -14,8 +14,8 @@ use Rattle.bdb_format.specs.Less.{less}
 use Rattle.bdb_format.proofs.LessLemmas.{eq_same, less_self}
 use Rattle.bdb_text_format.specs.declared.pairs.Pair.{Pair}
 use Rattle.bdb_text_format.specs.Pairs.{AscendFrom, number_of}
-use Rattle.bdb_leaves.specs.Runs.{IsShort}
-use Rattle.bdb_leaves.specs.Units.{EntryUnit, KeyedUnit, TreeUnit, key_of}
+use Rattle.bdb_mkleaves.specs.Runs.{IsShort}
+use Rattle.bdb_mkleaves.specs.Units.{EntryUnit, KeyedUnit, TreeUnit, key_of}
 use Rattle.bdb_mktree.specs.Lists.{AreKeysOf, HasBytes, IsKeyFor, IsTreeList, IsPairFor, bytes_in, is_further, is_in_order, keyed_units, may_follow, missing}
 use Rattle.bdb_mktree.specs.Lists.{record_units, units_in, onto_units}
 use Rattle.bdb_mktree.specs.Units.{IsShortUnit, IsTreeKind, KeysAscend, Suits}
@@ -38,7 +38,8 @@ alone settings key value btree short_key short = record {
   values = [];
   others = [];
   is = refl;
-  suit = All-cons (Suits settings) (KeyedUnit key (value ∷ [])) [] (record { kind = btree; some = omega arith; single = λ none. refl; in_order = λ sorted. refl })
+  suit = All-cons (Suits settings) (KeyedUnit key (value ∷ [])) [] (record
+      { kind = btree; some = omega arith; single = λ none. refl; in_order = λ sorted. refl })
       (All-nil (Suits settings));
   short = All-cons IsShortUnit (KeyedUnit key (value ∷ [])) [] (short_key, All-cons IsShort value [] short (All-nil IsShort)) (All-nil IsShortUnit);
   keys = refl;

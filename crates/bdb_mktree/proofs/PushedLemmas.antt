@@ -10,9 +10,9 @@ use Rattle.bdb_format.specs.ContentRows.{ascends, ascends_from}
 use Rattle.bdb_format.specs.Less.{less}
 use Rattle.bdb_format.specs.Lists.{ListKey}
 use Rattle.bdb_pack.specs.Built.{Built}
-use Rattle.bdb_leaves.specs.Leaves.{KeepsBefore}
-use Rattle.bdb_leaves.specs.Moved.{first_leaf}
-use Rattle.bdb_leaves.specs.Units.{TreeUnit, key_of, list_of_units}
+use Rattle.bdb_mkleaves.specs.Leaves.{KeepsBefore}
+use Rattle.bdb_mkleaves.specs.Moved.{first_leaf}
+use Rattle.bdb_mkleaves.specs.Units.{TreeUnit, key_of, list_of_units}
 use Rattle.bdb_mktree.specs.Building.{ArePushed, Building, CanBePushed, IsTreeBuilt, units_of}
 use Rattle.bdb_mktree.specs.Units.{IsNext, IsShortUnit, KeysAscend, Suits}
 use Rattle.bdb_mktree.specs.declared.builder.TreeBuilder.{TreeBuilder}

@@ -9,17 +9,17 @@ use Rattle.bdb_format.specs.File.{File}
 use Rattle.bdb_format.specs.HeadOf.{is_page_size}
 use Rattle.bdb_format.specs.Lists.{ListKey}
 use Rattle.bdb_format.specs.Databases.{settings_of}
-use Rattle.bdb_grove.specs.Growing.{IsCounted, IsLater}
-use Rattle.bdb_grove.specs.Part.{IsPart, between}
+use Rattle.bdb_law_grove.specs.Growing.{IsCounted, IsLater}
+use Rattle.bdb_law_grove.specs.Part.{IsPart, between}
 use Rattle.bdb_pack.specs.Built.{Built, bytes_of, file_so_far}
-use Rattle.bdb_leaves.specs.Counted.{AreCounted}
-use Rattle.bdb_leaves.specs.Filled.{rest_of}
-use Rattle.bdb_leaves.specs.Layout.{HaveTreesOn, IsTreeOn}
-use Rattle.bdb_leaves.specs.Leaves.{KeepsBefore}
-use Rattle.bdb_leaves.specs.Moved.{first_leaf, numbers_of}
-use Rattle.bdb_leaves.specs.Placed.{Placed, has_wrong_root, unit_of}
-use Rattle.bdb_leaves.specs.Spread.{tree_size}
-use Rattle.bdb_leaves.specs.Units.{TreeUnit, units_on}
+use Rattle.bdb_mkleaves.specs.Counted.{AreCounted}
+use Rattle.bdb_mkleaves.specs.Filled.{rest_of}
+use Rattle.bdb_mkleaves.specs.Layout.{HaveTreesOn, IsTreeOn}
+use Rattle.bdb_mkleaves.specs.Leaves.{KeepsBefore}
+use Rattle.bdb_mkleaves.specs.Moved.{first_leaf, numbers_of}
+use Rattle.bdb_mkleaves.specs.Placed.{Placed, has_wrong_root, unit_of}
+use Rattle.bdb_mkleaves.specs.Spread.{tree_size}
+use Rattle.bdb_mkleaves.specs.Units.{TreeUnit, units_on}
 use Rattle.bdb_mktree.specs.Units.{IsShortUnit, IsTreeKind, KeysAscend, Suits, is_counted, leaf_type_of}
 use Rattle.bdb_mktree.specs.declared.builder.TreeBuilder.{TreeBuilder}
 

@@ -6,10 +6,10 @@ use Rattle.bdb_format.specs.declared.kinds.Kind.{Kind}
 use Rattle.bdb_format.specs.declared.kinds.Kind.TheVariants.{Btree, Recno, Hash, Queue}
 use Rattle.bdb_format.specs.declared.settings.Settings.{Settings}
 use Rattle.bdb_format.specs.ContentRows.{ascends}
-use Rattle.bdb_leaves.specs.Runs.{IsShort}
-use Rattle.bdb_leaves.specs.Units.{TreeUnit, KeyedUnit, EntryUnit, key_of}
-use Rattle.bdb_leaves.specs.declared.leaf_type.LeafType.{LeafType}
-use Rattle.bdb_leaves.specs.declared.leaf_type.LeafType.TheVariants.{Pairs, Records}
+use Rattle.bdb_mkleaves.specs.Runs.{IsShort}
+use Rattle.bdb_mkleaves.specs.Units.{TreeUnit, KeyedUnit, EntryUnit, key_of}
+use Rattle.bdb_mkleaves.specs.declared.leaf_type.LeafType.{LeafType}
+use Rattle.bdb_mkleaves.specs.declared.leaf_type.LeafType.TheVariants.{Pairs, Records}
 use Rattle.bdb_mktree.specs.declared.unit.Unit.{Unit as CodeUnit}
 use Rattle.bdb_mktree.specs.declared.unit.Unit.TheVariants.{Keyed, Entry}
 

@@ -1,13 +1,13 @@
 ghost use Rattle.std.specs.Prelude.{◌≡◌, ◌≤◌, ◌∷◌, ◌++◌, [], IfOk, length};
-ghost use Rattle.bdb_leaves.specs.Leaves.{KeepsBefore};
-ghost use Rattle.bdb_leaves.specs.Moved.{first_leaf};
-ghost use Rattle.bdb_leaves.specs.Units.{list_of_units};
+ghost use Rattle.bdb_mkleaves.specs.Leaves.{KeepsBefore};
+ghost use Rattle.bdb_mkleaves.specs.Moved.{first_leaf};
+ghost use Rattle.bdb_mkleaves.specs.Units.{list_of_units};
 ghost use Rattle.bdb_mktree.specs.Building.{Building, IsTreeBuilt, units_of};
 ghost use Rattle.bdb_mktree.specs.Units.{IsNext, IsShortUnit, IsTreeKind, Suits, is_counted, leaf_type_of, unit_seen};
 
 use crate::Unit;
 use bdb_format::{Kind, Settings};
-use bdb_leaves::{LeafType, Leaves};
+use bdb_mkleaves::{LeafType, Leaves};
 use bdb_pack::Pages;
 use std::alloc::{AllocError, Global};
 

@@ -34,7 +34,9 @@ too_large_line limit = codes "input longer than " ++ (decimal limit ++ line (cod
 
 abbrev pub fault_line : Fault → List ℕ
 fault_line fault =
-    codes "fault: stage " ++ (decimal fault.stage ++ (codes " page " ++ (decimal fault.page ++ (codes " code " ++ (decimal fault.code ++ (codes " " ++ line (fault_name fault.stage fault.code)))))))
+    codes "fault: stage "
+    ++ (decimal fault.stage
+    ++ (codes " page " ++ (decimal fault.page ++ (codes " code " ++ (decimal fault.code ++ (codes " " ++ line (fault_name fault.stage fault.code)))))))
 
 abbrev pub unsupported_line : Unsupported → ℕ → List ℕ
 unsupported_line name page = codes "unsupported: " ++ (unsupported_name name ++ (codes ", page " ++ line (decimal page)))

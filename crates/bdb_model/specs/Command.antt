@@ -150,7 +150,8 @@ key_request (Some name) (Some key) prints = Some (Get name key prints)
 -- `get` asks its operand, printed or, where that is asked for, spelled by digits
 abbrev pub get_request : Arguments → Option Request
 get_request all =
-    key_request (asked_name (value_given name_option all.given)) (operand_spelled (not (is_given hex_option all.given)) all.operands) (is_given print_option all.given)
+    key_request (asked_name (value_given name_option all.given)) (operand_spelled (not (is_given hex_option all.given)) all.operands)
+    (is_given print_option all.given)
 
 -- `dump` asks one database by its name, or all
 abbrev pub text_request : Option (Option (List ℕ)) → Bool → Option Request

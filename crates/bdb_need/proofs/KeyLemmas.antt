@@ -11,13 +11,13 @@ use Rattle.bdb_format.specs.HeadOf.{is_page_size}
 use Rattle.bdb_format.proofs.SizeLemmas.{size_bounds}
 use Rattle.bdb_text_format.specs.declared.pairs.Pair.{Pair}
 use Rattle.bdb_text_format.specs.declared.pairs.TextPair.{TextPair}
-use Rattle.bdb_leaves.specs.Spread.{own_pages, pages_over, tree_size}
-use Rattle.bdb_leaves.specs.Units.{EntryUnit, KeyedUnit, TreeUnit, page_room, set_cost, value_cost}
-use Rattle.bdb_leaves.specs.declared.leaf_type.LeafType.TheVariants.{Pairs}
-use Rattle.bdb_leaves.proofs.PushLemmas.{cost_few}
+use Rattle.bdb_mkleaves.specs.Spread.{own_pages, pages_over, tree_size}
+use Rattle.bdb_mkleaves.specs.Units.{EntryUnit, KeyedUnit, TreeUnit, page_room, set_cost, value_cost}
+use Rattle.bdb_mkleaves.specs.declared.leaf_type.LeafType.TheVariants.{Pairs}
+use Rattle.bdb_mkleaves.proofs.PushLemmas.{cost_few}
 use Rattle.bdb_mktree.specs.Lists.{IsRunAt, bytes_in, keyed_units, onto_units}
 use Rattle.bdb_mktree.specs.Units.{IsShortUnit}
-use Rattle.bdb_need.specs.Need.{unlined_pairs, unlined}
+use Rattle.bdb_need.specs.TreePages.{unlined_pairs, unlined}
 use Rattle.bdb_need.proofs.TreeLemmas.{KeyedTo, keyed_begun, keyed_end}
 
 -- How many pairs a run has.

@@ -7,3 +7,8 @@ pub mod OpenLemmas
 pub mod RecordLemmas
 pub mod SectionLemmas
 pub mod TreeLemmas
+pub mod NeedLemmas
+pub mod QueueLemmas
+pub mod TableLemmas
+pub mod UnitLemmas
+pub mod FilledLemmas

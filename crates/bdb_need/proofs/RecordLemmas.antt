@@ -1,5 +1,6 @@
 -- The units of a recno: what is counted of those that were passed.
-use Rattle.std.proofs.Common.{◌≡◌, ℕ, zero, suc, ◌+◌, ◌-◌, ◌*◌, ◌<◌, ◌≤◌, ◌^◌, Bool, false, List, [], ◌∷◌, length, map, replicate, get_or, slice_get, Some, drop, arith, refl, sym, ◌∙◌, ap, subst}
+use Rattle.std.proofs.Common.{◌≡◌, ℕ, zero, suc, ◌+◌, ◌-◌, ◌*◌, ◌<◌, ◌≤◌, ◌^◌, Bool, false, List, [], ◌∷◌, length, map, replicate, get_or, slice_get, Some}
+use Rattle.std.proofs.Common.{drop, arith, refl, sym, ◌∙◌, ap, subst}
 use Rattle.std.specs.Prelude.{◌/◌}
 use Rattle.std.specs.List.{sum_by}
 use Rattle.std.proofs.Math.ListN.{drop_of_length-le}
@@ -12,14 +13,14 @@ use Rattle.bdb_format.specs.declared.settings.Settings.{Settings}
 use Rattle.bdb_text_format.specs.declared.pairs.Pair.{Pair}
 use Rattle.bdb_text_format.specs.declared.pairs.TextPair.{TextPair}
 use Rattle.bdb_text_format.specs.Pairs.{AscendFrom, number_of}
-use Rattle.bdb_leaves.specs.Spread.{own_pages, pages_over, tree_size}
-use Rattle.bdb_leaves.specs.Units.{EntryUnit, TreeUnit, chain_pages, unit_cost, value_cost}
-use Rattle.bdb_leaves.specs.declared.leaf_type.LeafType.TheVariants.{Records}
+use Rattle.bdb_mkleaves.specs.Spread.{own_pages, pages_over, tree_size}
+use Rattle.bdb_mkleaves.specs.Units.{EntryUnit, TreeUnit, chain_pages, unit_cost, value_cost}
+use Rattle.bdb_mkleaves.specs.declared.leaf_type.LeafType.TheVariants.{Records}
 use Rattle.bdb_mktree.specs.Lists.{missing, record_units}
 use Rattle.bdb_settle.specs.Loaded.{filled_pair, filled_pairs}
 use Rattle.bdb_need.specs.declared.open_page.OpenPage.{OpenPage}
 use Rattle.bdb_need.specs.Counting.{ArePut, values_in}
-use Rattle.bdb_need.specs.Need.{unlined_pairs, unlined}
+use Rattle.bdb_need.specs.TreePages.{unlined_pairs, unlined}
 use Rattle.bdb_need.proofs.TreeLemmas.{CountedTo, counted_end, counted_next}
 
 -- A missing record.

@@ -10,7 +10,7 @@ use Rattle.bdb_format.specs.declared.settings.Settings.{Settings}
 use Rattle.bdb_text_format.specs.declared.pairs.Pair.{Pair}
 use Rattle.bdb_text_format.specs.declared.pairs.TextPair.{TextPair}
 use Rattle.bdb_text_format.specs.Pairs.{AscendFrom}
-use Rattle.bdb_leaves.specs.Runs.{IsShort}
+use Rattle.bdb_mkleaves.specs.Runs.{IsShort}
 use Rattle.bdb_mktree.specs.Lists.{AreKeysOf, HasBytes, IsTreeList, IsPairFor, keyed_units, units_in}
 use Rattle.bdb_mktree.specs.Units.{IsShortUnit, IsTreeKind}
 use Rattle.bdb_text_format.specs.Written.{holds_records}
@@ -18,7 +18,7 @@ use Rattle.bdb_settle.specs.Loaded.{filled_pair, filled_pairs, filled_value, has
 use Rattle.bdb_settle.proofs.FillingLemmas.{as_they_are, value_as_is}
 use Rattle.bdb_mktree.proofs.OrderLemmas.{keys_fit, units_fit}
 use Rattle.bdb_need.specs.Counting.{values_in}
-use Rattle.bdb_need.specs.Need.{unlined_pairs, unlined}
+use Rattle.bdb_need.specs.TreePages.{unlined_pairs, unlined}
 
 pub short_units : (settings : Settings) (pairs : List TextPair) → settings.kind ≡ Btree → IsTreeList settings (unlined_pairs pairs)
     → All IsShortUnit (keyed_units (unlined_pairs pairs))
@@ -51,7 +51,8 @@ pub keyed_as_is : (settings : Settings) (pairs : List TextPair) → settings.kin
 keyed_as_is settings pairs btree =
     as_they_are settings pairs (ap (λ k. settings.fixed && holds_records k) btree ∙ and-false settings.fixed)
 
-value_before : (settings : Settings) (value : List ℕ) → length value ≡ settings.re_len → (b : Bool) → has_length settings ≡ b → filled_value settings value ≡ value
+value_before : (settings : Settings) (value : List ℕ) → length value ≡ settings.re_len → (b : Bool) → has_length settings ≡ b
+    → filled_value settings value ≡ value
 value_before settings value long false is = value_as_is settings value is
 value_before settings value long true is =
     let none : settings.re_len - length value ≡ 0 = omega (arith, long) in

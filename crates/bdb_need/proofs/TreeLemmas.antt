@@ -1,18 +1,19 @@
 -- Trees whose units are counted one after the other.
-use Rattle.std.proofs.Common.{◌≡◌, ℕ, suc, ◌+◌, ◌-◌, ◌<◌, ◌≤◌, false, List, [], ◌∷◌, ◌++◌, length, map, replicate, get_or, drop, arith, refl, sym, ◌∙◌, ap, subst, inl, inr}
+use Rattle.std.proofs.Common.{◌≡◌, ℕ, suc, ◌+◌, ◌-◌, ◌<◌, ◌≤◌, false, List, [], ◌∷◌, ◌++◌, length, map, replicate, get_or, drop, arith, refl, sym, ◌∙◌, ap}
+use Rattle.std.proofs.Common.{subst, inl, inr}
 use Rattle.std.specs.List.{All}
 use Rattle.std.proofs.Math.ListN.{drop_of_length-le}
 use Rattle.std.proofs.lemmas.Bool.{cases_lt}
 use Rattle.std.proofs.lemmas.List.{append-nil, append_assoc, drop_more, length-map, map-append}
 use Rattle.std.proofs.lemmas.List.Elements.{All-nil, All-push}
-use Rattle.bdb_levels.specs.declared.inner_type.InnerType.{InnerType}
-use Rattle.bdb_levels.specs.declared.inner_type.InnerType.TheVariants.{Keyed}
-use Rattle.bdb_leaves.specs.Inner.{first_cost}
-use Rattle.bdb_leaves.specs.Laid.{inner_of}
-use Rattle.bdb_leaves.specs.Spread.{inner_cost, key_item_cost, leaf_key, leaves_and_levels, pages_over, spread_units, unit_key}
-use Rattle.bdb_leaves.specs.Units.{EntryUnit, TreeUnit, page_room, unit_cost}
-use Rattle.bdb_leaves.specs.declared.leaf_type.LeafType.{LeafType}
-use Rattle.bdb_leaves.specs.declared.leaf_type.LeafType.TheVariants.{Records}
+use Rattle.bdb_law_levels.specs.declared.inner_type.InnerType.{InnerType}
+use Rattle.bdb_law_levels.specs.declared.inner_type.InnerType.TheVariants.{Keyed}
+use Rattle.bdb_mkleaves.specs.Inner.{first_cost}
+use Rattle.bdb_mkleaves.specs.Laid.{inner_of}
+use Rattle.bdb_mkleaves.specs.Spread.{inner_cost, key_item_cost, leaf_key, leaves_and_levels, pages_over, spread_units, unit_key}
+use Rattle.bdb_mkleaves.specs.Units.{EntryUnit, TreeUnit, page_room, unit_cost}
+use Rattle.bdb_mkleaves.specs.declared.leaf_type.LeafType.{LeafType}
+use Rattle.bdb_mkleaves.specs.declared.leaf_type.LeafType.TheVariants.{Records}
 use Rattle.bdb_need.specs.declared.open_page.OpenPage.{OpenPage}
 use Rattle.bdb_need.specs.Counting.{ArePut, data_units, pages_on}
 use Rattle.bdb_need.proofs.BehindLemmas.{behind, behind-map, behind_new, behind_open, length-spread, self, spread_from}

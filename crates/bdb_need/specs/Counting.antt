@@ -1,8 +1,8 @@
 -- Pages that are counted while things are put on them. Source: docs/FORMAT.md, "Built trees".
 use Rattle.std.specs.Prelude.{◌≡◌, ℕ, ◌+◌, ◌-◌, ◌/◌, ◌≤◌, nat_le, if◌then◌else◌, false, List, [], ◌++◌, length, map}
 use Rattle.bdb_format.specs.Numbers.{pad4}
-use Rattle.bdb_leaves.specs.Spread.{spread_on}
-use Rattle.bdb_leaves.specs.Units.{EntryUnit, TreeUnit, page_room}
+use Rattle.bdb_mkleaves.specs.Spread.{spread_on}
+use Rattle.bdb_mkleaves.specs.Units.{EntryUnit, TreeUnit, page_room}
 use Rattle.bdb_text_format.specs.declared.pairs.TextPair.{TextPair}
 use Rattle.bdb_need.specs.declared.open_page.OpenPage.{OpenPage}
 

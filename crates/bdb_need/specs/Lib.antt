@@ -1,2 +1,4 @@
 pub mod Counting
+pub mod TreePages
+pub mod Counts
 pub mod Need

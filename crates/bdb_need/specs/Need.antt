@@ -1,12 +1,94 @@
--- How many pages the tree of a list has. Source: docs/FORMAT.md, "Built trees".
-use Rattle.std.specs.Prelude.{ℕ, List}
+-- How many pages loading needs, for every list of sections. Source: docs/FORMAT.md, "Built trees", "Built tables", "Built queues" and
+-- "Pages of a loaded file".
+use Rattle.std.specs.Prelude.{◌≡◌, ℕ, ◌+◌, ◌-◌, ◌≤◌, if◌then◌else◌, IsTrue, false, List, [], ◌∷◌, map, replicate, Option, Some, None, is_some}
+use Rattle.std.specs.List.{All, sum_by}
+use Rattle.bdb_format.specs.declared.kinds.Kind.{Kind}
+use Rattle.bdb_format.specs.declared.kinds.Kind.TheVariants.{Btree, Recno, Hash, Queue}
+use Rattle.bdb_format.specs.declared.kinds.Order.TheVariants.{Little}
 use Rattle.bdb_format.specs.declared.settings.Settings.{Settings}
+use Rattle.bdb_format.specs.HeadOf.{is_page_size}
+use Rattle.bdb_format.specs.Numbers.{pad4}
+use Rattle.bdb_format.specs.Rows.{records_per_page}
 use Rattle.bdb_text_format.specs.declared.pairs.Pair.{Pair}
-use Rattle.bdb_leaves.specs.Spread.{tree_size}
-use Rattle.bdb_mktree.specs.Lists.{units_in}
-use Rattle.bdb_mktree.specs.Units.{leaf_type_of}
-pub use Rattle.bdb_text_format.specs.Pairs.{unlined_pairs, unlined}
+use Rattle.bdb_text_format.specs.declared.pairs.Key.TheVariants.{Bytes}
+use Rattle.bdb_text_format.specs.declared.pairs.TextPair.{TextPair}
+use Rattle.bdb_text_format.specs.declared.sections.Section.{Section}
+use Rattle.bdb_text_format.specs.Pairs.{AscendFrom}
+use Rattle.bdb_mkleaves.specs.Runs.{IsShort}
+use Rattle.bdb_mktree.specs.Lists.{IsTreeList}
+use Rattle.bdb_mkhash.specs.Buckets.{table_size, table_units}
+use Rattle.bdb_mkhash.specs.Table.{IsTableList}
+use Rattle.bdb_mkqueue.specs.Layout.{queue_size}
+use Rattle.bdb_need.specs.TreePages.{unlined_pairs, tree_pages}
+use Rattle.bdb_settle.specs.Loaded.{loaded}
 
--- the pages of the tree of a list
-abbrev pub tree_pages : Settings → List Pair → ℕ
-tree_pages settings list = tree_size (leaf_type_of settings.kind) settings.page_size settings.sorted (units_in settings.kind list)
+-- the pages of the database of a list, its metadata not counted
+abbrev pub list_pages : Kind → Settings → List Pair → ℕ
+list_pages Btree settings list = tree_pages settings list
+list_pages Recno settings list = tree_pages settings list
+list_pages Hash settings list = table_size settings.page_size settings.sorted (table_units list)
+list_pages Queue settings list = queue_size (records_per_page settings.page_size settings.re_len) list
+
+-- a section's settings with the page size of the file, which is that of the first section
+abbrev pub sized : ℕ → Section → Settings
+sized size section = record section.settings { page_size = size }
+
+-- the pages of a section: one with its metadata, and those of its database
+abbrev pub section_pages : ℕ → Section → ℕ
+section_pages size section = 1 + list_pages section.settings.kind (sized size section) (unlined_pairs section.pairs)
+
+-- The master is a btree without duplicates: its keys are the names, in byte order, each with four bytes of data.
+
+abbrev pub master_settings : ℕ → Settings
+master_settings size = record {
+  kind = Btree;
+  page_size = size;
+  order = Little;
+  duplicates = false;
+  sorted = false;
+  recnum = false;
+  renumber = false;
+  fixed = false;
+  re_len = 0;
+  re_pad = 32;
+  minkey = 2;
+  ffactor = 0;
+}
+
+abbrev pub name_in : Option (List ℕ) → List ℕ
+name_in None = []
+name_in (Some name) = name
+
+abbrev pub name_pair : Section → TextPair
+name_pair section = record { key = Bytes (name_in section.name); value = replicate 4 0; line = 0 }
+
+abbrev pub master_pages : ℕ → List Section → ℕ
+master_pages size sections = tree_pages (master_settings size) (loaded (master_settings size) (map name_pair sections))
+
+-- all pages: with names there are those of the master before, with its metadata
+abbrev pub need_of : List Section → ℕ
+need_of [] = 0
+need_of (first ∷ rest) =
+    let size : ℕ = first.settings.page_size in
+    (if is_some first.name then 1 + master_pages size (first ∷ rest) else 0) + sum_by (section_pages size) (first ∷ rest)
+
+-- What is asked of sections: their lists are those of their kinds, in order.
+
+abbrev pub IsListOf : Kind → Settings → List Pair → Type 0
+IsListOf Btree settings list = IsTreeList settings list
+IsListOf Recno settings list = IsTreeList settings list
+IsListOf Hash settings list = IsTableList settings list
+IsListOf Queue settings list = (pad4 (settings.re_len + 1) ≤ settings.page_size - 28) × AscendFrom 1 list
+
+-- a section with its list, whose name fits its field
+pub record IsSettled (size : ℕ) (section : Section) : Type 0 where
+  pub list : IsListOf section.settings.kind (sized size section) (unlined_pairs section.pairs)
+  pub name : IsShort (name_in section.name)
+
+-- sections with their lists, of which there is one at least
+pub record AreSettled (sections : List Section) : Type 0 where
+  pub first : Section
+  pub rest : List Section
+  pub are : sections ≡ first ∷ rest
+  pub legal : IsTrue (is_page_size first.settings.page_size)
+  pub each : All (IsSettled first.settings.page_size) sections

@@ -2,10 +2,10 @@ ghost use Rattle.std.specs.Prelude.{◌≡◌, ◌+◌, ◌≤◌, ◌*◌, ◌^
 ghost use Rattle.std.specs.List.{All, sum_by};
 ghost use Rattle.bdb_format.specs.HeadOf.{is_page_size};
 ghost use Rattle.bdb_places.specs.Places.{values_seen};
-ghost use Rattle.bdb_leaves.specs.Runs.{IsShort, more_cost};
-ghost use Rattle.bdb_leaves.specs.Spread.{leaves_and_levels, set_type};
-ghost use Rattle.bdb_leaves.specs.Units.{chain_pages};
-ghost use Rattle.bdb_leaves.specs.declared.leaf_type.LeafType.TheVariants.{Records, SortedData};
+ghost use Rattle.bdb_mkleaves.specs.Runs.{IsShort, more_cost};
+ghost use Rattle.bdb_mkleaves.specs.Spread.{leaves_and_levels, set_type};
+ghost use Rattle.bdb_mkleaves.specs.Units.{chain_pages};
+ghost use Rattle.bdb_mkleaves.specs.declared.leaf_type.LeafType.TheVariants.{Records, SortedData};
 ghost use Rattle.bdb_need.specs.Counting.{data_units};
 
 use crate::costs::{chain_pages, key_item_cost, page_room, value_cost};

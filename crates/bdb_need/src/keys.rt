@@ -3,10 +3,10 @@ ghost use Rattle.std.specs.List.{All};
 ghost use Rattle.bdb_format.specs.HeadOf.{is_page_size};
 ghost use Rattle.bdb_places.specs.Places.{values_seen};
 ghost use Rattle.bdb_text_format.specs.Placed.{pairs_of};
-ghost use Rattle.bdb_leaves.specs.Runs.{IsShort};
-ghost use Rattle.bdb_leaves.specs.Spread.{own_pages, tree_size};
-ghost use Rattle.bdb_leaves.specs.Units.{KeyedUnit, has_own_tree, page_room, unit_cost};
-ghost use Rattle.bdb_leaves.specs.declared.leaf_type.LeafType.TheVariants.{Pairs};
+ghost use Rattle.bdb_mkleaves.specs.Runs.{IsShort};
+ghost use Rattle.bdb_mkleaves.specs.Spread.{own_pages, tree_size};
+ghost use Rattle.bdb_mkleaves.specs.Units.{KeyedUnit, has_own_tree, page_room, unit_cost};
+ghost use Rattle.bdb_mkleaves.specs.declared.leaf_type.LeafType.TheVariants.{Pairs};
 ghost use Rattle.bdb_mktree.specs.Lists.{HasBytes, keyed_units};
 ghost use Rattle.bdb_mktree.specs.Units.{IsShortUnit};
 

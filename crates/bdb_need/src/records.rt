@@ -1,14 +1,14 @@
 ghost use Rattle.std.specs.Prelude.{◌≡◌, ◌<◌, ◌^◌, Bool, IsTrue};
 ghost use Rattle.std.specs.List.{All};
 ghost use Rattle.bdb_format.specs.HeadOf.{is_page_size};
-ghost use Rattle.bdb_leaves.specs.Runs.{IsShort};
-ghost use Rattle.bdb_leaves.specs.Spread.{tree_size};
-ghost use Rattle.bdb_leaves.specs.declared.leaf_type.LeafType.TheVariants.{Records};
+ghost use Rattle.bdb_mkleaves.specs.Runs.{IsShort};
+ghost use Rattle.bdb_mkleaves.specs.Spread.{tree_size};
+ghost use Rattle.bdb_mkleaves.specs.declared.leaf_type.LeafType.TheVariants.{Records};
 ghost use Rattle.bdb_text_format.specs.Pairs.{AscendFrom, number_of};
 ghost use Rattle.bdb_text_format.specs.Placed.{key_seen, slice_seen};
 ghost use Rattle.bdb_mktree.specs.Lists.{record_units};
 ghost use Rattle.bdb_need.specs.Counting.{values_in};
-ghost use Rattle.bdb_need.specs.Need.{unlined_pairs};
+ghost use Rattle.bdb_need.specs.TreePages.{unlined_pairs};
 ghost use Rattle.bdb_settle.specs.Loaded.{filled_pairs};
 
 use crate::costs::{length_chain, length_cost, page_room};
@@ -36,7 +36,8 @@ pub(crate) fn record_pages(size: usize, settings: &Settings, pairs: PairSlice<'_
     requires legal { IsTrue (is_page_size size) }
     requires ascend { AscendFrom 1 (unlined_pairs (filled_pairs settings.now (slice_seen pairs))) }
     requires short { All IsShort (values_in (filled_pairs settings.now (slice_seen pairs))) }
-    ensures pages { (sorted : Bool) → result ≡ tree_size Records size sorted (record_units 1 (unlined_pairs (filled_pairs settings.now (slice_seen pairs.entry)))) }
+    ensures pages { (sorted : Bool) → result ≡ tree_size Records size sorted
+        (record_units 1 (unlined_pairs (filled_pairs settings.now (slice_seen pairs.entry)))) }
     ensures few { result < 2 ^ 100 }
 {
     let mut open = OpenPage::new(page_room(size));

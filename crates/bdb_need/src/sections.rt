@@ -1,46 +1,79 @@
-ghost use Rattle.std.specs.Prelude.{◌≡◌, ◌≤◌, ◌<◌, ◌^◌, IfOk, IsTrue};
+ghost use Rattle.std.specs.Prelude.{◌≡◌, ◌+◌, ◌<◌, ◌^◌, IfOk, IsTrue, map};
+ghost use Rattle.std.specs.List.{All, sum_by};
 ghost use Rattle.bdb_format.specs.HeadOf.{is_page_size};
-ghost use Rattle.bdb_leaves.specs.Spread.{tree_size};
-ghost use Rattle.bdb_mktree.specs.Lists.{IsTreeList, units_in};
-ghost use Rattle.bdb_mktree.specs.Units.{IsTreeKind, leaf_type_of};
-ghost use Rattle.bdb_need.specs.Need.{unlined_pairs, tree_pages};
-ghost use Rattle.bdb_settle.specs.Loaded.{filled_pairs};
+ghost use Rattle.bdb_need.specs.Need.{AreSettled, IsListOf, IsSettled, list_pages, need_of, section_pages, sized};
+ghost use Rattle.bdb_need.specs.TreePages.{unlined_pairs};
+ghost use Rattle.bdb_settle.specs.Loaded.{filled_pairs, filled_section};
 
-use crate::keys::keyed_pages;
-use crate::records::record_pages;
+use crate::master::master_pages;
+use crate::queue::queue_pages;
+use crate::table::table_pages;
+use crate::trees::filled_tree_pages;
 use bdb_format::{Kind, Settings};
-use bdb_text_format::TextPairs;
+use bdb_text_format::{Section, Sections, TextPairs};
 use std::alloc::{AllocError, Global};
 
-/// How many pages the tree of a list has once its records are filled up, its root and the chains and trees of its data among them. No
-/// record is filled up for that.
-pub fn filled_tree_pages(
-    alloc: Global,
-    settings: &Settings,
-    list: &TextPairs,
-) -> Result<u128, AllocError>
-    requires kind { IsTreeKind settings.now.kind }
+// The pages of the database of a list once its records are filled up, its metadata not counted.
+fn list_pages(alloc: Global, settings: &Settings, list: &TextPairs) -> Result<u128, AllocError>
     requires legal { IsTrue (is_page_size settings.now.page_size) }
-    requires list { IsTreeList settings.now (unlined_pairs (filled_pairs settings.now list.now)) }
-    ensures pages { IfOk result (λ pages. pages ≡ tree_pages settings.now (unlined_pairs (filled_pairs settings.now list.now))) }
-    ensures few { IfOk result (λ pages. pages < 2 ^ 100) }
+    requires list { IsListOf settings.now.kind settings.now (unlined_pairs (filled_pairs settings.now list.now)) }
+    ensures pages { IfOk result (λ pages. pages ≡ list_pages settings.now.kind settings.now (unlined_pairs (filled_pairs settings.now list.now))) }
+    ensures few { IfOk result (λ pages. pages < 2 ^ 101) }
 {
-    let size = settings.page_size as usize;
     match settings.kind {
-        Kind::Btree => keyed_pages(alloc, size, settings.sorted, list.as_slice()),
-        Kind::Recno => Ok(record_pages(size, settings, list.as_slice())),
-        Kind::Hash | Kind::Queue => unreachable!(),
+        Kind::Btree | Kind::Recno => filled_tree_pages(alloc, settings, list),
+        Kind::Hash => table_pages(alloc, settings, list),
+        Kind::Queue => Ok(u128::from(queue_pages(settings, list))),
     }
 }
 
-/// How many pages the tree of a list has, its root and the chains and trees of its data among them.
-pub fn tree_pages(alloc: Global, settings: &Settings, list: &TextPairs) -> Result<u128, AllocError>
-    requires kind { IsTreeKind settings.now.kind }
-    requires legal { IsTrue (is_page_size settings.now.page_size) }
-    requires list { IsTreeList settings.now (unlined_pairs list.now) }
-    ensures pages { IfOk result (λ pages. pages ≡ tree_size (leaf_type_of settings.now.kind) settings.now.page_size settings.now.sorted
-        (units_in settings.now.kind (unlined_pairs list.now))) }
-    ensures few { IfOk result (λ pages. pages < 2 ^ 100) }
+// The settings of a section, with the page size of the file.
+fn sized(size: u32, section: &Section) -> Settings
+    ensures { result ≡ sized size section.now }
 {
-    filled_tree_pages(alloc, settings, list)
+    let mut settings = section.settings;
+    settings.page_size = size;
+    settings
+}
+
+// The pages of sections once their records are filled up, each with its metadata.
+fn sections_pages(alloc: Global, size: u32, sections: &[Section]) -> Result<u128, AllocError>
+    requires legal { IsTrue (is_page_size size) }
+    requires each { All (λ section. IsSettled size (filled_section section)) sections.now }
+    ensures { IfOk result (λ pages. pages ≡ sum_by (λ section. section_pages size (filled_section section)) sections.now) }
+{
+    let mut pages: u128 = 0;
+    for section in sections {
+        let more = list_pages(alloc, &sized(size, section), &section.pairs)?;
+        pages = pages.checked_add(1 + more).ok_or(AllocError)?;
+    }
+    Ok(pages)
+}
+
+/// How many pages loading needs: those of the file that is made of the sections once their records are filled up. The page size is that
+/// of the first section; where that has a name, each has one, and there is a master. No record is filled up for that.
+pub fn filled_need(alloc: Global, sections: &Sections) -> Result<u128, AllocError>
+    requires { AreSettled (map filled_section sections.now) }
+    ensures { IfOk result (λ pages. pages ≡ need_of (map filled_section sections.now)) }
+{
+    let Some(first) = sections.get(0) else {
+        unreachable!()
+    };
+    let size = first.settings.page_size;
+    let own = sections_pages(alloc, size, sections.as_slice())?;
+    if first.name.is_none() {
+        return Ok(own);
+    }
+    let master = master_pages(alloc, size, sections.as_slice())?;
+    let pages = own.checked_add(1 + master).ok_or(AllocError)?;
+    Ok(pages)
+}
+
+/// How many pages loading needs: those of the file that is made of the sections. The page size is that of the first section; where
+/// that has a name, each has one, and there is a master.
+pub fn need(alloc: Global, sections: &Sections) -> Result<u128, AllocError>
+    requires { AreSettled sections.now }
+    ensures { IfOk result (λ pages. pages ≡ need_of sections.now) }
+{
+    filled_need(alloc, sections)
 }

@@ -18,11 +18,11 @@ use Rattle.bdb_text_format.specs.declared.pairs.TextPair.{TextPair}
 use Rattle.bdb_text_format.specs.declared.sections.Section.{Section}
 use Rattle.bdb_text_format.specs.Pairs.{listed, listed_key}
 use Rattle.bdb_settle.specs.Loaded.{loaded, loaded_section, unnumbered}
-use Rattle.bdb_need.specs.Need.{unlined_pairs}
+use Rattle.bdb_need.specs.TreePages.{unlined_pairs}
 use Rattle.bdb_text.specs.WrittenLaw.{pair_in}
-use Rattle.bdb_kept.specs.Kept.{AreListOf, HasNoErrors, IsSound, LoadsAlike, settings_in}
-use Rattle.bdb_kept.proofs.AlikeLemmas.{keeps_lists, loads_without_errors}
-use Rattle.bdb_kept.proofs.NameLemmas.{queues_stand_alone}
+use Rattle.bdb_law_kept.specs.Kept.{AreListOf, HasNoErrors, IsSound, LoadsAlike, settings_in}
+use Rattle.bdb_law_kept.proofs.AlikeLemmas.{keeps_lists, loads_without_errors}
+use Rattle.bdb_law_kept.proofs.NameLemmas.{queues_stand_alone}
 use Rattle.bdb_onto.specs.declared.base.Base.{Base}
 use Rattle.bdb_onto.specs.Bases.{IsBase, base_of, base_section, text_pair}
 use Rattle.bdb_onto.specs.Onto.{in_base}

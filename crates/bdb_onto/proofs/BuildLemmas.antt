@@ -11,8 +11,8 @@ use Rattle.bdb_text_format.specs.declared.sections.Section.{Section}
 use Rattle.bdb_text_format.specs.Pairs.{listed}
 use Rattle.bdb_text_format.specs.Written.{header_lines}
 use Rattle.bdb_settle.specs.Loaded.{loaded, loaded_section}
-use Rattle.bdb_count.specs.Need.{need_of}
-use Rattle.bdb_count.proofs.NeedLemmas.{listed_again}
+use Rattle.bdb_need.specs.Need.{need_of}
+use Rattle.bdb_need.proofs.NeedLemmas.{listed_again}
 use Rattle.bdb_mkfile.specs.Builds.{Builds, IsLoadedAs, image_size, in_name_order}
 use Rattle.bdb_mkfile.proofs.ApartLemmas.{order_all, order_map}
 use Rattle.bdb_onto.specs.declared.base.Base.{Base}

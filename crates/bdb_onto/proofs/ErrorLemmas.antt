@@ -21,7 +21,7 @@ use Rattle.bdb_settle.specs.declared.load_error.LoadError.{LoadError}
 use Rattle.bdb_settle.specs.declared.load_error.LoadError.TheVariants.{RecordTooLong, QueueAmongNames}
 use Rattle.bdb_settle.specs.LoadErrors.{is_among_names, is_too_wide, load_error, pair_errors, section_errors, sooner, where_so}
 use Rattle.bdb_mkfile.proofs.ApartLemmas.{alone_unnamed}
-use Rattle.bdb_kept.specs.Kept.{HasNoErrors}
+use Rattle.bdb_law_kept.specs.Kept.{HasNoErrors}
 use Rattle.bdb_onto.specs.declared.base.Base.{Base}
 use Rattle.bdb_onto.specs.Bases.{IsBase}
 use Rattle.bdb_onto.specs.Laws.{AreLoadableOnto, JoinedLoadWithoutErrors}

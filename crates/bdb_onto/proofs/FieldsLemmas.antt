@@ -30,13 +30,13 @@ use Rattle.bdb_graph.proofs.FormedLemmas.{accepted_paged}
 use Rattle.bdb_graph.proofs.HeldLemmas.{table_formed}
 use Rattle.bdb_graph.proofs.ReadLemmas.{IsMetaPage, flags_fit, page_of_meta}
 use Rattle.bdb_text_format.specs.Written.{holds_records}
-use Rattle.bdb_sections.specs.Fit.{AreFitSettings, IsFitPair, IsFitSection}
-use Rattle.bdb_sections.proofs.PairLemmas.{fit_longer}
+use Rattle.bdb_law_sections.specs.Fit.{AreFitSettings, IsFitPair, IsFitSection}
+use Rattle.bdb_law_sections.proofs.PairLemmas.{fit_longer}
 use Rattle.bdb_text.specs.WrittenLaw.{AreBytes, IsPairOf}
-use Rattle.bdb_kept.specs.Kept.{IsSound, settings_in}
-use Rattle.bdb_kept.proofs.BytesLemmas.{FileHoldsBytes, file_holds, page_all}
-use Rattle.bdb_kept.proofs.SoundLemmas.{forest_of, has_fields}
-use Rattle.bdb_kept.proofs.WrittenLemmas.{NumbersFit, btree_pairs, hash_pairs, numbers_fit, queue_pairs, recno_pairs, sorted_set}
+use Rattle.bdb_law_kept.specs.Kept.{IsSound, settings_in}
+use Rattle.bdb_law_kept.proofs.BytesLemmas.{FileHoldsBytes, file_holds, page_all}
+use Rattle.bdb_law_kept.proofs.SoundLemmas.{forest_of, has_fields}
+use Rattle.bdb_law_kept.proofs.WrittenLemmas.{NumbersFit, btree_pairs, hash_pairs, numbers_fit, queue_pairs, recno_pairs, sorted_set}
 use Rattle.bdb_onto.specs.declared.base.Base.{Base}
 use Rattle.bdb_onto.specs.Bases.{IsBase, base_section, text_pair}
 

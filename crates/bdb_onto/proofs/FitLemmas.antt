@@ -19,11 +19,11 @@ use Rattle.bdb_format.proofs.MemberLemmas.{first_member, in_map, later_member, n
 use Rattle.bdb_text_format.specs.declared.sections.Section.{Section}
 use Rattle.bdb_text_format.specs.Reasons.{is_first}
 use Rattle.bdb_text_format.specs.Written.{holds_records}
-use Rattle.bdb_sections.specs.Fit.{AreFitSettings, AreNamedBehind, IsFitPair, IsFitSection}
-use Rattle.bdb_sections.proofs.PairLemmas.{fit_longer}
+use Rattle.bdb_law_sections.specs.Fit.{AreFitSettings, AreNamedBehind, IsFitPair, IsFitSection}
+use Rattle.bdb_law_sections.proofs.PairLemmas.{fit_longer}
 use Rattle.bdb_text.specs.WrittenLaw.{AreNamedApart, CanStandTogether}
-use Rattle.bdb_kept.proofs.LaterLemmas.{AllLater, later_one}
-use Rattle.bdb_kept.proofs.NameLemmas.{all_together}
+use Rattle.bdb_law_kept.proofs.LaterLemmas.{AllLater, later_one}
+use Rattle.bdb_law_kept.proofs.NameLemmas.{all_together}
 use Rattle.bdb_onto.specs.declared.base.Base.{Base}
 use Rattle.bdb_onto.specs.Bases.{IsBase, base_section}
 use Rattle.bdb_onto.specs.Laws.{AreLoadableOnto, JoinedAreLoadable}

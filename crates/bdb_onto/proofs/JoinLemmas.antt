@@ -9,7 +9,7 @@ use Rattle.bdb_text_format.specs.declared.pairs.Pair.{Pair}
 use Rattle.bdb_text_format.specs.declared.pairs.TextPair.{TextPair}
 use Rattle.bdb_text_format.specs.declared.sections.Section.{Section}
 use Rattle.bdb_settle.specs.Loaded.{loaded_pair, loaded, loaded_section, unnumbered, with_loaded}
-use Rattle.bdb_need.specs.Need.{unlined_pairs}
+use Rattle.bdb_need.specs.TreePages.{unlined_pairs}
 use Rattle.bdb_onto.specs.declared.base.Base.{Base}
 use Rattle.bdb_onto.specs.Bases.{IsBase}
 use Rattle.bdb_onto.specs.Onto.{in_base, is_left, is_partner, joined, joined_section, loaded_from, loaded_onto, pairs_from, partner_of, result_of}

@@ -1,5 +1,6 @@
 -- Sections take their partners out of places, and what is left there is no section's partner.
-use Rattle.std.proofs.Common.{◌≡◌, ℕ, zero, suc, ◌<◌, Bool, true, false, cond, not, List, [], ◌∷◌, ◌++◌, length, map, set, get_or, Option, Some, None, refl, sym, ◌∙◌, ap, subst}
+use Rattle.std.proofs.Common.{◌≡◌, ℕ, zero, suc, ◌<◌, Bool, true, false, cond, not, List, [], ◌∷◌, ◌++◌, length, map, set, get_or, Option, Some, None, refl}
+use Rattle.std.proofs.Common.{sym, ◌∙◌, ap, subst}
 use Rattle.std.proofs.Common.{arith, inl, inr, append-nil, append_assoc, true≢false}
 use Rattle.std.specs.Prelude.{◌||◌, option_to_list, slice_get}
 use Rattle.std.specs.List.{All, Contains, filter, find, flat_map, list_any}
@@ -13,8 +14,8 @@ use Rattle.bdb_format.proofs.LessLemmas.{eq_same, eq_self}
 use Rattle.bdb_format.proofs.ListLemmas.{member_of}
 use Rattle.bdb_format.proofs.MemberLemmas.{first_member, later_member, member_cases, no_member, none_pass, none_passes}
 use Rattle.bdb_text_format.specs.declared.sections.Section.{Section}
-use Rattle.bdb_sections.specs.Fit.{AreNamedBehind}
-use Rattle.bdb_kept.proofs.LaterLemmas.{AllLater}
+use Rattle.bdb_law_sections.specs.Fit.{AreNamedBehind}
+use Rattle.bdb_law_kept.proofs.LaterLemmas.{AllLater}
 use Rattle.bdb_onto.specs.declared.base.Base.{Base}
 use Rattle.bdb_onto.specs.declared.joining.Placed.{Placed}
 use Rattle.bdb_onto.specs.Bases.{IsBase}
@@ -98,7 +99,8 @@ gone before section database partner =
     or_one true = refl
     or_one false = refl
 
-all_still : (before : List Section) (section : Section) (all : List Section) → ((database : Section) → Contains all database → is_partner section database ≡ false)
+all_still : (before : List Section) (section : Section) (all : List Section)
+    → ((database : Section) → Contains all database → is_partner section database ≡ false)
     → map (still (before ++ (section ∷ []))) all ≡ map (still before) all
 all_still before section [] other = refl
 all_still before section (x ∷ xs) other =
@@ -219,7 +221,8 @@ left_over sections [] = refl
 left_over sections (x ∷ xs) = by_test (is_left sections x) (left_over sections xs)
   where
     by_test : (b : Bool) → flat_map option_to_list (map (still sections) xs) ≡ filter (is_left sections) xs
-        → option_to_list (cond b (Some x) None) ++ flat_map option_to_list (map (still sections) xs) ≡ cond b (x ∷ filter (is_left sections) xs) (filter (is_left sections) xs)
+        → option_to_list (cond b (Some x) None) ++ flat_map option_to_list (map (still sections) xs)
+        ≡ cond b (x ∷ filter (is_left sections) xs) (filter (is_left sections) xs)
     by_test true rest = ap (λ ys. x ∷ ys) rest
     by_test false rest = rest
 

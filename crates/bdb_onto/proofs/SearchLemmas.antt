@@ -1,5 +1,6 @@
 -- A search by halving among databases in the order of their names finds the one of a name; and which database a section is loaded onto.
-use Rattle.std.proofs.Common.{◌≡◌, ℕ, zero, suc, ◌<◌, ◌≤◌, Bool, true, false, cond, List, [], ◌∷◌, length, map, get_or, Option, Some, None, arith, refl, sym, ◌∙◌}
+use Rattle.std.proofs.Common.{◌≡◌, ℕ, zero, suc, ◌<◌, ◌≤◌, Bool, true, false, cond, List, [], ◌∷◌, length, map, get_or, Option, Some, None, arith, refl, sym}
+use Rattle.std.proofs.Common.{◌∙◌}
 use Rattle.std.proofs.Common.{ap, subst}
 use Rattle.std.specs.Prelude.{Result, Ok, Err, is_some, nat_lt, slice_get, unwrap_or}
 use Rattle.std.specs.Result.{result_ok}
@@ -22,9 +23,9 @@ use Rattle.bdb_format.proofs.MemberLemmas.{first_member, in_map, later_member, o
 use Rattle.bdb_layout.specs.Seen.{OrderingIs}
 use Rattle.bdb_layout.proofs.KeyLemmas.{slice_cmp-is}
 use Rattle.bdb_text_format.specs.declared.sections.Section.{Section}
-use Rattle.bdb_kept.specs.Kept.{IsSound, bytes_of_name}
-use Rattle.bdb_kept.proofs.KeyedLemmas.{Rise, ascends_rise}
-use Rattle.bdb_kept.proofs.NameLemmas.{in_order_of_names}
+use Rattle.bdb_law_kept.specs.Kept.{IsSound, bytes_of_name}
+use Rattle.bdb_law_kept.proofs.KeyedLemmas.{Rise, ascends_rise}
+use Rattle.bdb_law_kept.proofs.NameLemmas.{in_order_of_names}
 use Rattle.bdb_mkfile.specs.Builds.{name_of}
 use Rattle.bdb_onto.specs.declared.base.Base.{Base}
 use Rattle.bdb_onto.specs.Bases.{IsBase, base_section}

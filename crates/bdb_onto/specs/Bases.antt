@@ -9,7 +9,7 @@ use Rattle.bdb_text_format.specs.declared.pairs.Key.TheVariants.{Bytes, Number}
 use Rattle.bdb_text_format.specs.declared.pairs.TextPair.{TextPair}
 use Rattle.bdb_text_format.specs.declared.sections.Section.{Section}
 use Rattle.bdb_text.specs.WrittenLaw.{AreBytes}
-use Rattle.bdb_kept.specs.Kept.{IsSound, settings_in}
+use Rattle.bdb_law_kept.specs.Kept.{IsSound, settings_in}
 use Rattle.bdb_onto.specs.declared.base.Base.{Base}
 
 -- a pair of a list as it stands in a section, without a line

@@ -17,9 +17,9 @@ use Rattle.bdb_settle.specs.Loaded.{loaded_pair, unnumbered, with_loaded}
 use Rattle.bdb_settle.specs.declared.load_error.LoadError.{LoadError}
 use Rattle.bdb_settle.specs.declared.load_error.LoadError.TheVariants.{RecordTooLong, TooLarge, QueueAmongNames, OntoKind, OntoNames}
 use Rattle.bdb_settle.specs.LoadErrors.{is_among_names, is_too_wide, pair_errors, sooner, where_so}
-use Rattle.bdb_need.specs.Need.{unlined_pairs}
-use Rattle.bdb_count.specs.Need.{need_of}
-use Rattle.bdb_kept.specs.Kept.{settings_in}
+use Rattle.bdb_need.specs.TreePages.{unlined_pairs}
+use Rattle.bdb_need.specs.Need.{need_of}
+use Rattle.bdb_law_kept.specs.Kept.{settings_in}
 use Rattle.bdb_mkfile.specs.Builds.{in_name_order}
 use Rattle.bdb_mkfile.specs.Loading.{IsLoadRefusalBy, or_else}
 use Rattle.bdb_onto.specs.declared.base.Base.{Base}

@@ -2,7 +2,7 @@
 ghost use Rattle.std.specs.Prelude.{◌≡◌, [], ◌++◌, IfOk, List, Some, length, map, option_to_list};
 ghost use Rattle.std.specs.List.{All, flat_map};
 ghost use Rattle.bdb_text_format.specs.Placed.{slice_seen};
-ghost use Rattle.bdb_sections.specs.Fit.{AreNamedBehind};
+ghost use Rattle.bdb_law_sections.specs.Fit.{AreNamedBehind};
 ghost use Rattle.bdb_onto.specs.Bases.{IsBase};
 ghost use Rattle.bdb_onto.specs.Joining.{IsPlaced, behind, emptied, placed_section, taken_at};
 ghost use Rattle.bdb_onto.specs.Onto.{joined};
@@ -115,7 +115,8 @@ fn with_left(all: Sections, places: Vec<Option<Section>>) -> Result<Sections, Al
     Ok(all)
 }
 
-/// Sections behind their partners, and the databases of the base that are left. The pairs of a partner and of a section without one are moved, and the others copied once.
+/// Sections behind their partners, and the databases of the base that are left. The pairs of a partner and of a section without one are moved, and the others
+/// copied once.
 pub(crate) fn joined(alloc: Global, base: Base, sections: Sections) -> Result<Sections, AllocError>
     requires base { IsBase base }
     requires apart { AreNamedBehind [] sections }

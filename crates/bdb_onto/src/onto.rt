@@ -1,5 +1,5 @@
 ghost use Rattle.std.specs.Prelude.{◌≡◌, ◌≤◌, ◌^◌, None, IfErr, IfOk, OnOk};
-ghost use Rattle.bdb_named.specs.Images.{HasBuiltTables};
+ghost use Rattle.bdb_mkfile.specs.NamedImages.{HasBuiltTables};
 ghost use Rattle.bdb_settle.specs.LoadErrors.{IsSettleRefusal};
 ghost use Rattle.bdb_mkfile.specs.Builds.{in_name_order};
 ghost use Rattle.bdb_mkfile.specs.Loading.{AreLoadable};

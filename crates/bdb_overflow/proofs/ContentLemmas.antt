@@ -1,5 +1,6 @@
 -- On a linked image each item that names a chain names one that fits.
-use Rattle.std.proofs.Common.{◌≡◌, ℕ, zero, suc, ◌-◌, ◌<◌, ◌≤◌, true, false, List, [], ◌∷◌, length, get_or, Some, arith, refl, sym, ◌∙◌, ap, subst, inl, inr, true≢false}
+use Rattle.std.proofs.Common.{◌≡◌, ℕ, zero, suc, ◌-◌, ◌<◌, ◌≤◌, true, false, List, [], ◌∷◌, length, get_or, Some, arith, refl, sym, ◌∙◌, ap, subst, inl, inr}
+use Rattle.std.proofs.Common.{true≢false}
 use Rattle.std.specs.Prelude.{◌==◌, ◌&&◌, ◌%◌, nat_le, slice_get, slice_index}
 use Rattle.std.specs.List.{Contains}
 use Rattle.std.proofs.lemmas.Bool.{and_parts, cases_Bool, eqb-true, leb-true}
@@ -9,7 +10,8 @@ use Rattle.bdb_format.specs.declared.references.Sort.TheVariants.{OverflowHead}
 use Rattle.bdb_format.specs.File.{File, file_of, page_at, page_bytes}
 use Rattle.bdb_format.specs.HeadOf.{head_of}
 use Rattle.bdb_format.specs.Numbers.{byte_at}
-use Rattle.bdb_format.specs.Page.{Content, Inline, Set, Chain, Tree, Unknown, Item, InternalItem, Listed, Page, Zero, Hash, Internal, Leaf, RecnoLeaf, DupLeaf, PageType, LeafPage}
+use Rattle.bdb_format.specs.Page.{Content, Inline, Set, Chain, Tree, Unknown, Item, InternalItem, Listed, Page, Zero, Hash, Internal, Leaf, RecnoLeaf, DupLeaf}
+use Rattle.bdb_format.specs.Page.{PageType, LeafPage}
 use Rattle.bdb_format.specs.Reading.{abstract_page, entries_of, is_zero, leaf_item_at, listed, page_as, page_type}
 use Rattle.bdb_format.specs.References.{content_targets, is_shared_key, targets_in, targets_of, no_item, contents_in}
 use Rattle.bdb_format.proofs.MemberLemmas.{first_member, in_map}
@@ -26,12 +28,14 @@ use Rattle.bdb_format.proofs.FileLemmas.{last_page, page_is}
 
 -- Pages with items stand in no queue file.
 
-no_queue : (image : List ℕ) (p : ℕ) → IsForest image → p ≤ (file_of image).last → is_queue_page (page_at (file_of image) p) ≡ false → (file_of image).kind ≡ QueueFile → ⊥
+no_queue : (image : List ℕ) (p : ℕ) → IsForest image → p ≤ (file_of image).last → is_queue_page (page_at (file_of image) p) ≡ false
+    → (file_of image).kind ≡ QueueFile → ⊥
 no_queue image p forest low other queue = true≢false (sym (queue_page image (head_of image) p forest.formed low queue) ∙ other)
 
 -- What is named as the head of a chain fits.
 
-named_chain : (image : List ℕ) (p : ℕ) (page : Page) (target : ℕ) → IsForest image → p ≤ (file_of image).last → page_at (file_of image) p ≡ page → is_queue_page page ≡ false
+named_chain : (image : List ℕ) (p : ℕ) (page : Page) (target : ℕ) → IsForest image → p ≤ (file_of image).last → page_at (file_of image) p ≡ page
+    → is_queue_page page ≡ false
     → Contains (targets_in p page) (OverflowHead, target) → FitsChain (file_of image) target
 named_chain image p page target forest low is some at =
     let names : targets_of (file_of image).kind p (page_at (file_of image) p) ≡ targets_in p page =
@@ -58,39 +62,45 @@ held_fits image p page content forest low is some held =
     (λ target named. named_chain image p page target forest low is some (held_named p page content (OverflowHead, target) held named))
 
 -- the items of a leaf of records
-pub recno_item_fits : (image : List ℕ) (p : ℕ) (page : Listed Item) (i : ℕ) (item : Item) → IsForest image → p ≤ (file_of image).last → page_at (file_of image) p ≡ RecnoLeaf page
+pub recno_item_fits : (image : List ℕ) (p : ℕ) (page : Listed Item) (i : ℕ) (item : Item) → IsForest image → p ≤ (file_of image).last
+    → page_at (file_of image) p ≡ RecnoLeaf page
     → slice_get page.items i ≡ Some item → FitsContent (file_of image) item.content
 recno_item_fits image p page i item forest low is at =
     held_fits image p (RecnoLeaf page) item.content forest low is refl (in_map (λ (it : Item). it.content) page.items item (member_of page.items i item at))
 
 -- those of a leaf of sorted duplicates
-pub dup_item_fits : (image : List ℕ) (p : ℕ) (page : Listed Item) (i : ℕ) (item : Item) → IsForest image → p ≤ (file_of image).last → page_at (file_of image) p ≡ DupLeaf page
+pub dup_item_fits : (image : List ℕ) (p : ℕ) (page : Listed Item) (i : ℕ) (item : Item) → IsForest image → p ≤ (file_of image).last
+    → page_at (file_of image) p ≡ DupLeaf page
     → slice_get page.items i ≡ Some item → FitsContent (file_of image) item.content
 dup_item_fits image p page i item forest low is at =
     held_fits image p (DupLeaf page) item.content forest low is refl (in_map (λ (it : Item). it.content) page.items item (member_of page.items i item at))
 
 -- those of a hash page
-pub hash_item_fits : (image : List ℕ) (p : ℕ) (page : Listed Item) (i : ℕ) (item : Item) → IsForest image → p ≤ (file_of image).last → page_at (file_of image) p ≡ Hash page
+pub hash_item_fits : (image : List ℕ) (p : ℕ) (page : Listed Item) (i : ℕ) (item : Item) → IsForest image → p ≤ (file_of image).last
+    → page_at (file_of image) p ≡ Hash page
     → slice_get page.items i ≡ Some item → FitsContent (file_of image) item.content
 hash_item_fits image p page i item forest low is at =
     held_fits image p (Hash page) item.content forest low is refl (in_map (λ (it : Item). it.content) page.items item (member_of page.items i item at))
 
 -- the keys of an internal page
-pub key_fits : (image : List ℕ) (p : ℕ) (page : Listed InternalItem) (i : ℕ) (item : InternalItem) → IsForest image → p ≤ (file_of image).last → page_at (file_of image) p ≡ Internal page
+pub key_fits : (image : List ℕ) (p : ℕ) (page : Listed InternalItem) (i : ℕ) (item : InternalItem) → IsForest image → p ≤ (file_of image).last
+    → page_at (file_of image) p ≡ Internal page
     → slice_get page.items i ≡ Some item → FitsContent (file_of image) item.key
 key_fits image p page i item forest low is at =
     held_fits image p (Internal page) item.key forest low is refl (in_map (λ (it : InternalItem). it.key) page.items item (member_of page.items i item at))
 
 -- The items of a btree leaf, shared keys among them: entries of the index with one offset have one item.
 
-leaf_as : (order : Order) (page : List ℕ) (t : PageType) (leaf : Listed Item) → page_as order page t ≡ Leaf leaf → leaf ≡ listed order page (leaf_item_at order page)
+leaf_as : (order : Order) (page : List ℕ) (t : PageType) (leaf : Listed Item) → page_as order page t ≡ Leaf leaf
+    → leaf ≡ listed order page (leaf_item_at order page)
 leaf_as order page LeafPage leaf is = cc
 leaf_as order page t leaf is = absurd cc
 
 pub leaf_of : (order : Order) (page : List ℕ) (leaf : Listed Item) → abstract_page order page ≡ Leaf leaf → leaf ≡ listed order page (leaf_item_at order page)
 unfolding abstract_page
 leaf_of order page leaf is =
-    elim (is_zero page) as (λ zeros. elim zeros [ true ↦ Zero | false ↦ page_as order page (page_type (byte_at page 25)) ] ≡ Leaf leaf → leaf ≡ listed order page (leaf_item_at order page)) [
+    elim (is_zero page) as (λ zeros. elim zeros [ true ↦ Zero | false ↦ page_as order page (page_type (byte_at page 25)) ] ≡ Leaf leaf
+    → leaf ≡ listed order page (leaf_item_at order page)) [
       | true ↦ λ same. absurd cc
       | false ↦ λ same. leaf_as order page (page_type (byte_at page 25)) leaf same
     ] is
@@ -100,7 +110,8 @@ record IsShared (order : Order) (page : List ℕ) (i : ℕ) : Type 0 where
   above : 2 ≤ i
   same : leaf_item_at order page i ≡ leaf_item_at order page (i - 2)
 
-shared : (order : Order) (page : List ℕ) (i : ℕ) → i < entries_of order page → is_shared_key (listed order page (leaf_item_at order page)).offsets i ≡ true → IsShared order page i
+shared : (order : Order) (page : List ℕ) (i : ℕ) → i < entries_of order page → is_shared_key (listed order page (leaf_item_at order page)).offsets i ≡ true
+    → IsShared order page i
 shared order page i there is =
     let offsets : List ℕ = (listed order page (leaf_item_at order page)).offsets in
     let outer : ((i % 2 == 0 && nat_le 2 i) ≡ true) × ((slice_index offsets i == slice_index offsets (i - 2)) ≡ true) = and_parts _ _ is in
@@ -114,31 +125,37 @@ shared order page i there is =
     }
 
 -- an entry that names its own chain
-own_fits : (image : List ℕ) (p : ℕ) (page : Listed Item) (i : ℕ) (item : Item) → IsForest image → p ≤ (file_of image).last → page_at (file_of image) p ≡ Leaf page → i < length page.items
+own_fits : (image : List ℕ) (p : ℕ) (page : Listed Item) (i : ℕ) (item : Item) → IsForest image → p ≤ (file_of image).last
+    → page_at (file_of image) p ≡ Leaf page → i < length page.items
     → get_or page.items i no_item ≡ item → is_shared_key page.offsets i ≡ false → FitsContent (file_of image) item.content
 own_fits image p page i item forest low is there at own =
     held_fits image p (Leaf page) item.content forest low is refl
     (subst (λ (it : Item). Contains (contents_in (Leaf page)) it.content) at (own_held page i there own))
 
 -- an entry of a leaf, where a shared key is the item of an earlier entry that fits
-entry_by : (image : List ℕ) (p : ℕ) (order : Order) (bytes : List ℕ) (i : ℕ) → IsForest image → p ≤ (file_of image).last → page_at (file_of image) p ≡ Leaf (listed order bytes (leaf_item_at order bytes))
-    → i < entries_of order bytes → (IsShared order bytes i → FitsContent (file_of image) (leaf_item_at order bytes i).content) → FitsContent (file_of image) (leaf_item_at order bytes i).content
+entry_by : (image : List ℕ) (p : ℕ) (order : Order) (bytes : List ℕ) (i : ℕ) → IsForest image → p ≤ (file_of image).last
+    → page_at (file_of image) p ≡ Leaf (listed order bytes (leaf_item_at order bytes))
+    → i < entries_of order bytes → (IsShared order bytes i → FitsContent (file_of image) (leaf_item_at order bytes i).content)
+    → FitsContent (file_of image) (leaf_item_at order bytes i).content
 entry_by image p order bytes i forest low is there before =
     let page : Listed Item = listed order bytes (leaf_item_at order bytes) in
     elim (cases_Bool (is_shared_key page.offsets i)) [
       | inl again ↦ before (shared order bytes i there again)
-      | inr own ↦ own_fits image p page i (leaf_item_at order bytes i) forest low is (omega (arith, length_items order bytes (leaf_item_at order bytes))) (leaf_item_is order bytes i there) own
+      | inr own ↦ own_fits image p page i (leaf_item_at order bytes i) forest low is (omega (arith, length_items order bytes (leaf_item_at order bytes)))
+          (leaf_item_is order bytes i there) own
     ]
 
 -- back, two entries a turn, to the one whose key is shared
 entry_fits : (turns : ℕ) (image : List ℕ) (p : ℕ) (order : Order) (bytes : List ℕ) (i : ℕ) → IsForest image → p ≤ (file_of image).last
-    → page_at (file_of image) p ≡ Leaf (listed order bytes (leaf_item_at order bytes)) → i ≤ turns → i < entries_of order bytes → FitsContent (file_of image) (leaf_item_at order bytes i).content
+    → page_at (file_of image) p ≡ Leaf (listed order bytes (leaf_item_at order bytes)) → i ≤ turns → i < entries_of order bytes
+    → FitsContent (file_of image) (leaf_item_at order bytes i).content
 entry_fits zero image p order bytes i forest low is few there =
     entry_by image p order bytes i forest low is there (λ before. absurd (omega (arith, before.above)))
 entry_fits (suc turns) image p order bytes i forest low is few there =
     entry_by image p order bytes i forest low is there (λ before.
     let above : 2 ≤ i = before.above in
-    subst (λ (item : Item). FitsContent (file_of image) item.content) (sym before.same) (entry_fits turns image p order bytes (i - 2) forest low is (omega arith) (omega arith)))
+    subst (λ (item : Item). FitsContent (file_of image) item.content) (sym before.same)
+    (entry_fits turns image p order bytes (i - 2) forest low is (omega arith) (omega arith)))
 
 -- an item of a list is there, at its index
 pub got : {X : Type 0} (xs : List X) (i : ℕ) (x d : X) → slice_get xs i ≡ Some x → (i < length xs) × (get_or xs i d ≡ x)
@@ -147,13 +164,23 @@ got (y ∷ xs) zero x d at = (omega arith, cc)
 got (y ∷ xs) (suc i) x d at = let rest : (i < length xs) × (get_or xs i d ≡ x) = got xs i x d at in (omega (arith, rest.0), rest.1)
 
 -- keys and data of a btree leaf
-pub leaf_item_fits : (image : List ℕ) (p : ℕ) (page : Listed Item) (i : ℕ) (item : Item) → IsForest image → p ≤ (file_of image).last → page_at (file_of image) p ≡ Leaf page
+pub leaf_item_fits : (image : List ℕ) (p : ℕ) (page : Listed Item) (i : ℕ) (item : Item) → IsForest image → p ≤ (file_of image).last
+    → page_at (file_of image) p ≡ Leaf page
     → slice_get page.items i ≡ Some item → FitsContent (file_of image) item.content
 leaf_item_fits image p page i item forest low is at =
     let order : Order = (head_of image).order in
     let bytes : List ℕ = page_bytes (head_of image) image p in
-    let as_listed : page ≡ listed order bytes (leaf_item_at order bytes) = leaf_of order bytes page (sym (page_is image p (omega (arith, low, last_page image))) ∙ is) in
+    let as_listed : page ≡ listed order bytes (leaf_item_at order bytes) = leaf_of order bytes page (sym (page_is image p (omega (arith, low, last_page image)))
+    ∙ is) in
     let found : (i < length page.items) × (get_or page.items i no_item ≡ item) = got page.items i item no_item at in
-    let there : i < entries_of order bytes = omega (arith, found.0, ap (λ (l : Listed Item). length l.items) as_listed, length_items order bytes (leaf_item_at order bytes)) in
-    let same : leaf_item_at order bytes i ≡ item = sym (leaf_item_is order bytes i there) ∙ (ap (λ (l : Listed Item). get_or l.items i no_item) (sym as_listed) ∙ found.1) in
-    subst (λ (it : Item). FitsContent (file_of image) it.content) same (entry_fits i image p order bytes i forest low (is ∙ ap (λ l. Leaf l) as_listed) (omega arith) there)
+    let there : i < entries_of order bytes = omega (
+      arith,
+      found.0,
+      ap (λ (l : Listed Item). length l.items) as_listed,
+      length_items order bytes
+          (leaf_item_at order bytes),
+    ) in
+    let same : leaf_item_at order bytes i ≡ item = sym (leaf_item_is order bytes i there)
+    ∙ (ap (λ (l : Listed Item). get_or l.items i no_item) (sym as_listed) ∙ found.1) in
+    subst (λ (it : Item). FitsContent (file_of image) it.content) same (entry_fits i image p order bytes i forest low (is ∙ ap (λ l. Leaf l) as_listed)
+    (omega arith) there)

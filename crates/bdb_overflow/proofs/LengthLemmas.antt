@@ -1,5 +1,6 @@
 -- Chains of a wrong length, item by item, and the faults that they are.
-use Rattle.std.proofs.Common.{◌≡◌, ℕ, ◌+◌, ◌*◌, ◌%◌, ◌<◌, ◌≤◌, Bool, true, false, cond, List, [], ◌∷◌, length, map, get_or, Some, arith, refl, ◌∙◌, ap, inl, inr, zero-add}
+use Rattle.std.proofs.Common.{◌≡◌, ℕ, ◌+◌, ◌*◌, ◌%◌, ◌<◌, ◌≤◌, Bool, true, false, cond, List, [], ◌∷◌, length, map, get_or, Some, arith, refl, ◌∙◌, ap, inl}
+use Rattle.std.proofs.Common.{inr, zero-add}
 use Rattle.std.specs.Prelude.{◌&&◌, ◌||◌, not, slice_get}
 use Rattle.std.specs.List.{filter, flat_map, list_any, range_with_len}
 use Rattle.std.proofs.lemmas.Bool.{cases_order}
@@ -19,14 +20,17 @@ use Rattle.bdb_format.proofs.ListLemmas.{none_of_list}
 
 -- Items.
 
-pub item_is_wrong : (file : File) (page : Listed Item) (i : ℕ) (item : Item) → slice_get page.items i ≡ Some item → is_wrong_item file page i ≡ is_wrong file item.content
+pub item_is_wrong : (file : File) (page : Listed Item) (i : ℕ) (item : Item) → slice_get page.items i ≡ Some item
+    → is_wrong_item file page i ≡ is_wrong file item.content
 item_is_wrong file page i item at = ap (λ (it : Item). is_wrong file it.content) (got page.items i item no_item at).1
 
-pub key_is_wrong : (file : File) (page : Listed InternalItem) (i : ℕ) (item : InternalItem) → slice_get page.items i ≡ Some item → is_wrong_key file page i ≡ is_wrong file item.key
+pub key_is_wrong : (file : File) (page : Listed InternalItem) (i : ℕ) (item : InternalItem) → slice_get page.items i ≡ Some item
+    → is_wrong_key file page i ≡ is_wrong file item.key
 key_is_wrong file page i item at = ap (λ (it : InternalItem). is_wrong file it.key) (got page.items i item no_internal_item at).1
 
 -- a key that isn't shared
-pub own_is_wrong : (file : File) (page : Listed Item) (i : ℕ) (item : Item) → slice_get page.items (2 * i) ≡ Some item → is_shared_key page.offsets (2 * i) ≡ false
+pub own_is_wrong : (file : File) (page : Listed Item) (i : ℕ) (item : Item) → slice_get page.items (2 * i) ≡ Some item → is_shared_key page.offsets (2 * i)
+    ≡ false
     → is_wrong_entry file page (2 * i) ≡ is_wrong file item.content
 own_is_wrong file page i item at own = rw own (item_is_wrong file page (2 * i) item at)
 
@@ -36,7 +40,8 @@ shared_is_right file page i shared = rw shared refl
 odd_is_own : (offsets : List ℕ) (i : ℕ) → is_shared_key offsets (2 * i + 1) ≡ false
 odd_is_own offsets i = let odd : (2 * i + 1) % 2 ≡ 1 = omega arith in rw odd refl
 
-pub data_is_wrong : (file : File) (page : Listed Item) (i : ℕ) (item : Item) → slice_get page.items (2 * i + 1) ≡ Some item → is_wrong_entry file page (2 * i + 1) ≡ is_wrong file item.content
+pub data_is_wrong : (file : File) (page : Listed Item) (i : ℕ) (item : Item) → slice_get page.items (2 * i + 1) ≡ Some item
+    → is_wrong_entry file page (2 * i + 1) ≡ is_wrong file item.content
 data_is_wrong file page i item at = rw (odd_is_own page.offsets i) (item_is_wrong file page (2 * i + 1) item at)
 
 -- Pages.
@@ -85,16 +90,20 @@ wrong_entries file page =
     wrong_held file (λ index. (item_at page index).content) (own_entries page)
     ∙ any_kept (is_wrong_item file page) (λ index. not (is_shared_key page.offsets index)) (range_with_len 0 (length page.items))
 
-pub records_some : (file : File) (page : Listed Item) (i : ℕ) → i < length page.items → is_wrong_item file page i ≡ true → has_wrong file (RecnoLeaf page) ≡ true
+pub records_some : (file : File) (page : Listed Item) (i : ℕ) → i < length page.items → is_wrong_item file page i ≡ true → has_wrong file (RecnoLeaf page)
+    ≡ true
 records_some file page i there is = some_of file (λ (item : Item). item.content) no_item page.items i there is
 
-pub records_none : (file : File) (page : Listed Item) (n : ℕ) → NoneBelow (is_wrong_item file page) n → length page.items ≤ n → has_wrong file (RecnoLeaf page) ≡ false
+pub records_none : (file : File) (page : Listed Item) (n : ℕ) → NoneBelow (is_wrong_item file page) n → length page.items ≤ n → has_wrong file (RecnoLeaf page)
+    ≡ false
 records_none file page n none all = none_of file (λ (item : Item). item.content) no_item page.items n none all
 
-pub duplicates_some : (file : File) (page : Listed Item) (i : ℕ) → i < length page.items → is_wrong_item file page i ≡ true → has_wrong file (DupLeaf page) ≡ true
+pub duplicates_some : (file : File) (page : Listed Item) (i : ℕ) → i < length page.items → is_wrong_item file page i ≡ true → has_wrong file (DupLeaf page)
+    ≡ true
 duplicates_some file page i there is = some_of file (λ (item : Item). item.content) no_item page.items i there is
 
-pub duplicates_none : (file : File) (page : Listed Item) (n : ℕ) → NoneBelow (is_wrong_item file page) n → length page.items ≤ n → has_wrong file (DupLeaf page) ≡ false
+pub duplicates_none : (file : File) (page : Listed Item) (n : ℕ) → NoneBelow (is_wrong_item file page) n → length page.items ≤ n → has_wrong file (DupLeaf page)
+    ≡ false
 duplicates_none file page n none all = none_of file (λ (item : Item). item.content) no_item page.items n none all
 
 pub hash_some : (file : File) (page : Listed Item) (i : ℕ) → i < length page.items → is_wrong_item file page i ≡ true → has_wrong file (Hash page) ≡ true
@@ -103,10 +112,12 @@ hash_some file page i there is = some_of file (λ (item : Item). item.content) n
 pub hash_none : (file : File) (page : Listed Item) (n : ℕ) → NoneBelow (is_wrong_item file page) n → length page.items ≤ n → has_wrong file (Hash page) ≡ false
 hash_none file page n none all = none_of file (λ (item : Item). item.content) no_item page.items n none all
 
-pub keys_some : (file : File) (page : Listed InternalItem) (i : ℕ) → i < length page.items → is_wrong_key file page i ≡ true → has_wrong file (Internal page) ≡ true
+pub keys_some : (file : File) (page : Listed InternalItem) (i : ℕ) → i < length page.items → is_wrong_key file page i ≡ true → has_wrong file (Internal page)
+    ≡ true
 keys_some file page i there is = some_of file (λ (item : InternalItem). item.key) no_internal_item page.items i there is
 
-pub keys_none : (file : File) (page : Listed InternalItem) (n : ℕ) → NoneBelow (is_wrong_key file page) n → length page.items ≤ n → has_wrong file (Internal page) ≡ false
+pub keys_none : (file : File) (page : Listed InternalItem) (n : ℕ) → NoneBelow (is_wrong_key file page) n → length page.items ≤ n
+    → has_wrong file (Internal page) ≡ false
 keys_none file page n none all = none_of file (λ (item : InternalItem). item.key) no_internal_item page.items n none all
 
 pub leaf_some : (file : File) (page : Listed Item) (i : ℕ) → i < length page.items → is_wrong_entry file page i ≡ true → has_wrong file (Leaf page) ≡ true

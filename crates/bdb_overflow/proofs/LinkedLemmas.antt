@@ -1,5 +1,6 @@
 -- The chains of a linked image are whole: each page of one names the next, and a way down has no page twice.
-use Rattle.std.proofs.Common.{◌≡◌, ◌⊎◌, ℕ, zero, suc, ◌+◌, ◌/◌, ◌<◌, ◌≤◌, Bool, true, false, not, cond, List, [], ◌∷◌, length, Option, Some, None, arith, refl, sym, ◌∙◌, ap, subst, inl, inr, true≢false}
+use Rattle.std.proofs.Common.{◌≡◌, ◌⊎◌, ℕ, zero, suc, ◌+◌, ◌/◌, ◌<◌, ◌≤◌, Bool, true, false, not, cond, List, [], ◌∷◌, length, Option, Some, None, arith, refl}
+use Rattle.std.proofs.Common.{sym, ◌∙◌, ap, subst, inl, inr, true≢false}
 use Rattle.std.specs.Prelude.{◌==◌, ◌||◌, ◌&&◌, nat_lt}
 use Rattle.std.specs.List.{Contains, list_any}
 use Rattle.std.proofs.lemmas.Bool.{cases_Bool, cases_eq, eq-eqb, eqb-false, eqb-true, ltb-false, ne_eqb, or_parts}
@@ -88,16 +89,19 @@ body_none true identity body some none = absurd cc
 body_none false (Some code) body some none = absurd cc
 body_none false None body some none = none
 
-code_none : (order : Order) (p : ℕ) (page : List ℕ) → is_zero page ≡ false → page_code order p page ≡ None → body_code order page (page_type (byte_at page 25)) ≡ None
+code_none : (order : Order) (p : ℕ) (page : List ℕ) → is_zero page ≡ false → page_code order p page ≡ None → body_code order page (page_type (byte_at page 25))
+    ≡ None
 unfolding page_code
-code_none order p page some none = body_none (is_zero page) (first_row (identity_rows order page p is_tree_type)) (body_code order page (page_type (byte_at page 25))) some none
+code_none order p page some none = body_none (is_zero page) (first_row (identity_rows order page p is_tree_type))
+    (body_code order page (page_type (byte_at page 25))) some none
 
 room_of : (past : Bool) → cond {A = Option ℕ} past (Some 25) None ≡ None → past ≡ false
 room_of true none = absurd cc
 room_of false none = refl
 
 -- the data of a page of type 7 lie on it
-has_room : (image : List ℕ) (p : ℕ) → IsForest image → 1 ≤ p → p ≤ (head_of image).last → is_zero (page_bytes (head_of image) image p) ≡ false → byte_at (page_bytes (head_of image) image p) 25 ≡ 7
+has_room : (image : List ℕ) (p : ℕ) → IsForest image → 1 ≤ p → p ≤ (head_of image).last → is_zero (page_bytes (head_of image) image p) ≡ false
+    → byte_at (page_bytes (head_of image) image p) 25 ≡ 7
     → 26 + two_at (head_of image).order (page_bytes (head_of image) image p) 22 ≤ (head_of image).page_size
 has_room image p forest low high some seven =
     let head : Head = head_of image in
@@ -105,7 +109,8 @@ has_room image p forest low high some seven =
     let formed : form_code head p page ≡ None = formed_page image p forest.formed.form high in
     let kind : head.kind ≡ Queue → ⊥ = no_queue head.kind p (byte_at page 25) low seven (type_fits head p page some formed) in
     let code : page_code head.order p page ≡ None = other_formed head p page kind formed (λ is. omega arith) (λ is. omega arith) in
-    let body : body_code head.order page (page_type 7) ≡ None = ap (λ b. body_code head.order page (page_type b)) (sym seven) ∙ code_none head.order p page some code in
+    let body : body_code head.order page (page_type 7) ≡ None = ap (λ b. body_code head.order page (page_type b)) (sym seven)
+    ∙ code_none head.order p page some code in
     let room : 26 + two_at head.order page 22 ≤ length page = ltb-false (length page) (26 + two_at head.order page 22) (room_of _ body) in
     omega (arith, room, length_is image p forest high)
 
@@ -121,7 +126,8 @@ asks_seven (Some t) z fits =
 
 -- a reference that asks for type 7 names a page of a chain
 named_on_chain : (image : List ℕ) (h : ℕ) (reference : Reference) → IsForest image → h ≤ (file_of image).last → Contains (refs (file_of image) h) reference
-    → ((page : Page) → (asked_by h page reference.sort).types ≡ 7 ∷ []) → ((page : Page) → (asked_by h page reference.sort).or_zero ≡ false) → IsOnChain image reference.target
+    → ((page : Page) → (asked_by h page reference.sort).types ≡ 7 ∷ []) → ((page : Page) → (asked_by h page reference.sort).or_zero ≡ false)
+    → IsOnChain image reference.target
 unfolding fit_code
 named_on_chain image h reference forest low held seven zeros =
     let file : File = file_of image in
@@ -135,9 +141,11 @@ named_on_chain image h reference forest low held seven zeros =
     let high : target ≤ head.last = omega (arith, ltb-false file.last target range.1, last_page image) in
     let kind : not (has_type (7 ∷ []) (type_in (page_at file target)) || (false && is_zero_page (page_at file target))) ≡ false =
     subst (λ types. not (has_type types (type_in (page_at file target)) || (false && is_zero_page (page_at file target))) ≡ false) (seven (page_at file h))
-    (subst (λ b. not (has_type asked.types (type_in (page_at file target)) || (b && is_zero_page (page_at file target))) ≡ false) (zeros (page_at file h)) fail.1.0) in
+    (subst (λ b. not (has_type asked.types (type_in (page_at file target)) || (b && is_zero_page (page_at file target))) ≡ false) (zeros (page_at file h))
+    fail.1.0) in
     let byte : (is_zero (page_bytes head image target) ≡ false) × (byte_at (page_bytes head image target) 25 ≡ 7) =
-    type_byte head.order (page_bytes head image target) 7 (ap type_in (sym (page_is image target high)) ∙ asks_seven (type_in (page_at file target)) (is_zero_page (page_at file target)) kind) in
+    type_byte head.order (page_bytes head image target) 7 (ap type_in (sym (page_is image target high))
+    ∙ asks_seven (type_in (page_at file target)) (is_zero_page (page_at file target)) kind) in
     let room = has_room image target forest (omega arith) high byte.0 byte.1 in
     let last : head.last < length image / head.page_size = omega (arith, formed_last image head forest.formed, pages_is image) in
     record { inside = high; link = record { low = omega arith; high = omega arith; kind = byte.1; room = room } }
@@ -158,21 +166,26 @@ head_on_chain image p forest fits =
     let is : IsOwner file p fits.owner = is_owner file p fits.owner at in
     subst (IsOnChain image) fits.target_is
     (named_on_chain image fits.owner.holder fits.owner.reference forest is.inside is.held
-    (λ page. head_asks fits.owner.holder fits.owner.reference.sort page fits.sort_is) (λ page. head_not_zero fits.owner.holder fits.owner.reference.sort page fits.sort_is))
+    (λ page. head_asks fits.owner.holder fits.owner.reference.sort page fits.sort_is)
+    (λ page. head_not_zero fits.owner.holder fits.owner.reference.sort page fits.sort_is))
 
 -- The next page.
 
 link_is : (image : List ℕ) (p : ℕ) → IsForest image → IsOnChain image p
-    → page_at (file_of image) p ≡ Overflow (header_of (head_of image).order (page_bytes (head_of image) image p)) (data_at (head_of image).order (head_of image).page_size image p)
+    → page_at (file_of image) p ≡ Overflow (header_of (head_of image).order (page_bytes (head_of image) image p))
+    (data_at (head_of image).order (head_of image).page_size image p)
 link_is image p forest on =
     let head : Head = head_of image in
     page_is image p on.inside
-    ∙ overflow_page head.order (page_bytes head image p) on.link.kind (omega (arith, length_is image p forest on.inside, (size_bounds head.page_size (legal_size image forest)).0))
+    ∙ overflow_page head.order (page_bytes head image p) on.link.kind (omega
+    (arith, length_is image p forest on.inside, (size_bounds head.page_size (legal_size image forest)).0))
 
-linked_next : (image : List ℕ) (p : ℕ) → IsForest image → IsOnChain image p → next_of (file_of image) p ≡ next_at (head_of image).order (head_of image).page_size image p
+linked_next : (image : List ℕ) (p : ℕ) → IsForest image → IsOnChain image p
+    → next_of (file_of image) p ≡ next_at (head_of image).order (head_of image).page_size image p
 linked_next image p forest on = ap (λ page. (header_in page).next) (link_is image p forest on)
 
-linked_piece : (image : List ℕ) (p : ℕ) → IsForest image → IsOnChain image p → piece_in (page_at (file_of image) p) ≡ data_at (head_of image).order (head_of image).page_size image p
+linked_piece : (image : List ℕ) (p : ℕ) → IsForest image → IsOnChain image p → piece_in (page_at (file_of image) p)
+    ≡ data_at (head_of image).order (head_of image).page_size image p
 linked_piece image p forest on = ap piece_in (link_is image p forest on)
 
 abbrev next_reference : ℕ → Reference
@@ -187,9 +200,11 @@ names_next image p forest on more =
     let file : File = file_of image in
     let page : List ℕ = page_bytes head image p in
     let next : ℕ = next_at head.order head.page_size image p in
-    let byte : (is_zero page ≡ false) × (byte_at page 25 ≡ 7) = type_byte head.order page 7 (ap type_in (sym (page_is image p on.inside) ∙ link_is image p forest on)) in
+    let byte : (is_zero page ≡ false) × (byte_at page 25 ≡ 7) = type_byte head.order page 7
+    (ap type_in (sym (page_is image p on.inside) ∙ link_is image p forest on)) in
     let formed : form_code head p page ≡ None = formed_page image p forest.formed.form on.inside in
-    let kind : file.kind ≡ Queue → ⊥ = λ queue. no_queue head.kind p (byte_at page 25) on.link.low on.link.kind (type_fits head p page byte.0 formed) (sym (kind_is image) ∙ queue) in
+    let kind : file.kind ≡ Queue → ⊥ = λ queue. no_queue head.kind p (byte_at page 25) on.link.low on.link.kind (type_fits head p page byte.0 formed)
+    (sym (kind_is image) ∙ queue) in
     let names : targets_of file.kind p (page_at file p) ≡ (OverflowNext, next) ∷ [] =
     forest_names file.kind p (page_at file p) kind ∙ (ap (targets_in p) (link_is image p forest on) ∙ rw (ne_eqb next 0 more) refl) in
     rw names (first_member (next_reference next) [])
@@ -197,13 +212,19 @@ names_next image p forest on more =
 next_on_chain : (image : List ℕ) (p : ℕ) → IsForest image → IsOnChain image p → (next_at (head_of image).order (head_of image).page_size image p ≡ 0 → ⊥)
     → IsOnChain image (next_at (head_of image).order (head_of image).page_size image p)
 next_on_chain image p forest on more =
-    named_on_chain image p (next_reference (next_at (head_of image).order (head_of image).page_size image p)) forest (omega (arith, on.inside, last_page image)) (names_next image p forest on more)
+    named_on_chain image p (next_reference (next_at (head_of image).order (head_of image).page_size image p)) forest (omega (arith, on.inside, last_page image))
+    (names_next image p forest on more)
     (λ page. refl) (λ page. refl)
 
 next_named : (image : List ℕ) (p : ℕ) → IsForest image → IsOnChain image p → (next_at (head_of image).order (head_of image).page_size image p ≡ 0 → ⊥)
     → Names (file_of image) p (next_at (head_of image).order (head_of image).page_size image p)
 next_named image p forest on more =
-    record { reference = next_reference (next_at (head_of image).order (head_of image).page_size image p); held = names_next image p forest on more; target = refl; other = refl }
+    record {
+      reference = next_reference (next_at (head_of image).order (head_of image).page_size image p);
+      held = names_next image p forest on more;
+      target = refl;
+      other = refl;
+    }
 
 -- A chain ends.
 
@@ -215,7 +236,8 @@ record IsLong (turns : ℕ) (image : List ℕ) (p : ℕ) : Type 0 where
   inside : AllUpTo (head_of image).last after
 
 -- a chain ends in so many turns, or it has as many pages after its first
-ends_or_long : (turns : ℕ) (image : List ℕ) (p : ℕ) → IsForest image → IsOnChain image p → EndsIn turns (head_of image).order (head_of image).page_size image p ⊎ IsLong turns image p
+ends_or_long : (turns : ℕ) (image : List ℕ) (p : ℕ) → IsForest image → IsOnChain image p → EndsIn turns (head_of image).order (head_of image).page_size image p
+    ⊎ IsLong turns image p
 ends_or_long zero image p forest on = inr (record { after = []; way = tt; long = refl; inside = tt })
 ends_or_long (suc turns) image p forest on =
     let next : ℕ = next_at (head_of image).order (head_of image).page_size image p in
@@ -225,7 +247,12 @@ ends_or_long (suc turns) image p forest on =
           let on_next : IsOnChain image next = next_on_chain image p forest on more in
           elim (ends_or_long turns image next forest on_next) [
             | inl ends ↦ inl (on.link, inr ends)
-            | inr long ↦ inr (record { after = next ∷ long.after; way = (next_named image p forest on more, long.way); long = omega (arith, long.long); inside = (on_next.inside, long.inside) })
+            | inr long ↦ inr (record {
+              after = next ∷ long.after;
+              way = (next_named image p forest on more, long.way);
+              long = omega (arith, long.long);
+              inside = (on_next.inside, long.inside);
+            })
           ]
     ]
 
@@ -236,7 +263,8 @@ not_long turns image p forest on many long =
     omega (arith, few, long.long)
 
 -- a chain of a linked image is whole
-pub linked_whole : (image : List ℕ) (p : ℕ) → IsForest image → FitsChain (file_of image) p → IsWholeChain (head_of image).order (head_of image).page_size image p
+pub linked_whole : (image : List ℕ) (p : ℕ) → IsForest image → FitsChain (file_of image) p
+    → IsWholeChain (head_of image).order (head_of image).page_size image p
 linked_whole image p forest fits =
     let on : IsOnChain image p = head_on_chain image p forest fits in
     let turns : ℕ = length image / (head_of image).page_size in
@@ -255,11 +283,14 @@ same_turns (suc turns) image p forest on =
     let other : File = file_as head.order head.page_size image in
     let next : ℕ = next_at head.order head.page_size image p in
     let is_next : next_of other p ≡ next = link_next head.order head.page_size image p (long_enough image forest) on.link in
-    let is_piece : piece_in (page_at other p) ≡ data_at head.order head.page_size image p = link_piece head.order head.page_size image p (long_enough image forest) on.link in
-    let rest : after_piece (next == 0) (data_at head.order head.page_size image p) (pieces_in turns file next) ≡ after_piece (next == 0) (data_at head.order head.page_size image p) (pieces_in turns other next) =
+    let is_piece : piece_in (page_at other p) ≡ data_at head.order head.page_size image p = link_piece head.order head.page_size image p
+    (long_enough image forest) on.link in
+    let rest : after_piece (next == 0) (data_at head.order head.page_size image p) (pieces_in turns file next)
+    ≡ after_piece (next == 0) (data_at head.order head.page_size image p) (pieces_in turns other next) =
     elim (cases_eq next 0) [
       | inl last ↦ rw (eq-eqb next 0 last) refl
-      | inr more ↦ ap (after_piece (next == 0) (data_at head.order head.page_size image p)) (same_turns turns image next forest (next_on_chain image p forest on more))
+      | inr more ↦ ap (after_piece (next == 0) (data_at head.order head.page_size image p))
+          (same_turns turns image next forest (next_on_chain image p forest on more))
     ] in
     pieces_turn turns file p
     ∙ (turn_of turns file p next (data_at head.order head.page_size image p) (linked_next image p forest on) (linked_piece image p forest on)
@@ -268,13 +299,16 @@ same_turns (suc turns) image p forest on =
     ∙ sym (pieces_turn turns other p))))
   where
     turn_of : (turns : ℕ) (file : File) (p next : ℕ) (piece : List ℕ) → next_of file p ≡ next → piece_in (page_at file p) ≡ piece
-        → after_piece (next_of file p == 0) (piece_in (page_at file p)) (pieces_in turns file (next_of file p)) ≡ after_piece (next == 0) piece (pieces_in turns file next)
-    turn_of turns file p next piece n d = ap (λ m. after_piece (m == 0) (piece_in (page_at file p)) (pieces_in turns file m)) n ∙ ap (λ d. after_piece (next == 0) d (pieces_in turns file next)) d
+        → after_piece (next_of file p == 0) (piece_in (page_at file p)) (pieces_in turns file (next_of file p))
+        ≡ after_piece (next == 0) piece (pieces_in turns file next)
+    turn_of turns file p next piece n d = ap (λ m. after_piece (m == 0) (piece_in (page_at file p)) (pieces_in turns file m)) n
+        ∙ ap (λ d. after_piece (next == 0) d (pieces_in turns file next)) d
 
     long_enough : (image : List ℕ) → IsForest image → 26 ≤ (head_of image).page_size
     long_enough image forest = omega (arith, (size_bounds (head_of image).page_size (legal_size image forest)).0)
 
-pub linked_pieces : (image : List ℕ) (p : ℕ) → IsForest image → FitsChain (file_of image) p → pieces_of (file_as (head_of image).order (head_of image).page_size image) p ≡ pieces_of (file_of image) p
+pub linked_pieces : (image : List ℕ) (p : ℕ) → IsForest image → FitsChain (file_of image) p
+    → pieces_of (file_as (head_of image).order (head_of image).page_size image) p ≡ pieces_of (file_of image) p
 unfolding pieces_of
 linked_pieces image p forest fits =
     let other : File = file_as (head_of image).order (head_of image).page_size image in

@@ -1,5 +1,6 @@
 -- Two lists compare by their fronts, and where these are the same by the rest.
-use Rattle.std.proofs.Common.{◌≡◌, ◌⊎◌, ℕ, Bool, true, false, ◌≤◌, List, [], ◌∷◌, ◌++◌, length, take, drop, min, arith, append_assoc, refl, sym, ◌∙◌, ap, subst, inl, inr, eq-eqb}
+use Rattle.std.proofs.Common.{◌≡◌, ◌⊎◌, ℕ, Bool, true, false, ◌≤◌, List, [], ◌∷◌, ◌++◌, length, take, drop, min, arith, append_assoc, refl, sym, ◌∙◌, ap, subst}
+use Rattle.std.proofs.Common.{inl, inr, eq-eqb}
 use Rattle.std.proofs.lemmas.List.{length-take-le, take-append-drop}
 use Rattle.std.specs.Prelude.{◌==◌, ◌&&◌, ◌||◌, nat_lt}
 use Rattle.std.specs.declared.cmp.Ordering.{Ordering}
@@ -37,15 +38,18 @@ order_after Equal xs zs ws is = ap (λ us. xs ++ us) is
 order_after Greater xs zs ws is = less_after xs ws zs is
 
 -- the order of the fronts, where they differ
-pub order_of_fronts : (answer : Ordering) (xs ys zs ws : List ℕ) → length xs ≡ length ys → OrderingIs answer xs ys → (answer ≡ Equal → ⊥) → OrderingIs answer (xs ++ zs) (ys ++ ws)
+pub order_of_fronts : (answer : Ordering) (xs ys zs ws : List ℕ) → length xs ≡ length ys → OrderingIs answer xs ys → (answer ≡ Equal → ⊥)
+    → OrderingIs answer (xs ++ zs) (ys ++ ws)
 order_of_fronts Below xs ys zs ws same is differ = less_more xs ys zs ws same is
 order_of_fronts Equal xs ys zs ws same is differ = absurd (differ refl)
 order_of_fronts Greater xs ys zs ws same is differ = less_more ys xs ws zs (sym same) is
 
 -- where a front has nothing, its list has nothing
-pub order_at_end : (answer : Ordering) (a b front_a front_b rest_a rest_b : List ℕ) → OrderingIs answer front_a front_b → a ≡ front_a ++ rest_a → b ≡ front_b ++ rest_b
+pub order_at_end : (answer : Ordering) (a b front_a front_b rest_a rest_b : List ℕ) → OrderingIs answer front_a front_b → a ≡ front_a ++ rest_a
+    → b ≡ front_b ++ rest_b
     → (front_a ≡ [] → a ≡ []) → (front_b ≡ [] → b ≡ []) → (front_a ≡ []) ⊎ (front_b ≡ []) → OrderingIs answer a b
-order_at_end answer a b [] [] rest_a rest_b is is_a is_b end_a end_b one = subst (λ x. OrderingIs answer x b) (sym (end_a refl)) (subst (OrderingIs answer []) (sym (end_b refl)) is)
+order_at_end answer a b [] [] rest_a rest_b is is_a is_b end_a end_b one = subst (λ x. OrderingIs answer x b) (sym (end_a refl))
+    (subst (OrderingIs answer []) (sym (end_b refl)) is)
 order_at_end answer a b [] (y ∷ ys) rest_a rest_b is is_a is_b end_a end_b one =
     subst (λ x. OrderingIs answer x b) (sym (end_a refl)) (subst (OrderingIs answer []) (sym is_b) (none_first answer is))
   where
@@ -66,7 +70,10 @@ order_at_end answer a b (x ∷ xs) (y ∷ ys) rest_a rest_b is is_a is_b end_a e
 
 pub step : (front a b c d zs ws : List ℕ) → HaveOrderOf a b c d → a ≡ front ++ zs → b ≡ front ++ ws → HaveOrderOf zs ws c d
 step front a b c d zs ws have is_a is_b =
-    record { order = λ answer is. have.order answer (subst (λ x. OrderingIs answer x b) (sym is_a) (subst (OrderingIs answer (front ++ zs)) (sym is_b) (order_after answer front zs ws is))) }
+    record {
+      order = λ answer is. have.order answer (subst (λ x. OrderingIs answer x b) (sym is_a)
+          (subst (OrderingIs answer (front ++ zs)) (sym is_b) (order_after answer front zs ws is)));
+    }
 
 -- the lists are written otherwise
 pub alike : (a b e f c d : List ℕ) → e ≡ a → f ≡ b → HaveOrderOf a b c d → HaveOrderOf e f c d
@@ -78,7 +85,8 @@ whole n front rest = ap (λ xs. xs ++ rest) (sym (take-append-drop n front)) ∙
 
 -- where the first bytes of the fronts differ, so do the lists
 pub fronts_decide : (answer : Ordering) (n : ℕ) (front_a front_b rest_a rest_b c d : List ℕ) → n ≤ length front_a → n ≤ length front_b
-    → OrderingIs answer (take n front_a) (take n front_b) → (answer ≡ Equal → ⊥) → HaveOrderOf (front_a ++ rest_a) (front_b ++ rest_b) c d → OrderingIs answer c d
+    → OrderingIs answer (take n front_a) (take n front_b) → (answer ≡ Equal → ⊥) → HaveOrderOf (front_a ++ rest_a) (front_b ++ rest_b) c d
+    → OrderingIs answer c d
 fronts_decide answer n front_a front_b rest_a rest_b c d long_a long_b is differ have =
     have.order answer
     (subst (λ x. OrderingIs answer x (front_b ++ rest_b)) (sym (whole n front_a rest_a))
@@ -87,7 +95,8 @@ fronts_decide answer n front_a front_b rest_a rest_b c d long_a long_b is differ
     (length-take-le n front_a long_a ∙ sym (length-take-le n front_b long_b)) is differ)))
 
 -- where the first bytes of the fronts are the same, the rest has the order
-pub fronts_agree : (n : ℕ) (front_a front_b a b after_a after_b c d : List ℕ) → take n front_a ≡ take n front_b → a ≡ take n front_a ++ after_a → b ≡ take n front_b ++ after_b
+pub fronts_agree : (n : ℕ) (front_a front_b a b after_a after_b c d : List ℕ) → take n front_a ≡ take n front_b → a ≡ take n front_a ++ after_a
+    → b ≡ take n front_b ++ after_b
     → HaveOrderOf a b c d → HaveOrderOf after_a after_b c d
 fronts_agree n front_a front_b a b after_a after_b c d same is_a is_b have =
     step (take n front_a) a b c d after_a after_b have is_a (is_b ∙ ap (λ front. front ++ after_b) (sym same))
@@ -98,8 +107,10 @@ one_empty (x ∷ xs) [] none = inr refl
 one_empty (x ∷ xs) (y ∷ ys) none = absurd (omega (arith, none))
 
 -- at the end of one of the lists
-pub ends_decide : (answer : Ordering) (front_a front_b rest_a rest_b c d : List ℕ) → min (length front_a) (length front_b) ≡ 0 → OrderingIs answer front_a front_b
-    → (front_a ≡ [] → front_a ++ rest_a ≡ []) → (front_b ≡ [] → front_b ++ rest_b ≡ []) → HaveOrderOf (front_a ++ rest_a) (front_b ++ rest_b) c d → OrderingIs answer c d
+pub ends_decide : (answer : Ordering) (front_a front_b rest_a rest_b c d : List ℕ) → min (length front_a) (length front_b) ≡ 0
+    → OrderingIs answer front_a front_b
+    → (front_a ≡ [] → front_a ++ rest_a ≡ []) → (front_b ≡ [] → front_b ++ rest_b ≡ []) → HaveOrderOf (front_a ++ rest_a) (front_b ++ rest_b) c d
+    → OrderingIs answer c d
 ends_decide answer front_a front_b rest_a rest_b c d none is end_a end_b have =
     have.order answer
     (order_at_end answer (front_a ++ rest_a) (front_b ++ rest_b) front_a front_b rest_a rest_b is refl refl end_a end_b (one_empty front_a front_b none))

@@ -17,7 +17,8 @@ use Rattle.bdb_overflow.specs.Whole.{IsLeft, IsLink, IsWholeChain, bytes_of, nex
 use Rattle.bdb_overflow.specs.declared.taken.Taken.{Taken}
 use Rattle.bdb_overflow.specs.declared.taken.Taken.TheVariants.{Each, WithData}
 use Rattle.bdb_overflow.proofs.LinkedLemmas.{legal_size}
-use Rattle.bdb_overflow.proofs.WholeLemmas.{after_left, data_at, left_short, left_whole, overflow_page, page_length, pieces_few_as, pieces_from_all, pieces_from_cons, whole_link}
+use Rattle.bdb_overflow.proofs.WholeLemmas.{after_left, data_at, left_short, left_whole, overflow_page, page_length, pieces_few_as, pieces_from_all}
+use Rattle.bdb_overflow.proofs.WholeLemmas.{pieces_from_cons, whole_link}
 
 -- Pieces with bytes.
 
@@ -73,8 +74,10 @@ pub itself : (order : Order) (size : ℕ) (image : List ℕ) (p q : ℕ) → q �
 itself order size image p q is left = subst (StandsFor order size image p) (sym is) (record { left = left; same = refl; few = omega arith })
 
 -- what a page of a chain is, in the file
-page_here : (image : List ℕ) (p : ℕ) → 26 ≤ (head_of image).page_size → IsLink (head_of image).order (head_of image).page_size image p → p ≤ (file_of image).last
-    → page_at (file_of image) p ≡ Overflow (header_of (head_of image).order (bytes_of (head_of image).page_size image p)) (data_at (head_of image).order (head_of image).page_size image p)
+page_here : (image : List ℕ) (p : ℕ) → 26 ≤ (head_of image).page_size → IsLink (head_of image).order (head_of image).page_size image p
+    → p ≤ (file_of image).last
+    → page_at (file_of image) p ≡ Overflow (header_of (head_of image).order (bytes_of (head_of image).page_size image p))
+    (data_at (head_of image).order (head_of image).page_size image p)
 page_here image p long link low =
     let head : Head = head_of image in
     page_is image p (omega (arith, low, last_page image))
@@ -91,8 +94,10 @@ stands (suc n) image p q legal comes left =
     let next : next_of (file_of image) p ≡ next_at order size image p = ap (λ page. (header_in page).next) here in
     let blank : data_at order size image p ≡ [] = sym (ap piece_in here) ∙ comes.0.none in
     let rest : StandsFor order size image (next_at order size image p) q =
-    stands n image (next_at order size image p) q legal (subst (λ r. ComesAfter n (file_of image) r q) next comes.1) (after_left order size image p legal whole) in
-    let are : pieces_from order size image p ≡ data_at order size image p ∷ pieces_from order size image (next_at order size image p) = pieces_from_cons order size image p legal whole in
+    stands n image (next_at order size image p) q legal (subst (λ r. ComesAfter n (file_of image) r q) next comes.1) (after_left order size image p legal whole)
+    in
+    let are : pieces_from order size image p ≡ data_at order size image p ∷ pieces_from order size image (next_at order size image p) = pieces_from_cons order
+    size image p legal whole in
     record {
       left = rest.left;
       same = rest.same ∙ sym (ap full_pieces are ∙ blank_first (data_at order size image p) (pieces_from order size image (next_at order size image p)) blank);

@@ -43,7 +43,8 @@ unchained image p forest none low =
     elim (cases_Bool (is_queue_page page)) [
       | inl queue ↦ in_a_queue file page queue
       | inr other ↦ any_of_all (is_wrong_length file) content_chains (contents_in page)
-          ∙ none_pass (is_wrong file) (contents_in page) (λ content held. no_wrong file content none (held_fits image p page content forest low refl other held))
+          ∙ none_pass (is_wrong file) (contents_in page) (λ content held. no_wrong file content none
+          (held_fits image p page content forest low refl other held))
     ]
 
 no_chains : (image : List ℕ) → IsForest image → list_any names_head (all_references (file_of image)) ≡ false → chain_faults (file_of image) ≡ []

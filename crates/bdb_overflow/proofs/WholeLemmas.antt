@@ -1,5 +1,6 @@
 -- A whole chain, page by page: enough turns are enough, and what comes after a page is whole.
-use Rattle.std.proofs.Common.{◌≡◌, ◌⊎◌, ℕ, zero, suc, ◌+◌, ◌*◌, ◌/◌, ◌<◌, ◌≤◌, Bool, true, false, cond, List, [], ◌∷◌, map, length, take, drop, arith, refl, sym, ◌∙◌, ap, inl, inr, length-append, length-drop, length-take}
+use Rattle.std.proofs.Common.{◌≡◌, ◌⊎◌, ℕ, zero, suc, ◌+◌, ◌*◌, ◌/◌, ◌<◌, ◌≤◌, Bool, true, false, cond, List, [], ◌∷◌, map, length, take, drop, arith, refl}
+use Rattle.std.proofs.Common.{sym, ◌∙◌, ap, inl, inr, length-append, length-drop, length-take}
 use Rattle.std.specs.Prelude.{◌==◌}
 use Rattle.std.proofs.lemmas.Bool.{eq-eqb, ne_eqb}
 use Rattle.std.proofs.lemmas.List.{length-map, length-take-le}
@@ -35,10 +36,12 @@ page_length size image p some there =
 not_zero : (page : List ℕ) → byte_at page 25 ≡ 7 → 26 ≤ length page → is_zero page ≡ false
 not_zero page seven long = list_all_at (λ b. b == 0) page 25 0 (omega arith) (ap (λ b. b == 0) seven)
 
-pub overflow_page : (order : Order) (page : List ℕ) → byte_at page 25 ≡ 7 → 26 ≤ length page → abstract_page order page ≡ Overflow (header_of order page) (take (two_at order page 22) (drop 26 page))
+pub overflow_page : (order : Order) (page : List ℕ) → byte_at page 25 ≡ 7 → 26 ≤ length page
+    → abstract_page order page ≡ Overflow (header_of order page) (take (two_at order page 22) (drop 26 page))
 overflow_page order page seven long = typed_page order page (not_zero page seven long) ∙ ap (λ b. page_as order page (page_type b)) seven
 
-pub page_as_is : (order : Order) (size : ℕ) (image : List ℕ) (p : ℕ) → p < length image / size → page_at (file_as order size image) p ≡ abstract_page order (bytes_of size image p)
+pub page_as_is : (order : Order) (size : ℕ) (image : List ℕ) (p : ℕ) → p < length image / size → page_at (file_as order size image) p
+    ≡ abstract_page order (bytes_of size image p)
 unfolding file_as
 page_as_is order size image p there =
     get_or-map-range_with_len (λ q. abstract_page order (bytes_of size image q)) 0 (length image / size) p p NoType there (omega arith)
@@ -53,10 +56,12 @@ link_page order size image p long link =
     page_as_is order size image p link.high
     ∙ overflow_page order (bytes_of size image p) link.kind (omega (arith, page_length size image p (omega arith) link.high))
 
-pub link_next : (order : Order) (size : ℕ) (image : List ℕ) (p : ℕ) → 26 ≤ size → IsLink order size image p → next_of (file_as order size image) p ≡ next_at order size image p
+pub link_next : (order : Order) (size : ℕ) (image : List ℕ) (p : ℕ) → 26 ≤ size → IsLink order size image p → next_of (file_as order size image) p
+    ≡ next_at order size image p
 link_next order size image p long link = ap (λ page. (header_in page).next) (link_page order size image p long link)
 
-pub link_piece : (order : Order) (size : ℕ) (image : List ℕ) (p : ℕ) → 26 ≤ size → IsLink order size image p → piece_in (page_at (file_as order size image) p) ≡ data_at order size image p
+pub link_piece : (order : Order) (size : ℕ) (image : List ℕ) (p : ℕ) → 26 ≤ size → IsLink order size image p → piece_in (page_at (file_as order size image) p)
+    ≡ data_at order size image p
 link_piece order size image p long link = ap piece_in (link_page order size image p long link)
 
 -- Turns.
@@ -85,12 +90,14 @@ pieces_turn turns file p =
 
 -- a page of a chain in one turn more than the rest of it takes
 link_turn : (turns : ℕ) (order : Order) (size : ℕ) (image : List ℕ) (p : ℕ) → 26 ≤ size → IsLink order size image p
-    → pieces_in (suc turns) (file_as order size image) p ≡ after_piece (next_at order size image p == 0) (data_at order size image p) (pieces_in turns (file_as order size image) (next_at order size image p))
+    → pieces_in (suc turns) (file_as order size image) p ≡ after_piece (next_at order size image p == 0) (data_at order size image p)
+    (pieces_in turns (file_as order size image) (next_at order size image p))
 link_turn turns order size image p long link =
     let file : File = file_as order size image in
     pieces_turn turns file p
     ∙ (ap (λ next. after_piece (next == 0) (piece_in (page_at file p)) (pieces_in turns file next)) (link_next order size image p long link)
-    ∙ ap (λ piece. after_piece (next_at order size image p == 0) piece (pieces_in turns file (next_at order size image p))) (link_piece order size image p long link))
+    ∙ ap (λ piece. after_piece (next_at order size image p == 0) piece (pieces_in turns file (next_at order size image p)))
+    (link_piece order size image p long link))
 
 -- enough turns are enough: one more gives the same pieces
 enough : (turns : ℕ) (order : Order) (size : ℕ) (image : List ℕ) (p : ℕ) → 26 ≤ size → EndsIn turns order size image p
@@ -122,15 +129,21 @@ whole_link order size image p whole = first_link (length image / size) order siz
 rest_of : (turns : ℕ) (order : Order) (size : ℕ) (image : List ℕ) (p : ℕ) → EndsIn turns order size image p
     → (next_at order size image p ≡ 0) ⊎ EndsIn turns order size image (next_at order size image p)
 rest_of zero order size image p ends = absurd ends
-rest_of (suc turns) order size image p ends = elim ends.1 [ inl last ↦ inl last | inr more ↦ inr (ends_later turns order size image (next_at order size image p) more) ]
+rest_of (suc turns) order size image p ends = elim ends.1 [
+  | inl last ↦ inl last
+  | inr more ↦ inr
+      (ends_later turns order size image (next_at order size image p) more)
+]
 
 -- what comes after a page of a whole chain is nothing, or a whole chain
-pub whole_rest : (order : Order) (size : ℕ) (image : List ℕ) (p : ℕ) → IsWholeChain order size image p → (next_at order size image p ≡ 0) ⊎ IsWholeChain order size image (next_at order size image p)
+pub whole_rest : (order : Order) (size : ℕ) (image : List ℕ) (p : ℕ) → IsWholeChain order size image p → (next_at order size image p ≡ 0)
+    ⊎ IsWholeChain order size image (next_at order size image p)
 whole_rest order size image p whole =
     elim (rest_of (length image / size) order size image p whole.ends) [ inl last ↦ inl last | inr more ↦ inr (record { ends = more }) ]
 
 pieces_step : (turns : ℕ) (order : Order) (size : ℕ) (image : List ℕ) (p : ℕ) → 26 ≤ size → EndsIn turns order size image p
-    → pieces_in turns (file_as order size image) p ≡ after_piece (next_at order size image p == 0) (data_at order size image p) (pieces_in turns (file_as order size image) (next_at order size image p))
+    → pieces_in turns (file_as order size image) p ≡ after_piece (next_at order size image p == 0) (data_at order size image p)
+    (pieces_in turns (file_as order size image) (next_at order size image p))
 pieces_step turns order size image p long ends =
     enough turns order size image p long ends ∙ link_turn turns order size image p long (first_link turns order size image p ends)
 
@@ -154,11 +167,13 @@ left_whole order size image p left more = elim left.rest [ inl last ↦ absurd (
 pub all_left : (order : Order) (size : ℕ) (image : List ℕ) (p : ℕ) → is_page_size size ≡ true → IsWholeChain order size image p → IsLeft order size image p
 all_left order size image p legal whole = record { legal = legal; rest = inr whole }
 
-pub after_left : (order : Order) (size : ℕ) (image : List ℕ) (p : ℕ) → is_page_size size ≡ true → IsWholeChain order size image p → IsLeft order size image (next_at order size image p)
+pub after_left : (order : Order) (size : ℕ) (image : List ℕ) (p : ℕ) → is_page_size size ≡ true → IsWholeChain order size image p
+    → IsLeft order size image (next_at order size image p)
 after_left order size image p legal whole = record { legal = legal; rest = whole_rest order size image p whole }
 
 -- all pieces of a chain are those of its pages
-pub pieces_from_all : (order : Order) (size : ℕ) (image : List ℕ) (p : ℕ) → IsWholeChain order size image p → pieces_from order size image p ≡ pieces_of (file_as order size image) p
+pub pieces_from_all : (order : Order) (size : ℕ) (image : List ℕ) (p : ℕ) → IsWholeChain order size image p → pieces_from order size image p
+    ≡ pieces_of (file_as order size image) p
 unfolding pieces_from
 pieces_from_all order size image p whole = rw (ne_eqb p 0 (omega (arith, (whole_link order size image p whole).low))) refl
 
@@ -202,7 +217,13 @@ chain_short (suc turns) order size image p long ends =
       | inr more ↦
           elim (next == 0) as (λ b. length (joined (after_piece b piece (pieces_in turns file next))) ≤ suc turns * size) [
             | true ↦ omega (arith, joined_cons piece [], data_short order size image p)
-            | false ↦ omega (arith, joined_cons piece (pieces_in turns file next), data_short order size image p, chain_short turns order size image next long more)
+            | false ↦ omega (
+              arith,
+              joined_cons piece (pieces_in turns file next),
+              data_short order size image p,
+              chain_short turns order size image next long
+                  more,
+            )
           ]
     ])
 
@@ -210,7 +231,8 @@ within : (n size : ℕ) → 1 ≤ size → n / size * size ≤ n
 within n size some = omega arith
 
 -- what is left of a chain isn't longer than the image
-pub left_short : (order : Order) (size : ℕ) (image : List ℕ) (p : ℕ) → IsLeft order size image p → length (joined (pieces_from order size image p)) ≤ length image
+pub left_short : (order : Order) (size : ℕ) (image : List ℕ) (p : ℕ) → IsLeft order size image p
+    → length (joined (pieces_from order size image p)) ≤ length image
 unfolding pieces_of file_as
 left_short order size image p left =
     elim left.rest [

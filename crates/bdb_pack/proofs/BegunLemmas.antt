@@ -7,7 +7,7 @@ use Rattle.bdb_format.specs.Numbers.{byte_at, pad4}
 use Rattle.bdb_format.specs.Reading.{entries_of, hash_end, index_end, offset_of, page_type}
 use Rattle.bdb_format.specs.Rows.{item_row}
 use Rattle.std.proofs.lemmas.List.{get_or-set_same}
-use Rattle.bdb_grove.proofs.GroveLemmas.{above}
+use Rattle.bdb_law_grove.proofs.GroveLemmas.{above}
 use Rattle.bdb_pack.specs.Built.{Built, bytes_of, with_page}
 use Rattle.bdb_pack.specs.OnPages.{HasPlaceOn, HasRoomOn, IsBegunOn, holds_on, with_item_on}
 use Rattle.bdb_pack.specs.Items.{HasPlace, IsWritable, OnHash, OnInternal, OnLeaf, OnRecno, PageItem, extent, holds_item, is_hash_type, item_bytes, takes_items}

@@ -1,6 +1,9 @@
 -- Bytes that are cut into pages.
-use Rattle.std.proofs.Common.{◌≡◌, ℕ, zero, suc, ◌+◌, ◌-◌, ◌*◌, ◌<◌, ◌≤◌, List, [], ◌∷◌, ◌++◌, length, take, drop, get_or, set, replicate, arith, refl, sym, ◌∙◌, ap, length-append, length-drop, length-take, min, inl, inr}
-use Rattle.std.proofs.lemmas.List.{length-take-le, take-append-drop, drop-drop, drop-take, get_or_append_left, get_or_push, get_or-set_other, get_or-set_same, length-replicate, length-set, drop_all, append-nil, take-take, take_all, take-append-le, drop-append-le, take_at, drop_at, append_assoc, nil_from_length}
+use Rattle.std.proofs.Common.{◌≡◌, ℕ, zero, suc, ◌+◌, ◌-◌, ◌*◌, ◌<◌, ◌≤◌, List, [], ◌∷◌, ◌++◌, length, take, drop, get_or, set, replicate, arith, refl, sym}
+use Rattle.std.proofs.Common.{◌∙◌, ap, length-append, length-drop, length-take, min, inl, inr}
+use Rattle.std.proofs.lemmas.List.{length-take-le, take-append-drop, drop-drop, drop-take, get_or_append_left, get_or_push, get_or-set_other, get_or-set_same}
+use Rattle.std.proofs.lemmas.List.{length-replicate, length-set, drop_all, append-nil, take-take, take_all, take-append-le, drop-append-le, take_at, drop_at}
+use Rattle.std.proofs.lemmas.List.{append_assoc, nil_from_length}
 use Rattle.std.specs.List.{copy_within}
 use Rattle.std.proofs.Math.Seq.{paste}
 use Rattle.std.proofs.Math.Nat.{mul-le-mul_right}

@@ -9,7 +9,7 @@ use Rattle.bdb_format.specs.Reading.{entries_of, index_end, is_zero, page_type}
 use Rattle.bdb_format.specs.Rows.{body_code, code_of, identity_rows, index_rows, is_tree_type, is_wrong_entry_count, is_wrong_level, item_row, page_code}
 use Rattle.bdb_format.specs.Table.{first_row, lesser}
 use Rattle.bdb_format.proofs.ItemLemmas.{items_next, least_below, least_items}
-use Rattle.bdb_grove.proofs.GroveLemmas.{above}
+use Rattle.bdb_law_grove.proofs.GroveLemmas.{above}
 use Rattle.bdb_pack.specs.Placing.{BegunIsFormed}
 use Rattle.bdb_pack.proofs.OpenLemmas.{open_is}
 use Rattle.bdb_pack.proofs.StandingLemmas.{not_zero}

@@ -10,7 +10,7 @@ use Rattle.bdb_format.specs.File.{file_of, page_at, page_bytes}
 use Rattle.bdb_format.specs.HeadOf.{head_of}
 use Rattle.bdb_format.specs.Reading.{abstract_page}
 use Rattle.bdb_format.proofs.FileLemmas.{last_page, page_is}
-use Rattle.bdb_grove.specs.Growing.{IsCounted}
+use Rattle.bdb_law_grove.specs.Growing.{IsCounted}
 use Rattle.bdb_pack.specs.Built.{AreWhole, Built, bytes_of, file_so_far, joined_pages}
 use Rattle.bdb_pack.proofs.CutLemmas.{all_size, page_of_cut}
 use Rattle.bdb_pack.specs.Stored.{ImagesAreLater}

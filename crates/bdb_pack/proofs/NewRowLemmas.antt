@@ -1,5 +1,6 @@
 -- No row of an item holds that was just placed.
-use Rattle.std.proofs.Common.{◌≡◌, ℕ, zero, suc, ◌+◌, ◌-◌, ◌<◌, ◌≤◌, Bool, true, false, not, cond, List, [], ◌∷◌, ◌++◌, length, drop, Option, Some, None, arith, refl, sym, ◌∙◌, ap, length-append}
+use Rattle.std.proofs.Common.{◌≡◌, ℕ, zero, suc, ◌+◌, ◌-◌, ◌<◌, ◌≤◌, Bool, true, false, not, cond, List, [], ◌∷◌, ◌++◌, length, drop, Option, Some, None, arith}
+use Rattle.std.proofs.Common.{refl, sym, ◌∙◌, ap, length-append}
 use Rattle.std.specs.Prelude.{◌==◌, ◌||◌, ◌&&◌, ◌%◌, is_none, nat_le, nat_lt, slice_range}
 use Rattle.std.specs.List.{flat_map}
 use Rattle.std.specs.Option.{unwrap_or}
@@ -13,8 +14,9 @@ use Rattle.bdb_format.specs.Reading.{blocks_of, hash_end, hash_item_at, index_en
 use Rattle.bdb_format.specs.Rows.{hash_rows, internal_rows, is_hash_kind, is_leaf_kind, item_row, leaf_end, leaf_rows, misses_extent, recno_rows}
 use Rattle.bdb_format.specs.Spelling.{IsHashContent, IsKey, IsLeafContent, block_bytes, hash_bytes, internal_bytes, kind_byte, leaf_bytes, recno_bytes, zeros}
 use Rattle.bdb_format.proofs.SpellingLemmas.{byte_at-in, length-spelled, number_at-in, slice_range-in}
-use Rattle.bdb_layout.proofs.WritingLemmas.{length-hash_chain, length-hash_tree, length-internal_chain, length-internal_inline, length-leaf_chain, length-leaf_tree}
-use Rattle.bdb_grove.proofs.GroveLemmas.{above}
+use Rattle.bdb_layout.proofs.WritingLemmas.{length-hash_chain, length-hash_tree, length-internal_chain, length-internal_inline, length-leaf_chain}
+use Rattle.bdb_layout.proofs.WritingLemmas.{length-leaf_tree}
+use Rattle.bdb_law_grove.proofs.GroveLemmas.{above}
 use Rattle.bdb_pack.specs.Items.{IsHashPlace, IsLeafPlace}
 use Rattle.bdb_pack.proofs.OpenLemmas.{length-recno}
 use Rattle.bdb_pack.proofs.RowsLemmas.{three_none}

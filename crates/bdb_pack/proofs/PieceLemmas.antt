@@ -11,7 +11,7 @@ use Rattle.bdb_format.specs.Reading.{header_of, page_type}
 use Rattle.bdb_format.specs.Rows.{body_code}
 use Rattle.bdb_format.specs.Spelling.{header_bytes}
 use Rattle.bdb_format.proofs.SizeLemmas.{size_bounds}
-use Rattle.bdb_grove.proofs.GroveLemmas.{above}
+use Rattle.bdb_law_grove.proofs.GroveLemmas.{above}
 use Rattle.bdb_pack.specs.Values.{ChainPagesAreFormed, chain_page, piece_header, piece_length, piece_next}
 use Rattle.bdb_pack.proofs.FormLemmas.{code_none}
 use Rattle.bdb_pack.proofs.HeaderLemmas.{Fits, header_read, length-header}

@@ -7,12 +7,14 @@ use Rattle.bdb_format.specs.declared.pages.RecnoItem.{RecnoItem}
 use Rattle.bdb_format.specs.Spelling.{IsHashContent, IsLeafContent}
 use Rattle.bdb_format.specs.Numbers.{byte_at, pad4}
 use Rattle.bdb_format.specs.Page.{Content, DupLeaf, Hash, Internal, InternalItem, Item, Leaf, RecnoInternal, RecnoLeaf}
-use Rattle.bdb_format.specs.Reading.{abstract_page, entries_of, hash_end, hash_item_at, internal_item_at, leaf_item_at, listed, page_as, page_type, recno_item_at}
+use Rattle.bdb_format.specs.Reading.{abstract_page, entries_of, hash_end, hash_item_at, internal_item_at, leaf_item_at, listed, page_as, page_type}
+use Rattle.bdb_format.specs.Reading.{recno_item_at}
 use Rattle.bdb_pack.specs.Items.{IsWritable, OnHash, OnInternal, OnLeaf, OnRecno, PageItem, extent, holds_item, is_hash_type, is_leaf_type, item_bytes}
 use Rattle.bdb_pack.specs.Placing.{IsBegun, ItemsArePlaced, high_free_of, page_and_item, page_with, place_below, with_item}
 use Rattle.bdb_pack.proofs.OpenLemmas.{open_is}
 use Rattle.bdb_pack.proofs.PlacedLemmas.{IsPlaced, extent-le, is_below}
-use Rattle.bdb_pack.proofs.StandingLemmas.{end_same, hash_here, hash_item_same, internal_here, internal_item_same, leaf_here, leaf_item_same, listed_more, recno_here, recno_item_same, typed}
+use Rattle.bdb_pack.proofs.StandingLemmas.{end_same, hash_here, hash_item_same, internal_here, internal_item_same, leaf_here, leaf_item_same, listed_more}
+use Rattle.bdb_pack.proofs.StandingLemmas.{recno_here, recno_item_same, typed}
 use Rattle.bdb_pack.proofs.TypeLemmas.{cases_hash, cases_leaf, hash_page}
 use Rattle.bdb_pack.proofs.RowsLemmas.{least_is_last}
 

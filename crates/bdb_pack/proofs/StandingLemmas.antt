@@ -10,7 +10,8 @@ use Rattle.bdb_format.specs.declared.pages.Header.{Header}
 use Rattle.bdb_format.specs.declared.pages.RecnoItem.{RecnoItem}
 use Rattle.bdb_format.specs.Numbers.{byte_at, four_at, two_at}
 use Rattle.bdb_format.specs.Page.{Chain, Content, Inline, InternalItem, Item, Listed, Tree}
-use Rattle.bdb_format.specs.Reading.{abstract_page, entries_of, hash_content, hash_end, hash_item_at, header_of, internal_item_at, internal_key, is_deleted, is_zero, kind_at, leaf_content, leaf_item_at, listed, offset_of, page_as, page_type, recno_item_at}
+use Rattle.bdb_format.specs.Reading.{abstract_page, entries_of, hash_content, hash_end, hash_item_at, header_of, internal_item_at, internal_key, is_deleted}
+use Rattle.bdb_format.specs.Reading.{is_zero, kind_at, leaf_content, leaf_item_at, listed, offset_of, page_as, page_type, recno_item_at}
 use Rattle.bdb_format.specs.Spelling.{IsHashContent, IsKey, IsLeafContent, hash_bytes, internal_bytes, leaf_bytes, recno_bytes}
 use Rattle.bdb_format.proofs.ListLemmas.{range_more}
 use Rattle.bdb_layout.proofs.ReadBackLemmas.{hash_items_read_back, internal_items_read_back, leaf_items_read_back, recno_items_read_back}

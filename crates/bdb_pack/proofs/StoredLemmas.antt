@@ -1,5 +1,6 @@
 -- The pages of a stored value, read back, are a chain of it.
-use Rattle.std.proofs.Common.{◌≡◌, ℕ, suc, ◌+◌, ◌-◌, ◌^◌, ◌<◌, ◌≤◌, true, false, cond, List, [], ◌∷◌, ◌++◌, length, take, drop, get_or, arith, refl, sym, ◌∙◌, inl, inr, subst, ap, length-append, length-drop}
+use Rattle.std.proofs.Common.{◌≡◌, ℕ, suc, ◌+◌, ◌-◌, ◌^◌, ◌<◌, ◌≤◌, true, false, cond, List, [], ◌∷◌, ◌++◌, length, take, drop, get_or, arith, refl, sym, ◌∙◌}
+use Rattle.std.proofs.Common.{inl, inr, subst, ap, length-append, length-drop}
 use Rattle.std.specs.Prelude.{nat_lt}
 use Rattle.std.proofs.lemmas.Bool.{lt-ltb}
 use Rattle.std.proofs.lemmas.List.{append-nil, get_or-append-add, get_or-map, length-take-le, take-append-drop}
@@ -10,8 +11,8 @@ use Rattle.bdb_format.specs.Page.{NoType, Overflow, Page}
 use Rattle.bdb_format.specs.File.{File, header_in, page_at}
 use Rattle.bdb_format.specs.Reading.{abstract_page}
 use Rattle.bdb_format.specs.Chains.{joined, piece_in}
-use Rattle.bdb_grove.specs.Growing.{IsLink, IsRun, IsSamePage, chain_header}
-use Rattle.bdb_grove.proofs.ChainLemmas.{chains_stand, is_between}
+use Rattle.bdb_law_grove.specs.Growing.{IsLink, IsRun, IsSamePage, chain_header}
+use Rattle.bdb_law_grove.proofs.ChainLemmas.{chains_stand, is_between}
 use Rattle.bdb_pack.specs.Built.{bytes_of, file_so_far}
 use Rattle.bdb_pack.specs.Stored.{AreFull, StoredValuesStand}
 use Rattle.bdb_pack.specs.Values.{AreChainPages, chain_page, piece_length, piece_next}

@@ -4,7 +4,8 @@ use Rattle.bdb_format.specs.declared.kinds.Order.{Order}
 use Rattle.bdb_format.specs.declared.pages.Header.{Header}
 use Rattle.bdb_format.specs.HeadOf.{is_page_size}
 use Rattle.bdb_format.specs.Numbers.{byte_at, four_at, overwritten, spelled, two_at}
-use Rattle.bdb_format.specs.Page.{DupLeaf, DupLeafPage, Hash, HashPage, Internal, InternalPage, Item, Leaf, LeafPage, Listed, NoType, Page, PageType, RecnoInternal, RecnoInternalPage, RecnoLeaf, RecnoLeafPage}
+use Rattle.bdb_format.specs.Page.{DupLeaf, DupLeafPage, Hash, HashPage, Internal, InternalPage, Item, Leaf, LeafPage, Listed, NoType, Page, PageType}
+use Rattle.bdb_format.specs.Page.{RecnoInternal, RecnoInternalPage, RecnoLeaf, RecnoLeafPage}
 use Rattle.bdb_format.specs.Reading.{abstract_page, entries_of, index_end, leaf_item_at, offset_of, page_type}
 use Rattle.bdb_format.specs.Rows.{is_wrong_entry_count, is_wrong_level, item_row, page_code}
 use Rattle.bdb_format.specs.Spelling.{header_bytes}

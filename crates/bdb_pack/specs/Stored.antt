@@ -4,8 +4,8 @@ use Rattle.bdb_format.specs.declared.metadata.FileKind.TheVariants.{Queue}
 use Rattle.bdb_format.specs.Chains.{joined}
 use Rattle.bdb_format.specs.File.{File, file_of}
 use Rattle.bdb_format.specs.HeadOf.{head_of, is_page_size}
-use Rattle.bdb_grove.specs.Growing.{IsChainOf, IsCounted, IsLater, IsRun}
-use Rattle.bdb_grove.specs.Part.{between}
+use Rattle.bdb_law_grove.specs.Growing.{IsChainOf, IsCounted, IsLater, IsRun}
+use Rattle.bdb_law_grove.specs.Part.{between}
 use Rattle.bdb_pack.specs.Built.{AreWhole, Built, file_so_far, joined_pages}
 use Rattle.bdb_pack.specs.Values.{HasChain}
 

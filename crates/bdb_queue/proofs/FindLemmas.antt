@@ -1,5 +1,6 @@
 -- What a queue has under a number: the record of the one slot that has this number, where it's live.
-use Rattle.std.proofs.Common.{◌≡◌, ℕ, zero, suc, ◌+◌, ◌-◌, ◌*◌, ◌/◌, ◌%◌, ◌<◌, ◌≤◌, Bool, List, [], ◌∷◌, ◌++◌, arith, refl, sym, ◌∙◌, ap, inl, inr, ne_eqb, eq-eqb, append-nil}
+use Rattle.std.proofs.Common.{◌≡◌, ℕ, zero, suc, ◌+◌, ◌-◌, ◌*◌, ◌/◌, ◌%◌, ◌<◌, ◌≤◌, Bool, List, [], ◌∷◌, ◌++◌, arith, refl, sym, ◌∙◌, ap, inl, inr, ne_eqb}
+use Rattle.std.proofs.Common.{eq-eqb, append-nil}
 use Rattle.std.specs.List.{filter, flat_map, range_with_len}
 use Rattle.std.proofs.lemmas.Bool.{cases_eq, cases_lt}
 use Rattle.std.proofs.lemmas.List.Elements.{filter-append}
@@ -26,7 +27,8 @@ all_empty f a (suc n) empty =
     ap (λ ys. ys ++ flat_map f (range_with_len (a + 1) n)) (empty a (omega arith) (omega arith))
     ∙ all_empty f (a + 1) n (λ x low high. empty x (omega arith) (omega arith))
 
-only_one : {Y : Type 0} (f : ℕ → List Y) (a n k : ℕ) → a ≤ k → k < a + n → ((x : ℕ) → a ≤ x → x < a + n → (x ≡ k → ⊥) → f x ≡ []) → flat_map f (range_with_len a n) ≡ f k
+only_one : {Y : Type 0} (f : ℕ → List Y) (a n k : ℕ) → a ≤ k → k < a + n → ((x : ℕ) → a ≤ x → x < a + n → (x ≡ k → ⊥) → f x ≡ [])
+    → flat_map f (range_with_len a n) ≡ f k
 only_one f a zero k low high empty = absurd (omega arith)
 only_one f a (suc n) k low high empty =
     elim (cases_eq a k) [
@@ -43,18 +45,22 @@ only_one f a (suc n) k low high empty =
 abbrev has_number : ℕ → (ListKey × List ℕ) → Bool
 has_number number entry = is_key entry.0 (NumberKey number)
 
-other_slot : (meta : QueueMeta) (p : ℕ) (records : List ℕ) (slot number : ℕ) → (record_number meta p slot ≡ number → ⊥) → filter (has_number number) (listed_slot meta p records slot) ≡ []
+other_slot : (meta : QueueMeta) (p : ℕ) (records : List ℕ) (slot number : ℕ) → (record_number meta p slot ≡ number → ⊥)
+    → filter (has_number number) (listed_slot meta p records slot) ≡ []
 other_slot meta p records slot number other = grind (arith, ne_eqb (record_number meta p slot) number other)
 
-own_slot : (meta : QueueMeta) (p : ℕ) (records : List ℕ) (slot number : ℕ) → record_number meta p slot ≡ number → filter (has_number number) (listed_slot meta p records slot) ≡ listed_slot meta p records slot
+own_slot : (meta : QueueMeta) (p : ℕ) (records : List ℕ) (slot number : ℕ) → record_number meta p slot ≡ number
+    → filter (has_number number) (listed_slot meta p records slot) ≡ listed_slot meta p records slot
 own_slot meta p records slot number own = grind (arith, eq-eqb (record_number meta p slot) number own)
 
 -- Pages.
 
-other_page : (meta : QueueMeta) (p number : ℕ) (page : Page) → ((slot : ℕ) → slot < meta.per_page → record_number meta p slot ≡ number → ⊥) → filter (has_number number) (page_records meta p page) ≡ []
+other_page : (meta : QueueMeta) (p number : ℕ) (page : Page) → ((slot : ℕ) → slot < meta.per_page → record_number meta p slot ≡ number → ⊥)
+    → filter (has_number number) (page_records meta p page) ≡ []
 other_page meta p number (Queue n records) other =
     filter_parts (has_number number) (listed_slot meta p records) (range_with_len 0 meta.per_page)
-    ∙ all_empty (λ slot. filter (has_number number) (listed_slot meta p records slot)) 0 meta.per_page (λ slot low high. other_slot meta p records slot number (other slot (omega arith)))
+    ∙ all_empty (λ slot. filter (has_number number) (listed_slot meta p records slot)) 0 meta.per_page
+    (λ slot low high. other_slot meta p records slot number (other slot (omega arith)))
 other_page meta p number page other = refl
 
 own_page : (meta : QueueMeta) (p number slot : ℕ) (page : Page) → slot < meta.per_page → record_number meta p slot ≡ number
@@ -85,7 +91,8 @@ place_of meta index p slot low inside own =
 number_of : (meta : QueueMeta) (index : ℕ) → record_number meta (index / meta.per_page + 1) (index % meta.per_page) ≡ index + 1
 number_of meta index =
     let whole : index / meta.per_page * meta.per_page + index % meta.per_page ≡ index = div-add-mod' index meta.per_page in
-    ap (λ q. q * meta.per_page + index % meta.per_page + 1) (let less : index / meta.per_page + 1 - 1 ≡ index / meta.per_page = omega arith in less) ∙ (omega arith)
+    ap (λ q. q * meta.per_page + index % meta.per_page + 1) (let less : index / meta.per_page + 1 - 1 ≡ index / meta.per_page = omega arith in less)
+    ∙ (omega arith)
 
 -- The list of a queue.
 
@@ -94,9 +101,11 @@ pub none_under_zero : (file : File) (meta : QueueMeta) → [] ≡ get (queue_lis
 unfolding queue_list
 none_under_zero file meta =
     sym (ap data_in (filter_parts (has_number 0) (λ p. page_records meta p (page_at file p)) (range_with_len 1 file.last)
-    ∙ all_empty (λ p. filter (has_number 0) (page_records meta p (page_at file p))) 1 file.last (λ p low high. other_page meta p 0 (page_at file p) (λ slot inside is. omega arith))))
+    ∙ all_empty (λ p. filter (has_number 0) (page_records meta p (page_at file p))) 1 file.last
+    (λ p low high. other_page meta p 0 (page_at file p) (λ slot inside is. omega arith))))
 
-pub record_under : (image : List ℕ) (meta : QueueMeta) (index : ℕ) → 1 ≤ meta.per_page → data_in (record_of (file_of image) meta index) ≡ get (queue_list (file_of image) meta) (NumberKey (index + 1))
+pub record_under : (image : List ℕ) (meta : QueueMeta) (index : ℕ) → 1 ≤ meta.per_page → data_in (record_of (file_of image) meta index)
+    ≡ get (queue_list (file_of image) meta) (NumberKey (index + 1))
 unfolding queue_list
 record_under image meta index some =
     let file : File = file_of image in
@@ -118,7 +127,9 @@ record_under image meta index some =
     ]))
 
 -- no record has its place past the last page
-pub none_past : (image : List ℕ) (meta : QueueMeta) (index : ℕ) → 1 ≤ meta.per_page → (file_of image).last ≤ index / meta.per_page → [] ≡ get (queue_list (file_of image) meta) (NumberKey (index + 1))
+pub none_past : (image : List ℕ) (meta : QueueMeta) (index : ℕ) → 1 ≤ meta.per_page → (file_of image).last ≤ index / meta.per_page
+    → [] ≡ get (queue_list (file_of image) meta) (NumberKey (index + 1))
 none_past image meta index some past =
-    sym (ap (λ q. data_in (record_in_slot meta (index / meta.per_page + 1) q (index % meta.per_page))) (past_last image (index / meta.per_page + 1) (omega arith)))
+    sym (ap (λ q. data_in (record_in_slot meta (index / meta.per_page + 1) q (index % meta.per_page)))
+    (past_last image (index / meta.per_page + 1) (omega arith)))
     ∙ record_under image meta index some

@@ -28,7 +28,8 @@ use Rattle.bdb_overflow.proofs.LinkedLemmas.{type_byte}
 
 -- a page of a type is that page of its bytes
 page_of_type : (image : List ℕ) (p t : ℕ) → p ≤ (file_of image).last → type_in (page_at (file_of image) p) ≡ Some t
-    → (byte_at (page_bytes (head_of image) image p) 25 ≡ t) × (page_at (file_of image) p ≡ page_as (head_of image).order (page_bytes (head_of image) image p) (page_type t))
+    → (byte_at (page_bytes (head_of image) image p) 25 ≡ t) × (page_at (file_of image) p ≡ page_as (head_of image).order (page_bytes (head_of image) image p)
+    (page_type t))
 page_of_type image p t low is =
     let head : Head = head_of image in
     let bytes : List ℕ = page_bytes head image p in
@@ -39,7 +40,8 @@ page_of_type image p t low is =
 -- a page of a file has the size of its pages
 page_size : (image : List ℕ) (p : ℕ) → IsForest image → p ≤ (file_of image).last → length (page_bytes (head_of image) image p) ≡ (head_of image).page_size
 page_size image p forest low =
-    page_length image (head_of image) p (formed_accepted image (head_of image) forest.formed) (let few = formed_last image (head_of image) forest.formed in omega (arith, low, last_page image))
+    page_length image (head_of image) p (formed_accepted image (head_of image) forest.formed)
+    (let few = formed_last image (head_of image) forest.formed in omega (arith, low, last_page image))
 
 -- the metadata of a queue tells how many records a page has, at least one, and no record has number 0
 pub record IsQueue (image : List ℕ) (meta : QueueMeta) : Type 0 where
@@ -77,7 +79,9 @@ queue_is image meta forest has =
     let size : length bytes ≡ head.page_size = page_size image has.page forest has.inside in
     let at = page_of_type image has.page 10 has.inside (ap type_in has.is) in
     let none : form_code head has.page bytes ≡ None = formed_page image has.page forest.formed.form (omega (arith, has.inside, last_page image)) in
-    let kept : IsKept (length bytes) (queue_fields head.order bytes) = fields_kept head.order bytes (queue_formed head has.page bytes (subst (λ n. is_page_size n ≡ true) (sym size) (accepted_paged image head (formed_accepted image head forest.formed)).legal) at.0 none) in
+    let kept : IsKept (length bytes) (queue_fields head.order bytes) = fields_kept head.order bytes
+    (queue_formed head has.page bytes (subst (λ n. is_page_size n ≡ true) (sym size)
+    (accepted_paged image head (formed_accepted image head forest.formed)).legal) at.0 none) in
     let pages : Meta (QueueFields meta) ≡ Meta (QueueFields (queue_fields head.order bytes)) = sym has.is ∙ at.1 in
     let same : meta ≡ queue_fields head.order bytes = cc in
     let told : IsKept head.page_size meta = subst (λ n. IsKept n meta) size (subst (IsKept (length bytes)) (sym same) kept) in
@@ -87,7 +91,8 @@ pub some_slots : (image : List ℕ) (meta : QueueMeta) → IsForest image → Ha
 some_slots image meta forest has = let some : 1 ≤ meta.per_page = (queue_is image meta forest has).some in omega arith
 
 -- a page of records has the slots of a page
-pub page_slots : (image : List ℕ) (meta : QueueMeta) (p : ℕ) (view : QueuePage) → IsForest image → HasMetadata (file_of image) (QueueFields meta) → p ≤ (file_of image).last
+pub page_slots : (image : List ℕ) (meta : QueueMeta) (p : ℕ) (view : QueuePage) → IsForest image → HasMetadata (file_of image) (QueueFields meta)
+    → p ≤ (file_of image).last
     → Queue view.number view.bytes ≡ page_at (file_of image) p → HasSlots meta view.bytes
 page_slots image meta p view forest has low is =
     let bytes : List ℕ = page_bytes (head_of image) image p in
@@ -95,5 +100,6 @@ page_slots image meta p view forest has low is =
     let pages : Queue view.number view.bytes ≡ Queue (four_at (head_of image).order bytes 8) (drop 28 bytes) = is ∙ at.1 in
     let same : view.bytes ≡ drop 28 bytes = cc in
     let queue : IsQueue image meta = queue_is image meta forest has in
-    let fits : records_per_page (head_of image).page_size meta.re_len * pad4 (meta.re_len + 1) ≤ (head_of image).page_size - 28 = div-mul-le_self ((head_of image).page_size - 28) (pad4 (meta.re_len + 1)) in
+    let fits : records_per_page (head_of image).page_size meta.re_len * pad4 (meta.re_len + 1) ≤ (head_of image).page_size - 28 = div-mul-le_self
+    ((head_of image).page_size - 28) (pad4 (meta.re_len + 1)) in
     omega (arith, ap length same, length-drop 28 bytes, page_size image p forest low, ap (λ n. n * pad4 (meta.re_len + 1)) queue.per_page, fits)

@@ -18,19 +18,24 @@ unfolding slots_from
 none_from meta p records slot past =
     ap (λ n. flat_map (listed_slot meta p records) (range_with_len slot n)) (let none : meta.per_page - slot ≡ 0 = omega arith in none)
 
-pub next_from : (meta : QueueMeta) (p : ℕ) (records : List ℕ) (slot : ℕ) → slot < meta.per_page → slots_from meta p records slot ≡ listed_slot meta p records slot ++ slots_from meta p records (slot + 1)
+pub next_from : (meta : QueueMeta) (p : ℕ) (records : List ℕ) (slot : ℕ) → slot < meta.per_page → slots_from meta p records slot
+    ≡ listed_slot meta p records slot ++ slots_from meta p records (slot + 1)
 unfolding slots_from
 next_from meta p records slot inside =
-    ap (λ n. flat_map (listed_slot meta p records) (range_with_len slot n)) (let some : meta.per_page - slot ≡ suc (meta.per_page - (slot + 1)) = omega arith in some)
+    ap (λ n. flat_map (listed_slot meta p records) (range_with_len slot n))
+    (let some : meta.per_page - slot ≡ suc (meta.per_page - (slot + 1)) = omega arith in some)
 
-pub slot_room : (meta : QueueMeta) (records : List ℕ) (slot : ℕ) → slot < meta.per_page → HasSlots meta records → (slot + 1) * pad4 (meta.re_len + 1) ≤ length records
-slot_room meta records slot inside room = let part : (slot + 1) * pad4 (meta.re_len + 1) ≤ meta.per_page * pad4 (meta.re_len + 1) = mul-le-mul_right (pad4 (meta.re_len + 1)) (omega arith) in omega arith
+pub slot_room : (meta : QueueMeta) (records : List ℕ) (slot : ℕ) → slot < meta.per_page → HasSlots meta records
+    → (slot + 1) * pad4 (meta.re_len + 1) ≤ length records
+slot_room meta records slot inside room = let part : (slot + 1) * pad4 (meta.re_len + 1) ≤ meta.per_page * pad4 (meta.re_len + 1) = mul-le-mul_right
+    (pad4 (meta.re_len + 1)) (omega arith) in omega arith
 
 -- The pages of a queue.
 
 pub from_start : (meta : QueueMeta) (p : ℕ) (page : Page) → records_from meta p page 0 ≡ page_records meta p page
 unfolding slots_from
-from_start meta p (Queue number records) = ap (λ n. flat_map (listed_slot meta p records) (range_with_len 0 n)) (let whole : meta.per_page - 0 ≡ meta.per_page = omega arith in whole)
+from_start meta p (Queue number records) = ap (λ n. flat_map (listed_slot meta p records) (range_with_len 0 n))
+    (let whole : meta.per_page - 0 ≡ meta.per_page = omega arith in whole)
 from_start meta p page = refl
 
 no_records : (meta : QueueMeta) (p slot : ℕ) (page : Page) → page ≡ NoType → records_from meta p page slot ≡ []
@@ -40,7 +45,8 @@ pub none_left : (image : List ℕ) (meta : QueueMeta) (p slot : ℕ) → (file_o
 unfolding left_from
 none_left image meta p slot past =
     let file : File = file_of image in
-    ap (λ (records : List (ListKey × List ℕ)). records ++ flat_map (λ q. page_records meta q (page_at file q)) (range_with_len (p + 1) (file.last - p))) (no_records meta p slot (page_at file p) (past_last image p past))
+    ap (λ (records : List (ListKey × List ℕ)). records ++ flat_map (λ q. page_records meta q (page_at file q)) (range_with_len (p + 1) (file.last - p)))
+    (no_records meta p slot (page_at file p) (past_last image p past))
     ∙ ap (λ n. flat_map (λ q. page_records meta q (page_at file q)) (range_with_len (p + 1) n)) (let none : file.last - p ≡ 0 = omega arith in none)
 
 pages_from : File → QueueMeta → ℕ → ℕ → List (ListKey × List ℕ)
@@ -68,12 +74,15 @@ next_page image meta p slot low none =
     ∙ (ap (λ n. pages_from file meta (p + 1) n) (let same : file.last - p ≡ file.last + 1 - (p + 1) = omega arith in same) ∙ sym (from_page image meta (p + 1)))
 
 -- a record is taken off the front
-pub next_record : (file : File) (meta : QueueMeta) (p slot after : ℕ) (entry : ListKey × List ℕ) → records_from meta p (page_at file p) slot ≡ entry ∷ records_from meta p (page_at file p) after
+pub next_record : (file : File) (meta : QueueMeta) (p slot after : ℕ) (entry : ListKey × List ℕ) → records_from meta p (page_at file p) slot ≡ entry
+    ∷ records_from meta p (page_at file p) after
     → left_from file meta p slot ≡ entry ∷ left_from file meta p after
 unfolding left_from
-next_record file meta p slot after entry is = ap (λ (records : List (ListKey × List ℕ)). records ++ flat_map (λ q. page_records meta q (page_at file q)) (range_with_len (p + 1) (file.last - p))) is
+next_record file meta p slot after entry is = ap (λ (records : List (ListKey × List ℕ)). records ++ flat_map (λ q. page_records meta q (page_at file q))
+    (range_with_len (p + 1) (file.last - p))) is
 
 -- all records of a queue
 pub whole_queue : (image : List ℕ) (meta : QueueMeta) → left_from (file_of image) meta 1 0 ≡ queue_list (file_of image) meta
 unfolding queue_list pages_from
-whole_queue image meta = from_page image meta 1 ∙ ap (λ n. pages_from (file_of image) meta 1 n) (let same : (file_of image).last + 1 - 1 ≡ (file_of image).last = omega arith in same)
+whole_queue image meta = from_page image meta 1 ∙ ap (λ n. pages_from (file_of image) meta 1 n)
+    (let same : (file_of image).last + 1 - 1 ≡ (file_of image).last = omega arith in same)

@@ -27,7 +27,8 @@ records_from meta p page slot = []
 
 -- the records of a queue from a slot of a page on
 unfoldable pub left_from : File → QueueMeta → ℕ → ℕ → List (ListKey × List ℕ)
-left_from file meta p slot = records_from meta p (page_at file p) slot ++ flat_map (λ q. page_records meta q (page_at file q)) (range_with_len (p + 1) (file.last - p))
+left_from file meta p slot = records_from meta p (page_at file p) slot ++ flat_map (λ q. page_records meta q (page_at file q))
+    (range_with_len (p + 1) (file.last - p))
 
 -- the slots of a page lie on it
 abbrev pub HasSlots : QueueMeta → List ℕ → Type 0

@@ -1,5 +1,6 @@
 -- A page of a chain that has no page before it is the head of a chain: a reference names it, and it's none to a next page.
-use Rattle.std.proofs.Common.{◌≡◌, ◌⊎◌, ℕ, zero, suc, ◌+◌, ◌≤◌, Bool, true, false, cond, not, ◌&&◌, ◌||◌, List, [], ◌∷◌, map, Option, Some, None, arith, refl, sym, ◌∙◌, ap, subst, inl, inr, true≢false}
+use Rattle.std.proofs.Common.{◌≡◌, ◌⊎◌, ℕ, zero, suc, ◌+◌, ◌≤◌, Bool, true, false, cond, not, ◌&&◌, ◌||◌, List, [], ◌∷◌, map, Option, Some, None, arith, refl}
+use Rattle.std.proofs.Common.{sym, ◌∙◌, ap, subst, inl, inr, true≢false}
 use Rattle.std.specs.Prelude.{◌==◌}
 use Rattle.std.specs.List.{Contains, flat_map, range_with_len}
 use Rattle.std.proofs.lemmas.Bool.{cases_Bool, eqb-true, not-false, or_from}
@@ -20,7 +21,8 @@ use Rattle.bdb_format.specs.Numbers.{byte_at}
 use Rattle.bdb_format.specs.Page.{BtreeFields, HashFields, Content, Chain, Tree, InternalItem, Page}
 use Rattle.bdb_format.specs.Page.{Free, Meta, Hash, Internal, RecnoInternal, Leaf, RecnoLeaf, DupLeaf, Overflow}
 use Rattle.bdb_format.specs.Reading.{abstract_page, is_zero, page_as, page_type}
-use Rattle.bdb_format.specs.References.{asked_by, child_types, content_targets, contents_in, first_free, fit_code, fit_rows, has_type, internal_targets, is_asked, is_zero_page, root_types, targets_in, unless_zero}
+use Rattle.bdb_format.specs.References.{asked_by, child_types, content_targets, contents_in, first_free, fit_code, fit_rows, has_type, internal_targets}
+use Rattle.bdb_format.specs.References.{is_asked, is_zero_page, root_types, targets_in, unless_zero}
 use Rattle.bdb_format.specs.Rows.{form_code, type_of}
 use Rattle.bdb_format.proofs.FileLemmas.{last_page, page_is}
 use Rattle.bdb_format.proofs.GraphLemmas.{IsOwner, is_owner, owner_fits, reserve_is, typed_page, zero_page}
@@ -169,7 +171,8 @@ asked file p reference view fits is first =
     let asked = asked_by p (page_at file p) reference.sort in
     let rows = fit_rows file asked reference.target in
     let fail : AllFail rows = none_is_first_row rows fits in
-    let kind : (has_type asked.types (type_in (page_at file reference.target)) || (asked.or_zero && is_zero_page (page_at file reference.target))) ≡ true = not-false _ fail.1.0 in
+    let kind : (has_type asked.types (type_in (page_at file reference.target)) || (asked.or_zero && is_zero_page (page_at file reference.target)))
+    ≡ true = not-false _ fail.1.0 in
     let back : is_asked asked.previous (header_in (page_at file reference.target)).previous ≡ true = not-false _ fail.1.1.1.0 in
     record {
       types = or_right (has_type asked.types (Some 7)) asked.or_zero
@@ -190,7 +193,8 @@ target_of file p owner at is =
 
 -- It is neither an anchor nor a reserve.
 
-no_top : (image : List ℕ) (p : ℕ) (view : OverflowPage) → IsForest image → p ≤ (file_of image).last → page_at (file_of image) p ≡ Overflow view.header view.bytes
+no_top : (image : List ℕ) (p : ℕ) (view : OverflowPage) → IsForest image → p ≤ (file_of image).last
+    → page_at (file_of image) p ≡ Overflow view.header view.bytes
     → is_top (file_of image) p ≡ true → ⊥
 unfolding is_anchor
 no_top image p view forest low is top =
@@ -221,7 +225,8 @@ by_way image p view (h ∷ hs) forest low is first way =
           let zero_holder : owner.holder ≡ 0 =
           eqb-true owner.holder 0 (sym (asks_back owner.holder (page_at file owner.holder) owner.reference.sort next) ∙ asks.previous) in
           let page : is_chain_page (page_at file owner.holder) ≡ true =
-          names_next owner.holder (page_at file owner.holder) (owner.reference.sort, owner.reference.target) next (of_refs file owner.holder owner.reference owns.held) in
+          names_next owner.holder (page_at file owner.holder) (owner.reference.sort, owner.reference.target) next
+          (of_refs file owner.holder owner.reference owns.held) in
           absurd (true≢false (sym page ∙ (ap (λ n. is_chain_page (page_at file n)) zero_holder ∙ first_page_is image forest)))
     ]
 

@@ -1,5 +1,6 @@
 -- The ranks of chains by their values.
-use Rattle.std.proofs.Common.{◌≡◌, ◌⊎◌, ℕ, zero, suc, ◌+◌, ◌-◌, ◌<◌, ◌≤◌, Bool, true, false, cond, List, [], length, get_or, Option, Some, arith, refl, sym, ◌∙◌, ap, subst, inl, inr, Bor, true≢false, le-ltb, lt-ltb}
+use Rattle.std.proofs.Common.{◌≡◌, ◌⊎◌, ℕ, zero, suc, ◌+◌, ◌-◌, ◌<◌, ◌≤◌, Bool, true, false, cond, List, [], length, get_or, Option, Some, arith, refl, sym}
+use Rattle.std.proofs.Common.{◌∙◌, ap, subst, inl, inr, Bor, true≢false, le-ltb, lt-ltb}
 use Rattle.std.specs.Prelude.{nat_lt, ◌&&◌}
 use Rattle.std.specs.BTreeMap.{BTreeMap, Updates, get}
 use Rattle.std.specs.Cmp.{IsStrictWeakOrder, nat_cmp_is}
@@ -130,7 +131,8 @@ rise image ranks last value rank i below high above =
     not_over : (m : ℕ) → nat_lt rank m ≡ false → m ≤ rank
     not_over m is = ltb-false rank m is
 
-none_below : (image : List ℕ) (ranks : BTreeMap ℕ ℕ) (value : List ℕ) (rank : ℕ) → ((a m : ℕ) → get nat_cmp ranks a ≡ Some m → ⊥) → AreBelow image ranks value rank
+none_below : (image : List ℕ) (ranks : BTreeMap ℕ ℕ) (value : List ℕ) (rank : ℕ) → ((a m : ℕ) → get nat_cmp ranks a ≡ Some m → ⊥)
+    → AreBelow image ranks value rank
 none_below image ranks value rank none = record {
   less_is = λ a m at. absurd (none a m at);
   not_above = λ a m at. absurd (none a m at);
@@ -139,7 +141,8 @@ none_below image ranks value rank none = record {
 
 -- No rank, one more, and all.
 
-pub no_ranks : (image : List ℕ) (ranks : BTreeMap ℕ ℕ) (chains : List ChainValue) → ((a m : ℕ) → get nat_cmp ranks a ≡ Some m → ⊥) → AreRanked image ranks chains 0 0
+pub no_ranks : (image : List ℕ) (ranks : BTreeMap ℕ ℕ) (chains : List ChainValue) → ((a m : ℕ) → get nat_cmp ranks a ≡ Some m → ⊥)
+    → AreRanked image ranks chains 0 0
 no_ranks image ranks chains none = record {
   ranks_are = record { each = λ a b m n at_a at_b. absurd (none a m at_a) };
   none = λ first. (refl, none);

@@ -11,7 +11,6 @@ ghost use Rattle.bdb_format.specs.Flags.{is_recno};
 
 use crate::real_images::{self, Image};
 use crate::{real_btree_lists, real_btrees, real_lists, real_set_lists};
-use bdb_fixtures::{has_sound_trees, is_keyed, is_recno};
 use bdb_format::{BtreeMeta, HashMeta, QueueMeta, Steps};
 use bdb_graph::{Linked, Meta, link, open_image};
 use bdb_overflow::{Datum, KeyView, compare_datum};
@@ -20,6 +19,7 @@ use std::cmp::Ordering;
 use std::marker::Brand;
 use std::str::{self, Lines};
 use std::sync::ledger::{Blank, Ledger};
+use test_images::{has_sound_trees, is_keyed, is_recno};
 
 const SIZE: usize = 8192;
 

@@ -16,21 +16,22 @@ use Rattle.bdb_text_format.specs.declared.pairs.Key.TheVariants.{Number}
 use Rattle.bdb_text_format.specs.declared.sections.Section.{Section}
 use Rattle.bdb_text_format.specs.Pairs.{number_of}
 use Rattle.bdb_settle.specs.Loaded.{loaded, loaded_pair, loaded_section, put, stands_before, unlined_pairs, unnumbered, with_loaded}
-use Rattle.bdb_leaves.specs.Units.{TreeUnit, KeyedUnit, EntryUnit}
+use Rattle.bdb_mkleaves.specs.Units.{TreeUnit, KeyedUnit, EntryUnit}
 use Rattle.bdb_mktree.specs.Lists.{bytes_in, keyed_units, missing, onto_units, record_units}
 use Rattle.bdb_mktree.specs.Units.{leaf_type_of}
-use Rattle.bdb_need.specs.Need.{tree_pages}
-use Rattle.bdb_count.specs.Need.{need_of, section_pages}
-use Rattle.bdb_count.proofs.NeedLemmas.{listed_again}
+use Rattle.bdb_need.specs.TreePages.{tree_pages}
+use Rattle.bdb_need.specs.Need.{need_of, section_pages}
+use Rattle.bdb_need.proofs.NeedLemmas.{listed_again}
 use Rattle.bdb_mkfile.specs.Builds.{image_size}
-use Rattle.bdb_printing.specs.SalvageText.{loose_settings, stored_settings}
+use Rattle.bdb_tool_print.specs.SalvageText.{loose_settings, stored_settings}
 use Rattle.bdb_survey.specs.declared.guess.Guess.{Guess}
-use Rattle.bdb_stored.specs.Salvage.{loose, salvaged_file, stored}
+use Rattle.bdb_survey.specs.Salvage.{loose, salvaged_file, stored}
 use Rattle.bdb_repair.specs.declared.shape.Duplicates.TheVariants.{No, Unsorted, Sorted}
 use Rattle.bdb_repair.specs.declared.shape.Shape.{Shape}
 use Rattle.bdb_repair.specs.declared.shape.Shape.TheVariants.{Btree as BtreeShape, Hash as HashShape, Recno as RecnoShape}
 use Rattle.bdb_repair.specs.Laws.{ManyPairsAreTooLarge, PairsTakeRoom}
-use Rattle.bdb_repair.specs.Parts.{loose_pair, loose_pairs, loose_part, loose_section, sections_of_file, shaped_section, stored_pair, stored_pairs, stored_section}
+use Rattle.bdb_repair.specs.Parts.{loose_pair, loose_pairs, loose_part, loose_section, sections_of_file, shaped_section, stored_pair, stored_pairs}
+use Rattle.bdb_repair.specs.Parts.{stored_section}
 use Rattle.bdb_repair.specs.Room.{datum_room, least_room, pair_room}
 use Rattle.bdb_repair.proofs.RoomLemmas.{trees_have_room, unit_room}
 
@@ -49,9 +50,11 @@ put_room before pair (other ∷ others) = by_tests (before pair other) (before o
         ≡ listed_room pair + sum_by listed_room (other ∷ others)
     by_tests true b later = sum_by-cons listed_room pair (other ∷ others)
     by_tests false true later =
-        let one = sum_by-cons listed_room other (put before true pair others) in let two = sum_by-cons listed_room other others in omega (arith, one, two, later)
+        let one = sum_by-cons listed_room other (put before true pair others) in let two = sum_by-cons listed_room other others in omega
+        (arith, one, two, later)
     by_tests false false later =
-        let one = sum_by-cons listed_room other (put before true pair others) in let two = sum_by-cons listed_room other others in omega (arith, one, two, later)
+        let one = sum_by-cons listed_room other (put before true pair others) in let two = sum_by-cons listed_room other others in omega
+        (arith, one, two, later)
 
 -- data that are kept as they come lose nothing
 all_room : (guess : Guess) (list : List Pair) (pairs : List (List ℕ × List ℕ))
@@ -136,14 +139,21 @@ numbered_room guess n list (value ∷ records) below =
     let one : List Pair = listed_record n value ∷ [] in
     let more : All (IsBelow (n + 1)) (list ++ one) =
     All-append (IsBelow (n + 1)) list one
-    (All-weaker (IsBelow n) (IsBelow (n + 1)) (λ pair is. record { number = is.number; value = is.value; pair_is = is.pair_is; below = omega (arith, is.below) }) list below)
-    (All-cons (IsBelow (n + 1)) (listed_record n value) [] (record { number = n; value = value; pair_is = refl; below = omega arith }) (All-nil (IsBelow (n + 1)))) in
+    (All-weaker (IsBelow n) (IsBelow (n + 1)) (λ pair is. record {
+      number = is.number;
+      value = is.value;
+      pair_is = is.pair_is;
+      below = omega (arith, is.below);
+    }) list below)
+    (All-cons (IsBelow (n + 1)) (listed_record n value) [] (record { number = n; value = value; pair_is = refl; below = omega arith })
+    (All-nil (IsBelow (n + 1)))) in
     let sum = sum_by-append listed_room list one in
     let own = sum_by-cons listed_room (listed_record n value) [] in
     let first = sum_by-cons datum_room value records in
     let rest = numbered_room guess (n + 1) (list ++ one) records more in
     subst
-    (λ l. sum_by listed_room (fold (with_loaded (loose_settings guess)) l (map (loaded_pair (loose_settings guess)) (map loose_pair (enumerate_from (n + 1) records))))
+    (λ l. sum_by listed_room (fold (with_loaded (loose_settings guess)) l
+    (map (loaded_pair (loose_settings guess)) (map loose_pair (enumerate_from (n + 1) records))))
     ≡ sum_by listed_room list + sum_by datum_room (value ∷ records))
     (sym (put_last guess n value list below)) (omega (arith, sum, own, first, rest))
 

@@ -1,5 +1,6 @@
 -- What is salvaged of an image of bytes is of bytes.
-use Rattle.std.proofs.Common.{ℕ, ◌+◌, ◌*◌, ◌/◌, ◌<◌, Bool, true, false, List, [], ◌∷◌, length, map, take, drop, Option, Some, None, arith, refl, sym, subst, inl, inr, get_or}
+use Rattle.std.proofs.Common.{ℕ, ◌+◌, ◌*◌, ◌/◌, ◌<◌, Bool, true, false, List, [], ◌∷◌, length, map, take, drop, Option, Some, None, arith, refl, sym, subst}
+use Rattle.std.proofs.Common.{inl, inr, get_or}
 use Rattle.std.specs.Prelude.{if◌then◌else◌}
 use Rattle.std.specs.List.{Contains, flat_map, range_with_len}
 use Rattle.std.proofs.lemmas.Bool.{cases_lt}
@@ -18,9 +19,10 @@ use Rattle.bdb_format.specs.Rows.{page_code}
 use Rattle.bdb_format.proofs.MemberLemmas.{no_member, of_flat_map, of_map}
 use Rattle.bdb_format.proofs.ListLemmas.{only_member}
 use Rattle.bdb_text.specs.WrittenLaw.{AreBytes}
-use Rattle.bdb_kept.proofs.BytesLemmas.{FileHoldsBytes, HoldsBytes, PageHoldsBytes, entry_holds, page_holds, value_holds}
-use Rattle.bdb_stored.specs.Salvage.{ItemPair, is_taken, is_whole, item_pairs, live_value, live_whole, loose, loose_on, pair_in, paired_items, salvaged_file, salvaged_page}
-use Rattle.bdb_stored.specs.Salvage.{stored, stored_on, stored_pair, unless_code, whole_data, whole_set, whole_values}
+use Rattle.bdb_law_kept.proofs.BytesLemmas.{FileHoldsBytes, HoldsBytes, PageHoldsBytes, entry_holds, page_holds, value_holds}
+use Rattle.bdb_survey.specs.Salvage.{ItemPair, is_taken, is_whole, item_pairs, live_value, live_whole, loose, loose_on, pair_in, paired_items, salvaged_file}
+use Rattle.bdb_survey.specs.Salvage.{salvaged_page}
+use Rattle.bdb_survey.specs.Salvage.{stored, stored_on, stored_pair, unless_code, whole_data, whole_set, whole_values}
 
 abbrev IsByte : ℕ → Type 0
 IsByte byte = byte < 256
@@ -42,7 +44,8 @@ salvaged_holds order size image all p =
     elim (cases_lt p (length image / size)) [
       | inl there ↦
           subst PageHoldsBytes
-          (sym (get_or-map-range_with_len (λ q. salvaged_page order (take size (drop (q * size) image))) 0 (length image / size) p p NoType there (omega arith)))
+          (sym (get_or-map-range_with_len (λ q. salvaged_page order (take size (drop (q * size) image))) 0 (length image / size) p p NoType there
+          (omega arith)))
           (page_salvaged order (take size (drop (p * size) image)) (All-take IsByte size (drop (p * size) image) (All-drop IsByte (p * size) image all)))
       | inr past ↦
           subst PageHoldsBytes
@@ -60,7 +63,8 @@ chain_hold : (file : File) (head total : ℕ) → FileHoldsBytes file → AreByt
 unfolding value_of
 chain_hold file head total all = value_holds file (Chain head total) all tt
 
-values_hold : (file : File) (content : Content) (value : List ℕ) → FileHoldsBytes file → HoldsBytes content → Contains (whole_values file content) value → AreBytes value
+values_hold : (file : File) (content : Content) (value : List ℕ) → FileHoldsBytes file → HoldsBytes content → Contains (whole_values file content) value
+    → AreBytes value
 unfolding whole_values
 values_hold file (Inline bytes) value all some at = subst AreBytes (only_member bytes value at) some
 values_hold file (Set blocks) value all some at = absurd (no_member [] value refl at)
@@ -81,7 +85,8 @@ live_hold file p value all at =
     let item = of_flat_map (live_value file) (entries_in (page_at file p)) value at in
     live_by file item.0.deleted item.0.content value all (entry_holds (page_at file p) item.0 (all p) item.1) item.2
 
-data_hold : (file : File) (content : Content) (value : List ℕ) → FileHoldsBytes file → HoldsBytes content → Contains (whole_data file content) value → AreBytes value
+data_hold : (file : File) (content : Content) (value : List ℕ) → FileHoldsBytes file → HoldsBytes content → Contains (whole_data file content) value
+    → AreBytes value
 unfolding whole_data
 data_hold file (Inline bytes) value all some at = subst AreBytes (only_member bytes value at) some
 data_hold file (Set blocks) value all some at = All-contains AreBytes blocks value some at
@@ -109,7 +114,8 @@ item_hold page i all =
     ]
 
 both_hold : (file : File) (deleted : Bool) (key value : Content) (pair : List ℕ × List ℕ) → FileHoldsBytes file → HoldsBytes key → HoldsBytes value
-    → Contains (if deleted then [] else flat_map (λ (bytes : List ℕ). map (λ (v : List ℕ). (bytes, v)) (whole_data file value)) (whole_values file key)) pair → AreBoth pair
+    → Contains (if deleted then [] else flat_map (λ (bytes : List ℕ). map (λ (v : List ℕ). (bytes, v)) (whole_data file value)) (whole_values file key)) pair
+    → AreBoth pair
 both_hold file true key value pair all one two at = absurd (no_member [] pair refl at)
 both_hold file false key value pair all one two at =
     let bytes = of_flat_map (λ (bytes : List ℕ). map (λ (v : List ℕ). (bytes, v)) (whole_data file value)) (whole_values file key) pair at in
@@ -136,7 +142,8 @@ stored_hold file pair all at =
 
 -- Records.
 
-untaken_hold : (file : File) (taken : Bool) (p : ℕ) (value : List ℕ) → FileHoldsBytes file → Contains (if taken then [] else live_whole file p) value → AreBytes value
+untaken_hold : (file : File) (taken : Bool) (p : ℕ) (value : List ℕ) → FileHoldsBytes file → Contains (if taken then [] else live_whole file p) value
+    → AreBytes value
 untaken_hold file true p value all at = absurd (no_member [] value refl at)
 untaken_hold file false p value all at = live_hold file p value all at
 

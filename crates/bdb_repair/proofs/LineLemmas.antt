@@ -16,7 +16,7 @@ use Rattle.bdb_settle.specs.declared.load_error.LoadError.TheVariants.{RecordToo
 use Rattle.bdb_settle.specs.Loaded.{loaded, loaded_pair, loaded_section, unnumbered, with_loaded}
 use Rattle.bdb_settle.specs.LoadErrors.{header_errors, is_among_names, is_sooner, is_too_long, is_too_wide, is_zero, load_error, page_size_in, pair_errors}
 use Rattle.bdb_settle.specs.LoadErrors.{section_errors, sooner, where_so}
-use Rattle.bdb_count.specs.Need.{need_of}
+use Rattle.bdb_need.specs.Need.{need_of}
 use Rattle.bdb_mkfile.specs.Builds.{AreLoadedAs, IsLoadedAs, image_size, in_name_order, name_of, put_named}
 use Rattle.bdb_repair.specs.Reads.{LinesHaveNoPart, unlined, without_lines}
 
@@ -44,12 +44,14 @@ size_alike [] = refl
 size_alike (section ∷ sections) =
     ap (λ (all : List Section). need_of all * section.settings.page_size) (sections_alike (section ∷ sections))
 
-put_alike : (section : Section) (sections : List Section) → put_named (without_lines section) (map without_lines sections) ≡ map without_lines (put_named section sections)
+put_alike : (section : Section) (sections : List Section) → put_named (without_lines section) (map without_lines sections)
+    ≡ map without_lines (put_named section sections)
 put_alike section [] = refl
 put_alike section (other ∷ others) = by_test (less (name_of section) (name_of other)) (put_alike section others)
   where
     by_test : (b : Bool) → put_named (without_lines section) (map without_lines others) ≡ map without_lines (put_named section others)
-        → cond b (without_lines section ∷ without_lines other ∷ map without_lines others) (without_lines other ∷ put_named (without_lines section) (map without_lines others))
+        → cond b (without_lines section ∷ without_lines other ∷ map without_lines others)
+        (without_lines other ∷ put_named (without_lines section) (map without_lines others))
         ≡ map without_lines (cond b (section ∷ other ∷ others) (other ∷ put_named section others))
     by_test true rest = refl
     by_test false rest = ap (λ (all : List Section). without_lines other ∷ all) rest
@@ -138,17 +140,20 @@ no_pair_error settings pair none =
     (no_where (is_too_long settings pair) (RecordTooLong 0) (RecordTooLong pair.line) parts.0)
     (no_where (is_zero pair.key) (RecordZero 0) (RecordZero pair.line) parts.1)
 
-no_pair_errors : (settings : Settings) (pairs : List TextPair) → flat_map (pair_errors settings) (map unlined pairs) ≡ [] → flat_map (pair_errors settings) pairs ≡ []
+no_pair_errors : (settings : Settings) (pairs : List TextPair) → flat_map (pair_errors settings) (map unlined pairs) ≡ []
+    → flat_map (pair_errors settings) pairs ≡ []
 no_pair_errors settings [] none = refl
 no_pair_errors settings (pair ∷ pairs) none =
     let parts = nothing_in (pair_errors settings (unlined pair)) (flat_map (pair_errors settings) (map unlined pairs)) none in
     both_none (pair_errors settings pair) (flat_map (pair_errors settings) pairs) (no_pair_error settings pair parts.0) (no_pair_errors settings pairs parts.1)
 
-no_section_error : (size : ℕ) (alone : Bool) (section : Section) → section_errors size alone (without_lines section) ≡ [] → section_errors size alone section ≡ []
+no_section_error : (size : ℕ) (alone : Bool) (section : Section) → section_errors size alone (without_lines section) ≡ [] → section_errors size alone section
+    ≡ []
 no_section_error size alone section none =
     let parts =
     nothing_in (header_errors size alone (without_lines section)) (flat_map (pair_errors section.settings) (map unlined section.pairs)) none in
-    let heads = nothing_in (where_so (is_too_wide size section.settings) (RecordTooLong 0)) (where_so (is_among_names alone section) (QueueAmongNames 0)) parts.0 in
+    let heads = nothing_in (where_so (is_too_wide size section.settings) (RecordTooLong 0)) (where_so (is_among_names alone section) (QueueAmongNames 0))
+    parts.0 in
     both_none (header_errors size alone section) (flat_map (pair_errors section.settings) section.pairs)
     (both_none (where_so (is_too_wide size section.settings) (RecordTooLong section.header_line))
     (where_so (is_among_names alone section) (QueueAmongNames section.header_line))
@@ -184,8 +189,10 @@ size_in (section ∷ sections) = refl
 pub no_errors_with_lines : (sections : List Section) → load_error (map without_lines sections) ≡ None → load_error sections ≡ None
 no_errors_with_lines sections none =
     let alone : Bool = length sections == 1 in
-    let same : load_error (map without_lines sections) ≡ fold sooner None (flat_map (section_errors (page_size_in sections) alone) (map without_lines sections)) =
-    ap (λ n. fold sooner None (flat_map (section_errors (page_size_in (map without_lines sections)) (n == 1)) (map without_lines sections))) (length-map sections without_lines)
+    let same : load_error (map without_lines sections) ≡ fold sooner None (flat_map (section_errors (page_size_in sections) alone) (map without_lines sections))
+    =
+    ap (λ n. fold sooner None (flat_map (section_errors (page_size_in (map without_lines sections)) (n == 1)) (map without_lines sections)))
+    (length-map sections without_lines)
     ∙ ap (λ size. fold sooner None (flat_map (section_errors size alone) (map without_lines sections))) (size_in sections) in
     let empty = no_first None (flat_map (section_errors (page_size_in sections) alone) (map without_lines sections)) (sym same ∙ none) in
     ap (fold sooner None) (no_section_errors (page_size_in sections) alone sections empty.1)

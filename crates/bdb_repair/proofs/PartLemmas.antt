@@ -8,12 +8,12 @@ use Rattle.bdb_format.specs.declared.kinds.Kind.TheVariants.{Queue}
 use Rattle.bdb_format.specs.HeadOf.{is_page_size}
 use Rattle.bdb_format.specs.File.{File}
 use Rattle.bdb_text_format.specs.Written.{holds_records}
-use Rattle.bdb_sections.specs.Fit.{AreFitSettings, IsFitPair, IsFitSection}
-use Rattle.bdb_sections.proofs.PairLemmas.{fit_longer}
+use Rattle.bdb_law_sections.specs.Fit.{AreFitSettings, IsFitPair, IsFitSection}
+use Rattle.bdb_law_sections.proofs.PairLemmas.{fit_longer}
 use Rattle.bdb_settle.specs.LoadErrors.{load_error, pair_errors}
 use Rattle.bdb_mkfile.specs.Loading.{AreLoadable}
 use Rattle.bdb_survey.specs.declared.guess.Guess.{Guess}
-use Rattle.bdb_stored.specs.Salvage.{loose, salvaged_file, stored}
+use Rattle.bdb_survey.specs.Salvage.{loose, salvaged_file, stored}
 use Rattle.bdb_repair.specs.declared.shape.Duplicates.TheVariants.{No, Unsorted, Sorted}
 use Rattle.bdb_repair.specs.declared.shape.Shape.{Shape}
 use Rattle.bdb_repair.specs.declared.shape.Shape.TheVariants.{Btree as BtreeShape, Hash as HashShape, Recno as RecnoShape}

@@ -1,5 +1,6 @@
 -- The text that salvage writes reads as the sections of what is salvaged.
-use Rattle.std.proofs.Common.{◌≡◌, ℕ, ◌<◌, ◌^◌, Bool, true, false, List, [], ◌∷◌, ◌++◌, length, map, Option, Some, None, arith, codes, refl, ◌∙◌, ap, subst, append-nil}
+use Rattle.std.proofs.Common.{◌≡◌, ℕ, ◌<◌, ◌^◌, Bool, true, false, List, [], ◌∷◌, ◌++◌, length, map, Option, Some, None, arith, codes, refl, ◌∙◌, ap, subst}
+use Rattle.std.proofs.Common.{append-nil}
 use Rattle.std.specs.Prelude.{◌-◌, ◌&&◌, nat_lt}
 use Rattle.std.specs.List.{All, enumerate_from}
 use Rattle.std.proofs.lemmas.Bool.{and_parts, ltb-true}
@@ -19,18 +20,19 @@ use Rattle.bdb_text_format.specs.declared.sections.Section.{Section}
 use Rattle.bdb_text_format.specs.Header.{settings_in}
 use Rattle.bdb_text_format.specs.Keywords.{legal_size}
 use Rattle.bdb_text_format.specs.Sections.{Reads}
-use Rattle.bdb_sections.proofs.HeaderLemmas.{any_turned}
+use Rattle.bdb_law_sections.proofs.HeaderLemmas.{any_turned}
 use Rattle.bdb_settle.specs.LoadErrors.{load_error}
 use Rattle.bdb_text.specs.WrittenLaw.{AreBytes, IsPairOf, IsWritable, Written, key_in, pair_in}
 use Rattle.bdb_text.proofs.LookedLemmas.{legal_below, looked, name-looked}
 use Rattle.bdb_text.proofs.ValueLemmas.{number_read-decimal, pairs_at-list}
 use Rattle.bdb_text.proofs.WrittenLemmas.{section_of, sections_of, written_are_these}
-use Rattle.bdb_kept.proofs.BytesLemmas.{FileHoldsBytes}
-use Rattle.bdb_kept.proofs.LaterLemmas.{of_enumerate}
-use Rattle.bdb_printing.proofs.SalvageLemmas.{loose_few}
-use Rattle.bdb_printing.specs.SalvageText.{bytes_pair, loose_section as loose_text, loose_settings, numbered_record, salvage_text, stored_section as stored_text, stored_settings}
+use Rattle.bdb_law_kept.proofs.BytesLemmas.{FileHoldsBytes}
+use Rattle.bdb_law_kept.proofs.LaterLemmas.{of_enumerate}
+use Rattle.bdb_tool_print.proofs.SalvageLemmas.{loose_few}
+use Rattle.bdb_tool_print.specs.SalvageText.{bytes_pair, loose_section as loose_text, loose_settings, numbered_record, salvage_text}
+use Rattle.bdb_tool_print.specs.SalvageText.{stored_section as stored_text, stored_settings}
 use Rattle.bdb_survey.specs.declared.guess.Guess.{Guess}
-use Rattle.bdb_stored.specs.Salvage.{loose, salvaged_file, stored}
+use Rattle.bdb_survey.specs.Salvage.{loose, salvaged_file, stored}
 use Rattle.bdb_repair.specs.Parts.{loose_pair, loose_part, loose_section, stored_pair, stored_pairs, stored_section}
 use Rattle.bdb_repair.specs.Reads.{SalvageIsRead, unlined, without_lines}
 use Rattle.bdb_repair.proofs.HeldLemmas.{loose_hold, salvaged_holds, stored_hold}

@@ -8,7 +8,7 @@ use Rattle.bdb_repair.specs.declared.shape.Shape.{Shape}
 use Rattle.bdb_repair.specs.Parts.{repair_sections}
 use Rattle.bdb_repair.specs.Room.{least_room}
 use Rattle.bdb_survey.specs.declared.guess.Guess.{Guess}
-use Rattle.bdb_stored.specs.Salvage.{salvaged_file, stored}
+use Rattle.bdb_survey.specs.Salvage.{salvaged_file, stored}
 
 abbrev pub PartsHaveNoErrors : Type 0
 PartsHaveNoErrors = (shape : Option Shape) (guess : Guess) (image : List ℕ) → load_error (repair_sections shape guess image) ≡ None

@@ -7,7 +7,7 @@ use Rattle.bdb_repair.specs.declared.room.Fit.TheVariants.{Fits, Past, Scarce}
 use Rattle.bdb_repair.specs.declared.shape.Duplicates.TheVariants.{No, Unsorted, Sorted}
 use Rattle.bdb_repair.specs.declared.shape.Shape.{Shape}
 use Rattle.bdb_repair.specs.declared.shape.Shape.TheVariants.{Btree as BtreeShape, Hash as HashShape, Recno as RecnoShape}
-use Rattle.bdb_stored.specs.Salvage.{loose, stored}
+use Rattle.bdb_survey.specs.Salvage.{loose, stored}
 
 -- what a datum takes of a file at least: its bytes, and four
 abbrev pub datum_room : List ℕ → ℕ

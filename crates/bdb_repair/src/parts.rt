@@ -6,7 +6,7 @@ ghost use Rattle.bdb_overflow.specs.Datum.{datum_seen};
 ghost use Rattle.bdb_repair.specs.Parts.{loose_pairs, loose_section, named_sections, repair_sections, shaped_pairs, shaped_section};
 ghost use Rattle.bdb_repair.specs.Parts.{stored_pair, stored_pairs, stored_section};
 ghost use Rattle.bdb_rescue.specs.Kept.{file_in, pairs_under};
-ghost use Rattle.bdb_stored.specs.Salvage.{loose, stored};
+ghost use Rattle.bdb_survey.specs.Salvage.{loose, stored};
 
 use crate::shape::shaped_settings;
 use crate::{Duplicates, Shape};

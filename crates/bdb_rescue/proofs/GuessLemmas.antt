@@ -23,11 +23,13 @@ in_order order image guess some = by_test (is_known_magic (four_at order image 1
     by_test true false is some = absurd cc
     by_test false legal is some = absurd cc
 
-or_legal : (a b : Option Guess) (guess : Guess) → ((g : Guess) → a ≡ Some g → IsLegal g) → ((g : Guess) → b ≡ Some g → IsLegal g) → option_or a b ≡ Some guess → IsLegal guess
+or_legal : (a b : Option Guess) (guess : Guess) → ((g : Guess) → a ≡ Some g → IsLegal g) → ((g : Guess) → b ≡ Some g → IsLegal g) → option_or a b ≡ Some guess
+    → IsLegal guess
 or_legal None b guess first second some = second guess some
 or_legal (Some g) b guess first second some = first guess some
 
-of_image : (short : Bool) (image : List ℕ) (guess : Guess) → cond short None (option_or (guess_in Little image) (guess_in Big image)) ≡ Some guess → IsLegal guess
+of_image : (short : Bool) (image : List ℕ) (guess : Guess) → cond short None (option_or (guess_in Little image) (guess_in Big image)) ≡ Some guess
+    → IsLegal guess
 of_image true image guess some = absurd cc
 of_image false image guess some = or_legal (guess_in Little image) (guess_in Big image) guess (in_order Little image) (in_order Big image) some
 

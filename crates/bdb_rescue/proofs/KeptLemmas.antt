@@ -5,14 +5,16 @@ use Rattle.bdb_format.proofs.ListLemmas.{all_of}
 use Rattle.bdb_format.proofs.MemberLemmas.{first_member, in_flat_map, no_member, of_map, of_range}
 use Rattle.bdb_format.specs.Contents.{entries_in}
 use Rattle.bdb_format.specs.File.{File, page_at}
-use Rattle.bdb_format.specs.Page.{Content, Inline, Set, Chain, Tree, Unknown, Item, Page, Zero, Free, Meta, Hash, Internal, RecnoInternal, Leaf, RecnoLeaf, DupLeaf, Overflow, Queue, NoType}
+use Rattle.bdb_format.specs.Page.{Content, Inline, Set, Chain, Tree, Unknown, Item, Page, Zero, Free, Meta, Hash, Internal, RecnoInternal, Leaf, RecnoLeaf}
+use Rattle.bdb_format.specs.Page.{DupLeaf, Overflow, Queue, NoType}
 use Rattle.bdb_rescue.specs.declared.kept.DataPlace.{DataPlace}
 use Rattle.bdb_rescue.specs.declared.kept.DataPlace.TheVariants.{Here, Set as OnLeaves}
 use Rattle.bdb_rescue.specs.declared.kept.KeptPair.{KeptPair}
 use Rattle.bdb_rescue.specs.declared.kept.KeptValue.{KeptValue}
-use Rattle.bdb_rescue.specs.Kept.{IsKeptPair, IsKeptValue, data_places, is_held, item_of, kept_in, kept_on, kept_pair, kept_pairs, kept_value, loose_values, untaken_on, values_in, values_on}
+use Rattle.bdb_rescue.specs.Kept.{IsKeptPair, IsKeptValue, data_places, is_held, item_of, kept_in, kept_on, kept_pair, kept_pairs, kept_value, loose_values}
+use Rattle.bdb_rescue.specs.Kept.{untaken_on, values_in, values_on}
 use Rattle.bdb_survey.specs.Items.{is_valued, slot_at, slots_in}
-use Rattle.bdb_stored.specs.Salvage.{is_taken, is_whole, paired_items, set_starts}
+use Rattle.bdb_survey.specs.Salvage.{is_taken, is_whole, paired_items, set_starts}
 use Rattle.bdb_rescue.proofs.ListLemmas.{all_none, all_one, all_pieces}
 use Rattle.bdb_rescue.specs.Marks.{leaf_in, start_of}
 use Rattle.bdb_format.specs.Chains.{chain}
@@ -53,7 +55,8 @@ held_by file Unknown place inside = absurd (no_member [] place refl inside)
 pair_known : (file : File) (p i : ℕ) (items : List Item) → AreAll file p items → i < length items / 2 → All (IsHere file) (kept_pair file p items i)
 pair_known file p i items all inside = by_key (is_valued file (slot_at items (2 * i)).content) refl
   where
-    known : is_valued file (slot_at items (2 * i)).content ≡ true → (place : DataPlace) → Contains (data_places file (slot_at items (2 * i + 1)).content) place → IsHere file (place_of p i (slot_at items (2 * i + 1)) place)
+    known : is_valued file (slot_at items (2 * i)).content ≡ true → (place : DataPlace) → Contains (data_places file (slot_at items (2 * i + 1)).content) place
+        → IsHere file (place_of p i (slot_at items (2 * i + 1)) place)
     known valued place there = record {
       there = omega (arith, inside, all.long);
       valued = ap (λ (item : Item). is_valued file item.content) (all.on (2 * i)) ∙ valued;
@@ -65,7 +68,9 @@ pair_known file p i items all inside = by_key (is_valued file (slot_at items (2 
     by_key true valued =
         all_of (IsHere file) (map (place_of p i (slot_at items (2 * i + 1))) (data_places file (slot_at items (2 * i + 1)).content))
         (λ kept member.
-        let from : (place : DataPlace) × Contains (data_places file (slot_at items (2 * i + 1)).content) place × (place_of p i (slot_at items (2 * i + 1)) place ≡ kept) = of_map (place_of p i (slot_at items (2 * i + 1))) (data_places file (slot_at items (2 * i + 1)).content) kept member in
+        let from : (place : DataPlace) × Contains (data_places file (slot_at items (2 * i + 1)).content) place
+        × (place_of p i (slot_at items (2 * i + 1)) place ≡ kept) = of_map (place_of p i (slot_at items (2 * i + 1)))
+        (data_places file (slot_at items (2 * i + 1)).content) kept member in
         subst (IsHere file) from.2 (known valued from.0 from.1))
     by_key false valued = all_none (IsHere file)
 
@@ -115,15 +120,18 @@ all_pairs file =
 value_known : (file : File) (p i : ℕ) (items : List Item) → AreAll file p items → i < length items → All (IsKeptValue file) (kept_value file p items i)
 value_known file p i items all inside = by_item (slot_at items i).deleted (is_valued file (slot_at items i).content) refl
   where
-    by_item : (deleted valued : Bool) → is_valued file (slot_at items i).content ≡ valued → All (IsKeptValue file) (cond deleted [] (cond valued (record { page = p; index = i } ∷ []) []))
+    by_item : (deleted valued : Bool) → is_valued file (slot_at items i).content ≡ valued
+        → All (IsKeptValue file) (cond deleted [] (cond valued (record { page = p; index = i } ∷ []) []))
     by_item true valued is = all_none (IsKeptValue file)
     by_item false true is =
-        all_one (IsKeptValue file) (record { page = p; index = i }) (record { there = omega (arith, inside, all.long); valued = ap (λ (item : Item). is_valued file item.content) (all.on i) ∙ is })
+        all_one (IsKeptValue file) (record { page = p; index = i }) (record
+        { there = omega (arith, inside, all.long); valued = ap (λ (item : Item). is_valued file item.content) (all.on i) ∙ is })
     by_item false false is = all_none (IsKeptValue file)
 
 values_known : (file : File) (p : ℕ) (items : List Item) → AreAll file p items → All (IsKeptValue file) (values_in file p items)
 values_known file p items all =
-    all_pieces (IsKeptValue file) (kept_value file p items) (range_with_len 0 (length items)) (λ i inside. value_known file p i items all (omega (arith, (of_range 0 (length items) i inside).1)))
+    all_pieces (IsKeptValue file) (kept_value file p items) (range_with_len 0 (length items))
+    (λ i inside. value_known file p i items all (omega (arith, (of_range 0 (length items) i inside).1)))
 
 page_values : (file : File) (p : ℕ) (page : Page) → page_at file p ≡ page → All (IsKeptValue file) (values_in file p (entries_in page))
 page_values file p Zero is = all_none (IsKeptValue file)

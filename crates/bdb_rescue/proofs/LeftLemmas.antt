@@ -15,7 +15,8 @@ values_rest file old new value more all = all_rest (IsKeptValue file) value new 
 pub first_value : (file : File) (old new : List KeptValue) (value : KeptValue) → old ≡ value ∷ new → All (IsKeptValue file) old → IsKeptValue file value
 first_value file old new value more all = all_first (IsKeptValue file) value new (subst (All (IsKeptValue file)) more all)
 
-pub next_pairs : (file : File) (here after : Option (List (List ℕ × List ℕ))) (old new : List KeptPair) (pair : KeptPair) → left_of here ≡ [] → old ≡ pair ∷ new → left_of after ≡ given_live file pair
+pub next_pairs : (file : File) (here after : Option (List (List ℕ × List ℕ))) (old new : List KeptPair) (pair : KeptPair) → left_of here ≡ [] → old ≡ pair ∷ new
+    → left_of after ≡ given_live file pair
     → pairs_left file after new ≡ pairs_left file here old
 next_pairs file here after old new pair none more are =
     ap (λ pairs. pairs ++ flat_map (given_live file) new) are

@@ -16,7 +16,8 @@ flat_map_none [] = refl
 flat_map_none (x ∷ xs) = flat_map_none xs
 
 -- one piece more, after what was there
-pub more_pieces : {Y : Type 0} (f : ℕ → List Y) (before : List Y) (n : ℕ) → (before ++ flat_map f (range_with_len 0 n)) ++ f n ≡ before ++ flat_map f (range_with_len 0 (n + 1))
+pub more_pieces : {Y : Type 0} (f : ℕ → List Y) (before : List Y) (n : ℕ) → (before ++ flat_map f (range_with_len 0 n)) ++ f n ≡ before
+    ++ flat_map f (range_with_len 0 (n + 1))
 more_pieces f before n =
     let zero_more : 0 + n ≡ n = omega arith in
     flat_map_more f before (range_with_len 0 n) n
@@ -33,7 +34,8 @@ all_rest P x xs all = λ k d inside. all (suc k) d (omega (arith, inside))
 -- what holds of each piece holds of all
 pub all_pieces : {X Y : Type 0} (P : Y → Type 0) (f : X → List Y) (xs : List X) → ((x : X) → Contains xs x → All P (f x)) → All P (flat_map f xs)
 all_pieces {X = X} P f xs each =
-    all_of P (flat_map f xs) (λ y inside. let from : (x : X) × Contains xs x × Contains (f x) y = of_flat_map f xs y inside in All-contains P (f from.0) y (each from.0 from.1) from.2)
+    all_of P (flat_map f xs) (λ y inside. let from : (x : X) × Contains xs x × Contains (f x) y = of_flat_map f xs y inside in All-contains P (f from.0) y
+    (each from.0 from.1) from.2)
 
 -- of one at most
 pub all_one : {X : Type 0} (P : X → Type 0) (x : X) → P x → All P (x ∷ [])

@@ -13,7 +13,7 @@ use Rattle.bdb_format.specs.Page.{Item, Page, Zero, Free, Meta, Hash, Internal, 
 use Rattle.bdb_format.specs.References.{no_item}
 use Rattle.bdb_survey.specs.Items.{is_valued, slot_at, slots_in}
 use Rattle.bdb_rescue.specs.Kept.{kept_value, loose_values, untaken_on, value_at, values_in, values_on}
-use Rattle.bdb_stored.specs.Salvage.{is_taken, live_value, live_whole, loose, loose_on}
+use Rattle.bdb_survey.specs.Salvage.{is_taken, live_value, live_whole, loose, loose_on}
 use Rattle.bdb_rescue.proofs.ListLemmas.{flat_map_alike}
 use Rattle.bdb_rescue.proofs.StoredLemmas.{AreOn, values_are}
 
@@ -21,9 +21,11 @@ use Rattle.bdb_rescue.proofs.StoredLemmas.{AreOn, values_are}
 pub all_slots : (items : List Item) → map (slot_at items) (range_with_len 0 (length items)) ≡ items
 all_slots items =
     ext_get_or no_item (map (slot_at items) (range_with_len 0 (length items))) items (length-map-range_with_len (slot_at items) 0 (length items))
-    (λ i inside. get_or-map-range_with_len (slot_at items) 0 (length items) i i no_item (omega (arith, inside, length-map-range_with_len (slot_at items) 0 (length items))) (omega arith))
+    (λ i inside. get_or-map-range_with_len (slot_at items) 0 (length items) i i no_item
+    (omega (arith, inside, length-map-range_with_len (slot_at items) 0 (length items))) (omega arith))
 
-value_gives : (file : File) (p i : ℕ) (items : List Item) → AreOn file p items → map (value_at file) (kept_value file p items i) ≡ live_value file (slot_at items i)
+value_gives : (file : File) (p i : ℕ) (items : List Item) → AreOn file p items → map (value_at file) (kept_value file p items i)
+    ≡ live_value file (slot_at items i)
 value_gives file p i items on =
     let item : Item = slot_at items i in
     by_deleted item.deleted (is_valued file item.content)
@@ -32,7 +34,8 @@ value_gives file p i items on =
     at : value_at file (record { page = p; index = i }) ≡ value_of file (slot_at items i).content
     at = ap (λ (item : Item). value_of file item.content) (on i)
 
-    by_deleted : (deleted valued : Bool) → map (value_at file) (cond deleted [] (cond valued (record { page = p; index = i } ∷ []) [])) ≡ cond deleted [] (cond valued (value_of file (slot_at items i).content ∷ []) [])
+    by_deleted : (deleted valued : Bool) → map (value_at file) (cond deleted [] (cond valued (record { page = p; index = i } ∷ []) []))
+        ≡ cond deleted [] (cond valued (value_of file (slot_at items i).content ∷ []) [])
     by_deleted true valued = refl
     by_deleted false true = ap (λ value. value ∷ []) at
     by_deleted false false = refl
@@ -41,11 +44,13 @@ values_give : (file : File) (p : ℕ) (items : List Item) → AreOn file p items
 values_give file p items on =
     let indexes : List ℕ = range_with_len 0 (length items) in
     map_joined (value_at file) (kept_value file p items) indexes
-    ∙ (flat_map_alike (λ i. map (value_at file) (kept_value file p items i)) (λ i. live_value file (slot_at items i)) indexes (λ i. value_gives file p i items on)
+    ∙ (flat_map_alike (λ i. map (value_at file) (kept_value file p items i)) (λ i. live_value file (slot_at items i)) indexes
+    (λ i. value_gives file p i items on)
     ∙ (sym (flat_map-map (live_value file) (slot_at items) indexes)
     ∙ ap (flat_map (live_value file)) (all_slots items)))
 
-page_values : (file : File) (p : ℕ) (page : Page) → page_at file p ≡ page → map (value_at file) (values_in file p (entries_in page)) ≡ flat_map (live_value file) (entries_in page)
+page_values : (file : File) (p : ℕ) (page : Page) → page_at file p ≡ page → map (value_at file) (values_in file p (entries_in page))
+    ≡ flat_map (live_value file) (entries_in page)
 page_values file p Zero is = refl
 page_values file p (Free header) is = refl
 page_values file p (Meta fields) is = refl
@@ -65,7 +70,8 @@ unfolding values_on live_whole
 leaf_values file p = page_values file p (page_at file p) refl
 
 -- those of the leaves of a set
-pub set_values : (file : File) (leaf : ℕ) (places : List KeptValue) → places ≡ flat_map (values_on file) (chain file leaf) → map (value_at file) places ≡ flat_map (live_whole file) (chain file leaf)
+pub set_values : (file : File) (leaf : ℕ) (places : List KeptValue) → places ≡ flat_map (values_on file) (chain file leaf)
+    → map (value_at file) places ≡ flat_map (live_whole file) (chain file leaf)
 set_values file leaf places are =
     ap (map (value_at file)) are
     ∙ (map_joined (value_at file) (values_on file) (chain file leaf)

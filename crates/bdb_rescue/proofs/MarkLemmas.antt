@@ -1,5 +1,6 @@
 -- Marks on pages, and rows that are walked.
-use Rattle.std.proofs.Common.{◌≡◌, ℕ, ◌+◌, ◌*◌, ◌/◌, ◌<◌, ◌≤◌, Bool, true, false, cond, List, [], ◌∷◌, ◌++◌, map, length, drop, arith, refl, sym, ◌∙◌, ap, subst, inl, inr, eqb-true}
+use Rattle.std.proofs.Common.{◌≡◌, ℕ, ◌+◌, ◌*◌, ◌/◌, ◌<◌, ◌≤◌, Bool, true, false, cond, List, [], ◌∷◌, ◌++◌, map, length, drop, arith, refl, sym, ◌∙◌, ap}
+use Rattle.std.proofs.Common.{subst, inl, inr, eqb-true}
 use Rattle.std.specs.Prelude.{◌==◌, not, Option, Some, None, slice_index_or, take}
 use Rattle.std.specs.List.{All, Contains, flat_map, range_with_len}
 use Rattle.std.proofs.lemmas.Bool.{and_parts, cases_lt, eq-eqb}
@@ -12,28 +13,34 @@ use Rattle.bdb_format.proofs.ListLemmas.{all_of, any_member, flat_map_twice, onl
 use Rattle.bdb_format.proofs.MemberLemmas.{in_flat_map, in_range, member_cases, no_member, of_flat_map, of_range}
 use Rattle.bdb_format.specs.Chains.{chain, value_of}
 use Rattle.bdb_format.specs.File.{File, page_at}
-use Rattle.bdb_format.specs.Page.{Content, Inline, Set, Chain, Tree, Unknown, Item, Page, Zero, Free, Meta, Hash, Internal, RecnoInternal, Leaf, RecnoLeaf, DupLeaf, Overflow, Queue, NoType}
+use Rattle.bdb_format.specs.Page.{Content, Inline, Set, Chain, Tree, Unknown, Item, Page, Zero, Free, Meta, Hash, Internal, RecnoInternal, Leaf, RecnoLeaf}
+use Rattle.bdb_format.specs.Page.{DupLeaf, Overflow, Queue, NoType}
 use Rattle.bdb_rescue.specs.declared.kept.DataPlace.{DataPlace}
 use Rattle.bdb_rescue.specs.declared.kept.DataPlace.TheVariants.{Here, Set as OnLeaves}
 use Rattle.bdb_rescue.specs.declared.kept.KeptPair.{KeptPair}
 use Rattle.bdb_rescue.specs.Kept.{data_places, kept_in, kept_on, kept_pair, kept_pairs}
 use Rattle.bdb_survey.specs.Items.{is_valued, slot_at}
 use Rattle.bdb_rescue.specs.Marks.{Marks, is_among, leaf_in, row_of, start_of, starts_of}
-use Rattle.bdb_stored.specs.Salvage.{ItemPair, down, follows, is_like, is_link, is_row, is_whole, item_pairs, pair_in, pair_start, paired_items, row_from, set_start, set_starts, start_in, whole_values}
+use Rattle.bdb_survey.specs.Salvage.{ItemPair, down, follows, is_like, is_link, is_row, is_whole, item_pairs, pair_in, pair_start, paired_items, row_from}
+use Rattle.bdb_survey.specs.Salvage.{set_start, set_starts, start_in, whole_values}
 use Rattle.bdb_rescue.proofs.ListLemmas.{flat_map_alike}
 use Rattle.bdb_rescue.proofs.StoredLemmas.{append_nil, values_are}
 use Rattle.bdb_survey.proofs.SurveyLemmas.{no_leaf}
 
-pub all_starts : (n : ℕ) (pairs : List KeptPair) (i : ℕ) (d : KeptPair) → All (λ leaf. leaf < n) (starts_of pairs) → i < length pairs → All (λ leaf. leaf < n) (start_of (slice_index_or pairs i d))
+pub all_starts : (n : ℕ) (pairs : List KeptPair) (i : ℕ) (d : KeptPair) → All (λ leaf. leaf < n) (starts_of pairs) → i < length pairs
+    → All (λ leaf. leaf < n) (start_of (slice_index_or pairs i d))
 all_starts n pairs i d all there =
     all_of (λ leaf. leaf < n) (start_of (slice_index_or pairs i d))
-    (λ leaf inside. All-contains (λ leaf. leaf < n) (starts_of pairs) leaf all (in_flat_map start_of pairs (slice_index_or pairs i d) leaf (i, there, get_or_default pairs i _ d there) inside))
+    (λ leaf inside. All-contains (λ leaf. leaf < n) (starts_of pairs) leaf all
+    (in_flat_map start_of pairs (slice_index_or pairs i d) leaf (i, there, get_or_default pairs i _ d there) inside))
 
 -- one pair more
-pub starts_more : (pairs : List KeptPair) (i : ℕ) (d : KeptPair) → i < length pairs → starts_of (take (i + 1) pairs) ≡ starts_of (take i pairs) ++ start_of (slice_index_or pairs i d)
+pub starts_more : (pairs : List KeptPair) (i : ℕ) (d : KeptPair) → i < length pairs → starts_of (take (i + 1) pairs) ≡ starts_of (take i pairs)
+    ++ start_of (slice_index_or pairs i d)
 starts_more pairs i d there =
     ap starts_of (take_more pairs i d there)
-    ∙ (flat_map-append start_of (take i pairs) (slice_index_or pairs i d ∷ []) ∙ ap (λ xs. starts_of (take i pairs) ++ xs) (append_nil (start_of (slice_index_or pairs i d))))
+    ∙ (flat_map-append start_of (take i pairs) (slice_index_or pairs i d ∷ [])
+    ∙ ap (λ xs. starts_of (take i pairs) ++ xs) (append_nil (start_of (slice_index_or pairs i d))))
 
 -- what a slice of a vector was written to
 pub written : (new items : List Bool) (n : ℕ) → length new ≡ n → take n (new ++ drop (length new) items) ≡ new
@@ -62,16 +69,20 @@ pair_starts file p i items =
     let value : Item = slot_at items (2 * i + 1) in
     let places : List DataPlace = data_places file value.content in
     by_key (is_valued file key.content) places
-    ∙ (ap (λ starts. flat_map (λ (bytes : List ℕ). starts) (cond (is_valued file key.content) (value_of file key.content ∷ []) [])) (places_start file value.content)
+    ∙ (ap (λ starts. flat_map (λ (bytes : List ℕ). starts) (cond (is_valued file key.content) (value_of file key.content ∷ []) []))
+    (places_start file value.content)
     ∙ ap (flat_map (λ (bytes : List ℕ). start_in file value.content)) (sym (values_are file key.content)))
   where
     by_key : (valued : Bool) (places : List DataPlace)
-        → flat_map start_of (cond valued (map (λ place. record { page = p; index = i; live = not (slot_at items (2 * i + 1)).deleted; place = place }) places) [])
+        → flat_map start_of (cond valued (map (λ place. record { page = p; index = i; live = not (slot_at items (2 * i + 1)).deleted; place = place }) places)
+        [])
         ≡ flat_map (λ (bytes : List ℕ). flat_map leaf_in places) (cond valued (value_of file (slot_at items (2 * i)).content ∷ []) [])
-    by_key true places = flat_map-map start_of (λ place. record { page = p; index = i; live = not (slot_at items (2 * i + 1)).deleted; place = place }) places ∙ sym (append_nil (flat_map leaf_in places))
+    by_key true places = flat_map-map start_of (λ place. record { page = p; index = i; live = not (slot_at items (2 * i + 1)).deleted; place = place }) places
+        ∙ sym (append_nil (flat_map leaf_in places))
     by_key false places = refl
 
-page_starts : (file : File) (p : ℕ) (items : List Item) → flat_map start_of (kept_in file p items) ≡ flat_map (pair_start file) (map (pair_in items) (range_with_len 0 (length items / 2)))
+page_starts : (file : File) (p : ℕ) (items : List Item) → flat_map start_of (kept_in file p items)
+    ≡ flat_map (pair_start file) (map (pair_in items) (range_with_len 0 (length items / 2)))
 page_starts file p items =
     let indexes : List ℕ = range_with_len 0 (length items / 2) in
     flat_map_twice start_of (kept_pair file p items) indexes
@@ -83,7 +94,8 @@ unfolding kept_pairs set_starts
 starts_are file =
     let pages : List ℕ = range_with_len 0 file.count in
     flat_map_twice start_of (kept_on file) pages
-    ∙ flat_map_alike (λ p. flat_map start_of (kept_on file p)) (λ p. flat_map (pair_start file) (item_pairs (page_at file p))) pages (λ p. page_starts file p (paired_items (page_at file p)))
+    ∙ flat_map_alike (λ p. flat_map start_of (kept_on file p)) (λ p. flat_map (pair_start file) (item_pairs (page_at file p))) pages
+    (λ p. page_starts file p (paired_items (page_at file p)))
 
 -- Each begins a whole row.
 
@@ -111,7 +123,8 @@ unfolding set_starts
 start_begins file leaf inside =
     let page : (p : ℕ) × Contains (range_with_len 0 file.count) p × Contains (flat_map (pair_start file) (item_pairs (page_at file p))) leaf =
     of_flat_map (λ p. flat_map (pair_start file) (item_pairs (page_at file p))) (range_with_len 0 file.count) leaf inside in
-    let pair : (x : ItemPair) × Contains (item_pairs (page_at file page.0)) x × Contains (pair_start file x) leaf = of_flat_map (pair_start file) (item_pairs (page_at file page.0)) leaf page.2 in
+    let pair : (x : ItemPair) × Contains (item_pairs (page_at file page.0)) x × Contains (pair_start file x) leaf = of_flat_map (pair_start file)
+    (item_pairs (page_at file page.0)) leaf page.2 in
     let key : (bytes : List ℕ) × Contains (whole_values file pair.0.key.content) bytes × Contains (start_in file pair.0.value.content) leaf =
     of_flat_map (λ (bytes : List ℕ). start_in file pair.0.value.content) (whole_values file pair.0.key.content) leaf pair.2 in
     from_content file pair.0.value.content leaf key.2
@@ -131,9 +144,11 @@ here_of file test p past none is =
 link_here : (file : File) (test : Page → Bool) (before p : ℕ) → IsPast file → test NoType ≡ false → is_link file test before p ≡ true → p < file.count
 link_here file test before p past none is = here_of file test p past none (and_parts _ _ (and_parts _ _ is).0).1
 
-row_here : (file : File) (test : Page → Bool) (before : ℕ) (ps : List ℕ) → IsPast file → test NoType ≡ false → follows file test before ps ≡ true → (q : ℕ) → Contains ps q → q < file.count
+row_here : (file : File) (test : Page → Bool) (before : ℕ) (ps : List ℕ) → IsPast file → test NoType ≡ false → follows file test before ps ≡ true → (q : ℕ)
+    → Contains ps q → q < file.count
 row_here file test before [] past none all q inside = absurd (no_member [] q refl inside)
-row_here file test before (p ∷ []) past none all q inside = subst (λ n. n < file.count) (only_member p q inside) (link_here file test before p past none (and_parts _ _ all).0)
+row_here file test before (p ∷ []) past none all q inside = subst (λ n. n < file.count) (only_member p q inside)
+    (link_here file test before p past none (and_parts _ _ all).0)
 row_here file test before (p ∷ (r ∷ rest)) past none all q inside =
     elim (member_cases p (r ∷ rest) q inside) [
       | inl same ↦ subst (λ n. n < file.count) same (link_here file test before p past none (and_parts _ _ all).0)
@@ -155,7 +170,8 @@ like_none (Queue number records) = refl
 like_none NoType = refl
 
 chain_here : (file : File) (leaf : ℕ) → IsPast file → BeginsRow file leaf → All (λ p. p < file.count) (chain file leaf)
-chain_here file leaf past row = all_of (λ p. p < file.count) (chain file leaf) (row_here file (is_like (page_at file leaf)) 0 (chain file leaf) past (like_none (page_at file leaf)) row)
+chain_here file leaf past row = all_of (λ p. p < file.count) (chain file leaf)
+    (row_here file (is_like (page_at file leaf)) 0 (chain file leaf) past (like_none (page_at file leaf)) row)
 
 chain_first : (file : File) (leaf : ℕ) → BeginsRow file leaf → IsPast file → leaf < file.count
 chain_first file leaf row past =
@@ -170,13 +186,16 @@ starts_here file pairs past are =
     (λ leaf inside. chain_first file leaf (start_begins file leaf (subst (λ xs. Contains xs leaf) (ap starts_of are ∙ starts_are file) inside)) past)
 
 among : (ps : List ℕ) (p : ℕ) → is_among ps p ≡ true → Contains ps p
-among ps p is = let found : (q : ℕ) × Contains ps q × ((q == p) ≡ true) = any_member (λ q. q == p) ps is in subst (Contains ps) (eqb-true found.0 p found.2) found.1
+among ps p is = let found : (q : ℕ) × Contains ps q × ((q == p) ≡ true) = any_member (λ q. q == p) ps is in subst (Contains ps) (eqb-true found.0 p found.2)
+    found.1
 
 -- a page that is marked begins a row
-pub marked_begins : (file : File) (starts : List Bool) (p : ℕ) → Marks file.count starts (set_starts file) → p < file.count → slice_index_or starts p false ≡ true → Contains (set_starts file) p
+pub marked_begins : (file : File) (starts : List Bool) (p : ℕ) → Marks file.count starts (set_starts file) → p < file.count → slice_index_or starts p false
+    ≡ true → Contains (set_starts file) p
 marked_begins file starts p marks there is = among (set_starts file) p (sym (marks.at p there) ∙ is)
 
-pub marked_here : (file : File) (starts : List Bool) (p : ℕ) → IsPast file → Marks file.count starts (set_starts file) → p < file.count → slice_index_or starts p false ≡ true → All (λ q. q < file.count) (chain file p)
+pub marked_here : (file : File) (starts : List Bool) (p : ℕ) → IsPast file → Marks file.count starts (set_starts file) → p < file.count
+    → slice_index_or starts p false ≡ true → All (λ q. q < file.count) (chain file p)
 marked_here file starts p past marks there is = chain_here file p past (start_begins file p (marked_begins file starts p marks there is))
 
 -- the set of a pair begins on a page that is there
@@ -199,10 +218,12 @@ among_iff xs ys p into out =
 row_true : (file : File) (starts : List Bool) (f p : ℕ) → slice_index_or starts f false ≡ true → Contains (chain file f) p → Contains (row_of file starts f) p
 row_true file starts f p is inside = subst (λ xs. Contains xs p) (sym (ap (λ b. cond b (chain file f) []) is)) inside
 
-row_cases : (file : File) (starts : List Bool) (f p : ℕ) → Contains (row_of file starts f) p → (slice_index_or starts f false ≡ true) × Contains (chain file f) p
+row_cases : (file : File) (starts : List Bool) (f p : ℕ) → Contains (row_of file starts f) p → (slice_index_or starts f false ≡ true)
+    × Contains (chain file f) p
 row_cases file starts f p inside = by_mark (slice_index_or starts f false) refl inside
   where
-    by_mark : (b : Bool) → slice_index_or starts f false ≡ b → Contains (cond b (chain file f) []) p → (slice_index_or starts f false ≡ true) × Contains (chain file f) p
+    by_mark : (b : Bool) → slice_index_or starts f false ≡ b → Contains (cond b (chain file f) []) p → (slice_index_or starts f false ≡ true)
+        × Contains (chain file f) p
     by_mark true is inside = (is, inside)
     by_mark false is inside = absurd (no_member [] p refl inside)
 
@@ -210,12 +231,14 @@ pub marks_are : (file : File) (starts taken : List Bool) → IsPast file → Mar
     → Marks file.count taken (flat_map (row_of file starts) (range_with_len 0 file.count)) → Marks file.count taken (flat_map (chain file) (set_starts file))
 marks_are file starts taken past marks rows = record {
   all = rows.all;
-  at = λ p there. rows.at p there ∙ among_iff (flat_map (row_of file starts) (range_with_len 0 file.count)) (flat_map (chain file) (set_starts file)) p (to p) (back p);
+  at = λ p there. rows.at p there ∙ among_iff (flat_map (row_of file starts) (range_with_len 0 file.count)) (flat_map (chain file) (set_starts file)) p (to p)
+      (back p);
 }
   where
     to : (p : ℕ) → Contains (flat_map (row_of file starts) (range_with_len 0 file.count)) p → Contains (flat_map (chain file) (set_starts file)) p
     to p inside =
-        let from : (f : ℕ) × Contains (range_with_len 0 file.count) f × Contains (row_of file starts f) p = of_flat_map (row_of file starts) (range_with_len 0 file.count) p inside in
+        let from : (f : ℕ) × Contains (range_with_len 0 file.count) f × Contains (row_of file starts f) p = of_flat_map (row_of file starts)
+        (range_with_len 0 file.count) p inside in
         let row : (slice_index_or starts from.0 false ≡ true) × Contains (chain file from.0) p = row_cases file starts from.0 p from.2 in
         let low : from.0 < file.count = omega (arith, (of_range 0 file.count from.0 from.1).1) in
         in_flat_map (chain file) (set_starts file) from.0 p (marked_begins file starts from.0 marks low row.0) row.1
@@ -224,5 +247,7 @@ marks_are file starts taken past marks rows = record {
     back p inside =
         let from : (f : ℕ) × Contains (set_starts file) f × Contains (chain file f) p = of_flat_map (chain file) (set_starts file) p inside in
         let low : from.0 < file.count = chain_first file from.0 (start_begins file from.0 from.1) past in
-        let is : slice_index_or starts from.0 false ≡ true = marks.at from.0 low ∙ passes_here (λ q. q == from.0) (set_starts file) from.0 from.1 (eq-eqb from.0 from.0 refl) in
-        in_flat_map (row_of file starts) (range_with_len 0 file.count) from.0 p (in_range 0 file.count from.0 (omega arith) (omega (arith, low))) (row_true file starts from.0 p is from.2)
+        let is : slice_index_or starts from.0 false ≡ true = marks.at from.0 low ∙ passes_here (λ q. q == from.0) (set_starts file) from.0 from.1
+        (eq-eqb from.0 from.0 refl) in
+        in_flat_map (row_of file starts) (range_with_len 0 file.count) from.0 p (in_range 0 file.count from.0 (omega arith) (omega (arith, low)))
+        (row_true file starts from.0 p is from.2)

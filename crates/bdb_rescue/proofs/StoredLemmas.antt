@@ -6,13 +6,15 @@ use Rattle.std.proofs.lemmas.List.Folds.{flat_map-map}
 use Rattle.bdb_format.proofs.ListLemmas.{flat_map_twice, map_joined}
 use Rattle.bdb_format.specs.Chains.{chain, joined, pieces_of, value_of}
 use Rattle.bdb_format.specs.File.{File, page_at}
-use Rattle.bdb_format.specs.Page.{Content, Inline, Set, Chain, Tree, Unknown, Item, Page, Zero, Free, Meta, Hash, Internal, RecnoInternal, Leaf, RecnoLeaf, DupLeaf, Overflow, Queue, NoType}
+use Rattle.bdb_format.specs.Page.{Content, Inline, Set, Chain, Tree, Unknown, Item, Page, Zero, Free, Meta, Hash, Internal, RecnoInternal, Leaf, RecnoLeaf}
+use Rattle.bdb_format.specs.Page.{DupLeaf, Overflow, Queue, NoType}
 use Rattle.bdb_rescue.specs.declared.kept.DataPlace.{DataPlace}
 use Rattle.bdb_rescue.specs.declared.kept.DataPlace.TheVariants.{Set as OnLeaves}
 use Rattle.bdb_rescue.specs.declared.kept.KeptPair.{KeptPair}
 use Rattle.bdb_rescue.specs.Kept.{data_at, data_places, given, given_live, item_of, kept_in, kept_on, kept_pair, kept_pairs, under}
 use Rattle.bdb_survey.specs.Items.{is_valued, slot_at}
-use Rattle.bdb_stored.specs.Salvage.{is_whole, item_pairs, live_whole, pair_in, paired_items, set_start, stored, stored_on, stored_pair, whole_data, whole_values}
+use Rattle.bdb_survey.specs.Salvage.{is_whole, item_pairs, live_whole, pair_in, paired_items, set_start, stored, stored_on, stored_pair, whole_data}
+use Rattle.bdb_survey.specs.Salvage.{whole_values}
 use Rattle.bdb_rescue.proofs.ListLemmas.{flat_map_alike, flat_map_none}
 
 pub append_nil : {X : Type 0} (xs : List X) → xs ++ [] ≡ xs
@@ -34,7 +36,8 @@ unfolding whole_data whole_values value_of
 data_are file (Inline bytes) = refl
 data_are file (Set blocks) = sym (append_nil blocks)
 data_are file (Chain head total) =
-    elim (is_whole file head total) as (λ b. cond b (joined (pieces_of file head) ∷ []) [] ≡ flat_map (data_at file (Chain head total)) (cond b (Rattle.bdb_rescue.specs.declared.kept.DataPlace.TheVariants.Here ∷ []) [])) [
+    elim (is_whole file head total) as (λ b. cond b (joined (pieces_of file head) ∷ []) []
+    ≡ flat_map (data_at file (Chain head total)) (cond b (Rattle.bdb_rescue.specs.declared.kept.DataPlace.TheVariants.Here ∷ []) [])) [
       | true ↦ refl
       | false ↦ refl
     ]
@@ -71,7 +74,8 @@ given_by file p i items false places on =
 
 valued_pair : (file : File) (p i : ℕ) (items : List Item) (valued deleted : Bool) (data' : List (List ℕ)) → AreOn file p items
     → data' ≡ flat_map (data_at file (slot_at items (2 * i + 1)).content) (data_places file (slot_at items (2 * i + 1)).content)
-    → flat_map (λ place. cond (not deleted) (given file (place_of p i (slot_at items (2 * i + 1)) place)) []) (cond valued (data_places file (slot_at items (2 * i + 1)).content) [])
+    → flat_map (λ place. cond (not deleted) (given file (place_of p i (slot_at items (2 * i + 1)) place)) [])
+    (cond valued (data_places file (slot_at items (2 * i + 1)).content) [])
     ≡ cond deleted [] (flat_map (λ bytes. map (λ value. (bytes, value)) data') (cond valued (value_of file (slot_at items (2 * i)).content ∷ []) []))
 valued_pair file p i items true deleted data' on are =
     given_by file p i items deleted (data_places file (slot_at items (2 * i + 1)).content) on
@@ -84,7 +88,8 @@ cond_map : {X Y : Type 0} (f : X → Y) (b : Bool) (xs : List X) → cond b (map
 cond_map f true xs = refl
 cond_map f false xs = refl
 
-pair_gives : (file : File) (p i : ℕ) (items : List Item) → AreOn file p items → flat_map (given_live file) (kept_pair file p items i) ≡ stored_pair file (pair_in items i)
+pair_gives : (file : File) (p i : ℕ) (items : List Item) → AreOn file p items → flat_map (given_live file) (kept_pair file p items i)
+    ≡ stored_pair file (pair_in items i)
 unfolding stored_pair
 pair_gives file p i items on =
     let key : Item = slot_at items (2 * i) in
@@ -93,17 +98,20 @@ pair_gives file p i items on =
     ap (flat_map (given_live file)) (cond_map (place_of p i value) (is_valued file key.content) places)
     ∙ (flat_map-map (given_live file) (place_of p i value) (cond (is_valued file key.content) places [])
     ∙ (valued_pair file p i items (is_valued file key.content) value.deleted (whole_data file value.content) on (data_are file value.content)
-    ∙ ap (λ keys. cond value.deleted [] (flat_map (λ bytes. map (λ value. (bytes, value)) (whole_data file value.content)) keys)) (sym (values_are file key.content))))
+    ∙ ap (λ keys. cond value.deleted [] (flat_map (λ bytes. map (λ value. (bytes, value)) (whole_data file value.content)) keys))
+    (sym (values_are file key.content))))
 
 pairs_give : (file : File) (p : ℕ) (items : List Item) → AreOn file p items
     → flat_map (given_live file) (kept_in file p items) ≡ flat_map (stored_pair file) (map (pair_in items) (range_with_len 0 (length items / 2)))
 pairs_give file p items on =
     let indexes : List ℕ = range_with_len 0 (length items / 2) in
     flat_map_twice (given_live file) (kept_pair file p items) indexes
-    ∙ (flat_map_alike (λ i. flat_map (given_live file) (kept_pair file p items i)) (λ i. stored_pair file (pair_in items i)) indexes (λ i. pair_gives file p i items on)
+    ∙ (flat_map_alike (λ i. flat_map (given_live file) (kept_pair file p items i)) (λ i. stored_pair file (pair_in items i)) indexes
+    (λ i. pair_gives file p i items on)
     ∙ sym (flat_map-map (stored_pair file) (pair_in items) indexes))
 
-page_gives : (file : File) (p : ℕ) (page : Page) → page_at file p ≡ page → flat_map (given_live file) (kept_in file p (paired_items page)) ≡ flat_map (stored_pair file) (item_pairs page)
+page_gives : (file : File) (p : ℕ) (page : Page) → page_at file p ≡ page → flat_map (given_live file) (kept_in file p (paired_items page))
+    ≡ flat_map (stored_pair file) (item_pairs page)
 page_gives file p Zero is = refl
 page_gives file p (Free header) is = refl
 page_gives file p (Meta fields) is = refl

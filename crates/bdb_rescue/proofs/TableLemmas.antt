@@ -41,12 +41,15 @@ slice_there {X = X} from count p there =
     ap (λ k. take k (drop (length (below from p)) (below from count))) size
     ∙ (ap (take (length (from p))) rest_is ∙ take-append_seam (from p) rest)
 
-bound_is : {X : Type 0} (from : ℕ → List X) (count : ℕ) (bounds : List ℕ) (all : List X) (p d : ℕ) → IsTable from count bounds all → p ≤ count → slice_index_or bounds p d ≡ length (below from p)
+bound_is : {X : Type 0} (from : ℕ → List X) (count : ℕ) (bounds : List ℕ) (all : List X) (p d : ℕ) → IsTable from count bounds all → p ≤ count
+    → slice_index_or bounds p d ≡ length (below from p)
 bound_is from count bounds all p d table inside =
-    ap (λ xs. slice_index_or xs p d) table.bounds_are ∙ get_or-map-range_with_len (λ q. length (below from q)) 0 (count + 1) p p d (omega (arith, inside)) (omega arith)
+    ap (λ xs. slice_index_or xs p d) table.bounds_are ∙ get_or-map-range_with_len (λ q. length (below from q)) 0 (count + 1) p p d (omega (arith, inside))
+    (omega arith)
 
 -- what is of a page is there
-pub has_part : {X : Type 0} (from : ℕ → List X) (count : ℕ) (bounds : List ℕ) (all : List X) (p : ℕ) → IsTable from count bounds all → p < count → HasPart bounds all p
+pub has_part : {X : Type 0} (from : ℕ → List X) (count : ℕ) (bounds : List ℕ) (all : List X) (p : ℕ) → IsTable from count bounds all → p < count
+    → HasPart bounds all p
 has_part {X = X} from count bounds all p table there =
     let low : slice_index_or bounds p 0 ≡ length (below from p) = bound_is from count bounds all p 0 table (omega (arith, there)) in
     let high : slice_index_or bounds (p + 1) 0 ≡ length (below from (p + 1)) = bound_is from count bounds all (p + 1) 0 table (omega (arith, there)) in
@@ -61,7 +64,8 @@ has_part {X = X} from count bounds all p table there =
       there = omega (arith, high, long);
     }
 
-pub part_is : {X : Type 0} (from : ℕ → List X) (count : ℕ) (bounds : List ℕ) (all : List X) (p : ℕ) → IsTable from count bounds all → p < count → part_of bounds all p ≡ from p
+pub part_is : {X : Type 0} (from : ℕ → List X) (count : ℕ) (bounds : List ℕ) (all : List X) (p : ℕ) → IsTable from count bounds all → p < count
+    → part_of bounds all p ≡ from p
 part_is from count bounds all p table there =
     ap (λ n. take (slice_index_or bounds (p + 1) 0 - n) (drop n all)) (bound_is from count bounds all p 0 table (omega (arith, there)))
     ∙ (ap (λ n. take (n - length (below from p)) (drop (length (below from p)) all)) (bound_is from count bounds all (p + 1) 0 table (omega (arith, there)))

@@ -7,7 +7,7 @@ use Rattle.bdb_format.specs.File.{File}
 use Rattle.bdb_format.specs.Page.{Chain}
 use Rattle.bdb_rescue.specs.Kept.{bytes_in, thin_from}
 use Rattle.bdb_survey.specs.Rows.{is_thin_row, row_at}
-use Rattle.bdb_stored.specs.Salvage.{is_overflow, is_row, is_whole}
+use Rattle.bdb_survey.specs.Salvage.{is_overflow, is_row, is_whole}
 use Rattle.bdb_survey.proofs.SurveyLemmas.{no_row_here}
 use Rattle.bdb_survey.proofs.WholeLemmas.{no_row}
 use Rattle.bdb_rescue.proofs.MarkLemmas.{IsPast}
@@ -17,7 +17,8 @@ pub chain_there : (file : File) (head : ℕ) → IsPast file → is_row file is_
 chain_there file head past row =
     elim (cases_lt head file.count) [
       | inl lt ↦ lt
-      | inr ge ↦ absurd (let no : true ≡ false = sym row ∙ no_row file is_overflow head (no_row_here file is_overflow head (ap is_overflow (past head ge))) in cc)
+      | inr ge ↦ absurd (let no : true ≡ false = sym row ∙ no_row file is_overflow head (no_row_here file is_overflow head (ap is_overflow (past head ge))) in
+          cc)
     ]
 
 no_items : {X : Type 0} (xs : List X) → length xs ≡ 0 → xs ≡ []

@@ -1,5 +1,6 @@
 -- What is kept of an image: the places of pairs and of values that are whole, and what stands there. Source: docs/FORMAT.md, "Salvage".
-use Rattle.std.specs.Prelude.{◌≡◌, ◌<◌, ◌≤◌, ◌^◌, ◌++◌, ℕ, ◌+◌, ◌-◌, ◌*◌, ◌/◌, ◌==◌, not, if◌then◌else◌, Bool, true, false, List, [], ◌∷◌, map, length, take, drop, slice_index_or, Option, Some, None}
+use Rattle.std.specs.Prelude.{◌≡◌, ◌<◌, ◌≤◌, ◌^◌, ◌++◌, ℕ, ◌+◌, ◌-◌, ◌*◌, ◌/◌, ◌==◌, not, if◌then◌else◌, Bool, true, false, List, [], ◌∷◌, map, length, take}
+use Rattle.std.specs.Prelude.{drop, slice_index_or, Option, Some, None}
 use Rattle.std.specs.List.{Contains, flat_map, list_any, range_with_len}
 use Rattle.bdb_format.specs.HeadOf.{is_page_size}
 use Rattle.bdb_format.specs.Chains.{chain, joined, value_of}
@@ -13,7 +14,7 @@ use Rattle.bdb_rescue.specs.declared.kept.KeptPair.{KeptPair}
 use Rattle.bdb_rescue.specs.declared.kept.KeptValue.{KeptValue}
 use Rattle.bdb_survey.specs.Items.{is_valued, slot_at, slots_in}
 use Rattle.bdb_survey.specs.Rows.{thin_pieces}
-use Rattle.bdb_stored.specs.Salvage.{is_taken, is_whole, live_whole, paired_items, salvaged_file, set_start, set_starts}
+use Rattle.bdb_survey.specs.Salvage.{is_taken, is_whole, live_whole, paired_items, salvaged_file, set_start, set_starts}
 
 -- An image and how it's read.
 pub record Reading : Type 0 where
@@ -187,7 +188,8 @@ pub record IsKeptPair (file : File) (kept : KeptPair) : Type 0 where
   pub starts : (leaf : ℕ) → kept.place ≡ OnLeaves leaf → Contains (set_starts file) leaf
 
 -- what is kept of an image
-pub record IsSalvaged (guess : Guess) (image : List ℕ) (pairs : List KeptPair) (values : List KeptValue) (bounds : List ℕ) (sets : List KeptValue) (thin_bounds thin : List ℕ) : Type 0 where
+pub record IsSalvaged (guess : Guess) (image : List ℕ) (pairs : List KeptPair) (values : List KeptValue) (bounds : List ℕ) (sets : List KeptValue)
+    (thin_bounds thin : List ℕ) : Type 0 where
   pub legal : is_page_size guess.page_size ≡ true
   pub small : length image ≤ 2 ^ 30
   pub pairs_are : pairs ≡ kept_pairs (salvaged_file guess.order guess.page_size image)

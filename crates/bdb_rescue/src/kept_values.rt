@@ -4,7 +4,7 @@ ghost use Rattle.std.specs.List.{flat_map};
 ghost use Rattle.std.specs.Option.{option_to_list};
 ghost use Rattle.bdb_rescue.specs.Kept.{kept_value, loose_values, values_in, values_on};
 ghost use Rattle.bdb_rescue.specs.Marks.{Marks};
-ghost use Rattle.bdb_stored.specs.Salvage.{set_starts};
+ghost use Rattle.bdb_survey.specs.Salvage.{set_starts};
 ghost use Rattle.bdb_survey.specs.Slots.{slots_seen};
 
 use crate::kept::KeptValue;

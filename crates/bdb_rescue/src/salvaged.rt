@@ -5,12 +5,13 @@ ghost use Rattle.bdb_format.specs.File.{page_at};
 ghost use Rattle.bdb_format.specs.Page.{Chain};
 ghost use Rattle.bdb_format.specs.HeadOf.{is_page_size};
 ghost use Rattle.bdb_rescue.specs.Guesses.{chosen};
-ghost use Rattle.bdb_rescue.specs.Kept.{IsKeptValue, IsTable, file_in, item_of, kept_pairs, loose_values, pairs_under, set_from, thin_from, value_at, values_on};
+ghost use Rattle.bdb_rescue.specs.Kept.{IsKeptValue, IsTable, file_in, item_of, kept_pairs, loose_values, pairs_under, set_from, thin_from, value_at};
+ghost use Rattle.bdb_rescue.specs.Kept.{values_on};
 ghost use Rattle.bdb_rescue.specs.Marks.{Marks};
 ghost use Rattle.bdb_layout.specs.Seen.{content_seen};
 ghost use Rattle.bdb_survey.specs.Items.{is_valued, slots_in};
 ghost use Rattle.bdb_overflow.specs.Datum.{datum_seen};
-ghost use Rattle.bdb_stored.specs.Salvage.{is_overflow, is_row, is_whole, live_whole, loose, salvaged_file, set_starts, stored};
+ghost use Rattle.bdb_survey.specs.Salvage.{is_overflow, is_row, is_whole, live_whole, loose, salvaged_file, set_starts, stored};
 ghost use Rattle.bdb_rescue.specs.declared.error.SalvageError.TheVariants.{Memory, NoMeta};
 
 use crate::guess::chosen;
@@ -62,7 +63,8 @@ impl<'a> Model for Salvaged<'a> {
 
     ghost view = { λ v. record { guess = v.guess; image = v.image.now } };
 
-    ghost invariant = { λ v. IsSalvaged v.guess v.image.now v.pairs.items v.values.items v.sets.bounds.items v.sets.values.items v.thin.bounds.items v.thin.bytes.items };
+    ghost invariant = { λ v. IsSalvaged v.guess v.image.now v.pairs.items v.values.items v.sets.bounds.items v.sets.values.items v.thin.bounds.items
+        v.thin.bytes.items };
 }
 
 /// Finds what an image still has, by the given guess or the one that page 0 tells. Where there is neither, no memory is asked for.

@@ -3,7 +3,7 @@ ghost use Rattle.std.specs.List.{flat_map, range_with_len};
 ghost use Rattle.bdb_format.specs.Chains.{chain};
 ghost use Rattle.bdb_rescue.specs.Kept.{IsTable, set_from, values_on};
 ghost use Rattle.bdb_rescue.specs.Marks.{Marks};
-ghost use Rattle.bdb_stored.specs.Salvage.{set_starts};
+ghost use Rattle.bdb_survey.specs.Salvage.{set_starts};
 
 use crate::kept::KeptValue;
 use crate::kept_values::keep_leaf;

@@ -3,7 +3,7 @@ ghost use Rattle.std.specs.List.{All, flat_map};
 ghost use Rattle.bdb_format.specs.Chains.{chain};
 ghost use Rattle.bdb_rescue.specs.Kept.{kept_pairs};
 ghost use Rattle.bdb_rescue.specs.Marks.{Marks, start_of, starts_of};
-ghost use Rattle.bdb_stored.specs.Salvage.{set_starts};
+ghost use Rattle.bdb_survey.specs.Salvage.{set_starts};
 
 use crate::kept::{DataPlace, KeptPair};
 use bdb_survey::{RowPages, WholePages};

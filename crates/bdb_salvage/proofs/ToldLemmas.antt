@@ -12,9 +12,9 @@ use Rattle.bdb_format.proofs.VerdictLemmas.{none_is_first_row}
 use Rattle.bdb_format.specs.Table.{first_row}
 use Rattle.bdb_graph.specs.Formed.{IsAccepted}
 use Rattle.bdb_graph.proofs.FirstLemmas.{formed_accepted}
-use Rattle.bdb_census.specs.Databases.{IsSoundForest}
-use Rattle.bdb_census.proofs.MetaLemmas.{sound_forest}
-use Rattle.bdb_whole.proofs.KeptLemmas.{sound_files_are_kept}
+use Rattle.bdb_law_sums.specs.Databases.{IsSoundForest}
+use Rattle.bdb_law_sums.proofs.MetaLemmas.{sound_forest}
+use Rattle.bdb_law_whole.proofs.KeptLemmas.{sound_files_are_kept}
 use Rattle.bdb_survey.specs.declared.guess.Guess.{Guess}
 use Rattle.bdb_rescue.specs.Guesses.{chosen, guess_in, guess_of, is_known_magic}
 use Rattle.bdb_salvage.specs.KeepsAll.{SalvageKeepsAll, guess_told}

@@ -4,13 +4,13 @@ ghost use Rattle.std.specs.Prelude.{◌≡◌};
 
 use crate::images::CHAIN;
 use crate::told::{Case, is_given};
-use bdb_fixtures::{Field, write};
 use bdb_format::{Bytes, Order, Steps};
 use bdb_overflow::Datum;
 use bdb_salvage::{Guess, chain_of};
 use std::alloc::Global;
 use std::marker::Brand;
 use std::sync::ledger::{Blank, Ledger};
+use test_images::{Field, write};
 
 const WHOLE: Case = Case {
     length: 2048,

@@ -1,6 +1,6 @@
 //! Pages of 512 bytes, a field a line. Values: docs/FORMAT.md, "Other pages" and "Items".
 
-use bdb_fixtures::Field;
+use test_images::Field;
 
 // Metadata; internal page 1, both of whose items name child 2; leaf 2 with a and 1; leaf 3 with b and 2.
 pub const LOST_LEAF: [Field; 46] = [

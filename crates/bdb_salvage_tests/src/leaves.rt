@@ -2,7 +2,7 @@
 
 use crate::images::{LEAF, LOST_LEAF, RECORDS};
 use crate::told::{Case, is_given, is_told, tells_none};
-use bdb_fixtures::Field;
+use test_images::Field;
 
 const TOLD: [Case; 3] = [
     // a leaf that nothing names

@@ -2,7 +2,7 @@
 
 use crate::images::{ROOTED_SET, SET};
 use crate::told::{Case, is_given};
-use bdb_fixtures::Field;
+use test_images::Field;
 
 const WHOLE: [Case; 4] = [
     Case {

@@ -2,13 +2,13 @@
 
 ghost use Rattle.std.specs.Prelude.{◌≡◌};
 
-use bdb_fixtures::{Field, write};
 use bdb_format::{Order, Steps};
 use bdb_overflow::Datum;
 use bdb_salvage::{Guess, SalvageError, Salvaged, salvage};
 use std::alloc::Global;
 use std::marker::Brand;
 use std::sync::ledger::{Blank, Ledger};
+use test_images::{Field, write};
 
 const SIZE: usize = 6 * 512;
 

@@ -16,7 +16,8 @@ use Rattle.bdb_settle.specs.LoadErrors.{header_errors, is_sooner, is_too_long, i
 
 -- the first error, with those of a pair more
 pub errors_more : (settings : Settings) (start now then_ : Option LoadError) (pairs : List TextPair) (i : ℕ) (pair : TextPair)
-    → now ≡ fold sooner start (flat_map (pair_errors settings) (take i pairs)) → slice_get pairs i ≡ Some pair → then_ ≡ fold sooner now (pair_errors settings pair)
+    → now ≡ fold sooner start (flat_map (pair_errors settings) (take i pairs)) → slice_get pairs i ≡ Some pair
+    → then_ ≡ fold sooner now (pair_errors settings pair)
     → then_ ≡ fold sooner start (flat_map (pair_errors settings) (take (i + 1) pairs))
 errors_more settings start now then_ pairs i pair so at is =
     is

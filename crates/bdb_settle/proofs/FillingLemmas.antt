@@ -67,7 +67,8 @@ put_filled settings keeps pair (other ∷ others) =
     ∙ by_tests (stands_before settings pair other) (stands_before settings other pair || keeps) (put_filled settings keeps pair others)
   where
     by_tests : (first second : Bool)
-        → put (stands_before settings) keeps (fill settings pair) (map (fill settings) others) ≡ map (fill settings) (put (stands_before settings) keeps pair others)
+        → put (stands_before settings) keeps (fill settings pair) (map (fill settings) others)
+        ≡ map (fill settings) (put (stands_before settings) keeps pair others)
         → cond first (fill settings pair ∷ fill settings other ∷ map (fill settings) others)
         (cond second (fill settings other ∷ put (stands_before settings) keeps (fill settings pair) (map (fill settings) others))
         (fill settings pair ∷ map (fill settings) others))
@@ -77,7 +78,8 @@ put_filled settings keeps pair (other ∷ others) =
     by_tests false false same = refl
 
 pub fold_filled : (settings : Settings) (pairs : List TextPair) (list : List Pair)
-    → fold (with_loaded settings) (map (fill settings) list) (map (loaded_pair settings) pairs) ≡ map (fill settings) (fold (with_loaded settings) list (unlined_pairs pairs))
+    → fold (with_loaded settings) (map (fill settings) list) (map (loaded_pair settings) pairs)
+    ≡ map (fill settings) (fold (with_loaded settings) list (unlined_pairs pairs))
 fold_filled settings [] list = refl
 fold_filled settings (pair ∷ pairs) list =
     ap (λ l. fold (with_loaded settings) l (map (loaded_pair settings) pairs)) (put_filled settings (keeps_data settings) (unlined pair) list)
@@ -95,5 +97,6 @@ list_filled settings pairs = numbered_filled settings (ordered settings pairs) �
 pub sections_filled : (sections : List Section) → map filled_section (map ordered_section sections) ≡ map loaded_section sections
 sections_filled [] = refl
 sections_filled (section ∷ sections) =
-    ap (λ pairs. record section { header_line = 0; pairs = pairs } ∷ map filled_section (map ordered_section sections)) (list_filled section.settings section.pairs)
+    ap (λ pairs. record section { header_line = 0; pairs = pairs } ∷ map filled_section (map ordered_section sections))
+    (list_filled section.settings section.pairs)
     ∙ ap (λ all. loaded_section section ∷ all) (sections_filled sections)

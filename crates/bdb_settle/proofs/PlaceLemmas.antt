@@ -1,5 +1,6 @@
 -- The list of pairs is made where their places lie.
-use Rattle.std.proofs.Common.{◌≡◌, ℕ, ◌+◌, ◌<◌, ◌≤◌, true, false, List, [], ◌∷◌, ◌++◌, drop, drop_of_length-le, get_or, length, map, refl, sym, ◌∙◌, ap, set, subst, take, arith}
+use Rattle.std.proofs.Common.{◌≡◌, ℕ, ◌+◌, ◌<◌, ◌≤◌, true, false, List, [], ◌∷◌, ◌++◌, drop, drop_of_length-le, get_or, length, map, refl, sym, ◌∙◌, ap, set}
+use Rattle.std.proofs.Common.{subst, take, arith}
 use Rattle.std.specs.Prelude.{◌||◌}
 use Rattle.std.specs.Cmp.{IsStrictWeakOrder}
 use Rattle.std.specs.List.{fold}
@@ -64,7 +65,8 @@ sorted_places settings bytes (place ∷ places) sorted k d low high =
     get_or-map (placed_pair bytes) all k d (placed_pair bytes d) (omega (arith, within)) in
     let second : get_or (placed_pairs bytes all) (k + 1) (placed_pair bytes d) ≡ placed_pair bytes (get_or all (k + 1) d) =
     get_or-map (placed_pair bytes) all (k + 1) d (placed_pair bytes d) within in
-    let here : pair_before settings (get_or (placed_pairs bytes all) (k + 1) (placed_pair bytes d)) (get_or (placed_pairs bytes all) k (placed_pair bytes d)) ≡ false =
+    let here : pair_before settings (get_or (placed_pairs bytes all) (k + 1) (placed_pair bytes d)) (get_or (placed_pairs bytes all) k (placed_pair bytes d))
+    ≡ false =
     sorted k (placed_pair bytes d) low (omega (arith, within, length-map all (placed_pair bytes))) in
     sym (ap (λ pair. pair_before settings pair (get_or (placed_pairs bytes all) k (placed_pair bytes d))) second
     ∙ ap (pair_before settings (placed_pair bytes (get_or all (k + 1) d))) first) ∙ here
@@ -111,7 +113,8 @@ bare_placed bytes place placed = record { key = placed.key; begin = placed.begin
 pub starts_at : (settings : Settings) (bytes : List ℕ) (all : List Place) (item : Place) → 0 < length all → IsSortedBy (place_before settings bytes) all
     → ArePlaced bytes all → get_or all 0 item ≡ item → IsSettledAt settings bytes all all 0 (bare item) 1
 starts_at settings bytes [] item some sorted placed at = absurd (omega (arith, some))
-starts_at settings bytes (first ∷ rest) item some sorted placed at = subst (λ place. IsSettledAt settings bytes (first ∷ rest) (first ∷ rest) 0 (bare place) 1) at
+starts_at settings bytes (first ∷ rest) item some sorted placed at = subst (λ place. IsSettledAt settings bytes (first ∷ rest) (first ∷ rest) 0 (bare place) 1)
+    at
     (record {
       low = omega arith;
       same = refl;

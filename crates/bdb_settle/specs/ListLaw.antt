@@ -7,7 +7,7 @@ use Rattle.bdb_text_format.specs.declared.pairs.Pair.{Pair}
 use Rattle.bdb_text_format.specs.declared.pairs.Key.{Key}
 use Rattle.bdb_text_format.specs.declared.pairs.TextPair.{TextPair}
 use Rattle.bdb_text_format.specs.declared.sections.Section.{Section}
-use Rattle.bdb_leaves.specs.Runs.{IsShort}
+use Rattle.bdb_mkleaves.specs.Runs.{IsShort}
 use Rattle.bdb_mktree.specs.Lists.{HasBytes, HasNumber, IsTreeList, bytes_in}
 use Rattle.bdb_mktree.specs.Units.{IsTreeKind}
 use Rattle.bdb_settle.specs.LoadErrors.{load_error}

@@ -50,7 +50,8 @@ pub record IsSettledTo (settings : Settings) (all : List Pair) (list : List Text
 pub record IsSettledAt (settings : Settings) (bytes : List ℕ) (all places : List Place) (kept : ℕ) (last : Place) (next : ℕ) : Type 0 where
   pub low : kept < next
   pub same : length places ≡ length all
-  pub settled : IsSettledTo settings (map (pair_on bytes) all) (placed_pairs bytes (take kept places)) (pair_on bytes last) (map (pair_on bytes) (drop next places))
+  pub settled : IsSettledTo settings (map (pair_on bytes) all) (placed_pairs bytes (take kept places)) (pair_on bytes last)
+      (map (pair_on bytes) (drop next places))
   pub line : last.line ≡ 0
   pub here : IsPlaced bytes last
   pub placed : ArePlaced bytes places

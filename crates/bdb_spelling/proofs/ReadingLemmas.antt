@@ -1,11 +1,13 @@
 -- What a text begins with, and the value of digits.
-use Rattle.std.proofs.Common.{◌≡◌, ◌≢◌, ℕ, ◌+◌, ◌*◌, ◌<◌, Bool, true, false, List, [], ◌∷◌, ◌++◌, length, slice_index, ne_eqb, append_assoc, Option, Some, None, Result, Ok, Err, refl, sym, ap, ◌∙◌, arith}
+use Rattle.std.proofs.Common.{◌≡◌, ◌≢◌, ℕ, ◌+◌, ◌*◌, ◌<◌, Bool, true, false, List, [], ◌∷◌, ◌++◌, length, slice_index, ne_eqb, append_assoc, Option, Some, None}
+use Rattle.std.proofs.Common.{Result, Ok, Err, refl, sym, ap, ◌∙◌, arith}
 use Rattle.std.specs.Prelude.{MatchResult, is_some}
 use Rattle.std.proofs.lemmas.List.{append-nil, nil_from_length}
 use Rattle.std.proofs.lemmas.Bool.Decides.{nat_tests}
 use Rattle.hex.specs.declared.error.FromHexError.{FromHexError}
 use Rattle.hex.specs.Hex.{decode_pairs, decode_sized, digit_or_error, hex_digit_value, ◌>>=◌}
-use Rattle.bdb_text_format.specs.TextSpelling.{before, byte_before, byte_of_digits, bytes_spelled, digit_value, digits_unit, escaped_unit, next_unit, printed_unit}
+use Rattle.bdb_text_format.specs.TextSpelling.{before, byte_before, byte_of_digits, bytes_spelled, digit_value, digits_unit, escaped_unit, next_unit}
+use Rattle.bdb_text_format.specs.TextSpelling.{printed_unit}
 use Rattle.bdb_text_format.proofs.UnitLemmas.{read_empty, read_no_unit, read_unit, unit_shorter}
 
 -- The value of digits.
@@ -126,7 +128,8 @@ pub is_some-no_unit : (print : Bool) (text rest : List ℕ) → is_some (bytes_s
 is_some-no_unit print text rest e some none = sym (e ∙ ap is_some (read_no_unit print rest (omega arith) (sym none)))
 
 -- so the rest of a spelling begins with one
-pub always_unit : (print : Bool) (text bytes rest : List ℕ) → true ≡ is_some (bytes_spelled print text) → bytes_spelled print text ≡ joined bytes (bytes_spelled print rest) → length rest ≢ 0
+pub always_unit : (print : Bool) (text bytes rest : List ℕ) → true ≡ is_some (bytes_spelled print text)
+    → bytes_spelled print text ≡ joined bytes (bytes_spelled print rest) → length rest ≢ 0
     → None ≡ next_unit print rest → ⊥
 always_unit print text bytes rest is e some none =
     let wrong : true ≡ false = is ∙ ap is_some (e ∙ ap (joined bytes) (read_no_unit print rest (omega arith) (sym none))) in

@@ -9,7 +9,9 @@ use Rattle.bdb_format.specs.declared.metadata.FileKind.{FileKind}
 use Rattle.bdb_format.specs.declared.metadata.FileKind.TheVariants.{Btree, Hash as HashFile, Queue as QueueFile}
 use Rattle.bdb_format.specs.declared.metadata.Head.{Head}
 use Rattle.bdb_form.specs.declared.view.PageView.{PageView}
-use Rattle.bdb_form.specs.declared.view.PageView.TheVariants.{Zero as ZeroView, Free as FreeView, Meta as MetaView, Leaf as LeafView, Internal as InternalView, RecnoLeaf as RecnoLeafView, RecnoInternal as RecnoInternalView, DupLeaf as DupLeafView, Hash as HashView, Overflow as OverflowView, Queue as QueueView}
+use Rattle.bdb_form.specs.declared.view.PageView.TheVariants.{Zero as ZeroView, Free as FreeView, Meta as MetaView, Leaf as LeafView, Internal as InternalView}
+use Rattle.bdb_form.specs.declared.view.PageView.TheVariants.{RecnoLeaf as RecnoLeafView, RecnoInternal as RecnoInternalView, DupLeaf as DupLeafView}
+use Rattle.bdb_form.specs.declared.view.PageView.TheVariants.{Hash as HashView, Overflow as OverflowView, Queue as QueueView}
 use Rattle.bdb_form.specs.Seen.{header_seen, page_seen}
 use Rattle.bdb_format.specs.declared.pages.Header.{Header}
 use Rattle.bdb_format.proofs.FileLemmas.{kind_is, last_page, page_is}
@@ -95,7 +97,8 @@ abbrev HasClass : Order → List ℕ → Option ℕ → Type 0
 HasClass order page None = Unit {0}
 HasClass order page (Some byte) = class_by_type (page_as order page (page_type byte)) ≢ None
 
-of_meta : (kind : FileKind) (order : Order) (page : List ℕ) (byte : ℕ) → is_queue kind ≡ false → byte ≡ type_of kind → class_by_type (page_as order page (page_type byte)) ≢ None
+of_meta : (kind : FileKind) (order : Order) (page : List ℕ) (byte : ℕ) → is_queue kind ≡ false → byte ≡ type_of kind
+    → class_by_type (page_as order page (page_type byte)) ≢ None
 of_meta Btree order page byte other is none = let same = sym (ap (λ b. class_by_type (page_as order page (page_type b))) is) ∙ none in cc
 of_meta HashFile order page byte other is none = let same = sym (ap (λ b. class_by_type (page_as order page (page_type b))) is) ∙ none in cc
 of_meta QueueFile order page byte other is none = absurd cc
@@ -146,7 +149,8 @@ unowned_is_reserve image p forest low high other none nothing =
 
 -- so a page that a table may hold is one where nothing names it
 pub reserve_is : (image : List ℕ) (p : ℕ) → IsForest image → 1 ≤ p → p ≤ (file_of image).last → is_queue (file_of image).kind ≡ false
-    → is_meta (page_at (file_of image) p) ≡ false → is_spare (page_at (file_of image) p) ≡ true → (length (owners (file_of image) p) == 0) ≡ is_reserve (file_of image) p
+    → is_meta (page_at (file_of image) p) ≡ false → is_spare (page_at (file_of image) p) ≡ true → (length (owners (file_of image) p) == 0)
+    ≡ is_reserve (file_of image) p
 unfolding is_reserve
 reserve_is image p forest low high other none spare =
     elim (cases_Bool (length (owners (file_of image) p) == 0)) [
@@ -177,25 +181,32 @@ record IsTyped (file : File) (p : ℕ) (class : Class) : Type 0 where
   pub typed : class_by_type (page_at file p) ≡ Some class
 
 typed_by : (tail meta queue reserve : Bool) (typed : Option Class) (class : Class)
-    → Some class ≡ cond {A = Option Class} tail (Some Tail) (cond {A = Option Class} meta (Some Meta) (cond {A = Option Class} queue (Some Queue) (cond {A = Option Class} reserve (Some Reserve) typed)))
+    → Some class ≡ cond {A = Option Class} tail (Some Tail) (cond {A = Option Class} meta (Some Meta)
+    (cond {A = Option Class} queue (Some Queue) (cond {A = Option Class} reserve (Some Reserve) typed)))
     → of_tree class ≡ true → (tail ≡ false) × (typed ≡ Some class)
-typed_by true meta queue reserve typed class is tree = absurd (let same : class ≡ Tail = cc in let other : of_tree Tail ≡ true = ap of_tree (sym same) ∙ tree in cc)
-typed_by false true queue reserve typed class is tree = absurd (let same : class ≡ Meta = cc in let other : of_tree Meta ≡ true = ap of_tree (sym same) ∙ tree in cc)
-typed_by false false true reserve typed class is tree = absurd (let same : class ≡ Queue = cc in let other : of_tree Queue ≡ true = ap of_tree (sym same) ∙ tree in cc)
-typed_by false false false true typed class is tree = absurd (let same : class ≡ Reserve = cc in let other : of_tree Reserve ≡ true = ap of_tree (sym same) ∙ tree in cc)
+typed_by true meta queue reserve typed class is tree = absurd (let same : class ≡ Tail = cc in let other : of_tree Tail ≡ true = ap of_tree (sym same)
+    ∙ tree in cc)
+typed_by false true queue reserve typed class is tree = absurd (let same : class ≡ Meta = cc in let other : of_tree Meta ≡ true = ap of_tree (sym same)
+    ∙ tree in cc)
+typed_by false false true reserve typed class is tree = absurd (let same : class ≡ Queue = cc in let other : of_tree Queue ≡ true = ap of_tree (sym same)
+    ∙ tree in cc)
+typed_by false false false true typed class is tree = absurd (let same : class ≡ Reserve = cc in let other : of_tree Reserve ≡ true = ap of_tree (sym same)
+    ∙ tree in cc)
 typed_by false false false false typed class is tree = (refl, sym is)
 
 is_typed : (file : File) (p : ℕ) (class : Class) → Some class ≡ class_of file p → of_tree class ≡ true → IsTyped file p class
 unfolding class_of
 is_typed file p class is tree =
-    let parts = typed_by (nat_lt file.last p) (is_meta (page_at file p)) (is_queue file.kind) (is_reserve file p) (class_by_type (page_at file p)) class is tree in
+    let parts = typed_by (nat_lt file.last p) (is_meta (page_at file p)) (is_queue file.kind) (is_reserve file p) (class_by_type (page_at file p)) class is tree
+    in
     record { inside = grind (arith, nat_tests, parts.0); typed = parts.1 }
 
 pub tree_inside : (file : File) (p : ℕ) (class : Class) → Some class ≡ class_of file p → of_tree class ≡ true → p ≤ file.last
 tree_inside file p class is tree = (is_typed file p class is tree).inside
 
 -- the header of its view is its own
-header_is : (view : PageView) (class : Class) → class_by_type (page_seen view) ≡ Some class → of_tree class ≡ true → header_seen view ≡ header_in (page_seen view)
+header_is : (view : PageView) (class : Class) → class_by_type (page_seen view) ≡ Some class → of_tree class ≡ true
+    → header_seen view ≡ header_in (page_seen view)
 header_is (ZeroView view) class typed tree = refl
 header_is (FreeView view) class typed tree = refl
 header_is (MetaView view) class typed tree = absurd (let same : class ≡ Meta = cc in let other : of_tree Meta ≡ true = ap of_tree (sym same) ∙ tree in cc)
@@ -208,15 +219,18 @@ header_is (HashView view) class typed tree = refl
 header_is (OverflowView view) class typed tree = refl
 header_is (QueueView view) class typed tree = absurd (let none : None ≡ Some class = typed in cc)
 
-pub level_is : (file : File) (p : ℕ) (class : Class) (view : PageView) (level : ℕ) → Some class ≡ class_of file p → of_tree class ≡ true → page_seen view ≡ page_at file p
+pub level_is : (file : File) (p : ℕ) (class : Class) (view : PageView) (level : ℕ) → Some class ≡ class_of file p → of_tree class ≡ true
+    → page_seen view ≡ page_at file p
     → level ≡ (header_seen view).level → level ≡ tree_level file p
 level_is file p class view level is tree seen level_of =
     let typed : class_by_type (page_seen view) ≡ Some class = ap class_by_type seen ∙ (is_typed file p class is tree).typed in
     let same : header_seen view ≡ header_in (page_at file p) = header_is view class typed tree ∙ ap header_in seen in
-    let here : (is_class Internal (class_of file p) || is_class Leaf (class_of file p)) ≡ true = sym (ap (λ found. is_class Internal found || is_class Leaf found) is) ∙ tree in
+    let here : (is_class Internal (class_of file p) || is_class Leaf (class_of file p))
+    ≡ true = sym (ap (λ found. is_class Internal found || is_class Leaf found) is) ∙ tree in
     level_of ∙ (ap (λ (h : Header). h.level) same ∙ rw here refl)
 
 pub no_level : (file : File) (p : ℕ) (class : Class) → Some class ≡ class_of file p → of_tree class ≡ false → 0 ≡ tree_level file p
 no_level file p class is other =
-    let here : (is_class Internal (class_of file p) || is_class Leaf (class_of file p)) ≡ false = sym (ap (λ found. is_class Internal found || is_class Leaf found) is) ∙ other in
+    let here : (is_class Internal (class_of file p) || is_class Leaf (class_of file p))
+    ≡ false = sym (ap (λ found. is_class Internal found || is_class Leaf found) is) ∙ other in
     rw here refl

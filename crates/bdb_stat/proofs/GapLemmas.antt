@@ -71,7 +71,8 @@ falling_again low size n begin end lowest outside j falling there begins ends = 
             let higher : lowest ≤ begin j = falling.above j there in
             omega arith
       ];
-  counted = falling.counted ∙ sym (one_more_outside lowest size n begin end (λ k from to low high. is_inside n begin end k j there (omega arith) (omega arith)));
+  counted = falling.counted ∙ sym (one_more_outside lowest size n begin end
+      (λ k from to low high. is_inside n begin end k j there (omega arith) (omega arith)));
 }
 
 -- all of them: what lies below the lowest place is outside too

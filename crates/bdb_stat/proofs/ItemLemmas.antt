@@ -25,7 +25,8 @@ use Rattle.bdb_stat.proofs.PlaceLemmas.{all_outside, is_inside, is_outside, none
 use Rattle.bdb_stat.specs.Ends.{ArePlaced, IsPlaced, internal_end, lowest, recno_end}
 
 -- a page with an index, by the ends of its items
-listed_is : {I : Type 0} (order : Order) (page : List ℕ) (item_at : ℕ → I) (size : ℕ) (end other : ℕ → ℕ) → ((i : ℕ) → i < entries_of order page → end i ≡ other i)
+listed_is : {I : Type 0} (order : Order) (page : List ℕ) (item_at : ℕ → I) (size : ℕ) (end other : ℕ → ℕ)
+    → ((i : ℕ) → i < entries_of order page → end i ≡ other i)
     → listed_unused size (listed order page item_at) end ≡ places_outside (index_end order page) size (entries_of order page) (offset_of order page) other
 unfolding listed_unused listed
 listed_is order page item_at size end other ends =
@@ -205,13 +206,16 @@ below_tiles from size n begin tiled room =
     ∙ (ap (λ (m : ℕ). lowest size begin n - from + m)
     (none_outside (lowest size begin n) size n begin (end_before size begin)
     (λ k low high. let it : Holds size begin n k = held size begin n k low high in
-    is_inside n begin (end_before size begin) k it.item it.there it.low (let end : end_before size begin it.item ≡ lowest size begin it.item = tile_end size begin it.item in omega (arith, it.high))))
+    is_inside n begin (end_before size begin) k it.item it.there it.low (let end : end_before size begin it.item
+    ≡ lowest size begin it.item = tile_end size begin it.item in omega (arith, it.high))))
     ∙ omega arith))
 
-hash_tiled : (order : Order) (page : List ℕ) (n : ℕ) → ((i : ℕ) → i < n → first_row (hash_rows order page i) ≡ None) → AreTiled (length page) (offset_of order page) n
+hash_tiled : (order : Order) (page : List ℕ) (n : ℕ) → ((i : ℕ) → i < n → first_row (hash_rows order page i) ≡ None)
+    → AreTiled (length page) (offset_of order page) n
 hash_tiled order page n rows = λ i lt.
     let fits : FitsHash order page (offset_of order page i) (hash_end order page i) = hash_fits order page i (rows i lt) in
-    let end : end_before (length page) (offset_of order page) i ≡ lowest (length page) (offset_of order page) i = tile_end (length page) (offset_of order page) i in
+    let end : end_before (length page) (offset_of order page) i ≡ lowest (length page) (offset_of order page) i = tile_end (length page) (offset_of order page)
+    i in
     omega (arith, fits.begins)
 
 hash_behind : (order : Order) (page : List ℕ) (i : ℕ) → first_row (hash_rows order page i) ≡ None → index_end order page ≤ offset_of order page i
@@ -248,7 +252,8 @@ hash_outside order page room rows =
     ∙ below_tiles (index_end order page) (length page) n (offset_of order page) (hash_tiled order page n rows) (lowest_behind order page room rows))
   where
     ends : (i : ℕ) → i < entries_of order page
-        → cond (i == 0) (length page) (slice_index (listed order page (hash_item_at order page)).offsets (i - 1)) ≡ end_before (length page) (offset_of order page) i
+        → cond (i == 0) (length page) (slice_index (listed order page (hash_item_at order page)).offsets (i - 1))
+        ≡ end_before (length page) (offset_of order page) i
     ends zero lt = refl
     ends (suc i) lt =
         ap (cond (suc i == 0) (length page)) (index_offset order page (hash_item_at order page) (suc i - 1) (omega arith))

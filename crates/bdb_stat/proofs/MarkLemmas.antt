@@ -1,5 +1,6 @@
 -- The marks of places, by the bits of words.
-use Rattle.std.proofs.Common.{◌≡◌, ◌∙◌, ◌≢◌, bit_and, min, inl, inr, ℕ, ◌+◌, ◌-◌, ◌*◌, ◌/◌, ◌%◌, ◌^◌, ◌<◌, ◌≤◌, Bool, true, false, List, cond, length, get_or, map, refl, sym, ap, arith}
+use Rattle.std.proofs.Common.{◌≡◌, ◌∙◌, ◌≢◌, bit_and, min, inl, inr, ℕ, ◌+◌, ◌-◌, ◌*◌, ◌/◌, ◌%◌, ◌^◌, ◌<◌, ◌≤◌, Bool, true, false, List, cond, length, get_or}
+use Rattle.std.proofs.Common.{map, refl, sym, ap, arith}
 use Rattle.std.specs.Prelude.{◌==◌, MatchOption, None, Option, Some, slice_index}
 use Rattle.std.specs.Int.{bit_at}
 use Rattle.std.proofs.lemmas.Bool.{cases_lt, eq-eqb, eqb-true}
@@ -40,7 +41,8 @@ one_marked words more place word inside same each set others k low =
     here : (is : Bool) → (place == k) ≡ is → place / 64 ≡ k / 64 → bit_at word (k % 64) ≡ cond is 1 (mark_at words k)
     here true is number = ap (λ i. bit_at word i) (ap (λ (n : ℕ). n % 64) (sym (eqb-true place k is))) ∙ set
     here false is number =
-        others (k % 64) (λ same_bit. absurd (let same_place : place ≡ k = omega (arith, same_bit, number) in let is_true : (place == k) ≡ true = eq-eqb place k same_place in cc))
+        others (k % 64) (λ same_bit. absurd (let same_place : place ≡ k = omega (arith, same_bit, number) in let is_true : (place == k)
+        ≡ true = eq-eqb place k same_place in cc))
         ∙ ap (λ j. bit_at (get_or words j 0) (k % 64)) number
 
     apart : (is : Bool) → (place == k) ≡ is → (place / 64 == k / 64) ≡ false → mark_at words k ≡ cond is 1 (mark_at words k)
@@ -91,7 +93,8 @@ next_here words from number low bit there behind past few before set none =
             | inl earlier ↦ before k low_k earlier
             | inr later ↦
                 let same_k : k / 64 ≡ number = omega arith in
-                unmarked words k (omega arith) (ap (λ j. bit_at (get_or words j 0) (k % 64)) same_k ∙ none (k % 64) (omega (arith, same_k)) (omega (arith, same_k)))
+                unmarked words k (omega arith) (ap (λ j. bit_at (get_or words j 0) (k % 64)) same_k
+                ∙ none (k % 64) (omega (arith, same_k)) (omega (arith, same_k)))
           ];
     }
 
@@ -117,12 +120,14 @@ no_bit word i is = ap (λ w. bit_at w i) is ∙ bit_at-zero i
 pub none_behind : (words : List ℕ) (from : ℕ) → length words ≤ from / 64 → NoStart (marks_of words) from (length (marks_of words))
 none_behind words from past = λ k low high. absurd (omega (arith, marks_long words))
 
-rest_of : (words : List ℕ) (from rest : ℕ) → ((i : ℕ) → from % 64 ≤ i → i < 64 → bit_at rest i ≡ bit_at (get_or words (from / 64) 0) i) → (i : ℕ) → from % 64 ≤ i → i < 64
+rest_of : (words : List ℕ) (from rest : ℕ) → ((i : ℕ) → from % 64 ≤ i → i < 64 → bit_at rest i ≡ bit_at (get_or words (from / 64) 0) i) → (i : ℕ)
+    → from % 64 ≤ i → i < 64
     → bit_at (get_or words (from / 64) 0) i ≡ bit_at rest i
 rest_of words from rest high i past below = sym (high i past below)
 
 pub next_of_word : (words : List ℕ) (from rest bit : ℕ) → from / 64 < length words → ((i : ℕ) → i < from % 64 → bit_at rest i ≡ 0)
-    → ((i : ℕ) → from % 64 ≤ i → i < 64 → bit_at rest i ≡ bit_at (get_or words (from / 64) 0) i) → IsFirstBit rest bit → IsNext (marks_of words) from (64 * (from / 64) + bit)
+    → ((i : ℕ) → from % 64 ≤ i → i < 64 → bit_at rest i ≡ bit_at (get_or words (from / 64) 0) i) → IsFirstBit rest bit
+    → IsNext (marks_of words) from (64 * (from / 64) + bit)
 next_of_word words from rest bit there low high first =
     let past : from % 64 ≤ bit =
     elim (cases_lt bit (from % 64)) [
@@ -134,7 +139,8 @@ next_of_word words from rest bit there low high first =
     (λ i above below. rest_of words from rest high i above (omega (arith, first.low)) ∙ first.none i below)
 
 pub none_of_word : (words : List ℕ) (from rest : ℕ) → from / 64 < length words
-    → ((i : ℕ) → from % 64 ≤ i → i < 64 → bit_at rest i ≡ bit_at (get_or words (from / 64) 0) i) → rest ≡ 0 → NoStart (marks_of words) from (64 * (from / 64 + 1))
+    → ((i : ℕ) → from % 64 ≤ i → i < 64 → bit_at rest i ≡ bit_at (get_or words (from / 64) 0) i) → rest ≡ 0
+    → NoStart (marks_of words) from (64 * (from / 64 + 1))
 none_of_word words from rest there high zero =
     none_more words from (from / 64) (from % 64) there (omega arith) (λ k above below. absurd (omega arith))
     (λ i above below. rest_of words from rest high i above below ∙ no_bit rest i zero)

@@ -35,7 +35,8 @@ page_there image head p page is low bytes =
     page_is image p inside
     ∙ (ap (λ (h : Head). abstract_page h.order (page_bytes h image p)) (sym is) ∙ ap (abstract_page head.order) (sym bytes))
 
-pub zero_on : (image : List ℕ) (head : Head) (p : ℕ) (page : List ℕ) → head ≡ head_of image → p ≤ head.last → page ≡ page_bytes head image p → is_zero page ≡ true
+pub zero_on : (image : List ℕ) (head : Head) (p : ℕ) (page : List ℕ) → head ≡ head_of image → p ≤ head.last → page ≡ page_bytes head image p
+    → is_zero page ≡ true
     → 0 ≡ unused_in (file_of image).size (page_at (file_of image) p)
 unfolding unused_in
 zero_on image head p page is low bytes zeros =

@@ -1,5 +1,6 @@
 -- The figures of the pages below a number.
-use Rattle.std.proofs.Common.{◌≡◌, ◌≢◌, ◌∙◌, ℕ, zero, suc, ◌+◌, ◌-◌, ◌*◌, ◌/◌, ◌^◌, ◌<◌, ◌≤◌, true, false, List, [], ◌∷◌, length, length-append, refl, sym, ap, subst, arith}
+use Rattle.std.proofs.Common.{◌≡◌, ◌≢◌, ◌∙◌, ℕ, zero, suc, ◌+◌, ◌-◌, ◌*◌, ◌/◌, ◌^◌, ◌<◌, ◌≤◌, true, false, List, [], ◌∷◌, length, length-append, refl, sym, ap}
+use Rattle.std.proofs.Common.{subst, arith}
 use Rattle.std.specs.Prelude.{◌==◌, ◌||◌, cond, get_or, Bool, Option, Some, None, max, map, nat_lt, slice_index}
 use Rattle.std.specs.List.{filter, fold, list_any, range_with_len, sum_by}
 use Rattle.std.proofs.lemmas.Bool.{eqb-true}
@@ -16,7 +17,8 @@ use Rattle.bdb_format.specs.File.{File, file_of, page_at}
 use Rattle.bdb_format.specs.Graph.{is_meta, is_reserve}
 use Rattle.bdb_format.specs.declared.metadata.Head.{Head}
 use Rattle.bdb_format.specs.HeadOf.{head_of, is_page_size}
-use Rattle.bdb_format.specs.Page.{Listed, Page, Zero, Free, Meta as MetaPage, Hash as HashPage, Internal as InternalPage, RecnoInternal, Leaf as LeafPage, RecnoLeaf, DupLeaf, Overflow as OverflowPage, Queue as QueuePage, NoType}
+use Rattle.bdb_format.specs.Page.{Listed, Page, Zero, Free, Meta as MetaPage, Hash as HashPage, Internal as InternalPage, RecnoInternal, Leaf as LeafPage}
+use Rattle.bdb_format.specs.Page.{RecnoLeaf, DupLeaf, Overflow as OverflowPage, Queue as QueuePage, NoType}
 use Rattle.bdb_format.specs.Rows.{is_queue}
 use Rattle.bdb_format.specs.Verdict.{faults_of}
 use Rattle.bdb_graph.proofs.FirstLemmas.{formed_accepted}
@@ -47,7 +49,8 @@ pages_more file class n =
     let test : ℕ → Bool = λ p. is_class class (class_of file p) in
     ap (λ xs. length (filter test xs)) (next_in n)
     ∙ (ap (λ (xs : List ℕ). length xs) (filter-append test (range_with_len 0 n) (n ∷ []))
-    ∙ (length-append (filter test (range_with_len 0 n)) (filter test (n ∷ [])) ∙ ap (λ (m : ℕ). length (filter test (range_with_len 0 n)) + m) (one_kept (test n))))
+    ∙ (length-append (filter test (range_with_len 0 n)) (filter test (n ∷ [])) ∙ ap (λ (m : ℕ). length (filter test (range_with_len 0 n)) + m)
+    (one_kept (test n))))
   where
     one_kept : (b : Bool) → length (cond b (n ∷ []) []) ≡ cond b 1 0
     one_kept true = refl
@@ -95,7 +98,8 @@ few_below file (suc n) =
     let rest : unused_below file n ≤ n * file.size = few_below file n in
     let here : unused_in file.size (page_at file n) ≤ file.size = few_in file.size (page_at file n) in
     let next : n + 1 ≡ suc n = omega arith in
-    let more : unused_below file (suc n) ≡ unused_below file n + unused_in file.size (page_at file n) = ap (unused_below file) (sym next) ∙ unused_more file n in
+    let more : unused_below file (suc n) ≡ unused_below file n + unused_in file.size (page_at file n) = ap (unused_below file) (sym next)
+    ∙ unused_more file n in
     omega arith
 
 -- a file has few pages, and few bytes
@@ -152,7 +156,8 @@ pub record IsBelow (file : File) (n : ℕ) (stat : Stat) : Type 0 where
   pub levels : stat.levels ≡ levels_below file n
   pub unused : stat.unused ≡ unused_below file n
 
-pub none_below : (file : File) (stat : Stat) → stat.pages ≡ file.count → ((class : Class) → count_in stat class ≡ 0) → stat.levels ≡ 0 → stat.unused ≡ 0 → IsBelow file 0 stat
+pub none_below : (file : File) (stat : Stat) → stat.pages ≡ file.count → ((class : Class) → count_in stat class ≡ 0) → stat.levels ≡ 0 → stat.unused ≡ 0
+    → IsBelow file 0 stat
 none_below file stat pages classes levels unused = record { pages = pages; classes = classes; levels = levels; unused = unused }
 
 -- other figures don't change those of classes
@@ -197,7 +202,8 @@ forest_of image size sound = record {
 }
 
 classed_by : (tail meta queue reserve : Bool) (typed : Option Class) → (tail ≡ false → queue ≡ false → typed ≢ None)
-    → cond {A = Option Class} tail (Some Tail) (cond {A = Option Class} meta (Some Meta) (cond {A = Option Class} queue (Some Queue) (cond {A = Option Class} reserve (Some Reserve) typed))) ≢ None
+    → cond {A = Option Class} tail (Some Tail) (cond {A = Option Class} meta (Some Meta)
+    (cond {A = Option Class} queue (Some Queue) (cond {A = Option Class} reserve (Some Reserve) typed))) ≢ None
 classed_by true meta queue reserve typed some none = cc
 classed_by false true queue reserve typed some none = cc
 classed_by false false true reserve typed some none = cc
@@ -212,12 +218,14 @@ some_class image p forest =
 
 abbrev all_of : File → ℕ → ℕ
 all_of file n =
-    pages_below file Meta n + pages_below file Internal n + pages_below file Leaf n + pages_below file Hash n + pages_below file Overflow n + pages_below file FreeClass n
+    pages_below file Meta n + pages_below file Internal n + pages_below file Leaf n + pages_below file Hash n + pages_below file Overflow n + pages_below file
+    FreeClass n
     + pages_below file Reserve n + pages_below file Queue n + pages_below file Tail n
 
 abbrev one_of : Option Class → ℕ
 one_of found =
-    one Meta found + one Internal found + one Leaf found + one Hash found + one Overflow found + one FreeClass found + one Reserve found + one Queue found + one Tail found
+    one Meta found + one Internal found + one Leaf found + one Hash found + one Overflow found + one FreeClass found + one Reserve found + one Queue found + one
+    Tail found
 
 just_one : (found : Option Class) → found ≢ None → one_of found ≡ 1
 just_one None some = absurd (some refl)

@@ -12,7 +12,8 @@ use Rattle.bdb_stat.specs.Starts.{AreStarts, IsNext, NoStart}
 
 -- an item that begins there is marked, and what is marked begins an item
 
-started : (starts : List ℕ) (n : ℕ) (begin : ℕ → ℕ) (i : ℕ) → AreStarts starts n begin → i < n → begin i < length starts → (slice_index starts (begin i) == 1) ≡ true
+started : (starts : List ℕ) (n : ℕ) (begin : ℕ → ℕ) (i : ℕ) → AreStarts starts n begin → i < n → begin i < length starts → (slice_index starts (begin i) == 1)
+    ≡ true
 started starts n begin i are there inside =
     are (begin i) inside
     ∙ passes_here (λ j. begin j == begin i) (range_with_len 0 n) i (in_range 0 n i (omega arith) (omega arith)) (eq-eqb (begin i) (begin i) refl)
@@ -95,7 +96,8 @@ at_start low size least n begin end room items = record {
 
 -- The places from the one that is reached up to the next item.
 
-gap : (starts : List ℕ) (low least n : ℕ) (begin end : ℕ → ℕ) (from reached outside to : ℕ) → AreItems low (length starts) least n begin end → AreStarts starts n begin
+gap : (starts : List ℕ) (low least n : ℕ) (begin end : ℕ → ℕ) (from reached outside to : ℕ) → AreItems low (length starts) least n begin end
+    → AreStarts starts n begin
     → IsSwept low (length starts) n begin end from reached outside → to ≤ length starts → NoStart starts from to → (k : ℕ) → reached ≤ k → k < to
     → lies_in n begin (λ i. end (begin i)) k ≡ false
 gap starts low least n begin end from reached outside to items are swept within none k past below =
@@ -108,7 +110,8 @@ gap starts low least n begin end from reached outside to items are swept within 
           absurd cc
     ])
 
-pub at_next : (starts : List ℕ) (low least n : ℕ) (begin end : ℕ → ℕ) (from reached outside at : ℕ) → AreItems low (length starts) least n begin end → AreStarts starts n begin
+pub at_next : (starts : List ℕ) (low least n : ℕ) (begin end : ℕ → ℕ) (from reached outside at : ℕ) → AreItems low (length starts) least n begin end
+    → AreStarts starts n begin
     → IsSwept low (length starts) n begin end from reached outside → IsNext starts from at
     → IsSwept low (length starts) n begin end (at + 1) (max reached (end at)) (outside + (at - reached))
 at_next starts low least n begin end from reached outside at items are swept next =
@@ -172,7 +175,8 @@ at_next starts low least n begin end from reached outside at items are swept nex
           | inr same ↦ omega arith
         ]
 
-pub at_end : (starts : List ℕ) (low least n : ℕ) (begin end : ℕ → ℕ) (from reached outside : ℕ) → AreItems low (length starts) least n begin end → AreStarts starts n begin
+pub at_end : (starts : List ℕ) (low least n : ℕ) (begin end : ℕ → ℕ) (from reached outside : ℕ) → AreItems low (length starts) least n begin end
+    → AreStarts starts n begin
     → IsSwept low (length starts) n begin end from reached outside → NoStart starts from (length starts)
     → outside + (length starts - reached) ≡ places_outside low (length starts) n begin (λ i. end (begin i))
 at_end starts low least n begin end from reached outside items are swept none =

@@ -3,7 +3,8 @@ use Rattle.std.specs.Prelude.{ℕ, ◌||◌, nat_lt, max, if◌then◌else◌, B
 use Rattle.std.specs.List.{filter, fold, range_with_len}
 use Rattle.bdb_format.specs.File.{File, header_in, page_at}
 use Rattle.bdb_format.specs.Graph.{is_meta, is_reserve}
-use Rattle.bdb_format.specs.Page.{Page, Zero, Free as FreePage, Meta as MetaPage, Hash as HashPage, Internal as InternalPage, RecnoInternal, Leaf as LeafPage, RecnoLeaf, DupLeaf, Overflow as OverflowPage, Queue as QueuePage, NoType}
+use Rattle.bdb_format.specs.Page.{Page, Zero, Free as FreePage, Meta as MetaPage, Hash as HashPage, Internal as InternalPage, RecnoInternal, Leaf as LeafPage}
+use Rattle.bdb_format.specs.Page.{RecnoLeaf, DupLeaf, Overflow as OverflowPage, Queue as QueuePage, NoType}
 use Rattle.bdb_format.specs.Rows.{is_queue}
 use Rattle.bdb_stat.specs.declared.class.Class.{Class}
 use Rattle.bdb_stat.specs.declared.class.Class.TheVariants.{Meta, Internal, Leaf, Hash, Overflow, Free, Reserve, Queue, Tail}

@@ -1,5 +1,6 @@
 -- A whole chain of the pages that a guess reads is one of the image.
-use Rattle.std.proofs.Common.{◌≡◌, ℕ, zero, suc, ◌+◌, ◌/◌, ◌<◌, ◌≤◌, Bool, true, false, cond, List, [], ◌∷◌, map, length, arith, refl, sym, ◌∙◌, ap, inl, inr, eqb-true}
+use Rattle.std.proofs.Common.{◌≡◌, ℕ, zero, suc, ◌+◌, ◌/◌, ◌<◌, ◌≤◌, Bool, true, false, cond, List, [], ◌∷◌, map, length, arith, refl, sym, ◌∙◌, ap, inl, inr}
+use Rattle.std.proofs.Common.{eqb-true}
 use Rattle.std.specs.Prelude.{◌==◌, ◌&&◌, not, nat_lt, Option, Some, None}
 use Rattle.std.proofs.Common.{ltb-false}
 use Rattle.std.proofs.lemmas.Bool.{and_parts}
@@ -16,9 +17,9 @@ use Rattle.bdb_form.specs.Formed.{HoldsData}
 use Rattle.bdb_form.proofs.FormedLemmas.{holds_data, tree_body}
 use Rattle.bdb_overflow.specs.Whole.{EndsIn, IsLink, IsWholeChain, bytes_of, next_at}
 use Rattle.bdb_overflow.proofs.WholeLemmas.{page_as_is, page_length}
-use Rattle.bdb_stored.specs.Salvage.{follows, is_link, is_overflow, is_row, salvaged_file, salvaged_page, unless_code}
-use Rattle.bdb_stored.proofs.PageLemmas.{count_is, page_is, page_past}
-use Rattle.bdb_census.proofs.HashLemmas.{no_turn, turn_is}
+use Rattle.bdb_survey.specs.Salvage.{follows, is_link, is_overflow, is_row, salvaged_file, salvaged_page, unless_code}
+use Rattle.bdb_survey.proofs.StoredPageLemmas.{count_is, page_is, page_past}
+use Rattle.bdb_law_sums.proofs.HashLemmas.{no_turn, turn_is}
 
 -- An overflow page by its bytes.
 
@@ -59,7 +60,8 @@ byte_seven order page byte is =
     ] refl
 
 by_zero : (order : Order) (page : List ℕ) → 26 ≤ length page → length page ≤ 32768 → page_code order (four_at order page 8) page ≡ None
-    → (zeros : Bool) → is_zero page ≡ zeros → is_overflow (elim zeros [ true ↦ Zero | false ↦ page_as order page (page_type (byte_at page 25)) ]) ≡ true → HoldsData order page × (byte_at page 25 ≡ 7)
+    → (zeros : Bool) → is_zero page ≡ zeros → is_overflow (elim zeros [ true ↦ Zero | false ↦ page_as order page (page_type (byte_at page 25)) ]) ≡ true
+    → HoldsData order page × (byte_at page 25 ≡ 7)
 by_zero order page header size none true zeros is = absurd cc
 by_zero order page header size none false zeros is =
     let seven : byte_at page 25 ≡ 7 = byte_seven order page (byte_at page 25) is in
@@ -93,7 +95,8 @@ there_of order size image p is =
       | false ↦ λ ge. absurd (let no : true ≡ false = sym is ∙ ap is_overflow (page_past order size image p (ltb-false p (length image / size) ge)) in cc)
     ] refl
 
-same_link : (order : Order) (size : ℕ) (image : List ℕ) (before p : ℕ) → is_page_size size ≡ true → is_link (salvaged_file order size image) is_overflow before p ≡ true → IsSameLink order size image p
+same_link : (order : Order) (size : ℕ) (image : List ℕ) (before p : ℕ) → is_page_size size ≡ true
+    → is_link (salvaged_file order size image) is_overflow before p ≡ true → IsSameLink order size image p
 same_link order size image before p legal is =
     let file : File = salvaged_file order size image in
     let some : (not (p == 0) && is_overflow (page_at file p)) ≡ true = (and_parts _ _ is).0 in
@@ -104,10 +107,17 @@ same_link order size image before p legal is =
     let short : size ≤ 32768 = (size_bounds size legal).1 in
     let page : List ℕ = bytes_of size image p in
     let all : length page ≡ size = page_length size image p (omega (arith, long)) there in
-    let of_page : IsChainPage order page = chain_page order page (omega (arith, all, long)) (omega (arith, all, short)) (sym (ap is_overflow (page_is order size image p there)) ∙ chain) in
-    let same : page_at file p ≡ page_at (file_as order size image) p = page_is order size image p there ∙ (of_page.same ∙ sym (page_as_is order size image p there)) in
+    let of_page : IsChainPage order page = chain_page order page (omega (arith, all, long)) (omega (arith, all, short))
+    (sym (ap is_overflow (page_is order size image p there)) ∙ chain) in
+    let same : page_at file p ≡ page_at (file_as order size image) p = page_is order size image p there
+    ∙ (of_page.same ∙ sym (page_as_is order size image p there)) in
     let link : IsLink order size image p = record { low = low_of p low; high = there; kind = of_page.kind; room = omega (arith, of_page.room, all) } in
-    record { link = link; same = same; next_is = ap (λ page. (header_in page).next) same ∙ Rattle.bdb_overflow.proofs.WholeLemmas.link_next order size image p (omega (arith, long)) link }
+    record {
+      link = link;
+      same = same;
+      next_is = ap (λ page. (header_in page).next) same ∙ Rattle.bdb_overflow.proofs.WholeLemmas.link_next order size image p
+          (omega (arith, long)) link;
+    }
   where
     low_of : (p : ℕ) → not (p == 0) ≡ true → 1 ≤ p
     low_of zero no' = absurd cc
@@ -120,7 +130,8 @@ first_link file test before p [] all = (and_parts _ _ all).0
 first_link file test before p (q ∷ ps) all = (and_parts _ _ all).0
 
 -- the rest of a row whose page isn't the last
-after_link : (file : File) (test : Page → Bool) (before p : ℕ) (ps : List ℕ) → (next_of file p == 0) ≡ false → follows file test before (p ∷ ps) ≡ true → follows file test p ps ≡ true
+after_link : (file : File) (test : Page → Bool) (before p : ℕ) (ps : List ℕ) → (next_of file p == 0) ≡ false → follows file test before (p ∷ ps) ≡ true
+    → follows file test p ps ≡ true
 after_link file test before p [] more all = absurd (let no : false ≡ true = sym more ∙ (and_parts _ _ all).1 in cc)
 after_link file test before p (q ∷ ps) more all = (and_parts _ _ all).1
 
@@ -134,9 +145,11 @@ record IsSameRow (turns : ℕ) (order : Order) (size : ℕ) (image : List ℕ) (
       ≡ pieces_along (salvaged_file order size image) (chain_in turns (salvaged_file order size image) p)
 
 same_row : (turns : ℕ) (order : Order) (size : ℕ) (image : List ℕ) (before p : ℕ) → is_page_size size ≡ true
-    → follows (salvaged_file order size image) is_overflow before (chain_in turns (salvaged_file order size image) p) ≡ true → IsSameRow turns order size image p
+    → follows (salvaged_file order size image) is_overflow before (chain_in turns (salvaged_file order size image) p) ≡ true
+    → IsSameRow turns order size image p
 same_row zero order size image before p legal all =
-    absurd (let none : false ≡ true = sym (ap (follows (salvaged_file order size image) is_overflow before) (no_turn (salvaged_file order size image) p)) ∙ all in cc)
+    absurd (let none : false ≡ true = sym (ap (follows (salvaged_file order size image) is_overflow before) (no_turn (salvaged_file order size image) p))
+    ∙ all in cc)
 same_row (suc turns) order size image before p legal all =
     let file : File = salvaged_file order size image in
     let plain : File = file_as order size image in
@@ -152,7 +165,8 @@ same_row (suc turns) order size image before p legal all =
       }
       | false ↦ λ more.
           let rows : follows file is_overflow p (chain_in turns file (next_of file p)) ≡ true =
-          sym (ap (λ b. follows file is_overflow p (cond b [] (chain_in turns file (next_of file p)))) more) ∙ after_link file is_overflow before p rest more row in
+          sym (ap (λ b. follows file is_overflow p (cond b [] (chain_in turns file (next_of file p)))) more) ∙ after_link file is_overflow before p rest more
+          row in
           let below : IsSameRow turns order size image (next_of file p) = same_row turns order size image p (next_of file p) legal rows in
           record {
             ends = (here.link, inr (subst_ends turns order size image here.next_is below.ends));
@@ -166,21 +180,26 @@ same_row (suc turns) order size image before p legal all =
     one : (file : File) (p : ℕ) → (next_of file p == 0) ≡ true → pieces_along file (chain_in (suc turns) file p) ≡ piece_in (page_at file p) ∷ []
     one file p last = ap (pieces_along file) (turn_is turns file p ∙ ap (λ b. p ∷ cond b [] (chain_in turns file (next_of file p))) last)
 
-    more_pieces : (file : File) (p : ℕ) → (next_of file p == 0) ≡ false → pieces_along file (chain_in (suc turns) file p) ≡ piece_in (page_at file p) ∷ pieces_along file (chain_in turns file (next_of file p))
+    more_pieces : (file : File) (p : ℕ) → (next_of file p == 0) ≡ false → pieces_along file (chain_in (suc turns) file p) ≡ piece_in (page_at file p)
+        ∷ pieces_along file (chain_in turns file (next_of file p))
     more_pieces file p more = ap (pieces_along file) (turn_is turns file p ∙ ap (λ b. p ∷ cond b [] (chain_in turns file (next_of file p))) more)
 
     subst_ends : (turns : ℕ) (order : Order) (size : ℕ) (image : List ℕ) {n m : ℕ} → n ≡ m → EndsIn turns order size image n → EndsIn turns order size image m
     subst_ends turns order size image same ends = Rattle.std.proofs.Common.subst (EndsIn turns order size image) same ends
 
-all_same : (order : Order) (size : ℕ) (image : List ℕ) (head : ℕ) → is_page_size size ≡ true → is_row (salvaged_file order size image) is_overflow head ≡ true → IsSameRow (length image / size) order size image head
+all_same : (order : Order) (size : ℕ) (image : List ℕ) (head : ℕ) → is_page_size size ≡ true → is_row (salvaged_file order size image) is_overflow head ≡ true
+    → IsSameRow (length image / size) order size image head
 all_same order size image head legal whole =
     same_row (length image / size) order size image 0 head legal
-    (ap (λ turns. follows (salvaged_file order size image) is_overflow 0 (chain_in turns (salvaged_file order size image) head)) (sym (count_is order size image)) ∙ whole)
+    (ap (λ turns. follows (salvaged_file order size image) is_overflow 0 (chain_in turns (salvaged_file order size image) head))
+    (sym (count_is order size image)) ∙ whole)
 
-pub whole_chain : (order : Order) (size : ℕ) (image : List ℕ) (head : ℕ) → is_page_size size ≡ true → is_row (salvaged_file order size image) is_overflow head ≡ true → IsWholeChain order size image head
+pub whole_chain : (order : Order) (size : ℕ) (image : List ℕ) (head : ℕ) → is_page_size size ≡ true → is_row (salvaged_file order size image) is_overflow head
+    ≡ true → IsWholeChain order size image head
 whole_chain order size image head legal whole = record { ends = (all_same order size image head legal whole).ends }
 
-pub same_pieces : (order : Order) (size : ℕ) (image : List ℕ) (head : ℕ) → is_page_size size ≡ true → is_row (salvaged_file order size image) is_overflow head ≡ true
+pub same_pieces : (order : Order) (size : ℕ) (image : List ℕ) (head : ℕ) → is_page_size size ≡ true → is_row (salvaged_file order size image) is_overflow head
+    ≡ true
     → pieces_of (file_as order size image) head ≡ pieces_of (salvaged_file order size image) head
 unfolding pieces_of salvaged_file file_as
 same_pieces order size image head legal whole = (all_same order size image head legal whole).pieces

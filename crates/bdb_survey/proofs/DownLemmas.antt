@@ -12,7 +12,7 @@ use Rattle.bdb_survey.specs.declared.survey.Row.TheVariants.{Nothing, Chain as C
 use Rattle.bdb_survey.specs.Rows.{chain_row, is_leaf_row, leaf_row, row_at, row_by, way_row}
 use Rattle.bdb_survey.specs.Links.{extent_of}
 use Rattle.bdb_survey.specs.Ways.{way_by, way_from}
-use Rattle.bdb_stored.specs.Salvage.{fits_below, is_overflow, is_record_leaf, is_sorted_leaf, row_from, set_start}
+use Rattle.bdb_survey.specs.Salvage.{fits_below, is_overflow, is_record_leaf, is_sorted_leaf, row_from, set_start}
 use Rattle.bdb_survey.proofs.SurveyLemmas.{leaves_whole}
 use Rattle.bdb_survey.proofs.WayLemmas.{IsOnWay, at_broken, at_child, at_end, at_ends, at_zero}
 
@@ -50,9 +50,12 @@ by_page file p (Hash page) is = inr (ends_here file p (Hash page) Nothing is ref
 by_page file p (Internal page) is = inl refl
 by_page file p (RecnoInternal page) is = inl refl
 by_page file p (Leaf page) is = inr (ends_here file p (Leaf page) Nothing is refl refl)
-by_page file p (RecnoLeaf page) is = inr (ends_here file p (RecnoLeaf page) (leaf_row (extent_of file is_record_leaf p)) is refl (no_way_along (extent_of file is_record_leaf p)))
-by_page file p (DupLeaf page) is = inr (ends_here file p (DupLeaf page) (leaf_row (extent_of file is_sorted_leaf p)) is refl (no_way_along (extent_of file is_sorted_leaf p)))
-by_page file p (Overflow header piece) is = inr (ends_here file p (Overflow header piece) (chain_row (extent_of file is_overflow p)) is refl (no_way_on (extent_of file is_overflow p)))
+by_page file p (RecnoLeaf page) is = inr (ends_here file p (RecnoLeaf page) (leaf_row (extent_of file is_record_leaf p)) is refl
+    (no_way_along (extent_of file is_record_leaf p)))
+by_page file p (DupLeaf page) is = inr (ends_here file p (DupLeaf page) (leaf_row (extent_of file is_sorted_leaf p)) is refl
+    (no_way_along (extent_of file is_sorted_leaf p)))
+by_page file p (Overflow header piece) is = inr (ends_here file p (Overflow header piece) (chain_row (extent_of file is_overflow p)) is refl
+    (no_way_on (extent_of file is_overflow p)))
 by_page file p (Queue number records) is = inr (ends_here file p (Queue number records) Nothing is refl refl)
 by_page file p NoType is = inr (ends_here file p NoType Nothing is refl refl)
 
@@ -74,7 +77,8 @@ no_leaves (Child other) is = let no : true ≡ false = ap is_leaf_row is in cc
 no_leaves Broken is = let no : true ≡ false = ap is_leaf_row is in cc
 
 -- the way goes on to the child
-pub at_way : (file : File) (root level page child : ℕ) (row : Row) → IsOnWay file root level page → level < 255 → row ≡ row_at file page → row ≡ WayRow child → IsOnWay file root (level + 1) child
+pub at_way : (file : File) (root level page child : ℕ) (row : Row) → IsOnWay file root level page → level < 255 → row ≡ row_at file page → row ≡ WayRow child
+    → IsOnWay file root (level + 1) child
 at_way file root level page child row at below is on = by_row (says file page (WayRow child) (sym on ∙ is))
   where
     by_row : Says file page (WayRow child) → IsOnWay file root (level + 1) child
@@ -91,20 +95,23 @@ pub start_at_end : (file : File) (root level page : ℕ) → IsOnWay file root l
 unfolding set_start
 start_at_end file root level page at past = ap (row_from file) (at_end file root level page at past)
 
-start_by : (file : File) (root level page : ℕ) (row : Row) → IsOnWay file root level page → level < 255 → row ≡ row_at file page → way_from file page ≡ Ends → set_start file root ≡ cond (is_leaf_row row) (page ∷ []) []
+start_by : (file : File) (root level page : ℕ) (row : Row) → IsOnWay file root level page → level < 255 → row ≡ row_at file page → way_from file page ≡ Ends
+    → set_start file root ≡ cond (is_leaf_row row) (page ∷ []) []
 unfolding set_start
 start_by file root level page row at below is ends =
     ap (row_from file) (at_ends file root level page Ends at below (sym ends) refl)
     ∙ ap (λ b. cond b (page ∷ []) []) (leaves_whole file page row is)
 
-pub start_at_leaves : (file : File) (root level page : ℕ) (row : Row) → IsOnWay file root level page → level < 255 → row ≡ row_at file page → row ≡ Leaves → set_start file root ≡ page ∷ []
+pub start_at_leaves : (file : File) (root level page : ℕ) (row : Row) → IsOnWay file root level page → level < 255 → row ≡ row_at file page → row ≡ Leaves
+    → set_start file root ≡ page ∷ []
 start_at_leaves file root level page row at below is leaves = by_row (says file page Leaves (sym leaves ∙ is))
   where
     by_row : Says file page Leaves → set_start file root ≡ page ∷ []
     by_row (inl same) = absurd (no_leaves (way_from file page) same)
     by_row (inr ends) = start_by file root level page Leaves at below (sym leaves ∙ is) ends.ends
 
-pub start_at_none : (file : File) (root level page : ℕ) (row : Row) → IsOnWay file root level page → level < 255 → row ≡ row_at file page → is_leaf_row row ≡ false → is_way row ≡ false → set_start file root ≡ []
+pub start_at_none : (file : File) (root level page : ℕ) (row : Row) → IsOnWay file root level page → level < 255 → row ≡ row_at file page
+    → is_leaf_row row ≡ false → is_way row ≡ false → set_start file root ≡ []
 unfolding set_start
 start_at_none file root level page row at below is no_leaf no_way = by_row (says file page row is)
   where

@@ -1,3 +1,5 @@
+pub mod StoredPageLemmas
+pub mod StoredRowLemmas
 pub mod PageLemmas
 pub mod SlotLemmas
 pub mod WalkLemmas

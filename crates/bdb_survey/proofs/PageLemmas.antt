@@ -5,7 +5,8 @@ use Rattle.std.proofs.lemmas.Bool.{cases_lt}
 use Rattle.std.specs.Prelude.{Option, Some, None, Result, Ok, Err}
 use Rattle.std.proofs.Math.Nat.{div-le_of_le-mul}
 use Rattle.bdb_form.specs.declared.view.PageView.{PageView}
-use Rattle.bdb_form.specs.declared.view.PageView.TheVariants.{Zero as ZeroView, Free, Meta, Leaf, Internal, RecnoLeaf, RecnoInternal, DupLeaf, Hash, Overflow, Queue}
+use Rattle.bdb_form.specs.declared.view.PageView.TheVariants.{Zero as ZeroView, Free, Meta, Leaf, Internal, RecnoLeaf, RecnoInternal, DupLeaf, Hash, Overflow}
+use Rattle.bdb_form.specs.declared.view.PageView.TheVariants.{Queue}
 use Rattle.bdb_form.specs.Formed.{MetaPage, QueuePage as QueueSeen}
 use Rattle.bdb_format.specs.declared.pages.Header.{Header}
 use Rattle.bdb_form.specs.Formed.{unless}
@@ -23,8 +24,8 @@ use Rattle.bdb_graph.proofs.ChainLengthLemmas.{piece_fits}
 use Rattle.bdb_overflow.specs.Whole.{bytes_of}
 use Rattle.bdb_overflow.proofs.WholeLemmas.{page_length}
 use Rattle.bdb_survey.specs.Items.{slots_in}
-use Rattle.bdb_stored.specs.Salvage.{salvaged_file, salvaged_page, unless_code}
-use Rattle.bdb_stored.proofs.PageLemmas.{page_is, page_past}
+use Rattle.bdb_survey.specs.Salvage.{salvaged_file, salvaged_page, unless_code}
+use Rattle.bdb_survey.proofs.StoredPageLemmas.{page_is, page_past}
 
 few_pages : (n size : ℕ) → 512 ≤ size → n ≤ 2 ^ 30 → n / size ≤ 2 ^ 21
 few_pages n size large small = div-le_of_le-mul size (omega (arith, small, bound size large))
@@ -45,10 +46,12 @@ salvaged_short : (order : Order) (page : List ℕ) → length (piece_in (salvage
 unfolding salvaged_page
 salvaged_short order page = coded_short order page (page_code order (four_at order page 8) page)
 
-pub short_page : (order : Order) (size : ℕ) (image : List ℕ) (p : ℕ) → is_page_size size ≡ true → p < length image / size → length (piece_in (page_at (salvaged_file order size image) p)) ≤ 32768
+pub short_page : (order : Order) (size : ℕ) (image : List ℕ) (p : ℕ) → is_page_size size ≡ true → p < length image / size
+    → length (piece_in (page_at (salvaged_file order size image) p)) ≤ 32768
 short_page order size image p legal there =
     let bytes : List ℕ = bytes_of size image p in
-    let same : length (piece_in (page_at (salvaged_file order size image) p)) ≡ length (piece_in (salvaged_page order bytes)) = ap (λ page. length (piece_in page)) (page_is order size image p there) in
+    let same : length (piece_in (page_at (salvaged_file order size image) p)) ≡ length (piece_in (salvaged_page order bytes)) = ap
+    (λ page. length (piece_in page)) (page_is order size image p there) in
     omega (arith, same, salvaged_short order bytes, page_length size image p (omega (arith, (size_bounds size legal).0)) there, (size_bounds size legal).1)
 
 -- the view that a test of a page answers, if it answers one
@@ -68,7 +71,8 @@ unlessed : (code : Option ℕ) (page : Page) → kept_page (unless code page) �
 unlessed None page = refl
 unlessed (Some code) page = refl
 
-pub answer_is : (order : Order) (size : ℕ) (image : List ℕ) (p : ℕ) (page : List ℕ) (number : ℕ) (answer : Result PageView ℕ) (file : File) → file ≡ salvaged_file order size image
+pub answer_is : (order : Order) (size : ℕ) (image : List ℕ) (p : ℕ) (page : List ℕ) (number : ℕ) (answer : Result PageView ℕ) (file : File)
+    → file ≡ salvaged_file order size image
     → p < length image / size → page ≡ bytes_of size image p → number ≡ four_at order page 8
     → form_seen answer ≡ unless (page_code order number page) (abstract_page order page)
     → answer_page answer ≡ page_at file p
@@ -81,15 +85,18 @@ answer_is order size image p page number answer file is there bytes own same =
     ∙ (ap (salvaged_page order) bytes
     ∙ (sym (page_is order size image p there) ∙ ap (λ f. page_at f p) (sym is))))))
 
-pub answer_short : (size : ℕ) (order : Order) (image : List ℕ) (p : ℕ) (file : File) → file ≡ salvaged_file order size image → is_page_size size ≡ true → p < length image / size
+pub answer_short : (size : ℕ) (order : Order) (image : List ℕ) (p : ℕ) (file : File) → file ≡ salvaged_file order size image → is_page_size size ≡ true
+    → p < length image / size
     → (page : Page) → page ≡ page_at file p → length (piece_in page) ≤ 32768
 answer_short size order image p file is legal there page same =
-    let eq : length (piece_in page) ≡ length (piece_in (page_at (salvaged_file order size image) p)) = ap (λ x. length (piece_in x)) (same ∙ ap (λ f. page_at f p) is) in
+    let eq : length (piece_in page) ≡ length (piece_in (page_at (salvaged_file order size image) p)) = ap (λ x. length (piece_in x))
+    (same ∙ ap (λ f. page_at f p) is) in
     omega (arith, eq, short_page order size image p legal there)
 
 -- The header of a page that has one.
 
-pub seen_header : (view : PageView) → ((m : MetaPage) → view ≡ Meta m → ⊥) → ((q : QueueSeen) → view ≡ Queue q → ⊥) → header_seen view ≡ header_in (page_seen view)
+pub seen_header : (view : PageView) → ((m : MetaPage) → view ≡ Meta m → ⊥) → ((q : QueueSeen) → view ≡ Queue q → ⊥)
+    → header_seen view ≡ header_in (page_seen view)
 seen_header (ZeroView view) meta queue = refl
 seen_header (Free view) meta queue = refl
 seen_header (Meta view) meta queue = absurd (meta view refl)
@@ -102,10 +109,12 @@ seen_header (Hash view) meta queue = refl
 seen_header (Overflow view) meta queue = refl
 seen_header (Queue view) meta queue = absurd (queue view refl)
 
-pub next_seen : (view : PageView) → ((m : MetaPage) → view ≡ Meta m → ⊥) → ((q : QueueSeen) → view ≡ Queue q → ⊥) → (header_seen view).next ≡ (header_in (page_seen view)).next
+pub next_seen : (view : PageView) → ((m : MetaPage) → view ≡ Meta m → ⊥) → ((q : QueueSeen) → view ≡ Queue q → ⊥)
+    → (header_seen view).next ≡ (header_in (page_seen view)).next
 next_seen view meta queue = ap (λ (h : Header). h.next) (seen_header view meta queue)
 
-pub level_seen : (view : PageView) → ((m : MetaPage) → view ≡ Meta m → ⊥) → ((q : QueueSeen) → view ≡ Queue q → ⊥) → (header_seen view).level ≡ (header_in (page_seen view)).level
+pub level_seen : (view : PageView) → ((m : MetaPage) → view ≡ Meta m → ⊥) → ((q : QueueSeen) → view ≡ Queue q → ⊥)
+    → (header_seen view).level ≡ (header_in (page_seen view)).level
 level_seen view meta queue = ap (λ (h : Header). h.level) (seen_header view meta queue)
 
 -- A page with items has no fault.
@@ -114,11 +123,13 @@ coded_some : (order : Order) (page : List ℕ) (code : Option ℕ) → 1 ≤ len
 coded_some order page None some = refl
 coded_some order page (Some code) some = absurd (omega (arith, some))
 
-pub known_there : (order : Order) (size : ℕ) (image : List ℕ) (p : ℕ) → 1 ≤ length (slots_in (page_at (salvaged_file order size image) p)) → p < length image / size
+pub known_there : (order : Order) (size : ℕ) (image : List ℕ) (p : ℕ) → 1 ≤ length (slots_in (page_at (salvaged_file order size image) p))
+    → p < length image / size
 known_there order size image p some =
     elim (cases_lt p (length image / size)) [
       | inl lt ↦ lt
-      | inr ge ↦ absurd (let none : length (slots_in (page_at (salvaged_file order size image) p)) ≡ 0 = ap (λ page. length (slots_in page)) (page_past order size image p ge) in omega (arith, none, some))
+      | inr ge ↦ absurd (let none : length (slots_in (page_at (salvaged_file order size image) p))
+          ≡ 0 = ap (λ page. length (slots_in page)) (page_past order size image p ge) in omega (arith, none, some))
     ]
 
 pub known_code : (order : Order) (size : ℕ) (image : List ℕ) (p : ℕ) → 1 ≤ length (slots_in (page_at (salvaged_file order size image) p))
@@ -126,11 +137,13 @@ pub known_code : (order : Order) (size : ℕ) (image : List ℕ) (p : ℕ) → 1
 unfolding salvaged_page
 known_code order size image p some =
     let page : List ℕ = bytes_of size image p in
-    let same : length (slots_in (page_at (salvaged_file order size image) p)) ≡ length (slots_in (salvaged_page order page)) = ap (λ x. length (slots_in x)) (page_is order size image p (known_there order size image p some)) in
+    let same : length (slots_in (page_at (salvaged_file order size image) p)) ≡ length (slots_in (salvaged_page order page)) = ap (λ x. length (slots_in x))
+    (page_is order size image p (known_there order size image p some)) in
     coded_some order page (page_code order (four_at order page 8) page) (omega (arith, same, some))
 
 pub known_same : (order : Order) (size : ℕ) (image : List ℕ) (p : ℕ) → 1 ≤ length (slots_in (page_at (salvaged_file order size image) p))
     → abstract_page order (bytes_of size image p) ≡ page_at (salvaged_file order size image) p
 unfolding salvaged_page
 known_same order size image p some =
-    sym (page_is order size image p (known_there order size image p some) ∙ ap (λ code. unless_code code (abstract_page order (bytes_of size image p))) (known_code order size image p some))
+    sym (page_is order size image p (known_there order size image p some) ∙ ap (λ code. unless_code code (abstract_page order (bytes_of size image p)))
+    (known_code order size image p some))

@@ -4,12 +4,13 @@ use Rattle.std.specs.Prelude.{◌==◌, Option, Some, None}
 use Rattle.bdb_format.specs.Chains.{chain_in, next_of}
 use Rattle.bdb_format.specs.File.{File}
 use Rattle.bdb_survey.specs.Rows.{leaves_from, unless_zero}
-use Rattle.bdb_census.proofs.HashLemmas.{no_turn, turn_is}
+use Rattle.bdb_law_sums.proofs.HashLemmas.{no_turn, turn_is}
 
 pub no_turn_left : (file : File) (turns : ℕ) (p : ℕ) → turns ≡ 0 → leaves_from turns file (Some p) ≡ []
 no_turn_left file turns p none = ap (λ t. leaves_from t file (Some p)) none ∙ no_turn file p
 
-pub turn_left : (file : File) (turns : ℕ) (p : ℕ) (next : Option ℕ) → (turns ≡ 0 → ⊥) → next ≡ unless_zero (next_of file p) → leaves_from turns file (Some p) ≡ p ∷ leaves_from (turns - 1) file next
+pub turn_left : (file : File) (turns : ℕ) (p : ℕ) (next : Option ℕ) → (turns ≡ 0 → ⊥) → next ≡ unless_zero (next_of file p) → leaves_from turns file (Some p)
+    ≡ p ∷ leaves_from (turns - 1) file next
 turn_left file zero p next some is = absurd (some refl)
 turn_left file (suc t) p next some is =
     let less : suc t - 1 ≡ t = omega arith in

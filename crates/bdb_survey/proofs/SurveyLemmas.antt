@@ -15,11 +15,12 @@ use Rattle.bdb_survey.specs.declared.down.Way.{Way}
 use Rattle.bdb_survey.specs.declared.down.Way.TheVariants.{Ends, Child, Broken}
 use Rattle.bdb_survey.specs.Ways.{way_from}
 use Rattle.bdb_survey.specs.Links.{link_in, link_of, extent_of}
-use Rattle.bdb_stored.specs.Salvage.{is_like, is_overflow, is_record_leaf, is_row, is_sorted_leaf, is_whole}
+use Rattle.bdb_survey.specs.Salvage.{is_like, is_overflow, is_record_leaf, is_row, is_sorted_leaf, is_whole}
 use Rattle.bdb_survey.proofs.WalkLemmas.{rest_none, whole_is_rest}
 use Rattle.bdb_survey.proofs.WholeLemmas.{no_row, not_whole, some_row, whole_by, whole_row}
 
-pub row_there : (file : File) (rows : List Row) (p : ℕ) (d : Row) → rows ≡ map (row_at file) (range_with_len 0 file.count) → p < file.count → slice_index_or rows p d ≡ row_at file p
+pub row_there : (file : File) (rows : List Row) (p : ℕ) (d : Row) → rows ≡ map (row_at file) (range_with_len 0 file.count) → p < file.count
+    → slice_index_or rows p d ≡ row_at file p
 row_there file rows p d are there = ap (λ rs. slice_index_or rs p d) are ∙ get_or-map-range_with_len (row_at file) 0 file.count p p d there (omega arith)
 
 pub rows_long : (file : File) (rows : List Row) → rows ≡ map (row_at file) (range_with_len 0 file.count) → length rows ≡ file.count
@@ -33,7 +34,8 @@ no_first : (file : File) (test : Page → Bool) (p : ℕ) → test (page_at file
 no_first file test p other =
     elim (p == 0) as (λ b. cond b None (link_of test 0 (page_at file p)) ≡ None) [
       | true ↦ refl
-      | false ↦ ap (λ b. cond (b && (header_in (page_at file p)).previous == 0) (Some (record { length = length (piece_in (page_at file p)); next = (header_in (page_at file p)).next })) None) other
+      | false ↦ ap (λ b. cond (b && (header_in (page_at file p)).previous == 0)
+          (Some (record { length = length (piece_in (page_at file p)); next = (header_in (page_at file p)).next })) None) other
     ]
 
 pub no_row_here : (file : File) (test : Page → Bool) (p : ℕ) → test (page_at file p) ≡ false → extent_of file test p ≡ None
@@ -41,7 +43,8 @@ no_row_here file test p other = whole_is_rest file test p ∙ rest_none file tes
 
 -- Chains.
 
-by_length : (file : File) (head total : ℕ) (found : Option Extent) → extent_of file is_overflow head ≡ found → is_whole file head total ≡ is_chain_of (chain_row found) total
+by_length : (file : File) (head total : ℕ) (found : Option Extent) → extent_of file is_overflow head ≡ found
+    → is_whole file head total ≡ is_chain_of (chain_row found) total
 by_length file head total None none = not_whole file head total none
 by_length file head total (Some n) some = whole_by file head total n some
 
@@ -79,12 +82,15 @@ pub chain_whole : (file : File) (head total : ℕ) (row : Row) → row ≡ row_a
 chain_whole file head total row is = by_page file head total (page_at file head) refl ∙ ap (λ r. is_chain_of r total) (sym is)
 
 -- a whole chain that begins at a page is a row
-pub chain_is_row : (file : File) (head length pages : ℕ) (row : Row) → row ≡ row_at file head → row ≡ ChainRow length pages → is_row file is_overflow head ≡ true
-chain_is_row file head length pages row is chain = whole_row file head length (chain_whole file head length row is ∙ (ap (λ r. is_chain_of r length) chain ∙ eq-eqb length length refl))
+pub chain_is_row : (file : File) (head length pages : ℕ) (row : Row) → row ≡ row_at file head → row ≡ ChainRow length pages → is_row file is_overflow head
+    ≡ true
+chain_is_row file head length pages row is chain = whole_row file head length
+    (chain_whole file head length row is ∙ (ap (λ r. is_chain_of r length) chain ∙ eq-eqb length length refl))
 
 -- Leaves.
 
-leaves_by : (file : File) (test : Page → Bool) (leaf : ℕ) (found : Option Extent) → extent_of file test leaf ≡ found → is_row file test leaf ≡ is_leaf_row (leaf_row found)
+leaves_by : (file : File) (test : Page → Bool) (leaf : ℕ) (found : Option Extent) → extent_of file test leaf ≡ found
+    → is_row file test leaf ≡ is_leaf_row (leaf_row found)
 leaves_by file test leaf None none = no_row file test leaf none
 leaves_by file test leaf (Some n) some = some_row file test leaf n some
 

@@ -1,5 +1,6 @@
 -- A walk along a row: what is left is whole where the page is a link and what comes after it is whole.
-use Rattle.std.proofs.Common.{◌≡◌, ℕ, zero, suc, ◌+◌, ◌-◌, ◌*◌, ◌<◌, ◌≤◌, Bool, true, false, cond, List, [], ◌∷◌, map, length, arith, refl, sym, ◌∙◌, ap, length-append}
+use Rattle.std.proofs.Common.{◌≡◌, ℕ, zero, suc, ◌+◌, ◌-◌, ◌*◌, ◌<◌, ◌≤◌, Bool, true, false, cond, List, [], ◌∷◌, map, length, arith, refl, sym, ◌∙◌, ap}
+use Rattle.std.proofs.Common.{length-append}
 use Rattle.std.specs.Prelude.{◌==◌, ◌&&◌, not, Option, Some, None}
 use Rattle.std.proofs.lemmas.Bool.{eq-eqb, ne_eqb}
 use Rattle.bdb_format.specs.Chains.{chain_in, joined, next_of, piece_in, pieces_of}
@@ -8,8 +9,8 @@ use Rattle.bdb_format.specs.Page.{Page}
 use Rattle.bdb_survey.specs.declared.links.Extent.{Extent}
 use Rattle.bdb_survey.specs.declared.links.Link.{Link}
 use Rattle.bdb_survey.specs.Links.{link_in, link_of, rest_extent, extent_of}
-use Rattle.bdb_stored.specs.Salvage.{follows, is_link}
-use Rattle.bdb_census.proofs.HashLemmas.{no_turn, turn_is}
+use Rattle.bdb_survey.specs.Salvage.{follows, is_link}
+use Rattle.bdb_law_sums.proofs.HashLemmas.{no_turn, turn_is}
 
 -- the length of the data of some pages
 abbrev pub size_of : File → List ℕ → ℕ
@@ -29,7 +30,8 @@ pub whole_is_rest : (file : File) (test : Page → Bool) (head : ℕ) → extent
 unfolding extent_of pieces_of
 whole_is_rest file test head =
     let ps : List ℕ = chain_in file.count file head in
-    let same : extent_by (size_of file ps) (length ps) ≡ with_pages file 0 0 ps = same_extent (size_of file ps) (0 + size_of file ps) (length ps) (0 + length ps) (omega arith) (omega arith) in
+    let same : extent_by (size_of file ps) (length ps) ≡ with_pages file 0 0 ps = same_extent (size_of file ps) (0 + size_of file ps) (length ps)
+    (0 + length ps) (omega arith) (omega arith) in
     ap (λ (e : Extent). cond (follows file test 0 ps) (Some e) None) same
 
 -- a page by its number is a link where it's one
@@ -38,7 +40,8 @@ link_given file p is = cond is (Some (record { length = length (piece_in (page_a
 
 link_is : (file : File) (test : Page → Bool) (before p : ℕ) → link_in file test before p ≡ link_given file p (is_link file test before p)
 link_is file test before p =
-    elim (p == 0) as (λ b. cond b None (link_of test before (page_at file p)) ≡ link_given file p (not b && test (page_at file p) && (Rattle.bdb_format.specs.File.header_in (page_at file p)).previous == before)) [
+    elim (p == 0) as (λ b. cond b None (link_of test before (page_at file p))
+    ≡ link_given file p (not b && test (page_at file p) && (Rattle.bdb_format.specs.File.header_in (page_at file p)).previous == before)) [
       | true ↦ refl
       | false ↦ refl
     ]
@@ -58,7 +61,8 @@ not_link file test before p none = link_cases file p (is_link file test before p
 abbrev pub rest_of : File → (Page → Bool) → ℕ → ℕ → ℕ → List ℕ → Option Extent
 rest_of file test before sofar n ps = cond (follows file test before ps) (Some (with_pages file sofar n ps)) None
 
-pub rest_none : (file : File) (test : Page → Bool) (turns before p sofar n : ℕ) → link_in file test before p ≡ None → rest_extent file test turns before p sofar n ≡ None
+pub rest_none : (file : File) (test : Page → Bool) (turns before p sofar n : ℕ) → link_in file test before p ≡ None
+    → rest_extent file test turns before p sofar n ≡ None
 rest_none file test zero before p sofar n none = ap (rest_of file test before sofar n) (no_turn file p)
 rest_none file test (suc t) before p sofar n none =
     let rest : List ℕ = cond (next_of file p == 0) [] (chain_in t file (next_of file p)) in
@@ -77,14 +81,17 @@ linked file test before p link some = of (is_link file test before p) refl
     of : (b : Bool) → is_link file test before p ≡ b → IsLinked file test before p link
     of false no' = absurd (let none : None ≡ Some link = sym (link_is file test before p ∙ ap (link_given file p) no') ∙ some in cc)
     of true is =
-        let same : Some (record { length = length (piece_in (page_at file p)); next = next_of file p }) ≡ Some link = sym (link_is file test before p ∙ ap (link_given file p) is) ∙ some in
+        let same : Some (record { length = length (piece_in (page_at file p)); next = next_of file p })
+        ≡ Some link = sym (link_is file test before p ∙ ap (link_given file p) is) ∙ some in
         let inner : record { length = length (piece_in (page_at file p)); next = next_of file p } ≡ link = cc in
         record { is = is; length_is = sym (ap (λ (l : Link). l.length) inner); next_is = sym (ap (λ (l : Link). l.next) inner) }
 
-follows_last : (file : File) (test : Page → Bool) (before p : ℕ) → is_link file test before p ≡ true → (next_of file p == 0) ≡ true → follows file test before (p ∷ []) ≡ true
+follows_last : (file : File) (test : Page → Bool) (before p : ℕ) → is_link file test before p ≡ true → (next_of file p == 0) ≡ true
+    → follows file test before (p ∷ []) ≡ true
 follows_last file test before p is last = ap (λ b. b && (next_of file p == 0)) is ∙ last
 
-follows_more : (file : File) (test : Page → Bool) (before p : ℕ) (ps : List ℕ) → is_link file test before p ≡ true → (next_of file p == 0) ≡ false → follows file test before (p ∷ ps) ≡ follows file test p ps
+follows_more : (file : File) (test : Page → Bool) (before p : ℕ) (ps : List ℕ) → is_link file test before p ≡ true → (next_of file p == 0) ≡ false
+    → follows file test before (p ∷ ps) ≡ follows file test p ps
 follows_more file test before p [] is more = ap (λ b. b && (next_of file p == 0)) is ∙ more
 follows_more file test before p (q ∷ qs) is more = ap (λ b. b && follows file test p (q ∷ qs)) is
 
@@ -138,24 +145,30 @@ at_first file test head steps =
 turn_left : (file : File) (i : ℕ) → i < file.count → file.count - i ≡ suc (file.count - (i + 1))
 turn_left file i below = omega arith
 
-pub at_none : (file : File) (test : Page → Bool) (head i before page sofar steps start : ℕ) → IsAt file test head i before page sofar steps start → link_in file test before page ≡ None → extent_of file test head ≡ None
+pub at_none : (file : File) (test : Page → Bool) (head i before page sofar steps start : ℕ) → IsAt file test head i before page sofar steps start
+    → link_in file test before page ≡ None → extent_of file test head ≡ None
 at_none file test head i before page sofar steps start at none = at.same ∙ rest_none file test (file.count - i) before page sofar i none
 
-pub at_last : (file : File) (test : Page → Bool) (head i before page sofar steps start : ℕ) (link : Link) → IsAt file test head i before page sofar steps start → i < file.count → link_in file test before page ≡ Some link → link.next ≡ 0
+pub at_last : (file : File) (test : Page → Bool) (head i before page sofar steps start : ℕ) (link : Link) → IsAt file test head i before page sofar steps start
+    → i < file.count → link_in file test before page ≡ Some link → link.next ≡ 0
     → extent_of file test head ≡ Some (record { length = sofar + link.length; pages = i + 1 })
 at_last file test head i before page sofar steps start link at below some last =
-    at.same ∙ (ap (λ t. rest_extent file test t before page sofar i) (turn_left file i below) ∙ rest_last file test (file.count - (i + 1)) before page sofar i link some last)
+    at.same ∙ (ap (λ t. rest_extent file test t before page sofar i) (turn_left file i below) ∙ rest_last file test (file.count - (i + 1)) before page sofar i
+    link some last)
 
-pub at_next : (file : File) (test : Page → Bool) (head i before page sofar steps start : ℕ) (link : Link) → IsAt file test head i before page sofar steps start → i < file.count → link_in file test before page ≡ Some link → (link.next ≡ 0 → ⊥)
+pub at_next : (file : File) (test : Page → Bool) (head i before page sofar steps start : ℕ) (link : Link) → IsAt file test head i before page sofar steps start
+    → i < file.count → link_in file test before page ≡ Some link → (link.next ≡ 0 → ⊥)
     → link.length < 65536 → IsAt file test head (i + 1) page link.next (sofar + link.length) (steps + 1) start
 at_next file test head i before page sofar steps start link at below some more few =
     record {
-      same = at.same ∙ (ap (λ t. rest_extent file test t before page sofar i) (turn_left file i below) ∙ rest_more file test (file.count - (i + 1)) before page sofar i link some more);
+      same = at.same ∙ (ap (λ t. rest_extent file test t before page sofar i) (turn_left file i below) ∙ rest_more file test (file.count - (i + 1)) before page
+          sofar i link some more);
       short = omega (arith, at.short);
       one_a_turn = omega (arith, at.one_a_turn);
     }
 
-pub at_end : (file : File) (test : Page → Bool) (head i before page sofar steps start : ℕ) → IsAt file test head i before page sofar steps start → file.count ≤ i → extent_of file test head ≡ None
+pub at_end : (file : File) (test : Page → Bool) (head i before page sofar steps start : ℕ) → IsAt file test head i before page sofar steps start
+    → file.count ≤ i → extent_of file test head ≡ None
 at_end file test head i before page sofar steps start at past =
     let none : file.count - i ≡ 0 = omega arith in
     at.same ∙ (ap (λ t. rest_extent file test t before page sofar i) none ∙ rest_zero file test before page sofar i)

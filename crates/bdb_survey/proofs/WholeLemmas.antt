@@ -7,7 +7,7 @@ use Rattle.bdb_format.specs.File.{File}
 use Rattle.bdb_format.specs.Page.{Page}
 use Rattle.bdb_survey.specs.declared.links.Extent.{Extent}
 use Rattle.bdb_survey.specs.Links.{extent_of}
-use Rattle.bdb_stored.specs.Salvage.{is_overflow, is_row, is_whole}
+use Rattle.bdb_survey.specs.Salvage.{is_overflow, is_row, is_whole}
 
 none_case : (b : Bool) (n : Extent) → cond b (Some n) None ≡ None → b ≡ false
 none_case true n none = absurd cc

@@ -3,7 +3,7 @@ use Rattle.std.specs.Prelude.{ℕ, Bool, true, false, List, [], get_or}
 use Rattle.bdb_format.specs.File.{File}
 use Rattle.bdb_format.specs.Page.{Content, Inline, Set, Chain, Tree, Unknown, Item, Page, Hash, Leaf, RecnoLeaf, DupLeaf}
 use Rattle.bdb_format.specs.References.{no_item}
-use Rattle.bdb_stored.specs.Salvage.{is_whole}
+use Rattle.bdb_survey.specs.Salvage.{is_whole}
 
 -- the items of a page whose items stand alone or in pairs
 abbrev pub slots_in : Page → List Item

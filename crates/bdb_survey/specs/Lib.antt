@@ -1,3 +1,5 @@
+pub mod RowLaw
+pub mod Salvage
 pub mod Items
 pub mod Links
 pub mod Reads

@@ -9,7 +9,7 @@ use Rattle.bdb_survey.specs.declared.links.Extent.{Extent}
 use Rattle.bdb_survey.specs.declared.links.Link.{Link}
 use Rattle.bdb_survey.specs.declared.links.RowKind.{RowKind}
 use Rattle.bdb_survey.specs.declared.links.RowKind.TheVariants.{Overflow, Records, SortedData}
-use Rattle.bdb_stored.specs.Salvage.{follows, is_overflow, is_record_leaf, is_row, is_sorted_leaf}
+use Rattle.bdb_survey.specs.Salvage.{follows, is_overflow, is_record_leaf, is_row, is_sorted_leaf}
 
 -- the page of a view; one without a type where there's none
 abbrev pub view_page : Option PageView → Page
@@ -33,7 +33,8 @@ link_in file test before p = if p == 0 then None else link_of test before (page_
 
 -- how much a whole row has that begins here
 unfoldable pub extent_of : File → (Page → Bool) → ℕ → Option Extent
-extent_of file test head = if is_row file test head then Some (record { length = length (joined (pieces_of file head)); pages = length (chain file head) }) else None
+extent_of file test head = if is_row file test head then Some (record { length = length (joined (pieces_of file head)); pages = length (chain file head) }) else
+    None
 
 -- the same of what is left of a row, in so many turns, with the bytes and the pages before
 abbrev pub rest_extent : File → (Page → Bool) → ℕ → ℕ → ℕ → ℕ → ℕ → Option Extent

@@ -10,7 +10,7 @@ use Rattle.bdb_survey.specs.declared.survey.Row.{Row}
 use Rattle.bdb_survey.specs.declared.survey.Row.TheVariants.{Nothing, Chain as ChainRow, Leaves, Way as WayRow}
 use Rattle.bdb_survey.specs.Links.{extent_of}
 use Rattle.bdb_survey.specs.Ways.{way_from}
-use Rattle.bdb_stored.specs.Salvage.{is_overflow, is_record_leaf, is_sorted_leaf}
+use Rattle.bdb_survey.specs.Salvage.{is_overflow, is_record_leaf, is_sorted_leaf}
 
 abbrev pub chain_row : Option Extent → Row
 chain_row None = Nothing

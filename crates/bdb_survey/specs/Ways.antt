@@ -6,7 +6,7 @@ use Rattle.bdb_format.specs.Page.{Page, Meta}
 use Rattle.bdb_format.specs.References.{has_type}
 use Rattle.bdb_survey.specs.declared.down.Way.{Way}
 use Rattle.bdb_survey.specs.declared.down.Way.TheVariants.{Ends, Child, Broken}
-use Rattle.bdb_stored.specs.Salvage.{fits_below}
+use Rattle.bdb_survey.specs.Salvage.{fits_below}
 
 -- the type of a page but of metadata
 abbrev pub plain_type : Page → Option ℕ

@@ -1,7 +1,7 @@
 ghost use Rattle.std.specs.Prelude.{◌≡◌, ◌+◌, ◌/◌, ◌^◌, ◌≤◌, IsTrue, if◌then◌else◌, Some, None, length};
 ghost use Rattle.bdb_format.specs.Chains.{pieces_of};
 ghost use Rattle.bdb_format.specs.HeadOf.{is_page_size};
-ghost use Rattle.bdb_stored.specs.Salvage.{is_whole, salvaged_file};
+ghost use Rattle.bdb_survey.specs.Salvage.{is_whole, salvaged_file};
 
 use crate::Guess;
 use crate::links::{RowKind, row_extent};

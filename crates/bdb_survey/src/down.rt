@@ -5,7 +5,7 @@ ghost use Rattle.bdb_form.specs.Seen.{page_seen};
 ghost use Rattle.std.specs.List.{list_any};
 ghost use Rattle.bdb_format.specs.File.{header_in, page_at};
 ghost use Rattle.bdb_format.specs.References.{has_type};
-ghost use Rattle.bdb_stored.specs.Salvage.{down, fits_below, set_start};
+ghost use Rattle.bdb_survey.specs.Salvage.{down, fits_below, set_start};
 ghost use Rattle.bdb_survey.specs.Ways.{fits_as, plain_type, way_from};
 ghost use Rattle.bdb_survey.specs.declared.down.Way.TheVariants.{Broken, Child};
 

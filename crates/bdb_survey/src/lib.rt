@@ -1,9 +1,10 @@
-//! The pages of a damaged image, and what begins at each: a whole chain, the leaves of a set, or a way down.
+//! What a damaged image stores, its pages, and what begins at each: a whole chain, the leaves of a set, or a way down.
 #![tactic(auto)]
 
 mod chain;
 mod down;
 mod guess;
+pub mod laws;
 mod links;
 mod row_leaves;
 mod slots;

@@ -6,7 +6,7 @@ ghost use Rattle.bdb_layout.specs.Seen.{content_seen, hash_item_seen};
 ghost use Rattle.bdb_survey.specs.Items.{slot_at, slots_in};
 ghost use Rattle.bdb_survey.specs.Links.{view_page};
 ghost use Rattle.bdb_survey.specs.Slots.{opt_slots, slots_seen};
-ghost use Rattle.bdb_stored.specs.Salvage.{paired_items};
+ghost use Rattle.bdb_survey.specs.Salvage.{paired_items};
 
 use bdb_form::{DupLeafView, HashView, LeafView, PageView, RecnoLeafView};
 use bdb_layout::{Content, HashItem};

@@ -6,7 +6,7 @@ ghost use Rattle.bdb_layout.specs.Seen.{content_seen};
 ghost use Rattle.std.specs.Option.{option_to_list};
 ghost use Rattle.bdb_survey.specs.Rows.{chain_row, is_chain_of, is_leaf_row, leaf_row, row_at, row_by, thin_pieces, way_row};
 ghost use Rattle.bdb_survey.specs.Items.{is_valued};
-ghost use Rattle.bdb_stored.specs.Salvage.{is_whole, set_start};
+ghost use Rattle.bdb_survey.specs.Salvage.{is_whole, set_start};
 
 use crate::down::{Way, way_from};
 use crate::links::{Extent, RowKind, row_extent};

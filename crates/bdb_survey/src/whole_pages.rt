@@ -8,7 +8,7 @@ ghost use Rattle.bdb_format.specs.File.{page_at};
 ghost use Rattle.bdb_format.specs.HeadOf.{is_page_size};
 ghost use Rattle.bdb_overflow.specs.Whole.{bytes_of};
 ghost use Rattle.bdb_survey.specs.Links.{view_page};
-ghost use Rattle.bdb_stored.specs.Salvage.{is_overflow, is_row, salvaged_file};
+ghost use Rattle.bdb_survey.specs.Salvage.{is_overflow, is_row, salvaged_file};
 
 use crate::Guess;
 use crate::slots::slots_of;
@@ -27,7 +27,7 @@ pub struct WholePages<'a> {
 impl<'a> Model for WholePages<'a> {
     ghost use Rattle.bdb_format.specs.File.{File};
     ghost use Rattle.bdb_survey.specs.Reads.{IsRead};
-    ghost use Rattle.bdb_stored.specs.Salvage.{salvaged_file};
+    ghost use Rattle.bdb_survey.specs.Salvage.{salvaged_file};
 
     ghost Value = { File };
 
@@ -49,7 +49,7 @@ fn page_of<'a>(image: &'a [u8], size: u32, number: u32) -> &'a [u8]
     &image[start..start + size]
 }
 
-#[tactic(auto, using(bdb_stored::proofs::PageLemmas::count_is, bdb_format::proofs::SizeLemmas::long_page, crate::proofs::PageLemmas::few))]
+#[tactic(auto, using(crate::proofs::StoredPageLemmas::count_is, bdb_format::proofs::SizeLemmas::long_page, crate::proofs::PageLemmas::few))]
 impl<'a> WholePages<'a> {
     /// The pages of an image.
     pub fn over(image: &'a [u8], guess: Guess) -> WholePages<'a>
@@ -80,7 +80,7 @@ impl<'a> WholePages<'a> {
     }
 
     /// The last one.
-    #[tactic(auto, using(bdb_stored::proofs::PageLemmas::last_is, bdb_stored::proofs::PageLemmas::count_is))]
+    #[tactic(auto, using(crate::proofs::StoredPageLemmas::last_is, crate::proofs::StoredPageLemmas::count_is))]
     pub fn last(&self) -> u32
         ensures { result ≡ self.now.last }
     {
@@ -90,7 +90,7 @@ impl<'a> WholePages<'a> {
 
     /// A page by its number; none where there's no such page, or a row of form holds for it. Its own number
     /// isn't looked at.
-    #[tactic(auto, using(bdb_stored::proofs::PageLemmas::page_past, bdb_format::proofs::SizeLemmas::long_page))]
+    #[tactic(auto, using(crate::proofs::StoredPageLemmas::page_past, bdb_format::proofs::SizeLemmas::long_page))]
     pub fn page(&self, number: u32) -> Option<PageView<'a>>
         ensures page { view_page result ≡ page_at self.now number }
         ensures short { length (piece_in (view_page result)) ≤ 32768 }

@@ -1,5 +1,6 @@
 -- Ranges that begin within others.
-use Rattle.std.proofs.Common.{◌≡◌, ◌∙◌, ◌⊎◌, inl, inr, ℕ, zero, suc, ◌+◌, ◌<◌, ◌≤◌, Bool, true, false, cond, List, [], ◌∷◌, ◌++◌, length, take, get_or, refl, sym, ap, subst, arith}
+use Rattle.std.proofs.Common.{◌≡◌, ◌∙◌, ◌⊎◌, inl, inr, ℕ, zero, suc, ◌+◌, ◌<◌, ◌≤◌, Bool, true, false, cond, List, [], ◌∷◌, ◌++◌, length, take, get_or, refl}
+use Rattle.std.proofs.Common.{sym, ap, subst, arith}
 use Rattle.std.specs.Prelude.{max, not, nat_lt, ◌&&◌, ◌==◌, Option, Some, None}
 use Rattle.std.specs.Cmp.{both_ways}
 use Rattle.std.specs.Option.{option_map, unwrap_or}
@@ -26,7 +27,8 @@ greatest_is : (ends : List ℕ) (k : ℕ) → k ≤ length ends → (greatest_be
 greatest_is ends zero low = inl refl
 greatest_is ends (suc k) low =
     let next : suc k ≡ k + 1 = omega arith in
-    let step : greatest_below ends (suc k) ≡ max (greatest_below ends k) (get_or ends k 0) = ap (greatest_below ends) next ∙ greatest_more ends k (omega arith) in
+    let step : greatest_below ends (suc k) ≡ max (greatest_below ends k) (get_or ends k 0) = ap (greatest_below ends) next
+    ∙ greatest_more ends k (omega arith) in
     elim (greatest_is ends k (omega arith)) [
       | inl none ↦ elim (le_cases (greatest_below ends k) (get_or ends k 0)) [
         | inl below ↦ inr (k, omega arith, omega arith)
@@ -50,7 +52,8 @@ greatest_least : (ends : List ℕ) (k j : ℕ) → k ≤ length ends → j < k �
 greatest_least ends zero j low lt = absurd (omega arith)
 greatest_least ends (suc k) j low lt =
     let next : suc k ≡ k + 1 = omega arith in
-    let step : greatest_below ends (suc k) ≡ max (greatest_below ends k) (get_or ends k 0) = ap (greatest_below ends) next ∙ greatest_more ends k (omega arith) in
+    let step : greatest_below ends (suc k) ≡ max (greatest_below ends k) (get_or ends k 0) = ap (greatest_below ends) next
+    ∙ greatest_more ends k (omega arith) in
     elim (cases j k (omega arith)) [
       | inl before ↦ let rest : get_or ends j 0 ≤ greatest_below ends k = greatest_least ends k j (omega arith) before in omega arith
       | inr same ↦ let at : get_or ends j 0 ≡ get_or ends k 0 = ap (λ (i : ℕ). get_or ends i 0) same in omega arith
@@ -74,7 +77,11 @@ some_found test [] i at is = absurd (no_member [] i refl at)
 some_found test (x ∷ xs) i at is =
     elim (test x) as (λ b. test x ≡ b → (j : ℕ) × (cond b (Some x) (find test xs) ≡ Some j)) [
       | true ↦ λ here. (x, refl)
-      | false ↦ λ here. elim (member_cases x xs i at) [ inl same ↦ absurd (let yes : test x ≡ true = ap test same ∙ is in cc) | inr later ↦ some_found test xs i later is ]
+      | false ↦ λ here. elim (member_cases x xs i at) [
+        | inl same ↦ absurd (let yes : test x ≡ true = ap test same ∙ is in cc)
+        | inr later ↦ some_found test xs i
+            later is
+      ]
     ] refl
 
 -- an end above 0 is that of a range that begins there
@@ -126,7 +133,8 @@ ranges_cross n begin end ends are told =
     (in_range 0 n i (omega arith) (omega arith))
     (passes_here (λ l. share_bytes (begin i) (end i) (begin l) (end l)) (range_with_len 0 n) j (in_range 0 n j (omega arith) (omega arith)) is) in
     let there : (i : ℕ) → i < n → get_or ends (begin i) 0 ≡ end i =
-    λ i lt. told (begin i) (let a : begin i < end i = are.some i lt in let b : end i ≤ size = are.within i lt in omega arith) ∙ ends_there n size begin end i are lt in
+    λ i lt. told (begin i) (let a : begin i < end i = are.some i lt in let b : end i ≤ size = are.within i lt in omega arith)
+    ∙ ends_there n size begin end i are lt in
     let crossed : (i j : ℕ) → i < n → j < n → begin j < begin i → begin i < end j → list_any (crosses_at ends) (range_with_len 0 size) ≡ true =
     λ i j lt_i lt_j before inside.
     let some : begin i < end i = are.some i lt_i in
@@ -202,9 +210,11 @@ unfolding crosses
 sweep_at ends k lt is = passes_here (crosses_at ends) (range_with_len 0 (length ends)) k (in_range 0 (length ends) k (omega arith) (omega arith)) is
 
 -- a place by the greatest end so far
-pub place_is : (ends : List ℕ) (k end greatest : ℕ) → end ≡ get_or ends k 0 → greatest ≡ greatest_below ends k → (not (end == 0) && nat_lt k greatest) ≡ crosses_at ends k
+pub place_is : (ends : List ℕ) (k end greatest : ℕ) → end ≡ get_or ends k 0 → greatest ≡ greatest_below ends k → (not (end == 0) && nat_lt k greatest)
+    ≡ crosses_at ends k
 place_is ends k end greatest at is = ap (λ (e : ℕ). not (e == 0) && nat_lt k greatest) at ∙ ap (λ (g : ℕ). not (get_or ends k 0 == 0) && nat_lt k g) is
 
-pub greatest_next : (ends : List ℕ) (k end greatest next : ℕ) → k < length ends → end ≡ get_or ends k 0 → greatest ≡ greatest_below ends k → next ≡ max greatest end
+pub greatest_next : (ends : List ℕ) (k end greatest next : ℕ) → k < length ends → end ≡ get_or ends k 0 → greatest ≡ greatest_below ends k
+    → next ≡ max greatest end
     → next ≡ greatest_below ends (k + 1)
 greatest_next ends k end greatest next lt at is more = omega (arith, greatest_more ends k lt)

@@ -152,17 +152,20 @@ leaf_ranges order page rows = record {
   one = λ i j lt_i lt_j. leaf_one order page i j;
 }
 
-pub internal_one : (order : Order) (page : List ℕ) (i j : ℕ) → offset_of order page i ≡ offset_of order page j → internal_high order page i ≡ internal_high order page j
+pub internal_one : (order : Order) (page : List ℕ) (i j : ℕ) → offset_of order page i ≡ offset_of order page j
+    → internal_high order page i ≡ internal_high order page j
 internal_one order page i j same =
     ap (λ (at : ℕ). internal_item_end at (internal_item_at order page i).key) same
     ∙ ap (λ (item : InternalItem). internal_item_end (offset_of order page j) item.key) (inner_same order page i j same)
 
-pub internal_some : (order : Order) (page : List ℕ) (i : ℕ) → first_row (internal_rows order page i) ≡ None → offset_of order page i < internal_high order page i
+pub internal_some : (order : Order) (page : List ℕ) (i : ℕ) → first_row (internal_rows order page i) ≡ None
+    → offset_of order page i < internal_high order page i
 internal_some order page i none =
     let at : ℕ = offset_of order page i in
     elim (key_case order page i none) [
       | KeyInline kind is inside ↦
-          let end : internal_high order page i ≡ at + 12 + length (slice_range page (at + 12) (at + 12 + two_at order page at)) = ap (internal_item_end at) is in
+          let end : internal_high order page i ≡ at + 12 + length (slice_range page (at + 12) (at + 12 + two_at order page at)) = ap (internal_item_end at) is
+          in
           omega arith
       | KeyChain kind is inside ↦ let end : internal_high order page i ≡ at + 24 = ap (internal_item_end at) is in omega arith
     ]

@@ -68,7 +68,8 @@ page_there image head p is low =
 last_same : (image : List ℕ) (head : Head) → head ≡ head_of image → (file_of image).last ≡ head.last
 last_same image head is = last_page image ∙ ap (λ (h : Head). h.last) (sym is)
 
-find_first : (test : ℕ → Bool) (a n k : ℕ) → ((p : ℕ) → p < k → test (a + p) ≡ false) → test (a + k) ≡ true → k < n → find test (range_with_len a n) ≡ Some (a + k)
+find_first : (test : ℕ → Bool) (a n k : ℕ) → ((p : ℕ) → p < k → test (a + p) ≡ false) → test (a + k) ≡ true → k < n → find test (range_with_len a n)
+    ≡ Some (a + k)
 find_first test a zero k none here lt = absurd (omega arith)
 find_first test a (suc n) zero none here lt =
     let same : a + 0 ≡ a = omega arith in

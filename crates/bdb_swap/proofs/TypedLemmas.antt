@@ -6,7 +6,8 @@ use Rattle.bdb_format.specs.Numbers.{byte_at}
 use Rattle.bdb_format.specs.Page.{Item, PageType, OtherPage}
 use Rattle.bdb_format.specs.declared.pages.RecnoItem.{RecnoItem}
 use Rattle.bdb_format.specs.References.{no_item}
-use Rattle.bdb_format.specs.Reading.{abstract_page, entries_of, hash_item_at, internal_item_at, is_zero, leaf_item_at, listed, page_as, page_type, recno_item_at}
+use Rattle.bdb_format.specs.Reading.{abstract_page, entries_of, hash_item_at, internal_item_at, is_zero, leaf_item_at, listed, page_as, page_type}
+use Rattle.bdb_format.specs.Reading.{recno_item_at}
 use Rattle.bdb_format.specs.Rows.{form_code}
 use Rattle.bdb_turned.specs.Fields.{Field, fields_of, hash_fields, internal_fields, leaf_fields, listed_fields, no_internal, no_recno, recno_fields}
 use Rattle.bdb_turned.specs.Parts.{all_fields, hash_part, internal_part, leaf_part, recno_part}
@@ -42,11 +43,13 @@ pub hash_numbers : (order : Order) (page : List ℕ)
 hash_numbers order page = listed_fields_are (λ at (item : Item). hash_fields at item.content) no_item order page (hash_item_at order page)
 
 pub turns_as : (source old new : List ℕ) (order : Order) (byte : ℕ) (t : PageType) (fields : List Field) → byte_at source 25 ≡ byte → page_type byte ≡ t
-    → fields_of (page_as order source t) ≡ fields → Turns source fields old new → Turns source (fields_of (page_as order source (page_type (byte_at source 25)))) old new
+    → fields_of (page_as order source t) ≡ fields → Turns source fields old new
+    → Turns source (fields_of (page_as order source (page_type (byte_at source 25)))) old new
 turns_as source old new order byte t fields at is are turns =
     subst (λ fs. Turns source fs old new) (sym are ∙ ap (λ k. fields_of (page_as order source k)) (sym is ∙ ap page_type (sym at))) turns
 
-pub turns_other : (source old : List ℕ) (order : Order) → page_type (byte_at source 25) ≡ OtherPage → Turns source (fields_of (page_as order source (page_type (byte_at source 25)))) old old
+pub turns_other : (source old : List ℕ) (order : Order) → page_type (byte_at source 25) ≡ OtherPage
+    → Turns source (fields_of (page_as order source (page_type (byte_at source 25)))) old old
 unfolding fields_of
 turns_other source old order is = subst (λ fs. Turns source fs old old) (sym (ap (λ t. fields_of (page_as order source t)) is)) (turns_none source old)
 
@@ -54,7 +57,8 @@ pub overlaps_as : (page : List ℕ) (order : Order) (byte : ℕ) (t : PageType) 
     → result ≡ overlaps (page_as order page t) → result ≡ overlaps (page_as order page (page_type (byte_at page 25)))
 overlaps_as page order byte t result at is found = found ∙ ap (λ k. overlaps (page_as order page k)) (sym is ∙ ap page_type (sym at))
 
-pub overlaps_other : (page : List ℕ) (order : Order) → page_type (byte_at page 25) ≡ OtherPage → false ≡ overlaps (page_as order page (page_type (byte_at page 25)))
+pub overlaps_other : (page : List ℕ) (order : Order) → page_type (byte_at page 25) ≡ OtherPage
+    → false ≡ overlaps (page_as order page (page_type (byte_at page 25)))
 unfolding overlaps
 overlaps_other page order is = sym (ap (λ t. overlaps (page_as order page t)) is)
 

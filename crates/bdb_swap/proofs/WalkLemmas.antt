@@ -1,5 +1,6 @@
 -- A walk over ranges, from each to its end.
-use Rattle.std.proofs.Common.{◌≡◌, ◌∙◌, inl, inr, ℕ, zero, suc, ◌+◌, ◌-◌, ◌<◌, ◌≤◌, Bool, true, false, cond, List, length, take, get_or, set, refl, sym, ap, subst, arith}
+use Rattle.std.proofs.Common.{◌≡◌, ◌∙◌, inl, inr, ℕ, zero, suc, ◌+◌, ◌-◌, ◌<◌, ◌≤◌, Bool, true, false, cond, List, length, take, get_or, set, refl, sym, ap}
+use Rattle.std.proofs.Common.{subst, arith}
 use Rattle.std.specs.Prelude.{max, min, not, nat_lt, ◌==◌}
 use Rattle.std.specs.List.{fold, list_any, range_with_len}
 use Rattle.std.proofs.lemmas.Bool.{cases_lt}
@@ -105,7 +106,8 @@ begins_not more met end none is = grind (arith, nat_tests)
 not_within : (ends : List ℕ) (k : ℕ) → greatest_below ends k ≤ k → crosses_at ends k ≡ false
 not_within ends k low = grind (arith, nat_tests)
 
-pub walked_next : (ends : List ℕ) (place met end next more : ℕ) → place < length ends → end ≡ get_or ends place 0 → more ≡ met + one end → next ≡ max end (place + 1)
+pub walked_next : (ends : List ℕ) (place met end next more : ℕ) → place < length ends → end ≡ get_or ends place 0 → more ≡ met + one end
+    → next ≡ max end (place + 1)
     → IsWalked ends place met → IsWalked ends next more
 walked_next ends place met end next more lt at met_is next_is (OnePassed few crossed) =
     let step : begun ends (place + 1) ≡ begun ends place + one end = begun_more ends place lt ∙ ap (λ (e : ℕ). begun ends place + one e) (sym at) in
@@ -170,7 +172,11 @@ all_walked ends place met first places past noted walked =
 
 -- nothing yet, where each place says that none begins there
 pub none_noted : (ends : List ℕ) → ((k : ℕ) → k < length ends → get_or ends k 0 ≡ 0) → AreNoted ends (length ends) 0
-none_noted ends clear = record { none = all (length ends) (omega arith); all = sym (ap beginnings (take_all (length ends) ends (omega arith))) ∙ all (length ends) (omega arith) }
+none_noted ends clear = record {
+  none = all (length ends) (omega arith);
+  all = sym (ap beginnings (take_all (length ends) ends (omega arith)))
+      ∙ all (length ends) (omega arith);
+}
   where
     all : (n : ℕ) → n ≤ length ends → begun ends n ≡ 0
     all zero low = refl
@@ -204,4 +210,5 @@ pub noted_next : (ends more : List ℕ) (first places at end least count : ℕ) 
     → more ≡ set ends at end → alone ≡ (get_or ends at 0 == 0) → least ≡ min first at → count ≡ places + cond alone 1 0 → AreNoted more least count
 noted_next ends more first places at end least count alone noted lt some is alone_is least_is count_is =
     subst (λ xs. AreNoted xs least count) (sym is)
-    (subst (AreNoted (set ends at end) least) (sym (count_is ∙ ap (λ b. places + cond b 1 0) alone_is)) (noted_set ends first places at end least noted lt some least_is))
+    (subst (AreNoted (set ends at end) least) (sym (count_is ∙ ap (λ b. places + cond b 1 0) alone_is))
+    (noted_set ends first places at end least noted lt some least_is))

@@ -1,8 +1,10 @@
 -- Numbers turned round one after another.
-use Rattle.std.proofs.Common.{◌≡◌, ◌∙◌, ◌⊎◌, inl, inr, ℕ, suc, ◌+◌, ◌-◌, ◌*◌, ◌<◌, ◌≤◌, List, [], ◌∷◌, ◌++◌, length, drop, take, reverse, get_or, refl, sym, ap, subst, arith, length-drop, append-nil, append_assoc}
+use Rattle.std.proofs.Common.{◌≡◌, ◌∙◌, ◌⊎◌, inl, inr, ℕ, suc, ◌+◌, ◌-◌, ◌*◌, ◌<◌, ◌≤◌, List, [], ◌∷◌, ◌++◌, length, drop, take, reverse, get_or, refl, sym, ap}
+use Rattle.std.proofs.Common.{subst, arith, length-drop, append-nil, append_assoc}
 use Rattle.std.specs.Prelude.{slice_range}
 use Rattle.std.specs.List.{Contains}
-use Rattle.std.proofs.lemmas.List.{ext_get_or, get_or-drop, get_or-reverse, get_or-take, get_or_append_left, get_or-append_right, length-append, length-reverse, length-take-le}
+use Rattle.std.proofs.lemmas.List.{ext_get_or, get_or-drop, get_or-reverse, get_or-take, get_or_append_left, get_or-append_right, length-append, length-reverse}
+use Rattle.std.proofs.lemmas.List.{length-take-le}
 use Rattle.std.proofs.lemmas.List.Elements.{Contains-append_left, Contains-append_right, Contains-append_cases}
 use Rattle.bdb_format.proofs.MemberLemmas.{first_member, member_cases, no_member}
 use Rattle.bdb_format.proofs.TurnLemmas.{length-slice_range}
@@ -18,7 +20,8 @@ some_last : (done : List Field) (f : Field) → Contains (done ++ f ∷ []) f
 some_last done f = Contains-append_right done (f ∷ []) f (first_member f [])
 
 -- a place outside the new number turns as before
-mirror_same : (done : List Field) (f : Field) (k : ℕ) → AreApart (done ++ f ∷ []) → (suc k ≤ f.begin) ⊎ (f.begin + f.width ≤ k) → mirror (done ++ f ∷ []) k ≡ mirror done k
+mirror_same : (done : List Field) (f : Field) (k : ℕ) → AreApart (done ++ f ∷ []) → (suc k ≤ f.begin) ⊎ (f.begin + f.width ≤ k)
+    → mirror (done ++ f ∷ []) k ≡ mirror done k
 mirror_same done f k apart outside =
     let before : AreApart done = λ g h at_g at_h. apart g h (Contains-append_left done (f ∷ []) g at_g) (Contains-append_left done (f ∷ []) h at_h) in
     elim (inside_or_not done k) [
@@ -48,7 +51,8 @@ length-overwritten bytes at piece inside =
       length-drop (at + length piece) bytes,
     )
 
-get_or-overwritten_before : (bytes : List ℕ) (at : ℕ) (piece : List ℕ) (k : ℕ) → at + length piece ≤ length bytes → k < at → byte_at (overwritten bytes at piece) k ≡ byte_at bytes k
+get_or-overwritten_before : (bytes : List ℕ) (at : ℕ) (piece : List ℕ) (k : ℕ) → at + length piece ≤ length bytes → k < at
+    → byte_at (overwritten bytes at piece) k ≡ byte_at bytes k
 get_or-overwritten_before bytes at piece k inside lt =
     let front : length (take at bytes) ≡ at = length-take-le at bytes (omega arith) in
     get_or_append_left (take at bytes) (piece ++ drop (at + length piece) bytes) 0 k (omega arith) ∙ get_or-take at bytes k 0 lt
@@ -83,7 +87,8 @@ fields_are_written done f bytes apart within =
     let long : length piece ≡ w = length-reverse slice ∙ (long_slice ∙ omega arith) in
     let size : length once ≡ length bytes = length-turned_round done bytes in
     let all : List Field = done ++ f ∷ [] in
-    ext_get_or 0 (overwritten once b piece) (turned_round all bytes) (length-overwritten once b piece (omega arith) ∙ (size ∙ sym (length-turned_round all bytes)))
+    ext_get_or 0 (overwritten once b piece) (turned_round all bytes) (length-overwritten once b piece (omega arith)
+    ∙ (size ∙ sym (length-turned_round all bytes)))
     (λ k lt.
     let here : k < length bytes = omega (arith, length-overwritten once b piece) in
     let right : byte_at (turned_round all bytes) k ≡ byte_at bytes (mirror all k) = get_or-turned_round all bytes k here in
@@ -116,7 +121,8 @@ four_reversed bytes at inside =
     let slice : List ℕ = slice_range bytes at (at + 4) in
     let long : length slice ≡ 4 = length-slice_range bytes at (at + 4) inside ∙ omega arith in
     let size : at + 4 - at ≡ 4 = omega arith in
-    let read : (k : ℕ) → k < 4 → get_or slice k 0 ≡ get_or bytes (at + k) 0 = λ k lt. get_or-take (at + 4 - at) (drop at bytes) k 0 (omega arith) ∙ get_or-drop at bytes k 0 in
+    let read : (k : ℕ) → k < 4 → get_or slice k 0 ≡ get_or bytes (at + k) 0 = λ k lt. get_or-take (at + 4 - at) (drop at bytes) k 0 (omega arith)
+    ∙ get_or-drop at bytes k 0 in
     let zero_on : at + 0 ≡ at = omega arith in
     let four : slice ≡ get_or slice 0 0 ∷ get_or slice 1 0 ∷ get_or slice 2 0 ∷ get_or slice 3 0 ∷ [] = of_four slice long in
     ap reverse four ∙ rw (read 0 (omega arith), read 1 (omega arith), read 2 (omega arith), read 3 (omega arith), zero_on) refl
@@ -129,11 +135,13 @@ four_reversed bytes at inside =
     of_four (a ∷ b ∷ c ∷ d ∷ []) long = refl
     of_four (a ∷ b ∷ c ∷ d ∷ e ∷ rest) long = absurd (omega arith)
 
-pub two_reversed : (bytes : List ℕ) (at : ℕ) → at + 2 ≤ length bytes → reverse (slice_range bytes at (at + 2)) ≡ get_or bytes (at + 1) 0 ∷ get_or bytes at 0 ∷ []
+pub two_reversed : (bytes : List ℕ) (at : ℕ) → at + 2 ≤ length bytes → reverse (slice_range bytes at (at + 2)) ≡ get_or bytes (at + 1) 0 ∷ get_or bytes at 0
+    ∷ []
 two_reversed bytes at inside =
     let slice : List ℕ = slice_range bytes at (at + 2) in
     let long : length slice ≡ 2 = length-slice_range bytes at (at + 2) inside ∙ omega arith in
-    let read : (k : ℕ) → k < 2 → get_or slice k 0 ≡ get_or bytes (at + k) 0 = λ k lt. get_or-take (at + 2 - at) (drop at bytes) k 0 (omega arith) ∙ get_or-drop at bytes k 0 in
+    let read : (k : ℕ) → k < 2 → get_or slice k 0 ≡ get_or bytes (at + k) 0 = λ k lt. get_or-take (at + 2 - at) (drop at bytes) k 0 (omega arith)
+    ∙ get_or-drop at bytes k 0 in
     let zero_on : at + 0 ≡ at = omega arith in
     let two : slice ≡ get_or slice 0 0 ∷ get_or slice 1 0 ∷ [] = of_two slice long in
     ap reverse two ∙ rw (read 0 (omega arith), read 1 (omega arith), zero_on) refl
@@ -147,7 +155,8 @@ two_reversed bytes at inside =
 -- Numbers turned round step by step.
 
 -- one number
-pub turns_one : (source old new : List ℕ) (at width : ℕ) → new ≡ overwritten old at (reverse (slice_range source at (at + width))) → Turns source (field at width ∷ []) old new
+pub turns_one : (source old new : List ℕ) (at width : ℕ) → new ≡ overwritten old at (reverse (slice_range source at (at + width)))
+    → Turns source (field at width ∷ []) old new
 turns_one source old new at width is done apart within was =
     is ∙ (ap (λ bytes. overwritten bytes at (reverse (slice_range source at (at + width)))) was ∙ fields_are_written done (field at width) source apart within)
 
@@ -156,7 +165,8 @@ pub turns_none : (source old : List ℕ) → Turns source [] old old
 turns_none source old done apart within was = was ∙ ap (λ fields. turned_round fields source) (sym (append-nil done))
 
 -- some, and then others
-pub turns_both : (source old middle new : List ℕ) (xs ys : List Field) → Turns source xs old middle → Turns source ys middle new → Turns source (xs ++ ys) old new
+pub turns_both : (source old middle new : List ℕ) (xs ys : List Field) → Turns source xs old middle → Turns source ys middle new
+    → Turns source (xs ++ ys) old new
 turns_both source old middle new xs ys first second done apart within was =
     let all : done ++ (xs ++ ys) ≡ (done ++ xs) ++ ys = sym (append_assoc done xs ys) in
     let apart_all : AreApart ((done ++ xs) ++ ys) = subst AreApart all apart in
@@ -173,7 +183,8 @@ pub turns_block : (source old middle new last : List ℕ) (place : ℕ) (left re
     → Turns source (block_fields (place + (4 + length block)) rest) new last → Turns source (block_fields place left) old last
 turns_block source old middle new last place left rest block is first second later =
     let next : place + (4 + length block) ≡ place + 4 + length block = omega arith in
-    let later_there : Turns source (block_fields (place + 4 + length block) rest) new last = subst (λ (k : ℕ). Turns source (block_fields k rest) new last) next later in
+    let later_there : Turns source (block_fields (place + 4 + length block) rest) new last = subst (λ (k : ℕ). Turns source (block_fields k rest) new last) next
+    later in
     let two : Turns source (field place 2 ∷ field (place + 2 + length block) 2 ∷ []) old new =
     turns_both source old middle new (field place 2 ∷ []) (field (place + 2 + length block) 2 ∷ []) (turns_one source old middle place 2 first)
     (turns_one source middle new (place + 2 + length block) 2 second) in
@@ -186,14 +197,17 @@ room_of_block n place left rest block is room =
     let size : run_length left ≡ 4 + length block + run_length rest = ap run_length is in
     (omega arith, omega arith)
 
-length_two : (source old new : List ℕ) (at : ℕ) → new ≡ overwritten old at (reverse (slice_range source at (at + 2))) → length old ≡ length source → at + 2 ≤ length source
+length_two : (source old new : List ℕ) (at : ℕ) → new ≡ overwritten old at (reverse (slice_range source at (at + 2))) → length old ≡ length source
+    → at + 2 ≤ length source
     → length new ≡ length old
 length_two source old new at is same inside =
-    let piece : length (reverse (slice_range source at (at + 2))) ≡ at + 2 - at = length-reverse (slice_range source at (at + 2)) ∙ length-slice_range source at (at + 2) inside in
+    let piece : length (reverse (slice_range source at (at + 2))) ≡ at + 2 - at = length-reverse (slice_range source at (at + 2))
+    ∙ length-slice_range source at (at + 2) inside in
     ap length is ∙ length-overwritten old at (reverse (slice_range source at (at + 2))) (omega arith)
 
 pub two_lengths : (source old middle new : List ℕ) (at other : ℕ) → middle ≡ overwritten old at (reverse (slice_range source at (at + 2)))
-    → new ≡ overwritten middle other (reverse (slice_range source other (other + 2))) → length old ≡ length source → at + 2 ≤ length source → other + 2 ≤ length source
+    → new ≡ overwritten middle other (reverse (slice_range source other (other + 2))) → length old ≡ length source → at + 2 ≤ length source
+    → other + 2 ≤ length source
     → length new ≡ length old
 two_lengths source old middle new at other first second same one two =
     let middle_same : length middle ≡ length old = length_two source old middle at first same one in

@@ -1,8 +1,8 @@
 //! Files of each kind, a field a line. Values: docs/FORMAT.md, "Metadata pages" to "Items" and "The other byte order".
 
 use crate::told::{Told, outcome};
-use bdb_fixtures::Field;
 use bdb_format::Order;
+use test_images::Field;
 
 /// A file of so many pages, as what is written over zeros.
 #[derive(Clone, Copy)]

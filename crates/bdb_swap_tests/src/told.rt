@@ -2,13 +2,13 @@
 
 ghost use Rattle.std.specs.Prelude.{◌≡◌, ◌≤◌, ◌^◌, length};
 
-use bdb_fixtures::{Field, write};
 use bdb_format::{Order, Steps};
 use bdb_graph::{link, open_image};
 use bdb_swap::{FlipError, flip};
 use std::alloc::Global;
 use std::marker::Brand;
 use std::sync::ledger::{Blank, Ledger};
+use test_images::{Field, write};
 
 const MOST: usize = 5 * 512;
 

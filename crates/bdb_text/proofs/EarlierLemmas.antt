@@ -51,7 +51,8 @@ with_key {Z} name key (other ∷ others) = by_order (by_items key other) refl (w
     turned false b c d e = ap (λ x. b || x) e
 
     by_order : (r : Ordering) → by_items key other ≡ r
-        → list_any (bytes_eq name) (map vec_items (insert_key by_items others key)) ≡ (bytes_eq name (vec_items key) || list_any (bytes_eq name) (map vec_items others))
+        → list_any (bytes_eq name) (map vec_items (insert_key by_items others key))
+        ≡ (bytes_eq name (vec_items key) || list_any (bytes_eq name) (map vec_items others))
         → list_any (bytes_eq name) (map vec_items (match_ordering r (key ∷ other ∷ others) (other ∷ others) (other ∷ insert_key by_items others key)))
         ≡ (bytes_eq name (vec_items key) || (bytes_eq name (vec_items other) || list_any (bytes_eq name) (map vec_items others)))
     by_order Less e rest = refl

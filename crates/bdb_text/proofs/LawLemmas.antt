@@ -1,11 +1,13 @@
 -- What was spelled is read.
-use Rattle.std.proofs.Common.{◌≡◌, ◌≢◌, ℕ, ◌+◌, ◌*◌, ◌/◌, ◌%◌, ◌<◌, ◌==◌, ◌&&◌, if◌then◌else◌, nat_le, Bool, true, false, List, [], ◌∷◌, ◌++◌, Option, Some, None, refl, sym, ap, ◌∙◌, arith}
+use Rattle.std.proofs.Common.{◌≡◌, ◌≢◌, ℕ, ◌+◌, ◌*◌, ◌/◌, ◌%◌, ◌<◌, ◌==◌, ◌&&◌, if◌then◌else◌, nat_le, Bool, true, false, List, [], ◌∷◌, ◌++◌, Option, Some}
+use Rattle.std.proofs.Common.{None, refl, sym, ap, ◌∙◌, arith}
 use Rattle.std.proofs.lemmas.Bool.{eqb-true}
 use Rattle.std.proofs.lemmas.List.Elements.{All-head, All-tail}
 use Rattle.std.specs.List.{All, flat_map}
 use Rattle.hex.specs.Hex.{hex_digit_value}
 use Rattle.hex.proofs.HexLemmas.{IsDigits-lower_digits}
-use Rattle.bdb_text_format.specs.TextSpelling.{before, byte_before, byte_of_digits, bytes_spelled, digit_value, hex_digit, next_unit, printed, printed_unit, spelling, two_digits}
+use Rattle.bdb_text_format.specs.TextSpelling.{before, byte_before, byte_of_digits, bytes_spelled, digit_value, hex_digit, next_unit, printed, printed_unit}
+use Rattle.bdb_text_format.specs.TextSpelling.{spelling, two_digits}
 use Rattle.bdb_text_format.proofs.UnitLemmas.{read_empty, read_unit}
 use Rattle.bdb_text.specs.Laws.{SpelledIsRead}
 use Rattle.bdb_spelling.proofs.SpellingLemmas.{lower_digit}
@@ -54,7 +56,8 @@ unit_spelled false b rest h = ap (λ (byte : Option ℕ). byte_before byte rest)
 all_spelled : (print : Bool) (bytes : List ℕ) → All IsByte bytes → bytes_spelled print (flat_map (unit print) bytes) ≡ Some bytes
 all_spelled print [] h = read_empty print
 all_spelled print (b ∷ bytes) h =
-    read_unit print (unit print b ++ flat_map (unit print) bytes) b (flat_map (unit print) bytes) (unit_spelled print b (flat_map (unit print) bytes) (All-head IsByte b bytes h))
+    read_unit print (unit print b ++ flat_map (unit print) bytes) b (flat_map (unit print) bytes)
+    (unit_spelled print b (flat_map (unit print) bytes) (All-head IsByte b bytes h))
     ∙ ap (before b) (all_spelled print bytes (All-tail IsByte b bytes h))
 
 pub spelled_read : SpelledIsRead

@@ -1,5 +1,6 @@
 -- Data lines more.
-use Rattle.std.proofs.Common.{if◌then◌else◌, ◌≡◌, ◌≢◌, ℕ, ◌+◌, ◌%◌, ◌&&◌, Bool, true, false, List, [], ◌∷◌, ◌++◌, length, Option, Some, None, is_none, is_some, refl, sym, ap, ◌∙◌, arith, append_assoc, length-append}
+use Rattle.std.proofs.Common.{if◌then◌else◌, ◌≡◌, ◌≢◌, ℕ, ◌+◌, ◌%◌, ◌&&◌, Bool, true, false, List, [], ◌∷◌, ◌++◌, length, Option, Some, None, is_none, is_some}
+use Rattle.std.proofs.Common.{refl, sym, ap, ◌∙◌, arith, append_assoc, length-append}
 use Rattle.std.proofs.lemmas.Bool.{and_from, eqb-false, ne_eqb}
 use Rattle.std.proofs.lemmas.List.{append-nil}
 use Rattle.bdb_text_format.specs.declared.pairs.Key.{Key}
@@ -74,7 +75,8 @@ keyed-append print numbered at [] more even = let same : at + 0 ≡ at = omega a
 keyed-append print numbered at (x ∷ []) more even = absurd (let no : 1 ≢ 1 = eqb-false 1 1 even in no refl)
 keyed-append print numbered at (x ∷ y ∷ lines) more even =
     let same : at + 2 + length lines ≡ at + length (x ∷ y ∷ lines) = omega arith in
-    ap (with_text_pair (key_read numbered (data_read print x)) (data_read print y) at) (keyed-append print numbered (at + 2) lines more (even_less x y lines even))
+    ap (with_text_pair (key_read numbered (data_read print x)) (data_read print y) at)
+    (keyed-append print numbered (at + 2) lines more (even_less x y lines even))
     ∙ with_joined (key_read numbered (data_read print x)) (data_read print y) at (keyed_pairs print numbered (at + 2) lines)
     (keyed_pairs print numbered (at + 2 + length lines) more)
     ∙ ap (λ (k : ℕ). joined_pairs (keyed_pairs print numbered at (x ∷ y ∷ lines)) (keyed_pairs print numbered k more)) same

@@ -1,5 +1,6 @@
 -- A text is read exactly where no line has a reason.
-use Rattle.std.proofs.Common.{◌≡◌, ℕ, ◌+◌, ◌&&◌, Bool, true, false, not, if◌then◌else◌, List, [], ◌∷◌, ◌++◌, length, Option, Some, None, is_none, is_some, refl, sym, ap, ◌∙◌, append_assoc, codes}
+use Rattle.std.proofs.Common.{◌≡◌, ℕ, ◌+◌, ◌&&◌, Bool, true, false, not, if◌then◌else◌, List, [], ◌∷◌, ◌++◌, length, Option, Some, None, is_none, is_some, refl}
+use Rattle.std.proofs.Common.{sym, ap, ◌∙◌, append_assoc, codes}
 use Rattle.std.proofs.lemmas.List.{append-nil}
 use Rattle.std.proofs.lemmas.Bool.{or_parts}
 use Rattle.std.specs.List.{list_any}
@@ -9,13 +10,16 @@ use Rattle.bdb_format.specs.Databases.{is_name}
 use Rattle.bdb_text_format.specs.declared.faults.TextFault.{TextFault}
 use Rattle.bdb_text_format.specs.TextLines.{is_data_end, is_header_end, text_lines}
 use Rattle.bdb_text_format.specs.Header.{Values, conflicts, entries, entry_of, name_in, values}
-use Rattle.bdb_text_format.specs.Reasons.{data_end_reason, data_line_reason, end_fault, entry_reason, fault_at, fault_from, fault_in, header_end_reason, name_missing, name_of, or_fault, parts_of, reason_of, text_fault}
-use Rattle.bdb_text_format.specs.Sections.{entry_fits, header_fits, lines_fit, nothing_left, pairs_read, parts_read, section_read, sections_from, sections_in, text_sections, with_pairs, with_section}
+use Rattle.bdb_text_format.specs.Reasons.{data_end_reason, data_line_reason, end_fault, entry_reason, fault_at, fault_from, fault_in, header_end_reason}
+use Rattle.bdb_text_format.specs.Reasons.{name_missing, name_of, or_fault, parts_of, reason_of, text_fault}
+use Rattle.bdb_text_format.specs.Sections.{entry_fits, header_fits, lines_fit, nothing_left, pairs_read, parts_read, section_read, sections_from, sections_in}
+use Rattle.bdb_text_format.specs.Sections.{text_sections, with_pairs, with_section}
 use Rattle.bdb_text.specs.Laws.{ReadsOrFaults}
 use Rattle.std.proofs.Math.Bool.{and-false, and_assoc}
 use Rattle.bdb_text.proofs.BoolLemmas.{some_if}
 use Rattle.bdb_text.proofs.ReasonLemmas.{none-entry_reason, none-first_line_reason, none-header_end_reason}
-use Rattle.bdb_text.proofs.PartLemmas.{clean, clean-append_one, has_data_end, has_header_end, lines_fit-append_one, list_any-append_one, parts_of-ended, parts_of-open}
+use Rattle.bdb_text.proofs.PartLemmas.{clean, clean-append_one, has_data_end, has_header_end, lines_fit-append_one, list_any-append_one, parts_of-ended}
+use Rattle.bdb_text.proofs.PartLemmas.{parts_of-open}
 use Rattle.bdb_text.specs.DataTo.{data_clean}
 use Rattle.bdb_text.proofs.DataLemmas.{data_iff}
 use Rattle.bdb_text_format.specs.Written.{data_end, version_line}

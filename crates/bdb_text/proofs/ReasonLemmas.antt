@@ -8,7 +8,8 @@ use Rattle.bdb_text_format.specs.declared.keywords.Judged.{Judged}
 use Rattle.bdb_text_format.specs.declared.keywords.Judged.TheVariants.{Fits, Bad, LeftOut}
 use Rattle.bdb_text_format.specs.Keywords.{Keyword}
 use Rattle.bdb_text_format.specs.Header.{Values, given, name_in, conflicts}
-use Rattle.bdb_text_format.specs.Reasons.{begins_version, first_line_reason, keyword_named, keyword_reason, entry_reason, header_end_reason, is_bad, is_left_out, name_missing}
+use Rattle.bdb_text_format.specs.Reasons.{begins_version, first_line_reason, keyword_named, keyword_reason, entry_reason, header_end_reason, is_bad}
+use Rattle.bdb_text_format.specs.Reasons.{is_left_out, name_missing}
 use Rattle.bdb_text_format.specs.Sections.{entry_fits, keyword_fits, fits}
 use Rattle.std.proofs.Math.Bool.{and-false}
 use Rattle.bdb_text.proofs.BoolLemmas.{not-none}

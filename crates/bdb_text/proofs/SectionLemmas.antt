@@ -1,5 +1,6 @@
 -- A section more, and the faults of a section.
-use Rattle.std.proofs.Common.{if◌then◌else◌, ◌≡◌, ◌≢◌, ◌==◌, ℕ, ◌+◌, Bool, true, false, List, [], ◌∷◌, ◌++◌, length, Option, Some, None, is_none, is_some, refl, sym, ap, ◌∙◌, arith, append_assoc, length-append}
+use Rattle.std.proofs.Common.{if◌then◌else◌, ◌≡◌, ◌≢◌, ◌==◌, ℕ, ◌+◌, Bool, true, false, List, [], ◌∷◌, ◌++◌, length, Option, Some, None, is_none, is_some, refl}
+use Rattle.std.proofs.Common.{sym, ap, ◌∙◌, arith, append_assoc, length-append}
 use Rattle.std.proofs.lemmas.Bool.{and_from, and_parts, false_from_ne_true, or_parts}
 use Rattle.std.proofs.lemmas.List.{append-nil, map-append}
 use Rattle.std.proofs.lemmas.Slice.Eq.{bytes_eq-Decides}
@@ -9,8 +10,10 @@ use Rattle.bdb_text_format.specs.declared.sections.Section.{Section}
 use Rattle.bdb_text_format.specs.Written.{Entry, data_end, header_end, version_line}
 use Rattle.bdb_text_format.specs.TextLines.{is_data_end, is_header_end, onto_first, text_lines}
 use Rattle.bdb_text_format.specs.Header.{Values, entries, entry_of, given, name_in, settings_in, values}
-use Rattle.bdb_text_format.specs.Reasons.{Parts, data_end_reason, data_line_reason, entry_reason, fault_from, fault_in, first_line_reason, header_end_reason, name_of, name_of_parts, reason_of, text_fault}
-use Rattle.bdb_text_format.specs.Sections.{Reads, entry_fits, header_fits, lines_fit, pairs_read, parts_read, section_read, sections_from, sections_in, text_sections, with_section}
+use Rattle.bdb_text_format.specs.Reasons.{Parts, data_end_reason, data_line_reason, entry_reason, fault_from, fault_in, first_line_reason, header_end_reason}
+use Rattle.bdb_text_format.specs.Reasons.{name_of, name_of_parts, reason_of, text_fault}
+use Rattle.bdb_text_format.specs.Sections.{Reads, entry_fits, header_fits, lines_fit, pairs_read, parts_read, section_read, sections_from, sections_in}
+use Rattle.bdb_text_format.specs.Sections.{text_sections, with_section}
 use Rattle.bdb_text.specs.declared.data_pairs.Data.{Data}
 use Rattle.bdb_text.specs.declared.dump.Read.{Read}
 use Rattle.bdb_text.specs.declared.fields.Field.{Field}

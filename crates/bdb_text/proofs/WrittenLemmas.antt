@@ -1,5 +1,6 @@
 -- The text of a section is read as that section.
-use Rattle.std.proofs.Common.{◌≡◌, ℕ, ◌+◌, ◌&&◌, ◌||◌, Bool, true, false, not, if◌then◌else◌, List, [], ◌∷◌, ◌++◌, length, map, Option, Some, None, is_some, refl, sym, ap, ◌∙◌, append_assoc, codes, is_none, All}
+use Rattle.std.proofs.Common.{◌≡◌, ℕ, ◌+◌, ◌&&◌, ◌||◌, Bool, true, false, not, if◌then◌else◌, List, [], ◌∷◌, ◌++◌, length, map, Option, Some, None, is_some}
+use Rattle.std.proofs.Common.{refl, sym, ap, ◌∙◌, append_assoc, codes, is_none, All}
 use Rattle.std.proofs.Math.Path.{fun_ext}
 use Rattle.std.proofs.lemmas.Bool.{false_from_ne_true, or_from, or_parts}
 use Rattle.std.proofs.lemmas.List.{append-nil}
@@ -16,14 +17,18 @@ use Rattle.bdb_format.specs.Lists.{ListKey}
 use Rattle.bdb_text_format.specs.TextLines.{is_data_end, is_header_end, text_lines}
 use Rattle.bdb_text_format.specs.Header.{Values, conflicts, given, has_keys, has_record_type, name_in, prints, settings_in, values}
 use Rattle.bdb_text_format.specs.Reasons.{Parts, name_missing, name_of, name_of_parts}
-use Rattle.bdb_text_format.specs.Sections.{Reads, counted_pairs, header_fits, keyed_pairs, pairs_read, parts_read, section_read, sections_in, text_sections, with_pairs, with_section, sections_from}
-use Rattle.bdb_text_format.specs.Written.{data_end, data_line, entry_line, header_end, header_lines, header_table, holds_records, key_bytes, pair_lines, section_lines, section_text, version_line, written, dump_text}
-use Rattle.bdb_text.specs.WrittenLaw.{CanBeWritten, WrittenIsRead, AreNamedApart, AreSectionsOf, CanStandTogether, IsSectionOf, IsWritable, Written, WrittenAreRead, written_text, DumpIsRead, written_of}
+use Rattle.bdb_text_format.specs.Sections.{Reads, counted_pairs, header_fits, keyed_pairs, pairs_read, parts_read, section_read, sections_in, text_sections}
+use Rattle.bdb_text_format.specs.Sections.{with_pairs, with_section, sections_from}
+use Rattle.bdb_text_format.specs.Written.{data_end, data_line, entry_line, header_end, header_lines, header_table, holds_records, key_bytes, pair_lines}
+use Rattle.bdb_text_format.specs.Written.{section_lines, section_text, version_line, written, dump_text}
+use Rattle.bdb_text.specs.WrittenLaw.{CanBeWritten, WrittenIsRead, AreNamedApart, AreSectionsOf, CanStandTogether, IsSectionOf, IsWritable, Written}
+use Rattle.bdb_text.specs.WrittenLaw.{WrittenAreRead, written_text, DumpIsRead, written_of}
 use Rattle.bdb_text.proofs.PartLemmas.{has_data_end, parts_of-ended}
 use Rattle.bdb_text.proofs.LineLemmas.{entries-written, given-written, has_feed, sections_from-section, text_lines-lines}
 use Rattle.bdb_text.proofs.TableLemmas.{any-written, lines_fit-table}
 use Rattle.bdb_text.proofs.ValueLemmas.{keyed_pairs-lines, pairs_at, pairs_at-list, spelling-no_feed}
-use Rattle.bdb_text.proofs.LookedLemmas.{keys-looked, lines-looked, looked, name-looked, no_conflict, prints-looked, records-looked, table_feeds, table_fits-header}
+use Rattle.bdb_text.proofs.LookedLemmas.{keys-looked, lines-looked, looked, name-looked, no_conflict, prints-looked, records-looked, table_feeds}
+use Rattle.bdb_text.proofs.LookedLemmas.{table_fits-header}
 use Rattle.bdb_text_format.specs.declared.sections.Section.{Section}
 use Rattle.bdb_text_format.specs.declared.pairs.TextPair.{TextPair}
 use Rattle.std.specs.Prelude.{⊤}
@@ -330,7 +335,8 @@ names_of-written : (image : List ℕ) (all : List Database) → names_in (map (w
 names_of-written image [] = refl
 names_of-written image (database ∷ others) = ap (λ (names : List (Option (List ℕ))). database.name ∷ names) (names_of-written image others)
 
-dump_text-written : (print : Bool) (image : List ℕ) (all : List Database) → dump_text print image all ≡ flat_map (written_text print) (map (written_of image) all)
+dump_text-written : (print : Bool) (image : List ℕ) (all : List Database)
+    → dump_text print image all ≡ flat_map (written_text print) (map (written_of image) all)
 unfolding dump_text
 dump_text-written print image [] = refl
 dump_text-written print image (database ∷ others) =

@@ -72,8 +72,9 @@ pub record IsDatumFault (print : Bool) (text : List ℕ) (number : ℕ) (fault :
 -- Data alone.
 
 -- data lines without a reason give these pairs, whose records are numbered from 1
-pub record IsCountedTo (header : Values) (lines : List (List ℕ)) (start : ℕ) (pairs : List TextPair) (rest : List (List ℕ)) (number record_number : ℕ) : Type 0 where
-  pub before : List (List ℕ)
-  pub to : IsDataTo header lines start before rest number
-  pub pairs_are : counted_pairs (prints header) 1 start before ≡ Some pairs
-  pub record_is : record_number ≡ 1 + length before
+pub record IsCountedTo (header : Values) (lines : List (List ℕ)) (start : ℕ) (pairs : List TextPair) (rest : List (List ℕ)) (number record_number : ℕ) : Type 0
+  where
+    pub before : List (List ℕ)
+    pub to : IsDataTo header lines start before rest number
+    pub pairs_are : counted_pairs (prints header) 1 start before ≡ Some pairs
+    pub record_is : record_number ≡ 1 + length before

@@ -31,7 +31,8 @@ IsPairOf numbered (key, value) = IsKeyOf numbered key × AreBytes value
 
 -- settings whose header would be in conflict
 abbrev pub in_conflict : Settings → Bool
-in_conflict settings = is_btree settings.kind && (settings.recnum && (settings.duplicates || settings.sorted)) || is_queue settings.kind && (settings.re_len == 0)
+in_conflict settings = is_btree settings.kind && (settings.recnum && (settings.duplicates || settings.sorted)) || is_queue settings.kind
+    && (settings.re_len == 0)
 
 -- what the law asks of a section: a legal page size, no conflict, numbers of 32 bits, bytes, and keys of its kind
 pub record CanBeWritten (name : Option (List ℕ)) (settings : Settings) (list : List (ListKey × List ℕ)) : Type 0 where

@@ -1,5 +1,6 @@
 ghost use Rattle.std.specs.Prelude.{◌≡◌, ◌++◌, ◌==◌, ◌&&◌, ◌||◌, not, [], IfOk, OnOk, map, option_copied, unwrap_or};
-ghost use Rattle.bdb_text_format.specs.Written.{format_text, has_sets, header_table, header_text, holds_records, is_btree, is_hash, is_recno, kind_text, order_text, shows_length, ◌=:◌};
+ghost use Rattle.bdb_text_format.specs.Written.{format_text, has_sets, header_table, header_text, holds_records, is_btree, is_hash, is_recno, kind_text};
+ghost use Rattle.bdb_text_format.specs.Written.{order_text, shows_length, ◌=:◌};
 ghost use Rattle.bdb_format.specs.Table.{◌:?◌};
 ghost use Rattle.bdb_text.specs.Headers.{row_seen, row_text, rows_text, value_seen};
 

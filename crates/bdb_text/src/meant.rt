@@ -1,6 +1,7 @@
 // What a header says in all: its type, its conflicts and its settings.
 ghost use Rattle.bdb_format.specs.Databases.{plain_settings};
-ghost use Rattle.bdb_text_format.specs.Header.{number_or, conflicts, has_keys, has_record_type, has_type, is_on, order_in, plain_in, prints, repeats, settings_in};
+ghost use Rattle.bdb_text_format.specs.Header.{number_or, conflicts, has_keys, has_record_type, has_type, is_on, order_in, plain_in, prints, repeats};
+ghost use Rattle.bdb_text_format.specs.Header.{settings_in};
 ghost use Rattle.bdb_text.specs.Fields.{values_in};
 ghost use Rattle.std.specs.Prelude.{◌≡◌, codes};
 

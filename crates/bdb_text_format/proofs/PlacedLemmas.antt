@@ -1,5 +1,6 @@
 -- Pairs at places of a run stay when the run grows.
-use Rattle.std.proofs.Common.{◌≡◌, ℕ, ◌≤◌, ◌<◌, ◌+◌, ◌-◌, List, Option, None, Some, option_map, slice_get, [], ◌∷◌, ◌++◌, get_or, length, take, drop, map, arith, refl, ap, sym, ◌∙◌, subst, length-append, length-drop, append_assoc}
+use Rattle.std.proofs.Common.{◌≡◌, ℕ, ◌≤◌, ◌<◌, ◌+◌, ◌-◌, List, Option, None, Some, option_map, slice_get, [], ◌∷◌, ◌++◌, get_or, length, take, drop, map}
+use Rattle.std.proofs.Common.{arith, refl, ap, sym, ◌∙◌, subst, length-append, length-drop, append_assoc}
 use Rattle.std.specs.List.{All, fold}
 use Rattle.std.proofs.lemmas.List.{length-map, map-append, take-append-drop, take-append-le, drop-append-le, take_all, take_more}
 use Rattle.std.proofs.lemmas.List.Sums.{fold-append}
@@ -16,7 +17,8 @@ use Rattle.bdb_text_format.specs.declared.pairs.Key.{Key}
 use Rattle.bdb_text_format.specs.declared.pairs.Key.TheVariants.{Bytes, Number}
 use Rattle.bdb_text_format.specs.declared.pairs.TextPair.{TextPair}
 use Rattle.bdb_text_format.specs.Pairs.{last_key}
-use Rattle.bdb_text_format.specs.Placed.{ArePlaced, IsKeyPlaced, IsKeyPut, IsPairPut, IsPiecePut, IsPlaced, Keeps, pair_with, placed_key, placed_pair, placed_pairs}
+use Rattle.bdb_text_format.specs.Placed.{ArePlaced, IsKeyPlaced, IsKeyPut, IsPairPut, IsPiecePut, IsPlaced, Keeps, pair_with, placed_key, placed_pair}
+use Rattle.bdb_text_format.specs.Placed.{placed_pairs}
 
 -- what is behind an old run
 behind : (old new : List ℕ) → Keeps old new → new ≡ old ++ drop (length old) new
@@ -89,7 +91,8 @@ piece_put old piece span start end =
     record {
       begin = omega (arith, start, end);
       end = omega (arith, end, length-append old piece);
-      same = rw (start, end) (ap (take (length old + length piece - length old)) (drop-append_seam old piece) ∙ take_all (length old + length piece - length old) piece (omega arith));
+      same = rw (start, end) (ap (take (length old + length piece - length old)) (drop-append_seam old piece)
+          ∙ take_all (length old + length piece - length old) piece (omega arith));
     }
 
 pub pair_put : (mid new piece : List ℕ) (key : PlacedKey) (value : Span) (line : ℕ) → Keeps mid new → IsKeyPlaced mid key → IsPiecePut new piece value
@@ -117,12 +120,14 @@ last_at bytes places last pairs at is some =
     ap (λ (place : Place). placed_key bytes place.key) at
     ∙ (sym (last_is bytes places last (omega (arith, some, ap length is, length-map places (placed_pair bytes)))) ∙ ap last_key is)
 
-pub last_placed : (bytes : List ℕ) (places : List Place) (d : Place) → 0 < length places → ArePlaced bytes places → IsKeyPlaced bytes (get_or places (length places - 1) d).key
+pub last_placed : (bytes : List ℕ) (places : List Place) (d : Place) → 0 < length places → ArePlaced bytes places
+    → IsKeyPlaced bytes (get_or places (length places - 1) d).key
 last_placed bytes places d some placed = (placed (length places - 1) d (omega (arith, some))).key
 
 -- one more of a list
 pub taken_more : (pairs : List TextPair) (i : ℕ) (pair : TextPair) → slice_get pairs i ≡ Some pair → take (i + 1) pairs ≡ take i pairs ++ pair ∷ []
-taken_more pairs i pair at = take_more pairs i pair (slice_get_within pairs i pair at) ∙ ap (λ item. take i pairs ++ item ∷ []) (get_or_from_slice_get pairs i pair pair at)
+taken_more pairs i pair at = take_more pairs i pair (slice_get_within pairs i pair at)
+    ∙ ap (λ item. take i pairs ++ item ∷ []) (get_or_from_slice_get pairs i pair pair at)
 
 pub joined_more : (before now : List TextPair) (pairs : List TextPair) (i : ℕ) (pair : TextPair) → now ≡ before ++ take i pairs → slice_get pairs i ≡ Some pair
     → now ++ pair ∷ [] ≡ before ++ take (i + 1) pairs
@@ -141,7 +146,8 @@ pub last_shared : (before now pairs : List TextPair) (i : ℕ) (this : TextPair)
 last_shared before now pairs i this is some at same = by_last (slice_get pairs (i - 1)) refl
   where
     by_last : (last : Option TextPair) → slice_get pairs (i - 1) ≡ last → last_key now ≡ this.key
-    by_last None none = absurd (none-some (this.key) (sym (ap (option_map (λ (pair : TextPair). pair.key)) none) ∙ (same ∙ ap (option_map (λ (pair : TextPair). pair.key)) at)))
+    by_last None none = absurd (none-some (this.key) (sym (ap (option_map (λ (pair : TextPair). pair.key)) none)
+        ∙ (same ∙ ap (option_map (λ (pair : TextPair). pair.key)) at)))
     by_last (Some last) last_at =
         let more : take i pairs ≡ take (i - 1) pairs ++ last ∷ [] =
         subst (λ n. take n pairs ≡ take (i - 1) pairs ++ last ∷ []) (omega (arith, some)) (taken_more pairs (i - 1) last last_at) in

@@ -1,7 +1,9 @@
 -- A text is read unit by unit.
-use Rattle.std.proofs.Common.{◌≡◌, ℕ, zero, suc, ◌<◌, ◌≤◌, ◌==◌, if◌then◌else◌, Bool, true, false, List, [], ◌∷◌, length, Option, Some, None, refl, ap, subst, ◌∙◌, arith}
+use Rattle.std.proofs.Common.{◌≡◌, ℕ, zero, suc, ◌<◌, ◌≤◌, ◌==◌, if◌then◌else◌, Bool, true, false, List, [], ◌∷◌, length, Option, Some, None, refl, ap, subst}
+use Rattle.std.proofs.Common.{◌∙◌, arith}
 use Rattle.std.specs.Prelude.{⊤}
-use Rattle.bdb_text_format.specs.TextSpelling.{before, byte_before, byte_of_digits, bytes_spelled, digit_value, digits_unit, escaped_unit, next_unit, units_read}
+use Rattle.bdb_text_format.specs.TextSpelling.{before, byte_before, byte_of_digits, bytes_spelled, digit_value, digits_unit, escaped_unit, next_unit}
+use Rattle.bdb_text_format.specs.TextSpelling.{units_read}
 
 -- what stands behind a unit is shorter than the text
 IsBehind : Option (ℕ × List ℕ) → List ℕ → Type 0
@@ -18,19 +20,22 @@ unfolding IsBehind
 digits_behind [] = tt
 digits_behind (high ∷ []) = tt
 digits_behind (high ∷ low ∷ text) =
-    elim (byte_of_digits (digit_value high) (digit_value low)) as (λ byte. IsBehind (byte_before byte text) (high ∷ low ∷ text)) [ None ↦ tt | Some byte ↦ omega arith ]
+    elim (byte_of_digits (digit_value high) (digit_value low)) as (λ byte. IsBehind (byte_before byte text) (high ∷ low ∷ text))
+    [ None ↦ tt | Some byte ↦ omega arith ]
 
 escaped_behind : (text : List ℕ) → IsBehind (escaped_unit text) text
 unfolding IsBehind
 escaped_behind [] = tt
 escaped_behind (byte ∷ text) =
-    elim (byte == 92) as (λ is. IsBehind (if is then Some (92, text) else digits_unit (byte ∷ text)) (byte ∷ text)) [ true ↦ omega arith | false ↦ digits_behind (byte ∷ text) ]
+    elim (byte == 92) as (λ is. IsBehind (if is then Some (92, text) else digits_unit (byte ∷ text)) (byte ∷ text))
+    [ true ↦ omega arith | false ↦ digits_behind (byte ∷ text) ]
 
 unit_behind : (print : Bool) (text : List ℕ) → IsBehind (next_unit print text) text
 unfolding IsBehind
 unit_behind true [] = tt
 unit_behind true (byte ∷ text) =
-    elim (byte == 92) as (λ is. IsBehind (if is then escaped_unit text else Some (byte, text)) (byte ∷ text)) [ true ↦ behind_more (escaped_unit text) byte text (escaped_behind text) | false ↦ omega arith ]
+    elim (byte == 92) as (λ is. IsBehind (if is then escaped_unit text else Some (byte, text)) (byte ∷ text))
+    [ true ↦ behind_more (escaped_unit text) byte text (escaped_behind text) | false ↦ omega arith ]
 unit_behind false text = digits_behind text
 
 pub unit_shorter : (print : Bool) (text : List ℕ) (byte : ℕ) (rest : List ℕ) → next_unit print text ≡ Some (byte, rest) → length rest < length text
@@ -45,13 +50,15 @@ enough print zero m (byte ∷ text) low high = absurd (omega arith)
 enough print (suc n) zero (byte ∷ text) low high = absurd (omega arith)
 enough print (suc n) (suc m) (byte ∷ text) low high =
     elim (next_unit print (byte ∷ text)) as (λ unit. IsBehind unit (byte ∷ text)
-    → elim unit as (λ _. Option (List ℕ)) [ None ↦ None | Some it ↦ before it.0 (units_read print n it.1) ] ≡ elim unit as (λ _. Option (List ℕ)) [ None ↦ None | Some it ↦ before it.0 (units_read print m it.1) ]) [
+    → elim unit as (λ _. Option (List ℕ)) [ None ↦ None | Some it ↦ before it.0 (units_read print n it.1) ]
+    ≡ elim unit as (λ _. Option (List ℕ)) [ None ↦ None | Some it ↦ before it.0 (units_read print m it.1) ]) [
       | None ↦ λ _. refl
       | Some unit ↦ λ behind. ap (before unit.0) (enough print n m unit.1 (omega arith) (omega arith))
     ] (unit_behind print (byte ∷ text))
 
 -- what a text spells, by its first unit
-pub read_unit : (print : Bool) (text : List ℕ) (byte : ℕ) (rest : List ℕ) → next_unit print text ≡ Some (byte, rest) → bytes_spelled print text ≡ before byte (bytes_spelled print rest)
+pub read_unit : (print : Bool) (text : List ℕ) (byte : ℕ) (rest : List ℕ) → next_unit print text ≡ Some (byte, rest)
+    → bytes_spelled print text ≡ before byte (bytes_spelled print rest)
 unfolding bytes_spelled
 read_unit true [] byte rest is = absurd cc
 read_unit false [] byte rest is = absurd cc

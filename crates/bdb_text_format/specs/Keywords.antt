@@ -1,5 +1,6 @@
 -- The keywords of a header, as one table, and which values they take. Source: docs/FORMAT.md, "Read header".
-use Rattle.std.specs.Prelude.{ℕ, ◌+◌, ◌*◌, ◌==◌, nat_le, ◌&&◌, if◌then◌else◌, Bool, true, false, not, List, [], ◌∷◌, length, drop, take, Option, Some, None, codes, is_some}
+use Rattle.std.specs.Prelude.{ℕ, ◌+◌, ◌*◌, ◌==◌, nat_le, ◌&&◌, if◌then◌else◌, Bool, true, false, not, List, [], ◌∷◌, length, drop, take, Option, Some, None}
+use Rattle.std.specs.Prelude.{codes, is_some}
 use Rattle.std.specs.List.{find, fold, list_all, list_any}
 use Rattle.std.specs.Str.{bytes_eq}
 use Rattle.bdb_text_format.specs.declared.keywords.Judged.{Judged}

@@ -1,6 +1,7 @@
 -- Why a text is not read: a line's reasons, in their order, by the lines before it in its section and the names of the
 -- sections before it. Source: docs/FORMAT.md, "Reasons".
-use Rattle.std.specs.Prelude.{ℕ, ◌+◌, ◌%◌, ◌==◌, nat_le, ◌&&◌, ◌||◌, if◌then◌else◌, Bool, true, false, not, List, [], ◌∷◌, ◌++◌, length, Option, Some, None, codes, is_some, is_none}
+use Rattle.std.specs.Prelude.{ℕ, ◌+◌, ◌%◌, ◌==◌, nat_le, ◌&&◌, ◌||◌, if◌then◌else◌, Bool, true, false, not, List, [], ◌∷◌, ◌++◌, length, Option, Some, None}
+use Rattle.std.specs.Prelude.{codes, is_some, is_none}
 use Rattle.std.specs.List.{list_any, find, starts_with}
 use Rattle.std.specs.Str.{bytes_eq}
 use Rattle.bdb_format.specs.Databases.{is_name}

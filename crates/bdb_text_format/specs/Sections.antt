@@ -1,5 +1,6 @@
 -- What a text is read as. Source: docs/FORMAT.md, "Dump text".
-use Rattle.std.specs.Prelude.{◌≡◌, ℕ, ◌+◌, ◌==◌, ◌&&◌, if◌then◌else◌, Bool, true, false, not, List, [], ◌∷◌, ◌++◌, length, Option, Some, None, codes, is_some, is_none}
+use Rattle.std.specs.Prelude.{◌≡◌, ℕ, ◌+◌, ◌==◌, ◌&&◌, if◌then◌else◌, Bool, true, false, not, List, [], ◌∷◌, ◌++◌, length, Option, Some, None, codes, is_some}
+use Rattle.std.specs.Prelude.{is_none}
 use Rattle.std.specs.List.{list_any}
 use Rattle.std.specs.Str.{bytes_eq}
 use Rattle.bdb_text_format.specs.declared.pairs.Key.{Key}
@@ -85,7 +86,8 @@ keyed_pairs print numbered at (key ∷ value ∷ lines) =
 -- data alone: their keys count from 1
 abbrev pub counted_pairs : Bool → ℕ → ℕ → List (List ℕ) → Option (List TextPair)
 counted_pairs print number at [] = Some []
-counted_pairs print number at (value ∷ lines) = with_text_pair (Some (Number number)) (data_read print value) at (counted_pairs print (number + 1) (at + 1) lines)
+counted_pairs print number at (value ∷ lines) = with_text_pair (Some (Number number)) (data_read print value) at
+    (counted_pairs print (number + 1) (at + 1) lines)
 
 -- the pairs of data lines
 abbrev pub pairs_read : Values → ℕ → List (List ℕ) → Option (List TextPair)

@@ -106,7 +106,8 @@ impl<'a> PairSlice<'a> {
         requires first { i < length (slice_seen self.now) }
         requires second { j < length (slice_seen self.now) }
         ensures one { result ≡ share_key self.now i j }
-        ensures same { result ≡ true → option_map (λ (pair : TextPair). pair.key) (slice_get (slice_seen self.now) i) ≡ option_map (λ (pair : TextPair). pair.key) (slice_get (slice_seen self.now) j) }
+        ensures same { result ≡ true → option_map (λ (pair : TextPair). pair.key) (slice_get (slice_seen self.now) i)
+            ≡ option_map (λ (pair : TextPair). pair.key) (slice_get (slice_seen self.now) j) }
     {
         are_one(self.places[i].key, self.places[j].key)
     }

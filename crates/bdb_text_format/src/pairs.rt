@@ -1,7 +1,8 @@
 ghost use Rattle.std.specs.Prelude.{◌≡◌, ◌==◌, ◌<◌, ◌∷◌, ◌++◌, [], OnOk, OnErr, IfOk, true, ◌-◌, get_or, length};
 ghost use Rattle.std.specs.List.{All};
 ghost use Rattle.bdb_text_format.specs.Pairs.{last_key};
-ghost use Rattle.bdb_text_format.specs.Placed.{ArePlaced, IsKeyPlaced, IsKeyPut, IsPairPut, IsPiecePut, Keeps, key_seen, pair_seen, pair_with, placed_key, placed_pairs, slice_seen};
+ghost use Rattle.bdb_text_format.specs.Placed.{ArePlaced, IsKeyPlaced, IsKeyPut, IsPairPut, IsPiecePut, Keeps, key_seen, pair_seen, pair_with, placed_key};
+ghost use Rattle.bdb_text_format.specs.Placed.{placed_pairs, slice_seen};
 ghost use Rattle.bdb_text_format.specs.declared.pairs.TextPair.{TextPair};
 
 use crate::lent::{KeyRef, PairRef, PairSlice};

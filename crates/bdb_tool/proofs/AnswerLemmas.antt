@@ -8,7 +8,8 @@ use Rattle.bdb_format.specs.declared.kinds.Verdict.{Verdict}
 use Rattle.bdb_format.specs.declared.kinds.Verdict.TheVariants.{Fault, Unsupported, Memory as MemoryVerdict}
 use Rattle.bdb_text_format.specs.LineEnd.{line}
 use Rattle.bdb_text_format.specs.Written.{database_text, dump_text, is_btree}
-use Rattle.bdb_model.specs.Answers.{Answer, done, data_at, data_named, data_of_database, fault_line, found, not_found, told, unsupported_line, not_btree, pairs_text, value_line, values_text, database_in, dumped, section_answer}
+use Rattle.bdb_model.specs.Answers.{Answer, done, data_at, data_named, data_of_database, fault_line, found, not_found, told, unsupported_line, not_btree}
+use Rattle.bdb_model.specs.Answers.{pairs_text, value_line, values_text, database_in, dumped, section_answer}
 use Rattle.bdb_tool.specs.FileAnswers.{converted, judged_answer, range_answer, ranged, sound_answer}
 use Rattle.bdb_model.specs.Change.{Change}
 use Rattle.bdb_model.specs.Command.{Request, Verify, ListAll, Get, Dump, Range, Convert, Stat, asked_name, bounds_request, key_request}
@@ -25,7 +26,7 @@ use Rattle.bdb_file.specs.Whole.{IsVerdictBy, IsVerdictOf}
 use Rattle.bdb_file.specs.declared.rows.Rows.{Rows}
 use Rattle.bdb_file.specs.declared.rows.Rows.TheVariants.{All}
 use Rattle.bdb_file.proofs.RowsLemmas.{all_are_of_all, no_verdict}
-use Rattle.bdb_printing.specs.SalvageText.{salvage_text}
+use Rattle.bdb_tool_print.specs.SalvageText.{salvage_text}
 use Rattle.bdb_rescue.specs.Guesses.{chosen}
 use Rattle.bdb_survey.specs.declared.guess.Guess.{Guess}
 use Rattle.bdb_text_format.specs.TextSpelling.{bytes_spelled}
@@ -40,32 +41,34 @@ use Rattle.bdb_text_format.specs.declared.faults.TextFault.{TextFault}
 use Rattle.bdb_text_format.specs.declared.sections.Section.{Section}
 use Rattle.bdb_text_format.specs.Reasons.{text_fault}
 use Rattle.bdb_settle.specs.declared.load_error.LoadError.{LoadError}
-use Rattle.bdb_settle.specs.declared.load_error.LoadError.TheVariants.{RecordTooLong, RecordZero, TooLarge, QueueAmongNames, Memory as MemoryError, OntoKind, OntoNames}
+use Rattle.bdb_settle.specs.declared.load_error.LoadError.TheVariants.{RecordTooLong, RecordZero, TooLarge, QueueAmongNames, Memory as MemoryError, OntoKind}
+use Rattle.bdb_settle.specs.declared.load_error.LoadError.TheVariants.{OntoNames}
 use Rattle.bdb_mkfile.specs.Builds.{image_size}
 use Rattle.bdb_mkfile.specs.Loading.{loading_error}
-use Rattle.bdb_writing.specs.declared.refusal.Refusal.{Refusal}
-use Rattle.bdb_writing.specs.declared.refusal.Refusal.TheVariants.{Faulty as FaultyText, TooLarge as TooLargeImage, Memory as MemoryRefusal}
-use Rattle.bdb_writing.specs.Loads.{IsLoadAnswerBy, IsErrorAnswer, IsLoadAnswer, IsTextAnswer}
+use Rattle.bdb_tool_build.specs.declared.refusal.Refusal.{Refusal}
+use Rattle.bdb_tool_build.specs.declared.refusal.Refusal.TheVariants.{Faulty as FaultyText, TooLarge as TooLargeImage, Memory as MemoryRefusal}
+use Rattle.bdb_tool_build.specs.Loads.{IsLoadAnswerBy, IsErrorAnswer, IsLoadAnswer, IsTextAnswer}
 use Rattle.bdb_onto.specs.declared.base.Base.{Base}
 use Rattle.bdb_onto.specs.Bases.{base_of}
 use Rattle.bdb_onto.specs.Onto.{loading_error_onto}
-use Rattle.bdb_writing.specs.Ontos.{IsLoadOnto, IsTextOnto, IsTextOntoBy}
+use Rattle.bdb_tool_build.specs.Ontos.{IsLoadOnto, IsTextOnto, IsTextOntoBy}
 use Rattle.bdb_tool.specs.Ontos.{IsOntoBy}
-use Rattle.bdb_writing.specs.Refusals.{IsRefusedAnswer}
-use Rattle.bdb_writing.specs.Trials.{IsTrialAnswer, IsTrialBy, trial_sections}
+use Rattle.bdb_tool_build.specs.Refusals.{IsRefusedAnswer}
+use Rattle.bdb_tool_build.specs.Trials.{IsTrialAnswer, IsTrialBy, trial_sections}
 use Rattle.bdb_tool.proofs.FinishLemmas.{memory_finishes, told_finishes, written_finishes}
 use Rattle.bdb_format.specs.Faults.{AppendsPrefix, Rose}
-use Rattle.bdb_lines.specs.declared.cut.Cut.{Cut}
-use Rattle.bdb_lines.specs.declared.cut.Cut.TheVariants.{WriteFault, Memory}
-use Rattle.bdb_lines.specs.Printing.{Writes}
-use Rattle.bdb_lines.proofs.PrintingLemmas.{moved, nothing_of}
+use Rattle.bdb_tool_lines.specs.declared.cut.Cut.{Cut}
+use Rattle.bdb_tool_lines.specs.declared.cut.Cut.TheVariants.{WriteFault, Memory}
+use Rattle.bdb_tool_lines.specs.Printing.{Writes}
+use Rattle.bdb_tool_lines.proofs.PrintingLemmas.{moved, nothing_of}
 
 -- One line.
 
 pub line_written : (a b : Option (List ℕ)) (f g : ℕ) (given text : List ℕ) → given ≡ text → Appends a b given → f ≤ g → Writes text (moved a b f g) (Ok tt)
 line_written a b f g given text is got later = record { written = subst (Appends a b) is got; later = later }
 
-pub line_cut : (a b : Option (List ℕ)) (f g : ℕ) (given text : List ℕ) → given ≡ text → AppendsPrefix a b given → f ≤ g → Rose f g → Writes text (moved a b f g) (Err WriteFault)
+pub line_cut : (a b : Option (List ℕ)) (f g : ℕ) (given text : List ℕ) → given ≡ text → AppendsPrefix a b given → f ≤ g → Rose f g
+    → Writes text (moved a b f g) (Err WriteFault)
 line_cut a b f g given text is part later rose = record { written = record { part = subst (AppendsPrefix a b) is part; cause = λ _. rose }; later = later }
 
 pub no_line : (a : Option (List ℕ)) (f : ℕ) (text : List ℕ) → Writes text (moved a a f f) (Err Memory)
@@ -131,7 +134,8 @@ sound_finishes verdict image file asked out err status finishes sound same =
     (subst (λ bytes. Finishes (sound_answer asked bytes) out err status) same finishes)
 
 pub readable_finishes : (rows : Rows) (image file : List ℕ) (asked : Request) (out err : Change) (status : ℕ)
-    → Finishes (sound_answer asked file) out err status → faults_by_rows rows image ≡ [] → file ≡ image → Finishes (judged_answer (verdict_by rows image) asked image) out err status
+    → Finishes (sound_answer asked file) out err status → faults_by_rows rows image ≡ [] → file ≡ image
+    → Finishes (judged_answer (verdict_by rows image) asked image) out err status
 readable_finishes rows image file asked out err status finishes none same =
     sound_finishes (verdict_by rows image) image file asked out err status finishes (no_verdict rows image none) same
 
@@ -222,18 +226,21 @@ asked_finishes request Stat image out err status is finishes = by_all Stat image
 -- A sound file.
 
 -- what is asked is seen as it is
-pub request_finishes : (seen request : Request) (image : List ℕ) (out err : Change) (status : ℕ) → Some seen ≡ Some request → Finishes (sound_answer seen image) out err status
+pub request_finishes : (seen request : Request) (image : List ℕ) (out err : Change) (status : ℕ) → Some seen ≡ Some request
+    → Finishes (sound_answer seen image) out err status
     → Finishes (sound_answer request image) out err status
 request_finishes seen request image out err status is finishes =
     let same : seen ≡ request = cc in subst (λ it. Finishes (sound_answer it image) out err status) same finishes
 
 -- `get`.
 
-pub found_finishes : (prints : Bool) (values : List (List ℕ)) (first : List ℕ) (others : List (List ℕ)) (out err : Change) (written : Result Unit Cut) (status : ℕ) → values ≡ first ∷ others
+pub found_finishes : (prints : Bool) (values : List (List ℕ)) (first : List ℕ) (others : List (List ℕ)) (out err : Change) (written : Result Unit Cut)
+    (status : ℕ) → values ≡ first ∷ others
     → Writes (value_line prints first ++ values_text prints others) out written → Reports written err status → Finishes (found prints values) out err status
 unfolding values_text
 found_finishes prints values first others out err written status is writes reports =
-    subst (λ data_found. Finishes (found prints data_found) out err status) (sym is) (written_finishes (values_text prints (first ∷ others)) out err written status writes reports)
+    subst (λ data_found. Finishes (found prints data_found) out err status) (sym is)
+    (written_finishes (values_text prints (first ∷ others)) out err written status writes reports)
 
 -- nothing was found
 pub none_found : (prints : Bool) (values : List (List ℕ)) (written : Option (List ℕ)) (faults : ℕ) (err : Change) (status : ℕ) → values ≡ []
@@ -242,7 +249,8 @@ none_found prints values written faults err status none tells =
     subst (λ data_there. Finishes (found prints data_there) (moved written written faults faults) err status) (sym none)
     (told_finishes 9 not_found.err written faults err status (λ five. omega arith) (λ seven. omega arith) tells)
 
-pub data_found : (file : File) (name : Option (List ℕ)) (key : List ℕ) (i : ℕ) → place_of name (databases file) ≡ Some i → i < length (databases file) → data_named file name key ≡ data_under file (database_at file i).fields key
+pub data_found : (file : File) (name : Option (List ℕ)) (key : List ℕ) (i : ℕ) → place_of name (databases file) ≡ Some i → i < length (databases file)
+    → data_named file name key ≡ data_under file (database_at file i).fields key
 unfolding data_named
 data_found file name key i is inside =
     ap (data_at file key) is ∙ ap (data_of_database file key) (slice_get-get_or (databases file) i no_database inside)
@@ -254,7 +262,8 @@ no_data file name key none = ap (data_at file key) none
 -- `dump`.
 
 -- the section of the database with the name was written
-pub section_finishes : (prints : Bool) (image name : List ℕ) (i : ℕ) (out err : Change) (written : Result Unit Cut) (status : ℕ) → place_of (Some name) (databases (file_of image)) ≡ Some i
+pub section_finishes : (prints : Bool) (image name : List ℕ) (i : ℕ) (out err : Change) (written : Result Unit Cut) (status : ℕ)
+    → place_of (Some name) (databases (file_of image)) ≡ Some i
     → i < length (databases (file_of image)) → Writes (database_text prints image (database_at (file_of image) i)) out written → Reports written err status
     → Finishes (dumped prints image (Some name)) out err status
 section_finishes prints image name i out err written status is inside writes reports =
@@ -263,15 +272,19 @@ section_finishes prints image name i out err written status is inside writes rep
     (written_finishes (database_text prints image (database_at (file_of image) i)) out err written status writes reports)
 
 -- no database has the name
-pub no_section : (prints : Bool) (image name : List ℕ) (written : Option (List ℕ)) (faults : ℕ) (err : Change) (status : ℕ) → place_of (Some name) (databases (file_of image)) ≡ None
+pub no_section : (prints : Bool) (image name : List ℕ) (written : Option (List ℕ)) (faults : ℕ) (err : Change) (status : ℕ)
+    → place_of (Some name) (databases (file_of image)) ≡ None
     → Tells not_found.err 9 err status → Finishes (dumped prints image (Some name)) (moved written written faults faults) err status
 no_section prints image name written faults err status none tells =
-    subst (λ place. Finishes (section_answer prints image (database_in (databases (file_of image)) place)) (moved written written faults faults) err status) (sym none)
+    subst (λ place. Finishes (section_answer prints image (database_in (databases (file_of image)) place)) (moved written written faults faults) err status)
+    (sym none)
     (told_finishes 9 not_found.err written faults err status (λ five. omega arith) (λ seven. omega arith) tells)
 
 -- all databases were written
-pub all_finishes : (prints : Bool) (image : List ℕ) (asked : Option (Option (List ℕ))) (name : Option (List ℕ)) (out err : Change) (written : Result Unit Cut) (status : ℕ) → asked ≡ Some None
-    → asked ≡ Some name → Writes (dump_text prints image (databases (file_of image))) out written → Reports written err status → Finishes (dumped prints image name) out err status
+pub all_finishes : (prints : Bool) (image : List ℕ) (asked : Option (Option (List ℕ))) (name : Option (List ℕ)) (out err : Change) (written : Result Unit Cut)
+    (status : ℕ) → asked ≡ Some None
+    → asked ≡ Some name → Writes (dump_text prints image (databases (file_of image))) out written → Reports written err status
+    → Finishes (dumped prints image name) out err status
 all_finishes prints image asked name out err written status none is writes reports =
     let same : None ≡ name = cc in
     subst (λ it. Finishes (dumped prints image it) out err status) same
@@ -308,11 +321,13 @@ text_own_by limit None text answer is = load_own limit (loading_error limit is.s
 pub text_own : (limit : ℕ) (text : List ℕ) (answer : Answer) → IsTextAnswer limit text answer → HasOwnStatus answer
 text_own limit text answer is = text_own_by limit (text_fault text) text answer is
 
-onto_load_own : (limit : ℕ) (error : Option LoadError) (base : Base) (sections : List Section) (answer : Answer) → IsLoadOnto limit error base sections answer → HasOwnStatus answer
+onto_load_own : (limit : ℕ) (error : Option LoadError) (base : Base) (sections : List Section) (answer : Answer) → IsLoadOnto limit error base sections answer
+    → HasOwnStatus answer
 onto_load_own limit (Some error) base sections answer is = error_own limit error answer is
 onto_load_own limit None base sections answer is = done_own is.image answer is.answer_is
 
-onto_text_own : (limit : ℕ) (base : Base) (fault : Option TextFault) (text : List ℕ) (answer : Answer) → IsTextOntoBy limit base fault text answer → HasOwnStatus answer
+onto_text_own : (limit : ℕ) (base : Base) (fault : Option TextFault) (text : List ℕ) (answer : Answer) → IsTextOntoBy limit base fault text answer
+    → HasOwnStatus answer
 onto_text_own limit base (Some fault) text answer is = bad_own _ answer is
 onto_text_own limit base None text answer is = onto_load_own limit (loading_error_onto limit base is.sections) base is.sections answer is.answered
 
@@ -324,7 +339,8 @@ onto_own_by limit None text image answer is = onto_text_own limit (base_of image
 pub onto_own : (limit : ℕ) (text image : List ℕ) (answer : Answer) → IsOntoBy limit (verdict_of image) text image answer → HasOwnStatus answer
 onto_own limit text image answer is = onto_own_by limit (verdict_of image) text image answer is
 
-trial_own_by : (beyond : Bool) (limit : ℕ) (kind : Kind) (seed count : ℕ) (answer : Answer) → IsTrialBy beyond limit kind seed count answer → HasOwnStatus answer
+trial_own_by : (beyond : Bool) (limit : ℕ) (kind : Kind) (seed count : ℕ) (answer : Answer) → IsTrialBy beyond limit kind seed count answer
+    → HasOwnStatus answer
 trial_own_by true limit kind seed count answer is = large_own _ answer is
 trial_own_by false limit kind seed count answer is = done_own _ answer is.answer_is
 
@@ -332,11 +348,13 @@ pub trial_own : (limit : ℕ) (kind : Kind) (seed count : ℕ) (answer : Answer)
 trial_own limit kind seed count answer is = trial_own_by (nat_lt limit (image_size (trial_sections kind seed count))) limit kind seed count answer is
 
 -- an output was written, or cut off, and that was told
-pub written_ends : (allowed : Answer → Type 0) (text : List ℕ) (out err : Change) (written : Result Unit Cut) (status : ℕ) → allowed (done text) → Writes text out written → Reports written err status → Ends allowed out err status
+pub written_ends : (allowed : Answer → Type 0) (text : List ℕ) (out err : Change) (written : Result Unit Cut) (status : ℕ) → allowed (done text)
+    → Writes text out written → Reports written err status → Ends allowed out err status
 written_ends allowed text out err written status is writes reports = Answered (done text) is (written_finishes text out err written status writes reports)
 
 -- it was told why nothing is built
-pub refusal_ends : (allowed : Answer → Type 0) (refusal : Refusal) (written : Option (List ℕ)) (faults : ℕ) (err : Change) (status : ℕ) → IsRefusedAnswer allowed refusal → IsRefusalTold refusal err status
+pub refusal_ends : (allowed : Answer → Type 0) (refusal : Refusal) (written : Option (List ℕ)) (faults : ℕ) (err : Change) (status : ℕ)
+    → IsRefusedAnswer allowed refusal → IsRefusalTold refusal err status
     → Ends allowed (moved written written faults faults) err status
 refusal_ends allowed (FaultyText line) written faults err status is tells =
     Answered (told 8 (string_bytes line)) is (told_finishes 8 (string_bytes line) written faults err status (λ five. omega arith) (λ seven. omega arith) tells)
@@ -354,14 +372,17 @@ pub salvage_own : (guess : Option Guess) (print : Bool) (image : List ℕ) → H
 salvage_own guess print image = salvaged_own (chosen guess image) print image
 
 -- what is salvaged by the guess that was chosen was written, or cut off, and that was told
-pub salvage_finishes : (given : Option Guess) (print : Bool) (image : List ℕ) (guess : Guess) (read : List ℕ) (out err : Change) (written : Result Unit Cut) (status : ℕ) → chosen given image ≡ Some guess → read ≡ image
+pub salvage_finishes : (given : Option Guess) (print : Bool) (image : List ℕ) (guess : Guess) (read : List ℕ) (out err : Change) (written : Result Unit Cut)
+    (status : ℕ) → chosen given image ≡ Some guess → read ≡ image
     → Writes (salvage_text print guess read) out written → Reports written err status → Finishes (salvage_answer given print image) out err status
 salvage_finishes given print image guess read out err written status is same writes reports =
     subst (λ it. Finishes (salvaged_answer it print image) out err status) (sym is)
-    (written_finishes (salvage_text print guess image) out err written status (subst (λ bytes. Writes (salvage_text print guess bytes) out written) same writes) reports)
+    (written_finishes (salvage_text print guess image) out err written status (subst (λ bytes. Writes (salvage_text print guess bytes) out written) same writes)
+    reports)
 
 -- it was told that no guess is known
-pub no_meta_finishes : (given : Option Guess) (print : Bool) (image : List ℕ) (written : Option (List ℕ)) (faults : ℕ) (err : Change) (status : ℕ) → chosen given image ≡ None → Tells (line (codes "no metadata page")) 10 err status
+pub no_meta_finishes : (given : Option Guess) (print : Bool) (image : List ℕ) (written : Option (List ℕ)) (faults : ℕ) (err : Change) (status : ℕ)
+    → chosen given image ≡ None → Tells (line (codes "no metadata page")) 10 err status
     → Finishes (salvage_answer given print image) (moved written written faults faults) err status
 no_meta_finishes given print image written faults err status none tells =
     subst (λ it. Finishes (salvaged_answer it print image) (moved written written faults faults) err status) (sym none)

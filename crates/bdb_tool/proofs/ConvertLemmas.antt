@@ -2,9 +2,9 @@
 use Rattle.std.proofs.Common.{◌≡◌, ◌⊎◌, ℕ, List, inl, inr, sym, subst, arith}
 use Rattle.std.specs.Prelude.{Option, Some, None, Result, Ok, Err}
 use Rattle.bdb_format.specs.declared.kinds.Order.{Order}
-use Rattle.bdb_lines.specs.declared.cut.Cut.{Cut}
-use Rattle.bdb_lines.specs.Printing.{Writes}
-use Rattle.bdb_lines.proofs.PrintingLemmas.{moved}
+use Rattle.bdb_tool_lines.specs.declared.cut.Cut.{Cut}
+use Rattle.bdb_tool_lines.specs.Printing.{Writes}
+use Rattle.bdb_tool_lines.proofs.PrintingLemmas.{moved}
 use Rattle.bdb_model.specs.Answers.{done, overlap_line}
 use Rattle.bdb_tool.specs.FileAnswers.{converted}
 use Rattle.bdb_model.specs.Change.{Change}
@@ -18,7 +18,8 @@ use Rattle.bdb_tool.proofs.AnswerLemmas.{converted_own}
 use Rattle.bdb_tool.proofs.FinishLemmas.{memory_finishes, told_finishes, written_finishes}
 
 -- the line was told as it was made
-pub line_told : (page : ℕ) (text : List ℕ) (err : Change) (status : ℕ) → text ≡ overlap_line page → Tells text 13 err status → Tells (overlap_line page) 13 err status
+pub line_told : (page : ℕ) (text : List ℕ) (err : Change) (status : ℕ) → text ≡ overlap_line page → Tells text 13 err status
+    → Tells (overlap_line page) 13 err status
 line_told page text err status is tells = subst (λ (line : List ℕ). Tells line 13 err status) is tells
 
 -- the image in the order was written
@@ -38,7 +39,8 @@ flipped_printed order image read flipped out err written status same flips write
     (flipped_finishes order read flipped out err written status flips.0 flips.1 writes reports)
 
 -- the page was told, or that memory was wanting for its line
-overlap_finishes : (order : Order) (image : List ℕ) (page : ℕ) (written : Option (List ℕ)) (faults : ℕ) (err : Change) (status : ℕ) → overlap_in order image ≡ Some page
+overlap_finishes : (order : Order) (image : List ℕ) (page : ℕ) (written : Option (List ℕ)) (faults : ℕ) (err : Change) (status : ℕ)
+    → overlap_in order image ≡ Some page
     → (Tells (overlap_line page) 13 err status ⊎ Tells memory_line 7 err status)
     → Finishes (converted (overlap_in order image) order image) (moved written written faults faults) err status
 overlap_finishes order image page written faults err status is (inl tells) =

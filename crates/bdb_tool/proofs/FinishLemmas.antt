@@ -6,18 +6,19 @@ use Rattle.bdb_model.specs.Answers.{Answer, done}
 use Rattle.bdb_model.specs.Change.{Change, Gains, GainsPart}
 use Rattle.bdb_format.proofs.KnownLemmas.{appends_nothing}
 use Rattle.bdb_model.specs.Lines.{memory_line}
-use Rattle.bdb_lines.specs.declared.cut.Cut.{Cut}
-use Rattle.bdb_lines.specs.declared.cut.Cut.TheVariants.{WriteFault, Memory}
+use Rattle.bdb_tool_lines.specs.declared.cut.Cut.{Cut}
+use Rattle.bdb_tool_lines.specs.declared.cut.Cut.TheVariants.{WriteFault, Memory}
 use Rattle.bdb_tool.specs.Parts.{Finishes, HasOwnStatus, Reports, Tells}
-use Rattle.bdb_lines.specs.Printing.{Writes}
-use Rattle.bdb_lines.proofs.PrintingLemmas.{moved}
+use Rattle.bdb_tool_lines.specs.Printing.{Writes}
+use Rattle.bdb_tool_lines.proofs.PrintingLemmas.{moved}
 
 -- what was written whole was written in part
 whole_part : (text : List ℕ) (out : Change) → Gains out text → GainsPart out text
 whole_part text out got = (length text, subst (Gains out) (sym (take-length text)) got)
 
 -- an answer that prints nothing is finished by telling its line
-pub told_finishes : (status : ℕ) (text : List ℕ) (written : Option (List ℕ)) (faults : ℕ) (err : Change) (given : ℕ) → status ≢ 5 → status ≢ 7 → Tells text status err given
+pub told_finishes : (status : ℕ) (text : List ℕ) (written : Option (List ℕ)) (faults : ℕ) (err : Change) (given : ℕ) → status ≢ 5 → status ≢ 7
+    → Tells text status err given
     → Finishes (record { status = status; out = []; err = text }) (moved written written faults faults) err given
 told_finishes status text written faults err given no_fault no_memory tells = record {
   status_is = elim tells.status_is [ inl is ↦ inl is | inr is ↦ inr (inl is) ];
@@ -31,7 +32,8 @@ told_finishes status text written faults err given no_fault no_memory tells = re
 }
 
 -- memory was wanting before anything was printed
-pub memory_finishes : (answer : Answer) (written : Option (List ℕ)) (faults : ℕ) (err : Change) (given : ℕ) → HasOwnStatus answer → Tells memory_line 7 err given → Finishes answer (moved written written faults faults) err given
+pub memory_finishes : (answer : Answer) (written : Option (List ℕ)) (faults : ℕ) (err : Change) (given : ℕ) → HasOwnStatus answer
+    → Tells memory_line 7 err given → Finishes answer (moved written written faults faults) err given
 memory_finishes answer written faults err given own tells = record {
   status_is = elim tells.status_is [ inl is ↦ inr (inr is) | inr is ↦ inr (inl is) ];
   printed = λ is. absurd (elim tells.status_is [ inl seven ↦ own.no_memory (sym is ∙ seven) | inr five ↦ own.no_write_fault (sym is ∙ five) ]);
@@ -44,7 +46,8 @@ memory_finishes answer written faults err given own tells = record {
 }
 
 -- a text was written, or cut off, and that was told
-pub written_finishes : (text : List ℕ) (out err : Change) (written : Result Unit Cut) (status : ℕ) → Writes text out written → Reports written err status → Finishes (done text) out err status
+pub written_finishes : (text : List ℕ) (out err : Change) (written : Result Unit Cut) (status : ℕ) → Writes text out written → Reports written err status
+    → Finishes (done text) out err status
 written_finishes text out err (Ok unit) status writes reports = record {
   status_is = inl reports.0;
   printed = λ _. writes.written;

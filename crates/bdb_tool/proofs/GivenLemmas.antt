@@ -13,10 +13,12 @@ use Rattle.bdb_tool.specs.WordsSeen.{HasGiven, IsNew, given_seen}
 
 -- One more option at the end.
 
-pub is_given-push : (word : List ℕ) (before : List Given) (option : Given) (rest : List Given) → is_given word (before ++ option ∷ rest) ≡ (is_given word before || (bytes_eq option.word word || is_given word rest))
+pub is_given-push : (word : List ℕ) (before : List Given) (option : Given) (rest : List Given) → is_given word (before ++ option ∷ rest)
+    ≡ (is_given word before || (bytes_eq option.word word || is_given word rest))
 is_given-push word before option rest = list_any-append (λ (other : Given). bytes_eq other.word word) before (option ∷ rest)
 
-pub given_other : (word : List ℕ) (before : List Given) (option : Given) (is : Bool) → bytes_eq option.word word ≡ false → is_given word before ≡ is → is_given word (before ++ option ∷ []) ≡ is
+pub given_other : (word : List ℕ) (before : List Given) (option : Given) (is : Bool) → bytes_eq option.word word ≡ false → is_given word before ≡ is
+    → is_given word (before ++ option ∷ []) ≡ is
 given_other word before option true other is =
     is_given-push word before option [] ∙ or_left (is_given word before) _ is
 given_other word before option false other is =
@@ -26,20 +28,24 @@ given_now : (word : List ℕ) (before : List Given) (option : Given) → bytes_e
 given_now word before option same =
     is_given-push word before option [] ∙ or_right (is_given word before) _ (or_left (bytes_eq option.word word) false same)
 
-value_at : (word : List ℕ) (first : Given) (before after : List Given) (same : Bool) → bytes_eq first.word word ≡ same → value_given word before ≡ value_given word after → value_given word (first ∷ before) ≡ value_given word (first ∷ after)
+value_at : (word : List ℕ) (first : Given) (before after : List Given) (same : Bool) → bytes_eq first.word word ≡ same
+    → value_given word before ≡ value_given word after → value_given word (first ∷ before) ≡ value_given word (first ∷ after)
 value_at word first before after true is rest = rw is refl
 value_at word first before after false is rest = rw is rest
 
-value_other : (word : List ℕ) (before : List Given) (option : Given) → bytes_eq option.word word ≡ false → value_given word (before ++ option ∷ []) ≡ value_given word before
+value_other : (word : List ℕ) (before : List Given) (option : Given) → bytes_eq option.word word ≡ false → value_given word (before ++ option ∷ [])
+    ≡ value_given word before
 value_other word [] option other = rw other refl
 value_other word (first ∷ before) option other =
     value_at word first (before ++ option ∷ []) before (bytes_eq first.word word) refl (value_other word before option other)
 
-value_kept : (word : List ℕ) (first : Given) (before : List Given) (same : Bool) → bytes_eq first.word word ≡ same → value_given word (first ∷ before) ≡ None → (bytes_eq first.word word ≡ false) × (value_given word before ≡ None)
+value_kept : (word : List ℕ) (first : Given) (before : List Given) (same : Bool) → bytes_eq first.word word ≡ same → value_given word (first ∷ before) ≡ None
+    → (bytes_eq first.word word ≡ false) × (value_given word before ≡ None)
 value_kept word first before true is none = let some : None ≡ Some first.value = sym none ∙ rw is refl in cc
 value_kept word first before false is none = (is, rw is at none)
 
-value_now : (word : List ℕ) (before : List Given) (option : Given) → bytes_eq option.word word ≡ true → value_given word before ≡ None → value_given word (before ++ option ∷ []) ≡ Some option.value
+value_now : (word : List ℕ) (before : List Given) (option : Given) → bytes_eq option.word word ≡ true → value_given word before ≡ None
+    → value_given word (before ++ option ∷ []) ≡ Some option.value
 value_now word [] option same none = rw same refl
 value_now word (first ∷ before) option same none =
     let parts = value_kept word first before (bytes_eq first.word word) refl none in
@@ -53,7 +59,9 @@ not_given word (first ∷ before) none =
     let parts = value_kept word first before (bytes_eq first.word word) refl none in
     or_from (bytes_eq first.word word) (is_given word before) parts.0 (not_given word before parts.1)
 
-given_head : (word value : List ℕ) (first : Given) (before : List Given) (same : Bool) → bytes_eq first.word word ≡ same → (value_given word before ≡ Some value → is_given word before ≡ true) → value_given word (first ∷ before) ≡ Some value → is_given word (first ∷ before) ≡ true
+given_head : (word value : List ℕ) (first : Given) (before : List Given) (same : Bool) → bytes_eq first.word word ≡ same
+    → (value_given word before ≡ Some value → is_given word before ≡ true) → value_given word (first ∷ before) ≡ Some value → is_given word (first ∷ before)
+    ≡ true
 given_head word value first before true is rest some = or_left (bytes_eq first.word word) (is_given word before) is
 given_head word value first before false is rest some = or_right (bytes_eq first.word word) (is_given word before) (rest (rw is at some))
 
@@ -68,33 +76,42 @@ copied_none : (text : Option (Bor (List ℕ))) → is_some text ≡ false → op
 copied_none None none = refl
 copied_none (Some text) none = cc
 
-has_value : (word : List ℕ) (text : Option (Bor (List ℕ))) (before : List Given) → is_some text ≡ true → value_given word before ≡ option_copied text → is_given word before ≡ true
+has_value : (word : List ℕ) (text : Option (Bor (List ℕ))) (before : List Given) → is_some text ≡ true → value_given word before ≡ option_copied text
+    → is_given word before ≡ true
 has_value word None before some value = cc
 has_value word (Some text) before some value = given_value word text.now before value
 
-pub has_max_bytes : (read : Arguments) (option : GivenOption) (text : Bor (List ℕ)) (before : List Given) → option ≡ MaxBytes text → is_some read.max_bytes ≡ true → HasGiven read before → IsTrue (is_given (given_seen option).word before)
+pub has_max_bytes : (read : Arguments) (option : GivenOption) (text : Bor (List ℕ)) (before : List Given) → option ≡ MaxBytes text
+    → is_some read.max_bytes ≡ true → HasGiven read before → IsTrue (is_given (given_seen option).word before)
 has_max_bytes read option text before is some has =
     rw is (has_value max_bytes read.max_bytes before some has.max_bytes_is)
 
-pub has_name : (read : Arguments) (option : GivenOption) (text : Bor (List ℕ)) (before : List Given) → option ≡ Name text → is_some read.name ≡ true → HasGiven read before → IsTrue (is_given (given_seen option).word before)
+pub has_name : (read : Arguments) (option : GivenOption) (text : Bor (List ℕ)) (before : List Given) → option ≡ Name text → is_some read.name ≡ true
+    → HasGiven read before → IsTrue (is_given (given_seen option).word before)
 has_name read option text before is some has = rw is (has_value name_option read.name before some has.name_is)
 
-pub has_order : (read : Arguments) (option : GivenOption) (text : Bor (List ℕ)) (before : List Given) → option ≡ Order text → is_some read.order ≡ true → HasGiven read before → IsTrue (is_given (given_seen option).word before)
+pub has_order : (read : Arguments) (option : GivenOption) (text : Bor (List ℕ)) (before : List Given) → option ≡ Order text → is_some read.order ≡ true
+    → HasGiven read before → IsTrue (is_given (given_seen option).word before)
 has_order read option text before is some has = rw is (has_value order_option read.order before some has.order_is)
 
-pub has_page_size : (read : Arguments) (option : GivenOption) (text : Bor (List ℕ)) (before : List Given) → option ≡ PageSize text → is_some read.page_size ≡ true → HasGiven read before → IsTrue (is_given (given_seen option).word before)
+pub has_page_size : (read : Arguments) (option : GivenOption) (text : Bor (List ℕ)) (before : List Given) → option ≡ PageSize text
+    → is_some read.page_size ≡ true → HasGiven read before → IsTrue (is_given (given_seen option).word before)
 has_page_size read option text before is some has = rw is (has_value page_size_option read.page_size before some has.page_size_is)
 
-pub has_kind : (read : Arguments) (option : GivenOption) (text : Bor (List ℕ)) (before : List Given) → option ≡ As text → is_some read.kind ≡ true → HasGiven read before
+pub has_kind : (read : Arguments) (option : GivenOption) (text : Bor (List ℕ)) (before : List Given) → option ≡ As text → is_some read.kind ≡ true
+    → HasGiven read before
     → IsTrue (is_given (given_seen option).word before)
 has_kind read option text before is some has = rw is (has_value as_option read.kind before some has.kind_is)
 
-pub has_onto : (read : Arguments) (option : GivenOption) (text : Bor (List ℕ)) (before : List Given) → option ≡ Onto text → is_some read.onto ≡ true → HasGiven read before → IsTrue (is_given (given_seen option).word before)
+pub has_onto : (read : Arguments) (option : GivenOption) (text : Bor (List ℕ)) (before : List Given) → option ≡ Onto text → is_some read.onto ≡ true
+    → HasGiven read before → IsTrue (is_given (given_seen option).word before)
 has_onto read option text before is some has = rw is (has_value onto_option read.onto before some has.onto_is)
 
 -- One more option.
 
-pub with_max_bytes : (old read : Arguments) (option : GivenOption) (text : Bor (List ℕ)) (next : ℕ) (before : List Given) → option ≡ MaxBytes text → is_some old.max_bytes ≡ false → read ≡ record old { max_bytes = Some text } → HasGiven old before → IsNew before (given_seen option) (record read { operands = next })
+pub with_max_bytes : (old read : Arguments) (option : GivenOption) (text : Bor (List ℕ)) (next : ℕ) (before : List Given) → option ≡ MaxBytes text
+    → is_some old.max_bytes ≡ false → read ≡ record old { max_bytes = Some text } → HasGiven old before
+    → IsNew before (given_seen option) (record read { operands = next })
 with_max_bytes old read option text next before is none read_is has =
     let lacks = has.max_bytes_is ∙ copied_none old.max_bytes none in
     rw (is, read_is) (
@@ -114,7 +131,9 @@ with_max_bytes old read option text next before is none read_is has =
       },
     )
 
-pub with_name : (old read : Arguments) (option : GivenOption) (text : Bor (List ℕ)) (next : ℕ) (before : List Given) → option ≡ Name text → is_some old.name ≡ false → read ≡ record old { name = Some text } → HasGiven old before → IsNew before (given_seen option) (record read { operands = next })
+pub with_name : (old read : Arguments) (option : GivenOption) (text : Bor (List ℕ)) (next : ℕ) (before : List Given) → option ≡ Name text
+    → is_some old.name ≡ false → read ≡ record old { name = Some text } → HasGiven old before
+    → IsNew before (given_seen option) (record read { operands = next })
 with_name old read option text next before is none read_is has =
     let lacks = has.name_is ∙ copied_none old.name none in
     rw (is, read_is) (
@@ -134,7 +153,9 @@ with_name old read option text next before is none read_is has =
       },
     )
 
-pub with_order : (old read : Arguments) (option : GivenOption) (text : Bor (List ℕ)) (next : ℕ) (before : List Given) → option ≡ Order text → is_some old.order ≡ false → read ≡ record old { order = Some text } → HasGiven old before → IsNew before (given_seen option) (record read { operands = next })
+pub with_order : (old read : Arguments) (option : GivenOption) (text : Bor (List ℕ)) (next : ℕ) (before : List Given) → option ≡ Order text
+    → is_some old.order ≡ false → read ≡ record old { order = Some text } → HasGiven old before
+    → IsNew before (given_seen option) (record read { operands = next })
 with_order old read option text next before is none read_is has =
     let lacks = has.order_is ∙ copied_none old.order none in
     rw (is, read_is) (
@@ -154,7 +175,9 @@ with_order old read option text next before is none read_is has =
       },
     )
 
-pub with_page_size : (old read : Arguments) (option : GivenOption) (text : Bor (List ℕ)) (next : ℕ) (before : List Given) → option ≡ PageSize text → is_some old.page_size ≡ false → read ≡ record old { page_size = Some text } → HasGiven old before → IsNew before (given_seen option) (record read { operands = next })
+pub with_page_size : (old read : Arguments) (option : GivenOption) (text : Bor (List ℕ)) (next : ℕ) (before : List Given) → option ≡ PageSize text
+    → is_some old.page_size ≡ false → read ≡ record old { page_size = Some text } → HasGiven old before
+    → IsNew before (given_seen option) (record read { operands = next })
 with_page_size old read option text next before is none read_is has =
     let lacks = has.page_size_is ∙ copied_none old.page_size none in
     rw (is, read_is) (
@@ -174,7 +197,9 @@ with_page_size old read option text next before is none read_is has =
       },
     )
 
-pub with_kind : (old read : Arguments) (option : GivenOption) (text : Bor (List ℕ)) (next : ℕ) (before : List Given) → option ≡ As text → is_some old.kind ≡ false → read ≡ record old { kind = Some text } → HasGiven old before → IsNew before (given_seen option) (record read { operands = next })
+pub with_kind : (old read : Arguments) (option : GivenOption) (text : Bor (List ℕ)) (next : ℕ) (before : List Given) → option ≡ As text
+    → is_some old.kind ≡ false → read ≡ record old { kind = Some text } → HasGiven old before
+    → IsNew before (given_seen option) (record read { operands = next })
 with_kind old read option text next before is none read_is has =
     let lacks = has.kind_is ∙ copied_none old.kind none in
     rw (is, read_is) (
@@ -194,7 +219,9 @@ with_kind old read option text next before is none read_is has =
       },
     )
 
-pub with_onto : (old read : Arguments) (option : GivenOption) (text : Bor (List ℕ)) (next : ℕ) (before : List Given) → option ≡ Onto text → is_some old.onto ≡ false → read ≡ record old { onto = Some text } → HasGiven old before → IsNew before (given_seen option) (record read { operands = next })
+pub with_onto : (old read : Arguments) (option : GivenOption) (text : Bor (List ℕ)) (next : ℕ) (before : List Given) → option ≡ Onto text
+    → is_some old.onto ≡ false → read ≡ record old { onto = Some text } → HasGiven old before
+    → IsNew before (given_seen option) (record read { operands = next })
 with_onto old read option text next before is none read_is has =
     let lacks = has.onto_is ∙ copied_none old.onto none in
     rw (is, read_is) (
@@ -214,7 +241,8 @@ with_onto old read option text next before is none read_is has =
       },
     )
 
-pub with_hex : (old read : Arguments) (option : GivenOption) (next : ℕ) (before : List Given) → option ≡ Hex → old.hex ≡ false → read ≡ record old { hex = true } → HasGiven old before → IsNew before (given_seen option) (record read { operands = next })
+pub with_hex : (old read : Arguments) (option : GivenOption) (next : ℕ) (before : List Given) → option ≡ Hex → old.hex ≡ false
+    → read ≡ record old { hex = true } → HasGiven old before → IsNew before (given_seen option) (record read { operands = next })
 with_hex old read option next before is none read_is has =
     rw (is, read_is) (
       has.hex_is ∙ none,
@@ -233,7 +261,8 @@ with_hex old read option next before is none read_is has =
       },
     )
 
-pub with_print : (old read : Arguments) (option : GivenOption) (next : ℕ) (before : List Given) → option ≡ Print → old.print ≡ false → read ≡ record old { print = true } → HasGiven old before → IsNew before (given_seen option) (record read { operands = next })
+pub with_print : (old read : Arguments) (option : GivenOption) (next : ℕ) (before : List Given) → option ≡ Print → old.print ≡ false
+    → read ≡ record old { print = true } → HasGiven old before → IsNew before (given_seen option) (record read { operands = next })
 with_print old read option next before is none read_is has =
     rw (is, read_is) (
       has.print_is ∙ none,
@@ -252,7 +281,8 @@ with_print old read option next before is none read_is has =
       },
     )
 
-pub with_duplicates : (old read : Arguments) (option : GivenOption) (next : ℕ) (before : List Given) → option ≡ Duplicates → old.duplicates ≡ false → read ≡ record old { duplicates = true } → HasGiven old before → IsNew before (given_seen option) (record read { operands = next })
+pub with_duplicates : (old read : Arguments) (option : GivenOption) (next : ℕ) (before : List Given) → option ≡ Duplicates → old.duplicates ≡ false
+    → read ≡ record old { duplicates = true } → HasGiven old before → IsNew before (given_seen option) (record read { operands = next })
 with_duplicates old read option next before is none read_is has =
     rw (is, read_is) (
       has.duplicates_is ∙ none,
@@ -271,7 +301,8 @@ with_duplicates old read option next before is none read_is has =
       },
     )
 
-pub with_dupsort : (old read : Arguments) (option : GivenOption) (next : ℕ) (before : List Given) → option ≡ Dupsort → old.dupsort ≡ false → read ≡ record old { dupsort = true } → HasGiven old before → IsNew before (given_seen option) (record read { operands = next })
+pub with_dupsort : (old read : Arguments) (option : GivenOption) (next : ℕ) (before : List Given) → option ≡ Dupsort → old.dupsort ≡ false
+    → read ≡ record old { dupsort = true } → HasGiven old before → IsNew before (given_seen option) (record read { operands = next })
 with_dupsort old read option next before is none read_is has =
     rw (is, read_is) (
       has.dupsort_is ∙ none,

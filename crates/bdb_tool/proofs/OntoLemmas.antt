@@ -1,5 +1,6 @@
 -- A run with a base.
-use Rattle.std.proofs.Common.{◌≡◌, ◌⊎◌, ℕ, ◌+◌, ◌<◌, ◌≤◌, ◌&&◌, if◌then◌else◌, Bool, true, false, not, true≢false, List, [], length, inl, inr, refl, sym, subst, ◌∙◌, ap, arith}
+use Rattle.std.proofs.Common.{◌≡◌, ◌⊎◌, ℕ, ◌+◌, ◌<◌, ◌≤◌, ◌&&◌, if◌then◌else◌, Bool, true, false, not, true≢false, List, [], length, inl, inr, refl, sym, subst}
+use Rattle.std.proofs.Common.{◌∙◌, ap, arith}
 use Rattle.std.specs.Prelude.{Option, Some, None, nat_lt, is_some}
 use Rattle.std.specs.Io.KnownBytes.{IsAtEnd}
 use Rattle.std.proofs.lemmas.Bool.{le-ltb, lt-ltb}
@@ -12,14 +13,15 @@ use Rattle.bdb_file.specs.Whole.{IsVerdictOf}
 use Rattle.bdb_model.specs.Answers.{Answer, fault_line, told, unsupported_line}
 use Rattle.bdb_model.specs.Change.{Change, HasFailed, IsUncalled, Stays}
 use Rattle.bdb_model.specs.Lines.{memory_line, read_fault_line}
-use Rattle.bdb_lines.proofs.PrintingLemmas.{moved}
+use Rattle.bdb_tool_lines.proofs.PrintingLemmas.{moved}
 use Rattle.bdb_onto.specs.declared.base.Base.{Base}
 use Rattle.bdb_onto.specs.Bases.{IsBaseOf}
-use Rattle.bdb_writing.specs.Ontos.{IsTextOnto}
+use Rattle.bdb_tool_build.specs.Ontos.{IsTextOnto}
 use Rattle.bdb_tool.specs.Commands.{Command, LoadOnto, command_of, command_on, handed, reads_base}
 use Rattle.bdb_tool.specs.Ontos.{IsOntoAnswer, IsOntoBy, IsOntoBySize, base_too_large_line}
 use Rattle.bdb_tool.specs.Outputs.{Asked, asked_alone}
-use Rattle.bdb_tool.specs.Parts.{BaseFailed, BaseRead, BaseTooLong, BaseUnread, Ends, EndsOnto, Finishes, IsRefused, IsTaskAnswered, IsToldOfBase, IsToldStop, Tells, Answered, Unanswered}
+use Rattle.bdb_tool.specs.Parts.{BaseFailed, BaseRead, BaseTooLong, BaseUnread, Ends, EndsOnto, Finishes, IsRefused, IsTaskAnswered, IsToldOfBase, IsToldStop}
+use Rattle.bdb_tool.specs.Parts.{Tells, Answered, Unanswered}
 use Rattle.bdb_tool.specs.Runs.{IsAnswered, IsBaseRead, IsUncalledIf, ReadsBase, RunsAs, RunsOn, asked_on}
 use Rattle.bdb_tool.specs.Tasks.{AreReading, IsInputWithin, IsStopped, IsTaskTaken, IsUnreadable}
 use Rattle.bdb_tool.specs.WordsSeen.{AreOnto}
@@ -29,12 +31,14 @@ use Rattle.bdb_tool.specs.declared.task.Stop.TheVariants.{Usage, TooLarge, ReadF
 use Rattle.bdb_tool.proofs.AnswerLemmas.{onto_own}
 use Rattle.bdb_tool.proofs.FinishLemmas.{memory_finishes, told_finishes}
 use Rattle.bdb_tool.proofs.TaskLemmas.{not_read}
-use Rattle.bdb_tool.proofs.RunLemmas.{CallsSource, calls_read, ended_runs, finished_runs, long_input, own_status, read_fault_runs, some_input, stopped_runs, taken_runs, unanswered_runs, whole_input, within_answers}
+use Rattle.bdb_tool.proofs.RunLemmas.{CallsSource, calls_read, ended_runs, finished_runs, long_input, own_status, read_fault_runs, some_input, stopped_runs}
+use Rattle.bdb_tool.proofs.RunLemmas.{taken_runs, unanswered_runs, whole_input, within_answers}
 
 -- A base that isn't sound.
 
 -- its verdict was told, or that memory was wanting
-pub refused_ends : (verdict : Verdict) (limit : ℕ) (text image : List ℕ) (written : Option (List ℕ)) (faults : ℕ) (err : Change) (status : ℕ) → IsVerdictOf image verdict
+pub refused_ends : (verdict : Verdict) (limit : ℕ) (text image : List ℕ) (written : Option (List ℕ)) (faults : ℕ) (err : Change) (status : ℕ)
+    → IsVerdictOf image verdict
     → IsRefused verdict err status → Ends (IsOntoBy limit (verdict_of image) text image) (moved written written faults faults) err status
 refused_ends (Fault fault) limit text image written faults err status is (inl tells) =
     Answered (told 1 (fault_line fault)) (subst (λ verdict. IsOntoBy limit verdict text image (told 1 (fault_line fault))) (sym is) refl)
@@ -63,8 +67,10 @@ ends_on_base limit base text image out err status is sound (Unanswered stays tel
 
 -- A base that isn't read whole.
 
-base_too_long : (limit : ℕ) (text : List ℕ) (base : Change) (written : Option (List ℕ)) (faults : ℕ) (err : Change) (status : ℕ) → Took (limit + 1) base.before base.now
-    → Tells (base_too_large_line limit) 6 err status ⊎ Tells memory_line 7 err status → EndsOnto limit text base (moved written written faults faults) err status
+base_too_long : (limit : ℕ) (text : List ℕ) (base : Change) (written : Option (List ℕ)) (faults : ℕ) (err : Change) (status : ℕ)
+    → Took (limit + 1) base.before base.now
+    → Tells (base_too_large_line limit) 6 err status ⊎ Tells memory_line 7 err status
+    → EndsOnto limit text base (moved written written faults faults) err status
 base_too_long limit text base written faults err status took (inl tells) =
     BaseTooLong took (told_finishes 6 (base_too_large_line limit) written faults err status (λ is. omega arith) (λ is. omega arith) tells)
 base_too_long limit text base written faults err status took (inr tells) =
@@ -72,7 +78,8 @@ base_too_long limit text base written faults err status took (inr tells) =
     (memory_finishes (told 6 (base_too_large_line limit)) written faults err status
     (record { no_read_fault = λ is. omega arith; no_write_fault = λ is. omega arith; no_memory = λ is. omega arith }) tells)
 
-pub base_stopped : (limit : ℕ) (text : List ℕ) (base : Change) (written : Option (List ℕ)) (faults : ℕ) (err : Change) (stop : Stop) (status : ℕ) → IsUnreadable limit base stop
+pub base_stopped : (limit : ℕ) (text : List ℕ) (base : Change) (written : Option (List ℕ)) (faults : ℕ) (err : Change) (stop : Stop) (status : ℕ)
+    → IsUnreadable limit base stop
     → IsToldOfBase stop err status → EndsOnto limit text base (moved written written faults faults) err status
 base_stopped limit text base written faults err Usage status unread told_line = absurd unread
 base_stopped limit text base written faults err (TooLarge longest) status unread told_line =
@@ -101,7 +108,8 @@ same_limit words limit are command is =
     let same : onto_command limit are.file ≡ command = cc in ap (λ (c : Command). c.limit) same
 
 -- an answer to a base within the limit, and to one beyond it
-within_base : (limit : ℕ) (text image : List ℕ) (answer : Answer) → length image ≤ limit → IsOntoBy limit (verdict_of image) text image answer → IsOntoAnswer limit text image answer
+within_base : (limit : ℕ) (text image : List ℕ) (answer : Answer) → length image ≤ limit → IsOntoBy limit (verdict_of image) text image answer
+    → IsOntoAnswer limit text image answer
 within_base limit text image answer within is = subst (λ beyond. IsOntoBySize beyond limit text image answer) (sym (le-ltb limit (length image) within)) is
 
 beyond_base : (limit : ℕ) (text image : List ℕ) → limit < length image → IsOntoAnswer limit text image (told 6 (base_too_large_line limit))
@@ -111,18 +119,21 @@ beyond_base limit text image beyond =
 -- The whole promise.
 
 -- what is asked where no base is read is what the words say without one
-pub taken_alone : (asked : Asked) (said : Option Command) (source out err : Change) (task : Task) (status : ℕ) → asked.command ≡ said → IsTaskTaken said source task
+pub taken_alone : (asked : Asked) (said : Option Command) (source out err : Change) (task : Task) (status : ℕ) → asked.command ≡ said
+    → IsTaskTaken said source task
     → IsTaskAnswered task out err status → RunsAs asked source out err status
 taken_alone asked said source out err task status is taken =
     taken_runs asked source out err task status (subst (λ s. IsTaskTaken s source task) (sym is) taken)
 
-pub stopped_alone : (asked : Asked) (said : Option Command) (source err : Change) (written : Option (List ℕ)) (faults : ℕ) (stop : Stop) (status : ℕ) → asked.command ≡ said
+pub stopped_alone : (asked : Asked) (said : Option Command) (source err : Change) (written : Option (List ℕ)) (faults : ℕ) (stop : Stop) (status : ℕ)
+    → asked.command ≡ said
     → IsStopped said source stop → IsToldStop stop err status → RunsAs asked source (moved written written faults faults) err status
 stopped_alone asked said source err written faults stop status is stopped =
     stopped_runs asked source err written faults stop status (subst (λ s. IsStopped s source stop) (sym is) stopped)
 
 -- without a base no command reads one
-no_base_by : (b : Bool) (own command : Command) → reads_base own.action ≡ b → (if b && not false then None else Some own) ≡ Some command → reads_base command.action ≡ true → ⊥
+no_base_by : (b : Bool) (own command : Command) → reads_base own.action ≡ b → (if b && not false then None else Some own) ≡ Some command
+    → reads_base command.action ≡ true → ⊥
 no_base_by true own command reads is other = cc is
 no_base_by false own command reads is other =
     let same : own ≡ command = cc is in true≢false (sym other ∙ (sym (ap (λ (c : Command). reads_base c.action) same) ∙ reads))
@@ -132,8 +143,10 @@ no_base None command is reads = cc is
 no_base (Some own) command is reads = no_base_by (reads_base own.action) own command refl is reads
 
 -- words that read no base
-pub alone_runs : (words : List (List ℕ)) (source out err : Change) (bytes : Option (List ℕ)) (faults status : ℕ) → command_on words true ≡ command_on words false
-    → ((asked : Asked) → asked.command ≡ command_on words false → RunsAs asked source out err status) → RunsOn words source (Some (moved bytes bytes faults faults)) out err status
+pub alone_runs : (words : List (List ℕ)) (source out err : Change) (bytes : Option (List ℕ)) (faults status : ℕ)
+    → command_on words true ≡ command_on words false
+    → ((asked : Asked) → asked.command ≡ command_on words false → RunsAs asked source out err status)
+    → RunsOn words source (Some (moved bytes bytes faults faults)) out err status
 alone_runs words source out err bytes faults status same runs =
     let image = some_input bytes in
     record {
@@ -155,11 +168,13 @@ runs_without words source out err status runs = record {
   base_whole = λ command is reads. absurd (no_base (command_of words) command is reads);
 }
 
-pub alone_of : (words : List (List ℕ)) (source out err : Change) (status : ℕ) → RunsOn words source None out err status → RunsAs (asked_alone words) source out err status
+pub alone_of : (words : List (List ℕ)) (source out err : Change) (status : ℕ) → RunsOn words source None out err status
+    → RunsAs (asked_alone words) source out err status
 alone_of words source out err status run = subst (λ image. RunsAs (asked_on words None image) source out err status) run.image_is run.runs
 
 -- a text that isn't read
-pub unread_runs : (words : List (List ℕ)) (limit : ℕ) (source err : Change) (bytes written : Option (List ℕ)) (counted faults : ℕ) (stop : Stop) (status : ℕ) → AreOnto words limit
+pub unread_runs : (words : List (List ℕ)) (limit : ℕ) (source err : Change) (bytes written : Option (List ℕ)) (counted faults : ℕ) (stop : Stop) (status : ℕ)
+    → AreOnto words limit
     → IsUnreadable limit source stop → IsToldStop stop err status
     → RunsOn words source (Some (moved bytes bytes counted counted)) (moved written written faults faults) err status
 unread_runs words limit source err bytes written counted faults stop status are unread told_line =
@@ -182,12 +197,14 @@ unread_runs words limit source err bytes written counted faults stop status are 
       elim tells.status_is [ inl six ↦ six | inr five ↦ absurd (answered.1 five) ],
       subst (λ n. Took (n + 1) source.before source.now) same unread.1,
     )
-    by_stop (TooLarge longest) command same unread (inr tells) answered = absurd (elim tells.status_is [ inl seven ↦ answered.2 seven | inr five ↦ answered.1 five ])
+    by_stop (TooLarge longest) command same unread (inr tells) answered = absurd
+        (elim tells.status_is [ inl seven ↦ answered.2 seven | inr five ↦ answered.1 five ])
     by_stop ReadFault command same unread tells answered = absurd (elim tells.status_is [ inl four ↦ answered.0 four | inr five ↦ answered.1 five ])
     by_stop MemoryStop command same unread tells answered = absurd (elim tells.status_is [ inl seven ↦ answered.2 seven | inr five ↦ answered.1 five ])
 
 -- a text that is loaded onto a base
-pub onto_runs : (words : List (List ℕ)) (limit : ℕ) (text : List ℕ) (source base out err : Change) (status : ℕ) → AreOnto words limit → IsInputWithin limit source text
+pub onto_runs : (words : List (List ℕ)) (limit : ℕ) (text : List ℕ) (source base out err : Change) (status : ℕ) → AreOnto words limit
+    → IsInputWithin limit source text
     → EndsOnto limit text base out err status → RunsOn words source (Some base) out err status
 onto_runs words limit text source base out err status are read (BaseRead image within ends) =
     let asked : Asked = asked_on words (Some base) image in
@@ -196,7 +213,8 @@ onto_runs words limit text source base out err status are read (BaseRead image w
       image = image;
       image_is = whole_input base.before base.now image within.bytes within.end;
       runs =
-          ended_runs asked source out err text command (IsOntoBy limit (verdict_of image) text image) status (whole_input source.before source.now text read.bytes read.end) (on_base words limit are)
+          ended_runs asked source out err text command (IsOntoBy limit (verdict_of image) text image) status
+          (whole_input source.before source.now text read.bytes read.end) (on_base words limit are)
           (λ answer allows. (
             within_answers asked text command answer (on_base words limit are) read.within (within_base limit text image answer within.within allows),
             (onto_own limit text image answer allows).no_read_fault,
@@ -215,11 +233,16 @@ onto_runs words limit text source base out err status are read (BaseTooLong took
       image_is = image.1;
       runs =
           finished_runs asked source out err text answer status (whole_input source.before source.now text read.bytes read.end)
-          (within_answers asked text command answer (on_base words limit are) read.within (beyond_base limit text image.0 image.2)) (λ four. omega arith) finishes
+          (within_answers asked text command answer (on_base words limit are) read.within (beyond_base limit text image.0 image.2)) (λ four. omega arith)
+          finishes
           (calls_read asked source command status (on_base words limit are) refl read.end);
       base_called = inr (reads_it words limit are, read.end);
       base_whole = λ other is reads answered.
-          inl (inr (own_status answer out err status finishes answered, subst (λ n. Took (n + 1) base.before base.now) (same_limit words limit are other is) took));
+          inl (inr (
+            own_status answer out err status finishes answered,
+            subst (λ n. Took (n + 1) base.before base.now) (same_limit words limit are other is)
+                took,
+          ));
     }
 onto_runs words limit text source base out err status are read (BaseFailed failed stays tells) =
     let image = some_input base.before in
@@ -236,7 +259,8 @@ onto_runs words limit text source base out err status are read (BaseUnread stays
       image = image.0;
       image_is = image.1;
       runs =
-          unanswered_runs (asked_on words (Some base) image.0) source out err status (onto_command limit are.file) (on_base words limit are) (λ unread. absurd (true≢false unread)) stays tells;
+          unanswered_runs (asked_on words (Some base) image.0) source out err status (onto_command limit are.file) (on_base words limit are)
+          (λ unread. absurd (true≢false unread)) stays tells;
       base_called = inr (reads_it words limit are, read.end);
       base_whole = λ other is reads answered. absurd (elim tells.status_is [ inl seven ↦ answered.2 seven | inr five ↦ answered.1 five ]);
     }

@@ -9,9 +9,9 @@ use Rattle.bdb_format.specs.Flags.{is_recno, kind_of}
 use Rattle.bdb_format.specs.Lists.{ListKey, btree_list, list_of}
 use Rattle.bdb_format.specs.Page.{Metadata, BtreeFields}
 use Rattle.bdb_file.specs.Named.{database_at, no_database}
-use Rattle.bdb_lines.specs.declared.cut.Cut.{Cut}
-use Rattle.bdb_lines.specs.Printing.{Writes}
-use Rattle.bdb_lines.proofs.PrintingLemmas.{moved}
+use Rattle.bdb_tool_lines.specs.declared.cut.Cut.{Cut}
+use Rattle.bdb_tool_lines.specs.Printing.{Writes}
+use Rattle.bdb_tool_lines.proofs.PrintingLemmas.{moved}
 use Rattle.bdb_model.specs.Answers.{database_in, done, not_btree, not_found, pairs_text}
 use Rattle.bdb_tool.specs.FileAnswers.{range_answer, ranged}
 use Rattle.bdb_model.specs.Change.{Change}
@@ -41,7 +41,8 @@ database_there : (file : File) (name : Option (List ℕ)) (i : ℕ) → place_of
     → database_in (databases file) (place_of name (databases file)) ≡ Some (database_at file i)
 database_there file name i is inside = ap (database_in (databases file)) is ∙ slice_get-get_or (databases file) i no_database inside
 
-pub no_database_finishes : (prints : Bool) (file : File) (name : Option (List ℕ)) (from to : List ℕ) (written : Option (List ℕ)) (faults : ℕ) (err : Change) (status : ℕ)
+pub no_database_finishes : (prints : Bool) (file : File) (name : Option (List ℕ)) (from to : List ℕ) (written : Option (List ℕ)) (faults : ℕ) (err : Change)
+    (status : ℕ)
     → place_of name (databases file) ≡ None → Tells not_found.err 9 err status
     → Finishes (ranged prints file name from to) (moved written written faults faults) err status
 no_database_finishes prints file name from to written faults err status none tells =
@@ -57,7 +58,8 @@ by_kind prints file name from to i is place inside kind =
     ap (range_answer prints file from to) (database_there file name i place inside)
     ∙ ap (λ b. if b then done (pairs_text prints (in_range (list_of file (database_at file i).fields) from to)) else not_btree) kind
 
-pub no_btree_finishes : (prints : Bool) (file : File) (name : Option (List ℕ)) (from to : List ℕ) (i : ℕ) (written : Option (List ℕ)) (faults : ℕ) (err : Change) (status : ℕ)
+pub no_btree_finishes : (prints : Bool) (file : File) (name : Option (List ℕ)) (from to : List ℕ) (i : ℕ) (written : Option (List ℕ)) (faults : ℕ)
+    (err : Change) (status : ℕ)
     → place_of name (databases file) ≡ Some i → i < length (databases file) → is_btree (kind_of (database_at file i).fields) ≡ false
     → Tells not_btree.err 12 err status
     → Finishes (ranged prints file name from to) (moved written written faults faults) err status
@@ -66,7 +68,8 @@ no_btree_finishes prints file name from to i written faults err status place ins
     (told_finishes 12 not_btree.err written faults err status (λ five. omega arith) (λ seven. omega arith) tells)
 
 -- the pairs of the range were written
-pub pairs_finish : (prints : Bool) (file : File) (name : Option (List ℕ)) (from to : List ℕ) (i : ℕ) (pairs : List (ListKey × List ℕ)) (out err : Change) (written : Result Unit Cut) (status : ℕ)
+pub pairs_finish : (prints : Bool) (file : File) (name : Option (List ℕ)) (from to : List ℕ) (i : ℕ) (pairs : List (ListKey × List ℕ)) (out err : Change)
+    (written : Result Unit Cut) (status : ℕ)
     → place_of name (databases file) ≡ Some i → i < length (databases file) → is_btree (kind_of (database_at file i).fields) ≡ true
     → pairs ≡ in_range (list_of file (database_at file i).fields) from to → Writes (pairs_text prints pairs) out written → Reports written err status
     → Finishes (ranged prints file name from to) out err status
@@ -83,7 +86,8 @@ pub range_printed : (prints : Bool) (file : File) (asked : Option (Option (List 
     → Some i ≡ place_of found (databases file) → i < length (databases file)
     → (is_btree (kind_of (database_at file i).fields) ≡ true) × (pairs ≡ in_range (list_of file (database_at file i).fields) from_given to_given)
     → Writes (pairs_text prints pairs) out written → Reports written err status
-    → (name : Option (List ℕ)) (from to : List ℕ) → asked ≡ Some name → first ≡ Some from → second ≡ Some to → Finishes (ranged prints file name from to) out err status
+    → (name : Option (List ℕ)) (from to : List ℕ) → asked ≡ Some name → first ≡ Some from → second ≡ Some to
+    → Finishes (ranged prints file name from to) out err status
 range_printed prints file asked first second sought found from_read to_read from_given to_given i pairs out err written status is begins ends
     named begun ended place inside both writes reports name from to asked_is first_is second_is =
     let same_name : found ≡ name = cc in
@@ -97,7 +101,8 @@ range_printed prints file asked first second sought found from_read to_read from
 pub no_btree_told : (prints : Bool) (file : File) (asked : Option (Option (List ℕ))) (sought found : Option (List ℕ)) (i : ℕ)
     → (written : Option (List ℕ)) (faults : ℕ) (err : Change) (status : ℕ) → asked ≡ Some sought → found ≡ sought → Some i ≡ place_of found (databases file)
     → i < length (databases file) → is_btree (kind_of (database_at file i).fields) ≡ false → Tells not_btree.err 12 err status
-    → (name : Option (List ℕ)) (from to : List ℕ) → asked ≡ Some name → Finishes (ranged prints file name from to) (moved written written faults faults) err status
+    → (name : Option (List ℕ)) (from to : List ℕ) → asked ≡ Some name → Finishes (ranged prints file name from to) (moved written written faults faults) err
+    status
 no_btree_told prints file asked sought found i written faults err status is named place inside kind tells name from to asked_is =
     let same_name : found ≡ name = cc in
     subst (λ it. Finishes (ranged prints file it from to) (moved written written faults faults) err status) same_name

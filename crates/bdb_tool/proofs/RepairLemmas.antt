@@ -3,9 +3,9 @@ use Rattle.std.proofs.Common.{◌≡◌, ◌⊎◌, ℕ, Bool, true, false, List
 use Rattle.std.specs.Prelude.{nat_lt}
 use Rattle.bdb_format.proofs.KnownLemmas.{keeps_itself}
 use Rattle.bdb_text_format.specs.declared.sections.Section.{Section}
-use Rattle.bdb_lines.specs.declared.cut.Cut.{Cut}
-use Rattle.bdb_lines.specs.Printing.{Writes}
-use Rattle.bdb_lines.proofs.PrintingLemmas.{moved}
+use Rattle.bdb_tool_lines.specs.declared.cut.Cut.{Cut}
+use Rattle.bdb_tool_lines.specs.Printing.{Writes}
+use Rattle.bdb_tool_lines.proofs.PrintingLemmas.{moved}
 use Rattle.bdb_mkfile.specs.Builds.{image_size}
 use Rattle.bdb_model.specs.Answers.{Answer, done, told}
 use Rattle.bdb_model.specs.Change.{Change}
@@ -20,7 +20,7 @@ use Rattle.bdb_survey.specs.declared.guess.Guess.{Guess}
 use Rattle.bdb_tool.specs.Outputs.{IsImageBy, IsRepairAnswer, IsRepairBy, no_metadata}
 use Rattle.bdb_tool.specs.Parts.{Answered, Ends, HasOwnStatus, Reports, Tells, Unanswered}
 use Rattle.bdb_tool.proofs.FinishLemmas.{told_finishes, written_finishes}
-use Rattle.bdb_writing.specs.Lines.{image_too_large_line}
+use Rattle.bdb_tool_build.specs.Lines.{image_too_large_line}
 
 -- What is repaired is an answer.
 
@@ -57,7 +57,8 @@ pub built_ends : (limit : ℕ) (shape : Option Shape) (given : Option Guess) (im
 built_ends limit shape given image built out err written status is writes reports =
     Answered (done built) (built_by limit shape (chosen given image) image built is) (written_finishes built out err written status writes reports)
 
-pub no_guess_ends : (limit : ℕ) (shape : Option Shape) (given : Option Guess) (image : List ℕ) (written : Option (List ℕ)) (faults : ℕ) (err : Change) (status : ℕ)
+pub no_guess_ends : (limit : ℕ) (shape : Option Shape) (given : Option Guess) (image : List ℕ) (written : Option (List ℕ)) (faults : ℕ) (err : Change)
+    (status : ℕ)
     → IsRepaired limit shape (chosen given image) image (Err NoMeta) → Tells no_metadata.err 10 err status
     → Ends (IsRepairAnswer limit shape given image) (moved written written faults faults) err status
 no_guess_ends limit shape given image written faults err status is tells =

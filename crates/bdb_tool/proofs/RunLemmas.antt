@@ -1,5 +1,6 @@
 -- From what a run takes, and how it writes its answer, to its whole promise.
-use Rattle.std.proofs.Common.{◌≡◌, ◌≢◌, ◌⊎◌, ℕ, ◌+◌, ◌<◌, ◌≤◌, ◌&&◌, Bool, true, false, List, [], length, inl, inr, refl, sym, subst, ◌∙◌, ap, arith, length-append, append-nil}
+use Rattle.std.proofs.Common.{◌≡◌, ◌≢◌, ◌⊎◌, ℕ, ◌+◌, ◌<◌, ◌≤◌, ◌&&◌, Bool, true, false, List, [], length, inl, inr, refl, sym, subst, ◌∙◌, ap, arith}
+use Rattle.std.proofs.Common.{length-append, append-nil}
 use Rattle.std.specs.Prelude.{Option, Some, None, nat_lt}
 use Rattle.std.specs.Io.KnownBytes.{Consumes, IsAtEnd}
 use Rattle.std.proofs.lemmas.Bool.{le-ltb, lt-ltb}
@@ -9,10 +10,11 @@ use Rattle.bdb_file.specs.declared.rows.Rows.TheVariants.{All}
 use Rattle.bdb_format.specs.Faults.{Rose, Took}
 use Rattle.bdb_model.specs.Lines.{memory_line, read_fault_line, write_fault_line}
 use Rattle.bdb_format.proofs.KnownLemmas.{keeps_itself}
-use Rattle.bdb_writing.specs.Loads.{IsTextAnswer}
-use Rattle.bdb_writing.specs.Trials.{IsTrialAnswer}
+use Rattle.bdb_tool_build.specs.Loads.{IsTextAnswer}
+use Rattle.bdb_tool_build.specs.Trials.{IsTrialAnswer}
 use Rattle.bdb_tool.specs.Commands.{Ask, Command, Load, command_on, reads_input}
-use Rattle.bdb_tool.specs.Outputs.{AnswersInPart, Asked, IsActionAnswer, IsAnswerBySize, IsAnswerTo, IsCommandAnswer, IsInput, IsRepairAnswer, Output, StatusIs, asked_alone, asked_answer, salvage_answer}
+use Rattle.bdb_tool.specs.Outputs.{AnswersInPart, Asked, IsActionAnswer, IsAnswerBySize, IsAnswerTo, IsCommandAnswer, IsInput, IsRepairAnswer, Output, StatusIs}
+use Rattle.bdb_tool.specs.Outputs.{asked_alone, asked_answer, salvage_answer}
 use Rattle.bdb_tool.specs.Parts.{Answered, Ends, Finishes, IsTaskAnswered, IsToldStop, Tells, Unanswered}
 use Rattle.bdb_tool.specs.Runs.{ErrorLine, HasFailedReading, IsAnswered, OfAnswer, OfMemory, OfReadFault, OfWriteFault, RunsAs, RunsOn, asked_on}
 use Rattle.bdb_tool.specs.Tasks.{AreReading, IsRead, IsStopped, IsTaskTaken, IsTooLong}
@@ -22,12 +24,13 @@ use Rattle.bdb_tool.specs.declared.command.Trial.{Trial as CodeTrial}
 use Rattle.bdb_tool.specs.declared.task.Stop.{Stop}
 use Rattle.bdb_tool.specs.declared.task.Stop.TheVariants.{Usage, TooLarge, ReadFault, Memory as MemoryStop}
 use Rattle.bdb_tool.specs.declared.task.Task.{Task}
-use Rattle.bdb_tool.specs.declared.task.Task.TheVariants.{Ask as AskTask, Read as ReadTask, Load as LoadTask, Salvage as SalvageTask, Repair as RepairTask, Trial as TrialTask}
+use Rattle.bdb_tool.specs.declared.task.Task.TheVariants.{Ask as AskTask, Read as ReadTask, Load as LoadTask, Salvage as SalvageTask, Repair as RepairTask}
+use Rattle.bdb_tool.specs.declared.task.Task.TheVariants.{Trial as TrialTask}
 use Rattle.bdb_tool.proofs.TellingLemmas.{asked_own}
 use Rattle.bdb_tool.proofs.AnswerLemmas.{salvage_own, text_own, trial_own}
 use Rattle.bdb_tool.proofs.FinishLemmas.{memory_finishes, told_finishes}
 use Rattle.bdb_tool.proofs.RepairLemmas.{repair_own}
-use Rattle.bdb_lines.proofs.PrintingLemmas.{moved}
+use Rattle.bdb_tool_lines.proofs.PrintingLemmas.{moved}
 
 -- The input.
 
@@ -57,7 +60,8 @@ output_of asks input answer is = record { answer = answer; answers = is; out_is 
 usage_answers : (asks : Asked) (input : List ℕ) → asks.command ≡ None → IsAnswerTo asks input usage
 usage_answers asks input none = subst (λ command. IsCommandAnswer command input asks.image usage) (sym none) refl
 
-command_answers : (asks : Asked) (input : List ℕ) (command : Command) (answer : Answer) → asks.command ≡ Some command → IsCommandAnswer (Some command) input asks.image answer → IsAnswerTo asks input answer
+command_answers : (asks : Asked) (input : List ℕ) (command : Command) (answer : Answer) → asks.command ≡ Some command
+    → IsCommandAnswer (Some command) input asks.image answer → IsAnswerTo asks input answer
 command_answers asks input command answer is answers = subst (λ it. IsCommandAnswer it input asks.image answer) (sym is) answers
 
 within_limit : (reads : Bool) (limit : ℕ) (input : List ℕ) → length input ≤ limit → (reads && nat_lt limit (length input)) ≡ false
@@ -65,25 +69,30 @@ within_limit true limit input within = le-ltb limit (length input) within
 within_limit false limit input within = refl
 
 -- an answer to an input within the limit
-pub within_answers : (asks : Asked) (input : List ℕ) (command : Command) (answer : Answer) → asks.command ≡ Some command → length input ≤ command.limit → IsActionAnswer command.action command.limit input asks.image answer
+pub within_answers : (asks : Asked) (input : List ℕ) (command : Command) (answer : Answer) → asks.command ≡ Some command → length input ≤ command.limit
+    → IsActionAnswer command.action command.limit input asks.image answer
     → IsAnswerTo asks input answer
 within_answers asks input command answer is within answers =
     command_answers asks input command answer is
-    (subst (λ beyond. IsAnswerBySize beyond command input asks.image answer) (sym (within_limit (reads_input command.action) command.limit input within)) answers)
+    (subst (λ beyond. IsAnswerBySize beyond command input asks.image answer) (sym (within_limit (reads_input command.action) command.limit input within))
+    answers)
 
 beyond_limit : (reads : Bool) (limit : ℕ) (input : List ℕ) → reads ≡ true → limit < length input → (reads && nat_lt limit (length input)) ≡ true
 beyond_limit true limit input is beyond = lt-ltb limit (length input) beyond
 beyond_limit false limit input is beyond = absurd cc
 
 -- the answer to an input beyond the limit
-beyond_answers : (asks : Asked) (input : List ℕ) (command : Command) → asks.command ≡ Some command → reads_input command.action ≡ true → command.limit < length input
+beyond_answers : (asks : Asked) (input : List ℕ) (command : Command) → asks.command ≡ Some command → reads_input command.action ≡ true
+    → command.limit < length input
     → IsAnswerTo asks input (told 6 (too_large_line command.limit))
 beyond_answers asks input command is reads beyond =
     command_answers asks input command (told 6 (too_large_line command.limit)) is
-    (subst (λ it. IsAnswerBySize it command input asks.image (told 6 (too_large_line command.limit))) (sym (beyond_limit (reads_input command.action) command.limit input reads beyond)) refl)
+    (subst (λ it. IsAnswerBySize it command input asks.image (told 6 (too_large_line command.limit)))
+    (sym (beyond_limit (reads_input command.action) command.limit input reads beyond)) refl)
 
 -- no answer depends on the input of a command that reads none
-unread_answers : (asks : Asked) (input : List ℕ) (command : Command) (answer : Answer) → asks.command ≡ Some command → reads_input command.action ≡ false → IsActionAnswer command.action command.limit input asks.image answer
+unread_answers : (asks : Asked) (input : List ℕ) (command : Command) (answer : Answer) → asks.command ≡ Some command → reads_input command.action ≡ false
+    → IsActionAnswer command.action command.limit input asks.image answer
     → IsAnswerTo asks input answer
 unread_answers asks input command answer is unread answers =
     command_answers asks input command answer is
@@ -111,23 +120,32 @@ not_a_read_fault : (answer : Answer) (out err : Change) (status : ℕ) → answe
 not_a_read_fault answer out err status other finishes is =
     elim finishes.status_is [ inl own ↦ other (sym own ∙ is) | inr (inl five) ↦ omega arith | inr (inr seven) ↦ omega arith ]
 
-begun_line : (asks : Asked) (source err : Change) (input : List ℕ) (answer : Answer) → IsInput source.before input → IsAnswerTo asks input answer → GainsPart err write_fault_line ⊎ (GainsPart err memory_line ⊎ GainsPart err answer.err)
+begun_line : (asks : Asked) (source err : Change) (input : List ℕ) (answer : Answer) → IsInput source.before input → IsAnswerTo asks input answer
+    → GainsPart err write_fault_line ⊎ (GainsPart err memory_line ⊎ GainsPart err answer.err)
     → (text : List ℕ) × ErrorLine asks source text × GainsPart err text
 begun_line asks source err input answer is answers (inl part) = (write_fault_line, OfWriteFault refl, part)
 begun_line asks source err input answer is answers (inr (inl part)) = (memory_line, OfMemory refl, part)
-begun_line asks source err input answer is answers (inr (inr part)) = (answer.err, OfAnswer input answer.out answer.status is (output_of asks input answer answers), part)
+begun_line asks source err input answer is answers (inr (inr part)) = (
+  answer.err,
+  OfAnswer input answer.out answer.status is
+      (output_of asks input answer answers),
+  part,
+)
 
 -- when the source is called
 pub record CallsSource (asks : Asked) (source : Change) (status : ℕ) : Type 0 where
   pub usage : asks.command ≡ None → ((status ≡ 2) ⊎ (status ≡ 5)) × IsUncalled source
   pub unread : (command : Command) → asks.command ≡ Some command → reads_input command.action ≡ false → IsUncalled source
-  pub read_whole : (command : Command) → asks.command ≡ Some command → reads_input command.action ≡ true → IsAnswered status → IsAtEnd source.now ⊎ ((status ≡ 6) × Took (command.limit + 1) source.before source.now)
+  pub read_whole : (command : Command) → asks.command ≡ Some command → reads_input command.action ≡ true → IsAnswered status
+      → IsAtEnd source.now ⊎ ((status ≡ 6) × Took (command.limit + 1) source.before source.now)
 
-part_of : (asks : Asked) (source out : Change) (input : List ℕ) (answer : Answer) → IsInput source.before input → IsAnswerTo asks input answer → GainsPart out answer.out → AnswersInPart asks source out
+part_of : (asks : Asked) (source out : Change) (input : List ℕ) (answer : Answer) → IsInput source.before input → IsAnswerTo asks input answer
+    → GainsPart out answer.out → AnswersInPart asks source out
 part_of asks source out input answer is answers part = inr (input, is, answer.out, answer.err, answer.status, output_of asks input answer answers, part)
 
 -- an answer that was written, or not whole
-pub finished_runs : (asks : Asked) (source out err : Change) (input : List ℕ) (answer : Answer) (status : ℕ) → IsInput source.before input → IsAnswerTo asks input answer → answer.status ≢ 4 → Finishes answer out err status
+pub finished_runs : (asks : Asked) (source out err : Change) (input : List ℕ) (answer : Answer) (status : ℕ) → IsInput source.before input
+    → IsAnswerTo asks input answer → answer.status ≢ 4 → Finishes answer out err status
     → CallsSource asks source status → RunsAs asks source out err status
 finished_runs asks source out err input answer status is answers other finishes calls =
     record {
@@ -153,7 +171,8 @@ finished_runs asks source out err input answer status is answers other finishes 
     }
 
 -- memory was wanting before an answer was known
-pub unanswered_runs : (asks : Asked) (source out err : Change) (status : ℕ) (command : Command) → asks.command ≡ Some command → (reads_input command.action ≡ false → IsUncalled source) → Stays out → Tells memory_line 7 err status
+pub unanswered_runs : (asks : Asked) (source out err : Change) (status : ℕ) (command : Command) → asks.command ≡ Some command
+    → (reads_input command.action ≡ false → IsUncalled source) → Stays out → Tells memory_line 7 err status
     → RunsAs asks source out err status
 unanswered_runs asks source out err status command is uncalled stays tells = record {
   answers = λ answered. absurd (elim tells.status_is [ inl seven ↦ answered.2 seven | inr five ↦ answered.1 five ]);
@@ -169,8 +188,10 @@ unanswered_runs asks source out err status command is uncalled stays tells = rec
 }
 
 -- an answer of a relation was written, or memory was wanting before one was known
-pub ended_runs : (asks : Asked) (source out err : Change) (input : List ℕ) (command : Command) (allowed : Answer → Type 0) (status : ℕ) → IsInput source.before input → asks.command ≡ Some command
-    → ((answer : Answer) → allowed answer → IsAnswerTo asks input answer × (answer.status ≢ 4)) → (reads_input command.action ≡ false → IsUncalled source) → CallsSource asks source status → Ends allowed out err status
+pub ended_runs : (asks : Asked) (source out err : Change) (input : List ℕ) (command : Command) (allowed : Answer → Type 0) (status : ℕ)
+    → IsInput source.before input → asks.command ≡ Some command
+    → ((answer : Answer) → allowed answer → IsAnswerTo asks input answer × (answer.status ≢ 4)) → (reads_input command.action ≡ false → IsUncalled source)
+    → CallsSource asks source status → Ends allowed out err status
     → RunsAs asks source out err status
 ended_runs asks source out err input command allowed status is command_is answers uncalled calls (Answered answer allows finishes) =
     finished_runs asks source out err input answer status is (answers answer allows).0 (answers answer allows).1 finishes calls
@@ -178,7 +199,8 @@ ended_runs asks source out err input command allowed status is command_is answer
     unanswered_runs asks source out err status command command_is uncalled stays tells
 
 -- a source that was read to its end
-pub calls_read : (asks : Asked) (source : Change) (command : Command) (status : ℕ) → asks.command ≡ Some command → reads_input command.action ≡ true → IsAtEnd source.now → CallsSource asks source status
+pub calls_read : (asks : Asked) (source : Change) (command : Command) (status : ℕ) → asks.command ≡ Some command → reads_input command.action ≡ true
+    → IsAtEnd source.now → CallsSource asks source status
 calls_read asks source command status is reads end = record {
   usage = λ none. absurd (no_command asks command is none);
   unread = λ other other_is unread. absurd (both_ways (reads_input command.action) reads (reads_same asks command other is other_is ∙ unread));
@@ -186,7 +208,8 @@ calls_read asks source command status is reads end = record {
 }
 
 -- a source that wasn't called
-calls_nothing : (asks : Asked) (source : Change) (command : Command) (status : ℕ) → asks.command ≡ Some command → reads_input command.action ≡ false → IsUncalled source → CallsSource asks source status
+calls_nothing : (asks : Asked) (source : Change) (command : Command) (status : ℕ) → asks.command ≡ Some command → reads_input command.action ≡ false
+    → IsUncalled source → CallsSource asks source status
 calls_nothing asks source command status is unread uncalled = record {
   usage = λ none. absurd (no_command asks command is none);
   unread = λ _ _ _. uncalled;
@@ -194,24 +217,29 @@ calls_nothing asks source command status is unread uncalled = record {
 }
 
 -- what is asked of a file
-asked_runs : (asks : Asked) (source out err : Change) (command : Command) (image : List ℕ) (answer : Answer) (status : ℕ) → IsRead asks.command source command image → IsActionAnswer command.action command.limit image asks.image answer → answer.status ≢ 4
+asked_runs : (asks : Asked) (source out err : Change) (command : Command) (image : List ℕ) (answer : Answer) (status : ℕ)
+    → IsRead asks.command source command image → IsActionAnswer command.action command.limit image asks.image answer → answer.status ≢ 4
     → Finishes answer out err status → RunsAs asks source out err status
 asked_runs asks source out err command image answer status read answers other finishes =
     finished_runs asks source out err image answer status (whole_input source.before source.now image read.input_is.bytes read.input_is.end)
-    (within_answers asks image command answer read.command_is read.input_is.within answers) other finishes (calls_read asks source command status read.command_is read.reads read.input_is.end)
+    (within_answers asks image command answer read.command_is read.input_is.within answers) other finishes
+    (calls_read asks source command status read.command_is read.reads read.input_is.end)
 
 -- a text that is loaded
-loaded_runs : (asks : Asked) (source out err : Change) (limit : ℕ) (text : List ℕ) (status : ℕ) → IsRead asks.command source (record { limit = limit; action = Load }) text → Ends (IsTextAnswer limit text) out err status
+loaded_runs : (asks : Asked) (source out err : Change) (limit : ℕ) (text : List ℕ) (status : ℕ)
+    → IsRead asks.command source (record { limit = limit; action = Load }) text → Ends (IsTextAnswer limit text) out err status
     → RunsAs asks source out err status
 loaded_runs asks source out err limit text status read ends =
     let command : Command = record { limit = limit; action = Load } in
-    ended_runs asks source out err text command (IsTextAnswer limit text) status (whole_input source.before source.now text read.input_is.bytes read.input_is.end) read.command_is
+    ended_runs asks source out err text command (IsTextAnswer limit text) status
+    (whole_input source.before source.now text read.input_is.bytes read.input_is.end) read.command_is
     (λ answer allows. (within_answers asks text command answer read.command_is read.input_is.within allows, (text_own limit text answer allows).no_read_fault))
     (λ unread. absurd (both_ways true refl unread)) (calls_read asks source command status read.command_is read.reads read.input_is.end) ends
 
 -- an image that is repaired
 repaired_runs : (asks : Asked) (source out err : Change) (limit : ℕ) (asked : CodeRepair) (image : List ℕ) (status : ℕ)
-    → IsRead asks.command source (record { limit = limit; action = repair_seen asked }) image → Ends (IsRepairAnswer limit asked.shape asked.guess image) out err status
+    → IsRead asks.command source (record { limit = limit; action = repair_seen asked }) image
+    → Ends (IsRepairAnswer limit asked.shape asked.guess image) out err status
     → RunsAs asks source out err status
 repaired_runs asks source out err limit asked image status read ends =
     let command : Command = record { limit = limit; action = repair_seen asked } in
@@ -223,16 +251,21 @@ repaired_runs asks source out err limit asked image status read ends =
     )) (λ unread. absurd (both_ways true refl unread)) (calls_read asks source command status read.command_is read.reads read.input_is.end) ends
 
 -- a trial
-tried_runs : (asks : Asked) (source out err : Change) (limit : ℕ) (trial : CodeTrial) (status : ℕ) → asks.command ≡ Some (record { limit = limit; action = trial_seen trial }) → IsUncalled source
+tried_runs : (asks : Asked) (source out err : Change) (limit : ℕ) (trial : CodeTrial) (status : ℕ)
+    → asks.command ≡ Some (record { limit = limit; action = trial_seen trial }) → IsUncalled source
     → Ends (IsTrialAnswer limit trial.kind trial.seed trial.count) out err status → RunsAs asks source out err status
 tried_runs asks source out err limit trial status is uncalled ends =
     let command : Command = record { limit = limit; action = trial_seen trial } in
     let input = some_input source.before in
     ended_runs asks source out err input.0 command (IsTrialAnswer limit trial.kind trial.seed trial.count) status input.1 is
-    (λ answer allows. (unread_answers asks input.0 command answer is refl allows, (trial_own limit trial.kind trial.seed trial.count answer allows).no_read_fault))
+    (λ answer allows. (
+      unread_answers asks input.0 command answer is refl allows,
+      (trial_own limit trial.kind trial.seed trial.count answer allows).no_read_fault,
+    ))
     (λ _. uncalled) (calls_nothing asks source command status is refl uncalled) ends
 
-pub taken_runs : (asks : Asked) (source out err : Change) (task : Task) (status : ℕ) → IsTaskTaken asks.command source task → IsTaskAnswered task out err status → RunsAs asks source out err status
+pub taken_runs : (asks : Asked) (source out err : Change) (task : Task) (status : ℕ) → IsTaskTaken asks.command source task → IsTaskAnswered task out err status
+    → RunsAs asks source out err status
 taken_runs asks source out err (ReadTask rows reading image) status taken answered =
     let command : Command = record { limit = taken.limit; action = Ask rows taken.asked } in
     asked_runs asks source out err command image (asked_answer rows taken.asked image) status taken.read refl (asked_own rows taken.asked image).no_read_fault
@@ -244,16 +277,21 @@ taken_runs asks source out err (AskTask request image) status taken answered =
 taken_runs asks source out err (LoadTask text limit) status taken answered = loaded_runs asks source out err limit text status taken.read answered
 taken_runs asks source out err (SalvageTask asked image) status taken answered =
     let command : Command = record { limit = taken.limit; action = salvage_seen asked } in
-    asked_runs asks source out err command image (salvage_answer asked.guess asked.print image) status taken.read refl (salvage_own asked.guess asked.print image).no_read_fault answered
-taken_runs asks source out err (RepairTask asked image limit) status taken answered = repaired_runs asks source out err limit asked image status taken.read answered
-taken_runs asks source out err (TrialTask trial limit) status taken answered = tried_runs asks source out err limit trial status taken.command_is taken.uncalled answered
+    asked_runs asks source out err command image (salvage_answer asked.guess asked.print image) status taken.read refl
+    (salvage_own asked.guess asked.print image).no_read_fault answered
+taken_runs asks source out err (RepairTask asked image limit) status taken answered = repaired_runs asks source out err limit asked image status taken.read
+    answered
+taken_runs asks source out err (TrialTask trial limit) status taken answered = tried_runs asks source out err limit trial status taken.command_is taken.uncalled
+    answered
 
 -- words that are no command
-usage_runs : (asks : Asked) (source err : Change) (written : Option (List ℕ)) (faults status : ℕ) → asks.command ≡ None → IsUncalled source → Finishes usage (moved written written faults faults) err status → ((status ≡ 2) ⊎ (status ≡ 5))
+usage_runs : (asks : Asked) (source err : Change) (written : Option (List ℕ)) (faults status : ℕ) → asks.command ≡ None → IsUncalled source
+    → Finishes usage (moved written written faults faults) err status → ((status ≡ 2) ⊎ (status ≡ 5))
     → RunsAs asks source (moved written written faults faults) err status
 usage_runs asks source err written faults status none uncalled finishes own =
     let input = some_input source.before in
-    finished_runs asks source (moved written written faults faults) err input.0 usage status input.1 (usage_answers asks input.0 none) (λ four. omega arith) finishes
+    finished_runs asks source (moved written written faults faults) err input.0 usage status input.1 (usage_answers asks input.0 none) (λ four. omega arith)
+    finishes
     (record {
       usage = λ _. (own, uncalled);
       unread = λ _ _ _. uncalled;
@@ -261,19 +299,23 @@ usage_runs asks source err written faults status none uncalled finishes own =
     })
 
 -- an input beyond the limit
-too_long_runs : (asks : Asked) (source out err : Change) (limit status : ℕ) → IsTooLong asks.command source limit → Finishes (told 6 (too_large_line limit)) out err status → RunsAs asks source out err status
+too_long_runs : (asks : Asked) (source out err : Change) (limit status : ℕ) → IsTooLong asks.command source limit
+    → Finishes (told 6 (too_large_line limit)) out err status → RunsAs asks source out err status
 too_long_runs asks source out err limit status long finishes =
     let command = long.reading.command in
     let input = long_input limit source.before source.now long.took in
     let beyond : command.limit < length input.0 = subst (λ n. n < length input.0) long.limit_is input.2 in
     finished_runs asks source out err input.0 (told 6 (too_large_line limit)) status input.1
-    (subst (λ n. IsAnswerTo asks input.0 (told 6 (too_large_line n))) (sym long.limit_is) (beyond_answers asks input.0 command long.reading.command_is long.reading.reads beyond)) (λ four. omega arith) finishes
+    (subst (λ n. IsAnswerTo asks input.0 (told 6 (too_large_line n))) (sym long.limit_is)
+    (beyond_answers asks input.0 command long.reading.command_is long.reading.reads beyond)) (λ four. omega arith) finishes
     (record {
       usage = λ none. absurd (no_command asks command long.reading.command_is none);
-      unread = λ other other_is unread. absurd (both_ways (reads_input command.action) long.reading.reads (reads_same asks command other long.reading.command_is other_is ∙ unread));
+      unread = λ other other_is unread. absurd (both_ways (reads_input command.action) long.reading.reads
+          (reads_same asks command other long.reading.command_is other_is ∙ unread));
       read_whole = λ other other_is _ answered. inr (
         own_status (told 6 (too_large_line limit)) out err status finishes answered,
-        subst (λ n. Took (n + 1) source.before source.now) (long.limit_is ∙ ap (λ (c : Command). c.limit) (same_command asks command other long.reading.command_is other_is)) long.took,
+        subst (λ n. Took (n + 1) source.before source.now) (long.limit_is
+            ∙ ap (λ (c : Command). c.limit) (same_command asks command other long.reading.command_is other_is)) long.took,
       );
     })
 
@@ -284,7 +326,8 @@ failed_reading source None failed = failed
 failed_reading source (Some base) failed = inl failed
 
 -- the source failed, or the base
-pub read_fault_runs : (asks : Asked) (source out err : Change) (status : ℕ) → AreReading asks.command → HasFailedReading source asks.base → Stays out → Tells read_fault_line 4 err status
+pub read_fault_runs : (asks : Asked) (source out err : Change) (status : ℕ) → AreReading asks.command → HasFailedReading source asks.base → Stays out
+    → Tells read_fault_line 4 err status
     → RunsAs asks source out err status
 read_fault_runs asks source out err status are failed stays tells = record {
   answers = λ answered. absurd (elim tells.status_is [ inl four ↦ answered.0 four | inr five ↦ answered.1 five ]);
@@ -295,25 +338,32 @@ read_fault_runs asks source out err status are failed stays tells = record {
   error_line_begun = λ five _. (read_fault_line, OfReadFault failed refl, tells.part five);
   memory = λ seven. absurd (elim tells.status_is [ inl four ↦ omega arith | inr five ↦ omega arith ]);
   usage = λ none. absurd (no_command asks are.command are.command_is none);
-  unread = λ other other_is unread. absurd (both_ways (reads_input are.command.action) are.reads (reads_same asks are.command other are.command_is other_is ∙ unread));
+  unread = λ other other_is unread. absurd (both_ways (reads_input are.command.action) are.reads (reads_same asks are.command other are.command_is other_is
+      ∙ unread));
   read_whole = λ _ _ _ answered. absurd (elim tells.status_is [ inl four ↦ answered.0 four | inr five ↦ answered.1 five ]);
 }
 
 -- memory was wanting before there was a task
-memory_runs : (asks : Asked) (source err : Change) (written : Option (List ℕ)) (faults status : ℕ) → AreReading asks.command → Tells memory_line 7 err status → RunsAs asks source (moved written written faults faults) err status
+memory_runs : (asks : Asked) (source err : Change) (written : Option (List ℕ)) (faults status : ℕ) → AreReading asks.command → Tells memory_line 7 err status
+    → RunsAs asks source (moved written written faults faults) err status
 memory_runs asks source err written faults status are tells =
-    unanswered_runs asks source (moved written written faults faults) err status are.command are.command_is (λ unread. absurd (both_ways (reads_input are.command.action) are.reads unread)) (keeps_itself written) tells
+    unanswered_runs asks source (moved written written faults faults) err status are.command are.command_is
+    (λ unread. absurd (both_ways (reads_input are.command.action) are.reads unread)) (keeps_itself written) tells
 
-pub stopped_runs : (asks : Asked) (source err : Change) (written : Option (List ℕ)) (faults : ℕ) (stop : Stop) (status : ℕ) → IsStopped asks.command source stop → IsToldStop stop err status → RunsAs asks source (moved written written faults faults) err status
+pub stopped_runs : (asks : Asked) (source err : Change) (written : Option (List ℕ)) (faults : ℕ) (stop : Stop) (status : ℕ) → IsStopped asks.command source stop
+    → IsToldStop stop err status → RunsAs asks source (moved written written faults faults) err status
 stopped_runs asks source err written faults Usage status stopped told_line =
-    usage_runs asks source err written faults status stopped.0 stopped.1 (told_finishes 2 usage.err written faults err status (λ is. omega arith) (λ is. omega arith) told_line) told_line.status_is
+    usage_runs asks source err written faults status stopped.0 stopped.1
+    (told_finishes 2 usage.err written faults err status (λ is. omega arith) (λ is. omega arith) told_line) told_line.status_is
 stopped_runs asks source err written faults (TooLarge limit) status stopped (inl told_line) =
     too_long_runs asks source (moved written written faults faults) err limit status stopped
     (told_finishes 6 (too_large_line limit) written faults err status (λ is. omega arith) (λ is. omega arith) told_line)
 stopped_runs asks source err written faults (TooLarge limit) status stopped (inr told_memory) =
     too_long_runs asks source (moved written written faults faults) err limit status stopped
-    (memory_finishes (told 6 (too_large_line limit)) written faults err status (record { no_read_fault = λ is. omega arith; no_write_fault = λ is. omega arith; no_memory = λ is. omega arith }) told_memory)
-stopped_runs asks source err written faults ReadFault status stopped told_line = read_fault_runs asks source (moved written written faults faults) err status stopped.0 (failed_reading source asks.base stopped.1) (keeps_itself written) told_line
+    (memory_finishes (told 6 (too_large_line limit)) written faults err status
+    (record { no_read_fault = λ is. omega arith; no_write_fault = λ is. omega arith; no_memory = λ is. omega arith }) told_memory)
+stopped_runs asks source err written faults ReadFault status stopped told_line = read_fault_runs asks source (moved written written faults faults) err status
+    stopped.0 (failed_reading source asks.base stopped.1) (keeps_itself written) told_line
 stopped_runs asks source err written faults MemoryStop status stopped told_line = memory_runs asks source err written faults status stopped told_line
 
 -- Without faults.
@@ -322,11 +372,18 @@ pub never_rose : Rose 0 0 → ⊥
 never_rose rose = elim rose [ inl more ↦ omega arith | inr last ↦ omega arith ]
 
 -- what has no faults tells an answer, but for want of memory
-pub pure_status : (words : List (List ℕ)) (bytes : List ℕ) (source out err : Change) (status : ℕ) → RunsOn words source None out err status → source.before ≡ Some bytes → (HasFailed source → ⊥) → (HasFailed out → ⊥) → (HasFailed err → ⊥) → status ≢ 7
+pub pure_status : (words : List (List ℕ)) (bytes : List ℕ) (source out err : Change) (status : ℕ) → RunsOn words source None out err status
+    → source.before ≡ Some bytes → (HasFailed source → ⊥) → (HasFailed out → ⊥) → (HasFailed err → ⊥) → status ≢ 7
     → StatusIs words bytes status
 pure_status words bytes source out err status run before no_source no_out no_err no_memory =
-    let runs : RunsAs (asked_alone words) source out err status = subst (λ image. RunsAs (asked_on words None image) source out err status) run.image_is run.runs in
-    let found = runs.answers (λ four. no_source (runs.read_fault four).0, λ five. elim (runs.write_fault five) [ inl failed ↦ no_out failed | inr failed ↦ no_err failed ], no_memory) in
+    let runs : RunsAs (asked_alone words) source out err status = subst (λ image. RunsAs (asked_on words None image) source out err status) run.image_is
+    run.runs in
+    let found = runs.answers (
+      λ four. no_source (runs.read_fault four).0,
+      λ five. elim (runs.write_fault five)
+          [ inl failed ↦ no_out failed | inr failed ↦ no_err failed ],
+      no_memory,
+    ) in
     record {
       written = found.2;
       told = found.4;

@@ -7,7 +7,8 @@ use Rattle.bdb_file.specs.declared.rows.Rows.{Rows}
 use Rattle.bdb_file.specs.declared.rows.Rows.TheVariants.{All}
 use Rattle.bdb_format.specs.Faults.{Took}
 use Rattle.bdb_tool.specs.Commands.{Action, Ask, Load, LoadOnto, Command, asking, handed, reads_input, within}
-use Rattle.bdb_tool.specs.declared.command.Action.TheVariants.{Ask as AskWord, Read as ReadWord, Load as LoadWord, Salvage as SalvageWord, Repair as RepairWord, Trial as TrialWord}
+use Rattle.bdb_tool.specs.declared.command.Action.TheVariants.{Ask as AskWord, Read as ReadWord, Load as LoadWord, Salvage as SalvageWord, Repair as RepairWord}
+use Rattle.bdb_tool.specs.declared.command.Action.TheVariants.{Trial as TrialWord}
 use Rattle.bdb_tool.specs.declared.command.Reading.{Reading}
 use Rattle.bdb_tool.specs.declared.command.Request.{Request as CodeRequest}
 use Rattle.bdb_tool.specs.declared.command.Repair.{Repair as CodeRepair}
@@ -65,10 +66,16 @@ pub is_read : (said : Option Command) (source : Change) (limit : ℕ) (rows : Ro
 is_read said source limit rows reading image seen input = asked_input said source limit rows (reading_seen reading) image seen input
 
 -- no input, of a command that reads it
-pub not_read : (said : Option Command) (source : Change) (limit : ℕ) (action : Action) (stop : Stop) → said ≡ Some (made limit action) → reads_input action ≡ true → IsUnreadable limit source stop → IsStopped said source stop
+pub not_read : (said : Option Command) (source : Change) (limit : ℕ) (action : Action) (stop : Stop) → said ≡ Some (made limit action)
+    → reads_input action ≡ true → IsUnreadable limit source stop → IsStopped said source stop
 not_read said source limit action Usage is reads unread = absurd unread
 not_read said source limit action (TooLarge longest) is reads unread =
-    record { reading = reading said limit action is reads; limit_is = unread.0; took = subst (λ n. Took (n + 1) source.before source.now) (sym unread.0) unread.1 }
+    record {
+      reading = reading said limit action is reads;
+      limit_is = unread.0;
+      took = subst (λ n. Took (n + 1) source.before source.now) (sym unread.0)
+          unread.1;
+    }
 not_read said source limit action ReadFault is reads unread = (reading said limit action is reads, unread)
 not_read said source limit action Memory is reads unread = reading said limit action is reads
 
@@ -86,15 +93,19 @@ pub reading_unread : (said : Option Command) (source : Change) (limit : ℕ) (ro
     → IsSeen said (record { limit = limit; action = ReadWord rows reading }) → IsUnreadable limit source stop → IsStopped (handed false said) source stop
 reading_unread said source limit rows reading stop seen unread = no_input said source limit rows (reading_seen reading) stop seen unread
 
-pub text_unread : (said : Option Command) (source : Change) (limit : ℕ) (stop : Stop) → IsSeen (said) (record { limit = limit; action = LoadWord }) → IsUnreadable limit source stop → IsStopped (handed false said) source stop
+pub text_unread : (said : Option Command) (source : Change) (limit : ℕ) (stop : Stop) → IsSeen (said) (record { limit = limit; action = LoadWord })
+    → IsUnreadable limit source stop → IsStopped (handed false said) source stop
 text_unread said source limit stop seen unread = not_read (handed false said) source limit Load stop (ap (handed false) seen.0) refl unread
 
-pub salvage_unread : (said : Option Command) (source : Change) (limit : ℕ) (asked : CodeSalvage) (stop : Stop) → IsSeen (said) (record { limit = limit; action = SalvageWord asked }) → IsUnreadable limit source stop → IsStopped (handed false said) source stop
-salvage_unread said source limit asked stop seen unread = not_read (handed false said) source limit (salvage_seen asked) stop (ap (handed false) seen.0) refl unread
+pub salvage_unread : (said : Option Command) (source : Change) (limit : ℕ) (asked : CodeSalvage) (stop : Stop)
+    → IsSeen (said) (record { limit = limit; action = SalvageWord asked }) → IsUnreadable limit source stop → IsStopped (handed false said) source stop
+salvage_unread said source limit asked stop seen unread = not_read (handed false said) source limit (salvage_seen asked) stop (ap (handed false) seen.0) refl
+    unread
 
 pub repair_unread : (said : Option Command) (source : Change) (limit : ℕ) (asked : CodeRepair) (stop : Stop)
     → IsSeen said (record { limit = limit; action = RepairWord asked }) → IsUnreadable limit source stop → IsStopped (handed false said) source stop
-repair_unread said source limit asked stop seen unread = not_read (handed false said) source limit (repair_seen asked) stop (ap (handed false) seen.0) refl unread
+repair_unread said source limit asked stop seen unread = not_read (handed false said) source limit (repair_seen asked) stop (ap (handed false) seen.0) refl
+    unread
 
 -- a command that reads a base is none without it
 pub onto_alone : (said : Option Command) (limit : ℕ) (file : List ℕ) → said ≡ Some (made limit (LoadOnto file)) → handed false said ≡ None

@@ -7,11 +7,11 @@ use Rattle.bdb_faults.specs.declared.named.AllError.TheVariants.{Faults}
 use Rattle.bdb_file.specs.AnyOrder.{faults_by_rows, verdict_by}
 use Rattle.bdb_file.specs.declared.rows.Rows.{Rows}
 use Rattle.bdb_format.specs.declared.kinds.Fault.{Fault}
-use Rattle.bdb_lines.specs.Printing.{Writes}
-use Rattle.bdb_lines.specs.Telling.{judgement_status, judgements_text}
-use Rattle.bdb_lines.specs.declared.cut.Cut.{Cut}
-use Rattle.bdb_lines.specs.declared.cut.Cut.TheVariants.{WriteFault}
-use Rattle.bdb_lines.proofs.PrintingLemmas.{moved}
+use Rattle.bdb_tool_lines.specs.Printing.{Writes}
+use Rattle.bdb_tool_lines.specs.Telling.{judgement_status, judgements_text}
+use Rattle.bdb_tool_lines.specs.declared.cut.Cut.{Cut}
+use Rattle.bdb_tool_lines.specs.declared.cut.Cut.TheVariants.{WriteFault}
+use Rattle.bdb_tool_lines.proofs.PrintingLemmas.{moved}
 use Rattle.bdb_model.specs.Change.{Change}
 use Rattle.bdb_model.specs.Command.{Convert, Dump, Get, ListAll, Range, Request, Stat, Verify}
 use Rattle.bdb_model.specs.Lines.{memory_line}
@@ -45,7 +45,8 @@ list_own (judgement ∷ judgements) = elim (low_status judgement) [ inl one ↦ 
 -- Lines.
 
 -- they were written whole
-pub told_whole : (text : List ℕ) (wanted status : ℕ) (err : Change) (result : Result Unit Cut) → result ≡ Ok tt → status ≡ wanted → (wanted ≡ 5 → ⊥) → Writes text err result
+pub told_whole : (text : List ℕ) (wanted status : ℕ) (err : Change) (result : Result Unit Cut) → result ≡ Ok tt → status ≡ wanted → (wanted ≡ 5 → ⊥)
+    → Writes text err result
     → Tells text wanted err status
 told_whole text wanted status err result was is own writes = record {
   status_is = inl is;
@@ -55,7 +56,8 @@ told_whole text wanted status err result was is own writes = record {
 }
 
 -- they were cut off
-pub told_in_part : (text : List ℕ) (wanted : ℕ) (err : Change) (result : Result Unit Cut) (cut : Cut) → result ≡ Err cut → cut ≡ WriteFault → (wanted ≡ 5 → ⊥) → Writes text err result
+pub told_in_part : (text : List ℕ) (wanted : ℕ) (err : Change) (result : Result Unit Cut) (cut : Cut) → result ≡ Err cut → cut ≡ WriteFault → (wanted ≡ 5 → ⊥)
+    → Writes text err result
     → Tells text wanted err 5
 told_in_part text wanted err result cut was cause own writes =
     let writes_cut : Writes text err (Err cut) = subst (Writes text err) was writes in record {
@@ -81,13 +83,15 @@ asked_own rows (Convert order) image = judged_own (verdict_by rows image) (Conve
 asked_own rows Stat image = judged_own (verdict_by rows image) Stat image
 
 -- a file without faults
-pub sound_verified : (faults : List Fault) (file image : List ℕ) (out err : Change) (status : ℕ) → faults ≡ [] → file ≡ image → Finishes (verified [] file) out err status
+pub sound_verified : (faults : List Fault) (file image : List ℕ) (out err : Change) (status : ℕ) → faults ≡ [] → file ≡ image
+    → Finishes (verified [] file) out err status
     → Finishes (verified faults image) out err status
 sound_verified faults file image out err status none same finishes =
     subst (λ (found : List Fault). Finishes (verified found image) out err status) (sym none)
     (subst (λ (bytes : List ℕ). Finishes (verified [] bytes) out err status) same finishes)
 
-all_of : (faults : List Fault) (error : AllError) (all : List Judgement) → error ≡ Faults all → IsAllOf faults error → (0 < length faults) × (all ≡ map judgement_of faults)
+all_of : (faults : List Fault) (error : AllError) (all : List Judgement) → error ≡ Faults all → IsAllOf faults error
+    → (0 < length faults) × (all ≡ map judgement_of faults)
 all_of faults error all is are = subst (IsAllOf faults) is are
 
 -- all faults were told
@@ -104,8 +108,10 @@ faults_finish (fault ∷ faults) image all written count err status are (inr tel
     memory_finishes (verified (fault ∷ faults) image) written count err status (verified_own (fault ∷ faults) image) tells
 
 -- the same, of a refusal
-pub all_finish : (faults : List Fault) (image : List ℕ) (error : AllError) (all : List Judgement) (written : Option (List ℕ)) (count : ℕ) (err : Change) (status : ℕ)
+pub all_finish : (faults : List Fault) (image : List ℕ) (error : AllError) (all : List Judgement) (written : Option (List ℕ)) (count : ℕ) (err : Change)
+    (status : ℕ)
     → error ≡ Faults all → IsAllOf faults error
     → (Tells (judgements_text all) (first_status all) err status ⊎ Tells memory_line 7 err status)
     → Finishes (verified faults image) (moved written written count count) err status
-all_finish faults image error all written count err status is are told = faults_finish faults image all written count err status (all_of faults error all is are) told
+all_finish faults image error all written count err status is are told = faults_finish faults image all written count err status
+    (all_of faults error all is are) told

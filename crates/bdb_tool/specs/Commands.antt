@@ -8,7 +8,8 @@ use Rattle.bdb_format.specs.declared.kinds.Kind.TheVariants.{Btree, Recno, Hash,
 use Rattle.bdb_format.specs.declared.kinds.Order.{Order}
 use Rattle.bdb_format.specs.declared.kinds.Order.TheVariants.{Big, Little}
 use Rattle.bdb_format.specs.Digits.{number_in}
-use Rattle.bdb_model.specs.Command.{Arguments, Given, OptionRow, Request, Verify, ListAll, Convert, Stat, arguments, dump_request, get_request, hex_row, is_given, limit_of, max_bytes, max_bytes_row, name_row, once, print_option, print_row, range_request, value_given}
+use Rattle.bdb_model.specs.Command.{Arguments, Given, OptionRow, Request, Verify, ListAll, Convert, Stat, arguments, dump_request, get_request, hex_row}
+use Rattle.bdb_model.specs.Command.{is_given, limit_of, max_bytes, max_bytes_row, name_row, once, print_option, print_row, range_request, value_given}
 use Rattle.bdb_repair.specs.declared.shape.Duplicates.{Duplicates}
 use Rattle.bdb_repair.specs.declared.shape.Duplicates.TheVariants.{No, Unsorted, Sorted}
 use Rattle.bdb_repair.specs.declared.shape.Shape.{Shape}
@@ -279,7 +280,13 @@ abbrev pub trial_row : CommandRow
 trial_row = record { word = codes "trial"; options = max_bytes_row ∷ []; operands = 3; does = λ all. trial_action all.operands }
 
 abbrev pub range_row : CommandRow
-range_row = record { word = codes "range"; options = max_bytes_row ∷ name_row ∷ hex_row ∷ print_row ∷ []; operands = 2; does = λ all. asking All (range_request all) }
+range_row = record {
+  word = codes "range";
+  options = max_bytes_row ∷ name_row ∷ hex_row ∷ print_row
+      ∷ [];
+  operands = 2;
+  does = λ all. asking All (range_request all);
+}
 
 abbrev pub convert_row : CommandRow
 convert_row = record { word = codes "convert"; options = max_bytes_row ∷ []; operands = 1; does = λ all. convert_action all.operands }

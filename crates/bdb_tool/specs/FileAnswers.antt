@@ -9,7 +9,8 @@ use Rattle.bdb_format.specs.Lists.{list_of}
 use Rattle.bdb_format.specs.Verdict.{Faulty, Judgement, LeftOut}
 use Rattle.bdb_text_format.specs.LineEnd.{line}
 use Rattle.bdb_text_format.specs.Written.{is_btree}
-use Rattle.bdb_model.specs.Answers.{Answer, data_named, database_in, done, dumped, fault_line, found, list_text, not_btree, not_found, overlap_line, pairs_text, sound_line, told, unsupported_line}
+use Rattle.bdb_model.specs.Answers.{Answer, data_named, database_in, done, dumped, fault_line, found, list_text, not_btree, not_found, overlap_line, pairs_text}
+use Rattle.bdb_model.specs.Answers.{sound_line, told, unsupported_line}
 use Rattle.bdb_model.specs.Command.{Request, Verify, ListAll, Get, Dump, Range, Convert, Stat}
 use Rattle.bdb_range.specs.Ranges.{in_range}
 use Rattle.bdb_stat.specs.declared.class.Class.TheVariants.{Meta, Internal, Leaf, Hash, Overflow, Free, Reserve, Queue, Tail}

@@ -3,9 +3,9 @@ use Rattle.std.specs.Prelude.{◌≡◌, ℕ, nat_lt, ◌++◌, Bool, true, fals
 use Rattle.bdb_format.specs.Verdict.{Judgement, verdict_of}
 use Rattle.bdb_text_format.specs.LineEnd.{line}
 use Rattle.bdb_model.specs.Answers.{Answer, told}
-use Rattle.bdb_lines.specs.Telling.{judgement_line, judgement_status}
+use Rattle.bdb_tool_lines.specs.Telling.{judgement_line, judgement_status}
 use Rattle.bdb_onto.specs.Bases.{base_of}
-use Rattle.bdb_writing.specs.Ontos.{IsTextOnto}
+use Rattle.bdb_tool_build.specs.Ontos.{IsTextOnto}
 
 -- an answer to a text and the image of a base, by the verdict on that image
 abbrev pub IsOntoBy : ℕ → Option Judgement → List ℕ → List ℕ → Answer → Type 0

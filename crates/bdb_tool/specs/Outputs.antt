@@ -4,13 +4,13 @@ use Rattle.bdb_file.specs.AnyOrder.{faults_by_rows, verdict_by}
 use Rattle.bdb_file.specs.declared.rows.Rows.{Rows}
 use Rattle.bdb_format.specs.declared.kinds.Fault.{Fault}
 use Rattle.bdb_format.specs.Verdict.{Judgement, judgement_of}
-use Rattle.bdb_lines.specs.Telling.{judgement_status, judgements_text}
+use Rattle.bdb_tool_lines.specs.Telling.{judgement_status, judgements_text}
 use Rattle.bdb_model.specs.Command.{Convert, Dump, Get, ListAll, Range, Request, Stat, Verify}
 use Rattle.bdb_model.specs.Answers.{Answer, done, told, too_large_line, usage}
 use Rattle.bdb_tool.specs.FileAnswers.{judged_answer, sound_answer}
 use Rattle.bdb_model.specs.Change.{Change, Gains, GainsPart, Stays}
 use Rattle.bdb_text_format.specs.LineEnd.{line}
-use Rattle.bdb_printing.specs.SalvageText.{salvage_text}
+use Rattle.bdb_tool_print.specs.SalvageText.{salvage_text}
 use Rattle.bdb_mkfile.specs.Builds.{image_size}
 use Rattle.bdb_repair.specs.Parts.{repair_sections}
 use Rattle.bdb_repair.specs.declared.shape.Shape.{Shape}
@@ -19,9 +19,9 @@ use Rattle.bdb_survey.specs.declared.guess.Guess.{Guess}
 use Rattle.bdb_text_format.specs.declared.sections.Section.{Section}
 use Rattle.bdb_tool.specs.Commands.{Action, Ask, Command, Load, LoadOnto, Repair, Salvage, Trial, command_on, reads_input}
 use Rattle.bdb_tool.specs.Ontos.{IsOntoAnswer}
-use Rattle.bdb_writing.specs.Lines.{image_too_large_line}
-use Rattle.bdb_writing.specs.Loads.{IsImageAnswer, IsTextAnswer}
-use Rattle.bdb_writing.specs.Trials.{IsTrialAnswer}
+use Rattle.bdb_tool_build.specs.Lines.{image_too_large_line}
+use Rattle.bdb_tool_build.specs.Loads.{IsImageAnswer, IsTextAnswer}
+use Rattle.bdb_tool_build.specs.Trials.{IsTrialAnswer}
 
 -- the status of the first of what holds
 abbrev pub first_status : List Judgement → ℕ
@@ -124,12 +124,14 @@ IsBaseInput (Some base) image = IsInput base.before image
 -- the status and all that was written are an answer to what is asked, and the input
 abbrev pub Answers : Asked → Change → Change → Change → ℕ → Type 0
 Answers asked source out err status =
-    (input : List ℕ) × IsInput source.before input × (written : List ℕ) × Gains out written × (told : List ℕ) × Gains err told × Output asked input written told status
+    (input : List ℕ) × IsInput source.before input × (written : List ℕ) × Gains out written × (told : List ℕ) × Gains err told
+    × Output asked input written told status
 
 -- what was written to the output is a prefix of an answer to what is asked, and the input, or nothing
 abbrev pub AnswersInPart : Asked → Change → Change → Type 0
 AnswersInPart asked source out =
-    Stays out ⊎ ((input : List ℕ) × IsInput source.before input × (written : List ℕ) × (told : List ℕ) × (status : ℕ) × Output asked input written told status × GainsPart out written)
+    Stays out ⊎ ((input : List ℕ) × IsInput source.before input × (written : List ℕ) × (told : List ℕ) × (status : ℕ) × Output asked input written told status
+    × GainsPart out written)
 
 -- what is asked by words where no base is handed in
 abbrev pub asked_alone : List (List ℕ) → Asked

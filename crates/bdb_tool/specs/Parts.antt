@@ -7,8 +7,8 @@ use Rattle.bdb_model.specs.Answers.{Answer, fault_line, told, too_large_line, un
 use Rattle.bdb_model.specs.Change.{Change, Gains, GainsPart, HasFailed, Stays}
 use Rattle.bdb_model.specs.Command.{Request}
 use Rattle.bdb_model.specs.Lines.{memory_line, read_fault_line, write_fault_line}
-use Rattle.bdb_lines.specs.declared.cut.Cut.{Cut}
-use Rattle.bdb_lines.specs.declared.cut.Cut.TheVariants.{WriteFault, Memory}
+use Rattle.bdb_tool_lines.specs.declared.cut.Cut.{Cut}
+use Rattle.bdb_tool_lines.specs.declared.cut.Cut.TheVariants.{WriteFault, Memory}
 use Rattle.bdb_format.specs.Faults.{Took}
 use Rattle.bdb_format.specs.Verdict.{verdict_of}
 use Rattle.bdb_tool.specs.Ontos.{IsOntoBy, base_too_large_line}
@@ -16,13 +16,14 @@ use Rattle.bdb_tool.specs.Outputs.{IsRepairAnswer, asked_answer, salvage_answer}
 use Rattle.bdb_tool.specs.Tasks.{IsInputWithin}
 use Rattle.bdb_tool.specs.WordsSeen.{reading_seen, request_seen}
 use Rattle.bdb_tool.specs.declared.task.Task.{Task}
-use Rattle.bdb_tool.specs.declared.task.Task.TheVariants.{Ask as AskTask, Read as ReadTask, Load as LoadTask, Salvage as SalvageTask, Repair as RepairTask, Trial as TrialTask}
+use Rattle.bdb_tool.specs.declared.task.Task.TheVariants.{Ask as AskTask, Read as ReadTask, Load as LoadTask, Salvage as SalvageTask, Repair as RepairTask}
+use Rattle.bdb_tool.specs.declared.task.Task.TheVariants.{Trial as TrialTask}
 use Rattle.bdb_tool.specs.declared.task.Stop.{Stop}
 use Rattle.bdb_tool.specs.declared.task.Stop.TheVariants.{Usage, TooLarge, ReadFault, Memory as MemoryStop}
-use Rattle.bdb_writing.specs.declared.refusal.Refusal.{Refusal}
-use Rattle.bdb_writing.specs.declared.refusal.Refusal.TheVariants.{Faulty as FaultyText, TooLarge as TooLargeImage, Memory as MemoryRefusal}
-use Rattle.bdb_writing.specs.Loads.{IsTextAnswer}
-use Rattle.bdb_writing.specs.Trials.{IsTrialAnswer}
+use Rattle.bdb_tool_build.specs.declared.refusal.Refusal.{Refusal}
+use Rattle.bdb_tool_build.specs.declared.refusal.Refusal.TheVariants.{Faulty as FaultyText, TooLarge as TooLargeImage, Memory as MemoryRefusal}
+use Rattle.bdb_tool_build.specs.Loads.{IsTextAnswer}
+use Rattle.bdb_tool_build.specs.Trials.{IsTrialAnswer}
 
 -- a text was written to the error sink for this status, or that sink failed
 pub record Tells (text : List ℕ) (wanted : ℕ) (err : Change) (status : ℕ) : Type 0 where
@@ -88,7 +89,8 @@ pub data Ends (allowed : Answer → Type 0) (out err : Change) (status : ℕ) : 
 -- how a text that was read was loaded onto a base: an answer was written, or memory was wanting; the base was too long, which was told; it failed; or
 -- memory was wanting to read it
 pub data EndsOnto (limit : ℕ) (text : List ℕ) (base out err : Change) (status : ℕ) : Type 0 where
-  BaseRead : (image : List ℕ) → IsInputWithin limit base image → Ends (IsOntoBy limit (verdict_of image) text image) out err status → EndsOnto limit text base out err status
+  BaseRead : (image : List ℕ) → IsInputWithin limit base image → Ends (IsOntoBy limit (verdict_of image) text image) out err status
+      → EndsOnto limit text base out err status
   BaseTooLong : Took (limit + 1) base.before base.now → Finishes (told 6 (base_too_large_line limit)) out err status → EndsOnto limit text base out err status
   BaseFailed : HasFailed base → Stays out → Tells read_fault_line 4 err status → EndsOnto limit text base out err status
   BaseUnread : Stays out → Tells memory_line 7 err status → EndsOnto limit text base out err status

@@ -12,7 +12,8 @@ use Rattle.bdb_tool.specs.declared.command.Repair.{Repair as CodeRepair}
 use Rattle.bdb_tool.specs.declared.command.Salvage.{Salvage as CodeSalvage}
 use Rattle.bdb_tool.specs.declared.command.Trial.{Trial as CodeTrial}
 use Rattle.bdb_tool.specs.declared.task.Task.{Task}
-use Rattle.bdb_tool.specs.declared.task.Task.TheVariants.{Ask as AskTask, Read as ReadTask, Load as LoadTask, Salvage as SalvageTask, Repair as RepairTask, Trial as TrialTask}
+use Rattle.bdb_tool.specs.declared.task.Task.TheVariants.{Ask as AskTask, Read as ReadTask, Load as LoadTask, Salvage as SalvageTask, Repair as RepairTask}
+use Rattle.bdb_tool.specs.declared.task.Task.TheVariants.{Trial as TrialTask}
 use Rattle.bdb_tool.specs.declared.task.Stop.{Stop}
 use Rattle.bdb_tool.specs.declared.task.Stop.TheVariants.{Usage, TooLarge, ReadFault, Memory}
 

@@ -1,12 +1,18 @@
 -- What the values of the code are in the definitions of a command line's words.
-use Rattle.std.specs.Prelude.{ℕ, ◌≡◌, ◌<◌, ◌≤◌, ◌^◌, ◌++◌, Bool, true, false, not, List, [], ◌∷◌, drop, length, Option, Some, IfSome, IsTrue, is_some, option_copied, ⊤}
+use Rattle.std.specs.Prelude.{ℕ, ◌≡◌, ◌<◌, ◌≤◌, ◌^◌, ◌++◌, Bool, true, false, not, List, [], ◌∷◌, drop, length, Option, Some, IfSome, IsTrue, is_some}
+use Rattle.std.specs.Prelude.{option_copied, ⊤}
 use Rattle.bdb_file.specs.declared.rows.Rows.TheVariants.{All}
 use Rattle.bdb_format.specs.HeadOf.{is_page_size}
-use Rattle.bdb_model.specs.Command.{Request, Verify, ListAll, Convert, Stat, OptionRow, Given, Arguments, arguments, asked_name, bounds_request, hex_option, hex_row, is_given, key_request, max_bytes, max_bytes_row, name_option, name_row, only_operands, print_option, print_row, row_of, text_request, value_given, with_option}
-use Rattle.bdb_tool.specs.Commands.{Action, Load, LoadOnto, Salvage, Trial, Command, Repair, any_order_option, any_order_row, as_option, as_row, asking, command_of, dupsort_option, dupsort_row, duplicates_option, duplicates_row, onto_option, onto_row, order_option, order_row, page_size_option, page_size_row, within}
+use Rattle.bdb_model.specs.Command.{Request, Verify, ListAll, Convert, Stat, OptionRow, Given, Arguments, arguments, asked_name, bounds_request, hex_option}
+use Rattle.bdb_model.specs.Command.{hex_row, is_given, key_request, max_bytes, max_bytes_row, name_option, name_row, only_operands, print_option, print_row}
+use Rattle.bdb_model.specs.Command.{row_of, text_request, value_given, with_option}
+use Rattle.bdb_tool.specs.Commands.{Action, Load, LoadOnto, Salvage, Trial, Command, Repair, any_order_option, any_order_row, as_option, as_row, asking}
+use Rattle.bdb_tool.specs.Commands.{command_of, dupsort_option, dupsort_row, duplicates_option, duplicates_row, onto_option, onto_row, order_option, order_row}
+use Rattle.bdb_tool.specs.Commands.{page_size_option, page_size_row, within}
 use Rattle.bdb_text_format.specs.TextSpelling.{bytes_spelled}
 use Rattle.bdb_tool.specs.declared.options.OptionWord.{OptionWord}
-use Rattle.bdb_tool.specs.declared.options.OptionWord.TheVariants.{MaxBytes as MaxBytesWord, Name as NameWord, Order as OrderWord, PageSize as PageSizeWord, As as AsWord, Onto as OntoWord, Hex as HexWord, Print as PrintWord}
+use Rattle.bdb_tool.specs.declared.options.OptionWord.TheVariants.{MaxBytes as MaxBytesWord, Name as NameWord, Order as OrderWord, PageSize as PageSizeWord}
+use Rattle.bdb_tool.specs.declared.options.OptionWord.TheVariants.{As as AsWord, Onto as OntoWord, Hex as HexWord, Print as PrintWord}
 use Rattle.bdb_tool.specs.declared.options.OptionWord.TheVariants.{AnyOrder as AnyOrderWord, Duplicates as DuplicatesWord, Dupsort as DupsortWord}
 use Rattle.bdb_tool.specs.declared.options.GivenOption.{GivenOption}
 use Rattle.bdb_tool.specs.declared.options.GivenOption.TheVariants.{MaxBytes, Name, Order, PageSize, As, Onto, Hex, Print, Duplicates, Dupsort, AnyOrder}
@@ -16,7 +22,8 @@ use Rattle.bdb_tool.specs.declared.command.Reading.TheVariants.{Verify as Verify
 use Rattle.bdb_tool.specs.declared.command.Request.{Request as CodeRequest}
 use Rattle.bdb_tool.specs.declared.command.Request.TheVariants.{Get as GetWord, Range as RangeWord, Convert as ConvertWord, Stat as StatWord}
 use Rattle.bdb_tool.specs.declared.command.Action.{Action as CodeAction}
-use Rattle.bdb_tool.specs.declared.command.Action.TheVariants.{Ask as AskWord, Read as ReadWord, Load as LoadWord, LoadOnto as LoadOntoWord, Salvage as SalvageWord, Repair as RepairWord, Trial as TrialWord}
+use Rattle.bdb_tool.specs.declared.command.Action.TheVariants.{Ask as AskWord, Read as ReadWord, Load as LoadWord, LoadOnto as LoadOntoWord}
+use Rattle.bdb_tool.specs.declared.command.Action.TheVariants.{Salvage as SalvageWord, Repair as RepairWord, Trial as TrialWord}
 use Rattle.bdb_tool.specs.declared.command.Command.{Command as CodeCommand}
 use Rattle.bdb_tool.specs.declared.command.Repair.{Repair as CodeRepair}
 use Rattle.bdb_tool.specs.declared.command.Salvage.{Salvage as CodeSalvage}

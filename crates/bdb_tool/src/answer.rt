@@ -27,7 +27,7 @@ use crate::telling::refuse;
 use bdb_file::{Found, Sound, verify};
 use bdb_format::Steps;
 use bdb_io::Sink;
-use bdb_printing::write_found;
+use bdb_tool_print::write_found;
 use std::alloc::Global;
 use std::sync::ledger::Ledger;
 
@@ -54,7 +54,8 @@ fn named_data<'a, L: Ledger>(
     key: &[u8],
     steps: &mut Steps<L>,
 ) -> Option<Found<'a>>
-    ensures { MatchOption result ([] ≡ data_named (file_of sound.now) (option_copied name.entry) key.now) (λ values. values ≡ data_named (file_of sound.now) (option_copied name.entry) key.now) }
+    ensures { MatchOption result ([] ≡ data_named (file_of sound.now) (option_copied name.entry) key.now)
+        (λ values. values ≡ data_named (file_of sound.now) (option_copied name.entry) key.now) }
 {
     match sound.by_name(name) {
         Some(db) => Some(sound.get(db, key, steps)),
@@ -71,9 +72,12 @@ fn answer_lookup<K: Sink, E: Sink, L: Ledger>(
     err: &mut E,
     steps: &mut Steps<L>,
 ) -> u8
-    requires { IsTrue (is_some (key_request (asked_name (option_copied lookup.now.name)) (bytes_spelled (not lookup.now.hex) lookup.now.key.now) lookup.now.print)) }
-    ensures { (name : Option (List ℕ)) (key : List ℕ) → asked_name (option_copied lookup.now.name) ≡ Some name → bytes_spelled (not lookup.now.hex) lookup.now.key.now ≡ Some key
-        → Finishes (found lookup.now.print (data_named (file_of sound.now) name key)) (change K.written K.faults out.old out.new) (change E.written E.faults err.old err.new) result }
+    requires { IsTrue (is_some (key_request (asked_name (option_copied lookup.now.name)) (bytes_spelled (not lookup.now.hex) lookup.now.key.now)
+        lookup.now.print)) }
+    ensures { (name : Option (List ℕ)) (key : List ℕ) → asked_name (option_copied lookup.now.name) ≡ Some name
+        → bytes_spelled (not lookup.now.hex) lookup.now.key.now ≡ Some key
+        → Finishes (found lookup.now.print (data_named (file_of sound.now) name key)) (change K.written K.faults out.old out.new)
+        (change E.written E.faults err.old err.new) result }
 {
     let Ok(name) = name_sought(alloc, lookup.name) else {
         return tell_memory(err);
@@ -97,7 +101,8 @@ fn answer_sound<K: Sink, E: Sink, L: Ledger>(
     steps: &mut Steps<L>,
 ) -> u8
     requires { IsTrue (is_some (request_seen request.now)) }
-    ensures { (asked : ModelRequest) → request_seen request.now ≡ Some asked → Finishes (sound_answer asked sound.now) (change K.written K.faults out.old out.new) (change E.written E.faults err.old err.new) result }
+    ensures { (asked : ModelRequest) → request_seen request.now ≡ Some asked
+        → Finishes (sound_answer asked sound.now) (change K.written K.faults out.old out.new) (change E.written E.faults err.old err.new) result }
 {
     match request {
         Request::Get(lookup) => answer_lookup(alloc, sound, lookup, out, err, steps),

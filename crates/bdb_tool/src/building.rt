@@ -6,9 +6,9 @@ ghost use Rattle.bdb_tool.specs.Ontos.{IsOntoBy};
 ghost use Rattle.bdb_tool.specs.Parts.{Ends, IsRefusalTold};
 ghost use Rattle.bdb_tool.specs.WordsSeen.{IsFitTrial};
 ghost use Rattle.bdb_onto.specs.Bases.{IsBase};
-ghost use Rattle.bdb_writing.specs.Loads.{IsTextAnswer};
-ghost use Rattle.bdb_writing.specs.Ontos.{IsTextOnto};
-ghost use Rattle.bdb_writing.specs.Trials.{IsTrialAnswer};
+ghost use Rattle.bdb_tool_build.specs.Loads.{IsTextAnswer};
+ghost use Rattle.bdb_tool_build.specs.Ontos.{IsTextOnto};
+ghost use Rattle.bdb_tool_build.specs.Trials.{IsTrialAnswer};
 
 use crate::command::Trial;
 use crate::finish::{put, report, tell, tell_memory};
@@ -17,7 +17,7 @@ use crate::telling::refuse;
 use bdb_format::Steps;
 use bdb_io::{Image, Sink};
 use bdb_onto::Base;
-use bdb_writing::{Refusal, base_of, load_text, load_text_onto, trial_text};
+use bdb_tool_build::{Refusal, base_of, load_text, load_text_onto, trial_text};
 use std::alloc::Global;
 use std::sync::ledger::Ledger;
 
@@ -103,7 +103,8 @@ pub(crate) fn answer_trial<K: Sink, E: Sink, L: Ledger>(
 ) -> u8
     requires trial { IsFitTrial trial }
     requires limit { limit ≤ 2 ^ 30 }
-    ensures { Ends (IsTrialAnswer limit trial.kind trial.seed trial.count) (change K.written K.faults out.old out.new) (change E.written E.faults err.old err.new) result }
+    ensures { Ends (IsTrialAnswer limit trial.kind trial.seed trial.count) (change K.written K.faults out.old out.new)
+        (change E.written E.faults err.old err.new) result }
 {
     match trial_text(alloc, trial.kind, trial.seed, trial.count, limit, steps) {
         Ok(text) => report(put(out, text.as_bytes()), err),

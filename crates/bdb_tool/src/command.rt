@@ -4,7 +4,8 @@ ghost use Rattle.bdb_format.specs.Digits.{number_in};
 ghost use Rattle.bdb_model.specs.Answers.{usage};
 ghost use Rattle.bdb_model.specs.Change.{change};
 ghost use Rattle.bdb_model.specs.Command.{Request as ModelRequest, arguments, asked_name, limit_of, once};
-ghost use Rattle.bdb_tool.specs.Commands.{Action as ModelAction, at_most, command_of, command_on, command_with, onto_file, convert_row, dump_row, get_row, kind_named, load_row, plain_row, reading_row, rows_by, range_row, repair_row, salvage_row, trial_row};
+ghost use Rattle.bdb_tool.specs.Commands.{Action as ModelAction, at_most, command_of, command_on, command_with, onto_file, convert_row, dump_row, get_row};
+ghost use Rattle.bdb_tool.specs.Commands.{kind_named, load_row, plain_row, reading_row, rows_by, range_row, repair_row, salvage_row, trial_row};
 ghost use Rattle.bdb_tool.specs.Parts.{Tells};
 ghost use Rattle.bdb_tool.specs.WordsSeen.{AreOnto, IsFitAction, IsFitCommand, IsSeen, action_seen, reading_seen};
 
@@ -261,7 +262,8 @@ pub(crate) fn base_limit(words: &Words) -> Option<u32>
 fn plain_command<'w>(words: &'w Words, action: Action<'w>) -> Option<Command<'w>>
     requires fit { IsFitAction action }
     ensures command { (word : List ℕ) (does : ModelAction) → action_seen action.entry ≡ Some does
-        → MatchOption result (command_with (plain_row word does) (once (arguments (plain_row word does).options (drop 1 words.now))) ≡ None) (IsSeen (command_with (plain_row word does) (once (arguments (plain_row word does).options (drop 1 words.now))))) }
+        → MatchOption result (command_with (plain_row word does) (once (arguments (plain_row word does).options (drop 1 words.now))) ≡ None)
+        (IsSeen (command_with (plain_row word does) (once (arguments (plain_row word does).options (drop 1 words.now))))) }
     ensures fit { IfSome result IsFitCommand }
 {
     let read = read_arguments(words, &PLAIN)?;
@@ -290,7 +292,8 @@ fn reading_command<'w>(words: &'w Words, reading: Reading<'w>) -> Option<Command
 
 // The command `get`.
 fn lookup_command<'w>(words: &'w Words) -> Option<Command<'w>>
-    ensures command { MatchOption result (command_with get_row (once (arguments get_row.options (drop 1 words.now))) ≡ None) (IsSeen (command_with get_row (once (arguments get_row.options (drop 1 words.now))))) }
+    ensures command { MatchOption result (command_with get_row (once (arguments get_row.options (drop 1 words.now))) ≡ None)
+        (IsSeen (command_with get_row (once (arguments get_row.options (drop 1 words.now))))) }
     ensures fit { IfSome result IsFitCommand }
 {
     let read = read_arguments(words, &LOOKUP)?;
@@ -311,7 +314,8 @@ fn lookup_command<'w>(words: &'w Words) -> Option<Command<'w>>
 
 // The command `dump`.
 fn dump_command<'w>(words: &'w Words) -> Option<Command<'w>>
-    ensures command { MatchOption result (command_with dump_row (once (arguments dump_row.options (drop 1 words.now))) ≡ None) (IsSeen (command_with dump_row (once (arguments dump_row.options (drop 1 words.now))))) }
+    ensures command { MatchOption result (command_with dump_row (once (arguments dump_row.options (drop 1 words.now))) ≡ None)
+        (IsSeen (command_with dump_row (once (arguments dump_row.options (drop 1 words.now))))) }
     ensures fit { IfSome result IsFitCommand }
 {
     let read = read_arguments(words, &SELECTION)?;
@@ -332,7 +336,8 @@ fn dump_command<'w>(words: &'w Words) -> Option<Command<'w>>
 
 // The command `load`.
 fn load_command<'w>(words: &'w Words) -> Option<Command<'w>>
-    ensures command { MatchOption result (command_with load_row (once (arguments load_row.options (drop 1 words.now))) ≡ None) (IsSeen (command_with load_row (once (arguments load_row.options (drop 1 words.now))))) }
+    ensures command { MatchOption result (command_with load_row (once (arguments load_row.options (drop 1 words.now))) ≡ None)
+        (IsSeen (command_with load_row (once (arguments load_row.options (drop 1 words.now))))) }
     ensures fit { IfSome result IsFitCommand }
 {
     let read = read_arguments(words, &LOAD)?;
@@ -349,7 +354,8 @@ fn load_command<'w>(words: &'w Words) -> Option<Command<'w>>
 
 // The command `salvage`.
 fn salvage_command<'w>(words: &'w Words) -> Option<Command<'w>>
-    ensures command { MatchOption result (command_with salvage_row (once (arguments salvage_row.options (drop 1 words.now))) ≡ None) (IsSeen (command_with salvage_row (once (arguments salvage_row.options (drop 1 words.now))))) }
+    ensures command { MatchOption result (command_with salvage_row (once (arguments salvage_row.options (drop 1 words.now))) ≡ None)
+        (IsSeen (command_with salvage_row (once (arguments salvage_row.options (drop 1 words.now))))) }
     ensures fit { IfSome result IsFitCommand }
 {
     let read = read_arguments(words, &SALVAGE)?;
@@ -368,7 +374,8 @@ fn salvage_command<'w>(words: &'w Words) -> Option<Command<'w>>
 
 // The command `trial`.
 fn trial_command<'w>(words: &'w Words) -> Option<Command<'w>>
-    ensures command { MatchOption result (command_with trial_row (once (arguments trial_row.options (drop 1 words.now))) ≡ None) (IsSeen (command_with trial_row (once (arguments trial_row.options (drop 1 words.now))))) }
+    ensures command { MatchOption result (command_with trial_row (once (arguments trial_row.options (drop 1 words.now))) ≡ None)
+        (IsSeen (command_with trial_row (once (arguments trial_row.options (drop 1 words.now))))) }
     ensures fit { IfSome result IsFitCommand }
 {
     let read = read_arguments(words, &PLAIN)?;

@@ -19,7 +19,8 @@ use std::alloc::Global;
 /// Tells the page on which items overlap.
 #[tactic(auto, using(crate::proofs::ConvertLemmas::line_told))]
 fn tell_overlap<E: Sink>(alloc: Global, page: u32, err: &mut E) -> u8
-    ensures { Tells (overlap_line page) 13 (change E.written E.faults err.old err.new) result ⊎ Tells memory_line 7 (change E.written E.faults err.old err.new) result }
+    ensures { Tells (overlap_line page) 13 (change E.written E.faults err.old err.new) result ⊎ Tells memory_line 7 (change E.written E.faults err.old err.new)
+        result }
 {
     match overlap_line(alloc, page) {
         Ok(line) => tell(err, line.as_bytes(), OVERLAP),
@@ -36,7 +37,8 @@ pub(crate) fn answer_convert<K: Sink, E: Sink>(
     out: &mut K,
     err: &mut E,
 ) -> u8
-    ensures { Finishes (converted (overlap_in order sound.now) order sound.now) (change K.written K.faults out.old out.new) (change E.written E.faults err.old err.new) result }
+    ensures { Finishes (converted (overlap_in order sound.now) order sound.now) (change K.written K.faults out.old out.new)
+        (change E.written E.faults err.old err.new) result }
 {
     let linked = sound.linked();
     let forest = linked.forest();

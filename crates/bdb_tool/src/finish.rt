@@ -2,11 +2,11 @@ ghost use Rattle.std.specs.Prelude.{◌≢◌};
 ghost use Rattle.bdb_model.specs.Change.{change};
 ghost use Rattle.bdb_model.specs.Lines.{memory_line};
 ghost use Rattle.bdb_tool.specs.Parts.{Reports, Tells};
-ghost use Rattle.bdb_lines.specs.Printing.{Writes};
+ghost use Rattle.bdb_tool_lines.specs.Printing.{Writes};
 
 use crate::status::{DONE, MEMORY, WRITE_FAULT};
 use bdb_io::{Sink, put_all};
-use bdb_printing::Cut;
+use bdb_tool_print::Cut;
 
 /// Writes an error line, and answers its status.
 pub(crate) fn tell<E: Sink>(err: &mut E, text: &[u8], status: u8) -> u8

@@ -63,7 +63,8 @@ enum Step<'w> {
 
 /// Reads the options after the command; `None` where one is unknown, given twice or lacks its value.
 pub fn read_arguments<'w>(words: &'w Words, options: &[OptionWord]) -> Option<Arguments<'w>>
-    ensures { MatchOption result (once (arguments (map row_seen options.now) (drop 1 words.now)) ≡ None) (AreArguments (once (arguments (map row_seen options.now) (drop 1 words.now))) words.now) }
+    ensures { MatchOption result (once (arguments (map row_seen options.now) (drop 1 words.now)) ≡ None)
+        (AreArguments (once (arguments (map row_seen options.now) (drop 1 words.now))) words.now) }
 {
     let mut read = no_arguments();
     while read.operands < words.len() {
@@ -187,7 +188,8 @@ fn no_arguments<'w>() -> Arguments<'w>
 
 // One more option before the place of the next; `None` where it is given already.
 fn take_option<'w>(read: &mut Arguments<'w>, option: GivenOption<'w>, next: usize) -> Option<()>
-    ensures options { (before : List Given) → HasGiven read.old before → MatchOption result (IsTrue (is_given (given_seen option.entry).word before)) (λ _. IsNew before (given_seen option.entry) read.new) }
+    ensures options { (before : List Given) → HasGiven read.old before → MatchOption result (IsTrue (is_given (given_seen option.entry).word before))
+        (λ _. IsNew before (given_seen option.entry) read.new) }
     ensures operands { OnSome result (read.new.operands ≡ next) }
 {
     match option {

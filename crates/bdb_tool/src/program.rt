@@ -30,7 +30,8 @@ pub fn run<S: Source, B: Source, K: Sink, E: Sink, L: Ledger>(
     err: &mut E,
     steps: &mut Steps<L>,
 ) -> u8
-    ensures { RunsOn words.now (change S.left S.faults source.old source.new) (base_change B.left B.faults base.entry base.exit) (change K.written K.faults out.old out.new) (change E.written E.faults err.old err.new) result }
+    ensures { RunsOn words.now (change S.left S.faults source.old source.new) (base_change B.left B.faults base.entry base.exit)
+        (change K.written K.faults out.old out.new) (change E.written E.faults err.old err.new) result }
 {
     match base {
         Some(base) => run_with(alloc, words, source, base, out, err, steps),
@@ -50,7 +51,8 @@ pub fn run_counted<L: Ledger, S: Source, K: Sink, E: Sink>(
     requires name { blank.name ≡ L.name }
     requires parts { blank.parts ≡ L.parts }
     requires one { L.parts ≡ 1 }
-    ensures { RunsAs (asked_alone words.now) (change S.left S.faults source.old source.new) (change K.written K.faults out.old out.new) (change E.written E.faults err.old err.new) result }
+    ensures { RunsAs (asked_alone words.now) (change S.left S.faults source.old source.new) (change K.written K.faults out.old out.new)
+        (change E.written E.faults err.old err.new) result }
 {
     let mut steps = Steps::<L>::new(blank);
     run::<S, PureSource, K, E, L>(alloc, words, source, None, out, err, &mut steps)
@@ -69,7 +71,8 @@ pub fn run_onto<L: Ledger, S: Source, B: Source, K: Sink, E: Sink>(
     requires name { blank.name ≡ L.name }
     requires parts { blank.parts ≡ L.parts }
     requires one { L.parts ≡ 1 }
-    ensures { RunsOn words.now (change S.left S.faults source.old source.new) (Some (change B.left B.faults base.old base.new)) (change K.written K.faults out.old out.new) (change E.written E.faults err.old err.new) result }
+    ensures { RunsOn words.now (change S.left S.faults source.old source.new) (Some (change B.left B.faults base.old base.new))
+        (change K.written K.faults out.old out.new) (change E.written E.faults err.old err.new) result }
 {
     let mut steps = Steps::<L>::new(blank);
     run::<S, B, K, E, L>(alloc, words, source, Some(base), out, err, &mut steps)
@@ -84,7 +87,9 @@ fn run_alone<S: Source, K: Sink, E: Sink, L: Ledger>(
     err: &mut E,
     steps: &mut Steps<L>,
 ) -> u8
-    ensures { (asked : Asked) → asked.command ≡ command_on words.now false → RunsAs asked (change S.left S.faults source.old source.new) (change K.written K.faults out.old out.new) (change E.written E.faults err.old err.new) result }
+    ensures { (asked : Asked) → asked.command ≡ command_on words.now false
+        → RunsAs asked (change S.left S.faults source.old source.new) (change K.written K.faults out.old out.new) (change E.written E.faults err.old err.new)
+        result }
 {
     match task_of(alloc, words, source) {
         Ok(task) => answer(alloc, task, out, err, steps),
@@ -102,7 +107,8 @@ fn run_with<S: Source, B: Source, K: Sink, E: Sink, L: Ledger>(
     err: &mut E,
     steps: &mut Steps<L>,
 ) -> u8
-    ensures { RunsOn words.now (change S.left S.faults source.old source.new) (Some (change B.left B.faults base.old base.new)) (change K.written K.faults out.old out.new) (change E.written E.faults err.old err.new) result }
+    ensures { RunsOn words.now (change S.left S.faults source.old source.new) (Some (change B.left B.faults base.old base.new))
+        (change K.written K.faults out.old out.new) (change E.written E.faults err.old err.new) result }
 {
     match base_limit(words) {
         Some(limit) => load_onto(alloc, limit, source, base, out, err, steps),
@@ -121,7 +127,8 @@ fn load_onto<S: Source, B: Source, K: Sink, E: Sink, L: Ledger>(
     steps: &mut Steps<L>,
 ) -> u8
     requires { limit ≤ 2 ^ 30 }
-    ensures { (words : List (List ℕ)) → AreOnto words limit → RunsOn words (change S.left S.faults source.old source.new) (Some (change B.left B.faults base.old base.new)) (change K.written K.faults out.old out.new) (change E.written E.faults err.old err.new) result }
+    ensures { (words : List (List ℕ)) → AreOnto words limit → RunsOn words (change S.left S.faults source.old source.new)
+        (Some (change B.left B.faults base.old base.new)) (change K.written K.faults out.old out.new) (change E.written E.faults err.old err.new) result }
 {
     match input_of(alloc, source, limit) {
         Ok(text) => load_text_onto(alloc, text, limit, base, out, err, steps),
@@ -141,7 +148,8 @@ fn load_text_onto<B: Source, K: Sink, E: Sink, L: Ledger>(
 ) -> u8
     requires text { length text ≤ 2 ^ 30 }
     requires limit { limit ≤ 2 ^ 30 }
-    ensures { EndsOnto limit text (change B.left B.faults base.old base.new) (change K.written K.faults out.old out.new) (change E.written E.faults err.old err.new) result }
+    ensures { EndsOnto limit text (change B.left B.faults base.old base.new) (change K.written K.faults out.old out.new)
+        (change E.written E.faults err.old err.new) result }
 {
     match input_of(alloc, base, limit) {
         Ok(image) => answer_onto(alloc, text, image, limit, out, err, steps),

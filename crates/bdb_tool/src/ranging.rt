@@ -25,8 +25,8 @@ use bdb_file::{Db, Sound};
 use bdb_format::{BtreeMeta, Steps};
 use bdb_graph::{Linked, Meta};
 use bdb_io::Sink;
-use bdb_printing::write_pairs;
 use bdb_range::{RangePairs, pairs_of, span};
+use bdb_tool_print::write_pairs;
 use std::alloc::Global;
 use std::sync::ledger::Ledger;
 

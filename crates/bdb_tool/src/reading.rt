@@ -2,7 +2,7 @@
 ghost use Rattle.std.specs.Prelude.{◌≡◌, ◌≤◌, ◌^◌, IsTrue, List, Option, Some, is_some, length, option_copied, ℕ};
 ghost use Rattle.bdb_file.specs.AnyOrder.{faults_by_rows, verdict_by};
 ghost use Rattle.bdb_format.specs.HeadOf.{head_of};
-ghost use Rattle.bdb_lines.specs.Printing.{Writes};
+ghost use Rattle.bdb_tool_lines.specs.Printing.{Writes};
 ghost use Rattle.bdb_model.specs.Answers.{dumped, sound_line};
 ghost use Rattle.bdb_model.specs.Change.{change};
 ghost use Rattle.bdb_model.specs.Command.{Dump, ListAll, Request as ModelRequest, asked_name, text_request};
@@ -21,7 +21,7 @@ use bdb_faults::AllError;
 use bdb_file::{Readable, Rows, verify_all_by, verify_by};
 use bdb_format::Steps;
 use bdb_io::Sink;
-use bdb_printing::{Cut, write_list, write_section, write_sections};
+use bdb_tool_print::{Cut, write_list, write_section, write_sections};
 use std::alloc::Global;
 use std::sync::ledger::Ledger;
 

@@ -10,8 +10,8 @@ use crate::finish::{report, tell, tell_memory};
 use crate::status::NO_META;
 use bdb_format::Steps;
 use bdb_io::Sink;
-use bdb_printing::write_salvaged;
 use bdb_rescue::{SalvageError, salvage};
+use bdb_tool_print::write_salvaged;
 use std::alloc::Global;
 use std::sync::ledger::Ledger;
 

@@ -1,7 +1,7 @@
 //! The command that tells what the pages of a file are.
 ghost use Rattle.std.specs.Prelude.{◌≡◌, IfOk, string_bytes};
 ghost use Rattle.bdb_format.specs.File.{file_of};
-ghost use Rattle.bdb_lines.specs.Printing.{Writes};
+ghost use Rattle.bdb_tool_lines.specs.Printing.{Writes};
 ghost use Rattle.bdb_tool.specs.FileAnswers.{stat_text};
 ghost use Rattle.bdb_model.specs.Change.{change};
 ghost use Rattle.bdb_tool.specs.Figures.{figures_text, last_figures, other_figures, tree_figures};
@@ -9,8 +9,8 @@ ghost use Rattle.bdb_tool.specs.Figures.{figures_text, last_figures, other_figur
 use crate::finish::put;
 use bdb_file::Sound;
 use bdb_io::Sink;
-use bdb_printing::Cut;
 use bdb_stat::{Stat, stat};
+use bdb_tool_print::Cut;
 use std::alloc::{AllocError, Global};
 
 /// The lines of all pages, and of those of trees.

@@ -42,7 +42,8 @@ pub(crate) enum Stop {
 /// What a source has to its end, of at most so many bytes.
 pub(crate) fn input_of<S: Source>(alloc: Global, source: &mut S, limit: u32) -> Result<Image, Stop>
     requires { limit ≤ 2 ^ 30 }
-    ensures { MatchResult result (IsInputWithin limit (change S.left S.faults source.old source.new)) (IsUnreadable limit (change S.left S.faults source.old source.new)) }
+    ensures { MatchResult result (IsInputWithin limit (change S.left S.faults source.old source.new))
+        (IsUnreadable limit (change S.left S.faults source.old source.new)) }
 {
     match read_image(alloc, source, u64::from(limit)) {
         Ok(image) => Ok(image),
@@ -59,7 +60,9 @@ fn task_with<'w, S: Source>(
     source: &mut S,
 ) -> Result<Task<'w>, Stop>
     requires { IsFitCommand command }
-    ensures task { (words : Option ModelCommand) → IsSeen words command.entry → MatchResult result (IsTaskTaken (handed false words) (change S.left S.faults source.old source.new)) (IsStopped (handed false words) (change S.left S.faults source.old source.new)) }
+    ensures task { (words : Option ModelCommand) → IsSeen words command.entry
+        → MatchResult result (IsTaskTaken (handed false words) (change S.left S.faults source.old source.new))
+        (IsStopped (handed false words) (change S.left S.faults source.old source.new)) }
     ensures fit { IsTrue (is_some (command_seen command.entry)) → IfOk result IsFitTask }
 {
     match command.action {
@@ -94,7 +97,8 @@ pub(crate) fn task_of<'w, S: Source>(
     words: &'w Words,
     source: &mut S,
 ) -> Result<Task<'w>, Stop>
-    ensures task { MatchResult result (IsTaskTaken (command_on words.now false) (change S.left S.faults source.old source.new)) (IsStopped (command_on words.now false) (change S.left S.faults source.old source.new)) }
+    ensures task { MatchResult result (IsTaskTaken (command_on words.now false) (change S.left S.faults source.old source.new))
+        (IsStopped (command_on words.now false) (change S.left S.faults source.old source.new)) }
     ensures fit { IfOk result IsFitTask }
 {
     let Some(command) = command_of(words) else {

@@ -3,7 +3,7 @@ ghost use Rattle.std.specs.Prelude.{◌≡◌, ◌⊎◌, ◌<◌, length};
 ghost use Rattle.bdb_model.specs.Change.{change};
 ghost use Rattle.bdb_model.specs.Lines.{memory_line};
 ghost use Rattle.bdb_faults.specs.Named.{judgement_seen};
-ghost use Rattle.bdb_lines.specs.Telling.{judgement_line, judgement_status, judgements_text};
+ghost use Rattle.bdb_tool_lines.specs.Telling.{judgement_line, judgement_status, judgements_text};
 ghost use Rattle.bdb_tool.specs.Outputs.{first_status};
 ghost use Rattle.bdb_tool.specs.Parts.{IsRefused, Tells};
 
@@ -12,7 +12,7 @@ use crate::status::{FAULT, UNSUPPORTED, WRITE_FAULT};
 use bdb_faults::{Named, NamedList};
 use bdb_format::Verdict;
 use bdb_io::Sink;
-use bdb_lines::{Room, tell_all, tell_one};
+use bdb_tool_lines::{Room, tell_all, tell_one};
 use std::alloc::Global;
 
 /// The status that the first of what is told gives.

@@ -1,4 +1,4 @@
-//! Tests of `run` over memory: what a line of the table of `tool_runs` can't say.
+//! Tests of `run` over memory: what a line of the table of `check_runs` can't say.
 #![tactic(auto)]
 
 #[cfg(test)]

@@ -1,15 +1,15 @@
 //! How far an input is read, and what `trial` tells where its output fails.
 
 use bdb_io::{MemSink, MemSource};
-use bdb_running::files::ONE_PAIR;
-use bdb_running::images::bytes_of;
-use bdb_running::outside::{Dripping, Narrow};
-use bdb_running::running::Told::Line;
-use bdb_running::running::{
-    READ_FAULT, WRITE_FAULT, gave, is_start, ran_of, ran_over, source_over, status_of,
-};
 use std::alloc::{AllocError, Global};
 use std::test::Fail;
+use test_runs::files::ONE_PAIR;
+use test_runs::images::bytes_of;
+use test_runs::outside::{Dripping, Narrow};
+use test_runs::running::Told::Line;
+use test_runs::running::{
+    READ_FAULT, WRITE_FAULT, gave, is_start, ran_of, ran_over, source_over, status_of,
+};
 
 #[test]
 fn reads_a_byte_beyond_its_limit(rt: HostRuntime) -> Result<(), Fail> {

@@ -3,16 +3,16 @@ ghost use Rattle.std.specs.Prelude.{◌≡◌};
 
 use bdb_format::Steps;
 use bdb_io::{MemSink, MemSource, Source};
-use bdb_running::files::ONE_PAIR;
-use bdb_running::images::bytes_of;
-use bdb_running::outside::Dripping;
-use bdb_running::running::{source_over, words_of};
 use bdb_tool::laws::run_pure;
 use bdb_tool::run;
 use std::alloc::{AllocError, Global};
 use std::marker::Brand;
 use std::sync::ledger::{Blank, Ledger};
 use std::test::Fail;
+use test_runs::files::ONE_PAIR;
+use test_runs::images::bytes_of;
+use test_runs::outside::Dripping;
+use test_runs::running::{source_over, words_of};
 
 fn status_beside<L: Ledger, B: Source>(
     alloc: Global,

@@ -1,12 +1,12 @@
 //! What `trial` writes: the figures, and the hash of the image. The rules: README.md, "Use".
 
 use bdb_layout::hash5;
-use bdb_running::files::ONE_PAIR;
-use bdb_running::images::bytes_of;
-use bdb_running::outside::Dripping;
-use bdb_running::running::{ran_of, ran_over};
-use bdb_running::texts::GENERATED_TEXT;
 use std::test::Fail;
+use test_runs::files::ONE_PAIR;
+use test_runs::images::bytes_of;
+use test_runs::outside::Dripping;
+use test_runs::running::{ran_of, ran_over};
+use test_runs::texts::GENERATED_TEXT;
 
 // Words of `trial`, and the first line that it writes.
 const TRIALS: [(&[&str], &[u8]); 7] = [

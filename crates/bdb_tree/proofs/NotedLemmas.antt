@@ -191,7 +191,8 @@ of_noted image fault forest at =
 
 -- The faults of the stage.
 
-in_fault_if : (row : StructureRow) (page : ℕ) (holds : Bool) → holds ≡ true → Contains (fault_if (Structure row) page holds) (leaf_fault page (structure_code row))
+in_fault_if : (row : StructureRow) (page : ℕ) (holds : Bool) → holds ≡ true
+    → Contains (fault_if (Structure row) page holds) (leaf_fault page (structure_code row))
 in_fault_if row page true is = first_member (leaf_fault page (structure_code row)) []
 in_fault_if row page false is = absurd cc
 
@@ -216,7 +217,8 @@ in_tree_faults : (file : File) (place : LeafPlace) (fault : Fault) → place.lea
 unfolding tree_faults
 in_tree_faults file place fault low at here =
     let p : ℕ = place.leaf in
-    elim (Contains-append_cases (fault_if (Structure LeafKind) p (is_wrong_leaf file place)) (fault_if (Structure LeafLink) p (is_wrong_link file place)) fault here) [
+    elim (Contains-append_cases (fault_if (Structure LeafKind) p (is_wrong_leaf file place)) (fault_if (Structure LeafLink) p (is_wrong_link file place)) fault
+    here) [
       | inl kind ↦
           let is = of_fault_if LeafKind p (is_wrong_leaf file place) fault kind in
           subst (Contains (tree_faults file)) is.1 (in_stage 2 (holds_kind _ _ (passes (is_wrong_leaf file) is.0)))
@@ -243,7 +245,8 @@ code_of_two false true code at = inr (sym (only_member 3 code at), refl)
 code_of_two false false code at = absurd (no_member [] code refl at)
 
 -- a fault of a row that holds somewhere at its page is noted
-noted_row : (image : List ℕ) (fault : Fault) (row : StructureRow) (wrong : LeafPlace → Bool) → IsForest image → fault.stage ≡ 6 → fault.code ≡ structure_code row
+noted_row : (image : List ℕ) (fault : Fault) (row : StructureRow) (wrong : LeafPlace → Bool) → IsForest image → fault.stage ≡ 6
+    → fault.code ≡ structure_code row
     → ((place : LeafPlace) → wrong place ≡ true → Contains (place_faults (file_of image) place) (leaf_fault place.leaf (structure_code row)))
     → list_any (λ (other : LeafPlace). other.leaf == fault.page && wrong other) (leaf_places (file_of image)) ≡ true
     → Contains (noted (file_of image)) fault

@@ -31,7 +31,8 @@ place_in sort pages i = record {
 
 -- the faults of a leaf at its place
 abbrev pub place_faults : File → LeafPlace → List Fault
-place_faults file place = fault_if (Structure LeafKind) place.leaf (is_wrong_leaf file place) ++ fault_if (Structure LeafLink) place.leaf (is_wrong_link file place)
+place_faults file place = fault_if (Structure LeafKind) place.leaf (is_wrong_leaf file place)
+    ++ fault_if (Structure LeafLink) place.leaf (is_wrong_link file place)
 
 -- those of the leaves of the tree with this root, if there is one
 abbrev pub root_faults : File → Sort → Option ℕ → List Fault

@@ -98,7 +98,8 @@ apart_parts n part low high are f g at_f at_g =
 pub index_between : (from n : ℕ) → Between (26 + 2 * from) (map (λ i. field (26 + 2 * i) 2) (range_with_len from n)) (26 + 2 * (from + n))
 index_between from zero = omega arith
 index_between from (suc n) =
-    let rest : Between (26 + 2 * (from + 1)) (map (λ i. field (26 + 2 * i) 2) (range_with_len (from + 1) n)) (26 + 2 * (from + 1 + n)) = index_between (from + 1) n in
+    let rest : Between (26 + 2 * (from + 1)) (map (λ i. field (26 + 2 * i) 2) (range_with_len (from + 1) n)) (26 + 2 * (from + 1 + n)) = index_between
+    (from + 1) n in
     let begin : 26 + 2 * (from + 1) ≡ 26 + 2 * from + 2 = omega arith in
     let end : 26 + 2 * (from + 1 + n) ≡ 26 + 2 * (from + suc n) = omega arith in (
       omega arith,

@@ -1,5 +1,6 @@
 -- A whole image in the other order.
-use Rattle.std.proofs.Common.{◌≡◌, ◌∙◌, ◌⊎◌, inl, inr, ℕ, ◌+◌, ◌-◌, ◌*◌, ◌/◌, ◌%◌, ◌^◌, ◌<◌, ◌≤◌, List, [], ◌∷◌, map, length, drop, take, refl, sym, ap, arith, length-drop, mul-le-mul_right}
+use Rattle.std.proofs.Common.{◌≡◌, ◌∙◌, ◌⊎◌, inl, inr, ℕ, ◌+◌, ◌-◌, ◌*◌, ◌/◌, ◌%◌, ◌^◌, ◌<◌, ◌≤◌, List, [], ◌∷◌, map, length, drop, take, refl, sym, ap, arith}
+use Rattle.std.proofs.Common.{length-drop, mul-le-mul_right}
 use Rattle.std.specs.Prelude.{cond, not, nat_lt, nat_le, ◌||◌, ◌&&◌, ◌==◌, reverse, Bool, true, false, Some, None}
 use Rattle.std.specs.Option.{option_to_list}
 use Rattle.std.specs.List.{Contains, find, flat_map, range_with_len}
@@ -23,7 +24,8 @@ use Rattle.bdb_format.specs.Page.{Page}
 use Rattle.bdb_format.specs.Reading.{abstract_page, is_zero}
 use Rattle.bdb_format.specs.Rows.{form_code, is_queue, version_of}
 use Rattle.bdb_format.specs.Table.{Row, ◌:?◌, first_row}
-use Rattle.bdb_format.specs.Verdict.{reference_faults, ownership_faults, reach_faults, structure_faults, master_faults, contents_faults, by_page, faults_in, faults_of, file_faults, form_faults, head_faults, holding, or_else, stage_faults, tail_faults, tail_rows}
+use Rattle.bdb_format.specs.Verdict.{reference_faults, ownership_faults, reach_faults, structure_faults, master_faults, contents_faults, by_page, faults_in}
+use Rattle.bdb_format.specs.Verdict.{faults_of, file_faults, form_faults, head_faults, holding, or_else, stage_faults, tail_faults, tail_rows}
 use Rattle.bdb_graph.specs.Formed.{IsAccepted}
 use Rattle.bdb_turned.specs.Flipped.{first_overlap, flipped}
 use Rattle.bdb_turned.specs.Laws.{TurnsRound, turned_head}
@@ -97,7 +99,8 @@ can_flip image small none no_overlap =
       rows = rows;
       sizes = sizes;
       formed = formed;
-      turns = λ p low. pages_turn_round head p (page_bytes head image p) (ap is_page_size (sizes p (omega arith)) ∙ paged.legal) (formed p low) (no_overlap_at image p no_overlap low);
+      turns = λ p low. pages_turn_round head p (page_bytes head image p) (ap is_page_size (sizes p (omega arith)) ∙ paged.legal) (formed p low)
+          (no_overlap_at image p no_overlap low);
       zeros = λ p past there. zero_above image p both.1 past there;
     }
 
@@ -142,7 +145,8 @@ head_number image can order at inside same =
     ∙ (ap (λ bytes. four_at order bytes at) page
     ∙ (same ∙ (ap (λ bytes. four_at head.order bytes at) (front image) ∙ number_in_front 4 head.order image head.page_size at (omega arith))))
 
-head_byte : (image : List ℕ) → CanFlip image → (at : ℕ) → at < 512 → byte_at (turn image 0) at ≡ byte_at (page_bytes (head_of image) image 0) at → byte_at (flipped image) at ≡ byte_at image at
+head_byte : (image : List ℕ) → CanFlip image → (at : ℕ) → at < 512 → byte_at (turn image 0) at ≡ byte_at (page_bytes (head_of image) image 0) at
+    → byte_at (flipped image) at ≡ byte_at image at
 head_byte image can at inside same =
     let head : Head = head_of image in
     let least : 512 ≤ head.page_size = can.paged.least in
@@ -206,7 +210,8 @@ four_bytes (a ∷ b ∷ c ∷ []) long is = absurd (omega arith)
 four_bytes (a ∷ b ∷ c ∷ d ∷ []) long is = one_order a b c d is
 four_bytes (a ∷ b ∷ c ∷ d ∷ e ∷ rest) long is = absurd (omega arith)
 
-other_magic : (order : Order) (bytes : List ℕ) (at : ℕ) → at + 4 ≤ length bytes → is_magic (four_at (turned order) bytes at) ≡ true → is_magic (four_at order bytes at) ≡ false
+other_magic : (order : Order) (bytes : List ℕ) (at : ℕ) → at + 4 ≤ length bytes → is_magic (four_at (turned order) bytes at) ≡ true
+    → is_magic (four_at order bytes at) ≡ false
 unfolding number_at
 other_magic Little bytes at inside is =
     let four : List ℕ = take 4 (drop at bytes) in
@@ -250,12 +255,14 @@ head_flips image can =
     first_page_common head (page_bytes head image 0) (ap is_page_size size ∙ can.paged.legal) (can.formed 0 (omega arith)) in
     let number : (at : ℕ) → at + 4 ≤ 512 → four_at (turned head.order) (turn image 0) at ≡ four_at head.order (page_bytes head image 0) at
     → four_at (turned order) (flipped image) at ≡ four_at order image at =
-    λ at inside same. ap (λ o. four_at (turned o) (flipped image) at) (sym is) ∙ (head_number image can (turned head.order) at inside same ∙ ap (λ o. four_at o image at) is) in
+    λ at inside same. ap (λ o. four_at (turned o) (flipped image) at) (sym is)
+    ∙ (head_number image can (turned head.order) at inside same ∙ ap (λ o. four_at o image at) is) in
     let long : length (flipped image) ≡ length image = length-flipped image can in
     let enough : 512 ≤ length image = let rows = can.rows in long_image image can in
     let there : order_of (flipped image) ≡ turned order =
     flipped_order order image (flipped image) refl (magic_is image can.rows) (omega arith) (number 12 (omega arith) common.magic) in
-    let at : (k : ℕ) → four_at (turned order) (flipped image) k ≡ four_at order image k → four_at (order_of (flipped image)) (flipped image) k ≡ four_at order image k =
+    let at : (k : ℕ) → four_at (turned order) (flipped image) k ≡ four_at order image k → four_at (order_of (flipped image)) (flipped image) k
+    ≡ four_at order image k =
     λ k same. ap (λ o. four_at o (flipped image) k) there ∙ same in
     record {
       order = there;
@@ -279,7 +286,8 @@ head_flips image can =
 
 -- What the head says.
 
-same_head : (order : Order) (size last pages : ℕ) (kind : FileKind) (b : Head) → order ≡ b.order → size ≡ b.page_size → kind ≡ b.kind → last ≡ b.last → pages ≡ b.pages
+same_head : (order : Order) (size last pages : ℕ) (kind : FileKind) (b : Head) → order ≡ b.order → size ≡ b.page_size → kind ≡ b.kind → last ≡ b.last
+    → pages ≡ b.pages
     → record { order = order; page_size = size; kind = kind; last = last; pages = pages } ≡ b
 same_head order size last pages kind b one two three four five = rw (one, two, three, four, five)
 
@@ -298,7 +306,8 @@ head_turned : (image : List ℕ) → CanFlip image → head_of (flipped image) �
 unfolding head_of
 head_turned image can =
     let flips : HeadFlips image = head_flips image can in
-    same_head (order_of (flipped image)) (four_at (order_of (flipped image)) (flipped image) 20) (last_page (file_kind (magic_at (flipped image))) (flipped image))
+    same_head (order_of (flipped image)) (four_at (order_of (flipped image)) (flipped image) 20)
+    (last_page (file_kind (magic_at (flipped image))) (flipped image))
     (pages_of (flipped image)) (file_kind (magic_at (flipped image))) (turned_head (head_of image))
     flips.order flips.size (ap file_kind flips.magic)
     (ap (λ (m : ℕ). last_page (file_kind m) (flipped image)) flips.magic ∙ last_same image can (file_kind (magic_at image))) (pages_same image can)
@@ -328,8 +337,10 @@ rows_by image = refl
 by_parts : (l l' m m' v v' s s' e e' f f' q q' : ℕ) (p p' : Bool) → l ≡ l' → m ≡ m' → v ≡ v' → s ≡ s' → e ≡ e' → f ≡ f' → q ≡ q' → p ≡ p'
     → first_row (head_rows_by l m v s e f q p) ≡ first_row (head_rows_by l' m' v' s' e' f' q' p')
 by_parts l l' m m' v v' s s' e e' f f' q q' p p' a b c d g h i j =
-    ap (λ x. first_row (head_rows_by x m v s e f q p)) a ∙ (ap (λ x. first_row (head_rows_by l' x v s e f q p)) b ∙ (ap (λ x. first_row (head_rows_by l' m' x s e f q p)) c
-    ∙ (ap (λ x. first_row (head_rows_by l' m' v' x e f q p)) d ∙ (ap (λ x. first_row (head_rows_by l' m' v' s' x f q p)) g ∙ (ap (λ x. first_row (head_rows_by l' m' v' s' e' x q p)) h
+    ap (λ x. first_row (head_rows_by x m v s e f q p)) a ∙ (ap (λ x. first_row (head_rows_by l' x v s e f q p)) b
+    ∙ (ap (λ x. first_row (head_rows_by l' m' x s e f q p)) c
+    ∙ (ap (λ x. first_row (head_rows_by l' m' v' x e f q p)) d ∙ (ap (λ x. first_row (head_rows_by l' m' v' s' x f q p)) g
+    ∙ (ap (λ x. first_row (head_rows_by l' m' v' s' e' x q p)) h
     ∙ (ap (λ x. first_row (head_rows_by l' m' v' s' e' f' x p)) i ∙ ap (λ x. first_row (head_rows_by l' m' v' s' e' f' q' x)) j))))))
 
 past_same : (image : List ℕ) → CanFlip image → is_past (file_kind (magic_at (flipped image))) (flipped image) ≡ is_past (file_kind (magic_at image)) image
@@ -345,7 +356,8 @@ rows_none image can =
     let flips : HeadFlips image = head_flips image can in
     ap first_row (rows_by (flipped image))
     ∙ (by_parts (length (flipped image)) (length image) (magic_at (flipped image)) (magic_at image)
-    (four_at (order_of (flipped image)) (flipped image) 16) (four_at (order_of image) image 16) (four_at (order_of (flipped image)) (flipped image) 20) (four_at (order_of image) image 20)
+    (four_at (order_of (flipped image)) (flipped image) 16) (four_at (order_of image) image 16) (four_at (order_of (flipped image)) (flipped image) 20)
+    (four_at (order_of image) image 20)
     (byte_at (flipped image) 24) (byte_at image 24) (byte_at (flipped image) 26) (byte_at image 26)
     (four_at (order_of (flipped image)) (flipped image) 36) (four_at (order_of image) image 36)
     (is_past (file_kind (magic_at (flipped image))) (flipped image)) (is_past (file_kind (magic_at image)) image)
@@ -363,13 +375,21 @@ file_same image can =
     let head : Head = head_of image in
     let last : head.last < head.pages = can.paged.last in
     let read : Head → ℕ → Page = λ h p. abstract_page h.order (page_bytes h (flipped image) p) in
-    let pages : map (read (turned_head head)) (range_with_len 0 (head.last + 1)) ≡ map (λ p. abstract_page head.order (page_bytes head image p)) (range_with_len 0 (head.last + 1)) =
+    let pages : map (read (turned_head head)) (range_with_len 0 (head.last + 1)) ≡ map (λ p. abstract_page head.order (page_bytes head image p))
+    (range_with_len 0 (head.last + 1)) =
     map_same (read (turned_head head)) (λ p. abstract_page head.order (page_bytes head image p)) (range_with_len 0 (head.last + 1))
     (λ p at.
     let range : (0 ≤ p) × (p < 0 + (head.last + 1)) = of_range 0 (head.last + 1) p at in
     ap (abstract_page (turned head.order)) (flipped_page image can p (omega arith)) ∙ (can.turns p (omega arith)).reads) in
     let whole : File → File = λ f. f in
-    ap (λ (h : Head). let f : File = record { kind = h.kind; size = h.page_size; count = h.pages; last = h.last; pages = map (read h) (range_with_len 0 (h.last + 1)) } in f) (head_turned image can)
+    ap (λ (h : Head). let f : File = record {
+      kind = h.kind;
+      size = h.page_size;
+      count = h.pages;
+      last = h.last;
+      pages = map (read h)
+          (range_with_len 0 (h.last + 1));
+    } in f) (head_turned image can)
     ∙ ap (λ ps. let f : File = record { kind = head.kind; size = head.page_size; count = head.pages; last = head.last; pages = ps } in f) pages
 
 -- It is sound.
@@ -378,7 +398,8 @@ first_none : (image : List ℕ) → CanFlip image → head_faults (flipped image
 unfolding head_faults
 first_none image can = ap (λ code. by_page 1 0 1 (λ p. option_to_list code)) (rows_none image can)
 
-tail_zero : (image : List ℕ) → CanFlip image → (p : ℕ) → (head_of image).last < p → p < (head_of image).pages → is_zero (page_bytes (head_of (flipped image)) (flipped image) p) ≡ true
+tail_zero : (image : List ℕ) → CanFlip image → (p : ℕ) → (head_of image).last < p → p < (head_of image).pages
+    → is_zero (page_bytes (head_of (flipped image)) (flipped image) p) ≡ true
 tail_zero image can p past there =
     let zeros : is_zero (page_bytes (head_of image) image p) ≡ true = can.zeros p past there in
     ap is_zero (page_there image can p there ∙ zero_stays (head_of image).order (page_bytes (head_of image) image p) zeros) ∙ zeros
@@ -440,13 +461,15 @@ sound_of image can none =
 
 -- It flips back.
 
-back_at : (image : List ℕ) → CanFlip image → (p : ℕ) → p < (head_of image).pages → turned_page (turned (head_of image).order) (turn image p) ≡ page_bytes (head_of image) image p
+back_at : (image : List ℕ) → CanFlip image → (p : ℕ) → p < (head_of image).pages → turned_page (turned (head_of image).order) (turn image p)
+    ≡ page_bytes (head_of image) image p
 back_at image can p lt =
     let head : Head = head_of image in
     elim (cases_lt head.last p) [
       | inl past ↦
           let zeros : is_zero (page_bytes head image p) ≡ true = can.zeros p past lt in
-          ap (turned_page (turned head.order)) (zero_stays head.order (page_bytes head image p) zeros) ∙ zero_stays (turned head.order) (page_bytes head image p) zeros
+          ap (turned_page (turned head.order)) (zero_stays head.order (page_bytes head image p) zeros)
+          ∙ zero_stays (turned head.order) (page_bytes head image p) zeros
       | inr low ↦ (can.turns p low).back
     ]
 

@@ -47,7 +47,8 @@ content_is order page i = refl
 pub data HashCase (order : Order) (page : List ℕ) (at end : ℕ) (content : Content) : Type 0 where
   IsInline : byte_at page at ≡ 1 → content ≡ Inline (slice_range page (at + 1) end) → HashCase order page at end content
   IsSet : byte_at page at ≡ 2 → (blocks : List (List ℕ)) → content ≡ Set blocks → RunsTo order page (at + 1) end blocks → HashCase order page at end content
-  IsChain : byte_at page at ≡ 3 → content ≡ Chain (four_at order page (at + 4)) (four_at order page (at + 8)) → end ≡ at + 12 → HashCase order page at end content
+  IsChain : byte_at page at ≡ 3 → content ≡ Chain (four_at order page (at + 4)) (four_at order page (at + 8)) → end ≡ at + 12
+      → HashCase order page at end content
   IsTree : byte_at page at ≡ 4 → content ≡ Tree (four_at order page (at + 4)) → end ≡ at + 8 → HashCase order page at end content
 
 one_to_four : (k : ℕ) → 1 ≤ k → k ≤ 4 → (k ≡ 1) ⊎ ((k ≡ 2) ⊎ ((k ≡ 3) ⊎ (k ≡ 4)))
@@ -119,8 +120,10 @@ end_of_next order page i =
     let back : suc i - 1 ≡ i = omega arith in
     rw (no_zero, back) refl
 
-descends : (order : Order) (page : List ℕ) → IsHash order page → (d j : ℕ) → j + d < entries_of order page → offset_of order page (j + d) ≤ offset_of order page j
-descends order page is zero j lt = let same : j + 0 ≡ j = omega arith in let at : offset_of order page (j + 0) ≡ offset_of order page j = ap (offset_of order page) same in omega arith
+descends : (order : Order) (page : List ℕ) → IsHash order page → (d j : ℕ) → j + d < entries_of order page
+    → offset_of order page (j + d) ≤ offset_of order page j
+descends order page is zero j lt = let same : j + 0 ≡ j = omega arith in let at : offset_of order page (j + 0)
+    ≡ offset_of order page j = ap (offset_of order page) same in omega arith
 descends order page is (suc d) j lt =
     let next : j + suc d ≡ suc (j + d) = omega arith in
     let rest : offset_of order page (j + d) ≤ offset_of order page j = descends order page is d j (omega arith) in
@@ -129,7 +132,8 @@ descends order page is (suc d) j lt =
     let at : offset_of order page (j + suc d) ≡ offset_of order page (suc (j + d)) = ap (offset_of order page) next in
     omega arith
 
-later_ends : (order : Order) (page : List ℕ) → IsHash order page → (i j : ℕ) → j < i → i < entries_of order page → hash_end order page i ≤ offset_of order page j
+later_ends : (order : Order) (page : List ℕ) → IsHash order page → (i j : ℕ) → j < i → i < entries_of order page
+    → hash_end order page i ≤ offset_of order page j
 later_ends order page is zero j lt below = absurd (omega arith)
 later_ends order page is (suc i) j lt below =
     let there : j + (i - j) ≡ i = omega arith in
@@ -141,15 +145,18 @@ later_ends order page is (suc i) j lt below =
 compare : (i j : ℕ) → (i ≡ j) ⊎ ((i < j) ⊎ (j < i))
 compare i j = grind arith
 
-hash_between : (order : Order) (page : List ℕ) (at end : ℕ) (content : Content) → at < end → HashCase order page at end content → Between at (hash_fields at content) end
+hash_between : (order : Order) (page : List ℕ) (at end : ℕ) (content : Content) → at < end → HashCase order page at end content
+    → Between at (hash_fields at content) end
 hash_between order page at end content begins (IsInline kind is) = subst (λ c. Between at (hash_fields at c) end) (sym is) (let l : at ≤ end = omega arith in l)
 hash_between order page at end content begins (IsSet kind blocks is run) =
-    subst (λ c. Between at (hash_fields at c) end) (sym is) (lower (at + 1) at end (block_fields (at + 1) blocks) (omega arith) (run_between order page (at + 1) end blocks run))
+    subst (λ c. Between at (hash_fields at c) end) (sym is) (lower (at + 1) at end (block_fields (at + 1) blocks) (omega arith)
+    (run_between order page (at + 1) end blocks run))
   where
     lower : (from low to : ℕ) (fields : List Field) → low ≤ from → Between from fields to → Between low fields to
     lower from low to [] below between = let l : from ≤ to = between in omega arith
     lower from low to (f ∷ fields) below between = let l : from ≤ f.begin = between.0 in (omega arith, between.1)
-hash_between order page at end content begins (IsChain kind is ends) = subst (λ c. Between at (hash_fields at c) end) (sym is) (omega arith, (omega arith, omega arith))
+hash_between order page at end content begins (IsChain kind is ends) = subst (λ c. Between at (hash_fields at c) end) (sym is)
+    (omega arith, (omega arith, omega arith))
 hash_between order page at end content begins (IsTree kind is ends) = subst (λ c. Between at (hash_fields at c) end) (sym is) (omega arith, omega arith)
 
 pub hash_placed : (order : Order) (page : List ℕ) → IsHash order page
@@ -172,7 +179,8 @@ hash_placed order page is = record {
 -- What is read in the other order.
 
 -- no number of an item holds its first byte
-kind_untouched : (order : Order) (page : List ℕ) (at end : ℕ) (content : Content) → at < end → HashCase order page at end content → IsUntouched (hash_fields at content) at
+kind_untouched : (order : Order) (page : List ℕ) (at end : ℕ) (content : Content) → at < end → HashCase order page at end content
+    → IsUntouched (hash_fields at content) at
 kind_untouched order page at end content begins (IsInline kind is) f has = absurd (no_member [] f refl (subst (λ c. Contains (hash_fields at c) f) is has))
 kind_untouched order page at end content begins (IsSet kind blocks is run) f has =
     let low : (at + 1 ≤ f.begin) × (f.begin + f.width ≤ end) =
@@ -241,7 +249,8 @@ hash_turned order page other i hash is lt =
           let nothing : part i ≡ [] = ap (hash_fields at) what in
           let free : (k : ℕ) → at + 1 ≤ k → k < end → IsUntouched (hash_all order page) k =
           λ k low below. untouched k (omega arith) below (λ f here. absurd (no_member (part i) f nothing here)) in
-          let bytes : slice_range other (at + 1) end ≡ slice_range page (at + 1) end = slice_same (hash_all order page) page other (at + 1) end is inside free in
+          let bytes : slice_range other (at + 1) end ≡ slice_range page (at + 1) end = slice_same (hash_all order page) page other (at + 1) end is inside free
+          in
           record {
             offset = offsets i lt;
             end = ends;
@@ -256,7 +265,8 @@ hash_turned order page other i hash is lt =
           run_turned (hash_all order page) page other order (at + 1) end blocks is inside
           (λ f held. has f (subst (λ fields. Contains fields f) (sym parts) held))
           (λ k low below free. untouched k (omega arith) below (subst (λ fields. IsUntouched fields k) (sym parts) free)) run in
-          let there_reads : blocks_of (turned order) (slice_range other (at + 1) end) ≡ Some blocks = run_reads (turned order) other (at + 1) end blocks (omega arith) here in
+          let there_reads : blocks_of (turned order) (slice_range other (at + 1) end) ≡ Some blocks = run_reads (turned order) other (at + 1) end blocks
+          (omega arith) here in
           let reads : blocks_of order (slice_range page (at + 1) end) ≡ Some blocks = run_reads order page (at + 1) end blocks inside run in
           record {
             offset = offsets i lt;

@@ -34,22 +34,31 @@ internal_low order page i = offset_of order page i
 abbrev pub internal_all : Order → List ℕ → List Field
 internal_all order page = all_fields (entries_of order page) (internal_part order page)
 
-pub same_item : (order : Order) (page : List ℕ) (i j : ℕ) → offset_of order page i ≡ offset_of order page j → internal_item_at order page i ≡ internal_item_at order page j
+pub same_item : (order : Order) (page : List ℕ) (i j : ℕ) → offset_of order page i ≡ offset_of order page j → internal_item_at order page i
+    ≡ internal_item_at order page j
 unfolding internal_item_at
 same_item order page i j same =
-    ap (λ (at : ℕ). let item : InternalItem = record { child = four_at order page (at + 4); count = four_at order page (at + 8); key = internal_key order page at (kind_at page at) } in item) same
+    ap (λ (at : ℕ). let item : InternalItem = record {
+      child = four_at order page (at + 4);
+      count = four_at order page (at + 8);
+      key = internal_key order page
+          at (kind_at page at);
+    } in item) same
 
-key_is : (order : Order) (page : List ℕ) (i : ℕ) → (internal_item_at order page i).key ≡ internal_key order page (offset_of order page i) (kind_at page (offset_of order page i))
+key_is : (order : Order) (page : List ℕ) (i : ℕ) → (internal_item_at order page i).key ≡ internal_key order page (offset_of order page i)
+    (kind_at page (offset_of order page i))
 unfolding internal_item_at
 key_is order page i = refl
 
-internal_begins : (order : Order) (page : List ℕ) (i : ℕ) → first_row (internal_rows order page i) ≡ None → 26 + 2 * entries_of order page ≤ offset_of order page i
+internal_begins : (order : Order) (page : List ℕ) (i : ℕ) → first_row (internal_rows order page i) ≡ None
+    → 26 + 2 * entries_of order page ≤ offset_of order page i
 unfolding internal_rows
 internal_begins order page i none = grind (arith, nat_tests)
 
 -- a key by its kind
 pub data KeyCase (order : Order) (page : List ℕ) (at : ℕ) (key : Content) : Type 0 where
-  IsInline : kind_at page at ≡ 1 → key ≡ Inline (slice_range page (at + 12) (at + 12 + two_at order page at)) → at + 12 + two_at order page at ≤ length page → KeyCase order page at key
+  IsInline : kind_at page at ≡ 1 → key ≡ Inline (slice_range page (at + 12) (at + 12 + two_at order page at)) → at + 12 + two_at order page at ≤ length page
+      → KeyCase order page at key
   IsChain : kind_at page at ≡ 3 → key ≡ Chain (four_at order page (at + 16)) (four_at order page (at + 20)) → at + 24 ≤ length page → KeyCase order page at key
 
 pub key_case : (order : Order) (page : List ℕ) (i : ℕ) → first_row (internal_rows order page i) ≡ None
@@ -60,21 +69,35 @@ key_case order page i none =
     let within : at + 12 + two_at order page at ≤ length page = fits.within in
     elim fits.kind [
       | inl one ↦ IsInline one (key_is order page i ∙ ap (internal_key order page at) one) within
-      | inr three ↦ let size : two_at order page at ≡ 12 = three.1 in IsChain three.0 (key_is order page i ∙ ap (internal_key order page at) three.0) (omega arith)
+      | inr three ↦ let size : two_at order page at ≡ 12 = three.1 in IsChain three.0 (key_is order page i ∙ ap (internal_key order page at) three.0)
+          (omega arith)
     ]
 
-key_between : (order : Order) (page : List ℕ) (at : ℕ) (key : Content) → KeyCase order page at key → Between (at + 12) (key_fields at key) (internal_item_end at key)
+key_between : (order : Order) (page : List ℕ) (at : ℕ) (key : Content) → KeyCase order page at key
+    → Between (at + 12) (key_fields at key) (internal_item_end at key)
 key_between order page at key (IsInline kind is inside) =
-    subst (λ c. Between (at + 12) (key_fields at c) (internal_item_end at c)) (sym is) (let l : at + 12 ≤ at + 12 + length (slice_range page (at + 12) (at + 12 + two_at order page at)) = omega arith in l)
-key_between order page at key (IsChain kind is inside) = subst (λ c. Between (at + 12) (key_fields at c) (internal_item_end at c)) (sym is) (omega arith, (omega arith, omega arith))
+    subst (λ c. Between (at + 12) (key_fields at c) (internal_item_end at c)) (sym is)
+    (let l : at + 12 ≤ at + 12 + length (slice_range page (at + 12) (at + 12 + two_at order page at)) = omega arith in l)
+key_between order page at key (IsChain kind is inside) = subst (λ c. Between (at + 12) (key_fields at c) (internal_item_end at c)) (sym is)
+    (omega arith, (omega arith, omega arith))
 
 lower : (from low to : ℕ) (fields : List Field) → low ≤ from → Between from fields to → Between low fields to
 lower from low to [] below between = let l : from ≤ to = between in omega arith
 lower from low to (f ∷ fields) below between = let l : from ≤ f.begin = between.0 in (omega arith, between.1)
 
-internal_between : (order : Order) (page : List ℕ) (at : ℕ) (item : InternalItem) → KeyCase order page at item.key → Between at (internal_fields at item) (internal_item_end at item.key)
-internal_between order page at item case =
-    (omega arith, (omega arith, (omega arith, lower (at + 12) (at + 8 + 4) (internal_item_end at item.key) (key_fields at item.key) (omega arith) (key_between order page at item.key case))))
+internal_between : (order : Order) (page : List ℕ) (at : ℕ) (item : InternalItem) → KeyCase order page at item.key
+    → Between at (internal_fields at item) (internal_item_end at item.key)
+internal_between order page at item case = (
+  omega arith,
+  (
+    omega arith,
+    (
+      omega arith,
+      lower (at + 12) (at + 8 + 4) (internal_item_end at item.key) (key_fields at item.key) (omega arith)
+          (key_between order page at item.key case),
+    ),
+  ),
+)
 
 pub internal_ends : (order : Order) (page : List ℕ) (i : ℕ) → first_row (internal_rows order page i) ≡ None → internal_high order page i ≤ length page
 internal_ends order page i none =
@@ -83,7 +106,8 @@ internal_ends order page i none =
       | IsInline kind is inside ↦
           let long : length (slice_range page (at + 12) (at + 12 + two_at order page at)) ≡ at + 12 + two_at order page at - (at + 12) =
           length-slice_range page (at + 12) (at + 12 + two_at order page at) inside in
-          let end : internal_high order page i ≡ at + 12 + length (slice_range page (at + 12) (at + 12 + two_at order page at)) = ap (internal_item_end at) is in
+          let end : internal_high order page i ≡ at + 12 + length (slice_range page (at + 12) (at + 12 + two_at order page at)) = ap (internal_item_end at) is
+          in
           omega arith
       | IsChain kind is inside ↦ let end : internal_high order page i ≡ at + 24 = ap (internal_item_end at) is in omega arith
     ]
@@ -105,7 +129,8 @@ internal_placed order page is = record {
   parts = record {
     lies = λ i lt. internal_between order page (offset_of order page i) (internal_item_at order page i) (key_case order page i (is.rows i lt));
     apart = λ i j lt_i lt_j.
-        elim (listed_apart (λ at (item : InternalItem). internal_item_end at item.key) no_internal order page (internal_item_at order page) is.apart i j lt_i lt_j) [
+        elim (listed_apart (λ at (item : InternalItem). internal_item_end at item.key) no_internal order page (internal_item_at order page) is.apart i j lt_i
+        lt_j) [
           | inl same ↦
               let item : internal_item_at order page i ≡ internal_item_at order page j = same_item order page i j same in
               inl cc
@@ -123,7 +148,8 @@ pub record InternalTurned (order : Order) (page other : List ℕ) (i : ℕ) : Ty
   pub key : internal_key (turned order) other (offset_of order page i) (kind_at page (offset_of order page i))
       ≡ internal_key order page (offset_of order page i) (kind_at page (offset_of order page i))
 
-pub internal_turned : (order : Order) (page other : List ℕ) (i : ℕ) → IsInternal order page → IsTurned (internal_all order page) page other → i < entries_of order page
+pub internal_turned : (order : Order) (page other : List ℕ) (i : ℕ) → IsInternal order page → IsTurned (internal_all order page) page other
+    → i < entries_of order page
     → InternalTurned order page other i
 internal_turned order page other i inner is lt =
     let n : ℕ = entries_of order page in
@@ -139,7 +165,8 @@ internal_turned order page other i inner is lt =
     let untouched : (k : ℕ) → at ≤ k → k < high → IsUntouched (part i) k → IsUntouched (internal_all order page) k =
     λ k low below free. untouched_in_item n (length page) part (internal_low order page) (internal_high order page) i k placed lt low below free in
     let two : two_at (turned order) other at ≡ two_at order page at =
-    number_same (internal_all order page) page other order at 2 is (has (field at 2) (first_member (field at 2) (field (at + 4) 4 ∷ field (at + 8) 4 ∷ keys))) in
+    number_same (internal_all order page) page other order at 2 is (has (field at 2) (first_member (field at 2) (field (at + 4) 4 ∷ field (at + 8) 4 ∷ keys)))
+    in
     let four : (begin : ℕ) → Contains (part i) (field begin 4) → four_at (turned order) other begin ≡ four_at order page begin =
     λ begin here. number_same (internal_all order page) page other order begin 4 is (has (field begin 4) here) in
     let child_in : Contains (part i) (field (at + 4) 4) =
@@ -156,14 +183,16 @@ internal_turned order page other i inner is lt =
     let kind_free : IsUntouched (part i) (at + 2) =
     untouched_cons (field at 2) (field (at + 4) 4 ∷ field (at + 8) 4 ∷ keys) (at + 2) (inr (omega arith))
     (untouched_before (at + 4) (field (at + 4) 4 ∷ field (at + 8) 4 ∷ keys) high (at + 2) rest_between (omega arith)) in
-    let kind_of : at + 2 < high → byte_at other (at + 2) ≡ byte_at page (at + 2) = λ below. is.kept (at + 2) (untouched (at + 2) (omega arith) below kind_free) in
+    let kind_of : at + 2 < high → byte_at other (at + 2) ≡ byte_at page (at + 2) = λ below. is.kept (at + 2) (untouched (at + 2) (omega arith) below kind_free)
+    in
     elim case [
       | IsInline kind what inside ↦
           let n_bytes : ℕ = two_at order page at in
           let bytes : List ℕ = slice_range page (at + 12) (at + 12 + n_bytes) in
           let end : high ≡ at + 12 + length bytes = ap (internal_item_end at) what in
           let long : length bytes ≡ at + 12 + n_bytes - (at + 12) = length-slice_range page (at + 12) (at + 12 + n_bytes) inside in
-          let parts : part i ≡ field at 2 ∷ field (at + 4) 4 ∷ field (at + 8) 4 ∷ [] = ap (λ c. field at 2 ∷ field (at + 4) 4 ∷ field (at + 8) 4 ∷ key_fields at c) what in
+          let parts : part i ≡ field at 2 ∷ field (at + 4) 4 ∷ field (at + 8) 4
+          ∷ [] = ap (λ c. field at 2 ∷ field (at + 4) 4 ∷ field (at + 8) 4 ∷ key_fields at c) what in
           let plain : Between at (field at 2 ∷ field (at + 4) 4 ∷ field (at + 8) 4 ∷ []) (at + 12) = (omega arith, (omega arith, (omega arith, omega arith))) in
           let free : (k : ℕ) → at + 12 ≤ k → k < at + 12 + n_bytes → IsUntouched (internal_all order page) k =
           λ k low below. untouched k (omega arith) (omega arith) (subst (λ fields. IsUntouched fields k) (sym parts)
@@ -182,7 +211,8 @@ internal_turned order page other i inner is lt =
           let end : high ≡ at + 24 = ap (internal_item_end at) what in
           let parts : keys ≡ field (at + 16) 4 ∷ field (at + 20) 4 ∷ [] = ap (key_fields at) what in
           let head : four_at (turned order) other (at + 16) ≡ four_at order page (at + 16) =
-          four (at + 16) (in_key (field (at + 16) 4) (subst (λ fields. Contains fields (field (at + 16) 4)) (sym parts) (first_member (field (at + 16) 4) (field (at + 20) 4 ∷ [])))) in
+          four (at + 16) (in_key (field (at + 16) 4) (subst (λ fields. Contains fields (field (at + 16) 4)) (sym parts)
+          (first_member (field (at + 16) 4) (field (at + 20) 4 ∷ [])))) in
           let total : four_at (turned order) other (at + 20) ≡ four_at order page (at + 20) =
           four (at + 20) (in_key (field (at + 20) 4) (subst (λ fields. Contains fields (field (at + 20) 4)) (sym parts)
           (later_member (field (at + 16) 4) (field (at + 20) 4 ∷ []) (field (at + 20) 4) (first_member (field (at + 20) 4) [])))) in
@@ -196,7 +226,8 @@ internal_turned order page other i inner is lt =
           }
     ]
 
-pub item_same : (order : Order) (page other : List ℕ) (i : ℕ) → InternalTurned order page other i → internal_item_at (turned order) other i ≡ internal_item_at order page i
+pub item_same : (order : Order) (page other : List ℕ) (i : ℕ) → InternalTurned order page other i → internal_item_at (turned order) other i
+    ≡ internal_item_at order page i
 unfolding internal_item_at
 item_same order page other i is = rw (is.offset, is.kind, is.child, is.count, is.key) refl
 
@@ -257,7 +288,8 @@ recno_turned order page other i is lt =
       count = four (at + 4) (later_member (field at 4) (field (at + 4) 4 ∷ []) (field (at + 4) 4) (first_member (field (at + 4) 4) []));
     }
 
-pub recno_same : (order : Order) (page other : List ℕ) (i : ℕ) → RecnoTurned order page other i → recno_item_at (turned order) other i ≡ recno_item_at order page i
+pub recno_same : (order : Order) (page other : List ℕ) (i : ℕ) → RecnoTurned order page other i → recno_item_at (turned order) other i
+    ≡ recno_item_at order page i
 unfolding recno_item_at
 recno_same order page other i is = rw (is.offset, is.child, is.count) refl
 

@@ -18,7 +18,8 @@ page_of_joined f size a (suc n) (suc p) sizes lt =
     let rest : List ℕ = flat_map f (range_with_len (a + 1) n) in
     let first : length (f a) ≡ size = sizes a (omega arith) (omega arith) in
     let past : suc p * size ≡ length (f a) + p * size = omega arith in
-    let later : take size (drop (p * size) rest) ≡ f (a + 1 + p) = page_of_joined f size (a + 1) n p (λ q low high. sizes q (omega arith) (omega arith)) (omega arith) in
+    let later : take size (drop (p * size) rest) ≡ f (a + 1 + p) = page_of_joined f size (a + 1) n p (λ q low high. sizes q (omega arith) (omega arith))
+    (omega arith) in
     let same : a + 1 + p ≡ a + suc p = omega arith in
     ap (λ (k : ℕ). take size (drop k (f a ++ rest))) past ∙ (ap (take size) (drop-append-add (f a) rest (p * size)) ∙ (later ∙ ap f same))
 
@@ -36,7 +37,8 @@ take_both (suc m) n [] = let same : suc m + n ≡ suc (m + n) = omega arith in e
     empty : (n : ℕ) → take {A = ℕ} n [] ≡ []
     empty zero = refl
     empty (suc n) = refl
-take_both (suc m) n (x ∷ xs) = let same : suc m + n ≡ suc (m + n) = omega arith in ap (λ ys. x ∷ ys) (take_both m n xs) ∙ ap (λ (k : ℕ). take k (x ∷ xs)) (sym same)
+take_both (suc m) n (x ∷ xs) = let same : suc m + n ≡ suc (m + n) = omega arith in ap (λ ys. x ∷ ys) (take_both m n xs)
+    ∙ ap (λ (k : ℕ). take k (x ∷ xs)) (sym same)
 
 joins_from : (xs : List ℕ) (size a n : ℕ) → flat_map (λ p. take size (drop (p * size) xs)) (range_with_len a n) ≡ take (n * size) (drop (a * size) xs)
 joins_from xs size a zero = let none : 0 * size ≡ 0 = omega arith in ap (λ (k : ℕ). take k (drop (a * size) xs)) (sym none)

@@ -43,7 +43,8 @@ stays order image none same =
       file = ap file_of flip;
       long = ap length flip;
       sound = ap faults_of flip ∙ none;
-      back = ap (flip_of (head_of image).order) flip ∙ rw (ap (λ (o : Order). same_order o (head_of image).order) (sym (same_is order (head_of image).order same)) ∙ same) refl;
+      back = ap (flip_of (head_of image).order) flip ∙ rw (ap (λ (o : Order). same_order o (head_of image).order)
+          (sym (same_is order (head_of image).order same)) ∙ same) refl;
     }
 
 -- else all its pages are turned round
@@ -66,7 +67,8 @@ files_flip order image small none no_overlap =
     elim (has_order order image) as (λ b. has_order order image ≡ b → Flips order image) [
       | true ↦ λ same. stays order image none same
       | false ↦ λ other.
-          let no_page : first_overlap (file_of image) ≡ None = let same : overlap_in order image ≡ first_overlap (file_of image) = rw other refl in sym same ∙ no_overlap in
+          let no_page : first_overlap (file_of image) ≡ None = let same : overlap_in order image ≡ first_overlap (file_of image) = rw other refl in sym same
+          ∙ no_overlap in
           turns order image (image_turns image small none no_page) other
     ] refl
 

@@ -20,7 +20,8 @@ use Rattle.bdb_turned.specs.Apart.{IsUntouched}
 pub use Rattle.bdb_turned.specs.Parts.{leaf_high, leaf_part}
 use Rattle.bdb_turned.proofs.ReadLemmas.{IsTurned, number_same, slice_same}
 use Rattle.bdb_turned.proofs.ApartLemmas.{Between}
-use Rattle.bdb_turned.proofs.ListedLemmas.{ArePlaced, all_fields, header_same, in_header, in_index, in_item, listed_apart, listed_same, rows_same, untouched_in_header, untouched_in_item}
+use Rattle.bdb_turned.proofs.ListedLemmas.{ArePlaced, all_fields, header_same, in_header, in_index, in_item, listed_apart, listed_same, rows_same}
+use Rattle.bdb_turned.proofs.ListedLemmas.{untouched_in_header, untouched_in_item}
 
 -- no row of a leaf holds, and no two of its items overlap
 pub record IsLeaf (order : Order) (page : List ℕ) : Type 0 where
@@ -39,13 +40,15 @@ leaf_between at (Tree root) = (omega arith, omega arith)
 leaf_between at Unknown = omega arith
 
 -- an item depends on its index by its offset alone
-pub same_item : (order : Order) (page : List ℕ) (i j : ℕ) → offset_of order page i ≡ offset_of order page j → leaf_item_at order page i ≡ leaf_item_at order page j
+pub same_item : (order : Order) (page : List ℕ) (i j : ℕ) → offset_of order page i ≡ offset_of order page j
+    → leaf_item_at order page i ≡ leaf_item_at order page j
 unfolding leaf_item_at
 same_item order page i j same =
     ap (λ (at : ℕ). let item : Item = record { content = leaf_content order page at (kind_at page at); deleted = is_deleted page at } in item) same
 
 -- what the rows say of an item
-content_is : (order : Order) (page : List ℕ) (i : ℕ) → (leaf_item_at order page i).content ≡ leaf_content order page (offset_of order page i) (kind_at page (offset_of order page i))
+content_is : (order : Order) (page : List ℕ) (i : ℕ) → (leaf_item_at order page i).content ≡ leaf_content order page (offset_of order page i)
+    (kind_at page (offset_of order page i))
 unfolding leaf_item_at
 content_is order page i = refl
 
@@ -55,9 +58,11 @@ leaf_begins order page i none = grind (arith, nat_tests)
 
 -- an item by its kind
 pub data KindCase (order : Order) (page : List ℕ) (at : ℕ) (content : Content) : Type 0 where
-  IsInline : kind_at page at ≡ 1 → content ≡ Inline (slice_range page (at + 3) (at + 3 + two_at order page at)) → at + 3 + two_at order page at ≤ length page → KindCase order page at content
+  IsInline : kind_at page at ≡ 1 → content ≡ Inline (slice_range page (at + 3) (at + 3 + two_at order page at)) → at + 3 + two_at order page at ≤ length page
+      → KindCase order page at content
   IsTree : kind_at page at ≡ 2 → content ≡ Tree (four_at order page (at + 4)) → at + 12 ≤ length page → KindCase order page at content
-  IsChain : kind_at page at ≡ 3 → content ≡ Chain (four_at order page (at + 4)) (four_at order page (at + 8)) → at + 12 ≤ length page → KindCase order page at content
+  IsChain : kind_at page at ≡ 3 → content ≡ Chain (four_at order page (at + 4)) (four_at order page (at + 8)) → at + 12 ≤ length page
+      → KindCase order page at content
 
 one_to_three : (k : ℕ) → 1 ≤ k → k ≤ 3 → (k ≡ 1) ⊎ ((k ≡ 2) ⊎ (k ≡ 3))
 one_to_three k low high = grind arith
@@ -113,7 +118,8 @@ leaf_all order page = all_fields (entries_of order page) (leaf_part order page)
 kind_untouched : (at : ℕ) (content : Content) → IsUntouched (leaf_fields at content) (at + 2)
 kind_untouched at (Inline bytes) f has =
     elim (member_cases (field at 2) [] f has) [
-      | inl same ↦ let b : f.begin ≡ at = ap (λ (h : Field). h.begin) (sym same) in let w : f.width ≡ 2 = ap (λ (h : Field). h.width) (sym same) in inr (omega arith)
+      | inl same ↦ let b : f.begin ≡ at = ap (λ (h : Field). h.begin) (sym same) in let w : f.width ≡ 2 = ap (λ (h : Field). h.width) (sym same) in inr
+          (omega arith)
       | inr later ↦ absurd (no_member [] f refl later)
     ]
 kind_untouched at (Set blocks) f has = absurd (no_member [] f refl has)
@@ -135,7 +141,8 @@ kind_untouched at Unknown f has = absurd (no_member [] f refl has)
 inline_untouched : (at k : ℕ) (bytes : List ℕ) → at + 3 ≤ k → IsUntouched (leaf_fields at (Inline bytes)) k
 inline_untouched at k bytes past f has =
     elim (member_cases (field at 2) [] f has) [
-      | inl same ↦ let b : f.begin ≡ at = ap (λ (h : Field). h.begin) (sym same) in let w : f.width ≡ 2 = ap (λ (h : Field). h.width) (sym same) in inr (omega arith)
+      | inl same ↦ let b : f.begin ≡ at = ap (λ (h : Field). h.begin) (sym same) in let w : f.width ≡ 2 = ap (λ (h : Field). h.width) (sym same) in inr
+          (omega arith)
       | inr later ↦ absurd (no_member [] f refl later)
     ]
 
@@ -172,7 +179,8 @@ item_turned order page other i leaf is lt =
           let end : high ≡ at + 3 + length bytes = ap (leaf_item_end at) what in
           let long : length bytes ≡ at + 3 + n_bytes - (at + 3) = length-slice_range page (at + 3) (at + 3 + n_bytes) inside in
           let parts : part i ≡ field at 2 ∷ [] = ap (leaf_fields at) what in
-          let same_length : two_at (turned order) other at ≡ n_bytes = two (subst (λ fields. Contains fields (field at 2)) (sym parts) (first_member (field at 2) [])) in
+          let same_length : two_at (turned order) other at ≡ n_bytes = two
+          (subst (λ fields. Contains fields (field at 2)) (sym parts) (first_member (field at 2) [])) in
           let kind_free : IsUntouched (leaf_all order page) (at + 2) = untouched (at + 2) (omega arith) (omega arith) (kind_untouched at content) in
           let kinds : byte_at other (at + 2) ≡ byte_at page (at + 2) = is.kept (at + 2) kind_free in
           let free : (k : ℕ) → at + 3 ≤ k → k < at + 3 + n_bytes → IsUntouched (leaf_all order page) k =
@@ -220,7 +228,8 @@ pub record LeafTurned (order : Order) (page other : List ℕ) : Type 0 where
   pub type : byte_at other 25 ≡ byte_at page 25
   pub number : four_at (turned order) other 8 ≡ four_at order page 8
   pub reads : listed (turned order) other (leaf_item_at (turned order) other) ≡ listed order page (leaf_item_at order page)
-  pub rows : (t : PageType) → ((i : ℕ) → item_rows t order page i ≡ leaf_rows order page i) → ((i : ℕ) → item_rows t (turned order) other i ≡ leaf_rows (turned order) other i)
+  pub rows : (t : PageType) → ((i : ℕ) → item_rows t order page i ≡ leaf_rows order page i)
+      → ((i : ℕ) → item_rows t (turned order) other i ≡ leaf_rows (turned order) other i)
       → listed_code (turned order) other t ≡ listed_code order page t
 
 pub leaf_turned : (order : Order) (page other : List ℕ) → IsLeaf order page → IsTurned (leaf_all order page) page other → LeafTurned order page other
@@ -232,7 +241,8 @@ leaf_turned order page other leaf is =
     λ k low high. untouched_in_header n (length page) part (leaf_low order page) (leaf_high order page) k placed low high in
     let level : byte_at other 24 ≡ byte_at page 24 = is.kept 24 (free 24 (omega arith) (omega arith)) in
     let type : byte_at other 25 ≡ byte_at page 25 = is.kept 25 (free 25 (omega arith) (omega arith)) in
-    let entries : entries_of (turned order) other ≡ n = number_same (leaf_all order page) page other order 20 2 is (in_header n part (field 20 2) (5, omega arith, refl)) in
+    let entries : entries_of (turned order) other ≡ n = number_same (leaf_all order page) page other order 20 2 is
+    (in_header n part (field 20 2) (5, omega arith, refl)) in
     let own : four_at (turned order) other 8 ≡ four_at order page 8 =
     number_same (leaf_all order page) page other order 8 4 is (in_header n part (field 8 4) (2, omega arith, refl)) in
     let header : header_of (turned order) other ≡ header_of order page =

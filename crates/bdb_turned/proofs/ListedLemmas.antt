@@ -38,7 +38,8 @@ header_bounds f at = bounds 0 header_fields 24 f header_between at
 
 index_bounds : (n : ℕ) (f : Field) → Contains (index_fields n) f → (26 ≤ f.begin) × (f.begin + f.width ≤ 26 + 2 * n)
 index_bounds n f at =
-    let all : (26 + 2 * 0 ≤ f.begin) × (f.begin + f.width ≤ 26 + 2 * (0 + n)) = bounds (26 + 2 * 0) (index_fields n) (26 + 2 * (0 + n)) f (index_between 0 n) at in
+    let all : (26 + 2 * 0 ≤ f.begin) × (f.begin + f.width ≤ 26 + 2 * (0 + n)) = bounds (26 + 2 * 0) (index_fields n) (26 + 2 * (0 + n)) f (index_between 0 n) at
+    in
     (omega arith, omega arith)
 
 -- where a number of the page stands
@@ -141,7 +142,8 @@ in_item n part i f lt at =
 -- What is read in the other order.
 
 -- the header is the same
-pub header_same : (fields : List Field) (bytes other : List ℕ) (order : Order) → IsTurned fields bytes other → ((f : Field) → Contains header_fields f → Contains fields f)
+pub header_same : (fields : List Field) (bytes other : List ℕ) (order : Order) → IsTurned fields bytes other
+    → ((f : Field) → Contains header_fields f → Contains fields f)
     → IsUntouched fields 24 → IsUntouched fields 25 → header_of (turned order) other ≡ header_of order bytes
 header_same fields bytes other order is has level type =
     let four : (begin : ℕ) → Contains header_fields (field begin 4) → four_at (turned order) other begin ≡ four_at order bytes begin =
@@ -225,7 +227,8 @@ listed_fields_are item_fields none order page item_at =
     let items : length p.items ≡ n = length_items order page item_at in
     let parts : flat_map (λ i. item_fields (slice_index p.offsets i) (get_or p.items i none)) (range_with_len 0 n)
     ≡ flat_map (λ i. item_fields (offset_of order page i) (item_at i)) (range_with_len 0 n) =
-    flat_map_same (λ i. item_fields (slice_index p.offsets i) (get_or p.items i none)) (λ i. item_fields (offset_of order page i) (item_at i)) (range_with_len 0 n)
+    flat_map_same (λ i. item_fields (slice_index p.offsets i) (get_or p.items i none)) (λ i. item_fields (offset_of order page i) (item_at i))
+    (range_with_len 0 n)
     (λ i at.
     let offset : slice_index p.offsets i ≡ offset_of order page i = index_offset order page item_at i (below n i at) in
     let item : get_or p.items i none ≡ item_at i = item_in order page item_at none i (below n i at) in
@@ -250,7 +253,8 @@ listed_apart item_end none order page item_at no_overlap i j lt_i lt_j =
     let at_i : Contains (range_with_len 0 (length p.items)) i = in_range 0 (length p.items) i (omega arith) (omega arith) in
     let at_j : Contains (range_with_len 0 (length p.items)) j = in_range 0 (length p.items) j (omega arith) (omega arith) in
     let row : list_any (λ k. share_bytes (begin i) (end i) (begin k) (end k)) (range_with_len 0 (length p.items)) ≡ false =
-    none_passes (λ m. list_any (λ k. share_bytes (begin m) (end m) (begin k) (end k)) (range_with_len 0 (length p.items))) (range_with_len 0 (length p.items)) i no_overlap at_i in
+    none_passes (λ m. list_any (λ k. share_bytes (begin m) (end m) (begin k) (end k)) (range_with_len 0 (length p.items))) (range_with_len 0 (length p.items)) i
+    no_overlap at_i in
     let one : share_bytes (begin i) (end i) (begin j) (end j) ≡ false =
     none_passes (λ k. share_bytes (begin i) (end i) (begin k) (end k)) (range_with_len 0 (length p.items)) j row at_j in
     let o_i : begin i ≡ offset_of order page i = index_offset order page item_at i lt_i in

@@ -34,11 +34,19 @@ first_of_place (g ∷ fields) k f at low high =
       | false ↦ λ not_here.
           let rest : Contains fields f =
           elim (member_cases g fields f at) [
-            | inl same ↦ absurd (let yes : is_in k f ≡ true = is_in_here k f low high in let fails : is_in k f ≡ false = subst (λ h. is_in k h ≡ false) same not_here in cc)
+            | inl same ↦ absurd (let yes : is_in k f ≡ true = is_in_here k f low high in let fails : is_in k f ≡ false = subst (λ h. is_in k h ≡ false) same
+                not_here in cc)
             | inr later ↦ later
           ] in
-          let later = first_of_place fields k f rest low high in
-          (later.0, record { found = rw not_here later.1.found; held = later_member g fields later.0 later.1.held; begins = later.1.begins; ends = later.1.ends })
+          let later = first_of_place fields k f rest low high in (
+            later.0,
+            record {
+              found = rw not_here later.1.found;
+              held = later_member g fields later.0 later.1.held;
+              begins = later.1.begins;
+              ends = later.1.ends;
+            },
+          )
     ] refl
 
 -- a place in no number is found in none
@@ -107,7 +115,8 @@ pub length-turned_round : (fields : List Field) (bytes : List ℕ) → length (t
 unfolding turned_round
 length-turned_round fields bytes = length-map-range_with_len (λ k. byte_at bytes (mirror fields k)) 0 (length bytes)
 
-pub get_or-turned_round : (fields : List Field) (bytes : List ℕ) (k : ℕ) → k < length bytes → byte_at (turned_round fields bytes) k ≡ byte_at bytes (mirror fields k)
+pub get_or-turned_round : (fields : List Field) (bytes : List ℕ) (k : ℕ) → k < length bytes → byte_at (turned_round fields bytes) k
+    ≡ byte_at bytes (mirror fields k)
 unfolding turned_round
 get_or-turned_round fields bytes k lt = get_or-map-range_with_len (λ i. byte_at bytes (mirror fields i)) 0 (length bytes) k k 0 lt (omega arith)
 

@@ -29,13 +29,15 @@ fours_between begin (suc n) =
 
 pub fours_have : (begin n i : ℕ) → i < n → Contains (fours begin n) (field (begin + 4 * i) 4)
 fours_have begin zero i lt = absurd (omega arith)
-fours_have begin (suc n) zero lt = let same : begin ≡ begin + 4 * 0 = omega arith in subst (λ (b : ℕ). Contains (fours begin (suc n)) (field b 4)) same (first_member (field begin 4) (fours (begin + 4) n))
+fours_have begin (suc n) zero lt = let same : begin ≡ begin + 4 * 0 = omega arith in subst (λ (b : ℕ). Contains (fours begin (suc n)) (field b 4)) same
+    (first_member (field begin 4) (fours (begin + 4) n))
 fours_have begin (suc n) (suc i) lt =
     let same : begin + 4 + 4 * i ≡ begin + 4 * suc i = omega arith in
     subst (λ (b : ℕ). Contains (fours begin (suc n)) (field b 4)) same
     (later_member (field begin 4) (fours (begin + 4) n) (field (begin + 4 + 4 * i) 4) (fours_have (begin + 4) n i (omega arith)))
 
-between_append : (from : ℕ) (xs : List Field) (middle next : ℕ) (ys : List Field) (to : ℕ) → Between from xs middle → middle ≤ next → Between next ys to → Between from (xs ++ ys) to
+between_append : (from : ℕ) (xs : List Field) (middle next : ℕ) (ys : List Field) (to : ℕ) → Between from xs middle → middle ≤ next → Between next ys to
+    → Between from (xs ++ ys) to
 between_append from [] middle next ys to first gap second = lower next from ys to (let l : from ≤ middle = first in omega arith) second
   where
     lower : (from low : ℕ) (fields : List Field) (to : ℕ) → low ≤ from → Between from fields to → Between low fields to
@@ -53,7 +55,8 @@ meta_all fields = common_fields ++ kind_fields fields
 
 pub meta_between : (fields : Metadata) → Between 0 (meta_all fields) 224
 meta_between (BtreeFields meta) =
-    between_append 0 common_fields 52 76 (fours 76 4) 224 common_between (omega arith) (widened 76 (fours 76 4) (76 + 4 * 4) 224 (omega arith) (fours_between 76 4))
+    between_append 0 common_fields 52 76 (fours 76 4) 224 common_between (omega arith)
+    (widened 76 (fours 76 4) (76 + 4 * 4) 224 (omega arith) (fours_between 76 4))
   where
     widened : (from : ℕ) (fields : List Field) (to more : ℕ) → to ≤ more → Between from fields to → Between from fields more
     widened from [] to more up between = let l : from ≤ to = between in omega arith
@@ -62,15 +65,18 @@ meta_between (HashFields meta) =
     between_append 0 common_fields 52 72 (fours 72 6 ++ fours 96 32) 224 common_between (omega arith)
     (between_append 72 (fours 72 6) (72 + 4 * 6) 96 (fours 96 32) (96 + 4 * 32) (fours_between 72 6) (omega arith) (fours_between 96 32))
 meta_between (QueueFields meta) =
-    between_append 0 common_fields 52 72 (fours 72 6) 224 common_between (omega arith) (widened 72 (fours 72 6) (72 + 4 * 6) 224 (omega arith) (fours_between 72 6))
+    between_append 0 common_fields 52 72 (fours 72 6) 224 common_between (omega arith)
+    (widened 72 (fours 72 6) (72 + 4 * 6) 224 (omega arith) (fours_between 72 6))
   where
     widened : (from : ℕ) (fields : List Field) (to more : ℕ) → to ≤ more → Between from fields to → Between from fields more
     widened from [] to more up between = let l : from ≤ to = between in omega arith
     widened from (f ∷ fields) to more up between = (between.0, widened (f.begin + f.width) fields to more up between.1)
 
 kind_between : (fields : Metadata) → Between 72 (kind_fields fields) 224
-kind_between (BtreeFields meta) = between_append 72 [] 72 76 (fours 76 4) 224 (omega arith) (omega arith) (between_append 76 (fours 76 4) (76 + 4 * 4) 224 [] 224 (fours_between 76 4) (omega arith) (omega arith))
-kind_between (HashFields meta) = between_append 72 (fours 72 6) (72 + 4 * 6) 96 (fours 96 32) (96 + 4 * 32) (fours_between 72 6) (omega arith) (fours_between 96 32)
+kind_between (BtreeFields meta) = between_append 72 [] 72 76 (fours 76 4) 224 (omega arith) (omega arith)
+    (between_append 76 (fours 76 4) (76 + 4 * 4) 224 [] 224 (fours_between 76 4) (omega arith) (omega arith))
+kind_between (HashFields meta) = between_append 72 (fours 72 6) (72 + 4 * 6) 96 (fours 96 32) (96 + 4 * 32) (fours_between 72 6) (omega arith)
+    (fours_between 96 32)
 kind_between (QueueFields meta) = between_append 72 (fours 72 6) (72 + 4 * 6) 224 [] 224 (fours_between 72 6) (omega arith) (omega arith)
 
 -- bytes 24 to 27 are in no number of metadata
@@ -78,8 +84,10 @@ pub meta_untouched : (fields : Metadata) (k : ℕ) → 24 ≤ k → k < 28 → I
 meta_untouched fields k low high f at =
     elim (Contains-append_cases common_fields (kind_fields fields) f at) [
       | inl common ↦ elim (Contains-append_cases (fours 0 6) (fours 28 6) f common) [
-        | inl first ↦ let b : (0 ≤ f.begin) × (f.begin + f.width ≤ 0 + 4 * 6) = bounds 0 (fours 0 6) (0 + 4 * 6) f (fours_between 0 6) first in inr (omega arith)
-        | inr second ↦ let b : (28 ≤ f.begin) × (f.begin + f.width ≤ 28 + 4 * 6) = bounds 28 (fours 28 6) (28 + 4 * 6) f (fours_between 28 6) second in inl (omega arith)
+        | inl first ↦ let b : (0 ≤ f.begin) × (f.begin + f.width ≤ 0 + 4 * 6) = bounds 0 (fours 0 6) (0 + 4 * 6) f (fours_between 0 6) first in inr
+            (omega arith)
+        | inr second ↦ let b : (28 ≤ f.begin) × (f.begin + f.width ≤ 28 + 4 * 6) = bounds 28 (fours 28 6) (28 + 4 * 6) f (fours_between 28 6) second in inl
+            (omega arith)
       ]
       | inr kind ↦ let b : (72 ≤ f.begin) × (f.begin + f.width ≤ 224) = bounds 72 (kind_fields fields) 224 f (kind_between fields) kind in inl (omega arith)
     ]
@@ -117,15 +125,18 @@ common_same fields order page other is =
     }
 
 -- a number that the kind adds
-added : (fields : Metadata) (order : Order) (page other : List ℕ) (begin : ℕ) → IsTurned (meta_all fields) page other → Contains (kind_fields fields) (field begin 4)
+added : (fields : Metadata) (order : Order) (page other : List ℕ) (begin : ℕ) → IsTurned (meta_all fields) page other
+    → Contains (kind_fields fields) (field begin 4)
     → four_at (turned order) other begin ≡ four_at order page begin
 added fields order page other begin is at =
     number_same (meta_all fields) page other order begin 4 is (Contains-append_right common_fields (kind_fields fields) (field begin 4) at)
 
-pub btree_same : (meta : BtreeMeta) (order : Order) (page other : List ℕ) → IsTurned (meta_all (BtreeFields meta)) page other → btree_fields (turned order) other ≡ btree_fields order page
+pub btree_same : (meta : BtreeMeta) (order : Order) (page other : List ℕ) → IsTurned (meta_all (BtreeFields meta)) page other
+    → btree_fields (turned order) other ≡ btree_fields order page
 btree_same meta order page other is =
     let common : CommonSame order page other = common_same (BtreeFields meta) order page other is in
-    let four : (begin : ℕ) → Contains (fours 76 4) (field begin 4) → four_at (turned order) other begin ≡ four_at order page begin = λ begin at. added (BtreeFields meta) order page other begin is at in
+    let four : (begin : ℕ) → Contains (fours 76 4) (field begin 4) → four_at (turned order) other begin ≡ four_at order page begin = λ begin at. added
+    (BtreeFields meta) order page other begin is at in
     let e76 = four 76 (0, omega arith, refl) in
     let e80 = four 80 (1, omega arith, refl) in
     let e84 = four 84 (2, omega arith, refl) in
@@ -133,7 +144,8 @@ btree_same meta order page other is =
     rw (common.flags, e76, e80, e84, e88, common.free) refl
 
 pub table_same : (meta : HashMeta) (order : Order) (page other : List ℕ) → IsTurned (meta_all (HashFields meta)) page other
-    → (table_fields (turned order) other ≡ table_fields order page) × (four_at (turned order) other 92 ≡ four_at order page 92) × (four_at (turned order) other 72 ≡ four_at order page 72)
+    → (table_fields (turned order) other ≡ table_fields order page) × (four_at (turned order) other 92 ≡ four_at order page 92)
+    × (four_at (turned order) other 72 ≡ four_at order page 72)
 table_same meta order page other is =
     let common : CommonSame order page other = common_same (HashFields meta) order page other is in
     let all : List Field = fours 72 6 ++ fours 96 32 in
@@ -144,13 +156,22 @@ table_same meta order page other is =
     let e80 = four 80 (2, omega arith, refl) in
     let e84 = four 84 (3, omega arith, refl) in
     let e92 = four 92 (5, omega arith, refl) in
-    let spares : map (λ group. four_at (turned order) other (96 + 4 * group)) (range_with_len 0 32) ≡ map (λ group. four_at order page (96 + 4 * group)) (range_with_len 0 32) =
+    let spares : map (λ group. four_at (turned order) other (96 + 4 * group)) (range_with_len 0 32) ≡ map (λ group. four_at order page (96 + 4 * group))
+    (range_with_len 0 32) =
     map_same (λ group. four_at (turned order) other (96 + 4 * group)) (λ group. four_at order page (96 + 4 * group)) (range_with_len 0 32)
     (λ group at.
     let range : (0 ≤ group) × (group < 0 + 32) = of_range 0 32 group at in
     added (HashFields meta) order page other (96 + 4 * group) is
     (Contains-append_right (fours 72 6) (fours 96 32) (field (96 + 4 * group) 4) (fours_have 96 32 group (omega arith)))) in (
-      ap (λ (gs : List ℕ). let m : HashMeta = record { flags = four_at (turned order) other 48; max_bucket = four_at (turned order) other 72; high_mask = four_at (turned order) other 76; low_mask = four_at (turned order) other 80; ffactor = four_at (turned order) other 84; spares = gs; free = four_at (turned order) other 28 } in m) spares
+      ap (λ (gs : List ℕ). let m : HashMeta = record {
+        flags = four_at (turned order) other 48;
+        max_bucket = four_at (turned order) other 72;
+        high_mask = four_at (turned order) other 76;
+        low_mask = four_at (turned order) other 80;
+        ffactor = four_at (turned order) other 84;
+        spares = gs;
+        free = four_at (turned order) other 28;
+      } in m) spares
           ∙ rw (common.flags, e72, e76, e80, e84, common.free) refl,
       e92,
       e72,
@@ -159,7 +180,8 @@ table_same meta order page other is =
 pub queue_same : (meta : QueueMeta) (order : Order) (page other : List ℕ) → IsTurned (meta_all (QueueFields meta)) page other
     → (queue_fields (turned order) other ≡ queue_fields order page) × (four_at (turned order) other 92 ≡ four_at order page 92)
 queue_same meta order page other is =
-    let four : (begin : ℕ) → Contains (fours 72 6) (field begin 4) → four_at (turned order) other begin ≡ four_at order page begin = λ begin at. added (QueueFields meta) order page other begin is at in
+    let four : (begin : ℕ) → Contains (fours 72 6) (field begin 4) → four_at (turned order) other begin ≡ four_at order page begin = λ begin at. added
+    (QueueFields meta) order page other begin is at in
     let e72 = four 72 (0, omega arith, refl) in
     let e76 = four 76 (1, omega arith, refl) in
     let e80 = four 80 (2, omega arith, refl) in
@@ -173,7 +195,8 @@ pub common_rows_same : (order : Order) (page other : List ℕ) (number : ℕ) (k
 common_rows_same order page other number kind lengths same =
     rw (same.magic, same.version, same.size, lengths, same.encryption, same.metaflags, same.partitions) refl
 
-pub btree_rows_same : (order : Order) (page other : List ℕ) (number : ℕ) → CommonSame order page other → btree_rows (turned order) other number ≡ btree_rows order page number
+pub btree_rows_same : (order : Order) (page other : List ℕ) (number : ℕ) → CommonSame order page other → btree_rows (turned order) other number
+    ≡ btree_rows order page number
 btree_rows_same order page other number same = rw (same.flags) refl
 
 -- the rows of a table by what they look at
@@ -181,11 +204,13 @@ abbrev table_rows_by : ℕ → ℕ → ℕ → HashMeta → ℕ → List (Row �
 table_rows_by char flags max meta last =
     11 :? not (char == 0x5e688dd1) ∷ 12 :? nat_lt 0x07 flags ∷ 13 :? not (are_masks meta) ∷ 14 :? (nat_lt last max || lacks_spare meta) ∷ []
 
-pub table_rows_same : (order : Order) (page other : List ℕ) (last : ℕ) → CommonSame order page other → table_fields (turned order) other ≡ table_fields order page
+pub table_rows_same : (order : Order) (page other : List ℕ) (last : ℕ) → CommonSame order page other → table_fields (turned order) other
+    ≡ table_fields order page
     → four_at (turned order) other 92 ≡ four_at order page 92 → four_at (turned order) other 72 ≡ four_at order page 72
     → table_rows (turned order) other last ≡ table_rows order page last
 table_rows_same order page other last same fields char max =
-    ap (λ (meta : HashMeta). table_rows_by (four_at (turned order) other 92) (four_at (turned order) other 48) (four_at (turned order) other 72) meta last) fields
+    ap (λ (meta : HashMeta). table_rows_by (four_at (turned order) other 92) (four_at (turned order) other 48) (four_at (turned order) other 72) meta last)
+    fields
     ∙ (ap (λ (n : ℕ). table_rows_by n (four_at (turned order) other 48) (four_at (turned order) other 72) (table_fields order page) last) char
     ∙ (ap (λ (n : ℕ). table_rows_by (four_at order page 92) n (four_at (turned order) other 72) (table_fields order page) last) same.flags
     ∙ ap (λ (n : ℕ). table_rows_by (four_at order page 92) (four_at order page 48) n (table_fields order page) last) max))
@@ -202,4 +227,5 @@ pub queue_rows_same : (order : Order) (page other : List ℕ) → length other �
     → four_at (turned order) other 92 ≡ four_at order page 92 → queue_rows (turned order) other ≡ queue_rows order page
 queue_rows_same order page other lengths fields extent =
     ap (λ (meta : QueueMeta). queue_rows_by (four_at (turned order) other 92) (length other) meta) fields
-    ∙ (ap (λ (n : ℕ). queue_rows_by n (length other) (queue_fields order page)) extent ∙ ap (λ (n : ℕ). queue_rows_by (four_at order page 92) n (queue_fields order page)) lengths)
+    ∙ (ap (λ (n : ℕ). queue_rows_by n (length other) (queue_fields order page)) extent
+    ∙ ap (λ (n : ℕ). queue_rows_by (four_at order page 92) n (queue_fields order page)) lengths)

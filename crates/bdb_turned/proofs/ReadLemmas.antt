@@ -1,5 +1,6 @@
 -- What is read of bytes whose numbers are turned round.
-use Rattle.std.proofs.Common.{◌≡◌, ◌∙◌, ◌⊎◌, inl, inr, ℕ, suc, ◌+◌, ◌-◌, ◌*◌, ◌<◌, ◌≤◌, List, [], ◌∷◌, length, take, drop, reverse, refl, sym, ap, arith, length-drop}
+use Rattle.std.proofs.Common.{◌≡◌, ◌∙◌, ◌⊎◌, inl, inr, ℕ, suc, ◌+◌, ◌-◌, ◌*◌, ◌<◌, ◌≤◌, List, [], ◌∷◌, length, take, drop, reverse, refl, sym, ap, arith}
+use Rattle.std.proofs.Common.{length-drop}
 use Rattle.std.specs.Prelude.{slice_range, true, false, map, zero}
 use Rattle.std.specs.List.{Contains, range_with_len}
 use Rattle.std.proofs.lemmas.Bool.Decides.{nat_tests}
@@ -61,7 +62,8 @@ turned_is fields bytes apart within = record {
 }
 
 -- a number says the same in the other order
-pub number_same : (fields : List Field) (bytes other : List ℕ) (order : Order) (begin width : ℕ) → IsTurned fields bytes other → Contains fields (field begin width)
+pub number_same : (fields : List Field) (bytes other : List ℕ) (order : Order) (begin width : ℕ) → IsTurned fields bytes other
+    → Contains fields (field begin width)
     → number_at width (turned order) other begin ≡ number_at width order bytes begin
 unfolding number_at
 number_same fields bytes other order begin width is at =
@@ -73,7 +75,8 @@ pub slice_same : (fields : List Field) (bytes other : List ℕ) (from to : ℕ) 
 slice_same fields bytes other from to is inside untouched =
     let same_length : length other ≡ length bytes = is.same_length in
     let left : length (take (to - from) (drop from other)) ≡ to - from = length-take-le (to - from) (drop from other) (omega (arith, length-drop from other)) in
-    let right : length (take (to - from) (drop from bytes)) ≡ to - from = length-take-le (to - from) (drop from bytes) (omega (arith, length-drop from bytes)) in
+    let right : length (take (to - from) (drop from bytes)) ≡ to - from = length-take-le (to - from) (drop from bytes) (omega (arith, length-drop from bytes))
+    in
     ext_get_or 0 (take (to - from) (drop from other)) (take (to - from) (drop from bytes)) (left ∙ sym right)
     (λ k lt.
     let low : k < to - from = omega arith in
@@ -90,7 +93,8 @@ rest_same fields bytes other from is untouched =
     (λ k lt. get_or-drop from other k 0 ∙ (is.kept (from + k) (untouched (from + k) (omega arith)) ∙ sym (get_or-drop from bytes k 0)))
 
 -- turned round twice, bytes are the first ones
-pub turned_twice : (fields : List Field) (bytes : List ℕ) → AreApart fields → LieWithin fields (length bytes) → turned_round fields (turned_round fields bytes) ≡ bytes
+pub turned_twice : (fields : List Field) (bytes : List ℕ) → AreApart fields → LieWithin fields (length bytes) → turned_round fields (turned_round fields bytes)
+    ≡ bytes
 turned_twice fields bytes apart within =
     let once : List ℕ = turned_round fields bytes in
     let long : length once ≡ length bytes = length-turned_round fields bytes in
@@ -98,7 +102,8 @@ turned_twice fields bytes apart within =
     (λ k lt.
     let here : k < length bytes = omega (arith, length-turned_round fields once, length-turned_round fields bytes) in
     get_or-turned_round fields once k (omega (arith, length-turned_round fields bytes))
-    ∙ (get_or-turned_round fields bytes (mirror fields k) (mirror-within fields (length bytes) k apart within here) ∙ ap (byte_at bytes) (places_turn_back fields k apart)))
+    ∙ (get_or-turned_round fields bytes (mirror fields k) (mirror-within fields (length bytes) k apart within here)
+    ∙ ap (byte_at bytes) (places_turn_back fields k apart)))
 
 -- Zeros.
 
@@ -116,10 +121,12 @@ unfolding turned_round
 zeros_turned fields bytes zeros = zeros_by (λ k. byte_at bytes (mirror fields k)) (range_with_len 0 (length bytes)) (λ k. zero_at bytes (mirror fields k) zeros)
 
 -- a page is zeros exactly where it is so turned round
-pub zero_same : (fields : List Field) (bytes : List ℕ) → AreApart fields → LieWithin fields (length bytes) → is_zero bytes ≡ false → is_zero (turned_round fields bytes) ≡ false
+pub zero_same : (fields : List Field) (bytes : List ℕ) → AreApart fields → LieWithin fields (length bytes) → is_zero bytes ≡ false
+    → is_zero (turned_round fields bytes) ≡ false
 zero_same fields bytes apart within some =
     elim (is_zero (turned_round fields bytes)) as (λ b. is_zero (turned_round fields bytes) ≡ b → is_zero (turned_round fields bytes) ≡ false) [
-      | true ↦ λ zeros. absurd (let back : is_zero (turned_round fields (turned_round fields bytes)) ≡ true = zeros_turned fields (turned_round fields bytes) zeros in
+      | true ↦ λ zeros. absurd (let back : is_zero (turned_round fields (turned_round fields bytes)) ≡ true = zeros_turned fields (turned_round fields bytes)
+          zeros in
           let same : is_zero (turned_round fields (turned_round fields bytes)) ≡ is_zero bytes = ap is_zero (turned_twice fields bytes apart within) in cc)
       | false ↦ λ others. others
     ] refl

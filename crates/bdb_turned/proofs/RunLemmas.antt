@@ -38,14 +38,16 @@ rest_of_slice page from to n inside =
 front_of_slice : (page : List ℕ) (from to n : ℕ) → from + n ≤ to → take n (slice_range page from to) ≡ take n (drop from page)
 front_of_slice page from to n inside = take-take n (to - from) (drop from page) (omega arith)
 
-number_in_slice : (order : Order) (page : List ℕ) (from to at : ℕ) → from + at + 2 ≤ to → two_at order (slice_range page from to) at ≡ two_at order page (from + at)
+number_in_slice : (order : Order) (page : List ℕ) (from to at : ℕ) → from + at + 2 ≤ to → two_at order (slice_range page from to) at
+    ≡ two_at order page (from + at)
 unfolding number_at
 number_in_slice order page from to at inside =
     let rest : drop at (slice_range page from to) ≡ slice_range page (from + at) to = rest_of_slice page from to at (omega arith) in
     let front : take 2 (slice_range page (from + at) to) ≡ take 2 (drop (from + at) page) = front_of_slice page (from + at) to 2 (omega arith) in
     ap (λ bytes. number order (take 2 bytes)) rest ∙ ap (number order) front
 
-part_of_slice : (page : List ℕ) (from to at n : ℕ) → from + at + n ≤ to → take n (drop at (slice_range page from to)) ≡ slice_range page (from + at) (from + at + n)
+part_of_slice : (page : List ℕ) (from to at n : ℕ) → from + at + n ≤ to → take n (drop at (slice_range page from to))
+    ≡ slice_range page (from + at) (from + at + n)
 part_of_slice page from to at n inside =
     let rest : drop at (slice_range page from to) ≡ slice_range page (from + at) to = rest_of_slice page from to at (omega arith) in
     let front : take n (slice_range page (from + at) to) ≡ take n (drop (from + at) page) = front_of_slice page (from + at) to n (omega arith) in
@@ -69,7 +71,8 @@ run_reads order page from to (block ∷ blocks) inside run =
     let first : n ≡ two_at order bytes 0 =
     sym (number_in_slice order page from to 0 (omega arith) ∙ (ap (two_at order page) (let z : from + 0 ≡ from = omega arith in z) ∙ run.0)) in
     let last : n ≡ two_at order bytes (n + 2) =
-    sym (number_in_slice order page from to (n + 2) (omega arith) ∙ (ap (two_at order page) (let z : from + (n + 2) ≡ from + 2 + n = omega arith in z) ∙ run.1.1.0)) in
+    sym (number_in_slice order page from to (n + 2) (omega arith) ∙ (ap (two_at order page) (let z : from + (n + 2) ≡ from + 2 + n = omega arith in z)
+    ∙ run.1.1.0)) in
     let on : blocks_of order bytes ≡ option_map (λ rest. take n (drop 2 bytes) ∷ rest) (blocks_of order (drop (n + 4) bytes)) =
     whole_block order bytes n n first (omega arith) last refl in
     let data_is : take n (drop 2 bytes) ≡ block = part_of_slice page from to 2 n (omega arith) ∙ run.1.1.1.0 in
@@ -82,7 +85,8 @@ run_reads order page from to (block ∷ blocks) inside run =
 
 -- A run in the other order.
 
-pub run_turned : (fields : List Field) (page other : List ℕ) (order : Order) (from to : ℕ) (blocks : List (List ℕ)) → IsTurned fields page other → to ≤ length page
+pub run_turned : (fields : List Field) (page other : List ℕ) (order : Order) (from to : ℕ) (blocks : List (List ℕ)) → IsTurned fields page other
+    → to ≤ length page
     → ((f : Field) → Contains (block_fields from blocks) f → Contains fields f)
     → ((k : ℕ) → from ≤ k → k < to → IsUntouched (block_fields from blocks) k → IsUntouched fields k)
     → RunsTo order page from to blocks → RunsTo (turned order) other from to blocks
@@ -99,7 +103,8 @@ run_turned fields page other order from to (block ∷ blocks) is inside has free
     let rest_low : (f : Field) → Contains (block_fields (from + 4 + n) blocks) f → from + 4 + n ≤ f.begin = λ f at. blocks_behind (from + 4 + n) blocks f at in
     let data_free : (k : ℕ) → from + 2 ≤ k → k < from + 2 + n → IsUntouched (field from 2 ∷ later) k =
     λ k low high f at. elim (member_cases (field from 2) later f at) [
-      | inl same ↦ let b : f.begin ≡ from = ap (λ (h : Field). h.begin) (sym same) in let w : f.width ≡ 2 = ap (λ (h : Field). h.width) (sym same) in inr (omega arith)
+      | inl same ↦ let b : f.begin ≡ from = ap (λ (h : Field). h.begin) (sym same) in let w : f.width ≡ 2 = ap (λ (h : Field). h.width) (sym same) in inr
+          (omega arith)
       | inr more ↦ elim (member_cases (field (from + 2 + n) 2) (block_fields (from + 4 + n) blocks) f more) [
         | inl same ↦ let b : f.begin ≡ from + 2 + n = ap (λ (h : Field). h.begin) (sym same) in inl (omega arith)
         | inr rest ↦ let b : from + 4 + n ≤ f.begin = rest_low f rest in inl (omega arith)
@@ -109,9 +114,11 @@ run_turned fields page other order from to (block ∷ blocks) is inside has free
     slice_same fields page other (from + 2) (from + 2 + n) is (omega arith) (λ k low high. free k (omega arith) (omega arith) (data_free k low high)) in
     let rest_free : (k : ℕ) → from + 4 + n ≤ k → k < to → IsUntouched (block_fields (from + 4 + n) blocks) k → IsUntouched fields k =
     λ k low high untouched. free k (omega arith) high (λ f at. elim (member_cases (field from 2) later f at) [
-      | inl same ↦ let b : f.begin ≡ from = ap (λ (h : Field). h.begin) (sym same) in let w : f.width ≡ 2 = ap (λ (h : Field). h.width) (sym same) in inr (omega arith)
+      | inl same ↦ let b : f.begin ≡ from = ap (λ (h : Field). h.begin) (sym same) in let w : f.width ≡ 2 = ap (λ (h : Field). h.width) (sym same) in inr
+          (omega arith)
       | inr more ↦ elim (member_cases (field (from + 2 + n) 2) (block_fields (from + 4 + n) blocks) f more) [
-        | inl same ↦ let b : f.begin ≡ from + 2 + n = ap (λ (h : Field). h.begin) (sym same) in let w : f.width ≡ 2 = ap (λ (h : Field). h.width) (sym same) in inr (omega arith)
+        | inl same ↦ let b : f.begin ≡ from + 2 + n = ap (λ (h : Field). h.begin) (sym same) in let w : f.width ≡ 2 = ap (λ (h : Field). h.width) (sym same) in
+            inr (omega arith)
         | inr rest ↦ untouched f rest
       ]
     ]) in
@@ -143,7 +150,8 @@ run_turned fields page other order from to (block ∷ blocks) is inside has free
         ]
 
 -- the numbers of a run lie one after another
-pub run_between : (order : Order) (page : List ℕ) (from to : ℕ) (blocks : List (List ℕ)) → RunsTo order page from to blocks → Between from (block_fields from blocks) to
+pub run_between : (order : Order) (page : List ℕ) (from to : ℕ) (blocks : List (List ℕ)) → RunsTo order page from to blocks
+    → Between from (block_fields from blocks) to
 run_between order page from to [] run = let same : from ≡ to = run in omega arith
 run_between order page from to (block ∷ blocks) run =
     let n : ℕ = length block in
@@ -164,7 +172,8 @@ not_lacking : (order : Order) (bytes : List ℕ) → lacks_block order bytes ≡
     → (two_at order bytes 0 + 4 ≤ length bytes) × (two_at order bytes (two_at order bytes 0 + 2) ≡ two_at order bytes 0)
 not_lacking order bytes whole = (grind (arith, nat_tests), grind (arith, nat_tests))
 
-first_and_rest : {X : Type 0} (x y : X) (xs : List X) (found : Option (List X)) → option_map (λ others. x ∷ others) found ≡ Some (y ∷ xs) → (x ≡ y) × (found ≡ Some xs)
+first_and_rest : {X : Type 0} (x y : X) (xs : List X) (found : Option (List X)) → option_map (λ others. x ∷ others) found ≡ Some (y ∷ xs)
+    → (x ≡ y) × (found ≡ Some xs)
 first_and_rest x y xs None same = absurd cc
 first_and_rest x y xs (Some others) same = (cc, cc)
 
@@ -201,7 +210,8 @@ pub run_none : (order : Order) (bytes : List ℕ) → blocks_of order bytes ≡ 
 run_none order [] some = refl
 run_none order (b ∷ bs) some =
     let bytes : List ℕ = b ∷ bs in
-    absurd (never (lacks_block order bytes) (take (two_at order bytes 0) (drop 2 bytes)) (blocks_of order (after_first order bytes)) (sym (blocks_of-cons order b bs) ∙ some))
+    absurd (never (lacks_block order bytes) (take (two_at order bytes 0) (drop 2 bytes)) (blocks_of order (after_first order bytes))
+    (sym (blocks_of-cons order b bs) ∙ some))
   where
     never : (lacks : Bool) (x : List ℕ) (found : Option (List (List ℕ))) → cond lacks None (option_map (λ others. x ∷ others) found) ≡ Some [] → ⊥
     never true x found same = cc

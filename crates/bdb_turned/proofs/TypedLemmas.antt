@@ -11,14 +11,17 @@ use Rattle.bdb_format.specs.Table.{first_row}
 use Rattle.bdb_turned.proofs.PageLemmas.{room_of}
 
 -- what the code of a page with an index says
-pub listed_none : (order : Order) (page : List ℕ) (byte : ℕ) (t : PageType) → byte_at page 25 ≡ byte → page_type byte ≡ t → body_code order page t ≡ listed_code order page t
+pub listed_none : (order : Order) (page : List ℕ) (byte : ℕ) (t : PageType) → byte_at page 25 ≡ byte → page_type byte ≡ t
+    → body_code order page t ≡ listed_code order page t
     → body_code order page (page_type (byte_at page 25)) ≡ None → listed_code order page t ≡ None
 listed_none order page byte t at is code none = sym code ∙ (ap (body_code order page) (sym is ∙ ap page_type (sym at)) ∙ none)
 
-pub has_room : (order : Order) (page : List ℕ) (byte : ℕ) (t : PageType) → byte_at page 25 ≡ byte → page_type byte ≡ t → body_code order page t ≡ listed_code order page t
+pub has_room : (order : Order) (page : List ℕ) (byte : ℕ) (t : PageType) → byte_at page 25 ≡ byte → page_type byte ≡ t
+    → body_code order page t ≡ listed_code order page t
     → body_code order page (page_type (byte_at page 25)) ≡ None → 26 + 2 * entries_of order page ≤ length page
 has_room order page byte t at is code none = room_of order page t (listed_none order page byte t at is code none)
 
-pub has_rows : (order : Order) (page : List ℕ) (byte : ℕ) (t : PageType) → byte_at page 25 ≡ byte → page_type byte ≡ t → body_code order page t ≡ listed_code order page t
+pub has_rows : (order : Order) (page : List ℕ) (byte : ℕ) (t : PageType) → byte_at page 25 ≡ byte → page_type byte ≡ t
+    → body_code order page t ≡ listed_code order page t
     → body_code order page (page_type (byte_at page 25)) ≡ None → (i : ℕ) → i < entries_of order page → first_row (item_rows t order page i) ≡ None
 has_rows order page byte t at is code none i lt = no_item_row order page t i (listed_none order page byte t at is code none) lt

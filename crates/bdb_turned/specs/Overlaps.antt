@@ -2,7 +2,8 @@
 use Rattle.std.specs.Prelude.{ℕ, ◌+◌, nat_lt, ◌==◌, ◌&&◌, not, Bool, false, length, slice_index, get_or}
 use Rattle.std.specs.List.{list_any, range_with_len}
 use Rattle.bdb_format.specs.declared.pages.RecnoItem.{RecnoItem}
-use Rattle.bdb_format.specs.Page.{Content, Inline, Set, Chain, Tree, Unknown, Item, InternalItem, Listed, Page, Zero, Free, Meta, Hash, Internal, RecnoInternal, Leaf, RecnoLeaf, DupLeaf, Overflow, Queue, NoType}
+use Rattle.bdb_format.specs.Page.{Content, Inline, Set, Chain, Tree, Unknown, Item, InternalItem, Listed, Page, Zero, Free, Meta, Hash, Internal, RecnoInternal}
+use Rattle.bdb_format.specs.Page.{Leaf, RecnoLeaf, DupLeaf, Overflow, Queue, NoType}
 use Rattle.bdb_format.specs.References.{no_item}
 use Rattle.bdb_turned.specs.Fields.{no_internal, no_recno}
 
@@ -31,7 +32,8 @@ unfoldable pub listed_overlap : {I : Type 0} → (ℕ → I → ℕ) → I → L
 listed_overlap item_end none page =
     let begin : ℕ → ℕ = λ i. slice_index page.offsets i in
     let end : ℕ → ℕ = λ i. item_end (slice_index page.offsets i) (get_or page.items i none) in
-    list_any (λ i. list_any (λ j. share_bytes (begin i) (end i) (begin j) (end j)) (range_with_len 0 (length page.items))) (range_with_len 0 (length page.items))
+    list_any (λ i. list_any (λ j. share_bytes (begin i) (end i) (begin j) (end j)) (range_with_len 0 (length page.items)))
+    (range_with_len 0 (length page.items))
 
 -- those of a hash page can't, since each goes up to the one before it
 unfoldable pub overlaps : Page → Bool

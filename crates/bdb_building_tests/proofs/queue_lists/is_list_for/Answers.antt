@@ -10,7 +10,8 @@ use Rattle.bdb_building_tests.proofs.queue_lists.is_list_for.Goals as goal
 
 pub loop-i-init : goal.loop-i-init
 loop-i-init c =
-    none_looked_at c.args.settings.now (pairs_of c.args.list) c.len-i.result _ (c.len-i.ensures ∙ sym (length-map (slice_seen c.args.list) unlined)) (omega arith)
+    none_looked_at c.args.settings.now (pairs_of c.args.list) c.len-i.result _ (c.len-i.ensures ∙ sym (length-map (slice_seen c.args.list) unlined))
+    (omega arith)
 
 pub loop-i-preserved : goal.loop-i-preserved
 loop-i-preserved c =

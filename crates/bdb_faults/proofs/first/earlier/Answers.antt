@@ -6,7 +6,9 @@ use Rattle.bdb_faults.proofs.FirstLemmas.{first_kept, first_taken}
 use Rattle.bdb_faults.proofs.first.earlier.Goals as goal
 
 pub returns-in-Some : goal.returns-in-Some
-returns-in-Some c = λ faults is. first_kept faults c.in-Some.first c.args.fault (subst (λ (o : Option Fault). IsFirst o faults) c.in-Some.is is) c.if-comes_first.ensures
+returns-in-Some c = λ faults is. first_kept faults c.in-Some.first c.args.fault (subst (λ (o : Option Fault). IsFirst o faults) c.in-Some.is is)
+    c.if-comes_first.ensures
 
 pub returns-in-Some-2 : goal.returns-in-Some-2
-returns-in-Some-2 c = λ faults is. first_taken faults c.in-Some.first c.args.fault (subst (λ (o : Option Fault). IsFirst o faults) c.in-Some.is is) c.if-comes_first.ensures
+returns-in-Some-2 c = λ faults is. first_taken faults c.in-Some.first c.args.fault (subst (λ (o : Option Fault). IsFirst o faults) c.in-Some.is is)
+    c.if-comes_first.ensures

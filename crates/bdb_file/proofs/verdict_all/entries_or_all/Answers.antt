@@ -22,5 +22,6 @@ returns-in-Ok-refused_by-clause-entries c =
 
 pub returns-clause-refusal : goal.returns-clause-refusal
 returns-clause-refusal c =
-    all_refused (stages_by c.args.rows (6 ∷ 7 ∷ []) c.args.linked.now) c.in-Ok.checked.found c.in-Err.error (rows_ascend c.args.rows c.args.linked.now (6 ∷ 7 ∷ []))
+    all_refused (stages_by c.args.rows (6 ∷ 7 ∷ []) c.args.linked.now) c.in-Ok.checked.found c.in-Err.error
+    (rows_ascend c.args.rows c.args.linked.now (6 ∷ 7 ∷ []))
     (listed (stages_by c.args.rows (6 ∷ 7 ∷ []) c.args.linked.now) c.in-Ok.checked.found c.in-Ok.ensures.noted) c.in-Err.ensures.refusal

@@ -11,7 +11,8 @@ use Rattle.bdb_graph.proofs.blanks.pass_blanks.Goals.{then-link-gt0, else-link-g
 pub loop-turn-preserved : goal.loop-turn-preserved
 loop-turn-preserved c =
     let file = file_of c.args.formed.now in
-    let high : c.loop-turn.page ≤ (file_of c.args.formed.now).last = omega (arith, c.if-page-head.false, ap (λ (head : Head). head.last) c.head.ensures.head, last_page c.args.formed.now) in
+    let high : c.loop-turn.page ≤ (file_of c.args.formed.now).last = omega
+    (arith, c.if-page-head.false, ap (λ (head : Head). head.last) c.head.ensures.head, last_page c.args.formed.now) in
     elim c.if-link-gt0.branch [
       | then-link-gt0 w ↦ record {
         all = subst (ArePassed file) (sym w.nexts-is) (w.stand_for.ensures file c.loop-turn.invariant.here c.loop-turn.invariant.all);

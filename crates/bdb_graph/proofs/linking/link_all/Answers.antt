@@ -18,5 +18,6 @@ returns-in_err-refused_by-clause-refusal g c =
 pub walked-requires : goal.walked-requires
 walked-requires g c =
     let none : faults_in (3 ∷ 4 ∷ 5 ∷ []) c.args.formed ≡ [] =
-    none_found c.args.formed (3 ∷ 4 ∷ 5 ∷ []) c.new-found.result c.note_graph.new.found c.new-found.ensures c.in-Ok.ensures.noted c.in_ok-refused_by.ensures.accepted in
+    none_found c.args.formed (3 ∷ 4 ∷ 5 ∷ []) c.new-found.result c.note_graph.new.found c.new-found.ensures c.in-Ok.ensures.noted
+    c.in_ok-refused_by.ensures.accepted in
     record { walked = c.in-Ok.ensures.walked none; owned = c.in-Ok.ensures.owned none }

@@ -13,11 +13,16 @@ loop-number-preserved c =
     let seen = c.is_meta.ensures ∙ ap is_meta c.page_at.ensures in
     elim c.if-is_meta.branch [
       | then-is_meta+in_ok-push w ↦
-          cc (w.in_ok-push.ensures.items, one_more_meta file c.loop-number.number c.loop-number.metas.items c.loop-number.invariant (sym w.if-is_meta.true ∙ seen))
+          cc (
+            w.in_ok-push.ensures.items,
+            one_more_meta file c.loop-number.number c.loop-number.metas.items c.loop-number.invariant
+                (sym w.if-is_meta.true ∙ seen),
+          )
       | else-is_meta w ↦ cc (no_more_meta file c.loop-number.number c.loop-number.metas.items c.loop-number.invariant (sym w.if-is_meta.false ∙ seen))
     ]
 
 pub returns : goal.returns
 returns c =
     let last = ap (λ (head : Head). head.last) c.head-number-end.ensures.head in
-    all_metas (file_of c.args.formed.now) c.loop-number.number c.loop-number.metas.items (omega (arith, last, last_page c.args.formed.now)) c.loop-number.invariant
+    all_metas (file_of c.args.formed.now) c.loop-number.number c.loop-number.metas.items (omega (arith, last, last_page c.args.formed.now))
+    c.loop-number.invariant

@@ -12,12 +12,14 @@ use Rattle.bdb_graph.proofs.open.note_form.Goals as goal
 
 pub note_pages-requires-clause-accepted : goal.note_pages-requires-clause-accepted
 note_pages-requires-clause-accepted g c =
-    let is : (c.in-Ok.head ≡ head_of c.args.image.now) × (first_row (head_rows c.args.image.now) ≡ None) = faulted_value head_fault (head_rows c.args.image.now) (head_of c.args.image.now) c.in-Ok.head c.in-Ok.ensures in
+    let is : (c.in-Ok.head ≡ head_of c.args.image.now) × (first_row (head_rows c.args.image.now) ≡ None) = faulted_value head_fault (head_rows c.args.image.now)
+    (head_of c.args.image.now) c.in-Ok.head c.in-Ok.ensures in
     record { size = c.requires.size; head_is = is.0; accepted = is.1 }
 
 pub returns-in_ok-note_pages-in-Ok-clause-read : goal.returns-in_ok-note_pages-in-Ok-clause-read
 returns-in_ok-note_pages-in-Ok-clause-read g c =
-    let is : (c.in-Ok.head ≡ head_of c.args.image.now) × (first_row (head_rows c.args.image.now) ≡ None) = faulted_value head_fault (head_rows c.args.image.now) (head_of c.args.image.now) c.in-Ok.head c.in-Ok.ensures in
+    let is : (c.in-Ok.head ≡ head_of c.args.image.now) × (first_row (head_rows c.args.image.now) ≡ None) = faulted_value head_fault (head_rows c.args.image.now)
+    (head_of c.args.image.now) c.in-Ok.head c.in-Ok.ensures in
     record { size = c.requires.size; head_is = is.0; accepted = is.1 }
 
 pub returns-in_ok-note-in-Err-clause-noted : goal.returns-in_ok-note-in-Err-clause-noted

@@ -17,4 +17,5 @@ returns-in_err-refused_by-clause-refusal c =
 
 pub formed_by-requires-clause-form : goal.formed_by-requires-clause-form
 formed_by-requires-clause-form c =
-    none_found c.args.image.now (1 ∷ 2 ∷ []) c.new-found.result c.note_form.new.found c.new-found.ensures c.in-Ok.ensures.noted c.in_ok-refused_by.ensures.accepted
+    none_found c.args.image.now (1 ∷ 2 ∷ []) c.new-found.result c.note_form.new.found c.new-found.ensures c.in-Ok.ensures.noted
+    c.in_ok-refused_by.ensures.accepted

@@ -19,7 +19,8 @@ loop-page-init g c = record {
 
 pub loop-page-preserved : goal.loop-page-preserved
 loop-page-preserved g c =
-    let len : length c.reaches-reached.new.marks ≡ c.loop-page.marks.len = c.reaches-reached.auto.marks ∙ (ap length c.deref_mut.ensures.value ∙ sym c.loop-page.marks.ok.0) in
+    let len : length c.reaches-reached.new.marks ≡ c.loop-page.marks.len = c.reaches-reached.auto.marks
+    ∙ (ap length c.deref_mut.ensures.value ∙ sym c.loop-page.marks.ok.0) in
     let back = written_back c.loop-page.marks.len c.reaches-reached.new.marks c.loop-page.marks.items len (sym c.loop-page.marks.ok.0) in
     rw back
     record {

@@ -35,5 +35,6 @@ returns-clause-tallies c = λ os place are.
 pub returns-clause-misfits : goal.returns-clause-misfits
 returns-clause-misfits c = λ place.
     let all : c.groups.bucket ≡ c.args.buckets.now.max_bucket + 1 = omega (arith, c.groups.invariant.low) in
-    subst (λ n. c.groups.misfits ≡ misfits_of (fit_code (file_of c.args.formed.now) c.args.holder) (placed place (bucket_names c.args.buckets.now.spares 0 n))) all
+    subst (λ n. c.groups.misfits ≡ misfits_of (fit_code (file_of c.args.formed.now) c.args.holder) (placed place (bucket_names c.args.buckets.now.spares 0 n)))
+    all
     (c.groups.invariant.judged place)

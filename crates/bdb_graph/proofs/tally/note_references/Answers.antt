@@ -11,7 +11,8 @@ use Rattle.bdb_graph.proofs.tally.note_references.Goals as goal
 -- The references of this page are added to those of the pages before it, and fit.
 pub loop-page-preserved : goal.loop-page-preserved
 loop-page-preserved g c =
-    let len : length c.tally_page.new.tallies ≡ c.loop-page.tallies.len = c.tally_page.auto.tallies ∙ (ap length c.deref_mut.ensures.value ∙ sym c.loop-page.tallies.ok.0) in
+    let len : length c.tally_page.new.tallies ≡ c.loop-page.tallies.len = c.tally_page.auto.tallies
+    ∙ (ap length c.deref_mut.ensures.value ∙ sym c.loop-page.tallies.ok.0) in
     let back = written_back c.loop-page.tallies.len c.tally_page.new.tallies c.loop-page.tallies.items len (sym c.loop-page.tallies.ok.0) in
     rw back
     record {
@@ -34,17 +35,20 @@ loop-page-preserved g c =
 -- The last page is passed.
 pub returns-clause-tallies : goal.returns-clause-tallies
 returns-clause-tallies g c =
-    let last : c.head-pages.result.last ≡ (file_of c.args.formed.now).last = ap (λ (head : Head). head.last) c.head-pages.ensures.head ∙ sym (last_page c.args.formed.now) in
+    let last : c.head-pages.result.last ≡ (file_of c.args.formed.now).last = ap (λ (head : Head). head.last) c.head-pages.ensures.head
+    ∙ sym (last_page c.args.formed.now) in
     let all : c.loop-page.page ≡ (file_of c.args.formed.now).last + 1 = omega arith in
     tallied_all (file_of c.args.formed.now) c.loop-page.page c.loop-page.tallies.items all (omega (arith, c.loop-page.invariant.len)) c.loop-page.invariant.all
 
 pub returns-clause-kinds : goal.returns-clause-kinds
 returns-clause-kinds g c =
-    let last : c.head-pages.result.last ≡ (file_of c.args.formed.now).last = ap (λ (head : Head). head.last) c.head-pages.ensures.head ∙ sym (last_page c.args.formed.now) in
+    let last : c.head-pages.result.last ≡ (file_of c.args.formed.now).last = ap (λ (head : Head). head.last) c.head-pages.ensures.head
+    ∙ sym (last_page c.args.formed.now) in
     kinds_all (file_of c.args.formed.now) c.loop-page.page c.loop-page.kinds (omega (arith, last)) c.loop-page.invariant.kinds
 
 pub returns-clause-noted : goal.returns-clause-noted
 returns-clause-noted g c =
-    let last : c.head-pages.result.last ≡ (file_of c.args.formed.now).last = ap (λ (head : Head). head.last) c.head-pages.ensures.head ∙ sym (last_page c.args.formed.now) in
+    let last : c.head-pages.result.last ≡ (file_of c.args.formed.now).last = ap (λ (head : Head). head.last) c.head-pages.ensures.head
+    ∙ sym (last_page c.args.formed.now) in
     references_noted (g.F.FaultSink.has_noted c.args.found.now) (g.F.FaultSink.has_noted c.loop-page.found) (file_of c.args.formed.now) c.loop-page.page
     (omega (arith, last)) c.loop-page.invariant.faults

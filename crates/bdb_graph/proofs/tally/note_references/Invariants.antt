@@ -21,5 +21,6 @@ abbrev pub invariant-loop-page : goal.invariant-loop-page
 invariant-loop-page g l =
     IsTallied (length l.tallies.items ≡ l.pages) (AreTallies l.tallies.items (held_below (file_of l.formed) l.page))
     (AreKnownIfAny (file_of l.formed) l.tallies.items l.known)
-    (AreKinds l.kinds (held_below (file_of l.formed) l.page)) (NotesAll (g.F.FaultSink.has_noted l.fn.found) (g.F.FaultSink.has_noted l.found) (by_page 3 0 (l.page - 0) (λ p. holding (reference_rows (file_of l.formed) p))))
+    (AreKinds l.kinds (held_below (file_of l.formed) l.page)) (NotesAll (g.F.FaultSink.has_noted l.fn.found) (g.F.FaultSink.has_noted l.found)
+    (by_page 3 0 (l.page - 0) (λ p. holding (reference_rows (file_of l.formed) p))))
     (l.steps ≡ l.fn.steps + l.page)

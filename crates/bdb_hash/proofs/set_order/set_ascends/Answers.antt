@@ -45,7 +45,8 @@ loop-entry-preserved-then-not-is_deleted c =
       ascends =
           set_more file (option_map (value_held file) c.loop-entry.last) (value_held file c.leaf_held-value.result) (leaf_item_seen c.in-Some.entry)
           c.next.new.self c.loop-entry.entry-iterator _ c.in-Some.ensures.steps (sym c.if-not-is_deleted.ensures) (c.leaf_held-value.ensures.value file)
-          (subst (λ (image : List ℕ). follows (option_map (value_held (file_of image)) c.loop-entry.last) (value_held (file_of image) c.leaf_held-value.result) ≡ c.in_ok-follows.field-0) same
+          (subst (λ (image : List ℕ). follows (option_map (value_held (file_of image)) c.loop-entry.last) (value_held (file_of image) c.leaf_held-value.result)
+          ≡ c.in_ok-follows.field-0) same
           (sym c.in_ok-follows.ensures.follows) ∙ c.if-not-branch.false)
           c.loop-entry.invariant.ascends;
       fits = fits;

@@ -8,7 +8,17 @@ returns-then-held-count-clause-too_large g c =
     let read = c.in-Ok.ensures.bytes in
     let held = ap length c.as_slice-held.ensures in
     λ _. took_next _ _ _ _ _ _ _ c.read.invariant.taken read.0 read.1
-    (omega (arith, read.0, c.read-in-read.auto.buf, c.min-room.ensures, held, c.if-held-count.true, c.read.invariant.bound, length-take c.min-room.result c.read.chunk))
+    (omega (
+      arith,
+      read.0,
+      c.read-in-read.auto.buf,
+      c.min-room.ensures,
+      held,
+      c.if-held-count.true,
+      c.read.invariant.bound,
+      length-take c.min-room.result
+          c.read.chunk,
+    ))
 
 pub returns-then-held-count-clause-taken : goal.returns-then-held-count-clause-taken
 returns-then-held-count-clause-taken g c =

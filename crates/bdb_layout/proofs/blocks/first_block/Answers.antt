@@ -13,11 +13,13 @@ returns-then-run-size-clause-block c =
     elim c.then-run-size.branch [
       | then-run-size-via-then-run-size w ↦ no_room c.args.order c.args.run.now c.from-size.result (c.from-size.ensures ∙ c.u16_at.ensures) w.if-run-size.true
       | then-run-size-via-else-run-size+then-from-size w ↦
-          no_end c.args.order c.args.run.now c.from-size.result w.from.result (c.from-size.ensures ∙ c.u16_at.ensures) (w.from.ensures ∙ w.u16_at-else-run-size.ensures) w.if-from-size.true
+          no_end c.args.order c.args.run.now c.from-size.result w.from.result (c.from-size.ensures ∙ c.u16_at.ensures)
+          (w.from.ensures ∙ w.u16_at-else-run-size.ensures) w.if-from-size.true
     ]
 
 pub returns-clause-block : goal.returns-clause-block
 returns-clause-block c =
     let n : ℕ = c.from-size.result in
     rw (add-sub_cancel_left 2 n, to_end (n + 4) c.args.run.now)
-    (whole_block c.args.order c.args.run.now n c.from.result (c.from-size.ensures ∙ c.u16_at.ensures) c.if-run-size.false (c.from.ensures ∙ c.u16_at-else-run-size.ensures) c.if-from-size.false)
+    (whole_block c.args.order c.args.run.now n c.from.result (c.from-size.ensures ∙ c.u16_at.ensures) c.if-run-size.false
+    (c.from.ensures ∙ c.u16_at-else-run-size.ensures) c.if-from-size.false)

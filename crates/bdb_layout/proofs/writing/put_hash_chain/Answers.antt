@@ -8,5 +8,6 @@ pub returns : goal.returns
 returns c =
     let order = c.args.order in
     let kind = wrote c.args.page.now c.args.at (3 ∷ 0 ∷ 0 ∷ 0 ∷ []) (c.args.at + 4) c.put_bytes.ensures (omega arith) (omega arith) in
-    let all = wrote_next (spelled 4 order c.args.head ++ spelled 4 order c.args.total) (c.args.at + 12) kind c.put_pair.ensures (omega (arith, length-pair order c.args.head c.args.total)) (omega arith) in
+    let all = wrote_next (spelled 4 order c.args.head ++ spelled 4 order c.args.total) (c.args.at + 12) kind c.put_pair.ensures
+    (omega (arith, length-pair order c.args.head c.args.total)) (omega arith) in
     all.is

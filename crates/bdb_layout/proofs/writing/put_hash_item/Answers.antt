@@ -14,7 +14,12 @@ put_hash_bytes-requires-in-Set c =
     let set = c.in-Set.set in
     let order = rw c.in-Set.is at c.requires.same_order in
     let room = rw c.in-Set.is at c.requires.room in
-    omega (arith, room, ap length (hash_set-is c.args.order set.order c.bytes-run.result.now set.blocks (λ i. (c.type_inv.run i).fits) order c.bytes-run.ensures))
+    omega (
+      arith,
+      room,
+      ap length (hash_set-is c.args.order set.order c.bytes-run.result.now set.blocks (λ i. (c.type_inv.run i).fits) order
+          c.bytes-run.ensures),
+    )
 
 pub put_hash_chain-requires : goal.put_hash_chain-requires
 put_hash_chain-requires c =
@@ -35,7 +40,8 @@ pub returns-in-Set : goal.returns-in-Set
 returns-in-Set c =
     let set = c.in-Set.set in
     let order = rw c.in-Set.is at c.requires.same_order in
-    let fit = run_fits c.args.page.now c.put_hash_bytes-in-Set.new.page c.bytes-run.result.now c.args.at 2 c.put_hash_bytes-in-Set.ensures (omega arith) (λ i. (c.type_inv.page i).fits) in
+    let fit = run_fits c.args.page.now c.put_hash_bytes-in-Set.new.page c.bytes-run.result.now c.args.at 2 c.put_hash_bytes-in-Set.ensures (omega arith)
+    (λ i. (c.type_inv.page i).fits) in
     let is = hash_set-is c.args.order set.order c.bytes-run.result.now set.blocks fit order c.bytes-run.ensures in
     rw c.in-Set.is (c.put_hash_bytes-in-Set.ensures ∙ ap (overwritten c.args.page.now c.args.at) is)
 

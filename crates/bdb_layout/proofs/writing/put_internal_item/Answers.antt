@@ -27,10 +27,12 @@ pub returns-in-Inline : goal.returns-in-Inline
 returns-in-Inline c =
     let room = rw c.in-Inline.is at c.requires.room in
     let item = c.args.item.now in
-    rw c.in-Inline.is (wrote_internal_inline c.args.order item.child item.count c.in-Inline.key.now c.args.page.now c.put_internal_start.new.page c.put_bytes.new.page c.args.at c.put_internal_start.ensures c.put_bytes.ensures room)
+    rw c.in-Inline.is (wrote_internal_inline c.args.order item.child item.count c.in-Inline.key.now c.args.page.now c.put_internal_start.new.page
+    c.put_bytes.new.page c.args.at c.put_internal_start.ensures c.put_bytes.ensures room)
 
 pub returns-in-Overflow : goal.returns-in-Overflow
 returns-in-Overflow c =
     let room = rw c.in-Overflow.is at c.requires.room in
     let item = c.args.item.now in
-    rw c.in-Overflow.is (wrote_internal_chain c.args.order item.child item.count c.in-Overflow.head c.in-Overflow.total c.args.page.now c.put_internal_start-in-Overflow.new.page c.put_off_page.new.page c.args.at c.put_internal_start-in-Overflow.ensures c.put_off_page.ensures room)
+    rw c.in-Overflow.is (wrote_internal_chain c.args.order item.child item.count c.in-Overflow.head c.in-Overflow.total c.args.page.now
+    c.put_internal_start-in-Overflow.new.page c.put_off_page.new.page c.args.at c.put_internal_start-in-Overflow.ensures c.put_off_page.ensures room)

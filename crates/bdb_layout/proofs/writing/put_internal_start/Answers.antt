@@ -11,5 +11,6 @@ returns c =
     let numbers = spelled 4 order c.args.item.now.child ++ spelled 4 order c.args.item.now.count in
     let first = wrote c.args.page.now c.args.at size (c.args.at + 2) c.put_u16.ensures (omega (arith, length-spelled 2 order c.args.size)) (omega arith) in
     let kind = wrote_next (c.args.kind ∷ 0 ∷ []) (c.args.at + 4) first c.put_bytes.ensures (omega arith) (omega arith) in
-    let all = wrote_next numbers (c.args.at + 12) kind c.put_pair.ensures (omega (arith, length-pair order c.args.item.now.child c.args.item.now.count)) (omega arith) in
+    let all = wrote_next numbers (c.args.at + 12) kind c.put_pair.ensures (omega (arith, length-pair order c.args.item.now.child c.args.item.now.count))
+    (omega arith) in
     wrote_as (size ++ (c.args.kind ∷ 0 ∷ numbers)) all (append_assoc size (c.args.kind ∷ 0 ∷ []) numbers)

@@ -8,7 +8,8 @@ pub returns : goal.returns
 returns c =
     let bytes = c.args.bytes.now in
     let size = spelled 2 c.args.order (length bytes) in
-    let first = wrote c.args.page.now c.args.at size (c.args.at + 2) c.put_u16.ensures (omega (arith, length-spelled 2 c.args.order (length bytes))) (omega arith) in
+    let first = wrote c.args.page.now c.args.at size (c.args.at + 2) c.put_u16.ensures (omega (arith, length-spelled 2 c.args.order (length bytes)))
+    (omega arith) in
     let kind = wrote_next (c.args.kind ∷ []) (c.args.at + 3) first c.put_byte.ensures (omega arith) (omega arith) in
     let all = wrote_next bytes (c.args.at + 3 + length bytes) kind c.put_bytes.ensures (omega arith) (omega arith) in
     wrote_as (size ++ (c.args.kind ∷ bytes)) all (append_assoc size (c.args.kind ∷ []) bytes)

@@ -15,7 +15,8 @@ loop-i-init g c = notes_none (g.F.FaultSink.has_noted c.args.found.now)
 
 pub loop-i-preserved : goal.loop-i-preserved
 loop-i-preserved g c =
-    naming_more (g.F.FaultSink.has_noted c.args.found.now) (g.F.FaultSink.has_noted c.loop-i.found) (g.F.FaultSink.has_noted c.note_given.new.found) (file_of c.args.linked.now) c.args.entries.now c.loop-i.i
+    naming_more (g.F.FaultSink.has_noted c.args.found.now) (g.F.FaultSink.has_noted c.loop-i.found) (g.F.FaultSink.has_noted c.note_given.new.found)
+    (file_of c.args.linked.now) c.args.entries.now c.loop-i.i
     c.meta-number.result.0 c.index.result.now c.count_fault.result c.meta-number.ensures.number
     (count_read c.in_ok-counts.counts.items (c.head.result.last + 1) c.meta-number.result.0 c.index.result.now c.args.entries.now c.in_ok-counts.ensures
     (omega (arith, c.meta-number.ensures.inside, last_page c.args.linked.now, ap (λ (h : Head). h.last) c.head.ensures.head)) c.index.ensures)
@@ -24,5 +25,6 @@ loop-i-preserved g c =
 
 pub returns-clause-noted : goal.returns-clause-noted
 returns-clause-noted g c =
-    no_more (g.F.FaultSink.has_noted c.args.found.now) (g.F.FaultSink.has_noted c.loop-i.found) (λ p. option_to_list (naming_fault c.args.entries.now p)) (meta_pages (file_of c.args.linked.now))
+    no_more (g.F.FaultSink.has_noted c.args.found.now) (g.F.FaultSink.has_noted c.loop-i.found) (λ p. option_to_list (naming_fault c.args.entries.now p))
+    (meta_pages (file_of c.args.linked.now))
     c.loop-i.i (omega arith) c.loop-i.invariant

@@ -12,7 +12,8 @@ use Rattle.bdb_master.proofs.repeats.note_repeated.Goals as goal
 pub loop-pair-init : goal.loop-pair-init
 loop-pair-init g c = record {
   noted =
-      subst (IsNoted (g.F.FaultSink.has_noted c.args.found.now) (g.F.FaultSink.has_noted c.args.found.now) c.new-names.result.keys (file_of c.args.forest) c.args.pairs)
+      subst (IsNoted (g.F.FaultSink.has_noted c.args.found.now) (g.F.FaultSink.has_noted c.args.found.now) c.new-names.result.keys (file_of c.args.forest)
+      c.args.pairs)
       (sym c.into_iter-pair-iterator.ensures.into_iter_gives)
       (begun (g.F.FaultSink.has_noted c.args.found.now) c.new-names.result.keys (file_of c.args.forest) c.args.pairs c.new-names.ensures.none);
   keyed = subst (AreKeyed (file_of c.args.forest)) (sym c.into_iter-pair-iterator.ensures.into_iter_gives) c.requires;
@@ -23,7 +24,8 @@ pub add-requires : goal.add-requires
 add-requires g c =
     subst (λ (image : List ℕ). FitsHeld (file_of image) c.leaf_held.result) (sym c.loop-pair.invariant.image)
     (c.leaf_held.ensures.fits (file_of c.args.forest)
-    (first_keyed (file_of c.args.forest) c.loop-pair.pair-iterator c.next.new.self (pair_held c.in-Some.pair) c.loop-pair.invariant.keyed c.in-Some.ensures.steps))
+    (first_keyed (file_of c.args.forest) c.loop-pair.pair-iterator c.next.new.self (pair_held c.in-Some.pair) c.loop-pair.invariant.keyed
+    c.in-Some.ensures.steps))
 
 -- A live pair is noted, if its key is among those that came before.
 pub loop-pair-preserved-in-Continue-branch-2 : goal.loop-pair-preserved-in-Continue-branch-2
@@ -38,7 +40,8 @@ loop-pair-preserved-in-Continue-branch-2 g c =
           (c.leaf_held.ensures.value (file_of c.loop-pair.names.image)
           ∙ ap (λ (image : List ℕ). value_of (file_of image) (pair_held c.in-Some.pair).key.content) c.loop-pair.invariant.image)
           c.in_ok-is_new.ensures.added c.in_ok-is_new.ensures.keys
-          (subst (λ found. Notes (g.F.FaultSink.has_noted c.loop-pair.found) (g.F.FaultSink.has_noted c.note_given.new.found) (option_to_list found)) c.repeat_on.ensures
+          (subst (λ found. Notes (g.F.FaultSink.has_noted c.loop-pair.found) (g.F.FaultSink.has_noted c.note_given.new.found) (option_to_list found))
+          c.repeat_on.ensures
           c.in_ok-note_given.ensures);
       keyed = rest_keyed file c.loop-pair.pair-iterator c.next.new.self (pair_held c.in-Some.pair) c.loop-pair.invariant.keyed c.in-Some.ensures.steps;
       image = c.add.ensures.same ∙ c.loop-pair.invariant.image;

@@ -12,7 +12,8 @@ loop-entry-init g c = notes_none (g.F.FaultSink.has_noted c.args.found.now)
 
 pub loop-entry-preserved : goal.loop-entry-preserved
 loop-entry-preserved g c =
-    target_more (g.F.FaultSink.has_noted c.args.found.now) (g.F.FaultSink.has_noted c.loop-entry.found) (g.F.FaultSink.has_noted c.note_given.new.found) (file_of c.args.linked.now) c.args.entries.now
+    target_more (g.F.FaultSink.has_noted c.args.found.now) (g.F.FaultSink.has_noted c.loop-entry.found) (g.F.FaultSink.has_noted c.note_given.new.found)
+    (file_of c.args.linked.now) c.args.entries.now
     c.loop-entry.entry-index c.entry-item.result c.page.result c.names.result c.target_fault.result (omega arith) c.entry-item.is c.page.ensures
     c.names.ensures c.target_fault.ensures c.loop-entry.invariant c.in_ok-note_given.ensures
 

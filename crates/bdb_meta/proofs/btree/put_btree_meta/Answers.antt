@@ -20,6 +20,15 @@ returns c =
     let re_len = filled_number order meta.re_len 84 minkey c.put_u32-2.ensures refl (omega arith) in
     let re_pad = filled_number order meta.re_pad 88 re_len c.put_u32-3.ensures refl (omega arith) in
     let root = filled_number order meta.root 92 re_pad c.put_u32-4.ensures refl (omega arith) in
-    let written : c.put_u32-4.new.bytes ≡ btree_bytes order size c.args.number c.args.last meta = root.is ∙ btree_pieces order size c.args.number c.args.last meta in
-    let fits : BtreeFits meta = record { flags = omega arith; minkey = omega arith; re_len = omega arith; re_pad = omega arith; root = omega arith; free = omega arith } in
+    let written : c.put_u32-4.new.bytes ≡ btree_bytes order size c.args.number c.args.last meta = root.is ∙ btree_pieces order size c.args.number c.args.last
+    meta in
+    let fits : BtreeFits meta = record {
+      flags = omega arith;
+      minkey = omega arith;
+      re_len = omega arith;
+      re_pad = omega arith;
+      root = omega arith;
+      free = omega
+          arith;
+    } in
     record { page = written; fields = ap (btree_fields order) written ∙ btree_fields-bytes order size c.args.number c.args.last meta fits }

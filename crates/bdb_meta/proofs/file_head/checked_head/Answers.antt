@@ -12,13 +12,15 @@ returns-in_err-check_version c =
 pub returns-in_err-check_pages : goal.returns-in_err-check_pages
 returns-in_err-check_pages c =
     let long : 512 ≤ length c.args.image.now = omega arith in
-    rw (head_rows-pages c.args.image.now (head_of c.args.image.now) c.in_err-check_pages.field-0.0 long (sym c.in_ok-check_version.ensures) (sym c.in_err-check_pages.ensures.rows)) (search rules)
+    rw (head_rows-pages c.args.image.now (head_of c.args.image.now) c.in_err-check_pages.field-0.0 long (sym c.in_ok-check_version.ensures)
+    (sym c.in_err-check_pages.ensures.rows)) (search rules)
 
 pub returns-in_err-check_length : goal.returns-in_err-check_length
 returns-in_err-check_length c =
     let long : 512 ≤ length c.args.image.now = omega arith in
     let groups = head_rows-length c.args.image.now (head_of c.args.image.now) long (sym c.in_ok-check_version.ensures) (sym c.in_ok-check_pages.ensures.rows) in
-    rw (groups ∙ answer-code (length_rows c.args.image.now) (head_of c.args.image.now) c.in_err-check_length.field-0.0 (sym c.in_err-check_length.ensures)) (search rules)
+    rw (groups ∙ answer-code (length_rows c.args.image.now) (head_of c.args.image.now) c.in_err-check_length.field-0.0 (sym c.in_err-check_length.ensures))
+    (search rules)
 
 pub returns : goal.returns
 returns c =

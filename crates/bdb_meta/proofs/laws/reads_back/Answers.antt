@@ -13,7 +13,8 @@ pub returns : goal.returns
 returns c = record {
   btree = λ order size number last meta fits none.
       let page = btree_bytes order size number last meta in
-      faulted-none form_fault (metadata_rows order page number 0 Btree) (btree_fields order page) none ∙ ap Ok (btree_fields-bytes order size number last meta fits);
+      faulted-none form_fault (metadata_rows order page number 0 Btree) (btree_fields order page) none
+      ∙ ap Ok (btree_fields-bytes order size number last meta fits);
   table = λ order size number last elements meta fits spares none.
       let page = table_bytes order size number last elements meta in
       faulted-none form_fault (metadata_rows order page number last Hash) (hash_fields order page) none

@@ -26,7 +26,15 @@ returns c =
     let count : length meta.spares ≡ 32 = sym (ap length c.put_spares.ensures.field) in
     let long : 224 ≡ 96 + length (spares_bytes order meta.spares) = omega (arith, count, length-spares order meta.spares) in
     let spares = filled_piece (spares_bytes order meta.spares) 224 charkey c.put_spares.ensures.page long (omega arith) in
-    let written : c.put_spares.new.page ≡ table_bytes order size c.args.number c.args.last c.args.elements meta = spares.is ∙ table_pieces order size c.args.number c.args.last c.args.elements meta in
-    let fits : TableFits meta = record { flags = omega arith; max_bucket = omega arith; high_mask = omega arith; low_mask = omega arith; ffactor = omega arith; free = omega arith } in
+    let written : c.put_spares.new.page ≡ table_bytes order size c.args.number c.args.last c.args.elements meta = spares.is
+    ∙ table_pieces order size c.args.number c.args.last c.args.elements meta in
+    let fits : TableFits meta = record {
+      flags = omega arith;
+      max_bucket = omega arith;
+      high_mask = omega arith;
+      low_mask = omega arith;
+      ffactor = omega arith;
+      free = omega arith;
+    } in
     let read = sym (ap (λ page. (hash_fields order page).spares) written) ∙ c.put_spares.ensures.field in
     record { page = written; fields = ap (hash_fields order) written ∙ hash_fields-bytes order size c.args.number c.args.last c.args.elements meta fits read }

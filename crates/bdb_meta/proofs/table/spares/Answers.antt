@@ -5,5 +5,6 @@ use Rattle.bdb_meta.proofs.table.spares.Goals as goal
 
 pub returns : goal.returns
 returns c =
-    let below : (k : ℕ) → k < 32 → get_or c.loop-group.spare-items k 0 ≡ four_at c.args.order c.args.page.now (96 + 4 * k) = λ k h. c.loop-group.invariant k (omega arith) in
+    let below : (k : ℕ) → k < 32 → get_or c.loop-group.spare-items k 0 ≡ four_at c.args.order c.args.page.now (96 + 4 * k) = λ k h. c.loop-group.invariant k
+    (omega arith) in
     fill_by_all (λ k. four_at c.args.order c.args.page.now (96 + 4 * k)) c.loop-group.spare-items 32 0 (omega arith) below

@@ -2,7 +2,7 @@ use Rattle.std.proofs.Common.{List, ℕ, [], ◌++◌, ◌∷◌, ◌∙◌, ap,
 use Rattle.std.proofs.lemmas.List.{length-map, map-append}
 use Rattle.bdb_places.specs.Places.{values_seen}
 use Rattle.bdb_text_format.specs.Placed.{pairs_of}
-use Rattle.bdb_buckets.specs.Tables.{Keyed}
+use Rattle.bdb_law_buckets.specs.Tables.{Keyed}
 use Rattle.bdb_mkhash.specs.Units.{unit_seen, units_seen}
 use Rattle.bdb_mkhash.specs.Buckets.{table_units}
 use Rattle.bdb_mkhash.proofs.BucketLemmas.{AreDealt, dealt_length, none_dealt, one_dealt, pushed_seen, run_unit}

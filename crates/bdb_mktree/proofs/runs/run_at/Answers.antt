@@ -5,7 +5,7 @@ use Rattle.bdb_places.specs.Places.{values_seen}
 use Rattle.bdb_text_format.specs.Pairs.{keys_of, unlined_pairs}
 use Rattle.bdb_text_format.specs.Placed.{key_seen, pairs_of, slice_seen}
 use Rattle.bdb_text_format.specs.declared.pairs.TextPair.{TextPair}
-use Rattle.bdb_leaves.specs.Units.{KeyedUnit}
+use Rattle.bdb_mkleaves.specs.Units.{KeyedUnit}
 use Rattle.bdb_mktree.specs.Lists.{HasBytes, IsRunAt, has_key}
 use Rattle.bdb_mktree.proofs.ListLemmas.{first_has_key, has_bytes_at, is_run, run_long}
 use Rattle.bdb_mktree.proofs.runs.run_at.Goals as goal

@@ -25,4 +25,11 @@ returns-then-not-has_key_at c =
 pub returns : goal.returns
 returns c =
     let some = key_within c.args.key.now (slice_seen c.args.list) 0 c.requires in
-    omega (arith, c.loop-n.invariant.0, run_over c.args.key.now (slice_seen c.args.list) c.loop-n.n (omega (arith, some, c.len-n-end.ensures)), c.len.ensures, c.len-n-end.ensures, some)
+    omega (
+      arith,
+      c.loop-n.invariant.0,
+      run_over c.args.key.now (slice_seen c.args.list) c.loop-n.n (omega (arith, some, c.len-n-end.ensures)),
+      c.len.ensures,
+      c.len-n-end.ensures,
+      some,
+    )

@@ -14,12 +14,14 @@ pub nonzero_rem-number : goal.nonzero_rem-number
 nonzero_rem-number g c = some_slots c.args.forest.now c.args.meta.now c.head-last.ensures.forest c.requires
 
 pub record_on-requires-clause-slot : goal.record_on-requires-clause-slot
-record_on-requires-clause-slot g c = mod_below c.args.number c.args.meta.now.per_page (some_slots c.args.forest.now c.args.meta.now c.head-last.ensures.forest c.requires)
+record_on-requires-clause-slot g c = mod_below c.args.number c.args.meta.now.per_page
+    (some_slots c.args.forest.now c.args.meta.now c.head-last.ensures.forest c.requires)
 
 pub returns-then-before-last-clause-data : goal.returns-then-before-last-clause-data
 returns-then-before-last-clause-data g c =
     let some : 1 ≤ c.args.meta.now.per_page = omega (arith, some_slots c.args.forest.now c.args.meta.now c.head-last.ensures.forest c.requires) in
-    none_past c.args.forest.now c.args.meta.now c.args.number some (omega (arith, c.if-before-last.true, last_page c.args.forest.now, ap (λ (head : Head). head.last) c.head-last.ensures.head))
+    none_past c.args.forest.now c.args.meta.now c.args.number some (omega
+    (arith, c.if-before-last.true, last_page c.args.forest.now, ap (λ (head : Head). head.last) c.head-last.ensures.head))
 
 -- The one place of the number.
 pub returns-clause-data : goal.returns-clause-data

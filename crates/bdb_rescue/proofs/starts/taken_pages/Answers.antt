@@ -27,7 +27,8 @@ loop-page-preserved c =
     let same : c.is_marked.result ≡ slice_index_or starts c.loop-page.page false = c.is_marked.ensures in
     subst (λ xs. Marks file.count xs (flat_map (row_of file starts) (range_with_len 0 (c.loop-page.page + 1))))
     (sym (written c.mark_started.new.taken c.loop-page.taken.items c.loop-page.taken.len (c.mark_started.ensures.length ∙ c.deref_mut.ensures.len)))
-    (subst (Marks file.count c.mark_started.new.taken) (ap (λ b. rows ++ cond b (chain file c.loop-page.page) []) same ∙ more_pieces (row_of file starts) [] c.loop-page.page)
+    (subst (Marks file.count c.mark_started.new.taken) (ap (λ b. rows ++ cond b (chain file c.loop-page.page) []) same
+    ∙ more_pieces (row_of file starts) [] c.loop-page.page)
     (c.mark_started.ensures.marks file.count rows
     (subst (λ xs. Marks file.count xs rows) (sym c.deref_mut.ensures.value) c.loop-page.invariant)))
 

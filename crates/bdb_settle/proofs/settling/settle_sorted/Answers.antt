@@ -7,7 +7,8 @@ use Rattle.bdb_settle.proofs.settling.settle_sorted.Goals.{then-keeps_both, else
 pub loop-i-init : goal.loop-i-init
 loop-i-init c =
     starts_with c.args.settings.now c.args.bytes.now c.args.places.now.items c.index.result.now c.unlined-last.result
-    (let some = eqb-false _ _ (sym c.is_empty.ensures ∙ c.if-is_empty.false) in omega (arith, some, c.args.places.now.ok)) c.requires.sorted c.requires.placed c.index.ensures c.unlined-last.ensures
+    (let some = eqb-false _ _ (sym c.is_empty.ensures ∙ c.if-is_empty.false) in omega (arith, some, c.args.places.now.ok)) c.requires.sorted c.requires.placed
+    c.index.ensures c.unlined-last.ensures
 
 pub loop-i-preserved : goal.loop-i-preserved
 loop-i-preserved c =

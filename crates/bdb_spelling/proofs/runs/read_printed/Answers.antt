@@ -6,7 +6,8 @@ use Rattle.bdb_spelling.proofs.runs.read_printed.Goals as goal
 
 pub loop-rest-preserved-then-plain-eq0 : goal.loop-rest-preserved-then-plain-eq0
 loop-rest-preserved-then-plain-eq0 c =
-    rw c.in_ok-extend_from_slice.ensures.items (joined_more true c.args.text.now c.loop-rest.room.items c.loop-rest.rest.now _ _ c.loop-rest.invariant c.in-Some.ensures)
+    rw c.in_ok-extend_from_slice.ensures.items (joined_more true c.args.text.now c.loop-rest.room.items c.loop-rest.rest.now _ _ c.loop-rest.invariant
+    c.in-Some.ensures)
 
 pub loop-rest-preserved : goal.loop-rest-preserved
 loop-rest-preserved c =
@@ -15,7 +16,9 @@ loop-rest-preserved c =
 
 pub returns-in_default-clause-err : goal.returns-in_default-clause-err
 returns-in_default-clause-err c =
-    none_more c.args.text.now c.loop-rest.room.items c.loop-rest.rest.now c.loop-rest.invariant (eqb-false _ _ (sym c.loop-rest-test.ensures)) c.in_default.ensures
+    none_more c.args.text.now c.loop-rest.room.items c.loop-rest.rest.now c.loop-rest.invariant (eqb-false _ _ (sym c.loop-rest-test.ensures))
+    c.in_default.ensures
 
 pub returns-clause-ok : goal.returns-clause-ok
-returns-clause-ok c = joined_all true c.args.text.now c.loop-rest.room.items c.loop-rest.rest.now c.loop-rest.invariant (eqb-true _ _ (sym c.loop-rest-test.ensures))
+returns-clause-ok c = joined_all true c.args.text.now c.loop-rest.room.items c.loop-rest.rest.now c.loop-rest.invariant
+    (eqb-true _ _ (sym c.loop-rest-test.ensures))

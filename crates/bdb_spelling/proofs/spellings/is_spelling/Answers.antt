@@ -13,4 +13,5 @@ pub loop-rest-smaller : goal.loop-rest-smaller
 loop-rest-smaller c = shorter c.args.print c.loop-rest.rest.now _ _ c.in-Some.ensures
 
 pub returns-in-None : goal.returns-in-None
-returns-in-None c = is_some-no_unit c.args.print c.args.text.now c.loop-rest.rest.now c.loop-rest.invariant (eqb-false _ _ (sym c.loop-rest-test.ensures)) c.in-None.ensures
+returns-in-None c = is_some-no_unit c.args.print c.args.text.now c.loop-rest.rest.now c.loop-rest.invariant (eqb-false _ _ (sym c.loop-rest-test.ensures))
+    c.in-None.ensures

@@ -37,7 +37,8 @@ overflow_add-stat c =
 
 pub loop-number-preserved : goal.loop-number-preserved
 loop-number-preserved c = record {
-  below = one_below (file_of c.args.linked.now) c.loop-number.number c.class_of-class.result c.loop-number.stat c.count.new.self c.tree_level.result c.max.result
+  below = one_below (file_of c.args.linked.now) c.loop-number.number c.class_of-class.result c.loop-number.stat c.count.new.self c.tree_level.result
+      c.max.result
       c.unused_on.result c.loop-number.invariant.below c.class_of-class.ensures c.count.ensures c.tree_level.ensures c.max.ensures
       (c.unused_on.ensures.unused ∙ ap (λ it. unused_in (file_of it).size (page_at (file_of it) c.loop-number.number)) c.requires);
   long = c.unused_on.ensures.same ∙ c.loop-number.invariant.long;

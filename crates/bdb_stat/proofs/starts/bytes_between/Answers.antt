@@ -32,7 +32,8 @@ loop-i-preserved g c =
           let shared = w.is_shared.ensures.0 w.if-not-is_shared.false in
           rw (w.lowest-is, w.outside-is)
           (falling_again (index_end c.args.order c.args.page.now) (length c.args.page.now) c.loop-i.i (offset_of c.args.order c.args.page.now)
-          (λ i. g.E.Ends.end c.args.order c.args.page.now (offset_of c.args.order c.args.page.now i)) c.loop-i.lowest c.loop-i.outside (c.loop-i.i - 2) c.loop-i.invariant
+          (λ i. g.E.Ends.end c.args.order c.args.page.now (offset_of c.args.order c.args.page.now i)) c.loop-i.lowest c.loop-i.outside (c.loop-i.i - 2)
+          c.loop-i.invariant
           (omega (arith, shared.0)) shared.1 (ap (g.E.Ends.end c.args.order c.args.page.now) shared.1))
     ]
 
@@ -48,6 +49,7 @@ returns g c =
     let all : c.loop-i.i ≡ entries_of c.args.order c.args.page.now = omega (arith, c.u16_at-i-end.ensures) in
     rw c.index_end.ensures
     (subst (λ n. c.loop-i.outside + (c.loop-i.lowest - index_end c.args.order c.args.page.now) ≡ places_outside (index_end c.args.order c.args.page.now)
-    (length c.args.page.now) n (offset_of c.args.order c.args.page.now) (λ i. g.E.Ends.end c.args.order c.args.page.now (offset_of c.args.order c.args.page.now i))) all
+    (length c.args.page.now) n (offset_of c.args.order c.args.page.now) (λ i. g.E.Ends.end c.args.order c.args.page.now
+    (offset_of c.args.order c.args.page.now i))) all
     (falling_end (index_end c.args.order c.args.page.now) (length c.args.page.now) c.loop-i.i (offset_of c.args.order c.args.page.now)
     (λ i. g.E.Ends.end c.args.order c.args.page.now (offset_of c.args.order c.args.page.now i)) c.loop-i.lowest c.loop-i.outside c.loop-i.invariant))

@@ -7,14 +7,16 @@ use Rattle.bdb_stat.proofs.starts.bytes_outside.Goals as goal
 pub overflow_add-outside : goal.overflow_add-outside
 overflow_add-outside g c =
     let few : c.loop-at.outside ≤ c.loop-at.reached =
-    few_so_far (index_end c.args.order c.args.page.now) (length c.args.starts.now) (entries_of c.args.order c.args.page.now) (offset_of c.args.order c.args.page.now)
+    few_so_far (index_end c.args.order c.args.page.now) (length c.args.starts.now) (entries_of c.args.order c.args.page.now)
+    (offset_of c.args.order c.args.page.now)
     (g.E.Ends.end c.args.order c.args.page.now) c.loop-at.from c.loop-at.reached c.loop-at.outside c.loop-at.invariant in
     omega (arith, c.saturating_sub-outside.ensures, c.in-Some.ensures.high, c.loop-at.invariant.reached_high, c.requires.size)
 
 pub end_at-requires : goal.end_at-requires
 end_at-requires g c =
     let room =
-    room_at c.args.starts.now (index_end c.args.order c.args.page.now) g.E.Ends.least (entries_of c.args.order c.args.page.now) (offset_of c.args.order c.args.page.now)
+    room_at c.args.starts.now (index_end c.args.order c.args.page.now) g.E.Ends.least (entries_of c.args.order c.args.page.now)
+    (offset_of c.args.order c.args.page.now)
     (g.E.Ends.end c.args.order c.args.page.now) c.in-Some.at
     (subst (λ size. AreItems (index_end c.args.order c.args.page.now) size g.E.Ends.least (entries_of c.args.order c.args.page.now)
     (offset_of c.args.order c.args.page.now) (g.E.Ends.end c.args.order c.args.page.now)) (sym c.requires.size) c.requires.items)
@@ -33,7 +35,8 @@ loop-at-preserved g c =
 pub overflow_add-result : goal.overflow_add-result
 overflow_add-result g c =
     let few : c.loop-at.outside ≤ c.loop-at.reached =
-    few_so_far (index_end c.args.order c.args.page.now) (length c.args.starts.now) (entries_of c.args.order c.args.page.now) (offset_of c.args.order c.args.page.now)
+    few_so_far (index_end c.args.order c.args.page.now) (length c.args.starts.now) (entries_of c.args.order c.args.page.now)
+    (offset_of c.args.order c.args.page.now)
     (g.E.Ends.end c.args.order c.args.page.now) c.loop-at.from c.loop-at.reached c.loop-at.outside c.loop-at.invariant in
     omega (arith, c.loop-at.invariant.reached_high, c.requires.size)
 

@@ -24,19 +24,22 @@ pub unused_behind-requires-clause-room : goal.unused_behind-requires-clause-room
 unused_behind-requires-clause-room c = has_room c.args.order c.args.page.now 3 InternalPage c.in-3.is refl refl c.requires.code
 
 pub unused_behind-requires-clause-items : goal.unused_behind-requires-clause-items
-unused_behind-requires-clause-items c = internals_placed c.args.order c.args.page.now (has_rows c.args.order c.args.page.now 3 InternalPage c.in-3.is refl refl c.requires.code)
+unused_behind-requires-clause-items c = internals_placed c.args.order c.args.page.now
+    (has_rows c.args.order c.args.page.now 3 InternalPage c.in-3.is refl refl c.requires.code)
 
 pub returns-in-3-clause-unused : goal.returns-in-3-clause-unused
 unfolding unused_in
 returns-in-3-clause-unused c =
     by_type (unused_in (length c.args.page.now)) c.args.order c.args.page.now 3 InternalPage c.unused_behind.result c.in-3.is refl
-    (c.unused_behind.ensures.unused ∙ internal_outside c.args.order c.args.page.now (has_rows c.args.order c.args.page.now 3 InternalPage c.in-3.is refl refl c.requires.code))
+    (c.unused_behind.ensures.unused ∙ internal_outside c.args.order c.args.page.now
+    (has_rows c.args.order c.args.page.now 3 InternalPage c.in-3.is refl refl c.requires.code))
 
 pub unused_behind-requires-in-4-clause-room : goal.unused_behind-requires-in-4-clause-room
 unused_behind-requires-in-4-clause-room c = has_room c.args.order c.args.page.now 4 RecnoInternalPage c.in-4.is refl refl c.requires.code
 
 pub unused_behind-requires-in-4-clause-items : goal.unused_behind-requires-in-4-clause-items
-unused_behind-requires-in-4-clause-items c = recnos_placed c.args.order c.args.page.now (has_rows c.args.order c.args.page.now 4 RecnoInternalPage c.in-4.is refl refl c.requires.code)
+unused_behind-requires-in-4-clause-items c = recnos_placed c.args.order c.args.page.now
+    (has_rows c.args.order c.args.page.now 4 RecnoInternalPage c.in-4.is refl refl c.requires.code)
 
 pub returns-in-4-clause-unused : goal.returns-in-4-clause-unused
 unfolding unused_in
@@ -48,37 +51,43 @@ pub unused_behind-requires-in-5-clause-room : goal.unused_behind-requires-in-5-c
 unused_behind-requires-in-5-clause-room c = has_room c.args.order c.args.page.now 5 LeafPage c.in-5.is refl refl c.requires.code
 
 pub unused_behind-requires-in-5-clause-items : goal.unused_behind-requires-in-5-clause-items
-unused_behind-requires-in-5-clause-items c = leaves_placed c.args.order c.args.page.now (has_rows c.args.order c.args.page.now 5 LeafPage c.in-5.is refl refl c.requires.code)
+unused_behind-requires-in-5-clause-items c = leaves_placed c.args.order c.args.page.now
+    (has_rows c.args.order c.args.page.now 5 LeafPage c.in-5.is refl refl c.requires.code)
 
 pub returns-in-5-clause-unused : goal.returns-in-5-clause-unused
 unfolding unused_in
 returns-in-5-clause-unused c =
     by_type (unused_in (length c.args.page.now)) c.args.order c.args.page.now 5 LeafPage c.unused_behind-in-5.result c.in-5.is refl
-    (c.unused_behind-in-5.ensures.unused ∙ leaf_outside c.args.order c.args.page.now (has_rows c.args.order c.args.page.now 5 LeafPage c.in-5.is refl refl c.requires.code))
+    (c.unused_behind-in-5.ensures.unused ∙ leaf_outside c.args.order c.args.page.now
+    (has_rows c.args.order c.args.page.now 5 LeafPage c.in-5.is refl refl c.requires.code))
 
 pub unused_behind-requires-in-6-clause-room : goal.unused_behind-requires-in-6-clause-room
 unused_behind-requires-in-6-clause-room c = has_room c.args.order c.args.page.now 6 RecnoLeafPage c.in-6.is refl refl c.requires.code
 
 pub unused_behind-requires-in-6-clause-items : goal.unused_behind-requires-in-6-clause-items
-unused_behind-requires-in-6-clause-items c = leaves_placed c.args.order c.args.page.now (has_rows c.args.order c.args.page.now 6 RecnoLeafPage c.in-6.is refl refl c.requires.code)
+unused_behind-requires-in-6-clause-items c = leaves_placed c.args.order c.args.page.now
+    (has_rows c.args.order c.args.page.now 6 RecnoLeafPage c.in-6.is refl refl c.requires.code)
 
 pub returns-in-6-clause-unused : goal.returns-in-6-clause-unused
 unfolding unused_in
 returns-in-6-clause-unused c =
     by_type (unused_in (length c.args.page.now)) c.args.order c.args.page.now 6 RecnoLeafPage c.unused_behind-in-6.result c.in-6.is refl
-    (c.unused_behind-in-6.ensures.unused ∙ leaf_outside c.args.order c.args.page.now (has_rows c.args.order c.args.page.now 6 RecnoLeafPage c.in-6.is refl refl c.requires.code))
+    (c.unused_behind-in-6.ensures.unused ∙ leaf_outside c.args.order c.args.page.now
+    (has_rows c.args.order c.args.page.now 6 RecnoLeafPage c.in-6.is refl refl c.requires.code))
 
 pub unused_behind-requires-in-12-clause-room : goal.unused_behind-requires-in-12-clause-room
 unused_behind-requires-in-12-clause-room c = has_room c.args.order c.args.page.now 12 DupLeafPage c.in-12.is refl refl c.requires.code
 
 pub unused_behind-requires-in-12-clause-items : goal.unused_behind-requires-in-12-clause-items
-unused_behind-requires-in-12-clause-items c = leaves_placed c.args.order c.args.page.now (has_rows c.args.order c.args.page.now 12 DupLeafPage c.in-12.is refl refl c.requires.code)
+unused_behind-requires-in-12-clause-items c = leaves_placed c.args.order c.args.page.now
+    (has_rows c.args.order c.args.page.now 12 DupLeafPage c.in-12.is refl refl c.requires.code)
 
 pub returns-in-12-clause-unused : goal.returns-in-12-clause-unused
 unfolding unused_in
 returns-in-12-clause-unused c =
     by_type (unused_in (length c.args.page.now)) c.args.order c.args.page.now 12 DupLeafPage c.unused_behind-in-12.result c.in-12.is refl
-    (c.unused_behind-in-12.ensures.unused ∙ leaf_outside c.args.order c.args.page.now (has_rows c.args.order c.args.page.now 12 DupLeafPage c.in-12.is refl refl c.requires.code))
+    (c.unused_behind-in-12.ensures.unused ∙ leaf_outside c.args.order c.args.page.now
+    (has_rows c.args.order c.args.page.now 12 DupLeafPage c.in-12.is refl refl c.requires.code))
 
 pub unused_before_items-requires-in-13-clause-room : goal.unused_before_items-requires-in-13-clause-room
 unused_before_items-requires-in-13-clause-room c = has_room c.args.order c.args.page.now 13 HashPage c.in-13.is refl refl c.requires.code

@@ -17,7 +17,8 @@ page_of-page-requires-clause-there c =
 
 pub returns-then-is_zero-clause-unused : goal.returns-then-is_zero-clause-unused
 returns-then-is_zero-clause-unused c =
-    zero_on c.args.image.now c.args.head.now c.args.number c.page_of-page.result.now c.requires.head (omega (arith, c.if-number-head.false)) c.page_of-page.ensures.bytes
+    zero_on c.args.image.now c.args.head.now c.args.number c.page_of-page.result.now c.requires.head (omega (arith, c.if-number-head.false))
+    c.page_of-page.ensures.bytes
     (sym c.is_zero.ensures ∙ c.if-is_zero.true)
 
 pub typed_unused-requires-clause-long : goal.typed_unused-requires-clause-long

@@ -26,10 +26,13 @@ loop-turn-preserved g c =
     let few : c.args.pages.now.count ≡ c.count-turn-end.result = sym c.count-turn-end.ensures.count in
     let below : c.loop-turn.turn < c.args.pages.now.count = omega (arith, c.loop-turn-test.true, few) in
     let short : c.in_ok-link.link.length < 65536 = omega arith in
-    let next : IsAt c.args.pages.now (is_of_kind c.args.kind) c.args.head (c.loop-turn.turn + 1) c.loop-turn.page c.in_ok-link.link.next (c.loop-turn.length + c.in_ok-link.link.length) (c.loop-turn.steps + 1) c.args.steps.now =
+    let next : IsAt c.args.pages.now (is_of_kind c.args.kind) c.args.head (c.loop-turn.turn + 1) c.loop-turn.page c.in_ok-link.link.next
+    (c.loop-turn.length + c.in_ok-link.link.length) (c.loop-turn.steps + 1) c.args.steps.now =
     at_next _ _ _ _ _ _ _ _ _ c.in_ok-link.link c.loop-turn.invariant below (sym c.link_at.ensures ∙ c.in_ok-link.was) c.if-link-eq0.false short in
-    subst (λ n. IsAt c.args.pages.now (is_of_kind c.args.kind) c.args.head (c.loop-turn.turn + 1) c.loop-turn.page c.in_ok-link.link.next (c.loop-turn.length + n) c.tick.new.self c.args.steps.now) (sym c.from-length.ensures)
-    (subst (λ s. IsAt c.args.pages.now (is_of_kind c.args.kind) c.args.head (c.loop-turn.turn + 1) c.loop-turn.page c.in_ok-link.link.next (c.loop-turn.length + c.in_ok-link.link.length) s c.args.steps.now) (sym c.tick.ensures) next)
+    subst (λ n. IsAt c.args.pages.now (is_of_kind c.args.kind) c.args.head (c.loop-turn.turn + 1) c.loop-turn.page c.in_ok-link.link.next
+    (c.loop-turn.length + n) c.tick.new.self c.args.steps.now) (sym c.from-length.ensures)
+    (subst (λ s. IsAt c.args.pages.now (is_of_kind c.args.kind) c.args.head (c.loop-turn.turn + 1) c.loop-turn.page c.in_ok-link.link.next
+    (c.loop-turn.length + c.in_ok-link.link.length) s c.args.steps.now) (sym c.tick.ensures) next)
 
 -- No turn is left: more pages than there are can't follow each other.
 pub returns-clause-extent : goal.returns-clause-extent

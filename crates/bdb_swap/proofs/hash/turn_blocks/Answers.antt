@@ -18,17 +18,20 @@ pub loop-block-preserved : goal.loop-block-preserved
 loop-block-preserved c =
     let room : (c.loop-block.place + 4 + length c.in-Some.block.now ≤ length c.args.source.now)
     × (c.loop-block.place + (4 + length c.in-Some.block.now) + run_length c.next.new.self.blocks ≤ length c.args.source.now) =
-    room_of_block (length c.args.source.now) c.loop-block.place c.loop-block.block-iterator.blocks c.next.new.self.blocks c.in-Some.block.now c.in-Some.ensures.steps
+    room_of_block (length c.args.source.now) c.loop-block.place c.loop-block.block-iterator.blocks c.next.new.self.blocks c.in-Some.block.now
+    c.in-Some.ensures.steps
     c.loop-block.invariant.room in
     let low : c.loop-block.place + 4 + length c.in-Some.block.now ≤ length c.args.source.now = room.0 in
     record {
       turns = λ last later.
           c.loop-block.invariant.turns last
-          (turns_block c.args.source.now c.loop-block.page c.turn_two.new.page c.turn_two-in-loop-block.new.page last c.loop-block.place c.loop-block.block-iterator.blocks
+          (turns_block c.args.source.now c.loop-block.page c.turn_two.new.page c.turn_two-in-loop-block.new.page last c.loop-block.place
+          c.loop-block.block-iterator.blocks
           c.next.new.self.blocks c.in-Some.block.now c.in-Some.ensures.steps c.turn_two.ensures c.turn_two-in-loop-block.ensures later);
       room = room.1;
       same = two_lengths c.args.source.now c.loop-block.page c.turn_two.new.page c.turn_two-in-loop-block.new.page c.loop-block.place
-          (c.loop-block.place + 2 + length c.in-Some.block.now) c.turn_two.ensures c.turn_two-in-loop-block.ensures (c.loop-block.invariant.same ∙ c.requires.same)
+          (c.loop-block.place + 2 + length c.in-Some.block.now) c.turn_two.ensures c.turn_two-in-loop-block.ensures
+          (c.loop-block.invariant.same ∙ c.requires.same)
           (omega arith) (omega arith)
           ∙ c.loop-block.invariant.same;
     }

@@ -16,5 +16,6 @@ returns-in-OffPage-clause-turns c =
 -- First the head, then the total.
 pub returns-in-Overflow-clause-turns : goal.returns-in-Overflow-clause-turns
 returns-in-Overflow-clause-turns c =
-    rw c.in-Overflow.is (turns_on c.args.source.now c.args.page.now c.turn_four.new.page c.turn_four-in-Overflow.new.page (c.args.at + 4) 4 _ c.turn_four.ensures
+    rw c.in-Overflow.is (turns_on c.args.source.now c.args.page.now c.turn_four.new.page c.turn_four-in-Overflow.new.page (c.args.at + 4) 4 _
+    c.turn_four.ensures
     (turns_one c.args.source.now c.turn_four.new.page c.turn_four-in-Overflow.new.page (c.args.at + 8) 4 c.turn_four-in-Overflow.ensures))

@@ -7,8 +7,10 @@ use Rattle.bdb_swap.proofs.header.turn_index.Goals as goal
 
 pub loop-i-preserved : goal.loop-i-preserved
 loop-i-preserved c = record {
-  turns = turns_then c.args.source.now c.args.page.now c.loop-i.page c.turn_two.new.page (index_fields c.loop-i.i) (index_fields (c.loop-i.i + 1)) (26 + 2 * c.from.result) 2
-      c.loop-i.invariant.turns c.turn_two.ensures (index_more c.loop-i.i ∙ ap (λ (k : ℕ). index_fields c.loop-i.i ++ field (26 + 2 * k) 2 ∷ []) (sym c.from.ensures));
+  turns = turns_then c.args.source.now c.args.page.now c.loop-i.page c.turn_two.new.page (index_fields c.loop-i.i) (index_fields (c.loop-i.i + 1))
+      (26 + 2 * c.from.result) 2
+      c.loop-i.invariant.turns c.turn_two.ensures (index_more c.loop-i.i ∙ ap (λ (k : ℕ). index_fields c.loop-i.i ++ field (26 + 2 * k) 2 ∷ [])
+      (sym c.from.ensures));
   same = omega (arith, c.loop-i.invariant.same);
 }
 

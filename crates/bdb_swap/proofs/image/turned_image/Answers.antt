@@ -56,7 +56,8 @@ loop-number-preserved c =
     record {
       copied = c.in_ok-add_turned.ensures
           ∙ (ap (λ (xs : List ℕ). xs ++ turned_page c.args.head.now.order c.page_of-page.result.now) c.loop-number.invariant.copied
-          ∙ (ap (λ (xs : List ℕ). pages_turned c.args.head.now c.args.image.now c.loop-number.number ++ turned_page c.args.head.now.order xs) c.page_of-page.ensures.bytes
+          ∙ (ap (λ (xs : List ℕ). pages_turned c.args.head.now c.args.image.now c.loop-number.number ++ turned_page c.args.head.now.order xs)
+          c.page_of-page.ensures.bytes
           ∙ pages_more c.args.head.now c.args.image.now c.loop-number.number));
       none = none_more c.args.image.now c.args.head.now c.loop-number.number c.page_overlaps.result c.page_of-page.result.now c.loop-number.invariant.none
           c.page_of-page.ensures.bytes c.page_overlaps.ensures.found c.if-page_overlaps.false;

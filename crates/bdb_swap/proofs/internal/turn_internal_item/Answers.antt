@@ -12,8 +12,12 @@ returns-in-Inline-clause-turns c =
 
 pub returns-in-Overflow-clause-turns : goal.returns-in-Overflow-clause-turns
 returns-in-Overflow-clause-turns c =
-    rw c.in-Overflow.is (turns_on c.args.source.now c.args.page.now c.turn_two-in-Overflow.new.page c.turn_four-in-Overflow-4.new.page c.args.at 2 _ c.turn_two-in-Overflow.ensures
-    (turns_on c.args.source.now c.turn_two-in-Overflow.new.page c.turn_four-in-Overflow.new.page c.turn_four-in-Overflow-4.new.page (c.args.at + 4) 4 _ c.turn_four-in-Overflow.ensures
-    (turns_on c.args.source.now c.turn_four-in-Overflow.new.page c.turn_four-in-Overflow-2.new.page c.turn_four-in-Overflow-4.new.page (c.args.at + 8) 4 _ c.turn_four-in-Overflow-2.ensures
-    (turns_on c.args.source.now c.turn_four-in-Overflow-2.new.page c.turn_four-in-Overflow-3.new.page c.turn_four-in-Overflow-4.new.page (c.args.at + 16) 4 _ c.turn_four-in-Overflow-3.ensures
+    rw c.in-Overflow.is (turns_on c.args.source.now c.args.page.now c.turn_two-in-Overflow.new.page c.turn_four-in-Overflow-4.new.page c.args.at 2 _
+    c.turn_two-in-Overflow.ensures
+    (turns_on c.args.source.now c.turn_two-in-Overflow.new.page c.turn_four-in-Overflow.new.page c.turn_four-in-Overflow-4.new.page (c.args.at + 4) 4 _
+    c.turn_four-in-Overflow.ensures
+    (turns_on c.args.source.now c.turn_four-in-Overflow.new.page c.turn_four-in-Overflow-2.new.page c.turn_four-in-Overflow-4.new.page (c.args.at + 8) 4 _
+    c.turn_four-in-Overflow-2.ensures
+    (turns_on c.args.source.now c.turn_four-in-Overflow-2.new.page c.turn_four-in-Overflow-3.new.page c.turn_four-in-Overflow-4.new.page (c.args.at + 16) 4 _
+    c.turn_four-in-Overflow-3.ensures
     (turns_one c.args.source.now c.turn_four-in-Overflow-3.new.page c.turn_four-in-Overflow-4.new.page (c.args.at + 20) 4 c.turn_four-in-Overflow-4.ensures)))))

@@ -6,7 +6,8 @@ use Rattle.bdb_swap.proofs.number.turn_fours.Goals as goal
 
 pub loop-i-preserved : goal.loop-i-preserved
 loop-i-preserved c = record {
-  turns = turns_then c.args.source.now c.args.page.now c.loop-i.page c.turn_four.new.page (fours c.args.at c.loop-i.i) (fours c.args.at (c.loop-i.i + 1)) (c.args.at + 4 * c.loop-i.i) 4
+  turns = turns_then c.args.source.now c.args.page.now c.loop-i.page c.turn_four.new.page (fours c.args.at c.loop-i.i) (fours c.args.at (c.loop-i.i + 1))
+      (c.args.at + 4 * c.loop-i.i) 4
       c.loop-i.invariant.turns c.turn_four.ensures (fours_more c.args.at c.loop-i.i);
   same = omega (arith, c.loop-i.invariant.same);
 }

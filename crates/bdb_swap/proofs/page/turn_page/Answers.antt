@@ -16,7 +16,8 @@ pub returns-then-not-is_zero : goal.returns-then-not-is_zero
 returns-then-not-is_zero c =
     let some : is_zero c.args.source.now ≡ false = grind (arith, c.is_zero.ensures, c.if-not-is_zero.true) in
     page_turns c.args.head.now c.args.number c.args.source.now c.turn_typed.new.page c.requires.size (c.requires.form some) c.requires.apart some
-    (subst (λ (old : List ℕ). Turns c.args.source.now (fields_of (page_as c.args.head.now.order c.args.source.now (page_type (byte_at c.args.source.now 25)))) old c.turn_typed.new.page)
+    (subst (λ (old : List ℕ). Turns c.args.source.now (fields_of (page_as c.args.head.now.order c.args.source.now (page_type (byte_at c.args.source.now 25))))
+    old c.turn_typed.new.page)
     c.requires.copied c.turn_typed.ensures)
 
 -- A zero page stays.

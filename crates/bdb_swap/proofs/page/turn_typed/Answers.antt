@@ -22,7 +22,8 @@ turn_listed-requires-clause-items c = has_rows c.args.order c.args.source.now 2 
 pub returns-in-2 : goal.returns-in-2
 unfolding fields_of
 returns-in-2 c =
-    turns_as c.args.source.now c.args.page.now c.turn_listed.new.page c.args.order 2 HashPage _ c.in-2.is refl (hash_numbers c.args.order c.args.source.now) c.turn_listed.ensures
+    turns_as c.args.source.now c.args.page.now c.turn_listed.new.page c.args.order 2 HashPage _ c.in-2.is refl (hash_numbers c.args.order c.args.source.now)
+    c.turn_listed.ensures
 
 pub turn_listed-requires-in-3-clause-room : goal.turn_listed-requires-in-3-clause-room
 turn_listed-requires-in-3-clause-room c = has_room c.args.order c.args.source.now 3 InternalPage c.in-3.is refl refl c.requires.code
@@ -33,7 +34,8 @@ turn_listed-requires-in-3-clause-items c = has_rows c.args.order c.args.source.n
 pub returns-in-3 : goal.returns-in-3
 unfolding fields_of
 returns-in-3 c =
-    turns_as c.args.source.now c.args.page.now c.turn_listed-in-3.new.page c.args.order 3 InternalPage _ c.in-3.is refl (internal_numbers c.args.order c.args.source.now) c.turn_listed-in-3.ensures
+    turns_as c.args.source.now c.args.page.now c.turn_listed-in-3.new.page c.args.order 3 InternalPage _ c.in-3.is refl
+    (internal_numbers c.args.order c.args.source.now) c.turn_listed-in-3.ensures
 
 pub turn_listed-requires-in-4-clause-room : goal.turn_listed-requires-in-4-clause-room
 turn_listed-requires-in-4-clause-room c = has_room c.args.order c.args.source.now 4 RecnoInternalPage c.in-4.is refl refl c.requires.code
@@ -44,7 +46,8 @@ turn_listed-requires-in-4-clause-items c = has_rows c.args.order c.args.source.n
 pub returns-in-4 : goal.returns-in-4
 unfolding fields_of
 returns-in-4 c =
-    turns_as c.args.source.now c.args.page.now c.turn_listed-in-4.new.page c.args.order 4 RecnoInternalPage _ c.in-4.is refl (recno_numbers c.args.order c.args.source.now) c.turn_listed-in-4.ensures
+    turns_as c.args.source.now c.args.page.now c.turn_listed-in-4.new.page c.args.order 4 RecnoInternalPage _ c.in-4.is refl
+    (recno_numbers c.args.order c.args.source.now) c.turn_listed-in-4.ensures
 
 pub turn_listed-requires-in-5-clause-room : goal.turn_listed-requires-in-5-clause-room
 turn_listed-requires-in-5-clause-room c = has_room c.args.order c.args.source.now 5 LeafPage c.in-5.is refl refl c.requires.code
@@ -55,7 +58,8 @@ turn_listed-requires-in-5-clause-items c = has_rows c.args.order c.args.source.n
 pub returns-in-5 : goal.returns-in-5
 unfolding fields_of
 returns-in-5 c =
-    turns_as c.args.source.now c.args.page.now c.turn_listed-in-5.new.page c.args.order 5 LeafPage _ c.in-5.is refl (leaf_numbers c.args.order c.args.source.now) c.turn_listed-in-5.ensures
+    turns_as c.args.source.now c.args.page.now c.turn_listed-in-5.new.page c.args.order 5 LeafPage _ c.in-5.is refl
+    (leaf_numbers c.args.order c.args.source.now) c.turn_listed-in-5.ensures
 
 pub turn_listed-requires-in-6-clause-room : goal.turn_listed-requires-in-6-clause-room
 turn_listed-requires-in-6-clause-room c = has_room c.args.order c.args.source.now 6 RecnoLeafPage c.in-6.is refl refl c.requires.code
@@ -66,7 +70,8 @@ turn_listed-requires-in-6-clause-items c = has_rows c.args.order c.args.source.n
 pub returns-in-6 : goal.returns-in-6
 unfolding fields_of
 returns-in-6 c =
-    turns_as c.args.source.now c.args.page.now c.turn_listed-in-6.new.page c.args.order 6 RecnoLeafPage _ c.in-6.is refl (leaf_numbers c.args.order c.args.source.now) c.turn_listed-in-6.ensures
+    turns_as c.args.source.now c.args.page.now c.turn_listed-in-6.new.page c.args.order 6 RecnoLeafPage _ c.in-6.is refl
+    (leaf_numbers c.args.order c.args.source.now) c.turn_listed-in-6.ensures
 
 pub returns-in-7 : goal.returns-in-7
 unfolding fields_of
@@ -102,7 +107,8 @@ turn_listed-requires-in-12-clause-items c = has_rows c.args.order c.args.source.
 pub returns-in-12 : goal.returns-in-12
 unfolding fields_of
 returns-in-12 c =
-    turns_as c.args.source.now c.args.page.now c.turn_listed-in-12.new.page c.args.order 12 DupLeafPage _ c.in-12.is refl (leaf_numbers c.args.order c.args.source.now) c.turn_listed-in-12.ensures
+    turns_as c.args.source.now c.args.page.now c.turn_listed-in-12.new.page c.args.order 12 DupLeafPage _ c.in-12.is refl
+    (leaf_numbers c.args.order c.args.source.now) c.turn_listed-in-12.ensures
 
 pub turn_listed-requires-in-13-clause-room : goal.turn_listed-requires-in-13-clause-room
 turn_listed-requires-in-13-clause-room c = has_room c.args.order c.args.source.now 13 HashPage c.in-13.is refl refl c.requires.code
@@ -113,7 +119,8 @@ turn_listed-requires-in-13-clause-items c = has_rows c.args.order c.args.source.
 pub returns-in-13 : goal.returns-in-13
 unfolding fields_of
 returns-in-13 c =
-    turns_as c.args.source.now c.args.page.now c.turn_listed-in-13.new.page c.args.order 13 HashPage _ c.in-13.is refl (hash_numbers c.args.order c.args.source.now) c.turn_listed-in-13.ensures
+    turns_as c.args.source.now c.args.page.now c.turn_listed-in-13.new.page c.args.order 13 HashPage _ c.in-13.is refl
+    (hash_numbers c.args.order c.args.source.now) c.turn_listed-in-13.ensures
 
 -- No page has a type that is none of these, and then nothing is turned round.
 pub returns-in_default : goal.returns-in_default

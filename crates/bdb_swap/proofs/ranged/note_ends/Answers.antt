@@ -61,6 +61,7 @@ loop-i-preserved g c =
       same = ap length c.note_end.ensures.noted ∙ (length-set c.loop-i.ends c.from-at.result c.item_end.result ∙ c.loop-i.invariant.same);
       noted = noted_next c.loop-i.ends c.note_end.new.ends c.loop-i.noted.first c.loop-i.noted.places c.from-at.result c.item_end.result c.min.result
           c.if-note_end.noted.places c.note_end.result c.loop-i.invariant.noted (omega (arith, at, some, within, c.loop-i.invariant.same, c.requires.size))
-          (omega (arith, some, c.item_end.ensures)) c.note_end.ensures.noted c.note_end.ensures.first (c.min.ensures ∙ ap (λ (n : ℕ). min n c.from-at.result) first)
+          (omega (arith, some, c.item_end.ensures)) c.note_end.ensures.noted c.note_end.ensures.first
+          (c.min.ensures ∙ ap (λ (n : ℕ). min n c.from-at.result) first)
           places;
     }

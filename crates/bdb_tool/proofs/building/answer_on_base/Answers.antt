@@ -1,4 +1,4 @@
-use Rattle.bdb_writing.specs.Ontos.{IsTextOnto}
+use Rattle.bdb_tool_build.specs.Ontos.{IsTextOnto}
 use Rattle.bdb_tool.proofs.AnswerLemmas.{refusal_ends, written_ends}
 use Rattle.bdb_tool.proofs.building.answer_on_base.Goals as goal
 

@@ -22,12 +22,18 @@ returns-in_err-count c =
     rw c.from_residual-in_err-count.ensures (fewer_words c.args.words.now c.args.place (c.args.place + 2) c.in_err-count.ensures (omega arith))
 
 pub overflow_add-place-3 : goal.overflow_add-place-3
-overflow_add-place-3 c = omega (arith, c.len-end.ensures, slice_get_within c.args.words.now (c.args.place + 2) c.in_ok-count.count.now (sym c.in_ok-count.ensures))
+overflow_add-place-3 c = omega (
+  arith,
+  c.len-end.ensures,
+  slice_get_within c.args.words.now (c.args.place + 2) c.in_ok-count.count.now
+      (sym c.in_ok-count.ensures),
+)
 
 pub returns-then-place-end : goal.returns-then-place-end
 returns-then-place-end c = more_words c.args.words.now c.args.place (omega (arith, c.len-end.ensures, c.if-place-end.true))
 
 pub returns : goal.returns
 returns c =
-    three_words c.args.words.now c.args.place c.in_ok-kind.kind.now c.in_ok-seed.seed.now c.in_ok-count.count.now c.in_ok-kind.ensures c.in_ok-seed.ensures c.in_ok-count.ensures
+    three_words c.args.words.now c.args.place c.in_ok-kind.kind.now c.in_ok-seed.seed.now c.in_ok-count.count.now c.in_ok-kind.ensures c.in_ok-seed.ensures
+    c.in_ok-count.ensures
     (omega (arith, c.len-end.ensures, c.if-place-end.false))

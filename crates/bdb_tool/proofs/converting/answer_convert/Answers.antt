@@ -9,5 +9,6 @@ returns-in-Ok g c =
 
 pub returns-in-Err-Overlap : goal.returns-in-Err-Overlap
 returns-in-Err-Overlap g c =
-    overlap_told _ _ _ _ _ _ _ _ _ (c.image.ensures ∙ c.forest-forest.ensures ∙ c.linked-linked.ensures.pages) c.in-Err-Overlap.field-0-is c.in-Err-Overlap.ensures
+    overlap_told _ _ _ _ _ _ _ _ _ (c.image.ensures ∙ c.forest-forest.ensures ∙ c.linked-linked.ensures.pages) c.in-Err-Overlap.field-0-is
+    c.in-Err-Overlap.ensures
     c.tell_overlap.ensures

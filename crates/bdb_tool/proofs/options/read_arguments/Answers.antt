@@ -15,4 +15,5 @@ pub returns-in_err-take_option-in-Given : goal.returns-in_err-take_option-in-Giv
 returns-in_err-take_option-in-Given c =
     let read = c.loop-read.invariant in
     let step = rw c.in-Given.is at c.in_ok-place.ensures in
-    rw c.from_residual-in_err-take_option-in-Given.ensures (reads_twice _ _ _ _ _ read (c.in_err-take_option-in-Given.ensures.options read.before read.has) step.2)
+    rw c.from_residual-in_err-take_option-in-Given.ensures (reads_twice _ _ _ _ _ read (c.in_err-take_option-in-Given.ensures.options read.before read.has)
+    step.2)

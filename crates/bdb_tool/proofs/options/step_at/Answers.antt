@@ -38,7 +38,8 @@ returns-in_err-option c =
     c.in_ok-option_word.ensures c.in_err-option.ensures.0 (sym c.in_err-option.ensures.1 ∙ c.get-2.ensures))
 
 -- the step that takes the option
-taken : (c : goal.After-word_count) → IsStep (map row_seen c.args.options.now) c.args.words.now c.args.at (Given c.in_ok-option.option (c.args.at + word_count c.in_ok-option.option))
+taken : (c : goal.After-word_count) → IsStep (map row_seen c.args.options.now) c.args.words.now c.args.at
+    (Given c.in_ok-option.option (c.args.at + word_count c.in_ok-option.option))
 taken c =
     step_given _ c.args.words.now c.args.at c.in-Some.word.now c.in_ok-option_word.field-0 c.in_ok-option.option c.in-Some.ensures
     (rw c.as_slice.ensures at (sym c.if-eq.ensures))

@@ -8,6 +8,8 @@ use Rattle.bdb_tool.proofs.stating.other_figures.Goals as goal
 pub returns : goal.returns
 returns c =
     IfOk-weaker c.format.result
-    (λ text. string_bytes text ≡ four_written (codes "hash") (codes "overflow") (codes "free") (codes "reserve") c.args.stat.now.hash c.args.stat.now.overflow c.args.stat.now.free c.args.stat.now.reserve)
+    (λ text. string_bytes text ≡ four_written (codes "hash") (codes "overflow") (codes "free") (codes "reserve") c.args.stat.now.hash c.args.stat.now.overflow
+    c.args.stat.now.free c.args.stat.now.reserve)
     (λ text. string_bytes text ≡ other_figures c.args.stat.now)
-    (λ text written. written ∙ four_lines (codes "hash") (codes "overflow") (codes "free") (codes "reserve") c.args.stat.now.hash c.args.stat.now.overflow c.args.stat.now.free c.args.stat.now.reserve) c.format.ensures.ok
+    (λ text written. written ∙ four_lines (codes "hash") (codes "overflow") (codes "free") (codes "reserve") c.args.stat.now.hash c.args.stat.now.overflow
+    c.args.stat.now.free c.args.stat.now.reserve) c.format.ensures.ok

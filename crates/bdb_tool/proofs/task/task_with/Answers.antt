@@ -10,10 +10,12 @@ returns-in-Err-input_of-clause-task g c =
     λ words seen. asked_unread words _ c.args.command.limit c.in-Ask.request c.in-Err-input_of.stop (rw c.in-Ask.is at seen) c.in-Err-input_of.ensures
 
 pub returns-in-Err-input_of-2-clause-task : goal.returns-in-Err-input_of-2-clause-task
-returns-in-Err-input_of-2-clause-task g c = λ words seen. text_unread words _ c.args.command.limit c.in-Err-input_of-2.stop (rw c.in-Load.is at seen) c.in-Err-input_of-2.ensures
+returns-in-Err-input_of-2-clause-task g c = λ words seen. text_unread words _ c.args.command.limit c.in-Err-input_of-2.stop (rw c.in-Load.is at seen)
+    c.in-Err-input_of-2.ensures
 
 pub returns-in-Err-input_of-3-clause-task : goal.returns-in-Err-input_of-3-clause-task
-returns-in-Err-input_of-3-clause-task g c = λ words seen. salvage_unread words _ c.args.command.limit c.in-Salvage.asked c.in-Err-input_of-3.stop (rw c.in-Salvage.is at seen) c.in-Err-input_of-3.ensures
+returns-in-Err-input_of-3-clause-task g c = λ words seen. salvage_unread words _ c.args.command.limit c.in-Salvage.asked c.in-Err-input_of-3.stop
+    (rw c.in-Salvage.is at seen) c.in-Err-input_of-3.ensures
 
 pub returns-in-Err-input_of-4-clause-task : goal.returns-in-Err-input_of-4-clause-task
 returns-in-Err-input_of-4-clause-task g c =

@@ -8,7 +8,8 @@ use Rattle.bdb_tree.proofs.check.check_trees.Goals as goal
 pub returns-in-None-clause-accepted : goal.returns-in-None-clause-accepted
 returns-in-None-clause-accepted c =
     none_first (tree_faults (file_of c.args.linked.now))
-    (c.in-None.ensures ∙ first_found 6 (tree_faults (file_of c.args.linked.now)) c.new-first.result c.note_trees.new.found (leaves_in_order (file_of c.args.linked.now))
+    (c.in-None.ensures ∙ first_found 6 (tree_faults (file_of c.args.linked.now)) c.new-first.result c.note_trees.new.found
+    (leaves_in_order (file_of c.args.linked.now))
     c.new-first.ensures c.in-Ok.ensures)
 
 pub returns-in-Some-clause-refusal : goal.returns-in-Some-clause-refusal

@@ -9,7 +9,8 @@ pub part-requires : goal.part-requires
 part-requires c =
     let now : Reading = c.args.self.now in
     let table : IsTable (set_from (file_in now)) (file_in now).count c.self.inside.sets.bounds.items c.self.inside.sets.values.items =
-    subst (λ (r : Reading). IsTable (set_from (file_in r)) (file_in r).count c.self.inside.sets.bounds.items c.self.inside.sets.values.items) c.self.view_is c.self.invariant.sets_are in
+    subst (λ (r : Reading). IsTable (set_from (file_in r)) (file_in r).count c.self.inside.sets.bounds.items c.self.inside.sets.values.items) c.self.view_is
+    c.self.invariant.sets_are in
     let there : c.args.leaf < (file_in now).count = start_there (file_in now) c.args.leaf (past_of now.guess.order now.guess.page_size now.image) c.requires in
     subst (λ bounds. HasPart bounds c.deref-2.result.now c.args.leaf) (sym c.deref.ensures.value)
     (subst (λ values. HasPart c.self.inside.sets.bounds.items values c.args.leaf) (sym c.deref-2.ensures.value)
@@ -19,7 +20,8 @@ pub returns : goal.returns
 returns c =
     let now : Reading = c.args.self.now in
     let table : IsTable (set_from (file_in now)) (file_in now).count c.self.inside.sets.bounds.items c.self.inside.sets.values.items =
-    subst (λ (r : Reading). IsTable (set_from (file_in r)) (file_in r).count c.self.inside.sets.bounds.items c.self.inside.sets.values.items) c.self.view_is c.self.invariant.sets_are in
+    subst (λ (r : Reading). IsTable (set_from (file_in r)) (file_in r).count c.self.inside.sets.bounds.items c.self.inside.sets.values.items) c.self.view_is
+    c.self.invariant.sets_are in
     let there : c.args.leaf < (file_in now).count = start_there (file_in now) c.args.leaf (past_of now.guess.order now.guess.page_size now.image) c.requires in
     c.part.ensures
     ∙ (ap (λ bounds. part_of bounds c.deref-2.result.now c.args.leaf) c.deref.ensures.value

@@ -3,4 +3,5 @@ use Rattle.bdb_rescue.proofs.LeftLemmas.{values_rest}
 use Rattle.bdb_rescue.proofs.values.SalvageValuesIterator.next.Goals as goal
 
 pub invariant_of-self-2 : goal.invariant_of-self-2
-invariant_of-self-2 c = values_rest (file_in c.self.inside.salvaged.now) c.self.inside.places c.next.new.self c.in_ok-place.place c.in_ok-place.ensures.steps c.self.invariant
+invariant_of-self-2 c = values_rest (file_in c.self.inside.salvaged.now) c.self.inside.places c.next.new.self c.in_ok-place.place c.in_ok-place.ensures.steps
+    c.self.invariant

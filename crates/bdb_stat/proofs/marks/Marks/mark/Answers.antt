@@ -26,5 +26,7 @@ returns-clause-each c k low =
     c.put.ensures.each j (omega (arith, c.as_mut_slice.ensures.len, c.self.inside.words.ok.0, lt))
     ∙ ap (λ words. cond (c.args.place / 64 == j) c.with_bit-word.result (get_or words j 0)) c.as_mut_slice.ensures.value)
     c.with_bit-word.ensures.set
-    (λ i other. c.with_bit-word.ensures.others i other ∙ ap (λ word. bit_at word i) (word_is c.self.inside.words.items (c.args.place / 64) c.index.result.now (omega (arith, room, c.requires, marks_long c.self.inside.words.items)) c.index.ensures)) k (omega (arith, room, low))
+    (λ i other. c.with_bit-word.ensures.others i other ∙ ap (λ word. bit_at word i)
+    (word_is c.self.inside.words.items (c.args.place / 64) c.index.result.now (omega (arith, room, c.requires, marks_long c.self.inside.words.items))
+    c.index.ensures)) k (omega (arith, room, low))
     ∙ ap (λ marks. cond (c.args.place == k) 1 (get_or marks k 0)) c.self.view_is)

@@ -11,12 +11,20 @@ pub returns-in-Ok : goal.returns-in-Ok
 returns-in-Ok c =
     let there : c.args.number < length c.self.inside.image.now / c.self.inside.guess.page_size = c.if-number-self.false in
     let same : page_seen c.in-Ok.view ≡ page_at c.args.self.now c.args.number =
-    sym (ap answer_page c.in-Ok.is) ∙ answer_is c.self.inside.guess.order c.self.inside.guess.page_size c.self.inside.image.now c.args.number c.page_of-page.result.now c.u32_at-number.result c.form.result c.args.self.now (sym c.self.view_is) there c.page_of-page.ensures.bytes c.u32_at-number.ensures c.form.ensures.page in
-    record { page = same; short = answer_short c.self.inside.guess.page_size c.self.inside.guess.order c.self.inside.image.now c.args.number c.args.self.now (sym c.self.view_is) c.self.invariant.legal there (page_seen c.in-Ok.view) same }
+    sym (ap answer_page c.in-Ok.is) ∙ answer_is c.self.inside.guess.order c.self.inside.guess.page_size c.self.inside.image.now c.args.number
+    c.page_of-page.result.now c.u32_at-number.result c.form.result c.args.self.now (sym c.self.view_is) there c.page_of-page.ensures.bytes
+    c.u32_at-number.ensures c.form.ensures.page in
+    record {
+      page = same;
+      short = answer_short c.self.inside.guess.page_size c.self.inside.guess.order c.self.inside.image.now c.args.number c.args.self.now
+          (sym c.self.view_is) c.self.invariant.legal there (page_seen c.in-Ok.view) same;
+    }
 
 pub returns-in-Err : goal.returns-in-Err
 returns-in-Err c =
     let there : c.args.number < length c.self.inside.image.now / c.self.inside.guess.page_size = c.if-number-self.false in
     let same : NoType ≡ page_at c.args.self.now c.args.number =
-    sym (ap answer_page c.in-Err.is) ∙ answer_is c.self.inside.guess.order c.self.inside.guess.page_size c.self.inside.image.now c.args.number c.page_of-page.result.now c.u32_at-number.result c.form.result c.args.self.now (sym c.self.view_is) there c.page_of-page.ensures.bytes c.u32_at-number.ensures c.form.ensures.page in
+    sym (ap answer_page c.in-Err.is) ∙ answer_is c.self.inside.guess.order c.self.inside.guess.page_size c.self.inside.image.now c.args.number
+    c.page_of-page.result.now c.u32_at-number.result c.form.result c.args.self.now (sym c.self.view_is) there c.page_of-page.ensures.bytes
+    c.u32_at-number.ensures c.form.ensures.page in
     record { page = same; short = omega arith }

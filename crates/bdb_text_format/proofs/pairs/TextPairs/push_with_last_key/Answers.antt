@@ -12,6 +12,7 @@ returns-clause-ok c =
     (c.last_place-key.ensures ∙ ap (λ (places : List Place). get_or places (length places - 1) c.last_place-key.result) c.as_slice.ensures.value) c.self.view_is
     c.requires in
     ap (placed_pairs c.put_value.new.bytes.items) c.in_ok-push.ensures.items
-    ∙ (pairs_pushed c.self.inside.bytes.items c.put_value.new.bytes.items c.self.inside.places.items _ c.in_ok-place.place c.put_value.ensures.kept c.self.invariant
+    ∙ (pairs_pushed c.self.inside.bytes.items c.put_value.new.bytes.items c.self.inside.places.items _ c.in_ok-place.place c.put_value.ensures.kept
+    c.self.invariant
     c.in_ok-place.ensures.ok
     ∙ rw (key, c.self.view_is) refl)

@@ -1,5 +1,0 @@
-use Rattle.bdb_alone.proofs.ListLemmas.{load_into_queues}
-use Rattle.bdb_alone.proofs.laws.load_into_queues.Goals as goal
-
-pub returns : goal.returns
-returns c = load_into_queues

@@ -1,5 +1,0 @@
-use Rattle.bdb_alone.proofs.ListLemmas.{load_into_tables}
-use Rattle.bdb_alone.proofs.laws.load_into_tables.Goals as goal
-
-pub returns : goal.returns
-returns c = load_into_tables

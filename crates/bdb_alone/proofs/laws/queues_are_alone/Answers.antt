@@ -1,5 +1,0 @@
-use Rattle.bdb_alone.proofs.ListLemmas.{queues_are_alone}
-use Rattle.bdb_alone.proofs.laws.queues_are_alone.Goals as goal
-
-pub returns : goal.returns
-returns c = queues_are_alone

@@ -1,5 +1,0 @@
-use Rattle.bdb_alone.proofs.ListLemmas.{records_are_few}
-use Rattle.bdb_alone.proofs.laws.records_are_few.Goals as goal
-
-pub returns : goal.returns
-returns c = records_are_few

@@ -1,5 +1,0 @@
-use Rattle.bdb_alone.proofs.WrittenLemmas.{written_tables_are_sound}
-use Rattle.bdb_alone.proofs.laws.written_tables_are_sound.Goals as goal
-
-pub returns : goal.returns
-returns c = written_tables_are_sound

@@ -1,8 +1,0 @@
-ghost use Rattle.bdb_content_samples.specs.Fields.{btree, leaf, pair, text};
-ghost use Rattle.bdb_samples.specs.OnePair.{one_pair};
-ghost use Rattle.std.specs.Prelude.{◌≡◌, bytes_eq, true, [], ◌∷◌};
-
-/// The sample file, written from its fields.
-pub fn one_pair()
-    ensures { bytes_eq (btree 0 (leaf 1 0 0 (pair (text "a") (text "b") ∷ []) ∷ [])) one_pair ≡ true }
-{}

@@ -1,5 +1,0 @@
-pub mod NeedLemmas
-pub mod QueueLemmas
-pub mod TableLemmas
-pub mod UnitLemmas
-pub mod FilledLemmas

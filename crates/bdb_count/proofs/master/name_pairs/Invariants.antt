@@ -1,7 +1,0 @@
-use Rattle.std.proofs.Common.{◌≡◌, map, take}
-use Rattle.bdb_count.specs.Need.{name_pair}
-use Rattle.bdb_count.proofs.master.name_pairs.Given as goal
-
--- The sections passed have their pairs.
-abbrev pub invariant-loop-section : goal.invariant-loop-section
-invariant-loop-section l = l.pairs ≡ map name_pair (take l.section-index l.sections)

@@ -1,8 +1,0 @@
-use Rattle.std.proofs.Common.{◌≡◌, take}
-use Rattle.std.specs.List.{fold}
-use Rattle.bdb_fixtures.specs.Fields.{field_put}
-use Rattle.bdb_fixtures.proofs.field.write.Given as goal
-
--- The fields that were passed are written.
-abbrev pub invariant-loop-field : goal.invariant-loop-field
-invariant-loop-field l = l.bytes ≡ fold (field_put l.order) l.fn.bytes (take l.field-index l.fields)

@@ -1,5 +1,0 @@
-use Rattle.bdb_grove.proofs.ShareLemmas.{shares}
-use Rattle.bdb_grove.proofs.laws.grove_shares.Goals as goal
-
-pub returns : goal.returns
-returns c = shares

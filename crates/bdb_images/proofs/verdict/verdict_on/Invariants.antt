@@ -1,4 +1,0 @@
-use Rattle.bdb_images.proofs.verdict.verdict_on.Given as goal
-
-abbrev pub ghosts-run_counted : goal.ghosts-run_counted
-ghosts-run_counted a = record { name = a.blank.name; parts = a.blank.parts }

@@ -1,5 +1,0 @@
-use Rattle.bdb_join.proofs.ReadLemmas.{images_are_read}
-use Rattle.bdb_join.proofs.laws.images_are_read.Goals as goal
-
-pub returns : goal.returns
-returns c = images_are_read

@@ -1,5 +1,0 @@
-use Rattle.bdb_join.proofs.AloneLemmas.{joins_alone}
-use Rattle.bdb_join.proofs.laws.joins_alone.Goals as goal
-
-pub returns : goal.returns
-returns c = joins_alone

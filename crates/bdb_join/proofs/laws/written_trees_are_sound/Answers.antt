@@ -1,5 +1,0 @@
-use Rattle.bdb_join.proofs.WrittenLemmas.{written_trees_are_sound}
-use Rattle.bdb_join.proofs.laws.written_trees_are_sound.Goals as goal
-
-pub returns : goal.returns
-returns c = written_trees_are_sound

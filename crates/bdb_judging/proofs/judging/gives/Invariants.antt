@@ -1,4 +1,0 @@
-use Rattle.bdb_judging.proofs.judging.gives.Given as goal
-
-abbrev pub ghosts-gives_blank : goal.ghosts-gives_blank
-ghosts-gives_blank a = record { name = a.blank.name; parts = a.blank.parts }

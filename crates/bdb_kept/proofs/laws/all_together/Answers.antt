@@ -1,5 +1,0 @@
-use Rattle.bdb_kept.proofs.NameLemmas.{all_together}
-use Rattle.bdb_kept.proofs.laws.all_together.Goals as goal
-
-pub returns : goal.returns
-returns c = all_together

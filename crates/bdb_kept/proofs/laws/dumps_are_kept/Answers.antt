@@ -1,5 +1,0 @@
-use Rattle.bdb_kept.proofs.DumpLemmas.{dumps_are_kept}
-use Rattle.bdb_kept.proofs.laws.dumps_are_kept.Goals as goal
-
-pub returns : goal.returns
-returns c = dumps_are_kept

@@ -1,5 +1,0 @@
-use Rattle.bdb_kept.proofs.NameLemmas.{in_order_of_names}
-use Rattle.bdb_kept.proofs.laws.in_order_of_names.Goals as goal
-
-pub returns : goal.returns
-returns c = in_order_of_names

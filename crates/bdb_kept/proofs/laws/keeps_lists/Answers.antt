@@ -1,5 +1,0 @@
-use Rattle.bdb_kept.proofs.AlikeLemmas.{keeps_lists}
-use Rattle.bdb_kept.proofs.laws.keeps_lists.Goals as goal
-
-pub returns : goal.returns
-returns c = keeps_lists

@@ -1,5 +1,0 @@
-use Rattle.bdb_kept.proofs.DumpLemmas.{loaded_dumps_are_the_same}
-use Rattle.bdb_kept.proofs.laws.loaded_dumps_are_the_same.Goals as goal
-
-pub returns : goal.returns
-returns c = loaded_dumps_are_the_same

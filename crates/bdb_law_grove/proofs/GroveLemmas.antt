@@ -1,0 +1,214 @@
+-- What owners, references and faces are in a file whose pages stay as they were.
+use Rattle.std.proofs.Common.{◌≡◌, ℕ, suc, ◌+◌, ◌-◌, ◌≤◌, Bool, true, false, not, List, [], ◌∷◌, ◌++◌, map, length, None, arith, refl, sym, ◌∙◌, ap, subst, inl}
+use Rattle.std.proofs.Common.{inr}
+use Rattle.std.specs.Prelude.{◌==◌, ◌||◌, ◌&&◌, nat_lt}
+use Rattle.std.specs.List.{Contains, filter, flat_map, range_with_len, enumerate_from}
+use Rattle.std.proofs.lemmas.Bool.{ltb-false, ne_eqb, or_parts, or_from}
+use Rattle.std.proofs.lemmas.List.{map-append, append-nil}
+use Rattle.std.proofs.lemmas.List.Elements.{filter-append}
+use Rattle.bdb_format.specs.declared.metadata.FileKind.{FileKind}
+use Rattle.bdb_format.specs.declared.metadata.FileKind.TheVariants.{Btree, Hash as HashFile, Queue as QueueFile}
+use Rattle.bdb_format.specs.declared.references.Reference.{Reference}
+use Rattle.bdb_format.specs.declared.references.Sort.{Sort}
+use Rattle.bdb_format.specs.Table.{◌:?◌, first_row}
+use Rattle.bdb_format.specs.declared.pages.Header.{Header}
+use Rattle.bdb_format.specs.declared.references.Sort.TheVariants.{Free as FreeRef, Root, Bucket, HashNext, Child, OverflowHead, OverflowNext, DuplicateRoot}
+use Rattle.bdb_format.specs.Page.{Overflow, Page}
+use Rattle.bdb_format.specs.File.{File, page_at, header_in, type_in}
+use Rattle.bdb_format.specs.References.{Asked, asked_by, fit_code, fit_rows, has_type, is_asked, is_zero_page, targets_in, targets_of, refs}
+use Rattle.bdb_format.specs.Graph.{Owner, first_holder, held_by}
+use Rattle.bdb_format.proofs.MemberLemmas.{first_member, later_member, member_cases, no_member, of_filter, of_range}
+use Rattle.bdb_format.proofs.VerdictLemmas.{AllFail, none_is_first_row}
+use Rattle.bdb_format.proofs.ReferenceLemmas.{forest_names}
+use Rattle.bdb_format.proofs.ListLemmas.{range_parts}
+use Rattle.bdb_law_grove.specs.Part.{IsWayIn, owners_among}
+use Rattle.bdb_law_grove.specs.Growing.{IsSamePage, KeepsFace, ReferencesComeLast}
+use Rattle.bdb_law_grove.proofs.OwnerLemmas.{filter_none, names_page}
+
+-- Lists.
+
+-- the pages of a set up to a greater last page are no more
+pub same_range : (pages : ℕ → Bool) (m n : ℕ) → m ≤ n → ((p : ℕ) → pages p ≡ true → p ≤ m)
+    → filter pages (range_with_len 0 (n + 1)) ≡ filter pages (range_with_len 0 (m + 1))
+same_range pages m n low high =
+    let e : n + 1 ≡ (m + 1) + (n - m) = omega (arith, low) in
+    ap (λ k. filter pages (range_with_len 0 k)) e
+    ∙ (ap (filter pages) (range_parts 0 (m + 1) (n - m))
+    ∙ (filter-append pages (range_with_len 0 (m + 1)) (range_with_len (0 + (m + 1)) (n - m))
+    ∙ (ap (λ xs. filter pages (range_with_len 0 (m + 1)) ++ xs)
+    (filter_none pages (range_with_len (0 + (m + 1)) (n - m))
+    (λ p at is. let within = of_range (0 + (m + 1)) (n - m) p at in omega (arith, within.0, high p is)))
+    ∙ append-nil (filter pages (range_with_len 0 (m + 1))))))
+
+-- what passes a test in two joined lists, whose pieces have the same that pass
+same_join : {X Y : Type 0} (test : Y → Bool) (f g : X → List Y) (xs : List X) → ((x : X) → Contains xs x → filter test (g x) ≡ filter test (f x))
+    → filter test (flat_map g xs) ≡ filter test (flat_map f xs)
+same_join test f g [] same = refl
+same_join test f g (x ∷ xs) same =
+    filter-append test (g x) (flat_map g xs)
+    ∙ (ap (λ ys. ys ++ filter test (flat_map g xs)) (same x (first_member x xs))
+    ∙ (ap (λ ys. filter test (f x) ++ ys) (same_join test f g xs (λ y at. same y (later_member x xs y at)))
+    ∙ sym (filter-append test (f x) (flat_map f xs))))
+
+-- the owners of a page are the same where each page names it as before
+pub owners_same : (pages : ℕ → Bool) (f g : File) (x : ℕ) → f.last ≤ g.last → ((p : ℕ) → pages p ≡ true → p ≤ f.last)
+    → ((q : ℕ) → pages q ≡ true → filter (names_page x) (held_by g q) ≡ filter (names_page x) (held_by f q))
+    → owners_among pages g x ≡ owners_among pages f x
+owners_same pages f g x grows high same =
+    ap (λ qs. filter (names_page x) (flat_map (held_by g) qs)) (same_range pages f.last g.last grows high)
+    ∙ same_join (names_page x) (held_by f) (held_by g) (filter pages (range_with_len 0 (f.last + 1)))
+    (λ q at. same q (of_filter pages (range_with_len 0 (f.last + 1)) q at).1)
+
+-- References.
+
+same_targets : (kind other : FileKind) (p : ℕ) (page : Page) → (kind ≡ QueueFile → ⊥) → (other ≡ QueueFile → ⊥)
+    → targets_of other p page ≡ targets_of kind p page
+same_targets QueueFile other p page one two = absurd (one refl)
+same_targets Btree QueueFile p page one two = absurd (two refl)
+same_targets HashFile QueueFile p page one two = absurd (two refl)
+same_targets Btree Btree p page one two = refl
+same_targets Btree HashFile p page one two = refl
+same_targets HashFile Btree p page one two = refl
+same_targets HashFile HashFile p page one two = refl
+
+abbrev pub reference_of : (ℕ × (Sort × ℕ)) → Reference
+reference_of named = record { place = named.0; sort = named.1.0; target = named.1.1 }
+
+-- the references of a page are its names, in their order
+pub refs_of : (g : File) (p : ℕ) (page : Page) → (g.kind ≡ QueueFile → ⊥) → page_at g p ≡ page
+    → refs g p ≡ map reference_of (enumerate_from 0 (targets_in p page))
+unfolding refs
+refs_of g p page forest is =
+    ap (λ names. map reference_of (enumerate_from 0 names)) (ap (targets_of g.kind p) is ∙ forest_names g.kind p page forest)
+
+-- a reference of a page is one of its names
+pub of_references : (n : ℕ) (targets : List (Sort × ℕ)) (r : Reference) → Contains (map reference_of (enumerate_from n targets)) r
+    → Contains targets (r.sort, r.target)
+of_references n [] r at = absurd (no_member [] r refl at)
+of_references n (target ∷ targets) r at =
+    elim (member_cases (reference_of (n, target)) (map reference_of (enumerate_from (n + 1) targets)) r at) [
+      | inl here ↦ subst (λ (s : Reference). Contains (target ∷ targets) (s.sort, s.target)) here (first_member target targets)
+      | inr later ↦ later_member target targets (r.sort, r.target) (of_references (n + 1) targets r later)
+    ]
+
+-- what the references name, in their order
+pub enumerated_names : (n : ℕ) (targets : List (Sort × ℕ))
+    → map (λ (r : Reference). r.target) (map reference_of (enumerate_from n targets)) ≡ map (λ (target : Sort × ℕ). target.1) targets
+enumerated_names n [] = refl
+enumerated_names n (target ∷ targets) = ap (λ ps. target.1 ∷ ps) (enumerated_names (n + 1) targets)
+
+pub refs_same : (f g : File) (p : ℕ) → (f.kind ≡ QueueFile → ⊥) → (g.kind ≡ QueueFile → ⊥) → page_at g p ≡ page_at f p → refs g p ≡ refs f p
+unfolding refs
+refs_same f g p one two same =
+    ap (λ page. map reference_of (enumerate_from 0 (targets_of g.kind p page))) same
+    ∙ ap (λ names. map reference_of (enumerate_from 0 names)) (same_targets f.kind g.kind p (page_at f p) one two)
+
+pub held_same : (f g : File) (p : ℕ) → refs g p ≡ refs f p → held_by g p ≡ held_by f p
+held_same f g p same = ap (λ rs. map (λ r. let o : Owner = record { holder = p; reference = r } in o) rs) same
+
+-- Fitting.
+
+pub above : (more target : ℕ) → target ≤ more → nat_lt more target ≡ false
+above more target low = grind arith
+
+range_fits : (target last more : ℕ) → last ≤ more → (target == 0 || nat_lt last target) ≡ false → (target == 0 || nat_lt more target) ≡ false
+range_fits target last more grows none =
+    let parts : ((target == 0) ≡ false) × (nat_lt last target ≡ false) = or_parts (target == 0) (nat_lt last target) none in
+    let low : target ≤ last = ltb-false last target parts.1 in
+    or_from (target == 0) (nat_lt more target) parts.0 (above more target (omega arith))
+
+pub none_of_rows : (a b c d : Bool) → a ≡ false → b ≡ false → c ≡ false → d ≡ false → first_row {Code = ℕ} (1 :? a ∷ 2 :? b ∷ 3 :? c ∷ 4 :? d ∷ []) ≡ None
+none_of_rows a b c d p q r s = rw (p, q, r, s) refl
+
+-- a page fits that is there and has the type, level and previous page that are asked
+pub fits_asked : (g : File) (asked : Asked) (target : ℕ) → 1 ≤ target → target ≤ g.last → has_type asked.types (type_in (page_at g target)) ≡ true
+    → is_asked asked.level (header_in (page_at g target)).level ≡ true → is_asked asked.previous (header_in (page_at g target)).previous ≡ true
+    → first_row (fit_rows g asked target) ≡ None
+fits_asked g asked target low high type level previous =
+    none_of_rows _ _ _ _ (or_from (target == 0) (nat_lt g.last target) (ne_eqb target 0 (λ e. omega arith)) (above g.last target high))
+    (ap (λ b. not (b || (asked.or_zero && is_zero_page (page_at g target)))) type) (ap not level) (ap not previous)
+
+-- a reference fits a page with the same face in a later file
+pub fit_kept : (f g : File) (asked : Asked) (target : ℕ) → f.last ≤ g.last → KeepsFace (page_at f target) (page_at g target)
+    → first_row (fit_rows f asked target) ≡ None → first_row (fit_rows g asked target) ≡ None
+fit_kept f g asked target grows face fits =
+    let fail : AllFail (fit_rows f asked target) = none_is_first_row (fit_rows f asked target) fits in
+    let kind : not (has_type asked.types (type_in (page_at g target)) || (asked.or_zero && is_zero_page (page_at g target))) ≡ false =
+    ap (λ t. not (has_type asked.types t || (asked.or_zero && is_zero_page (page_at g target)))) face.type
+    ∙ (ap (λ z. not (has_type asked.types (type_in (page_at f target)) || (asked.or_zero && z))) face.zero ∙ fail.1.0) in
+    let level : not (is_asked asked.level (header_in (page_at g target)).level) ≡ false = ap (λ l. not (is_asked asked.level l)) face.level ∙ fail.1.1.0 in
+    let previous : not (is_asked asked.previous (header_in (page_at g target)).previous) ≡ false =
+    ap (λ l. not (is_asked asked.previous l)) face.previous ∙ fail.1.1.1.0 in
+    none_of_rows _ _ _ _ (range_fits target f.last g.last grows fail.0) kind level previous
+
+pub same_face : (old new : Page) → new ≡ old → KeepsFace old new
+same_face old new same = record {
+  type = ap type_in same;
+  zero = ap is_zero_page same;
+  level = ap (λ p. (header_in p).level) same;
+  previous = ap (λ p. (header_in p).previous) same;
+  entries = let e : (header_in new).entries ≡ (header_in old).entries = ap (λ p. (header_in p).entries) same in omega arith;
+  asks = λ holder sort. ap (λ p. asked_by holder p sort) same;
+}
+
+-- so does a reference of a holder that asks the same
+pub code_kept : (f g : File) (p : ℕ) (r : Reference) → f.last ≤ g.last → KeepsFace (page_at f p) (page_at g p)
+    → KeepsFace (page_at f r.target) (page_at g r.target) → fit_code f p r ≡ None → fit_code g p r ≡ None
+unfolding fit_code
+code_kept f g p r grows holder face fits =
+    ap (λ asked. first_row (fit_rows g asked r.target)) (holder.asks p r.sort) ∙ fit_kept f g (asked_by p (page_at f p) r.sort) r.target grows face fits
+
+-- A grove lasts.
+
+pub way_same : (f g : File) (pages : ℕ → Bool) (es : List ℕ) (p : ℕ) (hs : List ℕ) → ((x : ℕ) → owners_among pages g x ≡ owners_among pages f x)
+    → IsWayIn f pages es p hs → IsWayIn g pages es p hs
+way_same f g pages es p [] same way = way
+way_same f g pages es p (h ∷ hs) same way = (ap first_holder (same p) ∙ way.0, way_same f g pages es h hs same way.1)
+
+-- a page that stays the same but for what it counts
+
+counted_asks : (header : Header) (piece : List ℕ) (count holder : ℕ) (sort : Sort)
+    → asked_by holder (Overflow (record header { entries = count }) piece) sort ≡ asked_by holder (Overflow header piece) sort
+counted_asks header piece count holder FreeRef = refl
+counted_asks header piece count holder Root = refl
+counted_asks header piece count holder Bucket = refl
+counted_asks header piece count holder HashNext = refl
+counted_asks header piece count holder Child = refl
+counted_asks header piece count holder OverflowHead = refl
+counted_asks header piece count holder OverflowNext = refl
+counted_asks header piece count holder DuplicateRoot = refl
+
+pub same_page_face : (old new : Page) → IsSamePage old new → KeepsFace old new
+same_page_face old new (inl same) = same_face old new same
+same_page_face old new (inr more) =
+    subst (λ page. KeepsFace page new) (sym more.before)
+    (subst (KeepsFace (Overflow more.header more.piece)) (sym more.after)
+    (record { type = refl; zero = refl; level = refl; previous = refl; entries = more.more; asks = counted_asks more.header more.piece more.count }))
+
+same_names : (p : ℕ) (old new : Page) → IsSamePage old new → targets_in p new ≡ targets_in p old
+same_names p old new (inl same) = ap (targets_in p) same
+same_names p old new (inr more) = ap (targets_in p) more.after ∙ ap (targets_in p) (sym more.before)
+
+pub refs_kept : (f g : File) (p : ℕ) → (f.kind ≡ QueueFile → ⊥) → (g.kind ≡ QueueFile → ⊥) → IsSamePage (page_at f p) (page_at g p) → refs g p ≡ refs f p
+unfolding refs
+refs_kept f g p one two same =
+    ap (λ names. map reference_of (enumerate_from 0 names))
+    (forest_names g.kind p (page_at g p) two ∙ (same_names p (page_at f p) (page_at g p) same ∙ sym (forest_names f.kind p (page_at f p) one)))
+
+enumerate_more : {X : Type 0} (n : ℕ) (xs : List X) (x : X) → enumerate_from n (xs ++ (x ∷ [])) ≡ enumerate_from n xs ++ ((n + length xs, x) ∷ [])
+enumerate_more n [] x = let e : n ≡ n + 0 = omega arith in ap (λ k. (k, x) ∷ []) e
+enumerate_more n (y ∷ ys) x =
+    let e : n + 1 + length ys ≡ n + suc (length ys) = omega arith in
+    ap (λ rest. (n, y) ∷ rest) (enumerate_more (n + 1) ys x ∙ ap (λ k. enumerate_from (n + 1) ys ++ ((k, x) ∷ [])) e)
+
+pub references_come_last : ReferencesComeLast
+unfolding refs
+references_come_last f g p target sort one two more =
+    let names : List (Sort × ℕ) = targets_in p (page_at f p) in
+    let e : 0 + length names ≡ length names = omega arith in
+    ap (λ ns. map reference_of (enumerate_from 0 ns)) (forest_names g.kind p (page_at g p) two ∙ more)
+    ∙ (ap (map reference_of) (enumerate_more 0 names (sort, target))
+    ∙ (map-append reference_of (enumerate_from 0 names) ((0 + length names, (sort, target)) ∷ [])
+    ∙ (ap (λ k. map reference_of (enumerate_from 0 names) ++ ((let r : Reference = record { place = k; sort = sort; target = target } in r) ∷ [])) e
+    ∙ ap (λ ns. map reference_of (enumerate_from 0 ns) ++ ((let r : Reference = record { place = length names; sort = sort; target = target } in r) ∷ []))
+    (sym (forest_names f.kind p (page_at f p) one)))))

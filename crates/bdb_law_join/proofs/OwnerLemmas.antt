@@ -1,0 +1,25 @@
+-- The references to a page of a whole file come from some pages alone.
+use Rattle.std.proofs.Common.{◌≡◌, ℕ, ◌+◌, ◌<◌, ◌≤◌, Bool, false, arith, ◌∙◌, ap}
+use Rattle.std.specs.Prelude.{◌==◌}
+use Rattle.std.specs.List.{filter, flat_map, range_with_len}
+use Rattle.std.proofs.lemmas.List.{append-nil}
+use Rattle.bdb_format.specs.File.{File}
+use Rattle.bdb_format.specs.Graph.{held_by, all_references, owners}
+use Rattle.bdb_format.proofs.MemberLemmas.{of_range}
+use Rattle.bdb_law_grove.specs.Part.{owners_among}
+use Rattle.bdb_law_grove.proofs.OwnerLemmas.{NamesNot, filter_first, held_none, names_page, one_of_range}
+
+-- where only pages of a set name a page, its owners are those of that set
+pub owners_are : (pages : ℕ → Bool) (file : File) (p : ℕ) → ((q : ℕ) → q ≤ file.last → pages q ≡ false → NamesNot file p q)
+    → owners file p ≡ owners_among pages file p
+unfolding owners all_references
+owners_are pages file p others =
+    filter_first pages (names_page p) (held_by file) (range_with_len 0 (file.last + 1)) (λ q at no'.
+    let within : (0 ≤ q) × (q < 0 + (file.last + 1)) = of_range 0 (file.last + 1) q at in
+    held_none file p q (others q (omega arith) no'))
+
+-- the owners among one page are its own references
+pub owners_of_one : (file : File) (m p : ℕ) → m ≤ file.last → owners_among (λ q. q == m) file p ≡ filter (names_page p) (held_by file m)
+owners_of_one file m p high =
+    ap (λ qs. filter (names_page p) (flat_map (held_by file) qs)) (one_of_range m 0 (file.last + 1) (omega arith) (omega arith))
+    ∙ ap (filter (names_page p)) (append-nil (held_by file m))

@@ -1,0 +1,30 @@
+-- One part under page 0, which is no master. Source: docs/FORMAT.md, "Faults" and "Databases of a file".
+use Rattle.std.specs.Prelude.{◌≡◌, ℕ, ◌≤◌, true, List, [], ◌∷◌, None}
+use Rattle.bdb_format.specs.declared.metadata.FileKind.TheVariants.{Queue}
+use Rattle.bdb_format.specs.Page.{Meta}
+use Rattle.bdb_format.specs.File.{File, file_of, page_at}
+use Rattle.bdb_format.specs.Lists.{list_of}
+use Rattle.bdb_format.specs.Master.{master_in}
+use Rattle.bdb_format.specs.Databases.{databases}
+use Rattle.bdb_format.specs.Verdict.{faults_of, verdict_of}
+use Rattle.bdb_law_grove.specs.Part.{Part, IsPart}
+use Rattle.bdb_law_join.specs.Joining.{HasForm, free_of}
+
+-- the pages above page 0 are a part, and page 0 is its metadata, which names no free page and isn't a master's
+pub record StandsAlone (file : File) (part : Part) : Type 0 where
+  pub forest : file.kind ≡ Queue → ⊥
+  pub all : (p : ℕ) → 1 ≤ p → p ≤ file.last → part.pages p ≡ true
+  pub is : IsPart file part
+  pub named : page_at file 0 ≡ Meta part.fields
+  pub no_free : free_of part.fields ≡ 0
+  pub no_master : master_in (Meta part.fields) ≡ None
+
+-- the file is sound, and has one database, without a name, whose metadata is that of the part, and whose list is the part's
+pub record IsSoundAlone (image : List ℕ) (part : Part) : Type 0 where
+  pub sound : faults_of image ≡ []
+  pub verdict : verdict_of image ≡ None
+  pub alone : databases (file_of image) ≡ record { name = None; fields = part.fields } ∷ []
+  pub list : list_of (file_of image) part.fields ≡ part.list
+
+abbrev pub JoinsAlone : Type 0
+JoinsAlone = (image : List ℕ) (part : Part) → HasForm image → StandsAlone (file_of image) part → IsSoundAlone image part

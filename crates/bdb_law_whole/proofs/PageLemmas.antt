@@ -1,0 +1,120 @@
+-- The pages of a sound file are those that salvage reads; above the last page it reads none that hold something.
+use Rattle.std.proofs.Common.{◌≡◌, ◌⊎◌, ℕ, ◌+◌, ◌-◌, ◌/◌, ◌<◌, ◌≤◌, true, false, List, [], length, arith, sym, ◌∙◌, ap, subst, inl, inr}
+use Rattle.std.specs.Prelude.{◌==◌, Option, None}
+use Rattle.std.proofs.lemmas.Bool.{cases_Bool, cases_lt, eqb-true, not-false}
+use Rattle.bdb_format.specs.declared.kinds.Order.{Order}
+use Rattle.bdb_format.specs.declared.metadata.FileKind.TheVariants.{Queue}
+use Rattle.bdb_format.specs.declared.metadata.Head.{Head}
+use Rattle.bdb_format.specs.File.{file_of, page_at, page_bytes}
+use Rattle.bdb_format.specs.HeadOf.{head_of}
+use Rattle.bdb_format.specs.Numbers.{byte_at, four_at}
+use Rattle.bdb_format.specs.Page.{Page, Zero, NoType}
+use Rattle.bdb_format.specs.Reading.{abstract_page, is_zero, page_type}
+use Rattle.bdb_format.specs.Rows.{body_code, identity_rows, is_tree_type, page_code}
+use Rattle.bdb_format.specs.Table.{first_row}
+use Rattle.bdb_format.specs.Verdict.{head_faults, holding, tail_faults, tail_rows}
+use Rattle.bdb_format.proofs.VerdictLemmas.{all_fail, no_codes_at, none_is_first_row, none_within, or_else_none}
+use Rattle.bdb_format.proofs.GraphLemmas.{zero_page}
+use Rattle.bdb_format.proofs.FileLemmas.{past_last, count_is as pages_are, last_page, page_is as file_page}
+use Rattle.bdb_graph.specs.Linked.{IsForest}
+use Rattle.bdb_graph.proofs.CodeLemmas.{code_by}
+use Rattle.bdb_graph.proofs.FirstLemmas.{formed_last, formed_page}
+use Rattle.bdb_graph.proofs.HeldLemmas.{identity_none}
+use Rattle.bdb_graph.proofs.LinkedLemmas.{forest_code}
+use Rattle.bdb_overflow.proofs.LinkedLemmas.{count_is}
+use Rattle.bdb_survey.specs.Salvage.{salvaged_page, unless_code}
+use Rattle.bdb_survey.proofs.StoredPageLemmas.{page_is, page_past}
+use Rattle.bdb_survey.proofs.StoredPageLemmas.{count_is as salvaged_count}
+use Rattle.bdb_law_whole.specs.Guessed.{guessed}
+
+-- A page without a fault of form.
+
+-- a page has its number, where no row of its number holds
+own_number : (order : Order) (p : ℕ) (page : List ℕ) → is_zero page ≡ false → page_code order p page ≡ None → four_at order page 8 ≡ p
+unfolding page_code
+own_number order p page some none =
+    let identity : Option ℕ = first_row (identity_rows order page p is_tree_type) in
+    let passed : code_by false identity (body_code order page (page_type (byte_at page 25))) ≡ None =
+    subst (λ b. code_by b identity (body_code order page (page_type (byte_at page 25))) ≡ None) some none in
+    let rows = none_is_first_row (identity_rows order page p is_tree_type)
+    (identity_none identity (body_code order page (page_type (byte_at page 25))) passed) in
+    eqb-true (four_at order page 8) p (not-false (four_at order page 8 == p) rows.0)
+
+zero_code : (order : Order) (p : ℕ) (page : List ℕ) → is_zero page ≡ true → page_code order p page ≡ None
+unfolding page_code
+zero_code order p page zeros =
+    ap (λ b. code_by b (first_row (identity_rows order page p is_tree_type)) (body_code order page (page_type (byte_at page 25)))) zeros
+
+-- held against itself no row holds either
+own_code : (order : Order) (p : ℕ) (page : List ℕ) → page_code order p page ≡ None → page_code order (four_at order page 8) page ≡ None
+own_code order p page none =
+    elim (cases_Bool (is_zero page)) [
+      | inl zeros ↦ zero_code order (four_at order page 8) page zeros
+      | inr some ↦ ap (λ n. page_code order n page) (own_number order p page some none) ∙ none
+    ]
+
+salvaged_same : (order : Order) (page : List ℕ) → page_code order (four_at order page 8) page ≡ None
+    → salvaged_page order page ≡ abstract_page order page
+unfolding salvaged_page
+salvaged_same order page none = ap (λ code. unless_code code (abstract_page order page)) none
+
+-- the last page is one of the whole pages of the image
+pub last_there : (image : List ℕ) → IsForest image → (file_of image).last < length image / (head_of image).page_size
+last_there image forest = omega (arith, last_page image, formed_last image (head_of image) forest.formed, pages_are image, count_is image)
+
+-- up to the last page salvage reads the pages of the file
+pub same_page : (image : List ℕ) (p : ℕ) → IsForest image → ((head_of image).kind ≡ Queue → ⊥) → p ≤ (file_of image).last
+    → page_at (guessed image) p ≡ page_at (file_of image) p
+same_page image p forest kind low =
+    let head : Head = head_of image in
+    let inside : p ≤ head.last = omega (arith, low, last_page image) in
+    let there : p < length image / head.page_size = omega (arith, low, last_there image forest) in
+    let code : page_code head.order p (page_bytes head image p) ≡ None =
+    forest_code head p (page_bytes head image p) kind (formed_page image p forest.formed.form inside) in
+    page_is head.order head.page_size image p there
+    ∙ (salvaged_same head.order (page_bytes head image p) (own_code head.order p (page_bytes head image p) code)
+    ∙ sym (file_page image p inside))
+
+-- The pages above the last.
+
+-- are zero pages
+tail_zero : (image : List ℕ) (p : ℕ) → IsForest image → (head_of image).last < p → p < (head_of image).pages
+    → is_zero (page_bytes (head_of image) image p) ≡ true
+unfolding tail_faults
+tail_zero image p forest past there =
+    let head : Head = head_of image in
+    let none : tail_faults image ≡ [] =
+    (or_else_none (head_faults image) (tail_faults image) (none_within 1 2 image 1 forest.formed.form (omega arith) (omega arith))).1 in
+    let codes : holding (tail_rows head image p) ≡ [] =
+    no_codes_at 1 (head.last + 1) (head.pages - (head.last + 1)) p (λ q. holding (tail_rows head image q)) none (omega arith) (omega arith) in
+    not-false (is_zero (page_bytes head image p)) (all_fail (tail_rows head image p) codes).0
+
+salvaged_zero : (order : Order) (page : List ℕ) → is_zero page ≡ true → salvaged_page order page ≡ Zero
+salvaged_zero order page zeros =
+    salvaged_same order page (zero_code order (four_at order page 8) page zeros) ∙ zero_page order page zeros
+
+above : (image : List ℕ) (p : ℕ) → IsForest image → (file_of image).last < p
+    → (page_at (guessed image) p ≡ Zero) ⊎ (page_at (guessed image) p ≡ NoType)
+above image p forest past =
+    let head : Head = head_of image in
+    elim (cases_lt p (length image / head.page_size)) [
+      | inr outside ↦ inr (page_past head.order head.page_size image p outside)
+      | inl there ↦
+          inl (page_is head.order head.page_size image p there
+          ∙ salvaged_zero head.order (page_bytes head image p)
+          (tail_zero image p forest (omega (arith, past, last_page image)) (omega (arith, there, pages_are image, count_is image))))
+    ]
+
+-- What is read off a page is the same in both files, where a zero page and none at all give the same.
+pub seen_alike : {X : Type 0} (f : Page → X) (image : List ℕ) (p : ℕ) → IsForest image → ((head_of image).kind ≡ Queue → ⊥) → f Zero ≡ f NoType
+    → f (page_at (guessed image) p) ≡ f (page_at (file_of image) p)
+seen_alike f image p forest kind alike =
+    elim (cases_lt (file_of image).last p) [
+      | inr low ↦ ap f (same_page image p forest kind low)
+      | inl past ↦
+          let nothing : f (page_at (file_of image) p) ≡ f NoType = ap f (past_last image p past) in
+          elim (above image p forest past) [ inl zeros ↦ ap f zeros ∙ (alike ∙ sym nothing) | inr none ↦ ap f none ∙ sym nothing ]
+    ]
+
+pub same_count : (image : List ℕ) → (guessed image).count ≡ (file_of image).count
+same_count image = salvaged_count (head_of image).order (head_of image).page_size image ∙ sym (count_is image)

@@ -1,5 +1,0 @@
-use Rattle.bdb_leaves.proofs.InnerLemmas.{children_are_formed}
-use Rattle.bdb_leaves.proofs.laws.children_are_formed.Goals as goal
-
-pub returns : goal.returns
-returns c = children_are_formed

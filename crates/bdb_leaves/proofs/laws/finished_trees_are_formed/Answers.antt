@@ -1,5 +1,0 @@
-use Rattle.bdb_leaves.proofs.KeptLemmas.{finished_trees_are_formed}
-use Rattle.bdb_leaves.proofs.laws.finished_trees_are_formed.Goals as goal
-
-pub returns : goal.returns
-returns c = finished_trees_are_formed

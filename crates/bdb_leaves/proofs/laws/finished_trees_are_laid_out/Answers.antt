@@ -1,5 +1,0 @@
-use Rattle.bdb_leaves.proofs.LayoutLemmas.{finished_trees_are_laid_out}
-use Rattle.bdb_leaves.proofs.laws.finished_trees_are_laid_out.Goals as goal
-
-pub returns : goal.returns
-returns c = finished_trees_are_laid_out

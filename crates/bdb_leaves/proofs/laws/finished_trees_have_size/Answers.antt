@@ -1,5 +1,0 @@
-use Rattle.bdb_leaves.proofs.CountedLaws.{finished_trees_have_size}
-use Rattle.bdb_leaves.proofs.laws.finished_trees_have_size.Goals as goal
-
-pub returns : goal.returns
-returns c = finished_trees_have_size

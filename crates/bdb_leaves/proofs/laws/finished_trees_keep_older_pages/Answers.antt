@@ -1,5 +1,0 @@
-use Rattle.bdb_leaves.proofs.KeptLemmas.{finished_trees_keep_older_pages}
-use Rattle.bdb_leaves.proofs.laws.finished_trees_keep_older_pages.Goals as goal
-
-pub returns : goal.returns
-returns c = finished_trees_keep_older_pages

@@ -1,5 +1,0 @@
-use Rattle.bdb_leaves.proofs.GrownLaws.{first_roots_are_laid}
-use Rattle.bdb_leaves.proofs.laws.first_roots_are_laid.Goals as goal
-
-pub returns : goal.returns
-returns c = first_roots_are_laid

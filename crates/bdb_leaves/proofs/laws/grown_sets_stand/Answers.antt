@@ -1,5 +1,0 @@
-use Rattle.bdb_leaves.proofs.GrownLaws.{grown_sets_stand}
-use Rattle.bdb_leaves.proofs.laws.grown_sets_stand.Goals as goal
-
-pub returns : goal.returns
-returns c = grown_sets_stand

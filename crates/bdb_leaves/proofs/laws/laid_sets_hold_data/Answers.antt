@@ -1,5 +1,0 @@
-use Rattle.bdb_leaves.proofs.LaidSetLemmas.{laid_sets_hold_data}
-use Rattle.bdb_leaves.proofs.laws.laid_sets_hold_data.Goals as goal
-
-pub returns : goal.returns
-returns c = laid_sets_hold_data

@@ -1,5 +1,0 @@
-use Rattle.bdb_leaves.proofs.HeldLemmas.{leaves_are_formed}
-use Rattle.bdb_leaves.proofs.laws.leaves_are_formed.Goals as goal
-
-pub returns : goal.returns
-returns c = leaves_are_formed

@@ -1,5 +1,0 @@
-use Rattle.bdb_leaves.proofs.LevelLawLemmas.{levels_are_formed}
-use Rattle.bdb_leaves.proofs.laws.levels_are_formed.Goals as goal
-
-pub returns : goal.returns
-returns c = levels_are_formed

@@ -1,5 +1,0 @@
-use Rattle.bdb_leaves.proofs.LevelLawLemmas.{levels_keep_pages}
-use Rattle.bdb_leaves.proofs.laws.levels_keep_pages.Goals as goal
-
-pub returns : goal.returns
-returns c = levels_keep_pages

@@ -1,5 +1,0 @@
-use Rattle.bdb_leaves.proofs.PlacedLaws.{pairs_follow}
-use Rattle.bdb_leaves.proofs.laws.pairs_follow.Goals as goal
-
-pub returns : goal.returns
-returns c = pairs_follow

@@ -1,5 +1,0 @@
-use Rattle.bdb_leaves.proofs.CountedLaws.{pushed_units_are_counted}
-use Rattle.bdb_leaves.proofs.laws.pushed_units_are_counted.Goals as goal
-
-pub returns : goal.returns
-returns c = pushed_units_are_counted

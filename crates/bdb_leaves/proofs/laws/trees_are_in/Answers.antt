@@ -1,5 +1,0 @@
-use Rattle.bdb_leaves.proofs.LayoutLemmas.{trees_are_in}
-use Rattle.bdb_leaves.proofs.laws.trees_are_in.Goals as goal
-
-pub returns : goal.returns
-returns c = trees_are_in

@@ -1,5 +1,0 @@
-use Rattle.bdb_leaves.proofs.PlacedLaws.{units_are_read}
-use Rattle.bdb_leaves.proofs.laws.units_are_read.Goals as goal
-
-pub returns : goal.returns
-returns c = units_are_read

@@ -1,5 +1,0 @@
-use Rattle.bdb_leaves.proofs.PushedLaws.{units_fit}
-use Rattle.bdb_leaves.proofs.laws.units_fit.Goals as goal
-
-pub returns : goal.returns
-returns c = units_fit

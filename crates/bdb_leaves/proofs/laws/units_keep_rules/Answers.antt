@@ -1,5 +1,0 @@
-use Rattle.bdb_leaves.proofs.PlacedLaws.{units_keep_rules}
-use Rattle.bdb_leaves.proofs.laws.units_keep_rules.Goals as goal
-
-pub returns : goal.returns
-returns c = units_keep_rules

@@ -1,8 +1,0 @@
-use Rattle.std.specs.Prelude.{take}
-use Rattle.bdb_places.specs.Places.{values_seen}
-use Rattle.bdb_leaves.specs.Runs.{ArePairsPut}
-use Rattle.bdb_leaves.proofs.leaves.Leaves.put_pairs.Given as goal
-
--- The key is put with its first datum and so many others.
-abbrev pub invariant-loop-i : goal.invariant-loop-i
-invariant-loop-i l = ArePairsPut l.self l.fn.pages l.pages l.key l.first (take l.i (values_seen l.more))

@@ -1,7 +1,0 @@
-use Rattle.bdb_leaves.proofs.MovedLemmas.{blanked}
-use Rattle.bdb_leaves.proofs.moving.blank.Goals as goal
-
-pub returns : goal.returns
-returns c =
-    blanked c.args.pages.now c.args.page _ c.fill.new.self c.requires.page c.requires.whole c.page_mut.ensures.value
-    (c.fill.ensures.after (λ y same. same))

@@ -1,5 +1,0 @@
-use Rattle.bdb_levels.proofs.LinkLemmas.{links_of_towers}
-use Rattle.bdb_levels.proofs.laws.links_of_towers.Goals as goal
-
-pub returns : goal.returns
-returns c = links_of_towers

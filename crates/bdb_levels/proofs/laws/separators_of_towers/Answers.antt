@@ -1,5 +1,0 @@
-use Rattle.bdb_levels.proofs.ContentLemmas.{separators_of_towers}
-use Rattle.bdb_levels.proofs.laws.separators_of_towers.Goals as goal
-
-pub returns : goal.returns
-returns c = separators_of_towers

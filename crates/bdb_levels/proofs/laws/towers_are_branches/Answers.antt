@@ -1,5 +1,0 @@
-use Rattle.bdb_levels.proofs.BranchLemmas.{towers_are_branches}
-use Rattle.bdb_levels.proofs.laws.towers_are_branches.Goals as goal
-
-pub returns : goal.returns
-returns c = towers_are_branches

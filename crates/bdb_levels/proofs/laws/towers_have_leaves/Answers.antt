@@ -1,5 +1,0 @@
-use Rattle.bdb_levels.proofs.NodeLemmas.{towers_have_leaves}
-use Rattle.bdb_levels.proofs.laws.towers_have_leaves.Goals as goal
-
-pub returns : goal.returns
-returns c = towers_have_leaves

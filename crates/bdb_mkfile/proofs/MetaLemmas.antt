@@ -1,0 +1,251 @@
+-- The metadata of a table that was built, and the page that says it.
+use Rattle.std.proofs.Common.{◌≡◌, ℕ, zero, suc, ◌+◌, ◌-◌, ◌≤◌, ◌^◌, ◌||◌, ◌&&◌, ◌%◌, Bool, true, false, cond, List, [], ◌∷◌, ◌++◌, length}
+use Rattle.std.proofs.Common.{None, Some, get_or, replicate, append_assoc, pow-suc, arith, refl, sym, ◌∙◌, ap, length-append}
+use lib.Count.{ones_step}
+use Rattle.std.specs.Cmp.Derive.{both_true}
+use Rattle.std.specs.Int.{is_power_of_two}
+use Rattle.std.specs.Prelude.{count_ones, ◌*◌, ◌/◌, ◌==◌, not, nat_le, nat_lt}
+use Rattle.std.specs.List.{find, flat_map, range_with_len, sum_by}
+use Rattle.std.specs.Option.{unwrap_or}
+use Rattle.std.proofs.lemmas.Bool.{and_right, eq-eqb, le-leb, le-ltb, ne_eqb, or_right}
+use Rattle.std.proofs.lemmas.Nat.{ones_le_self, pow_pos}
+use Rattle.std.proofs.lemmas.List.{get_or_append_left, get_or-replicate, length-replicate}
+use Rattle.std.proofs.lemmas.List.FromFn.{length-map-range_with_len}
+use Rattle.std.proofs.lemmas.List.Sums.{sum_by-cons}
+use Rattle.bdb_format.specs.declared.kinds.Order.{Order}
+use Rattle.bdb_format.specs.declared.metadata.FileKind.TheVariants.{Hash, Queue}
+use Rattle.bdb_format.specs.declared.metadata.Head.{Head}
+use Rattle.bdb_format.specs.declared.metadata.HashMeta.{HashMeta}
+use Rattle.bdb_format.specs.declared.settings.Settings.{Settings}
+use Rattle.bdb_format.specs.Hashing.{group}
+use Rattle.bdb_format.specs.HeadOf.{is_page_size}
+use Rattle.bdb_format.specs.Numbers.{byte_at, four_at, has_bit, spelled}
+use Rattle.bdb_format.specs.Reading.{hash_fields, is_zero, page_type}
+use Rattle.bdb_format.specs.Rows.{are_masks, body_code, form_code, identity_rows, is_tree_type, lacks_spare}
+use Rattle.bdb_format.specs.Rows.{magic_of, metadata_rows, page_code, version_of}
+use Rattle.bdb_format.specs.Spelling.{common_bytes, last_field, table_bytes, zeros}
+use Rattle.bdb_format.specs.Table.{first_row}
+use Rattle.bdb_format.proofs.MemberLemmas.{none_pass, of_range}
+use Rattle.bdb_format.proofs.SpellingLemmas.{length-spelled, number_at-in}
+use Rattle.bdb_graph.proofs.CodeLemmas.{first_page_code, tree_metadata}
+use Rattle.bdb_meta.proofs.CommonLemmas.{length-common}
+use Rattle.bdb_meta.proofs.SparesLemmas.{length-spares}
+use Rattle.bdb_law_join.proofs.CommonLemmas.{ReadsAs}
+use Rattle.bdb_law_join.proofs.HeadLemmas.{first_of_none, none_by}
+use Rattle.bdb_mkleaves.specs.Spread.{spread_on}
+use Rattle.bdb_mkleaves.specs.Units.{page_room}
+use Rattle.bdb_law_buckets.specs.Tables.{Keyed, dealt, table_meta}
+use Rattle.bdb_mkhash.specs.Buckets.{bits_for, buckets_of, spread_bucket, table_bits, table_size}
+use Rattle.bdb_mkhash.specs.Costs.{keyed_cost}
+use Rattle.bdb_law_buckets.proofs.TableLemmas.{group_low}
+
+-- How many bits.
+
+found_from : (test : ℕ → Bool) (least a n d : ℕ) → least ≤ a → least ≤ d → least ≤ unwrap_or (find test (range_with_len a n)) d
+found_from test least a zero d low other = other
+found_from test least a (suc n) d low other = by_test (test a) (found_from test least (a + 1) n d (omega (arith, low)) other)
+  where
+    by_test : (b : Bool) → least ≤ unwrap_or (find test (range_with_len (a + 1) n)) d
+        → least ≤ unwrap_or (cond b (Some a) (find test (range_with_len (a + 1) n))) d
+    by_test true later = low
+    by_test false later = later
+
+pub some_bits : (size cost : ℕ) → 1 ≤ bits_for size cost
+some_bits size cost = found_from (λ bits. nat_le cost (2 ^ bits * (page_room size / 2))) 1 1 31 32 (omega arith) (omega arith)
+
+-- they are no more than the spares can say
+pub few_bits : (settings : Settings) (order : Order) (page : List ℕ) (first bits flags : ℕ)
+    → hash_fields order page ≡ record (table_meta settings first bits) { flags = flags } → bits ≤ 31
+few_bits settings order page first bits flags is =
+    let said : length (hash_fields order page).spares ≡ 32 = length-map-range_with_len (λ g. four_at order page (96 + 4 * g)) 0 32 in
+    let long : length (table_meta settings first bits).spares ≡ (bits + 1) + (31 - bits) = simp (length-append, length-replicate {A = ℕ}) in
+    omega (arith, said, long, ap (λ (m : HashMeta). length m.spares) is)
+
+-- Each bucket has a page.
+
+spread_some : {A : Type 0} (room : ℕ) (first cost : A → ℕ) (left : ℕ) (page xs : List A) → 1 ≤ length (spread_on room first cost left page xs)
+spread_some room first cost left page [] = omega arith
+spread_some room first cost left page (x ∷ xs) =
+    by_test (nat_le (cost x) left) (spread_some room first cost (left - cost x) (page ++ (x ∷ [])) xs)
+  where
+    by_test : (b : Bool) → 1 ≤ length (spread_on room first cost (left - cost x) (page ++ (x ∷ [])) xs)
+        → 1 ≤ length (cond b (spread_on room first cost (left - cost x) (page ++ (x ∷ [])) xs)
+        (page ∷ spread_on room first cost (room - first x) (x ∷ []) xs))
+    by_test true same = same
+    by_test false same = omega arith
+
+sum_some : {A : Type 0} (f : A → ℕ) (xs : List A) → ((x : A) → 1 ≤ f x) → length xs ≤ sum_by f xs
+sum_some f [] each = omega arith
+sum_some f (x ∷ xs) each = omega (arith, each x, sum_some f xs each, sum_by-cons f x xs)
+
+pub buckets_fit : (size : ℕ) (sorted : Bool) (units : List Keyed) → 2 ^ table_bits size units ≤ table_size size sorted units
+buckets_fit size sorted units =
+    let bits : ℕ = table_bits size units in
+    let many : length (buckets_of bits units) ≡ 2 ^ bits = length-map-range_with_len (dealt bits units) 0 (2 ^ bits) in
+    let each : length (buckets_of bits units) ≤ sum_by (λ bucket. length (spread_bucket size bucket)) (buckets_of bits units) =
+    sum_some (λ bucket. length (spread_bucket size bucket)) (buckets_of bits units)
+    (λ bucket. spread_some (page_room size) (keyed_cost size) (keyed_cost size) (page_room size) [] bucket) in
+    omega (arith, many, each)
+
+-- Masks and spares.
+
+one_bit : (k : ℕ) → count_ones (2 ^ k) ≡ 1
+one_bit zero = let step = ones_step 1 in let none = ones_le_self 0 in omega (arith, step, none)
+one_bit (suc k) =
+    let double : 2 ^ suc k ≡ 2 ^ k * 2 = pow-suc 2 k in
+    let half : 2 ^ suc k / 2 ≡ 2 ^ k = omega (arith, double) in
+    let low : 2 ^ suc k % 2 ≡ 0 = omega (arith, double) in
+    let rest : count_ones (2 ^ suc k / 2) ≡ 1 = ap count_ones half ∙ one_bit k in
+    let step = ones_step (2 ^ suc k) in omega (arith, step, low, rest)
+
+pub masks_right : (settings : Settings) (first bits : ℕ) → 1 ≤ bits → are_masks (table_meta settings first bits) ≡ true
+masks_right settings first zero some = absurd (omega arith)
+masks_right settings first (suc k) some =
+    let most : ℕ = 2 ^ suc k - 1 in
+    let least : ℕ = 2 ^ suc k / 2 - 1 in
+    let double : 2 ^ suc k ≡ 2 ^ k * 2 = pow-suc 2 k in
+    let positive = pow_pos k in
+    let next : most + 1 ≡ 2 ^ suc k = omega (arith, double, positive) in
+    let power : is_power_of_two (most + 1) ≡ true = ap is_power_of_two next ∙ eq-eqb (count_ones (2 ^ suc k)) 1 (one_bit (suc k)) in
+    or_right (most == 0 && most == 0)
+    (nat_le 1 most && is_power_of_two (most + 1) && least == most / 2 && nat_le least most && nat_le most most)
+    (both_true
+    (both_true
+    (both_true (both_true (le-leb 1 most (omega (arith, double, positive))) power) (eq-eqb least (most / 2) (omega (arith, double, positive))))
+    (le-leb least most (omega (arith, double, positive))))
+    (le-leb most most (omega arith)))
+
+spare_is : (settings : Settings) (first bits g : ℕ) → g ≤ bits → get_or (table_meta settings first bits).spares g 0 ≡ first
+spare_is settings first bits g under =
+    get_or_append_left (replicate (bits + 1) first) (replicate (31 - bits) 0) 0 g (omega (arith, under, length-replicate (bits + 1) first))
+    ∙ get_or-replicate (bits + 1) g first 0 (omega (arith, under))
+
+-- each group of a bucket has its spare, where the first page isn't 0
+spares_there : (settings : Settings) (first bits : ℕ) → 1 ≤ first → bits ≤ 31 → lacks_spare (table_meta settings first bits) ≡ false
+spares_there settings first bits above few =
+    let most : ℕ = 2 ^ bits - 1 in
+    let positive = pow_pos bits in
+    let low : group most ≤ bits = group_low bits most few (omega (arith, positive)) in
+    none_pass (λ g. get_or (table_meta settings first bits).spares g 0 == 0) (range_with_len 0 (group most + 1))
+    (λ g at.
+    let bounds = of_range 0 (group most + 1) g at in
+    ne_eqb (get_or (table_meta settings first bits).spares g 0) 0
+    (λ none. omega (arith, none, above, spare_is settings first bits g (omega (arith, low, bounds.1)))))
+
+pub few_flags : (duplicates sorted : Bool) → (cond duplicates 0x01 0) + (cond sorted 0x04 0) ≤ 0x05
+few_flags true true = omega arith
+few_flags true false = omega arith
+few_flags false true = omega arith
+few_flags false false = omega arith
+
+-- The page.
+
+pub length-table : (order : Order) (size number last elements : ℕ) (meta : HashMeta) → 224 ≤ size → length meta.spares ≡ 32
+    → length (table_bytes order size number last elements meta) ≡ size
+unfolding table_bytes
+length-table order size number last elements meta least spares =
+    simp (length-append, length-spelled, length-replicate {A = ℕ}, length-common, length-spares) (omega (arith, spares, least))
+
+pub keyed_right : (order : Order) (size number last elements : ℕ) (meta : HashMeta) (page : List ℕ)
+    → page ≡ table_bytes order size number last elements meta → four_at order page 92 ≡ 0x5e688dd1
+unfolding table_bytes
+keyed_right order size number last elements meta page bytes =
+    let common : List ℕ = common_bytes order Hash size number meta.free (last_field number last) meta.flags in
+    let numbers : List ℕ =
+    spelled 4 order meta.max_bucket ++ (spelled 4 order meta.high_mask ++ (spelled 4 order meta.low_mask
+    ++ (spelled 4 order meta.ffactor ++ spelled 4 order elements))) in
+    let rest : List ℕ = flat_map (λ spare. spelled 4 order spare) meta.spares ++ zeros (size - 224) in
+    let whole : page ≡ (common ++ numbers) ++ (spelled 4 order 0x5e688dd1 ++ rest) = bytes ∙ simp append_assoc in
+    let front : 92 ≡ 0 + length (common ++ numbers) = simp (length-append, length-spelled, length-common) in
+    number_at-in 4 order 0x5e688dd1 page 0 92 (common ++ numbers) rest whole front (omega arith)
+
+-- A page of this number says the metadata of a table whose buckets' first pages follow each other from a page on, with so many bits to the number of
+-- a bucket, and with flags that are known. On page 0 the file is a hash.
+pub record IsTablePage (settings : Settings) (head : Head) (number first : ℕ) (page : List ℕ) (bits flags : ℕ) : Type 0 where
+  pub reads : ReadsAs (record head { kind = Hash }) number page
+  pub top : number ≡ 0 → head.kind ≡ Hash
+  pub forest : head.kind ≡ Queue → ⊥
+  pub legal : is_page_size head.page_size ≡ true
+  pub long : length page ≡ head.page_size
+  pub key : four_at head.order page 92 ≡ 0x5e688dd1
+  pub fields : hash_fields head.order page ≡ record (table_meta settings first bits) { flags = flags }
+  pub known : flags ≤ 0x07
+  pub above : 1 ≤ first
+  pub some : 1 ≤ bits
+  pub room : 2 ^ bits ≤ head.last
+
+-- no row of metadata holds for it
+rows_accepted : (settings : Settings) (head : Head) (number first : ℕ) (page : List ℕ) (bits flags : ℕ)
+    → IsTablePage settings head number first page bits flags → first_row (metadata_rows head.order page number head.last Hash) ≡ None
+unfolding metadata_rows
+rows_accepted settings head number first page bits flags is =
+    first_of_none (metadata_rows head.order page number head.last Hash)
+    (own, (type, (magic, (version, (size, (plain, (sum, (parted, (key, (known, (masks, (spares, tt))))))))))))
+  where
+    own : not (four_at head.order page 8 == number) ≡ false
+    own = ap not (eq-eqb (four_at head.order page 8) number is.reads.number_is)
+
+    type : not (byte_at page 25 == 8) ≡ false
+    type = ap not (eq-eqb (byte_at page 25) 8 is.reads.type)
+
+    magic : (nat_lt 0 number && not (four_at head.order page 12 == magic_of Hash)) ≡ false
+    magic =
+        and_right (nat_lt 0 number) (not (four_at head.order page 12 == magic_of Hash))
+        (ap not (eq-eqb (four_at head.order page 12) (magic_of Hash) is.reads.magic))
+
+    version : (nat_lt 0 number && not (four_at head.order page 16 == version_of Hash)) ≡ false
+    version =
+        and_right (nat_lt 0 number) (not (four_at head.order page 16 == version_of Hash))
+        (ap not (eq-eqb (four_at head.order page 16) (version_of Hash) is.reads.version))
+
+    size : not (four_at head.order page 20 == length page) ≡ false
+    size = ap not (eq-eqb (four_at head.order page 20) (length page) (is.reads.size_is ∙ sym is.long))
+
+    plain : not (byte_at page 24 == 0) ≡ false
+    plain = ap (λ b. not (b == 0)) is.reads.plain
+
+    sum : has_bit (byte_at page 26) 0x01 ≡ false
+    sum = ap (λ b. has_bit b 0x01) is.reads.flags
+
+    parted : (has_bit (byte_at page 26) 0x06 || not (four_at head.order page 36 == 0)) ≡ false
+    parted = ap (λ b. has_bit b 0x06 || not (four_at head.order page 36 == 0)) is.reads.flags ∙ ap (λ n. not (n == 0)) is.reads.partitions
+
+    key : not (four_at head.order page 92 == 0x5e688dd1) ≡ false
+    key = ap (λ n. not (n == 0x5e688dd1)) is.key
+
+    known : nat_lt 0x07 (four_at head.order page 48) ≡ false
+    known = ap (λ (m : HashMeta). nat_lt 0x07 m.flags) is.fields ∙ le-ltb 0x07 flags is.known
+
+    masks : not (are_masks (hash_fields head.order page)) ≡ false
+    masks = ap (λ m. not (are_masks m)) is.fields ∙ ap not (masks_right settings first bits is.some)
+
+    within : nat_lt head.last (four_at head.order page 72) ≡ false
+    within = ap (λ (m : HashMeta). nat_lt head.last m.max_bucket) is.fields ∙ le-ltb head.last (2 ^ bits - 1) (omega (arith, is.room))
+
+    spares : (nat_lt head.last (four_at head.order page 72) || lacks_spare (hash_fields head.order page)) ≡ false
+    spares =
+        ap (λ b. b || lacks_spare (hash_fields head.order page)) within
+        ∙ (ap lacks_spare is.fields
+        ∙ spares_there settings first bits is.above (few_bits settings head.order page first bits flags is.fields))
+
+-- above page 0 its number and its type are right
+code_accepted : (settings : Settings) (head : Head) (number first : ℕ) (page : List ℕ) (bits flags : ℕ)
+    → IsTablePage settings head number first page bits flags → page_code head.order number page ≡ None
+unfolding page_code
+code_accepted settings head number first page bits flags is =
+    let type : byte_at page 25 ≡ 8 = is.reads.type in
+    none_by (is_zero page) (first_row (identity_rows head.order page number is_tree_type)) (body_code head.order page (page_type (byte_at page 25)))
+    (first_of_none (identity_rows head.order page number is_tree_type)
+    (ap not (eq-eqb (four_at head.order page 8) number is.reads.number_is), (ap (λ b. not (is_tree_type b)) type, tt)))
+    (ap (λ b. body_code head.order page (page_type b)) type)
+
+-- no row of form holds for the metadata of a table
+pub table_accepted : (settings : Settings) (head : Head) (number first : ℕ) (page : List ℕ) (bits flags : ℕ)
+    → IsTablePage settings head number first page bits flags → form_code head number page ≡ None
+table_accepted settings head zero first page bits flags is =
+    first_page_code head page
+    ∙ (ap (λ k. first_row (metadata_rows head.order page 0 head.last k)) (is.top refl) ∙ rows_accepted settings head 0 first page bits flags is)
+table_accepted settings head (suc n) first page bits flags is =
+    tree_metadata head (suc n) page Hash (omega arith) is.forest (code_accepted settings head (suc n) first page bits flags is)
+    (ap is_page_size is.long ∙ is.legal) is.reads.type
+    ∙ rows_accepted settings head (suc n) first page bits flags is

@@ -1,0 +1,134 @@
+-- The image of a queue.
+use Rattle.std.proofs.Common.{◌≡◌, ℕ, ◌+◌, ◌-◌, ◌*◌, ◌<◌, ◌≤◌, ◌^◌, true, List, [], ◌∷◌, ◌++◌, length, take, None}
+use Rattle.std.proofs.Common.{arith, sym, ◌∙◌, ap}
+use Rattle.bdb_format.specs.declared.kinds.Kind.TheVariants.{Queue as QueueKind}
+use Rattle.bdb_format.specs.declared.metadata.FileKind.TheVariants.{Queue}
+use Rattle.bdb_format.specs.declared.metadata.Head.{Head}
+use Rattle.bdb_format.specs.declared.metadata.QueueMeta.{QueueMeta}
+use Rattle.bdb_format.specs.declared.settings.Settings.{Settings}
+use Rattle.bdb_format.specs.Databases.{settings_of}
+use Rattle.bdb_format.specs.File.{file_of}
+use Rattle.bdb_format.specs.Lists.{list_of}
+use Rattle.bdb_format.specs.HeadOf.{is_page_size}
+use Rattle.bdb_format.specs.Numbers.{spelled}
+use Rattle.bdb_format.specs.Page.{QueueFields}
+use Rattle.bdb_format.specs.Reading.{queue_fields}
+use Rattle.bdb_format.specs.Spelling.{queue_bytes, zeros}
+use Rattle.bdb_format.proofs.SizeLemmas.{size_bounds}
+use Rattle.bdb_text_format.specs.declared.pairs.Pair.{Pair}
+use Rattle.bdb_pack.specs.Built.{AreWhole, Built, bytes_of, joined_pages, with_page, with_zeros, written_over}
+use Rattle.bdb_pack.proofs.CutLemmas.{written_whole}
+use Rattle.bdb_law_join.specs.Written.{AreLegal}
+use Rattle.bdb_mkqueue.specs.Building.{IsQueueBuilt}
+use Rattle.bdb_mkqueue.specs.Layout.{queue_meta, queue_size}
+use Rattle.bdb_mkqueue.specs.Written.{IsSoundQueueOf, IsWrittenQueue}
+use Rattle.bdb_mkqueue.proofs.WrittenLemmas.{length-queue, written_queues_are_sound}
+use Rattle.bdb_mkfile.specs.FileSettings.{file_settings, own_settings}
+use Rattle.bdb_mkfile.specs.LoneImages.{IsQueueImage, queue_first, queue_pages}
+use Rattle.bdb_mkfile.proofs.FirstLemmas.{IsUnderMeta, head_is, image_first, image_length}
+
+under_queue : (built : Built) (page : List ℕ) (meta : QueueMeta) (image : List ℕ) → AreLegal built
+    → page ≡ queue_bytes built.order built.size (length built.pages - 1) meta → image ≡ joined_pages (with_page built 0 page).pages
+    → IsUnderMeta built Queue page image
+unfolding queue_bytes
+under_queue built page meta image legal spelled_as image_is = record {
+  pages = legal;
+  free = 0;
+  flags = 0;
+  behind = spelled 4 built.order meta.first ++ (spelled 4 built.order meta.current ++ (spelled 4 built.order meta.re_len
+      ++ (spelled 4 built.order meta.re_pad ++ (spelled 4 built.order meta.per_page ++ zeros (built.size - 92)))));
+  bytes = spelled_as;
+  long = ap length spelled_as
+      ∙ length-queue built.order built.size (length built.pages - 1) meta (omega (arith, (size_bounds built.size legal.legal).0));
+  image_is = image_is;
+}
+
+-- The pages of a queue that was built behind a zero page, and its metadata, which is written over that.
+pub record IsQueueFiled (settings : Settings) (list : List Pair) (empty added built : Built) (meta : QueueMeta) (count : ℕ)
+    (lent page image : List ℕ) : Type 0 where
+  pub kind : settings.kind ≡ QueueKind
+  pub own : settings ≡ file_settings settings
+  pub size : empty.size ≡ settings.page_size
+  pub order : empty.order ≡ settings.order
+  pub added_is : added ≡ with_zeros empty
+  pub queue : IsQueueBuilt settings list added built meta
+  pub legal : is_page_size built.size ≡ true
+  pub whole : AreWhole built
+  pub count_is : count ≡ length built.pages
+  pub few : count < 2 ^ 32
+  pub lent_is : lent ≡ bytes_of built 0
+  pub bytes : page ≡ queue_bytes settings.order (length lent) (count - 1) meta
+  pub fields : queue_fields settings.order page ≡ meta
+  pub image_is : image ≡ joined_pages (written_over built 0 page).pages
+
+-- then the image is that of the queue
+pub queue_filed : (settings : Settings) (list : List Pair) (empty added built : Built) (meta : QueueMeta) (count : ℕ) (lent page image : List ℕ)
+    → IsQueueFiled settings list empty added built meta count lent page image → IsQueueImage settings list image
+queue_filed settings list empty added built meta count lent page image is =
+    record {
+      sound = sound.verdict;
+      size = image_length built Queue page image under ∙ (ap (λ n. n * built.size) pages ∙ ap (λ n. (1 + queue_pages settings list) * n) size);
+      first_is = ap (λ n. take n image) (sym size) ∙ (image_first built Queue page image under ∙ first);
+      alone = sound.alone ∙ ap (λ m. record { name = None; fields = QueueFields m } ∷ []) meta_is;
+      settings_are =
+          ap (λ (h : Head). settings_of h.page_size h.order (QueueFields (queue_meta settings list))) (head_is built Queue page image under)
+          ∙ (ap (λ n. settings_of n built.order (QueueFields (queue_meta settings list))) size
+          ∙ (ap (λ o. settings_of settings.page_size o (QueueFields (queue_meta settings list))) order
+          ∙ (ap (λ k. own_settings k settings.page_size settings.order settings) (sym is.kind) ∙ sym is.own)));
+      list = ap (λ m. list_of (file_of image) (QueueFields m)) (sym meta_is) ∙ sound.listed_is;
+    }
+  where
+    meta_is : meta ≡ queue_meta settings list
+    meta_is = is.queue.meta_is
+
+    order : built.order ≡ settings.order
+    order = is.queue.kept.order ∙ (ap (λ (b : Built). b.order) is.added_is ∙ is.order)
+
+    size : built.size ≡ settings.page_size
+    size = is.queue.kept.size ∙ (ap (λ (b : Built). b.size) is.added_is ∙ is.size)
+
+    pages : length built.pages ≡ 1 + queue_pages settings list
+    pages = is.queue.laid_out.count ∙ ap (λ (m : QueueMeta). 1 + queue_size m.per_page list) meta_is
+
+    some : 1 ≤ length built.pages
+    some = omega (arith, pages)
+
+    legal : AreLegal built
+    legal = record { legal = is.legal; some = some; few = omega (arith, is.count_is, is.few); whole = is.whole }
+
+    long : length lent ≡ built.size
+    long = ap length is.lent_is ∙ is.whole 0 (omega (arith, some))
+
+    spelled_as : page ≡ queue_bytes built.order built.size (length built.pages - 1) meta
+    spelled_as =
+        is.bytes
+        ∙ (ap (λ o. queue_bytes o (length lent) (count - 1) meta) (sym order)
+        ∙ (ap (λ s. queue_bytes built.order s (count - 1) meta) long ∙ ap (λ n. queue_bytes built.order built.size (n - 1) meta) is.count_is))
+
+    fills : length page ≡ built.size
+    fills =
+        ap length spelled_as
+        ∙ length-queue built.order built.size (length built.pages - 1) meta (omega (arith, (size_bounds built.size is.legal).0))
+
+    image_is : image ≡ joined_pages (with_page built 0 page).pages
+    image_is = is.image_is ∙ ap (λ (b : Built). joined_pages b.pages) (written_whole built 0 page is.whole (omega (arith, some)) fills)
+
+    under : IsUnderMeta built Queue page image
+    under = under_queue built page meta image legal spelled_as image_is
+
+    written : IsWrittenQueue built page meta image
+    written = record { pages = legal; bytes = spelled_as; fields = ap (λ o. queue_fields o page) order ∙ is.fields; image_is = image_is }
+
+    sound : IsSoundQueueOf image meta list
+    sound = written_queues_are_sound settings list added built meta page image is.queue written
+
+    last : length built.pages - 1 ≡ queue_pages settings list
+    last = omega (arith, pages)
+
+    first : page ≡ queue_first settings list
+    first =
+        spelled_as
+        ∙ (ap (λ o. queue_bytes o built.size (length built.pages - 1) meta) order
+        ∙ (ap (λ s. queue_bytes settings.order s (length built.pages - 1) meta) size
+        ∙ (ap (λ n. queue_bytes settings.order settings.page_size n meta) last
+        ∙ ap (λ m. queue_bytes settings.order settings.page_size (queue_pages settings list) m) meta_is)))

@@ -1,0 +1,176 @@
+-- The image of a table.
+use Rattle.std.proofs.Common.{◌≡◌, ℕ, ◌+◌, ◌-◌, ◌*◌, ◌<◌, ◌≤◌, ◌^◌, Bool, true, false, cond, List, [], ◌∷◌, length, take, None}
+use Rattle.std.proofs.Common.{arith, refl, sym, ◌∙◌, ap, subst}
+use Rattle.bdb_format.specs.declared.kinds.Kind.TheVariants.{Hash as HashKind}
+use Rattle.bdb_format.specs.declared.kinds.Order.{Order}
+use Rattle.bdb_format.specs.declared.metadata.FileKind.TheVariants.{Hash}
+use Rattle.bdb_format.specs.declared.metadata.Head.{Head}
+use Rattle.bdb_format.specs.declared.metadata.HashMeta.{HashMeta}
+use Rattle.bdb_format.specs.declared.settings.Settings.{Settings}
+use Rattle.bdb_format.specs.Databases.{hash_settings, plain_settings, settings_of}
+use Rattle.bdb_format.specs.File.{file_of}
+use Rattle.bdb_format.specs.HeadOf.{is_page_size}
+use Rattle.bdb_format.specs.Lists.{list_of}
+use Rattle.bdb_format.specs.Numbers.{four_at, has_bit}
+use Rattle.bdb_format.specs.Page.{HashFields}
+use Rattle.bdb_format.specs.Reading.{hash_fields}
+use Rattle.bdb_format.specs.Spelling.{table_bytes}
+use Rattle.bdb_format.proofs.SizeLemmas.{size_bounds}
+use Rattle.std.proofs.lemmas.List.FromFn.{length-map-range_with_len}
+use Rattle.bdb_text_format.specs.declared.pairs.Pair.{Pair}
+use Rattle.bdb_text_format.specs.Pairs.{listed}
+use Rattle.bdb_pack.specs.Built.{AreWhole, Built, bytes_of, joined_pages, with_zeros, written_over}
+use Rattle.bdb_pack.proofs.CutLemmas.{written_whole}
+use Rattle.bdb_law_join.specs.Alone.{IsSoundAlone}
+use Rattle.bdb_law_join.specs.Written.{AreLegal}
+use Rattle.bdb_law_buckets.specs.Tables.{HasBuiltBuckets, table_meta}
+use Rattle.bdb_mkhash.specs.Buckets.{table_bits, table_size, table_units}
+use Rattle.bdb_mkhash.specs.Table.{IsTableBuilt}
+use Rattle.bdb_mkfile.specs.FileSettings.{file_settings, own_settings}
+use Rattle.bdb_mkfile.proofs.TreeLemmas.{first_zero}
+use Rattle.bdb_mkfile.specs.LoneImages.{IsTableImage, table_fields, table_first, table_pages}
+use Rattle.bdb_mkfile.specs.WrittenTables.{IsWrittenTable, table_part}
+use Rattle.bdb_mkfile.proofs.FirstLemmas.{IsUnderMeta, head_is, image_first, image_length}
+use Rattle.bdb_mkfile.proofs.MetaLemmas.{length-table}
+use Rattle.bdb_mkfile.proofs.WrittenLemmas.{under_table, written_tables_are_sound}
+
+said_by : (size : ℕ) (order : Order) (duplicates sorted : Bool) (ffactor : ℕ) → (sorted ≡ true → duplicates ≡ true)
+    → record (plain_settings HashKind size order) {
+      duplicates = has_bit ((cond duplicates 0x01 0) + (cond sorted 0x04 0)) 0x05;
+      sorted = has_bit ((cond duplicates 0x01 0) + (cond sorted 0x04 0)) 0x04;
+      ffactor = ffactor;
+    } ≡ record (plain_settings HashKind size order) { duplicates = duplicates; sorted = sorted; ffactor = ffactor }
+said_by size order true true ffactor both = refl
+said_by size order true false ffactor both = refl
+said_by size order false true ffactor both = let e = both refl in absurd (cc e)
+said_by size order false false ffactor both = refl
+
+-- the metadata of a table says the settings of a hash
+says_settings : (settings : Settings) (first bits : ℕ) → (settings.sorted ≡ true → settings.duplicates ≡ true)
+    → hash_settings settings.page_size settings.order (table_meta settings first bits)
+    ≡ own_settings HashKind settings.page_size settings.order settings
+says_settings settings first bits both =
+    said_by settings.page_size settings.order settings.duplicates settings.sorted settings.ffactor both
+
+-- The pages of a table that was built behind a zero page, and its metadata, which is written over that.
+pub record IsTableFiled (settings : Settings) (list : List Pair) (empty added built : Built) (meta : HashMeta) (count elements : ℕ)
+    (lent page image : List ℕ) : Type 0 where
+  pub kind : settings.kind ≡ HashKind
+  pub own : settings ≡ file_settings settings
+  pub both : settings.sorted ≡ true → settings.duplicates ≡ true
+  pub none : empty.pages ≡ []
+  pub size : empty.size ≡ settings.page_size
+  pub order : empty.order ≡ settings.order
+  pub added_is : added ≡ with_zeros empty
+  pub table : IsTableBuilt settings added built (table_units list) (listed list) meta
+  pub legal : is_page_size built.size ≡ true
+  pub whole : AreWhole built
+  pub count_is : count ≡ length built.pages
+  pub few : count < 2 ^ 32
+  pub elements_are : elements ≡ length list
+  pub lent_is : lent ≡ bytes_of built 0
+  pub bytes : page ≡ table_bytes settings.order (length lent) 0 (count - 1) elements meta
+  pub fields : hash_fields settings.order page ≡ meta
+  pub image_is : image ≡ joined_pages (written_over built 0 page).pages
+
+-- then the image is that of the table, whose buckets are as built
+pub table_filed : (settings : Settings) (list : List Pair) (empty added built : Built) (meta : HashMeta) (count elements : ℕ)
+    (lent page image : List ℕ) → IsTableFiled settings list empty added built meta count elements lent page image → IsTableImage settings list image
+table_filed settings list empty added built meta count elements lent page image is =
+    record {
+      is = record {
+        sound = sound.verdict;
+        size = image_length built Hash page image under ∙ (ap (λ n. n * built.size) pages ∙ ap (λ n. (1 + table_pages settings list) * n) size);
+        first_is = ap (λ n. take n image) (sym size) ∙ (image_first built Hash page image under ∙ first);
+        alone = sound.alone ∙ ap (λ m. record { name = None; fields = HashFields m } ∷ []) meta_is;
+        settings_are =
+            ap (λ (h : Head). settings_of h.page_size h.order (HashFields (table_fields settings list))) (head_is built Hash page image under)
+            ∙ (ap (λ n. settings_of n built.order (HashFields (table_fields settings list))) size
+            ∙ (ap (λ o. settings_of settings.page_size o (HashFields (table_fields settings list))) order
+            ∙ (says_settings settings 1 (table_bits settings.page_size (table_units list)) is.both
+            ∙ (ap (λ k. own_settings k settings.page_size settings.order settings) (sym is.kind) ∙ sym is.own))));
+        list = ap (λ m. list_of (file_of image) (HashFields m)) (sym meta_is) ∙ sound.list;
+      };
+      buckets = subst (HasBuiltBuckets (file_of image)) meta_is both.1;
+    }
+  where
+    one : length added.pages ≡ 1
+    one = (first_zero empty added is.none is.added_is).1
+
+    added_size : added.size ≡ settings.page_size
+    added_size = ap (λ (b : Built). b.size) is.added_is ∙ is.size
+
+    order : built.order ≡ settings.order
+    order = is.table.kept.order ∙ (ap (λ (b : Built). b.order) is.added_is ∙ is.order)
+
+    size : built.size ≡ settings.page_size
+    size = is.table.kept.size ∙ added_size
+
+    meta_is : meta ≡ table_fields settings list
+    meta_is =
+        is.table.fields
+        ∙ (ap (λ n. table_meta settings n (table_bits added.size (table_units list))) one
+        ∙ ap (λ s. table_meta settings 1 (table_bits s (table_units list))) added_size)
+
+    pages : length built.pages ≡ 1 + table_pages settings list
+    pages =
+        is.table.count
+        ∙ (ap (λ n. n + table_size added.size settings.sorted (table_units list)) one
+        ∙ ap (λ s. 1 + table_size s settings.sorted (table_units list)) added_size)
+
+    some : 1 ≤ length built.pages
+    some = omega (arith, pages)
+
+    legal : AreLegal built
+    legal = record { legal = is.legal; some = some; few = omega (arith, is.count_is, is.few); whole = is.whole }
+
+    long : length lent ≡ built.size
+    long = ap length is.lent_is ∙ is.whole 0 (omega (arith, some))
+
+    spelled_as : page ≡ table_bytes built.order built.size 0 (length built.pages - 1) elements meta
+    spelled_as =
+        is.bytes
+        ∙ (ap (λ o. table_bytes o (length lent) 0 (count - 1) elements meta) (sym order)
+        ∙ (ap (λ s. table_bytes built.order s 0 (count - 1) elements meta) long
+        ∙ ap (λ n. table_bytes built.order built.size 0 (n - 1) elements meta) is.count_is))
+
+    fields : hash_fields built.order page ≡ meta
+    fields = ap (λ o. hash_fields o page) order ∙ is.fields
+
+    spares : length meta.spares ≡ 32
+    spares =
+        sym (ap (λ (m : HashMeta). length m.spares) fields) ∙ length-map-range_with_len (λ g. four_at built.order page (96 + 4 * g)) 0 32
+
+    fills : length page ≡ built.size
+    fills =
+        ap length spelled_as
+        ∙ length-table built.order built.size 0 (length built.pages - 1) elements meta (omega (arith, (size_bounds built.size is.legal).0)) spares
+
+    written : IsWrittenTable built page elements meta image
+    written = record {
+      pages = legal;
+      bytes = spelled_as;
+      fields = fields;
+      image_is = is.image_is ∙ ap (λ (b : Built). joined_pages b.pages) (written_whole built 0 page is.whole (omega (arith, some)) fills);
+    }
+
+    under : IsUnderMeta built Hash page image
+    under = under_table built page elements meta image written
+
+    both : IsSoundAlone image (table_part built meta (listed list)) × HasBuiltBuckets (file_of image) meta
+    both = written_tables_are_sound settings added built (table_units list) (listed list) meta elements page image one is.table written
+
+    sound : IsSoundAlone image (table_part built meta (listed list))
+    sound = both.0
+
+    last : length built.pages - 1 ≡ table_pages settings list
+    last = omega (arith, pages)
+
+    first : page ≡ table_first settings list
+    first =
+        spelled_as
+        ∙ (ap (λ o. table_bytes o built.size 0 (length built.pages - 1) elements meta) order
+        ∙ (ap (λ s. table_bytes settings.order s 0 (length built.pages - 1) elements meta) size
+        ∙ (ap (λ n. table_bytes settings.order settings.page_size 0 n elements meta) last
+        ∙ (ap (λ n. table_bytes settings.order settings.page_size 0 (table_pages settings list) n meta) is.elements_are
+        ∙ ap (λ m. table_bytes settings.order settings.page_size 0 (table_pages settings list) (length list) m) meta_is))))

@@ -1,0 +1,5 @@
+use Rattle.bdb_mkfile.proofs.NamingLemmas.{entries_name_metas}
+use Rattle.bdb_mkfile.proofs.laws.entries_name_metas.Goals as goal
+
+pub returns : goal.returns
+returns c = entries_name_metas

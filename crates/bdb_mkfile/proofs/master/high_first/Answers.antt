@@ -1,0 +1,7 @@
+use Rattle.std.proofs.Common.{rules}
+use Rattle.bdb_format.specs.Numbers.{spelled}
+use Rattle.bdb_mkfile.proofs.master.high_first.Goals as goal
+
+pub returns : goal.returns
+unfolding spelled
+returns c = search rules

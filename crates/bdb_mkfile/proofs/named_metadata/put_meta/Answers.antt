@@ -1,0 +1,23 @@
+use Rattle.std.proofs.Common.{◌-◌, arith, subst, IsTrue}
+use Rattle.bdb_format.specs.HeadOf.{is_page_size}
+use Rattle.bdb_mkfile.proofs.WritingLemmas.{put_is}
+use Rattle.bdb_mkfile.proofs.named_metadata.put_meta.Goals as goal
+
+pub returns : goal.returns
+returns c =
+    put_is c.args.pages.now c.args.number c.page_mut.result.now c.put_on.new.page c.order-order.result (c.count-last.result - 1) c.args.meta.now
+    (record {
+      there = c.requires.there;
+      pages = record {
+        legal = subst (λ n. IsTrue (is_page_size n)) c.size-size.ensures.size c.size-size.ensures.legal;
+        some = omega (arith, c.requires.there);
+        few = omega (arith, c.count-last.ensures);
+        whole = c.size-size.ensures.whole;
+      };
+      order_is = c.order-order.ensures;
+      last_is = omega (arith, c.count-last.ensures);
+      lent = c.page_mut.ensures.value;
+      long = c.put_on.auto.page;
+      bytes = c.put_on.ensures.page;
+      fields = c.put_on.ensures.fields;
+    })

@@ -1,0 +1,32 @@
+use Rattle.std.proofs.Common.{arith, sym, ◌∙◌, ap}
+use Rattle.bdb_text_format.specs.Placed.{pairs_of}
+use Rattle.bdb_format.specs.HeadOf.{is_page_size}
+use Rattle.bdb_mkqueue.proofs.FileLemmas.{zero_first}
+use Rattle.bdb_mkfile.proofs.QueueLemmas.{queue_filed}
+use Rattle.bdb_mkfile.proofs.queue.queue_image.Goals as goal
+
+pub put_queue_meta-requires-clause-zero : goal.put_queue_meta-requires-clause-zero
+put_queue_meta-requires-clause-zero c =
+    zero_first c.new-pages.result c.add.new.self c.build_queue.new.pages c.page_mut.result.now c.new-pages.ensures.pages c.in_ok-add.ensures.ok
+    c.in_ok-meta.ensures.kept c.page_mut.ensures.value
+
+pub returns : goal.returns
+returns c =
+    queue_filed c.args.settings.now (pairs_of c.args.list) c.new-pages.result c.add.new.self c.build_queue.new.pages c.in_ok-meta.meta c.count-last.result
+    c.page_mut.result.now c.put_queue_meta.new.page c.from_bytes.result
+    (record {
+      kind = c.requires.kind;
+      own = c.requires.own;
+      size = c.new-pages.ensures.size;
+      order = c.new-pages.ensures.order;
+      added_is = c.in_ok-add.ensures.ok;
+      queue = c.in_ok-meta.ensures;
+      legal = ap is_page_size (sym c.size-size.ensures.size) ∙ c.size-size.ensures.legal;
+      whole = c.size-size.ensures.whole;
+      count_is = c.count-last.ensures;
+      few = omega arith;
+      lent_is = c.page_mut.ensures.value;
+      bytes = c.put_queue_meta.ensures.page;
+      fields = c.put_queue_meta.ensures.fields;
+      image_is = c.from_bytes.ensures ∙ c.into_bytes.ensures;
+    })

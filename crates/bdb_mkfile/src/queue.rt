@@ -1,0 +1,39 @@
+ghost use Rattle.std.specs.Prelude.{◌≡◌, ◌+◌, ◌-◌, ◌≤◌, IfOk, IsTrue};
+ghost use Rattle.bdb_format.specs.declared.kinds.Kind.TheVariants.{Queue as QueueKind};
+ghost use Rattle.bdb_format.specs.HeadOf.{is_page_size};
+ghost use Rattle.bdb_format.specs.Numbers.{pad4};
+ghost use Rattle.bdb_text_format.specs.Placed.{pairs_of};
+ghost use Rattle.bdb_mkqueue.specs.Lists.{IsQueueList};
+ghost use Rattle.bdb_mkfile.specs.FileSettings.{file_settings};
+ghost use Rattle.bdb_mkfile.specs.LoneImages.{IsQueueImage};
+
+use bdb_format::Settings;
+use bdb_io::Image;
+use bdb_meta::put_queue_meta;
+use bdb_mkqueue::build_queue;
+use bdb_pack::Pages;
+use bdb_text_format::PairSlice;
+use std::alloc::{AllocError, Global};
+
+/// The image of a queue with these settings and this list: page 0 is its metadata, and its pages follow. It is also refused where a record
+/// would stand on a page of 2^21 or above.
+pub fn queue_image(
+    alloc: Global,
+    settings: &Settings,
+    list: PairSlice<'_>,
+) -> Result<Image, AllocError>
+    requires kind { settings.now.kind ≡ QueueKind }
+    requires own { settings.now ≡ file_settings settings.now }
+    requires legal { IsTrue (is_page_size settings.now.page_size) }
+    requires room { pad4 (settings.now.re_len + 1) ≤ settings.now.page_size - 28 }
+    requires list { IsQueueList settings.now (pairs_of list) }
+    ensures { IfOk result (λ image. IsQueueImage settings.now (pairs_of list.entry) image) }
+{
+    let mut pages = Pages::new(alloc, settings.page_size, settings.order);
+    pages.add()?;
+    let meta = build_queue(&mut pages, settings, list)?;
+    let _size = pages.size();
+    let last = pages.count() - 1;
+    put_queue_meta(pages.page_mut(0), settings.order, last, &meta);
+    Ok(Image::from_bytes(pages.into_bytes()))
+}

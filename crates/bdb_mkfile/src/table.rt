@@ -1,0 +1,49 @@
+ghost use Rattle.std.specs.Prelude.{◌≡◌, IfOk, IsTrue, length, true};
+ghost use Rattle.bdb_format.specs.declared.kinds.Kind.TheVariants.{Hash as HashKind};
+ghost use Rattle.bdb_format.specs.HeadOf.{is_page_size};
+ghost use Rattle.bdb_text_format.specs.Placed.{pairs_of, slice_seen};
+ghost use Rattle.bdb_mkhash.specs.Table.{IsTableList};
+ghost use Rattle.bdb_mkfile.specs.FileSettings.{file_settings};
+ghost use Rattle.bdb_mkfile.specs.LoneImages.{IsTableImage};
+
+use bdb_format::Settings;
+use bdb_io::Image;
+use bdb_meta::put_hash_meta;
+use bdb_mkhash::build_table;
+use bdb_pack::Pages;
+use bdb_text_format::PairSlice;
+use std::alloc::{AllocError, Global};
+
+/// How many pairs there are, where that fits the field of the metadata of a hash.
+pub fn element_count(list: PairSlice<'_>) -> Result<u32, AllocError>
+    ensures { IfOk result (λ count. count ≡ length (slice_seen list.entry)) }
+{
+    match u32::try_from(list.len()) {
+        Ok(count) => Ok(count),
+        Err(_) => Err(AllocError),
+    }
+}
+
+/// The image of a hash with these settings and this list: page 0 is its metadata, and the pages of its table follow, those of buckets of type 2.
+/// It is also refused where there would be more than 2^21 pages, or where the number of pairs doesn't fit its field.
+pub fn table_image(
+    alloc: Global,
+    settings: &Settings,
+    list: PairSlice<'_>,
+) -> Result<Image, AllocError>
+    requires kind { settings.now.kind ≡ HashKind }
+    requires own { settings.now ≡ file_settings settings.now }
+    requires legal { IsTrue (is_page_size settings.now.page_size) }
+    requires sorted { settings.now.sorted ≡ true → settings.now.duplicates ≡ true }
+    requires list { IsTableList settings.now (pairs_of list) }
+    ensures { IfOk result (λ image. IsTableImage settings.now (pairs_of list.entry) image) }
+{
+    let elements = element_count(list)?;
+    let mut pages = Pages::new(alloc, settings.page_size, settings.order);
+    pages.add()?;
+    let meta = build_table(alloc, &mut pages, settings, list)?;
+    let _size = pages.size();
+    let last = pages.count() - 1;
+    put_hash_meta(pages.page_mut(0), settings.order, 0, last, elements, &meta);
+    Ok(Image::from_bytes(pages.into_bytes()))
+}

@@ -1,0 +1,52 @@
+ghost use Rattle.std.specs.Prelude.{◌≡◌, ◌≤◌, ◌^◌, IfOk, IsTrue, length};
+ghost use Rattle.bdb_format.specs.HeadOf.{is_page_size};
+ghost use Rattle.bdb_format.specs.Reading.{btree_fields, is_zero};
+ghost use Rattle.bdb_text_format.specs.Placed.{pairs_of};
+ghost use Rattle.bdb_pack.specs.Built.{AreWhole, bytes_of, with_page};
+ghost use Rattle.bdb_mktree.specs.Lists.{IsTreeList};
+ghost use Rattle.bdb_mkfile.specs.Trees.{IsTreeImage, IsTreeSettings};
+ghost use Rattle.bdb_mkfile.specs.FileSettings.{file_settings, first_bytes};
+
+use crate::metadata::tree_meta;
+use bdb_format::{BtreeMeta, Settings};
+use bdb_io::Image;
+use bdb_meta::put_btree_meta;
+use bdb_mktree::build_tree;
+use bdb_pack::Pages;
+use bdb_text_format::PairSlice;
+use std::alloc::{AllocError, Global};
+
+// Writes the metadata of a tree over page 0, which was kept for it.
+fn put_first(pages: &mut Pages, meta: &BtreeMeta)
+    requires some { 1 ≤ length pages.old.pages }
+    requires zero { IsTrue (is_zero (bytes_of pages.old 0)) }
+    requires legal { IsTrue (is_page_size pages.old.size) }
+    requires whole { AreWhole pages.old }
+    ensures page { pages.new ≡ with_page pages.old 0 (first_bytes pages.old meta.now) }
+    ensures fields { btree_fields pages.old.order (first_bytes pages.old meta.now) ≡ meta.now }
+    ensures few { length pages.old.pages ≤ 2 ^ 32 }
+{
+    let order = pages.order();
+    let last = pages.count() - 1;
+    put_btree_meta(pages.page_mut(0), order, 0, last, meta);
+}
+
+/// The image of a btree or recno with these settings and this list: page 0 is its metadata, and the pages of its tree follow. It is also
+/// refused where there would be more than 2^21 pages, and where a sum of counts doesn't fit its field.
+pub fn tree_image(
+    alloc: Global,
+    settings: &Settings,
+    list: PairSlice<'_>,
+) -> Result<Image, AllocError>
+    requires settings { IsTreeSettings settings.now }
+    requires own { settings.now ≡ file_settings settings.now }
+    requires list { IsTreeList settings.now (pairs_of list) }
+    ensures { IfOk result (λ image. IsTreeImage settings.now (pairs_of list.entry) image) }
+{
+    let mut pages = Pages::new(alloc, settings.page_size, settings.order);
+    pages.add()?;
+    let root = build_tree(alloc, &mut pages, settings, list)?;
+    let _size = pages.size();
+    put_first(&mut pages, &tree_meta(settings, root));
+    Ok(Image::from_bytes(pages.into_bytes()))
+}

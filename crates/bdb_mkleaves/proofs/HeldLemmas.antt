@@ -1,0 +1,166 @@
+-- What a leaf holds, by its entries.
+use Rattle.std.proofs.Common.{◌≡◌, ℕ, suc, zero, ◌+◌, ◌*◌, ◌<◌, Bool, false, cond, List, [], ◌∷◌, length, map, get_or, arith, refl, sym, ◌∙◌, ap}
+use Rattle.std.specs.Prelude.{◌/◌, ◌%◌}
+use Rattle.std.specs.List.{flat_map, range_with_len}
+use Rattle.std.proofs.lemmas.Bool.{ne_eqb}
+use Rattle.std.proofs.lemmas.List.{get_or-map, get_or_default, length-map, same_lists}
+use Rattle.std.proofs.lemmas.Simd.{map-map}
+use Rattle.std.proofs.lemmas.List.FromFn.{get_or-map-range_with_len, length-map-range_with_len}
+use Rattle.std.proofs.lemmas.List.Folds.{flat_map-map}
+use Rattle.bdb_format.specs.declared.pages.Header.{Header}
+use Rattle.bdb_format.specs.Numbers.{byte_at}
+use Rattle.bdb_format.specs.Page.{Content, Item, Leaf, Listed}
+use Rattle.bdb_format.specs.File.{File}
+use Rattle.bdb_format.specs.Reading.{entries_of, header_of, leaf_item_at, page_type}
+use Rattle.bdb_format.specs.References.{contents_in, is_shared_key, item_at, no_item}
+use Rattle.bdb_format.specs.Contents.{StoredPair, pair_at, pairs_in}
+use Rattle.bdb_format.specs.Rows.{is_wrong_entry_count, is_wrong_level}
+use Rattle.bdb_format.proofs.MemberLemmas.{of_range}
+use Rattle.bdb_format.proofs.PageLemmas.{header_listed}
+use Rattle.bdb_format.proofs.TargetLemmas.{each_own}
+use Rattle.bdb_format.proofs.ListLemmas.{flat_map_same}
+use Rattle.bdb_pack.specs.Built.{bytes_of}
+use Rattle.bdb_pack.proofs.FormLemmas.{begun_is_formed}
+use Rattle.bdb_mkleaves.specs.LeafEntries.{Entry, HoldsIn, LeavesAreFormed, LeavesStand, contents_of, leaf_of, no_entry, own_content, own_entry}
+use Rattle.bdb_mkleaves.specs.LeafEntries.{pair_in, pairs_from, type_number}
+use Rattle.bdb_mkleaves.specs.declared.leaf_type.LeafType.{LeafType}
+use Rattle.bdb_mkleaves.specs.declared.leaf_type.LeafType.TheVariants.{Pairs, Records, SortedData}
+use Rattle.bdb_mkleaves.proofs.EntryLemmas.{entries_held, page_is}
+
+-- its form
+
+level_right : (type : LeafType) → is_wrong_level (page_type (type_number type)) 1 ≡ false
+level_right Pairs = refl
+level_right Records = refl
+level_right SortedData = refl
+
+count_right : (type : LeafType) (n : ℕ) → (type ≡ Pairs → n % 2 ≡ 0) → is_wrong_entry_count (page_type (type_number type)) n ≡ false
+count_right Pairs n even = ne_eqb (n % 2) 1 (λ odd. omega (arith, odd, even refl))
+count_right Records n even = refl
+count_right SortedData n even = refl
+
+pub leaves_are_formed : LeavesAreFormed
+leaves_are_formed type order bytes p previous next entries holds even =
+    begun_is_formed order p bytes holds.begun holds.number
+    (ap (λ t. is_wrong_level (page_type t) (byte_at bytes 24)) holds.type_is
+    ∙ (ap (is_wrong_level (page_type (type_number type))) holds.level ∙ level_right type))
+    (ap (λ t. is_wrong_entry_count (page_type t) (entries_of order bytes)) holds.type_is
+    ∙ (ap (is_wrong_entry_count (page_type (type_number type))) (entries_held type order bytes p previous next entries holds)
+    ∙ count_right type (length entries) even))
+
+-- its contents
+
+flat_single : {X : Type 0} (xs : List X) → flat_map (λ x. x ∷ []) xs ≡ xs
+flat_single [] = refl
+flat_single (x ∷ xs) = ap (λ ys. x ∷ ys) (flat_single xs)
+
+each_self : {X : Type 0} (xs : List X) (d : X) → map (λ k. get_or xs k d) (range_with_len 0 (length xs)) ≡ xs
+each_self xs d =
+    same_lists _ _ (length-map-range_with_len (λ k. get_or xs k d) 0 (length xs))
+    (λ k e under.
+    let low : k < length xs = omega (arith, under, length-map-range_with_len (λ k. get_or xs k d) 0 (length xs)) in
+    let at : 0 + k ≡ k = omega arith in
+    get_or-map-range_with_len (λ k. get_or xs k d) 0 (length xs) k k e low at ∙ get_or_default xs k d e low)
+
+-- the items and their sharing, as a page has them
+record HasEntries (page : Listed Item) (entries : List Entry) : Type 0 where
+  items : page.items ≡ map (λ (entry : Entry). entry.item) entries
+  shares : (k : ℕ) → k < length entries → is_shared_key page.offsets k ≡ (get_or entries k no_entry).shares
+
+item_held : (page : Listed Item) (entries : List Entry) (k : ℕ) → HasEntries page entries → k < length entries
+    → item_at page k ≡ (get_or entries k no_entry).item
+item_held page entries k has low =
+    ap (λ items. get_or items k no_item) has.items ∙ get_or-map (λ (entry : Entry). entry.item) entries k no_entry no_item low
+
+contents_held : (type : LeafType) (page : Listed Item) (entries : List Entry) → HasEntries page entries
+    → contents_in (leaf_of type page) ≡ contents_of type entries
+contents_held Pairs page entries has =
+    let n : ℕ = length entries in
+    let long : length page.items ≡ n = ap length has.items ∙ length-map entries (λ (entry : Entry). entry.item) in
+    let here : ℕ → List Content = λ k. cond (is_shared_key page.offsets k) [] ((item_at page k).content ∷ []) in
+    sym (flat_single (contents_in (Leaf page)))
+    ∙ (each_own (λ c. c ∷ []) page
+    ∙ (ap (λ m. flat_map here (range_with_len 0 m)) long
+    ∙ (flat_map_same here (λ k. own_content (get_or entries k no_entry)) (range_with_len 0 n)
+    (λ k among.
+    let within = of_range 0 n k among in
+    let low : k < n = omega (arith, within.1) in
+    ap (λ b. cond b [] ((item_at page k).content ∷ [])) (has.shares k low)
+    ∙ ap (λ (i : Item). cond (get_or entries k no_entry).shares [] (i.content ∷ [])) (item_held page entries k has low))
+    ∙ (sym (flat_map-map own_content (λ k. get_or entries k no_entry) (range_with_len 0 n))
+    ∙ ap (flat_map own_content) (each_self entries no_entry)))))
+contents_held Records page entries has =
+    ap (map (λ (item : Item). item.content)) has.items ∙ map-map (λ (item : Item). item.content) (λ (entry : Entry). entry.item) entries
+contents_held SortedData page entries has =
+    ap (map (λ (item : Item). item.content)) has.items ∙ map-map (λ (item : Item). item.content) (λ (entry : Entry). entry.item) entries
+
+-- the pairs that entries make
+
+two_more : (n : ℕ) → suc (suc n) / 2 ≡ suc (n / 2)
+two_more n = grind arith
+
+pub length-pairs_from : (g : File) (p : ℕ) (entries : List Entry) → length (pairs_from g p entries) ≡ length entries / 2
+length-pairs_from g p [] = refl
+length-pairs_from g p (key ∷ []) = refl
+length-pairs_from g p (key ∷ datum ∷ entries) = ap suc (length-pairs_from g p entries) ∙ sym (two_more (length entries))
+
+pub after_two : (key datum : Entry) (entries : List Entry) (n m : ℕ) → n ≡ suc (suc m)
+    → get_or (key ∷ datum ∷ entries) n no_entry ≡ get_or entries m no_entry
+after_two key datum entries n m is = ap (λ k. get_or (key ∷ datum ∷ entries) k no_entry) is
+
+pair_of_two : (g : File) (p : ℕ) (entries : List Entry) (k : ℕ) (d : StoredPair) → 2 * k + 1 < length entries
+    → get_or (pairs_from g p entries) k d ≡ pair_in g p (get_or entries (2 * k) no_entry) (get_or entries (2 * k + 1) no_entry)
+pair_of_two g p [] k d low = absurd (omega (arith, low))
+pair_of_two g p (key ∷ []) k d low = absurd (omega (arith, low))
+pair_of_two g p (key ∷ datum ∷ entries) zero d low = refl
+pair_of_two g p (key ∷ datum ∷ entries) (suc k) d low =
+    let all : List Entry = key ∷ datum ∷ entries in
+    pair_of_two g p entries k d (omega (arith, low))
+    ∙ (ap (λ e. pair_in g p e (get_or entries (2 * k + 1) no_entry)) (sym (after_two key datum entries (2 * suc k) (2 * k) (omega arith)))
+    ∙ ap (pair_in g p (get_or all (2 * suc k) no_entry)) (sym (after_two key datum entries (2 * suc k + 1) (2 * k + 1) (omega arith))))
+
+pair_same : (g : File) (p : ℕ) {key key2 value value2 : Item} {shares shares2 : Bool} → key ≡ key2 → value ≡ value2 → shares ≡ shares2
+    → pair_in g p (record { item = key; shares = shares }) (own_entry value) ≡ pair_in g p (record { item = key2; shares = shares2 })
+    (own_entry value2)
+pair_same g p a b c = rw (a, b, c) refl
+
+pairs_held : (g : File) (p : ℕ) (page : Listed Item) (entries : List Entry) → HasEntries page entries → length entries % 2 ≡ 0
+    → pairs_in g p (Leaf page) ≡ pairs_from g p entries
+pairs_held g p page entries has even =
+    let n : ℕ = length entries / 2 in
+    let here : ℕ → StoredPair = pair_at g p page (λ i. is_shared_key page.offsets (2 * i)) in
+    let long : length page.items ≡ length entries = ap length has.items ∙ length-map entries (λ (entry : Entry). entry.item) in
+    ap (λ m. map here (range_with_len 0 (m / 2))) long
+    ∙ same_lists _ _ (length-map-range_with_len here 0 n ∙ sym (length-pairs_from g p entries))
+    (λ k d under.
+    let low : k < n = omega (arith, under, length-map-range_with_len here 0 n) in
+    let inside : 2 * k + 1 < length entries = omega (arith, low, even) in
+    let at : 0 + k ≡ k = omega arith in
+    get_or-map-range_with_len here 0 n k k d low at
+    ∙ (pair_same g p (item_held page entries (2 * k) has (omega (arith, inside))) (item_held page entries (2 * k + 1) has inside)
+    (has.shares (2 * k) (omega (arith, inside)))
+    ∙ sym (pair_of_two g p entries k d inside)))
+
+held_in : (type : LeafType) (g : File) (p : ℕ) (page : Listed Item) (entries : List Entry) → HasEntries page entries
+    → (type ≡ Pairs → length entries % 2 ≡ 0) → HoldsIn type g p page entries
+held_in Pairs g p page entries has even = pairs_held g p page entries has (even refl)
+held_in Records g p page entries has even = has.items
+held_in SortedData g p page entries has even = has.items
+
+pub leaves_stand : LeavesStand
+leaves_stand type built p previous next entries g holds even same =
+    let bytes : List ℕ = bytes_of built p in
+    let header : holds.page.header ≡ header_of built.order bytes =
+    ap (λ (l : Listed Item). l.header) (sym (page_is type built.order bytes p previous next entries holds))
+    ∙ header_listed built.order bytes (leaf_item_at built.order bytes) in
+    let has : HasEntries holds.page entries = record { items = holds.items; shares = holds.shares } in
+    record {
+      page = holds.page;
+      is = same ∙ holds.is;
+      level = ap (λ (h : Header). h.level) header ∙ holds.level;
+      previous_is = ap (λ (h : Header). h.previous) header ∙ holds.before;
+      next_is = ap (λ (h : Header). h.next) header ∙ holds.after;
+      items = holds.items;
+      contents = contents_held type holds.page entries has;
+      holds = held_in type g p holds.page entries has even;
+    }

@@ -1,0 +1,78 @@
+-- No item of a leaf is marked deleted where no unit is.
+use Rattle.std.proofs.Common.{◌≡◌, ℕ, false, List, [], ◌∷◌, map, refl, ◌∙◌, ap}
+use Rattle.std.specs.List.{All, flat_map, list_any}
+use Rattle.std.proofs.lemmas.List.Elements.{All-append, All-cons, All-head, All-map, All-nil, All-tail}
+use Rattle.std.proofs.lemmas.List.Folds.{list_any_none}
+use Rattle.bdb_format.specs.File.{File, page_at}
+use Rattle.bdb_format.specs.Page.{Item, Listed}
+use Rattle.bdb_mkleaves.specs.Laid.{AreLaid, IsLiveUnit, LaidTreesAreLive, has_deleted}
+use Rattle.bdb_mkleaves.specs.LeafEntries.{Entry, IsLeafIn, leaf_of, own_entry, shared_entry}
+use Rattle.bdb_mkleaves.specs.Placed.{IsDatum, LeafUnits, Placed, PlacedEntry, PlacedPairs, PlacedTree, StandsPlaced, ValueItem, entries_of}
+use Rattle.bdb_mkleaves.specs.Placed.{further_entries, tree_item, unit_of, units_in}
+use Rattle.bdb_mkleaves.specs.declared.leaf_type.LeafType.{LeafType}
+use Rattle.bdb_mkleaves.specs.declared.leaf_type.LeafType.TheVariants.{Pairs, Records, SortedData}
+use Rattle.bdb_law_levels.proofs.NodeLemmas.{all_left, all_right}
+
+abbrev IsLiveEntry : Entry → Type 0
+IsLiveEntry entry = entry.item.deleted ≡ false
+
+-- the entries of a unit
+
+further_live : (g : File) (key : ValueItem) (more : List ValueItem) → key.item.deleted ≡ false → All (IsDatum g) more
+    → All IsLiveEntry (flat_map (further_entries key) more)
+further_live g key [] live each = All-nil IsLiveEntry
+further_live g key (datum ∷ more) live each =
+    All-cons IsLiveEntry (shared_entry key.item) (own_entry datum.item ∷ flat_map (further_entries key) more) live
+    (All-cons IsLiveEntry (own_entry datum.item) (flat_map (further_entries key) more) (All-head (IsDatum g) datum more each).live
+    (further_live g key more live (All-tail (IsDatum g) datum more each)))
+
+unit_live : (type : LeafType) (g : File) (unit : Placed) → StandsPlaced type g unit → IsLiveUnit (unit_of unit) → All IsLiveEntry (entries_of unit)
+unit_live type g (PlacedEntry entry) stands live = All-cons IsLiveEntry (own_entry entry.item) [] live (All-nil IsLiveEntry)
+unit_live Pairs g (PlacedPairs key first more) stands live =
+    All-cons IsLiveEntry (own_entry key.item) (own_entry first.item ∷ flat_map (further_entries key) more) stands.0.live
+    (All-cons IsLiveEntry (own_entry first.item) (flat_map (further_entries key) more) stands.1.live
+    (further_live g key more stands.0.live stands.2))
+unit_live Records g (PlacedPairs key first more) stands live = absurd stands
+unit_live SortedData g (PlacedPairs key first more) stands live = absurd stands
+unit_live Pairs g (PlacedTree key root values) stands live =
+    All-cons IsLiveEntry (own_entry key.item) (own_entry (tree_item root) ∷ []) stands.0.live
+    (All-cons IsLiveEntry (own_entry (tree_item root)) [] refl (All-nil IsLiveEntry))
+unit_live Records g (PlacedTree key root values) stands live = absurd stands
+unit_live SortedData g (PlacedTree key root values) stands live = absurd stands
+
+-- those of all units of a leaf
+
+units_live : (type : LeafType) (g : File) (units : List Placed) → All (StandsPlaced type g) units → All IsLiveUnit (map unit_of units)
+    → All IsLiveEntry (flat_map entries_of units)
+units_live type g [] stand live = All-nil IsLiveEntry
+units_live type g (unit ∷ units) stand live =
+    All-append IsLiveEntry (entries_of unit) (flat_map entries_of units)
+    (unit_live type g unit (All-head (StandsPlaced type g) unit units stand) (All-head IsLiveUnit (unit_of unit) (map unit_of units) live))
+    (units_live type g units (All-tail (StandsPlaced type g) unit units stand) (All-tail IsLiveUnit (unit_of unit) (map unit_of units) live))
+
+deleted_in : (type : LeafType) (page : Listed Item) → has_deleted (leaf_of type page) ≡ list_any (λ (item : Item). item.deleted) page.items
+deleted_in Pairs page = refl
+deleted_in Records page = refl
+deleted_in SortedData page = refl
+
+leaf_live : (type : LeafType) (g : File) (p previous next : ℕ) (units : List Placed)
+    → IsLeafIn type g p previous next (flat_map entries_of units) → All (StandsPlaced type g) units → All IsLiveUnit (map unit_of units)
+    → has_deleted (page_at g p) ≡ false
+leaf_live type g p previous next units leaf stand live =
+    ap has_deleted leaf.is
+    ∙ (deleted_in type leaf.page
+    ∙ (ap (list_any (λ (item : Item). item.deleted)) leaf.items
+    ∙ list_any_none (λ (item : Item). item.deleted) (map (λ (entry : Entry). entry.item) (flat_map entries_of units))
+    (All-map (λ (item : Item). item.deleted ≡ false) (λ (entry : Entry). entry.item) (flat_map entries_of units)
+    (units_live type g units stand live))))
+
+leaves_live : (type : LeafType) (g : File) (before : ℕ) (placed : List LeafUnits) → AreLaid type g before placed → All IsLiveUnit (units_in placed)
+    → All (λ (leaf : LeafUnits). has_deleted (page_at g leaf.page) ≡ false) placed
+leaves_live type g before [] laid live = All-nil (λ (leaf : LeafUnits). has_deleted (page_at g leaf.page) ≡ false)
+leaves_live type g before (leaf ∷ placed) (here, stand, rest) live =
+    All-cons (λ (one : LeafUnits). has_deleted (page_at g one.page) ≡ false) leaf placed
+    (leaf_live type g leaf.page before _ leaf.units here stand (all_left IsLiveUnit (map unit_of leaf.units) (units_in placed) live))
+    (leaves_live type g leaf.page placed rest (all_right IsLiveUnit (map unit_of leaf.units) (units_in placed) live))
+
+pub laid_trees_are_live : LaidTreesAreLive
+laid_trees_are_live type g rest placed nodes above root laid live = leaves_live type g 0 placed laid.leaves live

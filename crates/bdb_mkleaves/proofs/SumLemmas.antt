@@ -1,0 +1,53 @@
+-- The sum that the root of a tree says, as later files have it.
+use Rattle.std.proofs.Common.{◌≡◌, ℕ, ◌<◌, List, length, arith, refl, sym, ◌∙◌, ap, inl, inr}
+use Rattle.std.proofs.lemmas.Bool.{cases_lt}
+use Rattle.std.proofs.lemmas.List.{get_or_past}
+use Rattle.bdb_format.specs.declared.kinds.Order.{Order}
+use Rattle.bdb_format.specs.declared.pages.Header.{Header}
+use Rattle.bdb_format.specs.Numbers.{byte_at, four_at}
+use Rattle.bdb_format.specs.Page.{Page}
+use Rattle.bdb_format.specs.File.{File, header_in, page_at}
+use Rattle.bdb_format.specs.Reading.{abstract_page, internal_item_at, recno_item_at}
+use Rattle.bdb_format.proofs.PageLemmas.{header_listed}
+use Rattle.bdb_law_grove.specs.Growing.{IsSamePage}
+use Rattle.bdb_law_levels.specs.declared.inner_type.InnerType.{InnerType}
+use Rattle.bdb_law_levels.specs.declared.inner_type.InnerType.TheVariants.{Keyed, Numbered}
+use Rattle.bdb_pack.specs.Built.{Built, bytes_of, file_so_far}
+use Rattle.bdb_pack.proofs.ImageLemmas.{page_so_far}
+use Rattle.bdb_pack.proofs.StandingLemmas.{typed}
+use Rattle.bdb_mkleaves.specs.Inner.{inner_number}
+
+-- an internal page has its header
+header_as : (inner : InnerType) (order : Order) (bytes : List ℕ) → 25 < length bytes → byte_at bytes 25 ≡ inner_number inner
+    → (header_in (abstract_page order bytes)).previous ≡ four_at order bytes 12
+header_as Keyed order bytes long is =
+    ap (λ page. (header_in page).previous) (typed order bytes 3 long refl is)
+    ∙ ap (λ (h : Header). h.previous) (header_listed order bytes (internal_item_at order bytes))
+header_as Numbered order bytes long is =
+    ap (λ page. (header_in page).previous) (typed order bytes 4 long refl is)
+    ∙ ap (λ (h : Header). h.previous) (header_listed order bytes (recno_item_at order bytes))
+
+-- the type byte is there
+is_long : (inner : InnerType) (bytes : List ℕ) → byte_at bytes 25 ≡ inner_number inner → 25 < length bytes
+is_long inner bytes is =
+    elim (cases_lt 25 (length bytes)) [
+      | inl there ↦ there
+      | inr past ↦ absurd (no_number inner (sym (get_or_past bytes 25 0 past) ∙ is))
+    ]
+  where
+    no_number : (inner : InnerType) → 0 ≡ inner_number inner → ⊥
+    no_number Keyed same = omega (arith, same)
+    no_number Numbered same = omega (arith, same)
+
+-- a page that stays has the same page before it
+same_previous : (old new : Page) → IsSamePage old new → (header_in new).previous ≡ (header_in old).previous
+same_previous old new (inl same) = ap (λ page. (header_in page).previous) same
+same_previous old new (inr more) =
+    ap (λ page. (header_in page).previous) more.after ∙ sym (ap (λ page. (header_in page).previous) more.before)
+
+pub sum_stands : (inner : InnerType) (built : Built) (g : File) (p : ℕ) → p < length built.pages → byte_at (bytes_of built p) 25 ≡ inner_number inner
+    → IsSamePage (page_at (file_so_far built) p) (page_at g p) → (header_in (page_at g p)).previous ≡ four_at built.order (bytes_of built p) 12
+sum_stands inner built g p low is same =
+    same_previous (page_at (file_so_far built) p) (page_at g p) same
+    ∙ (ap (λ page. (header_in page).previous) (page_so_far built p low)
+    ∙ header_as inner built.order (bytes_of built p) (is_long inner (bytes_of built p) is) is)

@@ -1,0 +1,5 @@
+use Rattle.bdb_mkleaves.proofs.LevelLawLemmas.{levels_are_later}
+use Rattle.bdb_mkleaves.proofs.laws.levels_are_later.Goals as goal
+
+pub returns : goal.returns
+returns c = levels_are_later

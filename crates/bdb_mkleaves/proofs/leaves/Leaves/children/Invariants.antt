@@ -1,0 +1,11 @@
+use Rattle.std.specs.Prelude.{◌≡◌, List, take}
+use Rattle.bdb_mkleaves.specs.LeafChildren.{leaf_children}
+use Rattle.bdb_mkleaves.specs.LeafEntries.{Entry}
+use Rattle.bdb_mkleaves.specs.Moved.{AreLinked, numbers_of}
+use Rattle.bdb_mkleaves.proofs.leaves.Leaves.children.Given as goal
+
+-- The children so far are those of the closed leaves passed.
+abbrev pub invariant-loop-leaf : goal.invariant-loop-leaf
+invariant-loop-leaf l =
+    (all : List (List Entry)) → AreLinked l.self l.pages all
+    → l.children.items ≡ take l.leaf-index (leaf_children l.self.leaf_type l.counted (numbers_of l.self) all)

@@ -1,0 +1,20 @@
+use Rattle.std.proofs.Common.{arith, refl, ◌∙◌, ap, subst}
+use Rattle.std.proofs.lemmas.Bool.{lt-leb}
+use Rattle.bdb_pack.specs.Built.{bytes_of, with_page}
+use Rattle.bdb_mkleaves.specs.LeafEntries.{HoldsEntriesOn, with_field}
+use Rattle.bdb_mkleaves.proofs.LeavesLemmas.{opened, room_now}
+use Rattle.bdb_mkleaves.proofs.leaves.Leaves.make_room.Goals as goal
+
+pub returns : goal.returns
+returns c =
+    room_now _ c.args.self.now _ c.args.pages.now c.add_leaf.new.pages (lt-leb _ _ (omega (arith, c.if-cost-room.false, c.room.ensures)))
+    (opened c.args.self.now _ c.args.pages.now c.set_next.new.pages c.add_leaf.new.pages
+    (c.set_next.ensures.page
+    ∙ ap (λ n. with_page c.args.pages.now c.args.self.now.last
+    (with_field c.args.pages.now.order (bytes_of c.args.pages.now c.args.self.now.last) 16 n))
+    c.count-next.ensures)
+    c.in_ok-self.ensures.pages refl c.in_ok-push.ensures.items c.in_ok-self.ensures.number
+    (λ previous before entries holds.
+    subst (λ n. HoldsEntriesOn c.args.self.now.leaf_type c.set_next.new.pages c.args.self.now.last previous n entries) c.count-next.ensures
+    (c.set_next.ensures.holds c.args.self.now.leaf_type previous before entries holds))
+    c.in_ok-self.ensures.holds c.in_ok-self.ensures.long c.requires.leaves)

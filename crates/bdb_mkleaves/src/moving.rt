@@ -1,0 +1,88 @@
+ghost use Rattle.std.specs.Prelude.{◌≡◌, ◌<◌, ◌≤◌, IfOk, IsTrue, length, replicate};
+ghost use Rattle.bdb_format.specs.HeadOf.{is_page_size};
+ghost use Rattle.bdb_pack.specs.Built.{AreWhole, bytes_of, with_page};
+ghost use Rattle.bdb_mkleaves.specs.LeafEntries.{with_field};
+ghost use Rattle.bdb_mkleaves.specs.Leaves.{AreSomeLeaves};
+ghost use Rattle.bdb_mkleaves.specs.Moved.{IsFirstMoved, IsMoved, first_leaf, second_leaf};
+
+use crate::entries::set_previous;
+use crate::leaves::{Leaves, MAX_PAGES};
+use bdb_layout::put_u32;
+use bdb_pack::Pages;
+use std::alloc::AllocError;
+
+/// Writes the number of a page.
+pub(crate) fn set_number(pages: &mut Pages, page: u32, number: u32)
+    requires page { page < length pages.old.pages }
+    requires legal { IsTrue (is_page_size pages.old.size) }
+    requires whole { AreWhole pages.old }
+    ensures { pages.new ≡ with_page pages.old page (with_field pages.old.order (bytes_of pages.old page) 8 number) }
+{
+    let order = pages.order();
+    put_u32(pages.page_mut(page), 8, order, number);
+}
+
+/// Writes how many entries a counted tree has, where the pages of a level have the one before them: its root is alone.
+pub(crate) fn set_sum(pages: &mut Pages, page: u32, sum: u32)
+    requires page { page < length pages.old.pages }
+    requires legal { IsTrue (is_page_size pages.old.size) }
+    requires whole { AreWhole pages.old }
+    ensures { pages.new ≡ with_page pages.old page (with_field pages.old.order (bytes_of pages.old page) 12 sum) }
+{
+    let order = pages.order();
+    put_u32(pages.page_mut(page), 12, order, sum);
+}
+
+// Makes a page one of zeros.
+fn blank(pages: &mut Pages, page: u32)
+    requires page { page < length pages.old.pages }
+    requires whole { AreWhole pages.old }
+    ensures { pages.new ≡ with_page pages.old page (replicate pages.old.size 0) }
+{
+    pages.page_mut(page).fill(0);
+}
+
+/// Moves a leaf behind all pages, and answers its new number: zeros stand in its place. It is refused where there are 2^21 pages.
+pub(crate) fn move_leaf(pages: &mut Pages, from: u32) -> Result<u32, AllocError>
+    requires legal { IsTrue (is_page_size pages.old.size) }
+    requires whole { AreWhole pages.old }
+    requires from { from < length pages.old.pages }
+    ensures { IfOk result (λ number. IsMoved from number pages.old pages.new) }
+{
+    if pages.count() >= MAX_PAGES {
+        return Err(AllocError);
+    }
+    let number = pages.add_copy(from)?;
+    set_number(pages, number, number);
+    blank(pages, from);
+    Ok(number)
+}
+
+impl Leaves {
+    // The number of the second leaf.
+    fn second(&self) -> u32
+        ensures { result ≡ second_leaf self.now }
+    {
+        match self.closed.get(1) {
+            Some(second) => *second,
+            None => self.last,
+        }
+    }
+
+    /// Moves the first of several leaves behind all pages, and answers the number that it had: zeros stand there. It is refused
+    /// where there are 2^21 pages.
+    pub(crate) fn move_first(&mut self, pages: &mut Pages) -> Result<u32, AllocError>
+        requires legal { IsTrue (is_page_size pages.old.size) }
+        requires whole { AreWhole pages.old }
+        requires leaves { AreSomeLeaves self.old pages.old }
+        requires several { 1 ≤ length self.old.closed.items }
+        ensures root { IfOk result (λ root. root ≡ first_leaf self.old) }
+        ensures moved { IfOk result (λ _. IsFirstMoved self.old self.new pages.old pages.new) }
+    {
+        let first = self.closed[0];
+        let number = move_leaf(pages, first)?;
+        set_previous(pages, self.second(), number);
+        self.closed[0] = number;
+        Ok(first)
+    }
+}

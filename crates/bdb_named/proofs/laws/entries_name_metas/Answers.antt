@@ -1,5 +1,0 @@
-use Rattle.bdb_named.proofs.NamingLemmas.{entries_name_metas}
-use Rattle.bdb_named.proofs.laws.entries_name_metas.Goals as goal
-
-pub returns : goal.returns
-returns c = entries_name_metas

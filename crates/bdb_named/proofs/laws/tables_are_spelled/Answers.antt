@@ -1,5 +1,0 @@
-use Rattle.bdb_named.proofs.TableMetaLemmas.{tables_are_spelled}
-use Rattle.bdb_named.proofs.laws.tables_are_spelled.Goals as goal
-
-pub returns : goal.returns
-returns c = tables_are_spelled

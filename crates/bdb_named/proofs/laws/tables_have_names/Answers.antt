@@ -1,5 +1,0 @@
-use Rattle.bdb_named.proofs.TableMetaLemmas.{tables_have_names}
-use Rattle.bdb_named.proofs.laws.tables_have_names.Goals as goal
-
-pub returns : goal.returns
-returns c = tables_have_names

@@ -1,5 +1,0 @@
-use Rattle.bdb_named.proofs.TreeMetaLemmas.{trees_have_names}
-use Rattle.bdb_named.proofs.laws.trees_have_names.Goals as goal
-
-pub returns : goal.returns
-returns c = trees_have_names

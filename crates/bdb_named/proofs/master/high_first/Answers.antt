@@ -1,7 +1,0 @@
-use Rattle.std.proofs.Common.{rules}
-use Rattle.bdb_format.specs.Numbers.{spelled}
-use Rattle.bdb_named.proofs.master.high_first.Goals as goal
-
-pub returns : goal.returns
-unfolding spelled
-returns c = search rules

@@ -1,6 +1,0 @@
-pub mod Images
-pub mod Laws
-pub mod Layout
-pub mod Metas
-pub mod Standing
-pub mod Written

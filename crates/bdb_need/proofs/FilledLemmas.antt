@@ -1,0 +1,171 @@
+-- Sections whose records are filled up, and what is counted of those that aren't yet.
+use Rattle.std.proofs.Common.{◌≡◌, Bool, ℕ, ◌+◌, ◌-◌, List, [], ◌∷◌, map, Some, refl, sym, ◌∙◌, ap, subst, inl, inr}
+use Rattle.std.specs.Prelude.{◌&&◌, if◌then◌else◌, is_some, slice_get}
+use Rattle.std.specs.List.{All, sum_by}
+use Rattle.std.proofs.Math.Bool.{and-false}
+use Rattle.std.proofs.lemmas.List.Elements.{All-cons, All-head, All-nil, All-tail}
+use Rattle.std.proofs.lemmas.List.Sums.{sum_by-cons}
+use Rattle.bdb_format.specs.declared.kinds.Kind.{Kind}
+use Rattle.bdb_format.specs.declared.kinds.Kind.TheVariants.{Btree, Recno, Hash, Queue}
+use Rattle.bdb_format.specs.declared.settings.Settings.{Settings}
+use Rattle.bdb_format.specs.Rows.{records_per_page}
+use Rattle.bdb_mkleaves.specs.Runs.{IsShort}
+use Rattle.bdb_mkqueue.specs.Layout.{page_of, queue_size}
+use Rattle.bdb_mkqueue.specs.Lists.{next_number}
+use Rattle.bdb_need.proofs.SectionLemmas.{filled_before}
+use Rattle.bdb_need.specs.TreePages.{unlined_pairs, tree_pages}
+use Rattle.bdb_text_format.specs.declared.pairs.TextPair.{TextPair}
+use Rattle.bdb_text_format.specs.declared.sections.Section.{Section}
+use Rattle.bdb_text_format.specs.Pairs.{AscendFrom, number_of}
+use Rattle.bdb_text_format.specs.Written.{holds_records}
+use Rattle.bdb_settle.specs.Loaded.{filled_pairs, filled_section, loaded}
+use Rattle.bdb_settle.proofs.FillingLemmas.{as_they_are}
+use Rattle.bdb_need.specs.Need.{AreSettled, IsListOf, IsSettled, list_pages, master_pages, master_settings, name_in, name_pair, need_of, section_pages, sized}
+
+-- Lists.
+
+pub table_as_is : (settings : Settings) (pairs : List TextPair) → settings.kind ≡ Hash → filled_pairs settings pairs ≡ pairs
+table_as_is settings pairs hash = as_they_are settings pairs (ap (λ k. settings.fixed && holds_records k) hash ∙ and-false settings.fixed)
+
+-- numbers are as they were
+
+pub ascend_before : (settings : Settings) (least : ℕ) (pairs : List TextPair) → AscendFrom least (unlined_pairs (filled_pairs settings pairs))
+    → AscendFrom least (unlined_pairs pairs)
+ascend_before settings least [] ascend = tt
+ascend_before settings least (pair ∷ pairs) ascend = (ascend.0, ascend_before settings (number_of pair.key + 1) pairs ascend.1)
+
+pub ascend_filled : (settings : Settings) (least : ℕ) (pairs : List TextPair) → AscendFrom least (unlined_pairs pairs)
+    → AscendFrom least (unlined_pairs (filled_pairs settings pairs))
+ascend_filled settings least [] ascend = tt
+ascend_filled settings least (pair ∷ pairs) ascend = (ascend.0, ascend_filled settings (number_of pair.key + 1) pairs ascend.1)
+
+next_filled : (settings : Settings) (least : ℕ) (pairs : List TextPair)
+    → next_number least (unlined_pairs (filled_pairs settings pairs)) ≡ next_number least (unlined_pairs pairs)
+next_filled settings least [] = refl
+next_filled settings least (pair ∷ pairs) = next_filled settings (number_of pair.key + 1) pairs
+
+pub queue_filled : (settings : Settings) (per_page : ℕ) (pairs : List TextPair)
+    → queue_size per_page (unlined_pairs (filled_pairs settings pairs)) ≡ queue_size per_page (unlined_pairs pairs)
+queue_filled settings per_page [] = refl
+queue_filled settings per_page (pair ∷ pairs) = ap (λ n. page_of per_page (n - 1)) (next_filled settings 1 (pair ∷ pairs))
+
+-- Sections with lists of their kinds.
+
+as_is : (size : ℕ) (section : Section) (kind : Kind) → section.settings.kind ≡ kind → (kind ≡ Queue → ⊥) → IsSettled size section
+    → filled_pairs section.settings section.pairs ≡ section.pairs
+as_is size section Btree is other settled =
+    filled_before (sized size section) section.pairs (inl is) (subst (λ k. IsListOf k (sized size section) (unlined_pairs section.pairs)) is settled.list)
+as_is size section Recno is other settled =
+    filled_before (sized size section) section.pairs (inr is) (subst (λ k. IsListOf k (sized size section) (unlined_pairs section.pairs)) is settled.list)
+as_is size section Hash is other settled = table_as_is section.settings section.pairs is
+as_is size section Queue is other settled = absurd (other refl)
+
+settled_unless : (size : ℕ) (section : Section) (kind : Kind) → section.settings.kind ≡ kind → (kind ≡ Queue → ⊥) → IsSettled size section
+    → IsSettled size (filled_section section)
+settled_unless size section kind is other settled =
+    subst (λ (pairs : List TextPair). IsSettled size (record section { pairs = pairs })) (sym (as_is size section kind is other settled)) settled
+
+settled_as : (size : ℕ) (section : Section) (kind : Kind) → section.settings.kind ≡ kind → IsSettled size section → IsSettled size (filled_section section)
+settled_as size section Btree is settled = settled_unless size section Btree is (λ e. cc) settled
+settled_as size section Recno is settled = settled_unless size section Recno is (λ e. cc) settled
+settled_as size section Hash is settled = settled_unless size section Hash is (λ e. cc) settled
+settled_as size section Queue is settled =
+    let list = subst (λ k. IsListOf k (sized size section) (unlined_pairs section.pairs)) is settled.list in
+    record {
+      list = subst (λ k. IsListOf k (sized size section) (unlined_pairs (filled_pairs section.settings section.pairs))) (sym is)
+          (list.0, ascend_filled section.settings 1 section.pairs list.1);
+      name = settled.name;
+    }
+
+pages_unless : (size : ℕ) (section : Section) (kind : Kind) → section.settings.kind ≡ kind → (kind ≡ Queue → ⊥) → IsSettled size section
+    → section_pages size (filled_section section) ≡ section_pages size section
+pages_unless size section kind is other settled =
+    ap (λ (pairs : List TextPair). section_pages size (record section { pairs = pairs })) (as_is size section kind is other settled)
+
+pages_as : (size : ℕ) (section : Section) (kind : Kind) → section.settings.kind ≡ kind → IsSettled size section
+    → section_pages size (filled_section section) ≡ section_pages size section
+pages_as size section Btree is settled = pages_unless size section Btree is (λ e. cc) settled
+pages_as size section Recno is settled = pages_unless size section Recno is (λ e. cc) settled
+pages_as size section Hash is settled = pages_unless size section Hash is (λ e. cc) settled
+pages_as size section Queue is settled =
+    ap (λ k. 1 + list_pages k (sized size section) (unlined_pairs (filled_pairs section.settings section.pairs))) is
+    ∙ ap (λ n. 1 + n) (queue_filled section.settings (records_per_page size section.settings.re_len) section.pairs)
+    ∙ sym (ap (λ k. 1 + list_pages k (sized size section) (unlined_pairs section.pairs)) is)
+
+each_filled : (size : ℕ) (sections : List Section) → All (IsSettled size) sections → All (IsSettled size) (map filled_section sections)
+each_filled size [] all = All-nil (IsSettled size)
+each_filled size (section ∷ sections) all =
+    All-cons (IsSettled size) (filled_section section) (map filled_section sections)
+    (settled_as size section section.settings.kind refl (All-head (IsSettled size) section sections all))
+    (each_filled size sections (All-tail (IsSettled size) section sections all))
+
+pub settled_filled : (sections : List Section) → AreSettled sections → AreSettled (map filled_section sections)
+settled_filled sections settled = record {
+  first = filled_section settled.first;
+  rest = map filled_section settled.rest;
+  are = ap (map filled_section) settled.are;
+  legal = settled.legal;
+  each = each_filled settled.first.settings.page_size sections settled.each;
+}
+
+-- Pages.
+
+same_names : (sections : List Section) → map name_pair (map filled_section sections) ≡ map name_pair sections
+same_names [] = refl
+same_names (section ∷ sections) = ap (λ pairs. name_pair section ∷ pairs) (same_names sections)
+
+pub same_master : (size : ℕ) (sections : List Section) → master_pages size (map filled_section sections) ≡ master_pages size sections
+same_master size sections = ap (λ pairs. tree_pages (master_settings size) (loaded (master_settings size) pairs)) (same_names sections)
+
+sums : (size : ℕ) (sections : List Section) → All (IsSettled size) sections
+    → sum_by (section_pages size) (map filled_section sections) ≡ sum_by (section_pages size) sections
+sums size [] all = refl
+sums size (section ∷ sections) all =
+    sum_by-cons (section_pages size) (filled_section section) (map filled_section sections)
+    ∙ ap (λ n. n + sum_by (section_pages size) (map filled_section sections))
+    (pages_as size section section.settings.kind refl (All-head (IsSettled size) section sections all))
+    ∙ ap (λ n. section_pages size section + n) (sums size sections (All-tail (IsSettled size) section sections all))
+    ∙ sym (sum_by-cons (section_pages size) section sections)
+
+pub need_before : (sections : List Section) → AreSettled sections → need_of (map filled_section sections) ≡ need_of sections
+need_before sections settled =
+    let size : ℕ = settled.first.settings.page_size in
+    let all : List Section = settled.first ∷ settled.rest in
+    let named : Bool = is_some settled.first.name in
+    ap (λ ss. need_of (map filled_section ss)) settled.are
+    ∙ ap (λ n. (if named then 1 + n else 0) + sum_by (section_pages size) (map filled_section all)) (same_master size all)
+    ∙ ap (λ n. (if named then 1 + master_pages size all else 0) + n) (sums size all (subst (All (IsSettled size)) settled.are settled.each))
+    ∙ sym (ap need_of settled.are)
+
+-- The same, as it is counted.
+
+pub sums_filled : (size : ℕ) (sections : List Section)
+    → sum_by (λ (section : Section). section_pages size (filled_section section)) sections ≡ sum_by (section_pages size) (map filled_section sections)
+sums_filled size [] = refl
+sums_filled size (section ∷ sections) =
+    sum_by-cons (λ (other : Section). section_pages size (filled_section other)) section sections
+    ∙ ap (λ n. section_pages size (filled_section section) + n) (sums_filled size sections)
+    ∙ sym (sum_by-cons (section_pages size) (filled_section section) (map filled_section sections))
+
+pub each_before : (size : ℕ) (sections : List Section) → All (IsSettled size) (map filled_section sections)
+    → All (λ section. IsSettled size (filled_section section)) sections
+each_before size [] all = All-nil (λ section. IsSettled size (filled_section section))
+each_before size (section ∷ sections) all =
+    All-cons (λ section. IsSettled size (filled_section section)) section sections
+    (All-head (IsSettled size) (filled_section section) (map filled_section sections) all)
+    (each_before size sections (All-tail (IsSettled size) (filled_section section) (map filled_section sections) all))
+
+pub names_before : (size : ℕ) (sections : List Section) → All (IsSettled size) (map filled_section sections)
+    → All (λ (section : Section). IsShort (name_in section.name)) sections
+names_before size [] all = All-nil (λ (section : Section). IsShort (name_in section.name))
+names_before size (section ∷ sections) all =
+    All-cons (λ (section : Section). IsShort (name_in section.name)) section sections
+    (All-head (IsSettled size) (filled_section section) (map filled_section sections) all).name
+    (names_before size sections (All-tail (IsSettled size) (filled_section section) (map filled_section sections) all))
+
+-- the first section
+pub first_filled : (sections : List Section) (found : Section) → Some found ≡ slice_get sections 0
+    → Some (filled_section found) ≡ slice_get (map filled_section sections) 0
+first_filled [] found at = absurd cc
+first_filled (section ∷ sections) found at =
+    let same : found ≡ section = cc in ap (λ s. Some (filled_section s)) same

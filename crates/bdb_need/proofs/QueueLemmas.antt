@@ -1,0 +1,38 @@
+-- The greatest record of a queue.
+use Rattle.std.proofs.Common.{◌≡◌, ℕ, ◌+◌, ◌-◌, ◌≤◌, List, [], ◌∷◌, length, get_or, Some, arith, refl, sym, ◌∙◌, ap}
+use Rattle.std.specs.Prelude.{slice_get, ◌/◌}
+use Rattle.std.proofs.lemmas.Option.{get_or_from_slice_get, slice_get_within}
+use Rattle.bdb_text_format.specs.declared.pairs.TextPair.{TextPair}
+use Rattle.bdb_text_format.specs.Pairs.{AscendFrom, number_of}
+use Rattle.bdb_mkqueue.specs.Layout.{queue_size}
+use Rattle.bdb_mkqueue.specs.Lists.{next_number}
+use Rattle.bdb_mkqueue.proofs.RecordLemmas.{next_low}
+use Rattle.bdb_need.specs.TreePages.{unlined_pairs}
+
+-- the number after the last
+next_of : (x : TextPair) (xs : List TextPair) (d : TextPair)
+    → next_number (number_of x.key + 1) (unlined_pairs xs) ≡ number_of (get_or (x ∷ xs) (length xs) d).key + 1
+next_of x [] d = refl
+next_of x (y ∷ ys) d = next_of y ys d
+
+-- the greatest number is that of the last pair, and the pages are those up to its page
+pub record IsGreatest (pairs : List TextPair) (number : ℕ) : Type 0 where
+  pub low : 1 ≤ number
+  pub size : (per_page : ℕ) → queue_size per_page (unlined_pairs pairs) ≡ 1 + (number - 1) / per_page
+
+pub last_greatest : (pairs : List TextPair) (pair : TextPair) (number : ℕ) → Some pair ≡ slice_get pairs (length pairs - 1) → number ≡ number_of pair.key
+    → AscendFrom 1 (unlined_pairs pairs) → IsGreatest pairs number
+last_greatest [] pair number at is ascend = absurd (omega (arith, slice_get_within [] (length {A = TextPair} [] - 1) pair (sym at)))
+last_greatest (x ∷ xs) pair number at is ascend =
+    let here : get_or (x ∷ xs) (length xs) pair ≡ pair =
+    ap (λ i. get_or (x ∷ xs) i pair) (let e : length xs ≡ length (x ∷ xs) - 1 = omega arith in e)
+    ∙ get_or_from_slice_get (x ∷ xs) (length (x ∷ xs) - 1) pair pair (sym at) in
+    let next : next_number (number_of x.key + 1) (unlined_pairs xs) ≡ number + 1 =
+    next_of x xs pair ∙ (ap (λ (p : TextPair). number_of p.key + 1) here ∙ ap (λ n. n + 1) (sym is)) in
+    let low : number_of x.key + 1 ≤ next_number (number_of x.key + 1) (unlined_pairs xs) = next_low (number_of x.key + 1) (unlined_pairs xs) ascend.1 in
+    let first : 1 ≤ number_of x.key = ascend.0 in
+    let same : next_number (number_of x.key + 1) (unlined_pairs xs) - 1 ≡ number = omega (arith, next) in
+    record {
+      low = omega (arith, low, first, next);
+      size = λ per_page. ap (λ n. 1 + (n - 1) / per_page) same;
+    }

@@ -1,0 +1,11 @@
+use Rattle.std.proofs.Common.{length, ◌-◌}
+use Rattle.bdb_text_format.specs.Placed.{slice_seen}
+use Rattle.bdb_need.proofs.TableLemmas.{KeysPlaced}
+use Rattle.bdb_need.proofs.table.bucket_pages.Given as goal
+
+-- The keys before the place are on their pages.
+abbrev pub invariant-loop-start : goal.invariant-loop-start
+invariant-loop-start l = KeysPlaced l.size l.bits (slice_seen l.pairs) l.start l.pages l.left.items
+
+abbrev pub decreases-loop-start : goal.decreases-loop-start
+decreases-loop-start l = length (slice_seen l.pairs) - l.start

@@ -1,0 +1,13 @@
+use Rattle.std.proofs.Common.{refl, subst, sym}
+use Rattle.std.specs.List.{All}
+use Rattle.bdb_format.specs.declared.kinds.Kind.TheVariants.{Btree}
+use Rattle.bdb_mktree.specs.Lists.{keyed_units}
+use Rattle.bdb_mktree.specs.Units.{IsShortUnit}
+use Rattle.bdb_need.specs.TreePages.{unlined_pairs}
+use Rattle.bdb_need.proofs.SectionLemmas.{short_units}
+use Rattle.bdb_need.proofs.table.table_pages.Goals as goal
+
+pub count_totals-requires-clause-short : goal.count_totals-requires-clause-short
+count_totals-requires-clause-short c =
+    subst (λ ps. All IsShortUnit (keyed_units (unlined_pairs ps))) (sym c.as_slice-pairs.ensures)
+    (short_units (record c.args.settings.now { kind = Btree }) c.args.list.now refl c.requires.list)

@@ -1,0 +1,93 @@
+ghost use Rattle.std.specs.Prelude.{◌≡◌, ◌<◌, ◌^◌, IfOk, IsTrue, map};
+ghost use Rattle.std.specs.List.{All};
+ghost use Rattle.bdb_format.specs.HeadOf.{is_page_size};
+ghost use Rattle.bdb_text_format.specs.Placed.{pair_seen};
+ghost use Rattle.bdb_mkleaves.specs.Runs.{IsShort};
+ghost use Rattle.bdb_need.specs.Need.{master_pages, master_settings, name_in, name_pair};
+
+use crate::trees::tree_pages;
+use bdb_format::{Kind, Order, Settings};
+use bdb_settle::settle;
+use bdb_text_format::{KeyRef, PairRef, Section, Sections, TextPairs};
+use std::alloc::{AllocError, Global};
+
+// The settings of the master.
+fn master_settings(size: u32) -> Settings
+    ensures { result ≡ master_settings size }
+{
+    Settings {
+        kind: Kind::Btree,
+        page_size: size,
+        order: Order::Little,
+        duplicates: false,
+        sorted: false,
+        recnum: false,
+        renumber: false,
+        fixed: false,
+        re_len: 0,
+        re_pad: 32,
+        minkey: 2,
+        ffactor: 0,
+    }
+}
+
+// The bytes of a section's name, none where it has none.
+fn name_of(section: &Section) -> &[u8]
+    ensures { result.now ≡ name_in section.now.name }
+{
+    match &section.name {
+        Some(name) => name.as_slice(),
+        None => &[],
+    }
+}
+
+// The pair of a section in the master. Which page its data name takes no part in the count.
+fn name_pair(section: &Section) -> PairRef<'_>
+    ensures { pair_seen result ≡ name_pair section.now }
+{
+    PairRef {
+        key: KeyRef::Bytes(name_of(section)),
+        value: &[0, 0, 0, 0],
+        line: 0,
+    }
+}
+
+// The pairs of the master, in the order of the sections.
+fn name_pairs(alloc: Global, sections: &[Section]) -> Result<TextPairs, AllocError>
+    ensures { IfOk result (λ pairs. pairs ≡ map name_pair sections.now) }
+{
+    let mut pairs = TextPairs::new(alloc);
+    for section in sections {
+        pairs.push(name_pair(section))?;
+    }
+    Ok(pairs)
+}
+
+/// How many pages the tree of the master has: its pairs are the names, in byte order.
+pub(crate) fn master_pages(
+    alloc: Global,
+    size: u32,
+    sections: &[Section],
+) -> Result<u128, AllocError>
+    requires legal { IsTrue (is_page_size size) }
+    requires short { All (λ section. IsShort (name_in section.name)) sections.now }
+    ensures pages { IfOk result (λ pages. pages ≡ master_pages size sections.now) }
+    ensures few { IfOk result (λ pages. pages < 2 ^ 100) }
+{
+    let mut master = Sections::new(alloc);
+    let pairs = name_pairs(alloc, sections)?;
+    master.push(Section {
+        name: None,
+        settings: master_settings(size),
+        header_line: 0,
+        pairs,
+    })?;
+    let Ok(settled) = settle(alloc, master) else {
+        return Err(AllocError);
+    };
+    let Some(section) = settled.get(0) else {
+        unreachable!()
+    };
+    let pages = tree_pages(alloc, &section.settings, &section.pairs)?;
+    Ok(pages)
+}

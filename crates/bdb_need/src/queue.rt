@@ -1,0 +1,53 @@
+ghost use Rattle.std.specs.Prelude.{◌≡◌, ◌+◌, ◌-◌, ◌≤◌, ◌<◌, ◌^◌, IsTrue};
+ghost use Rattle.bdb_format.specs.HeadOf.{is_page_size};
+ghost use Rattle.bdb_format.specs.Numbers.{pad4};
+ghost use Rattle.bdb_format.specs.Rows.{records_per_page};
+ghost use Rattle.bdb_mkqueue.specs.Layout.{queue_size};
+ghost use Rattle.bdb_text_format.specs.Pairs.{AscendFrom, number_of};
+ghost use Rattle.bdb_text_format.specs.Placed.{key_seen};
+ghost use Rattle.bdb_need.specs.TreePages.{unlined_pairs};
+
+use bdb_format::Settings;
+use bdb_text_format::{KeyRef, TextPairs};
+
+// The number of a record.
+fn number_of(key: KeyRef<'_>) -> u64
+    ensures number { result ≡ number_of (key_seen key.entry) }
+    ensures few { result < 2 ^ 32 }
+{
+    match key {
+        KeyRef::Bytes(_) => 0,
+        KeyRef::Number(number) => u64::from(number),
+    }
+}
+
+// The bytes of a slot: one, the record, and what pads them.
+fn slot_size(re_len: u32) -> u64
+    ensures size { result ≡ pad4 (re_len + 1) }
+    ensures room { re_len + 1 ≤ result }
+{
+    (u64::from(re_len) + 1).div_ceil(4) * 4
+}
+
+// How many records of `re_len` bytes stand on a page of `size` bytes.
+fn records_per_page(size: u32, re_len: u32) -> u64
+    requires low { 28 ≤ size }
+    ensures { result ≡ records_per_page size re_len }
+{
+    u64::from(size - 28) / slot_size(re_len)
+}
+
+/// How many pages the queue of a list has, its metadata not counted: those up to the page of its greatest record.
+pub fn queue_pages(settings: &Settings, list: &TextPairs) -> u64
+    requires legal { IsTrue (is_page_size settings.now.page_size) }
+    requires room { pad4 (settings.now.re_len + 1) ≤ settings.now.page_size - 28 }
+    requires ascend { AscendFrom 1 (unlined_pairs list.now) }
+    ensures pages { result ≡ queue_size (records_per_page settings.now.page_size settings.now.re_len) (unlined_pairs list.now) }
+    ensures few { result ≤ 2 ^ 32 }
+{
+    let per_page = records_per_page(settings.page_size, settings.re_len);
+    match list.as_slice().last() {
+        Some(pair) => 1 + (number_of(pair.key) - 1) / per_page,
+        None => 0,
+    }
+}

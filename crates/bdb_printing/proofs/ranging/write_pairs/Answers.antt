@@ -1,7 +1,0 @@
-use Rattle.std.proofs.Common.{rules}
-use Rattle.bdb_printing.proofs.PrinterLemmas.{all_written}
-use Rattle.bdb_printing.proofs.ranging.write_pairs.Goals as goal
-
-pub returns : goal.returns
-returns g c =
-    all_written _ _ _ _ _ _ _ _ _ (search rules) c.new-pending.ensures c.in_ok-pairs_text.was c.pairs_text.ensures c.flush.ensures.prints c.flush.ensures.empty

@@ -1,5 +1,0 @@
-use Rattle.bdb_sections.proofs.SectionLemmas.{read_sections_are_fit}
-use Rattle.bdb_sections.proofs.laws.read_sections_are_fit.Goals as goal
-
-pub returns : goal.returns
-returns c = read_sections_are_fit

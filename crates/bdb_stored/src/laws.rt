@@ -1,9 +1,0 @@
-//! Laws of rows of pages.
-ghost use Rattle.bdb_stored.specs.Rows.{NoPageTwiceInARow};
-
-/// Pages that follow each other, each naming the one before it, are all distinct on any bytes. So a walk
-/// without a visited mark ends.
-#[tactic(auto, using(crate::proofs::RowLemmas::no_page_twice_in_a_row))]
-pub fn no_page_twice_in_a_row()
-    ensures { NoPageTwiceInARow }
-{}

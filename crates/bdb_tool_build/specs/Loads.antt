@@ -1,0 +1,53 @@
+-- What `load` answers to a text that is within the limit. Source: README.md, "Use".
+use Rattle.std.specs.Prelude.{◌≡◌, ℕ, List, Option, Some, None, codes}
+use Rattle.bdb_text_format.specs.declared.faults.TextFault.{TextFault}
+use Rattle.bdb_text_format.specs.declared.sections.Section.{Section}
+use Rattle.bdb_model.specs.Answers.{Answer, done, told}
+use Rattle.bdb_text_format.specs.Reasons.{text_fault}
+use Rattle.bdb_text_format.specs.Sections.{Reads}
+use Rattle.bdb_settle.specs.declared.load_error.LoadError.{LoadError}
+use Rattle.bdb_settle.specs.declared.load_error.LoadError.TheVariants.{RecordTooLong, RecordZero, TooLarge, QueueAmongNames, Memory, OntoKind, OntoNames}
+use Rattle.bdb_mkfile.specs.Builds.{Builds}
+use Rattle.bdb_mkfile.specs.Loading.{loading_error}
+use Rattle.bdb_tool_build.specs.Lines.{error_line, image_too_large_line, reason_line}
+
+-- the answer to sections that have a load error; want of memory is none
+abbrev pub IsErrorAnswer : ℕ → LoadError → Answer → Type 0
+IsErrorAnswer limit (RecordTooLong number) answer = answer ≡ told 8 (error_line number 1 (codes "RecordTooLong"))
+IsErrorAnswer limit (RecordZero number) answer = answer ≡ told 8 (error_line number 2 (codes "RecordZero"))
+IsErrorAnswer limit TooLarge answer = answer ≡ told 6 (image_too_large_line limit)
+IsErrorAnswer limit (QueueAmongNames number) answer = answer ≡ told 8 (error_line number 4 (codes "QueueAmongNames"))
+IsErrorAnswer limit Memory answer = ⊥
+IsErrorAnswer limit (OntoKind number) answer = answer ≡ told 8 (error_line number 5 (codes "OntoKind"))
+IsErrorAnswer limit (OntoNames number) answer = answer ≡ told 8 (error_line number 6 (codes "OntoNames"))
+
+-- the answer is some image that is built of sections
+pub record IsImageAnswer (sections : List Section) (answer : Answer) : Type 0 where
+  pub image : List ℕ
+  pub built : Builds sections image
+  pub answer_is : answer ≡ done image
+
+-- an answer to sections, by the first of their load errors
+abbrev pub IsLoadAnswer : ℕ → Option LoadError → List Section → Answer → Type 0
+IsLoadAnswer limit (Some error) sections answer = IsErrorAnswer limit error answer
+IsLoadAnswer limit None sections answer = IsImageAnswer sections answer
+
+-- an answer to sections that a text reads as
+pub record IsReadAnswer (limit : ℕ) (text : List ℕ) (answer : Answer) : Type 0 where
+  pub sections : List Section
+  pub read : Reads text sections
+  pub answered : IsLoadAnswer limit (loading_error limit sections) sections answer
+
+-- the answer to a text with a fault
+abbrev pub IsFaultAnswer : Option TextFault → Answer → Type 0
+IsFaultAnswer None answer = ⊥
+IsFaultAnswer (Some fault) answer = answer ≡ told 8 (reason_line fault)
+
+-- an answer to a text, by its fault
+abbrev pub IsLoadAnswerBy : ℕ → Option TextFault → List ℕ → Answer → Type 0
+IsLoadAnswerBy limit (Some fault) text answer = answer ≡ told 8 (reason_line fault)
+IsLoadAnswerBy limit None text answer = IsReadAnswer limit text answer
+
+-- an answer to a text that is loaded into an image of at most so many bytes
+abbrev pub IsTextAnswer : ℕ → List ℕ → Answer → Type 0
+IsTextAnswer limit text answer = IsLoadAnswerBy limit (text_fault text) text answer

@@ -1,0 +1,62 @@
+ghost use Rattle.std.specs.Prelude.{◌≡◌, IfOk, string_bytes};
+ghost use Rattle.bdb_tool_build.specs.Lines.{error_line, image_too_large_line, reason_line, trial_text};
+ghost use Rattle.bdb_text_format.specs.Written.{kind_text};
+
+use crate::names::reason_name;
+use bdb_format::Kind;
+use bdb_text_format::TextFault;
+use std::alloc::{AllocError, Global};
+
+/// The line of a text's fault.
+pub(crate) fn reason_line(alloc: Global, fault: TextFault) -> Result<String, AllocError>
+    ensures { IfOk result (λ text. string_bytes text ≡ reason_line fault) }
+{
+    let name = reason_name(fault.reason);
+    let TextFault { line, reason } = fault;
+    format!(in alloc; "line {line}: reason {reason} {name}\n")
+}
+
+/// The line of a load error: the number of its line, its code and its name.
+pub(crate) fn error_line(
+    alloc: Global,
+    number: u64,
+    code: u8,
+    name: &str,
+) -> Result<String, AllocError>
+    ensures { IfOk result (λ text. string_bytes text ≡ error_line number code name.now) }
+{
+    format!(in alloc; "line {number}: load error {code} {name}\n")
+}
+
+/// The line of an image that would be longer than this many bytes.
+pub fn image_too_large_line(alloc: Global, limit: u32) -> Result<String, AllocError>
+    ensures { IfOk result (λ text. string_bytes text ≡ image_too_large_line limit) }
+{
+    format!(in alloc; "image longer than {limit} bytes\n")
+}
+
+// The word for a kind of databases.
+fn kind_name(kind: Kind) -> &'static str
+    ensures { result.now ≡ kind_text kind }
+{
+    match kind {
+        Kind::Btree => "btree",
+        Kind::Recno => "recno",
+        Kind::Hash => "hash",
+        Kind::Queue => "queue",
+    }
+}
+
+/// The two lines of a trial: how many pairs and pages there are, and the hash of the image.
+pub(crate) fn trial_lines(
+    alloc: Global,
+    kind: Kind,
+    count: u32,
+    pages: usize,
+    hash: u32,
+) -> Result<String, AllocError>
+    ensures { IfOk result (λ text. string_bytes text ≡ trial_text kind count pages hash) }
+{
+    let kind = kind_name(kind);
+    format!(in alloc; "{kind}: {count} pairs, {pages} pages, sound\nhash5 {hash}\n")
+}

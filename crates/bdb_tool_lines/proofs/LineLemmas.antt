@@ -1,0 +1,51 @@
+-- Lines that are put together of parts.
+use Rattle.std.proofs.Common.{◌≡◌, ◌∙◌, ℕ, List, ◌++◌, ap, append_assoc}
+use Rattle.std.specs.Prelude.{Option, Result, codes}
+use Rattle.std.specs.Fmt.{decimal}
+use Rattle.bdb_format.specs.declared.kinds.Fault.{Fault}
+use Rattle.bdb_format.specs.declared.kinds.Unsupported.{Unsupported}
+use Rattle.bdb_model.specs.Answers.{fault_line, unsupported_line}
+use Rattle.bdb_format.specs.FaultNames.{fault_name, unsupported_name}
+use Rattle.bdb_text_format.specs.LineEnd.{line}
+use Rattle.bdb_tool_lines.specs.Passing.{Passes}
+use Rattle.bdb_tool_lines.specs.Telling.{case_page_part, case_part, code_part, name_part, page_part, stage_part}
+use Rattle.bdb_tool_lines.specs.declared.cut.Cut.{Cut}
+use Rattle.bdb_tool_lines.specs.declared.printer.Printer.{Printer}
+use Rattle.bdb_tool_lines.proofs.PassingLemmas.{same_text}
+
+six_parts : (a b c d e f g h : List ℕ) → ((a ++ b) ++ ((c ++ d) ++ (e ++ f))) ++ (g ++ h) ≡ a ++ (b ++ (c ++ (d ++ (e ++ (f ++ (g ++ h))))))
+six_parts a b c d e f g h =
+    append_assoc (a ++ b) ((c ++ d) ++ (e ++ f)) (g ++ h)
+    ∙ append_assoc a b (((c ++ d) ++ (e ++ f)) ++ (g ++ h))
+    ∙ ap (λ rest. a ++ (b ++ rest))
+    (append_assoc (c ++ d) (e ++ f) (g ++ h)
+    ∙ append_assoc c d ((e ++ f) ++ (g ++ h))
+    ∙ ap (λ rest. c ++ (d ++ rest)) (append_assoc e f (g ++ h)))
+
+fault_line_is : (fault : Fault) → (stage_part fault.stage ++ (page_part fault.page ++ code_part fault.code)) ++ name_part (fault_name fault.stage fault.code)
+    ≡ fault_line fault
+unfolding stage_part page_part code_part name_part
+fault_line_is fault =
+    six_parts (codes "fault: stage ") (decimal fault.stage) (codes " page ") (decimal fault.page) (codes " code ") (decimal fault.code) (codes " ")
+    (line (fault_name fault.stage fault.code))
+
+case_line_is : (name : Unsupported) (page : ℕ) → case_part (unsupported_name name) ++ case_page_part page ≡ unsupported_line name page
+unfolding case_part case_page_part
+case_line_is name page = append_assoc (codes "unsupported: ") (unsupported_name name) (codes ", page " ++ line (decimal page))
+
+pub fault_line_printed : {K : Type 0} (written : K → Option (List ℕ)) (faults : K → ℕ) (old new : Printer K) (fault : Fault) (result : Result Unit Cut)
+    → Passes written faults old new ((stage_part fault.stage ++ (page_part fault.page ++ code_part fault.code))
+    ++ name_part (fault_name fault.stage fault.code)) result
+    → Passes written faults old new (fault_line fault) result
+fault_line_printed written faults old new fault result passes =
+    same_text written faults old new ((stage_part fault.stage ++ (page_part fault.page ++ code_part fault.code))
+    ++ name_part (fault_name fault.stage fault.code)) (fault_line fault) result
+    (fault_line_is fault) passes
+
+pub case_line_printed : {K : Type 0} (written : K → Option (List ℕ)) (faults : K → ℕ) (old new : Printer K) (name : Unsupported) (page : ℕ)
+    (result : Result Unit Cut)
+    → Passes written faults old new (case_part (unsupported_name name) ++ case_page_part page) result
+    → Passes written faults old new (unsupported_line name page) result
+case_line_printed written faults old new name page result passes =
+    same_text written faults old new (case_part (unsupported_name name) ++ case_page_part page) (unsupported_line name page) result (case_line_is name page)
+    passes

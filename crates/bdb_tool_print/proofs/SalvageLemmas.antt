@@ -1,0 +1,128 @@
+-- How many loose records there are: an index takes two bytes for each.
+use Rattle.std.proofs.Common.{◌≡◌, ℕ, ◌*◌, ◌/◌, ◌≤◌, Bool, true, false, List, [], ◌∷◌, length, map, take, drop, arith, refl, sym, ◌∙◌, ap, subst, inl, inr}
+use Rattle.std.proofs.Common.{length-append, length-take, ltb-false}
+use Rattle.std.specs.Prelude.{Option, Some, None, if◌then◌else◌}
+use Rattle.std.specs.List.{flat_map, range_with_len}
+use Rattle.std.proofs.Math.Nat.{mul_comm}
+use Rattle.std.proofs.lemmas.Bool.{cases_lt}
+use Rattle.std.proofs.lemmas.List.{get_or_past}
+use Rattle.std.proofs.lemmas.List.FromFn.{get_or-map-range_with_len, length-map-range_with_len, length-range_with_len}
+use Rattle.bdb_format.specs.declared.kinds.Order.{Order}
+use Rattle.bdb_format.specs.Chains.{joined, pieces_of}
+use Rattle.bdb_format.specs.Contents.{entries_in}
+use Rattle.bdb_format.specs.File.{File, page_at}
+use Rattle.bdb_format.specs.Numbers.{byte_at, four_at}
+use Rattle.bdb_format.specs.Page.{Content, Inline, Set, Chain, Tree, Unknown, Item, Zero, NoType, PageType, RecnoLeafPage, DupLeafPage}
+use Rattle.bdb_format.specs.Reading.{abstract_page, index_end, is_zero, leaf_item_at, page_as, page_type}
+use Rattle.bdb_format.specs.Rows.{body_code, identity_rows, is_tree_type, page_code}
+use Rattle.bdb_format.specs.Table.{first_row}
+use Rattle.bdb_format.proofs.ItemLemmas.{index_passes, no_index_row}
+use Rattle.bdb_format.proofs.PageLemmas.{length_items}
+use Rattle.bdb_survey.specs.Salvage.{is_taken, is_whole, live_value, live_whole, loose, loose_on, salvaged_file, salvaged_page, unless_code, whole_values}
+use Rattle.bdb_survey.proofs.StoredPageLemmas.{count_is as whole_pages}
+
+-- lists that are at most so long, joined
+joined_short : {A B : Type 0} (f : A → List B) (k : ℕ) (xs : List A) → ((x : A) → 2 * length (f x) ≤ k)
+    → 2 * length (flat_map f xs) ≤ length xs * k
+joined_short f k [] short = omega arith
+joined_short f k (x ∷ xs) short = omega (arith, length-append (f x) (flat_map f xs), short x, joined_short f k xs short)
+
+-- The entries of a page.
+
+room_by : (order : Order) (page : List ℕ) (t : PageType) → body_code order page t ≡ None
+    → 2 * length (entries_in (page_as order page t)) ≤ length page
+room_by order page RecnoLeafPage none =
+    let room : index_end order page ≤ length page = ltb-false _ _ (index_passes order page RecnoLeafPage (no_index_row order page RecnoLeafPage none)).room in
+    omega (arith, length_items order page (leaf_item_at order page))
+room_by order page DupLeafPage none =
+    let room : index_end order page ≤ length page = ltb-false _ _ (index_passes order page DupLeafPage (no_index_row order page DupLeafPage none)).room in
+    omega (arith, length_items order page (leaf_item_at order page))
+room_by order page t none = omega arith
+
+room_coded : (order : Order) (page : List ℕ) (t : PageType) (code : Option ℕ) → body_code order page t ≡ code
+    → 2 * length (entries_in (unless_code code (page_as order page t))) ≤ length page
+room_coded order page t None is = room_by order page t is
+room_coded order page t (Some code) is = omega arith
+
+room_of : (order : Order) (page : List ℕ) (t : PageType) (zero : Bool) (identity : Option ℕ)
+    → 2 * length (entries_in (unless_code
+    (elim zero as (λ _. Option ℕ) [ true ↦ None | false ↦ elim identity as (λ _. Option ℕ) [ Some code ↦ Some code | None ↦ body_code order page t ] ])
+    (elim zero [ true ↦ Zero | false ↦ page_as order page t ]))) ≤ length page
+room_of order page t true identity = omega arith
+room_of order page t false (Some code) = omega arith
+room_of order page t false None = room_coded order page t (body_code order page t) refl
+
+-- the entries of a page that is looked at take two bytes each in its index
+page_room : (order : Order) (page : List ℕ) → 2 * length (entries_in (salvaged_page order page)) ≤ length page
+unfolding salvaged_page page_code abstract_page
+page_room order page =
+    room_of order page (page_type (byte_at page 25)) (is_zero page) (first_row (identity_rows order page (four_at order page 8) is_tree_type))
+
+entries_short : (order : Order) (size : ℕ) (image : List ℕ) (p : ℕ) → 2 * length (entries_in (page_at (salvaged_file order size image) p)) ≤ size
+unfolding salvaged_file
+entries_short order size image p =
+    elim (cases_lt p (length image / size)) [
+      | inl there ↦
+          subst (λ page. 2 * length (entries_in page) ≤ size)
+          (sym (get_or-map-range_with_len (λ q. salvaged_page order (take size (drop (q * size) image))) 0 (length image / size) p p NoType there
+          (omega arith)))
+          (omega (arith, page_room order (take size (drop (p * size) image)), length-take size (drop (p * size) image)))
+      | inr past ↦
+          subst (λ page. 2 * length (entries_in page) ≤ size)
+          (sym (get_or_past (map (λ q. salvaged_page order (take size (drop (q * size) image))) (range_with_len 0 (length image / size))) p NoType
+          (omega (arith, length-map-range_with_len (λ q. salvaged_page order (take size (drop (q * size) image))) 0 (length image / size)))))
+          (omega arith)
+    ]
+
+-- The records of a page.
+
+one_where : {A : Type 0} (holds : Bool) (x : A) → length (if holds then x ∷ [] else []) ≤ 1
+one_where true x = omega arith
+one_where false x = omega arith
+
+fewer_where : {A : Type 0} (nothing : Bool) (n : ℕ) (xs : List A) → 2 * length xs ≤ n → 2 * length (if nothing then [] else xs) ≤ n
+fewer_where true n xs few = omega arith
+fewer_where false n xs few = few
+
+one_at_most : (file : File) (content : Content) → length (whole_values file content) ≤ 1
+unfolding whole_values
+one_at_most file (Inline bytes) = omega arith
+one_at_most file (Set blocks) = omega arith
+one_at_most file (Chain head total) = one_where (is_whole file head total) (joined (pieces_of file head))
+one_at_most file (Tree root) = omega arith
+one_at_most file Unknown = omega arith
+
+one_live : (file : File) (item : Item) → 2 * length (live_value file item) ≤ 2
+one_live file item = fewer_where item.deleted 2 (whole_values file item.content) (omega (arith, one_at_most file item.content))
+
+live_short : (order : Order) (size : ℕ) (image : List ℕ) (p : ℕ) → 2 * length (live_whole (salvaged_file order size image) p) ≤ size
+unfolding live_whole
+live_short order size image p =
+    omega (
+      arith,
+      entries_short order size image p,
+      joined_short (live_value (salvaged_file order size image)) 2 (entries_in (page_at (salvaged_file order size image) p))
+          (one_live (salvaged_file order size image)),
+    )
+
+loose_short : (order : Order) (size : ℕ) (image : List ℕ) (p : ℕ) → 2 * length (loose_on (salvaged_file order size image) p) ≤ size
+loose_short order size image p =
+    fewer_where (is_taken (salvaged_file order size image) p) size (live_whole (salvaged_file order size image) p) (live_short order size image p)
+
+loose_room : (order : Order) (size : ℕ) (image : List ℕ) → 2 * length (loose (salvaged_file order size image)) ≤ length image / size * size
+unfolding loose
+loose_room order size image =
+    subst (λ n. 2 * length (flat_map (loose_on (salvaged_file order size image)) (range_with_len 0 (salvaged_file order size image).count)) ≤ n * size)
+    (length-range_with_len 0 (salvaged_file order size image).count ∙ whole_pages order size image)
+    (joined_short (loose_on (salvaged_file order size image)) size (range_with_len 0 (salvaged_file order size image).count) (loose_short order size image))
+
+-- there are at most half as many loose records as the image has bytes
+pub loose_few : (order : Order) (size : ℕ) (image : List ℕ) → 2 * length (loose (salvaged_file order size image)) ≤ length image
+loose_few order size image =
+    elim (cases_lt 0 size) [
+      | inl some ↦ omega (arith, loose_room order size image, mul_comm size (length image / size))
+      | inr none ↦
+          let zero : size ≡ 0 = omega arith in
+          let nothing : length image / size * size ≡ length image / size * 0 = ap (λ n. length image / size * n) zero in
+          omega (arith, loose_room order size image, nothing)
+    ]

@@ -1,0 +1,14 @@
+//! Texts that are written to a sink as they come: lists, data, ranges, dumps, and what is salvaged.
+#![tactic(auto)]
+
+mod dumping;
+mod listing;
+mod printing;
+mod ranging;
+mod salvaging;
+
+pub use bdb_tool_lines::Cut;
+pub use dumping::{write_section, write_sections};
+pub use listing::{write_found, write_list};
+pub use ranging::write_pairs;
+pub use salvaging::write_salvaged;

@@ -1,0 +1,99 @@
+ghost use Rattle.std.specs.Prelude.{◌≡◌, [], OnOk};
+ghost use Rattle.bdb_model.specs.Answers.{value_line};
+ghost use Rattle.bdb_format.specs.Chains.{joined};
+ghost use Rattle.bdb_text_format.specs.TextSpelling.{spelling};
+ghost use Rattle.bdb_overflow.specs.Datum.{datum_seen};
+ghost use Rattle.bdb_tool_print.specs.Printers.{Adds};
+
+use bdb_format::Bytes;
+use bdb_io::{Sink, put_all};
+use bdb_overflow::{Datum, Pieces};
+use bdb_text::push_line_text;
+use bdb_tool_lines::Cut;
+use std::alloc::Global;
+
+/// How many bytes are gathered before they are written.
+const PIECE: usize = 65536;
+
+/// A text on its way to a sink: what was printed is written to it, or pending.
+#[derive(Drop)]
+pub(crate) struct Printer<'k, K: Sink> {
+    pub(crate) alloc: Global,
+    pub(crate) out: &'k mut K,
+    pub(crate) pending: &'k mut Bytes,
+}
+
+impl<'k, K: Sink> Printer<'k, K> {
+    /// Writes what is pending.
+    pub(crate) fn flush(&mut self) -> Result<(), Cut>
+        ensures prints { Adds K.written K.faults self.old self.new [] result }
+        ensures empty { OnOk result (self.new.pending.now ≡ []) }
+    {
+        match put_all(self.out, self.pending.as_slice()) {
+            Ok(()) => {
+                *self.pending = Bytes::new(self.alloc);
+                Ok(())
+            }
+            Err(_) => Err(Cut::WriteFault),
+        }
+    }
+
+    /// Writes what is pending once it's enough for a piece.
+    fn pass_on(&mut self) -> Result<(), Cut>
+        ensures { Adds K.written K.faults self.old self.new [] result }
+    {
+        if self.pending.as_slice().len() < PIECE {
+            return Ok(());
+        }
+        self.flush()
+    }
+
+    /// Prints a text as it is.
+    pub(crate) fn text(&mut self, text: &[u8]) -> Result<(), Cut>
+        ensures { Adds K.written K.faults self.old self.new text.now result }
+    {
+        match self.pending.push_all(text) {
+            Ok(()) => self.pass_on(),
+            Err(_) => Err(Cut::Memory),
+        }
+    }
+
+    /// Prints the spelling of bytes.
+    pub(crate) fn spelled(&mut self, bytes: &[u8], print: bool) -> Result<(), Cut>
+        ensures { Adds K.written K.faults self.old self.new (spelling print bytes.now) result }
+    {
+        match push_line_text(self.pending, bytes, print) {
+            Ok(()) => self.pass_on(),
+            Err(_) => Err(Cut::Memory),
+        }
+    }
+
+    /// Prints the spelling of the pieces of a value, one after another.
+    fn pieces(&mut self, pieces: Pieces<'_>, print: bool) -> Result<(), Cut>
+        ensures { Adds K.written K.faults self.old self.new (spelling print (joined pieces.entry)) result }
+    {
+        for piece in pieces {
+            self.spelled(piece, print)?;
+        }
+        Ok(())
+    }
+
+    /// Prints the spelling of a value.
+    pub(crate) fn datum(&mut self, value: &Datum<'_>, print: bool) -> Result<(), Cut>
+        ensures { Adds K.written K.faults self.old self.new (spelling print (datum_seen value.now)) result }
+    {
+        match value {
+            Datum::Inline(bytes) => self.spelled(bytes, print),
+            Datum::Chained(pieces) => self.pieces(pieces.again(), print),
+        }
+    }
+
+    /// Prints the spelling of a value, and ends its line.
+    #[tactic(auto, using(crate::proofs::PrinterLemmas::then_adds, crate::proofs::PrinterLemmas::adds_cut))]
+    pub(crate) fn value_line(&mut self, value: &Datum<'_>, print: bool) -> Result<(), Cut>
+        ensures { Adds K.written K.faults self.old self.new (value_line print (datum_seen value.now)) result }
+    {
+        self.datum(value, print)?;
+        self.text(b"\n")
+    }
+}

@@ -1,0 +1,182 @@
+// What `salvage` prints.
+ghost use Rattle.std.specs.Prelude.{◌≡◌, ◌<◌, ◌≤◌, ◌^◌, ◌++◌, Some, codes, length, map};
+ghost use Rattle.std.specs.List.{enumerate_from, flat_map};
+ghost use Rattle.bdb_model.specs.Change.{change};
+ghost use Rattle.bdb_text_format.specs.LineEnd.{line};
+ghost use Rattle.bdb_text_format.specs.Written.{data_end, section_text};
+ghost use Rattle.bdb_overflow.specs.Datum.{datum_seen};
+ghost use Rattle.bdb_tool_print.specs.Printers.{Adds, pair_text};
+ghost use Rattle.bdb_tool_lines.specs.Printing.{Writes};
+ghost use Rattle.bdb_tool_print.specs.SalvageText.{bytes_pair, loose_section, loose_settings, numbered_record, salvage_text};
+ghost use Rattle.bdb_tool_print.specs.SalvageText.{stored_section, stored_settings};
+ghost use Rattle.bdb_rescue.specs.Kept.{file_in};
+ghost use Rattle.bdb_survey.specs.Salvage.{loose};
+
+use crate::printing::Printer;
+use bdb_format::{Bytes, Kind, Settings};
+use bdb_io::Sink;
+use bdb_overflow::{Datum, KeyView};
+use bdb_rescue::{Guess, SalvagePairs, SalvageValues, Salvaged};
+use bdb_tool_lines::Cut;
+use std::alloc::Global;
+
+// The settings of the section of the loose records.
+fn loose_settings(guess: Guess) -> Settings
+    ensures { result ≡ loose_settings guess }
+{
+    Settings {
+        kind: Kind::Recno,
+        page_size: guess.page_size,
+        order: guess.order,
+        duplicates: false,
+        sorted: false,
+        recnum: false,
+        renumber: false,
+        fixed: false,
+        re_len: 0,
+        re_pad: 32,
+        minkey: 2,
+        ffactor: 0,
+    }
+}
+
+// The settings of the section of the stored pairs.
+fn stored_settings(guess: Guess) -> Settings
+    ensures { result ≡ stored_settings guess }
+{
+    Settings {
+        kind: Kind::Btree,
+        duplicates: true,
+        ..loose_settings(guess)
+    }
+}
+
+impl<'k, K: Sink> Printer<'k, K> {
+    /// Prints the data lines of stored pairs.
+    fn stored_pairs(&mut self, pairs: &mut SalvagePairs<'_, '_>, print: bool) -> Result<(), Cut>
+        ensures { Adds K.written K.faults self.old self.new (flat_map (pair_text print) (map bytes_pair pairs.old)) result }
+    {
+        for (key, value) in pairs {
+            self.pair(KeyView::Bytes(key), value, print)?;
+        }
+        Ok(())
+    }
+
+    /// Prints the data lines of stored pairs, and the line that ends them.
+    #[tactic(auto, using(crate::proofs::PrinterLemmas::then_adds, crate::proofs::PrinterLemmas::adds_cut))]
+    fn stored_data(&mut self, pairs: &mut SalvagePairs<'_, '_>, print: bool) -> Result<(), Cut>
+        ensures { Adds K.written K.faults self.old self.new (flat_map (pair_text print) (map bytes_pair pairs.old) ++ line data_end) result }
+    {
+        self.stored_pairs(pairs, print)?;
+        self.text(b"DATA=END\n")
+    }
+
+    /// Prints the section of stored pairs.
+    #[tactic(auto, using(crate::proofs::DumpLemmas::section_by_parts, crate::proofs::PrinterLemmas::then_adds, crate::proofs::PrinterLemmas::adds_cut))]
+    fn pairs_section(
+        &mut self,
+        guess: Guess,
+        pairs: &mut SalvagePairs<'_, '_>,
+        print: bool,
+    ) -> Result<(), Cut>
+        ensures { Adds K.written K.faults self.old self.new (stored_section print guess pairs.old) result }
+    {
+        self.header(Some(b"salvaged"), &stored_settings(guess), print)?;
+        self.stored_data(pairs, print)
+    }
+
+    /// The same, of pairs that are given up.
+    fn stored_section(
+        &mut self,
+        guess: Guess,
+        mut pairs: SalvagePairs<'_, '_>,
+        print: bool,
+    ) -> Result<(), Cut>
+        ensures { Adds K.written K.faults self.old self.new (stored_section print guess pairs.entry) result }
+    {
+        self.pairs_section(guess, &mut pairs, print)
+    }
+
+    /// Prints the data lines of records, which are numbered from 1.
+    fn records(&mut self, records: SalvageValues<'_, '_>, print: bool) -> Result<(), Cut>
+        requires { length records < 2 ^ 32 }
+        ensures { Adds K.written K.faults self.old self.new
+            (flat_map (pair_text print) (map numbered_record (enumerate_from 1 records.entry))) result }
+    {
+        let mut number = 0;
+        for record in records {
+            number += 1;
+            self.pair(KeyView::Number(number), record, print)?;
+        }
+        Ok(())
+    }
+
+    /// Prints the data lines of records, and the line that ends them.
+    #[tactic(auto, using(crate::proofs::PrinterLemmas::then_adds, crate::proofs::PrinterLemmas::adds_cut))]
+    fn records_data(&mut self, records: SalvageValues<'_, '_>, print: bool) -> Result<(), Cut>
+        requires { length records < 2 ^ 32 }
+        ensures { Adds K.written K.faults self.old self.new
+            (flat_map (pair_text print) (map numbered_record (enumerate_from 1 records.entry)) ++ line data_end) result }
+    {
+        self.records(records, print)?;
+        self.text(b"DATA=END\n")
+    }
+
+    /// Prints the section of records.
+    #[tactic(auto, using(crate::proofs::DumpLemmas::section_by_parts, crate::proofs::PrinterLemmas::then_adds, crate::proofs::PrinterLemmas::adds_cut))]
+    fn records_section(
+        &mut self,
+        guess: Guess,
+        records: SalvageValues<'_, '_>,
+        print: bool,
+    ) -> Result<(), Cut>
+        requires { length records < 2 ^ 32 }
+        ensures { Adds K.written K.faults self.old self.new
+            (section_text print (Some (codes "loose")) (loose_settings guess) (map numbered_record (enumerate_from 1 records.entry))) result }
+    {
+        self.header(Some(b"loose"), &loose_settings(guess), print)?;
+        self.records_data(records, print)
+    }
+
+    /// Prints the section of the loose records, where there is one.
+    fn loose_section(&mut self, salvaged: &Salvaged<'_>, print: bool) -> Result<(), Cut>
+        requires { length salvaged.now.image ≤ 2 ^ 30 }
+        ensures { Adds K.written K.faults self.old self.new (loose_section print salvaged.now.guess (loose (file_in salvaged.now))) result }
+    {
+        match salvaged.loose().next() {
+            Some(_) => self.records_section(salvaged.guess(), salvaged.loose(), print),
+            None => Ok(()),
+        }
+    }
+
+    /// Prints what is salvaged.
+    #[tactic(auto, using(crate::proofs::PrinterLemmas::then_adds, crate::proofs::PrinterLemmas::adds_cut), unfolding(crate::specs::SalvageText::salvage_text))]
+    fn salvaged(&mut self, salvaged: &Salvaged<'_>, print: bool) -> Result<(), Cut>
+        requires { length salvaged.now.image ≤ 2 ^ 30 }
+        ensures { Adds K.written K.faults self.old self.new (salvage_text print salvaged.now.guess salvaged.now.image) result }
+    {
+        self.stored_section(salvaged.guess(), salvaged.pairs(), print)?;
+        self.loose_section(salvaged, print)
+    }
+}
+
+/// Writes what is salvaged from an image: the section of the stored pairs, and that of the loose records, where there is one.
+#[tactic(auto, using(crate::proofs::PrinterLemmas::all_cut))]
+pub fn write_salvaged<K: Sink>(
+    alloc: Global,
+    out: &mut K,
+    salvaged: &Salvaged<'_>,
+    print: bool,
+) -> Result<(), Cut>
+    requires { length salvaged.now.image ≤ 2 ^ 30 }
+    ensures { Writes (salvage_text print salvaged.now.guess salvaged.now.image) (change K.written K.faults out.old out.new) result }
+{
+    let mut pending = Bytes::new(alloc);
+    let mut printer = Printer {
+        alloc,
+        out,
+        pending: &mut pending,
+    };
+    printer.salvaged(salvaged, print)?;
+    printer.flush()
+}

@@ -1,0 +1,12 @@
+//! For tests: images that are written a field a line, what a check of contents asks of a file, and which faults a list has.
+#![tactic(auto)]
+
+mod field;
+mod naming;
+mod opening;
+mod sample;
+
+pub use field::{Field, write};
+pub use naming::{has_rows, is_list_of};
+pub use opening::{btree_of, has_sound_trees, is_keyed, is_recno};
+pub use sample::Sample;
