@@ -43,10 +43,11 @@ COLUMNS = ("Class", "Bytes", *(f"`{command}`" for command in COMMANDS))
 
 
 class Run(typing.NamedTuple):
-    """A command to run: its words, and the status that it must end with."""
+    """A command to run: its words, the status that it must end with, and whether it reads a text without pairs and the input is the base that this is loaded onto."""
 
     words: tuple
     status: int
+    onto: bool = False
 
 
 class Class(typing.NamedTuple):
@@ -65,6 +66,7 @@ def get(*words, status=0):
     return Run(("get", *words), status)
 
 
+NO_PAIRS = b"VERSION=3\nformat=bytevalue\ntype=btree\nduplicates=1\nHEADER=END\nDATA=END\n"
 LOADED, REFUSED, TOO_LARGE = (Run(("load",), 0),), (Run(("load",), 8),), (Run(("load", "--max-bytes", "100000"), 6),)
 SOUND = (Run(("verify",), 0), Run(("dump",), 0), Run(("salvage",), 0))
 FAULTY = (Run(("verify",), 1), Run(("dump",), 1), Run(("salvage",), 0))
@@ -73,6 +75,7 @@ JUDGED, REFUTED = SOUND[:1], FAULTY[:2]
 CUT_OFF = (Run(("repair", "--max-bytes", "1000000"), 6),)
 # The sections of such a file would be too long to write as a text.
 REPAIRED = (Run(("repair",), 0),)
+ONTO = (Run(("load",), 0, onto=True),)
 BY_HAND = tuple(Run(("salvage", "--order", "little", "--page-size", size), 0) for size in ("512", "32768"))
 
 # At the largest size a run whose time grows as its input takes some hundredths of a second, up to a few tenths.
@@ -140,7 +143,7 @@ CLASSES = (
     # Sets off the page.
     Class("set-own", "each key has a set of its own", files.own_sets, 32_000, "", SOUND + (get("00000000"),)),
     Class("set-shared", "keys share a set", files.shared_set, 8_000, "TooMany", FAULTY),
-    Class("set-long-key", "one key in a long chain, with a set of many short data", files.set_of_long_key, 60_000, "", JUDGED + REPAIRED),
+    Class("set-long-key", "one key in a long chain, with a set of many short data", files.set_of_long_key, 60_000, "", JUDGED + REPAIRED + ONTO),
     Class("set-shared-blank", "keys share a set of leaves without entries", files.shared_blank_set, 16_000, "TooMany", FAULTY),
     Class("set-shared-sparse", "keys share a set of leaves of which the last alone has an entry", files.shared_sparse_set, 16_000, "TooMany", FAULTY),
     Class("set-joined", "keys have sets of their own, whose roots share leaves without entries", files.joined_sets, 16_000, "TooMany", FAULTY),
@@ -213,8 +216,12 @@ def ending_wrong(status, wanted):
 
 def started(program, run, path, told):
     """A run that has its limits, whose output is thrown away."""
-    with path.open("rb") as given:
-        process = subprocess.Popen([program, *run.words], stdin=given, stdout=subprocess.DEVNULL, stderr=told)
+    words, read = run.words, path
+    if run.onto:
+        words, read = (*run.words, "--onto", path), path.with_name("no-pairs")
+        read.write_bytes(NO_PAIRS)
+    with read.open("rb") as given:
+        process = subprocess.Popen([program, *words], stdin=given, stdout=subprocess.DEVNULL, stderr=told)
     resource.prlimit(process.pid, resource.RLIMIT_AS, (MEMORY, MEMORY))
     resource.prlimit(process.pid, resource.RLIMIT_CPU, (LONGEST, LONGEST + 1))
     return process

@@ -6,3 +6,4 @@ pub mod RepairLemmas
 pub mod LineLemmas
 pub mod HeldLemmas
 pub mod ReadLemmas
+pub mod KeyedLemmas

@@ -17,6 +17,10 @@ datum_room value = 4 + length value
 abbrev pub pair_room : (List ℕ × List ℕ) → ℕ
 pair_room pair = datum_room pair.1
 
+-- a key with its data takes that for each
+abbrev pub entry_room : (List ℕ × List (List ℕ)) → ℕ
+entry_room entry = sum_by datum_room entry.1
+
 abbrev pub stored_room : File → ℕ
 stored_room file = sum_by pair_room (stored file)
 

@@ -1,8 +1,8 @@
 //! Whether what is salvaged has room in a file and in memory, counted where it lies.
-ghost use Rattle.std.specs.Prelude.{◌≡◌, ◌+◌, ◌<◌, MatchOption, nat_lt};
+ghost use Rattle.std.specs.Prelude.{◌≡◌, ◌+◌, ◌<◌, ◌≤◌, true, IfSome, MatchOption, nat_lt};
 ghost use Rattle.std.specs.List.{sum_by};
 ghost use Rattle.bdb_rescue.specs.Kept.{file_in};
-ghost use Rattle.bdb_repair.specs.Room.{IsFit, datum_room, least_room, pair_room, room_as};
+ghost use Rattle.bdb_repair.specs.Room.{IsFit, datum_room, entry_room, least_room, pair_room, room_as, stored_room};
 
 use crate::{Duplicates, Shape};
 use bdb_rescue::{SalvageEntries, SalvageEntry, SalvagePairs, SalvageValues, Salvaged};
@@ -83,8 +83,10 @@ fn after_all(room: u64, salvaged: &Salvaged<'_>, shape: Option<Shape>) -> Option
     }
 }
 
-// What is left of memory after a copy of so many bytes.
-fn after_copy(memory: u64, bytes: u64) -> Option<u64> {
+// What is left of memory after a copy of so many bytes, which takes more than a datum does in a file.
+fn after_copy(memory: u64, bytes: u64) -> Option<u64>
+    ensures { IfSome result (λ left. left + (4 + bytes) ≤ memory) }
+{
     memory.checked_sub(COPY)?.checked_sub(bytes)
 }
 
@@ -101,7 +103,9 @@ fn second_longest(found: &mut SalvageEntries<'_, '_>) -> u64 {
 }
 
 // What is left of memory after copies of a key and of each of its data, for each of which so many bytes of the key at most are compared with those of others.
-fn after_entry(memory: u64, compared: u64, entry: &mut SalvageEntry<'_, '_>) -> Option<u64> {
+fn after_entry(memory: u64, compared: u64, entry: &mut SalvageEntry<'_, '_>) -> Option<u64>
+    ensures { IfSome result (λ left. left + entry_room entry.old ≤ memory) }
+{
     let key = entry.key().len();
     let mut left = after_copy(memory, key)?;
     while let Some(value) = entry.next() {
@@ -111,7 +115,9 @@ fn after_entry(memory: u64, compared: u64, entry: &mut SalvageEntry<'_, '_>) -> 
 }
 
 // What is left of memory after copies of stored keys and their data.
-fn after_entries(memory: u64, compared: u64, found: &mut SalvageEntries<'_, '_>) -> Option<u64> {
+fn after_entries(memory: u64, compared: u64, found: &mut SalvageEntries<'_, '_>) -> Option<u64>
+    ensures { IfSome result (λ left. left + sum_by entry_room found.old ≤ memory) }
+{
     let mut left = memory;
     for entry in found {
         let mut entry = entry;
@@ -121,13 +127,17 @@ fn after_entries(memory: u64, compared: u64, found: &mut SalvageEntries<'_, '_>)
 }
 
 // What is left of memory after copies of all stored keys and their data.
-fn after_stored(memory: u64, salvaged: &Salvaged<'_>) -> Option<u64> {
-    let compared = second_longest(&mut salvaged.entries());
+#[tactic(auto, using(crate::proofs::KeyedLemmas::all_entries_room))]
+fn after_stored(memory: u64, compared: u64, salvaged: &Salvaged<'_>) -> Option<u64>
+    ensures { IfSome result (λ left. left + stored_room (file_in salvaged.now) ≤ memory) }
+{
     after_entries(memory, compared, &mut salvaged.entries())
 }
 
 // What is left of memory after copies of records.
-fn after_values(memory: u64, found: SalvageValues<'_, '_>) -> Option<u64> {
+fn after_values(memory: u64, found: SalvageValues<'_, '_>) -> Option<u64>
+    ensures { IfSome result (λ left. left + sum_by datum_room found.entry ≤ memory) }
+{
     let mut left = memory;
     for value in found {
         left = after_copy(left, value.len())?;
@@ -136,11 +146,39 @@ fn after_values(memory: u64, found: SalvageValues<'_, '_>) -> Option<u64> {
 }
 
 // What is left of memory after copies of all that is loaded.
-fn after_copies(memory: u64, salvaged: &Salvaged<'_>, shape: Option<Shape>) -> Option<u64> {
+fn after_copies(
+    memory: u64,
+    compared: u64,
+    salvaged: &Salvaged<'_>,
+    shape: Option<Shape>,
+) -> Option<u64>
+    ensures { IfSome result (λ left. left + least_room shape (file_in salvaged.now) ≤ memory) }
+{
     match shape {
-        None => after_values(after_stored(memory, salvaged)?, salvaged.loose()),
+        None => after_values(after_stored(memory, compared, salvaged)?, salvaged.loose()),
         Some(Shape::Recno) => after_values(memory, salvaged.loose()),
-        Some(Shape::Btree(_) | Shape::Hash(_)) => after_stored(memory, salvaged),
+        Some(Shape::Btree(_) | Shape::Hash(_)) => after_stored(memory, compared, salvaged),
+    }
+}
+
+// Whether there's room in both, even where a key counts whole for each of its data. Of most images one look so tells it.
+fn has_ample_room(salvaged: &Salvaged<'_>, shape: Option<Shape>, room: Room) -> bool
+    ensures { result ≡ true → least_room shape (file_in salvaged.now) ≤ room.file }
+{
+    after_copies(room.file.min(room.memory), u64::MAX, salvaged, shape).is_some()
+}
+
+// Whether there's room, counted in a file first, and then in memory.
+fn counted_fit(salvaged: &Salvaged<'_>, shape: Option<Shape>, room: Room) -> Fit
+    ensures { IsFit (nat_lt room.file (least_room shape (file_in salvaged.now))) result }
+{
+    if after_all(room.file, salvaged, shape).is_none() {
+        return Fit::Past;
+    }
+    let compared = second_longest(&mut salvaged.entries());
+    match after_copies(room.memory, compared, salvaged, shape) {
+        None => Fit::Scarce,
+        Some(_) => Fit::Fits,
     }
 }
 
@@ -148,11 +186,8 @@ fn after_copies(memory: u64, salvaged: &Salvaged<'_>, shape: Option<Shape>) -> O
 pub(crate) fn fit_of(salvaged: &Salvaged<'_>, shape: Option<Shape>, room: Room) -> Fit
     ensures { IsFit (nat_lt room.file (least_room shape (file_in salvaged.now))) result }
 {
-    match after_all(room.file, salvaged, shape) {
-        None => Fit::Past,
-        Some(_) => match after_copies(room.memory, salvaged, shape) {
-            None => Fit::Scarce,
-            Some(_) => Fit::Fits,
-        },
+    if has_ample_room(salvaged, shape, room) {
+        return Fit::Fits;
     }
+    counted_fit(salvaged, shape, room)
 }
