@@ -24,7 +24,8 @@ use Rattle.bdb_file.specs.declared.rows.Rows.TheVariants.{AnyOrder}
 use Rattle.bdb_file.proofs.RowsLemmas.{master_kept}
 use Rattle.bdb_format.proofs.ListLemmas.{any_member}
 use Rattle.bdb_format.proofs.FileLemmas.{last_page}
-use Rattle.bdb_master.proofs.MasterLemmas.{at_meta, count_five, in_naming, master_inside}
+use Rattle.bdb_master.proofs.MasterLemmas.{count_five, in_naming, master_inside}
+use Rattle.bdb_tree.proofs.ListedLemmas.{at_meta}
 use Rattle.bdb_file.proofs.NamedLemmas.{NamesMeta, all_named, entry_names, kind_inside, one_unnamed, with_name}
 
 -- A page has one database at most.

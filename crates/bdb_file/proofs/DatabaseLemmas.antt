@@ -24,7 +24,7 @@ use Rattle.bdb_file.specs.Contents.{faults_on}
 use Rattle.bdb_file.specs.Noted.{asked_on, is_asked, is_master}
 use Rattle.bdb_file.specs.declared.rows.Which.{Which}
 use Rattle.bdb_file.proofs.ContentLemmas.{in_contents, of_contents}
-use Rattle.bdb_master.proofs.NotingLemmas.{one_more}
+use Rattle.bdb_tree.proofs.ListedLemmas.{one_more}
 
 pub has_metadata : (file : File) (p : ℕ) (fields : Metadata) → p ≤ file.last → page_at file p ≡ Meta fields → HasMetadata file fields
 has_metadata file p fields inside is = record { page = p; inside = inside; is = is }

@@ -34,7 +34,7 @@ use Rattle.bdb_file.specs.declared.rows.Rows.TheVariants.{All, AnyOrder}
 use Rattle.bdb_file.specs.declared.rows.Which.{Which}
 use Rattle.bdb_file.specs.declared.rows.Which.TheVariants.{Each, Master, Others}
 use Rattle.bdb_file.proofs.DatabaseLemmas.{in_pages, of_pages}
-use Rattle.bdb_master.proofs.MasterLemmas.{at_meta}
+use Rattle.bdb_tree.proofs.ListedLemmas.{at_meta}
 use Rattle.bdb_file.proofs.MergeLemmas.{at_page}
 
 -- A sink that takes no notice of rows of order.

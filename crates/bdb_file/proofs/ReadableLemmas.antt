@@ -18,7 +18,7 @@ use Rattle.bdb_file.specs.Contents.{faults_on}
 use Rattle.bdb_file.specs.Listing.{HasNewKeys}
 use Rattle.bdb_file.specs.declared.rows.Rows.TheVariants.{AnyOrder}
 use Rattle.bdb_file.proofs.DatabaseLemmas.{of_pages}
-use Rattle.bdb_master.proofs.MasterLemmas.{at_meta}
+use Rattle.bdb_tree.proofs.ListedLemmas.{at_meta}
 use Rattle.bdb_file.proofs.RowsLemmas.{contents_kept}
 
 keys_differ : (image : List ℕ) (meta : HashMeta) → faults_by_rows AnyOrder image ≡ [] → HasMetadata (file_of image) (HashFields meta)

@@ -20,7 +20,7 @@ use Rattle.bdb_graph.proofs.ReadLemmas.{is_of_page}
 use Rattle.bdb_file.specs.Named.{database_at, no_database}
 use Rattle.bdb_file.proofs.ContentLemmas.{in_contents}
 use Rattle.bdb_file.proofs.DatabaseLemmas.{in_fields}
-use Rattle.bdb_master.proofs.MasterLemmas.{at_meta}
+use Rattle.bdb_tree.proofs.ListedLemmas.{at_meta}
 use Rattle.bdb_file.proofs.NamedLemmas.{with_name}
 
 -- Where a database has its metadata.

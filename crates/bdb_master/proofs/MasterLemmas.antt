@@ -16,9 +16,9 @@ use Rattle.bdb_format.specs.Graph.{is_meta}
 use Rattle.bdb_format.specs.Table.{Row, ◌:?◌}
 use Rattle.bdb_format.specs.Verdict.{holding, master_faults}
 use Rattle.bdb_format.proofs.MemberLemmas.{first_member, in_flat_map, in_map, in_range, no_member, of_filter, of_flat_map, of_map, of_range}
-use Rattle.bdb_format.proofs.MemberLemmas.{in_filter}
 use Rattle.bdb_format.proofs.VerdictLemmas.{IsOfStage, in_by_page, of_by_page}
 use Rattle.bdb_graph.specs.Linked.{IsForest, meta_pages}
+use Rattle.bdb_tree.proofs.ListedLemmas.{at_meta, meta_at}
 use Rattle.bdb_tree.proofs.PairLemmas.{master_pair_inside}
 use Rattle.bdb_master.specs.Entries.{NamedPair, count_fault, entries_naming, entry_fault, fault_at, master_entries, named, naming_fault, repeat_fault}
 use Rattle.std.specs.Option.{option_to_list}
@@ -106,19 +106,6 @@ of_master file fault at =
     let is : IsOfStage 7 0 (0 + (file.last + 1)) (λ p. holding (master_rows file p)) fault =
     of_by_page 7 0 (file.last + 1) (λ p. holding (master_rows file p)) fault at in
     record { seven = is.same_stage; inside = omega (arith, is.below_high); holds = holding_code (master_rows file fault.page) fault.code is.is_code }
-
--- Metadata pages.
-
-meta_at : (file : File) (p : ℕ) → Contains (meta_pages file) p → (p ≤ file.last) × (is_meta (page_at file p) ≡ true)
-unfolding meta_pages
-meta_at file p at =
-    let listed = of_filter (λ q. is_meta (page_at file q)) (range_with_len 0 (file.last + 1)) p at in
-    (omega (arith, (of_range 0 (file.last + 1) p listed.0).1), listed.1)
-
-pub at_meta : (file : File) (p : ℕ) → p ≤ file.last → is_meta (page_at file p) ≡ true → Contains (meta_pages file) p
-unfolding meta_pages
-at_meta file p low is =
-    in_filter (λ q. is_meta (page_at file q)) (range_with_len 0 (file.last + 1)) p (in_range 0 (file.last + 1) p (omega arith) (omega arith)) is
 
 abbrev CountIs : ℕ → ℕ → Fault → Type 0
 CountIs p n fault = (nat_lt 0 p ≡ true) × ((((n == 0) ≡ true) × (fault_at p 1 ≡ fault)) ⊎ ((nat_lt 1 n ≡ true) × (fault_at p 5 ≡ fault)))

@@ -1,30 +1,11 @@
--- What is noted one by one.
-use Rattle.std.proofs.Common.{◌≡◌, ℕ, ◌+◌, ◌<◌, List, [], ◌∷◌, length, get_or, take, Some, refl, sym, ◌∙◌, ap, subst, arith}
+-- Whether anything was noted.
+use Rattle.std.proofs.Common.{◌≡◌, List, [], ◌∷◌, length, refl, sym, ◌∙◌, ap, arith}
 use Rattle.std.specs.Prelude.{◌==◌, true, false}
-use Rattle.std.specs.List.{flat_map, slice_get}
 use Rattle.std.proofs.lemmas.Bool.{eq-eqb, eqb-true}
-use Rattle.std.proofs.lemmas.List.{take_all}
-use Rattle.std.proofs.lemmas.Option.{slice_get-get_or, slice_get_within}
 use Rattle.bdb_format.specs.declared.kinds.Fault.{Fault}
 use Rattle.bdb_format.proofs.MemberLemmas.{is_empty, no_member}
 use Rattle.bdb_faults.specs.Notes.{NotesAll}
-use Rattle.bdb_faults.proofs.SinkLemmas.{noted_all, notes_next}
-
--- those of the item at a place
-pub one_more : (before middle after : List Fault → Type 0) (give : ℕ → List Fault) (pages : List ℕ) (i p : ℕ) → slice_get pages i ≡ Some p
-    → NotesAll before middle (flat_map give (take i pages)) → NotesAll middle after (give p) → NotesAll before after (flat_map give (take (i + 1) pages))
-one_more before middle after give pages i p is first second =
-    let inside : i < length pages = slice_get_within pages i p is in
-    let here : Some (get_or pages i p) ≡ Some p = sym (slice_get-get_or pages i p inside) ∙ is in
-    let same : get_or pages i p ≡ p = cc in
-    notes_next before middle after give pages i p inside first (subst (λ q. NotesAll middle after (give q)) (sym same) second)
-
-pub no_more : (before after : List Fault → Type 0) (give : ℕ → List Fault) (pages : List ℕ) (i : ℕ) → i ≡ length pages
-    → NotesAll before after (flat_map give (take i pages)) → NotesAll before after (flat_map give pages)
-no_more before after give pages i all noted =
-    subst (λ ps. NotesAll before after (flat_map give ps)) (take_all i pages (omega arith)) noted
-
--- Whether anything was noted.
+use Rattle.bdb_faults.proofs.SinkLemmas.{noted_all}
 
 module _ (before after : List Fault → Type 0) (faults : List Fault) (begun : before []) (all : NotesAll before after faults) where
   pub none_noted : ((noted : List Fault) → after noted → true ≡ (length noted == 0)) → faults ≡ []

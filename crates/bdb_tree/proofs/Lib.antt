@@ -5,6 +5,7 @@ pub mod EntryLemmas
 pub mod InnerLemmas
 pub mod LevelLemmas
 pub mod LinkLemmas
+pub mod ListedLemmas
 pub mod NotedLemmas
 pub mod PairLemmas
 pub mod RootLemmas

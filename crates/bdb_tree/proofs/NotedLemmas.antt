@@ -17,23 +17,25 @@ use Rattle.bdb_format.specs.declared.references.Reference.{Reference}
 use Rattle.bdb_format.specs.declared.references.Sort.{Sort}
 use Rattle.bdb_format.specs.declared.references.Sort.TheVariants.{DuplicateRoot, Root}
 use Rattle.bdb_format.specs.File.{File, file_of, page_at}
-use Rattle.bdb_format.specs.Graph.{Owner, all_references}
+use Rattle.bdb_format.specs.Graph.{Owner, all_references, is_meta}
 use Rattle.bdb_format.specs.Leaves.{LeafPlace, first_or_zero, is_root_reference, is_wrong_leaf, is_wrong_link, leaf_places, leaves, places_from}
 use Rattle.bdb_format.specs.Leaves.{root_references, tree_rows}
-use Rattle.bdb_format.specs.Page.{Page}
+use Rattle.bdb_format.specs.Page.{Meta, Page}
 use Rattle.bdb_format.specs.References.{refs}
 use Rattle.bdb_format.specs.Table.{◌:?◌}
 use Rattle.bdb_format.specs.Verdict.{holding, tree_faults}
 use Rattle.bdb_format.proofs.FaultLemmas.{same_parts}
 use Rattle.bdb_format.proofs.ListLemmas.{any_member, only_member, passes_here}
-use Rattle.bdb_format.proofs.MemberLemmas.{first_member, in_flat_map, in_range, later_member, member_cases, no_member, of_filter}
+use Rattle.bdb_format.proofs.MemberLemmas.{first_member, in_flat_map, in_range, is_empty, later_member, member_cases, no_member, of_filter}
 use Rattle.bdb_format.proofs.MemberLemmas.{of_flat_map, of_range}
 use Rattle.bdb_format.proofs.ReferenceLemmas.{of_all}
 use Rattle.bdb_format.proofs.VerdictLemmas.{in_by_page, of_by_page}
-use Rattle.bdb_graph.specs.Linked.{FitsLeafPage, IsForest, IsTarget}
-use Rattle.bdb_tree.specs.Noted.{data_faults, data_root, held_faults, meta_root, paired, place_faults, place_in, root_faults}
+use Rattle.bdb_graph.specs.Linked.{FitsLeafPage, IsForest, IsTarget, meta_pages}
+use Rattle.bdb_graph.specs.Walked.{names_set}
+use Rattle.bdb_tree.specs.Noted.{by_part, data_faults, data_root, held_faults, held_sets, meta_faults, meta_root, paired, place_faults, place_in, root_faults}
 use Rattle.bdb_tree.specs.Trees.{IsTreePage}
-use Rattle.bdb_tree.proofs.RootLemmas.{data_root_fits, meta_root_fits, reference_is_tree, reference_root}
+use Rattle.bdb_tree.proofs.ListedLemmas.{at_meta, meta_at}
+use Rattle.bdb_tree.proofs.RootLemmas.{data_root_fits, meta_root_fits, no_sets, reference_is_tree, reference_root}
 use Rattle.bdb_tree.proofs.TreeLemmas.{leaf_fits, leaf_low, place_of_root}
 
 -- Places.
@@ -301,3 +303,58 @@ all_noted image forest fault = (in_stage, of_tree_faults image fault forest)
     in_stage at =
         let is : IsNoted (file_of image) fault = of_noted image fault forest at in
         in_tree_faults (file_of image) is.place fault (place_low image is.place forest is.at) is.at is.here
+
+-- Part by part.
+
+in_pages : (file : File) (p : ℕ) → Contains (meta_pages file) p → Contains (range_with_len 0 (file.last + 1)) p
+in_pages file p at = in_range 0 (file.last + 1) p (omega arith) (omega (arith, (meta_at file p at).0))
+
+of_part : (file : File) (fault : Fault) → Contains (by_part file) fault → Contains (noted file) fault
+of_part file fault at =
+    let all : List ℕ = range_with_len 0 (file.last + 1) in
+    elim (Contains-append_cases (flat_map (meta_faults file) (meta_pages file)) (flat_map (held_sets file) all) fault at) [
+      | inl metas ↦
+          let found = of_flat_map (meta_faults file) (meta_pages file) fault metas in
+          in_flat_map (held_faults file) all found.0 fault (in_pages file found.0 found.1)
+          (Contains-append_left (meta_faults file found.0) (held_sets file found.0) fault found.2)
+      | inr sets ↦
+          let found = of_flat_map (held_sets file) all fault sets in
+          in_flat_map (held_faults file) all found.0 fault found.1
+          (Contains-append_right (meta_faults file found.0) (held_sets file found.0) fault found.2)
+    ]
+
+-- a page that names the tree of a fault so is metadata
+names_as_meta : (file : File) (page : Page) (fault : Fault) → Contains (root_faults file Root (meta_root page)) fault → is_meta page ≡ true
+names_as_meta file (Meta fields) fault at = refl
+names_as_meta file page fault at = absurd (no_member [] fault refl at)
+
+in_part : (file : File) (fault : Fault) → Contains (noted file) fault → Contains (by_part file) fault
+in_part file fault at =
+    let all : List ℕ = range_with_len 0 (file.last + 1) in
+    let found = of_flat_map (held_faults file) all fault at in
+    let p : ℕ = found.0 in
+    let metas : List Fault = flat_map (meta_faults file) (meta_pages file) in
+    let sets : List Fault = flat_map (held_sets file) all in
+    elim (Contains-append_cases (meta_faults file p) (held_sets file p) fault found.2) [
+      | inl of_meta ↦
+          Contains-append_left metas sets fault
+          (in_flat_map (meta_faults file) (meta_pages file) p fault
+          (at_meta file p (omega (arith, (of_range 0 (file.last + 1) p found.1).1)) (names_as_meta file (page_at file p) fault of_meta)) of_meta)
+      | inr of_sets ↦ Contains-append_right metas sets fault (in_flat_map (held_sets file) all p fault found.1 of_sets)
+    ]
+
+-- the faults of all trees, part by part, are those of the stage
+pub parts_noted : (image : List ℕ) → IsForest image → AreSame (by_part (file_of image)) (tree_faults (file_of image))
+parts_noted image forest fault =
+    let same = all_noted image forest fault in
+    (λ at. same.0 (of_part (file_of image) fault at), λ at. in_part (file_of image) fault (same.1 at))
+
+-- Where no reference names a set, no page has a fault of one.
+pub no_set_faults : (image : List ℕ) → IsForest image → list_any names_set (all_references (file_of image)) ≡ false
+    → flat_map (held_sets (file_of image)) (range_with_len 0 ((file_of image).last + 1)) ≡ []
+no_set_faults image forest none =
+    let file : File = file_of image in
+    is_empty _ (λ fault at.
+    let found = of_flat_map (held_sets file) (range_with_len 0 (file.last + 1)) fault at in
+    let low : found.0 ≤ file.last = omega (arith, (of_range 0 (file.last + 1) found.0 found.1).1) in
+    no_member _ fault (no_sets image found.0 (length (paired (page_at file found.0)) / 2) forest low (omega arith) none) found.2)

@@ -6,6 +6,7 @@ use Rattle.bdb_format.specs.declared.kinds.Fault.{Fault}
 use Rattle.bdb_format.specs.declared.references.Sort.{Sort}
 use Rattle.bdb_format.specs.declared.references.Sort.TheVariants.{DuplicateRoot, Root}
 use Rattle.bdb_format.specs.File.{File, page_at}
+use Rattle.bdb_graph.specs.Linked.{meta_pages}
 use Rattle.bdb_format.specs.Leaves.{LeafPlace, is_wrong_leaf, is_wrong_link, leaves, places_from}
 use Rattle.bdb_format.specs.Page.{Content, Tree, Item, BtreeFields, Page, Meta, Hash, Leaf, RecnoLeaf, DupLeaf}
 use Rattle.bdb_format.specs.References.{no_item}
@@ -62,7 +63,7 @@ abbrev pub meta_root : Page → Option ℕ
 meta_root (Meta (BtreeFields meta)) = Some meta.root
 meta_root page = None
 
--- the faults of the trees that a page names
+-- the faults of the set that data of a page name
 abbrev pub data_faults : File → Page → ℕ → List Fault
 data_faults file page i = root_faults file DuplicateRoot (data_root page i)
 
@@ -70,8 +71,16 @@ data_faults file page i = root_faults file DuplicateRoot (data_root page i)
 abbrev pub set_faults : File → Page → ℕ → List Fault
 set_faults file page pairs = flat_map (data_faults file page) (range_with_len 0 pairs)
 
-abbrev pub page_faults : File → Page → List Fault
-page_faults file page = root_faults file Root (meta_root page) ++ set_faults file page (pair_count page)
+-- the faults of the trees that a page names: by metadata, and by data that are sets off the page
+abbrev pub meta_faults : File → ℕ → List Fault
+meta_faults file p = root_faults file Root (meta_root (page_at file p))
+
+abbrev pub held_sets : File → ℕ → List Fault
+held_sets file p = set_faults file (page_at file p) (pair_count (page_at file p))
 
 abbrev pub held_faults : File → ℕ → List Fault
-held_faults file p = page_faults file (page_at file p)
+held_faults file p = meta_faults file p ++ held_sets file p
+
+-- the faults of all trees, those of metadata before those of sets
+abbrev pub by_part : File → List Fault
+by_part file = flat_map (meta_faults file) (meta_pages file) ++ flat_map (held_sets file) (range_with_len 0 (file.last + 1))

@@ -4,26 +4,11 @@ ghost use Rattle.bdb_faults.specs.Notes.{NotesAll};
 ghost use Rattle.bdb_format.specs.File.{file_of};
 ghost use Rattle.bdb_format.specs.Verdict.{tree_faults, IsFirstOf};
 
-use crate::trees::note_page;
+use crate::trees::{note_all_sets, note_metas};
 use bdb_faults::{FaultSink, First, NamedList};
 use bdb_format::CheckError;
-use bdb_graph::{Forest, Linked};
+use bdb_graph::Linked;
 use std::alloc::{AllocError, Global};
-
-/// Notes the faults of the leaves of the trees that the pages of a forest name.
-#[tactic(auto, using(bdb_format::proofs::FileLemmas::last_page))]
-fn note_forest<F: FaultSink>(
-    alloc: Global,
-    forest: &Forest<'_>,
-    found: &mut F,
-) -> Result<(), AllocError>
-    ensures { OnOk result (NotesAll (F.has_noted found.old) (F.has_noted found.new) (tree_faults (file_of forest.now))) }
-{
-    for page in 0..forest.head().last + 1 {
-        note_page(alloc, forest, page, found)?;
-    }
-    Ok(())
-}
 
 /// Notes each row on leaves of trees at each page where it holds, in any order and repeats allowed: a type that the
 /// tree hasn't, and a neighbour that isn't the one in the tree. An error is want of memory: the sink's, or that of
@@ -35,8 +20,8 @@ pub fn note_trees<F: FaultSink>(
 ) -> Result<(), AllocError>
     ensures { OnOk result (NotesAll (F.has_noted found.old) (F.has_noted found.new) (tree_faults (file_of linked.now))) }
 {
-    let forest = linked.forest();
-    note_forest(alloc, &forest, found)?;
+    note_metas(alloc, linked, found)?;
+    note_all_sets(alloc, &linked.forest(), found)?;
     Ok(())
 }
 

@@ -1,20 +1,20 @@
-ghost use Rattle.std.specs.Prelude.{◌≡◌, ◌<◌, ◌≤◌, ◌*◌, ◌+◌, length};
+ghost use Rattle.std.specs.Prelude.{◌≡◌, ◌<◌, ◌*◌, ◌+◌, length};
 ghost use Rattle.bdb_form.specs.Seen.{page_seen};
-ghost use Rattle.bdb_format.specs.File.{file_of, page_at};
+ghost use Rattle.bdb_format.specs.Page.{Meta as MetaPage};
+ghost use Rattle.bdb_graph.specs.Metas.{meta_seen};
 ghost use Rattle.bdb_tree.specs.Noted.{data_root, meta_root, pair_count, paired};
 
 use bdb_form::PageView;
-use bdb_graph::{Forest, Meta};
+use bdb_graph::Meta;
 use bdb_layout::{HashItem, LeafItem};
 
-/// The root of the tree of a page that is metadata of a btree.
-pub(crate) fn meta_root(forest: &Forest<'_>, page: u32) -> Option<u32>
-    requires { page ≤ (file_of forest.now).last }
-    ensures { result ≡ meta_root (page_at (file_of forest.now) page) }
+/// The root of the tree of metadata, if it's a btree's.
+pub(crate) fn meta_root(meta: &Meta) -> Option<u32>
+    ensures { result ≡ meta_root (MetaPage (meta_seen meta.now)) }
 {
-    match forest.meta(page) {
-        Some(Meta::Btree(meta)) => Some(meta.root),
-        _ => None,
+    match meta {
+        Meta::Btree(meta) => Some(meta.root),
+        Meta::Hash(_) | Meta::Queue(_) => None,
     }
 }
 

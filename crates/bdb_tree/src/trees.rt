@@ -1,17 +1,16 @@
-ghost use Rattle.std.specs.Prelude.{◌≡◌, ◌≤◌, IfSome, OnOk, Some};
+ghost use Rattle.std.specs.Prelude.{◌≤◌, ◌+◌, IfSome, OnOk, Some};
+ghost use Rattle.std.specs.List.{flat_map, range_with_len};
 ghost use Rattle.bdb_faults.specs.Notes.{NotesAll};
-ghost use Rattle.bdb_form.specs.Seen.{page_seen};
-ghost use Rattle.bdb_graph.specs.Linked.{IsForest};
-ghost use Rattle.bdb_format.specs.File.{file_of, page_at};
-ghost use Rattle.bdb_tree.specs.Noted.{held_faults, pair_count, root_faults, set_faults};
+ghost use Rattle.bdb_graph.specs.Linked.{IsForest, meta_pages};
+ghost use Rattle.bdb_format.specs.File.{file_of};
+ghost use Rattle.bdb_tree.specs.Noted.{held_sets, meta_faults, root_faults};
 ghost use Rattle.bdb_tree.specs.Trees.{IsTreePage};
 
 use crate::leaves_below;
 use crate::named_roots::{data_root, meta_root, pairs};
 use crate::places::note_places;
 use bdb_faults::FaultSink;
-use bdb_form::PageView;
-use bdb_graph::{Forest, Sort};
+use bdb_graph::{Forest, Linked, Sort};
 use std::alloc::{AllocError, Global};
 
 /// Notes the faults of the leaves of the tree with this root.
@@ -51,18 +50,6 @@ fn note_tree<F: FaultSink>(
     }
 }
 
-/// How many pairs of a page have data to look at for a set: none where no reference names one.
-#[tactic(auto, using(crate::proofs::RootLemmas::no_sets))]
-fn pairs_to_see(forest: &Forest<'_>, number: u32, page: &PageView<'_>) -> u16
-    requires there { number ≤ (file_of forest.now).last }
-    requires page { page_seen page.now ≡ page_at (file_of forest.now) number }
-    ensures few { result ≤ pair_count (page_seen page.now) }
-    ensures all { set_faults (file_of forest.now) (page_seen page.now) result
-        ≡ set_faults (file_of forest.now) (page_seen page.now) (pair_count (page_seen page.now)) }
-{
-    if forest.has_sets() { pairs(page) } else { 0 }
-}
-
 /// Notes the faults of the sets that the data of the pairs of a page name.
 fn note_sets<F: FaultSink>(
     alloc: Global,
@@ -72,11 +59,10 @@ fn note_sets<F: FaultSink>(
 ) -> Result<(), AllocError>
     requires forest { IsForest forest.now }
     requires there { page ≤ (file_of forest.now).last }
-    ensures { OnOk result (NotesAll (F.has_noted found.old) (F.has_noted found.new)
-        (set_faults (file_of forest.now) (page_at (file_of forest.now) page) (pair_count (page_at (file_of forest.now) page)))) }
+    ensures { OnOk result (NotesAll (F.has_noted found.old) (F.has_noted found.new) (held_sets (file_of forest.now) page)) }
 {
     let view = forest.page(page);
-    for i in 0..pairs_to_see(forest, page, &view) {
+    for i in 0..pairs(&view) {
         note_tree(
             alloc,
             forest,
@@ -88,19 +74,40 @@ fn note_sets<F: FaultSink>(
     Ok(())
 }
 
-/// Notes the faults of the trees that a page names: metadata one, and data of pairs those of their sets.
+/// Notes the faults of the leaves of the trees whose roots metadata names.
 #[tactic(auto, using(crate::proofs::RootLemmas::meta_root_tree))]
-pub(crate) fn note_page<F: FaultSink>(
+pub(crate) fn note_metas<F: FaultSink>(
     alloc: Global,
-    forest: &Forest<'_>,
-    page: u32,
+    linked: &Linked<'_>,
     found: &mut F,
 ) -> Result<(), AllocError>
-    requires forest { IsForest forest.now }
-    requires there { page ≤ (file_of forest.now).last }
-    ensures { OnOk result (NotesAll (F.has_noted found.old) (F.has_noted found.new) (held_faults (file_of forest.now) page)) }
+    ensures noted { OnOk result (NotesAll (F.has_noted found.old) (F.has_noted found.new)
+        (flat_map (meta_faults (file_of linked.now)) (meta_pages (file_of linked.now)))) }
+    ensures forest { IsForest linked.now }
 {
-    note_tree(alloc, forest, Sort::Root, meta_root(forest, page), found)?;
-    note_sets(alloc, forest, page, found)?;
+    let forest = linked.forest();
+    for i in 0..linked.metas() {
+        let (_, meta) = linked.meta(i);
+        note_tree(alloc, &forest, Sort::Root, meta_root(&meta), found)?;
+    }
+    Ok(())
+}
+
+/// Notes the faults of the leaves of the sets that data of pairs name. No page is looked at where no reference names a set.
+#[tactic(auto, using(bdb_format::proofs::FileLemmas::last_page))]
+pub(crate) fn note_all_sets<F: FaultSink>(
+    alloc: Global,
+    forest: &Forest<'_>,
+    found: &mut F,
+) -> Result<(), AllocError>
+    ensures { OnOk result (NotesAll (F.has_noted found.old) (F.has_noted found.new)
+        (flat_map (held_sets (file_of forest.now)) (range_with_len 0 ((file_of forest.now).last + 1)))) }
+{
+    if !forest.has_sets() {
+        return Ok(());
+    }
+    for page in 0..forest.head().last + 1 {
+        note_sets(alloc, forest, page, found)?;
+    }
     Ok(())
 }

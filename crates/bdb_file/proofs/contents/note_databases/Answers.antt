@@ -5,7 +5,7 @@ use Rattle.bdb_graph.specs.Metas.{meta_seen}
 use Rattle.bdb_faults.proofs.SinkLemmas.{notes_none}
 use Rattle.bdb_file.specs.Noted.{asked_on, is_asked, is_master}
 use Rattle.bdb_file.proofs.DatabaseLemmas.{database_more, database_passed, master_there}
-use Rattle.bdb_master.proofs.NotingLemmas.{no_more}
+use Rattle.bdb_tree.proofs.ListedLemmas.{no_more}
 use Rattle.bdb_file.proofs.contents.note_databases.Goals as goal
 use Rattle.bdb_file.proofs.contents.note_databases.Goals.{then-is_asked+in_ok-note_database, else-is_asked}
 

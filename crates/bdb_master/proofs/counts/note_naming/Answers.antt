@@ -7,7 +7,7 @@ use Rattle.bdb_faults.proofs.SinkLemmas.{notes_none}
 use Rattle.std.specs.Option.{option_to_list}
 use Rattle.bdb_master.specs.Entries.{naming_fault}
 use Rattle.bdb_master.proofs.CountLemmas.{count_read, naming_more}
-use Rattle.bdb_master.proofs.NotingLemmas.{no_more}
+use Rattle.bdb_tree.proofs.ListedLemmas.{no_more}
 use Rattle.bdb_master.proofs.counts.note_naming.Goals as goal
 
 pub loop-i-init : goal.loop-i-init

@@ -13,7 +13,7 @@ pub note_tree-requires-clause-root : goal.note_tree-requires-clause-root
 note_tree-requires-clause-root g c =
     data_root_tree c.args.forest.now c.args.page c.loop-i.i
     (page_seen c.page-view.result) c.data_root.result c.requires.forest c.requires.there c.page-view.ensures.page
-    (omega (arith, c.pairs_to_see-i-end.ensures.few)) c.data_root.ensures
+    (omega (arith, c.pairs-i-end.ensures)) c.data_root.ensures
 
 pub loop-i-preserved : goal.loop-i-preserved
 loop-i-preserved g c =
@@ -25,11 +25,9 @@ loop-i-preserved g c =
     (subst (λ r. NotesAll (g.F.FaultSink.has_noted c.loop-i.found) (g.F.FaultSink.has_noted c.note_tree.new.found) (root_faults file DuplicateRoot r)) root
     c.in_ok-note_tree.ensures)
 
--- All pairs are passed that may name a set.
+-- All pairs are passed.
 pub returns : goal.returns
 returns g c =
     let file : File = file_of c.args.forest.now in
-    let all =
-    subst (λ q. set_faults file q c.loop-i.i ≡ set_faults file q (pair_count q)) c.page-view.ensures.page
-    (ap (set_faults file (page_seen c.page-view.result)) (omega arith) ∙ c.pairs_to_see-i-end.ensures.all) in
-    subst (NotesAll (g.F.FaultSink.has_noted c.args.found.now) (g.F.FaultSink.has_noted c.loop-i.found)) all c.loop-i.invariant
+    subst (λ n. NotesAll (g.F.FaultSink.has_noted c.args.found.now) (g.F.FaultSink.has_noted c.loop-i.found) (set_faults file (page_at file c.args.page) n))
+    (omega arith ∙ (c.pairs-i-end.ensures ∙ ap pair_count c.page-view.ensures.page)) c.loop-i.invariant
