@@ -215,15 +215,6 @@ pub asked_finishes : (request : CodeRequest) (asked : Request) (image : List ℕ
 asked_finishes request Verify image out err status is finishes = absurd (not_verify request is)
 asked_finishes request asked image out err status is finishes = by_all asked image out err status finishes
 
--- A sound file.
-
--- what is asked is seen as it is
-pub request_finishes : (seen request : Request) (image : List ℕ) (out err : Change) (status : ℕ) → Some seen ≡ Some request
-    → Finishes (sound_answer seen image) out err status
-    → Finishes (sound_answer request image) out err status
-request_finishes seen request image out err status is finishes =
-    let same : seen ≡ request = cc in subst (λ it. Finishes (sound_answer it image) out err status) same finishes
-
 -- `get`.
 
 pub found_finishes : (prints : Bool) (values : List (List ℕ)) (first : List ℕ) (others : List (List ℕ)) (out err : Change) (written : Result Unit Cut)
