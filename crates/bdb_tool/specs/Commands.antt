@@ -1,5 +1,6 @@
 -- The commands, and what each does. Source: README.md, "Use".
 use Rattle.std.specs.Prelude.{ℕ, nat_le, ◌==◌, ◌&&◌, not, if◌then◌else◌, Bool, true, false, List, [], ◌∷◌, length, Option, Some, None, codes}
+use Rattle.std.specs.List.{find}
 use Rattle.std.specs.Str.{bytes_eq}
 use Rattle.bdb_file.specs.declared.rows.Rows.{Rows}
 use Rattle.bdb_file.specs.declared.rows.Rows.TheVariants.{All, AnyOrder}
@@ -315,15 +316,22 @@ abbrev pub command_with : CommandRow → Option Arguments → Option Command
 command_with row None = None
 command_with row (Some all) = if length all.operands == row.operands then within (limit_of (value_given max_bytes all.given)) (row.does all) else None
 
--- the command of a table that the first word names
-abbrev pub command_in : List CommandRow → List ℕ → List (List ℕ) → Option Command
-command_in [] word words = None
-command_in (row ∷ rows) word words = if bytes_eq word row.word then command_with row (once (arguments row.options words)) else command_in rows word words
+-- the command of a row, by the words after its own
+abbrev pub command_by : CommandRow → List (List ℕ) → Option Command
+command_by row words = command_with row (once (arguments row.options words))
+
+-- the row of this word
+abbrev pub row_named : List ℕ → List CommandRow → Option CommandRow
+row_named word rows = find (λ (row : CommandRow). bytes_eq word row.word) rows
+
+abbrev pub command_in : Option CommandRow → List (List ℕ) → Option Command
+command_in None words = None
+command_in (Some row) words = command_by row words
 
 -- the command that the words are, unless they are none
 unfoldable pub command_of : List (List ℕ) → Option Command
 command_of [] = None
-command_of (word ∷ words) = command_in commands word words
+command_of (word ∷ words) = command_in (row_named word commands) words
 
 -- a command, where a base is handed in or not: one that reads a base is none without it
 abbrev pub handed : Bool → Option Command → Option Command
