@@ -8,11 +8,12 @@ use Rattle.bdb_format.specs.declared.kinds.Verdict.{Verdict}
 use Rattle.bdb_format.specs.declared.kinds.Verdict.TheVariants.{Fault, Unsupported, Memory as MemoryVerdict}
 use Rattle.bdb_text_format.specs.LineEnd.{line}
 use Rattle.bdb_text_format.specs.Written.{database_text, dump_text, is_btree}
-use Rattle.bdb_model.specs.Answers.{Answer, done, data_at, data_named, data_of_database, fault_line, found, not_found, told, unsupported_line, not_btree}
-use Rattle.bdb_model.specs.Answers.{pairs_text, value_line, values_text, database_in, dumped, section_answer}
-use Rattle.bdb_tool.specs.FileAnswers.{converted, judged_answer, range_answer, ranged, sound_answer}
+use Rattle.bdb_model.specs.Answers.{Answer, done, fault_line, pairs_text, told, unsupported_line, value_line, values_text}
+use Rattle.bdb_tool.specs.FileAnswers.{converted, data_at, data_named, data_of_database, database_in, dumped, found, judged_answer, not_btree, not_found}
+use Rattle.bdb_tool.specs.FileAnswers.{range_answer, ranged, section_answer, sound_answer}
 use Rattle.bdb_model.specs.Change.{Change}
-use Rattle.bdb_model.specs.Command.{Request, Verify, Get, Dump, Range, Convert, asked_name, bounds_request, key_request}
+use Rattle.bdb_tool.specs.Commands.{Request, Verify, Get, Dump, Range, Convert, bounds_request, key_request}
+use Rattle.bdb_model.specs.Command.{asked_name}
 use Rattle.bdb_format.specs.Databases.{Database, data_under, databases, place_of}
 use Rattle.bdb_format.specs.File.{File, file_of}
 use Rattle.bdb_format.specs.Flags.{kind_of}

@@ -4,7 +4,8 @@ use Rattle.std.specs.Prelude.{Option, Some, None, slice_get}
 use Rattle.std.proofs.lemmas.List.{drop_all}
 use Rattle.std.proofs.lemmas.Option.{slice_get_within}
 use Rattle.bdb_model.specs.Command.{Arguments, Given, limit_of, max_bytes, value_given}
-use Rattle.bdb_tool.specs.Commands.{CommandRow, command_in, command_of, command_with, commands, convert_row, get_row, row_named, trial_action, trial_row, within}
+use Rattle.bdb_tool.specs.Commands.{CommandRow, command_in, command_of, command_with, commands, convert_row, get_row, row_named, trial_action, trial_row}
+use Rattle.bdb_tool.specs.Commands.{within}
 use Rattle.bdb_tool.proofs.StepLemmas.{from_place, past_place}
 
 -- Operands.

@@ -3,13 +3,13 @@ use Rattle.std.specs.Prelude.{ℕ, ◌≡◌, ◌<◌, ◌≤◌, ◌^◌, ◌++
 use Rattle.std.specs.Prelude.{MatchOption, None, option_copied, ⊤}
 use Rattle.bdb_file.specs.declared.rows.Rows.TheVariants.{All}
 use Rattle.bdb_format.specs.HeadOf.{is_page_size}
-use Rattle.bdb_model.specs.Command.{Request, Verify, ListAll, Convert, Stat, OptionRow, Given, Arguments, arguments, asked_name, bounds_request, hex_option}
-use Rattle.bdb_model.specs.Command.{hex_row, is_given, key_request, max_bytes, max_bytes_row, name_option, name_row, only_operands, print_option, print_row}
-use Rattle.bdb_model.specs.Command.{row_of, text_request, value_given, with_option}
-use Rattle.bdb_tool.specs.Commands.{Action, Load, LoadOnto, Salvage, Trial, Command, Repair, any_order_option, any_order_row, as_option, as_row, asking}
-use Rattle.bdb_tool.specs.Commands.{CommandRow, command_by, command_of, convert_row, dump_row, dupsort_option, dupsort_row, duplicates_option, duplicates_row}
-use Rattle.bdb_tool.specs.Commands.{get_row, list_row, load_row, onto_option, onto_row, order_option, order_row, page_size_option, page_size_row, range_row}
-use Rattle.bdb_tool.specs.Commands.{repair_row, salvage_row, stat_row, trial_row, verify_row, within}
+use Rattle.bdb_tool.specs.Commands.{Action, Command, CommandRow, Convert, ListAll, Load, LoadOnto, Repair, Request, Salvage, Stat, Trial, Verify}
+use Rattle.bdb_tool.specs.Commands.{any_order_option, any_order_row, as_option, as_row, asking, bounds_request, command_by, command_of, convert_row, dump_row}
+use Rattle.bdb_tool.specs.Commands.{duplicates_option, duplicates_row, dupsort_option, dupsort_row, get_row, key_request, list_row, load_row, onto_option}
+use Rattle.bdb_tool.specs.Commands.{onto_row, order_option, order_row, page_size_option, page_size_row, range_row, repair_row, salvage_row, stat_row}
+use Rattle.bdb_tool.specs.Commands.{text_request, trial_row, verify_row, within}
+use Rattle.bdb_model.specs.Command.{Arguments, Given, OptionRow, arguments, asked_name, hex_option, hex_row, is_given, max_bytes, max_bytes_row, name_option}
+use Rattle.bdb_model.specs.Command.{name_row, only_operands, print_option, print_row, row_of, value_given, with_option}
 use Rattle.bdb_text_format.specs.TextSpelling.{bytes_spelled}
 use Rattle.bdb_tool.specs.declared.options.OptionWord.{OptionWord}
 use Rattle.bdb_tool.specs.declared.options.OptionWord.TheVariants.{MaxBytes as MaxBytesWord, Name as NameWord, Order as OrderWord, PageSize as PageSizeWord}

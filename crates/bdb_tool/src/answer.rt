@@ -2,7 +2,7 @@
 ghost use Rattle.std.specs.Prelude.{◌≡◌, ◌≤◌, ◌^◌, IsTrue, Some, is_some, length};
 ghost use Rattle.bdb_tool.specs.FileAnswers.{sound_answer};
 ghost use Rattle.bdb_model.specs.Change.{change};
-ghost use Rattle.bdb_model.specs.Command.{Request as ModelRequest};
+ghost use Rattle.bdb_tool.specs.Commands.{Request as ModelRequest};
 ghost use Rattle.bdb_file.specs.declared.rows.Rows.TheVariants.{All};
 ghost use Rattle.bdb_tool.specs.Outputs.{asked_answer};
 ghost use Rattle.bdb_tool.specs.Parts.{Finishes, IsTaskAnswered};

@@ -1,11 +1,12 @@
 //! The command that the words of a command line are. Nothing here allocates.
-ghost use Rattle.std.specs.Prelude.{◌≡◌, ◌≢◌, ◌≤◌, ◌^◌, [], ◌∷◌, IfSome, List, MatchOption, Some, drop, false, is_some, length, option_copied, option_map, true, ℕ};
+ghost use Rattle.std.specs.Prelude.{◌≡◌, ◌≢◌, ◌≤◌, ◌^◌, [], ◌∷◌, IfSome, List, MatchOption, Some, drop, false, is_some, length, option_copied, option_map};
+ghost use Rattle.std.specs.Prelude.{true, ℕ};
 ghost use Rattle.bdb_format.specs.Digits.{number_in};
-ghost use Rattle.bdb_model.specs.Answers.{usage};
+ghost use Rattle.bdb_tool.specs.Commands.{Action as ModelAction, Request as ModelRequest, at_most, command_of, command_on, commands, convert_row, dump_row};
+ghost use Rattle.bdb_tool.specs.Commands.{get_row, kind_named, load_row, onto_file, plain_row, range_row, reading_row, repair_row, row_named, rows_by};
+ghost use Rattle.bdb_tool.specs.Commands.{salvage_row, trial_row, usage};
 ghost use Rattle.bdb_model.specs.Change.{change};
-ghost use Rattle.bdb_model.specs.Command.{Request as ModelRequest, asked_name, limit_of};
-ghost use Rattle.bdb_tool.specs.Commands.{Action as ModelAction, at_most, command_of, command_on, commands, convert_row, dump_row, get_row, kind_named, load_row, onto_file};
-ghost use Rattle.bdb_tool.specs.Commands.{plain_row, range_row, reading_row, repair_row, row_named, rows_by, salvage_row, trial_row};
+ghost use Rattle.bdb_model.specs.Command.{asked_name, limit_of};
 ghost use Rattle.bdb_tool.specs.Parts.{Tells};
 ghost use Rattle.bdb_tool.specs.WordsSeen.{AreOnto, IsFitAction, IsFitCommand, IsReadBy, IsSeen, action_seen, reading_seen, row_meant};
 
@@ -205,7 +206,8 @@ pub fn command_of<'w>(words: &'w Words) -> Option<Command<'w>>
     ensures command { MatchOption result (command_of words.now ≡ None) (IsSeen (command_of words.now)) }
     ensures fit { IfSome result IsFitCommand }
 {
-    let word = command_word(words.get(0)?)?;
+    let first = words.get(0)?;
+    let word = command_word(first)?;
     command_by(word, words)
 }
 

@@ -1,8 +1,9 @@
 //! The command that asks for the data of a key.
 ghost use Rattle.std.specs.Prelude.{◌≡◌, [], IsTrue, MatchOption, List, Option, Some, is_some, not, option_copied, ℕ};
-ghost use Rattle.bdb_model.specs.Answers.{data_named, found};
+ghost use Rattle.bdb_tool.specs.FileAnswers.{data_named, found};
 ghost use Rattle.bdb_model.specs.Change.{change};
-ghost use Rattle.bdb_model.specs.Command.{asked_name, key_request};
+ghost use Rattle.bdb_model.specs.Command.{asked_name};
+ghost use Rattle.bdb_tool.specs.Commands.{key_request};
 ghost use Rattle.bdb_format.specs.File.{file_of};
 ghost use Rattle.bdb_text_format.specs.TextSpelling.{bytes_spelled};
 ghost use Rattle.bdb_tool.specs.Parts.{Finishes};
