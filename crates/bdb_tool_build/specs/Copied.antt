@@ -20,6 +20,7 @@ pub record EndsWith (key : Key) (pairs : List TextPair) : Type 0 where
 abbrev pub AreOf : Key → List (ListKey × List ℕ) → Type 0
 AreOf key entries = All (λ (entry : ListKey × List ℕ). list_key entry.0 ≡ key) entries
 
+-- these entries have one key
 pub record HaveOneKey (entries : List (ListKey × List ℕ)) : Type 0 where
   pub key : Key
   pub are : AreOf key entries
