@@ -1,22 +1,9 @@
--- What the words of a command line ask for. Source: README.md, "Use".
-use Rattle.std.specs.Prelude.{ℕ, ◌^◌, nat_le, ◌&&◌, not, if◌then◌else◌, Bool, true, false, List, [], ◌∷◌, drop, take, Option, Some, None, codes}
+-- The words after a command: its options, its operands and their values. Source: README.md, "Use".
+use Rattle.std.specs.Prelude.{ℕ, ◌^◌, nat_le, ◌&&◌, if◌then◌else◌, Bool, true, false, List, [], ◌∷◌, take, Option, Some, None, codes}
 use Rattle.std.specs.List.{list_any}
 use Rattle.std.specs.Str.{bytes_eq}
-use Rattle.bdb_format.specs.declared.kinds.Order.{Order}
 use Rattle.bdb_format.specs.Digits.{number_in}
 use Rattle.bdb_text_format.specs.TextSpelling.{bytes_spelled}
-
--- what is asked of a sound file: of a key the name of its database, where one was given, and whether data are printed; of a
--- dump the name of a database, where not all are asked for, and whether data are printed; of a range a name as of a key, the
--- bounds, and whether keys and data are printed; the same file in a byte order; or what its pages are
-pub data Request : Type 0 where
-  Verify : Request
-  ListAll : Request
-  Get : Option (List ℕ) → List ℕ → Bool → Request
-  Dump : Option (List ℕ) → Bool → Request
-  Range : Option (List ℕ) → List ℕ → List ℕ → Bool → Request
-  Convert : Order → Request
-  Stat : Request
 
 -- Options and operands.
 
@@ -138,41 +125,6 @@ asked_name (Some text) = some_name (bytes_spelled true text)
 abbrev pub operand_spelled : Bool → List (List ℕ) → Option (List ℕ)
 operand_spelled prints [] = None
 operand_spelled prints (operand ∷ operands) = bytes_spelled prints operand
-
--- Commands.
-
--- what is asked of a key, where its name and the key are there
-abbrev pub key_request : Option (Option (List ℕ)) → Option (List ℕ) → Bool → Option Request
-key_request None key prints = None
-key_request (Some name) None prints = None
-key_request (Some name) (Some key) prints = Some (Get name key prints)
-
--- `get` asks its operand, printed or, where that is asked for, spelled by digits
-abbrev pub get_request : Arguments → Option Request
-get_request all =
-    key_request (asked_name (value_given name_option all.given)) (operand_spelled (not (is_given hex_option all.given)) all.operands)
-    (is_given print_option all.given)
-
--- `dump` asks one database by its name, or all
-abbrev pub text_request : Option (Option (List ℕ)) → Bool → Option Request
-text_request None prints = None
-text_request (Some name) prints = Some (Dump name prints)
-
-abbrev pub dump_request : Arguments → Option Request
-dump_request all = text_request (asked_name (value_given name_option all.given)) (is_given print_option all.given)
-
--- what is asked of a range, where its name and its bounds are there
-abbrev pub bounds_request : Option (Option (List ℕ)) → Option (List ℕ) → Option (List ℕ) → Bool → Option Request
-bounds_request None from to prints = None
-bounds_request (Some name) None to prints = None
-bounds_request (Some name) (Some from) None prints = None
-bounds_request (Some name) (Some from) (Some to) prints = Some (Range name from to prints)
-
--- `range` asks what lies between its two operands, which are spelled as that of `get`
-abbrev pub range_request : Arguments → Option Request
-range_request all =
-    bounds_request (asked_name (value_given name_option all.given)) (operand_spelled (not (is_given hex_option all.given)) all.operands)
-    (operand_spelled (not (is_given hex_option all.given)) (drop 1 all.operands)) (is_given print_option all.given)
 
 -- the options that commands have
 

@@ -8,11 +8,12 @@ use Rattle.bdb_format.specs.declared.kinds.Verdict.{Verdict}
 use Rattle.bdb_format.specs.declared.kinds.Verdict.TheVariants.{Fault, Unsupported, Memory as MemoryVerdict}
 use Rattle.bdb_text_format.specs.LineEnd.{line}
 use Rattle.bdb_text_format.specs.Written.{database_text, dump_text, is_btree}
-use Rattle.bdb_model.specs.Answers.{Answer, done, data_at, data_named, data_of_database, fault_line, found, not_found, told, unsupported_line, not_btree}
-use Rattle.bdb_model.specs.Answers.{pairs_text, value_line, values_text, database_in, dumped, section_answer}
-use Rattle.bdb_tool.specs.FileAnswers.{converted, judged_answer, range_answer, ranged, sound_answer}
+use Rattle.bdb_model.specs.Answers.{Answer, done, fault_line, pairs_text, told, unsupported_line, value_line, values_text}
+use Rattle.bdb_tool.specs.FileAnswers.{converted, data_at, data_named, data_of_database, database_in, dumped, found, judged_answer, not_btree, not_found}
+use Rattle.bdb_tool.specs.FileAnswers.{range_answer, ranged, section_answer, sound_answer}
 use Rattle.bdb_model.specs.Change.{Change}
-use Rattle.bdb_model.specs.Command.{Request, Verify, ListAll, Get, Dump, Range, Convert, Stat, asked_name, bounds_request, key_request}
+use Rattle.bdb_tool.specs.Commands.{Request, Verify, Get, Dump, Range, Convert, bounds_request, key_request}
+use Rattle.bdb_model.specs.Command.{asked_name}
 use Rattle.bdb_format.specs.Databases.{Database, data_under, databases, place_of}
 use Rattle.bdb_format.specs.File.{File, file_of}
 use Rattle.bdb_format.specs.Flags.{kind_of}
@@ -33,7 +34,7 @@ use Rattle.bdb_text_format.specs.TextSpelling.{bytes_spelled}
 use Rattle.bdb_tool.specs.Outputs.{asked_answer, salvage_answer, salvaged_answer}
 use Rattle.bdb_tool.specs.WordsSeen.{request_seen}
 use Rattle.bdb_tool.specs.declared.command.Request.{Request as CodeRequest}
-use Rattle.bdb_tool.specs.declared.command.Request.TheVariants.{Get as GetWord, Range as RangeWord, Convert as ConvertWord, Stat as StatWord}
+use Rattle.bdb_tool.specs.declared.command.Request.TheVariants.{Get as GetWord, Range as RangeWord}
 use Rattle.bdb_tool.specs.Parts.{Answered, Ends, Finishes, HasOwnStatus, IsRefusalTold, IsRefused, Reports, Tells, Unanswered}
 use Rattle.bdb_format.specs.declared.kinds.Kind.{Kind}
 use Rattle.bdb_format.proofs.KnownLemmas.{keeps_itself}
@@ -112,13 +113,11 @@ converted_own None order image = low_own (converted None order image) (omega ari
 converted_own (Some page) order image = record { no_read_fault = λ is. omega arith; no_write_fault = λ is. omega arith; no_memory = λ is. omega arith }
 
 sound_own : (request : Request) (image : List ℕ) → HasOwnStatus (sound_answer request image)
-sound_own Verify image = low_own (sound_answer Verify image) (omega arith)
-sound_own ListAll image = low_own (sound_answer ListAll image) (omega arith)
 sound_own (Get name key prints) image = found_own prints (data_named (file_of image) name key)
 sound_own (Dump name prints) image = dumped_own prints image name
 sound_own (Range name from to prints) image = ranged_own prints (file_of image) name from to
 sound_own (Convert order) image = converted_own (overlap_in order image) order image
-sound_own Stat image = low_own (sound_answer Stat image) (omega arith)
+sound_own request image = low_own (sound_answer request image) (omega arith)
 
 pub judged_own : (verdict : Option Judgement) (request : Request) (image : List ℕ) → HasOwnStatus (judged_answer verdict request image)
 judged_own None request image = sound_own request image
@@ -204,8 +203,7 @@ not_verify : (request : CodeRequest) → request_seen request ≡ Some Verify �
 not_verify (GetWord it) is = not_verify_key (asked_name (option_copied it.name)) (bytes_spelled (not it.hex) it.key.now) it.print is
 not_verify (RangeWord it) is =
     not_verify_bounds (asked_name (option_copied it.name)) (bytes_spelled (not it.hex) it.from.now) (bytes_spelled (not it.hex) it.to.now) it.print is
-not_verify (ConvertWord order) is = cc
-not_verify StatWord is = cc
+not_verify request is = cc
 
 by_all : (asked : Request) (image : List ℕ) (out err : Change) (status : ℕ) → Finishes (judged_answer (verdict_of image) asked image) out err status
     → Finishes (judged_answer (verdict_by All image) asked image) out err status
@@ -216,21 +214,7 @@ by_all asked image out err status finishes =
 pub asked_finishes : (request : CodeRequest) (asked : Request) (image : List ℕ) (out err : Change) (status : ℕ) → request_seen request ≡ Some asked
     → Finishes (judged_answer (verdict_of image) asked image) out err status → Finishes (asked_answer All asked image) out err status
 asked_finishes request Verify image out err status is finishes = absurd (not_verify request is)
-asked_finishes request ListAll image out err status is finishes = by_all ListAll image out err status finishes
-asked_finishes request (Get name key prints) image out err status is finishes = by_all (Get name key prints) image out err status finishes
-asked_finishes request (Dump name prints) image out err status is finishes = by_all (Dump name prints) image out err status finishes
-asked_finishes request (Range name from to prints) image out err status is finishes = by_all (Range name from to prints) image out err status finishes
-asked_finishes request (Convert order) image out err status is finishes = by_all (Convert order) image out err status finishes
-asked_finishes request Stat image out err status is finishes = by_all Stat image out err status finishes
-
--- A sound file.
-
--- what is asked is seen as it is
-pub request_finishes : (seen request : Request) (image : List ℕ) (out err : Change) (status : ℕ) → Some seen ≡ Some request
-    → Finishes (sound_answer seen image) out err status
-    → Finishes (sound_answer request image) out err status
-request_finishes seen request image out err status is finishes =
-    let same : seen ≡ request = cc in subst (λ it. Finishes (sound_answer it image) out err status) same finishes
+asked_finishes request asked image out err status is finishes = by_all asked image out err status finishes
 
 -- `get`.
 

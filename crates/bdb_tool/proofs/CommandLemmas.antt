@@ -1,12 +1,11 @@
 -- Operands, and the first word.
 use Rattle.std.proofs.Common.{◌≡◌, ◌≢◌, ℕ, ◌+◌, ◌<◌, ◌≤◌, ◌==◌, ne_eqb, true, false, List, [], ◌∷◌, length, drop, length-drop, refl, sym, ◌∙◌, ap, arith}
-use Rattle.std.specs.Prelude.{Some, None, codes, slice_get}
-use Rattle.std.specs.Str.{bytes_eq}
+use Rattle.std.specs.Prelude.{Option, Some, None, slice_get}
 use Rattle.std.proofs.lemmas.List.{drop_all}
 use Rattle.std.proofs.lemmas.Option.{slice_get_within}
-use Rattle.bdb_model.specs.Command.{Arguments, Given, Request, arguments, limit_of, max_bytes, once, value_given}
-use Rattle.bdb_tool.specs.Commands.{command_of, command_with, convert_row, dump_row, get_row, list_row, load_row, range_row, reading_row, repair_row}
-use Rattle.bdb_tool.specs.Commands.{salvage_row, stat_row, trial_action, trial_row, verify_row, within}
+use Rattle.bdb_model.specs.Command.{Arguments, Given, limit_of, max_bytes, value_given}
+use Rattle.bdb_tool.specs.Commands.{CommandRow, command_in, command_of, command_with, commands, convert_row, get_row, row_named, trial_action, trial_row}
+use Rattle.bdb_tool.specs.Commands.{within}
 use Rattle.bdb_tool.proofs.StepLemmas.{from_place, past_place}
 
 -- Operands.
@@ -45,30 +44,11 @@ convert_without given (order ∷ []) other = absurd (other order refl)
 convert_without given (order ∷ second ∷ operands) other =
     let many : (length (order ∷ second ∷ operands) == 1) ≡ false = ne_eqb _ _ (λ one. omega arith) in rw many refl
 
-pub reading_with : (word : List ℕ) (asked : Request) (given : List Given) (words : List (List ℕ)) (place : ℕ) → place < length words
-    → command_with (reading_row word asked) (Some (given_with given (drop place words))) ≡ None
-reading_with word asked given words place within =
-    let some : (length (drop place words) == 0) ≡ false = ne_eqb _ _ (λ none. omega (arith, length-drop place words)) in rw some refl
-
-pub dump_with : (given : List Given) (words : List (List ℕ)) (place : ℕ) → place < length words
-    → command_with dump_row (Some (given_with given (drop place words))) ≡ None
-dump_with given words place within =
-    let some : (length (drop place words) == 0) ≡ false = ne_eqb _ _ (λ none. omega (arith, length-drop place words)) in rw some refl
-
-pub load_with : (given : List Given) (words : List (List ℕ)) (place : ℕ) → place < length words
-    → command_with load_row (Some (given_with given (drop place words))) ≡ None
-load_with given words place within =
-    let some : (length (drop place words) == 0) ≡ false = ne_eqb _ _ (λ none. omega (arith, length-drop place words)) in rw some refl
-
-pub salvage_with : (given : List Given) (words : List (List ℕ)) (place : ℕ) → place < length words
-    → command_with salvage_row (Some (given_with given (drop place words))) ≡ None
-salvage_with given words place within =
-    let some : (length (drop place words) == 0) ≡ false = ne_eqb _ _ (λ none. omega (arith, length-drop place words)) in rw some refl
-
-pub repair_with : (given : List Given) (words : List (List ℕ)) (place : ℕ) → place < length words
-    → command_with repair_row (Some (given_with given (drop place words))) ≡ None
-repair_with given words place within =
-    let some : (length (drop place words) == 0) ≡ false = ne_eqb _ _ (λ none. omega (arith, length-drop place words)) in rw some refl
+-- a command without operands has none
+pub with_operands : (row : CommandRow) (given : List Given) (words : List (List ℕ)) (place : ℕ) → row.operands ≡ 0 → place < length words
+    → command_with row (Some (given_with given (drop place words))) ≡ None
+with_operands row given words place none within =
+    let some : (length (drop place words) == row.operands) ≡ false = ne_eqb _ _ (λ is. omega (arith, length-drop place words, is, none)) in rw some refl
 
 pub three : (given : List Given) (kind seed count : List ℕ) → command_with trial_row (Some (given_with given (kind ∷ seed ∷ count ∷ [])))
     ≡ within (limit_of (value_given max_bytes given)) (trial_action (kind ∷ seed ∷ count ∷ []))
@@ -121,106 +101,8 @@ unfolding command_of
 no_word [] none = refl
 no_word (word ∷ words) none = cc
 
-pub verify_word : (words : List (List ℕ)) (word : List ℕ) → Some word ≡ slice_get words 0 → bytes_eq word (codes "verify") ≡ true
-    → command_of words ≡ command_with verify_row (once (arguments verify_row.options (drop 1 words)))
+pub of_word : (words : List (List ℕ)) (word : List ℕ) (row : Option CommandRow) → Some word ≡ slice_get words 0 → row ≡ row_named word commands
+    → command_of words ≡ command_in row (drop 1 words)
 unfolding command_of
-verify_word [] word there is = cc
-verify_word (first ∷ words) word there is = let same : first ≡ word = cc in rw (same, is) refl
-
-pub list_word : (words : List (List ℕ)) (word : List ℕ) → Some word ≡ slice_get words 0 → bytes_eq word (codes "verify") ≡ false → bytes_eq word (codes "list")
-    ≡ true → command_of words ≡ command_with list_row (once (arguments list_row.options (drop 1 words)))
-unfolding command_of
-list_word [] word there no_verify is = cc
-list_word (first ∷ words) word there no_verify is = let same : first ≡ word = cc in rw (same, no_verify, is) refl
-
-pub get_word : (words : List (List ℕ)) (word : List ℕ) → Some word ≡ slice_get words 0 → bytes_eq word (codes "verify") ≡ false → bytes_eq word (codes "list")
-    ≡ false → bytes_eq word (codes "get") ≡ true → command_of words ≡ command_with get_row (once (arguments get_row.options (drop 1 words)))
-unfolding command_of
-get_word [] word there no_verify no_list is = cc
-get_word (first ∷ words) word there no_verify no_list is = let same : first ≡ word = cc in rw (same, no_verify, no_list, is) refl
-
-pub dump_word : (words : List (List ℕ)) (word : List ℕ) → Some word ≡ slice_get words 0 → bytes_eq word (codes "verify") ≡ false → bytes_eq word (codes "list")
-    ≡ false → bytes_eq word (codes "get") ≡ false → bytes_eq word (codes "dump") ≡ true
-    → command_of words ≡ command_with dump_row (once (arguments dump_row.options (drop 1 words)))
-unfolding command_of
-dump_word [] word there no_verify no_list no_get is = cc
-dump_word (first ∷ words) word there no_verify no_list no_get is = let same : first ≡ word = cc in rw (same, no_verify, no_list, no_get, is) refl
-
-pub load_word : (words : List (List ℕ)) (word : List ℕ) → Some word ≡ slice_get words 0 → bytes_eq word (codes "verify") ≡ false → bytes_eq word (codes "list")
-    ≡ false → bytes_eq word (codes "get") ≡ false → bytes_eq word (codes "dump") ≡ false → bytes_eq word (codes "load") ≡ true
-    → command_of words ≡ command_with load_row (once (arguments load_row.options (drop 1 words)))
-unfolding command_of
-load_word [] word there no_verify no_list no_get no_dump is = cc
-load_word (first ∷ words) word there no_verify no_list no_get no_dump is = let same : first ≡ word = cc in rw (same, no_verify, no_list, no_get, no_dump, is)
-    refl
-
-pub salvage_word : (words : List (List ℕ)) (word : List ℕ) → Some word ≡ slice_get words 0 → bytes_eq word (codes "verify") ≡ false
-    → bytes_eq word (codes "list") ≡ false → bytes_eq word (codes "get") ≡ false → bytes_eq word (codes "dump") ≡ false → bytes_eq word (codes "load") ≡ false
-    → bytes_eq word (codes "salvage") ≡ true → command_of words ≡ command_with salvage_row (once (arguments salvage_row.options (drop 1 words)))
-unfolding command_of
-salvage_word [] word there no_verify no_list no_get no_dump no_load is = cc
-salvage_word (first ∷ words) word there no_verify no_list no_get no_dump no_load is = let same : first
-    ≡ word = cc in rw (same, no_verify, no_list, no_get, no_dump, no_load, is) refl
-
-pub trial_word : (words : List (List ℕ)) (word : List ℕ) → Some word ≡ slice_get words 0 → bytes_eq word (codes "verify") ≡ false → bytes_eq word (codes "list")
-    ≡ false → bytes_eq word (codes "get") ≡ false → bytes_eq word (codes "dump") ≡ false → bytes_eq word (codes "load") ≡ false
-    → bytes_eq word (codes "salvage") ≡ false → bytes_eq word (codes "trial") ≡ true
-    → command_of words ≡ command_with trial_row (once (arguments trial_row.options (drop 1 words)))
-unfolding command_of
-trial_word [] word there no_verify no_list no_get no_dump no_load no_salvage is = cc
-trial_word (first ∷ words) word there no_verify no_list no_get no_dump no_load no_salvage is = let same : first
-    ≡ word = cc in rw (same, no_verify, no_list, no_get, no_dump, no_load, no_salvage, is) refl
-
-pub range_word : (words : List (List ℕ)) (word : List ℕ) → Some word ≡ slice_get words 0 → bytes_eq word (codes "verify") ≡ false → bytes_eq word (codes "list")
-    ≡ false → bytes_eq word (codes "get") ≡ false → bytes_eq word (codes "dump") ≡ false → bytes_eq word (codes "load") ≡ false
-    → bytes_eq word (codes "salvage") ≡ false → bytes_eq word (codes "trial") ≡ false → bytes_eq word (codes "range") ≡ true
-    → command_of words ≡ command_with range_row (once (arguments range_row.options (drop 1 words)))
-unfolding command_of
-range_word [] word there no_verify no_list no_get no_dump no_load no_salvage no_trial is = cc
-range_word (first ∷ words) word there no_verify no_list no_get no_dump no_load no_salvage no_trial is =
-    let same : first ≡ word = cc in rw (same, no_verify, no_list, no_get, no_dump, no_load, no_salvage, no_trial, is) refl
-
-pub convert_word : (words : List (List ℕ)) (word : List ℕ) → Some word ≡ slice_get words 0 → bytes_eq word (codes "verify") ≡ false
-    → bytes_eq word (codes "list") ≡ false
-    → bytes_eq word (codes "get") ≡ false → bytes_eq word (codes "dump") ≡ false → bytes_eq word (codes "load") ≡ false → bytes_eq word (codes "salvage")
-    ≡ false
-    → bytes_eq word (codes "trial") ≡ false → bytes_eq word (codes "range") ≡ false → bytes_eq word (codes "convert") ≡ true
-    → command_of words ≡ command_with convert_row (once (arguments convert_row.options (drop 1 words)))
-unfolding command_of
-convert_word [] word there no_verify no_list no_get no_dump no_load no_salvage no_trial no_range is = cc
-convert_word (first ∷ words) word there no_verify no_list no_get no_dump no_load no_salvage no_trial no_range is =
-    let same : first ≡ word = cc in rw (same, no_verify, no_list, no_get, no_dump, no_load, no_salvage, no_trial, no_range, is) refl
-
-pub stat_word : (words : List (List ℕ)) (word : List ℕ) → Some word ≡ slice_get words 0 → bytes_eq word (codes "verify") ≡ false → bytes_eq word (codes "list")
-    ≡ false
-    → bytes_eq word (codes "get") ≡ false → bytes_eq word (codes "dump") ≡ false → bytes_eq word (codes "load") ≡ false → bytes_eq word (codes "salvage")
-    ≡ false
-    → bytes_eq word (codes "trial") ≡ false → bytes_eq word (codes "range") ≡ false → bytes_eq word (codes "convert") ≡ false → bytes_eq word (codes "stat")
-    ≡ true
-    → command_of words ≡ command_with stat_row (once (arguments stat_row.options (drop 1 words)))
-unfolding command_of
-stat_word [] word there no_verify no_list no_get no_dump no_load no_salvage no_trial no_range no_convert is = cc
-stat_word (first ∷ words) word there no_verify no_list no_get no_dump no_load no_salvage no_trial no_range no_convert is =
-    let same : first ≡ word = cc in rw (same, no_verify, no_list, no_get, no_dump, no_load, no_salvage, no_trial, no_range, no_convert, is) refl
-
-pub repair_word : (words : List (List ℕ)) (word : List ℕ) → Some word ≡ slice_get words 0 → bytes_eq word (codes "verify") ≡ false
-    → bytes_eq word (codes "list") ≡ false → bytes_eq word (codes "get") ≡ false → bytes_eq word (codes "dump") ≡ false
-    → bytes_eq word (codes "load") ≡ false → bytes_eq word (codes "salvage") ≡ false → bytes_eq word (codes "trial") ≡ false
-    → bytes_eq word (codes "range") ≡ false → bytes_eq word (codes "convert") ≡ false → bytes_eq word (codes "stat") ≡ false
-    → bytes_eq word (codes "repair") ≡ true
-    → command_of words ≡ command_with repair_row (once (arguments repair_row.options (drop 1 words)))
-unfolding command_of
-repair_word [] word there no_verify no_list no_get no_dump no_load no_salvage no_trial no_range no_convert no_stat is = cc
-repair_word (first ∷ words) word there no_verify no_list no_get no_dump no_load no_salvage no_trial no_range no_convert no_stat is =
-    let same : first ≡ word = cc in rw (same, no_verify, no_list, no_get, no_dump, no_load, no_salvage, no_trial, no_range, no_convert, no_stat, is) refl
-
-pub other_word : (words : List (List ℕ)) (word : List ℕ) → Some word ≡ slice_get words 0 → bytes_eq word (codes "verify") ≡ false
-    → bytes_eq word (codes "list") ≡ false → bytes_eq word (codes "get") ≡ false → bytes_eq word (codes "dump") ≡ false
-    → bytes_eq word (codes "load") ≡ false → bytes_eq word (codes "salvage") ≡ false → bytes_eq word (codes "trial") ≡ false
-    → bytes_eq word (codes "range") ≡ false → bytes_eq word (codes "convert") ≡ false → bytes_eq word (codes "stat") ≡ false → bytes_eq word (codes "repair")
-    ≡ false
-    → command_of words ≡ None
-unfolding command_of
-other_word [] word there no_verify no_list no_get no_dump no_load no_salvage no_trial no_range no_convert no_stat no_repair = cc
-other_word (first ∷ words) word there no_verify no_list no_get no_dump no_load no_salvage no_trial no_range no_convert no_stat no_repair =
-    let same : first ≡ word = cc in rw (same, no_verify, no_list, no_get, no_dump, no_load, no_salvage, no_trial, no_range, no_convert, no_stat, no_repair) refl
+of_word [] word row there is = cc
+of_word (first ∷ words) word row there is = let same : first ≡ word = cc in rw (same, is) refl

@@ -5,8 +5,8 @@ use Rattle.bdb_format.specs.declared.kinds.Order.{Order}
 use Rattle.bdb_tool_lines.specs.declared.cut.Cut.{Cut}
 use Rattle.bdb_tool_lines.specs.Printing.{Writes}
 use Rattle.bdb_tool_lines.proofs.PrintingLemmas.{moved}
-use Rattle.bdb_model.specs.Answers.{done, overlap_line}
-use Rattle.bdb_tool.specs.FileAnswers.{converted}
+use Rattle.bdb_model.specs.Answers.{done}
+use Rattle.bdb_tool.specs.FileAnswers.{converted, overlap_line}
 use Rattle.bdb_model.specs.Change.{Change}
 use Rattle.bdb_turned.specs.Flipped.{flip_of, overlap_in}
 use Rattle.bdb_model.specs.Lines.{memory_line}

@@ -12,8 +12,8 @@ use Rattle.bdb_file.specs.Named.{database_at, no_database}
 use Rattle.bdb_tool_lines.specs.declared.cut.Cut.{Cut}
 use Rattle.bdb_tool_lines.specs.Printing.{Writes}
 use Rattle.bdb_tool_lines.proofs.PrintingLemmas.{moved}
-use Rattle.bdb_model.specs.Answers.{database_in, done, not_btree, not_found, pairs_text}
-use Rattle.bdb_tool.specs.FileAnswers.{range_answer, ranged}
+use Rattle.bdb_tool.specs.FileAnswers.{database_in, not_btree, not_found, range_answer, ranged}
+use Rattle.bdb_model.specs.Answers.{done, pairs_text}
 use Rattle.bdb_model.specs.Change.{Change}
 use Rattle.bdb_range.specs.Ranges.{in_range}
 use Rattle.bdb_text_format.specs.Written.{is_btree}

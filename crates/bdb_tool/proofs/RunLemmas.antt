@@ -4,7 +4,8 @@ use Rattle.std.proofs.Common.{length-append, append-nil}
 use Rattle.std.specs.Prelude.{Option, Some, None, nat_lt}
 use Rattle.std.specs.Io.KnownBytes.{Consumes, IsAtEnd}
 use Rattle.std.proofs.lemmas.Bool.{le-ltb, lt-ltb}
-use Rattle.bdb_model.specs.Answers.{Answer, told, too_large_line, usage}
+use Rattle.bdb_model.specs.Answers.{Answer, told, too_large_line}
+use Rattle.bdb_tool.specs.Commands.{Ask, Command, Load, command_on, reads_input, usage}
 use Rattle.bdb_model.specs.Change.{Change, GainsPart, HasFailed, IsUncalled, Stays}
 use Rattle.bdb_file.specs.declared.rows.Rows.TheVariants.{All}
 use Rattle.bdb_format.specs.Faults.{Rose, Took}
@@ -12,7 +13,6 @@ use Rattle.bdb_model.specs.Lines.{memory_line, read_fault_line, write_fault_line
 use Rattle.bdb_format.proofs.KnownLemmas.{keeps_itself}
 use Rattle.bdb_tool_build.specs.Loads.{IsTextAnswer}
 use Rattle.bdb_tool_build.specs.Trials.{IsTrialAnswer}
-use Rattle.bdb_tool.specs.Commands.{Ask, Command, Load, command_on, reads_input}
 use Rattle.bdb_tool.specs.Outputs.{AnswersInPart, Asked, IsActionAnswer, IsAnswerBySize, IsAnswerTo, IsCommandAnswer, IsInput, IsRepairAnswer, Output, StatusIs}
 use Rattle.bdb_tool.specs.Outputs.{asked_alone, asked_answer, salvage_answer}
 use Rattle.bdb_tool.specs.Parts.{Answered, Ends, Finishes, IsTaskAnswered, IsToldStop, Tells, Unanswered}

@@ -2,11 +2,10 @@
 use Rattle.std.proofs.Common.{◌≡◌, ℕ, ◌+◌, false, true, List, refl, subst, sym, ◌∙◌, ap}
 use Rattle.std.specs.Prelude.{Option, Some, None, IsTrue, is_some}
 use Rattle.bdb_model.specs.Change.{Change}
-use Rattle.bdb_model.specs.Command.{Request}
+use Rattle.bdb_tool.specs.Commands.{Action, Ask, Command, Load, LoadOnto, Request, asking, handed, reads_input, within}
 use Rattle.bdb_file.specs.declared.rows.Rows.{Rows}
 use Rattle.bdb_file.specs.declared.rows.Rows.TheVariants.{All}
 use Rattle.bdb_format.specs.Faults.{Took}
-use Rattle.bdb_tool.specs.Commands.{Action, Ask, Load, LoadOnto, Command, asking, handed, reads_input, within}
 use Rattle.bdb_tool.specs.declared.command.Action.TheVariants.{Ask as AskWord, Read as ReadWord, Load as LoadWord, Salvage as SalvageWord, Repair as RepairWord}
 use Rattle.bdb_tool.specs.declared.command.Action.TheVariants.{Trial as TrialWord}
 use Rattle.bdb_tool.specs.declared.command.Reading.{Reading}

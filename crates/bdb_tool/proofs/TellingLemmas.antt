@@ -13,7 +13,7 @@ use Rattle.bdb_tool_lines.specs.declared.cut.Cut.{Cut}
 use Rattle.bdb_tool_lines.specs.declared.cut.Cut.TheVariants.{WriteFault}
 use Rattle.bdb_tool_lines.proofs.PrintingLemmas.{moved}
 use Rattle.bdb_model.specs.Change.{Change}
-use Rattle.bdb_model.specs.Command.{Convert, Dump, Get, ListAll, Range, Request, Stat, Verify}
+use Rattle.bdb_tool.specs.Commands.{Request, Verify}
 use Rattle.bdb_model.specs.Lines.{memory_line}
 use Rattle.bdb_format.specs.Verdict.{Faulty, Judgement, LeftOut, judgement_of}
 use Rattle.bdb_tool.specs.Outputs.{asked_answer, first_status, verified}
@@ -75,12 +75,7 @@ verified_own (fault ∷ faults) image = low_own (verified (fault ∷ faults) ima
 
 pub asked_own : (rows : Rows) (request : Request) (image : List ℕ) → HasOwnStatus (asked_answer rows request image)
 asked_own rows Verify image = verified_own (faults_by_rows rows image) image
-asked_own rows ListAll image = judged_own (verdict_by rows image) ListAll image
-asked_own rows (Get name key prints) image = judged_own (verdict_by rows image) (Get name key prints) image
-asked_own rows (Dump name prints) image = judged_own (verdict_by rows image) (Dump name prints) image
-asked_own rows (Range name from to prints) image = judged_own (verdict_by rows image) (Range name from to prints) image
-asked_own rows (Convert order) image = judged_own (verdict_by rows image) (Convert order) image
-asked_own rows Stat image = judged_own (verdict_by rows image) Stat image
+asked_own rows request image = judged_own (verdict_by rows image) request image
 
 -- a file without faults
 pub sound_verified : (faults : List Fault) (file image : List ℕ) (out err : Change) (status : ℕ) → faults ≡ [] → file ≡ image

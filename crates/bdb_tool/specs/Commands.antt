@@ -1,5 +1,6 @@
 -- The commands, and what each does. Source: README.md, "Use".
-use Rattle.std.specs.Prelude.{ℕ, nat_le, ◌==◌, ◌&&◌, not, if◌then◌else◌, Bool, true, false, List, [], ◌∷◌, length, Option, Some, None, codes}
+use Rattle.std.specs.Prelude.{ℕ, nat_le, ◌==◌, ◌&&◌, not, if◌then◌else◌, Bool, true, false, List, [], ◌∷◌, drop, length, Option, Some, None, codes}
+use Rattle.std.specs.List.{find}
 use Rattle.std.specs.Str.{bytes_eq}
 use Rattle.bdb_file.specs.declared.rows.Rows.{Rows}
 use Rattle.bdb_file.specs.declared.rows.Rows.TheVariants.{All, AnyOrder}
@@ -8,13 +9,27 @@ use Rattle.bdb_format.specs.declared.kinds.Kind.TheVariants.{Btree, Recno, Hash,
 use Rattle.bdb_format.specs.declared.kinds.Order.{Order}
 use Rattle.bdb_format.specs.declared.kinds.Order.TheVariants.{Big, Little}
 use Rattle.bdb_format.specs.Digits.{number_in}
-use Rattle.bdb_model.specs.Command.{Arguments, Given, OptionRow, Request, Verify, ListAll, Convert, Stat, arguments, dump_request, get_request, hex_row}
-use Rattle.bdb_model.specs.Command.{is_given, limit_of, max_bytes, max_bytes_row, name_row, once, print_option, print_row, range_request, value_given}
+use Rattle.bdb_model.specs.Answers.{Answer, told}
+use Rattle.bdb_model.specs.Command.{Arguments, Given, OptionRow, arguments, asked_name, hex_option, hex_row, is_given, limit_of, max_bytes, max_bytes_row}
+use Rattle.bdb_model.specs.Command.{name_option, name_row, once, operand_spelled, print_option, print_row, value_given}
 use Rattle.bdb_repair.specs.declared.shape.Duplicates.{Duplicates}
 use Rattle.bdb_repair.specs.declared.shape.Duplicates.TheVariants.{No, Unsorted, Sorted}
 use Rattle.bdb_repair.specs.declared.shape.Shape.{Shape}
 use Rattle.bdb_repair.specs.declared.shape.Shape.TheVariants.{Btree as BtreeShape, Hash as HashShape, Recno as RecnoShape}
 use Rattle.bdb_survey.specs.declared.guess.Guess.{Guess}
+use Rattle.bdb_text_format.specs.LineEnd.{line}
+
+-- what is asked of a sound file: of a key the name of its database, where one was given, and whether data are printed; of a
+-- dump the name of a database, where not all are asked for, and whether data are printed; of a range a name as of a key, the
+-- bounds, and whether keys and data are printed; the same file in a byte order; or what its pages are
+pub data Request : Type 0 where
+  Verify : Request
+  ListAll : Request
+  Get : Option (List ℕ) → List ℕ → Bool → Request
+  Dump : Option (List ℕ) → Bool → Request
+  Range : Option (List ℕ) → List ℕ → List ℕ → Bool → Request
+  Convert : Order → Request
+  Stat : Request
 
 -- what a command does: it asks something of a file by the rows that count, loads a text, or loads it onto the file of this word, salvages an image by the
 -- guess that is given and prints the data or spells them by digits, repairs an image by the guess that is given, into one database of a shape where one is
@@ -49,6 +64,41 @@ reads_base (LoadOnto file) = true
 reads_base (Salvage guess print) = false
 reads_base (Repair shape guess) = false
 reads_base (Trial kind seed count) = false
+
+-- What `get`, `dump` and `range` ask.
+
+-- what is asked of a key, where its name and the key are there
+abbrev pub key_request : Option (Option (List ℕ)) → Option (List ℕ) → Bool → Option Request
+key_request None key prints = None
+key_request (Some name) None prints = None
+key_request (Some name) (Some key) prints = Some (Get name key prints)
+
+-- `get` asks its operand, printed or, where that is asked for, spelled by digits
+abbrev pub get_request : Arguments → Option Request
+get_request all =
+    key_request (asked_name (value_given name_option all.given)) (operand_spelled (not (is_given hex_option all.given)) all.operands)
+    (is_given print_option all.given)
+
+-- `dump` asks one database by its name, or all
+abbrev pub text_request : Option (Option (List ℕ)) → Bool → Option Request
+text_request None prints = None
+text_request (Some name) prints = Some (Dump name prints)
+
+abbrev pub dump_request : Arguments → Option Request
+dump_request all = text_request (asked_name (value_given name_option all.given)) (is_given print_option all.given)
+
+-- what is asked of a range, where its name and its bounds are there
+abbrev pub bounds_request : Option (Option (List ℕ)) → Option (List ℕ) → Option (List ℕ) → Bool → Option Request
+bounds_request None from to prints = None
+bounds_request (Some name) None to prints = None
+bounds_request (Some name) (Some from) None prints = None
+bounds_request (Some name) (Some from) (Some to) prints = Some (Range name from to prints)
+
+-- `range` asks what lies between its two operands, which are spelled as that of `get`
+abbrev pub range_request : Arguments → Option Request
+range_request all =
+    bounds_request (asked_name (value_given name_option all.given)) (operand_spelled (not (is_given hex_option all.given)) all.operands)
+    (operand_spelled (not (is_given hex_option all.given)) (drop 1 all.operands)) (is_given print_option all.given)
 
 abbrev pub asking : Rows → Option Request → Option Action
 asking rows None = None
@@ -305,6 +355,10 @@ repair_row = record {
 abbrev pub commands : List CommandRow
 commands = verify_row ∷ list_row ∷ get_row ∷ dump_row ∷ load_row ∷ salvage_row ∷ trial_row ∷ range_row ∷ convert_row ∷ stat_row ∷ repair_row ∷ []
 
+-- words that are none of these
+abbrev pub usage : Answer
+usage = told 2 (line (codes "usage: bdbtool verify, list, get, dump, load, salvage, trial, range, convert, stat or repair"))
+
 abbrev pub within : Option ℕ → Option Action → Option Command
 within None action = None
 within (Some limit) None = None
@@ -315,15 +369,22 @@ abbrev pub command_with : CommandRow → Option Arguments → Option Command
 command_with row None = None
 command_with row (Some all) = if length all.operands == row.operands then within (limit_of (value_given max_bytes all.given)) (row.does all) else None
 
--- the command of a table that the first word names
-abbrev pub command_in : List CommandRow → List ℕ → List (List ℕ) → Option Command
-command_in [] word words = None
-command_in (row ∷ rows) word words = if bytes_eq word row.word then command_with row (once (arguments row.options words)) else command_in rows word words
+-- the command of a row, by the words after its own
+abbrev pub command_by : CommandRow → List (List ℕ) → Option Command
+command_by row words = command_with row (once (arguments row.options words))
+
+-- the row of this word
+abbrev pub row_named : List ℕ → List CommandRow → Option CommandRow
+row_named word rows = find (λ (row : CommandRow). bytes_eq word row.word) rows
+
+abbrev pub command_in : Option CommandRow → List (List ℕ) → Option Command
+command_in None words = None
+command_in (Some row) words = command_by row words
 
 -- the command that the words are, unless they are none
 unfoldable pub command_of : List (List ℕ) → Option Command
 command_of [] = None
-command_of (word ∷ words) = command_in commands word words
+command_of (word ∷ words) = command_in (row_named word commands) words
 
 -- a command, where a base is handed in or not: one that reads a base is none without it
 abbrev pub handed : Bool → Option Command → Option Command

@@ -1,24 +1,66 @@
 -- What is answered over a file, by its verdict and what is asked. Source: README.md, "Use".
-use Rattle.std.specs.Prelude.{ℕ, ◌++◌, if◌then◌else◌, Bool, List, Option, Some, None, codes, decimal}
+use Rattle.std.specs.Prelude.{ℕ, ◌++◌, if◌then◌else◌, Bool, List, [], ◌∷◌, Option, Some, None, codes, decimal, slice_get}
 use Rattle.bdb_format.specs.declared.kinds.Order.{Order}
-use Rattle.bdb_format.specs.Databases.{Database, databases, place_of}
+use Rattle.bdb_format.specs.Databases.{Database, data_under, databases, place_of}
 use Rattle.bdb_format.specs.File.{File, file_of}
 use Rattle.bdb_format.specs.Flags.{kind_of}
 use Rattle.bdb_format.specs.HeadOf.{head_of}
 use Rattle.bdb_format.specs.Lists.{list_of}
 use Rattle.bdb_format.specs.Verdict.{Faulty, Judgement, LeftOut}
 use Rattle.bdb_text_format.specs.LineEnd.{line}
-use Rattle.bdb_text_format.specs.Written.{is_btree}
-use Rattle.bdb_model.specs.Answers.{Answer, data_named, database_in, done, dumped, fault_line, found, list_text, not_btree, not_found, overlap_line, pairs_text}
-use Rattle.bdb_model.specs.Answers.{sound_line, told, unsupported_line}
-use Rattle.bdb_model.specs.Command.{Request, Verify, ListAll, Get, Dump, Range, Convert, Stat}
+use Rattle.bdb_text_format.specs.Written.{database_text, dump_text, is_btree}
+use Rattle.bdb_model.specs.Answers.{Answer, done, fault_line, list_text, pairs_text, told, unsupported_line, values_text}
+use Rattle.bdb_tool.specs.Commands.{Request, Verify, ListAll, Get, Dump, Range, Convert, Stat}
 use Rattle.bdb_range.specs.Ranges.{in_range}
 use Rattle.bdb_stat.specs.declared.class.Class.TheVariants.{Meta, Internal, Leaf, Hash, Overflow, Free, Reserve, Queue, Tail}
 use Rattle.bdb_stat.specs.Classes.{levels, pages_of}
 use Rattle.bdb_stat.specs.Unused.{unused}
 use Rattle.bdb_turned.specs.Flipped.{flip_of, overlap_in}
 
+abbrev pub not_found : Answer
+not_found = told 9 (line (codes "not found"))
+
+-- `verify`: the number of whole pages
+abbrev pub sound_line : ℕ → List ℕ
+sound_line pages = codes "sound, " ++ (decimal pages ++ line (codes " pages"))
+
+-- `get`: the data of the key in the database with the name, each on a line
+
+abbrev pub data_of_database : File → List ℕ → Option Database → List (List ℕ)
+data_of_database file key None = []
+data_of_database file key (Some database) = data_under file database.fields key
+
+abbrev pub data_at : File → List ℕ → Option ℕ → List (List ℕ)
+data_at file key None = []
+data_at file key (Some place) = data_of_database file key (slice_get (databases file) place)
+
+-- what the file has under this name and key; nothing where no database has the name
+unfoldable pub data_named : File → Option (List ℕ) → List ℕ → List (List ℕ)
+data_named file name key = data_at file key (place_of name (databases file))
+
+abbrev pub found : Bool → List (List ℕ) → Answer
+found prints [] = not_found
+found prints (value ∷ values) = done (values_text prints (value ∷ values))
+
+-- `dump`: the text of all databases, or that of the one with the name
+
+abbrev pub database_in : List Database → Option ℕ → Option Database
+database_in all None = None
+database_in all (Some place) = slice_get all place
+
+abbrev pub section_answer : Bool → List ℕ → Option Database → Answer
+section_answer prints image None = not_found
+section_answer prints image (Some database) = done (database_text prints image database)
+
+abbrev pub dumped : Bool → List ℕ → Option (List ℕ) → Answer
+dumped prints image None = done (dump_text prints image (databases (file_of image)))
+dumped prints image (Some name) = section_answer prints image (database_in (databases (file_of image)) (place_of (Some name) (databases (file_of image))))
+
 -- `range`: the pairs of a btree with a key in the range
+
+abbrev pub not_btree : Answer
+not_btree = told 12 (line (codes "not a btree"))
+
 abbrev pub range_answer : Bool → File → List ℕ → List ℕ → Option Database → Answer
 range_answer prints file from to None = not_found
 range_answer prints file from to (Some database) =
@@ -28,6 +70,10 @@ abbrev pub ranged : Bool → File → Option (List ℕ) → List ℕ → List �
 ranged prints file name from to = range_answer prints file from to (database_in (databases file) (place_of name (databases file)))
 
 -- `convert`: the file in the byte order, or the first page that is in the way
+
+abbrev pub overlap_line : ℕ → List ℕ
+overlap_line page = codes "items overlap, page " ++ line (decimal page)
+
 abbrev pub converted : Option ℕ → Order → List ℕ → Answer
 converted None order image = done (flip_of order image)
 converted (Some page) order image = told 13 (overlap_line page)

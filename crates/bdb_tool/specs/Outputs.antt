@@ -5,8 +5,8 @@ use Rattle.bdb_file.specs.declared.rows.Rows.{Rows}
 use Rattle.bdb_format.specs.declared.kinds.Fault.{Fault}
 use Rattle.bdb_format.specs.Verdict.{Judgement, judgement_of}
 use Rattle.bdb_tool_lines.specs.Telling.{judgement_status, judgements_text}
-use Rattle.bdb_model.specs.Command.{Convert, Dump, Get, ListAll, Range, Request, Stat, Verify}
-use Rattle.bdb_model.specs.Answers.{Answer, done, told, too_large_line, usage}
+use Rattle.bdb_tool.specs.Commands.{Action, Ask, Command, Load, LoadOnto, Repair, Request, Salvage, Trial, Verify, command_on, reads_input, usage}
+use Rattle.bdb_model.specs.Answers.{Answer, done, told, too_large_line}
 use Rattle.bdb_tool.specs.FileAnswers.{judged_answer, sound_answer}
 use Rattle.bdb_model.specs.Change.{Change, Gains, GainsPart, Stays}
 use Rattle.bdb_text_format.specs.LineEnd.{line}
@@ -17,7 +17,6 @@ use Rattle.bdb_repair.specs.declared.shape.Shape.{Shape}
 use Rattle.bdb_rescue.specs.Guesses.{chosen}
 use Rattle.bdb_survey.specs.declared.guess.Guess.{Guess}
 use Rattle.bdb_text_format.specs.declared.sections.Section.{Section}
-use Rattle.bdb_tool.specs.Commands.{Action, Ask, Command, Load, LoadOnto, Repair, Salvage, Trial, command_on, reads_input}
 use Rattle.bdb_tool.specs.Ontos.{IsOntoAnswer}
 use Rattle.bdb_tool_build.specs.Lines.{image_too_large_line}
 use Rattle.bdb_tool_build.specs.Loads.{IsImageAnswer, IsTextAnswer}
@@ -37,12 +36,7 @@ verified (fault ∷ faults) image =
 -- what is asked of a file, by the rows that count; but for `verify` the first fault alone is told
 abbrev pub asked_answer : Rows → Request → List ℕ → Answer
 asked_answer rows Verify image = verified (faults_by_rows rows image) image
-asked_answer rows ListAll image = judged_answer (verdict_by rows image) ListAll image
-asked_answer rows (Get name key prints) image = judged_answer (verdict_by rows image) (Get name key prints) image
-asked_answer rows (Dump name prints) image = judged_answer (verdict_by rows image) (Dump name prints) image
-asked_answer rows (Range name from to prints) image = judged_answer (verdict_by rows image) (Range name from to prints) image
-asked_answer rows (Convert order) image = judged_answer (verdict_by rows image) (Convert order) image
-asked_answer rows Stat image = judged_answer (verdict_by rows image) Stat image
+asked_answer rows request image = judged_answer (verdict_by rows image) request image
 
 abbrev pub no_metadata : Answer
 no_metadata = told 10 (line (codes "no metadata page"))

@@ -3,9 +3,9 @@ use Rattle.std.specs.Prelude.{◌≡◌, ◌≢◌, ◌⊎◌, ℕ, ◌+◌, Lis
 use Rattle.bdb_file.specs.declared.rows.Rows.TheVariants.{All}
 use Rattle.bdb_format.specs.declared.kinds.Verdict.{Verdict}
 use Rattle.bdb_format.specs.declared.kinds.Verdict.TheVariants.{Fault, Unsupported, Memory as MemoryVerdict}
-use Rattle.bdb_model.specs.Answers.{Answer, fault_line, told, too_large_line, unsupported_line, usage}
+use Rattle.bdb_model.specs.Answers.{Answer, fault_line, told, too_large_line, unsupported_line}
+use Rattle.bdb_tool.specs.Commands.{Request, usage}
 use Rattle.bdb_model.specs.Change.{Change, Gains, GainsPart, HasFailed, Stays}
-use Rattle.bdb_model.specs.Command.{Request}
 use Rattle.bdb_model.specs.Lines.{memory_line, read_fault_line, write_fault_line}
 use Rattle.bdb_tool_lines.specs.declared.cut.Cut.{Cut}
 use Rattle.bdb_tool_lines.specs.declared.cut.Cut.TheVariants.{WriteFault, Memory}

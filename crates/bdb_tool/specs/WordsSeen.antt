@@ -1,14 +1,15 @@
 -- What the values of the code are in the definitions of a command line's words.
 use Rattle.std.specs.Prelude.{ℕ, ◌≡◌, ◌<◌, ◌≤◌, ◌^◌, ◌++◌, Bool, true, false, not, List, [], ◌∷◌, drop, length, Option, Some, IfSome, IsTrue, is_some}
-use Rattle.std.specs.Prelude.{option_copied, ⊤}
+use Rattle.std.specs.Prelude.{MatchOption, None, option_copied, ⊤}
 use Rattle.bdb_file.specs.declared.rows.Rows.TheVariants.{All}
 use Rattle.bdb_format.specs.HeadOf.{is_page_size}
-use Rattle.bdb_model.specs.Command.{Request, Verify, ListAll, Convert, Stat, OptionRow, Given, Arguments, arguments, asked_name, bounds_request, hex_option}
-use Rattle.bdb_model.specs.Command.{hex_row, is_given, key_request, max_bytes, max_bytes_row, name_option, name_row, only_operands, print_option, print_row}
-use Rattle.bdb_model.specs.Command.{row_of, text_request, value_given, with_option}
-use Rattle.bdb_tool.specs.Commands.{Action, Load, LoadOnto, Salvage, Trial, Command, Repair, any_order_option, any_order_row, as_option, as_row, asking}
-use Rattle.bdb_tool.specs.Commands.{command_of, dupsort_option, dupsort_row, duplicates_option, duplicates_row, onto_option, onto_row, order_option, order_row}
-use Rattle.bdb_tool.specs.Commands.{page_size_option, page_size_row, within}
+use Rattle.bdb_tool.specs.Commands.{Action, Command, CommandRow, Convert, ListAll, Load, LoadOnto, Repair, Request, Salvage, Stat, Trial, Verify}
+use Rattle.bdb_tool.specs.Commands.{any_order_option, any_order_row, as_option, as_row, asking, bounds_request, command_by, command_of, convert_row, dump_row}
+use Rattle.bdb_tool.specs.Commands.{duplicates_option, duplicates_row, dupsort_option, dupsort_row, get_row, key_request, list_row, load_row, onto_option}
+use Rattle.bdb_tool.specs.Commands.{onto_row, order_option, order_row, page_size_option, page_size_row, range_row, repair_row, salvage_row, stat_row}
+use Rattle.bdb_tool.specs.Commands.{text_request, trial_row, verify_row, within}
+use Rattle.bdb_model.specs.Command.{Arguments, Given, OptionRow, arguments, asked_name, hex_option, hex_row, is_given, max_bytes, max_bytes_row, name_option}
+use Rattle.bdb_model.specs.Command.{name_row, only_operands, print_option, print_row, row_of, value_given, with_option}
 use Rattle.bdb_text_format.specs.TextSpelling.{bytes_spelled}
 use Rattle.bdb_tool.specs.declared.options.OptionWord.{OptionWord}
 use Rattle.bdb_tool.specs.declared.options.OptionWord.TheVariants.{MaxBytes as MaxBytesWord, Name as NameWord, Order as OrderWord, PageSize as PageSizeWord}
@@ -17,6 +18,10 @@ use Rattle.bdb_tool.specs.declared.options.OptionWord.TheVariants.{AnyOrder as A
 use Rattle.bdb_tool.specs.declared.options.GivenOption.{GivenOption}
 use Rattle.bdb_tool.specs.declared.options.GivenOption.TheVariants.{MaxBytes, Name, Order, PageSize, As, Onto, Hex, Print, Duplicates, Dupsort, AnyOrder}
 use Rattle.bdb_tool.specs.declared.options.Arguments.{Arguments as ReadArguments}
+use Rattle.bdb_tool.specs.declared.command.CommandWord.{CommandWord}
+use Rattle.bdb_tool.specs.declared.command.CommandWord.TheVariants.{Verify as VerifyRow, List as ListRow, Get as GetRow, Dump as DumpRow, Load as LoadRow}
+use Rattle.bdb_tool.specs.declared.command.CommandWord.TheVariants.{Salvage as SalvageRow, Trial as TrialRow, Range as RangeRow, Convert as ConvertRow}
+use Rattle.bdb_tool.specs.declared.command.CommandWord.TheVariants.{Stat as StatRow, Repair as RepairRow}
 use Rattle.bdb_tool.specs.declared.command.Reading.{Reading}
 use Rattle.bdb_tool.specs.declared.command.Reading.TheVariants.{Verify as VerifyWord, List as ListWord, Dump as DumpWord}
 use Rattle.bdb_tool.specs.declared.command.Request.{Request as CodeRequest}
@@ -156,6 +161,23 @@ command_seen command = within (Some command.limit) (action_seen command.action)
 -- what is seen of a command is the command that the words are
 abbrev pub IsSeen : Option Command → CodeCommand → Type 0
 IsSeen words command = (words ≡ command_seen command) × IsTrue (is_some (command_seen command))
+
+-- what was read is the command of a row by the words after the first, or that they are none
+abbrev pub IsReadBy : CommandRow → List (List ℕ) → Option CodeCommand → Type 0
+IsReadBy row words read = MatchOption read (command_by row (drop 1 words) ≡ None) (IsSeen (command_by row (drop 1 words)))
+
+abbrev pub row_meant : CommandWord → CommandRow
+row_meant VerifyRow = verify_row
+row_meant ListRow = list_row
+row_meant GetRow = get_row
+row_meant DumpRow = dump_row
+row_meant LoadRow = load_row
+row_meant SalvageRow = salvage_row
+row_meant TrialRow = trial_row
+row_meant RangeRow = range_row
+row_meant ConvertRow = convert_row
+row_meant StatRow = stat_row
+row_meant RepairRow = repair_row
 
 -- pairs can be generated from the seed, so many
 pub record IsFitTrial (trial : CodeTrial) : Type 0 where

@@ -1,13 +1,14 @@
 //! The command that the words of a command line are. Nothing here allocates.
-ghost use Rattle.std.specs.Prelude.{◌≡◌, ◌≢◌, ◌≤◌, ◌^◌, [], ◌∷◌, IfSome, Some, List, MatchOption, drop, false, is_some, length, not, option_copied, true, ℕ};
+ghost use Rattle.std.specs.Prelude.{◌≡◌, ◌≢◌, ◌≤◌, ◌^◌, [], ◌∷◌, IfSome, List, MatchOption, Some, drop, false, is_some, length, option_copied, option_map};
+ghost use Rattle.std.specs.Prelude.{true, ℕ};
 ghost use Rattle.bdb_format.specs.Digits.{number_in};
-ghost use Rattle.bdb_model.specs.Answers.{usage};
+ghost use Rattle.bdb_tool.specs.Commands.{Action as ModelAction, Request as ModelRequest, at_most, command_of, command_on, commands, convert_row, dump_row};
+ghost use Rattle.bdb_tool.specs.Commands.{get_row, kind_named, load_row, onto_file, plain_row, range_row, reading_row, repair_row, row_named, rows_by};
+ghost use Rattle.bdb_tool.specs.Commands.{salvage_row, trial_row, usage};
 ghost use Rattle.bdb_model.specs.Change.{change};
-ghost use Rattle.bdb_model.specs.Command.{Request as ModelRequest, arguments, asked_name, limit_of, once};
-ghost use Rattle.bdb_tool.specs.Commands.{Action as ModelAction, at_most, command_of, command_on, command_with, onto_file, convert_row, dump_row, get_row};
-ghost use Rattle.bdb_tool.specs.Commands.{kind_named, load_row, plain_row, reading_row, rows_by, range_row, repair_row, salvage_row, trial_row};
+ghost use Rattle.bdb_model.specs.Command.{asked_name, limit_of};
 ghost use Rattle.bdb_tool.specs.Parts.{Tells};
-ghost use Rattle.bdb_tool.specs.WordsSeen.{AreOnto, IsFitAction, IsFitCommand, IsSeen, action_seen, reading_seen};
+ghost use Rattle.bdb_tool.specs.WordsSeen.{AreOnto, IsFitAction, IsFitCommand, IsReadBy, IsSeen, action_seen, reading_seen, row_meant};
 
 use crate::finish::tell;
 use crate::guesses::{guess_asked, order_named};
@@ -21,6 +22,22 @@ use bdb_model::Words;
 use bdb_repair::Shape;
 use bdb_rescue::Guess;
 use bdb_text::is_spelling;
+
+/// The word of a command.
+#[derive(Clone, Copy)]
+enum CommandWord {
+    Verify,
+    List,
+    Get,
+    Dump,
+    Load,
+    Salvage,
+    Trial,
+    Range,
+    Convert,
+    Stat,
+    Repair,
+}
 
 /// What `get` asks, with the name and the key as they are spelled.
 #[derive(Clone, Copy)]
@@ -189,41 +206,9 @@ pub fn command_of<'w>(words: &'w Words) -> Option<Command<'w>>
     ensures command { MatchOption result (command_of words.now ≡ None) (IsSeen (command_of words.now)) }
     ensures fit { IfSome result IsFitCommand }
 {
-    let word = words.get(0)?;
-    if word == b"verify".as_slice() {
-        return reading_command(words, Reading::Verify);
-    }
-    if word == b"list".as_slice() {
-        return reading_command(words, Reading::List);
-    }
-    if word == b"get".as_slice() {
-        return lookup_command(words);
-    }
-    if word == b"dump".as_slice() {
-        return dump_command(words);
-    }
-    if word == b"load".as_slice() {
-        return load_command(words);
-    }
-    if word == b"salvage".as_slice() {
-        return salvage_command(words);
-    }
-    if word == b"trial".as_slice() {
-        return trial_command(words);
-    }
-    if word == b"range".as_slice() {
-        return range_command(words);
-    }
-    if word == b"convert".as_slice() {
-        return convert_command(words);
-    }
-    if word == b"stat".as_slice() {
-        return plain_command(words, Action::Ask(Request::Stat));
-    }
-    if word == b"repair".as_slice() {
-        return repair_command(words);
-    }
-    None
+    let first = words.get(0)?;
+    let word = command_word(first)?;
+    command_by(word, words)
 }
 
 /// Tells the names of all commands, where the words are none of them, and answers the status of that or of a write fault.
@@ -258,12 +243,70 @@ pub(crate) fn base_limit(words: &Words) -> Option<u32>
     }
 }
 
+// The command that a word names.
+fn command_word(word: &[u8]) -> Option<CommandWord>
+    ensures { option_map row_meant result ≡ row_named word.now commands }
+{
+    if word == b"verify".as_slice() {
+        return Some(CommandWord::Verify);
+    }
+    if word == b"list".as_slice() {
+        return Some(CommandWord::List);
+    }
+    if word == b"get".as_slice() {
+        return Some(CommandWord::Get);
+    }
+    if word == b"dump".as_slice() {
+        return Some(CommandWord::Dump);
+    }
+    if word == b"load".as_slice() {
+        return Some(CommandWord::Load);
+    }
+    if word == b"salvage".as_slice() {
+        return Some(CommandWord::Salvage);
+    }
+    if word == b"trial".as_slice() {
+        return Some(CommandWord::Trial);
+    }
+    if word == b"range".as_slice() {
+        return Some(CommandWord::Range);
+    }
+    if word == b"convert".as_slice() {
+        return Some(CommandWord::Convert);
+    }
+    if word == b"stat".as_slice() {
+        return Some(CommandWord::Stat);
+    }
+    if word == b"repair".as_slice() {
+        return Some(CommandWord::Repair);
+    }
+    None
+}
+
+// The command of its word, by the words after it.
+fn command_by<'w>(word: CommandWord, words: &'w Words) -> Option<Command<'w>>
+    ensures command { IsReadBy (row_meant word) words.now result }
+    ensures fit { IfSome result IsFitCommand }
+{
+    match word {
+        CommandWord::Verify => reading_command(words, Reading::Verify),
+        CommandWord::List => reading_command(words, Reading::List),
+        CommandWord::Get => lookup_command(words),
+        CommandWord::Dump => dump_command(words),
+        CommandWord::Load => load_command(words),
+        CommandWord::Salvage => salvage_command(words),
+        CommandWord::Trial => trial_command(words),
+        CommandWord::Range => range_command(words),
+        CommandWord::Convert => convert_command(words),
+        CommandWord::Stat => plain_command(words, Action::Ask(Request::Stat)),
+        CommandWord::Repair => repair_command(words),
+    }
+}
+
 // A command without operands and without options of its own.
 fn plain_command<'w>(words: &'w Words, action: Action<'w>) -> Option<Command<'w>>
     requires fit { IsFitAction action }
-    ensures command { (word : List ℕ) (does : ModelAction) → action_seen action.entry ≡ Some does
-        → MatchOption result (command_with (plain_row word does) (once (arguments (plain_row word does).options (drop 1 words.now))) ≡ None)
-        (IsSeen (command_with (plain_row word does) (once (arguments (plain_row word does).options (drop 1 words.now))))) }
+    ensures command { (word : List ℕ) (does : ModelAction) → action_seen action.entry ≡ Some does → IsReadBy (plain_row word does) words.now result }
     ensures fit { IfSome result IsFitCommand }
 {
     let read = read_arguments(words, &PLAIN)?;
@@ -276,9 +319,7 @@ fn plain_command<'w>(words: &'w Words, action: Action<'w>) -> Option<Command<'w>
 
 // A command without operands that reads this of a file.
 fn reading_command<'w>(words: &'w Words, reading: Reading<'w>) -> Option<Command<'w>>
-    ensures command { (word : List ℕ) (asked : ModelRequest) → reading_seen reading.entry ≡ Some asked
-        → MatchOption result (command_with (reading_row word asked) (once (arguments (reading_row word asked).options (drop 1 words.now))) ≡ None)
-        (IsSeen (command_with (reading_row word asked) (once (arguments (reading_row word asked).options (drop 1 words.now))))) }
+    ensures command { (word : List ℕ) (asked : ModelRequest) → reading_seen reading.entry ≡ Some asked → IsReadBy (reading_row word asked) words.now result }
     ensures fit { IfSome result IsFitCommand }
 {
     let read = read_arguments(words, &READING)?;
@@ -292,8 +333,7 @@ fn reading_command<'w>(words: &'w Words, reading: Reading<'w>) -> Option<Command
 
 // The command `get`.
 fn lookup_command<'w>(words: &'w Words) -> Option<Command<'w>>
-    ensures command { MatchOption result (command_with get_row (once (arguments get_row.options (drop 1 words.now))) ≡ None)
-        (IsSeen (command_with get_row (once (arguments get_row.options (drop 1 words.now))))) }
+    ensures command { IsReadBy get_row words.now result }
     ensures fit { IfSome result IsFitCommand }
 {
     let read = read_arguments(words, &LOOKUP)?;
@@ -314,8 +354,7 @@ fn lookup_command<'w>(words: &'w Words) -> Option<Command<'w>>
 
 // The command `dump`.
 fn dump_command<'w>(words: &'w Words) -> Option<Command<'w>>
-    ensures command { MatchOption result (command_with dump_row (once (arguments dump_row.options (drop 1 words.now))) ≡ None)
-        (IsSeen (command_with dump_row (once (arguments dump_row.options (drop 1 words.now))))) }
+    ensures command { IsReadBy dump_row words.now result }
     ensures fit { IfSome result IsFitCommand }
 {
     let read = read_arguments(words, &SELECTION)?;
@@ -336,8 +375,7 @@ fn dump_command<'w>(words: &'w Words) -> Option<Command<'w>>
 
 // The command `load`.
 fn load_command<'w>(words: &'w Words) -> Option<Command<'w>>
-    ensures command { MatchOption result (command_with load_row (once (arguments load_row.options (drop 1 words.now))) ≡ None)
-        (IsSeen (command_with load_row (once (arguments load_row.options (drop 1 words.now))))) }
+    ensures command { IsReadBy load_row words.now result }
     ensures fit { IfSome result IsFitCommand }
 {
     let read = read_arguments(words, &LOAD)?;
@@ -354,8 +392,7 @@ fn load_command<'w>(words: &'w Words) -> Option<Command<'w>>
 
 // The command `salvage`.
 fn salvage_command<'w>(words: &'w Words) -> Option<Command<'w>>
-    ensures command { MatchOption result (command_with salvage_row (once (arguments salvage_row.options (drop 1 words.now))) ≡ None)
-        (IsSeen (command_with salvage_row (once (arguments salvage_row.options (drop 1 words.now))))) }
+    ensures command { IsReadBy salvage_row words.now result }
     ensures fit { IfSome result IsFitCommand }
 {
     let read = read_arguments(words, &SALVAGE)?;
@@ -374,8 +411,7 @@ fn salvage_command<'w>(words: &'w Words) -> Option<Command<'w>>
 
 // The command `trial`.
 fn trial_command<'w>(words: &'w Words) -> Option<Command<'w>>
-    ensures command { MatchOption result (command_with trial_row (once (arguments trial_row.options (drop 1 words.now))) ≡ None)
-        (IsSeen (command_with trial_row (once (arguments trial_row.options (drop 1 words.now))))) }
+    ensures command { IsReadBy trial_row words.now result }
     ensures fit { IfSome result IsFitCommand }
 {
     let read = read_arguments(words, &PLAIN)?;
@@ -392,8 +428,7 @@ fn trial_command<'w>(words: &'w Words) -> Option<Command<'w>>
 
 // The command `range`.
 fn range_command<'w>(words: &'w Words) -> Option<Command<'w>>
-    ensures command { MatchOption result (command_with range_row (once (arguments range_row.options (drop 1 words.now))) ≡ None)
-        (IsSeen (command_with range_row (once (arguments range_row.options (drop 1 words.now))))) }
+    ensures command { IsReadBy range_row words.now result }
     ensures fit { IfSome result IsFitCommand }
 {
     let read = read_arguments(words, &LOOKUP)?;
@@ -418,8 +453,7 @@ fn range_command<'w>(words: &'w Words) -> Option<Command<'w>>
 
 // The command `convert`.
 fn convert_command<'w>(words: &'w Words) -> Option<Command<'w>>
-    ensures command { MatchOption result (command_with convert_row (once (arguments convert_row.options (drop 1 words.now))) ≡ None)
-        (IsSeen (command_with convert_row (once (arguments convert_row.options (drop 1 words.now))))) }
+    ensures command { IsReadBy convert_row words.now result }
     ensures fit { IfSome result IsFitCommand }
 {
     let read = read_arguments(words, &PLAIN)?;
@@ -432,8 +466,7 @@ fn convert_command<'w>(words: &'w Words) -> Option<Command<'w>>
 
 // The command `repair`.
 fn repair_command<'w>(words: &'w Words) -> Option<Command<'w>>
-    ensures command { MatchOption result (command_with repair_row (once (arguments repair_row.options (drop 1 words.now))) ≡ None)
-        (IsSeen (command_with repair_row (once (arguments repair_row.options (drop 1 words.now))))) }
+    ensures command { IsReadBy repair_row words.now result }
     ensures fit { IfSome result IsFitCommand }
 {
     let read = read_arguments(words, &REPAIR)?;

@@ -1,7 +1,6 @@
 //! The command that puts a file into a byte order.
 ghost use Rattle.std.specs.Prelude.{◌⊎◌};
-ghost use Rattle.bdb_model.specs.Answers.{overlap_line};
-ghost use Rattle.bdb_tool.specs.FileAnswers.{converted};
+ghost use Rattle.bdb_tool.specs.FileAnswers.{converted, overlap_line};
 ghost use Rattle.bdb_model.specs.Change.{change};
 ghost use Rattle.bdb_turned.specs.Flipped.{overlap_in};
 ghost use Rattle.bdb_model.specs.Lines.{memory_line};

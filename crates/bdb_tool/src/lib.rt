@@ -8,6 +8,7 @@ mod converting;
 mod finish;
 mod guesses;
 pub mod laws;
+mod looking;
 mod options;
 mod program;
 mod ranging;

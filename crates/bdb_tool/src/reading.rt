@@ -3,10 +3,10 @@ ghost use Rattle.std.specs.Prelude.{◌≡◌, ◌≤◌, ◌^◌, IsTrue, List,
 ghost use Rattle.bdb_file.specs.AnyOrder.{faults_by_rows, verdict_by};
 ghost use Rattle.bdb_format.specs.HeadOf.{head_of};
 ghost use Rattle.bdb_tool_lines.specs.Printing.{Writes};
-ghost use Rattle.bdb_model.specs.Answers.{dumped, sound_line};
+ghost use Rattle.bdb_tool.specs.FileAnswers.{dumped, judged_answer, sound_line};
 ghost use Rattle.bdb_model.specs.Change.{change};
-ghost use Rattle.bdb_model.specs.Command.{Dump, ListAll, Request as ModelRequest, asked_name, text_request};
-ghost use Rattle.bdb_tool.specs.FileAnswers.{judged_answer};
+ghost use Rattle.bdb_tool.specs.Commands.{Dump, ListAll, Request as ModelRequest, text_request};
+ghost use Rattle.bdb_model.specs.Command.{asked_name};
 ghost use Rattle.bdb_tool.specs.Outputs.{asked_answer, verified};
 ghost use Rattle.bdb_tool.specs.Parts.{Finishes};
 ghost use Rattle.bdb_tool.specs.WordsSeen.{reading_seen};

@@ -3,10 +3,12 @@ ghost use Rattle.std.specs.Prelude.{◌≡◌, IfOk, string_bytes};
 ghost use Rattle.bdb_format.specs.File.{file_of};
 ghost use Rattle.bdb_tool_lines.specs.Printing.{Writes};
 ghost use Rattle.bdb_tool.specs.FileAnswers.{stat_text};
+ghost use Rattle.bdb_model.specs.Answers.{done};
 ghost use Rattle.bdb_model.specs.Change.{change};
+ghost use Rattle.bdb_tool.specs.Parts.{Finishes};
 ghost use Rattle.bdb_tool.specs.Figures.{figures_text, last_figures, other_figures, tree_figures};
 
-use crate::finish::put;
+use crate::finish::{put, report};
 use bdb_file::Sound;
 use bdb_io::Sink;
 use bdb_stat::{Stat, stat};
@@ -66,11 +68,7 @@ fn figures_text(alloc: Global, stat: &Stat) -> Result<String, AllocError>
 }
 
 /// Writes the figures of a sound file, a line each.
-pub(crate) fn print_figures<K: Sink>(
-    alloc: Global,
-    sound: &Sound<'_>,
-    out: &mut K,
-) -> Result<(), Cut>
+fn print_figures<K: Sink>(alloc: Global, sound: &Sound<'_>, out: &mut K) -> Result<(), Cut>
     ensures { Writes (stat_text (file_of sound.now)) (change K.written K.faults out.old out.new) result }
 {
     let linked = sound.linked();
@@ -82,4 +80,17 @@ pub(crate) fn print_figures<K: Sink>(
         Ok(text) => put(out, text.as_bytes()),
         Err(_) => Err(Cut::Memory),
     }
+}
+
+/// Answers `stat`.
+#[tactic(auto, using(crate::proofs::FinishLemmas::written_finishes))]
+pub(crate) fn answer_stat<K: Sink, E: Sink>(
+    alloc: Global,
+    sound: &Sound<'_>,
+    out: &mut K,
+    err: &mut E,
+) -> u8
+    ensures { Finishes (done (stat_text (file_of sound.now))) (change K.written K.faults out.old out.new) (change E.written E.faults err.old err.new) result }
+{
+    report(print_figures(alloc, sound, out), err)
 }

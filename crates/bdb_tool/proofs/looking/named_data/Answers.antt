@@ -1,6 +1,6 @@
 use Rattle.std.proofs.Common.{◌∙◌, sym}
 use Rattle.bdb_tool.proofs.AnswerLemmas.{data_found, no_data}
-use Rattle.bdb_tool.proofs.answer.named_data.Goals as goal
+use Rattle.bdb_tool.proofs.looking.named_data.Goals as goal
 
 pub returns-in-Some : goal.returns-in-Some
 returns-in-Some g c = c.get.ensures.found ∙ sym (data_found _ _ _ _ (sym c.in-Some.ensures.place) c.in-Some.ensures.inside)
