@@ -1,24 +1,23 @@
 -- The pairs of a tree, leaf by leaf.
-use Rattle.std.proofs.Common.{◌≡◌, ℕ, ◌<◌, Bool, true, false, cond, List, [], ◌∷◌, ◌++◌, append_assoc, append-nil, length, map, refl, sym, ◌∙◌, ap, subst}
-use Rattle.std.specs.List.{All, Contains, flat_map}
+use Rattle.std.proofs.Common.{◌≡◌, ℕ, Bool, true, false, cond, List, [], ◌∷◌, ◌++◌, append_assoc, map, refl, sym, ◌∙◌, ap, subst}
+use Rattle.std.specs.List.{flat_map}
 use Rattle.std.proofs.lemmas.Grind.{flat_map-append}
 use Rattle.std.proofs.lemmas.List.{map-append}
 use Rattle.std.proofs.lemmas.List.Elements.{All-cons, All-nil}
-use Rattle.bdb_format.specs.Contents.{StoredPair, data_of, pairs_of, tree_pairs}
+use Rattle.bdb_format.specs.Contents.{StoredPair, data_of, pairs_of}
 use Rattle.bdb_format.specs.File.{File, file_of}
 use Rattle.bdb_format.specs.Leaves.{leaves}
 use Rattle.bdb_format.specs.Lists.{ListKey, BytesKey, btree_list, listed_pair}
 use Rattle.bdb_graph.specs.Linked.{FitsLeafPage, IsForest}
-use Rattle.bdb_btree.specs.Pairs.{AreFit, FitsPair, left_of}
+use Rattle.bdb_btree.specs.Pairs.{AreFit, FitsPair}
 use Rattle.bdb_btree.proofs.FallLemmas.{ShareKeys as HaveKeys, tree_keys}
 use Rattle.bdb_btree.proofs.PairLemmas.{pair_of_page}
 use Rattle.bdb_btree.proofs.WalkLemmas.{each_of, pairs_of_tree}
-use Rattle.bdb_text_format.specs.declared.pairs.Key.{Key}
 use Rattle.bdb_text_format.specs.declared.pairs.Key.TheVariants.{Bytes}
 use Rattle.bdb_text_format.specs.declared.pairs.TextPair.{TextPair}
 use Rattle.bdb_onto.specs.Bases.{text_pair}
 use Rattle.bdb_tool_build.specs.Ontos.{list_key}
-use Rattle.bdb_tool_build.specs.Copied.{AreOf, EndsWith, Follow, ShareKeys}
+use Rattle.bdb_tool_build.specs.Copied.{AreOf, Follow, ShareKeys}
 
 -- the entries of a pair have its key
 under_key : (key : List ℕ) (values : List (List ℕ)) → AreOf (Bytes key) (map (λ value. (BytesKey key, value)) values)

@@ -1,4 +1,4 @@
-use Rattle.std.proofs.Common.{◌≡◌, ◌∙◌, ap}
+use Rattle.std.proofs.Common.{◌∙◌, ap}
 use Rattle.bdb_text.specs.WrittenLaw.{AreBytes}
 use Rattle.bdb_onto.specs.Bases.{base_of}
 use Rattle.bdb_tool_build.proofs.BaseLemmas.{all_bytes, is_base}
