@@ -6,21 +6,20 @@ use Rattle.std.proofs.lemmas.List.{map_more}
 use Rattle.std.proofs.lemmas.List.Elements.{All-cons, All-nil}
 use Rattle.bdb_format.specs.declared.metadata.BtreeMeta.{BtreeMeta}
 use Rattle.bdb_format.specs.Databases.{databases}
-use Rattle.bdb_format.specs.File.{file_of}
+use Rattle.bdb_format.specs.File.{File, file_of}
+use Rattle.bdb_format.specs.Lists.{btree_list, list_of, recno_list}
 use Rattle.bdb_format.specs.Flags.{names_databases}
 use Rattle.bdb_format.specs.Master.{master_in}
 use Rattle.bdb_format.specs.Page.{BtreeFields, HashFields, Metadata, Page, QueueFields, Zero, Free, Meta, Hash, Internal, RecnoInternal, Leaf, RecnoLeaf}
 use Rattle.bdb_format.specs.Page.{DupLeaf, Overflow, Queue, NoType}
 use Rattle.bdb_format.specs.Verdict.{verdict_of}
-use Rattle.bdb_format.specs.Lists.{ListKey, BytesKey, NumberKey}
-use Rattle.bdb_text_format.specs.declared.pairs.Key.{Key}
 use Rattle.bdb_text_format.specs.declared.sections.Section.{Section}
 use Rattle.bdb_graph.specs.Metas.{meta_in}
 use Rattle.bdb_file.specs.Named.{database_at, no_database}
 use Rattle.bdb_text.specs.WrittenLaw.{AreBytes}
 use Rattle.bdb_onto.specs.declared.base.Base.{Base}
-use Rattle.bdb_onto.specs.Bases.{IsBaseOf, base_of, base_section, text_pair}
-use Rattle.bdb_tool_build.specs.Ontos.{list_key}
+use Rattle.bdb_onto.specs.Bases.{IsBaseOf, base_of, base_section}
+use Rattle.bdb_tool_build.specs.Copied.{IsBtree}
 
 abbrev pub is_master : Option Metadata → Bool
 is_master (Some (BtreeFields meta)) = names_databases meta
@@ -51,12 +50,6 @@ of_page NoType = refl
 pub master_of : (page : Page) (fields : Option Metadata) → fields ≡ meta_in page → is_master fields ≡ is_some (master_in page)
 master_of page fields is = ap is_master is ∙ sym (of_page page)
 
--- a key and a value of a list in a section
-pub pair_listed : (key : ListKey) (value bytes : List ℕ) (copy : Key) → copy ≡ list_key key → bytes ≡ value → record { key = copy; value = bytes; line = 0 }
-    ≡ text_pair (key, value)
-pair_listed (BytesKey key) value bytes copy key_is value_is = rw (key_is, value_is) refl
-pair_listed (NumberKey number) value bytes copy key_is value_is = rw (key_is, value_is) refl
-
 -- the database at a place, behind those before it
 pub more_sections : (image : List ℕ) (all : List Section) (i : ℕ) (section : Section) → i < length (databases (file_of image))
     → all ≡ map (base_section image) (take i (databases (file_of image))) → section ≡ base_section image (database_at (file_of image) i)
@@ -71,3 +64,8 @@ all_bytes (byte ∷ bytes) fits = All-cons (λ (b : ℕ). b < 256) byte bytes (f
 -- the base that an image is, which is sound
 pub is_base : (image : List ℕ) (base : Base) → length image ≤ 2 ^ 30 → verdict_of image ≡ None → AreBytes image → base ≡ base_of image → IsBaseOf image base
 is_base image base size sound bytes are = (record { image = image; sound = record { size = size; sound = sound }; bytes = bytes; are = are }, are)
+
+-- the list of a btree
+pub btree_listed : (file : File) (fields : Metadata) (meta : BtreeMeta) → IsBtree fields meta → btree_list file meta.root ≡ list_of file fields
+btree_listed file fields meta is =
+    sym (ap (list_of file) is.are ∙ ap (λ b. cond b (recno_list file meta.root) (btree_list file meta.root)) is.keyed)

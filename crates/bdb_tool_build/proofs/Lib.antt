@@ -1,6 +1,8 @@
 pub mod BaseLemmas
+pub mod CopiedLemmas
 pub mod LoadLemmas
 pub mod NameLemmas
 pub mod OntoLemmas
 pub mod RefusalLemmas
+pub mod TreeLemmas
 pub mod TrialLemmas

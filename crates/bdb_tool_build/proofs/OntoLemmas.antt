@@ -1,6 +1,6 @@
 -- From the sections of a text to the answer on a base.
-use Rattle.std.proofs.Common.{◌≡◌, ◌⊎◌, ℕ, List, inl, inr, refl, subst, sym, ◌∙◌, ap}
-use Rattle.std.specs.Prelude.{Option, Some, None, Result, Ok, Err, MatchResult, if◌then◌else◌, nat_lt}
+use Rattle.std.proofs.Common.{◌≡◌, ◌⊎◌, ℕ, List, inl, inr, subst, sym, ap}
+use Rattle.std.specs.Prelude.{Option, Some, None, Result, Ok, Err, MatchResult}
 use Rattle.bdb_text_format.specs.declared.faults.TextFault.{TextFault}
 use Rattle.bdb_text_format.specs.declared.sections.Section.{Section}
 use Rattle.bdb_text_format.specs.Reasons.{text_fault}

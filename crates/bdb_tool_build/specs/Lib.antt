@@ -1,3 +1,4 @@
+pub mod Copied
 pub mod Lines
 pub mod Loads
 pub mod Ontos

@@ -1,5 +1,5 @@
 //! The databases of a sound file, copied out of it.
-ghost use Rattle.std.specs.Prelude.{◌≡◌, ◌++◌, ◌∷◌, ◌<◌, ◌≤◌, ◌^◌, [], IfErr, IfOk, None, OnOk, is_some, length, map, option_copied};
+ghost use Rattle.std.specs.Prelude.{◌≡◌, ◌<◌, ◌≤◌, ◌^◌, IfErr, IfOk, IfSome, None, OnOk, is_some, length, map, option_copied};
 ghost use Rattle.bdb_file.specs.Named.{database_at};
 ghost use Rattle.bdb_file.specs.Whole.{IsVerdictOf};
 ghost use Rattle.bdb_format.specs.Databases.{databases};
@@ -7,21 +7,24 @@ ghost use Rattle.bdb_format.specs.File.{file_of, page_at};
 ghost use Rattle.bdb_format.specs.Lists.{list_of};
 ghost use Rattle.bdb_format.specs.Master.{master_in};
 ghost use Rattle.bdb_format.specs.Verdict.{verdict_of};
+ghost use Rattle.bdb_graph.specs.Metas.{meta_seen};
 ghost use Rattle.bdb_onto.specs.Bases.{IsBaseOf, base_of, base_section, text_pair};
-ghost use Rattle.bdb_format.specs.Chains.{joined};
-ghost use Rattle.bdb_overflow.specs.Datum.{datum_seen, key_view_seen};
-ghost use Rattle.bdb_text_format.specs.Placed.{key_seen};
-ghost use Rattle.bdb_tool_build.specs.Ontos.{list_key};
+ghost use Rattle.bdb_tool_build.specs.Copied.{IsBtree};
 
+use crate::copied::{Rooms, push_listed};
+use crate::tree::btree_pairs;
 use bdb_file::{Db, Scan, Sound, verify};
-use bdb_format::{Bytes, Steps, Verdict};
+use bdb_format::{BtreeMeta, Bytes, Steps, Verdict};
 use bdb_graph::Meta;
 use bdb_io::Image;
 use bdb_onto::Base;
-use bdb_overflow::{Datum, KeyView, Pieces};
-use bdb_text_format::{KeyRef, PairRef, Section, Sections, TextPairs};
+use bdb_text_format::{Section, Sections, TextPairs};
 use std::alloc::{AllocError, Global};
 use std::sync::ledger::Ledger;
+
+/// How many times the bytes of the limit and the image together the copies of a base's keys and data may have. Items of a sound file may share a chain, and
+/// each has a copy of its own.
+const COPIES: u64 = 4;
 
 // The same name once more.
 fn copied_name(alloc: Global, name: Option<&[u8]>) -> Result<Option<Bytes>, AllocError>
@@ -35,92 +38,75 @@ fn copied_name(alloc: Global, name: Option<&[u8]>) -> Result<Option<Bytes>, Allo
     Ok(Some(copy))
 }
 
-// Puts pieces of a chain into a room, one behind the other.
-fn put_pieces(pieces: Pieces<'_>, room: &mut Vec<u8>) -> Result<(), AllocError>
-    ensures { OnOk result (room.new.items ≡ joined pieces.entry) }
-{
-    room.clear();
-    for piece in pieces {
-        room.extend_from_slice(piece)?;
-    }
-    Ok(())
-}
-
-// The bytes of a value: those of its page, or of its chain, which then lie in a room.
-fn bytes_of<'r>(value: Datum<'r>, room: &'r mut Vec<u8>) -> Result<&'r [u8], AllocError>
-    ensures { IfOk result (λ bytes. bytes.now ≡ datum_seen value.entry) }
-{
-    match value {
-        Datum::Inline(bytes) => Ok(bytes),
-        Datum::Chained(pieces) => {
-            put_pieces(pieces, room)?;
-            Ok(room.as_slice())
-        }
-    }
-}
-
-// The key of a list; the bytes of a chain then lie in a room.
-fn key_of<'r>(key: KeyView<'r>, room: &'r mut Vec<u8>) -> Result<KeyRef<'r>, AllocError>
-    ensures { IfOk result (λ lent. key_seen lent ≡ list_key (key_view_seen key.entry)) }
-{
-    match key {
-        KeyView::Bytes(value) => match bytes_of(value, room) {
-            Ok(bytes) => Ok(KeyRef::Bytes(bytes)),
-            Err(error) => Err(error),
-        },
-        KeyView::Number(number) => Ok(KeyRef::Number(number)),
-    }
-}
-
-// Adds a pair of a list, as if it stood in a text without numbers of lines.
-#[tactic(auto, using(crate::proofs::BaseLemmas::pair_listed))]
-fn push_listed(
-    key: KeyView<'_>,
-    value: Datum<'_>,
-    key_room: &mut Vec<u8>,
-    room: &mut Vec<u8>,
-    pairs: &mut TextPairs,
-) -> Result<(), AllocError>
-    ensures { OnOk result (pairs.new ≡ pairs.old ++ text_pair (key_view_seen key.entry, datum_seen value.entry) ∷ []) }
-{
-    pairs.push(PairRef {
-        key: key_of(key, key_room)?,
-        value: bytes_of(value, room)?,
-        line: 0,
-    })
-}
-
 // The pairs of a list, as if they stood in a text without numbers of lines.
-fn listed_pairs(alloc: Global, list: &mut Scan<'_>) -> Result<TextPairs, AllocError>
+fn listed_pairs(
+    alloc: Global,
+    list: &mut Scan<'_>,
+    rooms: &mut Rooms,
+) -> Result<TextPairs, AllocError>
     ensures { IfOk result (λ pairs. pairs ≡ map text_pair list.old) }
 {
-    let mut key_room = Vec::new(alloc);
-    let mut room = Vec::new(alloc);
     let mut pairs = TextPairs::new(alloc);
     for (key, value) in list {
-        push_listed(key, value, &mut key_room, &mut room, &mut pairs)?;
+        push_listed(key, value, rooms, &mut pairs)?;
     }
     Ok(pairs)
 }
 
-// The pairs of a database.
-fn base_pairs(alloc: Global, sound: &Sound<'_>, db: Db) -> Result<TextPairs, AllocError>
+// The pairs of a database, by its list.
+fn scanned_pairs(
+    alloc: Global,
+    sound: &Sound<'_>,
+    db: Db,
+    rooms: &mut Rooms,
+) -> Result<TextPairs, AllocError>
     requires { db < length (databases (file_of sound.now)) }
     ensures { IfOk result (λ pairs. pairs ≡ map text_pair (list_of (file_of sound.now) (database_at (file_of sound.now) db).fields)) }
 {
     match sound.scan(alloc, db) {
-        Ok(mut list) => listed_pairs(alloc, &mut list),
+        Ok(mut list) => listed_pairs(alloc, &mut list, rooms),
         Err(_) => Err(AllocError),
     }
 }
 
+// The metadata of a btree; `None` of another kind.
+fn btree_meta(meta: &Meta) -> Option<&BtreeMeta>
+    ensures { IfSome result (λ btree. IsBtree (meta_seen meta.now) btree.now) }
+{
+    match meta {
+        Meta::Btree(meta) if meta.flags & 0x02 == 0 => Some(meta),
+        _ => None,
+    }
+}
+
+// The pairs of a database: of a btree key by key, so that none is copied twice or compared with itself.
+fn base_pairs(
+    alloc: Global,
+    sound: &Sound<'_>,
+    db: Db,
+    rooms: &mut Rooms,
+) -> Result<TextPairs, AllocError>
+    requires { db < length (databases (file_of sound.now)) }
+    ensures { IfOk result (λ pairs. pairs ≡ map text_pair (list_of (file_of sound.now) (database_at (file_of sound.now) db).fields)) }
+{
+    match btree_meta(sound.meta(db)) {
+        Some(meta) => btree_pairs(alloc, sound.linked(), meta, rooms),
+        None => scanned_pairs(alloc, sound, db, rooms),
+    }
+}
+
 // A database as a section with its list.
-fn base_section(alloc: Global, sound: &Sound<'_>, db: Db) -> Result<Section, AllocError>
+fn base_section(
+    alloc: Global,
+    sound: &Sound<'_>,
+    db: Db,
+    rooms: &mut Rooms,
+) -> Result<Section, AllocError>
     requires { db < length (databases (file_of sound.now)) }
     ensures { IfOk result (λ section. section ≡ base_section sound.now (database_at (file_of sound.now) db)) }
 {
     let name = copied_name(alloc, sound.name(db))?;
-    let pairs = base_pairs(alloc, sound, db)?;
+    let pairs = base_pairs(alloc, sound, db, rooms)?;
     Ok(Section {
         name,
         settings: sound.settings(db),
@@ -130,12 +116,16 @@ fn base_section(alloc: Global, sound: &Sound<'_>, db: Db) -> Result<Section, All
 }
 
 // All databases, in their order.
-fn base_sections(alloc: Global, sound: &Sound<'_>) -> Result<Sections, AllocError>
+fn base_sections(
+    alloc: Global,
+    sound: &Sound<'_>,
+    rooms: &mut Rooms,
+) -> Result<Sections, AllocError>
     ensures { IfOk result (λ all. all ≡ map (base_section sound.now) (databases (file_of sound.now))) }
 {
     let mut all = Sections::new(alloc);
     for i in 0..sound.databases() {
-        all.push(base_section(alloc, sound, sound.database(i))?)?;
+        all.push(base_section(alloc, sound, sound.database(i), rooms)?)?;
     }
     Ok(all)
 }
@@ -150,11 +140,12 @@ fn has_master(sound: &Sound<'_>) -> bool
     }
 }
 
-// The base that a sound file is.
-fn sound_base(alloc: Global, sound: &Sound<'_>) -> Result<Base, AllocError>
+// The base that a sound file is, where its keys and data have so many bytes at most.
+fn sound_base(alloc: Global, sound: &Sound<'_>, most: u64) -> Result<Base, AllocError>
     ensures { IfOk result (λ base. base ≡ base_of sound.now) }
 {
-    let databases = base_sections(alloc, sound)?;
+    let mut rooms = Rooms::new(alloc, most);
+    let databases = base_sections(alloc, sound, &mut rooms)?;
     let head = sound.head();
     Ok(Base {
         master: has_master(sound),
@@ -165,36 +156,46 @@ fn sound_base(alloc: Global, sound: &Sound<'_>) -> Result<Base, AllocError>
 }
 
 // The base that a sound file is, which is given up.
-fn base_within(alloc: Global, sound: Sound<'_>) -> Result<Base, AllocError>
+fn base_within(alloc: Global, sound: Sound<'_>, most: u64) -> Result<Base, AllocError>
     ensures { IfOk result (λ base. base ≡ base_of sound.entry) }
 {
-    sound_base(alloc, &sound)
+    sound_base(alloc, &sound, most)
 }
 
 // The base that these bytes are.
-fn base_in<L: Ledger>(alloc: Global, image: &[u8], steps: &mut Steps<L>) -> Result<Base, Verdict>
-    requires { length image.now ≤ 2 ^ 30 }
+fn base_in<L: Ledger>(
+    alloc: Global,
+    image: &[u8],
+    max: u64,
+    steps: &mut Steps<L>,
+) -> Result<Base, Verdict>
+    requires small { length image.now ≤ 2 ^ 30 }
+    requires max { max ≤ 2 ^ 30 }
     ensures base { IfOk result (λ base. IsBaseOf image.now base) }
     ensures sound { OnOk result (verdict_of image.now ≡ None) }
     ensures refused { IfErr result (IsVerdictOf image.now) }
 {
     let sound = verify(alloc, image, steps)?;
-    match base_within(alloc, sound) {
+    match base_within(alloc, sound, COPIES * (max + image.len() as u64)) {
         Ok(base) => Ok(base),
         Err(_) => Err(Verdict::Memory),
     }
 }
 
-/// The base that an image is, where it is sound; else the verdict on it, or want of memory. Keys and data are copied, and the image is given up.
+/// The base that an image is, where it is sound, for a file of at most `max` bytes; else the verdict on it, or want of memory. A key is copied once for all its
+/// data, each datum once, and the image is given up. Where the copies have more than four times the bytes of `max` and the image together, that is want of
+/// memory.
 pub fn base_of<L: Ledger>(
     alloc: Global,
     image: Image,
+    max: u64,
     steps: &mut Steps<L>,
 ) -> Result<Base, Verdict>
-    requires { length image ≤ 2 ^ 30 }
+    requires small { length image ≤ 2 ^ 30 }
+    requires max { max ≤ 2 ^ 30 }
     ensures base { IfOk result (λ base. IsBaseOf image base) }
     ensures sound { OnOk result (verdict_of image ≡ None) }
     ensures refused { IfErr result (IsVerdictOf image) }
 {
-    base_in(alloc, image.bytes(), steps)
+    base_in(alloc, image.bytes(), max, steps)
 }

@@ -2,10 +2,12 @@
 #![tactic(auto)]
 
 mod base;
+mod copied;
 mod loading;
 mod names;
 mod refusal;
 mod texts;
+mod tree;
 mod trial;
 
 pub use base::base_of;

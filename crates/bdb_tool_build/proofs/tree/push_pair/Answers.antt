@@ -1,0 +1,26 @@
+use Rattle.std.proofs.Common.{arith}
+use Rattle.bdb_format.specs.File.{file_of}
+use Rattle.bdb_overflow.specs.Datum.{datum_seen}
+use Rattle.bdb_btree.specs.Pairs.{left_of, pair_seen}
+use Rattle.bdb_text_format.specs.declared.pairs.Key.TheVariants.{Bytes}
+use Rattle.bdb_tool_build.proofs.CopiedLemmas.{known_key, not_false, of_ends}
+use Rattle.bdb_tool_build.proofs.TreeLemmas.{pair_key}
+use Rattle.bdb_tool_build.proofs.tree.push_pair.Goals as goal
+
+pub push_entries-requires : goal.push_entries-requires
+push_entries-requires c = record {
+  key = Bytes (datum_seen c.args.pair.key);
+  are = pair_key (file_of c.args.forest.now) (pair_seen c.args.pair) (left_of c.pair_entries-entries.result) c.pair_entries-entries.ensures;
+}
+
+pub returns-then-not-has_key-clause-last : goal.returns-then-not-has_key-clause-last
+returns-then-not-has_key-clause-last c =
+    known_key c.push_entries.result (Bytes (datum_seen c.args.pair.key)) (left_of c.pair_entries-entries.result) c.push_entries.new.pairs
+    (pair_key (file_of c.args.forest.now) (pair_seen c.args.pair) (left_of c.pair_entries-entries.result) c.pair_entries-entries.ensures)
+    c.push_entries.ensures.last
+
+pub push_rest-requires-clause-same : goal.push_rest-requires-clause-same
+push_rest-requires-clause-same c =
+    of_ends c.args.pairs.now (Bytes (datum_seen c.args.pair.key)) (left_of c.pair_entries-entries.result)
+    (c.requires.key (grind (arith, not_false, c.if-not-has_key.false)))
+    (pair_key (file_of c.args.forest.now) (pair_seen c.args.pair) (left_of c.pair_entries-entries.result) c.pair_entries-entries.ensures)
