@@ -22,7 +22,8 @@ use Rattle.bdb_graph.proofs.FirstLemmas.{formed_last}
 use Rattle.bdb_file.specs.AnyOrder.{contents_by, faults_by_rows, stages_by, verdict_by}
 use Rattle.bdb_file.specs.Whole.{IsVerdictBy, told_as}
 use Rattle.bdb_file.specs.declared.rows.Rows.{Rows}
-use Rattle.bdb_file.proofs.OrderLemmas.{late_judgement, of_counted}
+use Rattle.bdb_file.proofs.OrderLemmas.{of_counted}
+use Rattle.bdb_format.proofs.VerdictLemmas.{late_fault}
 
 is_verdict : (rows : Rows) (image : List ℕ) (judgement : Judgement) → verdict_by rows image ≡ Some judgement
     → IsVerdictBy rows image (as_verdict judgement)
@@ -105,7 +106,7 @@ first_late : (faults : List Fault) (fault : Fault) → AreLate faults → first_
 first_late [] fault late is = absurd cc
 first_late (first ∷ faults) fault late is =
     let same : first ≡ fault = cc in
-    ap (λ (j : Judgement). Some j) (ap judgement_of same ∙ late_judgement fault
+    ap (λ (j : Judgement). Some j) (ap judgement_of same ∙ late_fault fault
     (subst (λ (f : Fault). 3 ≤ f.stage) same (late first (first_member first faults))))
 
 pub file_refused : (rows : Rows) (image : List ℕ) (error : CheckError) → faults_in (1 ∷ 2 ∷ []) image ≡ [] → faults_in (3 ∷ 4 ∷ 5 ∷ []) image ≡ []

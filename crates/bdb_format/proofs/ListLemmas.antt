@@ -71,6 +71,10 @@ range_more a zero = let e : a + 0 ≡ a = omega arith in rw e refl
 range_more a (suc n) = let more : suc n + 1 ≡ suc (n + 1) = omega arith in let e : a + 1 + n
     ≡ a + suc n = omega arith in rw more (ap (λ xs. a ∷ xs) (range_more (a + 1) n ∙ ap (λ m. range_with_len (a + 1) n ++ m ∷ []) e))
 
+-- and of one from 0 on
+pub range_zero_more : (n : ℕ) → range_with_len 0 (n + 1) ≡ range_with_len 0 n ++ n ∷ []
+range_zero_more n = let same : 0 + n ≡ n = omega arith in range_more 0 n ∙ ap (λ m. range_with_len 0 n ++ m ∷ []) same
+
 -- a range, cut in two
 pub range_parts : (a m n : ℕ) → range_with_len a (m + n) ≡ range_with_len a m ++ range_with_len (a + m) n
 range_parts a zero n = let e : a ≡ a + 0 = omega arith in let f : 0 + n ≡ n = omega arith in ap (range_with_len a) f ∙ ap (λ b. range_with_len b n) e

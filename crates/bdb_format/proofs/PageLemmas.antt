@@ -15,6 +15,10 @@ use Rattle.bdb_format.specs.Numbers.{byte_at, four_at, number, number_at, two_at
 use Rattle.bdb_format.specs.Reading.{listed, entries_of, offset_of, header_of, is_zero}
 use Rattle.bdb_format.specs.Rows.{field_rows, identity_rows, metadata_rows, is_queue, is_queue_type, is_tree_type, may_have_type, type_of}
 use Rattle.bdb_format.specs.Table.{Row, first_row, answer}
+use Rattle.std.proofs.lemmas.Bool.{and_parts, eqb-true}
+use Rattle.std.proofs.Common.{zero}
+use Rattle.bdb_format.specs.declared.metadata.FileKind.TheVariants.{Btree, Hash, Queue}
+use Rattle.std.specs.Prelude.{◌&&◌}
 
 pub header_listed : {I : Type 0} (order : Order) (page : List ℕ) (item_at : ℕ → I) → (listed order page item_at).header ≡ header_of order page
 unfolding listed
@@ -95,3 +99,15 @@ pub metadata_code : (order : Order) (page : List ℕ) (number last : ℕ) (kind 
     → byte_at page 25 ≡ type_of kind → first_row (metadata_rows order page number last kind) ≡ first_row (field_rows order page number last kind)
 unfolding metadata_rows
 metadata_code order page number last kind is_type passed is = grind (arith, eq-eqb (byte_at page 25) (type_of kind) is)
+
+-- a byte of a page of zeros
+pub zero_byte : (page : List ℕ) (k : ℕ) → is_zero page ≡ true → byte_at page k ≡ 0
+zero_byte [] k zeros = refl
+zero_byte (b ∷ page) zero zeros = eqb-true b 0 (and_parts (b == 0) (is_zero page) zeros).0
+zero_byte (b ∷ page) (suc k) zeros = zero_byte page k (and_parts (b == 0) (is_zero page) zeros).1
+
+-- the type of page 0
+pub some_type : (kind : FileKind) → 8 ≤ type_of kind
+some_type Btree = omega arith
+some_type Hash = omega arith
+some_type Queue = omega arith

@@ -101,7 +101,7 @@ kept_as print image database section read = record {
 
 -- Errors of one section.
 
-none_of_pairs : (settings : Settings) (pairs : List TextPair) → All (λ pair. pair_errors settings pair ≡ []) pairs
+pub none_of_pairs : (settings : Settings) (pairs : List TextPair) → All (λ pair. pair_errors settings pair ≡ []) pairs
     → flat_map (pair_errors settings) pairs ≡ []
 none_of_pairs settings [] none = refl
 none_of_pairs settings (pair ∷ pairs) none =

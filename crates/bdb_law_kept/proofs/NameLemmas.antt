@@ -109,7 +109,8 @@ together [] some apart = absurd (some refl)
 together (name ∷ []) some apart = tt
 together (name ∷ other ∷ others) some apart = apart
 
-named_on : (file : File) (key : List ℕ) (p : Option ℕ) (database : Database) → Contains (database_on file (Some key) p) database
+-- a database under a name has it
+pub named_on : (file : File) (key : List ℕ) (p : Option ℕ) (database : Database) → Contains (database_on file (Some key) p) database
     → is_some database.name ≡ true
 named_on file key None database at = absurd (no_member [] database refl at)
 named_on file key (Some p) database at =

@@ -11,7 +11,8 @@ use Rattle.bdb_format.specs.File.{file_of}
 use Rattle.bdb_format.specs.Less.{less}
 use Rattle.bdb_overflow.specs.Held.{AreFound, chain_value, two_cmp}
 
-apart : (a b : ℕ) → (a ≡ b → ⊥) → is_eq (nat_cmp a b) ≡ false
+-- two numbers that differ
+pub apart : (a b : ℕ) → (a ≡ b → ⊥) → is_eq (nat_cmp a b) ≡ false
 apart a b differ =
     elim (cases_order a b) [
       | inl same ↦ absurd (differ same)
