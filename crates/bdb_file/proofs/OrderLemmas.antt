@@ -21,7 +21,7 @@ use Rattle.bdb_format.specs.Master.{master_in}
 use Rattle.bdb_format.specs.Page.{BtreeFields, Page, Meta}
 use Rattle.bdb_format.specs.Verdict.{Faulty, Judgement, contents_faults, faults_in, first_fault, holding, judgement_of}
 use Rattle.bdb_format.proofs.MemberLemmas.{first_member, in_filter, in_flat_map, in_map, member_cases, no_member, of_filter, of_flat_map, of_map}
-use Rattle.bdb_format.proofs.VerdictLemmas.{InOrder, IsOfStage, of_by_page, or_else_both, stage_in_order, stages_in_order}
+use Rattle.bdb_format.proofs.VerdictLemmas.{InOrder, IsOfStage, of_by_page, or_else_both, stage_in_order, stages_in_order, late_fault}
 use Rattle.bdb_btree.proofs.CheckLemmas.{is_code as code_holding, of_code as holding_code}
 use Rattle.bdb_graph.specs.Linked.{meta_pages}
 use Rattle.bdb_graph.proofs.ReadLemmas.{master_is}
@@ -36,7 +36,6 @@ use Rattle.bdb_file.specs.declared.rows.Which.TheVariants.{Each, Master, Others}
 use Rattle.bdb_file.proofs.DatabaseLemmas.{in_pages, of_pages}
 use Rattle.bdb_master.proofs.MasterLemmas.{at_meta}
 use Rattle.bdb_file.proofs.MergeLemmas.{at_page}
-use Rattle.bdb_format.proofs.VerdictLemmas.{late_fault}
 
 -- A sink that takes no notice of rows of order.
 

@@ -1,7 +1,7 @@
 -- Laws of a page with an index, and of the rows of its items.
 use Rattle.std.proofs.lemmas.Bool.Decides.{nat_tests}
-use Rattle.std.proofs.Common.{◌≡◌, ℕ, suc, ◌+◌, ◌-◌, ◌<◌, ◌≤◌, List, [], ◌∷◌, length, take, arith, refl, sym, ◌∙◌, ap, eq-eqb}
-use Rattle.std.specs.Prelude.{Bool, cond, slice_get, slice_index, replicate, ◌==◌, true, Option, Some, None, Ok}
+use Rattle.std.proofs.Common.{◌≡◌, ℕ, suc, ◌+◌, ◌-◌, ◌<◌, ◌≤◌, List, [], ◌∷◌, length, take, arith, refl, sym, ◌∙◌, ap, eq-eqb, zero}
+use Rattle.std.specs.Prelude.{Bool, cond, slice_get, slice_index, replicate, ◌==◌, true, Option, Some, None, Ok, ◌&&◌}
 use Rattle.std.specs.Option.{option_map}
 use Rattle.std.proofs.lemmas.List.{drop-replicate, get_or-replicate, take-replicate}
 use Rattle.std.proofs.Math.Dec.{eqb-suc-zero}
@@ -16,9 +16,7 @@ use Rattle.bdb_format.specs.Reading.{listed, entries_of, offset_of, header_of, i
 use Rattle.bdb_format.specs.Rows.{field_rows, identity_rows, metadata_rows, is_queue, is_queue_type, is_tree_type, may_have_type, type_of}
 use Rattle.bdb_format.specs.Table.{Row, first_row, answer}
 use Rattle.std.proofs.lemmas.Bool.{and_parts, eqb-true}
-use Rattle.std.proofs.Common.{zero}
 use Rattle.bdb_format.specs.declared.metadata.FileKind.TheVariants.{Btree, Hash, Queue}
-use Rattle.std.specs.Prelude.{◌&&◌}
 
 pub header_listed : {I : Type 0} (order : Order) (page : List ℕ) (item_at : ℕ → I) → (listed order page item_at).header ≡ header_of order page
 unfolding listed

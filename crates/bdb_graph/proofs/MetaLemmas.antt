@@ -23,7 +23,7 @@ use Rattle.bdb_graph.specs.Linked.{meta_pages, metas_below}
 use Rattle.bdb_graph.specs.Metas.{meta_in}
 use Rattle.bdb_format.specs.declared.metadata.HashMeta.{HashMeta}
 use Rattle.bdb_graph.proofs.CodeLemmas.{differs, not_zero, queue_last}
-use Rattle.bdb_graph.proofs.HeldLemmas.{few_buckets, metadata_formed, table_formed, table_page, tree_page, other_page, other_type}
+use Rattle.bdb_graph.proofs.HeldLemmas.{few_buckets, metadata_formed, table_formed, table_page, tree_page, other_page, other_type, other_formed}
 use Rattle.bdb_format.proofs.ListLemmas.{range_zero_more}
 use Rattle.bdb_format.proofs.FileLemmas.{page_is}
 
@@ -132,3 +132,6 @@ no_more_meta file n metas below other = below ∙ sym (one_page_more file n ∙ 
 pub all_metas : (file : File) (n : ℕ) (metas : List ℕ) → n ≡ file.last + 1 → metas ≡ metas_below file n → metas ≡ meta_pages file
 unfolding meta_pages
 all_metas file n metas all below = below ∙ ap (metas_below file) all
+
+-- which metadata a page holds
+pub ruleset held_fields = (is_fields, few_buckets_known, no_table, no_tree, other_formed)

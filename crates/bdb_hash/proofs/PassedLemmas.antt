@@ -16,6 +16,7 @@ use Rattle.bdb_hash.specs.Told.{Told, bucket_told, joined_pages, page_told}
 use Rattle.bdb_hash.specs.declared.passed.Passed.{Passed}
 use Rattle.bdb_faults.proofs.SinkLemmas.{notes_nothing, notes_then}
 use Rattle.bdb_format.proofs.ListLemmas.{range_zero_more}
+use Rattle.bdb_hash.proofs.ChainedLemmas.{first_of, rest_of, first_page_of, other_pages_of}
 
 or_assoc : (a b c : Bool) → ((a || b) || c) ≡ (a || (b || c))
 or_assoc true b c = refl
@@ -102,3 +103,9 @@ bucket_strays image meta b mid next old new pages done are passes =
     ∙ (ap (λ s. list_any (has_stray_in image meta) (range_with_len 0 b) || s) (sym (or-false (has_stray_in image meta b)))
     ∙ (sym (list_any-append (has_stray_in image meta) (range_with_len 0 b) (b ∷ []))
     ∙ ap (list_any (has_stray_in image meta)) (sym (range_zero_more b))))))
+
+-- how a page is gone through
+pub ruleset passing_page = (first_of, rest_of, all_passing, none_passing, one_passing)
+
+-- how a bucket is gone through
+pub ruleset passing_bucket = (first_page_of, other_pages_of, all_passing, more_passing, none_passing)

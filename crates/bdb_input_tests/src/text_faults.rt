@@ -164,7 +164,9 @@ const ENDS_OF_HEADERS: [Row; 19] = [
         15,
     ),
     (
-        b"VERSION=3\ndatabase=a\ntype=hash\nHEADER=END\nDATA=END\nVERSION=3\ndatabase=b\ntype=hash\nHEADER=END\nDATA=END\nVERSION=3\ndatabase=a\ntype=hash\nHEADER=END\n",
+        b"VERSION=3\ndatabase=a\ntype=hash\nHEADER=END\nDATA=END\n\
+            VERSION=3\ndatabase=b\ntype=hash\nHEADER=END\nDATA=END\n\
+            VERSION=3\ndatabase=a\ntype=hash\nHEADER=END\n",
         14,
         15,
     ),

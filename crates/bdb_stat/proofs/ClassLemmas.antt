@@ -16,7 +16,7 @@ use Rattle.bdb_form.specs.Seen.{header_seen, page_seen}
 use Rattle.bdb_format.specs.declared.pages.Header.{Header}
 use Rattle.bdb_format.proofs.FileLemmas.{kind_is, last_page, page_is}
 use Rattle.bdb_format.proofs.GraphLemmas.{type_fits, typed_page, zero_page}
-use Rattle.bdb_format.proofs.PageLemmas.{later_type}
+use Rattle.bdb_format.proofs.PageLemmas.{later_type, some_type, zero_byte}
 use Rattle.bdb_format.proofs.TypeLemmas.{one_type}
 use Rattle.bdb_format.proofs.VerdictLemmas.{no_rows_at, none_within}
 use Rattle.bdb_format.specs.File.{File, file_of, header_in, page_at, page_bytes}
@@ -33,7 +33,6 @@ use Rattle.bdb_graph.specs.Linked.{IsForest}
 use Rattle.bdb_stat.specs.Classes.{class_by_type, class_of, is_class, same_class, tree_level}
 use Rattle.bdb_stat.specs.declared.class.Class.{Class}
 use Rattle.bdb_stat.specs.declared.class.Class.TheVariants.{Internal, Leaf, Meta, Queue, Reserve, Tail}
-use Rattle.bdb_format.proofs.PageLemmas.{some_type, zero_byte}
 
 -- The class by what decides it.
 

@@ -10,8 +10,7 @@ use Rattle.bdb_format.proofs.MemberLemmas.{first_member, member_cases, no_member
 use Rattle.bdb_format.proofs.TurnLemmas.{length-slice_range}
 use Rattle.bdb_format.specs.Numbers.{byte_at, overwritten}
 use Rattle.bdb_turned.specs.Fields.{Field, block_fields, field}
-use Rattle.bdb_turned.specs.Apart.{run_length}
-use Rattle.bdb_turned.specs.Apart.{AreApart, LieWithin}
+use Rattle.bdb_turned.specs.Apart.{run_length, AreApart, LieWithin}
 use Rattle.bdb_turned.specs.Turning.{mirror, turned_round}
 use Rattle.bdb_swap.specs.Turns.{Turns}
 use Rattle.bdb_turned.proofs.PlaceLemmas.{get_or-turned_round, inside_or_not, length-turned_round, mirror-inside, mirror-outside}

@@ -8,7 +8,6 @@ ghost use Rattle.bdb_format.specs.Lists.{list_of};
 ghost use Rattle.bdb_format.specs.Master.{master_in};
 ghost use Rattle.bdb_format.specs.Verdict.{verdict_of};
 ghost use Rattle.bdb_onto.specs.Bases.{IsBaseOf, base_of, base_section, text_pair};
-ghost use Rattle.bdb_format.specs.Chains.{joined};
 ghost use Rattle.bdb_overflow.specs.Datum.{datum_seen, key_view_seen};
 ghost use Rattle.bdb_text_format.specs.Placed.{key_seen};
 ghost use Rattle.bdb_tool_build.specs.Ontos.{list_key};
@@ -18,7 +17,7 @@ use bdb_format::{Bytes, Steps, Verdict};
 use bdb_graph::Meta;
 use bdb_io::Image;
 use bdb_onto::Base;
-use bdb_overflow::{Datum, KeyView, Pieces};
+use bdb_overflow::{Datum, KeyView, bytes_in};
 use bdb_text_format::{KeyRef, PairRef, Section, Sections, TextPairs};
 use std::alloc::{AllocError, Global};
 use std::sync::ledger::Ledger;
@@ -35,36 +34,12 @@ fn copied_name(alloc: Global, name: Option<&[u8]>) -> Result<Option<Bytes>, Allo
     Ok(Some(copy))
 }
 
-// Puts pieces of a chain into a room, one behind the other.
-fn put_pieces(pieces: Pieces<'_>, room: &mut Vec<u8>) -> Result<(), AllocError>
-    ensures { OnOk result (room.new.items ≡ joined pieces.entry) }
-{
-    room.clear();
-    for piece in pieces {
-        room.extend_from_slice(piece)?;
-    }
-    Ok(())
-}
-
-// The bytes of a value: those of its page, or of its chain, which then lie in a room.
-fn bytes_of<'r>(value: Datum<'r>, room: &'r mut Vec<u8>) -> Result<&'r [u8], AllocError>
-    ensures { IfOk result (λ bytes. bytes.now ≡ datum_seen value.entry) }
-{
-    match value {
-        Datum::Inline(bytes) => Ok(bytes),
-        Datum::Chained(pieces) => {
-            put_pieces(pieces, room)?;
-            Ok(room.as_slice())
-        }
-    }
-}
-
 // The key of a list; the bytes of a chain then lie in a room.
 fn key_of<'r>(key: KeyView<'r>, room: &'r mut Vec<u8>) -> Result<KeyRef<'r>, AllocError>
     ensures { IfOk result (λ lent. key_seen lent ≡ list_key (key_view_seen key.entry)) }
 {
     match key {
-        KeyView::Bytes(value) => match bytes_of(value, room) {
+        KeyView::Bytes(value) => match bytes_in(value, room) {
             Ok(bytes) => Ok(KeyRef::Bytes(bytes)),
             Err(error) => Err(error),
         },
@@ -85,7 +60,7 @@ fn push_listed(
 {
     pairs.push(PairRef {
         key: key_of(key, key_room)?,
-        value: bytes_of(value, room)?,
+        value: bytes_in(value, room)?,
         line: 0,
     })
 }
