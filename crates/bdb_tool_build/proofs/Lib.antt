@@ -1,6 +1,5 @@
 pub mod BaseLemmas
 pub mod LoadLemmas
-pub mod NameLemmas
 pub mod OntoLemmas
 pub mod RefusalLemmas
 pub mod TrialLemmas

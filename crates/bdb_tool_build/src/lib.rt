@@ -3,7 +3,6 @@
 
 mod base;
 mod loading;
-mod names;
 mod refusal;
 mod texts;
 mod trial;
