@@ -65,6 +65,10 @@ all_of P xs each k d below = each (get_or xs k d) (Contains-get_or xs k d below)
 pub member_of : {X : Type 0} (xs : List X) (i : ℕ) (x : X) → slice_get xs i ≡ Some x → Contains xs x
 member_of xs i x at = (i, slice_get_within xs i x at, get_or_from_slice_get xs i x x at)
 
+-- answers that are one
+pub one_answer : {A : Type 0} (a b : A) → Some a ≡ Some b → a ≡ b
+one_answer a b is = cc
+
 -- one number more at the end of a range
 pub range_more : (a n : ℕ) → range_with_len a (n + 1) ≡ range_with_len a n ++ (a + n) ∷ []
 range_more a zero = let e : a + 0 ≡ a = omega arith in rw e refl

@@ -89,7 +89,7 @@ pub fn master_among(meta: Meta) -> Option<BtreeMeta>
     ensures { result ≡ master_in (MetaPage (meta_seen meta)) }
 {
     match meta {
-        Meta::Btree(meta) if meta.flags & 0x20 != 0 => Some(meta),
+        Meta::Btree(meta) if meta.names_databases() => Some(meta),
         _ => None,
     }
 }

@@ -19,7 +19,7 @@ use Rattle.bdb_overflow.specs.Held.{chain_value}
 use Rattle.bdb_ranks.specs.Ranks.{AreBelow, AreRanked, AreRanks, is_above, no_chain, value_at, value_less}
 use Rattle.bdb_ranks.specs.Shared.{AreShared, ChainValue, IsShared}
 use Rattle.bdb_overflow.proofs.HeldLemmas.{apart}
-use Rattle.std.proofs.Math.Option.{some-injective}
+use Rattle.bdb_format.proofs.ListLemmas.{one_answer}
 
 -- The sort.
 
@@ -50,7 +50,7 @@ after_insert : (old new : BTreeMap ℕ ℕ) (h rank a m : ℕ) → Updates nat_c
     → ((h ≡ a) × (m ≡ rank)) ⊎ (get nat_cmp old a ≡ Some m)
 after_insert old new h rank a m updates at =
     elim (cases_eq h a) [
-      | inl same ↦ inl (same, some-injective m rank (sym at ∙ (sym (ap (get nat_cmp new) same) ∙ updates.1)))
+      | inl same ↦ inl (same, one_answer m rank (sym at ∙ (sym (ap (get nat_cmp new) same) ∙ updates.1)))
       | inr differ ↦ inr (sym (updates.2 a (apart h a differ)) ∙ at)
     ]
 
