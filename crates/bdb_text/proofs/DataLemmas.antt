@@ -19,7 +19,8 @@ use Rattle.bdb_text_format.specs.declared.faults.TextReason.TheVariants.{NoSpace
 
 -- A line.
 
-by_number : (key records number : Bool) → is_none {T = TextReason} (if key && records && not number then Some BadNumber else None) ≡ (not (key && records) || number)
+by_number : (key records number : Bool)
+    → is_none {T = TextReason} (if key && records && not number then Some BadNumber else None) ≡ (not (key && records) || number)
 by_number true true true = refl
 by_number true true false = refl
 by_number true false number = refl
@@ -116,7 +117,8 @@ even_more lines line h =
     rw n (ne_eqb ((length lines + 1) % 2) 1 (omega arith))
 
 none-data_end_reason : (header : Values) (lines : List (List ℕ)) → is_none (data_end_reason header lines) ≡ not (has_keys header && has_odd_length lines)
-none-data_end_reason header lines = none_row (has_keys header && has_odd_length lines) KeyWithoutData None ∙ and-true (not (has_keys header && has_odd_length lines))
+none-data_end_reason header lines =
+    none_row (has_keys header && has_odd_length lines) KeyWithoutData None ∙ and-true (not (has_keys header && has_odd_length lines))
 
 pairs_algebra : (k v c r : Bool) → (k && (v && (c && r))) ≡ ((k && (v && c)) && r)
 pairs_algebra true true c r = refl

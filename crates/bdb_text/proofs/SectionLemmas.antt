@@ -111,7 +111,8 @@ fault_from-header names first lines start fields rest number to =
     (header-no_end [] to.header to.fits)
     ∙ ap (λ (n : ℕ). fault_from names (first ∷ to.header) n rest) (sym to.number_is)
 
-header_end_by : (names : List (Option (List ℕ))) (header : List (List ℕ)) (fields : List Entry) (reason : TextReason) (line : ℕ) (rest : List (List ℕ)) (first : List ℕ)
+header_end_by : (names : List (Option (List ℕ))) (header : List (List ℕ)) (fields : List Entry) (reason : TextReason) (line : ℕ)
+    (rest : List (List ℕ)) (first : List ℕ)
     → has_header_end header ≡ false
     → entries header ≡ fields → header_reason fields rest ≡ Some reason
     → fault_from names (first ∷ header) line rest ≡ Some (record { line = line; reason = reason })

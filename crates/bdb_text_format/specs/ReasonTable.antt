@@ -2,7 +2,8 @@
 use Rattle.std.specs.Prelude.{ℕ, List, codes}
 use Rattle.bdb_text_format.specs.declared.faults.TextReason.{TextReason}
 use Rattle.bdb_text_format.specs.declared.faults.TextReason.TheVariants.{NoVersion, Version, UnknownKeyword, BadValue, RepeatedKeyword, NoType, Unsupported}
-use Rattle.bdb_text_format.specs.declared.faults.TextReason.TheVariants.{NoSpace, BadDigit, BadEscape, KeyWithoutData, BadNumber, NoEnd, NameMissing, NameTwice, Conflict}
+use Rattle.bdb_text_format.specs.declared.faults.TextReason.TheVariants.{NoSpace, BadDigit, BadEscape, KeyWithoutData, BadNumber, NoEnd, NameMissing}
+use Rattle.bdb_text_format.specs.declared.faults.TextReason.TheVariants.{NameTwice, Conflict}
 
 -- the code and the name of a reason
 abbrev pub reason_entry : TextReason → ℕ × List ℕ

@@ -16,8 +16,10 @@ use Rattle.bdb_text_format.specs.declared.keywords.Judged.TheVariants.{Fits, Bad
 use Rattle.bdb_text_format.specs.Keywords.{Keyword, keywords}
 use Rattle.bdb_text_format.specs.Header.{Values, entry_of, entries, given, values, name_in, conflicts, has_record_type, has_keys, prints}
 use Rattle.bdb_text_format.specs.declared.faults.TextReason.{TextReason}
-use Rattle.bdb_text_format.specs.declared.faults.TextReason.TheVariants.{NoVersion, Version, UnknownKeyword, BadValue, RepeatedKeyword, NoType, Unsupported, NoSpace}
-use Rattle.bdb_text_format.specs.declared.faults.TextReason.TheVariants.{BadDigit, BadEscape, KeyWithoutData, BadNumber, NoEnd, NameMissing, NameTwice, Conflict}
+use Rattle.bdb_text_format.specs.declared.faults.TextReason.TheVariants.{NoVersion, Version, UnknownKeyword, BadValue, RepeatedKeyword, NoType, Unsupported}
+use Rattle.bdb_text_format.specs.declared.faults.TextReason.TheVariants.{NoSpace}
+use Rattle.bdb_text_format.specs.declared.faults.TextReason.TheVariants.{BadDigit, BadEscape, KeyWithoutData, BadNumber, NoEnd, NameMissing, NameTwice}
+use Rattle.bdb_text_format.specs.declared.faults.TextReason.TheVariants.{Conflict}
 
 -- the lines of a section, but for its first, up to HEADER=END, and those behind it
 pub record Parts : Type 0 where

@@ -114,7 +114,8 @@ zeros_by f (k ∷ places) all = let here : f k ≡ 0 = all k in let rest : is_ze
 
 zeros_turned : (fields : List Field) (bytes : List ℕ) → is_zero bytes ≡ true → is_zero (turned_round fields bytes) ≡ true
 unfolding turned_round
-zeros_turned fields bytes zeros = zeros_by (λ k. byte_at bytes (mirror fields k)) (range_with_len 0 (length bytes)) (λ k. zero_byte bytes (mirror fields k) zeros)
+zeros_turned fields bytes zeros =
+    zeros_by (λ k. byte_at bytes (mirror fields k)) (range_with_len 0 (length bytes)) (λ k. zero_byte bytes (mirror fields k) zeros)
 
 -- a page is zeros exactly where it is so turned round
 pub zero_same : (fields : List Field) (bytes : List ℕ) → AreApart fields → LieWithin fields (length bytes) → is_zero bytes ≡ false

@@ -2,8 +2,10 @@ ghost use Rattle.bdb_format.specs.Databases.{plain_settings};
 ghost use Rattle.bdb_format.specs.declared.kinds.Kind.TheVariants.{Btree, Hash, Queue, Recno};
 ghost use Rattle.bdb_format.specs.declared.kinds.Order.TheVariants.{Big, Little};
 ghost use Rattle.bdb_text_format.specs.declared.pairs.Key.TheVariants.{Bytes, Number};
-ghost use Rattle.bdb_text_format.specs.declared.faults.TextReason.TheVariants.{NoVersion, Version, UnknownKeyword, BadValue, RepeatedKeyword, NoType, Unsupported};
-ghost use Rattle.bdb_text_format.specs.declared.faults.TextReason.TheVariants.{NoSpace, BadDigit, BadEscape, KeyWithoutData, BadNumber, NoEnd, NameMissing, Conflict};
+ghost use Rattle.bdb_text_format.specs.declared.faults.TextReason.TheVariants.{NoVersion, Version, UnknownKeyword, BadValue, RepeatedKeyword, NoType};
+ghost use Rattle.bdb_text_format.specs.declared.faults.TextReason.TheVariants.{Unsupported};
+ghost use Rattle.bdb_text_format.specs.declared.faults.TextReason.TheVariants.{NoSpace, BadDigit, BadEscape, KeyWithoutData, BadNumber, NoEnd, NameMissing};
+ghost use Rattle.bdb_text_format.specs.declared.faults.TextReason.TheVariants.{Conflict};
 ghost use Rattle.sample_texts.specs.ReadTexts.{IsFaulty, IsRead, headed};
 ghost use Rattle.sample_texts.specs.Texts.{lines};
 ghost use Rattle.std.specs.Prelude.{◌≡◌, ◌++◌, [], ◌∷◌, codes, false, true, None, Some};
@@ -60,7 +62,8 @@ pub fn header_ends()
     ensures conflict_queue { IsFaulty (headed ("type=queue" ∷ "HEADER=END" ∷ [])) 3 Conflict }
     ensures conflict_renumber { IsFaulty (headed ("type=btree" ∷ "renumber=1" ∷ "HEADER=END" ∷ [])) 4 Conflict }
     ensures conflict_before_missing { IsFaulty (headed ("type=btree" ∷ "HEADER=END" ∷ "DATA=END" ∷ "VERSION=3" ∷ "type=queue" ∷ "HEADER=END" ∷ [])) 7 Conflict }
-    ensures missing { IsFaulty (headed ("type=btree" ∷ "HEADER=END" ∷ "DATA=END" ∷ "VERSION=3" ∷ "database=a" ∷ "type=btree" ∷ "HEADER=END" ∷ [])) 8 NameMissing }
+    ensures missing { IsFaulty (headed ("type=btree" ∷ "HEADER=END" ∷ "DATA=END" ∷ "VERSION=3" ∷ "database=a" ∷ "type=btree"
+        ∷ "HEADER=END" ∷ [])) 8 NameMissing }
     ensures missing_second { IsFaulty (headed ("database=a" ∷ "type=btree" ∷ "HEADER=END" ∷ "DATA=END" ∷ "VERSION=3" ∷ "type=btree" ∷ "HEADER=END" ∷ "DATA=END"
         ∷ [])) 8 14 }
     ensures missing_before_twice { IsFaulty (headed ("type=btree" ∷ "HEADER=END" ∷ "DATA=END" ∷ "VERSION=3" ∷ "type=btree" ∷ "HEADER=END" ∷ "DATA=END" ∷ [])) 7
