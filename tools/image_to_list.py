@@ -14,6 +14,7 @@ import sys
 
 SHORTEST_RUN = 4
 BYTES_A_PIECE = 16
+BRACKETS_A_LINE = 120
 
 
 def pieces(data):
@@ -41,7 +42,10 @@ def expression(parts):
     if not parts:
         return "[]"
     lines = [part if part.startswith("replicate") else f"({part})" for part in parts[:-1]]
-    return " ++ (\n    ".join(lines + [parts[-1]]) + ")" * len(lines)
+    closing = ")" * len(lines)
+    last = max(0, BRACKETS_A_LINE - len(parts[-1]))
+    closed = [closing[:last]] + [closing[at : at + BRACKETS_A_LINE] for at in range(last, len(closing), BRACKETS_A_LINE)]
+    return " ++ (\n    ".join(lines + [parts[-1]]) + "\n    ".join(closed)
 
 
 def main():

@@ -4,7 +4,6 @@ ghost use Rattle.bdb_faults.specs.Named.{HasNoted};
 ghost use Rattle.bdb_faults.specs.Notes.{NotesAll};
 ghost use Rattle.bdb_format.specs.ContentRows.{database_faults, has_wrong_count, inner_pages};
 ghost use Rattle.bdb_format.specs.File.{file_of, page_at};
-ghost use Rattle.bdb_format.specs.Numbers.{has_bit};
 ghost use Rattle.bdb_format.specs.Page.{BtreeFields};
 ghost use Rattle.bdb_format.specs.Verdict.{structure_faults, IsFirstOf};
 ghost use Rattle.bdb_format.specs.Flags.{is_recno};
@@ -114,20 +113,13 @@ fn note_forest<'a, F: FaultSink>(
     ensures same { known.new ≡ known.old }
 {
     let rules = Rules {
-        duplicates: has_bit(meta.flags, 0x41),
-        sorted: has_bit(meta.flags, 0x40),
+        duplicates: meta.has_duplicates(),
+        sorted: meta.is_sorted(),
     };
     let ordered = note_pairs(known, meta.root, rules, found)?;
     note_separators(known, meta.root, ordered, found)?;
-    note_counted(forest, has_bit(meta.flags, 0x04), meta.root, found)?;
+    note_counted(forest, meta.counts_records(), meta.root, found)?;
     Ok(())
-}
-
-/// Whether one of these bits is set.
-fn has_bit(flags: u32, bits: u32) -> bool
-    ensures { result ≡ has_bit flags bits }
-{
-    flags & bits != 0
 }
 
 /// Notes the internal pages of a tree that have a wrong count, if counts are kept.

@@ -4,10 +4,10 @@ use Rattle.std.proofs.Common.{◌∙◌, ap, subst, inl, inr, append-nil, length
 use Rattle.std.specs.Prelude.{◌==◌, ◌&&◌, ◌||◌, not}
 use Rattle.std.specs.List.{Contains, filter, flat_map}
 use Rattle.std.specs.Option.{is_some}
-use Rattle.std.proofs.lemmas.Bool.{and_parts, cases_Bool, eqb-true, or_cases, or_right}
+use Rattle.std.proofs.lemmas.Bool.{and_parts, eqb-true, or_cases, or_right}
 use Rattle.std.proofs.lemmas.List.Elements.{Contains-append_cases, Contains-append_left, Contains-append_right}
 use Rattle.bdb_faults.specs.Named.{Ascends, ComesBefore, HasNoted}
-use Rattle.bdb_faults.specs.Notes.{AreSame, IsFirst, Notes, NotesAll}
+use Rattle.bdb_faults.specs.Notes.{IsFirst, Notes, NotesAll}
 use Rattle.bdb_faults.proofs.AscendLemmas.{faults_ascend, stage_ascends}
 use Rattle.bdb_faults.proofs.SinkLemmas.{first_is, noted_all}
 use Rattle.bdb_format.specs.ByPage.{ComesFirst}
@@ -21,7 +21,7 @@ use Rattle.bdb_format.specs.Master.{master_in}
 use Rattle.bdb_format.specs.Page.{BtreeFields, Page, Meta}
 use Rattle.bdb_format.specs.Verdict.{Faulty, Judgement, contents_faults, faults_in, first_fault, holding, judgement_of}
 use Rattle.bdb_format.proofs.MemberLemmas.{first_member, in_filter, in_flat_map, in_map, member_cases, no_member, of_filter, of_flat_map, of_map}
-use Rattle.bdb_format.proofs.VerdictLemmas.{InOrder, IsOfStage, of_by_page, or_else_both, stage_in_order, stages_in_order}
+use Rattle.bdb_format.proofs.VerdictLemmas.{InOrder, IsOfStage, of_by_page, or_else_both, stage_in_order, stages_in_order, late_fault}
 use Rattle.bdb_btree.proofs.CheckLemmas.{is_code as code_holding, of_code as holding_code}
 use Rattle.bdb_graph.specs.Linked.{meta_pages}
 use Rattle.bdb_graph.proofs.ReadLemmas.{master_is}
@@ -269,9 +269,6 @@ rows_ascend rows image stages =
     or_else_both (λ fs. Ascends (map judgement_of fs)) (faults_in stages image) (contents_by rows (file_of image)) (faults_ascend image stages)
     (contents_ascend rows image)
 
-pub late_judgement : (fault : Fault) → 3 ≤ fault.stage → judgement_of fault ≡ Faulty fault
-late_judgement fault late = grind (arith, ne_eqb fault.stage 1, ne_eqb fault.stage 2)
-
 comes_first : (a b : Fault) → ComesBefore (Faulty a) (Faulty b) → ComesFirst a b
 comes_first a b (inl low) = inl low
 comes_first a b (inr (same, low)) = inr (same, omega (arith, low))
@@ -283,7 +280,7 @@ in_order_of stage faults late one up = record {
   rises = λ first rest fault same at.
       let ascends : Ascends (map judgement_of (first ∷ rest)) = subst (λ fs. Ascends (map judgement_of fs)) same up in
       let stands : (other : Fault) → Contains faults other → judgement_of other ≡ Faulty other =
-      λ other is. late_judgement other (omega (arith, late, one other is)) in
+      λ other is. late_fault other (omega (arith, late, one other is)) in
       elim (member_cases first rest fault (subst (λ fs. Contains fs fault) same at)) [
         | inl is ↦ subst (ComesFirst first) is (inr (refl, omega arith))
         | inr later ↦ comes_first first fault

@@ -8,7 +8,7 @@ use Rattle.bdb_format.specs.declared.kinds.CheckError.TheVariants.{Fault as Faul
 use Rattle.bdb_format.specs.declared.kinds.Verdict.{Verdict}
 use Rattle.bdb_format.specs.Verdict.{Faulty, IsFirstOf, Judgement, LeftOut, as_verdict, faults_in, first_fault, first_judgement, judgement_of, or_else}
 use Rattle.bdb_format.specs.Verdict.{stage_faults, verdict_in}
-use Rattle.bdb_format.proofs.VerdictLemmas.{or_else_both, skip_stage, skip_stages, stage_in_order, verdict_after, verdict_in_more}
+use Rattle.bdb_format.proofs.VerdictLemmas.{or_else_both, skip_stage, skip_stages, stage_in_order, verdict_after, verdict_in_more, late_fault}
 use Rattle.bdb_format.proofs.MemberLemmas.{first_member, no_member}
 use Rattle.bdb_format.specs.declared.kinds.Fault.{Fault}
 use Rattle.bdb_format.specs.File.{file_of}
@@ -22,7 +22,9 @@ use Rattle.bdb_graph.proofs.FirstLemmas.{formed_last}
 use Rattle.bdb_file.specs.AnyOrder.{contents_by, faults_by_rows, stages_by, verdict_by}
 use Rattle.bdb_file.specs.Whole.{IsVerdictBy, told_as}
 use Rattle.bdb_file.specs.declared.rows.Rows.{Rows}
-use Rattle.bdb_file.proofs.OrderLemmas.{late_judgement, of_counted}
+use Rattle.bdb_file.proofs.OrderLemmas.{of_counted}
+use Rattle.bdb_file.proofs.RowsLemmas.{read_in_any_order}
+use Rattle.bdb_file.proofs.WholeLemmas.{no_structure_fault, no_master_fault}
 
 is_verdict : (rows : Rows) (image : List ℕ) (judgement : Judgement) → verdict_by rows image ≡ Some judgement
     → IsVerdictBy rows image (as_verdict judgement)
@@ -105,7 +107,7 @@ first_late : (faults : List Fault) (fault : Fault) → AreLate faults → first_
 first_late [] fault late is = absurd cc
 first_late (first ∷ faults) fault late is =
     let same : first ≡ fault = cc in
-    ap (λ (j : Judgement). Some j) (ap judgement_of same ∙ late_judgement fault
+    ap (λ (j : Judgement). Some j) (ap judgement_of same ∙ late_fault fault
     (subst (λ (f : Fault). 3 ≤ f.stage) same (late first (first_member first faults))))
 
 pub file_refused : (rows : Rows) (image : List ℕ) (error : CheckError) → faults_in (1 ∷ 2 ∷ []) image ≡ [] → faults_in (3 ∷ 4 ∷ 5 ∷ []) image ≡ []
@@ -182,3 +184,9 @@ pub file_all : (rows : Rows) (image : List ℕ) (error : AllError) → faults_in
     → IsAllOf (stages_by rows (6 ∷ 7 ∷ []) image) error
     → IsAllOf (faults_by_rows rows image) error
 file_all rows image error form linked is = subst (λ fs. IsAllOf fs error) (sym (forest_skipped rows image form linked)) is
+
+-- what the first fault of a file is
+pub ruleset first_verdict = (graph_refused, file_refused, file_accepted, read_in_any_order, no_structure_fault, no_master_fault)
+
+-- what all faults of a file are
+pub ruleset whole_verdict = (graph_all, file_all, file_accepted, read_in_any_order, no_structure_fault, no_master_fault)

@@ -41,9 +41,7 @@ fn note_database<'a, F: FaultSink>(
     ensures chains { chains.new ≡ chains.old }
 {
     match meta {
-        Meta::Btree(meta) if meta.flags & 0x02 == 0 => note_btree(
-            alloc, linked, meta, known, found,
-        ),
+        Meta::Btree(meta) if !meta.is_recno() => note_btree(alloc, linked, meta, known, found),
         Meta::Btree(meta) => note_recno(linked, meta, found),
         Meta::Hash(meta) => note_hash(alloc, linked, meta, chains, found),
         Meta::Queue(_) => Ok(()),

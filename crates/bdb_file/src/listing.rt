@@ -76,7 +76,7 @@ fn tree_entries<'a>(linked: &Linked<'a>, meta: &BtreeMeta) -> Entries<'a>
     requires stage { structure_faults (file_of linked.now) ≡ [] }
     ensures { entries_left result ≡ list_of (file_of linked.now) (BtreeFields meta.now) }
 {
-    if meta.flags & 0x02 == 0 {
+    if !meta.is_recno() {
         Entries::Btree(bdb_btree::scan(linked, meta))
     } else {
         Entries::Recno(bdb_recno::scan(linked, meta))

@@ -133,7 +133,7 @@ fn tree_data<'a, L: Ledger>(
     ensures found { data_left result ≡ data_under (file_of linked.now) (BtreeFields meta.now) key.now }
     ensures cost { steps.new ≤ steps.old + most_steps (file_of linked.now) (BtreeFields meta.now) }
 {
-    if meta.flags & 0x02 == 0 {
+    if !meta.is_recno() {
         Data::Btree(bdb_btree::find(linked, meta, key, steps))
     } else {
         record_in(linked, meta, key, steps)

@@ -23,7 +23,7 @@ fn told_as(error: CheckError) -> Verdict
 }
 
 /// A formed image as a readable file, or its refusal by the rows that count.
-#[tactic(auto, using(crate::proofs::VerdictLemmas::graph_refused, crate::proofs::VerdictLemmas::file_refused, crate::proofs::VerdictLemmas::file_accepted, crate::proofs::RowsLemmas::read_in_any_order, crate::proofs::WholeLemmas::no_structure_fault, crate::proofs::WholeLemmas::no_master_fault))]
+#[tactic(auto, using(crate::proofs::VerdictLemmas::first_verdict))]
 fn checked<'a, L: Ledger>(
     alloc: Global,
     formed: Formed<'a>,

@@ -37,7 +37,7 @@ fn entries_or_all<'a>(
 }
 
 /// A formed image as a readable file, or all its faults that count.
-#[tactic(auto, using(crate::proofs::VerdictLemmas::graph_all, crate::proofs::VerdictLemmas::file_all, crate::proofs::VerdictLemmas::file_accepted, crate::proofs::RowsLemmas::read_in_any_order, crate::proofs::WholeLemmas::no_structure_fault, crate::proofs::WholeLemmas::no_master_fault))]
+#[tactic(auto, using(crate::proofs::VerdictLemmas::whole_verdict))]
 fn readable_or_all<'a, L: Ledger>(
     alloc: Global,
     formed: Formed<'a>,

@@ -1,20 +1,18 @@
 -- What it means for a page with an index that no row of form holds for it.
 use Rattle.std.proofs.Common.{[], ◌∷◌, ◌≡◌, ℕ, ◌%◌, ◌<◌, ◌≤◌, List, length, drop, ◌+◌, arith, refl, sym, ◌∙◌, ap, ltb-false, nat_eq, eq-eqb, eqb-true, ◌*◌, ◌-◌}
 use Rattle.std.proofs.Common.{le-leb}
-use Rattle.std.specs.Prelude.{cond, nat_le, slice_index, not, ◌==◌, IsTrue, Bool, true, false, Option, Some, None}
+use Rattle.std.specs.Prelude.{cond, nat_le, slice_index, not, ◌==◌, IsTrue, Bool, true, false, Option, Some, None, slice_get}
 use Rattle.bdb_format.specs.declared.kinds.Order.{Order}
 use Rattle.bdb_format.specs.declared.kinds.Order.TheVariants.{Big}
 use Rattle.bdb_format.specs.Numbers.{byte_at, four_at, two_at}
 use Rattle.bdb_format.specs.Page.{PageType, OverflowPage, Queue}
-use Rattle.bdb_format.specs.Reading.{entries_of, index_end, is_zero, page_as, page_type}
+use Rattle.bdb_format.specs.Reading.{entries_of, index_end, is_zero, page_as, page_type, listed}
 use Rattle.bdb_format.specs.References.{is_shared_key}
 use Rattle.bdb_format.specs.Rows.{code_of, is_queue_type, body_code, is_tree_type, page_code, queue_code, index_rows, item_rows, is_wrong_entry_count}
 use Rattle.bdb_format.specs.Table.{◌:?◌, first_row}
-use Rattle.std.specs.Prelude.{slice_get}
-use Rattle.bdb_format.specs.Reading.{listed}
 use Rattle.bdb_format.proofs.ItemLemmas.{index_passes, no_index_row, no_item_row}
 use Rattle.bdb_format.specs.declared.pages.Header.{Header}
-use Rattle.bdb_format.proofs.PageLemmas.{zero_header, length_items, get_item}
+use Rattle.bdb_format.proofs.PageLemmas.{zero_header, length_items, get_item, header_listed, index_offset}
 use Rattle.bdb_form.specs.Formed.{HoldsData, IsListed}
 
 -- A page with an index.
@@ -119,3 +117,15 @@ holds_data order page size header none seven =
 pub queue_page : (order : Order) (number : ℕ) (page : List ℕ) → queue_code order number page ≡ None → is_zero page ≡ false
     → Queue (four_at order page 8) (drop 28 page) ≡ page_as order page (page_type (byte_at page 25))
 queue_page order number page none other = ap (λ b. page_as order page (page_type b)) (sym (queue_type order number page none other))
+
+-- what the form of a page of a tree or table is
+pub ruleset tree_page_form = (tree_type, tree_body, zero_header)
+
+-- what the form of a page of a queue is
+pub ruleset queue_page_form = (queue_page, zero_header)
+
+-- what a view over an index needs
+pub ruleset indexed_over = (header_listed, length_items, index_offset, listed_room)
+
+-- what an item of an index needs
+pub ruleset indexed_item = (listed_room, sound_item, item_is, length_items)

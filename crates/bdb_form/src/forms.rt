@@ -73,7 +73,7 @@ pub fn queue_code(page: &[u8], number: u32, order: Order) -> Option<u8>
 
 /// The view of a page above 0 of a btree or hash file for which no row of form is known to hold, without
 /// another look at its items.
-#[tactic(auto, using(crate::proofs::FormedLemmas::tree_type, crate::proofs::FormedLemmas::tree_body, bdb_format::proofs::PageLemmas::zero_header), unfolding(bdb_format::specs::Reading::abstract_page))]
+#[tactic(auto, using(crate::proofs::FormedLemmas::tree_page_form), unfolding(bdb_format::specs::Reading::abstract_page))]
 pub fn known_form(page: &[u8], number: u32, order: Order) -> PageView<'_>
     requires size { IsTrue (is_page_size (length page.now)) }
     requires form { page_code order number page.now ≡ None }
@@ -88,7 +88,7 @@ pub fn known_form(page: &[u8], number: u32, order: Order) -> PageView<'_>
 }
 
 /// The view of a page above 0 of a queue file for which no row of form is known to hold.
-#[tactic(auto, using(crate::proofs::FormedLemmas::queue_page, bdb_format::proofs::PageLemmas::zero_header), unfolding(bdb_format::specs::Reading::abstract_page))]
+#[tactic(auto, using(crate::proofs::FormedLemmas::queue_page_form), unfolding(bdb_format::specs::Reading::abstract_page))]
 pub fn known_queue_form(page: &[u8], number: u32, order: Order) -> PageView<'_>
     requires size { IsTrue (is_page_size (length page.now)) }
     requires form { queue_code order number page.now ≡ None }

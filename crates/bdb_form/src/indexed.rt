@@ -66,7 +66,7 @@ impl<'a, K: PageKind> Model for IndexedView<'a, K> {
     ghost invariant = { λ v. IsListed K.page_type v.order v.page.now };
 }
 
-#[tactic(auto, using(bdb_format::proofs::PageLemmas::header_listed, bdb_format::proofs::PageLemmas::length_items, bdb_format::proofs::PageLemmas::index_offset, crate::proofs::FormedLemmas::listed_room))]
+#[tactic(auto, using(crate::proofs::FormedLemmas::indexed_over))]
 impl<'a, K: PageKind> IndexedView<'a, K> {
     // The view of a page of this type for which no row of form holds.
     pub(crate) fn over(page: &'a [u8], order: Order) -> IndexedView<'a, K>
@@ -117,7 +117,7 @@ impl<'a, K: PageKind> IndexedView<'a, K> {
     }
 }
 
-#[tactic(auto, using(crate::proofs::FormedLemmas::listed_room, crate::proofs::FormedLemmas::sound_item, crate::proofs::FormedLemmas::item_is, bdb_format::proofs::PageLemmas::length_items))]
+#[tactic(auto, using(crate::proofs::FormedLemmas::indexed_item))]
 impl<'a, K: ItemKind<'a>> IndexedView<'a, K> {
     /// An item; the key of the first of an internal page is never compared.
     pub fn item(&self, i: u16) -> K::Item

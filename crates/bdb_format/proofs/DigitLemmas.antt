@@ -68,3 +68,6 @@ next_fits number i byte few small high =
     let some : 0 < 10 = omega arith in
     let most : 10 ^ i ≤ 10 ^ 9 = pow-le-pow_right some low in
     omega arith
+
+-- how digits are read
+pub ruleset digits_read = (no_digits, many_digits, wrong_digit, whole_number, more_digits, next_value, digit_low, digit_high, next_below, next_fits)

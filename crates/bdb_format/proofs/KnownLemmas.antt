@@ -28,3 +28,6 @@ appends_nothing a = Appends-nil a
 
 pub keeps_itself : (a : Option (List ℕ)) → Keeps a a
 keeps_itself a = Keeps-refl a
+
+-- what is consumed of a source
+pub ruleset consumed = (consumes_next, consumes_kept, consumes_nothing)

@@ -65,11 +65,19 @@ all_of P xs each k d below = each (get_or xs k d) (Contains-get_or xs k d below)
 pub member_of : {X : Type 0} (xs : List X) (i : ℕ) (x : X) → slice_get xs i ≡ Some x → Contains xs x
 member_of xs i x at = (i, slice_get_within xs i x at, get_or_from_slice_get xs i x x at)
 
+-- answers that are one
+pub one_answer : {A : Type 0} (a b : A) → Some a ≡ Some b → a ≡ b
+one_answer a b is = cc
+
 -- one number more at the end of a range
 pub range_more : (a n : ℕ) → range_with_len a (n + 1) ≡ range_with_len a n ++ (a + n) ∷ []
 range_more a zero = let e : a + 0 ≡ a = omega arith in rw e refl
 range_more a (suc n) = let more : suc n + 1 ≡ suc (n + 1) = omega arith in let e : a + 1 + n
     ≡ a + suc n = omega arith in rw more (ap (λ xs. a ∷ xs) (range_more (a + 1) n ∙ ap (λ m. range_with_len (a + 1) n ++ m ∷ []) e))
+
+-- and of one from 0 on
+pub range_zero_more : (n : ℕ) → range_with_len 0 (n + 1) ≡ range_with_len 0 n ++ n ∷ []
+range_zero_more n = let same : 0 + n ≡ n = omega arith in range_more 0 n ∙ ap (λ m. range_with_len 0 n ++ m ∷ []) same
 
 -- a range, cut in two
 pub range_parts : (a m n : ℕ) → range_with_len a (m + n) ≡ range_with_len a m ++ range_with_len (a + m) n

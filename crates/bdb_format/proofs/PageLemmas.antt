@@ -1,7 +1,7 @@
 -- Laws of a page with an index, and of the rows of its items.
 use Rattle.std.proofs.lemmas.Bool.Decides.{nat_tests}
-use Rattle.std.proofs.Common.{◌≡◌, ℕ, suc, ◌+◌, ◌-◌, ◌<◌, ◌≤◌, List, [], ◌∷◌, length, take, arith, refl, sym, ◌∙◌, ap, eq-eqb}
-use Rattle.std.specs.Prelude.{Bool, cond, slice_get, slice_index, replicate, ◌==◌, true, Option, Some, None, Ok}
+use Rattle.std.proofs.Common.{◌≡◌, ℕ, suc, ◌+◌, ◌-◌, ◌<◌, ◌≤◌, List, [], ◌∷◌, length, take, arith, refl, sym, ◌∙◌, ap, eq-eqb, zero}
+use Rattle.std.specs.Prelude.{Bool, cond, slice_get, slice_index, replicate, ◌==◌, true, Option, Some, None, Ok, ◌&&◌}
 use Rattle.std.specs.Option.{option_map}
 use Rattle.std.proofs.lemmas.List.{drop-replicate, get_or-replicate, take-replicate}
 use Rattle.std.proofs.Math.Dec.{eqb-suc-zero}
@@ -15,6 +15,8 @@ use Rattle.bdb_format.specs.Numbers.{byte_at, four_at, number, number_at, two_at
 use Rattle.bdb_format.specs.Reading.{listed, entries_of, offset_of, header_of, is_zero}
 use Rattle.bdb_format.specs.Rows.{field_rows, identity_rows, metadata_rows, is_queue, is_queue_type, is_tree_type, may_have_type, type_of}
 use Rattle.bdb_format.specs.Table.{Row, first_row, answer}
+use Rattle.std.proofs.lemmas.Bool.{and_parts, eqb-true}
+use Rattle.bdb_format.specs.declared.metadata.FileKind.TheVariants.{Btree, Hash, Queue}
 
 pub header_listed : {I : Type 0} (order : Order) (page : List ℕ) (item_at : ℕ → I) → (listed order page item_at).header ≡ header_of order page
 unfolding listed
@@ -95,3 +97,15 @@ pub metadata_code : (order : Order) (page : List ℕ) (number last : ℕ) (kind 
     → byte_at page 25 ≡ type_of kind → first_row (metadata_rows order page number last kind) ≡ first_row (field_rows order page number last kind)
 unfolding metadata_rows
 metadata_code order page number last kind is_type passed is = grind (arith, eq-eqb (byte_at page 25) (type_of kind) is)
+
+-- a byte of a page of zeros
+pub zero_byte : (page : List ℕ) (k : ℕ) → is_zero page ≡ true → byte_at page k ≡ 0
+zero_byte [] k zeros = refl
+zero_byte (b ∷ page) zero zeros = eqb-true b 0 (and_parts (b == 0) (is_zero page) zeros).0
+zero_byte (b ∷ page) (suc k) zeros = zero_byte page k (and_parts (b == 0) (is_zero page) zeros).1
+
+-- the type of page 0
+pub some_type : (kind : FileKind) → 8 ≤ type_of kind
+some_type Btree = omega arith
+some_type Hash = omega arith
+some_type Queue = omega arith

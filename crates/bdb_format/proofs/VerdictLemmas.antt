@@ -373,7 +373,7 @@ first_from (suc n) from image fault is =
     ]
 
 -- from stage 3 on a fault is judged as it is
-late_fault : (fault : Fault) → 3 ≤ fault.stage → judgement_of fault ≡ Faulty fault
+pub late_fault : (fault : Fault) → 3 ≤ fault.stage → judgement_of fault ≡ Faulty fault
 late_fault fault late = grind (arith, ne_eqb fault.stage 1, ne_eqb fault.stage 2)
 
 -- the verdict is the first fault of stages from 3 on, after stages without faults

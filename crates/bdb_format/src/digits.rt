@@ -2,7 +2,7 @@ ghost use Rattle.std.specs.Prelude.{◌≡◌};
 ghost use Rattle.bdb_format.specs.Digits.{number_in};
 
 /// The number that one to ten decimal digits say, from the high end on; none of other bytes.
-#[tactic(auto, using(crate::proofs::DigitLemmas::no_digits, crate::proofs::DigitLemmas::many_digits, crate::proofs::DigitLemmas::wrong_digit, crate::proofs::DigitLemmas::whole_number, crate::proofs::DigitLemmas::more_digits, crate::proofs::DigitLemmas::next_value, crate::proofs::DigitLemmas::digit_low, crate::proofs::DigitLemmas::digit_high, crate::proofs::DigitLemmas::next_below, crate::proofs::DigitLemmas::next_fits))]
+#[tactic(auto, using(crate::proofs::DigitLemmas::digits_read))]
 pub fn number_in(key: &[u8]) -> Option<u64>
     ensures { result ≡ number_in key.now }
 {

@@ -3,7 +3,9 @@
 
 mod bytes;
 mod digits;
+mod flags;
 pub mod graph_laws;
+mod head;
 mod kinds;
 pub mod laws;
 mod metadata;
@@ -14,9 +16,10 @@ mod steps;
 
 pub use bytes::Bytes;
 pub use digits::number_in;
+pub use head::{is_page_size, magic_of};
 pub use kinds::{CheckError, Fault, Kind, Order, Unsupported, Verdict};
 pub use metadata::{BtreeMeta, FileKind, HashMeta, Head, MetaFault, QueueMeta};
 pub use pages::{Header, ItemFault, RecnoItem};
 pub use references::{Reference, Sort};
-pub use settings::Settings;
+pub use settings::{Settings, plain_settings};
 pub use steps::Steps;

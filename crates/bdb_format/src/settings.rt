@@ -1,3 +1,6 @@
+ghost use Rattle.std.specs.Prelude.{◌≡◌};
+ghost use Rattle.bdb_format.specs.Databases.{plain_settings};
+
 use crate::{Kind, Order};
 
 /// The settings of a database, as the header of its dump text shows them. A field that doesn't belong to the kind is
@@ -28,4 +31,24 @@ pub struct Settings {
     pub minkey: u32,
     /// How many pairs a bucket is to hold, 0 where nothing is said (hash).
     pub ffactor: u32,
+}
+
+/// The settings of a database of this kind that says nothing of its own.
+pub fn plain_settings(kind: Kind, page_size: u32, order: Order) -> Settings
+    ensures { result ≡ plain_settings kind page_size order }
+{
+    Settings {
+        kind,
+        page_size,
+        order,
+        duplicates: false,
+        sorted: false,
+        recnum: false,
+        renumber: false,
+        fixed: false,
+        re_len: 0,
+        re_pad: 32,
+        minkey: 2,
+        ffactor: 0,
+    }
 }

@@ -229,3 +229,6 @@ sum_fits image head turn total length' formed below added small =
 pub kept_more : (file : File) (p : ℕ) (lengths : List ℕ) (kept : ℕ) → lengths ≡ map (kept_length file) (range_with_len 0 p) → kept ≡ kept_length file p
     → lengths ++ kept ∷ [] ≡ map (kept_length file) (range_with_len 0 (p + 1))
 kept_more file p lengths kept are is = rw (map-range_with_len_more (kept_length file) 0 p p (omega arith), are, is) refl
+
+-- how long the piece of a page is
+pub ruleset piece_lengths = (no_piece, piece_there, zero_piece)

@@ -54,3 +54,6 @@ formed_page image number none low =
     no_code _
     (no_codes_at 2 0 ((head_of image).last + 1) number (λ p. option_to_list (form_code (head_of image) p (page_bytes (head_of image) image p)))
     (none_within 1 2 image 2 none (omega arith) (omega arith)) (omega arith) (omega arith))
+
+-- what pages of sound form are
+pub ruleset formed_pages = (formed_page, formed_accepted, formed_last, formed_few)

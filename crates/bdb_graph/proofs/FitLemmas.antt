@@ -21,6 +21,7 @@ use Rattle.bdb_graph.specs.Fits.{is_headed, page_rows}
 use Rattle.bdb_format.proofs.GraphLemmas.{zero_page, typed_page}
 use Rattle.bdb_format.proofs.PageLemmas.{zero_header as zero_fields}
 use Rattle.bdb_format.proofs.TypeLemmas.{if_type}
+use Rattle.bdb_format.proofs.FileLemmas.{last_page}
 
 -- Bytes as a page.
 
@@ -323,3 +324,9 @@ none_more rows from to none here p low below =
       | inr (inl lesser) ↦ none p low lesser
       | inr (inr above) ↦ absurd (omega arith)
     ]
+
+-- which pages are named
+pub ruleset pages_named = (names_zero, names_above, last_page)
+
+-- which types the children of a page have
+pub ruleset types_of_children = (zero_child, no_child, internal_child, recno_child)

@@ -23,8 +23,8 @@ use Rattle.bdb_graph.specs.Linked.{meta_pages, metas_below}
 use Rattle.bdb_graph.specs.Metas.{meta_in}
 use Rattle.bdb_format.specs.declared.metadata.HashMeta.{HashMeta}
 use Rattle.bdb_graph.proofs.CodeLemmas.{differs, not_zero, queue_last}
-use Rattle.bdb_graph.proofs.HeldLemmas.{few_buckets, metadata_formed, table_formed, table_page, tree_page, other_page, other_type}
-use Rattle.bdb_format.proofs.ListLemmas.{range_more}
+use Rattle.bdb_graph.proofs.HeldLemmas.{few_buckets, metadata_formed, table_formed, table_page, tree_page, other_page, other_type, other_formed}
+use Rattle.bdb_format.proofs.ListLemmas.{range_zero_more}
 use Rattle.bdb_format.proofs.FileLemmas.{page_is}
 
 -- Queue metadata.
@@ -118,8 +118,7 @@ few_buckets_known head number page meta size none some =
 one_page_more : (file : File) (n : ℕ) → metas_below file (n + 1) ≡ metas_below file n ++ cond (is_meta (page_at file n)) (n ∷ []) []
 one_page_more file n =
     let test : ℕ → Bool = λ p. is_meta (page_at file p) in
-    let same : 0 + n ≡ n = omega arith in
-    ap (filter test) (range_more 0 n ∙ ap (λ m. range_with_len 0 n ++ m ∷ []) same) ∙ filter-append test (range_with_len 0 n) (n ∷ [])
+    ap (filter test) (range_zero_more n) ∙ filter-append test (range_with_len 0 n) (n ∷ [])
 
 pub one_more_meta : (file : File) (n : ℕ) (metas : List ℕ) → metas ≡ metas_below file n → true ≡ is_meta (page_at file n)
     → metas ++ n ∷ [] ≡ metas_below file (n + 1)
@@ -133,3 +132,6 @@ no_more_meta file n metas below other = below ∙ sym (one_page_more file n ∙ 
 pub all_metas : (file : File) (n : ℕ) (metas : List ℕ) → n ≡ file.last + 1 → metas ≡ metas_below file n → metas ≡ meta_pages file
 unfolding meta_pages
 all_metas file n metas all below = below ∙ ap (metas_below file) all
+
+-- which metadata a page holds
+pub ruleset held_fields = (is_fields, few_buckets_known, no_table, no_tree, other_formed)

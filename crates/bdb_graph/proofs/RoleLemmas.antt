@@ -186,3 +186,6 @@ no_table image n all none = none_of_list is_hash_meta NoType (file_of image).pag
 pub counts_none : (count n : ℕ) → count ≡ min (2 ^ 32 - 1) n → (count == 0) ≡ (n == 0)
 counts_none count zero is = let none : count ≡ 0 = omega arith in ap (λ k. k == 0) none
 counts_none count (suc n) is = ne_eqb count 0 (omega arith) ∙ sym (ne_eqb (suc n) 0 (omega arith))
+
+-- which pages are spare
+pub ruleset spare_pages = (spare_zero, spare_free, spare_hash, spare_other)

@@ -1,6 +1,5 @@
 -- The tallies of all pages, page by page.
-use Rattle.std.proofs.Common.{◌≡◌, ℕ, zero, suc, ◌+◌, List, [], ◌∷◌, ◌++◌, length, take, drop, map, flat_map, ap, ◌∙◌, append-nil, add-one, add-zero, arith}
-use Rattle.std.proofs.Common.{refl, sym, subst}
+use Rattle.std.proofs.Common.{◌≡◌, ℕ, ◌+◌, List, [], ◌∷◌, ◌++◌, length, take, drop, map, flat_map, ap, ◌∙◌, append-nil, arith, refl, sym, subst}
 use Rattle.std.specs.List.{range_with_len}
 use Rattle.std.proofs.lemmas.Grind.{common_steps}
 use Rattle.std.proofs.lemmas.List.Concat.{flat_map-append}
@@ -11,21 +10,16 @@ use Rattle.bdb_graph.specs.declared.tally.Kinds.{Kinds}
 use Rattle.bdb_format.specs.File.{File}
 use Rattle.bdb_format.specs.Graph.{Owner, all_references, held_by, owners}
 use Rattle.bdb_format.specs.References.{refs}
+use Rattle.bdb_format.proofs.ListLemmas.{range_zero_more}
 
 -- the references of the pages below a number
 abbrev pub held_below : File → ℕ → List Owner
 held_below file n = flat_map (held_by file) (range_with_len 0 n)
 
-range_more : (a n : ℕ) → range_with_len a (suc n) ≡ range_with_len a n ++ (a + n) ∷ []
-range_more a zero = rw (add-zero a) refl
-range_more a (suc n) = ap (λ xs. a ∷ xs) (range_more (a + 1) n ∙ ap (λ k. range_with_len (a + 1) n ++ k ∷ []) (omega arith))
-
 -- the next page adds its own
 pub held_more : (file : File) (n : ℕ) → held_below file (n + 1) ≡ held_below file n ++ map (owner n) (refs file n)
 held_more file n =
-    let more : range_with_len 0 (n + 1) ≡ range_with_len 0 n ++ n ∷ [] = ap (range_with_len 0) (add-one n)
-    ∙ (range_more 0 n ∙ ap (λ k. range_with_len 0 n ++ k ∷ []) (omega arith)) in
-    ap (flat_map (held_by file)) more ∙ rw (flat_map-append (held_by file) (range_with_len 0 n) (n ∷ []), append-nil) refl
+    ap (flat_map (held_by file)) (range_zero_more n) ∙ rw (flat_map-append (held_by file) (range_with_len 0 n) (n ∷ []), append-nil) refl
 
 pub tallied_more : (file : File) (n : ℕ) (tallies : List Tally) → AreTallies tallies (held_below file n ++ map (owner n) (refs file n))
     → AreTallies tallies (held_below file (n + 1))

@@ -131,7 +131,7 @@ fn asked_by(holder: u32, page: &FormedPage, sort: Sort) -> Demand
 }
 
 /// The first row that holds for a reference of this page; none where it fits.
-#[tactic(auto, using(crate::proofs::FitLemmas::names_zero, crate::proofs::FitLemmas::names_above, bdb_format::proofs::FileLemmas::last_page, bdb_format::proofs::FileLemmas::last_page))]
+#[tactic(auto, using(crate::proofs::FitLemmas::pages_named))]
 pub(crate) fn misfit(formed: &Formed, holder: u32, reference: Reference) -> Option<ReferenceRow>
     requires { holder ≤ (file_of formed.now).last }
     ensures { option_map reference_code result ≡ fit_code (file_of formed.now) holder reference }

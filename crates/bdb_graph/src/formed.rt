@@ -26,7 +26,7 @@ impl<'a> Model for Formed<'a> {
     ghost invariant = { λ v. IsFormed v.image.now v.head };
 }
 
-#[tactic(auto, using(crate::proofs::FirstLemmas::formed_page, crate::proofs::FirstLemmas::formed_accepted, crate::proofs::FirstLemmas::formed_last, crate::proofs::FirstLemmas::formed_few))]
+#[tactic(auto, using(crate::proofs::FirstLemmas::formed_pages))]
 impl<'a> Formed<'a> {
     // An image for which the two stages are decided.
     pub(crate) fn over(image: &'a [u8], head: Head) -> Formed<'a>

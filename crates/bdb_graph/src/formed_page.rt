@@ -136,7 +136,7 @@ impl<'a> FormedPage<'a> {
     }
 
     /// How many bytes of a value it holds; none where it isn't a page of a chain.
-    #[tactic(auto, using(crate::proofs::ChainLengthLemmas::no_piece, crate::proofs::ChainLengthLemmas::piece_there, crate::proofs::ChainLengthLemmas::zero_piece))]
+    #[tactic(auto, using(crate::proofs::ChainLengthLemmas::piece_lengths))]
     pub(crate) fn piece_len(&self) -> u32
         ensures { result ≡ length (piece_in self.now) }
     {
@@ -163,7 +163,7 @@ impl<'a> FormedPage<'a> {
     }
 
     /// The types that a page below may have, where this is an internal page: those of a leaf where this has level 2.
-    #[tactic(auto, using(crate::proofs::FitLemmas::zero_child, crate::proofs::FitLemmas::no_child, crate::proofs::FitLemmas::internal_child, crate::proofs::FitLemmas::recno_child))]
+    #[tactic(auto, using(crate::proofs::FitLemmas::types_of_children))]
     pub(crate) fn child_types(&self) -> &'static [u8]
         ensures { result.now ≡ child_types self.now }
     {
@@ -201,7 +201,7 @@ impl<'a> FormedPage<'a> {
     }
 
     /// Whether a table may hold it in reserve, as long as no reference names it.
-    #[tactic(auto, using(crate::proofs::RoleLemmas::spare_zero, crate::proofs::RoleLemmas::spare_free, crate::proofs::RoleLemmas::spare_hash, crate::proofs::RoleLemmas::spare_other))]
+    #[tactic(auto, using(crate::proofs::RoleLemmas::spare_pages))]
     pub(crate) fn is_spare(&self) -> bool
         ensures { result ≡ is_spare self.now }
     {

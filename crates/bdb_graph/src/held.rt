@@ -52,7 +52,7 @@ fn held_by<'a>(page: &'a [u8], head: &Head, number: u32) -> References<'a>
 }
 
 /// The references of a page of a btree or hash file.
-#[tactic(auto, using(crate::proofs::MetaLemmas::is_fields, crate::proofs::MetaLemmas::few_buckets_known, crate::proofs::MetaLemmas::no_table, crate::proofs::MetaLemmas::no_tree, crate::proofs::HeldLemmas::other_formed))]
+#[tactic(auto, using(crate::proofs::MetaLemmas::held_fields))]
 fn held_in_forest<'a>(page: &'a [u8], head: &Head, number: u32) -> References<'a>
     requires size { IsTrue (is_page_size (length page.now)) }
     requires last { head.now.last < 2 ^ 21 }

@@ -15,7 +15,7 @@ use Rattle.bdb_format.specs.File.{file_of}
 use Rattle.bdb_format.specs.Page.{Content, Inline, Set, Chain, Tree, Unknown}
 use Rattle.bdb_format.proofs.LessLemmas.{eq_self, eq_same}
 use Rattle.bdb_overflow.specs.Keys.{has_item, has_key}
-use Rattle.bdb_ranks.proofs.RankLemmas.{apart}
+use Rattle.bdb_overflow.proofs.HeldLemmas.{apart}
 use Rattle.bdb_hash.specs.Chained.{AreAllOf, AreAmong, AreOf, IsHeaded, Seen, chain_head, chain_value}
 use Rattle.bdb_hash.specs.Noted.{repeat_fault}
 use Rattle.bdb_hash.specs.Passed.{NotesRepeats, key_of}

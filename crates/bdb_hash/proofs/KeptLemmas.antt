@@ -19,8 +19,8 @@ use Rattle.bdb_hash.specs.Chained.{AreOf, Seen}
 use Rattle.bdb_hash.specs.Noted.{repeat_fault, repeat_faults, stored}
 use Rattle.bdb_hash.specs.Passed.{IsNoting, NotesRepeats, is_among, is_kept, is_missed, key_hash}
 use Rattle.bdb_hash.specs.Told.{Told, bucket_told, joined_pages, page_told}
-use Rattle.bdb_hash.proofs.ChainedLemmas.{rest_of}
-use Rattle.bdb_hash.proofs.RepeatLemmas.{all_noting, both_noted, more_noting, none_noting, noted_anew}
+use Rattle.bdb_hash.proofs.ChainedLemmas.{rest_of, first_of, first_page_of, other_pages_of, bucket_of_file}
+use Rattle.bdb_hash.proofs.RepeatLemmas.{all_noting, both_noted, more_noting, none_noting, noted_anew, none_noted}
 use Rattle.bdb_hash.proofs.TableLemmas.{told_more}
 
 -- Going through the pairs.
@@ -155,3 +155,12 @@ kept_anew twice empty keys before after pairs none apart notes =
     (repeated_is (stored (filter (is_kept twice) pairs))
     ∙ (kept_repeats twice [] [] pairs apart (λ u at lost. refl) (λ key among. refl) ∙ sym (repeated_is (stored pairs))))
     (noted_anew empty keys before after (filter (is_kept twice) pairs) none notes)
+
+-- how a page keeps what is noted
+pub ruleset keeping_page = (first_of, rest_of, all_kept, none_kept, one_kept)
+
+-- how a bucket keeps what is noted
+pub ruleset keeping_bucket = (first_page_of, other_pages_of, all_kept, more_kept, none_kept)
+
+-- how a table keeps what is noted
+pub ruleset keeping_table = (bucket_of_file, kept_anew, none_noted, kept_more)

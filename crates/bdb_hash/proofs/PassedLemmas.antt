@@ -14,8 +14,9 @@ use Rattle.bdb_hash.specs.Noted.{bucket_faults, has_stray_in, is_stray, pair_fau
 use Rattle.bdb_hash.specs.Passed.{IsPassing, Passes, key_hash}
 use Rattle.bdb_hash.specs.Told.{Told, bucket_told, joined_pages, page_told}
 use Rattle.bdb_hash.specs.declared.passed.Passed.{Passed}
-use Rattle.bdb_hash.proofs.TableLemmas.{zero_more}
 use Rattle.bdb_faults.proofs.SinkLemmas.{notes_nothing, notes_then}
+use Rattle.bdb_format.proofs.ListLemmas.{range_zero_more}
+use Rattle.bdb_hash.proofs.ChainedLemmas.{first_of, rest_of, first_page_of, other_pages_of}
 
 or_assoc : (a b c : Bool) → ((a || b) || c) ≡ (a || (b || c))
 or_assoc true b c = refl
@@ -85,7 +86,7 @@ bucket_passed image meta b before mid next after old new pages again done are pa
     let earlier : List Fault = flat_map (bucket_faults image meta) (range_with_len 0 b) in
     let same : earlier ++ bucket_faults image meta b ≡ flat_map (bucket_faults image meta) (range_with_len 0 (b + 1)) =
     ap (λ fs. earlier ++ fs) (sym (append-nil (bucket_faults image meta b)))
-    ∙ (sym (flat_map-append (bucket_faults image meta) (range_with_len 0 b) (b ∷ [])) ∙ ap (flat_map (bucket_faults image meta)) (sym (zero_more b))) in
+    ∙ (sym (flat_map-append (bucket_faults image meta) (range_with_len 0 b) (b ∷ [])) ∙ ap (flat_map (bucket_faults image meta)) (sym (range_zero_more b))) in
     subst (Notes before after) same
     (notes_then before mid after earlier (bucket_faults image meta b) done
     (notes_then mid next after own (repeat_faults (bucket_told image meta b)) first second))
@@ -101,4 +102,10 @@ bucket_strays image meta b mid next old new pages done are passes =
     ∙ (ap (λ s. s || has_stray_in image meta b) done
     ∙ (ap (λ s. list_any (has_stray_in image meta) (range_with_len 0 b) || s) (sym (or-false (has_stray_in image meta b)))
     ∙ (sym (list_any-append (has_stray_in image meta) (range_with_len 0 b) (b ∷ []))
-    ∙ ap (list_any (has_stray_in image meta)) (sym (zero_more b))))))
+    ∙ ap (list_any (has_stray_in image meta)) (sym (range_zero_more b))))))
+
+-- how a page is gone through
+pub ruleset passing_page = (first_of, rest_of, all_passing, none_passing, one_passing)
+
+-- how a bucket is gone through
+pub ruleset passing_bucket = (first_page_of, other_pages_of, all_passing, more_passing, none_passing)

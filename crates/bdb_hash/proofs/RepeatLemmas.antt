@@ -32,6 +32,7 @@ use Rattle.bdb_hash.specs.Told.{Told, bucket_told, table_told}
 use Rattle.bdb_faults.specs.declared.rows.ContentsRow.TheVariants.{KeyTwice}
 use Rattle.bdb_hash.proofs.RowLemmas.{buckets_of}
 use Rattle.bdb_faults.proofs.SinkLemmas.{notes_nothing, notes_then}
+use Rattle.bdb_hash.proofs.ChainedLemmas.{first_of, rest_of, first_page_of, other_pages_of}
 
 -- Repeats after other pairs.
 
@@ -265,3 +266,9 @@ pub noted_anew : (empty keys : BTreeSet (List ℕ)) (before after : List Fault �
 noted_anew empty keys before after pairs none notes =
     subst (λ (again : List StoredPair). Notes before after (map repeat_fault again)) (same_repeated [] (stored pairs) ∙ sym (repeated_is (stored pairs)))
     (notes.next [] (λ sought. rw none refl)).1
+
+-- how what repeats on a page is noted
+pub ruleset noting_page = (first_of, rest_of, all_noting, none_noting, one_noting)
+
+-- how what repeats in a bucket is noted
+pub ruleset noting_bucket = (first_page_of, other_pages_of, all_noting, more_noting, none_noting)

@@ -14,11 +14,8 @@ use Rattle.bdb_format.specs.Verdict.{structure_faults}
 use Rattle.bdb_hash.specs.Told.{bucket_told}
 use Rattle.bdb_format.specs.declared.metadata.HashMeta.{HashMeta}
 use Rattle.bdb_format.specs.File.{file_of}
-use Rattle.bdb_format.proofs.ListLemmas.{range_more}
 use Rattle.bdb_graph.proofs.TargetLemmas.{is_no_queue}
-
-pub zero_more : (n : ℕ) → range_with_len 0 (n + 1) ≡ range_with_len 0 n ++ n ∷ []
-zero_more n = let same : 0 + n ≡ n = omega arith in range_more 0 n ∙ ap (λ m. range_with_len 0 n ++ m ∷ []) same
+use Rattle.bdb_format.proofs.ListLemmas.{range_zero_more}
 
 -- a file with a table has references
 pub table_is : (image : List ℕ) (meta : HashMeta) → IsForest image → structure_faults (file_of image) ≡ []
@@ -35,7 +32,7 @@ pub told_more : (image : List ℕ) (meta : HashMeta) (b : ℕ)
     → flat_map (bucket_told image meta) (range_with_len 0 (b + 1)) ≡ flat_map (bucket_told image meta)
     (range_with_len 0 b) ++ bucket_told image meta b
 told_more image meta b =
-    ap (flat_map (bucket_told image meta)) (zero_more b)
+    ap (flat_map (bucket_told image meta)) (range_zero_more b)
     ∙ (flat_map-append (bucket_told image meta) (range_with_len 0 b) (b ∷ [])
     ∙ ap (λ ps. flat_map (bucket_told image meta) (range_with_len 0 b) ++ ps)
     (append-nil (bucket_told image meta b)))

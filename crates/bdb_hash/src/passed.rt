@@ -60,7 +60,7 @@ fn note_next<F: FaultSink>(
 }
 
 /// Notes the pairs of a page of a bucket by themselves.
-#[tactic(auto, using(crate::proofs::ChainedLemmas::first_of, crate::proofs::ChainedLemmas::rest_of, crate::proofs::PassedLemmas::all_passing, crate::proofs::PassedLemmas::none_passing, crate::proofs::PassedLemmas::one_passing))]
+#[tactic(auto, using(crate::proofs::PassedLemmas::passing_page))]
 fn note_page<F: FaultSink>(
     passed: &mut Passed,
     known: &mut Chains<'_>,
@@ -80,7 +80,7 @@ fn note_page<F: FaultSink>(
 }
 
 /// Notes the pairs of the pages of a bucket by themselves.
-#[tactic(auto, using(crate::proofs::ChainedLemmas::first_page_of, crate::proofs::ChainedLemmas::other_pages_of, crate::proofs::PassedLemmas::all_passing, crate::proofs::PassedLemmas::more_passing, crate::proofs::PassedLemmas::none_passing))]
+#[tactic(auto, using(crate::proofs::PassedLemmas::passing_bucket))]
 pub(crate) fn note_bucket<F: FaultSink>(
     passed: &mut Passed,
     known: &mut Chains<'_>,

@@ -13,7 +13,7 @@ use bdb_graph::Forest;
 use std::alloc::{AllocError, Global};
 
 /// Notes those of the pairs of a page whose key there was, and adds the keys of all.
-#[tactic(auto, using(crate::proofs::ChainedLemmas::first_of, crate::proofs::ChainedLemmas::rest_of, crate::proofs::RepeatLemmas::all_noting, crate::proofs::RepeatLemmas::none_noting, crate::proofs::RepeatLemmas::one_noting))]
+#[tactic(auto, using(crate::proofs::RepeatLemmas::noting_page))]
 fn note_page<'a, F: FaultSink>(
     keys: &mut SeenKeys<'a>,
     page: PagePairs<'a>,
@@ -30,7 +30,7 @@ fn note_page<'a, F: FaultSink>(
 }
 
 /// Notes those of the pairs of the pages of a bucket.
-#[tactic(auto, using(crate::proofs::ChainedLemmas::first_page_of, crate::proofs::ChainedLemmas::other_pages_of, crate::proofs::RepeatLemmas::all_noting, crate::proofs::RepeatLemmas::more_noting, crate::proofs::RepeatLemmas::none_noting))]
+#[tactic(auto, using(crate::proofs::RepeatLemmas::noting_bucket))]
 fn note_bucket<'a, F: FaultSink>(
     keys: &mut SeenKeys<'a>,
     pages: BucketPages<'a>,

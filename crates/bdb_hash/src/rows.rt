@@ -16,20 +16,6 @@ use bdb_overflow::is_less;
 pub(crate) use bdb_tree::is_wrong_root;
 use std::alloc::AllocError;
 
-/// Whether a table may hold several data of a key.
-pub(crate) fn has_duplicates(meta: &HashMeta) -> bool
-    ensures { result ≡ has_duplicates (HashFields meta.now) }
-{
-    meta.flags & 0x05 != 0
-}
-
-/// Whether the data of a key ascend in this table.
-pub(crate) fn is_sorted(meta: &HashMeta) -> bool
-    ensures { result ≡ is_sorted (HashFields meta.now) }
-{
-    meta.flags & 0x04 != 0
-}
-
 /// Whether data ascend strictly.
 pub(crate) fn ascends(values: &mut Data<'_>) -> bool
     ensures { result ≡ ascends values.old }
@@ -57,7 +43,7 @@ pub(crate) fn home_of(meta: &HashMeta, hash: u32) -> u32
 fn is_refused(meta: &HashMeta, pair: &Pair<'_>) -> bool
     ensures { result ≡ (not (has_duplicates (HashFields meta.now)) && is_duplicate pair.now.pair) }
 {
-    !has_duplicates(meta) && pair.is_duplicate()
+    !meta.has_duplicates() && pair.is_duplicate()
 }
 
 /// Whether the data of a pair are out of order. An error is want of memory, for chains in a set off the page.
@@ -79,7 +65,7 @@ fn is_unsorted(pair: Pair<'_>, meta: &HashMeta, known: &mut Chains<'_>) -> Resul
     ensures order { IfOk result (λ is. is ≡ (is_sorted (HashFields meta.now) && not (ascends (data_of (file_of pair.entry.image) pair.entry.pair.data_item)))) }
     ensures same { known.new ≡ known.old }
 {
-    if !is_sorted(meta) {
+    if !meta.is_sorted() {
         return Ok(false);
     }
     is_out_of_order(pair, known)
@@ -100,7 +86,7 @@ pub(crate) fn note_pair<F: FaultSink>(
 {
     let page = pair.page();
     let is_refused = is_refused(meta, &pair);
-    let is_wrong_set = pair.is_wrong_set(is_sorted(meta));
+    let is_wrong_set = pair.is_wrong_set(meta.is_sorted());
     let is_unsorted = is_unsorted(pair, meta, known)?;
     let duplicates = Row::Contents(ContentsRow::Duplicates);
     let kind = Row::Contents(ContentsRow::DuplicateKind);

@@ -45,7 +45,7 @@ fn note_kept<'a, F: FaultSink>(
 }
 
 /// The same, of the pairs of a page.
-#[tactic(auto, using(crate::proofs::ChainedLemmas::first_of, crate::proofs::ChainedLemmas::rest_of, crate::proofs::KeptLemmas::all_kept, crate::proofs::KeptLemmas::none_kept, crate::proofs::KeptLemmas::one_kept))]
+#[tactic(auto, using(crate::proofs::KeptLemmas::keeping_page))]
 fn note_page<'a, F: FaultSink>(
     keys: &mut SeenKeys<'a>,
     known: &mut Chains<'a>,
@@ -67,7 +67,7 @@ fn note_page<'a, F: FaultSink>(
 }
 
 /// The same, of the pairs of the pages of a bucket.
-#[tactic(auto, using(crate::proofs::ChainedLemmas::first_page_of, crate::proofs::ChainedLemmas::other_pages_of, crate::proofs::KeptLemmas::all_kept, crate::proofs::KeptLemmas::more_kept, crate::proofs::KeptLemmas::none_kept))]
+#[tactic(auto, using(crate::proofs::KeptLemmas::keeping_bucket))]
 fn note_bucket<'a, F: FaultSink>(
     keys: &mut SeenKeys<'a>,
     known: &mut Chains<'a>,
@@ -90,7 +90,7 @@ fn note_bucket<'a, F: FaultSink>(
 
 /// Notes the pairs of a table that have the key of an earlier one. It takes memory for the hashes of all keys, and for the
 /// keys whose hash another one has too; an error is want of it, or the sink's.
-#[tactic(auto, using(crate::proofs::ChainedLemmas::bucket_of_file, crate::proofs::KeptLemmas::kept_anew, crate::proofs::RepeatLemmas::none_noted, crate::proofs::KeptLemmas::kept_more))]
+#[tactic(auto, using(crate::proofs::KeptLemmas::keeping_table))]
 fn note_whole<'a, F: FaultSink>(
     alloc: Global,
     linked: &Linked<'a>,

@@ -55,7 +55,8 @@ const ROWS: [Row; 7] = [
         Some(b"a\\\n"),
         FULL,
         false,
-        b"VERSION=3\nformat=bytevalue\ndatabase=a\\\\\\0a\ntype=btree\ndb_pagesize=32768\ndb_lorder=4321\nbt_minkey=3\nrecnum=1\nduplicates=1\ndupsort=1\nHEADER=END\n",
+        b"VERSION=3\nformat=bytevalue\ndatabase=a\\\\\\0a\ntype=btree\ndb_pagesize=32768\ndb_lorder=4321\nbt_minkey=3\nrecnum=1\nduplicates=1\ndupsort=1\n\
+            HEADER=END\n",
     ),
     (
         None,

@@ -1,6 +1,6 @@
 // A text of very many named sections: whether a name stands already isn't asked of each of them.
 use bdb_format::Bytes;
-use bdb_text::{TextError, TextFault, read_dump};
+use bdb_text::{TextError, TextFault, TextReason, read_dump};
 use std::alloc::{AllocError, Global};
 use std::test::Fail;
 
@@ -51,7 +51,7 @@ fn are_told_apart(alloc: Global, text: &mut Bytes) -> Result<bool, AllocError> {
     push_section(text, 0)?;
     let fault = TextFault {
         line: 500004,
-        reason: 15,
+        reason: TextReason::NameTwice,
     };
     Ok(counted(alloc, text.as_slice()) == Err(Some(fault)))
 }

@@ -132,7 +132,8 @@ const TEXTS: [(&[u8], &[WantedSection]); 3] = [
     ),
     // two sections, one of numbered records
     (
-        b"VERSION=3\ndatabase=a\ntype=btree\nHEADER=END\n 6A\n 6b\nDATA=END\nVERSION=3\ndatabase=\nkeys=1\nre_len=0x3\ntype=queue\nHEADER=END\n 34323934393637323935\n 6162\nDATA=END",
+        b"VERSION=3\ndatabase=a\ntype=btree\nHEADER=END\n 6A\n 6b\nDATA=END\n\
+            VERSION=3\ndatabase=\nkeys=1\nre_len=0x3\ntype=queue\nHEADER=END\n 34323934393637323935\n 6162\nDATA=END",
         &[
             (Some(b"a"), BTREE, 4, &[(WantedKey::Bytes(b"j"), b"k", 5)]),
             (

@@ -47,7 +47,7 @@ pub enum ReadError {
 const CHUNK: usize = 65536;
 
 /// Reads until a read gives nothing, or one byte more than the limit came.
-#[tactic(auto, using(bdb_format::proofs::KnownLemmas::consumes_next, bdb_format::proofs::KnownLemmas::consumes_kept, bdb_format::proofs::KnownLemmas::consumes_nothing))]
+#[tactic(auto, using(bdb_format::proofs::KnownLemmas::consumed))]
 pub fn read_image<S: Source>(alloc: Global, source: &mut S, max: u64) -> Result<Image, ReadError>
     requires { max ≤ 2 ^ 30 }
 

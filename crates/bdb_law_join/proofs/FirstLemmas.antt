@@ -1,7 +1,7 @@
 -- Page 0 of a file whose form is sound.
-use Rattle.std.proofs.Common.{◌≡◌, ℕ, zero, suc, ◌≤◌, Bool, true, false, List, [], ◌∷◌, None, arith, refl, sym, ◌∙◌, ap, get_or, inl, inr}
+use Rattle.std.proofs.Common.{◌≡◌, ℕ, ◌≤◌, Bool, true, false, List, [], ◌∷◌, None, arith, refl, sym, ◌∙◌, ap, inl, inr}
 use Rattle.std.specs.Prelude.{◌==◌, ◌&&◌, ◌||◌}
-use Rattle.std.proofs.lemmas.Bool.{and_parts, cases_Bool, eqb-true}
+use Rattle.std.proofs.lemmas.Bool.{cases_Bool}
 use Rattle.bdb_format.specs.declared.metadata.BtreeMeta.{BtreeMeta}
 use Rattle.bdb_format.specs.declared.metadata.FileKind.{FileKind}
 use Rattle.bdb_format.specs.declared.metadata.FileKind.TheVariants.{Btree, Hash, Queue}
@@ -15,16 +15,7 @@ use Rattle.bdb_format.specs.Table.{first_row}
 use Rattle.bdb_format.proofs.GraphLemmas.{typed_page}
 use Rattle.bdb_format.proofs.VerdictLemmas.{AllFail, none_is_first_row}
 use Rattle.bdb_graph.proofs.CodeLemmas.{first_page_code, is_same}
-
-zero_byte : (page : List ℕ) (k : ℕ) → is_zero page ≡ true → get_or page k 0 ≡ 0
-zero_byte [] k zeros = refl
-zero_byte (b ∷ page) zero zeros = eqb-true b 0 (and_parts (b == 0) (is_zero page) zeros).0
-zero_byte (b ∷ page) (suc k) zeros = zero_byte page k (and_parts (b == 0) (is_zero page) zeros).1
-
-some_type : (kind : FileKind) → 8 ≤ type_of kind
-some_type Btree = omega arith
-some_type Hash = omega arith
-some_type Queue = omega arith
+use Rattle.bdb_format.proofs.PageLemmas.{some_type, zero_byte}
 
 -- the rows of page 0 are those of metadata of its kind
 rows_fail : (head : Head) (page : List ℕ) (kind : FileKind) → head.kind ≡ kind → form_code head 0 page ≡ None

@@ -1,8 +1,7 @@
 -- Joined parts have no fault of any stage but that of a master.
-use Rattle.std.proofs.Common.{◌≡◌, ◌<◌, List, [], ◌∷◌, arith, ◌∙◌, ap}
-use Rattle.bdb_format.specs.declared.kinds.Fault.{Fault}
+use Rattle.std.proofs.Common.{◌≡◌, ◌<◌, List, [], ◌∷◌, arith, ◌∙◌}
 use Rattle.bdb_format.specs.File.{File, file_of}
-use Rattle.bdb_format.specs.Verdict.{or_else, faults_of, ownership_faults, reach_faults, head_faults, tail_faults}
+use Rattle.bdb_format.specs.Verdict.{faults_of, ownership_faults, reach_faults, head_faults, tail_faults}
 use Rattle.bdb_format.proofs.GraphLemmas.{each_page_has_one_role}
 use Rattle.bdb_format.proofs.VerdictLemmas.{none_in}
 use Rattle.bdb_format.proofs.FileLemmas.{count_is, last_page}
@@ -11,9 +10,7 @@ use Rattle.bdb_law_join.proofs.SourceLemmas.{references_none}
 use Rattle.bdb_law_join.proofs.RoleLemmas.{role_of}
 use Rattle.bdb_law_join.proofs.ReachLemmas.{reached}
 use Rattle.bdb_law_join.proofs.StageLemmas.{contents_none, form_none, head_none, pages_of_file, structure_none, tail_none}
-
-both_none : (faults others : List Fault) → faults ≡ [] → others ≡ [] → or_else faults (λ _. others) ≡ []
-both_none faults others first second = ap (λ fs. or_else fs (λ _. others)) first ∙ second
+use Rattle.bdb_format.proofs.FaultLemmas.{or_none}
 
 -- stages 4 and 5
 graph_none : (file : File) (joints : List Joint) → AreJoined file joints → file.last < file.count
@@ -31,7 +28,7 @@ joins_under_master image joints is master =
     record {
       sound =
           none_in image (1 ∷ 2 ∷ 3 ∷ 4 ∷ 5 ∷ 6 ∷ 7 ∷ 8 ∷ []) (
-            both_none (head_faults image) (tail_faults image) (head_none image is.form.head) (tail_none image is.form.whole),
+            or_none (head_faults image) (tail_faults image) (head_none image is.form.head) (tail_none image is.form.whole),
             (
               form_none image is.form.formed,
               (

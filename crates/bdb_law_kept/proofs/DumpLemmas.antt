@@ -1,6 +1,5 @@
 -- The dump of a sound image is read as sections that are kept.
-use Rattle.std.proofs.Common.{◌≡◌, ℕ, suc, Bool, true, false, not, cond, List, [], ◌∷◌, ◌++◌, length, map, Option, Some, None, refl, sym, ◌∙◌, ap}
-use Rattle.std.proofs.Common.{subst}
+use Rattle.std.proofs.Common.{◌≡◌, ℕ, suc, Bool, true, false, not, cond, List, [], ◌∷◌, ◌++◌, length, map, Option, Some, None, refl, sym, ◌∙◌, ap, subst}
 use Rattle.std.specs.Prelude.{◌&&◌, ◌||◌, ◌==◌, is_some, unwrap_or}
 use Rattle.std.specs.List.{All, Contains, flat_map, fold}
 use Rattle.std.proofs.lemmas.List.Elements.{All-head, All-tail}
@@ -101,7 +100,7 @@ kept_as print image database section read = record {
 
 -- Errors of one section.
 
-none_of_pairs : (settings : Settings) (pairs : List TextPair) → All (λ pair. pair_errors settings pair ≡ []) pairs
+pub none_of_pairs : (settings : Settings) (pairs : List TextPair) → All (λ pair. pair_errors settings pair ≡ []) pairs
     → flat_map (pair_errors settings) pairs ≡ []
 none_of_pairs settings [] none = refl
 none_of_pairs settings (pair ∷ pairs) none =

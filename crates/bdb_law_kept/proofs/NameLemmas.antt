@@ -1,6 +1,5 @@
 -- The names of the databases of a sound image, and that a queue stands alone.
-use Rattle.std.proofs.Common.{◌≡◌, ℕ, Bool, true, false, cond, List, [], ◌∷◌, map, Option, Some, None, refl, sym}
-use Rattle.std.proofs.Common.{◌∙◌, ap, subst, true≢false}
+use Rattle.std.proofs.Common.{◌≡◌, ℕ, Bool, true, false, cond, List, [], ◌∷◌, map, Option, Some, None, refl, sym, ◌∙◌, ap, subst, true≢false}
 use Rattle.std.specs.Prelude.{is_some, unwrap_or}
 use Rattle.std.specs.List.{Contains}
 use Rattle.std.specs.Str.{bytes_eq}
@@ -109,7 +108,8 @@ together [] some apart = absurd (some refl)
 together (name ∷ []) some apart = tt
 together (name ∷ other ∷ others) some apart = apart
 
-named_on : (file : File) (key : List ℕ) (p : Option ℕ) (database : Database) → Contains (database_on file (Some key) p) database
+-- a database under a name has it
+pub named_on : (file : File) (key : List ℕ) (p : Option ℕ) (database : Database) → Contains (database_on file (Some key) p) database
     → is_some database.name ≡ true
 named_on file key None database at = absurd (no_member [] database refl at)
 named_on file key (Some p) database at =

@@ -141,7 +141,7 @@ name_bytes file database all at = under_bytes file (master_in (page_at file 0)) 
 
 -- Settings.
 
-legal : (n : ℕ) → is_page_size n ≡ true → legal_size n ≡ true
+pub legal : (n : ℕ) → is_page_size n ≡ true → legal_size n ≡ true
 legal n is = any_turned n (512 ∷ 1024 ∷ 2048 ∷ 4096 ∷ 8192 ∷ 16384 ∷ 32768 ∷ []) ∙ is
 
 -- numbers of metadata

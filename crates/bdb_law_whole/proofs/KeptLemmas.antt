@@ -7,7 +7,7 @@ use Rattle.bdb_format.specs.Contents.{entries_in}
 use Rattle.bdb_format.specs.File.{File, file_of}
 use Rattle.bdb_format.specs.HeadOf.{head_of}
 use Rattle.bdb_format.specs.Lists.{ListKey, BytesKey, NumberKey}
-use Rattle.bdb_format.proofs.ListLemmas.{range_more}
+use Rattle.bdb_format.proofs.ListLemmas.{range_zero_more}
 use Rattle.bdb_format.proofs.MemberLemmas.{of_range}
 use Rattle.bdb_format.proofs.FileLemmas.{kind_is, past_last}
 use Rattle.bdb_survey.specs.Salvage.{is_taken, item_pairs, live_value, live_whole, loose, loose_on, stored, stored_on, stored_pair}
@@ -28,8 +28,7 @@ use Rattle.bdb_law_whole.proofs.TakenLemmas.{taken_is}
 
 sum_last : (f : ℕ → ℕ) (n : ℕ) → sum_by f (range_with_len 0 (n + 1)) ≡ sum_by f (range_with_len 0 n) + f n
 sum_last f n =
-    let same : 0 + n ≡ n = omega arith in
-    ap (sum_by f) (range_more 0 n ∙ ap (λ k. range_with_len 0 n ++ k ∷ []) same)
+    ap (sum_by f) (range_zero_more n)
     ∙ omega (arith, sum_by-append f (range_with_len 0 n) (n ∷ []), sum_by-cons f n [])
 
 -- where the rest gives nothing, a sum ends before it

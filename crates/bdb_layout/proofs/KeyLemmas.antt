@@ -9,7 +9,8 @@ use Rattle.bdb_format.specs.Less.{less}
 use Rattle.bdb_format.proofs.LessLemmas.{less_not_back, less_self}
 use Rattle.bdb_layout.specs.Seen.{OrderingIs}
 use Rattle.std.proofs.lemmas.Bool.Decides.{nat_tests}
-use Rattle.std.proofs.lemmas.List.{drop_more, length-drop, take_all}
+use Rattle.std.proofs.lemmas.List.{drop_more}
+use Rattle.bdb_layout.proofs.NumberLemmas.{to_end}
 
 first_then : (r s : Ordering) (x y : ℕ) (xs ys : List ℕ) → MatchOrdering r (x < y) (x ≡ y) (y < x) → OrderingIs s xs ys
     → OrderingIs (ordering_then r s) (x ∷ xs) (y ∷ ys)
@@ -34,15 +35,12 @@ ordering_behind (suc n) (x ∷ a) [] r same is = absurd cc
 ordering_behind (suc n) (x ∷ a) (y ∷ b) r same is =
     first_then Equal r x y a b (ap (λ xs. get_or xs 0 0) same) (ordering_behind n a b r (ap (drop 1) same) is)
 
-whole_behind : (n : ℕ) (a : List ℕ) → take (length a - n) (drop n a) ≡ drop n a
-whole_behind n a = take_all (length a - n) (drop n a) (omega (arith, length-drop n a))
-
 -- the comparison of what stands behind them
 pub behind_first : (n : ℕ) (a b : List ℕ) (r : Ordering) → take n a ≡ take n b
     → r ≡ slice_cmp nat_cmp (take (length a - n) (drop n a)) (take (length b - n) (drop n b)) → OrderingIs r a b
 behind_first n a b r same is =
     ordering_behind n a b r same
-    (rw is (rw (whole_behind n a, whole_behind n b) (slice_cmp-is (drop n a) (drop n b))))
+    (rw is (rw (to_end n a, to_end n b) (slice_cmp-is (drop n a) (drop n b))))
 
 -- the first byte that differs decides
 pub ordering_at : (i : ℕ) (a b : List ℕ) (r : Ordering) (d e : ℕ) → take i a ≡ take i b → i < length a → i < length b

@@ -32,17 +32,20 @@ fn hashes_and_queues_are_kept(rt: HostRuntime) -> Result<(), Fail> {
         },
         // sorted data, in the other order, with a fill factor
         Row {
-            text: b"VERSION=3\nformat=print\ntype=hash\ndb_pagesize=512\ndb_lorder=4321\ndupsort=1\nh_ffactor=7\nHEADER=END\n b\n 2\n a\n x\n b\n 1\n b\n 2\nDATA=END\n",
+            text: b"VERSION=3\nformat=print\ntype=hash\ndb_pagesize=512\ndb_lorder=4321\ndupsort=1\nh_ffactor=7\nHEADER=END\n b\n 2\n a\n x\n b\n 1\n b\n 2\n\
+                DATA=END\n",
             long: 1536,
             verdict: b"sound, 3 pages\n",
-            dumped: b"VERSION=3\nformat=print\ntype=hash\ndb_pagesize=512\ndb_lorder=4321\nduplicates=1\ndupsort=1\nh_ffactor=7\nHEADER=END\n a\n x\n b\n 1\n b\n 2\nDATA=END\n",
+            dumped: b"VERSION=3\nformat=print\ntype=hash\ndb_pagesize=512\ndb_lorder=4321\nduplicates=1\ndupsort=1\nh_ffactor=7\n\
+                HEADER=END\n a\n x\n b\n 1\n b\n 2\nDATA=END\n",
         },
         // data as they come, and a datum twice
         Row {
             text: b"VERSION=3\nformat=print\ntype=hash\ndb_pagesize=512\nduplicates=1\nHEADER=END\n b\n 2\n a\n x\n b\n 1\n b\n 2\nDATA=END\n",
             long: 1536,
             verdict: b"sound, 3 pages\n",
-            dumped: b"VERSION=3\nformat=print\ntype=hash\ndb_pagesize=512\ndb_lorder=1234\nduplicates=1\nHEADER=END\n a\n x\n b\n 2\n b\n 1\n b\n 2\nDATA=END\n",
+            dumped: b"VERSION=3\nformat=print\ntype=hash\ndb_pagesize=512\ndb_lorder=1234\nduplicates=1\nHEADER=END\n a\n x\n b\n 2\n b\n 1\n b\n 2\n\
+                DATA=END\n",
         },
         // a key twice: the later datum
         Row {
@@ -56,14 +59,16 @@ fn hashes_and_queues_are_kept(rt: HostRuntime) -> Result<(), Fail> {
             text: b"VERSION=3\nformat=print\ntype=queue\ndb_pagesize=512\nkeys=1\nre_len=3\nre_pad=42\nHEADER=END\n 200\n abc\n 3\n x\n 1\n one\nDATA=END\n",
             long: 1536,
             verdict: b"sound, 3 pages\n",
-            dumped: b"VERSION=3\nformat=print\ntype=queue\ndb_pagesize=512\ndb_lorder=1234\nre_len=3\nre_pad=42\nkeys=1\nHEADER=END\n 1\n one\n 3\n x**\n 200\n abc\nDATA=END\n",
+            dumped: b"VERSION=3\nformat=print\ntype=queue\ndb_pagesize=512\ndb_lorder=1234\nre_len=3\nre_pad=42\nkeys=1\n\
+                HEADER=END\n 1\n one\n 3\n x**\n 200\n abc\nDATA=END\n",
         },
         // records without keys, in the other order
         Row {
             text: b"VERSION=3\nformat=print\ntype=queue\ndb_pagesize=512\ndb_lorder=4321\nre_len=4\nre_pad=0\nHEADER=END\n abcd\n \nDATA=END\n",
             long: 1024,
             verdict: b"sound, 2 pages\n",
-            dumped: b"VERSION=3\nformat=print\ntype=queue\ndb_pagesize=512\ndb_lorder=4321\nre_len=4\nre_pad=0\nkeys=1\nHEADER=END\n 1\n abcd\n 2\n \\00\\00\\00\\00\nDATA=END\n",
+            dumped: b"VERSION=3\nformat=print\ntype=queue\ndb_pagesize=512\ndb_lorder=4321\nre_len=4\nre_pad=0\nkeys=1\n\
+                HEADER=END\n 1\n abcd\n 2\n \\00\\00\\00\\00\nDATA=END\n",
         },
         // no record: the metadata alone
         Row {
@@ -113,30 +118,35 @@ fn errors_of_hashes_and_queues_are_answered(rt: HostRuntime) -> Result<(), Fail>
         ),
         // and behind another database
         (
-            b"VERSION=3\nformat=print\ndatabase=a\ntype=btree\nHEADER=END\nDATA=END\nVERSION=3\nformat=print\ndatabase=q\ntype=queue\nre_len=1\nHEADER=END\nDATA=END\n",
+            b"VERSION=3\nformat=print\ndatabase=a\ntype=btree\nHEADER=END\nDATA=END\n\
+                VERSION=3\nformat=print\ndatabase=q\ntype=queue\nre_len=1\nHEADER=END\nDATA=END\n",
             1073741824,
             LoadError::QueueAmongNames(12),
         ),
         // and with a record that is too long for the pages of the other database, whatever its own header says
         (
-            b"VERSION=3\nformat=print\ndatabase=a\ntype=btree\ndb_pagesize=512\nHEADER=END\nDATA=END\nVERSION=3\nformat=print\ndatabase=q\ntype=queue\nre_len=1000\ndb_pagesize=4096\nHEADER=END\nDATA=END\n",
+            b"VERSION=3\nformat=print\ndatabase=a\ntype=btree\ndb_pagesize=512\nHEADER=END\nDATA=END\n\
+                VERSION=3\nformat=print\ndatabase=q\ntype=queue\nre_len=1000\ndb_pagesize=4096\nHEADER=END\nDATA=END\n",
             1073741824,
             LoadError::RecordTooLong(14),
         ),
         // and the other way round
         (
-            b"VERSION=3\nformat=print\ndatabase=a\ntype=btree\ndb_pagesize=4096\nHEADER=END\nDATA=END\nVERSION=3\nformat=print\ndatabase=q\ntype=queue\nre_len=1000\ndb_pagesize=512\nHEADER=END\nDATA=END\n",
+            b"VERSION=3\nformat=print\ndatabase=a\ntype=btree\ndb_pagesize=4096\nHEADER=END\nDATA=END\n\
+                VERSION=3\nformat=print\ndatabase=q\ntype=queue\nre_len=1000\ndb_pagesize=512\nHEADER=END\nDATA=END\n",
             1073741824,
             LoadError::QueueAmongNames(14),
         ),
         // where the header of the queue says no page size, the usual 4096 bytes don't count; where the first section says none, they do
         (
-            b"VERSION=3\nformat=print\ndatabase=a\ntype=btree\ndb_pagesize=512\nHEADER=END\nDATA=END\nVERSION=3\nformat=print\ndatabase=q\ntype=queue\nre_len=1000\nHEADER=END\nDATA=END\n",
+            b"VERSION=3\nformat=print\ndatabase=a\ntype=btree\ndb_pagesize=512\nHEADER=END\nDATA=END\n\
+                VERSION=3\nformat=print\ndatabase=q\ntype=queue\nre_len=1000\nHEADER=END\nDATA=END\n",
             1073741824,
             LoadError::RecordTooLong(13),
         ),
         (
-            b"VERSION=3\nformat=print\ndatabase=a\ntype=btree\nHEADER=END\nDATA=END\nVERSION=3\nformat=print\ndatabase=q\ntype=queue\nre_len=1000\ndb_pagesize=512\nHEADER=END\nDATA=END\n",
+            b"VERSION=3\nformat=print\ndatabase=a\ntype=btree\nHEADER=END\nDATA=END\n\
+                VERSION=3\nformat=print\ndatabase=q\ntype=queue\nre_len=1000\ndb_pagesize=512\nHEADER=END\nDATA=END\n",
             1073741824,
             LoadError::QueueAmongNames(13),
         ),

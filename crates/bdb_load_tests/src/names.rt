@@ -20,18 +20,22 @@ fn sections_stand_in_the_order_of_their_names(rt: HostRuntime) -> Result<(), Fai
     let rows: [Row; 4] = [
         // two databases without pairs: the metadata and one leaf of each and of the master
         Row {
-            text: b"VERSION=3\nformat=bytevalue\ndatabase=b\ntype=recno\ndb_pagesize=512\nHEADER=END\nDATA=END\nVERSION=3\nformat=bytevalue\ndatabase=a\ntype=btree\ndb_pagesize=512\nHEADER=END\nDATA=END\n",
+            text: b"VERSION=3\nformat=bytevalue\ndatabase=b\ntype=recno\ndb_pagesize=512\nHEADER=END\nDATA=END\n\
+                VERSION=3\nformat=bytevalue\ndatabase=a\ntype=btree\ndb_pagesize=512\nHEADER=END\nDATA=END\n",
             long: 3072,
             questions: &[
                 (&["verify"], 0, b"sound, 6 pages\n"),
                 (&["list"], 0, b"btree a\nrecno b\n"),
                 (&["dump", "--name", "c"], 9, NOT_FOUND),
             ],
-            dumped: b"VERSION=3\nformat=print\ndatabase=a\ntype=btree\ndb_pagesize=512\ndb_lorder=1234\nHEADER=END\nDATA=END\nVERSION=3\nformat=print\ndatabase=b\ntype=recno\ndb_pagesize=512\ndb_lorder=1234\nkeys=1\nHEADER=END\nDATA=END\n",
+            dumped: b"VERSION=3\nformat=print\ndatabase=a\ntype=btree\ndb_pagesize=512\ndb_lorder=1234\nHEADER=END\nDATA=END\n\
+                VERSION=3\nformat=print\ndatabase=b\ntype=recno\ndb_pagesize=512\ndb_lorder=1234\nkeys=1\nHEADER=END\nDATA=END\n",
         },
         // each kind, in the page size and the order of the first section; a master, and 2, 2 and 3 pages
         Row {
-            text: b"VERSION=3\nformat=print\ndatabase=c\ntype=hash\ndb_pagesize=512\ndb_lorder=4321\ndupsort=1\nHEADER=END\n k\n 2\n k\n 1\nDATA=END\nVERSION=3\nformat=print\ndatabase=a\ntype=recno\ndb_pagesize=1024\nre_len=4\nre_pad=46\nHEADER=END\n one\n four\nDATA=END\nVERSION=3\nformat=print\ndatabase=b\ntype=btree\ndb_lorder=1234\nrecnum=1\nHEADER=END\n y\n 1\n x\n 2\nDATA=END\n",
+            text: b"VERSION=3\nformat=print\ndatabase=c\ntype=hash\ndb_pagesize=512\ndb_lorder=4321\ndupsort=1\nHEADER=END\n k\n 2\n k\n 1\nDATA=END\n\
+                VERSION=3\nformat=print\ndatabase=a\ntype=recno\ndb_pagesize=1024\nre_len=4\nre_pad=46\nHEADER=END\n one\n four\nDATA=END\n\
+                VERSION=3\nformat=print\ndatabase=b\ntype=btree\ndb_lorder=1234\nrecnum=1\nHEADER=END\n y\n 1\n x\n 2\nDATA=END\n",
             long: 4608,
             questions: &[
                 (&["verify"], 0, b"sound, 9 pages\n"),
@@ -41,18 +45,26 @@ fn sections_stand_in_the_order_of_their_names(rt: HostRuntime) -> Result<(), Fai
                 (&["get", "--name", "c", "k"], 0, b"31\n32\n"),
                 (&["get", "--name", "c", "x"], 9, NOT_FOUND),
             ],
-            dumped: b"VERSION=3\nformat=print\ndatabase=a\ntype=recno\ndb_pagesize=512\ndb_lorder=4321\nre_len=4\nre_pad=46\nkeys=1\nHEADER=END\n 1\n one.\n 2\n four\nDATA=END\nVERSION=3\nformat=print\ndatabase=b\ntype=btree\ndb_pagesize=512\ndb_lorder=4321\nrecnum=1\nHEADER=END\n x\n 2\n y\n 1\nDATA=END\nVERSION=3\nformat=print\ndatabase=c\ntype=hash\ndb_pagesize=512\ndb_lorder=4321\nduplicates=1\ndupsort=1\nHEADER=END\n k\n 1\n k\n 2\nDATA=END\n",
+            dumped: b"VERSION=3\nformat=print\ndatabase=a\ntype=recno\ndb_pagesize=512\ndb_lorder=4321\nre_len=4\nre_pad=46\nkeys=1\n\
+                HEADER=END\n 1\n one.\n 2\n four\nDATA=END\n\
+                VERSION=3\nformat=print\ndatabase=b\ntype=btree\ndb_pagesize=512\ndb_lorder=4321\nrecnum=1\nHEADER=END\n x\n 2\n y\n 1\nDATA=END\n\
+                VERSION=3\nformat=print\ndatabase=c\ntype=hash\ndb_pagesize=512\ndb_lorder=4321\nduplicates=1\ndupsort=1\nHEADER=END\n k\n 1\n k\n 2\n\
+                DATA=END\n",
         },
         // the empty name, and one that begins another
         Row {
-            text: b"VERSION=3\nformat=print\ndatabase=ab\ntype=btree\ndb_pagesize=512\nHEADER=END\nDATA=END\nVERSION=3\nformat=print\ndatabase=a\ntype=hash\nHEADER=END\nDATA=END\nVERSION=3\nformat=print\ndatabase=\ntype=btree\nHEADER=END\n e\n f\nDATA=END\n",
+            text: b"VERSION=3\nformat=print\ndatabase=ab\ntype=btree\ndb_pagesize=512\nHEADER=END\nDATA=END\n\
+                VERSION=3\nformat=print\ndatabase=a\ntype=hash\nHEADER=END\nDATA=END\n\
+                VERSION=3\nformat=print\ndatabase=\ntype=btree\nHEADER=END\n e\n f\nDATA=END\n",
             long: 4608,
             questions: &[
                 (&["verify"], 0, b"sound, 9 pages\n"),
                 (&["list"], 0, b"btree \nhash a\nbtree ab\n"),
                 (&["get", "--name", "", "e"], 0, b"66\n"),
             ],
-            dumped: b"VERSION=3\nformat=print\ndatabase=\ntype=btree\ndb_pagesize=512\ndb_lorder=1234\nHEADER=END\n e\n f\nDATA=END\nVERSION=3\nformat=print\ndatabase=a\ntype=hash\ndb_pagesize=512\ndb_lorder=1234\nHEADER=END\nDATA=END\nVERSION=3\nformat=print\ndatabase=ab\ntype=btree\ndb_pagesize=512\ndb_lorder=1234\nHEADER=END\nDATA=END\n",
+            dumped: b"VERSION=3\nformat=print\ndatabase=\ntype=btree\ndb_pagesize=512\ndb_lorder=1234\nHEADER=END\n e\n f\nDATA=END\n\
+                VERSION=3\nformat=print\ndatabase=a\ntype=hash\ndb_pagesize=512\ndb_lorder=1234\nHEADER=END\nDATA=END\n\
+                VERSION=3\nformat=print\ndatabase=ab\ntype=btree\ndb_pagesize=512\ndb_lorder=1234\nHEADER=END\nDATA=END\n",
         },
         // one database under a name
         Row {

@@ -17,6 +17,7 @@ use Rattle.bdb_btree.specs.Held.{ItemPair, stored_as}
 use Rattle.bdb_btree.specs.Pairs.{AreFit}
 use Rattle.bdb_master.specs.Entries.{NamedPair, entry_of, live_entries, master_entries, named}
 use Rattle.bdb_format.specs.Master.{master_in, master_pairs, named_by, page_named, pairs_under}
+use Rattle.bdb_btree.proofs.HeldLemmas.{first_keyed, rest_keyed}
 
 -- Values that name pages.
 
@@ -105,3 +106,6 @@ other_listed false rest p first other = refl
 pub other_first : (file : File) (p : ℕ) → slice_get (meta_pages file) 0 ≡ Some p → (p ≡ 0 → ⊥) → None ≡ master_in (page_at file 0)
 other_first file p first other =
     no_meta (page_at file 0) (other_listed (is_meta (page_at file 0)) (above file) p (sym (ap (λ ps. slice_get ps 0) (listed file)) ∙ first) other)
+
+-- which items are entries
+pub ruleset live_entries = (first_fits, live_first, not_live, rest_fits, first_keyed, rest_keyed)

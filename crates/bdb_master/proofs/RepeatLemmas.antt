@@ -21,6 +21,7 @@ use Rattle.bdb_format.specs.File.{File}
 use Rattle.bdb_format.specs.Master.{named_by}
 use Rattle.bdb_format.proofs.BoolLemmas.{cond_or}
 use Rattle.bdb_format.proofs.LessLemmas.{eq_same}
+use Rattle.bdb_hash.proofs.ChainedLemmas.{among_after, among_unchanged}
 
 abbrev faults_of : List NamedPair → List Fault
 faults_of entries = flat_map (λ entry. option_to_list (repeat_fault entry)) entries
@@ -113,3 +114,6 @@ added_once old new key updates = record {
   each = λ sought.
       updates.0 sought ∙ (ap (λ b. cond b true (has_key old sought)) (is_eq-slice_cmp key sought) ∙ cond_or (bytes_eq key sought) (has_key old sought));
 }
+
+-- how a name is added
+pub ruleset names_added = (among_after, among_unchanged, added_once)

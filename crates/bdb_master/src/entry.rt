@@ -89,13 +89,13 @@ pub fn master_among(meta: Meta) -> Option<BtreeMeta>
     ensures { result ≡ master_in (MetaPage (meta_seen meta)) }
 {
     match meta {
-        Meta::Btree(meta) if meta.flags & 0x20 != 0 => Some(meta),
+        Meta::Btree(meta) if meta.names_databases() => Some(meta),
         _ => None,
     }
 }
 
 /// Adds the live ones of these pairs. An error is want of memory.
-#[tactic(auto, using(crate::proofs::EntryLemmas::first_fits, crate::proofs::EntryLemmas::live_first, crate::proofs::EntryLemmas::not_live, crate::proofs::EntryLemmas::rest_fits, bdb_btree::proofs::HeldLemmas::first_keyed, bdb_btree::proofs::HeldLemmas::rest_keyed))]
+#[tactic(auto, using(crate::proofs::EntryLemmas::live_entries))]
 fn push_live<'a>(
     alloc: Global,
     entries: &mut Vec<Entry<'a>>,

@@ -83,7 +83,7 @@ impl<'a> SeenNames<'a> {
     }
 
     /// The same of any value, which is compared with those seen.
-    #[tactic(auto, using(bdb_hash::proofs::ChainedLemmas::among_after, bdb_hash::proofs::ChainedLemmas::among_unchanged, crate::proofs::RepeatLemmas::added_once))]
+    #[tactic(auto, using(crate::proofs::RepeatLemmas::names_added))]
     fn add_value(&mut self, name: Datum<'a>) -> Result<bool, AllocError>
         ensures added { IfOk result (λ is_new. is_new ≡ not (has_key self.old.keys (datum_seen name.entry))) }
         ensures keys { OnOk result (HasAdded self.old.keys self.new.keys (datum_seen name.entry)) }

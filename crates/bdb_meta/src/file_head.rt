@@ -5,8 +5,8 @@ ghost use Rattle.bdb_meta.specs.RowGroups.{length_rows, page_rows, version_rows}
 ghost use Rattle.bdb_format.specs.Table.{answer};
 
 use crate::faults::head_fault;
-use crate::generic::{has_bit, is_partitioned, magic_of, version_of};
-use bdb_format::{FileKind, Head, MetaFault, Order};
+use crate::generic::{has_bit, is_partitioned, version_of};
+use bdb_format::{FileKind, Head, MetaFault, Order, is_page_size, magic_of};
 use bdb_layout::u32_at;
 
 const HEAP_MAGIC: u32 = 0x074582;
@@ -45,14 +45,6 @@ fn file_kind(magic: u32) -> FileKind
     } else {
         FileKind::Queue
     }
-}
-
-/// Whether a page may have this many bytes.
-fn is_page_size(size: u32) -> bool
-    ensures legal { result ≡ is_page_size size }
-    ensures least { IsTrue result → 512 ≤ size }
-{
-    matches!(size, 512 | 1024 | 2048 | 4096 | 8192 | 16384 | 32768)
 }
 
 /// How many whole pages of this size there are.

@@ -6,19 +6,8 @@ ghost use Rattle.bdb_format.specs.Spelling.{common_bytes, last_field, zeros};
 ghost use Rattle.bdb_format.specs.Table.{answer};
 ghost use Rattle.bdb_meta.specs.RowGroups.{common_rows};
 
-use bdb_format::{FileKind, Order};
+use bdb_format::{FileKind, Order, magic_of};
 use bdb_layout::{put_u32, u32_at};
-
-/// The magic number of a kind of file.
-pub fn magic_of(kind: FileKind) -> u32
-    ensures { result ≡ magic_of kind }
-{
-    match kind {
-        FileKind::Btree => 0x053162,
-        FileKind::Hash => 0x061561,
-        FileKind::Queue => 0x042253,
-    }
-}
 
 /// The version that is read of a kind of file.
 pub fn version_of(kind: FileKind) -> u32

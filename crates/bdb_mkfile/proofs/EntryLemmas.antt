@@ -27,8 +27,7 @@ use Rattle.bdb_mkleaves.specs.declared.leaf_type.LeafType.TheVariants.{Pairs}
 use Rattle.bdb_mkleaves.specs.Inner.{first_cost}
 use Rattle.bdb_mkleaves.specs.Laid.{inner_of}
 use Rattle.bdb_mkleaves.specs.Runs.{IsShort}
-use Rattle.bdb_mkleaves.specs.Spread.{inner_cost, leaf_key, leaves_and_levels, own_pages, pages_over, set_pages, set_type}
-use Rattle.bdb_mkleaves.specs.Spread.{spread_on, spread_units, tree_size}
+use Rattle.bdb_mkleaves.specs.Spread.{inner_cost, leaf_key, leaves_and_levels, own_pages, pages_over, set_pages, set_type, spread_on, spread_units, tree_size}
 use Rattle.bdb_mkleaves.specs.Units.{EntryUnit, KeyedUnit, TreeUnit, chain_pages, has_own_tree, page_room, set_cost, unit_cost, value_cost}
 use Rattle.bdb_mkleaves.proofs.SpreadLemmas.{spread_map}
 use Rattle.bdb_mktree.specs.Lists.{IsPairFor, bytes_in, is_in_order, keyed_units, onto_units}

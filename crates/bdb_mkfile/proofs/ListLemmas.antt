@@ -1,6 +1,5 @@
 -- Lists that are loaded without errors are such that tables and queues can be built of them.
-use Rattle.std.proofs.Common.{◌≡◌, ℕ, ◌+◌, ◌-◌, ◌*◌, ◌<◌, ◌≤◌, ◌^◌, Bool, true, false, not, List, [], ◌∷◌, ◌++◌, length, map}
-use Rattle.std.proofs.Common.{get_or, Option, Some, None}
+use Rattle.std.proofs.Common.{◌≡◌, ℕ, ◌+◌, ◌-◌, ◌*◌, ◌<◌, ◌≤◌, ◌^◌, Bool, true, false, not, List, [], ◌∷◌, ◌++◌, length, map, get_or, Option, Some, None}
 use Rattle.std.proofs.Common.{refl, sym, ◌∙◌, ap, subst, arith, inl}
 use Rattle.std.specs.Prelude.{◌&&◌, ◌||◌, ◌==◌, ◌/◌, nat_lt, is_some}
 use Rattle.std.specs.Cmp.Derive.{both_true}
@@ -22,8 +21,7 @@ use Rattle.bdb_text_format.specs.declared.sections.Section.{Section}
 use Rattle.bdb_text_format.specs.Pairs.{AscendFrom, number_of}
 use Rattle.bdb_mktree.specs.Lists.{HasNumber, IsTreeList as IsTreeListFor}
 use Rattle.bdb_settle.specs.ListLaw.{HasShortBytes, IsFit, IsKeyOf}
-use Rattle.bdb_settle.specs.LoadErrors.{header_errors, is_among_names, is_too_wide, is_zero, load_error, page_size_in, pair_errors}
-use Rattle.bdb_settle.specs.LoadErrors.{section_errors, where_so}
+use Rattle.bdb_settle.specs.LoadErrors.{header_errors, is_among_names, is_too_wide, is_zero, load_error, page_size_in, pair_errors, section_errors, where_so}
 use Rattle.bdb_settle.specs.declared.load_error.LoadError.TheVariants.{QueueAmongNames, RecordTooLong, RecordZero}
 use Rattle.bdb_text_format.specs.Written.{holds_records, is_queue}
 use Rattle.bdb_settle.specs.Loaded.{loaded_pair, keeps_data, loaded, sorts_data, stands_before}

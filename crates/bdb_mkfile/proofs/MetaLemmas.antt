@@ -21,8 +21,7 @@ use Rattle.bdb_format.specs.Hashing.{group}
 use Rattle.bdb_format.specs.HeadOf.{is_page_size}
 use Rattle.bdb_format.specs.Numbers.{byte_at, four_at, has_bit, spelled}
 use Rattle.bdb_format.specs.Reading.{hash_fields, is_zero, page_type}
-use Rattle.bdb_format.specs.Rows.{are_masks, body_code, form_code, identity_rows, is_tree_type, lacks_spare}
-use Rattle.bdb_format.specs.Rows.{magic_of, metadata_rows, page_code, version_of}
+use Rattle.bdb_format.specs.Rows.{are_masks, body_code, form_code, identity_rows, is_tree_type, lacks_spare, magic_of, metadata_rows, page_code, version_of}
 use Rattle.bdb_format.specs.Spelling.{common_bytes, last_field, table_bytes, zeros}
 use Rattle.bdb_format.specs.Table.{first_row}
 use Rattle.bdb_format.proofs.MemberLemmas.{none_pass, of_range}

@@ -1,6 +1,5 @@
 -- Databases that are built under names.
-use Rattle.std.proofs.Common.{◌≡◌, ℕ, ◌+◌, ◌-◌, ◌≤◌, ◌&&◌, Bool, true, false, List, [], ◌∷◌, length, None}
-use Rattle.std.proofs.Common.{arith, refl, sym, ◌∙◌, ap, subst, inl, inr}
+use Rattle.std.proofs.Common.{◌≡◌, ℕ, ◌+◌, ◌-◌, ◌≤◌, ◌&&◌, Bool, true, false, List, [], ◌∷◌, length, None, arith, refl, sym, ◌∙◌, ap, subst, inl, inr}
 use Rattle.bdb_format.specs.declared.kinds.Kind.{Kind}
 use Rattle.bdb_format.specs.declared.kinds.Kind.TheVariants.{Btree, Recno, Hash, Queue}
 use Rattle.bdb_format.specs.declared.kinds.Order.{Order}
@@ -33,7 +32,7 @@ use Rattle.bdb_need.specs.Need.{list_pages, sized}
 use Rattle.bdb_mkfile.specs.FileSettings.{file_settings, own_settings}
 use Rattle.bdb_mkfile.specs.Trees.{IsTreeSettings}
 use Rattle.bdb_mkfile.proofs.MetaLemmas.{buckets_fit, some_bits}
-use Rattle.bdb_mkfile.proofs.SettingsLemmas.{only_duplicates, own_size}
+use Rattle.bdb_mkfile.proofs.SettingsLemmas.{only_duplicates, own_size, own_kind}
 use Rattle.bdb_mkfile.specs.declared.named_metadata.DatabaseMeta.TheVariants.{Table, Tree}
 use Rattle.bdb_mkfile.specs.declared.named_metadata.DatabaseMeta.{DatabaseMeta}
 use Rattle.bdb_mkfile.specs.NamedImages.{AreNamedSettings, IsNamed}
@@ -263,12 +262,6 @@ own_order Btree size order settings = refl
 own_order Recno size order settings = refl
 own_order Hash size order settings = refl
 own_order Queue size order settings = refl
-
-own_kind : (k : Kind) (size : ℕ) (order : Order) (settings : Settings) → (own_settings k size order settings).kind ≡ k
-own_kind Btree size order settings = refl
-own_kind Recno size order settings = refl
-own_kind Hash size order settings = refl
-own_kind Queue size order settings = refl
 
 -- A section.
 

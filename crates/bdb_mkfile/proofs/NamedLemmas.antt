@@ -22,8 +22,7 @@ use Rattle.bdb_format.specs.Verdict.{first_judgement}
 use Rattle.bdb_format.proofs.MemberLemmas.{first_member, later_member, member_cases}
 use Rattle.bdb_meta.specs.RowGroups.{flag_rows}
 use Rattle.bdb_law_grove.specs.Growing.{IsCounted, IsLater}
-use Rattle.bdb_law_grove.specs.Part.{IsPart}
-use Rattle.bdb_law_grove.specs.Part.{between}
+use Rattle.bdb_law_grove.specs.Part.{IsPart, between}
 use Rattle.bdb_law_grove.proofs.ChainLemmas.{between_is, is_between}
 use Rattle.bdb_text_format.specs.declared.sections.Section.{Section}
 use Rattle.bdb_text_format.specs.Pairs.{listed}

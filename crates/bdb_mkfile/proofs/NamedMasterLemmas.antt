@@ -1,6 +1,5 @@
 -- The list of a master, and its tree.
-use Rattle.std.proofs.Common.{◌≡◌, ℕ, ◌+◌, ◌<◌, List, [], ◌∷◌, ◌++◌, length, take, get_or}
-use Rattle.std.proofs.Common.{arith, sym, ◌∙◌, ap, subst}
+use Rattle.std.proofs.Common.{◌≡◌, ℕ, ◌+◌, ◌<◌, List, [], ◌∷◌, ◌++◌, length, take, get_or, arith, sym, ◌∙◌, ap, subst}
 use Rattle.std.proofs.lemmas.List.{length-take-le, take_more}
 use Rattle.bdb_format.specs.declared.kinds.Kind.TheVariants.{Btree}
 use Rattle.bdb_format.specs.declared.metadata.BtreeMeta.{BtreeMeta}

@@ -28,6 +28,7 @@ use Rattle.bdb_need.specs.Need.{name_in}
 use Rattle.bdb_mkfile.specs.NamedImages.{IsDatabaseOf, IsNamed}
 use Rattle.bdb_mkfile.specs.NamedLaws.{EntriesNameDatabases, EntriesNameMetas}
 use Rattle.bdb_mkfile.specs.Layout.{AreJointsFrom, IsJointOf, entries_from}
+use Rattle.bdb_format.proofs.ListLemmas.{one_answer}
 
 -- Numbers of pages.
 
@@ -198,9 +199,6 @@ before_next size order number section first left joints own before joint at =
       ]
     ]
 
-same_some : (m n : ℕ) → Some m ≡ Some n → m ≡ n
-same_some m n same = cc
-
 same_bytes : (a b : List ℕ) → BytesKey a ≡ BytesKey b → a ≡ b
 same_bytes a b same = cc
 
@@ -210,7 +208,7 @@ one_database : (size : ℕ) (order : Order) (number : ℕ) (section : Section) (
     → HoldsLists image joints → AreJointsFrom size order number (section ∷ sections) (first ∷ left) → AreBefore number (first ∷ left) joints
     → IsDatabase joints (BytesKey (name_in section.name), spelled 4 Big number) database → IsDatabaseOf size order image section database
 one_database size order number section sections first left joints image database named small size_is order_is holds are before is =
-    let meta : is.joint.meta ≡ number = same_some is.joint.meta number (sym is.names ∙ spelled_named number small) in
+    let meta : is.joint.meta ≡ number = one_answer is.joint.meta number (sym is.names ∙ spelled_named number small) in
     let own : IsJointOf size order number section is.joint =
     first_joint size order number section sections first is.joint left joints are before is.at meta in
     let name : section.name ≡ Some (name_in section.name) = named.name_is ∙ ap (λ n. Some (name_in n)) (sym named.name_is) in

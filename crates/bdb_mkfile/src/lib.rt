@@ -19,7 +19,7 @@ pub use bdb_need::need;
 pub use bdb_settle::{LoadError, settle};
 pub use image::named_image;
 pub use loading::load;
-pub use metadata::{file_settings, plain_settings, tree_meta};
+pub use metadata::{file_settings, tree_meta};
 pub use order::in_name_order;
 pub use queue::queue_image;
 pub use table::{element_count, table_image};

@@ -8,9 +8,8 @@ ghost use Rattle.bdb_mkfile.specs.NamedImages.{AreNamed, names_pages};
 ghost use Rattle.bdb_mkfile.specs.Layout.{entries_from, entry_of, settings_of_master};
 ghost use Rattle.bdb_mkfile.specs.Standing.{IsMasterBuilt};
 
-use crate::metadata::plain_settings;
 use crate::named_metadata::named_tree_meta;
-use bdb_format::{BtreeMeta, Kind, Order, Settings};
+use bdb_format::{BtreeMeta, Kind, Order, Settings, plain_settings};
 use bdb_mktree::build_tree;
 use bdb_need::tree_pages;
 use bdb_pack::Pages;

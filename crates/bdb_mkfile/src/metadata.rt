@@ -1,28 +1,7 @@
 ghost use Rattle.std.specs.Prelude.{◌≡◌, ◌≤◌};
 ghost use Rattle.bdb_mkfile.specs.FileSettings.{btree_flags, file_settings, flag, flags_of, recno_flags, tree_meta};
-ghost use Rattle.bdb_format.specs.Databases.{plain_settings};
 
-use bdb_format::{BtreeMeta, Kind, Order, Settings};
-
-/// Settings of a kind that has none of its own.
-pub fn plain_settings(kind: Kind, page_size: u32, order: Order) -> Settings
-    ensures { result ≡ plain_settings kind page_size order }
-{
-    Settings {
-        kind,
-        page_size,
-        order,
-        duplicates: false,
-        sorted: false,
-        recnum: false,
-        renumber: false,
-        fixed: false,
-        re_len: 0,
-        re_pad: 32,
-        minkey: 2,
-        ffactor: 0,
-    }
-}
+use bdb_format::{BtreeMeta, Kind, Settings, plain_settings};
 
 /// The settings of a database in its own file: what belongs to other kinds is as a header without its keyword says.
 pub fn file_settings(settings: &Settings) -> Settings

@@ -30,6 +30,7 @@ pub use Rattle.bdb_text_format.specs.Written
 pub use Rattle.bdb_text_format.specs.TextLines
 pub use Rattle.bdb_text_format.specs.Keywords
 pub use Rattle.bdb_text_format.specs.Header
+pub use Rattle.bdb_text_format.specs.ReasonTable
 pub use Rattle.bdb_text_format.specs.Reasons
 pub use Rattle.bdb_text_format.specs.Pairs
 pub use Rattle.bdb_text_format.specs.Sections

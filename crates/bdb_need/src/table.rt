@@ -97,7 +97,8 @@ fn bucket_pages(
     requires some { 1 ≤ bits }
     requires few { bits ≤ 31 }
     requires keys { All (λ pair. HasBytes pair.key) (pairs_of pairs) }
-    ensures pages { IfOk result (λ pages. pages ≡ sum_by (λ bucket. length (spread_bucket size bucket)) (buckets_of bits (table_units (pairs_of pairs.entry)))) }
+    ensures pages { IfOk result (λ pages. pages
+        ≡ sum_by (λ bucket. length (spread_bucket size bucket)) (buckets_of bits (table_units (pairs_of pairs.entry)))) }
     ensures few { IfOk result (λ pages. pages < 2 ^ 100) }
 {
     let room = (size - 26) as u16;

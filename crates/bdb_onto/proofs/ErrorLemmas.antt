@@ -9,10 +9,10 @@ use Rattle.bdb_format.specs.declared.kinds.Kind.TheVariants.{Btree, Recno, Hash,
 use Rattle.bdb_format.specs.declared.metadata.BtreeMeta.{BtreeMeta}
 use Rattle.bdb_format.specs.declared.settings.Settings.{Settings}
 use Rattle.bdb_format.specs.ContentRows.{fields_in}
-use Rattle.bdb_format.specs.Databases.{Database, database_on, databases, databases_under, is_name, named_database}
+use Rattle.bdb_format.specs.Databases.{Database, databases, databases_under, is_name, named_database}
 use Rattle.bdb_format.specs.File.{File, file_of, page_at}
 use Rattle.bdb_format.specs.Master.{master_in, master_pairs, named_by}
-use Rattle.bdb_format.proofs.MemberLemmas.{first_member, is_empty, later_member, no_member, of_filter, of_flat_map, of_map}
+use Rattle.bdb_format.proofs.MemberLemmas.{first_member, is_empty, later_member, of_filter, of_flat_map, of_map}
 use Rattle.bdb_file.proofs.NamedLemmas.{with_name}
 use Rattle.bdb_text_format.specs.declared.pairs.TextPair.{TextPair}
 use Rattle.bdb_text_format.specs.declared.sections.Section.{Section}
@@ -29,15 +29,10 @@ use Rattle.bdb_onto.specs.Onto.{HasNoErrorsOnto, differ, in_base, is_left, is_pa
 use Rattle.bdb_onto.specs.Onto.{partner_of, settings_from, settings_onto}
 use Rattle.bdb_onto.proofs.BaseLemmas.{IsOfBase, in_base_already, no_own_errors, of_base, queue_of_base}
 use Rattle.bdb_onto.proofs.JoinLemmas.{partner_of_base}
+use Rattle.bdb_law_kept.proofs.NameLemmas.{named_on}
+use Rattle.bdb_law_kept.proofs.DumpLemmas.{none_of_pairs}
 
 -- A base has a master exactly where its databases have names.
-
-named_on : (file : File) (key : List ℕ) (p : Option ℕ) (database : Database) → Contains (database_on file (Some key) p) database
-    → is_some database.name ≡ true
-named_on file key None database at = absurd (no_member [] database refl at)
-named_on file key (Some p) database at =
-    let found = of_map (with_name (Some key)) (fields_in (page_at file p)) database at in
-    subst (λ (d : Database). is_some d.name ≡ true) found.2 refl
 
 under_named : (file : File) (found : Option BtreeMeta) (database : Database) → Contains (databases_under file found) database
     → is_some database.name ≡ is_some found
@@ -114,13 +109,6 @@ no_section_errors size alone section wide among pairs =
     ++ flat_map (pair_errors section.settings) section.pairs) wide
     ∙ ap (λ b. where_so b (QueueAmongNames section.header_line) ++ flat_map (pair_errors section.settings) section.pairs) among
     ∙ pairs
-
-pub none_of_pairs : (settings : Settings) (pairs : List TextPair) → All (λ pair. pair_errors settings pair ≡ []) pairs
-    → flat_map (pair_errors settings) pairs ≡ []
-none_of_pairs settings [] none = refl
-none_of_pairs settings (pair ∷ pairs) none =
-    ap (λ es. es ++ flat_map (pair_errors settings) pairs) (All-head (λ p. pair_errors settings p ≡ []) pair pairs none)
-    ∙ none_of_pairs settings pairs (All-tail (λ p. pair_errors settings p ≡ []) pair pairs none)
 
 from_errors : (base : Base) (settings : Settings) (partner : Option Section) → ((database : Section) → partner ≡ Some database → IsOfBase base database)
     → flat_map (pair_errors (in_base base (settings_from settings partner))) (pairs_from partner) ≡ []

@@ -3,8 +3,7 @@ use Rattle.std.proofs.Common.{◌≡◌, ℕ, ◌+◌, ◌≤◌, Bool, true, fa
 use Rattle.std.proofs.Common.{subst, arith, true≢false, append-nil, append_assoc, ne_eqb}
 use Rattle.std.specs.Prelude.{◌&&◌, ◌||◌, ◌==◌, IsTrue, is_none, is_some}
 use Rattle.std.specs.List.{All, Contains, filter, list_any}
-use Rattle.std.specs.Str.{bytes_eq}
-use Rattle.std.proofs.lemmas.Bool.{false_from_ne_true, or_from, or_parts}
+use Rattle.std.proofs.lemmas.Bool.{or_from, or_parts}
 use Rattle.std.proofs.lemmas.List.Elements.{All-append, All-contains, All-cons, All-head, All-nil, All-tail, All-weaker}
 use Rattle.std.proofs.lemmas.List.Folds.{list_any-append}
 use Rattle.bdb_format.specs.declared.kinds.Kind.{Kind}
@@ -13,7 +12,6 @@ use Rattle.bdb_format.specs.declared.settings.Settings.{Settings}
 use Rattle.bdb_format.specs.HeadOf.{is_page_size}
 use Rattle.bdb_format.specs.Databases.{Database, databases, is_name}
 use Rattle.bdb_format.specs.File.{file_of}
-use Rattle.bdb_format.proofs.LessLemmas.{eq_same, eq_self}
 use Rattle.bdb_format.proofs.ListLemmas.{all_of}
 use Rattle.bdb_format.proofs.MemberLemmas.{first_member, in_map, later_member, none_pass, none_passes, of_filter, of_map}
 use Rattle.bdb_text_format.specs.declared.sections.Section.{Section}
@@ -33,6 +31,7 @@ use Rattle.bdb_onto.proofs.BaseLemmas.{of_base}
 use Rattle.bdb_onto.proofs.ErrorLemmas.{AreOne, are_one, named_in_base, same_of}
 use Rattle.bdb_onto.proofs.FieldsLemmas.{AreFitBase, base_fits}
 use Rattle.bdb_onto.proofs.JoinLemmas.{found_in}
+use Rattle.bdb_text.proofs.WrittenLemmas.{is_name-sym}
 
 -- Names.
 
@@ -97,14 +96,6 @@ behind names (section ∷ left) all new apart =
 
 -- The names of a base differ.
 
-other_way : (a b : Option (List ℕ)) → is_name a b ≡ false → is_name b a ≡ false
-other_way None None is = is
-other_way None (Some b) is = refl
-other_way (Some a) None is = refl
-other_way (Some a) (Some b) is =
-    false_from_ne_true (bytes_eq b a) (λ same.
-    true≢false (sym (eq_self a) ∙ ap (bytes_eq a) (sym (eq_same b a same)) ∙ is))
-
 later_filter : {X : Type 0} (R : X → X → Type 0) (test : X → Bool) (xs : List X) → AllLater R xs → AllLater R (filter test xs)
 later_filter R test [] later = tt
 later_filter {X} R test (x ∷ xs) later = by_test (test x) (later_filter R test xs later.1)
@@ -122,7 +113,7 @@ database_names all = map (λ (database : Database). database.name) all
 all_apart : (all : List Database) → AreNamedApart (database_names all) → AllLater NamesDiffer all
 all_apart [] named = tt
 all_apart (database ∷ all) named = (
-  (λ other at. other_way database.name other.name
+  (λ other at. is_name-sym database.name other.name
       (none_passes (is_name database.name) (database_names all) other.name named.1
       (in_map (λ (one : Database). one.name) all other at))),
   all_apart all named.2,
@@ -171,7 +162,7 @@ left_new sections database left =
     none_pass (is_name database.name) (names_in sections) (λ name at.
     let found = of_map (λ (s : Section). s.name) sections name at in
     subst (λ n. is_name database.name n ≡ false) found.2
-    (other_way found.0.name database.name
+    (is_name-sym found.0.name database.name
     (none_passes (λ section. is_partner section database) sections found.0 (turned (list_any (λ section. is_partner section database) sections) left)
     found.1)))
   where

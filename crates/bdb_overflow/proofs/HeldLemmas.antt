@@ -10,8 +10,10 @@ use Rattle.std.proofs.lemmas.Bool.{cases_eq, cases_order}
 use Rattle.bdb_format.specs.File.{file_of}
 use Rattle.bdb_format.specs.Less.{less}
 use Rattle.bdb_overflow.specs.Held.{AreFound, chain_value, two_cmp}
+use Rattle.bdb_format.proofs.ListLemmas.{one_answer}
 
-apart : (a b : ℕ) → (a ≡ b → ⊥) → is_eq (nat_cmp a b) ≡ false
+-- two numbers that differ
+pub apart : (a b : ℕ) → (a ≡ b → ⊥) → is_eq (nat_cmp a b) ≡ false
 apart a b differ =
     elim (cases_order a b) [
       | inl same ↦ absurd (differ same)
@@ -27,9 +29,6 @@ second_apart : (p q : Ordering) → is_eq q ≡ false → is_eq (ordering_then p
 second_apart Below q is = refl
 second_apart Equal q is = is
 second_apart Greater q is = refl
-
-one_answer : (a b : Bool) → Some a ≡ Some b → a ≡ b
-one_answer a b is = cc
 
 -- and of two more
 pub found_more : (image : List ℕ) (old new : BTreeMap (ℕ × ℕ) Bool) (a b : ℕ) (is : Bool) → AreFound image old

@@ -314,3 +314,6 @@ linked_pieces image p forest fits =
     let other : File = file_as (head_of image).order (head_of image).page_size image in
     let counts : (file_of image).count ≡ other.count = count_is image ∙ sym (count_as (head_of image).order (head_of image).page_size image) in
     sym (ap (λ turns. pieces_in turns (file_of image) p) counts ∙ same_turns other.count image p forest (head_on_chain image p forest fits))
+
+-- what the chains of a linked image are
+pub ruleset linked_chains = (legal_size, linked_whole, linked_pieces, count_is)

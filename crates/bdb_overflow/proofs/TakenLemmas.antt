@@ -16,7 +16,7 @@ use Rattle.bdb_overflow.specs.Taken.{ArePassedIfAny, ArePassedOn, StandsFor, ful
 use Rattle.bdb_overflow.specs.Whole.{IsLeft, IsLink, IsWholeChain, bytes_of, next_at, pieces_from}
 use Rattle.bdb_overflow.specs.declared.taken.Taken.{Taken}
 use Rattle.bdb_overflow.specs.declared.taken.Taken.TheVariants.{Each, WithData}
-use Rattle.bdb_overflow.proofs.LinkedLemmas.{legal_size}
+use Rattle.bdb_overflow.proofs.LinkedLemmas.{legal_size, linked_whole, linked_pieces, count_is}
 use Rattle.bdb_overflow.proofs.WholeLemmas.{after_left, data_at, left_short, left_whole, overflow_page, page_length, pieces_few_as, pieces_from_all}
 use Rattle.bdb_overflow.proofs.WholeLemmas.{pieces_from_cons, whole_link}
 
@@ -113,3 +113,6 @@ passed_on image (Some nexts) forest passed = record {
       let after : IsAfter (file_of image) p (page_past nexts p) = passed.each p in
       stands after.blanks image p (page_past nexts p) (legal_size image forest) after.comes left;
 }
+
+-- what is taken of the chains of a linked image
+pub ruleset taken_chains = (legal_size, linked_whole, linked_pieces, count_is, passed_on, joined_full)

@@ -9,7 +9,7 @@ use crate::{Pieces, pieces_at};
 use bdb_graph::{Chain, Forest, Linked, Ref};
 
 /// The pieces of the chain with this head that have data: the bytes of its value. Other pages are passed over.
-#[tactic(auto, using(crate::proofs::LinkedLemmas::legal_size, crate::proofs::LinkedLemmas::linked_whole, crate::proofs::LinkedLemmas::linked_pieces, crate::proofs::LinkedLemmas::count_is, crate::proofs::TakenLemmas::passed_on, crate::proofs::TakenLemmas::joined_full))]
+#[tactic(auto, using(crate::proofs::TakenLemmas::taken_chains))]
 pub fn chain_pieces<'a>(forest: &Forest<'a>, head: u32) -> Pieces<'a>
     requires { FitsChain (file_of forest.now) head }
     ensures pieces { result ≡ full_pieces (pieces_of (file_of forest.now) head) }
@@ -27,7 +27,7 @@ pub fn chain_pieces<'a>(forest: &Forest<'a>, head: u32) -> Pieces<'a>
 }
 
 /// The pieces of a chain of a linked image, in order, one for each of its pages.
-#[tactic(auto, using(crate::proofs::LinkedLemmas::legal_size, crate::proofs::LinkedLemmas::linked_whole, crate::proofs::LinkedLemmas::linked_pieces, crate::proofs::LinkedLemmas::count_is))]
+#[tactic(auto, using(crate::proofs::LinkedLemmas::linked_chains))]
 pub fn pieces<'a>(linked: &Linked<'a>, r: Ref<Chain>) -> Pieces<'a>
     requires { FitsChain (file_of linked.now) r }
     ensures pieces { result ≡ pieces_of (file_of linked.now) r }

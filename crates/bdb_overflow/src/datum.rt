@@ -73,3 +73,27 @@ fn push_pieces(bytes: &mut Bytes, pieces: Pieces<'_>) -> Result<(), AllocError>
     }
     Ok(())
 }
+
+/// Puts pieces of a chain into a room, one behind the other.
+fn put_pieces(pieces: Pieces<'_>, room: &mut Vec<u8>) -> Result<(), AllocError>
+    ensures { OnOk result (room.new.items ≡ joined pieces.entry) }
+{
+    room.clear();
+    for piece in pieces {
+        room.extend_from_slice(piece)?;
+    }
+    Ok(())
+}
+
+/// The bytes of a value: those of its page, or of its chain, which then lie in the room.
+pub fn bytes_in<'r>(value: Datum<'r>, room: &'r mut Vec<u8>) -> Result<&'r [u8], AllocError>
+    ensures { IfOk result (λ bytes. bytes.now ≡ datum_seen value.entry) }
+{
+    match value {
+        Datum::Inline(bytes) => Ok(bytes),
+        Datum::Chained(pieces) => {
+            put_pieces(pieces, room)?;
+            Ok(room.as_slice())
+        }
+    }
+}

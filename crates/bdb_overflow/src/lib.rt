@@ -19,7 +19,7 @@ mod values;
 pub use chains::{chain_pieces, pieces};
 pub use check::{chain_faults, check_chains, note_chains};
 pub use content::{content_datum, hash_datum, key_datum, leaf_datum};
-pub use datum::{Datum, KeyView};
+pub use datum::{Datum, KeyView, bytes_in};
 pub use first::prefix;
 pub use held::{Held, key_held, leaf_held};
 pub use item::{is_deleted, value_of};

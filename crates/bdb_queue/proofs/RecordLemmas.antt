@@ -8,7 +8,7 @@ use Rattle.bdb_format.specs.Lists.{ListKey, listed_slot, page_records, queue_lis
 use Rattle.bdb_format.specs.Page.{Page, Queue, NoType}
 use Rattle.std.proofs.lemmas.Bool.{cases_lt}
 use Rattle.bdb_format.specs.Numbers.{pad4}
-use Rattle.bdb_format.proofs.FileLemmas.{past_last}
+use Rattle.bdb_format.proofs.FileLemmas.{past_last, last_page}
 use Rattle.bdb_queue.specs.Records.{HasSlots, left_from, records_from, slots_from}
 
 -- The slots of a page.
@@ -86,3 +86,6 @@ pub whole_queue : (image : List ℕ) (meta : QueueMeta) → left_from (file_of i
 unfolding queue_list pages_from
 whole_queue image meta = from_page image meta 1 ∙ ap (λ n. pages_from (file_of image) meta 1 n)
     (let same : (file_of image).last + 1 - 1 ≡ (file_of image).last = omega arith in same)
+
+-- which record is next
+pub ruleset next_records = (none_left, next_page, next_record, last_page)

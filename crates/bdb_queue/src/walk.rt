@@ -60,7 +60,7 @@ pub(crate) struct Place {
 }
 
 /// The first record of a queue from a place on, and the place after it. Only pages of the file are looked at.
-#[tactic(auto, using(crate::proofs::RecordLemmas::none_left, crate::proofs::RecordLemmas::next_page, crate::proofs::RecordLemmas::next_record, bdb_format::proofs::FileLemmas::last_page))]
+#[tactic(auto, using(crate::proofs::RecordLemmas::next_records))]
 pub(crate) fn first_from<'a>(
     forest: &Forest<'a>,
     meta: &QueueMeta,

@@ -3,13 +3,12 @@ use Rattle.std.proofs.Common.{◌≡◌, ◌⊎◌, ℕ, zero, suc, ◌+◌, ◌
 use Rattle.std.proofs.Common.{◌∙◌, ap, subst, inl, inr, Bor, true≢false, le-ltb, lt-ltb}
 use Rattle.std.specs.Prelude.{nat_lt, ◌&&◌}
 use Rattle.std.specs.BTreeMap.{BTreeMap, Updates, get}
-use Rattle.std.specs.Cmp.{IsStrictWeakOrder, nat_cmp_is}
+use Rattle.std.specs.Cmp.{IsStrictWeakOrder}
 use Rattle.std.specs.Fn.{Called, ComparesAs, Mut}
 use Rattle.std.specs.List.Sorted.{IsPermutation, IsSortedBy}
-use Rattle.std.specs.Ordering.{is_eq, is_lt, nat_cmp}
+use Rattle.std.specs.Ordering.{is_lt, nat_cmp}
 use Rattle.std.specs.declared.cmp.Ordering.{Ordering}
-use Rattle.std.specs.declared.cmp.Ordering.TheVariants.{Less as Below, Greater}
-use Rattle.std.proofs.lemmas.Bool.{cases_eq, cases_order, false_from_ne_true, ltb-false}
+use Rattle.std.proofs.lemmas.Bool.{cases_eq, false_from_ne_true, ltb-false}
 use Rattle.std.proofs.lemmas.Fn.{always_returns_same}
 use Rattle.std.proofs.lemmas.List.Elements.{Contains-get_or}
 use Rattle.std.proofs.lemmas.List.Sorted.{Contains-permutation, IsPermutation-sym}
@@ -19,6 +18,8 @@ use Rattle.bdb_format.proofs.LessLemmas.{below_less, less_above, less_not_back, 
 use Rattle.bdb_overflow.specs.Held.{chain_value}
 use Rattle.bdb_ranks.specs.Ranks.{AreBelow, AreRanked, AreRanks, is_above, no_chain, value_at, value_less}
 use Rattle.bdb_ranks.specs.Shared.{AreShared, ChainValue, IsShared}
+use Rattle.bdb_overflow.proofs.HeldLemmas.{apart}
+use Rattle.bdb_format.proofs.ListLemmas.{one_answer}
 
 -- The sort.
 
@@ -45,21 +46,11 @@ shared_moved image old new are moved = record {
 
 -- One more rank.
 
-pub apart : (a b : ℕ) → (a ≡ b → ⊥) → is_eq (nat_cmp a b) ≡ false
-apart a b differ =
-    elim (cases_order a b) [
-      | inl same ↦ absurd (differ same)
-      | inr rest ↦ elim rest [ inl less' ↦ ap is_eq (sym (nat_cmp_is a b Below less')) | inr more ↦ ap is_eq (sym (nat_cmp_is a b Greater more)) ]
-    ]
-
-one_rank : (m n : ℕ) → Some m ≡ Some n → m ≡ n
-one_rank m n is = cc
-
 after_insert : (old new : BTreeMap ℕ ℕ) (h rank a m : ℕ) → Updates nat_cmp old new h (Some rank) → get nat_cmp new a ≡ Some m
     → ((h ≡ a) × (m ≡ rank)) ⊎ (get nat_cmp old a ≡ Some m)
 after_insert old new h rank a m updates at =
     elim (cases_eq h a) [
-      | inl same ↦ inl (same, one_rank m rank (sym at ∙ (sym (ap (get nat_cmp new) same) ∙ updates.1)))
+      | inl same ↦ inl (same, one_answer m rank (sym at ∙ (sym (ap (get nat_cmp new) same) ∙ updates.1)))
       | inr differ ↦ inr (sym (updates.2 a (apart h a differ)) ∙ at)
     ]
 

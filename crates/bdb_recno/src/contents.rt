@@ -86,15 +86,8 @@ fn note_fixed<F: FaultSink>(
     ensures { OnOk result (NotesAll (F.has_noted found.old) (F.has_noted found.new)
         (if is_fixed meta.now then length_faults (file_of forest.now) meta.now (leaves (file_of forest.now) meta.now.root) else [])) }
 {
-    if is_fixed(meta) {
+    if meta.is_fixed() {
         note_lengths(linked, forest, meta, found)?;
     }
     Ok(())
-}
-
-/// Whether records have a fixed length.
-fn is_fixed(meta: &BtreeMeta) -> bool
-    ensures { result ≡ is_fixed meta.now }
-{
-    meta.flags & 0x08 != 0
 }

@@ -18,9 +18,7 @@ use Rattle.bdb_text_format.specs.declared.pairs.Key.TheVariants.{Bytes, Number}
 use Rattle.bdb_text_format.specs.declared.pairs.TextPair.{TextPair}
 use Rattle.bdb_text_format.specs.declared.sections.Section.{Section}
 use Rattle.bdb_text_format.specs.Header.{settings_in}
-use Rattle.bdb_text_format.specs.Keywords.{legal_size}
 use Rattle.bdb_text_format.specs.Sections.{Reads}
-use Rattle.bdb_law_sections.proofs.HeaderLemmas.{any_turned}
 use Rattle.bdb_settle.specs.LoadErrors.{load_error}
 use Rattle.bdb_text.specs.WrittenLaw.{AreBytes, IsPairOf, IsWritable, Written, key_in, pair_in}
 use Rattle.bdb_text.proofs.LookedLemmas.{legal_below, looked, name-looked}
@@ -38,6 +36,7 @@ use Rattle.bdb_repair.specs.Reads.{SalvageIsRead, unlined, without_lines}
 use Rattle.bdb_repair.proofs.HeldLemmas.{loose_hold, salvaged_holds, stored_hold}
 use Rattle.bdb_repair.proofs.LineLemmas.{no_errors_with_lines}
 use Rattle.bdb_repair.proofs.PartLemmas.{parts_have_no_errors}
+use Rattle.bdb_law_kept.proofs.WrittenLemmas.{legal}
 
 -- Settings.
 
@@ -126,9 +125,6 @@ loose_is print guess records at small bytes =
     ∙ ap (section_with (Some (codes "loose")) (loose_settings guess)) (loose_out (enumerate_from 1 records))
 
 -- They can be written.
-
-legal : (n : ℕ) → is_page_size n ≡ true → legal_size n ≡ true
-legal n is = any_turned n (512 ∷ 1024 ∷ 2048 ∷ 4096 ∷ 8192 ∷ 16384 ∷ 32768 ∷ []) ∙ is
 
 abbrev are_low : List ℕ → Bool
 are_low [] = true

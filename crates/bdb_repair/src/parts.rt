@@ -1,7 +1,6 @@
 //! What is salvaged, as sections that can be loaded.
 ghost use Rattle.std.specs.Prelude.{◌≡◌, ◌++◌, ◌∷◌, ◌<◌, ◌≤◌, ◌^◌, [], IfOk, OnOk, Some, length};
 ghost use Rattle.std.specs.List.{flat_map};
-ghost use Rattle.bdb_format.specs.Chains.{joined};
 ghost use Rattle.bdb_overflow.specs.Datum.{datum_seen};
 ghost use Rattle.bdb_repair.specs.Parts.{loose_pairs, loose_section, named_sections, repair_sections, shaped_pairs, shaped_section};
 ghost use Rattle.bdb_repair.specs.Parts.{stored_pair, stored_pairs, stored_section};
@@ -11,7 +10,7 @@ ghost use Rattle.bdb_survey.specs.Salvage.{loose, stored};
 use crate::shape::shaped_settings;
 use crate::{Duplicates, Shape};
 use bdb_format::Bytes;
-use bdb_overflow::{Datum, Pieces};
+use bdb_overflow::{Datum, bytes_in};
 use bdb_rescue::{SalvageEntries, SalvageEntry, SalvageValues, Salvaged};
 use bdb_text_format::{KeyRef, PairRef, Section, Sections, TextPairs};
 use std::alloc::{AllocError, Global};
@@ -32,30 +31,6 @@ fn named(alloc: Global, name: &[u8]) -> Result<Option<Bytes>, AllocError>
     Ok(Some(copy))
 }
 
-// Puts pieces of a chain into a room, one behind the other.
-fn put_pieces(pieces: Pieces<'_>, room: &mut Vec<u8>) -> Result<(), AllocError>
-    ensures { OnOk result (room.new.items ≡ joined pieces.entry) }
-{
-    room.clear();
-    for piece in pieces {
-        room.extend_from_slice(piece)?;
-    }
-    Ok(())
-}
-
-// The bytes of a value: those of its page, or of its chain, which then lie in a room.
-fn bytes_of<'r>(value: Datum<'r>, room: &'r mut Vec<u8>) -> Result<&'r [u8], AllocError>
-    ensures { IfOk result (λ bytes. bytes.now ≡ datum_seen value.entry) }
-{
-    match value {
-        Datum::Inline(bytes) => Ok(bytes),
-        Datum::Chained(pieces) => {
-            put_pieces(pieces, room)?;
-            Ok(room.as_slice())
-        }
-    }
-}
-
 // Adds a stored pair.
 fn push_pair(
     key: Datum<'_>,
@@ -66,8 +41,8 @@ fn push_pair(
     ensures { OnOk result (pairs.new ≡ pairs.old ++ stored_pair (datum_seen key.entry, datum_seen value.entry) ∷ []) }
 {
     pairs.push(PairRef {
-        key: KeyRef::Bytes(bytes_of(key, &mut rooms.key)?),
-        value: bytes_of(value, &mut rooms.value)?,
+        key: KeyRef::Bytes(bytes_in(key, &mut rooms.key)?),
+        value: bytes_in(value, &mut rooms.value)?,
         line: 0,
     })
 }
@@ -85,7 +60,7 @@ fn push_entry(
     };
     push_pair(entry.key(), first, rooms, pairs)?;
     while let Some(value) = entry.next() {
-        pairs.push_with_last_key(bytes_of(value, &mut rooms.value)?, 0)?;
+        pairs.push_with_last_key(bytes_in(value, &mut rooms.value)?, 0)?;
     }
     Ok(())
 }
@@ -118,7 +93,7 @@ fn numbered_pairs(alloc: Global, found: SalvageValues<'_, '_>) -> Result<TextPai
         number += 1;
         pairs.push(PairRef {
             key: KeyRef::Number(number),
-            value: bytes_of(value, &mut room)?,
+            value: bytes_in(value, &mut room)?,
             line: 0,
         })?;
     }

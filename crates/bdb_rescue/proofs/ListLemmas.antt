@@ -3,7 +3,7 @@ use Rattle.std.proofs.Common.{◌≡◌, ℕ, suc, subst, ◌+◌, List, [], ◌
 use Rattle.std.specs.List.{All, Contains, flat_map, range_with_len}
 use Rattle.std.proofs.lemmas.List.{flat_map_more}
 use Rattle.std.proofs.lemmas.List.Elements.{All-contains}
-use Rattle.bdb_format.proofs.ListLemmas.{all_of, only_member, range_more}
+use Rattle.bdb_format.proofs.ListLemmas.{all_of, only_member, range_zero_more}
 use Rattle.bdb_format.proofs.MemberLemmas.{of_flat_map}
 
 -- the same of each is the same of all
@@ -19,9 +19,8 @@ flat_map_none (x ∷ xs) = flat_map_none xs
 pub more_pieces : {Y : Type 0} (f : ℕ → List Y) (before : List Y) (n : ℕ) → (before ++ flat_map f (range_with_len 0 n)) ++ f n ≡ before
     ++ flat_map f (range_with_len 0 (n + 1))
 more_pieces f before n =
-    let zero_more : 0 + n ≡ n = omega arith in
     flat_map_more f before (range_with_len 0 n) n
-    ∙ ap (λ ns. before ++ flat_map f ns) (sym (range_more 0 n ∙ ap (λ m. range_with_len 0 n ++ m ∷ []) zero_more))
+    ∙ ap (λ ns. before ++ flat_map f ns) (sym (range_zero_more n))
 
 -- What holds of all.
 

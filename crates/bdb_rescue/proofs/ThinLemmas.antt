@@ -9,7 +9,7 @@ use Rattle.bdb_rescue.specs.Kept.{bytes_in, thin_from}
 use Rattle.bdb_survey.specs.Rows.{is_thin_row, row_at}
 use Rattle.bdb_survey.specs.Salvage.{is_overflow, is_row, is_whole}
 use Rattle.bdb_survey.proofs.SurveyLemmas.{no_row_here}
-use Rattle.bdb_survey.proofs.WholeLemmas.{no_row}
+use Rattle.bdb_survey.proofs.WholeLemmas.{no_row, whole_row}
 use Rattle.bdb_rescue.proofs.MarkLemmas.{IsPast}
 
 -- a whole chain begins at a page that is there
@@ -38,3 +38,6 @@ thin_value file head total bytes are some = by_thin (is_thin_row (row_at file he
     by_thin : (b : Bool) → bytes ≡ bytes_in (cond b (Some (pieces_of file head)) None) → bytes ≡ joined (pieces_of file head)
     by_thin true same = same
     by_thin false none = absurd (some none)
+
+-- which value a chain holds
+pub ruleset values_of_chains = (whole_row, empty_value, thin_value)

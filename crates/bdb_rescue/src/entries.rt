@@ -6,7 +6,7 @@ ghost use Rattle.bdb_rescue.specs.Kept.{IsKeptPair, file_in, kept_pairs, keyed};
 use crate::Salvaged;
 use crate::entry::{PairData, pair_data};
 use crate::kept::KeptPair;
-use crate::places::PairPlaces;
+use crate::places::Places;
 use bdb_overflow::Datum;
 use std::marker::Model;
 
@@ -63,7 +63,7 @@ impl<'s, 'a> SalvageEntry<'s, 'a> {
 #[derive(Drop)]
 pub struct SalvageEntries<'s, 'a> {
     salvaged: &'s Salvaged<'a>,
-    pairs: PairPlaces<'s>,
+    pairs: Places<'s, KeptPair>,
 }
 
 impl<'s, 'a> Model for SalvageEntries<'s, 'a> {
@@ -86,7 +86,7 @@ impl<'s, 'a> SalvageEntries<'s, 'a> {
     {
         SalvageEntries {
             salvaged,
-            pairs: PairPlaces::over(salvaged.kept_pairs()),
+            pairs: Places::over(salvaged.kept_pairs()),
         }
     }
 }

@@ -1,8 +1,7 @@
 ghost use Rattle.std.specs.Prelude.{◌≡◌, ◌+◌, ◌≤◌, length};
-ghost use Rattle.bdb_format.specs.HeadOf.{is_page_size};
 ghost use Rattle.bdb_rescue.specs.Guesses.{chosen, guess_in, guess_of, is_known_magic};
 
-use bdb_format::Order;
+use bdb_format::{FileKind, Order, is_page_size, magic_of};
 use bdb_layout::u32_at;
 use bdb_survey::Guess;
 
@@ -44,11 +43,7 @@ fn guess_in(order: Order, image: &[u8]) -> Option<Guess>
 fn is_known_magic(number: u32) -> bool
     ensures { result ≡ is_known_magic number }
 {
-    number == 0x053162 || number == 0x061561 || number == 0x042253
-}
-
-fn is_page_size(size: u32) -> bool
-    ensures { result ≡ is_page_size size }
-{
-    matches!(size, 512 | 1024 | 2048 | 4096 | 8192 | 16384 | 32768)
+    number == magic_of(FileKind::Btree)
+        || number == magic_of(FileKind::Hash)
+        || number == magic_of(FileKind::Queue)
 }

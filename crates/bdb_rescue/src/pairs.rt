@@ -7,7 +7,7 @@ ghost use Rattle.bdb_rescue.specs.Kept.{IsKeptPair, file_in, given_live, kept_pa
 use crate::Salvaged;
 use crate::entry::Entry;
 use crate::kept::KeptPair;
-use crate::places::PairPlaces;
+use crate::places::Places;
 use bdb_overflow::Datum;
 use std::marker::Model;
 
@@ -15,7 +15,7 @@ use std::marker::Model;
 pub struct SalvagePairs<'s, 'a> {
     salvaged: &'s Salvaged<'a>,
     here: Option<Entry<'s, 'a>>,
-    pairs: PairPlaces<'s>,
+    pairs: Places<'s, KeptPair>,
 }
 
 impl Drop for SalvagePairs<'_, '_> {
@@ -49,7 +49,7 @@ impl<'s, 'a> SalvagePairs<'s, 'a> {
         SalvagePairs {
             salvaged,
             here: None,
-            pairs: PairPlaces::over(salvaged.kept_pairs()),
+            pairs: Places::over(salvaged.kept_pairs()),
         }
     }
 }

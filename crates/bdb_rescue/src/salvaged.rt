@@ -215,7 +215,7 @@ impl<'a> Salvaged<'a> {
     }
 
     /// The value in a whole chain. Pages without data are passed only where it has as many bytes as pages.
-    #[tactic(auto, using(bdb_survey::proofs::WholeLemmas::whole_row, crate::proofs::ThinLemmas::empty_value, crate::proofs::ThinLemmas::thin_value), unfolding(bdb_format::specs::Chains::value_of))]
+    #[tactic(auto, using(crate::proofs::ThinLemmas::values_of_chains), unfolding(bdb_format::specs::Chains::value_of))]
     pub(crate) fn chained<'s>(&'s self, head: u32, total: u32) -> Datum<'s>
         requires { IsTrue (is_whole (file_in self.now) head total) }
         ensures { datum_seen result ≡ value_of (file_in self.now) (Chain head total) }

@@ -6,7 +6,7 @@ ghost use Rattle.bdb_rescue.specs.Kept.{IsKeptValue, file_in, value_at};
 
 use crate::Salvaged;
 use crate::kept::KeptValue;
-use crate::places::ValuePlaces;
+use crate::places::Places;
 use bdb_overflow::Datum;
 use std::marker::Model;
 
@@ -14,7 +14,7 @@ use std::marker::Model;
 #[derive(Drop)]
 pub struct SalvageValues<'s, 'a> {
     salvaged: &'s Salvaged<'a>,
-    places: ValuePlaces<'s>,
+    places: Places<'s, KeptValue>,
 }
 
 impl<'s, 'a> Model for SalvageValues<'s, 'a> {
@@ -37,7 +37,7 @@ impl<'s, 'a> SalvageValues<'s, 'a> {
     {
         SalvageValues {
             salvaged,
-            places: ValuePlaces::over(places),
+            places: Places::over(places),
         }
     }
 }

@@ -1,5 +1,5 @@
 -- Why sections can't be loaded. Source: docs/FORMAT.md, "What loading does to a list".
-use Rattle.std.specs.Prelude.{◌≡◌, ℕ, ◌+◌, ◌-◌, nat_lt, ◌==◌, ◌&&◌, ◌||◌, not, if◌then◌else◌}
+use Rattle.std.specs.Prelude.{◌≡◌, ℕ, ◌+◌, ◌-◌, nat_lt, ◌==◌, ◌&&◌, ◌||◌, not, if◌then◌else◌, codes}
 use Rattle.std.specs.Prelude.{Bool, false, List, [], ◌∷◌, ◌++◌, length, Option, Some, None, is_some}
 use Rattle.std.specs.List.{flat_map, fold}
 use Rattle.bdb_format.specs.declared.settings.Settings.{Settings}
@@ -13,25 +13,25 @@ use Rattle.bdb_settle.specs.declared.load_error.LoadError.{LoadError}
 use Rattle.bdb_settle.specs.declared.load_error.LoadError.TheVariants.{RecordTooLong, RecordZero, TooLarge, QueueAmongNames, Memory, OntoKind, OntoNames}
 use Rattle.bdb_settle.specs.Loaded.{has_length}
 
--- Errors by their lines and codes.
+-- The line, the code and the name of each error. Want of memory and a file that is too large are of no line.
+
+abbrev pub error_entry : LoadError → ℕ × (ℕ × List ℕ)
+error_entry (RecordTooLong line) = (line, (1, codes "RecordTooLong"))
+error_entry (RecordZero line) = (line, (2, codes "RecordZero"))
+error_entry TooLarge = (0, (3, codes "TooLarge"))
+error_entry (QueueAmongNames line) = (line, (4, codes "QueueAmongNames"))
+error_entry (OntoKind line) = (line, (5, codes "OntoKind"))
+error_entry (OntoNames line) = (line, (6, codes "OntoNames"))
+error_entry Memory = (0, (0, codes "Memory"))
 
 abbrev pub line_of : LoadError → ℕ
-line_of (RecordTooLong line) = line
-line_of (RecordZero line) = line
-line_of TooLarge = 0
-line_of (QueueAmongNames line) = line
-line_of Memory = 0
-line_of (OntoKind line) = line
-line_of (OntoNames line) = line
+line_of error = (error_entry error).0
 
 abbrev pub code_of : LoadError → ℕ
-code_of (RecordTooLong line) = 1
-code_of (RecordZero line) = 2
-code_of TooLarge = 3
-code_of (QueueAmongNames line) = 4
-code_of Memory = 0
-code_of (OntoKind line) = 5
-code_of (OntoNames line) = 6
+code_of error = (error_entry error).1.0
+
+abbrev pub name_of : LoadError → List ℕ
+name_of error = (error_entry error).1.1
 
 abbrev pub is_sooner : LoadError → LoadError → Bool
 is_sooner a b = nat_lt (line_of a) (line_of b) || ((line_of a == line_of b) && nat_lt (code_of a) (code_of b))

@@ -3,7 +3,7 @@ ghost use Rattle.std.specs.List.{flat_map, fold};
 ghost use Rattle.bdb_text_format.specs.Placed.{key_seen, pair_seen, slice_seen};
 ghost use Rattle.bdb_text_format.specs.Written.{is_queue};
 ghost use Rattle.bdb_settle.specs.LoadErrors.{header_errors, is_among_names, is_sooner, is_too_long, is_too_wide, is_zero};
-ghost use Rattle.bdb_settle.specs.LoadErrors.{line_of, code_of, load_error, pair_errors, page_size_in, section_errors, sooner, where_so};
+ghost use Rattle.bdb_settle.specs.LoadErrors.{load_error, pair_errors, page_size_in, section_errors, sooner, where_so};
 ghost use Rattle.bdb_format.specs.Numbers.{pad4};
 
 use crate::LoadError;
@@ -11,40 +11,11 @@ use crate::filling::has_length;
 use bdb_format::{Kind, Settings};
 use bdb_text_format::{KeyRef, PairRef, PairSlice, Section, Sections};
 
-/// The line of an error.
-fn line_of(error: LoadError) -> u64
-    ensures { result ≡ line_of error }
-{
-    match error {
-        LoadError::RecordTooLong(line)
-        | LoadError::RecordZero(line)
-        | LoadError::QueueAmongNames(line)
-        | LoadError::OntoKind(line)
-        | LoadError::OntoNames(line) => line,
-        LoadError::TooLarge | LoadError::Memory => 0,
-    }
-}
-
-/// The place of an error among those of a line.
-fn code_of(error: LoadError) -> u8
-    ensures { result ≡ code_of error }
-{
-    match error {
-        LoadError::RecordTooLong(_) => 1,
-        LoadError::RecordZero(_) => 2,
-        LoadError::TooLarge => 3,
-        LoadError::QueueAmongNames(_) => 4,
-        LoadError::OntoKind(_) => 5,
-        LoadError::OntoNames(_) => 6,
-        LoadError::Memory => 0,
-    }
-}
-
 /// Whether an error has the lesser line, or on one line the lesser code.
 fn is_sooner(a: LoadError, b: LoadError) -> bool
     ensures { result ≡ is_sooner a b }
 {
-    line_of(a) < line_of(b) || (line_of(a) == line_of(b) && code_of(a) < code_of(b))
+    a.line() < b.line() || (a.line() == b.line() && a.code() < b.code())
 }
 
 /// The first of two errors.

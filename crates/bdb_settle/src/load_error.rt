@@ -1,4 +1,5 @@
 ghost use Rattle.std.specs.Prelude.{◌≡◌};
+ghost use Rattle.bdb_settle.specs.LoadErrors.{code_of, line_of, name_of};
 
 use std::alloc::AllocError;
 use thiserror::Error;
@@ -35,5 +36,60 @@ impl From<AllocError> for LoadError {
 
     fn from(_error: AllocError) -> LoadError {
         LoadError::Memory
+    }
+}
+
+/// What the table of errors says of one.
+#[derive(Clone, Copy)]
+struct Entry {
+    line: u64,
+    code: u8,
+    name: &'static str,
+}
+
+fn row(line: u64, code: u8, name: &'static str) -> Entry
+    ensures line { result.line ≡ line }
+    ensures code { result.code ≡ code }
+    ensures name { result.name.now ≡ name.now }
+{
+    Entry { line, code, name }
+}
+
+impl LoadError {
+    fn entry(self) -> Entry
+        ensures line { result.line ≡ line_of self }
+        ensures code { result.code ≡ code_of self }
+        ensures name { result.name.now ≡ name_of self }
+    {
+        match self {
+            LoadError::RecordTooLong(line) => row(line, 1, "RecordTooLong"),
+            LoadError::RecordZero(line) => row(line, 2, "RecordZero"),
+            LoadError::TooLarge => row(0, 3, "TooLarge"),
+            LoadError::QueueAmongNames(line) => row(line, 4, "QueueAmongNames"),
+            LoadError::OntoKind(line) => row(line, 5, "OntoKind"),
+            LoadError::OntoNames(line) => row(line, 6, "OntoNames"),
+            LoadError::Memory => row(0, 0, "Memory"),
+        }
+    }
+
+    /// The line of the text; 0 where the error is of no line.
+    pub fn line(self) -> u64
+        ensures { result ≡ line_of self }
+    {
+        self.entry().line
+    }
+
+    /// The place of the error among those of a line, which is its number in what is told.
+    pub fn code(self) -> u8
+        ensures { result ≡ code_of self }
+    {
+        self.entry().code
+    }
+
+    /// Its name there.
+    pub fn name(self) -> &'static str
+        ensures { result.now ≡ name_of self }
+    {
+        self.entry().name
     }
 }

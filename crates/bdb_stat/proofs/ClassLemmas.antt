@@ -1,8 +1,8 @@
 -- The class of a page.
 use Rattle.std.proofs.Common.{◌≡◌, ◌≢◌, ◌∙◌, inl, inr, ℕ, zero, suc, ◌<◌, ◌≤◌, true, false, List, [], ◌∷◌, length, refl, sym, ap, arith}
-use Rattle.std.specs.Prelude.{◌==◌, ◌&&◌, ◌||◌, cond, nat_lt, not, Bool, Option, Some, None, get_or}
+use Rattle.std.specs.Prelude.{◌==◌, ◌&&◌, ◌||◌, cond, nat_lt, not, Bool, Option, Some, None}
 use Rattle.std.specs.List.{list_any}
-use Rattle.std.proofs.lemmas.Bool.{and_parts, cases_Bool, eq-eqb, eqb-true}
+use Rattle.std.proofs.lemmas.Bool.{cases_Bool, eq-eqb, eqb-true}
 use Rattle.std.proofs.lemmas.Bool.Decides.{nat_tests}
 use Rattle.bdb_format.specs.declared.kinds.Order.{Order}
 use Rattle.bdb_format.specs.declared.metadata.FileKind.{FileKind}
@@ -16,7 +16,7 @@ use Rattle.bdb_form.specs.Seen.{header_seen, page_seen}
 use Rattle.bdb_format.specs.declared.pages.Header.{Header}
 use Rattle.bdb_format.proofs.FileLemmas.{kind_is, last_page, page_is}
 use Rattle.bdb_format.proofs.GraphLemmas.{type_fits, typed_page, zero_page}
-use Rattle.bdb_format.proofs.PageLemmas.{later_type}
+use Rattle.bdb_format.proofs.PageLemmas.{later_type, some_type, zero_byte}
 use Rattle.bdb_format.proofs.TypeLemmas.{one_type}
 use Rattle.bdb_format.proofs.VerdictLemmas.{no_rows_at, none_within}
 use Rattle.bdb_format.specs.File.{File, file_of, header_in, page_at, page_bytes}
@@ -61,20 +61,10 @@ by_type file p class low meta queue reserve typed =
 
 -- Page 0 is metadata.
 
-zero_byte : (page : List ℕ) (k : ℕ) → is_zero page ≡ true → get_or page k 0 ≡ 0
-zero_byte [] k zeros = refl
-zero_byte (b ∷ page) zero zeros = eqb-true b 0 (and_parts (b == 0) (is_zero page) zeros).0
-zero_byte (b ∷ page) (suc k) zeros = zero_byte page k (and_parts (b == 0) (is_zero page) zeros).1
-
 meta_type : (kind : FileKind) (order : Order) (page : List ℕ) (byte : ℕ) → byte ≡ type_of kind → is_meta (page_as order page (page_type byte)) ≡ true
 meta_type Btree order page byte is = ap (λ b. is_meta (page_as order page (page_type b))) is
 meta_type HashFile order page byte is = ap (λ b. is_meta (page_as order page (page_type b))) is
 meta_type QueueFile order page byte is = ap (λ b. is_meta (page_as order page (page_type b))) is
-
-some_type : (kind : FileKind) → 8 ≤ type_of kind
-some_type Btree = omega arith
-some_type HashFile = omega arith
-some_type QueueFile = omega arith
 
 pub first_is_meta : (image : List ℕ) → IsForest image → is_meta (page_at (file_of image) 0) ≡ true
 first_is_meta image forest =

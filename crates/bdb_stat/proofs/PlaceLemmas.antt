@@ -7,13 +7,9 @@ use Rattle.std.proofs.lemmas.Bool.{cases_Bool, cases_lt}
 use Rattle.std.proofs.lemmas.Bool.Decides.{nat_tests}
 use Rattle.std.proofs.lemmas.List.Elements.{filter-append}
 use Rattle.std.proofs.lemmas.List.FromFn.{length-range_with_len}
-use Rattle.bdb_format.proofs.ListLemmas.{any_member, passes_here, range_more, range_parts}
+use Rattle.bdb_format.proofs.ListLemmas.{any_member, passes_here, range_parts}
 use Rattle.bdb_format.proofs.MemberLemmas.{first_member, in_range, later_member, none_pass, of_range}
 use Rattle.bdb_stat.specs.Unused.{lies_in, places_outside}
-
--- the numbers below another, and that one more
-pub next_in : (n : ℕ) → range_with_len 0 (n + 1) ≡ range_with_len 0 n ++ n ∷ []
-next_in n = let last : 0 + n ≡ n = omega arith in range_more 0 n ∙ ap (λ m. range_with_len 0 n ++ m ∷ []) last
 
 -- a place lies in a range that holds it
 pub is_inside : (n : ℕ) (begin end : ℕ → ℕ) (k i : ℕ) → i < n → begin i ≤ k → k < end i → lies_in n begin end k ≡ true

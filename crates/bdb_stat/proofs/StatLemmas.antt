@@ -34,10 +34,11 @@ use Rattle.bdb_stat.specs.declared.class.Class.{Class}
 use Rattle.bdb_stat.specs.declared.class.Class.TheVariants.{Meta, Internal, Leaf, Hash, Overflow, Free as FreeClass, Reserve, Queue, Tail}
 use Rattle.bdb_stat.proofs.ClassLemmas.{has_class}
 use Rattle.bdb_graph.proofs.ChainLengthLemmas.{size_is}
-use Rattle.bdb_stat.proofs.PlaceLemmas.{few_kept, few_outside, next_in}
+use Rattle.bdb_stat.proofs.PlaceLemmas.{few_kept, few_outside}
 use Rattle.bdb_stat.specs.declared.figures.Stat.{Stat}
 use Rattle.bdb_stat.specs.Figures.{Counts, IsStat, count_in}
 use Rattle.bdb_stat.specs.Laws.{ClassesAddUp}
+use Rattle.bdb_format.proofs.ListLemmas.{range_zero_more}
 
 -- One page more.
 
@@ -47,7 +48,7 @@ one class found = cond (is_class class found) 1 0
 pub pages_more : (file : File) (class : Class) (n : ℕ) → pages_below file class (n + 1) ≡ pages_below file class n + one class (class_of file n)
 pages_more file class n =
     let test : ℕ → Bool = λ p. is_class class (class_of file p) in
-    ap (λ xs. length (filter test xs)) (next_in n)
+    ap (λ xs. length (filter test xs)) (range_zero_more n)
     ∙ (ap (λ (xs : List ℕ). length xs) (filter-append test (range_with_len 0 n) (n ∷ []))
     ∙ (length-append (filter test (range_with_len 0 n)) (filter test (n ∷ [])) ∙ ap (λ (m : ℕ). length (filter test (range_with_len 0 n)) + m)
     (one_kept (test n))))
@@ -59,13 +60,13 @@ pages_more file class n =
 pub levels_more : (file : File) (n : ℕ) → levels_below file (n + 1) ≡ max (levels_below file n) (tree_level file n)
 levels_more file n =
     let level : ℕ → ℕ = tree_level file in
-    ap (λ xs. fold max 0 (map level xs)) (next_in n)
+    ap (λ xs. fold max 0 (map level xs)) (range_zero_more n)
     ∙ (ap (fold max 0) (map-append level (range_with_len 0 n) (n ∷ [])) ∙ fold-append max 0 (map level (range_with_len 0 n)) (level n ∷ []))
 
 pub unused_more : (file : File) (n : ℕ) → unused_below file (n + 1) ≡ unused_below file n + unused_in file.size (page_at file n)
 unused_more file n =
     let part : ℕ → ℕ = λ p. unused_in file.size (page_at file p) in
-    ap (sum_by part) (next_in n) ∙ sum_by_push part (range_with_len 0 n) n
+    ap (sum_by part) (range_zero_more n) ∙ sum_by_push part (range_with_len 0 n) n
 
 -- How large they get.
 

@@ -3,10 +3,10 @@ use Rattle.std.proofs.Common.{◌≡◌, ◌∙◌, inl, inr, ℕ, ◌+◌, ◌-
 use Rattle.std.specs.Prelude.{◌==◌, ◌||◌, ◌++◌, cond, get_or, max, slice_index}
 use Rattle.std.specs.List.{Contains, list_any, range_with_len}
 use Rattle.std.proofs.lemmas.Bool.{cases_lt, eq-eqb, eqb-true}
-use Rattle.bdb_format.proofs.ListLemmas.{any_member, passes_here}
+use Rattle.bdb_format.proofs.ListLemmas.{any_member, passes_here, range_zero_more}
 use Rattle.bdb_format.proofs.MemberLemmas.{in_range, of_range}
 use Rattle.bdb_stat.specs.Unused.{lies_in, places_outside}
-use Rattle.bdb_stat.proofs.PlaceLemmas.{all_outside, few_outside, is_inside, is_outside, next_in, none_outside, outside_parts}
+use Rattle.bdb_stat.proofs.PlaceLemmas.{all_outside, few_outside, is_inside, is_outside, none_outside, outside_parts}
 use Rattle.bdb_stat.specs.Ends.{IsPlaced}
 use Rattle.bdb_stat.specs.Starts.{AreStarts, IsNext, NoStart}
 
@@ -66,7 +66,7 @@ marked_next starts more n at begin are same each is = λ k low.
 
     any_more : (test : ℕ → Bool) (n : ℕ) → list_any test (range_with_len 0 (n + 1)) ≡ (list_any test (range_with_len 0 n) || test n)
     any_more test n =
-        ap (list_any test) (next_in n)
+        ap (list_any test) (range_zero_more n)
         ∙ (any_append test (range_with_len 0 n) (n ∷ []) ∙ ap (λ b. list_any test (range_with_len 0 n) || b) (or-false (test n)))
 
 -- The items that begin before a place are counted: they end by the place that is reached, up to which all from there on is

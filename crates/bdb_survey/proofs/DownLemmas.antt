@@ -14,7 +14,7 @@ use Rattle.bdb_survey.specs.Links.{extent_of}
 use Rattle.bdb_survey.specs.Ways.{way_by, way_from}
 use Rattle.bdb_survey.specs.Salvage.{fits_below, is_overflow, is_record_leaf, is_sorted_leaf, row_from, set_start}
 use Rattle.bdb_survey.proofs.SurveyLemmas.{leaves_whole}
-use Rattle.bdb_survey.proofs.WayLemmas.{IsOnWay, at_broken, at_child, at_end, at_ends, at_zero}
+use Rattle.bdb_survey.proofs.WayLemmas.{IsOnWay, at_broken, at_child, at_end, at_ends, at_zero, at_root}
 
 -- the way down goes on
 abbrev pub is_way : Row → Bool
@@ -126,3 +126,6 @@ start_at_none file root level page row at below is no_leaf no_way = by_row (says
     by_row : Says file page row → set_start file root ≡ []
     by_row (inl same) = by_way (way_from file page) refl same
     by_row (inr ends) = ended ends.ends
+
+-- where a set starts
+pub ruleset starts_of_sets = (at_root, start_of_zero, start_at_leaves, start_at_none, at_way, start_at_end)

@@ -172,3 +172,6 @@ pub at_end : (file : File) (test : Page → Bool) (head i before page sofar step
 at_end file test head i before page sofar steps start at past =
     let none : file.count - i ≡ 0 = omega arith in
     at.same ∙ (ap (λ t. rest_extent file test t before page sofar i) none ∙ rest_zero file test before page sofar i)
+
+-- where a row ends
+pub ruleset row_ends = (at_first, at_none, at_last, at_next, at_end)

@@ -82,7 +82,7 @@ fn link_at(pages: &WholePages<'_>, kind: RowKind, before: u32, number: u32) -> O
 
 /// How much the row has that begins at this page; none where it isn't
 /// whole. Each page names the one before it, so that no page comes twice; no more steps than there are pages.
-#[tactic(auto, using(crate::proofs::WalkLemmas::at_first, crate::proofs::WalkLemmas::at_none, crate::proofs::WalkLemmas::at_last, crate::proofs::WalkLemmas::at_next, crate::proofs::WalkLemmas::at_end))]
+#[tactic(auto, using(crate::proofs::WalkLemmas::row_ends))]
 pub(crate) fn row_extent<L: Ledger>(
     pages: &WholePages<'_>,
     kind: RowKind,

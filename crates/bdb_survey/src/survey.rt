@@ -191,7 +191,7 @@ impl<'a> Survey<'a> {
 
     /// The first leaf of the set with this root, where the set is whole: the way down ends there, after at most
     /// 255 looks at what is kept, and none at a page. A level is a byte, and falls by one.
-    #[tactic(auto, using(crate::proofs::WayLemmas::at_root, crate::proofs::DownLemmas::start_of_zero, crate::proofs::DownLemmas::start_at_leaves, crate::proofs::DownLemmas::start_at_none, crate::proofs::DownLemmas::at_way, crate::proofs::DownLemmas::start_at_end))]
+    #[tactic(auto, using(crate::proofs::DownLemmas::starts_of_sets))]
     pub fn set_start(&self, root: u32) -> Option<u32>
         ensures { option_to_list result ≡ set_start self.now root }
     {

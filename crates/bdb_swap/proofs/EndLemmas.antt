@@ -5,7 +5,7 @@ use Rattle.std.specs.Option.{option_map, unwrap_or}
 use Rattle.std.specs.List.{Contains, find, list_any, range_with_len}
 use Rattle.std.proofs.lemmas.Bool.{eqb-false, eqb-true}
 use Rattle.std.proofs.lemmas.List.{get_or-set_other, get_or-set_same, length-set}
-use Rattle.bdb_format.proofs.ListLemmas.{range_more}
+use Rattle.bdb_format.proofs.ListLemmas.{range_zero_more}
 use Rattle.bdb_format.proofs.MemberLemmas.{of_range}
 use Rattle.bdb_format.proofs.PageLemmas.{index_offset, length_items}
 use Rattle.bdb_format.specs.References.{no_item}
@@ -24,7 +24,8 @@ use Rattle.bdb_turned.specs.Fields.{no_internal, no_recno}
 use Rattle.bdb_turned.proofs.InnerLemmas.{IsInline as KeyInline, IsChain as KeyChain, internal_ends, key_case, same_item as inner_same}
 use Rattle.bdb_swap.proofs.CrossLemmas.{found_in}
 use Rattle.bdb_turned.proofs.ListedLemmas.{any_same, item_in}
-use Rattle.bdb_turned.proofs.LeafLemmas.{IsInline, IsTree, IsChain, kind_case, leaf_ends, same_item}
+use Rattle.bdb_turned.proofs.LeafLemmas.{IsInline, IsTree, IsChain, kind_case, leaf_ends}
+use Rattle.bdb_format.proofs.LeafLemmas.{one_offset}
 
 abbrev otherwise : Option ℕ → Option ℕ → Option ℕ
 otherwise None other = other
@@ -43,8 +44,7 @@ pub ends_more : (n : ℕ) (begin end : ℕ → ℕ) (k : ℕ) → ((i : ℕ) →
     → end_at (n + 1) begin end k ≡ cond (begin n == k) (end n) (end_at n begin end k)
 ends_more n begin end k one =
     let test : ℕ → Bool = λ i. begin i == k in
-    let last : 0 + n ≡ n = omega arith in
-    ap (λ xs. unwrap_or (option_map end (find test xs)) 0) (range_more 0 n ∙ ap (λ m. range_with_len 0 n ++ m ∷ []) last)
+    ap (λ xs. unwrap_or (option_map end (find test xs)) 0) (range_zero_more n)
     ∙ (ap (λ found. unwrap_or (option_map end found) 0) (found_more test (range_with_len 0 n) n)
     ∙ by (find test (range_with_len 0 n)) refl)
   where
@@ -84,7 +84,7 @@ ends_next ends more n at high begin end are is at_is high_is one = λ k low.
 pub leaf_one : (order : Order) (page : List ℕ) (i j : ℕ) → offset_of order page i ≡ offset_of order page j → leaf_high order page i ≡ leaf_high order page j
 leaf_one order page i j same =
     ap (λ (at : ℕ). leaf_item_end at (leaf_item_at order page i).content) same
-    ∙ ap (λ (item : Item). leaf_item_end (offset_of order page j) item.content) (same_item order page i j same)
+    ∙ ap (λ (item : Item). leaf_item_end (offset_of order page j) item.content) (one_offset order page i j same)
 
 -- an item of a leaf of which no row holds isn't empty
 pub leaf_some : (order : Order) (page : List ℕ) (i : ℕ) → first_row (leaf_rows order page i) ≡ None → offset_of order page i < leaf_high order page i

@@ -5,7 +5,7 @@ use Rattle.std.specs.Prelude.{Bool, true, false, Some, None}
 use Rattle.std.specs.List.{find, flat_map, range_with_len}
 use Rattle.std.proofs.lemmas.Bool.{cases_lt}
 use Rattle.std.proofs.lemmas.List.Concat.{flat_map-append}
-use Rattle.bdb_format.proofs.ListLemmas.{range_more}
+use Rattle.bdb_format.proofs.ListLemmas.{range_zero_more}
 use Rattle.bdb_format.proofs.FileLemmas.{page_is, last_page}
 use Rattle.bdb_format.proofs.SizeLemmas.{size_bounds}
 use Rattle.bdb_format.proofs.VerdictLemmas.{none_within, or_else_none}
@@ -23,9 +23,9 @@ use Rattle.bdb_turned.specs.Flipped.{first_overlap, flipped}
 use Rattle.bdb_turned.specs.Overlaps.{overlaps}
 use Rattle.bdb_turned.specs.Turning.{turned_page}
 use Rattle.bdb_turned.proofs.FlipLemmas.{zero_above}
-use Rattle.bdb_turned.proofs.PageLemmas.{abstract_zero}
 use Rattle.bdb_swap.specs.Formed.{HasForm}
 use Rattle.bdb_swap.specs.Turns.{pages_turned}
+use Rattle.bdb_format.proofs.GraphLemmas.{zero_page}
 
 -- The image of a linked file has form.
 
@@ -50,7 +50,7 @@ forest_has_form image head forest is = subst (λ h. HasForm h image) (sym is) (r
 -- no items of any of its pages overlap, where no page is the first
 pub no_overlap_on_zeros : (order : Order) (page : List ℕ) → is_zero page ≡ true → overlaps (abstract_page order page) ≡ false
 unfolding overlaps
-no_overlap_on_zeros order page zeros = ap overlaps (abstract_zero order page zeros)
+no_overlap_on_zeros order page zeros = ap overlaps (zero_page order page zeros)
 
 -- The search for the first page.
 
@@ -147,10 +147,9 @@ pub pages_more : (head : Head) (image : List ℕ) (n : ℕ)
     → pages_turned head image n ++ turned_page head.order (page_bytes head image n) ≡ pages_turned head image (n + 1)
 pages_more head image n =
     let part : ℕ → List ℕ = λ p. turned_page head.order (page_bytes head image p) in
-    let last : 0 + n ≡ n = omega arith in
     ap (λ xs. flat_map part (range_with_len 0 n) ++ xs) (sym (append-nil (part n)))
     ∙ (sym (flat_map-append part (range_with_len 0 n) (n ∷ []))
-    ∙ sym (ap (flat_map part) (range_more 0 n ∙ ap (λ m. range_with_len 0 n ++ m ∷ []) last)))
+    ∙ sym (ap (flat_map part) (range_zero_more n)))
 
 -- all of them
 pub all_turned : (image copy : List ℕ) (head : Head) (n : ℕ) → HasForm head image → n ≡ head.pages → copy ≡ pages_turned head image n → NoneBelow head image n

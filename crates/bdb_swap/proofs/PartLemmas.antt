@@ -3,7 +3,7 @@ use Rattle.std.proofs.Common.{◌≡◌, ◌∙◌, ℕ, zero, suc, ◌+◌, ◌
 use Rattle.std.specs.Prelude.{map, reverse, slice_range}
 use Rattle.std.specs.List.{flat_map, range_with_len}
 use Rattle.std.proofs.lemmas.List.Concat.{flat_map-append}
-use Rattle.bdb_format.proofs.ListLemmas.{range_more}
+use Rattle.bdb_format.proofs.ListLemmas.{range_zero_more}
 use Rattle.bdb_format.specs.Numbers.{overwritten}
 use Rattle.bdb_turned.specs.Fields.{Field, field, fours, index_fields}
 use Rattle.bdb_swap.specs.Turns.{Turns}
@@ -35,8 +35,7 @@ map_more f (y ∷ ys) x = ap (λ zs. f y ∷ zs) (map_more f ys x)
 
 pub index_more : (n : ℕ) → index_fields (n + 1) ≡ index_fields n ++ field (26 + 2 * n) 2 ∷ []
 index_more n =
-    let last : 0 + n ≡ n = omega arith in
-    ap (map (λ i. field (26 + 2 * i) 2)) (range_more 0 n ∙ ap (λ m. range_with_len 0 n ++ m ∷ []) last)
+    ap (map (λ i. field (26 + 2 * i) 2)) (range_zero_more n)
     ∙ map_more (λ i. field (26 + 2 * i) 2) (range_with_len 0 n) n
 
 -- one item more
@@ -45,8 +44,7 @@ pub turns_next : (source old middle new : List ℕ) (part : ℕ → List Field) 
 turns_next source old middle new part i before here =
     let both : Turns source (flat_map part (range_with_len 0 i) ++ part i) old new =
     turns_both source old middle new (flat_map part (range_with_len 0 i)) (part i) before here in
-    let last : 0 + i ≡ i = omega arith in
     let joined : flat_map part (range_with_len 0 (i + 1)) ≡ flat_map part (range_with_len 0 i) ++ part i =
-    ap (flat_map part) (range_more 0 i) ∙ (flat_map-append part (range_with_len 0 i) ((0 + i) ∷ [])
-    ∙ ap (λ xs. flat_map part (range_with_len 0 i) ++ xs) (append-nil (part (0 + i)) ∙ ap part last)) in
+    ap (flat_map part) (range_zero_more i) ∙ (flat_map-append part (range_with_len 0 i) (i ∷ [])
+    ∙ ap (λ xs. flat_map part (range_with_len 0 i) ++ xs) (append-nil (part i))) in
     subst (λ fs. Turns source fs old new) (sym joined) both

@@ -1,20 +1,20 @@
 -- Numbers turned round one after another.
 use Rattle.std.proofs.Common.{◌≡◌, ◌∙◌, ◌⊎◌, inl, inr, ℕ, suc, ◌+◌, ◌-◌, ◌*◌, ◌<◌, ◌≤◌, List, [], ◌∷◌, ◌++◌, length, drop, take, reverse, get_or, refl, sym, ap}
-use Rattle.std.proofs.Common.{subst, arith, length-drop, append-nil, append_assoc}
+use Rattle.std.proofs.Common.{subst, arith, append-nil, append_assoc}
 use Rattle.std.specs.Prelude.{slice_range}
 use Rattle.std.specs.List.{Contains}
-use Rattle.std.proofs.lemmas.List.{ext_get_or, get_or-drop, get_or-reverse, get_or-take, get_or_append_left, get_or-append_right, length-append, length-reverse}
+use Rattle.std.proofs.lemmas.List.{ext_get_or, get_or-drop, get_or-reverse, get_or-take, get_or_append_left, get_or-append_right, length-reverse}
 use Rattle.std.proofs.lemmas.List.{length-take-le}
 use Rattle.std.proofs.lemmas.List.Elements.{Contains-append_left, Contains-append_right, Contains-append_cases}
 use Rattle.bdb_format.proofs.MemberLemmas.{first_member, member_cases, no_member}
 use Rattle.bdb_format.proofs.TurnLemmas.{length-slice_range}
 use Rattle.bdb_format.specs.Numbers.{byte_at, overwritten}
 use Rattle.bdb_turned.specs.Fields.{Field, block_fields, field}
-use Rattle.bdb_turned.specs.Apart.{run_length}
-use Rattle.bdb_turned.specs.Apart.{AreApart, LieWithin}
+use Rattle.bdb_turned.specs.Apart.{run_length, AreApart, LieWithin}
 use Rattle.bdb_turned.specs.Turning.{mirror, turned_round}
 use Rattle.bdb_swap.specs.Turns.{Turns}
 use Rattle.bdb_turned.proofs.PlaceLemmas.{get_or-turned_round, inside_or_not, length-turned_round, mirror-inside, mirror-outside}
+use Rattle.bdb_format.proofs.SpellingLemmas.{length-overwritten}
 
 some_last : (done : List Field) (f : Field) → Contains (done ++ f ∷ []) f
 some_last done f = Contains-append_right done (f ∷ []) f (first_member f [])
@@ -40,16 +40,6 @@ mirror_same done f k apart outside =
 
 place : (k begin width : ℕ) → ((suc k ≤ begin) ⊎ (begin + width ≤ k)) ⊎ ((begin ≤ k) × (k < begin + width))
 place k begin width = grind arith
-
-length-overwritten : (bytes : List ℕ) (at : ℕ) (piece : List ℕ) → at + length piece ≤ length bytes → length (overwritten bytes at piece) ≡ length bytes
-length-overwritten bytes at piece inside =
-    omega (
-      arith,
-      length-append (take at bytes) (piece ++ drop (at + length piece) bytes),
-      length-append piece (drop (at + length piece) bytes),
-      length-take-le at bytes (omega arith),
-      length-drop (at + length piece) bytes,
-    )
 
 get_or-overwritten_before : (bytes : List ℕ) (at : ℕ) (piece : List ℕ) (k : ℕ) → at + length piece ≤ length bytes → k < at
     → byte_at (overwritten bytes at piece) k ≡ byte_at bytes k

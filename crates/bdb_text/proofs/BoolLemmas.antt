@@ -1,8 +1,8 @@
 -- Tests and rows.
-use Rattle.std.proofs.Common.{◌≡◌, ℕ, ◌&&◌, Bool, true, false, not, if◌then◌else◌, Option, Some, None, is_none, is_some, refl}
+use Rattle.std.proofs.Common.{◌≡◌, ◌&&◌, Bool, true, false, not, if◌then◌else◌, Option, Some, None, is_none, is_some, refl}
 
 -- no row holds
-pub none_row : (b : Bool) (code : ℕ) (below : Option ℕ) → is_none (if b then Some code else below) ≡ (not b && is_none below)
+pub none_row : {Code : Type 0} (b : Bool) (code : Code) (below : Option Code) → is_none (if b then Some code else below) ≡ (not b && is_none below)
 none_row true code below = refl
 none_row false code below = refl
 

@@ -14,29 +14,32 @@ use Rattle.bdb_text.specs.DataTo.{data_clean}
 use Rattle.std.proofs.Math.Bool.{and-false, and-true}
 use Rattle.bdb_text.proofs.BoolLemmas.{none_row, some_if}
 use Rattle.bdb_text_format.specs.declared.pairs.TextPair.{TextPair}
+use Rattle.bdb_text_format.specs.declared.faults.TextReason.{TextReason}
+use Rattle.bdb_text_format.specs.declared.faults.TextReason.TheVariants.{NoSpace, BadDigit, BadEscape, KeyWithoutData, BadNumber}
 
 -- A line.
 
-by_number : (key records number : Bool) → is_none {T = ℕ} (if key && records && not number then Some 12 else None) ≡ (not (key && records) || number)
+by_number : (key records number : Bool)
+    → is_none {T = TextReason} (if key && records && not number then Some BadNumber else None) ≡ (not (key && records) || number)
 by_number true true true = refl
 by_number true true false = refl
 by_number true false number = refl
 by_number false records number = refl
 
-by_spelled : (reason : ℕ) (key records : Bool) (spelled : Option (List ℕ))
-    → is_none (if is_none spelled then Some reason else (if key && records && not (is_record_number spelled) then Some 12 else None))
+by_spelled : (reason : TextReason) (key records : Bool) (spelled : Option (List ℕ))
+    → is_none (if is_none spelled then Some reason else (if key && records && not (is_record_number spelled) then Some BadNumber else None))
     ≡ (is_some spelled && (not (key && records) || is_record_number spelled))
 by_spelled reason key records None = refl
 by_spelled reason key records (Some bytes) = by_number key records (is_record_number (Some bytes))
 
 by_rows : (space print key records : Bool) (line : List ℕ)
-    → is_none {T = ℕ} (if not space then Some 8 else (if not print && is_none (spelled_in false line) then Some 9
-    else (if print && is_none (spelled_in true line) then Some 10 else
-    (if key && records && not (is_record_number (spelled_in print line)) then Some 12 else None))))
+    → is_none {T = TextReason} (if not space then Some NoSpace else (if not print && is_none (spelled_in false line) then Some BadDigit
+    else (if print && is_none (spelled_in true line) then Some BadEscape else
+    (if key && records && not (is_record_number (spelled_in print line)) then Some BadNumber else None))))
     ≡ (space && (is_some (spelled_in print line) && (not (key && records) || is_record_number (spelled_in print line))))
 by_rows false print key records line = refl
-by_rows true true key records line = by_spelled 10 key records (spelled_in true line)
-by_rows true false key records line = by_spelled 9 key records (spelled_in false line)
+by_rows true true key records line = by_spelled BadEscape key records (spelled_in true line)
+by_rows true false key records line = by_spelled BadDigit key records (spelled_in false line)
 
 none-data_line_reason : (header : Values) (before : List (List ℕ)) (line : List ℕ)
     → is_none (data_line_reason header before line)
@@ -114,7 +117,8 @@ even_more lines line h =
     rw n (ne_eqb ((length lines + 1) % 2) 1 (omega arith))
 
 none-data_end_reason : (header : Values) (lines : List (List ℕ)) → is_none (data_end_reason header lines) ≡ not (has_keys header && has_odd_length lines)
-none-data_end_reason header lines = none_row (has_keys header && has_odd_length lines) 11 None ∙ and-true (not (has_keys header && has_odd_length lines))
+none-data_end_reason header lines =
+    none_row (has_keys header && has_odd_length lines) KeyWithoutData None ∙ and-true (not (has_keys header && has_odd_length lines))
 
 pairs_algebra : (k v c r : Bool) → (k && (v && (c && r))) ≡ ((k && (v && c)) && r)
 pairs_algebra true true c r = refl

@@ -24,6 +24,7 @@ use Rattle.bdb_text.specs.DataTo.{IsCountedTo, IsDataFault, IsDataRead, IsDataTo
 use Rattle.std.proofs.Math.Bool.{and-true, and_assoc}
 use Rattle.bdb_text.proofs.PartLemmas.{list_any-append_one}
 use Rattle.bdb_text.proofs.DataLemmas.{even_more, none-key, none-value, odd_more}
+use Rattle.bdb_text_format.specs.declared.faults.TextReason.TheVariants.{NoEnd}
 
 -- A line more.
 
@@ -137,7 +138,7 @@ datum_error print text line rest number Memory lines other is = tt
 -- the text ends
 pub data_ended : (header : Values) (text : List ℕ) (start : ℕ) (before : List (List ℕ)) (rest : List ℕ) (number : ℕ)
     → IsDataTo header (text_lines text) start before (text_lines rest) number → length rest ≡ 0
-    → IsDataFault header text start (record { line = number; reason = 13 })
+    → IsDataFault header text start (record { line = number; reason = NoEnd })
 data_ended header text start before [] number to none = record {
   before = before;
   rest = [];

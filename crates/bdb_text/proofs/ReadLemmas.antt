@@ -25,6 +25,7 @@ use Rattle.bdb_text.proofs.DataLemmas.{data_iff}
 use Rattle.bdb_text_format.specs.Written.{data_end, version_line}
 use Rattle.bdb_text_format.specs.declared.sections.Section.{Section}
 use Rattle.bdb_text_format.specs.declared.pairs.TextPair.{TextPair}
+use Rattle.bdb_text_format.specs.declared.faults.TextReason.{TextReason}
 
 -- Behind the end of a header.
 
@@ -140,7 +141,7 @@ some-with_section None others = refl
 some-with_section (Some section) None = refl
 some-with_section (Some section) (Some others) = refl
 
-none-or_fault : (number : ℕ) (reason : Option ℕ) (other : Option TextFault)
+none-or_fault : (number : ℕ) (reason : Option TextReason) (other : Option TextFault)
     → is_none (or_fault (fault_at number reason) other) ≡ (is_none reason && is_none other)
 none-or_fault number None other = refl
 none-or_fault number (Some reason) other = refl

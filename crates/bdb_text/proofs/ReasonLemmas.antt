@@ -14,6 +14,9 @@ use Rattle.bdb_text_format.specs.Sections.{entry_fits, keyword_fits, fits}
 use Rattle.std.proofs.Math.Bool.{and-false}
 use Rattle.bdb_text.proofs.BoolLemmas.{not-none}
 use Rattle.bdb_text_format.specs.Written.{Entry, version_line}
+use Rattle.bdb_text_format.specs.declared.faults.TextReason.{TextReason}
+use Rattle.bdb_text_format.specs.declared.faults.TextReason.TheVariants.{NoVersion, Version, BadValue, RepeatedKeyword, NoType, Unsupported, NameMissing}
+use Rattle.bdb_text_format.specs.declared.faults.TextReason.TheVariants.{NameTwice, Conflict}
 
 -- The first line.
 
@@ -22,7 +25,8 @@ begins_same line h =
     let same : line ≡ version_line = (bytes_eq-Decides line version_line).0 h in
     ap begins_version same
 
-first_by : (begins same : Bool) → (same ≡ true → begins ≡ true) → is_none {T = ℕ} (if not begins then Some 1 else (if not same then Some 2 else None)) ≡ same
+first_by : (begins same : Bool) → (same ≡ true → begins ≡ true)
+    → is_none {T = TextReason} (if not begins then Some NoVersion else (if not same then Some Version else None)) ≡ same
 first_by true true h = refl
 first_by true false h = refl
 first_by false true h = h refl
@@ -34,7 +38,9 @@ none-first_line_reason line = first_by (begins_version line) (bytes_eq line vers
 -- A header line.
 
 judged_by : (twice : Bool) (judged : Judged)
-    → is_none {T = ℕ} (if twice then Some 5 else (if is_left_out judged then Some 7 else (if is_bad judged then Some 4 else None))) ≡ (not twice && fits judged)
+    → is_none {T = TextReason} (if twice then Some RepeatedKeyword else (if is_left_out judged then Some Unsupported
+    else (if is_bad judged then Some BadValue else None)))
+    ≡ (not twice && fits judged)
 judged_by true judged = refl
 judged_by false Fits = refl
 judged_by false Bad = refl
@@ -58,7 +64,8 @@ none-entry_reason before (Some entry) = none-keyword_reason before entry (keywor
 -- The end of a header.
 
 four_rows : (a b c d : Bool)
-    → is_none {T = ℕ} (if a then Some 6 else (if b then Some 16 else (if c then Some 14 else (if d then Some 15 else None))))
+    → is_none {T = TextReason} (if a then Some NoType else (if b then Some Conflict else (if c then Some NameMissing
+    else (if d then Some NameTwice else None))))
     ≡ (not a && (not b && (not c && not d)))
 four_rows true b c d = refl
 four_rows false true c d = refl

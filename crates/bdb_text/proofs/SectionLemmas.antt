@@ -29,6 +29,8 @@ use Rattle.bdb_text.proofs.LineLemmas.{sections_from-section}
 use Rattle.bdb_text.proofs.TableLemmas.{list_any-append}
 use Rattle.bdb_text.proofs.ReasonLemmas.{none-entry_reason, none-first_line_reason, none-header_end_reason}
 use Rattle.bdb_text.proofs.ReadLemmas.{clean-data, reason-open, section_iff}
+use Rattle.bdb_text_format.specs.declared.faults.TextReason.{TextReason}
+use Rattle.bdb_text_format.specs.declared.faults.TextReason.TheVariants.{NoVersion, NoEnd}
 
 -- Lines without a reason.
 
@@ -53,14 +55,14 @@ fault_from-clean names before number (line ∷ lines) rest c d =
     ∙ ap (λ (n : ℕ). fault_from names (before ++ line ∷ lines) n rest) count)
 
 -- a line with a reason
-fault_from-at : (names : List (Option (List ℕ))) (before : List (List ℕ)) (number reason : ℕ) (line : List ℕ) (rest : List (List ℕ))
+fault_from-at : (names : List (Option (List ℕ))) (before : List (List ℕ)) (number : ℕ) (reason : TextReason) (line : List ℕ) (rest : List (List ℕ))
     → reason_of names before line ≡ Some reason
     → fault_from names before number (line ∷ rest) ≡ Some (record { line = number; reason = reason })
 fault_from-at names before number reason line rest is = rw is refl
 
 -- The first line.
 
-pub first_fault : (names : List (Option (List ℕ))) (text line : List ℕ) (rest : List (List ℕ)) (start reason : ℕ) → text_lines text ≡ line ∷ rest
+pub first_fault : (names : List (Option (List ℕ))) (text line : List ℕ) (rest : List (List ℕ)) (start : ℕ) (reason : TextReason) → text_lines text ≡ line ∷ rest
     → Some reason ≡ first_line_reason line → IsSectionFault names text start (record { line = start; reason = reason })
 unfolding reason_of
 first_fault names text line rest start reason lines is =
@@ -109,13 +111,14 @@ fault_from-header names first lines start fields rest number to =
     (header-no_end [] to.header to.fits)
     ∙ ap (λ (n : ℕ). fault_from names (first ∷ to.header) n rest) (sym to.number_is)
 
-header_end_by : (names : List (Option (List ℕ))) (header : List (List ℕ)) (fields : List Entry) (reason line : ℕ) (rest : List (List ℕ)) (first : List ℕ)
+header_end_by : (names : List (Option (List ℕ))) (header : List (List ℕ)) (fields : List Entry) (reason : TextReason) (line : ℕ)
+    (rest : List (List ℕ)) (first : List ℕ)
     → has_header_end header ≡ false
     → entries header ≡ fields → header_reason fields rest ≡ Some reason
     → fault_from names (first ∷ header) line rest ≡ Some (record { line = line; reason = reason })
 header_end_by names header fields reason line [] first h e is =
-    let same : 13 ≡ reason = cc in
-    ap (λ (r : ℕ). Some (record { line = line; reason = r })) same
+    let same : NoEnd ≡ reason = cc in
+    ap (λ (r : TextReason). Some (record { line = line; reason = r })) same
 header_end_by names header fields reason line (x ∷ rest) first h e is =
     fault_from-at names (first ∷ header) line reason x rest (reason-open names first header x h ∙ by_end (is_header_end x) is)
   where
@@ -142,7 +145,7 @@ values-header : (lines : List (List ℕ)) (start : ℕ) (fields : List Field) (r
 values-header lines start fields rest number to = ap {B = Values} (λ (es : List Entry). λ (name : List ℕ). given name es) to.fields_are
 
 -- the reasons of a header's end, as the code finds them
-end_reason_is : (names : List (Option (List ℕ))) (header : Values) (name : Option (List ℕ)) (reason : Option ℕ) → name ≡ name_in header
+end_reason_is : (names : List (Option (List ℕ))) (header : Values) (name : Option (List ℕ)) (reason : Option TextReason) → name ≡ name_in header
     → reason ≡ named_end_reason names header name
     → header_end_reason names header ≡ reason
 end_reason_is names header name reason named is = ap (named_end_reason names header) (sym named) ∙ sym is
@@ -156,7 +159,7 @@ fault_from-version names text line behind start fields rest number lines none to
     ∙ fault_from-clean names [] start (version_line ∷ []) (text_lines behind) (clean-version names []) refl
     ∙ fault_from-header names version_line (text_lines behind) (start + 1) fields rest number to
 
-pub end_fault_is : (names : List (Option (List ℕ))) (text line behind : List ℕ) (start : ℕ) (header : Header) (name : Option (List ℕ)) (reason : ℕ)
+pub end_fault_is : (names : List (Option (List ℕ))) (text line behind : List ℕ) (start : ℕ) (header : Header) (name : Option (List ℕ)) (reason : TextReason)
     → text_lines text ≡ line ∷ text_lines behind → None ≡ first_line_reason line → IsHeaderRead behind (start + 1) header
     → name ≡ name_in (values_in header.fields.items) → Some reason ≡ named_end_reason names (values_in header.fields.items) name
     → IsSectionFault names text start (record { line = header.number; reason = reason })
@@ -175,13 +178,13 @@ reason-data : (names : List (Option (List ℕ))) (first : List ℕ) (header befo
 unfolding reason_of
 reason-data names first header before line h = rw (parts_of-ended header header_end before h refl) refl
 
-fault_from-data : (names : List (Option (List ℕ))) (first : List ℕ) (header before : List (List ℕ)) (number reason : ℕ) (rest : List (List ℕ))
+fault_from-data : (names : List (Option (List ℕ))) (first : List ℕ) (header before : List (List ℕ)) (number : ℕ) (reason : TextReason) (rest : List (List ℕ))
     → has_header_end header ≡ false
     → data_reason (values header) before rest ≡ Some reason
     → fault_from names (first ∷ (header ++ header_end ∷ before)) number rest ≡ Some (record { line = number; reason = reason })
 fault_from-data names first header before number reason [] h is =
-    let same : 13 ≡ reason = cc in
-    ap (λ (r : ℕ). Some (record { line = number; reason = r })) same
+    let same : NoEnd ≡ reason = cc in
+    ap (λ (r : TextReason). Some (record { line = number; reason = r })) same
 fault_from-data names first header before number reason (line ∷ rest) h is =
     fault_from-at names (first ∷ (header ++ header_end ∷ before)) number reason line rest (reason-data names first header before line h ∙ is)
 
@@ -346,7 +349,7 @@ text_begun (byte ∷ text) some =
       sections_are = both.1 ∙ nil_behind (sections_from [] [] 1 (text_lines (byte ∷ text)));
     }
 
-pub empty_fault : (text : List ℕ) → length text ≡ 0 → text_fault text ≡ Some (record { line = 1; reason = 1 })
+pub empty_fault : (text : List ℕ) → length text ≡ 0 → text_fault text ≡ Some (record { line = 1; reason = NoVersion })
 unfolding text_fault
 empty_fault [] none = refl
 empty_fault (byte ∷ text) none = absurd (omega arith)

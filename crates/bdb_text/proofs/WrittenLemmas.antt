@@ -220,7 +220,7 @@ reads-all print one others sections can read =
 
 -- Names.
 
-is_name-sym : (a b : Option (List ℕ)) → is_name a b ≡ false → is_name b a ≡ false
+pub is_name-sym : (a b : Option (List ℕ)) → is_name a b ≡ false → is_name b a ≡ false
 is_name-sym None None h = h
 is_name-sym None (Some b) h = refl
 is_name-sym (Some a) None h = refl

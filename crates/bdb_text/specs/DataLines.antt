@@ -5,14 +5,16 @@ use Rattle.bdb_format.specs.Table.{◌:?◌, first_row}
 use Rattle.bdb_text_format.specs.Reasons.{begins_with_space, is_record_number, spelled_in}
 use Rattle.bdb_text.specs.declared.data_lines.LineError.{LineError}
 use Rattle.bdb_text.specs.declared.data_lines.LineError.TheVariants.{Memory, Reason}
+use Rattle.bdb_text_format.specs.declared.faults.TextReason.{TextReason}
+use Rattle.bdb_text_format.specs.declared.faults.TextReason.TheVariants.{NoSpace, BadDigit, BadEscape, BadNumber}
 
 -- the reason of a data line, by how it is spelled and whether it is the number of a record
-abbrev pub line_reason : Bool → Bool → List ℕ → Option ℕ
+abbrev pub line_reason : Bool → Bool → List ℕ → Option TextReason
 line_reason print numbered line = first_row (
-    8 :? not (begins_with_space line)
-    ∷ 9 :? (not print && is_none (spelled_in false line))
-    ∷ 10 :? (print && is_none (spelled_in true line))
-    ∷ 12 :? (numbered && not (is_record_number (spelled_in print line)))
+    NoSpace :? not (begins_with_space line)
+    ∷ BadDigit :? (not print && is_none (spelled_in false line))
+    ∷ BadEscape :? (print && is_none (spelled_in true line))
+    ∷ BadNumber :? (numbered && not (is_record_number (spelled_in print line)))
     ∷ [])
 
 -- a reason is the first of the line

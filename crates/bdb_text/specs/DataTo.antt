@@ -10,6 +10,8 @@ use Rattle.bdb_text_format.specs.Reasons.{data_end_reason, data_line_reason, has
 use Rattle.bdb_text_format.specs.Sections.{counted_pairs, data_read, keyed_pairs, pairs_read}
 use Rattle.bdb_text.specs.DataLines.{line_reason}
 use Rattle.bdb_text.specs.declared.data_pairs.Data.{Data}
+use Rattle.bdb_text_format.specs.declared.faults.TextReason.{TextReason}
+use Rattle.bdb_text_format.specs.declared.faults.TextReason.TheVariants.{KeyWithoutData, NoEnd}
 
 -- one data line after the other, none has a reason
 abbrev pub data_clean : Values → List (List ℕ) → List (List ℕ) → Bool
@@ -24,8 +26,8 @@ pub record IsDataTo (header : Values) (lines : List (List ℕ)) (start : ℕ) (b
   pub number_is : number ≡ start + length before
 
 -- the reason of the next line
-abbrev pub data_reason : Values → List (List ℕ) → List (List ℕ) → Option ℕ
-data_reason header before [] = Some 13
+abbrev pub data_reason : Values → List (List ℕ) → List (List ℕ) → Option TextReason
+data_reason header before [] = Some NoEnd
 data_reason header before (line ∷ lines) = if is_data_end line then data_end_reason header before else data_line_reason header before line
 
 -- behind data lines without a reason stands one with this reason
@@ -60,9 +62,9 @@ pub record IsDatum (print : Bool) (text value rest : List ℕ) : Type 0 where
   pub value_is : data_read print line ≡ Some value
 
 -- the reason of the line behind a key
-abbrev pub datum_reason : Bool → List (List ℕ) → Option ℕ
-datum_reason print [] = Some 13
-datum_reason print (line ∷ lines) = if is_data_end line then Some 11 else line_reason print false line
+abbrev pub datum_reason : Bool → List (List ℕ) → Option TextReason
+datum_reason print [] = Some NoEnd
+datum_reason print (line ∷ lines) = if is_data_end line then Some KeyWithoutData else line_reason print false line
 
 -- the line of this number, where a datum must stand, has a reason
 pub record IsDatumFault (print : Bool) (text : List ℕ) (number : ℕ) (fault : TextFault) : Type 0 where

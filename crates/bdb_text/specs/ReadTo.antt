@@ -13,6 +13,8 @@ use Rattle.bdb_text.specs.declared.text_errors.TextError.TheVariants.{Fault, Mem
 use Rattle.bdb_text.specs.declared.data_lines.LineError.{LineError}
 use Rattle.bdb_text.specs.declared.data_lines.LineError.TheVariants.{Memory as WantOfMemory, Reason}
 use Rattle.bdb_text.specs.Fields.{entries_in}
+use Rattle.bdb_text_format.specs.declared.faults.TextReason.{TextReason}
+use Rattle.bdb_text_format.specs.declared.faults.TextReason.TheVariants.{NoEnd}
 
 -- The lines from `start` on begin with lines of a header that fit and give these entries; the rest of them begins with this number.
 pub record IsHeaderTo (lines : List (List ℕ)) (start : ℕ) (fields : List Entry) (rest : List (List ℕ)) (number : ℕ) : Type 0 where
@@ -28,8 +30,8 @@ abbrev pub IsHeaderRead : List ℕ → ℕ → Header → Type 0
 IsHeaderRead text start header = IsHeaderTo (text_lines text) start (entries_in header.fields.items) (header_end ∷ text_lines header.rest.now) header.number
 
 -- the reason of the next line of a header, where it doesn't end it
-abbrev pub header_reason : List Entry → List (List ℕ) → Option ℕ
-header_reason fields [] = Some 13
+abbrev pub header_reason : List Entry → List (List ℕ) → Option TextReason
+header_reason fields [] = Some NoEnd
 header_reason fields (line ∷ lines) = if is_header_end line then None else entry_reason fields (entry_of line)
 
 -- behind lines of a header that fit stands one with this reason

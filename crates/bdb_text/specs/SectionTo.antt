@@ -11,18 +11,20 @@ use Rattle.bdb_text_format.specs.Header.{Values, conflicts}
 use Rattle.bdb_text_format.specs.Reasons.{fault_from, name_missing, name_of, text_fault}
 use Rattle.bdb_text_format.specs.Sections.{section_read, sections_from, text_sections}
 use Rattle.bdb_text.specs.declared.dump.Read.{Read}
+use Rattle.bdb_text_format.specs.declared.faults.TextReason.{TextReason}
+use Rattle.bdb_text_format.specs.declared.faults.TextReason.TheVariants.{NoType, NameMissing, NameTwice, Conflict}
 
 -- the names of sections
 abbrev pub names_of : List Section → List (Option (List ℕ))
 names_of sections = map (λ (section : Section). section.name) sections
 
 -- the first reason of a header's end, by the section's name
-abbrev pub named_end_reason : List (Option (List ℕ)) → Values → Option (List ℕ) → Option ℕ
+abbrev pub named_end_reason : List (Option (List ℕ)) → Values → Option (List ℕ) → Option TextReason
 named_end_reason names header name = first_row (
-    6 :? is_none (header (codes "type"))
-    ∷ 16 :? conflicts header
-    ∷ 14 :? name_missing names name
-    ∷ 15 :? list_any (is_name name) names
+    NoType :? is_none (header (codes "type"))
+    ∷ Conflict :? conflicts header
+    ∷ NameMissing :? name_missing names name
+    ∷ NameTwice :? list_any (is_name name) names
     ∷ [])
 
 -- a text begins with the lines of a section, behind sections of these names, and with its end

@@ -1,4 +1,5 @@
 // The lines behind a header: a space and a spelling.
+ghost use Rattle.bdb_text_format.specs.declared.faults.TextReason.TheVariants.{BadDigit, BadEscape};
 ghost use Rattle.bdb_text_format.specs.Sections.{data_read, key_read};
 ghost use Rattle.bdb_text_format.specs.Placed.{key_seen};
 ghost use Rattle.bdb_text.specs.DataLines.{IsLineError, record_number};
@@ -6,13 +7,13 @@ ghost use Rattle.std.specs.Prelude.{◌≡◌, if◌then◌else◌, Bool, IfOk, 
 
 use bdb_format::number_in;
 use bdb_spelling::{SpellError, read_run};
-use bdb_text_format::KeyRef;
+use bdb_text_format::{KeyRef, TextReason};
 
 /// Why a data line isn't read.
 #[derive(Clone, Copy, Debug, PartialEq, Eq)]
 pub enum LineError {
     /// The first of its reasons.
-    Reason(u8),
+    Reason(TextReason),
     /// Memory is wanting.
     Memory,
 }
@@ -23,10 +24,10 @@ pub fn read_data(line: &[u8], print: bool, room: &mut Vec<u8>) -> Result<(), Lin
     ensures err { (numbered : Bool) → IfErr result (IsLineError print numbered line.now) }
 {
     let Some((&first, text)) = line.split_first() else {
-        return Err(LineError::Reason(8));
+        return Err(LineError::Reason(TextReason::NoSpace));
     };
     if first != b' ' {
-        return Err(LineError::Reason(8));
+        return Err(LineError::Reason(TextReason::NoSpace));
     }
     match read_run(text, print, room) {
         Ok(()) => Ok(()),
@@ -36,10 +37,14 @@ pub fn read_data(line: &[u8], print: bool, room: &mut Vec<u8>) -> Result<(), Lin
 }
 
 // The reason of a line that is no spelling.
-fn bad_spelling(print: bool) -> u8
-    ensures { result ≡ (if print then 10 else 9) }
+fn bad_spelling(print: bool) -> TextReason
+    ensures { result ≡ (if print then BadEscape else BadDigit) }
 {
-    if print { 10 } else { 9 }
+    if print {
+        TextReason::BadEscape
+    } else {
+        TextReason::BadDigit
+    }
 }
 
 /// The key that a data line says: bytes, which then lie in a room, or the number of a record.
@@ -61,7 +66,7 @@ pub fn read_key<'a>(
     }
     match record_number(room.as_slice()) {
         Some(number) => Ok(KeyRef::Number(number)),
-        None => Err(LineError::Reason(12)),
+        None => Err(LineError::Reason(TextReason::BadNumber)),
     }
 }
 

@@ -10,7 +10,7 @@ use crate::fields::Field;
 use crate::meant::{has_keys, has_record_type, prints};
 use crate::text_errors::TextError;
 use crate::text_lines::cut_line;
-use bdb_text_format::{KeyRef, PairRef, TextFault, TextPairs};
+use bdb_text_format::{KeyRef, PairRef, TextFault, TextPairs, TextReason};
 use std::alloc::Global;
 
 const DATA_END: [u8; 8] = *b"DATA=END";
@@ -102,7 +102,7 @@ fn read_keyed<'a>(
     }
     Err(TextError::Fault(TextFault {
         line: number,
-        reason: 13,
+        reason: TextReason::NoEnd,
     }))
 }
 
@@ -120,14 +120,14 @@ fn read_datum<'a>(
     if text.is_empty() {
         return Err(TextError::Fault(TextFault {
             line: number,
-            reason: 13,
+            reason: TextReason::NoEnd,
         }));
     }
     let cut = cut_line(text);
     if cut.line == DATA_END.as_slice() {
         return Err(TextError::Fault(TextFault {
             line: number,
-            reason: 11,
+            reason: TextReason::KeyWithoutData,
         }));
     }
     match read_data(cut.line, print, room) {
@@ -179,6 +179,6 @@ fn read_counted<'a>(
     }
     Err(TextError::Fault(TextFault {
         line: number,
-        reason: 13,
+        reason: TextReason::NoEnd,
     }))
 }

@@ -16,7 +16,7 @@ use crate::text_errors::TextError;
 use crate::text_lines::cut_line;
 use bdb_format::Bytes;
 use bdb_spelling::{SpellError, read_spelling};
-use bdb_text_format::{Section, Sections, TextFault};
+use bdb_text_format::{Section, Sections, TextFault, TextReason};
 use std::alloc::Global;
 
 const TYPE: [u8; 4] = *b"type";
@@ -38,7 +38,10 @@ pub fn read_dump(alloc: Global, text: &[u8]) -> Result<Sections, TextError>
     ensures err { IfErr result (OnFault (IsTextFault text.now)) }
 {
     if text.is_empty() {
-        return Err(TextError::Fault(TextFault { line: 1, reason: 1 }));
+        return Err(TextError::Fault(TextFault {
+            line: 1,
+            reason: TextReason::NoVersion,
+        }));
     }
     let mut earlier = Earlier::new(alloc);
     let mut number = 1;
@@ -108,13 +111,13 @@ fn read_section<'a>(
 }
 
 // The first reason of the first line of a section.
-fn first_line_reason(line: &[u8]) -> Option<u8>
+fn first_line_reason(line: &[u8]) -> Option<TextReason>
     ensures { result ≡ first_line_reason line.now }
 {
     if !line.starts_with(b"VERSION=") {
-        Some(1)
+        Some(TextReason::NoVersion)
     } else if line != b"VERSION=3".as_slice() {
-        Some(2)
+        Some(TextReason::Version)
     } else {
         None
     }
@@ -136,20 +139,20 @@ fn name_in(alloc: Global, fields: &[Field<'_>]) -> Result<Option<Bytes>, TextErr
 }
 
 // The first reason of the line that ends a header, by the name that it gives and the sections before it.
-fn end_reason(fields: &[Field<'_>], name: &Option<Bytes>, earlier: &Earlier) -> Option<u8>
+fn end_reason(fields: &[Field<'_>], name: &Option<Bytes>, earlier: &Earlier) -> Option<TextReason>
     ensures { result ≡ named_end_reason (names_of earlier.now) (values_in fields.now) name.now }
 {
     if !is_given(fields, TYPE.as_slice()) {
-        return Some(6);
+        return Some(TextReason::NoType);
     }
     if conflicts(fields) {
-        return Some(16);
+        return Some(TextReason::Conflict);
     }
     if is_name_missing(earlier, name) {
-        return Some(14);
+        return Some(TextReason::NameMissing);
     }
     if earlier.is_taken(name) {
-        return Some(15);
+        return Some(TextReason::NameTwice);
     }
     None
 }

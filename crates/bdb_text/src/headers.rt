@@ -6,7 +6,7 @@ use crate::fields::Field;
 use crate::keywords::judge;
 use crate::text_errors::TextError;
 use crate::text_lines::cut_line;
-use bdb_text_format::TextFault;
+use bdb_text_format::{TextFault, TextReason};
 use std::alloc::Global;
 
 const HEADER_END: [u8; 10] = *b"HEADER=END";
@@ -54,6 +54,6 @@ pub fn read_header(alloc: Global, text: &[u8], start: u64) -> Result<Header<'_>,
     }
     Err(TextError::Fault(TextFault {
         line: number,
-        reason: 13,
+        reason: TextReason::NoEnd,
     }))
 }

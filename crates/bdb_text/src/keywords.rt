@@ -8,7 +8,7 @@ ghost use Rattle.std.specs.Prelude.{◌≡◌, ◌==◌, ◌∷◌, [], codes, f
 
 use crate::fields::{Field, field_of, is_given};
 use bdb_spelling::{is_spelling, number_read};
-use bdb_text_format::Judged;
+use bdb_text_format::{Judged, TextReason};
 
 const FORMAT: [u8; 6] = *b"format";
 
@@ -193,22 +193,22 @@ fn judge_setting(name: &[u8], value: &[u8]) -> Option<Judged>
 }
 
 /// The keyword and value of a line, or its first reason.
-pub fn judge<'a>(fields: &[Field<'a>], line: &'a [u8]) -> Result<Field<'a>, u8>
+pub fn judge<'a>(fields: &[Field<'a>], line: &'a [u8]) -> Result<Field<'a>, TextReason>
     ensures ok { IfOk result (λ field. entry_of line.now ≡ Some (entry_in field)) }
     ensures none { IfOk result (λ field. entry_reason (entries_in fields.now) (entry_of line.now) ≡ None) }
     ensures err { IfErr result (λ reason. entry_reason (entries_in fields.now) (entry_of line.now) ≡ Some reason) }
 {
     match field_of(line) {
-        None => Err(3),
+        None => Err(TextReason::UnknownKeyword),
         Some(field) => match judge_value(field.name, field.value) {
-            None => Err(3),
+            None => Err(TextReason::UnknownKeyword),
             Some(judged) => {
                 if is_given(fields, field.name) {
-                    return Err(5);
+                    return Err(TextReason::RepeatedKeyword);
                 }
                 match judged {
-                    Judged::LeftOut => Err(7),
-                    Judged::Bad => Err(4),
+                    Judged::LeftOut => Err(TextReason::Unsupported),
+                    Judged::Bad => Err(TextReason::BadValue),
                     Judged::Fits => Ok(field),
                 }
             }

@@ -18,7 +18,7 @@ pub use bdb_spelling::{
     SpellError, is_spelling, line_text, number_text, push_line_text, read_spelling,
 };
 pub use bdb_text_format::{
-    Key, KeyRef, PairRef, PairSlice, Section, Sections, TextFault, TextPair, TextPairs,
+    Key, KeyRef, PairRef, PairSlice, Section, Sections, TextFault, TextPair, TextPairs, TextReason,
 };
 pub use dump::read_dump;
 pub use header::{header_text, kind_word};

@@ -1,12 +1,11 @@
 // What a header says in all: its type, its conflicts and its settings.
-ghost use Rattle.bdb_format.specs.Databases.{plain_settings};
 ghost use Rattle.bdb_text_format.specs.Header.{number_or, conflicts, has_keys, has_record_type, has_type, is_on, order_in, plain_in, prints, repeats};
 ghost use Rattle.bdb_text_format.specs.Header.{settings_in};
 ghost use Rattle.bdb_text.specs.Fields.{values_in};
 ghost use Rattle.std.specs.Prelude.{◌≡◌, codes};
 
 use crate::fields::{Field, gives, number_or};
-use bdb_format::{Kind, Order, Settings};
+use bdb_format::{Kind, Order, Settings, plain_settings};
 
 const TYPE: [u8; 4] = *b"type";
 
@@ -134,26 +133,6 @@ fn order_in(fields: &[Field<'_>]) -> Order
         Order::Big
     } else {
         Order::Little
-    }
-}
-
-// The settings of a database of this kind that says nothing of its own.
-fn plain_settings(kind: Kind, page_size: u32, order: Order) -> Settings
-    ensures { result ≡ plain_settings kind page_size order }
-{
-    Settings {
-        kind,
-        page_size,
-        order,
-        duplicates: false,
-        sorted: false,
-        recnum: false,
-        renumber: false,
-        fixed: false,
-        re_len: 0,
-        re_pad: 32,
-        minkey: 2,
-        ffactor: 0,
     }
 }
 

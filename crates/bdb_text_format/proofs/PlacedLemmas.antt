@@ -160,3 +160,6 @@ last_shared before now pairs i this is some at same = by_last (slice_get pairs (
 pub values_of_pairs : (bytes : List ℕ) (places : List Place) → map (value_at bytes) places ≡ map (λ (pair : TextPair). pair.value) (placed_pairs bytes places)
 values_of_pairs bytes [] = refl
 values_of_pairs bytes (place ∷ places) = ap (λ values. value_at bytes place ∷ values) (values_of_pairs bytes places)
+
+-- where pairs are placed
+pub ruleset pairs_placed = (pairs_stay, pairs_within, pairs_pushed, places_pushed)

@@ -4,6 +4,7 @@ pub mod Written
 pub mod TextLines
 pub mod Keywords
 pub mod Header
+pub mod ReasonTable
 pub mod Reasons
 pub mod Pairs
 pub mod Placed

@@ -15,6 +15,11 @@ use Rattle.bdb_text_format.specs.declared.keywords.Judged.{Judged}
 use Rattle.bdb_text_format.specs.declared.keywords.Judged.TheVariants.{Fits, Bad, LeftOut}
 use Rattle.bdb_text_format.specs.Keywords.{Keyword, keywords}
 use Rattle.bdb_text_format.specs.Header.{Values, entry_of, entries, given, values, name_in, conflicts, has_record_type, has_keys, prints}
+use Rattle.bdb_text_format.specs.declared.faults.TextReason.{TextReason}
+use Rattle.bdb_text_format.specs.declared.faults.TextReason.TheVariants.{NoVersion, Version, UnknownKeyword, BadValue, RepeatedKeyword, NoType, Unsupported}
+use Rattle.bdb_text_format.specs.declared.faults.TextReason.TheVariants.{NoSpace}
+use Rattle.bdb_text_format.specs.declared.faults.TextReason.TheVariants.{BadDigit, BadEscape, KeyWithoutData, BadNumber, NoEnd, NameMissing, NameTwice}
+use Rattle.bdb_text_format.specs.declared.faults.TextReason.TheVariants.{Conflict}
 
 -- the lines of a section, but for its first, up to HEADER=END, and those behind it
 pub record Parts : Type 0 where
@@ -38,8 +43,8 @@ abbrev pub begins_version : List ℕ → Bool
 begins_version line = starts_with (λ (a b : ℕ). a == b) line (codes "VERSION=")
 
 -- the reason of the first line of a section
-abbrev pub first_line_reason : List ℕ → Option ℕ
-first_line_reason line = first_row (1 :? not (begins_version line) ∷ 2 :? not (bytes_eq line version_line) ∷ [])
+abbrev pub first_line_reason : List ℕ → Option TextReason
+first_line_reason line = first_row (NoVersion :? not (begins_version line) ∷ Version :? not (bytes_eq line version_line) ∷ [])
 
 -- A line of a header.
 
@@ -60,17 +65,17 @@ abbrev pub keyword_named : List ℕ → Option Keyword
 keyword_named name = find (λ (keyword : Keyword). bytes_eq name keyword.name) keywords
 
 -- the reason of an entry, by its keyword and the entries before it
-abbrev pub keyword_reason : List Entry → Entry → Option Keyword → Option ℕ
-keyword_reason before entry None = Some 3
+abbrev pub keyword_reason : List Entry → Entry → Option Keyword → Option TextReason
+keyword_reason before entry None = Some UnknownKeyword
 keyword_reason before entry (Some keyword) = first_row (
-    5 :? is_some (given entry.name before)
-    ∷ 7 :? is_left_out (keyword.judged entry.value)
-    ∷ 4 :? is_bad (keyword.judged entry.value)
+    RepeatedKeyword :? is_some (given entry.name before)
+    ∷ Unsupported :? is_left_out (keyword.judged entry.value)
+    ∷ BadValue :? is_bad (keyword.judged entry.value)
     ∷ [])
 
 -- the reason of a header line
-abbrev pub entry_reason : List Entry → Option Entry → Option ℕ
-entry_reason before None = Some 3
+abbrev pub entry_reason : List Entry → Option Entry → Option TextReason
+entry_reason before None = Some UnknownKeyword
 entry_reason before (Some entry) = keyword_reason before entry (keyword_named entry.name)
 
 -- The line HEADER=END.
@@ -85,12 +90,12 @@ abbrev pub name_missing : List (Option (List ℕ)) → Option (List ℕ) → Boo
 name_missing names name = not (is_first names) && (is_none name || list_any is_none names)
 
 -- the reason of the end of a header
-abbrev pub header_end_reason : List (Option (List ℕ)) → Values → Option ℕ
+abbrev pub header_end_reason : List (Option (List ℕ)) → Values → Option TextReason
 header_end_reason names header = first_row (
-    6 :? is_none (header (codes "type"))
-    ∷ 16 :? conflicts header
-    ∷ 14 :? name_missing names (name_in header)
-    ∷ 15 :? list_any (is_name (name_in header)) names
+    NoType :? is_none (header (codes "type"))
+    ∷ Conflict :? conflicts header
+    ∷ NameMissing :? name_missing names (name_in header)
+    ∷ NameTwice :? list_any (is_name (name_in header)) names
     ∷ [])
 
 -- A data line: in a section with keys they stand in turn with the data.
@@ -123,29 +128,29 @@ is_record_number None = false
 is_record_number (Some bytes) = is_number bytes && nat_le (digits_value bytes) 4294967295
 
 -- the reason of a data line, by those before it
-abbrev pub data_line_reason : Values → List (List ℕ) → List ℕ → Option ℕ
+abbrev pub data_line_reason : Values → List (List ℕ) → List ℕ → Option TextReason
 data_line_reason header before line = first_row (
-    8 :? not (begins_with_space line)
-    ∷ 9 :? (not (prints header) && is_none (spelled_in false line))
-    ∷ 10 :? (prints header && is_none (spelled_in true line))
-    ∷ 12 :? (is_key header before && has_record_type header && not (is_record_number (spelled_in (prints header) line)))
+    NoSpace :? not (begins_with_space line)
+    ∷ BadDigit :? (not (prints header) && is_none (spelled_in false line))
+    ∷ BadEscape :? (prints header && is_none (spelled_in true line))
+    ∷ BadNumber :? (is_key header before && has_record_type header && not (is_record_number (spelled_in (prints header) line)))
     ∷ [])
 
 -- the reason of the end of a section
-abbrev pub data_end_reason : Values → List (List ℕ) → Option ℕ
-data_end_reason header before = first_row (11 :? awaits_data header before ∷ [])
+abbrev pub data_end_reason : Values → List (List ℕ) → Option TextReason
+data_end_reason header before = first_row (KeyWithoutData :? awaits_data header before ∷ [])
 
 -- Any line.
 
 -- the reason of a line behind the first
-abbrev pub reason_behind : List (Option (List ℕ)) → List (List ℕ) → Option Parts → List ℕ → Option ℕ
+abbrev pub reason_behind : List (Option (List ℕ)) → List (List ℕ) → Option Parts → List ℕ → Option TextReason
 reason_behind names before None line =
     if is_header_end line then header_end_reason names (values before) else entry_reason (entries before) (entry_of line)
 reason_behind names before (Some parts) line =
     if is_data_end line then data_end_reason (values parts.header) parts.data_lines else data_line_reason (values parts.header) parts.data_lines line
 
 -- the first reason of a line, by the names of the earlier sections and the lines before it in its section
-unfoldable pub reason_of : List (Option (List ℕ)) → List (List ℕ) → List ℕ → Option ℕ
+unfoldable pub reason_of : List (Option (List ℕ)) → List (List ℕ) → List ℕ → Option TextReason
 reason_of names [] line = first_line_reason line
 reason_of names (first ∷ before) line = reason_behind names before (parts_of before) line
 
@@ -164,7 +169,7 @@ name_of (first ∷ lines) = name_of_parts (parts_of lines)
 -- the text ends within a section
 abbrev pub end_fault : List (List ℕ) → ℕ → Option TextFault
 end_fault [] number = None
-end_fault (first ∷ lines) number = Some (record { line = number; reason = 13 })
+end_fault (first ∷ lines) number = Some (record { line = number; reason = NoEnd })
 
 -- What stands before the line behind this one.
 
@@ -177,7 +182,7 @@ abbrev pub lines_with : List (List ℕ) → List ℕ → List (List ℕ)
 lines_with before line = if is_data_end line then [] else before ++ line ∷ []
 
 -- a reason at the line of this number
-abbrev pub fault_at : ℕ → Option ℕ → Option TextFault
+abbrev pub fault_at : ℕ → Option TextReason → Option TextFault
 fault_at number None = None
 fault_at number (Some reason) = Some (record { line = number; reason = reason })
 
@@ -194,7 +199,7 @@ fault_from names before number (line ∷ lines) =
 
 -- the fault of lines
 abbrev pub fault_in : List (List ℕ) → Option TextFault
-fault_in [] = Some (record { line = 1; reason = 1 })
+fault_in [] = Some (record { line = 1; reason = NoVersion })
 fault_in (line ∷ lines) = fault_from [] [] 1 (line ∷ lines)
 
 -- the fault of a text

@@ -7,7 +7,7 @@ mod lent;
 mod pairs;
 mod sections;
 
-pub use faults::TextFault;
+pub use faults::{TextFault, TextReason};
 pub use keywords::Judged;
 pub use lent::{KeyRef, PairRef, PairSlice, are_one, key_at, pair_at};
 pub use pairs::{Key, Pair, PlacedPairs, TextPair, TextPairs};

@@ -133,7 +133,7 @@ impl TextPairs {
     }
 
     /// Adds a copy of a pair at the end; on a refusal the pairs are as before.
-    #[tactic(auto, using(crate::proofs::PlacedLemmas::pairs_stay, crate::proofs::PlacedLemmas::pairs_within, crate::proofs::PlacedLemmas::pairs_pushed, crate::proofs::PlacedLemmas::places_pushed))]
+    #[tactic(auto, using(crate::proofs::PlacedLemmas::pairs_placed))]
     pub fn push(&mut self, pair: PairRef<'_>) -> Result<(), AllocError>
         ensures ok { OnOk result (self.new ≡ self.old ++ pair_seen pair.entry ∷ []) }
         ensures err { OnErr result (self.new ≡ self.old) }
@@ -144,7 +144,7 @@ impl TextPairs {
     }
 
     /// Adds a datum with the key of the last pair, which isn't copied; on a refusal the pairs are as before.
-    #[tactic(auto, using(crate::proofs::PlacedLemmas::pairs_stay, crate::proofs::PlacedLemmas::pairs_within, crate::proofs::PlacedLemmas::pairs_pushed, crate::proofs::PlacedLemmas::places_pushed))]
+    #[tactic(auto, using(crate::proofs::PlacedLemmas::pairs_placed))]
     pub fn push_with_last_key(&mut self, value: &[u8], line: u64) -> Result<(), AllocError>
         requires { 0 < length self.old }
         ensures ok { OnOk result (self.new ≡ self.old ++ pair_with (last_key self.old) value.now line ∷ []) }

@@ -42,8 +42,7 @@ use Rattle.bdb_text_format.specs.declared.faults.TextFault.{TextFault}
 use Rattle.bdb_text_format.specs.declared.sections.Section.{Section}
 use Rattle.bdb_text_format.specs.Reasons.{text_fault}
 use Rattle.bdb_settle.specs.declared.load_error.LoadError.{LoadError}
-use Rattle.bdb_settle.specs.declared.load_error.LoadError.TheVariants.{RecordTooLong, RecordZero, TooLarge, QueueAmongNames, Memory as MemoryError, OntoKind}
-use Rattle.bdb_settle.specs.declared.load_error.LoadError.TheVariants.{OntoNames}
+use Rattle.bdb_settle.specs.declared.load_error.LoadError.TheVariants.{TooLarge, Memory as MemoryError}
 use Rattle.bdb_mkfile.specs.Builds.{image_size}
 use Rattle.bdb_mkfile.specs.Loading.{loading_error}
 use Rattle.bdb_tool_build.specs.declared.refusal.Refusal.{Refusal}
@@ -52,7 +51,7 @@ use Rattle.bdb_tool_build.specs.Loads.{IsLoadAnswerBy, IsErrorAnswer, IsLoadAnsw
 use Rattle.bdb_onto.specs.declared.base.Base.{Base}
 use Rattle.bdb_onto.specs.Bases.{base_of}
 use Rattle.bdb_onto.specs.Onto.{loading_error_onto}
-use Rattle.bdb_tool_build.specs.Ontos.{IsLoadOnto, IsTextOnto, IsTextOntoBy}
+use Rattle.bdb_tool_build.specs.Ontos.{IsLoadOnto, IsTextOntoBy}
 use Rattle.bdb_tool.specs.Ontos.{IsOntoBy}
 use Rattle.bdb_tool_build.specs.Refusals.{IsRefusedAnswer}
 use Rattle.bdb_tool_build.specs.Trials.{IsTrialAnswer, IsTrialBy, trial_sections}
@@ -286,13 +285,9 @@ done_own : (text : List ℕ) (answer : Answer) → answer ≡ done text → HasO
 done_own text answer is = rw is (low_own (done text) (omega arith))
 
 error_own : (limit : ℕ) (error : LoadError) (answer : Answer) → IsErrorAnswer limit error answer → HasOwnStatus answer
-error_own limit (RecordTooLong number) answer is = bad_own _ answer is
-error_own limit (RecordZero number) answer is = bad_own _ answer is
 error_own limit TooLarge answer is = large_own _ answer is
-error_own limit (QueueAmongNames number) answer is = bad_own _ answer is
 error_own limit MemoryError answer is = absurd is
-error_own limit (OntoKind number) answer is = bad_own _ answer is
-error_own limit (OntoNames number) answer is = bad_own _ answer is
+error_own limit error answer is = bad_own _ answer is
 
 load_own : (limit : ℕ) (error : Option LoadError) (sections : List Section) (answer : Answer) → IsLoadAnswer limit error sections answer → HasOwnStatus answer
 load_own limit (Some error) sections answer is = error_own limit error answer is

@@ -84,7 +84,8 @@ pub(crate) fn answer_onto<K: Sink, E: Sink, L: Ledger>(
     requires text { length text ≤ 2 ^ 30 }
     requires image { length image ≤ 2 ^ 30 }
     requires limit { limit ≤ 2 ^ 30 }
-    ensures { Ends (IsOntoBy limit (verdict_of image) text image) (change K.written K.faults out.old out.new) (change E.written E.faults err.old err.new) result }
+    ensures { Ends (IsOntoBy limit (verdict_of image) text image) (change K.written K.faults out.old out.new)
+        (change E.written E.faults err.old err.new) result }
 {
     match base_of(alloc, image, u64::from(limit), steps) {
         Ok(base) => answer_on_base(alloc, text, base, limit, out, err),

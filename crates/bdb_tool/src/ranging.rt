@@ -45,7 +45,7 @@ fn tree_pairs<'a, 'k, L: Ledger>(
     ensures { MatchOption result (is_recno meta.now ≡ true)
         (λ pairs. (is_recno meta.now ≡ false) × (pairs ≡ in_range (btree_list (file_of linked.now) meta.now.root) from.now to.now)) }
 {
-    if meta.flags & 0x02 != 0 {
+    if meta.is_recno() {
         return None;
     }
     let leaves = span(linked, meta, from, to, steps);

@@ -1,7 +1,6 @@
 pub mod BaseLemmas
 pub mod CopiedLemmas
 pub mod LoadLemmas
-pub mod NameLemmas
 pub mod OntoLemmas
 pub mod RefusalLemmas
 pub mod TreeLemmas

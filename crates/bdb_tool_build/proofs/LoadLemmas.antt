@@ -1,5 +1,5 @@
 -- From the sections of a text to its answer.
-use Rattle.std.proofs.Common.{◌≡◌, ℕ, true, List, ap, inl, inr, refl, subst, sym, ◌∙◌}
+use Rattle.std.proofs.Common.{◌≡◌, ℕ, true, List, ap, inl, inr, refl, subst, sym, ◌∙◌, ◌⊎◌}
 use Rattle.std.specs.Prelude.{Option, Some, None, Result, Ok, Err, MatchResult, is_none, is_some}
 use Rattle.bdb_text_format.specs.declared.faults.TextFault.{TextFault}
 use Rattle.bdb_text_format.specs.declared.sections.Section.{Section}
@@ -11,10 +11,11 @@ use Rattle.bdb_settle.specs.declared.load_error.LoadError.{LoadError}
 use Rattle.bdb_mkfile.specs.Loading.{IsLoadRefusal, loading_error}
 use Rattle.bdb_mkfile.proofs.BuildLemmas.{refusal_found}
 use Rattle.bdb_tool_build.specs.declared.refusal.Refusal.{Refusal}
-use Rattle.bdb_tool_build.specs.Lines.{reason_line}
+use Rattle.bdb_tool_build.specs.Lines.{reason_line, error_line}
 use Rattle.bdb_tool_build.specs.Loads.{IsErrorAnswer, IsFaultAnswer, IsLoadAnswer, IsLoadAnswerBy, IsTextAnswer}
 use Rattle.bdb_tool_build.specs.Refusals.{IsRefusedAnswer, Says}
 use Rattle.bdb_tool_build.proofs.RefusalLemmas.{says_allowed, still_refused}
+use Rattle.bdb_settle.specs.declared.load_error.LoadError.TheVariants.{RecordTooLong, RecordZero, QueueAmongNames, OntoKind, OntoNames}
 
 -- a text with a fault
 pub fault_refused : (text : List ℕ) (fault : TextFault) (refusal : Refusal) → text_fault text ≡ Some fault → Says (told 8 (reason_line fault)) refusal
@@ -31,6 +32,18 @@ pub text_refused : (limit : ℕ) (text : List ℕ) (refusal : Refusal) → IsRef
     → IsRefusedAnswer (IsTextAnswer limit text) refusal
 text_refused limit text refusal refused =
     still_refused (IsFaultAnswer (text_fault text)) (IsTextAnswer limit text) refusal (fault_answer limit text (text_fault text)) refused
+
+-- an error of a line is told by it
+pub of_line : (limit : ℕ) (error : LoadError)
+    → ((n : ℕ) × error ≡ RecordTooLong n)
+    ⊎ (((n : ℕ) × error ≡ RecordZero n)
+    ⊎ (((n : ℕ) × error ≡ QueueAmongNames n) ⊎ (((n : ℕ) × error ≡ OntoKind n) ⊎ ((n : ℕ) × error ≡ OntoNames n))))
+    → IsErrorAnswer limit error (told 8 (error_line error))
+of_line limit error (inl (n, is)) = rw is refl
+of_line limit error (inr (inl (n, is))) = rw is refl
+of_line limit error (inr (inr (inl (n, is)))) = rw is refl
+of_line limit error (inr (inr (inr (inl (n, is))))) = rw is refl
+of_line limit error (inr (inr (inr (inr (n, is))))) = rw is refl
 
 -- sections that aren't loaded
 pub load_refused : (limit most : ℕ) (sections : List Section) (error : LoadError) (refusal : Refusal) → most ≡ limit → IsLoadRefusal most sections error

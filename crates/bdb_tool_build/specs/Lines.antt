@@ -2,26 +2,21 @@
 use Rattle.std.specs.Prelude.{ℕ, List, [], ◌∷◌, ◌++◌, codes, decimal}
 use Rattle.bdb_format.specs.declared.kinds.Kind.{Kind}
 use Rattle.bdb_text_format.specs.declared.faults.TextFault.{TextFault}
-use Rattle.bdb_format.specs.FaultNames.{numbered_name}
+use Rattle.bdb_text_format.specs.ReasonTable.{reason_code, reason_name}
 use Rattle.bdb_text_format.specs.LineEnd.{line}
 use Rattle.bdb_text_format.specs.Written.{kind_text}
-
--- the names of the reasons of a text's line, numbered from one on
-abbrev pub reason_names : List (List ℕ)
-reason_names =
-    codes "NoVersion" ∷ codes "Version" ∷ codes "UnknownKeyword" ∷ codes "BadValue" ∷ codes "RepeatedKeyword" ∷ codes "NoType" ∷ codes "Unsupported"
-    ∷ codes "NoSpace"
-    ∷ codes "BadDigit" ∷ codes "BadEscape" ∷ codes "KeyWithoutData" ∷ codes "BadNumber" ∷ codes "NoEnd" ∷ codes "NameMissing" ∷ codes "NameTwice"
-    ∷ codes "Conflict" ∷ []
+use Rattle.bdb_settle.specs.declared.load_error.LoadError.{LoadError}
+use Rattle.bdb_settle.specs.LoadErrors.{code_of, line_of, name_of}
 
 -- the line of a text's fault
 abbrev pub reason_line : TextFault → List ℕ
 reason_line fault =
-    codes "line " ++ (decimal fault.line ++ (codes ": reason " ++ (decimal fault.reason ++ (codes " " ++ line (numbered_name reason_names fault.reason)))))
+    codes "line " ++ (decimal fault.line ++ (codes ": reason " ++ (decimal (reason_code fault.reason) ++ (codes " " ++ line (reason_name fault.reason)))))
 
 -- the line of a load error: the number of its line, its code and its name
-abbrev pub error_line : ℕ → ℕ → List ℕ → List ℕ
-error_line number code name = codes "line " ++ (decimal number ++ (codes ": load error " ++ (decimal code ++ (codes " " ++ line name))))
+abbrev pub error_line : LoadError → List ℕ
+error_line error =
+    codes "line " ++ (decimal (line_of error) ++ (codes ": load error " ++ (decimal (code_of error) ++ (codes " " ++ line (name_of error)))))
 
 -- the line of an image that would be longer than a limit
 abbrev pub image_too_large_line : ℕ → List ℕ

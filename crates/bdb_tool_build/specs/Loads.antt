@@ -1,25 +1,21 @@
 -- What `load` answers to a text that is within the limit. Source: README.md, "Use".
-use Rattle.std.specs.Prelude.{◌≡◌, ℕ, List, Option, Some, None, codes}
+use Rattle.std.specs.Prelude.{◌≡◌, ℕ, List, Option, Some, None}
 use Rattle.bdb_text_format.specs.declared.faults.TextFault.{TextFault}
 use Rattle.bdb_text_format.specs.declared.sections.Section.{Section}
 use Rattle.bdb_model.specs.Answers.{Answer, done, told}
 use Rattle.bdb_text_format.specs.Reasons.{text_fault}
 use Rattle.bdb_text_format.specs.Sections.{Reads}
 use Rattle.bdb_settle.specs.declared.load_error.LoadError.{LoadError}
-use Rattle.bdb_settle.specs.declared.load_error.LoadError.TheVariants.{RecordTooLong, RecordZero, TooLarge, QueueAmongNames, Memory, OntoKind, OntoNames}
+use Rattle.bdb_settle.specs.declared.load_error.LoadError.TheVariants.{TooLarge, Memory}
 use Rattle.bdb_mkfile.specs.Builds.{Builds}
 use Rattle.bdb_mkfile.specs.Loading.{loading_error}
 use Rattle.bdb_tool_build.specs.Lines.{error_line, image_too_large_line, reason_line}
 
 -- the answer to sections that have a load error; want of memory is none
 abbrev pub IsErrorAnswer : ℕ → LoadError → Answer → Type 0
-IsErrorAnswer limit (RecordTooLong number) answer = answer ≡ told 8 (error_line number 1 (codes "RecordTooLong"))
-IsErrorAnswer limit (RecordZero number) answer = answer ≡ told 8 (error_line number 2 (codes "RecordZero"))
 IsErrorAnswer limit TooLarge answer = answer ≡ told 6 (image_too_large_line limit)
-IsErrorAnswer limit (QueueAmongNames number) answer = answer ≡ told 8 (error_line number 4 (codes "QueueAmongNames"))
 IsErrorAnswer limit Memory answer = ⊥
-IsErrorAnswer limit (OntoKind number) answer = answer ≡ told 8 (error_line number 5 (codes "OntoKind"))
-IsErrorAnswer limit (OntoNames number) answer = answer ≡ told 8 (error_line number 6 (codes "OntoNames"))
+IsErrorAnswer limit error answer = answer ≡ told 8 (error_line error)
 
 -- the answer is some image that is built of sections
 pub record IsImageAnswer (sections : List Section) (answer : Answer) : Type 0 where

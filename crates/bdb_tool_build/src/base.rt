@@ -135,7 +135,7 @@ fn has_master(sound: &Sound<'_>) -> bool
     ensures { result ≡ is_some (master_in (page_at (file_of sound.now) 0)) }
 {
     match sound.linked().forest().meta(0) {
-        Some(Meta::Btree(meta)) => meta.flags & 0x20 != 0,
+        Some(Meta::Btree(meta)) => meta.names_databases(),
         _ => false,
     }
 }

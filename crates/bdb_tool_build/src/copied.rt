@@ -1,6 +1,5 @@
 //! Keys and data, copied out of a file.
 ghost use Rattle.std.specs.Prelude.{◌≡◌, ◌++◌, ◌∷◌, ◌<◌, [], true, IfOk, OnOk, length};
-ghost use Rattle.bdb_format.specs.Chains.{joined};
 ghost use Rattle.bdb_overflow.specs.Datum.{datum_seen, key_view_seen};
 ghost use Rattle.bdb_text_format.specs.Placed.{key_seen, pair_with};
 ghost use Rattle.bdb_text_format.specs.declared.pairs.Key.TheVariants.{Bytes};
@@ -9,7 +8,7 @@ ghost use Rattle.bdb_onto.specs.Bases.{text_pair};
 ghost use Rattle.bdb_tool_build.specs.Ontos.{list_key};
 ghost use Rattle.bdb_tool_build.specs.Copied.{EndsWith};
 
-use bdb_overflow::{Datum, KeyView, Pieces, is_same};
+use bdb_overflow::{Datum, KeyView, bytes_in, is_same};
 use bdb_text_format::{KeyRef, PairRef, TextPairs};
 use std::alloc::{AllocError, Global};
 
@@ -19,17 +18,6 @@ pub(crate) struct Rooms {
     key: Vec<u8>,
     value: Vec<u8>,
     left: u64,
-}
-
-// Puts pieces of a chain into a room, one behind the other.
-fn put_pieces(pieces: Pieces<'_>, room: &mut Vec<u8>) -> Result<(), AllocError>
-    ensures { OnOk result (room.new.items ≡ joined pieces.entry) }
-{
-    room.clear();
-    for piece in pieces {
-        room.extend_from_slice(piece)?;
-    }
-    Ok(())
 }
 
 // Bytes that are to be copied, which are counted; an error where too many are.
@@ -48,13 +36,8 @@ fn bytes_of<'r>(
 ) -> Result<&'r [u8], AllocError>
     ensures { IfOk result (λ bytes. bytes.now ≡ datum_seen value.entry) }
 {
-    match value {
-        Datum::Inline(bytes) => counted(bytes, left),
-        Datum::Chained(pieces) => {
-            put_pieces(pieces, room)?;
-            counted(room.as_slice(), left)
-        }
-    }
+    let bytes = bytes_in(value, room)?;
+    counted(bytes, left)
 }
 
 // The key of a list, to be copied.

@@ -4,7 +4,6 @@
 mod base;
 mod copied;
 mod loading;
-mod names;
 mod refusal;
 mod texts;
 mod tree;

@@ -46,11 +46,11 @@ pub(crate) fn refusal_of(alloc: Global, error: LoadError, limit: u32) -> Refusal
     ensures { IsRefusedAnswer (IsErrorAnswer limit error) result }
 {
     match error {
-        LoadError::RecordTooLong(line) => faulty(error_line(alloc, line, 1, "RecordTooLong")),
-        LoadError::RecordZero(line) => faulty(error_line(alloc, line, 2, "RecordZero")),
-        LoadError::QueueAmongNames(line) => faulty(error_line(alloc, line, 4, "QueueAmongNames")),
-        LoadError::OntoKind(line) => faulty(error_line(alloc, line, 5, "OntoKind")),
-        LoadError::OntoNames(line) => faulty(error_line(alloc, line, 6, "OntoNames")),
+        LoadError::RecordTooLong(_)
+        | LoadError::RecordZero(_)
+        | LoadError::QueueAmongNames(_)
+        | LoadError::OntoKind(_)
+        | LoadError::OntoNames(_) => faulty(error_line(alloc, error)),
         LoadError::TooLarge => too_large(alloc, limit),
         LoadError::Memory => Refusal::Memory,
     }

@@ -2,8 +2,8 @@ ghost use Rattle.std.specs.Prelude.{◌≡◌, IfOk, string_bytes};
 ghost use Rattle.bdb_tool_build.specs.Lines.{error_line, image_too_large_line, reason_line, trial_text};
 ghost use Rattle.bdb_text_format.specs.Written.{kind_text};
 
-use crate::names::reason_name;
 use bdb_format::Kind;
+use bdb_settle::LoadError;
 use bdb_text_format::TextFault;
 use std::alloc::{AllocError, Global};
 
@@ -11,21 +11,20 @@ use std::alloc::{AllocError, Global};
 pub(crate) fn reason_line(alloc: Global, fault: TextFault) -> Result<String, AllocError>
     ensures { IfOk result (λ text. string_bytes text ≡ reason_line fault) }
 {
-    let name = reason_name(fault.reason);
-    let TextFault { line, reason } = fault;
-    format!(in alloc; "line {line}: reason {reason} {name}\n")
+    let line = fault.line;
+    let code = fault.reason.code();
+    let name = fault.reason.name();
+    format!(in alloc; "line {line}: reason {code} {name}\n")
 }
 
 /// The line of a load error: the number of its line, its code and its name.
-pub(crate) fn error_line(
-    alloc: Global,
-    number: u64,
-    code: u8,
-    name: &str,
-) -> Result<String, AllocError>
-    ensures { IfOk result (λ text. string_bytes text ≡ error_line number code name.now) }
+pub(crate) fn error_line(alloc: Global, error: LoadError) -> Result<String, AllocError>
+    ensures { IfOk result (λ text. string_bytes text ≡ error_line error) }
 {
-    format!(in alloc; "line {number}: load error {code} {name}\n")
+    let line = error.line();
+    let code = error.code();
+    let name = error.name();
+    format!(in alloc; "line {line}: load error {code} {name}\n")
 }
 
 /// The line of an image that would be longer than this many bytes.

@@ -25,7 +25,7 @@ use Rattle.bdb_format.specs.Reading.{abstract_page, is_zero}
 use Rattle.bdb_format.specs.Rows.{form_code, is_queue, version_of}
 use Rattle.bdb_format.specs.Table.{Row, ◌:?◌, first_row}
 use Rattle.bdb_format.specs.Verdict.{reference_faults, ownership_faults, reach_faults, structure_faults, master_faults, contents_faults, by_page, faults_in}
-use Rattle.bdb_format.specs.Verdict.{faults_of, file_faults, form_faults, head_faults, holding, or_else, stage_faults, tail_faults, tail_rows}
+use Rattle.bdb_format.specs.Verdict.{faults_of, file_faults, form_faults, head_faults, holding, stage_faults, tail_faults, tail_rows}
 use Rattle.bdb_graph.specs.Formed.{IsAccepted}
 use Rattle.bdb_turned.specs.Flipped.{first_overlap, flipped}
 use Rattle.bdb_turned.specs.Laws.{TurnsRound, turned_head}
@@ -35,6 +35,7 @@ use Rattle.bdb_turned.proofs.JoinedLemmas.{joins_back, length_joined, number_in_
 use Rattle.bdb_turned.proofs.ListedLemmas.{map_same}
 use Rattle.bdb_turned.proofs.PageLemmas.{first_page_common, pages_turn_round, zero_stays}
 use Rattle.bdb_turned.proofs.PlainLemmas.{CommonSame}
+use Rattle.bdb_format.proofs.FaultLemmas.{or_none}
 
 -- what the pages of an image are, and what they become
 record CanFlip (image : List ℕ) : Type 0 where
@@ -433,10 +434,6 @@ form_of image can =
 -- each stage from the third on looks at the file alone
 later : (image : List ℕ) → CanFlip image → (faults : File → List Fault) → faults (file_of image) ≡ [] → faults (file_of (flipped image)) ≡ []
 later image can faults none = ap faults (file_same image can) ∙ none
-
-or_none : (faults others : List Fault) → faults ≡ [] → others ≡ [] → or_else faults (λ _. others) ≡ []
-or_none [] others first second = second
-or_none (fault ∷ faults) others first second = absurd cc
 
 sound_of : (image : List ℕ) → CanFlip image → faults_of image ≡ [] → faults_of (flipped image) ≡ []
 unfolding faults_of faults_in

@@ -1,6 +1,6 @@
 -- Hash pages whose numbers are turned round.
 use Rattle.std.proofs.Common.{◌≡◌, ◌∙◌, ◌⊎◌, inl, inr, ℕ, zero, suc, ◌+◌, ◌-◌, ◌*◌, ◌<◌, ◌≤◌, List, [], ◌∷◌, length, refl, sym, ap, subst, arith}
-use Rattle.std.specs.Prelude.{slice_range, false, ◌==◌, Option, Some, None, IsSome}
+use Rattle.std.specs.Prelude.{slice_range, false, ◌==◌, Option, Some, None}
 use Rattle.std.specs.Option.{unwrap_or}
 use Rattle.std.specs.List.{Contains}
 use Rattle.std.proofs.Math.Dec.{eqb-suc-zero}
@@ -15,14 +15,15 @@ use Rattle.bdb_format.specs.Reading.{blocks_of, entries_of, hash_content, hash_e
 use Rattle.bdb_format.specs.Rows.{does_not_fall, hash_rows, misses_extent}
 use Rattle.bdb_format.specs.Table.{first_row}
 use Rattle.bdb_turned.specs.Fields.{Field, block_fields, field, hash_fields}
-use Rattle.bdb_turned.specs.Apart.{IsUntouched}
+use Rattle.bdb_turned.specs.Apart.{IsUntouched, run_length}
 pub use Rattle.bdb_turned.specs.Parts.{hash_part}
 use Rattle.bdb_turned.specs.Parts.{hash_item_end}
-use Rattle.bdb_turned.specs.Apart.{run_length}
 use Rattle.bdb_turned.proofs.ReadLemmas.{IsTurned, number_same, slice_same}
 use Rattle.bdb_turned.proofs.ApartLemmas.{Between, bounds}
 use Rattle.bdb_turned.proofs.ListedLemmas.{ArePlaced, all_fields, in_index, in_item, untouched_in_item}
 use Rattle.bdb_turned.proofs.RunLemmas.{RunsTo, run_between, run_of, run_reads, run_turned}
+use Rattle.bdb_layout.proofs.BlockLemmas.{some_left}
+use Rattle.bdb_turned.proofs.InnerLemmas.{lower}
 
 -- no row of a hash page holds
 pub record IsHash (order : Order) (page : List ℕ) : Type 0 where
@@ -54,10 +55,6 @@ pub data HashCase (order : Order) (page : List ℕ) (at end : ℕ) (content : Co
 one_to_four : (k : ℕ) → 1 ≤ k → k ≤ 4 → (k ≡ 1) ⊎ ((k ≡ 2) ⊎ ((k ≡ 3) ⊎ (k ≡ 4)))
 one_to_four k low high = grind arith
 
-some_blocks : (found : Option (List (List ℕ))) → IsSome found → found ≡ Some (unwrap_or found [])
-some_blocks None some = cc
-some_blocks (Some blocks) some = refl
-
 pub hash_case : (order : Order) (page : List ℕ) (i : ℕ) → first_row (hash_rows order page i) ≡ None
     → HashCase order page (offset_of order page i) (hash_end order page i) (hash_item_at order page i).content
 hash_case order page i none =
@@ -70,7 +67,7 @@ hash_case order page i none =
       | inl one ↦ IsInline one (content_is order page i ∙ ap (hash_content order page at end) one)
       | inr (inl two) ↦
           IsSet two (unwrap_or (blocks_of order bytes) []) (content_is order page i ∙ ap (hash_content order page at end) two)
-          (run_of order page (at + 1) end (unwrap_or (blocks_of order bytes) []) (omega arith) fits.ends (some_blocks (blocks_of order bytes) (fits.set two)))
+          (run_of order page (at + 1) end (unwrap_or (blocks_of order bytes) []) (omega arith) fits.ends (some_left (blocks_of order bytes) (fits.set two)))
       | inr (inr (inl three)) ↦ IsChain three (content_is order page i ∙ ap (hash_content order page at end) three) (fits.chain three)
       | inr (inr (inr four)) ↦ IsTree four (content_is order page i ∙ ap (hash_content order page at end) four) (fits.tree four)
     ]
@@ -151,10 +148,6 @@ hash_between order page at end content begins (IsInline kind is) = subst (λ c. 
 hash_between order page at end content begins (IsSet kind blocks is run) =
     subst (λ c. Between at (hash_fields at c) end) (sym is) (lower (at + 1) at end (block_fields (at + 1) blocks) (omega arith)
     (run_between order page (at + 1) end blocks run))
-  where
-    lower : (from low to : ℕ) (fields : List Field) → low ≤ from → Between from fields to → Between low fields to
-    lower from low to [] below between = let l : from ≤ to = between in omega arith
-    lower from low to (f ∷ fields) below between = let l : from ≤ f.begin = between.0 in (omega arith, between.1)
 hash_between order page at end content begins (IsChain kind is ends) = subst (λ c. Between at (hash_fields at c) end) (sym is)
     (omega arith, (omega arith, omega arith))
 hash_between order page at end content begins (IsTree kind is ends) = subst (λ c. Between at (hash_fields at c) end) (sym is) (omega arith, omega arith)

@@ -81,7 +81,7 @@ key_between order page at key (IsInline kind is inside) =
 key_between order page at key (IsChain kind is inside) = subst (λ c. Between (at + 12) (key_fields at c) (internal_item_end at c)) (sym is)
     (omega arith, (omega arith, omega arith))
 
-lower : (from low to : ℕ) (fields : List Field) → low ≤ from → Between from fields to → Between low fields to
+pub lower : (from low to : ℕ) (fields : List Field) → low ≤ from → Between from fields to → Between low fields to
 lower from low to [] below between = let l : from ≤ to = between in omega arith
 lower from low to (f ∷ fields) below between = let l : from ≤ f.begin = between.0 in (omega arith, between.1)
 

@@ -11,7 +11,7 @@ use Rattle.bdb_format.specs.declared.kinds.Order.{Order}
 use Rattle.bdb_format.specs.Numbers.{byte_at, four_at, two_at, turned}
 use Rattle.bdb_format.specs.Page.{Content, Inline, Set, Chain, Tree, Unknown, Item, PageType}
 use Rattle.bdb_format.specs.References.{no_item}
-use Rattle.bdb_format.specs.Reading.{entries_of, header_of, is_deleted, kind_at, leaf_content, leaf_item_at, listed, offset_of}
+use Rattle.bdb_format.specs.Reading.{entries_of, header_of, kind_at, leaf_content, leaf_item_at, listed, offset_of}
 use Rattle.bdb_format.specs.Rows.{item_rows, leaf_end, leaf_rows, listed_code}
 use Rattle.bdb_format.specs.Table.{first_row}
 use Rattle.bdb_turned.specs.Fields.{Field, field, leaf_fields}
@@ -22,6 +22,7 @@ use Rattle.bdb_turned.proofs.ReadLemmas.{IsTurned, number_same, slice_same}
 use Rattle.bdb_turned.proofs.ApartLemmas.{Between}
 use Rattle.bdb_turned.proofs.ListedLemmas.{ArePlaced, all_fields, header_same, in_header, in_index, in_item, listed_apart, listed_same, rows_same}
 use Rattle.bdb_turned.proofs.ListedLemmas.{untouched_in_header, untouched_in_item}
+use Rattle.bdb_format.proofs.LeafLemmas.{one_offset}
 
 -- no row of a leaf holds, and no two of its items overlap
 pub record IsLeaf (order : Order) (page : List ℕ) : Type 0 where
@@ -38,13 +39,6 @@ leaf_between at (Set blocks) = omega arith
 leaf_between at (Chain head total) = (omega arith, (omega arith, omega arith))
 leaf_between at (Tree root) = (omega arith, omega arith)
 leaf_between at Unknown = omega arith
-
--- an item depends on its index by its offset alone
-pub same_item : (order : Order) (page : List ℕ) (i j : ℕ) → offset_of order page i ≡ offset_of order page j
-    → leaf_item_at order page i ≡ leaf_item_at order page j
-unfolding leaf_item_at
-same_item order page i j same =
-    ap (λ (at : ℕ). let item : Item = record { content = leaf_content order page at (kind_at page at); deleted = is_deleted page at } in item) same
 
 -- what the rows say of an item
 content_is : (order : Order) (page : List ℕ) (i : ℕ) → (leaf_item_at order page i).content ≡ leaf_content order page (offset_of order page i)
@@ -102,7 +96,7 @@ leaf_placed order page is = record {
     apart = λ i j lt_i lt_j.
         elim (listed_apart (λ at (item : Item). leaf_item_end at item.content) no_item order page (leaf_item_at order page) is.apart i j lt_i lt_j) [
           | inl same ↦
-              let item : leaf_item_at order page i ≡ leaf_item_at order page j = same_item order page i j same in
+              let item : leaf_item_at order page i ≡ leaf_item_at order page j = one_offset order page i j same in
               inl (cc)
           | inr rest ↦ inr rest
         ];

@@ -46,6 +46,7 @@ use Rattle.bdb_turned.proofs.InnerLemmas.{internal_placed, internal_turned, item
 use Rattle.bdb_turned.proofs.InnerLemmas.{recno_high, recno_low, recno_part, recno_placed, recno_rows_same, recno_same, recno_turned}
 use Rattle.bdb_turned.proofs.PlainLemmas.{CommonSame, btree_rows_same, btree_same, common_rows_same, common_same, fours_between, meta_all, meta_between}
 use Rattle.bdb_turned.proofs.PlainLemmas.{queue_rows_same, queue_same, table_rows_same, table_same}
+use Rattle.bdb_format.proofs.GraphLemmas.{typed_page, zero_page}
 
 -- what the other order says of a page of a type
 pub record TypeTurned (head : Head) (p : ℕ) (page other : List ℕ) (t : PageType) : Type 0 where
@@ -408,14 +409,6 @@ passed kind p number byte typed none = parts (nat_lt 0 p) (number == p) (may_hav
     parts false true false typed none = absurd cc
     parts false false may typed none = absurd cc
 
-pub abstract_as : (order : Order) (page : List ℕ) → is_zero page ≡ false → abstract_page order page ≡ page_as order page (page_type (byte_at page 25))
-unfolding abstract_page
-abstract_as order page some = rw (some, abstract_page) refl
-
-pub abstract_zero : (order : Order) (page : List ℕ) → is_zero page ≡ true → abstract_page order page ≡ Zero
-unfolding abstract_page
-abstract_zero order page zeros = rw (zeros, abstract_page) refl
-
 pub no_fields_turn : (page : List ℕ) → turned_round [] page ≡ page
 no_fields_turn page = ext_get_or 0 (turned_round [] page) page (length-turned_round [] page)
     (λ k lt. get_or-turned_round [] page k (omega (arith, length-turned_round [] page))
@@ -448,8 +441,8 @@ zero_turns : (head : Head) (p : ℕ) (page : List ℕ) → is_page_size (length 
     → TurnsRound head p page
 zero_turns head p page size none zeros =
     let order : Order = head.order in
-    let reads : abstract_page order page ≡ Zero = abstract_zero order page zeros in
-    let there : abstract_page (turned order) page ≡ Zero = abstract_zero (turned order) page zeros in
+    let reads : abstract_page order page ≡ Zero = zero_page order page zeros in
+    let there : abstract_page (turned order) page ≡ Zero = zero_page (turned order) page zeros in
     let stays : turned_page order page ≡ page = ap (λ it. turned_round (fields_of it) page) reads
     ∙ (ap (λ fields. turned_round fields page) zero_fields ∙ no_fields_turn page) in
     let back : turned_page (turned order) page ≡ page = ap (λ it. turned_round (fields_of it) page) there
@@ -468,7 +461,7 @@ other_turns head p page size none apart some =
     let order : Order = head.order in
     let byte : ℕ = byte_at page 25 in
     let t : PageType = page_type byte in
-    let reads : abstract_page order page ≡ page_as order page t = abstract_as order page some in
+    let reads : abstract_page order page ≡ page_as order page t = typed_page order page some in
     let code : page_code_by head.kind p false (four_at order page 8) byte (typed_code head p page t) ≡ None =
     ap (λ zeros. page_code_by head.kind p zeros (four_at order page 8) byte (typed_code head p page t)) (sym some) ∙ (sym (code_parts head p page) ∙ none) in
     let parts : (may_have_type head.kind p byte ≡ true) × (typed_code head p page t ≡ None) = passed head.kind p (four_at order page 8) byte
@@ -483,7 +476,7 @@ other_turns head p page size none apart some =
     let not_zeros : is_zero other ≡ false = zero_same fields page can.apart can.within some in
     let type_there : page_type (byte_at other 25) ≡ t = ap page_type turns.type in
     let there : abstract_page (turned order) other ≡ page_as order page t =
-    abstract_as (turned order) other not_zeros ∙ (ap (page_as (turned order) other) type_there ∙ turns.reads) in
+    typed_page (turned order) other not_zeros ∙ (ap (page_as (turned order) other) type_there ∙ turns.reads) in
     let typed : typed_code (turned_head head) p other (page_type (byte_at other 25)) ≡ typed_code head p page t = ap (typed_code (turned_head head) p other)
     type_there ∙ turns.rows in
     let formed : form_code (turned_head head) p other ≡ None =
@@ -511,7 +504,7 @@ pages_turn_round head p page size none apart =
 -- a page of zeros stays
 pub zero_stays : (order : Order) (page : List ℕ) → is_zero page ≡ true → turned_page order page ≡ page
 zero_stays order page zeros =
-    ap (λ it. turned_round (fields_of it) page) (abstract_zero order page zeros) ∙ (ap (λ fields. turned_round fields page) zero_fields ∙ no_fields_turn page)
+    ap (λ it. turned_round (fields_of it) page) (zero_page order page zeros) ∙ (ap (λ fields. turned_round fields page) zero_fields ∙ no_fields_turn page)
 
 -- page 0 keeps what the rows of the file look at
 
@@ -519,7 +512,7 @@ fields_there : (head : Head) (page : List ℕ) (t : PageType) (fields : Metadata
     → fields_of (page_as head.order page t) ≡ meta_all fields
     → 512 ≤ length page → CommonSame head.order page (turned_page head.order page)
 fields_there head page t fields some type are long =
-    let same : fields_of (abstract_page head.order page) ≡ meta_all fields = ap fields_of (abstract_as head.order page some ∙ ap (page_as head.order page) type)
+    let same : fields_of (abstract_page head.order page) ≡ meta_all fields = ap fields_of (typed_page head.order page some ∙ ap (page_as head.order page) type)
     ∙ are in
     let is : IsTurned (meta_all fields) page (turned_round (meta_all fields) page) = turned_is (meta_all fields) page (meta_apart fields)
     (meta_within fields (length page) long) in
@@ -588,7 +581,7 @@ pub numbers_by_type : (head : Head) (p : ℕ) (page : List ℕ) → is_page_size
     → AreNumbersOf head.order page (fields_of (page_as head.order page (page_type (byte_at page 25))))
 numbers_by_type head p page size none apart some =
     let t : PageType = page_type (byte_at page 25) in
-    let reads : abstract_page head.order page ≡ page_as head.order page t = abstract_as head.order page some in
+    let reads : abstract_page head.order page ≡ page_as head.order page t = typed_page head.order page some in
     let parts = type_passed head p page none some in
     let can : CanTurn head p page t =
     can_turn head p page t (size_bounds (length page) size).0 (known_type head.kind p (byte_at page 25) parts.0) parts.1 (ap overlaps (sym reads) ∙ apart) in
@@ -596,5 +589,5 @@ numbers_by_type head p page size none apart some =
 
 pub zero_page_turns : (head : Head) (page : List ℕ) → is_zero page ≡ true → page ≡ turned_page head.order page
 zero_page_turns head page zeros =
-    sym (ap (λ it. turned_round (fields_of it) page) (abstract_zero head.order page zeros)
+    sym (ap (λ it. turned_round (fields_of it) page) (zero_page head.order page zeros)
     ∙ (ap (λ fields. turned_round fields page) zero_fields ∙ no_fields_turn page))

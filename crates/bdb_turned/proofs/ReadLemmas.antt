@@ -1,7 +1,7 @@
 -- What is read of bytes whose numbers are turned round.
-use Rattle.std.proofs.Common.{◌≡◌, ◌∙◌, ◌⊎◌, inl, inr, ℕ, suc, ◌+◌, ◌-◌, ◌*◌, ◌<◌, ◌≤◌, List, [], ◌∷◌, length, take, drop, reverse, refl, sym, ap, arith}
+use Rattle.std.proofs.Common.{◌≡◌, ◌∙◌, ◌⊎◌, inl, inr, ℕ, ◌+◌, ◌-◌, ◌*◌, ◌<◌, ◌≤◌, List, [], ◌∷◌, length, take, drop, reverse, refl, sym, ap, arith}
 use Rattle.std.proofs.Common.{length-drop}
-use Rattle.std.specs.Prelude.{slice_range, true, false, map, zero}
+use Rattle.std.specs.Prelude.{slice_range, true, false, map}
 use Rattle.std.specs.List.{Contains, range_with_len}
 use Rattle.std.proofs.lemmas.Bool.Decides.{nat_tests}
 use Rattle.bdb_format.specs.Reading.{is_zero}
@@ -13,6 +13,7 @@ use Rattle.bdb_turned.specs.Fields.{Field, field}
 use Rattle.bdb_turned.specs.Turning.{mirror, turned_round}
 use Rattle.bdb_turned.specs.Apart.{AreApart, IsUntouched, LieWithin}
 use Rattle.bdb_turned.proofs.PlaceLemmas.{mirror-inside, mirror-outside, mirror-within, length-turned_round, get_or-turned_round, places_turn_back}
+use Rattle.bdb_format.proofs.PageLemmas.{zero_byte}
 
 -- bytes that are others with these numbers turned round: all that is read of them
 pub record IsTurned (fields : List Field) (bytes other : List ℕ) : Type 0 where
@@ -107,18 +108,14 @@ turned_twice fields bytes apart within =
 
 -- Zeros.
 
-zero_at : (bytes : List ℕ) (k : ℕ) → is_zero bytes ≡ true → byte_at bytes k ≡ 0
-zero_at [] k zeros = refl
-zero_at (b ∷ bytes) zero zeros = grind (arith, nat_tests)
-zero_at (b ∷ bytes) (suc k) zeros = zero_at bytes k (grind arith)
-
 zeros_by : (f : ℕ → ℕ) (places : List ℕ) → ((k : ℕ) → f k ≡ 0) → is_zero (map f places) ≡ true
 zeros_by f [] all = refl
 zeros_by f (k ∷ places) all = let here : f k ≡ 0 = all k in let rest : is_zero (map f places) ≡ true = zeros_by f places all in grind (arith, nat_tests)
 
 zeros_turned : (fields : List Field) (bytes : List ℕ) → is_zero bytes ≡ true → is_zero (turned_round fields bytes) ≡ true
 unfolding turned_round
-zeros_turned fields bytes zeros = zeros_by (λ k. byte_at bytes (mirror fields k)) (range_with_len 0 (length bytes)) (λ k. zero_at bytes (mirror fields k) zeros)
+zeros_turned fields bytes zeros =
+    zeros_by (λ k. byte_at bytes (mirror fields k)) (range_with_len 0 (length bytes)) (λ k. zero_byte bytes (mirror fields k) zeros)
 
 -- a page is zeros exactly where it is so turned round
 pub zero_same : (fields : List Field) (bytes : List ℕ) → AreApart fields → LieWithin fields (length bytes) → is_zero bytes ≡ false

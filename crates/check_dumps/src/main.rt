@@ -42,7 +42,7 @@ fn main(rt: HostRuntime) -> ExitCode {
 // The line and the reason of a fault.
 fn tell_fault<S: Sink>(alloc: Global, fault: TextFault, out: &mut S) -> Result<u8, AllocError> {
     let line = fault.line;
-    let reason = fault.reason;
+    let reason = fault.reason.code();
     let told = format!(in alloc; "line {line}: reason {reason}\n")?;
     Ok(status_of(put_all(out, told.as_bytes()).is_ok(), 8))
 }

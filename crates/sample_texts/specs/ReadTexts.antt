@@ -5,13 +5,14 @@ use Rattle.bdb_text_format.specs.declared.sections.Section.{Section}
 use Rattle.bdb_text_format.specs.Reasons.{text_fault}
 use Rattle.bdb_text_format.specs.Sections.{text_sections}
 use Rattle.sample_texts.specs.Texts.{lines}
+use Rattle.bdb_text_format.specs.declared.faults.TextReason.{TextReason}
 
 -- a text of these lines behind the first
 abbrev pub headed : List String → List ℕ
 headed all = lines ("VERSION=3" ∷ all)
 
 -- a text has this fault, and isn't read
-pub record IsFaulty (text : List ℕ) (line reason : ℕ) : Type 0 where
+pub record IsFaulty (text : List ℕ) (line : ℕ) (reason : TextReason) : Type 0 where
   pub fault : text_fault text ≡ Some (record { line = line; reason = reason })
   pub none : text_sections text ≡ None
 

@@ -1,5 +1,5 @@
 //! Laws that compute dump texts.
-#![tactic(auto, unfolding(crate::proofs::Computed::computed))]
+#![tactic(auto, unfolding(crate::proofs::Computed::texts))]
 
 pub mod read_texts;
 pub mod texts;

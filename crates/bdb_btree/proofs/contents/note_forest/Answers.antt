@@ -26,12 +26,12 @@ note_separators-requires-clause-order g c =
 -- The rows that were noted one after another are those of the contents.
 pub returns-clause-noted : goal.returns-clause-noted
 returns-clause-noted g c =
-    let rules : Rules = record { duplicates = c.has_bit.result; sorted = c.has_bit-2.result } in
-    all_noted c.args.forest.now rules c.args.meta.now c.has_bit-3.result (g.F.FaultSink.has_noted c.args.found.now)
+    let rules : Rules = record { duplicates = c.has_duplicates.result; sorted = c.is_sorted.result } in
+    all_noted c.args.forest.now rules c.args.meta.now c.counts_records.result (g.F.FaultSink.has_noted c.args.found.now)
     (g.F.FaultSink.has_noted c.note_pairs.new.found) (g.F.FaultSink.has_noted c.note_separators.new.found)
     (g.F.FaultSink.has_noted c.note_counted.new.found) c.requires.forest c.requires.root
-    (root_keyed c.args.forest.now c.args.meta.now c.requires.forest c.requires.meta c.requires.keyed) c.requires.keyed c.has_bit.ensures
-    c.has_bit-2.ensures c.has_bit-3.ensures
+    (root_keyed c.args.forest.now c.args.meta.now c.requires.forest c.requires.meta c.requires.keyed) c.requires.keyed c.has_duplicates.ensures
+    c.is_sorted.ensures c.counts_records.ensures
     (subst (λ (image : List ℕ). Notes (g.F.FaultSink.has_noted c.args.found.now) (g.F.FaultSink.has_noted c.note_pairs.new.found)
     (pairs_faults (file_of image) rules no_pairs_passed (tree_pairs (file_of image) c.args.meta.now.root))) c.requires.known
     c.in_ok-ordered.ensures.noted)

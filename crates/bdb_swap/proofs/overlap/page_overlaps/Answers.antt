@@ -1,9 +1,10 @@
 use Rattle.std.proofs.Common.{◌≡◌, ◌∙◌, ap, sym, true, false}
 use Rattle.bdb_format.specs.Reading.{is_zero}
 use Rattle.bdb_turned.specs.Overlaps.{overlaps}
-use Rattle.bdb_turned.proofs.PageLemmas.{abstract_as, body_passed}
+use Rattle.bdb_turned.proofs.PageLemmas.{body_passed}
 use Rattle.bdb_swap.proofs.ImageLemmas.{no_overlap_on_zeros}
 use Rattle.bdb_swap.proofs.overlap.page_overlaps.Goals as goal
+use Rattle.bdb_format.proofs.GraphLemmas.{typed_page}
 
 pub returns-then-is_zero-clause-found : goal.returns-then-is_zero-clause-found
 returns-then-is_zero-clause-found c =
@@ -18,4 +19,4 @@ typed_overlaps-requires-clause-code c =
 pub returns-clause-found : goal.returns-clause-found
 returns-clause-found c =
     let some : is_zero c.args.page.now ≡ false = sym c.is_zero.ensures ∙ c.if-is_zero.false in
-    c.typed_overlaps.ensures.found ∙ ap overlaps (sym (abstract_as c.args.head.now.order c.args.page.now some))
+    c.typed_overlaps.ensures.found ∙ ap overlaps (sym (typed_page c.args.head.now.order c.args.page.now some))

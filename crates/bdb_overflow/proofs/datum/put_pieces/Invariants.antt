@@ -1,6 +1,6 @@
 use Rattle.std.proofs.Common.{◌≡◌, ◌++◌}
 use Rattle.bdb_format.specs.Chains.{joined}
-use Rattle.bdb_repair.proofs.parts.put_pieces.Given as goal
+use Rattle.bdb_overflow.proofs.datum.put_pieces.Given as goal
 
 -- What is in the room, and what is left, is all.
 abbrev pub invariant-loop-piece : goal.invariant-loop-piece
