@@ -1,10 +1,10 @@
-ghost use Rattle.std.specs.Prelude.{◌≡◌, ◌≤◌, None, IfOk, IsTrue, length};
+ghost use Rattle.std.specs.Prelude.{◌≡◌, ◌≤◌, None, IfOk, IsTrue, false, length};
 ghost use Rattle.bdb_form.specs.Formed.{unless};
 ghost use Rattle.bdb_form.specs.Seen.{form_seen, header_seen, page_seen};
 ghost use Rattle.bdb_format.specs.HeadOf.{is_page_size};
-ghost use Rattle.bdb_format.specs.Numbers.{byte_at};
+ghost use Rattle.bdb_format.specs.Numbers.{byte_at, four_at};
 ghost use Rattle.bdb_format.specs.Page.{OverflowPage};
-ghost use Rattle.bdb_format.specs.Reading.{abstract_page, header_of, page_as, page_type};
+ghost use Rattle.bdb_format.specs.Reading.{abstract_page, header_of, is_zero, page_as, page_type};
 ghost use Rattle.bdb_format.specs.Rows.{body_code, identity_rows, is_queue_type, is_tree_type, page_code, queue_code};
 ghost use Rattle.bdb_format.specs.Table.{first_row};
 
@@ -73,33 +73,46 @@ pub fn queue_code(page: &[u8], number: u32, order: Order) -> Option<u8>
 
 /// The view of a page above 0 of a btree or hash file for which no row of form is known to hold, without
 /// another look at its items.
-#[tactic(auto, using(crate::proofs::FormedLemmas::tree_type, crate::proofs::FormedLemmas::tree_body, bdb_format::proofs::PageLemmas::zero_header), unfolding(bdb_format::specs::Reading::abstract_page))]
+#[tactic(auto, using(crate::proofs::FormedLemmas::tree_number, crate::proofs::FormedLemmas::tree_type, crate::proofs::FormedLemmas::tree_body, bdb_format::proofs::PageLemmas::zero_header), unfolding(bdb_format::specs::Reading::abstract_page))]
 pub fn known_form(page: &[u8], number: u32, order: Order) -> PageView<'_>
     requires size { IsTrue (is_page_size (length page.now)) }
     requires form { page_code order number page.now ≡ None }
     ensures page { page_seen result ≡ abstract_page order page.now }
     ensures header { header_seen result ≡ header_of order page.now }
 {
-    let _ = number;
-    if is_zero(page) {
+    if is_zero_at(page, number, order) {
         return PageView::Zero(ZeroView);
     }
     known_type(page, order)
 }
 
 /// The view of a page above 0 of a queue file for which no row of form is known to hold.
-#[tactic(auto, using(crate::proofs::FormedLemmas::queue_page, bdb_format::proofs::PageLemmas::zero_header), unfolding(bdb_format::specs::Reading::abstract_page))]
+#[tactic(auto, using(crate::proofs::FormedLemmas::queue_number, crate::proofs::FormedLemmas::queue_page, bdb_format::proofs::PageLemmas::zero_header), unfolding(bdb_format::specs::Reading::abstract_page))]
 pub fn known_queue_form(page: &[u8], number: u32, order: Order) -> PageView<'_>
     requires size { IsTrue (is_page_size (length page.now)) }
     requires form { queue_code order number page.now ≡ None }
     ensures page { page_seen result ≡ abstract_page order page.now }
     ensures header { header_seen result ≡ header_of order page.now }
 {
-    let _ = number;
-    if is_zero(page) {
+    if is_zero_at(page, number, order) {
         return PageView::Zero(ZeroView);
     }
     PageView::Queue(QueueView::over(page, order))
+}
+
+/// Whether a page for which no row of form holds is a zero page. Any other tells its own number, so that page 0 alone is
+/// looked through.
+#[tactic(auto, using(crate::proofs::FormedLemmas::zero_by_number))]
+pub fn is_zero_at(page: &[u8], number: u32, order: Order) -> bool
+    requires header { 26 ≤ length page.now }
+    requires told { is_zero page.now ≡ false → four_at order page.now 8 ≡ number }
+    ensures { result ≡ is_zero page.now }
+{
+    if number == 0 {
+        is_zero(page)
+    } else {
+        u32_at(page, 8, order) != number
+    }
 }
 
 // The code of the first row that holds of those on the number and the type of a page.
