@@ -1,6 +1,6 @@
 -- What it means for a page with an index that no row of form holds for it.
 use Rattle.std.proofs.Common.{[], ◌∷◌, ◌≡◌, ℕ, ◌%◌, ◌<◌, ◌≤◌, List, length, drop, ◌+◌, arith, refl, sym, ◌∙◌, ap, ltb-false, nat_eq, eq-eqb, eqb-true, ◌*◌, ◌-◌}
-use Rattle.std.proofs.Common.{le-leb}
+use Rattle.std.proofs.Common.{le-leb, ne_eqb}
 use Rattle.std.specs.Prelude.{cond, nat_le, slice_index, not, ◌==◌, IsTrue, Bool, true, false, Option, Some, None, slice_get}
 use Rattle.bdb_format.specs.declared.kinds.Order.{Order}
 use Rattle.bdb_format.specs.declared.kinds.Order.TheVariants.{Big}
@@ -87,6 +87,43 @@ typed order number page is_type rest none other = of (is_zero page) (not (four_a
     of false false false same none other = absurd cc
     of false false true same none other = record { typed = same; body = none }
 
+-- a page that isn't a zero page tells its own number
+pub numbered : (empty : Bool) (order : Order) (number : ℕ) (page : List ℕ) (is_type : ℕ → Bool) (rest : PageType → Option ℕ)
+    → code_of empty order number page is_type rest ≡ None → empty ≡ false → four_at order page 8 ≡ number
+numbered empty order number page is_type rest none other =
+    eqb-true (four_at order page 8) number (of empty (four_at order page 8 == number) (not (is_type (byte_at page 25))) none other)
+  where
+    of : (zeros same b : Bool)
+        → elim zeros as (λ _. Option ℕ) [
+          | true ↦ None
+          | false ↦ elim (first_row {Code = ℕ} (1 :? not same ∷ 2 :? b ∷ [])) as (λ _. Option ℕ) [
+            | Some code ↦ Some code
+            | None ↦ rest (page_type (byte_at page 25))
+          ]
+        ] ≡ None → zeros ≡ false → same ≡ true
+    of true same b none other = absurd cc
+    of false true b none other = refl
+    of false false b none other = absurd cc
+
+pub tree_number : (order : Order) (number : ℕ) (page : List ℕ) → page_code order number page ≡ None → is_zero page ≡ false → four_at order page 8 ≡ number
+unfolding page_code
+tree_number order number page none = numbered (is_zero page) order number page is_tree_type (body_code order page) none
+
+pub queue_number : (order : Order) (number : ℕ) (page : List ℕ) → queue_code order number page ≡ None → is_zero page ≡ false → four_at order page 8 ≡ number
+unfolding queue_code
+queue_number order number page none = numbered (is_zero page) order number page is_queue_type (λ t. None) none
+
+-- above page 0 a zero page is one that doesn't tell its own number
+pub zero_by_number : (order : Order) (number : ℕ) (page : List ℕ) → 26 ≤ length page → (is_zero page ≡ false → four_at order page 8 ≡ number)
+    → (number ≡ 0 → ⊥) → not (four_at order page 8 == number) ≡ is_zero page
+zero_by_number order number page long told above =
+    elim (is_zero page) as (λ b. is_zero page ≡ b → not (four_at order page 8 == number) ≡ b) [
+      | true ↦ λ zeros.
+          let none : four_at order page 8 ≡ 0 = sym (ap (λ (header : Header). header.number) (zero_header order page long zeros)) in
+          ap not (ne_eqb (four_at order page 8) number (λ same. above (sym same ∙ none)))
+      | false ↦ λ some. ap not (eq-eqb (four_at order page 8) number (told some))
+    ] refl
+
 pub tree_type : (order : Order) (number : ℕ) (page : List ℕ) → page_code order number page ≡ None → is_zero page ≡ false
     → IsTrue (is_tree_type (byte_at page 25))
 unfolding page_code
@@ -119,10 +156,10 @@ pub queue_page : (order : Order) (number : ℕ) (page : List ℕ) → queue_code
 queue_page order number page none other = ap (λ b. page_as order page (page_type b)) (sym (queue_type order number page none other))
 
 -- what the form of a page of a tree or table is
-pub ruleset tree_page_form = (tree_type, tree_body, zero_header)
+pub ruleset tree_page_form = (tree_number, tree_type, tree_body, zero_header)
 
 -- what the form of a page of a queue is
-pub ruleset queue_page_form = (queue_page, zero_header)
+pub ruleset queue_page_form = (queue_number, queue_page, zero_header)
 
 -- what a view over an index needs
 pub ruleset indexed_over = (header_listed, length_items, index_offset, listed_room)

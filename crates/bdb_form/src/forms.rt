@@ -1,10 +1,10 @@
-ghost use Rattle.std.specs.Prelude.{◌≡◌, ◌≤◌, None, IfOk, IsTrue, length};
+ghost use Rattle.std.specs.Prelude.{◌≡◌, ◌≤◌, None, IfOk, IsTrue, false, length};
 ghost use Rattle.bdb_form.specs.Formed.{unless};
 ghost use Rattle.bdb_form.specs.Seen.{form_seen, header_seen, page_seen};
 ghost use Rattle.bdb_format.specs.HeadOf.{is_page_size};
-ghost use Rattle.bdb_format.specs.Numbers.{byte_at};
+ghost use Rattle.bdb_format.specs.Numbers.{byte_at, four_at};
 ghost use Rattle.bdb_format.specs.Page.{OverflowPage};
-ghost use Rattle.bdb_format.specs.Reading.{abstract_page, header_of, page_as, page_type};
+ghost use Rattle.bdb_format.specs.Reading.{abstract_page, header_of, is_zero, page_as, page_type};
 ghost use Rattle.bdb_format.specs.Rows.{body_code, identity_rows, is_queue_type, is_tree_type, page_code, queue_code};
 ghost use Rattle.bdb_format.specs.Table.{first_row};
 
@@ -80,8 +80,7 @@ pub fn known_form(page: &[u8], number: u32, order: Order) -> PageView<'_>
     ensures page { page_seen result ≡ abstract_page order page.now }
     ensures header { header_seen result ≡ header_of order page.now }
 {
-    let _ = number;
-    if is_zero(page) {
+    if is_zero_at(page, number, order) {
         return PageView::Zero(ZeroView);
     }
     known_type(page, order)
@@ -95,11 +94,25 @@ pub fn known_queue_form(page: &[u8], number: u32, order: Order) -> PageView<'_>
     ensures page { page_seen result ≡ abstract_page order page.now }
     ensures header { header_seen result ≡ header_of order page.now }
 {
-    let _ = number;
-    if is_zero(page) {
+    if is_zero_at(page, number, order) {
         return PageView::Zero(ZeroView);
     }
     PageView::Queue(QueueView::over(page, order))
+}
+
+/// Whether a page for which no row of form holds is a zero page. Any other tells its own number, so that page 0 alone is
+/// looked through.
+#[tactic(auto, using(crate::proofs::FormedLemmas::zero_by_number))]
+pub fn is_zero_at(page: &[u8], number: u32, order: Order) -> bool
+    requires header { 26 ≤ length page.now }
+    requires told { is_zero page.now ≡ false → four_at order page.now 8 ≡ number }
+    ensures { result ≡ is_zero page.now }
+{
+    if number == 0 {
+        is_zero(page)
+    } else {
+        u32_at(page, 8, order) != number
+    }
 }
 
 // The code of the first row that holds of those on the number and the type of a page.

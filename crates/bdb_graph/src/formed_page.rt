@@ -1,13 +1,13 @@
 ghost use Rattle.std.specs.Prelude.{◌≡◌, ◌≤◌, ◌==◌, ◌∷◌, [], length};
 ghost use Rattle.std.specs.List.{list_any};
-ghost use Rattle.bdb_graph.specs.Fits.{is_headed};
+ghost use Rattle.bdb_graph.specs.Fits.{IsLooked, is_headed};
 ghost use Rattle.bdb_format.specs.Chains.{piece_in};
 ghost use Rattle.bdb_format.specs.File.{file_of, header_in, page_at, type_in};
 ghost use Rattle.bdb_format.specs.Graph.{is_hash_meta, is_meta, is_spare};
 ghost use Rattle.bdb_format.specs.References.{child_types, has_type, is_zero_page, root_types};
 
 use crate::Formed;
-use bdb_form::is_zero;
+use bdb_form::is_zero_at;
 use bdb_format::Order;
 use bdb_layout::{header, u16_at, u32_at};
 use std::marker::Model;
@@ -17,29 +17,34 @@ use std::marker::Model;
 pub(crate) struct FormedPage<'a> {
     bytes: &'a [u8],
     order: Order,
+    // Whether all its bytes are 0, which its number tells.
+    is_zero: bool,
 }
 
 impl<'a> Model for FormedPage<'a> {
-    ghost use Rattle.std.specs.Prelude.{◌≤◌, length};
     ghost use Rattle.bdb_format.specs.Page.{Page};
     ghost use Rattle.bdb_format.specs.Reading.{abstract_page};
+    ghost use Rattle.bdb_graph.specs.Fits.{IsLooked};
 
     ghost Value = { Page };
 
     ghost view = { λ v. abstract_page v.order v.bytes.now };
 
-    ghost invariant = { λ v. 512 ≤ length v.bytes.now };
+    ghost invariant = { λ v. IsLooked v.bytes.now v.is_zero };
 }
 
 /// A page up to the last one.
-#[tactic(auto, using(bdb_format::proofs::FileLemmas::page_is, bdb_format::proofs::SizeLemmas::long_page, bdb_format::proofs::FileLemmas::last_page))]
+#[tactic(auto, using(bdb_format::proofs::FileLemmas::page_is, bdb_format::proofs::SizeLemmas::long_page, bdb_format::proofs::FileLemmas::last_page, crate::proofs::FormedLemmas::tells_number))]
 pub(crate) fn page_at<'a>(formed: &Formed<'a>, number: u32) -> FormedPage<'a>
     requires { number ≤ (file_of formed.now).last }
     ensures { result ≡ page_at (file_of formed.now) number }
 {
+    let bytes = formed.page_bytes(number);
+    let order = formed.head().order;
     FormedPage {
-        bytes: formed.page_bytes(number),
-        order: formed.head().order,
+        bytes,
+        order,
+        is_zero: is_zero_at(bytes, number, order),
     }
 }
 
@@ -51,11 +56,11 @@ pub(crate) fn is_one_of(types: &[u8], byte: u8) -> bool
 }
 
 /// Whether a page begins with the fields of a header: it isn't a zero page, metadata or a page of a queue.
-fn is_headed(page: &[u8]) -> bool
-    requires { 26 ≤ length page.now }
+fn is_headed(page: &[u8], empty: bool) -> bool
+    requires looked { IsLooked page.now empty }
     ensures { result ≡ is_headed page.now }
 {
-    !is_zero(page) && matches!(page[25], 0 | 2..=7 | 12 | 13)
+    !empty && matches!(page[25], 0 | 2..=7 | 12 | 13)
 }
 
 impl<'a> FormedPage<'a> {
@@ -64,7 +69,7 @@ impl<'a> FormedPage<'a> {
     pub(crate) fn is_zero(&self) -> bool
         ensures { result ≡ is_zero_page self.now }
     {
-        is_zero(self.bytes)
+        self.is_zero
     }
 
     /// Its type; a zero page has none.
@@ -73,7 +78,7 @@ impl<'a> FormedPage<'a> {
         ensures { result ≡ type_in self.now }
     {
         let byte = self.bytes[25];
-        if is_zero(self.bytes) || !is_one_of(&[0, 2, 3, 4, 5, 6, 7, 8, 9, 10, 11, 12, 13], byte) {
+        if self.is_zero || !is_one_of(&[0, 2, 3, 4, 5, 6, 7, 8, 9, 10, 11, 12, 13], byte) {
             return None;
         }
         Some(byte)
@@ -84,7 +89,7 @@ impl<'a> FormedPage<'a> {
     pub(crate) fn previous(&self) -> u32
         ensures { result ≡ (header_in self.now).previous }
     {
-        if is_headed(self.bytes) {
+        if is_headed(self.bytes, self.is_zero) {
             u32_at(self.bytes, 12, self.order)
         } else {
             0
@@ -96,7 +101,7 @@ impl<'a> FormedPage<'a> {
     pub(crate) fn next(&self) -> u32
         ensures { result ≡ (header_in self.now).next }
     {
-        if is_headed(self.bytes) {
+        if is_headed(self.bytes, self.is_zero) {
             u32_at(self.bytes, 16, self.order)
         } else {
             0
@@ -108,7 +113,7 @@ impl<'a> FormedPage<'a> {
     pub(crate) fn entries(&self) -> u16
         ensures { result ≡ (header_in self.now).entries }
     {
-        if is_headed(self.bytes) {
+        if is_headed(self.bytes, self.is_zero) {
             u16_at(self.bytes, 20, self.order)
         } else {
             0
@@ -120,7 +125,7 @@ impl<'a> FormedPage<'a> {
     pub(crate) fn level(&self) -> u8
         ensures { result ≡ (header_in self.now).level }
     {
-        if is_headed(self.bytes) {
+        if is_headed(self.bytes, self.is_zero) {
             self.bytes[24]
         } else {
             0
@@ -140,7 +145,7 @@ impl<'a> FormedPage<'a> {
     pub(crate) fn piece_len(&self) -> u32
         ensures { result ≡ length (piece_in self.now) }
     {
-        if is_zero(self.bytes) || self.bytes[25] != 7 {
+        if self.is_zero || self.bytes[25] != 7 {
             return 0;
         }
         let told = usize::from(u16_at(self.bytes, 22, self.order));
@@ -152,7 +157,7 @@ impl<'a> FormedPage<'a> {
     pub(crate) fn root_types(&self) -> &'static [u8]
         ensures { result.now ≡ root_types self.now }
     {
-        if is_zero(self.bytes) {
+        if self.is_zero {
             return &[];
         }
         match self.bytes[25] {
@@ -167,7 +172,7 @@ impl<'a> FormedPage<'a> {
     pub(crate) fn child_types(&self) -> &'static [u8]
         ensures { result.now ≡ child_types self.now }
     {
-        if is_zero(self.bytes) {
+        if self.is_zero {
             return &[];
         }
         let is_lowest = self.bytes[24] == 2;
@@ -205,7 +210,7 @@ impl<'a> FormedPage<'a> {
     pub(crate) fn is_spare(&self) -> bool
         ensures { result ≡ is_spare self.now }
     {
-        if is_zero(self.bytes) {
+        if self.is_zero {
             return true;
         }
         let header = header(self.bytes, self.order);

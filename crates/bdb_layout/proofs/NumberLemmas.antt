@@ -40,13 +40,25 @@ big_from-is i (suc n) xs h =
 pub to_end : (at : ℕ) (xs : List ℕ) → take (length xs - at) (drop at xs) ≡ drop at xs
 to_end at xs = take_all (length xs - at) (drop at xs) (omega (arith, length-drop at xs))
 
-pub little_at : (n at : ℕ) (xs : List ℕ) → at + n ≤ length xs → little_number n (take (length xs - at) (drop at xs)) ≡ number_at n Little xs at
-unfolding number_at
-little_at n at xs h = rw (to_end at xs) (little_from-is 0 n (drop at xs) (omega (arith, length-drop at xs)))
+-- so many bytes from a place on
+bytes_at : (n at : ℕ) (xs : List ℕ) → take (at + n - at) (drop at xs) ≡ take n (drop at xs)
+bytes_at n at xs = ap (λ m. take m (drop at xs)) (omega arith)
 
-pub big_at : (n at : ℕ) (xs : List ℕ) → at + n ≤ length xs → big_number n (take (length xs - at) (drop at xs)) ≡ number_at n Big xs at
+all_there : (n at : ℕ) (xs : List ℕ) → at + n ≤ length xs → length (take n (drop at xs)) ≡ n
+all_there n at xs h = omega (arith, length-take n (drop at xs), length-drop at xs)
+
+pub little_at : (n at : ℕ) (xs : List ℕ) → at + n ≤ length xs → little_number n (take (at + n - at) (drop at xs)) ≡ number_at n Little xs at
 unfolding number_at
-big_at n at xs h = rw (to_end at xs) (big_from-is 0 n (drop at xs) (omega (arith, length-drop at xs)))
+little_at n at xs h =
+    let ys : List ℕ = take n (drop at xs) in
+    rw (bytes_at n at xs) (little_from-is 0 n ys (omega (arith, all_there n at xs h)) ∙ ap from_low_end (take_all n ys (omega (arith, all_there n at xs h))))
+
+pub big_at : (n at : ℕ) (xs : List ℕ) → at + n ≤ length xs → big_number n (take (at + n - at) (drop at xs)) ≡ number_at n Big xs at
+unfolding number_at
+big_at n at xs h =
+    let ys : List ℕ = take n (drop at xs) in
+    rw (bytes_at n at xs) (big_from-is 0 n ys (omega (arith, all_there n at xs h))
+    ∙ ap (λ (zs : List ℕ). from_low_end (reverse zs)) (take_all n ys (omega (arith, all_there n at xs h))))
 
 -- a piece that fills the part of a slice that it is written to
 pub put_piece : (at n : ℕ) (xs ys piece : List ℕ) → length piece ≡ n → ys ≡ piece ++ drop n (take (at + n - at) (drop at xs)) → put_mid at (at + n - at) xs ys

@@ -10,8 +10,8 @@ pub fn u16_at(bytes: &[u8], at: usize, order: Order) -> u16
     ensures { result ≡ two_at order bytes.now at }
 {
     match order {
-        Order::Big => BigEndian::read_u16(&bytes[at..]),
-        Order::Little => LittleEndian::read_u16(&bytes[at..]),
+        Order::Big => BigEndian::read_u16(&bytes[at..at + 2]),
+        Order::Little => LittleEndian::read_u16(&bytes[at..at + 2]),
     }
 }
 
@@ -21,8 +21,8 @@ pub fn u32_at(bytes: &[u8], at: usize, order: Order) -> u32
     ensures { result ≡ four_at order bytes.now at }
 {
     match order {
-        Order::Big => BigEndian::read_u32(&bytes[at..]),
-        Order::Little => LittleEndian::read_u32(&bytes[at..]),
+        Order::Big => BigEndian::read_u32(&bytes[at..at + 4]),
+        Order::Little => LittleEndian::read_u32(&bytes[at..at + 4]),
     }
 }
 

@@ -10,10 +10,10 @@ pub returns-in-9 : goal.returns-in-9
 returns-in-9 c =
     ap (λ b. cond (not b) (4 ∷ 6 ∷ []) (3 ∷ 5 ∷ [])) (sym (ne_eqb (bit_and c.u32_at.result 2) 0 c.if-u32_at-ne0.true))
     ∙ (ap (λ flags. cond (has_bit flags 2) (4 ∷ 6 ∷ []) (3 ∷ 5 ∷ [])) c.u32_at.ensures
-    ∙ (tree_root c.self.inside.order c.self.inside.bytes.now (sym c.is_zero.ensures ∙ c.if-is_zero.false) c.in-9.is ∙ ap root_types c.self.view_is))
+    ∙ (tree_root c.self.inside.order c.self.inside.bytes.now (sym c.self.invariant.empty_is ∙ c.if-self.false) c.in-9.is ∙ ap root_types c.self.view_is))
 
 pub returns-in-9-2 : goal.returns-in-9-2
 returns-in-9-2 c =
     ap (λ n. cond (not (n == 0)) (4 ∷ 6 ∷ []) (3 ∷ 5 ∷ [])) (sym c.if-u32_at-ne0.false)
     ∙ (ap (λ flags. cond (has_bit flags 2) (4 ∷ 6 ∷ []) (3 ∷ 5 ∷ [])) c.u32_at.ensures
-    ∙ (tree_root c.self.inside.order c.self.inside.bytes.now (sym c.is_zero.ensures ∙ c.if-is_zero.false) c.in-9.is ∙ ap root_types c.self.view_is))
+    ∙ (tree_root c.self.inside.order c.self.inside.bytes.now (sym c.self.invariant.empty_is ∙ c.if-self.false) c.in-9.is ∙ ap root_types c.self.view_is))
