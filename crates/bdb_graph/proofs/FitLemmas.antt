@@ -20,8 +20,10 @@ use Rattle.bdb_format.specs.Verdict.{first_fault}
 use Rattle.bdb_graph.specs.Fits.{is_headed, page_rows}
 use Rattle.bdb_format.proofs.GraphLemmas.{zero_page, typed_page}
 use Rattle.bdb_format.proofs.PageLemmas.{zero_header as zero_fields}
+use Rattle.bdb_format.proofs.SizeLemmas.{long_page}
 use Rattle.bdb_format.proofs.TypeLemmas.{if_type}
-use Rattle.bdb_format.proofs.FileLemmas.{last_page}
+use Rattle.bdb_graph.proofs.FormedLemmas.{tells_number}
+use Rattle.bdb_format.proofs.FileLemmas.{last_page, page_is}
 
 -- Bytes as a page.
 
@@ -330,3 +332,6 @@ pub ruleset pages_named = (names_zero, names_above, last_page)
 
 -- which types the children of a page have
 pub ruleset types_of_children = (zero_child, no_child, internal_child, recno_child)
+
+-- what a page of a formed image is
+pub ruleset looked_pages = (page_is, long_page, last_page, tells_number)

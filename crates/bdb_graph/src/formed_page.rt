@@ -34,7 +34,7 @@ impl<'a> Model for FormedPage<'a> {
 }
 
 /// A page up to the last one.
-#[tactic(auto, using(bdb_format::proofs::FileLemmas::page_is, bdb_format::proofs::SizeLemmas::long_page, bdb_format::proofs::FileLemmas::last_page, crate::proofs::FormedLemmas::tells_number))]
+#[tactic(auto, using(crate::proofs::FitLemmas::looked_pages))]
 pub(crate) fn page_at<'a>(formed: &Formed<'a>, number: u32) -> FormedPage<'a>
     requires { number ≤ (file_of formed.now).last }
     ensures { result ≡ page_at (file_of formed.now) number }
