@@ -22,7 +22,9 @@ mod zero;
 mod zeros;
 
 pub use dup_leaf::{DupLeafKind, DupLeafView};
-pub use forms::{form, is_zero_at, known_form, known_queue_form, page_code, queue_code, queue_form};
+pub use forms::{
+    form, is_zero_at, known_form, known_queue_form, page_code, queue_code, queue_form,
+};
 pub use free::FreeView;
 pub use hash::{HashKind, HashView};
 pub use indexed::{IndexedView, ItemKind, PageKind};

@@ -65,11 +65,11 @@ pub fn header_ends()
     ensures missing { IsFaulty (headed ("type=btree" ∷ "HEADER=END" ∷ "DATA=END" ∷ "VERSION=3" ∷ "database=a" ∷ "type=btree"
         ∷ "HEADER=END" ∷ [])) 8 NameMissing }
     ensures missing_second { IsFaulty (headed ("database=a" ∷ "type=btree" ∷ "HEADER=END" ∷ "DATA=END" ∷ "VERSION=3" ∷ "type=btree" ∷ "HEADER=END" ∷ "DATA=END"
-        ∷ [])) 8 14 }
+        ∷ [])) 8 NameMissing }
     ensures missing_before_twice { IsFaulty (headed ("type=btree" ∷ "HEADER=END" ∷ "DATA=END" ∷ "VERSION=3" ∷ "type=btree" ∷ "HEADER=END" ∷ "DATA=END" ∷ [])) 7
-        14 }
+        NameMissing }
     ensures twice { IsFaulty (headed ("database=a" ∷ "type=btree" ∷ "HEADER=END" ∷ "DATA=END" ∷ "VERSION=3" ∷ "database=\\61" ∷ "type=btree" ∷ "HEADER=END"
-        ∷ "DATA=END" ∷ [])) 9 15 }
+        ∷ "DATA=END" ∷ [])) 9 NameTwice }
 {}
 
 /// Data lines, and the end of the text.
