@@ -5,7 +5,7 @@ ghost use Rattle.bdb_text_format.specs.declared.pairs.Key.TheVariants.{Bytes, Nu
 ghost use Rattle.bdb_text_format.specs.declared.faults.TextReason.TheVariants.{NoVersion, Version, UnknownKeyword, BadValue, RepeatedKeyword, NoType};
 ghost use Rattle.bdb_text_format.specs.declared.faults.TextReason.TheVariants.{Unsupported};
 ghost use Rattle.bdb_text_format.specs.declared.faults.TextReason.TheVariants.{NoSpace, BadDigit, BadEscape, KeyWithoutData, BadNumber, NoEnd, NameMissing};
-ghost use Rattle.bdb_text_format.specs.declared.faults.TextReason.TheVariants.{Conflict};
+ghost use Rattle.bdb_text_format.specs.declared.faults.TextReason.TheVariants.{Conflict, NameTwice};
 ghost use Rattle.sample_texts.specs.ReadTexts.{IsFaulty, IsRead, headed};
 ghost use Rattle.sample_texts.specs.Texts.{lines};
 ghost use Rattle.std.specs.Prelude.{◌≡◌, ◌++◌, [], ◌∷◌, codes, false, true, None, Some};
