@@ -1,5 +1,6 @@
-ghost use Rattle.std.specs.Prelude.{◌≡◌, ◌^◌, ◌<◌, ◌≤◌, IsTrue, length, None};
+ghost use Rattle.std.specs.Prelude.{◌≡◌, ◌^◌, ◌<◌, ◌≤◌, IsTrue, length, None, true};
 ghost use Rattle.bdb_graph.specs.Formed.{IsAccepted, IsFormed};
+ghost use Rattle.bdb_graph.specs.Plain.{ArePlain};
 ghost use Rattle.bdb_format.specs.File.{page_bytes};
 ghost use Rattle.bdb_format.specs.HeadOf.{head_of, is_page_size};
 ghost use Rattle.bdb_format.specs.Rows.{form_code};
@@ -13,27 +14,31 @@ use std::marker::Model;
 pub struct Formed<'a> {
     image: &'a [u8],
     head: Head,
+    // No item names another page, as far as that was asked.
+    plain: bool,
 }
 
 impl<'a> Model for Formed<'a> {
-    ghost use Rattle.std.specs.Prelude.{List, ℕ};
+    ghost use Rattle.std.specs.Prelude.{◌≡◌, List, ℕ, true};
     ghost use Rattle.bdb_graph.specs.Formed.{IsFormed};
+    ghost use Rattle.bdb_graph.specs.Plain.{ArePlain};
 
     ghost Value = { List ℕ };
 
     ghost view = { λ v. v.image.now };
 
-    ghost invariant = { λ v. IsFormed v.image.now v.head };
+    ghost invariant = { λ v. IsFormed v.image.now v.head × (v.plain ≡ true → ArePlain v.head v.image.now) };
 }
 
 #[tactic(auto, using(crate::proofs::FirstLemmas::formed_pages))]
 impl<'a> Formed<'a> {
     // An image for which the two stages are decided.
-    pub(crate) fn over(image: &'a [u8], head: Head) -> Formed<'a>
-        requires { IsFormed image.now head }
+    pub(crate) fn over(image: &'a [u8], head: Head, plain: bool) -> Formed<'a>
+        requires formed { IsFormed image.now head }
+        requires plain { plain ≡ true → ArePlain head image.now }
         ensures { result ≡ image.now }
     {
-        Formed { image, head }
+        Formed { image, head, plain }
     }
 
     // Another handle to the same image.
@@ -44,6 +49,7 @@ impl<'a> Formed<'a> {
         Formed {
             image: self.image,
             head: self.head,
+            plain: self.plain,
         }
     }
 
@@ -54,6 +60,13 @@ impl<'a> Formed<'a> {
         ensures formed { IsFormed self.now result }
     {
         self.head
+    }
+
+    // Whether no item names another page; where it isn't known, it says no.
+    pub(crate) fn is_plain(&self) -> bool
+        ensures { result ≡ true → ArePlain (head_of self.now) self.now }
+    {
+        self.plain
     }
 
     // The bytes of the file.

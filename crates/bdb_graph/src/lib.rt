@@ -22,6 +22,7 @@ mod names;
 mod open;
 mod owned;
 mod page;
+mod plain;
 mod reach;
 mod roles;
 mod source;

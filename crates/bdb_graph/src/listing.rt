@@ -2,6 +2,7 @@ ghost use Rattle.std.specs.Prelude.{◌≡◌, ◌^◌, ◌<◌, ℕ, []};
 ghost use Rattle.std.specs.Iterator.{YieldsFirst, item_count};
 ghost use Rattle.bdb_form.specs.Seen.{page_seen};
 ghost use Rattle.bdb_graph.specs.Buckets.{IsApart};
+ghost use Rattle.bdb_graph.specs.Plain.{IsPlain};
 ghost use Rattle.bdb_graph.specs.Slots.{HasRoom, IsNoMetadata, names_from, placed};
 ghost use Rattle.bdb_format.specs.Page.{BtreeFields, HashFields, Meta};
 ghost use Rattle.bdb_format.specs.References.{first_free, targets_in, unless_zero};
@@ -48,6 +49,15 @@ impl<'a> References<'a> {
         ensures { (p : ℕ) → result ≡ placed 0 (targets_in p (page_seen view.entry)) }
     {
         References::over(Source::of_view(view))
+    }
+
+    /// The same of a page whose items name none: they aren't gone over.
+    pub(crate) fn of_plain(view: PageView<'a>) -> References<'a>
+        requires other { IsNoMetadata view }
+        requires plain { IsPlain (page_seen view) }
+        ensures { (p : ℕ) → result ≡ placed 0 (targets_in p (page_seen view.entry)) }
+    {
+        References::over(Source::of_plain(view))
     }
 
     /// The references of btree metadata on page `p`: the first free page, which page 0 alone names, and the root.

@@ -21,7 +21,7 @@ pub(crate) fn unless_zero(sort: Sort, target: u32) -> Option<Name>
 }
 
 /// The page that an item names by what it holds.
-fn content_name(content: &Content) -> Option<Name>
+pub(crate) fn content_name(content: &Content) -> Option<Name>
     ensures { option_to_list result ≡ content_targets (content_seen content.now) }
 {
     match content {

@@ -1,9 +1,10 @@
-ghost use Rattle.std.specs.Prelude.{◌≡◌, ◌≤◌, ◌^◌, [], ◌∷◌, ◌<◌, IfErr, IfOk, IsTrue, OnErr, OnOk, length, option_map, option_to_list};
+ghost use Rattle.std.specs.Prelude.{◌≡◌, ◌≤◌, ◌^◌, [], ◌∷◌, ◌<◌, IfErr, IfOk, IsTrue, OnErr, OnOk, length, option_map, option_to_list, true};
 ghost use Rattle.std.specs.Result.{result_err};
 ghost use Rattle.bdb_faults.specs.All.{IsAllOf};
 ghost use Rattle.bdb_faults.specs.Notes.{NotesAll};
 ghost use Rattle.bdb_graph.specs.Formed.{IsAccepted, IsRead};
 ghost use Rattle.bdb_graph.specs.Noted.{page_faults};
+ghost use Rattle.bdb_graph.specs.Plain.{ArePlain, IsPlainIn};
 ghost use Rattle.bdb_format.specs.HeadOf.{is_page_size};
 ghost use Rattle.bdb_format.specs.Rows.{form_code};
 ghost use Rattle.bdb_format.specs.Verdict.{as_verdict, faults_in, form_faults, tail_faults, verdict_in};
@@ -12,6 +13,7 @@ use crate::Formed;
 use crate::cases::verdict_on;
 use crate::formed::page_bytes;
 use crate::page::page_fault;
+use crate::plain::is_plain;
 use bdb_faults::{
     AllError, FaultSink, FileRow, First, NamedList, Row, fault_of_form, fault_of_head, note_if,
     refused_by,
@@ -29,12 +31,12 @@ pub fn open_image<'a>(_alloc: Global, image: &'a [u8]) -> Result<Formed<'a>, Ver
     ensures verdict { result_err result ≡ option_map as_verdict (verdict_in (1 ∷ 2 ∷ []) image.now) }
 {
     let mut first = First::new();
-    let Ok(head) = note_form(image, &mut first) else {
+    let Ok(read) = note_form(image, &mut first) else {
         unreachable!()
     };
     match first.fault() {
         Some(fault) => Err(verdict_on(fault)),
-        None => Ok(formed_by(image, head)),
+        None => Ok(formed_by(image, read)),
     }
 }
 
@@ -47,28 +49,36 @@ pub fn open_all<'a>(alloc: Global, image: &'a [u8]) -> Result<Formed<'a>, AllErr
     ensures refusal { IfErr result (IsAllOf (faults_in (1 ∷ 2 ∷ []) image.now)) }
 {
     let mut found = NamedList::new(alloc);
-    let Ok(head) = note_form(image, &mut found) else {
+    let Ok(read) = note_form(image, &mut found) else {
         return Err(AllError::Memory);
     };
     refused_by(found)?;
-    Ok(formed_by(image, head))
+    Ok(formed_by(image, read))
 }
 
-/// The image as one without a fault of the two stages, by what was read of page 0.
-fn formed_by<'a>(image: &'a [u8], head: Option<Head>) -> Formed<'a>
-    requires read { IsRead image.now head }
+/// What is read of the pages while their form is tested.
+#[derive(Clone, Copy, Debug)]
+struct Read {
+    head: Head,
+    /// No item names another page.
+    plain: bool,
+}
+
+/// The image as one without a fault of the two stages, by what was read of its pages.
+fn formed_by<'a>(image: &'a [u8], read: Option<Read>) -> Formed<'a>
+    requires read { IsRead image.now read }
     requires form { faults_in (1 ∷ 2 ∷ []) image.now ≡ [] }
     ensures { result ≡ image.now }
 {
-    match head {
-        Some(head) => Formed::over(image, head),
+    match read {
+        Some(read) => Formed::over(image, read.head, read.plain),
         None => unreachable!(),
     }
 }
 
-/// Notes the faults of the first of stages 1 and 2 that has any, and tells what page 0 says of the file, where it has
+/// Notes the faults of the first of stages 1 and 2 that has any, and tells what the pages say, where page 0 has
 /// no fault of stage 1.
-fn note_form<F: FaultSink>(image: &[u8], found: &mut F) -> Result<Option<Head>, AllocError>
+fn note_form<F: FaultSink>(image: &[u8], found: &mut F) -> Result<Option<Read>, AllocError>
     requires size { length image.now ≤ 2 ^ 30 }
     requires new { F.has_noted found.old [] }
     ensures noted { OnOk result (NotesAll (F.has_noted found.old) (F.has_noted found.new) (faults_in (1 ∷ 2 ∷ []) image.now)) }
@@ -77,8 +87,8 @@ fn note_form<F: FaultSink>(image: &[u8], found: &mut F) -> Result<Option<Head>, 
 {
     match bdb_meta::head(image) {
         Ok(head) => {
-            note_pages(image, &head, found)?;
-            Ok(Some(head))
+            let plain = note_pages(image, &head, found)?;
+            Ok(Some(Read { head, plain }))
         }
         Err(fault) => {
             found.note(fault_of_head(fault))?;
@@ -87,18 +97,20 @@ fn note_form<F: FaultSink>(image: &[u8], found: &mut F) -> Result<Option<Head>, 
     }
 }
 
-/// Notes the pages above the last one that aren't zero pages, or else the faults of form.
-fn note_pages<F: FaultSink>(image: &[u8], head: &Head, found: &mut F) -> Result<(), AllocError>
+/// Notes the pages above the last one that aren't zero pages, or else the faults of form. Tells whether no item names
+/// another page, where that is seen.
+fn note_pages<F: FaultSink>(image: &[u8], head: &Head, found: &mut F) -> Result<bool, AllocError>
     requires accepted { IsAccepted image.now head.now }
     requires new { F.has_noted found.old [] }
+    ensures plain { IfOk result (λ plain. plain ≡ true → ArePlain head.now image.now) }
     ensures noted { OnOk result (NotesAll (F.has_noted found.old) (F.has_noted found.new) (faults_in (1 ∷ 2 ∷ []) image.now)) }
     ensures refused { OnErr result (IsTrue F.takes_memory) }
 {
     note_tail(image, head, found)?;
-    if found.is_empty() {
-        note_forms(image, head, found)?;
+    if !found.is_empty() {
+        return Ok(false);
     }
-    Ok(())
+    note_forms(image, head, found)
 }
 
 /// Notes the pages above the last one that aren't zero pages.
@@ -114,33 +126,41 @@ fn note_tail<F: FaultSink>(image: &[u8], head: &Head, found: &mut F) -> Result<(
     Ok(())
 }
 
-/// Notes the faults of form of the pages up to the last one.
-fn note_forms<F: FaultSink>(image: &[u8], head: &Head, found: &mut F) -> Result<(), AllocError>
+/// Notes the faults of form of the pages up to the last one. Tells whether no item names another page: asked of each page
+/// while its items are at hand, up to the first that has such an item.
+fn note_forms<F: FaultSink>(image: &[u8], head: &Head, found: &mut F) -> Result<bool, AllocError>
     requires { IsAccepted image.now head.now }
+    ensures plain { IfOk result (λ plain. plain ≡ true → ArePlain head.now image.now) }
     ensures noted { OnOk result (NotesAll (F.has_noted found.old) (F.has_noted found.new) (form_faults image.now)) }
     ensures refused { OnErr result (IsTrue F.takes_memory) }
 {
+    let mut plain = true;
     for number in 0..head.last + 1 {
-        note_page(page_bytes(image, head, number), head, number, found)?;
+        plain = note_page(page_bytes(image, head, number), head, number, plain, found)?;
     }
-    Ok(())
+    Ok(plain)
 }
 
-/// Notes the fault of form of a page up to the last one, if it has one.
+/// Notes the fault of form of a page up to the last one, if it has one. Tells whether it and those before it are plain.
 fn note_page<F: FaultSink>(
     page: &[u8],
     head: &Head,
     number: u32,
+    plain: bool,
     found: &mut F,
-) -> Result<(), AllocError>
+) -> Result<bool, AllocError>
     requires size { IsTrue (is_page_size (length page.now)) }
     requires last { head.now.last < 2 ^ 21 }
+    ensures plain { IfOk result (λ still. still ≡ true → (plain ≡ true) × IsPlainIn head.now page.now) }
     ensures noted { OnOk result (NotesAll (F.has_noted found.old) (F.has_noted found.new)
         (page_faults 2 number (option_to_list (form_code head.now number page.now)))) }
     ensures refused { OnErr result (IsTrue F.takes_memory) }
 {
-    if let Some(fault) = page_fault(page, head, number) {
-        found.note(fault_of_form(fault, number))?;
+    match page_fault(page, head, number) {
+        Some(fault) => {
+            found.note(fault_of_form(fault, number))?;
+            Ok(false)
+        }
+        None => Ok(plain && is_plain(page, head, number)),
     }
-    Ok(())
 }

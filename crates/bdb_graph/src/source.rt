@@ -1,5 +1,6 @@
 ghost use Rattle.std.specs.Prelude.{◌≡◌, ◌<◌, ◌≤◌, ◌∷◌, [], ℕ, IfSome, MatchOption, option_to_list};
 ghost use Rattle.bdb_form.specs.Seen.{page_seen};
+ghost use Rattle.bdb_graph.specs.Plain.{IsPlain};
 ghost use Rattle.bdb_graph.specs.Slots.{HasRoom, IsNoMetadata, names_from, slot_names, slots_of};
 ghost use Rattle.bdb_format.specs.References.{targets_in};
 
@@ -61,6 +62,22 @@ impl<'a> Source<'a> {
             PageView::Internal(page) => Source::Internal(page),
             PageView::Hash(page) => Source::Hash(page),
             PageView::Meta(_) => unreachable!(),
+        }
+    }
+
+    /// The same of a page whose items name none.
+    pub(crate) fn of_plain(view: PageView<'a>) -> Source<'a>
+        requires other { IsNoMetadata view }
+        requires plain { IsPlain (page_seen view) }
+        ensures names { (p : ℕ) → names_from result 0 ≡ targets_in p (page_seen view.entry) }
+        ensures room { HasRoom result }
+    {
+        match view {
+            PageView::Leaf(_page) => Source::Nothing,
+            PageView::RecnoLeaf(_page) => Source::Nothing,
+            PageView::DupLeaf(_page) => Source::Nothing,
+            PageView::Hash(page) => Source::Next(Sort::HashNext, page.header().next),
+            other => Source::of_view(other),
         }
     }
 

@@ -16,11 +16,11 @@ note_pages-requires-clause-accepted g c =
     (head_of c.args.image.now) c.in-Ok.head c.in-Ok.ensures in
     record { size = c.requires.size; head_is = is.0; accepted = is.1 }
 
-pub returns-in_ok-note_pages-in-Ok-clause-read : goal.returns-in_ok-note_pages-in-Ok-clause-read
-returns-in_ok-note_pages-in-Ok-clause-read g c =
+pub returns-in_ok-plain-in-Ok-clause-read : goal.returns-in_ok-plain-in-Ok-clause-read
+returns-in_ok-plain-in-Ok-clause-read g c =
     let is : (c.in-Ok.head ≡ head_of c.args.image.now) × (first_row (head_rows c.args.image.now) ≡ None) = faulted_value head_fault (head_rows c.args.image.now)
     (head_of c.args.image.now) c.in-Ok.head c.in-Ok.ensures in
-    record { size = c.requires.size; head_is = is.0; accepted = is.1 }
+    (record { size = c.requires.size; head_is = is.0; accepted = is.1 }, c.in_ok-plain-in-Ok.ensures.plain)
 
 pub returns-in_ok-note-in-Err-clause-noted : goal.returns-in_ok-note-in-Err-clause-noted
 returns-in_ok-note-in-Err-clause-noted g c =
