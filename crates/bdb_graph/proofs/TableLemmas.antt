@@ -37,17 +37,6 @@ pub record AreTallied (file : File) (old tallies : List Tally) (pages : BucketPa
       → AreTallies tallies (os ++ map (owner holder) (placed place (bucket_names buckets.spares 0 bucket)))
   pub judged : (place : ℕ) → misfits ≡ misfits_of (fit_code file holder) (placed place (bucket_names buckets.spares 0 bucket))
 
--- no bucket yet
-pub tallied_none : (file : File) (tallies : List Tally) (pages : BucketPages) (misfits : Misfits) (holder : ℕ) (buckets : Buckets)
-    → AreKnown file tallies pages → misfits ≡ misfits_of (fit_code file holder) []
-    → AreTallied file tallies tallies pages misfits holder buckets 0
-tallied_none file tallies pages misfits holder buckets known is = record {
-  low = omega arith;
-  known = known;
-  tallied = λ os place are. subst (AreTallies tallies) (sym (append-nil os)) are;
-  judged = λ place. is;
-}
-
 -- one more run
 pub tallied_more : (file : File) (old tallies new : List Tally) (pages later : BucketPages) (misfits of_run next : Misfits) (holder : ℕ)
     (buckets : Buckets) (bucket first n : ℕ)

@@ -61,11 +61,6 @@ is_headed image pair Unknown is = tt
 
 -- Keys that were seen.
 
--- a key that was added is among them
-pub has_added : (old new : BTreeSet (List ℕ)) (key : List ℕ) → Updates (slice_cmp nat_cmp) old new key true → has_key new key ≡ true
-has_added old new key updates =
-    updates.0 key ∙ (ap (λ b. cond b true (has_key old key)) (is_eq-slice_cmp key key) ∙ ap (λ b. cond b true (has_key old key)) (eq_self key))
-
 either : (a b : Bool) → b ≡ true → cond a true b ≡ true
 either true b is = refl
 either false b is = is

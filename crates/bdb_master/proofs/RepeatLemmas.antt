@@ -68,18 +68,6 @@ noted_on before now after keys more file all old left pair value is_new noted st
           ∙ noted.whole);
     }
 
--- or isn't
-pub noted_past : (before now : List Fault → Type 0) (keys : BTreeSet (List ℕ)) (file : File) (all old left : List ItemPair) (pair : ItemPair)
-    → IsNoted before now keys file all old → old ≡ pair ∷ left → pair.value.deleted ≡ true → IsNoted before now keys file all left
-noted_past before now keys file all old left pair noted steps deleted = record {
-  passed = noted.passed;
-  keys_are = noted.keys_are;
-  more = noted.more;
-  notes = noted.notes;
-  whole =
-      ap (λ entries. noted.more ++ faults_of (repeated_by key_of noted.passed entries)) (sym (not_live file old left pair steps deleted)) ∙ noted.whole;
-}
-
 pub begun : (has : List Fault → Type 0) (keys : BTreeSet (List ℕ)) (file : File) (all : List ItemPair) → IsEmpty keys → IsNoted has has keys file all all
 begun has keys file all empty = record {
   passed = [];

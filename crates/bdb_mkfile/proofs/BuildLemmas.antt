@@ -224,15 +224,6 @@ too_large max pages sections settled lists pages_are above =
 
 -- Refusals.
 
--- sections that have an error are refused by it
-pub refused_first : (most : ℕ) (sections : List Section) (error : LoadError) → IsSettleRefusal (load_error sections) error
-    → IsLoadRefusal most sections error
-refused_first most sections error is = by_first (load_error sections) is
-  where
-    by_first : (first : Option LoadError) → IsSettleRefusal first error → IsLoadRefusalBy first (size_error most sections) error
-    by_first (Some first) is = is
-    by_first None is = inl is
-
 -- others for want of memory, or by the size of their image
 pub refused_late : (most : ℕ) (sections : List Section) (error : LoadError) → load_error sections ≡ None
     → (error ≡ Memory) ⊎ (size_error most sections ≡ Some error) → IsLoadRefusal most sections error

@@ -204,13 +204,6 @@ one_more base sections places all placed rest is named to =
           ∙ sym (map-append (joined_section base) to.done (section ∷ []));
     }
 
--- the places are long enough for the next
-pub next_within : (base : Base) (sections : List Section) (places : List (Option Section)) (all : List Section) (placed : Placed) (rest : List Placed)
-    → IsJoinedTo base sections places all (placed ∷ rest) → IsWithin (length places) placed.place
-next_within base sections places all placed rest to =
-    subst (λ n. IsWithin n placed.place) (sym (length-map base.databases (still to.done)) ∙ sym (ap length to.places_are))
-    (All-head (IsPlaced base) placed rest to.placed).within
-
 -- at first all databases stand in their places
 pub at_first : (base : Base) (sections : List Section) (placed : List Placed) → map placed_section placed ≡ sections → All (IsPlaced base) placed
     → IsJoinedTo base sections (map Some base.databases) [] placed

@@ -200,25 +200,7 @@ pub no_place : (base : Base) (section : Section) → IsBase base → differ (is_
     → IsPlaceOf base.databases (partner_of base section) None
 no_place base section is misnamed = record { within = tt; there = sym (no_partner base section is misnamed) }
 
--- where both have names it is that of the database of the name
-pub named_place : (base : Base) (section : Section) (name : List ℕ) (place : Option ℕ) → section.name ≡ Some name
-    → IsPlaceOf base.databases (find (has_name name) base.databases) place → IsPlaceOf base.databases (partner_of base section) place
-named_place base section name place has at =
-    subst (λ found. IsPlaceOf base.databases found place)
-    (sym (ap (λ n. find (λ (database : Section). is_name n database.name) base.databases) has)) at
-
 -- where neither has names it is the first
 pub first_place : (base : Base) (section : Section) → IsBase base → base.master ≡ false → section.name ≡ None → 0 < length base.databases
     → IsPlaceOf base.databases (partner_of base section) (Some 0)
 first_place base section is no_master unnamed some = record { within = some; there = sym (first_partner base section is no_master unnamed) }
-
-pub empty_place : (base : Base) (section : Section) → IsBase base → base.master ≡ false → section.name ≡ None → length base.databases ≡ 0
-    → IsPlaceOf base.databases (partner_of base section) None
-empty_place base section is no_master unnamed none = record {
-  within = tt;
-  there = sym (first_partner base section is no_master unnamed ∙ nothing base.databases none);
-}
-  where
-    nothing : (all : List Section) → length all ≡ 0 → slice_get all 0 ≡ None
-    nothing [] none = refl
-    nothing (x ∷ xs) none = absurd (omega (arith, none))

@@ -100,9 +100,6 @@ walks_are_short file root from to leaf split =
 
 -- Keys don't fall.
 
-abbrev keys_fall : File → ℕ → Type 0
-keys_fall file root = DontFall (tree_pairs file root)
-
 after_falls : (xs ys : List StoredPair) → DontFall (xs ++ ys) → DontFall ys
 after_falls [] ys fall = fall
 after_falls (x ∷ xs) ys fall = after_falls xs ys fall.1
@@ -205,16 +202,6 @@ walk_more test count all leaf n old new is same on sum =
     let on_leaf : test leaf ≡ true = ap test (sym same) ∙ on in
     let first : prefix_len test old ≡ 1 + prefix_len test new = ap (prefix_len test) is ∙ ap (λ b. cond b (1 + prefix_len test new) 0) on_leaf in
     omega arith
-
-pub walk_stops : (test : ℕ → Bool) (count all leaf n : ℕ) (old new : List ℕ) → old ≡ leaf ∷ new → n ≡ leaf → test n ≡ false
-    → count + prefix_len test old ≡ all → count ≡ all
-walk_stops test count all leaf n old new is same off sum =
-    let off_leaf : test leaf ≡ false = ap test (sym same) ∙ off in
-    let none : prefix_len test old ≡ 0 = ap (prefix_len test) is ∙ ap (λ b. cond b (1 + prefix_len test new) 0) off_leaf in
-    omega arith
-
-pub walk_ends : (test : ℕ → Bool) (count all : ℕ) (old : List ℕ) → old ≡ [] → count + prefix_len test old ≡ all → count ≡ all
-walk_ends test count all old is sum = let none : prefix_len test old ≡ 0 = ap (prefix_len test) is in omega arith
 
 pub first_fits : (file : File) (leaf n : ℕ) (old new : List ℕ) → old ≡ leaf ∷ new → n ≡ leaf → AreLeaves file old → FitsLeafPage file n
 first_fits file leaf n old new is same each = subst (FitsLeafPage file) (sym same)

@@ -132,14 +132,6 @@ none_below image ranks value rank none = record {
 
 -- No rank, one more, and all.
 
-pub no_ranks : (image : List ℕ) (ranks : BTreeMap ℕ ℕ) (chains : List ChainValue) → ((a m : ℕ) → get nat_cmp ranks a ≡ Some m → ⊥)
-    → AreRanked image ranks chains 0 0
-no_ranks image ranks chains none = record {
-  ranks_are = record { each = λ a b m n at_a at_b. absurd (none a m at_a) };
-  none = λ first. (refl, none);
-  below = λ k is. absurd (let no' : 0 ≡ k + 1 = is in omega (arith, no'));
-}
-
 above_is : (chains : List ChainValue) (k : ℕ) → is_above chains (suc k) ≡ less (value_at chains k) (value_at chains (suc k))
 above_is chains k =
     let one_less : suc k - 1 ≡ k = omega arith in

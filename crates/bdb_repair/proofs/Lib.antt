@@ -1,6 +1,5 @@
 pub mod RoomLemmas
 pub mod PartLemmas
-pub mod EntryLemmas
 pub mod FileRoomLemmas
 pub mod RepairLemmas
 pub mod LineLemmas

@@ -217,11 +217,6 @@ ends_at settings bytes all places kept last next so done low =
     ∙ ended settings (map (pair_on bytes) all) (placed_pairs bytes (take kept places)) (pair_on bytes last)
     (subst (IsSettledTo settings (map (pair_on bytes) all) (placed_pairs bytes (take kept places)) (pair_on bytes last)) none so.settled)
 
-pub kept_placed : (bytes : List ℕ) (places : List Place) (kept : ℕ) (last : Place) → IsPlaced bytes last → ArePlaced bytes places
-    → ArePlaced bytes (take (kept + 1) (set places kept last))
-kept_placed bytes places kept last here placed =
-    All-take (IsPlaced bytes) (kept + 1) (set places kept last) (All-set (IsPlaced bytes) places kept last here placed)
-
 -- the list of sorted pairs is that of the pairs as they came
 pub pairs_settled : (settings : Settings) (bytes lent : List ℕ) (places settled : List Place) (pairs sorted : List TextPair) → lent ≡ bytes
     → IsSortedOf settings pairs sorted → placed_pairs bytes places ≡ sorted

@@ -11,14 +11,6 @@ pub record IsFalling (low size n : ℕ) (begin end : ℕ → ℕ) (lowest outsid
   pub above : (i : ℕ) → i < n → lowest ≤ begin i
   pub counted : outside ≡ places_outside lowest size n begin end
 
-pub falling_start : (low size : ℕ) (begin end : ℕ → ℕ) → low ≤ size → IsFalling low size 0 begin end size 0
-falling_start low size begin end room = record {
-  behind = room;
-  within = omega arith;
-  above = λ i lt. absurd (omega arith);
-  counted = sym (none_outside size size 0 begin end (λ k from to. absurd (omega arith)));
-}
-
 -- an item more that ends at or below the lowest place
 pub falling_next : (low size n : ℕ) (begin end : ℕ → ℕ) (lowest outside : ℕ) → IsFalling low size n begin end lowest outside → low ≤ begin n
     → begin n < end n → end n ≤ lowest → IsFalling low size (n + 1) begin end (begin n) (outside + (lowest - end n))

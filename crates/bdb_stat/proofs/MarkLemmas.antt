@@ -17,9 +17,6 @@ marks_long words = length-map-range_with_len (mark_at words) 0 (64 * length word
 pub mark_is : (words : List ℕ) (k : ℕ) → k < 64 * length words → get_or (marks_of words) k 0 ≡ mark_at words k
 mark_is words k low = get_or-map-range_with_len (mark_at words) 0 (64 * length words) k k 0 low (omega arith)
 
-pub same_long : (words more : List ℕ) → length more ≡ length words → length (marks_of more) ≡ length (marks_of words)
-same_long words more same = omega (arith, marks_long words, marks_long more, same)
-
 -- words that are 0 mark nothing
 pub all_clear : (words : List ℕ) → ((j : ℕ) → j < length words → get_or words j 0 ≡ 0) → (k : ℕ) → k < length (marks_of words) → get_or (marks_of words) k 0 ≡ 0
 all_clear words clear k low =

@@ -205,16 +205,7 @@ sweep_none ends k past none =
     let range : (0 ≤ j) × (j < 0 + length ends) = of_range 0 (length ends) j at in
     none_passes (crosses_at ends) (range_with_len 0 k) j none (in_range 0 k j (omega arith) (omega arith)))
 
-pub sweep_at : (ends : List ℕ) (k : ℕ) → k < length ends → crosses_at ends k ≡ true → crosses ends ≡ true
-unfolding crosses
-sweep_at ends k lt is = passes_here (crosses_at ends) (range_with_len 0 (length ends)) k (in_range 0 (length ends) k (omega arith) (omega arith)) is
-
 -- a place by the greatest end so far
 pub place_is : (ends : List ℕ) (k end greatest : ℕ) → end ≡ get_or ends k 0 → greatest ≡ greatest_below ends k → (not (end == 0) && nat_lt k greatest)
     ≡ crosses_at ends k
 place_is ends k end greatest at is = ap (λ (e : ℕ). not (e == 0) && nat_lt k greatest) at ∙ ap (λ (g : ℕ). not (get_or ends k 0 == 0) && nat_lt k g) is
-
-pub greatest_next : (ends : List ℕ) (k end greatest next : ℕ) → k < length ends → end ≡ get_or ends k 0 → greatest ≡ greatest_below ends k
-    → next ≡ max greatest end
-    → next ≡ greatest_below ends (k + 1)
-greatest_next ends k end greatest next lt at is more = omega (arith, greatest_more ends k lt)

@@ -17,10 +17,6 @@ use Rattle.bdb_tool.specs.declared.task.Stop.TheVariants.{Usage, TooLarge, ReadF
 use Rattle.bdb_tool.specs.Tasks.{AreReading, IsAsked, IsInputWithin, IsStopped, IsUnreadable}
 use Rattle.bdb_tool.specs.WordsSeen.{IsSeen, reading_seen, repair_seen, request_seen, salvage_seen}
 
-some_value : {A : Type 0} (value : Option A) → IsTrue (is_some value) → (x : A) × (value ≡ Some x)
-some_value None is = absurd cc
-some_value (Some x) is = (x, refl)
-
 abbrev made : ℕ → Action → Command
 made limit action = record { limit = limit; action = action }
 
@@ -105,7 +101,3 @@ pub repair_unread : (said : Option Command) (source : Change) (limit : ℕ) (ask
     → IsSeen said (record { limit = limit; action = RepairWord asked }) → IsUnreadable limit source stop → IsStopped (handed false said) source stop
 repair_unread said source limit asked stop seen unread = not_read (handed false said) source limit (repair_seen asked) stop (ap (handed false) seen.0) refl
     unread
-
--- a command that reads a base is none without it
-pub onto_alone : (said : Option Command) (limit : ℕ) (file : List ℕ) → said ≡ Some (made limit (LoadOnto file)) → handed false said ≡ None
-onto_alone said limit file is = ap (handed false) is

@@ -82,26 +82,9 @@ of_last new entry all rest are ends one =
     let same : one.key ≡ last_key new = sym (ends.last ∙ All-head (λ (e : ListKey × List ℕ). list_key e.0 ≡ one.key) entry rest of) in
     subst (λ k. AreOf k rest) same (All-tail (λ (e : ListKey × List ℕ). list_key e.0 ≡ one.key) entry rest of)
 
--- the last pair has their key, once all are pushed
-pub ends_all : (mid new : List TextPair) (key : Key) (entry : ListKey × List ℕ) (all rest : List (ListKey × List ℕ)) → all ≡ entry ∷ rest
-    → EndsWith (list_key entry.0) mid → AreOf key all → EndsWith (last_key mid) new → EndsWith key new
-ends_all mid new key entry all rest are first of ends =
-    let head : list_key entry.0 ≡ key = All-head (λ (e : ListKey × List ℕ). list_key e.0 ≡ key) entry rest (subst (AreOf key) are of) in
-    record { some = ends.some; last = ends.last ∙ (first.last ∙ head) }
-
-pub first_more : (old mid new : List TextPair) (entry : ListKey × List ℕ) (all rest : List (ListKey × List ℕ)) → all ≡ entry ∷ rest
-    → mid ≡ old ++ text_pair entry ∷ [] → new ≡ mid ++ map text_pair rest → new ≡ old ++ map text_pair all
-first_more old mid new entry all rest are first more =
-    more
-    ∙ (ap (λ pairs. pairs ++ map text_pair rest) first
-    ∙ (append_assoc old (text_pair entry ∷ []) (map text_pair rest) ∙ ap (λ list. old ++ map text_pair list) (sym are)))
-
 -- entries of a key that the last pair has
 pub of_ends : (pairs : List TextPair) (key : Key) (entries : List (ListKey × List ℕ)) → EndsWith key pairs → AreOf key entries → AreOf (last_key pairs) entries
 of_ends pairs key entries ends of = subst (λ k. AreOf k entries) (sym ends.last) of
-
-pub ends_same : (old new : List TextPair) (key : Key) → EndsWith key old → EndsWith (last_key old) new → EndsWith key new
-ends_same old new key ends after = record { some = after.some; last = after.last ∙ ends.last }
 
 pub known_key : {E : Type 0} (result : Result Bool E) (key : Key) (entries : List (ListKey × List ℕ)) (pairs : List TextPair) → AreOf key entries
     → IfOk result (λ some. some ≡ true → (k : Key) → AreOf k entries → EndsWith k pairs) → IfOk result (λ has. has ≡ true → EndsWith key pairs)

@@ -24,15 +24,6 @@ fault_refused text fault refusal is says =
     says_allowed (IsFaultAnswer (text_fault text)) (told 8 (reason_line fault)) refusal says
     (subst (λ found. IsFaultAnswer found (told 8 (reason_line fault))) (sym is) refl)
 
-fault_answer : (limit : ℕ) (text : List ℕ) (fault : Option TextFault) (answer : Answer) → IsFaultAnswer fault answer → IsLoadAnswerBy limit fault text answer
-fault_answer limit text None answer is = absurd is
-fault_answer limit text (Some fault) answer is = is
-
-pub text_refused : (limit : ℕ) (text : List ℕ) (refusal : Refusal) → IsRefusedAnswer (IsFaultAnswer (text_fault text)) refusal
-    → IsRefusedAnswer (IsTextAnswer limit text) refusal
-text_refused limit text refusal refused =
-    still_refused (IsFaultAnswer (text_fault text)) (IsTextAnswer limit text) refusal (fault_answer limit text (text_fault text)) refused
-
 -- an error of a line is told by it
 pub of_line : (limit : ℕ) (error : LoadError)
     → ((n : ℕ) × error ≡ RecordTooLong n)

@@ -18,17 +18,6 @@ use Rattle.bdb_tool_build.specs.Refusals.{IsRefusedAnswer}
 use Rattle.bdb_tool_build.proofs.LoadLemmas.{read_without_fault}
 use Rattle.bdb_tool_build.proofs.RefusalLemmas.{still_refused}
 
-fault_onto : (limit : ℕ) (base : Base) (text : List ℕ) (fault : Option TextFault) (answer : Answer) → IsFaultAnswer fault answer
-    → IsTextOntoBy limit base fault text answer
-fault_onto limit base text None answer is = absurd is
-fault_onto limit base text (Some fault) answer is = is
-
--- a text with a fault
-pub text_refused_onto : (limit : ℕ) (base : Base) (text : List ℕ) (refusal : Refusal) → IsRefusedAnswer (IsFaultAnswer (text_fault text)) refusal
-    → IsRefusedAnswer (IsTextOnto limit base text) refusal
-text_refused_onto limit base text refusal refused =
-    still_refused (IsFaultAnswer (text_fault text)) (IsTextOnto limit base text) refusal (fault_onto limit base text (text_fault text)) refused
-
 -- a refusal is want of memory, or the first error
 error_found : (first large : Option LoadError) (error : LoadError) → IsLoadRefusalBy first large error → (error ≡ Memory) ⊎ (or_else first large ≡ Some error)
 error_found (Some first) large error is = inr (ap (λ e. Some e) (sym is))
@@ -46,12 +35,6 @@ onto_refused limit most base sections error refusal same found refused =
       | inr first ↦
           subst (λ f. IsLoadOnto limit f base sections answer) (sym (subst (λ m. loading_error_onto m base sections ≡ Some error) same first)) is
     ]) refused
-
--- sections that are loaded
-pub onto_built : (limit most : ℕ) (base : Base) (sections : List Section) (answer : Answer) → most ≡ limit → loading_error_onto most base sections ≡ None
-    → IsLoadOnto limit None base sections answer → IsLoadOnto limit (loading_error_onto limit base sections) base sections answer
-onto_built limit most base sections answer same none is =
-    subst (λ f. IsLoadOnto limit f base sections answer) (sym (subst (λ m. loading_error_onto m base sections ≡ None) same none)) is
 
 sections_onto : (limit : ℕ) (base : Base) (text : List ℕ) (sections : List Section) (answer : Answer) → Reads text sections
     → IsLoadOnto limit (loading_error_onto limit base sections) base sections answer → IsTextOnto limit base text answer

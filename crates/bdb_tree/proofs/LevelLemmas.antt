@@ -26,11 +26,6 @@ pub children_more : {X : Type 0} (child : X → ℕ) (next before : List ℕ) (i
 children_more child next before item rest left items is had =
     append_assoc next (child item ∷ []) (map child rest) ∙ (ap (λ xs. next ++ map child xs) (sym is) ∙ had)
 
--- none left
-pub children_all : {X : Type 0} (child : X → ℕ) (next before : List ℕ) (left items : List X) → left ≡ []
-    → next ++ map child left ≡ before ++ map child items → next ≡ before ++ map child items
-children_all child next before left items none had = sym (append-nil next) ∙ (ap (λ xs. next ++ map child xs) (sym none) ∙ had)
-
 -- the header of a page of a tree, as its view tells it
 pub seen_level : (file : File) (p : ℕ) (view : PageView) → IsTreePage file p → page_seen view ≡ page_at file p
     → (header_seen view).level ≡ (header_in (page_at file p)).level

@@ -66,9 +66,6 @@ pub record AreParts (n : ℕ) (part : ℕ → List Field) (low high : ℕ → �
   pub lies : (i : ℕ) → i < n → Between (low i) (part i) (high i)
   pub apart : (i j : ℕ) → i < n → j < n → (part i ≡ part j) ⊎ ((high i ≤ low j) ⊎ (high j ≤ low i))
 
-pub joined_parts : (n : ℕ) (part : ℕ → List Field) → List Field
-joined_parts n part = flat_map part (range_with_len 0 n)
-
 pub of_parts : (n : ℕ) (part : ℕ → List Field) (f : Field) → Contains (flat_map part (range_with_len 0 n)) f → (i : ℕ) × (i < n) × Contains (part i) f
 of_parts n part f at =
     let found = of_flat_map part (range_with_len 0 n) f at in
