@@ -7,7 +7,7 @@ usage: times.py verify|kinds|chains|range|dump|load|convert|stat|salvage|repair 
 PROGRAM is the built program; without it, crates/bdbtool/out/bdbtool. The files are made with `db5.3_load` in a temporary folder.
 Prints a Markdown table. `verify` stands beside `db5.3_verify`, on a btree and a hash of tenfold growing numbers of pairs: seconds by
 the clock, and how pages and seconds grew from the row above. A kind ends where a run takes a minute, or where ten times the pairs
-wouldn't fit into the longest input. `kinds` has `verify` on files of each kind of about 100 MB, and `chains` on chains of pages that
+wouldn't fit into the longest input. `kinds` has `verify` beside `db5.3_verify` and `md5sum` on files of each kind of about 100 MB, seconds of user time, and beside `cat`, seconds of system time; and `chains` has it on chains of pages that
 grow longer, one by one: seconds of user time. `dump` stands beside `db5.3_dump -k`, on a file of each kind: seconds of user time, and peak
 memory. `range` stands beside `verify`, `get` and `dump`, on a btree of a million pairs: of ten pairs, of a thousand and of all. `load` stands beside `db5.3_load`, on the texts that `dump` gives of such files and of files with a quarter of the items, and on those of a btree and a hash with their pairs in no order. `convert` stands beside `verify` and a copy by `cat`, on a file of each kind, and `stat` beside `verify` and `db5.3_stat -f`: seconds of user time, and of user and system time, of runs by turns. `salvage` stands beside
 `db5.3_dump -r`, on the files of `kinds`, and on each of them with every hundredth page overwritten by other bytes: seconds of user time,
@@ -41,7 +41,14 @@ LONG_RUN = 60
 LONGEST_RUN = 600
 GROWTH_COLUMNS = ("Kind", "Pairs", "Pages", "`bdbtool`", "`db5.3_verify`", "Ratio", "Pages grew", "`bdbtool` grew", "`db5.3_verify` grew")
 
-# `kinds` and `chains`
+# What the launcher sets for the program. Here all programs have it.
+TUNABLES = "glibc.malloc.hugetlb=1"
+
+# `kinds`
+KIND_COLUMNS = ("File", "Bytes", "`bdbtool`", "`db5.3_verify`", "Ratio", "`md5sum`", "Ratio", "`bdbtool`, system", "`cat`, system", "Ratio")
+KIND_TURNS = 5
+
+# `chains`
 USER_COLUMNS = ("File", "Bytes of the file", "`bdbtool`", "`db5.3_verify`", "Ratio")
 SMALL_PAGE = 512
 CHAINS = (50_000, 100_000, 200_000, 500_000)
@@ -119,6 +126,12 @@ def pairs(count, least):
     for i in range(count):
         key = i * 2654435761 % 2**32
         yield f" {key:08x}\n {'x' * (least + key % 64)}\n"
+
+
+def ordered(count, least):
+    """The same data under keys in ascending order."""
+    for i in range(count):
+        yield f" {i:08x}\n {'x' * (least + i % 64)}\n"
 
 
 def records(count):
@@ -391,15 +404,29 @@ def kinds(folder):
     """A file of each kind, one after another."""
     for sample in samples():
         yield sample.name, make(sample.name, sample.kind, sample.lines, folder)
+    yield "btree, in order", make("ordered", "btree", ordered(MILLION, 40), folder)
     for settings, name in (("duplicates=1\n", "btree, duplicates"), ("duplicates=1\ndupsort=1\n", "btree, sorted duplicates")):
         yield name, make(name, "btree", repeated_keys(10_000, 100), folder, settings=settings)
 
 
+def print_kind(name, program, image):
+    """A row of the table of `verify` on each kind. The commands run by turns."""
+    commands = ([program, "verify"], ["db5.3_verify", image], ["md5sum"], ["cat"])
+    runs = list(zip(*([spent(words, image) for words in commands] for _ in range(KIND_TURNS))))
+    own, original, digest, _ = (min(run.user for run in each) for each in runs)
+    system, copy = (min(run.system for run in each) for each in (runs[0], runs[3]))
+    row = [name, f"{image.stat().st_size:,}", f"{own:.3g}"]
+    for other in (original, digest):
+        row += [f"{other:.3g}", f"{own / max(other, 0.001):.3g}"]
+    print_row(row + [f"{system:.3g}", f"{copy:.3g}", f"{system / max(copy, 0.001):.3g}"])
+    image.unlink()
+
+
 def time_kinds(program, folder):
     """The table of `verify` on each kind."""
-    print_head(USER_COLUMNS)
+    print_head(KIND_COLUMNS)
     for name, image in kinds(folder):
-        print_user(name, program, image)
+        print_kind(name, program, image)
 
 
 # `convert`
@@ -601,6 +628,7 @@ TABLES = {
 
 def main(table, program, before=None):
     tool, fill = TABLES.get(table, ("db5.3_load", None))
+    os.environ["GLIBC_TUNABLES"] = TUNABLES
     if lack := next(filter(None, (missing(it, tool) for it in (program, before or program))), None):
         sys.exit(f"skipped: {lack}")
     with tempfile.TemporaryDirectory() as name:

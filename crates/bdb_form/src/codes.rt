@@ -47,7 +47,9 @@ fn least_item_code<K: PageKind>(page: &[u8], order: Order) -> Option<u8>
 {
     let mut least = None;
     for index in 0..u16_at(page, 20, order) {
-        least = lesser(least, K::item_fault(page, order, index).map(item_code));
+        if let Some(fault) = K::item_fault(page, order, index) {
+            least = lesser(least, Some(item_code(fault)));
+        }
     }
     least
 }

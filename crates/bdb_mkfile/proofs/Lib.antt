@@ -20,7 +20,6 @@ pub mod AlikeLemmas
 pub mod ApartLemmas
 pub mod BuildLemmas
 pub mod FitLemmas
-pub mod KindLemmas
 pub mod LengthLemmas
 pub mod LongLemmas
 pub mod MasterLemmas
