@@ -47,6 +47,7 @@ impl<'a> Iterator for PageItems<'a> {
 
     ghost remaining = { item_count (λ left. left) };
 
+    #[inline(always)]
     fn next(&mut self) -> Option<HeldPair<'a>> {
         let pair = self.pairs.next()?;
         Some(HeldPair {
@@ -75,6 +76,7 @@ pub(crate) fn page_items<'a>(forest: &Forest<'a>, page: u32) -> Option<PageItems
 }
 
 /// The next pair of a leaf, if there is one.
+#[inline(always)]
 fn next_pair<'a>(pairs: &mut Option<PageItems<'a>>) -> Option<HeldPair<'a>>
     ensures { YieldsFirstBy pair_held left_of pairs.old result pairs.new }
 {
@@ -135,6 +137,7 @@ impl<'a> Iterator for HeldPairs<'a> {
 
     ghost remaining = { item_count (λ left. left) };
 
+    #[inline(always)]
     #[tactic(auto, using(crate::proofs::HeldLemmas::next_items))]
     fn next(&mut self) -> Option<HeldPair<'a>> {
         loop {

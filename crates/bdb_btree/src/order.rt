@@ -15,6 +15,7 @@ use std::alloc::AllocError;
 use std::cmp::Ordering;
 
 /// Whether bytes of pages are less than others.
+#[inline(always)]
 #[tactic(auto, using(bdb_overflow::proofs::KeyLemmas::is_less))]
 fn is_less_bytes(a: &[u8], b: &[u8]) -> bool
     ensures { result ≡ less a.now b.now }
@@ -28,6 +29,7 @@ fn is_less_bytes(a: &[u8], b: &[u8]) -> bool
 
 /// Whether a value is less than another. Most lie on their pages, and are compared without a look at what is known. An error is
 /// want of memory, for chains that are shared.
+#[inline(always)]
 pub(crate) fn is_less(known: &mut Values<'_>, a: Held<'_>, b: Held<'_>) -> Result<bool, AllocError>
     requires first { FitsHeld (file_of known.old) a }
     requires second { FitsHeld (file_of known.old) b }
@@ -42,6 +44,7 @@ pub(crate) fn is_less(known: &mut Values<'_>, a: Held<'_>, b: Held<'_>) -> Resul
 
 /// Whether a value isn't above the one before it, where there is one. An error is want of memory, for chains that are
 /// shared.
+#[inline(always)]
 pub(crate) fn is_not_above(
     known: &mut Values<'_>,
     before: Option<Held<'_>>,
@@ -84,6 +87,7 @@ impl<'a> KeyOrder<'a> {
 
     /// The next pair: its key has to be above that of the pair before it, unless it shares that. An error is want of
     /// memory.
+    #[inline(always)]
     pub(crate) fn see(
         &mut self,
         known: &mut Values<'a>,

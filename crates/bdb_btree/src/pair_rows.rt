@@ -56,6 +56,7 @@ impl<'a> Passed<'a> {
     }
 
     /// The next pair, in a database whose sets are sorted or not. An error is want of memory.
+    #[inline(always)]
     fn see(
         &mut self,
         known: &mut Values<'a>,
@@ -86,6 +87,7 @@ impl<'a> Passed<'a> {
     }
 
     /// Notes the rows on the last pair.
+    #[inline(always)]
     fn note<F: FaultSink>(
         &self,
         forest: &Forest<'a>,

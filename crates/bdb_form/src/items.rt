@@ -38,6 +38,7 @@ impl<'a, K: ItemKind<'a>> Iterator for Items<'a, K> {
 
     ghost remaining = { item_count (λ left. left) };
 
+    #[inline(always)]
     #[tactic(auto, using(crate::proofs::WalkLemmas::next_item, crate::proofs::WalkLemmas::no_item_left))]
     fn next(&mut self) -> Option<K::Item> {
         let at = self.at;

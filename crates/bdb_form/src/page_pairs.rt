@@ -46,6 +46,7 @@ impl<'a, K: PairKind> IndexedView<'a, K> {
 
 impl<'a, K: PairKind + ItemKind<'a>> IndexedView<'a, K> {
     /// A pair.
+    #[inline(always)]
     #[tactic(auto, using(crate::proofs::WalkLemmas::read_item))]
     pub fn pair(&self, i: u16) -> Pair<K::Item>
         requires { 2 * i + 1 < length self.now.items }
@@ -67,6 +68,7 @@ impl<'a, K: PairKind + ItemKind<'a>> Iterator for PagePairs<'a, K> {
 
     ghost remaining = { item_count (λ left. left) };
 
+    #[inline(always)]
     #[tactic(auto, using(crate::proofs::WalkLemmas::next_pair, crate::proofs::WalkLemmas::no_pair_left))]
     fn next(&mut self) -> Option<Pair<K::Item>> {
         let i = self.next;

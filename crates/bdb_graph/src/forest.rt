@@ -30,6 +30,7 @@ pub struct Forest<'a> {
 }
 
 impl Drop for Forest<'_> {
+    #[inline(always)]
     fn drop(self) {
         let Forest {
             formed: _formed,
@@ -64,6 +65,7 @@ impl<'a> Forest<'a> {
     }
 
     /// Another handle to the same pages.
+    #[inline(always)]
     pub fn again(&self) -> Forest<'a>
         ensures { result ≡ self.now }
     {

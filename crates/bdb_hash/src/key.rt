@@ -6,6 +6,7 @@ use bdb_layout::{hash5, hash5_after};
 use bdb_overflow::Datum;
 
 /// The hash of a key.
+#[inline(always)]
 pub(crate) fn hash_of(key: &Datum<'_>) -> u32
     ensures { result ≡ hash5 (datum_seen key.now) }
 {

@@ -32,6 +32,7 @@ pub(crate) struct Pair<'a> {
 }
 
 impl Drop for Pair<'_> {
+    #[inline(always)]
     fn drop(self) {
         let Pair {
             forest: _forest,
@@ -58,6 +59,7 @@ impl<'a> Model for Pair<'a> {
 }
 
 /// The value of a key, which is never a set.
+#[inline(always)]
 #[tactic(auto, using(crate::proofs::PairLemmas::no_single, crate::proofs::PairLemmas::single))]
 pub(crate) fn key_of<'a>(forest: &Forest<'a>, item: &HashItem<'a>) -> Datum<'a>
     requires { FitsContent (file_of forest.now) (hash_content_seen item.now) }
@@ -81,6 +83,7 @@ fn head_of(item: &HashItem<'_>) -> Option<u32>
 
 impl<'a> Pair<'a> {
     /// A pair as the view of its page gives it.
+    #[inline(always)]
     pub(crate) fn of(forest: &Forest<'a>, page: u32, pair: bdb_form::Pair<HashItem<'a>>) -> Pair<'a>
         requires { IsGiven forest.now page (pair_seen hash_item_seen pair) }
         ensures { result ≡ told_pair forest.now page (pair_seen hash_item_seen pair.entry) }

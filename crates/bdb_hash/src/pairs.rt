@@ -84,6 +84,7 @@ impl<'a> Iterator for PagePairs<'a> {
 
     ghost remaining = { item_count (λ left. left) };
 
+    #[inline(always)]
     fn next(&mut self) -> Option<Pair<'a>> {
         let pair = self.pairs.as_mut()?.next()?;
         Some(Pair::of(&self.forest, self.page, pair))

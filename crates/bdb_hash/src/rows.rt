@@ -60,6 +60,7 @@ fn is_out_of_order(pair: Pair<'_>, known: &mut Chains<'_>) -> Result<bool, Alloc
 }
 
 /// Whether the data of a pair are out of order in a table where they ascend. An error is want of memory, as above.
+#[inline(always)]
 fn is_unsorted(pair: Pair<'_>, meta: &HashMeta, known: &mut Chains<'_>) -> Result<bool, AllocError>
     requires { pair.image ≡ known.old }
     ensures order { IfOk result (λ is. is ≡ (is_sorted (HashFields meta.now) && not (ascends (data_of (file_of pair.entry.image) pair.entry.pair.data_item)))) }
@@ -73,6 +74,7 @@ fn is_unsorted(pair: Pair<'_>, meta: &HashMeta, known: &mut Chains<'_>) -> Resul
 
 /// Notes each row that holds for a pair by itself, which is a stray or isn't. An error is want of memory: the sink's, or that for
 /// chains in a set off the page.
+#[inline(always)]
 pub(crate) fn note_pair<F: FaultSink>(
     pair: Pair<'_>,
     meta: &HashMeta,
