@@ -57,6 +57,10 @@ join : (s a b : Bool) → ((s && a) || (s && b)) ≡ (s && (a || b))
 join true a b = refl
 join false a b = refl
 
+none_joined : (s : Bool) → false ≡ (s && false)
+none_joined true = refl
+none_joined false = refl
+
 module _ {X : Type 0} (page : X → ℕ) where
   -- a test holds of something at the page of a fault
   abbrev pub some_at : (X → Bool) → List X → Fault → Bool

@@ -78,6 +78,9 @@ tree_pair image root pair forest is at =
 
 -- Pairs that share their key.
 
+abbrev pub leaf_pair : File → ℕ → Listed Item → ℕ → StoredPair
+leaf_pair file p leaf i = pair_at file p leaf (λ j. is_shared_key leaf.offsets (2 * j)) i
+
 module _ {K : Type 0} (of : StoredPair → K) (file : File) where
   -- a pair of a page that shares its key has this of the pair before it
   abbrev pub PageShares : ℕ → Page → Type 0

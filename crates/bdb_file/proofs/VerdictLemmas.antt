@@ -172,6 +172,19 @@ form_all rows image error is =
     all_alike (faults_in (1 ∷ 2 ∷ []) image) (faults_by_rows rows image) error
     (λ some. all_early rows image (faults_in (1 ∷ 2 ∷ []) image) some (some_in image (1 ∷ 2 ∷ []) (range_with_len 3 5) some)) is
 
+pub graph_all : (rows : Rows) (image : List ℕ) (error : AllError) → faults_in (1 ∷ 2 ∷ []) image ≡ []
+    → IsAllOf (faults_in (3 ∷ 4 ∷ 5 ∷ []) image) error
+    → IsAllOf (faults_by_rows rows image) error
+graph_all rows image error form is =
+    all_alike (faults_in (3 ∷ 4 ∷ 5 ∷ []) image) (faults_by_rows rows image) error
+    (λ some. all_early rows image (faults_in (3 ∷ 4 ∷ 5 ∷ []) image) some
+    (skip_stages image (1 ∷ 2 ∷ []) (range_with_len 3 5) form ∙ some_in image (3 ∷ 4 ∷ 5 ∷ []) (6 ∷ 7 ∷ []) some)) is
+
+pub file_all : (rows : Rows) (image : List ℕ) (error : AllError) → faults_in (1 ∷ 2 ∷ []) image ≡ [] → faults_in (3 ∷ 4 ∷ 5 ∷ []) image ≡ []
+    → IsAllOf (stages_by rows (6 ∷ 7 ∷ []) image) error
+    → IsAllOf (faults_by_rows rows image) error
+file_all rows image error form linked is = subst (λ fs. IsAllOf fs error) (sym (forest_skipped rows image form linked)) is
+
 -- what the first fault of a file is
 pub ruleset first_verdict = (graph_refused, file_refused, file_accepted, read_in_any_order, no_structure_fault, no_master_fault)
 

@@ -89,10 +89,72 @@ kept_more image meta twice b old now new before mid after pages done are notes =
 
 -- What they repeat.
 
+-- pairs with one key are kept both or neither
+kept_alike : (twice : BTreeSet ℕ) (a b : List ℕ) → bytes_eq a b ≡ true → is_among twice (hash5 a) ≡ is_among twice (hash5 b)
+kept_alike twice a b same = ap (λ key. is_among twice (hash5 key)) (eq_same a b same)
+
+-- a pair that isn't kept has another hash than all later ones
+other_hash : (twice : BTreeSet ℕ) (t : Told) (ts : List Told) (u : Told) → IsDistinct (is_missed twice) (map key_hash (t ∷ ts))
+    → is_kept twice t ≡ false → Contains ts u → bytes_eq t.pair.key u.pair.key ≡ false
+unfolding IsDistinct
+other_hash twice t ts u apart lost at =
+    false_from_ne_true (bytes_eq t.pair.key u.pair.key) (λ same.
+    let missed : is_missed twice (key_hash t) (key_hash u) ≡ false =
+    All-contains (λ n. is_missed twice (key_hash t) n ≡ false) (map key_hash ts) (key_hash u) (All-from_recursion _ (map key_hash ts) apart.0)
+    (in_map key_hash ts u at) in
+    let hashes : nat_eq (key_hash t) (key_hash u) ≡ true = eq-eqb (key_hash t) (key_hash u) (ap hash5 (eq_same t.pair.key u.pair.key same)) in
+    cannot (nat_eq (key_hash t) (key_hash u)) (is_kept twice t) hashes lost missed)
+  where
+    cannot : (x y : Bool) → x ≡ true → y ≡ false → (x && not y) ≡ false → ⊥
+    cannot true false p q r = absurd cc
+    cannot true true p q r = absurd cc
+    cannot false y p q r = absurd cc
+
 later_apart : (twice : BTreeSet ℕ) (t : Told) (ts : List Told) → IsDistinct (is_missed twice) (map key_hash (t ∷ ts))
     → IsDistinct (is_missed twice) (map key_hash ts)
 unfolding IsDistinct
 later_apart twice t ts apart = apart.1
+
+same_or : (a b c : Bool) → b ≡ c → (a || b) ≡ (a || c)
+same_or a b c is = ap (λ x. a || x) is
+
+kept_repeats : (twice : BTreeSet ℕ) (seen kept : List StoredPair) (pairs : List Told) → IsDistinct (is_missed twice) (map key_hash pairs)
+    → ((u : Told) → Contains pairs u → is_kept twice u ≡ false → has_this u.pair.key seen ≡ false)
+    → ((key : List ℕ) → is_among twice (hash5 key) ≡ true → has_this key kept ≡ has_this key seen)
+    → repeated_after kept (stored (filter (is_kept twice) pairs)) ≡ repeated_after seen (stored pairs)
+kept_repeats twice seen kept [] apart new same = refl
+kept_repeats twice seen kept (t ∷ ts) apart new same =
+    elim (is_kept twice t) as (λ b. is_kept twice t ≡ b
+    → repeated_after kept (stored (cond b (t ∷ filter (is_kept twice) ts) (filter (is_kept twice) ts))) ≡ repeated_after seen (stored (t ∷ ts))) [
+      | true ↦ λ is. rw (
+        same t.pair.key is,
+        kept_repeats twice (t.pair ∷ seen) (t.pair ∷ kept) ts (later_apart twice t ts apart)
+            (λ u at lost. or_from (bytes_eq t.pair.key u.pair.key) (has_this u.pair.key seen)
+            (false_from_ne_true (bytes_eq t.pair.key u.pair.key) (λ one.
+            let alike : is_among twice (hash5 t.pair.key) ≡ is_among twice (hash5 u.pair.key) = kept_alike twice t.pair.key u.pair.key one in cc))
+            (new u (later_member t ts u at) lost))
+            (λ key among. same_or (bytes_eq t.pair.key key) (has_this key kept) (has_this key seen) (same key among)),
+      ) refl
+      | false ↦ λ is. rw (
+        new t (first_member t ts) is,
+        kept_repeats twice (t.pair ∷ seen) kept ts (later_apart twice t ts apart)
+            (λ u at lost. or_from (bytes_eq t.pair.key u.pair.key) (has_this u.pair.key seen) (other_hash twice t ts u apart is at)
+            (new u (later_member t ts u at) lost))
+            (λ key among. same key among
+            ∙ ap (λ b. b || has_this key seen) (sym (false_from_ne_true (bytes_eq t.pair.key key) (λ one.
+            let alike : is_among twice (hash5 t.pair.key) ≡ is_among twice (hash5 key) = kept_alike twice t.pair.key key one in cc)))),
+      ) refl
+    ] refl
+
+-- those that are kept repeat what all do
+pub kept_anew : (twice : BTreeSet ℕ) (empty keys : BTreeSet (List ℕ)) (before after : List Fault → Type 0) (pairs : List Told) → IsEmpty empty
+    → IsDistinct (is_missed twice) (map key_hash pairs) → NotesRepeats empty keys before after (filter (is_kept twice) pairs)
+    → Notes before after (repeat_faults pairs)
+kept_anew twice empty keys before after pairs none apart notes =
+    subst (λ (again : List StoredPair). Notes before after (map repeat_fault again))
+    (repeated_is (stored (filter (is_kept twice) pairs))
+    ∙ (kept_repeats twice [] [] pairs apart (λ u at lost. refl) (λ key among. refl) ∙ sym (repeated_is (stored pairs))))
+    (noted_anew empty keys before after (filter (is_kept twice) pairs) none notes)
 
 -- how a page keeps what is noted
 pub ruleset keeping_page = (first_of, rest_of, all_kept, none_kept, one_kept)

@@ -193,6 +193,47 @@ more_section least most section low fit = record {
   pairs = fit_longer (holds_records section.settings.kind) least most section.pairs low fit.pairs;
 }
 
+-- settings in the file of a base are as fit as they were
+in_base_fits : (base : Base) (settings : Settings) → IsTrue (is_page_size base.page_size) → AreFitSettings settings
+    → AreFitSettings (in_base base settings)
+in_base_fits base settings legal fit = record {
+  page_size = legal;
+  sorted = fit.sorted;
+  counted = fit.counted;
+  records = fit.records;
+  re_len = fit.re_len;
+  fixed = fit.fixed;
+}
+
+kinds_same : (a b : Kind) → same_kind a b ≡ true → a ≡ b
+kinds_same Btree Btree is = refl
+kinds_same Btree Recno is = absurd (cc is)
+kinds_same Btree Hash is = absurd (cc is)
+kinds_same Btree Queue is = absurd (cc is)
+kinds_same Recno Btree is = absurd (cc is)
+kinds_same Recno Recno is = refl
+kinds_same Recno Hash is = absurd (cc is)
+kinds_same Recno Queue is = absurd (cc is)
+kinds_same Hash Btree is = absurd (cc is)
+kinds_same Hash Recno is = absurd (cc is)
+kinds_same Hash Hash is = refl
+kinds_same Hash Queue is = absurd (cc is)
+kinds_same Queue Btree is = absurd (cc is)
+kinds_same Queue Recno is = absurd (cc is)
+kinds_same Queue Hash is = absurd (cc is)
+kinds_same Queue Queue is = refl
+
+like_kinds : (settings others : Settings) → is_unlike settings others ≡ false → settings.kind ≡ others.kind
+like_kinds settings others like =
+    kinds_same settings.kind others.kind
+    (turned (same_kind settings.kind others.kind)
+    (or_parts (not (same_kind settings.kind others.kind))
+    (differ settings.sorted others.sorted || differ (settings.duplicates || settings.sorted) (others.duplicates || others.sorted)) like).0)
+  where
+    turned : (b : Bool) → not b ≡ false → b ≡ true
+    turned true is = refl
+    turned false is = absurd (cc is)
+
 -- a section behind a partner, or behind none
 module _ (base : Base) (most : ℕ) (section : Section) (legal : IsTrue (is_page_size base.page_size)) (fit : IsFitSection most section) where
   behind_fits : (partner : Option Section) → is_other section.settings partner ≡ false

@@ -53,6 +53,20 @@ pub blank_first : (piece : List ℕ) (rest : List (List ℕ)) → piece ≡ [] �
 blank_first [] rest blank = refl
 blank_first (byte ∷ bytes) rest blank = absurd cc
 
+-- and one with bytes stays
+pub full_first : (piece : List ℕ) (rest : List (List ℕ)) → (piece ≡ [] → ⊥) → full_pieces (piece ∷ rest) ≡ piece ∷ full_pieces rest
+full_first [] rest full = absurd (full refl)
+full_first (byte ∷ bytes) rest full = refl
+
+one_piece : (piece other : List ℕ) (rest more : List (List ℕ)) → piece ∷ rest ≡ other ∷ more → piece ≡ other
+one_piece piece other rest more is = cc
+
+-- the first of pieces has bytes
+pub starts_full : (pieces : List (List ℕ)) (piece : List ℕ) (rest : List (List ℕ)) → pieces ≡ piece ∷ rest → (piece ≡ [] → ⊥)
+    → (other : List ℕ) (more : List (List ℕ)) → pieces ≡ other ∷ more → full_pieces (other ∷ more) ≡ other ∷ full_pieces more
+starts_full pieces piece rest are full other more is =
+    full_first other more (λ blank. full (one_piece piece other rest more (sym are ∙ is) ∙ blank))
+
 -- Pages that are passed over.
 
 -- a page stands for itself
@@ -89,6 +103,16 @@ stands (suc n) image p q legal comes left =
       same = rest.same ∙ sym (ap full_pieces are ∙ blank_first (data_at order size image p) (pieces_from order size image (next_at order size image p)) blank);
       few = omega (arith, rest.few, ap length are);
     }
+
+-- what the handles of a linked image pass over
+pub passed_on : (image : List ℕ) (blanks : Option (List ℕ)) → IsForest image → AreKnownPassed (file_of image) blanks
+    → ArePassedIfAny (head_of image).order (head_of image).page_size image blanks
+passed_on image None forest passed = tt
+passed_on image (Some nexts) forest passed = record {
+  each = λ p left.
+      let after : IsAfter (file_of image) p (page_past nexts p) = passed.each p in
+      stands after.blanks image p (page_past nexts p) (legal_size image forest) after.comes left;
+}
 
 -- what is taken of the chains of a linked image
 pub ruleset taken_chains = (legal_size, linked_whole, linked_pieces, count_is, passed_on, joined_full)

@@ -30,5 +30,14 @@ pub empty_value : (file : File) (head total : ℕ) → is_whole file head total 
 unfolding is_whole value_of
 empty_value file head total whole none = sym (no_items (joined (pieces_of file head)) (eqb-true _ _ (and_parts _ _ whole).1 ∙ none))
 
+-- a chain whose bytes are kept
+pub thin_value : (file : File) (head total : ℕ) (bytes : List ℕ) → bytes ≡ thin_from file head → (bytes ≡ [] → ⊥) → bytes ≡ value_of file (Chain head total)
+unfolding value_of
+thin_value file head total bytes are some = by_thin (is_thin_row (row_at file head)) are
+  where
+    by_thin : (b : Bool) → bytes ≡ bytes_in (cond b (Some (pieces_of file head)) None) → bytes ≡ joined (pieces_of file head)
+    by_thin true same = same
+    by_thin false none = absurd (some none)
+
 -- which value a chain holds
 pub ruleset values_of_chains = (whole_row, empty_value, thin_value)

@@ -9,6 +9,21 @@ use Rattle.std.proofs.lemmas.List.Sorted.{Contains-permutation, IsPermutation-sy
 use Rattle.bdb_format.proofs.MemberLemmas.{first_member, in_filter, in_map, is_empty, later_member, no_member, of_filter, of_map}
 use Rattle.bdb_settle.proofs.StableLemmas.{tied_alike}
 
+filter_where : {X : Type 0} (p q : X → Bool) (xs : List X) → ((x : X) → Contains xs x → p x ≡ q x) → filter p xs ≡ filter q xs
+filter_where p q [] same = refl
+filter_where p q (x ∷ xs) same =
+    let rest : filter p xs ≡ filter q xs = filter_where p q xs (λ y at. same y (later_member x xs y at)) in
+    rw (same x (first_member x xs), rest) refl
+
+filter_of_map : {X Y : Type 0} (f : X → Y) (test : Y → Bool) (xs : List X) → filter test (map f xs) ≡ map f (filter (λ x. test (f x)) xs)
+filter_of_map f test [] = refl
+filter_of_map f test (x ∷ xs) = step (test (f x)) (filter_of_map f test xs)
+  where
+    step : (b : Bool) → filter test (map f xs) ≡ map f (filter (λ y. test (f y)) xs)
+        → cond b (f x ∷ filter test (map f xs)) (filter test (map f xs)) ≡ map f (cond b (x ∷ filter (λ y. test (f y)) xs) (filter (λ y. test (f y)) xs))
+    step true same = ap (λ ys. f x ∷ ys) same
+    step false same = same
+
 module _ {X Y : Type 0} (f : X → Y) (own : X → X → Bool) (other : Y → Y → Bool) (weak : IsStrictWeakOrder other) where
   -- the two orders are the same of the elements of a list
   abbrev pub AreAlike : List X → Type 0
