@@ -10,17 +10,21 @@ use Rattle.bdb_format.specs.declared.metadata.FileKind.{FileKind}
 use Rattle.bdb_format.specs.declared.metadata.FileKind.TheVariants.{Btree, Hash as HashFile, Queue as QueueFile}
 use Rattle.bdb_format.specs.declared.references.Reference.{Reference}
 use Rattle.bdb_format.specs.declared.references.Sort.{Sort}
-use Rattle.bdb_format.specs.declared.references.Sort.TheVariants.{Free as FreeRef, Root, Bucket, HashNext, Child, OverflowHead, OverflowNext, DuplicateRoot}
+use Rattle.bdb_format.specs.declared.references.Sort.TheVariants.{Free as FreeRef, Root, Bucket, HashNext, Child, OverflowHead, OverflowNext}
+use Rattle.bdb_format.specs.declared.references.Sort.TheVariants.{DuplicateRoot}
 use Rattle.bdb_format.specs.Chains.{chain, chain_in, next_of}
-use Rattle.bdb_format.specs.File.{File, file_of, header_in, page_at, type_in, page_bytes}
+use Rattle.bdb_format.specs.File.{File, file_of, header_in, page_at, type_in}
 use Rattle.bdb_format.specs.Graph.{OneRole, Owner, all_references, held_by, is_anchor, is_head_reference, is_meta, is_spare, owners}
 use Rattle.bdb_format.specs.declared.pages.RecnoItem.{RecnoItem}
 use Rattle.bdb_format.specs.HeadOf.{head_of}
-use Rattle.bdb_format.specs.Numbers.{has_bit, byte_at}
-use Rattle.bdb_format.specs.Page.{Item, InternalItem, Listed, BtreeFields, HashFields, QueueFields, Page, Zero, Meta, Hash, Internal, RecnoInternal}
+use Rattle.bdb_format.specs.Numbers.{has_bit}
+use Rattle.bdb_format.specs.Page.{Item, InternalItem, Listed, BtreeFields, HashFields, QueueFields}
+use Rattle.bdb_format.specs.Page.{Page, Zero, Meta, Hash, Internal, RecnoInternal}
 use Rattle.bdb_format.specs.Page.{PageType, HashPage}
 use Rattle.bdb_format.specs.declared.kinds.Order.{Order}
+use Rattle.bdb_format.specs.Numbers.{byte_at}
 use Rattle.bdb_format.specs.Reading.{abstract_page, hash_item_at, is_zero, listed, page_as, page_type}
+use Rattle.bdb_format.specs.File.{page_bytes}
 use Rattle.bdb_format.specs.References.{Asked, asked_by, child_types, contents_in, content_targets, fit_code, fit_rows, has_type, is_zero_page}
 use Rattle.bdb_format.specs.References.{targets_in, targets_of, refs, root_types, unless_zero}
 use Rattle.bdb_format.proofs.GraphLemmas.{each_fits, each_page_has_one_role, is_owner, owner_fits, reserve_is}
@@ -41,7 +45,7 @@ use Rattle.bdb_law_sums.specs.Counting.{AreParts}
 use Rattle.bdb_law_sums.specs.HashSums.{HashPagesAreOfBuckets, WeighsHash, is_bucket, is_hash_page}
 use Rattle.bdb_law_sums.proofs.CountLemmas.{parts_are_entrances, sum_none, sum_parts, sum_plus, sum_same}
 use Rattle.bdb_law_sums.proofs.NameLemmas.{OfStructure, named_sum, named_weight, sum_map, sum_refs}
-use Rattle.bdb_law_sums.proofs.TreeLemmas.{all_pass, named_as_owned, no_anchor, page_zero_type, pages, passed_by, some_member, sum_filter, head_leads_out}
+use Rattle.bdb_law_sums.proofs.TreeLemmas.{all_pass, named_as_owned, no_anchor, page_zero_type, pages, passed_by, some_member, sum_filter}
 use Rattle.bdb_law_sums.proofs.TreeLemmas.{target_inside, targets}
 
 -- what the pages of a row weigh, from a hash page on; another page weighs nothing
@@ -472,6 +476,10 @@ spare_next : (page : Page) (is : Listed Item) → page ≡ Hash is → is_spare 
 spare_next page is same spare =
     subst (λ (page : Page). is_spare page ≡ true → ((header_in page).next == 0) ≡ true) (sym same)
     (λ s. (and_parts (is.header.entries == 0 && is.header.previous == 0) (is.header.next == 0) s).1) spare
+
+head_leads_out : (sort : Sort) → is_head_reference sort ≡ true → leads_in sort ≡ false
+head_leads_out OverflowHead is = refl
+head_leads_out sort is = absurd cc
 
 once_or_none : (image : List ℕ) (weight : ℕ → ℕ) (p : ℕ) → IsForest image → WeighsHash (file_of image) weight → p ≤ (file_of image).last
     → (whole (file_of image) weight p ≡ 0) ⊎ (length (owners (file_of image) p) ≡ 1)

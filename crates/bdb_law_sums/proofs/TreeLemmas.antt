@@ -211,7 +211,7 @@ all_pass test (y ∷ ys) x all at =
     let both = and_parts (test y) (list_all test ys) all in
     elim (member_cases y ys x at) [ inl same ↦ subst (λ z. test z ≡ true) same both.0 | inr later ↦ all_pass test ys x both.1 later ]
 
-pub head_leads_out : (sort : Sort) → is_head_reference sort ≡ true → leads_in sort ≡ false
+head_leads_out : (sort : Sort) → is_head_reference sort ≡ true → leads_in sort ≡ false
 head_leads_out OverflowHead is = refl
 head_leads_out sort is = absurd cc
 

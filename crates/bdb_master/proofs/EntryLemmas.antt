@@ -108,4 +108,4 @@ other_first file p first other =
     no_meta (page_at file 0) (other_listed (is_meta (page_at file 0)) (above file) p (sym (ap (λ ps. slice_get ps 0) (listed file)) ∙ first) other)
 
 -- which items are entries
-pub ruleset live_entries = (first_fits, live_first, not_live, rest_fits, first_keyed, rest_keyed)
+pub ruleset living_entries = (first_fits, live_first, not_live, rest_fits, first_keyed, rest_keyed)

@@ -95,7 +95,7 @@ pub fn master_among(meta: Meta) -> Option<BtreeMeta>
 }
 
 /// Adds the live ones of these pairs. An error is want of memory.
-#[tactic(auto, using(crate::proofs::EntryLemmas::live_entries))]
+#[tactic(auto, using(crate::proofs::EntryLemmas::living_entries))]
 fn push_live<'a>(
     alloc: Global,
     entries: &mut Vec<Entry<'a>>,
