@@ -2,27 +2,14 @@
 
 ghost use Rattle.std.specs.Prelude.{◌≡◌};
 
-use bdb_format::{Kind, Order, Settings};
+use bdb_format::{Kind, Order, Settings, plain_settings};
 
 /// Those of single data, which aren't counted, and of records of any length.
 pub fn plain(kind: Kind, order: Order, page_size: u32) -> Settings
     ensures kind { result.kind ≡ kind }
     ensures size { result.page_size ≡ page_size }
 {
-    Settings {
-        kind,
-        page_size,
-        order,
-        duplicates: false,
-        sorted: false,
-        recnum: false,
-        renumber: false,
-        fixed: false,
-        re_len: 0,
-        re_pad: 0x20,
-        minkey: 2,
-        ffactor: 0,
-    }
+    plain_settings(kind, page_size, order)
 }
 
 /// Those of a tree that these flags of metadata say, of records of a length where they have one.

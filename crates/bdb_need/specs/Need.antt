@@ -1,11 +1,12 @@
 -- How many pages loading needs, for every list of sections. Source: docs/FORMAT.md, "Built trees", "Built tables", "Built queues" and
 -- "Pages of a loaded file".
-use Rattle.std.specs.Prelude.{◌≡◌, ℕ, ◌+◌, ◌-◌, ◌≤◌, if◌then◌else◌, IsTrue, false, List, [], ◌∷◌, map, replicate, Option, Some, None, is_some}
+use Rattle.std.specs.Prelude.{◌≡◌, ℕ, ◌+◌, ◌-◌, ◌≤◌, if◌then◌else◌, IsTrue, List, [], ◌∷◌, map, replicate, Option, Some, None, is_some}
 use Rattle.std.specs.List.{All, sum_by}
 use Rattle.bdb_format.specs.declared.kinds.Kind.{Kind}
 use Rattle.bdb_format.specs.declared.kinds.Kind.TheVariants.{Btree, Recno, Hash, Queue}
 use Rattle.bdb_format.specs.declared.kinds.Order.TheVariants.{Little}
 use Rattle.bdb_format.specs.declared.settings.Settings.{Settings}
+use Rattle.bdb_format.specs.Databases.{plain_settings}
 use Rattle.bdb_format.specs.HeadOf.{is_page_size}
 use Rattle.bdb_format.specs.Numbers.{pad4}
 use Rattle.bdb_format.specs.Rows.{records_per_page}
@@ -40,20 +41,7 @@ section_pages size section = 1 + list_pages section.settings.kind (sized size se
 -- The master is a btree without duplicates: its keys are the names, in byte order, each with four bytes of data.
 
 abbrev pub master_settings : ℕ → Settings
-master_settings size = record {
-  kind = Btree;
-  page_size = size;
-  order = Little;
-  duplicates = false;
-  sorted = false;
-  recnum = false;
-  renumber = false;
-  fixed = false;
-  re_len = 0;
-  re_pad = 32;
-  minkey = 2;
-  ffactor = 0;
-}
+master_settings size = plain_settings Btree size Little
 
 abbrev pub name_in : Option (List ℕ) → List ℕ
 name_in None = []

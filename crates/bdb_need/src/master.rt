@@ -6,7 +6,7 @@ ghost use Rattle.bdb_mkleaves.specs.Runs.{IsShort};
 ghost use Rattle.bdb_need.specs.Need.{master_pages, master_settings, name_in, name_pair};
 
 use crate::trees::tree_pages;
-use bdb_format::{Kind, Order, Settings};
+use bdb_format::{Kind, Order, Settings, plain_settings};
 use bdb_settle::settle;
 use bdb_text_format::{KeyRef, PairRef, Section, Sections, TextPairs};
 use std::alloc::{AllocError, Global};
@@ -15,20 +15,7 @@ use std::alloc::{AllocError, Global};
 fn master_settings(size: u32) -> Settings
     ensures { result ≡ master_settings size }
 {
-    Settings {
-        kind: Kind::Btree,
-        page_size: size,
-        order: Order::Little,
-        duplicates: false,
-        sorted: false,
-        recnum: false,
-        renumber: false,
-        fixed: false,
-        re_len: 0,
-        re_pad: 32,
-        minkey: 2,
-        ffactor: 0,
-    }
+    plain_settings(Kind::Btree, size, Order::Little)
 }
 
 // The bytes of a section's name, none where it has none.

@@ -1,7 +1,7 @@
 ghost use Rattle.std.specs.Prelude.{◌≡◌};
 ghost use Rattle.bdb_repair.specs.Shapes.{are_several, are_sorted, duplicates_of, kind_of, shaped_settings};
 
-use bdb_format::{Kind, Settings};
+use bdb_format::{Kind, Settings, plain_settings};
 use bdb_rescue::Guess;
 
 /// The data that a key may have.
@@ -66,17 +66,8 @@ pub(crate) fn shaped_settings(guess: Guess, shape: Shape) -> Settings
     ensures { result ≡ shaped_settings guess shape }
 {
     Settings {
-        kind: kind_of(shape),
-        page_size: guess.page_size,
-        order: guess.order,
         duplicates: are_several(duplicates_of(shape)),
         sorted: are_sorted(duplicates_of(shape)),
-        recnum: false,
-        renumber: false,
-        fixed: false,
-        re_len: 0,
-        re_pad: 32,
-        minkey: 2,
-        ffactor: 0,
+        ..plain_settings(kind_of(shape), guess.page_size, guess.order)
     }
 }

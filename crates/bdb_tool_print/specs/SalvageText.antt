@@ -3,6 +3,7 @@ use Rattle.std.specs.Prelude.{ℕ, Bool, true, false, List, [], ◌∷◌, ◌++
 use Rattle.std.specs.List.{enumerate_from}
 use Rattle.bdb_format.specs.declared.kinds.Kind.TheVariants.{Btree, Recno}
 use Rattle.bdb_format.specs.declared.settings.Settings.{Settings}
+use Rattle.bdb_format.specs.Databases.{plain_settings}
 use Rattle.bdb_format.specs.File.{File}
 use Rattle.bdb_format.specs.Lists.{ListKey, BytesKey, NumberKey}
 use Rattle.bdb_text_format.specs.Written.{section_text}
@@ -11,20 +12,7 @@ use Rattle.bdb_survey.specs.Salvage.{loose, salvaged_file, stored}
 
 -- a recno section as the image is read, without a setting of its own
 abbrev pub loose_settings : Guess → Settings
-loose_settings guess = record {
-  kind = Recno;
-  page_size = guess.page_size;
-  order = guess.order;
-  duplicates = false;
-  sorted = false;
-  recnum = false;
-  renumber = false;
-  fixed = false;
-  re_len = 0;
-  re_pad = 32;
-  minkey = 2;
-  ffactor = 0;
-}
+loose_settings guess = plain_settings Recno guess.page_size guess.order
 
 -- a btree section whose keys may have several data, in no order
 abbrev pub stored_settings : Guess → Settings

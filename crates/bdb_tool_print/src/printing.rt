@@ -31,7 +31,7 @@ impl<'k, K: Sink> Printer<'k, K> {
     {
         match put_all(self.out, self.pending.as_slice()) {
             Ok(()) => {
-                *self.pending = Bytes::new(self.alloc);
+                self.pending.clear();
                 Ok(())
             }
             Err(_) => Err(Cut::WriteFault),

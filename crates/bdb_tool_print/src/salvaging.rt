@@ -13,7 +13,7 @@ ghost use Rattle.bdb_rescue.specs.Kept.{file_in};
 ghost use Rattle.bdb_survey.specs.Salvage.{loose};
 
 use crate::printing::Printer;
-use bdb_format::{Bytes, Kind, Settings};
+use bdb_format::{Bytes, Kind, Settings, plain_settings};
 use bdb_io::Sink;
 use bdb_overflow::{Datum, KeyView};
 use bdb_rescue::{Guess, SalvagePairs, SalvageValues, Salvaged};
@@ -24,20 +24,7 @@ use std::alloc::Global;
 fn loose_settings(guess: Guess) -> Settings
     ensures { result ≡ loose_settings guess }
 {
-    Settings {
-        kind: Kind::Recno,
-        page_size: guess.page_size,
-        order: guess.order,
-        duplicates: false,
-        sorted: false,
-        recnum: false,
-        renumber: false,
-        fixed: false,
-        re_len: 0,
-        re_pad: 32,
-        minkey: 2,
-        ffactor: 0,
-    }
+    plain_settings(Kind::Recno, guess.page_size, guess.order)
 }
 
 // The settings of the section of the stored pairs.
