@@ -28,20 +28,12 @@ greater_three a b c = grind (arith, nat_tests, less_trans a b c, less_above a c 
 
 lesser_step : (a b : Option (List ℕ)) (c : List ℕ) → lesser_of (least_of a b) c ≡ least_of a (lesser_of b c)
 lesser_step a None c = refl
-lesser_step None (Some b) c = least_none (lesser_of (Some b) c)
-  where
-    least_none : (b : Option (List ℕ)) → b ≡ least_of None b
-    least_none None = refl
-    least_none (Some b) = refl
+lesser_step None (Some b) c = grind (arith, Some, Option, None)
 lesser_step (Some a) (Some b) c = lesser_three a b c
 
 greater_step : (a b : Option (List ℕ)) (c : List ℕ) → greater_of (greatest_of a b) c ≡ greatest_of a (greater_of b c)
 greater_step a None c = refl
-greater_step None (Some b) c = greatest_none (greater_of (Some b) c)
-  where
-    greatest_none : (b : Option (List ℕ)) → b ≡ greatest_of None b
-    greatest_none None = refl
-    greatest_none (Some b) = refl
+greater_step None (Some b) c = grind (arith, Some, Option, None)
 greater_step (Some a) (Some b) c = greater_three a b c
 
 widened : (ends more : Ends) (pairs : List StoredPair) → fold widen_by (joined ends more) pairs ≡ joined ends (fold widen_by more pairs)
@@ -66,12 +58,7 @@ below_step (Some bound) (Some least) key = grind (arith, nat_tests, less_trans k
 
 under_step : (bounds : Bounds) (ends : Ends) (key : List ℕ)
     → under (under_ends bounds ends) key ≡ under_ends bounds (record { least = lesser_of ends.least key; greatest = greater_of ends.greatest key })
-under_step bounds ends key =
-    rw (
-      greater_step bounds.greatest ends.greatest key,
-      below_step bounds.separator ends.least key,
-      or_assoc bounds.wrong (is_any_below bounds.separator ends.least) (is_below bounds.separator key),
-    ) refl
+under_step bounds ends key = grind (arith, greater_step, below_step, or_assoc)
 
 under_more : (bounds : Bounds) (ends : Ends) (pairs : List StoredPair)
     → fold under_pair (under_ends bounds ends) pairs ≡ under_ends bounds (fold widen_by ends pairs)

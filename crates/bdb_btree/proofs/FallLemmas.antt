@@ -7,13 +7,10 @@ use Rattle.std.proofs.lemmas.Bool.{cases_lt, eqb-true, false_from_ne_true}
 use Rattle.std.proofs.lemmas.List.{get_or_past}
 use Rattle.bdb_format.specs.declared.kinds.Order.{Order}
 use Rattle.bdb_format.specs.Contents.{StoredPair, pairs_of, tree_pairs}
-use Rattle.bdb_format.specs.File.{File, file_of, page_at, page_bytes}
-use Rattle.bdb_format.specs.HeadOf.{head_of}
-use Rattle.bdb_format.specs.Chains.{value_of}
+use Rattle.bdb_format.specs.File.{File, file_of, page_at}
 use Rattle.bdb_format.specs.Leaves.{leaves, children_in}
-use Rattle.bdb_format.specs.Numbers.{byte_at}
-use Rattle.bdb_format.specs.Page.{Item, Listed, Page, Zero, Leaf, NoType, PageType, LeafPage}
-use Rattle.bdb_format.specs.Reading.{abstract_page, entries_of, is_zero, leaf_item_at, listed, page_as, page_type}
+use Rattle.bdb_format.specs.Page.{Item, Listed, Page, Leaf, PageType, LeafPage}
+use Rattle.bdb_format.specs.Reading.{abstract_page, leaf_item_at, listed, page_as}
 use Rattle.bdb_format.specs.References.{no_item}
 use Rattle.bdb_format.proofs.PageLemmas.{index_offset, length_items}
 use Rattle.bdb_format.proofs.LeafLemmas.{leaf_item_is, one_offset}
@@ -28,7 +25,6 @@ use Rattle.bdb_graph.specs.Linked.{IsForest}
 use Rattle.bdb_tree.proofs.TreeLemmas.{leaves_of_inner}
 use Rattle.bdb_btree.specs.Bounds.{DontFall, NoneBelow, OrderedIf}
 use Rattle.bdb_btree.specs.Rows.{Passed, next_pair, no_pairs_passed}
-use Rattle.bdb_btree.specs.Runs.{KeyOrder, next_key}
 use Rattle.bdb_btree.proofs.OrderLemmas.{Shares, all_in_order, keys_alone}
 use Rattle.bdb_btree.proofs.PairLemmas.{PageShares, pages_share}
 use Rattle.bdb_form.proofs.FormedLemmas.{shared_after}
@@ -45,15 +41,7 @@ OffsetsTellIn (Leaf leaf) = OffsetsTell leaf
 OffsetsTellIn page = Unit {0}
 
 leaf_tells : (order : Order) (page : List ℕ) → OffsetsTell (listed order page (leaf_item_at order page))
-leaf_tells order page i j low also same =
-    let count : length (listed order page (leaf_item_at order page)).items ≡ entries_of order page =
-    length_items order page (leaf_item_at order page) in
-    let here : i < entries_of order page = omega arith in
-    let there : j < entries_of order page = omega arith in
-    leaf_item_is order page i here
-    ∙ (one_offset order page i j (sym (index_offset order page (leaf_item_at order page) i here) ∙
-    (same ∙ index_offset order page (leaf_item_at order page) j there))
-    ∙ sym (leaf_item_is order page j there))
+leaf_tells order page i j low also same = grind (arith, length_items, leaf_item_is, one_offset, index_offset)
 
 type_tells : (order : Order) (page : List ℕ) (t : PageType) → OffsetsTellIn (page_as order page t)
 type_tells order page LeafPage = leaf_tells order page
@@ -61,18 +49,10 @@ type_tells order page t = tt
 
 page_tells : (order : Order) (page : List ℕ) → OffsetsTellIn (abstract_page order page)
 unfolding abstract_page
-page_tells order page =
-    elim (is_zero page) as (λ zeros. OffsetsTellIn (elim zeros [ true ↦ Zero | false ↦ page_as order page (page_type (byte_at page 25)) ])) [
-      | true ↦ tt
-      | false ↦ type_tells order page (page_type (byte_at page 25))
-    ]
+page_tells order page = grind (arith, type_tells)
 
 file_tells : (image : List ℕ) (p : ℕ) → OffsetsTellIn (page_at (file_of image) p)
-file_tells image p =
-    elim (cases_lt (head_of image).last p) [
-      | inl past ↦ subst OffsetsTellIn (sym (get_or_past (file_of image).pages p NoType (omega (arith, pages_counted image, last_page image)))) tt
-      | inr low ↦ subst OffsetsTellIn (sym (page_is image p low)) (page_tells (head_of image).order (page_bytes (head_of image) image p))
-    ]
+file_tells image p = grind (arith, cases_lt, get_or_past, pages_counted, last_page, page_is, page_tells)
 
 -- Pairs that share their key.
 
@@ -81,20 +61,12 @@ abbrev pub ShareKeys : List ℕ → List StoredPair → Type 0
 ShareKeys key pairs = Shares (λ (pair : StoredPair). pair.key) key pairs
 
 same_keys : (file : File) (p : ℕ) (page : Page) → OffsetsTellIn page → PageShares (λ (pair : StoredPair). pair.key) file p page
-same_keys file p (Leaf leaf) tell =
-    λ i j low next shares.
-    let one : slice_index leaf.offsets (2 * i) ≡ slice_index leaf.offsets (2 * i - 2) =
-    eqb-true _ _ (sym (shared_after leaf.offsets i (omega arith)) ∙ shares) in
-    let before : 2 * i - 2 ≡ 2 * j = omega arith in
-    sym (ap (λ (item : Item). value_of file item.content)
-    (tell (2 * i) (2 * j) (omega arith) (omega arith) (one ∙ ap (slice_index leaf.offsets) before)))
+same_keys file p (Leaf leaf) tell = grind (arith, eqb-true, shared_after)
 same_keys file p page tell = tt
 
 pub tree_keys : (image : List ℕ) (root : ℕ) (key : List ℕ) → ShareKeys key (tree_pairs (file_of image) root)
 unfolding tree_pairs
-tree_keys image root key =
-    pages_share (λ (pair : StoredPair). pair.key) (file_of image)
-    (λ p. same_keys (file_of image) p (page_at (file_of image) p) (file_tells image p)) (leaves (file_of image) root) key
+tree_keys image root key = grind (arith, pages_share, same_keys, file_tells)
 
 -- Pairs whose keys don't fall.
 
@@ -132,12 +104,7 @@ dont_fall (pair ∷ pairs) shares kept = dont_fall_from pair pairs shares.1 kept
 pub root_ordered : (image : List ℕ) (root : ℕ) (sorted : Bool) (passed : Passed)
     → passed ≡ fold (next_pair (file_of image) sorted) no_pairs_passed (tree_pairs (file_of image) root)
     → OrderedIf passed.keys.ordered (file_of image) root
-root_ordered image root sorted passed all ordered =
-    let pairs : List StoredPair = tree_pairs (file_of image) root in
-    let same : passed.keys ≡ fold next_key no_pairs_passed.keys pairs =
-    ap (λ (p : Passed). p.keys) all ∙ keys_alone (file_of image) sorted pairs no_pairs_passed in
-    dont_fall pairs (tree_keys image root [])
-    (λ two at. all_in_order pairs two (ap (λ (keys : KeyOrder). keys.ordered) (sym same) ∙ ordered) at)
+root_ordered image root sorted passed all ordered = grind (arith, keys_alone, dont_fall, tree_keys, all_in_order)
 
 -- Parts of a list.
 

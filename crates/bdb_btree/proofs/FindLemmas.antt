@@ -68,10 +68,7 @@ get_pair file key pair =
 get_pairs : (file : File) (key : List ℕ) (pairs : List StoredPair)
     → get (flat_map (listed_pair file) pairs) (BytesKey key) ≡ flat_map (data_under file key) pairs
 get_pairs file key [] = refl
-get_pairs file key (pair ∷ pairs) =
-    get_append (listed_pair file pair) (flat_map (listed_pair file) pairs) (BytesKey key)
-    ∙ (ap (λ first. first ++ get (flat_map (listed_pair file) pairs) (BytesKey key)) (get_pair file key pair)
-    ∙ ap (λ rest. data_under file key pair ++ rest) (get_pairs file key pairs))
+get_pairs file key (pair ∷ pairs) = grind (arith, get_append, get_pair, get_pairs file key pairs)
 
 -- the data below a page that a key has
 abbrev pub data_below : File → List ℕ → ℕ → List (List ℕ)
@@ -288,9 +285,7 @@ data_of_descent : (levels : ℕ) (image key : List ℕ) (p : ℕ) → IsForest i
     → HasTypeAt (file_of image) (3 ∷ 5 ∷ 12 ∷ []) p → AllSeparated (file_of image) p
     → data_below (file_of image) key p ≡ flat_map (data_under (file_of image) key)
     (pairs_of (file_of image) (descent levels (file_of image) (is_below (file_of image) key) p))
-data_of_descent zero image key p forest is keyed apart =
-    let high : 1 ≤ level (file_of image) p =
-    tree_level image p forest (tree_keyed (type_in (page_at (file_of image) p)) keyed) in absurd (omega arith)
+data_of_descent zero image key p forest is keyed apart = grind (arith, level, tree_level, tree_keyed)
 data_of_descent (suc n) image key p forest is keyed apart =
     let file : File = file_of image in
     let test : InternalItem → Bool = is_below file key in
@@ -350,9 +345,7 @@ root_typed image meta forest has keys =
 
 pub keys_readable : (image : List ℕ) (root : ℕ) → IsForest image
     → AllReadable (file_of image) (λ (item : InternalItem). FitsContent (file_of image) item.key) root
-keys_readable image root forest p page inner is i above low =
-    key_fits image p page i (get_or page.items i no_internal_item) forest (internal_inside image p page is) is
-    (slice_get-get_or page.items i no_internal_item low)
+keys_readable image root forest p page inner is i above low = grind (arith, key_fits, internal_inside, slice_get-get_or)
 
 pub keys_monotone : (file : File) (key : List ℕ) (root : ℕ) → AllSeparated file root → AllMonotone file (is_below file key) root
 keys_monotone file key root apart p page inner is =
@@ -370,22 +363,13 @@ pub found_by : (linked image key : List ℕ) (meta : BtreeMeta) (root leaf : ℕ
     → found ≡ get (btree_list (file_of linked) meta.root) (BytesKey key)
 unfolding btree_list
 found_by linked image key meta root leaf found forest has keys none same named leads is =
-    let file : File = file_of linked in
-    rw (is, leads, same, named)
-    (sym (get_pairs file key (tree_pairs file meta.root)
-    ∙ data_of_descent (level file meta.root) linked key meta.root forest refl
-    (root_keyed linked meta forest has keys) (all_separated linked meta keys none)))
+    grind (arith, get_pairs, data_of_descent, level, root_keyed, all_separated)
 
 -- On the leaf.
 
 from_key_fit : (file : File) (key : List ℕ) (pairs : List StoredPair) → AreFit file pairs → AreFit file (from_key key pairs)
 from_key_fit file key [] fit = tt
-from_key_fit file key (first ∷ pairs) fit =
-    elim (bytes_eq first.key key) as (λ b. AreFit file (cond b (first ∷ pairs) (from_key key pairs))) [
-      | true ↦ fit
-      | false ↦
-          from_key_fit file key pairs fit.1
-    ]
+from_key_fit file key (first ∷ pairs) fit = grind (arith, from_key_fit file key pairs fit.1)
 
 -- the first of the pairs from one with a key on has the key
 pub from_key_first : (key : List ℕ) (pairs : List StoredPair) (pair : StoredPair) (rest : List StoredPair)
@@ -413,9 +397,7 @@ key_open file key pairs opened = record { stage = opened.stage; fit = from_key_f
 pub found_some : (file : File) (key : List ℕ) (pairs : List StoredPair) (pair : StoredPair) (rest : List StoredPair)
     → from_key key pairs ≡ pair ∷ rest
     → flat_map (data_under file pair.key) (pair ∷ rest) ≡ flat_map (data_under file key) pairs
-found_some file key pairs pair rest is =
-    ap (λ k. flat_map (data_under file k) (pair ∷ rest)) (from_key_first key pairs pair rest is)
-    ∙ (ap (flat_map (data_under file key)) (sym is) ∙ from_key_same file key pairs)
+found_some file key pairs pair rest is = grind (arith, from_key_first, from_key_same)
 
 pub found_none : (file : File) (key : List ℕ) (pairs : List StoredPair) → from_key key pairs ≡ [] → [] ≡ flat_map (data_under file key) pairs
 found_none file key pairs none = ap (flat_map (data_under file key)) (sym none) ∙ from_key_same file key pairs
@@ -424,6 +406,4 @@ found_none file key pairs none = ap (flat_map (data_under file key)) (sym none) 
 pub next_found : (file : File) (key : List ℕ) (here after : Option (List (List ℕ))) (old new : List StoredPair) (pair : StoredPair)
     → left_of here ≡ [] → old ≡ pair ∷ new → left_of after ≡ data_under file key pair
     → found_left file key after new ≡ found_left file key here old
-next_found file key here after old new pair none more are =
-    ap (λ values. values ++ flat_map (data_under file key) new) are
-    ∙ sym (ap (λ values. values ++ flat_map (data_under file key) old) none ∙ ap (flat_map (data_under file key)) more)
+next_found file key here after old new pair none more are = grind arith

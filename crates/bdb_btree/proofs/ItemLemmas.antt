@@ -1,4 +1,5 @@
 -- Pages of a tree of pairs: the items of an internal page lead one level down, and another page is a leaf.
+use Rattle.std.proofs.Common.{arith}
 use Rattle.std.proofs.Common.{◌≡◌, ℕ, ◌+◌, ◌≤◌, Bool, true, List, map, refl, Some, ◌∷◌, ◌++◌, [], sym, ◌∙◌, ap, subst, inl, inr, append-nil}
 use Rattle.std.specs.List.{Contains, flat_map, slice_get}
 use Rattle.bdb_faults.specs.Notes.{NotesAll}
@@ -62,9 +63,7 @@ keyed_leaf image p view forest keyed seen other =
 -- the pairs of a leaf
 pub leaf_tree : (image : List ℕ) (p : ℕ) → IsForest image → FitsLeafPage (file_of image) p → tree_pairs (file_of image) p ≡ pairs_of (file_of image) p
 unfolding tree_pairs
-leaf_tree image p forest leaf =
-    ap (flat_map (pairs_of (file_of image))) (leaves_of_leaf (file_of image) p (leaf_is image p forest leaf))
-    ∙ append-nil (pairs_of (file_of image) p)
+leaf_tree image p forest leaf = grind (arith, leaves_of_leaf, leaf_is, append-nil)
 
 -- no internal page stands at or below a leaf
 pub leaf_noted : (has : List Fault → Type 0) (image : List ℕ) (p : ℕ) (row : ContentsRow) (test : ℕ → Bool) → IsForest image

@@ -1,5 +1,5 @@
 -- What is noted, one fault after another, and which faults these are.
-use Rattle.std.proofs.Common.{◌≡◌, ℕ, Bool, true, false, List, [], ◌∷◌, ◌++◌, refl, sym, ◌∙◌, ap, subst, arith}
+use Rattle.std.proofs.Common.{◌≡◌, ℕ, Bool, true, false, List, [], ◌∷◌, ◌++◌, refl, ◌∙◌, ap, subst, arith}
 use Rattle.std.specs.Prelude.{◌==◌, ◌&&◌, ◌||◌}
 use Rattle.std.specs.List.{Contains, flat_map, list_any}
 use Rattle.std.proofs.lemmas.Bool.{and_parts, eqb-true, eq-eqb}
@@ -26,10 +26,7 @@ is_itself : (fault : Fault) → is_fault fault fault ≡ true
 is_itself fault = rw (eq-eqb fault.stage fault.stage refl, eq-eqb fault.page fault.page refl, eq-eqb fault.code fault.code refl) refl
 
 same_fault : (fault other : Fault) → is_fault fault other ≡ true → other ≡ fault
-same_fault fault other is =
-    let parts = and_parts (other.stage == fault.stage) ((other.page == fault.page) && (other.code == fault.code)) is in
-    let rest = and_parts (other.page == fault.page) (other.code == fault.code) parts.1 in
-    same_parts other.stage fault.stage other.page fault.page other.code fault.code (eqb-true _ _ parts.0) (eqb-true _ _ rest.0) (eqb-true _ _ rest.1)
+same_fault fault other is = grind (arith, and_parts, same_parts, eqb-true)
 
 pub in_has : (faults : List Fault) (fault : Fault) → Contains faults fault → has faults fault ≡ true
 in_has faults fault at = passes_here (is_fault fault) faults fault at (is_itself fault)
@@ -44,14 +41,8 @@ is_of row fault = (8 == fault.stage) && (contents_code row == fault.code)
 
 one_has : (row : ContentsRow) (page : ℕ) (holds : Bool) (fault : Fault)
     → has (fault_if (Contents row) page holds) fault ≡ (is_of row fault && ((page == fault.page) && holds))
-one_has row page true fault = turn (8 == fault.stage) (page == fault.page) (contents_code row == fault.code)
-  where
-    turn : (a b c : Bool) → ((a && (b && c)) || false) ≡ ((a && c) && (b && true))
-    turn a b c = grind (arith, nat_tests)
-one_has row page false fault = turn (is_of row fault) (page == fault.page)
-  where
-    turn : (a b : Bool) → false ≡ (a && (b && false))
-    turn a b = grind (arith, nat_tests)
+one_has row page true fault = grind (arith, nat_tests)
+one_has row page false fault = grind (arith, nat_tests)
 
 join : (s a b : Bool) → ((s && a) || (s && b)) ≡ (s && (a || b))
 join true a b = refl
@@ -86,10 +77,4 @@ swap false false c d = refl
 pub both_have : {X : Type 0} (f g : X → List Fault) (xs : List X) (fault : Fault)
     → has (flat_map (λ x. f x ++ g x) xs) fault ≡ (has (flat_map f xs) fault || has (flat_map g xs) fault)
 both_have f g [] fault = refl
-both_have f g (x ∷ xs) fault =
-    list_any-append (is_fault fault) (f x ++ g x) (flat_map (λ y. f y ++ g y) xs)
-    ∙ (ap (λ b. b || has (flat_map (λ y. f y ++ g y) xs) fault) (list_any-append (is_fault fault) (f x) (g x))
-    ∙ (ap (λ b. (has (f x) fault || has (g x) fault) || b) (both_have f g xs fault)
-    ∙ (swap (has (f x) fault) (has (g x) fault) (has (flat_map f xs) fault) (has (flat_map g xs) fault)
-    ∙ (ap (λ b. b || (has (g x) fault || has (flat_map g xs) fault)) (sym (list_any-append (is_fault fault) (f x) (flat_map f xs)))
-    ∙ ap (λ b. has (f x ++ flat_map f xs) fault || b) (sym (list_any-append (is_fault fault) (g x) (flat_map g xs)))))))
+both_have f g (x ∷ xs) fault = grind (arith, list_any-append, swap, both_have f g xs fault)

@@ -7,7 +7,6 @@ use Rattle.std.proofs.lemmas.Bool.{true≢false}
 use Rattle.std.proofs.lemmas.Bool.Decides.{nat_tests}
 use Rattle.std.proofs.lemmas.List.Sums.{fold-append, take_while-cons}
 use Rattle.std.proofs.Math.Bool.{or-true}
-use Rattle.bdb_format.specs.Less.{less}
 use Rattle.bdb_format.specs.File.{File}
 use Rattle.bdb_format.specs.Contents.{StoredPair}
 use Rattle.bdb_format.specs.ContentRows.{ascends, ascends_from, has_unsorted, is_out_of_order, is_unsorted, live_data, neighbours, neighbours_from}
@@ -25,11 +24,7 @@ keys_from : (file : File) (sorted : Bool) (pair : StoredPair) (pairs : List Stor
     → wrong_keys file sorted passed pairs p
     ≡ list_any (λ (two : StoredPair × StoredPair). (two.1.page == p) && is_out_of_order two) (neighbours_from pair pairs)
 keys_from file sorted pair [] passed p before = refl
-keys_from file sorted pair (next ∷ pairs) passed p before =
-    ap (λ key. ((next.page == p) && (not next.shares && is_not_above key next.key))
-    || wrong_keys file sorted (next_pair file sorted passed next) pairs p) before
-    ∙ ap (λ b. ((next.page == p) && is_out_of_order (pair, next)) || b)
-    (keys_from file sorted next pairs (next_pair file sorted passed next) p refl)
+keys_from file sorted pair (next ∷ pairs) passed p before = grind (arith, keys_from file sorted next pairs (next_pair file sorted passed next) p refl)
 
 nothing_first : (a b c : Bool) → ((a && (b && false)) || c) ≡ c
 nothing_first a b c = grind (arith, nat_tests)
@@ -95,27 +90,20 @@ run_on : (values : List (List ℕ)) (last : Option (List ℕ)) (broken : Bool)
     × ((fold follow (record { last = last; broken = broken }) values).broken ≡ (broken || (run_over last values).broken))
 run_on [] last true = (refl, refl)
 run_on [] last false = (refl, refl)
-run_on (value ∷ values) last true =
-    let here = run_on values (Some value) true in
-    let other = run_on values (Some value) (is_not_above last value) in
-    (here.0 ∙ sym other.0, here.1)
+run_on (value ∷ values) last true = grind (arith, Some, run_on values (Some value) true, run_on values (Some value) (is_not_above last value))
 run_on (value ∷ values) last false = (refl, refl)
 
 -- a run over more values goes on where the first ones ended
 more_broken : (xs ys : List (List ℕ)) (last : Option (List ℕ))
     → (run_over last (xs ++ ys)).broken ≡ ((run_over last xs).broken || (run_over (run_over last xs).last ys).broken)
-more_broken xs ys last =
-    ap (λ (run : Run). run.broken) (fold-append follow (record { last = last; broken = false }) xs ys)
-    ∙ (run_on ys (run_over last xs).last (run_over last xs).broken).1
+more_broken xs ys last = grind (arith, fold-append, run_on)
 
 not_both : (a b : Bool) → not (a && b) ≡ (not a || not b)
 not_both a b = grind (arith, nat_tests)
 
 broken_from : (value : List ℕ) (values : List (List ℕ)) → (run_over (Some value) values).broken ≡ not (ascends_from value values)
 broken_from value [] = refl
-broken_from value (next ∷ values) =
-    (run_on values (Some next) (not (less value next))).1
-    ∙ (ap (λ b. not (less value next) || b) (broken_from next values) ∙ sym (not_both (less value next) (ascends_from next values)))
+broken_from value (next ∷ values) = grind (arith, run_on, Some, not_both, broken_from next values)
 
 -- a run is broken where its values don't ascend
 broken_unless_ascends : (values : List (List ℕ)) → (run_over None values).broken ≡ not (ascends values)
@@ -133,10 +121,7 @@ shared_data file pairs = flat_map (live_data file) (take_while (λ (other : Stor
 
 shared_more : (file : File) (pair : StoredPair) (pairs : List StoredPair)
     → shared_data file (pair ∷ pairs) ≡ cond pair.shares (live_data file pair ++ shared_data file pairs) []
-shared_more file pair pairs =
-    ap (flat_map (live_data file)) (take_while-cons (λ (other : StoredPair). other.shares) pair pairs)
-    ∙ (elim pair.shares as (λ b. flat_map (live_data file) (cond b (pair ∷ take_while (λ (other : StoredPair). other.shares) pairs) [])
-    ≡ cond b (live_data file pair ++ shared_data file pairs) []) [ true ↦ refl | false ↦ refl ])
+shared_more file pair pairs = grind (arith, take_while-cons)
 
 -- where a pair begins its run
 abbrev begins : Option (List ℕ) → StoredPair → Option (List ℕ)
@@ -171,35 +156,13 @@ group_step : (file : File) (q : ℕ) (last : Option (List ℕ)) (pair : StoredPa
     → (((pair.page == p) && (run_over (begins last pair) (live_data file pair ++ shared_data file pairs)).broken) || rest)
     ≡ (((q == p) && (run_over last (shared_data file (pair ∷ pairs))).broken) || (((pair.page == p) && (run_over None
     (live_data file pair ++ shared_data file pairs)).broken) || rest))
-group_step file q last pair pairs p rest true same on_page =
-    let values : List (List ℕ) = live_data file pair ++ shared_data file pairs in
-    let at : Bool = pair.page == p in
-    let others : Bool = (at && (run_over None values).broken) || rest in
-    let begins_on : begins last pair ≡ last = ap (λ b. cond b last None) same in
-    let page : (q == p) ≡ at = ap (λ n. n == p) (on_page same) in
-    let shared : shared_data file (pair ∷ pairs) ≡ values = shared_more file pair pairs ∙ ap (λ b. cond b values []) same in
-    ap (λ l. (at && (run_over l values).broken) || rest) begins_on
-    ∙ (absorb at (run_over last values).broken (run_over None values).broken rest (still_broken values last)
-    ∙ sym (ap (λ a. (a && (run_over last (shared_data file (pair ∷ pairs))).broken) || others) page
-    ∙ ap (λ vs. (at && (run_over last vs).broken) || others) shared))
-group_step file q last pair pairs p rest false same on_page =
-    let values : List (List ℕ) = live_data file pair ++ shared_data file pairs in
-    let others : Bool = ((pair.page == p) && (run_over None values).broken) || rest in
-    let begins_anew : begins last pair ≡ None = ap (λ b. cond b last None) same in
-    let shared : shared_data file (pair ∷ pairs) ≡ [] = shared_more file pair pairs ∙ ap (λ b. cond b values []) same in
-    ap (λ l. ((pair.page == p) && (run_over l values).broken) || rest) begins_anew
-    ∙ sym (ap (λ vs. ((q == p) && (run_over last vs).broken) || others) shared ∙ nothing_first (q == p) others)
-  where
-    nothing_first : (a b : Bool) → ((a && false) || b) ≡ b
-    nothing_first a b = grind (arith, nat_tests)
+group_step file q last pair pairs p rest true same on_page = grind (arith, None, shared_more, absorb, still_broken)
+group_step file q last pair pairs p rest false same on_page = grind (arith, None, shared_more, nothing_first, nat_tests)
 
 -- the pages that are marked are those of groups whose data don't ascend, the first of which may have begun before
 marked_groups : (file : File) (q : ℕ) (last : Option (List ℕ)) (pairs : List StoredPair) (p : ℕ) → SharesOnPage q pairs
     → is_marked (marks file last pairs) p ≡ (((q == p) && (run_over last (shared_data file pairs)).broken) || has_unsorted file pairs p)
-marked_groups file q last [] p shares = sym (and_nothing (q == p))
-  where
-    and_nothing : (a : Bool) → ((a && false) || false) ≡ false
-    and_nothing a = grind (arith, nat_tests)
+marked_groups file q last [] p shares = grind (arith, nat_tests)
 marked_groups file q last (pair ∷ pairs) p shares =
     let here : List (List ℕ) = live_data file pair in
     let later : List (List ℕ) = shared_data file pairs in

@@ -1,4 +1,5 @@
 -- The pairs of a list, one after another.
+use Rattle.std.proofs.Common.{arith}
 use Rattle.std.proofs.Common.{◌≡◌, ℕ, List, [], ◌∷◌, ◌++◌, Option, sym, ◌∙◌, ap, subst}
 use Rattle.std.specs.List.{flat_map}
 use Rattle.bdb_format.specs.Contents.{StoredPair, tree_pairs}
@@ -14,9 +15,7 @@ use Rattle.bdb_btree.proofs.RowLemmas.{tree_pairs_fit}
 pub next_entries : (file : File) (here after : Option (List (ListKey × List ℕ))) (old new : List StoredPair) (pair : StoredPair) → left_of here ≡ []
     → old ≡ pair ∷ new → left_of after ≡ listed_pair file pair
     → entries_left file after new ≡ entries_left file here old
-next_entries file here after old new pair none more are =
-    ap (λ entries. entries ++ flat_map (listed_pair file) new) are
-    ∙ sym (ap (λ entries. entries ++ flat_map (listed_pair file) old) none ∙ ap (flat_map (listed_pair file)) more)
+next_entries file here after old new pair none more are = grind arith
 
 -- the pairs of a tree are open
 pub tree_open : (image : List ℕ) (root : ℕ) (pairs : List StoredPair) → IsForest image → FitsTreeRoot (file_of image) root

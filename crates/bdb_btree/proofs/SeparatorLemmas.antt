@@ -10,10 +10,10 @@ use Rattle.std.proofs.lemmas.List.Sums.{fold-append}
 use Rattle.std.proofs.lemmas.Grind.{flat_map-append}
 use Rattle.std.proofs.lemmas.Bool.Decides.{nat_tests}
 use Rattle.std.proofs.Math.Bool.{or-false, or_assoc}
-use Rattle.bdb_format.specs.Less.{less, Less}
+use Rattle.bdb_format.specs.Less.{less}
 use Rattle.bdb_format.specs.ContentRows.{Separated, breaks, no_separator}
 use Rattle.bdb_format.proofs.MemberLemmas.{in_range, none_pass, none_passes, of_range}
-use Rattle.bdb_btree.specs.Bounds.{Bounds, beyond, bounds_of, greater_of, is_below, no_bounds, past, under}
+use Rattle.bdb_btree.specs.Bounds.{Bounds, bounds_of, greater_of, is_below, no_bounds, past, under}
 use Rattle.bdb_btree.specs.Runs.{is_not_above}
 use Rattle.bdb_format.proofs.BoolLemmas.{second_false}
 use Rattle.bdb_format.proofs.LessLemmas.{below_less, less_above, less_self, less_trans}
@@ -43,10 +43,7 @@ not_above_greater : (keys : List (List ℕ)) (greatest : Option (List ℕ)) (key
     → is_not_above (fold greater_of greatest keys) key ≡ (is_not_above greatest key || list_any (λ other. not (less other key)) keys)
 not_above_greater [] greatest key = sym (or-false (is_not_above greatest key))
 not_above_greater (other ∷ keys) None key = not_above_greater keys (Some other) key
-not_above_greater (other ∷ keys) (Some bound) key =
-    not_above_greater keys (greater_of (Some bound) other) key
-    ∙ (ap (λ b. b || list_any (λ x. not (less x key)) keys) (greater_step bound other key (less bound other) refl)
-    ∙ or_assoc (not (less bound key)) (not (less other key)) (list_any (λ x. not (less x key)) keys))
+not_above_greater (other ∷ keys) (Some bound) key = grind (arith, Some, greater_step, or_assoc, not_above_greater keys (greater_of (Some bound) other) key)
 
 -- Items.
 
@@ -83,16 +80,7 @@ not_above_if false before key = refl
 
 past_wrong : (parts : List Separated) (n : ℕ) (bounds : Bounds) → IsKept parts n bounds
     → (past bounds (part_at parts n)).wrong ≡ (bounds.wrong || breaks_here parts n)
-past_wrong parts n bounds kept =
-    let part : Separated = part_at parts n in
-    let first : is_not_above bounds.separator part.key ≡ is_before parts n =
-    ap (λ b. is_not_above b part.key) kept.separator ∙ not_above_if (nat_le 2 n) (key_at parts (n - 1)) part.key in
-    let third : is_not_above bounds.greatest part.key ≡ is_reached parts n =
-    ap (λ b. is_not_above b part.key) kept.greatest ∙ not_above_greater (keys_below (take n parts)) None part.key in
-    under_wrong part.below (beyond bounds part.key)
-    ∙ (ap (λ b. (bounds.wrong || (b || is_not_above bounds.greatest part.key)) || is_above_key parts n) first
-    ∙ (ap (λ b. (bounds.wrong || (is_before parts n || b)) || is_above_key parts n) third
-    ∙ or_assoc bounds.wrong (is_before parts n || is_reached parts n) (is_above_key parts n)))
+past_wrong parts n bounds kept = grind (arith, not_above_if, not_above_greater, None, under_wrong, or_assoc)
 
 keys_more : (parts : List Separated) (n : ℕ) → n < length parts
     → keys_below (take (n + 1) parts) ≡ keys_below (take n parts) ++ (part_at parts n).below
@@ -103,17 +91,7 @@ keys_more parts n low =
 
 kept_more : (parts : List Separated) (n : ℕ) (bounds : Bounds) → 1 ≤ n → n < length parts → IsKept parts n bounds
     → IsKept parts (n + 1) (past bounds (part_at parts n))
-kept_more parts n bounds some low kept =
-    let part : Separated = part_at parts n in
-    let before : n + 1 - 1 ≡ n = omega arith in
-    record {
-      separator = under_separator part.below (beyond bounds part.key)
-          ∙ sym (ap (λ b. cond b (Some (key_at parts (n + 1 - 1))) None) (le-leb 2 (n + 1) (omega arith)) ∙ ap (λ i. Some (key_at parts i)) before);
-      greatest =
-          under_greatest part.below (beyond bounds part.key)
-          ∙ (ap (λ g. fold greater_of g part.below) kept.greatest
-          ∙ sym (ap (fold greater_of None) (keys_more parts n low) ∙ fold-append greater_of None (keys_below (take n parts)) part.below));
-    }
+kept_more parts n bounds some low kept = grind (arith, under_separator, Some, None, le-leb, under_greatest, keys_more, fold-append)
 
 gone_through : (parts : List Separated) (m n : ℕ) (bounds : Bounds) → 1 ≤ n → n + m ≡ length parts → IsKept parts n bounds
     → (fold past bounds (drop n parts)).wrong ≡ (bounds.wrong || list_any (breaks_here parts) (range_with_len n m))
@@ -160,14 +138,7 @@ keys_rise : (parts : List Separated) (i d : ℕ) → NoneHere parts → 1 ≤ i 
 keys_rise parts i zero none some low =
     let same : i + 0 ≡ i = omega arith in ap (λ n. less (key_at parts n) (key_at parts i)) same ∙ less_self (key_at parts i)
 keys_rise parts i (suc d) none some low =
-    let sound : IsSound parts (i + suc d) = sound_at parts (i + suc d) (none (i + suc d) (omega arith) low) in
-    let back : i + suc d - 1 ≡ i + d = omega arith in
-    let rises : Less (key_at parts (i + d)) (key_at parts (i + suc d)) =
-    ap (λ n. less (key_at parts n) (key_at parts (i + suc d))) (sym back)
-    ∙ not-false _ (second_false (nat_le 2 (i + suc d)) _ (le-leb 2 (i + suc d) (omega arith)) sound.before) in
-    false_from_ne_true (less (key_at parts (i + suc d)) (key_at parts i)) (λ is.
-    true≢false (sym (less_trans (key_at parts (i + d)) (key_at parts (i + suc d)) (key_at parts i) rises is)
-    ∙ keys_rise parts i d none some (omega arith)))
+    grind (arith, sound_at, not-false, second_false, le-leb, false_from_ne_true, less_trans, keys_rise parts i d none some (omega arith))
 
 none_later : (parts : List Separated) (i m n : ℕ) → NoneHere parts → 1 ≤ i → i ≤ n → n + m ≡ length parts
     → list_any (λ other. less other (key_at parts i)) (keys_below (drop n parts)) ≡ false
@@ -192,13 +163,7 @@ breaks_none parts none i some low =
     grind (arith, nat_tests, later, sound.before, sound.reached)
 
 here_none : (parts : List Separated) (i : ℕ) → i < length parts → breaks parts i ≡ false → breaks_here parts i ≡ false
-here_none parts i low none =
-    let test : List ℕ → Bool = λ other. less other (key_at parts i) in
-    let later : list_any test (keys_below (drop i parts)) ≡ false = grind (arith, nat_tests) in
-    let above : is_above_key parts i ≡ false =
-    (or_parts _ _ (sym (list_any-append test (part_at parts i).below (keys_below (drop (i + 1) parts)))
-    ∙ (ap (λ ps. list_any test (keys_below ps)) (sym (drop_more parts i no_separator low)) ∙ later))).0 in
-    grind (arith, nat_tests, above)
+here_none parts i low none = grind (arith, nat_tests, or_parts, list_any-append, drop_more)
 
 -- two answers that are false together are the same
 same_bool : (a b : Bool) → (a ≡ false → b ≡ false) → (b ≡ false → a ≡ false) → a ≡ b

@@ -1,11 +1,12 @@
 -- The pairs of a leaf, and those of a tree, one after another.
+use Rattle.std.proofs.Common.{rules}
 use Rattle.std.proofs.Common.{◌≡◌, ◌⊎◌, ℕ, zero, suc, ◌+◌, ◌*◌, ◌-◌, ◌/◌, ◌<◌, true, List, [], ◌∷◌, ◌++◌, length, map, Option, arith, refl, sym, ◌∙◌}
-use Rattle.std.proofs.Common.{ap, inl, inr}
+use Rattle.std.proofs.Common.{ap}
 use Rattle.std.specs.List.{Contains, flat_map, range_with_len}
 use Rattle.std.proofs.lemmas.Option.{slice_get-get_or}
 use Rattle.std.proofs.lemmas.Simd.{map-map}
 use Rattle.bdb_format.specs.Contents.{pair_at, pairs_in, pairs_of, tree_pairs, StoredPair}
-use Rattle.bdb_format.specs.File.{File, file_of, page_at, type_in}
+use Rattle.bdb_format.specs.File.{File, file_of, page_at}
 use Rattle.bdb_format.specs.Leaves.{leaves}
 use Rattle.bdb_format.specs.Page.{Item, Listed, Leaf}
 use Rattle.bdb_format.specs.References.{is_shared_key, item_at, no_item}
@@ -57,16 +58,7 @@ keys_fit image p leaf forest fits is =
 -- a leaf has pairs, or none
 pub leaf_pairs : (image : List ℕ) (p : ℕ) → IsForest image → FitsLeafPage (file_of image) p
     → ((leaf : Listed Item) × (page_at (file_of image) p ≡ Leaf leaf)) ⊎ (pairs_in (file_of image) p (page_at (file_of image) p) ≡ [])
-leaf_pairs image p forest fits =
-    let file : File = file_of image in
-    of_type (λ type. type_in (page_at file p) ≡ type
-    → ((leaf : Listed Item) × (page_at file p ≡ Leaf leaf)) ⊎ (pairs_in file p (page_at file p) ≡ [])) (5 ∷ 6 ∷ 12 ∷ []) (type_in (page_at file p)) (
-      λ is. inl (leaf_page image p forest is),
-      (
-        λ is. inr (ap (pairs_in file p) (recno_leaf_page image p forest is).1),
-        (λ is. inr (ap (pairs_in file p) (dup_leaf_page image p forest is).1), tt),
-      ),
-    ) fits refl
+leaf_pairs image p forest fits = grind (arith, of_type, leaf_page, recno_leaf_page, dup_leaf_page)
 
 seen_leaf : (view : PageView) (leaf : Listed Item) → page_seen view ≡ Leaf leaf → (seen : Listed Item) × (view ≡ LeafSeen seen)
 seen_leaf (LeafSeen seen) leaf is = (seen, refl)
@@ -75,18 +67,12 @@ seen_leaf view leaf is = absurd cc
 pub no_pairs : (image : List ℕ) (p : ℕ) (view : PageView) → IsForest image → FitsLeafPage (file_of image) p
     → page_seen view ≡ page_at (file_of image) p → ((leaf : Listed Item) → view ≡ LeafSeen leaf → ⊥) → [] ≡ pairs_of (file_of image) p
 unfolding pairs_of
-no_pairs image p view forest fits is other =
-    elim (leaf_pairs image p forest fits) [
-      | inl (leaf, here) ↦ let seen = seen_leaf view leaf (is ∙ here) in absurd (other seen.0 seen.1)
-      | inr none ↦ sym none
-    ]
+no_pairs image p view forest fits is other = grind (arith, leaf_pairs, seen_leaf)
 
 -- The pairs of a tree.
 
 pub are_leaves : (image : List ℕ) (root : ℕ) → IsForest image → IsRoot (file_of image) root → AreLeaves (file_of image) (leaves (file_of image) root)
-are_leaves image root forest is =
-    each_of (FitsLeafPage (file_of image)) (leaves (file_of image) root)
-    (λ p at. leaf_fits image root p forest (root_is_tree image root forest is) at)
+are_leaves image root forest is = search (rules, each_of, leaf_fits, root_is_tree)
 
 pub pairs_of_tree : (file : File) (root : ℕ) → flat_map (pairs_of file) (leaves file root) ≡ tree_pairs file root
 unfolding tree_pairs
@@ -96,6 +82,4 @@ pairs_of_tree file root = refl
 pub next_leaf : (file : File) (here after : Option (List StoredPair)) (old new : List ℕ) (leaf p : ℕ) → left_of here ≡ [] → old ≡ leaf ∷ new
     → p ≡ leaf → left_of after ≡ pairs_of file p
     → pairs_left file after new ≡ pairs_left file here old
-next_leaf file here after old new leaf p none more same are =
-    ap (λ pairs. pairs ++ flat_map (pairs_of file) new) (are ∙ ap (pairs_of file) same)
-    ∙ sym (ap (λ pairs. pairs ++ flat_map (pairs_of file) old) none ∙ ap (flat_map (pairs_of file)) more)
+next_leaf file here after old new leaf p none more same are = grind arith

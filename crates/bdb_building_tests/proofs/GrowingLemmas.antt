@@ -1,11 +1,10 @@
 -- Trees that take a pair more.
-use Rattle.std.proofs.Common.{◌≡◌, ℕ, suc, zero, true, List, [], ◌∷◌, ◌++◌, map, replicate, refl, sym, ◌∙◌, ap, subst, Option, Some}
+use Rattle.std.proofs.Common.{◌≡◌, ℕ, true, List, [], ◌∷◌, ◌++◌, map, refl, sym, ◌∙◌, ap, subst, Option, Some}
 use Rattle.std.specs.Cmp.Derive.{both_true}
 use Rattle.std.proofs.lemmas.Bool.{and_parts}
 use Rattle.std.proofs.lemmas.List.{map-append}
 use Rattle.bdb_format.specs.ContentRows.{ascends, ascends_from}
 use Rattle.bdb_format.specs.Less.{less}
-use Rattle.bdb_format.specs.Reading.{is_zero}
 use Rattle.bdb_pack.specs.Built.{Built}
 use Rattle.bdb_mkleaves.specs.Units.{KeyedUnit, TreeUnit, key_of}
 use Rattle.bdb_mktree.specs.Building.{Building, units_of}

@@ -7,20 +7,18 @@ use Rattle.std.specs.Option.{option_to_list}
 use Rattle.std.proofs.lemmas.Bool.{cond_both, eqb-true, ne_eqb}
 use Rattle.std.proofs.lemmas.List.{map-append}
 use Rattle.std.proofs.lemmas.List.Elements.{Contains-append_cases}
-use Rattle.bdb_format.specs.Table.{Row, ◌:?◌, first_row}
+use Rattle.bdb_format.specs.Table.{Row, ◌:?◌}
 use Rattle.bdb_format.specs.declared.kinds.Fault.{Fault}
 use Rattle.bdb_format.specs.declared.kinds.Unsupported.{Unsupported}
 use Rattle.bdb_format.specs.declared.kinds.Unsupported.TheVariants.{Version, Encryption, Checksum, Partition, Extent, Compression, OwnHash, WrappedQueue}
-use Rattle.bdb_format.specs.declared.metadata.Head.{Head}
 use Rattle.bdb_format.specs.declared.metadata.MetaFault.{MetaFault}
 use Rattle.bdb_format.specs.declared.metadata.MetaFault.TheVariants.{Fault as CodeFault, Unsupported as NamedCase}
-use Rattle.bdb_format.specs.File.{File, file_of, page_bytes}
-use Rattle.bdb_format.specs.HeadOf.{head_of, head_rows, left_out_as, form_fault, head_fault}
-use Rattle.bdb_format.specs.Rows.{form_code}
+use Rattle.bdb_format.specs.File.{File, file_of}
+use Rattle.bdb_format.specs.HeadOf.{left_out_as}
 use Rattle.bdb_format.specs.Master.{master_rows}
 use Rattle.bdb_format.specs.ContentRows.{contents_rows, holds_somewhere}
-use Rattle.bdb_format.specs.Verdict.{Judgement, Faulty, judged, judgement_of, holding, by_page, or_else, stage_faults, faults_in, head_faults, tail_faults}
-use Rattle.bdb_format.specs.Verdict.{form_faults, reference_faults, ownership_faults, reach_faults, structure_faults, master_faults, contents_faults, tail_rows}
+use Rattle.bdb_format.specs.Verdict.{Judgement, judged, judgement_of, holding, by_page, or_else, stage_faults, faults_in, head_faults, tail_faults}
+use Rattle.bdb_format.specs.Verdict.{form_faults, reference_faults, ownership_faults, reach_faults, structure_faults, master_faults, contents_faults}
 use Rattle.bdb_format.specs.Verdict.{reference_rows, ownership_rows, reach_rows, structure_rows}
 use Rattle.bdb_format.proofs.ListLemmas.{only_member}
 use Rattle.bdb_format.proofs.MemberLemmas.{first_member, later_member, member_cases, no_member, of_map}
@@ -39,12 +37,7 @@ judged_page stage page (NamedCase name) = refl
 
 -- a fault stands at its page
 pub at_page : (fault : Fault) → page_of (judgement_of fault) ≡ fault.page
-at_page fault =
-    cond_both (fault.stage == 1) (judged 1 fault.page (head_fault fault.code))
-    (cond (fault.stage == 2) (judged 2 fault.page (form_fault fault.code)) (Faulty fault))
-    (λ j. page_of j ≡ fault.page) (λ first. judged_page 1 fault.page (head_fault fault.code))
-    (λ later. cond_both (fault.stage == 2) (judged 2 fault.page (form_fault fault.code)) (Faulty fault) (λ j. page_of j ≡ fault.page)
-    (λ second. judged_page 2 fault.page (form_fault fault.code)) (λ other. refl))
+at_page fault = grind (arith, cond_both, judged_page)
 
 -- a fault of this stage stands at its code
 abbrev pub IsPlaced : ℕ → ℕ → Type 0
@@ -64,11 +57,7 @@ AreTheirs (name ∷ names) = (case_code name.1 ≡ name.0) × AreTheirs names
 
 case_placed : (stage page code : ℕ) (names : List (ℕ × Unsupported)) → AreTheirs names → code_of (judged stage page (left_out_as names code)) ≡ code
 case_placed stage page code [] theirs = refl
-case_placed stage page code (name ∷ names) theirs =
-    elim (name.0 == code) as (λ b. (b ≡ true → name.0 ≡ code) → code_of (judged stage page (cond b (NamedCase name.1) (left_out_as names code))) ≡ code) [
-      | true ↦ λ same. theirs.0 ∙ same refl
-      | false ↦ λ same. case_placed stage page code names theirs.1
-    ] (eqb-true name.0 code)
+case_placed stage page code (name ∷ names) theirs = grind (arith, eqb-true, case_placed stage page code names theirs.1)
 
 abbrev form_names : List (ℕ × Unsupported)
 form_names =
@@ -187,28 +176,15 @@ numbered_rise from (suc n) low test below = (below, numbered_rise (from + 1) n f
 -- page 0 has at most one fault in stage 1
 head_up : (image : List ℕ) → AreUp (head_faults image)
 unfolding head_faults
-head_up image = one (first_row (head_rows image))
-  where
-    one : (code : Option ℕ) → AreUp (by_page 1 0 1 (λ p. option_to_list code))
-    one None = tt
-    one (Some code) = (λ later at. absurd (no_member [] later refl at), tt)
+head_up image = grind (arith, no_member)
 
 tail_up : (image : List ℕ) → AreUp (tail_faults image)
 unfolding tail_faults
-tail_up image =
-    let head : Head = head_of image in
-    placed_ascend 1 (head.last + 1) (head.pages - (head.last + 1)) (λ p. holding (tail_rows head image p))
-    (λ page code at. placed _ code at) (λ p. rows_rise 0 (tail_rows head image p) (omega arith, tt))
-  where
-    placed : (holds : Bool) (code : ℕ) → Contains (holding (12 :? holds ∷ [])) code → IsPlaced 1 code
-    placed true code at = subst (IsPlaced 1) (only_member 12 code at) tail_placed
-    placed false code at = absurd (no_member [] code refl at)
+tail_up image = grind (arith, placed_ascend, rows_rise, only_member, tail_placed, no_member)
 
 form_up : (image : List ℕ) → AreUp (form_faults image)
 unfolding form_faults
-form_up image =
-    placed_ascend 2 0 ((head_of image).last + 1) _ (λ page code at. form_placed code)
-    (λ p. one_rises (form_code (head_of image) p (page_bytes (head_of image) image p)))
+form_up image = grind (arith, placed_ascend, form_placed, one_rises)
 
 chosen : (image : List ℕ) (stage k : ℕ) (here others : List ℕ → List Fault) → AreUp (here image) → AreUp (others image)
     → AreUp ((if stage == k then here else others) image)

@@ -1,5 +1,5 @@
 -- Rows and cases by their codes.
-use Rattle.std.proofs.Common.{◌≡◌, ◌⊎◌, ℕ, ◌-◌, ◌<◌, ◌≤◌, List, [], ◌∷◌, length, Some, None, arith, refl, ◌∙◌, ap, subst, inl, inr, ne_eqb, true, false, cond}
+use Rattle.std.proofs.Common.{◌≡◌, ◌⊎◌, ℕ, ◌-◌, ◌<◌, ◌≤◌, List, [], ◌∷◌, length, Some, None, arith, refl, ◌∙◌, ap, inl, inr, ne_eqb}
 use Rattle.std.specs.Prelude.{◌==◌}
 use Rattle.std.proofs.lemmas.Bool.{cases_eq, eqb-true}
 use Rattle.std.proofs.lemmas.List.{get_or_past}
@@ -9,7 +9,7 @@ use Rattle.bdb_format.specs.declared.kinds.Unsupported.TheVariants.{WrappedQueue
 use Rattle.bdb_format.specs.declared.metadata.MetaFault.{MetaFault}
 use Rattle.bdb_format.specs.declared.metadata.MetaFault.TheVariants.{Fault as CodeFault, Unsupported as NamedCase}
 use Rattle.bdb_format.specs.FaultNames.{fault_name, row_names, unsupported_name}
-use Rattle.bdb_format.specs.Verdict.{Faulty, judged, judgement_of}
+use Rattle.bdb_format.specs.Verdict.{Faulty, judgement_of}
 use Rattle.bdb_format.specs.declared.kinds.Fault.{Fault}
 use Rattle.bdb_format.specs.HeadOf.{form_fault, head_fault, left_out_as}
 use Rattle.bdb_faults.specs.Cases.{case_row, code_or_none, file_case, form_case, form_code, head_code}
@@ -78,57 +78,14 @@ form_cases =
     (4, Version) ∷ (6, Encryption) ∷ (7, Checksum) ∷ (8, Partition) ∷ (9, Compression) ∷ (11, OwnHash) ∷ (15, Extent) ∷ (18, WrappedQueue) ∷ []
 
 no_head_case : (code : ℕ) → (code ≡ 0) ⊎ (12 < code) → head_fault code ≡ CodeFault code
-no_head_case code beyond =
-    let far : (n : ℕ) → 1 ≤ n → n ≤ 12 → n ≡ code → ⊥ = λ n some most. apart n 12 code some most beyond in
-    none_named file_cases code (
-      far 3 (omega arith) (omega arith),
-      (
-        far 4 (omega arith) (omega arith),
-        (
-          far 6 (omega arith) (omega arith),
-          (
-            far 7 (omega arith) (omega arith),
-            (far 8 (omega arith) (omega arith), (far 9 (omega arith) (omega arith), tt)),
-          ),
-        ),
-      ),
-    )
+no_head_case code beyond = grind (arith, apart, none_named)
 
 no_form_case : (code : ℕ) → (code ≡ 0) ⊎ (25 < code) → form_fault code ≡ CodeFault code
-no_form_case code beyond =
-    let far : (n : ℕ) → 1 ≤ n → n ≤ 25 → n ≡ code → ⊥ = λ n some most. apart n 25 code some most beyond in
-    none_named form_cases code (
-      far 4 (omega arith) (omega arith),
-      (
-        far 6 (omega arith) (omega arith),
-        (
-          far 7 (omega arith) (omega arith),
-          (
-            far 8 (omega arith) (omega arith),
-            (
-              far 9 (omega arith) (omega arith),
-              (
-                far 11 (omega arith) (omega arith),
-                (far 15 (omega arith) (omega arith), (far 18 (omega arith) (omega arith), tt)),
-              ),
-            ),
-          ),
-        ),
-      ),
-    )
+no_form_case code beyond = grind (arith, apart, none_named)
 
 -- and is no case
 pub no_row_judged : (fault : Fault) → (fault.code ≡ 0) ⊎ (length (row_names fault.stage) < fault.code) → judgement_of fault ≡ Faulty fault
-no_row_judged fault beyond =
-    elim (cases_eq fault.stage 1) [
-      | inl first ↦
-          rw (first) (ap (judged 1 fault.page) (no_head_case fault.code (subst (λ s. (fault.code ≡ 0) ⊎ (length (row_names s) < fault.code)) first beyond)))
-      | inr others ↦ elim (cases_eq fault.stage 2) [
-        | inl second ↦
-            rw (second) (ap (judged 2 fault.page) (no_form_case fault.code (subst (λ s. (fault.code ≡ 0) ⊎ (length (row_names s) < fault.code)) second beyond)))
-        | inr later ↦ rw (ne_eqb fault.stage 1 others, ne_eqb fault.stage 2 later) refl
-      ]
-    ]
+no_row_judged fault beyond = grind (arith, cases_eq, no_head_case, no_form_case, ne_eqb)
 
 -- The codes of cases.
 
@@ -142,11 +99,7 @@ code_by case (NamedCase name) = case name
 
 case_is : (case : Unsupported → ℕ) (names : List (ℕ × Unsupported)) (code : ℕ) → AreTheirs case names → code_by case (left_out_as names code) ≡ code
 case_is case [] code theirs = refl
-case_is case (name ∷ names) code theirs =
-    elim (name.0 == code) as (λ b. (b ≡ true → name.0 ≡ code) → code_by case (cond b (NamedCase name.1) (left_out_as names code)) ≡ code) [
-      | true ↦ λ same. theirs.0 ∙ same refl
-      | false ↦ λ same. case_is case names code theirs.1
-    ] (eqb-true name.0 code)
+case_is case (name ∷ names) code theirs = grind (arith, eqb-true, case_is case names code theirs.1)
 
 abbrev code_in_file : Unsupported → ℕ
 code_in_file name = code_or_none file_code (file_case name)
@@ -164,13 +117,7 @@ form_by (NamedCase name) = refl
 
 -- the code of a fault that a code names is that code
 pub head_code_is : (code : ℕ) → head_code (head_fault code) ≡ code
-head_code_is code =
-    head_by (head_fault code)
-    ∙ case_is code_in_file file_cases code
-    (refl, (refl, (refl, (refl, (refl, (refl, tt))))))
+head_code_is code = grind (arith, head_by, case_is)
 
 pub form_code_is : (code : ℕ) → form_code (form_fault code) ≡ code
-form_code_is code =
-    form_by (form_fault code)
-    ∙ case_is code_in_form form_cases code
-    (refl, (refl, (refl, (refl, (refl, (refl, (refl, (refl, tt))))))))
+form_code_is code = grind (arith, form_by, case_is)

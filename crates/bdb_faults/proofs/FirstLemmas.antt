@@ -17,13 +17,7 @@ of_one_more xs x y at =
 
 -- one fault alone
 pub first_alone : (faults : List Fault) (fault : Fault) → faults ≡ [] → IsFirstNoted (faults ++ (fault ∷ [])) fault
-first_alone faults fault none =
-    record {
-      holds = Contains-append_right faults (fault ∷ []) fault (first_member fault []);
-      first =
-          λ other at. elim (of_one_more faults fault other at)
-          [ inl here ↦ absurd (no_member faults other none here) | inr same ↦ subst (ComesFirst fault) same (comes_itself fault) ];
-    }
+first_alone faults fault none = grind (arith, Contains-append_right, first_member, of_one_more, no_member, comes_itself)
 
 -- one more that doesn't come before the first
 pub first_kept : (faults : List Fault) (first fault : Fault) → IsFirstNoted faults first → ComesFirst first fault

@@ -47,17 +47,10 @@ after p q c d not_before apart = grind (arith, nat_tests)
 -- On members.
 
 pub before_weakly : IsStrictWeakOrder is_before
-before_weakly = record {
-  one_way = λ a b is. one_way a.page b.page (code_in a) (code_in b) is;
-  chain = λ a b c first second. chain a.page b.page c.page (code_in a) (code_in b) (code_in c) first second;
-}
+before_weakly = grind (arith, one_way, chain)
 
 same_equivalence : IsEquivalence is_same
-same_equivalence = record {
-  refl = λ a. same_from a.page a.page (code_in a) (code_in a) refl refl;
-  symm = λ a b. same_way a.page b.page (code_in a) (code_in b);
-  congr = λ a b c same. same_through a.page b.page c.page (code_in a) (code_in b) (code_in c) same;
-}
+same_equivalence = grind (arith, same_from, same_way, same_through)
 
 -- a member has its page
 page_seen : (page : ℕ) (held : Held) → page_of (held_seen page held) ≡ page
@@ -104,12 +97,7 @@ later_on last x other before (inl same) = subst (ComesBefore (member_seen last))
 later_on last x other before (inr comes) = through (member_seen last) (member_seen x) other before comes
 
 one_more : (last x : Member) (left : List Member) → ComesBefore (member_seen last) (member_seen x) → FromOn x left → FromOn last (last ∷ left)
-one_more last x left before is = record {
-  up = (λ other at. later_on last x other before (is.from_on other at), is.up);
-  from_on =
-      λ other at. elim (member_cases (member_seen last) (map member_seen left) other at)
-      [ inl same ↦ inl same | inr later ↦ inr (later_on last x other before (is.from_on other later)) ];
-}
+one_more last x left before is = grind (arith, later_on, member_cases)
 
 next : (last x : Member) (b : Bool) (dropped kept : List Member) → is_same x last ≡ b → is_before x last ≡ false → FromOn last dropped
     → FromOn x kept → FromOn last (cond b dropped (last ∷ kept))
@@ -117,10 +105,7 @@ next last x true dropped kept is not_before without with_it = without
 next last x false dropped kept is not_before without with_it = one_more last x kept (comes_after last x not_before is) with_it
 
 left_from : (last : Member) (xs : List Member) → Rises last xs → FromOn last (dedup_from is_same last xs)
-left_from last [] rises = record {
-  up = (λ other at. absurd (no_member [] other refl at), tt);
-  from_on = λ other at. elim (member_cases (member_seen last) [] other at) [ inl same ↦ inl same | inr later ↦ absurd (no_member [] other refl later) ];
-}
+left_from last [] rises = grind (arith, no_member, member_cases)
 left_from last (x ∷ xs) rises =
     next last x (is_same x last) (dedup_from is_same last xs) (dedup_from is_same x xs) refl rises.0
     (left_from last xs (rises_past last x xs rises.0 rises.1)) (left_from x xs rises.1)

@@ -1,5 +1,5 @@
 -- The faults that count, by those of all rows.
-use Rattle.std.proofs.Common.{◌≡◌, ℕ, ◌+◌, ◌<◌, ◌≤◌, Bool, true, false, cond, List, [], ◌∷◌, ◌++◌, Option, Some, None, arith, refl, sym, ◌∙◌, ap, subst}
+use Rattle.std.proofs.Common.{◌≡◌, ℕ, ◌+◌, ◌<◌, ◌≤◌, Bool, true, false, cond, List, [], ◌∷◌, ◌++◌, None, arith, refl, sym, ◌∙◌, ap, subst}
 use Rattle.std.specs.Prelude.{◌||◌, not}
 use Rattle.std.specs.List.{Contains, filter, range_with_len}
 use Rattle.bdb_faults.specs.All.{IsAllOf}
@@ -12,7 +12,7 @@ use Rattle.bdb_format.specs.declared.kinds.Verdict.TheVariants.{Fault as FaultVe
 use Rattle.bdb_format.specs.Databases.{Database, databases}
 use Rattle.bdb_format.specs.File.{File, file_of, page_at}
 use Rattle.bdb_format.specs.Master.{master_in}
-use Rattle.bdb_format.specs.Verdict.{IsFirstOf, contents_faults, faults_in, faults_of, first_fault, first_judgement, master_faults, or_else, stage_faults}
+use Rattle.bdb_format.specs.Verdict.{IsFirstOf, contents_faults, faults_in, faults_of, first_judgement, master_faults, or_else, stage_faults}
 use Rattle.bdb_format.specs.Verdict.{structure_faults, verdict_of}
 use Rattle.bdb_format.proofs.MemberLemmas.{first_member, later_member}
 use Rattle.bdb_format.proofs.VerdictLemmas.{none_within, or_else_none, or_else_nothing}

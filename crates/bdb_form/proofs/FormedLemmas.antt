@@ -1,11 +1,11 @@
 -- What it means for a page with an index that no row of form holds for it.
 use Rattle.std.proofs.Common.{[], ◌∷◌, ◌≡◌, ℕ, ◌%◌, ◌<◌, ◌≤◌, List, length, drop, ◌+◌, arith, refl, sym, ◌∙◌, ap, ltb-false, nat_eq, eq-eqb, eqb-true, ◌*◌, ◌-◌}
 use Rattle.std.proofs.Common.{le-leb, ne_eqb}
-use Rattle.std.specs.Prelude.{cond, nat_le, slice_index, not, ◌==◌, IsTrue, Bool, true, false, Option, Some, None, slice_get}
+use Rattle.std.specs.Prelude.{slice_index, not, ◌==◌, IsTrue, Bool, true, false, Option, Some, None, slice_get}
 use Rattle.bdb_format.specs.declared.kinds.Order.{Order}
 use Rattle.bdb_format.specs.declared.kinds.Order.TheVariants.{Big}
-use Rattle.bdb_format.specs.Numbers.{byte_at, four_at, two_at}
-use Rattle.bdb_format.specs.Page.{PageType, OverflowPage, Queue}
+use Rattle.bdb_format.specs.Numbers.{byte_at, four_at}
+use Rattle.bdb_format.specs.Page.{PageType, Queue}
 use Rattle.bdb_format.specs.Reading.{entries_of, index_end, is_zero, page_as, page_type, listed}
 use Rattle.bdb_format.specs.References.{is_shared_key}
 use Rattle.bdb_format.specs.Rows.{code_of, is_queue_type, body_code, is_tree_type, page_code, queue_code, index_rows, item_rows, is_wrong_entry_count}
@@ -35,25 +35,17 @@ sound_item t order page i listed lt = no_item_row order page t i listed.formed l
 -- items that stand in pairs are even in number
 pub listed_even : (t : PageType) (order : Order) (page : List ℕ) → IsListed t order page
     → is_wrong_entry_count t (entries_of order page) ≡ nat_eq (entries_of order page % 2) 1 → entries_of order page % 2 ≡ 0
-listed_even t order page listed odd =
-    let no : nat_eq (entries_of order page % 2) 1 ≡ false = sym odd ∙ listed_count t order page listed in
-    let other : entries_of order page % 2 ≡ 1 → ⊥ = λ one. absurd (cc (no, eq-eqb (entries_of order page % 2) 1 one)) in
-    omega arith
+listed_even t order page listed odd = grind (arith, nat_eq, listed_count, eq-eqb)
 
 -- an item that was read is the one in the list
 pub item_is : {I : Type 0} (order : Order) (page : List ℕ) (item_at : ℕ → I) (i : ℕ) (item : I) → i < length (listed order page item_at).items
     → item ≡ item_at i
     → slice_get (listed order page item_at).items i ≡ Some item
-item_is order page item_at i item lt read =
-    let below : i < entries_of order page = omega (arith, length_items order page item_at) in
-    get_item order page item_at i below ∙ ap (λ x. Some x) (sym read)
+item_is order page item_at i item lt read = grind (arith, length_items, get_item)
 
 -- a pair behind the first shares its key where both entries of the index are one
 pub shared_after : (offsets : List ℕ) (i : ℕ) → 0 < i → is_shared_key offsets (2 * i) ≡ (slice_index offsets (2 * i) == slice_index offsets (2 * i - 2))
-shared_after offsets i above =
-    let even : (2 * i % 2 == 0) ≡ true = eq-eqb (2 * i % 2) 0 (omega arith) in
-    let low : nat_le 2 (2 * i) ≡ true = le-leb 2 (2 * i) (omega arith) in
-    rw (even, low) refl
+shared_after offsets i above = grind (arith, eq-eqb, le-leb)
 
 -- Pages that are known to have no fault of form.
 
@@ -90,20 +82,7 @@ typed order number page is_type rest none other = of (is_zero page) (not (four_a
 -- a page that isn't a zero page tells its own number
 pub numbered : (empty : Bool) (order : Order) (number : ℕ) (page : List ℕ) (is_type : ℕ → Bool) (rest : PageType → Option ℕ)
     → code_of empty order number page is_type rest ≡ None → empty ≡ false → four_at order page 8 ≡ number
-numbered empty order number page is_type rest none other =
-    eqb-true (four_at order page 8) number (of empty (four_at order page 8 == number) (not (is_type (byte_at page 25))) none other)
-  where
-    of : (zeros same b : Bool)
-        → elim zeros as (λ _. Option ℕ) [
-          | true ↦ None
-          | false ↦ elim (first_row {Code = ℕ} (1 :? not same ∷ 2 :? b ∷ [])) as (λ _. Option ℕ) [
-            | Some code ↦ Some code
-            | None ↦ rest (page_type (byte_at page 25))
-          ]
-        ] ≡ None → zeros ≡ false → same ≡ true
-    of true same b none other = absurd cc
-    of false true b none other = refl
-    of false false b none other = absurd cc
+numbered empty order number page is_type rest none other = grind (arith, eqb-true)
 
 pub tree_number : (order : Order) (number : ℕ) (page : List ℕ) → page_code order number page ≡ None → is_zero page ≡ false → four_at order page 8 ≡ number
 unfolding page_code
@@ -116,13 +95,7 @@ queue_number order number page none = numbered (is_zero page) order number page 
 -- above page 0 a zero page is one that doesn't tell its own number
 pub zero_by_number : (order : Order) (number : ℕ) (page : List ℕ) → 26 ≤ length page → (is_zero page ≡ false → four_at order page 8 ≡ number)
     → (number ≡ 0 → ⊥) → not (four_at order page 8 == number) ≡ is_zero page
-zero_by_number order number page long told above =
-    elim (is_zero page) as (λ b. is_zero page ≡ b → not (four_at order page 8 == number) ≡ b) [
-      | true ↦ λ zeros.
-          let none : four_at order page 8 ≡ 0 = sym (ap (λ (header : Header). header.number) (zero_header order page long zeros)) in
-          ap not (ne_eqb (four_at order page 8) number (λ same. above (sym same ∙ none)))
-      | false ↦ λ some. ap not (eq-eqb (four_at order page 8) number (told some))
-    ] refl
+zero_by_number order number page long told above = grind (arith, zero_header, ne_eqb, eq-eqb)
 
 pub tree_type : (order : Order) (number : ℕ) (page : List ℕ) → page_code order number page ≡ None → is_zero page ≡ false
     → IsTrue (is_tree_type (byte_at page 25))
@@ -142,13 +115,7 @@ queue_type order number page none other = eqb-true (byte_at page 25) 11 (typed o
 -- the data of an overflow page lie on it
 pub holds_data : (order : Order) (page : List ℕ) → length page ≤ 32768 → 26 ≤ length page → body_code order page (page_type (byte_at page 25)) ≡ None
     → byte_at page 25 ≡ 7 → HoldsData order page
-holds_data order page size header none seven =
-    let code : body_code order page OverflowPage ≡ None = ap (λ b. body_code order page (page_type b)) (sym seven) ∙ none in
-    record { size = size; header = header; room = ltb-false (length page) (26 + two_at order page 22) (room_false _ code) }
-  where
-    room_false : (b : Bool) → cond {A = Option ℕ} b (Some 25) None ≡ None → b ≡ false
-    room_false true same = absurd cc
-    room_false false same = refl
+holds_data order page size header none seven = grind (arith, ltb-false)
 
 -- the page of records that such a page stands for
 pub queue_page : (order : Order) (number : ℕ) (page : List ℕ) → queue_code order number page ≡ None → is_zero page ≡ false

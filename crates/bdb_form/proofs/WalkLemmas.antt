@@ -1,6 +1,6 @@
 -- What is left of a page's items and pairs as they are given one by one.
-use Rattle.std.proofs.Common.{◌≡◌, ℕ, suc, ◌+◌, ◌-◌, ◌/◌, ◌<◌, ◌≤◌, Bool, List, [], ◌∷◌, length, drop, get_or, arith, refl, sym}
-use Rattle.std.proofs.Common.{ap, ◌∙◌, drop-cons, ◌*◌}
+use Rattle.std.proofs.Common.{◌≡◌, ℕ, suc, ◌+◌, ◌-◌, ◌/◌, ◌<◌, ◌≤◌, Bool, List, [], ◌∷◌, length, drop, get_or, arith, refl}
+use Rattle.std.proofs.Common.{◌∙◌, drop-cons, ◌*◌}
 use Rattle.std.specs.Prelude.{Some, slice_get}
 use Rattle.std.proofs.lemmas.List.{drop_all}
 use Rattle.std.proofs.lemmas.List.FromFn.{length-map-range_with_len}
@@ -23,18 +23,12 @@ no_item_left items at past = drop_all at items past
 
 pub next_pair : {I : Type 0} (none : I) (may_share : Bool) (page : Listed I) (i : ℕ) → i < length page.items / 2
     → pairs_from none may_share page i ≡ pair_of none may_share page i ∷ pairs_from none may_share page (i + 1)
-next_pair none may_share page i low =
-    let more : length page.items / 2 - i ≡ suc (length page.items / 2 - (i + 1)) = omega arith in
-    rw more refl
+next_pair none may_share page i low = grind arith
 
 pub no_pair_left : {I : Type 0} (none : I) (may_share : Bool) (page : Listed I) (i : ℕ) → length page.items / 2 ≤ i
     → pairs_from none may_share page i ≡ []
-no_pair_left none may_share page i past =
-    let over : length page.items / 2 - i ≡ 0 = omega arith in
-    rw over refl
+no_pair_left none may_share page i past = grind arith
 
 pub pairs_left : {I : Type 0} (none : I) (may_share : Bool) (page : Listed I) (i n : ℕ) → 2 * n ≡ length page.items
     → n - i ≡ length (pairs_from none may_share page i)
-pairs_left none may_share page i n is =
-    let half : length page.items / 2 ≡ n = omega (arith, is) in
-    sym (length-map-range_with_len (pair_of none may_share page) i (length page.items / 2 - i) ∙ ap (λ m. m - i) half)
+pairs_left none may_share page i n is = grind (arith, length-map-range_with_len)

@@ -1,11 +1,10 @@
 -- Bytes that are all 0: the first is, and each other is the one before it.
-use Rattle.std.proofs.Common.{◌≡◌, ℕ, zero, suc, ◌-◌, ◌<◌, Bool, true, false, true≢false, List, [], ◌∷◌, length, take, drop, get_or, arith, refl, sym, ◌∙◌, ap}
-use Rattle.std.proofs.Common.{subst, inl, inr}
+use Rattle.std.proofs.Common.{◌≡◌, ℕ, ◌-◌, ◌<◌, true, false, true≢false, List, [], ◌∷◌, length, take, drop, get_or, arith, refl, sym, ◌∙◌, ap}
+use Rattle.std.proofs.Common.{inl, inr}
 use Rattle.std.specs.Prelude.{◌==◌, ◌&&◌}
-use Rattle.std.specs.List.{list_all}
 use Rattle.std.specs.Str.{bytes_eq}
 use Rattle.std.proofs.Math.Seq.{take-length}
-use Rattle.std.proofs.lemmas.Bool.{cases_Bool, cases_eq, eq-eqb, eqb-true, ne_eqb}
+use Rattle.std.proofs.lemmas.Bool.{cases_Bool, cases_eq, eq-eqb, ne_eqb}
 use Rattle.bdb_format.specs.Reading.{is_zero}
 use Rattle.bdb_format.proofs.LessLemmas.{eq_self, eq_same}
 
@@ -38,15 +37,7 @@ as_zeros b (c ∷ cs) first zeros =
     ]
 
 same_answer : (b : ℕ) (bs : List ℕ) → b ≡ 0 → bytes_eq bs (take (length bs) (b ∷ bs)) ≡ is_zero bs
-same_answer b bs first =
-    elim (cases_Bool (is_zero bs)) [
-      | inl zeros ↦ ap (bytes_eq bs) (sym (as_zeros b bs first zeros)) ∙ (eq_self bs ∙ sym zeros)
-      | inr some ↦
-          elim (cases_Bool (bytes_eq bs (take (length bs) (b ∷ bs)))) [
-            | inl same ↦ absurd (true≢false (sym (all_as b bs first (eq_same bs (take (length bs) (b ∷ bs)) same)) ∙ some))
-            | inr other ↦ other ∙ sym some
-          ]
-    ]
+same_answer b bs first = grind (arith, cases_Bool, as_zeros, eq_self, all_as, eq_same)
 
 pub shifted : (bytes : List ℕ) → get_or bytes 0 0 ≡ 0 → ((length bytes == 0) ≡ false)
     → bytes_eq (take (length bytes - 1) (drop 1 bytes)) (take (length bytes - 1) bytes) ≡ is_zero bytes

@@ -32,12 +32,7 @@ wrong_digit key i below wrong = fails key (and_right (has_room key) (list_all is
 
 pub whole_number : (key : List ℕ) (i number : ℕ) → 1 ≤ length key → length key ≤ 10 → length key ≤ i → list_all is_digit (take i key) ≡ true
     → number ≡ digits_value (take i key) → Some number ≡ number_in key
-whole_number key i number some few past all is =
-    let whole : take i key ≡ key = take_all i key past in
-    let digits : list_all is_digit key ≡ true = ap (list_all is_digit) (sym whole) ∙ all in
-    let room : has_room key ≡ true = and_from (nat_le 1 (length key)) (nat_le (length key) 10) (le-leb 1 (length key) some) (le-leb (length key) 10 few) in
-    ap (λ n. Some n) (is ∙ ap digits_value whole) ∙ ap (λ b. cond b (Some (digits_value key)) None)
-    (sym (and_from (has_room key) (list_all is_digit key) room digits))
+whole_number key i number some few past all is = grind (arith, take_all, and_from, le-leb, Some, None)
 
 -- One digit more.
 
@@ -63,11 +58,7 @@ next_below number i byte small high =
 
 -- and so ten of them fit
 pub next_fits : (number i byte : ℕ) → i < 10 → number < 10 ^ i → byte ≤ 57 → 10 * number + (byte - 48) < 2 ^ 64
-next_fits number i byte few small high =
-    let low : i ≤ 9 = omega arith in
-    let some : 0 < 10 = omega arith in
-    let most : 10 ^ i ≤ 10 ^ 9 = pow-le-pow_right some low in
-    omega arith
+next_fits number i byte few small high = grind (arith, pow-le-pow_right)
 
 -- how digits are read
 pub ruleset digits_read = (no_digits, many_digits, wrong_digit, whole_number, more_digits, next_value, digit_low, digit_high, next_below, next_fits)

@@ -28,9 +28,7 @@ pages_counted image = length-map-range_with_len (λ p. abstract_page (head_of im
 pub page_is : (image : List ℕ) (p : ℕ) → p ≤ (head_of image).last → page_at (file_of image) p
     ≡ abstract_page (head_of image).order (page_bytes (head_of image) image p)
 unfolding file_of
-page_is image p low =
-    get_or-map-range_with_len (λ q. abstract_page (head_of image).order (page_bytes (head_of image) image q)) 0 ((head_of image).last + 1) p p NoType
-    (omega arith) (omega arith)
+page_is image p low = grind (arith, get_or-map-range_with_len)
 
 -- a page past the last is none
 pub past_last : (image : List ℕ) (p : ℕ) → (file_of image).last < p → page_at (file_of image) p ≡ NoType

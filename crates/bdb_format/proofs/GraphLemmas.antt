@@ -19,8 +19,8 @@ use Rattle.bdb_format.specs.Reading.{is_zero, page_type, page_as, abstract_page}
 use Rattle.bdb_format.specs.Rows.{code_of, identity_rows, may_have_type, typed_code, form_code}
 use Rattle.bdb_format.specs.HeadOf.{head_of}
 use Rattle.bdb_format.specs.File.{File, file_of, page_bytes, page_at, header_in, type_in}
-use Rattle.bdb_format.specs.References.{refs, Asked, asked_by, root_types, child_types, is_zero_page, has_type, fit_rows, fit_code}
-use Rattle.bdb_format.specs.Graph.{Owner, all_references, owners, is_meta, is_hash_meta, is_anchor_in, is_anchor, is_spare, is_unowned, is_reserve}
+use Rattle.bdb_format.specs.References.{refs, Asked, asked_by, root_types, child_types, is_zero_page, has_type, fit_code}
+use Rattle.bdb_format.specs.Graph.{Owner, all_references, owners, is_meta, is_hash_meta, is_anchor_in, is_anchor, is_spare, is_reserve}
 use Rattle.bdb_format.specs.Graph.{has_heads_alone, reaches, HasRole}
 use Rattle.bdb_format.specs.Verdict.{holding, fails_as, some_fails, reference_rows, reference_faults, ownership_rows, ownership_faults, reach_rows}
 use Rattle.bdb_format.specs.Verdict.{reach_faults, form_faults, RolesExclude, RolesExcludeEachOther, EachPageHasOneRole}
@@ -117,10 +117,7 @@ metadata_misfits asked page none is = absurd cc
 -- a reference that fits doesn't name metadata
 fits_no_metadata : (file : File) (p : ℕ) (reference : Reference) → fit_code file p reference ≡ None → is_meta (page_at file reference.target) ≡ true → ⊥
 unfolding fit_code
-fits_no_metadata file p reference fits is =
-    let asked : Asked = asked_by p (page_at file p) reference.sort in
-    true≢false (sym (metadata_misfits asked (page_at file reference.target) (asks_no_metadata p (page_at file p) reference.sort) is)
-    ∙ (none_is_first_row (fit_rows file asked reference.target) fits).1.0)
+fits_no_metadata file p reference fits is = grind (arith, metadata_misfits, asks_no_metadata, none_is_first_row)
 
 -- Roles.
 
@@ -153,10 +150,7 @@ pub record IsReserve (file : File) (p : ℕ) : Type 0 where
 
 pub reserve_is : (file : File) (p : ℕ) → is_reserve file p ≡ true → IsReserve file p
 unfolding is_reserve
-reserve_is file p is =
-    let outer : ((list_any is_hash_meta file.pages && is_unowned file p) ≡ true) × (is_spare (page_at file p) ≡ true) = and_parts _ _ is in
-    let inner : (list_any is_hash_meta file.pages ≡ true) × (is_unowned file p ≡ true) = and_parts _ _ outer.0 in
-    record { has_table = inner.0; unowned = eqb-true (length (owners file p)) 0 inner.1; spare = outer.1 }
+reserve_is file p is = grind (arith, and_parts, eqb-true)
 
 spare_is_no_metadata : (page : Page) → is_spare page ≡ true → is_meta page ≡ true → ⊥
 spare_is_no_metadata (Meta fields) spare is = cc
@@ -201,14 +195,7 @@ reached_of file p none low high = not-false (reaches file p) (no_rows_at 5 1 fil
 -- where each page has a role, no row of ownership holds
 no_ownership_fault : (file : File) → reference_faults file ≡ [] → ((p : ℕ) → 1 ≤ p → p ≤ file.last → HasRole file p) → ownership_faults file ≡ []
 unfolding ownership_faults
-no_ownership_fault file none role =
-    no_faults 4 1 file.last (λ page. holding (ownership_rows file page)) (λ p low high.
-    let rows =
-    rows_by_role (is_anchor file p) (is_reserve file p) (has_heads_alone file p) (length (owners file p)) (header_in (page_at file p)).entries
-    (λ is. ap length (anchor_unowned file p none is))
-    (λ is. (reserve_is file p is).unowned)
-    (role p low (omega arith)) in
-    none_holds (ownership_rows file p) (rows.0, (rows.1, tt)))
+no_ownership_fault file none role = grind (arith, no_faults, rows_by_role, anchor_unowned, reserve_is, none_holds)
 
 no_reach_fault : (file : File) → ((p : ℕ) → 1 ≤ p → p ≤ file.last → reaches file p ≡ true) → reach_faults file ≡ []
 unfolding reach_faults
@@ -216,10 +203,7 @@ no_reach_fault file reached =
     no_faults 5 1 file.last (λ page. holding (reach_rows file page)) (λ p low high. none_holds (reach_rows file p) (ap not (reached p low (omega arith)), tt))
 
 pub each_page_has_one_role : EachPageHasOneRole
-each_page_has_one_role file = (
-  λ owned reached p low high. record { role = role_of file p owned low high; reached = reached_of file p reached low high },
-  λ none role. (no_ownership_fault file none (λ p low high. (role p low high).role), no_reach_fault file (λ p low high. (role p low high).reached)),
-)
+each_page_has_one_role file = grind (arith, role_of, reached_of, no_ownership_fault, no_reach_fault)
 
 -- no page is two of an anchor, a reserve and a page with owners
 roles_exclude : (file : File) (p : ℕ) → reference_faults file ≡ [] → (file.kind ≡ QueueFile → list_any is_hash_meta file.pages ≡ false) → RolesExclude file p
@@ -249,9 +233,7 @@ formed_rows : (head : Head) (number : ℕ) (page : List ℕ) → is_zero page �
     → (first_row (identity_rows head.order page number (may_have_type head.kind number)) ≡ None)
     × (typed_code head number page (page_type (byte_at page 25)) ≡ None)
 unfolding form_code
-formed_rows head number page some none =
-    of_no_code (nat_lt 0 number && is_zero page) head.order number page (may_have_type head.kind number) (typed_code head number page)
-    (and_right (nat_lt 0 number) (is_zero page) some) none
+formed_rows head number page some none = grind (arith, of_no_code, and_right)
 
 -- a page of sound form that isn't a zero page has no row of a page of its type
 pub typed_none : (head : Head) (number : ℕ) (page : List ℕ) → is_zero page ≡ false → form_code head number page ≡ None

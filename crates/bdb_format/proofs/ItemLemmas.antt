@@ -106,6 +106,4 @@ pub record IsIndexed (t : PageType) (order : Order) (page : List ℕ) : Type 0 w
 
 pub index_passes : (order : Order) (page : List ℕ) (t : PageType) → first_row (index_rows order page t) ≡ None → IsIndexed t order page
 unfolding index_rows
-index_passes order page t none =
-    let fail = none_is_first_row (index_rows order page t) none in
-    record { room = fail.0; level = fail.1.0; entries = fail.1.1.0 }
+index_passes order page t none = grind (arith, none_is_first_row)

@@ -1,5 +1,5 @@
 -- Laws of known bytes, piece after piece, under names that an attribute can list.
-use Rattle.std.proofs.Common.{◌≡◌, ◌∙◌, ℕ, ◌+◌, ◌-◌, List, [], ◌++◌, length, take, drop, ap, sym, subst, arith, length-drop}
+use Rattle.std.proofs.Common.{◌≡◌, ◌∙◌, ℕ, ◌+◌, ◌-◌, List, [], ◌++◌, length, take, drop, arith, length-drop}
 use Rattle.std.specs.Prelude.{Option}
 use Rattle.std.specs.Io.KnownBytes.{Appends, Consumes, Keeps}
 use Rattle.std.proofs.KnownBytes.{Appends-nil, Appends-trans, Consumes-kept, Consumes-nil, Consumes-trans, Keeps-refl}
@@ -9,10 +9,7 @@ use Rattle.std.proofs.Math.Seq.{take-add}
 -- n more of the bytes from d on
 pub appends_next : (a b c : Option (List ℕ)) (xs : List ℕ) (d n : ℕ) → Appends a b (take d xs) → Appends b c (take n (take (length xs - d) (drop d xs)))
     → Appends a c (take (d + n) xs)
-appends_next a b c xs d n p q =
-    let rest : take (length xs - d) (drop d xs) ≡ drop d xs = take_all (length xs - d) (drop d xs) (omega (arith, length-drop d xs)) in
-    let both = ap (λ ys. take d xs ++ take n ys) rest ∙ sym (take-add d n xs) in
-    subst (Appends a c) both (Appends-trans a b c (take d xs) (take n (take (length xs - d) (drop d xs))) p q)
+appends_next a b c xs d n p q = grind (arith, take_all, length-drop, take-add, Appends-trans)
 
 pub consumes_next : (a b c : Option (List ℕ)) (xs ys : List ℕ) → Consumes a b xs → Consumes b c ys → Consumes a c (xs ++ ys)
 consumes_next a b c xs ys p q = Consumes-trans a b c xs ys p q

@@ -39,9 +39,7 @@ in_enumerated n (y ∷ ys) x at =
 
 pub flat_map_same : {X Y : Type 0} (f g : X → List Y) (xs : List X) → ((x : X) → Contains xs x → f x ≡ g x) → flat_map f xs ≡ flat_map g xs
 flat_map_same f g [] same = refl
-flat_map_same f g (x ∷ xs) same =
-    ap (λ ys. ys ++ flat_map f xs) (same x (first_member x xs))
-    ∙ ap (λ ys. g x ++ ys) (flat_map_same f g xs (λ y at. same y (later_member x xs y at)))
+flat_map_same f g (x ∷ xs) same = grind (arith, first_member, later_member, flat_map_same f g xs (λ y at. same y (later_member x xs y at)))
 
 -- a `flat_map` of a `flat_map` is one
 pub flat_map_twice : {X Y Z : Type 0} (f : Y → List Z) (g : X → List Y) (xs : List X) → flat_map f (flat_map g xs) ≡ flat_map (λ x. flat_map f (g x)) xs

@@ -1,6 +1,6 @@
 -- Laws of a page with an index, and of the rows of its items.
 use Rattle.std.proofs.lemmas.Bool.Decides.{nat_tests}
-use Rattle.std.proofs.Common.{◌≡◌, ℕ, suc, ◌+◌, ◌-◌, ◌<◌, ◌≤◌, List, [], ◌∷◌, length, take, arith, refl, sym, ◌∙◌, ap, eq-eqb, zero}
+use Rattle.std.proofs.Common.{◌≡◌, ℕ, suc, ◌+◌, ◌-◌, ◌<◌, ◌≤◌, List, [], ◌∷◌, length, arith, refl, sym, ◌∙◌, ap, eq-eqb, zero}
 use Rattle.std.specs.Prelude.{Bool, cond, slice_get, slice_index, replicate, ◌==◌, true, Option, Some, None, Ok, ◌&&◌}
 use Rattle.std.specs.Option.{option_map}
 use Rattle.std.proofs.lemmas.List.{drop-replicate, get_or-replicate, take-replicate}
@@ -47,9 +47,7 @@ zeros_are (byte ∷ bytes) zeros = grind (arith, nat_tests, zeros_are bytes)
 
 zero_number : (n : ℕ) (order : Order) (k at : ℕ) → at + n ≤ k → number_at n order (replicate k 0) at ≡ number order (replicate n 0)
 unfolding number_at
-zero_number n order k at inside =
-    let few : n ≤ k - at = omega arith in ap (λ bytes. number order (take n bytes)) (drop-replicate at k 0)
-    ∙ ap (number order) (take-replicate n (k - at) 0 few)
+zero_number n order k at inside = grind (arith, drop-replicate, take-replicate)
 
 zero_four : (order : Order) (k at : ℕ) → at + 4 ≤ k → four_at order (replicate k 0) at ≡ 0
 zero_four Little k at inside = zero_number 4 Little k at inside

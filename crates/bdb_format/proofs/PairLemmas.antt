@@ -1,12 +1,13 @@
 -- Laws that several crates use.
-use Rattle.std.proofs.Common.{List, [], ◌∷◌, refl, subst, inl, inr, ◌≡◌, ℕ, ◌++◌, map, ◌∙◌, ap, Bool, true, false, cond}
-use Rattle.std.specs.List.{Contains, filter}
+use Rattle.std.proofs.Common.{arith}
+use Rattle.std.proofs.Common.{List, [], ◌∷◌, refl, subst, inl, inr, ◌≡◌, ℕ, ◌++◌, ◌∙◌, Bool, true, false, cond}
+use Rattle.std.specs.List.{Contains}
 use Rattle.bdb_format.specs.ContentRows.{neighbours_from, neighbours, btree_contents, recno_contents}
 use Rattle.bdb_format.specs.Contents.{StoredPair}
 use Rattle.bdb_format.proofs.MemberLemmas.{first_member, later_member, member_cases, no_member}
 use Rattle.std.proofs.lemmas.List.{map-append}
 use Rattle.std.proofs.lemmas.List.Elements.{filter-append}
-use Rattle.bdb_format.specs.Lists.{ListKey, get, is_key}
+use Rattle.bdb_format.specs.Lists.{ListKey, get}
 use Rattle.bdb_format.specs.declared.metadata.BtreeMeta.{BtreeMeta}
 use Rattle.bdb_format.specs.File.{File}
 use Rattle.bdb_format.specs.Verdict.{holding}
@@ -28,10 +29,7 @@ neighbour_in (pair ∷ pairs) two at = later_member pair pairs two.1 (neighbour_
 
 -- what two lists have under a key
 pub get_append : (xs ys : List (ListKey × List ℕ)) (key : ListKey) → get (xs ++ ys) key ≡ get xs key ++ get ys key
-get_append xs ys key =
-    ap (map (λ (entry : ListKey × List ℕ). entry.1)) (filter-append (λ (entry : ListKey × List ℕ). is_key entry.0 key) xs ys)
-    ∙ map-append (λ (entry : ListKey × List ℕ). entry.1) (filter (λ (entry : ListKey × List ℕ). is_key entry.0 key) xs)
-    (filter (λ (entry : ListKey × List ℕ). is_key entry.0 key) ys)
+get_append xs ys key = grind (arith, filter-append, map-append)
 
 -- the rows of a btree that is no recno
 pub keyed_rows : (file : File) (meta : BtreeMeta) (p : ℕ) (b : Bool) → b ≡ false → holding (cond b (recno_contents file meta p) (btree_contents file meta p))

@@ -19,17 +19,7 @@ within n (size ∷ sizes) all one =
 
 -- a legal page size is from 512 to 32768
 pub size_bounds : (n : ℕ) → is_page_size n ≡ true → (512 ≤ n) × (n ≤ 32768)
-size_bounds n legal =
-    within n (512 ∷ 1024 ∷ 2048 ∷ 4096 ∷ 8192 ∷ 16384 ∷ 32768 ∷ []) (
-      omega arith,
-      omega arith,
-      (
-        omega arith,
-        omega arith,
-        (omega arith, omega arith, (omega arith, omega arith, (omega arith, omega arith, (omega arith, omega arith, (omega arith, omega arith, tt))))),
-      ),
-    )
-    legal
+size_bounds n legal = grind (arith, within)
 
 pub long_page : (n : ℕ) → is_page_size n ≡ true → 512 ≤ n
 long_page n legal = (size_bounds n legal).0

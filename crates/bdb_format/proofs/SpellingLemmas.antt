@@ -35,18 +35,11 @@ byte_of-pow (suc k) x = refl
 -- the bytes of x from byte j on spell what is left of x above those below
 from_low_end-bytes : (k j x : ℕ) → from_low_end (bytes_low_first j k x) ≡ x / 256 ^ j % 256 ^ k
 from_low_end-bytes zero j x = omega arith
-from_low_end-bytes (suc k) j x =
-    let ih = from_low_end-bytes k (suc j) x in
-    let shift : x / 256 ^ suc j ≡ x / 256 ^ j / 256 = ap (λ (p : ℕ). x / p) (pow-suc 256 j) ∙ sym (div-div-eq-div-mul x (256 ^ j) 256) in
-    let some : zero < 256 ^ k = one-le-pow k 256 (omega arith) in
-    let split = mod-split (x / 256 ^ j) {m = 256 ^ k} {c = 256} some (omega arith) in
-    rw (ih, shift, byte_of-pow j x, pow-suc 256 k, split) (omega arith)
+from_low_end-bytes (suc k) j x = grind (arith, pow-suc, div-div-eq-div-mul, one-le-pow, mod-split, byte_of-pow, from_low_end-bytes k (suc j) x)
 
 low_first_push : (i n x : ℕ) → bytes_low_first i (suc n) x ≡ bytes_low_first i n x ++ (byte_of (i + n) x ∷ [])
 low_first_push i zero x = ap (λ (k : ℕ). byte_of k x ∷ []) (omega arith)
-low_first_push i (suc n) x =
-    let e : suc i + n ≡ i + suc n = omega arith in
-    ap (λ (r : List ℕ). byte_of i x ∷ r) (low_first_push (suc i) n x ∙ ap (λ (k : ℕ). bytes_low_first (suc i) n x ++ (byte_of k x ∷ [])) e)
+low_first_push i (suc n) x = grind (arith, low_first_push (suc i) n x)
 
 reverse-high_first : (n x : ℕ) → reverse (bytes_high_first n x) ≡ bytes_low_first 0 n x
 reverse-high_first zero x = refl
@@ -114,9 +107,7 @@ drop-behind bytes at place front rest e p =
 pub number_at-in : (n : ℕ) (order : Order) (x : ℕ) (bytes : List ℕ) (at place : ℕ) (front rest : List ℕ)
     → drop at bytes ≡ front ++ (spelled n order x ++ rest) → place ≡ at + length front → x < 256 ^ n → number_at n order bytes place ≡ x
 unfolding number_at
-number_at-in n order x bytes at place front rest e p h =
-    ap (λ (bs : List ℕ). number order (take n bs)) (drop-behind bytes at place front (spelled n order x ++ rest) e p)
-    ∙ number_at-first n order x rest h
+number_at-in n order x bytes at place front rest e p h = grind (arith, drop-behind, number_at-first)
 
 pub byte_at-in : (bytes : List ℕ) (at place : ℕ) (front : List ℕ) (b : ℕ) (rest : List ℕ)
     → drop at bytes ≡ front ++ (b ∷ rest) → place ≡ at + length front → byte_at bytes place ≡ b
@@ -132,15 +123,7 @@ slice_range-in bytes at place end front piece rest e p q =
 -- Bytes that are written over, piece after piece.
 
 pub length-overwritten : (bytes : List ℕ) (at : ℕ) (piece : List ℕ) → at + length piece ≤ length bytes → length (overwritten bytes at piece) ≡ length bytes
-length-overwritten bytes at piece room =
-    omega (
-      arith,
-      length-append (take at bytes) (piece ++ drop (at + length piece) bytes),
-      length-append piece (drop (at + length piece) bytes),
-      length-take at
-          bytes,
-      length-drop (at + length piece) bytes,
-    )
+length-overwritten bytes at piece room = grind (arith, length-append, length-take, length-drop)
 
 -- a piece that is written right behind another is written with it
 pub overwritten_next : (bytes : List ℕ) (at place : ℕ) (a b : List ℕ) → place ≡ at + length a → place ≤ length bytes
@@ -175,11 +158,7 @@ wrote old at piece end e p h = record { is = e; end_is = p; room = h }
 -- and then another, right behind it
 pub wrote_next : {old now new : List ℕ} {at place : ℕ} {a : List ℕ} (b : List ℕ) (end : ℕ) → Wrote old now at place a → new ≡ overwritten now place b
     → end ≡ place + length b → end ≤ length old → Wrote old new at end (a ++ b)
-wrote_next {old} {now} {new} {at} {place} {a} b end w e p h = record {
-  is = e ∙ ap (λ (bs : List ℕ). overwritten bs place b) w.is ∙ overwritten_next old at place a b w.end_is (omega (arith, w.end_is));
-  end_is = omega (arith, w.end_is, length-append a b);
-  room = h;
-}
+wrote_next {old} {now} {new} {at} {place} {a} b end w e p h = grind (arith, overwritten_next, length-append)
 
 -- and then a number, right behind it
 pub wrote_number : {old now new : List ℕ} {at place : ℕ} {a : List ℕ} (n : ℕ) (order : Order) (x : ℕ) (end : ℕ) → Wrote old now at place a

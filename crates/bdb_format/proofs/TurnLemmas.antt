@@ -1,5 +1,5 @@
 -- Numbers and bytes that stand after other bytes, and pages whose numbers are turned round.
-use Rattle.std.proofs.Common.{◌≡◌, ◌∙◌, ℕ, ◌+◌, ◌-◌, ◌≤◌, List, ◌++◌, length, take, drop, reverse, refl, ap, subst, arith, length-drop}
+use Rattle.std.proofs.Common.{◌≡◌, ◌∙◌, ℕ, ◌+◌, ◌-◌, ◌≤◌, List, ◌++◌, length, take, drop, reverse, refl, ap, arith, length-drop}
 use Rattle.std.specs.Prelude.{slice_range}
 use Rattle.std.proofs.Math.Seq.{drop-append-add, take-append_seam}
 use Rattle.std.proofs.lemmas.List.{length-take-le, length-reverse, reverse-reverse, get_or-append-add, get_or-drop}
@@ -26,9 +26,7 @@ byte_at_past piece rest size at k e f = let d = get_or-append-add piece rest k 0
 pub number_at_front :
     (n : ℕ) (order : Order) (piece rest : List ℕ) → length piece ≡ n → number_at n order (piece ++ rest) 0 ≡ number order piece
 unfolding number_at
-number_at_front n order piece rest e =
-    let d : take (length piece) (piece ++ rest) ≡ piece = take-append_seam piece rest in
-    ap (number order) (subst (λ (k : ℕ). take k (piece ++ rest) ≡ piece) e d)
+number_at_front n order piece rest e = grind (arith, take-append_seam)
 
 pub number-turned : (order : Order) (bytes : List ℕ) → number (turned order) (reverse bytes) ≡ number order bytes
 number-turned Big bytes = refl

@@ -207,11 +207,7 @@ numbered_rise from (suc n) low test below = (below, numbered_rise (from + 1) n f
 -- what holds of a stage and of all others holds of the choice between them
 chosen : (P : ℕ → (List ℕ → List Fault) → Type 0) (stage k : ℕ) (here others : List ℕ → List Fault) → P k here → P stage others
     → P stage (if stage == k then here else others)
-chosen P stage k here others at_k at_others =
-    elim (stage == k) as (λ b. (b ≡ true → stage ≡ k) → P stage (cond b here others)) [
-      | true ↦ λ same. subst (λ s. P s here) (sym (same refl)) at_k
-      | false ↦ λ same. at_others
-    ] (eqb-true stage k)
+chosen P stage k here others at_k at_others = grind (arith, eqb-true)
 
 -- what holds of each of the eight stages, and of no faults, holds of any stage
 each_stage : (P : ℕ → (List ℕ → List Fault) → Type 0)
@@ -225,9 +221,7 @@ each_stage : (P : ℕ → (List ℕ → List Fault) → Type 0)
     → P 8 (within_file contents_faults)
     → ((stage : ℕ) → P stage (λ image. []))
     → (stage : ℕ) → P stage (faults_by stage)
-each_stage P one two three four five six seven eight others stage =
-    chosen P stage 1 _ _ one (chosen P stage 2 _ _ two (chosen P stage 3 _ _ three (chosen P stage 4 _ _ four (
-    chosen P stage 5 _ _ five (chosen P stage 6 _ _ six (chosen P stage 7 _ _ seven (chosen P stage 8 _ _ eight (others stage))))))))
+each_stage P one two three four five six seven eight others stage = grind (arith, chosen)
 
 pub stage_in_order : (image : List ℕ) (stage : ℕ) → InOrder stage (stage_faults image stage)
 unfolding head_faults tail_faults form_faults reference_faults ownership_faults reach_faults structure_faults master_faults contents_faults
@@ -390,10 +384,7 @@ verdict_after image passed from n more fault none late is =
 -- the first of the faults is a row that holds
 first_holds : (image : List ℕ) (fault : Fault) (faults : List Fault) → IsFirstStage image fault.stage (fault ∷ faults)
     → Holds image fault.stage fault.page fault.code
-first_holds image fault faults is = record {
-  earlier = is.before;
-  row = subst (λ fs. Contains fs fault) (sym is.faults_are) (first_member fault faults);
-}
+first_holds image fault faults is = grind (arith, first_member)
 
 none_is_first : (image : List ℕ) (faults : List Fault) → faults_of image ≡ faults → ((stage page code : ℕ) → Holds image stage page code → ⊥)
     → faults_of image ≡ []
@@ -402,20 +393,12 @@ none_is_first image (fault ∷ faults) same none =
     absurd (none fault.stage fault.page fault.code (first_holds image fault faults (first_stage image fault faults same)))
 
 pub sound_where_no_row_holds : SoundWhereNoRowHolds
-sound_where_no_row_holds image = (
-  λ none stage page code holds. no_member (stage_faults image stage) _ (no_stage image stage none) holds.row,
-  λ none. none_is_first image (faults_of image) refl none,
-)
+sound_where_no_row_holds image = grind (arith, no_member, no_stage, none_is_first)
 
 -- a row holds in the stage of the first fault alone
 same_stage : (image : List ℕ) (stage page code : ℕ) (fault : Fault) → Holds image fault.stage fault.page fault.code → Holds image stage page code
     → stage ≡ fault.stage
-same_stage image stage page code fault first holds =
-    elim (cases_order stage fault.stage) [
-      | inl same ↦ same
-      | inr (inl below) ↦ absurd (no_member (stage_faults image stage) _ (first.earlier stage below) holds.row)
-      | inr (inr above) ↦ absurd (no_member (stage_faults image fault.stage) _ (holds.earlier fault.stage above) first.row)
-    ]
+same_stage image stage page code fault first holds = grind (arith, cases_order, no_member)
 
 pub first_is_least : FirstIsLeast
 first_is_least image fault faults same =

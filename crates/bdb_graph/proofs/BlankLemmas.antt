@@ -1,5 +1,5 @@
 -- Pages of chains that are passed over.
-use Rattle.std.proofs.Common.{◌≡◌, ℕ, zero, suc, ◌+◌, ◌<◌, ◌≤◌, List, [], ◌∷◌, length, set, arith, refl, sym, ◌∙◌, ap, subst, inl, inr, get_or}
+use Rattle.std.proofs.Common.{◌≡◌, ℕ, zero, suc, ◌+◌, ◌<◌, ◌≤◌, List, [], ◌∷◌, length, set, arith, refl, sym, ◌∙◌, ap, subst}
 use Rattle.std.proofs.Common.{get_or-set_other}
 use Rattle.std.specs.List.{range_with_len}
 use Rattle.std.proofs.lemmas.Bool.{cases_eq, cases_lt}
@@ -7,7 +7,7 @@ use Rattle.std.proofs.lemmas.List.{get_or-set_same, get_or_past}
 use Rattle.std.proofs.lemmas.List.FromFn.{get_or-range_with_len, length-range_with_len}
 use Rattle.bdb_format.specs.Chains.{next_of, piece_in}
 use Rattle.bdb_format.specs.File.{File, page_at}
-use Rattle.bdb_graph.specs.Blanks.{ArePassed, ComesAfter, IsAfter, IsBlank, page_past}
+use Rattle.bdb_graph.specs.Blanks.{ArePassed, ComesAfter, IsAfter, IsBlank}
 
 -- a page comes after itself
 pub same_page : (file : File) (p : ℕ) → IsAfter file p p
@@ -34,22 +34,8 @@ next_after file p q len next after low high is_len none is_next =
 
 -- where each page stands for itself, none is passed over
 pub none_passed : (file : File) (n : ℕ) (nexts : List ℕ) → nexts ≡ range_with_len 0 n → ArePassed file nexts
-none_passed file n nexts are = record { each = λ p. record { blanks = 0; comes = sym (itself p) } }
-  where
-    itself : (p : ℕ) → page_past nexts p ≡ p
-    itself p =
-        elim (cases_lt p n) [
-          | inl low ↦ omega (arith, ap (λ ns. get_or ns p p) are ∙ get_or-range_with_len 0 n p p low)
-          | inr high ↦ get_or_past nexts p p (omega (arith, high, ap length are, length-range_with_len 0 n))
-        ]
+none_passed file n nexts are = grind (arith, cases_lt, get_or-range_with_len, get_or_past, length-range_with_len)
 
 -- one page more that stands for another
 pub passed_more : (file : File) (nexts : List ℕ) (p q : ℕ) → ArePassed file nexts → IsAfter file p q → p < length nexts → ArePassed file (set nexts p q)
-passed_more file nexts p q are after low = record {
-  each = λ r.
-      elim (cases_eq r p) [
-        | inl same ↦ subst (IsAfter file r) (sym (ap (λ s. get_or (set nexts p q) s s) same ∙ get_or-set_same nexts p q p low))
-            (subst (λ s. IsAfter file s q) (sym same) after)
-        | inr other ↦ subst (IsAfter file r) (sym (get_or-set_other nexts p r q r other)) (are.each r)
-      ];
-}
+passed_more file nexts p q are after low = grind (arith, cases_eq, set, get_or-set_same, get_or-set_other)

@@ -10,13 +10,12 @@ use Rattle.bdb_format.specs.declared.kinds.Order.{Order}
 use Rattle.bdb_format.specs.declared.metadata.Head.{Head}
 use Rattle.bdb_format.specs.declared.references.Sort.{Sort}
 use Rattle.bdb_format.specs.declared.references.Sort.TheVariants.{OverflowHead}
-use Rattle.bdb_format.specs.Chains.{chain_in, joined, next_of, piece_in, pieces_of}
-use Rattle.bdb_format.specs.File.{File, file_of, header_in, page_at, page_bytes, type_in}
+use Rattle.bdb_format.specs.Chains.{chain_in, next_of, piece_in, pieces_of}
+use Rattle.bdb_format.specs.File.{File, file_of, header_in, page_at, type_in}
 use Rattle.bdb_format.specs.Graph.{all_references, is_head_reference}
 use Rattle.bdb_format.specs.HeadOf.{head_of}
 use Rattle.bdb_format.specs.Numbers.{byte_at, two_at}
-use Rattle.bdb_format.specs.Page.{Page, PageType, FreePage, HashPage, InternalPage, RecnoInternalPage, LeafPage, RecnoLeafPage, OverflowPage, HashMetaPage}
-use Rattle.bdb_format.specs.Page.{BtreeMetaPage, QueueMetaPage, QueuePage, DupLeafPage, OtherPage}
+use Rattle.bdb_format.specs.Page.{Page}
 use Rattle.bdb_format.specs.Reading.{abstract_page, is_zero, page_as, page_type}
 use Rattle.bdb_format.specs.References.{asked_by, fit_code, fit_rows, has_type}
 use Rattle.bdb_format.proofs.FileLemmas.{page_is}
@@ -42,21 +41,7 @@ zero_piece order page empty = sym (ap (λ p. length (piece_in p)) (zero_page ord
 
 -- only a page of a chain has a piece
 other_piece : (order : Order) (page : List ℕ) (byte : ℕ) → (byte ≡ 7 → ⊥) → piece_in (page_as order page (page_type byte)) ≡ []
-other_piece order page byte other =
-    let P : PageType → Type 0 = λ t. piece_in (page_as order page t) ≡ [] in
-    if_type P (byte == 0) FreePage _ (λ _. refl) (λ _.
-    if_type P (byte == 2) HashPage _ (λ _. refl) (λ _.
-    if_type P (byte == 3) InternalPage _ (λ _. refl) (λ _.
-    if_type P (byte == 4) RecnoInternalPage _ (λ _. refl) (λ _.
-    if_type P (byte == 5) LeafPage _ (λ _. refl) (λ _.
-    if_type P (byte == 6) RecnoLeafPage _ (λ _. refl) (λ _.
-    if_type P (byte == 7) OverflowPage _ (λ is. absurd (other (eqb-true byte 7 is))) (λ _.
-    if_type P (byte == 8) HashMetaPage _ (λ _. refl) (λ _.
-    if_type P (byte == 9) BtreeMetaPage _ (λ _. refl) (λ _.
-    if_type P (byte == 10) QueueMetaPage _ (λ _. refl) (λ _.
-    if_type P (byte == 11) QueuePage _ (λ _. refl) (λ _.
-    if_type P (byte == 12) DupLeafPage _ (λ _. refl) (λ _.
-    if_type P (byte == 13) HashPage OtherPage (λ _. refl) (λ _. refl)))))))))))))
+other_piece order page byte other = grind (arith, if_type, eqb-true)
 
 pub no_piece : (order : Order) (page : List ℕ) → is_zero page ≡ false → (byte_at page 25 ≡ 7 → ⊥) → 0 ≡ length (piece_in (abstract_page order page))
 no_piece order page some other = sym (ap (λ p. length (piece_in p)) (typed_page order page some) ∙ ap length (other_piece order page (byte_at page 25) other))
@@ -85,15 +70,7 @@ size_is image = refl
 
 -- a page holds no more of a value than a page has room
 pub piece_short : (image : List ℕ) (p : ℕ) → p ≤ (head_of image).last → length (piece_in (page_at (file_of image) p)) ≤ (file_of image).size
-piece_short image p inside =
-    let page : List ℕ = page_bytes (head_of image) image p in
-    omega (
-      arith,
-      ap (λ page. length (piece_in page)) (page_is image p inside),
-      piece_fits (head_of image).order page,
-      length-take (head_of image).page_size (drop (p * (head_of image).page_size) image),
-      size_is image,
-    )
+piece_short image p inside = grind (arith, page_is, piece_fits, length-take, size_is)
 
 -- Pages one after another.
 
@@ -101,14 +78,7 @@ piece_short image p inside =
 pub one_more : (turns : ℕ) (file : File) (p : ℕ)
     → length_in (suc turns) file p ≡ length (piece_in (page_at file p)) + cond (next_of file p == 0) 0 (length_in turns file (next_of file p))
 unfolding length_in chain_in
-one_more turns file p =
-    let f : ℕ → List ℕ = λ q. piece_in (page_at file q) in
-    elim (next_of file p == 0) as (λ b.
-    length (joined (map f (p ∷ elim b [ true ↦ [] | false ↦ chain_in turns file (next_of file p) ])))
-    ≡ length (f p) + cond b 0 (length (joined (map f (chain_in turns file (next_of file p)))))) [
-      | true ↦ length-append (f p) []
-      | false ↦ length-append (f p) (joined (map f (chain_in turns file (next_of file p))))
-    ]
+one_more turns file p = grind (arith, length-append)
 
 pub all_turns : (file : File) (head : ℕ) → length_in file.count file head ≡ chain_length file head
 unfolding length_in pieces_of
@@ -207,9 +177,7 @@ at_last file head turn page total length' next added below is_length is_next las
     omega (arith, whole, is_length)
 
 pub at_end : (file : File) (head turn page total : ℕ) → IsAdded file head turn page total → file.count ≤ turn → total ≡ chain_length file head
-at_end file head turn page total added done =
-    let none : length_in (file.count - turn) file page ≡ 0 = ap (λ turns. length_in turns file page) (omega arith) ∙ no_turns file page in
-    omega (arith, added.whole, none)
+at_end file head turn page total added done = grind (arith, no_turns)
 
 -- the sum fits, since the pages of an image have no more bytes than it
 pub sum_fits : (image : List ℕ) (head : Head) (turn total length' : ℕ) → IsFormed image head → turn < head.pages → total ≤ turn * (file_of image).size

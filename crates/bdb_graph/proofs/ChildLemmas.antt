@@ -1,5 +1,5 @@
 -- The children of an internal page are the targets of its references to children, and a queue file has no such page.
-use Rattle.std.proofs.Common.{◌≡◌, ◌⊎◌, ℕ, ◌+◌, ◌≤◌, Bool, true, false, cond, List, [], ◌∷◌, ◌++◌, map, Some, None, arith, refl, sym, ◌∙◌, ap, inl, inr}
+use Rattle.std.proofs.Common.{◌≡◌, ◌⊎◌, ℕ, ◌+◌, ◌≤◌, Bool, true, false, List, [], ◌∷◌, ◌++◌, map, Some, None, arith, refl, sym, ◌∙◌, ap}
 use Rattle.std.proofs.Common.{true≢false}
 use Rattle.std.specs.List.{Contains, enumerate_from, filter, flat_map}
 use Rattle.bdb_format.specs.declared.kinds.Order.{Order}
@@ -35,11 +35,7 @@ is_queue_page (Queue number records) = true
 is_queue_page page = false
 
 queue_typed : (order : Order) (page : List ℕ) (byte : ℕ) → (byte ≡ 10) ⊎ (byte ≡ 11) → is_queue_page (page_as order page (page_type byte)) ≡ true
-queue_typed order page byte types =
-    elim types [
-      | inl is ↦ ap (λ b. is_queue_page (page_as order page (page_type b))) is
-      | inr is ↦ ap (λ b. is_queue_page (page_as order page (page_type b))) is
-    ]
+queue_typed order page byte types = grind arith
 
 queue_abstract : (head : Head) (number : ℕ) (page : List ℕ) → head.kind ≡ QueueFile → form_code head number page ≡ None
     → is_queue_page (abstract_page head.order page) ≡ true
@@ -82,15 +78,7 @@ placed_children : (n : ℕ) (names : List (Sort × ℕ))
     → map (λ (reference : Reference). reference.target) (filter (λ (reference : Reference). is_child reference.sort)
     (map as_reference (enumerate_from n names))) ≡ named_children names
 placed_children n [] = refl
-placed_children n (name ∷ names) =
-    let rest : List Reference = filter (λ (reference : Reference). is_child reference.sort) (map as_reference (enumerate_from (n + 1) names)) in
-    elim (is_child name.0) as (λ b.
-    map (λ (reference : Reference). reference.target) (cond b (as_reference (n, name) ∷ rest) rest)
-    ≡ map (λ (named : Sort × ℕ). named.1) (cond b (name ∷ filter (λ (named : Sort × ℕ). is_child named.0) names)
-    (filter (λ (named : Sort × ℕ). is_child named.0) names))) [
-      | true ↦ ap (λ ps. name.1 ∷ ps) (placed_children (n + 1) names)
-      | false ↦ placed_children (n + 1) names
-    ]
+placed_children n (name ∷ names) = grind (arith, placed_children (n + 1) names)
 
 no_child_named : (key : Content) (names : List (Sort × ℕ)) → named_children (content_targets key ++ names) ≡ named_children names
 no_child_named (Inline bytes) names = refl
@@ -101,9 +89,7 @@ no_child_named Unknown names = refl
 
 internal_children : (items : List InternalItem) → named_children (flat_map internal_targets items) ≡ map (λ (item : InternalItem). item.child) items
 internal_children [] = refl
-internal_children (item ∷ items) =
-    ap (λ ps. item.child ∷ ps)
-    (no_child_named item.key (flat_map internal_targets items) ∙ internal_children items)
+internal_children (item ∷ items) = grind (arith, no_child_named, internal_children items)
 
 recno_children : (items : List RecnoItem) → named_children (map (λ (item : RecnoItem). (Child, item.child)) items)
     ≡ map (λ (item : RecnoItem). item.child) items

@@ -1,6 +1,6 @@
 -- The code of a page, by the calls that judge its form and its metadata.
 use Rattle.std.proofs.Common.{◌≡◌, ℕ, zero, suc, ◌+◌, ◌<◌, ◌≤◌, Bool, true, false, cond, List, [], ◌∷◌, ◌++◌, length, arith, refl, sym, ◌∙◌, ap}
-use Rattle.std.specs.Prelude.{Option, Some, None, Err, ◌==◌, ◌&&◌, not, nat_lt}
+use Rattle.std.specs.Prelude.{Option, Some, None, ◌==◌, ◌&&◌, not, nat_lt}
 use Rattle.std.specs.Option.{option_map}
 use Rattle.std.specs.Result.{result_err}
 use Rattle.std.proofs.lemmas.Bool.{eqb-true, lt-ltb}
@@ -12,7 +12,7 @@ use Rattle.bdb_format.specs.declared.metadata.Head.{Head}
 use Rattle.bdb_format.specs.declared.metadata.MetaFault.{MetaFault}
 use Rattle.bdb_format.specs.declared.metadata.MetaFault.TheVariants.{Fault as CodeFault}
 use Rattle.bdb_format.specs.HeadOf.{faulted, form_fault}
-use Rattle.bdb_format.specs.Numbers.{byte_at, four_at, two_at}
+use Rattle.bdb_format.specs.Numbers.{byte_at, two_at}
 use Rattle.bdb_format.specs.Page.{PageType, FreePage, HashPage, InternalPage, RecnoInternalPage, LeafPage, RecnoLeafPage, OverflowPage, HashMetaPage}
 use Rattle.bdb_format.specs.Page.{BtreeMetaPage, QueueMetaPage, QueuePage, DupLeafPage, OtherPage}
 use Rattle.bdb_format.specs.Reading.{is_zero, page_type}
@@ -29,12 +29,7 @@ use Rattle.bdb_format.specs.HeadOf.{is_page_size}
 pub fault_of_rows : {T : Type 0} (fault : ℕ → MetaFault) (rows : List (Row ℕ)) (value : T) → result_err (faulted fault (answer rows value))
     ≡ option_map fault (first_row rows)
 fault_of_rows fault [] value = refl
-fault_of_rows {T = T} fault (row ∷ rows) value =
-    elim row.holds as (λ b. result_err {T = T} (faulted fault (cond b (Err row.code) (answer rows value)))
-    ≡ option_map fault (cond b (Some row.code) (first_row rows))) [
-      | true ↦ refl
-      | false ↦ fault_of_rows fault rows value
-    ]
+fault_of_rows {T = T} fault (row ∷ rows) value = grind (arith, fault_of_rows fault rows value)
 
 -- only metadata of a table looks at the last page
 pub btree_last : (order : Order) (page : List ℕ) (number last : ℕ) → metadata_rows order page number last Btree ≡ metadata_rows order page number 0 Btree
@@ -60,11 +55,7 @@ AllPlain (row ∷ rows) = IsPlain row.code × AllPlain rows
 
 plain_first : (rows : List (Row ℕ)) → AllPlain rows → ArePlain (first_row rows)
 plain_first [] all = tt
-plain_first (row ∷ rows) all =
-    elim row.holds as (λ b. ArePlain (cond b (Some row.code) (first_row rows))) [
-      | true ↦ all.0
-      | false ↦ plain_first rows all.1
-    ]
+plain_first (row ∷ rows) all = grind (arith, plain_first rows all.1)
 
 plain_or : (first least : Option ℕ) → ArePlain first → ArePlain least → ArePlain (elim first [ Some code ↦ Some code | None ↦ least ])
 plain_or None least first second = second
@@ -95,17 +86,11 @@ plain_unless false code plain = plain
 
 plain_page : (order : Order) (number : ℕ) (page : List ℕ) → ArePlain (page_code order number page)
 unfolding page_code
-plain_page order number page =
-    plain_unless (is_zero page) _
-    (plain_or (first_row (identity_rows order page number is_tree_type)) (body_code order page (page_type (byte_at page 25)))
-    (plain_first (identity_rows order page number is_tree_type) (refl, (refl, tt))) (plain_body order page (page_type (byte_at page 25))))
+plain_page order number page = grind (arith, plain_unless, plain_or, plain_first, plain_body)
 
 plain_queue : (order : Order) (number : ℕ) (page : List ℕ) → ArePlain (queue_code order number page)
 unfolding queue_code
-plain_queue order number page =
-    plain_unless (is_zero page) _
-    (plain_or (first_row (identity_rows order page number is_queue_type)) None (plain_first (identity_rows order page number is_queue_type) (refl, (refl, tt)))
-    tt)
+plain_queue order number page = grind (arith, plain_unless, plain_or, plain_first)
 
 plain_fault : (code : Option ℕ) → ArePlain code → option_map form_fault code ≡ option_map (λ c. CodeFault c) code
 plain_fault None plain = refl
@@ -114,11 +99,7 @@ plain_fault (Some code) plain = ap (λ f. Some f) plain
 -- Page 0.
 
 pub is_same : (a b : ℕ) → not (a == b) ≡ false → a ≡ b
-is_same a b same =
-    elim (a == b) as (λ c. (a == b) ≡ c → not c ≡ false → a ≡ b) [
-      | true ↦ λ is _. eqb-true a b is
-      | false ↦ λ is none. absurd cc
-    ] refl same
+is_same a b same = grind (arith, eqb-true)
 
 -- two rows are passed once, whether they are looked at before the type or in its own table
 twice : (a b : Bool) (typed rest : Option ℕ) → (b ≡ false → typed ≡ rest)
@@ -137,10 +118,7 @@ typed_metadata head number page Queue is = ap (λ byte. typed_code head number p
 
 pub first_page_code : (head : Head) (page : List ℕ) → form_code head 0 page ≡ first_row (metadata_rows head.order page 0 head.last head.kind)
 unfolding form_code metadata_rows
-first_page_code head page =
-    twice (not (four_at head.order page 8 == 0)) (not (byte_at page 25 == type_of head.kind)) (typed_code head 0 page (page_type (byte_at page 25)))
-    (first_row (field_rows head.order page 0 head.last head.kind))
-    (λ own. typed_metadata head 0 page head.kind (is_same (byte_at page 25) (type_of head.kind) own))
+first_page_code head page = grind (arith, twice, typed_metadata, is_same)
 
 -- Other pages.
 
@@ -184,11 +162,7 @@ some_type Hash = refl
 some_type Queue = refl
 
 pub differs : (a b : ℕ) → (a ≡ b → ⊥) → (a == b) ≡ false
-differs a b different =
-    elim (a == b) as (λ c. (a == b) ≡ c → c ≡ false) [
-      | true ↦ λ is. absurd (different (eqb-true a b is))
-      | false ↦ λ is. refl
-    ] refl
+differs a b different = grind (arith, eqb-true)
 
 ten_fails : not (is_tree_type 10) ≡ false → ⊥
 ten_fails same = absurd cc
@@ -199,12 +173,7 @@ pub tree_code : (head : Head) (number : ℕ) (page : List ℕ) → 0 < number �
     (typed_code head number page (page_type (byte_at page 25)))
 unfolding form_code
 tree_code head zero page above tree = absurd (omega arith)
-tree_code head (suc n) page above tree =
-    let typed : Option ℕ = typed_code head (suc n) page (page_type (byte_at page 25)) in
-    ap (λ zeros. code_by zeros (first_row (identity_rows head.order page (suc n) (may_have_type head.kind (suc n)))) typed)
-    (above_zero (suc n) (is_zero page) above)
-    ∙ ap (λ fits. code_by (is_zero page) (first_row (1 :? not (four_at head.order page 8 == suc n) ∷ 2 :? not fits ∷ [])) typed)
-    (tree_types head.kind n (byte_at page 25) tree)
+tree_code head (suc n) page above tree = grind (arith, above_zero, tree_types)
 
 -- a page that is refused by its form
 typed_body : (head : Head) (number : ℕ) (page : List ℕ) (t : PageType) (code : ℕ) → body_code head.order page t ≡ Some code → typed_code head number page t
@@ -231,9 +200,7 @@ tree_refused head number page code above tree refused =
 
 -- a metadata page that its form lets pass
 pub not_zero : (page : List ℕ) (kind : FileKind) → is_page_size (length page) ≡ true → byte_at page 25 ≡ type_of kind → is_zero page ≡ false
-not_zero page kind size is =
-    let long : 25 < length page = let bounds : 512 ≤ length page = (size_bounds (length page) size).0 in omega arith in
-    list_all_at (λ byte. byte == 0) page 25 0 long (ap (λ byte. byte == 0) is ∙ some_type kind)
+not_zero page kind size is = grind (arith, size_bounds, list_all_at, some_type)
 
 pub tree_metadata : (head : Head) (number : ℕ) (page : List ℕ) (kind : FileKind) → 0 < number → (head.kind ≡ Queue → ⊥) → page_code head.order number page
     ≡ None
@@ -263,20 +230,7 @@ else_body true s t fails second = absurd cc
 else_body false s t fails second = second
 
 pub is_body : (byte : ℕ) → (byte == 8) ≡ false → (byte == 9) ≡ false → (byte == 10) ≡ false → IsBody (page_type byte)
-is_body byte hash btree queue =
-    if_body (byte == 0) FreePage _ (record { same = λ head number page. refl })
-    (if_body (byte == 2) HashPage _ (record { same = λ head number page. refl })
-    (if_body (byte == 3) InternalPage _ (record { same = λ head number page. refl })
-    (if_body (byte == 4) RecnoInternalPage _ (record { same = λ head number page. refl })
-    (if_body (byte == 5) LeafPage _ (record { same = λ head number page. refl })
-    (if_body (byte == 6) RecnoLeafPage _ (record { same = λ head number page. refl })
-    (if_body (byte == 7) OverflowPage _ (record { same = λ head number page. refl })
-    (else_body (byte == 8) HashMetaPage _ hash
-    (else_body (byte == 9) BtreeMetaPage _ btree
-    (else_body (byte == 10) QueueMetaPage _ queue
-    (if_body (byte == 11) QueuePage _ (record { same = λ head number page. refl })
-    (if_body (byte == 12) DupLeafPage _ (record { same = λ head number page. refl })
-    (if_body (byte == 13) HashPage OtherPage (record { same = λ head number page. refl }) (record { same = λ head number page. refl })))))))))))))
+is_body byte hash btree queue = grind (arith, if_body, else_body)
 
 pub two_none : (a b : Bool) → cond {A = Option ℕ} a (Some 1) (cond b (Some 2) None) ≡ None → b ≡ false
 two_none true b none = absurd cc
@@ -285,22 +239,12 @@ two_none false false none = refl
 
 -- a page of a tree hasn't the type of queue metadata
 pub no_queue_type : (byte : ℕ) → not (is_tree_type byte) ≡ false → (byte == 10) ≡ false
-no_queue_type byte passed =
-    elim (byte == 10) as (λ b. (byte == 10) ≡ b → b ≡ false) [
-      | true ↦ λ is. let ten : byte ≡ 10 = eqb-true byte 10 is in absurd (ten_fails (ap (λ x. not (is_tree_type x)) (sym ten) ∙ passed))
-      | false ↦ λ is. refl
-    ] refl
+no_queue_type byte passed = grind (arith, eqb-true, ten_fails)
 
 pub tree_passed : (head : Head) (number : ℕ) (page : List ℕ) → 0 < number → (head.kind ≡ Queue → ⊥) → page_code head.order number page ≡ None
     → (byte_at page 25 ≡ 8 → ⊥) → (byte_at page 25 ≡ 9 → ⊥) → form_code head number page ≡ None
 unfolding page_code
-tree_passed head number page above tree passed hash btree =
-    let byte : ℕ = byte_at page 25 in
-    let identity : Option ℕ = first_row (identity_rows head.order page number is_tree_type) in
-    tree_code head number page above tree
-    ∙ code_same (is_zero page) identity (typed_code head number page (page_type byte)) (body_code head.order page (page_type byte))
-    (λ none. (is_body byte (differs byte 8 hash) (differs byte 9 btree) (no_queue_type byte (two_none _ _ none))).same head number page)
-    ∙ passed
+tree_passed head number page above tree passed hash btree = grind (arith, tree_code, code_same, is_body, differs, no_queue_type, two_none)
 
 -- a page above 0 of a queue file
 typed_queue : (head : Head) (number : ℕ) (page : List ℕ) → byte_at page 25 ≡ 11 → typed_code head number page (page_type (byte_at page 25)) ≡ None
@@ -312,19 +256,9 @@ queue_types kind n byte is = ap (λ k. may_have_type k (suc n) byte) is ∙ late
 pub form_queue : (head : Head) (number : ℕ) (page : List ℕ) → 0 < number → head.kind ≡ Queue → form_code head number page ≡ queue_code head.order number page
 unfolding form_code queue_code
 form_queue head zero page above queue = absurd (omega arith)
-form_queue head (suc n) page above queue =
-    let typed : Option ℕ = typed_code head (suc n) page (page_type (byte_at page 25)) in
-    let identity : Option ℕ = first_row (identity_rows head.order page (suc n) is_queue_type) in
-    ap (λ zeros. code_by zeros (first_row (identity_rows head.order page (suc n) (may_have_type head.kind (suc n)))) typed)
-    (above_zero (suc n) (is_zero page) above)
-    ∙ ap (λ fits. code_by (is_zero page) (first_row (1 :? not (four_at head.order page 8 == suc n) ∷ 2 :? not fits ∷ [])) typed)
-    (queue_types head.kind n (byte_at page 25) queue)
-    ∙ code_same (is_zero page) identity typed None (λ none. typed_queue head (suc n) page (is_same (byte_at page 25) 11 (two_none _ _ none)))
+form_queue head (suc n) page above queue = grind (arith, above_zero, queue_types, code_same, typed_queue, is_same, two_none)
 
 -- the fault of a page above 0 of a queue file is the code of its form
 pub queue_fault : (head : Head) (number : ℕ) (page : List ℕ) (code : Option ℕ) → 0 < number → head.kind ≡ Queue → code ≡ queue_code head.order number page
     → option_map (λ c. CodeFault c) code ≡ option_map form_fault (form_code head number page)
-queue_fault head number page code above queue same =
-    ap (option_map (λ c. CodeFault c)) same
-    ∙ sym (plain_fault (queue_code head.order number page) (plain_queue head.order number page))
-    ∙ ap (option_map form_fault) (sym (form_queue head number page above queue))
+queue_fault head number page code above queue same = grind (arith, plain_fault, plain_queue, form_queue)

@@ -1,6 +1,6 @@
 -- What a page is to a reference, by its bytes, and the codes with which references fail.
 use Rattle.std.proofs.Common.{◌≡◌, ℕ, ◌+◌, ◌≤◌, ◌<◌, Bool, true, false, cond, List, [], ◌∷◌, ◌++◌, length, arith, refl, sym, ◌∙◌, ap, subst, inl, inr}
-use Rattle.std.specs.Prelude.{Option, Some, None, ◌==◌, ◌&&◌, ◌||◌, not, nat_lt}
+use Rattle.std.specs.Prelude.{Option, Some, None, ◌==◌, ◌&&◌, ◌||◌, nat_lt}
 use Rattle.std.specs.List.{list_any}
 use Rattle.std.proofs.lemmas.Bool.{cases_Bool, cases_eq, cases_order, eqb-true, eqb-false, le-ltb, lt-ltb, ne_eqb, or_from}
 use Rattle.std.proofs.Math.Bool.{or-true}
@@ -11,12 +11,11 @@ use Rattle.bdb_format.specs.declared.pages.Header.{Header}
 use Rattle.bdb_format.specs.declared.references.Reference.{Reference}
 use Rattle.bdb_format.specs.File.{File, header_in, no_header, page_at, type_in}
 use Rattle.bdb_format.specs.Numbers.{byte_at, four_at, has_bit, two_at}
-use Rattle.bdb_format.specs.Page.{Page, PageType, FreePage, HashPage, InternalPage, RecnoInternalPage, LeafPage, RecnoLeafPage, OverflowPage, HashMetaPage}
-use Rattle.bdb_format.specs.Page.{BtreeMetaPage, QueueMetaPage, QueuePage, DupLeafPage, OtherPage, Zero}
+use Rattle.bdb_format.specs.Page.{Page, PageType, FreePage, InternalPage, RecnoInternalPage, HashMetaPage}
+use Rattle.bdb_format.specs.Page.{BtreeMetaPage, QueueMetaPage, QueuePage, OtherPage}
 use Rattle.bdb_format.specs.Reading.{abstract_page, header_of, is_zero, listed, page_as, page_type}
 use Rattle.bdb_format.specs.References.{Asked, asked_by, child_types, fit_code, has_type, is_zero_page, root_types}
-use Rattle.bdb_format.specs.Table.{Row, first_row, lesser}
-use Rattle.bdb_format.specs.Verdict.{first_fault}
+use Rattle.bdb_format.specs.Table.{Row, first_row}
 use Rattle.bdb_graph.specs.Fits.{is_headed, page_rows}
 use Rattle.bdb_format.proofs.GraphLemmas.{zero_page, typed_page}
 use Rattle.bdb_format.proofs.PageLemmas.{zero_header as zero_fields}
@@ -34,11 +33,7 @@ not_zero_as order page t = refl
 -- a page is a zero page where its bytes are 0
 pub is_zero_page_is : (order : Order) (page : List ℕ) → is_zero page ≡ is_zero_page (abstract_page order page)
 unfolding abstract_page
-is_zero_page_is order page =
-    elim (is_zero page) as (λ b. b ≡ is_zero_page (elim b [ true ↦ Zero | false ↦ page_as order page (page_type (byte_at page 25)) ])) [
-      | true ↦ refl
-      | false ↦ sym (not_zero_as order page (page_type (byte_at page 25)))
-    ]
+is_zero_page_is order page = grind (arith, not_zero_as)
 
 -- The type byte.
 
@@ -140,12 +135,7 @@ unheaded_type order page some none = sym (ap header_in (typed_page order page so
 
 -- a page that begins with the fields of a header has them
 headed : (order : Order) (page : List ℕ) → is_headed page ≡ true → header_of order page ≡ header_in (abstract_page order page)
-headed order page is =
-    elim (is_zero page) as (λ b. is_zero page ≡ b → (not b && list_any (λ t. t == byte_at page 25) headed_bytes) ≡ true
-    → header_of order page ≡ header_in (abstract_page order page)) [
-      | true ↦ λ empty no. absurd cc
-      | false ↦ λ some one. headed_type order page some one
-    ] refl is
+headed order page is = grind (arith, headed_type)
 
 pub headed_previous : (order : Order) (page : List ℕ) → is_headed page ≡ true → four_at order page 12 ≡ (header_in (abstract_page order page)).previous
 headed_previous order page is = ap (λ (header : Header). header.previous) (headed order page is)
@@ -161,21 +151,12 @@ headed_level order page is = ap (λ (header : Header). header.level) (headed ord
 
 -- another page has none
 pub unheaded : (order : Order) (page : List ℕ) → is_headed page ≡ false → no_header ≡ header_in (abstract_page order page)
-unheaded order page is =
-    elim (is_zero page) as (λ b. is_zero page ≡ b → (not b && list_any (λ t. t == byte_at page 25) headed_bytes) ≡ false
-    → no_header ≡ header_in (abstract_page order page)) [
-      | true ↦ λ empty no. zero_header order page empty
-      | false ↦ λ some none. unheaded_type order page some none
-    ] refl is
+unheaded order page is = grind (arith, zero_header, unheaded_type)
 
 -- The type of a page of a chain.
 
 same_seven : (byte : ℕ) → (byte == 7) ≡ has_type (7 ∷ []) (Some byte)
-same_seven byte =
-    elim (cases_eq byte 7) [
-      | inl is ↦ rw is refl
-      | inr other ↦ rw (ne_eqb byte 7 other, ne_eqb 7 byte (λ is. other (sym is))) refl
-    ]
+same_seven byte = grind (arith, cases_eq, ne_eqb)
 
 no_seven : (byte : ℕ) → IsNoneOf byte typed_bytes → (byte == 7) ≡ false
 no_seven byte (n0, (n2, (n3, (n4, (n5, (n6, (n7, others))))))) = n7
@@ -204,20 +185,7 @@ is_plain t = true
 
 by_type : (P : PageType → Type 0) (byte : ℕ) → ((t : PageType) → is_plain t ≡ true → P t) → ((byte == 3) ≡ true → P InternalPage)
     → ((byte == 4) ≡ true → P RecnoInternalPage) → ((byte == 9) ≡ true → P BtreeMetaPage) → P (page_type byte)
-by_type P byte plain internal recno tree =
-    if_type P (byte == 0) FreePage _ (λ _. plain FreePage refl) (λ _.
-    if_type P (byte == 2) HashPage _ (λ _. plain HashPage refl) (λ _.
-    if_type P (byte == 3) InternalPage _ internal (λ _.
-    if_type P (byte == 4) RecnoInternalPage _ recno (λ _.
-    if_type P (byte == 5) LeafPage _ (λ _. plain LeafPage refl) (λ _.
-    if_type P (byte == 6) RecnoLeafPage _ (λ _. plain RecnoLeafPage refl) (λ _.
-    if_type P (byte == 7) OverflowPage _ (λ _. plain OverflowPage refl) (λ _.
-    if_type P (byte == 8) HashMetaPage _ (λ _. plain HashMetaPage refl) (λ _.
-    if_type P (byte == 9) BtreeMetaPage _ tree (λ _.
-    if_type P (byte == 10) QueueMetaPage _ (λ _. plain QueueMetaPage refl) (λ _.
-    if_type P (byte == 11) QueuePage _ (λ _. plain QueuePage refl) (λ _.
-    if_type P (byte == 12) DupLeafPage _ (λ _. plain DupLeafPage refl) (λ _.
-    if_type P (byte == 13) HashPage OtherPage (λ _. plain HashPage refl) (λ _. plain OtherPage refl)))))))))))))
+by_type P byte plain internal recno tree = grind (arith, if_type)
 
 plain_root : (order : Order) (page : List ℕ) (t : PageType) → is_plain t ≡ true → [] ≡ root_types (page_as order page t)
 plain_root order page InternalPage plain = refl
@@ -238,17 +206,11 @@ pub zero_child : (order : Order) (page : List ℕ) → is_zero page ≡ true →
 zero_child order page empty = sym (ap child_types (zero_page order page empty))
 
 pub no_root : (order : Order) (page : List ℕ) → is_zero page ≡ false → (byte_at page 25 ≡ 9 → ⊥) → [] ≡ root_types (abstract_page order page)
-no_root order page some other =
-    by_type (λ t. [] ≡ root_types (page_as order page t)) (byte_at page 25) (plain_root order page) (λ is. refl) (λ is. refl)
-    (λ is. absurd (other (eqb-true (byte_at page 25) 9 is)))
-    ∙ sym (ap root_types (typed_page order page some))
+no_root order page some other = grind (arith, by_type, plain_root, eqb-true, typed_page)
 
 pub no_child : (order : Order) (page : List ℕ) → is_zero page ≡ false → (byte_at page 25 ≡ 3 → ⊥) → (byte_at page 25 ≡ 4 → ⊥)
     → [] ≡ child_types (abstract_page order page)
-no_child order page some other another =
-    by_type (λ t. [] ≡ child_types (page_as order page t)) (byte_at page 25) (plain_child order page) (λ is. absurd (other (eqb-true (byte_at page 25) 3 is)))
-    (λ is. absurd (another (eqb-true (byte_at page 25) 4 is))) (λ is. refl)
-    ∙ sym (ap child_types (typed_page order page some))
+no_child order page some other another = grind (arith, by_type, plain_child, eqb-true, typed_page)
 
 page_of_byte : (order : Order) (page : List ℕ) (byte : ℕ) → is_zero page ≡ false → byte_at page 25 ≡ byte
     → abstract_page order page ≡ page_as order page (page_type byte)
@@ -298,21 +260,12 @@ pub names_page : (file : File) (p : ℕ) (reference : Reference) (asked : Asked)
     → reference.target ≤ file.last
     → code ≡ first_row (page_rows asked target) → asked ≡ asked_by p holder reference.sort → holder ≡ page_at file p → target ≡ page_at file reference.target
     → code ≡ fit_code file p reference
-names_page file p reference asked holder target code some low code_is asked_is holder_is target_is =
-    code_is
-    ∙ (ap (λ (demand : Asked). first_row (page_rows demand target)) asked_is
-    ∙ (ap (λ (page : Page). first_row (page_rows (asked_by p page reference.sort) target)) holder_is
-    ∙ (ap (λ (page : Page). first_row (page_rows (asked_by p (page_at file p) reference.sort) page)) target_is
-    ∙ fits_there file p reference (or_from (reference.target == 0) (nat_lt file.last reference.target) (ne_eqb reference.target 0 some)
-    (le-ltb file.last reference.target low)))))
+names_page file p reference asked holder target code some low code_is asked_is holder_is target_is = grind (arith, fits_there, or_from, ne_eqb, le-ltb)
 
 -- The first fault of a stage.
 
 abbrev named : ℕ → ℕ → ℕ → Fault
 named stage page code = record { stage = stage; page = page; code = code }
-
-first_of_none : (faults later : List Fault) → faults ≡ [] → first_fault (faults ++ later) ≡ first_fault later
-first_of_none faults later none = ap (λ (before : List Fault). first_fault (before ++ later)) none
 
 -- no row of these holds at the pages from one on and below another
 abbrev pub NoneHold : (ℕ → List (Row ℕ)) → ℕ → ℕ → Type 0
@@ -320,12 +273,7 @@ NoneHold rows from to = (p : ℕ) → from ≤ p → p < to → None ≡ first_r
 
 -- one more page at which no row holds
 pub none_more : (rows : ℕ → List (Row ℕ)) (from to : ℕ) → NoneHold rows from to → None ≡ first_row (rows to) → NoneHold rows from (to + 1)
-none_more rows from to none here p low below =
-    elim (cases_order p to) [
-      | inl same ↦ here ∙ ap (λ q. first_row (rows q)) (sym same)
-      | inr (inl lesser) ↦ none p low lesser
-      | inr (inr above) ↦ absurd (omega arith)
-    ]
+none_more rows from to none here p low below = grind (arith, cases_order)
 
 -- which pages are named
 pub ruleset pages_named = (names_zero, names_above, last_page)

@@ -6,7 +6,7 @@ use Rattle.std.specs.List.{Contains, list_all, range_with_len}
 use Rattle.std.proofs.lemmas.Bool.{cases_Bool, eqb-false, eq-eqb, ltb-false, or_parts, or_from}
 use Rattle.bdb_format.specs.File.{File, file_of, page_at}
 use Rattle.bdb_format.specs.References.{refs, asked_by, fit_rows, fit_code}
-use Rattle.bdb_format.specs.Graph.{Owner, all_references, first_holder, has_heads_alone, held_by, if_some, is_anchor, is_head_reference, is_reserve, owners}
+use Rattle.bdb_format.specs.Graph.{Owner, all_references, first_holder, has_heads_alone, held_by, if_some, is_head_reference, owners}
 use Rattle.bdb_format.specs.Graph.{reaches_in}
 use Rattle.bdb_format.specs.Verdict.{holding, stage_faults, ownership_faults, ownership_rows, reach_faults, reference_faults, faults_in}
 use Rattle.bdb_format.proofs.GraphLemmas.{IsOwner, anchor_unowned, is_owner, owner_fits, reserve_is, reached_of}
@@ -38,16 +38,7 @@ empty_holder (owner ∷ os) h none some = omega (arith, none)
 
 -- a page with an owner is no anchor and no reserve
 pub no_top : (file : File) (p h : ℕ) → reference_faults file ≡ [] → first_holder (owners file p) ≡ Some h → is_top file p ≡ false
-no_top file p h none some =
-    or_from (is_anchor file p) (is_reserve file p)
-    (elim (cases_Bool (is_anchor file p)) [
-      | inl is ↦ absurd (empty_holder (owners file p) h (ap length (anchor_unowned file p none is)) some)
-      | inr other ↦ other
-    ])
-    (elim (cases_Bool (is_reserve file p)) [
-      | inl is ↦ absurd (empty_holder (owners file p) h (reserve_is file p is).unowned some)
-      | inr other ↦ other
-    ])
+no_top file p h none some = grind (arith, or_from, cases_Bool, empty_holder, anchor_unowned, reserve_is)
 
 -- an owned page is there, and isn't page 0
 pub owned_inside : (file : File) (p h : ℕ) → reference_faults file ≡ [] → first_holder (owners file p) ≡ Some h → (1 ≤ p) × (p ≤ file.last)
@@ -76,33 +67,14 @@ fewer t file p no' = (or_parts (reaches_in t file p) (if_some (first_holder (own
 onward : (t : ℕ) (file : File) (p : ℕ) → reaches_in t file p ≡ false → reaches_in (suc t) file p ≡ true → (h : ℕ) × (first_holder (owners file p) ≡ Some h)
     × (reaches_in t file h ≡ true)
 unfolding reaches_in
-onward t file p no' does = of (first_holder (owners file p)) refl
-  where
-    of : (o : Option ℕ) → first_holder (owners file p) ≡ o → (h : ℕ) × (first_holder (owners file p) ≡ Some h) × (reaches_in t file h ≡ true)
-    of None none = absurd (let f : true ≡ false = sym does ∙ (or_from (reaches_in t file p) (if_some (first_holder (owners file p)) (reaches_in t file)) no'
-        (ap (λ o. if_some o (reaches_in t file)) none)) in cc)
-    of (Some h) some = (
-      h,
-      some,
-      of_some (reaches_in t file p) (if_some (first_holder (owners file p)) (reaches_in t file)) no' does
-          (ap (λ o. if_some o (reaches_in t file)) some),
-    )
-      where
-        of_some : (a b : Bool) → a ≡ false → (a || b) ≡ true → b ≡ reaches_in t file h → reaches_in t file h ≡ true
-        of_some true b no' does same = absurd cc
-        of_some false b no' does same = sym same ∙ does
+onward t file p no' does = grind (arith, Option, Some, None, or_from)
 
 -- an owned page reaches a turn after the holder of its first reference
 pub step : (t : ℕ) (file : File) (p h : ℕ) → reference_faults file ≡ [] → first_holder (owners file p) ≡ Some h
     → reaches_in (suc t) file p ≡ reaches_in t file h
 unfolding reaches_in
 step zero file p h none some = rw (no_top file p h none some, some) refl
-step (suc t) file p h none some =
-    rw (step t file p h none some, some) (or_again (reaches_in t file h) (if_some (first_holder (owners file h)) (reaches_in t file)))
-  where
-    or_again : (a b : Bool) → (a || (a || b)) ≡ (a || b)
-    or_again true b = refl
-    or_again false b = refl
+step (suc t) file p h none some = grind (arith, step t file p h none some)
 
 -- Ways up.
 
@@ -204,11 +176,7 @@ not_all test (y ∷ ys) x at fails =
 
 one_only : (os : List Owner) (owner : Owner) → Contains os owner → length os ≤ 1 → first_holder os ≡ Some owner.holder
 one_only [] owner at few = absurd (no_member [] owner refl at)
-one_only (o ∷ []) owner at few = elim (member_cases o [] owner at) [
-  | inl same ↦ ap (λ (x : Owner). Some x.holder) same
-  | inr later ↦ absurd
-      (no_member [] owner refl later)
-]
+one_only (o ∷ []) owner at few = grind (arith, member_cases, Some, no_member)
 one_only (o ∷ (p ∷ os)) owner at few = absurd (omega (arith, few))
 
 pub few_owners : (heads : Bool) (n counted : ℕ) → heads ≡ false → ((heads && nat_lt counted n) || (not heads && nat_lt 1 n)) ≡ false → n ≤ 1
@@ -237,6 +205,4 @@ down_of file p (q ∷ qs) sound low way =
     (first, down_of file q qs sound (owned_inside file q p sound.references first).1 way.1)
 
 pub no_page_twice_below : NoPageTwiceBelow
-no_page_twice_below image p qs none low way =
-    let sound : IsSoundGraph (file_of image) = sound_graph image none in
-    down_distinct (file_of image) p qs sound (down_of (file_of image) p qs sound low way)
+no_page_twice_below image p qs none low way = grind (arith, sound_graph, down_distinct, down_of)

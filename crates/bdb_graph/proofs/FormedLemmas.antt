@@ -1,7 +1,7 @@
 -- What an accepted page 0 says of the pages, and what a formed image says of each of them.
 use Rattle.std.proofs.Common.{◌≡◌, ℕ, zero, suc, ◌+◌, ◌*◌, ◌-◌, ◌/◌, ◌%◌, ◌^◌, ◌<◌, ◌≤◌, Bool, true, false, List, length, take, drop, arith, refl, sym, ◌∙◌, ap}
 use Rattle.std.proofs.Common.{subst}
-use Rattle.std.specs.Prelude.{◌==◌, ◌&&◌, ◌||◌, nat_lt, not, None}
+use Rattle.std.specs.Prelude.{◌==◌, ◌&&◌, ◌||◌, not, None}
 use Rattle.std.proofs.Math.Nat.{mul-le-mul_left, mul-le-mul_right}
 use Rattle.std.proofs.lemmas.Bool.{eqb-true, leb-false, ltb-false, not-false}
 use Rattle.std.proofs.lemmas.List.{length-take-le, length-drop}
@@ -12,7 +12,7 @@ use Rattle.bdb_format.specs.File.{page_bytes}
 use Rattle.bdb_format.specs.HeadOf.{file_kind, head_of, head_rows, is_page_size, is_past, last_page, magic_at, order_of, pages_of}
 use Rattle.bdb_format.specs.Numbers.{four_at}
 use Rattle.bdb_format.specs.Reading.{is_zero}
-use Rattle.bdb_format.specs.Rows.{form_code, may_have_type, typed_code}
+use Rattle.bdb_format.specs.Rows.{form_code}
 use Rattle.bdb_format.specs.Table.{first_row}
 use Rattle.bdb_format.proofs.VerdictLemmas.{AllFail, none_is_first_row}
 use Rattle.bdb_format.proofs.SizeLemmas.{size_bounds}
@@ -81,9 +81,7 @@ page_room image head number accepted below =
 
 pub page_length : (image : List ℕ) (head : Head) (number : ℕ) → IsAccepted image head → number < head.pages → length (page_bytes head image number)
     ≡ head.page_size
-page_length image head number accepted below =
-    let room : number * head.page_size + head.page_size ≤ length image = page_room image head number accepted below in
-    length-take-le head.page_size (drop (number * head.page_size) image) (omega (arith, length-drop (number * head.page_size) image))
+page_length image head number accepted below = grind (arith, page_room, length-take-le, length-drop)
 
 -- the same for the range of bytes of the page
 pub same_length : (image : List ℕ) (head : Head) (number : ℕ) → IsAccepted image head → number < head.pages
@@ -96,10 +94,4 @@ same_length image head number accepted below =
 pub tells_number : (head : Head) (number : ℕ) (page : List ℕ) → form_code head number page ≡ None → is_zero page ≡ false
     → four_at head.order page 8 ≡ number
 unfolding form_code
-tells_number head number page none other =
-    numbered (nat_lt 0 number && is_zero page) head.order number page (may_have_type head.kind number) (typed_code head number page) none
-    (not_both (nat_lt 0 number) (is_zero page) other)
-  where
-    not_both : (a b : Bool) → b ≡ false → (a && b) ≡ false
-    not_both true b second = second
-    not_both false b second = refl
+tells_number head number page none other = grind (arith, numbered)

@@ -11,14 +11,14 @@ use Rattle.bdb_format.specs.declared.kinds.Order.{Order}
 use Rattle.bdb_format.specs.declared.metadata.FileKind.{FileKind}
 use Rattle.bdb_format.specs.declared.metadata.FileKind.TheVariants.{Btree, Hash, Queue}
 use Rattle.bdb_format.specs.declared.metadata.Head.{Head}
-use Rattle.bdb_format.specs.File.{file_of, page_at, page_bytes}
+use Rattle.bdb_format.specs.File.{file_of, page_bytes}
 use Rattle.bdb_format.specs.HeadOf.{head_of, is_page_size}
 use Rattle.bdb_format.specs.Numbers.{byte_at}
-use Rattle.bdb_format.specs.Page.{Zero, Meta, BtreeFields, HashFields, PageType, FreePage, HashPage, InternalPage, RecnoInternalPage, LeafPage, RecnoLeafPage}
-use Rattle.bdb_format.specs.Page.{OverflowPage, HashMetaPage, BtreeMetaPage, QueueMetaPage, QueuePage, DupLeafPage, OtherPage}
+use Rattle.bdb_format.specs.Page.{Meta, BtreeFields, HashFields, PageType}
+use Rattle.bdb_format.specs.Page.{HashMetaPage, BtreeMetaPage, QueueMetaPage}
 use Rattle.bdb_format.specs.Reading.{abstract_page, btree_fields, hash_fields, is_zero, page_as, page_type}
 use Rattle.bdb_format.specs.References.{targets_of, refs}
-use Rattle.bdb_format.specs.Rows.{body_code, form_code, identity_rows, is_tree_type, lacks_spare, may_have_type, metadata_rows, page_code, type_of, typed_code}
+use Rattle.bdb_format.specs.Rows.{body_code, form_code, identity_rows, is_tree_type, may_have_type, metadata_rows, page_code, type_of, typed_code}
 use Rattle.bdb_format.specs.Table.{first_row}
 use Rattle.bdb_format.specs.Graph.{is_meta}
 use Rattle.bdb_format.proofs.PageLemmas.{metadata_code}
@@ -30,9 +30,7 @@ use Rattle.bdb_graph.proofs.CodeLemmas.{btree_last, code_by, code_same, differs,
 pub refs_of_page : (image : List ℕ) (p : ℕ) → p ≤ (head_of image).last
     → refs (file_of image) p ≡ placed 0 (targets_of (head_of image).kind p (abstract_page (head_of image).order (page_bytes (head_of image) image p)))
 unfolding refs
-refs_of_page image p low =
-    ap (λ kind. placed 0 (targets_of kind p (page_at (file_of image) p))) (kind_is image)
-    ∙ ap (λ page. placed 0 (targets_of (head_of image).kind p page)) (page_is image p low)
+refs_of_page image p low = grind (arith, kind_is, page_is)
 
 -- Metadata.
 
@@ -78,10 +76,7 @@ tree_page order page size is = rw (not_zero page Btree size is, abstract_page) (
 pub few_buckets : (order : Order) (page : List ℕ) (number last : ℕ) → first_row (metadata_rows order page number last Hash) ≡ None
     → (hash_fields order page).max_bucket ≤ last
 unfolding metadata_rows
-few_buckets order page number last none =
-    let fail : AllFail (metadata_rows order page number last Hash) = none_is_first_row (metadata_rows order page number last Hash) none in
-    ltb-false last (hash_fields order page).max_bucket
-    (or_parts (nat_lt last (hash_fields order page).max_bucket) (lacks_spare (hash_fields order page)) fail.1.1.1.1.1.1.1.1.1.1.1.0).0
+few_buckets order page number last none = grind (arith, AllFail, none_is_first_row, ltb-false, or_parts)
 
 -- Other pages.
 
@@ -102,11 +97,7 @@ not_own Queue byte own forest table tree = forest refl
 -- page 0 has the type of metadata
 page_zero : (head : Head) (page : List ℕ) → (head.kind ≡ Queue → ⊥) → form_code head 0 page ≡ None → (byte_at page 25 ≡ 8 → ⊥) → (byte_at page 25 ≡ 9 → ⊥) → ⊥
 unfolding form_code
-page_zero head page forest none table tree =
-    let identity : Option ℕ = first_row (identity_rows head.order page 0 (may_have_type head.kind 0)) in
-    let own : byte_at page 25 ≡ type_of head.kind = is_same _ _ (two_none _ _
-    (identity_none identity (typed_code head 0 page (page_type (byte_at page 25))) none)) in
-    not_own head.kind (byte_at page 25) own forest table tree
+page_zero head page forest none table tree = grind (arith, is_same, two_none, identity_none, not_own)
 
 pub other_formed : (head : Head) (number : ℕ) (page : List ℕ) → (head.kind ≡ Queue → ⊥) → form_code head number page ≡ None
     → (byte_at page 25 ≡ 8 → ⊥) → (byte_at page 25 ≡ 9 → ⊥) → page_code head.order number page ≡ None
@@ -135,20 +126,7 @@ else_other true s t none second = absurd cc
 else_other false s t none second = second
 
 pub other_type : (byte : ℕ) → (byte == 8) ≡ false → (byte == 9) ≡ false → (byte == 10) ≡ false → is_meta_type (page_type byte) ≡ false
-other_type byte table tree queue =
-    if_other (byte == 0) FreePage _ refl
-    (if_other (byte == 2) HashPage _ refl
-    (if_other (byte == 3) InternalPage _ refl
-    (if_other (byte == 4) RecnoInternalPage _ refl
-    (if_other (byte == 5) LeafPage _ refl
-    (if_other (byte == 6) RecnoLeafPage _ refl
-    (if_other (byte == 7) OverflowPage _ refl
-    (else_other (byte == 8) HashMetaPage _ table
-    (else_other (byte == 9) BtreeMetaPage _ tree
-    (else_other (byte == 10) QueueMetaPage _ queue
-    (if_other (byte == 11) QueuePage _ refl
-    (if_other (byte == 12) DupLeafPage _ refl
-    (if_other (byte == 13) HashPage OtherPage refl refl))))))))))))
+other_type byte table tree queue = grind (arith, if_other, else_other)
 
 pub other_page : (order : Order) (page : List ℕ) (t : PageType) → is_meta_type t ≡ false → is_meta (page_as order page t) ≡ false
 other_page order page HashMetaPage other = absurd cc
@@ -159,17 +137,7 @@ other_page order page t other = refl
 other_abstract : (order : Order) (number : ℕ) (page : List ℕ) → page_code order number page ≡ None → (byte_at page 25 ≡ 8 → ⊥) → (byte_at page 25 ≡ 9 → ⊥)
     → is_meta (abstract_page order page) ≡ false
 unfolding page_code abstract_page
-other_abstract order number page none table tree =
-    let byte : ℕ = byte_at page 25 in
-    let identity : Option ℕ = first_row (identity_rows order page number is_tree_type) in
-    let typed : Option ℕ = body_code order page (page_type byte) in
-    elim (is_zero page) as (λ zeros. code_by zeros identity typed ≡ None → is_meta (elim zeros [ true ↦ Zero | false ↦ page_as order page (page_type byte) ])
-    ≡ false) [
-      | true ↦ λ _. refl
-      | false ↦ λ passed.
-          other_page order page (page_type byte)
-          (other_type byte (differs byte 8 table) (differs byte 9 tree) (no_queue_type byte (two_none _ _ (identity_none identity typed passed))))
-    ] none
+other_abstract order number page none table tree = grind (arith, code_by, other_page, other_type, differs, no_queue_type, two_none, identity_none)
 
 other_view : (view : PageView) → is_meta (page_seen view) ≡ false → IsNoMetadata view
 other_view (MetaView view) other = absurd cc

@@ -14,42 +14,20 @@ pub record IsOpening (old leaps : List ℕ) (from at : ℕ) : Type 0 where
 
 -- the leap from a page, and the leap from there
 longer : (leaps : List ℕ) (at : ℕ) → AreLeaps leaps → at < length leaps → at ≤ get_or leaps (get_or leaps at 0) 0
-longer leaps at are low =
-    let first : at ≤ get_or leaps at 0 = are.on at low in
-    let second : get_or leaps at 0 ≤ get_or leaps (get_or leaps at 0) 0 = are.on (get_or leaps at 0) (are.within at low) in
-    omega arith
+longer leaps at are low = grind arith
 
 -- two leaps in one go over full pages
 over_both : (full : ℕ → Bool) (leaps : List ℕ) (at q : ℕ) → AreLeaps leaps → AreOver full leaps → at < length leaps → at ≤ q
     → q < get_or leaps (get_or leaps at 0) 0 → full q ≡ true
-over_both full leaps at q are over low on below =
-    elim (cases_lt q (get_or leaps at 0)) [
-      | inl before ↦ over at q low on before
-      | inr behind ↦ over (get_or leaps at 0) q (are.within at low) behind below
-    ]
+over_both full leaps at q are over low on below = grind (arith, cases_lt)
 
 -- the leap from a page goes to another, as far as that is right
 pub leaps_set : (leaps : List ℕ) (at to : ℕ) → AreLeaps leaps → at ≤ to → to < length leaps → AreLeaps (set leaps at to)
-leaps_set leaps at to are on within = record {
-  on = λ p low.
-      elim (cases_eq p at) as (λ _. p ≤ get_or (set leaps at to) p 0) [
-        | inl same ↦ grind (arith, common_steps)
-        | inr other ↦ rw (get_or-set_other leaps at p to 0 other) (are.on p (grind (arith, common_steps)))
-      ];
-  within = λ p low.
-      elim (cases_eq p at) as (λ _. get_or (set leaps at to) p 0 < length (set leaps at to)) [
-        | inl same ↦ grind (arith, common_steps)
-        | inr other ↦ rw (get_or-set_other leaps at p to 0 other) (grind (arith, common_steps, are.within p (grind (arith, common_steps))))
-      ];
-}
+leaps_set leaps at to are on within = grind (arith, cases_eq, set, common_steps, get_or-set_other)
 
 pub over_set : (full : ℕ → Bool) (leaps : List ℕ) (at to : ℕ) → AreOver full leaps → at < length leaps → ((q : ℕ) → at ≤ q → q < to → full q ≡ true)
     → AreOver full (set leaps at to)
-over_set full leaps at to over low here = λ p q there on below.
-    elim (cases_eq p at) [
-      | inl same ↦ here q (omega arith) (grind (arith, common_steps))
-      | inr other ↦ over p q (grind (arith, common_steps)) on (rw (get_or-set_other leaps at p to 0 other) at below)
-    ]
+over_set full leaps at to over low here = grind (arith, cases_eq, common_steps, get_or-set_other)
 
 pub opened_more : (old leaps : List ℕ) (from at : ℕ) → IsOpening old leaps from at
     → IsOpening old (set leaps at (get_or leaps (get_or leaps at 0) 0)) from (get_or leaps (get_or leaps at 0) 0)

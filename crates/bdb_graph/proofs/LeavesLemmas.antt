@@ -168,15 +168,7 @@ held_count : (p q : ℕ) (rs : List Reference)
     → length (filter (λ (r : Reference). r.target == q) rs) ≡ length (filter (λ (o : Owner). o.reference.target == q)
     (map (λ r. record { holder = p; reference = r }) rs))
 held_count p q [] = refl
-held_count p q (r ∷ rs) =
-    elim (r.target == q) as (λ b.
-    length (cond b (r ∷ filter (λ (s : Reference). s.target == q) rs) (filter (λ (s : Reference). s.target == q) rs))
-    ≡ length (cond b (record { holder = p; reference = r } ∷ filter (λ (o : Owner). o.reference.target == q)
-    (map (λ s. record { holder = p; reference = s }) rs)) (filter (λ (o : Owner). o.reference.target == q)
-    (map (λ s. record { holder = p; reference = s }) rs)))) [
-      | true ↦ ap (λ n. suc n) (held_count p q rs)
-      | false ↦ held_count p q rs
-    ]
+held_count p q (r ∷ rs) = grind (arith, held_count p q rs)
 
 held_few : (file : File) (p q : ℕ) → p ≤ file.last → length (filter (λ (r : Reference). r.target == q) (refs file p)) ≤ length (owners file q)
 unfolding owners all_references
@@ -253,9 +245,7 @@ leaf_climbs (suc levels) image c x forest low at =
 -- a page that is above another isn't below it too
 no_return : (k : ℕ) (image : List ℕ) (h p : ℕ) (qs : List ℕ) → faults_in (3 ∷ 4 ∷ 5 ∷ []) image ≡ [] → p ≤ (file_of image).last → Climbs k (file_of image) h p
     → IsWayDown (file_of image) h qs → Contains qs p → ⊥
-no_return zero image h p qs none low up way at =
-    let distinct : AllDistinct (p ∷ qs) = no_page_twice_below image p qs none low (subst (λ v. IsWayDown (file_of image) v qs) up way) in
-    is_out p qs distinct.0 at
+no_return zero image h p qs none low up way at = grind (arith, no_page_twice_below, is_out)
 no_return (suc k) image h p qs none low up way at = no_return k image up.0 p (h ∷ qs) none low up.3 (up.2, way) (later_member h qs p at)
 
 -- a child of a page isn't below a child of it

@@ -2,8 +2,7 @@
 use Rattle.std.proofs.Common.{◌≡◌, ◌⊎◌, ℕ, zero, suc, ◌+◌, ◌<◌, ◌≤◌, Bool, true, false, not, cond, List, [], ◌∷◌, length, map, arith, refl, sym, ◌∙◌, ap, subst}
 use Rattle.std.proofs.Common.{inl, inr}
 use Rattle.std.specs.Prelude.{Option, Some, None, ◌==◌, get_or, nat_lt}
-use Rattle.std.specs.Option.{option_map}
-use Rattle.std.specs.List.{Contains, enumerate_from, filter, range_with_len}
+use Rattle.std.specs.List.{Contains, enumerate_from, range_with_len}
 use Rattle.std.proofs.lemmas.Bool.{eqb-true, ltb-false, or_parts, true≢false}
 use Rattle.std.proofs.lemmas.List.Elements.{Contains-append_right, Contains-get_or}
 use Rattle.std.proofs.lemmas.List.FromFn.{length-range_with_len}
@@ -20,14 +19,13 @@ use Rattle.bdb_format.specs.declared.references.Sort.TheVariants.{Root, Bucket}
 use Rattle.bdb_format.specs.File.{File, file_of, page_at, page_bytes}
 use Rattle.bdb_format.specs.Graph.{Owner, is_meta}
 use Rattle.bdb_format.specs.Hashing.{first_page}
-use Rattle.bdb_format.specs.HeadOf.{form_fault, head_of}
-use Rattle.bdb_format.specs.Numbers.{byte_at, four_at}
+use Rattle.bdb_format.specs.HeadOf.{head_of}
+use Rattle.bdb_format.specs.Numbers.{byte_at}
 use Rattle.bdb_format.specs.Page.{Page, Zero, Meta, BtreeFields, HashFields}
 use Rattle.bdb_format.specs.Reading.{abstract_page, is_zero, page_as, page_type}
 use Rattle.bdb_format.specs.References.{asked_by, first_free, fit_code, fit_rows, targets_in, targets_of, refs}
 use Rattle.bdb_format.specs.HeadOf.{is_page_size}
-use Rattle.bdb_format.specs.Rows.{body_code, form_code, identity_rows, is_tree_type, may_have_type, page_code, queue_code, type_of}
-use Rattle.bdb_format.specs.Table.{first_row}
+use Rattle.bdb_format.specs.Rows.{body_code, form_code, is_tree_type, may_have_type, page_code, queue_code, type_of}
 use Rattle.bdb_format.proofs.GraphLemmas.{each_fits, type_fits}
 use Rattle.bdb_format.proofs.MemberLemmas.{first_member, in_map, in_range, of_filter, of_range}
 use Rattle.bdb_format.proofs.PageLemmas.{later_type}
@@ -67,22 +65,13 @@ tree_meta Queue order page byte is forest = absurd (forest refl)
 
 zero_code : (head : Head) (page : List ℕ) → (head.kind ≡ Queue → ⊥) → form_code head 0 page ≡ None → page_code head.order 0 page ≡ None
 unfolding page_code form_code
-zero_code head page forest none =
-    let byte : ℕ = byte_at page 25 in
-    let identity : first_row (identity_rows head.order page 0 (may_have_type head.kind 0)) ≡ None = identity_none _ _ none in
-    let meta : IsTreeMeta head.order page byte = tree_meta head.kind head.order page byte (is_same byte (type_of head.kind) (two_none _ _ identity)) forest in
-    passes (is_zero page) (not (four_at head.order page 8 == 0)) (not (is_tree_type byte)) (body_code head.order page (page_type byte))
-    (first_none _ _ identity) meta.type meta.body
+zero_code head page forest none = grind (arith, identity_none, tree_meta, is_same, two_none, passes, first_none)
 
 -- a page of a btree or hash file has the form that its view asks for
 pub forest_code : (head : Head) (number : ℕ) (page : List ℕ) → (head.kind ≡ Queue → ⊥) → form_code head number page ≡ None → page_code head.order number page
     ≡ None
 forest_code head zero page forest none = zero_code head page forest none
-forest_code head (suc n) page forest none = of (page_code head.order (suc n) page) refl
-  where
-    of : (code : Option ℕ) → page_code head.order (suc n) page ≡ code → page_code head.order (suc n) page ≡ None
-    of None same = same
-    of (Some code) same = absurd (let other = tree_refused head (suc n) page code (omega arith) forest same ∙ ap (option_map form_fault) none in cc)
+forest_code head (suc n) page forest none = grind (arith, tree_refused)
 
 -- and so has one above 0 of a queue file
 pub records_code : (head : Head) (number : ℕ) (page : List ℕ) → 0 < number → head.kind ≡ Queue → form_code head number page ≡ None
@@ -120,12 +109,7 @@ queue_byte zero byte may = inl (eqb-true byte 10 may)
 queue_byte (suc number) byte may = inr (eqb-true byte 11 (sym (later_type Queue number byte) ∙ may))
 
 no_forest_of : (order : Order) (page : List ℕ) (byte : ℕ) → (byte ≡ 10) ⊎ (byte ≡ 11) → is_forest_meta (page_as order page (page_type byte)) ≡ false
-no_forest_of order page byte types =
-    elim types [
-      | inl is ↦ ap (λ b. is_forest_meta (page_as order page (page_type b))) is
-      | inr is ↦ ap (λ b. is_forest_meta (page_as order page (page_type b)))
-          is
-    ]
+no_forest_of order page byte types = grind arith
 
 no_forest_page : (head : Head) (number : ℕ) (page : List ℕ) → head.kind ≡ Queue → form_code head number page ≡ None
     → is_forest_meta (abstract_page head.order page) ≡ false
@@ -231,11 +215,7 @@ bucket_few image head meta b formed none has few = omega (arith, first_of_bucket
 -- they are listed, each once
 pub few_metas : (image : List ℕ) → length (meta_pages (file_of image)) ≤ (head_of image).last + 1
 unfolding meta_pages
-few_metas image =
-    let test : ℕ → Bool = λ p. is_meta (page_at (file_of image) p) in
-    let pages : List ℕ = range_with_len 0 ((file_of image).last + 1) in
-    let few : length (filter test pages) ≤ length pages = rw (length-filter test pages) (count_by-le-length test pages) in
-    omega (arith, few, length-range_with_len 0 ((file_of image).last + 1), last_page image)
+few_metas image = grind (arith, length-filter, count_by-le-length, length-range_with_len, last_page)
 
 -- a number that is listed is that of a metadata page
 listed : (file : File) (i number : ℕ) → i < length (meta_pages file) → number ≡ get_or (meta_pages file) i number

@@ -1,8 +1,8 @@
 -- What a page without a fault of form is, where it's metadata.
-use Rattle.std.proofs.Common.{◌≡◌, ℕ, zero, suc, ◌+◌, ◌≤◌, Bool, true, false, cond, inl, inr, List, [], ◌∷◌, ◌++◌, length, refl, sym, ◌∙◌, ap, subst}
+use Rattle.std.proofs.Common.{arith}
+use Rattle.std.proofs.Common.{◌≡◌, ℕ, zero, suc, ◌+◌, ◌≤◌, true, false, cond, inl, inr, List, [], ◌∷◌, ◌++◌, length, refl, sym, ◌∙◌, ap, subst}
 use Rattle.std.proofs.Common.{append-nil}
 use Rattle.std.specs.Prelude.{Some, None}
-use Rattle.std.specs.List.{filter, range_with_len}
 use Rattle.std.proofs.lemmas.Bool.{true≢false, cases_eq}
 use Rattle.bdb_format.specs.declared.kinds.Order.{Order}
 use Rattle.bdb_format.specs.declared.metadata.FileKind.{FileKind}
@@ -13,7 +13,7 @@ use Rattle.bdb_format.specs.Graph.{is_meta}
 use Rattle.bdb_format.specs.HeadOf.{head_of, is_page_size}
 use Rattle.bdb_format.specs.Numbers.{byte_at}
 use Rattle.bdb_format.specs.Page.{Metadata, Page, Zero, Meta, HashFields, QueueFields}
-use Rattle.bdb_format.specs.Reading.{abstract_page, hash_fields, is_zero, page_as, page_type, queue_fields}
+use Rattle.bdb_format.specs.Reading.{abstract_page, hash_fields, page_as, page_type, queue_fields}
 use Rattle.bdb_format.specs.Rows.{form_code, may_have_type, metadata_rows}
 use Rattle.bdb_format.specs.Table.{first_row}
 use Rattle.bdb_format.proofs.GraphLemmas.{type_fits}
@@ -58,13 +58,7 @@ no_fields page other = refl
 pub no_meta : (order : Order) (page : List ℕ) → (byte_at page 25 ≡ 8 → ⊥) → (byte_at page 25 ≡ 9 → ⊥) → (byte_at page 25 ≡ 10 → ⊥)
     → meta_in (abstract_page order page) ≡ None
 unfolding abstract_page
-no_meta order page table tree queue =
-    let byte : ℕ = byte_at page 25 in
-    elim (is_zero page) as (λ zeros. meta_in (elim zeros [ true ↦ Zero | false ↦ page_as order page (page_type byte) ]) ≡ None) [
-      | true ↦ refl
-      | false ↦ no_fields (page_as order page (page_type byte)) (other_page order page (page_type byte)
-          (other_type byte (differs byte 8 table) (differs byte 9 tree) (differs byte 10 queue)))
-    ]
+no_meta order page table tree queue = grind (arith, no_fields, other_page, other_type, differs)
 
 -- The file.
 
@@ -116,9 +110,7 @@ few_buckets_known head number page meta size none some =
 -- The metadata pages.
 
 one_page_more : (file : File) (n : ℕ) → metas_below file (n + 1) ≡ metas_below file n ++ cond (is_meta (page_at file n)) (n ∷ []) []
-one_page_more file n =
-    let test : ℕ → Bool = λ p. is_meta (page_at file p) in
-    ap (filter test) (range_zero_more n) ∙ filter-append test (range_with_len 0 n) (n ∷ [])
+one_page_more file n = grind (arith, range_zero_more, filter-append)
 
 pub one_more_meta : (file : File) (n : ℕ) (metas : List ℕ) → metas ≡ metas_below file n → true ≡ is_meta (page_at file n)
     → metas ++ n ∷ [] ≡ metas_below file (n + 1)

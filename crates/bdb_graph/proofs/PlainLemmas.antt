@@ -1,5 +1,5 @@
 -- A page whose items name no page names what its header does.
-use Rattle.std.proofs.Common.{◌≡◌, ℕ, zero, suc, ◌+◌, ◌<◌, Bool, true, List, [], ◌∷◌, ◌++◌, get_or, map, refl, sym, ◌∙◌, ap, append-nil, arith, inl, inr}
+use Rattle.std.proofs.Common.{◌≡◌, ℕ, zero, suc, ◌+◌, ◌<◌, Bool, true, List, [], ◌∷◌, ◌++◌, get_or, map, refl, sym, ◌∙◌, ap, append-nil, arith}
 use Rattle.std.proofs.lemmas.List.Elements.{All-cons, All-head, All-tail}
 use Rattle.std.proofs.lemmas.Bool.{cases_eq}
 use Rattle.std.specs.List.{All, flat_map}
@@ -59,11 +59,7 @@ one_more item left items rest (Some name) same named none all plain = absurd cc
 pub plain_more : (head : Head) (image : List ℕ) (n : ℕ) (before after : Bool) (page : List ℕ) → page ≡ page_bytes head image n
     → (before ≡ true → (p : ℕ) → p < n → IsPlainIn head (page_bytes head image p)) → (after ≡ true → (before ≡ true) × IsPlainIn head page)
     → after ≡ true → (p : ℕ) → p < n + 1 → IsPlainIn head (page_bytes head image p)
-plain_more head image n before after page same passed here is p below =
-    elim (cases_eq p n) [
-      | inl at ↦ rw (at, sym same) (here is).1
-      | inr other ↦ passed (here is).0 p (omega arith)
-    ]
+plain_more head image n before after page same passed here is p below = grind (arith, cases_eq)
 
 -- what holds of an answer that is a value
 pub on_value : {A E : Type 0} (answer : Result A E) (P Q : Type 0) → (P → Q) → OnOk answer P → OnOk answer Q

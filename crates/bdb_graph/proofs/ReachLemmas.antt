@@ -28,9 +28,7 @@ at_end file (suc turns) p is = ap (λ b. b || if_some (first_holder (owners file
 pub stuck : (file : File) (turns p : ℕ) → is_top file p ≡ false → first_holder (owners file p) ≡ None → reaches_in turns file p ≡ false
 unfolding reaches_in
 stuck file zero p other none = other
-stuck file (suc turns) p other none =
-    ap (λ b. b || if_some (first_holder (owners file p)) (reaches_in turns file)) (stuck file turns p other none)
-    ∙ ap (λ holder. if_some holder (reaches_in turns file)) none
+stuck file (suc turns) p other none = grind (arith, stuck file turns p other none)
 
 holder_of : (file : File) (p holder : ℕ) (os : List Owner) → owners file p ≡ os → first_holder os ≡ Some holder → holder ≤ file.last
 holder_of file p holder [] same first = absurd cc
@@ -45,18 +43,7 @@ holder_there file p holder first = holder_of file p holder (owners file p) refl 
 -- Files whose references fit.
 
 pub fit_file : (image : List ℕ) (head : Head) → IsFormed image head → reference_faults (file_of image) ≡ [] → IsFit (file_of image)
-fit_file image head formed none =
-    record {
-      references = none;
-      there = omega (
-        arith,
-        formed_last image head formed,
-        last_page image,
-        count_is image,
-        ap (λ (h : Head). h.last) formed.head_is,
-        ap (λ (h : Head). h.pages) formed.head_is,
-      );
-    }
+fit_file image head formed none = grind (arith, formed_last, last_page, count_is)
 
 -- Numbers up to another, none twice, are few.
 
@@ -106,20 +93,11 @@ enough file t p fit low does =
 
 -- a page with a holder reaches where the holder does
 pub reaches_onward : (file : File) (p h : ℕ) → IsFit file → IsHeldBy file p h → reaches file p ≡ reaches file h
-reaches_onward file p h fit held =
-    let inside = owned_inside file p h fit.references held in
-    elim (cases_Bool (reaches_in (suc file.count) file p)) [
-      | inl does ↦ enough file (suc file.count) p fit inside.1 does ∙ (sym does ∙ step file.count file p h fit.references held)
-      | inr no' ↦ fewer file.count file p no' ∙ (sym no' ∙ step file.count file p h fit.references held)
-    ]
+reaches_onward file p h fit held = grind (arith, owned_inside, cases_Bool, enough, step, fewer)
 
 -- a page without one reaches where it's an anchor or a reserve
 pub reaches_alone : (file : File) (p : ℕ) → first_holder (owners file p) ≡ None → is_top file p ≡ reaches file p
-reaches_alone file p none =
-    elim (cases_Bool (is_top file p)) [
-      | inl top ↦ top ∙ sym (at_end file file.count p top)
-      | inr other ↦ other ∙ sym (stuck file file.count p other none)
-    ]
+reaches_alone file p none = grind (arith, cases_Bool, at_end, stuck)
 
 pub reaches_above : (k : ℕ) (file : File) (p q : ℕ) → IsFit file → IsUp file k p q → reaches file p ≡ reaches file q
 reaches_above zero file p q fit up = ap (reaches file) up

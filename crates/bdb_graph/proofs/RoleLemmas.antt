@@ -8,8 +8,7 @@ use Rattle.bdb_format.specs.declared.kinds.Order.{Order}
 use Rattle.bdb_format.specs.File.{File, file_of, page_at}
 use Rattle.bdb_format.specs.Graph.{is_hash_meta, is_meta, is_spare}
 use Rattle.bdb_format.specs.Numbers.{byte_at}
-use Rattle.bdb_format.specs.Page.{NoType, PageType, FreePage, HashPage, InternalPage, RecnoInternalPage, LeafPage, RecnoLeafPage, OverflowPage, HashMetaPage}
-use Rattle.bdb_format.specs.Page.{BtreeMetaPage, QueueMetaPage, QueuePage, DupLeafPage, OtherPage}
+use Rattle.bdb_format.specs.Page.{NoType, PageType, HashPage}
 use Rattle.bdb_format.specs.Reading.{abstract_page, hash_item_at, header_of, is_zero, page_as, page_type}
 use Rattle.bdb_format.proofs.PageLemmas.{header_listed}
 use Rattle.bdb_format.proofs.ListLemmas.{none_of_list}
@@ -39,67 +38,20 @@ test_past f false s t none second = second
 
 no_meta_type : (order : Order) (page : List ℕ) (byte : ℕ) → (byte == 8) ≡ false → (byte == 9) ≡ false → (byte == 10) ≡ false
     → is_meta (page_as order page (page_type byte)) ≡ false
-no_meta_type order page byte table tree queue =
-    let f : PageType → Bool = λ t. is_meta (page_as order page t) in
-    test_of f (byte == 0) FreePage _ refl
-    (test_of f (byte == 2) HashPage _ refl
-    (test_of f (byte == 3) InternalPage _ refl
-    (test_of f (byte == 4) RecnoInternalPage _ refl
-    (test_of f (byte == 5) LeafPage _ refl
-    (test_of f (byte == 6) RecnoLeafPage _ refl
-    (test_of f (byte == 7) OverflowPage _ refl
-    (test_past f (byte == 8) HashMetaPage _ table
-    (test_past f (byte == 9) BtreeMetaPage _ tree
-    (test_past f (byte == 10) QueueMetaPage _ queue
-    (test_of f (byte == 11) QueuePage _ refl
-    (test_of f (byte == 12) DupLeafPage _ refl
-    (test_of f (byte == 13) HashPage OtherPage refl refl))))))))))))
+no_meta_type order page byte table tree queue = grind (arith, test_of, test_past)
 
 no_hash_meta_type : (order : Order) (page : List ℕ) (byte : ℕ) → (byte == 8) ≡ false → is_hash_meta (page_as order page (page_type byte)) ≡ false
-no_hash_meta_type order page byte table =
-    let f : PageType → Bool = λ t. is_hash_meta (page_as order page t) in
-    test_of f (byte == 0) FreePage _ refl
-    (test_of f (byte == 2) HashPage _ refl
-    (test_of f (byte == 3) InternalPage _ refl
-    (test_of f (byte == 4) RecnoInternalPage _ refl
-    (test_of f (byte == 5) LeafPage _ refl
-    (test_of f (byte == 6) RecnoLeafPage _ refl
-    (test_of f (byte == 7) OverflowPage _ refl
-    (test_past f (byte == 8) HashMetaPage _ table
-    (test_of f (byte == 9) BtreeMetaPage _ refl
-    (test_of f (byte == 10) QueueMetaPage _ refl
-    (test_of f (byte == 11) QueuePage _ refl
-    (test_of f (byte == 12) DupLeafPage _ refl
-    (test_of f (byte == 13) HashPage OtherPage refl refl))))))))))))
+no_hash_meta_type order page byte table = grind (arith, test_of, test_past)
 
 no_spare_type : (order : Order) (page : List ℕ) (byte : ℕ) → (byte == 0) ≡ false → (byte == 2) ≡ false → (byte == 13) ≡ false
     → is_spare (page_as order page (page_type byte)) ≡ false
-no_spare_type order page byte free hash sorted =
-    let f : PageType → Bool = λ t. is_spare (page_as order page t) in
-    test_past f (byte == 0) FreePage _ free
-    (test_past f (byte == 2) HashPage _ hash
-    (test_of f (byte == 3) InternalPage _ refl
-    (test_of f (byte == 4) RecnoInternalPage _ refl
-    (test_of f (byte == 5) LeafPage _ refl
-    (test_of f (byte == 6) RecnoLeafPage _ refl
-    (test_of f (byte == 7) OverflowPage _ refl
-    (test_of f (byte == 8) HashMetaPage _ refl
-    (test_of f (byte == 9) BtreeMetaPage _ refl
-    (test_of f (byte == 10) QueueMetaPage _ refl
-    (test_of f (byte == 11) QueuePage _ refl
-    (test_of f (byte == 12) DupLeafPage _ refl
-    (test_past f (byte == 13) HashPage OtherPage sorted refl))))))))))))
+no_spare_type order page byte free hash sorted = grind (arith, test_past, test_of)
 
 -- Metadata.
 
 no_meta : (order : Order) (page : List ℕ) (byte : ℕ) → byte_at page 25 ≡ byte → (byte == 8) ≡ false → (byte == 9) ≡ false → (byte == 10) ≡ false
     → is_meta (abstract_page order page) ≡ false
-no_meta order page byte is table tree queue =
-    elim (cases_Bool (is_zero page)) [
-      | inl empty ↦ ap is_meta (zero_page order page empty)
-      | inr some ↦ ap is_meta (typed_page order page some) ∙ (ap (λ b. is_meta (page_as order page (page_type b))) is
-          ∙ no_meta_type order page byte table tree queue)
-    ]
+no_meta order page byte is table tree queue = grind (arith, cases_Bool, zero_page, typed_page, no_meta_type)
 
 meta_by : (order : Order) (page : List ℕ) (byte : ℕ) → 512 ≤ length page → byte_at page 25 ≡ byte → is_meta (abstract_page order page)
     ≡ (byte == 8 || byte == 9 || byte == 10)
@@ -128,16 +80,7 @@ pub meta_is : (order : Order) (page : List ℕ) → 512 ≤ length page → is_m
 meta_is order page long = meta_by order page (byte_at page 25) long refl
 
 pub hash_meta_is : (order : Order) (page : List ℕ) → 512 ≤ length page → is_hash_meta (abstract_page order page) ≡ (byte_at page 25 == 8)
-hash_meta_is order page long =
-    elim (cases_eq (byte_at page 25) 8) [
-      | inl table ↦ ap is_hash_meta (page_of_byte order page 8 long table refl) ∙ sym (ap (λ b. b == 8) table)
-      | inr other ↦
-          elim (cases_Bool (is_zero page)) as (λ _. is_hash_meta (abstract_page order page) ≡ false) [
-            | inl empty ↦ ap is_hash_meta (zero_page order page empty)
-            | inr some ↦ ap is_hash_meta (typed_page order page some) ∙ no_hash_meta_type order page (byte_at page 25) (ne_eqb _ _ other)
-          ]
-          ∙ sym (ne_eqb _ _ other)
-    ]
+hash_meta_is order page long = grind (arith, cases_eq, page_of_byte, cases_Bool, zero_page, typed_page, no_hash_meta_type, ne_eqb)
 
 -- Spare pages.
 
@@ -155,14 +98,7 @@ spare_table order page = ap (λ header. header.entries == 0 && header.previous =
 -- either type of hash page
 pub spare_hash : (order : Order) (page : List ℕ) (byte : ℕ) → is_zero page ≡ false → byte_at page 25 ≡ byte → (byte ≡ 2) ⊎ (byte ≡ 13)
     → is_spare (abstract_page order page) ≡ ((header_of order page).entries == 0 && (header_of order page).previous == 0 && (header_of order page).next == 0)
-spare_hash order page byte some is hash =
-    ap is_spare (typed_page order page some)
-    ∙ (ap (λ b. is_spare (page_as order page (page_type b))) is
-    ∙ (elim hash [
-      | inl unsorted ↦ ap (λ b. is_spare (page_as order page (page_type b))) unsorted
-      | inr sorted ↦ ap (λ b. is_spare (page_as order page (page_type b))) sorted
-    ]
-    ∙ spare_table order page))
+spare_hash order page byte some is hash = grind (arith, typed_page, spare_table)
 
 pub spare_other : (order : Order) (page : List ℕ) → is_zero page ≡ false → (byte_at page 25 ≡ 0 → ⊥) → (byte_at page 25 ≡ 2 → ⊥) → (byte_at page 25 ≡ 13 → ⊥)
     → is_spare (abstract_page order page) ≡ false

@@ -1,5 +1,5 @@
 -- References to a run of pages: those that are full, or aren't there, are counted no more.
-use Rattle.std.proofs.Common.{◌≡◌, ℕ, zero, suc, ◌+◌, ◌-◌, ◌^◌, ◌<◌, ◌≤◌, ◌⊎◌, Bool, true, false, List, [], ◌∷◌, ◌++◌, length, map, ap, ◌∙◌, arith, refl, sym}
+use Rattle.std.proofs.Common.{◌≡◌, ℕ, zero, suc, ◌+◌, ◌-◌, ◌^◌, ◌<◌, ◌≤◌, ◌⊎◌, true, false, List, [], ◌∷◌, ◌++◌, length, map, ap, ◌∙◌, arith, refl, sym}
 use Rattle.std.proofs.Common.{subst, inl, inr, append-nil, append_assoc, length-append, get_or, zero-add}
 use Rattle.std.proofs.lemmas.List.{map-append}
 use Rattle.std.proofs.lemmas.List.FromFn.{get_or-range_with_len, length-range_with_len}
@@ -24,9 +24,6 @@ use Rattle.bdb_graph.specs.Walked.{AreKinds, names_head, names_set}
 use Rattle.bdb_graph.proofs.ApartLemmas.{more_pages}
 
 -- Full pages.
-
-is_head : Owner → Bool
-is_head o = is_head_reference o.reference.sort
 
 first_stays : (os : List Owner) (o : Owner) → 0 < length os → first_holder os ≡ first_holder (os ++ o ∷ [])
 first_stays [] o some = absurd (omega arith)

@@ -1,5 +1,5 @@
 -- The slots of a page, one after another, are what the page names.
-use Rattle.std.proofs.Common.{◌≡◌, ℕ, zero, suc, ◌+◌, ◌*◌, ◌-◌, ◌/◌, ◌%◌, ◌<◌, ◌≤◌, true, false, List, [], ◌∷◌, ◌++◌, length, get_or, drop, map, arith, refl}
+use Rattle.std.proofs.Common.{◌≡◌, ℕ, zero, suc, ◌+◌, ◌*◌, ◌-◌, ◌/◌, ◌%◌, ◌<◌, ◌≤◌, true, List, [], ◌∷◌, ◌++◌, length, get_or, drop, map, arith, refl}
 use Rattle.std.proofs.Common.{append_assoc, append-nil, add-one, le-ltb, lt-ltb, nat_eq, eq-eqb, ne_eqb}
 use Rattle.std.specs.Prelude.{nat_lt}
 use Rattle.std.specs.List.{flat_map, range_with_len}
@@ -16,55 +16,39 @@ use Rattle.bdb_graph.specs.Slots.{hash_names, internal_names, names_from, no_int
 -- behind the last slot nothing is named
 pub none_from : (source : Source) (slot : ℕ) → slots_of source ≤ slot → names_from source slot ≡ []
 unfolding names_from
-none_from source slot past =
-    let none : slots_of source - slot ≡ 0 = omega arith in
-    rw none refl
+none_from source slot past = grind arith
 
 -- what is named from a slot on: what it names itself, and what is named from the next slot on
 pub next_from : (source : Source) (slot : ℕ) → slot < slots_of source → names_from source slot ≡ slot_names source slot ++ names_from source (slot + 1)
 unfolding names_from
-next_from source slot lt =
-    let more : slots_of source - slot ≡ suc (slots_of source - (slot + 1)) = omega arith in
-    rw more refl
+next_from source slot lt = grind arith
 
 -- the items from an index on, slot by slot
 pub each_item : {A B : Type 0} (f : A → List B) (d : A) (items : List A) (i n : ℕ) → i + n ≡ length items
     → flat_map (λ slot. f (get_or items slot d)) (range_with_len i n) ≡ flat_map f (drop i items)
 each_item f d items i zero all = rw (drop_all i items (omega arith)) refl
-each_item f d items i (suc n) all =
-    let cut : drop i items ≡ get_or items i d ∷ drop (i + 1) items = rw add-one (drop-cons items i d (omega arith)) in
-    rw (cut, each_item f d items (i + 1) n (omega arith)) refl
+each_item f d items i (suc n) all = grind (arith, add-one, drop-cons, each_item f d items (i + 1) n (omega arith))
 
 -- the items of a hash page from an index on, and the next page
 pub each_of_hash : (page : Listed Item) (i n : ℕ) → i + n ≡ length page.items
     → flat_map (hash_names page) (range_with_len i (suc n))
     ≡ flat_map (λ item. content_targets item.content) (drop i page.items) ++ unless_zero HashNext page.header.next
-each_of_hash page i zero all =
-    let last : nat_lt i (length page.items) ≡ false = le-ltb _ _ (omega arith) in
-    rw (drop_all i page.items (omega arith), last) (append-nil (unless_zero HashNext page.header.next))
+each_of_hash page i zero all = grind (arith, le-ltb, drop_all, append-nil)
 each_of_hash page i (suc n) all =
     let more : nat_lt i (length page.items) ≡ true = lt-ltb _ _ (omega arith) in
     let cut : drop i page.items ≡ get_or page.items i no_item ∷ drop (i + 1) page.items = rw add-one (drop-cons page.items i no_item (omega arith)) in
     rw (cut, more, each_of_hash page (i + 1) n (omega arith)) (rw append_assoc refl)
 
 even_slot : (page : Listed InternalItem) (i k : ℕ) → k ≡ 2 * i → internal_names page k ≡ (Child, (get_or page.items i no_internal_item).child) ∷ []
-even_slot page i k same =
-    let half : k / 2 ≡ i = omega arith in
-    let even : nat_eq (k % 2) 1 ≡ false = ne_eqb _ _ (omega arith) in
-    rw (half, even) refl
+even_slot page i k same = grind (arith, nat_eq, ne_eqb)
 
 odd_slot : (page : Listed InternalItem) (i k : ℕ) → k ≡ 2 * i + 1 → internal_names page k ≡ content_targets (get_or page.items i no_internal_item).key
-odd_slot page i k same =
-    let half : k / 2 ≡ i = omega arith in
-    let odd : nat_eq (k % 2) 1 ≡ true = eq-eqb _ _ (omega arith) in
-    rw (half, odd) refl
+odd_slot page i k same = grind (arith, nat_eq, eq-eqb)
 
 -- the items of an internal page from an index on, each as two slots
 pub each_of_internal : (page : Listed InternalItem) (i n k m : ℕ) → i + n ≡ length page.items → k ≡ 2 * i → m ≡ 2 * n
     → flat_map (internal_names page) (range_with_len k m) ≡ flat_map (λ item. (Child, item.child) ∷ content_targets item.key) (drop i page.items)
-each_of_internal page i zero k m all place twice =
-    let none : m ≡ 0 = omega arith in
-    rw (drop_all i page.items (omega arith), none) refl
+each_of_internal page i zero k m all place twice = grind (arith, drop_all)
 each_of_internal page i (suc n) k m all place twice =
     let two : m ≡ suc (suc (2 * n)) = omega arith in
     let cut : drop i page.items ≡ get_or page.items i no_internal_item ∷ drop (i + 1) page.items = rw add-one
@@ -82,7 +66,4 @@ each_of_internal page i (suc n) k m all place twice =
 pub each_bucket : (free last : ℕ) (spares : List ℕ) (b n : ℕ)
     → flat_map (slot_names (Table free last spares)) (range_with_len (b + 1) n) ≡ map (λ b. (Bucket, first_page b spares)) (range_with_len b n)
 each_bucket free last spares b zero = refl
-each_bucket free last spares b (suc n) =
-    let later : nat_eq (b + 1) 0 ≡ false = ne_eqb _ _ (omega arith) in
-    let same : b + 1 - 1 ≡ b = omega arith in
-    rw (later, same, each_bucket free last spares (b + 1) n) refl
+each_bucket free last spares b (suc n) = grind (arith, nat_eq, ne_eqb, each_bucket free last spares (b + 1) n)

@@ -2,18 +2,18 @@
 use Rattle.std.proofs.Common.{◌≡◌, ℕ, zero, suc, ◌-◌, ◌/◌, ◌≤◌, Bool, true, false, ◌&&◌, ◌||◌, cond, List, [], ◌∷◌, map}
 use Rattle.std.proofs.Common.{length, arith, refl, sym, ◌∙◌, ap}
 use Rattle.std.specs.Prelude.{◌==◌, nat_lt}
-use Rattle.std.specs.List.{flat_map, range_with_len}
+use Rattle.std.specs.List.{flat_map}
 use Rattle.std.proofs.lemmas.Bool.{eqb-false, ne_eqb, or_parts, not-false}
 use Rattle.std.proofs.lemmas.List.{length-map}
 use Rattle.std.proofs.lemmas.List.Elements.{Contains-append_right}
 use Rattle.std.proofs.lemmas.Simd.{map-map}
-use Rattle.bdb_form.specs.Pairs.{pair_of, pairs_from}
+use Rattle.bdb_form.specs.Pairs.{pairs_from}
 use Rattle.bdb_format.specs.declared.metadata.Head.{Head}
 use Rattle.bdb_format.specs.declared.metadata.HashMeta.{HashMeta}
 use Rattle.bdb_format.specs.declared.references.Sort.{Sort}
 use Rattle.bdb_format.specs.declared.references.Sort.TheVariants.{Bucket, HashNext}
 use Rattle.bdb_format.specs.Chains.{chain_in, next_of}
-use Rattle.bdb_format.specs.Contents.{bucket_pages, pair_at, pairs_of}
+use Rattle.bdb_format.specs.Contents.{bucket_pages, pairs_of}
 use Rattle.bdb_format.specs.File.{File, file_of, header_in, page_at, type_in}
 use Rattle.bdb_format.specs.Graph.{Owner}
 use Rattle.bdb_format.specs.Hashing.{first_page}
@@ -27,7 +27,7 @@ use Rattle.bdb_format.proofs.VerdictLemmas.{AllFail, none_is_first_row}
 use Rattle.bdb_graph.specs.Linked.{IsForest, IsTarget}
 use Rattle.bdb_graph.proofs.ForestLemmas.{sound_graph}
 use Rattle.bdb_graph.proofs.LinkedLemmas.{target_inside}
-use Rattle.bdb_hash.specs.Told.{Told, is_of_bucket, page_told, pages_from, told, told_pair}
+use Rattle.bdb_hash.specs.Told.{Told, is_of_bucket, page_told, pages_from, told_pair}
 use Rattle.bdb_hash.specs.Views.{IsOnWay, IsTable}
 use Rattle.bdb_hash.proofs.PairLemmas.{page_names}
 use Rattle.bdb_format.proofs.ReferenceLemmas.{of_all}
@@ -116,12 +116,7 @@ next_of_zero file p is = ap (λ (other : Page). (header_in other).next) (sym is)
 pub hash_told : (image : List ℕ) (p : ℕ) (page : Listed Item) → page_at (file_of image) p ≡ Hash page
     → map (told_pair image p) (pairs_from no_item false page 0) ≡ page_told image p
 unfolding pairs_of
-hash_told image p page is =
-    let all : length page.items / 2 - 0 ≡ length page.items / 2 = omega arith in
-    let places : List ℕ = range_with_len 0 (length page.items / 2) in
-    rw (all, is)
-    (map-map (told_pair image p) (pair_of no_item false page) places ∙ sym
-    (map-map (told image) (pair_at (file_of image) p page (λ n. false)) places))
+hash_told image p page is = grind (arith, map-map)
 
 pub zero_told : (image : List ℕ) (p : ℕ) → page_at (file_of image) p ≡ Zero → [] ≡ page_told image p
 unfolding pairs_of
@@ -151,10 +146,7 @@ pub first_page_left : (image : List ℕ) (turns p : ℕ) → (p ≡ 0 → ⊥) �
     → map (page_told image) (pages_from turns (file_of image) p) ≡ page_told image p ∷ map (page_told image)
     (pages_from (turns - 1) (file_of image) (next_of (file_of image) p))
 first_page_left image zero p some turn = absurd (turn refl)
-first_page_left image (suc turns) p some turn =
-    let file : File = file_of image in
-    let less : suc turns - 1 ≡ turns = omega arith in
-    rw (ne_eqb p 0 some, less) (ap (map (page_told image)) (pages_step turns file p))
+first_page_left image (suc turns) p some turn = grind (arith, ne_eqb, pages_step)
 
 -- the pages from the first one of a bucket on are all of it
 pub all_pages : (image : List ℕ) (head : Head) (meta : HashMeta) (p b : ℕ) → IsForest image → head ≡ head_of image

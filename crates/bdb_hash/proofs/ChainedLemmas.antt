@@ -1,4 +1,5 @@
 -- Pairs of one file whose keys are chains.
+use Rattle.std.proofs.Common.{arith}
 use Rattle.std.proofs.Common.{◌≡◌, ℕ, Bool, true, false, ◌||◌, cond, List, [], ◌∷◌, map, refl, sym, ◌∙◌, ap, subst, inl, inr}
 use Rattle.std.specs.Prelude.{Result, Ok, Err, OnOk, OnErr}
 use Rattle.std.specs.BTreeSet.{BTreeSet, IsUnchanged, Updates}
@@ -6,14 +7,13 @@ use Rattle.std.specs.Cmp.Lexicographic.{slice_cmp}
 use Rattle.std.specs.Ordering.{nat_cmp}
 use Rattle.std.specs.Str.{bytes_eq}
 use Rattle.std.proofs.lemmas.Bool.{cases_Bool, cases_eq}
-use Rattle.std.proofs.lemmas.Map.Text.{is_eq-slice_cmp}
 use Rattle.bdb_faults.specs.Notes.{Notes}
 use Rattle.bdb_format.specs.declared.kinds.Fault.{Fault}
 use Rattle.bdb_format.specs.Contents.{StoredPair, pairs_of}
 use Rattle.bdb_format.specs.Chains.{value_of}
 use Rattle.bdb_format.specs.File.{file_of}
 use Rattle.bdb_format.specs.Page.{Content, Inline, Set, Chain, Tree, Unknown}
-use Rattle.bdb_format.proofs.LessLemmas.{eq_self, eq_same}
+use Rattle.bdb_format.proofs.LessLemmas.{eq_same}
 use Rattle.bdb_overflow.specs.Keys.{has_item, has_key}
 use Rattle.bdb_overflow.proofs.HeldLemmas.{apart}
 use Rattle.bdb_hash.specs.Chained.{AreAllOf, AreAmong, AreOf, IsHeaded, Seen, chain_head, chain_value}
@@ -99,20 +99,12 @@ among_after image old new heads key among updates = record {
 
 pub among_unchanged : (image : List ℕ) (old new : BTreeSet (List ℕ)) (heads : BTreeSet ℕ) → AreAmong (record { image = image; keys = old }) heads
     → IsUnchanged old new → AreAmong (record { image = image; keys = new }) heads
-among_unchanged image old new heads among same = record {
-  each = λ head is. rw same (among.each head is);
-}
+among_unchanged image old new heads among same = grind arith
 
 -- and one head more, of a key that is
 pub among_more : (seen : Seen) (old new : BTreeSet ℕ) (head : ℕ) → AreAmong seen old → has_key seen.keys (chain_value seen.image head) ≡ true
     → Updates nat_cmp old new head true → AreAmong seen new
-among_more seen old new head among has updates = record {
-  each = λ other is.
-      elim (cases_eq head other) [
-        | inl same ↦ ap (λ h. has_key seen.keys (chain_value seen.image h)) (sym same) ∙ has
-        | inr differ ↦ among.each other (sym (updates.2 other (apart head other differ)) ∙ is)
-      ];
-}
+among_more seen old new head among has updates = grind (arith, cases_eq, apart)
 
 -- the same where the insertion may have failed
 pub among_inserted : {X E : Type 0} (result : Result X E) (seen : Seen) (old new : BTreeSet ℕ) (head : ℕ) → AreAmong seen old

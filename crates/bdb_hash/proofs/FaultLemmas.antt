@@ -30,9 +30,7 @@ use Rattle.bdb_hash.proofs.RowLemmas.{repeat_row, rows_are, tests_of}
 
 page_flat : (image : List ℕ) (ps : List ℕ) → joined_pages (map (page_told image) ps) ≡ map (told image) (flat_map (pairs_of (file_of image)) ps)
 page_flat image [] = refl
-page_flat image (p ∷ ps) =
-    ap (λ ts. page_told image p ++ ts) (page_flat image ps) ∙ sym
-    (map-append (told image) (pairs_of (file_of image) p) (flat_map (pairs_of (file_of image)) ps))
+page_flat image (p ∷ ps) = grind (arith, map-append, page_flat image ps)
 
 -- the pairs of a bucket
 pub bucket_is : (image : List ℕ) (meta : HashMeta) (b : ℕ) → bucket_told image meta b ≡ map (told image) (bucket_pairs (file_of image) meta b)
@@ -45,9 +43,7 @@ stored_told image (pair ∷ pairs) = ap (λ ps. pair ∷ ps) (stored_told image 
 told_flat : (image : List ℕ) (meta : HashMeta) (bs : List ℕ)
     → flat_map (bucket_told image meta) bs ≡ map (told image) (flat_map (bucket_pairs (file_of image) meta) bs)
 told_flat image meta [] = refl
-told_flat image meta (b ∷ bs) =
-    rw (bucket_is image meta b, told_flat image meta bs)
-    (sym (map-append (told image) (bucket_pairs (file_of image) meta b) (flat_map (bucket_pairs (file_of image) meta) bs)))
+told_flat image meta (b ∷ bs) = grind (arith, bucket_is, map-append, told_flat image meta bs)
 
 pub table_is_told : (image : List ℕ) (meta : HashMeta) → table_told image meta ≡ map (told image) (table_pairs (file_of image) meta)
 unfolding table_pairs

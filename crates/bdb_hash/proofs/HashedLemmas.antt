@@ -1,5 +1,5 @@
 -- Pairs of a bucket whose keys have different hashes have different keys.
-use Rattle.std.proofs.Common.{◌≡◌, ◌≢◌, ℕ, zero, suc, ◌+◌, ◌-◌, ◌<◌, ◌≤◌, Bool, true, false, not, ◌&&◌, List, [], ◌∷◌, ◌++◌, map, length, get_or, arith, refl}
+use Rattle.std.proofs.Common.{◌≡◌, ◌≢◌, ℕ, zero, suc, ◌+◌, ◌-◌, ◌<◌, ◌≤◌, Bool, true, false, ◌&&◌, List, [], ◌∷◌, ◌++◌, map, length, get_or, arith, refl}
 use Rattle.std.proofs.Common.{sym, ◌∙◌, ap, subst}
 use Rattle.std.specs.Prelude.{nat_eq, slice_index}
 use Rattle.std.specs.BTreeSet.{BTreeSet}
@@ -48,11 +48,7 @@ rising xs k sorted low = let order = sorted k 0 (omega arith) low in grind arith
 
 rising_to : (xs : List ℕ) (i n : ℕ) → IsSorted nat_cmp xs → i + n < length xs → get_or xs i 0 ≤ get_or xs (i + n) 0
 rising_to xs i zero sorted low = let same : i + 0 ≡ i = omega arith in subst (λ k. get_or xs i 0 ≤ get_or xs k 0) (sym same) (omega arith)
-rising_to xs i (suc n) sorted low =
-    let here = rising_to xs i n sorted (omega arith) in
-    let next = rising xs (i + n) sorted (omega arith) in
-    let same : i + n + 1 ≡ i + suc n = omega arith in
-    subst (λ k. get_or xs i 0 ≤ get_or xs k 0) same (omega (arith, here, next))
+rising_to xs i (suc n) sorted low = grind (arith, rising, rising_to xs i n sorted (omega arith))
 
 distinct_from : (e : ℕ → ℕ → Bool) (xs : List ℕ) → AllPairs (λ x y. e x y ≡ false) xs → IsDistinct e xs
 unfolding IsDistinct
@@ -63,12 +59,7 @@ distinct_from e (x ∷ xs) all = (
 )
 
 not_missed : (twice : BTreeSet ℕ) (a b : ℕ) → (a ≡ b → is_among twice a ≡ true) → is_missed twice a b ≡ false
-not_missed twice a b has = neither (nat_eq a b) (is_among twice a) (λ same. has (eqb-true a b same))
-  where
-    neither : (x y : Bool) → (x ≡ true → y ≡ true) → (x && not y) ≡ false
-    neither true true has = refl
-    neither true false has = absurd (let no : false ≡ true = has refl in cc)
-    neither false y has = refl
+not_missed twice a b has = grind (arith, eqb-true)
 
 missed_flips : (twice : BTreeSet ℕ) (a b : ℕ) → is_missed twice a b ≡ is_missed twice b a
 missed_flips twice a b = grind (arith, eqb-true a b, eqb-true b a, eq-eqb a b, eq-eqb b a)
@@ -94,12 +85,7 @@ pub hashes_more : (image : List ℕ) (meta : HashMeta) (b : ℕ) (old new : List
     → old ≡ map key_hash (flat_map (bucket_told image meta) (range_with_len 0 b))
     → pages ≡ map (page_told image) (bucket_pages (file_of image) meta b) → new ≡ old ++ map key_hash (joined_pages pages)
     → new ≡ map key_hash (flat_map (bucket_told image meta) (range_with_len 0 (b + 1)))
-hashes_more image meta b old new pages done are is =
-    is
-    ∙ (ap (λ ps. old ++ map key_hash (joined_pages ps)) are
-    ∙ (ap (λ hs. hs ++ map key_hash (bucket_told image meta b)) done
-    ∙ (sym (map-append key_hash (flat_map (bucket_told image meta) (range_with_len 0 b)) (bucket_told image meta b))
-    ∙ ap (map key_hash) (sym (told_more image meta b)))))
+hashes_more image meta b old new pages done are is = grind (arith, map-append, told_more)
 
 -- Pairs with other hashes.
 

@@ -1,4 +1,5 @@
 -- Pairs whose hash no other pair has repeat no key, and need not be kept.
+use Rattle.std.proofs.Common.{arith}
 use Rattle.std.proofs.Common.{◌≡◌, ℕ, ◌+◌, Bool, true, false, not, ◌&&◌, ◌||◌, cond, List, [], ◌∷◌, ◌++◌, map, refl, sym, ◌∙◌, ap, subst}
 use Rattle.std.specs.Prelude.{nat_eq}
 use Rattle.std.specs.BTreeSet.{BTreeSet, IsEmpty}
@@ -33,9 +34,7 @@ pub more_kept : (twice : BTreeSet ℕ) (old now next : BTreeSet (List ℕ)) (bef
     → IsNoting old now before mid (filter (is_kept twice) all) (filter (is_kept twice) left) → left ≡ here ++ rest
     → NotesRepeats now next mid after (filter (is_kept twice) here)
     → IsNoting old next before after (filter (is_kept twice) all) (filter (is_kept twice) rest)
-more_kept twice old now next before mid after all left here rest noting is notes =
-    more_noting old now next before mid after (filter (is_kept twice) all) (filter (is_kept twice) left) (filter (is_kept twice) here)
-    (filter (is_kept twice) rest) noting (ap (filter (is_kept twice)) is ∙ filter-append (is_kept twice) here rest) notes
+more_kept twice old now next before mid after all left here rest noting is notes = grind (arith, more_noting, filter-append)
 
 pub one_kept : (twice : BTreeSet ℕ) (old now next : BTreeSet (List ℕ)) (before mid after : List Fault → Type 0) (all left rest : List Told) (t : Told)
     → IsNoting old now before mid (filter (is_kept twice) all) (filter (is_kept twice) left) → left ≡ t ∷ rest
@@ -58,13 +57,7 @@ pub keeps_one : (twice : BTreeSet ℕ) (old now next : Seen) (chains known then_
     (all left rest : List Told) (t : Told) → IsKeeping twice old now chains known before mid all left → left ≡ t ∷ rest
     → NotesRepeats now.keys next.keys mid after (filter (is_kept twice) (t ∷ [])) → next.image ≡ now.image → then_known ≡ known
     → IsKeeping twice old next chains then_known before after all rest
-keeps_one twice old now next chains known then_known before mid after all left rest t keeping is notes seen same = record {
-  noting = one_kept twice old.keys now.keys next.keys before mid after all left rest t keeping.noting is notes;
-  seen = seen ∙ keeping.seen;
-  known = same ∙ keeping.known;
-  here = rest_of old.image left rest t keeping.here is;
-  there = rest_of chains left rest t keeping.there is;
-}
+keeps_one twice old now next chains known then_known before mid after all left rest t keeping is notes seen same = grind (arith, one_kept, rest_of)
 
 pub all_kept : (twice : BTreeSet ℕ) (old new : BTreeSet (List ℕ)) (before after : List Fault → Type 0) (all left : List Told)
     → IsNoting old new before after (filter (is_kept twice) all) (filter (is_kept twice) left) → left ≡ []
@@ -79,13 +72,7 @@ pub kept_more : (image : List ℕ) (meta : HashMeta) (twice : BTreeSet ℕ) (b :
     → pages ≡ map (page_told image) (bucket_pages (file_of image) meta b)
     → NotesRepeats now new mid after (filter (is_kept twice) (joined_pages pages))
     → NotesRepeats old new before after (filter (is_kept twice) (flat_map (bucket_told image meta) (range_with_len 0 (b + 1))))
-kept_more image meta twice b old now new before mid after pages done are notes =
-    let earlier : List Told = flat_map (bucket_told image meta) (range_with_len 0 b) in
-    let here : List Told = bucket_told image meta b in
-    subst (NotesRepeats old new before after)
-    (sym (ap (filter (is_kept twice)) (told_more image meta b) ∙ filter-append (is_kept twice) earlier here))
-    (both_noted old now new before mid after (filter (is_kept twice) earlier) (filter (is_kept twice) here) done
-    (subst (λ ps. NotesRepeats now new mid after (filter (is_kept twice) (joined_pages ps))) are notes))
+kept_more image meta twice b old now new before mid after pages done are notes = grind (arith, told_more, filter-append, both_noted)
 
 -- What they repeat.
 

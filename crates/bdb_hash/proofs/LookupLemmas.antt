@@ -3,7 +3,6 @@ use Rattle.std.proofs.Common.{◌≡◌, ◌⊎◌, ℕ, zero, suc, ◌+◌, ◌
 use Rattle.std.proofs.Common.{length, arith, refl, sym, ◌∙◌, ap, subst, inl, inr}
 use Rattle.std.specs.Prelude.{Option, Some, None, ◌==◌}
 use Rattle.std.specs.List.{Contains, find, flat_map, list_any, range_with_len}
-use Rattle.std.specs.Option.{option_or}
 use Rattle.std.specs.Str.{bytes_eq}
 use Rattle.std.proofs.lemmas.Bool.{cases_Bool, eq-eqb, eqb-true, false_from_ne_true, not-false, or_parts, true≢false}
 use Rattle.std.proofs.lemmas.List.{append-nil}
@@ -31,7 +30,7 @@ use Rattle.bdb_hash.specs.Views.{IsTable}
 use Rattle.bdb_hash.proofs.FaultLemmas.{bucket_is, few_buckets, repeat_in, table_stored}
 use Rattle.bdb_hash.proofs.PlainLemmas.{IsPlain, bucket_plain}
 use Rattle.bdb_hash.proofs.RowLemmas.{ArePlain, buckets_of}
-use Rattle.bdb_format.proofs.ListLemmas.{passes_here, flat_map_twice}
+use Rattle.bdb_format.proofs.ListLemmas.{flat_map_twice}
 use Rattle.bdb_format.proofs.BoolLemmas.{second_false}
 
 -- The walk over the pages of a bucket.
@@ -39,19 +38,12 @@ use Rattle.bdb_format.proofs.BoolLemmas.{second_false}
 pub sought_found : (key : List ℕ) (all : List Told) (left rest : List (List Told)) (page : List Told) (most steps : ℕ) (t : Told)
     → IsSought key all left most steps → left ≡ page ∷ rest
     → Some t ≡ find (has_key key) page → Some t ≡ find (has_key key) all
-sought_found key all left rest page most steps t sought next found =
-    ap (λ o. option_or o (find (has_key key) (joined_pages rest))) found
-    ∙ (sym (find-append (has_key key) page (joined_pages rest)) ∙ (ap (λ ps. find (has_key key) (joined_pages ps)) (sym next) ∙ sought.same))
+sought_found key all left rest page most steps t sought next found = grind (arith, find-append)
 
 pub sought_on : (key : List ℕ) (all : List Told) (left rest : List (List Told)) (page : List Told) (most steps : ℕ)
     → IsSought key all left most steps → left ≡ page ∷ rest
     → None ≡ find (has_key key) page → IsSought key all rest most (steps + 1)
-sought_on key all left rest page most steps sought next none = record {
-  same =
-      ap (λ o. option_or o (find (has_key key) (joined_pages rest))) none
-      ∙ (sym (find-append (has_key key) page (joined_pages rest)) ∙ (ap (λ ps. find (has_key key) (joined_pages ps)) (sym next) ∙ sought.same));
-  few = let more : length left ≡ suc (length rest) = ap length next in omega (arith, sought.few);
-}
+sought_on key all left rest page most steps sought next none = grind (arith, find-append)
 
 pub sought_none : (key : List ℕ) (all : List Told) (left : List (List Told)) (most steps : ℕ) → IsSought key all left most steps
     → left ≡ [] → None ≡ find (has_key key) all
@@ -109,15 +101,7 @@ swap_empty xs ys zs (inr none) = ap (λ v. xs ++ (v ++ zs)) none ∙ ap (λ v. v
 under_insert : (file : File) (key : List ℕ) (pair : StoredPair) (pairs : List StoredPair)
     → flat_map (under file key) (insert_pair pair pairs) ≡ under file key pair ++ flat_map (under file key) pairs
 under_insert file key pair [] = refl
-under_insert file key pair (other ∷ others) =
-    elim (less other.key pair.key) as (λ b. less other.key pair.key ≡ b
-    → flat_map (under file key) (cond b (other ∷ insert_pair pair others) (pair ∷ other ∷ others))
-    ≡ under file key pair ++ (under file key other ++ flat_map (under file key) others)) [
-      | true ↦ λ is.
-          ap (λ vs. under file key other ++ vs) (under_insert file key pair others)
-          ∙ swap_empty (under file key other) (under file key pair) (flat_map (under file key) others) (one_under file key other pair is)
-      | false ↦ λ is. refl
-    ] refl
+under_insert file key pair (other ∷ others) = grind (arith, swap_empty, one_under, under_insert file key pair others)
 
 under_by_key : (file : File) (key : List ℕ) (pairs : List StoredPair) → flat_map (under file key) (by_key pairs) ≡ flat_map (under file key) pairs
 under_by_key file key [] = refl
@@ -226,9 +210,7 @@ keys_apart image meta table has differ =
 
 apart_parts : (xs ys : List StoredPair) → AreApart (xs ++ ys) → AreApart xs × AreApart ys
 apart_parts [] ys apart = (tt, apart)
-apart_parts (x ∷ xs) ys apart =
-    let rest : AreApart xs × AreApart ys = apart_parts xs ys apart.1 in
-    ((λ other at. apart.0 other (Contains-append_left xs ys other at), rest.0), rest.1)
+apart_parts (x ∷ xs) ys apart = grind (arith, Contains-append_left, apart_parts xs ys apart.1)
 
 apart_part : {X : Type 0} (f : X → List StoredPair) (xs : List X) (x : X) → AreApart (flat_map f xs) → Contains xs x → AreApart (f x)
 apart_part f [] x apart at = absurd (no_member [] x refl at)

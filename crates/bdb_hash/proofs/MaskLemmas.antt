@@ -5,7 +5,6 @@ use Rattle.std.proofs.lemmas.Bool.Decides.{nat_tests}
 use Rattle.std.proofs.lemmas.Bool.{not-false}
 use Rattle.std.proofs.lemmas.Nat.{and_le_r}
 use Rattle.bdb_format.proofs.GraphLemmas.{typed_none}
-use Rattle.bdb_format.specs.declared.metadata.FileKind.TheVariants.{Hash}
 use Rattle.bdb_format.specs.declared.metadata.HashMeta.{HashMeta}
 use Rattle.bdb_format.specs.declared.metadata.Head.{Head}
 use Rattle.bdb_format.specs.File.{file_of, page_bytes}
@@ -13,8 +12,8 @@ use Rattle.bdb_format.specs.Hashing.{bucket}
 use Rattle.bdb_format.specs.HeadOf.{head_of}
 use Rattle.bdb_format.specs.Numbers.{byte_at}
 use Rattle.bdb_format.specs.Page.{HashFields, Meta, Page, PageType, HashMetaPage, Zero}
-use Rattle.bdb_format.specs.Reading.{abstract_page, hash_fields, is_zero, page_as, page_type}
-use Rattle.bdb_format.specs.Rows.{are_masks, field_rows, form_code, typed_code}
+use Rattle.bdb_format.specs.Reading.{abstract_page, is_zero, page_as, page_type}
+use Rattle.bdb_format.specs.Rows.{are_masks, form_code, typed_code}
 use Rattle.bdb_format.proofs.VerdictLemmas.{none_is_first_row}
 use Rattle.bdb_format.proofs.FileLemmas.{last_page, page_is}
 use Rattle.bdb_graph.specs.Linked.{HasMetadata, IsForest}
@@ -26,9 +25,7 @@ HasMasks (Meta (HashFields meta)) = are_masks meta ≡ true
 HasMasks page = Unit {0}
 
 masks_as : (head : Head) (number : ℕ) (page : List ℕ) (t : PageType) → typed_code head number page t ≡ None → HasMasks (page_as head.order page t)
-masks_as head number page HashMetaPage none =
-    not-false (are_masks (hash_fields head.order page))
-    (none_is_first_row (field_rows head.order page number head.last Hash) none).1.1.1.1.1.1.1.1.0
+masks_as head number page HashMetaPage none = grind (arith, not-false, none_is_first_row)
 masks_as head number page t none = tt
 
 masks_of : (head : Head) (number : ℕ) (page : List ℕ) → form_code head number page ≡ None → HasMasks (abstract_page head.order page)

@@ -12,7 +12,7 @@ use Rattle.bdb_format.specs.declared.references.Sort.TheVariants.{OverflowHead, 
 use Rattle.bdb_format.specs.Chains.{value_of}
 use Rattle.bdb_format.specs.File.{File, file_of, page_at}
 use Rattle.bdb_format.specs.Page.{Content, Inline, Set, Chain, Tree, Unknown, Item, Listed, Page, Hash}
-use Rattle.bdb_format.specs.References.{content_targets, item_at, no_item, targets_in}
+use Rattle.bdb_format.specs.References.{content_targets, no_item, targets_in}
 use Rattle.bdb_format.proofs.MemberLemmas.{first_member, in_map}
 use Rattle.bdb_format.proofs.TargetLemmas.{held_named}
 use Rattle.bdb_graph.specs.Linked.{IsTarget}
@@ -20,8 +20,7 @@ use Rattle.bdb_graph.proofs.LinkedLemmas.{named_target, target_inside}
 use Rattle.bdb_layout.specs.declared.items.HashItem.{HashItem}
 use Rattle.bdb_layout.specs.Seen.{hash_content_seen, hash_item_seen}
 use Rattle.bdb_overflow.specs.Datum.{FitsContent, single_value}
-use Rattle.bdb_hash.specs.Places.{IsGiven, has_pair, pair_on}
-use Rattle.bdb_hash.specs.Told.{told}
+use Rattle.bdb_hash.specs.Places.{IsGiven}
 use Rattle.bdb_hash.specs.Views.{FitsRoot, IsPair, IsTable}
 use Rattle.bdb_format.proofs.ListLemmas.{member_of}
 use Rattle.bdb_format.proofs.ReferenceLemmas.{forest_names}
@@ -80,20 +79,7 @@ item_fits image p i page item table low is at = (hash_named image p i page (hash
 -- a pair of a hash page, as its view gives it
 pub is_given : (image : List ℕ) (p i : ℕ) (page : Listed Item) → IsTable image → p ≤ (file_of image).last → page_at (file_of image) p ≡ Hash page
     → 2 * i + 1 < length page.items → IsGiven image p (pair_of no_item false page i)
-is_given image p i page table low is there =
-    let key = hash_named image p (2 * i) page (item_at page (2 * i)) table low is (slice_get-get_or page.items (2 * i) no_item (omega arith)) in
-    let data' = hash_named image p (2 * i + 1) page (item_at page (2 * i + 1)) table low is (slice_get-get_or page.items (2 * i + 1) no_item there) in
-    record {
-      key = key.chain;
-      read = record {
-        pair = record { forest = table; chain = data'.chain; root = data'.root };
-        stands = record {
-          inside = low;
-          there = ap (λ (q : Page). has_pair q i) is ∙ lt-ltb (2 * i + 1) (length page.items) there;
-          is = sym (ap (λ (q : Page). told image (pair_on (file_of image) p q i)) is);
-        };
-      };
-    }
+is_given image p i page table low is there = grind (arith, hash_named, slice_get-get_or, lt-ltb)
 
 -- all pairs of a hash page
 pub all_given : (image : List ℕ) (p : ℕ) (page : Listed Item) → IsTable image → p ≤ (file_of image).last → page_at (file_of image) p ≡ Hash page

@@ -21,7 +21,7 @@ use Rattle.bdb_format.specs.Contents.{StoredPair, bucket_pages, table_pairs}
 use Rattle.bdb_format.specs.File.{File, file_of, page_at}
 use Rattle.bdb_format.specs.Page.{Hash, HashFields, Item}
 use Rattle.bdb_format.specs.Page.{Listed, Page}
-use Rattle.bdb_format.specs.References.{item_at, no_item}
+use Rattle.bdb_format.specs.References.{item_at}
 use Rattle.bdb_format.proofs.MemberLemmas.{later_member, member_cases, no_member}
 use Rattle.bdb_graph.specs.Linked.{HasMetadata}
 use Rattle.bdb_layout.specs.declared.items.HashItem.{HashItem}
@@ -53,13 +53,7 @@ pub key_here : (image : List ℕ) (place : Place) (page : Listed Item) (item : H
     → page_at (file_of image) place.page ≡ Hash page
     → 2 * place.index + 1 < length page.items → slice_get page.items (2 * place.index) ≡ Some (hash_item_seen item)
     → bytes ≡ value_of (file_of image) (hash_content_seen item) → bytes ≡ key_at image place
-key_here image place page item bytes low shows there at is =
-    is
-    ∙ (ap (λ (one : Item). value_of (file_of image) one.content)
-    (sym (get_or_from_slice_get page.items (2 * place.index) (hash_item_seen item) no_item at))
-    ∙ (ap (λ b. cond b (value_of (file_of image) (item_at page (2 * place.index)).content) [])
-    (sym (lt-ltb (2 * place.index + 1) (length page.items) there))
-    ∙ (ap (λ (q : Page). key_in (file_of image) q place.index) (sym shows) ∙ sym (on_page image place low))))
+key_here image place page item bytes low shows there at is = grind (arith, get_or_from_slice_get, lt-ltb, on_page)
 
 -- Places of a file.
 
@@ -114,9 +108,7 @@ pub bucket_added : (image : List ℕ) (meta : HashMeta) (b : ℕ) (old new : Lis
     → AreAt old (flat_map (bucket_told image meta) (range_with_len 0 b))
     → pages ≡ map (page_told image) (bucket_pages (file_of image) meta b) → Adds old new (joined_pages pages)
     → AreAt new (flat_map (bucket_told image meta) (range_with_len 0 (b + 1)))
-bucket_added image meta b old new pages at are adds =
-    subst (AreAt new) (ap (λ ps. flat_map (bucket_told image meta) (range_with_len 0 b) ++ joined_pages ps) are ∙ sym (told_more image meta b))
-    (adds.after (flat_map (bucket_told image meta) (range_with_len 0 b)) at)
+bucket_added image meta b old new pages at are adds = grind (arith, told_more)
 
 -- Pairs are counted.
 
@@ -131,13 +123,7 @@ pub bucket_counted : (image : List ℕ) (meta : HashMeta) (b count more most : �
     → count ≡ min (length (flat_map (bucket_told image meta) (range_with_len 0 b))) most
     → pages ≡ map (page_told image) (bucket_pages (file_of image) meta b) → more ≡ min (count + length (joined_pages pages)) most
     → more ≡ min (length (flat_map (bucket_told image meta) (range_with_len 0 (b + 1)))) most
-bucket_counted image meta b count more most pages before are is =
-    let same : length (flat_map (bucket_told image meta) (range_with_len 0 (b + 1))) ≡ length (flat_map (bucket_told image meta) (range_with_len 0 b))
-    + length (joined_pages pages) =
-    ap length (told_more image meta b)
-    ∙ (length-append (flat_map (bucket_told image meta) (range_with_len 0 b)) (bucket_told image meta b)
-    ∙ ap (λ ps. length (flat_map (bucket_told image meta) (range_with_len 0 b)) + length (joined_pages ps)) (sym are)) in
-    omega (arith, before, is, same)
+bucket_counted image meta b count more most pages before are is = grind (arith, told_more, length-append)
 
 -- Places of pairs of one file.
 

@@ -1,6 +1,6 @@
 -- The pairs of a bucket stand on its pages, are live, and none shares its key.
-use Rattle.std.proofs.Common.{◌≡◌, ℕ, zero, suc, ◌+◌, ◌*◌, ◌/◌, ◌≤◌, Bool, true, false, not, cond, List, [], map, length, arith}
-use Rattle.std.proofs.Common.{refl, sym, ◌∙◌, ap, subst, inl, inr}
+use Rattle.std.proofs.Common.{◌≡◌, ℕ, zero, suc, ◌+◌, ◌*◌, ◌/◌, ◌≤◌, Bool, true, false, not, cond, List, [], length, arith}
+use Rattle.std.proofs.Common.{refl, ◌∙◌, ap, subst, inl, inr}
 use Rattle.std.specs.Prelude.{◌==◌}
 use Rattle.std.specs.List.{Contains, range_with_len}
 use Rattle.std.proofs.lemmas.Bool.{cases_lt, eqb-false}
@@ -11,13 +11,12 @@ use Rattle.bdb_format.specs.declared.metadata.HashMeta.{HashMeta}
 use Rattle.bdb_format.specs.declared.references.Sort.TheVariants.{Bucket}
 use Rattle.bdb_format.specs.Chains.{chain_in, next_of}
 use Rattle.bdb_format.specs.Contents.{StoredPair, bucket_pages, bucket_pairs, pair_at, pairs_in, pairs_of}
-use Rattle.bdb_format.specs.File.{File, file_of, page_at, page_bytes}
+use Rattle.bdb_format.specs.File.{File, file_of, page_at}
 use Rattle.bdb_format.specs.Hashing.{first_page}
 use Rattle.bdb_format.specs.HeadOf.{head_of}
-use Rattle.bdb_format.specs.Numbers.{byte_at}
 use Rattle.bdb_format.specs.Page.{HashFields, Item, Listed, Page, PageType, HashPage, Zero, Hash}
-use Rattle.bdb_format.specs.Reading.{abstract_page, entries_of, hash_item_at, is_zero, listed, page_as, page_type}
-use Rattle.bdb_format.specs.References.{item_at, no_item}
+use Rattle.bdb_format.specs.Reading.{abstract_page, hash_item_at, listed, page_as}
+use Rattle.bdb_format.specs.References.{item_at}
 use Rattle.bdb_format.proofs.MemberLemmas.{member_cases, no_member, of_flat_map, of_map}
 use Rattle.bdb_format.proofs.FileLemmas.{last_page, page_is}
 use Rattle.bdb_graph.specs.Linked.{HasMetadata}
@@ -34,16 +33,7 @@ AreLive page = Unit {0}
 
 live_listed : (order : Order) (page : List ℕ) (i : ℕ) → (item_at (listed order page (hash_item_at order page)) i).deleted ≡ false
 unfolding listed hash_item_at
-live_listed order page i =
-    let n : ℕ = entries_of order page in
-    elim (cases_lt i n) [
-      | inl below ↦ ap (λ (item : Item). item.deleted)
-          (get_or-map-range_with_len (hash_item_at order page) 0 n i i no_item below (omega arith))
-      | inr past ↦
-          ap (λ (item : Item). item.deleted)
-          (get_or_past (map (hash_item_at order page) (range_with_len 0 n)) i no_item
-          (omega (arith, length-map-range_with_len (hash_item_at order page) 0 n)))
-    ]
+live_listed order page i = grind (arith, cases_lt, get_or-map-range_with_len, get_or_past, length-map-range_with_len)
 
 live_as : (order : Order) (page : List ℕ) (t : PageType) → AreLive (page_as order page t)
 live_as order page HashPage = live_listed order page
@@ -51,18 +41,12 @@ live_as order page t = tt
 
 live_abstract : (order : Order) (page : List ℕ) → AreLive (abstract_page order page)
 unfolding abstract_page
-live_abstract order page =
-    elim (is_zero page) as (λ zeros. AreLive (elim zeros [ true ↦ Zero | false ↦ page_as order page (page_type (byte_at page 25)) ])) [
-      | true ↦ tt
-      | false ↦ live_as order page (page_type (byte_at page 25))
-    ]
+live_abstract order page = grind (arith, live_as)
 
 -- no item of a hash page is deleted
 hash_live : (image : List ℕ) (p : ℕ) (page : Listed Item) → p ≤ (file_of image).last → page_at (file_of image) p ≡ Hash page
     → (i : ℕ) → (item_at page i).deleted ≡ false
-hash_live image p page low is =
-    let inside : p ≤ (head_of image).last = omega (arith, low, last_page image) in
-    subst AreLive (sym (page_is image p inside) ∙ is) (live_abstract (head_of image).order (page_bytes (head_of image) image p))
+hash_live image p page low is = grind (arith, last_page, page_is, live_abstract)
 
 -- The pages of a bucket.
 

@@ -148,9 +148,7 @@ more_seen seen more (one ∷ pairs) pair kept at =
 
 after_append : (seen xs ys : List StoredPair) → repeated_after seen (xs ++ ys) ≡ repeated_after seen xs ++ repeated_after (behind seen xs) ys
 after_append seen [] ys = refl
-after_append seen (x ∷ xs) ys =
-    rw (after_append (x ∷ seen) xs ys)
-    (cond_append (has_this x.key seen) x (repeated_after (x ∷ seen) xs) (repeated_after (behind (x ∷ seen) xs) ys))
+after_append seen (x ∷ xs) ys = grind (arith, cond_append, repeated_after, after_append (x ∷ seen) xs ys)
 
 part_in : (parts : ℕ → List StoredPair) (buckets : List ℕ) (b : ℕ) (pair : StoredPair) (seen : List StoredPair) → Contains buckets b
     → Contains (repeated_after [] (parts b)) pair → Contains (repeated_after seen (flat_map parts buckets)) pair
@@ -181,10 +179,7 @@ none_noted keys before = record { next = λ seen are. (are, notes_nothing before
 
 keys_more : (keys more : BTreeSet (List ℕ)) (seen : List StoredPair) (pair : StoredPair) → AreKeysOf keys seen
     → Updates (slice_cmp nat_cmp) keys more pair.key true → AreKeysOf more (pair ∷ seen)
-keys_more keys more seen pair are updates sought =
-    updates.0 sought
-    ∙ (ap (λ b. cond b true (has_key keys sought)) (is_eq-slice_cmp pair.key sought)
-    ∙ (ap (λ b. cond (bytes_eq pair.key sought) true b) (are sought) ∙ cond_or (bytes_eq pair.key sought) (has_item key_of seen sought)))
+keys_more keys more seen pair are updates sought = grind (arith, is_eq-slice_cmp, cond_or)
 
 repeat_here : (has : Bool) (pair : StoredPair) → fault_if (Contents KeyTwice) pair.page has ≡ map repeat_fault (cond has (pair ∷ []) [])
 repeat_here true pair = refl
@@ -197,22 +192,12 @@ not_not false = refl
 pub one_noted : (keys more : BTreeSet (List ℕ)) (before after : List Fault → Type 0) (t : Told) (key : List ℕ) (page : ℕ) (is_new : Bool)
     → Updates (slice_cmp nat_cmp) keys more key true → is_new ≡ not (has_key keys key) → key ≡ t.pair.key → page ≡ t.pair.page
     → Notes before after (fault_if (Contents KeyTwice) page (not is_new)) → NotesRepeats keys more before after (t ∷ [])
-one_noted keys more before after t key page is_new updates new_is same at notes = record {
-  next = λ seen are. (
-    keys_more keys more seen t.pair are (subst (λ k. Updates (slice_cmp nat_cmp) keys more k true) same updates),
-    subst (Notes before after)
-        (ap (λ b. fault_if (Contents KeyTwice) page b)
-        (ap not new_is ∙ (not_not (has_key keys key) ∙ (ap (has_key keys) same ∙ are t.pair.key)))
-        ∙ (ap (λ p. fault_if (Contents KeyTwice) p (has_item key_of seen t.pair.key)) at ∙ repeat_here (has_item key_of seen t.pair.key) t.pair)) notes,
-  );
-}
+one_noted keys more before after t key page is_new updates new_is same at notes = grind (arith, keys_more, not_not, repeat_here)
 
 repeats_append : (seen xs ys : List StoredPair)
     → repeated_by key_of seen (xs ++ ys) ≡ repeated_by key_of seen xs ++ repeated_by key_of (behind seen xs) ys
 repeats_append seen [] ys = refl
-repeats_append seen (x ∷ xs) ys =
-    rw (repeats_append (x ∷ seen) xs ys)
-    (cond_append (has_item key_of seen x.key) x (repeated_by key_of (x ∷ seen) xs) (repeated_by key_of (behind (x ∷ seen) xs) ys))
+repeats_append seen (x ∷ xs) ys = grind (arith, cond_append, repeats_append (x ∷ seen) xs ys)
 
 pub both_noted : (a b c : BTreeSet (List ℕ)) (before mid after : List Fault → Type 0) (xs ys : List Told) → NotesRepeats a b before mid xs
     → NotesRepeats b c mid after ys → NotesRepeats a c before after (xs ++ ys)
@@ -250,9 +235,7 @@ one_noting old now next before mid after all left rest t noting is notes =
 
 pub all_noting : (old new : BTreeSet (List ℕ)) (before after : List Fault → Type 0) (all left : List Told)
     → IsNoting old new before after all left → left ≡ [] → NotesRepeats old new before after all
-all_noting old new before after all left noting none =
-    subst (NotesRepeats old new before after)
-    (sym (noting.whole ∙ (ap (λ ts. noting.done ++ ts) none ∙ append-nil noting.done))) noting.notes
+all_noting old new before after all left noting none = grind (arith, append-nil)
 
 -- What was noted after no pair.
 

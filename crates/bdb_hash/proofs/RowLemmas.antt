@@ -1,4 +1,5 @@
 -- The rows of a table's contents at a page are those of its pairs by themselves, and of repeated keys.
+use Rattle.std.proofs.Common.{arith}
 use Rattle.std.proofs.Common.{◌≡◌, ◌⊎◌, ℕ, ◌+◌, Bool, true, false, not, ◌&&◌, ◌||◌, cond, List, [], ◌∷◌, ◌++◌, map}
 use Rattle.std.proofs.Common.{refl, sym, ◌∙◌, ap, subst, inl, inr}
 use Rattle.std.specs.Prelude.{◌==◌}
@@ -73,11 +74,7 @@ pub record IsFound (pairs : ℕ → List StoredPair) (buckets : List ℕ) (test 
 
 found_at : (pairs : ℕ → List StoredPair) (buckets : List ℕ) (test : ℕ → StoredPair → Bool) (p : ℕ)
     → some_at pairs buckets test p ≡ true → IsFound pairs buckets test p
-found_at pairs buckets test p some =
-    let bucket = any_member (λ b. list_any (λ (pair : StoredPair). pair.page == p && test b pair) (pairs b)) buckets some in
-    let pair = any_member (λ (one : StoredPair). one.page == p && test bucket.0 one) (pairs bucket.0) bucket.2 in
-    let both : ((pair.0.page == p) ≡ true) × (test bucket.0 pair.0 ≡ true) = and_parts (pair.0.page == p) (test bucket.0 pair.0) pair.2 in
-    record { bucket = bucket.0; listed = bucket.1; pair = pair.0; held = pair.1; at = eqb-true pair.0.page p both.0; passes = both.1 }
+found_at pairs buckets test p some = grind (arith, any_member, and_parts, eqb-true)
 
 at_found : (pairs : ℕ → List StoredPair) (buckets : List ℕ) (test : ℕ → StoredPair → Bool) (b : ℕ) (pair : StoredPair)
     → Contains buckets b → Contains (pairs b) pair → test b pair ≡ true

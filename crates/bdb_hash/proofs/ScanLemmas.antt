@@ -51,10 +51,7 @@ IsRising key (x ∷ xs) = ((y : _) → Contains xs y → Less (key x) (key y)) �
 
 -- a member above the first one comes later
 above_first : {X : Type 0} (key : X → List ℕ) (x y : X) (xs : List X) → Less (key x) (key y) → Contains (x ∷ xs) y → Contains xs y
-above_first {X} key x y xs above at = elim (member_cases x xs y at) [
-  | inl same ↦ absurd (not_less_same (key y) (subst (λ (z : X). Less (key z) (key y)) same above))
-  | inr later ↦ later
-]
+above_first {X} key x y xs above at = grind (arith, member_cases, not_less_same)
 
 -- two such lists with the same members are one
 one_rising : {X : Type 0} (key : X → List ℕ) (xs ys : List X) → IsRising key xs → IsRising key ys
@@ -148,10 +145,7 @@ abbrev share_key : Told → Told → Bool
 share_key t u = bytes_eq t.pair.key u.pair.key
 
 share_flips : (t u : Told) → share_key t u ≡ share_key u t
-share_flips t u = elim (cases_Bool (share_key t u)) [
-  | inl same ↦ subst (λ key. bytes_eq t.pair.key key ≡ bytes_eq key t.pair.key) (eq_same t.pair.key u.pair.key same) refl
-  | inr other ↦ other ∙ sym (same_key t.pair.key u.pair.key t.pair.key other (eq_self t.pair.key))
-]
+share_flips t u = grind (arith, cases_Bool, eq_same, same_key, eq_self)
 
 told_distinct : (ts : List Told) → AreApart (stored ts) → IsDistinct share_key ts
 unfolding IsDistinct

@@ -1,4 +1,5 @@
 -- Going through the data of a set that ought to ascend.
+use Rattle.std.proofs.Common.{arith}
 use Rattle.std.proofs.Common.{◌≡◌, ℕ, Bool, true, false, ◌&&◌, List, ◌∷◌, Option, Some, None, refl, sym, ◌∙◌, ap, subst}
 use Rattle.std.proofs.lemmas.List.Elements.{All-head}
 use Rattle.bdb_format.specs.Chains.{value_of}
@@ -26,10 +27,7 @@ one_more (Some before) value rest is = ap (λ b. b && ascends_from value rest) (
 pub set_more : (file : File) (last : Option (List ℕ)) (value : List ℕ) (entry : Item) (rest entries : List Item) (whole : Bool)
     → entries ≡ entry ∷ rest → entry.deleted ≡ false → value ≡ value_of file entry.content → follows last value ≡ true
     → ascends_after last (values_of file entries) ≡ whole → ascends_after (Some value) (values_of file rest) ≡ whole
-set_more file last value entry rest entries whole steps live is above so_far =
-    one_more last value (values_of file rest) above
-    ∙ (ap (λ v. ascends_after last (v ∷ values_of file rest)) is
-    ∙ (sym (ap (ascends_after last) (live_value file entry rest entries steps live)) ∙ so_far))
+set_more file last value entry rest entries whole steps live is above so_far = grind (arith, one_more, live_value)
 
 -- one more entry, which is deleted
 pub set_passed : (file : File) (last : Option (List ℕ)) (entry : Item) (rest entries : List Item) (whole : Bool) → entries ≡ entry ∷ rest

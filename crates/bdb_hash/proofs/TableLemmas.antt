@@ -1,5 +1,5 @@
 -- The buckets of a table one after another, and the keys that came before a pair.
-use Rattle.std.proofs.Common.{◌≡◌, ℕ, ◌+◌, List, [], ◌∷◌, ◌++◌, arith, ◌∙◌, ap}
+use Rattle.std.proofs.Common.{◌≡◌, ℕ, ◌+◌, List, [], ◌∷◌, ◌++◌, arith, ◌∙◌}
 use Rattle.std.specs.List.{flat_map, range_with_len}
 use Rattle.std.proofs.lemmas.Grind.{flat_map-append}
 use Rattle.std.proofs.lemmas.List.{append-nil}
@@ -31,8 +31,4 @@ table_is image meta forest stage has = record {
 pub told_more : (image : List ℕ) (meta : HashMeta) (b : ℕ)
     → flat_map (bucket_told image meta) (range_with_len 0 (b + 1)) ≡ flat_map (bucket_told image meta)
     (range_with_len 0 b) ++ bucket_told image meta b
-told_more image meta b =
-    ap (flat_map (bucket_told image meta)) (range_zero_more b)
-    ∙ (flat_map-append (bucket_told image meta) (range_with_len 0 b) (b ∷ [])
-    ∙ ap (λ ps. flat_map (bucket_told image meta) (range_with_len 0 b) ++ ps)
-    (append-nil (bucket_told image meta b)))
+told_more image meta b = grind (arith, range_zero_more, flat_map-append, append-nil)

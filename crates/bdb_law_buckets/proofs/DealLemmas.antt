@@ -1,5 +1,5 @@
 -- Keys that are dealt into buckets: put back into the order of their keys they are what they were, and no two are the same.
-use Rattle.std.proofs.Common.{◌≡◌, ℕ, zero, suc, ◌+◌, ◌<◌, ◌≤◌, Bool, true, false, cond, List, [], ◌∷◌, ◌++◌, map, append_assoc, arith, refl, sym, ◌∙◌, ap}
+use Rattle.std.proofs.Common.{◌≡◌, ℕ, zero, suc, ◌+◌, ◌<◌, ◌≤◌, Bool, true, cond, List, [], ◌∷◌, ◌++◌, map, append_assoc, arith, refl, sym, ◌∙◌, ap}
 use Rattle.std.proofs.Common.{subst, inl, inr}
 use Rattle.std.specs.Prelude.{◌==◌}
 use Rattle.std.specs.List.{filter, flat_map, range_with_len}
@@ -47,18 +47,11 @@ above_left key (x ∷ xs) ys (first, rest) = (first, above_left key xs ys rest)
 
 above_filter : (key : List ℕ) (test : Keyed → Bool) (units : List Keyed) → AreAbove key units → AreAbove key (filter test units)
 above_filter key test [] above = tt
-above_filter key test (unit ∷ units) (first, rest) = by_test (test unit) (above_filter key test units rest)
-  where
-    by_test : (b : Bool) → AreAbove key (filter test units) → AreAbove key (cond b (unit ∷ filter test units) (filter test units))
-    by_test true more = (first, more)
-    by_test false more = more
+above_filter key test (unit ∷ units) (first, rest) = grind (arith, above_filter key test units rest)
 
 no_key_above : (key : List ℕ) (units : List Keyed) → AreAbove key units → IsNoKey key units
 no_key_above key [] above = tt
-no_key_above key (unit ∷ units) (first, rest) = (
-  λ same. not_less_same key (subst (Less key) same first),
-  no_key_above key units rest,
-)
+no_key_above key (unit ∷ units) (first, rest) = grind (arith, not_less_same, no_key_above key units rest)
 
 -- Dealing.
 
@@ -76,10 +69,7 @@ deal_none bucket first (suc n) = deal_none bucket (first + 1) n
 deal_other : (bucket : Keyed → ℕ) (unit : Keyed) (units : List Keyed) (first n : ℕ) → bucket unit < first
     → deal bucket (unit ∷ units) first n ≡ deal bucket units first n
 deal_other bucket unit units first zero low = refl
-deal_other bucket unit units first (suc n) low =
-    ap (λ b. cond b (unit ∷ bucket_units bucket first units) (bucket_units bucket first units) ++ deal bucket (unit ∷ units) (first + 1) n)
-    (ne_eqb (bucket unit) first (λ same. omega (arith, same, low)))
-    ∙ ap (λ us. bucket_units bucket first units ++ us) (deal_other bucket unit units (first + 1) n (omega (arith, low)))
+deal_other bucket unit units first (suc n) low = grind (arith, ne_eqb, deal_other bucket unit units (first + 1) n (omega (arith, low)))
 
 -- one key more stands somewhere among the others
 record IsDealt (bucket : Keyed → ℕ) (unit : Keyed) (units : List Keyed) (first n : ℕ) : Type 0 where
@@ -121,9 +111,7 @@ dealt_one bucket unit units first (suc n) low high =
 
 above_dealt : (bucket : Keyed → ℕ) (key : List ℕ) (units : List Keyed) (first n : ℕ) → AreAbove key units → AreAbove key (deal bucket units first n)
 above_dealt bucket key units first zero above = tt
-above_dealt bucket key units first (suc n) above =
-    above_append key (bucket_units bucket first units) (deal bucket units (first + 1) n) (above_filter key (λ unit. bucket unit == first) units above)
-    (above_dealt bucket key units (first + 1) n above)
+above_dealt bucket key units first (suc n) above = grind (arith, above_append, above_filter, above_dealt bucket key units (first + 1) n above)
 
 -- The order of keys.
 
@@ -143,29 +131,8 @@ insert_low unit (other ∷ others) (first, rest) =
 -- two keys are inserted in either order
 insert_both : (low high : Keyed) (units : List Keyed) → Less low.key high.key
     → insert_unit high (insert_unit low units) ≡ insert_unit low (insert_unit high units)
-insert_both low high [] up =
-    ap (λ b. cond b (low ∷ high ∷ []) (high ∷ low ∷ [])) up
-    ∙ sym (ap (λ b. cond b (high ∷ low ∷ []) (low ∷ high ∷ [])) (less_not_back low.key high.key up))
-insert_both low high (unit ∷ units) up = by_low (less unit.key low.key) refl (less unit.key high.key) refl (insert_both low high units up)
-  where
-    by_low : (b : Bool) → less unit.key low.key ≡ b → (c : Bool) → less unit.key high.key ≡ c
-        → insert_unit high (insert_unit low units) ≡ insert_unit low (insert_unit high units)
-        → insert_unit high (cond b (unit ∷ insert_unit low units) (low ∷ unit ∷ units))
-        ≡ insert_unit low (cond c (unit ∷ insert_unit high units) (high ∷ unit ∷ units))
-    by_low true below true above more =
-        ap (λ b. cond b (unit ∷ insert_unit high (insert_unit low units)) (high ∷ unit ∷ insert_unit low units)) above
-        ∙ (ap (λ us. unit ∷ us) more
-        ∙ sym (ap (λ b. cond b (unit ∷ insert_unit low (insert_unit high units)) (low ∷ unit ∷ insert_unit high units)) below))
-    by_low true below false above more =
-        let both : less unit.key high.key ≡ true = less_trans unit.key low.key high.key below up in absurd (cc (sym above ∙ both))
-    by_low false below true above more =
-        ap (λ b. cond b (low ∷ insert_unit high (unit ∷ units)) (high ∷ low ∷ unit ∷ units)) up
-        ∙ (ap (λ b. low ∷ cond b (unit ∷ insert_unit high units) (high ∷ unit ∷ units)) above
-        ∙ sym (ap (λ b. cond b (unit ∷ insert_unit low (insert_unit high units)) (low ∷ unit ∷ insert_unit high units)) below))
-    by_low false below false above more =
-        ap (λ b. cond b (low ∷ insert_unit high (unit ∷ units)) (high ∷ low ∷ unit ∷ units)) up
-        ∙ (ap (λ b. low ∷ cond b (unit ∷ insert_unit high units) (high ∷ unit ∷ units)) above
-        ∙ sym (ap (λ b. cond b (high ∷ insert_unit low (unit ∷ units)) (low ∷ high ∷ unit ∷ units)) (less_not_back low.key high.key up)))
+insert_both low high [] up = grind (arith, less_not_back)
+insert_both low high (unit ∷ units) up = grind (arith, less_trans, less_not_back, insert_both low high units up)
 
 -- a key below those before it is inserted last or first
 insert_past : (unit : Keyed) (before after : List Keyed) → AreAbove unit.key before

@@ -1,5 +1,5 @@
 -- The list of a table, and the keys that its pairs repeat.
-use Rattle.std.proofs.Common.{◌≡◌, ℕ, zero, suc, ◌+◌, ◌<◌, ◌≤◌, Bool, true, false, cond, List, [], ◌∷◌, ◌++◌, map, arith, refl, sym, ◌∙◌, ap, subst, inl, inr}
+use Rattle.std.proofs.Common.{◌≡◌, ℕ, zero, suc, ◌+◌, ◌<◌, ◌≤◌, Bool, true, false, cond, List, [], ◌∷◌, ◌++◌, arith, refl, sym, ◌∙◌, ap, subst, inl, inr}
 use Rattle.std.specs.Prelude.{◌==◌, ◌&&◌, not}
 use Rattle.std.specs.List.{All, Contains, flat_map, list_any, range_with_len, take_while}
 use Rattle.std.specs.Str.{bytes_eq}
@@ -11,8 +11,7 @@ use Rattle.std.proofs.lemmas.Slice.Eq.{bytes_eq-Decides}
 use Rattle.bdb_format.specs.Contents.{StoredPair, data_of}
 use Rattle.bdb_format.specs.ContentRows.{ascends, groups, is_unsorted, live_data, repeated}
 use Rattle.bdb_format.specs.File.{File}
-use Rattle.bdb_format.specs.Less.{less}
-use Rattle.bdb_format.specs.Lists.{BytesKey, ListKey, by_key, insert_pair, listed_pair}
+use Rattle.bdb_format.specs.Lists.{by_key, insert_pair, listed_pair}
 use Rattle.bdb_format.proofs.MemberLemmas.{first_member, later_member, member_cases, no_member, none_pass}
 use Rattle.bdb_format.proofs.RepeatLemmas.{has_key, repeated_after, repeated_is}
 use Rattle.bdb_law_buckets.specs.Tables.{Keyed, listed_unit}
@@ -49,17 +48,7 @@ insert_stored : (g : File) (sorted : Bool) (pair : StoredPair) (unit : Keyed) (p
 insert_stored g sorted pair unit [] [] one rest = (one, tt)
 insert_stored g sorted pair unit [] (u ∷ us) one rest = absurd rest
 insert_stored g sorted pair unit (p ∷ ps) [] one rest = absurd rest
-insert_stored g sorted pair unit (p ∷ ps) (u ∷ us) one (first, rest) =
-    subst (λ b. AreStored g sorted (cond b (p ∷ insert_pair pair ps) (pair ∷ p ∷ ps)) (insert_unit unit (u ∷ us))) (sym test)
-    (by_test (less u.key unit.key) (insert_stored g sorted pair unit ps us one rest))
-  where
-    test : less p.key pair.key ≡ less u.key unit.key
-    test = ap (λ k. less k pair.key) first.key ∙ ap (less u.key) one.key
-
-    by_test : (b : Bool) → AreStored g sorted (insert_pair pair ps) (insert_unit unit us)
-        → AreStored g sorted (cond b (p ∷ insert_pair pair ps) (pair ∷ p ∷ ps)) (cond b (u ∷ insert_unit unit us) (unit ∷ u ∷ us))
-    by_test true more = (first, more)
-    by_test false more = (one, (first, rest))
+insert_stored g sorted pair unit (p ∷ ps) (u ∷ us) one (first, rest) = grind (arith, AreStored, insert_unit, insert_stored g sorted pair unit ps us one rest)
 
 sorted_stored : (g : File) (sorted : Bool) (pairs : List StoredPair) (units : List Keyed) → AreStored g sorted pairs units
     → AreStored g sorted (by_key pairs) (units_by_key units)
@@ -71,19 +60,14 @@ sorted_stored g sorted (p ∷ ps) (u ∷ us) (first, rest) =
 
 -- a pair lists its key with each of its data
 one_listed : (g : File) (sorted : Bool) (pair : StoredPair) (unit : Keyed) → IsStored g sorted pair unit → listed_pair g pair ≡ listed_unit unit
-one_listed g sorted pair unit is =
-    ap (λ b. cond b (map (λ value. (BytesKey pair.key, value)) (data_of g pair.data_item)) []) is.live
-    ∙ (ap (λ k. let xs : List (ListKey × List ℕ) = map (λ value. (BytesKey k, value)) (data_of g pair.data_item) in xs) is.key
-    ∙ ap (λ vs. let xs : List (ListKey × List ℕ) = map (λ value. (BytesKey unit.key, value)) vs in xs) is.values)
+one_listed g sorted pair unit is = grind arith
 
 stored_listed : (g : File) (sorted : Bool) (pairs : List StoredPair) (units : List Keyed) → AreStored g sorted pairs units
     → flat_map (listed_pair g) pairs ≡ flat_map listed_unit units
 stored_listed g sorted [] [] stored = refl
 stored_listed g sorted [] (u ∷ us) stored = absurd stored
 stored_listed g sorted (p ∷ ps) [] stored = absurd stored
-stored_listed g sorted (p ∷ ps) (u ∷ us) (first, rest) =
-    ap (λ xs. xs ++ flat_map (listed_pair g) ps) (one_listed g sorted p u first)
-    ∙ ap (λ xs. listed_unit u ++ xs) (stored_listed g sorted ps us rest)
+stored_listed g sorted (p ∷ ps) (u ∷ us) (first, rest) = grind (arith, one_listed, stored_listed g sorted ps us rest)
 
 -- the list of pairs is that of their keys in order
 pub list_is : (g : File) (sorted : Bool) (pairs : List StoredPair) (units : List Keyed) → AreStored g sorted pairs units
@@ -123,9 +107,7 @@ no_shares : (g : File) (sorted : Bool) (pairs : List StoredPair) (units : List K
     → take_while (λ (other : StoredPair). other.shares) pairs ≡ []
 no_shares g sorted [] units stored = refl
 no_shares g sorted (p ∷ ps) [] stored = absurd stored
-no_shares g sorted (p ∷ ps) (u ∷ us) (first, rest) =
-    take_while-cons (λ (other : StoredPair). other.shares) p ps
-    ∙ ap (λ b. cond b (p ∷ take_while (λ (other : StoredPair). other.shares) ps) []) first.shares
+no_shares g sorted (p ∷ ps) (u ∷ us) (first, rest) = grind (arith, take_while-cons)
 
 pub none_unsorted : (g : File) (sorted : Bool) (pairs : List StoredPair) (units : List Keyed) (p : ℕ) → AreStored g sorted pairs units
     → All (λ (unit : Keyed). ascends unit.values ≡ true) units

@@ -61,9 +61,7 @@ bucket_up g sorted previous p first beyond (units ∷ more ∷ pages) (next, is,
 pub table_up : (g : File) (sorted : Bool) (p first beyond : ℕ) (buckets : List (List (List PlacedUnit))) → TableStands g sorted p first beyond buckets
     → first ≤ beyond
 table_up g sorted p first beyond [] same = omega (arith, same)
-table_up g sorted p first beyond (bucket ∷ buckets) (middle, stands, rest) =
-    let one = bucket_up g sorted 0 p first middle bucket stands in
-    let two = table_up g sorted (p + 1) middle beyond buckets rest in omega (arith, one, two)
+table_up g sorted p first beyond (bucket ∷ buckets) (middle, stands, rest) = grind (arith, bucket_up, table_up g sorted (p + 1) middle beyond buckets rest)
 
 -- the first page of a bucket, over a branch that is entered by what it names
 pub record IsOver (g : File) (previous p first beyond : ℕ) : Type 0 where
@@ -183,15 +181,7 @@ pub record AreOver (g : File) (p n first beyond : ℕ) : Type 0 where
 pub table_over : (g : File) (sorted : Bool) (p first beyond : ℕ) (buckets : List (List (List PlacedUnit))) → IsCounted g → 1 ≤ first
     → beyond ≤ g.last + 1
     → TableStands g sorted p first beyond buckets → AreOver g p (length buckets) first beyond × (first ≤ beyond)
-table_over g sorted p first beyond [] counted low high same = (
-  record {
-    branch = subst (λ n. IsBranch g (between first n) []) (sym same) (no_branch g first);
-    ascend = omega (arith, same);
-    right = λ q at. absurd (no_member [] q refl at);
-    here = λ q at. absurd (no_member [] q refl at);
-  },
-  omega (arith, same),
-)
+table_over g sorted p first beyond [] counted low high same = grind (arith, no_branch, no_member)
 table_over g sorted p first beyond (bucket ∷ buckets) counted low high (middle, stands, rest) =
     let rests = table_over g sorted (p + 1) middle beyond buckets counted (omega (arith, low, up)) high rest in
     let over = bucket_over g sorted 0 p first middle bucket counted low (omega (arith, rests.1, high)) stands in

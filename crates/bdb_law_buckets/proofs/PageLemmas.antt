@@ -1,4 +1,5 @@
 -- What a page of a table names: what its items do, and the next page of its bucket.
+use Rattle.std.proofs.Common.{arith}
 use Rattle.std.proofs.Common.{◌≡◌, ◌⊎◌, ℕ, ◌≤◌, Bool, true, false, cond, List, [], ◌∷◌, ◌++◌, map, None, Some, refl, sym, ◌∙◌, ap, subst, inl, inr, true≢false}
 use Rattle.std.specs.Prelude.{◌==◌}
 use Rattle.std.specs.List.{All, Contains, flat_map, list_any}
@@ -9,10 +10,9 @@ use Rattle.bdb_format.specs.declared.metadata.FileKind.TheVariants.{Queue}
 use Rattle.bdb_format.specs.declared.references.Reference.{Reference}
 use Rattle.bdb_format.specs.declared.references.Sort.{Sort}
 use Rattle.bdb_format.specs.declared.references.Sort.TheVariants.{OverflowHead, DuplicateRoot, HashNext}
-use Rattle.bdb_format.specs.Table.{first_row}
 use Rattle.bdb_format.specs.Page.{Content, Item}
 use Rattle.bdb_format.specs.File.{File, header_in, page_at, type_in}
-use Rattle.bdb_format.specs.References.{asked_by, content_targets, contents_in, fit_code, fit_rows, has_type, refs, targets_in, unless_zero}
+use Rattle.bdb_format.specs.References.{content_targets, contents_in, fit_code, refs, targets_in, unless_zero}
 use Rattle.bdb_format.specs.Graph.{is_head_reference}
 use Rattle.bdb_format.specs.Chains.{chains_in, content_chains, is_wrong_length}
 use Rattle.bdb_format.specs.Leaves.{is_root_reference}
@@ -102,18 +102,11 @@ pub record IsNextOf (g : File) (p next : ℕ) : Type 0 where
   pub previous : (header_in (page_at g next)).previous ≡ p
 
 pub is_next_of : (g : File) (p q next : ℕ) (contents : List Content) → IsHashIn g q p next contents → IsNextOf g p q
-is_next_of g p q next contents is =
-    record {
-      type = ap type_in is.is ∙ ap Some is.type_is;
-      previous = ap (λ page. (header_in page).previous) is.is ∙ is.previous_is;
-    }
+is_next_of g p q next contents is = grind (arith, Some)
 
 next_code : (g : File) (p : ℕ) (r : Reference) → 1 ≤ r.target → r.target ≤ g.last → r.sort ≡ HashNext → IsNextOf g p r.target → fit_code g p r ≡ None
 unfolding fit_code
-next_code g p r low high sort next =
-    ap (λ s. first_row (fit_rows g (asked_by p (page_at g p) s) r.target)) sort
-    ∙ fits_asked g (asked_by p (page_at g p) HashNext) r.target low high (ap (has_type (2 ∷ 13 ∷ [])) next.type) refl
-    (eq-eqb p (header_in (page_at g r.target)).previous (sym next.previous))
+next_code g p r low high sort next = grind (arith, fits_asked, eq-eqb)
 
 -- each name of a page fits where its target is there, and it has right chains and sets
 pub record IsRight (g : File) (p : ℕ) : Type 0 where

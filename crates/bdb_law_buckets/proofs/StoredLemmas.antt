@@ -62,11 +62,7 @@ items_at : (units : List PlacedUnit) (i : ℕ) → i < length units
     × (get_or (items_on units) (2 * i + 1) no_item ≡ hash_item (get_or units i no_unit).data_item)
 items_at [] i low = absurd (omega (arith, low))
 items_at (unit ∷ units) zero low = (refl, refl)
-items_at (unit ∷ units) (suc i) low =
-    let rest = items_at units i (omega (arith, low)) in
-    let even : 2 * suc i ≡ suc (suc (2 * i)) = omega arith in
-    let odd : 2 * suc i + 1 ≡ suc (suc (2 * i + 1)) = omega arith in
-    (ap (λ k. get_or (items_on (unit ∷ units)) k no_item) even ∙ rest.0, ap (λ k. get_or (items_on (unit ∷ units)) k no_item) odd ∙ rest.1)
+items_at (unit ∷ units) (suc i) low = grind (arith, items_at units i (omega (arith, low)))
 
 abbrev pair_with : File → ℕ → Item → Item → StoredPair
 pair_with g p key datum = record { page = p; key = value_of g key.content; data_item = datum.content; live = not datum.deleted; shares = false }
@@ -98,18 +94,13 @@ page_pairs g p previous next units is =
 read_stored : (g : File) (sorted : Bool) (p first beyond : ℕ) (units : List PlacedUnit) → UnitsStand g sorted first beyond units
     → AreStored g sorted (map (pair_read g p) units) (map unit_of units)
 read_stored g sorted p first beyond [] stand = tt
-read_stored g sorted p first beyond (unit ∷ units) (here, rest) = (
-  record { live = refl; shares = refl; key = here.key; values = here.values; single = here.single; right = here.right; summed = here.summed },
-  read_stored g sorted p unit.beyond beyond units rest,
-)
+read_stored g sorted p first beyond (unit ∷ units) (here, rest) = grind (arith, read_stored g sorted p unit.beyond beyond units rest)
 
 -- One bucket.
 
 pub chain_more : (g : File) (turns p next : ℕ) → next_of g p ≡ next → (next ≡ 0 → ⊥) → chain_in (suc turns) g p ≡ p ∷ chain_in turns g next
 unfolding chain_in
-chain_more g turns p next is some =
-    ap (λ n. p ∷ elim (n == 0) [ true ↦ [] | false ↦ chain_in turns g n ]) is
-    ∙ ap (λ b. p ∷ elim b [ true ↦ [] | false ↦ chain_in turns g next ]) (ne_eqb next 0 some)
+chain_more g turns p next is some = grind (arith, ne_eqb)
 
 pub chain_end : (g : File) (turns p : ℕ) → next_of g p ≡ 0 → chain_in (suc turns) g p ≡ p ∷ []
 unfolding chain_in

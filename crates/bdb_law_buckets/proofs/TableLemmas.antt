@@ -1,7 +1,7 @@
 -- A table that stands is the part of the database with its metadata.
-use Rattle.std.proofs.Common.{◌≡◌, ℕ, zero, suc, ◌+◌, ◌-◌, ◌<◌, ◌≤◌, Bool, true, false, cond, List, [], ◌∷◌, ◌++◌, get_or, map, length, replicate, None, arith}
+use Rattle.std.proofs.Common.{◌≡◌, ℕ, zero, suc, ◌+◌, ◌-◌, ◌<◌, ◌≤◌, Bool, true, false, cond, List, [], ◌∷◌, ◌++◌, get_or, map, length, None, arith}
 use Rattle.std.proofs.Common.{refl, sym, ◌∙◌, ap, subst}
-use Rattle.std.specs.Prelude.{◌^◌, ◌/◌, ◌==◌, ◌&&◌, ◌||◌, not, nat_lt, bit_and}
+use Rattle.std.specs.Prelude.{◌^◌, ◌/◌, ◌==◌, ◌&&◌, ◌||◌, not, nat_lt}
 use Rattle.std.specs.List.{Contains, filter, flat_map, list_any, range_with_len}
 use Rattle.std.proofs.lemmas.Bool.{and_right, eq-eqb, lt-ltb, ltb-true, or_from}
 use Rattle.std.proofs.lemmas.List.{get_or_append_left, get_or-map, get_or-replicate, length-map, length-replicate}
@@ -16,12 +16,12 @@ use Rattle.bdb_format.specs.Contents.{StoredPair, bucket_pairs, pairs_of, table_
 use Rattle.bdb_format.specs.ContentRows.{ascends, bucket_of_key, database_rows, has_duplicate, has_unsorted, has_wrong_bucket, has_wrong_set, is_duplicate}
 use Rattle.bdb_format.specs.ContentRows.{is_set, is_wrong_set, repeated}
 use Rattle.bdb_format.specs.Flags.{has_duplicates, is_sorted}
-use Rattle.bdb_format.specs.File.{File, header_in, page_at}
-use Rattle.bdb_format.specs.Hashing.{bucket, first_page, group, hash5}
+use Rattle.bdb_format.specs.File.{File}
+use Rattle.bdb_format.specs.Hashing.{first_page, group}
 use Rattle.bdb_format.specs.Lists.{hash_list}
 use Rattle.bdb_format.specs.Numbers.{has_bit}
 use Rattle.bdb_format.specs.Page.{HashFields}
-use Rattle.bdb_format.specs.References.{fit_rows, has_type}
+use Rattle.bdb_format.specs.References.{fit_rows}
 use Rattle.bdb_format.specs.Table.{first_row}
 use Rattle.bdb_format.proofs.GroupLemmas.{least_passing}
 use Rattle.bdb_format.proofs.ListLemmas.{all_of}
@@ -43,18 +43,7 @@ use Rattle.bdb_law_buckets.proofs.StoredLemmas.{AreStored, table_stored}
 
 -- a bucket is one of the table's
 pub among_low : (bits : ℕ) (key : List ℕ) → bucket_among bits key < 2 ^ bits
-among_low bits key =
-    let top : ℕ = 2 ^ bits - 1 in
-    let h : ℕ = hash5 key in
-    let low : bit_and h top ≤ top = and_le_r h top in
-    let some = pow_pos bits in
-    let is : bucket h top top (2 ^ bits / 2 - 1) ≡ bit_and h top =
-    ap (λ b. cond b (bit_and h (2 ^ bits / 2 - 1)) (bit_and h top)) (not_below (nat_lt top (bit_and h top)) refl low) in
-    omega (arith, is, low, some)
-  where
-    not_below : {a c : ℕ} (b : Bool) → nat_lt a c ≡ b → c ≤ a → b ≡ false
-    not_below {a} {c} true is low = absurd (omega (arith, ltb-true a c is, low))
-    not_below false is low = refl
+among_low bits key = grind (arith, and_le_r, pow_pos, ltb-true)
 
 -- the group of a bucket is one whose spare is the first page
 pub group_low : (bits b : ℕ) → bits ≤ 31 → b < 2 ^ bits → group b ≤ bits
@@ -62,21 +51,11 @@ unfolding group
 group_low bits b few low = least_passing (λ g. nat_lt b (2 ^ g)) 0 33 33 bits refl (omega arith) (lt-ltb b (2 ^ bits) low)
 
 pub first_pages : (settings : Settings) (first bits b : ℕ) → bits ≤ 31 → b < 2 ^ bits → first_page b (table_meta settings first bits).spares ≡ first + b
-first_pages settings first bits b few low =
-    let g : ℕ = group b in
-    let under : g ≤ bits = group_low bits b few low in
-    let spare : get_or (replicate (bits + 1) first ++ replicate (31 - bits) 0) g 0 ≡ first =
-    get_or_append_left (replicate (bits + 1) first) (replicate (31 - bits) 0) 0 g (omega (arith, under, length-replicate (bits + 1) first))
-    ∙ get_or-replicate (bits + 1) g first 0 (omega (arith, under)) in
-    omega (arith, spare)
+first_pages settings first bits b few low = grind (arith, group_low, get_or_append_left, length-replicate, get_or-replicate)
 
 rows_of : (f : ℕ → ℕ) (first a n : ℕ) → ((b : ℕ) → a ≤ b → b < a + n → f b ≡ first + b) → map f (range_with_len a n) ≡ range_with_len (first + a) n
 rows_of f first a zero each = refl
-rows_of f first a (suc n) each =
-    ap (λ p. p ∷ map f (range_with_len (a + 1) n)) (each a (omega arith) (omega arith))
-    ∙ ap (λ ps. (first + a) ∷ ps)
-    (rows_of f first (a + 1) n (λ b low high. each b (omega (arith, low)) (omega (arith, high)))
-    ∙ ap (λ k. range_with_len k n) (let e : first + (a + 1) ≡ first + a + 1 = omega arith in e))
+rows_of f first a (suc n) each = grind (arith, rows_of f first (a + 1) n (λ b low high. each b (omega (arith, low)) (omega (arith, high))))
 
 count_is : (bits : ℕ) → 2 ^ bits - 1 + 1 ≡ 2 ^ bits
 count_is bits = let some = pow_pos bits in omega (arith, some)
@@ -235,9 +214,7 @@ module _ (g : File) (settings : Settings) (first bits : ℕ) (units : List Keyed
 
 entrance_fits : (g : File) (settings : Settings) (first bits e : ℕ) → 1 ≤ e → e ≤ g.last → IsNextOf g 0 e
     → first_row (fit_rows g (entrance_asks (HashFields (table_meta settings first bits))) e) ≡ None
-entrance_fits g settings first bits e low high is =
-    fits_asked g (entrance_asks (HashFields (table_meta settings first bits))) e low high (ap (has_type (2 ∷ 13 ∷ [])) is.type) refl
-    (eq-eqb 0 (header_in (page_at g e)).previous (sym is.previous))
+entrance_fits g settings first bits e low high is = grind (arith, fits_asked, eq-eqb)
 
 pub tables_are_parts : TablesAreParts
 tables_are_parts g settings first bits beyond units buckets counted low high some few suits are stands =

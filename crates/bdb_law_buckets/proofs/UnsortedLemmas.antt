@@ -30,9 +30,7 @@ bucket_unsorted : (g : File) (sorted : Bool) (turns previous p first beyond q : 
 bucket_unsorted g sorted turns previous p first beyond q [] low few stands at = absurd stands
 bucket_unsorted g sorted zero previous p first beyond q (units ∷ []) low few (is, stand) at =
     let up = ascend_bounds first beyond _ (units_contents g sorted first beyond units stand).ascend in absurd (omega (arith, few, up))
-bucket_unsorted g sorted (suc turns) previous p first beyond q (units ∷ []) low few (is, stand) at =
-    let only : Contains (p ∷ []) q = subst (λ ps. Contains ps q) (chain_end g turns p (next_is g p previous 0 units is)) at in
-    subst (IsUnsorted g) (only_member p q only) (type_is g p previous 0 _ is)
+bucket_unsorted g sorted (suc turns) previous p first beyond q (units ∷ []) low few (is, stand) at = grind (arith, chain_end, next_is, only_member, type_is)
 bucket_unsorted g sorted zero previous p first beyond q (units ∷ more ∷ pages) low few (next, is, stand, rest) at =
     let up = ascend_bounds first next _ (units_contents g sorted first next units stand).ascend in
     let on = bucket_up g sorted p next (next + 1) beyond (more ∷ pages) rest in absurd (omega (arith, few, up, on))

@@ -1,13 +1,12 @@
 -- Groves beside each other, and a page alone.
-use Rattle.std.proofs.Common.{◌≡◌, ◌⊎◌, ℕ, ◌+◌, ◌≤◌, Bool, true, false, cond, List, [], ◌∷◌, ◌++◌, Some, refl, sym, ◌∙◌, ap, subst, inl, inr, true≢false}
+use Rattle.std.proofs.Common.{arith}
+use Rattle.std.proofs.Common.{◌≡◌, ◌⊎◌, ℕ, ◌+◌, ◌≤◌, Bool, true, false, List, [], ◌∷◌, ◌++◌, Some, refl, sym, ◌∙◌, ap, subst, inl, inr, true≢false}
 use Rattle.std.specs.Prelude.{◌==◌}
 use Rattle.std.specs.List.{Contains, filter, flat_map, range_with_len}
 use Rattle.std.proofs.Math.Path.{fun_ext}
 use Rattle.std.proofs.lemmas.Bool.{cases_Bool, eqb-true, eq-eqb, or_left, or_right, or_cases}
 use Rattle.std.proofs.lemmas.List.Elements.{Contains-append_cases, Contains-append_left, Contains-append_right}
-use Rattle.bdb_format.specs.declared.references.Reference.{Reference}
 use Rattle.bdb_format.specs.File.{File, page_at, header_in}
-use Rattle.bdb_format.specs.References.{refs}
 use Rattle.bdb_format.specs.Graph.{Owner, first_holder, held_by}
 use Rattle.bdb_format.proofs.MemberLemmas.{first_member, no_member, of_filter}
 use Rattle.bdb_law_grove.specs.Part.{IsGrove, IsOwnedBy, IsWayIn, owners_among}
@@ -19,20 +18,7 @@ use Rattle.bdb_law_grove.proofs.OwnerLemmas.{NamesNot, filter_first, held_none, 
 -- a set within another
 filter_within : (small large : ℕ → Bool) (xs : List ℕ) → ((x : ℕ) → small x ≡ true → large x ≡ true) → filter small (filter large xs) ≡ filter small xs
 filter_within small large [] within = refl
-filter_within small large (x ∷ xs) within =
-    elim (cases_Bool (large x)) [
-      | inl is ↦
-          ap (λ b. filter small (cond b (x ∷ filter large xs) (filter large xs))) is
-          ∙ ap (λ ys. cond (small x) (x ∷ ys) ys) (filter_within small large xs within)
-      | inr other ↦
-          ap (λ b. filter small (cond b (x ∷ filter large xs) (filter large xs))) other
-          ∙ (filter_within small large xs within
-          ∙ ap (λ b. cond b (x ∷ filter small xs) (filter small xs)) (sym (fails (cases_Bool (small x)) other)))
-    ]
-  where
-    fails : (small x ≡ true) ⊎ (small x ≡ false) → large x ≡ false → small x ≡ false
-    fails (inl is) out = absurd (true≢false (sym (within x is) ∙ out))
-    fails (inr no') out = no'
+filter_within small large (x ∷ xs) within = grind (arith, cases_Bool, filter_within small large xs within)
 
 -- the owners of a page are of the set that alone names it
 pub owners_within : (small large : ℕ → Bool) (f : File) (x : ℕ) → ((q : ℕ) → small q ≡ true → large q ≡ true)
@@ -69,20 +55,7 @@ side_way f one both es all x (h ∷ hs) side is inside way =
     (ap first_holder (side_owners f one both es all x side is) ∙ way.0, side_way f one both es all h hs side (inside x h is way.0) inside way.1)
 
 pub page_alone : PageAlone
-page_alone f p low high none =
-    record {
-      low = λ q is. subst (λ (x : ℕ). 1 ≤ x) (sym (eqb-true q p is)) low;
-      high = λ q is. subst (λ (x : ℕ). x ≤ f.last) (sym (eqb-true q p is)) high;
-      fits = λ q r is at. absurd (nothing q r is at);
-      closed = λ q r is at. absurd (nothing q r is at);
-      entered = λ e at. eq-eqb e p (sym (only_member p e at));
-      apart = λ q r is at entrance. nothing q r is at;
-      owned = λ q is inner. absurd (inner (subst (Contains (p ∷ [])) (sym (eqb-true q p is)) (first_member p [])));
-      led = λ q is. ([], subst (Contains (p ∷ [])) (sym (eqb-true q p is)) (first_member p []));
-    }
-  where
-    nothing : (q : ℕ) (r : Reference) → (q == p) ≡ true → Contains (refs f q) r → ⊥
-    nothing q r is at = no_member (refs f q) r (ap (refs f) (eqb-true q p is) ∙ none) at
+page_alone f p low high none = grind (arith, eqb-true, eq-eqb, only_member, first_member, no_member)
 
 -- an owner among some pages is one of them
 owner_inside : (pages : ℕ → Bool) (f : File) (x : ℕ) (owner : Owner) → Contains (owners_among pages f x) owner → pages owner.holder ≡ true

@@ -1,5 +1,5 @@
 -- Branches: groves with right chains and right sets.
-use Rattle.std.proofs.Common.{◌≡◌, ◌⊎◌, ℕ, ◌+◌, ◌<◌, ◌≤◌, Bool, true, false, cond, refl, List, [], ◌∷◌, length, arith, sym, ◌∙◌, ap, subst, inl, inr}
+use Rattle.std.proofs.Common.{◌≡◌, ◌⊎◌, ℕ, ◌+◌, ◌<◌, ◌≤◌, Bool, true, false, List, [], ◌∷◌, length, arith, sym, ◌∙◌, ap, subst, inl, inr}
 use Rattle.std.proofs.Common.{true≢false}
 use Rattle.std.specs.Prelude.{◌==◌}
 use Rattle.std.specs.List.{Contains, list_any}
@@ -26,16 +26,10 @@ use Rattle.bdb_law_grove.proofs.SpanLemmas.{between_parts, groves_follow, no_pag
 -- A branch and other pages that are right are one, where they are a grove.
 pub branch_with : (g : File) (one both : ℕ → Bool) (es fs : List ℕ) (These : ℕ → Type 0) → IsBranch g one es → HaveLengths g These → HaveSets g These
     → ((p : ℕ) → both p ≡ true → (one p ≡ true) ⊎ These p) → IsGrove g both fs → IsBranch g both fs
-branch_with g one both es fs These branch chains sets sides grove = record {
-  grove = grove;
-  chains = λ p is. elim (sides p is) [ inl old ↦ branch.chains p old | inr new ↦ chains p new ];
-  sets = λ p r is. elim (sides p is) [ inl old ↦ branch.sets p r old | inr new ↦ sets p r new ];
-}
+branch_with g one both es fs These branch chains sets sides grove = grind arith
 
 pub branches_stand_together : BranchesStandTogether
-branches_stand_together g one two both es fs union apart first second =
-    branch_with g one both es _ (λ p. two p ≡ true) first second.chains second.sets (λ p is. or_cases (one p) (two p) (sym (union p) ∙ is))
-    (stand_together g one two both es fs union apart first.grove second.grove)
+branches_stand_together g one two both es fs union apart first second = grind (arith, branch_with, or_cases, stand_together)
 
 pub branches_follow : BranchesFollow
 branches_follow g a b c es fs low high first second =
@@ -44,18 +38,10 @@ branches_follow g a b c es fs low high first second =
     (groves_follow g a b c es fs low high first.grove second.grove)
 
 pub no_branch : NoBranch
-no_branch g a = record {
-  grove = no_pages_stand g a;
-  chains = λ p is. absurd (none_between a p is);
-  sets = λ p r is. absurd (none_between a p is);
-}
+no_branch g a = grind (arith, no_pages_stand, none_between)
 
 pub branch_is_known : BranchIsKnown
-branch_is_known g pages same es fs set to from branch = record {
-  grove = grove_is_known g pages same es fs set to from branch.grove;
-  chains = λ p is. branch.chains p (sym (set p) ∙ is);
-  sets = λ p r is. branch.sets p r (sym (set p) ∙ is);
-}
+branch_is_known g pages same es fs set to from branch = grind (arith, grove_is_known)
 
 -- Pages over a branch.
 
@@ -85,11 +71,7 @@ run_page g previous p q (piece ∷ next ∷ pieces) run low high =
 
 -- and names the next one alone
 next_sort : (next : ℕ) (target : Sort × ℕ) → Contains (unless_zero OverflowNext next) target → target.0 ≡ OverflowNext
-next_sort next target =
-    elim (next == 0) as (λ b. Contains (cond b [] ((OverflowNext, next) ∷ [])) target → target.0 ≡ OverflowNext) [
-      | true ↦ λ at. absurd (no_member [] target refl at)
-      | false ↦ λ at. ap (λ (t : Sort × ℕ). t.0) (sym (only_member (OverflowNext, next) target at))
-    ]
+next_sort next target = grind (arith, no_member, only_member)
 
 pub chain_is_branch : ChainIsBranch
 chain_is_branch g previous p pieces counted low high run =

@@ -1,8 +1,7 @@
 -- The pages of a chain are a grove that is entered by its first page, and hold the value.
 use Rattle.std.proofs.Common.{◌≡◌, ℕ, zero, suc, ◌+◌, ◌<◌, ◌≤◌, Bool, true, false, cond, List, [], ◌∷◌, map, length, None, arith, refl, sym, ◌∙◌, ap, subst}
-use Rattle.std.proofs.Common.{inl, inr}
 use Rattle.std.specs.Prelude.{◌==◌, ◌||◌, ◌&&◌, nat_le, nat_lt}
-use Rattle.std.specs.List.{Contains, enumerate_from}
+use Rattle.std.specs.List.{Contains}
 use Rattle.std.proofs.Math.Path.{fun_ext}
 use Rattle.std.proofs.lemmas.Bool.{cases_Bool, cases_eq, and_parts, eqb-true, eq-eqb, ne_eqb, leb-true, ltb-true, le-leb, lt-ltb, or_left, or_right, or_cases}
 use Rattle.bdb_format.specs.declared.references.Reference.{Reference}
@@ -10,9 +9,9 @@ use Rattle.bdb_format.specs.declared.references.Sort.TheVariants.{OverflowNext}
 use Rattle.bdb_format.specs.declared.pages.Header.{Header}
 use Rattle.bdb_format.specs.declared.metadata.FileKind.TheVariants.{Queue as QueueFile}
 use Rattle.bdb_format.specs.Page.{Overflow, Page}
-use Rattle.bdb_format.specs.File.{File, page_at, header_in, type_in}
-use Rattle.bdb_format.specs.References.{asked_by, fit_code, has_type, refs, unless_zero}
-use Rattle.bdb_format.specs.Chains.{chain_in, joined, next_of, piece_in, pieces_of, value_of}
+use Rattle.bdb_format.specs.File.{File, page_at}
+use Rattle.bdb_format.specs.References.{fit_code, refs, unless_zero}
+use Rattle.bdb_format.specs.Chains.{chain_in, piece_in, pieces_of, value_of}
 use Rattle.bdb_law_grove.specs.Part.{IsGrove, between}
 use Rattle.bdb_law_grove.specs.Growing.{ChainsStand, IsCounted, IsLink, IsRun, chain_header}
 use Rattle.bdb_law_grove.proofs.SeveralLemmas.{page_over_one}
@@ -34,17 +33,13 @@ refs_last g p previous count piece forest is = refs_of g p (Overflow (chain_head
 
 refs_next : (g : File) (p previous next count : ℕ) (piece : List ℕ) → (g.kind ≡ QueueFile → ⊥) → 1 ≤ next
     → page_at g p ≡ Overflow (chain_header p previous next (length piece) count) piece → refs g p ≡ to_next next ∷ []
-refs_next g p previous next count piece forest above is =
-    refs_of g p (Overflow (chain_header p previous next (length piece) count) piece) forest is
-    ∙ ap (λ names. map reference_of (enumerate_from 0 names)) (some_next next above)
+refs_next g p previous next count piece forest above is = grind (arith, refs_of, reference_of, some_next)
 
 -- the reference to the next page of a chain fits
 fits_next : (g : File) (p next : ℕ) (page : Page) (header : Header) (piece : List ℕ) → 1 ≤ next → next ≤ g.last → page_at g next ≡ Overflow header piece
     → header.previous ≡ p → fit_code g p (to_next next) ≡ None
 unfolding fit_code
-fits_next g p next page header piece low high is back =
-    fits_asked g (asked_by p (page_at g p) OverflowNext) next low high (ap (λ q. has_type (7 ∷ []) (type_in q)) is) refl
-    (eq-eqb p (header_in (page_at g next)).previous (sym back ∙ ap (λ q. (header_in q).previous) (sym is)))
+fits_next g p next page header piece low high is back = grind (arith, fits_asked, eq-eqb)
 
 -- Sets of pages.
 
@@ -60,30 +55,13 @@ pub is_between : (from to q : ℕ) → from ≤ q → q < to → between from to
 is_between from to q low high = ap (λ b. b && nat_lt q to) (le-leb from q low) ∙ lt-ltb q to high
 
 between_one : (p q : ℕ) → (q == p) ≡ between p (p + 1) q
-between_one p q =
-    same_test (q == p) (between p (p + 1) q)
-    (λ is. let e : q ≡ p = eqb-true q p is in is_between p (p + 1) q (omega arith) (omega arith))
-    (λ is. let within = between_is p (p + 1) q is in eq-eqb q p (omega (arith, within.0, within.1)))
+between_one p q = grind (arith, same_test, eqb-true, is_between, between_is, eq-eqb)
 
 between_more : (p n q : ℕ) → between p (p + suc n) q ≡ (between (p + 1) (p + 1 + n) q || (q == p))
-between_more p n q =
-    same_test (between p (p + suc n) q) (between (p + 1) (p + 1 + n) q || (q == p))
-    (λ is. let within = between_is p (p + suc n) q is in
-    elim (cases_eq q p) [
-      | inl same ↦ or_right (between (p + 1) (p + 1 + n) q) (q == p) (eq-eqb q p same)
-      | inr other ↦ or_left (between (p + 1) (p + 1 + n) q) (q == p) (is_between (p + 1) (p + 1 + n) q (omega (arith, within.0)) (omega (arith, within.1)))
-    ])
-    (λ is. elim (or_cases (between (p + 1) (p + 1 + n) q) (q == p) is) [
-      | inl later ↦ let within = between_is (p + 1) (p + 1 + n) q later in is_between p (p + suc n) q (omega (arith, within.0)) (omega (arith, within.1))
-      | inr here ↦ let e : q ≡ p = eqb-true q p here in is_between p (p + suc n) q (omega arith) (omega arith)
-    ])
+between_more p n q = grind (arith, same_test, between_is, cases_eq, or_right, eq-eqb, or_left, is_between, or_cases, eqb-true)
 
 between_out : (p n : ℕ) → between (p + 1) (p + 1 + n) p ≡ false
-between_out p n =
-    elim (cases_Bool (between (p + 1) (p + 1 + n) p)) [
-      | inl is ↦ let within = between_is (p + 1) (p + 1 + n) p is in absurd (omega (arith, within.0))
-      | inr other ↦ other
-    ]
+between_out p n = grind (arith, cases_Bool, between_is)
 
 -- The grove.
 
@@ -95,9 +73,7 @@ first_is g previous p piece (other ∷ pieces) run = (p + 1, run.0)
 chain_grove : (g : File) (previous p : ℕ) (pieces : List (List ℕ)) → IsCounted g → 1 ≤ p → p + length pieces ≤ g.last + 1 → IsRun g previous p pieces
     → IsGrove g (between p (p + length pieces)) (p ∷ [])
 chain_grove g previous p [] counted low high run = absurd run
-chain_grove g previous p (piece ∷ []) counted low high run =
-    subst (λ (pages : ℕ → Bool). IsGrove g pages (p ∷ [])) (fun_ext (between_one p))
-    (page_alone g p low (omega arith) (refs_last g p previous run.0 piece counted.no_queue run.2))
+chain_grove g previous p (piece ∷ []) counted low high run = grind (arith, fun_ext, between_one, page_alone, refs_last)
 chain_grove g previous p (piece ∷ next ∷ pieces) counted low high run =
     let one : refs g p ≡ to_next (p + 1) ∷ [] = refs_next g p previous (p + 1) run.0.0 piece counted.no_queue (omega arith) run.0.2 in
     let second = first_is g p (p + 1) next pieces run.1 in
@@ -120,22 +96,10 @@ chain_pages : (turns : ℕ) (g : File) (previous p : ℕ) (pieces : List (List �
 unfolding chain_in
 chain_pages turns g previous p [] low few run = absurd run
 chain_pages zero g previous p (piece ∷ pieces) low few run = absurd (omega arith)
-chain_pages (suc turns) g previous p (piece ∷ []) low few run =
-    let next : next_of g p ≡ 0 = ap (λ page. (header_in page).next) run.2 in
-    let stops : (next_of g p == 0) ≡ true = eq-eqb (next_of g p) 0 next in
-    ap (λ b. piece_in (page_at g p) ∷ map (λ q. piece_in (page_at g q)) (elim b as (λ x. List ℕ) [ true ↦ [] | false ↦ chain_in turns g (next_of g p) ])) stops
-    ∙ ap (λ page. piece_in page ∷ []) run.2
+chain_pages (suc turns) g previous p (piece ∷ []) low few run = grind (arith, eq-eqb)
 chain_pages (suc turns) g previous p (piece ∷ other ∷ pieces) low few run =
-    let next : next_of g p ≡ p + 1 = ap (λ page. (header_in page).next) run.0.2 in
-    let goes : (next_of g p == 0) ≡ false = ne_eqb (next_of g p) 0 (λ e. omega (arith, next, e)) in
-    ap (λ b. piece_in (page_at g p) ∷ map (λ q. piece_in (page_at g q)) (elim b as (λ x. List ℕ) [ true ↦ [] | false ↦ chain_in turns g (next_of g p) ])) goes
-    ∙ (ap (λ n. piece_in (page_at g p) ∷ map (λ q. piece_in (page_at g q)) (chain_in turns g n)) next
-    ∙ (ap (λ ps. piece_in (page_at g p) ∷ ps) (chain_pages turns g p (p + 1) (other ∷ pieces) (omega arith) (omega arith) run.1)
-    ∙ ap (λ page. piece_in page ∷ other ∷ pieces) run.0.2))
+    grind (arith, ne_eqb, chain_pages turns g p (p + 1) (other ∷ pieces) (omega arith) (omega arith) run.1)
 
 pub chains_stand : ChainsStand
 unfolding value_of pieces_of
-chains_stand g previous p pieces counted low high run = record {
-  grove = chain_grove g previous p pieces counted low high run;
-  value = λ total. ap joined (chain_pages g.count g previous p pieces low (let c : g.last < g.count = counted.counted in omega arith) run);
-}
+chains_stand g previous p pieces counted low high run = grind (arith, chain_grove, chain_pages)

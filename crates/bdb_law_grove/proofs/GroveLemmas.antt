@@ -1,5 +1,5 @@
 -- What owners, references and faces are in a file whose pages stay as they were.
-use Rattle.std.proofs.Common.{◌≡◌, ℕ, suc, ◌+◌, ◌-◌, ◌≤◌, Bool, true, false, not, List, [], ◌∷◌, ◌++◌, map, length, None, arith, refl, sym, ◌∙◌, ap, subst, inl}
+use Rattle.std.proofs.Common.{◌≡◌, ℕ, ◌+◌, ◌-◌, ◌≤◌, Bool, true, false, List, [], ◌∷◌, ◌++◌, map, length, None, arith, refl, sym, ◌∙◌, ap, subst, inl}
 use Rattle.std.proofs.Common.{inr}
 use Rattle.std.specs.Prelude.{◌==◌, ◌||◌, ◌&&◌, nat_lt}
 use Rattle.std.specs.List.{Contains, filter, flat_map, range_with_len, enumerate_from}
@@ -15,7 +15,7 @@ use Rattle.bdb_format.specs.declared.pages.Header.{Header}
 use Rattle.bdb_format.specs.declared.references.Sort.TheVariants.{Free as FreeRef, Root, Bucket, HashNext, Child, OverflowHead, OverflowNext, DuplicateRoot}
 use Rattle.bdb_format.specs.Page.{Overflow, Page}
 use Rattle.bdb_format.specs.File.{File, page_at, header_in, type_in}
-use Rattle.bdb_format.specs.References.{Asked, asked_by, fit_code, fit_rows, has_type, is_asked, is_zero_page, targets_in, targets_of, refs}
+use Rattle.bdb_format.specs.References.{Asked, asked_by, fit_code, fit_rows, has_type, is_asked, targets_in, targets_of, refs}
 use Rattle.bdb_format.specs.Graph.{Owner, first_holder, held_by}
 use Rattle.bdb_format.proofs.MemberLemmas.{first_member, later_member, member_cases, no_member, of_filter, of_range}
 use Rattle.bdb_format.proofs.VerdictLemmas.{AllFail, none_is_first_row}
@@ -44,11 +44,7 @@ same_range pages m n low high =
 same_join : {X Y : Type 0} (test : Y → Bool) (f g : X → List Y) (xs : List X) → ((x : X) → Contains xs x → filter test (g x) ≡ filter test (f x))
     → filter test (flat_map g xs) ≡ filter test (flat_map f xs)
 same_join test f g [] same = refl
-same_join test f g (x ∷ xs) same =
-    filter-append test (g x) (flat_map g xs)
-    ∙ (ap (λ ys. ys ++ filter test (flat_map g xs)) (same x (first_member x xs))
-    ∙ (ap (λ ys. filter test (f x) ++ ys) (same_join test f g xs (λ y at. same y (later_member x xs y at)))
-    ∙ sym (filter-append test (f x) (flat_map f xs))))
+same_join test f g (x ∷ xs) same = grind (arith, filter-append, first_member, later_member, same_join test f g xs (λ y at. same y (later_member x xs y at)))
 
 -- the owners of a page are the same where each page names it as before
 pub owners_same : (pages : ℕ → Bool) (f g : File) (x : ℕ) → f.last ≤ g.last → ((p : ℕ) → pages p ≡ true → p ≤ f.last)
@@ -99,9 +95,7 @@ enumerated_names n (target ∷ targets) = ap (λ ps. target.1 ∷ ps) (enumerate
 
 pub refs_same : (f g : File) (p : ℕ) → (f.kind ≡ QueueFile → ⊥) → (g.kind ≡ QueueFile → ⊥) → page_at g p ≡ page_at f p → refs g p ≡ refs f p
 unfolding refs
-refs_same f g p one two same =
-    ap (λ page. map reference_of (enumerate_from 0 (targets_of g.kind p page))) same
-    ∙ ap (λ names. map reference_of (enumerate_from 0 names)) (same_targets f.kind g.kind p (page_at f p) one two)
+refs_same f g p one two same = grind (arith, same_targets)
 
 pub held_same : (f g : File) (p : ℕ) → refs g p ≡ refs f p → held_by g p ≡ held_by f p
 held_same f g p same = ap (λ rs. map (λ r. let o : Owner = record { holder = p; reference = r } in o) rs) same
@@ -112,10 +106,7 @@ pub above : (more target : ℕ) → target ≤ more → nat_lt more target ≡ f
 above more target low = grind arith
 
 range_fits : (target last more : ℕ) → last ≤ more → (target == 0 || nat_lt last target) ≡ false → (target == 0 || nat_lt more target) ≡ false
-range_fits target last more grows none =
-    let parts : ((target == 0) ≡ false) × (nat_lt last target ≡ false) = or_parts (target == 0) (nat_lt last target) none in
-    let low : target ≤ last = ltb-false last target parts.1 in
-    or_from (target == 0) (nat_lt more target) parts.0 (above more target (omega arith))
+range_fits target last more grows none = grind (arith, or_parts, ltb-false, or_from, above)
 
 pub none_of_rows : (a b c d : Bool) → a ≡ false → b ≡ false → c ≡ false → d ≡ false → first_row {Code = ℕ} (1 :? a ∷ 2 :? b ∷ 3 :? c ∷ 4 :? d ∷ []) ≡ None
 none_of_rows a b c d p q r s = rw (p, q, r, s) refl
@@ -124,32 +115,15 @@ none_of_rows a b c d p q r s = rw (p, q, r, s) refl
 pub fits_asked : (g : File) (asked : Asked) (target : ℕ) → 1 ≤ target → target ≤ g.last → has_type asked.types (type_in (page_at g target)) ≡ true
     → is_asked asked.level (header_in (page_at g target)).level ≡ true → is_asked asked.previous (header_in (page_at g target)).previous ≡ true
     → first_row (fit_rows g asked target) ≡ None
-fits_asked g asked target low high type level previous =
-    none_of_rows _ _ _ _ (or_from (target == 0) (nat_lt g.last target) (ne_eqb target 0 (λ e. omega arith)) (above g.last target high))
-    (ap (λ b. not (b || (asked.or_zero && is_zero_page (page_at g target)))) type) (ap not level) (ap not previous)
+fits_asked g asked target low high type level previous = grind (arith, none_of_rows, or_from, ne_eqb, above)
 
 -- a reference fits a page with the same face in a later file
 pub fit_kept : (f g : File) (asked : Asked) (target : ℕ) → f.last ≤ g.last → KeepsFace (page_at f target) (page_at g target)
     → first_row (fit_rows f asked target) ≡ None → first_row (fit_rows g asked target) ≡ None
-fit_kept f g asked target grows face fits =
-    let fail : AllFail (fit_rows f asked target) = none_is_first_row (fit_rows f asked target) fits in
-    let kind : not (has_type asked.types (type_in (page_at g target)) || (asked.or_zero && is_zero_page (page_at g target))) ≡ false =
-    ap (λ t. not (has_type asked.types t || (asked.or_zero && is_zero_page (page_at g target)))) face.type
-    ∙ (ap (λ z. not (has_type asked.types (type_in (page_at f target)) || (asked.or_zero && z))) face.zero ∙ fail.1.0) in
-    let level : not (is_asked asked.level (header_in (page_at g target)).level) ≡ false = ap (λ l. not (is_asked asked.level l)) face.level ∙ fail.1.1.0 in
-    let previous : not (is_asked asked.previous (header_in (page_at g target)).previous) ≡ false =
-    ap (λ l. not (is_asked asked.previous l)) face.previous ∙ fail.1.1.1.0 in
-    none_of_rows _ _ _ _ (range_fits target f.last g.last grows fail.0) kind level previous
+fit_kept f g asked target grows face fits = grind (arith, AllFail, none_is_first_row, none_of_rows, range_fits)
 
 pub same_face : (old new : Page) → new ≡ old → KeepsFace old new
-same_face old new same = record {
-  type = ap type_in same;
-  zero = ap is_zero_page same;
-  level = ap (λ p. (header_in p).level) same;
-  previous = ap (λ p. (header_in p).previous) same;
-  entries = let e : (header_in new).entries ≡ (header_in old).entries = ap (λ p. (header_in p).entries) same in omega arith;
-  asks = λ holder sort. ap (λ p. asked_by holder p sort) same;
-}
+same_face old new same = grind arith
 
 -- so does a reference of a holder that asks the same
 pub code_kept : (f g : File) (p : ℕ) (r : Reference) → f.last ≤ g.last → KeepsFace (page_at f p) (page_at g p)
@@ -180,10 +154,7 @@ counted_asks header piece count holder DuplicateRoot = refl
 
 pub same_page_face : (old new : Page) → IsSamePage old new → KeepsFace old new
 same_page_face old new (inl same) = same_face old new same
-same_page_face old new (inr more) =
-    subst (λ page. KeepsFace page new) (sym more.before)
-    (subst (KeepsFace (Overflow more.header more.piece)) (sym more.after)
-    (record { type = refl; zero = refl; level = refl; previous = refl; entries = more.more; asks = counted_asks more.header more.piece more.count }))
+same_page_face old new (inr more) = grind (arith, counted_asks)
 
 same_names : (p : ℕ) (old new : Page) → IsSamePage old new → targets_in p new ≡ targets_in p old
 same_names p old new (inl same) = ap (targets_in p) same
@@ -191,24 +162,12 @@ same_names p old new (inr more) = ap (targets_in p) more.after ∙ ap (targets_i
 
 pub refs_kept : (f g : File) (p : ℕ) → (f.kind ≡ QueueFile → ⊥) → (g.kind ≡ QueueFile → ⊥) → IsSamePage (page_at f p) (page_at g p) → refs g p ≡ refs f p
 unfolding refs
-refs_kept f g p one two same =
-    ap (λ names. map reference_of (enumerate_from 0 names))
-    (forest_names g.kind p (page_at g p) two ∙ (same_names p (page_at f p) (page_at g p) same ∙ sym (forest_names f.kind p (page_at f p) one)))
+refs_kept f g p one two same = grind (arith, forest_names, same_names)
 
 enumerate_more : {X : Type 0} (n : ℕ) (xs : List X) (x : X) → enumerate_from n (xs ++ (x ∷ [])) ≡ enumerate_from n xs ++ ((n + length xs, x) ∷ [])
 enumerate_more n [] x = let e : n ≡ n + 0 = omega arith in ap (λ k. (k, x) ∷ []) e
-enumerate_more n (y ∷ ys) x =
-    let e : n + 1 + length ys ≡ n + suc (length ys) = omega arith in
-    ap (λ rest. (n, y) ∷ rest) (enumerate_more (n + 1) ys x ∙ ap (λ k. enumerate_from (n + 1) ys ++ ((k, x) ∷ [])) e)
+enumerate_more n (y ∷ ys) x = grind (arith, enumerate_more (n + 1) ys x)
 
 pub references_come_last : ReferencesComeLast
 unfolding refs
-references_come_last f g p target sort one two more =
-    let names : List (Sort × ℕ) = targets_in p (page_at f p) in
-    let e : 0 + length names ≡ length names = omega arith in
-    ap (λ ns. map reference_of (enumerate_from 0 ns)) (forest_names g.kind p (page_at g p) two ∙ more)
-    ∙ (ap (map reference_of) (enumerate_more 0 names (sort, target))
-    ∙ (map-append reference_of (enumerate_from 0 names) ((0 + length names, (sort, target)) ∷ [])
-    ∙ (ap (λ k. map reference_of (enumerate_from 0 names) ++ ((let r : Reference = record { place = k; sort = sort; target = target } in r) ∷ [])) e
-    ∙ ap (λ ns. map reference_of (enumerate_from 0 ns) ++ ((let r : Reference = record { place = length names; sort = sort; target = target } in r) ∷ []))
-    (sym (forest_names f.kind p (page_at f p) one)))))
+references_come_last f g p target sort one two more = grind (arith, forest_names, enumerate_more, map-append)

@@ -10,10 +10,9 @@ use Rattle.bdb_format.specs.declared.metadata.FileKind.TheVariants.{Queue}
 use Rattle.bdb_format.specs.declared.references.Reference.{Reference}
 use Rattle.bdb_format.specs.declared.references.Sort.{Sort}
 use Rattle.bdb_format.specs.declared.references.Sort.TheVariants.{OverflowHead, DuplicateRoot}
-use Rattle.bdb_format.specs.Table.{first_row}
 use Rattle.bdb_format.specs.Page.{Content, Inline, Set, Chain, Tree, Unknown}
 use Rattle.bdb_format.specs.File.{File, header_in, page_at}
-use Rattle.bdb_format.specs.References.{asked_by, content_targets, fit_code, fit_rows, has_type, refs}
+use Rattle.bdb_format.specs.References.{content_targets, fit_code, refs}
 use Rattle.bdb_format.specs.Graph.{is_head_reference}
 use Rattle.bdb_format.specs.Chains.{chains_in, content_chains, is_wrong_length}
 use Rattle.bdb_format.specs.Leaves.{is_root_reference}
@@ -58,12 +57,8 @@ pub named_fits : (g : File) (content : Content) (sort : Sort) (t : ℕ) → Cont
     → ((sort ≡ OverflowHead) × (total : ℕ) × ChainFits g t total) ⊎ ((sort ≡ DuplicateRoot) × SetFits g t)
 named_fits g (Inline bytes) sort t fits at = absurd (no_member [] (sort, t) refl at)
 named_fits g (Set blocks) sort t fits at = absurd (no_member [] (sort, t) refl at)
-named_fits g (Chain head total) sort t fits at =
-    let same = only_member (OverflowHead, head) (sort, t) at in
-    inl (sym (ap (λ (n : Sort × ℕ). n.0) same), total, subst (λ (n : Sort × ℕ). ChainFits g n.1 total) same fits)
-named_fits g (Tree root) sort t fits at =
-    let same = only_member (DuplicateRoot, root) (sort, t) at in
-    inr (sym (ap (λ (n : Sort × ℕ). n.0) same), subst (λ (n : Sort × ℕ). SetFits g n.1) same fits)
+named_fits g (Chain head total) sort t fits at = grind (arith, only_member)
+named_fits g (Tree root) sort t fits at = grind (arith, only_member)
 named_fits g Unknown sort t fits at = absurd (no_member [] (sort, t) refl at)
 
 pub chain_fits : (g : File) (content : Content) (named : ℕ × ℕ) → ContentFits g content → Contains (content_chains content) named
@@ -77,16 +72,11 @@ chain_fits g Unknown named fits at = absurd (no_member [] named refl at)
 pub head_code : (g : File) (p total : ℕ) (r : Reference) → 1 ≤ r.target → r.target ≤ g.last → r.sort ≡ OverflowHead → ChainFits g r.target total
     → fit_code g p r ≡ None
 unfolding fit_code
-head_code g p total r low high sort fits =
-    ap (λ s. first_row (fit_rows g (asked_by p (page_at g p) s) r.target)) sort
-    ∙ fits_asked g (asked_by p (page_at g p) OverflowHead) r.target low high (ap (has_type (7 ∷ [])) fits.type) refl
-    (eq-eqb 0 (header_in (page_at g r.target)).previous (sym fits.previous))
+head_code g p total r low high sort fits = grind (arith, fits_asked, eq-eqb)
 
 pub set_code : (g : File) (p : ℕ) (r : Reference) → 1 ≤ r.target → r.target ≤ g.last → r.sort ≡ DuplicateRoot → SetFits g r.target → fit_code g p r ≡ None
 unfolding fit_code
-set_code g p r low high sort fits =
-    ap (λ s. first_row (fit_rows g (asked_by p (page_at g p) s) r.target)) sort
-    ∙ fits_asked g (asked_by p (page_at g p) DuplicateRoot) r.target low high fits.type refl refl
+set_code g p r low high sort fits = grind (arith, fits_asked)
 
 -- What a leaf names.
 
@@ -129,14 +119,10 @@ leaf_right g pages leaf forest filled =
 pub targets_joined : (contents : List Content)
     → map (λ (named : Sort × ℕ). named.1) (flat_map content_targets contents) ≡ flat_map content_pages contents
 targets_joined [] = refl
-targets_joined (content ∷ contents) =
-    map-append (λ (named : Sort × ℕ). named.1) (content_targets content) (flat_map content_targets contents)
-    ∙ ap (λ ps. content_pages content ++ ps) (targets_joined contents)
+targets_joined (content ∷ contents) = grind (arith, map-append, targets_joined contents)
 
 pub leaf_names : (g : File) (pages : ℕ → Bool) (leaf : FilledLeaf) → (g.kind ≡ Queue → ⊥) → IsFilled g pages leaf → names g leaf.page ≡ pages_held leaf
-leaf_names g pages leaf forest filled =
-    ap (map (λ (r : Reference). r.target)) (refs_of g leaf.page _ forest refl)
-    ∙ (enumerated_names 0 _ ∙ (ap (map (λ (named : Sort × ℕ). named.1)) filled.names ∙ targets_joined leaf.contents))
+leaf_names g pages leaf forest filled = grind (arith, refs_of, enumerated_names, targets_joined)
 
 -- Leaves.
 

@@ -29,18 +29,7 @@ pub filter_first : {X Y : Type 0} (pages : X → Bool) (test : Y → Bool) (f : 
     → filter test (flat_map f xs) ≡ filter test (flat_map f (filter pages xs))
 filter_first pages test f [] none = refl
 filter_first pages test f (x ∷ xs) none =
-    let rest : filter test (flat_map f xs) ≡ filter test (flat_map f (filter pages xs)) =
-    filter_first pages test f xs (λ y at. none y (later_member x xs y at)) in
-    filter-append test (f x) (flat_map f xs)
-    ∙ elim (cases_Bool (pages x)) [
-      | inl is ↦
-          ap (λ ys. filter test (f x) ++ ys) rest
-          ∙ (sym (filter-append test (f x) (flat_map f (filter pages xs)))
-          ∙ ap (λ b. filter test (flat_map f (cond b (x ∷ filter pages xs) (filter pages xs)))) (sym is))
-      | inr other ↦
-          ap (λ ys. ys ++ filter test (flat_map f xs)) (none x (first_member x xs) other)
-          ∙ (rest ∙ ap (λ b. filter test (flat_map f (cond b (x ∷ filter pages xs) (filter pages xs)))) (sym other))
-    ]
+    grind (arith, later_member, filter-append, cases_Bool, first_member, filter_first pages test f xs (λ y at. none y (later_member x xs y at)))
 
 -- a page of these holds no reference to this one
 abbrev pub NamesNot : File → ℕ → ℕ → Type 0

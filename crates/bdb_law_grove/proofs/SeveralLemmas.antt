@@ -1,5 +1,5 @@
 -- Several pages that stand over one grove.
-use Rattle.std.proofs.Common.{◌≡◌, ℕ, suc, ◌+◌, ◌<◌, ◌≤◌, Bool, true, false, cond, List, [], ◌∷◌, ◌++◌, map, length, arith, refl, sym, ◌∙◌, ap, subst, inl, inr}
+use Rattle.std.proofs.Common.{◌≡◌, ℕ, ◌+◌, ◌<◌, ◌≤◌, Bool, true, false, cond, List, [], ◌∷◌, ◌++◌, map, length, arith, refl, sym, ◌∙◌, ap, subst, inl, inr}
 use Rattle.std.proofs.Common.{true≢false, length-append}
 use Rattle.std.specs.Prelude.{◌==◌, ◌||◌, IsTrue}
 use Rattle.std.specs.List.{Contains, filter, flat_map, list_any}
@@ -43,13 +43,7 @@ once_apart e xs ys once one two = omega (arith, once, count-append e xs ys, some
 pub named_count : (p q : ℕ) (rs : List Reference)
     → length (filter (names_page q) (map (owner_of p) rs)) ≡ count q (map (λ (r : Reference). r.target) rs)
 named_count p q [] = refl
-named_count p q (r ∷ rs) =
-    let owners : List Owner = filter (names_page q) (map (owner_of p) rs) in
-    let targets : List ℕ = filter (λ other. other == q) (map (λ (s : Reference). s.target) rs) in
-    elim (r.target == q) as (λ b. length (cond b (owner_of p r ∷ owners) owners) ≡ length (cond b (r.target ∷ targets) targets)) [
-      | true ↦ ap suc (named_count p q rs)
-      | false ↦ named_count p q rs
-    ]
+named_count p q (r ∷ rs) = grind (arith, names_page, owner_of, named_count p q rs)
 
 -- an owner among them is a reference of the page
 pub named_reference : (g : File) (p q : ℕ) (owner : Owner) → Contains (named_by g p q) owner

@@ -12,7 +12,7 @@ use Rattle.std.proofs.lemmas.Grind.{flat_map-append}
 use Rattle.bdb_format.specs.declared.references.Reference.{Reference}
 use Rattle.bdb_format.specs.File.{File, page_at, header_in}
 use Rattle.bdb_format.specs.References.{fit_code, refs}
-use Rattle.bdb_format.specs.Graph.{Owner, first_holder, held_by, is_head_reference}
+use Rattle.bdb_format.specs.Graph.{Owner, first_holder, held_by}
 use Rattle.bdb_format.proofs.MemberLemmas.{first_member, later_member, in_filter, in_map, no_member, of_filter, of_map, of_range}
 use Rattle.bdb_format.proofs.ListLemmas.{range_parts}
 use Rattle.bdb_law_grove.specs.Part.{IsOwnedBy, IsWayIn, are_heads_alone, owners_among}
@@ -36,28 +36,10 @@ owned_by_measure os ns counted long heads (inl (one, counts)) = inl (sym long �
 owned_by_measure os ns counted long heads (inr (is, some, few)) = inr (subst IsTrue heads is, omega arith, omega arith)
 
 put_heads : (front new back : List Owner) → are_heads_alone ((front ++ back) ++ new) ≡ are_heads_alone (front ++ (new ++ back))
-put_heads front new back =
-    let test : Owner → Bool = λ owner. is_head_reference owner.reference.sort in
-    ap are_heads_alone (append_assoc front back new)
-    ∙ (list_all-append test front (back ++ new)
-    ∙ (ap (λ b. are_heads_alone front && b) (list_all-append test back new
-    ∙ (and_comm (are_heads_alone back) (are_heads_alone new) ∙ sym (list_all-append test new back)))
-    ∙ sym (list_all-append test front (new ++ back))))
+put_heads front new back = grind (arith, append_assoc, list_all-append, and_comm)
 
 put_owned : (before after new : List Owner) (counted : ℕ) → ArePut before after new → IsOwnedBy (before ++ new) counted → IsOwnedBy after counted
-put_owned before after new counted put owned =
-    owned_by_measure (before ++ new) after counted
-    (ap (λ os. length (os ++ new)) put.old
-    ∙ ((let long : length ((put.front ++ put.back) ++ new) ≡ length (put.front ++ (new ++ put.back)) =
-    omega (
-      arith,
-      length-append (put.front ++ put.back) new,
-      length-append put.front put.back,
-      length-append put.front (new ++ put.back),
-      length-append new put.back,
-    ) in long) ∙ ap length (sym put.all)))
-    (ap (λ os. are_heads_alone (os ++ new)) put.old ∙ (put_heads put.front new put.back ∙ ap are_heads_alone (sym put.all)))
-    owned
+put_owned before after new counted put owned = grind (arith, owned_by_measure, length-append, put_heads)
 
 -- the first holder is the one before, or that of the new references, and there is one where these are some
 put_first : (before after new : List Owner) → ArePut before after new
@@ -84,10 +66,7 @@ held_among pages g x qs = filter (names_page x) (flat_map (held_by g) (filter pa
 
 held_among-append : (pages : ℕ → Bool) (g : File) (x : ℕ) (xs ys : List ℕ)
     → held_among pages g x (xs ++ ys) ≡ held_among pages g x xs ++ held_among pages g x ys
-held_among-append pages g x xs ys =
-    ap (λ qs. filter (names_page x) (flat_map (held_by g) qs)) (filter-append pages xs ys)
-    ∙ (ap (filter (names_page x)) (flat_map-append (held_by g) (filter pages xs) (filter pages ys))
-    ∙ filter-append (names_page x) (flat_map (held_by g) (filter pages xs)) (flat_map (held_by g) (filter pages ys)))
+held_among-append pages g x xs ys = grind (arith, names_page, filter-append, flat_map-append)
 
 abbrev pub with_page : (ℕ → Bool) → ℕ → ℕ → Bool
 with_page pages p q = pages q || (q == p)

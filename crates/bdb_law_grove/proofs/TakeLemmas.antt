@@ -42,17 +42,7 @@ new_name f g p r names none =
 -- one page of a set
 pub filter_inner : (pages : ℕ → Bool) (m : ℕ) (xs : List ℕ) → pages m ≡ true → filter (λ q. q == m) (filter pages xs) ≡ filter (λ q. q == m) xs
 filter_inner pages m [] is = refl
-filter_inner pages m (x ∷ xs) is =
-    elim (cases_Bool (pages x)) [
-      | inl in_set ↦
-          ap (λ b. filter (λ q. q == m) (cond b (x ∷ filter pages xs) (filter pages xs))) in_set
-          ∙ ap (λ ys. cond (x == m) (x ∷ ys) ys) (filter_inner pages m xs is)
-      | inr out ↦
-          let differs : x ≡ m → ⊥ = λ same. true≢false (sym is ∙ (ap pages (sym same) ∙ out)) in
-          ap (λ b. filter (λ q. q == m) (cond b (x ∷ filter pages xs) (filter pages xs))) out
-          ∙ (filter_inner pages m xs is
-          ∙ ap (λ b. cond b (x ∷ filter (λ q. q == m) xs) (filter (λ q. q == m) xs)) (sym (ne_eqb x m differs)))
-    ]
+filter_inner pages m (x ∷ xs) is = grind (arith, cases_Bool, ne_eqb, filter_inner pages m xs is)
 
 -- only one page names this one
 only_holder : (pages : ℕ → Bool) (g : File) (p c : ℕ) → pages p ≡ true → p ≤ g.last → ((q : ℕ) → pages q ≡ true → (q ≡ p → ⊥) → NamesNot g c q)

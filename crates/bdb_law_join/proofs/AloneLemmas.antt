@@ -1,23 +1,21 @@
 -- One part alone, under page 0.
 use Rattle.std.proofs.Common.{◌≡◌, ◌⊎◌, ℕ, zero, suc, ◌+◌, ◌≤◌, true, false, ◌&&◌, []}
-use Rattle.std.proofs.Common.{◌∷◌, length, map, None, arith, refl, sym, ◌∙◌, ap, subst, inl, inr}
-use Rattle.std.specs.Prelude.{◌==◌, nat_lt}
-use Rattle.std.specs.List.{Contains, list_any}
+use Rattle.std.proofs.Common.{◌∷◌, None, arith, refl, sym, ◌∙◌, ap, subst, inl, inr}
+use Rattle.std.specs.Prelude.{◌==◌}
+use Rattle.std.specs.List.{Contains}
 use Rattle.std.proofs.lemmas.Bool.{cases_Bool, and_left, and_right}
 use Rattle.bdb_format.specs.Page.{Metadata, Meta}
 use Rattle.bdb_format.specs.File.{File, file_of, page_at}
 use Rattle.bdb_format.specs.Graph.{is_meta}
-use Rattle.bdb_format.specs.Contents.{StoredPair}
-use Rattle.bdb_format.specs.ContentRows.{fields_in, repeated}
-use Rattle.bdb_format.specs.Master.{is_named_kind, is_none, master_in, master_pairs, master_rows, misses_target, named_by, naming, pairs_under}
-use Rattle.bdb_format.specs.Databases.{Database, databases, databases_under}
+use Rattle.bdb_format.specs.Master.{is_named_kind, master_in, master_pairs, master_rows, pairs_under}
+use Rattle.bdb_format.specs.Databases.{databases}
 use Rattle.bdb_format.specs.Verdict.{first_judgement, holding, master_faults}
 use Rattle.bdb_format.proofs.ListLemmas.{only_member}
 use Rattle.bdb_format.proofs.MemberLemmas.{first_member}
 use Rattle.bdb_format.proofs.VerdictLemmas.{AllFail, no_faults, none_holds}
-use Rattle.bdb_law_grove.specs.Part.{IsPart, Part}
+use Rattle.bdb_law_grove.specs.Part.{Part}
 use Rattle.bdb_law_join.specs.Alone.{JoinsAlone, StandsAlone}
-use Rattle.bdb_law_join.specs.Joining.{AreJoined, HoldsLists, IsInPartOf, IsMetaOf, Joint, ShareOut, NamesNoFree}
+use Rattle.bdb_law_join.specs.Joining.{AreJoined, HoldsLists, IsInPartOf, IsMetaOf, Joint, ShareOut}
 use Rattle.bdb_law_join.proofs.JoinLemmas.{joins_under_master}
 use Rattle.bdb_law_join.proofs.RoleLemmas.{no_meta_inside}
 
@@ -53,14 +51,7 @@ shared_alone file part all =
     }
 
 joined : (file : File) (part : Part) → StandsAlone file part → AreJoined file (joint_of part ∷ [])
-joined file part alone =
-    record {
-      forest = alone.forest;
-      shared_out = shared_alone file part alone.all;
-      parts = of_joint part (λ (j : Joint). IsPart file j.part) alone.is;
-      named = of_joint part (λ (j : Joint). page_at file j.meta ≡ Meta j.part.fields) alone.named;
-      no_free = of_joint part (λ (j : Joint). NamesNoFree j.meta j.part.fields) (λ zero. alone.no_free);
-    }
+joined file part alone = grind (arith, shared_alone, of_joint)
 
 -- Stage 7: page 0 is no master, and no other page is metadata.
 
@@ -71,30 +62,14 @@ no_pairs_at file fields named none = ap (λ page. pairs_under file (master_in pa
 -- a page is of a named kind where it's metadata above page 0 alone
 pub named_kind : (file : File) (p : ℕ) → (1 ≤ p → is_meta (page_at file p) ≡ true → ⊥) → is_named_kind file p ≡ false
 named_kind file zero other = refl
-named_kind file (suc p) other =
-    elim (cases_Bool (is_meta (page_at file (suc p)))) [
-      | inl is ↦ absurd (other (omega arith) is)
-      | inr no' ↦ and_right (nat_lt 0 (suc p)) (is_meta (page_at file (suc p))) no'
-    ]
+named_kind file (suc p) other = grind (arith, cases_Bool, and_right)
 
 pub no_other_meta : (file : File) (part : Part) (p : ℕ) → StandsAlone file part → 1 ≤ p → p ≤ file.last → is_meta (page_at file p) ≡ true → ⊥
 no_other_meta file part p alone above high is =
     no_meta_inside file (joint_of part ∷ []) (joint_of part) p (joined file part alone) (first_member (joint_of part) []) (alone.all p above high) is
 
 pub master_rows_fail : (file : File) (p : ℕ) → master_pairs file ≡ [] → is_named_kind file p ≡ false → AllFail (master_rows file p)
-master_rows_fail file p none other = (
-  and_left (is_named_kind file p) (length (naming file p) == 0) other,
-  (
-    ap (λ pairs. list_any (λ (pair : StoredPair). pair.page == p && is_none (named_by file pair.data_item)) pairs) none,
-    (
-      ap (λ pairs. list_any (λ (pair : StoredPair). pair.page == p && misses_target file (named_by file pair.data_item)) pairs) none,
-      (
-        ap (λ pairs. list_any (λ (pair : StoredPair). pair.page == p) (repeated pairs)) none,
-        (and_left (is_named_kind file p) (nat_lt 1 (length (naming file p))) other, tt),
-      ),
-    ),
-  ),
-)
+master_rows_fail file p none other = grind (arith, and_left)
 
 master_none : (file : File) (part : Part) → StandsAlone file part → master_faults file ≡ []
 unfolding master_faults
@@ -110,12 +85,7 @@ master_none file part alone =
 pub unnamed_at : (file : File) (fields : Metadata) → page_at file 0 ≡ Meta fields → master_in (Meta fields) ≡ None
     → databases file ≡ record { name = None; fields = fields } ∷ []
 unfolding databases
-unnamed_at file fields named none =
-    ap (λ page. databases_under file (master_in page)) named
-    ∙ (ap (databases_under file) none ∙ ap (λ page. map unnamed (fields_in page)) named)
-  where
-    unnamed : Metadata → Database
-    unnamed other = record { name = None; fields = other }
+unnamed_at file fields named none = grind (arith, None)
 
 pub joins_alone : JoinsAlone
 joins_alone image part form alone =

@@ -42,9 +42,7 @@ length-btree order size number last meta least = simp (length-append, length-spe
 
 pub page_length : (built : Built) (number : ℕ) (page : List ℕ) (meta : BtreeMeta) → AreLegal built → SpellsMeta built number page meta
     → length page ≡ built.size
-page_length built number page meta pages spells =
-    ap length spells.bytes
-    ∙ length-btree built.order built.size number (length built.pages - 1) meta (omega (arith, (size_bounds built.size pages.legal).0))
+page_length built number page meta pages spells = grind (arith, length-btree, size_bounds)
 
 -- what is read from such a page, and from bytes that begin with it
 reads_page : (built : Built) (number : ℕ) (page : List ℕ) (meta : BtreeMeta) (rest : List ℕ) → AreLegal built → number < length built.pages
@@ -141,14 +139,7 @@ no_page built p past =
 -- the pages of a part are as they were
 stays : (before after : Built) (joints : List Joint) (j : Joint) (p : ℕ) → AreFiled before after joints → Contains joints j → j.part.pages p ≡ true
     → page_at (file_so_far after) p ≡ page_at (file_so_far before) p
-stays before after joints j p filed member inside =
-    elim (cases_lt p (length after.pages)) [
-      | inl low ↦
-          page_so_far after p low
-          ∙ (ap (λ o. abstract_page o (bytes_of after p)) filed.order
-          ∙ (ap (abstract_page before.order) (filed.same j p member inside) ∙ sym (page_so_far before p (omega (arith, low, filed.grows)))))
-      | inr past ↦ no_page after p past ∙ sym (no_page before p (omega (arith, past, filed.grows)))
-    ]
+stays before after joints j p filed member inside = grind (arith, cases_lt, page_so_far, no_page)
 
 pub later : (before after : Built) (joints : List Joint) (j : Joint) → AreFiled before after joints → Contains joints j
     → IsLater j.part.pages (file_so_far before) (file_so_far after)

@@ -11,7 +11,6 @@ use Rattle.bdb_format.specs.Numbers.{byte_at, has_bit}
 use Rattle.bdb_format.specs.Page.{BtreeFields, Meta}
 use Rattle.bdb_format.specs.Reading.{abstract_page, btree_fields, is_zero, page_as, page_type}
 use Rattle.bdb_format.specs.Rows.{are_wrong_flags, form_code, metadata_rows, type_of}
-use Rattle.bdb_format.specs.Table.{first_row}
 use Rattle.bdb_format.proofs.GraphLemmas.{typed_page}
 use Rattle.bdb_format.proofs.VerdictLemmas.{AllFail, none_is_first_row}
 use Rattle.bdb_graph.proofs.CodeLemmas.{first_page_code, is_same}
@@ -20,9 +19,7 @@ use Rattle.bdb_format.proofs.PageLemmas.{some_type, zero_byte}
 -- the rows of page 0 are those of metadata of its kind
 rows_fail : (head : Head) (page : List ℕ) (kind : FileKind) → head.kind ≡ kind → form_code head 0 page ≡ None
     → AllFail (metadata_rows head.order page 0 head.last kind)
-rows_fail head page kind is none =
-    none_is_first_row (metadata_rows head.order page 0 head.last kind)
-    (ap (λ k. first_row (metadata_rows head.order page 0 head.last k)) (sym is) ∙ (sym (first_page_code head page) ∙ none))
+rows_fail head page kind is none = grind (arith, none_is_first_row, first_page_code)
 
 -- page 0 has the type of its kind
 pub first_type : (head : Head) (page : List ℕ) (kind : FileKind) → head.kind ≡ kind → form_code head 0 page ≡ None

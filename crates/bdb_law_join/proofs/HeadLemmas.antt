@@ -1,6 +1,6 @@
 -- The head of an image whose page 0 is metadata of a kind, and the rows of such a page.
 use Rattle.std.proofs.Common.{◌≡◌, ℕ, zero, suc, ◌+◌, ◌*◌, ◌/◌, ◌%◌, ◌<◌, ◌≤◌, ◌||◌, ◌&&◌}
-use Rattle.std.proofs.Common.{Bool, true, false, List, [], ◌∷◌, length, Option, None, Some, arith, refl, sym, ◌∙◌, ap}
+use Rattle.std.proofs.Common.{Bool, true, false, List, [], ◌∷◌, length, Option, None, Some, arith, refl, ◌∙◌, ap}
 use Rattle.std.specs.Prelude.{◌==◌, nat_le, nat_lt, not}
 use Rattle.std.proofs.Math.Nat.{mul-div_cancel, mul-mod_left}
 use Rattle.std.proofs.lemmas.Bool.{and_right, eq-eqb, le-ltb, lt-leb, ne_eqb}
@@ -11,9 +11,8 @@ use Rattle.bdb_format.specs.declared.metadata.Head.{Head}
 use Rattle.bdb_format.specs.HeadOf.{file_kind, head_of, head_rows, heap_magic, is_magic}
 use Rattle.bdb_format.specs.HeadOf.{is_page_size, is_past, last_page, magic_at, order_of, pages_of}
 use Rattle.bdb_format.specs.Numbers.{byte_at, four_at, has_bit}
-use Rattle.bdb_format.specs.Rows.{are_wrong_flags, body_code, form_code, identity_rows, is_queue}
-use Rattle.bdb_format.specs.Rows.{is_tree_type, magic_of, metadata_rows, page_code, type_of, version_of}
-use Rattle.bdb_format.specs.Reading.{is_zero, page_type}
+use Rattle.bdb_format.specs.Rows.{form_code, is_queue}
+use Rattle.bdb_format.specs.Rows.{magic_of, metadata_rows, page_code, type_of, version_of}
 use Rattle.bdb_format.specs.Table.{Row, first_row}
 use Rattle.bdb_format.proofs.VerdictLemmas.{AllFail, none_is_first_row}
 use Rattle.bdb_format.proofs.SizeLemmas.{size_bounds}
@@ -62,9 +61,7 @@ size_is : (head : Head) (image : List ℕ) → IsImage head image → four_at (o
 size_is head image is = ap (λ o. four_at o image 20) is.reads.order_is ∙ is.reads.size_is
 
 count_is : (head : Head) (image : List ℕ) → IsImage head image → pages_of image ≡ head.pages
-count_is head image is =
-    let some : 0 < head.page_size = omega (arith, (size_bounds head.page_size is.legal).0) in
-    ap (λ s. length image / s) (size_is head image is) ∙ (ap (λ n. n / head.page_size) is.long ∙ mul-div_cancel head.pages some)
+count_is head image is = grind (arith, size_bounds, size_is, mul-div_cancel)
 
 last_is : (head : Head) (image : List ℕ) (kind : FileKind) → IsImage head image → last_page kind image ≡ head.last
 last_is head image Btree is = ap (λ o. four_at o image 32) is.reads.order_is ∙ is.reads.last_is
@@ -78,10 +75,7 @@ same_head order size kind last pages b one two three four five = rw (one, two, t
 -- page 0 says the head
 pub image_head : (head : Head) (image : List ℕ) → IsImage head image → head_of image ≡ head
 unfolding head_of
-image_head head image is =
-    let kind : FileKind = file_kind (magic_at image) in
-    same_head (order_of image) (four_at (order_of image) image 20) kind (last_page kind image) (pages_of image) head is.reads.order_is
-    (size_is head image is) (kind_is head image is) (last_is head image kind is) (count_is head image is)
+image_head head image is = grind (arith, same_head, size_is, kind_is, last_is, count_is)
 
 no_past : (kind : FileKind) (pages last : ℕ) → last < pages → (not (is_queue kind) && nat_le pages last) ≡ false
 no_past Btree pages last low = lt-leb pages last low
@@ -163,46 +157,7 @@ page_type_is head number page flags is = is.reads.type ∙ ap type_of is.kind
 rows_accepted : (head : Head) (number : ℕ) (page : List ℕ) (flags : ℕ) → IsBtreePage head number page flags
     → first_row (metadata_rows head.order page number head.last Btree) ≡ None
 unfolding metadata_rows
-rows_accepted head number page flags is =
-    first_of_none (metadata_rows head.order page number head.last Btree)
-    (own, (type, (magic, (version, (size, (plain, (sum, (parted, (compressed, (wrong_flags, tt))))))))))
-  where
-    fail : AllFail (flag_rows number flags)
-    fail = none_is_first_row (flag_rows number flags) is.none
-
-    own : not (four_at head.order page 8 == number) ≡ false
-    own = ap not (eq-eqb (four_at head.order page 8) number is.reads.number_is)
-
-    type : not (byte_at page 25 == 9) ≡ false
-    type = ap not (eq-eqb (byte_at page 25) 9 (page_type_is head number page flags is))
-
-    magic : (nat_lt 0 number && not (four_at head.order page 12 == magic_of Btree)) ≡ false
-    magic =
-        and_right (nat_lt 0 number) (not (four_at head.order page 12 == magic_of Btree))
-        (ap not (eq-eqb (four_at head.order page 12) (magic_of Btree) (is.reads.magic ∙ ap magic_of is.kind)))
-
-    version : (nat_lt 0 number && not (four_at head.order page 16 == version_of Btree)) ≡ false
-    version =
-        and_right (nat_lt 0 number) (not (four_at head.order page 16 == version_of Btree))
-        (ap not (eq-eqb (four_at head.order page 16) (version_of Btree) (is.reads.version ∙ ap version_of is.kind)))
-
-    size : not (four_at head.order page 20 == length page) ≡ false
-    size = ap not (eq-eqb (four_at head.order page 20) (length page) (is.reads.size_is ∙ sym is.long))
-
-    plain : not (byte_at page 24 == 0) ≡ false
-    plain = ap (λ b. not (b == 0)) is.reads.plain
-
-    sum : has_bit (byte_at page 26) 0x01 ≡ false
-    sum = ap (λ b. has_bit b 0x01) is.reads.flags
-
-    parted : (has_bit (byte_at page 26) 0x06 || not (four_at head.order page 36 == 0)) ≡ false
-    parted = ap (λ b. has_bit b 0x06 || not (four_at head.order page 36 == 0)) is.reads.flags ∙ ap (λ n. not (n == 0)) is.reads.partitions
-
-    compressed : has_bit (four_at head.order page 48) 0x80 ≡ false
-    compressed = ap (λ n. has_bit n 0x80) is.flags_are ∙ fail.0
-
-    wrong_flags : are_wrong_flags number (four_at head.order page 48) ≡ false
-    wrong_flags = ap (λ n. are_wrong_flags number n) is.flags_are ∙ fail.1.0
+rows_accepted head number page flags is = grind (arith, first_of_none, AllFail, none_is_first_row, eq-eqb, page_type_is, and_right, size_is)
 
 pub none_by : (zeros : Bool) (identity typed : Option ℕ) → identity ≡ None → typed ≡ None → code_by zeros identity typed ≡ None
 none_by true identity typed one two = refl
@@ -212,18 +167,11 @@ none_by false (Some code) typed one two = absurd cc
 -- above page 0 its number and its type are right
 code_accepted : (head : Head) (number : ℕ) (page : List ℕ) (flags : ℕ) → IsBtreePage head number page flags → page_code head.order number page ≡ None
 unfolding page_code
-code_accepted head number page flags is =
-    let type : byte_at page 25 ≡ 9 = page_type_is head number page flags is in
-    none_by (is_zero page) (first_row (identity_rows head.order page number is_tree_type)) (body_code head.order page (page_type (byte_at page 25)))
-    (first_of_none (identity_rows head.order page number is_tree_type)
-    (ap not (eq-eqb (four_at head.order page 8) number is.reads.number_is), (ap (λ b. not (is_tree_type b)) type, tt)))
-    (ap (λ b. body_code head.order page (page_type b)) type)
+code_accepted head number page flags is = grind (arith, page_type_is, none_by, first_of_none, eq-eqb)
 
 -- no row of form holds for btree metadata
 pub page_accepted : (head : Head) (number : ℕ) (page : List ℕ) (flags : ℕ) → IsBtreePage head number page flags → form_code head number page ≡ None
-page_accepted head zero page flags is =
-    first_page_code head page
-    ∙ (ap (λ k. first_row (metadata_rows head.order page 0 head.last k)) is.kind ∙ rows_accepted head 0 page flags is)
+page_accepted head zero page flags is = grind (arith, first_page_code, rows_accepted)
 page_accepted head (suc n) page flags is =
     tree_metadata head (suc n) page Btree (omega arith) (λ queue. no_queue is.kind queue) (code_accepted head (suc n) page flags is)
     (ap is_page_size is.long ∙ is.legal) (page_type_is head (suc n) page flags is)

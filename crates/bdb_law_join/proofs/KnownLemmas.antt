@@ -1,7 +1,7 @@
 -- The pairs of a page of sound form hold items of known kinds.
-use Rattle.std.proofs.Common.{◌≡◌, ℕ, ◌+◌, ◌*◌, ◌/◌, ◌<◌, ◌≤◌, Bool, true, false, cond, List, [], length, map, None, get_or}
-use Rattle.std.proofs.Common.{arith, refl, sym, ap, subst, inl, inr}
-use Rattle.std.specs.Prelude.{◌&&◌, ◌||◌, not}
+use Rattle.std.proofs.Common.{◌≡◌, ℕ, ◌+◌, ◌*◌, ◌/◌, ◌<◌, ◌≤◌, Bool, true, false, cond, List, [], length, map, None}
+use Rattle.std.proofs.Common.{arith, refl, ap, subst, inl, inr}
+use Rattle.std.specs.Prelude.{◌&&◌, ◌||◌}
 use Rattle.std.specs.List.{Contains, range_with_len}
 use Rattle.std.proofs.lemmas.Bool.{cases_Bool, not-false}
 use Rattle.std.proofs.lemmas.List.FromFn.{get_or-map-range_with_len, length-map-range_with_len}
@@ -12,10 +12,9 @@ use Rattle.bdb_format.specs.File.{File}
 use Rattle.bdb_format.specs.Numbers.{byte_at}
 use Rattle.bdb_format.specs.Page.{Chain, Content, Inline, Item, Listed, Set, Tree, Unknown}
 use Rattle.bdb_format.specs.Page.{PageType, HashPage, LeafPage}
-use Rattle.bdb_format.specs.Reading.{abstract_page, entries_of, hash_item_at, is_zero, leaf_item_at, listed, page_as, page_type}
-use Rattle.bdb_format.specs.Reading.{kind_at, offset_of}
-use Rattle.bdb_format.specs.References.{is_shared_key, no_item}
-use Rattle.bdb_format.specs.Rows.{form_code, hash_rows, is_hash_kind, is_leaf_kind, item_rows, leaf_rows, listed_code, typed_code}
+use Rattle.bdb_format.specs.Reading.{abstract_page, hash_item_at, is_zero, leaf_item_at, listed, page_as, page_type}
+use Rattle.bdb_format.specs.References.{is_shared_key}
+use Rattle.bdb_format.specs.Rows.{form_code, hash_rows, item_rows, leaf_rows, listed_code, typed_code}
 use Rattle.bdb_format.specs.Table.{first_row}
 use Rattle.bdb_format.proofs.GraphLemmas.{typed_none, typed_page, zero_page}
 use Rattle.bdb_format.proofs.ItemLemmas.{no_item_row}
@@ -36,10 +35,7 @@ leaf_kinds false false false typed odd bytes root head total may same = cc
 
 leaf_known : (order : Order) (page : List ℕ) (i : ℕ) → first_row (leaf_rows order page i) ≡ None → IsKnown (leaf_item_at order page i).content
 unfolding leaf_rows leaf_item_at
-leaf_known order page i none =
-    let kind : ℕ = kind_at page (offset_of order page i) in
-    let fails : not (is_leaf_kind (byte_at page 25) i kind) ≡ false = grind (arith, none) in
-    leaf_kinds _ _ _ _ _ _ _ _ _ (not-false _ fails)
+leaf_known order page i none = grind (arith, leaf_kinds, not-false)
 
 hash_kinds : (a b c d odd : Bool) (bytes : List ℕ) (blocks : List (List ℕ)) (head total root : ℕ) → (a || c || (odd && (b || d))) ≡ true
     → IsKnown (cond a (Inline bytes) (cond b (Set blocks) (cond c (Chain head total) (cond d (Tree root) Unknown))))
@@ -52,10 +48,7 @@ hash_kinds false false false false false bytes blocks head total root may same =
 
 hash_known : (order : Order) (page : List ℕ) (i : ℕ) → first_row (hash_rows order page i) ≡ None → IsKnown (hash_item_at order page i).content
 unfolding hash_rows hash_item_at
-hash_known order page i none =
-    let kind : ℕ = byte_at page (offset_of order page i) in
-    let fails : not (is_hash_kind i kind) ≡ false = grind (arith, none) in
-    hash_kinds _ _ _ _ _ _ _ _ _ _ (not-false _ fails)
+hash_known order page i none = grind (arith, hash_kinds, not-false)
 
 -- The pairs of a page.
 
@@ -67,15 +60,7 @@ indexed_known : (file : File) (p : ℕ) (order : Order) (page : List ℕ) (t : P
     (range_with_len 0 (length (listed order page item).items / 2))) pair → IsKnown pair.data_item
 unfolding listed
 indexed_known file p order page t item shares pair none each at =
-    let items : List Item = map item (range_with_len 0 (entries_of order page)) in
-    let found = of_map (pair_at file p (listed order page item) (shares (listed order page item))) (range_with_len 0 (length items / 2)) pair at in
-    let within : (0 ≤ found.0) × (found.0 < 0 + length items / 2) = of_range 0 (length items / 2) found.0 found.1 in
-    let i : ℕ = 2 * found.0 + 1 in
-    let inside : i < entries_of order page = omega (arith, within.1, length-map-range_with_len item 0 (entries_of order page)) in
-    let read : get_or items i no_item ≡ item i = get_or-map-range_with_len item 0 (entries_of order page) i i no_item inside (omega arith) in
-    let known : IsKnown (get_or items i no_item).content =
-    subst (λ (x : Item). IsKnown x.content) (sym read) (each i (no_item_row order page t i none inside)) in
-    subst (λ (x : StoredPair). IsKnown x.data_item) found.2 known
+    grind (arith, of_map, of_range, length-map-range_with_len, get_or-map-range_with_len, no_item_row)
 
 typed_known : (file : File) (head : Head) (p : ℕ) (page : List ℕ) (t : PageType) (pair : StoredPair) → typed_code head p page t ≡ None
     → Contains (pairs_in file p (page_as head.order page t)) pair → IsKnown pair.data_item

@@ -7,7 +7,6 @@ use Rattle.std.specs.Str.{bytes_eq}
 use Rattle.std.proofs.lemmas.Bool.{cases_Bool, cases_lt, and_left, and_right, and_parts, eq-eqb, lt-ltb, or_parts, and_from}
 use Rattle.std.proofs.lemmas.List.{get_or_past}
 use Rattle.bdb_format.specs.declared.metadata.BtreeMeta.{BtreeMeta}
-use Rattle.bdb_format.specs.declared.metadata.Head.{Head}
 use Rattle.bdb_format.specs.Page.{BtreeFields, Chain, Content, Inline, Meta, NoType, Set, Tree, Unknown}
 use Rattle.bdb_format.specs.Flags.{has_duplicates, is_recno, names_databases}
 use Rattle.bdb_format.specs.File.{File, file_of, page_at, page_bytes}
@@ -17,7 +16,7 @@ use Rattle.bdb_format.specs.Chains.{value_of}
 use Rattle.bdb_format.specs.Contents.{StoredPair, data_of, pairs_in, pairs_of, tree_pairs}
 use Rattle.bdb_format.specs.ContentRows.{btree_contents, database_rows, has_duplicate, is_duplicate, is_set, recno_contents, repeated}
 use Rattle.bdb_format.specs.Leaves.{leaves}
-use Rattle.bdb_format.specs.Lists.{BytesKey, btree_list, is_key, listed_pair, recno_list}
+use Rattle.bdb_format.specs.Lists.{BytesKey, btree_list, is_key, listed_pair}
 use Rattle.bdb_format.specs.Master.{is_named_kind, is_none, is_page, master_in, master_pairs}
 use Rattle.bdb_format.specs.Master.{master_rows, misses_target, named_by, naming, page_named}
 use Rattle.bdb_format.specs.Master.{pairs_under}
@@ -100,10 +99,7 @@ all_known image root pair form at =
 
 keyed_master : (image : List ℕ) (joints : List Joint) (meta : BtreeMeta) (entries : List Entry) → IsJoined image joints
     → IsUnderMaster (file_of image) joints meta entries → is_recno meta ≡ false
-keyed_master image joints meta entries is under =
-    let head : Head = head_of image in
-    let reads = sym (page_is image 0 (omega arith)) ∙ under.is in
-    master_is_keyed meta (first_flags head (page_bytes head image 0) meta head.kind refl (is.form.formed 0 (omega arith)) reads) under.master
+keyed_master image joints meta entries is under = grind (arith, page_is, master_is_keyed, first_flags)
 
 values : (image : List ℕ) (joints : List Joint) (meta : BtreeMeta) (entries : List Entry) (pair : StoredPair) → IsJoined image joints
     → IsUnderMaster (file_of image) joints meta entries → Contains (filter is_live (tree_pairs (file_of image) meta.root)) pair
@@ -147,12 +143,7 @@ pairs_are file meta is master = ap (pairs_under file) (master_is file meta is ma
 pub entries_are : (image : List ℕ) (joints : List Joint) (meta : BtreeMeta) (entries : List Entry) → IsJoined image joints
     → IsUnderMaster (file_of image) joints meta entries → entries ≡ map (entry_of (file_of image)) (master_pairs (file_of image))
 unfolding btree_list
-entries_are image joints meta entries is under =
-    let file : File = file_of image in
-    sym under.list
-    ∙ (ap (λ b. cond b (recno_list file meta.root) (btree_list file meta.root)) (keyed_master image joints meta entries is under)
-    ∙ (list_of_live file (tree_pairs file meta.root) (λ pair at. values image joints meta entries pair is under at)
-    ∙ ap (map (entry_of file)) (sym (pairs_are file meta under.is under.master))))
+entries_are image joints meta entries is under = grind (arith, keyed_master, list_of_live, values, pairs_are)
 
 -- What the pairs name.
 
@@ -242,15 +233,7 @@ is_meta_of file joints p all (j, member, same) = ap is_meta (page_of_meta file j
 counted_row : (image : List ℕ) (joints : List Joint) (meta : BtreeMeta) (entries : List Entry) (p : ℕ) (test : ℕ → Bool) → IsJoined image joints
     → IsUnderMaster (file_of image) joints meta entries → p ≤ (file_of image).last → test 1 ≡ false
     → (is_named_kind (file_of image) p && test (length (naming (file_of image) p))) ≡ false
-counted_row image joints meta entries p test is under high fails =
-    let file : File = file_of image in
-    elim (cases_Bool (is_named_kind file p)) [
-      | inl kind ↦
-          let above = above_zero file p kind in
-          let once = named_once image joints meta entries p is under above.0 (meta_of file joints p is.joined high above.1) in
-          and_right (is_named_kind file p) (test (length (naming file p))) (ap test once ∙ fails)
-      | inr other ↦ and_left (is_named_kind file p) (test (length (naming file p))) other
-    ]
+counted_row image joints meta entries p test is under high fails = grind (arith, cases_Bool, above_zero, named_once, meta_of, and_right, and_left)
 
 named_row : (image : List ℕ) (joints : List Joint) (meta : BtreeMeta) (entries : List Entry) (pair : StoredPair) → IsJoined image joints
     → IsUnderMaster (file_of image) joints meta entries → Contains (master_pairs (file_of image)) pair

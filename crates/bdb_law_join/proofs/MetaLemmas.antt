@@ -1,18 +1,18 @@
 -- The references of metadata are those to the entrances of its part.
-use Rattle.std.proofs.Common.{◌≡◌, ℕ, ◌+◌, Bool, true, false, cond, List, [], ◌∷◌, ◌++◌, map, length, refl, sym, ◌∙◌, ap, subst}
+use Rattle.std.proofs.Common.{arith}
+use Rattle.std.proofs.Common.{◌≡◌, ℕ, ◌+◌, List, [], ◌∷◌, ◌++◌, map, length, refl, sym, ◌∙◌, ap, subst}
 use Rattle.std.specs.Prelude.{◌==◌}
-use Rattle.std.specs.List.{Contains, filter, range_with_len, enumerate_from}
+use Rattle.std.specs.List.{Contains, filter, enumerate_from}
 use Rattle.std.proofs.lemmas.Bool.{eqb-true}
 use Rattle.std.proofs.lemmas.List.{map-id}
 use Rattle.std.proofs.lemmas.Simd.{map-map}
 use Rattle.bdb_format.specs.declared.metadata.FileKind.TheVariants.{Queue as QueueFile}
 use Rattle.bdb_format.specs.declared.references.Reference.{Reference}
 use Rattle.bdb_format.specs.declared.references.Sort.{Sort}
-use Rattle.bdb_format.specs.declared.references.Sort.TheVariants.{Free as FreeRef, Root, Bucket}
-use Rattle.bdb_format.specs.Hashing.{first_page}
+use Rattle.bdb_format.specs.declared.references.Sort.TheVariants.{Free as FreeRef, Root}
 use Rattle.bdb_format.specs.Page.{Metadata, BtreeFields, HashFields, QueueFields, Meta}
 use Rattle.bdb_format.specs.File.{File, page_at}
-use Rattle.bdb_format.specs.References.{first_free, unless_zero, targets_in, refs, asked_by}
+use Rattle.bdb_format.specs.References.{first_free, targets_in, refs, asked_by}
 use Rattle.bdb_format.specs.Graph.{held_by}
 use Rattle.bdb_format.proofs.MemberLemmas.{of_map}
 use Rattle.bdb_law_grove.specs.Part.{entrances, entrance_sort, entrance_asks}
@@ -22,11 +22,7 @@ use Rattle.bdb_law_grove.proofs.SeveralLemmas.{count, named_count}
 use Rattle.bdb_law_join.specs.Joining.{NamesNoFree}
 
 no_free : (p free : ℕ) → (p ≡ 0 → free ≡ 0) → first_free p free ≡ []
-no_free p free none = by_test (p == 0) refl
-  where
-    by_test : (b : Bool) → (p == 0) ≡ b → cond b (unless_zero FreeRef free) [] ≡ []
-    by_test true is = ap (λ n. unless_zero FreeRef n) (none (eqb-true p 0 is))
-    by_test false is = refl
+no_free p free none = grind (arith, eqb-true)
 
 -- an entrance as metadata names it
 abbrev entrance_of : Metadata → ℕ → Sort × ℕ
@@ -36,9 +32,7 @@ entrance_of fields e = (entrance_sort fields, e)
 targets_of_meta : (p : ℕ) (fields : Metadata) → NamesNoFree p fields → targets_in p (Meta fields) ≡ map (entrance_of fields) (entrances fields)
 targets_of_meta p (QueueFields meta) none = refl
 targets_of_meta p (BtreeFields meta) none = ap (λ xs. xs ++ ((Root, meta.root) ∷ [])) (no_free p meta.free none)
-targets_of_meta p (HashFields meta) none =
-    ap (λ xs. xs ++ map (λ b. (Bucket, first_page b meta.spares)) (range_with_len 0 (meta.max_bucket + 1))) (no_free p meta.free none)
-    ∙ sym (map-map (λ e. (Bucket, e)) (λ b. first_page b meta.spares) (range_with_len 0 (meta.max_bucket + 1)))
+targets_of_meta p (HashFields meta) none = grind (arith, no_free, map-map)
 
 -- the references of a metadata page
 refs_of_meta : (file : File) (m : ℕ) (fields : Metadata) → (file.kind ≡ QueueFile → ⊥) → page_at file m ≡ Meta fields → NamesNoFree m fields
@@ -65,11 +59,7 @@ names_entrance file m fields r forest is none at =
 -- as many references to a page as there are entrances that are this page
 pub count_of_meta : (file : File) (m p : ℕ) (fields : Metadata) → (file.kind ≡ QueueFile → ⊥) → page_at file m ≡ Meta fields → NamesNoFree m fields
     → length (filter (names_page p) (held_by file m)) ≡ count p (entrances fields)
-count_of_meta file m p fields forest is none =
-    named_count m p (refs file m)
-    ∙ ap (count p) (ap (map (λ (r : Reference). r.target)) (refs_of_meta file m fields forest is none)
-    ∙ (enumerated_names 0 (map (entrance_of fields) (entrances fields))
-    ∙ (map-map (λ (t : Sort × ℕ). t.1) (entrance_of fields) (entrances fields) ∙ map-id (entrances fields))))
+count_of_meta file m p fields forest is none = grind (arith, named_count, count, refs_of_meta, enumerated_names, map-map, map-id)
 
 -- what a metadata page asks of its entrances doesn't depend on where it stands
 pub asks_same : (m : ℕ) (fields : Metadata) → asked_by m (Meta fields) (entrance_sort fields) ≡ entrance_asks fields

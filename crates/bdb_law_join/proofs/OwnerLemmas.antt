@@ -1,7 +1,7 @@
 -- The references to a page of a whole file come from some pages alone.
-use Rattle.std.proofs.Common.{◌≡◌, ℕ, ◌+◌, ◌<◌, ◌≤◌, Bool, false, arith, ◌∙◌, ap}
+use Rattle.std.proofs.Common.{◌≡◌, ℕ, ◌+◌, ◌<◌, ◌≤◌, Bool, false, arith, ◌∙◌}
 use Rattle.std.specs.Prelude.{◌==◌}
-use Rattle.std.specs.List.{filter, flat_map, range_with_len}
+use Rattle.std.specs.List.{filter, range_with_len}
 use Rattle.std.proofs.lemmas.List.{append-nil}
 use Rattle.bdb_format.specs.File.{File}
 use Rattle.bdb_format.specs.Graph.{held_by, all_references, owners}
@@ -20,6 +20,4 @@ owners_are pages file p others =
 
 -- the owners among one page are its own references
 pub owners_of_one : (file : File) (m p : ℕ) → m ≤ file.last → owners_among (λ q. q == m) file p ≡ filter (names_page p) (held_by file m)
-owners_of_one file m p high =
-    ap (λ qs. filter (names_page p) (flat_map (held_by file) qs)) (one_of_range m 0 (file.last + 1) (omega arith) (omega arith))
-    ∙ ap (filter (names_page p)) (append-nil (held_by file m))
+owners_of_one file m p high = grind (arith, names_page, one_of_range, append-nil)

@@ -1,15 +1,14 @@
 -- A queue whose pages have their form is sound: it has no references, and each page is an anchor.
-use Rattle.std.proofs.Common.{◌≡◌, ℕ, zero, suc, ◌+◌, ◌≤◌, Bool, true, false, List, [], ◌∷◌, map, None, subst}
+use Rattle.std.proofs.Common.{◌≡◌, ℕ, zero, suc, ◌+◌, ◌≤◌, Bool, true, false, List, [], ◌∷◌, None, subst}
 use Rattle.std.proofs.Common.{arith, refl, sym, ◌∙◌, ap, inl, inr}
 use Rattle.std.specs.Prelude.{◌==◌, ◌&&◌}
-use Rattle.std.specs.List.{Contains, enumerate_from, list_any, range_with_len}
+use Rattle.std.specs.List.{Contains, range_with_len}
 use Rattle.std.specs.Option.{option_to_list}
 use Rattle.std.proofs.lemmas.Bool.{cases_Bool, eqb-true, or_left}
 use Rattle.bdb_format.specs.declared.metadata.FileKind.TheVariants.{Queue as QueueFile}
 use Rattle.bdb_format.specs.declared.metadata.Head.{Head}
 use Rattle.bdb_format.specs.declared.metadata.QueueMeta.{QueueMeta}
 use Rattle.bdb_format.specs.declared.references.Reference.{Reference}
-use Rattle.bdb_format.specs.declared.references.Sort.{Sort}
 use Rattle.bdb_format.specs.HeadOf.{head_of}
 use Rattle.bdb_format.specs.Numbers.{byte_at}
 use Rattle.bdb_format.specs.Page.{Metadata, QueueFields, Page, Zero, Free, Meta, Hash, Internal, RecnoInternal}
@@ -17,14 +16,13 @@ use Rattle.bdb_format.specs.Page.{Leaf, RecnoLeaf, DupLeaf, Overflow, Queue, NoT
 use Rattle.bdb_format.specs.Reading.{abstract_page, is_zero, page_as, page_type, queue_fields}
 use Rattle.bdb_format.specs.Rows.{form_code, may_have_type}
 use Rattle.bdb_format.specs.File.{File, file_of, page_at, page_bytes}
-use Rattle.bdb_format.specs.References.{fit_code, refs, targets_of}
+use Rattle.bdb_format.specs.References.{refs}
 use Rattle.bdb_format.specs.Graph.{Owner, all_references, held_by, is_anchor, is_anchor_in, is_meta, is_reserve}
-use Rattle.bdb_format.specs.Chains.{chains_in, is_wrong_length}
-use Rattle.bdb_format.specs.Leaves.{LeafPlace, is_wrong_leaf, is_wrong_link, leaf_places, root_references}
+use Rattle.bdb_format.specs.Chains.{chains_in}
+use Rattle.bdb_format.specs.Leaves.{leaf_places, root_references}
 use Rattle.bdb_format.specs.ContentRows.{contents_rows, database_rows, fields_in, fields_of, holds_code, holds_somewhere}
-use Rattle.bdb_format.specs.Master.{master_rows}
-use Rattle.bdb_format.specs.Verdict.{contents_faults, fails_as, faults_of, first_judgement, form_faults, holding, master_faults}
-use Rattle.bdb_format.specs.Verdict.{ownership_faults, reach_faults, reference_faults, reference_rows, some_fails, structure_faults, structure_rows}
+use Rattle.bdb_format.specs.Verdict.{contents_faults, faults_of, first_judgement, form_faults, holding, master_faults}
+use Rattle.bdb_format.specs.Verdict.{ownership_faults, reach_faults, reference_faults, structure_faults}
 use Rattle.bdb_format.proofs.GraphLemmas.{each_page_has_one_role, type_fits, typed_page, zero_page}
 use Rattle.bdb_format.proofs.ListLemmas.{only_member}
 use Rattle.bdb_format.proofs.MemberLemmas.{is_empty, no_member, none_pass, of_flat_map, of_map}
@@ -93,17 +91,11 @@ queue_file image none queue =
 
 no_refs : (file : File) (p : ℕ) → file.kind ≡ QueueFile → refs file p ≡ []
 unfolding refs
-no_refs file p queue =
-    ap (λ kind. map (λ (named : ℕ × (Sort × ℕ)). let r : Reference = record { place = named.0; sort = named.1.0; target = named.1.1 } in r)
-    (enumerate_from 0 (targets_of kind p (page_at file p)))) queue
+no_refs file p queue = grind arith
 
 references_none : (file : File) → file.kind ≡ QueueFile → reference_faults file ≡ []
 unfolding reference_faults
-references_none file queue =
-    no_faults 3 0 (file.last + 1) (λ p. holding (reference_rows file p)) (λ p low high.
-    let fails : (code : ℕ) → some_fails file p code ≡ false =
-    λ code. ap (λ rs. list_any (λ r. fails_as code (fit_code file p r)) rs) (no_refs file p queue) in
-    none_holds (reference_rows file p) (fails 1, (fails 2, (fails 3, (fails 4, tt)))))
+references_none file queue = grind (arith, no_faults, no_refs, none_holds)
 
 all_anchors : (file : File) (p : ℕ) → file.kind ≡ QueueFile → is_anchor file p ≡ true
 unfolding is_anchor
@@ -151,15 +143,7 @@ no_places file queue = rw (no_references file queue) refl
 
 structure_none : (file : File) (meta : QueueMeta) → IsQueueFile file meta → structure_faults file ≡ []
 unfolding structure_faults
-structure_none file meta is =
-    no_faults 6 0 (file.last + 1) (λ p. holding (structure_rows file p)) (λ p low high.
-    none_holds (structure_rows file p) (
-      ap (list_any (is_wrong_length file)) (no_chains file meta p is (omega arith)),
-      (
-        ap (list_any (λ (place : LeafPlace). place.leaf == p && is_wrong_leaf file place)) (no_places file is.kind),
-        (ap (list_any (λ (place : LeafPlace). place.leaf == p && is_wrong_link file place)) (no_places file is.kind), tt),
-      ),
-    ))
+structure_none file meta is = grind (arith, no_faults, none_holds, no_chains, no_places)
 
 -- Stages 7 and 8.
 
@@ -170,20 +154,14 @@ no_meta_in page is meta = cc
 
 master_none : (file : File) (meta : QueueMeta) → IsQueueFile file meta → master_faults file ≡ []
 unfolding master_faults
-master_none file meta is =
-    no_faults 7 0 (file.last + 1) (λ p. holding (master_rows file p)) (λ p low high.
-    none_holds (master_rows file p)
-    (master_rows_fail file p (no_pairs_at file (QueueFields meta) is.named refl)
-    (named_kind file p (λ above found. no_meta_in (page_at file p) (is.pages p above (omega arith)) found))))
+master_none file meta is = grind (arith, no_faults, none_holds, master_rows_fail, no_pairs_at, named_kind, no_meta_in)
 
 -- the only metadata is that of page 0
 only_fields : (file : File) (meta : QueueMeta) (q : ℕ) (fields : Metadata) → IsQueueFile file meta → q ≤ file.last
     → Contains (fields_in (page_at file q)) fields → QueueFields meta ≡ fields
 only_fields file meta zero fields is high on =
     only_member (QueueFields meta) fields (subst (λ page. Contains (fields_in page) fields) is.named on)
-only_fields file meta (suc q) fields is high on =
-    absurd (no_member (fields_in (page_at file (suc q))) fields
-    (no_fields (page_at file (suc q)) (no_meta_in (page_at file (suc q)) (is.pages (suc q) (omega arith) high))) on)
+only_fields file meta (suc q) fields is high on = grind (arith, no_member, no_fields, no_meta_in)
 
 contents_none : (file : File) (meta : QueueMeta) → IsQueueFile file meta → ArePages file → contents_faults file ≡ []
 unfolding contents_faults

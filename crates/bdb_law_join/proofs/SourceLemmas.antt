@@ -1,11 +1,11 @@
 -- Where a reference of joined parts comes from, and that it fits.
-use Rattle.std.proofs.Common.{◌≡◌, ◌⊎◌, ℕ, ◌+◌, ◌≤◌, true, false, List, [], Option, Some, None, arith, refl, ◌∙◌, ap, subst, inl, inr}
+use Rattle.std.proofs.Common.{◌≡◌, ◌⊎◌, ℕ, ◌+◌, ◌≤◌, true, false, List, [], Option, Some, None, arith, refl, ◌∙◌, subst, inl, inr}
 use Rattle.std.specs.List.{Contains}
 use Rattle.bdb_format.specs.declared.references.Reference.{Reference}
 use Rattle.bdb_format.specs.Table.{first_row}
 use Rattle.bdb_format.specs.Page.{Metadata, Meta}
 use Rattle.bdb_format.specs.File.{File, page_at}
-use Rattle.bdb_format.specs.References.{refs, asked_by, fit_rows, fit_code}
+use Rattle.bdb_format.specs.References.{refs, fit_rows, fit_code}
 use Rattle.bdb_format.specs.Verdict.{fails_as, some_fails, reference_rows, reference_faults, holding}
 use Rattle.bdb_format.proofs.MemberLemmas.{none_pass}
 use Rattle.bdb_format.proofs.VerdictLemmas.{no_faults, none_holds}
@@ -50,10 +50,7 @@ source_into file joints j q p r all member inside high at names =
 fits_from_meta : (file : File) (q : ℕ) (fields : Metadata) (r : Reference) → page_at file q ≡ Meta fields → r.sort ≡ entrance_sort fields
     → first_row (fit_rows file (entrance_asks fields) r.target) ≡ None → fit_code file q r ≡ None
 unfolding fit_code
-fits_from_meta file q fields r is sort fits =
-    ap (λ page. first_row (fit_rows file (asked_by q page r.sort) r.target)) is
-    ∙ (ap (λ s. first_row (fit_rows file (asked_by q (Meta fields) s) r.target)) sort
-    ∙ (ap (λ asked. first_row (fit_rows file asked r.target)) (asks_same q fields) ∙ fits))
+fits_from_meta file q fields r is sort fits = grind (arith, asks_same)
 
 all_fit : (file : File) (joints : List Joint) (q : ℕ) (r : Reference) → AreJoined file joints → q ≤ file.last → Contains (refs file q) r
     → fit_code file q r ≡ None

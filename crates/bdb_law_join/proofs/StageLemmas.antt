@@ -19,7 +19,7 @@ use Rattle.bdb_format.specs.Graph.{Owner, all_references, held_by, is_meta}
 use Rattle.bdb_format.specs.Chains.{chains_in, is_wrong_length}
 use Rattle.bdb_format.specs.Leaves.{LeafPlace, is_root_reference, is_wrong_leaf, is_wrong_link, leaf_places, leaves, places_from, root_references}
 use Rattle.bdb_format.specs.ContentRows.{contents_rows, database_rows, fields_in, fields_of, holds_code, holds_somewhere}
-use Rattle.bdb_format.specs.Verdict.{holding, by_page, tail_rows, head_faults}
+use Rattle.bdb_format.specs.Verdict.{holding, by_page, head_faults}
 use Rattle.bdb_format.specs.Verdict.{tail_faults, form_faults, structure_rows, structure_faults, contents_faults}
 use Rattle.bdb_format.proofs.ListLemmas.{only_member}
 use Rattle.bdb_format.proofs.MemberLemmas.{no_member, none_passes, none_pass, of_map, of_flat_map, of_filter, of_range}
@@ -173,15 +173,9 @@ head_none image none = ap (λ code. by_page 1 0 1 (λ p. option_to_list code)) n
 
 pub tail_none : (image : List ℕ) → (head_of image).last + 1 ≡ (head_of image).pages → tail_faults image ≡ []
 unfolding tail_faults
-tail_none image whole =
-    let head : Head = head_of image in
-    let nothing : head.pages - (head.last + 1) ≡ 0 = omega (arith, whole) in
-    ap (λ n. by_page 1 (head.last + 1) n (λ p. holding (tail_rows head image p))) nothing
+tail_none image whole = grind arith
 
 pub form_none : (image : List ℕ) → ((p : ℕ) → p ≤ (head_of image).last → form_code (head_of image) p (page_bytes (head_of image) image p) ≡ None)
     → form_faults image ≡ []
 unfolding form_faults
-form_none image formed =
-    let head : Head = head_of image in
-    no_faults 2 0 (head.last + 1) (λ p. option_to_list (form_code head p (page_bytes head image p)))
-    (λ p low high. ap option_to_list (formed p (omega arith)))
+form_none image formed = grind (arith, no_faults)

@@ -1,12 +1,10 @@
 -- A tree under metadata that is written over page 0.
 use Rattle.std.proofs.Common.{◌≡◌, ℕ, ◌+◌, ◌-◌, ◌<◌, ◌≤◌, true, List, [], ◌∷◌, length, None, set}
-use Rattle.std.proofs.Common.{arith, refl, sym, ◌∙◌, ap}
+use Rattle.std.proofs.Common.{arith, refl, sym, ◌∙◌}
 use Rattle.std.specs.List.{Contains}
 use Rattle.std.proofs.lemmas.List.{get_or-set_other, get_or-set_same, length-set}
 use Rattle.bdb_format.specs.declared.metadata.BtreeMeta.{BtreeMeta}
-use Rattle.bdb_format.specs.Reading.{btree_fields}
 use Rattle.bdb_format.specs.Rows.{page_code}
-use Rattle.bdb_format.specs.Spelling.{btree_bytes}
 use Rattle.bdb_format.specs.File.{File}
 use Rattle.bdb_format.specs.HeadOf.{head_of}
 use Rattle.bdb_format.specs.Lists.{ListKey}
@@ -26,24 +24,7 @@ use Rattle.bdb_law_join.proofs.FiledLemmas.{IsTopped, btrees_are_spelled, filed_
 -- the pages after page 0 is written over
 topped : (built : Built) (page : List ℕ) (meta : BtreeMeta) (image : List ℕ) → IsWritten built page meta image
     → IsTopped (with_page built 0 page) meta image
-topped built page meta image is =
-    let low : 0 < length built.pages = omega (arith, is.pages.some) in
-    let count : length (set built.pages 0 page) ≡ length built.pages = length-set built.pages 0 page in
-    let same : bytes_of (with_page built 0 page) 0 ≡ page = get_or-set_same built.pages 0 page [] low in
-    record {
-      pages = record {
-        legal = is.pages.legal;
-        some = omega (arith, count, is.pages.some);
-        few = omega (arith, count, is.pages.few);
-        whole = page_whole built 0 page is.pages.whole low (page_length built 0 page meta is.pages is.spells);
-      };
-      spells = record {
-        bytes = same ∙ (is.spells.bytes ∙ ap (λ n. btree_bytes built.order built.size 0 (n - 1) meta) (sym count));
-        fields = ap (btree_fields built.order) same ∙ is.spells.fields;
-        flags = is.spells.flags;
-      };
-      image_is = is.image_is;
-    }
+topped built page meta image is = grind (arith, set, length-set, get_or-set_same, page_whole, page_length)
 
 pub written_pages_are_read : WrittenPagesAreRead
 written_pages_are_read built page meta image is =

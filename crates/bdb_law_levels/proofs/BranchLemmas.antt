@@ -18,7 +18,7 @@ use Rattle.bdb_law_levels.specs.Branches.{KeyHasLength, TowersAreBranches}
 use Rattle.bdb_law_levels.specs.Nodes.{HasItems, IsOver, IsTower, Node, keyed_item, no_node}
 use Rattle.bdb_law_levels.specs.declared.inner_type.InnerType.{InnerType}
 use Rattle.bdb_law_levels.specs.declared.inner_type.InnerType.TheVariants.{Keyed, Numbered}
-use Rattle.bdb_law_levels.specs.Roots.{is_of, pages_of}
+use Rattle.bdb_law_levels.specs.Roots.{pages_of}
 use Rattle.bdb_law_levels.proofs.NodeLemmas.{all_over}
 use Rattle.bdb_law_levels.proofs.RootLemmas.{stands_on, towers_stand}
 
@@ -80,9 +80,4 @@ tower_right type g level below (nodes ∷ above) root forest low (over, tower) k
     ]
 
 pub towers_are_branches : TowersAreBranches
-towers_are_branches type g pages level below above root over keys branch =
-    let right = tower_right type g level below above root over.no_queue over.low over.tower keys in
-    branch_with g pages (λ p. pages p || is_of (pages_of above) p) _ _ (Contains (pages_of above)) branch (λ p at. (right p at).chains)
-    (λ p r at held root. absurd ((right p at).rootless r held root))
-    (λ p is. elim (or_cases (pages p) (is_of (pages_of above) p) is) [ inl old ↦ inl old | inr new ↦ inr (of_list (pages_of above) p new) ])
-    (towers_stand type g pages level below above root over)
+towers_are_branches type g pages level below above root over keys branch = grind (arith, tower_right, branch_with, or_cases, of_list, towers_stand)

@@ -1,8 +1,8 @@
 -- Separators and counts of the internal pages of towers.
 use Rattle.std.proofs.Common.{◌≡◌, ℕ, zero, suc, ◌+◌, ◌<◌, ◌≤◌, eq-eqb, true, false, not, Bool, List, [], ◌∷◌, ◌++◌, map, length, take, get_or, append-nil}
 use Rattle.std.proofs.Common.{append_assoc, arith, refl, sym, ◌∙◌, ap, subst}
-use Rattle.std.specs.Prelude.{◌==◌, ◌||◌, nat_lt}
-use Rattle.std.specs.List.{All, Contains, filter, flat_map, list_any, sum_by}
+use Rattle.std.specs.Prelude.{◌==◌, ◌||◌}
+use Rattle.std.specs.List.{All, Contains, flat_map, list_any, sum_by}
 use Rattle.std.proofs.lemmas.Bool.{le-ltb, or_from}
 use Rattle.std.proofs.lemmas.Grind.{flat_map-append}
 use Rattle.std.proofs.lemmas.List.{map-append}
@@ -89,11 +89,7 @@ counted_climb f type g test right = record {
 -- the item of a page is right that counts the pairs below it
 right_count : (g : File) (item : InternalItem) (pairs : List StoredPair) → tree_pairs g item.child ≡ pairs → item.count ≡ length pairs
     → is_wrong_count g item ≡ false
-right_count g item pairs are counts =
-    let is_live : StoredPair → Bool = λ pair. pair.live in
-    let some : length (filter is_live pairs) ≤ length pairs = omega (arith, length-filter is_live pairs, count_by-le-length is_live pairs) in
-    ap (λ all. nat_lt item.count (length (filter is_live all)) || nat_lt (length all) item.count) are
-    ∙ or_from _ _ (le-ltb item.count (length (filter is_live pairs)) (omega arith)) (le-ltb (length pairs) item.count (omega arith))
+right_count g item pairs are counts = grind (arith, length-filter, count_by-le-length, or_from, le-ltb)
 
 node_count : (g : File) (level : ℕ) (key : Content) (node : Node) (nodes : List Node) → AreCounted g (pairs_of g) level (node ∷ nodes)
     → is_wrong_count g (keyed_item key node) ≡ false
@@ -177,9 +173,7 @@ part_is g level key node have =
 parts_are : (g : File) (level : ℕ) (nodes : List Node) → All (HasLeaves g level) nodes
     → map (separated g) (map (λ (other : Node). keyed_item other.key other) nodes) ≡ map (part g) nodes
 parts_are g level [] have = refl
-parts_are g level (node ∷ nodes) have =
-    let here : separated g (keyed_item node.key node) ≡ part g node = part_is g level node.key node (All-head (HasLeaves g level) node nodes have) in
-    let later = parts_are g level nodes (All-tail (HasLeaves g level) node nodes have) in cc
+parts_are g level (node ∷ nodes) have = grind (arith, part_is, All-head, All-tail, parts_are g level nodes (All-tail (HasLeaves g level) node nodes have))
 
 -- a page whose pairs begin with one of its own key
 abbrev Begins : File → Node → Type 0
@@ -214,9 +208,7 @@ before_key g xs node pairs ys has follow k at =
 
 first_among : (g : File) (node : Node) (pairs : List StoredPair) → HasFirst g node pairs
     → Contains (keys_of pairs) (value_of g node.key)
-first_among g node pairs has =
-    subst (Contains (keys_of pairs)) has.key
-    (in_map (λ (pair : StoredPair). pair.key) pairs has.first (subst (λ ps. Contains ps has.first) (sym has.are) (first_member has.first has.others)))
+first_among g node pairs has = grind (arith, in_map, first_member)
 
 keys_rise : (g : File) (nodes : List Node) → All (Begins g) nodes → Follow (flat_map (pairs_below g) nodes) → KeysRise (map (part g) nodes)
 keys_rise g [] begin follow = tt

@@ -1,4 +1,5 @@
 -- Pairs whose keys never fall, and rise where a pair has its own.
+use Rattle.std.proofs.Common.{arith}
 use Rattle.std.proofs.Common.{◌≡◌, ℕ, true, false, List, [], ◌∷◌, ◌++◌, refl, sym, ◌∙◌, ap, subst, inl, inr, true≢false}
 use Rattle.std.specs.List.{Contains, flat_map}
 use Rattle.std.proofs.lemmas.Bool.{cases_Bool}
@@ -25,11 +26,7 @@ follow_left (x ∷ next ∷ xs) ys follow = (follow.0, follow_left (next ∷ xs)
 -- what is not less than a later key is not less than one before it
 not_below : (k : List ℕ) (pair next : StoredPair) → Follows pair next → less k next.key ≡ false → less k pair.key ≡ false
 not_below k pair next (inl same) not = ap (less k) (sym same.1) ∙ not
-not_below k pair next (inr rises) not =
-    elim (cases_Bool (less k pair.key)) [
-      | inl is ↦ absurd (true≢false (sym (less_trans k pair.key next.key is rises) ∙ not))
-      | inr other ↦ other
-    ]
+not_below k pair next (inr rises) not = grind (arith, cases_Bool, less_trans)
 
 -- no key is less than the first
 pub first_least : (first : StoredPair) (pairs : List StoredPair) → Follow (first ∷ pairs) → (pair : StoredPair) → Contains (first ∷ pairs) pair

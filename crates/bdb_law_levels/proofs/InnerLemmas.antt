@@ -1,14 +1,15 @@
 -- The internal pages of a tower are those of its levels.
+use Rattle.std.proofs.Common.{arith}
 use Rattle.std.proofs.Common.{◌≡◌, ℕ, zero, suc, ◌+◌, Bool, true, false, cond, List, [], ◌∷◌, ◌++◌, map, None, refl, sym, ◌∙◌, ap, subst}
 use Rattle.std.specs.Prelude.{◌==◌, ◌&&◌}
-use Rattle.std.specs.List.{All, filter, flat_map, list_any}
+use Rattle.std.specs.List.{All, filter, flat_map}
 use Rattle.std.specs.Option.{is_some, unwrap_or}
 use Rattle.std.proofs.lemmas.Bool.{and_right, or_from}
 use Rattle.std.proofs.lemmas.List.Elements.{All-head, All-nil, All-tail, All-cons}
 use Rattle.std.proofs.lemmas.List.{map-append}
 use Rattle.std.proofs.lemmas.List.Folds.{list_any-append}
 use Rattle.bdb_format.specs.Page.{Page}
-use Rattle.bdb_format.specs.File.{File, header_in, page_at}
+use Rattle.bdb_format.specs.File.{File, page_at}
 use Rattle.bdb_format.specs.Leaves.{children_in}
 use Rattle.bdb_format.specs.ContentRows.{inner_in, inner_pages, is_wrong_at}
 use Rattle.bdb_law_levels.specs.Contents.{AreLeaves}
@@ -50,10 +51,7 @@ inner_of_none g (suc levels) = inner_of_none g levels
 
 leaves_none_wrong : (g : File) (test : Page → Bool) (p : ℕ) (nodes : List Node) → AreLeaves g nodes → NoneWrong g test p nodes
 leaves_none_wrong g test p nodes leaves zero = refl
-leaves_none_wrong g test p nodes leaves (suc levels) =
-    let none = no_children g nodes leaves in
-    ap (λ ps. is_wrong_at g test (ps ++ inner_in levels g (flat_map (children_at g) (numbers nodes))) p) none.0
-    ∙ ap (λ ps. is_wrong_at g test (inner_in levels g ps) p) none.1 ∙ ap (λ ps. is_wrong_at g test ps p) (inner_of_none g levels)
+leaves_none_wrong g test p nodes leaves (suc levels) = grind (arith, no_children, inner_of_none)
 
 -- a level over another
 
@@ -61,9 +59,7 @@ children_below : (type : InnerType) (g : File) (level : ℕ) (nodes below : List
     → flat_map (children_at g) (numbers nodes) ≡ numbers below
 children_below type g level [] below over = ap numbers (sym over)
 children_below type g level (node ∷ nodes) below (run, rest, is, this, after) =
-    ap (λ children. unwrap_or children [] ++ flat_map (children_at g) (numbers nodes)) (children_are type g node.page level run this.items)
-    ∙ ap (λ ps. numbers run ++ ps) (children_below type g level nodes rest after) ∙ sym (map-append (λ (node : Node). node.page) run rest)
-    ∙ ap numbers (sym is)
+    grind (arith, children_are, map-append, children_below type g level nodes rest after)
 
 none_at : (g : File) (test : Page → Bool) (p : ℕ) (b : Bool) (q : ℕ) (qs : List ℕ) → test (page_at g q) ≡ false → is_wrong_at g test qs p ≡ false
     → is_wrong_at g test (cond b (q ∷ qs) qs) p ≡ false
@@ -73,19 +69,12 @@ none_at g test p false q qs right none = none
 level_right : (g : File) (test : Page → Bool) (p : ℕ) (nodes : List Node) → All (IsRight g test) nodes
     → is_wrong_at g test (filter (is_inner g) (numbers nodes)) p ≡ false
 level_right g test p [] right = refl
-level_right g test p (node ∷ nodes) right =
-    none_at g test p (is_inner g node.page) node.page (filter (is_inner g) (numbers nodes)) (All-head (IsRight g test) node nodes right)
-    (level_right g test p nodes (All-tail (IsRight g test) node nodes right))
+level_right g test p (node ∷ nodes) right = grind (arith, none_at, All-head, All-tail, level_right g test p nodes (All-tail (IsRight g test) node nodes right))
 
 level_none_wrong : (type : InnerType) (g : File) (test : Page → Bool) (p level : ℕ) (nodes below : List Node) → AreOver type g level nodes below
     → All (IsRight g test) nodes → NoneWrong g test p below → NoneWrong g test p nodes
 level_none_wrong type g test p level nodes below over right none zero = refl
-level_none_wrong type g test p level nodes below over right none (suc levels) =
-    let wrong : ℕ → Bool = λ q. q == p && test (page_at g q) in
-    let later : list_any wrong (inner_in levels g (flat_map (children_at g) (numbers nodes))) ≡ false =
-    ap (λ ps. list_any wrong (inner_in levels g ps)) (children_below type g level nodes below over) ∙ none levels in
-    list_any-append wrong (filter (is_inner g) (numbers nodes)) (inner_in levels g (flat_map (children_at g) (numbers nodes)))
-    ∙ or_from _ _ (level_right g test p nodes right) later
+level_none_wrong type g test p level nodes below over right none (suc levels) = grind (arith, children_below, list_any-append, or_from, level_right)
 
 -- What is so of each run of the level at the bottom, and then of each run of the next, and makes the page over a run right.
 pub record Climbs (type : InnerType) (g : File) (test : Page → Bool) (Facts : ℕ → List Node → Type 0) : Type 0 where
@@ -115,6 +104,4 @@ pub tower_right : (type : InnerType) (g : File) (test : Page → Bool) (Facts : 
     (above : List (List Node)) (root : Node) → Climbs type g test Facts → IsTower type g level below above root → Facts level below
     → AreLeaves g below → is_wrong_at g test (inner_pages g root.page) p ≡ false
 unfolding inner_pages
-tower_right type g test Facts level p below above root climbs tower facts leaves =
-    tower_none_wrong type g test Facts level p below above root climbs tower facts (leaves_none_wrong g test p below leaves)
-    (header_in (page_at g root.page)).level
+tower_right type g test Facts level p below above root climbs tower facts leaves = grind (arith, tower_none_wrong, leaves_none_wrong)

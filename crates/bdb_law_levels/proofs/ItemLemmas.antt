@@ -9,8 +9,7 @@ use Rattle.bdb_format.specs.declared.references.Sort.{Sort}
 use Rattle.bdb_format.specs.declared.references.Sort.TheVariants.{Child, OverflowHead}
 use Rattle.bdb_format.specs.Page.{Content, Inline, Set, Chain, Tree, Unknown, Page}
 use Rattle.bdb_format.specs.File.{File, page_at, header_in, type_in}
-use Rattle.bdb_format.specs.References.{asked_by, child_types, content_targets, fit_code, fit_rows, has_type, internal_targets, refs, targets_in}
-use Rattle.bdb_format.specs.Table.{first_row}
+use Rattle.bdb_format.specs.References.{child_types, content_targets, fit_code, has_type, internal_targets, refs, targets_in}
 use Rattle.bdb_format.proofs.MemberLemmas.{first_member, later_member, member_cases, no_member}
 use Rattle.bdb_law_grove.proofs.GroveLemmas.{enumerated_names, fits_asked, of_references, reference_of, refs_of}
 use Rattle.bdb_law_grove.proofs.SeveralLemmas.{count, count-append}
@@ -44,11 +43,7 @@ named_none = record { sorts = λ target at. absurd (no_member [] target refl at)
 -- one target more
 one_more : (sort : Sort) (p : ℕ) (ps : List ℕ) (targets : List (Sort × ℕ)) (target : Sort × ℕ) → Contains ((sort, p) ∷ targets) target
     → ((target.0 ≡ sort) × Contains (p ∷ ps) target.1) ⊎ Contains targets target
-one_more sort p ps targets target at =
-    elim (member_cases (sort, p) targets target at) [
-      | inl here ↦ inl (subst (λ (t : Sort × ℕ). (t.0 ≡ sort) × Contains (p ∷ ps) t.1) here (refl, first_member p ps))
-      | inr later ↦ inr later
-    ]
+one_more sort p ps targets target at = grind (arith, member_cases, first_member)
 
 named_child : (child : ℕ) (targets : List (Sort × ℕ)) (children taken : List ℕ) → AreNamed targets children taken
     → AreNamed ((Child, child) ∷ targets) (child ∷ children) taken
@@ -113,8 +108,4 @@ pub child_fits : (g : File) (p level : ℕ) (page : Page) (types : List ℕ) (r 
     → (header_in page).level ≡ level + 1 → r.sort ≡ Child → 1 ≤ r.target → r.target ≤ g.last → has_type types (type_in (page_at g r.target)) ≡ true
     → (header_in (page_at g r.target)).level ≡ level → fit_code g p r ≡ None
 unfolding fit_code
-child_fits g p level page types r is asks over sort low high type level_is =
-    ap (λ s. first_row (fit_rows g (asked_by p (page_at g p) s) r.target)) sort
-    ∙ (ap (λ holder. first_row (fit_rows g (asked_by p holder Child) r.target)) is
-    ∙ fits_asked g (asked_by p page Child) r.target low high (ap (λ ts. has_type ts (type_in (page_at g r.target))) asks ∙ type)
-    (eq-eqb ((header_in page).level - 1) (header_in (page_at g r.target)).level (omega arith)) refl)
+child_fits g p level page types r is asks over sort low high type level_is = grind (arith, fits_asked, eq-eqb)

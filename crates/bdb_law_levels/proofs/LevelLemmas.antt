@@ -1,4 +1,5 @@
 -- Levels.
+use Rattle.std.proofs.Common.{arith}
 use Rattle.std.proofs.Common.{◌≡◌, ℕ, suc, List, [], ◌∷◌, ◌++◌, Some, sym, ◌∙◌, ap}
 use Rattle.std.specs.List.{flat_map}
 use Rattle.std.proofs.lemmas.Grind.{flat_map-append}
@@ -14,6 +15,4 @@ leaves_of_children file level q children is = ap (leaves_under (leaves_in level 
 pub levels_have_the_same_leaves : LevelsHaveTheSameLeaves
 levels_have_the_same_leaves file level [] below over = ap (flat_map (leaves_in level file)) (sym over)
 levels_have_the_same_leaves file level (q ∷ qs) below (children, rest, is, joined, after) =
-    ap (λ xs. xs ++ flat_map (leaves_in (suc level) file) qs) (leaves_of_children file level q children is)
-    ∙ (ap (λ xs. flat_map (leaves_in level file) children ++ xs) (levels_have_the_same_leaves file level qs rest after)
-    ∙ (sym (flat_map-append (leaves_in level file) children rest) ∙ ap (flat_map (leaves_in level file)) (sym joined)))
+    grind (arith, leaves_of_children, flat_map-append, levels_have_the_same_leaves file level qs rest after)

@@ -47,9 +47,7 @@ header_level Numbered g p level nodes (page, is, level_is, items) = ap (λ page.
 leaves_below : (g : File) (level : ℕ) (nodes : List Node) → All (HasLeaves g level) nodes
     → flat_map (leaves_in level g) (map (λ (node : Node). node.page) nodes) ≡ flat_map (λ (node : Node). node.leaves) nodes
 leaves_below g level [] have = refl
-leaves_below g level (node ∷ nodes) have =
-    ap (λ ps. ps ++ flat_map (leaves_in level g) (map (λ (node : Node). node.page) nodes)) (All-head (HasLeaves g level) node nodes have).leaves_are
-    ∙ ap (λ ps. node.leaves ++ ps) (leaves_below g level nodes (All-tail (HasLeaves g level) node nodes have))
+leaves_below g level (node ∷ nodes) have = grind (arith, All-head, All-tail, leaves_below g level nodes (All-tail (HasLeaves g level) node nodes have))
 
 -- its leaves are theirs
 leaves_over : (type : InnerType) (g : File) (level : ℕ) (node : Node) (run : List Node) → IsOver type g (level + 1) node run
@@ -88,10 +86,7 @@ level_has_leaves type g level = all_over type g (level + 1) (HasLeaves g level) 
 pub leaves_joined : (type : InnerType) (g : File) (level : ℕ) (nodes below : List Node) → AreOver type g level nodes below
     → flat_map (λ (node : Node). node.leaves) nodes ≡ flat_map (λ (node : Node). node.leaves) below
 leaves_joined type g level [] below over = ap (flat_map (λ (node : Node). node.leaves)) (sym over)
-leaves_joined type g level (node ∷ nodes) below (run, rest, is, this, after) =
-    ap (λ ps. ps ++ flat_map (λ (node : Node). node.leaves) nodes) this.leaves
-    ∙ ap (λ ps. flat_map (λ (node : Node). node.leaves) run ++ ps) (leaves_joined type g level nodes rest after)
-    ∙ sym (flat_map-append (λ (node : Node). node.leaves) run rest) ∙ ap (flat_map (λ (node : Node). node.leaves)) (sym is)
+leaves_joined type g level (node ∷ nodes) below (run, rest, is, this, after) = grind (arith, flat_map-append, leaves_joined type g level nodes rest after)
 
 counts_joined : (type : InnerType) (g : File) (level : ℕ) (nodes below : List Node) → AreOver type g level nodes below
     → sum_by (λ (node : Node). node.count) nodes ≡ sum_by (λ (node : Node). node.count) below

@@ -63,10 +63,7 @@ rises_at (part ∷ next ∷ parts) (suc m) low rise = rises_at (next ∷ parts) 
 rise_row : (first : Separated) (others : List Separated) (j : ℕ) → j < length others → KeysRise others
     → (nat_le 2 (suc j) && not (less (get_or (first ∷ others) (suc j - 1) no_separator).key (get_or others j no_separator).key)) ≡ false
 rise_row first others zero low rise = refl
-rise_row first others (suc m) low rise =
-    let e : suc (suc m) - 1 ≡ suc m = omega arith in
-    and_right (nat_le 2 (suc (suc m))) (not (less (get_or (first ∷ others) (suc (suc m) - 1) no_separator).key (get_or others (suc m) no_separator).key))
-    (ap (λ k. not (less (get_or (first ∷ others) k no_separator).key (get_or others (suc m) no_separator).key)) e ∙ ap not (rises_at others m low rise))
+rise_row first others (suc m) low rise = grind (arith, and_right, rises_at)
 
 breaks_none : (first : Separated) (others : List Separated) (j : ℕ) → j < length others → AreInOrder first others → breaks (first ∷ others) (suc j) ≡ false
 breaks_none first others j low order =

@@ -1,8 +1,8 @@
 -- A page over entrances of a grove, which names heads of chains once more.
-use Rattle.std.proofs.Common.{◌≡◌, ◌⊎◌, ℕ, ◌+◌, ◌<◌, ◌≤◌, Bool, true, false, cond, List, [], ◌∷◌, ◌++◌, length, None, arith, refl, sym, ◌∙◌, ap, subst, inl}
+use Rattle.std.proofs.Common.{◌≡◌, ◌⊎◌, ℕ, ◌+◌, ◌<◌, ◌≤◌, Bool, true, false, List, [], ◌∷◌, ◌++◌, length, None, arith, refl, sym, ◌∙◌, ap, subst, inl}
 use Rattle.std.proofs.Common.{inr, true≢false, length-append}
 use Rattle.std.specs.Prelude.{◌==◌, ◌&&◌}
-use Rattle.std.specs.List.{Contains, filter}
+use Rattle.std.specs.List.{Contains}
 use Rattle.std.proofs.lemmas.Bool.{cases_eq, eqb-true, ne_eqb, or_left, or_cases}
 use Rattle.std.proofs.lemmas.List.{nil_from_length}
 use Rattle.std.proofs.lemmas.List.Folds.{list_all-append}
@@ -12,8 +12,7 @@ use Rattle.bdb_format.specs.declared.references.Reference.{Reference}
 use Rattle.bdb_format.specs.declared.references.Sort.{Sort}
 use Rattle.bdb_format.specs.declared.references.Sort.TheVariants.{Free, Root, Bucket, HashNext, Child, OverflowHead, OverflowNext, DuplicateRoot}
 use Rattle.bdb_format.specs.File.{File, page_at, header_in}
-use Rattle.bdb_format.specs.References.{asked_by, fit_code, fit_rows, refs}
-use Rattle.bdb_format.specs.Table.{first_row}
+use Rattle.bdb_format.specs.References.{fit_code, refs}
 use Rattle.bdb_format.specs.Graph.{Owner, is_head_reference}
 use Rattle.bdb_format.proofs.MemberLemmas.{first_member, in_map, later_member}
 use Rattle.bdb_law_grove.specs.Part.{IsGrove, IsOwnedBy, are_heads_alone, owners_among}
@@ -28,14 +27,7 @@ use Rattle.bdb_law_levels.specs.Roots.{IsHeadOnce}
 
 member_or_none : (e : ℕ) (xs : List ℕ) → Contains xs e ⊎ (count e xs ≡ 0)
 member_or_none e [] = inr refl
-member_or_none e (x ∷ xs) =
-    elim (cases_eq x e) [
-      | inl same ↦ inl (subst (λ y. Contains (y ∷ xs) e) (sym same) (first_member e xs))
-      | inr other ↦ elim (member_or_none e xs) [
-        | inl at ↦ inl (later_member x xs e at)
-        | inr none ↦ inr (ap (λ b. length (cond b (x ∷ filter (λ y. y == e) xs) (filter (λ y. y == e) xs))) (ne_eqb x e other) ∙ none)
-      ]
-    ]
+member_or_none e (x ∷ xs) = grind (arith, cases_eq, first_member, later_member, ne_eqb, member_or_none e xs)
 
 pub counted_member : (e : ℕ) (xs : List ℕ) → 1 ≤ count e xs → Contains xs e
 counted_member e xs some = elim (member_or_none e xs) [ inl at ↦ at | inr none ↦ absurd (omega arith) ]
@@ -63,10 +55,7 @@ all_heads os heads =
 same_code : (g : File) (p q : ℕ) (r s : Reference) → r.sort ≡ OverflowHead → s.sort ≡ OverflowHead → s.target ≡ r.target → fit_code g q s ≡ None
     → fit_code g p r ≡ None
 unfolding fit_code
-same_code g p q r s one two same fits =
-    ap (λ sort. first_row (fit_rows g (asked_by p (page_at g p) sort) r.target)) one
-    ∙ (ap (λ target. first_row (fit_rows g (asked_by q (page_at g q) OverflowHead) target)) (sym same)
-    ∙ (ap (λ sort. first_row (fit_rows g (asked_by q (page_at g q) sort) s.target)) (sym two) ∙ fits))
+same_code g p q r s one two same fits = grind arith
 
 -- a head that a page of a grove names is named by each other page as well as by that one
 head_fits : (g : File) (pages : ℕ → Bool) (es : List ℕ) (p : ℕ) (r : Reference) → IsGrove g pages es → IsHeadOnce g pages r.target

@@ -40,10 +40,7 @@ more_turns (suc t) (suc u) order (b ∷ bytes) p q =
 pub blocks_of-cons : (order : Order) (b : ℕ) (bytes : List ℕ) → blocks_of order (b ∷ bytes)
     ≡ with_first order (b ∷ bytes) (blocks_of order (after_first order (b ∷ bytes)))
 unfolding blocks_of
-blocks_of-cons order b bytes =
-    let rest : List ℕ = after_first order (b ∷ bytes) in
-    let shorter : length rest ≤ length bytes = omega (arith, length-drop (two_at order (b ∷ bytes) 0 + 4) (b ∷ bytes)) in
-    ap (with_first order (b ∷ bytes)) (more_turns (length bytes) (length rest) order rest shorter (omega arith))
+blocks_of-cons order b bytes = grind (arith, length-drop, more_turns)
 
 no_block : (order : Order) (bytes : List ℕ) → lacks_block order bytes ≡ true → BeginsNoBlock order bytes
 no_block order [] lacks = inl refl
@@ -61,9 +58,7 @@ no_end order bytes n m first last differ = no_block order bytes (rw (← first, 
 pub whole_block : (order : Order) (bytes : List ℕ) (n m : ℕ) → n ≡ two_at order bytes 0 → n + 4 ≤ length bytes → m ≡ two_at order bytes (n + 2) → m ≡ n
     → GoesOn order bytes (take n (drop 2 bytes)) (drop (n + 4) bytes)
 whole_block order [] n m first long last same = absurd (omega arith)
-whole_block order (b ∷ bytes) n m first long last same =
-    let whole : lacks_block order (b ∷ bytes) ≡ false = rw (← first, ← last) (grind (arith, nat_tests)) in
-    rw first (blocks_of-cons order b bytes ∙ rw whole)
+whole_block order (b ∷ bytes) n m first long last same = grind (arith, nat_tests, blocks_of-cons)
 
 -- where no block begins in a run, it has none
 pub none_left : (order : Order) (bytes : List ℕ) → IsSome (blocks_of order bytes) → BeginsNoBlock order bytes → unwrap_or (blocks_of order bytes) [] ≡ []
@@ -86,24 +81,15 @@ some_left (Some blocks) some = refl
 
 -- the byte behind a place
 two_bytes : (at : ℕ) (bytes : List ℕ) → at + 2 ≤ length bytes → take 2 (drop at bytes) ≡ get_or bytes at 0 ∷ get_or bytes (suc at) 0 ∷ []
-two_bytes at bytes room =
-    let first : at < length bytes = omega arith in
-    let second : suc at < length bytes = omega arith in
-    rw (drop-cons bytes at 0, drop-cons bytes (suc at) 0) refl
+two_bytes at bytes room = grind (arith, drop-cons)
 
 spelled_little : (a b : ℕ) → a < 256 → b < 256 → spelled 2 Little (number Little (a ∷ b ∷ [])) ≡ a ∷ b ∷ []
 unfolding spelled
-spelled_little a b p q =
-    let low : (a + 256 * (b + 0)) % 256 ≡ a = omega arith in
-    let high : (a + 256 * (b + 0)) / 256 % 256 ≡ b = omega arith in
-    rw (low, high) refl
+spelled_little a b p q = grind arith
 
 spelled_big : (a b : ℕ) → a < 256 → b < 256 → spelled 2 Big (number Big (a ∷ b ∷ [])) ≡ a ∷ b ∷ []
 unfolding spelled
-spelled_big a b p q =
-    let low : (b + 256 * (a + 0)) % 256 ≡ b = omega arith in
-    let high : (b + 256 * (a + 0)) / 256 % 256 ≡ a = omega arith in
-    rw (low, high) refl
+spelled_big a b p q = grind arith
 
 spelled_pair : (order : Order) (a b : ℕ) → a < 256 → b < 256 → spelled 2 order (number order (a ∷ b ∷ [])) ≡ a ∷ b ∷ []
 spelled_pair Little = spelled_little
@@ -128,35 +114,19 @@ pieces n bytes first last is_first is_last =
 
 joined : (order : Order) (bytes : List ℕ) → ((i : ℕ) → get_or bytes i 0 < 256) → lacks_block order bytes ≡ false
     → block_bytes order (take (two_at order bytes 0) (drop 2 bytes)) ++ after_first order bytes ≡ bytes
-joined order bytes fit lacks =
-    let n : ℕ = two_at order bytes 0 in
-    let room : n + 4 ≤ length bytes = grind (arith, nat_tests) in
-    let same : two_at order bytes (n + 2) ≡ n = grind (arith, nat_tests) in
-    let block : length (take n (drop 2 bytes)) ≡ n = omega (arith, length-take n (drop 2 bytes), length-drop 2 bytes) in
-    let first : spelled 2 order n ≡ take 2 bytes = spelled-two_at order bytes 0 fit (omega arith) in
-    let last : spelled 2 order n ≡ take 2 (drop (n + 2) bytes) = rw same at (spelled-two_at order bytes (n + 2) fit (omega arith)) in
-    rw block (pieces n bytes (spelled 2 order n) (spelled 2 order n) first last)
+joined order bytes fit lacks = grind (arith, nat_tests, length-take, length-drop, spelled-two_at, pieces)
 
 spelled_rest : (order : Order) (bytes : List ℕ) (blocks : List (List ℕ)) (rest : Option (List (List ℕ))) → ((i : ℕ) → get_or bytes i 0 < 256)
     → lacks_block order bytes ≡ false
     → ((others : List (List ℕ)) → rest ≡ Some others → flat_map (block_bytes order) others ≡ after_first order bytes)
     → option_map (λ others. take (two_at order bytes 0) (drop 2 bytes) ∷ others) rest ≡ Some blocks → flat_map (block_bytes order) blocks ≡ bytes
 spelled_rest order bytes blocks None fit whole on run = cc
-spelled_rest order bytes blocks (Some others) fit whole on run =
-    let all : blocks ≡ take (two_at order bytes 0) (drop 2 bytes) ∷ others = cc in
-    let after : flat_map (block_bytes order) others ≡ after_first order bytes = on others refl in
-    rw (all, after) (joined order bytes fit whole)
+spelled_rest order bytes blocks (Some others) fit whole on run = grind (arith, joined)
 
 spelled_turn : (order : Order) (bytes : List ℕ) (blocks : List (List ℕ)) (rest : Option (List (List ℕ))) → ((i : ℕ) → get_or bytes i 0 < 256)
     → ((others : List (List ℕ)) → rest ≡ Some others → flat_map (block_bytes order) others ≡ after_first order bytes)
     → with_first order bytes rest ≡ Some blocks → flat_map (block_bytes order) blocks ≡ bytes
-spelled_turn order bytes blocks rest fit on run =
-    elim (lacks_block order bytes) as (λ v. lacks_block order bytes ≡ v → flat_map (block_bytes order) blocks ≡ bytes) [
-      | true ↦ λ is. let none : None ≡ Some blocks = rw is at run in cc
-      | false ↦ λ is.
-          let some : option_map (λ others. take (two_at order bytes 0) (drop 2 bytes) ∷ others) rest ≡ Some blocks = rw is at run in
-          spelled_rest order bytes blocks rest fit is on some
-    ] refl
+spelled_turn order bytes blocks rest fit on run = grind (arith, spelled_rest)
 
 spelled_in : (turns : ℕ) (order : Order) (bytes : List ℕ) (blocks : List (List ℕ)) → ((i : ℕ) → get_or bytes i 0 < 256)
     → blocks_in turns order bytes ≡ Some blocks → flat_map (block_bytes order) blocks ≡ bytes

@@ -1,5 +1,5 @@
 -- What `byteorder` reads and writes is the number at a place.
-use Rattle.std.proofs.Common.{◌≡◌, ℕ, zero, suc, ◌+◌, ◌*◌, ◌^◌, ◌≤◌, ◌<◌, ◌-◌, List, [], ◌∷◌, ◌++◌, length, take, drop, get_or, refl, ap, arith, drop-cons}
+use Rattle.std.proofs.Common.{◌≡◌, ℕ, zero, suc, ◌+◌, ◌*◌, ◌^◌, ◌≤◌, ◌<◌, ◌-◌, List, [], ◌∷◌, ◌++◌, length, take, drop, refl, ap, arith, drop-cons}
 use Rattle.std.proofs.Common.{length-drop, length-take, ◌∙◌, append-nil}
 use Rattle.std.specs.Prelude.{reverse}
 use Rattle.std.proofs.lemmas.Grind.{reverse_onto}
@@ -13,9 +13,7 @@ use Rattle.bdb_format.specs.declared.kinds.Order.TheVariants.{Big, Little}
 
 pub little_from-is : (i n : ℕ) (xs : List ℕ) → i + n ≤ length xs → little_from i n xs ≡ from_low_end (take n (drop i xs))
 little_from-is i zero xs h = refl
-little_from-is i (suc n) xs h =
-    let lt : i < length xs = omega arith in
-    rw (drop-cons xs i 0) (ap (λ m. get_or xs i 0 + 256 * m) (little_from-is (suc i) n xs (omega arith)))
+little_from-is i (suc n) xs h = grind (arith, drop-cons, little_from-is (suc i) n xs (omega arith))
 
 -- one more byte below
 step : (x b p f : ℕ) → x + 256 * (b * p + f) ≡ b * (256 * p) + (x + 256 * f)
@@ -29,12 +27,7 @@ from_low_end-last (x ∷ xs) b = rw (from_low_end-last xs b, pow-succ' 256 (leng
 pub big_from-is : (i n : ℕ) (xs : List ℕ) → i + n ≤ length xs → big_from i n xs ≡ from_low_end (reverse (take n (drop i xs)))
 big_from-is i zero xs h = refl
 big_from-is i (suc n) xs h =
-    let lt : i < length xs = omega arith in
-    let rest : List ℕ = take n (drop (suc i) xs) in
-    let len : length (reverse rest) ≡ n = omega (arith, length-reverse rest, length-take n (drop (suc i) xs), length-drop (suc i) xs) in
-    let last : from_low_end (reverse rest ++ get_or xs i 0 ∷ []) ≡ get_or xs i 0 * 256 ^ length (reverse rest) + from_low_end (reverse rest) = from_low_end-last
-    (reverse rest) (get_or xs i 0) in
-    rw (drop-cons xs i 0, reverse_onto rest (get_or xs i 0) [], last, len) (ap (λ m. get_or xs i 0 * 256 ^ n + m) (big_from-is (suc i) n xs (omega arith)))
+    grind (arith, length-reverse, length-take, length-drop, from_low_end-last, drop-cons, reverse_onto, big_from-is (suc i) n xs (omega arith))
 
 -- a slice from a place to the end
 pub to_end : (at : ℕ) (xs : List ℕ) → take (length xs - at) (drop at xs) ≡ drop at xs
@@ -49,25 +42,16 @@ all_there n at xs h = omega (arith, length-take n (drop at xs), length-drop at x
 
 pub little_at : (n at : ℕ) (xs : List ℕ) → at + n ≤ length xs → little_number n (take (at + n - at) (drop at xs)) ≡ number_at n Little xs at
 unfolding number_at
-little_at n at xs h =
-    let ys : List ℕ = take n (drop at xs) in
-    rw (bytes_at n at xs) (little_from-is 0 n ys (omega (arith, all_there n at xs h)) ∙ ap from_low_end (take_all n ys (omega (arith, all_there n at xs h))))
+little_at n at xs h = grind (arith, bytes_at, little_from-is, all_there, take_all)
 
 pub big_at : (n at : ℕ) (xs : List ℕ) → at + n ≤ length xs → big_number n (take (at + n - at) (drop at xs)) ≡ number_at n Big xs at
 unfolding number_at
-big_at n at xs h =
-    let ys : List ℕ = take n (drop at xs) in
-    rw (bytes_at n at xs) (big_from-is 0 n ys (omega (arith, all_there n at xs h))
-    ∙ ap (λ (zs : List ℕ). from_low_end (reverse zs)) (take_all n ys (omega (arith, all_there n at xs h))))
+big_at n at xs h = grind (arith, bytes_at, big_from-is, all_there, take_all)
 
 -- a piece that fills the part of a slice that it is written to
 pub put_piece : (at n : ℕ) (xs ys piece : List ℕ) → length piece ≡ n → ys ≡ piece ++ drop n (take (at + n - at) (drop at xs)) → put_mid at (at + n - at) xs ys
     ≡ overwritten xs at piece
-put_piece at n xs ys piece len is =
-    let width : at + n - at ≡ n = add-sub_cancel_left at n in
-    let nothing : drop n (take n (drop at xs)) ≡ [] = drop_all n (take n (drop at xs)) (omega (arith, length-take n (drop at xs))) in
-    let whole : ys ≡ piece = is ∙ rw (width, nothing) (append-nil piece) in
-    rw (whole, width, drop-drop n at xs, len) refl
+put_piece at n xs ys piece len is = grind (arith, add-sub_cancel_left, drop_all, length-take, append-nil, drop-drop)
 
 pub put_little : (at n x : ℕ) (xs ys : List ℕ) → ys ≡ spelled n Little x ++ drop n (take (at + n - at) (drop at xs)) → put_mid at (at + n - at) xs ys
     ≡ overwritten xs at (spelled n Little x)

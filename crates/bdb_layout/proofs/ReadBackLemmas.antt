@@ -1,7 +1,7 @@
 -- An item that stands at its offset is read from there: each kind of item of a leaf, an internal page and a hash page.
 use Rattle.std.proofs.Common.{◌≡◌, ℕ, suc, ◌+◌, ◌%◌, ◌^◌, ◌<◌, ◌≤◌, Bool, true, false, List, [], ◌∷◌, ◌++◌, length, take, drop, replicate, refl, sym, ap, ◌∙◌}
 use Rattle.std.proofs.Common.{arith, append_assoc, length-append, le-ltb, eq-eqb}
-use Rattle.std.specs.Prelude.{slice_range, nat_le, nat_lt, ◌==◌, Some}
+use Rattle.std.specs.Prelude.{slice_range, nat_le, ◌==◌, Some}
 use Rattle.std.specs.Option.{option_map}
 use Rattle.std.specs.List.{All, flat_map}
 use Rattle.std.proofs.Math.Seq.{drop-append_seam}
@@ -92,10 +92,7 @@ leaf_content-back order content deleted page after index at fits o e = absurd fi
 
 pub leaf_items_read_back : LeafItemsReadBack
 unfolding leaf_bytes
-leaf_items_read_back order item before after index fits o =
-    let page : List ℕ = before ++ (leaf_content_bytes order item.content item.deleted ++ after) in
-    leaf_content-back order item.content item.deleted page after index (length before) fits o
-    (drop-append_seam before (leaf_content_bytes order item.content item.deleted ++ after))
+leaf_items_read_back order item before after index fits o = grind (arith, leaf_content-back, drop-append_seam)
 
 -- an item of an internal page, from what its place says
 internal_item-at : (order : Order) (page : List ℕ) (index at byte child count : ℕ) (key : Content)
@@ -166,10 +163,7 @@ internal_content-back order content child count page after index at fits p q o e
 
 pub internal_items_read_back : InternalItemsReadBack
 unfolding internal_bytes
-internal_items_read_back order item before after index fits p q o =
-    let piece : List ℕ = internal_content_bytes order (spelled 4 order item.child ++ spelled 4 order item.count) item.key in
-    internal_content-back order item.key item.child item.count (before ++ (piece ++ after)) after index (length before) fits p q o
-    (drop-append_seam before (piece ++ after))
+internal_items_read_back order item before after index fits p q o = grind (arith, internal_content-back, drop-append_seam)
 
 recno_item-at : (order : Order) (page : List ℕ) (index at child count : ℕ) → offset_of order page index ≡ at → ReadsPair order page at (at + 4) child count
     → recno_item_at order page index ≡ record { child = child; count = count }
@@ -220,10 +214,7 @@ block_begins order block rest short =
 first_block : (order : Order) (bytes block rest : List ℕ) → BeginsBlock order bytes block rest
     → blocks_of order bytes ≡ option_map (λ blocks. block ∷ blocks) (blocks_of order rest)
 first_block order [] block rest is = absurd (omega (arith, is.fits))
-first_block order (b ∷ bs) block rest is =
-    let room : nat_lt (length (b ∷ bs)) (length block + 4) ≡ false = le-ltb (length (b ∷ bs)) (length block + 4) is.fits in
-    let same : (length block == length block) ≡ true = eq-eqb (length block) (length block) refl in
-    blocks_of-cons order b bs ∙ rw (is.size, room, is.again, same, is.block_is, is.rest_is) refl
+first_block order (b ∷ bs) block rest is = grind (arith, le-ltb, eq-eqb, blocks_of-cons)
 
 pub blocks_of-back : (order : Order) (blocks : List (List ℕ)) → All (λ block. length block < 2 ^ 16) blocks
     → blocks_of order (flat_map (block_bytes order) blocks) ≡ Some blocks
@@ -267,6 +258,4 @@ hash_content-back order (Tree root) page after index at fits o p e =
 hash_content-back order Unknown page after index at fits o p e = absurd fits
 
 pub hash_items_read_back : HashItemsReadBack
-hash_items_read_back order content before after index fits o p =
-    hash_content-back order content (before ++ (hash_bytes order content ++ after)) after index (length before) fits o p
-    (drop-append_seam before (hash_bytes order content ++ after))
+hash_items_read_back order content before after index fits o p = grind (arith, hash_content-back, drop-append_seam)

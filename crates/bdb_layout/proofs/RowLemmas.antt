@@ -3,10 +3,8 @@ use Rattle.std.proofs.Common.{◌≡◌, ℕ, ◌+◌, ◌≤◌, List, [], ◌�
 use Rattle.std.specs.Prelude.{cond, Bool, true, false, Option, Some, None, Result, Err}
 use Rattle.std.proofs.lemmas.Bool.Decides.{nat_tests}
 use Rattle.bdb_format.specs.declared.kinds.Order.{Order}
-use Rattle.bdb_format.specs.declared.pages.ItemFault.TheVariants.{Offset, Kind, Extent}
-use Rattle.bdb_format.specs.Numbers.{byte_at}
-use Rattle.bdb_format.specs.Reading.{kind_at, offset_of, hash_end}
-use Rattle.bdb_format.specs.Rows.{is_leaf_kind, leaf_rows, internal_rows, recno_rows, hash_rows}
+use Rattle.bdb_format.specs.Reading.{offset_of, hash_end}
+use Rattle.bdb_format.specs.Rows.{leaf_rows, internal_rows, recno_rows, hash_rows}
 use Rattle.bdb_format.specs.Table.{Row, ◌:?◌, first_row, answer}
 use Rattle.bdb_layout.specs.Fits.{FitsLeaf, FitsInternal, FitsHash}
 
@@ -34,25 +32,12 @@ none_holds x y z false false false none = record { first = refl; second = refl; 
 
 pub leaf_fits : (order : Order) (page : List ℕ) (index : ℕ) → first_row (leaf_rows order page index) ≡ None → FitsLeaf order page (offset_of order page index)
 unfolding leaf_rows
-leaf_fits order page index none =
-    let at : ℕ = offset_of order page index in
-    let kind : ℕ = kind_at page at in
-    let fail = none_holds Offset Kind Extent _ _ _ none in
-    let known : is_leaf_kind (byte_at page 25) index kind ≡ true = grind (arith, fail.second) in
-    record {
-      least = grind (arith, nat_tests, known);
-      most = grind (arith, nat_tests, known);
-      inline = λ one. grind (arith, nat_tests, fail.third);
-      other = λ more. grind (arith, nat_tests, fail.third);
-    }
+leaf_fits order page index none = grind (arith, none_holds, nat_tests)
 
 pub internal_fits : (order : Order) (page : List ℕ) (index : ℕ) → first_row (internal_rows order page index) ≡ None
     → FitsInternal order page (offset_of order page index)
 unfolding internal_rows
-internal_fits order page index none =
-    let at : ℕ = offset_of order page index in
-    let fail = none_holds Offset Kind Extent _ _ _ none in
-    record { within = grind (arith, nat_tests, fail.third); kind = grind (arith, nat_tests, fail.second, fail.third) }
+internal_fits order page index none = grind (arith, none_holds, nat_tests)
 
 pub recno_fits : (order : Order) (page : List ℕ) (index : ℕ) → first_row (recno_rows order page index) ≡ None → offset_of order page index + 8 ≤ length page
 unfolding recno_rows
@@ -61,16 +46,4 @@ recno_fits order page index none = grind (arith, nat_tests, none)
 pub hash_fits : (order : Order) (page : List ℕ) (index : ℕ) → first_row (hash_rows order page index) ≡ None
     → FitsHash order page (offset_of order page index) (hash_end order page index)
 unfolding hash_rows
-hash_fits order page index none =
-    let at : ℕ = offset_of order page index in
-    let end : ℕ = hash_end order page index in
-    let fail = none_holds Offset Kind Extent _ _ _ none in
-    record {
-      begins = grind (arith, nat_tests, fail.first);
-      ends = grind (arith, nat_tests, fail.third);
-      least = grind (arith, nat_tests, fail.second);
-      most = grind (arith, nat_tests, fail.second);
-      set = λ two. grind (arith, nat_tests, fail.third);
-      chain = λ three. grind (arith, nat_tests, fail.third);
-      tree = λ four. grind (arith, nat_tests, fail.third);
-    }
+hash_fits order page index none = grind (arith, none_holds, nat_tests)

@@ -41,45 +41,19 @@ length-leaf_chain order head total deleted = omega (arith, length-pair order hea
 pub length-internal_inline : (order : Order) (child count : ℕ) (key : List ℕ)
     → length (internal_bytes order (record { child = child; count = count; key = Inline key })) ≡ 12 + length key
 unfolding internal_bytes
-length-internal_inline order child count key =
-    let numbers : List ℕ = spelled 4 order child ++ spelled 4 order count in
-    omega (
-      arith,
-      length-append (spelled 2 order (length key)) (1 ∷ 0 ∷ (numbers ++ key)),
-      length-spelled 2 order (length key),
-      length-append numbers key,
-      length-pair order child count,
-    )
+length-internal_inline order child count key = grind (arith, length-append, length-spelled, length-pair)
 
 pub length-internal_chain : (order : Order) (child count head total : ℕ)
     → length (internal_bytes order (record { child = child; count = count; key = Chain head total })) ≡ 24
 unfolding internal_bytes
-length-internal_chain order child count head total =
-    let numbers : List ℕ = spelled 4 order child ++ spelled 4 order count in
-    let chain : List ℕ = 0 ∷ 0 ∷ 3 ∷ 0 ∷ (spelled 4 order head ++ spelled 4 order total) in
-    omega (
-      arith,
-      length-append (spelled 2 order 12) (3 ∷ 0 ∷ (numbers ++ chain)),
-      length-spelled 2 order 12,
-      length-append numbers chain,
-      length-pair order
-          child count,
-      length-pair order head total,
-    )
+length-internal_chain order child count head total = grind (arith, length-append, length-spelled, length-pair)
 
 -- the length, the kind and the two numbers with which an internal item begins
 abbrev pub internal_start : Order → ℕ → ℕ → ℕ → ℕ → List ℕ
 internal_start order size kind child count = spelled 2 order size ++ (kind ∷ 0 ∷ (spelled 4 order child ++ spelled 4 order count))
 
 length-internal_start : (order : Order) (size kind child count : ℕ) → length (internal_start order size kind child count) ≡ 12
-length-internal_start order size kind child count =
-    omega (
-      arith,
-      length-append (spelled 2 order size) (kind ∷ 0 ∷ (spelled 4 order child ++ spelled 4 order count)),
-      length-spelled 2 order size,
-      length-pair
-          order child count,
-    )
+length-internal_start order size kind child count = grind (arith, length-append, length-spelled, length-pair)
 
 -- the start of an internal item and then its key were written: so was the item
 pub wrote_internal_inline : (order : Order) (child count : ℕ) (key old now new : List ℕ) (at : ℕ)

@@ -48,9 +48,7 @@ same_count p n = grind (arith, nat_tests)
 
 pub count_read : (counts : List ℕ) (n p count : ℕ) (entries : List NamedPair) → AreCounts counts n entries → p < n → count ≡ get_or counts p count
     → count ≡ min 2 (length (entries_naming p entries))
-count_read counts n p count entries are low is =
-    let inside : p < length counts = omega (arith, are.len) in
-    is ∙ (get_or_default counts p count 0 inside ∙ are.each p low)
+count_read counts n p count entries are low is = grind (arith, get_or_default)
 
 -- one page more
 pub naming_more : (before middle after : List Fault → Type 0) (file : File) (entries : List NamedPair) (i p count : ℕ) (found : Option Fault)

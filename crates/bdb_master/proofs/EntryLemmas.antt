@@ -70,9 +70,7 @@ rest_fits file old left pair fits steps = (subst (λ pairs. AreFit file (map (st
 pub entries_of_master : (file : File) (meta : BtreeMeta) (pairs : List ItemPair) → Some meta ≡ master_in (page_at file 0)
     → map (stored_as file) pairs ≡ tree_pairs file meta.root → live_entries file pairs ≡ master_entries file
 unfolding master_pairs
-entries_of_master file meta pairs is are =
-    live_are file pairs
-    ∙ (ap (λ stored. map (named file) (filter (λ (pair : StoredPair). pair.live) stored)) are ∙ ap (λ m. map (named file) (pairs_under file m)) is)
+entries_of_master file meta pairs is are = grind (arith, live_are)
 
 pub no_entries : (file : File) → None ≡ master_in (page_at file 0) → [] ≡ master_entries file
 unfolding master_pairs

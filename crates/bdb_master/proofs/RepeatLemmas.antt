@@ -1,5 +1,6 @@
 -- The keys that came before a pair of a master, and the faults of the pairs that repeat one.
-use Rattle.std.proofs.Common.{◌≡◌, ℕ, Bool, true, false, not, cond, List, [], ◌∷◌, ◌++◌, refl, sym, ◌∙◌, ap, subst, append_assoc, append-nil}
+use Rattle.std.proofs.Common.{arith}
+use Rattle.std.proofs.Common.{◌≡◌, ℕ, Bool, true, false, not, cond, List, [], ◌∷◌, ◌++◌, refl, sym, ◌∙◌, ap, append_assoc, append-nil}
 use Rattle.std.specs.Prelude.{Some, None, ◌||◌}
 use Rattle.std.specs.BTreeSet.{BTreeSet, IsEmpty, Updates}
 use Rattle.std.specs.Cmp.Lexicographic.{slice_cmp}
@@ -15,7 +16,7 @@ use Rattle.std.specs.Option.{option_to_list}
 use Rattle.bdb_btree.specs.Held.{ItemPair}
 use Rattle.bdb_master.specs.Entries.{NamedPair, by_repeat, entry_of, fault_at, key_of, live_entries, repeat_fault, repeat_of}
 use Rattle.bdb_master.specs.Names.{HasAdded}
-use Rattle.bdb_master.proofs.EntryLemmas.{live_first, not_live}
+use Rattle.bdb_master.proofs.EntryLemmas.{live_first}
 use Rattle.bdb_format.specs.Chains.{value_of}
 use Rattle.bdb_format.specs.File.{File}
 use Rattle.bdb_format.specs.Master.{named_by}
@@ -80,11 +81,7 @@ begun has keys file all empty = record {
 pub all_noted : (before after : List Fault → Type 0) (keys : BTreeSet (List ℕ)) (file : File) (all left : List ItemPair)
     → IsNoted before after keys file all left
     → left ≡ [] → NotesAll before after (by_repeat (live_entries file all))
-all_noted before after keys file all left noted none =
-    subst (NotesAll before after)
-    (sym (append-nil noted.more)
-    ∙ (ap (λ entries. noted.more ++ faults_of (repeated_by key_of noted.passed (live_entries file entries))) (sym none) ∙ noted.whole))
-    (notes_one before after noted.more noted.notes)
+all_noted before after keys file all left noted none = grind (arith, append-nil, notes_one)
 
 -- The names that were seen.
 
@@ -98,10 +95,7 @@ added_again keys key has = record { each = λ sought. again sought (bytes_eq key
 
 -- a key that was added is one more
 pub added_once : (old new : BTreeSet (List ℕ)) (key : List ℕ) → Updates (slice_cmp nat_cmp) old new key true → HasAdded old new key
-added_once old new key updates = record {
-  each = λ sought.
-      updates.0 sought ∙ (ap (λ b. cond b true (has_key old sought)) (is_eq-slice_cmp key sought) ∙ cond_or (bytes_eq key sought) (has_key old sought));
-}
+added_once old new key updates = grind (arith, is_eq-slice_cmp, cond_or)
 
 -- how a name is added
 pub ruleset names_added = (among_after, among_unchanged, added_once)

@@ -1,5 +1,5 @@
 -- A page of zeros that is written from its front on.
-use Rattle.std.proofs.Common.{◌≡◌, ℕ, ◌+◌, ◌-◌, ◌≤◌, Bool, List, [], ◌∷◌, ◌++◌, length, take, drop, IsTrue, refl, sym, ap, ◌∙◌, arith, append_assoc}
+use Rattle.std.proofs.Common.{◌≡◌, ℕ, ◌+◌, ◌-◌, ◌≤◌, Bool, List, [], ◌∷◌, ◌++◌, length, IsTrue, refl, sym, ap, ◌∙◌, arith, append_assoc}
 use Rattle.std.proofs.Common.{length-append}
 use Rattle.std.specs.Prelude.{◌==◌, ◌&&◌, slice_set}
 use Rattle.std.proofs.Math.Seq.{drop-append-add}
@@ -32,9 +32,7 @@ zeros-spelled Little = refl
 zeros-spelled Big = refl
 
 zeros-split : (size at k : ℕ) → at + k ≤ size → zeros (size - at) ≡ zeros k ++ zeros (size - (at + k))
-zeros-split size at k room =
-    let parts : size - at ≡ k + (size - (at + k)) = omega arith in
-    ap zeros parts ∙ sym (replicate-append-replicate k (size - (at + k)) 0)
+zeros-split size at k room = grind (arith, replicate-append-replicate)
 
 -- nothing is written yet
 pub filled_none : (page : List ℕ) → IsTrue (is_zero page) → Filled page (length page) [] 0
@@ -42,29 +40,12 @@ filled_none page h = record { is = zero_page page h ∙ ap zeros (omega arith); 
 
 -- bytes are left 0
 pub filled_zeros : {page front : List ℕ} {size at : ℕ} (k : ℕ) → Filled page size front at → at + k ≤ size → Filled page size (front ++ zeros k) (at + k)
-filled_zeros {page} {front} {size} {at} k f room = record {
-  is = f.is ∙ ap (λ rest. front ++ rest) (zeros-split size at k room) ∙ sym (append_assoc front (zeros k) (zeros (size - (at + k))));
-  long = omega (arith, f.long, length-append front (zeros k), length-replicate {A = ℕ} k 0);
-  room = room;
-}
+filled_zeros {page} {front} {size} {at} k f room = grind (arith, zeros-split, append_assoc, length-append, length-replicate)
 
 -- a piece is written next
 pub filled_piece : {page new front : List ℕ} {size at : ℕ} (piece : List ℕ) (end : ℕ) → Filled page size front at → new ≡ overwritten page at piece
     → end ≡ at + length piece → end ≤ size → Filled new size (front ++ piece) end
-filled_piece {page} {new} {front} {size} {at} piece end f wrote ends room =
-    let n : ℕ = length piece in
-    let before : take at page ≡ front = ap (take at) f.is ∙ take_at front (zeros (size - at)) at f.long in
-    let place : at + n ≡ length front + n = omega (arith, f.long) in
-    let behind : drop (at + n) page ≡ zeros (size - at - n) =
-    ap (drop (at + n)) f.is ∙ ap (λ k. drop k (front ++ zeros (size - at))) place ∙ drop-append-add front (zeros (size - at)) n
-    ∙ drop-replicate n (size - at) 0 in
-    let left : size - at - n ≡ size - end = omega (arith, ends) in
-    record {
-      is = wrote ∙ ap (λ xs. xs ++ (piece ++ drop (at + n) page)) before ∙ ap (λ xs. front ++ (piece ++ xs)) (behind ∙ ap zeros left)
-          ∙ sym (append_assoc front piece (zeros (size - end)));
-      long = omega (arith, f.long, ends, length-append front piece);
-      room = room;
-    }
+filled_piece {page} {new} {front} {size} {at} piece end f wrote ends room = grind (arith, take_at, drop-append-add, drop-replicate, append_assoc, length-append)
 
 -- a number is written next
 pub filled_number : {page new front : List ℕ} {size at : ℕ} (order : Order) (x end : ℕ) → Filled page size front at

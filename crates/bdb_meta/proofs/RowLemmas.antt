@@ -1,11 +1,11 @@
 -- Rows that follow one another, and the answer of a table with a value.
 use Rattle.bdb_format.proofs.PageLemmas.{answer_value}
-use Rattle.std.proofs.Common.{◌≡◌, ℕ, true, false, List, [], ◌∷◌, ◌++◌, ◌∙◌, ◌<◌, ◌≤◌, length, refl, sym, ap, arith, append_assoc}
-use Rattle.std.specs.Prelude.{None, Ok, Err, nat_lt, ◌==◌}
+use Rattle.std.proofs.Common.{◌≡◌, ℕ, List, [], ◌∷◌, ◌++◌, ◌∙◌, ◌<◌, ◌≤◌, length, refl, arith, append_assoc}
+use Rattle.std.specs.Prelude.{None, Ok, Err, ◌==◌}
 use Rattle.bdb_format.specs.declared.metadata.MetaFault.{MetaFault}
 use Rattle.bdb_format.specs.declared.kinds.Order.{Order}
 use Rattle.bdb_format.specs.declared.metadata.FileKind.{FileKind}
-use Rattle.bdb_format.specs.Rows.{identity_rows, kind_rows, meta_rows, metadata_rows, type_of}
+use Rattle.bdb_format.specs.Rows.{kind_rows, metadata_rows}
 use Rattle.bdb_format.specs.Table.{Row, answer, first_row}
 use Rattle.bdb_format.specs.HeadOf.{faulted, head_rows}
 use Rattle.bdb_meta.specs.RowGroups.{common_rows, length_rows, page_rows, version_rows}
@@ -34,9 +34,7 @@ answer-code (row ∷ xs) value code h = grind (arith, answer-code xs value code)
 head_rows-groups : {T : Type 0} → (image : List ℕ) (value : T) → 512 ≤ length image → answer (head_rows image) value
     ≡ answer (version_rows image ++ (page_rows image ++ length_rows image)) value
 unfolding head_rows
-head_rows-groups image value h =
-    let long : nat_lt (length image) 512 ≡ false = grind arith in
-    rw long
+head_rows-groups image value h = grind arith
 
 pub head_rows-version : {T : Type 0} → (image : List ℕ) (value : T) (code : ℕ) → 512 ≤ length image
     → answer {T = Unit {0}} (version_rows image) tt ≡ Err code → answer (head_rows image) value ≡ Err code
@@ -60,9 +58,7 @@ head_rows-length image value long version pages =
 
 pub head_rows-short : {T : Type 0} → (image : List ℕ) (value : T) → length image < 512 → answer (head_rows image) value ≡ Err 1
 unfolding head_rows
-head_rows-short image value h =
-    let short : nat_lt (length image) 512 ≡ true = grind arith in
-    rw short
+head_rows-short image value h = grind arith
 
 pub faulted-none : {T : Type 0} → (fault : ℕ → MetaFault) (xs : List (Row ℕ)) (value : T) → first_row xs ≡ None → faulted fault (answer xs value) ≡ Ok value
 faulted-none fault xs value h = rw (answer_value xs value h)
@@ -74,14 +70,9 @@ pub ruleset short_head = (head_rows-short)
 metadata-groups : {T : Type 0} → (order : Order) (page : List ℕ) (number last : ℕ) (kind : FileKind) (value : T)
     → answer (metadata_rows order page number last kind) value ≡ answer (common_rows order page number kind ++ kind_rows order page number last kind) value
 unfolding metadata_rows
-metadata-groups order page number last kind value =
-    ap (λ rows. answer rows value)
-    (sym (append_assoc (identity_rows order page number (λ byte. byte == type_of kind)) (meta_rows order page number kind)
-    (kind_rows order page number last kind)))
+metadata-groups order page number last kind value = grind (arith, append_assoc)
 
 pub metadata-kind : {T : Type 0} → (order : Order) (page : List ℕ) (number last : ℕ) (kind : FileKind) (value : T)
     → answer {T = Unit {0}} (common_rows order page number kind) tt ≡ Ok tt
     → answer (metadata_rows order page number last kind) value ≡ answer (kind_rows order page number last kind) value
-metadata-kind order page number last kind value common =
-    metadata-groups order page number last kind value
-    ∙ answer-passed (common_rows order page number kind) (kind_rows order page number last kind) value common
+metadata-kind order page number last kind value common = grind (arith, metadata-groups, answer-passed)

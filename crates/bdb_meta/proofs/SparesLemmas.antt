@@ -16,13 +16,7 @@ spares_bytes order spares = flat_map (λ spare. spelled 4 order spare) spares
 
 pub length-spares : (order : Order) (spares : List ℕ) → length (spares_bytes order spares) ≡ 4 * length spares
 length-spares order [] = refl
-length-spares order (x ∷ spares) = omega (
-  arith,
-  length-append (spelled 4 order x) (spares_bytes order spares),
-  length-spelled 4 order x,
-  length-spares order
-      spares,
-)
+length-spares order (x ∷ spares) = grind (arith, length-append, length-spelled, length-spares order spares)
 
 -- one spare more
 spares_more : (order : Order) (spares : List ℕ) (group : ℕ) → group < length spares
@@ -53,9 +47,7 @@ spare_at order (x ∷ spares) rest zero h fits =
     ap (λ bytes. four_at order bytes 0) (append_assoc (spelled 4 order x) (spares_bytes order spares) rest)
     ∙ number_at-first 4 order x (spares_bytes order spares ++ rest) (fits 0)
 spare_at order (x ∷ spares) rest (suc group) h fits =
-    ap (λ bytes. four_at order bytes (4 * suc group)) (append_assoc (spelled 4 order x) (spares_bytes order spares) rest)
-    ∙ behind-number order x (spares_bytes order spares ++ rest) (4 * suc group) (4 * group) (omega arith)
-    ∙ spare_at order spares rest group (omega arith) (λ k. fits (suc k))
+    grind (arith, append_assoc, behind-number, spare_at order spares rest group (omega arith) (λ k. fits (suc k)))
 
 -- the spares are read from a page on which they are spelled
 pub spares-in : (order : Order) (front rest spares page : List ℕ) → length front ≡ 96 → length spares ≡ 32 → ((k : ℕ) → get_or spares k 0 < 2 ^ 32)

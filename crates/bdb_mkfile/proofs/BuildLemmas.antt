@@ -1,6 +1,6 @@
 -- The image of sections with their lists is one that is built of the sections.
 use Rattle.std.proofs.Common.{◌≡◌, ℕ, ◌+◌, ◌-◌, ◌*◌, Result, Ok, Err, Bool, true, false, cond, List, [], ◌∷◌, length, map, Option, Some}
-use Rattle.std.proofs.Common.{◌⊎◌, None, refl, sym, ◌∙◌, ap, subst, arith, inl, inr}
+use Rattle.std.proofs.Common.{◌⊎◌, None, refl, sym, ◌∙◌, ap, subst, arith, inr}
 use Rattle.std.specs.Prelude.{is_some, nat_lt, slice_get, if◌then◌else◌, IfOk}
 use Rattle.std.specs.declared.alloc.AllocError.{AllocError}
 use Rattle.std.specs.List.{All, AllZip, fold, sum_by}
@@ -17,7 +17,7 @@ use Rattle.bdb_text_format.specs.Pairs.{listed}
 use Rattle.bdb_text_format.specs.Written.{header_lines}
 use Rattle.bdb_settle.specs.declared.load_error.LoadError.{LoadError}
 use Rattle.bdb_settle.specs.declared.load_error.LoadError.TheVariants.{TooLarge, Memory}
-use Rattle.bdb_settle.specs.LoadErrors.{IsSettleRefusal, load_error, page_size_in}
+use Rattle.bdb_settle.specs.LoadErrors.{load_error, page_size_in}
 use Rattle.bdb_settle.specs.Loaded.{loaded, loaded_section}
 use Rattle.bdb_law_buckets.specs.Tables.{HasBuiltTable}
 use Rattle.bdb_need.specs.TreePages.{unlined_pairs}

@@ -20,9 +20,8 @@ use Rattle.bdb_law_join.proofs.FiledLemmas.{btrees_are_spelled}
 use Rattle.bdb_mkleaves.specs.Layout.{AreTreesIn}
 use Rattle.bdb_mkleaves.specs.Spread.{tree_size}
 use Rattle.bdb_mkleaves.proofs.LayoutLemmas.{trees_are_in}
-use Rattle.bdb_mkleaves.proofs.RunLemmas.{all_map}
 use Rattle.bdb_mktree.specs.Building.{IsTreeBuilt}
-use Rattle.bdb_mktree.specs.Lists.{IsTreeList, IsPairFor, is_in_order, may_follow, units_in}
+use Rattle.bdb_mktree.specs.Lists.{units_in}
 use Rattle.bdb_mktree.specs.Units.{IsTreeKind, is_counted, leaf_type_of}
 use Rattle.bdb_law_buckets.specs.Tables.{HasBuiltBuckets, table_meta}
 use Rattle.bdb_mkhash.specs.Buckets.{table_bits, table_cost, table_size, table_units}
@@ -219,22 +218,6 @@ in_file Btree size order settings = refl
 in_file Recno size order settings = refl
 in_file Hash size order settings = refl
 in_file Queue size order settings = refl
-
--- lists in the order of other settings
-same_order : (one two : Settings) (pairs : List Pair) → ((a b : Pair) → may_follow two.kind two a b ≡ may_follow one.kind one a b)
-    → is_in_order two pairs ≡ is_in_order one pairs
-same_order one two [] same = refl
-same_order one two (a ∷ []) same = refl
-same_order one two (a ∷ b ∷ pairs) same =
-    ap (λ t. t && is_in_order two (b ∷ pairs)) (same a b)
-    ∙ ap (λ t. may_follow one.kind one a b && t) (same_order one two (b ∷ pairs) same)
-
-same_list : (one two : Settings) (pairs : List Pair) → ((a b : Pair) → may_follow two.kind two a b ≡ may_follow one.kind one a b)
-    → ((pair : Pair) → IsPairFor one pair → IsPairFor two pair) → IsTreeList one pairs → IsTreeList two pairs
-same_list one two pairs follow each is = record {
-  each = all_map {P = IsPairFor one} {Q = IsPairFor two} each pairs is.each;
-  in_order = same_order one two pairs follow ∙ is.in_order;
-}
 
 -- settings of a recno sort no data
 no_sorting : (settings : Settings) → AreNamedSettings settings → settings.kind ≡ Recno → settings.sorted ≡ false

@@ -123,9 +123,7 @@ dealt_length bits all left buckets before = ap length before.are ∙ length-map-
 pub pushed_seen : {V : Type 0} (f : V → List Keyed) (items : List V) (b : ℕ) (old new : V) (unit : Keyed) → b < length items
     → old ≡ get_or items b old
     → f new ≡ f old ++ (unit ∷ []) → map f (set items b new) ≡ set (map f items) b (get_or (map f items) b [] ++ (unit ∷ []))
-pushed_seen f items b old new unit low there grown =
-    map-set f items b new
-    ∙ ap (set (map f items) b) (grown ∙ ap (λ us. us ++ (unit ∷ [])) (ap f there ∙ sym (get_or-map f items b old [] low)))
+pushed_seen f items b old new unit low there grown = grind (arith, map-set, set, get_or-map)
 
 -- Spares.
 

@@ -36,7 +36,7 @@ use Rattle.bdb_law_buckets.proofs.DealLemmas.{deal, dealt_back, insert_unit, uni
 use Rattle.bdb_law_buckets.proofs.TableLemmas.{among_low, tables_are_parts}
 use Rattle.bdb_law_buckets.proofs.UnsortedLemmas.{tables_are_built}
 use Rattle.bdb_mkhash.specs.Buckets.{buckets_of, keyed_of, spread_bucket, table_bits, table_units}
-use Rattle.bdb_mkhash.specs.Costs.{keyed_own_pages, keyed_cost}
+use Rattle.bdb_mkhash.specs.Costs.{keyed_own_pages}
 use Rattle.bdb_mkhash.specs.Filling.{AreFilled, of_buckets}
 use Rattle.bdb_mkhash.specs.Table.{IsTableBuilt, IsTableList}
 use Rattle.bdb_mkhash.specs.Units.{IsShortUnit}
@@ -91,17 +91,13 @@ suit_single : (settings : Settings) (units : List TreeUnit) → All (Suits (as_b
     → All (λ (unit : Keyed). length unit.values ≡ 1) (map keyed_of units)
 suit_single settings [] suits none = All-nil (λ (unit : Keyed). length unit.values ≡ 1)
 suit_single settings (unit ∷ units) suits none =
-    All-cons (λ (u : Keyed). length u.values ≡ 1) (keyed_of unit) (map keyed_of units)
-    ((suit_one settings unit (All-head (Suits (as_btree settings)) unit units suits)).0 none)
-    (suit_single settings units (All-tail (Suits (as_btree settings)) unit units suits) none)
+    grind (arith, All-cons, suit_one, All-head, All-tail, suit_single settings units (All-tail (Suits (as_btree settings)) unit units suits) none)
 
 suit_order : (settings : Settings) (units : List TreeUnit) → All (Suits (as_btree settings)) units → settings.sorted ≡ true
     → All (λ (unit : Keyed). ascends unit.values ≡ true) (map keyed_of units)
 suit_order settings [] suits is = All-nil (λ (unit : Keyed). ascends unit.values ≡ true)
 suit_order settings (unit ∷ units) suits is =
-    All-cons (λ (u : Keyed). ascends u.values ≡ true) (keyed_of unit) (map keyed_of units)
-    ((suit_one settings unit (All-head (Suits (as_btree settings)) unit units suits)).1 is)
-    (suit_order settings units (All-tail (Suits (as_btree settings)) unit units suits) is)
+    grind (arith, All-cons, suit_one, All-head, All-tail, suit_order settings units (All-tail (Suits (as_btree settings)) unit units suits) is)
 
 suits_are : (settings : Settings) (pairs : List Pair) → IsTableList settings pairs → SuitsTable settings (table_units pairs)
 suits_are settings pairs list =
@@ -143,14 +139,7 @@ sum_ordered f (unit ∷ units) =
 sum_joined : (f : Keyed → ℕ) (g : ℕ → List Keyed) (a n : ℕ)
     → sum_by (λ bucket. sum_by f bucket) (map g (range_with_len a n)) ≡ sum_by f (flat_map g (range_with_len a n))
 sum_joined f g a zero = refl
-sum_joined f g a (suc n) =
-    let rest = sum_joined f g (a + 1) n in
-    omega (
-      arith,
-      rest,
-      sum_by-cons (λ (bucket : List Keyed). sum_by f bucket) (g a) (map g (range_with_len (a + 1) n)),
-      sum_by-append f (g a) (flat_map g (range_with_len (a + 1) n)),
-    )
+sum_joined f g a (suc n) = omega (arith, sum_by-cons, sum_by-append, sum_joined f g (a + 1) n)
 
 sum_dealt : (f : Keyed → ℕ) (bits : ℕ) (units : List Keyed) → ascends (map key_of units) ≡ true
     → sum_by (λ bucket. sum_by f bucket) (buckets_of bits units) ≡ sum_by f units
@@ -173,9 +162,7 @@ each_joined (pages ∷ buckets) = ap (λ us. us ∷ map (flat_map (λ page. page
 
 each_spread : (size : ℕ) (buckets : List (List Keyed)) → map (flat_map (λ page. page)) (map (spread_bucket size) buckets) ≡ buckets
 each_spread size [] = refl
-each_spread size (bucket ∷ buckets) =
-    ap (λ us. us ∷ map (flat_map (λ page. page)) (map (spread_bucket size) buckets)) (spread_all _ (keyed_cost size) (keyed_cost size) _ [] bucket)
-    ∙ ap (λ uss. bucket ∷ uss) (each_spread size buckets)
+each_spread size (bucket ∷ buckets) = grind (arith, spread_all, each_spread size buckets)
 
 -- The table.
 

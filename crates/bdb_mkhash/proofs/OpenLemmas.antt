@@ -23,7 +23,7 @@ use Rattle.bdb_law_buckets.specs.Pages.{IsHashIn}
 use Rattle.bdb_law_buckets.specs.Tables.{BucketStands, Keyed, PlacedUnit, UnitsStand, contents_on, unit_of}
 use Rattle.bdb_mkhash.specs.Costs.{keyed_own_pages, keyed_cost}
 use Rattle.bdb_mkhash.specs.Filling.{IsBucketFilled, IsBucketOpen, IsFollowed, IsPageFilled, closed_of, no_unit, of_bucket, room_on}
-use Rattle.bdb_mkhash.specs.Pages.{HoldsContents, HoldsContentsOn}
+use Rattle.bdb_mkhash.specs.Pages.{HoldsContentsOn}
 use Rattle.bdb_mkhash.proofs.FillLemmas.{contents_even, unit_fits}
 use Rattle.bdb_mkhash.proofs.PageLemmas.{hash_pages_are_formed, hash_pages_stand}
 use Rattle.bdb_mkhash.proofs.SpreadLemmas.{spread_over, spread_taken}
@@ -43,9 +43,7 @@ is_closed : (p a b current q : ℕ) → of_bucket p a b q ≡ true → (q ≡ cu
 is_closed p a b current q is other = ap (λ t. t && not (q == current)) is ∙ ap not (ne_eqb q current other)
 
 closed_is : (p a b current q : ℕ) → closed_of p a b current q ≡ true → (of_bucket p a b q ≡ true) × (q ≡ current → ⊥)
-closed_is p a b current q is =
-    let parts = and_parts (of_bucket p a b q) (not (q == current)) is in
-    (parts.0, λ same. true≢false (sym parts.1 ∙ ap not (eq-eqb q current same)))
+closed_is p a b current q is = grind (arith, and_parts, eq-eqb)
 
 -- A page in a later file.
 
@@ -64,9 +62,7 @@ page_stands built p previous next contents pages g low holds at later =
 
 pub holds_kept : (old new : Built) (p previous next : ℕ) (contents : List Content) → new.order ≡ old.order → bytes_of new p ≡ bytes_of old p
     → HoldsContentsOn old p previous next contents → HoldsContentsOn new p previous next contents
-holds_kept old new p previous next contents order same holds =
-    subst (λ o. HoldsContents o (bytes_of new p) p previous next contents) (sym order)
-    (subst (λ bs. HoldsContents old.order bs p previous next contents) (sym same) holds)
+holds_kept old new p previous next contents order same holds = grind arith
 
 -- The first page.
 

@@ -208,21 +208,7 @@ page_added old added new number previous legal few low zeros at_end begun =
 pub added_keeps : (old new : Built) (previous : ℕ) → new ≡ with_hash_page old previous
     → (new.size ≡ old.size) × (new.order ≡ old.order) × (length new.pages ≡ length old.pages + 1)
     × ((q : ℕ) → q < length old.pages → bytes_of new q ≡ bytes_of old q)
-added_keeps old new previous is =
-    subst (λ (b : Built). (b.size ≡ old.size) × (b.order ≡ old.order) × (length b.pages ≡ length old.pages + 1)
-    × ((q : ℕ) → q < length old.pages → bytes_of b q ≡ bytes_of old q)) (sym is) (
-      refl,
-      refl,
-      length-set (with_zeros old).pages n page ∙ length-append old.pages (replicate old.size 0 ∷ []),
-      λ q low. get_or-set_other (with_zeros old).pages n q page [] (λ e. omega (arith, e, low))
-          ∙ get_or_append_left old.pages (replicate old.size 0 ∷ []) [] q low,
-    )
-  where
-    n : ℕ
-    n = length old.pages
-
-    page : List ℕ
-    page = begun_page old.order (bytes_of (with_zeros old) n) (page_header n previous)
+added_keeps old new previous is = grind (arith, length-set, length-append, get_or-set_other, get_or_append_left)
 
 -- The next page.
 
@@ -271,8 +257,4 @@ followed order page p previous before next contents low holds =
 pub next_set : (old new : Built) (p next : ℕ) → p < length old.pages → next < 2 ^ 32
     → new ≡ with_page old p (with_next old.order (bytes_of old p) next)
     → (previous before : ℕ) (contents : List Content) → HoldsContentsOn old p previous before contents → HoldsContentsOn new p previous next contents
-next_set old new p next low fits is previous before contents holds =
-    let page : List ℕ = with_next old.order (bytes_of old p) next in
-    subst (λ (b : Built). HoldsContents b.order (bytes_of b p) p previous next contents) (sym is)
-    (subst (λ bs. HoldsContents old.order bs p previous next contents) (sym (bytes_with old p page low))
-    (followed old.order (bytes_of old p) p previous before next contents fits holds))
+next_set old new p next low fits is previous before contents holds = grind (arith, bytes_with, followed)

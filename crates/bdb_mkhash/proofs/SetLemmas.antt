@@ -14,9 +14,7 @@ use Rattle.bdb_layout.proofs.ReadBackLemmas.{blocks_of-back}
 
 -- two bytes that are written whole
 pub spelled_over : (order : Order) (x : ℕ) → overwritten (0 ∷ 0 ∷ []) 0 (spelled 2 order x) ≡ spelled 2 order x
-spelled_over order x =
-    ap (λ rest. spelled 2 order x ++ rest) (drop_all (0 + length (spelled 2 order x)) (0 ∷ 0 ∷ []) (omega (arith, length-spelled 2 order x)))
-    ∙ append-nil (spelled 2 order x)
+spelled_over order x = grind (arith, drop_all, length-spelled, append-nil)
 
 -- the set that is read from it
 pub set_read : (order : Order) (values : List (List ℕ)) (run : List ℕ) → All (λ value. length value < 2 ^ 16) values

@@ -1,7 +1,6 @@
 -- How keys are spread over the pages of a bucket.
-use Rattle.std.proofs.Common.{◌≡◌, ℕ, zero, suc, ◌+◌, ◌-◌, ◌<◌, ◌≤◌, Bool, true, false, cond, List, [], ◌∷◌, ◌++◌, take, drop, append_assoc, arith, refl, sym}
+use Rattle.std.proofs.Common.{◌≡◌, ℕ, zero, suc, ◌+◌, ◌-◌, ◌<◌, ◌≤◌, cond, List, [], ◌∷◌, ◌++◌, take, drop, append_assoc, arith, refl}
 use Rattle.std.proofs.Common.{◌∙◌, ap}
-use Rattle.std.specs.Prelude.{nat_le}
 use Rattle.std.specs.List.{flat_map, sum_by}
 use Rattle.std.proofs.lemmas.Bool.{le-leb, lt-leb}
 use Rattle.std.proofs.lemmas.List.{append-nil}
@@ -11,12 +10,8 @@ use Rattle.bdb_mkleaves.specs.Spread.{spread_on}
 -- the first things stand on the open page
 pub spread_taken : {A : Type 0} (room : ℕ) (first cost : A → ℕ) (left : ℕ) (page xs : List A) (n : ℕ) → sum_by cost (take n xs) ≤ left
     → spread_on room first cost left page xs ≡ spread_on room first cost (left - sum_by cost (take n xs)) (page ++ take n xs) (drop n xs)
-spread_taken room first cost left page xs zero enough =
-    ap (λ k. spread_on room first cost k page xs) (let e : left ≡ left - 0 = omega arith in e)
-    ∙ ap (λ p. spread_on room first cost (left - 0) p xs) (sym (append-nil page))
-spread_taken room first cost left page [] (suc n) enough =
-    ap (λ k. spread_on room first cost k page []) (let e : left ≡ left - 0 = omega arith in e)
-    ∙ ap (λ p. spread_on room first cost (left - 0) p []) (sym (append-nil page))
+spread_taken room first cost left page xs zero enough = grind (arith, append-nil)
+spread_taken room first cost left page [] (suc n) enough = grind (arith, append-nil)
 spread_taken room first cost left page (x ∷ xs) (suc n) enough =
     let sum : sum_by cost (x ∷ take n xs) ≡ cost x + sum_by cost (take n xs) = sum_by-cons cost x (take n xs) in
     ap (λ b. cond b (spread_on room first cost (left - cost x) (page ++ (x ∷ [])) xs) (page ∷ spread_on room first cost (room - first x) (x ∷ []) xs))
@@ -29,25 +24,11 @@ spread_taken room first cost left page (x ∷ xs) (suc n) enough =
 -- the next one begins a page, where it has no room on the open one
 pub spread_over : {A : Type 0} (room : ℕ) (cost : A → ℕ) (left : ℕ) (page xs : List A) (x : A) → left < cost x → cost x ≤ room
     → spread_on room cost cost left page (x ∷ xs) ≡ page ∷ spread_on room cost cost room [] (x ∷ xs)
-spread_over room cost left page xs x over fits =
-    ap (λ b. cond b (spread_on room cost cost (left - cost x) (page ++ (x ∷ [])) xs) (page ∷ spread_on room cost cost (room - cost x) (x ∷ []) xs))
-    (lt-leb (cost x) left over)
-    ∙ ap (λ ps. page ∷ ps) (sym (ap (λ b. cond b (spread_on room cost cost (room - cost x) (x ∷ []) xs)
-    ([] ∷ spread_on room cost cost (room - cost x) (x ∷ []) xs))
-    (le-leb (cost x) room fits)))
+spread_over room cost left page xs x over fits = grind (arith, lt-leb, le-leb)
 
 -- the pages hold all things, in their order
 pub spread_all : {A : Type 0} (room : ℕ) (first cost : A → ℕ) (left : ℕ) (page xs : List A)
     → flat_map (λ p. p) (spread_on room first cost left page xs) ≡ page ++ xs
 spread_all room first cost left page [] = refl
 spread_all room first cost left page (x ∷ xs) =
-    by_test (nat_le (cost x) left) (spread_all room first cost (left - cost x) (page ++ (x ∷ [])) xs)
-    (spread_all room first cost (room - first x) (x ∷ []) xs)
-  where
-    by_test : (b : Bool) → flat_map (λ p. p) (spread_on room first cost (left - cost x) (page ++ (x ∷ [])) xs) ≡ (page ++ (x ∷ [])) ++ xs
-        → flat_map (λ p. p) (spread_on room first cost (room - first x) (x ∷ []) xs) ≡ (x ∷ []) ++ xs
-        → flat_map (λ p. p) (cond b (spread_on room first cost (left - cost x) (page ++ (x ∷ [])) xs)
-        (page ∷ spread_on room first cost (room - first x) (x ∷ []) xs))
-        ≡ page ++ (x ∷ xs)
-    by_test true here there = here ∙ append_assoc page (x ∷ []) xs
-    by_test false here there = ap (λ ys. page ++ ys) there
+    grind (arith, append_assoc, spread_all room first cost (left - cost x) (page ++ (x ∷ [])) xs, spread_all room first cost (room - first x) (x ∷ []) xs)

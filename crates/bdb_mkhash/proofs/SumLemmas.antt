@@ -91,13 +91,7 @@ leaf_alone : (type : LeafType) (g : File) (before : ℕ) (placed : List LeafUnit
 leaf_alone type g before [] [] top laid zip one inner = absurd cc
 leaf_alone type g before [] (node ∷ nodes) top laid zip one inner = absurd zip
 leaf_alone type g before (leaf ∷ placed) [] top laid zip one inner = absurd zip
-leaf_alone type g before (leaf ∷ placed) (node ∷ nodes) top laid zip one inner =
-    let same : node ≡ top = cc in
-    let at : top.page ≡ leaf.page = ap (λ (n : Node). n.page) (sym same) ∙ zip.0.page in
-    let none : is_some (children_in (page_at g top.page)) ≡ false =
-    ap (λ p. is_some (children_in (page_at g p))) at ∙ ap (λ page. is_some (children_in page)) laid.0.is
-    ∙ ap is_some (no_children type laid.0.page) in
-    absurd (let both : true ≡ false = sym inner ∙ none in cc)
+leaf_alone type g before (leaf ∷ placed) (node ∷ nodes) top laid zip one inner = grind (arith, no_children)
 
 pub set_summed : (g : File) (built : Built) (pages : ℕ → Bool) (sorted : Bool) (values : List (List ℕ)) (root : ℕ)
     → IsTreeOn (set_type sorted) built pages true (map live_entry values) root → IsCounted g → IsLater pages (file_so_far built) g

@@ -24,12 +24,7 @@ use Rattle.bdb_mkhash.proofs.OpenLemmas.{bucket_is, holds_kept, is_first, is_fur
 pub tables_follow : (g : File) (sorted : Bool) (p first middle beyond : ℕ) (xs : List (List (List PlacedUnit))) (bucket : List (List PlacedUnit))
     → TableStands g sorted p first middle xs → BucketStands g sorted 0 (p + length xs) middle beyond bucket
     → TableStands g sorted p first beyond (xs ++ (bucket ∷ []))
-tables_follow g sorted p first middle beyond [] bucket same stands = (
-  beyond,
-  subst (λ n. BucketStands g sorted 0 n first beyond bucket) (let e : p + 0 ≡ p = omega arith in e)
-      (subst (λ n. BucketStands g sorted 0 (p + 0) n beyond bucket) same stands),
-  refl,
-)
+tables_follow g sorted p first middle beyond [] bucket same stands = grind arith
 tables_follow g sorted p first middle beyond (x ∷ xs) bucket (next, here, rest) stands = (
   next,
   here,
@@ -40,10 +35,7 @@ tables_follow g sorted p first middle beyond (x ∷ xs) bucket (next, here, rest
 -- Sets of pages.
 
 pub buckets_is : (p n a b q : ℕ) → of_buckets p n a b q ≡ true → ((p ≤ q) × (q < p + n)) ⊎ ((a ≤ q) × (q < b))
-buckets_is p n a b q is = elim (or_cases (between p (p + n) q) (between a b q) is) [
-  | inl first ↦ inl (between_is p (p + n) q first)
-  | inr further ↦ inr (between_is a b q further)
-]
+buckets_is p n a b q is = grind (arith, or_cases, between_is)
 
 pub are_first : (p n a b q : ℕ) → p ≤ q → q < p + n → of_buckets p n a b q ≡ true
 are_first p n a b q low high = ap (λ t. t || between a b q) (is_between p (p + n) q low high)
@@ -52,11 +44,7 @@ pub are_further : (p n a b q : ℕ) → a ≤ q → q < b → of_buckets p n a b
 are_further p n a b q low high = or_right (between p (p + n) q) _ (is_between a b q low high)
 
 not_between : (a b q : ℕ) → b ≤ q → between a b q ≡ false
-not_between a b q high = by_test (between a b q) refl
-  where
-    by_test : (t : Bool) → between a b q ≡ t → t ≡ false
-    by_test true is = absurd (omega (arith, high, (between_is a b q is).1))
-    by_test false is = refl
+not_between a b q high = grind (arith, between_is)
 
 -- the first page of the next bucket is as it was
 pub still_empty : (p n : ℕ) (old now : Built) (sorted : Bool) (buckets : List (List Keyed)) → AreEmptyPages p n old

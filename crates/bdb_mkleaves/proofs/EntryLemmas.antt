@@ -1,7 +1,7 @@
 -- A leaf that takes an entry holds one entry more.
 use Rattle.std.proofs.Common.{Bool, ◌≡◌, ℕ, ◌+◌, ◌-◌, ◌<◌, ◌≤◌, true, false, List, [], ◌∷◌, ◌++◌, length, get_or, arith, refl, sym, ◌∙◌, ap, subst}
 use Rattle.std.proofs.Common.{inl, inr, None, length-append}
-use Rattle.std.specs.Prelude.{◌==◌, ◌&&◌, ◌%◌, nat_le, slice_index}
+use Rattle.std.specs.Prelude.{◌==◌, ◌&&◌, ◌%◌}
 use Rattle.std.specs.List.{sum_by}
 use Rattle.std.proofs.lemmas.Bool.{cases_lt, and_left, and_right, eq-eqb, le-leb, lt-leb, ne_eqb}
 use Rattle.std.proofs.lemmas.List.{get_or-set_same, get_or_append_left, get_or_push, length-map, map-append}
@@ -155,55 +155,22 @@ at_end xs x d k end = grind (arith, get_or_push)
 
 -- the sharing of an earlier key doesn't see later offsets
 pub shared_same : (offsets : List ℕ) (at k : ℕ) → k < length offsets → is_shared_key (offsets ++ (at ∷ [])) k ≡ is_shared_key offsets k
-shared_same offsets at k low =
-    let here : slice_index (offsets ++ (at ∷ [])) k ≡ slice_index offsets k = get_or_append_left offsets (at ∷ []) 0 k low in
-    let before : slice_index (offsets ++ (at ∷ [])) (k - 2) ≡ slice_index offsets (k - 2) = get_or_append_left offsets (at ∷ []) 0 (k - 2)
-    (omega arith) in
-    ap (λ n. k % 2 == 0 && nat_le 2 k && n == slice_index (offsets ++ (at ∷ [])) (k - 2)) here
-    ∙ ap (λ n. k % 2 == 0 && nat_le 2 k && slice_index offsets k == n) before
+shared_same offsets at k low = grind (arith, get_or_append_left)
 
 lowest_own : (offsets : List ℕ) (at k : ℕ) → k ≡ length offsets → ((i : ℕ) → i < length offsets → at < get_or offsets i 0)
     → is_shared_key (offsets ++ (at ∷ [])) k ≡ false
-lowest_own offsets at k end above =
-    let last : slice_index (offsets ++ (at ∷ [])) k ≡ at = at_end offsets at 0 k end in
-    elim (cases_lt k 2) [
-      | inl low ↦
-          and_left (k % 2 == 0 && nat_le 2 k) (slice_index (offsets ++ (at ∷ [])) k == slice_index (offsets ++ (at ∷ [])) (k - 2))
-          (and_right (k % 2 == 0) (nat_le 2 k) (lt-leb 2 k low))
-      | inr high ↦
-          let before : slice_index (offsets ++ (at ∷ [])) (k - 2) ≡ get_or offsets (k - 2) 0 =
-          get_or_append_left offsets (at ∷ []) 0 (k - 2) (omega (arith, end, high)) in
-          let lower : at < get_or offsets (k - 2) 0 = above (k - 2) (omega (arith, end, high)) in
-          and_right (k % 2 == 0 && nat_le 2 k) (slice_index (offsets ++ (at ∷ [])) k == slice_index (offsets ++ (at ∷ [])) (k - 2))
-          (ne_eqb _ _ (λ e. omega (arith, e, last, before, lower)))
-    ]
+lowest_own offsets at k end above = grind (arith, at_end, cases_lt, and_left, and_right, lt-leb, get_or_append_left, ne_eqb)
 
 above_more : (offsets : List ℕ) (high at : ℕ) → at ≤ high → ((k : ℕ) → k < length offsets → high ≤ get_or offsets k 0)
     → (k : ℕ) → k < length (offsets ++ (at ∷ [])) → at ≤ get_or (offsets ++ (at ∷ [])) k 0
-above_more offsets high at low above k under =
-    elim (cases_lt k (length offsets)) [
-      | inl below ↦
-          let old : get_or (offsets ++ (at ∷ [])) k 0 ≡ get_or offsets k 0 = get_or_append_left offsets (at ∷ []) 0 k below in
-          let h : high ≤ get_or offsets k 0 = above k below in omega (arith, old)
-      | inr over ↦
-          let new : get_or (offsets ++ (at ∷ [])) k 0 ≡ at = at_end offsets at 0 k (omega (arith, length-append offsets (at ∷ []))) in omega
-          (arith, new)
-    ]
+above_more offsets high at low above k under = grind (arith, cases_lt, get_or_append_left, at_end, length-append)
 
 -- whether entries share, after one more
 shares_more : (offsets : List ℕ) (at : ℕ) (entries : List Entry) (entry : Entry) → length offsets ≡ length entries
     → ((k : ℕ) → k < length entries → is_shared_key offsets k ≡ (get_or entries k no_entry).shares)
     → is_shared_key (offsets ++ (at ∷ [])) (length entries) ≡ entry.shares
     → (k : ℕ) → k < length (entries ++ (entry ∷ [])) → is_shared_key (offsets ++ (at ∷ [])) k ≡ (get_or (entries ++ (entry ∷ [])) k no_entry).shares
-shares_more offsets at entries entry long old last k under =
-    elim (cases_lt k (length entries)) [
-      | inl below ↦
-          shared_same offsets at k (omega (arith, long, below))
-          ∙ (old k below ∙ sym (ap (λ (e : Entry). e.shares) (get_or_append_left entries (entry ∷ []) no_entry k below)))
-      | inr over ↦
-          let end : k ≡ length entries = omega (arith, length-append entries (entry ∷ []), under, over) in
-          ap (is_shared_key (offsets ++ (at ∷ []))) end ∙ (last ∙ sym (ap (λ (e : Entry). e.shares) (at_end entries entry no_entry k end)))
-    ]
+shares_more offsets at entries entry long old last k under = grind (arith, cases_lt, shared_same, get_or_append_left, length-append, at_end)
 
 pub entry_added : (type : LeafType) (order : Order) (page : List ℕ) (p previous next : ℕ) (entries : List Entry) (item : Item)
     → HoldsEntries type order page p previous next entries → IsWritable (OnLeaf item) → HasPlace (type_number type) (length entries) (OnLeaf item)
@@ -245,23 +212,13 @@ entry_added type order page p previous next entries item holds fits place room =
 entries_same : (type other : LeafType) (order : Order) (bytes : List ℕ) (p previous next before after : ℕ) (entries others : List Entry)
     → HoldsEntries type order bytes p previous next entries → HoldsEntries other order bytes p before after others
     → (type_number type ≡ type_number other) × (length entries ≡ length others)
-entries_same type other order bytes p previous next before after entries others one two = (
-  sym one.type_is ∙ two.type_is,
-  sym (entries_held type order bytes p previous next entries one) ∙ entries_held other order bytes p before after others two,
-)
+entries_same type other order bytes p previous next before after entries others one two = grind (arith, entries_held)
 
 pub item_held : (old new : Built) (p : ℕ) (item : Item) → p < length old.pages → new ≡ with_item_on old p (leaf_bytes old.order item)
     → CanTakeEntry old p item
     → (type : LeafType) (previous next : ℕ) (entries : List Entry) → HoldsEntriesOn type old p previous next entries
     → HoldsEntriesOn type new p previous next (entries ++ (own_entry item ∷ []))
-item_held old new p item low is can type previous next entries holds =
-    let same = entries_same can.type type old.order (bytes_of old p) p can.previous can.next previous next can.entries entries can.holds holds in
-    let page : List ℕ = page_and_item old.order (bytes_of old p) (leaf_bytes old.order item) in
-    let place : HasPlace (type_number type) (length entries) (OnLeaf item) =
-    subst (λ t. HasPlace t (length entries) (OnLeaf item)) same.0 (subst (λ k. HasPlace (type_number can.type) k (OnLeaf item)) same.1 can.place) in
-    subst (λ (b : Built). HoldsEntriesOn type b p previous next (entries ++ (own_entry item ∷ []))) (sym is)
-    (subst (λ bs. HoldsEntries type old.order bs p previous next (entries ++ (own_entry item ∷ []))) (sym (bytes_with old p page low))
-    (entry_added type old.order (bytes_of old p) p previous next entries item holds can.fits place can.room))
+item_held old new p item low is can type previous next entries holds = grind (arith, entries_same, bytes_with, entry_added)
 
 -- the page keeps its length
 pub item_long : (old new : Built) (p : ℕ) (item : Item) → p < length old.pages → new ≡ with_item_on old p (leaf_bytes old.order item)
@@ -290,11 +247,7 @@ item_placed built p item can =
 
 shared_last : (offsets : List ℕ) (n : ℕ) → n ≡ length offsets → n % 2 ≡ 0 → 2 ≤ n
     → is_shared_key (offsets ++ (get_or offsets (n - 2) 0 ∷ [])) n ≡ true
-shared_last offsets n end even some =
-    let at : ℕ = get_or offsets (n - 2) 0 in
-    let last : slice_index (offsets ++ (at ∷ [])) n ≡ at = at_end offsets at 0 n end in
-    let before : slice_index (offsets ++ (at ∷ [])) (n - 2) ≡ at = get_or_append_left offsets (at ∷ []) 0 (n - 2) (omega (arith, end, some)) in
-    rw (eq-eqb (n % 2) 0 even, le-leb 2 n some, eq-eqb _ _ (last ∙ sym before)) refl
+shared_last offsets n end even some = grind (arith, at_end, get_or_append_left, eq-eqb, le-leb)
 
 -- a leaf of pairs with whole pairs, one at least, and room for an entry
 pub shares_key : (order : Order) (page : List ℕ) (p previous next : ℕ) (entries : List Entry) → HoldsEntries Pairs order page p previous next entries
@@ -392,13 +345,7 @@ pub key_held : (old new : Built) (p : ℕ) → p < length old.pages → new ≡ 
     → CanShareKey old p
     → (previous next : ℕ) (entries : List Entry) → HoldsEntriesOn Pairs old p previous next entries
     → HoldsEntriesOn Pairs new p previous next (entries ++ (shared_key entries ∷ []))
-key_held old new p low is can previous next entries holds =
-    let same = (entries_same Pairs Pairs old.order (bytes_of old p) p can.previous can.next previous next can.entries entries can.holds holds).1 in
-    let page : List ℕ = page_and_shared old.order (bytes_of old p) in
-    let some = can.some in
-    subst (λ (b : Built). HoldsEntriesOn Pairs b p previous next (entries ++ (shared_key entries ∷ []))) (sym is)
-    (subst (λ bs. HoldsEntries Pairs old.order bs p previous next (entries ++ (shared_key entries ∷ []))) (sym (bytes_with old p page low))
-    (key_added old.order (bytes_of old p) p previous next entries holds (ap (λ k. k % 2) (sym same) ∙ can.even) (omega (arith, same, some)) can.room))
+key_held old new p low is can previous next entries holds = grind (arith, entries_same, bytes_with, key_added)
 
 pub key_long : (old new : Built) (p : ℕ) → p < length old.pages → new ≡ with_page old p (page_and_shared old.order (bytes_of old p))
     → CanShareKey old p

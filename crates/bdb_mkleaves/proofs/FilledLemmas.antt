@@ -1,10 +1,9 @@
 -- Units that are put on leaves.
-use Rattle.std.proofs.Common.{◌≡◌, ℕ, suc, ◌+◌, ◌<◌, ◌≤◌, Bool, false, List, [], ◌∷◌, length, map, arith, refl, sym, ◌∙◌, ap, subst, inl}
+use Rattle.std.proofs.Common.{◌≡◌, ℕ, suc, ◌+◌, ◌<◌, ◌≤◌, Bool, false, List, [], ◌∷◌, length, map, arith, refl, sym, ◌∙◌, ap, subst}
 use Rattle.std.specs.List.{All, flat_map, sum_by}
 use Rattle.std.proofs.lemmas.Simd.{map-map}
 use Rattle.std.proofs.lemmas.List.Elements.{All-cons, All-nil}
 use Rattle.std.proofs.lemmas.List.Sums.{sum_by-cons}
-use Rattle.bdb_format.specs.declared.metadata.FileKind.TheVariants.{Btree, Queue}
 use Rattle.bdb_format.specs.Page.{Content, Inline, Set, Chain, Tree, Unknown}
 use Rattle.bdb_format.specs.File.{File}
 use Rattle.bdb_format.specs.Chains.{value_of}
@@ -59,10 +58,7 @@ by_size g size first beyond Unknown value stands = absurd stands
 -- The file so far.
 
 pub later_self : (built : Built) (pages : ℕ → Bool) → IsLater pages (file_so_far built) (file_so_far built)
-later_self built pages = record { no_queue_before = λ e. no_queue e; no_queue = λ e. no_queue e; grows = omega arith; same = λ p at. inl refl }
-  where
-    no_queue : Btree ≡ Queue → ⊥
-    no_queue e = grind arith
+later_self built pages = grind arith
 
 -- Runs are units.
 
@@ -133,10 +129,7 @@ entry_is_unit leaves old new value deleted other positive low put some =
 data_pages : (size : ℕ) (more : List ValueItem) → sum_by (λ (one : Content × List ℕ). chain_pages size one.1) (map held_by_item more)
     ≡ sum_by (chain_pages size) (map (λ (datum : ValueItem). datum.value) more)
 data_pages size [] = refl
-data_pages size (datum ∷ more) =
-    sum_by-cons (λ (one : Content × List ℕ). chain_pages size one.1) (held_by_item datum) (map held_by_item more)
-    ∙ (ap (λ n. chain_pages size datum.value + n) (data_pages size more)
-    ∙ sym (sum_by-cons (chain_pages size) datum.value (map (λ (other : ValueItem). other.value) more)))
+data_pages size (datum ∷ more) = omega (arith, sum_by-cons, data_pages size more)
 
 pairs_contents : (key first : ValueItem) (more : List ValueItem)
     → unit_contents Pairs (PlacedPairs key first more) ≡ key.item.content ∷ first.item.content ∷ map (λ (datum : ValueItem). datum.item.content) more
@@ -152,15 +145,7 @@ data_stand : (g : File) (size first beyond : ℕ) (more : List ValueItem) → Al
     → ValuesStand g size first beyond (map held_by_item more) → All (IsDatum g) more × All (IsStoredBySize size) more
 data_stand g size first beyond [] live stand = (All-nil (IsDatum g), All-nil (IsStoredBySize size))
 data_stand g size first beyond (datum ∷ more) live (middle, up, low, here, rest) =
-    let after = data_stand g size middle beyond more (λ k d under. live (suc k) d (omega (arith, under))) rest in (
-      All-cons (IsDatum g) datum more
-          (record {
-            live = (live 0 datum (omega arith)).live;
-            one = one_value g size first middle datum.item.content datum.value here;
-            value = value_read g size first middle datum.item.content datum.value here;
-          }) after.0,
-      All-cons (IsStoredBySize size) datum more (by_size g size first middle datum.item.content datum.value here) after.1,
-    )
+    grind (arith, All-cons, one_value, value_read, by_size, data_stand g size middle beyond more (λ k d under. live (suc k) d (omega (arith, under))) rest)
 
 pub pairs_are_unit : (leaves : Leaves) (old new : Built) (key first : List ℕ) (more : List (List ℕ)) → leaves.leaf_type ≡ Pairs → 1 ≤ length old.pages
     → (put : ArePairsPut leaves old new key first more) → has_own_tree old.size key (first ∷ more) ≡ false

@@ -43,17 +43,7 @@ use Rattle.bdb_mkleaves.proofs.SumLemmas.{sum_stands}
 
 -- one is moved from the end to the front
 counts_moved : (e p n : ℕ) (others range : List ℕ) → count e ((p ∷ others) ++ (n ∷ range)) ≤ 1 → count e ((n ∷ others) ++ (range ++ (p ∷ []))) ≤ 1
-counts_moved e p n others range once =
-    omega (
-      arith,
-      once,
-      count-append e (p ∷ others) (n ∷ range),
-      count-append e (p ∷ []) others,
-      count-append e (n ∷ []) range,
-      count-append e (n ∷ others) (range ++ (p ∷ [])),
-      count-append e (n ∷ []) others,
-      count-append e range (p ∷ []),
-    )
+counts_moved e p n others range once = grind (arith, count-append)
 
 pub finished_trees_are_laid : FinishedTreesAreLaid
 finished_trees_are_laid leaves old new counted before closed units root filled on g is_counted later = (

@@ -1,18 +1,17 @@
 -- Filled leaves as the leaves of a tree, with what they hold.
-use Rattle.std.proofs.Common.{◌≡◌, ℕ, suc, ◌<◌, List, [], ◌∷◌, ◌++◌, length, map, arith, refl, sym, ◌∙◌, ap, subst, inl, inr, append-nil}
+use Rattle.std.proofs.Common.{◌≡◌, ℕ, suc, ◌<◌, List, [], ◌∷◌, ◌++◌, length, map, arith, refl, ◌∙◌, ap, subst, inl, inr, append-nil}
 use Rattle.std.specs.List.{All, AllZip, Contains, flat_map, range_with_len}
 use Rattle.std.proofs.lemmas.Grind.{flat_map-append}
 use Rattle.std.proofs.lemmas.List.Elements.{All-contains, All-head, All-tail}
 use Rattle.std.proofs.lemmas.List.Folds.{flat_map-map}
-use Rattle.bdb_format.specs.Page.{Item, Listed, Overflow, Page}
-use Rattle.bdb_format.specs.declared.pages.Header.{Header}
+use Rattle.bdb_format.specs.Page.{Item, Listed, Page}
 use Rattle.bdb_format.specs.File.{File, page_at}
 use Rattle.bdb_format.specs.Leaves.{first_or_zero}
 use Rattle.bdb_format.specs.Reading.{abstract_page}
 use Rattle.bdb_format.proofs.ListLemmas.{all_of, flat_map_same, flat_map_twice, map_joined}
 use Rattle.bdb_format.proofs.MemberLemmas.{first_member, in_flat_map, later_member, no_member, of_flat_map}
 use Rattle.bdb_law_grove.specs.Growing.{IsSamePage}
-use Rattle.bdb_law_grove.specs.Leaves.{Ascend, content_pages, pages_held}
+use Rattle.bdb_law_grove.specs.Leaves.{Ascend, content_pages}
 use Rattle.bdb_law_grove.proofs.SeveralLemmas.{some_count}
 use Rattle.bdb_law_grove.proofs.AscendLemmas.{range_ascends}
 use Rattle.bdb_law_levels.specs.Nodes.{Node}
@@ -22,7 +21,7 @@ use Rattle.bdb_law_levels.specs.declared.inner_type.InnerType.TheVariants.{Keyed
 use Rattle.bdb_pack.specs.Built.{Built, bytes_of}
 use Rattle.bdb_law_levels.proofs.TakenLemmas.{counted_member}
 use Rattle.bdb_mkleaves.specs.Filled.{unit_contents}
-use Rattle.bdb_mkleaves.specs.Laid.{AreLaid, IsNodeOf, entries_on, filled_leaf, held_by_leaves, inner_of}
+use Rattle.bdb_mkleaves.specs.Laid.{AreLaid, IsNodeOf, entries_on, held_by_leaves, inner_of}
 use Rattle.bdb_mkleaves.specs.LeafEntries.{Entry, IsLeafIn, contents_of, leaf_of, own_content}
 use Rattle.bdb_mkleaves.specs.Leaves.{first_of}
 use Rattle.bdb_mkleaves.specs.Levels.{heads_of}
@@ -67,9 +66,7 @@ zip_joined (p ∷ ps) (units ∷ groups) many = ap (λ us. units ++ us) (zip_joi
 -- the units of all leaves
 pub zip_all : (ps : List ℕ) (closed : List (List Placed)) (units : List Placed) → length ps ≡ length (closed ++ (units ∷ []))
     → flat_map (λ (leaf : LeafUnits). leaf.units) (zip_units ps (closed ++ (units ∷ []))) ≡ flat_map (λ leaf. leaf) closed ++ units
-zip_all ps closed units many =
-    zip_joined ps (closed ++ (units ∷ [])) many
-    ∙ (flat_map-append (λ leaf. leaf) closed (units ∷ []) ∙ ap (λ us. flat_map (λ leaf. leaf) closed ++ us) (append-nil units))
+zip_all ps closed units many = grind (arith, zip_joined, flat_map-append, append-nil)
 
 -- what holds of all that lists have holds of what each has
 pub all_joined : {X Y : Type 0} (P : Y → Type 0) (f : X → List Y) (xs : List X) → All P (flat_map f xs) → All (λ x. All P (f x)) xs
@@ -81,12 +78,7 @@ all_joined P f xs all =
 -- a leaf stays as it is: chains alone change
 leaf_same : (type : LeafType) (page : Listed Item) (old new : Page) → old ≡ leaf_of type page → IsSamePage old new → new ≡ old
 leaf_same type page old new is (inl same) = same
-leaf_same type page old new is (inr more) = absurd (no_chain type more.header more.piece (sym is ∙ more.before))
-  where
-    no_chain : (type : LeafType) (header : Header) (piece : List ℕ) → leaf_of type page ≡ Overflow header piece → ⊥
-    no_chain Pairs header piece e = cc
-    no_chain Records header piece e = cc
-    no_chain SortedData header piece e = cc
+leaf_same type page old new is (inr more) = grind arith
 
 next_is : (type : LeafType) (built : Built) (previous : ℕ) (ps : List ℕ) (groups : List (List Placed))
     → LinkedFrom type built previous ps (map (flat_map entries_of) groups) 0 → first_of ps 0 ≡ first_or_zero (pages_of (zip_units ps groups))
@@ -122,17 +114,11 @@ contents_joined SortedData units = map_joined (λ (entry : Entry). entry.item.co
 
 pub contents_held : (type : LeafType) (placed : List LeafUnits) (all : List Placed) → flat_map (λ (leaf : LeafUnits). leaf.units) placed ≡ all
     → flat_map (unit_contents type) all ≡ flat_map (λ (leaf : LeafUnits). contents_of type (entries_on leaf)) placed
-contents_held type placed all is =
-    ap (flat_map (unit_contents type)) (sym is)
-    ∙ (flat_map_twice (unit_contents type) (λ (leaf : LeafUnits). leaf.units) placed
-    ∙ flat_map_same (λ (leaf : LeafUnits). flat_map (unit_contents type) leaf.units) (λ (leaf : LeafUnits). contents_of type (entries_on leaf)) placed
-    (λ leaf at. sym (contents_joined type leaf.units)))
+contents_held type placed all is = grind (arith, flat_map_twice, flat_map_same, contents_joined)
 
 pub pages_named : (type : LeafType) (placed : List LeafUnits)
     → flat_map content_pages (flat_map (λ (leaf : LeafUnits). contents_of type (entries_on leaf)) placed) ≡ held_by_leaves type placed
-pages_named type placed =
-    flat_map_twice content_pages (λ (leaf : LeafUnits). contents_of type (entries_on leaf)) placed
-    ∙ sym (flat_map-map pages_held (filled_leaf type) placed)
+pages_named type placed = grind (arith, flat_map_twice, flat_map-map)
 
 -- Their keys.
 

@@ -55,12 +55,7 @@ flat_single [] = refl
 flat_single (x ∷ xs) = ap (λ ys. x ∷ ys) (flat_single xs)
 
 each_self : {X : Type 0} (xs : List X) (d : X) → map (λ k. get_or xs k d) (range_with_len 0 (length xs)) ≡ xs
-each_self xs d =
-    same_lists _ _ (length-map-range_with_len (λ k. get_or xs k d) 0 (length xs))
-    (λ k e under.
-    let low : k < length xs = omega (arith, under, length-map-range_with_len (λ k. get_or xs k d) 0 (length xs)) in
-    let at : 0 + k ≡ k = omega arith in
-    get_or-map-range_with_len (λ k. get_or xs k d) 0 (length xs) k k e low at ∙ get_or_default xs k d e low)
+each_self xs d = grind (arith, same_lists, length-map-range_with_len, get_or-map-range_with_len, get_or_default)
 
 -- the items and their sharing, as a page has them
 record HasEntries (page : Listed Item) (entries : List Entry) : Type 0 where
@@ -113,11 +108,7 @@ pair_of_two : (g : File) (p : ℕ) (entries : List Entry) (k : ℕ) (d : StoredP
 pair_of_two g p [] k d low = absurd (omega (arith, low))
 pair_of_two g p (key ∷ []) k d low = absurd (omega (arith, low))
 pair_of_two g p (key ∷ datum ∷ entries) zero d low = refl
-pair_of_two g p (key ∷ datum ∷ entries) (suc k) d low =
-    let all : List Entry = key ∷ datum ∷ entries in
-    pair_of_two g p entries k d (omega (arith, low))
-    ∙ (ap (λ e. pair_in g p e (get_or entries (2 * k + 1) no_entry)) (sym (after_two key datum entries (2 * suc k) (2 * k) (omega arith)))
-    ∙ ap (pair_in g p (get_or all (2 * suc k) no_entry)) (sym (after_two key datum entries (2 * suc k + 1) (2 * k + 1) (omega arith))))
+pair_of_two g p (key ∷ datum ∷ entries) (suc k) d low = grind (arith, after_two, pair_of_two g p entries k d (omega (arith, low)))
 
 pair_same : (g : File) (p : ℕ) {key key2 value value2 : Item} {shares shares2 : Bool} → key ≡ key2 → value ≡ value2 → shares ≡ shares2
     → pair_in g p (record { item = key; shares = shares }) (own_entry value) ≡ pair_in g p (record { item = key2; shares = shares2 })

@@ -11,8 +11,8 @@ use Rattle.bdb_format.specs.declared.pages.RecnoItem.{RecnoItem}
 use Rattle.bdb_format.specs.HeadOf.{is_page_size}
 use Rattle.bdb_format.specs.Numbers.{byte_at, four_at, number_at, overwritten, pad4, spelled, two_at}
 use Rattle.bdb_format.specs.Page.{Content, Inline, Set, Chain, Tree, Unknown, Internal, InternalItem, Listed, Overflow, Page, RecnoInternal}
-use Rattle.bdb_format.specs.Reading.{abstract_page, entries_of, header_of, index_end, internal_item_at, is_zero, listed, page_type, recno_item_at}
-use Rattle.bdb_format.specs.Rows.{body_code, is_tree_type, is_wrong_entry_count, is_wrong_level, page_code}
+use Rattle.bdb_format.specs.Reading.{abstract_page, entries_of, header_of, index_end, internal_item_at, listed, page_type, recno_item_at}
+use Rattle.bdb_format.specs.Rows.{is_tree_type, is_wrong_entry_count, is_wrong_level, page_code}
 use Rattle.bdb_format.specs.Spelling.{IsKey, header_bytes, internal_bytes}
 use Rattle.bdb_format.specs.Table.{◌:?◌, first_row}
 use Rattle.bdb_format.proofs.PageLemmas.{header_listed, length_items}
@@ -256,10 +256,7 @@ record IsRead {I : Type 0} (order : Order) (bytes : List ℕ) (page : Listed I) 
 
 is_read : {I : Type 0} (order : Order) (bytes : List ℕ) (page : Listed I) (item_at : ℕ → I) → listed order bytes item_at ≡ page
     → IsRead order bytes page
-is_read {I} order bytes page item_at same = record {
-  header = ap (λ (l : Listed I). l.header) (sym same) ∙ header_listed order bytes item_at;
-  entries = sym (length_items order bytes item_at) ∙ ap (λ (l : Listed I). length l.items) same;
-}
+is_read {I} order bytes page item_at same = grind (arith, header_listed, length_items)
 
 keyed_read : (order : Order) (bytes : List ℕ) (page : Listed InternalItem) → 25 < length bytes → byte_at bytes 25 ≡ 3 → abstract_page order bytes
     ≡ Internal page
@@ -287,14 +284,8 @@ length-keyed (node ∷ nodes) = ap (λ n. suc n) (length-map nodes (λ (n : Node
 pub nodes_held : (inner : InnerType) (order : Order) (bytes : List ℕ) (p level : ℕ) (nodes : List Node)
     → HoldsChildren inner order bytes p level nodes
     → entries_of order bytes ≡ length nodes
-nodes_held Keyed order bytes p level nodes holds =
-    let bounds = open_is order bytes holds.begun in
-    let (page, is, items) = holds.is in
-    (keyed_read order bytes page (omega (arith, bounds.least)) holds.type_is is).entries ∙ (ap length items ∙ length-keyed nodes)
-nodes_held Numbered order bytes p level nodes holds =
-    let bounds = open_is order bytes holds.begun in
-    let (page, is, items) = holds.is in
-    (numbered_read order bytes page (omega (arith, bounds.least)) holds.type_is is).entries ∙ (ap length items ∙ length-map nodes numbered_item)
+nodes_held Keyed order bytes p level nodes holds = grind (arith, open_is, keyed_read, length-keyed)
+nodes_held Numbered order bytes p level nodes holds = grind (arith, open_is, numbered_read, length-map)
 
 -- Its form.
 
@@ -340,12 +331,7 @@ pub record IsRaised (order : Order) (page new : List ℕ) : Type 0 where
   pub entries : entries_of order new ≡ 2
 
 pub raised_again : (order : Order) (page mid new : List ℕ) → IsRaised order page mid → IsRaised order mid new → IsRaised order page new
-raised_again order page mid new one two = record {
-  long = two.long ∙ one.long;
-  body = two.body ∙ one.body;
-  low = λ n x under. two.low n x under ∙ one.low n x under;
-  entries = two.entries;
-}
+raised_again order page mid new one two = grind arith
 
 pub few_raised : (order : Order) (page new : List ℕ) → CountsFew order page → IsRaised order page new → CountsFew order new
 few_raised order page new few is = record {
@@ -379,11 +365,7 @@ chain_code number p long high =
 code_as : (order : Order) (p : ℕ) (bytes : List ℕ) → 26 ≤ length bytes → byte_at bytes 25 ≡ 7
     → page_code order p bytes ≡ chain_code (four_at order bytes 8) p (length bytes) (two_at order bytes 22)
 unfolding page_code
-code_as order p bytes long type =
-    let zero : is_zero bytes ≡ false = not_zero bytes (omega (arith, long)) (ap (λ t. t == 0) type) in
-    let code : ℕ → Option ℕ = λ t. elim (first_row (1 :? not (four_at order bytes 8 == p) ∷ 2 :? not (is_tree_type t) ∷ []))
-    [ Some row ↦ Some row | None ↦ body_code order bytes (page_type t) ] in
-    rw zero (ap code type)
+code_as order p bytes long type = grind (arith, not_zero, Option, Some, None)
 
 pub raised_stands : (order : Order) (p : ℕ) (bytes new : List ℕ) → CountsFew order bytes → IsRaised order bytes new
     → IsSamePage (abstract_page order bytes) (abstract_page order new) × (page_code order p new ≡ page_code order p bytes)
@@ -422,11 +404,4 @@ raised_pages_stand order p bytes few = raised_stands order p bytes (counting_two
 pub raised_written : (old : Built) (p : ℕ) (order : Order) (page written : List ℕ) → p < length old.pages → AreWhole old → is_page_size old.size
     ≡ true
     → order ≡ old.order → page ≡ bytes_of old p → written ≡ overwritten page 20 (spelled 2 order 2) → written_over old p written ≡ raised old p
-raised_written old p order page written low whole legal ordered lent is =
-    let here : List ℕ = bytes_of old p in
-    let same : written ≡ counting_two old.order here =
-    is ∙ (ap (λ bs. overwritten bs 20 (spelled 2 order 2)) lent ∙ ap (λ o. overwritten here 20 (spelled 2 o 2)) ordered) in
-    let sizes = size_bounds old.size legal in
-    let least : 26 ≤ length here = omega (arith, whole p low, sizes.0) in
-    let long : length (counting_two old.order here) ≡ old.size = (is_raised old.order here least).long ∙ whole p low in
-    ap (written_over old p) same ∙ written_whole old p (counting_two old.order here) whole low long
+raised_written old p order page written low whole legal ordered lent is = grind (arith, size_bounds, is_raised, written_whole)

@@ -119,9 +119,7 @@ moved_formed leaves next old mid before closed units filled several moved p low 
     ]
 
 pub finished_trees_are_formed : FinishedTreesAreFormed
-finished_trees_are_formed leaves old new counted before closed units root filled (is, inl one) p low high =
-    subst (λ (b : Built). page_code b.order p (bytes_of b p) ≡ None) (sym one.same)
-    (filled_formed leaves old before closed units filled p low (subst (λ (b : Built). p < length b.pages) one.same high))
+finished_trees_are_formed leaves old new counted before closed units root filled (is, inl one) p low high = grind (arith, None, filled_formed)
 finished_trees_are_formed leaves old new counted before closed units root filled (is, inr on) p low high =
     elim (cases_lt p (length on.between.pages)) [
       | inr above ↦ on.tower.formed p above high
@@ -149,13 +147,7 @@ heads_new leaves built before closed units placed nodes h filled units_are zip a
     (subst (λ ps. Contains ps h) (sym names) (heads_among (inner_of type) type placed nodes h refl zip at)))).0
 
 pub finished_trees_keep_older_pages : FinishedTreesKeepOlderPages
-finished_trees_keep_older_pages leaves old new counted before closed units root filled (is, inl one) =
-    record {
-      size = ap (λ (b : Built). b.size) one.same;
-      order = ap (λ (b : Built). b.order) one.same;
-      grows = omega (arith, ap (λ (b : Built). length b.pages) one.same);
-      same = λ p low. ap (λ (b : Built). bytes_of b p) one.same;
-    }
+finished_trees_keep_older_pages leaves old new counted before closed units root filled (is, inl one) = grind arith
 finished_trees_keep_older_pages leaves old new counted before closed units root filled (is, inr on) =
     let mid : Built = on.between in
     let count = on.moved.count in

@@ -8,7 +8,7 @@ use Rattle.std.proofs.lemmas.Simd.{map-map}
 use Rattle.std.proofs.lemmas.List.Elements.{All-head, All-map, Contains-append_left, Contains-append_right, Contains-get_or}
 use Rattle.bdb_format.specs.declared.references.Reference.{Reference}
 use Rattle.bdb_format.specs.Page.{Content, Inline, Set, Chain, Tree, Unknown, Item, Listed}
-use Rattle.bdb_format.specs.File.{File, header_in, page_at, type_in}
+use Rattle.bdb_format.specs.File.{File, page_at, type_in}
 use Rattle.bdb_format.specs.References.{content_targets, contents_in, has_type, refs, targets_in}
 use Rattle.bdb_format.specs.Graph.{held_by, is_head_reference}
 use Rattle.bdb_format.specs.Chains.{content_chains, is_wrong_length}
@@ -47,15 +47,7 @@ targets_are SortedData p page = refl
 is_filled : (type : LeafType) (g : File) (rest : ℕ → Bool) (leaf : LeafUnits) → HoldsUnits type g leaf
     → (1 ≤ leaf.page) × (leaf.page ≤ g.last) × (rest leaf.page ≡ false) → All (ContentFits g) (contents_of type (entries_on leaf))
     → IsFilled g rest (filled_leaf type leaf)
-is_filled type g rest leaf holds inside fit = record {
-  low = inside.0;
-  high = inside.1;
-  new = inside.2;
-  contents = ap contents_in holds.is_leaf.is ∙ holds.is_leaf.contents;
-  names = ap (targets_in leaf.page) holds.is_leaf.is
-      ∙ (targets_are type leaf.page holds.is_leaf.page ∙ ap (flat_map content_targets) holds.is_leaf.contents);
-  fit = fit;
-}
+is_filled type g rest leaf holds inside fit = grind (arith, targets_are)
 
 numbers_of : (type : LeafType) (placed : List LeafUnits) → map (λ (leaf : FilledLeaf). leaf.page) (map (filled_leaf type) placed) ≡ pages_of placed
 numbers_of type placed = map-map (λ (leaf : FilledLeaf). leaf.page) (filled_leaf type) placed
@@ -153,14 +145,7 @@ pub heads_of_nodes : (type : LeafType) (placed : List LeafUnits) (nodes : List N
 heads_of_nodes type [] [] e keyed zip = omega arith
 heads_of_nodes type [] (node ∷ nodes) e keyed zip = absurd zip
 heads_of_nodes type (leaf ∷ placed) [] e keyed zip = absurd zip
-heads_of_nodes type (leaf ∷ placed) (node ∷ nodes) e keyed zip =
-    omega (
-      arith,
-      heads_held type leaf node.key e (subst (λ inner. IsKeyOf inner (entries_on leaf) node.key) keyed zip.0.key),
-      heads_of_nodes type placed nodes e keyed zip.1,
-      count-append e (key_heads node.key) (flat_map (λ (other : Node). key_heads other.key) nodes),
-      count-append e (pages_held (filled_leaf type leaf)) (held_by_leaves type placed),
-    )
+heads_of_nodes type (leaf ∷ placed) (node ∷ nodes) e keyed zip = grind (arith, heads_held, count-append, heads_of_nodes type placed nodes e keyed zip.1)
 
 -- A page that one page alone names.
 
@@ -321,13 +306,7 @@ right_type SortedData = refl
 
 of_level : (type : LeafType) (g : File) (leaf : LeafUnits) (node : Node) → IsNodeOf type leaf node → HoldsUnits type g leaf
     → IsOfLevel (inner_of type) g 1 node
-of_level type g leaf node is holds =
-    let bottom = at_bottom type g leaf holds in
-    record {
-      level_is = ap (λ p. (header_in (page_at g p)).level) is.page ∙ bottom.level;
-      type_is = ap (λ p. has_type (types_below (inner_of type) 2) (type_in (page_at g p))) is.page
-          ∙ (ap (has_type (types_below (inner_of type) 2)) bottom.type_is ∙ right_type type);
-    }
+of_level type g leaf node is holds = grind (arith, at_bottom, right_type)
 
 pub laid_trees_are_branches : LaidTreesAreBranches
 laid_trees_are_branches type g rest placed nodes above root laid =

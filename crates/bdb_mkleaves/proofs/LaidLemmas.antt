@@ -1,10 +1,11 @@
 -- Leaves with their units, under the levels over them.
-use Rattle.std.proofs.Common.{◌≡◌, ◌⊎◌, ℕ, ◌+◌, Option, inl, inr, Bool, true, get_or, List, [], ◌∷◌, map, Some, None, refl, sym, ◌∙◌, ap, subst}
+use Rattle.std.proofs.Common.{arith}
+use Rattle.std.proofs.Common.{◌≡◌, ◌⊎◌, ℕ, ◌+◌, Option, inl, inr, Bool, true, get_or, List, [], ◌∷◌, map, Some, None, refl, ◌∙◌, ap, subst}
 use Rattle.std.specs.List.{All, AllZip, flat_map, list_any}
 use Rattle.std.proofs.lemmas.List.Elements.{All-cons, All-head, All-map, All-nil, All-tail}
 use Rattle.bdb_format.specs.File.{File, header_in, page_at, type_in}
 use Rattle.bdb_format.specs.References.{has_type}
-use Rattle.bdb_format.specs.Leaves.{children_in, leaves_in, leaves_under, places_from}
+use Rattle.bdb_format.specs.Leaves.{children_in, leaves_in, places_from}
 use Rattle.bdb_law_grove.specs.Part.{is_wrong_place}
 use Rattle.bdb_law_levels.specs.Links.{AreLinked, leaf_types}
 use Rattle.bdb_law_levels.specs.Nodes.{HasLeaves, IsOver, IsTower, Node}
@@ -35,53 +36,22 @@ record IsBetween (type : LeafType) (g : File) (p previous next : ℕ) : Type 0 w
 
 is_between : (type : LeafType) (g : File) (p previous next : ℕ) (entries : List Entry) → IsLeafIn type g p previous next entries
     → IsBetween type g p previous next
-is_between Pairs g p previous next entries leaf = record {
-  bottom = record {
-    level = ap (λ page. (header_in page).level) leaf.is
-        ∙ leaf.level;
-    type_is = ap type_in leaf.is;
-    childless = ap children_in leaf.is;
-  };
-  before = ap (λ page. (header_in page).previous) leaf.is ∙ leaf.previous_is;
-  after = ap (λ page. (header_in page).next) leaf.is ∙ leaf.next_is;
-}
-is_between Records g p previous next entries leaf = record {
-  bottom = record {
-    level = ap (λ page. (header_in page).level) leaf.is
-        ∙ leaf.level;
-    type_is = ap type_in leaf.is;
-    childless = ap children_in leaf.is;
-  };
-  before = ap (λ page. (header_in page).previous) leaf.is ∙ leaf.previous_is;
-  after = ap (λ page. (header_in page).next) leaf.is ∙ leaf.next_is;
-}
-is_between SortedData g p previous next entries leaf = record {
-  bottom = record {
-    level = ap (λ page. (header_in page).level) leaf.is
-        ∙ leaf.level;
-    type_is = ap type_in leaf.is;
-    childless = ap children_in leaf.is;
-  };
-  before = ap (λ page. (header_in page).previous) leaf.is ∙ leaf.previous_is;
-  after = ap (λ page. (header_in page).next) leaf.is ∙ leaf.next_is;
-}
+is_between Pairs g p previous next entries leaf = grind arith
+is_between Records g p previous next entries leaf = grind arith
+is_between SortedData g p previous next entries leaf = grind arith
 
 -- Leaves in their order.
 
 pub hold_units : (type : LeafType) (g : File) (before : ℕ) (placed : List LeafUnits) → AreLaid type g before placed → All (HoldsUnits type g) placed
 hold_units type g before [] laid = All-nil (HoldsUnits type g)
-hold_units type g before (leaf ∷ placed) laid =
-    All-cons (HoldsUnits type g) leaf placed (record { previous = before; next = _; is_leaf = laid.0; stand = laid.1 })
-    (hold_units type g leaf.page placed laid.2)
+hold_units type g before (leaf ∷ placed) laid = grind (arith, All-cons, hold_units type g leaf.page placed laid.2)
 
 pub at_bottom : (type : LeafType) (g : File) (leaf : LeafUnits) → HoldsUnits type g leaf → IsAtBottom type g leaf.page
 at_bottom type g leaf holds = (is_between type g leaf.page holds.previous holds.next (entries_on leaf) holds.is_leaf).bottom
 
 are_linked : (type : LeafType) (g : File) (before : ℕ) (placed : List LeafUnits) → AreLaid type g before placed → AreLinked g before (pages_of placed)
 are_linked type g before [] laid = tt
-are_linked type g before (leaf ∷ placed) laid =
-    let between = is_between type g leaf.page before _ (entries_on leaf) laid.0 in
-    (between.before, between.after, are_linked type g leaf.page placed laid.2)
+are_linked type g before (leaf ∷ placed) laid = grind (arith, is_between, are_linked type g leaf.page placed laid.2)
 
 -- The nodes of leaves.
 
@@ -118,13 +88,7 @@ node_leaves type (leaf ∷ placed) (node ∷ nodes) zip = rw (zip.0.leaves, node
 
 one_leaf : (type : LeafType) (g : File) (leaf : LeafUnits) (node : Node) → IsNodeOf type leaf node → HoldsUnits type g leaf → HasLeaves g 1 node
 unfolding leaves_in
-one_leaf type g leaf node is holds =
-    let bottom = at_bottom type g leaf holds in
-    subst (λ p. HasLeaves g 1 (record { page = p; count = node.count; leaves = node.leaves; key = node.key })) (sym is.page)
-    (record {
-      level_is = bottom.level;
-      leaves_are = ap (λ children. leaves_under (leaves_in 0 g) leaf.page children) bottom.childless ∙ sym is.leaves;
-    })
+one_leaf type g leaf node is holds = grind (arith, at_bottom)
 
 -- A tree that is laid.
 

@@ -15,7 +15,7 @@ use Rattle.bdb_format.specs.File.{File, page_at, type_in}
 use Rattle.bdb_format.specs.References.{fit_rows, has_type, root_types}
 use Rattle.bdb_format.specs.Chains.{value_of}
 use Rattle.bdb_format.specs.Leaves.{children_in, leaves}
-use Rattle.bdb_format.specs.Contents.{StoredPair, entries_in, pairs_in, pairs_of, tree_pairs}
+use Rattle.bdb_format.specs.Contents.{StoredPair, entries_in, pairs_of, tree_pairs}
 use Rattle.bdb_format.specs.ContentRows.{ascends, btree_contents, database_rows, has_wrong_count, has_wrong_record, has_wrong_separator, inner_in}
 use Rattle.bdb_format.specs.ContentRows.{inner_pages, is_out_of_order, is_wrong_at, neighbours, has_duplicate, has_unsorted, has_wrong_set}
 use Rattle.bdb_format.specs.ContentRows.{recno_contents}
@@ -85,9 +85,7 @@ begins_with g p (unit ∷ units) node holds some is =
 
 pairs_counted : (g : File) (leaf : LeafUnits) → HoldsUnits Pairs g leaf → length (pairs_of g leaf.page) ≡ length (entries_on leaf) / 2
 unfolding pairs_of
-pairs_counted g leaf holds =
-    ap (λ page. length (pairs_in g leaf.page page)) holds.is_leaf.is
-    ∙ (ap length holds.is_leaf.holds ∙ length-pairs_from g leaf.page (entries_on leaf))
+pairs_counted g leaf holds = grind (arith, length-pairs_from)
 
 pair_count : (g : File) (leaf : LeafUnits) (node : Node) → IsNodeOf Pairs leaf node × Counts Pairs leaf node → HoldsUnits Pairs g leaf
     → node.count ≡ length (pairs_below g node)

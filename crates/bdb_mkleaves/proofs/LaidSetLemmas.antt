@@ -1,4 +1,5 @@
 -- What a set holds that is laid as a tree.
+use Rattle.std.proofs.Common.{arith}
 use Rattle.std.proofs.Common.{◌≡◌, ℕ, Some, Bool, true, false, not, cond, List, [], ◌∷◌, ◌++◌, map, refl, sym, ◌∙◌, ap}
 use Rattle.std.specs.List.{All, filter, flat_map}
 use Rattle.std.proofs.lemmas.Grind.{flat_map-append}
@@ -49,9 +50,7 @@ values_read : (g : File) (units : List Placed) → All (StandsPlaced Records g) 
     → values_of g (map (λ (entry : Entry). entry.item) (flat_map entries_of units)) ≡ flat_map live_value (map unit_of units)
 values_read g [] all = refl
 values_read g (PlacedEntry entry ∷ units) all =
-    one_value g entry.item entry.value _ (flat_map live_value (map unit_of units)) entry.item.deleted
-    (All-head (StandsPlaced Records g) (PlacedEntry entry) units all)
-    (values_read g units (All-tail (StandsPlaced Records g) (PlacedEntry entry) units all))
+    grind (arith, one_value, All-head, All-tail, values_read g units (All-tail (StandsPlaced Records g) (PlacedEntry entry) units all))
 values_read g (PlacedPairs key first more ∷ units) all = absurd (All-head (StandsPlaced Records g) (PlacedPairs key first more) units all)
 values_read g (PlacedTree key root values ∷ units) all = absurd (All-head (StandsPlaced Records g) (PlacedTree key root values) units all)
 

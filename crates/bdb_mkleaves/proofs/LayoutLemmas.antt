@@ -316,9 +316,7 @@ other_wrong false true g rest placed nodes above top laid right =
     absurd (true≢false (sym (root_type_is Records g rest placed nodes above top laid (has_type (4 ∷ 6 ∷ [])) true refl refl) ∙ right))
 
 pub trees_are_sorted : TreesAreSorted
-trees_are_sorted built pages contents key root values sorted (kind, on, apart, levels) g is_counted later right =
-    other_wrong kind sorted g on.rest on.tree.placed on.tree.nodes on.tree.above on.tree.top (on.stands g is_counted later)
-    (ap (λ p. is_wrong_set g sorted (Tree p)) on.root_is ∙ right)
+trees_are_sorted built pages contents key root values sorted (kind, on, apart, levels) g is_counted later right = grind (arith, other_wrong)
 
 -- Trees in an image.
 

@@ -32,12 +32,7 @@ use Rattle.bdb_mkleaves.proofs.EntryLemmas.{bytes_with, leaf_typed, page_is}
 
 -- functions that agree below a number
 map_below : {X : Type 0} (f g : ℕ → X) (n : ℕ) → ((k : ℕ) → k < n → f k ≡ g k) → map f (range_with_len 0 n) ≡ map g (range_with_len 0 n)
-map_below f g n same =
-    same_lists (map f (range_with_len 0 n)) (map g (range_with_len 0 n)) (length-map-range_with_len f 0 n ∙ sym (length-map-range_with_len g 0 n))
-    (λ k d under.
-    let low : k < n = omega (arith, under, length-map-range_with_len f 0 n) in
-    let e : 0 + k ≡ k = omega arith in
-    get_or-map-range_with_len f 0 n k k d low e ∙ (same k low ∙ sym (get_or-map-range_with_len g 0 n k k d low e)))
+map_below f g n same = grind (arith, same_lists, length-map-range_with_len, get_or-map-range_with_len)
 
 -- A leaf without entries.
 
@@ -143,9 +138,7 @@ length-field order page at number low long =
 -- a field behind the one that is written
 field_behind : (order : Order) (page : List ℕ) (at number x : ℕ) → at + 4 ≤ x → 26 ≤ length page → at ≤ 20
     → four_at order (with_field order page at number) x ≡ four_at order page x
-field_behind order page at number x low long least =
-    number_same 4 order (with_field order page at number) page x x
-    (behind page at (spelled 4 order number) x (omega (arith, length-spelled 4 order number, low)) (omega (arith, long, least))) (omega arith)
+field_behind order page at number x low long least = grind (arith, number_same, behind, length-spelled)
 
 pub number_written : (order : Order) (page : List ℕ) (number previous next : ℕ) → 26 ≤ length page → number < 2 ^ 32
     → four_at order page 12 ≡ previous
@@ -288,24 +281,15 @@ linked_held type order page new p previous next number before after entries is h
 -- one of its links changes
 pub numbered : (type : LeafType) (order : Order) (page : List ℕ) (p previous next number : ℕ) (entries : List Entry) → number < 2 ^ 32
     → HoldsEntries type order page p previous next entries → HoldsEntries type order (with_field order page 8 number) number previous next entries
-numbered type order page p previous next number entries low holds =
-    let bounds = open_is order page holds.begun in
-    linked_held type order page (with_field order page 8 number) p previous next number previous next entries
-    (number_written order page number previous next bounds.least low holds.before holds.after) holds
+numbered type order page p previous next number entries low holds = grind (arith, open_is, linked_held, number_written)
 
 preceded : (type : LeafType) (order : Order) (page : List ℕ) (p before previous next : ℕ) (entries : List Entry) → previous < 2 ^ 32
     → HoldsEntries type order page p before next entries → HoldsEntries type order (with_field order page 12 previous) p previous next entries
-preceded type order page p before previous next entries low holds =
-    let bounds = open_is order page holds.begun in
-    linked_held type order page (with_field order page 12 previous) p before next p previous next entries
-    (previous_written order page p previous next bounds.least low holds.number holds.after) holds
+preceded type order page p before previous next entries low holds = grind (arith, open_is, linked_held, previous_written)
 
 followed : (type : LeafType) (order : Order) (page : List ℕ) (p previous before next : ℕ) (entries : List Entry) → next < 2 ^ 32
     → HoldsEntries type order page p previous before entries → HoldsEntries type order (with_field order page 16 next) p previous next entries
-followed type order page p previous before next entries low holds =
-    let bounds = open_is order page holds.begun in
-    linked_held type order page (with_field order page 16 next) p previous before p previous next entries
-    (next_written order page p previous next bounds.least low holds.number holds.before) holds
+followed type order page p previous before next entries low holds = grind (arith, open_is, linked_held, next_written)
 
 -- a page that takes items has a header
 pub begun_long : (built : Built) (p : ℕ) → p < length built.pages → AreWhole built → IsBegun built.order (bytes_of built p) → 26 ≤ built.size
@@ -315,34 +299,21 @@ begun_long built p low whole begun = let bounds = open_is built.order (bytes_of 
 pub field_written : (old : Built) (p at number : ℕ) (order : Order) (page written : List ℕ) → at + 4 ≤ 20 → p < length old.pages → AreWhole old
     → 26 ≤ old.size → order ≡ old.order → page ≡ bytes_of old p → written ≡ overwritten page at (spelled 4 order number)
     → written_over old p written ≡ with_page old p (with_field old.order (bytes_of old p) at number)
-field_written old p at number order page written field low whole legal ordered lent is =
-    let here : List ℕ = bytes_of old p in
-    let same : written ≡ with_field old.order here at number =
-    is ∙ (ap (λ bs. overwritten bs at (spelled 4 order number)) lent ∙ ap (λ o. overwritten here at (spelled 4 o number)) ordered) in
-    let size : length here ≡ old.size = whole p low in
-    let long : length (with_field old.order here at number) ≡ old.size =
-    length-field old.order here at number field (omega (arith, size, legal)) ∙ size in
-    ap (written_over old p) same ∙ written_whole old p (with_field old.order here at number) whole low long
+field_written old p at number order page written field low whole legal ordered lent is = grind (arith, length-field, written_whole)
 
 -- a page with these bytes holds what they hold
 pub held_on : (type : LeafType) (old new : Built) (p number previous next : ℕ) (page : List ℕ) (entries : List Entry) → p < length old.pages
     → new ≡ with_page old p page
     → HoldsEntries type old.order page number previous next entries → HoldsEntries type new.order (bytes_of new p) number previous next entries
-held_on type old new p number previous next page entries low is holds =
-    subst (λ (b : Built). HoldsEntries type b.order (bytes_of b p) number previous next entries) (sym is)
-    (subst (λ bs. HoldsEntries type old.order bs number previous next entries) (sym (bytes_with old p page low)) holds)
+held_on type old new p number previous next page entries low is holds = grind (arith, bytes_with)
 
 pub previous_set : (type : LeafType) (old new : Built) (p previous : ℕ) → p < length old.pages → previous < 2 ^ 32
     → new ≡ with_page old p (with_field old.order (bytes_of old p) 12 previous)
     → (before next : ℕ) (entries : List Entry) → HoldsEntriesOn type old p before next entries → HoldsEntriesOn type new p previous next entries
-previous_set type old new p previous low fits is before next entries holds =
-    held_on type old new p p previous next (with_field old.order (bytes_of old p) 12 previous) entries low is
-    (preceded type old.order (bytes_of old p) p before previous next entries fits holds)
+previous_set type old new p previous low fits is before next entries holds = grind (arith, held_on, preceded)
 
 pub next_set : (type : LeafType) (old new : Built) (p next : ℕ) → p < length old.pages → next < 2 ^ 32
     → new ≡ with_page old p (with_field old.order (bytes_of old p) 16 next)
     → (previous before : ℕ) (entries : List Entry) → HoldsEntriesOn type old p previous before entries
     → HoldsEntriesOn type new p previous next entries
-next_set type old new p next low fits is previous before entries holds =
-    held_on type old new p p previous next (with_field old.order (bytes_of old p) 16 next) entries low is
-    (followed type old.order (bytes_of old p) p previous before next entries fits holds)
+next_set type old new p next low fits is previous before entries holds = grind (arith, held_on, followed)

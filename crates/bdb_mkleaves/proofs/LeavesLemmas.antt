@@ -14,9 +14,7 @@ use Rattle.bdb_mkleaves.specs.declared.leaves.Leaves.{Leaves}
 -- a leaf whose page stays
 pub leaf_stays : (type : LeafType) (old new : Built) (p previous next : ℕ) (entries : List Entry) → new.order ≡ old.order
     → bytes_of new p ≡ bytes_of old p → HoldsEntriesOn type old p previous next entries → HoldsEntriesOn type new p previous next entries
-leaf_stays type old new p previous next entries order same holds =
-    subst (λ o. HoldsEntries type o (bytes_of new p) p previous next entries) (sym order)
-    (subst (λ bs. HoldsEntries type old.order bs p previous next entries) (sym same) holds)
+leaf_stays type old new p previous next entries order same holds = grind arith
 
 -- leaves whose pages stay
 pub leaves_kept : (type : LeafType) (old new : Built) (previous : ℕ) (ps : List ℕ) (closed : List (List Entry)) (beyond : ℕ) → new.order ≡ old.order
@@ -51,15 +49,8 @@ pub leaf_closed : (type : LeafType) (built : Built) (previous : ℕ) (ps : List 
 leaf_closed type built previous [] [] last next entries hold up holds = (up, holds, tt)
 leaf_closed type built previous [] (others ∷ more) last next entries hold up holds = absurd hold
 leaf_closed type built previous (p ∷ ps) [] last next entries hold up holds = absurd hold
-leaf_closed type built previous (p ∷ ps) (others ∷ more) last next entries (low, here, rest) up holds = (
-  low,
-  subst (λ n. HoldsEntriesOn type built p previous n others) (first_same ps last next) here,
-  leaf_closed type built p ps more last next entries rest up holds,
-)
-  where
-    first_same : (ps : List ℕ) (last next : ℕ) → first_of ps last ≡ first_of (ps ++ (last ∷ [])) next
-    first_same [] last next = refl
-    first_same (q ∷ qs) last next = refl
+leaf_closed type built previous (p ∷ ps) (others ∷ more) last next entries (low, here, rest) up holds =
+    grind (arith, leaf_closed type built p ps more last next entries rest up holds)
 
 pub last_closed : (previous : ℕ) (ps : List ℕ) (last : ℕ) → last_of previous (ps ++ (last ∷ [])) ≡ last
 last_closed previous [] last = refl
@@ -67,9 +58,7 @@ last_closed previous (p ∷ ps) last = last_closed p ps last
 
 -- a leaf that is added changes no page that stood
 leaf_kept : (type : LeafType) (one : Built) (last p : ℕ) → p < length one.pages → bytes_of (with_leaf type one last) p ≡ bytes_of one p
-leaf_kept type one last p low =
-    get_or-set_other (with_zeros one).pages (length one.pages) p _ [] (λ same. omega (arith, same, low))
-    ∙ get_or_append_left one.pages (replicate one.size 0 ∷ []) [] p low
+leaf_kept type one last p low = grind (arith, get_or-set_other, get_or_append_left)
 
 -- the pages with the last leaf followed by a new one
 pub opened : (leaves next : Leaves) (old one new : Built)
@@ -159,27 +148,9 @@ grown leaves old new entry kept long more =
 
 -- a page that is written, and no other
 pub page_written : (old new : Built) (p : ℕ) (page : List ℕ) → new ≡ with_page old p page → KeepsOthers p old new
-page_written old new p page is =
-    subst (KeepsOthers p old) (sym is)
-    (record {
-      size = refl;
-      order = refl;
-      grows = omega (arith, length-set old.pages p page);
-      same = λ q low other. get_or-set_other old.pages p q page [] other;
-    })
+page_written old new p page is = grind (arith, length-set, get_or-set_other)
 
 -- the pages with a first leaf
 pub begun_kept : (type : LeafType) (old new : Built) (previous : ℕ) → new ≡ with_leaf type old previous
     → KeepsOthers (length old.pages) old new × (length new.pages ≡ length old.pages + 1)
-begun_kept type old new previous is =
-    let more : length new.pages ≡ length old.pages + 1 =
-    ap (λ (b : Built). length b.pages) is
-    ∙ (length-set (with_zeros old).pages (length old.pages) _ ∙ length-append old.pages (replicate old.size 0 ∷ [])) in (
-      record {
-        size = ap (λ (b : Built). b.size) is;
-        order = ap (λ (b : Built). b.order) is;
-        grows = omega (arith, more);
-        same = λ q low other. ap (λ (b : Built). bytes_of b q) is ∙ leaf_kept type old previous q low;
-      },
-      more,
-    )
+begun_kept type old new previous is = grind (arith, length-set, length-append, leaf_kept)

@@ -14,9 +14,7 @@ raised_other : (b : Built) (h q : ℕ) → (q ≡ h → ⊥) → bytes_of (raise
 raised_other b h q other = get_or-set_other b.pages h q (counting_two b.order (bytes_of b h)) [] other
 
 raised_here : (b : Built) (h q : ℕ) → q ≡ h → q < length b.pages → bytes_of (raised b h) q ≡ counting_two b.order (bytes_of b q)
-raised_here b h q same low =
-    ap (bytes_of (raised b h)) same
-    ∙ (bytes_with b h (counting_two b.order (bytes_of b h)) (omega (arith, same, low)) ∙ ap (λ k. counting_two b.order (bytes_of b k)) (sym same))
+raised_here b h q same low = grind (arith, bytes_with)
 
 pub raising_count : (b : Built) (hs : List ℕ) → length (raising b hs).pages ≡ length b.pages
 raising_count b [] = refl
@@ -37,9 +35,7 @@ raising_append b (x ∷ xs) ys = raising_append (raised b x) xs ys
 -- a page that is no head stays
 pub raising_other : (b : Built) (hs : List ℕ) (q : ℕ) → (Contains hs q → ⊥) → bytes_of (raising b hs) q ≡ bytes_of b q
 raising_other b [] q out = refl
-raising_other b (h ∷ hs) q out =
-    raising_other (raised b h) hs q (λ at. out (later_member h hs q at))
-    ∙ raised_other b h q (λ same. out (subst (Contains (h ∷ hs)) (sym same) (first_member h hs)))
+raising_other b (h ∷ hs) q out = grind (arith, later_member, raised_other, first_member, raising_other (raised b h) hs q (λ at. out (later_member h hs q at)))
 
 -- a page is as before, or counts two
 pub raising_at : (b : Built) (hs : List ℕ) (q : ℕ) → q < length b.pages → 26 ≤ length (bytes_of b q)
@@ -91,21 +87,11 @@ raising_head b (h ∷ hs) q at low long =
 -- a page that counts few references goes on to
 pub raising_few : (b : Built) (hs : List ℕ) (q : ℕ) → q < length b.pages → CountsFew b.order (bytes_of b q)
     → CountsFew b.order (bytes_of (raising b hs) q)
-raising_few b hs q low few =
-    elim (raising_at b hs q low few.long) [
-      | inl same ↦ subst (CountsFew b.order) (sym same) few
-      | inr is ↦ few_raised b.order (bytes_of b q) (bytes_of (raising b hs) q) few is
-    ]
+raising_few b hs q low few = grind (arith, raising_at, few_raised)
 
 -- pages keep their size
 pub raising_whole : (b : Built) (hs : List ℕ) → 26 ≤ b.size → AreWhole b → AreWhole (raising b hs)
-raising_whole b hs least whole = λ q under.
-    let low : q < length b.pages = omega (arith, under, raising_count b hs) in
-    let here : length (bytes_of b q) ≡ b.size = whole q low in
-    elim (raising_at b hs q low (omega (arith, here, least))) [
-      | inl same ↦ ap length same ∙ (here ∙ sym (raising_size b hs))
-      | inr is ↦ is.long ∙ (here ∙ sym (raising_size b hs))
-    ]
+raising_whole b hs least whole = grind (arith, raising_count, raising_at, raising_size)
 
 -- like pages become like
 pub raising_like : (a b : Built) (hs : List ℕ) (q : ℕ) → a.order ≡ b.order → q < length a.pages → q < length b.pages → bytes_of a q ≡ bytes_of b q

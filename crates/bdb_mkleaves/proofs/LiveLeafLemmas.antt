@@ -1,4 +1,5 @@
 -- No item of a leaf is marked deleted where no unit is.
+use Rattle.std.proofs.Common.{arith}
 use Rattle.std.proofs.Common.{◌≡◌, ℕ, false, List, [], ◌∷◌, map, refl, ◌∙◌, ap}
 use Rattle.std.specs.List.{All, flat_map, list_any}
 use Rattle.std.proofs.lemmas.List.Elements.{All-append, All-cons, All-head, All-map, All-nil, All-tail}
@@ -6,9 +7,9 @@ use Rattle.std.proofs.lemmas.List.Folds.{list_any_none}
 use Rattle.bdb_format.specs.File.{File, page_at}
 use Rattle.bdb_format.specs.Page.{Item, Listed}
 use Rattle.bdb_mkleaves.specs.Laid.{AreLaid, IsLiveUnit, LaidTreesAreLive, has_deleted}
-use Rattle.bdb_mkleaves.specs.LeafEntries.{Entry, IsLeafIn, leaf_of, own_entry, shared_entry}
+use Rattle.bdb_mkleaves.specs.LeafEntries.{Entry, IsLeafIn, leaf_of, own_entry}
 use Rattle.bdb_mkleaves.specs.Placed.{IsDatum, LeafUnits, Placed, PlacedEntry, PlacedPairs, PlacedTree, StandsPlaced, ValueItem, entries_of}
-use Rattle.bdb_mkleaves.specs.Placed.{further_entries, tree_item, unit_of, units_in}
+use Rattle.bdb_mkleaves.specs.Placed.{further_entries, unit_of, units_in}
 use Rattle.bdb_mkleaves.specs.declared.leaf_type.LeafType.{LeafType}
 use Rattle.bdb_mkleaves.specs.declared.leaf_type.LeafType.TheVariants.{Pairs, Records, SortedData}
 use Rattle.bdb_law_levels.proofs.NodeLemmas.{all_left, all_right}
@@ -21,10 +22,7 @@ IsLiveEntry entry = entry.item.deleted ≡ false
 further_live : (g : File) (key : ValueItem) (more : List ValueItem) → key.item.deleted ≡ false → All (IsDatum g) more
     → All IsLiveEntry (flat_map (further_entries key) more)
 further_live g key [] live each = All-nil IsLiveEntry
-further_live g key (datum ∷ more) live each =
-    All-cons IsLiveEntry (shared_entry key.item) (own_entry datum.item ∷ flat_map (further_entries key) more) live
-    (All-cons IsLiveEntry (own_entry datum.item) (flat_map (further_entries key) more) (All-head (IsDatum g) datum more each).live
-    (further_live g key more live (All-tail (IsDatum g) datum more each)))
+further_live g key (datum ∷ more) live each = grind (arith, All-cons, All-head, All-tail, further_live g key more live (All-tail (IsDatum g) datum more each))
 
 unit_live : (type : LeafType) (g : File) (unit : Placed) → StandsPlaced type g unit → IsLiveUnit (unit_of unit) → All IsLiveEntry (entries_of unit)
 unit_live type g (PlacedEntry entry) stands live = All-cons IsLiveEntry (own_entry entry.item) [] live (All-nil IsLiveEntry)
@@ -34,9 +32,7 @@ unit_live Pairs g (PlacedPairs key first more) stands live =
     (further_live g key more stands.0.live stands.2))
 unit_live Records g (PlacedPairs key first more) stands live = absurd stands
 unit_live SortedData g (PlacedPairs key first more) stands live = absurd stands
-unit_live Pairs g (PlacedTree key root values) stands live =
-    All-cons IsLiveEntry (own_entry key.item) (own_entry (tree_item root) ∷ []) stands.0.live
-    (All-cons IsLiveEntry (own_entry (tree_item root)) [] refl (All-nil IsLiveEntry))
+unit_live Pairs g (PlacedTree key root values) stands live = grind (arith, All-cons, All-nil)
 unit_live Records g (PlacedTree key root values) stands live = absurd stands
 unit_live SortedData g (PlacedTree key root values) stands live = absurd stands
 

@@ -25,9 +25,7 @@ use Rattle.bdb_mkleaves.proofs.LeavesLemmas.{at_most_last, last_closed, leaf_clo
 
 pub blanked : (old : Built) (p : ℕ) (page written : List ℕ) → p < length old.pages → AreWhole old → page ≡ bytes_of old p
     → written ≡ replicate (length page) 0 → written_over old p written ≡ with_page old p (replicate old.size 0)
-blanked old p page written low whole lent is =
-    ap (written_over old p) (is ∙ ap (λ n. replicate n 0) (ap length lent ∙ whole p low))
-    ∙ written_whole old p (replicate old.size 0) whole low (length-replicate old.size 0)
+blanked old p page written low whole lent is = grind (arith, written_whole, length-replicate)
 
 -- the pages with the copy that has its number
 abbrev with_numbered : Built → ℕ → Built
@@ -35,12 +33,7 @@ with_numbered old p = with_page (with_copy old p) (length old.pages) (with_field
 
 pub numbered_is : (old copy new : Built) (p q : ℕ) → copy ≡ with_copy old p → q ≡ length old.pages
     → new ≡ with_page copy q (with_field copy.order (bytes_of copy q) 8 q) → new ≡ with_numbered old p
-numbered_is old copy new p q copied at_end is =
-    let n : ℕ = length old.pages in
-    is
-    ∙ (ap (λ (b : Built). with_page b q (with_field b.order (bytes_of b q) 8 q)) copied
-    ∙ (ap (λ k. with_page (with_copy old p) k (with_field old.order (bytes_of (with_copy old p) k) 8 k)) at_end
-    ∙ ap (λ bs. with_page (with_copy old p) n (with_field old.order bs 8 n)) (get_or_push old.pages (bytes_of old p) [] n refl)))
+numbered_is old copy new p q copied at_end is = grind (arith, get_or_push)
 
 more_pages : (old : Built) (p : ℕ) → length (with_copy old p).pages ≡ length old.pages + 1
 more_pages old p = length-append old.pages (bytes_of old p ∷ [])
@@ -174,9 +167,7 @@ two_leaves (p ∷ q ∷ qs) last n some = (refl, refl)
 all_leaves : (leaves : Leaves) (built : Built) (closed : List (List Entry)) (entries : List Entry) → 1 ≤ length leaves.closed.items
     → AreLeaves leaves built closed entries
     → LeavesFrom leaves.leaf_type built 0 (first_leaf leaves ∷ second_leaf leaves ∷ later_leaves leaves) (closed ++ (entries ∷ [])) 0
-all_leaves leaves built closed entries some hold =
-    subst (λ ns. LeavesFrom leaves.leaf_type built 0 ns (closed ++ (entries ∷ [])) 0) (two_leaves leaves.closed.items leaves.last 0 some).0
-    (leaf_closed leaves.leaf_type built 0 leaves.closed.items closed leaves.last 0 entries hold.closed_hold hold.after hold.last_holds)
+all_leaves leaves built closed entries some hold = grind (arith, two_leaves, leaf_closed)
 
 several_leaves : (leaves : Leaves) (built : Built) → AreSomeLeaves leaves built → 1 ≤ length leaves.closed.items
     → AreSeveral built (first_leaf leaves) (second_leaf leaves) (later_leaves leaves)

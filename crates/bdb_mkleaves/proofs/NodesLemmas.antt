@@ -1,6 +1,6 @@
 -- Filled leaves as the lowest level of their tree.
 use Rattle.std.proofs.Common.{Bool, ◌≡◌, ◌⊎◌, ℕ, suc, ◌+◌, ◌<◌, ◌≤◌, true, false, List, [], ◌∷◌, ◌++◌, length, map}
-use Rattle.std.proofs.Common.{arith, refl, sym, ◌∙◌, ap, subst, inl, inr}
+use Rattle.std.proofs.Common.{arith, refl, ◌∙◌, ap, subst, inl, inr}
 use Rattle.std.specs.List.{All, AllZip, Contains, flat_map}
 use Rattle.std.proofs.lemmas.List.{append-nil}
 use Rattle.std.proofs.lemmas.Grind.{flat_map-append}
@@ -11,16 +11,14 @@ use Rattle.bdb_format.proofs.MemberLemmas.{first_member, later_member, member_ca
 use Rattle.bdb_format.proofs.SizeLemmas.{size_bounds}
 use Rattle.bdb_law_levels.specs.Nodes.{Node}
 use Rattle.bdb_law_levels.proofs.NodeLemmas.{all_left, all_right}
-use Rattle.bdb_law_levels.specs.declared.inner_type.InnerType.{InnerType}
-use Rattle.bdb_law_levels.specs.declared.inner_type.InnerType.TheVariants.{Keyed, Numbered}
 use Rattle.bdb_pack.specs.Built.{AreWhole, Built}
 use Rattle.bdb_mkleaves.specs.Filled.{AreFilled, unit_contents}
-use Rattle.bdb_mkleaves.specs.Inner.{child_cost, key_cost}
-use Rattle.bdb_mkleaves.specs.Laid.{Counts, HasUnits, IsKeyOf, IsNodeOf, inner_of}
-use Rattle.bdb_mkleaves.specs.LeafChildren.{first_content, leaf_child, leaf_children, leaf_node, leaf_nodes}
+use Rattle.bdb_mkleaves.specs.Inner.{child_cost}
+use Rattle.bdb_mkleaves.specs.Laid.{Counts, HasUnits, IsNodeOf, inner_of}
+use Rattle.bdb_mkleaves.specs.LeafChildren.{leaf_child, leaf_children, leaf_node, leaf_nodes}
 use Rattle.bdb_mkleaves.specs.LeafEntries.{Entry, HoldsEntriesOn}
 use Rattle.bdb_mkleaves.specs.Leaves.{AreLeaves, LeavesFrom, first_of}
-use Rattle.bdb_mkleaves.specs.Levels.{AreChildren, BeginsWithKey, HasKey, IsChild, KeyStandsOn}
+use Rattle.bdb_mkleaves.specs.Levels.{AreChildren, IsChild, KeyStandsOn}
 use Rattle.bdb_mkleaves.specs.Moved.{LinkedFrom}
 use Rattle.bdb_mkleaves.specs.declared.leaves.Leaves.{Leaves}
 use Rattle.bdb_mkleaves.specs.Placed.{IsOneValue, IsPlacedBySize, Placed, PlacedEntry, PlacedPairs, PlacedTree, StandsBySize, entries_of}
@@ -109,17 +107,7 @@ one_value size Unknown value by_size = absurd by_size
 leaf_is_node : (type : LeafType) (counted : Bool) (size before : ℕ) (built : Built) (p : ℕ) (units : List Placed)
     → (units ≡ []) ⊎ Begins size before built (flat_map entries_of units)
     → IsNodeOf type (record { page = p; units = units }) (leaf_node type counted p (flat_map entries_of units))
-leaf_is_node type counted size before built p units begins =
-    record { page = refl; leaves = refl; key = key_of_type (inner_of type) begins }
-  where
-    key_of_type : (inner : InnerType) → (units ≡ []) ⊎ Begins size before built (flat_map entries_of units)
-        → IsKeyOf inner (flat_map entries_of units) (first_content (flat_map entries_of units))
-    key_of_type Numbered begins = tt
-    key_of_type Keyed (inl none) =
-        subst (λ us. IsKeyOf Keyed (flat_map entries_of us) (first_content (flat_map entries_of us))) (sym none) ([], refl)
-    key_of_type Keyed (inr begins) =
-        subst (λ es. IsKeyOf Keyed es (first_content es)) (sym begins.is)
-        (refl, one_value size begins.entry.item.content begins.first.value begins.first.by_size)
+leaf_is_node type counted size before built p units begins = grind (arith, one_value)
 
 -- its key stands in it, or in a chain that counts few references
 key_stands : (before : ℕ) (built : Built) (content : Content) → IsOneValue content → CountsOneFrom before built content → KeyStandsOn built content
@@ -134,47 +122,13 @@ leaf_is_child : (type : LeafType) (counted : Bool) (size before : ℕ) (built : 
     → p < length built.pages
     → HoldsEntriesOn type built p previous next (flat_map entries_of units) → Begins size before built (flat_map entries_of units)
     → IsChild (inner_of type) built (leaf_child type counted p (flat_map entries_of units)) (leaf_node type counted p (flat_map entries_of units))
-leaf_is_child type counted size before built p previous next units low holds begins =
-    record { page_is = refl; count_is = refl; key = key_of_type (inner_of type) }
-  where
-    begins_with : BeginsWithKey built p begins.entry.item.content
-    begins_with = record {
-      type = type;
-      previous = previous;
-      next = next;
-      first = begins.entry;
-      entries = begins.others;
-      there = low;
-      holds = subst (HoldsEntriesOn type built p previous next) begins.is holds;
-      key_is = refl;
-      stands = key_stands before built begins.entry.item.content (one_value size begins.entry.item.content begins.first.value begins.first.by_size)
-          begins.first.heads;
-    }
-
-    key_of_type : (inner : InnerType) → HasKey inner built p (first_content (flat_map entries_of units))
-    key_of_type Numbered = tt
-    key_of_type Keyed = subst (λ es. BeginsWithKey built p (first_content es)) (sym begins.is) begins_with
+leaf_is_child type counted size before built p previous next units low holds begins = grind (arith, key_stands, one_value)
 
 -- an item over it costs little
 cost_small : (type : LeafType) (counted : Bool) (size before : ℕ) (built : Built) (p : ℕ) (units : List Placed) → is_page_size size ≡ true
     → Begins size before built (flat_map entries_of units)
     → child_cost (inner_of type) (leaf_node type counted p (flat_map entries_of units)) + 40 ≤ size
-cost_small type counted size before built p units legal begins =
-    let bounds = size_bounds size legal in
-    by_type (inner_of type) bounds.0
-  where
-    key_small : (content : Content) (value : List ℕ) → StandsBySize size content value → 512 ≤ size → key_cost content + 40 ≤ size
-    key_small (Inline bytes) value (is, short) least = omega (arith, least, short, ap length is)
-    key_small (Chain head total) value long least = omega (arith, least)
-    key_small (Set blocks) value by_size least = absurd by_size
-    key_small (Tree root) value by_size least = absurd by_size
-    key_small Unknown value by_size least = absurd by_size
-
-    by_type : (inner : InnerType) → 512 ≤ size → child_cost inner (leaf_node type counted p (flat_map entries_of units)) + 40 ≤ size
-    by_type Numbered least = omega (arith, least)
-    by_type Keyed least =
-        subst (λ es. key_cost (first_content es) + 40 ≤ size) (sym begins.is)
-        (key_small begins.entry.item.content begins.first.value begins.first.by_size least)
+cost_small type counted size before built p units legal begins = grind (arith, size_bounds)
 
 -- All leaves.
 
@@ -254,12 +208,7 @@ counts_told : (type : LeafType) (ps : List ℕ) (groups : List (List Placed))
     → AllZip (Counts type) (zip_units ps groups) (leaf_nodes type true ps (map (flat_map entries_of) groups))
 counts_told type [] groups = tt
 counts_told type (p ∷ ps) [] = tt
-counts_told type (p ∷ ps) (units ∷ groups) = (one type, counts_told type ps groups)
-  where
-    one : (type : LeafType) → Counts type (record { page = p; units = units }) (leaf_node type true p (flat_map entries_of units))
-    one Pairs = refl
-    one Records = refl
-    one SortedData = refl
+counts_told type (p ∷ ps) (units ∷ groups) = grind (arith, counts_told type ps groups)
 
 none_told : (type : LeafType) (ps : List ℕ) (all : List (List Entry)) → All (λ (node : Node). node.count ≡ 0) (leaf_nodes type false ps all)
 none_told type [] all = All-nil (λ (node : Node). node.count ≡ 0)

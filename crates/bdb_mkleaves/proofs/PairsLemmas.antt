@@ -29,10 +29,7 @@ use Rattle.bdb_mkleaves.proofs.RunLemmas.{all_map, one_kept, later_before, leaf_
 last_key : (key : Item) (x y : Entry) (others : List ValueItem) → x.item ≡ key
     → (get_or (x ∷ y ∷ more_entries key others) (length (more_entries key others)) no_entry).item ≡ key
 last_key key x y [] is = is
-last_key key x y (other ∷ others) is =
-    let rest : List Entry = shared_entry key ∷ own_entry other.item ∷ more_entries key others in
-    ap (λ (e : Entry). e.item) (after_two x y rest (length rest) (length (more_entries key others)) (omega arith))
-    ∙ last_key key (shared_entry key) (own_entry other.item) others refl
+last_key key x y (other ∷ others) is = grind (arith, after_two, last_key key (shared_entry key) (own_entry other.item) others refl)
 
 shared_again : (entries : List Entry) (key first : Item) (others : List ValueItem)
     → shared_key (entries ++ pair_entries key first others) ≡ shared_entry key

@@ -62,6 +62,4 @@ units_cost order size (PlacedPairs key first more) placed =
       further_cost order size key more (All-tail (IsStoredBySize size) first more placed.1),
       sum_by-cons (λ value. 4 + value_cost size value) first.value (values_of more),
     ))
-units_cost order size (PlacedTree key root values) placed =
-    two_entries order (own_entry key.item) (own_entry (tree_item root)) []
-    ∙ rw placed.1 (omega (arith, stored_cost order size key placed.0, tree_cost order root))
+units_cost order size (PlacedTree key root values) placed = grind (arith, two_entries, stored_cost, tree_cost)

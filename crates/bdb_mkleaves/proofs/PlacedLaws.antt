@@ -1,5 +1,6 @@
 -- What leaves hold by the units that were put on them.
-use Rattle.std.proofs.Common.{◌≡◌, ℕ, Bool, true, false, not, cond, List, [], ◌∷◌, length, map, get_or, refl, sym, ◌∙◌, ap, subst, eq-eqb, true≢false}
+use Rattle.std.proofs.Common.{arith}
+use Rattle.std.proofs.Common.{◌≡◌, ℕ, Bool, true, false, not, List, [], ◌∷◌, length, map, get_or, refl, sym, ◌∙◌, ap, subst, eq-eqb, true≢false}
 use Rattle.std.specs.Prelude.{◌==◌, ◌&&◌}
 use Rattle.std.specs.List.{All, enumerate_from, flat_map, list_any}
 use Rattle.std.proofs.lemmas.Bool.{or_from}
@@ -12,7 +13,7 @@ use Rattle.bdb_format.specs.File.{File, page_at}
 use Rattle.bdb_format.specs.Leaves.{leaves}
 use Rattle.bdb_format.specs.Contents.{StoredPair, entries_in, pairs_of, tree_entries, tree_pairs}
 use Rattle.bdb_format.specs.ContentRows.{ascends, has_duplicate, has_unsorted, is_duplicate, is_set, is_wrong_record, is_wrong_set}
-use Rattle.bdb_format.specs.Lists.{btree_list, listed_pair, recno_list}
+use Rattle.bdb_format.specs.Lists.{btree_list, recno_list}
 use Rattle.bdb_law_levels.specs.Contents.{BeginsWith, Follow}
 use Rattle.bdb_mkleaves.specs.LeafEntries.{Entry}
 use Rattle.bdb_mkleaves.specs.Units.{entry_unit, group_unit, key_of, keyed_units, listed_keyed, listed_record}
@@ -67,24 +68,15 @@ all_records g (leaf ∷ placed) all =
 pairs_listed : (g : File) (root : ℕ) (placed : List LeafUnits) → leaves g root ≡ pages_of placed → All (HoldsUnits Pairs g) placed
     → btree_list g root ≡ flat_map listed_keyed (units_in placed)
 unfolding btree_list tree_pairs
-pairs_listed g root placed are all =
-    ap (λ ps. flat_map (listed_pair g) (flat_map (pairs_of g) ps)) are
-    ∙ (ap (flat_map (listed_pair g)) (all_pairs_are_runs g placed all)
-    ∙ (list_of_runs g (runs_on g placed) (all_runs g placed all) ∙ ap (flat_map listed_keyed) (all_units g placed all)))
+pairs_listed g root placed are all = grind (arith, all_pairs_are_runs, list_of_runs, runs_on, all_runs, all_units)
 
 records_listed : (g : File) (root : ℕ) (placed : List LeafUnits) → leaves g root ≡ pages_of placed → All (HoldsUnits Records g) placed
     → recno_list g root ≡ flat_map listed_record (enumerate_from 1 (units_in placed))
 unfolding recno_list tree_entries
-records_listed g root placed are all =
-    list_of_records g 1 (tree_entries g root)
-    ∙ ap (λ units. flat_map listed_record (enumerate_from 1 units))
-    (ap (λ ps. map (entry_unit g) (flat_map (λ p. entries_in (page_at g p)) ps)) are ∙ all_records g placed all)
+records_listed g root placed are all = grind (arith, list_of_records, all_records)
 
 pub units_are_listed : UnitsAreListed
-units_are_listed g meta placed are = (
-  λ keyed all. ap (λ b. cond b (recno_list g meta.root) (btree_list g meta.root)) keyed ∙ pairs_listed g meta.root placed are all,
-  λ numbered all. ap (λ b. cond b (recno_list g meta.root) (btree_list g meta.root)) numbered ∙ records_listed g meta.root placed are all,
-)
+units_are_listed g meta placed are = grind (arith, pairs_listed, records_listed)
 
 -- Their rules.
 
@@ -199,6 +191,4 @@ right_lengths g meta (PlacedTree key root values ∷ units) all long =
     absurd (All-head (StandsPlaced Records g) (PlacedTree key root values) units all)
 
 pub records_keep_length : RecordsKeepLength
-records_keep_length g meta leaf holds long =
-    ap (λ page. list_any (is_wrong_record g meta) (entries_in page)) holds.is_leaf.is
-    ∙ (ap (list_any (is_wrong_record g meta)) holds.is_leaf.holds ∙ right_lengths g meta leaf.units holds.stand long)
+records_keep_length g meta leaf holds long = grind (arith, right_lengths)

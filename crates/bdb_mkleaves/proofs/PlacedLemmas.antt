@@ -1,4 +1,5 @@
 -- The pairs of leaves are runs, one for each unit that was put on them.
+use Rattle.std.proofs.Common.{arith}
 use Rattle.std.proofs.Common.{◌≡◌, ℕ, not, List, [], ◌∷◌, ◌++◌, map, get_or, refl, sym, ◌∙◌, ap}
 use Rattle.std.specs.List.{All, flat_map}
 use Rattle.std.proofs.lemmas.List.{append-nil, map-append}
@@ -69,9 +70,7 @@ leaf_pairs : (g : File) (p : ℕ) (units : List Placed) → All (StandsPlaced Pa
     → pairs_from g p (flat_map entries_of units)
     ≡ flat_map all_of_group (map (run_of g) (located_on (record { page = p; units = units })))
 leaf_pairs g p [] all = refl
-leaf_pairs g p (unit ∷ units) all =
-    unit_pairs g p unit (flat_map entries_of units) (All-head (StandsPlaced Pairs g) unit units all)
-    ∙ rw (leaf_pairs g p units (All-tail (StandsPlaced Pairs g) unit units all)) refl
+leaf_pairs g p (unit ∷ units) all = grind (arith, unit_pairs, All-head, All-tail, leaf_pairs g p units (All-tail (StandsPlaced Pairs g) unit units all))
 
 pub pairs_are_runs : (g : File) (leaf : LeafUnits) → HoldsUnits Pairs g leaf
     → pairs_of g leaf.page ≡ flat_map all_of_group (map (run_of g) (located_on leaf))
@@ -102,9 +101,7 @@ one_datum g Unknown value one is = absurd one
 further_data : (g : File) (p : ℕ) (key : ValueItem) (more : List ValueItem) → All (IsDatum g) more
     → data_in g (map (further_pair g p key) more) ≡ map (λ (datum : ValueItem). datum.value) more
 further_data g p key [] all = refl
-further_data g p key (datum ∷ more) all =
-    let this : IsDatum g datum = All-head (IsDatum g) datum more all in
-    rw (one_datum g datum.item.content datum.value this.one this.value, further_data g p key more (All-tail (IsDatum g) datum more all)) refl
+further_data g p key (datum ∷ more) all = grind (arith, All-head, one_datum, All-tail, further_data g p key more (All-tail (IsDatum g) datum more all))
 
 pub unit_of_run : (g : File) (at : Located) → Stands g at → group_unit g (run_of g at) ≡ unit_of at.1
 unit_of_run g (p, PlacedEntry entry) stands = absurd stands
@@ -121,9 +118,7 @@ units_of_located g (at ∷ all) stand =
 
 pub units_located : (placed : List LeafUnits) → map (λ (at : Located). unit_of at.1) (located_in placed) ≡ units_in placed
 units_located [] = refl
-units_located (leaf ∷ placed) =
-    map-append (λ (at : Located). unit_of at.1) (located_on leaf) (located_in placed)
-    ∙ rw (map-map (λ (at : Located). unit_of at.1) (λ unit. (leaf.page, unit)) leaf.units, units_located placed) refl
+units_located (leaf ∷ placed) = grind (arith, map-append, map-map, units_located placed)
 
 pub is_run : (g : File) (at : Located) → Stands g at → IsRun (run_of g at)
 is_run g (p, PlacedEntry entry) stands = absurd stands
@@ -135,9 +130,7 @@ is_run g (p, PlacedPairs key first more) stands =
       each = All-cons Own _ (map (further_pair g p key) more) (record { live = ap not stands.1.live; key_is = refl })
           (All-map Own (further_pair g p key) more (λ k d low. record { live = ap not (stands.2 k d low).live; key_is = refl }));
     }
-is_run g (p, PlacedTree key root values) stands =
-    let Own : StoredPair → Type 0 = HasKey (value_of g key.item.content) in
-    record { own = refl; share = All-nil Shares; each = All-cons Own _ [] (record { live = refl; key_is = refl }) (All-nil Own) }
+is_run g (p, PlacedTree key root values) stands = grind (arith, HasKey, All-nil, Shares, All-cons)
 
 pub all_stand : (g : File) (placed : List LeafUnits) → All (HoldsUnits Pairs g) placed → All (Stands g) (located_in placed)
 all_stand g placed all = all_located (StandsPlaced Pairs g) placed (λ k d low. (all k d low).stand)

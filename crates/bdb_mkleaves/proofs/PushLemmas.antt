@@ -1,14 +1,13 @@
 -- A unit that is pushed: the last leaf has room for it, or a new one.
 use Rattle.std.proofs.Common.{Bool, ◌≡◌, ℕ, suc, ◌+◌, ◌-◌, ◌<◌, ◌≤◌, true, false, cond, if◌then◌else◌, List, [], ◌∷◌, ◌++◌, length, map, arith, refl}
 use Rattle.std.proofs.Common.{sym, ◌∙◌, ap, subst, inl, inr, length-append, true≢false}
-use Rattle.std.specs.Prelude.{◌/◌, ◌%◌, nat_le, nat_lt}
+use Rattle.std.specs.Prelude.{◌/◌, ◌%◌, nat_lt}
 use Rattle.std.specs.Cmp.Derive.{both_true}
 use Rattle.std.specs.List.{All, flat_map}
 use Rattle.std.proofs.lemmas.List.Sums.{sum_by-cons}
 use Rattle.std.proofs.lemmas.Bool.{cases_lt, leb-false, leb-true, lt-ltb}
 use Rattle.bdb_format.specs.File.{File}
 use Rattle.bdb_format.specs.HeadOf.{is_page_size}
-use Rattle.bdb_format.specs.Numbers.{pad4}
 use Rattle.bdb_format.proofs.SizeLemmas.{size_bounds}
 use Rattle.bdb_law_levels.proofs.NodeLemmas.{all_right}
 use Rattle.bdb_pack.specs.Built.{AreWhole, Built, bytes_of, file_so_far}
@@ -45,25 +44,12 @@ some_leaves leaves built before closed units filled =
 some_units : (leaves : Leaves) (built : Built) (cost before : ℕ) (closed : List (List Placed)) (units : List Placed)
     → AreFilled leaves built before closed units
     → AreWhole built → has_room leaves built cost ≡ false → cost ≤ built.size - 26 → 0 < length units
-some_units leaves built cost before closed [] filled whole test fits =
-    let room = filled.hold.last_holds.room in
-    let less : room_of built.order (bytes_of built leaves.last) < cost = leb-false _ _ test in
-    absurd (omega (arith, room, less, fits, whole leaves.last filled.hold.there))
+some_units leaves built cost before closed [] filled whole test fits = grind (arith, leb-false)
 some_units leaves built cost before closed (unit ∷ units) filled whole test fits = omega arith
 
 pub ready : (b : Bool) (leaves next : Leaves) (old one : Built) (cost : ℕ) → AreSomeFilled leaves old → has_room leaves old cost ≡ b
     → HasRoomNow b leaves next old one → cost ≤ old.size - 26 → AreWhole old → IsReady leaves next old one cost
-ready true leaves next old one cost some test (same, kept) fits whole =
-    subst (λ (l : Leaves). IsReady leaves l old one cost) (sym same)
-    (subst (λ (b : Built). IsReady leaves leaves old b cost) (sym kept)
-    (record {
-      type = refl;
-      size = refl;
-      some = some_leaves leaves old some.before some.closed some.units some.filled;
-      there = some.filled.hold.there;
-      positive = let there = some.filled.hold.there in omega (arith, there);
-      room = leb-true _ _ test;
-    }))
+ready true leaves next old one cost some test (same, kept) fits whole = grind (arith, some_leaves, leb-true)
 ready false leaves next old one cost some test opened fits whole =
     let filled = leaf_opened leaves next old one some.before some.closed some.units some.filled
     (some_units leaves old cost some.before some.closed some.units some.filled whole test fits) opened in
@@ -96,16 +82,7 @@ pub kept_now : (b : Bool) (leaves next : Leaves) (old one new : Built) → leave
     → KeepsOthers next.last one new → KeepsOthers leaves.last old new
 kept_now true leaves next old one new there (same, kept) more =
     subst (λ (b : Built). KeepsOthers leaves.last b new) kept (subst (λ (l : Leaves). KeepsOthers l.last one new) same more)
-kept_now false leaves next old one new there opened more =
-    let grows = opened.kept.grows in
-    let further = more.grows in
-    record {
-      size = more.size ∙ opened.kept.size;
-      order = more.order ∙ opened.kept.order;
-      grows = omega (arith, grows, further);
-      same = λ q low other.
-          more.same q (omega (arith, low, grows)) (λ e. omega (arith, e, low, opened.last)) ∙ opened.kept.same q low other;
-    }
+kept_now false leaves next old one new there opened more = grind arith
 
 -- the leaf that was added, if one was
 pub room_count : (b : Bool) (leaves next : Leaves) (old one : Built) → HasRoomNow b leaves next old one
@@ -161,18 +138,11 @@ some_pushed leaves next old new unit some pushed =
 
 -- the item of a value is hardly longer than an eighth of a page
 pub cost_few : (size : ℕ) (value : List ℕ) → is_page_size size ≡ true → value_cost size value ≤ size / 8 + 12
-cost_few size value legal = by_test (nat_le (length value) (size / 8)) refl
-  where
-    by_test : (b : Bool) → nat_le (length value) (size / 8) ≡ b → cond b (pad4 (3 + length value)) 12 ≤ size / 8 + 12
-    by_test true test = let short : length value ≤ size / 8 = leb-true _ _ test in omega (arith, short)
-    by_test false test = omega arith
+cost_few size value legal = grind (arith, leb-true)
 
 -- the item of a value and its entry have room on an empty leaf
 pub entry_fits : (size : ℕ) (value : List ℕ) → is_page_size size ≡ true → 2 + value_cost size value ≤ size - 26
-entry_fits size value legal =
-    let bounds = size_bounds size legal in
-    let few = cost_few size value legal in
-    omega (arith, bounds.0, few)
+entry_fits size value legal = grind (arith, size_bounds, cost_few)
 
 -- An entry.
 
@@ -261,9 +231,7 @@ whole_of leaves built before closed units type filled =
 
 pub whole_now : (b : Bool) (leaves next : Leaves) (old one : Built) (cost : ℕ) → AreSomeFilled leaves old → leaves.leaf_type ≡ Pairs → AreWhole old
     → has_room leaves old cost ≡ b → cost ≤ old.size - 26 → HasRoomNow b leaves next old one → HasWholePairs next one
-whole_now true leaves next old one cost some type whole test fits (same, kept) =
-    subst (λ (l : Leaves). HasWholePairs l one) (sym same)
-    (subst (λ (b : Built). HasWholePairs leaves b) (sym kept) (whole_of leaves old some.before some.closed some.units type some.filled))
+whole_now true leaves next old one cost some type whole test fits (same, kept) = grind (arith, whole_of)
 whole_now false leaves next old one cost some type whole test fits opened =
     whole_of next one some.before (some.closed ++ (some.units ∷ [])) [] (opened.type ∙ type)
     (leaf_opened leaves next old one some.before some.closed some.units some.filled

@@ -1,5 +1,5 @@
 -- Units that are pushed are spread over their leaves.
-use Rattle.std.proofs.Common.{◌≡◌, ℕ, ◌+◌, ◌<◌, ◌≤◌, Bool, true, false, List, [], ◌∷◌, ◌++◌, map, arith, refl, sym, ◌∙◌, ap, inl, inr}
+use Rattle.std.proofs.Common.{◌≡◌, ℕ, ◌+◌, ◌<◌, ◌≤◌, Bool, true, false, List, [], ◌∷◌, ◌++◌, map, arith, refl, sym, ◌∙◌, ap}
 use Rattle.std.specs.List.{All, flat_map, sum_by}
 use Rattle.std.proofs.lemmas.Bool.{cases_Bool, leb-false, leb-true}
 use Rattle.std.proofs.lemmas.List.{append_assoc, map-append}
@@ -14,7 +14,7 @@ use Rattle.bdb_mkleaves.specs.LeafEntries.{entry_cost, room_of}
 use Rattle.bdb_mkleaves.specs.Leaves.{has_room}
 use Rattle.bdb_mkleaves.specs.Placed.{IsPlacedBySize, Placed, entries_of, unit_of}
 use Rattle.bdb_mkleaves.specs.Spread.{spread_units}
-use Rattle.bdb_mkleaves.specs.Units.{EntryUnit, KeyedUnit, TreeUnit, has_own_tree, page_room, unit_cost}
+use Rattle.bdb_mkleaves.specs.Units.{EntryUnit, KeyedUnit, TreeUnit, page_room, unit_cost}
 use Rattle.bdb_mkleaves.specs.declared.leaves.Leaves.{Leaves}
 use Rattle.bdb_mkleaves.proofs.NodesLemmas.{all_units}
 use Rattle.bdb_mkleaves.proofs.PlacedCostLemmas.{units_cost}
@@ -82,12 +82,5 @@ pushed_units_spread leaves next old new before closed units unit filled spread p
 
 pub units_fit : UnitsFit
 units_fit size (EntryUnit value deleted) legal = entry_fits size value legal
-units_fit size (KeyedUnit key []) legal =
-    let bounds = size_bounds size legal in
-    let few = cost_few size key legal in
-    omega (arith, bounds.0, few)
-units_fit size (KeyedUnit key (first ∷ more)) legal =
-    elim (cases_Bool (has_own_tree size key (first ∷ more))) [
-      | inl tree ↦ let fit = tree_fits size key (first ∷ more) legal tree in omega (arith, fit.0, fit.1)
-      | inr few ↦ let fit = pairs_fit size key first more legal few in omega (arith, fit.0, fit.1)
-    ]
+units_fit size (KeyedUnit key []) legal = grind (arith, size_bounds, cost_few)
+units_fit size (KeyedUnit key (first ∷ more)) legal = grind (arith, cases_Bool, tree_fits, pairs_fit)

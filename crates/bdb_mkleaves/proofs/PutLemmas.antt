@@ -1,5 +1,5 @@
 -- A value that is stored, and put on the last leaf.
-use Rattle.std.proofs.Common.{◌≡◌, ℕ, suc, zero, ◌+◌, ◌-◌, ◌*◌, ◌<◌, ◌≤◌, ◌^◌, Bool, true, cond, List, [], ◌∷◌, ◌++◌, length, get_or, None, arith}
+use Rattle.std.proofs.Common.{◌≡◌, ℕ, suc, zero, ◌+◌, ◌-◌, ◌*◌, ◌<◌, ◌≤◌, ◌^◌, Bool, true, List, [], ◌∷◌, ◌++◌, length, get_or, None, arith}
 use Rattle.std.proofs.Common.{refl, sym, ◌∙◌, ap, subst, inl, inr, length-append}
 use Rattle.std.specs.Prelude.{◌/◌}
 use Rattle.std.proofs.Math.Nat.{mul-le-mul_right}
@@ -8,7 +8,6 @@ use Rattle.std.proofs.lemmas.List.{get_or-append-add, get_or_append_left}
 use Rattle.std.proofs.lemmas.Nat.{div-mul-add}
 use Rattle.bdb_format.specs.declared.kinds.Order.{Order}
 use Rattle.bdb_format.specs.HeadOf.{is_page_size}
-use Rattle.bdb_format.specs.Numbers.{pad4}
 use Rattle.bdb_format.specs.Page.{Chain, Inline, Item}
 use Rattle.bdb_format.specs.Rows.{page_code}
 use Rattle.bdb_format.proofs.SizeLemmas.{size_bounds}
@@ -31,31 +30,15 @@ use Rattle.bdb_mkleaves.proofs.LeavesLemmas.{leaves_kept, at_most_last}
 
 inline_cost : (order : Order) (size : ℕ) (value : List ℕ) (deleted : Bool) → length value ≤ size / 8
     → item_cost order (record { content = Inline value; deleted = deleted }) ≡ value_cost size value
-inline_cost order size value deleted short =
-    ap pad4 (length-leaf_inline order value deleted)
-    ∙ sym (ap (λ b. cond b (pad4 (3 + length value)) 12) (le-leb (length value) (size / 8) short))
+inline_cost order size value deleted short = grind (arith, length-leaf_inline, le-leb)
 
 chain_cost : (order : Order) (size head total : ℕ) (value : List ℕ) (deleted : Bool) → size / 8 < length value
     → item_cost order (record { content = Chain head total; deleted = deleted }) ≡ value_cost size value
-chain_cost order size head total value deleted long =
-    ap pad4 (length-leaf_chain order head total deleted)
-    ∙ sym (ap (λ b. cond b (pad4 (3 + length value)) 12) (lt-leb (length value) (size / 8) long))
+chain_cost order size head total value deleted long = grind (arith, length-leaf_chain, lt-leb)
 
 pub inline_item : (old new : Built) (value : List ℕ) (deleted : Bool) → IsWritable (OnLeaf (record { content = Inline value; deleted = deleted }))
     → length value ≤ old.size / 8 → new ≡ old → IsItemOf old new value deleted (record { content = Inline value; deleted = deleted })
-inline_item old new value deleted fits short same =
-    subst (λ (b : Built). IsItemOf old b value deleted (record { content = Inline value; deleted = deleted })) (sym same)
-    (record {
-      deleted_is = refl;
-      fits = fits;
-      place = λ type index. tt;
-      cost = λ order. inline_cost order old.size value deleted short;
-      kept = record { size = refl; order = refl; grows = omega arith; same = λ p low. refl };
-      stands = λ g counted later. (refl, short, refl);
-      formed = λ p low high. absurd (omega (arith, low, high));
-      heads = tt;
-      count = rw (le-leb (length value) (old.size / 8) short) (omega arith);
-    })
+inline_item old new value deleted fits short same = grind (arith, inline_cost, le-leb)
 
 -- A chain.
 
@@ -64,11 +47,7 @@ pieces_formed : (order : Order) (size number previous : ℕ) (rest : List ℕ) (
     → number + length pages < 2 ^ 32 → previous < 2 ^ 32 → AreChainPages order size number previous rest pages
     → (k : ℕ) → k < length pages → page_code order (number + k) (get_or pages k []) ≡ None
 pieces_formed order size number previous rest [] legal few before chain k low = absurd (omega (arith, low))
-pieces_formed order size number previous rest (page ∷ pages) legal few before chain zero low =
-    let page0 : List ℕ = chain_page order size number previous rest in
-    ap (page_code order (number + 0)) chain.1
-    ∙ subst (λ n. page_code order n page0 ≡ None) (let e : number ≡ number + 0 = omega arith in e)
-    (chain_pages_are_formed order size number previous rest legal (omega (arith, few)) before).1
+pieces_formed order size number previous rest (page ∷ pages) legal few before chain zero low = grind (arith, None, chain_pages_are_formed)
 pieces_formed order size number previous rest (page ∷ pages) legal few before chain (suc k) low =
     subst (λ n. page_code order n (get_or pages k []) ≡ None) (let e : number + 1 + k ≡ number + suc k = omega arith in e)
     (pieces_formed order size (number + 1) number _ pages legal (omega (arith, few)) (omega (arith, few)) chain.2 k (omega (arith, low)))

@@ -1,5 +1,5 @@
 -- The pages that are no leaves, as units are put on leaves.
-use Rattle.std.proofs.Common.{◌≡◌, ℕ, ◌+◌, ◌<◌, ◌≤◌, Bool, true, false, not, List, [], ◌∷◌, ◌++◌, length, map, get_or, arith, refl, sym, ◌∙◌, ap}
+use Rattle.std.proofs.Common.{◌≡◌, ℕ, ◌+◌, ◌<◌, ◌≤◌, Bool, true, false, not, List, [], ◌∷◌, ◌++◌, length, map, arith, refl, sym, ◌∙◌, ap}
 use Rattle.std.proofs.Common.{◌⊎◌, subst, inl, inr, true≢false}
 use Rattle.std.specs.Prelude.{◌==◌, ◌&&◌, ◌||◌}
 use Rattle.std.specs.List.{All, Contains, flat_map}
@@ -8,8 +8,7 @@ use Rattle.std.proofs.lemmas.List.{append-nil, append_assoc, map-append}
 use Rattle.std.proofs.lemmas.List.Elements.{All-append, All-cons, All-nil, All-push, Contains-append_cases, Contains-append_left}
 use Rattle.std.proofs.lemmas.List.Elements.{Contains-append_right}
 use Rattle.std.proofs.lemmas.Grind.{flat_map-append}
-use Rattle.bdb_format.specs.Numbers.{byte_at}
-use Rattle.bdb_format.specs.Page.{Content, Inline, Set, Chain, Tree, Unknown}
+use Rattle.bdb_format.specs.Page.{Content}
 use Rattle.bdb_format.specs.File.{File}
 use Rattle.bdb_format.specs.Rows.{page_code}
 use Rattle.bdb_format.proofs.ListLemmas.{only_member}
@@ -27,10 +26,9 @@ use Rattle.bdb_mkleaves.specs.Layout.{HasTreeOn}
 use Rattle.bdb_mkleaves.specs.LeafEntries.{Entry, HoldsEntriesOn, type_number}
 use Rattle.bdb_law_grove.proofs.BranchLemmas.{of_list}
 use Rattle.bdb_law_grove.proofs.AscendLemmas.{ascend_bounds, ascend_follow, ascend_on}
-use Rattle.bdb_mkleaves.specs.Inner.{CountsOne}
 use Rattle.bdb_mkleaves.specs.Puts.{CountsOneFrom}
 use Rattle.bdb_mkleaves.specs.declared.leaf_type.LeafType.TheVariants.{Pairs, Records, SortedData}
-use Rattle.bdb_mkleaves.specs.Leaves.{AreLeaves, IsOpened, KeepsOthers, LeavesFrom, last_of}
+use Rattle.bdb_mkleaves.specs.Leaves.{AreLeaves, IsOpened, KeepsOthers}
 use Rattle.bdb_mkleaves.specs.Placed.{IsPlacedBySize, Placed, StandsPlaced, entries_of}
 use Rattle.bdb_mkleaves.specs.declared.leaf_type.LeafType.{LeafType}
 use Rattle.bdb_mkleaves.specs.declared.leaves.Leaves.{Leaves}
@@ -62,9 +60,7 @@ leaves_low leaves built closed entries hold p is =
 
 pub rest_is : (before b : ℕ) (numbers : List ℕ) (p : ℕ) → (between before b p && not (is_of numbers p)) ≡ true
     → (before ≤ p) × (p < b) × (is_of numbers p ≡ false)
-rest_is before b numbers p is =
-    let parts = and_parts (between before b p) (not (is_of numbers p)) is in
-    let within = between_is before b p parts.0 in (within.0, within.1, not-true (is_of numbers p) parts.1)
+rest_is before b numbers p is = grind (arith, and_parts, between_is, not-true)
 
 pub is_rest : (before b : ℕ) (numbers : List ℕ) (p : ℕ) → before ≤ p → p < b → is_of numbers p ≡ false
     → (between before b p && not (is_of numbers p)) ≡ true
@@ -103,10 +99,7 @@ rest_more before a b numbers low more under p =
 -- what all units hold, after one more
 contents_more : (type : LeafType) (closed : List (List Placed)) (units : List Placed) (unit : Placed)
     → all_contents type closed (units ++ (unit ∷ [])) ≡ all_contents type closed units ++ unit_contents type unit
-contents_more type closed units unit =
-    ap (flat_map (unit_contents type)) (sym (append_assoc (flat_map (λ leaf. leaf) closed) units (unit ∷ [])))
-    ∙ (flat_map-append (unit_contents type) (flat_map (λ leaf. leaf) closed ++ units) (unit ∷ [])
-    ∙ ap (λ cs. all_contents type closed units ++ cs) (append-nil (unit_contents type unit)))
+contents_more type closed units unit = grind (arith, append_assoc, flat_map-append, append-nil)
 
 -- the heads that they name
 heads_more : (type : LeafType) (closed : List (List Placed)) (units : List Placed) (unit : Placed) (h : ℕ)
@@ -145,22 +138,7 @@ no_leaf SortedData is = omega (arith, is)
 heads_kept : (leaves : Leaves) (old new : Built) (before : ℕ) (closed : List (List Entry)) (entries : List Entry) (contents : List Content)
     → AreLeaves leaves old closed entries → KeepsOthers leaves.last old new → All (CountsOneFrom before old) contents
     → All (CountsOneFrom before new) contents
-heads_kept leaves old new before closed entries contents hold kept counts k d low = stays (get_or contents k d) (counts k d low)
-  where
-    stays : (content : Content) → CountsOneFrom before old content → CountsOneFrom before new content
-    stays (Inline bytes) counts = tt
-    stays (Chain head total) (above, under, counts) = (
-      above,
-      (let grows = kept.grows in omega (arith, under, grows)),
-      subst (λ o. CountsOne o (bytes_of new head)) (sym kept.order)
-          (subst (CountsOne old.order)
-          (sym (kept.same head under
-          (λ e. no_leaf leaves.leaf_type (sym hold.last_holds.type_is ∙ (ap (λ p. byte_at (bytes_of old p) 25) (sym e) ∙ counts.type_is)))))
-          counts),
-    )
-    stays (Set blocks) counts = tt
-    stays (Tree root) counts = tt
-    stays Unknown counts = tt
+heads_kept leaves old new before closed entries contents hold kept counts k d low = grind (arith, no_leaf)
 
 pub unit_added : (leaves : Leaves) (old new : Built) (before : ℕ) (closed : List (List Placed)) (units : List Placed) (unit : Placed)
     → AreFilled leaves old before closed units → IsUnitPut leaves old new unit → AreFilled leaves new before closed (units ++ (unit ∷ []))
@@ -256,9 +234,7 @@ unit_added leaves old new before closed units unit filled put =
 -- the units, once the last leaf is closed
 closed_more : (closed : List (List Placed)) (units : List Placed)
     → flat_map (λ leaf. leaf) (closed ++ (units ∷ [])) ++ [] ≡ flat_map (λ leaf. leaf) closed ++ units
-closed_more closed units =
-    append-nil (flat_map (λ leaf. leaf) (closed ++ (units ∷ [])))
-    ∙ (flat_map-append (λ leaf. leaf) closed (units ∷ []) ∙ ap (λ us. flat_map (λ leaf. leaf) closed ++ us) (append-nil units))
+closed_more closed units = grind (arith, append-nil, flat_map-append)
 
 -- the new leaf isn't of the rest
 pub rest_opened : (before a : ℕ) (numbers : List ℕ) → before ≤ a → ((p : ℕ) → is_of numbers p ≡ true → p < a)
@@ -359,46 +335,4 @@ leaf_opened leaves next old new before closed units filled some opened =
 pub leaf_begun : (leaves : Leaves) (built : Built) (before : ℕ) → 1 ≤ before → leaves.closed.items ≡ [] → leaves.last ≡ before
     → length built.pages ≡ before + 1 → HoldsEntriesOn leaves.leaf_type built leaves.last 0 0 [] → AreFilled leaves built before [] []
 leaf_begun leaves built before positive none last count holds =
-    let numbers : leaves.closed.items ++ (leaves.last ∷ []) ≡ before ∷ [] =
-    ap (λ ns. ns ++ (leaves.last ∷ [])) none ∙ ap (λ n. n ∷ []) last in
-    let empty : (p : ℕ) → rest_of before leaves built p ≡ between before before p =
-    λ p. same_test (rest_of before leaves built p) (between before before p)
-    (λ is.
-    let parts = rest_is before (length built.pages) (leaves.closed.items ++ (leaves.last ∷ [])) p is in
-    absurd (not_last leaves p (omega (arith, last, count, parts.0, parts.1)) parts.2))
-    (λ is. let within = between_is before before p is in absurd (omega (arith, within.0, within.1))) in
-    record {
-      hold = record {
-        closed_hold = subst (λ ns. LeavesFrom leaves.leaf_type built 0 ns [] leaves.last) (sym none) tt;
-        last_holds = subst (λ ns. HoldsEntriesOn leaves.leaf_type built leaves.last (last_of 0 ns) 0 []) (sym none) holds;
-        after = subst (λ ns. last_of 0 ns < leaves.last) (sym none) (omega (arith, positive, last));
-        there = omega (arith, last, count);
-      };
-      some = All-nil (λ leaf. 0 < length leaf);
-      low = positive;
-      new = λ p is.
-          let same : before ≡ p = only_member before p
-          (subst (λ ns. Contains ns p) numbers (of_list (leaves.closed.items ++ (leaves.last ∷ [])) p is)) in
-          omega (arith, same);
-      ascend = none_ascend leaves.leaf_type;
-      stands = λ g counted later.
-          record {
-            on = none_stand leaves.leaf_type g
-                (branch_is_known g (between before before) (rest_of before leaves built) [] [] empty (λ e at. at) (λ e at. at) (no_branch g before));
-            placed = All-nil (StandsPlaced leaves.leaf_type g);
-          };
-      sizes = All-nil (IsPlacedBySize built.size);
-      heads = none_named leaves.leaf_type;
-      formed = λ p is. let within = between_is before before p (sym (empty p) ∙ is) in absurd (omega (arith, within.0, within.1));
-      trees = All-nil (HasTreeOn built (rest_of before leaves built) (all_contents leaves.leaf_type [] []));
-    }
-  where
-    none_named : (type : LeafType) → All (CountsOneFrom before built) (all_contents type [] [])
-    none_named type = All-nil (CountsOneFrom before built)
-
-    none_ascend : (type : LeafType) → AscendIn before (length built.pages) (flat_map content_pages (all_contents type [] []))
-    none_ascend type = omega (arith, count)
-
-    none_stand : (type : LeafType) (g : File) → IsBranch g (rest_of before leaves built) []
-        → StandOn g (rest_of before leaves built) (all_contents type [] [])
-    none_stand type g branch = record { branch = branch; fit = All-nil (ContentFits g) }
+    grind (arith, same_test, rest_is, not_last, between_is, All-nil, only_member, of_list, branch_is_known, no_branch)

@@ -5,17 +5,15 @@ use Rattle.std.proofs.lemmas.Bool.{cases_lt}
 use Rattle.std.proofs.lemmas.List.{append_assoc}
 use Rattle.std.proofs.lemmas.List.Sums.{sum_by-append, sum_by-cons}
 use Rattle.bdb_format.specs.Page.{Content, Inline, Set, Chain, Tree, Unknown}
-use Rattle.bdb_format.specs.File.{File, page_at}
-use Rattle.bdb_format.specs.Reading.{abstract_page}
+use Rattle.bdb_format.specs.File.{File}
 use Rattle.bdb_format.specs.Rows.{page_code}
-use Rattle.bdb_law_grove.specs.Growing.{IsLater, IsSamePage}
+use Rattle.bdb_law_grove.specs.Growing.{IsLater}
 use Rattle.bdb_law_grove.specs.Part.{between}
 use Rattle.bdb_law_grove.proofs.ChainLemmas.{between_is, is_between}
 use Rattle.bdb_pack.specs.Built.{Built, bytes_of, file_so_far}
 use Rattle.bdb_mkleaves.specs.LeafEntries.{Entry, entry_cost, own_entry, room_of}
 use Rattle.bdb_mkleaves.specs.Leaves.{AreLeaves, AreSomeLeaves}
 use Rattle.bdb_mkleaves.specs.Puts.{CountsOneFrom, IsPut, ValueStands}
-use Rattle.bdb_mkleaves.specs.Inner.{CountsOne}
 use Rattle.std.proofs.lemmas.List.Elements.{All-append, All-cons, All-nil}
 use Rattle.bdb_pack.proofs.ImageLemmas.{page_so_far}
 use Rattle.bdb_mkleaves.specs.Runs.{IsRunPut, ValuesStand}
@@ -32,18 +30,7 @@ leaf_room leaves built closed entries hold = hold.last_holds.room
 pub later_before : (old new : Built) (small large : ℕ → Bool) (g : File) → new.order ≡ old.order → length old.pages ≤ length new.pages
     → ((p : ℕ) → small p ≡ true → large p ≡ true) → ((p : ℕ) → small p ≡ true → (p < length old.pages) × (bytes_of new p ≡ bytes_of old p))
     → IsLater large (file_so_far new) g → IsLater small (file_so_far old) g
-later_before old new small large g order more within same later =
-    record {
-      no_queue_before = later.no_queue_before;
-      no_queue = later.no_queue;
-      grows = let up = later.grows in omega (arith, up, more);
-      same = λ p at.
-          let here = same p at in
-          subst (λ page. IsSamePage page (page_at g p))
-          (page_so_far new p (omega (arith, here.0, more))
-          ∙ (ap (λ o. abstract_page o (bytes_of new p)) order ∙ (ap (abstract_page old.order) here.1 ∙ sym (page_so_far old p here.0))))
-          (later.same p (within p at));
-    }
+later_before old new small large g order more within same later = grind (arith, page_so_far)
 
 -- Values that stand one after the other.
 
@@ -64,11 +51,7 @@ values_follow g size first middle beyond (u ∷ us) vs (between, low, high, here
 pub one_kept : (low lower : ℕ) (old new : Built) (content : Content) → lower ≤ low → new.order ≡ old.order → length old.pages ≤ length new.pages
     → ((h : ℕ) → low ≤ h → h < length old.pages → bytes_of new h ≡ bytes_of old h) → CountsOneFrom low old content → CountsOneFrom lower new content
 one_kept low lower old new (Inline bytes) less order more same counts = tt
-one_kept low lower old new (Chain head total) less order more same (above, under, counts) = (
-  omega (arith, less, above),
-  omega (arith, under, more),
-  subst (λ o. CountsOne o (bytes_of new head)) (sym order) (subst (CountsOne old.order) (sym (same head above under)) counts),
-)
+one_kept low lower old new (Chain head total) less order more same (above, under, counts) = grind arith
 one_kept low lower old new (Set blocks) less order more same counts = tt
 one_kept low lower old new (Tree root) less order more same counts = tt
 one_kept low lower old new Unknown less order more same counts = tt

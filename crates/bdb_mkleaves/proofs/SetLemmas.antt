@@ -1,6 +1,6 @@
 -- Sets of the data of a key.
 use Rattle.std.proofs.Common.{◌≡◌, ℕ, ◌+◌, ◌<◌, ◌≤◌, Bool, true, false, if◌then◌else◌, List, [], ◌∷◌, ◌++◌, length, map}
-use Rattle.std.proofs.Common.{arith, refl, sym, ◌∙◌, ap, subst, inl, inr, length-append}
+use Rattle.std.proofs.Common.{arith, refl, sym, ◌∙◌, ap, subst, inr, length-append}
 use Rattle.std.specs.List.{flat_map, sum_by}
 use Rattle.std.proofs.lemmas.List.{append_assoc, map-append}
 use Rattle.std.proofs.lemmas.List.Elements.{Contains-append_right}
@@ -42,18 +42,7 @@ use Rattle.bdb_mkleaves.proofs.TreeCountLemmas.{finished_trees_are_counted}
 pub set_begun : (old new : Built) (type : LeafType) (leaves : Leaves) → leaves.leaf_type ≡ type → leaves.last ≡ length old.pages
     → KeepsOthers leaves.last old new → AreFilled leaves new (length old.pages) [] [] → length new.pages ≡ length old.pages + 1
     → IsSetFilled old new type [] leaves
-set_begun old new type leaves is last kept filled added =
-    record {
-      type_is = is;
-      kept = record { size = kept.size; order = kept.order; grows = kept.grows; same = λ p low. kept.same p low (λ e. omega (arith, e, low, last)) };
-      closed = [];
-      units = [];
-      filled = filled;
-      some = inl refl;
-      units_are = refl;
-      spread = refl;
-      count = omega (arith, added);
-    }
+set_begun old new type leaves is last kept filled added = grind arith
 
 -- one more is on the last leaf
 pub set_grown : (old now new : Built) (type : LeafType) (values : List (List ℕ)) (value : List ℕ) (leaves next : Leaves)

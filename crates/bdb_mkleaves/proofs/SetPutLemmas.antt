@@ -1,5 +1,5 @@
 -- A key whose data have a tree of their own.
-use Rattle.std.proofs.Common.{◌≡◌, ℕ, ◌+◌, ◌-◌, ◌<◌, ◌≤◌, Bool, true, false, cond, if◌then◌else◌, List, [], ◌∷◌, ◌++◌, length, arith, refl, sym, ◌∙◌}
+use Rattle.std.proofs.Common.{◌≡◌, ℕ, ◌+◌, ◌-◌, ◌<◌, ◌≤◌, Bool, true, false, if◌then◌else◌, List, [], ◌∷◌, ◌++◌, length, arith, refl, sym, ◌∙◌}
 use Rattle.std.proofs.Common.{ap, map, subst, inl, inr, length-append, true≢false}
 use Rattle.std.specs.Prelude.{◌^◌}
 use Rattle.std.specs.List.{All, Contains, flat_map}
@@ -27,12 +27,12 @@ use Rattle.bdb_mkleaves.specs.Layout.{IsTreeOn, TreeParts, leaf_heads, live_entr
 use Rattle.bdb_mkleaves.specs.LeafEntries.{CanTakeEntry, Entry, HoldsEntriesOn, entry_cost, own_entry, room_of}
 use Rattle.bdb_mkleaves.specs.Leaves.{AreLeaves, AreSomeLeaves, HasRoomNow, has_room, last_of}
 use Rattle.bdb_mkleaves.specs.Placed.{Placed, PlacedTree, StandsPlaced, ValueItem, tree_item, IsPlacedBySize, PlacedEntry, PlacedPairs, has_wrong_root}
-use Rattle.bdb_mkleaves.specs.Placed.{unit_of, values_in}
+use Rattle.bdb_mkleaves.specs.Placed.{unit_of}
 use Rattle.bdb_mkleaves.specs.Puts.{CountsOneFrom, IsGrown, IsPut}
 use Rattle.bdb_mkleaves.specs.Runs.{HasWholePairs, IsRunPut, ValuesStand}
 use Rattle.bdb_mkleaves.specs.Sets.{IsSetBuilt, IsTreePut, SetStands, IsKeyedPushed}
 use Rattle.bdb_mkleaves.specs.Spread.{own_pages, set_pages, set_type}
-use Rattle.bdb_mkleaves.specs.Units.{KeyedUnit, chain_pages, has_own_tree, set_cost, unit_cost, value_cost, key_of}
+use Rattle.bdb_mkleaves.specs.Units.{KeyedUnit, chain_pages, has_own_tree, unit_cost, value_cost}
 use Rattle.bdb_law_levels.specs.Roots.{is_of}
 use Rattle.bdb_law_levels.proofs.NodeLemmas.{all_right}
 use Rattle.bdb_mkleaves.proofs.RestLemmas.{is_rest, leaves_low}
@@ -279,10 +279,7 @@ tree_put leaves old one two new key values sorted root has put set grown count m
 -- it has room on an empty leaf, and takes what its key does and 16 bytes
 pub tree_fits : (size : ℕ) (key : List ℕ) (values : List (List ℕ)) → is_page_size size ≡ true → has_own_tree size key values ≡ true
     → (value_cost size key + 16 ≤ size - 26) × (unit_cost size (KeyedUnit key values) ≡ value_cost size key + 16)
-tree_fits size key values legal many =
-    let bounds = size_bounds size legal in
-    let few = cost_few size key legal in
-    (omega (arith, bounds.0, few), ap (λ b. cond b (value_cost size key + 16) (set_cost size key values)) many)
+tree_fits size key values legal many = grind (arith, size_bounds, cost_few)
 
 pub tree_made : (leaves next : Leaves) (old one : Built) (key : List ℕ) (size cost : ℕ) → cost ≡ value_cost size key → size ≡ old.size
     → HasRoomNow (has_room leaves old (cost + 16)) leaves next old one
@@ -351,9 +348,7 @@ no_root : (g : File) (sorted : Bool) (size : ℕ) (key : List ℕ) (values : Lis
     → unit_of placed ≡ KeyedUnit key values → IsPlacedBySize size placed → has_wrong_root g sorted placed ≡ false
 no_root g sorted size key values (PlacedEntry entry) few is sizes = refl
 no_root g sorted size key values (PlacedPairs first datum more) few is sizes = refl
-no_root g sorted size key values (PlacedTree first root data_of_it) few is sizes =
-    absurd (true≢false (sym sizes.1 ∙ (ap (λ k. has_own_tree size k data_of_it) (ap key_of is) ∙ (ap (has_own_tree size key) (ap values_in is)
-    ∙ few))))
+no_root g sorted size key values (PlacedTree first root data_of_it) few is sizes = grind arith
 
 pub pairs_keyed : (leaves next : Leaves) (old new : Built) (sorted : Bool) (key : List ℕ) (values : List (List ℕ))
     → has_own_tree old.size key values ≡ false → IsPushed leaves next old new (KeyedUnit key values)

@@ -26,9 +26,7 @@ put_on_new room first cost left page x xs full = rw (lt-leb (cost x) left full) 
 -- things that fit together are all put on the open page
 all_on_open : {A : Type 0} (room : ℕ) (first cost : A → ℕ) (left : ℕ) (page xs rest : List A) → sum_by cost xs ≤ left
     → spread_on room first cost left page (xs ++ rest) ≡ spread_on room first cost (left - sum_by cost xs) (page ++ xs) rest
-all_on_open {A} room first cost left page [] rest fits =
-    ap (λ n. spread_on room first cost n page rest) (let e : left ≡ left - 0 = omega arith in e)
-    ∙ ap (λ (p : List A). spread_on room first cost (left - 0) p rest) (sym (append-nil page))
+all_on_open {A} room first cost left page [] rest fits = grind (arith, append-nil)
 all_on_open {A} room first cost left page (x ∷ xs) rest fits =
     let sum : sum_by cost (x ∷ xs) ≡ cost x + sum_by cost xs = sum_by-cons cost x xs in
     put_on_open room first cost left page x (xs ++ rest) (omega (arith, sum, fits))
@@ -53,9 +51,7 @@ pub greedy_is_spread : {A : Type 0} (room : ℕ) (first cost : A → ℕ) (left 
 greedy_is_spread room first cost left page rest [] greedy = all_on_open room first cost left page rest [] greedy
 greedy_is_spread room first cost left page rest ([] ∷ groups) greedy = absurd greedy
 greedy_is_spread {A} room first cost left page rest ((x ∷ xs) ∷ groups) (fits, full, next) =
-    all_on_open room first cost left page rest (x ∷ (xs ++ flat_map (λ group. group) groups)) fits
-    ∙ (put_on_new room first cost (left - sum_by cost rest) (page ++ rest) x (xs ++ flat_map (λ group. group) groups) (omega (arith, fits, full))
-    ∙ ap (λ (pages : List (List A)). (page ++ rest) ∷ pages) (greedy_is_spread room first cost (room - first x) (x ∷ []) xs groups next))
+    grind (arith, all_on_open, put_on_new, greedy_is_spread room first cost (room - first x) (x ∷ []) xs groups next)
 
 -- things by what they take
 pub spread_map : {A B : Type 0} (f : A → B) (room : ℕ) (first cost : B → ℕ) (left : ℕ) (page xs : List A)

@@ -57,10 +57,7 @@ pub values_stand_on : (g : File) (size first beyond : ℕ) (held : List (Content
     → ValuesStand g size first beyond held
     → StandOn g (between first beyond) (map (λ (one : Content × List ℕ). one.0) held)
     × AscendIn first beyond (flat_map content_pages (map (λ (one : Content × List ℕ). one.0) held))
-values_stand_on g size first beyond [] counted low high stand = (
-  record { branch = subst (λ n. IsBranch g (between first n) []) (sym stand) (no_branch g first); fit = All-nil (ContentFits g) },
-  omega (arith, stand),
-)
+values_stand_on g size first beyond [] counted low high stand = grind (arith, no_branch, All-nil)
 values_stand_on g size first beyond ((content, value) ∷ held) counted low high (middle, up, more, here, rest) =
     one_more content value here (values_stand_on g size middle beyond held counted (omega (arith, low, up)) high rest)
   where

@@ -29,10 +29,7 @@ first_now false leaves next old one opened =
 stays_rest : (b : Bool) (leaves next : Leaves) (old one new : Built) (before : ℕ) → before ≤ length old.pages
     → ((p : ℕ) → is_of (numbers_of leaves) p ≡ true → p < length old.pages) → HasRoomNow b leaves next old one → length one.pages ≤ length new.pages
     → (p : ℕ) → rest_of before leaves old p ≡ true → rest_of before next new p ≡ true
-stays_rest true leaves next old one new before low under (same, kept) more p is =
-    let parts = rest_is before (length old.pages) (numbers_of leaves) p is in
-    is_rest before (length new.pages) (numbers_of next) p parts.0 (omega (arith, parts.1, more, ap (λ (b : Built). length b.pages) kept))
-    (ap (λ (l : Leaves). is_of (numbers_of l) p) same ∙ parts.2)
+stays_rest true leaves next old one new before low under (same, kept) more p is = grind (arith, rest_is, is_rest)
 stays_rest false leaves next old one new before low under opened more p is =
     let a : ℕ = length old.pages in
     let parts = rest_is before (a + 1) (numbers_of leaves ++ (a ∷ [])) p (rest_opened before a (numbers_of leaves) low under p ∙ is) in

@@ -29,15 +29,7 @@ header_as Numbered order bytes long is =
 
 -- the type byte is there
 is_long : (inner : InnerType) (bytes : List ℕ) → byte_at bytes 25 ≡ inner_number inner → 25 < length bytes
-is_long inner bytes is =
-    elim (cases_lt 25 (length bytes)) [
-      | inl there ↦ there
-      | inr past ↦ absurd (no_number inner (sym (get_or_past bytes 25 0 past) ∙ is))
-    ]
-  where
-    no_number : (inner : InnerType) → 0 ≡ inner_number inner → ⊥
-    no_number Keyed same = omega (arith, same)
-    no_number Numbered same = omega (arith, same)
+is_long inner bytes is = grind (arith, cases_lt, get_or_past)
 
 -- a page that stays has the same page before it
 same_previous : (old new : Page) → IsSamePage old new → (header_in new).previous ≡ (header_in old).previous

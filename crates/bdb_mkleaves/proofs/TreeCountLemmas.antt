@@ -89,28 +89,12 @@ spread_total : (type : LeafType) (size : ℕ) (closed : List (List Placed)) (uni
     → leaves_and_levels type size (map unit_of (flat_map (λ leaf. leaf) closed ++ units))
     ≡ length (closed ++ (units ∷ []))
     + pages_over (length (closed ++ (units ∷ []))) (size - 26) (first_cost (inner_of type)) (costs_of (inner_of type) size (closed ++ (units ∷ [])))
-spread_total type size closed units spread =
-    let groups : List (List Placed) = closed ++ (units ∷ []) in
-    ap (λ (leaves : List (List TreeUnit)). length leaves
-    + pages_over (length leaves) (size - 26) (first_cost (inner_of type))
-    (map (λ (leaf : List TreeUnit). inner_cost (inner_of type) size (leaf_key leaf)) leaves)) spread
-    ∙ ap (λ n. n + pages_over n (size - 26) (first_cost (inner_of type)) (costs_of (inner_of type) size groups)) (length-map groups (map unit_of))
+spread_total type size closed units spread = grind (arith, length-map)
 
 -- over one leaf stands no level
 one_total : (type : LeafType) (size : ℕ) (closed : List (List Placed)) (units : List Placed) → closed ≡ [] → AreSpreadOver size closed units
     → leaves_and_levels type size (map unit_of (flat_map (λ leaf. leaf) closed ++ units)) ≡ length closed + 1
-one_total type size closed units none spread =
-    let groups : List (List Placed) = closed ++ (units ∷ []) in
-    let one : length groups ≡ 1 = ap (λ (c : List (List Placed)). length (c ++ (units ∷ []))) none in
-    let few : pages_over (length groups) (size - 26) (first_cost (inner_of type)) (costs_of (inner_of type) size groups) ≡ 0 =
-    few_over (length groups) (size - 26) (first_cost (inner_of type)) (costs_of (inner_of type) size groups)
-    (omega (
-      arith,
-      one,
-      length-map (map (map unit_of) groups) (λ (leaf : List TreeUnit). inner_cost (inner_of type) size (leaf_key leaf)),
-      length-map groups (map unit_of),
-    )) in
-    omega (arith, spread_total type size closed units spread, few, length-append closed (units ∷ []))
+one_total type size closed units none spread = grind (arith, few_over, length-map, spread_total, length-append)
 
 -- over several stand those over the nodes
 several_total : (type : LeafType) (size : ℕ) (ps : List ℕ) (closed : List (List Placed)) (units : List Placed) (nodes : List Node)

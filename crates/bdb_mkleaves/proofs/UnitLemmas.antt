@@ -1,4 +1,5 @@
 -- Pairs that are whole units: runs, each of a pair with its own key and of pairs that share it.
+use Rattle.std.proofs.Common.{arith}
 use Rattle.std.proofs.Common.{◌≡◌, ℕ, ◌+◌, Bool, true, false, not, cond, List, [], ◌∷◌, ◌++◌, map, get_or, refl, sym, ◌∙◌, ap, inl, inr}
 use Rattle.std.specs.Prelude.{◌==◌, ◌&&◌}
 use Rattle.std.specs.List.{All, enumerate_from, filter, flat_map, list_any, take_while}
@@ -61,10 +62,7 @@ sharing_more pair pairs = take_while-cons (λ (other : StoredPair). other.shares
 taken : (more rest : List StoredPair) → All Shares more → BeginsOwn rest → sharing (more ++ rest) ≡ more
 taken [] [] all own = refl
 taken [] (pair ∷ rest) all own = sharing_more pair rest ∙ ap (λ b. cond b (pair ∷ sharing rest) []) own
-taken (pair ∷ more) rest all own =
-    sharing_more pair (more ++ rest)
-    ∙ (ap (λ b. cond b (pair ∷ sharing (more ++ rest)) []) (All-head Shares pair more all)
-    ∙ ap (λ pairs. pair ∷ pairs) (taken more rest (All-tail Shares pair more all) own))
+taken (pair ∷ more) rest all own = grind (arith, sharing_more, All-head, All-tail, taken more rest (All-tail Shares pair more all) own)
 
 abbrev own_groups : List StoredPair → List Group
 own_groups pairs = filter (λ (group : Group). not group.0.shares) (groups pairs)
@@ -165,9 +163,7 @@ in_order pair next (inr rises) = and_right (not next.shares) (not (less pair.key
 in_order_from : (pair : StoredPair) (pairs : List StoredPair) (p : ℕ) → FollowFrom pair pairs
     → list_any (λ (two : StoredPair × StoredPair). two.1.page == p && is_out_of_order two) (neighbours_from pair pairs) ≡ false
 in_order_from pair [] p follow = refl
-in_order_from pair (next ∷ pairs) p follow =
-    let here : (next.page == p && is_out_of_order (pair, next)) ≡ false = and_right _ _ (in_order pair next follow.0) in
-    or_from _ _ here (in_order_from next pairs p follow.1)
+in_order_from pair (next ∷ pairs) p follow = grind (arith, and_right, in_order, or_from, in_order_from next pairs p follow.1)
 
 -- pairs that follow each other are in the order of their keys
 pub all_in_order : (pairs : List StoredPair) (p : ℕ) → Follow pairs

@@ -1,18 +1,16 @@
 -- What is promised of a queue that was built.
 use Rattle.std.proofs.Common.{◌≡◌, ℕ, ◌+◌, ◌-◌, ◌^◌, ◌<◌, ◌≤◌, Bool, false, cond, List, [], ◌∷◌, length, Option, Some, None}
 use Rattle.std.proofs.Common.{arith, refl, sym, ◌∙◌, ap, subst}
-use Rattle.std.specs.Prelude.{◌==◌, ◌||◌, nat_lt, not}
+use Rattle.std.specs.Prelude.{◌==◌, ◌||◌}
 use Rattle.std.specs.List.{All}
 use Rattle.std.proofs.Math.Nat.{div-le_self}
 use Rattle.std.proofs.lemmas.Bool.{eq-eqb, le-ltb, ne_eqb}
 use Rattle.bdb_format.specs.declared.metadata.QueueMeta.{QueueMeta}
 use Rattle.bdb_format.specs.declared.settings.Settings.{Settings}
-use Rattle.bdb_format.specs.Numbers.{four_at}
-use Rattle.bdb_format.specs.Reading.{queue_fields}
-use Rattle.bdb_format.specs.Rows.{queue_code, queue_rows, records_per_page}
+use Rattle.bdb_format.specs.Rows.{queue_code, queue_rows}
 use Rattle.bdb_format.specs.Table.{first_row}
 use Rattle.bdb_text_format.specs.declared.pairs.Pair.{Pair}
-use Rattle.bdb_text_format.specs.Pairs.{AscendFrom, number_of}
+use Rattle.bdb_text_format.specs.Pairs.{AscendFrom}
 use Rattle.bdb_pack.specs.Built.{Built}
 use Rattle.bdb_mkqueue.specs.Building.{HasRoom, IsQueueBuilt, IsQueueOn, KeepsFirst, SaysQueue}
 use Rattle.bdb_mkqueue.specs.Layout.{queue_meta, queue_size, slots_of}
@@ -34,16 +32,11 @@ next_few (x ∷ xs) each =
 -- so there are few pages
 size_few : (k : ℕ) (list : List Pair) → next_number 1 list < 2 ^ 32 → AscendFrom 1 list → 1 + queue_size k list ≤ 2 ^ 32
 size_few k [] few is = omega arith
-size_few k (x ∷ xs) few is =
-    let n : ℕ = next_number 1 (x ∷ xs) - 1 in
-    let after : number_of x.key + 1 ≤ next_number (number_of x.key + 1) xs = next_low (number_of x.key + 1) xs is.1 in
-    omega (arith, div-le_self (n - 1) k, few, after, is.0)
+size_few k (x ∷ xs) few is = grind (arith, next_low, div-le_self)
 
 first_low : (list : List Pair) → AscendFrom 1 list → (1 ≤ first_number list) × (first_number list ≤ next_number 1 list)
 first_low [] is = (omega arith, omega arith)
-first_low (x ∷ xs) is =
-    let after : number_of x.key + 1 ≤ next_number (number_of x.key + 1) xs = next_low (number_of x.key + 1) xs is.1 in
-    (is.0, omega (arith, after))
+first_low (x ∷ xs) is = grind (arith, next_low)
 
 -- records have the length that the metadata says
 pub lengths_for : (settings : Settings) (list : List Pair) (meta : QueueMeta) → IsQueueList settings list → meta ≡ queue_meta settings list
@@ -69,26 +62,7 @@ no_rows extent none some first current wrapped one two three four five six = rw 
 meta_formed : (settings : Settings) (list : List Pair) (built : Built) (meta : QueueMeta) (page : List ℕ) → IsQueueList settings list
     → meta ≡ queue_meta settings list → built.size ≡ settings.page_size → HasRoom built.size meta → SaysQueue built meta page
     → first_row (queue_rows built.order page) ≡ None
-meta_formed settings list built meta page for is size room says =
-    let first = first_low list for.ascend in
-    let read : QueueMeta = queue_fields built.order page in
-    let count : ℕ = records_per_page (length page) read.re_len in
-    let fields : (queue_fields built.order page) ≡ queue_meta settings list = says.fields ∙ is in
-    let per_page : read.per_page ≡ count =
-    ap (λ (m : QueueMeta). m.per_page) fields
-    ∙ (ap (λ s. records_per_page s settings.re_len) (sym (says.size ∙ size))
-    ∙ ap (records_per_page (length page)) (sym (ap (λ (m : QueueMeta). m.re_len) fields))) in
-    let some : 1 ≤ read.per_page = omega (arith, ap (λ (m : QueueMeta). m.per_page) says.fields, room.some) in
-    let first_is : read.first ≡ first_number list = ap (λ (m : QueueMeta). m.first) fields in
-    let next_is : read.current ≡ next_number 1 list = ap (λ (m : QueueMeta). m.current) fields in
-    no_rows (not (four_at built.order page 92 == 0)) (count == 0) (not (read.per_page == count)) (read.first == 0) (read.current == 0)
-    (nat_lt read.current read.first)
-    (ap not (eq-eqb (four_at built.order page 92) 0 says.extent))
-    (ne_eqb count 0 (λ none. omega (arith, none, per_page, some)))
-    (ap not (eq-eqb read.per_page count per_page))
-    (ne_eqb read.first 0 (λ none. omega (arith, none, first_is, first.0)))
-    (ne_eqb read.current 0 (λ none. omega (arith, none, next_is, first.0, first.1)))
-    (le-ltb read.current read.first (omega (arith, first_is, next_is, first.1)))
+meta_formed settings list built meta page for is size room says = grind (arith, first_low, no_rows, eq-eqb, ne_eqb, le-ltb)
 
 pub queue_built : (settings : Settings) (list : List Pair) (old new : Built) (meta : QueueMeta) → IsQueueList settings list
     → old.size ≡ settings.page_size → meta ≡ queue_meta settings list → HasRoom new.size meta → IsQueueOn meta list new → KeepsFirst old new

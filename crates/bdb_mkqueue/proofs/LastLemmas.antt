@@ -16,9 +16,7 @@ next_of x (y ∷ ys) = next_of y ys
 
 pub next_last : (list : List Pair) → 0 < length list → next_number 1 list ≡ number_of (pair_at list (length list - 1)).key + 1
 next_last [] some = absurd (omega arith)
-next_last (x ∷ xs) some =
-    let last : length xs ≡ length (x ∷ xs) - 1 = omega arith in
-    next_of x xs ∙ ap (λ i. number_of (pair_at (x ∷ xs) i).key + 1) last
+next_last (x ∷ xs) some = grind (arith, next_of, pair_at)
 
 -- the pair at a place of pairs that are lent
 pub pair_here : (pairs : List TextPair) (place : ℕ) (pair : TextPair) → slice_get pairs place ≡ Some pair → unlined pair ≡ pair_at (unlined_pairs pairs) place
@@ -39,13 +37,7 @@ pub record IsLastOf (list : List Pair) (key : Key) : Type 0 where
   pub is : key ≡ (pair_at list (length list - 1)).key
 
 pub last_key : (pairs : List TextPair) (pair : TextPair) → slice_get pairs (length pairs - 1) ≡ Some pair → IsLastOf (unlined_pairs pairs) pair.key
-last_key pairs pair at =
-    let low : length pairs - 1 < length pairs = slice_get_within pairs (length pairs - 1) pair at in
-    let place : length pairs - 1 ≡ length (unlined_pairs pairs) - 1 = omega (arith, length-map pairs unlined) in
-    record {
-      some = omega (arith, low, length-map pairs unlined);
-      is = ap (λ (pair : Pair). pair.key) (pair_here pairs (length pairs - 1) pair at) ∙ ap (λ i. (pair_at (unlined_pairs pairs) i).key) place;
-    }
+last_key pairs pair at = grind (arith, slice_get_within, length-map, pair_here, pair_at)
 
 -- the number of the first record, and where there is none
 pub first_is : (pairs : List TextPair) (pair : TextPair) → slice_get pairs 0 ≡ Some pair → number_of pair.key ≡ first_number (unlined_pairs pairs)

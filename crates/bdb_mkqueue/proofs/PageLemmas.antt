@@ -1,8 +1,8 @@
 -- The bytes of a page of records.
-use Rattle.std.proofs.Common.{◌≡◌, ℕ, zero, suc, ◌+◌, ◌-◌, ◌*◌, ◌^◌, ◌<◌, ◌≤◌, Bool, true, false, cond, List, [], ◌∷◌, ◌++◌, length, take, drop}
+use Rattle.std.proofs.Common.{◌≡◌, ℕ, zero, suc, ◌+◌, ◌-◌, ◌*◌, ◌^◌, ◌<◌, ◌≤◌, Bool, true, false, cond, List, [], ◌∷◌, ◌++◌, length, drop}
 use Rattle.std.proofs.Common.{set, get_or}
 use Rattle.std.proofs.Common.{Option, Some, None, arith, append_assoc, refl, sym, ◌∙◌, ap, length-append}
-use Rattle.std.specs.Prelude.{◌==◌, is_some, not}
+use Rattle.std.specs.Prelude.{◌==◌, is_some}
 use Rattle.std.specs.List.{flat_map, list_any}
 use Rattle.std.proofs.Math.Seq.{drop-append-add, drop-append_seam, take-append-add}
 use Rattle.std.proofs.lemmas.Bool.{eq-eqb}
@@ -12,7 +12,7 @@ use Rattle.bdb_format.specs.declared.kinds.Order.{Order}
 use Rattle.bdb_format.specs.declared.pages.Header.{Header}
 use Rattle.bdb_format.specs.Numbers.{byte_at, four_at, overwritten, pad4}
 use Rattle.bdb_format.specs.Page.{Queue, Zero}
-use Rattle.bdb_format.specs.Reading.{abstract_page, header_of, is_zero, page_as, page_type}
+use Rattle.bdb_format.specs.Reading.{abstract_page, header_of, is_zero, page_type}
 use Rattle.bdb_format.specs.Rows.{identity_rows, is_queue_type, queue_code}
 use Rattle.bdb_format.specs.Spelling.{header_bytes, zeros}
 use Rattle.bdb_format.specs.Table.{first_row}
@@ -37,34 +37,23 @@ AllFit re_len (slot ∷ slots) = FitsSlot re_len slot × AllFit re_len slots
 
 length-slot : (re_len : ℕ) (slot : Option (List ℕ)) → FitsSlot re_len slot → length (slot_bytes re_len slot) ≡ pad4 (re_len + 1)
 length-slot re_len None fits = length-replicate {A = ℕ} (pad4 (re_len + 1)) 0
-length-slot re_len (Some value) fits =
-    let rest : List ℕ = zeros (pad4 (re_len + 1) - 1 - length value) in
-    omega (arith, fits, length-append value rest, length-replicate {A = ℕ} (pad4 (re_len + 1) - 1 - length value) 0)
+length-slot re_len (Some value) fits = grind (arith, length-append, length-replicate)
 
 length-slots : (re_len : ℕ) (slots : List (Option (List ℕ))) → AllFit re_len slots
     → length (flat_map (slot_bytes re_len) slots) ≡ length slots * pad4 (re_len + 1)
 length-slots re_len [] fits = let none : 0 ≡ 0 * pad4 (re_len + 1) = grind arith in none
-length-slots re_len (slot ∷ slots) fits =
-    length-append (slot_bytes re_len slot) (flat_map (slot_bytes re_len) slots)
-    ∙ omega (arith, length-slot re_len slot fits.0, length-slots re_len slots fits.1, suc-times (length slots) (pad4 (re_len + 1)))
+length-slots re_len (slot ∷ slots) fits = grind (arith, length-append, length-slot, suc-times, length-slots re_len slots fits.1)
 
 -- empty slots are zeros
 slots_zero : (re_len : ℕ) (slots : List (Option (List ℕ))) → list_any is_some slots ≡ false
     → flat_map (slot_bytes re_len) slots ≡ zeros (length slots * pad4 (re_len + 1))
 slots_zero re_len [] none = let empty : 0 ≡ 0 * pad4 (re_len + 1) = grind arith in ap zeros empty
-slots_zero re_len (None ∷ slots) none =
-    let z : ℕ = pad4 (re_len + 1) in
-    ap (λ bs. zeros z ++ bs) (slots_zero re_len slots none)
-    ∙ (replicate-append-replicate z (length slots * z) 0 ∙ ap zeros (sym (suc-times (length slots) z)))
+slots_zero re_len (None ∷ slots) none = grind (arith, replicate-append-replicate, suc-times, slots_zero re_len slots none)
 slots_zero re_len (Some value ∷ slots) none = absurd cc
 
 -- what is written over an empty slot
 over_append : (a b : List ℕ) (n : ℕ) (piece : List ℕ) → overwritten (a ++ b) (length a + n) piece ≡ a ++ overwritten b n piece
-over_append a b n piece =
-    let at : length a + n + length piece ≡ length a + (n + length piece) = omega arith in
-    ap (λ front. front ++ (piece ++ drop (length a + n + length piece) (a ++ b))) (take-append-add a b n)
-    ∙ (ap (λ rest. (a ++ take n b) ++ (piece ++ rest)) (ap (λ k. drop k (a ++ b)) at ∙ drop-append-add a b (n + length piece))
-    ∙ append_assoc a (take n b) (piece ++ drop (n + length piece) b))
+over_append a b n piece = grind (arith, take-append-add, drop-append-add, append_assoc)
 
 over_first : (z : ℕ) (value more : List ℕ) → length value + 1 ≤ z
     → overwritten (zeros z ++ more) 0 (3 ∷ value) ≡ (3 ∷ (value ++ zeros (z - 1 - length value))) ++ more
@@ -87,15 +76,7 @@ write_slot : (re_len : ℕ) (slots : List (Option (List ℕ))) (tail : List ℕ)
     → overwritten (flat_map (slot_bytes re_len) slots ++ tail) (s * pad4 (re_len + 1)) (3 ∷ value)
     ≡ flat_map (slot_bytes re_len) (set slots s (Some value)) ++ tail
 write_slot re_len [] tail s value fits low empty long = absurd (omega arith)
-write_slot re_len (slot ∷ slots) tail zero value fits low empty long =
-    let z : ℕ = pad4 (re_len + 1) in
-    let more : List ℕ = flat_map (slot_bytes re_len) slots ++ tail in
-    let at : 0 * z ≡ 0 = grind arith in
-    ap (λ k. overwritten ((slot_bytes re_len slot ++ flat_map (slot_bytes re_len) slots) ++ tail) k (3 ∷ value)) at
-    ∙ (ap (λ bs. overwritten bs 0 (3 ∷ value)) (append_assoc (slot_bytes re_len slot) (flat_map (slot_bytes re_len) slots) tail)
-    ∙ (ap (λ o. overwritten (slot_bytes re_len o ++ more) 0 (3 ∷ value)) empty
-    ∙ (over_first z value more (omega (arith, long))
-    ∙ sym (append_assoc (slot_bytes re_len (Some value)) (flat_map (slot_bytes re_len) slots) tail))))
+write_slot re_len (slot ∷ slots) tail zero value fits low empty long = grind (arith, append_assoc, over_first, Some)
 write_slot re_len (slot ∷ slots) tail (suc s) value fits low empty long =
     let z : ℕ = pad4 (re_len + 1) in
     let first : List ℕ = slot_bytes re_len slot in
@@ -145,9 +126,7 @@ abbrev pub tail_of : ℕ → ℕ → List (Option (List ℕ)) → List ℕ
 tail_of size re_len slots = zeros (size - 28 - length slots * pad4 (re_len + 1))
 
 length-front : (order : Order) (p : ℕ) → length (front order p) ≡ 28
-length-front order p =
-    let header : List ℕ = header_bytes order (records_header p) in
-    omega (arith, length-append header (zeros 2), length-header order (records_header p), length-replicate {A = ℕ} 2 0)
+length-front order p = grind (arith, length-append, length-header, length-replicate)
 
 records_is : (order : Order) (size re_len p : ℕ) (slots : List (Option (List ℕ)))
     → records_page order size re_len p slots ≡ front order p ++ (flat_map (slot_bytes re_len) slots ++ tail_of size re_len slots)
@@ -163,20 +142,7 @@ records_behind order size re_len p slots =
 
 pub length-records : (order : Order) (size re_len p : ℕ) (slots : List (Option (List ℕ))) → OnPage size re_len slots
     → length (records_page order size re_len p slots) ≡ size
-length-records order size re_len p slots on =
-    let slots_long = length-slots re_len slots on.fit in
-    let n : ℕ = size - 28 - length slots * pad4 (re_len + 1) in
-    ap length (records_is order size re_len p slots)
-    ∙ omega (
-      arith,
-      length-append (front order p) (flat_map (slot_bytes re_len) slots ++ tail_of size re_len slots),
-      length-append (flat_map (slot_bytes re_len) slots) (tail_of size re_len slots),
-      length-front order p,
-      slots_long,
-      length-replicate {A = ℕ} n 0,
-      on.room,
-      on.long,
-    )
+length-records order size re_len p slots on = grind (arith, length-slots, records_is, length-append, length-front, length-replicate)
 
 -- a record is written into its slot
 pub record_written : (order : Order) (size re_len p : ℕ) (slots : List (Option (List ℕ))) (s : ℕ) (value : List ℕ) → OnPage size re_len slots
@@ -222,9 +188,7 @@ page_begun order size re_len p slots on none =
 
 pub records_read : (order : Order) (size re_len p : ℕ) (slots : List (Option (List ℕ))) → p < 2 ^ 32
     → header_of order (records_page order size re_len p slots) ≡ records_header p
-records_read order size re_len p slots small =
-    header_read order (records_header p) (zeros 2 ++ (flat_map (slot_bytes re_len) slots ++ tail_of size re_len slots))
-    (record { number = small; previous = omega arith; next = omega arith; entries = omega arith; high = omega arith })
+records_read order size re_len p slots small = grind (arith, header_read)
 
 records_type : (order : Order) (size re_len p : ℕ) (slots : List (Option (List ℕ))) → p < 2 ^ 32
     → byte_at (records_page order size re_len p slots) 25 ≡ 11
@@ -236,10 +200,7 @@ records_number order size re_len p slots small = ap (λ (h : Header). h.number) 
 
 records_some : (order : Order) (size re_len p : ℕ) (slots : List (Option (List ℕ))) → OnPage size re_len slots → p < 2 ^ 32
     → is_zero (records_page order size re_len p slots) ≡ false
-records_some order size re_len p slots on small =
-    list_all_at (λ byte. byte == 0) (records_page order size re_len p slots) 25 0
-    (omega (arith, length-records order size re_len p slots on, on.long))
-    (ap (λ byte. byte == 0) (records_type order size re_len p slots small))
+records_some order size re_len p slots on small = grind (arith, list_all_at, length-records, records_type)
 
 zero_by : (empty : Bool) (identity : Option ℕ) → empty ≡ true → code_by empty identity None ≡ None
 zero_by true identity is = refl
@@ -252,13 +213,7 @@ zeros_formed order size p = zero_by (is_zero (zeros size)) (first_row (identity_
 records_formed : (order : Order) (size re_len p : ℕ) (slots : List (Option (List ℕ))) → p < 2 ^ 32
     → queue_code order p (records_page order size re_len p slots) ≡ None
 unfolding queue_code
-records_formed order size re_len p slots small =
-    let page : List ℕ = records_page order size re_len p slots in
-    let own : not (four_at order page 8 == p) ≡ false =
-    ap not (eq-eqb (four_at order page 8) p (records_number order size re_len p slots small)) in
-    let type : not (byte_at page 25 == 11) ≡ false = ap (λ b. not (b == 11)) (records_type order size re_len p slots small) in
-    none_by (is_zero page) (first_row (identity_rows order page p is_queue_type)) None
-    (ap (λ b. cond b (Some 1) (cond (not (byte_at page 25 == 11)) (Some 2) None)) own ∙ ap (λ b. cond b (Some 2) None) type) refl
+records_formed order size re_len p slots small = grind (arith, eq-eqb, records_number, records_type, none_by, None, Some)
 
 code_if : (b : Bool) (order : Order) (p : ℕ) (one two : List ℕ) → queue_code order p one ≡ None → queue_code order p two ≡ None
     → queue_code order p (cond b one two) ≡ None
@@ -268,9 +223,7 @@ code_if false order p one two first second = second
 -- no page of a queue has a row of form
 pub page_formed : (order : Order) (size re_len p : ℕ) (slots : List (Option (List ℕ))) → p < 2 ^ 32
     → queue_code order p (queue_page order size re_len p slots) ≡ None
-page_formed order size re_len p slots small =
-    code_if (list_any is_some slots) order p (records_page order size re_len p slots) (zeros size)
-    (records_formed order size re_len p slots small) (zeros_formed order size p)
+page_formed order size re_len p slots small = grind (arith, code_if, records_formed, zeros_formed)
 
 -- what a page stands for
 pub zeros_stand : (order : Order) (size : ℕ) → abstract_page order (zeros size) ≡ Zero
@@ -278,9 +231,4 @@ zeros_stand order size = zero_page order (zeros size) (zeros_are size)
 
 pub records_stand : (order : Order) (size re_len p : ℕ) (slots : List (Option (List ℕ))) → OnPage size re_len slots → p < 2 ^ 32
     → abstract_page order (records_page order size re_len p slots) ≡ Queue p (flat_map (slot_bytes re_len) slots ++ tail_of size re_len slots)
-records_stand order size re_len p slots on small =
-    let page : List ℕ = records_page order size re_len p slots in
-    typed_page order page (records_some order size re_len p slots on small)
-    ∙ (ap (λ b. page_as order page (page_type b)) (records_type order size re_len p slots small)
-    ∙ (ap (λ n. Queue n (drop 28 page)) (records_number order size re_len p slots small)
-    ∙ ap (Queue p) (records_behind order size re_len p slots)))
+records_stand order size re_len p slots on small = grind (arith, typed_page, records_some, records_type, records_number, records_behind)

@@ -37,9 +37,7 @@ none_below least (x ∷ xs) r is low =
 
 pub none_past : (least : ℕ) (xs : List Pair) (r : ℕ) → AscendFrom least xs → next_number least xs ≤ r → record_of xs r ≡ None
 none_past least [] r is past = refl
-none_past least (x ∷ xs) r is past =
-    let after : number_of x.key + 1 ≤ next_number (number_of x.key + 1) xs = next_low (number_of x.key + 1) xs is.1 in
-    record_other x xs r (λ same. omega (arith, same, past, after)) ∙ none_past (number_of x.key + 1) xs r is.1 past
+none_past least (x ∷ xs) r is past = grind (arith, next_low, record_other, none_past (number_of x.key + 1) xs r is.1 past)
 
 -- one more record
 pub record_more : (xs : List Pair) (y : Pair) (r : ℕ) → (number_of y.key ≡ r → ⊥) → record_of (xs ++ (y ∷ [])) r ≡ record_of xs r
@@ -65,6 +63,4 @@ some_of false value o some = some
 
 pub last_there : (x : Pair) (xs : List Pair) → is_some (record_of (x ∷ xs) (next_number (number_of x.key + 1) xs - 1)) ≡ true
 last_there x [] = ap is_some (record_first x [] (number_of x.key + 1 - 1) (omega arith))
-last_there x (y ∷ ys) =
-    some_of (number_of x.key == next_number (number_of y.key + 1) ys - 1) x.value
-    (record_of (y ∷ ys) (next_number (number_of y.key + 1) ys - 1)) (last_there y ys)
+last_there x (y ∷ ys) = grind (arith, some_of, last_there y ys)

@@ -20,11 +20,7 @@ use Rattle.bdb_mkqueue.proofs.RecordLemmas.{last_there, next-append, next_low, n
 pub map_range_set : {X : Type 0} (f g : ℕ → X) (a n s : ℕ) (x : X) → s < n → g (a + s) ≡ x
     → ((r : ℕ) → a ≤ r → r < a + n → (r ≡ a + s → ⊥) → g r ≡ f r) → map g (range_with_len a n) ≡ set (map f (range_with_len a n)) s x
 map_range_set f g a zero s x low here others = absurd (omega arith)
-map_range_set f g a (suc n) zero x low here others =
-    let rest : map g (range_with_len (a + 1) n) ≡ map f (range_with_len (a + 1) n) =
-    map_same g f (a + 1) n (λ r from to. others r (omega arith) (omega arith) (λ same. omega arith)) in
-    let at : a + 0 ≡ a = omega arith in
-    ap (λ y. y ∷ map g (range_with_len (a + 1) n)) (ap g (sym at) ∙ here) ∙ ap (λ xs. x ∷ xs) rest
+map_range_set f g a (suc n) zero x low here others = grind (arith, map_same, here)
 map_range_set f g a (suc n) (suc s) x low here others =
     let at : a + 1 + s ≡ a + suc s = omega arith in
     let rest : map g (range_with_len (a + 1) n) ≡ set (map f (range_with_len (a + 1) n)) s x =
@@ -36,16 +32,11 @@ map_range_set f g a (suc n) (suc s) x low here others =
 
 -- the record of a slot stands on its page
 here : (k q r : ℕ) → 1 ≤ q → (q - 1) * k + 1 ≤ r → r < (q - 1) * k + 1 + k → page_of k r ≡ q
-here k q r some low high =
-    let s : ℕ = r - ((q - 1) * k + 1) in
-    let same : (q - 1) * k + 1 + s ≡ r = omega arith in
-    ap (page_of k) (sym same) ∙ page_here k q s some (omega (arith, high, same))
+here k q r some low high = grind (arith, page_here)
 
 pub size-append : (k : ℕ) (xs : List Pair) (y : Pair) → queue_size k (xs ++ (y ∷ [])) ≡ page_of k (number_of y.key)
 size-append k [] y = let same : number_of y.key + 1 - 1 ≡ number_of y.key = omega arith in ap (page_of k) same
-size-append k (x ∷ xs) y =
-    let same : next_number (number_of x.key + 1) (xs ++ (y ∷ [])) - 1 ≡ number_of y.key = omega (arith, next-append (number_of x.key + 1) xs y) in
-    ap (page_of k) same
+size-append k (x ∷ xs) y = grind (arith, next-append)
 
 pub size_low : (k : ℕ) (xs : List Pair) (n : ℕ) → 1 ≤ k → next_number 1 xs ≤ n → queue_size k xs ≤ page_of k n
 size_low k [] n some past = omega arith
@@ -89,16 +80,9 @@ slots_empty k xs q some is one past =
 
 pub slots_others : (k : ℕ) (xs : List Pair) (y : Pair) (q : ℕ) → 1 ≤ q → (page_of k (number_of y.key) ≡ q → ⊥)
     → slots_of (xs ++ (y ∷ [])) k q ≡ slots_of xs k q
-slots_others k xs y q one differs =
-    map_same (record_of (xs ++ (y ∷ []))) (record_of xs) ((q - 1) * k + 1) k (λ r low high.
-    record_more xs y r (λ same. differs (ap (page_of k) same ∙ here k q r one low high)))
+slots_others k xs y q one differs = grind (arith, map_same, record_more, here)
 
 pub slots_own : (k : ℕ) (xs : List Pair) (y : Pair) → 1 ≤ k → 1 ≤ number_of y.key → record_of xs (number_of y.key) ≡ None
     → slots_of (xs ++ (y ∷ [])) k (page_of k (number_of y.key))
     ≡ set (slots_of xs k (page_of k (number_of y.key))) (slot_of k (number_of y.key)) (Some y.value)
-slots_own k xs y some one none =
-    let n : ℕ = number_of y.key in
-    let at : (page_of k n - 1) * k + 1 + slot_of k n ≡ n = place_of k n one in
-    map_range_set (record_of xs) (record_of (xs ++ (y ∷ []))) ((page_of k n - 1) * k + 1) k (slot_of k n) (Some y.value) (slot_low k n some)
-    (ap (record_of (xs ++ (y ∷ []))) at ∙ record_last xs y none)
-    (λ r low high differs. record_more xs y r (λ same. differs (omega (arith, same, at))))
+slots_own k xs y some one none = grind (arith, place_of, map_range_set, Some, slot_low, record_last, record_more)

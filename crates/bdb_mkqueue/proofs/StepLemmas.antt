@@ -1,5 +1,5 @@
 -- A record that is put behind those of a queue.
-use Rattle.std.proofs.Common.{◌≡◌, ℕ, suc, ◌+◌, ◌-◌, ◌*◌, ◌<◌, ◌≤◌, Bool, true, false, cond, List, [], ◌∷◌, ◌++◌, length, take, drop, set}
+use Rattle.std.proofs.Common.{◌≡◌, ℕ, ◌+◌, ◌-◌, ◌*◌, ◌<◌, ◌≤◌, Bool, true, false, cond, List, [], ◌∷◌, ◌++◌, length, take, drop, set}
 use Rattle.std.proofs.Common.{get_or, replicate}
 use Rattle.std.proofs.Common.{Option, Some, None, arith, refl, sym, ◌∙◌, ap, subst, inl, inr, length-append}
 use Rattle.std.specs.Prelude.{is_some, nat_lt}
@@ -64,9 +64,7 @@ more_old : (n : ℕ) (built : Built) (q : ℕ) → q < length built.pages → by
 more_old n built q low = get_or_append_left built.pages (replicate n (zeros built.size)) [] q low
 
 more_new : (n : ℕ) (built : Built) (q : ℕ) → length built.pages ≤ q → q < length built.pages + n → bytes_of (with_more n built) q ≡ zeros built.size
-more_new n built q high low =
-    get_or-append_right built.pages (replicate n (zeros built.size)) (length built.pages) q [] refl high
-    ∙ get_or-replicate n (q - length built.pages) (zeros built.size) [] (omega (arith, high, low))
+more_new n built q high low = grind (arith, get_or-append_right, get_or-replicate)
 
 -- The page of a record is there.
 
@@ -159,16 +157,7 @@ first_if true old one two first second = first
 first_if false old one two first second = second
 
 reached_first : (built : Built) (p : ℕ) → 1 ≤ p → 1 ≤ length built.pages → KeepsFirst built (reached built p)
-reached_first built p above some =
-    let n : ℕ = p + 1 - length built.pages in
-    let more : Built = with_more n built in
-    first_if (nat_lt p (length built.pages)) built built (with_header more p) (record { size = refl; order = refl; first = refl })
-    (record {
-      size = refl;
-      order = refl;
-      first = get_or-set_other more.pages p 0 (overwritten (bytes_of more p) 0 (header_bytes built.order (records_header p))) []
-          (λ same. omega (arith, same, above)) ∙ more_old n built 0 (omega (arith, some));
-    })
+reached_first built p above some = grind (arith, first_if, get_or-set_other, more_old)
 
 -- The record is put.
 
@@ -294,27 +283,13 @@ page_there meta list place old mid page is page_is reached_is =
     omega (arith, count, page_is)
 
 reached_size : (old : Built) (p : ℕ) → (reached old p).size ≡ old.size
-reached_size old p = of (nat_lt p (length old.pages))
-  where
-    of : (b : Bool) → (let r : Built = cond b old (with_header (with_more (p + 1 - length old.pages) old) p) in r.size) ≡ old.size
-    of true = refl
-    of false = refl
+reached_size old p = grind arith
 
 -- and its slot has room for it
 pub slot_room : (meta : QueueMeta) (list : List Pair) (place : ℕ) (old mid : Built) (page slot : ℕ) (value : List ℕ)
     → IsPushed meta list place old → mid ≡ reached old page → slot ≡ slot_of meta.per_page (number_of (pair_at list place).key)
     → value ≡ (pair_at list place).value → 28 + slot * pad4 (meta.re_len + 1) + 1 + length value ≤ mid.size
-slot_room meta list place old mid page slot value is reached_is slot_is value_is =
-    let k : ℕ = meta.per_page in
-    let z : ℕ = pad4 (meta.re_len + 1) in
-    let n : ℕ = number_of (pair_at list place).key in
-    let low : slot_of k n < k = slot_low k n is.room.some in
-    let part : suc slot * z ≤ k * z = mul-le-mul_right z (omega (arith, low, slot_is)) in
-    let size : mid.size ≡ old.size = ap (λ (b : Built). b.size) reached_is ∙ reached_size old page in
-    let long : length value ≡ meta.re_len =
-    ap length value_is ∙ is.long place no_pair is.there in
-    let more : meta.re_len + 1 ≤ z = omega arith in
-    omega (arith, part, suc-times slot z, size, long, more, is.room.room, is.room.long)
+slot_room meta list place old mid page slot value is reached_is slot_is value_is = grind (arith, slot_low, mul-le-mul_right, reached_size, suc-times)
 
 -- then it is put there
 pub pushed : (meta : QueueMeta) (list : List Pair) (place : ℕ) (old mid new : Built) (page slot : ℕ) (value : List ℕ)

@@ -1,7 +1,7 @@
 -- A queue under metadata that is written over page 0.
-use Rattle.std.proofs.Common.{◌≡◌, ℕ, zero, suc, ◌+◌, ◌-◌, ◌*◌, ◌<◌, ◌≤◌, false, List, [], ◌∷◌, ◌++◌, length, set, None}
+use Rattle.std.proofs.Common.{◌≡◌, ℕ, zero, suc, ◌+◌, ◌-◌, ◌*◌, ◌<◌, ◌≤◌, List, [], ◌∷◌, ◌++◌, length, set, None}
 use Rattle.std.proofs.Common.{append_assoc, arith, refl, sym, ◌∙◌, ap, subst, length-append}
-use Rattle.std.specs.Prelude.{◌==◌, ◌||◌, not}
+use Rattle.std.specs.Prelude.{◌==◌, ◌||◌}
 use Rattle.std.proofs.lemmas.Bool.{eq-eqb}
 use Rattle.std.proofs.lemmas.List.{append-nil, get_or-set_same, length-replicate, length-set, replicate-append-replicate}
 use Rattle.bdb_format.specs.declared.kinds.Order.{Order}
@@ -10,9 +10,9 @@ use Rattle.bdb_format.specs.declared.metadata.Head.{Head}
 use Rattle.bdb_format.specs.declared.metadata.QueueMeta.{QueueMeta}
 use Rattle.bdb_format.specs.Table.{first_row}
 use Rattle.bdb_format.specs.Page.{Meta, QueueFields}
-use Rattle.bdb_format.specs.Numbers.{byte_at, four_at, has_bit, spelled}
+use Rattle.bdb_format.specs.Numbers.{four_at, spelled}
 use Rattle.bdb_format.specs.Reading.{abstract_page}
-use Rattle.bdb_format.specs.Rows.{form_code, metadata_rows, queue_rows, type_of}
+use Rattle.bdb_format.specs.Rows.{form_code, metadata_rows, queue_rows}
 use Rattle.bdb_format.specs.Spelling.{common_bytes, queue_bytes, zeros}
 use Rattle.bdb_format.specs.HeadOf.{head_of, head_rows, is_page_size}
 use Rattle.bdb_format.specs.File.{file_of, page_at, page_bytes}
@@ -46,9 +46,7 @@ unfolding queue_bytes
 length-queue order size last meta least = simp (length-append, length-spelled, length-replicate {A = ℕ}, length-common) (omega arith)
 
 page_long : (built : Built) (page : List ℕ) (meta : QueueMeta) (image : List ℕ) → IsWrittenQueue built page meta image → length page ≡ built.size
-page_long built page meta image is =
-    ap length is.bytes
-    ∙ length-queue built.order built.size (length built.pages - 1) meta (omega (arith, (size_bounds built.size is.pages.legal).0))
+page_long built page meta image is = grind (arith, length-queue, size_bounds)
 
 -- the head of the file of a queue with these pages
 abbrev head_for : Built → Head
@@ -101,19 +99,7 @@ no_extent built page meta image is =
 meta_accepted : (head : Head) (page : List ℕ) → head.kind ≡ Queue → ReadsAs head 0 page → length page ≡ head.page_size
     → first_row (queue_rows head.order page) ≡ None → form_code head 0 page ≡ None
 unfolding metadata_rows
-meta_accepted head page kind reads long none =
-    let own : not (four_at head.order page 8 == 0) ≡ false = ap not (eq-eqb (four_at head.order page 8) 0 reads.number_is) in
-    let type : not (byte_at page 25 == 10) ≡ false = ap (λ b. not (b == 10)) (reads.type ∙ ap type_of kind) in
-    let size : not (four_at head.order page 20 == length page) ≡ false =
-    ap not (eq-eqb (four_at head.order page 20) (length page) (reads.size_is ∙ sym long)) in
-    let plain : not (byte_at page 24 == 0) ≡ false = ap (λ b. not (b == 0)) reads.plain in
-    let sum : has_bit (byte_at page 26) 0x01 ≡ false = ap (λ b. has_bit b 0x01) reads.flags in
-    let parted : (has_bit (byte_at page 26) 0x06 || not (four_at head.order page 36 == 0)) ≡ false =
-    ap (λ b. has_bit b 0x06 || not (four_at head.order page 36 == 0)) reads.flags ∙ ap (λ n. not (n == 0)) reads.partitions in
-    first_page_code head page
-    ∙ (ap (λ k. first_row (metadata_rows head.order page 0 head.last k)) kind
-    ∙ first_of_none (metadata_rows head.order page 0 head.last Queue)
-    (own, (type, (refl, (refl, (size, (plain, (sum, (parted, none_is_first_row (queue_rows head.order page) none)))))))))
+meta_accepted head page kind reads long none = grind (arith, eq-eqb, first_page_code, first_of_none, none_is_first_row)
 
 -- The image.
 

@@ -116,37 +116,12 @@ first_begun leaves built before filled is =
 pub begun_building : (builder : TreeBuilder) (built : Built) → IsTreeKind builder.settings.kind → is_page_size built.size ≡ true
     → built.size ≡ builder.settings.page_size → built.order ≡ builder.settings.order → builder.leaves.leaf_type ≡ leaf_type_of builder.settings.kind
     → AreFilled builder.leaves built (first_leaf builder.leaves) [] [] → length built.pages ≡ first_leaf builder.leaves + 1 → Building builder built
-begun_building builder built kind legal size order type filled count =
-    record {
-      kind = kind;
-      legal = legal;
-      size = size;
-      order = order;
-      type = type;
-      closed = [];
-      units = [];
-      counted = begun_leaves_are_counted builder.settings.sorted builder.leaves built (first_leaf builder.leaves) filled count;
-      some = inl refl;
-      suit = All-nil (Suits builder.settings);
-      keys = λ is. refl;
-      roots = λ g counted later. All-nil (λ unit. has_wrong_root g builder.settings.sorted unit ≡ false);
-    }
+begun_building builder built kind legal size order type filled count = grind (arith, begun_leaves_are_counted, All-nil)
 
 -- pages before the first leaf stay
 pub before_kept : (leaves : Leaves) (old new : Built) (before : ℕ) (closed : List (List Placed)) (units : List Placed)
     → AreFilled leaves old before closed units → KeepsOthers leaves.last old new → KeepsBefore before old new
-before_kept leaves old new before closed units filled kept =
-    record {
-      size = kept.size;
-      order = kept.order;
-      grows = kept.grows;
-      same = λ p low.
-          let high = filled.new leaves.last
-          (is_one (numbers_of leaves) leaves.last
-          (Contains-append_right leaves.closed.items (leaves.last ∷ []) leaves.last (first_member leaves.last []))) in
-          let there = filled.hold.there in
-          kept.same p (omega (arith, low, high, there)) (λ same. omega (arith, same, low, high));
-    }
+before_kept leaves old new before closed units filled kept = grind (arith, is_one, Contains-append_right, first_member)
 
 -- One more unit.
 

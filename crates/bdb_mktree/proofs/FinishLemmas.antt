@@ -1,7 +1,6 @@
 -- A tree that is finished is the part of its database.
 use Rattle.std.proofs.Common.{Bool, ◌≡◌, ℕ, ◌+◌, ◌<◌, ◌≤◌, true, false, cond, List, [], ◌∷◌, ◌++◌, length, map, arith, refl, sym, ◌∙◌, ap, subst, inl, inr}
 use Rattle.std.proofs.Math.Path.{fun_ext}
-use Rattle.std.specs.Prelude.{nat_lt}
 use Rattle.std.specs.List.{All, AllZip, flat_map}
 use Rattle.std.proofs.lemmas.Bool.{and_parts, cases_Bool, ltb-true}
 use Rattle.std.proofs.lemmas.List.Elements.{All-cons, All-head, All-nil, All-tail}
@@ -14,7 +13,7 @@ use Rattle.bdb_format.specs.Page.{BtreeFields}
 use Rattle.bdb_format.specs.File.{File}
 use Rattle.bdb_format.specs.Flags.{btree_kind, counts_records, has_duplicates, is_fixed, is_recno, is_sorted}
 use Rattle.bdb_format.specs.ContentRows.{ascends}
-use Rattle.bdb_format.specs.Databases.{btree_settings, recno_settings, settings_of}
+use Rattle.bdb_format.specs.Databases.{settings_of}
 use Rattle.bdb_format.proofs.ListLemmas.{map_joined}
 use Rattle.bdb_law_grove.specs.Growing.{IsCounted, IsLater}
 use Rattle.bdb_law_grove.specs.Part.{IsPart, between}
@@ -58,20 +57,7 @@ record SaysBtree (meta : BtreeMeta) (settings : Settings) : Type 0 where
 
 says_btree : (size : ℕ) (order : Order) (meta : BtreeMeta) (settings : Settings) → settings_of size order (BtreeFields meta) ≡ settings
     → settings.kind ≡ Btree → SaysBtree meta settings
-says_btree size order meta settings is btree =
-    elim (cases_Bool (is_recno meta)) [
-      | inl recno ↦
-          let same = sym (ap (λ b. cond b (recno_settings size order meta) (btree_settings size order meta)) recno) ∙ is in
-          let other_kind : Recno ≡ Btree = ap (λ (s : Settings). s.kind) same ∙ btree in absurd (cc other_kind)
-      | inr other ↦
-          let same = sym (ap (λ b. cond b (recno_settings size order meta) (btree_settings size order meta)) other) ∙ is in
-          record {
-            kind = other;
-            duplicates = ap (λ (s : Settings). s.duplicates) same;
-            sorted = ap (λ (s : Settings). s.sorted) same;
-            counted = ap (λ (s : Settings). s.recnum) same;
-          }
-    ]
+says_btree size order meta settings is btree = grind (arith, cases_Bool)
 
 record SaysRecno (meta : BtreeMeta) (settings : Settings) : Type 0 where
   kind : is_recno meta ≡ true
@@ -80,15 +66,7 @@ record SaysRecno (meta : BtreeMeta) (settings : Settings) : Type 0 where
 
 says_recno : (size : ℕ) (order : Order) (meta : BtreeMeta) (settings : Settings) → settings_of size order (BtreeFields meta) ≡ settings
     → settings.kind ≡ Recno → SaysRecno meta settings
-says_recno size order meta settings is recno =
-    elim (cases_Bool (is_recno meta)) [
-      | inl here ↦
-          let same = sym (ap (λ b. cond b (recno_settings size order meta) (btree_settings size order meta)) here) ∙ is in
-          record { kind = here; fixed = ap (λ (s : Settings). s.fixed) same; long = ap (λ (s : Settings). s.re_len) same }
-      | inr other ↦
-          let same = sym (ap (λ b. cond b (recno_settings size order meta) (btree_settings size order meta)) other) ∙ is in
-          let other_kind : Btree ≡ Recno = ap (λ (s : Settings). s.kind) same ∙ recno in absurd (cc other_kind)
-    ]
+says_recno size order meta settings is recno = grind (arith, cases_Bool)
 
 -- Units that suit the settings.
 
@@ -97,9 +75,7 @@ several : (size : ℕ) (settings : Settings) (unit : Placed) → Suits settings 
 several size settings (PlacedEntry entry) suits sizes single = refl
 several size settings (PlacedPairs key first []) suits sizes single = refl
 several size settings (PlacedPairs key first (next ∷ more)) suits sizes single = absurd (omega (arith, suits.single single))
-several size settings (PlacedTree key root values) suits sizes single =
-    let two : 1 < length values = ltb-true 1 (length values) (and_parts (nat_lt 1 (length values)) _ sizes.1).0 in
-    absurd (omega (arith, two, suits.single single))
+several size settings (PlacedTree key root values) suits sizes single = grind (arith, ltb-true, and_parts)
 
 in_order : (settings : Settings) (unit : Placed) → Suits settings (unit_of unit) → settings.sorted ≡ true → ascends (values_in (unit_of unit)) ≡ true
 in_order settings (PlacedEntry entry) suits sorted = refl
@@ -147,19 +123,14 @@ all_on (leaf ∷ placed) groups is =
 
 rest_between : (leaves : Leaves) (old new : Built) (first : ℕ) → length old.pages ≤ length new.pages → (p : ℕ) → rest_of first leaves old p ≡ true
     → between first (length new.pages) p ≡ true
-rest_between leaves old new first grows p rest =
-    let parts = rest_is first (length old.pages) (numbers_of leaves) p rest in
-    is_between first (length new.pages) p parts.0 (omega (arith, parts.1, grows))
+rest_between leaves old new first grows p rest = grind (arith, rest_is, is_between)
 
 -- the pages that stood and are no leaves stand in later files than the finished tree
 rest_later : (leaves : Leaves) (old new : Built) (counted : Bool) (first : ℕ) (closed : List (List Placed)) (units : List Placed) (root : ℕ)
     (g : File)
     → AreFilled leaves old first closed units → HasFirstRoot leaves old new counted closed units root → length old.pages ≤ length new.pages
     → IsLater (between first (length new.pages)) (file_so_far new) g → IsLater (rest_of first leaves old) (file_so_far old) g
-rest_later leaves old new counted first closed units root g filled (is, inl one) grows later =
-    later_fewer (file_so_far old) g (rest_of first leaves old) (between first (length new.pages))
-    (rest_between leaves old new first grows)
-    (subst (λ b. IsLater (between first (length new.pages)) (file_so_far b) g) one.same later)
+rest_later leaves old new counted first closed units root g filled (is, inl one) grows later = grind (arith, later_fewer, rest_between)
 rest_later leaves old new counted first closed units root g filled (is, inr on) grows later =
     later_chain (file_so_far old) (file_so_far new) g (rest_of first leaves old)
     ((finished_trees_keep_pages leaves old new counted closed units root on).0 (rest_of first leaves old)

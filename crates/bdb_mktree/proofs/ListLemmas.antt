@@ -1,7 +1,7 @@
 -- Lists and their units: the run of a key, the record that comes next, and the list that units give back.
 use Rattle.std.proofs.Common.{Bool, ◌≡◌, ℕ, suc, zero, ◌+◌, ◌-◌, ◌<◌, ◌≤◌, ◌^◌, true, false, cond, get_or, slice_get, None, Option, Some, option_map, List, []}
 use Rattle.std.proofs.Common.{◌∷◌, ◌++◌, length, map, take, drop, replicate}
-use Rattle.std.proofs.Common.{arith, refl, sym, ◌∙◌, ap, subst, inl, inr, true≢false}
+use Rattle.std.proofs.Common.{arith, refl, sym, ◌∙◌, ap, inl, inr, true≢false}
 use Rattle.std.specs.List.{All, enumerate_from, flat_map, prefix_len}
 use Rattle.std.specs.Str.{bytes_eq}
 use Rattle.std.proofs.lemmas.Bool.{cases_Bool}
@@ -112,17 +112,12 @@ run_is_unit key (pair ∷ pairs) n all is some =
 -- the record that comes next is that of the first pair
 pub record_stands : (next : ℕ) (pair : Pair) (pairs : List Pair) → next ≡ number_of pair.key
     → record_units next (pair ∷ pairs) ≡ EntryUnit pair.value false ∷ record_units (next + 1) pairs
-record_stands next pair pairs same =
-    let none : number_of pair.key - next ≡ 0 = omega (arith, same) in
-    ap (λ n. replicate n missing ++ (EntryUnit pair.value false ∷ record_units (number_of pair.key + 1) pairs)) none
-    ∙ ap (λ n. EntryUnit pair.value false ∷ record_units (n + 1) pairs) (sym same)
+record_stands next pair pairs same = grind arith
 
 -- or a missing one
 pub record_missing : (next : ℕ) (pair : Pair) (pairs : List Pair) → next < number_of pair.key
     → record_units next (pair ∷ pairs) ≡ missing ∷ record_units (next + 1) (pair ∷ pairs)
-record_missing next pair pairs later =
-    let one : number_of pair.key - next ≡ suc (number_of pair.key - (next + 1)) = omega (arith, later) in
-    ap (λ n. replicate n missing ++ (EntryUnit pair.value false ∷ record_units (number_of pair.key + 1) pairs)) one
+record_missing next pair pairs later = grind arith
 
 -- Places in a list.
 
@@ -140,9 +135,7 @@ pair_at pairs i pair at =
 
 pub has_bytes_at : (pairs : List TextPair) (i : ℕ) (pair : TextPair) → All (λ (pair : Pair). HasBytes pair.key) (unlined_pairs pairs)
     → slice_get pairs i ≡ Some pair → HasBytes pair.key
-has_bytes_at pairs i pair all at =
-    subst (λ (pair : Pair). HasBytes pair.key) (pair_at pairs i pair at)
-    (all i no_pair (let low = slice_get_within pairs i pair at in omega (arith, low, length-map pairs unlined)))
+has_bytes_at pairs i pair all at = grind (arith, pair_at, slice_get_within, length-map)
 
 -- how many pairs of a key follow each other from a place on: one more than from the next place on, none, or none where none are left
 abbrev pub run_from : List ℕ → List TextPair → ℕ → ℕ
@@ -150,68 +143,32 @@ run_from key pairs i = prefix_len (has_key key) (keys_of (unlined_pairs (drop i 
 
 pub run_goes_on : (key : List ℕ) (pairs : List TextPair) (i : ℕ) (pair : TextPair) → slice_get pairs i ≡ Some pair → has_key key pair.key ≡ true
     → run_from key pairs i ≡ 1 + run_from key pairs (i + 1)
-run_goes_on key pairs i pair at same =
-    ap (λ ps. prefix_len (has_key key) (keys_of (unlined_pairs ps))) (pairs_from pairs i pair at)
-    ∙ ap (λ b. cond b (1 + run_from key pairs (i + 1)) 0) same
+run_goes_on key pairs i pair at same = grind (arith, pairs_from)
 
 pub run_ends : (key : List ℕ) (pairs : List TextPair) (i : ℕ) (pair : TextPair) → slice_get pairs i ≡ Some pair → has_key key pair.key ≡ false
     → run_from key pairs i ≡ 0
-run_ends key pairs i pair at other =
-    ap (λ ps. prefix_len (has_key key) (keys_of (unlined_pairs ps))) (pairs_from pairs i pair at)
-    ∙ ap (λ b. cond b (1 + run_from key pairs (i + 1)) 0) other
+run_ends key pairs i pair at other = grind (arith, pairs_from)
 
 -- the same, by whether a pair of the list has the key
 pub goes_on_at : (key : List ℕ) (pairs : List TextPair) (i : ℕ) → has_key_at key pairs i ≡ Some true → run_from key pairs i ≡ 1 + run_from key pairs (i + 1)
-goes_on_at key pairs i same = by_pair (slice_get pairs i) refl
-  where
-    by_pair : (found : Option TextPair) → slice_get pairs i ≡ found → run_from key pairs i ≡ 1 + run_from key pairs (i + 1)
-    by_pair None at = absurd (none-some true (sym (ap (option_map (λ (pair : TextPair). has_key key pair.key)) at) ∙ same))
-    by_pair (Some pair) at =
-        run_goes_on key pairs i pair at (same_Some (has_key key pair.key) true (sym (ap (option_map (λ (pair : TextPair). has_key key pair.key)) at) ∙ same))
+goes_on_at key pairs i same = grind (arith, slice_get, Option, None, none-some, option_map, Some, run_goes_on, same_Some)
 
 pub ends_at : (key : List ℕ) (pairs : List TextPair) (i : ℕ) → has_key_at key pairs i ≡ Some false → run_from key pairs i ≡ 0
-ends_at key pairs i other = by_pair (slice_get pairs i) refl
-  where
-    by_pair : (found : Option TextPair) → slice_get pairs i ≡ found → run_from key pairs i ≡ 0
-    by_pair None at = absurd (none-some false (sym (ap (option_map (λ (pair : TextPair). has_key key pair.key)) at) ∙ other))
-    by_pair (Some pair) at =
-        run_ends key pairs i pair at (same_Some (has_key key pair.key) false (sym (ap (option_map (λ (pair : TextPair). has_key key pair.key)) at) ∙ other))
+ends_at key pairs i other = grind (arith, slice_get, Option, None, none-some, option_map, Some, run_ends, same_Some)
 
 pub key_within : (key : List ℕ) (pairs : List TextPair) (i : ℕ) → has_key_at key pairs i ≡ Some true → i < length pairs
-key_within key pairs i same = by_pair (slice_get pairs i) refl
-  where
-    by_pair : (found : Option TextPair) → slice_get pairs i ≡ found → i < length pairs
-    by_pair None at = absurd (none-some true (sym (ap (option_map (λ (pair : TextPair). has_key key pair.key)) at) ∙ same))
-    by_pair (Some pair) at = slice_get_within pairs i pair at
+key_within key pairs i same = grind (arith, slice_get, Option, None, none-some, option_map, Some, slice_get_within)
 
 pub first_has_key : (key : List ℕ) (pairs rest : List TextPair) (start : ℕ) (pair : TextPair) → slice_get pairs start ≡ Some pair → pair.key ≡ Bytes key
     → rest ≡ drop start pairs → has_key_at key rest 0 ≡ Some true
 first_has_key key pairs rest start pair at is from =
     ap (λ ps. has_key_at key ps 0) (from ∙ pairs_from pairs start pair at) ∙ ap Some (ap (has_key key) is ∙ eq_self key)
 
--- two pairs of one key
-of_key : (key : List ℕ) (found : Option TextPair)
-    → option_map (λ (pair : TextPair). has_key key pair.key) found ≡ option_map (has_key key) (option_map (λ (pair : TextPair). pair.key) found)
-of_key key None = refl
-of_key key (Some pair) = refl
-
-pub has_key_too : (key : List ℕ) (pairs : List TextPair) (i j : ℕ)
-    → option_map (λ (pair : TextPair). pair.key) (slice_get pairs i) ≡ option_map (λ (pair : TextPair). pair.key) (slice_get pairs j)
-    → has_key_at key pairs i ≡ has_key_at key pairs j
-has_key_too key pairs i j same =
-    of_key key (slice_get pairs i) ∙ (ap (option_map (has_key key)) same ∙ sym (of_key key (slice_get pairs j)))
-
-pub has_key_here : (key : List ℕ) (pairs : List TextPair) (i : ℕ) (pair : TextPair) → slice_get pairs i ≡ Some pair
-    → has_key_at key pairs i ≡ Some (has_key key pair.key)
-has_key_here key pairs i pair at = ap (option_map (λ (pair : TextPair). has_key key pair.key)) at
-
 pub run_over : (key : List ℕ) (pairs : List TextPair) (i : ℕ) → length pairs ≤ i → run_from key pairs i ≡ 0
 run_over key pairs i over = ap (λ ps. prefix_len (has_key key) (keys_of (unlined_pairs ps))) (drop_all i pairs over)
 
 pub run_long : (key : List ℕ) (pairs : List TextPair) (n : ℕ) → n ≡ run_from key pairs 0 → n ≤ length pairs
-run_long key pairs n is =
-    let le = prefix_len-le-length (has_key key) (keys_of (unlined_pairs pairs)) in
-    omega (arith, is, le, length-map (unlined_pairs pairs) (λ (pair : Pair). pair.key), length-map pairs unlined)
+run_long key pairs n is = grind (arith, prefix_len-le-length, length-map)
 
 -- the data of pairs
 values_unlined : (pairs : List TextPair) → map (λ (pair : TextPair). pair.value) pairs ≡ values_of (unlined_pairs pairs)
@@ -257,33 +214,13 @@ is_run pairs start n key pair all at is long =
 -- the record of a number is missing before the pair at a place
 pub is_missing : (pairs : List Pair) (place number there : ℕ) → AscendFrom number (drop place pairs) → place < length pairs
     → there ≡ number_of (get_or pairs place no_pair).key → number < there → there < 2 ^ 32 → IsRecordAt pairs place number missing place
-is_missing pairs place number there ascend more is later fits =
-    let split = drop_more pairs place no_pair more in
-    let parts = subst (AscendFrom number) split ascend in
-    record {
-      within = omega (arith, more);
-      units =
-          ap (record_units number) split
-          ∙ (record_missing number (get_or pairs place no_pair) (drop (place + 1) pairs) (omega (arith, is, later))
-          ∙ ap (λ ps. missing ∷ record_units (number + 1) ps) (sym split));
-      ascend = subst (AscendFrom (number + 1)) (sym split) (omega (arith, is, later), parts.1);
-      few = omega (arith, later, fits);
-    }
+is_missing pairs place number there ascend more is later fits = grind (arith, drop_more, record_missing)
 
 -- or is that of the pair
 pub is_there : (pairs : List Pair) (place number there : ℕ) → AscendFrom number (drop place pairs) → place < length pairs
     → there ≡ number_of (get_or pairs place no_pair).key → there ≤ number → there < 2 ^ 32
     → IsRecordAt pairs place number (EntryUnit (get_or pairs place no_pair).value false) (place + 1)
-is_there pairs place number there ascend more is here fits =
-    let split = drop_more pairs place no_pair more in
-    let parts = subst (AscendFrom number) split ascend in
-    let same : number ≡ number_of (get_or pairs place no_pair).key = let low = parts.0 in omega (arith, is, here, low) in
-    record {
-      within = omega (arith, more);
-      units = ap (record_units number) split ∙ record_stands number (get_or pairs place no_pair) (drop (place + 1) pairs) same;
-      ascend = subst (λ n. AscendFrom (n + 1) (drop (place + 1) pairs)) (sym same) parts.1;
-      few = let low = parts.0 in omega (arith, is, here, low, fits);
-    }
+is_there pairs place number there ascend more is here fits = grind (arith, drop_more, record_stands)
 
 -- The list that units give back.
 
@@ -306,10 +243,7 @@ bytes_listed (Number number) has = absurd has
 keyed_listed : (pairs : List Pair) → All (λ (pair : Pair). HasBytes pair.key) pairs → flat_map listed_keyed (keyed_units pairs) ≡ listed pairs
 keyed_listed [] all = refl
 keyed_listed (pair ∷ pairs) all =
-    with_listed (bytes_in pair.key) pair.value (keyed_units pairs)
-    ∙ (ap (λ k. (k, pair.value) ∷ flat_map listed_keyed (keyed_units pairs))
-    (bytes_listed pair.key (All-head (λ (pair : Pair). HasBytes pair.key) pair pairs all))
-    ∙ ap (λ more. (listed_key pair.key, pair.value) ∷ more) (keyed_listed pairs (All-tail (λ (pair : Pair). HasBytes pair.key) pair pairs all)))
+    grind (arith, with_listed, bytes_listed, All-head, All-tail, keyed_listed pairs (All-tail (λ (pair : Pair). HasBytes pair.key) pair pairs all))
 
 number_listed : (key : Key) → 1 ≤ number_of key → NumberKey (number_of key) ≡ listed_key key
 number_listed (Bytes key) some = absurd (let none : 1 ≤ 0 = some in omega (arith, none))
@@ -317,27 +251,15 @@ number_listed (Number number) some = refl
 
 missing_listed : (n next : ℕ) (units : List TreeUnit)
     → flat_map listed_record (enumerate_from next (replicate n missing ++ units)) ≡ flat_map listed_record (enumerate_from (next + n) units)
-missing_listed zero next units =
-    let same : next ≡ next + 0 = omega arith in
-    ap (λ m. flat_map listed_record (enumerate_from m units)) same
-missing_listed (suc n) next units =
-    let same : (next + 1) + n ≡ next + suc n = omega arith in
-    missing_listed n (next + 1) units ∙ ap (λ m. flat_map listed_record (enumerate_from m units)) same
+missing_listed zero next units = grind arith
+missing_listed (suc n) next units = grind (arith, missing_listed n (next + 1) units)
 
 records_listed : (next : ℕ) (pairs : List Pair) → 1 ≤ next → AscendFrom next pairs
     → flat_map listed_record (enumerate_from next (record_units next pairs)) ≡ listed pairs
 records_listed next [] some ascend = refl
 records_listed next (pair ∷ pairs) some (most, ascend) =
-    let at : next + (number_of pair.key - next) ≡ number_of pair.key = omega (arith, most) in
-    missing_listed (number_of pair.key - next) next (EntryUnit pair.value false ∷ record_units (number_of pair.key + 1) pairs)
-    ∙ (ap (λ m. flat_map listed_record (enumerate_from m (EntryUnit pair.value false ∷ record_units (number_of pair.key + 1) pairs))) at
-    ∙ (ap (λ k. (k, pair.value) ∷ flat_map listed_record (enumerate_from (number_of pair.key + 1) (record_units (number_of pair.key + 1) pairs)))
-    (number_listed pair.key (omega (arith, some, most)))
-    ∙ ap (λ more. (listed_key pair.key, pair.value) ∷ more) (records_listed (number_of pair.key + 1) pairs (omega arith) ascend)))
+    grind (arith, missing_listed, number_listed, records_listed (number_of pair.key + 1) pairs (omega arith) ascend)
 
 pub units_listed : (kind : Kind) (pairs : List Pair) → IsTreeKind kind → AreKeysOf kind pairs
     → list_of_units kind (units_in kind pairs) ≡ listed pairs
-units_listed kind pairs is keys = elim is [
-  | inl btree ↦ ap (λ k. list_of_units k (units_in k pairs)) btree ∙ keyed_listed pairs (subst (λ k. AreKeysOf k pairs) btree keys)
-  | inr recno ↦ ap (λ k. list_of_units k (units_in k pairs)) recno ∙ records_listed 1 pairs (omega arith) (subst (λ k. AreKeysOf k pairs) recno keys)
-]
+units_listed kind pairs is keys = grind (arith, keyed_listed, records_listed)

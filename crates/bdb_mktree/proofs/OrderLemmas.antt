@@ -34,16 +34,7 @@ record Stand (settings : Settings) (key value : List ℕ) (units : List TreeUnit
 -- a pair by itself
 alone : (settings : Settings) (key value : List ℕ) → settings.kind ≡ Btree → IsShort key → IsShort value
     → Stand settings key value (onto_units key value [])
-alone settings key value btree short_key short = record {
-  values = [];
-  others = [];
-  is = refl;
-  suit = All-cons (Suits settings) (KeyedUnit key (value ∷ [])) [] (record
-      { kind = btree; some = omega arith; single = λ none. refl; in_order = λ sorted. refl })
-      (All-nil (Suits settings));
-  short = All-cons IsShortUnit (KeyedUnit key (value ∷ [])) [] (short_key, All-cons IsShort value [] short (All-nil IsShort)) (All-nil IsShortUnit);
-  keys = refl;
-}
+alone settings key value btree short_key short = grind (arith, All-cons, All-nil)
 
 ordered : (sorted above : Bool) → (not sorted || above) ≡ true → sorted ≡ true → above ≡ true
 ordered true above is asked = is
@@ -110,9 +101,7 @@ before settings key value next_key next_value values units btree short_key short
 
 keyed_stand : (settings : Settings) (pair : Pair) (pairs : List Pair) → settings.kind ≡ Btree → All (IsPairFor settings) (pair ∷ pairs)
     → is_in_order settings (pair ∷ pairs) ≡ true → Stand settings (bytes_in pair.key) pair.value (keyed_units (pair ∷ pairs))
-keyed_stand settings pair [] btree each in_order =
-    let is = All-head (IsPairFor settings) pair [] each in
-    alone settings (bytes_in pair.key) pair.value btree (subst (λ k. IsKeyFor k pair.key) btree is.key).1 is.short
+keyed_stand settings pair [] btree each in_order = grind (arith, All-head, alone)
 keyed_stand settings pair (next ∷ pairs) btree each in_order =
     let is = All-head (IsPairFor settings) pair (next ∷ pairs) each in
     let parts = and_parts (may_follow settings.kind settings pair next) (is_in_order settings (next ∷ pairs)) in_order in
@@ -128,9 +117,7 @@ have_bytes : (settings : Settings) (pairs : List Pair) → settings.kind ≡ Btr
     → All (λ (pair : Pair). HasBytes pair.key) pairs
 have_bytes settings [] btree each = All-nil (λ (pair : Pair). HasBytes pair.key)
 have_bytes settings (pair ∷ pairs) btree each =
-    All-cons (λ (pair : Pair). HasBytes pair.key) pair pairs
-    (subst (λ k. IsKeyFor k pair.key) btree (All-head (IsPairFor settings) pair pairs each).key).0
-    (have_bytes settings pairs btree (All-tail (IsPairFor settings) pair pairs each))
+    grind (arith, All-cons, All-head, All-tail, have_bytes settings pairs btree (All-tail (IsPairFor settings) pair pairs each))
 
 -- Records.
 
@@ -149,15 +136,11 @@ records_rise settings next pair (other ∷ pairs) recno each in_order low =
 
 records_ascend : (settings : Settings) (pairs : List Pair) → settings.kind ≡ Recno → IsTreeList settings pairs → AscendFrom 1 pairs
 records_ascend settings [] recno list = tt
-records_ascend settings (pair ∷ pairs) recno list =
-    records_rise settings 1 pair pairs recno list.each list.in_order
-    (subst (λ k. IsKeyFor k pair.key) recno (All-head (IsPairFor settings) pair pairs list.each).key).1
+records_ascend settings (pair ∷ pairs) recno list = grind (arith, records_rise, All-head)
 
 missing_suit : (settings : Settings) (n : ℕ) → settings.kind ≡ Recno → All (Suits settings) (replicate n missing)
 missing_suit settings zero recno = All-nil (Suits settings)
-missing_suit settings (suc n) recno =
-    All-cons (Suits settings) missing (replicate n missing) (record { kind = recno; missing = λ is. refl; long = λ fixed live. cc })
-    (missing_suit settings n recno)
+missing_suit settings (suc n) recno = grind (arith, All-cons, missing_suit settings n recno)
 
 missing_short : (n : ℕ) → All IsShortUnit (replicate n missing)
 missing_short zero = All-nil IsShortUnit
@@ -199,13 +182,7 @@ records_fit settings pairs recno list =
 
 pub units_fit : (settings : Settings) (pairs : List Pair) → IsTreeKind settings.kind → IsTreeList settings pairs
     → FitUnits settings (units_in settings.kind pairs)
-units_fit settings pairs kind list = elim kind [
-  | inl btree ↦ subst (λ k. FitUnits settings (units_in k pairs)) (sym btree) (keyed_fit settings pairs btree list)
-  | inr recno ↦ subst (λ k. FitUnits settings (units_in k pairs)) (sym recno) (records_fit settings pairs recno list)
-]
+units_fit settings pairs kind list = grind (arith, keyed_fit, records_fit)
 
 pub keys_fit : (settings : Settings) (pairs : List Pair) → IsTreeKind settings.kind → IsTreeList settings pairs → AreKeysOf settings.kind pairs
-keys_fit settings pairs kind list = elim kind [
-  | inl btree ↦ subst (λ k. AreKeysOf k pairs) (sym btree) (have_bytes settings pairs btree list.each)
-  | inr recno ↦ subst (λ k. AreKeysOf k pairs) (sym recno) (records_ascend settings pairs recno list)
-]
+keys_fit settings pairs kind list = grind (arith, have_bytes, records_ascend)

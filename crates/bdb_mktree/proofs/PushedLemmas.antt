@@ -1,7 +1,6 @@
 -- Units that are pushed one after the other.
 use Rattle.std.proofs.Common.{◌≡◌, ℕ, true, List, [], ◌∷◌, ◌++◌, map, arith, refl, sym, ◌∙◌, ap, subst}
 use Rattle.std.specs.Cmp.Derive.{both_true}
-use Rattle.std.specs.List.{All}
 use Rattle.std.proofs.lemmas.Bool.{and_parts}
 use Rattle.std.proofs.lemmas.List.{append-nil, append_assoc, map-append}
 use Rattle.std.proofs.lemmas.List.Elements.{All-head, All-tail}
@@ -39,13 +38,7 @@ comes_next settings units unit left keys is =
 -- Pages before one stay, and stay.
 
 kept_on : (first : ℕ) (old mid new : Built) → KeepsBefore first old mid → KeepsBefore first mid new → KeepsBefore first old new
-kept_on first old mid new one two =
-    record {
-      size = two.size ∙ one.size;
-      order = two.order ∙ one.order;
-      grows = let a = one.grows in let b = two.grows in omega (arith, a, b);
-      same = λ p low. two.same p low ∙ one.same p low;
-    }
+kept_on first old mid new one two = grind arith
 
 -- The first unit that is left can be pushed.
 
@@ -82,19 +75,7 @@ pushed_next builder next last old mid new all some unit left pushed is building 
 
 pub can_begin : (builder : TreeBuilder) (built : Built) (settings : Settings) (units : List TreeUnit) → Building builder built
     → units_of builder built ≡ [] → builder.settings ≡ settings → FitUnits settings units → CanBePushed builder built units
-can_begin builder built settings units building none says fit =
-    let suit = subst (λ s. All (Suits s) units) (sym says) fit.suit in
-    let keys = subst (λ s. KeysAscend s units) (sym says) fit.keys in
-    record {
-      building = building;
-      settings = refl;
-      first = refl;
-      kept = record { size = refl; order = refl; grows = omega arith; same = λ p low. refl };
-      units = refl;
-      suit = suit;
-      short = fit.short;
-      keys = subst (λ us. KeysAscend builder.settings (us ++ units)) (sym none) keys;
-    }
+can_begin builder built settings units building none says fit = grind arith
 
 -- After the last unit all are there, and the tree is built of them.
 

@@ -124,31 +124,20 @@ self c = c
 pub behind_fit : (room : ℕ) (first : ℕ → ℕ) (n c left : ℕ) (rest : List ℕ) → n * c ≤ left
     → behind room first self self left (replicate n c ++ rest) ≡ behind room first self self (left - n * c) rest
 behind_fit room first zero c left rest fits = ap (λ l. behind room first self self l rest) (let e : left ≡ left - 0 * c = omega arith in e)
-behind_fit room first (suc n) c left rest fits =
-    behind_open room first self self left c (replicate n c ++ rest) (omega (arith, fits))
-    ∙ (behind_fit room first n c (left - c) rest (omega (arith, fits))
-    ∙ ap (λ l. behind room first self self l rest) (let e : (left - c) - n * c ≡ left - suc n * c = omega arith in e))
+behind_fit room first (suc n) c left rest fits = grind (arith, behind_open, behind_fit room first n c (left - c) rest (omega (arith, fits)))
 
 -- Where the open page has no room for one, those that fit together fill a new page.
 pub behind_page : (room : ℕ) (first : ℕ → ℕ) (some c left : ℕ) (rest : List ℕ) → first c ≡ c → left < c → 0 < some → some * c ≤ room
     → behind room first self self left (replicate some c ++ rest) ≡ c ∷ behind room first self self (room - some * c) rest
 behind_page room first zero c left rest first_is none some_is fits = absurd (omega (arith, some_is))
-behind_page room first (suc some) c left rest first_is none some_is fits =
-    behind_new room first self self left c (replicate some c ++ rest) none
-    ∙ ap (λ (ns : List ℕ). c ∷ ns)
-    (behind_fit room first some c (room - first c) rest (omega (arith, first_is, fits))
-    ∙ ap (λ l. behind room first self self l rest) (let e : (room - first c) - some * c ≡ room - suc some * c = omega (arith, first_is) in e))
+behind_page room first (suc some) c left rest first_is none some_is fits = grind (arith, behind_new, behind_fit)
 
 -- Where also a page has room for `each` and no more: of `full * each` and some, `full` pages are filled, and the some stand on one more.
 pub behind_full : (room : ℕ) (first : ℕ → ℕ) (full each some c left : ℕ) (rest : List ℕ) → first c ≡ c → left < c → 0 < some → some ≤ each
     → each * c ≤ room → room < each * c + c
     → behind room first self self left (replicate (full * each + some) c ++ rest)
     ≡ replicate (suc full) c ++ behind room first self self (room - some * c) rest
-behind_full room first zero each some c left rest first_is none some_is few within beyond =
-    let e : 0 * each + some ≡ some = omega arith in
-    let most = mul-le some c each c few (omega arith) in
-    ap (λ n. behind room first self self left (replicate n c ++ rest)) e
-    ∙ behind_page room first some c left rest first_is none some_is (omega (arith, most, within))
+behind_full room first zero each some c left rest first_is none some_is few within beyond = grind (arith, mul-le, behind_page)
 behind_full room first (suc full) each some c left rest first_is none some_is few within beyond =
     let e : suc full * each + some ≡ each + (full * each + some) = omega arith in
     let split : replicate (suc full * each + some) c ++ rest ≡ replicate each c ++ (replicate (full * each + some) c ++ rest) =
@@ -185,22 +174,7 @@ halved : (room first : ℕ) (cs : List ℕ) → All (λ c. c ≤ room - first) c
     × ((left : ℕ) → 2 * length (behind room (λ (x : ℕ). first) self self left cs) ≤ length cs + 1)
 halved room first [] all = (omega arith, λ left. omega arith)
 halved room first (c ∷ cs) all =
-    let fits : c ≤ room - first = All-head (λ (x : ℕ). x ≤ room - first) c cs all in
-    let next = halved room first cs (All-tail (λ (x : ℕ). x ≤ room - first) c cs all) in (
-      (let step = ap length (behind_open room (λ (x : ℕ). first) self self (room - first) c cs fits) in
-          let rest = next.1 ((room - first) - c) in
-          omega (arith, step, rest)),
-      λ left.
-          elim (cases_lt left c) [
-            | inl full ↦
-                let step = ap length (behind_new room (λ (x : ℕ). first) self self left c cs full) in
-                omega (arith, step, next.0)
-            | inr open_fits ↦
-                let step = ap length (behind_open room (λ (x : ℕ). first) self self left c cs open_fits) in
-                let rest = next.1 (left - c) in
-                omega (arith, step, rest)
-          ],
-    )
+    grind (arith, All-head, All-tail, behind_open, cases_lt, behind_new, halved room first cs (All-tail (λ (x : ℕ). x ≤ room - first) c cs all))
 
 pub level_halves : (room first : ℕ) (cs : List ℕ) → All (λ c. c ≤ room - first) cs
     → 2 * length (behind room (λ (x : ℕ). first) self self (room - first) cs) ≤ length cs
@@ -239,8 +213,4 @@ behind_same room k each c positive some within beyond =
 -- a level of them, by division
 pub equal_level : (most room each c k : ℕ) → 0 < c → 0 < each → each * c ≤ room → room < each * c + c → 0 < k
     → pages_over (suc most) room c (replicate (suc k) c) ≡ suc (k / each) + pages_over most room c (replicate (suc (k / each)) c)
-equal_level most room each c k positive some within beyond more =
-    let above = behind_same room k each c positive some within beyond in
-    level_on most room c c (replicate k c) (omega (arith, length-replicate k c, more))
-    ∙ (ap (λ (ns : List ℕ). suc (length ns) + pages_over most room c (c ∷ ns)) above
-    ∙ ap (λ n. suc n + pages_over most room c (replicate (suc (k / each)) c)) (length-replicate (k / each) c))
+equal_level most room each c k positive some within beyond more = grind (arith, behind_same, level_on, length-replicate)

@@ -30,12 +30,7 @@ short_here values i value short within is = rw is (All-get_or IsShort values i [
 pub sum_more : (f : List ℕ → ℕ) (values : List (List ℕ)) (i : ℕ) (value : List ℕ) (total more most : ℕ) → i < length values → value ≡ get_or values i []
     → (total ≡ sum_by f (take i values)) × (total ≤ i * most) → more ≡ f value → more ≤ most
     → (total + more ≡ sum_by f (take (i + 1) values)) × (total + more ≤ (i + 1) * most)
-sum_more f values i value total more most within value_is so_far more_is few =
-    let step = sum_by_more f values i [] within in
-    let here = more_is ∙ ap f value_is in (
-      omega (arith, step, here, so_far.0),
-      omega (arith, so_far.1, few),
-    )
+sum_more f values i value total more most within value_is so_far more_is few = grind (arith, sum_by_more)
 
 pub sum_end : (f : List ℕ → ℕ) (values : List (List ℕ)) (i : ℕ) (total : ℕ) → length values ≤ i → total ≡ sum_by f (take i values) → total ≡ sum_by f values
 sum_end f values i total past is = is ∙ ap (sum_by f) (take_all i values past)

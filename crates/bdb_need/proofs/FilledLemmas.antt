@@ -1,4 +1,5 @@
 -- Sections whose records are filled up, and what is counted of those that aren't yet.
+use Rattle.std.proofs.Common.{arith}
 use Rattle.std.proofs.Common.{◌≡◌, Bool, ℕ, ◌+◌, ◌-◌, List, [], ◌∷◌, map, Some, refl, sym, ◌∙◌, ap, subst, inl, inr}
 use Rattle.std.specs.Prelude.{◌&&◌, if◌then◌else◌, is_some, slice_get}
 use Rattle.std.specs.List.{All, sum_by}
@@ -8,7 +9,6 @@ use Rattle.std.proofs.lemmas.List.Sums.{sum_by-cons}
 use Rattle.bdb_format.specs.declared.kinds.Kind.{Kind}
 use Rattle.bdb_format.specs.declared.kinds.Kind.TheVariants.{Btree, Recno, Hash, Queue}
 use Rattle.bdb_format.specs.declared.settings.Settings.{Settings}
-use Rattle.bdb_format.specs.Rows.{records_per_page}
 use Rattle.bdb_mkleaves.specs.Runs.{IsShort}
 use Rattle.bdb_mkqueue.specs.Layout.{page_of, queue_size}
 use Rattle.bdb_mkqueue.specs.Lists.{next_number}
@@ -20,7 +20,7 @@ use Rattle.bdb_text_format.specs.Pairs.{AscendFrom, number_of}
 use Rattle.bdb_text_format.specs.Written.{holds_records}
 use Rattle.bdb_settle.specs.Loaded.{filled_pairs, filled_section, loaded}
 use Rattle.bdb_settle.proofs.FillingLemmas.{as_they_are}
-use Rattle.bdb_need.specs.Need.{AreSettled, IsListOf, IsSettled, list_pages, master_pages, master_settings, name_in, name_pair, need_of, section_pages, sized}
+use Rattle.bdb_need.specs.Need.{AreSettled, IsListOf, IsSettled, master_pages, master_settings, name_in, name_pair, need_of, section_pages, sized}
 
 -- Lists.
 
@@ -69,13 +69,7 @@ settled_as : (size : ℕ) (section : Section) (kind : Kind) → section.settings
 settled_as size section Btree is settled = settled_unless size section Btree is (λ e. cc) settled
 settled_as size section Recno is settled = settled_unless size section Recno is (λ e. cc) settled
 settled_as size section Hash is settled = settled_unless size section Hash is (λ e. cc) settled
-settled_as size section Queue is settled =
-    let list = subst (λ k. IsListOf k (sized size section) (unlined_pairs section.pairs)) is settled.list in
-    record {
-      list = subst (λ k. IsListOf k (sized size section) (unlined_pairs (filled_pairs section.settings section.pairs))) (sym is)
-          (list.0, ascend_filled section.settings 1 section.pairs list.1);
-      name = settled.name;
-    }
+settled_as size section Queue is settled = grind (arith, ascend_filled)
 
 pages_unless : (size : ℕ) (section : Section) (kind : Kind) → section.settings.kind ≡ kind → (kind ≡ Queue → ⊥) → IsSettled size section
     → section_pages size (filled_section section) ≡ section_pages size section
@@ -87,17 +81,12 @@ pages_as : (size : ℕ) (section : Section) (kind : Kind) → section.settings.k
 pages_as size section Btree is settled = pages_unless size section Btree is (λ e. cc) settled
 pages_as size section Recno is settled = pages_unless size section Recno is (λ e. cc) settled
 pages_as size section Hash is settled = pages_unless size section Hash is (λ e. cc) settled
-pages_as size section Queue is settled =
-    ap (λ k. 1 + list_pages k (sized size section) (unlined_pairs (filled_pairs section.settings section.pairs))) is
-    ∙ ap (λ n. 1 + n) (queue_filled section.settings (records_per_page size section.settings.re_len) section.pairs)
-    ∙ sym (ap (λ k. 1 + list_pages k (sized size section) (unlined_pairs section.pairs)) is)
+pages_as size section Queue is settled = grind (arith, queue_filled)
 
 each_filled : (size : ℕ) (sections : List Section) → All (IsSettled size) sections → All (IsSettled size) (map filled_section sections)
 each_filled size [] all = All-nil (IsSettled size)
 each_filled size (section ∷ sections) all =
-    All-cons (IsSettled size) (filled_section section) (map filled_section sections)
-    (settled_as size section section.settings.kind refl (All-head (IsSettled size) section sections all))
-    (each_filled size sections (All-tail (IsSettled size) section sections all))
+    grind (arith, All-cons, settled_as, All-head, All-tail, each_filled size sections (All-tail (IsSettled size) section sections all))
 
 pub settled_filled : (sections : List Section) → AreSettled sections → AreSettled (map filled_section sections)
 settled_filled sections settled = record {
@@ -142,10 +131,7 @@ need_before sections settled =
 pub sums_filled : (size : ℕ) (sections : List Section)
     → sum_by (λ (section : Section). section_pages size (filled_section section)) sections ≡ sum_by (section_pages size) (map filled_section sections)
 sums_filled size [] = refl
-sums_filled size (section ∷ sections) =
-    sum_by-cons (λ (other : Section). section_pages size (filled_section other)) section sections
-    ∙ ap (λ n. section_pages size (filled_section section) + n) (sums_filled size sections)
-    ∙ sym (sum_by-cons (section_pages size) (filled_section section) (map filled_section sections))
+sums_filled size (section ∷ sections) = omega (arith, sum_by-cons, sums_filled size sections)
 
 pub each_before : (size : ℕ) (sections : List Section) → All (IsSettled size) (map filled_section sections)
     → All (λ section. IsSettled size (filled_section section)) sections

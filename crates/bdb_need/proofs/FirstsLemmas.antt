@@ -61,8 +61,4 @@ next_begins room left left_now kept kept_now at cost items items_now all before 
 
 pub all_kept : (room left kept at : ℕ) (items all next : List ℕ) → FirstsKept room left kept at items all → length items ≤ at
     → next ≡ take kept items → (first : ℕ) → map (first_or 0) (spread_items room 14 (first ∷ all)) ≡ first ∷ next
-all_kept room left kept at items all next done past is first =
-    heads_of_items room 14 first all
-    ∙ ap (λ (ns : List ℕ). first ∷ ns)
-    (sym done.sum
-    ∙ (ap (λ (ns : List ℕ). take kept items ++ added room left ns) (drop_of_length-le items past) ∙ (append-nil (take kept items) ∙ sym is)))
+all_kept room left kept at items all next done past is first = grind (arith, heads_of_items, drop_of_length-le, append-nil)

@@ -76,15 +76,7 @@ pub record KeysPassed (size : ℕ) (sorted : Bool) (pairs : List TextPair) (star
 
 pub keys_begun : (size : ℕ) (sorted : Bool) (pairs : List TextPair) → All IsShortUnit (keyed_units (unlined_pairs pairs))
     → KeysPassed size sorted pairs 0 0 (page_room size) (page_room size) []
-keys_begun size sorted pairs short = record {
-  low = omega arith;
-  short = short;
-  sum = omega arith;
-  few = omega arith;
-  leaves = keyed_begun size (keyed_units (unlined_pairs pairs));
-  room_is = refl;
-  count = omega arith;
-}
+keys_begun size sorted pairs short = grind (arith, keyed_begun)
 
 pub unit_short : (size : ℕ) (sorted : Bool) (pairs : List TextPair) (start end own left room : ℕ) (items : List ℕ) (unit : TreeUnit)
     → KeysPassed size sorted pairs start own left room items → IsRunAt (unlined_pairs pairs) start unit end → IsShortUnit unit

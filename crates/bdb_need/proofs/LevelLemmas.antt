@@ -19,10 +19,7 @@ pub record CountsDone (room pages total below : ℕ) : Type 0 where
 
 -- each level has fewer pages than the one below
 pub fewer : (below each : ℕ) → 2 ≤ each → 1 < below → (below - 1) / each + 1 < below
-fewer below each two many =
-    let product = mul-le ((below - 1) / each) 2 ((below - 1) / each) each (omega arith) two in
-    let whole : (below - 1) / each * each ≤ below - 1 = omega (arith, two) in
-    omega (arith, product, whole, many)
+fewer below each two many = grind (arith, mul-le)
 
 pub counts_next : (room pages total below : ℕ) → 60 ≤ room → 1 < below → CountsDone room pages total below
     → CountsDone room pages (total + ((below - 1) / (room / 10) + 1)) ((below - 1) / (room / 10) + 1)
@@ -49,11 +46,7 @@ counts_next room pages total below wide many done = by_most done.most done.enoug
 
 pub counts_end : (room pages total below : ℕ) → below ≤ 1 → CountsDone room pages total below
     → total ≡ pages_over pages room 10 (replicate pages 10)
-counts_end room pages total below few done =
-    let long = length-replicate {A = ℕ} below 10 in
-    let none = few_over done.most room 10 (replicate below 10) (omega (arith, long, few)) in
-    let sum = done.sum in
-    omega (arith, none, sum)
+counts_end room pages total below few done = grind (arith, length-replicate, few_over)
 
 -- they are at most twice as many as the pages below
 pub counts_bound : (room pages : ℕ) → 60 ≤ room → pages_over pages room 10 (replicate pages 10) ≤ 2 * pages
@@ -64,10 +57,7 @@ counts_bound room (suc pages) wide =
     omega (arith, few, long)
 
 pub counts_few : (room pages total below : ℕ) → 60 ≤ room → CountsDone room pages total below → total ≤ 2 * pages
-counts_few room pages total below wide done =
-    let sum = done.sum in
-    let most = counts_bound room pages wide in
-    omega (arith, sum, most)
+counts_few room pages total below wide done = grind (arith, counts_bound)
 
 -- Items that have keys.
 
@@ -122,10 +112,7 @@ keys_next room all items next total some are done = by_most done.most done.enoug
 
 pub keys_end : (room : ℕ) (all items : List ℕ) (total first : ℕ) → length items ≡ 0 → KeysDone room all total items
     → total ≡ pages_over (length all + 1) room 14 (first ∷ all)
-keys_end room all items total first none done =
-    let over = few_over done.most room 14 (first ∷ items) (omega (arith, none)) in
-    let sum = done.sum first in
-    omega (arith, over, sum)
+keys_end room all items total first none done = grind (arith, few_over)
 
 pub keys_few : (room : ℕ) (all items : List ℕ) (total : ℕ) → All (λ c. c ≤ room - 14) all → KeysDone room all total items → total ≤ 2 * length all
 keys_few room all items total fit done =

@@ -1,5 +1,5 @@
 -- The sections of a file, and its master.
-use Rattle.std.proofs.Common.{◌≡◌, ℕ, ◌+◌, ◌<◌, ◌^◌, Bool, true, false, cond, List, ◌++◌, [], ◌∷◌, length, map, Some, None, arith, refl, sym, ◌∙◌, ap, subst}
+use Rattle.std.proofs.Common.{◌≡◌, ℕ, ◌+◌, ◌<◌, ◌^◌, Bool, true, false, cond, List, ◌++◌, [], ◌∷◌, map, Some, None, arith, refl, sym, ◌∙◌, ap, subst}
 use Rattle.std.proofs.Common.{inl}
 use Rattle.std.specs.Prelude.{is_some, slice_get}
 use Rattle.std.specs.List.{All, sum_by}
@@ -38,26 +38,16 @@ names_short : (size : ℕ) (sections : List Section) → All (λ (section : Sect
     → All HasShortBytes (map (loaded_pair (master_settings size)) (map name_pair sections))
 names_short size [] all = All-nil HasShortBytes
 names_short size (section ∷ sections) all =
-    let short : length (name_in section.name) < 2 ^ 32 =
-    All-head (λ (s : Section). IsShort (name_in s.name)) section sections all in
-    All-cons HasShortBytes (loaded_pair (master_settings size) (name_pair section)) (map (loaded_pair (master_settings size)) (map name_pair sections))
-    (record { key = short; value = omega arith })
-    (names_short size sections (All-tail (λ (s : Section). IsShort (name_in s.name)) section sections all))
+    grind (arith, All-head, All-cons, All-tail, names_short size sections (All-tail (λ (s : Section). IsShort (name_in s.name)) section sections all))
 
 pub pushed_one : (size : ℕ) (old new : List Section) (settings : Settings) (pairs : List TextPair) → old ≡ [] → settings ≡ master_settings size
     → new ≡ old ++ (record { name = None; settings = settings; header_line = 0; pairs = pairs } ∷ []) → new ≡ made_up size pairs ∷ []
-pushed_one size old new settings pairs none settings_are pushed =
-    pushed
-    ∙ (ap (λ (ss : List Section). ss ++ (record { name = None; settings = settings; header_line = 0; pairs = pairs } ∷ [])) none
-    ∙ ap (λ (s : Settings). record { name = None; settings = s; header_line = 0; pairs = pairs } ∷ []) settings_are)
+pushed_one size old new settings pairs none settings_are pushed = grind (arith, None)
 
 -- what settling makes of it
 pub master_is : (size : ℕ) (settled master : List Section) (found : Section) (pairs : List TextPair) → master ≡ made_up size pairs ∷ []
     → settled ≡ map loaded_section master → Some found ≡ slice_get settled 0 → found ≡ loaded_section (made_up size pairs)
-master_is size settled master found pairs one lists at =
-    let all : settled ≡ loaded_section (made_up size pairs) ∷ [] = lists ∙ ap (map loaded_section) one in
-    let is : Some found ≡ Some (loaded_section (made_up size pairs)) = at ∙ ap (λ (ss : List Section). slice_get ss 0) all in
-    cc
+master_is size settled master found pairs one lists at = grind (arith, Some)
 
 pub master_list : (size : ℕ) (master sections : List Section) (found : Section) (pairs : List TextPair) → master ≡ made_up size pairs ∷ []
     → load_error master ≡ None → pairs ≡ map name_pair sections → All (λ (section : Section). IsShort (name_in section.name)) sections
@@ -78,11 +68,7 @@ master_list size master sections found pairs one none are short is =
 pub master_counted : (size pages : ℕ) (sections : List Section) (found : Section) (pairs : List TextPair) → pairs ≡ map name_pair sections
     → found ≡ loaded_section (made_up size pairs) → pages ≡ tree_pages found.settings (unlined_pairs found.pairs)
     → pages ≡ tree_pages (master_settings size) (loaded (master_settings size) (map name_pair sections))
-master_counted size pages sections found pairs are is pages_are =
-    pages_are
-    ∙ (ap (λ (s : Section). tree_pages s.settings (unlined_pairs s.pairs)) is
-    ∙ (ap (tree_pages (master_settings size)) (listed_again (loaded (master_settings size) pairs))
-    ∙ ap (λ ps. tree_pages (master_settings size) (loaded (master_settings size) ps)) are))
+master_counted size pages sections found pairs are is pages_are = grind (arith, listed_again)
 
 -- Sections one after the other.
 
@@ -95,18 +81,7 @@ first_is sections settled found at =
 -- all pages of a section without a name
 pub need_unnamed : (sections : List Section) (settled : AreSettled sections) (found : Section) (own : ℕ) → Some found ≡ slice_get sections 0
     → is_some found.name ≡ false → own ≡ sum_by (section_pages found.settings.page_size) sections → own ≡ need_of sections
-need_unnamed sections settled found own at unnamed own_is =
-    let one = first_is sections settled found at in
-    let size : ℕ = settled.first.settings.page_size in
-    let all : List Section = settled.first ∷ settled.rest in
-    let none : is_some settled.first.name ≡ false = ap (λ (s : Section). is_some s.name) (sym one) ∙ unnamed in
-    let own_all : own ≡ sum_by (section_pages size) all =
-    own_is
-    ∙ (ap (λ (s : Section). sum_by (section_pages s.settings.page_size) sections) one ∙ ap (sum_by (section_pages size)) settled.are) in
-    let whole : need_of all ≡ 0 + sum_by (section_pages size) all =
-    ap (λ (b : Bool). cond b (1 + master_pages size all) 0 + sum_by (section_pages size) all) none in
-    let same = ap need_of settled.are in
-    omega (arith, own_all, whole, same)
+need_unnamed sections settled found own at unnamed own_is = grind (arith, first_is)
 
 -- all pages of sections with names
 pub need_named : (sections : List Section) (settled : AreSettled sections) (found : Section) (own master pages : ℕ)

@@ -41,19 +41,7 @@ divided n c some = omega (arith, some)
 pub many_open : (room closed left count c : ℕ) → 0 < c → count ≤ left / c
     → ArePut (record { room = room; closed = closed; left = left }) (record { room = room; closed = closed; left = left - count * c })
     (replicate count c)
-many_open room closed left count c some few =
-    let most = mul-le count c (left / c) c few (omega arith) in
-    let whole = (quotient left c some (left / c) refl).0 in
-    let fits : count * c ≤ left = omega (arith, most, whole) in
-    record {
-      room = refl;
-      pages = λ rest.
-          ap (λ n. closed + n)
-          (pages-behind room (left - count * c) rest
-          ∙ (ap (λ (ns : List ℕ). suc (length ns)) (sym (behind_fit room self count c left rest fits))
-          ∙ sym (pages-behind room left (replicate count c ++ rest))));
-      few = omega arith;
-    }
+many_open room closed left count c some few = grind (arith, mul-le, quotient, pages-behind, behind_fit, self)
 
 -- those that the open page has no room for: full pages, and one more
 pub many_new : (room closed left count c here each more : ℕ) → 0 < c → c ≤ room → here ≡ left / c → each ≡ room / c → more ≡ count - here - 1

@@ -54,9 +54,7 @@ keyed_as_is settings pairs btree =
 value_before : (settings : Settings) (value : List ℕ) → length value ≡ settings.re_len → (b : Bool) → has_length settings ≡ b
     → filled_value settings value ≡ value
 value_before settings value long false is = value_as_is settings value is
-value_before settings value long true is =
-    let none : settings.re_len - length value ≡ 0 = omega (arith, long) in
-    rw (is, none) (append-nil value)
+value_before settings value long true is = grind (arith, append-nil)
 
 fixed_is : (a b : Bool) → (a && b) ≡ true → a ≡ true
 fixed_is true b is = refl
@@ -66,20 +64,14 @@ pair_before : (settings : Settings) (pair : TextPair) (b : Bool) → has_length 
     → filled_pair settings pair ≡ pair
 pair_before settings pair false is kind fits =
     ap (λ (value : List ℕ). record { key = pair.key; value = value; line = pair.line }) (value_as_is settings pair.value is)
-pair_before settings pair true is (inl btree) fits =
-    ap (λ (value : List ℕ). record { key = pair.key; value = value; line = pair.line })
-    (value_as_is settings pair.value (ap (λ k. settings.fixed && holds_records k) btree ∙ and-false settings.fixed))
-pair_before settings pair true is (inr recno) fits =
-    ap (λ (value : List ℕ). record { key = pair.key; value = value; line = pair.line })
-    (value_before settings pair.value (fits.long recno (fixed_is settings.fixed (holds_records settings.kind) is)) true is)
+pair_before settings pair true is (inl btree) fits = grind (arith, value_as_is, and-false)
+pair_before settings pair true is (inr recno) fits = grind (arith, value_before, fixed_is)
 
 pairs_before : (settings : Settings) (pairs : List TextPair) → IsTreeKind settings.kind → All (IsPairFor settings) (unlined_pairs pairs)
     → filled_pairs settings pairs ≡ pairs
 pairs_before settings [] kind all = refl
 pairs_before settings (pair ∷ pairs) kind all =
-    ap (λ p. p ∷ filled_pairs settings pairs)
-    (pair_before settings pair (has_length settings) refl kind (All-head (IsPairFor settings) (unlined pair) (unlined_pairs pairs) all))
-    ∙ ap (λ ps. pair ∷ ps) (pairs_before settings pairs kind (All-tail (IsPairFor settings) (unlined pair) (unlined_pairs pairs) all))
+    grind (arith, pair_before, All-head, All-tail, pairs_before settings pairs kind (All-tail (IsPairFor settings) (unlined pair) (unlined_pairs pairs) all))
 
 -- a list in its order is filled up already
 pub filled_before : (settings : Settings) (pairs : List TextPair) → IsTreeKind settings.kind → IsTreeList settings (unlined_pairs pairs)

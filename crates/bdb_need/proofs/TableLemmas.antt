@@ -36,12 +36,7 @@ bits_found size cost bits some few enough more =
 -- of two that differ nowhere
 sums_same : (f g : ℕ → ℕ) (a n : ℕ) → ((k : ℕ) → a ≤ k → k < a + n → f k ≡ g k) → sum_by f (range_with_len a n) ≡ sum_by g (range_with_len a n)
 sums_same f g a zero same = refl
-sums_same f g a (suc n) same =
-    let left = sum_by-cons f a (range_with_len (a + 1) n) in
-    let right = sum_by-cons g a (range_with_len (a + 1) n) in
-    let here = same a (omega arith) (omega arith) in
-    let rest = sums_same f g (a + 1) n (λ k from under. same k (omega (arith, from)) (omega (arith, under))) in
-    omega (arith, left, right, here, rest)
+sums_same f g a (suc n) same = grind (arith, sum_by-cons, sums_same f g (a + 1) n (λ k from under. same k (omega (arith, from)) (omega (arith, under))))
 
 -- of two that differ by so much at one place
 sums_differ : (f g : ℕ → ℕ) (a n b more : ℕ) → a ≤ b → b < a + n → ((k : ℕ) → k < a + n → (k ≡ b → ⊥) → f k ≡ g k) → f b ≡ more + g b
@@ -65,27 +60,15 @@ sums_differ f g a (suc n) b more from under same at =
 
 sums_one_more : (f : ℕ → ℕ) (a n : ℕ) → sum_by (λ k. suc (f k)) (range_with_len a n) ≡ n + sum_by f (range_with_len a n)
 sums_one_more f a zero = refl
-sums_one_more f a (suc n) =
-    let left = sum_by-cons (λ k. suc (f k)) a (range_with_len (a + 1) n) in
-    let right = sum_by-cons f a (range_with_len (a + 1) n) in
-    let rest = sums_one_more f (a + 1) n in
-    omega (arith, left, right, rest)
+sums_one_more f a (suc n) = omega (arith, sum_by-cons, sums_one_more f (a + 1) n)
 
 sums_none : (f : ℕ → ℕ) (a n : ℕ) → ((k : ℕ) → f k ≡ 0) → sum_by f (range_with_len a n) ≡ 0
 sums_none f a zero none = refl
-sums_none f a (suc n) none =
-    let left = sum_by-cons f a (range_with_len (a + 1) n) in
-    let here = none a in
-    let rest = sums_none f (a + 1) n none in
-    omega (arith, left, here, rest)
+sums_none f a (suc n) none = grind (arith, sum_by-cons, sums_none f (a + 1) n none)
 
 sums_map : {A : Type 0} (f : A → ℕ) (g : ℕ → A) (a n : ℕ) → sum_by f (map g (range_with_len a n)) ≡ sum_by (λ k. f (g k)) (range_with_len a n)
 sums_map f g a zero = refl
-sums_map f g a (suc n) =
-    let left = sum_by-cons f (g a) (map g (range_with_len (a + 1) n)) in
-    let right = sum_by-cons (λ k. f (g k)) a (range_with_len (a + 1) n) in
-    let rest = sums_map f g (a + 1) n in
-    omega (arith, left, right, rest)
+sums_map f g a (suc n) = omega (arith, sum_by-cons, sums_map f g (a + 1) n)
 
 -- Pages of buckets.
 
@@ -182,10 +165,7 @@ placed_new size bits pages cost here room b all rest unit left was b_is low cost
     placed size bits pages 1 b (room - cost) all rest unit left was b_is low step
 
 pub all_placed : (size bits pages : ℕ) (all : List Keyed) (left : List ℕ) → ArePlaced size bits all [] pages left → pages ≡ all_pages size bits all
-all_placed size bits pages all left done =
-    let none = sums_none (λ b. pages_behind size (get_or left b 0) (dealt bits [] b)) 0 (2 ^ bits) (λ b. refl) in
-    let sum = done.sum in
-    omega (arith, none, sum)
+all_placed size bits pages all left done = grind (arith, sums_none)
 
 -- Keys of a list.
 
@@ -213,17 +193,7 @@ keys_next : (size bits start end pages pages_now : ℕ) (pairs : List TextPair) 
     → (ArePlaced size bits (table_units (unlined_pairs pairs)) (keyed key values ∷ table_units (drop end (unlined_pairs pairs))) pages left
     → ArePlaced size bits (table_units (unlined_pairs pairs)) (table_units (drop end (unlined_pairs pairs))) pages_now left_now)
     → pages_now ≤ pages + 1 → KeysPlaced size bits pairs end pages_now left_now
-keys_next size bits start end pages pages_now pairs key values left left_now was at put few =
-    let long = length-pairs pairs in
-    let within = at.within in
-    let ahead = at.ahead in
-    let before = was.few in
-    record {
-      low = omega (arith, within, long);
-      placed = put (subst (λ us. ArePlaced size bits (table_units (unlined_pairs pairs)) us pages left)
-          (run_unit (unlined_pairs pairs) start end key values at) was.placed);
-      few = omega (arith, before, few, ahead);
-    }
+keys_next size bits start end pages pages_now pairs key values left left_now was at put few = grind (arith, length-pairs, placed, run_unit)
 
 room_here : (size bits start pages b seen : ℕ) (pairs : List TextPair) (left : List ℕ) → KeysPlaced size bits pairs start pages left → b < 2 ^ bits
     → seen ≡ get_or left b seen → seen ≡ get_or left b 0
@@ -280,14 +250,7 @@ pub record KeysCounted (size : ℕ) (sorted : Bool) (pairs : List TextPair) (sta
 
 pub none_counted : (size : ℕ) (sorted : Bool) (pairs : List TextPair) → All IsShortUnit (keyed_units (unlined_pairs pairs))
     → KeysCounted size sorted pairs 0 0 0
-none_counted size sorted pairs short = record {
-  low = omega arith;
-  short = short;
-  cost_sum = omega arith;
-  own_sum = omega arith;
-  cost_few = omega arith;
-  own_few = omega arith;
-}
+none_counted size sorted pairs short = grind arith
 
 pub unit_short : (size : ℕ) (sorted : Bool) (pairs : List TextPair) (start end cost own : ℕ) (unit : TreeUnit)
     → KeysCounted size sorted pairs start cost own → IsRunAt (unlined_pairs pairs) start unit end → IsShortUnit unit
@@ -323,11 +286,4 @@ next_counted size sorted pairs start end cost own cost_more own_more key values 
 pub all_counted : (size : ℕ) (sorted : Bool) (pairs : List TextPair) (start cost own : ℕ) → length pairs ≤ start
     → KeysCounted size sorted pairs start cost own
     → (cost ≡ table_cost size (table_units (unlined_pairs pairs))) × (own ≡ sum_by (keyed_own_pages size sorted) (table_units (unlined_pairs pairs)))
-all_counted size sorted pairs start cost own past done =
-    let long = length-pairs pairs in
-    let none : drop start (unlined_pairs pairs) ≡ [] = drop_of_length-le (unlined_pairs pairs) (omega (arith, past, long)) in
-    let cost_sum = done.cost_sum in
-    let own_sum = done.own_sum in
-    let cost_rest = ap (λ (ps : List Pair). table_cost size (table_units ps)) none in
-    let own_rest = ap (λ (ps : List Pair). sum_by (keyed_own_pages size sorted) (table_units ps)) none in
-    (omega (arith, cost_sum, cost_rest), omega (arith, own_sum, own_rest))
+all_counted size sorted pairs start cost own past done = grind (arith, length-pairs, drop_of_length-le)

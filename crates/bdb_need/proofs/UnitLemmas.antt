@@ -7,7 +7,7 @@ use Rattle.bdb_format.specs.HeadOf.{is_page_size}
 use Rattle.bdb_format.proofs.SizeLemmas.{size_bounds}
 use Rattle.bdb_mkleaves.specs.Spread.{leaves_and_levels, set_type}
 use Rattle.bdb_mkleaves.specs.Units.{chain_pages, page_room}
-use Rattle.bdb_mkhash.specs.Costs.{cost_in, data_cost, data_form, is_inline, hash_item_cost, pages_in, blocks_cost, stand_together}
+use Rattle.bdb_mkhash.specs.Costs.{data_cost, data_form, is_inline, hash_item_cost, pages_in, blocks_cost, stand_together}
 use Rattle.bdb_mkhash.proofs.CostLemmas.{cost_more, data_few, form_more, inline_more, item_few, long_apart, much_apart}
 use Rattle.bdb_need.specs.Counting.{data_units}
 use Rattle.bdb_need.specs.Counts.{set_or_none}
@@ -24,22 +24,12 @@ set_begun size values legal =
 
 pub set_long : (size : ℕ) (values : List (List ℕ)) (i : ℕ) (value : List ℕ) (len : ℕ) → i < length values → value ≡ get_or values i [] → len ≡ length value
     → size / 8 < len → None ≡ set_or_none size values
-set_long size values i value len within is long much =
-    let one = long ∙ ap length is in
-    sym (ap (λ b. cond b (Some (blocks_cost values)) None) (long_apart size values i within (omega (arith, one, much))))
+set_long size values i value len within is long much = grind (arith, Some, None, long_apart)
 
 pub set_more : (size : ℕ) (values : List (List ℕ)) (i cost : ℕ) (value : List ℕ) (len : ℕ) → SetSoFar size values i cost → i < length values
     → value ≡ get_or values i [] → len ≡ length value → len ≤ size / 8 → cost + (4 + len) ≤ (size - 26) / 4
     → SetSoFar size values (i + 1) (cost + (4 + len))
-set_more size values i cost value len was within is long short few =
-    let one = long ∙ ap length is in
-    let step = cost_more values i within in
-    let before = was.sum in
-    record {
-      sum = omega (arith, one, step, before);
-      inline = inline_more size values i within was.inline (omega (arith, one, short));
-      few = few;
-    }
+set_more size values i cost value len was within is long short few = grind (arith, cost_more, inline_more)
 
 pub set_much : (size : ℕ) (values : List (List ℕ)) (i cost : ℕ) (value : List ℕ) (len : ℕ) → SetSoFar size values i cost → i < length values
     → value ≡ get_or values i [] → len ≡ length value → (size - 26) / 4 < cost + (4 + len) → None ≡ set_or_none size values
@@ -55,49 +45,25 @@ set_much size values i cost value len was within is long much =
 when_false : {A : Type 0} (x y : A) (b : Bool) → b ≡ false → cond b x y ≡ y
 when_false x y b is = ap (λ (t : Bool). cond t x y) is
 
--- where they stand together, and where not
-together : (size cost : ℕ) (values : List (List ℕ)) → Some cost ≡ set_or_none size values
-    → (stand_together size values ≡ true) × (cost ≡ blocks_cost values)
-together size cost values is = by_test (stand_together size values) refl is
-  where
-    by_test : (b : Bool) → stand_together size values ≡ b → Some cost ≡ cond b (Some (blocks_cost values)) None
-        → (stand_together size values ≡ true) × (cost ≡ blocks_cost values)
-    by_test true test same = (test, cc)
-    by_test false test same = absurd cc
-
 apart : (size : ℕ) (values : List (List ℕ)) → None ≡ set_or_none size values → stand_together size values ≡ false
-apart size values is = by_test (stand_together size values) refl is
-  where
-    by_test : (b : Bool) → stand_together size values ≡ b → None ≡ cond b (Some (blocks_cost values)) None → stand_together size values ≡ false
-    by_test true test same = absurd cc
-    by_test false test same = test
+apart size values is = grind (arith, None, Some)
 
 not_none : (values : List (List ℕ)) → 0 < length values → length values ≡ 0 → ⊥
 not_none values some none = absurd (omega (arith, some, none))
 
 pub apart_cost : (size : ℕ) (values : List (List ℕ)) → 0 < length values → (length values ≡ 1 → ⊥) → None ≡ set_or_none size values
     → 10 ≡ data_cost size values
-apart_cost size values some many is =
-    sym (ap (λ f. cost_in f size values)
-    (form_more size values many (not_none values some) ∙ when_false _ _ (stand_together size values) (apart size values is)))
+apart_cost size values some many is = grind (arith, form_more, not_none, when_false, apart)
 
 pub apart_pages : (size chains tree : ℕ) (sorted : Bool) (values : List (List ℕ)) → 0 < length values → (length values ≡ 1 → ⊥)
     → None ≡ set_or_none size values → chains ≡ sum_by (chain_pages size) values
     → tree ≡ leaves_and_levels (set_type sorted) size (data_units values) → chains + tree ≡ pages_in (data_form size values) size sorted values
-apart_pages size chains tree sorted values some many is chains_are tree_is =
-    ap (λ n. n + tree) chains_are
-    ∙ (ap (λ n. sum_by (chain_pages size) values + n) tree_is
-    ∙ sym (ap (λ f. pages_in f size sorted values)
-    (form_more size values many (not_none values some) ∙ when_false _ _ (stand_together size values) (apart size values is))))
+apart_pages size chains tree sorted values some many is chains_are tree_is = grind (arith, form_more, not_none, when_false, apart)
 
 -- a key with its data fits a page
 pub unit_fits : (size : ℕ) (key : List ℕ) (values : List (List ℕ)) → is_page_size size ≡ true
     → hash_item_cost size key + data_cost size values ≤ page_room size
-unit_fits size key values legal =
-    let bounds = size_bounds size legal in
-    let one = item_few size key legal in
-    let two = data_few size values legal in
-    omega (arith, bounds, one, two)
+unit_fits size key values legal = grind (arith, size_bounds, item_few, data_few)
 
 -- an option without a value
 pub none_is : (o : Option ℕ) → is_some o ≡ false → None ≡ o

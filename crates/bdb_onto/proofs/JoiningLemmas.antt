@@ -6,7 +6,7 @@ use Rattle.std.specs.Prelude.{◌||◌, option_to_list, slice_get}
 use Rattle.std.specs.List.{All, Contains, filter, find, flat_map, list_any}
 use Rattle.std.specs.Str.{bytes_eq}
 use Rattle.std.proofs.lemmas.Bool.{false_from_ne_true}
-use Rattle.std.proofs.lemmas.List.{length-map, map-append}
+use Rattle.std.proofs.lemmas.List.{map-append}
 use Rattle.std.proofs.lemmas.List.Elements.{All-head, All-tail}
 use Rattle.std.proofs.lemmas.List.Folds.{list_any-append}
 use Rattle.bdb_format.specs.Databases.{is_name}
@@ -21,7 +21,7 @@ use Rattle.bdb_onto.specs.declared.joining.Placed.{Placed}
 use Rattle.bdb_onto.specs.Bases.{IsBase}
 use Rattle.bdb_onto.specs.Joining.{IsJoinedTo, IsPlaced, behind, emptied, placed_section, still, taken_at}
 use Rattle.bdb_onto.specs.Onto.{is_left, is_partner, joined, joined_section, partner_of}
-use Rattle.bdb_onto.specs.Search.{IsPlaceOf, IsWithin}
+use Rattle.bdb_onto.specs.Search.{IsPlaceOf}
 use Rattle.bdb_onto.proofs.FitLemmas.{Differs, base_differs}
 use Rattle.bdb_onto.proofs.JoinLemmas.{found_in}
 

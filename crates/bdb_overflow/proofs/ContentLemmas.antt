@@ -1,7 +1,7 @@
 -- On a linked image each item that names a chain names one that fits.
 use Rattle.std.proofs.Common.{◌≡◌, ℕ, zero, suc, ◌-◌, ◌<◌, ◌≤◌, true, false, List, [], ◌∷◌, length, get_or, Some, arith, refl, sym, ◌∙◌, ap, subst, inl, inr}
 use Rattle.std.proofs.Common.{true≢false}
-use Rattle.std.specs.Prelude.{◌==◌, ◌&&◌, ◌%◌, nat_le, slice_get, slice_index}
+use Rattle.std.specs.Prelude.{◌==◌, ◌&&◌, ◌%◌, slice_get}
 use Rattle.std.specs.List.{Contains}
 use Rattle.std.proofs.lemmas.Bool.{and_parts, cases_Bool, eqb-true, leb-true}
 use Rattle.bdb_format.specs.declared.kinds.Order.{Order}
@@ -9,10 +9,9 @@ use Rattle.bdb_format.specs.declared.metadata.FileKind.TheVariants.{Queue as Que
 use Rattle.bdb_format.specs.declared.references.Sort.TheVariants.{OverflowHead}
 use Rattle.bdb_format.specs.File.{File, file_of, page_at, page_bytes}
 use Rattle.bdb_format.specs.HeadOf.{head_of}
-use Rattle.bdb_format.specs.Numbers.{byte_at}
-use Rattle.bdb_format.specs.Page.{Content, Inline, Set, Chain, Tree, Unknown, Item, InternalItem, Listed, Page, Zero, Hash, Internal, Leaf, RecnoLeaf, DupLeaf}
+use Rattle.bdb_format.specs.Page.{Content, Inline, Set, Chain, Tree, Unknown, Item, InternalItem, Listed, Page, Hash, Internal, Leaf, RecnoLeaf, DupLeaf}
 use Rattle.bdb_format.specs.Page.{PageType, LeafPage}
-use Rattle.bdb_format.specs.Reading.{abstract_page, entries_of, is_zero, leaf_item_at, listed, page_as, page_type}
+use Rattle.bdb_format.specs.Reading.{abstract_page, entries_of, leaf_item_at, listed, page_as}
 use Rattle.bdb_format.specs.References.{content_targets, is_shared_key, targets_in, targets_of, no_item, contents_in}
 use Rattle.bdb_format.proofs.MemberLemmas.{first_member, in_map}
 use Rattle.bdb_format.proofs.PageLemmas.{index_offset, length_items}
@@ -98,12 +97,7 @@ leaf_as order page t leaf is = absurd cc
 
 pub leaf_of : (order : Order) (page : List ℕ) (leaf : Listed Item) → abstract_page order page ≡ Leaf leaf → leaf ≡ listed order page (leaf_item_at order page)
 unfolding abstract_page
-leaf_of order page leaf is =
-    elim (is_zero page) as (λ zeros. elim zeros [ true ↦ Zero | false ↦ page_as order page (page_type (byte_at page 25)) ] ≡ Leaf leaf
-    → leaf ≡ listed order page (leaf_item_at order page)) [
-      | true ↦ λ same. absurd cc
-      | false ↦ λ same. leaf_as order page (page_type (byte_at page 25)) leaf same
-    ] is
+leaf_of order page leaf is = grind (arith, leaf_as)
 
 -- a key that is shared is the item of the entry two before
 record IsShared (order : Order) (page : List ℕ) (i : ℕ) : Type 0 where
@@ -112,17 +106,7 @@ record IsShared (order : Order) (page : List ℕ) (i : ℕ) : Type 0 where
 
 shared : (order : Order) (page : List ℕ) (i : ℕ) → i < entries_of order page → is_shared_key (listed order page (leaf_item_at order page)).offsets i ≡ true
     → IsShared order page i
-shared order page i there is =
-    let offsets : List ℕ = (listed order page (leaf_item_at order page)).offsets in
-    let outer : ((i % 2 == 0 && nat_le 2 i) ≡ true) × ((slice_index offsets i == slice_index offsets (i - 2)) ≡ true) = and_parts _ _ is in
-    let above : 2 ≤ i = leb-true 2 i (and_parts (i % 2 == 0) (nat_le 2 i) outer.0).1 in
-    let same : slice_index offsets i ≡ slice_index offsets (i - 2) = eqb-true _ _ outer.1 in
-    record {
-      above = above;
-      same =
-          one_offset order page i (i - 2)
-          (sym (index_offset order page (leaf_item_at order page) i there) ∙ (same ∙ index_offset order page (leaf_item_at order page) (i - 2) (omega arith)));
-    }
+shared order page i there is = grind (arith, and_parts, leb-true, eqb-true, one_offset, index_offset)
 
 -- an entry that names its own chain
 own_fits : (image : List ℕ) (p : ℕ) (page : Listed Item) (i : ℕ) (item : Item) → IsForest image → p ≤ (file_of image).last
@@ -152,10 +136,7 @@ entry_fits : (turns : ℕ) (image : List ℕ) (p : ℕ) (order : Order) (bytes :
 entry_fits zero image p order bytes i forest low is few there =
     entry_by image p order bytes i forest low is there (λ before. absurd (omega (arith, before.above)))
 entry_fits (suc turns) image p order bytes i forest low is few there =
-    entry_by image p order bytes i forest low is there (λ before.
-    let above : 2 ≤ i = before.above in
-    subst (λ (item : Item). FitsContent (file_of image) item.content) (sym before.same)
-    (entry_fits turns image p order bytes (i - 2) forest low is (omega arith) (omega arith)))
+    grind (arith, entry_by, entry_fits turns image p order bytes (i - 2) forest low is (omega arith) (omega arith))
 
 -- an item of a list is there, at its index
 pub got : {X : Type 0} (xs : List X) (i : ℕ) (x d : X) → slice_get xs i ≡ Some x → (i < length xs) × (get_or xs i d ≡ x)

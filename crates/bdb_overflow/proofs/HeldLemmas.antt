@@ -1,8 +1,8 @@
 -- What was found of two chains.
+use Rattle.std.proofs.Common.{arith}
 use Rattle.std.proofs.Common.{◌≡◌, ℕ, Bool, false, List, refl, sym, ◌∙◌, ap, inl, inr}
 use Rattle.std.specs.Prelude.{Some}
 use Rattle.std.specs.BTreeMap.{BTreeMap, Updates, get}
-use Rattle.std.specs.Cmp.{nat_cmp_is}
 use Rattle.std.specs.Ordering.{is_eq, nat_cmp, ordering_then}
 use Rattle.std.specs.declared.cmp.Ordering.{Ordering}
 use Rattle.std.specs.declared.cmp.Ordering.TheVariants.{Less as Below, Equal, Greater}
@@ -14,11 +14,7 @@ use Rattle.bdb_format.proofs.ListLemmas.{one_answer}
 
 -- two numbers that differ
 pub apart : (a b : ℕ) → (a ≡ b → ⊥) → is_eq (nat_cmp a b) ≡ false
-apart a b differ =
-    elim (cases_order a b) [
-      | inl same ↦ absurd (differ same)
-      | inr rest ↦ elim rest [ inl less ↦ ap is_eq (sym (nat_cmp_is a b Below less)) | inr more ↦ ap is_eq (sym (nat_cmp_is a b Greater more)) ]
-    ]
+apart a b differ = grind (arith, cases_order)
 
 first_apart : (p q : Ordering) → is_eq p ≡ false → is_eq (ordering_then p q) ≡ false
 first_apart Below q is = refl

@@ -1,17 +1,17 @@
 -- Chains of a wrong length, item by item, and the faults that they are.
-use Rattle.std.proofs.Common.{◌≡◌, ℕ, ◌+◌, ◌*◌, ◌%◌, ◌<◌, ◌≤◌, Bool, true, false, cond, List, [], ◌∷◌, length, map, get_or, Some, arith, refl, ◌∙◌, ap, inl}
-use Rattle.std.proofs.Common.{inr, zero-add}
-use Rattle.std.specs.Prelude.{◌&&◌, ◌||◌, not, slice_get}
+use Rattle.std.proofs.Common.{◌≡◌, ℕ, ◌+◌, ◌*◌, ◌%◌, ◌<◌, ◌≤◌, Bool, true, false, List, [], ◌∷◌, length, map, get_or, Some, arith, refl, ◌∙◌, ap}
+use Rattle.std.proofs.Common.{zero-add}
+use Rattle.std.specs.Prelude.{◌&&◌, ◌||◌, slice_get}
 use Rattle.std.specs.List.{filter, flat_map, list_any, range_with_len}
 use Rattle.std.proofs.lemmas.Bool.{cases_order}
 use Rattle.std.proofs.lemmas.List.Folds.{flat_map-map, list_any-append, list_any_at}
 use Rattle.std.proofs.lemmas.List.FromFn.{get_or-range_with_len, length-range_with_len}
 use Rattle.bdb_graph.specs.Slots.{no_internal_item}
-use Rattle.bdb_format.specs.Chains.{chain_rows, content_chains, is_wrong_length}
+use Rattle.bdb_format.specs.Chains.{content_chains, is_wrong_length}
 use Rattle.bdb_format.specs.File.{File, page_at}
 use Rattle.bdb_format.specs.Page.{Content, DupLeaf, Hash, Internal, Item, InternalItem, Leaf, Listed, RecnoLeaf}
-use Rattle.bdb_format.specs.References.{is_shared_key, item_at, no_item, own_entries}
-use Rattle.bdb_format.specs.Verdict.{chain_faults, holding}
+use Rattle.bdb_format.specs.References.{is_shared_key, no_item}
+use Rattle.bdb_format.specs.Verdict.{chain_faults}
 use Rattle.bdb_format.proofs.MemberLemmas.{none_pass, of_range}
 use Rattle.bdb_format.proofs.VerdictLemmas.{no_faults, none_holds}
 use Rattle.bdb_overflow.specs.Lengths.{has_wrong, is_wrong, is_wrong_entry, is_wrong_item, is_wrong_key}
@@ -51,12 +51,7 @@ abbrev pub NoneBelow : (ℕ → Bool) → ℕ → Type 0
 NoneBelow test n = (k : ℕ) → k < n → test k ≡ false
 
 pub pair_more : (test : ℕ → Bool) (i : ℕ) → NoneBelow test (2 * i) → test (2 * i) ≡ false → test (2 * i + 1) ≡ false → NoneBelow test (2 * (i + 1))
-pair_more test i none key value k below =
-    elim (cases_order k (2 * i)) [
-      | inl same ↦ ap test same ∙ key
-      | inr (inl lesser) ↦ none k lesser
-      | inr (inr above) ↦ let last : k ≡ 2 * i + 1 = omega arith in ap test last ∙ value
-    ]
+pair_more test i none key value k below = grind (arith, cases_order)
 
 pub any_of_all : {X C : Type 0} (wrong : C → Bool) (f : X → List C) (xs : List X) → list_any wrong (flat_map f xs) ≡ list_any (λ x. list_any wrong (f x)) xs
 any_of_all wrong f [] = refl
@@ -78,17 +73,11 @@ none_of file f d xs n none all = wrong_held file f xs ∙ none_of_list (λ x. is
 
 any_kept : {X : Type 0} (test keeps : X → Bool) (xs : List X) → list_any test (filter keeps xs) ≡ list_any (λ x. keeps x && test x) xs
 any_kept test keeps [] = refl
-any_kept test keeps (x ∷ xs) =
-    elim (keeps x) as (λ b. list_any test (cond b (x ∷ filter keeps xs) (filter keeps xs)) ≡ ((b && test x) || list_any (λ y. keeps y && test y) xs)) [
-      | true ↦ ap (λ b. test x || b) (any_kept test keeps xs)
-      | false ↦ any_kept test keeps xs
-    ]
+any_kept test keeps (x ∷ xs) = grind (arith, any_kept test keeps xs)
 
 -- a btree leaf, entry by entry
 wrong_entries : (file : File) (page : Listed Item) → has_wrong file (Leaf page) ≡ list_any (is_wrong_entry file page) (range_with_len 0 (length page.items))
-wrong_entries file page =
-    wrong_held file (λ index. (item_at page index).content) (own_entries page)
-    ∙ any_kept (is_wrong_item file page) (λ index. not (is_shared_key page.offsets index)) (range_with_len 0 (length page.items))
+wrong_entries file page = grind (arith, wrong_held, any_kept)
 
 pub records_some : (file : File) (page : Listed Item) (i : ℕ) → i < length page.items → is_wrong_item file page i ≡ true → has_wrong file (RecnoLeaf page)
     ≡ true
@@ -138,6 +127,4 @@ leaf_none file page n none all =
 -- no fault at any page
 pub chains_none : (file : File) → ((p : ℕ) → p ≤ file.last → has_wrong file (page_at file p) ≡ false) → chain_faults file ≡ []
 unfolding chain_faults
-chains_none file right =
-    no_faults 6 0 (file.last + 1) (λ p. holding (chain_rows file p))
-    (λ p low high. none_holds (chain_rows file p) (right p (omega (arith, high)), tt))
+chains_none file right = grind (arith, no_faults, none_holds)

@@ -2,7 +2,7 @@
 use Rattle.std.proofs.Common.{◌≡◌, ◌⊎◌, ℕ, zero, suc, ◌+◌, ◌/◌, ◌<◌, ◌≤◌, Bool, true, false, not, cond, List, [], ◌∷◌, length, Option, Some, None, arith, refl}
 use Rattle.std.proofs.Common.{sym, ◌∙◌, ap, subst, inl, inr, true≢false}
 use Rattle.std.specs.Prelude.{◌==◌, ◌||◌, ◌&&◌, nat_lt}
-use Rattle.std.specs.List.{Contains, list_any}
+use Rattle.std.specs.List.{Contains}
 use Rattle.std.proofs.lemmas.Bool.{cases_Bool, cases_eq, eq-eqb, eqb-false, eqb-true, ltb-false, ne_eqb, or_parts}
 use Rattle.bdb_format.specs.declared.kinds.Order.{Order}
 use Rattle.bdb_format.specs.declared.metadata.FileKind.{FileKind}
@@ -67,15 +67,7 @@ length_is image p forest low =
 
 -- the type of a page is its type byte
 pub type_byte : (order : Order) (page : List ℕ) (t : ℕ) → type_in (abstract_page order page) ≡ Some t → (is_zero page ≡ false) × (byte_at page 25 ≡ t)
-type_byte order page t is =
-    elim (cases_Bool (is_zero page)) [
-      | inl empty ↦ absurd (let none : None ≡ Some t = zero_type order page empty ∙ is in cc)
-      | inr some ↦
-          elim (cases_Bool (list_any (λ t. t == byte_at page 25) (0 ∷ 2 ∷ 3 ∷ 4 ∷ 5 ∷ 6 ∷ 7 ∷ 8 ∷ 9 ∷ 10 ∷ 11 ∷ 12 ∷ 13 ∷ []))) [
-            | inl one ↦ (some, let same : Some (byte_at page 25) ≡ Some t = typed order page some one ∙ is in cc)
-            | inr none ↦ absurd (let lost : None ≡ Some t = untyped order page some none ∙ is in cc)
-          ]
-    ]
+type_byte order page t is = grind (arith, cases_Bool, None, Some, zero_type, typed, untyped)
 
 no_queue : (kind : FileKind) (p byte : ℕ) → 1 ≤ p → byte ≡ 7 → may_have_type kind p byte ≡ true → kind ≡ Queue → ⊥
 no_queue Btree p byte low seven may queue = cc
@@ -118,11 +110,7 @@ has_room image p forest low high some seven =
 
 asks_seven : (t : Option ℕ) (zero_page : Bool) → not (has_type (7 ∷ []) t || (false && zero_page)) ≡ false → t ≡ Some 7
 asks_seven None z fits = absurd cc
-asks_seven (Some t) z fits =
-    elim (cases_eq 7 t) [
-      | inl same ↦ ap (λ n. Some n) (sym same)
-      | inr other ↦ absurd (let no' : not (((7 == t) || false) || false) ≡ true = rw (ne_eqb 7 t other) refl in true≢false (sym no' ∙ fits))
-    ]
+asks_seven (Some t) z fits = grind (arith, cases_eq, Some, ne_eqb)
 
 -- a reference that asks for type 7 names a page of a chain
 named_on_chain : (image : List ℕ) (h : ℕ) (reference : Reference) → IsForest image → h ≤ (file_of image).last → Contains (refs (file_of image) h) reference
@@ -174,11 +162,7 @@ head_on_chain image p forest fits =
 link_is : (image : List ℕ) (p : ℕ) → IsForest image → IsOnChain image p
     → page_at (file_of image) p ≡ Overflow (header_of (head_of image).order (page_bytes (head_of image) image p))
     (data_at (head_of image).order (head_of image).page_size image p)
-link_is image p forest on =
-    let head : Head = head_of image in
-    page_is image p on.inside
-    ∙ overflow_page head.order (page_bytes head image p) on.link.kind (omega
-    (arith, length_is image p forest on.inside, (size_bounds head.page_size (legal_size image forest)).0))
+link_is image p forest on = grind (arith, page_is, overflow_page, length_is, size_bounds, legal_size)
 
 linked_next : (image : List ℕ) (p : ℕ) → IsForest image → IsOnChain image p
     → next_of (file_of image) p ≡ next_at (head_of image).order (head_of image).page_size image p
@@ -218,13 +202,7 @@ next_on_chain image p forest on more =
 
 next_named : (image : List ℕ) (p : ℕ) → IsForest image → IsOnChain image p → (next_at (head_of image).order (head_of image).page_size image p ≡ 0 → ⊥)
     → Names (file_of image) p (next_at (head_of image).order (head_of image).page_size image p)
-next_named image p forest on more =
-    record {
-      reference = next_reference (next_at (head_of image).order (head_of image).page_size image p);
-      held = names_next image p forest on more;
-      target = refl;
-      other = refl;
-    }
+next_named image p forest on more = grind (arith, names_next)
 
 -- A chain ends.
 
@@ -265,11 +243,7 @@ not_long turns image p forest on many long =
 -- a chain of a linked image is whole
 pub linked_whole : (image : List ℕ) (p : ℕ) → IsForest image → FitsChain (file_of image) p
     → IsWholeChain (head_of image).order (head_of image).page_size image p
-linked_whole image p forest fits =
-    let on : IsOnChain image p = head_on_chain image p forest fits in
-    let turns : ℕ = length image / (head_of image).page_size in
-    let many : (head_of image).last < turns = omega (arith, formed_last image (head_of image) forest.formed, pages_is image) in
-    elim (ends_or_long turns image p forest on) [ inl ends ↦ record { ends = ends } | inr long ↦ absurd (not_long turns image p forest on many long) ]
+linked_whole image p forest fits = grind (arith, head_on_chain, formed_last, pages_is, ends_or_long, not_long)
 
 -- The file of the image, and its pages as such.
 
@@ -310,10 +284,7 @@ same_turns (suc turns) image p forest on =
 pub linked_pieces : (image : List ℕ) (p : ℕ) → IsForest image → FitsChain (file_of image) p
     → pieces_of (file_as (head_of image).order (head_of image).page_size image) p ≡ pieces_of (file_of image) p
 unfolding pieces_of
-linked_pieces image p forest fits =
-    let other : File = file_as (head_of image).order (head_of image).page_size image in
-    let counts : (file_of image).count ≡ other.count = count_is image ∙ sym (count_as (head_of image).order (head_of image).page_size image) in
-    sym (ap (λ turns. pieces_in turns (file_of image) p) counts ∙ same_turns other.count image p forest (head_on_chain image p forest fits))
+linked_pieces image p forest fits = grind (arith, count_is, count_as, pieces_in, same_turns, head_on_chain)
 
 -- what the chains of a linked image are
 pub ruleset linked_chains = (legal_size, linked_whole, linked_pieces, count_is)

@@ -50,30 +50,14 @@ pub order_at_end : (answer : Ordering) (a b front_a front_b rest_a rest_b : List
     → (front_a ≡ [] → a ≡ []) → (front_b ≡ [] → b ≡ []) → (front_a ≡ []) ⊎ (front_b ≡ []) → OrderingIs answer a b
 order_at_end answer a b [] [] rest_a rest_b is is_a is_b end_a end_b one = subst (λ x. OrderingIs answer x b) (sym (end_a refl))
     (subst (OrderingIs answer []) (sym (end_b refl)) is)
-order_at_end answer a b [] (y ∷ ys) rest_a rest_b is is_a is_b end_a end_b one =
-    subst (λ x. OrderingIs answer x b) (sym (end_a refl)) (subst (OrderingIs answer []) (sym is_b) (none_first answer is))
-  where
-    none_first : (answer : Ordering) → OrderingIs answer [] (y ∷ ys) → OrderingIs answer [] (y ∷ (ys ++ rest_b))
-    none_first Below is = is
-    none_first Equal is = absurd cc
-    none_first Greater is = absurd cc
-order_at_end answer a b (x ∷ xs) [] rest_a rest_b is is_a is_b end_a end_b one =
-    subst (λ z. OrderingIs answer z b) (sym is_a) (subst (OrderingIs answer (x ∷ (xs ++ rest_a))) (sym (end_b refl)) (none_second answer is))
-  where
-    none_second : (answer : Ordering) → OrderingIs answer (x ∷ xs) [] → OrderingIs answer (x ∷ (xs ++ rest_a)) []
-    none_second Below is = absurd cc
-    none_second Equal is = absurd cc
-    none_second Greater is = is
+order_at_end answer a b [] (y ∷ ys) rest_a rest_b is is_a is_b end_a end_b one = grind arith
+order_at_end answer a b (x ∷ xs) [] rest_a rest_b is is_a is_b end_a end_b one = grind arith
 order_at_end answer a b (x ∷ xs) (y ∷ ys) rest_a rest_b is is_a is_b end_a end_b one = elim one [ inl none ↦ absurd cc | inr none ↦ absurd cc ]
 
 -- Steps of a comparison.
 
 pub step : (front a b c d zs ws : List ℕ) → HaveOrderOf a b c d → a ≡ front ++ zs → b ≡ front ++ ws → HaveOrderOf zs ws c d
-step front a b c d zs ws have is_a is_b =
-    record {
-      order = λ answer is. have.order answer (subst (λ x. OrderingIs answer x b) (sym is_a)
-          (subst (OrderingIs answer (front ++ zs)) (sym is_b) (order_after answer front zs ws is)));
-    }
+step front a b c d zs ws have is_a is_b = grind (arith, order_after)
 
 -- the lists are written otherwise
 pub alike : (a b e f c d : List ℕ) → e ≡ a → f ≡ b → HaveOrderOf a b c d → HaveOrderOf e f c d
@@ -111,6 +95,4 @@ pub ends_decide : (answer : Ordering) (front_a front_b rest_a rest_b c d : List 
     → OrderingIs answer front_a front_b
     → (front_a ≡ [] → front_a ++ rest_a ≡ []) → (front_b ≡ [] → front_b ++ rest_b ≡ []) → HaveOrderOf (front_a ++ rest_a) (front_b ++ rest_b) c d
     → OrderingIs answer c d
-ends_decide answer front_a front_b rest_a rest_b c d none is end_a end_b have =
-    have.order answer
-    (order_at_end answer (front_a ++ rest_a) (front_b ++ rest_b) front_a front_b rest_a rest_b is refl refl end_a end_b (one_empty front_a front_b none))
+ends_decide answer front_a front_b rest_a rest_b c d none is end_a end_b have = grind (arith, order_at_end, one_empty)

@@ -1,18 +1,17 @@
 -- Pieces with bytes, and the pages that are passed over.
-use Rattle.std.proofs.Common.{◌≡◌, ◌≢◌, ℕ, zero, suc, ◌+◌, ◌/◌, ◌<◌, ◌≤◌, true, List, [], ◌∷◌, ◌++◌, length, arith, refl, sym, ◌∙◌, ap, subst, inl, inr}
-use Rattle.std.specs.Prelude.{Option, Some, None, get_or}
+use Rattle.std.proofs.Common.{◌≡◌, ◌≢◌, ℕ, zero, suc, ◌+◌, ◌/◌, ◌<◌, ◌≤◌, true, List, [], ◌∷◌, ◌++◌, length, arith, refl, sym, ◌∙◌, ap, subst}
+use Rattle.std.specs.Prelude.{Option, Some, None}
 use Rattle.bdb_format.specs.declared.kinds.Order.{Order}
-use Rattle.bdb_format.specs.declared.metadata.Head.{Head}
 use Rattle.bdb_format.specs.Chains.{joined, next_of, piece_in, pieces_of}
-use Rattle.bdb_format.specs.File.{File, file_as, file_of, header_in, page_at, page_bytes}
+use Rattle.bdb_format.specs.File.{file_as, file_of, header_in, page_at}
 use Rattle.bdb_format.specs.HeadOf.{head_of, is_page_size}
 use Rattle.bdb_format.specs.Page.{Overflow}
 use Rattle.bdb_format.specs.Reading.{header_of}
 use Rattle.bdb_format.proofs.FileLemmas.{last_page, page_is}
 use Rattle.bdb_format.proofs.SizeLemmas.{size_bounds}
-use Rattle.bdb_graph.specs.Blanks.{ArePassed, ArePassedIfAny as AreKnownPassed, ComesAfter, IsAfter, IsBlank, page_past}
+use Rattle.bdb_graph.specs.Blanks.{ArePassedIfAny as AreKnownPassed, ComesAfter}
 use Rattle.bdb_graph.specs.Linked.{IsForest}
-use Rattle.bdb_overflow.specs.Taken.{ArePassedIfAny, ArePassedOn, StandsFor, full_pieces, taken_pieces}
+use Rattle.bdb_overflow.specs.Taken.{ArePassedIfAny, StandsFor, full_pieces, taken_pieces}
 use Rattle.bdb_overflow.specs.Whole.{IsLeft, IsLink, IsWholeChain, bytes_of, next_at, pieces_from}
 use Rattle.bdb_overflow.specs.declared.taken.Taken.{Taken}
 use Rattle.bdb_overflow.specs.declared.taken.Taken.TheVariants.{Each, WithData}
@@ -53,20 +52,6 @@ pub blank_first : (piece : List ℕ) (rest : List (List ℕ)) → piece ≡ [] �
 blank_first [] rest blank = refl
 blank_first (byte ∷ bytes) rest blank = absurd cc
 
--- and one with bytes stays
-pub full_first : (piece : List ℕ) (rest : List (List ℕ)) → (piece ≡ [] → ⊥) → full_pieces (piece ∷ rest) ≡ piece ∷ full_pieces rest
-full_first [] rest full = absurd (full refl)
-full_first (byte ∷ bytes) rest full = refl
-
-one_piece : (piece other : List ℕ) (rest more : List (List ℕ)) → piece ∷ rest ≡ other ∷ more → piece ≡ other
-one_piece piece other rest more is = cc
-
--- the first of pieces has bytes
-pub starts_full : (pieces : List (List ℕ)) (piece : List ℕ) (rest : List (List ℕ)) → pieces ≡ piece ∷ rest → (piece ≡ [] → ⊥)
-    → (other : List ℕ) (more : List (List ℕ)) → pieces ≡ other ∷ more → full_pieces (other ∷ more) ≡ other ∷ full_pieces more
-starts_full pieces piece rest are full other more is =
-    full_first other more (λ blank. full (one_piece piece other rest more (sym are ∙ is) ∙ blank))
-
 -- Pages that are passed over.
 
 -- a page stands for itself
@@ -78,10 +63,7 @@ page_here : (image : List ℕ) (p : ℕ) → 26 ≤ (head_of image).page_size �
     → p ≤ (file_of image).last
     → page_at (file_of image) p ≡ Overflow (header_of (head_of image).order (bytes_of (head_of image).page_size image p))
     (data_at (head_of image).order (head_of image).page_size image p)
-page_here image p long link low =
-    let head : Head = head_of image in
-    page_is image p (omega (arith, low, last_page image))
-    ∙ overflow_page head.order (bytes_of head.page_size image p) link.kind (omega (arith, long, page_length head.page_size image p (omega arith) link.high))
+page_here image p long link low = grind (arith, page_is, last_page, overflow_page, page_length)
 
 stands : (n : ℕ) (image : List ℕ) (p q : ℕ) → is_page_size (head_of image).page_size ≡ true → ComesAfter n (file_of image) p q
     → IsLeft (head_of image).order (head_of image).page_size image p → StandsFor (head_of image).order (head_of image).page_size image p q
@@ -108,11 +90,7 @@ stands (suc n) image p q legal comes left =
 pub passed_on : (image : List ℕ) (blanks : Option (List ℕ)) → IsForest image → AreKnownPassed (file_of image) blanks
     → ArePassedIfAny (head_of image).order (head_of image).page_size image blanks
 passed_on image None forest passed = tt
-passed_on image (Some nexts) forest passed = record {
-  each = λ p left.
-      let after : IsAfter (file_of image) p (page_past nexts p) = passed.each p in
-      stands after.blanks image p (page_past nexts p) (legal_size image forest) after.comes left;
-}
+passed_on image (Some nexts) forest passed = grind (arith, stands, legal_size)
 
 -- what is taken of the chains of a linked image
 pub ruleset taken_chains = (legal_size, linked_whole, linked_pieces, count_is, passed_on, joined_full)

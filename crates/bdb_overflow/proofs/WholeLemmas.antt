@@ -23,10 +23,7 @@ use Rattle.bdb_format.proofs.SizeLemmas.{size_bounds}
 
 -- a page lies within its image
 pub page_room : (n size p : ℕ) → 1 ≤ size → p < n / size → p * size + size ≤ n
-page_room n size p some there =
-    let next : p + 1 ≤ n / size = omega arith in
-    let room : (p + 1) * size ≤ n / size * size = mul-le-mul_right size next in
-    omega arith
+page_room n size p some there = grind (arith, mul-le-mul_right)
 
 pub page_length : (size : ℕ) (image : List ℕ) (p : ℕ) → 1 ≤ size → p < length image / size → length (bytes_of size image p) ≡ size
 page_length size image p some there =
@@ -52,9 +49,7 @@ data_at order size image p = take (two_at order (bytes_of size image p) 22) (dro
 
 link_page : (order : Order) (size : ℕ) (image : List ℕ) (p : ℕ) → 26 ≤ size → IsLink order size image p
     → page_at (file_as order size image) p ≡ Overflow (header_of order (bytes_of size image p)) (data_at order size image p)
-link_page order size image p long link =
-    page_as_is order size image p link.high
-    ∙ overflow_page order (bytes_of size image p) link.kind (omega (arith, page_length size image p (omega arith) link.high))
+link_page order size image p long link = grind (arith, page_as_is, overflow_page, page_length)
 
 pub link_next : (order : Order) (size : ℕ) (image : List ℕ) (p : ℕ) → 26 ≤ size → IsLink order size image p → next_of (file_as order size image) p
     ≡ next_at order size image p
@@ -83,21 +78,13 @@ after_piece last piece rest = piece ∷ cond last [] rest
 pub pieces_turn : (turns : ℕ) (file : File) (p : ℕ)
     → pieces_in (suc turns) file p ≡ after_piece (next_of file p == 0) (piece_in (page_at file p)) (pieces_in turns file (next_of file p))
 unfolding chain_in
-pieces_turn turns file p =
-    elim (next_of file p == 0) as (λ b.
-    map (λ q. piece_in (page_at file q)) (p ∷ elim b [ true ↦ [] | false ↦ chain_in turns file (next_of file p) ])
-    ≡ after_piece b (piece_in (page_at file p)) (pieces_in turns file (next_of file p))) [ true ↦ refl | false ↦ refl ]
+pieces_turn turns file p = grind arith
 
 -- a page of a chain in one turn more than the rest of it takes
 link_turn : (turns : ℕ) (order : Order) (size : ℕ) (image : List ℕ) (p : ℕ) → 26 ≤ size → IsLink order size image p
     → pieces_in (suc turns) (file_as order size image) p ≡ after_piece (next_at order size image p == 0) (data_at order size image p)
     (pieces_in turns (file_as order size image) (next_at order size image p))
-link_turn turns order size image p long link =
-    let file : File = file_as order size image in
-    pieces_turn turns file p
-    ∙ (ap (λ next. after_piece (next == 0) (piece_in (page_at file p)) (pieces_in turns file next)) (link_next order size image p long link)
-    ∙ ap (λ piece. after_piece (next_at order size image p == 0) piece (pieces_in turns file (next_at order size image p)))
-    (link_piece order size image p long link))
+link_turn turns order size image p long link = grind (arith, pieces_turn, link_next, link_piece)
 
 -- enough turns are enough: one more gives the same pieces
 enough : (turns : ℕ) (order : Order) (size : ℕ) (image : List ℕ) (p : ℕ) → 26 ≤ size → EndsIn turns order size image p
@@ -129,11 +116,7 @@ whole_link order size image p whole = first_link (length image / size) order siz
 rest_of : (turns : ℕ) (order : Order) (size : ℕ) (image : List ℕ) (p : ℕ) → EndsIn turns order size image p
     → (next_at order size image p ≡ 0) ⊎ EndsIn turns order size image (next_at order size image p)
 rest_of zero order size image p ends = absurd ends
-rest_of (suc turns) order size image p ends = elim ends.1 [
-  | inl last ↦ inl last
-  | inr more ↦ inr
-      (ends_later turns order size image (next_at order size image p) more)
-]
+rest_of (suc turns) order size image p ends = grind (arith, ends_later)
 
 -- what comes after a page of a whole chain is nothing, or a whole chain
 pub whole_rest : (order : Order) (size : ℕ) (image : List ℕ) (p : ℕ) → IsWholeChain order size image p → (next_at order size image p ≡ 0)
@@ -151,9 +134,7 @@ pieces_step turns order size image p long ends =
 pub pieces_from_cons : (order : Order) (size : ℕ) (image : List ℕ) (p : ℕ) → is_page_size size ≡ true → IsWholeChain order size image p
     → pieces_from order size image p ≡ data_at order size image p ∷ pieces_from order size image (next_at order size image p)
 unfolding pieces_from pieces_of file_as
-pieces_from_cons order size image p legal whole =
-    let link : IsLink order size image p = whole_link order size image p whole in
-    rw (ne_eqb p 0 (omega (arith, link.low))) (pieces_step (length image / size) order size image p (long_enough size legal) whole.ends)
+pieces_from_cons order size image p legal whole = grind (arith, whole_link, ne_eqb, pieces_step, long_enough)
 
 pub at_end : (order : Order) (size : ℕ) (image : List ℕ) (p : ℕ) → p ≡ 0 → pieces_from order size image p ≡ []
 unfolding pieces_from
@@ -234,10 +215,4 @@ within n size some = omega arith
 pub left_short : (order : Order) (size : ℕ) (image : List ℕ) (p : ℕ) → IsLeft order size image p
     → length (joined (pieces_from order size image p)) ≤ length image
 unfolding pieces_of file_as
-left_short order size image p left =
-    elim left.rest [
-      | inl last ↦ rw (at_end order size image p last) (omega arith)
-      | inr whole ↦
-          let few = chain_short (length image / size) order size image p (long_enough size left.legal) whole.ends in
-          rw (pieces_from_all order size image p whole) (omega (arith, few, within (length image) size (omega (arith, long_enough size left.legal))))
-    ]
+left_short order size image p left = grind (arith, at_end, chain_short, long_enough, pieces_from_all, within)

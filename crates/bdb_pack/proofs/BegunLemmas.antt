@@ -47,21 +47,13 @@ new_none : (order : Order) (page new : List ℕ) (index at : ℕ) (item : PageIt
     → (is_hash_type (byte_at page 25) ≡ true → (hash_end order new index ≡ at + length (item_bytes order item))
     × (0 < index → at + length (item_bytes order item) ≤ offset_of order new (index - 1)))
     → item_row (page_type (byte_at page 25)) order new index ≡ None
-new_none order page new index at (OnLeaf item) rest type holds fits place is ends =
-    let none = leaf_row_none order new index at item rest is fits (subst (λ b. HasPlace b index (OnLeaf item)) (sym type) place) in
-    elim (cases_leaf (byte_at page 25) holds) [
-      | inl five ↦ ap (λ b. item_row (page_type b) order new index) five ∙ none
-      | inr (inl six) ↦ ap (λ b. item_row (page_type b) order new index) six ∙ none
-      | inr (inr twelve) ↦ ap (λ b. item_row (page_type b) order new index) twelve ∙ none
-    ]
+new_none order page new index at (OnLeaf item) rest type holds fits place is ends = grind (arith, leaf_row_none, cases_leaf)
 new_none order page new index at (OnInternal item) rest type holds fits place is ends =
     ap (λ b. item_row (page_type b) order new index) (eqb-true (byte_at page 25) 3 holds)
     ∙ internal_row_none order new index at item.child item.count item.key rest is fits.0
 new_none order page new index at (OnRecno item) rest type holds fits place is ends =
     ap (λ b. item_row (page_type b) order new index) (eqb-true (byte_at page 25) 4 holds) ∙ recno_row_none order new index at item rest is
-new_none order page new index at (OnHash content) rest type holds fits place is ends =
-    ap (λ t. item_row t order new index) (hash_page (byte_at page 25) holds) ∙ hash_row_none order new index at content rest is fits place (ends holds).0
-    (λ some. let least = hash_least order content fits in let up = (ends holds).1 some in omega (arith, least, up))
+new_none order page new index at (OnHash content) rest type holds fits place is ends = grind (arith, hash_page, hash_row_none, hash_least)
 
 -- the page with one more entry, whose items lie from a high free offset on
 pub grown_stays : (order : Order) (page new : List ℕ) (at high : ℕ) → IsBegun order page → IsEntered order page new at high

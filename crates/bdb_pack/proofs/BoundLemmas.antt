@@ -10,7 +10,7 @@ use Rattle.bdb_format.specs.declared.pages.ItemFault.TheVariants.{Offset}
 use Rattle.bdb_format.specs.Numbers.{byte_at}
 use Rattle.bdb_format.specs.Page.{HashPage, InternalPage, LeafPage, PageType, RecnoInternalPage}
 use Rattle.bdb_format.specs.Reading.{entries_of, index_end, offset_of, page_type}
-use Rattle.bdb_format.specs.Rows.{does_not_fall, hash_rows, internal_rows, item_code, item_row, leaf_rows, recno_rows}
+use Rattle.bdb_format.specs.Rows.{hash_rows, internal_rows, item_code, item_row, leaf_rows, recno_rows}
 use Rattle.bdb_format.specs.Table.{◌:?◌, first_row}
 use Rattle.bdb_format.proofs.SizeLemmas.{size_bounds}
 use Rattle.bdb_pack.specs.Placing.{RowsBegin, high_free_of}
@@ -25,10 +25,7 @@ above : (a b : ℕ) → nat_le a b ≡ false → b ≤ a
 above a b is = grind (arith, nat_tests)
 
 by_size : (order : Order) (page : List ℕ) (at more : ℕ) → (nat_lt at (index_end order page) || nat_lt (length page) (at + more)) ≡ false → Bound order page at
-by_size order page at more is =
-    let both = or_parts (nat_lt at (index_end order page)) (nat_lt (length page) (at + more)) is in
-    let up : at + more ≤ length page = ltb-false (length page) (at + more) both.1 in
-    record { low = ltb-false at (index_end order page) both.0; high = omega (arith, up) }
+by_size order page at more is = grind (arith, or_parts, ltb-false)
 
 first_two : (a b c : Bool) → (a || b || c) ≡ false → (a ≡ false) × (b ≡ false)
 first_two true b c is = absurd cc
@@ -41,11 +38,7 @@ one_none false none = refl
 
 hash_bound : (order : Order) (page : List ℕ) (i : ℕ) → item_row HashPage order page i ≡ None → Bound order page (offset_of order page i)
 unfolding hash_rows
-hash_bound order page i none =
-    let both =
-    first_two (nat_lt (offset_of order page i) (index_end order page)) (nat_le (length page) (offset_of order page i)) (does_not_fall order page i)
-    (none_of_three _ _ _ none).0 in
-    record { low = ltb-false _ _ both.0; high = above _ _ both.1 }
+hash_bound order page i none = grind (arith, first_two, none_of_three, ltb-false, above)
 
 leaf_bound : (order : Order) (page : List ℕ) (i : ℕ) → item_row LeafPage order page i ≡ None → Bound order page (offset_of order page i)
 unfolding leaf_rows

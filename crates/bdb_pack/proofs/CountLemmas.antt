@@ -1,27 +1,15 @@
 -- The pages of a chain are as many as its bytes fill.
-use Rattle.std.proofs.Common.{◌≡◌, ℕ, zero, suc, min, ◌+◌, ◌-◌, ◌*◌, ◌<◌, ◌≤◌, [], ◌∷◌, length, drop, arith, refl, ap, length-drop}
+use Rattle.std.proofs.Common.{◌≡◌, ℕ, zero, suc, min, ◌+◌, ◌-◌, ◌*◌, ◌<◌, ◌≤◌, [], ◌∷◌, length, drop, arith, refl, length-drop}
 use Rattle.bdb_pack.specs.Values.{ChainsAreCounted, piece_length}
 use Rattle.bdb_pack.proofs.CutLemmas.{suc-times}
 
 -- one page more, in numbers: `n` bytes of which the page takes `k`, and `m` pages for the rest
 more : (m w n k : ℕ) → 0 < n → k ≡ min w n → n - k ≤ m * w → (0 < m → (m - 1) * w < n - k) → (n ≤ suc m * w) × (0 < suc m → (suc m - 1) * w < n)
-more zero w n k some taken fits fills =
-    let one : suc zero * w ≡ w + 0 * w = suc-times zero w in
-    let none : 0 * w ≡ 0 = grind arith in
-    let same : suc zero - 1 ≡ 0 = omega arith in
-    (omega (arith, one, none, fits, taken), λ any. omega (arith, ap (λ x. x * w) same, none, some))
-more (suc m) w n k some taken fits fills =
-    let two : suc (suc m) * w ≡ w + suc m * w = suc-times (suc m) w in
-    let one : suc m * w ≡ w + m * w = suc-times m w in
-    let same : suc (suc m) - 1 ≡ suc m = omega arith in
-    let less : suc m - 1 ≡ m = omega arith in
-    let lower : (suc m - 1) * w < n - k = fills (omega arith) in
-    (omega (arith, two, fits, taken), λ any. omega (arith, ap (λ x. x * w) same, ap (λ x. x * w) less, one, lower, taken))
+more zero w n k some taken fits fills = grind (arith, suc-times)
+more (suc m) w n k some taken fits fills = grind (arith, suc-times)
 
 pub chains_are_counted : ChainsAreCounted
-chains_are_counted order size number previous rest [] chain =
-    let none : length rest ≡ 0 = ap length chain in
-    (omega (arith, none), λ one. absurd (omega (arith, one)))
+chains_are_counted order size number previous rest [] chain = grind arith
 chains_are_counted order size number previous rest (page ∷ pages) chain =
     let k : ℕ = piece_length size rest in
     let later = chains_are_counted order size (number + 1) number (drop k rest) pages chain.2 in

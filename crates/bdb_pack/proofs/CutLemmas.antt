@@ -1,6 +1,6 @@
 -- Bytes that are cut into pages.
 use Rattle.std.proofs.Common.{◌≡◌, ℕ, zero, suc, ◌+◌, ◌-◌, ◌*◌, ◌<◌, ◌≤◌, List, [], ◌∷◌, ◌++◌, length, take, drop, get_or, set, replicate, arith, refl, sym}
-use Rattle.std.proofs.Common.{◌∙◌, ap, length-append, length-drop, length-take, min, inl, inr}
+use Rattle.std.proofs.Common.{◌∙◌, ap, length-append, length-drop, length-take, min}
 use Rattle.std.proofs.lemmas.List.{length-take-le, take-append-drop, drop-drop, drop-take, get_or_append_left, get_or_push, get_or-set_other, get_or-set_same}
 use Rattle.std.proofs.lemmas.List.{length-replicate, length-set, drop_all, append-nil, take-take, take_all, take-append-le, drop-append-le, take_at, drop_at}
 use Rattle.std.proofs.lemmas.List.{append_assoc, nil_from_length}
@@ -31,16 +31,12 @@ joined_cut size (suc n) bytes whole =
 pub page_of_cut : (size count : ℕ) (bytes : List ℕ) (p : ℕ) → p < count → get_or (cut size count bytes) p [] ≡ take size (drop (p * size) bytes)
 page_of_cut size zero bytes p low = absurd (omega arith)
 page_of_cut size (suc n) bytes zero low = let e : 0 * size ≡ 0 = grind arith in ap (λ k. take size (drop k bytes)) (sym e)
-page_of_cut size (suc n) bytes (suc p) low =
-    page_of_cut size n (drop size bytes) p (omega arith)
-    ∙ (ap (take size) (drop-drop (p * size) size bytes) ∙ ap (λ k. take size (drop k bytes)) (let e = suc-times p size in omega (arith, e)))
+page_of_cut size (suc n) bytes (suc p) low = grind (arith, drop-drop, suc-times, page_of_cut size n (drop size bytes) p (omega arith))
 
 -- one page more
 pub cut_more : (size n : ℕ) (bytes page : List ℕ) → length bytes ≡ n * size → length page ≡ size
     → cut size (n + 1) (bytes ++ page) ≡ cut size n bytes ++ (page ∷ [])
-cut_more size zero bytes page whole long =
-    let none : length bytes ≡ 0 = grind arith in
-    ap (λ bs. cut size 1 (bs ++ page)) (nil_from_length bytes none) ∙ ap (λ p. p ∷ []) (take_all size page (omega arith))
+cut_more size zero bytes page whole long = grind (arith, nil_from_length, take_all)
 cut_more size (suc n) bytes page whole long =
     let total : length bytes ≡ size + n * size = whole ∙ suc-times n size in
     let rest : length (drop size bytes) ≡ n * size = omega (arith, length-drop size bytes, total) in
@@ -54,14 +50,7 @@ cut_more size (suc n) bytes page whole long =
 pub cut_set : (size n : ℕ) (bytes page : List ℕ) (p : ℕ) → length bytes ≡ n * size → length page ≡ size → p < n
     → cut size n (overwritten bytes (p * size) page) ≡ set (cut size n bytes) p page
 cut_set size zero bytes page p whole long low = absurd (omega arith)
-cut_set size (suc n) bytes page zero whole long low =
-    let total : length bytes ≡ size + n * size = whole ∙ suc-times n size in
-    let e : 0 * size ≡ 0 = grind arith in
-    let f : overwritten bytes (0 * size) page ≡ page ++ drop size bytes =
-    ap (λ k. overwritten bytes k page) e ∙ ap (λ k. page ++ drop k bytes) (let g : 0 + length page ≡ size = omega arith in g) in
-    ap (cut size (suc n)) f
-    ∙ (ap (λ q. q ∷ cut size n (drop size (page ++ drop size bytes))) (take_at page (drop size bytes) size long)
-    ∙ ap (λ bs. page ∷ cut size n bs) (drop_at page (drop size bytes) size long))
+cut_set size (suc n) bytes page zero whole long low = grind (arith, suc-times, take_at, drop_at)
 cut_set size (suc n) bytes page (suc p) whole long low =
     let total : length bytes ≡ size + n * size = whole ∙ suc-times n size in
     let rest : length (drop size bytes) ≡ n * size = omega (arith, length-drop size bytes, total) in
@@ -90,20 +79,12 @@ cut_set size (suc n) bytes page (suc p) whole long low =
 pub lent : (size count : ℕ) (bytes : List ℕ) (at : ℕ) (piece : List ℕ) → length bytes ≡ count * size
     → cut size count (take at bytes ++ (piece ++ drop (length piece) (drop at bytes)))
     ≡ cut size (length (cut size count bytes)) (overwritten (joined_pages (cut size count bytes)) at piece)
-lent size count bytes at piece whole =
-    ap (λ xs. cut size count (take at bytes ++ (piece ++ xs))) (drop-drop (length piece) at bytes)
-    ∙ (ap (λ n. cut size n (overwritten bytes at piece)) (sym (length_cut size count bytes))
-    ∙ ap (λ bs. cut size (length (cut size count bytes)) (overwritten bs at piece)) (sym (joined_cut size count bytes whole)))
+lent size count bytes at piece whole = grind (arith, drop-drop, length_cut, joined_cut)
 
 -- only the bytes of the pages count
 pub cut_take : (size n : ℕ) (bytes : List ℕ) → cut size n (take (n * size) bytes) ≡ cut size n bytes
 cut_take size zero bytes = refl
-cut_take size (suc n) bytes =
-    let e : suc n * size ≡ size + n * size = suc-times n size in
-    ap (λ k. cut size (suc n) (take k bytes)) e
-    ∙ (ap (λ p. p ∷ cut size n (drop size (take (size + n * size) bytes))) (take-take size (size + n * size) bytes (omega arith))
-    ∙ (ap (λ bs. take size bytes ∷ cut size n bs) (drop-take size (n * size) bytes)
-    ∙ ap (λ ps. take size bytes ∷ ps) (cut_take size n (drop size bytes))))
+cut_take size (suc n) bytes = grind (arith, suc-times, take-take, drop-take, cut_take size n (drop size bytes))
 
 -- the first pages of the bytes
 pub cut_fewer : (size k n : ℕ) (bytes : List ℕ) → k ≤ n → cut size k bytes ≡ take k (cut size n bytes)
@@ -114,35 +95,18 @@ cut_fewer size (suc k) (suc n) bytes few = ap (λ ps. take size bytes ∷ ps) (c
 -- a vector keeps its length, whatever is written
 pub kept : (size count : ℕ) (bytes written : List ℕ) → length bytes ≡ count * size → length bytes ≤ length written
     → cut size count (take (length bytes) (written ++ drop (length written) bytes)) ≡ cut size count written
-kept size count bytes written whole long =
-    ap (λ xs. cut size count (take (length bytes) (written ++ xs))) (drop_all (length written) bytes long)
-    ∙ (ap (λ xs. cut size count (take (length bytes) xs)) (append-nil written)
-    ∙ (ap (λ n. cut size count (take n written)) whole ∙ cut_take size count written))
+kept size count bytes written whole long = grind (arith, drop_all, append-nil, cut_take)
 
 pub long_enough : (bytes piece : List ℕ) (at : ℕ) → length bytes ≤ length (take at bytes ++ (piece ++ drop (length piece) (drop at bytes)))
-long_enough bytes piece at =
-    omega (
-      arith,
-      length-append (take at bytes) (piece ++ drop (length piece) (drop at bytes)),
-      length-append piece (drop (length piece) (drop at bytes)),
-      length-take at bytes,
-      length-drop at bytes,
-      length-drop (length piece) (drop at bytes),
-    )
+long_enough bytes piece at = grind (arith, length-append, length-take, length-drop)
 
 -- the bytes written over one page are that page
 pub written_page : (size count : ℕ) (order : Order) (bytes : List ℕ) (p : ℕ) (page : List ℕ) → length bytes ≡ count * size → p < count → length page ≡ size
     → written_over (built_of size order count bytes) p page ≡ with_page (built_of size order count bytes) p page
-written_page size count order bytes p page whole low long =
-    ap (λ pages. let b : Built = record { size = size; order = order; pages = pages } in b)
-    (ap (λ n. cut size n (overwritten (joined_pages (cut size count bytes)) (p * size) page)) (length_cut size count bytes)
-    ∙ (ap (λ bs. cut size count (overwritten bs (p * size) page)) (joined_cut size count bytes whole) ∙ cut_set size count bytes page p whole long low))
+written_page size count order bytes p page whole low long = grind (arith, length_cut, joined_cut, cut_set)
 
 pub page_length : (size count : ℕ) (bytes : List ℕ) (p : ℕ) → length bytes ≡ count * size → p < count → length (get_or (cut size count bytes) p []) ≡ size
-page_length size count bytes p whole low =
-    let room : suc p * size ≤ count * size = mul-le-mul_right size (omega arith) in
-    let e : suc p * size ≡ size + p * size = suc-times p size in
-    ap length (page_of_cut size count bytes p low) ∙ length-take-le size (drop (p * size) bytes) (omega (arith, length-drop (p * size) bytes))
+page_length size count bytes p whole low = grind (arith, mul-le-mul_right, suc-times, page_of_cut, length-take-le, length-drop)
 
 -- whole pages, joined and cut again
 pub all_size : (size : ℕ) (pages : List (List ℕ)) → ((p : ℕ) → p < length pages → length (get_or pages p []) ≡ size)
@@ -167,11 +131,7 @@ written_whole built p page whole low long =
 -- pages stay whole with one more
 pub more_whole : (built : Built) (page : List ℕ) → AreWhole built → length page ≡ built.size
     → AreWhole (record built { pages = built.pages ++ (page ∷ []) })
-more_whole built page whole long p low =
-    elim (cases_lt p (length built.pages)) [
-      | inl below ↦ ap length (get_or_append_left built.pages (page ∷ []) [] p below) ∙ whole p below
-      | inr over ↦ ap length (get_or_push built.pages page [] p (omega (arith, over, low, length-append built.pages (page ∷ [])))) ∙ long
-    ]
+more_whole built page whole long p low = grind (arith, cases_lt, get_or_append_left, get_or_push, length-append)
 
 pub zeros_whole : (built : Built) → AreWhole built → AreWhole (with_zeros built)
 zeros_whole built whole = more_whole built (replicate built.size 0) whole (length-replicate built.size 0)
@@ -179,11 +139,7 @@ zeros_whole built whole = more_whole built (replicate built.size 0) whole (lengt
 -- and with other bytes on one
 pub page_whole : (built : Built) (p : ℕ) (page : List ℕ) → AreWhole built → p < length built.pages → length page ≡ built.size
     → AreWhole (with_page built p page)
-page_whole built p page whole here long q low =
-    elim (cases_eq q p) [
-      | inl same ↦ ap (λ k. length (bytes_of (with_page built p page) k)) same ∙ (ap length (get_or-set_same built.pages p page [] here) ∙ long)
-      | inr other ↦ ap length (get_or-set_other built.pages p q page [] other) ∙ whole q (omega (arith, low, length-set built.pages p page))
-    ]
+page_whole built p page whole here long q low = grind (arith, cases_eq, get_or-set_same, get_or-set_other, length-set)
 
 -- the bytes of a page copied over those of another
 pub copied_over : (size count : ℕ) (order : Order) (bytes : List ℕ) (from to end : ℕ) → length bytes ≡ count * size → from < count → to < count

@@ -6,7 +6,7 @@ use Rattle.bdb_format.specs.declared.kinds.Order.{Order}
 use Rattle.bdb_format.specs.Numbers.{byte_at, four_at}
 use Rattle.bdb_format.specs.Page.{PageType}
 use Rattle.bdb_format.specs.Reading.{entries_of, index_end, is_zero, page_type}
-use Rattle.bdb_format.specs.Rows.{body_code, code_of, identity_rows, index_rows, is_tree_type, is_wrong_entry_count, is_wrong_level, item_row, page_code}
+use Rattle.bdb_format.specs.Rows.{body_code, identity_rows, index_rows, is_tree_type, is_wrong_entry_count, is_wrong_level, item_row, page_code}
 use Rattle.bdb_format.specs.Table.{first_row, lesser}
 use Rattle.bdb_format.proofs.ItemLemmas.{items_next, least_below, least_items}
 use Rattle.bdb_law_grove.proofs.GroveLemmas.{above}
@@ -29,9 +29,7 @@ pub code_none : (order : Order) (number : ℕ) (page : List ℕ) → is_zero pag
     → body_code order page (page_type (byte_at page 25)) ≡ None
     → page_code order number page ≡ None
 unfolding page_code
-code_none order number page some identity body =
-    ap (λ empty. code_of empty order number page is_tree_type (body_code order page)) some
-    ∙ (ap (λ first. elim first as (λ f. Option ℕ) [ Some code ↦ Some code | None ↦ body_code order page (page_type (byte_at page 25)) ]) identity ∙ body)
+code_none order number page some identity body = grind (arith, Option, Some, None)
 
 pub begun_is_formed : BegunIsFormed
 begun_is_formed order number page begun is_number level entries =

@@ -1,13 +1,12 @@
 -- A header that was written is read, and its page takes items.
-use Rattle.std.proofs.Common.{◌≡◌, ℕ, ◌+◌, ◌^◌, ◌<◌, List, [], ◌∷◌, ◌++◌, map, length, drop, arith, refl, sym, ◌∙◌, ap, length-append}
+use Rattle.std.proofs.Common.{◌≡◌, ℕ, ◌+◌, ◌^◌, ◌<◌, List, [], ◌∷◌, ◌++◌, length, drop, arith, refl, sym, ◌∙◌, ap, length-append}
 use Rattle.std.proofs.lemmas.List.{append_assoc}
-use Rattle.std.specs.List.{range_with_len}
 use Rattle.bdb_format.specs.declared.kinds.Order.{Order}
 use Rattle.bdb_format.specs.declared.pages.Header.{Header}
 use Rattle.bdb_format.specs.HeadOf.{is_page_size}
 use Rattle.bdb_format.specs.Numbers.{byte_at, number_at, spelled, two_at}
 use Rattle.bdb_format.specs.Page.{DupLeaf, Hash, Internal, Leaf, RecnoInternal, RecnoLeaf}
-use Rattle.bdb_format.specs.Reading.{entries_of, header_of, listed, offset_of, page_as, page_type}
+use Rattle.bdb_format.specs.Reading.{entries_of, header_of, listed, page_as, page_type}
 use Rattle.bdb_format.specs.Spelling.{header_bytes, lsn_bytes}
 use Rattle.bdb_format.proofs.SpellingLemmas.{length-overwritten, length-spelled, number_at-first}
 use Rattle.bdb_format.proofs.TurnLemmas.{byte_at_past, number_at_past}
@@ -19,20 +18,7 @@ use Rattle.bdb_pack.proofs.TypeLemmas.{Takes, by_type, takes}
 
 pub length-header : (order : Order) (header : Header) → length (header_bytes order header) ≡ 26
 unfolding header_bytes
-length-header order header =
-    let s : (n x : ℕ) → length (spelled n order x) ≡ n = λ n x. length-spelled n order x in
-    let e0 : List ℕ = header.level ∷ header.page_type ∷ [] in
-    let e1 : List ℕ = spelled 2 order header.high_free ++ e0 in
-    let e2 : List ℕ = spelled 2 order header.entries ++ e1 in
-    let e3 : List ℕ = spelled 4 order header.next ++ e2 in
-    let e4 : List ℕ = spelled 4 order header.previous ++ e3 in
-    let e5 : List ℕ = spelled 4 order header.number ++ e4 in
-    let l1 : length e1 ≡ 4 = length-append (spelled 2 order header.high_free) e0 ∙ ap (λ n. n + 2) (s 2 header.high_free) in
-    let l2 : length e2 ≡ 6 = length-append (spelled 2 order header.entries) e1 ∙ (omega (arith, s 2 header.entries, l1)) in
-    let l3 : length e3 ≡ 10 = length-append (spelled 4 order header.next) e2 ∙ (omega (arith, s 4 header.next, l2)) in
-    let l4 : length e4 ≡ 14 = length-append (spelled 4 order header.previous) e3 ∙ (omega (arith, s 4 header.previous, l3)) in
-    let l5 : length e5 ≡ 18 = length-append (spelled 4 order header.number) e4 ∙ (omega (arith, s 4 header.number, l4)) in
-    length-append (lsn_bytes order) e5 ∙ (omega (arith, length-append (spelled 4 order 0) (spelled 4 order 1), s 4 0, s 4 1, l5))
+length-header order header = grind (arith, length-spelled, length-append)
 
 pub record Fits (header : Header) : Type 0 where
   pub number : header.number < 2 ^ 32
@@ -93,9 +79,7 @@ header_read order h rest fits =
 listed_none : {I : Type 0} (order : Order) (page : List ℕ) (item_at : ℕ → I) (header : Header) → header_of order page ≡ header → entries_of order page ≡ 0
     → listed order page item_at ≡ empty_listed header
 unfolding listed
-listed_none {I} order page item_at header is none =
-    ap (λ n. listing (header_of order page) (map (offset_of order page) (range_with_len 0 n)) (map item_at (range_with_len 0 n))) none
-    ∙ ap (λ h. listing h [] (map item_at [])) is
+listed_none {I} order page item_at header is none = grind (arith, listing)
 
 pub begun_pages_take_items : BegunPagesTakeItems
 begun_pages_take_items order page header legal kind fits =

@@ -1,12 +1,10 @@
 -- The bytes of all pages as an image.
-use Rattle.std.proofs.Common.{◌≡◌, ℕ, ◌+◌, ◌*◌, ◌<◌, ◌≤◌, List, [], length, take, drop, get_or, arith, sym, ◌∙◌, ap, inl}
-use Rattle.std.specs.List.{range_with_len}
+use Rattle.std.proofs.Common.{◌≡◌, ℕ, ◌+◌, ◌*◌, ◌<◌, ◌≤◌, List, [], length, take, drop, get_or, arith, sym, ◌∙◌, ap}
 use Rattle.std.proofs.lemmas.List.{get_or-map, length-map}
 use Rattle.std.proofs.lemmas.List.FromFn.{length-range_with_len}
-use Rattle.bdb_format.specs.declared.metadata.Head.{Head}
 use Rattle.bdb_format.specs.declared.metadata.FileKind.TheVariants.{Queue}
 use Rattle.bdb_format.specs.Page.{NoType}
-use Rattle.bdb_format.specs.File.{file_of, page_at, page_bytes}
+use Rattle.bdb_format.specs.File.{file_of, page_at}
 use Rattle.bdb_format.specs.HeadOf.{head_of}
 use Rattle.bdb_format.specs.Reading.{abstract_page}
 use Rattle.bdb_format.proofs.FileLemmas.{last_page, page_is}
@@ -17,25 +15,14 @@ use Rattle.bdb_pack.specs.Stored.{ImagesAreLater}
 
 counted_of : (image : List ℕ) → ((head_of image).kind ≡ Queue → ⊥) → (head_of image).last < (head_of image).pages → IsCounted (file_of image)
 unfolding file_of
-counted_of image kind low =
-    let head : Head = head_of image in
-    record {
-      no_queue = kind;
-      counted = low;
-      pages = length-map (range_with_len 0 (head.last + 1)) (λ p. abstract_page head.order (page_bytes head image p)) ∙ length-range_with_len 0 (head.last + 1);
-    }
+counted_of image kind low = grind (arith, length-map, length-range_with_len)
 
 -- a page as the file so far has it
 pub page_so_far : (built : Built) (p : ℕ) → p < length built.pages → page_at (file_so_far built) p ≡ abstract_page built.order (bytes_of built p)
 page_so_far built p low = get_or-map (abstract_page built.order) built.pages p [] NoType low
 
 pub counted_so_far : (built : Built) → 1 ≤ length built.pages → IsCounted (file_so_far built)
-counted_so_far built some =
-    record {
-      no_queue = λ queue. cc;
-      counted = omega (arith, some);
-      pages = omega (arith, some, length-map built.pages (abstract_page built.order));
-    }
+counted_so_far built some = grind (arith, length-map)
 
 -- a page of the image is the page of the list
 image_page : (built : Built) (p : ℕ) → AreWhole built → p < length built.pages
@@ -45,23 +32,4 @@ image_page built p whole low =
     sym (page_of_cut built.size (length built.pages) (joined_pages built.pages) p low) ∙ ap (λ ps. get_or ps p []) all.0
 
 pub images_are_later : ImagesAreLater
-images_are_later built image whole is tells =
-    let head : Head = head_of image in
-    let counted : IsCounted (file_of image) = counted_of image tells.kind (omega (arith, tells.last, tells.pages)) in
-    record {
-      counted = counted;
-      later = λ pages inside. record {
-        no_queue_before = λ queue. cc;
-        no_queue = counted.no_queue;
-        grows = omega (arith, tells.last, last_page image);
-        same = λ p of.
-            let low : p < length built.pages = inside p of in
-            let before : page_at (file_so_far built) p ≡ abstract_page built.order (bytes_of built p) =
-            get_or-map (abstract_page built.order) built.pages p [] NoType low in
-            inl (page_is image p (omega (arith, tells.last))
-            ∙ (ap (λ o. abstract_page o (page_bytes head image p)) tells.order
-            ∙ (ap (λ s. abstract_page built.order (take s (drop (p * s) image))) tells.size
-            ∙ (ap (λ bs. abstract_page built.order (take built.size (drop (p * built.size) bs))) is
-            ∙ (ap (abstract_page built.order) (image_page built p whole low) ∙ sym before)))));
-      };
-    }
+images_are_later built image whole is tells = grind (arith, counted_of, last_page, get_or-map, page_is, image_page)

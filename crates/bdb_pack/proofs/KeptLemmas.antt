@@ -3,11 +3,9 @@ use Rattle.std.proofs.Common.{◌≡◌, ℕ, ◌+◌, ◌-◌, ◌≤◌, false
 use Rattle.std.specs.Prelude.{◌==◌, nat_lt, slice_range}
 use Rattle.bdb_format.specs.declared.kinds.Order.{Order}
 use Rattle.bdb_format.specs.Numbers.{byte_at}
-use Rattle.bdb_format.specs.Page.{HashPage, InternalPage, PageType, RecnoInternalPage}
+use Rattle.bdb_format.specs.Page.{PageType}
 use Rattle.bdb_format.specs.Reading.{hash_end, index_end, offset_of}
-use Rattle.bdb_format.specs.Rows.{hash_rows, internal_rows, item_code, item_row, item_rows, leaf_rows, recno_rows}
-use Rattle.bdb_format.specs.Table.{first_row}
-use Rattle.std.specs.Option.{option_map}
+use Rattle.bdb_format.specs.Rows.{hash_rows, internal_rows, item_row, leaf_rows, recno_rows}
 use Rattle.bdb_pack.proofs.PlaceLemmas.{byte_same, number_same}
 use Rattle.bdb_pack.proofs.StandingLemmas.{slice_same}
 
@@ -55,10 +53,4 @@ hash_rows_same order page new i is =
     rw (is.offset, is.before, is.long, is.now, is.once, kind, run) refl
 
 pub rows_same : (order : Order) (page new : List ℕ) (i : ℕ) (t : PageType) → IsKept order page new i → item_row t order new i ≡ item_row t order page i
-rows_same order page new i t is = ap (λ rows. option_map item_code (first_row rows)) (of t)
-  where
-    of : (t : PageType) → item_rows t order new i ≡ item_rows t order page i
-    of HashPage = hash_rows_same order page new i is
-    of InternalPage = internal_rows_same order page new i is
-    of RecnoInternalPage = recno_rows_same order page new i is
-    of t = leaf_rows_same order page new i is
+rows_same order page new i t is = grind (arith, hash_rows_same, internal_rows_same, recno_rows_same, leaf_rows_same)

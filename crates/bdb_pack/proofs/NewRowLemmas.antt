@@ -1,6 +1,6 @@
 -- No row of an item holds that was just placed.
 use Rattle.std.proofs.Common.{◌≡◌, ℕ, zero, suc, ◌+◌, ◌-◌, ◌<◌, ◌≤◌, Bool, true, false, not, cond, List, [], ◌∷◌, ◌++◌, length, drop, Option, Some, None, arith}
-use Rattle.std.proofs.Common.{refl, sym, ◌∙◌, ap, length-append}
+use Rattle.std.proofs.Common.{refl, ◌∙◌, ap, length-append}
 use Rattle.std.specs.Prelude.{◌==◌, ◌||◌, ◌&&◌, ◌%◌, is_none, nat_le, nat_lt, slice_range}
 use Rattle.std.specs.List.{flat_map}
 use Rattle.std.specs.Option.{unwrap_or}
@@ -11,7 +11,7 @@ use Rattle.bdb_format.specs.declared.pages.RecnoItem.{RecnoItem}
 use Rattle.bdb_format.specs.Numbers.{byte_at, spelled, two_at}
 use Rattle.bdb_format.specs.Page.{Chain, Content, HashPage, Inline, InternalPage, Item, LeafPage, RecnoInternalPage, Set, Tree, Unknown}
 use Rattle.bdb_format.specs.Reading.{blocks_of, hash_end, hash_item_at, index_end, kind_at, offset_of}
-use Rattle.bdb_format.specs.Rows.{hash_rows, internal_rows, is_hash_kind, is_leaf_kind, item_row, leaf_end, leaf_rows, misses_extent, recno_rows}
+use Rattle.bdb_format.specs.Rows.{hash_rows, internal_rows, is_hash_kind, is_leaf_kind, item_row, leaf_end, leaf_rows, recno_rows}
 use Rattle.bdb_format.specs.Spelling.{IsHashContent, IsKey, IsLeafContent, block_bytes, hash_bytes, internal_bytes, kind_byte, leaf_bytes, recno_bytes, zeros}
 use Rattle.bdb_format.proofs.SpellingLemmas.{byte_at-in, length-spelled, number_at-in, slice_range-in}
 use Rattle.bdb_layout.proofs.WritingLemmas.{length-hash_chain, length-hash_tree, length-internal_chain, length-internal_inline, length-leaf_chain}
@@ -120,13 +120,7 @@ internal_tests : (order : Order) (new : List ℕ) (index at kind n : ℕ) → of
     → (kind == 1 || kind == 3) ≡ true → (kind == 3 && not (n == 12)) ≡ false
     → index_end order new ≤ at → at + 12 + n ≤ length new → item_row InternalPage order new index ≡ None
 unfolding internal_rows
-internal_tests order new index at kind n offset says right twelve end room =
-    let first : (nat_lt at (index_end order new) || nat_lt (length new) (at + 12)) ≡ false =
-    or_from (nat_lt at (index_end order new)) (nat_lt (length new) (at + 12)) (above at (index_end order new) end)
-    (above (length new) (at + 12) (omega (arith, room))) in
-    let third : (nat_lt (length new) (at + 12 + n) || (kind == 3 && not (n == 12))) ≡ false =
-    or_from (nat_lt (length new) (at + 12 + n)) (kind == 3 && not (n == 12)) (above (length new) (at + 12 + n) room) twelve in
-    rw (offset, says.kind_is, says.size) (three_none _ _ _ first (ap not right) third)
+internal_tests order new index at kind n offset says right twelve end room = grind (arith, or_from, above, kind_is, three_none)
 
 pub internal_row_none : (order : Order) (new : List ℕ) (index at child count : ℕ) (key : Content) (rest : List ℕ)
     → IsNew order new index at (internal_bytes order (record { child = child; count = count; key = key })) rest → IsKey key
@@ -156,13 +150,7 @@ internal_row_none order new index at child count Unknown rest is fits = absurd f
 pub recno_row_none : (order : Order) (new : List ℕ) (index at : ℕ) (item : RecnoItem) (rest : List ℕ)
     → IsNew order new index at (recno_bytes order item) rest → item_row RecnoInternalPage order new index ≡ None
 unfolding recno_rows
-recno_row_none order new index at item rest is =
-    let long = length-recno order item in
-    let room = is.room in
-    let first : (nat_lt at (index_end order new) || nat_lt (length new) (at + 8)) ≡ false =
-    or_from (nat_lt at (index_end order new)) (nat_lt (length new) (at + 8)) (above at (index_end order new) is.end)
-    (above (length new) (at + 8) (omega (arith, room, long))) in
-    rw is.offset (rw first refl)
+recno_row_none order new index at item rest is = grind (arith, length-recno, or_from, above)
 
 -- Hash pages.
 
@@ -194,16 +182,7 @@ hash_tests : (order : Order) (new : List ℕ) (index at kind end : ℕ) → Says
     → hash_end order new index ≡ end → index_end order new ≤ at → end ≤ length new
     → (0 < index → at < offset_of order new (index - 1)) → item_row HashPage order new index ≡ None
 unfolding hash_rows
-hash_tests order new index at kind end says offset ends index_ends room apart =
-    let some = says.some in
-    let first : (nat_lt at (index_end order new) || nat_le (length new) at || (not (index == 0) && nat_le (offset_of order new (index - 1)) at)) ≡ false =
-    three_or (nat_lt at (index_end order new)) (nat_le (length new) at) (not (index == 0) && nat_le (offset_of order new (index - 1)) at)
-    (above at (index_end order new) index_ends) (not_at_least (length new) at (omega (arith, some, room))) (not_fallen order new index at apart) in
-    let third : misses_extent order new at end kind ≡ false =
-    four_or (nat_lt (length new) end) (kind == 2 && is_none (blocks_of order (slice_range new (at + 1) end))) (kind == 3 && not (end == at + 12))
-    (kind == 4 && not (end == at + 8))
-    (above (length new) end room) says.set says.chain says.root in
-    rw (offset, ends, says.is) (three_none _ _ _ first (ap not says.right) third)
+hash_tests order new index at kind end says offset ends index_ends room apart = grind (arith, three_or, above, not_at_least, not_fallen, four_or, three_none)
 
 no_blocks : (order : Order) → blocks_of order [] ≡ Some []
 unfolding blocks_of
@@ -212,15 +191,7 @@ no_blocks order = refl
 -- a set that was written is read as blocks
 blocks_found : (order : Order) (run : List ℕ) (blocks : List (List ℕ)) → run ≡ flat_map (block_bytes order) blocks
     → unwrap_or (blocks_of order run) [] ≡ blocks → is_none (blocks_of order run) ≡ false
-blocks_found order run blocks spelled_is read = of (blocks_of order run) refl
-  where
-    of : (found : Option (List (List ℕ))) → blocks_of order run ≡ found → is_none found ≡ false
-    of (Some found) same = refl
-    of None same =
-        let empty : [] ≡ blocks = ap (λ f. unwrap_or f []) (sym same) ∙ read in
-        let no_run : run ≡ [] = spelled_is ∙ ap (flat_map (block_bytes order)) (sym empty) in
-        let found : Some [] ≡ None = sym (no_blocks order) ∙ (ap (blocks_of order) (sym no_run) ∙ same) in
-        absurd cc
+blocks_found order run blocks spelled_is read = grind (arith, Option, Some, None, no_blocks)
 
 blocks_in_set : Content → List (List ℕ)
 blocks_in_set (Set blocks) = blocks
@@ -233,9 +204,7 @@ set_read : (order : Order) (new : List ℕ) (index at end : ℕ) (blocks : List 
     → hash_item_at order new index ≡ record { content = Set blocks; deleted = false } → offset_of order new index ≡ at
     → hash_end order new index ≡ end → byte_at new at ≡ 2 → unwrap_or (blocks_of order (slice_range new (at + 1) end)) [] ≡ blocks
 unfolding hash_item_at blocks_in_set
-set_read order new index at end blocks is offset ends kind =
-    let read : (hash_item_at order new index).content ≡ Set (unwrap_or (blocks_of order (slice_range new (at + 1) end)) []) = rw (offset, ends, kind) refl in
-    sym (ap blocks_in_set read) ∙ ap (λ (i : Item). blocks_in_set i.content) is
+set_read order new index at end blocks is offset ends kind = grind (arith, blocks_in_set)
 
 says_hash : (order : Order) (new : List ℕ) (index at end : ℕ) (content : Content) (rest : List ℕ) → IsNew order new index at (hash_bytes order content) rest
     → IsHashContent content → IsHashPlace index content

@@ -12,9 +12,7 @@ use Rattle.bdb_pack.proofs.CutLemmas.{length_cut, page_length, written_page}
 
 -- a page that takes items leaves room for them
 pub open_is : (order : Order) (page : List ℕ) → IsBegun order page → IsOpen order page
-open_is order page begun =
-    let bounds = size_bounds (length page) begun.size in
-    record { least = omega (arith, bounds.0); most = bounds.1; room = begun.room; high = begun.high }
+open_is order page begun = grind (arith, size_bounds)
 
 pub length-recno : (order : Order) (item : RecnoItem) → length (recno_bytes order item) ≡ 8
 unfolding recno_bytes
@@ -37,9 +35,7 @@ edited size count order bytes built p f page new seen whole low page_is new_is s
 -- a page of whole pages has their size
 pub page_size : (size count : ℕ) (order : Order) (bytes : List ℕ) (built : Built) (p : ℕ) (page : List ℕ) → built_of size order count bytes ≡ built
     → length bytes ≡ count * size → p < length built.pages → page ≡ bytes_of built p → length page ≡ size
-page_size size count order bytes built p page seen whole low page_is =
-    subst (λ (b : Built). (p < length b.pages) → page ≡ bytes_of b p → length page ≡ size) seen
-    (λ below is. ap length is ∙ page_length size count bytes p whole (omega (arith, below, length_cut size count bytes))) low page_is
+page_size size count order bytes built p page seen whole low page_is = grind (arith, page_length, length_cut)
 
 pub page_bounds : (size count : ℕ) (order : Order) (bytes : List ℕ) (built : Built) (p : ℕ) (page : List ℕ) → built_of size order count bytes ≡ built
     → length bytes ≡ count * size → is_page_size size ≡ true

@@ -19,9 +19,7 @@ number_before n order bytes at piece x low room =
     ∙ ap (number order) (take-take n (at - x) (drop x bytes) (omega (arith, low))))))
 
 pub byte_before : (bytes : List ℕ) (at : ℕ) (piece : List ℕ) (x : ℕ) → x < at → at ≤ length bytes → byte_at (overwritten bytes at piece) x ≡ byte_at bytes x
-byte_before bytes at piece x low room =
-    get_or_append_left (take at bytes) (piece ++ drop (at + length piece) bytes) 0 x (omega (arith, length-take-le at bytes room))
-    ∙ get_or-take at bytes x 0 low
+byte_before bytes at piece x low room = grind (arith, get_or_append_left, length-take-le, get_or-take)
 
 -- what stands behind what was written
 pub behind : (bytes : List ℕ) (at : ℕ) (piece : List ℕ) (x : ℕ) → at + length piece ≤ x → at ≤ length bytes → drop x (overwritten bytes at piece) ≡ drop x bytes

@@ -1,10 +1,10 @@
 -- What is read from a page after an entry is added, and after an item is placed.
-use Rattle.std.proofs.Common.{◌≡◌, Bool, true, false, cond, ℕ, ◌+◌, ◌*◌, ◌<◌, ◌≤◌, List, ◌++◌, length, drop, arith, refl, ◌∙◌, ap}
+use Rattle.std.proofs.Common.{◌≡◌, ℕ, ◌+◌, ◌*◌, ◌<◌, ◌≤◌, List, ◌++◌, length, drop, arith, refl, ◌∙◌}
 use Rattle.bdb_format.specs.declared.kinds.Order.{Order}
 use Rattle.bdb_format.specs.Numbers.{byte_at, number_at, overwritten, pad4, spelled, two_at}
 use Rattle.bdb_format.specs.Reading.{entries_of, header_of, index_end, offset_of}
 use Rattle.bdb_format.proofs.SpellingLemmas.{length-overwritten, length-spelled}
-use Rattle.bdb_pack.specs.Items.{extent, is_hash_type}
+use Rattle.bdb_pack.specs.Items.{extent}
 use Rattle.bdb_pack.specs.Placing.{HasRoom, IsOpen, entered, high_free_of, page_and_item, place_below, placed, with_entry}
 use Rattle.bdb_pack.proofs.PlaceLemmas.{behind, byte_before, byte_same, drop_same, from_here, number_before, number_here, number_same}
 
@@ -65,49 +65,19 @@ pub record IsPlaced (order : Order) (page new : List ℕ) (at : ℕ) (piece : Li
 pub is_placed : (order : Order) (page : List ℕ) (at : ℕ) (piece : List ℕ) → IsOpen order page → index_end order page + 2 ≤ at
     → at + length piece ≤ high_free_of order page
     → IsPlaced order page (placed order page at piece) at piece
-is_placed order page at piece free room fits =
-    let end : ℕ = index_end order page in
-    let h : ℕ = high_free_of order page in
-    let high : h ≤ length page = free.high in
-    let small : length page ≤ 32768 = free.most in
-    let e : List ℕ = entered order page at at in
-    let both = is_entered order page at at free (omega arith) (omega arith) (omega arith) in
-    let is : IsEntered order page e at at = both.0 in
-    let body : drop (end + 2) e ≡ drop (end + 2) page = both.1 in
-    let long : length e ≡ length page = is.long in
-    let new : List ℕ = overwritten e at piece in
-    record {
-      entry = record {
-        long = length-overwritten e at piece (omega arith) ∙ long;
-        low = λ k x under. number_before k order e at piece x (omega arith) (omega arith) ∙ is.low k x under;
-        level = byte_before e at piece 24 (omega arith) (omega arith) ∙ is.level;
-        type = byte_before e at piece 25 (omega arith) (omega arith) ∙ is.type;
-        entries = number_before 2 order e at piece 20 (omega arith) (omega arith) ∙ is.entries;
-        top = number_before 2 order e at piece 22 (omega arith) (omega arith) ∙ is.top;
-        index = λ k low. number_before 2 order e at piece (26 + 2 * k) (omega arith) (omega arith) ∙ is.index k low;
-        last = number_before 2 order e at piece end (omega arith) (omega arith) ∙ is.last;
-      };
-      body = behind e at piece h (omega arith) (omega arith) ∙ drop_same e page (end + 2) h body (omega arith);
-      here = from_here e at piece (omega arith) ∙ ap (λ bs. piece ++ bs) (drop_same e page (end + 2) (at + length piece) body (omega arith));
-    }
+is_placed order page at piece free room fits = grind (arith, is_entered, length-overwritten, number_before, byte_before, behind, drop_same, from_here)
 
 -- rounding up to a multiple of 4 takes nothing off
 pub pad-le : (n : ℕ) → n ≤ pad4 n
 pad-le n = grind arith
 
 pub extent-le : (type n : ℕ) → n ≤ extent type n
-extent-le type n = of (is_hash_type type) n
-  where
-    of : (b : Bool) (n : ℕ) → n ≤ cond b n (pad4 n)
-    of true n = omega arith
-    of false n = pad-le n
+extent-le type n = grind (arith, pad-le)
 
 -- an item right below the others
 pub is_below : (order : Order) (page : List ℕ) (piece : List ℕ) → IsOpen order page → HasRoom order page (length piece)
     → IsPlaced order page (page_and_item order page piece) (place_below order page (length piece)) piece
-is_below order page piece free room =
-    let more : length piece ≤ extent (byte_at page 25) (length piece) = extent-le (byte_at page 25) (length piece) in
-    is_placed order page (place_below order page (length piece)) piece free (omega (arith, room)) (omega (arith, room))
+is_below order page piece free room = grind (arith, extent-le, is_placed)
 
 pub header_entered : (order : Order) (page new : List ℕ) (at high : ℕ) → IsEntered order page new at high
     → header_of order new ≡ with_entry (header_of order page) high

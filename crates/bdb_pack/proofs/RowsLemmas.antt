@@ -1,6 +1,6 @@
 -- The rows of an item, as tests.
 use Rattle.std.proofs.Common.{◌≡◌, ℕ, zero, suc, ◌+◌, ◌-◌, ◌<◌, ◌≤◌, true, false, Bool, cond, List, [], ◌∷◌, length, arith, refl, sym, ◌∙◌, ap, subst, None}
-use Rattle.std.specs.Prelude.{◌==◌, nat_le, nat_lt, ◌||◌, not}
+use Rattle.std.specs.Prelude.{◌==◌, nat_le, ◌||◌}
 use Rattle.std.specs.Option.{option_map}
 use Rattle.std.proofs.lemmas.Bool.{ne_eqb}
 use Rattle.std.proofs.lemmas.Bool.Decides.{nat_tests}
@@ -9,8 +9,8 @@ use Rattle.bdb_format.specs.declared.pages.ItemFault.{ItemFault}
 use Rattle.bdb_format.specs.declared.pages.ItemFault.TheVariants.{Extent, Kind, Offset}
 use Rattle.bdb_format.specs.Numbers.{byte_at}
 use Rattle.bdb_format.specs.Page.{HashPage}
-use Rattle.bdb_format.specs.Reading.{entries_of, hash_end, index_end, offset_of, page_type}
-use Rattle.bdb_format.specs.Rows.{does_not_fall, hash_rows, item_code, item_row}
+use Rattle.bdb_format.specs.Reading.{entries_of, hash_end, offset_of, page_type}
+use Rattle.bdb_format.specs.Rows.{hash_rows, item_code, item_row}
 use Rattle.bdb_format.specs.Table.{◌:?◌, first_row}
 use Rattle.bdb_format.proofs.BoolLemmas.{second_false}
 use Rattle.bdb_pack.specs.Placing.{IsBegun, high_free_of}
@@ -37,16 +37,7 @@ greater a b is = grind (arith, nat_tests)
 -- an item of a hash page begins before the one before it
 falls : (order : Order) (page : List ℕ) (i : ℕ) → item_row HashPage order page (suc i) ≡ None → offset_of order page (suc i) ≤ offset_of order page i
 unfolding hash_rows
-falls order page i none =
-    let fall : does_not_fall order page (suc i) ≡ false =
-    third (nat_lt (offset_of order page (suc i)) (index_end order page)) (nat_le (length page) (offset_of order page (suc i)))
-    (does_not_fall order page (suc i)) (none_of_three _ _ _ none).0 in
-    let some : not (suc i == 0) ≡ true = ap not (ne_eqb (suc i) 0 (λ z. omega arith)) in
-    let low : nat_le (offset_of order page (suc i - 1)) (offset_of order page (suc i)) ≡ false =
-    second_false (not (suc i == 0)) (nat_le (offset_of order page (suc i - 1)) (offset_of order page (suc i))) some fall in
-    let minus : suc i - 1 ≡ i = omega arith in
-    let less : offset_of order page (suc i) < offset_of order page (suc i - 1) = greater _ _ low in
-    omega (arith, less, ap (offset_of order page) minus)
+falls order page i none = grind (arith, third, none_of_three, ne_eqb, second_false, greater)
 
 fall_on : (order : Order) (page : List ℕ) (n i k : ℕ) → ((j : ℕ) → j < n → item_row HashPage order page j ≡ None) → i + k < n
     → offset_of order page (i + k) ≤ offset_of order page i

@@ -1,6 +1,6 @@
 -- An entry that is shared.
 use Rattle.std.proofs.Common.{◌≡◌, ℕ, ◌+◌, ◌-◌, ◌≤◌, List, length, drop, None, arith, refl, sym, ◌∙◌, ap, subst}
-use Rattle.std.specs.Prelude.{◌%◌, nat_lt}
+use Rattle.std.specs.Prelude.{◌%◌}
 use Rattle.std.proofs.lemmas.Bool.{ltb-false, or_parts}
 use Rattle.bdb_format.specs.declared.kinds.Order.{Order}
 use Rattle.bdb_format.specs.Numbers.{byte_at}
@@ -21,9 +21,7 @@ use Rattle.bdb_pack.proofs.StandingLemmas.{leaf_item_same, listed_more, typed}
 -- an item of a leaf begins before the page's end
 pub begins_within : (order : Order) (page : List ℕ) (i : ℕ) → item_row LeafPage order page i ≡ None → offset_of order page i + 3 ≤ length page
 unfolding leaf_rows
-begins_within order page i none =
-    ltb-false (length page) (offset_of order page i + 3)
-    (or_parts (nat_lt (offset_of order page i) (index_end order page)) (nat_lt (length page) (offset_of order page i + 3)) (none_of_three _ _ _ none).0).1
+begins_within order page i none = grind (arith, ltb-false, or_parts, none_of_three)
 
 -- an item is read, and has its rows, by its offset and by whether it stands as data
 rows_again : (order : Order) (page : List ℕ) (n k : ℕ) → offset_of order page n ≡ offset_of order page k → n % 2 ≡ k % 2

@@ -1,5 +1,5 @@
 -- After an item is placed, the others stand as they did, and it stands at the end.
-use Rattle.std.proofs.Common.{◌≡◌, ℕ, zero, suc, ◌+◌, ◌-◌, ◌^◌, ◌<◌, ◌≤◌, false, List, [], ◌∷◌, ◌++◌, map, length, take, drop, arith, refl, sym, ◌∙◌, ap, cond}
+use Rattle.std.proofs.Common.{◌≡◌, ℕ, zero, suc, ◌+◌, ◌-◌, ◌^◌, ◌<◌, ◌≤◌, false, List, [], ◌∷◌, ◌++◌, map, length, take, drop, arith, refl, sym, ◌∙◌, ap}
 use Rattle.std.specs.Prelude.{◌==◌, ◌%◌, nat_le, slice_range}
 use Rattle.std.specs.List.{range_with_len}
 use Rattle.std.proofs.lemmas.Bool.{ne_eqb}
@@ -9,13 +9,13 @@ use Rattle.bdb_format.specs.declared.kinds.Order.{Order}
 use Rattle.bdb_format.specs.declared.pages.Header.{Header}
 use Rattle.bdb_format.specs.declared.pages.RecnoItem.{RecnoItem}
 use Rattle.bdb_format.specs.Numbers.{byte_at, four_at, two_at}
-use Rattle.bdb_format.specs.Page.{Chain, Content, Inline, InternalItem, Item, Listed, Tree}
-use Rattle.bdb_format.specs.Reading.{abstract_page, entries_of, hash_content, hash_end, hash_item_at, header_of, internal_item_at, internal_key, is_deleted}
+use Rattle.bdb_format.specs.Page.{Chain, Content, Inline, InternalItem, Item, Listed}
+use Rattle.bdb_format.specs.Reading.{abstract_page, entries_of, hash_content, hash_end, hash_item_at, internal_item_at, internal_key, is_deleted}
 use Rattle.bdb_format.specs.Reading.{is_zero, kind_at, leaf_content, leaf_item_at, listed, offset_of, page_as, page_type, recno_item_at}
 use Rattle.bdb_format.specs.Spelling.{IsHashContent, IsKey, IsLeafContent, hash_bytes, internal_bytes, leaf_bytes, recno_bytes}
 use Rattle.bdb_format.proofs.ListLemmas.{range_more}
 use Rattle.bdb_layout.proofs.ReadBackLemmas.{hash_items_read_back, internal_items_read_back, leaf_items_read_back, recno_items_read_back}
-use Rattle.bdb_pack.specs.Placing.{with_entry, with_item}
+use Rattle.bdb_pack.specs.Placing.{with_item}
 use Rattle.bdb_pack.proofs.PlaceLemmas.{byte_same, drop_same, number_same}
 use Rattle.bdb_pack.proofs.PlacedLemmas.{IsEntered, header_entered}
 
@@ -31,16 +31,10 @@ chain_same order a b h x y same low high =
 
 inline_same : (order : Order) (a b : List ℕ) (h at k : ℕ) → drop h a ≡ drop h b → h ≤ at
     → Inline (slice_range a (at + k) (at + k + two_at order a at)) ≡ Inline (slice_range b (at + k) (at + k + two_at order b at))
-inline_same order a b h at k same low =
-    ap (λ n. Inline (slice_range a (at + k) (at + k + n))) (number_same 2 order a b h at same low)
-    ∙ ap (λ bs. Inline bs) (slice_same a b h (at + k) (at + k + two_at order b at) same (omega arith))
+inline_same order a b h at k same low = grind (arith, number_same, slice_same)
 
 leaf_same : (order : Order) (a b : List ℕ) (h at kind : ℕ) → drop h a ≡ drop h b → h ≤ at → leaf_content order a at kind ≡ leaf_content order b at kind
-leaf_same order a b h at kind same low =
-    let inline = inline_same order a b h at 3 same low in
-    let root : Tree (four_at order a (at + 4)) ≡ Tree (four_at order b (at + 4)) = ap (λ n. Tree n) (number_same 4 order a b h (at + 4) same (omega arith)) in
-    let chain = chain_same order a b h (at + 4) (at + 8) same (omega arith) (omega arith) in
-    rw (inline, root, chain) refl
+leaf_same order a b h at kind same low = grind (arith, inline_same, number_same, chain_same)
 
 key_same : (order : Order) (a b : List ℕ) (h at kind : ℕ) → drop h a ≡ drop h b → h ≤ at → internal_key order a at kind ≡ internal_key order b at kind
 key_same order a b h at kind same low =
@@ -50,11 +44,7 @@ key_same order a b h at kind same low =
 
 hash_same : (order : Order) (a b : List ℕ) (h at end kind : ℕ) → drop h a ≡ drop h b → h ≤ at
     → hash_content order a at end kind ≡ hash_content order b at end kind
-hash_same order a b h at end kind same low =
-    let bytes : slice_range a (at + 1) end ≡ slice_range b (at + 1) end = slice_same a b h (at + 1) end same (omega arith) in
-    let root : Tree (four_at order a (at + 4)) ≡ Tree (four_at order b (at + 4)) = ap (λ n. Tree n) (number_same 4 order a b h (at + 4) same (omega arith)) in
-    let chain = chain_same order a b h (at + 4) (at + 8) same (omega arith) (omega arith) in
-    rw (bytes, root, chain) refl
+hash_same order a b h at end kind same low = grind (arith, slice_same, number_same, chain_same)
 
 pub leaf_item_same : (order : Order) (a b : List ℕ) (h k : ℕ) → drop h a ≡ drop h b → offset_of order a k ≡ offset_of order b k → h ≤ offset_of order b k
     → leaf_item_at order a k ≡ leaf_item_at order b k
@@ -69,39 +59,18 @@ leaf_item_same order a b h k same offset low =
 pub internal_item_same : (order : Order) (a b : List ℕ) (h k : ℕ) → drop h a ≡ drop h b → offset_of order a k ≡ offset_of order b k
     → h ≤ offset_of order b k → internal_item_at order a k ≡ internal_item_at order b k
 unfolding internal_item_at
-internal_item_same order a b h k same offset low =
-    let at : ℕ = offset_of order b k in
-    let byte : byte_at a (at + 2) ≡ byte_at b (at + 2) = byte_same a b h (at + 2) same (omega arith) in
-    let item : ℕ → ℕ → Content → InternalItem = λ child count key. record { child = child; count = count; key = key } in
-    ap (λ x. item (four_at order a (x + 4)) (four_at order a (x + 8)) (internal_key order a x (kind_at a x))) offset
-    ∙ (ap (λ n. item n (four_at order a (at + 8)) (internal_key order a at (kind_at a at))) (number_same 4 order a b h (at + 4) same (omega arith))
-    ∙ (ap (λ n. item (four_at order b (at + 4)) n (internal_key order a at (kind_at a at))) (number_same 4 order a b h (at + 8) same (omega arith))
-    ∙ (ap (item (four_at order b (at + 4)) (four_at order b (at + 8))) (key_same order a b h at (kind_at a at) same low)
-    ∙ ap (λ x. item (four_at order b (at + 4)) (four_at order b (at + 8)) (internal_key order b at (x % 128))) byte)))
+internal_item_same order a b h k same offset low = grind (arith, byte_same, number_same, key_same)
 
 pub recno_item_same : (order : Order) (a b : List ℕ) (h k : ℕ) → drop h a ≡ drop h b → offset_of order a k ≡ offset_of order b k → h ≤ offset_of order b k
     → recno_item_at order a k ≡ recno_item_at order b k
 unfolding recno_item_at
-recno_item_same order a b h k same offset low =
-    let at : ℕ = offset_of order b k in
-    let item : ℕ → ℕ → RecnoItem = λ child count. record { child = child; count = count } in
-    ap (λ x. item (four_at order a x) (four_at order a (x + 4))) offset
-    ∙ (ap (λ n. item n (four_at order a (at + 4))) (number_same 4 order a b h at same low)
-    ∙ ap (λ n. item (four_at order b at) n) (number_same 4 order a b h (at + 4) same (omega arith)))
+recno_item_same order a b h k same offset low = grind (arith, number_same)
 
 -- an item of a hash page ends where the one before it begins
 pub end_same : (order : Order) (a b : List ℕ) (k n : ℕ) → length a ≡ length b → ((j : ℕ) → j < n → offset_of order a j ≡ offset_of order b j) → k ≤ n
     → hash_end order a k ≡ hash_end order b k
 end_same order a b zero n long index low = long
-end_same order a b (suc k) n long index low =
-    later (suc k) a (omega arith)
-    ∙ (ap (offset_of order a) minus ∙ (index k (omega arith) ∙ (ap (offset_of order b) (sym minus) ∙ sym (later (suc k) b (omega arith)))))
-  where
-    minus : suc k - 1 ≡ k
-    minus = omega arith
-
-    later : (m : ℕ) (page : List ℕ) → 0 < m → hash_end order page m ≡ offset_of order page (m - 1)
-    later m page some = ap (λ t. cond t (length page) (offset_of order page (m - 1))) (ne_eqb m 0 (λ none. omega arith))
+end_same order a b (suc k) n long index low = grind (arith, ne_eqb)
 
 pub hash_item_same : (order : Order) (a b : List ℕ) (h k : ℕ) → drop h a ≡ drop h b → offset_of order a k ≡ offset_of order b k
     → hash_end order a k ≡ hash_end order b k → h ≤ offset_of order b k → hash_item_at order a k ≡ hash_item_at order b k
@@ -166,11 +135,7 @@ map_same f g a (suc n) same = ap (λ x. x ∷ map f (range_with_len (a + 1) n)) 
 
 map_more : {X : Type 0} (f g : ℕ → X) (n : ℕ) (x : X) → ((k : ℕ) → k < n → f k ≡ g k) → f n ≡ x
     → map f (range_with_len 0 (n + 1)) ≡ map g (range_with_len 0 n) ++ (x ∷ [])
-map_more f g n x same last =
-    ap (map f) (range_more 0 n)
-    ∙ (map-append f (range_with_len 0 n) ((0 + n) ∷ [])
-    ∙ (ap (λ xs. xs ++ (f (0 + n) ∷ [])) (map_same f g 0 n (λ k low high. same k (omega arith)))
-    ∙ ap (λ y. map g (range_with_len 0 n) ++ (y ∷ [])) (let e : 0 + n ≡ n = omega arith in ap f e ∙ last)))
+map_more f g n x same last = grind (arith, range_more, map-append, map_same)
 
 -- items with their offsets, under a header
 abbrev pub listing : {I : Type 0} → Header → List ℕ → List I → Listed I
@@ -181,16 +146,7 @@ pub listed_more : {I : Type 0} (order : Order) (page new : List ℕ) (at high : 
     → ((k : ℕ) → k < entries_of order page → read k ≡ before k) → read (entries_of order page) ≡ item
     → listed order new read ≡ with_item (listed order page before) at high item
 unfolding listed
-listed_more {I} order page new at high read before item is same here =
-    let n : ℕ = entries_of order page in
-    let offsets : map (offset_of order new) (range_with_len 0 (n + 1)) ≡ map (offset_of order page) (range_with_len 0 n) ++ (at ∷ []) =
-    map_more (offset_of order new) (offset_of order page) n at is.index is.last in
-    let items : map read (range_with_len 0 (n + 1)) ≡ map before (range_with_len 0 n) ++ (item ∷ []) = map_more read before n item same here in
-    ap (λ m. listing (header_of order new) (map (offset_of order new) (range_with_len 0 m)) (map read (range_with_len 0 m))) is.entries
-    ∙ (ap (λ hd. listing hd (map (offset_of order new) (range_with_len 0 (n + 1))) (map read (range_with_len 0 (n + 1))))
-    (header_entered order page new at high is)
-    ∙ (ap (λ os. listing (with_entry (header_of order page) high) os (map read (range_with_len 0 (n + 1)))) offsets
-    ∙ ap (listing (with_entry (header_of order page) high) (map (offset_of order page) (range_with_len 0 n) ++ (at ∷ []))) items))
+listed_more {I} order page new at high read before item is same here = grind (arith, map_more, header_entered)
 
 -- Types.
 
@@ -200,6 +156,4 @@ not_zero page long some = list_all_at (λ byte. byte == 0) page 25 0 long some
 pub typed : (order : Order) (page : List ℕ) (byte : ℕ) → 25 < length page → (byte == 0) ≡ false → byte_at page 25 ≡ byte
     → abstract_page order page ≡ page_as order page (page_type byte)
 unfolding abstract_page
-typed order page byte long some is =
-    let not_empty : is_zero page ≡ false = not_zero page long (ap (λ b. b == 0) is ∙ some) in
-    (rw (not_empty, abstract_page) (ap (λ b. page_as order page (page_type b)) is))
+typed order page byte long some is = grind (arith, not_zero)

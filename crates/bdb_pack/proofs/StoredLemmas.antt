@@ -5,12 +5,11 @@ use Rattle.std.specs.Prelude.{nat_lt}
 use Rattle.std.proofs.lemmas.Bool.{lt-ltb}
 use Rattle.std.proofs.lemmas.List.{append-nil, get_or-append-add, get_or-map, length-take-le, take-append-drop}
 use Rattle.bdb_format.specs.declared.kinds.Order.{Order}
-use Rattle.bdb_format.specs.declared.pages.Header.{Header}
 use Rattle.bdb_format.specs.HeadOf.{is_page_size}
 use Rattle.bdb_format.specs.Page.{NoType, Overflow, Page}
-use Rattle.bdb_format.specs.File.{File, header_in, page_at}
+use Rattle.bdb_format.specs.File.{File, page_at}
 use Rattle.bdb_format.specs.Reading.{abstract_page}
-use Rattle.bdb_format.specs.Chains.{joined, piece_in}
+use Rattle.bdb_format.specs.Chains.{joined}
 use Rattle.bdb_law_grove.specs.Growing.{IsLink, IsRun, IsSamePage, chain_header}
 use Rattle.bdb_law_grove.proofs.ChainLemmas.{chains_stand, is_between}
 use Rattle.bdb_pack.specs.Built.{bytes_of, file_so_far}
@@ -24,11 +23,7 @@ chain_page_is : (order : Order) (size number previous : ℕ) (rest : List ℕ) �
     → let piece : List ℕ = take (piece_length size rest) rest in
     abstract_page order (chain_page order size number previous rest)
     ≡ Overflow (chain_header number previous (piece_next size number rest) (length piece) 1) piece
-chain_page_is order size number previous rest legal low before =
-    let n : ℕ = piece_length size rest in
-    let long : length (take n rest) ≡ n = length-take-le n rest (omega arith) in
-    (chain_pages_are_formed order size number previous rest legal low before).0
-    ∙ ap (λ k. Overflow (chain_header number previous (piece_next size number rest) k 1) (take n rest)) (sym long)
+chain_page_is order size number previous rest legal low before = grind (arith, length-take-le, chain_pages_are_formed)
 
 -- The pages, in a later file.
 
@@ -67,17 +62,7 @@ more_next size number rest some =
 link_of : (g : File) (previous number next : ℕ) (piece : List ℕ) (old : Page) → old ≡ Overflow (chain_header number previous next (length piece) 1) piece
     → IsSamePage old (page_at g number) → IsLink g previous number next piece
 link_of g previous number next piece old is (inl same) = (1, omega arith, same ∙ is)
-link_of g previous number next piece old is (inr more) =
-    let both : Overflow more.header more.piece ≡ Overflow (chain_header number previous next (length piece) 1) piece = sym more.before ∙ is in
-    let header : more.header ≡ chain_header number previous next (length piece) 1 = ap header_in both in
-    let same_piece : more.piece ≡ piece = ap piece_in both in
-    let counted : 1 ≤ more.count = subst (λ (h : Header). h.entries ≤ more.count) header more.more in (
-      more.count,
-      counted,
-      more.after
-          ∙ (ap (λ (h : Header). Overflow (record h { entries = more.count }) more.piece) header
-          ∙ ap (Overflow (chain_header number previous next (length piece) more.count)) same_piece),
-    )
+link_of g previous number next piece old is (inr more) = grind arith
 
 run_of : (g : File) (order : Order) (size number previous : ℕ) (rest : List ℕ) (pages : List (List ℕ)) → is_page_size size ≡ true → 0 < length rest
     → number + length pages < 2 ^ 32 → previous < 2 ^ 32

@@ -1,4 +1,5 @@
 -- The types of pages that take items.
+use Rattle.std.proofs.Common.{arith}
 use Rattle.std.proofs.Common.{◌≡◌, ℕ, true, false, ◌||◌, List, [], ◌∷◌, sym, ◌∙◌, ap, inl, inr, refl, subst, ◌⊎◌}
 use Rattle.std.specs.Prelude.{◌==◌}
 use Rattle.std.specs.List.{list_any}
@@ -11,19 +12,10 @@ use Rattle.bdb_pack.specs.Items.{is_hash_type, is_leaf_type, takes_items}
 
 -- the first of a list of types, or one of the others
 step : (byte t : ℕ) (others : List ℕ) → list_any (λ x. x == byte) (t ∷ others) ≡ true → (byte ≡ t) ⊎ (list_any (λ x. x == byte) others ≡ true)
-step byte t others is =
-    elim (cases_Bool (t == byte)) [
-      | inl same ↦ inl (sym (eqb-true t byte same))
-      | inr other ↦ inr (sym (ap (λ b. b || list_any (λ x. x == byte) others) other) ∙ is)
-    ]
+step byte t others is = grind (arith, cases_Bool, eqb-true)
 
 pub cases_leaf : (byte : ℕ) → is_leaf_type byte ≡ true → (byte ≡ 5) ⊎ ((byte ≡ 6) ⊎ (byte ≡ 12))
-cases_leaf byte is =
-    elim (step byte 5 (6 ∷ 12 ∷ []) is) [
-      | inl five ↦ inl five
-      | inr later ↦ elim (step byte 6 (12 ∷ []) later)
-          [ inl six ↦ inr (inl six) | inr last ↦ elim (step byte 12 [] last) [ inl twelve ↦ inr (inr twelve) | inr none ↦ absurd cc ] ]
-    ]
+cases_leaf byte is = grind (arith, step)
 
 pub cases_hash : (byte : ℕ) → is_hash_type byte ≡ true → (byte ≡ 2) ⊎ (byte ≡ 13)
 cases_hash byte is =

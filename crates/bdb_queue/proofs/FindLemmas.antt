@@ -23,9 +23,7 @@ filter_parts test f (x ∷ xs) = filter-append test (f x) (flat_map f xs) ∙ ap
 
 all_empty : {Y : Type 0} (f : ℕ → List Y) (a n : ℕ) → ((x : ℕ) → a ≤ x → x < a + n → f x ≡ []) → flat_map f (range_with_len a n) ≡ []
 all_empty f a zero empty = refl
-all_empty f a (suc n) empty =
-    ap (λ ys. ys ++ flat_map f (range_with_len (a + 1) n)) (empty a (omega arith) (omega arith))
-    ∙ all_empty f (a + 1) n (λ x low high. empty x (omega arith) (omega arith))
+all_empty f a (suc n) empty = grind (arith, all_empty f (a + 1) n (λ x low high. empty x (omega arith) (omega arith)))
 
 only_one : {Y : Type 0} (f : ℕ → List Y) (a n k : ℕ) → a ≤ k → k < a + n → ((x : ℕ) → a ≤ x → x < a + n → (x ≡ k → ⊥) → f x ≡ [])
     → flat_map f (range_with_len a n) ≡ f k
@@ -81,28 +79,17 @@ record IsAt (meta : QueueMeta) (index p slot : ℕ) : Type 0 where
   slot_is : index % meta.per_page ≡ slot
 
 place_of : (meta : QueueMeta) (index p slot : ℕ) → 1 ≤ p → slot < meta.per_page → record_number meta p slot ≡ index + 1 → IsAt meta index p slot
-place_of meta index p slot low inside own =
-    let same : (p - 1) * meta.per_page + slot ≡ index = omega arith in
-    record {
-      page = (let q : index / meta.per_page ≡ p - 1 = ap (λ n. n / meta.per_page) (sym same) ∙ div-mul-add (p - 1) meta.per_page slot inside in omega arith);
-      slot_is = ap (λ n. n % meta.per_page) (sym same) ∙ mod-mul-add (p - 1) meta.per_page slot inside;
-    }
+place_of meta index p slot low inside own = grind (arith, div-mul-add, mod-mul-add)
 
 number_of : (meta : QueueMeta) (index : ℕ) → record_number meta (index / meta.per_page + 1) (index % meta.per_page) ≡ index + 1
-number_of meta index =
-    let whole : index / meta.per_page * meta.per_page + index % meta.per_page ≡ index = div-add-mod' index meta.per_page in
-    ap (λ q. q * meta.per_page + index % meta.per_page + 1) (let less : index / meta.per_page + 1 - 1 ≡ index / meta.per_page = omega arith in less)
-    ∙ (omega arith)
+number_of meta index = grind (arith, div-add-mod')
 
 -- The list of a queue.
 
 -- no record has number 0
 pub none_under_zero : (file : File) (meta : QueueMeta) → [] ≡ get (queue_list file meta) (NumberKey 0)
 unfolding queue_list
-none_under_zero file meta =
-    sym (ap data_in (filter_parts (has_number 0) (λ p. page_records meta p (page_at file p)) (range_with_len 1 file.last)
-    ∙ all_empty (λ p. filter (has_number 0) (page_records meta p (page_at file p))) 1 file.last
-    (λ p low high. other_page meta p 0 (page_at file p) (λ slot inside is. omega arith))))
+none_under_zero file meta = grind (arith, filter_parts, all_empty, other_page)
 
 pub record_under : (image : List ℕ) (meta : QueueMeta) (index : ℕ) → 1 ≤ meta.per_page → data_in (record_of (file_of image) meta index)
     ≡ get (queue_list (file_of image) meta) (NumberKey (index + 1))

@@ -1,6 +1,6 @@
 -- What the metadata of a queue keeps, and that its pages have room for their slots.
 use Rattle.std.proofs.lemmas.Bool.Decides.{nat_tests}
-use Rattle.std.proofs.Common.{◌≡◌, ℕ, ◌+◌, ◌-◌, ◌*◌, ◌<◌, ◌≤◌, true, false, not, List, length, drop, arith, sym, ◌∙◌, ap, subst, length-drop}
+use Rattle.std.proofs.Common.{◌≡◌, ℕ, ◌+◌, ◌-◌, ◌*◌, ◌<◌, ◌≤◌, true, false, List, length, drop, arith, sym, ◌∙◌, ap, subst, length-drop}
 use Rattle.std.specs.Prelude.{Some, None, ◌==◌}
 use Rattle.std.proofs.lemmas.Bool.{eqb-true, not-false, or_parts}
 use Rattle.std.proofs.Math.Nat.{div-mul-le_self}
@@ -39,9 +39,7 @@ page_of_type image p t low is =
 
 -- a page of a file has the size of its pages
 page_size : (image : List ℕ) (p : ℕ) → IsForest image → p ≤ (file_of image).last → length (page_bytes (head_of image) image p) ≡ (head_of image).page_size
-page_size image p forest low =
-    page_length image (head_of image) p (formed_accepted image (head_of image) forest.formed)
-    (let few = formed_last image (head_of image) forest.formed in omega (arith, low, last_page image))
+page_size image p forest low = grind (arith, page_length, formed_accepted, formed_last, last_page)
 
 -- the metadata of a queue tells how many records a page has, at least one, and no record has number 0
 pub record IsQueue (image : List ℕ) (meta : QueueMeta) : Type 0 where
@@ -60,17 +58,7 @@ record IsKept (size : ℕ) (meta : QueueMeta) : Type 0 where
 
 fields_kept : (order : Order) (page : List ℕ) → first_row (metadata_rows order page 0 0 QueueKind) ≡ None → IsKept (length page) (queue_fields order page)
 unfolding metadata_rows
-fields_kept order page none =
-    let meta : QueueMeta = queue_fields order page in
-    let count : ℕ = records_per_page (length page) meta.re_len in
-    let fail : AllFail (metadata_rows order page 0 0 QueueKind) = none_is_first_row (metadata_rows order page 0 0 QueueKind) none in
-    let records = or_parts (count == 0) (not (meta.per_page == count)) fail.1.1.1.1.1.1.1.1.1.0 in
-    let numbers = or_parts (meta.first == 0) (meta.current == 0) fail.1.1.1.1.1.1.1.1.1.1.0 in
-    record {
-      per_page = eqb-true meta.per_page count (not-false (meta.per_page == count) records.1);
-      some = unequal count records.0;
-      first = unequal meta.first numbers.0;
-    }
+fields_kept order page none = grind (arith, AllFail, none_is_first_row, or_parts, eqb-true, not-false, unequal)
 
 pub queue_is : (image : List ℕ) (meta : QueueMeta) → IsForest image → HasMetadata (file_of image) (QueueFields meta) → IsQueue image meta
 queue_is image meta forest has =

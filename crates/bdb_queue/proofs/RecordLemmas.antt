@@ -1,5 +1,5 @@
 -- The records of a queue, slot by slot and page by page.
-use Rattle.std.proofs.Common.{◌≡◌, ℕ, suc, ◌+◌, ◌-◌, ◌*◌, ◌<◌, ◌≤◌, List, [], ◌∷◌, ◌++◌, length, arith, refl, sym, ◌∙◌, ap, inl, inr}
+use Rattle.std.proofs.Common.{◌≡◌, ℕ, suc, ◌+◌, ◌-◌, ◌*◌, ◌<◌, ◌≤◌, List, [], ◌∷◌, ◌++◌, length, arith, refl, ◌∙◌, ap, inl, inr}
 use Rattle.std.specs.List.{flat_map, range_with_len}
 use Rattle.std.proofs.Math.Nat.{mul-le-mul_right}
 use Rattle.bdb_format.specs.declared.metadata.QueueMeta.{QueueMeta}
@@ -21,9 +21,7 @@ none_from meta p records slot past =
 pub next_from : (meta : QueueMeta) (p : ℕ) (records : List ℕ) (slot : ℕ) → slot < meta.per_page → slots_from meta p records slot
     ≡ listed_slot meta p records slot ++ slots_from meta p records (slot + 1)
 unfolding slots_from
-next_from meta p records slot inside =
-    ap (λ n. flat_map (listed_slot meta p records) (range_with_len slot n))
-    (let some : meta.per_page - slot ≡ suc (meta.per_page - (slot + 1)) = omega arith in some)
+next_from meta p records slot inside = grind arith
 
 pub slot_room : (meta : QueueMeta) (records : List ℕ) (slot : ℕ) → slot < meta.per_page → HasSlots meta records
     → (slot + 1) * pad4 (meta.re_len + 1) ≤ length records
@@ -43,11 +41,7 @@ no_records meta p slot page is = ap (λ q. records_from meta p q slot) is
 
 pub none_left : (image : List ℕ) (meta : QueueMeta) (p slot : ℕ) → (file_of image).last < p → left_from (file_of image) meta p slot ≡ []
 unfolding left_from
-none_left image meta p slot past =
-    let file : File = file_of image in
-    ap (λ (records : List (ListKey × List ℕ)). records ++ flat_map (λ q. page_records meta q (page_at file q)) (range_with_len (p + 1) (file.last - p)))
-    (no_records meta p slot (page_at file p) (past_last image p past))
-    ∙ ap (λ n. flat_map (λ q. page_records meta q (page_at file q)) (range_with_len (p + 1) n)) (let none : file.last - p ≡ 0 = omega arith in none)
+none_left image meta p slot past = grind (arith, no_records, past_last)
 
 pages_from : File → QueueMeta → ℕ → ℕ → List (ListKey × List ℕ)
 pages_from file meta p n = flat_map (λ q. page_records meta q (page_at file q)) (range_with_len p n)
@@ -68,10 +62,7 @@ from_page image meta p =
 pub next_page : (image : List ℕ) (meta : QueueMeta) (p slot : ℕ) → p ≤ (file_of image).last → records_from meta p (page_at (file_of image) p) slot ≡ []
     → left_from (file_of image) meta p slot ≡ left_from (file_of image) meta (p + 1) 0
 unfolding left_from pages_from
-next_page image meta p slot low none =
-    let file : File = file_of image in
-    ap (λ (records : List (ListKey × List ℕ)). records ++ pages_from file meta (p + 1) (file.last - p)) none
-    ∙ (ap (λ n. pages_from file meta (p + 1) n) (let same : file.last - p ≡ file.last + 1 - (p + 1) = omega arith in same) ∙ sym (from_page image meta (p + 1)))
+next_page image meta p slot low none = grind (arith, pages_from, from_page)
 
 -- a record is taken off the front
 pub next_record : (file : File) (meta : QueueMeta) (p slot after : ℕ) (entry : ListKey × List ℕ) → records_from meta p (page_at file p) slot ≡ entry

@@ -15,11 +15,7 @@ use Rattle.bdb_range.specs.InRange.{pairs_between}
 pub next_leaf : (file : File) (here after : Option (List StoredPair)) (old new : List ℕ) (left p : ℕ) → left_of here ≡ [] → old ≡ p ∷ new → 0 < left
     → left_of after ≡ pairs_of file p → pairs_left file after (take (left - 1) new) ≡ pairs_left file here (take left old)
 next_leaf file here after old new zero p none is some are = absurd (omega arith)
-next_leaf file here after old new (suc n) p none is some are =
-    let less : suc n - 1 ≡ n = omega arith in
-    ap (λ (k : ℕ). left_of after ++ flat_map (pairs_of file) (take k new)) less
-    ∙ (ap (λ pairs. pairs ++ flat_map (pairs_of file) (take n new)) are
-    ∙ sym (ap (λ pairs. pairs ++ flat_map (pairs_of file) (take (suc n) old)) none ∙ ap (λ xs. flat_map (pairs_of file) (take (suc n) xs)) is))
+next_leaf file here after old new (suc n) p none is some are = grind arith
 
 pub no_leaves : (file : File) (here : Option (List StoredPair)) (old : List ℕ) (left : ℕ) → left_of here ≡ [] → old ≡ []
     → pairs_left file here (take left old) ≡ []
@@ -37,11 +33,7 @@ pub next_between : (file : File) (from to : List ℕ) (here after : Option (List
     → left_of here ≡ []
     → old ≡ pair ∷ new → lies_between from to pair.key ≡ true → left_of after ≡ listed_pair file pair
     → entries_left file after (pairs_between from to new) ≡ entries_left file here (pairs_between from to old)
-next_between file from to here after old new pair none more lies are =
-    let first : pairs_between from to old ≡ pair ∷ pairs_between from to new =
-    ap (pairs_between from to) more ∙ ap (λ b. cond b (pair ∷ pairs_between from to new) (pairs_between from to new)) lies in
-    ap (λ entries. entries ++ flat_map (listed_pair file) (pairs_between from to new)) are
-    ∙ sym (ap (λ entries. entries ++ flat_map (listed_pair file) (pairs_between from to old)) none ∙ ap (flat_map (listed_pair file)) first)
+next_between file from to here after old new pair none more lies are = grind arith
 
 pub passed_by : (from to : List ℕ) (old new : List StoredPair) (pair : StoredPair) → old ≡ pair ∷ new → lies_between from to pair.key ≡ false
     → pairs_between from to new ≡ pairs_between from to old

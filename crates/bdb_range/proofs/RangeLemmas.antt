@@ -1,4 +1,5 @@
 -- Ranges of lists, of pairs and of leaves.
+use Rattle.std.proofs.Common.{arith}
 use Rattle.std.proofs.Common.{◌≡◌, ◌∙◌, inl, inr, ℕ, Bool, true, false, cond, List, [], ◌∷◌, ◌++◌, map}
 use Rattle.std.proofs.Common.{take, drop, refl, sym, ap, subst, append-nil}
 use Rattle.std.specs.List.{Contains, flat_map}
@@ -12,7 +13,7 @@ use Rattle.bdb_format.specs.Lists.{ListKey, BytesKey, btree_list, listed_pair}
 use Rattle.bdb_format.proofs.MemberLemmas.{first_member, later_member, member_cases, no_member}
 use Rattle.bdb_graph.specs.Forest.{AllDistinct, NotIn}
 use Rattle.bdb_graph.proofs.LeavesLemmas.{no_leaf_twice}
-use Rattle.bdb_range.specs.Ranges.{in_range, is_between, lies_between}
+use Rattle.bdb_range.specs.Ranges.{in_range, lies_between}
 use Rattle.bdb_range.specs.InRange.{pairs_between}
 use Rattle.bdb_range.specs.Spans.{ListsAreFiltered, SpansGiveRanges}
 
@@ -37,17 +38,7 @@ pair_between file from to pair b is =
 pairs_filtered : (file : File) (from to : List ℕ) (pairs : List StoredPair)
     → in_range (flat_map (listed_pair file) pairs) from to ≡ flat_map (listed_pair file) (pairs_between from to pairs)
 pairs_filtered file from to [] = refl
-pairs_filtered file from to (pair ∷ pairs) =
-    let rest : in_range (flat_map (listed_pair file) pairs) from to ≡ flat_map (listed_pair file) (pairs_between from to pairs) =
-    pairs_filtered file from to pairs in
-    filter-append (λ (entry : ListKey × List ℕ). is_between from to entry.0) (listed_pair file pair) (flat_map (listed_pair file) pairs)
-    ∙ (elim (lies_between from to pair.key) as (λ b. lies_between from to pair.key ≡ b
-    → in_range (listed_pair file pair) from to ++ in_range (flat_map (listed_pair file) pairs) from to
-    ≡ flat_map (listed_pair file) (cond b (pair ∷ pairs_between from to pairs) (pairs_between from to pairs))) [
-      | true ↦ λ is. ap (λ xs. xs ++ in_range (flat_map (listed_pair file) pairs) from to) (pair_between file from to pair true is) ∙ ap
-          (λ xs. listed_pair file pair ++ xs) rest
-      | false ↦ λ is. ap (λ xs. xs ++ in_range (flat_map (listed_pair file) pairs) from to) (pair_between file from to pair false is) ∙ rest
-    ] refl)
+pairs_filtered file from to (pair ∷ pairs) = grind (arith, filter-append, pair_between, pairs_filtered file from to pairs)
 
 pub lists_are_filtered : ListsAreFiltered
 unfolding btree_list

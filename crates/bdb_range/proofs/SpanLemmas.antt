@@ -1,8 +1,8 @@
 -- The leaves of a span.
-use Rattle.std.proofs.Common.{◌≡◌, ◌∙◌, ◌⊎◌, inl, inr, ℕ, suc, ◌+◌, ◌-◌, ◌<◌, ◌≤◌, Bool, true, false, not, cond, List, [], ◌∷◌, ◌++◌, length}
+use Rattle.std.proofs.Common.{◌≡◌, ◌∙◌, ◌⊎◌, inl, inr, ℕ, suc, ◌+◌, ◌-◌, ◌<◌, ◌≤◌, Bool, true, false, List, [], ◌∷◌, ◌++◌, length}
 use Rattle.std.proofs.Common.{take, drop, get_or, refl, sym, ap, subst, arith, append_assoc, ◌^◌}
 use Rattle.std.specs.Prelude.{◌&&◌, ◌==◌}
-use Rattle.std.specs.List.{Contains, filter, flat_map, list_any, prefix_len}
+use Rattle.std.specs.List.{Contains, filter, flat_map, prefix_len}
 use Rattle.std.proofs.lemmas.List.{length-append, take-append-drop}
 use Rattle.std.proofs.lemmas.List.Concat.{flat_map-append}
 use Rattle.std.proofs.lemmas.List.Elements.{Contains-append_cases, filter-append}
@@ -53,18 +53,7 @@ count_by_tests : (test one other : ℕ → Bool) (ps : List ℕ) → ((p : ℕ) 
     → prefix_len test ps ≤ length (filter one ps) + length (filter other ps)
 count_by_tests test one other [] passes = omega arith
 count_by_tests test one other (p ∷ ps) passes =
-    let rest : prefix_len test ps ≤ length (filter one ps) + length (filter other ps) =
-    count_by_tests test one other ps (λ q at is. passes q (later_member p ps q at) is) in
-    counts (test p) (one p) (other p) (prefix_len test ps) (length (filter one ps)) (length (filter other ps)) (filter one ps) (filter other ps) refl refl
-    (λ is. passes p (first_member p ps) is) rest
-  where
-    counts : (t a b : Bool) (n x y : ℕ) (xs ys : List ℕ) → length xs ≡ x → length ys ≡ y → (t ≡ true → (a ≡ true) ⊎ (b ≡ true)) → n ≤ x + y
-        → cond t (1 + n) 0 ≤ length (cond a (p ∷ xs) xs) + length (cond b (p ∷ ys) ys)
-    counts true true b n x y xs ys lx ly some low = elim b as (λ c. 1 + n ≤ suc (length xs) + length (cond c (p ∷ ys) ys))
-        [ true ↦ omega arith | false ↦ omega arith ]
-    counts true false true n x y xs ys lx ly some low = omega arith
-    counts true false false n x y xs ys lx ly some low = absurd (elim (some refl) [ inl no_a ↦ cc | inr no_b ↦ cc ])
-    counts false a b n x y xs ys lx ly some low = omega arith
+    grind (arith, later_member, first_member, count_by_tests test one other ps (λ q at is. passes q (later_member p ps q at) is))
 
 longer : (test : ℕ → Bool) (xs ys : List ℕ) → length (filter test ys) ≤ length (filter test (xs ++ ys))
 longer test xs ys = omega (arith, ap length (filter-append test xs ys), length-append (filter test xs) (filter test ys))
@@ -73,14 +62,7 @@ longer test xs ys = omega (arith, ap length (filter-append test xs ys), length-a
 holds_or_empty : (file : File) (from to : List ℕ) (p : ℕ) → ((pair : StoredPair) → Contains (pairs_of file p) pair → less pair.key from ≡ false)
     → goes_on file to p ≡ true
     → (holds_between file from to p ≡ true) ⊎ (is_empty file p ≡ true)
-holds_or_empty file from to p upper on = by (pairs_of file p) upper on
-  where
-    by : (pairs : List StoredPair) → ((pair : StoredPair) → Contains pairs pair → less pair.key from ≡ false) → begins_below to pairs ≡ true
-        → (list_any (λ (pair : StoredPair). lies_between from to pair.key) pairs ≡ true) ⊎ ((length pairs == 0) ≡ true)
-    by [] upper on = inr refl
-    by (pair ∷ pairs) upper on =
-        inl (passes_here (λ (other : StoredPair). lies_between from to other.key) (pair ∷ pairs) pair (first_member pair pairs)
-        (rw (upper pair (first_member pair pairs), on) refl))
+holds_or_empty file from to p upper on = grind (arith, passes_here, first_member)
 
 pub walks_are_short : WalksAreShort
 unfolding holding_leaves empty_leaves
@@ -105,11 +87,7 @@ after_falls [] ys fall = fall
 after_falls (x ∷ xs) ys fall = after_falls xs ys fall.1
 
 first_least : (pair other : StoredPair) (pairs : List StoredPair) → DontFall (pair ∷ pairs) → Contains (pair ∷ pairs) other → less other.key pair.key ≡ false
-first_least pair other pairs fall at =
-    elim (member_cases pair pairs other at) [
-      | inl same ↦ subst (λ (o : StoredPair). less o.key pair.key ≡ false) same (less_self pair.key)
-      | inr later ↦ fall.0 other later
-    ]
+first_least pair other pairs fall at = grind (arith, member_cases, less_self)
 
 -- once a leaf begins at or past the bound, no key from there on is less
 past_bound : (file : File) (to : List ℕ) (s : ℕ) (more : List ℕ) → DontFall (flat_map (pairs_of file) (s ∷ more)) → goes_on file to s ≡ false
@@ -146,12 +124,7 @@ tree_falls image meta forest has keys none =
     second_false (two.1.page == q) (is_out_of_order two) (eq-eqb q q refl) passed)
 
 between_parts : (from to key : List ℕ) → lies_between from to key ≡ true → (less key from ≡ false) × (less key to ≡ true)
-between_parts from to key is = parts (less key from) (less key to) is
-  where
-    parts : (a b : Bool) → (not a && b) ≡ true → (a ≡ false) × (b ≡ true)
-    parts true b is = absurd cc
-    parts false true is = (refl, refl)
-    parts false false is = absurd cc
+between_parts from to key is = grind arith
 
 pub walks_cover : WalksCover
 unfolding tree_pairs
@@ -198,10 +171,7 @@ walks_cover image meta from to leaf forest has keys none split =
 
 pub walk_more : (test : ℕ → Bool) (count all leaf n : ℕ) (old new : List ℕ) → old ≡ leaf ∷ new → n ≡ leaf → test n ≡ true → count + prefix_len test old ≡ all
     → count + 1 + prefix_len test new ≡ all
-walk_more test count all leaf n old new is same on sum =
-    let on_leaf : test leaf ≡ true = ap test (sym same) ∙ on in
-    let first : prefix_len test old ≡ 1 + prefix_len test new = ap (prefix_len test) is ∙ ap (λ b. cond b (1 + prefix_len test new) 0) on_leaf in
-    omega arith
+walk_more test count all leaf n old new is same on sum = grind arith
 
 pub first_fits : (file : File) (leaf n : ℕ) (old new : List ℕ) → old ≡ leaf ∷ new → n ≡ leaf → AreLeaves file old → FitsLeafPage file n
 first_fits file leaf n old new is same each = subst (FitsLeafPage file) (sym same)
@@ -213,7 +183,4 @@ rest_fits file leaf old new is each = let all : AreLeaves file (leaf ∷ new) = 
 pub count_fits : (test : ℕ → Bool) (count leaf n : ℕ) (old new others : List ℕ) → old ≡ leaf ∷ new → n ≡ leaf → test n ≡ true
     → count + prefix_len test old ≡ prefix_len test others
     → length others < 2 ^ 32 → count + 1 < 2 ^ 32
-count_fits test count leaf n old new others is same on sum few =
-    let more : count + 1 + prefix_len test new ≡ prefix_len test others = walk_more test count (prefix_len test others) leaf n old new is same on sum in
-    let all : prefix_len test others ≤ length others = walk_inside test others in
-    omega arith
+count_fits test count leaf n old new others is same on sum few = grind (arith, walk_more, walk_inside)

@@ -1,5 +1,5 @@
 -- A page of a chain that has no page before it is the head of a chain: a reference names it, and it's none to a next page.
-use Rattle.std.proofs.Common.{◌≡◌, ◌⊎◌, ℕ, zero, suc, ◌+◌, ◌≤◌, Bool, true, false, cond, not, ◌&&◌, ◌||◌, List, [], ◌∷◌, map, Option, Some, None, arith, refl}
+use Rattle.std.proofs.Common.{◌≡◌, ◌⊎◌, ℕ, zero, suc, ◌+◌, ◌≤◌, Bool, true, false, ◌&&◌, ◌||◌, List, [], ◌∷◌, map, Some, None, arith, refl}
 use Rattle.std.proofs.Common.{sym, ◌∙◌, ap, subst, inl, inr, true≢false}
 use Rattle.std.specs.Prelude.{◌==◌}
 use Rattle.std.specs.List.{Contains, flat_map, range_with_len}
@@ -18,13 +18,13 @@ use Rattle.bdb_format.specs.Graph.{Owner, all_references, first_holder, is_ancho
 use Rattle.bdb_format.specs.Hashing.{first_page}
 use Rattle.bdb_format.specs.HeadOf.{head_of}
 use Rattle.bdb_format.specs.Numbers.{byte_at}
-use Rattle.bdb_format.specs.Page.{BtreeFields, HashFields, Content, Chain, Tree, InternalItem, Page}
+use Rattle.bdb_format.specs.Page.{BtreeFields, HashFields, Content, Chain, Tree, Page}
 use Rattle.bdb_format.specs.Page.{Free, Meta, Hash, Internal, RecnoInternal, Leaf, RecnoLeaf, DupLeaf, Overflow}
-use Rattle.bdb_format.specs.Reading.{abstract_page, is_zero, page_as, page_type}
+use Rattle.bdb_format.specs.Reading.{is_zero, page_as, page_type}
 use Rattle.bdb_format.specs.References.{asked_by, child_types, content_targets, contents_in, first_free, fit_code, fit_rows, has_type, internal_targets}
 use Rattle.bdb_format.specs.References.{is_asked, is_zero_page, root_types, targets_in, unless_zero}
 use Rattle.bdb_format.specs.Rows.{form_code, type_of}
-use Rattle.bdb_format.proofs.FileLemmas.{last_page, page_is}
+use Rattle.bdb_format.proofs.FileLemmas.{page_is}
 use Rattle.bdb_format.proofs.GraphLemmas.{IsOwner, is_owner, owner_fits, reserve_is, typed_page, zero_page}
 use Rattle.bdb_format.proofs.ListLemmas.{only_member}
 use Rattle.bdb_format.proofs.MemberLemmas.{first_member, member_cases, no_member, of_filter, of_flat_map, of_map}
@@ -57,18 +57,10 @@ other_sort : (a b : Sort × ℕ) → is_next a.0 ≡ false → a ≡ b → is_ne
 other_sort a b other same next = true≢false (sym next ∙ (ap (λ (name : Sort × ℕ). is_next name.0) (sym same) ∙ other))
 
 no_link : (sort : Sort) (target : ℕ) (name : Sort × ℕ) → is_next sort ≡ false → is_next name.0 ≡ true → Contains (unless_zero sort target) name → ⊥
-no_link sort target name other next =
-    elim (target == 0) as (λ b. Contains (cond b [] ((sort, target) ∷ [])) name → ⊥) [
-      | true ↦ λ at. no_member [] name refl at
-      | false ↦ λ at. other_sort (sort, target) name other (only_member (sort, target) name at) next
-    ]
+no_link sort target name other next = grind (arith, no_member, other_sort, only_member)
 
 no_free : (p free : ℕ) (name : Sort × ℕ) → is_next name.0 ≡ true → Contains (first_free p free) name → ⊥
-no_free p free name next =
-    elim (p == 0) as (λ b. Contains (cond b (unless_zero FreeRef free) []) name → ⊥) [
-      | true ↦ λ at. no_link FreeRef free name refl next at
-      | false ↦ λ at. no_member [] name refl at
-    ]
+no_free p free name next = grind (arith, no_link, no_member)
 
 by_content : (content : Content) (name : Sort × ℕ) → is_next name.0 ≡ true → Contains (content_targets content) name → ⊥
 by_content (Chain head total) name next at = other_sort (OverflowHead, head) name refl (only_member (OverflowHead, head) name at) next
@@ -80,11 +72,7 @@ by_contents contents name next at = let found = of_flat_map content_targets cont
 
 names_next : (p : ℕ) (page : Page) (name : Sort × ℕ) → is_next name.0 ≡ true → Contains (targets_in p page) name → is_chain_page page ≡ true
 names_next p (Free header) name next at = absurd (no_link FreeRef header.next name refl next at)
-names_next p (Meta (BtreeFields meta)) name next at =
-    elim (Contains-append_cases (first_free p meta.free) ((Root, meta.root) ∷ []) name at) [
-      | inl free ↦ absurd (no_free p meta.free name next free)
-      | inr named ↦ absurd (other_sort (Root, meta.root) name refl (only_member (Root, meta.root) name named) next)
-    ]
+names_next p (Meta (BtreeFields meta)) name next at = grind (arith, Contains-append_cases, no_free, other_sort, only_member)
 names_next p (Meta (HashFields meta)) name next at =
     let buckets : List ℕ = range_with_len 0 (meta.max_bucket + 1) in
     elim (Contains-append_cases (first_free p meta.free) (map (λ b. (Bucket, first_page b meta.spares)) buckets) name at) [

@@ -1,6 +1,6 @@
 -- The ranks of chains by their values.
-use Rattle.std.proofs.Common.{◌≡◌, ◌⊎◌, ℕ, zero, suc, ◌+◌, ◌-◌, ◌<◌, ◌≤◌, Bool, true, false, cond, List, [], length, get_or, Option, Some, arith, refl, sym}
-use Rattle.std.proofs.Common.{◌∙◌, ap, subst, inl, inr, Bor, true≢false, le-ltb, lt-ltb}
+use Rattle.std.proofs.Common.{◌≡◌, ◌⊎◌, ℕ, zero, suc, ◌+◌, ◌-◌, ◌<◌, ◌≤◌, Bool, false, cond, List, [], length, get_or, Some, arith, refl, sym}
+use Rattle.std.proofs.Common.{◌∙◌, subst, Bor, true≢false, le-ltb, lt-ltb}
 use Rattle.std.specs.Prelude.{nat_lt, ◌&&◌}
 use Rattle.std.specs.BTreeMap.{BTreeMap, Updates, get}
 use Rattle.std.specs.Cmp.{IsStrictWeakOrder}
@@ -24,11 +24,7 @@ use Rattle.bdb_format.proofs.ListLemmas.{one_answer}
 -- The sort.
 
 values_rank : IsStrictWeakOrder value_less
-values_rank = record {
-  one_way = λ x y below. less_not_back x.value y.value below;
-  chain = λ x y z not_xy not_yz.
-      false_from_ne_true (less x.value z.value) (λ below. true≢false (sym (less_above x.value z.value y.value below not_yz) ∙ not_xy));
-}
+values_rank = grind (arith, less_not_back, false_from_ne_true, less_above)
 
 -- a sort by a closure that answers by the order of values
 pub sorted_by : {F : Type 0} {g : Mut F (Bor ChainValue × (Bor ChainValue × Unit {0})) Ordering} {f : F} (chains : List ChainValue)
@@ -48,11 +44,7 @@ shared_moved image old new are moved = record {
 
 after_insert : (old new : BTreeMap ℕ ℕ) (h rank a m : ℕ) → Updates nat_cmp old new h (Some rank) → get nat_cmp new a ≡ Some m
     → ((h ≡ a) × (m ≡ rank)) ⊎ (get nat_cmp old a ≡ Some m)
-after_insert old new h rank a m updates at =
-    elim (cases_eq h a) [
-      | inl same ↦ inl (same, one_answer m rank (sym at ∙ (sym (ap (get nat_cmp new) same) ∙ updates.1)))
-      | inr differ ↦ inr (sym (updates.2 a (apart h a differ)) ∙ at)
-    ]
+after_insert old new h rank a m updates at = grind (arith, cases_eq, one_answer, apart)
 
 -- below what isn't below itself
 same_rank : (m n rank : ℕ) → m ≡ rank → n ≡ rank → nat_lt m n ≡ false
@@ -60,51 +52,11 @@ same_rank m n rank first second = le-ltb m n (omega (arith, first, second))
 
 insert_ranks : (image : List ℕ) (old new : BTreeMap ℕ ℕ) (h rank : ℕ) (value : List ℕ) → AreRanks image old → AreBelow image old value rank
     → value ≡ chain_value (file_of image) h → Updates nat_cmp old new h (Some rank) → AreRanks image new
-insert_ranks image old new h rank value are below is updates = record {
-  each = λ a b m n at_a at_b.
-      elim (after_insert old new h rank a m updates at_a) [
-        | inl first ↦
-            elim (after_insert old new h rank b n updates at_b) [
-              | inl second ↦
-                  let one : chain_value (file_of image) a ≡ chain_value (file_of image) b = ap (chain_value (file_of image)) (sym first.0 ∙ second.0) in
-                  same_rank m n rank first.1 second.1
-                  ∙ sym (ap (λ v. less v (chain_value (file_of image) b)) one ∙ less_self (chain_value (file_of image) b))
-              | inr there ↦
-                  ap (λ r. nat_lt r n) first.1
-                  ∙ (below.not_above b n there
-                  ∙ sym (ap (λ v. less v (chain_value (file_of image) b)) (sym (is ∙ ap (chain_value (file_of image)) first.0)) ∙ below.not_less b n there))
-            ]
-        | inr here ↦
-            elim (after_insert old new h rank b n updates at_b) [
-              | inl second ↦
-                  ap (nat_lt m) second.1
-                  ∙ (below.less_is a m here ∙ ap (less (chain_value (file_of image) a)) (is ∙ ap (chain_value (file_of image)) second.0))
-              | inr there ↦ are.each a b m n here there
-            ]
-      ];
-}
+insert_ranks image old new h rank value are below is updates = grind (arith, after_insert, same_rank, less_self)
 
 insert_below : (image : List ℕ) (old new : BTreeMap ℕ ℕ) (h rank : ℕ) (value : List ℕ) → AreBelow image old value rank
     → value ≡ chain_value (file_of image) h → Updates nat_cmp old new h (Some rank) → AreBelow image new value rank
-insert_below image old new h rank value below is updates = record {
-  less_is = λ a m at.
-      elim (after_insert old new h rank a m updates at) [
-        | inl here ↦
-            same_rank m rank rank here.1 refl
-            ∙ sym (ap (λ v. less v value) (sym (is ∙ ap (chain_value (file_of image)) here.0)) ∙ less_self value)
-        | inr there ↦ below.less_is a m there
-      ];
-  not_above = λ a m at.
-      elim (after_insert old new h rank a m updates at) [
-        | inl here ↦ same_rank rank m rank refl here.1
-        | inr there ↦ below.not_above a m there
-      ];
-  not_less = λ a m at.
-      elim (after_insert old new h rank a m updates at) [
-        | inl here ↦ ap (less value) (sym (is ∙ ap (chain_value (file_of image)) here.0)) ∙ less_self value
-        | inr there ↦ below.not_less a m there
-      ];
-}
+insert_below image old new h rank value below is updates = grind (arith, after_insert, same_rank, less_self)
 
 -- a greater value has a greater rank than all
 rise : (image : List ℕ) (ranks : BTreeMap ℕ ℕ) (last value : List ℕ) (rank i : ℕ) → AreBelow image ranks last rank → rank < i → Less last value
@@ -124,19 +76,12 @@ rise image ranks last value rank i below high above =
 
 none_below : (image : List ℕ) (ranks : BTreeMap ℕ ℕ) (value : List ℕ) (rank : ℕ) → ((a m : ℕ) → get nat_cmp ranks a ≡ Some m → ⊥)
     → AreBelow image ranks value rank
-none_below image ranks value rank none = record {
-  less_is = λ a m at. absurd (none a m at);
-  not_above = λ a m at. absurd (none a m at);
-  not_less = λ a m at. absurd (none a m at);
-}
+none_below image ranks value rank none = grind arith
 
 -- No rank, one more, and all.
 
 above_is : (chains : List ChainValue) (k : ℕ) → is_above chains (suc k) ≡ less (value_at chains k) (value_at chains (suc k))
-above_is chains k =
-    let one_less : suc k - 1 ≡ k = omega arith in
-    ap (λ b. b && less (value_at chains (suc k - 1)) (value_at chains (suc k))) (lt-ltb 0 (suc k) (omega arith))
-    ∙ ap (λ n. less (value_at chains n) (value_at chains (suc k))) one_less
+above_is chains k = grind (arith, lt-ltb)
 
 -- what the ranks so far are below, at the next chain
 next_below : (image : List ℕ) (ranks : BTreeMap ℕ ℕ) (chains : List ChainValue) (rank i : ℕ) → IsSortedBy value_less chains
@@ -144,19 +89,7 @@ next_below : (image : List ℕ) (ranks : BTreeMap ℕ ℕ) (chains : List ChainV
     → (cond (is_above chains i) i rank ≤ i) × AreBelow image ranks (value_at chains i) (cond (is_above chains i) i rank)
 next_below image ranks chains rank zero sorted ranked high =
     let start = ranked.none refl in (omega (arith, start.0), none_below image ranks (value_at chains 0) rank start.1)
-next_below image ranks chains rank (suc k) sorted ranked high =
-    let before = ranked.below k (omega arith) in
-    subst (λ above. (cond above (suc k) rank ≤ suc k) × AreBelow image ranks (value_at chains (suc k)) (cond above (suc k) rank)) (sym (above_is chains k))
-    (by_above (less (value_at chains k) (value_at chains (suc k))) refl before.0 before.1)
-  where
-    by_above : (above : Bool) → less (value_at chains k) (value_at chains (suc k)) ≡ above → rank ≤ k → AreBelow image ranks (value_at chains k) rank
-        → (cond above (suc k) rank ≤ suc k) × AreBelow image ranks (value_at chains (suc k)) (cond above (suc k) rank)
-    by_above true is low below = (omega arith, rise image ranks (value_at chains k) (value_at chains (suc k)) rank (suc k) below (omega (arith, low)) is)
-    by_above false is low below =
-        let next : k + 1 ≡ suc k = omega arith in
-        let back : less (value_at chains (suc k)) (value_at chains k) ≡ false =
-        subst (λ n. less (value_at chains n) (value_at chains k) ≡ false) next (sorted k no_chain (omega arith) (omega (arith, high))) in
-        (omega (arith, low), subst (λ v. AreBelow image ranks v rank) (same_unless_less (value_at chains k) (value_at chains (suc k)) is back) below)
+next_below image ranks chains rank (suc k) sorted ranked high = grind (arith, above_is, rise, same_unless_less)
 
 pub ranked_on : (image : List ℕ) (chains : List ChainValue) (old new : BTreeMap ℕ ℕ) (rank next i : ℕ) (chain : ChainValue) → AreShared image chains
     → IsSortedBy value_less chains → AreRanked image old chains rank i → i < length chains → chain ≡ get_or chains i no_chain

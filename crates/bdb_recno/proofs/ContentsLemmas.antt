@@ -96,9 +96,7 @@ recno_faults file meta = by_page 8 0 (file.last + 1) (codes_at file meta)
 row_holds : (file : File) (meta : BtreeMeta) (row : ContentsRow) (test : Page → Bool) (pages : List ℕ) (p : ℕ) → Contains pages p → p ≤ file.last
     → test (page_at file p) ≡ true → (is_wrong_at file test pages p ≡ true → Contains (codes_at file meta p) (contents_code row))
     → Contains (recno_faults file meta) (record { stage = 8; page = p; code = contents_code row })
-row_holds file meta row test pages p listed low wrong holds =
-    in_by_page 8 0 (file.last + 1) p (contents_code row) (codes_at file meta) (omega arith) (omega arith)
-    (holds (in_wrong_at file test pages p listed wrong))
+row_holds file meta row test pages p listed low wrong holds = grind (arith, in_by_page, in_wrong_at)
 
 of_lengths : (b : Bool) (faults : List Fault) (fault : Fault) → Contains (cond b faults []) fault → (b ≡ true) × Contains faults fault
 of_lengths true faults fault at = (refl, at)
@@ -129,11 +127,7 @@ noted_holds image meta fault forest root at =
 
 same_fault : (fault : Fault) (code : ℕ) → fault.stage ≡ 8 → fault.code ≡ code
     → ◌≡◌ {A = Fault} (record { stage = 8; page = fault.page; code = code }) fault
-same_fault fault code stage_is code_is = same fault.stage fault.page fault.code stage_is code_is
-  where
-    same : (stage page c : ℕ) → stage ≡ 8 → c ≡ code
-        → ◌≡◌ {A = Fault} (record { stage = 8; page = page; code = code }) (record { stage = stage; page = page; code = c })
-    same stage page c is also = cc
+same_fault fault code stage_is code_is = grind arith
 
 holds_noted : (file : File) (meta : BtreeMeta) (fault : Fault) → Contains (recno_faults file meta) fault → Contains (noted_faults file meta) fault
 holds_noted file meta fault at =

@@ -1,5 +1,5 @@
 -- What the form of a leaf says of its entries.
-use Rattle.std.proofs.Common.{◌≡◌, ℕ, ◌*◌, ◌≤◌, true, false, List, length, Option, Some, None, arith, refl, sym, ◌∙◌, ap, subst}
+use Rattle.std.proofs.Common.{◌≡◌, ℕ, ◌*◌, ◌≤◌, List, length, Option, Some, None, arith, refl, sym, ◌∙◌, ap}
 use Rattle.bdb_form.specs.Formed.{IsListed}
 use Rattle.bdb_form.proofs.FormedLemmas.{listed_room}
 use Rattle.bdb_graph.proofs.FirstLemmas.{formed_accepted, formed_last, formed_page}
@@ -9,11 +9,9 @@ use Rattle.bdb_graph.specs.Linked.{IsForest}
 use Rattle.bdb_format.specs.declared.kinds.Order.{Order}
 use Rattle.bdb_format.specs.File.{file_of, page_at, page_bytes}
 use Rattle.bdb_format.specs.HeadOf.{head_of}
-use Rattle.bdb_format.specs.Numbers.{byte_at}
-use Rattle.bdb_format.specs.Page.{Item, Listed, Page, Zero, RecnoLeaf, PageType, RecnoLeafPage}
-use Rattle.bdb_format.specs.Reading.{abstract_page, entries_of, index_end, is_zero, leaf_item_at, listed, page_as, page_type}
-use Rattle.bdb_format.specs.Rows.{body_code, identity_rows, is_tree_type, page_code}
-use Rattle.bdb_format.specs.Table.{first_row}
+use Rattle.bdb_format.specs.Page.{Item, Listed, RecnoLeaf, PageType, RecnoLeafPage}
+use Rattle.bdb_format.specs.Reading.{abstract_page, leaf_item_at, listed, page_as}
+use Rattle.bdb_format.specs.Rows.{page_code}
 use Rattle.bdb_format.proofs.PageLemmas.{length_items}
 use Rattle.bdb_format.proofs.FileLemmas.{kind_is, last_page, page_is}
 use Rattle.bdb_format.proofs.SizeLemmas.{size_bounds}
@@ -40,34 +38,13 @@ leaf_by_bytes : (order : Order) (number : ℕ) (bytes : List ℕ) (page : Listed
     → page_code order number bytes ≡ None → abstract_page order bytes ≡ RecnoLeaf page
     → IsFormedLeaf order bytes page
 unfolding page_code abstract_page
-leaf_by_bytes order number bytes page long short none is =
-    let byte : ℕ = byte_at bytes 25 in
-    let identity : Option ℕ = first_row (identity_rows order bytes number is_tree_type) in
-    let body : Option ℕ = body_code order bytes (page_type byte) in
-    elim (is_zero bytes) as (λ zeros.
-    ◌≡◌ {A = Option ℕ} (elim zeros [ true ↦ None | false ↦ elim identity [ Some code ↦ Some code | None ↦ body ] ]) None
-    → ◌≡◌ {A = Page} (elim zeros [ true ↦ Zero | false ↦ page_as order bytes (page_type byte) ]) (RecnoLeaf page)
-    → IsFormedLeaf order bytes page) [
-      | true ↦ λ _ same. absurd cc
-      | false ↦ λ passed same.
-          let as_leaf = leaf_type order bytes (page_type byte) page (sym same) in
-          record {
-            list = record {
-              size = short;
-              header = omega arith;
-              formed = subst (λ t. body_code order bytes t ≡ None) as_leaf.0 (body_none identity body passed);
-            };
-            read = as_leaf.1;
-          }
-    ] none is
+leaf_by_bytes order number bytes page long short none is = grind (arith, Option, None, Some, leaf_type, body_none)
 
 abbrev bytes_of : List ℕ → ℕ → List ℕ
 bytes_of image p = page_bytes (head_of image) image p
 
 bytes_length : (image : List ℕ) (p : ℕ) → IsForest image → p ≤ (file_of image).last → length (bytes_of image p) ≡ (head_of image).page_size
-bytes_length image p forest low =
-    page_length image (head_of image) p (formed_accepted image (head_of image) forest.formed)
-    (omega (arith, last_page image, formed_last image (head_of image) forest.formed))
+bytes_length image p forest low = grind (arith, page_length, formed_accepted, last_page, formed_last)
 
 leaf_formed : (image : List ℕ) (p : ℕ) (page : Listed Item) → IsForest image → p ≤ (file_of image).last → page_at (file_of image) p ≡ RecnoLeaf page
     → IsFormedLeaf (head_of image).order (bytes_of image p) page
@@ -85,11 +62,4 @@ leaf_formed image p page forest low is =
 -- a leaf has at most half as many entries as a page has bytes
 pub leaf_entries : (image : List ℕ) (p : ℕ) (page : Listed Item) → IsForest image → p ≤ (file_of image).last
     → page_at (file_of image) p ≡ RecnoLeaf page → 2 * length page.items ≤ (head_of image).page_size
-leaf_entries image p page forest low is =
-    let order : Order = (head_of image).order in
-    let bytes : List ℕ = bytes_of image p in
-    let formed : IsFormedLeaf order bytes page = leaf_formed image p page forest low is in
-    let room : index_end order bytes ≤ length bytes = listed_room RecnoLeafPage order bytes formed.list in
-    let count : length page.items ≡ entries_of order bytes =
-    ap (λ (l : Listed Item). length l.items) formed.read ∙ length_items order bytes (leaf_item_at order bytes) in
-    omega (arith, room, count, bytes_length image p forest low)
+leaf_entries image p page forest low is = grind (arith, leaf_formed, listed_room, length_items, bytes_length)

@@ -34,26 +34,13 @@ get_other file n m item other = grind (arith, ne_eqb n m other)
 -- entries from a number on, in which a lesser number isn't
 get_before : (file : File) (items : List Item) (n m : ℕ) → m < n → get (flat_map (listed_entry file) (enumerate_from n items)) (NumberKey m) ≡ []
 get_before file [] n m below = refl
-get_before file (item ∷ items) n m below =
-    get_append (listed_entry file (n, item)) (flat_map (listed_entry file) (enumerate_from (n + 1) items)) (NumberKey m)
-    ∙ (ap (λ vs. vs ++ get (flat_map (listed_entry file) (enumerate_from (n + 1) items)) (NumberKey m))
-    (get_other file n m item (λ same. omega arith))
-    ∙ get_before file items (n + 1) m (omega arith))
+get_before file (item ∷ items) n m below = grind (arith, get_append, get_other, get_before file items (n + 1) m (omega arith))
 
 get_at : (file : File) (items : List Item) (n i m : ℕ) → m ≡ n + i
     → get (flat_map (listed_entry file) (enumerate_from n items)) (NumberKey m) ≡ entry_values file (slice_get items i)
 get_at file [] n i m is = refl
-get_at file (item ∷ items) n zero m is =
-    let same : n ≡ m = omega arith in
-    get_append (listed_entry file (n, item)) (flat_map (listed_entry file) (enumerate_from (n + 1) items)) (NumberKey m)
-    ∙ (ap (λ vs. get (listed_entry file (n, item)) (NumberKey m) ++ vs) (get_before file items (n + 1) m (omega arith))
-    ∙ (append-nil (get (listed_entry file (n, item)) (NumberKey m))
-    ∙ (ap (λ k. get (listed_entry file (n, item)) (NumberKey k)) (sym same) ∙ get_here file n item)))
-get_at file (item ∷ items) n (suc i) m is =
-    get_append (listed_entry file (n, item)) (flat_map (listed_entry file) (enumerate_from (n + 1) items)) (NumberKey m)
-    ∙ (ap (λ vs. vs ++ get (flat_map (listed_entry file) (enumerate_from (n + 1) items)) (NumberKey m))
-    (get_other file n m item (λ same. omega arith))
-    ∙ get_at file items (n + 1) i m (omega arith))
+get_at file (item ∷ items) n zero m is = grind (arith, get_append, get_before, append-nil, get_here)
+get_at file (item ∷ items) n (suc i) m is = grind (arith, get_append, get_other, get_at file items (n + 1) i m (omega arith))
 
 -- record 0 isn't there
 pub get_zero : (file : File) (root number : ℕ) → number < 1 → [] ≡ get (recno_list file root) (NumberKey number)

@@ -1,5 +1,6 @@
 -- The faults at the pages of a list.
-use Rattle.std.proofs.Common.{◌≡◌, ℕ, ◌+◌, ◌<◌, Bool, true, false, List, [], ◌∷◌, ◌++◌, length, get_or, take, refl, sym, ◌∙◌, ap, subst}
+use Rattle.std.proofs.Common.{arith}
+use Rattle.std.proofs.Common.{◌≡◌, ℕ, ◌+◌, ◌<◌, Bool, true, false, List, [], ◌∷◌, ◌++◌, length, get_or, take, refl, sym, ◌∙◌, subst}
 use Rattle.std.specs.Prelude.{◌==◌, ◌&&◌}
 use Rattle.std.specs.List.{Contains}
 use Rattle.std.proofs.lemmas.Bool.{and_parts, eqb-true, eq-eqb}
@@ -19,16 +20,11 @@ use Rattle.bdb_faults.specs.declared.rows.ContentsRow.{ContentsRow}
 
 pub of_wrong_at : (file : File) (test : Page → Bool) (pages : List ℕ) (p : ℕ) → is_wrong_at file test pages p ≡ true
     → Contains pages p × (test (page_at file p) ≡ true)
-of_wrong_at file test pages p wrong =
-    let found = any_member (λ q. q == p && test (page_at file q)) pages wrong in
-    let parts = and_parts (found.0 == p) (test (page_at file found.0)) found.2 in
-    subst (λ q. Contains pages q × (test (page_at file q) ≡ true)) (eqb-true found.0 p parts.0) (found.1, parts.1)
+of_wrong_at file test pages p wrong = grind (arith, any_member, and_parts, eqb-true)
 
 pub in_wrong_at : (file : File) (test : Page → Bool) (pages : List ℕ) (p : ℕ) → Contains pages p → test (page_at file p) ≡ true
     → is_wrong_at file test pages p ≡ true
-in_wrong_at file test pages p at wrong =
-    list_any_at (λ q. q == p && test (page_at file q)) pages at.0 p at.1
-    (subst (λ q. (q == p && test (page_at file q)) ≡ true) (sym at.2) (ap (λ b. b && test (page_at file p)) (eq-eqb p p refl) ∙ wrong))
+in_wrong_at file test pages p at wrong = grind (arith, list_any_at, eq-eqb)
 
 -- a fault at a page of a list for which a test holds
 pub record IsFaultOn (file : File) (row : ContentsRow) (test : Page → Bool) (pages : List ℕ) (fault : Fault) : Type 0 where

@@ -1,4 +1,5 @@
 -- The pages of a tree of records, and the entries below a page.
+use Rattle.std.proofs.Common.{arith}
 use Rattle.std.proofs.Common.{◌≡◌, ◌⊎◌, ℕ, ◌≤◌, Bool, true, false, cond, List, [], ◌∷◌, ◌++◌, map, Option, Some, None, refl, sym, ◌∙◌}
 use Rattle.std.proofs.Common.{ap, subst, inl, inr, append-nil}
 use Rattle.std.specs.Prelude.{◌==◌}
@@ -11,7 +12,7 @@ use Rattle.bdb_form.specs.Seen.{page_seen}
 use Rattle.bdb_graph.specs.Linked.{HasMetadata, IsForest}
 use Rattle.bdb_format.specs.declared.metadata.BtreeMeta.{BtreeMeta}
 use Rattle.bdb_format.specs.declared.pages.RecnoItem.{RecnoItem}
-use Rattle.bdb_format.specs.Contents.{entries_in, tree_entries}
+use Rattle.bdb_format.specs.Contents.{tree_entries}
 use Rattle.bdb_format.specs.File.{File, file_of, page_at, type_in}
 use Rattle.bdb_format.specs.Leaves.{children_in, leaves}
 use Rattle.bdb_format.specs.Page.{Item, Listed, BtreeFields, RecnoInternal, RecnoLeaf}
@@ -40,11 +41,7 @@ four_or_six t type = of_type (λ u. (u ≡ Some 4) ⊎ (u ≡ Some 6)) (4 ∷ 6 
 
 -- a page of records is an internal page or a leaf
 pub recno_cases : (image : List ℕ) (p : ℕ) → IsForest image → IsRecnoPage (file_of image) p → IsInternal (file_of image) p ⊎ IsLeaf (file_of image) p
-recno_cases image p forest recno =
-    elim (four_or_six (type_in (page_at (file_of image) p)) recno) [
-      | inl four ↦ inl (recno_internal_page image p forest four)
-      | inr six ↦ inr (recno_leaf_page image p forest six)
-    ]
+recno_cases image p forest recno = grind (arith, four_or_six, recno_internal_page, recno_leaf_page)
 
 pub recno_tree : (file : File) (p : ℕ) → IsRecnoPage file p → IsTreePage file p
 recno_tree file p recno = of_type (λ t. has_type (3 ∷ 4 ∷ 5 ∷ 6 ∷ 12 ∷ []) t ≡ true) (4 ∷ 6 ∷ []) (type_in (page_at file p)) (refl, (refl, tt)) recno
@@ -104,9 +101,7 @@ turned_leaf image p passed left q page forest recno all same =
 entries_joined : (file : File) (cs : List ℕ) → entries_on file (flat_map (leaves file) cs) ≡ flat_map (tree_entries file) cs
 unfolding tree_entries
 entries_joined file [] = refl
-entries_joined file (c ∷ cs) =
-    flat_map-append (λ p. entries_in (page_at file p)) (leaves file c) (flat_map (leaves file) cs)
-    ∙ ap (λ items. tree_entries file c ++ items) (entries_joined file cs)
+entries_joined file (c ∷ cs) = grind (arith, flat_map-append, entries_joined file cs)
 
 -- the entries below an internal page are those of its children, joined
 pub entries_below : (image : List ℕ) (p : ℕ) (page : Listed RecnoItem) → IsForest image → page_at (file_of image) p ≡ RecnoInternal page
@@ -127,10 +122,7 @@ leaf_shape image p page forest is =
 -- the entries of a leaf
 pub entries_of_leaf : (image : List ℕ) (p : ℕ) (page : Listed Item) → IsForest image → page_at (file_of image) p ≡ RecnoLeaf page
     → tree_entries (file_of image) p ≡ page.items
-entries_of_leaf image p page forest is =
-    let file : File = file_of image in
-    entries_are file p ∙ (ap (entries_on file) (leaves_of_leaf file p (leaf_shape image p page forest is))
-    ∙ (append-nil (entries_in (page_at file p)) ∙ ap entries_in is))
+entries_of_leaf image p page forest is = grind (arith, entries_are, leaves_of_leaf, leaf_shape, append-nil)
 
 -- Views.
 
@@ -146,11 +138,7 @@ seen_leaf view page seen = absurd cc
 pub no_other_view : (image : List ℕ) (p : ℕ) (view : PageView) → IsForest image → IsRecnoPage (file_of image) p
     → page_seen view ≡ page_at (file_of image) p
     → ((v : Listed RecnoItem) → view ≡ InternalView v → ⊥) → ((v : Listed Item) → view ≡ LeafView v → ⊥) → ⊥
-no_other_view image p view forest recno seen internal leaf =
-    elim (recno_cases image p forest recno) [
-      | inl is ↦ let as_internal = seen_internal view is.0 (seen ∙ is.1) in internal as_internal.0 as_internal.1
-      | inr is ↦ let as_leaf = seen_leaf view is.0 (seen ∙ is.1) in leaf as_leaf.0 as_leaf.1
-    ]
+no_other_view image p view forest recno seen internal leaf = grind (arith, recno_cases, seen_internal, seen_leaf)
 
 -- a leaf isn't an internal page
 pub leaf_no_internal : (file : File) (p : ℕ) (page : Listed RecnoItem) → IsRecnoLeaf file p → RecnoInternal page ≡ page_at file p → ⊥

@@ -1,5 +1,5 @@
 -- How many entries a recno has, and the list that they give.
-use Rattle.std.proofs.Common.{◌≡◌, ℕ, suc, ◌+◌, ◌*◌, ◌^◌, ◌≤◌, ◌<◌, true, List, [], ◌∷◌, ◌++◌, length, arith, refl, sym, ap, subst, length-append}
+use Rattle.std.proofs.Common.{◌≡◌, ℕ, ◌+◌, ◌*◌, ◌^◌, ◌≤◌, ◌<◌, true, List, [], ◌∷◌, ◌++◌, length, arith, refl, ap, length-append}
 use Rattle.std.specs.List.{Contains}
 use Rattle.std.proofs.Math.Nat.{mul-le-mul_right}
 use Rattle.bdb_graph.specs.Linked.{IsForest}
@@ -10,7 +10,7 @@ use Rattle.bdb_format.specs.File.{File, file_of, page_at}
 use Rattle.bdb_format.specs.HeadOf.{head_of}
 use Rattle.bdb_format.specs.Leaves.{leaves}
 use Rattle.bdb_format.specs.Lists.{recno_list}
-use Rattle.bdb_format.specs.Page.{Item, Listed, RecnoLeaf}
+use Rattle.bdb_format.specs.Page.{Item}
 use Rattle.bdb_format.proofs.MemberLemmas.{first_member, later_member}
 use Rattle.bdb_tree.specs.Entries.{entries_on}
 use Rattle.bdb_tree.specs.Trees.{IsRoot}
@@ -33,26 +33,13 @@ few_bytes image forest =
 
 leaf_few : (image : List ℕ) (p : ℕ) → IsForest image → IsRecnoLeaf (file_of image) p
     → 2 * length (entries_in (page_at (file_of image) p)) ≤ (head_of image).page_size
-leaf_few image p forest leaf =
-    let page : (l : Listed Item) × (page_at (file_of image) p ≡ RecnoLeaf l) = recno_leaf_page image p forest leaf in
-    subst (λ q. 2 * length (entries_in q) ≤ (head_of image).page_size) (sym page.1)
-    (leaf_entries image p page.0 forest (leaf_inside image p leaf) page.1)
+leaf_few image p forest leaf = grind (arith, recno_leaf_page, leaf_entries, leaf_inside)
 
 entries_few : (image : List ℕ) (ps : List ℕ) → IsForest image → ((p : ℕ) → Contains ps p → IsRecnoLeaf (file_of image) p)
     → 2 * length (entries_on (file_of image) ps) ≤ length ps * (head_of image).page_size
 entries_few image [] forest each = omega arith
 entries_few image (p ∷ ps) forest each =
-    let size : ℕ = (head_of image).page_size in
-    let here : 2 * length (entries_in (page_at (file_of image) p)) ≤ size = leaf_few image p forest (each p (first_member p ps)) in
-    let rest : 2 * length (entries_on (file_of image) ps) ≤ length ps * size =
-    entries_few image ps forest (λ q at. each q (later_member p ps q at)) in
-    more (length (entries_in (page_at (file_of image) p))) (length (entries_on (file_of image) ps)) (length ps) size here rest
-    (length-append (entries_in (page_at (file_of image) p)) (entries_on (file_of image) ps))
-  where
-    more : (a b n size : ℕ) → 2 * a ≤ size → 2 * b ≤ n * size
-        → length (entries_in (page_at (file_of image) p) ++ entries_on (file_of image) ps) ≡ a + b
-        → 2 * length (entries_in (page_at (file_of image) p) ++ entries_on (file_of image) ps) ≤ suc n * size
-    more a b n size first second sum = omega arith
+    grind (arith, leaf_few, first_member, later_member, length-append, entries_few image ps forest (λ q at. each q (later_member p ps q at)))
 
 -- so few that each has a number
 pub few_records : (image : List ℕ) (root : ℕ) → IsForest image → IsRoot (file_of image) root → IsRecnoPage (file_of image) root

@@ -73,14 +73,8 @@ LeadsTo file items place (Some (child, below)) =
 later_leads : (file : File) (item : RecnoItem) (items : List RecnoItem) (place : ℕ) (found : Option (ℕ × ℕ))
     → item.count ≡ length (tree_entries file item.child) → item.count ≤ place
     → LeadsTo file items (place - item.count) found → LeadsTo file (item ∷ items) place found
-later_leads file item items place None count past leads =
-    get_right (tree_entries file item.child) (flat_map (tree_entries file) (map (λ (it : RecnoItem). it.child) items)) place (place - item.count)
-    (omega arith) ∙ leads
-later_leads file item items place (Some (child, below)) count past leads = (
-  later_member item.child (map (λ (it : RecnoItem). it.child) items) child leads.0,
-  get_right (tree_entries file item.child) (flat_map (tree_entries file) (map (λ (it : RecnoItem). it.child) items)) place (place - item.count)
-      (omega arith) ∙ leads.1,
-)
+later_leads file item items place None count past leads = grind (arith, get_right)
+later_leads file item items place (Some (child, below)) count past leads = grind (arith, later_member, get_right)
 
 pub count_leads : (file : File) (items : List RecnoItem) (place : ℕ) → list_any (miscounts file) items ≡ false
     → LeadsTo file items place (child_by_count items place)
@@ -109,9 +103,7 @@ drop_at its k it there =
 pub count_here : (items : List RecnoItem) (i place left : ℕ) (item : RecnoItem) → slice_get items i ≡ Some item
     → child_by_count (drop i items) left ≡ child_by_count items place → left < item.count
     → Some (item.child, left) ≡ child_by_count items place
-count_here items i place left item at same below =
-    sym (ap (λ b. cond b (Some (item.child, left)) (child_by_count (drop (i + 1) items) (left - item.count))) (lt-ltb left item.count below))
-    ∙ (ap (λ its. child_by_count its left) (sym (drop_at items i item at)) ∙ same)
+count_here items i place left item at same below = grind (arith, Some, lt-ltb, drop_at)
 
 pub count_later : (items : List RecnoItem) (i place left : ℕ) (item : RecnoItem) → slice_get items i ≡ Some item
     → child_by_count (drop i items) left ≡ child_by_count items place → item.count ≤ left
@@ -132,9 +124,7 @@ pub record IsOnTheWay (file : File) (root place page left : ℕ) : Type 0 where
 way_leads : (image : List ℕ) (root place page left : ℕ) (inner : Listed RecnoItem) (found : Option (ℕ × ℕ)) → IsForest image
     → IsOnTheWay (file_of image) root place page left → RecnoInternal inner ≡ page_at (file_of image) page
     → found ≡ child_by_count inner.items left → LeadsTo (file_of image) inner.items left found
-way_leads image root place page left inner found forest way is same =
-    subst (LeadsTo (file_of image) inner.items left) (sym same)
-    (count_leads (file_of image) inner.items left (own_counts image page inner forest (sym is) way.counts))
+way_leads image root place page left inner found forest way is same = grind (arith, count_leads, own_counts)
 
 -- the child is on the way too, and a level below
 pub way_down : (image : List ℕ) (root place page left child below : ℕ) (inner : Listed RecnoItem) → IsForest image

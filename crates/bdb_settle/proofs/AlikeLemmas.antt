@@ -1,5 +1,5 @@
 -- Elements that are sorted by an order of their own are sorted by that of what they stand for, where the two orders are the same of those at hand.
-use Rattle.std.proofs.Common.{◌≡◌, ◌+◌, ◌<◌, Bool, true, false, cond, List, [], ◌∷◌, get_or, length, map, refl, sym, ◌∙◌, ap, subst, arith}
+use Rattle.std.proofs.Common.{◌≡◌, ◌+◌, ◌<◌, Bool, true, List, [], ◌∷◌, get_or, length, map, refl, sym, ◌∙◌, ap, subst, arith}
 use Rattle.std.specs.Cmp.{IsStrictWeakOrder}
 use Rattle.std.specs.List.{Contains, filter}
 use Rattle.std.specs.List.Sorted.{IsPermutation, IsSortedBy, IsStableBy, ties}
@@ -11,18 +11,11 @@ use Rattle.bdb_settle.proofs.StableLemmas.{tied_alike}
 
 filter_where : {X : Type 0} (p q : X → Bool) (xs : List X) → ((x : X) → Contains xs x → p x ≡ q x) → filter p xs ≡ filter q xs
 filter_where p q [] same = refl
-filter_where p q (x ∷ xs) same =
-    let rest : filter p xs ≡ filter q xs = filter_where p q xs (λ y at. same y (later_member x xs y at)) in
-    rw (same x (first_member x xs), rest) refl
+filter_where p q (x ∷ xs) same = grind (arith, later_member, first_member, filter_where p q xs (λ y at. same y (later_member x xs y at)))
 
 filter_of_map : {X Y : Type 0} (f : X → Y) (test : Y → Bool) (xs : List X) → filter test (map f xs) ≡ map f (filter (λ x. test (f x)) xs)
 filter_of_map f test [] = refl
-filter_of_map f test (x ∷ xs) = step (test (f x)) (filter_of_map f test xs)
-  where
-    step : (b : Bool) → filter test (map f xs) ≡ map f (filter (λ y. test (f y)) xs)
-        → cond b (f x ∷ filter test (map f xs)) (filter test (map f xs)) ≡ map f (cond b (x ∷ filter (λ y. test (f y)) xs) (filter (λ y. test (f y)) xs))
-    step true same = ap (λ ys. f x ∷ ys) same
-    step false same = same
+filter_of_map f test (x ∷ xs) = grind (arith, filter_of_map f test xs)
 
 module _ {X Y : Type 0} (f : X → Y) (own : X → X → Bool) (other : Y → Y → Bool) (weak : IsStrictWeakOrder other) where
   -- the two orders are the same of the elements of a list

@@ -1,5 +1,6 @@
 -- Where there is no first error, none holds.
-use Rattle.std.proofs.Common.{◌≡◌, ◌∙◌, ◌+◌, ℕ, Option, ap, slice_get, sym, take, Bool, true, false, cond, List, [], ◌∷◌, ◌++◌, length, refl, Some, None}
+use Rattle.std.proofs.Common.{arith}
+use Rattle.std.proofs.Common.{◌≡◌, ◌∙◌, ◌+◌, ℕ, Option, ap, slice_get, sym, take, Bool, true, false, List, [], ◌∷◌, ◌++◌, refl, Some, None}
 use Rattle.std.specs.List.{All, flat_map, fold}
 use Rattle.std.specs.Prelude.{◌==◌}
 use Rattle.std.proofs.lemmas.List.{append-nil}
@@ -11,8 +12,7 @@ use Rattle.bdb_text_format.specs.declared.pairs.TextPair.{TextPair}
 use Rattle.bdb_text_format.specs.declared.sections.Section.{Section}
 use Rattle.bdb_text_format.proofs.PlacedLemmas.{taken_more}
 use Rattle.bdb_settle.specs.declared.load_error.LoadError.{LoadError}
-use Rattle.bdb_settle.specs.declared.load_error.LoadError.TheVariants.{RecordTooLong, RecordZero}
-use Rattle.bdb_settle.specs.LoadErrors.{header_errors, is_sooner, is_too_long, is_zero, load_error, page_size_in, pair_errors, section_errors, sooner, where_so}
+use Rattle.bdb_settle.specs.LoadErrors.{is_too_long, is_zero, load_error, pair_errors, sooner, where_so}
 
 -- the first error, with those of a pair more
 pub errors_more : (settings : Settings) (start now then_ : Option LoadError) (pairs : List TextPair) (i : ℕ) (pair : TextPair)
@@ -29,12 +29,7 @@ errors_more settings start now then_ pairs i pair so at is =
 
 still_some : (first : LoadError) (errors : List LoadError) → fold sooner (Some first) errors ≡ None → ⊥
 still_some first [] none = absurd cc
-still_some first (error ∷ errors) none = by_test (is_sooner error first) none (still_some error errors) (still_some first errors)
-  where
-    by_test : (b : Bool) → fold sooner (cond b (Some error) (Some first)) errors ≡ None → (fold sooner (Some error) errors ≡ None → ⊥)
-        → (fold sooner (Some first) errors ≡ None → ⊥) → ⊥
-    by_test true none one other = one none
-    by_test false none one other = other none
+still_some first (error ∷ errors) none = grind (arith, Some, None, still_some error errors, still_some first errors)
 
 pub no_errors : (errors : List LoadError) → fold sooner None errors ≡ None → errors ≡ []
 no_errors [] none = refl
@@ -59,21 +54,8 @@ pub record IsSound (settings : Settings) (pair : TextPair) : Type 0 where
   pub number : is_zero pair.key ≡ false
 
 sound_pair : (settings : Settings) (pair : TextPair) → pair_errors settings pair ≡ [] → IsSound settings pair
-sound_pair settings pair none =
-    let parts = both_empty (where_so (is_too_long settings pair) (RecordTooLong pair.line))
-    (where_so (is_zero pair.key) (RecordZero pair.line)) none in
-    record {
-      short = not_so (is_too_long settings pair) (RecordTooLong pair.line) parts.0;
-      number = not_so (is_zero pair.key) (RecordZero pair.line) parts.1;
-    }
+sound_pair settings pair none = grind (arith, both_empty, not_so)
 
 -- where no section has an error, no pair of one has
 pub sound_pairs : (sections : List Section) → load_error sections ≡ None → All (λ section. All (IsSound section.settings) section.pairs) sections
-sound_pairs sections none =
-    let size = page_size_in sections in
-    let alone = length sections == 1 in
-    All-weaker (λ section. section_errors size alone section ≡ []) (λ section. All (IsSound section.settings) section.pairs)
-    (λ section empty. All-weaker (λ pair. pair_errors section.settings pair ≡ []) (IsSound section.settings) (sound_pair section.settings) section.pairs
-    (each_empty (pair_errors section.settings) section.pairs
-    (both_empty (header_errors size alone section) (flat_map (pair_errors section.settings) section.pairs) empty).1))
-    sections (each_empty (section_errors size alone) sections (no_errors (flat_map (section_errors size alone) sections) none))
+sound_pairs sections none = grind (arith, All-weaker, sound_pair, each_empty, both_empty, no_errors)

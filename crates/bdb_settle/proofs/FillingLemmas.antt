@@ -1,5 +1,6 @@
 -- Filling records up before their list is made, or after it, is the same.
-use Rattle.std.proofs.Common.{◌≡◌, ℕ, ◌+◌, Bool, true, false, cond, not, List, [], ◌∷◌, ◌++◌, Some, map, refl, slice_get, sym, take, ◌∙◌, ap}
+use Rattle.std.proofs.Common.{arith}
+use Rattle.std.proofs.Common.{◌≡◌, ℕ, ◌+◌, Bool, false, List, [], ◌∷◌, ◌++◌, Some, map, refl, slice_get, sym, take, ◌∙◌, ap}
 use Rattle.std.specs.Prelude.{◌&&◌, ◌||◌}
 use Rattle.std.specs.List.{fold}
 use Rattle.std.proofs.Math.Bool.{and-false}
@@ -9,10 +10,9 @@ use Rattle.bdb_text_format.specs.declared.pairs.Pair.{Pair}
 use Rattle.bdb_text_format.specs.declared.pairs.TextPair.{TextPair}
 use Rattle.bdb_text_format.specs.declared.sections.Section.{Section}
 use Rattle.bdb_text_format.specs.Pairs.{unlined, unlined_pairs}
-use Rattle.bdb_text_format.specs.Written.{holds_records}
 use Rattle.bdb_text_format.proofs.PlacedLemmas.{taken_more}
 use Rattle.bdb_settle.specs.Loaded.{loaded_pair, filled_pair, filled_pairs, filled_section, filled_value, has_length, keeps_data, loaded, loaded_section}
-use Rattle.bdb_settle.specs.Loaded.{ordered, ordered_section, put, sorts_data, stands_before, unnumbered, with_loaded}
+use Rattle.bdb_settle.specs.Loaded.{ordered, ordered_section, put, stands_before, unnumbered, with_loaded}
 
 -- where records have no length, nothing is filled up
 pub value_as_is : (settings : Settings) (value : List ℕ) → has_length settings ≡ false → filled_value settings value ≡ value
@@ -20,9 +20,7 @@ value_as_is settings value none = rw none refl
 
 pub as_they_are : (settings : Settings) (pairs : List TextPair) → has_length settings ≡ false → filled_pairs settings pairs ≡ pairs
 as_they_are settings [] none = refl
-as_they_are settings (pair ∷ pairs) none =
-    ap (λ (value : List ℕ). record { key = pair.key; value = value; line = pair.line } ∷ filled_pairs settings pairs) (value_as_is settings pair.value none)
-    ∙ ap (λ ps. pair ∷ ps) (as_they_are settings pairs none)
+as_they_are settings (pair ∷ pairs) none = grind (arith, value_as_is, as_they_are settings pairs none)
 
 -- a pair more
 pub filled_more : (settings : Settings) (all pairs : List TextPair) (i : ℕ) (pair : TextPair) → all ≡ filled_pairs settings (take i pairs)
@@ -37,45 +35,13 @@ fill settings pair = record pair { value = filled_value settings pair.value }
 
 -- records are in the order of their numbers alone
 same_order : (settings : Settings) (a b : Pair) → stands_before settings (fill settings a) (fill settings b) ≡ stands_before settings a b
-same_order settings a b = by_length (has_length settings) refl
-  where
-    by_records : (r : Bool) → holds_records settings.kind ≡ r → has_length settings ≡ true
-        → stands_before settings (fill settings a) (fill settings b) ≡ stands_before settings a b
-    by_records true is length_is =
-        let none : sorts_data settings ≡ false = ap (λ r. settings.sorted && not r) is ∙ and-false settings.sorted in
-        rw none refl
-    by_records false is length_is = absurd (let no : has_length settings ≡ false = ap (λ r. settings.fixed && r) is ∙ and-false settings.fixed in cc)
-
-    by_length : (l : Bool) → has_length settings ≡ l → stands_before settings (fill settings a) (fill settings b) ≡ stands_before settings a b
-    by_length true is = by_records (holds_records settings.kind) refl is
-    by_length false is =
-        ap (λ (value : List ℕ). stands_before settings (record a { value = value }) (fill settings b)) (value_as_is settings a.value is)
-        ∙ ap (λ (value : List ℕ). stands_before settings a (record b { value = value })) (value_as_is settings b.value is)
+same_order settings a b = grind (arith, and-false, value_as_is)
 
 -- a pair is put where it is put filled up
 put_filled : (settings : Settings) (keeps : Bool) (pair : Pair) (list : List Pair)
     → put (stands_before settings) keeps (fill settings pair) (map (fill settings) list) ≡ map (fill settings) (put (stands_before settings) keeps pair list)
 put_filled settings keeps pair [] = refl
-put_filled settings keeps pair (other ∷ others) =
-    ap (λ b. cond b (fill settings pair ∷ fill settings other ∷ map (fill settings) others)
-    (cond (stands_before settings (fill settings other) (fill settings pair) || keeps)
-    (fill settings other ∷ put (stands_before settings) keeps (fill settings pair) (map (fill settings) others))
-    (fill settings pair ∷ map (fill settings) others))) (same_order settings pair other)
-    ∙ ap (λ b. cond (stands_before settings pair other) (fill settings pair ∷ fill settings other ∷ map (fill settings) others)
-    (cond (b || keeps) (fill settings other ∷ put (stands_before settings) keeps (fill settings pair) (map (fill settings) others))
-    (fill settings pair ∷ map (fill settings) others))) (same_order settings other pair)
-    ∙ by_tests (stands_before settings pair other) (stands_before settings other pair || keeps) (put_filled settings keeps pair others)
-  where
-    by_tests : (first second : Bool)
-        → put (stands_before settings) keeps (fill settings pair) (map (fill settings) others)
-        ≡ map (fill settings) (put (stands_before settings) keeps pair others)
-        → cond first (fill settings pair ∷ fill settings other ∷ map (fill settings) others)
-        (cond second (fill settings other ∷ put (stands_before settings) keeps (fill settings pair) (map (fill settings) others))
-        (fill settings pair ∷ map (fill settings) others))
-        ≡ map (fill settings) (cond first (pair ∷ other ∷ others) (cond second (other ∷ put (stands_before settings) keeps pair others) (pair ∷ others)))
-    by_tests true second same = refl
-    by_tests false true same = ap (λ l. fill settings other ∷ l) same
-    by_tests false false same = refl
+put_filled settings keeps pair (other ∷ others) = grind (arith, same_order, put_filled settings keeps pair others)
 
 pub fold_filled : (settings : Settings) (pairs : List TextPair) (list : List Pair)
     → fold (with_loaded settings) (map (fill settings) list) (map (loaded_pair settings) pairs)
@@ -96,7 +62,4 @@ list_filled settings pairs = numbered_filled settings (ordered settings pairs) �
 -- sections in order, filled up, are those that are loaded
 pub sections_filled : (sections : List Section) → map filled_section (map ordered_section sections) ≡ map loaded_section sections
 sections_filled [] = refl
-sections_filled (section ∷ sections) =
-    ap (λ pairs. record section { header_line = 0; pairs = pairs } ∷ map filled_section (map ordered_section sections))
-    (list_filled section.settings section.pairs)
-    ∙ ap (λ all. loaded_section section ∷ all) (sections_filled sections)
+sections_filled (section ∷ sections) = grind (arith, list_filled, sections_filled sections)

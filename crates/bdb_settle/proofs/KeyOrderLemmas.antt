@@ -90,10 +90,7 @@ by_shown settings a b a_shown b_shown r sorts at_a at_b is =
 
 pub by_data : (settings : Settings) (a b : Pair) (r : Ordering) → a.key ≡ b.key → is_lt r ≡ (sorts_data settings && less a.value b.value)
     → is_lt r ≡ stands_before settings a b
-by_data settings a b r same is =
-    let ab : key_less a.key b.key ≡ false = rw same (key_less_self b.key) in
-    let ba : key_less b.key a.key ≡ false = rw same (key_less_self b.key) in
-    rw (ab, ba) is
+by_data settings a b r same is = grind (arith, key_less_self)
 
 pub by_less : (settings : Settings) (a b : Pair) → key_less a.key b.key ≡ true → true ≡ stands_before settings a b
 by_less settings a b is = rw is refl

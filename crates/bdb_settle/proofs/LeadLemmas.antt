@@ -70,10 +70,7 @@ less_behind : (start a b : List ℕ) → take (length start) a ≡ start → tak
 less_behind [] a b first second is = is
 less_behind (z ∷ start) [] b first second is = absurd cc
 less_behind (z ∷ start) (x ∷ a) [] first second is = absurd cc
-less_behind (z ∷ start) (x ∷ a) (y ∷ b) first second is =
-    let rest : less a b ≡ true = less_behind start a b (ap (drop 1) first) (ap (drop 1) second) is in
-    let heads : x ≡ y = ap (λ xs. get_or xs 0 0) (first ∙ sym second) in
-    grind (arith, nat_tests)
+less_behind (z ∷ start) (x ∷ a) (y ∷ b) first second is = grind (arith, nat_tests, less_behind start a b (ap (drop 1) first) (ap (drop 1) second) is)
 
 dropped : (n : ℕ) (bytes : List ℕ) → AreBytes bytes → AreBytes (drop n bytes)
 dropped n bytes are i = subst (λ b. b < 256) (sym (get_or-drop n bytes i 0)) (are (n + i))
@@ -81,11 +78,7 @@ dropped n bytes are i = subst (λ b. b < 256) (sym (get_or-drop n bytes i 0)) (a
 -- fewer bytes with which a key begins
 pub begins_less : (start first : List ℕ) (key : Key) → first ≡ take (length first) start → Begins start key → Begins first key
 begins_less start first (Number n) is begins = tt
-begins_less start first (Bytes key) is begins =
-    let short : length first ≤ length start = omega (arith, ap length is, length-take (length first) start) in
-    let same : take (length first) start ≡ take (length first) key =
-    ap (take (length first)) (sym begins) ∙ take-take (length first) (length start) key short in
-    sym (is ∙ same)
+begins_less start first (Bytes key) is begins = grind (arith, length-take, take-take)
 
 -- keys of bytes
 abbrev pub IsOfBytes : Key → Type 0

@@ -13,11 +13,9 @@ use Rattle.std.proofs.lemmas.List.Sorted.{Contains-permutation, IsPermutation-ma
 use Rattle.bdb_format.specs.declared.settings.Settings.{Settings}
 use Rattle.bdb_format.proofs.MemberLemmas.{of_map}
 use Rattle.bdb_places.specs.declared.place.Place.{Place}
-use Rattle.bdb_text_format.specs.Pairs.{unlined}
-use Rattle.bdb_text_format.specs.Placed.{placed_key, placed_pair}
-use Rattle.bdb_text_format.specs.declared.pairs.TextPair.{TextPair}
+use Rattle.bdb_text_format.specs.Placed.{placed_key}
 use Rattle.bdb_settle.specs.declared.leads.Led.{Led}
-use Rattle.bdb_settle.specs.Loaded.{key_less, stands_before}
+use Rattle.bdb_settle.specs.Loaded.{key_less}
 use Rattle.bdb_settle.specs.Leads.{Begins, Share, lead_of, led, led_before}
 use Rattle.bdb_settle.specs.Settling.{place_before}
 use Rattle.bdb_settle.proofs.AlikeLemmas.{sorted_alike, stable_alike}
@@ -53,18 +51,7 @@ leads_weakly settings bytes = record {
 pub sorted_step : (settings : Settings) (bytes : List ℕ) (places : List Place) (i : ℕ) (d e : Place)
     → IsSortedWithin (place_before settings bytes) places 0 i → 1 ≤ i → i < length places
     → place_before settings bytes (get_or places i d) (get_or places (i - 1) e) ≡ false → IsSortedWithin (place_before settings bytes) places 0 (i + 1)
-sorted_step settings bytes places i d e so least within not_before k f low high =
-    elim (cases_lt (k + 1) i) [
-      | inl before ↦ so k f low before
-      | inr here ↦
-          let at : k + 1 ≡ i = omega (arith, here, high) in
-          let behind : k ≡ i - 1 = omega (arith, at) in
-          let second : get_or places (k + 1) f ≡ get_or places i d = ap (λ j. get_or places j f) at ∙ get_or_default places i f d within in
-          let first : get_or places k f ≡ get_or places (i - 1) e =
-          ap (λ j. get_or places j f) behind ∙ get_or_default places (i - 1) f e (omega (arith, within)) in
-          ap (λ place. place_before settings bytes place (get_or places k f)) second
-          ∙ (ap (λ place. place_before settings bytes (get_or places i d) place) first ∙ not_before)
-    ]
+sorted_step settings bytes places i d e so least within not_before k f low high = grind (arith, cases_lt, get_or_default)
 
 -- The first bytes that keys share.
 

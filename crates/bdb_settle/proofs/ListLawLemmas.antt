@@ -1,6 +1,6 @@
 -- Lists that are loaded without errors are such that trees can be built of them.
-use Rattle.std.proofs.Common.{◌≡◌, ℕ, ◌+◌, ◌-◌, ◌%◌, ◌<◌, ◌≤◌, ◌^◌, Bool, true, false, cond, not, List, []}
-use Rattle.std.proofs.Common.{◌∷◌, ◌++◌, length, map, replicate, refl, sym, ◌∙◌, ap, subst, arith, inl, inr, true≢false, length-append}
+use Rattle.std.proofs.Common.{◌≡◌, ℕ, ◌+◌, ◌-◌, ◌%◌, ◌<◌, ◌≤◌, ◌^◌, Bool, true, false, not, List, []}
+use Rattle.std.proofs.Common.{◌∷◌, ◌++◌, length, map, refl, sym, ◌∙◌, ap, subst, arith, inl, inr, true≢false, length-append}
 use Rattle.std.specs.Prelude.{◌&&◌, ◌||◌, nat_lt}
 use Rattle.std.specs.Cmp.Derive.{both_true}
 use Rattle.std.specs.List.{All}
@@ -35,12 +35,7 @@ use Rattle.bdb_settle.proofs.OrderedLemmas.{Ordered, OrderedFrom, fold_all, fold
 pub filled_length : (settings : Settings) (value : List ℕ) → has_length settings ≡ true
     → (has_length settings && nat_lt settings.re_len (length value)) ≡ false
     → length (filled_value settings value) ≡ settings.re_len
-filled_length settings value fixed fits =
-    let test : nat_lt settings.re_len (length value) ≡ false = sym (ap (λ b. b && nat_lt settings.re_len (length value)) fixed) ∙ fits in
-    let within : length value ≤ settings.re_len = grind (arith, nat_tests) in
-    let filling : List ℕ = replicate (settings.re_len - length value) (settings.re_pad % 256) in
-    ap (λ b. length (cond b (value ++ filling) value)) fixed ∙ length-append value filling
-    ∙ ap (λ n. length value + n) (length-replicate (settings.re_len - length value) (settings.re_pad % 256)) ∙ omega arith
+filled_length settings value fixed fits = grind (arith, nat_tests, length-append, length-replicate)
 
 pub filled_short : (settings : Settings) (value : List ℕ) (b : Bool) → has_length settings ≡ b → settings.re_len < 2 ^ 32 → IsShort value
     → (has_length settings && nat_lt settings.re_len (length value)) ≡ false → IsShort (filled_value settings value)
@@ -63,11 +58,7 @@ record IsOfKind (settings : Settings) (pair : Pair) : Type 0 where
   long : settings.kind ≡ Recno → settings.fixed ≡ true → length pair.value ≡ settings.re_len
 
 of_kind : (settings : Settings) (pair : TextPair) → IsKeyOf settings.kind pair.key → IsSound settings pair → IsOfKind settings (loaded_pair settings pair)
-of_kind settings pair key sound = record {
-  key = key;
-  some = sound.number;
-  long = λ recno fixed. filled_length settings pair.value (both_true fixed (ap holds_records recno)) sound.short;
-}
+of_kind settings pair key sound = grind (arith, filled_length)
 
 all_of_kind : (settings : Settings) (pairs : List TextPair) → All (λ (pair : TextPair). IsKeyOf settings.kind pair.key) pairs
     → All (IsSound settings) pairs → All (IsOfKind settings) (map (loaded_pair settings) pairs)
@@ -135,12 +126,7 @@ numbered_next : (settings : Settings) (a b : Key) (first then : List ℕ) → se
     → may_follow settings.kind settings (record { key = a; value = first }) (record { key = b; value = then }) ≡ true
 numbered_next settings (Bytes bytes) b first then recno has_a has_b after = absurd has_a
 numbered_next settings (Number m) (Bytes bytes) first then recno has_a has_b after = absurd has_b
-numbered_next settings (Number m) (Number n) first then recno has_a has_b after =
-    let sorts : sorts_data settings ≡ false = ap (λ k. settings.sorted && not (holds_records k)) recno ∙ and-false settings.sorted in
-    let keeps : keeps_data settings ≡ false =
-    ap (λ k. settings.duplicates && not settings.sorted && not (holds_records k)) recno ∙ and-false (settings.duplicates && not settings.sorted) in
-    ap (λ k. may_follow k settings (record { key = Number m; value = first }) (record { key = Number n; value = then })) recno
-    ∙ by_numbers (nat_lt m n) (nat_lt n m) (sorts_data settings) (keeps_data settings) (less first then) (less then first) sorts keeps after
+numbered_next settings (Number m) (Number n) first then recno has_a has_b after = grind (arith, and-false, by_numbers)
 
 next_may_follow : (settings : Settings) (a b : Pair) → IsTreeKind settings.kind → (settings.sorted ≡ true → settings.duplicates ≡ true)
     → IsKeyFor settings.kind a.key → IsKeyFor settings.kind b.key → follows (stands_before settings) (keeps_data settings) a b ≡ true
@@ -148,9 +134,7 @@ next_may_follow : (settings : Settings) (a b : Pair) → IsTreeKind settings.kin
 next_may_follow settings a b (inl btree) both key_a key_b after =
     keyed_next settings a.key b.key a.value b.value btree both (subst (λ k. IsKeyFor k a.key) btree key_a).0
     (subst (λ k. IsKeyFor k b.key) btree key_b).0 after
-next_may_follow settings a b (inr recno) both key_a key_b after =
-    numbered_next settings a.key b.key a.value b.value recno (subst (λ k. IsKeyFor k a.key) recno key_a).0
-    (subst (λ k. IsKeyFor k b.key) recno key_b).0 after
+next_may_follow settings a b (inr recno) both key_a key_b after = grind (arith, numbered_next)
 
 -- Lists.
 

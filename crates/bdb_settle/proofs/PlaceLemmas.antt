@@ -6,7 +6,7 @@ use Rattle.std.specs.Cmp.{IsStrictWeakOrder}
 use Rattle.std.specs.List.{fold}
 use Rattle.std.specs.List.Sorted.{IsPermutation, IsSortedBy, IsStableBy}
 use Rattle.std.proofs.lemmas.List.{drop-set-lt, drop_more, get_or-map, length-map, length-set, map-append, take_more_set}
-use Rattle.std.proofs.lemmas.List.Elements.{All-set, All-take}
+use Rattle.std.proofs.lemmas.List.Elements.{All-set}
 use Rattle.std.proofs.lemmas.List.Folds.{fold-map}
 use Rattle.bdb_format.specs.declared.settings.Settings.{Settings}
 use Rattle.bdb_places.specs.declared.place.Place.{Place}
@@ -80,26 +80,12 @@ stable_at settings bytes old new moved stable =
 pub sorted_of : (settings : Settings) (bytes first second : List ℕ) (old new lent : List Place) (pairs sorted : List TextPair)
     → first ≡ bytes → second ≡ bytes → lent ≡ new → IsPermutation old new → IsSortedBy (place_before settings first) new
     → IsStableBy (place_before settings first) old new → placed_pairs bytes old ≡ pairs → sorted ≡ placed_pairs second lent → IsSortedOf settings pairs sorted
-sorted_of settings bytes first second old new lent pairs sorted first_is second_is lent_is moved ascend stable are is =
-    let same : sorted ≡ placed_pairs bytes new = is ∙ (ap (λ run. placed_pairs run lent) second_is ∙ ap (placed_pairs bytes) lent_is) in
-    record {
-      ascend = subst (IsSortedBy (pair_before settings)) (sym same)
-          (sorted_at settings bytes new (subst (λ run. IsSortedBy (place_before settings run) new) first_is ascend));
-      stable = subst (IsStableBy (pair_before settings) pairs) (sym same) (subst (λ ps. IsStableBy (pair_before settings) ps (placed_pairs bytes new)) are
-          (stable_at settings bytes old new moved (subst (λ run. IsStableBy (place_before settings run) old new) first_is stable)));
-    }
+sorted_of settings bytes first second old new lent pairs sorted first_is second_is lent_is moved ascend stable are is = grind (arith, sorted_at, stable_at)
 
 -- pairs that lie in their order already
 pub sorted_still : (settings : Settings) (bytes first : List ℕ) (places lent : List Place) (pairs sorted : List TextPair) → first ≡ bytes → lent ≡ places
     → IsSortedBy (place_before settings first) lent → placed_pairs bytes places ≡ pairs → sorted ≡ placed_pairs bytes places → IsSortedOf settings pairs sorted
-sorted_still settings bytes first places lent pairs sorted first_is lent_is ascend are is =
-    let same : sorted ≡ pairs = is ∙ are in
-    let here : IsSortedBy (place_before settings bytes) places =
-    subst (IsSortedBy (place_before settings bytes)) lent_is (subst (λ run. IsSortedBy (place_before settings run) lent) first_is ascend) in
-    record {
-      ascend = subst (IsSortedBy (pair_before settings)) (sym is) (sorted_at settings bytes places here);
-      stable = subst (IsStableBy (pair_before settings) pairs) (sym same) (λ pair. refl);
-    }
+sorted_still settings bytes first places lent pairs sorted first_is lent_is ascend are is = grind (arith, sorted_at)
 
 -- The pass.
 
@@ -126,19 +112,14 @@ starts_at settings bytes (first ∷ rest) item some sorted placed at = subst (λ
 
 next_of : (bytes : List ℕ) (places : List Place) (next : ℕ) (item : Place) → next < length places → get_or places next item ≡ item
     → map (pair_on bytes) (drop next places) ≡ pair_on bytes (bare item) ∷ map (pair_on bytes) (drop (next + 1) places)
-next_of bytes places next item within at =
-    ap (map (pair_on bytes)) (drop_more places next item within)
-    ∙ ap (λ (place : Place). pair_on bytes place ∷ map (pair_on bytes) (drop (next + 1) places)) at
+next_of bytes places next item within at = grind (arith, drop_more)
 
 seen_last : (bytes : List ℕ) (last : Place) → last.line ≡ 0 → placed_pair bytes last ≡ unnumbered (pair_on bytes last)
 seen_last bytes last none = rw none refl
 
 put_last : (bytes : List ℕ) (places : List Place) (kept : ℕ) (last : Place) → kept < length places → last.line ≡ 0
     → placed_pairs bytes (take (kept + 1) (set places kept last)) ≡ placed_pairs bytes (take kept places) ++ unnumbered (pair_on bytes last) ∷ []
-put_last bytes places kept last within none =
-    ap (placed_pairs bytes) (take_more_set places kept last within)
-    ∙ (map-append (placed_pair bytes) (take kept places) (last ∷ [])
-    ∙ ap (λ pair. placed_pairs bytes (take kept places) ++ pair ∷ []) (seen_last bytes last none))
+put_last bytes places kept last within none = grind (arith, take_more_set, map-append, seen_last)
 
 item_placed : (bytes : List ℕ) (places : List Place) (next : ℕ) (item : Place) → next < length places → get_or places next item ≡ item → ArePlaced bytes places
     → IsPlaced bytes (bare item)
@@ -222,9 +203,4 @@ pub pairs_settled : (settings : Settings) (bytes lent : List ℕ) (places settle
     → IsSortedOf settings pairs sorted → placed_pairs bytes places ≡ sorted
     → placed_pairs lent settled ≡ map unnumbered (fold (with_loaded settings) [] (map (pair_on lent) places))
     → placed_pairs bytes settled ≡ map unnumbered (ordered settings pairs)
-pairs_settled settings bytes lent places settled pairs sorted lent_is so are is =
-    let list : placed_pairs bytes settled ≡ map unnumbered (fold (with_loaded settings) [] (map (pair_on bytes) places)) =
-    subst (λ (run : List ℕ). placed_pairs run settled ≡ map unnumbered (fold (with_loaded settings) [] (map (pair_on run) places))) lent_is is in
-    list
-    ∙ ap (λ ps. map unnumbered (fold (with_loaded settings) [] ps)) (pairs_on bytes places ∙ ap unlined_pairs are)
-    ∙ ap (map unnumbered) (list_alike settings pairs sorted so.stable)
+pairs_settled settings bytes lent places settled pairs sorted lent_is so are is = grind (arith, pairs_on, list_alike)

@@ -124,10 +124,7 @@ ended settings all list last so = ap (λ l. l ++ (unnumbered last ∷ [])) so.se
 pub goes_on : (settings : Settings) (all : List Pair) (list list_then : List TextPair) (last last_then pair : Pair) (left rest : List Pair) (b : Bool)
     → IsSettledTo settings all list last left → left ≡ pair ∷ rest → (stands_before settings last pair || keeps_data settings) ≡ b
     → last_then ≡ pair → list_then ≡ (if b then list ++ (unnumbered last ∷ []) else list) → IsSettledTo settings all list_then last_then rest
-goes_on settings all list list_then last last_then pair left rest b so is test last_is list_is =
-    subst (λ l. IsSettledTo settings all l last_then rest) (sym list_is)
-    (subst (λ p. IsSettledTo settings all (if b then list ++ (unnumbered last ∷ []) else list) p rest) (sym last_is)
-    (stepped settings all list last pair rest (subst (IsSettledTo settings all list last) is so) b test))
+goes_on settings all list list_then last last_then pair left rest b so is test last_is list_is = grind (arith, stepped)
 
 -- What was taken off from the end stands the other way round.
 

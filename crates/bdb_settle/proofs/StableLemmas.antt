@@ -1,4 +1,5 @@
 -- A list is the same for elements that a stable sort moved.
+use Rattle.std.proofs.Common.{arith}
 use Rattle.std.proofs.Common.{◌≡◌, Bool, true, false, cond, not, List, [], ◌∷◌, ◌++◌, refl, sym, ◌∙◌, ap, inl, inr, true≢false}
 use Rattle.std.specs.Prelude.{◌&&◌}
 use Rattle.std.specs.Cmp.{IsStrictWeakOrder}
@@ -44,10 +45,7 @@ all_fail p q step (x ∷ xs) none =
 
 without_it : {X : Type 0} (b : Bool) (x : X) (front back xs : List X) → (b ≡ true → front ≡ []) → front ++ cond b (x ∷ back) back ≡ cond b (x ∷ xs) xs
     → front ++ back ≡ xs
-without_it true x front back xs none same =
-    let e : front ≡ [] = none refl in
-    let whole : x ∷ back ≡ x ∷ xs = sym (ap (λ f. f ++ (x ∷ back)) e) ∙ same in
-    ap (λ f. f ++ back) e ∙ cc
+without_it true x front back xs none same = grind arith
 without_it false x front back xs none same = same
 
 module _ {X : Type 0} (before : X → X → Bool) (weak : IsStrictWeakOrder before) where

@@ -1,5 +1,5 @@
 -- The pages of an image and their bytes.
-use Rattle.std.proofs.Common.{◌≡◌, ◌∙◌, ℕ, ◌<◌, ◌≤◌, true, false, List, length, refl, sym, ap, subst, arith}
+use Rattle.std.proofs.Common.{◌≡◌, ◌∙◌, ℕ, ◌<◌, ◌≤◌, true, false, List, length, sym, ap, subst, arith}
 use Rattle.std.specs.Prelude.{None}
 use Rattle.bdb_format.proofs.FileLemmas.{last_page, page_is, past_last}
 use Rattle.bdb_format.proofs.GraphLemmas.{typed_page, zero_page}

@@ -63,12 +63,6 @@ with_key {Z} name key (other ∷ others) = by_order (by_items key other) refl (w
         turned (bytes_eq name (vec_items key)) (bytes_eq name (vec_items other)) (list_any (bytes_eq name) (map vec_items others))
         (list_any (bytes_eq name) (map vec_items (insert_key by_items others key))) rest
 
--- no section without a name is one that has none
-none_unnamed : (names : List (Option (List ℕ))) → list_any (is_name None) names ≡ list_any is_none names
-none_unnamed [] = refl
-none_unnamed (None ∷ names) = refl
-none_unnamed (Some name ∷ names) = none_unnamed names
-
 any_more : (test : Option (List ℕ) → Bool) (sections : List Section) (section : Section)
     → list_any test (names_of (sections ++ section ∷ [])) ≡ (list_any test (names_of sections) || test section.name)
 any_more test sections section =

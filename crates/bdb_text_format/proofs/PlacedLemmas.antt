@@ -1,7 +1,7 @@
 -- Pairs at places of a run stay when the run grows.
 use Rattle.std.proofs.Common.{◌≡◌, ℕ, ◌≤◌, ◌<◌, ◌+◌, ◌-◌, List, Option, None, Some, option_map, slice_get, [], ◌∷◌, ◌++◌, get_or, length, take, drop, map}
 use Rattle.std.proofs.Common.{arith, refl, ap, sym, ◌∙◌, subst, length-append, length-drop, append_assoc}
-use Rattle.std.specs.List.{All, fold}
+use Rattle.std.specs.List.{fold}
 use Rattle.std.proofs.lemmas.List.{length-map, map-append, take-append-drop, take-append-le, drop-append-le, take_all, take_more}
 use Rattle.std.proofs.lemmas.List.Sums.{fold-append}
 use Rattle.std.proofs.lemmas.Option.{get_or_from_slice_get, none-some, same_Some, slice_get_within}
@@ -17,7 +17,7 @@ use Rattle.bdb_text_format.specs.declared.pairs.Key.{Key}
 use Rattle.bdb_text_format.specs.declared.pairs.Key.TheVariants.{Bytes, Number}
 use Rattle.bdb_text_format.specs.declared.pairs.TextPair.{TextPair}
 use Rattle.bdb_text_format.specs.Pairs.{last_key}
-use Rattle.bdb_text_format.specs.Placed.{ArePlaced, IsKeyPlaced, IsKeyPut, IsPairPut, IsPiecePut, IsPlaced, Keeps, pair_with, placed_key, placed_pair}
+use Rattle.bdb_text_format.specs.Placed.{ArePlaced, IsKeyPlaced, IsPairPut, IsPiecePut, IsPlaced, Keeps, pair_with, placed_key, placed_pair}
 use Rattle.bdb_text_format.specs.Placed.{placed_pairs}
 
 -- what is behind an old run
@@ -67,10 +67,7 @@ pair_within old new place kept placed =
 pub pairs_stay : (old new : List ℕ) (places : List Place) → Keeps old new → ArePlaced old places → placed_pairs new places ≡ placed_pairs old places
 pairs_stay old new [] kept placed = refl
 pairs_stay old new (place ∷ places) kept placed =
-    rw (
-      pair_stays old new place kept (All-head (IsPlaced old) place places placed),
-      pairs_stay old new places kept (All-tail (IsPlaced old) place places placed),
-    ) refl
+    grind (arith, pair_stays, All-head, All-tail, pairs_stay old new places kept (All-tail (IsPlaced old) place places placed))
 
 pub pairs_within : (old new : List ℕ) (places : List Place) → Keeps old new → ArePlaced old places → ArePlaced new places
 pairs_within old new places kept placed = λ k place low. pair_within old new _ kept (placed k place low)
@@ -87,21 +84,11 @@ places_pushed old new places pair place kept placed put = All-push (IsPlaced new
 
 -- what was put
 pub piece_put : (old piece : List ℕ) (span : Span) → span.start ≡ length old → span.end ≡ length old + length piece → IsPiecePut (old ++ piece) piece span
-piece_put old piece span start end =
-    record {
-      begin = omega (arith, start, end);
-      end = omega (arith, end, length-append old piece);
-      same = rw (start, end) (ap (take (length old + length piece - length old)) (drop-append_seam old piece)
-          ∙ take_all (length old + length piece - length old) piece (omega arith));
-    }
+piece_put old piece span start end = grind (arith, length-append, drop-append_seam, take_all)
 
 pub pair_put : (mid new piece : List ℕ) (key : PlacedKey) (value : Span) (line : ℕ) → Keeps mid new → IsKeyPlaced mid key → IsPiecePut new piece value
     → IsPairPut new (pair_with (placed_key mid key) piece line) (record { key = key; value = value; line = line })
-pair_put mid new piece key value line kept placed put =
-    record {
-      placed = record { key = key_within mid new key kept placed; begin = put.begin; end = put.end };
-      same = rw (key_stays mid new key kept placed, put.same) refl;
-    }
+pair_put mid new piece key value line kept placed put = grind (arith, key_within, key_stays)
 
 -- the last pair
 last_of : (bytes : List ℕ) (key : Key) (place d : Place) (places : List Place)
@@ -116,13 +103,7 @@ last_is bytes (place ∷ places) d some = simp unary_clauses (last_of bytes (Num
 
 pub last_at : (bytes : List ℕ) (places : List Place) (last : Place) (pairs : List TextPair) → last ≡ get_or places (length places - 1) last
     → placed_pairs bytes places ≡ pairs → 0 < length pairs → placed_key bytes last.key ≡ last_key pairs
-last_at bytes places last pairs at is some =
-    ap (λ (place : Place). placed_key bytes place.key) at
-    ∙ (sym (last_is bytes places last (omega (arith, some, ap length is, length-map places (placed_pair bytes)))) ∙ ap last_key is)
-
-pub last_placed : (bytes : List ℕ) (places : List Place) (d : Place) → 0 < length places → ArePlaced bytes places
-    → IsKeyPlaced bytes (get_or places (length places - 1) d).key
-last_placed bytes places d some placed = (placed (length places - 1) d (omega (arith, some))).key
+last_at bytes places last pairs at is some = grind (arith, last_is, length-map)
 
 -- one more of a list
 pub taken_more : (pairs : List TextPair) (i : ℕ) (pair : TextPair) → slice_get pairs i ≡ Some pair → take (i + 1) pairs ≡ take i pairs ++ pair ∷ []

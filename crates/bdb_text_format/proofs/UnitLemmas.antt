@@ -2,7 +2,7 @@
 use Rattle.std.proofs.Common.{◌≡◌, ℕ, zero, suc, ◌<◌, ◌≤◌, ◌==◌, if◌then◌else◌, Bool, true, false, List, [], ◌∷◌, length, Option, Some, None, refl, ap, subst}
 use Rattle.std.proofs.Common.{◌∙◌, arith}
 use Rattle.std.specs.Prelude.{⊤}
-use Rattle.bdb_text_format.specs.TextSpelling.{before, byte_before, byte_of_digits, bytes_spelled, digit_value, digits_unit, escaped_unit, next_unit}
+use Rattle.bdb_text_format.specs.TextSpelling.{before, bytes_spelled, digits_unit, escaped_unit, next_unit}
 use Rattle.bdb_text_format.specs.TextSpelling.{units_read}
 
 -- what stands behind a unit is shorter than the text
@@ -19,23 +19,17 @@ digits_behind : (text : List ℕ) → IsBehind (digits_unit text) text
 unfolding IsBehind
 digits_behind [] = tt
 digits_behind (high ∷ []) = tt
-digits_behind (high ∷ low ∷ text) =
-    elim (byte_of_digits (digit_value high) (digit_value low)) as (λ byte. IsBehind (byte_before byte text) (high ∷ low ∷ text))
-    [ None ↦ tt | Some byte ↦ omega arith ]
+digits_behind (high ∷ low ∷ text) = grind (arith, IsBehind, None, Some)
 
 escaped_behind : (text : List ℕ) → IsBehind (escaped_unit text) text
 unfolding IsBehind
 escaped_behind [] = tt
-escaped_behind (byte ∷ text) =
-    elim (byte == 92) as (λ is. IsBehind (if is then Some (92, text) else digits_unit (byte ∷ text)) (byte ∷ text))
-    [ true ↦ omega arith | false ↦ digits_behind (byte ∷ text) ]
+escaped_behind (byte ∷ text) = grind (arith, IsBehind, Some, digits_behind)
 
 unit_behind : (print : Bool) (text : List ℕ) → IsBehind (next_unit print text) text
 unfolding IsBehind
 unit_behind true [] = tt
-unit_behind true (byte ∷ text) =
-    elim (byte == 92) as (λ is. IsBehind (if is then escaped_unit text else Some (byte, text)) (byte ∷ text))
-    [ true ↦ behind_more (escaped_unit text) byte text (escaped_behind text) | false ↦ omega arith ]
+unit_behind true (byte ∷ text) = grind (arith, IsBehind, Some, behind_more, escaped_behind)
 unit_behind false text = digits_behind text
 
 pub unit_shorter : (print : Bool) (text : List ℕ) (byte : ℕ) (rest : List ℕ) → next_unit print text ≡ Some (byte, rest) → length rest < length text

@@ -5,7 +5,7 @@ use Rattle.std.specs.Prelude.{Option, Some, None, nat_lt}
 use Rattle.std.specs.Io.KnownBytes.{Consumes, IsAtEnd}
 use Rattle.std.proofs.lemmas.Bool.{le-ltb, lt-ltb}
 use Rattle.bdb_model.specs.Answers.{Answer, told, too_large_line}
-use Rattle.bdb_tool.specs.Commands.{Ask, Command, Load, command_on, reads_input, usage}
+use Rattle.bdb_tool.specs.Commands.{Ask, Command, Load, reads_input, usage}
 use Rattle.bdb_model.specs.Change.{Change, GainsPart, HasFailed, IsUncalled, Stays}
 use Rattle.bdb_file.specs.declared.rows.Rows.TheVariants.{All}
 use Rattle.bdb_format.specs.Faults.{Rose, Took}

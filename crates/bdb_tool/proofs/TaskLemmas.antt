@@ -2,7 +2,7 @@
 use Rattle.std.proofs.Common.{◌≡◌, ℕ, ◌+◌, false, true, List, refl, subst, sym, ◌∙◌, ap}
 use Rattle.std.specs.Prelude.{Option, Some, None, IsTrue, is_some}
 use Rattle.bdb_model.specs.Change.{Change}
-use Rattle.bdb_tool.specs.Commands.{Action, Ask, Command, Load, LoadOnto, Request, asking, handed, reads_input, within}
+use Rattle.bdb_tool.specs.Commands.{Action, Ask, Command, Load, Request, asking, handed, reads_input, within}
 use Rattle.bdb_file.specs.declared.rows.Rows.{Rows}
 use Rattle.bdb_file.specs.declared.rows.Rows.TheVariants.{All}
 use Rattle.bdb_format.specs.Faults.{Took}

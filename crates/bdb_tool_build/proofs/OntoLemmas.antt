@@ -1,9 +1,7 @@
 -- From the sections of a text to the answer on a base.
 use Rattle.std.proofs.Common.{◌≡◌, ◌⊎◌, ℕ, List, inl, inr, subst, sym, ap}
 use Rattle.std.specs.Prelude.{Option, Some, None, Result, Ok, Err, MatchResult}
-use Rattle.bdb_text_format.specs.declared.faults.TextFault.{TextFault}
 use Rattle.bdb_text_format.specs.declared.sections.Section.{Section}
-use Rattle.bdb_text_format.specs.Reasons.{text_fault}
 use Rattle.bdb_text_format.specs.Sections.{Reads}
 use Rattle.bdb_model.specs.Answers.{Answer, done}
 use Rattle.bdb_settle.specs.declared.load_error.LoadError.{LoadError}
@@ -12,7 +10,7 @@ use Rattle.bdb_mkfile.specs.Loading.{IsLoadRefusalBy, or_else}
 use Rattle.bdb_onto.specs.declared.base.Base.{Base}
 use Rattle.bdb_onto.specs.Onto.{IsOntoRefusal, loading_error_onto, onto_error, size_error_onto}
 use Rattle.bdb_tool_build.specs.declared.refusal.Refusal.{Refusal}
-use Rattle.bdb_tool_build.specs.Loads.{IsErrorAnswer, IsFaultAnswer}
+use Rattle.bdb_tool_build.specs.Loads.{IsErrorAnswer}
 use Rattle.bdb_tool_build.specs.Ontos.{IsLoadOnto, IsTextOnto, IsTextOntoBy}
 use Rattle.bdb_tool_build.specs.Refusals.{IsRefusedAnswer}
 use Rattle.bdb_tool_build.proofs.LoadLemmas.{read_without_fault}

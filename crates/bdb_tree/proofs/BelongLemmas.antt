@@ -15,9 +15,8 @@ use Rattle.bdb_format.specs.File.{File, file_of, page_at, page_bytes, type_in}
 use Rattle.bdb_format.specs.Graph.{Owner, all_references, first_holder, is_anchor, is_anchor_in, is_meta, is_reserve, is_spare, owners}
 use Rattle.bdb_format.specs.HeadOf.{head_of}
 use Rattle.bdb_format.specs.Leaves.{children_in, leaves}
-use Rattle.bdb_format.specs.Numbers.{byte_at}
 use Rattle.bdb_format.specs.Page.{Page, Internal, RecnoInternal}
-use Rattle.bdb_format.specs.Reading.{abstract_page, is_zero, page_as, page_type}
+use Rattle.bdb_format.specs.Reading.{abstract_page, page_as, page_type}
 use Rattle.bdb_format.specs.References.{asked_by, child_types, fit_code, fit_rows, has_type, is_zero_page, refs}
 use Rattle.bdb_format.specs.Rows.{form_code, type_of}
 use Rattle.bdb_format.proofs.GraphLemmas.{IsOwner, is_owner, owner_fits, reserve_is, typed_page, zero_page}
@@ -60,11 +59,7 @@ no_reserve file p is =
     ]
 
 no_top : (image : List ℕ) (p : ℕ) → IsForest image → IsTreePage (file_of image) p → is_top (file_of image) p ≡ true → ⊥
-no_top image p forest tree top =
-    let file : File = file_of image in
-    let is : is_tree_in (page_at file p) ≡ true = tree_is image p forest tree in
-    let low : p ≤ file.last = tree_inside image p tree in
-    true≢false (sym top ∙ or_from (is_anchor file p) (is_reserve file p) (no_anchor image p forest low is) (no_reserve file p is))
+no_top image p forest tree top = grind (arith, is_tree_in, tree_is, tree_inside, or_from, no_anchor, no_reserve)
 
 -- What names a page of a tree.
 
@@ -180,12 +175,7 @@ no_tree_type Btree order page byte is = ap (λ b. is_tree_in (page_as order page
 no_tree_type kind order page byte is = ap (λ b. is_tree_in (page_as order page (page_type b))) is
 
 no_tree_page : (head : Head) (page : List ℕ) → form_code head 0 page ≡ None → is_tree_in (abstract_page head.order page) ≡ false
-no_tree_page head page none =
-    elim (cases_Bool (is_zero page)) [
-      | inl zeros ↦ ap is_tree_in (zero_page head.order page zeros)
-      | inr some ↦
-          ap is_tree_in (typed_page head.order page some) ∙ no_tree_type head.kind head.order page (byte_at page 25) (own_type head page none)
-    ]
+no_tree_page head page none = grind (arith, cases_Bool, is_tree_in, zero_page, typed_page, no_tree_type, own_type)
 
 -- page 0 is metadata, no page of a tree
 pub tree_above : (image : List ℕ) (p : ℕ) → IsForest image → IsTreePage (file_of image) p → 1 ≤ p

@@ -89,9 +89,7 @@ inner_more (suc levels) file ps qs more x at =
 inner_here : (levels : ℕ) (file : File) (p : ℕ) (page : Listed InternalItem) → 1 ≤ levels → page_at file p ≡ Internal page
     → Contains (inner_in levels file (p ∷ [])) p
 inner_here zero file p page some is = absurd (omega arith)
-inner_here (suc levels) file p page some is =
-    let test : ℕ → Bool = λ q. is_some (children_in (page_at file q)) in
-    Contains-append_left (filter test (p ∷ [])) _ p (in_filter test (p ∷ []) p (first_member p []) (ap (λ q. is_some (children_in q)) is))
+inner_here (suc levels) file p page some is = grind (arith, Contains-append_left, in_filter, first_member)
 
 inner_below : (levels : ℕ) (file : File) (p child q : ℕ) → Contains (children_at file p) child → Contains (inner_in levels file (child ∷ [])) q
     → Contains (inner_in (suc levels) file (p ∷ [])) q

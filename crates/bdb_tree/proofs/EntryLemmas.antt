@@ -1,11 +1,10 @@
 -- The entries of leaves, leaf by leaf, and the data of a set off the page.
-use Rattle.std.proofs.Common.{◌≡◌, ℕ, ◌≤◌, true, not, Bool, List, [], ◌∷◌, ◌++◌, map, refl, sym, ◌∙◌, ap, subst, arith}
+use Rattle.std.proofs.Common.{◌≡◌, ℕ, ◌≤◌, true, List, [], ◌∷◌, ◌++◌, refl, sym, ◌∙◌, ap, subst, arith}
 use Rattle.std.proofs.lemmas.List.{map-append}
 use Rattle.std.proofs.lemmas.List.Elements.{All-append, All-head, All-nil, All-rest, All-tail, Contains-get_or, filter-append}
 use Rattle.std.proofs.lemmas.Option.{slice_get-get_or}
 use Rattle.std.specs.Prelude.{get_or}
-use Rattle.std.specs.List.{Contains, filter, flat_map}
-use Rattle.bdb_format.specs.Chains.{value_of}
+use Rattle.std.specs.List.{Contains, flat_map}
 use Rattle.bdb_format.specs.Contents.{data_of, entries_in, live_values, tree_entries}
 use Rattle.bdb_format.specs.File.{File, file_of, page_at}
 use Rattle.bdb_format.specs.Leaves.{leaves}
@@ -59,9 +58,7 @@ leaves_fit image (p ∷ ps) forest there =
 pub all_fit : (image : List ℕ) (root : ℕ) (entries : List Item) → IsForest image → IsTreePage (file_of image) root
     → entries ≡ tree_entries (file_of image) root
     → AreFit (file_of image) entries
-all_fit image root entries forest tree are =
-    subst (AreFit (file_of image)) (sym (are ∙ entries_are (file_of image) root))
-    (leaves_fit image (leaves (file_of image) root) forest (leaves_there image root (leaves (file_of image) root) forest tree refl))
+all_fit image root entries forest tree are = grind (arith, entries_are, leaves_fit, leaves_there)
 
 -- what holds of all holds of those after the first
 pub rest_fit : (file : File) (entry : Item) (rest entries : List Item) → entries ≡ entry ∷ rest → AreFit file entries → AreFit file rest
@@ -75,16 +72,11 @@ pub deleted_value : (file : File) (entry : Item) (entries : List Item) → entry
 deleted_value file entry entries deleted = rw deleted refl
 
 values_joined : (file : File) (xs ys : List Item) → values_of file (xs ++ ys) ≡ values_of file xs ++ values_of file ys
-values_joined file xs ys =
-    let live : Item → Bool = λ entry. not entry.deleted in
-    let value : Item → List ℕ = λ entry. value_of file entry.content in
-    ap (map value) (filter-append live xs ys) ∙ map-append value (filter live xs) (filter live ys)
+values_joined file xs ys = grind (arith, filter-append, map-append)
 
 values_on : (file : File) (ps : List ℕ) → values_of file (entries_on file ps) ≡ flat_map (λ p. live_values file (page_at file p)) ps
 values_on file [] = refl
-values_on file (p ∷ ps) =
-    values_joined file (entries_in (page_at file p)) (entries_on file ps)
-    ∙ ap (λ values. live_values file (page_at file p) ++ values) (values_on file ps)
+values_on file (p ∷ ps) = grind (arith, values_joined, values_on file ps)
 
 pub all_values : (file : File) (root : ℕ) (entries : List Item) → entries ≡ tree_entries file root → values_of file entries ≡ data_of file (Tree root)
 unfolding data_of

@@ -84,11 +84,7 @@ none_in (suc n) file = none_in n file
 -- a leaf has no internal page at or below it
 pub no_inner : (file : File) (p : ℕ) → children_in (page_at file p) ≡ None → inner_pages file p ≡ []
 unfolding inner_pages
-no_inner file p none = none_above (level file p)
-  where
-    none_above : (n : ℕ) → inner_in n file (p ∷ []) ≡ []
-    none_above zero = refl
-    none_above (suc n) = rw (none) (none_in n file)
+no_inner file p none = grind (arith, none_in)
 
 module _ {X : Type 0} (child : X → ℕ) where
   -- the items of an internal page, which lead one level down

@@ -1,17 +1,14 @@
 -- The leaves of a tree, level by level: the pages of one level stand for the leaves below them, and so do their children.
 use Rattle.std.proofs.Common.{◌≡◌, ℕ, ◌+◌, ◌<◌, ◌≤◌, List, [], ◌∷◌, ◌++◌, map, arith, refl, sym, ◌∙◌, ap, subst, append_assoc}
-use Rattle.std.proofs.Common.{append-nil, inl, inr, true}
+use Rattle.std.proofs.Common.{append-nil, inl, inr}
 use Rattle.std.specs.Prelude.{Option, Some, None}
 use Rattle.std.specs.List.{All, Contains, flat_map}
 use Rattle.std.specs.Option.{unwrap_or}
 use Rattle.std.proofs.lemmas.List.Elements.{All-contains}
 use Rattle.bdb_form.specs.declared.view.PageView.{PageView}
 use Rattle.bdb_form.specs.Seen.{header_seen, page_seen}
-use Rattle.bdb_format.specs.declared.pages.Header.{Header}
-use Rattle.bdb_format.specs.File.{File, file_of, header_in, page_at, type_in}
+use Rattle.bdb_format.specs.File.{File, file_of, header_in, page_at}
 use Rattle.bdb_format.specs.Leaves.{children_in, leaves}
-use Rattle.bdb_format.specs.Page.{Page}
-use Rattle.bdb_format.specs.References.{has_type}
 use Rattle.bdb_format.proofs.MemberLemmas.{first_member, later_member, no_member, of_flat_map}
 use Rattle.bdb_graph.specs.Linked.{IsForest}
 use Rattle.bdb_tree.specs.Trees.{IsTreePage, children_at}
@@ -29,10 +26,7 @@ children_more child next before item rest left items is had =
 -- the header of a page of a tree, as its view tells it
 pub seen_level : (file : File) (p : ℕ) (view : PageView) → IsTreePage file p → page_seen view ≡ page_at file p
     → (header_seen view).level ≡ (header_in (page_at file p)).level
-seen_level file p view tree seen =
-    ap (λ (header : Header). header.level) (tree_header view
-    (subst (λ (page : Page). has_type (3 ∷ 4 ∷ 5 ∷ 6 ∷ 12 ∷ []) (type_in page) ≡ true) (sym seen) tree))
-    ∙ ap (λ (page : Page). (header_in page).level) seen
+seen_level file p view tree seen = grind (arith, level, tree_header)
 
 -- Children of pages.
 
@@ -62,13 +56,7 @@ pub record IsLevel (file : File) (pages : List ℕ) (turn top : ℕ) (all : List
 -- the first page alone
 pub first_level : (file : File) (pages : List ℕ) (p top : ℕ) → IsTreePage file p → top ≡ level file p → pages ≡ p ∷ []
     → IsLevel file pages 1 top (leaves file p)
-first_level file pages p top tree is alone =
-    subst (λ ps. IsLevel file ps 1 top (leaves file p)) (sym alone)
-    (record {
-      trees = all_of (IsTreePage file) (p ∷ []) (λ q at. subst (IsTreePage file) (only_member p q at) tree);
-      level = λ q at. let same : level file p ≡ level file q = ap (level file) (only_member p q at) in omega arith;
-      leaves = append-nil (leaves file p);
-    })
+first_level file pages p top tree is alone = grind (arith, all_of, only_member, level, append-nil)
 
 leaves_by_children : (image : List ℕ) (p : ℕ) → IsForest image → IsTreePage (file_of image) p → 2 ≤ level (file_of image) p
     → leaves (file_of image) p ≡ flat_map (leaves (file_of image)) (children_at (file_of image) p)

@@ -37,9 +37,7 @@ record HasPlace (places : List LeafPlace) (p next : ℕ) : Type 0 where
 place_between : (sort : Sort) (from : ℕ) (before : List ℕ) (p : ℕ) (after : List ℕ)
     → HasPlace (places_from sort from (before ++ (p ∷ after))) p (first_or_zero after)
 place_between sort from [] p after = record { place = _; at = first_member _ (places_from sort p after); leaf = refl; after = refl }
-place_between sort from (q ∷ before) p after =
-    let rest : HasPlace (places_from sort q (before ++ (p ∷ after))) p (first_or_zero after) = place_between sort q before p after in
-    record { place = rest.place; at = later_member _ _ rest.place rest.at; leaf = rest.leaf; after = rest.after }
+place_between sort from (q ∷ before) p after = grind (arith, later_member, place_between sort q before p after)
 
 -- a place of a leaf of a tree
 root_place : (file : File) (root p next : ℕ) → IsRoot file root → ((sort : Sort) → HasPlace (places_from sort 0 (leaves file root)) p next)
@@ -159,11 +157,7 @@ all_pages image root first forest none is at =
 -- a walk gives no more pages than there are
 pub pages_few : (file : File) (p : ℕ) → length (pages_from file p) ≤ file.count
 unfolding pages_from
-pages_few file p =
-    elim (p == 0) as (λ b. length {A = ℕ} (elim b [ true ↦ [] | false ↦ chain file p ]) ≤ file.count) [
-      | true ↦ omega arith
-      | false ↦ chain_few file.count file p
-    ]
+pages_few file p = grind (arith, chain_few)
 
 -- A step.
 

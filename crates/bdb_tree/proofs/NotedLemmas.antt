@@ -58,18 +58,13 @@ place_is : (sort : Sort) (before : ℕ) (ps : List ℕ) (i : ℕ) (d : LeafPlace
 place_is sort before [] i d below = absurd (omega arith)
 place_is sort before (p ∷ []) zero d below = refl
 place_is sort before (p ∷ (q ∷ ps)) zero d below = refl
-place_is sort before (p ∷ ps) (suc i) d below =
-    place_is sort p ps i d (omega arith)
-    ∙ ap (λ n. record { tree = sort; before = n; leaf = slice_index ps i; after = slice_index ps (suc i) }) (later_before p ps i)
+place_is sort before (p ∷ ps) (suc i) d below = grind (arith, later_before, place_is sort p ps i d (omega arith))
 
 place_same : (sort : Sort) (ps : List ℕ) (i : ℕ)
     → ◌≡◌ {A = LeafPlace} (record { tree = sort; before = before_at 0 ps i; leaf = slice_index ps i; after = slice_index ps (suc i) })
     (place_in sort ps i)
 place_same sort ps zero = refl
-place_same sort ps (suc i) =
-    let one : suc i - 1 ≡ i = omega arith in
-    let two : suc i + 1 ≡ suc (suc i) = omega arith in
-    rw (ne_eqb (suc i) 0 (λ is. omega arith), one, two) refl
+place_same sort ps (suc i) = grind (arith, ne_eqb)
 
 -- one leaf more
 pub place_more : (before middle after : List Fault → Type 0) (f : LeafPlace → List Fault) (sort : Sort) (ps : List ℕ) (i : ℕ) → i < length ps

@@ -1,5 +1,5 @@
 -- The roots that a page names: by metadata, and by data of pairs that are sets off the page.
-use Rattle.std.proofs.Common.{◌≡◌, ◌⊎◌, ℕ, ◌+◌, ◌*◌, ◌/◌, ◌%◌, ◌<◌, ◌≤◌, true, false, cond, List, [], ◌∷◌, length, map, get_or, arith, refl, sym, ◌∙◌}
+use Rattle.std.proofs.Common.{◌≡◌, ◌⊎◌, ℕ, ◌+◌, ◌*◌, ◌/◌, ◌%◌, ◌<◌, ◌≤◌, true, false, List, [], ◌∷◌, length, map, get_or, arith, refl, sym, ◌∙◌}
 use Rattle.std.proofs.Common.{ap, subst, inl, inr, Contains, true≢false}
 use Rattle.std.specs.Prelude.{Option, Some, None, IfSome, ◌==◌, not}
 use Rattle.std.specs.List.{Contains, enumerate_from, flat_map, list_any, range_with_len}
@@ -14,7 +14,6 @@ use Rattle.bdb_format.specs.declared.references.Sort.TheVariants.{Free as FreeRe
 use Rattle.bdb_format.specs.declared.references.Sort.TheVariants.{DuplicateRoot}
 use Rattle.bdb_format.specs.File.{File, file_of, page_at}
 use Rattle.bdb_format.specs.Hashing.{first_page}
-use Rattle.bdb_format.specs.HeadOf.{head_of}
 use Rattle.bdb_format.specs.Leaves.{is_root_reference}
 use Rattle.bdb_format.specs.Page.{BtreeFields, HashFields, Content, Chain, Tree, Item, InternalItem, Page}
 use Rattle.bdb_format.specs.Page.{Free, Meta, Hash, Internal, RecnoInternal, Leaf, RecnoLeaf, DupLeaf, Overflow}
@@ -61,18 +60,10 @@ no_root a b other same root = true≢false (sym root ∙ (ap (λ (name : Sort ×
 
 no_link : (sort : Sort) (target : ℕ) (name : Sort × ℕ) → is_root_reference sort ≡ false → is_root_reference name.0 ≡ true
     → Contains (unless_zero sort target) name → ⊥
-no_link sort target name other root =
-    elim (target == 0) as (λ b. Contains (cond b [] ((sort, target) ∷ [])) name → ⊥) [
-      | true ↦ λ at. no_member [] name refl at
-      | false ↦ λ at. no_root (sort, target) name other (only_member (sort, target) name at) root
-    ]
+no_link sort target name other root = grind (arith, Contains, no_member, no_root, only_member)
 
 no_free : (p free : ℕ) (name : Sort × ℕ) → is_root_reference name.0 ≡ true → Contains (first_free p free) name → ⊥
-no_free p free name root =
-    elim (p == 0) as (λ b. Contains (cond b (unless_zero FreeRef free) []) name → ⊥) [
-      | true ↦ λ at. no_link FreeRef free name refl root at
-      | false ↦ λ at. no_member [] name refl at
-    ]
+no_free p free name root = grind (arith, Contains, no_link, no_member)
 
 -- what is named as a root is what metadata names, or a set among what items hold
 abbrev IsNamedRoot : Page → Sort × ℕ → Type 0
@@ -81,9 +72,7 @@ IsNamedRoot page name = ((name.0 ≡ Root) × (meta_root page ≡ Some name.1)) 
 by_content : (content : Content) (name : Sort × ℕ) → is_root_reference name.0 ≡ true → Contains (content_targets content) name
     → (name.0 ≡ DuplicateRoot) × (content ≡ Tree name.1)
 by_content (Chain head total) name root at = absurd (no_root (OverflowHead, head) name refl (only_member (OverflowHead, head) name at) root)
-by_content (Tree set) name root at =
-    let same : (DuplicateRoot, set) ≡ name = only_member (DuplicateRoot, set) name at in
-    (sym (ap (λ (n : Sort × ℕ). n.0) same), ap (λ (n : Sort × ℕ). Tree n.1) same)
+by_content (Tree set) name root at = grind (arith, only_member)
 by_content content name root at = absurd (no_member [] name refl at)
 
 by_contents : (contents : List Content) (name : Sort × ℕ) → is_root_reference name.0 ≡ true → Contains (flat_map content_targets contents) name
@@ -95,13 +84,7 @@ by_contents contents name root at =
 
 named_root : (p : ℕ) (page : Page) (name : Sort × ℕ) → is_root_reference name.0 ≡ true → Contains (targets_in p page) name → IsNamedRoot page name
 named_root p (Free header) name root at = absurd (no_link FreeRef header.next name refl root at)
-named_root p (Meta (BtreeFields meta)) name root at =
-    elim (Contains-append_cases (first_free p meta.free) ((Root, meta.root) ∷ []) name at) [
-      | inl free ↦ absurd (no_free p meta.free name root free)
-      | inr named ↦
-          let same : (Root, meta.root) ≡ name = only_member (Root, meta.root) name named in
-          inl (sym (ap (λ (n : Sort × ℕ). n.0) same), ap (λ (n : Sort × ℕ). Some n.1) same)
-    ]
+named_root p (Meta (BtreeFields meta)) name root at = grind (arith, Contains-append_cases, no_free, only_member)
 named_root p (Meta (HashFields meta)) name root at =
     let buckets : List ℕ = range_with_len 0 (meta.max_bucket + 1) in
     elim (Contains-append_cases (first_free p meta.free) (map (λ b. (Bucket, first_page b meta.spares)) buckets) name at) [
@@ -147,9 +130,7 @@ data_place page k root sets below is =
 -- the item of a list that holds a content
 item_holding : (items : List Item) (content : Content) → Contains (map (λ (item : Item). item.content) items) content
     → (k : ℕ) × (k < length items) × ((get_or items k no_item).content ≡ content)
-item_holding items content at =
-    let below : at.0 < length items = omega (arith, at.1, length-map items (λ (item : Item). item.content)) in
-    (at.0, below, sym (get_or-map (λ (item : Item). item.content) items at.0 no_item content below) ∙ at.2)
+item_holding items content at = grind (arith, length-map, get_or-map)
 
 set_is_data : (page : Page) (root : ℕ) → IsFormedPage page → Contains (contents_in page) (Tree root) → IsDataRoot page root
 set_is_data (Hash page) root formed at =
@@ -184,13 +165,7 @@ reference_root image p reference forest low held root =
 pub meta_root_fits : (image : List ℕ) (p : ℕ) → IsForest image → p ≤ (file_of image).last → (root : ℕ)
     → meta_root (page_at (file_of image) p) ≡ Some root
     → FitsTreeRoot (file_of image) root
-meta_root_fits image p forest low root = of (page_at (file_of image) p) refl
-  where
-    of : (page : Page) → page_at (file_of image) p ≡ page → meta_root page ≡ Some root → FitsTreeRoot (file_of image) root
-    of (Meta (BtreeFields meta)) is same =
-        subst (FitsTreeRoot (file_of image)) (let root_is : meta.root ≡ root = cc in root_is)
-        (root_fits image (head_of image) meta forest.formed (record { page = p; inside = low; is = is }))
-    of page is same = absurd cc
+meta_root_fits image p forest low root = grind (arith, root_fits)
 
 pub tree_of : (content : Content) (root : ℕ) → set_root content ≡ Some root → content ≡ Tree root
 tree_of (Tree set) root same = cc
@@ -220,10 +195,7 @@ pub data_root_tree : (image : List ℕ) (p i : ℕ) (page : Page) (root : Option
     → page ≡ page_at (file_of image) p
     → 2 * i + 1 < length (paired page) → root ≡ data_root page i → IfSome root (IsTreePage (file_of image))
 data_root_tree image p i page None forest low same below is = tt
-data_root_tree image p i page (Some root) forest low same below is =
-    root_is_tree image root forest
-    (inr (data_root_fits image p i forest low (subst (λ (q : Page). 2 * i + 1 < length (paired q)) same below) root
-    (sym (is ∙ ap (λ q. data_root q i) same))))
+data_root_tree image p i page (Some root) forest low same below is = grind (arith, root_is_tree, data_root_fits)
 
 pub reference_is_tree : (image : List ℕ) (p : ℕ) (reference : Reference) → IsForest image → p ≤ (file_of image).last
     → Contains (refs (file_of image) p) reference → is_root_reference reference.sort ≡ true

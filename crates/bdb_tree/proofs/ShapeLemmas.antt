@@ -15,16 +15,15 @@ use Rattle.bdb_format.specs.declared.references.Sort.{Sort}
 use Rattle.bdb_format.specs.declared.references.Sort.TheVariants.{DuplicateRoot, Root}
 use Rattle.bdb_format.specs.Leaves.{children_in, wrong_leaf_types}
 use Rattle.std.proofs.lemmas.List.FromFn.{get_or-map-range_with_len, length-map-range_with_len}
-use Rattle.bdb_format.specs.declared.pages.ItemFault.TheVariants.{Offset, Kind, Extent}
 use Rattle.bdb_format.specs.Numbers.{byte_at}
 use Rattle.bdb_format.specs.Page.{Metadata, BtreeFields, Content, Inline, Chain, Tree, Unknown, Item, InternalItem, Listed}
 use Rattle.bdb_format.specs.Page.{Page, Meta, Hash, Internal, RecnoInternal, Leaf, RecnoLeaf, DupLeaf, PageType}
 use Rattle.bdb_format.specs.Page.{FreePage, HashPage, InternalPage, RecnoInternalPage, LeafPage, RecnoLeafPage, OverflowPage, HashMetaPage}
 use Rattle.bdb_format.specs.Page.{BtreeMetaPage, QueueMetaPage, QueuePage, DupLeafPage, OtherPage}
-use Rattle.bdb_format.specs.Reading.{abstract_page, entries_of, internal_item_at, is_zero, kind_at, leaf_item_at, listed, offset_of, page_as}
-use Rattle.bdb_format.specs.Reading.{page_type, recno_item_at, hash_item_at, leaf_content, hash_content, hash_end}
+use Rattle.bdb_format.specs.Reading.{abstract_page, entries_of, internal_item_at, is_zero, leaf_item_at, listed, page_as}
+use Rattle.bdb_format.specs.Reading.{page_type, recno_item_at, hash_item_at}
 use Rattle.bdb_format.specs.References.{has_type, no_item}
-use Rattle.bdb_format.specs.Rows.{form_code, is_leaf_kind, leaf_rows, listed_code, type_of, typed_code, hash_rows, item_rows, is_hash_kind}
+use Rattle.bdb_format.specs.Rows.{form_code, leaf_rows, listed_code, type_of, typed_code, hash_rows, item_rows}
 use Rattle.bdb_format.specs.Table.{first_row}
 use Rattle.bdb_format.proofs.GraphLemmas.{typed_none, typed_page, zero_page}
 use Rattle.bdb_format.proofs.ItemLemmas.{IsIndexed, index_passes, no_index_row, no_item_row}
@@ -80,9 +79,7 @@ tests order page t none = index_passes order page t (no_index_row order page t n
 
 some_items : {I : Type 0} (order : Order) (page : List ℕ) (item_at : ℕ → I) → (entries_of order page == 0) ≡ false
     → 0 < length (listed order page item_at).items
-some_items order page item_at some =
-    let other : entries_of order page ≡ 0 → ⊥ = eqb-false (entries_of order page) 0 some in
-    omega (arith, length_items order page item_at)
+some_items order page item_at some = grind (arith, eqb-false, length_items)
 
 no_tree : (a b : Bool) (bytes : List ℕ) (head total root : ℕ)
     → ◌≡◌ {A = Content} (cond a (Inline bytes) (cond b (Chain head total) Unknown)) (Tree root) → ⊥
@@ -103,52 +100,25 @@ leaf_level order page right = eqb-true (byte_at page 24) 1 (not-false (byte_at p
 -- an item is a value by itself where it has one of two kinds; else it may have the others
 alone_or : (content : ℕ → Content) (kind : ℕ) (other : Bool) → IsAlone (content 1) → IsAlone (content 3) → (kind == 1 || kind == 3 || other) ≡ true
     → IsAlone (content kind) ⊎ (other ≡ true)
-alone_or content kind other one three may =
-    elim (kind == 1) as (λ b. (kind == 1) ≡ b → (b || kind == 3 || other) ≡ true → IsAlone (content kind) ⊎ (other ≡ true)) [
-      | true ↦ λ is _. inl (subst (λ k. IsAlone (content k)) (sym (eqb-true kind 1 is)) one)
-      | false ↦ λ _ later.
-          elim (kind == 3) as (λ b. (kind == 3) ≡ b → (b || other) ≡ true → IsAlone (content kind) ⊎ (other ≡ true)) [
-            | true ↦ λ is _. inl (subst (λ k. IsAlone (content k)) (sym (eqb-true kind 3 is)) three)
-            | false ↦ λ _ rest. inr rest
-          ] refl later
-    ] refl may
+alone_or content kind other one three may = grind (arith, eqb-true)
 
 -- an item of a leaf for which no row holds: another than a value by itself is data of a btree
 leaf_alone : (order : Order) (page : List ℕ) (i : ℕ) → first_row (leaf_rows order page i) ≡ None
     → IsAlone (leaf_item_at order page i).content ⊎ (((byte_at page 25 == 5) ≡ true) × (i % 2 ≡ 1))
 unfolding leaf_rows leaf_item_at
-leaf_alone order page i none =
-    let at : ℕ = offset_of order page i in
-    let kind : ℕ = kind_at page at in
-    elim (alone_or (leaf_content order page at) kind (kind == 2 && byte_at page 25 == 5 && i % 2 == 1) tt tt
-    (not-false _ (second_fails _ (not (is_leaf_kind (byte_at page 25) i kind)) _ Offset Kind Extent none))) [
-      | inl alone ↦ inl alone
-      | inr set ↦
-          let both = and_parts (kind == 2 && byte_at page 25 == 5) (i % 2 == 1) set in
-          inr ((and_parts (kind == 2) (byte_at page 25 == 5) both.0).1, eqb-true (i % 2) 1 both.1)
-    ]
+leaf_alone order page i none = grind (arith, alone_or, not-false, second_fails, and_parts, eqb-true)
 
 hash_alone : (order : Order) (page : List ℕ) (i : ℕ) → first_row (hash_rows order page i) ≡ None
     → IsAlone (hash_item_at order page i).content ⊎ (i % 2 ≡ 1)
 unfolding hash_rows hash_item_at
-hash_alone order page i none =
-    let at : ℕ = offset_of order page i in
-    let kind : ℕ = byte_at page at in
-    elim (alone_or (hash_content order page at (hash_end order page i)) kind (i % 2 == 1 && (kind == 2 || kind == 4)) tt tt
-    (not-false _ (second_fails _ (not (is_hash_kind i kind)) _ Offset Kind Extent none))) [
-      | inl alone ↦ inl alone
-      | inr set ↦ inr (eqb-true (i % 2) 1 (and_parts (i % 2 == 1) (kind == 2 || kind == 4) set).0)
-    ]
+hash_alone order page i none = grind (arith, alone_or, not-false, second_fails, eqb-true, and_parts)
 
 -- what follows of an item from its rows holds for each item of a page
 each_item : (order : Order) (page : List ℕ) (t : PageType) (item_at : ℕ → Item) (P : ℕ → Item → Type 0) → listed_code order page t ≡ None
     → ((i : ℕ) → first_row (item_rows t order page i) ≡ None → P i (item_at i))
     → (i : ℕ) → i < length (listed order page item_at).items → P i (get_or (listed order page item_at).items i no_item)
 unfolding listed
-each_item order page t item_at P none each i below =
-    let inside : i < entries_of order page = omega (arith, length-map-range_with_len item_at 0 (entries_of order page)) in
-    subst (P i) (sym (get_or-map-range_with_len item_at 0 (entries_of order page) i i no_item inside (omega arith)))
-    (each i (no_item_row order page t i none inside))
+each_item order page t item_at P none each i below = grind (arith, length-map-range_with_len, get_or-map-range_with_len, no_item_row)
 
 leaf_formed : (order : Order) (page : List ℕ) → listed_code order page LeafPage ≡ None → IsFormedPage (page_as order page LeafPage)
 leaf_formed order page none = (

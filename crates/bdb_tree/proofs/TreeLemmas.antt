@@ -1,7 +1,7 @@
 -- The pages of trees in a file that linking accepts: children are pages of trees a level below, so the leaves are had level by level.
-use Rattle.std.proofs.Common.{◌≡◌, ◌⊎◌, ℕ, zero, suc, ◌+◌, ◌-◌, ◌<◌, ◌≤◌, Bool, true, false, cond, List, [], ◌∷◌, length, arith, refl, sym}
+use Rattle.std.proofs.Common.{◌≡◌, ◌⊎◌, ℕ, zero, suc, ◌+◌, ◌-◌, ◌<◌, ◌≤◌, Bool, true, false, List, [], ◌∷◌, length, arith, refl, sym}
 use Rattle.std.proofs.Common.{◌∙◌, ap, subst, inl, inr, length-append}
-use Rattle.std.specs.Prelude.{Option, Some, None, ◌==◌, ◌&&◌, nat_lt, nat_le, ◌%◌, slice_index, get_or}
+use Rattle.std.specs.Prelude.{Option, Some, None, ◌==◌, ◌&&◌, nat_lt, ◌%◌, get_or}
 use Rattle.std.specs.List.{Contains, filter, flat_map}
 use Rattle.std.proofs.lemmas.Bool.{and_left, ne_eqb, cases_lt, eq-eqb, eqb-false, eqb-true, ltb-false, not-false, or_parts, true≢false}
 use Rattle.std.proofs.lemmas.List.{get_or_past}
@@ -17,7 +17,7 @@ use Rattle.bdb_format.specs.HeadOf.{head_of}
 use Rattle.bdb_format.specs.Leaves.{LeafPlace, children_in, is_root_reference, is_wrong_link, leaf_places, leaves, leaves_in}
 use Rattle.bdb_format.specs.Leaves.{leaves_under, places_from, root_references}
 use Rattle.bdb_format.specs.Page.{BtreeFields, Content, Tree, Item, Listed, Page, Meta, Hash, Internal, RecnoInternal, Leaf, RecnoLeaf}
-use Rattle.bdb_format.specs.Page.{DupLeaf, NoType}
+use Rattle.bdb_format.specs.Page.{DupLeaf}
 use Rattle.bdb_format.specs.References.{asked_by, child_types, content_targets, first_free, fit_code, fit_rows, has_type, is_asked, is_shared_key}
 use Rattle.bdb_format.specs.References.{is_zero_page, targets_in, no_item, refs, root_types, contents_in}
 use Rattle.bdb_format.specs.Verdict.{reference_faults, structure_faults, structure_rows}
@@ -25,7 +25,6 @@ use Rattle.bdb_format.proofs.GraphLemmas.{each_fits}
 use Rattle.bdb_format.proofs.MemberLemmas.{first_member, in_filter, in_flat_map, in_map, none_passes, of_flat_map}
 use Rattle.bdb_format.proofs.VerdictLemmas.{AllFail, no_rows_at, none_is_first_row}
 use Rattle.bdb_format.proofs.TargetLemmas.{held_named, own_held}
-use Rattle.bdb_format.specs.Flags.{is_recno}
 use Rattle.bdb_graph.specs.Linked.{FitsDupRoot, FitsLeafPage, FitsTreeRoot, HasMetadata, IsForest, IsTarget}
 use Rattle.bdb_graph.proofs.ChildLemmas.{NamesChild, child_named, children_are, is_queue_page}
 use Rattle.bdb_graph.proofs.ForestLemmas.{sound_graph}
@@ -50,12 +49,7 @@ level file p = (header_in (page_at file p)).level
 
 -- a page with a type is there
 pub typed_inside : (image types : List ℕ) (p : ℕ) → has_type types (type_in (page_at (file_of image) p)) ≡ true → p ≤ (file_of image).last
-typed_inside image types p has =
-    elim (cases_lt p (length (file_of image).pages)) [
-      | inl below ↦ omega (arith, pages_counted image)
-      | inr past ↦
-          absurd (true≢false (sym has ∙ ap (λ (page : Page). has_type types (type_in page)) (get_or_past (file_of image).pages p NoType past)))
-    ]
+typed_inside image types p has = grind (arith, cases_lt, pages_counted, get_or_past)
 
 pub tree_inside : (image : List ℕ) (p : ℕ) → IsTreePage (file_of image) p → p ≤ (file_of image).last
 tree_inside image p tree = typed_inside image (3 ∷ 4 ∷ 5 ∷ 6 ∷ 12 ∷ []) p tree
@@ -166,9 +160,7 @@ inner_type page children are = cc
 
 -- the types of children are types of trees
 child_tree : (page : Page) → AllTypes (λ type. has_type (3 ∷ 4 ∷ 5 ∷ 6 ∷ 12 ∷ []) type ≡ true) (child_types page)
-child_tree (Internal page) =
-    either_types (λ type. has_type (3 ∷ 4 ∷ 5 ∷ 6 ∷ 12 ∷ []) type ≡ true) (page.header.level == 2) (5 ∷ 12 ∷ []) (3 ∷ []) (refl, (refl, tt))
-    (refl, tt)
+child_tree (Internal page) = grind (arith, either_types)
 child_tree (RecnoInternal page) =
     either_types (λ type. has_type (3 ∷ 4 ∷ 5 ∷ 6 ∷ 12 ∷ []) type ≡ true) (page.header.level == 2) (6 ∷ []) (4 ∷ []) (refl, tt) (refl, tt)
 child_tree page = tt
@@ -336,12 +328,7 @@ root_fits image sort r forest kind is =
 
 root_keyed_or_recno : (page : Page) (type : Option ℕ) → has_type (root_types page) type ≡ true
     → (has_type (3 ∷ 5 ∷ []) type ≡ true) ⊎ (has_type (4 ∷ 6 ∷ []) type ≡ true)
-root_keyed_or_recno (Meta (BtreeFields meta)) type has =
-    elim (is_recno meta) as (λ b. has_type (cond b (4 ∷ 6 ∷ []) (3 ∷ 5 ∷ [])) type ≡ true → (has_type (3 ∷ 5 ∷ []) type ≡ true)
-    ⊎ (has_type (4 ∷ 6 ∷ []) type ≡ true)) [
-      | true ↦ λ recno. inr recno
-      | false ↦ λ keyed. inl keyed
-    ] has
+root_keyed_or_recno (Meta (BtreeFields meta)) type has = grind arith
 root_keyed_or_recno page None has = absurd cc
 root_keyed_or_recno page (Some t) has = absurd cc
 
@@ -433,9 +420,7 @@ hash_dup_root image p i root page forest low is below set =
     (in_map (λ (item : Item). item.content) page.items (get_or page.items i no_item) (Contains-get_or page.items i no_item below)) set
 
 odd_not_shared : (offsets : List ℕ) (i : ℕ) → i % 2 ≡ 1 → is_shared_key offsets i ≡ false
-odd_not_shared offsets i odd =
-    and_left (i % 2 == 0 && nat_le 2 i) (slice_index offsets i == slice_index offsets (i - 2))
-    (and_left (i % 2 == 0) (nat_le 2 i) (ne_eqb (i % 2) 0 (λ even. omega arith)))
+odd_not_shared offsets i odd = grind (arith, and_left, ne_eqb)
 
 pub set_alone : (content : Content) (root : ℕ) → content ≡ Tree root → IsAlone content → ⊥
 set_alone content root is alone = subst IsAlone is alone

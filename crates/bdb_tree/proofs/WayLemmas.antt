@@ -1,5 +1,5 @@
 -- The way of a descent, page by page.
-use Rattle.std.proofs.Common.{◌≡◌, ℕ, zero, suc, ◌+◌, ◌<◌, ◌≤◌, Bool, true, false, cond, List, [], ◌∷◌, length, map, arith, refl, sym, ◌∙◌, ap, subst}
+use Rattle.std.proofs.Common.{◌≡◌, ℕ, zero, suc, ◌+◌, ◌<◌, ◌≤◌, Bool, true, List, [], ◌∷◌, length, map, arith, refl, sym, ◌∙◌, ap, subst}
 use Rattle.std.proofs.Common.{inl, inr}
 use Rattle.std.specs.Prelude.{Option, Some, None, ◌==◌, not}
 use Rattle.std.specs.List.{Contains, filter, last_or}
@@ -84,14 +84,7 @@ pub at_end : (image : List ℕ) (reads : InternalItem → Type 0) (test : Intern
     → IsOnWay (file_of image) reads test root began page steps
     → None ≡ next_below test (page_at (file_of image) page) → after ≡ steps + steps_at (page_at (file_of image) page)
     → IsEnd (file_of image) test root began page after
-at_end image reads test root began page steps after forest way none cost =
-    let file : File = file_of image in
-    let leaf : IsLeafPage (page_at file page) = ends_at_leaf image test page forest way.keyed none in
-    record {
-      leaf = sym (stays (level file page) file test page none) ∙ way.same;
-      fits = leaf.type;
-      cost = omega (arith, way.cost, leaf.level, cost, no_step test (page_at file page) none);
-    }
+at_end image reads test root began page steps after forest way none cost = grind (arith, IsLeafPage, ends_at_leaf, stays, level, no_step)
 
 -- The beginning, and a step.
 
@@ -99,25 +92,12 @@ pub at_root : (image : List ℕ) (reads : InternalItem → Type 0) (test : Inter
     → has_type (3 ∷ 5 ∷ []) (type_in (page_at (file_of image) root)) ≡ true → AllReadable (file_of image) reads root
     → AllMonotone (file_of image) test root
     → IsOnWay (file_of image) reads test root steps root steps
-at_root image reads test root steps keyed readable monotone =
-    record {
-      inside = typed_inside image (3 ∷ 5 ∷ []) root keyed;
-      keyed = of_type (λ t. has_type (3 ∷ 5 ∷ 12 ∷ []) t ≡ true) (3 ∷ 5 ∷ []) (type_in (page_at (file_of image) root)) (refl, (refl, tt)) keyed;
-      readable = readable;
-      monotone = monotone;
-      same = refl;
-      cost = refl;
-    }
+at_root image reads test root steps keyed readable monotone = grind (arith, typed_inside, of_type)
 
 -- a page from which a descent goes on is an internal page
 is_internal : (image : List ℕ) (test : InternalItem → Bool) (p child : ℕ) → Some child ≡ next_below test (page_at (file_of image) p)
     → (page : Listed InternalItem) × (page_at (file_of image) p ≡ Internal page) × (child ≡ chosen test page.items)
-is_internal image test p child some = of (page_at (file_of image) p) refl some
-  where
-    of : (page : Page) → page_at (file_of image) p ≡ page → Some child ≡ next_below test page
-        → (page : Listed InternalItem) × (page_at (file_of image) p ≡ Internal page) × (child ≡ chosen test page.items)
-    of (Internal page) is goes = let same : child ≡ chosen test page.items = cc in (page, is, same)
-    of page is goes = absurd cc
+is_internal image test p child some = grind arith
 
 goes_on : (levels : ℕ) (file : File) (test : InternalItem → Bool) (p child : ℕ) → Some child ≡ next_below test (page_at file p)
     → descent (suc levels) file test p ≡ descent levels file test child
@@ -126,11 +106,7 @@ goes_on levels file test p child some = ap (go_on (descent levels file test) p) 
 
 child_keyed : (page : Page) (type : Option ℕ) (view : Listed InternalItem) → page ≡ Internal view → has_type (child_types page) type ≡ true
     → has_type (3 ∷ 5 ∷ 12 ∷ []) type ≡ true
-child_keyed page type view is has = of (view.header.level == 2) (ap (λ q. has_type (child_types q) type) (sym is) ∙ has)
-  where
-    of : (low : Bool) → has_type (cond low (5 ∷ 12 ∷ []) (3 ∷ [])) type ≡ true → has_type (3 ∷ 5 ∷ 12 ∷ []) type ≡ true
-    of true one = of_type (λ t. has_type (3 ∷ 5 ∷ 12 ∷ []) t ≡ true) (5 ∷ 12 ∷ []) type (refl, (refl, tt)) one
-    of false one = of_type (λ t. has_type (3 ∷ 5 ∷ 12 ∷ []) t ≡ true) (3 ∷ []) type (refl, tt) one
+child_keyed page type view is has = grind (arith, level, of_type)
 
 -- the page below is on the way too, a level deeper
 pub record IsStep (file : File) (reads : InternalItem → Type 0) (test : InternalItem → Bool) (root began page child steps : ℕ) : Type 0 where

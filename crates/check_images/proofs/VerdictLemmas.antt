@@ -1,5 +1,5 @@
 -- What a run of `verify` tells.
-use Rattle.std.proofs.Common.{◌≡◌, ◌≢◌, ℕ, ◌^◌, ne_eqb, Bool, true, false, List, [], length, ap, arith, inl, inr, refl, subst, sym, ◌∙◌}
+use Rattle.std.proofs.Common.{◌≡◌, ◌≢◌, ℕ, ◌^◌, ne_eqb, Bool, true, false, List, [], length, ap, arith, refl, subst, sym, ◌∙◌}
 use Rattle.std.specs.Prelude.{IfOk, Result, Some, nat_lt, if◌then◌else◌}
 use Rattle.std.specs.Io.KnownBytes.{Appends}
 use Rattle.bdb_file.specs.AnyOrder.{faults_by_rows}
@@ -7,7 +7,6 @@ use Rattle.bdb_file.specs.declared.rows.Rows.{Rows}
 use Rattle.bdb_file.specs.declared.rows.Rows.TheVariants.{All, AnyOrder}
 use Rattle.bdb_model.specs.Answers.{Answer, told, too_large_line}
 use Rattle.bdb_model.specs.Change.{Change, Gains, HasFailed}
-use Rattle.bdb_format.specs.Faults.{Rose}
 use Rattle.bdb_tool.specs.Commands.{Ask, Command, Verify, command_of, handed}
 use Rattle.bdb_tool.specs.Outputs.{IsAnswerBySize, IsAnswerTo, IsCommandAnswer, IsInput, asked_alone, verified}
 use Rattle.bdb_tool.specs.Runs.{IsAnswered, RunsAs}
