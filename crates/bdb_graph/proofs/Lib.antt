@@ -16,6 +16,7 @@ pub mod MarkLemmas
 pub mod MetaLemmas
 pub mod NotedLemmas
 pub mod OwnedLemmas
+pub mod PieceLemmas
 pub mod PlainLemmas
 pub mod ReachLemmas
 pub mod ReadLemmas

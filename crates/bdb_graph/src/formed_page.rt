@@ -141,7 +141,7 @@ impl<'a> FormedPage<'a> {
     }
 
     /// How many bytes of a value it holds; none where it isn't a page of a chain.
-    #[tactic(auto, using(crate::proofs::ChainLengthLemmas::piece_lengths))]
+    #[tactic(auto, using(crate::proofs::PieceLemmas::piece_lengths))]
     pub(crate) fn piece_len(&self) -> u32
         ensures { result ≡ length (piece_in self.now) }
     {
