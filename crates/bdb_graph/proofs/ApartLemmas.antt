@@ -8,11 +8,11 @@ use Rattle.bdb_format.specs.declared.references.Sort.{Sort}
 use Rattle.bdb_format.specs.declared.references.Sort.TheVariants.{Free as FreeRef}
 use Rattle.bdb_format.specs.References.{unless_zero}
 use Rattle.bdb_format.proofs.ListLemmas.{range_parts}
-use Rattle.bdb_graph.specs.declared.source.Source.{Source}
-use Rattle.bdb_graph.specs.declared.source.Source.TheVariants.{Next, Table}
+use Rattle.bdb_slots.specs.declared.source.Source.{Source}
+use Rattle.bdb_slots.specs.declared.source.Source.TheVariants.{Next, Table}
 use Rattle.bdb_graph.specs.Buckets.{IsApart, bucket_names, run_names, run_refs}
-use Rattle.bdb_graph.specs.Slots.{HasRoom, names_from, placed}
-use Rattle.bdb_graph.proofs.SlotLemmas.{each_bucket}
+use Rattle.bdb_slots.specs.Slots.{HasRoom, names_from, placed}
+use Rattle.bdb_slots.proofs.SlotLemmas.{each_bucket}
 
 -- names in two parts: the second ones are placed behind the first
 pub placed_parts : (place : ℕ) (first second : List (Sort × ℕ)) → placed place (first ++ second) ≡ placed place first ++ placed (place + length first) second

@@ -24,7 +24,7 @@ use Rattle.bdb_format.specs.Graph.{is_meta}
 use Rattle.bdb_format.proofs.PageLemmas.{metadata_code}
 use Rattle.bdb_format.proofs.VerdictLemmas.{AllFail, none_is_first_row}
 use Rattle.bdb_format.proofs.FileLemmas.{page_is, kind_is}
-use Rattle.bdb_graph.specs.Slots.{IsNoMetadata, placed}
+use Rattle.bdb_slots.specs.Slots.{IsNoMetadata, placed}
 use Rattle.bdb_graph.proofs.CodeLemmas.{btree_last, code_by, code_same, differs, is_body, is_same, no_queue_type, not_zero, tree_code, two_none, typed_metadata}
 
 pub refs_of_page : (image : List ℕ) (p : ℕ) → p ≤ (head_of image).last

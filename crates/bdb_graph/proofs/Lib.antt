@@ -17,13 +17,10 @@ pub mod MetaLemmas
 pub mod NotedLemmas
 pub mod OwnedLemmas
 pub mod PieceLemmas
-pub mod PlainLemmas
 pub mod ReachLemmas
 pub mod ReadLemmas
 pub mod RoleLemmas
 pub mod RunLemmas
-pub mod SlotLemmas
-pub mod SourceLemmas
 pub mod TableLemmas
 pub mod TallyLemmas
 pub mod TargetLemmas

@@ -8,7 +8,7 @@ use Rattle.bdb_format.specs.File.{File}
 use Rattle.bdb_format.specs.Hashing.{first_page}
 use Rattle.bdb_format.specs.References.{fit_code}
 use Rattle.bdb_format.specs.Verdict.{fails_as}
-use Rattle.bdb_graph.specs.Slots.{placed}
+use Rattle.bdb_slots.specs.Slots.{placed}
 use Rattle.bdb_graph.specs.declared.bucket_fits.BucketFits.{BucketFits}
 use Rattle.bdb_graph.specs.declared.buckets.Buckets.{Buckets}
 

@@ -4,7 +4,7 @@ use Rattle.bdb_format.specs.declared.metadata.Head.{Head}
 use Rattle.bdb_format.specs.HeadOf.{head_of, head_rows}
 use Rattle.bdb_format.specs.Table.{first_row}
 use Rattle.bdb_format.specs.Verdict.{faults_in}
-use Rattle.bdb_graph.specs.Plain.{ArePlain}
+use Rattle.bdb_slots.specs.Plain.{ArePlain}
 use Rattle.bdb_graph.specs.declared.open.Read.{Read}
 
 -- no row of page 0 that speaks of the file holds

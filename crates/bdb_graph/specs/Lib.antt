@@ -10,7 +10,5 @@ pub mod Marks
 pub mod Metas
 pub mod Noted
 pub mod Owned
-pub mod Plain
-pub mod Slots
 pub mod Tallies
 pub mod Walked

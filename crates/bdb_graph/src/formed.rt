@@ -1,6 +1,6 @@
 ghost use Rattle.std.specs.Prelude.{◌≡◌, ◌^◌, ◌<◌, ◌≤◌, IsTrue, length, None, true};
 ghost use Rattle.bdb_graph.specs.Formed.{IsAccepted, IsFormed};
-ghost use Rattle.bdb_graph.specs.Plain.{ArePlain};
+ghost use Rattle.bdb_slots.specs.Plain.{ArePlain};
 ghost use Rattle.bdb_format.specs.File.{page_bytes};
 ghost use Rattle.bdb_format.specs.HeadOf.{head_of, is_page_size};
 ghost use Rattle.bdb_format.specs.Rows.{form_code};
@@ -21,7 +21,7 @@ pub struct Formed<'a> {
 impl<'a> Model for Formed<'a> {
     ghost use Rattle.std.specs.Prelude.{◌≡◌, List, ℕ, true};
     ghost use Rattle.bdb_graph.specs.Formed.{IsFormed};
-    ghost use Rattle.bdb_graph.specs.Plain.{ArePlain};
+    ghost use Rattle.bdb_slots.specs.Plain.{ArePlain};
 
     ghost Value = { List ℕ };
 

@@ -1,6 +1,6 @@
 ghost use Rattle.std.specs.Prelude.{◌≡◌, ◌≢◌, ◌+◌, ◌^◌, ◌<◌, ◌≤◌, IsTrue, None, length, true};
-ghost use Rattle.bdb_graph.specs.Plain.{IsPlain, IsPlainIn};
-ghost use Rattle.bdb_graph.specs.Slots.{placed};
+ghost use Rattle.bdb_slots.specs.Plain.{IsPlain, IsPlainIn};
+ghost use Rattle.bdb_slots.specs.Slots.{placed};
 ghost use Rattle.bdb_format.specs.File.{file_of};
 ghost use Rattle.bdb_format.specs.HeadOf.{is_page_size};
 ghost use Rattle.bdb_format.specs.Numbers.{byte_at};

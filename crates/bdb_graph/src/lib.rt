@@ -18,14 +18,12 @@ mod linking;
 mod listing;
 mod meta;
 mod named;
-mod names;
 mod open;
 mod owned;
 mod page;
 mod plain;
 mod reach;
 mod roles;
-mod source;
 mod table;
 mod tally;
 

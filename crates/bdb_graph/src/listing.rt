@@ -2,14 +2,14 @@ ghost use Rattle.std.specs.Prelude.{◌≡◌, ◌^◌, ◌<◌, ℕ, []};
 ghost use Rattle.std.specs.Iterator.{YieldsFirst, item_count};
 ghost use Rattle.bdb_form.specs.Seen.{page_seen};
 ghost use Rattle.bdb_graph.specs.Buckets.{IsApart};
-ghost use Rattle.bdb_graph.specs.Plain.{IsPlain};
-ghost use Rattle.bdb_graph.specs.Slots.{HasRoom, IsNoMetadata, names_from, placed};
+ghost use Rattle.bdb_slots.specs.Plain.{IsPlain};
+ghost use Rattle.bdb_slots.specs.Slots.{HasRoom, IsNoMetadata, names_from, placed};
 ghost use Rattle.bdb_format.specs.Page.{BtreeFields, HashFields, Meta};
 ghost use Rattle.bdb_format.specs.References.{first_free, targets_in, unless_zero};
 ghost use Rattle.bdb_format.specs.declared.references.Sort.TheVariants.{Free};
 
 use crate::buckets::Buckets;
-use crate::source::Source;
+use bdb_slots::Source;
 use bdb_form::PageView;
 use bdb_format::{BtreeMeta, HashMeta, Reference, Sort};
 use std::marker::Model;
@@ -25,7 +25,7 @@ pub struct References<'a> {
 impl<'a> Model for References<'a> {
     ghost use Rattle.std.specs.Prelude.{List};
     ghost use Rattle.bdb_format.specs.declared.references.Reference.{Reference};
-    ghost use Rattle.bdb_graph.specs.Slots.{HasPlace, names_from, placed};
+    ghost use Rattle.bdb_slots.specs.Slots.{HasPlace, names_from, placed};
 
     ghost Value = { List Reference };
 
@@ -36,7 +36,7 @@ impl<'a> Model for References<'a> {
 
 impl<'a> References<'a> {
     /// No reference.
-    #[tactic(auto, using(crate::proofs::SourceLemmas::of_nothing))]
+    #[tactic(auto, using(bdb_slots::proofs::SourceLemmas::of_nothing))]
     pub(crate) fn none() -> References<'a>
         ensures { result ≡ [] }
     {
@@ -61,7 +61,7 @@ impl<'a> References<'a> {
     }
 
     /// The references of btree metadata on page `p`: the first free page, which page 0 alone names, and the root.
-    #[tactic(auto, using(crate::proofs::SourceLemmas::of_tree))]
+    #[tactic(auto, using(bdb_slots::proofs::SourceLemmas::of_tree))]
     pub(crate) fn of_btree(p: u32, meta: &BtreeMeta) -> References<'a>
         ensures { result ≡ placed 0 (targets_in p (Meta (BtreeFields meta.now))) }
     {
@@ -73,7 +73,7 @@ impl<'a> References<'a> {
     }
 
     /// The references of hash metadata on page `p`: the first free page, which page 0 alone names, and the buckets.
-    #[tactic(auto, using(crate::proofs::SourceLemmas::of_table))]
+    #[tactic(auto, using(bdb_slots::proofs::SourceLemmas::of_table))]
     pub(crate) fn of_hash(p: u32, meta: &HashMeta) -> References<'a>
         requires { meta.now.max_bucket < 2 ^ 31 }
         ensures { result ≡ placed 0 (targets_in p (Meta (HashFields meta.now))) }

@@ -4,7 +4,7 @@ ghost use Rattle.bdb_faults.specs.All.{IsAllOf};
 ghost use Rattle.bdb_faults.specs.Notes.{NotesAll};
 ghost use Rattle.bdb_graph.specs.Formed.{IsAccepted, IsRead};
 ghost use Rattle.bdb_graph.specs.Noted.{page_faults};
-ghost use Rattle.bdb_graph.specs.Plain.{ArePlain, IsPlainIn};
+ghost use Rattle.bdb_slots.specs.Plain.{ArePlain, IsPlainIn};
 ghost use Rattle.bdb_format.specs.HeadOf.{is_page_size};
 ghost use Rattle.bdb_format.specs.Rows.{form_code};
 ghost use Rattle.bdb_format.specs.Verdict.{as_verdict, faults_in, form_faults, tail_faults, verdict_in};

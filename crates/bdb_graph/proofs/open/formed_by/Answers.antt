@@ -1,6 +1,6 @@
 use Rattle.std.proofs.Common.{◌≡◌, true, subst}
 use Rattle.bdb_graph.specs.Formed.{IsAccepted, IsRead}
-use Rattle.bdb_graph.specs.Plain.{ArePlain}
+use Rattle.bdb_slots.specs.Plain.{ArePlain}
 use Rattle.bdb_graph.proofs.open.formed_by.Goals as goal
 
 pub over-requires : goal.over-requires

@@ -6,7 +6,7 @@ use Rattle.bdb_graph.specs.Noted.{page_faults}
 use Rattle.bdb_format.specs.Rows.{form_code}
 use Rattle.bdb_graph.proofs.FormedLemmas.{IsPaged, accepted_paged}
 use Rattle.bdb_graph.proofs.NotedLemmas.{forms_noted, none_noted, page_noted}
-use Rattle.bdb_graph.proofs.PlainLemmas.{plain_more}
+use Rattle.bdb_slots.proofs.PlainLemmas.{plain_more}
 use Rattle.bdb_graph.proofs.open.note_forms.Goals as goal
 
 pub overflow_add-number-end : goal.overflow_add-number-end

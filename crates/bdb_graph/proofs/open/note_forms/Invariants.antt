@@ -4,7 +4,7 @@ use Rattle.bdb_faults.specs.Notes.{NotesAll}
 use Rattle.bdb_format.specs.File.{page_bytes}
 use Rattle.bdb_format.specs.Rows.{form_code}
 use Rattle.bdb_format.specs.Verdict.{by_page}
-use Rattle.bdb_graph.specs.Plain.{IsPlainIn}
+use Rattle.bdb_slots.specs.Plain.{IsPlainIn}
 use Rattle.bdb_graph.proofs.open.note_forms.Given as goal
 
 -- The faults of form of the pages passed are noted, and it's told whether these are plain.

@@ -3,7 +3,7 @@ use Rattle.bdb_faults.specs.Notes.{NotesAll}
 use Rattle.bdb_format.specs.Verdict.{form_faults, tail_faults}
 use Rattle.bdb_format.specs.declared.kinds.Fault.{Fault}
 use Rattle.bdb_graph.proofs.NotedLemmas.{alone_noted, head_passed, next_noted}
-use Rattle.bdb_graph.proofs.PlainLemmas.{on_value}
+use Rattle.bdb_slots.proofs.PlainLemmas.{on_value}
 use Rattle.bdb_graph.proofs.open.note_pages.Goals as goal
 
 -- Forms count where no page above the last one does.

@@ -1,7 +1,7 @@
 use Rattle.std.proofs.Common.{◌∙◌, ap, sym}
 use Rattle.bdb_layout.specs.Seen.{leaf_item_seen}
 use Rattle.bdb_format.specs.References.{content_targets}
-use Rattle.bdb_graph.proofs.PlainLemmas.{one_more}
+use Rattle.bdb_slots.proofs.PlainLemmas.{one_more}
 use Rattle.bdb_graph.proofs.plain.is_plain_dup_leaf.Goals as goal
 
 pub loop-item-preserved : goal.loop-item-preserved

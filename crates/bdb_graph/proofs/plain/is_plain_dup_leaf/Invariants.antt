@@ -1,5 +1,5 @@
 use Rattle.std.specs.List.{All}
-use Rattle.bdb_graph.specs.Plain.{IsInline}
+use Rattle.bdb_slots.specs.Plain.{IsInline}
 use Rattle.bdb_graph.proofs.plain.is_plain_dup_leaf.Given as goal
 
 -- All items are inline where those that are left are.

@@ -1,5 +1,5 @@
-use Rattle.bdb_graph.proofs.SourceLemmas.{of_leaf, of_recno_leaf, of_dup_leaf, of_recno_internal, of_internal, of_hash}
-use Rattle.bdb_graph.proofs.source.Source.of_view.Goals as goal
+use Rattle.bdb_slots.proofs.SourceLemmas.{of_leaf, of_recno_leaf, of_dup_leaf, of_recno_internal, of_internal, of_hash}
+use Rattle.bdb_slots.proofs.source.Source.of_view.Goals as goal
 
 pub returns-in-Leaf-clause-names : goal.returns-in-Leaf-clause-names
 returns-in-Leaf-clause-names c = λ p. rw c.in-Leaf.is (of_leaf p c.in-Leaf.page)

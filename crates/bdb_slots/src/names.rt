@@ -1,5 +1,5 @@
 ghost use Rattle.std.specs.Prelude.{◌≡◌, ◌+◌, ◌*◌, ◌<◌, length, option_to_list};
-ghost use Rattle.bdb_graph.specs.Slots.{child_names, entry_names, hash_names, internal_names, item_names};
+ghost use Rattle.bdb_slots.specs.Slots.{child_names, entry_names, hash_names, internal_names, item_names};
 ghost use Rattle.bdb_layout.specs.Seen.{content_seen};
 ghost use Rattle.bdb_format.specs.References.{content_targets, unless_zero};
 
@@ -21,7 +21,7 @@ pub(crate) fn unless_zero(sort: Sort, target: u32) -> Option<Name>
 }
 
 /// The page that an item names by what it holds.
-pub(crate) fn content_name(content: &Content) -> Option<Name>
+pub fn content_name(content: &Content) -> Option<Name>
     ensures { option_to_list result ≡ content_targets (content_seen content.now) }
 {
     match content {

@@ -9,9 +9,9 @@ use Rattle.bdb_format.specs.declared.references.Sort.TheVariants.{Bucket, HashNe
 use Rattle.bdb_format.specs.Hashing.{first_page}
 use Rattle.bdb_format.specs.Page.{Item, InternalItem, Listed}
 use Rattle.bdb_format.specs.References.{content_targets, no_item, unless_zero}
-use Rattle.bdb_graph.specs.declared.source.Source.{Source}
-use Rattle.bdb_graph.specs.declared.source.Source.TheVariants.{Table}
-use Rattle.bdb_graph.specs.Slots.{hash_names, internal_names, names_from, no_internal_item, slot_names, slots_of}
+use Rattle.bdb_slots.specs.declared.source.Source.{Source}
+use Rattle.bdb_slots.specs.declared.source.Source.TheVariants.{Table}
+use Rattle.bdb_slots.specs.Slots.{hash_names, internal_names, names_from, no_internal_item, slot_names, slots_of}
 
 -- behind the last slot nothing is named
 pub none_from : (source : Source) (slot : ℕ) → slots_of source ≤ slot → names_from source slot ≡ []

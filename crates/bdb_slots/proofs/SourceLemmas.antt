@@ -10,9 +10,9 @@ use Rattle.bdb_format.specs.Page.{Item, InternalItem, Listed, Meta, BtreeFields,
 use Rattle.bdb_format.specs.Page.{RecnoInternal as AnyRecnoInternal, Internal as AnyInternal, Hash as AnyHash}
 use Rattle.bdb_format.specs.References.{content_targets, first_free, targets_in, no_item, unless_zero}
 use Rattle.bdb_format.proofs.TargetLemmas.{each_content, each_own}
-use Rattle.bdb_graph.specs.declared.source.Source.TheVariants.{Nothing, Tree, Table, Leaf, RecnoLeaf, DupLeaf, RecnoInternal, Internal, Hash}
-use Rattle.bdb_graph.specs.Slots.{item_names, names_from, no_recno_item}
-use Rattle.bdb_graph.proofs.SlotLemmas.{each_item, each_of_hash, each_of_internal, each_bucket}
+use Rattle.bdb_slots.specs.declared.source.Source.TheVariants.{Nothing, Tree, Table, Leaf, RecnoLeaf, DupLeaf, RecnoInternal, Internal, Hash}
+use Rattle.bdb_slots.specs.Slots.{item_names, names_from, no_recno_item}
+use Rattle.bdb_slots.proofs.SlotLemmas.{each_item, each_of_hash, each_of_internal, each_bucket}
 
 pub of_nothing : names_from Nothing 0 ≡ []
 unfolding names_from

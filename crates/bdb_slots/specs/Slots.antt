@@ -4,8 +4,8 @@ use Rattle.std.specs.List.{enumerate_from, flat_map, range_with_len}
 use Rattle.bdb_form.specs.declared.view.PageView.{PageView}
 use Rattle.bdb_form.specs.declared.view.PageView.TheVariants.{Zero, Free, Meta, Leaf as LeafPage, Internal as InternalPage, RecnoLeaf as RecnoLeafPage}
 use Rattle.bdb_form.specs.declared.view.PageView.TheVariants.{RecnoInternal as RecnoInternalPage, DupLeaf as DupLeafPage, Hash as HashPage, Overflow, Queue}
-use Rattle.bdb_graph.specs.declared.source.Source.{Source}
-use Rattle.bdb_graph.specs.declared.source.Source.TheVariants.{Nothing, Next, Tree, Table, Leaf, RecnoLeaf, DupLeaf, RecnoInternal, Internal, Hash}
+use Rattle.bdb_slots.specs.declared.source.Source.{Source}
+use Rattle.bdb_slots.specs.declared.source.Source.TheVariants.{Nothing, Next, Tree, Table, Leaf, RecnoLeaf, DupLeaf, RecnoInternal, Internal, Hash}
 use Rattle.bdb_format.specs.declared.pages.RecnoItem.{RecnoItem}
 use Rattle.bdb_format.specs.declared.references.Reference.{Reference}
 use Rattle.bdb_format.specs.declared.references.Sort.{Sort}

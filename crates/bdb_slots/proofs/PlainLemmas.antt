@@ -11,9 +11,9 @@ use Rattle.bdb_format.specs.declared.metadata.Head.{Head}
 use Rattle.bdb_format.specs.File.{page_bytes}
 use Rattle.bdb_format.specs.Page.{Item, Listed, Leaf as AnyLeaf, RecnoLeaf as AnyRecnoLeaf, DupLeaf as AnyDupLeaf, Hash as AnyHash}
 use Rattle.bdb_format.specs.References.{content_targets, item_at, no_item, own_entries, targets_in, unless_zero}
-use Rattle.bdb_graph.specs.declared.source.Source.TheVariants.{Nothing, Next}
-use Rattle.bdb_graph.specs.Plain.{IsInline, IsPlainIn}
-use Rattle.bdb_graph.specs.Slots.{names_from}
+use Rattle.bdb_slots.specs.declared.source.Source.TheVariants.{Nothing, Next}
+use Rattle.bdb_slots.specs.Plain.{IsInline, IsPlainIn}
+use Rattle.bdb_slots.specs.Slots.{names_from}
 
 none_held : (items : List Item) → All IsInline items → flat_map content_targets (map (λ (item : Item). item.content) items) ≡ []
 none_held [] plain = refl

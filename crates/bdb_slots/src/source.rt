@@ -1,7 +1,7 @@
 ghost use Rattle.std.specs.Prelude.{◌≡◌, ◌<◌, ◌≤◌, ◌∷◌, [], ℕ, IfSome, MatchOption, option_to_list};
 ghost use Rattle.bdb_form.specs.Seen.{page_seen};
-ghost use Rattle.bdb_graph.specs.Plain.{IsPlain};
-ghost use Rattle.bdb_graph.specs.Slots.{HasRoom, IsNoMetadata, names_from, slot_names, slots_of};
+ghost use Rattle.bdb_slots.specs.Plain.{IsPlain};
+ghost use Rattle.bdb_slots.specs.Slots.{HasRoom, IsNoMetadata, names_from, slot_names, slots_of};
 ghost use Rattle.bdb_format.specs.References.{targets_in};
 
 use crate::names::{
@@ -16,7 +16,7 @@ use bdb_layout::page_of;
 
 /// What a page names, slot by slot; a slot names at most one page.
 #[derive(Drop)]
-pub(crate) enum Source<'a> {
+pub enum Source<'a> {
     /// No slot.
     Nothing,
     /// One slot: the next page of a free page or of a chain, 0 for none.
@@ -46,7 +46,7 @@ pub(crate) enum Source<'a> {
 #[tactic(auto, using(crate::proofs::SlotLemmas::none_from, crate::proofs::SlotLemmas::next_from))]
 impl<'a> Source<'a> {
     /// What a page names that isn't metadata.
-    pub(crate) fn of_view(view: PageView<'a>) -> Source<'a>
+    pub fn of_view(view: PageView<'a>) -> Source<'a>
         requires { IsNoMetadata view }
         ensures names { (p : ℕ) → names_from result 0 ≡ targets_in p (page_seen view.entry) }
         ensures room { HasRoom result }
@@ -66,7 +66,7 @@ impl<'a> Source<'a> {
     }
 
     /// The same of a page whose items name none.
-    pub(crate) fn of_plain(view: PageView<'a>) -> Source<'a>
+    pub fn of_plain(view: PageView<'a>) -> Source<'a>
         requires other { IsNoMetadata view }
         requires plain { IsPlain (page_seen view) }
         ensures names { (p : ℕ) → names_from result 0 ≡ targets_in p (page_seen view.entry) }
@@ -123,7 +123,7 @@ impl<'a> Source<'a> {
     }
 
     /// The first page that is named from a slot on, and the slot after its own.
-    pub(crate) fn first_from(&self, slot: u32) -> Option<(Name, u32)>
+    pub fn first_from(&self, slot: u32) -> Option<(Name, u32)>
         requires { HasRoom self.now }
         ensures names { MatchOption result (names_from self.now slot ≡ []) (λ first. names_from self.now slot ≡ first.0 ∷ names_from self.now first.1) }
         ensures after { IfSome result (λ first. slot < first.1) }

@@ -1,11 +1,11 @@
 use Rattle.std.proofs.Common.{◌∙◌, ap, subst}
 use Rattle.bdb_format.specs.declared.references.Sort.TheVariants.{HashNext}
 use Rattle.bdb_form.specs.Seen.{page_seen}
-use Rattle.bdb_graph.specs.Plain.{IsPlain}
-use Rattle.bdb_graph.specs.Slots.{names_from}
-use Rattle.bdb_graph.specs.declared.source.Source.TheVariants.{Next}
-use Rattle.bdb_graph.proofs.PlainLemmas.{plain_leaf, plain_recno_leaf, plain_dup_leaf, plain_bucket}
-use Rattle.bdb_graph.proofs.source.Source.of_plain.Goals as goal
+use Rattle.bdb_slots.specs.Plain.{IsPlain}
+use Rattle.bdb_slots.specs.Slots.{names_from}
+use Rattle.bdb_slots.specs.declared.source.Source.TheVariants.{Next}
+use Rattle.bdb_slots.proofs.PlainLemmas.{plain_leaf, plain_recno_leaf, plain_dup_leaf, plain_bucket}
+use Rattle.bdb_slots.proofs.source.Source.of_plain.Goals as goal
 
 pub returns-in-Leaf-clause-names : goal.returns-in-Leaf-clause-names
 returns-in-Leaf-clause-names c = λ p. rw c.in-Leaf.is (plain_leaf p c.in-Leaf._page (subst (λ view. IsPlain (page_seen view)) c.in-Leaf.is c.requires.plain))
