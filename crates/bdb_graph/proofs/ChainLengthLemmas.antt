@@ -26,14 +26,14 @@ use Rattle.bdb_format.proofs.TypeLemmas.{if_type}
 use Rattle.bdb_format.proofs.VerdictLemmas.{AllFail, none_is_first_row}
 use Rattle.bdb_graph.specs.declared.tally.Kinds.{Kinds}
 use Rattle.bdb_graph.specs.ChainLengths.{AreLengths, chain_length, kept_length, length_in, may_head}
-use Rattle.bdb_graph.specs.Formed.{IsAccepted, IsFormed}
-use Rattle.bdb_graph.specs.Linked.{FitsChain, IsForest}
+use Rattle.bdb_image.specs.Formed.{IsAccepted, IsFormed}
+use Rattle.bdb_image.specs.Linked.{FitsChain, IsForest}
 use Rattle.bdb_graph.specs.Walked.{IsWalked, names_head}
-use Rattle.bdb_graph.proofs.FirstLemmas.{formed_accepted}
+use Rattle.bdb_image.proofs.FirstLemmas.{formed_accepted}
 use Rattle.bdb_graph.proofs.ForestLemmas.{sound_graph}
-use Rattle.bdb_graph.proofs.FormedLemmas.{IsPaged, accepted_paged}
+use Rattle.bdb_image.proofs.FormedLemmas.{IsPaged, accepted_paged}
 use Rattle.bdb_graph.proofs.LinkedLemmas.{target_inside}
-use Rattle.bdb_graph.proofs.PieceLemmas.{piece_fits}
+use Rattle.bdb_image.proofs.PieceLemmas.{piece_fits}
 
 -- One page.
 

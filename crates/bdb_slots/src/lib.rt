@@ -4,5 +4,5 @@
 mod names;
 mod source;
 
-pub use names::{content_name};
-pub use source::{Source};
+pub use names::content_name;
+pub use source::Source;

@@ -1,7 +1,7 @@
 //! The command that prints the pairs between two keys.
 ghost use Rattle.std.specs.Prelude.{◌≡◌, ◌<◌, [], IsTrue, List, MatchOption, Option, Some, false, is_some, length, not, option_copied, true, ℕ};
 ghost use Rattle.bdb_file.specs.Named.{database_at};
-ghost use Rattle.bdb_graph.specs.Linked.{HasMetadata};
+ghost use Rattle.bdb_image.specs.Linked.{HasMetadata};
 ghost use Rattle.bdb_format.specs.ContentRows.{database_faults};
 ghost use Rattle.bdb_format.specs.Databases.{databases};
 ghost use Rattle.bdb_format.specs.File.{file_of};
