@@ -4,20 +4,15 @@ ghost use Rattle.std.specs.Prelude.{true, ℕ};
 ghost use Rattle.bdb_format.specs.Digits.{number_in};
 ghost use Rattle.bdb_tool.specs.Commands.{Action as ModelAction, Request as ModelRequest, at_most, command_of, command_on, commands, convert_row, dump_row};
 ghost use Rattle.bdb_tool.specs.Commands.{get_row, kind_named, load_row, onto_file, plain_row, range_row, reading_row, repair_row, row_named, rows_by};
-ghost use Rattle.bdb_tool.specs.Commands.{salvage_row, trial_row, usage};
-ghost use Rattle.bdb_model.specs.Change.{change};
+ghost use Rattle.bdb_tool.specs.Commands.{salvage_row, trial_row};
 ghost use Rattle.bdb_model.specs.Command.{asked_name, limit_of};
-ghost use Rattle.bdb_tool.specs.Parts.{Tells};
 ghost use Rattle.bdb_tool.specs.WordsSeen.{AreOnto, IsFitAction, IsFitCommand, IsReadBy, IsSeen, action_seen, reading_seen, row_meant};
 
-use crate::finish::tell;
 use crate::guesses::{guess_asked, order_named};
 use crate::options::{OptionWord, read_arguments};
 use crate::shapes::{duplicates_named, shape_asked};
-use crate::status::USAGE;
 use bdb_file::Rows;
 use bdb_format::{Kind, Order, number_in};
-use bdb_io::Sink;
 use bdb_model::Words;
 use bdb_repair::Shape;
 use bdb_rescue::Guess;
@@ -209,17 +204,6 @@ pub fn command_of<'w>(words: &'w Words) -> Option<Command<'w>>
     let first = words.get(0)?;
     let word = command_word(first)?;
     command_by(word, words)
-}
-
-/// Tells the names of all commands, where the words are none of them, and answers the status of that or of a write fault.
-pub fn tell_usage<E: Sink>(err: &mut E) -> u8
-    ensures { Tells usage.err 2 (change E.written E.faults err.old err.new) result }
-{
-    tell(
-        err,
-        b"usage: bdbtool verify, list, get, dump, load, salvage, trial, range, convert, stat or repair\n",
-        USAGE,
-    )
 }
 
 /// The file that is opened as the base: that of a `load` with `--onto`. It takes no memory.

@@ -23,5 +23,6 @@ mod task;
 mod telling;
 mod text;
 
-pub use command::{onto_file, tell_usage};
+pub use command::onto_file;
+pub use finish::tell_usage;
 pub use program::{run, run_counted, run_onto};

@@ -8,8 +8,8 @@ ghost use Rattle.bdb_tool.specs.WordsSeen.{AreOnto};
 
 use crate::answer::answer;
 use crate::building::answer_onto;
-use crate::command::{base_limit, tell_usage};
-use crate::finish::{tell, tell_memory};
+use crate::command::base_limit;
+use crate::finish::{tell, tell_memory, tell_usage};
 use crate::status::{READ_FAULT, TOO_LARGE};
 use crate::task::{Stop, input_of, task_of};
 use crate::text::{base_too_large_line, too_large_line};
