@@ -1,7 +1,7 @@
 ghost use Rattle.std.specs.Prelude.{◌≢◌};
 ghost use Rattle.bdb_model.specs.Change.{change};
 ghost use Rattle.bdb_model.specs.Lines.{memory_line};
-ghost use Rattle.bdb_tool.specs.Commands.{usage};
+ghost use Rattle.bdb_tool_words.specs.Commands.{usage};
 ghost use Rattle.bdb_tool.specs.Parts.{Reports, Tells};
 ghost use Rattle.bdb_tool_lines.specs.Printing.{Writes};
 
