@@ -1,8 +1,10 @@
 #!/usr/bin/env python3
-"""definitions.py [--check]: writes docs/DEFINITIONS.md, from its marker on, of the comments above the definitions in crates/*/specs.
+"""definitions.py [--check]: writes docs/DEFINITIONS.md, from its marker on: the definitions that the contracts of `run` rest on, with the comments above them.
 
-With --check nothing is written; the status is 1 where the page isn't what the comments give. The words above the marker are written by hand."""
+They are found by their names, from the clauses of the calls of ROOTS on. With --check nothing is written; the status is 1 where the page isn't what the
+comments give. The words above the marker are written by hand."""
 
+import functools
 import pathlib
 import re
 import sys
@@ -10,25 +12,18 @@ import sys
 TOP = pathlib.Path(__file__).resolve().parent.parent
 PAGE = TOP / "docs/DEFINITIONS.md"
 MARKER = "<!-- From here on the page is written by tools/definitions.py. -->\n"
-DEFINITION = re.compile(r"(?:abbrev |unfoldable |opaque )?pub (?!use |mod )(?:record |data )?(?P<name>[^\s({]+)(?P<rest>.*)")
-# The definitions of these crates are the bytes of files, and answers for them.
-BYTES = re.compile(r"^sample_|_tests$|^check_images$")
+# The calls whose clauses are the promise, and the file that they stand in.
+ROOTS = TOP / "crates/bdb_tool/src/program.rt", ("run", "run_counted", "run_onto")
+NAME = r"[^\W\d][\w'-]*"
+DEFINITION = re.compile(r"(?:abbrev |unfoldable |opaque )?(?:pub )?(?:(?:record|data) (?P<type>[^\s({]+)|(?P<function>[^\s({=]+)(?= :))(?P<rest>.*)")
+IMPORT = re.compile(r"^(?:ghost |pub )*use Rattle\.(\w+)\.specs\.(\w+)\.\{([^}]*)\}", re.MULTILINE)
+PASSED_ON = re.compile(r"^pub use Rattle\.(\w+)\.specs\.(\w+)$", re.MULTILINE)
 
 
 def crates():
     for line in (TOP / "crates.txt").read_text(encoding="utf-8").splitlines():
         if ":" in line.split("#")[0]:
             yield line.split(":")[0].split()[0]
-
-
-def files_of(crate):
-    """The files of definitions, in the order of specs/Lib.antt."""
-    specs = TOP / "crates" / crate / "specs"
-    lib = specs / "Lib.antt"
-    if not lib.exists():
-        return []
-    names = re.findall(r"^pub mod (\w+)$", lib.read_text(encoding="utf-8"), re.MULTILINE)
-    return [specs / f"{name}.antt" for name in names if (specs / f"{name}.antt").exists()]
 
 
 def cell(text):
@@ -42,7 +37,7 @@ def code(text):
 def shape(lines, at):
     """Of a definition without a comment: its type, or the fields of its record."""
     rest = DEFINITION.match(lines[at])["rest"].strip()
-    if lines[at].startswith("pub "):
+    if re.match(r"(?:pub )?(?:record|data) ", lines[at]):
         fields = []
         for line in lines[at + 1 :]:
             if not line.startswith("  "):
@@ -53,51 +48,143 @@ def shape(lines, at):
     return f"of type {code(rest)}"
 
 
-def groups_of_lines(lines):
-    """Definitions, each with the comment above it or its shape; a comment that stands by itself is a heading, with no definition."""
-    groups, comment = [], []
+class Definition:
+    """A definition: its words, and its text without comments."""
+
+    def __init__(self, name, words):
+        self.name, self.words, self.text = name, words, []
+
+
+@functools.cache
+def parsed(file):
+    """What a file of definitions is about, its definitions in order, headings (without a name) among them, and what it imports, by its name there."""
+    lines = file.read_text(encoding="utf-8").splitlines()
+    found, comment, constructors = [], [], {}
     for at, line in enumerate(lines):
-        found = DEFINITION.match(line)
+        begun = DEFINITION.match(line)
         if line.startswith("-- "):
             comment.append(line[3:].strip())
             continue
-        if found:
-            groups.append([cell(" ".join(comment)) or shape(lines, at), found["name"]])
+        if begun:
+            found.append(Definition(begun["type"] or begun["function"], cell(" ".join(comment)) or shape(lines, at)))
         elif comment:
-            groups.append([cell(" ".join(comment)), None])
+            found.append(Definition(None, cell(" ".join(comment))))
         comment = []
-    return groups
+        if found and not line.startswith(("use ", "pub use ", "#")):
+            found[-1].text.append(line)
+            inner = re.match(rf"  (?:pub )?({NAME}) :", line)
+            if inner and found[-1].name:
+                constructors[inner[1]] = found[-1].name
+    says = found.pop(0).words if found and not found[0].name else ""
+    return says, found, imports(file), constructors
 
 
-def groups_of(file):
-    groups = groups_of_lines(file.read_text(encoding="utf-8").splitlines())
-    if groups and not groups[0][1]:
-        return groups[0][0], groups[1:]
-    return "", groups
+def imports(file):
+    found = {}
+    for crate, module, names in IMPORT.findall(file.read_text(encoding="utf-8")):
+        for name in filter(None, map(str.strip, names.split(","))):
+            original, _, here = name.partition(" as ")
+            found[(here or original).strip()] = (crate, module, original.strip())
+    return found
 
 
-def table(file):
-    says, groups = groups_of(file)
+@functools.cache
+def passed_on(crate):
+    """The files of other crates that a crate passes on under its own name."""
+    lib = TOP / "crates" / crate / "specs/Lib.antt"
+    return {module: owner for owner, module in PASSED_ON.findall(lib.read_text(encoding="utf-8"))} if lib.exists() else {}
+
+
+def resolve(crate, module, name):
+    """The file and the name of the definition that an import brings in; nothing where it is the kit's."""
+    file = TOP / "crates" / crate / "specs" / f"{module}.antt"
+    if not file.exists():
+        return resolve(passed_on(crate)[module], module, name) if module in passed_on(crate) else None
+    _, definitions, brought, constructors = parsed(file)
+    if any(it.name == name for it in definitions):
+        return file, name
+    if name in constructors:
+        return file, constructors[name]
+    return resolve(*brought[name]) if name in brought else None
+
+
+def named_in(text, file):
+    """The definitions that a text of a file names."""
+    _, definitions, brought, constructors = parsed(file)
+    own = {it.name for it in definitions}
+    for word in set(re.findall(NAME, text)):
+        if word in own:
+            yield file, word
+        elif word in constructors:
+            yield file, constructors[word]
+        elif word in brought and (found := resolve(*brought[word])):
+            yield found
+
+
+def clauses():
+    """What the clauses of the calls of ROOTS name."""
+    file, calls = ROOTS
+    text = file.read_text(encoding="utf-8")
+    brought = imports(file)
+    for call in calls:
+        contract = re.search(rf"pub fn {call}<.*?\n\{{\n", text, re.DOTALL)[0]
+        for word in set(re.findall(NAME, contract)):
+            if word in brought and (found := resolve(*brought[word])):
+                yield found
+
+
+def rested_on():
+    """By its file, the names of the definitions that the clauses rest on; and the files, each after those that it rests on."""
+    names, order, pending = {}, [], list(clauses())
+    below = {}
+    while pending:
+        file, name = pending.pop()
+        if name in names.setdefault(file, set()):
+            continue
+        names[file].add(name)
+        for it in parsed(file)[1]:
+            if it.name == name:
+                for other, deeper in named_in("\n".join(it.text), file):
+                    below.setdefault(file, set()).add(other)
+                    pending.append((other, deeper))
+
+    def place(file):
+        if file in order or file in going:
+            return
+        going.add(file)
+        for other in sorted(below.get(file, set()) - {file}):
+            place(other)
+        order.append(file)
+
+    going, places = set(), {crate: at for at, crate in enumerate(crates())}
+    for file in sorted(names, key=lambda it: (places[it.parent.parent.name], it.name)):
+        place(file)
+    return names, order
+
+
+def table(file, names):
+    """The rows of a file: its definitions that are rested on, and a heading where one of those that stand below it is."""
+    says, definitions, _, _ = parsed(file)
     lines = [f"### {file.parent.parent.name}: {file.name}", "", *([says.rstrip(".") + ".", ""] if says else [])]
     lines += ["| Definition | What it says |", "|---|---|"]
-    for words, name in groups:
-        lines.append(f"| {code(name)} | {words} |" if name else f"| | *{words}* |")
+    heading = None
+    for it in definitions:
+        if not it.name:
+            heading = it.words
+        elif it.name in names:
+            lines += [f"| | *{heading}* |"] if heading else []
+            lines.append(f"| {code(it.name)} | {it.words} |")
+            heading = None
     return [*lines, ""]
 
 
 def written():
-    lines = []
-    for crate in crates():
-        files = files_of(crate)
-        if files and not BYTES.search(crate):
-            lines += [f"## {crate}", ""]
-            for file in files:
-                lines += table(file)
-    lines += ["## Sample files, as lists", "", "| File | What it has |", "|---|---|"]
-    for crate in crates():
-        if BYTES.search(crate):
-            lines += [f"| {code(f'{crate}/specs/{file.name}')} | {groups_of(file)[0]} |" for file in files_of(crate)]
-    return "\n".join([*lines, ""])
+    names, order = rested_on()
+    count = sum(map(len, names.values()))
+    lines = [f"{count:,} definitions in {len(order)} files.", ""]
+    for file in order:
+        lines += table(file, names[file])
+    return "\n".join(lines)
 
 
 def main():
