@@ -27,8 +27,8 @@ use Rattle.bdb_format.specs.Verdict.{holding, structure_faults}
 use Rattle.bdb_format.proofs.MemberLemmas.{first_member, in_flat_map, in_map, in_range, later_member, none_passes}
 use Rattle.bdb_format.proofs.VerdictLemmas.{AllFail, all_fail, no_codes_at}
 use Rattle.bdb_format.specs.Flags.{is_recno}
-use Rattle.bdb_graph.specs.Linked.{FitsLeafPage, HasMetadata, IsForest}
-use Rattle.bdb_graph.specs.Slots.{no_internal_item}
+use Rattle.bdb_image.specs.Linked.{FitsLeafPage, HasMetadata, IsForest}
+use Rattle.bdb_slots.specs.Slots.{no_internal_item}
 use Rattle.bdb_graph.proofs.LinkedLemmas.{root_fits}
 use Rattle.bdb_overflow.specs.Datum.{FitsContent}
 use Rattle.bdb_overflow.proofs.ContentLemmas.{key_fits}

@@ -1,5 +1,5 @@
 ghost use Rattle.std.specs.Prelude.{◌≡◌, [], false, IfErr, OnOk, if◌then◌else◌};
-ghost use Rattle.bdb_graph.specs.Linked.{FitsTreeRoot, HasMetadata, IsForest};
+ghost use Rattle.bdb_image.specs.Linked.{FitsTreeRoot, HasMetadata, IsForest};
 ghost use Rattle.bdb_faults.specs.Named.{HasNoted};
 ghost use Rattle.bdb_faults.specs.Notes.{NotesAll};
 ghost use Rattle.bdb_format.specs.ContentRows.{database_faults, has_wrong_count, inner_pages};

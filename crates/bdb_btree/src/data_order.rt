@@ -10,7 +10,7 @@ ghost use Rattle.bdb_format.specs.Contents.{data_of};
 ghost use Rattle.bdb_format.specs.File.{file_of};
 ghost use Rattle.bdb_format.specs.Page.{Tree};
 ghost use Rattle.bdb_format.specs.Verdict.{structure_faults};
-ghost use Rattle.bdb_graph.specs.Linked.{FitsDupRoot};
+ghost use Rattle.bdb_image.specs.Linked.{FitsDupRoot};
 
 use crate::held::HeldPair;
 use crate::order::is_not_above;

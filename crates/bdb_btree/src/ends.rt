@@ -2,7 +2,7 @@ ghost use Rattle.std.specs.Prelude.{◌≡◌, IfOk, OnOk, Some};
 ghost use Rattle.std.specs.Option.{option_map};
 ghost use Rattle.bdb_format.specs.Contents.{tree_pairs};
 ghost use Rattle.bdb_format.specs.File.{File, file_of};
-ghost use Rattle.bdb_graph.specs.Linked.{FitsLeafPage};
+ghost use Rattle.bdb_image.specs.Linked.{FitsLeafPage};
 ghost use Rattle.bdb_overflow.specs.Held.{FitsAny, FitsHeld, value_held};
 ghost use Rattle.bdb_btree.specs.Bounds.{DontFall, OrderedIf, ends_of, greater_of, joined, lesser_of, no_ends, widen};
 ghost use Rattle.bdb_btree.specs.Held.{FitsEnds, ends_seen};

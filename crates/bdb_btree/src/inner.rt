@@ -1,7 +1,7 @@
 ghost use Rattle.std.specs.Prelude.{◌≡◌, IfSome, None};
 ghost use Rattle.bdb_format.specs.File.{file_of, page_at};
 ghost use Rattle.bdb_format.specs.Page.{Internal};
-ghost use Rattle.bdb_graph.specs.Linked.{FitsLeafPage, IsForest};
+ghost use Rattle.bdb_image.specs.Linked.{FitsLeafPage, IsForest};
 ghost use Rattle.bdb_btree.specs.Counts.{IsKeyed};
 
 use bdb_form::{InternalView, PageView};

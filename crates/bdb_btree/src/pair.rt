@@ -4,7 +4,7 @@ ghost use Rattle.bdb_format.specs.File.{file_of, page_at};
 ghost use Rattle.bdb_format.specs.Page.{Leaf};
 ghost use Rattle.bdb_format.specs.References.{item_at};
 ghost use Rattle.bdb_form.specs.Pairs.{pair_seen as view_seen};
-ghost use Rattle.bdb_graph.specs.Linked.{IsForest};
+ghost use Rattle.bdb_image.specs.Linked.{IsForest};
 ghost use Rattle.bdb_btree.specs.Pairs.{pair_seen, stored_pair};
 ghost use Rattle.bdb_overflow.specs.Datum.{FitsContent};
 ghost use Rattle.bdb_overflow.specs.Held.{FitsHeld, value_held};

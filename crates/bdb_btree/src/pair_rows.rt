@@ -1,5 +1,5 @@
 ghost use Rattle.std.specs.Prelude.{◌≡◌, ◌&&◌, [], IfOk, OnOk, not};
-ghost use Rattle.bdb_graph.specs.Linked.{FitsTreeRoot};
+ghost use Rattle.bdb_image.specs.Linked.{FitsTreeRoot};
 ghost use Rattle.bdb_faults.specs.Notes.{Notes};
 ghost use Rattle.bdb_format.specs.ContentRows.{is_duplicate};
 ghost use Rattle.bdb_format.specs.Contents.{tree_pairs};

@@ -4,7 +4,7 @@ ghost use Rattle.std.specs.Iterator.{YieldsFirstBy, item_count};
 ghost use Rattle.bdb_format.specs.Contents.{pairs_of, tree_pairs};
 ghost use Rattle.bdb_format.specs.Verdict.{structure_faults};
 ghost use Rattle.bdb_format.specs.File.{file_of};
-ghost use Rattle.bdb_graph.specs.Linked.{FitsLeafPage, IsForest};
+ghost use Rattle.bdb_image.specs.Linked.{FitsLeafPage, IsForest};
 ghost use Rattle.bdb_btree.specs.Pairs.{AreLeaves, left_of, pair_seen};
 ghost use Rattle.bdb_tree.specs.Trees.{IsRoot};
 

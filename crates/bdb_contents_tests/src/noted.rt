@@ -1,7 +1,7 @@
 //! All faults of what a database holds. Values: docs/FORMAT.md, "Stage 8, contents".
 
 ghost use Rattle.std.specs.Prelude.{◌≡◌, [], IsTrue, false};
-ghost use Rattle.bdb_graph.specs.Linked.{HasMetadata};
+ghost use Rattle.bdb_image.specs.Linked.{HasMetadata};
 ghost use Rattle.bdb_format.specs.File.{file_of};
 ghost use Rattle.bdb_format.specs.Flags.{is_recno};
 ghost use Rattle.bdb_format.specs.Page.{BtreeFields, HashFields};

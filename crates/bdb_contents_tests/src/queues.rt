@@ -1,7 +1,7 @@
 //! The records of queues, listed and found. Values: docs/FORMAT.md, "Queue metadata, type 10" and "Databases of a file".
 
 ghost use Rattle.std.specs.Prelude.{◌≡◌};
-ghost use Rattle.bdb_graph.specs.Linked.{HasMetadata};
+ghost use Rattle.bdb_image.specs.Linked.{HasMetadata};
 ghost use Rattle.bdb_format.specs.File.{file_of};
 ghost use Rattle.bdb_format.specs.Page.{QueueFields};
 

@@ -1,7 +1,7 @@
 //! The leaves of ranges, and their pairs. Values: docs/FORMAT.md, "Items" and "Ranges".
 
 ghost use Rattle.std.specs.Prelude.{◌≡◌, [], false};
-ghost use Rattle.bdb_graph.specs.Linked.{HasMetadata};
+ghost use Rattle.bdb_image.specs.Linked.{HasMetadata};
 ghost use Rattle.bdb_format.specs.ContentRows.{database_faults};
 ghost use Rattle.bdb_format.specs.File.{file_of};
 ghost use Rattle.bdb_format.specs.Page.{BtreeFields};

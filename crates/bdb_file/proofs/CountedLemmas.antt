@@ -16,7 +16,7 @@ use Rattle.bdb_format.specs.Master.{is_named_kind, is_page, master_in}
 use Rattle.bdb_format.specs.Page.{Page, Meta}
 use Rattle.bdb_format.specs.Verdict.{master_faults}
 use Rattle.bdb_format.proofs.MemberLemmas.{first_member, in_filter, later_member, no_member, of_map}
-use Rattle.bdb_graph.specs.Linked.{IsForest}
+use Rattle.bdb_image.specs.Linked.{IsForest}
 use Rattle.bdb_file.specs.AnyOrder.{faults_by_rows}
 use Rattle.bdb_master.specs.Entries.{NamedPair, entries_naming, fault_at, master_entries}
 use Rattle.bdb_file.specs.Named.{entry_database}

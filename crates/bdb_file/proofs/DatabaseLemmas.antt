@@ -16,7 +16,7 @@ use Rattle.bdb_format.specs.Verdict.{holding, contents_faults}
 use Rattle.bdb_format.proofs.MemberLemmas.{in_flat_map, in_map, is_empty, no_member, of_filter, of_flat_map, of_map, of_range, in_filter}
 use Rattle.bdb_format.proofs.VerdictLemmas.{IsOfStage, of_by_page}
 use Rattle.bdb_format.proofs.FileLemmas.{page_is}
-use Rattle.bdb_graph.specs.Linked.{HasMetadata, meta_pages}
+use Rattle.bdb_image.specs.Linked.{HasMetadata, meta_pages}
 use Rattle.bdb_graph.proofs.ReadLemmas.{is_of_page}
 use Rattle.bdb_faults.specs.Notes.{NotesAll}
 use Rattle.bdb_faults.proofs.SinkLemmas.{notes_none}

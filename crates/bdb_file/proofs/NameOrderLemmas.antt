@@ -22,7 +22,7 @@ use Rattle.bdb_format.proofs.MemberLemmas.{first_member, in_map, is_empty, later
 use Rattle.bdb_format.proofs.VerdictLemmas.{AllFail, all_fail, no_codes_at, none_in}
 use Rattle.bdb_format.proofs.RepeatLemmas.{repeated_after, repeated_is}
 use Rattle.bdb_format.specs.Flags.{is_recno}
-use Rattle.bdb_graph.specs.Linked.{HasMetadata, IsForest}
+use Rattle.bdb_image.specs.Linked.{HasMetadata, IsForest}
 use Rattle.bdb_graph.proofs.LinkedLemmas.{root_fits}
 use Rattle.bdb_graph.proofs.ReadLemmas.{master_is, master_keys}
 use Rattle.bdb_btree.specs.Bounds.{DontFall, NoneBelow}

@@ -16,8 +16,8 @@ use Rattle.bdb_format.specs.Page.{Metadata, Page, Meta}
 use Rattle.bdb_format.specs.Verdict.{master_faults}
 use Rattle.bdb_format.proofs.MemberLemmas.{no_member}
 use Rattle.bdb_format.proofs.FileLemmas.{last_page}
-use Rattle.bdb_graph.specs.Linked.{IsForest}
-use Rattle.bdb_graph.specs.Metas.{meta_in}
+use Rattle.bdb_image.specs.Linked.{IsForest}
+use Rattle.bdb_image.specs.Metas.{meta_in}
 use Rattle.bdb_master.specs.Entries.{NamedPair, fault_at, master_entries, named, target_fault}
 use Rattle.bdb_file.specs.Named.{entry_database}
 use Rattle.bdb_master.proofs.MasterLemmas.{AreInside, in_targets, master_inside}

@@ -23,7 +23,7 @@ use Rattle.bdb_format.specs.Verdict.{Faulty, Judgement, contents_faults, faults_
 use Rattle.bdb_format.proofs.MemberLemmas.{first_member, in_filter, in_flat_map, in_map, member_cases, no_member, of_filter, of_flat_map, of_map}
 use Rattle.bdb_format.proofs.VerdictLemmas.{InOrder, IsOfStage, of_by_page, or_else_both, stage_in_order, stages_in_order, late_fault}
 use Rattle.bdb_btree.proofs.CheckLemmas.{is_code as code_holding, of_code as holding_code}
-use Rattle.bdb_graph.specs.Linked.{meta_pages}
+use Rattle.bdb_image.specs.Linked.{meta_pages}
 use Rattle.bdb_graph.proofs.ReadLemmas.{master_is}
 use Rattle.bdb_file.specs.AnyOrder.{contents_by, counts, holds_under, is_of_order, stages_by}
 use Rattle.bdb_file.specs.Contents.{faults_on}

@@ -11,7 +11,7 @@ use Rattle.bdb_format.specs.Graph.{is_meta}
 use Rattle.bdb_format.specs.Page.{Metadata, BtreeFields, HashFields, QueueFields}
 use Rattle.bdb_format.specs.Verdict.{contents_faults}
 use Rattle.bdb_format.proofs.MemberLemmas.{first_member, in_filter, in_flat_map, no_member}
-use Rattle.bdb_graph.specs.Linked.{HasMetadata, meta_pages}
+use Rattle.bdb_image.specs.Linked.{HasMetadata, meta_pages}
 use Rattle.bdb_hash.specs.Scanned.{KeysDiffer}
 use Rattle.bdb_file.specs.AnyOrder.{contents_by, counts, faults_by_rows}
 use Rattle.bdb_file.specs.Contents.{faults_on}

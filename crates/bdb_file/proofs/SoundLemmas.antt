@@ -15,7 +15,7 @@ use Rattle.bdb_format.specs.Verdict.{contents_faults, faults_of, structure_fault
 use Rattle.bdb_format.proofs.MemberLemmas.{first_member, in_flat_map, is_empty, no_member, of_flat_map, of_map}
 use Rattle.bdb_format.proofs.VerdictLemmas.{no_stage}
 use Rattle.bdb_format.proofs.FileLemmas.{past_last}
-use Rattle.bdb_graph.specs.Linked.{HasMetadata}
+use Rattle.bdb_image.specs.Linked.{HasMetadata}
 use Rattle.bdb_graph.proofs.ReadLemmas.{is_of_page}
 use Rattle.bdb_file.specs.Named.{database_at, no_database}
 use Rattle.bdb_file.proofs.ContentLemmas.{in_contents}

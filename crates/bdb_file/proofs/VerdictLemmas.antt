@@ -17,8 +17,8 @@ use Rattle.bdb_format.proofs.FileLemmas.{count_is, last_page}
 use Rattle.bdb_faults.specs.All.{IsAllOf}
 use Rattle.bdb_faults.specs.declared.named.AllError.{AllError}
 use Rattle.bdb_faults.specs.declared.named.AllError.TheVariants.{Faults, Memory}
-use Rattle.bdb_graph.specs.Formed.{IsFormed}
-use Rattle.bdb_graph.proofs.FirstLemmas.{formed_last}
+use Rattle.bdb_image.specs.Formed.{IsFormed}
+use Rattle.bdb_image.proofs.FirstLemmas.{formed_last}
 use Rattle.bdb_file.specs.AnyOrder.{contents_by, faults_by_rows, stages_by, verdict_by}
 use Rattle.bdb_file.specs.Whole.{IsVerdictBy, told_as}
 use Rattle.bdb_file.specs.declared.rows.Rows.{Rows}

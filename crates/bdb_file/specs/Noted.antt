@@ -10,7 +10,7 @@ use Rattle.bdb_file.specs.Contents.{faults_on}
 use Rattle.bdb_format.specs.declared.kinds.Fault.{Fault}
 use Rattle.bdb_format.specs.File.{File, page_at}
 use Rattle.bdb_format.specs.Master.{master_in}
-use Rattle.bdb_graph.specs.Linked.{meta_pages}
+use Rattle.bdb_image.specs.Linked.{meta_pages}
 
 -- just these faults were noted, in any order and repeats allowed
 abbrev pub HasJust : (List Fault → Type 0) → List Fault → Type 0

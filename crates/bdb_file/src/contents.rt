@@ -7,8 +7,8 @@ ghost use Rattle.bdb_format.specs.ContentRows.{database_faults};
 ghost use Rattle.bdb_format.specs.Master.{master_in};
 ghost use Rattle.bdb_format.specs.Page.{Meta as MetaPage};
 ghost use Rattle.bdb_format.specs.Verdict.{structure_faults};
-ghost use Rattle.bdb_graph.specs.Linked.{HasMetadata};
-ghost use Rattle.bdb_graph.specs.Metas.{meta_seen};
+ghost use Rattle.bdb_image.specs.Linked.{HasMetadata};
+ghost use Rattle.bdb_image.specs.Metas.{meta_seen};
 ghost use Rattle.bdb_format.specs.File.{file_of};
 
 use crate::Rows;

@@ -1,7 +1,7 @@
 ghost use Rattle.std.specs.Prelude.{◌≡◌, ◌+◌, ◌≤◌, [], IsTrue};
 ghost use Rattle.std.specs.Iterator.{YieldsFirstBy, item_count};
-ghost use Rattle.bdb_graph.specs.Linked.{HasMetadata};
-ghost use Rattle.bdb_graph.specs.Metas.{meta_seen};
+ghost use Rattle.bdb_image.specs.Linked.{HasMetadata};
+ghost use Rattle.bdb_image.specs.Metas.{meta_seen};
 ghost use Rattle.bdb_file.specs.Lookup.{data_left, most_steps};
 ghost use Rattle.bdb_format.specs.ContentRows.{database_faults};
 ghost use Rattle.bdb_format.specs.Databases.{data_under};

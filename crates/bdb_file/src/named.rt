@@ -2,7 +2,7 @@ ghost use Rattle.std.specs.Prelude.{◌≡◌, ◌≤◌, ◌++◌, [], IfOk, On
 ghost use Rattle.std.specs.Option.{ForSome};
 ghost use Rattle.bdb_master.specs.Entries.{master_entries};
 ghost use Rattle.bdb_file.specs.Named.{entry_database};
-ghost use Rattle.bdb_graph.specs.Metas.{meta_seen};
+ghost use Rattle.bdb_image.specs.Metas.{meta_seen};
 ghost use Rattle.bdb_format.specs.Databases.{database_on, databases, is_name};
 ghost use Rattle.std.specs.List.{flat_map};
 ghost use Rattle.bdb_format.specs.File.{file_of};
@@ -22,7 +22,7 @@ pub(crate) struct NamedMeta {
 }
 
 impl Model for NamedMeta {
-    ghost use Rattle.bdb_graph.specs.Metas.{meta_seen};
+    ghost use Rattle.bdb_image.specs.Metas.{meta_seen};
     ghost use Rattle.bdb_format.specs.Databases.{Database};
 
     ghost Value = { Database };

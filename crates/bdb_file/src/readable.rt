@@ -2,8 +2,8 @@ ghost use Rattle.std.specs.Prelude.{◌≡◌, ◌<◌, [], IfSome, length, opti
 ghost use Rattle.bdb_file.specs.declared.rows.Rows.TheVariants.{AnyOrder};
 ghost use Rattle.bdb_file.specs.AnyOrder.{faults_by_rows};
 ghost use Rattle.bdb_file.specs.Named.{IsReadable, database_at};
-ghost use Rattle.bdb_graph.specs.Linked.{HasMetadata};
-ghost use Rattle.bdb_graph.specs.Metas.{meta_seen};
+ghost use Rattle.bdb_image.specs.Linked.{HasMetadata};
+ghost use Rattle.bdb_image.specs.Metas.{meta_seen};
 ghost use Rattle.bdb_format.specs.Databases.{databases, place_of, settings_of};
 ghost use Rattle.bdb_format.specs.File.{file_of};
 ghost use Rattle.bdb_format.specs.HeadOf.{head_of};

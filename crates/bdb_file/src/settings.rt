@@ -1,5 +1,5 @@
 ghost use Rattle.std.specs.Prelude.{◌≡◌};
-ghost use Rattle.bdb_graph.specs.Metas.{meta_seen};
+ghost use Rattle.bdb_image.specs.Metas.{meta_seen};
 ghost use Rattle.bdb_format.specs.Databases.{btree_settings, hash_settings, queue_settings, recno_settings, settings_of};
 
 use bdb_format::{BtreeMeta, HashMeta, Head, Kind, QueueMeta, Settings, plain_settings};

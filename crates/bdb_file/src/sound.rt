@@ -1,7 +1,7 @@
 ghost use Rattle.std.specs.Prelude.{◌≡◌, ◌<◌, [], IfSome, length, option_copied};
 ghost use Rattle.bdb_file.specs.Named.{database_at};
-ghost use Rattle.bdb_graph.specs.Linked.{HasMetadata};
-ghost use Rattle.bdb_graph.specs.Metas.{meta_seen};
+ghost use Rattle.bdb_image.specs.Linked.{HasMetadata};
+ghost use Rattle.bdb_image.specs.Metas.{meta_seen};
 ghost use Rattle.bdb_format.specs.ContentRows.{database_faults};
 ghost use Rattle.bdb_format.specs.Databases.{databases, place_of, settings_of};
 ghost use Rattle.bdb_format.specs.File.{file_of};

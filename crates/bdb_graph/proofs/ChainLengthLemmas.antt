@@ -26,43 +26,16 @@ use Rattle.bdb_format.proofs.TypeLemmas.{if_type}
 use Rattle.bdb_format.proofs.VerdictLemmas.{AllFail, none_is_first_row}
 use Rattle.bdb_graph.specs.declared.tally.Kinds.{Kinds}
 use Rattle.bdb_graph.specs.ChainLengths.{AreLengths, chain_length, kept_length, length_in, may_head}
-use Rattle.bdb_graph.specs.Formed.{IsAccepted, IsFormed}
-use Rattle.bdb_graph.specs.Linked.{FitsChain, IsForest}
+use Rattle.bdb_image.specs.Formed.{IsAccepted, IsFormed}
+use Rattle.bdb_image.specs.Linked.{FitsChain, IsForest}
 use Rattle.bdb_graph.specs.Walked.{IsWalked, names_head}
-use Rattle.bdb_graph.proofs.FirstLemmas.{formed_accepted}
+use Rattle.bdb_image.proofs.FirstLemmas.{formed_accepted}
 use Rattle.bdb_graph.proofs.ForestLemmas.{sound_graph}
-use Rattle.bdb_graph.proofs.FormedLemmas.{IsPaged, accepted_paged}
+use Rattle.bdb_image.proofs.FormedLemmas.{IsPaged, accepted_paged}
 use Rattle.bdb_graph.proofs.LinkedLemmas.{target_inside}
+use Rattle.bdb_image.proofs.PieceLemmas.{piece_fits}
 
 -- One page.
-
-pub zero_piece : (order : Order) (page : List ℕ) → is_zero page ≡ true → 0 ≡ length (piece_in (abstract_page order page))
-zero_piece order page empty = sym (ap (λ p. length (piece_in p)) (zero_page order page empty))
-
--- only a page of a chain has a piece
-other_piece : (order : Order) (page : List ℕ) (byte : ℕ) → (byte ≡ 7 → ⊥) → piece_in (page_as order page (page_type byte)) ≡ []
-other_piece order page byte other = grind (arith, if_type, eqb-true)
-
-pub no_piece : (order : Order) (page : List ℕ) → is_zero page ≡ false → (byte_at page 25 ≡ 7 → ⊥) → 0 ≡ length (piece_in (abstract_page order page))
-no_piece order page some other = sym (ap (λ p. length (piece_in p)) (typed_page order page some) ∙ ap length (other_piece order page (byte_at page 25) other))
-
--- the piece of a page of a chain is as long as it tells, but no longer than the page has room
-pub piece_there : (order : Order) (page : List ℕ) → is_zero page ≡ false → byte_at page 25 ≡ 7
-    → min (two_at order page 22) (length page - 26) ≡ length (piece_in (abstract_page order page))
-piece_there order page some seven =
-    let is : abstract_page order page ≡ page_as order page (page_type 7) = typed_page order page some ∙ ap (λ b. page_as order page (page_type b)) seven in
-    sym (ap (λ p. length (piece_in p)) is ∙ (length-take (two_at order page 22) (drop 26 page) ∙ ap (min (two_at order page 22)) (length-drop 26 page)))
-
-pub piece_fits : (order : Order) (page : List ℕ) → length (piece_in (abstract_page order page)) ≤ length page
-piece_fits order page =
-    elim (cases_Bool (is_zero page)) [
-      | inl empty ↦ omega (arith, zero_piece order page empty)
-      | inr some ↦
-          elim (cases_eq (byte_at page 25) 7) [
-            | inl seven ↦ omega (arith, piece_there order page some seven)
-            | inr other ↦ omega (arith, no_piece order page some other)
-          ]
-    ]
 
 pub size_is : (image : List ℕ) → (file_of image).size ≡ (head_of image).page_size
 unfolding file_of
@@ -197,6 +170,3 @@ sum_fits image head turn total length' formed below added small =
 pub kept_more : (file : File) (p : ℕ) (lengths : List ℕ) (kept : ℕ) → lengths ≡ map (kept_length file) (range_with_len 0 p) → kept ≡ kept_length file p
     → lengths ++ kept ∷ [] ≡ map (kept_length file) (range_with_len 0 (p + 1))
 kept_more file p lengths kept are is = rw (map-range_with_len_more (kept_length file) 0 p p (omega arith), are, is) refl
-
--- how long the piece of a page is
-pub ruleset piece_lengths = (no_piece, piece_there, zero_piece)

@@ -19,9 +19,9 @@ use Rattle.bdb_format.specs.References.{content_targets, internal_targets, targe
 use Rattle.bdb_format.specs.Rows.{form_code, may_have_type}
 use Rattle.bdb_format.proofs.GraphLemmas.{type_fits, queue_types}
 use Rattle.bdb_format.proofs.MemberLemmas.{of_filter, of_map}
-use Rattle.bdb_graph.specs.Formed.{IsFormed}
-use Rattle.bdb_graph.specs.Linked.{IsForest}
-use Rattle.bdb_graph.proofs.FirstLemmas.{formed_page}
+use Rattle.bdb_image.specs.Formed.{IsFormed}
+use Rattle.bdb_image.specs.Linked.{IsForest}
+use Rattle.bdb_image.proofs.FirstLemmas.{formed_page}
 use Rattle.bdb_format.proofs.ReferenceLemmas.{forest_names}
 use Rattle.bdb_format.proofs.FileLemmas.{kind_is, last_page, page_is}
 

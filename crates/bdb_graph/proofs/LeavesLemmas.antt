@@ -18,7 +18,7 @@ use Rattle.bdb_format.proofs.GraphLemmas.{each_fits}
 use Rattle.bdb_format.proofs.MemberLemmas.{first_member, in_filter, in_range, later_member, member_cases, no_member, of_filter, of_flat_map, of_map}
 use Rattle.bdb_format.proofs.VerdictLemmas.{AllFail, all_fail, no_codes_at, none_is_first_row}
 use Rattle.bdb_graph.specs.Forest.{AllDistinct, IsWayDown, Names, NoLeafTwice, NotIn}
-use Rattle.bdb_graph.specs.Linked.{IsForest}
+use Rattle.bdb_image.specs.Linked.{IsForest}
 use Rattle.bdb_graph.proofs.ChildLemmas.{NamesChild, child_named, children_are, children_of, is_child}
 use Rattle.bdb_graph.proofs.ForestLemmas.{IsSoundGraph, few_owners, named_owner, no_page_twice_below, sound_graph}
 use Rattle.bdb_format.proofs.ListLemmas.{only_member}

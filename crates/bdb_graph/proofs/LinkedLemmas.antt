@@ -30,16 +30,16 @@ use Rattle.bdb_format.proofs.GraphLemmas.{each_fits, type_fits}
 use Rattle.bdb_format.proofs.MemberLemmas.{first_member, in_map, in_range, of_filter, of_range}
 use Rattle.bdb_format.proofs.PageLemmas.{later_type}
 use Rattle.bdb_format.proofs.VerdictLemmas.{AllFail, none_is_first_row}
-use Rattle.bdb_graph.specs.Formed.{IsFormed}
-use Rattle.bdb_graph.specs.Linked.{HasMetadata, IsTarget, meta_pages}
+use Rattle.bdb_image.specs.Formed.{IsFormed}
+use Rattle.bdb_image.specs.Linked.{HasMetadata, IsTarget, meta_pages}
 use Rattle.bdb_format.specs.Verdict.{faults_in}
 use Rattle.bdb_form.specs.Formed.{fields_as}
-use Rattle.bdb_graph.proofs.CodeLemmas.{code_by, form_queue, is_same, not_zero, tree_refused, two_none}
-use Rattle.bdb_graph.proofs.FirstLemmas.{formed_page}
+use Rattle.bdb_image.proofs.CodeLemmas.{code_by, form_queue, is_same, not_zero, tree_refused, two_none}
+use Rattle.bdb_image.proofs.FirstLemmas.{formed_page}
 use Rattle.bdb_graph.proofs.ForestLemmas.{sound_graph}
-use Rattle.bdb_graph.proofs.HeldLemmas.{identity_none}
-use Rattle.bdb_graph.proofs.MetaLemmas.{is_by_fields}
-use Rattle.bdb_graph.specs.Metas.{meta_in}
+use Rattle.bdb_image.proofs.HeldLemmas.{identity_none}
+use Rattle.bdb_image.proofs.MetaLemmas.{is_by_fields}
+use Rattle.bdb_image.specs.Metas.{meta_in}
 use Rattle.bdb_format.proofs.ListLemmas.{in_enumerated}
 use Rattle.bdb_format.proofs.ReferenceLemmas.{forest_names, held_in_all, of_all}
 use Rattle.bdb_format.proofs.FileLemmas.{kind_is, last_page, page_is}

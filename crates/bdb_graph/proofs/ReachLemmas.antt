@@ -14,9 +14,9 @@ use Rattle.std.proofs.lemmas.Bool.{cases_Bool, eqb-true, ne_eqb}
 use Rattle.std.proofs.lemmas.Map.Steps.{length-le_from_distinct_below}
 use Rattle.bdb_format.specs.declared.metadata.Head.{Head}
 use Rattle.bdb_format.specs.Verdict.{reference_faults}
-use Rattle.bdb_graph.specs.Formed.{IsFormed}
+use Rattle.bdb_image.specs.Formed.{IsFormed}
 use Rattle.bdb_graph.specs.Marks.{IsFit, IsHeldBy, IsUp}
-use Rattle.bdb_graph.proofs.FirstLemmas.{formed_last}
+use Rattle.bdb_image.proofs.FirstLemmas.{formed_last}
 use Rattle.bdb_graph.proofs.ForestLemmas.{fewer, owned_inside, step, way_distinct, way_of, way_reaches}
 
 pub at_end : (file : File) (turns p : ℕ) → is_top file p ≡ true → reaches_in turns file p ≡ true

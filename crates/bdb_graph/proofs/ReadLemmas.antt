@@ -19,13 +19,13 @@ use Rattle.bdb_format.proofs.ListLemmas.{only_member}
 use Rattle.bdb_format.proofs.MemberLemmas.{no_member}
 use Rattle.bdb_format.proofs.VerdictLemmas.{AllFail, none_is_first_row}
 use Rattle.bdb_format.proofs.FileLemmas.{last_page, page_is}
-use Rattle.bdb_graph.specs.Formed.{IsAccepted}
-use Rattle.bdb_graph.specs.Linked.{HasMetadata, IsForest}
-use Rattle.bdb_graph.specs.Metas.{meta_in}
-use Rattle.bdb_graph.proofs.FirstLemmas.{formed_accepted, formed_page}
-use Rattle.bdb_graph.proofs.FormedLemmas.{IsPaged, accepted_paged, page_length}
-use Rattle.bdb_graph.proofs.HeldLemmas.{table_page, tree_formed, tree_page}
-use Rattle.bdb_graph.proofs.MetaLemmas.{no_meta, queue_page}
+use Rattle.bdb_image.specs.Formed.{IsAccepted}
+use Rattle.bdb_image.specs.Linked.{HasMetadata, IsForest}
+use Rattle.bdb_image.specs.Metas.{meta_in}
+use Rattle.bdb_image.proofs.FirstLemmas.{formed_accepted, formed_page}
+use Rattle.bdb_image.proofs.FormedLemmas.{IsPaged, accepted_paged, page_length}
+use Rattle.bdb_image.proofs.HeldLemmas.{table_page, tree_formed, tree_page}
+use Rattle.bdb_image.proofs.MetaLemmas.{no_meta, queue_page}
 
 -- what the bytes of a page say where it's metadata
 abbrev pub IsReadAs : Order → List ℕ → Metadata → Type 0

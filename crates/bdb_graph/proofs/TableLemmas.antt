@@ -8,17 +8,17 @@ use Rattle.bdb_format.specs.File.{File}
 use Rattle.bdb_format.specs.Graph.{Owner}
 use Rattle.bdb_format.specs.References.{fit_code}
 use Rattle.bdb_format.specs.Verdict.{fails_as}
-use Rattle.bdb_graph.specs.declared.buckets.Buckets.{Buckets}
-use Rattle.bdb_graph.specs.declared.fits.Misfits.{Misfits}
+use Rattle.bdb_image.specs.declared.buckets.Buckets.{Buckets}
+use Rattle.bdb_image.specs.declared.fits.Misfits.{Misfits}
 use Rattle.bdb_graph.specs.declared.table.BucketPages.{BucketPages}
 use Rattle.bdb_graph.specs.declared.tally.Tally.{Tally}
-use Rattle.bdb_graph.specs.Buckets.{IsApart, bucket_names, run_names, run_refs}
+use Rattle.bdb_image.specs.Buckets.{IsApart, bucket_names, run_names, run_refs}
 use Rattle.bdb_graph.specs.Leaps.{AreKnown}
-use Rattle.bdb_graph.specs.Noted.{both_misfits, misfits_of}
-use Rattle.bdb_graph.specs.Slots.{placed}
+use Rattle.bdb_image.specs.Noted.{both_misfits, misfits_of}
+use Rattle.bdb_slots.specs.Slots.{placed}
 use Rattle.bdb_graph.specs.Tallies.{AreTallies, owner}
-use Rattle.bdb_graph.proofs.ApartLemmas.{more_buckets}
-use Rattle.bdb_graph.proofs.NotedLemmas.{same_misfits}
+use Rattle.bdb_image.proofs.ApartLemmas.{more_buckets}
+use Rattle.bdb_image.proofs.NotedLemmas.{same_misfits}
 
 -- references in two parts
 pub both_parts : (fit : Reference → Option ℕ) (first second : List Reference)

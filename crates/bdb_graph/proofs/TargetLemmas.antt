@@ -6,7 +6,7 @@ use Rattle.bdb_format.specs.declared.references.Sort.{Sort}
 use Rattle.bdb_format.specs.File.{File}
 use Rattle.bdb_format.specs.References.{refs}
 use Rattle.bdb_format.proofs.MemberLemmas.{no_member}
-use Rattle.bdb_graph.specs.Linked.{IsTarget}
+use Rattle.bdb_image.specs.Linked.{IsTarget}
 
 -- a file with a reference is no queue file
 pub is_no_queue : (file : File) (sort : Sort) (p : ℕ) → IsTarget file sort p → file.kind ≡ Queue → ⊥

@@ -4,7 +4,7 @@ use Rattle.bdb_format.specs.Chains.{chain_in, joined, piece_in, pieces_of}
 use Rattle.bdb_format.specs.File.{File, header_in, page_at, type_in}
 use Rattle.bdb_format.specs.Page.{Page}
 use Rattle.bdb_format.specs.References.{has_type}
-use Rattle.bdb_graph.specs.Linked.{FitsChain, meta_pages}
+use Rattle.bdb_image.specs.Linked.{FitsChain, meta_pages}
 use Rattle.bdb_graph.specs.Owned.{AreOwned}
 
 -- how many bytes the value of the chain with this head has

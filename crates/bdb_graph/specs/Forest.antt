@@ -6,7 +6,7 @@ use Rattle.bdb_format.specs.File.{File, file_of}
 use Rattle.bdb_format.specs.Graph.{first_holder, is_anchor, is_head_reference, is_reserve, owners}
 use Rattle.bdb_format.specs.Leaves.{leaves_in}
 use Rattle.bdb_format.specs.References.{refs}
-use Rattle.bdb_graph.specs.Linked.{IsForest}
+use Rattle.bdb_image.specs.Linked.{IsForest}
 use Rattle.bdb_format.specs.Verdict.{faults_in}
 
 abbrev pub NotIn : ℕ → List ℕ → Type 0

@@ -1,16 +1,8 @@
 pub mod Blanks
-pub mod Buckets
 pub mod ChainLengths
-pub mod Fits
 pub mod Forest
-pub mod Formed
 pub mod Leaps
-pub mod Linked
 pub mod Marks
-pub mod Metas
-pub mod Noted
 pub mod Owned
-pub mod Plain
-pub mod Slots
 pub mod Tallies
 pub mod Walked

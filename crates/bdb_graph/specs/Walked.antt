@@ -6,7 +6,7 @@ use Rattle.bdb_format.specs.declared.references.Sort.{Sort}
 use Rattle.bdb_format.specs.declared.references.Sort.TheVariants.{DuplicateRoot}
 use Rattle.bdb_format.specs.File.{file_of}
 use Rattle.bdb_format.specs.Graph.{Owner, all_references, is_head_reference}
-use Rattle.bdb_graph.specs.Linked.{IsForest}
+use Rattle.bdb_image.specs.Linked.{IsForest}
 
 abbrev pub is_set_reference : Sort → Bool
 is_set_reference DuplicateRoot = true

@@ -4,8 +4,8 @@ ghost use Rattle.bdb_format.specs.File.{File, file_of};
 
 use crate::Formed;
 use crate::chain_lengths::{link_at, may_head};
-use crate::formed_page::page_at;
 use crate::leaps::no_leaps;
+use bdb_image::page_at;
 use std::alloc::{AllocError, Global};
 use std::marker::Model;
 use std::rc::RcSlice;

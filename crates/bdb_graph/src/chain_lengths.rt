@@ -6,8 +6,8 @@ ghost use Rattle.bdb_graph.specs.ChainLengths.{AreLengths, chain_length, kept_le
 ghost use Rattle.bdb_graph.specs.Walked.{IsWalked};
 
 use crate::Formed;
-use crate::formed_page::{FormedPage, page_at};
 use crate::tally::Kinds;
+use bdb_image::{FormedPage, page_at};
 use std::alloc::{AllocError, Global};
 
 /// A page of a chain: how many bytes it holds, and the page after it, 0 for none.

@@ -1,11 +1,11 @@
 ghost use Rattle.std.specs.Prelude.{◌≡◌, ◌≢◌, ◌^◌, ◌<◌, ◌≤◌, None, IsTrue, length};
 ghost use Rattle.bdb_form.specs.Seen.{header_seen, page_seen};
 ghost use Rattle.bdb_graph.specs.Blanks.{ArePassedIfAny, IsLent};
-ghost use Rattle.bdb_graph.specs.Linked.{IsForest};
+ghost use Rattle.bdb_image.specs.Linked.{IsForest};
 ghost use Rattle.std.specs.List.{list_any};
 ghost use Rattle.bdb_format.specs.Graph.{all_references};
 ghost use Rattle.bdb_graph.specs.Walked.{names_head, names_set};
-ghost use Rattle.bdb_graph.specs.Metas.{meta_in, meta_seen};
+ghost use Rattle.bdb_image.specs.Metas.{meta_in, meta_seen};
 ghost use Rattle.std.specs.Option.{option_map};
 ghost use Rattle.bdb_format.specs.File.{file_of, page_at, page_bytes};
 ghost use Rattle.bdb_format.specs.HeadOf.{head_of, is_page_size};
@@ -13,11 +13,11 @@ ghost use Rattle.bdb_format.specs.Reading.{abstract_page, header_of};
 ghost use Rattle.bdb_format.specs.Rows.{form_code};
 ghost use Rattle.bdb_format.specs.declared.metadata.FileKind.TheVariants.{Queue};
 
-use crate::meta::meta_at;
 use crate::tally::Kinds;
 use crate::{Blanks, Formed, Meta};
 use bdb_form::{MetaView, PageView, known_form, known_queue_form};
 use bdb_format::{FileKind, Head};
+use bdb_image::meta_at;
 use std::marker::Model;
 
 /// The pages of an image on which no row of the first five stages holds. It is a handle that costs nothing

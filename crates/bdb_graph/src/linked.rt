@@ -1,9 +1,9 @@
 ghost use Rattle.std.specs.Prelude.{◌≡◌, ◌+◌, ◌^◌, ◌<◌, ◌≤◌, Some, None, length};
 ghost use Rattle.std.specs.List.{slice_get};
 ghost use Rattle.bdb_form.specs.Seen.{header_seen, page_seen};
-ghost use Rattle.bdb_graph.specs.Linked.{IsForest, FitsBucket, FitsChain, FitsDupRoot, FitsTreeRoot, HasMetadata, meta_pages};
+ghost use Rattle.bdb_image.specs.Linked.{IsForest, FitsBucket, FitsChain, FitsDupRoot, FitsTreeRoot, HasMetadata, meta_pages};
 ghost use Rattle.bdb_graph.specs.ChainLengths.{IsKept, chain_length};
-ghost use Rattle.bdb_graph.specs.Metas.{meta_seen};
+ghost use Rattle.bdb_image.specs.Metas.{meta_seen};
 ghost use Rattle.bdb_format.specs.File.{file_of, page_at, page_bytes};
 ghost use Rattle.bdb_format.specs.Hashing.{first_page};
 ghost use Rattle.bdb_format.specs.Graph.{owners};
@@ -107,7 +107,7 @@ impl<'a> Linked<'a> {
     }
 
     /// The number and the fields of a metadata page, by its place among them, from 0.
-    #[tactic(auto, using(crate::proofs::LinkedLemmas::meta_inside, crate::proofs::LinkedLemmas::meta_there, crate::proofs::MetaLemmas::is_fields))]
+    #[tactic(auto, using(crate::proofs::LinkedLemmas::meta_inside, crate::proofs::LinkedLemmas::meta_there, bdb_image::proofs::MetaLemmas::is_fields))]
     pub fn meta(&self, i: u32) -> (u32, Meta)
         requires { i < length (meta_pages (file_of self.now)) }
         ensures number { slice_get (meta_pages (file_of self.now)) i ≡ Some result.0 }

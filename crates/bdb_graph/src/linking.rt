@@ -8,7 +8,6 @@ ghost use Rattle.bdb_graph.specs.Walked.{IsWalked};
 
 use crate::blanks::blanks_of;
 use crate::chain_lengths::lengths_of;
-use crate::meta::metas_of;
 use crate::owned::note_owners;
 use crate::reach::note_reach;
 use crate::roles::Roles;
@@ -16,6 +15,7 @@ use crate::tally::{Kinds, note_references};
 use crate::{Forest, Formed, Linked};
 use bdb_faults::{AllError, FaultSink, First, NamedList, refused_by};
 use bdb_format::{CheckError, Steps};
+use bdb_image::metas_of;
 use std::alloc::{AllocError, Global};
 use std::sync::ledger::Ledger;
 

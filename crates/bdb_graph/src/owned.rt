@@ -4,7 +4,7 @@ ghost use Rattle.bdb_format.specs.File.{file_of};
 ghost use Rattle.bdb_format.specs.Graph.{is_anchor, is_owned_twice, is_reserve, is_shared_too_often, is_unowned};
 ghost use Rattle.bdb_format.specs.Verdict.{ownership_faults, ownership_rows};
 ghost use Rattle.bdb_format.specs.ByPage.{holding};
-ghost use Rattle.bdb_graph.specs.Noted.{page_faults};
+ghost use Rattle.bdb_image.specs.Noted.{page_faults};
 ghost use Rattle.bdb_graph.specs.Owned.{AreFew, IsFew};
 
 use crate::roles::Roles;
@@ -48,7 +48,7 @@ fn note_owned<F: FaultSink>(roles: &Roles<'_>, page: u32, found: &mut F) -> Resu
 }
 
 /// Whether a page without an owner is neither an anchor nor a reserve.
-#[tactic(auto, using(crate::proofs::RoleLemmas::counts_none))]
+#[tactic(auto, using(bdb_image::proofs::RoleLemmas::counts_none))]
 fn lacks_owner(roles: &Roles<'_>, page: u32) -> bool
     requires { page ≤ (file_of roles.now).last }
     ensures { result ≡ (not (is_anchor (file_of roles.now) page) && not (is_reserve (file_of roles.now) page) && is_unowned (file_of roles.now) page) }

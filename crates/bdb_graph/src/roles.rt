@@ -1,6 +1,6 @@
 ghost use Rattle.std.specs.Prelude.{◌≡◌, ◌≤◌, ◌+◌, ◌^◌, ◌<◌, ◌||◌, IfOk};
 ghost use Rattle.std.specs.List.{list_any};
-ghost use Rattle.bdb_graph.specs.Formed.{IsFormed};
+ghost use Rattle.bdb_image.specs.Formed.{IsFormed};
 ghost use Rattle.bdb_graph.specs.Tallies.{AreTalliesOf, IsTally};
 ghost use Rattle.bdb_graph.specs.Forest.{is_top};
 ghost use Rattle.bdb_graph.specs.Owned.{AreCounts};
@@ -9,9 +9,9 @@ ghost use Rattle.bdb_format.specs.HeadOf.{head_of};
 ghost use Rattle.bdb_format.specs.Graph.{first_holder, is_anchor, is_hash_meta, is_reserve, owners};
 
 use crate::Formed;
-use crate::formed_page::{FormedPage, page_at};
 use crate::tally::Tally;
 use bdb_format::{FileKind, Head};
+use bdb_image::{FormedPage, page_at};
 use std::alloc::{AllocError, Global};
 use std::marker::Model;
 
@@ -107,7 +107,7 @@ impl<'a> Roles<'a> {
     }
 
     /// Whether a table holds a page in reserve.
-    #[tactic(auto, using(crate::proofs::RoleLemmas::counts_none), unfolding(bdb_format::specs::Graph::is_reserve))]
+    #[tactic(auto, using(bdb_image::proofs::RoleLemmas::counts_none), unfolding(bdb_format::specs::Graph::is_reserve))]
     fn is_reserve(&self, page: u32) -> bool
         requires { page ≤ (file_of self.now).last }
         ensures { result ≡ is_reserve (file_of self.now) page }
@@ -125,7 +125,7 @@ impl<'a> Roles<'a> {
 }
 
 /// Whether a page is the metadata of a hash table.
-#[tactic(auto, using(bdb_format::proofs::FileLemmas::last_page, crate::proofs::RoleLemmas::some_table, crate::proofs::RoleLemmas::no_table))]
+#[tactic(auto, using(bdb_format::proofs::FileLemmas::last_page, bdb_image::proofs::RoleLemmas::some_table, bdb_image::proofs::RoleLemmas::no_table))]
 fn has_table(formed: &Formed<'_>) -> bool
     ensures { result ≡ list_any is_hash_meta (file_of formed.now).pages }
 {

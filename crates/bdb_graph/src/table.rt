@@ -1,19 +1,17 @@
 ghost use Rattle.std.specs.Prelude.{◌≡◌, ◌<◌, ◌+◌, ◌^◌, ◌++◌, ◌∷◌, [], ℕ, IfOk, List, OnOk, length, map};
-ghost use Rattle.bdb_graph.specs.Buckets.{HasFew, refs_if_table, run_refs, table_refs};
+ghost use Rattle.bdb_image.specs.Buckets.{HasFew, refs_if_table, run_refs, table_refs};
 ghost use Rattle.bdb_graph.specs.Leaps.{AreKnown, AreKnownIfAny, HasLeaps};
-ghost use Rattle.bdb_graph.specs.Noted.{misfits_of};
+ghost use Rattle.bdb_image.specs.Noted.{misfits_of};
 ghost use Rattle.bdb_graph.specs.Tallies.{AreTallies, owner};
 ghost use Rattle.bdb_format.specs.File.{file_of};
 ghost use Rattle.bdb_format.specs.Graph.{Owner};
 ghost use Rattle.bdb_format.specs.References.{fit_code};
 
 use crate::Formed;
-use crate::bucket_fits::BucketFits;
-use crate::buckets::{Buckets, Run};
-use crate::fits::Misfits;
 use crate::leaps::{first_open, no_leaps};
 use crate::tally::{Tally, note_at};
 use bdb_format::Sort;
+use bdb_image::{BucketFits, Buckets, Misfits, Run};
 use std::alloc::{AllocError, Global};
 
 /// What is known of the pages of a file as buckets: which fit, and leaps over those that have so many owners that no

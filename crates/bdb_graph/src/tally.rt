@@ -1,7 +1,7 @@
 ghost use Rattle.std.specs.Prelude.{◌≡◌, ◌≤◌, ◌<◌, ◌+◌, ℕ, true, length, List, [], ◌∷◌, ◌++◌, map, IfOk, OnOk};
 ghost use Rattle.bdb_faults.specs.Notes.{NotesAll};
 ghost use Rattle.bdb_graph.specs.Leaps.{AreKnownIfAny, full_at, is_full};
-ghost use Rattle.bdb_graph.specs.Noted.{misfits_of};
+ghost use Rattle.bdb_image.specs.Noted.{misfits_of};
 ghost use Rattle.bdb_graph.specs.Tallies.{AreTallies, AreTalliesOf, IsTally, first_of, owner};
 ghost use Rattle.bdb_format.specs.File.{file_of};
 ghost use Rattle.bdb_format.specs.Graph.{Owner, all_references, is_head_reference};
@@ -9,11 +9,11 @@ ghost use Rattle.bdb_graph.specs.Walked.{AreKinds, is_set_reference};
 ghost use Rattle.bdb_format.specs.References.{fit_code, refs};
 ghost use Rattle.bdb_format.specs.Verdict.{reference_faults};
 
-use crate::fits::{Misfits, misfit};
 use crate::table::{BucketPages, tally_table};
 use crate::{Formed, references};
 use bdb_faults::FaultSink;
 use bdb_format::{Reference, Sort, Steps};
+use bdb_image::{Misfits, misfit};
 use std::alloc::{AllocError, Global};
 use std::sync::ledger::Ledger;
 

@@ -1,7 +1,7 @@
 //! Chains and the values that they hold. Values: docs/FORMAT.md, "Other pages" and "Stage 6, chains and trees".
 
 ghost use Rattle.std.specs.Prelude.{◌≡◌, IfSome};
-ghost use Rattle.bdb_graph.specs.Linked.{FitsChain};
+ghost use Rattle.bdb_image.specs.Linked.{FitsChain};
 ghost use Rattle.bdb_format.specs.File.{file_of};
 
 use crate::fields::BTREE;

@@ -3,7 +3,7 @@
 ghost use Rattle.std.specs.Prelude.{◌≡◌, ◌+◌, ◌≤◌, ◌<◌, ◌∷◌, [], IsTrue};
 ghost use Rattle.std.specs.Bool.{OnTrue};
 ghost use Rattle.bdb_form.specs.Seen.{page_seen};
-ghost use Rattle.bdb_graph.specs.Linked.{FitsTreeRoot};
+ghost use Rattle.bdb_image.specs.Linked.{FitsTreeRoot};
 ghost use Rattle.bdb_graph_tests.specs.Sought.{AllFit, IsFit, is_above};
 ghost use Rattle.bdb_format.specs.File.{file_of, page_at, type_in};
 ghost use Rattle.bdb_format.specs.Less.{less};

@@ -1,7 +1,7 @@
 //! Walks of a tree by its links. Values: docs/FORMAT.md, "Other pages" and "Items".
 
 ghost use Rattle.std.specs.Prelude.{◌≡◌, IfSome};
-ghost use Rattle.bdb_graph.specs.Linked.{FitsTreeRoot};
+ghost use Rattle.bdb_image.specs.Linked.{FitsTreeRoot};
 ghost use Rattle.bdb_format.specs.File.{file_of};
 
 use crate::fields::BTREE;

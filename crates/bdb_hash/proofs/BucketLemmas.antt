@@ -24,7 +24,7 @@ use Rattle.bdb_format.specs.Verdict.{structure_faults, faults_in}
 use Rattle.bdb_format.proofs.GraphLemmas.{each_fits}
 use Rattle.bdb_format.proofs.MemberLemmas.{first_member}
 use Rattle.bdb_format.proofs.VerdictLemmas.{AllFail, none_is_first_row}
-use Rattle.bdb_graph.specs.Linked.{IsForest, IsTarget}
+use Rattle.bdb_image.specs.Linked.{IsForest, IsTarget}
 use Rattle.bdb_graph.proofs.ForestLemmas.{sound_graph}
 use Rattle.bdb_graph.proofs.LinkedLemmas.{target_inside}
 use Rattle.bdb_hash.specs.Told.{Told, is_of_bucket, page_told, pages_from, told_pair}

@@ -20,7 +20,7 @@ use Rattle.bdb_format.proofs.MemberLemmas.{first_member, in_range, is_empty, lat
 use Rattle.bdb_format.proofs.VerdictLemmas.{AllFail, no_rows_at}
 use Rattle.bdb_format.proofs.PairLemmas.{get_append}
 use Rattle.bdb_format.proofs.RepeatLemmas.{has_key as key_among, repeated_after, repeated_is}
-use Rattle.bdb_graph.specs.Linked.{HasMetadata}
+use Rattle.bdb_image.specs.Linked.{HasMetadata}
 use Rattle.bdb_faults.specs.Rows.{fault_at}
 use Rattle.bdb_faults.specs.declared.rows.ContentsRow.TheVariants.{KeyTwice}
 use Rattle.bdb_faults.specs.declared.rows.Row.TheVariants.{Contents}

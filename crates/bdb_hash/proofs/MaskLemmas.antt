@@ -16,8 +16,8 @@ use Rattle.bdb_format.specs.Reading.{abstract_page, is_zero, page_as, page_type}
 use Rattle.bdb_format.specs.Rows.{are_masks, form_code, typed_code}
 use Rattle.bdb_format.proofs.VerdictLemmas.{none_is_first_row}
 use Rattle.bdb_format.proofs.FileLemmas.{last_page, page_is}
-use Rattle.bdb_graph.specs.Linked.{HasMetadata, IsForest}
-use Rattle.bdb_graph.proofs.FirstLemmas.{formed_page}
+use Rattle.bdb_image.specs.Linked.{HasMetadata, IsForest}
+use Rattle.bdb_image.proofs.FirstLemmas.{formed_page}
 
 -- the masks of a page that is metadata of a table
 abbrev HasMasks : Page → Type 0

@@ -15,7 +15,7 @@ use Rattle.bdb_format.specs.Page.{Content, Inline, Set, Chain, Tree, Unknown, It
 use Rattle.bdb_format.specs.References.{content_targets, no_item, targets_in}
 use Rattle.bdb_format.proofs.MemberLemmas.{first_member, in_map}
 use Rattle.bdb_format.proofs.TargetLemmas.{held_named}
-use Rattle.bdb_graph.specs.Linked.{IsTarget}
+use Rattle.bdb_image.specs.Linked.{IsTarget}
 use Rattle.bdb_graph.proofs.LinkedLemmas.{named_target, target_inside}
 use Rattle.bdb_layout.specs.declared.items.HashItem.{HashItem}
 use Rattle.bdb_layout.specs.Seen.{hash_content_seen, hash_item_seen}

@@ -23,7 +23,7 @@ use Rattle.bdb_format.specs.Page.{Hash, HashFields, Item}
 use Rattle.bdb_format.specs.Page.{Listed, Page}
 use Rattle.bdb_format.specs.References.{item_at}
 use Rattle.bdb_format.proofs.MemberLemmas.{later_member, member_cases, no_member}
-use Rattle.bdb_graph.specs.Linked.{HasMetadata}
+use Rattle.bdb_image.specs.Linked.{HasMetadata}
 use Rattle.bdb_layout.specs.declared.items.HashItem.{HashItem}
 use Rattle.bdb_layout.specs.Seen.{hash_content_seen, hash_item_seen}
 use Rattle.bdb_overflow.proofs.PrefixLemmas.{prefix_order}

@@ -19,7 +19,7 @@ use Rattle.bdb_format.specs.Reading.{abstract_page, hash_item_at, listed, page_a
 use Rattle.bdb_format.specs.References.{item_at}
 use Rattle.bdb_format.proofs.MemberLemmas.{member_cases, no_member, of_flat_map, of_map}
 use Rattle.bdb_format.proofs.FileLemmas.{last_page, page_is}
-use Rattle.bdb_graph.specs.Linked.{HasMetadata}
+use Rattle.bdb_image.specs.Linked.{HasMetadata}
 use Rattle.bdb_graph.proofs.LinkedLemmas.{bucket_fits}
 use Rattle.bdb_hash.specs.Told.{is_of_bucket, pages_from}
 use Rattle.bdb_hash.specs.Views.{IsOfBucket, IsOnWay, IsTable}

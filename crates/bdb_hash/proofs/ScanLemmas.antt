@@ -25,7 +25,7 @@ use Rattle.bdb_format.specs.Page.{HashFields}
 use Rattle.bdb_format.proofs.ListLemmas.{all_of}
 use Rattle.bdb_format.proofs.LessLemmas.{eq_same, eq_self, less_trans, not_less_both, not_less_same}
 use Rattle.bdb_format.proofs.MemberLemmas.{first_member, in_map, later_member, member_cases, no_member, of_map}
-use Rattle.bdb_graph.specs.Linked.{HasMetadata}
+use Rattle.bdb_image.specs.Linked.{HasMetadata}
 use Rattle.bdb_hash.specs.Scanned.{KeysDiffer, ranked}
 use Rattle.bdb_hash.specs.Noted.{stored}
 use Rattle.bdb_hash.specs.Passed.{key_of}

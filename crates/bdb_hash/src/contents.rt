@@ -2,7 +2,7 @@ ghost use Rattle.std.specs.Prelude.{◌≡◌, ◌+◌, [], IfErr, IfOk, OnOk};
 ghost use Rattle.std.specs.List.{flat_map, range_with_len};
 ghost use Rattle.bdb_faults.specs.Named.{HasNoted};
 ghost use Rattle.bdb_faults.specs.Notes.{Notes, NotesAll};
-ghost use Rattle.bdb_graph.specs.Linked.{HasMetadata};
+ghost use Rattle.bdb_image.specs.Linked.{HasMetadata};
 ghost use Rattle.bdb_hash.specs.Noted.{bucket_faults, has_stray};
 ghost use Rattle.bdb_hash.specs.Views.{IsTable};
 ghost use Rattle.bdb_format.specs.ContentRows.{database_faults};

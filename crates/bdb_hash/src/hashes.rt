@@ -1,7 +1,7 @@
 ghost use Rattle.std.specs.Prelude.{◌≡◌, ◌++◌, ℕ, [], IfOk, OnOk, map, true};
 ghost use Rattle.std.specs.BTreeSet.{BTreeSet};
 ghost use Rattle.std.specs.List.{IsDistinct};
-ghost use Rattle.bdb_graph.specs.Linked.{HasMetadata};
+ghost use Rattle.bdb_image.specs.Linked.{HasMetadata};
 ghost use Rattle.bdb_hash.specs.Chained.{AreAllOf, AreOf};
 ghost use Rattle.bdb_hash.specs.Passed.{is_among, is_missed, key_hash};
 ghost use Rattle.bdb_hash.specs.Told.{joined_pages, table_told};

@@ -1,6 +1,6 @@
 ghost use Rattle.std.specs.Prelude.{◌≡◌, ◌+◌, ◌≤◌, []};
 ghost use Rattle.std.specs.List.{find};
-ghost use Rattle.bdb_graph.specs.Linked.{HasMetadata};
+ghost use Rattle.bdb_image.specs.Linked.{HasMetadata};
 ghost use Rattle.bdb_hash.specs.Told.{bucket_told, has_key};
 ghost use Rattle.bdb_hash.specs.Views.{IsTable};
 ghost use Rattle.bdb_format.specs.ContentRows.{bucket_of_key, database_faults};

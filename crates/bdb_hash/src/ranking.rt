@@ -1,6 +1,6 @@
 ghost use Rattle.std.specs.Prelude.{◌≡◌, ◌+◌, ◌-◌, ◌^◌, [], IfOk, OnOk, length, min};
 ghost use Rattle.std.specs.List.Sorted.{IsPermutation, IsSortedBy};
-ghost use Rattle.bdb_graph.specs.Linked.{HasMetadata};
+ghost use Rattle.bdb_image.specs.Linked.{HasMetadata};
 ghost use Rattle.bdb_hash.specs.Places.{Adds, AreAt, place_less};
 ghost use Rattle.bdb_hash.specs.Scanned.{KeysDiffer, ranked};
 ghost use Rattle.bdb_hash.specs.Told.{joined_pages, table_told};

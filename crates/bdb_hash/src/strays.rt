@@ -2,7 +2,7 @@ ghost use Rattle.std.specs.Prelude.{◌≡◌, ◌∷◌, [], OnOk, map};
 ghost use Rattle.std.specs.BTreeSet.{BTreeSet};
 ghost use Rattle.std.specs.List.{IsDistinct, filter};
 ghost use Rattle.bdb_faults.specs.Notes.{Notes};
-ghost use Rattle.bdb_graph.specs.Linked.{HasMetadata};
+ghost use Rattle.bdb_image.specs.Linked.{HasMetadata};
 ghost use Rattle.bdb_hash.specs.Chained.{AreAllOf, AreOf};
 ghost use Rattle.bdb_hash.specs.Noted.{repeat_faults, stray_faults};
 ghost use Rattle.bdb_hash.specs.Passed.{NotesRepeats, is_kept};

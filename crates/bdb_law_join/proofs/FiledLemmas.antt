@@ -19,8 +19,8 @@ use Rattle.bdb_format.specs.File.{file_of, page_at}
 use Rattle.bdb_format.specs.Graph.{is_meta}
 use Rattle.bdb_format.proofs.SpellingLemmas.{length-spelled}
 use Rattle.bdb_format.proofs.SizeLemmas.{size_bounds}
-use Rattle.bdb_graph.proofs.CodeLemmas.{tree_passed}
-use Rattle.bdb_graph.proofs.HeldLemmas.{table_page, tree_page}
+use Rattle.bdb_image.proofs.CodeLemmas.{tree_passed}
+use Rattle.bdb_image.proofs.HeldLemmas.{table_page, tree_page}
 use Rattle.bdb_law_grove.specs.Growing.{IsLater}
 use Rattle.bdb_meta.proofs.CommonLemmas.{length-common}
 use Rattle.bdb_pack.specs.Built.{Built, bytes_of, file_so_far, joined_pages}

@@ -13,7 +13,7 @@ use Rattle.bdb_format.specs.Reading.{abstract_page, btree_fields, is_zero, page_
 use Rattle.bdb_format.specs.Rows.{are_wrong_flags, form_code, metadata_rows, type_of}
 use Rattle.bdb_format.proofs.GraphLemmas.{typed_page}
 use Rattle.bdb_format.proofs.VerdictLemmas.{AllFail, none_is_first_row}
-use Rattle.bdb_graph.proofs.CodeLemmas.{first_page_code, is_same}
+use Rattle.bdb_image.proofs.CodeLemmas.{first_page_code, is_same}
 use Rattle.bdb_format.proofs.PageLemmas.{some_type, zero_byte}
 
 -- the rows of page 0 are those of metadata of its kind

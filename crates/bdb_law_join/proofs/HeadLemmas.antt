@@ -16,7 +16,7 @@ use Rattle.bdb_format.specs.Rows.{magic_of, metadata_rows, page_code, type_of, v
 use Rattle.bdb_format.specs.Table.{Row, first_row}
 use Rattle.bdb_format.proofs.VerdictLemmas.{AllFail, none_is_first_row}
 use Rattle.bdb_format.proofs.SizeLemmas.{size_bounds}
-use Rattle.bdb_graph.proofs.CodeLemmas.{code_by, first_page_code, tree_metadata}
+use Rattle.bdb_image.proofs.CodeLemmas.{code_by, first_page_code, tree_metadata}
 use Rattle.bdb_meta.specs.RowGroups.{flag_rows}
 use Rattle.bdb_law_join.proofs.CommonLemmas.{ReadsAs}
 

@@ -19,7 +19,7 @@ use Rattle.bdb_format.proofs.MemberLemmas.{is_empty, none_passes, of_flat_map, o
 use Rattle.bdb_format.proofs.PairLemmas.{keyed_rows}
 use Rattle.bdb_format.proofs.RepeatLemmas.{of_repeated, repeated_is}
 use Rattle.bdb_format.proofs.VerdictLemmas.{AllFail, all_fail, no_codes_at}
-use Rattle.bdb_graph.specs.Linked.{HasMetadata, IsForest}
+use Rattle.bdb_image.specs.Linked.{HasMetadata, IsForest}
 use Rattle.bdb_btree.proofs.FallLemmas.{tree_keys}
 use Rattle.bdb_tree.proofs.PairLemmas.{tree_pair_inside}
 use Rattle.bdb_hash.proofs.PlainLemmas.{IsPlain, bucket_plain}

@@ -21,9 +21,9 @@ use Rattle.bdb_format.proofs.GraphLemmas.{type_fits}
 use Rattle.bdb_format.proofs.ListLemmas.{only_member}
 use Rattle.bdb_format.proofs.LessLemmas.{eq_same, less_self}
 use Rattle.bdb_format.proofs.MemberLemmas.{first_member, in_map, later_member, no_member, none_pass, of_flat_map, of_map}
-use Rattle.bdb_graph.specs.Linked.{HasMetadata}
-use Rattle.bdb_graph.proofs.CodeLemmas.{not_zero}
-use Rattle.bdb_graph.proofs.MetaLemmas.{zero_number}
+use Rattle.bdb_image.specs.Linked.{HasMetadata}
+use Rattle.bdb_image.proofs.CodeLemmas.{not_zero}
+use Rattle.bdb_image.proofs.MetaLemmas.{zero_number}
 use Rattle.bdb_graph.proofs.ReadLemmas.{IsMetaPage, page_of_meta}
 use Rattle.bdb_file.proofs.NamedLemmas.{with_name}
 use Rattle.bdb_file.proofs.NameOrderLemmas.{names_ascend}

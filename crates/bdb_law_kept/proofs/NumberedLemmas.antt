@@ -28,7 +28,7 @@ use Rattle.bdb_format.proofs.ListLemmas.{only_member}
 use Rattle.bdb_format.proofs.MemberLemmas.{no_member, none_passes, of_flat_map, of_range}
 use Rattle.bdb_format.proofs.TurnLemmas.{length-slice_range}
 use Rattle.bdb_format.proofs.VerdictLemmas.{AllFail, all_fail, no_codes_at}
-use Rattle.bdb_graph.specs.Linked.{HasMetadata, IsForest}
+use Rattle.bdb_image.specs.Linked.{HasMetadata, IsForest}
 use Rattle.bdb_queue.specs.Records.{HasSlots}
 use Rattle.bdb_queue.proofs.QueueLemmas.{page_slots}
 use Rattle.bdb_queue.proofs.RecordLemmas.{slot_room}

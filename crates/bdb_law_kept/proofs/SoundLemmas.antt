@@ -9,7 +9,7 @@ use Rattle.bdb_format.specs.HeadOf.{head_of}
 use Rattle.bdb_format.specs.Lists.{list_of}
 use Rattle.bdb_format.specs.Verdict.{faults_of, first_judgement}
 use Rattle.bdb_format.proofs.VerdictLemmas.{no_stage, none_in}
-use Rattle.bdb_graph.specs.Linked.{HasMetadata, IsForest}
+use Rattle.bdb_image.specs.Linked.{HasMetadata, IsForest}
 use Rattle.bdb_file.specs.Named.{no_database}
 use Rattle.bdb_file.proofs.SoundLemmas.{has_metadata_at, no_contents, no_structure}
 use Rattle.bdb_law_kept.specs.Kept.{IsSound, settings_in}

@@ -26,7 +26,7 @@ use Rattle.bdb_format.specs.Rows.{are_wrong_flags}
 use Rattle.bdb_format.proofs.ListLemmas.{all_of}
 use Rattle.bdb_format.proofs.MemberLemmas.{in_range, no_member, none_passes, of_filter, of_flat_map, of_map}
 use Rattle.bdb_file.proofs.NamedLemmas.{with_name}
-use Rattle.bdb_graph.specs.Linked.{HasMetadata, IsForest}
+use Rattle.bdb_image.specs.Linked.{HasMetadata, IsForest}
 use Rattle.bdb_graph.proofs.LinkedLemmas.{root_fits}
 use Rattle.bdb_graph.proofs.ReadLemmas.{IsMetaPage, IsReadAs, flags_fit, page_of_meta}
 use Rattle.bdb_text_format.specs.Keywords.{legal_size}

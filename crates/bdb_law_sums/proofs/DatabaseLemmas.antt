@@ -16,7 +16,7 @@ use Rattle.bdb_format.specs.Page.{Metadata, BtreeFields, HashFields, QueueFields
 use Rattle.bdb_format.specs.References.{is_zero_page}
 use Rattle.bdb_format.proofs.MemberLemmas.{of_range}
 use Rattle.bdb_format.proofs.FileLemmas.{pages_counted}
-use Rattle.bdb_graph.specs.Linked.{HasMetadata}
+use Rattle.bdb_image.specs.Linked.{HasMetadata}
 use Rattle.bdb_graph.proofs.ReadLemmas.{is_of_page}
 use Rattle.bdb_tree.proofs.TreeLemmas.{typed_inside}
 use Rattle.bdb_law_sums.specs.Databases.{HashPagesAreOfTables, LeavesAreOfDatabases, buckets_below, leaves_below}

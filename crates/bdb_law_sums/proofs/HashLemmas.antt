@@ -31,9 +31,9 @@ use Rattle.bdb_format.proofs.GraphLemmas.{each_fits, each_page_has_one_role, is_
 use Rattle.bdb_format.proofs.MemberLemmas.{first_member, in_map, member_cases, no_member, of_map}
 use Rattle.bdb_format.proofs.VerdictLemmas.{AllFail, none_is_first_row}
 use Rattle.bdb_graph.specs.Forest.{AllDistinct, IsWayDown, Names}
-use Rattle.bdb_graph.specs.Linked.{IsForest}
+use Rattle.bdb_image.specs.Linked.{IsForest}
 use Rattle.bdb_graph.proofs.ForestLemmas.{no_page_twice_below, sound_graph}
-use Rattle.bdb_graph.proofs.FirstLemmas.{formed_last}
+use Rattle.bdb_image.proofs.FirstLemmas.{formed_last}
 use Rattle.bdb_graph.proofs.ReachLemmas.{AllUpTo, few_distinct}
 use Rattle.bdb_tree.proofs.ShapeLemmas.{no_queue}
 use Rattle.bdb_format.proofs.TypeLemmas.{AllTypes, of_type}

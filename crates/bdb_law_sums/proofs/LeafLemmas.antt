@@ -20,7 +20,7 @@ use Rattle.bdb_format.proofs.ListLemmas.{only_member}
 use Rattle.bdb_format.proofs.MemberLemmas.{first_member, later_member, member_cases, no_member, none_passes, of_flat_map}
 use Rattle.bdb_format.proofs.TypeLemmas.{keyed_below, of_type, tree_keyed}
 use Rattle.bdb_format.proofs.VerdictLemmas.{AllFail, no_rows_at}
-use Rattle.bdb_graph.specs.Linked.{FitsDupRoot, FitsLeafPage, HasMetadata, IsForest, IsTarget}
+use Rattle.bdb_image.specs.Linked.{FitsDupRoot, FitsLeafPage, HasMetadata, IsForest, IsTarget}
 use Rattle.bdb_graph.proofs.LinkedLemmas.{root_fits}
 use Rattle.bdb_tree.specs.Trees.{IsTreePage}
 use Rattle.bdb_tree.proofs.ShapeLemmas.{is_tree_in}

@@ -24,7 +24,7 @@ use Rattle.bdb_format.proofs.ListLemmas.{only_member}
 use Rattle.bdb_format.proofs.MemberLemmas.{none_passes, no_member, of_flat_map, of_range}
 use Rattle.bdb_format.proofs.VerdictLemmas.{AllFail, no_rows_at, no_stage, none_in}
 use Rattle.bdb_format.proofs.FileLemmas.{page_is}
-use Rattle.bdb_graph.specs.Linked.{IsForest}
+use Rattle.bdb_image.specs.Linked.{IsForest}
 use Rattle.bdb_graph.proofs.ReadLemmas.{master_is}
 use Rattle.bdb_tree.proofs.PairLemmas.{master_pair_inside}
 use Rattle.bdb_tree.proofs.TreeLemmas.{typed_inside}

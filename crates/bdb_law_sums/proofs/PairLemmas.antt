@@ -28,7 +28,7 @@ use Rattle.bdb_format.proofs.MemberLemmas.{of_range}
 use Rattle.bdb_format.proofs.PageLemmas.{length_items}
 use Rattle.bdb_format.proofs.TypeLemmas.{of_type}
 use Rattle.bdb_format.proofs.FileLemmas.{last_page, page_is}
-use Rattle.bdb_graph.specs.Linked.{HasMetadata, IsForest}
+use Rattle.bdb_image.specs.Linked.{HasMetadata, IsForest}
 use Rattle.bdb_graph.proofs.ReadLemmas.{master_keys}
 use Rattle.bdb_law_sums.specs.Databases.{IsSoundForest, PairsAreOfDatabases, all_lists, buckets_below, by_bytes, given_on, given_pair, leaves_below}
 use Rattle.bdb_law_sums.specs.Databases.{master_fields, master_list, named_fields}

@@ -10,8 +10,8 @@ use Rattle.bdb_format.specs.Rows.{may_have_type}
 use Rattle.bdb_format.proofs.GraphLemmas.{type_fits}
 use Rattle.bdb_format.proofs.PageLemmas.{later_type}
 use Rattle.bdb_format.proofs.FileLemmas.{kind_is}
-use Rattle.bdb_graph.specs.Linked.{HasMetadata, IsForest}
-use Rattle.bdb_graph.proofs.CodeLemmas.{not_zero}
+use Rattle.bdb_image.specs.Linked.{HasMetadata, IsForest}
+use Rattle.bdb_image.proofs.CodeLemmas.{not_zero}
 use Rattle.bdb_graph.proofs.ReadLemmas.{IsMetaPage, page_of_meta}
 
 no_queue_type : (kind : FileKind) (p : ℕ) → kind ≢ QueueFile → may_have_type kind p 10 ≡ true → ⊥

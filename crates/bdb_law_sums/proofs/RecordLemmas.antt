@@ -18,7 +18,7 @@ use Rattle.bdb_format.specs.Lists.{ListKey, BytesKey, NumberKey, btree_list, by_
 use Rattle.bdb_format.specs.Page.{Item, Metadata, BtreeFields, HashFields, QueueFields, Page, RecnoLeaf, DupLeaf}
 use Rattle.bdb_format.specs.References.{has_type}
 use Rattle.bdb_format.proofs.MemberLemmas.{in_filter, member_cases, no_member}
-use Rattle.bdb_graph.specs.Linked.{FitsTreeRoot, HasMetadata, IsTarget}
+use Rattle.bdb_image.specs.Linked.{FitsTreeRoot, HasMetadata, IsTarget}
 use Rattle.bdb_graph.proofs.LinkedLemmas.{root_fits}
 use Rattle.bdb_tree.proofs.TreeLemmas.{leaf_inside}
 use Rattle.bdb_law_sums.specs.Counting.{times}

@@ -23,15 +23,15 @@ use Rattle.bdb_format.specs.Rows.{form_code, metadata_rows, type_of}
 use Rattle.bdb_format.specs.Table.{first_row}
 use Rattle.bdb_format.specs.declared.kinds.Order.{Order}
 use Rattle.bdb_graph.proofs.ChildLemmas.{is_queue_page}
-use Rattle.bdb_graph.proofs.CodeLemmas.{first_page_code}
-use Rattle.bdb_graph.proofs.FirstLemmas.{formed_page}
+use Rattle.bdb_image.proofs.CodeLemmas.{first_page_code}
+use Rattle.bdb_image.proofs.FirstLemmas.{formed_page}
 use Rattle.bdb_format.specs.Page.{BtreeFields, HashFields, QueueFields, Page, Zero, Free, Meta, Hash, Internal, RecnoInternal, Leaf, RecnoLeaf}
 use Rattle.bdb_format.specs.Page.{DupLeaf, Overflow, Queue, NoType}
 use Rattle.bdb_format.specs.References.{Asked, asked_by, fit_code, fit_rows, has_type, is_zero_page, targets_of, refs}
 use Rattle.bdb_format.proofs.GraphLemmas.{each_fits, each_page_has_one_role, is_owner, owner_fits, reserve_is}
 use Rattle.bdb_format.proofs.MemberLemmas.{first_member, member_cases, no_member, of_map}
 use Rattle.bdb_format.proofs.VerdictLemmas.{AllFail, none_is_first_row}
-use Rattle.bdb_graph.specs.Linked.{IsForest}
+use Rattle.bdb_image.specs.Linked.{IsForest}
 use Rattle.bdb_graph.proofs.ForestLemmas.{sound_graph}
 use Rattle.bdb_tree.specs.Trees.{IsRoot}
 use Rattle.bdb_format.proofs.TypeLemmas.{AllTypes, of_type}

@@ -16,7 +16,7 @@ use Rattle.bdb_format.specs.Master.{master_in}
 use Rattle.bdb_format.specs.Page.{Metadata, BtreeFields, HashFields, QueueFields, Tree}
 use Rattle.bdb_format.specs.References.{no_item}
 use Rattle.bdb_format.specs.Verdict.{master_faults, structure_faults}
-use Rattle.bdb_graph.specs.Linked.{FitsDupRoot, FitsTreeRoot, IsForest}
+use Rattle.bdb_image.specs.Linked.{FitsDupRoot, FitsTreeRoot, IsForest}
 use Rattle.bdb_tree.specs.Noted.{paired}
 use Rattle.bdb_law_sums.specs.HashSums.{is_hash_page}
 use Rattle.bdb_law_sums.specs.TreeSums.{leaf_weight}

@@ -9,7 +9,7 @@ use Rattle.bdb_format.specs.Lists.{by_key}
 use Rattle.bdb_format.specs.File.{File, file_of, page_at, type_in}
 use Rattle.bdb_format.specs.Graph.{Owner, all_references, is_spare}
 use Rattle.bdb_format.specs.References.{has_type}
-use Rattle.bdb_graph.specs.Linked.{IsForest}
+use Rattle.bdb_image.specs.Linked.{IsForest}
 
 abbrev pub is_hash_page : File → ℕ → Bool
 is_hash_page file p = has_type (2 ∷ 13 ∷ []) (type_in (page_at file p))

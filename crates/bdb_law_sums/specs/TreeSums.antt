@@ -5,7 +5,7 @@ use Rattle.bdb_format.specs.File.{File, file_of, page_at, type_in}
 use Rattle.bdb_format.specs.Graph.{Owner}
 use Rattle.bdb_format.specs.Leaves.{leaves, root_references}
 use Rattle.bdb_format.specs.References.{has_type}
-use Rattle.bdb_graph.specs.Linked.{IsForest}
+use Rattle.bdb_image.specs.Linked.{IsForest}
 use Rattle.bdb_law_sums.specs.Counting.{times}
 
 -- what a leaf weighs; another page weighs nothing

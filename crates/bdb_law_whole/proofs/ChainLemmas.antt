@@ -22,11 +22,11 @@ use Rattle.bdb_format.proofs.ReferenceLemmas.{forest_names, of_all}
 use Rattle.bdb_format.proofs.TypeLemmas.{if_type, of_type}
 use Rattle.bdb_format.proofs.VerdictLemmas.{AllFail, no_rows_at, none_is_first_row}
 use Rattle.bdb_format.proofs.FileLemmas.{count_is, kind_is, last_page, page_is}
-use Rattle.bdb_graph.specs.Fits.{asks_previous}
+use Rattle.bdb_image.specs.Fits.{asks_previous}
 use Rattle.bdb_graph.specs.Forest.{AllDistinct, IsWayDown, Names}
-use Rattle.bdb_graph.specs.Linked.{FitsChain, IsForest}
-use Rattle.bdb_graph.proofs.FirstLemmas.{formed_last}
-use Rattle.bdb_graph.proofs.FitLemmas.{zero_type}
+use Rattle.bdb_image.specs.Linked.{FitsChain, IsForest}
+use Rattle.bdb_image.proofs.FirstLemmas.{formed_last}
+use Rattle.bdb_image.proofs.FitLemmas.{zero_type}
 use Rattle.bdb_graph.proofs.ForestLemmas.{no_page_twice_below, sound_graph}
 use Rattle.bdb_graph.proofs.ReachLemmas.{AllUpTo, few_distinct}
 use Rattle.bdb_survey.specs.Salvage.{follows, is_link, is_overflow, is_row, is_whole}

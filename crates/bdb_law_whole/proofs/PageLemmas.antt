@@ -16,10 +16,10 @@ use Rattle.bdb_format.specs.Verdict.{head_faults, holding, tail_faults, tail_row
 use Rattle.bdb_format.proofs.VerdictLemmas.{all_fail, no_codes_at, none_is_first_row, none_within, or_else_none}
 use Rattle.bdb_format.proofs.GraphLemmas.{zero_page}
 use Rattle.bdb_format.proofs.FileLemmas.{past_last, count_is as pages_are, last_page, page_is as file_page}
-use Rattle.bdb_graph.specs.Linked.{IsForest}
-use Rattle.bdb_graph.proofs.CodeLemmas.{code_by}
-use Rattle.bdb_graph.proofs.FirstLemmas.{formed_last, formed_page}
-use Rattle.bdb_graph.proofs.HeldLemmas.{identity_none}
+use Rattle.bdb_image.specs.Linked.{IsForest}
+use Rattle.bdb_image.proofs.CodeLemmas.{code_by}
+use Rattle.bdb_image.proofs.FirstLemmas.{formed_last, formed_page}
+use Rattle.bdb_image.proofs.HeldLemmas.{identity_none}
 use Rattle.bdb_graph.proofs.LinkedLemmas.{forest_code}
 use Rattle.bdb_overflow.proofs.LinkedLemmas.{count_is}
 use Rattle.bdb_survey.specs.Salvage.{salvaged_page, unless_code}

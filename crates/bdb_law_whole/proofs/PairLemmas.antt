@@ -13,7 +13,7 @@ use Rattle.bdb_format.specs.Page.{Content, Inline, Set, Chain, Tree, Unknown, It
 use Rattle.bdb_format.specs.References.{is_shared_key, item_at, no_item}
 use Rattle.bdb_format.proofs.MemberLemmas.{first_member, in_map, later_member, member_cases, no_member, of_range}
 use Rattle.bdb_format.proofs.ListLemmas.{flat_map_same}
-use Rattle.bdb_graph.specs.Linked.{FitsDupRoot}
+use Rattle.bdb_image.specs.Linked.{FitsDupRoot}
 use Rattle.bdb_survey.specs.Salvage.{item_pairs, live_value, live_whole, pair_in, paired_items, stored_on, stored_pair, whole_data, whole_values}
 use Rattle.bdb_tree.proofs.ShapeLemmas.{AreAlone, IsAlone, IsFormedPage, SetsAreData, formed_at}
 use Rattle.bdb_tree.proofs.TreeLemmas.{hash_dup_root, leaf_dup_root, leaf_low, root_is_tree}

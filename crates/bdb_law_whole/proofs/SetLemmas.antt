@@ -25,7 +25,7 @@ use Rattle.bdb_format.proofs.MemberLemmas.{first_member, later_member, member_ca
 use Rattle.bdb_format.proofs.TypeLemmas.{of_type}
 use Rattle.bdb_format.proofs.VerdictLemmas.{AllFail, no_rows_at}
 use Rattle.bdb_format.proofs.FileLemmas.{last_page, page_is}
-use Rattle.bdb_graph.specs.Linked.{FitsDupRoot, FitsLeafPage, IsForest}
+use Rattle.bdb_image.specs.Linked.{FitsDupRoot, FitsLeafPage, IsForest}
 use Rattle.bdb_survey.specs.Salvage.{down, down_by, down_in, fits_below, follows, is_like, is_row, row_from, set_start, whole_set}
 use Rattle.bdb_survey.proofs.StoredPageLemmas.{last_is}
 use Rattle.bdb_tree.specs.Links.{pages_from}

@@ -12,7 +12,7 @@ use Rattle.bdb_format.specs.References.{no_item}
 use Rattle.bdb_format.proofs.ListLemmas.{any_member, only_member, passes_here}
 use Rattle.bdb_format.proofs.MemberLemmas.{first_member, in_flat_map, in_map, in_range, no_member, of_flat_map, of_map, of_range}
 use Rattle.bdb_format.proofs.FileLemmas.{past_last}
-use Rattle.bdb_graph.specs.Linked.{FitsDupRoot}
+use Rattle.bdb_image.specs.Linked.{FitsDupRoot}
 use Rattle.bdb_survey.specs.Salvage.{ItemPair, is_taken, item_pairs, pair_in, pair_start, paired_items, set_start, set_starts, start_in, whole_values}
 use Rattle.bdb_survey.proofs.StoredPageLemmas.{count_is}
 use Rattle.bdb_tree.specs.Noted.{paired}

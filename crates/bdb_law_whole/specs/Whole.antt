@@ -6,7 +6,7 @@ use Rattle.bdb_format.specs.File.{file_of, page_at}
 use Rattle.bdb_format.specs.HeadOf.{head_of}
 use Rattle.bdb_format.specs.Leaves.{leaves}
 use Rattle.bdb_format.specs.Verdict.{structure_faults}
-use Rattle.bdb_graph.specs.Linked.{FitsDupRoot, IsForest}
+use Rattle.bdb_image.specs.Linked.{FitsDupRoot, IsForest}
 use Rattle.bdb_survey.specs.Salvage.{stored_on, whole_set}
 use Rattle.bdb_law_sums.specs.Databases.{given_on}
 use Rattle.bdb_law_whole.specs.Guessed.{guessed}

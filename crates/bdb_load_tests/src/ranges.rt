@@ -1,6 +1,6 @@
 // A thousand ranges of a file of 200,000 pairs: scanning the file for each of them wouldn't end in time.
 ghost use Rattle.std.specs.Prelude.{◌≡◌, ◌<◌, [], false, length};
-ghost use Rattle.bdb_graph.specs.Linked.{HasMetadata};
+ghost use Rattle.bdb_image.specs.Linked.{HasMetadata};
 ghost use Rattle.bdb_format.specs.ContentRows.{database_faults};
 ghost use Rattle.bdb_format.specs.Databases.{databases};
 ghost use Rattle.bdb_format.specs.File.{file_of};

@@ -17,7 +17,7 @@ use Rattle.bdb_format.specs.Table.{Row, ◌:?◌}
 use Rattle.bdb_format.specs.Verdict.{holding, master_faults}
 use Rattle.bdb_format.proofs.MemberLemmas.{first_member, in_flat_map, in_map, no_member, of_flat_map, of_map}
 use Rattle.bdb_format.proofs.VerdictLemmas.{IsOfStage, in_by_page, of_by_page}
-use Rattle.bdb_graph.specs.Linked.{IsForest, meta_pages}
+use Rattle.bdb_image.specs.Linked.{IsForest, meta_pages}
 use Rattle.bdb_tree.proofs.ListedLemmas.{at_meta, meta_at}
 use Rattle.bdb_tree.proofs.PairLemmas.{master_pair_inside}
 use Rattle.bdb_master.specs.Entries.{NamedPair, count_fault, entries_naming, entry_fault, fault_at, master_entries, named, naming_fault, repeat_fault}

@@ -2,7 +2,7 @@ ghost use Rattle.std.specs.Prelude.{◌≡◌, ◌<◌, ℕ, IfOk, OnOk, if◌th
 ghost use Rattle.bdb_faults.specs.Notes.{NotesAll};
 ghost use Rattle.bdb_master.specs.Entries.{AreCounts, by_naming, count_fault, one_more};
 ghost use Rattle.bdb_format.specs.Master.{is_page};
-ghost use Rattle.bdb_graph.specs.Linked.{IsForest};
+ghost use Rattle.bdb_image.specs.Linked.{IsForest};
 ghost use Rattle.bdb_format.specs.File.{file_of};
 
 use crate::entry::Entry;

@@ -3,7 +3,7 @@ ghost use Rattle.bdb_btree.specs.Held.{AreKeyed, pair_held, stored_as};
 ghost use Rattle.bdb_btree.specs.Pairs.{AreFit};
 ghost use Rattle.bdb_master.specs.Entries.{entry_of, live_entries, master_entries};
 ghost use Rattle.bdb_format.specs.Master.{master_in};
-ghost use Rattle.bdb_graph.specs.Metas.{meta_seen};
+ghost use Rattle.bdb_image.specs.Metas.{meta_seen};
 ghost use Rattle.bdb_format.specs.File.{file_of, page_at};
 ghost use Rattle.bdb_format.specs.Page.{Meta as MetaPage};
 ghost use Rattle.bdb_format.specs.Verdict.{structure_faults};

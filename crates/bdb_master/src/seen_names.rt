@@ -2,7 +2,7 @@ ghost use Rattle.std.specs.Prelude.{◌≡◌, IfOk, OnOk, not};
 ghost use Rattle.std.specs.BTreeSet.{IsEmpty};
 ghost use Rattle.bdb_master.specs.Names.{HasAdded};
 ghost use Rattle.bdb_format.specs.File.{file_of};
-ghost use Rattle.bdb_graph.specs.Linked.{FitsChain};
+ghost use Rattle.bdb_image.specs.Linked.{FitsChain};
 ghost use Rattle.bdb_overflow.specs.Datum.{datum_seen};
 ghost use Rattle.bdb_overflow.specs.Held.{FitsHeld, chain_value, value_held};
 ghost use Rattle.bdb_overflow.specs.Keys.{has_key};

@@ -26,7 +26,7 @@ use Rattle.bdb_format.specs.Spelling.{common_bytes, last_field, table_bytes, zer
 use Rattle.bdb_format.specs.Table.{first_row}
 use Rattle.bdb_format.proofs.MemberLemmas.{none_pass, of_range}
 use Rattle.bdb_format.proofs.SpellingLemmas.{length-spelled, number_at-in}
-use Rattle.bdb_graph.proofs.CodeLemmas.{first_page_code, tree_metadata}
+use Rattle.bdb_image.proofs.CodeLemmas.{first_page_code, tree_metadata}
 use Rattle.bdb_meta.proofs.CommonLemmas.{length-common}
 use Rattle.bdb_meta.proofs.SparesLemmas.{length-spares}
 use Rattle.bdb_law_join.proofs.CommonLemmas.{ReadsAs}

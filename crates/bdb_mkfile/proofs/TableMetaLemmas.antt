@@ -20,7 +20,7 @@ use Rattle.bdb_format.specs.Page.{HashFields, Meta}
 use Rattle.bdb_format.specs.Reading.{hash_fields}
 use Rattle.bdb_format.specs.Spelling.{table_bytes, zeros}
 use Rattle.bdb_format.proofs.SizeLemmas.{size_bounds}
-use Rattle.bdb_graph.proofs.HeldLemmas.{table_page}
+use Rattle.bdb_image.proofs.HeldLemmas.{table_page}
 use Rattle.bdb_pack.specs.Built.{Built, bytes_of}
 use Rattle.bdb_law_join.specs.Filed.{head_for}
 use Rattle.bdb_law_join.specs.Joining.{free_of}

@@ -17,8 +17,8 @@ use Rattle.bdb_format.proofs.FileLemmas.{last_page, page_is}
 use Rattle.bdb_format.proofs.SizeLemmas.{size_bounds}
 use Rattle.std.specs.List.{flat_map}
 use Rattle.std.specs.Prelude.{◌*◌}
-use Rattle.bdb_graph.proofs.CodeLemmas.{tree_passed}
-use Rattle.bdb_graph.proofs.HeldLemmas.{table_page, tree_page}
+use Rattle.bdb_image.proofs.CodeLemmas.{tree_passed}
+use Rattle.bdb_image.proofs.HeldLemmas.{table_page, tree_page}
 use Rattle.bdb_law_grove.specs.Growing.{IsLater, IsSamePage}
 use Rattle.bdb_law_grove.specs.Part.{IsPart, Part, between}
 use Rattle.bdb_law_grove.proofs.ChainLemmas.{between_is, is_between}

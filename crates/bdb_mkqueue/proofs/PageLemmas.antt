@@ -17,7 +17,7 @@ use Rattle.bdb_format.specs.Rows.{identity_rows, is_queue_type, queue_code}
 use Rattle.bdb_format.specs.Spelling.{header_bytes, zeros}
 use Rattle.bdb_format.specs.Table.{first_row}
 use Rattle.bdb_format.proofs.GraphLemmas.{typed_page, zero_page}
-use Rattle.bdb_graph.proofs.CodeLemmas.{code_by}
+use Rattle.bdb_image.proofs.CodeLemmas.{code_by}
 use Rattle.bdb_pack.proofs.AddedLemmas.{zeros_are}
 use Rattle.bdb_pack.proofs.CutLemmas.{suc-times}
 use Rattle.bdb_pack.proofs.HeaderLemmas.{header_read, length-header}

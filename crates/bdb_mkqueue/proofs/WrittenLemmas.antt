@@ -22,8 +22,8 @@ use Rattle.bdb_format.proofs.SpellingLemmas.{length-spelled, number_at-in}
 use Rattle.bdb_format.proofs.VerdictLemmas.{none_in, none_is_first_row}
 use Rattle.bdb_format.proofs.FileLemmas.{kind_is, last_page, page_is}
 use Rattle.bdb_format.proofs.SizeLemmas.{size_bounds}
-use Rattle.bdb_graph.proofs.CodeLemmas.{first_page_code, form_queue}
-use Rattle.bdb_graph.proofs.MetaLemmas.{queue_page}
+use Rattle.bdb_image.proofs.CodeLemmas.{first_page_code, form_queue}
+use Rattle.bdb_image.proofs.MetaLemmas.{queue_page}
 use Rattle.bdb_meta.proofs.CommonLemmas.{length-common}
 use Rattle.bdb_meta.proofs.FilledLemmas.{zeros-spelled}
 use Rattle.bdb_pack.specs.Built.{AreWhole, Built, bytes_of, joined_pages, with_page}

@@ -23,11 +23,11 @@ use Rattle.bdb_format.specs.Table.{Row}
 use Rattle.bdb_format.proofs.ListLemmas.{all_of}
 use Rattle.bdb_format.proofs.MemberLemmas.{in_range, none_passes}
 use Rattle.bdb_format.proofs.VerdictLemmas.{AllFail, none_is_first_row}
-use Rattle.bdb_graph.specs.Formed.{IsAccepted}
-use Rattle.bdb_graph.specs.Linked.{HasMetadata, IsForest}
-use Rattle.bdb_graph.proofs.FirstLemmas.{formed_accepted}
-use Rattle.bdb_graph.proofs.FormedLemmas.{accepted_paged}
-use Rattle.bdb_graph.proofs.HeldLemmas.{table_formed}
+use Rattle.bdb_image.specs.Formed.{IsAccepted}
+use Rattle.bdb_image.specs.Linked.{HasMetadata, IsForest}
+use Rattle.bdb_image.proofs.FirstLemmas.{formed_accepted}
+use Rattle.bdb_image.proofs.FormedLemmas.{accepted_paged}
+use Rattle.bdb_image.proofs.HeldLemmas.{table_formed}
 use Rattle.bdb_graph.proofs.ReadLemmas.{IsMetaPage, flags_fit, page_of_meta}
 use Rattle.bdb_text_format.specs.Written.{holds_records}
 use Rattle.bdb_law_sections.specs.Fit.{AreFitSettings, IsFitPair, IsFitSection}

@@ -13,7 +13,7 @@ use Rattle.bdb_format.specs.References.{contents_in}
 use Rattle.bdb_format.specs.Verdict.{chain_faults}
 use Rattle.bdb_format.proofs.MemberLemmas.{none_pass, none_passes}
 use Rattle.bdb_graph.proofs.ChildLemmas.{is_queue_page}
-use Rattle.bdb_graph.specs.Linked.{IsForest}
+use Rattle.bdb_image.specs.Linked.{IsForest}
 use Rattle.bdb_graph.specs.Walked.{names_head}
 use Rattle.bdb_overflow.specs.Datum.{FitsContent}
 use Rattle.bdb_overflow.specs.Lengths.{has_wrong, is_wrong}

@@ -3,7 +3,7 @@ ghost use Rattle.bdb_faults.specs.Named.{HasNoted};
 ghost use Rattle.bdb_faults.specs.Notes.{Notes, NotesAll};
 ghost use Rattle.bdb_format.specs.File.{file_of};
 ghost use Rattle.bdb_format.specs.Verdict.{chain_faults, first_fault};
-ghost use Rattle.bdb_graph.specs.Linked.{IsForest};
+ghost use Rattle.bdb_image.specs.Linked.{IsForest};
 ghost use Rattle.bdb_overflow.specs.Lengths.{faults_at};
 
 use crate::lengths::has_wrong;

@@ -1,5 +1,5 @@
 ghost use Rattle.std.specs.Prelude.{◌≡◌, ◌+◌, ◌*◌, ◌<◌, ◌≤◌, length};
-ghost use Rattle.bdb_graph.specs.Linked.{FitsChain, IsForest};
+ghost use Rattle.bdb_image.specs.Linked.{FitsChain, IsForest};
 ghost use Rattle.bdb_layout.specs.Seen.{content_seen};
 ghost use Rattle.bdb_format.specs.Chains.{is_wrong_length};
 ghost use Rattle.bdb_format.specs.File.{file_of, page_at};

@@ -1,7 +1,7 @@
 ghost use Rattle.std.specs.Prelude.{◌≡◌, IfOk};
 ghost use Rattle.bdb_format.specs.File.{file_of};
 ghost use Rattle.bdb_format.specs.Less.{less};
-ghost use Rattle.bdb_graph.specs.Linked.{FitsChain};
+ghost use Rattle.bdb_image.specs.Linked.{FitsChain};
 ghost use Rattle.bdb_overflow.specs.Held.{FitsHeld, chain_value, value_held};
 
 use crate::{Datum, Held, chain_pieces, is_less};

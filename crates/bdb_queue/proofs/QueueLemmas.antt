@@ -17,10 +17,10 @@ use Rattle.bdb_format.specs.Reading.{abstract_page, is_zero, page_as, page_type,
 use Rattle.bdb_format.specs.Rows.{form_code, metadata_rows, records_per_page}
 use Rattle.bdb_format.specs.Table.{first_row}
 use Rattle.bdb_format.proofs.VerdictLemmas.{AllFail, none_is_first_row}
-use Rattle.bdb_graph.specs.Linked.{HasMetadata, IsForest}
-use Rattle.bdb_graph.proofs.FirstLemmas.{formed_accepted, formed_last, formed_page}
-use Rattle.bdb_graph.proofs.FormedLemmas.{accepted_paged, page_length}
-use Rattle.bdb_graph.proofs.MetaLemmas.{queue_formed}
+use Rattle.bdb_image.specs.Linked.{HasMetadata, IsForest}
+use Rattle.bdb_image.proofs.FirstLemmas.{formed_accepted, formed_last, formed_page}
+use Rattle.bdb_image.proofs.FormedLemmas.{accepted_paged, page_length}
+use Rattle.bdb_image.proofs.MetaLemmas.{queue_formed}
 use Rattle.bdb_queue.specs.Records.{HasSlots}
 use Rattle.bdb_format.proofs.GraphLemmas.{typed_page}
 use Rattle.bdb_format.proofs.FileLemmas.{last_page, page_is}

@@ -1,6 +1,6 @@
 ghost use Rattle.std.specs.Prelude.{◌≡◌, ◌+◌, ◌<◌, ◌≤◌, length};
 ghost use Rattle.std.specs.Iterator.{YieldsFirstBy, item_count};
-ghost use Rattle.bdb_graph.specs.Linked.{HasMetadata, IsForest};
+ghost use Rattle.bdb_image.specs.Linked.{HasMetadata, IsForest};
 ghost use Rattle.bdb_format.specs.File.{file_of, page_at};
 ghost use Rattle.bdb_format.specs.Lists.{NumberKey, get, queue_list};
 ghost use Rattle.bdb_format.specs.Page.{QueueFields};

@@ -1,6 +1,6 @@
 ghost use Rattle.std.specs.Prelude.{◌≡◌};
 ghost use Rattle.std.specs.Iterator.{YieldsFirstBy, item_count};
-ghost use Rattle.bdb_graph.specs.Linked.{HasMetadata};
+ghost use Rattle.bdb_image.specs.Linked.{HasMetadata};
 ghost use Rattle.bdb_format.specs.File.{file_of};
 ghost use Rattle.bdb_format.specs.Lists.{queue_list};
 ghost use Rattle.bdb_format.specs.Page.{QueueFields};

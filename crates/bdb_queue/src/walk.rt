@@ -1,5 +1,5 @@
 ghost use Rattle.std.specs.Prelude.{◌≡◌, ◌<◌, ◌≤◌, ◌∷◌, [], IfSome, MatchOption};
-ghost use Rattle.bdb_graph.specs.Linked.{HasMetadata, IsForest};
+ghost use Rattle.bdb_image.specs.Linked.{HasMetadata, IsForest};
 ghost use Rattle.bdb_format.specs.File.{file_of, page_at};
 ghost use Rattle.bdb_format.specs.Page.{QueueFields};
 ghost use Rattle.bdb_queue.specs.Records.{HasSlots, left_from, record_seen, records_from, slots_from};

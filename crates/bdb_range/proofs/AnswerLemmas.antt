@@ -11,9 +11,9 @@ use Rattle.bdb_format.specs.HeadOf.{head_of}
 use Rattle.bdb_format.specs.Leaves.{leaves}
 use Rattle.bdb_format.specs.Page.{BtreeFields}
 use Rattle.bdb_format.proofs.FileLemmas.{count_is}
-use Rattle.bdb_graph.specs.Linked.{HasMetadata, IsForest}
-use Rattle.bdb_graph.proofs.FirstLemmas.{formed_accepted}
-use Rattle.bdb_graph.proofs.FormedLemmas.{accepted_paged}
+use Rattle.bdb_image.specs.Linked.{HasMetadata, IsForest}
+use Rattle.bdb_image.proofs.FirstLemmas.{formed_accepted}
+use Rattle.bdb_image.proofs.FormedLemmas.{accepted_paged}
 use Rattle.bdb_tree.specs.Descent.{descent}
 use Rattle.bdb_tree.specs.Trees.{IsRoot}
 use Rattle.bdb_tree.proofs.LinkLemmas.{few_leaves}

@@ -4,7 +4,7 @@ use Rattle.bdb_format.specs.declared.metadata.BtreeMeta.{BtreeMeta}
 use Rattle.bdb_format.specs.File.{File, file_of}
 use Rattle.bdb_format.specs.HeadOf.{head_of}
 use Rattle.bdb_format.specs.Page.{BtreeFields}
-use Rattle.bdb_graph.specs.Linked.{HasMetadata, IsForest}
+use Rattle.bdb_image.specs.Linked.{HasMetadata, IsForest}
 use Rattle.bdb_graph.proofs.LinkedLemmas.{root_fits}
 use Rattle.bdb_tree.specs.Trees.{IsRoot}
 use Rattle.bdb_btree.specs.Pairs.{AreLeaves}

@@ -13,7 +13,7 @@ use Rattle.bdb_format.specs.Lists.{btree_list, listed_pair}
 use Rattle.bdb_format.specs.Page.{BtreeFields}
 use Rattle.bdb_format.specs.Verdict.{structure_faults}
 use Rattle.bdb_format.proofs.MemberLemmas.{first_member, in_flat_map, member_cases, no_member, of_flat_map}
-use Rattle.bdb_graph.specs.Linked.{FitsLeafPage, HasMetadata, IsForest}
+use Rattle.bdb_image.specs.Linked.{FitsLeafPage, HasMetadata, IsForest}
 use Rattle.bdb_graph.proofs.LinkedLemmas.{root_fits}
 use Rattle.bdb_tree.specs.Trees.{IsRoot}
 use Rattle.bdb_tree.proofs.LinkLemmas.{root_within}

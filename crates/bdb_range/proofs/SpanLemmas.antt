@@ -18,7 +18,7 @@ use Rattle.bdb_format.specs.Page.{BtreeFields}
 use Rattle.bdb_format.proofs.LessLemmas.{less_above, less_self}
 use Rattle.bdb_format.proofs.MemberLemmas.{first_member, in_flat_map, later_member, member_cases, no_member, none_passes}
 use Rattle.bdb_format.proofs.ListLemmas.{passes_here}
-use Rattle.bdb_graph.specs.Linked.{FitsLeafPage, HasMetadata, IsForest}
+use Rattle.bdb_image.specs.Linked.{FitsLeafPage, HasMetadata, IsForest}
 use Rattle.bdb_btree.specs.Pairs.{AreLeaves}
 use Rattle.std.proofs.lemmas.List.{get_or-drop, length-drop}
 use Rattle.std.proofs.lemmas.List.Sums.{prefix_len-le-length, prefix_len_stops}

@@ -16,8 +16,8 @@ use Rattle.bdb_format.specs.Page.{InternalItem, Internal, Listed}
 use Rattle.bdb_format.proofs.LessLemmas.{less_above, less_trans}
 use Rattle.bdb_format.proofs.MemberLemmas.{in_flat_map, in_map, no_member, of_flat_map}
 use Rattle.bdb_format.proofs.TypeLemmas.{tree_keyed}
-use Rattle.bdb_graph.specs.Linked.{IsForest}
-use Rattle.bdb_graph.specs.Slots.{no_internal_item}
+use Rattle.bdb_image.specs.Linked.{IsForest}
+use Rattle.bdb_slots.specs.Slots.{no_internal_item}
 use Rattle.bdb_tree.specs.Descent.{IsLastFalse, chosen, descent, next_below}
 use Rattle.bdb_tree.proofs.DescentLemmas.{chosen_is, internal_inside, internal_is, is_inner, is_inner_below}
 use Rattle.bdb_tree.proofs.TreeLemmas.{HasTypeAt, IsChild, child_is, leaves_of_inner, leaves_of_leaf, level, tree_cases, tree_level}

@@ -10,7 +10,7 @@ use Rattle.bdb_format.specs.Leaves.{leaves}
 use Rattle.bdb_format.specs.Less.{less}
 use Rattle.bdb_format.specs.Lists.{btree_list, listed_pair}
 use Rattle.bdb_format.specs.Page.{BtreeFields}
-use Rattle.bdb_graph.specs.Linked.{HasMetadata, IsForest}
+use Rattle.bdb_image.specs.Linked.{HasMetadata, IsForest}
 use Rattle.bdb_tree.specs.Descent.{descent}
 use Rattle.bdb_btree.specs.Search.{is_below}
 use Rattle.bdb_range.specs.Ranges.{in_range, lies_between}

@@ -34,11 +34,11 @@ use Rattle.bdb_form.specs.Seen.{page_seen}
 use Rattle.bdb_form.specs.declared.view.PageView.{PageView}
 use Rattle.bdb_form.specs.declared.view.PageView.TheVariants.{Overflow as OverflowSeen}
 use Rattle.bdb_graph.specs.Forest.{IsWayUp, is_top}
-use Rattle.bdb_graph.specs.Linked.{FitsChain, IsForest}
+use Rattle.bdb_image.specs.Linked.{FitsChain, IsForest}
 use Rattle.bdb_graph.proofs.ChildLemmas.{is_queue_page}
-use Rattle.bdb_graph.proofs.FirstLemmas.{formed_page}
+use Rattle.bdb_image.proofs.FirstLemmas.{formed_page}
 use Rattle.bdb_graph.proofs.ForestLemmas.{each_page_leads_up, sound_graph}
-use Rattle.bdb_graph.proofs.HeldLemmas.{own_type}
+use Rattle.bdb_image.proofs.HeldLemmas.{own_type}
 use Rattle.bdb_tree.proofs.BelongLemmas.{no_anchor_in}
 use Rattle.bdb_tree.proofs.RootLemmas.{of_refs}
 use Rattle.bdb_tree.proofs.ShapeLemmas.{no_queue}

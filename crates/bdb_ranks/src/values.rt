@@ -1,7 +1,7 @@
 ghost use Rattle.std.specs.Prelude.{◌≡◌, IfOk, IfSome, List, ℕ};
 ghost use Rattle.bdb_format.specs.File.{file_of};
 ghost use Rattle.bdb_format.specs.Less.{less};
-ghost use Rattle.bdb_graph.specs.Linked.{FitsChain};
+ghost use Rattle.bdb_image.specs.Linked.{FitsChain};
 ghost use Rattle.bdb_overflow.specs.Held.{FitsHeld, chain_value, value_held};
 ghost use Rattle.bdb_ranks.specs.Ranks.{AreRanks};
 

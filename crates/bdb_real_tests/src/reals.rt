@@ -2,7 +2,7 @@
 
 ghost use Rattle.std.specs.Prelude.{◌≡◌, [], IsTrue, false};
 ghost use Rattle.std.specs.Iterator.{IsFinite};
-ghost use Rattle.bdb_graph.specs.Linked.{HasMetadata};
+ghost use Rattle.bdb_image.specs.Linked.{HasMetadata};
 ghost use Rattle.bdb_format.specs.ContentRows.{database_faults};
 ghost use Rattle.bdb_format.specs.File.{file_of};
 ghost use Rattle.bdb_format.specs.Page.{BtreeFields, HashFields, QueueFields};

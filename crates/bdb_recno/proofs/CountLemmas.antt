@@ -21,7 +21,7 @@ use Rattle.bdb_format.specs.Leaves.{children_in}
 use Rattle.bdb_format.specs.Page.{Item, Listed, RecnoInternal, RecnoLeaf}
 use Rattle.bdb_format.proofs.ListLemmas.{all_of, only_member}
 use Rattle.bdb_format.proofs.MemberLemmas.{in_map, later_member, no_member, of_flat_map}
-use Rattle.bdb_graph.specs.Linked.{IsForest}
+use Rattle.bdb_image.specs.Linked.{IsForest}
 use Rattle.bdb_tree.proofs.InnerLemmas.{faults_below, inner_noted, leads_down, no_inner}
 use Rattle.bdb_recno.specs.Counts.{counted, miscounts}
 use Rattle.bdb_recno.specs.Noted.{count_faults, fault_on}

@@ -2,10 +2,10 @@
 use Rattle.std.proofs.Common.{◌≡◌, ℕ, ◌*◌, ◌≤◌, List, length, Option, Some, None, arith, refl, sym, ◌∙◌, ap}
 use Rattle.bdb_form.specs.Formed.{IsListed}
 use Rattle.bdb_form.proofs.FormedLemmas.{listed_room}
-use Rattle.bdb_graph.proofs.FirstLemmas.{formed_accepted, formed_last, formed_page}
-use Rattle.bdb_graph.proofs.FormedLemmas.{IsPaged, accepted_paged, page_length}
+use Rattle.bdb_image.proofs.FirstLemmas.{formed_accepted, formed_last, formed_page}
+use Rattle.bdb_image.proofs.FormedLemmas.{IsPaged, accepted_paged, page_length}
 use Rattle.bdb_graph.proofs.LinkedLemmas.{forest_code}
-use Rattle.bdb_graph.specs.Linked.{IsForest}
+use Rattle.bdb_image.specs.Linked.{IsForest}
 use Rattle.bdb_format.specs.declared.kinds.Order.{Order}
 use Rattle.bdb_format.specs.File.{file_of, page_at, page_bytes}
 use Rattle.bdb_format.specs.HeadOf.{head_of}

@@ -1,6 +1,6 @@
 ghost use Rattle.std.specs.Prelude.{◌≡◌, IfOk, OnOk, length};
 ghost use Rattle.bdb_faults.specs.Notes.{NotesAll};
-ghost use Rattle.bdb_graph.specs.Linked.{IsForest};
+ghost use Rattle.bdb_image.specs.Linked.{IsForest};
 ghost use Rattle.bdb_format.specs.ContentRows.{inner_pages};
 ghost use Rattle.bdb_format.specs.Contents.{tree_entries};
 ghost use Rattle.bdb_format.specs.File.{file_of};

@@ -1,6 +1,6 @@
 ghost use Rattle.std.specs.Prelude.{◌≡◌, [], OnOk, length};
 ghost use Rattle.bdb_faults.specs.Notes.{NotesAll};
-ghost use Rattle.bdb_graph.specs.Linked.{IsForest};
+ghost use Rattle.bdb_image.specs.Linked.{IsForest};
 ghost use Rattle.bdb_layout.specs.Seen.{leaf_item_seen};
 ghost use Rattle.bdb_format.specs.Chains.{value_of};
 ghost use Rattle.bdb_format.specs.ContentRows.{has_wrong_record, is_wrong_record};

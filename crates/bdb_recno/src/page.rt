@@ -1,5 +1,5 @@
 ghost use Rattle.std.specs.Prelude.{◌≡◌, IsTrue};
-ghost use Rattle.bdb_graph.specs.Linked.{FitsTreeRoot, HasMetadata, IsForest};
+ghost use Rattle.bdb_image.specs.Linked.{FitsTreeRoot, HasMetadata, IsForest};
 ghost use Rattle.bdb_format.specs.File.{file_of, page_at};
 ghost use Rattle.bdb_format.specs.Page.{BtreeFields, RecnoLeaf};
 ghost use Rattle.bdb_format.specs.Flags.{is_recno};

@@ -1,7 +1,7 @@
 ghost use Rattle.std.specs.Prelude.{◌≡◌, ◌+◌, ◌≤◌};
 ghost use Rattle.std.specs.List.{slice_get};
 ghost use Rattle.std.specs.Option.{option_map};
-ghost use Rattle.bdb_graph.specs.Linked.{IsForest};
+ghost use Rattle.bdb_image.specs.Linked.{IsForest};
 ghost use Rattle.bdb_layout.specs.Seen.{leaf_item_seen};
 ghost use Rattle.bdb_format.specs.Contents.{tree_entries};
 ghost use Rattle.bdb_format.specs.File.{file_of, header_in, page_at};

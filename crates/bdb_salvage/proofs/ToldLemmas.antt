@@ -10,8 +10,8 @@ use Rattle.bdb_format.specs.Numbers.{four_at}
 use Rattle.bdb_format.proofs.BoolLemmas.{first_or_none}
 use Rattle.bdb_format.proofs.VerdictLemmas.{none_is_first_row}
 use Rattle.bdb_format.specs.Table.{first_row}
-use Rattle.bdb_graph.specs.Formed.{IsAccepted}
-use Rattle.bdb_graph.proofs.FirstLemmas.{formed_accepted}
+use Rattle.bdb_image.specs.Formed.{IsAccepted}
+use Rattle.bdb_image.proofs.FirstLemmas.{formed_accepted}
 use Rattle.bdb_law_sums.specs.Databases.{IsSoundForest}
 use Rattle.bdb_law_sums.proofs.MetaLemmas.{sound_forest}
 use Rattle.bdb_law_whole.proofs.KeptLemmas.{sound_files_are_kept}

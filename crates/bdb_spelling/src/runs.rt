@@ -36,10 +36,8 @@ fn read_digits(text: &[u8], room: &mut Vec<u8>) -> Result<(), SpellError>
     let mut rest = text;
     while !rest.is_empty() {
         let run = rest.len().min(RUN);
-        match push_decoded(room, &rest[..run]) {
-            Ok(()) => rest = &rest[run..],
-            Err(error) => return Err(error),
-        }
+        push_decoded(room, &rest[..run])?;
+        rest = &rest[run..];
     }
     Ok(())
 }

@@ -27,9 +27,9 @@ use Rattle.bdb_format.specs.Page.{Page}
 use Rattle.bdb_format.specs.Reading.{abstract_page, is_zero, page_as, page_type}
 use Rattle.bdb_format.specs.Rows.{form_code, is_queue, is_tree_type, may_have_type, type_of}
 use Rattle.bdb_format.specs.Verdict.{ownership_faults, ownership_rows}
-use Rattle.bdb_graph.proofs.FirstLemmas.{formed_page}
-use Rattle.bdb_graph.proofs.HeldLemmas.{own_type}
-use Rattle.bdb_graph.specs.Linked.{IsForest}
+use Rattle.bdb_image.proofs.FirstLemmas.{formed_page}
+use Rattle.bdb_image.proofs.HeldLemmas.{own_type}
+use Rattle.bdb_image.specs.Linked.{IsForest}
 use Rattle.bdb_stat.specs.Classes.{class_by_type, class_of, is_class, same_class, tree_level}
 use Rattle.bdb_stat.specs.declared.class.Class.{Class}
 use Rattle.bdb_stat.specs.declared.class.Class.TheVariants.{Internal, Leaf, Meta, Queue, Reserve, Tail}

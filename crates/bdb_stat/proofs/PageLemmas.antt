@@ -10,9 +10,9 @@ use Rattle.bdb_format.specs.Numbers.{byte_at}
 use Rattle.bdb_format.specs.Reading.{abstract_page, is_zero, page_as, page_type}
 use Rattle.bdb_format.specs.Rows.{body_code, form_code}
 use Rattle.bdb_graph.proofs.ChainLengthLemmas.{size_is}
-use Rattle.bdb_graph.proofs.FirstLemmas.{formed_accepted, formed_page}
-use Rattle.bdb_graph.specs.Formed.{IsAccepted}
-use Rattle.bdb_graph.specs.Linked.{IsForest}
+use Rattle.bdb_image.proofs.FirstLemmas.{formed_accepted, formed_page}
+use Rattle.bdb_image.specs.Formed.{IsAccepted}
+use Rattle.bdb_image.specs.Linked.{IsForest}
 use Rattle.bdb_stat.specs.Unused.{unused_in}
 use Rattle.bdb_turned.proofs.PageLemmas.{body_passed}
 

@@ -21,10 +21,10 @@ use Rattle.bdb_format.specs.Page.{Listed, Page, Zero, Free, Meta as MetaPage, Ha
 use Rattle.bdb_format.specs.Page.{RecnoLeaf, DupLeaf, Overflow as OverflowPage, Queue as QueuePage, NoType}
 use Rattle.bdb_format.specs.Rows.{is_queue}
 use Rattle.bdb_format.specs.Verdict.{faults_of}
-use Rattle.bdb_graph.proofs.FirstLemmas.{formed_accepted}
-use Rattle.bdb_graph.proofs.FormedLemmas.{IsPaged, accepted_paged}
-use Rattle.bdb_graph.specs.Formed.{IsAccepted}
-use Rattle.bdb_graph.specs.Linked.{IsForest}
+use Rattle.bdb_image.proofs.FirstLemmas.{formed_accepted}
+use Rattle.bdb_image.proofs.FormedLemmas.{IsPaged, accepted_paged}
+use Rattle.bdb_image.specs.Formed.{IsAccepted}
+use Rattle.bdb_image.specs.Linked.{IsForest}
 use Rattle.bdb_stat.specs.Classes.{class_by_type, class_of, is_class, levels_below, pages_below, same_class, tree_level}
 use Rattle.bdb_format.specs.References.{no_item}
 use Rattle.bdb_turned.specs.Fields.{no_internal}

@@ -4,7 +4,7 @@ ghost use Rattle.bdb_form.specs.Seen.{page_seen};
 ghost use Rattle.bdb_format.specs.File.{file_of, page_at};
 ghost use Rattle.bdb_format.specs.Graph.{is_meta, is_reserve, is_spare};
 ghost use Rattle.bdb_format.specs.Rows.{is_queue};
-ghost use Rattle.bdb_graph.specs.Linked.{IsForest};
+ghost use Rattle.bdb_image.specs.Linked.{IsForest};
 ghost use Rattle.bdb_stat.specs.Classes.{class_by_type, class_of};
 
 use crate::class::Class;

@@ -1,11 +1,11 @@
 ghost use Rattle.std.specs.Prelude.{◌≡◌, ◌<◌, length};
 ghost use Rattle.bdb_format.specs.File.{page_bytes};
-ghost use Rattle.bdb_graph.specs.Formed.{IsAccepted};
+ghost use Rattle.bdb_image.specs.Formed.{IsAccepted};
 
 use bdb_format::Head;
 
 /// The bytes of a page of an image whose page 0 is accepted.
-#[tactic(auto, using(bdb_graph::proofs::FormedLemmas::page_room, bdb_graph::proofs::FormedLemmas::page_length))]
+#[tactic(auto, using(bdb_image::proofs::FormedLemmas::page_room, bdb_image::proofs::FormedLemmas::page_length))]
 pub(crate) fn page_of<'a>(image: &'a [u8], head: &Head, number: u32) -> &'a [u8]
     requires head { IsAccepted image.now head.now }
     requires there { number < head.now.pages }

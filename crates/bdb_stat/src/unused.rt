@@ -5,7 +5,7 @@ ghost use Rattle.bdb_format.specs.HeadOf.{head_of};
 ghost use Rattle.bdb_format.specs.Numbers.{byte_at};
 ghost use Rattle.bdb_format.specs.Reading.{page_as, page_type};
 ghost use Rattle.bdb_format.specs.Rows.{body_code};
-ghost use Rattle.bdb_graph.specs.Linked.{IsForest};
+ghost use Rattle.bdb_image.specs.Linked.{IsForest};
 ghost use Rattle.bdb_stat.specs.Unused.{unused_in};
 
 use crate::ends::{InternalItems, LeafItems, RecnoItems};

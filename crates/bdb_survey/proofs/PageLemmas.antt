@@ -20,7 +20,7 @@ use Rattle.bdb_format.specs.Page.{Page, NoType}
 use Rattle.bdb_format.specs.Reading.{abstract_page}
 use Rattle.bdb_format.specs.Rows.{page_code}
 use Rattle.bdb_format.proofs.SizeLemmas.{size_bounds}
-use Rattle.bdb_graph.proofs.ChainLengthLemmas.{piece_fits}
+use Rattle.bdb_image.proofs.PieceLemmas.{piece_fits}
 use Rattle.bdb_overflow.specs.Whole.{bytes_of}
 use Rattle.bdb_overflow.proofs.WholeLemmas.{page_length}
 use Rattle.bdb_survey.specs.Items.{slots_in}

@@ -15,10 +15,10 @@ use Rattle.bdb_format.specs.File.{file_of, page_at, page_bytes}
 use Rattle.bdb_format.specs.HeadOf.{head_of}
 use Rattle.bdb_format.specs.Reading.{abstract_page, is_zero}
 use Rattle.bdb_format.specs.Verdict.{file_faults, head_faults, tail_faults}
-use Rattle.bdb_graph.proofs.FirstLemmas.{formed_accepted, formed_page}
-use Rattle.bdb_graph.proofs.FormedLemmas.{accepted_paged}
-use Rattle.bdb_graph.specs.Formed.{IsAccepted}
-use Rattle.bdb_graph.specs.Linked.{IsForest}
+use Rattle.bdb_image.proofs.FirstLemmas.{formed_accepted, formed_page}
+use Rattle.bdb_image.proofs.FormedLemmas.{accepted_paged}
+use Rattle.bdb_image.specs.Formed.{IsAccepted}
+use Rattle.bdb_image.specs.Linked.{IsForest}
 use Rattle.bdb_turned.specs.Flipped.{first_overlap, flipped}
 use Rattle.bdb_turned.specs.Overlaps.{overlaps}
 use Rattle.bdb_turned.specs.Turning.{turned_page}

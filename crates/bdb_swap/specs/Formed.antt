@@ -4,7 +4,7 @@ use Rattle.bdb_format.specs.declared.metadata.Head.{Head}
 use Rattle.bdb_format.specs.File.{page_bytes}
 use Rattle.bdb_format.specs.Reading.{is_zero}
 use Rattle.bdb_format.specs.Rows.{form_code}
-use Rattle.bdb_graph.specs.Formed.{IsAccepted}
+use Rattle.bdb_image.specs.Formed.{IsAccepted}
 
 -- page 0 is accepted, no row of form holds for a page that isn't zero, and those above the last page are zero
 pub record HasForm (head : Head) (image : List ℕ) : Type 0 where

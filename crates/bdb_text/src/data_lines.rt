@@ -57,10 +57,7 @@ pub fn read_key<'a>(
     ensures ok { IfOk result (λ key. key_read numbered (data_read print line.now) ≡ Some (key_seen key)) }
     ensures err { IfErr result (IsLineError print numbered line.now) }
 {
-    match read_data(line, print, room) {
-        Ok(()) => {}
-        Err(error) => return Err(error),
-    }
+    read_data(line, print, room)?;
     if !numbered {
         return Ok(KeyRef::Bytes(room.as_slice()));
     }

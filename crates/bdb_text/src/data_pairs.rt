@@ -88,10 +88,7 @@ fn read_keyed<'a>(
             Ok(key) => key,
             Err(error) => return Err(error_at(number, error)),
         };
-        let behind = match read_datum(cut.rest, number + 1, print, &mut room) {
-            Ok(behind) => behind,
-            Err(error) => return Err(error),
-        };
+        let behind = read_datum(cut.rest, number + 1, print, &mut room)?;
         pairs.push(PairRef {
             key,
             value: room.as_slice(),

@@ -47,10 +47,7 @@ pub fn read_dump(alloc: Global, text: &[u8]) -> Result<Sections, TextError>
     let mut number = 1;
     let mut rest = text;
     while !rest.is_empty() {
-        let read = match read_section(alloc, rest, number, &earlier) {
-            Ok(read) => read,
-            Err(error) => return Err(error),
-        };
+        let read = read_section(alloc, rest, number, &earlier)?;
         earlier = earlier.with(alloc, read.section)?;
         number = read.number;
         rest = read.rest;
@@ -79,24 +76,15 @@ fn read_section<'a>(
             reason,
         }));
     }
-    let header = match read_header(alloc, first.rest, start + 1) {
-        Ok(header) => header,
-        Err(error) => return Err(error),
-    };
-    let name = match name_in(alloc, &header.fields) {
-        Ok(name) => name,
-        Err(error) => return Err(error),
-    };
+    let header = read_header(alloc, first.rest, start + 1)?;
+    let name = name_in(alloc, &header.fields)?;
     if let Some(reason) = end_reason(&header.fields, &name, earlier) {
         return Err(TextError::Fault(TextFault {
             line: header.number,
             reason,
         }));
     }
-    let data = match read_pairs(alloc, header.rest, header.number + 1, &header.fields) {
-        Ok(data) => data,
-        Err(error) => return Err(error),
-    };
+    let data = read_pairs(alloc, header.rest, header.number + 1, &header.fields)?;
     let section = Section {
         name,
         settings: settings_in(&header.fields),

@@ -12,7 +12,7 @@ use Rattle.bdb_model.specs.Answers.{Answer, done, fault_line, pairs_text, told, 
 use Rattle.bdb_tool.specs.FileAnswers.{converted, data_at, data_named, data_of_database, database_in, dumped, found, judged_answer, not_btree, not_found}
 use Rattle.bdb_tool.specs.FileAnswers.{range_answer, ranged, section_answer, sound_answer}
 use Rattle.bdb_model.specs.Change.{Change}
-use Rattle.bdb_tool.specs.Commands.{Request, Verify, Get, Dump, Range, Convert, bounds_request, key_request}
+use Rattle.bdb_tool_words.specs.Commands.{Request, Verify, Get, Dump, Range, Convert, bounds_request, key_request}
 use Rattle.bdb_model.specs.Command.{asked_name}
 use Rattle.bdb_format.specs.Databases.{Database, data_under, databases, place_of}
 use Rattle.bdb_format.specs.File.{File, file_of}
@@ -32,9 +32,9 @@ use Rattle.bdb_rescue.specs.Guesses.{chosen}
 use Rattle.bdb_survey.specs.declared.guess.Guess.{Guess}
 use Rattle.bdb_text_format.specs.TextSpelling.{bytes_spelled}
 use Rattle.bdb_tool.specs.Outputs.{asked_answer, salvage_answer, salvaged_answer}
-use Rattle.bdb_tool.specs.WordsSeen.{request_seen}
-use Rattle.bdb_tool.specs.declared.command.Request.{Request as CodeRequest}
-use Rattle.bdb_tool.specs.declared.command.Request.TheVariants.{Get as GetWord, Range as RangeWord}
+use Rattle.bdb_tool_words.specs.WordsSeen.{request_seen}
+use Rattle.bdb_tool_words.specs.declared.command.Request.{Request as CodeRequest}
+use Rattle.bdb_tool_words.specs.declared.command.Request.TheVariants.{Get as GetWord, Range as RangeWord}
 use Rattle.bdb_tool.specs.Parts.{Answered, Ends, Finishes, HasOwnStatus, IsRefusalTold, IsRefused, Reports, Tells, Unanswered}
 use Rattle.bdb_format.specs.declared.kinds.Kind.{Kind}
 use Rattle.bdb_format.proofs.KnownLemmas.{keeps_itself}

@@ -2,10 +2,6 @@ pub mod FinishLemmas
 pub mod RepairLemmas
 pub mod OntoLemmas
 pub mod RunLemmas
-pub mod CommandLemmas
-pub mod GivenLemmas
-pub mod ReadLemmas
-pub mod StepLemmas
 pub mod TaskLemmas
 pub mod TellingLemmas
 pub mod AnswerLemmas

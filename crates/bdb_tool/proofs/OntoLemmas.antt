@@ -16,14 +16,14 @@ use Rattle.bdb_tool_lines.proofs.PrintingLemmas.{moved}
 use Rattle.bdb_onto.specs.declared.base.Base.{Base}
 use Rattle.bdb_onto.specs.Bases.{IsBaseOf}
 use Rattle.bdb_tool_build.specs.Ontos.{IsTextOnto}
-use Rattle.bdb_tool.specs.Commands.{Command, LoadOnto, command_of, command_on, handed, reads_base}
+use Rattle.bdb_tool_words.specs.Commands.{Command, LoadOnto, command_of, command_on, handed, reads_base}
 use Rattle.bdb_tool.specs.Ontos.{IsOntoAnswer, IsOntoBy, IsOntoBySize, base_too_large_line}
 use Rattle.bdb_tool.specs.Outputs.{Asked, asked_alone}
 use Rattle.bdb_tool.specs.Parts.{BaseFailed, BaseRead, BaseTooLong, BaseUnread, Ends, EndsOnto, IsRefused, IsTaskAnswered, IsToldOfBase, IsToldStop}
 use Rattle.bdb_tool.specs.Parts.{Tells, Answered, Unanswered}
 use Rattle.bdb_tool.specs.Runs.{IsAnswered, ReadsBase, RunsAs, RunsOn, asked_on}
 use Rattle.bdb_tool.specs.Tasks.{AreReading, IsInputWithin, IsStopped, IsTaskTaken, IsUnreadable}
-use Rattle.bdb_tool.specs.WordsSeen.{AreOnto}
+use Rattle.bdb_tool_words.specs.WordsSeen.{AreOnto}
 use Rattle.bdb_tool.specs.declared.task.Task.{Task}
 use Rattle.bdb_tool.specs.declared.task.Stop.{Stop}
 use Rattle.bdb_tool.specs.declared.task.Stop.TheVariants.{Usage, TooLarge, ReadFault, Memory as MemoryStop}

@@ -5,7 +5,7 @@ use Rattle.std.specs.Prelude.{Option, Some, None, nat_lt}
 use Rattle.std.specs.Io.KnownBytes.{Consumes, IsAtEnd}
 use Rattle.std.proofs.lemmas.Bool.{le-ltb, lt-ltb}
 use Rattle.bdb_model.specs.Answers.{Answer, told, too_large_line}
-use Rattle.bdb_tool.specs.Commands.{Ask, Command, Load, reads_input, usage}
+use Rattle.bdb_tool_words.specs.Commands.{Ask, Command, Load, reads_input, usage}
 use Rattle.bdb_model.specs.Change.{Change, GainsPart, HasFailed, IsUncalled, Stays}
 use Rattle.bdb_file.specs.declared.rows.Rows.TheVariants.{All}
 use Rattle.bdb_format.specs.Faults.{Rose, Took}
@@ -18,9 +18,9 @@ use Rattle.bdb_tool.specs.Outputs.{asked_alone, asked_answer, salvage_answer}
 use Rattle.bdb_tool.specs.Parts.{Answered, Ends, Finishes, IsTaskAnswered, IsToldStop, Tells, Unanswered}
 use Rattle.bdb_tool.specs.Runs.{ErrorLine, HasFailedReading, IsAnswered, OfAnswer, OfMemory, OfReadFault, OfWriteFault, RunsAs, RunsOn, asked_on}
 use Rattle.bdb_tool.specs.Tasks.{AreReading, IsRead, IsStopped, IsTaskTaken, IsTooLong}
-use Rattle.bdb_tool.specs.WordsSeen.{repair_seen, salvage_seen, trial_seen}
-use Rattle.bdb_tool.specs.declared.command.Repair.{Repair as CodeRepair}
-use Rattle.bdb_tool.specs.declared.command.Trial.{Trial as CodeTrial}
+use Rattle.bdb_tool_words.specs.WordsSeen.{repair_seen, salvage_seen, trial_seen}
+use Rattle.bdb_tool_words.specs.declared.command.Repair.{Repair as CodeRepair}
+use Rattle.bdb_tool_words.specs.declared.command.Trial.{Trial as CodeTrial}
 use Rattle.bdb_tool.specs.declared.task.Stop.{Stop}
 use Rattle.bdb_tool.specs.declared.task.Stop.TheVariants.{Usage, TooLarge, ReadFault, Memory as MemoryStop}
 use Rattle.bdb_tool.specs.declared.task.Task.{Task}

@@ -13,7 +13,7 @@ use Rattle.bdb_tool_lines.specs.declared.cut.Cut.{Cut}
 use Rattle.bdb_tool_lines.specs.declared.cut.Cut.TheVariants.{WriteFault}
 use Rattle.bdb_tool_lines.proofs.PrintingLemmas.{moved}
 use Rattle.bdb_model.specs.Change.{Change}
-use Rattle.bdb_tool.specs.Commands.{Request, Verify}
+use Rattle.bdb_tool_words.specs.Commands.{Request, Verify}
 use Rattle.bdb_model.specs.Lines.{memory_line}
 use Rattle.bdb_format.specs.Verdict.{Faulty, Judgement, LeftOut, judgement_of}
 use Rattle.bdb_tool.specs.Outputs.{asked_answer, first_status, verified}

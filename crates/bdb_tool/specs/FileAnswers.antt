@@ -10,7 +10,7 @@ use Rattle.bdb_format.specs.Verdict.{Faulty, Judgement, LeftOut}
 use Rattle.bdb_text_format.specs.LineEnd.{line}
 use Rattle.bdb_text_format.specs.Written.{database_text, dump_text, is_btree}
 use Rattle.bdb_model.specs.Answers.{Answer, done, fault_line, list_text, pairs_text, told, unsupported_line, values_text}
-use Rattle.bdb_tool.specs.Commands.{Request, Verify, ListAll, Get, Dump, Range, Convert, Stat}
+use Rattle.bdb_tool_words.specs.Commands.{Request, Verify, ListAll, Get, Dump, Range, Convert, Stat}
 use Rattle.bdb_range.specs.Ranges.{in_range}
 use Rattle.bdb_stat.specs.declared.class.Class.TheVariants.{Meta, Internal, Leaf, Hash, Overflow, Free, Reserve, Queue, Tail}
 use Rattle.bdb_stat.specs.Classes.{levels, pages_of}

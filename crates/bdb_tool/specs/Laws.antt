@@ -6,7 +6,7 @@ use Rattle.bdb_file.specs.declared.rows.Rows.TheVariants.{All, AnyOrder}
 use Rattle.bdb_format.specs.declared.kinds.Fault.{Fault}
 use Rattle.bdb_format.specs.File.{file_of}
 use Rattle.bdb_format.specs.Verdict.{contents_faults}
-use Rattle.bdb_tool.specs.Commands.{Request}
+use Rattle.bdb_tool_words.specs.Commands.{Request}
 use Rattle.bdb_tool.specs.Outputs.{asked_answer}
 
 -- on a file on which no row of order holds, what is asked is answered in any order as by all rows

@@ -5,7 +5,7 @@ use Rattle.bdb_file.specs.declared.rows.Rows.{Rows}
 use Rattle.bdb_format.specs.declared.kinds.Fault.{Fault}
 use Rattle.bdb_format.specs.Verdict.{Judgement, judgement_of}
 use Rattle.bdb_tool_lines.specs.Telling.{judgement_status, judgements_text}
-use Rattle.bdb_tool.specs.Commands.{Action, Ask, Command, Load, LoadOnto, Repair, Request, Salvage, Trial, Verify, command_on, reads_input, usage}
+use Rattle.bdb_tool_words.specs.Commands.{Action, Ask, Command, Load, LoadOnto, Repair, Request, Salvage, Trial, Verify, command_on, reads_input, usage}
 use Rattle.bdb_model.specs.Answers.{Answer, done, told, too_large_line}
 use Rattle.bdb_tool.specs.FileAnswers.{judged_answer, sound_answer}
 use Rattle.bdb_model.specs.Change.{Change, Gains, GainsPart, Stays}

@@ -4,7 +4,7 @@ use Rattle.bdb_file.specs.declared.rows.Rows.TheVariants.{All}
 use Rattle.bdb_format.specs.declared.kinds.Verdict.{Verdict}
 use Rattle.bdb_format.specs.declared.kinds.Verdict.TheVariants.{Fault, Unsupported, Memory as MemoryVerdict}
 use Rattle.bdb_model.specs.Answers.{Answer, fault_line, told, too_large_line, unsupported_line}
-use Rattle.bdb_tool.specs.Commands.{Request, usage}
+use Rattle.bdb_tool_words.specs.Commands.{Request, usage}
 use Rattle.bdb_model.specs.Change.{Change, Gains, GainsPart, HasFailed, Stays}
 use Rattle.bdb_model.specs.Lines.{memory_line, read_fault_line, write_fault_line}
 use Rattle.bdb_tool_lines.specs.declared.cut.Cut.{Cut}
@@ -14,7 +14,7 @@ use Rattle.bdb_format.specs.Verdict.{verdict_of}
 use Rattle.bdb_tool.specs.Ontos.{IsOntoBy, base_too_large_line}
 use Rattle.bdb_tool.specs.Outputs.{IsRepairAnswer, asked_answer, salvage_answer}
 use Rattle.bdb_tool.specs.Tasks.{IsInputWithin}
-use Rattle.bdb_tool.specs.WordsSeen.{reading_seen, request_seen}
+use Rattle.bdb_tool_words.specs.WordsSeen.{reading_seen, request_seen}
 use Rattle.bdb_tool.specs.declared.task.Task.{Task}
 use Rattle.bdb_tool.specs.declared.task.Task.TheVariants.{Ask as AskTask, Read as ReadTask, Load as LoadTask, Salvage as SalvageTask, Repair as RepairTask}
 use Rattle.bdb_tool.specs.declared.task.Task.TheVariants.{Trial as TrialTask}

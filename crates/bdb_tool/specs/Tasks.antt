@@ -2,14 +2,14 @@
 use Rattle.std.specs.Prelude.{◌≡◌, ℕ, ◌+◌, ◌≤◌, ◌^◌, IsTrue, true, List, length, Option, Some, None, is_some}
 use Rattle.std.specs.Io.KnownBytes.{Consumes, IsAtEnd}
 use Rattle.bdb_model.specs.Change.{Change, HasFailed, IsUncalled}
-use Rattle.bdb_tool.specs.Commands.{Ask, Command, Load, Request, reads_input}
+use Rattle.bdb_tool_words.specs.Commands.{Ask, Command, Load, Request, reads_input}
 use Rattle.bdb_file.specs.declared.rows.Rows.{Rows}
 use Rattle.bdb_file.specs.declared.rows.Rows.TheVariants.{All}
 use Rattle.bdb_format.specs.Faults.{Took}
-use Rattle.bdb_tool.specs.WordsSeen.{IsFitRepair, IsFitSalvage, IsFitTrial, reading_seen, repair_seen, request_seen, salvage_seen, trial_seen}
-use Rattle.bdb_tool.specs.declared.command.Repair.{Repair as CodeRepair}
-use Rattle.bdb_tool.specs.declared.command.Salvage.{Salvage as CodeSalvage}
-use Rattle.bdb_tool.specs.declared.command.Trial.{Trial as CodeTrial}
+use Rattle.bdb_tool_words.specs.WordsSeen.{IsFitRepair, IsFitSalvage, IsFitTrial, reading_seen, repair_seen, request_seen, salvage_seen, trial_seen}
+use Rattle.bdb_tool_words.specs.declared.command.Repair.{Repair as CodeRepair}
+use Rattle.bdb_tool_words.specs.declared.command.Salvage.{Salvage as CodeSalvage}
+use Rattle.bdb_tool_words.specs.declared.command.Trial.{Trial as CodeTrial}
 use Rattle.bdb_tool.specs.declared.task.Task.{Task}
 use Rattle.bdb_tool.specs.declared.task.Task.TheVariants.{Ask as AskTask, Read as ReadTask, Load as LoadTask, Salvage as SalvageTask, Repair as RepairTask}
 use Rattle.bdb_tool.specs.declared.task.Task.TheVariants.{Trial as TrialTask}

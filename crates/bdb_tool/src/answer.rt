@@ -2,15 +2,14 @@
 ghost use Rattle.std.specs.Prelude.{◌≡◌, ◌≤◌, ◌^◌, IsTrue, Some, is_some, length};
 ghost use Rattle.bdb_tool.specs.FileAnswers.{sound_answer};
 ghost use Rattle.bdb_model.specs.Change.{change};
-ghost use Rattle.bdb_tool.specs.Commands.{Request as ModelRequest};
+ghost use Rattle.bdb_tool_words.specs.Commands.{Request as ModelRequest};
 ghost use Rattle.bdb_file.specs.declared.rows.Rows.TheVariants.{All};
 ghost use Rattle.bdb_tool.specs.Outputs.{asked_answer};
 ghost use Rattle.bdb_tool.specs.Parts.{Finishes, IsTaskAnswered};
 ghost use Rattle.bdb_tool.specs.Tasks.{IsFitTask};
-ghost use Rattle.bdb_tool.specs.WordsSeen.{request_seen};
+ghost use Rattle.bdb_tool_words.specs.WordsSeen.{request_seen};
 
 use crate::building::{answer_load, answer_trial};
-use crate::command::Request;
 use crate::converting::answer_convert;
 use crate::looking::answer_lookup;
 use crate::ranging::answer_range;
@@ -23,6 +22,7 @@ use crate::telling::refuse;
 use bdb_file::{Sound, verify};
 use bdb_format::Steps;
 use bdb_io::Sink;
+use bdb_tool_words::Request;
 use std::alloc::Global;
 use std::sync::ledger::Ledger;
 

@@ -4,13 +4,12 @@ ghost use Rattle.bdb_model.specs.Change.{change};
 ghost use Rattle.bdb_format.specs.Verdict.{verdict_of};
 ghost use Rattle.bdb_tool.specs.Ontos.{IsOntoBy};
 ghost use Rattle.bdb_tool.specs.Parts.{Ends, IsRefusalTold};
-ghost use Rattle.bdb_tool.specs.WordsSeen.{IsFitTrial};
+ghost use Rattle.bdb_tool_words.specs.WordsSeen.{IsFitTrial};
 ghost use Rattle.bdb_onto.specs.Bases.{IsBase};
 ghost use Rattle.bdb_tool_build.specs.Loads.{IsTextAnswer};
 ghost use Rattle.bdb_tool_build.specs.Ontos.{IsTextOnto};
 ghost use Rattle.bdb_tool_build.specs.Trials.{IsTrialAnswer};
 
-use crate::command::Trial;
 use crate::finish::{put, report, tell, tell_memory};
 use crate::status::{BAD_TEXT, TOO_LARGE};
 use crate::telling::refuse;
@@ -18,6 +17,7 @@ use bdb_format::Steps;
 use bdb_io::{Image, Sink};
 use bdb_onto::Base;
 use bdb_tool_build::{Refusal, base_of, load_text, load_text_onto, trial_text};
+use bdb_tool_words::Trial;
 use std::alloc::Global;
 use std::sync::ledger::Ledger;
 

@@ -1,10 +1,11 @@
 ghost use Rattle.std.specs.Prelude.{◌≢◌};
 ghost use Rattle.bdb_model.specs.Change.{change};
 ghost use Rattle.bdb_model.specs.Lines.{memory_line};
+ghost use Rattle.bdb_tool_words.specs.Commands.{usage};
 ghost use Rattle.bdb_tool.specs.Parts.{Reports, Tells};
 ghost use Rattle.bdb_tool_lines.specs.Printing.{Writes};
 
-use crate::status::{DONE, MEMORY, WRITE_FAULT};
+use crate::status::{DONE, MEMORY, USAGE, WRITE_FAULT};
 use bdb_io::{Sink, put_all};
 use bdb_tool_print::Cut;
 
@@ -17,6 +18,17 @@ pub(crate) fn tell<E: Sink>(err: &mut E, text: &[u8], status: u8) -> u8
         Ok(()) => status,
         Err(_) => WRITE_FAULT,
     }
+}
+
+/// Tells the names of all commands, where the words are none of them, and answers the status of that or of a write fault.
+pub fn tell_usage<E: Sink>(err: &mut E) -> u8
+    ensures { Tells usage.err 2 (change E.written E.faults err.old err.new) result }
+{
+    tell(
+        err,
+        b"usage: bdbtool verify, list, get, dump, load, salvage, trial, range, convert, stat or repair\n",
+        USAGE,
+    )
 }
 
 /// Tells that memory was wanting.

@@ -3,19 +3,15 @@
 
 mod answer;
 mod building;
-mod command;
 mod converting;
 mod finish;
-mod guesses;
 pub mod laws;
 mod looking;
-mod options;
 mod program;
 mod ranging;
 mod reading;
 mod repairing;
 mod salvaging;
-mod shapes;
 mod spelled;
 mod stating;
 pub mod status;
@@ -23,5 +19,6 @@ mod task;
 mod telling;
 mod text;
 
-pub use command::{onto_file, tell_usage};
+pub use bdb_tool_words::onto_file;
+pub use finish::tell_usage;
 pub use program::{run, run_counted, run_onto};

@@ -3,12 +3,11 @@ ghost use Rattle.std.specs.Prelude.{◌≡◌, [], IsTrue, MatchOption, List, Op
 ghost use Rattle.bdb_tool.specs.FileAnswers.{data_named, found};
 ghost use Rattle.bdb_model.specs.Change.{change};
 ghost use Rattle.bdb_model.specs.Command.{asked_name};
-ghost use Rattle.bdb_tool.specs.Commands.{key_request};
+ghost use Rattle.bdb_tool_words.specs.Commands.{key_request};
 ghost use Rattle.bdb_format.specs.File.{file_of};
 ghost use Rattle.bdb_text_format.specs.TextSpelling.{bytes_spelled};
 ghost use Rattle.bdb_tool.specs.Parts.{Finishes};
 
-use crate::command::Lookup;
 use crate::finish::{report, tell, tell_memory};
 use crate::spelled::{name_bytes, name_sought, spelled};
 use crate::status::NOT_FOUND;
@@ -16,6 +15,7 @@ use bdb_file::{Found, Sound};
 use bdb_format::Steps;
 use bdb_io::Sink;
 use bdb_tool_print::write_found;
+use bdb_tool_words::Lookup;
 use std::alloc::Global;
 use std::sync::ledger::Ledger;
 

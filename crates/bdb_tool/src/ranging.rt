@@ -1,7 +1,7 @@
 //! The command that prints the pairs between two keys.
 ghost use Rattle.std.specs.Prelude.{◌≡◌, ◌<◌, [], IsTrue, List, MatchOption, Option, Some, false, is_some, length, not, option_copied, true, ℕ};
 ghost use Rattle.bdb_file.specs.Named.{database_at};
-ghost use Rattle.bdb_graph.specs.Linked.{HasMetadata};
+ghost use Rattle.bdb_image.specs.Linked.{HasMetadata};
 ghost use Rattle.bdb_format.specs.ContentRows.{database_faults};
 ghost use Rattle.bdb_format.specs.Databases.{databases};
 ghost use Rattle.bdb_format.specs.File.{file_of};
@@ -12,13 +12,12 @@ ghost use Rattle.bdb_format.specs.Verdict.{structure_faults};
 ghost use Rattle.bdb_tool.specs.FileAnswers.{ranged};
 ghost use Rattle.bdb_model.specs.Change.{change};
 ghost use Rattle.bdb_model.specs.Command.{asked_name};
-ghost use Rattle.bdb_tool.specs.Commands.{bounds_request};
+ghost use Rattle.bdb_tool_words.specs.Commands.{bounds_request};
 ghost use Rattle.bdb_range.specs.Ranges.{in_range};
 ghost use Rattle.bdb_text_format.specs.TextSpelling.{bytes_spelled};
 ghost use Rattle.bdb_text_format.specs.Written.{is_btree};
 ghost use Rattle.bdb_tool.specs.Parts.{Finishes};
 
-use crate::command::Bounds;
 use crate::finish::{report, tell, tell_memory};
 use crate::spelled::{name_bytes, name_sought, spelled};
 use crate::status::{NOT_BTREE, NOT_FOUND};
@@ -28,6 +27,7 @@ use bdb_graph::{Linked, Meta};
 use bdb_io::Sink;
 use bdb_range::{RangePairs, pairs_of, span};
 use bdb_tool_print::write_pairs;
+use bdb_tool_words::Bounds;
 use std::alloc::Global;
 use std::sync::ledger::Ledger;
 

@@ -5,13 +5,12 @@ ghost use Rattle.bdb_format.specs.HeadOf.{head_of};
 ghost use Rattle.bdb_tool_lines.specs.Printing.{Writes};
 ghost use Rattle.bdb_tool.specs.FileAnswers.{dumped, judged_answer, sound_line};
 ghost use Rattle.bdb_model.specs.Change.{change};
-ghost use Rattle.bdb_tool.specs.Commands.{Dump, ListAll, Request as ModelRequest, text_request};
+ghost use Rattle.bdb_tool_words.specs.Commands.{Dump, ListAll, Request as ModelRequest, text_request};
 ghost use Rattle.bdb_model.specs.Command.{asked_name};
 ghost use Rattle.bdb_tool.specs.Outputs.{asked_answer, verified};
 ghost use Rattle.bdb_tool.specs.Parts.{Finishes};
-ghost use Rattle.bdb_tool.specs.WordsSeen.{reading_seen};
+ghost use Rattle.bdb_tool_words.specs.WordsSeen.{reading_seen};
 
-use crate::command::{Reading, Selection};
 use crate::finish::{put, report, tell, tell_memory};
 use crate::spelled::name_sought;
 use crate::status::NOT_FOUND;
@@ -22,6 +21,7 @@ use bdb_file::{Readable, Rows, verify_all_by, verify_by};
 use bdb_format::Steps;
 use bdb_io::Sink;
 use bdb_tool_print::{Cut, write_list, write_section, write_sections};
+use bdb_tool_words::{Reading, Selection};
 use std::alloc::Global;
 use std::sync::ledger::Ledger;
 

@@ -3,15 +3,15 @@ ghost use Rattle.std.specs.Prelude.{◌≤◌, ◌^◌, length};
 ghost use Rattle.bdb_model.specs.Change.{change};
 ghost use Rattle.bdb_tool.specs.Outputs.{salvage_answer};
 ghost use Rattle.bdb_tool.specs.Parts.{Finishes};
-ghost use Rattle.bdb_tool.specs.WordsSeen.{IsFitSalvage};
+ghost use Rattle.bdb_tool_words.specs.WordsSeen.{IsFitSalvage};
 
-use crate::command::Salvage;
 use crate::finish::{report, tell, tell_memory};
 use crate::status::NO_META;
 use bdb_format::Steps;
 use bdb_io::Sink;
 use bdb_rescue::{SalvageError, salvage};
 use bdb_tool_print::write_salvaged;
+use bdb_tool_words::Salvage;
 use std::alloc::Global;
 use std::sync::ledger::Ledger;
 

@@ -14,7 +14,7 @@ use Rattle.bdb_format.specs.Page.{BtreeFields, HashFields, Metadata, Page, Queue
 use Rattle.bdb_format.specs.Page.{DupLeaf, Overflow, Queue, NoType}
 use Rattle.bdb_format.specs.Verdict.{verdict_of}
 use Rattle.bdb_text_format.specs.declared.sections.Section.{Section}
-use Rattle.bdb_graph.specs.Metas.{meta_in}
+use Rattle.bdb_image.specs.Metas.{meta_in}
 use Rattle.bdb_file.specs.Named.{database_at, no_database}
 use Rattle.bdb_text.specs.WrittenLaw.{AreBytes}
 use Rattle.bdb_onto.specs.declared.base.Base.{Base}

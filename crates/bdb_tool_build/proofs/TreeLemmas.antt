@@ -8,7 +8,7 @@ use Rattle.bdb_format.specs.Contents.{StoredPair, data_of, pairs_of}
 use Rattle.bdb_format.specs.File.{File, file_of}
 use Rattle.bdb_format.specs.Leaves.{leaves}
 use Rattle.bdb_format.specs.Lists.{ListKey, BytesKey, btree_list, listed_pair}
-use Rattle.bdb_graph.specs.Linked.{FitsLeafPage, IsForest}
+use Rattle.bdb_image.specs.Linked.{FitsLeafPage, IsForest}
 use Rattle.bdb_btree.specs.Pairs.{AreFit, FitsPair}
 use Rattle.bdb_btree.proofs.FallLemmas.{ShareKeys as HaveKeys, tree_keys}
 use Rattle.bdb_btree.proofs.PairLemmas.{pair_of_page}

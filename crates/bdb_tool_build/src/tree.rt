@@ -6,7 +6,7 @@ ghost use Rattle.bdb_format.specs.File.{file_of};
 ghost use Rattle.bdb_format.specs.Lists.{btree_list, listed_pair};
 ghost use Rattle.bdb_format.specs.Page.{BtreeFields};
 ghost use Rattle.bdb_format.specs.Verdict.{structure_faults};
-ghost use Rattle.bdb_graph.specs.Linked.{FitsLeafPage, HasMetadata, IsForest};
+ghost use Rattle.bdb_image.specs.Linked.{FitsLeafPage, HasMetadata, IsForest};
 ghost use Rattle.bdb_btree.specs.Pairs.{FitsPair, left_of, pair_seen};
 ghost use Rattle.bdb_text_format.specs.declared.pairs.Key.{Key};
 ghost use Rattle.bdb_text_format.specs.declared.pairs.Key.TheVariants.{Bytes};

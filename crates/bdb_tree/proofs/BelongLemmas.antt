@@ -24,11 +24,11 @@ use Rattle.bdb_format.proofs.MemberLemmas.{first_member, in_filter, in_flat_map,
 use Rattle.bdb_format.proofs.VerdictLemmas.{AllFail, none_is_first_row}
 use Rattle.bdb_format.proofs.FileLemmas.{page_is}
 use Rattle.bdb_graph.specs.Forest.{IsWayUp, LeadsUp, is_top}
-use Rattle.bdb_graph.specs.Linked.{FitsLeafPage, IsForest, IsTarget}
+use Rattle.bdb_image.specs.Linked.{FitsLeafPage, IsForest, IsTarget}
 use Rattle.bdb_graph.proofs.ChildLemmas.{children_are, is_child, is_queue_page}
-use Rattle.bdb_graph.proofs.FirstLemmas.{formed_page}
+use Rattle.bdb_image.proofs.FirstLemmas.{formed_page}
 use Rattle.bdb_graph.proofs.ForestLemmas.{each_page_leads_up, sound_graph}
-use Rattle.bdb_graph.proofs.HeldLemmas.{own_type}
+use Rattle.bdb_image.proofs.HeldLemmas.{own_type}
 use Rattle.bdb_tree.specs.Trees.{IsRoot, IsTreePage}
 use Rattle.bdb_tree.proofs.ShapeLemmas.{IsLeafPage, is_tree_in, no_queue}
 use Rattle.bdb_tree.proofs.TreeLemmas.{inner_type, leaf_is_tree, leaves_of_inner, leaves_of_leaf, tree_cases, tree_inside, tree_is}

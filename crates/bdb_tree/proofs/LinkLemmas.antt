@@ -14,8 +14,8 @@ use Rattle.bdb_format.specs.HeadOf.{head_of}
 use Rattle.bdb_format.specs.Leaves.{LeafPlace, first_or_zero, is_root_reference, leaf_places, leaves, places_from}
 use Rattle.bdb_format.specs.Verdict.{structure_faults}
 use Rattle.bdb_format.proofs.MemberLemmas.{first_member, later_member, member_cases, no_member}
-use Rattle.bdb_graph.specs.Linked.{FitsLeafPage, IsForest, IsTarget}
-use Rattle.bdb_graph.proofs.FirstLemmas.{formed_last}
+use Rattle.bdb_image.specs.Linked.{FitsLeafPage, IsForest, IsTarget}
+use Rattle.bdb_image.proofs.FirstLemmas.{formed_last}
 use Rattle.bdb_graph.proofs.LeavesLemmas.{no_leaf_twice}
 use Rattle.bdb_graph.proofs.ReachLemmas.{AllUpTo, few_distinct}
 use Rattle.bdb_tree.specs.Links.{IsLeafWalk, pages_from}

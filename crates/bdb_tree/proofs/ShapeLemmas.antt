@@ -30,10 +30,10 @@ use Rattle.bdb_format.proofs.ItemLemmas.{IsIndexed, index_passes, no_index_row, 
 use Rattle.bdb_format.proofs.MemberLemmas.{of_map}
 use Rattle.std.proofs.lemmas.List.{length-map}
 use Rattle.bdb_format.proofs.PageLemmas.{length_items}
-use Rattle.bdb_graph.specs.Formed.{IsFormed}
-use Rattle.bdb_graph.specs.Linked.{IsForest}
+use Rattle.bdb_image.specs.Formed.{IsFormed}
+use Rattle.bdb_image.specs.Linked.{IsForest}
 use Rattle.bdb_graph.proofs.ChildLemmas.{is_queue_page, queue_page}
-use Rattle.bdb_graph.proofs.FirstLemmas.{formed_page}
+use Rattle.bdb_image.proofs.FirstLemmas.{formed_page}
 use Rattle.bdb_tree.specs.Noted.{is_leaf_page}
 use Rattle.bdb_format.proofs.TypeLemmas.{if_type}
 use Rattle.bdb_format.proofs.FileLemmas.{last_page, page_is}

@@ -25,7 +25,7 @@ use Rattle.bdb_format.proofs.GraphLemmas.{each_fits}
 use Rattle.bdb_format.proofs.MemberLemmas.{first_member, in_filter, in_flat_map, in_map, none_passes, of_flat_map}
 use Rattle.bdb_format.proofs.VerdictLemmas.{AllFail, no_rows_at, none_is_first_row}
 use Rattle.bdb_format.proofs.TargetLemmas.{held_named, own_held}
-use Rattle.bdb_graph.specs.Linked.{FitsDupRoot, FitsLeafPage, FitsTreeRoot, HasMetadata, IsForest, IsTarget}
+use Rattle.bdb_image.specs.Linked.{FitsDupRoot, FitsLeafPage, FitsTreeRoot, HasMetadata, IsForest, IsTarget}
 use Rattle.bdb_graph.proofs.ChildLemmas.{NamesChild, child_named, children_are, is_queue_page}
 use Rattle.bdb_graph.proofs.ForestLemmas.{sound_graph}
 use Rattle.bdb_graph.proofs.LinkedLemmas.{named_target, root_fits as target_fits}

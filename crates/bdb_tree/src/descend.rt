@@ -1,6 +1,6 @@
 ghost use Rattle.std.specs.Prelude.{◌≡◌, ◌+◌, ◌<◌, ◌≤◌, ◌∷◌, [], Bool, IsTrue, Some, length};
 ghost use Rattle.bdb_layout.specs.Seen.{internal_item_seen};
-ghost use Rattle.bdb_graph.specs.Linked.{FitsLeafPage, FitsTreeRoot, IsForest};
+ghost use Rattle.bdb_image.specs.Linked.{FitsLeafPage, FitsTreeRoot, IsForest};
 ghost use Rattle.bdb_format.specs.File.{file_of, header_in, page_at, type_in};
 ghost use Rattle.bdb_format.specs.Page.{InternalItem};
 ghost use Rattle.bdb_format.specs.References.{has_type};

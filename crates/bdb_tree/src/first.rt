@@ -1,7 +1,7 @@
 ghost use Rattle.std.specs.Prelude.{◌≡◌, Some};
 ghost use Rattle.std.specs.List.{slice_get};
 ghost use Rattle.bdb_form.specs.Seen.{page_seen};
-ghost use Rattle.bdb_graph.specs.Linked.{FitsDupRoot, FitsLeafPage, FitsTreeRoot, IsForest};
+ghost use Rattle.bdb_image.specs.Linked.{FitsDupRoot, FitsLeafPage, FitsTreeRoot, IsForest};
 ghost use Rattle.bdb_format.specs.File.{file_of, page_at};
 ghost use Rattle.bdb_format.specs.Leaves.{children_in, leaves};
 ghost use Rattle.bdb_tree.specs.Links.{HasItem, first_below};

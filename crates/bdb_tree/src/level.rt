@@ -2,7 +2,7 @@ ghost use Rattle.std.specs.Prelude.{◌≡◌, ◌++◌, [], IfOk, OnOk, map};
 ghost use Rattle.std.specs.List.{All, flat_map};
 ghost use Rattle.std.specs.Option.{unwrap_or};
 ghost use Rattle.bdb_form.specs.Seen.{page_seen};
-ghost use Rattle.bdb_graph.specs.Linked.{IsForest};
+ghost use Rattle.bdb_image.specs.Linked.{IsForest};
 ghost use Rattle.bdb_format.specs.File.{file_of, header_in, page_at};
 ghost use Rattle.bdb_format.specs.Leaves.{children_in, leaves};
 ghost use Rattle.bdb_tree.specs.Trees.{IsTreePage, children_at};

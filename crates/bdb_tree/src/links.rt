@@ -1,5 +1,5 @@
 ghost use Rattle.std.specs.Prelude.{◌≡◌, ◌≤◌, ◌∷◌, ◌++◌, [], ℕ, List, length};
-ghost use Rattle.bdb_graph.specs.Linked.{FitsLeafPage, IsForest};
+ghost use Rattle.bdb_image.specs.Linked.{FitsLeafPage, IsForest};
 ghost use Rattle.bdb_format.specs.File.{file_of};
 ghost use Rattle.bdb_format.specs.Leaves.{leaves};
 ghost use Rattle.bdb_format.specs.Verdict.{structure_faults};

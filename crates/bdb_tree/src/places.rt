@@ -2,7 +2,7 @@ ghost use Rattle.std.specs.Prelude.{◌≡◌, ◌<◌, ◌&&◌, ◌==◌, IsTr
 ghost use Rattle.std.specs.List.{All, flat_map};
 ghost use Rattle.bdb_faults.specs.Notes.{Notes, NotesAll};
 ghost use Rattle.bdb_form.specs.Seen.{page_seen};
-ghost use Rattle.bdb_graph.specs.Linked.{FitsLeafPage, IsForest};
+ghost use Rattle.bdb_image.specs.Linked.{FitsLeafPage, IsForest};
 ghost use Rattle.bdb_format.specs.File.{file_of, header_in, type_in};
 ghost use Rattle.bdb_format.specs.Leaves.{places_from, wrong_leaf_types};
 ghost use Rattle.bdb_format.specs.References.{has_type};

@@ -1,7 +1,7 @@
 ghost use Rattle.std.specs.Prelude.{◌≤◌, ◌+◌, IfSome, OnOk, Some};
 ghost use Rattle.std.specs.List.{flat_map, range_with_len};
 ghost use Rattle.bdb_faults.specs.Notes.{NotesAll};
-ghost use Rattle.bdb_graph.specs.Linked.{IsForest, meta_pages};
+ghost use Rattle.bdb_image.specs.Linked.{IsForest, meta_pages};
 ghost use Rattle.bdb_format.specs.File.{file_of};
 ghost use Rattle.bdb_tree.specs.Noted.{held_sets, meta_faults, root_faults};
 ghost use Rattle.bdb_tree.specs.Trees.{IsTreePage};

@@ -10,8 +10,8 @@ use Rattle.bdb_format.proofs.ListLemmas.{flat_map_same}
 use Rattle.bdb_format.proofs.FileLemmas.{page_is, last_page as last_page_is}
 use Rattle.std.proofs.lemmas.List.{get_or-take, length-reverse, length-take-le, reverse-reverse}
 use Rattle.bdb_format.proofs.VerdictLemmas.{all_fail, no_code, no_codes_at, no_faults, none_is_first_row, none_within, or_else_none}
-use Rattle.bdb_graph.proofs.CodeLemmas.{differs}
-use Rattle.bdb_graph.proofs.FormedLemmas.{IsPaged, accepted_paged, page_length}
+use Rattle.bdb_image.proofs.CodeLemmas.{differs}
+use Rattle.bdb_image.proofs.FormedLemmas.{IsPaged, accepted_paged, page_length}
 use Rattle.bdb_format.specs.declared.kinds.Order.{Order}
 use Rattle.bdb_format.specs.declared.kinds.Order.TheVariants.{Big, Little}
 use Rattle.bdb_format.specs.declared.kinds.Fault.{Fault}
@@ -26,7 +26,7 @@ use Rattle.bdb_format.specs.Rows.{form_code, is_queue, version_of}
 use Rattle.bdb_format.specs.Table.{Row, ◌:?◌, first_row}
 use Rattle.bdb_format.specs.Verdict.{reference_faults, ownership_faults, reach_faults, structure_faults, master_faults, contents_faults, by_page, faults_in}
 use Rattle.bdb_format.specs.Verdict.{faults_of, file_faults, form_faults, head_faults, holding, stage_faults, tail_faults, tail_rows}
-use Rattle.bdb_graph.specs.Formed.{IsAccepted}
+use Rattle.bdb_image.specs.Formed.{IsAccepted}
 use Rattle.bdb_turned.specs.Flipped.{first_overlap, flipped}
 use Rattle.bdb_turned.specs.Laws.{TurnsRound, turned_head}
 use Rattle.bdb_turned.specs.Overlaps.{overlaps}

@@ -23,7 +23,7 @@ use Rattle.bdb_format.specs.Reading.{leaf_item_at, listed, page_as, page_type, q
 use Rattle.bdb_format.specs.Rows.{body_code, form_code, is_queue, is_queue_type, is_tree_type, item_rows, listed_code, may_have_type, meta_rows, kind_rows}
 use Rattle.bdb_format.specs.Rows.{typed_code, type_of}
 use Rattle.bdb_format.specs.Table.{Row, ◌:?◌, first_row}
-use Rattle.bdb_graph.proofs.CodeLemmas.{code_by, not_zero}
+use Rattle.bdb_image.proofs.CodeLemmas.{code_by, not_zero}
 use Rattle.bdb_format.proofs.TypeLemmas.{one_type}
 use Rattle.bdb_format.proofs.PageLemmas.{later_type}
 use Rattle.std.proofs.lemmas.Bool.{eqb-true, lt-ltb}

@@ -7,7 +7,7 @@ use Rattle.bdb_file.specs.declared.rows.Rows.{Rows}
 use Rattle.bdb_file.specs.declared.rows.Rows.TheVariants.{All, AnyOrder}
 use Rattle.bdb_model.specs.Answers.{Answer, told, too_large_line}
 use Rattle.bdb_model.specs.Change.{Change, Gains, HasFailed}
-use Rattle.bdb_tool.specs.Commands.{Ask, Command, Verify, command_of, handed}
+use Rattle.bdb_tool_words.specs.Commands.{Ask, Command, Verify, command_of, handed}
 use Rattle.bdb_tool.specs.Outputs.{IsAnswerBySize, IsAnswerTo, IsCommandAnswer, IsInput, asked_alone, verified}
 use Rattle.bdb_tool.specs.Runs.{IsAnswered, RunsAs}
 use Rattle.check_images.specs.Lines.{text_told, verify_answer, verify_words}

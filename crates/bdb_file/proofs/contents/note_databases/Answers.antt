@@ -1,7 +1,7 @@
 use Rattle.std.proofs.Common.{◌≡◌, ap, arith, sym, ◌∙◌}
 use Rattle.bdb_format.specs.File.{file_of}
-use Rattle.bdb_graph.specs.Linked.{meta_pages}
-use Rattle.bdb_graph.specs.Metas.{meta_seen}
+use Rattle.bdb_image.specs.Linked.{meta_pages}
+use Rattle.bdb_image.specs.Metas.{meta_seen}
 use Rattle.bdb_faults.proofs.SinkLemmas.{notes_none}
 use Rattle.bdb_file.specs.Noted.{asked_on, is_asked, is_master}
 use Rattle.bdb_file.proofs.DatabaseLemmas.{database_more, database_passed, master_there}

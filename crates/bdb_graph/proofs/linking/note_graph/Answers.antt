@@ -5,7 +5,7 @@ use Rattle.bdb_format.specs.File.{file_of}
 use Rattle.bdb_format.specs.Verdict.{faults_in, reference_faults}
 use Rattle.bdb_graph.specs.Owned.{AreCounts, AreFew}
 use Rattle.bdb_graph.proofs.ForestLemmas.{sound_graph}
-use Rattle.bdb_graph.proofs.NotedLemmas.{next_stage, none_there, stage_alone, stage_there}
+use Rattle.bdb_image.proofs.NotedLemmas.{next_stage, none_there, stage_alone, stage_there}
 use Rattle.bdb_graph.proofs.OwnedLemmas.{all_owned}
 use Rattle.bdb_graph.proofs.linking.note_graph.Goals as goal
 

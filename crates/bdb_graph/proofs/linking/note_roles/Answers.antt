@@ -2,7 +2,7 @@ use Rattle.std.proofs.Common.{[], ◌∷◌, refl, subst, sym}
 use Rattle.bdb_faults.specs.Notes.{NotesAll}
 use Rattle.bdb_format.specs.File.{file_of}
 use Rattle.bdb_format.specs.Verdict.{ownership_faults}
-use Rattle.bdb_graph.proofs.NotedLemmas.{last_stage, next_stage, stage_alone}
+use Rattle.bdb_image.proofs.NotedLemmas.{last_stage, next_stage, stage_alone}
 use Rattle.bdb_graph.proofs.linking.note_roles.Goals as goal
 
 -- Stage 5 counts where stage 4 has no fault.

@@ -1,5 +1,5 @@
 use Rattle.bdb_format.specs.File.{file_of}
-use Rattle.bdb_graph.proofs.NotedLemmas.{owned_noted}
+use Rattle.bdb_image.proofs.NotedLemmas.{owned_noted}
 use Rattle.bdb_graph.proofs.owned.note_owned.Goals as goal
 
 pub returns-clause-noted : goal.returns-clause-noted

@@ -5,7 +5,7 @@ use Rattle.bdb_format.specs.File.{file_of}
 use Rattle.bdb_format.specs.Verdict.{holding, reach_rows}
 use Rattle.bdb_format.proofs.FileLemmas.{last_page}
 use Rattle.bdb_graph.proofs.MarkLemmas.{none_marked}
-use Rattle.bdb_graph.proofs.NotedLemmas.{page_noted, reach_noted, reached_noted}
+use Rattle.bdb_image.proofs.NotedLemmas.{page_noted, reach_noted, reached_noted}
 use Rattle.bdb_graph.proofs.TallyLemmas.{written_back}
 use Rattle.bdb_graph.proofs.reach.note_reach.Goals as goal
 

@@ -1,4 +1,4 @@
-use Rattle.bdb_graph.proofs.RoleLemmas.{NoTable}
+use Rattle.bdb_image.proofs.RoleLemmas.{NoTable}
 use Rattle.bdb_format.specs.File.{file_of}
 use Rattle.bdb_graph.proofs.roles.has_table.Given as goal
 

@@ -3,10 +3,10 @@ use Rattle.std.specs.Vec.{with_items}
 use Rattle.std.proofs.lemmas.List.{with_items_is}
 use Rattle.bdb_format.specs.File.{file_of}
 use Rattle.bdb_format.specs.References.{fit_code}
-use Rattle.bdb_graph.specs.Buckets.{bucket_names}
+use Rattle.bdb_image.specs.Buckets.{bucket_names}
 use Rattle.bdb_graph.specs.Leaps.{HasLeaps}
-use Rattle.bdb_graph.specs.Noted.{misfits_of}
-use Rattle.bdb_graph.specs.Slots.{placed}
+use Rattle.bdb_image.specs.Noted.{misfits_of}
+use Rattle.bdb_slots.specs.Slots.{placed}
 use Rattle.bdb_graph.specs.Tallies.{AreTallies, owner}
 use Rattle.bdb_graph.proofs.TableLemmas.{tallied_more}
 use Rattle.bdb_graph.proofs.table.tally_buckets.Goals as goal

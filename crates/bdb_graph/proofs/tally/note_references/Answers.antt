@@ -1,5 +1,5 @@
 use Rattle.std.proofs.Common.{◌≡◌, ◌+◌, ◌∙◌, length, arith, ap, sym, subst}
-use Rattle.bdb_graph.proofs.NotedLemmas.{misfits_noted, page_noted, references_noted}
+use Rattle.bdb_image.proofs.NotedLemmas.{misfits_noted, page_noted, references_noted}
 use Rattle.bdb_graph.proofs.TallyLemmas.{held_more, kinds_all, tallied_all, tallied_more, written_back}
 use Rattle.bdb_graph.specs.Walked.{AreKinds}
 use Rattle.bdb_format.specs.File.{file_of}

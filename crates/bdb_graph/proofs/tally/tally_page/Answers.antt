@@ -2,10 +2,10 @@ use Rattle.std.proofs.Common.{◌≡◌, ◌∙◌, [], ◌++◌, ap, arith, map
 use Rattle.std.proofs.lemmas.Grind.{common_steps}
 use Rattle.bdb_format.specs.File.{file_of}
 use Rattle.bdb_format.specs.References.{fit_code, refs}
-use Rattle.bdb_graph.specs.Noted.{more_misfits}
+use Rattle.bdb_image.specs.Noted.{more_misfits}
 use Rattle.bdb_graph.specs.Tallies.{AreTallies, owner}
 use Rattle.bdb_graph.specs.Walked.{AreKinds}
-use Rattle.bdb_graph.proofs.NotedLemmas.{one_more_misfit}
+use Rattle.bdb_image.proofs.NotedLemmas.{one_more_misfit}
 use Rattle.bdb_graph.proofs.RunLemmas.{kinds_of_table, known_kept}
 use Rattle.bdb_graph.proofs.TableLemmas.{all_read, owners_parts}
 use Rattle.bdb_graph.proofs.tally.tally_page.Goals as goal

@@ -2,7 +2,7 @@ use Rattle.std.proofs.Common.{◌≡◌, ◌+◌, List, ◌++◌, map}
 use Rattle.bdb_graph.specs.Leaps.{AreKnownIfAny}
 use Rattle.bdb_graph.specs.Tallies.{AreTallies, owner}
 use Rattle.bdb_graph.specs.Walked.{AreKinds}
-use Rattle.bdb_graph.specs.Noted.{misfits_of}
+use Rattle.bdb_image.specs.Noted.{misfits_of}
 use Rattle.bdb_format.specs.File.{file_of}
 use Rattle.bdb_format.specs.Graph.{Owner}
 use Rattle.bdb_format.specs.References.{fit_code, refs}

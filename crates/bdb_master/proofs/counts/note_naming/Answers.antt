@@ -2,7 +2,7 @@ use Rattle.std.proofs.Common.{◌+◌, arith, ap}
 use Rattle.bdb_format.specs.File.{file_of}
 use Rattle.bdb_format.specs.declared.metadata.Head.{Head}
 use Rattle.bdb_format.proofs.FileLemmas.{last_page}
-use Rattle.bdb_graph.specs.Linked.{meta_pages}
+use Rattle.bdb_image.specs.Linked.{meta_pages}
 use Rattle.bdb_faults.proofs.SinkLemmas.{notes_none}
 use Rattle.std.specs.Option.{option_to_list}
 use Rattle.bdb_master.specs.Entries.{naming_fault}

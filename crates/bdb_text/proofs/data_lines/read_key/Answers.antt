@@ -1,4 +1,9 @@
+use Rattle.std.proofs.Common.{◌≡◌, rules}
+use Rattle.std.specs.Prelude.{Err}
 use Rattle.bdb_text.proofs.data_lines.read_key.Goals as goal
 
-pub returns-in-Err-clause-err : goal.returns-in-Err-clause-err
-returns-in-Err-clause-err c = c.in-Err.ensures.err c.args.numbered
+pub returns-in_err-read_data-clause-err : goal.returns-in_err-read_data-clause-err
+returns-in_err-read_data-clause-err c =
+    let error = c.in_err-read_data.field-0.0 in
+    let is : c.from_residual.result ≡ Err error = search rules in
+    rw is (c.in_err-read_data.ensures.err c.args.numbered)

@@ -1,4 +1,5 @@
-use Rattle.std.proofs.Common.{Some, List, ℕ, false, sym, ap, ◌∙◌, ◌≡◌, refl, arith}
+use Rattle.std.proofs.Common.{Some, rules, List, ℕ, false, sym, ap, ◌∙◌, ◌≡◌, refl, arith}
+use Rattle.std.specs.Prelude.{Err}
 use Rattle.std.proofs.lemmas.Bool.{eqb-true}
 use Rattle.std.specs.Str.{bytes_eq}
 use Rattle.bdb_text_format.specs.Placed.{key_seen}
@@ -17,30 +18,33 @@ returns-in-Err-clause-err c =
     (key_error (values_in c.args.fields.now) c.args.text.now c.args.start c.loop-rest.pairs line _ c.loop-rest.number c.in-Err.error to c.requires.keys
     other error)
 
-pub returns-in-Err-read_datum-clause-err : goal.returns-in-Err-read_datum-clause-err
-returns-in-Err-read_datum-clause-err c =
+pub returns-in_err-behind-clause-err : goal.returns-in_err-behind-clause-err
+returns-in_err-behind-clause-err c =
     let line = c.cut_line-cut.result.line.now in
     let other : is_data_end line ≡ false = ap (λ (s : List ℕ). bytes_eq line s) (sym c.as_slice.ensures) ∙ sym c.if-eq.ensures in
     let to = rw c.cut_line-cut.ensures.lines at c.loop-rest.invariant.to in
     let key = rw (c.prints-print.ensures, c.has_record_type-numbered.ensures) at c.in-Ok.ensures.ok in
-    let error = rw c.prints-print.ensures at c.in-Err-read_datum.ensures.err in
-    behind_key_error (values_in c.args.fields.now) c.args.text.now c.args.start c.loop-rest.pairs line c.cut_line-cut.result.rest.now c.loop-rest.number
-    (key_seen c.in-Ok.key) c.in-Err-read_datum.error
-    to c.requires.keys other key error
+    let told = rw c.prints-print.ensures at c.in_err-behind.ensures.err in
+    let error = c.in_err-behind.field-0.0 in
+    let is : c.from_residual.result ≡ Err error = search rules in
+    rw is
+    (behind_key_error (values_in c.args.fields.now) c.args.text.now c.args.start c.loop-rest.pairs line c.cut_line-cut.result.rest.now c.loop-rest.number
+    (key_seen c.in-Ok.key) error
+    to c.requires.keys other key told)
 
 pub loop-rest-preserved : goal.loop-rest-preserved
 loop-rest-preserved c =
     let line = c.cut_line-cut.result.line.now in
-    let datum = c.in-Ok-read_datum.ensures.ok in
+    let datum = c.in_ok-behind.ensures.ok in
     let other : is_data_end line ≡ false = ap (λ (s : List ℕ). bytes_eq line s) (sym c.as_slice.ensures) ∙ sym c.if-eq.ensures in
     let to = rw (c.cut_line-cut.ensures.lines, datum.lines_are) at c.loop-rest.invariant.to in
     let key = rw (c.prints-print.ensures, c.has_record_type-numbered.ensures) at c.in-Ok.ensures.ok in
     let value = rw c.prints-print.ensures at (datum.value_is ∙ ap Some (sym c.as_slice-in-loop-rest.ensures.value)) in
     record {
       to = rw c.in_ok-push.ensures.ok (keyed_more (values_in c.args.fields.now) (text_lines c.args.text.now) c.args.start c.loop-rest.pairs line datum.line
-          (text_lines c.in-Ok-read_datum.behind.now) c.loop-rest.number (key_seen c.in-Ok.key) _ to c.requires.keys other datum.other key
+          (text_lines c.in_ok-behind.behind.now) c.loop-rest.number (key_seen c.in-Ok.key) _ to c.requires.keys other datum.other key
           value);
-      room = omega (arith, c.loop-rest.invariant.room, c.cut_line-cut.ensures.shorter, c.in-Ok-read_datum.ensures.shorter);
+      room = omega (arith, c.loop-rest.invariant.room, c.cut_line-cut.ensures.shorter, c.in_ok-behind.ensures.shorter);
     }
 
 pub returns-then-eq-clause-ok : goal.returns-then-eq-clause-ok

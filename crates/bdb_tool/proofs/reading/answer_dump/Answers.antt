@@ -1,4 +1,4 @@
-use Rattle.bdb_tool.specs.Commands.{Dump}
+use Rattle.bdb_tool_words.specs.Commands.{Dump}
 use Rattle.bdb_tool.proofs.AnswerLemmas.{readable_finishes, refused_by}
 use Rattle.bdb_tool.proofs.reading.answer_dump.Goals as goal
 

@@ -1,4 +1,4 @@
-use Rattle.bdb_tool.specs.Commands.{ListAll}
+use Rattle.bdb_tool_words.specs.Commands.{ListAll}
 use Rattle.bdb_tool.proofs.AnswerLemmas.{readable_finishes, refused_by}
 use Rattle.bdb_tool.proofs.FinishLemmas.{written_finishes}
 use Rattle.bdb_tool.proofs.reading.answer_list.Goals as goal

@@ -3,8 +3,8 @@ use Rattle.std.specs.Prelude.{IfOk, map}
 use Rattle.bdb_file.specs.Named.{database_at}
 use Rattle.bdb_format.specs.File.{file_of}
 use Rattle.bdb_format.specs.Lists.{btree_list, list_of}
-use Rattle.bdb_graph.specs.Linked.{HasMetadata}
-use Rattle.bdb_graph.specs.Metas.{meta_seen}
+use Rattle.bdb_image.specs.Linked.{HasMetadata}
+use Rattle.bdb_image.specs.Metas.{meta_seen}
 use Rattle.bdb_onto.specs.Bases.{text_pair}
 use Rattle.bdb_tool_build.proofs.BaseLemmas.{btree_listed}
 use Rattle.bdb_tool_build.proofs.base.base_pairs.Goals as goal

@@ -4,7 +4,7 @@ use Rattle.bdb_format.specs.Contents.{pairs_of}
 use Rattle.bdb_format.specs.File.{file_of}
 use Rattle.bdb_format.specs.Leaves.{leaves}
 use Rattle.bdb_format.specs.Lists.{btree_list}
-use Rattle.bdb_graph.specs.Linked.{FitsTreeRoot}
+use Rattle.bdb_image.specs.Linked.{FitsTreeRoot}
 use Rattle.bdb_btree.specs.Pairs.{AreLeaves}
 use Rattle.bdb_onto.specs.Bases.{text_pair}
 use Rattle.bdb_tool_build.specs.Copied.{Follow}

@@ -1,7 +1,0 @@
-use Rattle.std.proofs.Common.{◌≡◌}
-use Rattle.bdb_graph.specs.Slots.{names_from}
-use Rattle.bdb_graph.proofs.source.Source.first_from.Given as goal
-
--- No slot before this one names a page.
-abbrev pub invariant-loop-at : goal.invariant-loop-at
-invariant-loop-at l = names_from l.self l.slot ≡ names_from l.self l.at

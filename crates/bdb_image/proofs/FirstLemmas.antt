@@ -1,0 +1,59 @@
+-- What a formed image says of its pages.
+use Rattle.std.proofs.Common.{◌≡◌, ℕ, ◌+◌, ◌^◌, ◌<◌, ◌≤◌, true, false, cond, List, [], ◌∷◌, arith, refl}
+use Rattle.std.specs.Prelude.{Some, None, Result, Ok, Err}
+use Rattle.std.specs.Option.{option_to_list}
+use Rattle.bdb_format.specs.declared.metadata.Head.{Head}
+use Rattle.bdb_format.specs.declared.metadata.MetaFault.{MetaFault}
+use Rattle.bdb_format.specs.File.{page_bytes}
+use Rattle.bdb_format.specs.HeadOf.{faulted, head_of, head_rows}
+use Rattle.bdb_format.specs.Rows.{form_code}
+use Rattle.bdb_format.specs.Table.{Row, answer, first_row}
+use Rattle.bdb_format.specs.Verdict.{faults_in, form_faults, head_faults, tail_faults}
+use Rattle.bdb_format.proofs.VerdictLemmas.{no_code, no_codes_at, none_within, or_else_none}
+use Rattle.bdb_image.proofs.FormedLemmas.{IsPaged, accepted_paged}
+use Rattle.bdb_image.specs.Formed.{IsAccepted, IsFormed}
+
+-- an answer that is a value: no row holds
+pub faulted_value : {T : Type 0} (fault : ℕ → MetaFault) (rows : List (Row ℕ)) (value found : T) → Ok found ≡ faulted fault (answer rows value)
+    → (found ≡ value) × (first_row rows ≡ None)
+faulted_value fault [] value found same = (cc, refl)
+faulted_value {T = T} fault (row ∷ rows) value found same =
+    elim row.holds as (λ b. ◌≡◌ {A = Result T MetaFault} (Ok found) (faulted fault (cond b (Err row.code) (answer rows value)))
+    → (found ≡ value) × (cond b (Some row.code) (first_row rows) ≡ None)) [
+      | true ↦ λ is. absurd cc
+      | false ↦ λ is. faulted_value fault rows value found is
+    ] same
+
+no_head_fault : (image : List ℕ) → faults_in (1 ∷ 2 ∷ []) image ≡ [] → first_row (head_rows image) ≡ None
+unfolding head_faults
+no_head_fault image none =
+    no_code (first_row (head_rows image))
+    (no_codes_at 1 0 1 0 (λ p. option_to_list (first_row (head_rows image)))
+    (or_else_none (head_faults image) (tail_faults image) (none_within 1 2 image 1 none (omega arith) (omega arith))).0
+    (omega arith) (omega arith))
+
+-- page 0 of a formed image is accepted
+pub formed_accepted : (image : List ℕ) (head : Head) → IsFormed image head → IsAccepted image head
+formed_accepted image head is = record { size = is.size; head_is = is.head_is; accepted = no_head_fault image is.form }
+
+-- the last page of a formed image is there
+pub formed_last : (image : List ℕ) (head : Head) → IsFormed image head → head.last < head.pages
+formed_last image head is = (accepted_paged image head (formed_accepted image head is)).last
+
+-- a formed image has few pages
+pub formed_few : (image : List ℕ) (head : Head) → IsFormed image head → head.last < 2 ^ 21
+formed_few image head is =
+    let paged : IsPaged image head = accepted_paged image head (formed_accepted image head is) in
+    omega (arith, paged.last, paged.few)
+
+-- a page of a formed image has no fault of form
+pub formed_page : (image : List ℕ) (number : ℕ) → faults_in (1 ∷ 2 ∷ []) image ≡ [] → number ≤ (head_of image).last
+    → form_code (head_of image) number (page_bytes (head_of image) image number) ≡ None
+unfolding form_faults
+formed_page image number none low =
+    no_code _
+    (no_codes_at 2 0 ((head_of image).last + 1) number (λ p. option_to_list (form_code (head_of image) p (page_bytes (head_of image) image p)))
+    (none_within 1 2 image 2 none (omega arith) (omega arith)) (omega arith) (omega arith))
+
+-- what pages of sound form are
+pub ruleset formed_pages = (formed_page, formed_accepted, formed_last, formed_few)

@@ -1,0 +1,11 @@
+pub mod ApartLemmas
+pub mod BucketLemmas
+pub mod CodeLemmas
+pub mod FirstLemmas
+pub mod FitLemmas
+pub mod FormedLemmas
+pub mod HeldLemmas
+pub mod MetaLemmas
+pub mod NotedLemmas
+pub mod PieceLemmas
+pub mod RoleLemmas

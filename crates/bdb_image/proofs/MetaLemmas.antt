@@ -1,0 +1,129 @@
+-- What a page without a fault of form is, where it's metadata.
+use Rattle.std.proofs.Common.{arith}
+use Rattle.std.proofs.Common.{◌≡◌, ℕ, zero, suc, ◌+◌, ◌≤◌, true, false, cond, inl, inr, List, [], ◌∷◌, ◌++◌, length, refl, sym, ◌∙◌, ap, subst}
+use Rattle.std.proofs.Common.{append-nil}
+use Rattle.std.specs.Prelude.{Some, None}
+use Rattle.std.proofs.lemmas.Bool.{true≢false, cases_eq}
+use Rattle.bdb_format.specs.declared.kinds.Order.{Order}
+use Rattle.bdb_format.specs.declared.metadata.FileKind.{FileKind}
+use Rattle.bdb_format.specs.declared.metadata.FileKind.TheVariants.{Btree, Hash, Queue}
+use Rattle.bdb_format.specs.declared.metadata.Head.{Head}
+use Rattle.bdb_format.specs.File.{File, file_of, page_at, page_bytes}
+use Rattle.bdb_format.specs.Graph.{is_meta}
+use Rattle.bdb_format.specs.HeadOf.{head_of, is_page_size}
+use Rattle.bdb_format.specs.Numbers.{byte_at}
+use Rattle.bdb_format.specs.Page.{Metadata, Page, Zero, Meta, HashFields, QueueFields}
+use Rattle.bdb_format.specs.Reading.{abstract_page, hash_fields, page_as, page_type, queue_fields}
+use Rattle.bdb_format.specs.Rows.{form_code, may_have_type, metadata_rows}
+use Rattle.bdb_format.specs.Table.{first_row}
+use Rattle.bdb_format.proofs.GraphLemmas.{type_fits}
+use Rattle.bdb_format.proofs.PageLemmas.{later_type}
+use Rattle.std.proofs.lemmas.List.Elements.{filter-append}
+use Rattle.bdb_image.specs.Linked.{meta_pages, metas_below}
+use Rattle.bdb_image.specs.Metas.{meta_in}
+use Rattle.bdb_format.specs.declared.metadata.HashMeta.{HashMeta}
+use Rattle.bdb_image.proofs.CodeLemmas.{differs, not_zero, queue_last}
+use Rattle.bdb_image.proofs.HeldLemmas.{few_buckets, metadata_formed, table_formed, table_page, tree_page, other_page, other_type, other_formed}
+use Rattle.bdb_format.proofs.ListLemmas.{range_zero_more}
+use Rattle.bdb_format.proofs.FileLemmas.{page_is}
+
+-- Queue metadata.
+
+pub queue_page : (order : Order) (page : List ℕ) → is_page_size (length page) ≡ true → byte_at page 25 ≡ 10
+    → abstract_page order page ≡ Meta (QueueFields (queue_fields order page))
+unfolding abstract_page
+queue_page order page size is = rw (not_zero page Queue size is, abstract_page) (ap (λ byte. page_as order page (page_type byte)) is)
+
+-- metadata of a queue is page 0
+pub zero_number : (kind : FileKind) (number byte : ℕ) → byte ≡ 10 → may_have_type kind number byte ≡ true → number ≡ 0
+zero_number kind zero byte is may = refl
+zero_number Btree (suc n) byte is may = absurd (true≢false (sym (subst (λ b. may_have_type Btree (suc n) b ≡ true) is may) ∙ later_type Btree n 10))
+zero_number Hash (suc n) byte is may = absurd (true≢false (sym (subst (λ b. may_have_type Hash (suc n) b ≡ true) is may) ∙ later_type Hash n 10))
+zero_number Queue (suc n) byte is may = absurd (true≢false (sym (subst (λ b. may_have_type Queue (suc n) b ≡ true) is may) ∙ later_type Queue n 10))
+
+-- queue metadata is page 0
+pub queue_formed : (head : Head) (number : ℕ) (page : List ℕ) → is_page_size (length page) ≡ true → byte_at page 25 ≡ 10 → form_code head number page ≡ None
+    → first_row (metadata_rows head.order page 0 0 Queue) ≡ None
+queue_formed head number page size is none =
+    let first : number ≡ 0 = zero_number head.kind number (byte_at page 25) is (type_fits head number page (not_zero page Queue size is) none) in
+    ap first_row (sym (queue_last head.order page 0 head.last))
+    ∙ (ap (λ n. first_row (metadata_rows head.order page n head.last Queue)) (sym first) ∙ metadata_formed head number page Queue size is none)
+
+-- Other pages.
+
+no_fields : (page : Page) → is_meta page ≡ false → meta_in page ≡ None
+no_fields (Meta fields) other = absurd cc
+no_fields page other = refl
+
+pub no_meta : (order : Order) (page : List ℕ) → (byte_at page 25 ≡ 8 → ⊥) → (byte_at page 25 ≡ 9 → ⊥) → (byte_at page 25 ≡ 10 → ⊥)
+    → meta_in (abstract_page order page) ≡ None
+unfolding abstract_page
+no_meta order page table tree queue = grind (arith, no_fields, other_page, other_type, differs)
+
+-- The file.
+
+pub meta_of_page : (image : List ℕ) (p : ℕ) → p ≤ (head_of image).last → meta_in (page_at (file_of image) p)
+    ≡ meta_in (abstract_page (head_of image).order (page_bytes (head_of image) image p))
+meta_of_page image p low = ap meta_in (page_is image p low)
+
+-- a page that shows none is no metadata
+pub is_by_fields : (page : Page) → None ≡ meta_in page → is_meta page ≡ false
+is_by_fields (Meta fields) none = absurd cc
+is_by_fields page none = refl
+
+-- The fields that are read.
+
+-- a page that shows fields is metadata with these
+pub is_fields : (page : Page) (fields : Metadata) → Some fields ≡ meta_in page → page ≡ Meta fields
+is_fields (Meta found) fields some = cc
+is_fields Zero fields some = absurd cc
+is_fields page fields some = absurd cc
+
+pub no_table : (order : Order) (page : List ℕ) → is_page_size (length page) ≡ true → None ≡ meta_in (abstract_page order page) → byte_at page 25 ≡ 8 → ⊥
+no_table order page size none is = let e = ap meta_in (table_page order page size is) in cc (e, none)
+
+pub no_tree : (order : Order) (page : List ℕ) → is_page_size (length page) ≡ true → None ≡ meta_in (abstract_page order page) → byte_at page 25 ≡ 9 → ⊥
+no_tree order page size none is = let e = ap meta_in (tree_page order page size is) in cc (e, none)
+
+-- the buckets of a table are no more than the pages
+pub few_buckets_known : (head : Head) (number : ℕ) (page : List ℕ) (meta : HashMeta) → is_page_size (length page) ≡ true → form_code head number page ≡ None
+    → Some (HashFields meta) ≡ meta_in (abstract_page head.order page) → meta.max_bucket ≤ head.last
+few_buckets_known head number page meta size none some =
+    elim (cases_eq (byte_at page 25) 8) [
+      | inl table ↦
+          let same : HashFields meta ≡ HashFields (hash_fields head.order page) = (let e = ap meta_in (table_page head.order page size table) in cc (e, some))
+          in
+          let few : (hash_fields head.order page).max_bucket ≤ head.last = few_buckets head.order page number head.last
+          (table_formed head number page size table none) in
+          (let is : meta ≡ hash_fields head.order page = cc same in rw is few)
+      | inr no_table' ↦
+          elim (cases_eq (byte_at page 25) 9) [
+            | inl tree ↦ absurd (let e = ap meta_in (tree_page head.order page size tree) in cc (e, some))
+            | inr no_tree' ↦
+                elim (cases_eq (byte_at page 25) 10) [
+                  | inl queue ↦ absurd (let e = ap meta_in (queue_page head.order page size queue) in cc (e, some))
+                  | inr no_queue ↦ absurd (let e = no_meta head.order page no_table' no_tree' no_queue in cc (e, some))
+                ]
+          ]
+    ]
+
+-- The metadata pages.
+
+one_page_more : (file : File) (n : ℕ) → metas_below file (n + 1) ≡ metas_below file n ++ cond (is_meta (page_at file n)) (n ∷ []) []
+one_page_more file n = grind (arith, range_zero_more, filter-append)
+
+pub one_more_meta : (file : File) (n : ℕ) (metas : List ℕ) → metas ≡ metas_below file n → true ≡ is_meta (page_at file n)
+    → metas ++ n ∷ [] ≡ metas_below file (n + 1)
+one_more_meta file n metas below is = ap (λ ms. ms ++ n ∷ []) below ∙ sym (one_page_more file n ∙ ap (λ b. metas_below file n ++ cond b (n ∷ []) []) (sym is))
+
+pub no_more_meta : (file : File) (n : ℕ) (metas : List ℕ) → metas ≡ metas_below file n → false ≡ is_meta (page_at file n) → metas ≡ metas_below file (n + 1)
+no_more_meta file n metas below other = below ∙ sym (one_page_more file n ∙ ap (λ b. metas_below file n ++ cond b (n ∷ []) []) (sym other)
+    ∙ append-nil (metas_below file n))
+
+-- all of them
+pub all_metas : (file : File) (n : ℕ) (metas : List ℕ) → n ≡ file.last + 1 → metas ≡ metas_below file n → metas ≡ meta_pages file
+unfolding meta_pages
+all_metas file n metas all below = below ∙ ap (metas_below file) all
+
+-- which metadata a page holds
+pub ruleset held_fields = (is_fields, few_buckets_known, no_table, no_tree, other_formed)

@@ -1,0 +1,24 @@
+use Rattle.std.proofs.Common.{◌≡◌, ◌∙◌, ap, arith, sym}
+use Rattle.bdb_format.specs.File.{file_of}
+use Rattle.bdb_format.specs.declared.metadata.Head.{Head}
+use Rattle.bdb_format.proofs.FileLemmas.{last_page}
+use Rattle.bdb_image.proofs.bucket_fits.BucketFits.of.Goals as goal
+
+-- The page is there.
+pub row_of-row-requires : goal.row_of-row-requires
+row_of-row-requires c =
+    let last : c.head.result.last ≡ (file_of c.args.formed.now).last =
+    ap (λ (head : Head). head.last) c.head.ensures.head ∙ sym (last_page c.args.formed.now) in
+    omega arith
+
+-- The last page is passed.
+pub returns : goal.returns
+returns c =
+    let last : c.head.result.last ≡ (file_of c.args.formed.now).last =
+    ap (λ (head : Head). head.last) c.head.ensures.head ∙ sym (last_page c.args.formed.now) in
+    record {
+      kinds = c.loop-page.invariant.of_type;
+      backs = c.loop-page.invariant.of_back;
+      kinds_len = omega (arith, c.loop-page.invariant.kinds_len);
+      backs_len = omega (arith, c.loop-page.invariant.backs_len);
+    }

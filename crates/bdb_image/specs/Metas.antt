@@ -1,0 +1,15 @@
+-- The fields of a metadata page, as a caller gets them. Source: docs/FORMAT.md, "Other pages".
+use Rattle.std.specs.Prelude.{Option, Some, None}
+use Rattle.bdb_image.specs.declared.meta.Meta.{Meta}
+use Rattle.bdb_image.specs.declared.meta.Meta.TheVariants.{Btree, Hash, Queue}
+use Rattle.bdb_format.specs.Page.{Metadata, BtreeFields, HashFields, QueueFields, Page, Meta as MetaPage}
+
+abbrev pub meta_seen : Meta → Metadata
+meta_seen (Btree meta) = BtreeFields meta
+meta_seen (Hash meta) = HashFields meta
+meta_seen (Queue meta) = QueueFields meta
+
+-- the fields of a page, if it's metadata
+abbrev pub meta_in : Page → Option Metadata
+meta_in (MetaPage fields) = Some fields
+meta_in page = None

@@ -1,0 +1,166 @@
+ghost use Rattle.std.specs.Prelude.{◌≡◌, ◌≤◌, ◌^◌, [], ◌∷◌, ◌<◌, IfErr, IfOk, IsTrue, OnErr, OnOk, length, option_map, option_to_list, true};
+ghost use Rattle.std.specs.Result.{result_err};
+ghost use Rattle.bdb_faults.specs.All.{IsAllOf};
+ghost use Rattle.bdb_faults.specs.Notes.{NotesAll};
+ghost use Rattle.bdb_image.specs.Formed.{IsAccepted, IsRead};
+ghost use Rattle.bdb_image.specs.Noted.{page_faults};
+ghost use Rattle.bdb_slots.specs.Plain.{ArePlain, IsPlainIn};
+ghost use Rattle.bdb_format.specs.HeadOf.{is_page_size};
+ghost use Rattle.bdb_format.specs.Rows.{form_code};
+ghost use Rattle.bdb_format.specs.Verdict.{as_verdict, faults_in, form_faults, tail_faults, verdict_in};
+
+use crate::Formed;
+use crate::cases::verdict_on;
+use crate::formed::page_bytes;
+use crate::page::page_fault;
+use crate::plain::is_plain;
+use bdb_faults::{
+    AllError, FaultSink, FileRow, First, NamedList, Row, fault_of_form, fault_of_head, note_if,
+    refused_by,
+};
+use bdb_form::is_zero;
+use bdb_format::{Head, Verdict};
+use std::alloc::{AllocError, Global};
+
+/// The image as one on which no row of the first two stages holds, or else its verdict. The pages are
+/// read where they lie; no memory is taken.
+pub fn open_image<'a>(_alloc: Global, image: &'a [u8]) -> Result<Formed<'a>, Verdict>
+    requires { length image.now ≤ 2 ^ 30 }
+    ensures formed { IfOk result (λ formed. formed ≡ image.now) }
+    ensures accepted { OnOk result (faults_in (1 ∷ 2 ∷ []) image.now ≡ []) }
+    ensures verdict { result_err result ≡ option_map as_verdict (verdict_in (1 ∷ 2 ∷ []) image.now) }
+{
+    let mut first = First::new();
+    let Ok(read) = note_form(image, &mut first) else {
+        unreachable!()
+    };
+    match first.fault() {
+        Some(fault) => Err(verdict_on(fault)),
+        None => Ok(formed_by(image, read)),
+    }
+}
+
+/// The same, with all faults of the first of the two stages that has any: page by page and code by code, each once.
+/// Page 0 has one in stage 1 at most, and each page one in stage 2. `Memory` is want of memory for the list of them.
+pub fn open_all<'a>(alloc: Global, image: &'a [u8]) -> Result<Formed<'a>, AllError>
+    requires { length image.now ≤ 2 ^ 30 }
+    ensures formed { IfOk result (λ formed. formed ≡ image.now) }
+    ensures accepted { OnOk result (faults_in (1 ∷ 2 ∷ []) image.now ≡ []) }
+    ensures refusal { IfErr result (IsAllOf (faults_in (1 ∷ 2 ∷ []) image.now)) }
+{
+    let mut found = NamedList::new(alloc);
+    let Ok(read) = note_form(image, &mut found) else {
+        return Err(AllError::Memory);
+    };
+    refused_by(found)?;
+    Ok(formed_by(image, read))
+}
+
+/// What is read of the pages while their form is tested.
+#[derive(Clone, Copy, Debug)]
+struct Read {
+    head: Head,
+    /// No item names another page.
+    plain: bool,
+}
+
+/// The image as one without a fault of the two stages, by what was read of its pages.
+fn formed_by<'a>(image: &'a [u8], read: Option<Read>) -> Formed<'a>
+    requires read { IsRead image.now read }
+    requires form { faults_in (1 ∷ 2 ∷ []) image.now ≡ [] }
+    ensures { result ≡ image.now }
+{
+    match read {
+        Some(read) => Formed::over(image, read.head, read.plain),
+        None => unreachable!(),
+    }
+}
+
+/// Notes the faults of the first of stages 1 and 2 that has any, and tells what the pages say, where page 0 has
+/// no fault of stage 1.
+fn note_form<F: FaultSink>(image: &[u8], found: &mut F) -> Result<Option<Read>, AllocError>
+    requires size { length image.now ≤ 2 ^ 30 }
+    requires new { F.has_noted found.old [] }
+    ensures noted { OnOk result (NotesAll (F.has_noted found.old) (F.has_noted found.new) (faults_in (1 ∷ 2 ∷ []) image.now)) }
+    ensures read { IfOk result (IsRead image.now) }
+    ensures refused { OnErr result (IsTrue F.takes_memory) }
+{
+    match bdb_meta::head(image) {
+        Ok(head) => {
+            let plain = note_pages(image, &head, found)?;
+            Ok(Some(Read { head, plain }))
+        }
+        Err(fault) => {
+            found.note(fault_of_head(fault))?;
+            Ok(None)
+        }
+    }
+}
+
+/// Notes the pages above the last one that aren't zero pages, or else the faults of form. Tells whether no item names
+/// another page, where that is seen.
+fn note_pages<F: FaultSink>(image: &[u8], head: &Head, found: &mut F) -> Result<bool, AllocError>
+    requires accepted { IsAccepted image.now head.now }
+    requires new { F.has_noted found.old [] }
+    ensures plain { IfOk result (λ plain. plain ≡ true → ArePlain head.now image.now) }
+    ensures noted { OnOk result (NotesAll (F.has_noted found.old) (F.has_noted found.new) (faults_in (1 ∷ 2 ∷ []) image.now)) }
+    ensures refused { OnErr result (IsTrue F.takes_memory) }
+{
+    note_tail(image, head, found)?;
+    if !found.is_empty() {
+        return Ok(false);
+    }
+    note_forms(image, head, found)
+}
+
+/// Notes the pages above the last one that aren't zero pages.
+fn note_tail<F: FaultSink>(image: &[u8], head: &Head, found: &mut F) -> Result<(), AllocError>
+    requires { IsAccepted image.now head.now }
+    ensures noted { OnOk result (NotesAll (F.has_noted found.old) (F.has_noted found.new) (tail_faults image.now)) }
+    ensures refused { OnErr result (IsTrue F.takes_memory) }
+{
+    for number in head.last + 1..head.pages {
+        let is_used = !is_zero(page_bytes(image, head, number));
+        note_if(found, Row::File(FileRow::Tail), number, is_used)?;
+    }
+    Ok(())
+}
+
+/// Notes the faults of form of the pages up to the last one. Tells whether no item names another page: asked of each page
+/// while its items are at hand, up to the first that has such an item.
+fn note_forms<F: FaultSink>(image: &[u8], head: &Head, found: &mut F) -> Result<bool, AllocError>
+    requires { IsAccepted image.now head.now }
+    ensures plain { IfOk result (λ plain. plain ≡ true → ArePlain head.now image.now) }
+    ensures noted { OnOk result (NotesAll (F.has_noted found.old) (F.has_noted found.new) (form_faults image.now)) }
+    ensures refused { OnErr result (IsTrue F.takes_memory) }
+{
+    let mut plain = true;
+    for number in 0..head.last + 1 {
+        plain = note_page(page_bytes(image, head, number), head, number, plain, found)?;
+    }
+    Ok(plain)
+}
+
+/// Notes the fault of form of a page up to the last one, if it has one. Tells whether it and those before it are plain.
+fn note_page<F: FaultSink>(
+    page: &[u8],
+    head: &Head,
+    number: u32,
+    plain: bool,
+    found: &mut F,
+) -> Result<bool, AllocError>
+    requires size { IsTrue (is_page_size (length page.now)) }
+    requires last { head.now.last < 2 ^ 21 }
+    ensures plain { IfOk result (λ still. still ≡ true → (plain ≡ true) × IsPlainIn head.now page.now) }
+    ensures noted { OnOk result (NotesAll (F.has_noted found.old) (F.has_noted found.new)
+        (page_faults 2 number (option_to_list (form_code head.now number page.now)))) }
+    ensures refused { OnErr result (IsTrue F.takes_memory) }
+{
+    match page_fault(page, head, number) {
+        Some(fault) => {
+            found.note(fault_of_form(fault, number))?;
+            Ok(false)
+        }
+        None => Ok(plain && is_plain(page, head, number)),
+    }
+}

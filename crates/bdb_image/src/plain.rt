@@ -1,0 +1,99 @@
+ghost use Rattle.std.specs.Prelude.{◌≡◌, ◌≢◌, ◌^◌, ◌<◌, IsTrue, None, length, true};
+ghost use Rattle.std.specs.List.{All};
+ghost use Rattle.bdb_form.specs.Seen.{page_seen};
+ghost use Rattle.bdb_slots.specs.Plain.{IsInline, IsPlain, IsPlainIn};
+ghost use Rattle.bdb_format.specs.HeadOf.{is_page_size};
+ghost use Rattle.bdb_format.specs.Reading.{abstract_page};
+ghost use Rattle.bdb_format.specs.Rows.{form_code};
+ghost use Rattle.bdb_format.specs.declared.metadata.FileKind.TheVariants.{Queue};
+
+use crate::meta::meta_on;
+use bdb_form::{DupLeafView, HashView, LeafView, PageView, RecnoLeafView, known_form};
+use bdb_format::{FileKind, Head};
+use bdb_slots::content_name;
+
+/// Whether no item of a page without a fault of form names another page. It's asked while the items are at hand, so that
+/// they needn't be gone over again for what they name.
+pub(crate) fn is_plain(page: &[u8], head: &Head, number: u32) -> bool
+    requires size { IsTrue (is_page_size (length page.now)) }
+    requires last { head.now.last < 2 ^ 21 }
+    requires form { form_code head.now number page.now ≡ None }
+    ensures { result ≡ true → IsPlainIn head.now page.now }
+{
+    match head.kind {
+        FileKind::Btree | FileKind::Hash => is_plain_in_forest(page, head, number),
+        FileKind::Queue => true,
+    }
+}
+
+/// The same of a page of a btree or hash file.
+#[tactic(auto, using(crate::proofs::MetaLemmas::held_fields))]
+fn is_plain_in_forest(page: &[u8], head: &Head, number: u32) -> bool
+    requires size { IsTrue (is_page_size (length page.now)) }
+    requires last { head.now.last < 2 ^ 21 }
+    requires form { form_code head.now number page.now ≡ None }
+    requires forest { head.now.kind ≢ Queue }
+    ensures { result ≡ true → IsPlain (abstract_page head.now.order page.now) }
+{
+    match meta_on(page, head.order) {
+        Some(_) => true,
+        None => is_plain_view(&known_form(page, number, head.order)),
+    }
+}
+
+/// Whether no item of a page of pairs or records names another page.
+fn is_plain_view(view: &PageView<'_>) -> bool
+    ensures { result ≡ true → IsPlain (page_seen view.now) }
+{
+    match view {
+        PageView::Leaf(page) => is_plain_leaf(page),
+        PageView::RecnoLeaf(page) => is_plain_recno_leaf(page),
+        PageView::DupLeaf(page) => is_plain_dup_leaf(page),
+        PageView::Hash(page) => is_plain_bucket(page),
+        _ => true,
+    }
+}
+
+fn is_plain_leaf(page: &LeafView<'_>) -> bool
+    ensures { result ≡ true → All IsInline page.now.items }
+{
+    for item in page.items() {
+        if content_name(&item.content()).is_some() {
+            return false;
+        }
+    }
+    true
+}
+
+fn is_plain_recno_leaf(page: &RecnoLeafView<'_>) -> bool
+    ensures { result ≡ true → All IsInline page.now.items }
+{
+    for item in page.items() {
+        if content_name(&item.content()).is_some() {
+            return false;
+        }
+    }
+    true
+}
+
+fn is_plain_dup_leaf(page: &DupLeafView<'_>) -> bool
+    ensures { result ≡ true → All IsInline page.now.items }
+{
+    for item in page.items() {
+        if content_name(&item.content()).is_some() {
+            return false;
+        }
+    }
+    true
+}
+
+fn is_plain_bucket(page: &HashView<'_>) -> bool
+    ensures { result ≡ true → All IsInline page.now.items }
+{
+    for item in page.items() {
+        if content_name(&item.content()).is_some() {
+            return false;
+        }
+    }
+    true
+}

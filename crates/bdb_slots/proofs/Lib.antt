@@ -1,0 +1,3 @@
+pub mod PlainLemmas
+pub mod SlotLemmas
+pub mod SourceLemmas

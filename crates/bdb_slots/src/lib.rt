@@ -1,0 +1,8 @@
+//! What a page names, slot by slot.
+#![tactic(auto)]
+
+mod names;
+mod source;
+
+pub use names::content_name;
+pub use source::Source;

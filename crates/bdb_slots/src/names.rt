@@ -1,0 +1,104 @@
+ghost use Rattle.std.specs.Prelude.{◌≡◌, ◌+◌, ◌*◌, ◌<◌, length, option_to_list};
+ghost use Rattle.bdb_slots.specs.Slots.{child_names, entry_names, hash_names, internal_names, item_names};
+ghost use Rattle.bdb_layout.specs.Seen.{content_seen};
+ghost use Rattle.bdb_format.specs.References.{content_targets, unless_zero};
+
+use bdb_form::{DupLeafView, HashView, InternalView, LeafView, RecnoInternalView, RecnoLeafView};
+use bdb_format::Sort;
+use bdb_layout::Content;
+
+/// What a page names: for what, and the number of a page, which need not be there.
+pub(crate) type Name = (Sort, u64);
+
+/// A page that is named, unless its number is 0.
+pub(crate) fn unless_zero(sort: Sort, target: u32) -> Option<Name>
+    ensures { option_to_list result ≡ unless_zero sort target }
+{
+    if target == 0 {
+        return None;
+    }
+    Some((sort, u64::from(target)))
+}
+
+/// The page that an item names by what it holds.
+pub fn content_name(content: &Content) -> Option<Name>
+    ensures { option_to_list result ≡ content_targets (content_seen content.now) }
+{
+    match content {
+        Content::Inline(_) | Content::Set(_) => None,
+        Content::Overflow { head, .. } => Some((Sort::OverflowHead, u64::from(*head))),
+        Content::OffPage { root } => Some((Sort::DuplicateRoot, u64::from(*root))),
+    }
+}
+
+/// The page that an item of a btree leaf names; a key that is shared names nothing of its own.
+pub(crate) fn leaf_name(page: &LeafView, slot: u32) -> Option<Name>
+    requires { slot < length page.now.items }
+    ensures { option_to_list result ≡ entry_names page.now slot }
+{
+    prove!(slot < 2 * u32::from(page.pairs()));
+    let pair = (slot / 2) as u16;
+    if slot % 2 == 1 {
+        return content_name(&page.value(pair).content());
+    }
+    if page.shares(pair) {
+        return None;
+    }
+    content_name(&page.key(pair).content())
+}
+
+/// The page that an item of a leaf of records names.
+pub(crate) fn recno_leaf_name(page: &RecnoLeafView, slot: u32) -> Option<Name>
+    requires { slot < length page.now.items }
+    ensures { option_to_list result ≡ item_names page.now slot }
+{
+    prove!(slot < u32::from(page.entries()));
+    content_name(&page.item(slot as u16).content())
+}
+
+/// The page that an item of a leaf of duplicates names.
+pub(crate) fn dup_leaf_name(page: &DupLeafView, slot: u32) -> Option<Name>
+    requires { slot < length page.now.items }
+    ensures { option_to_list result ≡ item_names page.now slot }
+{
+    prove!(slot < u32::from(page.entries()));
+    content_name(&page.item(slot as u16).content())
+}
+
+/// The page below, which an item of an internal page of records names.
+pub(crate) fn child_name(page: &RecnoInternalView, slot: u32) -> Option<Name>
+    requires { slot < length page.now.items }
+    ensures { option_to_list result ≡ child_names page.now slot }
+{
+    prove!(slot < u32::from(page.entries()));
+    Some((Sort::Child, u64::from(page.item(slot as u16).child)))
+}
+
+/// The page that half an item of an internal page names: first the page below, then the chain of its key.
+pub(crate) fn internal_name(page: &InternalView, slot: u32) -> Option<Name>
+    requires { slot < 2 * length page.now.items }
+    ensures { option_to_list result ≡ internal_names page.now slot }
+{
+    prove!(slot < 2 * u32::from(page.entries()));
+    let item = page.item((slot / 2) as u16);
+    if slot % 2 == 1 {
+        return content_name(&item.key.content());
+    }
+    Some((Sort::Child, u64::from(item.child)))
+}
+
+/// The page that an item of a hash page names, and behind the items the next page of its bucket.
+pub(crate) fn hash_name(page: &HashView, slot: u32) -> Option<Name>
+    requires { slot < length page.now.items + 1 }
+    ensures { option_to_list result ≡ hash_names page.now slot }
+{
+    prove!(slot <= 2 * u32::from(page.pairs()));
+    let pair = (slot / 2) as u16;
+    if pair == page.pairs() {
+        return unless_zero(Sort::HashNext, page.header().next);
+    }
+    if slot % 2 == 1 {
+        return content_name(&page.value(pair).content());
+    }
+    content_name(&page.key(pair).content())
+}

@@ -1,0 +1,4 @@
+pub mod CommandLemmas
+pub mod GivenLemmas
+pub mod ReadLemmas
+pub mod StepLemmas

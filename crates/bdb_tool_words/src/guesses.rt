@@ -1,0 +1,60 @@
+//! How an image is read, by the options of `salvage`.
+ghost use Rattle.std.specs.Prelude.{◌≡◌, IfSome, IsTrue, option_copied};
+ghost use Rattle.bdb_format.specs.HeadOf.{is_page_size};
+ghost use Rattle.bdb_tool_words.specs.Commands.{guess_asked, order_named, page_size_named};
+
+use bdb_format::Order;
+use bdb_rescue::Guess;
+
+/// The guess of an order and a page size, which are given together or not at all.
+pub(crate) fn guess_asked(order: Option<&[u8]>, page_size: Option<&[u8]>) -> Option<Option<Guess>>
+    ensures seen { result ≡ guess_asked (option_copied order.entry) (option_copied page_size.entry) }
+    ensures legal { IfSome result (λ guess. IfSome guess (λ it. IsTrue (is_page_size it.page_size))) }
+{
+    match (order, page_size) {
+        (None, None) => Some(None),
+        (Some(order), Some(page_size)) => {
+            let order = order_named(order)?;
+            let page_size = page_size_named(page_size)?;
+            Some(Some(Guess { order, page_size }))
+        }
+        _ => None,
+    }
+}
+
+/// The order that a word names.
+pub(crate) fn order_named(word: &[u8]) -> Option<Order>
+    ensures { result ≡ order_named word.now }
+{
+    if word == b"big".as_slice() {
+        Some(Order::Big)
+    } else if word == b"little".as_slice() {
+        Some(Order::Little)
+    } else {
+        None
+    }
+}
+
+// The legal page size with these digits.
+fn page_size_named(word: &[u8]) -> Option<u32>
+    ensures seen { result ≡ page_size_named word.now }
+    ensures legal { IfSome result (λ page_size. IsTrue (is_page_size page_size)) }
+{
+    if word == b"512".as_slice() {
+        Some(512)
+    } else if word == b"1024".as_slice() {
+        Some(1024)
+    } else if word == b"2048".as_slice() {
+        Some(2048)
+    } else if word == b"4096".as_slice() {
+        Some(4096)
+    } else if word == b"8192".as_slice() {
+        Some(8192)
+    } else if word == b"16384".as_slice() {
+        Some(16384)
+    } else if word == b"32768".as_slice() {
+        Some(32768)
+    } else {
+        None
+    }
+}

@@ -1,0 +1,12 @@
+//! The words of a command line, and the command that they are.
+#![tactic(auto)]
+
+mod command;
+mod guesses;
+mod options;
+mod shapes;
+
+pub use command::{
+    Action, Bounds, Command, Lookup, Reading, Repair, Request, Salvage, Selection, Trial,
+    base_limit, command_of, onto_file,
+};
