@@ -2,6 +2,7 @@ pub mod GuessLemmas
 pub mod KeptLemmas
 pub mod LeftLemmas
 pub mod ListLemmas
+pub mod LooseCountLemmas
 pub mod LooseLemmas
 pub mod MarkLemmas
 pub mod SetLemmas

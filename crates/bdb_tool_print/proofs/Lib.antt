@@ -2,4 +2,3 @@ pub mod SpellingLemmas
 pub mod PrinterLemmas
 pub mod DumpLemmas
 pub mod ListingLemmas
-pub mod SalvageLemmas

@@ -1,2 +1,1 @@
 pub mod Printers
-pub mod SalvageText
