@@ -39,7 +39,6 @@ pub fn queue_file(
     let mut pages = Pages::new(alloc, settings.page_size, settings.order);
     pages.add()?;
     let meta = build_queue(&mut pages, settings, list)?;
-    let _size = pages.size();
     let last = pages.count() - 1;
     put_queue_meta(pages.page_mut(0), settings.order, last, &meta);
     Ok(pages.into_bytes())

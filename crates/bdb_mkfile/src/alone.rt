@@ -14,23 +14,32 @@ use bdb_text_format::{PairSlice, Section};
 use std::alloc::{AllocError, Global};
 
 // The image of a list as the only database of its file, of each kind.
-fn list_image(alloc: Global, settings: &Settings, list: PairSlice<'_>) -> Result<Image, AllocError>
+fn list_image(
+    alloc: Global,
+    settings: &Settings,
+    list: PairSlice<'_>,
+    room: usize,
+) -> Result<Image, AllocError>
     requires own { settings.now ≡ file_settings settings.now }
     requires built { IsBuildable settings.now.kind settings.now (pairs_of list) }
     ensures { IfOk result (λ image. IsAloneImage settings.now (pairs_of list.entry) image) }
 {
     match settings.kind {
-        Kind::Btree | Kind::Recno => tree_image(alloc, settings, list),
-        Kind::Hash => table_image(alloc, settings, list),
-        Kind::Queue => queue_image(alloc, settings, list),
+        Kind::Btree | Kind::Recno => tree_image(alloc, settings, list, room),
+        Kind::Hash => table_image(alloc, settings, list, room),
+        Kind::Queue => queue_image(alloc, settings, list, room),
     }
 }
 
-/// The image of one section, with its list, as the only database of its file.
-pub(crate) fn section_image(alloc: Global, section: Section) -> Result<Image, AllocError>
+/// The image of one section, with its list, as the only database of its file. Room for so many bytes is taken at once.
+pub(crate) fn section_image(
+    alloc: Global,
+    section: Section,
+    room: usize,
+) -> Result<Image, AllocError>
     requires { IsBuildable section.settings.kind section.settings (unlined_pairs section.pairs) }
     ensures { IfOk result (λ image. IsAloneImage (file_settings section.settings) (unlined_pairs section.pairs) image) }
 {
     let settings = file_settings(&section.settings);
-    list_image(alloc, &settings, section.pairs.as_slice())
+    list_image(alloc, &settings, section.pairs.as_slice(), room)
 }

@@ -13,18 +13,19 @@ use std::alloc::{AllocError, Global};
 
 /// The image of sections under their names, in a file of this page size and order: page 0 is the metadata of the master, its tree
 /// follows, then the metadata of each section, and then the pages of their databases. The sections stand in the byte order of their
-/// names. It is also refused where there would be more than 2^21 pages, and where a number doesn't fit its field.
+/// names. Room for `room` bytes is taken at once. It is also refused where there would be more than 2^21 pages, and where a number doesn't fit its field.
 pub fn named_image(
     alloc: Global,
     page_size: u32,
     order: Order,
     sections: Sections,
+    room: usize,
 ) -> Result<Image, AllocError>
     requires legal { IsTrue (is_page_size page_size) }
     requires named { AreNamed page_size sections }
     ensures { IfOk result (λ image. IsNamedImage page_size order sections image) }
 {
-    let mut pages = Pages::new(alloc, page_size, order);
+    let mut pages = Pages::with_room(alloc, page_size, order, room);
     pages.add()?;
     let master = build_master(alloc, &mut pages, page_size, sections.as_slice())?;
     add_zeros(&mut pages, sections.len())?;

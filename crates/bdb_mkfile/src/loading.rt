@@ -25,6 +25,14 @@ fn are_too_many(pages: u128, page_size: u32, max: u64) -> bool
     }
 }
 
+// How many bytes so many pages have, as far as a `usize` holds them.
+fn room_for(pages: u128, page_size: u32) -> usize {
+    match usize::try_from(pages) {
+        Ok(pages) => pages.saturating_mul(page_size as usize),
+        Err(_) => usize::MAX,
+    }
+}
+
 // The page size of the first section.
 fn page_size(sections: &Sections) -> u32
     ensures { result ≡ page_size_in sections.now }
@@ -35,8 +43,8 @@ fn page_size(sections: &Sections) -> u32
     }
 }
 
-// The image of sections with their lists: under their names where the first has one, and else that of the only one.
-fn settled_image(alloc: Global, settled: Sections) -> Result<Image, AllocError>
+// The image of sections with their lists, for which so many bytes are taken at once: under their names where the first has one, and else that of the only one.
+fn settled_image(alloc: Global, settled: Sections, room: usize) -> Result<Image, AllocError>
     requires { AreBuildable settled }
     ensures { IfOk result (λ image. IsImageOfSections settled image) }
 {
@@ -46,13 +54,13 @@ fn settled_image(alloc: Global, settled: Sections) -> Result<Image, AllocError>
     let settings = first.settings;
     if first.name.is_some() {
         let sorted = in_name_order(alloc, settled)?;
-        return named_image(alloc, settings.page_size, settings.order, sorted);
+        return named_image(alloc, settings.page_size, settings.order, sorted, room);
     }
     let mut settled = settled;
     let Some(section) = settled.pop() else {
         unreachable!()
     };
-    section_image(alloc, section)
+    section_image(alloc, section, room)
 }
 
 /// The image of sections: a sound file with their databases, of at most `max` bytes, in the page size and the order of the first. Pages of
@@ -71,9 +79,10 @@ pub fn load(alloc: Global, sections: Sections, max: u64) -> Result<Image, LoadEr
         return Err(LoadError::TooLarge);
     }
     let pages = filled_need(alloc, &ordered)?;
-    if are_too_many(pages, page_size(&ordered), max) {
+    let size = page_size(&ordered);
+    if are_too_many(pages, size, max) {
         return Err(LoadError::TooLarge);
     }
     let settled = filled(alloc, ordered)?;
-    Ok(settled_image(alloc, settled)?)
+    Ok(settled_image(alloc, settled, room_for(pages, size))?)
 }

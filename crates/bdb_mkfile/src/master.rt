@@ -93,7 +93,6 @@ pub(crate) fn build_master(
     requires named { AreNamed page_size sections.now }
     ensures { IfOk result (λ meta. IsMasterBuilt sections.now pages.old pages.new meta) }
 {
-    let _size = pages.size();
     let settings = settings_of_master(page_size, pages.order());
     let count = names_pages(alloc, &settings, sections)?;
     let first = pages.count().checked_add(count).ok_or(AllocError)?;

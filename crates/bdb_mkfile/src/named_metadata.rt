@@ -58,7 +58,6 @@ pub(crate) fn put_meta(pages: &mut Pages, number: u32, meta: &DatabaseMeta)
     requires zero { IsTrue (is_zero (bytes_of pages.old number)) }
     ensures { IsPut pages.old pages.new number meta.now }
 {
-    let _size = pages.size();
     let order = pages.order();
     let last = pages.count() - 1;
     put_on(pages.page_mut(number), order, number, last, meta);

@@ -21,6 +21,7 @@ pub fn queue_image(
     alloc: Global,
     settings: &Settings,
     list: PairSlice<'_>,
+    room: usize,
 ) -> Result<Image, AllocError>
     requires kind { settings.now.kind ≡ QueueKind }
     requires own { settings.now ≡ file_settings settings.now }
@@ -29,10 +30,9 @@ pub fn queue_image(
     requires list { IsQueueList settings.now (pairs_of list) }
     ensures { IfOk result (λ image. IsQueueImage settings.now (pairs_of list.entry) image) }
 {
-    let mut pages = Pages::new(alloc, settings.page_size, settings.order);
+    let mut pages = Pages::with_room(alloc, settings.page_size, settings.order, room);
     pages.add()?;
     let meta = build_queue(&mut pages, settings, list)?;
-    let _size = pages.size();
     let last = pages.count() - 1;
     put_queue_meta(pages.page_mut(0), settings.order, last, &meta);
     Ok(Image::from_bytes(pages.into_bytes()))

@@ -25,11 +25,12 @@ pub fn element_count(list: PairSlice<'_>) -> Result<u32, AllocError>
 }
 
 /// The image of a hash with these settings and this list: page 0 is its metadata, and the pages of its table follow, those of buckets of type 2.
-/// It is also refused where there would be more than 2^21 pages, or where the number of pairs doesn't fit its field.
+/// It is also refused where there would be more than 2^21 pages, or where the number of pairs doesn't fit its field. Room for `room` bytes is taken at once.
 pub fn table_image(
     alloc: Global,
     settings: &Settings,
     list: PairSlice<'_>,
+    room: usize,
 ) -> Result<Image, AllocError>
     requires kind { settings.now.kind ≡ HashKind }
     requires own { settings.now ≡ file_settings settings.now }
@@ -39,10 +40,9 @@ pub fn table_image(
     ensures { IfOk result (λ image. IsTableImage settings.now (pairs_of list.entry) image) }
 {
     let elements = element_count(list)?;
-    let mut pages = Pages::new(alloc, settings.page_size, settings.order);
+    let mut pages = Pages::with_room(alloc, settings.page_size, settings.order, room);
     pages.add()?;
     let meta = build_table(alloc, &mut pages, settings, list)?;
-    let _size = pages.size();
     let last = pages.count() - 1;
     put_hash_meta(pages.page_mut(0), settings.order, 0, last, elements, &meta);
     Ok(Image::from_bytes(pages.into_bytes()))

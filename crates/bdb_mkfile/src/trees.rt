@@ -20,8 +20,8 @@ use std::alloc::{AllocError, Global};
 fn put_first(pages: &mut Pages, meta: &BtreeMeta)
     requires some { 1 ≤ length pages.old.pages }
     requires zero { IsTrue (is_zero (bytes_of pages.old 0)) }
-    requires legal { IsTrue (is_page_size pages.old.size) }
-    requires whole { AreWhole pages.old }
+    ensures legal { IsTrue (is_page_size pages.old.size) }
+    ensures whole { AreWhole pages.old }
     ensures page { pages.new ≡ with_page pages.old 0 (first_bytes pages.old meta.now) }
     ensures fields { btree_fields pages.old.order (first_bytes pages.old meta.now) ≡ meta.now }
     ensures few { length pages.old.pages ≤ 2 ^ 32 }
@@ -32,21 +32,21 @@ fn put_first(pages: &mut Pages, meta: &BtreeMeta)
 }
 
 /// The image of a btree or recno with these settings and this list: page 0 is its metadata, and the pages of its tree follow. It is also
-/// refused where there would be more than 2^21 pages, and where a sum of counts doesn't fit its field.
+/// refused where there would be more than 2^21 pages, and where a sum of counts doesn't fit its field. Room for `room` bytes is taken at once.
 pub fn tree_image(
     alloc: Global,
     settings: &Settings,
     list: PairSlice<'_>,
+    room: usize,
 ) -> Result<Image, AllocError>
     requires settings { IsTreeSettings settings.now }
     requires own { settings.now ≡ file_settings settings.now }
     requires list { IsTreeList settings.now (pairs_of list) }
     ensures { IfOk result (λ image. IsTreeImage settings.now (pairs_of list.entry) image) }
 {
-    let mut pages = Pages::new(alloc, settings.page_size, settings.order);
+    let mut pages = Pages::with_room(alloc, settings.page_size, settings.order, room);
     pages.add()?;
     let root = build_tree(alloc, &mut pages, settings, list)?;
-    let _size = pages.size();
     put_first(&mut pages, &tree_meta(settings, root));
     Ok(Image::from_bytes(pages.into_bytes()))
 }

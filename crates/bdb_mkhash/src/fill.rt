@@ -44,8 +44,6 @@ fn follow(pages: &mut Pages, page: u32) -> Result<u32, AllocError>
     ensures { IfOk result (λ next. IsFollowed page pages.old pages.new next) }
 {
     let next = add_page(pages, page)?;
-    // That all pages are whole is known with their size.
-    let _size = pages.size();
     set_next(pages, page, next);
     Ok(next)
 }

@@ -50,7 +50,6 @@ pub(crate) fn add_page(pages: &mut Pages, previous: u32) -> Result<u32, AllocErr
 /// Writes which page comes after a page.
 pub(crate) fn set_next(pages: &mut Pages, page: u32, next: u32)
     requires page { page < length pages.old.pages }
-    requires whole { AreWhole pages.old }
     requires begun { IsBegunOn pages.old page }
     ensures page { pages.new ≡ with_page pages.old page (with_next pages.old.order (bytes_of pages.old page) next) }
     ensures holds { (previous before : ℕ) (contents : List PageContent) → HoldsContentsOn pages.old page previous before contents

@@ -23,7 +23,7 @@ pub(crate) fn add_leaf(
     leaf_type: LeafType,
     previous: u32,
 ) -> Result<u32, AllocError>
-    requires legal { IsTrue (is_page_size pages.old.size) }
+    ensures legal { IsTrue (is_page_size pages.old.size) }
     ensures number { IfOk result (λ number. number ≡ length pages.old.pages) }
     ensures pages { IfOk result (λ _. pages.new ≡ with_leaf leaf_type pages.old previous) }
     ensures holds { IfOk result (λ number. HoldsEntriesOn leaf_type pages.new number previous 0 []) }

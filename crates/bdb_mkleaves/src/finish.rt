@@ -1,6 +1,4 @@
-ghost use Rattle.std.specs.Prelude.{◌≡◌, ◌⊎◌, ◌<◌, ℕ, [], IfOk, IsTrue, List, length};
-ghost use Rattle.bdb_format.specs.HeadOf.{is_page_size};
-ghost use Rattle.bdb_pack.specs.Built.{AreWhole};
+ghost use Rattle.std.specs.Prelude.{◌≡◌, ◌⊎◌, ◌<◌, ℕ, [], IfOk, List, length};
 ghost use Rattle.bdb_mkleaves.specs.Filled.{AreFilled, AreSomeFilled};
 ghost use Rattle.bdb_mkleaves.specs.Finished.{HasFirstRoot};
 ghost use Rattle.bdb_mkleaves.specs.Placed.{Placed};
@@ -20,12 +18,12 @@ impl Leaves {
         pages: &mut Pages,
         counted: bool,
     ) -> Result<u32, AllocError>
-        requires legal { IsTrue (is_page_size pages.old.size) }
-        requires whole { AreWhole pages.old }
-        requires filled { AreSomeFilled self pages.old }
+        requires { AreSomeFilled self pages.old }
         ensures { IfOk result (λ root. (before : ℕ) (closed : List (List Placed)) (units : List Placed) → AreFilled self pages.old before closed units
             → ((closed ≡ []) ⊎ (0 < length units)) → HasFirstRoot self pages.old pages.new counted closed units root) }
     {
+        // That all pages are whole, also where nothing is laid over the only leaf, is known with their size.
+        let _size = pages.size();
         if self.closed.is_empty() {
             return Ok(self.last);
         }

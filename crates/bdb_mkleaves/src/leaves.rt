@@ -34,14 +34,14 @@ impl Leaves {
         pages: &mut Pages,
         leaf_type: LeafType,
     ) -> Result<Leaves, AllocError>
-        requires legal { IsTrue (is_page_size pages.old.size) }
-        requires some { 1 ≤ length pages.old.pages }
+        requires { 1 ≤ length pages.old.pages }
         ensures filled { IfOk result (λ leaves. AreFilled leaves pages.new (length pages.old.pages) [] []) }
         ensures some { IfOk result (λ leaves. AreSomeFilled leaves pages.new) }
         ensures leaf { IfOk result (λ leaves. leaves.leaf_type ≡ leaf_type) }
         ensures number { IfOk result (λ leaves. leaves.last ≡ length pages.old.pages) }
         ensures kept { IfOk result (λ leaves. KeepsOthers leaves.last pages.old pages.new) }
         ensures count { IfOk result (λ _. length pages.new.pages ≡ length pages.old.pages + 1) }
+        ensures legal { IsTrue (is_page_size pages.old.size) }
     {
         let last = add_leaf(pages, leaf_type, 0)?;
         Ok(Leaves {

@@ -63,8 +63,6 @@ pub fn build_set(
     ensures { IfOk result (λ root. IsSetBuilt pages.old pages.new sorted (values_seen values.entry) root) }
 {
     let leaves = fill_set(alloc, pages, set_type(sorted), values)?;
-    // That all pages are whole is known with their size.
-    let _size = pages.size();
     let root = leaves.finish(alloc, pages, true)?;
     Ok(root)
 }

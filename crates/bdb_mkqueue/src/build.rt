@@ -33,8 +33,6 @@ fn begin_page(pages: &mut Pages, number: u32)
     requires { number < length pages.old.pages }
     ensures { pages.new ≡ with_header pages.old number }
 {
-    // That all pages are whole is known with their size.
-    let _size = pages.size();
     let order = pages.order();
     let header = Header {
         number,
@@ -70,7 +68,6 @@ fn write_record(pages: &mut Pages, meta: &QueueMeta, page: u32, slot: u32, value
     requires room { 28 + slot * pad4 (meta.now.re_len + 1) + 1 + length value.now ≤ pages.old.size }
     ensures { pages.new ≡ with_record meta.now pages.old page slot value.now }
 {
-    let _size = pages.size();
     put_record(pages.page_mut(page), meta, slot, value);
 }
 
@@ -119,9 +116,10 @@ fn next_number(list: PairSlice<'_>) -> u32
 }
 
 // The metadata of the queue of a list.
-fn queue_meta(settings: &Settings, list: PairSlice<'_>) -> QueueMeta
-    requires low { 28 ≤ settings.now.page_size }
-    requires high { settings.now.page_size ≤ 32768 }
+fn queue_meta(page_size: usize, settings: &Settings, list: PairSlice<'_>) -> QueueMeta
+    requires size { page_size ≡ settings.now.page_size }
+    requires low { 28 ≤ page_size }
+    requires high { page_size ≤ 32768 }
     requires few { All HasNext (pairs_of list) }
     ensures { result ≡ queue_meta settings.now (pairs_of list.entry) }
 {
@@ -130,7 +128,7 @@ fn queue_meta(settings: &Settings, list: PairSlice<'_>) -> QueueMeta
         current: next_number(list),
         re_len: settings.re_len,
         re_pad: settings.re_pad,
-        per_page: records_per_page(settings.page_size as usize, settings.re_len),
+        per_page: records_per_page(page_size, settings.re_len),
     }
 }
 
@@ -148,9 +146,7 @@ pub fn build_queue(
     requires list { IsQueueList settings.now (pairs_of list) }
     ensures { IfOk result (λ meta. IsQueueBuilt settings.now (pairs_of list.entry) pages.old pages.new meta) }
 {
-    // That it is a legal size is known with it.
-    let _size = pages.size();
-    let meta = queue_meta(settings, list);
+    let meta = queue_meta(pages.size(), settings, list);
     for place in 0..list.len() {
         push_record(pages, &meta, list, place)?;
     }

@@ -58,8 +58,6 @@ impl TreeBuilder {
         ensures first { IfOk result (λ builder. first_leaf builder.leaves ≡ length pages.old.pages) }
         ensures kept { IfOk result (λ _. KeepsBefore (length pages.old.pages) pages.old pages.new) }
     {
-        // That it is a legal size is known with it.
-        let _size = pages.size();
         let leaves = Leaves::start(alloc, pages, leaf_type_of(settings.kind))?;
         Ok(TreeBuilder {
             alloc,
@@ -98,8 +96,6 @@ impl TreeBuilder {
         ensures { IfOk result (λ root. IsTreeBuilt self.settings (first_leaf self.leaves) pages.old pages.new
             (units_of self pages.old) (list_of_units self.settings.kind (units_of self pages.old)) root) }
     {
-        // That all pages are whole is known with their size.
-        let _size = pages.size();
         let counted = is_counted(self.settings.kind, self.settings.recnum);
         let root = self.leaves.finish(self.alloc, pages, counted)?;
         Ok(root)

@@ -1,6 +1,7 @@
 //! The words of a command, and the definitions that answers cite; what bdb_format and bdb_text_format have is passed on.
 #![tactic(auto)]
 
+mod shape;
 mod words;
 
 pub use bdb_format::{
@@ -11,4 +12,5 @@ pub use bdb_text_format::{
     Judged, Key, KeyRef, Pair, PairRef, PairSlice, Section, Sections, TextFault, TextPair,
     TextPairs,
 };
+pub use shape::{Duplicates, Shape};
 pub use words::Words;

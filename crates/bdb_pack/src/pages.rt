@@ -53,8 +53,32 @@ impl Pages {
         ensures size { result.size ≡ page_size }
         ensures order { result.order ≡ order }
     {
+        Pages::over(Vec::new(alloc), page_size, order)
+    }
+
+    /// No pages yet, with room for so many bytes where memory isn't wanting: so they aren't moved while they grow.
+    pub fn with_room(alloc: Global, page_size: u32, order: Order, room: usize) -> Pages
+        requires legal { IsTrue (is_page_size page_size) }
+        ensures pages { result.pages ≡ [] }
+        ensures size { result.size ≡ page_size }
+        ensures order { result.order ≡ order }
+    {
+        match Vec::with_capacity(alloc, room) {
+            Ok(bytes) => Pages::over(bytes, page_size, order),
+            Err(_) => Pages::new(alloc, page_size, order),
+        }
+    }
+
+    // No pages, in a room without bytes.
+    fn over(bytes: Vec<u8>, page_size: u32, order: Order) -> Pages
+        requires legal { IsTrue (is_page_size page_size) }
+        requires none { bytes.items ≡ [] }
+        ensures pages { result.pages ≡ [] }
+        ensures size { result.size ≡ page_size }
+        ensures order { result.order ≡ order }
+    {
         Pages {
-            bytes: Vec::new(alloc),
+            bytes,
             size: page_size as usize,
             order,
             count: 0,
@@ -63,7 +87,9 @@ impl Pages {
 
     /// How many pages there are.
     pub fn count(&self) -> u32
-        ensures { result ≡ length self.now.pages }
+        ensures count { result ≡ length self.now.pages }
+        ensures legal { IsTrue (is_page_size self.now.size) }
+        ensures whole { AreWhole self.now }
     {
         self.count
     }
@@ -79,7 +105,9 @@ impl Pages {
 
     /// The order of the numbers.
     pub fn order(&self) -> Order
-        ensures { result ≡ self.now.order }
+        ensures order { result ≡ self.now.order }
+        ensures legal { IsTrue (is_page_size self.now.size) }
+        ensures whole { AreWhole self.now }
     {
         self.order
     }
@@ -137,6 +165,7 @@ impl Pages {
         requires { number < length self.old.pages }
         ensures* writes_back { sem 𝓛 (LendsPage self.entry number result) }
         ensures value { result.now ≡ bytes_of self.old number }
+        ensures whole { AreWhole self.old }
     {
         let at = number as usize * self.size;
         let end = at + self.size;

@@ -26,9 +26,9 @@ use Rattle.bdb_mkfile.specs.Builds.{image_size}
 use Rattle.bdb_rescue.specs.SalvageText.{loose_settings, stored_settings}
 use Rattle.bdb_survey.specs.declared.guess.Guess.{Guess}
 use Rattle.bdb_survey.specs.Salvage.{loose, salvaged_file, stored}
-use Rattle.bdb_repair.specs.declared.shape.Duplicates.TheVariants.{No, Unsorted, Sorted}
-use Rattle.bdb_repair.specs.declared.shape.Shape.{Shape}
-use Rattle.bdb_repair.specs.declared.shape.Shape.TheVariants.{Btree as BtreeShape, Hash as HashShape, Recno as RecnoShape}
+use Rattle.bdb_model.specs.declared.shape.Duplicates.TheVariants.{No, Unsorted, Sorted}
+use Rattle.bdb_model.specs.declared.shape.Shape.{Shape}
+use Rattle.bdb_model.specs.declared.shape.Shape.TheVariants.{Btree as BtreeShape, Hash as HashShape, Recno as RecnoShape}
 use Rattle.bdb_repair.specs.Laws.{ManyPairsAreTooLarge, PairsTakeRoom}
 use Rattle.bdb_repair.specs.Parts.{loose_pair, loose_pairs, loose_part, loose_section, sections_of_file, shaped_section, stored_pair, stored_pairs}
 use Rattle.bdb_repair.specs.Parts.{stored_section}

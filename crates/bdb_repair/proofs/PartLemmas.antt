@@ -14,9 +14,9 @@ use Rattle.bdb_settle.specs.LoadErrors.{load_error, pair_errors}
 use Rattle.bdb_mkfile.specs.Loading.{AreLoadable}
 use Rattle.bdb_survey.specs.declared.guess.Guess.{Guess}
 use Rattle.bdb_survey.specs.Salvage.{loose, salvaged_file, stored}
-use Rattle.bdb_repair.specs.declared.shape.Duplicates.TheVariants.{No, Unsorted, Sorted}
-use Rattle.bdb_repair.specs.declared.shape.Shape.{Shape}
-use Rattle.bdb_repair.specs.declared.shape.Shape.TheVariants.{Btree as BtreeShape, Hash as HashShape, Recno as RecnoShape}
+use Rattle.bdb_model.specs.declared.shape.Duplicates.TheVariants.{No, Unsorted, Sorted}
+use Rattle.bdb_model.specs.declared.shape.Shape.{Shape}
+use Rattle.bdb_model.specs.declared.shape.Shape.TheVariants.{Btree as BtreeShape, Hash as HashShape, Recno as RecnoShape}
 use Rattle.bdb_repair.specs.Laws.{PartsAreLoadable, PartsHaveNoErrors}
 use Rattle.bdb_repair.specs.Parts.{loose_pair, loose_pairs, loose_part, loose_section, sections_of_file, shaped_section}
 use Rattle.bdb_repair.specs.Parts.{stored_pair, stored_pairs, stored_section}

@@ -12,7 +12,7 @@ use Rattle.bdb_mkfile.specs.Loading.{AreLoadable, IsLoadRefusal, IsLoadRefusalBy
 use Rattle.bdb_survey.specs.declared.guess.Guess.{Guess}
 use Rattle.bdb_rescue.specs.Kept.{Reading, file_in}
 use Rattle.bdb_repair.specs.declared.error.RepairError.TheVariants.{TooLarge}
-use Rattle.bdb_repair.specs.declared.shape.Shape.{Shape}
+use Rattle.bdb_model.specs.declared.shape.Shape.{Shape}
 use Rattle.bdb_repair.specs.declared.room.Fit.{Fit}
 use Rattle.bdb_repair.specs.declared.room.Fit.TheVariants.{Past}
 use Rattle.bdb_repair.specs.Room.{IsFit, least_room}

@@ -4,7 +4,7 @@ use Rattle.bdb_format.specs.HeadOf.{is_page_size}
 use Rattle.bdb_settle.specs.LoadErrors.{load_error}
 use Rattle.bdb_mkfile.specs.Builds.{image_size}
 use Rattle.bdb_mkfile.specs.Loading.{AreLoadable}
-use Rattle.bdb_repair.specs.declared.shape.Shape.{Shape}
+use Rattle.bdb_model.specs.declared.shape.Shape.{Shape}
 use Rattle.bdb_repair.specs.Parts.{repair_sections}
 use Rattle.bdb_repair.specs.Room.{least_room}
 use Rattle.bdb_survey.specs.declared.guess.Guess.{Guess}

@@ -9,7 +9,7 @@ use Rattle.bdb_rescue.specs.declared.error.SalvageError.{SalvageError}
 use Rattle.bdb_rescue.specs.declared.error.SalvageError.TheVariants.{NoMeta as NoMetaThere, Memory as MemoryThere}
 use Rattle.bdb_repair.specs.declared.error.RepairError.{RepairError}
 use Rattle.bdb_repair.specs.declared.error.RepairError.TheVariants.{NoMeta, TooLarge, Memory}
-use Rattle.bdb_repair.specs.declared.shape.Shape.{Shape}
+use Rattle.bdb_model.specs.declared.shape.Shape.{Shape}
 use Rattle.bdb_repair.specs.Parts.{repair_sections}
 
 abbrev pub repair_error : SalvageError → RepairError

@@ -4,9 +4,9 @@ use Rattle.std.specs.List.{sum_by}
 use Rattle.bdb_format.specs.File.{File}
 use Rattle.bdb_repair.specs.declared.room.Fit.{Fit}
 use Rattle.bdb_repair.specs.declared.room.Fit.TheVariants.{Fits, Past, Scarce}
-use Rattle.bdb_repair.specs.declared.shape.Duplicates.TheVariants.{No, Unsorted, Sorted}
-use Rattle.bdb_repair.specs.declared.shape.Shape.{Shape}
-use Rattle.bdb_repair.specs.declared.shape.Shape.TheVariants.{Btree as BtreeShape, Hash as HashShape, Recno as RecnoShape}
+use Rattle.bdb_model.specs.declared.shape.Duplicates.TheVariants.{No, Unsorted, Sorted}
+use Rattle.bdb_model.specs.declared.shape.Shape.{Shape}
+use Rattle.bdb_model.specs.declared.shape.Shape.TheVariants.{Btree as BtreeShape, Hash as HashShape, Recno as RecnoShape}
 use Rattle.bdb_survey.specs.Salvage.{loose, stored}
 
 -- what a datum takes of a file at least: its bytes, and four

@@ -4,10 +4,10 @@ use Rattle.bdb_format.specs.declared.kinds.Kind.{Kind}
 use Rattle.bdb_format.specs.declared.kinds.Kind.TheVariants.{Btree, Hash, Recno}
 use Rattle.bdb_format.specs.declared.settings.Settings.{Settings}
 use Rattle.bdb_rescue.specs.SalvageText.{loose_settings}
-use Rattle.bdb_repair.specs.declared.shape.Duplicates.{Duplicates}
-use Rattle.bdb_repair.specs.declared.shape.Duplicates.TheVariants.{No, Unsorted, Sorted}
-use Rattle.bdb_repair.specs.declared.shape.Shape.{Shape}
-use Rattle.bdb_repair.specs.declared.shape.Shape.TheVariants.{Btree as BtreeShape, Hash as HashShape, Recno as RecnoShape}
+use Rattle.bdb_model.specs.declared.shape.Duplicates.{Duplicates}
+use Rattle.bdb_model.specs.declared.shape.Duplicates.TheVariants.{No, Unsorted, Sorted}
+use Rattle.bdb_model.specs.declared.shape.Shape.{Shape}
+use Rattle.bdb_model.specs.declared.shape.Shape.TheVariants.{Btree as BtreeShape, Hash as HashShape, Recno as RecnoShape}
 use Rattle.bdb_survey.specs.declared.guess.Guess.{Guess}
 
 abbrev pub kind_of : Shape → Kind

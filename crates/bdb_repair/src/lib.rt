@@ -8,6 +8,6 @@ mod repairing;
 mod room;
 mod shape;
 
+pub use bdb_model::{Duplicates, Shape};
 pub use error::RepairError;
 pub use repairing::{repair, repair_as};
-pub use shape::{Duplicates, Shape};

@@ -2,26 +2,8 @@ ghost use Rattle.std.specs.Prelude.{◌≡◌};
 ghost use Rattle.bdb_repair.specs.Shapes.{are_several, are_sorted, duplicates_of, kind_of, shaped_settings};
 
 use bdb_format::{Kind, Settings, plain_settings};
+use bdb_model::{Duplicates, Shape};
 use bdb_rescue::Guess;
-
-/// The data that a key may have.
-#[derive(Clone, Copy, Debug, PartialEq, Eq)]
-pub enum Duplicates {
-    /// One: a later datum takes the place of an earlier one.
-    No,
-    /// All, as they come.
-    Unsorted,
-    /// All in byte order, each once.
-    Sorted,
-}
-
-/// The one database that what is salvaged is put into: a btree or a hash with the stored pairs, or a recno with the loose records.
-#[derive(Clone, Copy, Debug, PartialEq, Eq)]
-pub enum Shape {
-    Btree(Duplicates),
-    Hash(Duplicates),
-    Recno,
-}
 
 fn kind_of(shape: Shape) -> Kind
     ensures { result ≡ kind_of shape }

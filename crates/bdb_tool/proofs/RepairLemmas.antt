@@ -12,7 +12,7 @@ use Rattle.bdb_model.specs.Change.{Change}
 use Rattle.bdb_model.specs.Lines.{memory_line}
 use Rattle.bdb_repair.specs.declared.error.RepairError.{RepairError}
 use Rattle.bdb_repair.specs.declared.error.RepairError.TheVariants.{NoMeta, TooLarge}
-use Rattle.bdb_repair.specs.declared.shape.Shape.{Shape}
+use Rattle.bdb_model.specs.declared.shape.Shape.{Shape}
 use Rattle.bdb_repair.specs.Parts.{repair_sections}
 use Rattle.bdb_repair.specs.Repairs.{IsRepaired}
 use Rattle.bdb_rescue.specs.Guesses.{chosen}

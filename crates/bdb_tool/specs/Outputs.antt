@@ -13,7 +13,7 @@ use Rattle.bdb_text_format.specs.LineEnd.{line}
 use Rattle.bdb_rescue.specs.SalvageText.{salvage_text}
 use Rattle.bdb_mkfile.specs.Builds.{image_size}
 use Rattle.bdb_repair.specs.Parts.{repair_sections}
-use Rattle.bdb_repair.specs.declared.shape.Shape.{Shape}
+use Rattle.bdb_model.specs.declared.shape.Shape.{Shape}
 use Rattle.bdb_rescue.specs.Guesses.{chosen}
 use Rattle.bdb_survey.specs.declared.guess.Guess.{Guess}
 use Rattle.bdb_text_format.specs.declared.sections.Section.{Section}

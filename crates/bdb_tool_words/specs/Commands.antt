@@ -12,10 +12,10 @@ use Rattle.bdb_format.specs.Digits.{number_in}
 use Rattle.bdb_model.specs.Answers.{Answer, told}
 use Rattle.bdb_model.specs.Command.{Arguments, Given, OptionRow, arguments, asked_name, hex_option, hex_row, is_given, limit_of, max_bytes, max_bytes_row}
 use Rattle.bdb_model.specs.Command.{name_option, name_row, once, operand_spelled, print_option, print_row, value_given}
-use Rattle.bdb_repair.specs.declared.shape.Duplicates.{Duplicates}
-use Rattle.bdb_repair.specs.declared.shape.Duplicates.TheVariants.{No, Unsorted, Sorted}
-use Rattle.bdb_repair.specs.declared.shape.Shape.{Shape}
-use Rattle.bdb_repair.specs.declared.shape.Shape.TheVariants.{Btree as BtreeShape, Hash as HashShape, Recno as RecnoShape}
+use Rattle.bdb_model.specs.declared.shape.Duplicates.{Duplicates}
+use Rattle.bdb_model.specs.declared.shape.Duplicates.TheVariants.{No, Unsorted, Sorted}
+use Rattle.bdb_model.specs.declared.shape.Shape.{Shape}
+use Rattle.bdb_model.specs.declared.shape.Shape.TheVariants.{Btree as BtreeShape, Hash as HashShape, Recno as RecnoShape}
 use Rattle.bdb_survey.specs.declared.guess.Guess.{Guess}
 use Rattle.bdb_text_format.specs.LineEnd.{line}
 

@@ -13,8 +13,7 @@ use crate::options::{OptionWord, read_arguments};
 use crate::shapes::{duplicates_named, shape_asked};
 use bdb_file::Rows;
 use bdb_format::{Kind, Order, number_in};
-use bdb_model::Words;
-use bdb_repair::Shape;
+use bdb_model::{Shape, Words};
 use bdb_rescue::Guess;
 use bdb_text::is_spelling;
 

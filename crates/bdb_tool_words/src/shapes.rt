@@ -2,7 +2,7 @@
 ghost use Rattle.std.specs.Prelude.{◌≡◌, option_copied};
 ghost use Rattle.bdb_tool_words.specs.Commands.{duplicates_named, record_shape, shape_asked, shape_named};
 
-use bdb_repair::{Duplicates, Shape};
+use bdb_model::{Duplicates, Shape};
 
 /// The data of a key by the options `--duplicates` and `--dupsort`; the second stands for both, as in a header.
 pub(crate) fn duplicates_named(several: bool, sorted: bool) -> Duplicates

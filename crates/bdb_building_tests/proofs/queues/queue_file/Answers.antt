@@ -13,6 +13,6 @@ pub returns : goal.returns
 returns c =
     filed c.args.settings.now (pairs_of c.args.list) c.new-pages.result c.add.new.self c.build_queue.new.pages c.in_ok-meta.meta c.count-last.result
     c.page_mut.result.now c.put_queue_meta.new.page c.into_bytes.result c.new-pages.ensures.order c.in_ok-add.ensures.ok c.in_ok-meta.ensures
-    (ap is_page_size (sym c.size-size.ensures.size) ∙ c.size-size.ensures.legal) c.size-size.ensures.whole c.count-last.ensures
+    c.count-last.ensures.legal c.count-last.ensures.whole c.count-last.ensures.count
     (omega arith) c.page_mut.ensures.value c.put_queue_meta.ensures.page
     c.put_queue_meta.ensures.fields c.into_bytes.ensures

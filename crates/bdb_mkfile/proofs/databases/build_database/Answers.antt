@@ -16,7 +16,7 @@ returns-in-Btree c =
       size_is = c.requires.size;
       settings_are =
           c.settings_in-settings.ensures
-          ∙ ap (λ o. own_settings c.args.section.settings.kind c.args.page_size o c.args.section.settings) c.order.ensures;
+          ∙ ap (λ o. own_settings c.args.section.settings.kind c.args.page_size o c.args.section.settings) c.order.ensures.order;
       list_is = ap unlined_pairs c.as_slice-list.ensures;
     }) built)
     c.build_named_tree.ensures

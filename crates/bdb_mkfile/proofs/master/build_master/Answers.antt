@@ -22,11 +22,11 @@ returns c =
     c.args.pages.now c.build_tree.new.pages c.in_ok-root.root c.named_tree_meta.result
     (record {
       size_is = c.requires.size;
-      settings_are = c.settings_of_master-settings.ensures ∙ ap (settings_of_master c.args.page_size) c.order.ensures;
+      settings_are = c.settings_of_master-settings.ensures ∙ ap (settings_of_master c.args.page_size) c.order.ensures.order;
       count_is = c.in_ok-count.ensures;
       first_is =
           (let sum : c.in_ok-first.first ≡ c.count.result + c.in_ok-count.count = grind (arith, c.in_ok-first.ensures, c.checked_add.ensures) in sum)
-          ∙ ap (λ n. n + c.in_ok-count.count) c.count.ensures;
+          ∙ ap (λ n. n + c.in_ok-count.count) c.count.ensures.count;
       list_is = ap unlined_pairs c.as_slice.ensures ∙ c.in_ok-entries.ensures;
       tree = c.in_ok-root.ensures;
       meta_is = c.named_tree_meta.ensures;

@@ -9,13 +9,13 @@ returns c =
     (record {
       there = c.requires.there;
       pages = record {
-        legal = subst (λ n. IsTrue (is_page_size n)) c.size-size.ensures.size c.size-size.ensures.legal;
+        legal = c.order-order.ensures.legal;
         some = omega (arith, c.requires.there);
-        few = omega (arith, c.count-last.ensures);
-        whole = c.size-size.ensures.whole;
+        few = omega (arith, c.count-last.ensures.count);
+        whole = c.order-order.ensures.whole;
       };
-      order_is = c.order-order.ensures;
-      last_is = omega (arith, c.count-last.ensures);
+      order_is = c.order-order.ensures.order;
+      last_is = omega (arith, c.count-last.ensures.count);
       lent = c.page_mut.ensures.value;
       long = c.put_on.auto.page;
       bytes = c.put_on.ensures.page;

@@ -10,14 +10,14 @@ use Rattle.bdb_mkfile.proofs.trees.tree_image.Goals as goal
 
 pub put_first-requires-clause-zero : goal.put_first-requires-clause-zero
 put_first-requires-clause-zero c =
-    let first = first_zero c.new-pages.result c.add.new.self c.new-pages.ensures.pages c.in_ok-add.ensures.ok in
+    let first = first_zero c.with_room-pages.result c.add.new.self c.with_room-pages.ensures.pages c.in_ok-add.ensures.ok in
     still_zero c.add.new.self c.build_tree.new.pages first.0 (c.in_ok-root.ensures.kept.same 0 (omega (arith, first.1)))
 
 pub returns : goal.returns
 returns c =
     let old : Built = c.add.new.self in
     let built : Built = c.build_tree.new.pages in
-    let first = first_zero c.new-pages.result old c.new-pages.ensures.pages c.in_ok-add.ensures.ok in
+    let first = first_zero c.with_room-pages.result old c.with_room-pages.ensures.pages c.in_ok-add.ensures.ok in
     let tree : IsTreeBuilt c.args.settings.now 1 old built (units_in c.args.settings.now.kind (pairs_of c.args.list)) (listed (pairs_of c.args.list))
     c.in_ok-root.root =
     subst (λ (n : ℕ). IsTreeBuilt c.args.settings.now n old built (units_in c.args.settings.now.kind (pairs_of c.args.list)) (listed (pairs_of c.args.list))
@@ -27,10 +27,10 @@ returns c =
     (record {
       fit = c.requires.settings;
       own = c.requires.own;
-      size = tree.kept.size ∙ (ap (λ (b : Built). b.size) c.in_ok-add.ensures.ok ∙ c.new-pages.ensures.size);
-      order = tree.kept.order ∙ (ap (λ (b : Built). b.order) c.in_ok-add.ensures.ok ∙ c.new-pages.ensures.order);
-      legal = subst (λ (n : ℕ). IsTrue (is_page_size n)) c.size-size.ensures.size c.size-size.ensures.legal;
-      whole = c.size-size.ensures.whole;
+      size = tree.kept.size ∙ (ap (λ (b : Built). b.size) c.in_ok-add.ensures.ok ∙ c.with_room-pages.ensures.size);
+      order = tree.kept.order ∙ (ap (λ (b : Built). b.order) c.in_ok-add.ensures.ok ∙ c.with_room-pages.ensures.order);
+      legal = c.put_first.ensures.legal;
+      whole = c.put_first.ensures.whole;
       few = c.put_first.ensures.few;
       tree = tree;
       meta_is = c.tree_meta.ensures;

@@ -26,7 +26,7 @@ fill_buckets-requires-clause-empty c =
     sym (length-map c.as_slice.result.now (λ bucket. units_seen bucket.items))
     ∙ (ap length are ∙ (length-map-range_with_len (dealt c.in_ok-bits.bits units) 0 (2 ^ c.in_ok-bits.bits) ∙ sym c.bucket_count.ensures.count)) in
     subst (λ n. AreEmptyPages c.count-first.result n c.add_buckets.new.pages) (sym many)
-    (subst (λ p. AreEmptyPages p c.bucket_count.result c.add_buckets.new.pages) (sym c.count-first.ensures) c.in_ok-add_buckets.ensures.empty)
+    (subst (λ p. AreEmptyPages p c.bucket_count.result c.add_buckets.new.pages) (sym c.count-first.ensures.count) c.in_ok-add_buckets.ensures.empty)
 
 pub fill_buckets-requires-clause-short : goal.fill_buckets-requires-clause-short
 fill_buckets-requires-clause-short c =
@@ -45,7 +45,7 @@ fill_buckets-requires-clause-few c =
     ∙ (ap length are ∙ (length-map-range_with_len (dealt c.in_ok-bits.bits units) 0 (2 ^ c.in_ok-bits.bits) ∙ sym c.bucket_count.ensures.count)) in
     let two = two_at_least c.in_ok-bits.bits c.in_ok-bits.ensures.some in
     let few = c.in_ok-add_buckets.ensures.few (omega (arith, two, c.bucket_count.ensures.count)) in
-    omega (arith, many, few, c.in_ok-add_buckets.ensures.count, c.count-first.ensures)
+    omega (arith, many, few, c.in_ok-add_buckets.ensures.count, c.count-first.ensures.count)
 
 pub returns : goal.returns
 returns c =
@@ -60,5 +60,5 @@ returns c =
     (c.in_ok-add_buckets.ensures.count ∙ ap (λ n. length c.args.pages.now.pages + n) c.bucket_count.ensures.count)
     (subst (λ p. AreFilled p c.add_buckets.new.pages c.fill_buckets.new.pages c.args.settings.now.sorted
     (map (λ bucket. units_seen bucket.items) c.as_slice.result.now))
-    c.count-first.ensures c.in_ok-fill_buckets.ensures)
-    (c.table_meta.ensures ∙ ap (λ p. table_meta c.args.settings.now p c.in_ok-bits.bits) c.count-first.ensures)
+    c.count-first.ensures.count c.in_ok-fill_buckets.ensures)
+    (c.table_meta.ensures ∙ ap (λ p. table_meta c.args.settings.now p c.in_ok-bits.bits) c.count-first.ensures.count)

@@ -25,7 +25,7 @@ append_item-requires-clause-same_order c =
     let short = set_short c.args.pages.now.size (values_seen c.args.values) c.requires.legal c.requires.form in
     let found = set_found c.order-order.result (values_seen c.args.values) c.in_ok-run.run' c.as_slice.result.now c.over.result c.in-Some.set short
     c.in_ok-run.ensures c.as_slice.ensures c.over.ensures c.in-Some.is in
-    ap (λ set. set.order) found ∙ c.order-order.ensures
+    ap (λ set. set.order) found ∙ c.order-order.ensures.order
 
 pub returns : goal.returns
 returns c =

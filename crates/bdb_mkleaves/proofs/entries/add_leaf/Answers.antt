@@ -13,11 +13,11 @@ begin-requires-clause-zero c =
 pub returns-clause-holds : goal.returns-clause-holds
 returns-clause-holds c =
     (leaf_added c.args.leaf_type _ c.args.pages.now c.add.new.self c.begin.new.self c.in_ok-number.number c.args.previous c.number.ensures
-    c.requires.legal
+    c.count.ensures.legal
     (omega arith) (omega arith) c.in_ok-number.ensures.ok c.in_ok-number.ensures.number c.begin.ensures).1
 
 pub returns-clause-long : goal.returns-clause-long
 returns-clause-long c =
     (leaf_added c.args.leaf_type _ c.args.pages.now c.add.new.self c.begin.new.self c.in_ok-number.number c.args.previous c.number.ensures
-    c.requires.legal
+    c.count.ensures.legal
     (omega arith) (omega arith) c.in_ok-number.ensures.ok c.in_ok-number.ensures.number c.begin.ensures).2

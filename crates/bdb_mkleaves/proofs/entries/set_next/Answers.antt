@@ -5,7 +5,7 @@ use Rattle.bdb_mkleaves.proofs.entries.set_next.Goals as goal
 pub returns-clause-page : goal.returns-clause-page
 returns-clause-page c =
     field_written c.args.pages.now c.args.leaf 16 c.args.next _ _ _ (omega arith) c.requires.leaf c.requires.whole
-    (begun_long c.args.pages.now c.args.leaf c.requires.leaf c.requires.whole c.requires.begun) c.order-order.ensures
+    (begun_long c.args.pages.now c.args.leaf c.requires.leaf c.requires.whole c.requires.begun) c.order-order.ensures.order
     c.page_mut.ensures.value c.put_u32.ensures
 
 pub returns-clause-holds : goal.returns-clause-holds

@@ -12,6 +12,6 @@ returns-clause-page c =
     let bounds = size_bounds c.size-size.result c.size-size.ensures.legal in
     let room : 26 ≤ old.size = omega (arith, bounds.0, size) in
     piece_added old c.add.new.self c.in_ok-number.number c.args.previous c.next_number-next.result c.piece_len-n.result c.order-order.result rest _ _
-    c.in_ok-number.ensures.ok c.in_ok-number.ensures.number c.size-size.ensures.whole room c.order-order.ensures
+    c.in_ok-number.ensures.ok c.in_ok-number.ensures.number c.size-size.ensures.whole room c.order-order.ensures.order
     (c.piece_len-n.ensures ∙ ap (λ s. piece_length s rest) size)
     (c.next_number-next.ensures ∙ ap (λ s. piece_next s c.in_ok-number.number rest) size) c.page_mut.ensures.value c.put_piece.ensures

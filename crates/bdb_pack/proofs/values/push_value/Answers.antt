@@ -11,7 +11,7 @@ pub loop-rest-init : goal.loop-rest-init
 loop-rest-init c =
     let old = c.args.pages.now in
     let long = c.if-value-size.false in
-    subst (λ (h : ℕ). IsBegunChain old old c.args.value.now h 0 c.args.value.now) (sym c.count-head.ensures)
+    subst (λ (h : ℕ). IsBegunChain old old c.args.value.now h 0 c.args.value.now) (sym c.count-head.ensures.count)
     (begun_chain old c.args.value.now (c.requires.few (omega (arith, long, ap (λ s. s / 8) c.size.ensures.size))))
 
 pub push_piece-requires-clause-few : goal.push_piece-requires-clause-few
@@ -36,5 +36,5 @@ returns c =
       omega (arith, c.if-value-size.false, ap (λ s. s / 8) c.size.ensures.size),
       refl,
       whole_chain c.args.pages.now c.loop-rest.pages c.args.value.now c.count-head.result c.loop-rest.previous c.loop-rest.rest.now
-          c.loop-rest.invariant none c.count-head.ensures,
+          c.loop-rest.invariant none c.count-head.ensures.count,
     )

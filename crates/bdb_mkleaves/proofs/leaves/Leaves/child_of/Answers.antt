@@ -13,7 +13,7 @@ returns-then-counted c = λ previous next entries holds.
     let page = bytes_of c.args.pages.now c.args.leaf in
     let n = c.from-entries.ensures
     ∙ (c.u16_at.ensures
-    ∙ (ap (λ o. two_at o c.page.result.now 20) c.order-order.ensures
+    ∙ (ap (λ o. two_at o c.page.result.now 20) c.order-order.ensures.order
     ∙ (ap (λ bs. two_at order bs 20) c.page.ensures.bytes
     ∙ entries_held c.args.self.now.leaf_type order page c.args.leaf previous next entries holds))) in
     ap (λ k. let r : Child = record { page = c.args.leaf; count = k; leaf = c.args.leaf } in r)

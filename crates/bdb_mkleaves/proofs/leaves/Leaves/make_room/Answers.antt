@@ -12,9 +12,9 @@ returns c =
     (c.set_next.ensures.page
     ∙ ap (λ n. with_page c.args.pages.now c.args.self.now.last
     (with_field c.args.pages.now.order (bytes_of c.args.pages.now c.args.self.now.last) 16 n))
-    c.count-next.ensures)
+    c.count-next.ensures.count)
     c.in_ok-self.ensures.pages refl c.in_ok-push.ensures.items c.in_ok-self.ensures.number
     (λ previous before entries holds.
-    subst (λ n. HoldsEntriesOn c.args.self.now.leaf_type c.set_next.new.pages c.args.self.now.last previous n entries) c.count-next.ensures
+    subst (λ n. HoldsEntriesOn c.args.self.now.leaf_type c.set_next.new.pages c.args.self.now.last previous n entries) c.count-next.ensures.count
     (c.set_next.ensures.holds c.args.self.now.leaf_type previous before entries holds))
     c.in_ok-self.ensures.holds c.in_ok-self.ensures.long c.requires.leaves)

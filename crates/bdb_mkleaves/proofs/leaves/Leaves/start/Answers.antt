@@ -6,7 +6,7 @@ use Rattle.bdb_mkleaves.proofs.leaves.Leaves.start.Goals as goal
 
 pub returns-clause-filled : goal.returns-clause-filled
 returns-clause-filled c =
-    leaf_begun _ c.add_leaf.new.pages _ c.requires.some c.new.ensures.items c.in_ok-last.ensures.number
+    leaf_begun _ c.add_leaf.new.pages _ c.requires c.new.ensures.items c.in_ok-last.ensures.number
     (begun_kept c.args.leaf_type c.args.pages.now c.add_leaf.new.pages 0 c.in_ok-last.ensures.pages).1 c.in_ok-last.ensures.holds
 
 pub returns-clause-kept : goal.returns-clause-kept

@@ -11,7 +11,7 @@ returns-clause-building c =
     let filled = c.in_ok-leaves.ensures.filled in
     let first = first_begun leaves c.start.new.pages (length c.args.pages.now.pages) filled c.in_ok-leaves.ensures.number in
     begun_building (record { alloc = c.args.alloc; settings = c.args.settings.now; leaves = leaves }) c.start.new.pages c.requires.kind
-    (subst (λ n. is_page_size n ≡ true) (c.size-size.ensures.size ∙ sym kept.size) c.size-size.ensures.legal)
+    (subst (λ n. is_page_size n ≡ true) (sym kept.size) c.in_ok-leaves.ensures.legal)
     (kept.size ∙ c.requires.size) (kept.order ∙ c.requires.order) (c.in_ok-leaves.ensures.leaf ∙ c.leaf_type_of.ensures)
     (subst (λ n. AreFilled leaves c.start.new.pages n [] []) (sym first) filled) (c.in_ok-leaves.ensures.count ∙ ap (λ n. n + 1) (sym first))
 

@@ -1,6 +1,6 @@
-use Rattle.std.proofs.Common.{◌*◌, ◌++◌, length, take, drop, refl, sym, ◌∙◌, ap, arith}
-use Rattle.bdb_pack.specs.Built.{Built, bytes_of, cut, written_over}
-use Rattle.bdb_pack.proofs.CutLemmas.{kept, length_cut, lent, long_enough, page_of_cut}
+use Rattle.std.proofs.Common.{◌*◌, ◌++◌, length, take, drop, refl, sym, subst, ◌∙◌, ap, arith}
+use Rattle.bdb_pack.specs.Built.{AreWhole, Built, bytes_of, cut, written_over}
+use Rattle.bdb_pack.proofs.CutLemmas.{kept, length_cut, lent, long_enough, page_length, page_of_cut}
 use Rattle.bdb_pack.proofs.pages.Pages.page_mut.Goals as goal
 
 pub returns : goal.returns
@@ -28,5 +28,6 @@ returns c =
         value = c.slice_mut.ensures.value
             ∙ (ap (λ n. take n (drop (c.args.number * size) bytes)) (omega arith)
             ∙ (sym (page_of_cut size count bytes c.args.number (omega (arith, low, seen_count))) ∙ ap (λ (b : Built). bytes_of b c.args.number) seen));
+        whole = subst AreWhole seen (λ p below. page_length size count bytes p whole (omega (arith, below, length_cut size count bytes)));
       },
     )

@@ -9,5 +9,5 @@ pub invariant_of-self : goal.invariant_of-self
 invariant_of-self c =
     subst IsSheet (sym c.append_hash.ensures)
     (with_taken c.self.inside.pages c.order-order.result c.page.result.now (OnHash (hash_content_seen c.args.item.now))
-    c.self.invariant c.order-order.ensures c.page.ensures.bytes
+    c.self.invariant c.order-order.ensures.order c.page.ensures.bytes
     c.if-not-takes_hash.ensures c.if-not-has_room_for_hash.ensures.fits c.if-not-has_room_for_hash.ensures.room)
