@@ -9,6 +9,7 @@ mod hashes;
 mod key;
 mod listing;
 mod lookup;
+mod near;
 mod pair;
 mod pairs;
 mod passed;

@@ -1,46 +1,50 @@
-ghost use Rattle.std.specs.Prelude.{◌≡◌, ◌≤◌, true, map};
+ghost use Rattle.std.specs.Prelude.{◌≡◌, ◌≤◌, IfOk, true, map};
 ghost use Rattle.std.specs.Iterator.{YieldsFirstBy, item_count};
 ghost use Rattle.bdb_hash.specs.Places.{ArePlaces, has_pair, told_at, told_on};
 ghost use Rattle.bdb_hash.specs.Views.{IsTable};
 ghost use Rattle.bdb_format.specs.File.{file_of, page_at};
 
 use crate::Pair;
+use crate::near::Near;
 use crate::place::Place;
 use bdb_form::PageView;
 use bdb_graph::Forest;
+use std::alloc::{AllocError, Global};
 use std::marker::Model;
-use std::vec::IntoIter;
 
 /// The pairs at places that are left, each read where it stands.
 #[derive(Drop)]
 pub(crate) struct Ranked<'a> {
     forest: Forest<'a>,
-    rest: IntoIter<Place>,
+    rest: Near<'a>,
 }
 
 impl<'a> Model for Ranked<'a> {
     ghost use Rattle.std.specs.Prelude.{List, map};
-    ghost use Rattle.std.specs.Vec.Iter.{into_iter_items};
     ghost use Rattle.bdb_hash.specs.Places.{ArePlaces, told_at};
     ghost use Rattle.bdb_hash.specs.Told.{Told};
 
     ghost Value = { List Told };
 
-    ghost view = { λ it. map (told_at it.forest) (into_iter_items it.rest) };
+    ghost view = { λ it. map (told_at it.forest) it.rest };
 
-    ghost invariant = { λ it. ArePlaces it.forest (into_iter_items it.rest) };
+    ghost invariant = { λ it. ArePlaces it.forest it.rest };
 }
 
 impl<'a> Ranked<'a> {
-    /// The pairs at these places.
-    pub(crate) fn over(forest: &Forest<'a>, places: Vec<Place>) -> Ranked<'a>
+    /// The pairs at these places. An error is want of memory.
+    pub(crate) fn over(
+        alloc: Global,
+        forest: &Forest<'a>,
+        places: Vec<Place>,
+    ) -> Result<Ranked<'a>, AllocError>
         requires { ArePlaces forest.now places.items }
-        ensures { result ≡ map (told_at forest.now) places.items }
+        ensures { IfOk result (λ pairs. pairs ≡ map (told_at forest.now) places.items) }
     {
-        Ranked {
+        Ok(Ranked {
             forest: forest.again(),
-            rest: places.into_iter(),
-        }
+            rest: Near::over(alloc, forest, places)?,
+        })
     }
 }
 

@@ -111,7 +111,7 @@ fn ranked_pairs<'a>(
     let mut places = table_places(alloc, linked, meta)?;
     let forest = linked.forest();
     sort_places(&forest, &mut places);
-    Ok(Ranked::over(&forest, places))
+    Ranked::over(alloc, &forest, places)
 }
 
 /// The list of a table without repeated keys, in the order of its keys. It takes sixteen bytes for each pair of the table; an error is want

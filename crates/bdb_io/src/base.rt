@@ -31,4 +31,11 @@ impl<R: Read> Source for BaseSource<R> {
             }
         }
     }
+
+    fn expected(&self) -> usize {
+        match self {
+            BaseSource::Reader(source) => source.expected(),
+            BaseSource::Shut { .. } => 0,
+        }
+    }
 }

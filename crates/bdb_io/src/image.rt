@@ -1,4 +1,4 @@
-ghost use Rattle.std.specs.Prelude.{◌≡◌, ◌≢◌, ◌+◌, ◌^◌, ◌≤◌, ◌<◌, List, ℕ, length, Err, IfOk, IsErrOf, IsOk, ◌⊎◌};
+ghost use Rattle.std.specs.Prelude.{◌≡◌, ◌≢◌, [], ◌+◌, ◌^◌, ◌≤◌, ◌<◌, List, ℕ, length, Err, IfOk, IsErrOf, IsOk, ◌⊎◌};
 ghost use Rattle.std.specs.Io.KnownBytes.{Consumes, IsAtEnd};
 ghost use Rattle.bdb_format.specs.Faults.{Rose, Took, TookAtMost};
 
@@ -46,6 +46,16 @@ pub enum ReadError {
 
 const CHUNK: usize = 65536;
 
+// No bytes yet, with room for so many where memory isn't wanting: so what is read isn't moved while it grows.
+fn with_room(alloc: Global, room: usize) -> Bytes
+    ensures { result ≡ [] }
+{
+    match Vec::with_capacity(alloc, room) {
+        Ok(bytes) => Bytes::from_vec(bytes),
+        Err(_) => Bytes::new(alloc),
+    }
+}
+
 /// Reads until a read gives nothing, or one byte more than the limit came.
 #[tactic(auto, using(bdb_format::proofs::KnownLemmas::consumed))]
 pub fn read_image<S: Source>(alloc: Global, source: &mut S, max: u64) -> Result<Image, ReadError>
@@ -69,7 +79,7 @@ pub fn read_image<S: Source>(alloc: Global, source: &mut S, max: u64) -> Result<
         IsOk result ⊎ IsErrOf result ReadError.TooLarge }
 {
     let limit = max as usize;
-    let mut bytes = Bytes::new(alloc);
+    let mut bytes = with_room(alloc, source.expected().min(limit));
     let mut chunk = [0u8; CHUNK];
     'read: loop {
         let held = bytes.as_slice().len();

@@ -12,6 +12,7 @@ use std::marker::Model;
 pub struct StdSource<R> {
     reader: R,
     faults: u64,
+    expected: usize,
 }
 
 impl<R> Model for StdSource<R> {
@@ -26,7 +27,18 @@ impl<R: Read> StdSource<R> {
     pub fn new(reader: R) -> StdSource<R>
         ensures { result ≡ record { inner = reader; faults = 0 } }
     {
-        StdSource { reader, faults: 0 }
+        StdSource::expecting(reader, 0)
+    }
+
+    /// One from which so many bytes are likely to come.
+    pub fn expecting(reader: R, expected: usize) -> StdSource<R>
+        ensures { result ≡ record { inner = reader; faults = 0 } }
+    {
+        StdSource {
+            reader,
+            faults: 0,
+            expected,
+        }
     }
 }
 
@@ -49,6 +61,10 @@ impl<R: Read> Source for StdSource<R> {
                 Err(Failed)
             }
         }
+    }
+
+    fn expected(&self) -> usize {
+        self.expected
     }
 }
 

@@ -10,7 +10,7 @@ use bdb_tool::status::{MEMORY, USAGE};
 use bdb_tool::{onto_file, run_counted, run_onto, tell_usage};
 use std::alloc::{AllocError, Global};
 use std::env::{self, Args};
-use std::fs::{self, File};
+use std::fs::{self, File, Metadata};
 use std::io::{self, ErrorKind};
 use std::marker::Brand;
 use std::process::ExitCode;
@@ -26,7 +26,7 @@ fn main(rt: HostRuntime) -> ExitCode {
     let Ok(words) = words_of(rt.alloc(), args) else {
         return refuse(&mut err, ErrorKind::OutOfMemory);
     };
-    let mut source = StdSource::new(rt.stdin());
+    let mut source = StdSource::expecting(rt.stdin(), input_len(&rt));
     let mut out = StdSink::new(rt.stdout());
     let Some(file) = onto_file(&words) else {
         return ExitCode::from(run_counted::<Brand, _, _, _>(
@@ -53,13 +53,29 @@ fn main(rt: HostRuntime) -> ExitCode {
     ))
 }
 
+// How long a file is, 0 where that isn't told.
+fn len_of(metadata: io::Result<Metadata>) -> usize {
+    match metadata {
+        Ok(metadata) => metadata.len() as usize,
+        Err(_) => 0,
+    }
+}
+
+// How long standard input is, 0 where it's no file.
+fn input_len(rt: &HostRuntime) -> usize {
+    len_of(fs::metadata(rt, "/dev/stdin"))
+}
+
 // The file of a word, opened for reading alone. What can't be opened is shut, but where memory is wanting.
 fn base_at(rt: &HostRuntime, file: &[u8]) -> io::Result<BaseSource<File>> {
     let Ok(path) = str::from_utf8(file) else {
         return Ok(BaseSource::Shut { faults: 0 });
     };
     match fs::open(rt, path) {
-        Ok(file) => Ok(BaseSource::Reader(StdSource::new(file))),
+        Ok(file) => {
+            let expected = len_of(file.metadata());
+            Ok(BaseSource::Reader(StdSource::expecting(file, expected)))
+        }
         Err(error) if error.kind() == ErrorKind::OutOfMemory => Err(error),
         Err(_) => Ok(BaseSource::Shut { faults: 0 }),
     }

@@ -1,9 +1,8 @@
-use Rattle.std.specs.Vec.Iter.{into_iter_items}
 use Rattle.bdb_hash.proofs.PlaceLemmas.{places_rest}
 use Rattle.bdb_hash.proofs.ranked.RankedIterator.next.Goals as goal
 
 -- The places that are left are those of pairs too.
 pub invariant_of-self-2 : goal.invariant_of-self-2
 invariant_of-self-2 c =
-    places_rest c.self.inside.forest c.in_ok-place.place (into_iter_items c.self.inside.rest) (into_iter_items c.next.new.self) c.self.invariant
+    places_rest c.self.inside.forest c.in_ok-place.place c.self.inside.rest c.next.new.self c.self.invariant
     c.in_ok-place.ensures.items
