@@ -77,7 +77,7 @@ fn byte_by(page: &[u8], order: Order, entry: usize) -> Option<u8> {
 }
 
 /// The sum of the page's type and of the first bytes of the key and the datum of the pair at a place.
-fn read_at(image: &[u8], head: &Head, place: &Place) -> Option<u8> {
+fn first_bytes(image: &[u8], head: &Head, place: &Place) -> Option<u8> {
     let size = head.page_size as usize;
     let first = (place.page as usize).saturating_mul(size);
     let page = image.get(first..first.saturating_add(size))?;
@@ -105,7 +105,7 @@ fn take_near(
         let Some(place) = rest.next() else {
             return seen;
         };
-        seen = seen.wrapping_add(read_at(image, head, &place).unwrap_or(0));
+        seen = seen.wrapping_add(first_bytes(image, head, &place).unwrap_or(0));
         near.push_back_reserved(place);
     }
     seen

@@ -165,6 +165,7 @@ impl Pages {
         requires { number < length self.old.pages }
         ensures* writes_back { sem 𝓛 (LendsPage self.entry number result) }
         ensures value { result.now ≡ bytes_of self.old number }
+        ensures legal { IsTrue (is_page_size self.old.size) }
         ensures whole { AreWhole self.old }
     {
         let at = number as usize * self.size;

@@ -1,5 +1,16 @@
+use Rattle.std.proofs.Common.{length, ap, arith}
+use Rattle.bdb_format.proofs.SizeLemmas.{size_bounds}
 use Rattle.bdb_mkqueue.proofs.StepLemmas.{record_put}
 use Rattle.bdb_mkqueue.proofs.build.write_record.Goals as goal
+
+pub put_record-requires-clause-short : goal.put_record-requires-clause-short
+put_record-requires-clause-short c =
+    omega (
+      arith,
+      ap length c.page_mut.ensures.value,
+      c.page_mut.ensures.whole c.args.page c.requires.page,
+      (size_bounds c.args.pages.now.size c.page_mut.ensures.legal).1,
+    )
 
 pub returns : goal.returns
 returns c =

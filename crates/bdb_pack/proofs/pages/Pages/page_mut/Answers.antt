@@ -1,4 +1,5 @@
-use Rattle.std.proofs.Common.{◌*◌, ◌++◌, length, take, drop, refl, sym, subst, ◌∙◌, ap, arith}
+use Rattle.std.proofs.Common.{◌*◌, ◌++◌, length, take, drop, IsTrue, refl, sym, subst, ◌∙◌, ap, arith}
+use Rattle.bdb_format.specs.HeadOf.{is_page_size}
 use Rattle.bdb_pack.specs.Built.{AreWhole, Built, bytes_of, cut, written_over}
 use Rattle.bdb_pack.proofs.CutLemmas.{kept, length_cut, lent, long_enough, page_length, page_of_cut}
 use Rattle.bdb_pack.proofs.pages.Pages.page_mut.Goals as goal
@@ -28,6 +29,7 @@ returns c =
         value = c.slice_mut.ensures.value
             ∙ (ap (λ n. take n (drop (c.args.number * size) bytes)) (omega arith)
             ∙ (sym (page_of_cut size count bytes c.args.number (omega (arith, low, seen_count))) ∙ ap (λ (b : Built). bytes_of b c.args.number) seen));
+        legal = subst (λ (b : Built). IsTrue (is_page_size b.size)) seen c.self.invariant.legal;
         whole = subst AreWhole seen (λ p below. page_length size count bytes p whole (omega (arith, below, length_cut size count bytes)));
       },
     )
