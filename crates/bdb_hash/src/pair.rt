@@ -14,7 +14,7 @@ ghost use Rattle.bdb_format.specs.Page.{Tree};
 
 use crate::Data;
 use crate::place::Place;
-use crate::rows::is_wrong_root;
+use bdb_tree::is_wrong_root;
 use bdb_graph::Forest;
 use bdb_layout::HashItem;
 use bdb_overflow::{Datum, hash_datum, is_same, prefix};

@@ -13,7 +13,6 @@ use bdb_faults::{ContentsRow, FaultSink, Row, note_if};
 use bdb_format::HashMeta;
 use bdb_layout::bucket_of;
 use bdb_overflow::is_less;
-pub(crate) use bdb_tree::is_wrong_root;
 use std::alloc::AllocError;
 
 /// Whether data ascend strictly.
