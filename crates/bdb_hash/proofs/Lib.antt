@@ -3,12 +3,14 @@ pub mod BucketLemmas
 pub mod DataLemmas
 pub mod FaultLemmas
 pub mod HashedLemmas
+pub mod HeadLemmas
 pub mod KeptLemmas
 pub mod LookupLemmas
 pub mod MaskLemmas
 pub mod NotedLemmas
 pub mod PairLemmas
 pub mod PassedLemmas
+pub mod PlaceKeyLemmas
 pub mod PlaceLemmas
 pub mod PlainLemmas
 pub mod RepeatLemmas

@@ -3,7 +3,7 @@ use Rattle.bdb_format.specs.declared.metadata.Head.{Head}
 use Rattle.bdb_format.proofs.FileLemmas.{last_page}
 use Rattle.bdb_overflow.specs.Datum.{datum_seen}
 use Rattle.bdb_hash.proofs.PairLemmas.{item_fits}
-use Rattle.bdb_hash.proofs.PlaceLemmas.{key_here, no_page}
+use Rattle.bdb_hash.proofs.PlaceKeyLemmas.{key_here, no_page}
 use Rattle.bdb_hash.proofs.place.key_at.Goals as goal
 
 pub returns-then-place-head : goal.returns-then-place-head

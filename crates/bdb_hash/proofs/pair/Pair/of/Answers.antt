@@ -7,7 +7,7 @@ use Rattle.bdb_overflow.specs.Datum.{datum_seen}
 use Rattle.bdb_hash.specs.Chained.{IsHeaded}
 use Rattle.bdb_hash.specs.Places.{IsRead}
 use Rattle.bdb_hash.specs.Told.{told_as, told_pair}
-use Rattle.bdb_hash.proofs.ChainedLemmas.{is_headed}
+use Rattle.bdb_hash.proofs.HeadLemmas.{is_headed}
 use Rattle.bdb_hash.proofs.pair.Pair.of.Goals as goal
 
 -- The key is what its item holds, in the file that the pair stands in.
