@@ -14,10 +14,10 @@ use Rattle.bdb_format.specs.File.{file_of}
 use Rattle.bdb_format.proofs.LessLemmas.{eq_same}
 use Rattle.bdb_overflow.specs.Keys.{has_item, has_key}
 use Rattle.bdb_overflow.proofs.HeldLemmas.{apart}
-use Rattle.bdb_hash.specs.Chained.{AreAllOf, AreAmong, AreOf, Seen, chain_value}
+use Rattle.bdb_buckets.specs.Chained.{AreAllOf, AreAmong, AreOf, Seen, chain_value}
 use Rattle.bdb_hash.specs.Noted.{repeat_fault}
 use Rattle.bdb_hash.specs.Passed.{NotesRepeats, key_of}
-use Rattle.bdb_hash.specs.Told.{Told, page_told, told}
+use Rattle.bdb_buckets.specs.Told.{Told, page_told, told}
 
 -- Pairs of one file.
 

@@ -22,16 +22,16 @@ use Rattle.bdb_format.specs.References.{item_at}
 use Rattle.bdb_format.proofs.MemberLemmas.{later_member, member_cases, no_member}
 use Rattle.bdb_image.specs.Linked.{HasMetadata}
 use Rattle.bdb_overflow.proofs.PrefixLemmas.{prefix_order}
-use Rattle.bdb_hash.specs.declared.place.Place.{Place}
-use Rattle.bdb_hash.specs.Places.{Adds, AreAt, ArePlaces, IsAt, IsCollected, has_pair, key_at, key_in, pair_on, place_cmp, place_less}
-use Rattle.bdb_hash.specs.Places.{told_at}
+use Rattle.bdb_buckets.specs.declared.place.Place.{Place}
+use Rattle.bdb_buckets.specs.Places.{Adds, AreAt, ArePlaces, IsAt, IsCollected, has_pair, key_at, key_in, pair_on, place_cmp, place_less}
+use Rattle.bdb_buckets.specs.Places.{told_at}
 use Rattle.bdb_hash.specs.Scanned.{KeysDiffer, ranked}
-use Rattle.bdb_hash.specs.Told.{Told, bucket_told, joined_pages, page_told, table_told, told, told_cmp}
-use Rattle.bdb_hash.specs.Views.{IsTable}
+use Rattle.bdb_buckets.specs.Told.{Told, bucket_told, joined_pages, page_told, table_told, told, told_cmp}
+use Rattle.bdb_buckets.specs.Views.{IsTable}
 use Rattle.bdb_hash.proofs.FaultLemmas.{table_is_told}
-use Rattle.bdb_hash.proofs.PlaceKeyLemmas.{on_page}
+use Rattle.bdb_buckets.proofs.PlaceKeyLemmas.{on_page}
 use Rattle.bdb_hash.proofs.ScanLemmas.{sorted_ranked}
-use Rattle.bdb_hash.proofs.TableLemmas.{told_more}
+use Rattle.bdb_buckets.proofs.TableLemmas.{told_more}
 
 -- Places of a file.
 

@@ -8,7 +8,8 @@ ghost use Rattle.bdb_format.specs.Flags.{has_duplicates, is_sorted};
 ghost use Rattle.bdb_format.specs.Hashing.{bucket};
 ghost use Rattle.bdb_format.specs.Page.{HashFields};
 
-use crate::{Chains, Data, Pair};
+use crate::Chains;
+use bdb_buckets::{Data, Pair};
 use bdb_faults::{ContentsRow, FaultSink, Row, note_if};
 use bdb_format::HashMeta;
 use bdb_layout::bucket_of;
