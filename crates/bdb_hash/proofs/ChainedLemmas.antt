@@ -10,16 +10,14 @@ use Rattle.std.proofs.lemmas.Bool.{cases_Bool, cases_eq}
 use Rattle.bdb_faults.specs.Notes.{Notes}
 use Rattle.bdb_format.specs.declared.kinds.Fault.{Fault}
 use Rattle.bdb_format.specs.Contents.{StoredPair, pairs_of}
-use Rattle.bdb_format.specs.Chains.{value_of}
 use Rattle.bdb_format.specs.File.{file_of}
-use Rattle.bdb_format.specs.Page.{Content, Inline, Set, Chain, Tree, Unknown}
 use Rattle.bdb_format.proofs.LessLemmas.{eq_same}
 use Rattle.bdb_overflow.specs.Keys.{has_item, has_key}
 use Rattle.bdb_overflow.proofs.HeldLemmas.{apart}
-use Rattle.bdb_hash.specs.Chained.{AreAllOf, AreAmong, AreOf, IsHeaded, Seen, chain_head, chain_value}
+use Rattle.bdb_buckets.specs.Chained.{AreAllOf, AreAmong, AreOf, Seen, chain_value}
 use Rattle.bdb_hash.specs.Noted.{repeat_fault}
 use Rattle.bdb_hash.specs.Passed.{NotesRepeats, key_of}
-use Rattle.bdb_hash.specs.Told.{Told, page_told, told}
+use Rattle.bdb_buckets.specs.Told.{Told, page_told, told}
 
 -- Pairs of one file.
 
@@ -47,17 +45,6 @@ pages_told image (p ∷ ps) = (pairs_told image (pairs_of (file_of image) p), pa
 pub bucket_of_file : (image known : List ℕ) (pages : List (List Told)) (ps : List ℕ) → pages ≡ map (page_told image) ps → known ≡ image → AreAllOf known pages
 bucket_of_file image known pages ps are same =
     subst (AreAllOf known) (sym are) (subst (λ i. AreAllOf i (map (page_told image) ps)) (sym same) (pages_told image ps))
-
--- The head of a key.
-
-pub is_headed : (image : List ℕ) (pair : StoredPair) (content : Content) → pair.key ≡ value_of (file_of image) content
-    → IsHeaded (chain_head content) (told image pair)
-unfolding value_of
-is_headed image pair (Chain head total) is = is
-is_headed image pair (Inline bytes) is = tt
-is_headed image pair (Set blocks) is = tt
-is_headed image pair (Tree root) is = tt
-is_headed image pair Unknown is = tt
 
 -- Keys that were seen.
 

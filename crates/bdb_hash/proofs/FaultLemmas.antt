@@ -18,8 +18,8 @@ use Rattle.bdb_format.proofs.MemberLemmas.{in_flat_map, in_map, no_member, of_fl
 use Rattle.bdb_format.proofs.VerdictLemmas.{InOrder, in_by_page, of_by_page, table_in_order}
 use Rattle.bdb_format.proofs.RepeatLemmas.{of_repeated}
 use Rattle.bdb_hash.specs.Noted.{bucket_faults, has_stray, pair_faults, repeat_fault, repeat_faults, stored, stray_faults}
-use Rattle.bdb_hash.specs.Told.{Told, bucket_told, joined_pages, page_told, table_told, told}
-use Rattle.bdb_hash.specs.Views.{IsTable}
+use Rattle.bdb_buckets.specs.Told.{Told, bucket_told, joined_pages, page_told, table_told, told}
+use Rattle.bdb_buckets.specs.Views.{IsTable}
 use Rattle.bdb_hash.proofs.NotedLemmas.{contents_fault}
 use Rattle.bdb_hash.proofs.PlainLemmas.{IsPlain, bucket_plain}
 use Rattle.bdb_hash.proofs.RepeatLemmas.{in_bucket, in_table}

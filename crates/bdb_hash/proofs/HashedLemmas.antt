@@ -25,9 +25,9 @@ use Rattle.bdb_format.proofs.RepeatLemmas.{repeated_after, repeated_is}
 use Rattle.bdb_format.proofs.LessLemmas.{eq_same}
 use Rattle.bdb_hash.specs.Noted.{repeat_fault, repeat_faults, stored}
 use Rattle.bdb_hash.specs.Passed.{is_among, is_missed, key_hash}
-use Rattle.bdb_hash.specs.Told.{Told, bucket_told, joined_pages, page_told}
+use Rattle.bdb_buckets.specs.Told.{Told, bucket_told, joined_pages, page_told}
 use Rattle.bdb_hash.proofs.RepeatLemmas.{has_same}
-use Rattle.bdb_hash.proofs.TableLemmas.{told_more}
+use Rattle.bdb_buckets.proofs.TableLemmas.{told_more}
 use Rattle.bdb_faults.proofs.SinkLemmas.{notes_nothing}
 
 -- Numbers that are apart.

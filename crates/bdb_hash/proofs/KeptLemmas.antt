@@ -16,13 +16,13 @@ use Rattle.bdb_format.specs.Hashing.{hash5}
 use Rattle.bdb_format.proofs.MemberLemmas.{first_member, in_map, later_member}
 use Rattle.bdb_format.proofs.RepeatLemmas.{has_key as has_this, repeated_after, repeated_is}
 use Rattle.bdb_format.proofs.LessLemmas.{eq_same}
-use Rattle.bdb_hash.specs.Chained.{AreOf, Seen}
+use Rattle.bdb_buckets.specs.Chained.{AreOf, Seen}
 use Rattle.bdb_hash.specs.Noted.{repeat_fault, repeat_faults, stored}
 use Rattle.bdb_hash.specs.Passed.{IsNoting, NotesRepeats, is_among, is_kept, is_missed, key_hash}
-use Rattle.bdb_hash.specs.Told.{Told, bucket_told, joined_pages, page_told}
+use Rattle.bdb_buckets.specs.Told.{Told, bucket_told, joined_pages, page_told}
 use Rattle.bdb_hash.proofs.ChainedLemmas.{rest_of, first_of, first_page_of, other_pages_of, bucket_of_file}
 use Rattle.bdb_hash.proofs.RepeatLemmas.{all_noting, both_noted, more_noting, none_noting, noted_anew, none_noted}
-use Rattle.bdb_hash.proofs.TableLemmas.{told_more}
+use Rattle.bdb_buckets.proofs.TableLemmas.{told_more}
 
 -- Going through the pairs.
 

@@ -1,13 +1,10 @@
 pub mod ChainedLemmas
-pub mod BucketLemmas
-pub mod DataLemmas
 pub mod FaultLemmas
 pub mod HashedLemmas
 pub mod KeptLemmas
 pub mod LookupLemmas
 pub mod MaskLemmas
 pub mod NotedLemmas
-pub mod PairLemmas
 pub mod PassedLemmas
 pub mod PlaceLemmas
 pub mod PlainLemmas
@@ -15,4 +12,3 @@ pub mod RepeatLemmas
 pub mod RowLemmas
 pub mod ScanLemmas
 pub mod SetOrderLemmas
-pub mod TableLemmas

@@ -25,8 +25,8 @@ use Rattle.bdb_faults.specs.Rows.{fault_at}
 use Rattle.bdb_faults.specs.declared.rows.ContentsRow.TheVariants.{KeyTwice}
 use Rattle.bdb_faults.specs.declared.rows.Row.TheVariants.{Contents}
 use Rattle.bdb_hash.specs.Scanned.{KeysDiffer}
-use Rattle.bdb_hash.specs.Told.{IsSought, Told, bucket_told, has_key, joined_pages, told}
-use Rattle.bdb_hash.specs.Views.{IsTable}
+use Rattle.bdb_buckets.specs.Told.{IsSought, Told, bucket_told, has_key, joined_pages, told}
+use Rattle.bdb_buckets.specs.Views.{IsTable}
 use Rattle.bdb_hash.proofs.FaultLemmas.{bucket_is, few_buckets, repeat_in, table_stored}
 use Rattle.bdb_hash.proofs.PlainLemmas.{IsPlain, bucket_plain}
 use Rattle.bdb_hash.proofs.RowLemmas.{ArePlain, buckets_of}

@@ -12,7 +12,7 @@ use Rattle.bdb_format.specs.Contents.{bucket_pages}
 use Rattle.bdb_format.specs.File.{file_of}
 use Rattle.bdb_hash.specs.Noted.{bucket_faults, has_stray_in, is_stray, pair_faults, repeat_faults}
 use Rattle.bdb_hash.specs.Passed.{IsPassing, Passes, key_hash}
-use Rattle.bdb_hash.specs.Told.{Told, bucket_told, joined_pages, page_told}
+use Rattle.bdb_buckets.specs.Told.{Told, bucket_told, joined_pages, page_told}
 use Rattle.bdb_hash.specs.declared.passed.Passed.{Passed}
 use Rattle.bdb_faults.proofs.SinkLemmas.{notes_nothing, notes_then}
 use Rattle.bdb_format.proofs.ListLemmas.{range_zero_more}

@@ -1,17 +1,14 @@
 -- The pairs of a table stand at places, and these in the order of their keys are the pairs in the order of theirs.
 use Rattle.std.proofs.Common.{◌≡◌, ℕ, ◌+◌, ◌*◌, ◌≤◌, ◌<◌, Bool, true, cond, List, [], ◌∷◌, ◌++◌, map, length, get_or, min}
 use Rattle.std.proofs.Common.{length-append, arith, refl, sym, ◌∙◌, ap, Bor, subst, append_assoc, inl, inr}
-use Rattle.std.specs.Prelude.{Some}
 use Rattle.std.specs.Cmp.{IsStrictWeakOrder, nat_cmp_total, on_total, then_total}
 use Rattle.std.specs.Cmp.Lexicographic.{nat_list_cmp_total}
 use Rattle.std.specs.Fn.{Called, ComparesAs, Mut}
 use Rattle.std.specs.declared.cmp.Ordering.{Ordering}
-use Rattle.std.specs.List.{Contains, flat_map, range_with_len, slice_get}
+use Rattle.std.specs.List.{Contains, flat_map, range_with_len}
 use Rattle.std.specs.List.Sorted.{IsPermutation, IsSorted, IsSortedBy}
 use Rattle.std.specs.Ordering.{is_lt}
-use Rattle.std.proofs.lemmas.Bool.{le-ltb, lt-ltb}
 use Rattle.std.proofs.lemmas.List.{append-nil, get_or-map, length-map}
-use Rattle.std.proofs.lemmas.Option.{get_or_from_slice_get}
 use Rattle.std.proofs.lemmas.Fn.{always_returns_same}
 use Rattle.std.proofs.lemmas.List.Elements.{Contains-get_or}
 use Rattle.std.proofs.lemmas.List.Sorted.{Contains-permutation, IsPermutation-map, IsPermutation-sym, ranks_by}
@@ -19,41 +16,22 @@ use Rattle.bdb_format.specs.declared.metadata.HashMeta.{HashMeta}
 use Rattle.bdb_format.specs.Chains.{value_of}
 use Rattle.bdb_format.specs.Contents.{StoredPair, bucket_pages, table_pairs}
 use Rattle.bdb_format.specs.File.{File, file_of, page_at}
-use Rattle.bdb_format.specs.Page.{Hash, HashFields, Item}
-use Rattle.bdb_format.specs.Page.{Listed, Page}
+use Rattle.bdb_format.specs.Page.{Hash, HashFields}
+use Rattle.bdb_format.specs.Page.{Page}
 use Rattle.bdb_format.specs.References.{item_at}
 use Rattle.bdb_format.proofs.MemberLemmas.{later_member, member_cases, no_member}
 use Rattle.bdb_image.specs.Linked.{HasMetadata}
-use Rattle.bdb_layout.specs.declared.items.HashItem.{HashItem}
-use Rattle.bdb_layout.specs.Seen.{hash_content_seen, hash_item_seen}
 use Rattle.bdb_overflow.proofs.PrefixLemmas.{prefix_order}
-use Rattle.bdb_hash.specs.declared.place.Place.{Place}
-use Rattle.bdb_hash.specs.Places.{Adds, AreAt, ArePlaces, IsAt, IsCollected, has_pair, key_at, key_in, pair_on, place_cmp, place_less}
-use Rattle.bdb_hash.specs.Places.{told_at}
+use Rattle.bdb_buckets.specs.declared.place.Place.{Place}
+use Rattle.bdb_buckets.specs.Places.{Adds, AreAt, ArePlaces, IsAt, IsCollected, has_pair, key_at, key_in, pair_on, place_cmp, place_less}
+use Rattle.bdb_buckets.specs.Places.{told_at}
 use Rattle.bdb_hash.specs.Scanned.{KeysDiffer, ranked}
-use Rattle.bdb_hash.specs.Told.{Told, bucket_told, joined_pages, page_told, table_told, told, told_cmp}
-use Rattle.bdb_hash.specs.Views.{IsTable}
+use Rattle.bdb_buckets.specs.Told.{Told, bucket_told, joined_pages, page_told, table_told, told, told_cmp}
+use Rattle.bdb_buckets.specs.Views.{IsTable}
 use Rattle.bdb_hash.proofs.FaultLemmas.{table_is_told}
+use Rattle.bdb_buckets.proofs.PlaceKeyLemmas.{on_page}
 use Rattle.bdb_hash.proofs.ScanLemmas.{sorted_ranked}
-use Rattle.bdb_hash.proofs.TableLemmas.{told_more}
-
--- A place whose key is read.
-
-pub no_page : (image : List ℕ) (place : Place) → (file_of image).last < place.page → [] ≡ key_at image place
-no_page image place above =
-    sym (ap (λ b. cond b [] (key_in (file_of image) (page_at (file_of image) place.page) place.index)) (lt-ltb (file_of image).last place.page above))
-
-pub on_page : (image : List ℕ) (place : Place) → place.page ≤ (file_of image).last
-    → key_at image place ≡ key_in (file_of image) (page_at (file_of image) place.page) place.index
-on_page image place low =
-    ap (λ b. cond b [] (key_in (file_of image) (page_at (file_of image) place.page) place.index)) (le-ltb (file_of image).last place.page low)
-
--- the key on a hash page
-pub key_here : (image : List ℕ) (place : Place) (page : Listed Item) (item : HashItem) (bytes : List ℕ) → place.page ≤ (file_of image).last
-    → page_at (file_of image) place.page ≡ Hash page
-    → 2 * place.index + 1 < length page.items → slice_get page.items (2 * place.index) ≡ Some (hash_item_seen item)
-    → bytes ≡ value_of (file_of image) (hash_content_seen item) → bytes ≡ key_at image place
-key_here image place page item bytes low shows there at is = grind (arith, get_or_from_slice_get, lt-ltb, on_page)
+use Rattle.bdb_buckets.proofs.TableLemmas.{told_more}
 
 -- Places of a file.
 

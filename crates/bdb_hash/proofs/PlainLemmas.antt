@@ -21,9 +21,9 @@ use Rattle.bdb_format.proofs.MemberLemmas.{member_cases, no_member, of_flat_map,
 use Rattle.bdb_format.proofs.FileLemmas.{last_page, page_is}
 use Rattle.bdb_image.specs.Linked.{HasMetadata}
 use Rattle.bdb_graph.proofs.LinkedLemmas.{bucket_fits}
-use Rattle.bdb_hash.specs.Told.{is_of_bucket, pages_from}
-use Rattle.bdb_hash.specs.Views.{IsOfBucket, IsOnWay, IsTable}
-use Rattle.bdb_hash.proofs.BucketLemmas.{after_hash, after_zero, bucket_on_way, next_of_hash, next_of_zero, pages_step, target_some}
+use Rattle.bdb_buckets.specs.Told.{is_of_bucket, pages_from}
+use Rattle.bdb_buckets.specs.Views.{IsOfBucket, IsOnWay, IsTable}
+use Rattle.bdb_buckets.proofs.BucketLemmas.{after_hash, after_zero, bucket_on_way, next_of_hash, next_of_zero, pages_step, target_some}
 
 -- The items of a hash page.
 

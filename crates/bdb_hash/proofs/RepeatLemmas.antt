@@ -28,7 +28,7 @@ use Rattle.bdb_format.proofs.RepeatLemmas.{has_key as has_this, repeated_after, 
 use Rattle.bdb_format.proofs.LessLemmas.{eq_same}
 use Rattle.bdb_hash.specs.Noted.{has_stray, has_stray_in, is_stray, repeat_fault, repeat_faults, stored}
 use Rattle.bdb_hash.specs.Passed.{AreKeysOf, IsNoting, NotesRepeats, behind, key_of}
-use Rattle.bdb_hash.specs.Told.{Told, bucket_told, table_told}
+use Rattle.bdb_buckets.specs.Told.{Told, bucket_told, table_told}
 use Rattle.bdb_faults.specs.declared.rows.ContentsRow.TheVariants.{KeyTwice}
 use Rattle.bdb_hash.proofs.RowLemmas.{buckets_of}
 use Rattle.bdb_faults.proofs.SinkLemmas.{notes_nothing, notes_then}

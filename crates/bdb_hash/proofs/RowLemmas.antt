@@ -19,7 +19,7 @@ use Rattle.bdb_format.proofs.MemberLemmas.{filter_step, first_member, in_map, la
 use Rattle.bdb_format.specs.Flags.{has_duplicates, is_sorted}
 use Rattle.bdb_format.specs.Page.{HashFields}
 use Rattle.bdb_hash.specs.Noted.{pair_faults}
-use Rattle.bdb_hash.specs.Told.{Told}
+use Rattle.bdb_buckets.specs.Told.{Told}
 use Rattle.bdb_hash.proofs.NotedLemmas.{contents_fault, rows_noted}
 use Rattle.bdb_hash.proofs.PlainLemmas.{IsPlain}
 use Rattle.bdb_format.proofs.ListLemmas.{any_member, only_member, passes_here}

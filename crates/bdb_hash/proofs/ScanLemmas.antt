@@ -29,8 +29,8 @@ use Rattle.bdb_image.specs.Linked.{HasMetadata}
 use Rattle.bdb_hash.specs.Scanned.{KeysDiffer, ranked}
 use Rattle.bdb_hash.specs.Noted.{stored}
 use Rattle.bdb_hash.specs.Passed.{key_of}
-use Rattle.bdb_hash.specs.Told.{Told, listed_told, table_told, told, told_cmp}
-use Rattle.bdb_hash.specs.Views.{IsTable}
+use Rattle.bdb_buckets.specs.Told.{Told, listed_told, table_told, told, told_cmp}
+use Rattle.bdb_buckets.specs.Views.{IsTable}
 use Rattle.bdb_hash.proofs.FaultLemmas.{table_is_told, table_stored}
 use Rattle.bdb_overflow.proofs.KeyLemmas.{is_order}
 use Rattle.bdb_hash.proofs.LookupLemmas.{AreApart, keys_apart, same_key}

@@ -1,9 +1,4 @@
-pub mod Chained
 pub mod Noted
 pub mod Passed
-pub mod Places
-pub mod Rest
 pub mod Scanned
 pub mod SetOrder
-pub mod Told
-pub mod Views

@@ -11,7 +11,7 @@ use Rattle.bdb_format.specs.Contents.{StoredPair, data_of}
 use Rattle.bdb_format.specs.File.{file_of}
 use Rattle.bdb_format.specs.Flags.{has_duplicates, is_sorted}
 use Rattle.bdb_format.specs.Page.{HashFields}
-use Rattle.bdb_hash.specs.Told.{Told, bucket_told, table_told}
+use Rattle.bdb_buckets.specs.Told.{Told, bucket_told, table_told}
 
 -- a stray: a pair of this bucket that isn't in the bucket of its key
 abbrev pub is_stray : HashMeta → ℕ → Told → Bool

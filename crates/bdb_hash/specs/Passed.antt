@@ -10,7 +10,7 @@ use Rattle.bdb_format.specs.declared.metadata.HashMeta.{HashMeta}
 use Rattle.bdb_format.specs.Contents.{StoredPair}
 use Rattle.bdb_format.specs.Hashing.{hash5}
 use Rattle.bdb_hash.specs.Noted.{is_stray, pair_faults, repeat_fault, stored}
-use Rattle.bdb_hash.specs.Told.{Told}
+use Rattle.bdb_buckets.specs.Told.{Told}
 use Rattle.bdb_hash.specs.declared.passed.Passed.{Passed}
 
 -- the hash of a pair's key

@@ -7,7 +7,7 @@ use Rattle.bdb_faults.specs.declared.rows.Row.TheVariants.{Contents}
 use Rattle.bdb_overflow.specs.declared.datum.Datum.{Datum}
 use Rattle.bdb_overflow.specs.declared.datum.KeyView.{KeyView}
 use Rattle.bdb_overflow.specs.Datum.{datum_seen, key_view_seen}
-use Rattle.bdb_hash.specs.Told.{Told, entry_list, listed_told, told}
+use Rattle.bdb_buckets.specs.Told.{Told, entry_list, listed_told, told}
 use Rattle.bdb_format.specs.declared.metadata.HashMeta.{HashMeta}
 use Rattle.bdb_format.specs.ContentRows.{database_faults}
 use Rattle.bdb_format.specs.Contents.{table_pairs}

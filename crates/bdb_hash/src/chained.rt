@@ -5,12 +5,11 @@ ghost use Rattle.bdb_format.specs.File.{file_of};
 ghost use Rattle.bdb_format.specs.Page.{Tree};
 ghost use Rattle.bdb_format.specs.Verdict.{structure_faults};
 ghost use Rattle.bdb_image.specs.Linked.{FitsDupRoot};
-ghost use Rattle.bdb_hash.specs.Chained.{chain_value};
+ghost use Rattle.bdb_buckets.specs.Chained.{chain_value};
 ghost use Rattle.bdb_hash.specs.Passed.{key_hash};
 
-use crate::Pair;
-use crate::key::hash_of;
 use crate::set_order::set_ascends;
+use bdb_buckets::{Pair, hash_of};
 use bdb_graph::Forest;
 use bdb_overflow::is_shared;
 use bdb_ranks::Values;
@@ -28,7 +27,7 @@ pub struct Chains<'a> {
 
 impl<'a> Model for Chains<'a> {
     ghost use Rattle.std.specs.Prelude.{List, ℕ};
-    ghost use Rattle.bdb_hash.specs.Chained.{AreHashes};
+    ghost use Rattle.bdb_buckets.specs.Chained.{AreHashes};
 
     ghost Value = { List ℕ };
 

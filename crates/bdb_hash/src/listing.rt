@@ -3,11 +3,11 @@ ghost use Rattle.std.specs.Iterator.{YieldsFirstBy, item_count};
 ghost use Rattle.std.specs.List.{flat_map};
 ghost use Rattle.bdb_hash.specs.Scanned.{entry_seen};
 ghost use Rattle.bdb_overflow.specs.Datum.{datum_seen};
-ghost use Rattle.bdb_hash.specs.Told.{entry_list, listed_told};
+ghost use Rattle.bdb_buckets.specs.Told.{entry_list, listed_told};
 ghost use Rattle.bdb_format.specs.Lists.{ListKey};
 
-use crate::Data;
 use crate::ranked::Ranked;
+use bdb_buckets::Data;
 use bdb_overflow::{Datum, KeyView};
 use std::marker::Model;
 
@@ -32,7 +32,7 @@ impl<'a> Model for Scan<'a> {
     ghost use Rattle.std.specs.Prelude.{◌++◌, List, ℕ};
     ghost use Rattle.std.specs.List.{flat_map};
     ghost use Rattle.bdb_overflow.specs.Datum.{datum_seen};
-    ghost use Rattle.bdb_hash.specs.Told.{entry_list, listed_told};
+    ghost use Rattle.bdb_buckets.specs.Told.{entry_list, listed_told};
     ghost use Rattle.bdb_format.specs.Lists.{ListKey};
 
     ghost Value = { List (ListKey × List ℕ) };

@@ -1,16 +1,15 @@
 ghost use Rattle.std.specs.Prelude.{◌≡◌, ◌+◌, ◌≤◌, []};
 ghost use Rattle.std.specs.List.{find};
 ghost use Rattle.bdb_image.specs.Linked.{HasMetadata};
-ghost use Rattle.bdb_hash.specs.Told.{bucket_told, has_key};
-ghost use Rattle.bdb_hash.specs.Views.{IsTable};
+ghost use Rattle.bdb_buckets.specs.Told.{bucket_told, has_key};
+ghost use Rattle.bdb_buckets.specs.Views.{IsTable};
 ghost use Rattle.bdb_format.specs.ContentRows.{bucket_of_key, database_faults};
 ghost use Rattle.bdb_format.specs.File.{file_of};
 ghost use Rattle.bdb_format.specs.Lists.{BytesKey, get, hash_list};
 ghost use Rattle.bdb_format.specs.Page.{HashFields};
 ghost use Rattle.bdb_format.specs.Verdict.{structure_faults};
 
-use crate::table::buckets;
-use crate::{Data, PagePairs, Pair, bucket_pages};
+use bdb_buckets::{Data, PagePairs, Pair, bucket_pages, buckets};
 use bdb_format::{HashMeta, Steps};
 use bdb_graph::Linked;
 use bdb_layout::{bucket_of, hash5};

@@ -1,9 +1,9 @@
 ghost use Rattle.std.specs.Prelude.{◌≡◌, ◌++◌, IfOk, List};
 ghost use Rattle.std.specs.Iterator.{YieldsFirstBy, item_count};
 ghost use Rattle.std.specs.Vec.Iter.{into_iter_items};
-ghost use Rattle.bdb_hash.specs.declared.place.Place.{Place as PlaceOf};
+ghost use Rattle.bdb_buckets.specs.declared.place.Place.{Place as PlaceOf};
 
-use crate::place::Place;
+use bdb_buckets::Place;
 use bdb_format::{Head, Order};
 use bdb_graph::Forest;
 use bdb_layout::u16_at;
@@ -41,7 +41,7 @@ impl Drop for Near<'_> {
 impl<'a> Model for Near<'a> {
     ghost use Rattle.std.specs.Prelude.{◌++◌, List};
     ghost use Rattle.std.specs.Vec.Iter.{into_iter_items};
-    ghost use Rattle.bdb_hash.specs.declared.place.Place.{Place};
+    ghost use Rattle.bdb_buckets.specs.declared.place.Place.{Place};
 
     ghost Value = { List Place };
 

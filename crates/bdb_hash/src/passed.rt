@@ -1,10 +1,11 @@
 ghost use Rattle.std.specs.Prelude.{◌≡◌, ◌||◌, ◌∷◌, ◌++◌, [], OnOk, false};
-ghost use Rattle.bdb_hash.specs.Chained.{AreAllOf, AreOf};
+ghost use Rattle.bdb_buckets.specs.Chained.{AreAllOf, AreOf};
 ghost use Rattle.bdb_hash.specs.Passed.{Passes};
-ghost use Rattle.bdb_hash.specs.Told.{joined_pages};
+ghost use Rattle.bdb_buckets.specs.Told.{joined_pages};
 
+use crate::Chains;
 use crate::rows::{home_of, note_pair};
-use crate::{BucketPages, Chains, PagePairs, Pair};
+use bdb_buckets::{BucketPages, PagePairs, Pair};
 use bdb_faults::FaultSink;
 use bdb_format::HashMeta;
 use std::alloc::{AllocError, Global};

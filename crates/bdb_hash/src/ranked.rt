@@ -1,12 +1,11 @@
 ghost use Rattle.std.specs.Prelude.{◌≡◌, ◌≤◌, IfOk, true, map};
 ghost use Rattle.std.specs.Iterator.{YieldsFirstBy, item_count};
-ghost use Rattle.bdb_hash.specs.Places.{ArePlaces, has_pair, told_at, told_on};
-ghost use Rattle.bdb_hash.specs.Views.{IsTable};
+ghost use Rattle.bdb_buckets.specs.Places.{ArePlaces, has_pair, told_at, told_on};
+ghost use Rattle.bdb_buckets.specs.Views.{IsTable};
 ghost use Rattle.bdb_format.specs.File.{file_of, page_at};
 
-use crate::Pair;
 use crate::near::Near;
-use crate::place::Place;
+use bdb_buckets::{Pair, Place};
 use bdb_form::PageView;
 use bdb_graph::Forest;
 use std::alloc::{AllocError, Global};
@@ -21,8 +20,8 @@ pub(crate) struct Ranked<'a> {
 
 impl<'a> Model for Ranked<'a> {
     ghost use Rattle.std.specs.Prelude.{List, map};
-    ghost use Rattle.bdb_hash.specs.Places.{ArePlaces, told_at};
-    ghost use Rattle.bdb_hash.specs.Told.{Told};
+    ghost use Rattle.bdb_buckets.specs.Places.{ArePlaces, told_at};
+    ghost use Rattle.bdb_buckets.specs.Told.{Told};
 
     ghost Value = { List Told };
 
@@ -49,7 +48,7 @@ impl<'a> Ranked<'a> {
 }
 
 /// The pair with this index of a hash page.
-#[tactic(auto, using(crate::proofs::PairLemmas::is_given))]
+#[tactic(auto, using(bdb_buckets::proofs::PairLemmas::is_given))]
 fn read_at<'a>(forest: &Forest<'a>, page: u32, index: u16) -> Pair<'a>
     requires table { IsTable forest.now }
     requires inside { page ≤ (file_of forest.now).last }

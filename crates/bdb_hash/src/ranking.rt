@@ -1,19 +1,18 @@
 ghost use Rattle.std.specs.Prelude.{◌≡◌, ◌+◌, ◌-◌, ◌^◌, [], IfOk, OnOk, length, min};
 ghost use Rattle.std.specs.List.Sorted.{IsPermutation, IsSortedBy};
 ghost use Rattle.bdb_image.specs.Linked.{HasMetadata};
-ghost use Rattle.bdb_hash.specs.Places.{Adds, AreAt, place_less};
+ghost use Rattle.bdb_buckets.specs.Places.{Adds, AreAt, place_less};
 ghost use Rattle.bdb_hash.specs.Scanned.{KeysDiffer, ranked};
-ghost use Rattle.bdb_hash.specs.Told.{joined_pages, table_told};
-ghost use Rattle.bdb_hash.specs.Views.{IsTable};
+ghost use Rattle.bdb_buckets.specs.Told.{joined_pages, table_told};
+ghost use Rattle.bdb_buckets.specs.Views.{IsTable};
 ghost use Rattle.bdb_format.specs.File.{file_of};
 ghost use Rattle.bdb_format.specs.Lists.{hash_list};
 ghost use Rattle.bdb_format.specs.Page.{HashFields};
 ghost use Rattle.bdb_format.specs.Verdict.{structure_faults};
 
-use crate::place::{Place, compare_places};
+use crate::Scan;
 use crate::ranked::Ranked;
-use crate::table::buckets;
-use crate::{BucketPages, PagePairs, Scan, bucket_pages};
+use bdb_buckets::{BucketPages, PagePairs, Place, bucket_pages, buckets, compare_places};
 use bdb_format::HashMeta;
 use bdb_graph::{Forest, Linked};
 use std::alloc::{AllocError, Global};

@@ -1,13 +1,13 @@
 ghost use Rattle.std.specs.Prelude.{◌≡◌, OnOk, false, map, nat_eq};
 ghost use Rattle.std.specs.List.{IsDistinct};
 ghost use Rattle.bdb_faults.specs.Notes.{Notes};
-ghost use Rattle.bdb_hash.specs.Chained.{AreAllOf, AreOf};
+ghost use Rattle.bdb_buckets.specs.Chained.{AreAllOf, AreOf};
 ghost use Rattle.bdb_hash.specs.Noted.{repeat_faults};
 ghost use Rattle.bdb_hash.specs.Passed.{NotesRepeats, key_hash};
-ghost use Rattle.bdb_hash.specs.Told.{joined_pages};
+ghost use Rattle.bdb_buckets.specs.Told.{joined_pages};
 
 use crate::seen::SeenKeys;
-use crate::{BucketPages, PagePairs};
+use bdb_buckets::{BucketPages, PagePairs};
 use bdb_faults::FaultSink;
 use bdb_graph::Forest;
 use std::alloc::{AllocError, Global};

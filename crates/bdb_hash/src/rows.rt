@@ -8,12 +8,12 @@ ghost use Rattle.bdb_format.specs.Flags.{has_duplicates, is_sorted};
 ghost use Rattle.bdb_format.specs.Hashing.{bucket};
 ghost use Rattle.bdb_format.specs.Page.{HashFields};
 
-use crate::{Chains, Data, Pair};
+use crate::Chains;
+use bdb_buckets::{Data, Pair};
 use bdb_faults::{ContentsRow, FaultSink, Row, note_if};
 use bdb_format::HashMeta;
 use bdb_layout::bucket_of;
 use bdb_overflow::is_less;
-pub(crate) use bdb_tree::is_wrong_root;
 use std::alloc::AllocError;
 
 /// Whether data ascend strictly.

@@ -1,10 +1,10 @@
 ghost use Rattle.std.specs.Prelude.{◌≡◌, ◌∷◌, [], OnOk, true};
 ghost use Rattle.bdb_overflow.specs.Keys.{has_key};
 ghost use Rattle.std.specs.BTreeSet.{IsEmpty};
-ghost use Rattle.bdb_hash.specs.Chained.{chain_value};
+ghost use Rattle.bdb_buckets.specs.Chained.{chain_value};
 ghost use Rattle.bdb_hash.specs.Passed.{NotesRepeats};
 
-use crate::Pair;
+use bdb_buckets::Pair;
 use bdb_faults::{ContentsRow, FaultSink, Row, note_if};
 use bdb_graph::Forest;
 use bdb_overflow::Keys;
@@ -30,7 +30,7 @@ impl Drop for SeenKeys<'_> {
 }
 
 impl<'a> Model for SeenKeys<'a> {
-    ghost use Rattle.bdb_hash.specs.Chained.{AreAmong, Seen};
+    ghost use Rattle.bdb_buckets.specs.Chained.{AreAmong, Seen};
 
     ghost Value = { Seen };
 

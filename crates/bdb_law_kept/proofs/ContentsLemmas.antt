@@ -23,7 +23,7 @@ use Rattle.bdb_image.specs.Linked.{HasMetadata, IsForest}
 use Rattle.bdb_btree.proofs.FallLemmas.{tree_keys}
 use Rattle.bdb_tree.proofs.PairLemmas.{tree_pair_inside}
 use Rattle.bdb_hash.proofs.PlainLemmas.{IsPlain, bucket_plain}
-use Rattle.bdb_hash.proofs.TableLemmas.{table_is}
+use Rattle.bdb_buckets.proofs.TableLemmas.{table_is}
 use Rattle.bdb_text_format.specs.Written.{holds_records}
 use Rattle.bdb_law_kept.proofs.KeyedLemmas.{GoesBefore, HasFitData, NoRowHolds, fit_data, in_order, of_by_key, of_listed, pairs_go, pairs_ordered}
 use Rattle.bdb_law_kept.proofs.KeyedLemmas.{table_goes}

@@ -1,7 +1,7 @@
 use Rattle.std.proofs.Common.{◌≡◌, ◌++◌, map}
-use Rattle.bdb_hash.specs.Chained.{AreAllOf}
+use Rattle.bdb_buckets.specs.Chained.{AreAllOf}
 use Rattle.bdb_hash.specs.Passed.{key_hash}
-use Rattle.bdb_hash.specs.Told.{joined_pages}
+use Rattle.bdb_buckets.specs.Told.{joined_pages}
 use Rattle.bdb_hash.proofs.hashes.push_bucket.Given as goal
 
 -- The hashes so far and those of the pages that are left are those of all.

@@ -1,5 +1,5 @@
 use Rattle.std.proofs.Common.{◌≡◌, ◌++◌, map}
-use Rattle.bdb_hash.specs.Chained.{AreOf}
+use Rattle.bdb_buckets.specs.Chained.{AreOf}
 use Rattle.bdb_hash.specs.Passed.{key_hash}
 use Rattle.bdb_hash.proofs.hashes.push_page.Given as goal
 

@@ -1,7 +1,7 @@
 use Rattle.std.proofs.Common.{◌≡◌, map}
 use Rattle.std.specs.List.{flat_map, range_with_len}
 use Rattle.bdb_hash.specs.Passed.{key_hash}
-use Rattle.bdb_hash.specs.Told.{bucket_told}
+use Rattle.bdb_buckets.specs.Told.{bucket_told}
 use Rattle.bdb_hash.proofs.hashes.table_hashes.Given as goal
 
 -- The hashes of the buckets so far.

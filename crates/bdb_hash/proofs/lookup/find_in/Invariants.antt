@@ -1,5 +1,5 @@
 use Rattle.std.proofs.Common.{◌+◌}
-use Rattle.bdb_hash.specs.Told.{IsSought, bucket_told}
+use Rattle.bdb_buckets.specs.Told.{IsSought, bucket_told}
 use Rattle.bdb_format.specs.File.{file_of}
 use Rattle.bdb_hash.proofs.lookup.find_in.Given as goal
 

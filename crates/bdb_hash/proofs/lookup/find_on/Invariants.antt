@@ -1,6 +1,6 @@
 use Rattle.std.proofs.Common.{◌≡◌}
 use Rattle.std.specs.List.{find}
-use Rattle.bdb_hash.specs.Told.{has_key}
+use Rattle.bdb_buckets.specs.Told.{has_key}
 use Rattle.bdb_hash.proofs.lookup.find_on.Given as goal
 
 -- No pair passed has the key.

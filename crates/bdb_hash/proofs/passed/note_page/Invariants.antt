@@ -1,5 +1,5 @@
 use Rattle.std.proofs.Common.{◌≡◌}
-use Rattle.bdb_hash.specs.Chained.{AreOf}
+use Rattle.bdb_buckets.specs.Chained.{AreOf}
 use Rattle.bdb_hash.specs.Passed.{IsPassing}
 use Rattle.bdb_hash.proofs.passed.note_page.Given as goal
 

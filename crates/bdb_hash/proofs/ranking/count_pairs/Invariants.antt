@@ -1,6 +1,6 @@
 use Rattle.std.proofs.Common.{◌≡◌, ◌-◌, ◌^◌, length, min}
 use Rattle.std.specs.List.{flat_map, range_with_len}
-use Rattle.bdb_hash.specs.Told.{bucket_told}
+use Rattle.bdb_buckets.specs.Told.{bucket_told}
 use Rattle.bdb_hash.proofs.ranking.count_pairs.Given as goal
 
 -- The pairs of the buckets so far.

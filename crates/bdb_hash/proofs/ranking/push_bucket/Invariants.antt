@@ -1,5 +1,5 @@
-use Rattle.bdb_hash.specs.Places.{IsCollected}
-use Rattle.bdb_hash.specs.Told.{joined_pages}
+use Rattle.bdb_buckets.specs.Places.{IsCollected}
+use Rattle.bdb_buckets.specs.Told.{joined_pages}
 use Rattle.bdb_hash.proofs.ranking.push_bucket.Given as goal
 
 -- The places of the pairs of the pages so far were added.

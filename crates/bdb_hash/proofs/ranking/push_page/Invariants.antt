@@ -1,4 +1,4 @@
-use Rattle.bdb_hash.specs.Places.{IsCollected}
+use Rattle.bdb_buckets.specs.Places.{IsCollected}
 use Rattle.bdb_hash.proofs.ranking.push_page.Given as goal
 
 -- The places of the pairs so far were added.

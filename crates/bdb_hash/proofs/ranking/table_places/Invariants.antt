@@ -1,6 +1,6 @@
 use Rattle.std.specs.List.{flat_map, range_with_len}
-use Rattle.bdb_hash.specs.Places.{AreAt}
-use Rattle.bdb_hash.specs.Told.{bucket_told}
+use Rattle.bdb_buckets.specs.Places.{AreAt}
+use Rattle.bdb_buckets.specs.Told.{bucket_told}
 use Rattle.bdb_hash.proofs.ranking.table_places.Given as goal
 
 -- The places of the pairs of the buckets so far.

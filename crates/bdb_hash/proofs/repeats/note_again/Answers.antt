@@ -1,4 +1,4 @@
-use Rattle.bdb_hash.specs.Told.{joined_pages}
+use Rattle.bdb_buckets.specs.Told.{joined_pages}
 use Rattle.bdb_hash.proofs.HashedLemmas.{no_repeat}
 use Rattle.bdb_hash.proofs.repeats.note_again.Goals as goal
 

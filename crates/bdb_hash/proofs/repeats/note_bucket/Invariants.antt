@@ -1,7 +1,7 @@
 use Rattle.std.proofs.Common.{◌≡◌}
-use Rattle.bdb_hash.specs.Chained.{AreAllOf}
+use Rattle.bdb_buckets.specs.Chained.{AreAllOf}
 use Rattle.bdb_hash.specs.Passed.{IsNoting}
-use Rattle.bdb_hash.specs.Told.{joined_pages}
+use Rattle.bdb_buckets.specs.Told.{joined_pages}
 use Rattle.bdb_hash.proofs.repeats.note_bucket.Given as goal
 
 -- All but those of the pages that are left are noted.

@@ -1,5 +1,5 @@
 use Rattle.std.proofs.Common.{◌≡◌}
-use Rattle.bdb_hash.specs.Chained.{AreOf}
+use Rattle.bdb_buckets.specs.Chained.{AreOf}
 use Rattle.bdb_hash.specs.Passed.{IsNoting}
 use Rattle.bdb_hash.proofs.repeats.note_page.Given as goal
 

@@ -1,8 +1,8 @@
 use Rattle.std.proofs.Common.{◌≡◌}
 use Rattle.std.specs.List.{filter}
-use Rattle.bdb_hash.specs.Chained.{AreAllOf}
+use Rattle.bdb_buckets.specs.Chained.{AreAllOf}
 use Rattle.bdb_hash.specs.Passed.{IsNoting, is_kept}
-use Rattle.bdb_hash.specs.Told.{joined_pages}
+use Rattle.bdb_buckets.specs.Told.{joined_pages}
 use Rattle.bdb_hash.proofs.strays.note_bucket.Given as goal
 
 -- All but those of the pages that are left are noted.

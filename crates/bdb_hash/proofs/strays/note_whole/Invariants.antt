@@ -1,7 +1,7 @@
 use Rattle.std.proofs.Common.{◌≡◌}
 use Rattle.std.specs.List.{filter, flat_map, range_with_len}
 use Rattle.bdb_hash.specs.Passed.{NotesRepeats, is_kept}
-use Rattle.bdb_hash.specs.Told.{bucket_told}
+use Rattle.bdb_buckets.specs.Told.{bucket_told}
 use Rattle.bdb_hash.proofs.strays.note_whole.Given as goal
 
 -- The pairs of the buckets so far are noted.

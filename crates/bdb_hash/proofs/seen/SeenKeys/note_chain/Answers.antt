@@ -3,7 +3,7 @@ use Rattle.bdb_faults.specs.Rows.{fault_at}
 use Rattle.bdb_faults.specs.declared.rows.ContentsRow.TheVariants.{KeyTwice}
 use Rattle.bdb_faults.specs.declared.rows.Row.TheVariants.{Contents}
 use Rattle.bdb_overflow.specs.Keys.{has_key}
-use Rattle.bdb_hash.specs.Chained.{Seen, chain_value}
+use Rattle.bdb_buckets.specs.Chained.{Seen, chain_value}
 use Rattle.bdb_hash.proofs.ChainedLemmas.{among_inserted, seen_noting}
 use Rattle.bdb_hash.proofs.seen.SeenKeys.note_chain.Goals as goal
 

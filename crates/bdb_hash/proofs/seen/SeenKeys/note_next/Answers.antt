@@ -1,6 +1,6 @@
 use Rattle.std.proofs.Common.{[], ◌∷◌, subst, ◌∙◌}
 use Rattle.bdb_overflow.specs.Datum.{datum_seen}
-use Rattle.bdb_hash.specs.Chained.{Seen}
+use Rattle.bdb_buckets.specs.Chained.{Seen}
 use Rattle.bdb_hash.specs.Passed.{NotesRepeats}
 use Rattle.bdb_hash.proofs.RepeatLemmas.{one_noted}
 use Rattle.bdb_hash.proofs.seen.SeenKeys.note_next.Goals as goal

@@ -3,7 +3,7 @@ use Rattle.std.specs.Prelude.{◌||◌}
 use Rattle.bdb_master.proofs.RepeatLemmas.{added_again}
 use Rattle.bdb_format.specs.File.{file_of}
 use Rattle.bdb_format.proofs.LessLemmas.{eq_self}
-use Rattle.bdb_hash.specs.Chained.{Seen}
+use Rattle.bdb_buckets.specs.Chained.{Seen}
 use Rattle.bdb_hash.proofs.ChainedLemmas.{among_inserted}
 use Rattle.bdb_overflow.specs.Datum.{datum_seen}
 use Rattle.bdb_overflow.specs.Held.{chain_value}

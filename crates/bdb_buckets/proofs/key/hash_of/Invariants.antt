@@ -1,0 +1,10 @@
+use Rattle.std.proofs.Common.{◌≡◌}
+use Rattle.std.specs.List.{fold}
+use Rattle.bdb_overflow.specs.Datum.{datum_seen}
+use Rattle.bdb_format.specs.Chains.{joined}
+use Rattle.bdb_format.specs.Hashing.{hash5, hash_step}
+use Rattle.bdb_buckets.proofs.key.hash_of.Given as goal
+
+-- The pieces that are left, after the hash of those passed.
+abbrev pub invariant-loop-piece : goal.invariant-loop-piece
+invariant-loop-piece l = fold hash_step l.hash (joined l.piece-iterator) ≡ hash5 (datum_seen l.fn.key)

@@ -1,0 +1,25 @@
+use Rattle.std.proofs.Common.{◌*◌, arith, ap, sym}
+use Rattle.bdb_format.specs.declared.metadata.Head.{Head}
+use Rattle.bdb_format.proofs.FileLemmas.{last_page}
+use Rattle.bdb_overflow.specs.Datum.{datum_seen}
+use Rattle.bdb_buckets.proofs.PairLemmas.{item_fits}
+use Rattle.bdb_buckets.proofs.PlaceKeyLemmas.{key_here, no_page}
+use Rattle.bdb_buckets.proofs.place.key_at.Goals as goal
+
+pub returns-then-place-head : goal.returns-then-place-head
+returns-then-place-head c =
+    no_page c.args.forest.now c.args.place.now (omega (arith, ap (λ (h : Head). h.last) c.head.ensures.head, last_page c.args.forest.now))
+
+pub page-requires : goal.page-requires
+page-requires c = omega (arith, ap (λ (h : Head). h.last) c.head.ensures.head, last_page c.args.forest.now)
+
+pub key_of-requires : goal.key_of-requires
+key_of-requires c =
+    item_fits c.args.forest.now c.args.place.now.page (2 * c.args.place.now.index) c.in-Hash.view c.key.result c.requires
+    (omega (arith, ap (λ (h : Head). h.last) c.head.ensures.head, last_page c.args.forest.now)) (sym c.in-Hash.ensures.page) c.key.ensures
+
+pub returns-in-Hash : goal.returns-in-Hash
+returns-in-Hash c =
+    key_here c.args.forest.now c.args.place.now c.in-Hash.view c.key.result (datum_seen c.key_of.result)
+    (omega (arith, ap (λ (h : Head). h.last) c.head.ensures.head, last_page c.args.forest.now)) (sym c.in-Hash.ensures.page)
+    (omega (arith, c.pairs.ensures)) c.key.ensures c.key_of.ensures

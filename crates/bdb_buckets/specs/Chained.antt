@@ -1,0 +1,57 @@
+-- Keys that are chains, by the heads of these: what is found of one is known for each pair that names it. Source: docs/FORMAT.md, "Items".
+use Rattle.std.specs.Prelude.{◌≡◌, ℕ, true, List, [], ◌∷◌, Option, Some, None}
+use Rattle.std.specs.BTreeMap.{BTreeMap, get}
+use Rattle.std.specs.BTreeSet.{BTreeSet, contains}
+use Rattle.std.specs.Ordering.{nat_cmp}
+use Rattle.bdb_overflow.specs.Keys.{has_key}
+use Rattle.bdb_format.specs.Chains.{joined, pieces_of}
+use Rattle.bdb_format.specs.File.{file_of}
+use Rattle.bdb_format.specs.Hashing.{hash5}
+use Rattle.bdb_format.specs.Page.{Content, Inline, Set, Chain, Tree, Unknown}
+use Rattle.bdb_buckets.specs.Places.{IsRead}
+use Rattle.bdb_buckets.specs.Told.{Told}
+
+-- these pairs stand in the file of this image
+abbrev pub AreOf : List ℕ → List Told → Type 0
+AreOf image [] = Unit {0}
+AreOf image (t ∷ ts) = (t.image ≡ image) × AreOf image ts
+
+-- and so do those of these pages
+abbrev pub AreAllOf : List ℕ → List (List Told) → Type 0
+AreAllOf image [] = Unit {0}
+AreAllOf image (page ∷ pages) = AreOf image page × AreAllOf image pages
+
+-- the value of the chain with this head
+abbrev pub chain_value : List ℕ → ℕ → List ℕ
+chain_value image head = joined (pieces_of (file_of image) head)
+
+-- the head of a chain that an item is, if it's one
+abbrev pub chain_head : Content → Option ℕ
+chain_head (Chain head total) = Some head
+chain_head (Inline bytes) = None
+chain_head (Set blocks) = None
+chain_head (Tree root) = None
+chain_head Unknown = None
+
+-- the key of a pair is the chain with this head, if it has one
+abbrev pub IsHeaded : Option ℕ → Told → Type 0
+IsHeaded None t = Unit {0}
+IsHeaded (Some head) t = t.pair.key ≡ chain_value t.image head
+
+-- what the code knows of a pair that it has read, with the head of its key
+pub record IsKeyed (head : Option ℕ) (p i : ℕ) (t : Told) : Type 0 where
+  pub read : IsRead p i t
+  pub headed : IsHeaded head t
+
+-- these are hashes of chains, by their heads
+pub record AreHashes (image : List ℕ) (hashes : BTreeMap ℕ ℕ) : Type 0 where
+  pub each : (head hash : ℕ) → get nat_cmp hashes head ≡ Some hash → hash ≡ hash5 (chain_value image head)
+
+-- keys that were seen, in the file of an image
+pub record Seen : Type 0 where
+  pub image : List ℕ
+  pub keys : BTreeSet (List ℕ)
+
+-- the chains with these heads are among the keys
+pub record AreAmong (seen : Seen) (heads : BTreeSet ℕ) : Type 0 where
+  pub each : (head : ℕ) → contains nat_cmp heads head ≡ true → has_key seen.keys (chain_value seen.image head) ≡ true

@@ -1,0 +1,23 @@
+ghost use Rattle.std.specs.Prelude.{◌≡◌};
+ghost use Rattle.bdb_overflow.specs.Datum.{datum_seen};
+ghost use Rattle.bdb_format.specs.Hashing.{hash5};
+
+use bdb_layout::{hash5, hash5_after};
+use bdb_overflow::Datum;
+
+/// The hash of a key.
+#[inline(always)]
+pub fn hash_of(key: &Datum<'_>) -> u32
+    ensures { result ≡ hash5 (datum_seen key.now) }
+{
+    match key {
+        Datum::Inline(bytes) => hash5(bytes),
+        Datum::Chained(pieces) => {
+            let mut hash = 0;
+            for piece in pieces.again() {
+                hash = hash5_after(hash, piece);
+            }
+            hash
+        }
+    }
+}

@@ -1,0 +1,18 @@
+//! The pairs of a hash table, bucket by bucket.
+#![tactic(auto)]
+
+mod bucket;
+mod data;
+mod key;
+mod pair;
+mod pairs;
+mod place;
+mod table;
+
+pub use bucket::{BucketPages, bucket_pages};
+pub use data::Data;
+pub use key::hash_of;
+pub use pair::Pair;
+pub use pairs::PagePairs;
+pub use place::{Place, compare_places};
+pub use table::buckets;

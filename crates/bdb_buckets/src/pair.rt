@@ -1,0 +1,201 @@
+ghost use Rattle.std.specs.Prelude.{◌≡◌, IfSome};
+ghost use Rattle.bdb_form.specs.Pairs.{pair_seen};
+ghost use Rattle.bdb_overflow.specs.Datum.{FitsContent, datum_seen};
+ghost use Rattle.bdb_buckets.specs.Chained.{chain_head, chain_value};
+ghost use Rattle.bdb_buckets.specs.Places.{IsAt, IsGiven};
+ghost use Rattle.bdb_buckets.specs.Told.{entry_list, has_key, listed_told, told_pair};
+ghost use Rattle.bdb_buckets.specs.Views.{IsPair};
+ghost use Rattle.bdb_layout.specs.Seen.{hash_content_seen, hash_item_seen};
+ghost use Rattle.bdb_format.specs.Chains.{value_of};
+ghost use Rattle.bdb_format.specs.ContentRows.{is_duplicate, is_wrong_set};
+ghost use Rattle.bdb_format.specs.Contents.{data_of};
+ghost use Rattle.bdb_format.specs.File.{file_of};
+ghost use Rattle.bdb_format.specs.Page.{Tree};
+
+use crate::Data;
+use crate::place::Place;
+use bdb_graph::Forest;
+use bdb_layout::HashItem;
+use bdb_overflow::{Datum, hash_datum, is_same, prefix};
+use bdb_tree::is_wrong_root;
+use std::marker::Model;
+
+/// A pair of a hash page, with its key.
+pub struct Pair<'a> {
+    forest: Forest<'a>,
+    page: u32,
+    index: u16,
+    // The head of the key's chain, if it's one.
+    head: Option<u32>,
+    key: Datum<'a>,
+    item: HashItem<'a>,
+}
+
+impl Drop for Pair<'_> {
+    #[inline(always)]
+    fn drop(self) {
+        let Pair {
+            forest: _forest,
+            page: _page,
+            index: _index,
+            head: _head,
+            key: _key,
+            item: _item,
+        } = self;
+    }
+}
+
+impl<'a> Model for Pair<'a> {
+    ghost use Rattle.bdb_overflow.specs.Datum.{datum_seen};
+    ghost use Rattle.bdb_buckets.specs.Told.{Told, told_as};
+    ghost use Rattle.bdb_buckets.specs.Chained.{IsKeyed};
+    ghost use Rattle.bdb_layout.specs.Seen.{hash_content_seen};
+
+    ghost Value = { Told };
+
+    ghost view = { λ it. told_as it.forest it.page (datum_seen it.key) (hash_content_seen it.item) };
+
+    ghost invariant = { λ it. IsKeyed it.head it.page it.index (told_as it.forest it.page (datum_seen it.key) (hash_content_seen it.item)) };
+}
+
+/// The value of a key, which is never a set.
+#[inline(always)]
+#[tactic(auto, using(crate::proofs::PairLemmas::no_single, crate::proofs::PairLemmas::single))]
+pub(crate) fn key_of<'a>(forest: &Forest<'a>, item: &HashItem<'a>) -> Datum<'a>
+    requires { FitsContent (file_of forest.now) (hash_content_seen item.now) }
+    ensures { datum_seen result ≡ value_of (file_of forest.now) (hash_content_seen item.now) }
+{
+    match hash_datum(forest, item) {
+        Some(key) => key,
+        None => Datum::Inline(&[]),
+    }
+}
+
+/// The head of the chain that an item is, if it's one.
+fn head_of(item: &HashItem<'_>) -> Option<u32>
+    ensures { result ≡ chain_head (hash_content_seen item.now) }
+{
+    match item {
+        HashItem::Overflow { head, .. } => Some(*head),
+        HashItem::Inline(_) | HashItem::Set(_) | HashItem::OffPage { .. } => None,
+    }
+}
+
+impl<'a> Pair<'a> {
+    /// A pair as the view of its page gives it.
+    #[inline(always)]
+    pub fn of(forest: &Forest<'a>, page: u32, pair: bdb_form::Pair<HashItem<'a>>) -> Pair<'a>
+        requires { IsGiven forest.now page (pair_seen hash_item_seen pair) }
+        ensures { result ≡ told_pair forest.now page (pair_seen hash_item_seen pair.entry) }
+    {
+        Pair {
+            forest: forest.again(),
+            page,
+            index: pair.index,
+            head: head_of(&pair.key),
+            key: key_of(forest, &pair.key),
+            item: pair.value,
+        }
+    }
+
+    /// The page that it stands on.
+    pub fn page(&self) -> u32
+        ensures { result ≡ self.now.pair.page }
+    {
+        self.page
+    }
+
+    /// Where it stands.
+    pub fn place(&self) -> Place
+        ensures { IsAt result self.now }
+    {
+        Place {
+            first: prefix(&self.key),
+            page: self.page,
+            index: self.index,
+        }
+    }
+
+    /// The head of its key's chain, if the key is one.
+    pub fn head(&self) -> Option<u32>
+        ensures { IfSome result (λ head. self.now.pair.key ≡ chain_value self.now.image head) }
+    {
+        self.head
+    }
+
+    /// Its key.
+    pub fn key(&self) -> &Datum<'a>
+        ensures { datum_seen result.now ≡ self.now.pair.key }
+    {
+        &self.key
+    }
+}
+
+impl<'a> Pair<'a> {
+    /// Its data.
+    pub fn into_data(self) -> Data<'a>
+        ensures { result ≡ data_of (file_of self.entry.image) self.entry.pair.data_item }
+    {
+        let Pair {
+            forest,
+            page: _page,
+            index: _index,
+            head: _head,
+            key: _key,
+            item,
+        } = self;
+        Data::of_item(&forest, item)
+    }
+}
+
+impl<'a> Pair<'a> {
+    /// Whether it has this key.
+    pub fn has_key(&self, key: &[u8]) -> bool
+        ensures { result ≡ has_key key.now self.now }
+    {
+        is_same(&self.key, &Datum::Inline(key))
+    }
+
+    /// Its key, and its data.
+    pub fn into_entry(self) -> (Datum<'a>, Data<'a>)
+        ensures { entry_list (datum_seen result.0) result.1 ≡ listed_told self.entry }
+    {
+        let Pair {
+            forest,
+            page: _page,
+            index: _index,
+            head: _head,
+            key,
+            item,
+        } = self;
+        (key, Data::of_item(&forest, item))
+    }
+
+    /// Whether its data are a set.
+    pub fn is_duplicate(&self) -> bool
+        ensures { result ≡ is_duplicate self.now.pair }
+    {
+        matches!(self.item, HashItem::Set(_) | HashItem::OffPage { .. })
+    }
+
+    /// The root of its data, if they are a set off the page.
+    pub fn set_root(&self) -> Option<u32>
+        ensures set { IfSome result (λ root. self.now.pair.data_item ≡ Tree root) }
+        ensures pair { IsPair self.now.image self.now.pair.data_item }
+    {
+        match self.item {
+            HashItem::OffPage { root } => Some(root),
+            _ => None,
+        }
+    }
+
+    /// Whether its data are a set off the page that isn't of the kind that the table has.
+    pub fn is_wrong_set(&self, sorted: bool) -> bool
+        ensures { result ≡ is_wrong_set (file_of self.now.image) sorted self.now.pair.data_item }
+    {
+        match self.item {
+            HashItem::OffPage { root } => is_wrong_root(&self.forest.page(root), sorted),
+            _ => false,
+        }
+    }
+}

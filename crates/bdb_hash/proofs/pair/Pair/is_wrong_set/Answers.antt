@@ -1,5 +1,0 @@
-use Rattle.bdb_hash.proofs.PairLemmas.{set_inside}
-use Rattle.bdb_hash.proofs.pair.Pair.is_wrong_set.Goals as goal
-
-pub page-requires : goal.page-requires
-page-requires c = set_inside c.self.inside.forest c.in-OffPage.root (rw c.in-OffPage.is at c.self.invariant.read.pair)
