@@ -12,7 +12,7 @@ grow longer, one by one: seconds of user time. `dump` stands beside `db5.3_dump 
 memory. `range` stands beside `verify`, `get` and `dump`, on a btree of a million pairs: of ten pairs, of a thousand and of all. `load` stands beside `db5.3_load`, on the texts that `dump` gives of such files and of files with a quarter of the items, and on those of a btree and a hash with their pairs in no order. `convert` stands beside `verify` and a copy by `cat`, on a file of each kind, and `stat` beside `verify` and `db5.3_stat -f`: seconds of user time, and of user and system time, of runs by turns. `salvage` stands beside
 `db5.3_dump -r`, on the files of `kinds`, and on each of them with every hundredth page overwritten by other bytes: seconds of user time,
 peak memory, and how many pairs or records each gives. `repair` stands beside `salvage | load`, on the same files: user time of both commands of the pipe together, and the greater peak. `before` has `verify` of two programs by turns, on the files of `kinds` and `chains` and on the
-files of `verify` that have a million pairs: the least user and system time of each, and their ratio. Where the program or the library's tools are missing, nothing is
+files of `verify` that have a million pairs, and `dump` of both on the files of `dump`: the least user and system time of each, and their ratio. Where the program or the library's tools are missing, nothing is
 timed. docs/BENCH.md says how to read the tables.
 """
 import itertools
@@ -56,6 +56,7 @@ FREE_PAGES = 18_000
 
 # `before`
 TURNS = 15
+DUMP_TURNS = 7
 BEFORE_COLUMNS = ("File", "Bytes of the file", "Program", "Before", "Ratio")
 
 # `dump`
@@ -256,14 +257,14 @@ def least(words, image, before=lambda: None):
     return Spent(min(run.user for run in runs), min(run.peak for run in runs))
 
 
-def turns(commands, image):
+def turns(commands, image, count=TURNS):
     """What each of some commands took, which run by turns: so what else the machine does falls on all of them alike."""
-    return list(zip(*([spent(words, image) for words in commands] for _ in range(TURNS))))
+    return list(zip(*([spent(words, image) for words in commands] for _ in range(count))))
 
 
-def by_turns(commands, image):
+def by_turns(commands, image, count=TURNS):
     """The least processor time of each of some commands, which run by turns, and its least peak."""
-    return [(min(run.processor() for run in runs), min(run.peak for run in runs)) for runs in turns(commands, image)]
+    return [(min(run.processor() for run in runs), min(run.peak for run in runs)) for runs in turns(commands, image, count)]
 
 
 def samples(share=1):
@@ -603,12 +604,21 @@ def growing(folder):
         yield f"{kind}, data of 0 to 63", make(f"{kind}-{MILLION}", kind, pairs(MILLION, 0), folder)
 
 
+def print_before(name, command, program, before, image, count):
+    """A row of the table of two programs: a command on a file, run by turns so often."""
+    (own, _), (other, _) = by_turns(([program, command], [before, command]), image, count)
+    print_row([f"`{command}`, {name}", f"{image.stat().st_size:,}", f"{own:.3g}", f"{other:.3g}", f"{own / max(other, 0.001):.3f}"])
+
+
 def time_before(program, before, folder):
     """The table of two programs. They run by turns, so that other work on the machine slows both."""
     print_head(BEFORE_COLUMNS)
     for name, image in itertools.chain(kinds(folder), growing(folder), chains(folder)):
-        (own, _), (other, _) = by_turns(([program, "verify"], [before, "verify"]), image)
-        print_row([name, f"{image.stat().st_size:,}", f"{own:.3g}", f"{other:.3g}", f"{own / max(other, 0.001):.3f}"])
+        print_before(name, "verify", program, before, image, TURNS)
+        image.unlink()
+    for sample in samples():
+        image = make(sample.name, sample.kind, sample.lines, folder)
+        print_before(sample.name, "dump", program, before, image, DUMP_TURNS)
         image.unlink()
 
 
