@@ -54,9 +54,9 @@ SMALL_PAGE = 512
 CHAINS = (50_000, 100_000, 200_000, 500_000)
 FREE_PAGES = 18_000
 
-# `before`
+# `before`, and `dump`
 TURNS = 15
-DUMP_TURNS = 7
+DUMP_TURNS = 5
 BEFORE_COLUMNS = ("File", "Bytes of the file", "Program", "Before", "Ratio")
 
 # `dump`
@@ -283,7 +283,8 @@ def print_dump(program, sample, folder):
     """A row of the table of `dump`."""
     image = make(sample.name, sample.kind, sample.lines, folder)
     size = image.stat().st_size
-    own, original = least([program, "dump"], image), least(["db5.3_dump", "-k", image], image)
+    runs = turns(([program, "dump"], ["db5.3_dump", "-k", image]), image, DUMP_TURNS)
+    own, original = (Spent(min(run.user for run in those), min(run.peak for run in those)) for those in runs)
     image.unlink()
     times = [f"{own.user:.3g}", f"{original.user:.3g}", f"{own.user / original.user:.3g}"]
     above = max(0, own.peak - 1.3 * size) / sample.items

@@ -6,8 +6,9 @@ usage: check_memory.py [PROGRAM]
 PROGRAM is the built program bdbtool; without it, crates/bdbtool/out/bdbtool. An allocator that refuses its call number K, alone or with every call after
 it, is compiled with gcc and preloaded. Each command runs on inputs for which it ends with status 0, and `verify` and `list` also on files with several faults
 or a case that is left out, for K from 1 up to the first run in which no call is refused. In each run before that the status is 7, the error output is
-`out of memory` alone, and the output is a beginning of that of the whole run. Prints a line for each run that is otherwise, and then for each command how
-many calls were refused; the exit status is 1 where a run is otherwise. Without gcc nothing is asked.
+`out of memory` alone, and the output is a beginning of that of the whole run; or, where one call alone is refused, all is as in the whole run: room that
+is taken beforehand is done without. Prints a line for each run that is otherwise, and then for each command how many calls were refused, and how many of
+those alone were done without; the exit status is 1 where a run is otherwise. Without gcc nothing is asked.
 """
 import pathlib
 import shutil
@@ -103,16 +104,19 @@ def run(program, words, file, settings):
 
 
 def refused_calls(program, words, file, status, settings, told):
-    """How many calls of a run can be refused, and what each run that is otherwise gave."""
+    """How many calls of a run can be refused, how many were done without, and what each run that is otherwise gave."""
     whole = run(program, words, file, {})
+    without = 0
     wrong = [] if whole.returncode == status else [f"without a refusal: {whole.returncode} {whole.stderr!r}"]
     number = 1
     while True:
         told.unlink(missing_ok=True)
         ran = run(program, words, file, {**settings, "REFUSED": str(number), "TOLD": str(told)})
         if not told.exists():
-            return number - 1, wrong
-        if (ran.returncode, ran.stderr) != (MEMORY, b"out of memory\n") or not whole.stdout.startswith(ran.stdout):
+            return number - 1, without, wrong
+        if "ALL" not in settings and (ran.returncode, ran.stderr, ran.stdout) == (whole.returncode, whole.stderr, whole.stdout):
+            without += 1
+        elif (ran.returncode, ran.stderr) != (MEMORY, b"out of memory\n") or not whole.stdout.startswith(ran.stdout):
             wrong.append(f"call {number}: {ran.returncode} {ran.stderr!r}, {len(ran.stdout)} bytes")
         number += 1
 
@@ -127,14 +131,15 @@ def main(words):
         folder = pathlib.Path(folder)
         settings = {"LD_PRELOAD": str(built(folder))}
         for given, file, status in COMMANDS:
-            counts = []
+            counts, spared = [], 0
             for more in ({}, {"ALL": "1"}):
-                count, wrong = refused_calls(program, given, file, status, {**settings, **more}, folder / "told")
+                count, without, wrong = refused_calls(program, given, file, status, {**settings, **more}, folder / "told")
                 counts.append(count)
+                spared += without
                 otherwise += len(wrong)
                 for line in wrong:
                     print(f"{' '.join(given)} < {file.name if file else '-'}: {line}")
-            print(f"{' '.join(given)} < {file.name if file else '-'}: {counts[0]} calls refused alone, {counts[1]} with all that follow")
+            print(f"{' '.join(given)} < {file.name if file else '-'}: {counts[0]} calls refused alone, {spared} of them done without, {counts[1]} with all that follow")
     print(f"{otherwise} otherwise")
     return 1 if otherwise else 0
 
