@@ -137,8 +137,7 @@ impl<'k, K: Sink> Printer<'k, K> {
     }
 
     /// Prints what is salvaged.
-    #[tactic(auto, using(crate::proofs::PrinterLemmas::then_adds, crate::proofs::PrinterLemmas::adds_cut),
-        unfolding(bdb_rescue::specs::SalvageText::salvage_text))]
+    #[tactic(auto, using(crate::proofs::PrinterLemmas::then_adds, crate::proofs::PrinterLemmas::adds_cut), unfolding(bdb_rescue::specs::SalvageText::salvage_text))]
     fn salvaged(&mut self, salvaged: &Salvaged<'_>, print: bool) -> Result<(), Cut>
         requires { length salvaged.now.image ≤ 2 ^ 30 }
         ensures { Adds K.written K.faults self.old self.new (salvage_text print salvaged.now.guess salvaged.now.image) result }

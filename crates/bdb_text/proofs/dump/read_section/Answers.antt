@@ -18,7 +18,7 @@ returns-in_err-header-clause-err c =
     let is : c.from_residual.result ≡ Err error = search rules in
     rw is
     (on_more (IsHeaderFault c.cut_line-first.result.rest.now (c.args.start + 1)) (IsSectionFault (names_of c.args.earlier.now) c.args.text.now c.args.start)
-        error
+    error
     (λ fault is. header_fault (names_of c.args.earlier.now) c.args.text.now c.cut_line-first.result.line.now c.cut_line-first.result.rest.now c.args.start fault
     c.cut_line-first.ensures.lines
     c.in_default.ensures is)
@@ -29,7 +29,7 @@ returns-in-Some-end_reason-clause-err c =
     let named = rw c.deref.ensures.value at c.in_ok-name.ensures.ok in
     let reason = rw c.deref-2.ensures.value at c.in-Some-end_reason.ensures in
     end_fault_is (names_of c.args.earlier.now) c.args.text.now c.cut_line-first.result.line.now c.cut_line-first.result.rest.now c.args.start
-        c.in_ok-header.header
+    c.in_ok-header.header
     c.in_ok-name.name
     c.in-Some-end_reason.reason c.cut_line-first.ensures.lines c.in_default.ensures c.in_ok-header.ensures.ok named reason
 
@@ -55,6 +55,6 @@ returns-clause-ok c =
     let read = rw c.deref-3.ensures.value at c.in_ok-data.ensures.ok in
     let settings = rw c.deref-4.ensures.value at c.settings_in.ensures in
     section_is_read (names_of c.args.earlier.now) c.args.text.now c.cut_line-first.result.line.now c.cut_line-first.result.rest.now c.args.start
-        c.in_ok-header.header
+    c.in_ok-header.header
     c.in_ok-name.name _
     c.in_ok-data.data c.cut_line-first.ensures.lines c.in_default.ensures c.in_ok-header.ensures.ok named none read (rw settings refl) refl refl
