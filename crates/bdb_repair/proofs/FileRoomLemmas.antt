@@ -23,7 +23,7 @@ use Rattle.bdb_need.specs.TreePages.{tree_pages}
 use Rattle.bdb_need.specs.Need.{need_of, section_pages}
 use Rattle.bdb_need.proofs.NeedLemmas.{listed_again}
 use Rattle.bdb_mkfile.specs.Builds.{image_size}
-use Rattle.bdb_rescue.specs.SalvageText.{loose_settings, stored_settings}
+use Rattle.bdb_rescue.specs.Text.{loose_settings, stored_settings}
 use Rattle.bdb_survey.specs.declared.guess.Guess.{Guess}
 use Rattle.bdb_survey.specs.Salvage.{loose, salvaged_file, stored}
 use Rattle.bdb_model.specs.declared.shape.Duplicates.TheVariants.{No, Unsorted, Sorted}

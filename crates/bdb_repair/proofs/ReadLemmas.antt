@@ -27,8 +27,8 @@ use Rattle.bdb_text.proofs.WrittenLemmas.{section_of, sections_of, written_are_t
 use Rattle.bdb_law_kept.proofs.BytesLemmas.{FileHoldsBytes}
 use Rattle.bdb_law_kept.proofs.LaterLemmas.{of_enumerate}
 use Rattle.bdb_rescue.proofs.LooseCountLemmas.{loose_few}
-use Rattle.bdb_rescue.specs.SalvageText.{bytes_pair, loose_section as loose_text, loose_settings, numbered_record, salvage_text}
-use Rattle.bdb_rescue.specs.SalvageText.{stored_section as stored_text, stored_settings}
+use Rattle.bdb_rescue.specs.Text.{bytes_pair, loose_section as loose_text, loose_settings, numbered_record, salvage_text}
+use Rattle.bdb_rescue.specs.Text.{stored_section as stored_text, stored_settings}
 use Rattle.bdb_survey.specs.declared.guess.Guess.{Guess}
 use Rattle.bdb_survey.specs.Salvage.{loose, salvaged_file, stored}
 use Rattle.bdb_repair.specs.Parts.{loose_pair, loose_part, loose_section, stored_pair, stored_pairs, stored_section}

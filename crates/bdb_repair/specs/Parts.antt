@@ -5,7 +5,7 @@ use Rattle.bdb_format.specs.File.{File}
 use Rattle.bdb_text_format.specs.declared.pairs.Key.TheVariants.{Bytes, Number}
 use Rattle.bdb_text_format.specs.declared.pairs.TextPair.{TextPair}
 use Rattle.bdb_text_format.specs.declared.sections.Section.{Section}
-use Rattle.bdb_rescue.specs.SalvageText.{loose_settings, stored_settings}
+use Rattle.bdb_rescue.specs.Text.{loose_settings, stored_settings}
 use Rattle.bdb_model.specs.declared.shape.Shape.{Shape}
 use Rattle.bdb_model.specs.declared.shape.Shape.TheVariants.{Btree as BtreeShape, Hash as HashShape, Recno as RecnoShape}
 use Rattle.bdb_repair.specs.Shapes.{shaped_settings}

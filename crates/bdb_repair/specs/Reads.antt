@@ -7,7 +7,7 @@ use Rattle.bdb_text_format.specs.Sections.{Reads}
 use Rattle.bdb_text.specs.WrittenLaw.{AreBytes}
 use Rattle.bdb_settle.specs.LoadErrors.{load_error}
 use Rattle.bdb_mkfile.specs.Builds.{Builds}
-use Rattle.bdb_rescue.specs.SalvageText.{salvage_text}
+use Rattle.bdb_rescue.specs.Text.{salvage_text}
 use Rattle.bdb_repair.specs.Parts.{repair_sections}
 use Rattle.bdb_survey.specs.declared.guess.Guess.{Guess}
 

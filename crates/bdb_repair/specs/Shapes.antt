@@ -3,7 +3,7 @@ use Rattle.std.specs.Prelude.{Bool, true, false}
 use Rattle.bdb_format.specs.declared.kinds.Kind.{Kind}
 use Rattle.bdb_format.specs.declared.kinds.Kind.TheVariants.{Btree, Hash, Recno}
 use Rattle.bdb_format.specs.declared.settings.Settings.{Settings}
-use Rattle.bdb_rescue.specs.SalvageText.{loose_settings}
+use Rattle.bdb_rescue.specs.Text.{loose_settings}
 use Rattle.bdb_model.specs.declared.shape.Duplicates.{Duplicates}
 use Rattle.bdb_model.specs.declared.shape.Duplicates.TheVariants.{No, Unsorted, Sorted}
 use Rattle.bdb_model.specs.declared.shape.Shape.{Shape}

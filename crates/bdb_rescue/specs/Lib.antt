@@ -2,4 +2,4 @@ pub mod Entries
 pub mod Guesses
 pub mod Kept
 pub mod Marks
-pub mod SalvageText
+pub mod Text

@@ -27,7 +27,7 @@ use Rattle.bdb_file.specs.Whole.{IsVerdictBy, IsVerdictOf}
 use Rattle.bdb_file.specs.declared.rows.Rows.{Rows}
 use Rattle.bdb_file.specs.declared.rows.Rows.TheVariants.{All}
 use Rattle.bdb_file.proofs.RowsLemmas.{all_are_of_all, no_verdict}
-use Rattle.bdb_rescue.specs.SalvageText.{salvage_text}
+use Rattle.bdb_rescue.specs.Text.{salvage_text}
 use Rattle.bdb_rescue.specs.Guesses.{chosen}
 use Rattle.bdb_survey.specs.declared.guess.Guess.{Guess}
 use Rattle.bdb_text_format.specs.TextSpelling.{bytes_spelled}

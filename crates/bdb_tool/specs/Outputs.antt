@@ -10,7 +10,7 @@ use Rattle.bdb_model.specs.Answers.{Answer, done, told, too_large_line}
 use Rattle.bdb_tool.specs.FileAnswers.{judged_answer, sound_answer}
 use Rattle.bdb_model.specs.Change.{Change, Gains, GainsPart, Stays}
 use Rattle.bdb_text_format.specs.LineEnd.{line}
-use Rattle.bdb_rescue.specs.SalvageText.{salvage_text}
+use Rattle.bdb_rescue.specs.Text.{salvage_text}
 use Rattle.bdb_mkfile.specs.Builds.{image_size}
 use Rattle.bdb_repair.specs.Parts.{repair_sections}
 use Rattle.bdb_model.specs.declared.shape.Shape.{Shape}

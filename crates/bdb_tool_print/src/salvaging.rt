@@ -7,8 +7,8 @@ ghost use Rattle.bdb_text_format.specs.Written.{data_end, section_text};
 ghost use Rattle.bdb_overflow.specs.Datum.{datum_seen};
 ghost use Rattle.bdb_tool_print.specs.Printers.{Adds, pair_text};
 ghost use Rattle.bdb_tool_lines.specs.Printing.{Writes};
-ghost use Rattle.bdb_rescue.specs.SalvageText.{bytes_pair, loose_section, loose_settings, numbered_record, salvage_text};
-ghost use Rattle.bdb_rescue.specs.SalvageText.{stored_section, stored_settings};
+ghost use Rattle.bdb_rescue.specs.Text.{bytes_pair, loose_section, loose_settings, numbered_record, salvage_text};
+ghost use Rattle.bdb_rescue.specs.Text.{stored_section, stored_settings};
 ghost use Rattle.bdb_rescue.specs.Kept.{file_in};
 ghost use Rattle.bdb_survey.specs.Salvage.{loose};
 
@@ -137,7 +137,7 @@ impl<'k, K: Sink> Printer<'k, K> {
     }
 
     /// Prints what is salvaged.
-    #[tactic(auto, using(crate::proofs::PrinterLemmas::then_adds, crate::proofs::PrinterLemmas::adds_cut), unfolding(bdb_rescue::specs::SalvageText::salvage_text))]
+    #[tactic(auto, using(crate::proofs::PrinterLemmas::then_adds, crate::proofs::PrinterLemmas::adds_cut), unfolding(bdb_rescue::specs::Text::salvage_text))]
     fn salvaged(&mut self, salvaged: &Salvaged<'_>, print: bool) -> Result<(), Cut>
         requires { length salvaged.now.image ≤ 2 ^ 30 }
         ensures { Adds K.written K.faults self.old self.new (salvage_text print salvaged.now.guess salvaged.now.image) result }

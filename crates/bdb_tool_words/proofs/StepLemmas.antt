@@ -10,7 +10,8 @@ use Rattle.std.proofs.lemmas.Slice.Eq.{bytes_eq-Decides}
 use Rattle.bdb_model.specs.Command.{Arguments, OptionRow, WordKind, End, Operand, Plain, Valued, Unknown, arguments, arguments_behind, is_option, only_operands}
 use Rattle.bdb_model.specs.Command.{option_kind, row_of, with_option, word_kind}
 use Rattle.bdb_tool_words.specs.declared.options.OptionWord.{OptionWord}
-use Rattle.bdb_tool_words.specs.declared.options.OptionWord.TheVariants.{MaxBytes as MaxBytesWord, Name as NameWord, Order as OrderWord, PageSize as PageSizeWord}
+use Rattle.bdb_tool_words.specs.declared.options.OptionWord.TheVariants.{MaxBytes as MaxBytesWord, Name as NameWord, Order as OrderWord}
+use Rattle.bdb_tool_words.specs.declared.options.OptionWord.TheVariants.{PageSize as PageSizeWord}
 use Rattle.bdb_tool_words.specs.declared.options.OptionWord.TheVariants.{As as AsWord, Onto as OntoWord, Hex as HexWord, Print as PrintWord}
 use Rattle.bdb_tool_words.specs.declared.options.OptionWord.TheVariants.{AnyOrder as AnyOrderWord, Duplicates as DuplicatesWord, Dupsort as DupsortWord}
 use Rattle.bdb_tool_words.specs.declared.options.GivenOption.{GivenOption}

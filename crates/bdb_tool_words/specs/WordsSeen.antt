@@ -4,7 +4,8 @@ use Rattle.std.specs.Prelude.{MatchOption, None, option_copied, ⊤}
 use Rattle.bdb_file.specs.declared.rows.Rows.TheVariants.{All}
 use Rattle.bdb_format.specs.HeadOf.{is_page_size}
 use Rattle.bdb_tool_words.specs.Commands.{Action, Command, CommandRow, Convert, ListAll, Load, LoadOnto, Repair, Request, Salvage, Stat, Trial, Verify}
-use Rattle.bdb_tool_words.specs.Commands.{any_order_option, any_order_row, as_option, as_row, asking, bounds_request, command_by, command_of, convert_row, dump_row}
+use Rattle.bdb_tool_words.specs.Commands.{any_order_option, any_order_row, as_option, as_row, asking, bounds_request, command_by, command_of, convert_row}
+use Rattle.bdb_tool_words.specs.Commands.{dump_row}
 use Rattle.bdb_tool_words.specs.Commands.{duplicates_option, duplicates_row, dupsort_option, dupsort_row, get_row, key_request, list_row, load_row, onto_option}
 use Rattle.bdb_tool_words.specs.Commands.{onto_row, order_option, order_row, page_size_option, page_size_row, range_row, repair_row, salvage_row, stat_row}
 use Rattle.bdb_tool_words.specs.Commands.{text_request, trial_row, verify_row, within}
@@ -12,7 +13,8 @@ use Rattle.bdb_model.specs.Command.{Arguments, Given, OptionRow, arguments, aske
 use Rattle.bdb_model.specs.Command.{name_row, only_operands, print_option, print_row, row_of, value_given, with_option}
 use Rattle.bdb_text_format.specs.TextSpelling.{bytes_spelled}
 use Rattle.bdb_tool_words.specs.declared.options.OptionWord.{OptionWord}
-use Rattle.bdb_tool_words.specs.declared.options.OptionWord.TheVariants.{MaxBytes as MaxBytesWord, Name as NameWord, Order as OrderWord, PageSize as PageSizeWord}
+use Rattle.bdb_tool_words.specs.declared.options.OptionWord.TheVariants.{MaxBytes as MaxBytesWord, Name as NameWord, Order as OrderWord}
+use Rattle.bdb_tool_words.specs.declared.options.OptionWord.TheVariants.{PageSize as PageSizeWord}
 use Rattle.bdb_tool_words.specs.declared.options.OptionWord.TheVariants.{As as AsWord, Onto as OntoWord, Hex as HexWord, Print as PrintWord}
 use Rattle.bdb_tool_words.specs.declared.options.OptionWord.TheVariants.{AnyOrder as AnyOrderWord, Duplicates as DuplicatesWord, Dupsort as DupsortWord}
 use Rattle.bdb_tool_words.specs.declared.options.GivenOption.{GivenOption}

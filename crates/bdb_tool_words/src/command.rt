@@ -2,7 +2,8 @@
 ghost use Rattle.std.specs.Prelude.{◌≡◌, ◌≢◌, ◌≤◌, ◌^◌, [], ◌∷◌, IfSome, List, MatchOption, Some, drop, false, is_some, length, option_copied, option_map};
 ghost use Rattle.std.specs.Prelude.{true, ℕ};
 ghost use Rattle.bdb_format.specs.Digits.{number_in};
-ghost use Rattle.bdb_tool_words.specs.Commands.{Action as ModelAction, Request as ModelRequest, at_most, command_of, command_on, commands, convert_row, dump_row};
+ghost use Rattle.bdb_tool_words.specs.Commands.{Action as ModelAction, Request as ModelRequest, at_most, command_of, command_on, commands, convert_row};
+ghost use Rattle.bdb_tool_words.specs.Commands.{dump_row};
 ghost use Rattle.bdb_tool_words.specs.Commands.{get_row, kind_named, load_row, onto_file, plain_row, range_row, reading_row, repair_row, row_named, rows_by};
 ghost use Rattle.bdb_tool_words.specs.Commands.{salvage_row, trial_row};
 ghost use Rattle.bdb_model.specs.Command.{asked_name, limit_of};

@@ -15,7 +15,8 @@ loop-rest-init c = record {
 pub loop-rest-preserved : goal.loop-rest-preserved
 loop-rest-preserved c = record {
   to = rw c.in_ok-earlier.ensures
-      (text_more c.args.text.now c.loop-rest.earlier c.loop-rest.rest.now c.loop-rest.number c.in_ok-read.read c.loop-rest.invariant.to c.in_ok-read.ensures.ok);
+      (text_more c.args.text.now c.loop-rest.earlier c.loop-rest.rest.now c.loop-rest.number c.in_ok-read.read c.loop-rest.invariant.to
+      c.in_ok-read.ensures.ok);
   room = omega (arith, c.loop-rest.invariant.room, c.in_ok-read.ensures.within);
 }
 

@@ -17,7 +17,8 @@ returns-in_err-header-clause-err c =
     let error = c.in_err-header.field-0.0 in
     let is : c.from_residual.result ≡ Err error = search rules in
     rw is
-    (on_more (IsHeaderFault c.cut_line-first.result.rest.now (c.args.start + 1)) (IsSectionFault (names_of c.args.earlier.now) c.args.text.now c.args.start) error
+    (on_more (IsHeaderFault c.cut_line-first.result.rest.now (c.args.start + 1)) (IsSectionFault (names_of c.args.earlier.now) c.args.text.now c.args.start)
+    error
     (λ fault is. header_fault (names_of c.args.earlier.now) c.args.text.now c.cut_line-first.result.line.now c.cut_line-first.result.rest.now c.args.start fault
     c.cut_line-first.ensures.lines
     c.in_default.ensures is)
@@ -27,7 +28,8 @@ pub returns-in-Some-end_reason-clause-err : goal.returns-in-Some-end_reason-clau
 returns-in-Some-end_reason-clause-err c =
     let named = rw c.deref.ensures.value at c.in_ok-name.ensures.ok in
     let reason = rw c.deref-2.ensures.value at c.in-Some-end_reason.ensures in
-    end_fault_is (names_of c.args.earlier.now) c.args.text.now c.cut_line-first.result.line.now c.cut_line-first.result.rest.now c.args.start c.in_ok-header.header
+    end_fault_is (names_of c.args.earlier.now) c.args.text.now c.cut_line-first.result.line.now c.cut_line-first.result.rest.now c.args.start
+    c.in_ok-header.header
     c.in_ok-name.name
     c.in-Some-end_reason.reason c.cut_line-first.ensures.lines c.in_default.ensures c.in_ok-header.ensures.ok named reason
 
@@ -52,6 +54,7 @@ returns-clause-ok c =
     let none = rw c.deref-2.ensures.value at c.in_default-end_reason.ensures in
     let read = rw c.deref-3.ensures.value at c.in_ok-data.ensures.ok in
     let settings = rw c.deref-4.ensures.value at c.settings_in.ensures in
-    section_is_read (names_of c.args.earlier.now) c.args.text.now c.cut_line-first.result.line.now c.cut_line-first.result.rest.now c.args.start c.in_ok-header.header
+    section_is_read (names_of c.args.earlier.now) c.args.text.now c.cut_line-first.result.line.now c.cut_line-first.result.rest.now c.args.start
+    c.in_ok-header.header
     c.in_ok-name.name _
     c.in_ok-data.data c.cut_line-first.ensures.lines c.in_default.ensures c.in_ok-header.ensures.ok named none read (rw settings refl) refl refl

@@ -1,4 +1,5 @@
-use Rattle.bdb_tool_words.proofs.GivenLemmas.{has_kind, has_max_bytes, has_name, has_onto, has_order, has_page_size, with_any_order, with_dupsort, with_duplicates}
+use Rattle.bdb_tool_words.proofs.GivenLemmas.{has_kind, has_max_bytes, has_name, has_onto, has_order, has_page_size, with_any_order, with_dupsort}
+use Rattle.bdb_tool_words.proofs.GivenLemmas.{with_duplicates}
 use Rattle.bdb_tool_words.proofs.GivenLemmas.{with_hex, with_kind, with_max_bytes, with_name, with_onto, with_order, with_page_size, with_print}
 use Rattle.bdb_tool_words.proofs.options.take_option.Goals as goal
 use Rattle.bdb_tool_words.proofs.options.take_option.Goals.{in-AnyOrder, in-As, in-Dupsort, in-Duplicates, in-Hex, in-MaxBytes, in-Name, in-Onto, in-Order}

@@ -51,7 +51,8 @@ lay_levels_on-requires-clause-children c =
     let linked = moved_linked c.args.self c.move_first.new.self c.args.pages.now c.move_first.new.pages can.before can.closed can.units can.filled
     c.in_ok-root.ensures.moved in
     moved_children c.args.self c.move_first.new.self c.args.pages.now c.move_first.new.pages c.args.counted can.before can.closed can.units
-    c.inner.result c.in_ok-children.children.items (subst (λ n. IsTrue (is_page_size n)) c.size-size.ensures.size c.size-size.ensures.legal) (some_of (length c.args.self.closed.items) none) can.filled some
+    c.inner.result c.in_ok-children.children.items (subst (λ n. IsTrue (is_page_size n)) c.size-size.ensures.size c.size-size.ensures.legal)
+    (some_of (length c.args.self.closed.items) none) can.filled some
     c.in_ok-root.ensures.moved c.inner.ensures (c.in_ok-children.ensures (map (flat_map entries_of) (can.closed ++ (can.units ∷ []))) linked)
 
 pub returns : goal.returns
@@ -63,7 +64,8 @@ returns c = λ before closed units filled some.
     c.in_ok-root.ensures.moved in (
       c.in_ok-root.ensures.root,
       inr (leaves_rooted_on c.args.self c.move_first.new.self c.args.pages.now c.move_first.new.pages c.lay_levels_on.new.pages c.args.counted before
-          closed units c.inner.result c.in_ok-children.children.items c.in_ok-root.root (subst (λ n. IsTrue (is_page_size n)) c.size-size.ensures.size c.size-size.ensures.legal)
+          closed units c.inner.result c.in_ok-children.children.items c.in_ok-root.root
+          (subst (λ n. IsTrue (is_page_size n)) c.size-size.ensures.size c.size-size.ensures.legal)
           (some_of (length c.args.self.closed.items) none) filled unit c.in_ok-root.ensures.moved c.inner.ensures
           (c.in_ok-children.ensures (map (flat_map entries_of) (closed ++ (units ∷ []))) linked) c.in_ok-root.ensures.root
           c.in_ok-lay_levels_on.ensures),

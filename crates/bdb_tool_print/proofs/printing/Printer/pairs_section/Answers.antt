@@ -3,7 +3,7 @@ use Rattle.std.specs.List.{flat_map}
 use Rattle.bdb_text_format.specs.LineEnd.{line}
 use Rattle.bdb_text_format.specs.Written.{data_end, header_text}
 use Rattle.bdb_tool_print.specs.Printers.{Adds, pair_text}
-use Rattle.bdb_rescue.specs.SalvageText.{bytes_pair, stored_settings}
+use Rattle.bdb_rescue.specs.Text.{bytes_pair, stored_settings}
 use Rattle.bdb_tool_print.proofs.DumpLemmas.{section_by_parts}
 use Rattle.bdb_tool_print.proofs.PrinterLemmas.{adds_cut, cut_up}
 use Rattle.bdb_tool_print.proofs.printing.Printer.pairs_section.Goals as goal
