@@ -9,7 +9,5 @@ pub fn number_text(alloc: Global, number: u32) -> Result<Bytes, AllocError>
     ensures { IfOk result (λ text. text ≡ decimal number) }
 {
     let digits = format!(in alloc; "{number}")?;
-    let mut text = Bytes::new(alloc);
-    text.push_all(digits.as_bytes())?;
-    Ok(text)
+    Ok(Bytes::from_vec(digits.into_bytes()))
 }
