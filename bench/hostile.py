@@ -43,7 +43,8 @@ COLUMNS = ("Class", "Bytes", *(f"`{command}`" for command in COMMANDS))
 
 
 class Run(typing.NamedTuple):
-    """A command to run: its words, the status that it must end with, and whether it reads a text without pairs and the input is the base that this is loaded onto."""
+    """A command to run: its words, the status that it must end with, and whether it reads a text without pairs and the input is the base that
+    this is loaded onto."""
 
     words: tuple
     status: int

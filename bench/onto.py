@@ -3,10 +3,11 @@
 
 usage: onto.py [PROGRAM [PAIRS]]
 
-PROGRAM is the built program bdbtool; without it, crates/bdbtool/out/bdbtool. The base has a million pairs, or PAIRS of them, with data of 20 bytes, as a btree,
-a hash and a recno, made with `db5.3_load`. Of the text half the keys are there, in no order, and half are new. Beside it stand `verify` and `dump` of the base, `load` of
-that dump alone, `load --onto` of an empty text, and `db5.3_load` of the same text into a copy: seconds of user time, the least of three runs, and peak memory. Where
-the program or the library's tool is missing, nothing is timed.
+PROGRAM is the built program bdbtool; without it, crates/bdbtool/out/bdbtool. The base has a million pairs, or PAIRS of them, with data of
+20 bytes, as a btree, a hash and a recno, made with `db5.3_load`. Of the text half the keys are there, in no order, and half are new. Beside
+it stand `verify` and `dump` of the base, `load` of that dump alone, `load --onto` of an empty text, and `db5.3_load` of the same text into
+a copy: seconds of user time, the least of three runs, and peak memory. Where the program or the library's tool is missing, nothing is
+timed.
 """
 import os
 import shutil
@@ -35,7 +36,8 @@ def write_pairs(path, kind, numbers):
 
 def main():
     program, pairs = arguments("bdbtool")
-    print(f"| {pairs} pairs of | `verify`, s | `dump`, s | `load` of it, s | `load --onto`, no pair, s | {MORE} pairs, s | `db5.3_load` into a copy, s | peak MB | its peak MB |")
+    first = f"| {pairs} pairs of | `verify`, s | `dump`, s | `load` of it, s | `load --onto`, no pair, s | {MORE} pairs, s "
+    print(first + "| `db5.3_load` into a copy, s | peak MB | its peak MB |")
     print("|---|---:|---:|---:|---:|---:|---:|---:|---:|")
     with tempfile.TemporaryDirectory() as folder:
         whole, more, none, base, copy, dump = (os.path.join(folder, name) for name in ("whole", "more", "none", "base", "copy", "dump"))

@@ -4,16 +4,21 @@
 usage: times.py verify|kinds|chains|range|dump|load|convert|stat|salvage|repair [PROGRAM]
        times.py before PROGRAM BEFORE
 
-PROGRAM is the built program; without it, crates/bdbtool/out/bdbtool. The files are made with `db5.3_load` in a temporary folder.
-Prints a Markdown table. `verify` stands beside `db5.3_verify`, on a btree and a hash of tenfold growing numbers of pairs: seconds by
-the clock, and how pages and seconds grew from the row above. A kind ends where a run takes a minute, or where ten times the pairs
-wouldn't fit into the longest input. `kinds` has `verify` beside `db5.3_verify` and `md5sum` on files of each kind of about 100 MB, seconds of user time, and beside `cat`, seconds of system time; and `chains` has it on chains of pages that
-grow longer, one by one: seconds of user time. `dump` stands beside `db5.3_dump -k`, on a file of each kind: seconds of user time, and peak
-memory. `range` stands beside `verify`, `get` and `dump`, on a btree of a million pairs: of ten pairs, of a thousand and of all. `load` stands beside `db5.3_load`, on the texts that `dump` gives of such files and of files with a quarter of the items, and on those of a btree and a hash with their pairs in no order. `convert` stands beside `verify` and a copy by `cat`, on a file of each kind, and `stat` beside `verify` and `db5.3_stat -f`: seconds of user time, and of user and system time, of runs by turns. `salvage` stands beside
-`db5.3_dump -r`, on the files of `kinds`, and on each of them with every hundredth page overwritten by other bytes: seconds of user time,
-peak memory, and how many pairs or records each gives. `repair` stands beside `salvage | load`, on the same files: user time of both commands of the pipe together, and the greater peak. `before` has `verify` of two programs by turns, on the files of `kinds` and `chains` and on the
-files of `verify` that have a million pairs, and `dump` of both on the files of `dump`: the least user and system time of each, and their ratio. Where the program or the library's tools are missing, nothing is
-timed. docs/BENCH.md says how to read the tables.
+PROGRAM is the built program; without it, crates/bdbtool/out/bdbtool. The files are made with `db5.3_load` in a temporary folder. Prints a
+Markdown table. `verify` stands beside `db5.3_verify`, on a btree and a hash of tenfold growing numbers of pairs: seconds by the clock, and
+how pages and seconds grew from the row above. A kind ends where a run takes a minute, or where ten times the pairs wouldn't fit into the
+longest input. `kinds` has `verify` beside `db5.3_verify` and `md5sum` on files of each kind of about 100 MB, seconds of user time, and
+beside `cat`, seconds of system time; and `chains` has it on chains of pages that grow longer, one by one: seconds of user time. `dump`
+stands beside `db5.3_dump -k`, on a file of each kind: seconds of user time, and peak memory. `range` stands beside `verify`, `get` and
+`dump`, on a btree of a million pairs: of ten pairs, of a thousand and of all. `load` stands beside `db5.3_load`, on the texts that `dump`
+gives of such files and of files with a quarter of the items, and on those of a btree and a hash with their pairs in no order. `convert`
+stands beside `verify` and a copy by `cat`, on a file of each kind, and `stat` beside `verify` and `db5.3_stat -f`: seconds of user time,
+and of user and system time, of runs by turns. `salvage` stands beside `db5.3_dump -r`, on the files of `kinds`, and on each of them with
+every hundredth page overwritten by other bytes: seconds of user time, peak memory, and how many pairs or records each gives. `repair`
+stands beside `salvage | load`, on the same files: user time of both commands of the pipe together, and the greater peak. `before` has
+`verify` of two programs by turns, on the files of `kinds` and `chains` and on the files of `verify` that have a million pairs, and `dump`
+of both on the files of `dump`: the least user and system time of each, and their ratio. Where the program or the library's tools are
+missing, nothing is timed. docs/BENCH.md says how to read the tables.
 """
 import itertools
 import os
@@ -62,19 +67,28 @@ BEFORE_COLUMNS = ("File", "Bytes of the file", "Program", "Before", "Ratio")
 # `dump`
 MILLION = 1_000_000
 LONG_VALUES, LONG_BYTES = 1_000, 100_000
-DUMP_COLUMNS = ("File", "Items", "Bytes of the file", "`bdbtool`", "`db5.3_dump -k`", "Ratio", "Peak of `bdbtool`, bytes", "Peak by file", "Bytes an item above 1.3 files")
+DUMP_COLUMNS = (
+    *("File", "Items", "Bytes of the file", "`bdbtool`", "`db5.3_dump -k`", "Ratio"),
+    *("Peak of `bdbtool`, bytes", "Peak by file", "Bytes an item above 1.3 files"),
+)
 
 # `range`
 RANGES = (10, 1_000)
 RANGE_COLUMNS = ("Command", "Pairs", "`bdbtool`", "Above `verify`", "Peak of `bdbtool`, bytes", "Peak by file")
 
 # `load`
-LOAD_COLUMNS = ("Text", "Items", "Bytes of the text", "Bytes of the file", "`bdbtool`", "`db5.3_load`", "Ratio", "`bdbtool` grew", "Peak of `bdbtool`, bytes", "Bytes an item above the text and the file")
+LOAD_COLUMNS = (
+    *("Text", "Items", "Bytes of the text", "Bytes of the file", "`bdbtool`", "`db5.3_load`", "Ratio"),
+    *("`bdbtool` grew", "Peak of `bdbtool`, bytes", "Bytes an item above the text and the file"),
+)
 SCATTERED = ("btree", "hash")
 
 # `salvage`
 DAMAGED, SEED = 100, 20261128
-SALVAGE_COLUMNS = ("File", "Bytes of the file", "`bdbtool`", "`db5.3_dump -r`", "Ratio", "Peak of `bdbtool`, bytes", "Peak by file", "Items of `bdbtool`", "Items of `db5.3_dump -r`")
+SALVAGE_COLUMNS = (
+    *("File", "Bytes of the file", "`bdbtool`", "`db5.3_dump -r`", "Ratio"),
+    *("Peak of `bdbtool`, bytes", "Peak by file", "Items of `bdbtool`", "Items of `db5.3_dump -r`"),
+)
 
 
 class Step(NamedTuple):
@@ -319,7 +333,8 @@ def time_range(program, folder):
 
 
 def scatter(text):
-    """Puts the pairs of a dump text into an order of no kind, always the same. A process of its own does it: the peak of a program counts from what the one that starts it has."""
+    """Puts the pairs of a dump text into an order of no kind, always the same. A process of its own does it: the peak of a program counts
+    from what the one that starts it has."""
     child = os.fork()
     if child == 0:
         shuffle(text)
@@ -468,7 +483,10 @@ def time_convert(program, folder):
 
 
 # `stat`
-STAT_COLUMNS = ("File", "Bytes of the file", "`stat`, user", "`verify`, user", "Ratio", "Ratio with system time", "`db5.3_stat -f`, both", "Peak of `bdbtool`, bytes", "Peak by file")
+STAT_COLUMNS = (
+    *("File", "Bytes of the file", "`stat`, user", "`verify`, user", "Ratio", "Ratio with system time"),
+    *("`db5.3_stat -f`, both", "Peak of `bdbtool`, bytes", "Peak by file"),
+)
 
 
 def print_stat(name, program, image):
@@ -547,7 +565,10 @@ def time_salvage(program, folder):
 
 # `repair`
 BY_TURNS = 5
-REPAIR_COLUMNS = ("File", "Bytes of the file", "`repair`", "`salvage \\| load`", "Ratio", "Peak of `repair`, bytes", "Peak by file", "Peak of the pipe, bytes", "Bytes of the new file")
+REPAIR_COLUMNS = (
+    *("File", "Bytes of the file", "`repair`", "`salvage \\| load`", "Ratio"),
+    *("Peak of `repair`, bytes", "Peak by file", "Peak of the pipe, bytes", "Bytes of the new file"),
+)
 
 
 def piped(program, image):
@@ -572,7 +593,8 @@ def print_repair(name, program, image):
     own = min(it for it, _ in rounds)
     pipe, built = min((it for _, it in rounds if it[0]), default=(None, 0))
     both = [f"{pipe.user:.3g}", f"{own.user / max(pipe.user, 0.001):.3g}"] if pipe else ["–", "–"]
-    print_row([name, f"{size:,}", f"{own.user:.3g}", *both, f"{own.peak:,}", f"{own.peak / size:.2f}", f"{pipe.peak:,}" if pipe else "–", f"{built:,}" if pipe else "–"])
+    ends = [f"{pipe.peak:,}", f"{built:,}"] if pipe else ["–", "–"]
+    print_row([name, f"{size:,}", f"{own.user:.3g}", *both, f"{own.peak:,}", f"{own.peak / size:.2f}", *ends])
 
 
 def time_repair(program, folder):

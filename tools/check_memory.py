@@ -139,7 +139,8 @@ def main(words):
                 otherwise += len(wrong)
                 for line in wrong:
                     print(f"{' '.join(given)} < {file.name if file else '-'}: {line}")
-            print(f"{' '.join(given)} < {file.name if file else '-'}: {counts[0]} calls refused alone, {spared} of them done without, {counts[1]} with all that follow")
+            asked = f"{' '.join(given)} < {file.name if file else '-'}"
+            print(f"{asked}: {counts[0]} calls refused alone, {spared} of them done without, {counts[1]} with all that follow")
     print(f"{otherwise} otherwise")
     return 1 if otherwise else 0
 

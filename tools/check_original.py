@@ -10,12 +10,14 @@ PROGRAM is the built program bdbtool; without it, crates/bdbtool/out/bdbtool. Ea
 
 A text that is refused counts as such, and so does a dump that the original can't load as it is meant: one whose re_pad isn't a digit, or a
 printed one of a recno or queue. Then the dump of each real file that is sound, and of a file of each kind of PAIRS pairs (a million, where
-none are given; 0 leaves these out) that the original makes, is loaded and dumped by PROGRAM: it is the same text, in either spelling. Each real file that is sound is put into the other byte order by PROGRAM's `convert`:
-the original's `db5.3_verify` tells of it what it tells of the first file, `db5.3_dump` gives the same text but for `db_lorder`, and converted back it is the first file byte for
-byte. Of each real file copies are damaged in the ways of DAMAGES, and each is repaired by PROGRAM's `repair`, without a shape and in each of SHAPES: the file passes `db5.3_verify`, and
-`db5.3_dump` of it has the names and pairs of what `salvage` gives of the copy, or of a shape the pairs that it keeps. Onto each real file that is sound, for the original too, PROGRAM loads a text, and `db5.3_dump` gives the pairs that it gives of a copy into which
-`db5.3_load` loaded the text. Prints a line for each that is answered otherwise, and then how many hold; the exit status is 1 where one
-doesn't hold. Without the original's tools nothing is asked.
+none are given; 0 leaves these out) that the original makes, is loaded and dumped by PROGRAM: it is the same text, in either spelling. Each
+real file that is sound is put into the other byte order by PROGRAM's `convert`: the original's `db5.3_verify` tells of it what it tells of
+the first file, `db5.3_dump` gives the same text but for `db_lorder`, and converted back it is the first file byte for byte. Of each real
+file copies are damaged in the ways of DAMAGES, and each is repaired by PROGRAM's `repair`, without a shape and in each of SHAPES: the file
+passes `db5.3_verify`, and `db5.3_dump` of it has the names and pairs of what `salvage` gives of the copy, or of a shape the pairs that it
+keeps. Onto each real file that is sound, for the original too, PROGRAM loads a text, and `db5.3_dump` gives the pairs that it gives of a
+copy into which `db5.3_load` loaded the text. Prints a line for each that is answered otherwise, and then how many hold; the exit status is
+1 where one doesn't hold. Without the original's tools nothing is asked.
 """
 import pathlib
 import random
@@ -29,7 +31,8 @@ TOP = pathlib.Path(__file__).resolve().parent.parent
 SECONDS_A_RUN = 120
 TOOLS = ("db5.3_verify", "db5.3_dump", "db5.3_load")
 REFUSED = 8
-# How copies are damaged: pages of other bytes, as many as this fraction of all and one at least; whether page 0 is among them; and how much of the file is left.
+# How copies are damaged: pages of other bytes, as many as this fraction of all and one at least; whether page 0 is among them; and how
+# much of the file is left.
 DAMAGES = ((0.01, False, 1), (0.25, False, 1), (0.1, True, 1), (0.05, False, 0.7))
 # The words of `repair` for one database, its kind, and which data of a key stay.
 SHAPES = (
@@ -288,7 +291,8 @@ def check_repaired(program, folder):
 
 
 def text_onto(dump):
-    """A text with the sections of a dump, each with a pair whose key is there, where there is one, and two with other keys; and without what neither rule has."""
+    """A text with the sections of a dump, each with a pair whose key is there, where there is one, and two with other keys; and without what
+    neither rule has."""
     sections = []
     for part in dump.split(b"VERSION=3\n")[1:]:
         head, _, body = part.partition(b"\nHEADER=END\n")

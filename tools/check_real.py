@@ -3,12 +3,13 @@
 
 usage: check_real.py [PROGRAM]
 
-PROGRAM is the built program; without it, crates/bdbtool/out/bdbtool. Each file of real/expected.tsv is given to `verify`, `list`
-and, for each database of its dump text, `get` of the first, a middle and the last key, `range` of each half of its keys, and
-`dump` in both spellings, whole and by name. Where `verify` finds no sound file, it must tell each fault of the table, and these commands the first of them. Output, error lines and status are
-compared whole, but of a `dump` the names, kinds and data lines, those of a hash in the order of their keys. Of a sound file `salvage` must give
-the pairs of all its btree and hash databases, and of the list of their names, and the records of its recno databases, in any order. Prints a line for each answer
-that differs, and then how many files have none; the exit status is 1 where a file has one.
+PROGRAM is the built program; without it, crates/bdbtool/out/bdbtool. Each file of real/expected.tsv is given to `verify`, `list` and, for
+each database of its dump text, `get` of the first, a middle and the last key, `range` of each half of its keys, and `dump` in both
+spellings, whole and by name. Where `verify` finds no sound file, it must tell each fault of the table, and these commands the first of
+them. Output, error lines and status are compared whole, but of a `dump` the names, kinds and data lines, those of a hash in the order of
+their keys. Of a sound file `salvage` must give the pairs of all its btree and hash databases, and of the list of their names, and the
+records of its recno databases, in any order. Prints a line for each answer that differs, and then how many files have none; the exit status
+is 1 where a file has one.
 """
 import collections
 import itertools

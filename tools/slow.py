@@ -1,9 +1,10 @@
 #!/usr/bin/env python3
 """slow.py [COUNT]: of each crate that is being proved on this machine, what took longest so far: the COUNT (8) slowest modules of its proofs.
 
-rattle keeps each module that it has checked in a file of a temporary folder of its own, one after another, so a module took as long as its file came after the
-one before. A module `Lts` is about lifetimes and drops: where one of a function takes long, the function holds values that are dropped by code over many ways out, most of
-all a list that it goes over in a loop. Lent to a function of its own, as `&mut`, the list is dropped once, and such a module takes seconds in place of minutes.
+rattle keeps each module that it has checked in a file of a temporary folder of its own, one after another, so a module took as long as its
+file came after the one before. A module `Lts` is about lifetimes and drops: where one of a function takes long, the function holds values
+that are dropped by code over many ways out, most of all a list that it goes over in a loop. Lent to a function of its own, as `&mut`, the
+list is dropped once, and such a module takes seconds in place of minutes.
 """
 
 import sys
