@@ -262,18 +262,25 @@ def spent(words, image):
     return Spent(usage.ru_utime, 1024 * usage.ru_maxrss, usage.ru_stime)
 
 
-def least(words, image, before=lambda: None):
-    """The least that a few runs take, each after a step before it."""
-    runs = []
-    for _ in range(RUNS):
-        before()
-        runs.append(spent(words, image))
+def least_of(runs):
+    """The least user time of some runs, and their least peak."""
     return Spent(min(run.user for run in runs), min(run.peak for run in runs))
 
 
-def turns(commands, image, count=TURNS):
-    """What each of some commands took, which run by turns: so what else the machine does falls on all of them alike."""
-    return list(zip(*([spent(words, image) for words in commands] for _ in range(count))))
+def least(words, image):
+    """The least that a few runs take."""
+    return least_of([spent(words, image) for _ in range(RUNS)])
+
+
+def spent_after(before, words, image):
+    """What a run takes after a step before it."""
+    before()
+    return spent(words, image)
+
+
+def turns(commands, image, count=TURNS, before=lambda: None):
+    """What each of some commands took, which run by turns, each run after a step: so what else the machine does falls on all of them alike."""
+    return list(zip(*([spent_after(before, words, image) for words in commands] for _ in range(count))))
 
 
 def by_turns(commands, image, count=TURNS):
@@ -298,7 +305,7 @@ def print_dump(program, sample, folder):
     image = make(sample.name, sample.kind, sample.lines, folder)
     size = image.stat().st_size
     runs = turns(([program, "dump"], ["db5.3_dump", "-k", image]), image, DUMP_TURNS)
-    own, original = (Spent(min(run.user for run in those), min(run.peak for run in those)) for those in runs)
+    own, original = map(least_of, runs)
     image.unlink()
     times = [f"{own.user:.3g}", f"{original.user:.3g}", f"{own.user / original.user:.3g}"]
     above = max(0, own.peak - 1.3 * size) / sample.items
@@ -361,8 +368,8 @@ def print_load(program, name, sample, folder, before):
     with text.open("rb") as standard_input, built.open("wb") as standard_output:
         subprocess.run([program, "load"], stdin=standard_input, stdout=standard_output, check=True)
     size = built.stat().st_size
-    own = least([program, "load"], text)
-    original = least(["db5.3_load", "-h", folder, built], text, lambda: built.unlink(missing_ok=True))
+    commands = ([program, "load"], ["db5.3_load", "-h", folder, built])
+    own, original = map(least_of, turns(commands, text, RUNS, lambda: built.unlink(missing_ok=True)))
     long = text.stat().st_size
     grew = "–" if before is None else f"× {own.user / before.user:.1f}"
     above = max(0, own.peak - long - size) / sample.items
