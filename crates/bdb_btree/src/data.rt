@@ -20,6 +20,7 @@ pub(crate) struct ItemData<'a> {
 }
 
 impl Drop for ItemData<'_> {
+    #[inline(always)]
     fn drop(self) {
         let ItemData {
             one: _one,
@@ -41,6 +42,7 @@ impl<'a> Model for ItemData<'a> {
 
 /// The data of a data item.
 #[tactic(auto, unfolding(bdb_format::specs::Contents::data_of))]
+#[inline(always)]
 pub(crate) fn item_data<'a>(forest: &Forest<'a>, item: &LeafItem<'a>) -> ItemData<'a>
     requires content { FitsContent (file_of forest.now) (leaf_item_seen item.now).content }
     requires set { FitsSet (file_of forest.now) (leaf_item_seen item.now).content }
@@ -80,6 +82,7 @@ impl<'a> Iterator for ItemData<'a> {
 
     ghost remaining = { item_count (λ left. left) };
 
+    #[inline(always)]
     fn next(&mut self) -> Option<Datum<'a>> {
         match self.one.take() {
             Some(value) => Some(value),

@@ -21,6 +21,7 @@ pub struct Entries<'a> {
 }
 
 impl Drop for Entries<'_> {
+    #[inline(always)]
     fn drop(self) {
         let Entries {
             key: _key,
@@ -55,6 +56,7 @@ impl<'a> Iterator for Entries<'a> {
 }
 
 /// The entries of a pair; a deleted one has none.
+#[inline(always)]
 pub fn pair_entries<'a>(forest: &Forest<'a>, pair: Pair<'a>) -> Option<Entries<'a>>
     requires pair { FitsPair (file_of forest.now) (pair_seen pair) }
     requires stage { structure_faults (file_of forest.now) ≡ [] }
@@ -70,6 +72,7 @@ pub fn pair_entries<'a>(forest: &Forest<'a>, pair: Pair<'a>) -> Option<Entries<'
 }
 
 /// The next entry of a pair, if there is one.
+#[inline(always)]
 pub fn next_entry<'a>(here: &mut Option<Entries<'a>>) -> Option<(KeyView<'a>, Datum<'a>)>
     ensures { YieldsFirstBy entry_seen left_of here.old result here.new }
 {

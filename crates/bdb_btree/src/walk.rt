@@ -22,6 +22,7 @@ pub struct PagePairs<'a> {
 }
 
 impl Drop for PagePairs<'_> {
+    #[inline(always)]
     fn drop(self) {
         let PagePairs {
             forest: _forest,

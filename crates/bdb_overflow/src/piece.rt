@@ -96,6 +96,7 @@ pub struct Pieces<'a> {
 }
 
 impl Drop for Pieces<'_> {
+    #[inline(always)]
     fn drop(self) {
         let Pieces {
             image: _image,

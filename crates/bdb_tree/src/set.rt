@@ -20,6 +20,7 @@ pub struct SetValues<'a> {
 }
 
 impl Drop for SetValues<'_> {
+    #[inline(always)]
     fn drop(self) {
         let SetValues {
             forest: _forest,

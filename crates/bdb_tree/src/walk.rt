@@ -15,6 +15,7 @@ pub struct Leaves<'a> {
 }
 
 impl Drop for Leaves<'_> {
+    #[inline(always)]
     fn drop(self) {
         let Leaves {
             forest: _forest,
