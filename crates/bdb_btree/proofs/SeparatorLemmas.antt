@@ -3,7 +3,7 @@ use Rattle.std.proofs.Common.{◌≡◌, ℕ, zero, suc, ◌+◌, ◌-◌, ◌<�
 use Rattle.std.proofs.Common.{take, drop, Option, Some, None, arith, refl, sym, ◌∙◌, ap, append-nil}
 use Rattle.std.specs.Prelude.{◌&&◌, ◌||◌, nat_le}
 use Rattle.std.specs.List.{flat_map, fold, list_any, range_with_len}
-use Rattle.std.proofs.lemmas.Bool.{le-leb, false_from_ne_true, not-false, or_parts, true≢false}
+use Rattle.std.proofs.lemmas.Bool.{le-leb, false_from_ne_true, not-false, or_parts}
 use Rattle.std.proofs.lemmas.List.{drop_all, drop_more, take_more}
 use Rattle.std.proofs.lemmas.List.Folds.{list_any-append}
 use Rattle.std.proofs.lemmas.List.Sums.{fold-append}

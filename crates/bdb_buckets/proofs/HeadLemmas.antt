@@ -1,17 +1,26 @@
 -- The head of a key.
-use Rattle.std.proofs.Common.{◌≡◌, ℕ, ◌||◌, List, [], ◌∷◌, ◌∙◌}
-use Rattle.bdb_format.specs.Contents.{StoredPair}
+use Rattle.std.proofs.Common.{◌≡◌, ℕ, List, ◌∙◌, ap}
+use Rattle.std.specs.Prelude.{true, Some}
 use Rattle.bdb_format.specs.Chains.{value_of}
-use Rattle.bdb_format.specs.File.{file_of}
-use Rattle.bdb_format.specs.Page.{Content, Inline, Set, Chain, Tree, Unknown}
-use Rattle.bdb_buckets.specs.Chained.{IsHeaded, chain_head}
-use Rattle.bdb_buckets.specs.Told.{told}
+use Rattle.bdb_format.specs.File.{file_of, page_at}
+use Rattle.bdb_format.specs.Page.{Content, Chain, Page, Hash}
+use Rattle.bdb_format.specs.References.{item_at}
+use Rattle.bdb_buckets.specs.Chained.{IsHead, chain_head, chain_value}
+use Rattle.bdb_buckets.specs.Places.{has_pair, key_content, pair_on}
+use Rattle.bdb_buckets.specs.Told.{Told}
 
-pub is_headed : (image : List ℕ) (pair : StoredPair) (content : Content) → pair.key ≡ value_of (file_of image) content
-    → IsHeaded (chain_head content) (told image pair)
+chain_read : (image : List ℕ) (content : Content) (head : ℕ) → Some head ≡ chain_head content → value_of (file_of image) content ≡ chain_value image head
 unfolding value_of
-is_headed image pair (Chain head total) is = is
-is_headed image pair (Inline bytes) is = tt
-is_headed image pair (Set blocks) is = tt
-is_headed image pair (Tree root) is = tt
-is_headed image pair Unknown is = tt
+chain_read image (Chain head total) first is = cc
+chain_read image content first is = absurd cc
+
+page_read : (image : List ℕ) (p i : ℕ) (page : Page) (head : ℕ) → has_pair page i ≡ true → Some head ≡ chain_head (key_content page i)
+    → (pair_on (file_of image) p page i).key ≡ chain_value image head
+page_read image p i (Hash page) head there is = chain_read image (item_at page (2 * i)).content head is
+page_read image p i page head there is = absurd cc
+
+-- a key that is a chain has the value of this chain
+pub chain_key : (t : Told) (head : ℕ) → IsHead (Some head) t → t.pair.key ≡ chain_value t.image head
+chain_key t head is =
+    ap (λ (one : Told). one.pair.key) is.stands.is
+    ∙ page_read t.image t.pair.page is.index (page_at (file_of t.image) t.pair.page) head is.stands.there is.is

@@ -5,10 +5,10 @@ use Rattle.std.specs.BTreeSet.{BTreeSet, contains}
 use Rattle.std.specs.Ordering.{nat_cmp}
 use Rattle.bdb_overflow.specs.Keys.{has_key}
 use Rattle.bdb_format.specs.Chains.{joined, pieces_of}
-use Rattle.bdb_format.specs.File.{file_of}
+use Rattle.bdb_format.specs.File.{file_of, page_at}
 use Rattle.bdb_format.specs.Hashing.{hash5}
 use Rattle.bdb_format.specs.Page.{Content, Inline, Set, Chain, Tree, Unknown}
-use Rattle.bdb_buckets.specs.Places.{IsRead}
+use Rattle.bdb_buckets.specs.Places.{IsRead, StandsOn, key_content}
 use Rattle.bdb_buckets.specs.Told.{Told}
 
 -- these pairs stand in the file of this image
@@ -33,15 +33,20 @@ chain_head (Set blocks) = None
 chain_head (Tree root) = None
 chain_head Unknown = None
 
--- the key of a pair is the chain with this head, if it has one
-abbrev pub IsHeaded : Option ℕ → Told → Type 0
-IsHeaded None t = Unit {0}
-IsHeaded (Some head) t = t.pair.key ≡ chain_value t.image head
+-- the head of the chain that the key of the pair with this index of a page is, if it's one
+abbrev pub head_on : List ℕ → ℕ → ℕ → Option ℕ
+head_on image p i = chain_head (key_content (page_at (file_of image) p) i)
 
 -- what the code knows of a pair that it has read, with the head of its key
 pub record IsKeyed (head : Option ℕ) (p i : ℕ) (t : Told) : Type 0 where
   pub read : IsRead p i t
-  pub headed : IsHeaded head t
+  pub head : head ≡ head_on t.image p i
+
+-- the head of the chain that the key of a pair is, if it's one, where the pair stands on its page
+pub record IsHead (head : Option ℕ) (t : Told) : Type 0 where
+  pub index : ℕ
+  pub stands : StandsOn t.pair.page index t
+  pub is : head ≡ head_on t.image t.pair.page index
 
 -- these are hashes of chains, by their heads
 pub record AreHashes (image : List ℕ) (hashes : BTreeMap ℕ ℕ) : Type 0 where

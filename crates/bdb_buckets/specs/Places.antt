@@ -13,7 +13,7 @@ use Rattle.bdb_buckets.specs.Views.{IsPair, IsTable}
 use Rattle.bdb_format.specs.Chains.{value_of}
 use Rattle.bdb_format.specs.Contents.{StoredPair, pair_at}
 use Rattle.bdb_format.specs.File.{File, file_of, page_at}
-use Rattle.bdb_format.specs.Page.{Item, Page, Hash, Unknown}
+use Rattle.bdb_format.specs.Page.{Content, Item, Page, Hash, Unknown}
 use Rattle.bdb_format.specs.References.{item_at}
 
 -- the pair with this index is on the page
@@ -25,6 +25,11 @@ has_pair page i = false
 abbrev pub pair_on : File → ℕ → Page → ℕ → StoredPair
 pair_on file p (Hash page) i = pair_at file p page (λ n. false) i
 pair_on file p page i = record { page = p; key = []; data_item = Unknown; live = true; shares = false }
+
+-- what the key of the pair with this index of a page is stored as; other pages have none
+abbrev pub key_content : Page → ℕ → Content
+key_content (Hash page) i = (item_at page (2 * i)).content
+key_content page i = Unknown
 
 abbrev pub told_on : List ℕ → ℕ → ℕ → Told
 told_on image p i = told image (pair_on (file_of image) p (page_at (file_of image) p) i)
@@ -43,6 +48,7 @@ pub record IsRead (p i : ℕ) (t : Told) : Type 0 where
 -- what is known of a pair that the view of its page gives
 pub record IsGiven (image : List ℕ) (p : ℕ) (pair : PairOf Item) : Type 0 where
   pub key : FitsContent (file_of image) pair.key.content
+  pub stored : pair.key.content ≡ key_content (page_at (file_of image) p) pair.index
   pub read : IsRead p pair.index (told_pair image p pair)
 
 abbrev pub AreGiven : List ℕ → ℕ → Option (List (PairOf Item)) → Type 0

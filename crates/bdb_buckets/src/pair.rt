@@ -1,7 +1,7 @@
-ghost use Rattle.std.specs.Prelude.{◌≡◌, IfSome};
+ghost use Rattle.std.specs.Prelude.{◌≡◌};
 ghost use Rattle.bdb_form.specs.Pairs.{pair_seen};
 ghost use Rattle.bdb_overflow.specs.Datum.{FitsContent, datum_seen};
-ghost use Rattle.bdb_buckets.specs.Chained.{chain_head, chain_value};
+ghost use Rattle.bdb_buckets.specs.Chained.{IsHead, chain_head};
 ghost use Rattle.bdb_buckets.specs.Places.{IsAt, IsGiven};
 ghost use Rattle.bdb_buckets.specs.Told.{entry_list, has_key, listed_told, told_pair};
 ghost use Rattle.bdb_buckets.specs.Views.{IsPair};
@@ -118,7 +118,7 @@ impl<'a> Pair<'a> {
 
     /// The head of its key's chain, if the key is one.
     pub fn head(&self) -> Option<u32>
-        ensures { IfSome result (λ head. self.now.pair.key ≡ chain_value self.now.image head) }
+        ensures { IsHead result self.now }
     {
         self.head
     }

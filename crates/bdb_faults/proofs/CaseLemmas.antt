@@ -1,6 +1,5 @@
 -- Rows and cases by their codes.
 use Rattle.std.proofs.Common.{◌≡◌, ◌⊎◌, ℕ, ◌-◌, ◌<◌, ◌≤◌, List, [], ◌∷◌, length, Some, None, arith, refl, ◌∙◌, ap, inl, inr, ne_eqb}
-use Rattle.std.specs.Prelude.{◌==◌}
 use Rattle.std.proofs.lemmas.Bool.{cases_eq, eqb-true}
 use Rattle.std.proofs.lemmas.List.{get_or_past}
 use Rattle.bdb_format.specs.declared.kinds.Unsupported.{Unsupported}

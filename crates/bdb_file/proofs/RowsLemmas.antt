@@ -1,11 +1,10 @@
 -- The faults that count, by those of all rows.
-use Rattle.std.proofs.Common.{◌≡◌, ℕ, ◌+◌, ◌<◌, ◌≤◌, Bool, true, false, cond, List, [], ◌∷◌, ◌++◌, None, arith, refl, sym, ◌∙◌, ap, subst}
+use Rattle.std.proofs.Common.{◌≡◌, ℕ, ◌<◌, ◌≤◌, Bool, true, false, cond, List, [], ◌∷◌, ◌++◌, None, arith, refl, sym, ◌∙◌, ap, subst}
 use Rattle.std.specs.Prelude.{◌||◌, not}
 use Rattle.std.specs.List.{Contains, filter, range_with_len}
 use Rattle.bdb_faults.specs.All.{IsAllOf}
 use Rattle.bdb_faults.specs.declared.named.AllError.{AllError}
 use Rattle.bdb_format.specs.declared.kinds.CheckError.{CheckError}
-use Rattle.bdb_format.specs.declared.kinds.CheckError.TheVariants.{Fault as FaultError, Memory as MemoryError}
 use Rattle.bdb_format.specs.declared.kinds.Fault.{Fault}
 use Rattle.bdb_format.specs.declared.kinds.Verdict.{Verdict}
 use Rattle.bdb_format.specs.declared.kinds.Verdict.TheVariants.{Fault as FaultVerdict, Unsupported, Memory}

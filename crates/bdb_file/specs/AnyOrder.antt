@@ -1,6 +1,6 @@
 -- The rows that count, by what is asked: all of them, or those that don't say in which order keys and data stand, with all of a master's. Source:
 -- docs/FORMAT.md, "Stage 8, contents".
-use Rattle.std.specs.Prelude.{ℕ, ◌==◌, ◌&&◌, ◌||◌, not, Bool, true, false, List, Option, Some, None}
+use Rattle.std.specs.Prelude.{ℕ, ◌==◌, ◌&&◌, ◌||◌, not, Bool, false, List, Option, Some, None}
 use Rattle.std.specs.List.{filter, range_with_len}
 use Rattle.bdb_faults.specs.Rows.{row_code, row_stage}
 use Rattle.bdb_faults.specs.declared.rows.ContentsRow.{ContentsRow}

@@ -1,5 +1,5 @@
 -- What it means for a page with an index that no row of form holds for it.
-use Rattle.std.proofs.Common.{[], ◌∷◌, ◌≡◌, ℕ, ◌%◌, ◌<◌, ◌≤◌, List, length, drop, ◌+◌, arith, refl, sym, ◌∙◌, ap, ltb-false, nat_eq, eq-eqb, eqb-true, ◌*◌, ◌-◌}
+use Rattle.std.proofs.Common.{[], ◌∷◌, ◌≡◌, ℕ, ◌%◌, ◌<◌, ◌≤◌, List, length, drop, arith, refl, sym, ap, ltb-false, nat_eq, eq-eqb, eqb-true, ◌*◌, ◌-◌}
 use Rattle.std.proofs.Common.{le-leb, ne_eqb}
 use Rattle.std.specs.Prelude.{slice_index, not, ◌==◌, IsTrue, Bool, true, false, Option, Some, None, slice_get}
 use Rattle.bdb_format.specs.declared.kinds.Order.{Order}

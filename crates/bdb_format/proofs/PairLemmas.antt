@@ -1,6 +1,6 @@
 -- Laws that several crates use.
 use Rattle.std.proofs.Common.{arith}
-use Rattle.std.proofs.Common.{List, [], ◌∷◌, refl, subst, inl, inr, ◌≡◌, ℕ, ◌++◌, ◌∙◌, Bool, true, false, cond}
+use Rattle.std.proofs.Common.{List, [], ◌∷◌, refl, subst, inl, inr, ◌≡◌, ℕ, ◌++◌, Bool, true, false, cond}
 use Rattle.std.specs.List.{Contains}
 use Rattle.bdb_format.specs.ContentRows.{neighbours_from, neighbours, btree_contents, recno_contents}
 use Rattle.bdb_format.specs.Contents.{StoredPair}

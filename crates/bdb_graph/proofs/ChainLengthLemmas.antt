@@ -1,12 +1,11 @@
 -- How long chains are, page by page, and what is kept of that.
-use Rattle.std.proofs.Common.{◌≡◌, ℕ, suc, ◌+◌, ◌*◌, ◌-◌, ◌^◌, ◌<◌, ◌≤◌, Bool, true, false, true≢false, cond, List, [], ◌∷◌, ◌++◌, map, length, drop, get_or}
-use Rattle.std.proofs.Common.{arith, refl, sym, ◌∙◌, ap, subst, inl, inr, length-append, length-drop, length-take}
-use Rattle.std.specs.Prelude.{◌==◌, ◌||◌, not, min}
+use Rattle.std.proofs.Common.{◌≡◌, ℕ, suc, ◌+◌, ◌*◌, ◌-◌, ◌^◌, ◌<◌, ◌≤◌, Bool, true, false, true≢false, cond, List, [], ◌∷◌, ◌++◌, map, length, get_or}
+use Rattle.std.proofs.Common.{arith, refl, sym, ◌∙◌, ap, subst, length-append, length-take}
+use Rattle.std.specs.Prelude.{◌==◌, ◌||◌, not}
 use Rattle.std.specs.List.{list_any, range_with_len}
 use Rattle.std.proofs.Math.Nat.{mul-le-mul_right}
-use Rattle.std.proofs.lemmas.Bool.{cases_Bool, cases_eq, eqb-true, eq-eqb, ne_eqb, not-false}
+use Rattle.std.proofs.lemmas.Bool.{eqb-true, eq-eqb, ne_eqb, not-false}
 use Rattle.std.proofs.lemmas.List.FromFn.{get_or-map-range_with_len, map-range_with_len_more}
-use Rattle.bdb_format.specs.declared.kinds.Order.{Order}
 use Rattle.bdb_format.specs.declared.metadata.Head.{Head}
 use Rattle.bdb_format.specs.declared.references.Sort.{Sort}
 use Rattle.bdb_format.specs.declared.references.Sort.TheVariants.{OverflowHead}
@@ -14,15 +13,12 @@ use Rattle.bdb_format.specs.Chains.{chain_in, next_of, piece_in, pieces_of}
 use Rattle.bdb_format.specs.File.{File, file_of, header_in, page_at, type_in}
 use Rattle.bdb_format.specs.Graph.{all_references, is_head_reference}
 use Rattle.bdb_format.specs.HeadOf.{head_of}
-use Rattle.bdb_format.specs.Numbers.{byte_at, two_at}
 use Rattle.bdb_format.specs.Page.{Page}
-use Rattle.bdb_format.specs.Reading.{abstract_page, is_zero, page_as, page_type}
 use Rattle.bdb_format.specs.References.{asked_by, fit_code, fit_rows, has_type}
 use Rattle.bdb_format.proofs.FileLemmas.{page_is}
-use Rattle.bdb_format.proofs.GraphLemmas.{each_fits, typed_page, zero_page}
+use Rattle.bdb_format.proofs.GraphLemmas.{each_fits}
 use Rattle.bdb_format.proofs.MemberLemmas.{none_passes}
 use Rattle.bdb_format.proofs.ReferenceLemmas.{of_all}
-use Rattle.bdb_format.proofs.TypeLemmas.{if_type}
 use Rattle.bdb_format.proofs.VerdictLemmas.{AllFail, none_is_first_row}
 use Rattle.bdb_graph.specs.declared.tally.Kinds.{Kinds}
 use Rattle.bdb_graph.specs.ChainLengths.{AreLengths, chain_length, kept_length, length_in, may_head}

@@ -48,6 +48,7 @@ impl<'a> Chains<'a> {
     }
 
     /// The hash of the key of a pair. An error is want of memory, for a chain that is shared.
+    #[tactic(auto, using(bdb_buckets::proofs::HeadLemmas::chain_key))]
     #[inline(always)]
     pub(crate) fn hash_of(&mut self, pair: &Pair<'_>) -> Result<u32, AllocError>
         requires { pair.now.image ≡ self.old }

@@ -53,6 +53,7 @@ impl<'a> SeenKeys<'a> {
     }
 
     /// Notes a pair whose key is among these, and adds its key. An error is want of memory.
+    #[tactic(auto, using(bdb_buckets::proofs::HeadLemmas::chain_key))]
     pub(crate) fn note<F: FaultSink>(
         &mut self,
         pair: &Pair<'a>,

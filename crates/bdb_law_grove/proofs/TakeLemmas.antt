@@ -1,6 +1,5 @@
 -- A grove takes in an entrance by one more reference.
 use Rattle.std.proofs.Common.{◌≡◌, ◌⊎◌, ℕ, ◌+◌, ◌≤◌, Bool, true, false, cond, List, [], ◌∷◌, ◌++◌, map, Some, None, arith, refl, sym, ◌∙◌, ap, subst, inl, inr}
-use Rattle.std.proofs.Common.{true≢false}
 use Rattle.std.specs.Prelude.{◌==◌, ◌&&◌, IsTrue}
 use Rattle.std.specs.List.{Contains, filter, flat_map, range_with_len}
 use Rattle.std.proofs.lemmas.Bool.{cases_Bool, cases_eq, eqb-false, eq-eqb, ne_eqb}

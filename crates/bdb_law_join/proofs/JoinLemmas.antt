@@ -1,5 +1,5 @@
 -- Joined parts have no fault of any stage but that of a master.
-use Rattle.std.proofs.Common.{◌≡◌, ◌<◌, List, [], ◌∷◌, arith, ◌∙◌}
+use Rattle.std.proofs.Common.{◌≡◌, ◌<◌, List, [], ◌∷◌, arith}
 use Rattle.bdb_format.specs.File.{File, file_of}
 use Rattle.bdb_format.specs.Verdict.{faults_of, ownership_faults, reach_faults, head_faults, tail_faults}
 use Rattle.bdb_format.proofs.GraphLemmas.{each_page_has_one_role}

@@ -1,6 +1,5 @@
 -- Levels over a branch.
 use Rattle.std.proofs.Common.{◌≡◌, ℕ, ◌+◌, ◌≤◌, true, false, List, [], ◌∷◌, map, arith, sym, ◌∙◌, ap, subst, inl, inr, true≢false, refl}
-use Rattle.std.specs.Prelude.{◌||◌}
 use Rattle.std.specs.List.{All, Contains, flat_map, list_any}
 use Rattle.std.proofs.lemmas.Bool.{or_from, or_cases}
 use Rattle.std.proofs.lemmas.List.Elements.{All-contains, All-head, All-tail, Contains-append_cases}

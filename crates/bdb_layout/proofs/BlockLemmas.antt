@@ -1,5 +1,5 @@
 -- A run goes on after its first block, in any number of turns that is enough; its blocks, spelled, are its bytes.
-use Rattle.std.proofs.Common.{◌≡◌, ℕ, ◌+◌, ◌*◌, ◌/◌, ◌%◌, ◌<◌, ◌≤◌, zero, suc, List, [], ◌∷◌, ◌++◌, length, take, drop, get_or, refl, ap, inl, inr, arith, ◌∙◌}
+use Rattle.std.proofs.Common.{◌≡◌, ℕ, ◌+◌, ◌<◌, ◌≤◌, zero, suc, List, [], ◌∷◌, ◌++◌, length, take, drop, get_or, refl, ap, inl, inr, arith, ◌∙◌}
 use Rattle.std.proofs.Common.{length-drop, length-take, drop-cons, append_assoc}
 use Rattle.std.specs.Prelude.{Bool, true, false, not, ◌||◌, nat_lt, ◌==◌, if◌then◌else◌, Option, Some, None, IsSome, is_some}
 use Rattle.std.specs.List.{flat_map}

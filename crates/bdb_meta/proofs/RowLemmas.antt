@@ -1,7 +1,7 @@
 -- Rows that follow one another, and the answer of a table with a value.
 use Rattle.bdb_format.proofs.PageLemmas.{answer_value}
 use Rattle.std.proofs.Common.{◌≡◌, ℕ, List, [], ◌∷◌, ◌++◌, ◌∙◌, ◌<◌, ◌≤◌, length, refl, arith, append_assoc}
-use Rattle.std.specs.Prelude.{None, Ok, Err, ◌==◌}
+use Rattle.std.specs.Prelude.{None, Ok, Err}
 use Rattle.bdb_format.specs.declared.metadata.MetaFault.{MetaFault}
 use Rattle.bdb_format.specs.declared.kinds.Order.{Order}
 use Rattle.bdb_format.specs.declared.metadata.FileKind.{FileKind}

@@ -1,7 +1,7 @@
 -- The keys of a bucket, page by page.
 use Rattle.std.proofs.Common.{◌≡◌, ◌⊎◌, ℕ, ◌+◌, ◌-◌, ◌<◌, ◌≤◌, Bool, true, List, [], ◌∷◌, ◌++◌, map, length, get_or, take, take-add, drop, None, append_assoc}
 use Rattle.std.proofs.Common.{arith, refl, sym}
-use Rattle.std.proofs.Common.{◌∙◌, ap, subst, inl, inr, length-append, length-drop, true≢false}
+use Rattle.std.proofs.Common.{◌∙◌, ap, subst, inl, inr, length-append, length-drop}
 use Rattle.std.specs.Prelude.{◌==◌, ◌&&◌, not}
 use Rattle.std.specs.List.{sum_by}
 use Rattle.std.proofs.lemmas.Bool.{and_parts, cases_eq, cases_lt, eq-eqb, eqb-true, ne_eqb, or_cases, or_left, or_right}

@@ -1,5 +1,5 @@
 -- A set that is spelled is a run of its blocks.
-use Rattle.std.proofs.Common.{◌≡◌, ℕ, ◌+◌, ◌<◌, List, [], ◌∷◌, ◌++◌, length, ap, ◌∙◌, arith}
+use Rattle.std.proofs.Common.{◌≡◌, ℕ, ◌<◌, List, [], ◌∷◌, length, ap, ◌∙◌, arith}
 use Rattle.std.specs.Prelude.{◌^◌, Some}
 use Rattle.std.specs.Option.{option_map}
 use Rattle.std.specs.List.{All, flat_map}

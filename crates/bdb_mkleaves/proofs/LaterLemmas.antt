@@ -1,5 +1,5 @@
 -- A later file of a later file.
-use Rattle.std.proofs.Common.{◌≡◌, ℕ, ◌≤◌, Bool, true, arith, sym, ◌∙◌, subst, inl, inr}
+use Rattle.std.proofs.Common.{◌≡◌, ℕ, Bool, true, arith, sym, subst, inl, inr}
 use Rattle.bdb_format.specs.Page.{Page}
 use Rattle.bdb_format.specs.File.{File}
 use Rattle.bdb_law_grove.specs.Growing.{IsLater, IsSamePage}

@@ -1,5 +1,5 @@
 -- A value that is stored page by page.
-use Rattle.std.proofs.Common.{◌≡◌, ℕ, suc, min, ◌+◌, ◌-◌, ◌*◌, ◌^◌, ◌<◌, ◌≤◌, List, [], ◌∷◌, ◌++◌, length, take, drop, replicate, arith, ◌∙◌}
+use Rattle.std.proofs.Common.{◌≡◌, ℕ, suc, min, ◌+◌, ◌-◌, ◌*◌, ◌^◌, ◌<◌, ◌≤◌, List, [], length, take, drop, replicate, arith, ◌∙◌}
 use Rattle.std.proofs.Common.{ap, subst, length-append, length-drop}
 use Rattle.std.proofs.lemmas.List.{append_assoc, append-nil, get_or_push, length-replicate, length-take-le, set_at}
 use Rattle.bdb_format.specs.declared.kinds.Order.{Order}

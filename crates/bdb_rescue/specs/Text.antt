@@ -1,5 +1,5 @@
 -- The text of what is salvaged from an image: a section for the stored pairs, and one for the loose records. Source: docs/FORMAT.md, "Salvage".
-use Rattle.std.specs.Prelude.{ℕ, Bool, true, false, List, [], ◌∷◌, ◌++◌, map, Some, codes}
+use Rattle.std.specs.Prelude.{ℕ, Bool, true, List, [], ◌∷◌, ◌++◌, map, Some, codes}
 use Rattle.std.specs.List.{enumerate_from}
 use Rattle.bdb_format.specs.declared.kinds.Kind.TheVariants.{Btree, Recno}
 use Rattle.bdb_format.specs.declared.settings.Settings.{Settings}

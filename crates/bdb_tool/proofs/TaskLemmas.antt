@@ -8,7 +8,6 @@ use Rattle.bdb_file.specs.declared.rows.Rows.TheVariants.{All}
 use Rattle.bdb_format.specs.Faults.{Took}
 use Rattle.bdb_tool_words.specs.declared.command.Action.TheVariants.{Ask as AskWord, Read as ReadWord, Load as LoadWord, Salvage as SalvageWord}
 use Rattle.bdb_tool_words.specs.declared.command.Action.TheVariants.{Repair as RepairWord}
-use Rattle.bdb_tool_words.specs.declared.command.Action.TheVariants.{Trial as TrialWord}
 use Rattle.bdb_tool_words.specs.declared.command.Reading.{Reading}
 use Rattle.bdb_tool_words.specs.declared.command.Request.{Request as CodeRequest}
 use Rattle.bdb_tool_words.specs.declared.command.Repair.{Repair as CodeRepair}

@@ -1,5 +1,5 @@
 -- The lines that say why a text isn't loaded, and those of a trial. Source: README.md, "Use", and docs/FORMAT.md, "Reasons".
-use Rattle.std.specs.Prelude.{ℕ, List, [], ◌∷◌, ◌++◌, codes, decimal}
+use Rattle.std.specs.Prelude.{ℕ, List, ◌++◌, codes, decimal}
 use Rattle.bdb_format.specs.declared.kinds.Kind.{Kind}
 use Rattle.bdb_text_format.specs.declared.faults.TextFault.{TextFault}
 use Rattle.bdb_text_format.specs.ReasonTable.{reason_code, reason_name}

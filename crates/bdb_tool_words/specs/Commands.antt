@@ -10,7 +10,7 @@ use Rattle.bdb_format.specs.declared.kinds.Order.{Order}
 use Rattle.bdb_format.specs.declared.kinds.Order.TheVariants.{Big, Little}
 use Rattle.bdb_format.specs.Digits.{number_in}
 use Rattle.bdb_model.specs.Answers.{Answer, told}
-use Rattle.bdb_model.specs.Command.{Arguments, Given, OptionRow, arguments, asked_name, hex_option, hex_row, is_given, limit_of, max_bytes, max_bytes_row}
+use Rattle.bdb_model.specs.Command.{Arguments, OptionRow, arguments, asked_name, hex_option, hex_row, is_given, limit_of, max_bytes, max_bytes_row}
 use Rattle.bdb_model.specs.Command.{name_option, name_row, once, operand_spelled, print_option, print_row, value_given}
 use Rattle.bdb_model.specs.declared.shape.Duplicates.{Duplicates}
 use Rattle.bdb_model.specs.declared.shape.Duplicates.TheVariants.{No, Unsorted, Sorted}

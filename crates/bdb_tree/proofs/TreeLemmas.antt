@@ -3,7 +3,7 @@ use Rattle.std.proofs.Common.{◌≡◌, ◌⊎◌, ℕ, zero, suc, ◌+◌, ◌
 use Rattle.std.proofs.Common.{◌∙◌, ap, subst, inl, inr, length-append}
 use Rattle.std.specs.Prelude.{Option, Some, None, ◌==◌, ◌&&◌, nat_lt, ◌%◌, get_or}
 use Rattle.std.specs.List.{Contains, filter, flat_map}
-use Rattle.std.proofs.lemmas.Bool.{and_left, ne_eqb, cases_lt, eq-eqb, eqb-false, eqb-true, ltb-false, not-false, or_parts, true≢false}
+use Rattle.std.proofs.lemmas.Bool.{and_left, ne_eqb, cases_lt, eq-eqb, eqb-false, eqb-true, ltb-false, not-false, or_parts}
 use Rattle.std.proofs.lemmas.List.{get_or_past}
 use Rattle.std.proofs.lemmas.List.Elements.{Contains-append_right, Contains-get_or}
 use Rattle.bdb_format.specs.declared.metadata.BtreeMeta.{BtreeMeta}

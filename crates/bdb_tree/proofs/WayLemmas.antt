@@ -1,7 +1,7 @@
 -- The way of a descent, page by page.
 use Rattle.std.proofs.Common.{◌≡◌, ℕ, zero, suc, ◌+◌, ◌<◌, ◌≤◌, Bool, true, List, [], ◌∷◌, length, map, arith, refl, sym, ◌∙◌, ap, subst}
 use Rattle.std.proofs.Common.{inl, inr}
-use Rattle.std.specs.Prelude.{Option, Some, None, ◌==◌, not}
+use Rattle.std.specs.Prelude.{Option, Some, None, not}
 use Rattle.std.specs.List.{Contains, filter, last_or}
 use Rattle.std.specs.Option.{unwrap_or}
 use Rattle.bdb_slots.specs.Slots.{no_internal_item}

@@ -1,4 +1,4 @@
-use Rattle.std.proofs.Common.{List, [], cond, subst, sym}
+use Rattle.std.proofs.Common.{[], cond, subst, sym}
 use Rattle.bdb_faults.specs.Notes.{NotesAll}
 use Rattle.bdb_faults.specs.declared.rows.ContentsRow.TheVariants.{Count}
 use Rattle.bdb_format.specs.ContentRows.{has_wrong_count, inner_pages}

@@ -1,5 +1,4 @@
-use Rattle.std.proofs.Common.{arith, sym, ◌∙◌, ap}
-use Rattle.bdb_format.specs.HeadOf.{is_page_size}
+use Rattle.std.proofs.Common.{arith}
 use Rattle.bdb_text_format.specs.Placed.{pairs_of}
 use Rattle.bdb_mkqueue.proofs.FileLemmas.{filed, zero_first}
 use Rattle.bdb_building_tests.proofs.queues.queue_file.Goals as goal

@@ -1,4 +1,4 @@
-use Rattle.std.proofs.Common.{◌≡◌, ◌≤◌, ap, arith, subst, sym}
+use Rattle.std.proofs.Common.{◌≤◌, ap, arith, subst, sym}
 use Rattle.bdb_format.specs.declared.metadata.Head.{Head}
 use Rattle.bdb_format.specs.File.{file_of}
 use Rattle.bdb_format.proofs.FileLemmas.{last_page}

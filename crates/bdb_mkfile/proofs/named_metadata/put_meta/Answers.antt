@@ -1,5 +1,4 @@
-use Rattle.std.proofs.Common.{◌-◌, arith, subst, IsTrue}
-use Rattle.bdb_format.specs.HeadOf.{is_page_size}
+use Rattle.std.proofs.Common.{◌-◌, arith}
 use Rattle.bdb_mkfile.proofs.WritingLemmas.{put_is}
 use Rattle.bdb_mkfile.proofs.named_metadata.put_meta.Goals as goal
 

@@ -1,6 +1,5 @@
-use Rattle.std.proofs.Common.{arith, sym, ◌∙◌, ap}
+use Rattle.std.proofs.Common.{arith, ◌∙◌}
 use Rattle.bdb_text_format.specs.Placed.{pairs_of}
-use Rattle.bdb_format.specs.HeadOf.{is_page_size}
 use Rattle.bdb_mkqueue.proofs.FileLemmas.{zero_first}
 use Rattle.bdb_mkfile.proofs.QueueLemmas.{queue_filed}
 use Rattle.bdb_mkfile.proofs.queue.queue_image.Goals as goal

@@ -1,6 +1,5 @@
-use Rattle.std.proofs.Common.{ℕ, ◌∙◌, ap, subst, arith, IsTrue}
+use Rattle.std.proofs.Common.{ℕ, ◌∙◌, ap, subst, arith}
 use Rattle.bdb_text_format.specs.Placed.{pairs_of}
-use Rattle.bdb_format.specs.HeadOf.{is_page_size}
 use Rattle.bdb_text_format.specs.Pairs.{listed}
 use Rattle.bdb_pack.specs.Built.{Built, joined_pages}
 use Rattle.bdb_mktree.specs.Building.{IsTreeBuilt}

@@ -1,4 +1,4 @@
-use Rattle.std.proofs.Common.{arith, sym, ap, subst, Some, true, ◌-◌, ◌≡◌, ◌∙◌}
+use Rattle.std.proofs.Common.{arith, ap, subst, Some, true, ◌≡◌, ◌∙◌}
 use Rattle.bdb_text_format.specs.Placed.{slice_seen}
 use Rattle.bdb_mktree.specs.Lists.{has_key_at}
 use Rattle.bdb_mktree.proofs.ListLemmas.{ends_at, goes_on_at, key_within, run_over}

@@ -9,7 +9,7 @@ use Rattle.bdb_text_format.specs.LineEnd.{line}
 use Rattle.bdb_text_format.specs.Written.{data_end, header_text}
 use Rattle.bdb_tool_print.specs.Printers.{Adds, pair_text}
 use Rattle.bdb_tool_print.proofs.DumpLemmas.{section_by_parts}
-use Rattle.bdb_tool_print.proofs.PrinterLemmas.{adds_cut, cut_up, then_adds}
+use Rattle.bdb_tool_print.proofs.PrinterLemmas.{adds_cut, cut_up}
 use Rattle.bdb_tool_print.proofs.printing.Printer.database_section.Goals as goal
 
 pub returns-in_err-header : goal.returns-in_err-header
