@@ -1,11 +1,11 @@
 -- The head of a key.
-use Rattle.std.proofs.Common.{◌≡◌, ℕ, List, ◌∙◌, ap}
-use Rattle.std.specs.Prelude.{true, Some}
+use Rattle.std.proofs.Common.{◌≡◌, ℕ, ◌*◌, List, ◌∙◌, ap}
+use Rattle.std.specs.Prelude.{true, Option, Some}
 use Rattle.bdb_format.specs.Chains.{value_of}
 use Rattle.bdb_format.specs.File.{file_of, page_at}
 use Rattle.bdb_format.specs.Page.{Content, Chain, Page, Hash}
 use Rattle.bdb_format.specs.References.{item_at}
-use Rattle.bdb_buckets.specs.Chained.{IsHead, chain_head, chain_value}
+use Rattle.bdb_buckets.specs.Chained.{IsHead, IsKeyed, chain_head, chain_value}
 use Rattle.bdb_buckets.specs.Places.{has_pair, key_content, pair_on}
 use Rattle.bdb_buckets.specs.Told.{Told}
 
@@ -24,3 +24,7 @@ pub chain_key : (t : Told) (head : ℕ) → IsHead (Some head) t → t.pair.key 
 chain_key t head is =
     ap (λ (one : Told). one.pair.key) is.stands.is
     ∙ page_read t.image t.pair.page is.index (page_at (file_of t.image) t.pair.page) head is.stands.there is.is
+
+-- what is known of a pair that was read tells the head of its key
+pub is_head : (head : Option ℕ) (i : ℕ) (t : Told) → IsKeyed head t.pair.page i t → IsHead head t
+is_head head i t is = record { index = i; stands = is.read.stands; is = is.headed }

@@ -40,7 +40,7 @@ head_on image p i = chain_head (key_content (page_at (file_of image) p) i)
 -- what the code knows of a pair that it has read, with the head of its key
 pub record IsKeyed (head : Option ℕ) (p i : ℕ) (t : Told) : Type 0 where
   pub read : IsRead p i t
-  pub head : head ≡ head_on t.image p i
+  pub headed : head ≡ head_on t.image p i
 
 -- the head of the chain that the key of a pair is, if it's one, where the pair stands on its page
 pub record IsHead (head : Option ℕ) (t : Told) : Type 0 where

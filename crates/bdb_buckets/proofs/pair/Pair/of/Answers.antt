@@ -16,5 +16,5 @@ invariant_of-result c =
     ∙ ap (λ key. told_as c.args.forest.now c.args.page key (hash_content_seen c.args.pair.value)) c.key_of.ensures in
     record {
       read = subst (IsRead c.args.page c.args.pair.index) (sym same) c.requires.read;
-      head = c.head_of.ensures ∙ ap chain_head c.requires.stored ∙ ap (λ image. head_on image c.args.page c.args.pair.index) (sym c.again.ensures);
+      headed = c.head_of.ensures ∙ ap chain_head c.requires.stored ∙ ap (λ image. head_on image c.args.page c.args.pair.index) (sym c.again.ensures);
     }
