@@ -48,7 +48,6 @@ impl<'a> Ranked<'a> {
 }
 
 /// The pair with this index of a hash page.
-#[tactic(auto, using(bdb_buckets::proofs::PairLemmas::is_given))]
 fn read_at<'a>(forest: &Forest<'a>, page: u32, index: u16) -> Pair<'a>
     requires table { IsTable forest.now }
     requires inside { page ≤ (file_of forest.now).last }
