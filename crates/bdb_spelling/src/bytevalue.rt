@@ -1,6 +1,8 @@
 // Bytes as two hexadecimal digits each.
-ghost use Rattle.std.specs.Prelude.{◌≡◌, ◌≤◌, ◌++◌, length, OnOk, OnErr, take, true, false};
+ghost use Rattle.std.specs.Prelude.{◌≡◌, ◌≤◌, ◌+◌, ◌*◌, ◌++◌, length, OnOk, OnErr, take, true, false};
+ghost use Rattle.bdb_text_format.specs.LineEnd.{line};
 ghost use Rattle.bdb_text_format.specs.TextSpelling.{byte_of_digits, digit_value, digits_unit, spelling, two_digits};
+ghost use Rattle.bdb_text_format.specs.Written.{data_line};
 ghost use Rattle.bdb_spelling.specs.Spellings.{AddsPart, first_seen};
 
 use crate::spellings::First;
@@ -12,6 +14,9 @@ const PIECE: usize = 128;
 
 /// The digits of so many bytes.
 const DIGITS: usize = 256;
+
+/// The longest value whose data line is added at once.
+pub const SHORT_VALUE: usize = 127;
 
 /// The two digits of a byte, in lower case.
 pub fn two_digits(byte: u8) -> [u8; 2]
@@ -46,6 +51,34 @@ fn push_piece(text: &mut Bytes, piece: &[u8]) -> Result<(), AllocError>
     let digits = &mut room[..2 * piece.len()];
     hex::encode_to_slice(piece, digits).unwrap();
     text.push_all(digits)
+}
+
+/// Fills a room with the data line of a value.
+fn fill_line(room: &mut [u8], value: &[u8])
+    requires { length room.old ≡ 2 * length value.now + 2 }
+    ensures { room.new ≡ line (data_line false value.now) }
+{
+    let Some((space, rest)) = room.split_first_mut() else {
+        return;
+    };
+    let Some((feed, digits)) = rest.split_last_mut() else {
+        return;
+    };
+    *space = b' ';
+    hex::encode_to_slice(value, digits).unwrap();
+    *feed = b'\n';
+}
+
+/// Adds the data line of a short value: a space, two digits for each byte, and a line feed. Where memory is wanting, nothing is added.
+pub fn push_short_line(text: &mut Bytes, value: &[u8]) -> Result<(), AllocError>
+    requires { length value.now ≤ SHORT_VALUE }
+    ensures ok { OnOk result (text.new ≡ text.old ++ line (data_line false value.now)) }
+    ensures err { OnErr result (text.new ≡ text.old) }
+{
+    let mut room = [0u8; DIGITS];
+    let whole = &mut room[..2 * value.len() + 2];
+    fill_line(whole, value);
+    text.push_all(whole)
 }
 
 /// The byte of two digits, in either case.

@@ -9,6 +9,7 @@ mod printed;
 mod runs;
 mod spellings;
 
+pub use bytevalue::{SHORT_VALUE, push_short_line};
 pub use digits::number_read;
 pub use lines::{line_text, push_line_text};
 pub use numbers::number_text;

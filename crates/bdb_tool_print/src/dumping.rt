@@ -18,18 +18,29 @@ use bdb_file::{Db, Readable, Scan};
 use bdb_format::{Bytes, Settings};
 use bdb_io::Sink;
 use bdb_overflow::{Datum, KeyView};
+use bdb_spelling::SHORT_VALUE;
 use bdb_text::{header_text, number_text};
 use bdb_tool_lines::Cut;
 use std::alloc::Global;
 
 impl<'k, K: Sink> Printer<'k, K> {
-    /// Prints the data line of a value.
+    /// Prints the data line of any value.
     #[tactic(auto, using(crate::proofs::PrinterLemmas::then_adds_byte, crate::proofs::PrinterLemmas::byte_cut))]
-    fn data_line(&mut self, value: &Datum<'_>, print: bool) -> Result<(), Cut>
+    fn any_line(&mut self, value: &Datum<'_>, print: bool) -> Result<(), Cut>
         ensures { Adds K.written K.faults self.old self.new (line (data_line print (datum_seen value.now))) result }
     {
         self.text(b" ")?;
         self.value_line(value, print)
+    }
+
+    /// Prints the data line of a value.
+    fn data_line(&mut self, value: &Datum<'_>, print: bool) -> Result<(), Cut>
+        ensures { Adds K.written K.faults self.old self.new (line (data_line print (datum_seen value.now))) result }
+    {
+        match value {
+            Datum::Inline(bytes) if !print && bytes.len() <= SHORT_VALUE => self.short_line(bytes),
+            _ => self.any_line(value, print),
+        }
     }
 
     /// Prints the data line of a number, which is spelled as the bytes of its digits.

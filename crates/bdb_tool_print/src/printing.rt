@@ -1,13 +1,16 @@
-ghost use Rattle.std.specs.Prelude.{◌≡◌, [], OnOk};
+ghost use Rattle.std.specs.Prelude.{◌≡◌, ◌≤◌, [], false, length, OnOk};
 ghost use Rattle.bdb_model.specs.Answers.{value_line};
 ghost use Rattle.bdb_format.specs.Chains.{joined};
+ghost use Rattle.bdb_text_format.specs.LineEnd.{line};
 ghost use Rattle.bdb_text_format.specs.TextSpelling.{spelling};
+ghost use Rattle.bdb_text_format.specs.Written.{data_line};
 ghost use Rattle.bdb_overflow.specs.Datum.{datum_seen};
 ghost use Rattle.bdb_tool_print.specs.Printers.{Adds};
 
 use bdb_format::Bytes;
 use bdb_io::{Sink, put_all};
 use bdb_overflow::{Datum, Pieces};
+use bdb_spelling::{SHORT_VALUE, push_short_line};
 use bdb_text::push_line_text;
 use bdb_tool_lines::Cut;
 use std::alloc::Global;
@@ -63,6 +66,17 @@ impl<'k, K: Sink> Printer<'k, K> {
         ensures { Adds K.written K.faults self.old self.new (spelling print bytes.now) result }
     {
         match push_line_text(self.pending, bytes, print) {
+            Ok(()) => self.pass_on(),
+            Err(_) => Err(Cut::Memory),
+        }
+    }
+
+    /// Prints the data line of a short value by digits: it's gathered before it is added, since most lines are such.
+    pub(crate) fn short_line(&mut self, value: &[u8]) -> Result<(), Cut>
+        requires { length value.now ≤ SHORT_VALUE }
+        ensures { Adds K.written K.faults self.old self.new (line (data_line false value.now)) result }
+    {
+        match push_short_line(self.pending, value) {
             Ok(()) => self.pass_on(),
             Err(_) => Err(Cut::Memory),
         }
