@@ -1,7 +1,7 @@
-ghost use Rattle.std.specs.Prelude.{◌≡◌, []};
+ghost use Rattle.std.specs.Prelude.{◌≡◌, [], ◌∷◌, IfSome};
 ghost use Rattle.std.specs.List.{flat_map};
 ghost use Rattle.std.specs.Iterator.{YieldsFirstBy, item_count};
-ghost use Rattle.bdb_format.specs.File.{file_of};
+ghost use Rattle.bdb_format.specs.File.{File, file_of};
 ghost use Rattle.bdb_format.specs.Lists.{listed_pair};
 ghost use Rattle.bdb_format.specs.Verdict.{structure_faults};
 ghost use Rattle.bdb_btree.specs.Pairs.{FitsPair, left_of, pair_seen};
@@ -11,6 +11,7 @@ use crate::data::{ItemData, item_data};
 use crate::pair::Pair;
 use crate::walk::Pairs;
 use bdb_graph::Forest;
+use bdb_layout::LeafItem;
 use bdb_overflow::{Datum, KeyView};
 use std::marker::Model;
 
@@ -82,6 +83,20 @@ pub fn next_entry<'a>(here: &mut Option<Entries<'a>>) -> Option<(KeyView<'a>, Da
     }
 }
 
+/// The only entry of a live pair whose datum stands on its page.
+#[inline(always)]
+#[tactic(auto, unfolding(bdb_format::specs::Contents::data_of))]
+fn entry_on_page<'a>(pair: &Pair<'a>) -> Option<(KeyView<'a>, Datum<'a>)>
+    ensures { IfSome result (λ entry. (file : File) → listed_pair file (pair_seen pair.now) ≡ entry_seen entry ∷ []) }
+{
+    match &pair.item {
+        LeafItem::Inline { bytes, .. } if pair.live => {
+            Some((KeyView::Bytes(pair.key.again()), Datum::Inline(bytes)))
+        }
+        _ => None,
+    }
+}
+
 /// The list of a btree that is left: its live pairs from left to right, each key with each of its data.
 pub struct Scan<'a> {
     forest: Forest<'a>,
@@ -141,6 +156,10 @@ impl<'a> Iterator for Scan<'a> {
                 return Some(entry);
             }
             let pair = self.pairs.next()?;
+            // Most pairs are such, and what else a pair may have takes long to set up.
+            if let Some(entry) = entry_on_page(&pair) {
+                return Some(entry);
+            }
             self.here = pair_entries(&self.forest, pair);
         }
     }

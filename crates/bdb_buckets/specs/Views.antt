@@ -1,5 +1,5 @@
 -- What the iterators over a bucket and its pairs keep.
-use Rattle.std.specs.Prelude.{◌≡◌, ◌≤◌, ℕ, IsTrue, List, []}
+use Rattle.std.specs.Prelude.{◌≡◌, ◌≤◌, ℕ, IsTrue, List, [], Option, Some, None}
 use Rattle.bdb_image.specs.Linked.{FitsDupRoot, IsForest}
 use Rattle.bdb_overflow.specs.Datum.{FitsContent}
 use Rattle.bdb_buckets.specs.Told.{is_of_bucket}
@@ -23,6 +23,14 @@ pub record IsOfBucket (file : File) (p : ℕ) : Type 0 where
 pub record IsOnWay (image : List ℕ) (next : ℕ) : Type 0 where
   pub forest : IsTable image
   pub fits : (next ≡ 0 → ⊥) → IsOfBucket (file_of image) next
+
+-- the value that an item has on its page
+abbrev pub value_on_page : Content → Option (List ℕ)
+value_on_page (Inline bytes) = Some bytes
+value_on_page (Set blocks) = None
+value_on_page (Chain head total) = None
+value_on_page (Tree root) = None
+value_on_page Unknown = None
 
 -- a set off the page has a root of its own
 abbrev pub FitsRoot : File → Content → Type 0

@@ -1,16 +1,16 @@
-ghost use Rattle.std.specs.Prelude.{◌≡◌, IfSome};
+ghost use Rattle.std.specs.Prelude.{◌≡◌, [], ◌∷◌, IfSome, MatchOption, None};
 ghost use Rattle.bdb_form.specs.Pairs.{pair_seen};
 ghost use Rattle.bdb_overflow.specs.Datum.{FitsContent, datum_seen};
 ghost use Rattle.bdb_buckets.specs.Chained.{IsHead, chain_head};
 ghost use Rattle.bdb_buckets.specs.Places.{IsAt, IsGiven};
 ghost use Rattle.bdb_buckets.specs.Told.{entry_list, has_key, listed_told, told_pair};
-ghost use Rattle.bdb_buckets.specs.Views.{IsPair};
+ghost use Rattle.bdb_buckets.specs.Views.{IsPair, value_on_page};
 ghost use Rattle.bdb_layout.specs.Seen.{hash_content_seen, hash_item_seen};
 ghost use Rattle.bdb_format.specs.Chains.{value_of};
 ghost use Rattle.bdb_format.specs.ContentRows.{is_duplicate, is_wrong_set};
 ghost use Rattle.bdb_format.specs.Contents.{data_of};
 ghost use Rattle.bdb_format.specs.File.{file_of};
-ghost use Rattle.bdb_format.specs.Page.{Tree};
+ghost use Rattle.bdb_format.specs.Page.{Inline, Tree};
 
 use crate::Data;
 use crate::place::Place;
@@ -169,6 +169,19 @@ impl<'a> Pair<'a> {
             item,
         } = self;
         (key, Data::of_item(&forest, item))
+    }
+
+    /// Its datum, if it has one and that stands on its page.
+    #[inline(always)]
+    #[tactic(auto, unfolding(bdb_format::specs::Contents::data_of))]
+    pub fn value_on_page(&self) -> Option<&'a [u8]>
+        ensures value { MatchOption result (value_on_page self.now.pair.data_item ≡ None) (λ bytes. self.now.pair.data_item ≡ Inline bytes.now) }
+        ensures listed { IfSome result (λ bytes. listed_told self.now ≡ entry_list self.now.pair.key (bytes.now ∷ [])) }
+    {
+        match &self.item {
+            HashItem::Inline(bytes) => Some(bytes),
+            HashItem::Set(_) | HashItem::OffPage { .. } | HashItem::Overflow { .. } => None,
+        }
     }
 
     /// Whether its data are a set.

@@ -2,6 +2,7 @@ pub mod ChainedLemmas
 pub mod FaultLemmas
 pub mod HashedLemmas
 pub mod KeptLemmas
+pub mod ListingLemmas
 pub mod LookupLemmas
 pub mod MaskLemmas
 pub mod NotedLemmas

@@ -54,6 +54,7 @@ impl<'a> Scan<'a> {
 }
 
 /// The first of the data that are left, of this key and of the pairs after it, with its key.
+#[tactic(auto, using(crate::proofs::ListingLemmas::listed_at_once))]
 fn next_entry<'a>(
     rest: &mut Ranked<'a>,
     key: &mut Datum<'a>,
@@ -67,6 +68,10 @@ fn next_entry<'a>(
             return Some((KeyView::Bytes(key.again()), value));
         }
         let pair = rest.next()?;
+        // Most pairs are such, and what else a pair may have takes long to set up.
+        if let Some(bytes) = pair.value_on_page() {
+            return Some((KeyView::Bytes(pair.key().again()), Datum::Inline(bytes)));
+        }
         let (next_key, next_values) = pair.into_entry();
         *key = next_key;
         *values = next_values;
