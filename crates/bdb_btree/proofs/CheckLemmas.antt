@@ -20,7 +20,7 @@ use Rattle.bdb_format.specs.Verdict.{by_page, holding}
 use Rattle.bdb_format.proofs.MemberLemmas.{filter_step, first_member, later_member, member_cases, no_member}
 use Rattle.bdb_format.proofs.VerdictLemmas.{InOrder, IsOfStage, in_by_page, of_by_page, table_in_order}
 use Rattle.bdb_format.specs.Flags.{counts_records, has_duplicates, is_sorted}
-use Rattle.bdb_image.specs.Linked.{FitsTreeRoot, IsForest}
+use Rattle.bdb_overflow.specs.of_image.Linked.{FitsTreeRoot, IsForest}
 use Rattle.bdb_btree.specs.Counts.{IsKeyed}
 use Rattle.bdb_btree.specs.Noted.{faults_at}
 use Rattle.bdb_btree.specs.Rows.{has_wrong_order, no_pairs_passed, pairs_faults}

@@ -18,7 +18,7 @@ use Rattle.bdb_format.specs.File.{File, file_of, page_at}
 use Rattle.bdb_format.specs.Leaves.{children_in}
 use Rattle.bdb_format.specs.Page.{InternalItem, Listed, Internal}
 use Rattle.bdb_format.proofs.MemberLemmas.{later_member}
-use Rattle.bdb_image.specs.Linked.{IsForest}
+use Rattle.bdb_overflow.specs.of_image.Linked.{IsForest}
 use Rattle.bdb_btree.specs.Counts.{IsKeyed, added, count_pair, counted, counts_of}
 use Rattle.bdb_btree.specs.Noted.{faults_at}
 use Rattle.bdb_btree.specs.declared.counts.Counts.{Counts}

@@ -21,7 +21,7 @@ use Rattle.bdb_format.proofs.LessLemmas.{less_above, less_not_back, less_self}
 use Rattle.bdb_format.proofs.ListLemmas.{flat_map_twice}
 use Rattle.bdb_format.proofs.MemberLemmas.{first_member, later_member, member_cases, no_member}
 use Rattle.bdb_format.proofs.FileLemmas.{last_page, page_is, pages_counted}
-use Rattle.bdb_image.specs.Linked.{IsForest}
+use Rattle.bdb_overflow.specs.of_image.Linked.{IsForest}
 use Rattle.bdb_tree.proofs.TreeLemmas.{leaves_of_inner}
 use Rattle.bdb_btree.specs.Bounds.{DontFall, NoneBelow, OrderedIf}
 use Rattle.bdb_btree.specs.Rows.{Passed, next_pair, no_pairs_passed}

@@ -27,9 +27,9 @@ use Rattle.bdb_format.specs.Verdict.{holding, structure_faults}
 use Rattle.bdb_format.proofs.MemberLemmas.{first_member, in_flat_map, in_map, in_range, later_member, none_passes}
 use Rattle.bdb_format.proofs.VerdictLemmas.{AllFail, all_fail, no_codes_at}
 use Rattle.bdb_format.specs.Flags.{is_recno}
-use Rattle.bdb_image.specs.Linked.{FitsLeafPage, HasMetadata, IsForest}
-use Rattle.bdb_slots.specs.Slots.{no_internal_item}
-use Rattle.bdb_graph.proofs.LinkedLemmas.{root_fits}
+use Rattle.bdb_overflow.specs.of_image.Linked.{FitsLeafPage, HasMetadata, IsForest}
+use Rattle.bdb_overflow.specs.of_slots.Slots.{no_internal_item}
+use Rattle.bdb_overflow.proofs.of_graph.LinkedLemmas.{root_fits}
 use Rattle.bdb_overflow.specs.Datum.{FitsContent}
 use Rattle.bdb_overflow.proofs.ContentLemmas.{key_fits}
 use Rattle.bdb_tree.specs.Descent.{AllMonotone, AllReadable, IsLastFalse, chosen, descent, go_on, next_below}

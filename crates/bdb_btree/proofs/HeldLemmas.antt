@@ -16,7 +16,7 @@ use Rattle.bdb_form.specs.Pairs.{pair_of, pairs_from}
 use Rattle.bdb_form.specs.Seen.{page_seen}
 use Rattle.bdb_form.specs.declared.view.PageView.{PageView}
 use Rattle.bdb_form.specs.declared.view.PageView.TheVariants.{Leaf as LeafSeen}
-use Rattle.bdb_image.specs.Linked.{FitsLeafPage, FitsTreeRoot, IsForest}
+use Rattle.bdb_overflow.specs.of_image.Linked.{FitsLeafPage, FitsTreeRoot, IsForest}
 use Rattle.bdb_overflow.specs.Datum.{FitsContent}
 use Rattle.bdb_btree.specs.Held.{AreKeyed, FitsPassed, ItemPair, at_page, items_in, items_left, items_of, passed_seen, stored_as, tree_items}
 use Rattle.bdb_btree.specs.Pairs.{AreFit, AreLeaves, Each, FitsPair, left_of, stored_pair}

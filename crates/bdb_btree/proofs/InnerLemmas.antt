@@ -10,7 +10,7 @@ use Rattle.bdb_format.specs.Leaves.{children_in}
 use Rattle.bdb_format.specs.References.{child_types, has_type}
 use Rattle.bdb_format.proofs.ListLemmas.{only_member}
 use Rattle.bdb_format.proofs.MemberLemmas.{no_member, of_filter, of_flat_map}
-use Rattle.bdb_image.specs.Linked.{IsForest}
+use Rattle.bdb_overflow.specs.of_image.Linked.{IsForest}
 use Rattle.bdb_btree.specs.Counts.{IsKeyed}
 use Rattle.bdb_tree.specs.Trees.{children_at}
 use Rattle.bdb_tree.proofs.TreeLemmas.{child_is}

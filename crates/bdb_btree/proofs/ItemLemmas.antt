@@ -18,7 +18,7 @@ use Rattle.bdb_format.specs.References.{has_type}
 use Rattle.bdb_format.proofs.ListLemmas.{flat_map_twice, member_of}
 use Rattle.bdb_format.proofs.MemberLemmas.{in_map}
 use Rattle.bdb_format.proofs.TypeLemmas.{of_type}
-use Rattle.bdb_image.specs.Linked.{FitsLeafPage, IsForest}
+use Rattle.bdb_overflow.specs.of_image.Linked.{FitsLeafPage, IsForest}
 use Rattle.bdb_overflow.specs.Datum.{FitsContent}
 use Rattle.bdb_overflow.proofs.ContentLemmas.{key_fits}
 use Rattle.bdb_btree.specs.Bounds.{OrderedIf}

@@ -15,3 +15,7 @@ pub mod ScanLemmas
 pub mod SeenLemmas
 pub mod SeparatorLemmas
 pub mod WalkLemmas
+pub use Rattle.bdb_format.proofs as of_format
+pub use Rattle.bdb_overflow.proofs.of_graph as of_graph
+pub use Rattle.bdb_overflow.proofs.of_image as of_image
+pub use Rattle.bdb_tree.proofs as of_tree

@@ -9,7 +9,7 @@ use Rattle.bdb_format.specs.Leaves.{leaves}
 use Rattle.bdb_format.specs.Page.{Content, Inline, Set, Chain, Tree, Unknown, Item, Listed, Page, Hash, Leaf}
 use Rattle.bdb_format.specs.References.{is_shared_key, item_at, no_item}
 use Rattle.bdb_format.proofs.MemberLemmas.{no_member, of_flat_map, of_map, of_range}
-use Rattle.bdb_image.specs.Linked.{FitsLeafPage, IsForest}
+use Rattle.bdb_overflow.specs.of_image.Linked.{FitsLeafPage, IsForest}
 use Rattle.bdb_btree.specs.Pairs.{FitsPair, FitsSet}
 use Rattle.bdb_tree.specs.Trees.{IsRoot}
 use Rattle.bdb_btree.proofs.OrderLemmas.{ShareOnPage, Shares, SharesOnPage}

@@ -6,7 +6,7 @@ use Rattle.bdb_format.specs.Numbers.{has_bit}
 use Rattle.bdb_format.specs.Page.{BtreeFields}
 use Rattle.bdb_format.specs.References.{has_type}
 use Rattle.bdb_format.proofs.TypeLemmas.{of_type}
-use Rattle.bdb_image.specs.Linked.{HasMetadata, IsForest}
+use Rattle.bdb_overflow.specs.of_image.Linked.{HasMetadata, IsForest}
 use Rattle.bdb_tree.proofs.TreeLemmas.{meta_root_type}
 use Rattle.bdb_btree.specs.Counts.{IsKeyed}
 

@@ -9,7 +9,7 @@ use Rattle.bdb_format.specs.ContentRows.{has_duplicate, has_unsorted, has_wrong_
 use Rattle.bdb_format.specs.Contents.{StoredPair, tree_pairs}
 use Rattle.bdb_format.specs.File.{File, file_of}
 use Rattle.bdb_faults.specs.Notes.{Notes}
-use Rattle.bdb_image.specs.Linked.{FitsTreeRoot, IsForest}
+use Rattle.bdb_overflow.specs.of_image.Linked.{FitsTreeRoot, IsForest}
 use Rattle.bdb_btree.specs.Pairs.{AreFit, FitsPair}
 use Rattle.bdb_btree.specs.Rows.{Passed, has_wrong_order, next_pair, no_pairs_passed, pair_faults, pairs_faults, passes}
 use Rattle.bdb_faults.specs.declared.rows.ContentsRow.TheVariants.{Duplicates, DuplicateKind, KeyOrder, DuplicateOrder}

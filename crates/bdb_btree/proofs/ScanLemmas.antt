@@ -6,7 +6,7 @@ use Rattle.bdb_format.specs.Contents.{StoredPair, tree_pairs}
 use Rattle.bdb_format.specs.File.{File, file_of}
 use Rattle.bdb_format.specs.Lists.{ListKey, btree_list, listed_pair}
 use Rattle.bdb_format.specs.Verdict.{structure_faults}
-use Rattle.bdb_image.specs.Linked.{FitsTreeRoot, IsForest}
+use Rattle.bdb_overflow.specs.of_image.Linked.{FitsTreeRoot, IsForest}
 use Rattle.bdb_btree.specs.Pairs.{AreFit, left_of}
 use Rattle.bdb_btree.specs.Search.{AreOpen, entries_left}
 use Rattle.bdb_btree.proofs.RowLemmas.{tree_pairs_fit}

@@ -19,7 +19,7 @@ use Rattle.bdb_format.specs.Contents.{StoredPair, tree_pairs}
 use Rattle.bdb_format.specs.File.{File, file_of, page_at}
 use Rattle.bdb_format.specs.Leaves.{children_in}
 use Rattle.bdb_format.specs.Page.{InternalItem, Listed, Internal}
-use Rattle.bdb_image.specs.Linked.{IsForest}
+use Rattle.bdb_overflow.specs.of_image.Linked.{IsForest}
 use Rattle.bdb_overflow.proofs.ContentLemmas.{got}
 use Rattle.bdb_btree.specs.Bounds.{Bounds, beyond, bounds_of, ends_of, joined, no_bounds, no_ends, past, see_item, see_items, under, under_ends, under_pair}
 use Rattle.bdb_btree.specs.Held.{FitsBounds, bounds_seen, ends_seen}

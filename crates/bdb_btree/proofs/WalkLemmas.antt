@@ -15,7 +15,7 @@ use Rattle.bdb_form.specs.Pairs.{pair_of, pairs_from}
 use Rattle.bdb_form.specs.Seen.{page_seen}
 use Rattle.bdb_form.specs.declared.view.PageView.{PageView}
 use Rattle.bdb_form.specs.declared.view.PageView.TheVariants.{Leaf as LeafSeen}
-use Rattle.bdb_image.specs.Linked.{FitsLeafPage, IsForest}
+use Rattle.bdb_overflow.specs.of_image.Linked.{FitsLeafPage, IsForest}
 use Rattle.bdb_overflow.specs.Datum.{FitsContent}
 use Rattle.bdb_overflow.proofs.ContentLemmas.{leaf_item_fits}
 use Rattle.bdb_btree.specs.Pairs.{AreLeaves, Each, KeysFit, left_of, pairs_left, stored_pair}

@@ -9,7 +9,7 @@ use Rattle.bdb_format.specs.Leaves.{leaves}
 use Rattle.bdb_format.specs.Page.{Item, Page, Leaf}
 use Rattle.bdb_format.specs.References.{no_item}
 use Rattle.bdb_form.specs.Pairs.{PairOf, pairs_from}
-use Rattle.bdb_layout.specs.Seen.{leaf_item_seen}
+use Rattle.bdb_form.specs.of_layout.Seen.{leaf_item_seen}
 use Rattle.bdb_overflow.specs.Datum.{FitsContent}
 use Rattle.bdb_overflow.specs.Held.{FitsAny, value_held}
 use Rattle.bdb_btree.specs.Bounds.{Bounds, Ends}

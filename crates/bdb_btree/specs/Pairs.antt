@@ -6,8 +6,8 @@ use Rattle.bdb_format.specs.File.{File}
 use Rattle.bdb_format.specs.Page.{Content, Inline, Set, Chain, Tree, Unknown, Item}
 use Rattle.bdb_format.specs.Contents.{StoredPair, pairs_of}
 use Rattle.bdb_form.specs.Pairs.{PairOf}
-use Rattle.bdb_layout.specs.Seen.{leaf_item_seen}
-use Rattle.bdb_image.specs.Linked.{FitsDupRoot, FitsLeafPage}
+use Rattle.bdb_form.specs.of_layout.Seen.{leaf_item_seen}
+use Rattle.bdb_overflow.specs.of_image.Linked.{FitsDupRoot, FitsLeafPage}
 use Rattle.bdb_overflow.specs.Datum.{FitsContent, datum_seen}
 use Rattle.bdb_btree.specs.declared.pair.Pair.{Pair}
 

@@ -1,5 +1,5 @@
 ghost use Rattle.std.specs.Prelude.{◌≡◌, [], false, IfErr, OnOk, if◌then◌else◌};
-ghost use Rattle.bdb_image.specs.Linked.{FitsTreeRoot, HasMetadata, IsForest};
+ghost use Rattle.bdb_overflow.specs.of_image.Linked.{FitsTreeRoot, HasMetadata, IsForest};
 ghost use Rattle.bdb_faults.specs.Named.{HasNoted};
 ghost use Rattle.bdb_faults.specs.Notes.{NotesAll};
 ghost use Rattle.bdb_format.specs.ContentRows.{database_faults, has_wrong_count, inner_pages};
@@ -16,7 +16,7 @@ use crate::pair_rows::{Rules, note_pairs};
 use crate::separators::note_separators;
 use bdb_faults::{FaultSink, First, NamedList};
 use bdb_format::{BtreeMeta, CheckError};
-use bdb_graph::{Forest, Linked};
+use bdb_overflow::bdb_graph::{Forest, Linked};
 use bdb_ranks::Values;
 use std::alloc::{AllocError, Global};
 

@@ -1,6 +1,6 @@
 ghost use Rattle.std.specs.Prelude.{◌≡◌, ◌||◌, nat_lt, IfOk, OnOk};
 ghost use Rattle.std.specs.List.{fold};
-ghost use Rattle.bdb_image.specs.Linked.{FitsLeafPage};
+ghost use Rattle.bdb_overflow.specs.of_image.Linked.{FitsLeafPage};
 ghost use Rattle.bdb_format.specs.ContentRows.{has_wrong_count, inner_pages};
 ghost use Rattle.bdb_format.specs.Contents.{pairs_of, tree_pairs};
 ghost use Rattle.bdb_format.specs.File.{file_of, page_at};
@@ -14,7 +14,7 @@ use crate::inner::inner_view;
 use crate::pair::Pair;
 use crate::walk::page_pairs;
 use bdb_faults::{ContentsRow, FaultSink, Row, note_if};
-use bdb_graph::Forest;
+use bdb_overflow::bdb_graph::Forest;
 use std::alloc::AllocError;
 
 /// How many pairs there are, live ones and all, up to the greatest number.

@@ -1,14 +1,14 @@
 ghost use Rattle.std.specs.Prelude.{◌≡◌, []};
 ghost use Rattle.std.specs.Iterator.{YieldsFirstBy, item_count};
-ghost use Rattle.bdb_layout.specs.Seen.{leaf_item_seen};
+ghost use Rattle.bdb_form.specs.of_layout.Seen.{leaf_item_seen};
 ghost use Rattle.bdb_format.specs.Contents.{data_of};
 ghost use Rattle.bdb_format.specs.File.{file_of};
 ghost use Rattle.bdb_format.specs.Verdict.{structure_faults};
 ghost use Rattle.bdb_overflow.specs.Datum.{FitsContent, datum_seen};
 ghost use Rattle.bdb_btree.specs.Pairs.{FitsSet, left_of};
 
-use bdb_graph::Forest;
-use bdb_layout::LeafItem;
+use bdb_form::bdb_layout::LeafItem;
+use bdb_overflow::bdb_graph::Forest;
 use bdb_overflow::{Datum, value_of};
 use bdb_tree::{SetValues, set_values};
 use std::marker::Model;

@@ -10,8 +10,8 @@ ghost use Rattle.bdb_btree.specs.Search.{AreOpen, entry_seen};
 use crate::data::{ItemData, item_data};
 use crate::pair::Pair;
 use crate::walk::Pairs;
-use bdb_graph::Forest;
-use bdb_layout::LeafItem;
+use bdb_form::bdb_layout::LeafItem;
+use bdb_overflow::bdb_graph::Forest;
 use bdb_overflow::{Datum, KeyView};
 use std::marker::Model;
 

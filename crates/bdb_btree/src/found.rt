@@ -1,7 +1,7 @@
 ghost use Rattle.std.specs.Prelude.{◌≡◌, ◌∷◌, [], MatchOption};
 ghost use Rattle.std.specs.Iterator.{YieldsFirstBy, item_count};
 ghost use Rattle.std.specs.List.{flat_map};
-ghost use Rattle.bdb_image.specs.Linked.{FitsLeafPage};
+ghost use Rattle.bdb_overflow.specs.of_image.Linked.{FitsLeafPage};
 ghost use Rattle.bdb_format.specs.Contents.{pairs_of};
 ghost use Rattle.bdb_format.specs.File.{file_of};
 ghost use Rattle.bdb_format.specs.Verdict.{structure_faults};
@@ -12,7 +12,7 @@ ghost use Rattle.bdb_btree.specs.Search.{AreOpen, data_under, from_key};
 use crate::data::{ItemData, item_data};
 use crate::pair::Pair;
 use crate::walk::{PagePairs, next_pair, page_pairs};
-use bdb_graph::Forest;
+use bdb_overflow::bdb_graph::Forest;
 use bdb_overflow::{Datum, is_same};
 use std::marker::Model;
 

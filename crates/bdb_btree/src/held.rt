@@ -2,14 +2,14 @@ ghost use Rattle.std.specs.Prelude.{◌≡◌, []};
 ghost use Rattle.std.specs.Iterator.{YieldsFirstBy, item_count};
 ghost use Rattle.bdb_format.specs.File.{file_of};
 ghost use Rattle.bdb_format.specs.Verdict.{structure_faults};
-ghost use Rattle.bdb_image.specs.Linked.{FitsLeafPage, IsForest};
+ghost use Rattle.bdb_overflow.specs.of_image.Linked.{FitsLeafPage, IsForest};
 ghost use Rattle.bdb_btree.specs.Held.{items_of, pair_held, tree_items};
 ghost use Rattle.bdb_btree.specs.Pairs.{AreLeaves, left_of};
 ghost use Rattle.bdb_tree.specs.Trees.{IsRoot};
 
+use bdb_form::bdb_layout::LeafItem;
 use bdb_form::{LeafKind, PageView};
-use bdb_graph::Forest;
-use bdb_layout::LeafItem;
+use bdb_overflow::bdb_graph::Forest;
 use bdb_tree::{Leaves, tree_leaves};
 use std::marker::Model;
 

@@ -1,5 +1,5 @@
 ghost use Rattle.std.specs.Prelude.{◌≡◌, ◌+◌, [], false};
-ghost use Rattle.bdb_image.specs.Linked.{HasMetadata};
+ghost use Rattle.bdb_overflow.specs.of_image.Linked.{HasMetadata};
 ghost use Rattle.bdb_format.specs.ContentRows.{database_faults};
 ghost use Rattle.bdb_format.specs.File.{file_of, header_in, page_at};
 ghost use Rattle.bdb_format.specs.Lists.{BytesKey, btree_list, get};
@@ -12,7 +12,7 @@ use crate::found::{Found, found_on};
 use crate::walk::tree_pairs;
 use crate::way_down::leaf_for;
 use bdb_format::{BtreeMeta, Steps};
-use bdb_graph::Linked;
+use bdb_overflow::bdb_graph::Linked;
 use std::sync::ledger::Ledger;
 
 /// The list of a btree: its live pairs from left to right, each key with each of its data. It takes no

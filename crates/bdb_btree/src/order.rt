@@ -8,7 +8,7 @@ ghost use Rattle.bdb_overflow.specs.Datum.{FitsContent};
 ghost use Rattle.bdb_overflow.specs.Held.{FitsAny, FitsHeld, value_held};
 
 use crate::held::HeldPair;
-use bdb_layout::compare;
+use bdb_form::bdb_layout::compare;
 use bdb_overflow::{Held, leaf_held};
 use bdb_ranks::Values;
 use std::alloc::AllocError;

@@ -4,15 +4,15 @@ ghost use Rattle.bdb_format.specs.File.{file_of, page_at};
 ghost use Rattle.bdb_format.specs.Page.{Leaf};
 ghost use Rattle.bdb_format.specs.References.{item_at};
 ghost use Rattle.bdb_form.specs.Pairs.{pair_seen as view_seen};
-ghost use Rattle.bdb_image.specs.Linked.{IsForest};
+ghost use Rattle.bdb_overflow.specs.of_image.Linked.{IsForest};
 ghost use Rattle.bdb_btree.specs.Pairs.{pair_seen, stored_pair};
 ghost use Rattle.bdb_overflow.specs.Datum.{FitsContent};
 ghost use Rattle.bdb_overflow.specs.Held.{FitsHeld, value_held};
-ghost use Rattle.bdb_layout.specs.Seen.{leaf_item_seen};
+ghost use Rattle.bdb_form.specs.of_layout.Seen.{leaf_item_seen};
 
 use bdb_form::LeafView;
-use bdb_graph::Forest;
-use bdb_layout::LeafItem;
+use bdb_form::bdb_layout::LeafItem;
+use bdb_overflow::bdb_graph::Forest;
 use bdb_overflow::{Datum, Held, is_deleted, leaf_held, value_of};
 
 /// A pair of a leaf, where it lies.

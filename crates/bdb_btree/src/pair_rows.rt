@@ -1,5 +1,5 @@
 ghost use Rattle.std.specs.Prelude.{◌≡◌, ◌&&◌, [], IfOk, OnOk, not};
-ghost use Rattle.bdb_image.specs.Linked.{FitsTreeRoot};
+ghost use Rattle.bdb_overflow.specs.of_image.Linked.{FitsTreeRoot};
 ghost use Rattle.bdb_faults.specs.Notes.{Notes};
 ghost use Rattle.bdb_format.specs.ContentRows.{is_duplicate};
 ghost use Rattle.bdb_format.specs.Contents.{tree_pairs};
@@ -16,7 +16,7 @@ use crate::duplicates::{is_duplicate, is_wrong_set};
 use crate::held::{HeldPair, tree_items};
 use crate::order::KeyOrder;
 use bdb_faults::{ContentsRow, FaultSink, Row, note_if};
-use bdb_graph::Forest;
+use bdb_overflow::bdb_graph::Forest;
 use bdb_ranks::Values;
 use std::alloc::AllocError;
 

@@ -1,5 +1,5 @@
 ghost use Rattle.std.specs.Prelude.{◌≡◌, ◌+◌, [], false};
-ghost use Rattle.bdb_image.specs.Linked.{FitsLeafPage, HasMetadata, IsForest};
+ghost use Rattle.bdb_overflow.specs.of_image.Linked.{FitsLeafPage, HasMetadata, IsForest};
 ghost use Rattle.bdb_format.specs.ContentRows.{database_faults};
 ghost use Rattle.bdb_format.specs.File.{file_of, header_in, page_at};
 ghost use Rattle.bdb_format.specs.Flags.{is_recno};
@@ -9,7 +9,7 @@ ghost use Rattle.bdb_tree.specs.Descent.{descent};
 ghost use Rattle.bdb_btree.specs.Search.{is_below};
 
 use bdb_format::{BtreeMeta, Steps};
-use bdb_graph::{Forest, LeafPage, Linked, Ref};
+use bdb_overflow::bdb_graph::{Forest, LeafPage, Linked, Ref};
 use bdb_overflow::{Datum, is_less, key_datum};
 use bdb_tree::{Separate, descend_in};
 use std::sync::ledger::Ledger;
@@ -26,7 +26,7 @@ impl<'s, 'a> Separate for Sought<'s, 'a> {
 
     ghost says = { λ sought item. is_below (file_of sought.forest.now) sought.key.now item };
 
-    fn below(&self, item: &bdb_layout::InternalItem<'_>) -> bool {
+    fn below(&self, item: &bdb_form::bdb_layout::InternalItem<'_>) -> bool {
         is_less(&Datum::Inline(self.key), &key_datum(self.forest, &item.key))
     }
 }

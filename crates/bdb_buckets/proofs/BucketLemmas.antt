@@ -7,7 +7,7 @@ use Rattle.std.proofs.lemmas.Bool.{eqb-false, ne_eqb, or_parts, not-false}
 use Rattle.std.proofs.lemmas.List.{length-map}
 use Rattle.std.proofs.lemmas.List.Elements.{Contains-append_right}
 use Rattle.std.proofs.lemmas.Simd.{map-map}
-use Rattle.bdb_form.specs.Pairs.{pairs_from}
+use Rattle.bdb_graph.specs.of_form.Pairs.{pairs_from}
 use Rattle.bdb_format.specs.declared.metadata.Head.{Head}
 use Rattle.bdb_format.specs.declared.metadata.HashMeta.{HashMeta}
 use Rattle.bdb_format.specs.declared.references.Sort.{Sort}
@@ -24,7 +24,7 @@ use Rattle.bdb_format.specs.Verdict.{structure_faults, faults_in}
 use Rattle.bdb_format.proofs.GraphLemmas.{each_fits}
 use Rattle.bdb_format.proofs.MemberLemmas.{first_member}
 use Rattle.bdb_format.proofs.VerdictLemmas.{AllFail, none_is_first_row}
-use Rattle.bdb_image.specs.Linked.{IsForest, IsTarget}
+use Rattle.bdb_graph.specs.of_image.Linked.{IsForest, IsTarget}
 use Rattle.bdb_graph.proofs.ForestLemmas.{sound_graph}
 use Rattle.bdb_graph.proofs.LinkedLemmas.{target_inside}
 use Rattle.bdb_buckets.specs.Told.{Told, is_of_bucket, page_told, pages_from, told_pair}

@@ -6,7 +6,7 @@ use Rattle.std.proofs.lemmas.Bool.{lt-ltb}
 use Rattle.std.proofs.lemmas.Option.{slice_get-get_or}
 use Rattle.std.proofs.lemmas.List.Elements.{recursion_from_All}
 use Rattle.std.proofs.lemmas.List.FromFn.{get_or-map-range_with_len, length-map-range_with_len}
-use Rattle.bdb_form.specs.Pairs.{PairOf, pair_of, pairs_from}
+use Rattle.bdb_graph.specs.of_form.Pairs.{PairOf, pair_of, pairs_from}
 use Rattle.bdb_format.specs.declared.references.Sort.{Sort}
 use Rattle.bdb_format.specs.declared.references.Sort.TheVariants.{OverflowHead, DuplicateRoot}
 use Rattle.bdb_format.specs.Chains.{value_of}
@@ -15,10 +15,10 @@ use Rattle.bdb_format.specs.Page.{Content, Inline, Set, Chain, Tree, Unknown, It
 use Rattle.bdb_format.specs.References.{content_targets, no_item, targets_in}
 use Rattle.bdb_format.proofs.MemberLemmas.{first_member, in_map}
 use Rattle.bdb_format.proofs.TargetLemmas.{held_named}
-use Rattle.bdb_image.specs.Linked.{IsTarget}
+use Rattle.bdb_graph.specs.of_image.Linked.{IsTarget}
 use Rattle.bdb_graph.proofs.LinkedLemmas.{named_target, target_inside}
-use Rattle.bdb_layout.specs.declared.items.HashItem.{HashItem}
-use Rattle.bdb_layout.specs.Seen.{hash_content_seen, hash_item_seen}
+use Rattle.bdb_graph.specs.of_layout.declared.items.HashItem.{HashItem}
+use Rattle.bdb_graph.specs.of_layout.Seen.{hash_content_seen, hash_item_seen}
 use Rattle.bdb_overflow.specs.Datum.{FitsContent, single_value}
 use Rattle.bdb_buckets.specs.Places.{IsGiven}
 use Rattle.bdb_buckets.specs.Views.{FitsRoot, IsPair, IsTable}

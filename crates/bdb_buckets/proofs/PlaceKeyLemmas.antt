@@ -9,8 +9,8 @@ use Rattle.bdb_format.specs.Chains.{value_of}
 use Rattle.bdb_format.specs.File.{file_of, page_at}
 use Rattle.bdb_format.specs.Page.{Hash, Item}
 use Rattle.bdb_format.specs.Page.{Listed}
-use Rattle.bdb_layout.specs.declared.items.HashItem.{HashItem}
-use Rattle.bdb_layout.specs.Seen.{hash_content_seen, hash_item_seen}
+use Rattle.bdb_graph.specs.of_layout.declared.items.HashItem.{HashItem}
+use Rattle.bdb_graph.specs.of_layout.Seen.{hash_content_seen, hash_item_seen}
 use Rattle.bdb_buckets.specs.declared.place.Place.{Place}
 use Rattle.bdb_buckets.specs.Places.{key_at, key_in}
 

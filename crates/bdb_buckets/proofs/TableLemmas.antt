@@ -3,7 +3,7 @@ use Rattle.std.proofs.Common.{◌≡◌, ℕ, ◌+◌, List, [], ◌++◌, arith
 use Rattle.std.specs.List.{flat_map, range_with_len}
 use Rattle.std.proofs.lemmas.Grind.{flat_map-append}
 use Rattle.std.proofs.lemmas.List.{append-nil}
-use Rattle.bdb_image.specs.Linked.{HasMetadata, IsForest}
+use Rattle.bdb_graph.specs.of_image.Linked.{HasMetadata, IsForest}
 use Rattle.bdb_graph.proofs.LinkedLemmas.{bucket_fits}
 use Rattle.bdb_buckets.specs.Views.{IsTable}
 use Rattle.bdb_format.specs.declared.references.Sort.TheVariants.{Bucket}

@@ -4,7 +4,7 @@ use Rattle.std.specs.Cmp.Lexicographic.{slice_cmp}
 use Rattle.std.specs.List.{AllByRecursion, Contains}
 use Rattle.std.specs.Ordering.{is_lt, nat_cmp, ordering_then}
 use Rattle.std.specs.declared.cmp.Ordering.{Ordering}
-use Rattle.bdb_form.specs.Pairs.{PairOf}
+use Rattle.bdb_graph.specs.of_form.Pairs.{PairOf}
 use Rattle.bdb_overflow.specs.Datum.{FitsContent}
 use Rattle.bdb_overflow.specs.Prefix.{AreBytes, prefix_of}
 use Rattle.bdb_buckets.specs.declared.place.Place.{Place}

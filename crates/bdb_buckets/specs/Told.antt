@@ -1,7 +1,7 @@
 -- A pair of a table with the file that it stands in. Source: docs/FORMAT.md, "Items".
 use Rattle.std.specs.Prelude.{◌≡◌, ◌≤◌, ℕ, ◌+◌, ◌==◌, not, if◌then◌else◌, Bool, true, false, List, [], map, length, Option, Some, None}
 use Rattle.std.specs.List.{find, flat_map, range_with_len}
-use Rattle.bdb_form.specs.Pairs.{PairOf}
+use Rattle.bdb_graph.specs.of_form.Pairs.{PairOf}
 use Rattle.bdb_format.specs.Chains.{chain_in, value_of}
 use Rattle.bdb_format.specs.Contents.{StoredPair, bucket_pages, pairs_of}
 use Rattle.bdb_format.specs.declared.metadata.HashMeta.{HashMeta}

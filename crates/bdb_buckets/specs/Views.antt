@@ -1,6 +1,6 @@
 -- What the iterators over a bucket and its pairs keep.
 use Rattle.std.specs.Prelude.{◌≡◌, ◌≤◌, ℕ, IsTrue, List, [], Option, Some, None}
-use Rattle.bdb_image.specs.Linked.{FitsDupRoot, IsForest}
+use Rattle.bdb_graph.specs.of_image.Linked.{FitsDupRoot, IsForest}
 use Rattle.bdb_overflow.specs.Datum.{FitsContent}
 use Rattle.bdb_buckets.specs.Told.{is_of_bucket}
 use Rattle.bdb_format.specs.declared.metadata.FileKind.TheVariants.{Queue}

@@ -1,6 +1,6 @@
 ghost use Rattle.std.specs.Prelude.{◌≡◌, ◌≤◌, [], length, map};
 ghost use Rattle.std.specs.Iterator.{YieldsFirstBy, item_count};
-ghost use Rattle.bdb_image.specs.Linked.{HasMetadata};
+ghost use Rattle.bdb_graph.specs.of_image.Linked.{HasMetadata};
 ghost use Rattle.bdb_buckets.specs.Told.{page_told};
 ghost use Rattle.bdb_format.specs.Contents.{bucket_pages};
 ghost use Rattle.bdb_format.specs.File.{file_of};

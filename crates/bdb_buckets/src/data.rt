@@ -3,12 +3,12 @@ ghost use Rattle.std.specs.Iterator.{YieldsFirstBy, item_count};
 ghost use Rattle.bdb_buckets.specs.Rest.{rest_shown};
 ghost use Rattle.bdb_overflow.specs.Datum.{FitsContent, datum_seen};
 ghost use Rattle.bdb_buckets.specs.Views.{FitsRoot, IsTable};
-ghost use Rattle.bdb_layout.specs.Seen.{hash_content_seen};
+ghost use Rattle.bdb_graph.specs.of_layout.Seen.{hash_content_seen};
 ghost use Rattle.bdb_format.specs.Contents.{data_of};
 ghost use Rattle.bdb_format.specs.File.{file_of};
 
 use bdb_graph::Forest;
-use bdb_layout::{DupBlocks, HashItem};
+use bdb_graph::bdb_layout::{DupBlocks, HashItem};
 use bdb_overflow::{Datum, hash_datum};
 use bdb_tree::{SetValues, set_values};
 use std::marker::Model;

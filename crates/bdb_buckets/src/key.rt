@@ -2,7 +2,7 @@ ghost use Rattle.std.specs.Prelude.{◌≡◌};
 ghost use Rattle.bdb_overflow.specs.Datum.{datum_seen};
 ghost use Rattle.bdb_format.specs.Hashing.{hash5};
 
-use bdb_layout::{hash5, hash5_after};
+use bdb_graph::bdb_layout::{hash5, hash5_after};
 use bdb_overflow::Datum;
 
 /// The hash of a key.

@@ -1,11 +1,11 @@
 ghost use Rattle.std.specs.Prelude.{◌≡◌, [], ◌∷◌, IfSome, MatchOption, None};
-ghost use Rattle.bdb_form.specs.Pairs.{pair_seen};
+ghost use Rattle.bdb_graph.specs.of_form.Pairs.{pair_seen};
 ghost use Rattle.bdb_overflow.specs.Datum.{FitsContent, datum_seen};
 ghost use Rattle.bdb_buckets.specs.Chained.{IsHead, chain_head};
 ghost use Rattle.bdb_buckets.specs.Places.{IsAt, IsGiven};
 ghost use Rattle.bdb_buckets.specs.Told.{entry_list, has_key, listed_told, told_pair};
 ghost use Rattle.bdb_buckets.specs.Views.{IsPair, value_on_page};
-ghost use Rattle.bdb_layout.specs.Seen.{hash_content_seen, hash_item_seen};
+ghost use Rattle.bdb_graph.specs.of_layout.Seen.{hash_content_seen, hash_item_seen};
 ghost use Rattle.bdb_format.specs.Chains.{value_of};
 ghost use Rattle.bdb_format.specs.ContentRows.{is_duplicate, is_wrong_set};
 ghost use Rattle.bdb_format.specs.Contents.{data_of};
@@ -15,7 +15,7 @@ ghost use Rattle.bdb_format.specs.Page.{Inline, Tree};
 use crate::Data;
 use crate::place::Place;
 use bdb_graph::Forest;
-use bdb_layout::HashItem;
+use bdb_graph::bdb_layout::HashItem;
 use bdb_overflow::{Datum, hash_datum, is_same, prefix};
 use bdb_tree::is_wrong_root;
 use std::marker::Model;
@@ -49,7 +49,7 @@ impl<'a> Model for Pair<'a> {
     ghost use Rattle.bdb_overflow.specs.Datum.{datum_seen};
     ghost use Rattle.bdb_buckets.specs.Told.{Told, told_as};
     ghost use Rattle.bdb_buckets.specs.Chained.{IsKeyed};
-    ghost use Rattle.bdb_layout.specs.Seen.{hash_content_seen};
+    ghost use Rattle.bdb_graph.specs.of_layout.Seen.{hash_content_seen};
 
     ghost Value = { Told };
 
@@ -84,7 +84,11 @@ fn head_of(item: &HashItem<'_>) -> Option<u32>
 impl<'a> Pair<'a> {
     /// A pair as the view of its page gives it.
     #[inline(always)]
-    pub fn of(forest: &Forest<'a>, page: u32, pair: bdb_form::Pair<HashItem<'a>>) -> Pair<'a>
+    pub fn of(
+        forest: &Forest<'a>,
+        page: u32,
+        pair: bdb_graph::bdb_form::Pair<HashItem<'a>>,
+    ) -> Pair<'a>
         requires { IsGiven forest.now page (pair_seen hash_item_seen pair) }
         ensures { result ≡ told_pair forest.now page (pair_seen hash_item_seen pair.entry) }
     {

@@ -7,15 +7,15 @@ ghost use Rattle.bdb_format.specs.Chains.{next_of};
 ghost use Rattle.bdb_format.specs.File.{file_of};
 
 use crate::Pair;
-use bdb_form::{HashKind, PageView};
 use bdb_graph::Forest;
+use bdb_graph::bdb_form::{HashKind, PageView};
 use std::marker::Model;
 
 /// The pairs that are left on a page of a bucket; none where it's a zero page.
 pub struct PagePairs<'a> {
     forest: Forest<'a>,
     page: u32,
-    pairs: Option<bdb_form::PagePairs<'a, HashKind>>,
+    pairs: Option<bdb_graph::bdb_form::PagePairs<'a, HashKind>>,
 }
 
 impl Drop for PagePairs<'_> {
@@ -45,7 +45,7 @@ impl<'a> PagePairs<'a> {
     fn over(
         forest: &Forest<'a>,
         page: u32,
-        pairs: Option<bdb_form::PagePairs<'a, HashKind>>,
+        pairs: Option<bdb_graph::bdb_form::PagePairs<'a, HashKind>>,
     ) -> PagePairs<'a>
         requires { AreGiven forest.now page pairs }
         ensures { result ≡ left_on forest.now page pairs.entry }

@@ -4,8 +4,8 @@ ghost use Rattle.bdb_buckets.specs.Places.{key_at, place_cmp};
 ghost use Rattle.bdb_buckets.specs.Views.{IsTable};
 
 use crate::pair::key_of;
-use bdb_form::PageView;
 use bdb_graph::Forest;
+use bdb_graph::bdb_form::PageView;
 use bdb_overflow::{Datum, compare_datum};
 use std::cmp::Ordering;
 

@@ -4,11 +4,11 @@ use Rattle.std.proofs.Common.{arith, sym, ◌∙◌, ap, subst, drop-cons, add-o
 use Rattle.std.specs.List.{All}
 use Rattle.std.proofs.lemmas.List.{drop_all}
 use Rattle.std.proofs.lemmas.List.Elements.{All-cons}
-use Rattle.bdb_format.specs.declared.settings.Settings.{Settings}
-use Rattle.bdb_text_format.specs.declared.pairs.Pair.{Pair}
-use Rattle.bdb_text_format.specs.Pairs.{AscendFrom, number_of}
-use Rattle.bdb_mkqueue.specs.Lists.{HasLength, HasNext, IsQueueList}
-use Rattle.bdb_mkqueue.proofs.StepLemmas.{no_pair, pair_at}
+use Rattle.bdb_pack.specs.of_format.declared.settings.Settings.{Settings}
+use Rattle.bdb_need.specs.of_text_format.declared.pairs.Pair.{Pair}
+use Rattle.bdb_need.specs.of_text_format.Pairs.{AscendFrom, number_of}
+use Rattle.bdb_need.specs.of_mkqueue.Lists.{HasLength, HasNext, IsQueueList}
+use Rattle.bdb_need.proofs.of_mkqueue.StepLemmas.{no_pair, pair_at}
 use Rattle.bdb_building_tests.specs.Queues.{MayStandFrom}
 
 -- numbers that ascend from one on ascend from a lesser one on

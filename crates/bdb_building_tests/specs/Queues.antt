@@ -1,10 +1,10 @@
 -- Lists of records that are tested when a test runs.
 use Rattle.std.specs.Prelude.{ℕ, ◌≤◌, ◌<◌, ◌^◌, List, drop, length}
 use Rattle.std.specs.List.{All}
-use Rattle.bdb_format.specs.declared.settings.Settings.{Settings}
-use Rattle.bdb_text_format.specs.declared.pairs.Pair.{Pair}
-use Rattle.bdb_text_format.specs.Pairs.{AscendFrom}
-use Rattle.bdb_mkqueue.specs.Lists.{HasLength, HasNext}
+use Rattle.bdb_pack.specs.of_format.declared.settings.Settings.{Settings}
+use Rattle.bdb_need.specs.of_text_format.declared.pairs.Pair.{Pair}
+use Rattle.bdb_need.specs.of_text_format.Pairs.{AscendFrom}
+use Rattle.bdb_need.specs.of_mkqueue.Lists.{HasLength, HasNext}
 
 -- the records from a place on may stand in a queue, behind those below a number
 pub record MayStandFrom (settings : Settings) (list : List Pair) (place least : ℕ) : Type 0 where

@@ -1,12 +1,12 @@
 //! Whether a queue can be built of a list, found by one pass from its end.
 
 ghost use Rattle.std.specs.Prelude.{◌≡◌, IsTrue};
-ghost use Rattle.bdb_text_format.specs.Pairs.{number_of};
-ghost use Rattle.bdb_text_format.specs.Placed.{key_seen, pairs_of};
-ghost use Rattle.bdb_mkqueue.specs.Lists.{IsQueueList};
+ghost use Rattle.bdb_need.specs.of_text_format.Pairs.{number_of};
+ghost use Rattle.bdb_need.specs.of_text_format.Placed.{key_seen, pairs_of};
+ghost use Rattle.bdb_need.specs.of_mkqueue.Lists.{IsQueueList};
 
-use bdb_format::Settings;
-use bdb_text_format::{KeyRef, PairSlice};
+use bdb_need::bdb_text_format::{KeyRef, PairSlice};
+use bdb_pack::bdb_format::Settings;
 
 fn number_of(key: KeyRef<'_>) -> u32
     ensures { result ≡ number_of (key_seen key.entry) }

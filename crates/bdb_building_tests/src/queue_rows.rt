@@ -3,10 +3,10 @@
 use crate::queues::built_queue;
 use crate::settings::queue_settings;
 use crate::values::ORDERS;
-use bdb_format::{Bytes, Kind, Order};
 use bdb_gen::generate;
-use bdb_layout::u32_at;
-use bdb_text_format::{KeyRef, PairRef, TextPairs};
+use bdb_need::bdb_text_format::{KeyRef, PairRef, TextPairs};
+use bdb_pack::bdb_format::{Bytes, Kind, Order};
+use bdb_pack::bdb_layout::u32_at;
 use std::alloc::{AllocError, Global};
 use std::test::Fail;
 use test_lists::gives;

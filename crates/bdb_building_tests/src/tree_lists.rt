@@ -1,14 +1,14 @@
 //! Whether a tree can be built of a list, found by one pass from its end.
 
 ghost use Rattle.std.specs.Prelude.{◌≡◌, ◌+◌, ◌<◌, IsTrue, drop, get_or, length};
-ghost use Rattle.bdb_text_format.specs.Pairs.{number_of};
-ghost use Rattle.bdb_text_format.specs.Placed.{key_seen, pairs_of};
-ghost use Rattle.bdb_mktree.specs.Lists.{IsKeyFor, IsTreeList, IsPairFor, bytes_in, keyed_follow, may_follow};
+ghost use Rattle.bdb_need.specs.of_text_format.Pairs.{number_of};
+ghost use Rattle.bdb_need.specs.of_text_format.Placed.{key_seen, pairs_of};
+ghost use Rattle.bdb_need.specs.of_mktree.Lists.{IsKeyFor, IsTreeList, IsPairFor, bytes_in, keyed_follow, may_follow};
 ghost use Rattle.bdb_building_tests.specs.Trees.{no_pair, one_seen};
 
-use bdb_format::{Kind, Settings};
-use bdb_overflow::{Datum, is_less};
-use bdb_text_format::{KeyRef, PairRef, PairSlice};
+use bdb_need::bdb_text_format::{KeyRef, PairRef, PairSlice};
+use bdb_pack::bdb_format::{Kind, Settings};
+use test_lists::bdb_overflow::{Datum, is_less};
 
 #[tactic(auto, using(crate::proofs::CopyLemmas::one_at))]
 fn pair_at(list: PairSlice<'_>, i: usize) -> PairRef<'_>

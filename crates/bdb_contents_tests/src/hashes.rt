@@ -1,20 +1,20 @@
 //! Hash tables, checked, listed and found in. Values: docs/FORMAT.md, "Hash metadata, type 8", "Items" and "Stage 8, contents".
 
 ghost use Rattle.std.specs.Prelude.{◌≡◌, []};
-ghost use Rattle.bdb_image.specs.Linked.{HasMetadata};
-ghost use Rattle.bdb_format.specs.ContentRows.{database_faults};
-ghost use Rattle.bdb_format.specs.File.{file_of};
-ghost use Rattle.bdb_format.specs.Page.{HashFields};
-ghost use Rattle.bdb_format.specs.Verdict.{structure_faults};
+ghost use Rattle.bdb_range.specs.of_image.Linked.{HasMetadata};
+ghost use Rattle.bdb_range.specs.of_format.ContentRows.{database_faults};
+ghost use Rattle.bdb_range.specs.of_format.File.{file_of};
+ghost use Rattle.bdb_range.specs.of_format.Page.{HashFields};
+ghost use Rattle.bdb_range.specs.of_format.Verdict.{structure_faults};
 
 use crate::hash_samples::{
     DUPLICATES, DUPLICATES_TWICE, ELSEWHERE, ELSEWHERE_FIRST, KEY_TWICE, KEY_TWICE_LATER, UNSORTED,
     UNSORTED_FIRST, WRONG_SET,
 };
-use bdb_format::{CheckError, Fault, HashMeta, Order, Steps};
-use bdb_graph::{Linked, Meta, link, open_image};
 use bdb_hash::{Found, Scan, check, find, scan};
-use bdb_overflow::{Datum, KeyView, compare_datum};
+use bdb_range::bdb_format::{CheckError, Fault, HashMeta, Order, Steps};
+use bdb_range::bdb_graph::{Linked, Meta, link, open_image};
+use bdb_range::bdb_overflow::{Datum, KeyView, compare_datum};
 use std::alloc::Global;
 use std::cmp::Ordering;
 use std::marker::Brand;

@@ -13,6 +13,7 @@ mod rows;
 mod sink;
 mod table;
 
+pub use bdb_format;
 pub use cases::{fault_of_form, fault_of_head};
 pub use first::First;
 pub use list::NamedList;

@@ -1,21 +1,21 @@
 -- The faults of stage 8 from those of each database.
-use Rattle.bdb_format.proofs.ListLemmas.{any_member, passes_here}
+use Rattle.bdb_recno.proofs.of_format.ListLemmas.{any_member, passes_here}
 use Rattle.std.proofs.Common.{◌≡◌, ℕ, zero, suc, ◌+◌, ◌<◌, ◌≤◌, Bool, true, false, cond, List, [], ◌∷◌, map, arith, refl, ◌∙◌, ap, subst, inl}
 use Rattle.std.proofs.Common.{inr}
 use Rattle.std.specs.List.{Contains, flat_map, range_with_len}
 use Rattle.std.proofs.lemmas.Bool.{cases_eq}
-use Rattle.bdb_format.specs.declared.kinds.Fault.{Fault}
-use Rattle.bdb_format.specs.File.{File}
-use Rattle.bdb_format.specs.Page.{Metadata, BtreeFields, HashFields, QueueFields}
-use Rattle.bdb_format.specs.Table.{Row, ◌:?◌}
-use Rattle.bdb_format.specs.Verdict.{holding, contents_faults}
-use Rattle.bdb_format.specs.ContentRows.{fields_of, contents_rows, holds_code, holds_somewhere, btree_contents, database_faults, database_rows}
-use Rattle.bdb_format.specs.ContentRows.{recno_contents}
-use Rattle.bdb_format.proofs.MemberLemmas.{filter_step, first_member, no_member, of_flat_map, in_flat_map}
-use Rattle.bdb_format.proofs.VerdictLemmas.{IsOfStage, of_by_page}
+use Rattle.bdb_recno.specs.of_format.declared.kinds.Fault.{Fault}
+use Rattle.bdb_recno.specs.of_format.File.{File}
+use Rattle.bdb_recno.specs.of_format.Page.{Metadata, BtreeFields, HashFields, QueueFields}
+use Rattle.bdb_recno.specs.of_format.Table.{Row, ◌:?◌}
+use Rattle.bdb_recno.specs.of_format.Verdict.{holding, contents_faults}
+use Rattle.bdb_recno.specs.of_format.ContentRows.{fields_of, contents_rows, holds_code, holds_somewhere, btree_contents, database_faults, database_rows}
+use Rattle.bdb_recno.specs.of_format.ContentRows.{recno_contents}
+use Rattle.bdb_recno.proofs.of_format.MemberLemmas.{filter_step, first_member, no_member, of_flat_map, in_flat_map}
+use Rattle.bdb_recno.proofs.of_format.VerdictLemmas.{IsOfStage, of_by_page}
 use Rattle.bdb_file.proofs.MergeLemmas.{at_page}
-use Rattle.bdb_format.specs.Flags.{is_recno}
-use Rattle.bdb_btree.proofs.CheckLemmas.{code_later, is_code as code_holding, of_code as holding_code}
+use Rattle.bdb_recno.specs.of_format.Flags.{is_recno}
+use Rattle.bdb_master.proofs.of_btree.CheckLemmas.{code_later, is_code as code_holding, of_code as holding_code}
 
 -- The codes of a table.
 

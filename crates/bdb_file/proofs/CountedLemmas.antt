@@ -6,26 +6,26 @@ use Rattle.std.specs.List.{AllByRecursion, Contains, IsDistinct, flat_map, list_
 use Rattle.std.proofs.lemmas.Bool.{and_parts, cases_Bool, eq-eqb, eqb-true, false_from_ne_true}
 use Rattle.std.proofs.lemmas.List.{length-map}
 use Rattle.std.proofs.lemmas.Map.Steps.{length-le_from_distinct_below}
-use Rattle.bdb_format.specs.declared.metadata.BtreeMeta.{BtreeMeta}
-use Rattle.bdb_format.specs.ContentRows.{fields_in}
-use Rattle.bdb_format.specs.Databases.{database_on, databases}
-use Rattle.bdb_format.specs.File.{File, file_of, page_at}
-use Rattle.bdb_format.specs.Graph.{is_meta}
-use Rattle.bdb_format.specs.HeadOf.{head_of}
-use Rattle.bdb_format.specs.Master.{is_named_kind, is_page, master_in}
-use Rattle.bdb_format.specs.Page.{Page, Meta}
-use Rattle.bdb_format.specs.Verdict.{master_faults}
-use Rattle.bdb_format.proofs.MemberLemmas.{first_member, in_filter, later_member, no_member, of_map}
-use Rattle.bdb_image.specs.Linked.{IsForest}
+use Rattle.bdb_recno.specs.of_format.declared.metadata.BtreeMeta.{BtreeMeta}
+use Rattle.bdb_recno.specs.of_format.ContentRows.{fields_in}
+use Rattle.bdb_recno.specs.of_format.Databases.{database_on, databases}
+use Rattle.bdb_recno.specs.of_format.File.{File, file_of, page_at}
+use Rattle.bdb_recno.specs.of_format.Graph.{is_meta}
+use Rattle.bdb_recno.specs.of_format.HeadOf.{head_of}
+use Rattle.bdb_recno.specs.of_format.Master.{is_named_kind, is_page, master_in}
+use Rattle.bdb_recno.specs.of_format.Page.{Page, Meta}
+use Rattle.bdb_recno.specs.of_format.Verdict.{master_faults}
+use Rattle.bdb_recno.proofs.of_format.MemberLemmas.{first_member, in_filter, later_member, no_member, of_map}
+use Rattle.bdb_recno.specs.of_image.Linked.{IsForest}
 use Rattle.bdb_file.specs.AnyOrder.{faults_by_rows}
 use Rattle.bdb_master.specs.Entries.{NamedPair, entries_naming, fault_at, master_entries}
 use Rattle.bdb_file.specs.Named.{entry_database}
 use Rattle.bdb_file.specs.declared.rows.Rows.TheVariants.{AnyOrder}
 use Rattle.bdb_file.proofs.RowsLemmas.{master_kept}
-use Rattle.bdb_format.proofs.ListLemmas.{any_member}
-use Rattle.bdb_format.proofs.FileLemmas.{last_page}
+use Rattle.bdb_recno.proofs.of_format.ListLemmas.{any_member}
+use Rattle.bdb_recno.proofs.of_format.FileLemmas.{last_page}
 use Rattle.bdb_master.proofs.MasterLemmas.{count_five, in_naming, master_inside}
-use Rattle.bdb_tree.proofs.ListedLemmas.{at_meta}
+use Rattle.bdb_recno.proofs.of_tree.ListedLemmas.{at_meta}
 use Rattle.bdb_file.proofs.NamedLemmas.{NamesMeta, all_named, entry_names, kind_inside, one_unnamed, with_name}
 
 -- A page has one database at most.

@@ -2,29 +2,29 @@
 use Rattle.std.proofs.Common.{◌≡◌, ℕ, ◌+◌, ◌≤◌, true, false, cond, List, [], append-nil, Some, arith, refl, sym, ◌∙◌, ap, subst}
 use Rattle.std.specs.Prelude.{◌==◌, ◌&&◌, take}
 use Rattle.std.specs.Option.{is_some}
-use Rattle.bdb_format.specs.Master.{master_in}
+use Rattle.bdb_recno.specs.of_format.Master.{master_in}
 use Rattle.std.specs.List.{Contains, flat_map, range_with_len, slice_get}
-use Rattle.bdb_format.specs.declared.kinds.Fault.{Fault}
-use Rattle.bdb_format.specs.declared.metadata.QueueMeta.{QueueMeta}
-use Rattle.bdb_format.specs.ContentRows.{database_faults, database_rows, fields_in, fields_of}
-use Rattle.bdb_format.specs.File.{File, file_of, page_at, page_bytes}
-use Rattle.bdb_format.specs.Graph.{is_meta}
-use Rattle.bdb_format.specs.HeadOf.{head_of}
-use Rattle.bdb_format.specs.Page.{Metadata, QueueFields, Meta}
-use Rattle.bdb_format.specs.Reading.{abstract_page}
-use Rattle.bdb_format.specs.Verdict.{holding, contents_faults}
-use Rattle.bdb_format.proofs.MemberLemmas.{in_flat_map, in_map, is_empty, no_member, of_filter, of_flat_map, of_map, of_range, in_filter}
-use Rattle.bdb_format.proofs.VerdictLemmas.{IsOfStage, of_by_page}
-use Rattle.bdb_format.proofs.FileLemmas.{page_is}
-use Rattle.bdb_image.specs.Linked.{HasMetadata, meta_pages}
-use Rattle.bdb_graph.proofs.ReadLemmas.{is_of_page}
-use Rattle.bdb_faults.specs.Notes.{NotesAll}
-use Rattle.bdb_faults.proofs.SinkLemmas.{notes_none}
+use Rattle.bdb_recno.specs.of_format.declared.kinds.Fault.{Fault}
+use Rattle.bdb_recno.specs.of_format.declared.metadata.QueueMeta.{QueueMeta}
+use Rattle.bdb_recno.specs.of_format.ContentRows.{database_faults, database_rows, fields_in, fields_of}
+use Rattle.bdb_recno.specs.of_format.File.{File, file_of, page_at, page_bytes}
+use Rattle.bdb_recno.specs.of_format.Graph.{is_meta}
+use Rattle.bdb_recno.specs.of_format.HeadOf.{head_of}
+use Rattle.bdb_recno.specs.of_format.Page.{Metadata, QueueFields, Meta}
+use Rattle.bdb_recno.specs.of_format.Reading.{abstract_page}
+use Rattle.bdb_recno.specs.of_format.Verdict.{holding, contents_faults}
+use Rattle.bdb_recno.proofs.of_format.MemberLemmas.{in_flat_map, in_map, is_empty, no_member, of_filter, of_flat_map, of_map, of_range, in_filter}
+use Rattle.bdb_recno.proofs.of_format.VerdictLemmas.{IsOfStage, of_by_page}
+use Rattle.bdb_recno.proofs.of_format.FileLemmas.{page_is}
+use Rattle.bdb_recno.specs.of_image.Linked.{HasMetadata, meta_pages}
+use Rattle.bdb_recno.proofs.of_graph.ReadLemmas.{is_of_page}
+use Rattle.bdb_recno.specs.of_faults.Notes.{NotesAll}
+use Rattle.bdb_recno.proofs.of_faults.SinkLemmas.{notes_none}
 use Rattle.bdb_file.specs.Contents.{faults_on}
 use Rattle.bdb_file.specs.Noted.{asked_on, is_asked, is_master}
 use Rattle.bdb_file.specs.declared.rows.Which.{Which}
 use Rattle.bdb_file.proofs.ContentLemmas.{in_contents, of_contents}
-use Rattle.bdb_tree.proofs.ListedLemmas.{one_more}
+use Rattle.bdb_recno.proofs.of_tree.ListedLemmas.{one_more}
 
 pub has_metadata : (file : File) (p : ℕ) (fields : Metadata) → p ≤ file.last → page_at file p ≡ Meta fields → HasMetadata file fields
 has_metadata file p fields inside is = record { page = p; inside = inside; is = is }

@@ -2,15 +2,15 @@
 use Rattle.std.proofs.Common.{◌≡◌, ◌⊎◌, ℕ, ◌+◌, List, [], ◌∷◌, ◌++◌, arith, refl, sym, subst, inl, inr}
 use Rattle.std.specs.List.{Contains}
 use Rattle.std.proofs.lemmas.List.Elements.{Contains-append_cases, Contains-append_left, Contains-append_right}
-use Rattle.bdb_format.specs.declared.kinds.Fault.{Fault}
-use Rattle.bdb_format.specs.Verdict.{by_page, holding, structure_faults, chain_faults, tree_faults, structure_rows}
-use Rattle.bdb_format.specs.Chains.{chain_rows}
-use Rattle.bdb_format.specs.Leaves.{tree_rows}
-use Rattle.bdb_format.specs.File.{File}
-use Rattle.bdb_format.specs.Table.{Row}
-use Rattle.bdb_format.proofs.VerdictLemmas.{IsOfStage, in_by_page, of_by_page}
-use Rattle.bdb_faults.specs.Notes.{AreSame, NotesAll}
-use Rattle.bdb_faults.proofs.SinkLemmas.{notes_both, notes_same}
+use Rattle.bdb_recno.specs.of_format.declared.kinds.Fault.{Fault}
+use Rattle.bdb_recno.specs.of_format.Verdict.{by_page, holding, structure_faults, chain_faults, tree_faults, structure_rows}
+use Rattle.bdb_recno.specs.of_format.Chains.{chain_rows}
+use Rattle.bdb_recno.specs.of_format.Leaves.{tree_rows}
+use Rattle.bdb_recno.specs.of_format.File.{File}
+use Rattle.bdb_recno.specs.of_format.Table.{Row}
+use Rattle.bdb_recno.proofs.of_format.VerdictLemmas.{IsOfStage, in_by_page, of_by_page}
+use Rattle.bdb_recno.specs.of_faults.Notes.{AreSame, NotesAll}
+use Rattle.bdb_recno.proofs.of_faults.SinkLemmas.{notes_both, notes_same}
 
 -- The faults of two lists together.
 

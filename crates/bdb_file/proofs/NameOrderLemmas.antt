@@ -6,28 +6,28 @@ use Rattle.std.specs.List.{Contains, filter, flat_map, list_any}
 use Rattle.std.specs.Str.{bytes_eq}
 use Rattle.std.proofs.lemmas.Bool.{and_from, and_parts, eq-eqb, or_parts}
 use Rattle.std.proofs.lemmas.List.{map-append}
-use Rattle.bdb_format.specs.declared.metadata.BtreeMeta.{BtreeMeta}
-use Rattle.bdb_format.specs.ContentRows.{ascends, ascends_from, btree_contents, database_faults, database_rows, fields_in, is_out_of_order}
-use Rattle.bdb_format.specs.ContentRows.{neighbours, repeated}
-use Rattle.bdb_format.specs.Contents.{StoredPair, tree_pairs}
-use Rattle.bdb_format.specs.Databases.{database_on, databases, databases_under, named_database}
-use Rattle.bdb_format.specs.File.{File, file_of, page_at}
-use Rattle.bdb_format.specs.Graph.{is_meta}
-use Rattle.bdb_format.specs.HeadOf.{head_of}
-use Rattle.bdb_format.specs.Less.{less}
-use Rattle.bdb_format.specs.Master.{master_in, master_pairs, named_by, pairs_under}
-use Rattle.bdb_format.specs.Page.{BtreeFields, Page, Meta}
-use Rattle.bdb_format.specs.Verdict.{holding, master_faults, stage_faults}
-use Rattle.bdb_format.proofs.MemberLemmas.{first_member, in_map, is_empty, later_member, no_member, none_passes, of_filter}
-use Rattle.bdb_format.proofs.VerdictLemmas.{AllFail, all_fail, no_codes_at, none_in}
-use Rattle.bdb_format.proofs.RepeatLemmas.{repeated_after, repeated_is}
-use Rattle.bdb_format.specs.Flags.{is_recno}
-use Rattle.bdb_image.specs.Linked.{HasMetadata, IsForest}
-use Rattle.bdb_graph.proofs.LinkedLemmas.{root_fits}
-use Rattle.bdb_graph.proofs.ReadLemmas.{master_is, master_keys}
-use Rattle.bdb_btree.specs.Bounds.{DontFall, NoneBelow}
-use Rattle.bdb_btree.proofs.FallLemmas.{dont_fall, tree_keys}
-use Rattle.bdb_btree.proofs.PairLemmas.{tree_pair}
+use Rattle.bdb_recno.specs.of_format.declared.metadata.BtreeMeta.{BtreeMeta}
+use Rattle.bdb_recno.specs.of_format.ContentRows.{ascends, ascends_from, btree_contents, database_faults, database_rows, fields_in, is_out_of_order}
+use Rattle.bdb_recno.specs.of_format.ContentRows.{neighbours, repeated}
+use Rattle.bdb_recno.specs.of_format.Contents.{StoredPair, tree_pairs}
+use Rattle.bdb_recno.specs.of_format.Databases.{database_on, databases, databases_under, named_database}
+use Rattle.bdb_recno.specs.of_format.File.{File, file_of, page_at}
+use Rattle.bdb_recno.specs.of_format.Graph.{is_meta}
+use Rattle.bdb_recno.specs.of_format.HeadOf.{head_of}
+use Rattle.bdb_recno.specs.of_format.Less.{less}
+use Rattle.bdb_recno.specs.of_format.Master.{master_in, master_pairs, named_by, pairs_under}
+use Rattle.bdb_recno.specs.of_format.Page.{BtreeFields, Page, Meta}
+use Rattle.bdb_recno.specs.of_format.Verdict.{holding, master_faults, stage_faults}
+use Rattle.bdb_recno.proofs.of_format.MemberLemmas.{first_member, in_map, is_empty, later_member, no_member, none_passes, of_filter}
+use Rattle.bdb_recno.proofs.of_format.VerdictLemmas.{AllFail, all_fail, no_codes_at, none_in}
+use Rattle.bdb_recno.proofs.of_format.RepeatLemmas.{repeated_after, repeated_is}
+use Rattle.bdb_recno.specs.of_format.Flags.{is_recno}
+use Rattle.bdb_recno.specs.of_image.Linked.{HasMetadata, IsForest}
+use Rattle.bdb_recno.proofs.of_graph.LinkedLemmas.{root_fits}
+use Rattle.bdb_recno.proofs.of_graph.ReadLemmas.{master_is, master_keys}
+use Rattle.bdb_master.specs.of_btree.Bounds.{DontFall, NoneBelow}
+use Rattle.bdb_master.proofs.of_btree.FallLemmas.{dont_fall, tree_keys}
+use Rattle.bdb_master.proofs.of_btree.PairLemmas.{tree_pair}
 use Rattle.bdb_master.specs.Entries.{fault_at, named}
 use Rattle.bdb_file.specs.AnyOrder.{contents_by, faults_by_rows}
 use Rattle.bdb_file.specs.Laws.{NamesAscend, NamesAscendInAnyOrder, name_bytes}
@@ -37,9 +37,9 @@ use Rattle.bdb_master.proofs.MasterLemmas.{AreInside, master_inside, repeat_here
 use Rattle.bdb_file.proofs.NamedLemmas.{NamesMeta, entry_names}
 use Rattle.bdb_file.proofs.OrderLemmas.{master_counts}
 use Rattle.bdb_file.proofs.RowsLemmas.{contents_kept, early_kept, master_kept, sound_in_any_order}
-use Rattle.bdb_format.proofs.BoolLemmas.{second_false}
-use Rattle.bdb_format.proofs.PairLemmas.{neighbour_in, keyed_rows}
-use Rattle.bdb_format.proofs.LessLemmas.{eq_self, same_unless_less}
+use Rattle.bdb_recno.proofs.of_format.BoolLemmas.{second_false}
+use Rattle.bdb_recno.proofs.of_format.PairLemmas.{neighbour_in, keyed_rows}
+use Rattle.bdb_recno.proofs.of_format.LessLemmas.{eq_self, same_unless_less}
 
 -- Lists of pairs whose keys don't fall.
 

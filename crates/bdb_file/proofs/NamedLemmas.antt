@@ -5,19 +5,19 @@ use Rattle.std.specs.List.{Contains, flat_map}
 use Rattle.std.specs.Option.{ForSome}
 use Rattle.std.proofs.lemmas.Bool.{true≢false, cases_lt}
 use Rattle.std.proofs.lemmas.List.Folds.{flat_map-map}
-use Rattle.bdb_format.specs.declared.metadata.BtreeMeta.{BtreeMeta}
-use Rattle.bdb_format.specs.declared.kinds.Fault.{Fault}
-use Rattle.bdb_format.specs.ContentRows.{fields_in}
-use Rattle.bdb_format.specs.Databases.{Database, database_on, databases, databases_under}
-use Rattle.bdb_format.specs.File.{File, file_of, page_at}
-use Rattle.bdb_format.specs.HeadOf.{head_of}
-use Rattle.bdb_format.specs.Master.{is_named_kind, master_in, master_pairs}
-use Rattle.bdb_format.specs.Page.{Metadata, Page, Meta}
-use Rattle.bdb_format.specs.Verdict.{master_faults}
-use Rattle.bdb_format.proofs.MemberLemmas.{no_member}
-use Rattle.bdb_format.proofs.FileLemmas.{last_page}
-use Rattle.bdb_image.specs.Linked.{IsForest}
-use Rattle.bdb_image.specs.Metas.{meta_in}
+use Rattle.bdb_recno.specs.of_format.declared.metadata.BtreeMeta.{BtreeMeta}
+use Rattle.bdb_recno.specs.of_format.declared.kinds.Fault.{Fault}
+use Rattle.bdb_recno.specs.of_format.ContentRows.{fields_in}
+use Rattle.bdb_recno.specs.of_format.Databases.{Database, database_on, databases, databases_under}
+use Rattle.bdb_recno.specs.of_format.File.{File, file_of, page_at}
+use Rattle.bdb_recno.specs.of_format.HeadOf.{head_of}
+use Rattle.bdb_recno.specs.of_format.Master.{is_named_kind, master_in, master_pairs}
+use Rattle.bdb_recno.specs.of_format.Page.{Metadata, Page, Meta}
+use Rattle.bdb_recno.specs.of_format.Verdict.{master_faults}
+use Rattle.bdb_recno.proofs.of_format.MemberLemmas.{no_member}
+use Rattle.bdb_recno.proofs.of_format.FileLemmas.{last_page}
+use Rattle.bdb_recno.specs.of_image.Linked.{IsForest}
+use Rattle.bdb_recno.specs.of_image.Metas.{meta_in}
 use Rattle.bdb_master.specs.Entries.{NamedPair, fault_at, master_entries, named, target_fault}
 use Rattle.bdb_file.specs.Named.{entry_database}
 use Rattle.bdb_master.proofs.MasterLemmas.{AreInside, in_targets, master_inside}

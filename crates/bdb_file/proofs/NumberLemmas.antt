@@ -1,23 +1,23 @@
 -- Numbers that no record has.
-use Rattle.bdb_format.proofs.PairLemmas.{get_append}
+use Rattle.bdb_recno.proofs.of_format.PairLemmas.{get_append}
 use Rattle.std.proofs.lemmas.Bool.Decides.{nat_tests}
 use Rattle.std.proofs.Common.{◌≡◌, ℕ, ◌-◌, ◌≤◌, ◌^◌, true, List, [], ◌∷◌, ◌++◌, Some, None, arith, refl, sym, ◌∙◌, ap, inl}
 use Rattle.std.specs.List.{flat_map, range_with_len}
 use Rattle.std.proofs.lemmas.Option.{slice_get_past}
-use Rattle.bdb_image.specs.Linked.{HasMetadata, IsForest}
-use Rattle.bdb_graph.proofs.LinkedLemmas.{root_fits}
-use Rattle.bdb_format.specs.declared.metadata.BtreeMeta.{BtreeMeta}
-use Rattle.bdb_format.specs.declared.metadata.QueueMeta.{QueueMeta}
-use Rattle.bdb_format.specs.Contents.{tree_entries}
-use Rattle.bdb_format.specs.Databases.{data_under, get_number}
-use Rattle.bdb_format.specs.Digits.{number_in}
-use Rattle.bdb_format.specs.File.{File, file_of, page_at}
-use Rattle.bdb_format.specs.HeadOf.{head_of}
-use Rattle.bdb_format.specs.Lists.{ListKey, NumberKey, get, listed_slot, page_records, queue_list, recno_list}
-use Rattle.bdb_format.specs.Page.{BtreeFields, Page, Queue, QueueFields}
-use Rattle.bdb_format.specs.Verdict.{structure_faults}
-use Rattle.bdb_format.specs.Flags.{is_recno}
-use Rattle.bdb_tree.specs.Trees.{IsRoot}
+use Rattle.bdb_recno.specs.of_image.Linked.{HasMetadata, IsForest}
+use Rattle.bdb_recno.proofs.of_graph.LinkedLemmas.{root_fits}
+use Rattle.bdb_recno.specs.of_format.declared.metadata.BtreeMeta.{BtreeMeta}
+use Rattle.bdb_recno.specs.of_format.declared.metadata.QueueMeta.{QueueMeta}
+use Rattle.bdb_recno.specs.of_format.Contents.{tree_entries}
+use Rattle.bdb_recno.specs.of_format.Databases.{data_under, get_number}
+use Rattle.bdb_recno.specs.of_format.Digits.{number_in}
+use Rattle.bdb_recno.specs.of_format.File.{File, file_of, page_at}
+use Rattle.bdb_recno.specs.of_format.HeadOf.{head_of}
+use Rattle.bdb_recno.specs.of_format.Lists.{ListKey, NumberKey, get, listed_slot, page_records, queue_list, recno_list}
+use Rattle.bdb_recno.specs.of_format.Page.{BtreeFields, Page, Queue, QueueFields}
+use Rattle.bdb_recno.specs.of_format.Verdict.{structure_faults}
+use Rattle.bdb_recno.specs.of_format.Flags.{is_recno}
+use Rattle.bdb_recno.specs.of_tree.Trees.{IsRoot}
 use Rattle.bdb_recno.proofs.ListLemmas.{none_there}
 use Rattle.bdb_recno.proofs.PageLemmas.{root_recno}
 use Rattle.bdb_recno.proofs.ScanLemmas.{few_records}

@@ -6,25 +6,25 @@ use Rattle.std.specs.List.{Contains, filter, flat_map}
 use Rattle.std.specs.Option.{is_some}
 use Rattle.std.proofs.lemmas.Bool.{and_parts, eqb-true, or_cases, or_right}
 use Rattle.std.proofs.lemmas.List.Elements.{Contains-append_cases, Contains-append_left, Contains-append_right}
-use Rattle.bdb_faults.specs.Named.{Ascends, ComesBefore, HasNoted}
-use Rattle.bdb_faults.specs.Notes.{IsFirst, Notes, NotesAll}
-use Rattle.bdb_faults.proofs.AscendLemmas.{faults_ascend, stage_ascends}
-use Rattle.bdb_faults.proofs.SinkLemmas.{first_is, noted_all}
-use Rattle.bdb_format.specs.ByPage.{ComesFirst}
-use Rattle.bdb_format.specs.declared.kinds.Fault.{Fault}
-use Rattle.bdb_format.specs.declared.metadata.BtreeMeta.{BtreeMeta}
-use Rattle.bdb_format.specs.ContentRows.{contents_rows, database_faults, database_rows, fields_in, holds_code}
-use Rattle.bdb_format.specs.File.{File, file_of, page_at}
-use Rattle.bdb_format.specs.Flags.{names_databases}
-use Rattle.bdb_format.specs.Graph.{is_meta}
-use Rattle.bdb_format.specs.Master.{master_in}
-use Rattle.bdb_format.specs.Page.{BtreeFields, Page, Meta}
-use Rattle.bdb_format.specs.Verdict.{Faulty, Judgement, contents_faults, faults_in, first_fault, holding, judgement_of}
-use Rattle.bdb_format.proofs.MemberLemmas.{first_member, in_filter, in_flat_map, in_map, member_cases, no_member, of_filter, of_flat_map, of_map}
-use Rattle.bdb_format.proofs.VerdictLemmas.{InOrder, IsOfStage, of_by_page, or_else_both, stage_in_order, stages_in_order, late_fault}
-use Rattle.bdb_btree.proofs.CheckLemmas.{is_code as code_holding, of_code as holding_code}
-use Rattle.bdb_image.specs.Linked.{meta_pages}
-use Rattle.bdb_graph.proofs.ReadLemmas.{master_is}
+use Rattle.bdb_recno.specs.of_faults.Named.{Ascends, ComesBefore, HasNoted}
+use Rattle.bdb_recno.specs.of_faults.Notes.{IsFirst, Notes, NotesAll}
+use Rattle.bdb_recno.proofs.of_faults.AscendLemmas.{faults_ascend, stage_ascends}
+use Rattle.bdb_recno.proofs.of_faults.SinkLemmas.{first_is, noted_all}
+use Rattle.bdb_recno.specs.of_format.ByPage.{ComesFirst}
+use Rattle.bdb_recno.specs.of_format.declared.kinds.Fault.{Fault}
+use Rattle.bdb_recno.specs.of_format.declared.metadata.BtreeMeta.{BtreeMeta}
+use Rattle.bdb_recno.specs.of_format.ContentRows.{contents_rows, database_faults, database_rows, fields_in, holds_code}
+use Rattle.bdb_recno.specs.of_format.File.{File, file_of, page_at}
+use Rattle.bdb_recno.specs.of_format.Flags.{names_databases}
+use Rattle.bdb_recno.specs.of_format.Graph.{is_meta}
+use Rattle.bdb_recno.specs.of_format.Master.{master_in}
+use Rattle.bdb_recno.specs.of_format.Page.{BtreeFields, Page, Meta}
+use Rattle.bdb_recno.specs.of_format.Verdict.{Faulty, Judgement, contents_faults, faults_in, first_fault, holding, judgement_of}
+use Rattle.bdb_recno.proofs.of_format.MemberLemmas.{first_member, in_filter, in_flat_map, in_map, member_cases, no_member, of_filter, of_flat_map, of_map}
+use Rattle.bdb_recno.proofs.of_format.VerdictLemmas.{InOrder, IsOfStage, of_by_page, or_else_both, stage_in_order, stages_in_order, late_fault}
+use Rattle.bdb_master.proofs.of_btree.CheckLemmas.{is_code as code_holding, of_code as holding_code}
+use Rattle.bdb_recno.specs.of_image.Linked.{meta_pages}
+use Rattle.bdb_recno.proofs.of_graph.ReadLemmas.{master_is}
 use Rattle.bdb_file.specs.AnyOrder.{contents_by, counts, holds_under, is_of_order, stages_by}
 use Rattle.bdb_file.specs.Contents.{faults_on}
 use Rattle.bdb_file.specs.Laws.{MasterCounts}
@@ -34,7 +34,7 @@ use Rattle.bdb_file.specs.declared.rows.Rows.TheVariants.{All, AnyOrder}
 use Rattle.bdb_file.specs.declared.rows.Which.{Which}
 use Rattle.bdb_file.specs.declared.rows.Which.TheVariants.{Each, Master, Others}
 use Rattle.bdb_file.proofs.DatabaseLemmas.{in_pages, of_pages}
-use Rattle.bdb_tree.proofs.ListedLemmas.{at_meta}
+use Rattle.bdb_recno.proofs.of_tree.ListedLemmas.{at_meta}
 use Rattle.bdb_file.proofs.MergeLemmas.{at_page}
 
 -- A sink that takes no notice of rows of order.

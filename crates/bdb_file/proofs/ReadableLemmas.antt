@@ -1,24 +1,24 @@
 -- In a table of a file on which no row counts in any order no key comes twice.
 use Rattle.std.proofs.Common.{◌≡◌, ℕ, List, [], refl, sym, ap, subst}
 use Rattle.std.specs.List.{Contains}
-use Rattle.bdb_faults.specs.Rows.{fault_at}
-use Rattle.bdb_faults.specs.declared.rows.ContentsRow.TheVariants.{KeyTwice}
-use Rattle.bdb_faults.specs.declared.rows.Row.TheVariants.{Contents}
-use Rattle.bdb_format.specs.declared.metadata.HashMeta.{HashMeta}
-use Rattle.bdb_format.specs.ContentRows.{database_faults, fields_in}
-use Rattle.bdb_format.specs.File.{File, file_of, page_at}
-use Rattle.bdb_format.specs.Graph.{is_meta}
-use Rattle.bdb_format.specs.Page.{Metadata, BtreeFields, HashFields, QueueFields}
-use Rattle.bdb_format.specs.Verdict.{contents_faults}
-use Rattle.bdb_format.proofs.MemberLemmas.{first_member, in_filter, in_flat_map, no_member}
-use Rattle.bdb_image.specs.Linked.{HasMetadata, meta_pages}
-use Rattle.bdb_hash.specs.Scanned.{KeysDiffer}
+use Rattle.bdb_recno.specs.of_faults.Rows.{fault_at}
+use Rattle.bdb_recno.specs.of_faults.declared.rows.ContentsRow.TheVariants.{KeyTwice}
+use Rattle.bdb_recno.specs.of_faults.declared.rows.Row.TheVariants.{Contents}
+use Rattle.bdb_recno.specs.of_format.declared.metadata.HashMeta.{HashMeta}
+use Rattle.bdb_recno.specs.of_format.ContentRows.{database_faults, fields_in}
+use Rattle.bdb_recno.specs.of_format.File.{File, file_of, page_at}
+use Rattle.bdb_recno.specs.of_format.Graph.{is_meta}
+use Rattle.bdb_recno.specs.of_format.Page.{Metadata, BtreeFields, HashFields, QueueFields}
+use Rattle.bdb_recno.specs.of_format.Verdict.{contents_faults}
+use Rattle.bdb_recno.proofs.of_format.MemberLemmas.{first_member, in_filter, in_flat_map, no_member}
+use Rattle.bdb_recno.specs.of_image.Linked.{HasMetadata, meta_pages}
+use Rattle.bdb_master.specs.of_hash.Scanned.{KeysDiffer}
 use Rattle.bdb_file.specs.AnyOrder.{contents_by, counts, faults_by_rows}
 use Rattle.bdb_file.specs.Contents.{faults_on}
 use Rattle.bdb_file.specs.Listing.{HasNewKeys}
 use Rattle.bdb_file.specs.declared.rows.Rows.TheVariants.{AnyOrder}
 use Rattle.bdb_file.proofs.DatabaseLemmas.{of_pages}
-use Rattle.bdb_tree.proofs.ListedLemmas.{at_meta}
+use Rattle.bdb_recno.proofs.of_tree.ListedLemmas.{at_meta}
 use Rattle.bdb_file.proofs.RowsLemmas.{contents_kept}
 
 keys_differ : (image : List ℕ) (meta : HashMeta) → faults_by_rows AnyOrder image ≡ [] → HasMetadata (file_of image) (HashFields meta)

@@ -2,19 +2,19 @@
 use Rattle.std.proofs.Common.{◌≡◌, ℕ, ◌<◌, ◌≤◌, Bool, true, false, cond, List, [], ◌∷◌, ◌++◌, None, arith, refl, sym, ◌∙◌, ap, subst}
 use Rattle.std.specs.Prelude.{◌||◌, not}
 use Rattle.std.specs.List.{Contains, filter, range_with_len}
-use Rattle.bdb_faults.specs.All.{IsAllOf}
-use Rattle.bdb_faults.specs.declared.named.AllError.{AllError}
-use Rattle.bdb_format.specs.declared.kinds.CheckError.{CheckError}
-use Rattle.bdb_format.specs.declared.kinds.Fault.{Fault}
-use Rattle.bdb_format.specs.declared.kinds.Verdict.{Verdict}
-use Rattle.bdb_format.specs.declared.kinds.Verdict.TheVariants.{Fault as FaultVerdict, Unsupported, Memory}
-use Rattle.bdb_format.specs.Databases.{Database, databases}
-use Rattle.bdb_format.specs.File.{File, file_of, page_at}
-use Rattle.bdb_format.specs.Master.{master_in}
-use Rattle.bdb_format.specs.Verdict.{IsFirstOf, contents_faults, faults_in, faults_of, first_judgement, master_faults, or_else, stage_faults}
-use Rattle.bdb_format.specs.Verdict.{structure_faults, verdict_of}
-use Rattle.bdb_format.proofs.MemberLemmas.{first_member, later_member}
-use Rattle.bdb_format.proofs.VerdictLemmas.{none_within, or_else_none, or_else_nothing}
+use Rattle.bdb_recno.specs.of_faults.All.{IsAllOf}
+use Rattle.bdb_recno.specs.of_faults.declared.named.AllError.{AllError}
+use Rattle.bdb_recno.specs.of_format.declared.kinds.CheckError.{CheckError}
+use Rattle.bdb_recno.specs.of_format.declared.kinds.Fault.{Fault}
+use Rattle.bdb_recno.specs.of_format.declared.kinds.Verdict.{Verdict}
+use Rattle.bdb_recno.specs.of_format.declared.kinds.Verdict.TheVariants.{Fault as FaultVerdict, Unsupported, Memory}
+use Rattle.bdb_recno.specs.of_format.Databases.{Database, databases}
+use Rattle.bdb_recno.specs.of_format.File.{File, file_of, page_at}
+use Rattle.bdb_recno.specs.of_format.Master.{master_in}
+use Rattle.bdb_recno.specs.of_format.Verdict.{IsFirstOf, contents_faults, faults_in, faults_of, first_judgement, master_faults, or_else, stage_faults}
+use Rattle.bdb_recno.specs.of_format.Verdict.{structure_faults, verdict_of}
+use Rattle.bdb_recno.proofs.of_format.MemberLemmas.{first_member, later_member}
+use Rattle.bdb_recno.proofs.of_format.VerdictLemmas.{none_within, or_else_none, or_else_nothing}
 use Rattle.bdb_file.specs.AnyOrder.{contents_by, counts, faults_by_rows, holds_under, is_of_order, stages_by, verdict_by}
 use Rattle.bdb_file.specs.Laws.{AllAreOfAll, SameWithoutOrder, SoundInAnyOrder}
 use Rattle.bdb_file.specs.Named.{IsReadable}

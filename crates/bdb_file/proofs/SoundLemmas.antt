@@ -3,24 +3,24 @@ use Rattle.std.proofs.Common.{◌≡◌, ℕ, ◌<◌, ◌≤◌, List, [], leng
 use Rattle.std.specs.List.{Contains}
 use Rattle.std.proofs.lemmas.Bool.{cases_lt}
 use Rattle.std.proofs.lemmas.List.{get_or_default}
-use Rattle.bdb_format.specs.declared.kinds.Fault.{Fault}
-use Rattle.bdb_format.specs.declared.metadata.BtreeMeta.{BtreeMeta}
-use Rattle.bdb_format.specs.ContentRows.{database_faults, fields_in, fields_of}
-use Rattle.bdb_format.specs.Databases.{Database, database_on, databases, databases_under, named_database}
-use Rattle.bdb_format.specs.File.{File, file_of, page_at}
-use Rattle.bdb_format.specs.Graph.{is_meta}
-use Rattle.bdb_format.specs.Master.{master_in, master_pairs, named_by}
-use Rattle.bdb_format.specs.Page.{Metadata, NoType, Meta}
-use Rattle.bdb_format.specs.Verdict.{contents_faults, faults_of, structure_faults}
-use Rattle.bdb_format.proofs.MemberLemmas.{first_member, in_flat_map, is_empty, no_member, of_flat_map, of_map}
-use Rattle.bdb_format.proofs.VerdictLemmas.{no_stage}
-use Rattle.bdb_format.proofs.FileLemmas.{past_last}
-use Rattle.bdb_image.specs.Linked.{HasMetadata}
-use Rattle.bdb_graph.proofs.ReadLemmas.{is_of_page}
+use Rattle.bdb_recno.specs.of_format.declared.kinds.Fault.{Fault}
+use Rattle.bdb_recno.specs.of_format.declared.metadata.BtreeMeta.{BtreeMeta}
+use Rattle.bdb_recno.specs.of_format.ContentRows.{database_faults, fields_in, fields_of}
+use Rattle.bdb_recno.specs.of_format.Databases.{Database, database_on, databases, databases_under, named_database}
+use Rattle.bdb_recno.specs.of_format.File.{File, file_of, page_at}
+use Rattle.bdb_recno.specs.of_format.Graph.{is_meta}
+use Rattle.bdb_recno.specs.of_format.Master.{master_in, master_pairs, named_by}
+use Rattle.bdb_recno.specs.of_format.Page.{Metadata, NoType, Meta}
+use Rattle.bdb_recno.specs.of_format.Verdict.{contents_faults, faults_of, structure_faults}
+use Rattle.bdb_recno.proofs.of_format.MemberLemmas.{first_member, in_flat_map, is_empty, no_member, of_flat_map, of_map}
+use Rattle.bdb_recno.proofs.of_format.VerdictLemmas.{no_stage}
+use Rattle.bdb_recno.proofs.of_format.FileLemmas.{past_last}
+use Rattle.bdb_recno.specs.of_image.Linked.{HasMetadata}
+use Rattle.bdb_recno.proofs.of_graph.ReadLemmas.{is_of_page}
 use Rattle.bdb_file.specs.Named.{database_at, no_database}
 use Rattle.bdb_file.proofs.ContentLemmas.{in_contents}
 use Rattle.bdb_file.proofs.DatabaseLemmas.{in_fields}
-use Rattle.bdb_tree.proofs.ListedLemmas.{at_meta}
+use Rattle.bdb_recno.proofs.of_tree.ListedLemmas.{at_meta}
 use Rattle.bdb_file.proofs.NamedLemmas.{with_name}
 
 -- Where a database has its metadata.

@@ -3,22 +3,22 @@ use Rattle.std.proofs.Common.{◌≡◌, ℕ, ◌+◌, ◌^◌, ◌<◌, ◌≤�
 use Rattle.std.specs.Prelude.{Err, IfErr, IsErrAnd, Ok, Result}
 use Rattle.std.specs.List.{Contains, range_with_len}
 use Rattle.std.specs.Option.{option_map}
-use Rattle.bdb_format.specs.declared.kinds.CheckError.{CheckError}
-use Rattle.bdb_format.specs.declared.kinds.CheckError.TheVariants.{Fault as FaultError, Memory as MemoryError}
-use Rattle.bdb_format.specs.declared.kinds.Verdict.{Verdict}
-use Rattle.bdb_format.specs.Verdict.{Faulty, IsFirstOf, Judgement, LeftOut, as_verdict, faults_in, first_fault, first_judgement, judgement_of, or_else}
-use Rattle.bdb_format.specs.Verdict.{stage_faults, verdict_in}
-use Rattle.bdb_format.proofs.VerdictLemmas.{or_else_both, skip_stage, skip_stages, stage_in_order, verdict_after, verdict_in_more, late_fault}
-use Rattle.bdb_format.proofs.MemberLemmas.{first_member, no_member}
-use Rattle.bdb_format.specs.declared.kinds.Fault.{Fault}
-use Rattle.bdb_format.specs.File.{file_of}
-use Rattle.bdb_format.specs.HeadOf.{head_of}
-use Rattle.bdb_format.proofs.FileLemmas.{count_is, last_page}
-use Rattle.bdb_faults.specs.All.{IsAllOf}
-use Rattle.bdb_faults.specs.declared.named.AllError.{AllError}
-use Rattle.bdb_faults.specs.declared.named.AllError.TheVariants.{Faults, Memory}
-use Rattle.bdb_image.specs.Formed.{IsFormed}
-use Rattle.bdb_image.proofs.FirstLemmas.{formed_last}
+use Rattle.bdb_recno.specs.of_format.declared.kinds.CheckError.{CheckError}
+use Rattle.bdb_recno.specs.of_format.declared.kinds.CheckError.TheVariants.{Fault as FaultError, Memory as MemoryError}
+use Rattle.bdb_recno.specs.of_format.declared.kinds.Verdict.{Verdict}
+use Rattle.bdb_recno.specs.of_format.Verdict.{Faulty, IsFirstOf, Judgement, LeftOut, as_verdict, faults_in, first_fault, first_judgement, judgement_of, or_else}
+use Rattle.bdb_recno.specs.of_format.Verdict.{stage_faults, verdict_in}
+use Rattle.bdb_recno.proofs.of_format.VerdictLemmas.{or_else_both, skip_stage, skip_stages, stage_in_order, verdict_after, verdict_in_more, late_fault}
+use Rattle.bdb_recno.proofs.of_format.MemberLemmas.{first_member, no_member}
+use Rattle.bdb_recno.specs.of_format.declared.kinds.Fault.{Fault}
+use Rattle.bdb_recno.specs.of_format.File.{file_of}
+use Rattle.bdb_recno.specs.of_format.HeadOf.{head_of}
+use Rattle.bdb_recno.proofs.of_format.FileLemmas.{count_is, last_page}
+use Rattle.bdb_recno.specs.of_faults.All.{IsAllOf}
+use Rattle.bdb_recno.specs.of_faults.declared.named.AllError.{AllError}
+use Rattle.bdb_recno.specs.of_faults.declared.named.AllError.TheVariants.{Faults, Memory}
+use Rattle.bdb_recno.specs.of_image.Formed.{IsFormed}
+use Rattle.bdb_recno.proofs.of_image.FirstLemmas.{formed_last}
 use Rattle.bdb_file.specs.AnyOrder.{contents_by, faults_by_rows, stages_by, verdict_by}
 use Rattle.bdb_file.specs.Whole.{IsVerdictBy, told_as}
 use Rattle.bdb_file.specs.declared.rows.Rows.{Rows}

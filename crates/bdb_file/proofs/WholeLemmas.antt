@@ -1,13 +1,13 @@
 -- The faults of stages 6 to 8, by those of each.
 use Rattle.std.proofs.Common.{◌≡◌, ℕ, Bool, true, false, List, [], ◌∷◌, ◌++◌, length, arith, refl, sym, ◌∙◌, ap, subst}
 use Rattle.std.specs.Prelude.{◌==◌}
-use Rattle.bdb_format.specs.declared.kinds.Fault.{Fault}
-use Rattle.bdb_format.specs.File.{file_of}
-use Rattle.bdb_format.specs.Verdict.{faults_in, master_faults, or_else, structure_faults}
-use Rattle.bdb_format.proofs.MemberLemmas.{is_empty, no_member}
-use Rattle.bdb_format.proofs.VerdictLemmas.{none_within, or_else_none, skip_stage}
-use Rattle.bdb_faults.specs.Notes.{NotesAll}
-use Rattle.bdb_faults.proofs.SinkLemmas.{noted_all, notes_both}
+use Rattle.bdb_recno.specs.of_format.declared.kinds.Fault.{Fault}
+use Rattle.bdb_recno.specs.of_format.File.{file_of}
+use Rattle.bdb_recno.specs.of_format.Verdict.{faults_in, master_faults, or_else, structure_faults}
+use Rattle.bdb_recno.proofs.of_format.MemberLemmas.{is_empty, no_member}
+use Rattle.bdb_recno.proofs.of_format.VerdictLemmas.{none_within, or_else_none, skip_stage}
+use Rattle.bdb_recno.specs.of_faults.Notes.{NotesAll}
+use Rattle.bdb_recno.proofs.of_faults.SinkLemmas.{noted_all, notes_both}
 use Rattle.bdb_file.specs.AnyOrder.{contents_by, stages_by}
 use Rattle.bdb_file.specs.Noted.{HasJust}
 use Rattle.bdb_file.specs.declared.rows.Rows.{Rows}

@@ -2,19 +2,19 @@
 -- docs/FORMAT.md, "Stage 8, contents".
 use Rattle.std.specs.Prelude.{ℕ, ◌==◌, ◌&&◌, ◌||◌, not, Bool, false, List, Option, Some, None}
 use Rattle.std.specs.List.{filter, range_with_len}
-use Rattle.bdb_faults.specs.Rows.{row_code, row_stage}
-use Rattle.bdb_faults.specs.declared.rows.ContentsRow.{ContentsRow}
-use Rattle.bdb_faults.specs.declared.rows.ContentsRow.TheVariants.{KeyOrder, Separator, DuplicateOrder}
-use Rattle.bdb_faults.specs.declared.rows.Row.TheVariants.{Contents}
+use Rattle.bdb_recno.specs.of_faults.Rows.{row_code, row_stage}
+use Rattle.bdb_recno.specs.of_faults.declared.rows.ContentsRow.{ContentsRow}
+use Rattle.bdb_recno.specs.of_faults.declared.rows.ContentsRow.TheVariants.{KeyOrder, Separator, DuplicateOrder}
+use Rattle.bdb_recno.specs.of_faults.declared.rows.Row.TheVariants.{Contents}
 use Rattle.bdb_file.specs.declared.rows.Rows.{Rows}
 use Rattle.bdb_file.specs.declared.rows.Rows.TheVariants.{All, AnyOrder}
-use Rattle.bdb_format.specs.declared.kinds.Fault.{Fault}
-use Rattle.bdb_format.specs.declared.metadata.BtreeMeta.{BtreeMeta}
-use Rattle.bdb_format.specs.ContentRows.{database_rows, holds_code}
-use Rattle.bdb_format.specs.File.{File, file_of, page_at}
-use Rattle.bdb_format.specs.Master.{master_in}
-use Rattle.bdb_format.specs.Page.{BtreeFields}
-use Rattle.bdb_format.specs.Verdict.{Judgement, contents_faults, faults_in, first_judgement, or_else}
+use Rattle.bdb_recno.specs.of_format.declared.kinds.Fault.{Fault}
+use Rattle.bdb_recno.specs.of_format.declared.metadata.BtreeMeta.{BtreeMeta}
+use Rattle.bdb_recno.specs.of_format.ContentRows.{database_rows, holds_code}
+use Rattle.bdb_recno.specs.of_format.File.{File, file_of, page_at}
+use Rattle.bdb_recno.specs.of_format.Master.{master_in}
+use Rattle.bdb_recno.specs.of_format.Page.{BtreeFields}
+use Rattle.bdb_recno.specs.of_format.Verdict.{Judgement, contents_faults, faults_in, first_judgement, or_else}
 
 -- a fault is of this row of stage 8
 abbrev pub is_row : Fault → ContentsRow → Bool

@@ -3,14 +3,14 @@ use Rattle.std.specs.Prelude.{◌≡◌, ◌≤◌, ◌^◌, ℕ, IsTrue, List, 
 use Rattle.std.specs.List.{Contains}
 use Rattle.bdb_file.specs.AnyOrder.{contents_by, faults_by_rows, is_of_order, verdict_by}
 use Rattle.bdb_file.specs.declared.rows.Rows.TheVariants.{All, AnyOrder}
-use Rattle.bdb_format.specs.declared.kinds.Fault.{Fault}
-use Rattle.bdb_format.specs.declared.metadata.BtreeMeta.{BtreeMeta}
-use Rattle.bdb_format.specs.ContentRows.{ascends, database_faults}
-use Rattle.bdb_format.specs.Databases.{Database, databases}
-use Rattle.bdb_format.specs.File.{file_of, page_at}
-use Rattle.bdb_format.specs.Master.{master_in}
-use Rattle.bdb_format.specs.Page.{BtreeFields}
-use Rattle.bdb_format.specs.Verdict.{contents_faults, faults_of, verdict_of}
+use Rattle.bdb_recno.specs.of_format.declared.kinds.Fault.{Fault}
+use Rattle.bdb_recno.specs.of_format.declared.metadata.BtreeMeta.{BtreeMeta}
+use Rattle.bdb_recno.specs.of_format.ContentRows.{ascends, database_faults}
+use Rattle.bdb_recno.specs.of_format.Databases.{Database, databases}
+use Rattle.bdb_recno.specs.of_format.File.{file_of, page_at}
+use Rattle.bdb_recno.specs.of_format.Master.{master_in}
+use Rattle.bdb_recno.specs.of_format.Page.{BtreeFields}
+use Rattle.bdb_recno.specs.of_format.Verdict.{contents_faults, faults_of, verdict_of}
 
 -- the bytes of a name
 abbrev pub name_bytes : Database → List ℕ

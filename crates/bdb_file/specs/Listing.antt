@@ -2,13 +2,13 @@
 use Rattle.std.specs.Prelude.{ℕ, List}
 use Rattle.bdb_file.specs.declared.listing.Entries.{Entries}
 use Rattle.bdb_file.specs.declared.listing.Entries.TheVariants.{Btree, Recno, Hash, Queue}
-use Rattle.bdb_format.specs.File.{File}
-use Rattle.bdb_format.specs.Lists.{ListKey}
-use Rattle.bdb_format.specs.Page.{Metadata, BtreeFields, HashFields, QueueFields}
-use Rattle.bdb_hash.specs.Scanned.{KeysDiffer}
-use Rattle.bdb_overflow.specs.Datum.{datum_seen, key_view_seen}
-use Rattle.bdb_overflow.specs.declared.datum.Datum.{Datum}
-use Rattle.bdb_overflow.specs.declared.datum.KeyView.{KeyView}
+use Rattle.bdb_recno.specs.of_format.File.{File}
+use Rattle.bdb_recno.specs.of_format.Lists.{ListKey}
+use Rattle.bdb_recno.specs.of_format.Page.{Metadata, BtreeFields, HashFields, QueueFields}
+use Rattle.bdb_master.specs.of_hash.Scanned.{KeysDiffer}
+use Rattle.bdb_recno.specs.of_overflow.Datum.{datum_seen, key_view_seen}
+use Rattle.bdb_recno.specs.of_overflow.declared.datum.Datum.{Datum}
+use Rattle.bdb_recno.specs.of_overflow.declared.datum.KeyView.{KeyView}
 
 -- a pair of a list
 abbrev pub entry_seen : (KeyView × Datum) → ListKey × List ℕ

@@ -2,8 +2,8 @@
 use Rattle.std.specs.Prelude.{ℕ, List, []}
 use Rattle.bdb_file.specs.declared.lookup.Data.{Data}
 use Rattle.bdb_file.specs.declared.lookup.Data.TheVariants.{Btree, Recno, Hash, Queue, Nothing}
-use Rattle.bdb_format.specs.File.{File, header_in, page_at}
-use Rattle.bdb_format.specs.Page.{Metadata, BtreeFields, HashFields, QueueFields}
+use Rattle.bdb_recno.specs.of_format.File.{File, header_in, page_at}
+use Rattle.bdb_recno.specs.of_format.Page.{Metadata, BtreeFields, HashFields, QueueFields}
 
 abbrev pub data_left : Data → List (List ℕ)
 data_left (Btree found) = found

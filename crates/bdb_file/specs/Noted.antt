@@ -2,15 +2,15 @@
 use Rattle.std.specs.Prelude.{◌≡◌, ℕ, ◌==◌, ◌&&◌, not, if◌then◌else◌, Bool, true, List, [], length}
 use Rattle.std.specs.List.{filter, flat_map}
 use Rattle.std.specs.Option.{is_some}
-use Rattle.bdb_faults.specs.Notes.{AreSame}
+use Rattle.bdb_recno.specs.of_faults.Notes.{AreSame}
 use Rattle.bdb_file.specs.declared.rows.Which.{Which}
 use Rattle.bdb_file.specs.declared.rows.Which.TheVariants.{Each, Master, Others}
 use Rattle.bdb_file.specs.AnyOrder.{is_of_order}
 use Rattle.bdb_file.specs.Contents.{faults_on}
-use Rattle.bdb_format.specs.declared.kinds.Fault.{Fault}
-use Rattle.bdb_format.specs.File.{File, page_at}
-use Rattle.bdb_format.specs.Master.{master_in}
-use Rattle.bdb_image.specs.Linked.{meta_pages}
+use Rattle.bdb_recno.specs.of_format.declared.kinds.Fault.{Fault}
+use Rattle.bdb_recno.specs.of_format.File.{File, page_at}
+use Rattle.bdb_recno.specs.of_format.Master.{master_in}
+use Rattle.bdb_recno.specs.of_image.Linked.{meta_pages}
 
 -- just these faults were noted, in any order and repeats allowed
 abbrev pub HasJust : (List Fault → Type 0) → List Fault → Type 0

@@ -2,16 +2,16 @@ ghost use Rattle.std.specs.Prelude.{◌≡◌, [], ◌∷◌, IfErr, IfOk, OnOk}
 ghost use Rattle.bdb_file.specs.AnyOrder.{stages_by};
 ghost use Rattle.bdb_master.specs.Entries.{master_entries};
 ghost use Rattle.bdb_file.specs.Noted.{HasJust};
-ghost use Rattle.bdb_format.specs.File.{file_of};
-ghost use Rattle.bdb_format.specs.Verdict.{IsFirstOf, faults_in};
+ghost use Rattle.bdb_recno.specs.of_format.File.{file_of};
+ghost use Rattle.bdb_recno.specs.of_format.Verdict.{IsFirstOf, faults_in};
 
 use crate::Rows;
 use crate::contents::note_contents;
 use crate::structure::note_structure;
-use bdb_faults::{FaultSink, First};
-use bdb_format::CheckError;
-use bdb_graph::Linked;
 use bdb_master::{Entry, master_entries, note_master};
+use bdb_recno::bdb_faults::{FaultSink, First};
+use bdb_recno::bdb_format::CheckError;
+use bdb_recno::bdb_graph::Linked;
 use std::alloc::{AllocError, Global};
 
 /// A sink after stages 6 to 8, and the entries of the master where none of them has faults that count.

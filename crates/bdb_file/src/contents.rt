@@ -1,25 +1,25 @@
 ghost use Rattle.std.specs.Prelude.{◌≡◌, ◌≤◌, ◌==◌, ◌&&◌, IfOk, OnOk, [], is_some};
-ghost use Rattle.bdb_faults.specs.Notes.{NotesAll};
+ghost use Rattle.bdb_recno.specs.of_faults.Notes.{NotesAll};
 ghost use Rattle.bdb_file.specs.declared.rows.Rows.TheVariants.{All, AnyOrder};
 ghost use Rattle.bdb_file.specs.AnyOrder.{contents_by};
 ghost use Rattle.bdb_file.specs.Noted.{HasJust, by_asked, is_asked};
-ghost use Rattle.bdb_format.specs.ContentRows.{database_faults};
-ghost use Rattle.bdb_format.specs.Master.{master_in};
-ghost use Rattle.bdb_format.specs.Page.{Meta as MetaPage};
-ghost use Rattle.bdb_format.specs.Verdict.{structure_faults};
-ghost use Rattle.bdb_image.specs.Linked.{HasMetadata};
-ghost use Rattle.bdb_image.specs.Metas.{meta_seen};
-ghost use Rattle.bdb_format.specs.File.{file_of};
+ghost use Rattle.bdb_recno.specs.of_format.ContentRows.{database_faults};
+ghost use Rattle.bdb_recno.specs.of_format.Master.{master_in};
+ghost use Rattle.bdb_recno.specs.of_format.Page.{Meta as MetaPage};
+ghost use Rattle.bdb_recno.specs.of_format.Verdict.{structure_faults};
+ghost use Rattle.bdb_recno.specs.of_image.Linked.{HasMetadata};
+ghost use Rattle.bdb_recno.specs.of_image.Metas.{meta_seen};
+ghost use Rattle.bdb_recno.specs.of_format.File.{file_of};
 
 use crate::Rows;
 use crate::rows::Which;
 use crate::unordered::Unordered;
-use bdb_btree::note_contents as note_btree;
-use bdb_faults::FaultSink;
-use bdb_graph::{Linked, Meta};
-use bdb_hash::{Chains, note_contents as note_hash};
+use bdb_master::bdb_btree::note_contents as note_btree;
+use bdb_master::bdb_hash::{Chains, note_contents as note_hash};
+use bdb_master::bdb_ranks::Values;
 use bdb_master::master_among;
-use bdb_ranks::Values;
+use bdb_recno::bdb_faults::FaultSink;
+use bdb_recno::bdb_graph::{Linked, Meta};
 use bdb_recno::note_contents as note_recno;
 use std::alloc::{AllocError, Global};
 

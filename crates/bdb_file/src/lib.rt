@@ -18,6 +18,8 @@ mod unordered;
 mod verdict;
 mod verdict_all;
 
+pub use bdb_master::bdb_btree;
+pub use bdb_recno::{bdb_faults, bdb_format, bdb_graph, bdb_overflow, bdb_tree};
 pub use check::check_file;
 pub use db::Db;
 pub use listing::Scan;

@@ -1,25 +1,25 @@
 ghost use Rattle.std.specs.Prelude.{◌≡◌, [], IfOk};
 ghost use Rattle.std.specs.Iterator.{YieldsFirstBy, item_count};
-ghost use Rattle.bdb_image.specs.Linked.{HasMetadata};
-ghost use Rattle.bdb_image.specs.Metas.{meta_seen};
+ghost use Rattle.bdb_recno.specs.of_image.Linked.{HasMetadata};
+ghost use Rattle.bdb_recno.specs.of_image.Metas.{meta_seen};
 ghost use Rattle.bdb_file.specs.Listing.{HasNewKeys, entries_left, entry_seen};
-ghost use Rattle.bdb_format.specs.File.{file_of};
-ghost use Rattle.bdb_format.specs.Lists.{list_of};
-ghost use Rattle.bdb_format.specs.Page.{BtreeFields};
-ghost use Rattle.bdb_format.specs.Verdict.{structure_faults};
+ghost use Rattle.bdb_recno.specs.of_format.File.{file_of};
+ghost use Rattle.bdb_recno.specs.of_format.Lists.{list_of};
+ghost use Rattle.bdb_recno.specs.of_format.Page.{BtreeFields};
+ghost use Rattle.bdb_recno.specs.of_format.Verdict.{structure_faults};
 
-use bdb_format::BtreeMeta;
-use bdb_graph::{Linked, Meta};
-use bdb_overflow::{Datum, KeyView};
+use bdb_recno::bdb_format::BtreeMeta;
+use bdb_recno::bdb_graph::{Linked, Meta};
+use bdb_recno::bdb_overflow::{Datum, KeyView};
 use std::alloc::{AllocError, Global};
 use std::marker::Model;
 
 /// What is left of the list of a database, by its kind.
 #[derive(Drop)]
 pub(crate) enum Entries<'a> {
-    Btree(bdb_btree::Scan<'a>),
+    Btree(bdb_master::bdb_btree::Scan<'a>),
     Recno(bdb_recno::Scan<'a>),
-    Hash(bdb_hash::Scan<'a>),
+    Hash(bdb_master::bdb_hash::Scan<'a>),
     Queue(bdb_queue::Scan<'a>),
 }
 
@@ -50,7 +50,7 @@ impl Drop for Scan<'_> {
 
 impl<'a> Model for Scan<'a> {
     ghost use Rattle.std.specs.Prelude.{List, ℕ};
-    ghost use Rattle.bdb_format.specs.Lists.{ListKey};
+    ghost use Rattle.bdb_recno.specs.of_format.Lists.{ListKey};
     ghost use Rattle.bdb_file.specs.Listing.{entries_left};
 
     ghost Value = { List (ListKey × List ℕ) };
@@ -77,7 +77,7 @@ fn tree_entries<'a>(linked: &Linked<'a>, meta: &BtreeMeta) -> Entries<'a>
     ensures { entries_left result ≡ list_of (file_of linked.now) (BtreeFields meta.now) }
 {
     if !meta.is_recno() {
-        Entries::Btree(bdb_btree::scan(linked, meta))
+        Entries::Btree(bdb_master::bdb_btree::scan(linked, meta))
     } else {
         Entries::Recno(bdb_recno::scan(linked, meta))
     }
@@ -97,7 +97,7 @@ pub(crate) fn scan_of<'a>(
 {
     let entries = match meta {
         Meta::Btree(meta) => tree_entries(linked, meta),
-        Meta::Hash(meta) => Entries::Hash(bdb_hash::scan(alloc, linked, meta)?),
+        Meta::Hash(meta) => Entries::Hash(bdb_master::bdb_hash::scan(alloc, linked, meta)?),
         Meta::Queue(meta) => Entries::Queue(bdb_queue::scan(linked, meta)),
     };
     Ok(Scan { entries })

@@ -1,28 +1,28 @@
 ghost use Rattle.std.specs.Prelude.{◌≡◌, ◌+◌, ◌≤◌, [], IsTrue};
 ghost use Rattle.std.specs.Iterator.{YieldsFirstBy, item_count};
-ghost use Rattle.bdb_image.specs.Linked.{HasMetadata};
-ghost use Rattle.bdb_image.specs.Metas.{meta_seen};
+ghost use Rattle.bdb_recno.specs.of_image.Linked.{HasMetadata};
+ghost use Rattle.bdb_recno.specs.of_image.Metas.{meta_seen};
 ghost use Rattle.bdb_file.specs.Lookup.{data_left, most_steps};
-ghost use Rattle.bdb_format.specs.ContentRows.{database_faults};
-ghost use Rattle.bdb_format.specs.Databases.{data_under};
-ghost use Rattle.bdb_format.specs.File.{file_of};
-ghost use Rattle.bdb_format.specs.Page.{BtreeFields, QueueFields};
-ghost use Rattle.bdb_format.specs.Verdict.{structure_faults};
-ghost use Rattle.bdb_format.specs.Flags.{is_recno};
-ghost use Rattle.bdb_overflow.specs.Datum.{datum_seen};
+ghost use Rattle.bdb_recno.specs.of_format.ContentRows.{database_faults};
+ghost use Rattle.bdb_recno.specs.of_format.Databases.{data_under};
+ghost use Rattle.bdb_recno.specs.of_format.File.{file_of};
+ghost use Rattle.bdb_recno.specs.of_format.Page.{BtreeFields, QueueFields};
+ghost use Rattle.bdb_recno.specs.of_format.Verdict.{structure_faults};
+ghost use Rattle.bdb_recno.specs.of_format.Flags.{is_recno};
+ghost use Rattle.bdb_recno.specs.of_overflow.Datum.{datum_seen};
 
-use bdb_format::{BtreeMeta, QueueMeta, Steps, number_in};
-use bdb_graph::{Linked, Meta};
-use bdb_overflow::Datum;
+use bdb_recno::bdb_format::{BtreeMeta, QueueMeta, Steps, number_in};
+use bdb_recno::bdb_graph::{Linked, Meta};
+use bdb_recno::bdb_overflow::Datum;
 use std::marker::Model;
 use std::sync::ledger::Ledger;
 
 /// What is left of the data of a key, by the kind of the database.
 #[derive(Drop)]
 pub(crate) enum Data<'a> {
-    Btree(bdb_btree::Found<'a>),
+    Btree(bdb_master::bdb_btree::Found<'a>),
     Recno(bdb_recno::Found<'a>),
-    Hash(bdb_hash::Found<'a>),
+    Hash(bdb_master::bdb_hash::Found<'a>),
     Queue(bdb_queue::Found<'a>),
     Nothing,
 }
@@ -134,7 +134,7 @@ fn tree_data<'a, L: Ledger>(
     ensures cost { steps.new ≤ steps.old + most_steps (file_of linked.now) (BtreeFields meta.now) }
 {
     if !meta.is_recno() {
-        Data::Btree(bdb_btree::find(linked, meta, key, steps))
+        Data::Btree(bdb_master::bdb_btree::find(linked, meta, key, steps))
     } else {
         record_in(linked, meta, key, steps)
     }
@@ -157,7 +157,7 @@ pub(crate) fn found_in<'a, L: Ledger>(
 {
     let data = match meta {
         Meta::Btree(meta) => tree_data(linked, meta, key, steps),
-        Meta::Hash(meta) => Data::Hash(bdb_hash::find(linked, meta, key, steps)),
+        Meta::Hash(meta) => Data::Hash(bdb_master::bdb_hash::find(linked, meta, key, steps)),
         Meta::Queue(meta) => queued_in(linked, meta, key, steps),
     };
     Found { data }

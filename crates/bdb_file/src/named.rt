@@ -2,15 +2,15 @@ ghost use Rattle.std.specs.Prelude.{◌≡◌, ◌≤◌, ◌++◌, [], IfOk, On
 ghost use Rattle.std.specs.Option.{ForSome};
 ghost use Rattle.bdb_master.specs.Entries.{master_entries};
 ghost use Rattle.bdb_file.specs.Named.{entry_database};
-ghost use Rattle.bdb_image.specs.Metas.{meta_seen};
-ghost use Rattle.bdb_format.specs.Databases.{database_on, databases, is_name};
+ghost use Rattle.bdb_recno.specs.of_image.Metas.{meta_seen};
+ghost use Rattle.bdb_recno.specs.of_format.Databases.{database_on, databases, is_name};
 ghost use Rattle.std.specs.List.{flat_map};
-ghost use Rattle.bdb_format.specs.File.{file_of};
-ghost use Rattle.bdb_format.specs.Verdict.{master_faults, structure_faults};
+ghost use Rattle.bdb_recno.specs.of_format.File.{file_of};
+ghost use Rattle.bdb_recno.specs.of_format.Verdict.{master_faults, structure_faults};
 
-use bdb_format::Bytes;
-use bdb_graph::{Linked, Meta};
 use bdb_master::{Entry, master_of};
+use bdb_recno::bdb_format::Bytes;
+use bdb_recno::bdb_graph::{Linked, Meta};
 use std::alloc::{AllocError, Global};
 use std::marker::Model;
 
@@ -22,8 +22,8 @@ pub(crate) struct NamedMeta {
 }
 
 impl Model for NamedMeta {
-    ghost use Rattle.bdb_image.specs.Metas.{meta_seen};
-    ghost use Rattle.bdb_format.specs.Databases.{Database};
+    ghost use Rattle.bdb_recno.specs.of_image.Metas.{meta_seen};
+    ghost use Rattle.bdb_recno.specs.of_format.Databases.{Database};
 
     ghost Value = { Database };
 

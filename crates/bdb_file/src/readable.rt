@@ -2,18 +2,18 @@ ghost use Rattle.std.specs.Prelude.{◌≡◌, ◌<◌, [], IfSome, length, opti
 ghost use Rattle.bdb_file.specs.declared.rows.Rows.TheVariants.{AnyOrder};
 ghost use Rattle.bdb_file.specs.AnyOrder.{faults_by_rows};
 ghost use Rattle.bdb_file.specs.Named.{IsReadable, database_at};
-ghost use Rattle.bdb_image.specs.Linked.{HasMetadata};
-ghost use Rattle.bdb_image.specs.Metas.{meta_seen};
-ghost use Rattle.bdb_format.specs.Databases.{databases, place_of, settings_of};
-ghost use Rattle.bdb_format.specs.File.{file_of};
-ghost use Rattle.bdb_format.specs.HeadOf.{head_of};
-ghost use Rattle.bdb_format.specs.Verdict.{structure_faults};
+ghost use Rattle.bdb_recno.specs.of_image.Linked.{HasMetadata};
+ghost use Rattle.bdb_recno.specs.of_image.Metas.{meta_seen};
+ghost use Rattle.bdb_recno.specs.of_format.Databases.{databases, place_of, settings_of};
+ghost use Rattle.bdb_recno.specs.of_format.File.{file_of};
+ghost use Rattle.bdb_recno.specs.of_format.HeadOf.{head_of};
+ghost use Rattle.bdb_recno.specs.of_format.Verdict.{structure_faults};
 
 use crate::Db;
 use crate::named::NamedMeta;
 use crate::settings::settings_of;
-use bdb_format::{Head, Settings};
-use bdb_graph::{Linked, Meta};
+use bdb_recno::bdb_format::{Head, Settings};
+use bdb_recno::bdb_graph::{Linked, Meta};
 use std::marker::Model;
 
 /// A file whose databases can be read, whatever order its keys and data stand in: no row that counts in any order holds on it. Its

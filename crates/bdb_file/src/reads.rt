@@ -1,14 +1,14 @@
 ghost use Rattle.std.specs.Prelude.{◌≡◌, ◌<◌, ◌≤◌, ◌+◌, IfOk, length};
 ghost use Rattle.bdb_file.specs.Lookup.{most_steps};
 ghost use Rattle.bdb_file.specs.Named.{database_at};
-ghost use Rattle.bdb_format.specs.Databases.{data_under, databases};
-ghost use Rattle.bdb_format.specs.File.{file_of};
-ghost use Rattle.bdb_format.specs.Lists.{list_of};
+ghost use Rattle.bdb_recno.specs.of_format.Databases.{data_under, databases};
+ghost use Rattle.bdb_recno.specs.of_format.File.{file_of};
+ghost use Rattle.bdb_recno.specs.of_format.Lists.{list_of};
 
 use crate::listing::scan_of;
 use crate::lookup::found_in;
 use crate::{Db, Found, Readable, Scan, Sound};
-use bdb_format::Steps;
+use bdb_recno::bdb_format::Steps;
 use std::alloc::{AllocError, Global};
 use std::sync::ledger::Ledger;
 

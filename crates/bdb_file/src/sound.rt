@@ -1,16 +1,16 @@
 ghost use Rattle.std.specs.Prelude.{◌≡◌, ◌<◌, [], IfSome, length, option_copied};
 ghost use Rattle.bdb_file.specs.Named.{database_at};
-ghost use Rattle.bdb_image.specs.Linked.{HasMetadata};
-ghost use Rattle.bdb_image.specs.Metas.{meta_seen};
-ghost use Rattle.bdb_format.specs.ContentRows.{database_faults};
-ghost use Rattle.bdb_format.specs.Databases.{databases, place_of, settings_of};
-ghost use Rattle.bdb_format.specs.File.{file_of};
-ghost use Rattle.bdb_format.specs.HeadOf.{head_of};
-ghost use Rattle.bdb_format.specs.Verdict.{faults_of, structure_faults};
+ghost use Rattle.bdb_recno.specs.of_image.Linked.{HasMetadata};
+ghost use Rattle.bdb_recno.specs.of_image.Metas.{meta_seen};
+ghost use Rattle.bdb_recno.specs.of_format.ContentRows.{database_faults};
+ghost use Rattle.bdb_recno.specs.of_format.Databases.{databases, place_of, settings_of};
+ghost use Rattle.bdb_recno.specs.of_format.File.{file_of};
+ghost use Rattle.bdb_recno.specs.of_format.HeadOf.{head_of};
+ghost use Rattle.bdb_recno.specs.of_format.Verdict.{faults_of, structure_faults};
 
 use crate::{Db, Readable};
-use bdb_format::{Head, Settings};
-use bdb_graph::{Linked, Meta};
+use bdb_recno::bdb_format::{Head, Settings};
+use bdb_recno::bdb_graph::{Linked, Meta};
 use std::marker::Model;
 
 /// A file on which no row of any stage holds, with its databases: those that its master names, in the order of
@@ -22,7 +22,7 @@ pub struct Sound<'a> {
 
 impl<'a> Model for Sound<'a> {
     ghost use Rattle.std.specs.Prelude.{◌≡◌, [], List, ℕ};
-    ghost use Rattle.bdb_format.specs.Verdict.{faults_of};
+    ghost use Rattle.bdb_recno.specs.of_format.Verdict.{faults_of};
 
     ghost Value = { List ℕ };
 

@@ -1,17 +1,17 @@
 ghost use Rattle.std.specs.Prelude.{◌≡◌, ◌≤◌, ◌+◌, ◌^◌, [], ◌∷◌, IfErr, IfOk, OnOk, length};
-ghost use Rattle.bdb_faults.specs.All.{IsAllOf};
+ghost use Rattle.bdb_recno.specs.of_faults.All.{IsAllOf};
 ghost use Rattle.bdb_file.specs.AnyOrder.{faults_by_rows, stages_by};
 ghost use Rattle.bdb_master.specs.Entries.{master_entries};
-ghost use Rattle.bdb_format.specs.File.{file_of};
-ghost use Rattle.bdb_format.specs.Verdict.{faults_in, faults_of};
+ghost use Rattle.bdb_recno.specs.of_format.File.{file_of};
+ghost use Rattle.bdb_recno.specs.of_format.Verdict.{faults_in, faults_of};
 
 use crate::check::{Checked, note_file};
 use crate::named::databases_of;
 use crate::{Readable, Rows, Sound};
-use bdb_faults::{AllError, NamedList, refused_by};
-use bdb_format::Steps;
-use bdb_graph::{Formed, Linked, link_all, open_all};
 use bdb_master::Entry;
+use bdb_recno::bdb_faults::{AllError, NamedList, refused_by};
+use bdb_recno::bdb_format::Steps;
+use bdb_recno::bdb_graph::{Formed, Linked, link_all, open_all};
 use std::alloc::Global;
 use std::sync::ledger::Ledger;
 

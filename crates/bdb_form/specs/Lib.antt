@@ -1,3 +1,5 @@
 pub mod Formed
 pub mod Pairs
 pub mod Seen
+pub use Rattle.bdb_format.specs as of_format
+pub use Rattle.bdb_layout.specs as of_layout

@@ -3,7 +3,7 @@ use Rattle.std.proofs.Common.{◌≡◌, ℕ, ◌+◌, ◌≤◌, ◌%◌, List,
 use Rattle.std.specs.Prelude.{replicate}
 use Rattle.std.proofs.lemmas.List.{map-append, take-replicate}
 use Rattle.std.proofs.lemmas.List.FromFn.{map-range_with_len_more}
-use Rattle.bdb_format.specs.declared.kinds.Kind.{Kind}
+use Rattle.bdb_text_format.specs.of_format.declared.kinds.Kind.{Kind}
 use Rattle.bdb_text_format.specs.declared.pairs.Key.{Key}
 use Rattle.bdb_text_format.specs.Pairs.{unnumbered}
 use Rattle.bdb_text_format.specs.Placed.{pair_with}

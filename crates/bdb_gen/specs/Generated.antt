@@ -1,10 +1,10 @@
 -- Pairs that are generated from a number. Source: docs/FORMAT.md, "Generated pairs".
 use Rattle.std.specs.Prelude.{ℕ, ◌+◌, ◌*◌, ◌%◌, ◌^◌, zero, suc, List, ◌++◌, map, replicate}
 use Rattle.std.specs.List.{range_with_len}
-use Rattle.bdb_format.specs.declared.kinds.Kind.{Kind}
-use Rattle.bdb_format.specs.declared.kinds.Kind.TheVariants.{Btree, Recno, Hash, Queue}
-use Rattle.bdb_format.specs.declared.kinds.Order.TheVariants.{Big}
-use Rattle.bdb_format.specs.Numbers.{spelled}
+use Rattle.bdb_text_format.specs.of_format.declared.kinds.Kind.{Kind}
+use Rattle.bdb_text_format.specs.of_format.declared.kinds.Kind.TheVariants.{Btree, Recno, Hash, Queue}
+use Rattle.bdb_text_format.specs.of_format.declared.kinds.Order.TheVariants.{Big}
+use Rattle.bdb_text_format.specs.of_format.Numbers.{spelled}
 use Rattle.bdb_text_format.specs.declared.pairs.Key.{Key}
 use Rattle.bdb_text_format.specs.declared.pairs.Key.TheVariants.{Bytes, Number}
 use Rattle.bdb_text_format.specs.declared.pairs.Pair.{Pair}

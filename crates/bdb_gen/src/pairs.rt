@@ -1,12 +1,12 @@
 ghost use Rattle.std.specs.Prelude.{◌≡◌, ◌<◌, ◌≤◌, ◌^◌, ◌++◌, ◌∷◌, [], IfOk, OnOk, map};
 ghost use Rattle.std.specs.Int.{to_be_bytes};
-ghost use Rattle.bdb_format.specs.declared.kinds.Order.TheVariants.{Big};
-ghost use Rattle.bdb_format.specs.Numbers.{spelled};
+ghost use Rattle.bdb_text_format.specs.of_format.declared.kinds.Order.TheVariants.{Big};
+ghost use Rattle.bdb_text_format.specs.of_format.Numbers.{spelled};
 ghost use Rattle.bdb_text_format.specs.Pairs.{unnumbered};
 ghost use Rattle.bdb_text_format.specs.Placed.{key_seen};
 ghost use Rattle.bdb_gen.specs.Generated.{generated, next_number, pair_key, pair_of, value_length};
 
-use bdb_format::Kind;
+use bdb_text_format::bdb_format::Kind;
 use bdb_text_format::{KeyRef, PairRef, TextPairs};
 use std::alloc::{AllocError, Global};
 

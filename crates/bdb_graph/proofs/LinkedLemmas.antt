@@ -33,7 +33,7 @@ use Rattle.bdb_format.proofs.VerdictLemmas.{AllFail, none_is_first_row}
 use Rattle.bdb_image.specs.Formed.{IsFormed}
 use Rattle.bdb_image.specs.Linked.{HasMetadata, IsTarget, meta_pages}
 use Rattle.bdb_format.specs.Verdict.{faults_in}
-use Rattle.bdb_form.specs.Formed.{fields_as}
+use Rattle.bdb_image.specs.of_form.Formed.{fields_as}
 use Rattle.bdb_image.proofs.CodeLemmas.{code_by, form_queue, is_same, not_zero, tree_refused, two_none}
 use Rattle.bdb_image.proofs.FirstLemmas.{formed_page}
 use Rattle.bdb_graph.proofs.ForestLemmas.{sound_graph}

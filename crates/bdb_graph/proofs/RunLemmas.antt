@@ -18,7 +18,7 @@ use Rattle.bdb_graph.specs.declared.tally.Tally.{Tally}
 use Rattle.bdb_image.specs.declared.buckets.Buckets.{Buckets}
 use Rattle.bdb_image.specs.Buckets.{refs_if_table, run_refs, table_refs}
 use Rattle.bdb_graph.specs.Leaps.{AllFull, AreKnownIfAny, AreLeaps, AreOver, HasLeaps, full_at, is_full}
-use Rattle.bdb_slots.specs.Slots.{placed}
+use Rattle.bdb_image.specs.of_slots.Slots.{placed}
 use Rattle.bdb_graph.specs.Tallies.{AreTallies, IsTally, counted_to, names_page, no_tally, owner}
 use Rattle.bdb_graph.specs.Walked.{AreKinds, names_head, names_set}
 use Rattle.bdb_image.proofs.ApartLemmas.{more_pages}

@@ -15,7 +15,7 @@ use Rattle.bdb_graph.specs.declared.tally.Tally.{Tally}
 use Rattle.bdb_image.specs.Buckets.{IsApart, bucket_names, run_names, run_refs}
 use Rattle.bdb_graph.specs.Leaps.{AreKnown}
 use Rattle.bdb_image.specs.Noted.{both_misfits, misfits_of}
-use Rattle.bdb_slots.specs.Slots.{placed}
+use Rattle.bdb_image.specs.of_slots.Slots.{placed}
 use Rattle.bdb_graph.specs.Tallies.{AreTallies, owner}
 use Rattle.bdb_image.proofs.ApartLemmas.{more_buckets}
 use Rattle.bdb_image.proofs.NotedLemmas.{same_misfits}

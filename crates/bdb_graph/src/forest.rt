@@ -1,5 +1,5 @@
 ghost use Rattle.std.specs.Prelude.{◌≡◌, ◌≢◌, ◌^◌, ◌<◌, ◌≤◌, None, IsTrue, length};
-ghost use Rattle.bdb_form.specs.Seen.{header_seen, page_seen};
+ghost use Rattle.bdb_image.specs.of_form.Seen.{header_seen, page_seen};
 ghost use Rattle.bdb_graph.specs.Blanks.{ArePassedIfAny, IsLent};
 ghost use Rattle.bdb_image.specs.Linked.{IsForest};
 ghost use Rattle.std.specs.List.{list_any};
@@ -15,8 +15,8 @@ ghost use Rattle.bdb_format.specs.declared.metadata.FileKind.TheVariants.{Queue}
 
 use crate::tally::Kinds;
 use crate::{Blanks, Formed, Meta};
-use bdb_form::{MetaView, PageView, known_form, known_queue_form};
 use bdb_format::{FileKind, Head};
+use bdb_image::bdb_form::{MetaView, PageView, known_form, known_queue_form};
 use bdb_image::meta_at;
 use std::marker::Model;
 

@@ -1,6 +1,6 @@
 ghost use Rattle.std.specs.Prelude.{◌≡◌, ◌+◌, ◌^◌, ◌<◌, ◌≤◌, Some, None, length};
 ghost use Rattle.std.specs.List.{slice_get};
-ghost use Rattle.bdb_form.specs.Seen.{header_seen, page_seen};
+ghost use Rattle.bdb_image.specs.of_form.Seen.{header_seen, page_seen};
 ghost use Rattle.bdb_image.specs.Linked.{IsForest, FitsBucket, FitsChain, FitsDupRoot, FitsTreeRoot, HasMetadata, meta_pages};
 ghost use Rattle.bdb_graph.specs.ChainLengths.{IsKept, chain_length};
 ghost use Rattle.bdb_image.specs.Metas.{meta_seen};
@@ -12,9 +12,9 @@ ghost use Rattle.bdb_format.specs.Page.{BtreeFields, HashFields, Meta as MetaPag
 ghost use Rattle.bdb_format.specs.Reading.{header_of};
 
 use crate::{Bucket, Chain, DupRoot, Forest, Meta, Ref, TreeRoot};
-use bdb_form::PageView;
 use bdb_format::{BtreeMeta, HashMeta, Head};
-use bdb_layout::page_of;
+use bdb_image::bdb_form::PageView;
+use bdb_image::bdb_layout::page_of;
 use std::marker::Model;
 
 /// An image on which no row of the first five stages holds: its pages are a forest, whose roots its

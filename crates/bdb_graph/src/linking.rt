@@ -1,6 +1,6 @@
 ghost use Rattle.std.specs.Prelude.{◌≡◌, ◌≤◌, ◌+◌, [], ◌∷◌, IfErr, IfOk, OnOk};
-ghost use Rattle.bdb_faults.specs.All.{IsAllOf};
-ghost use Rattle.bdb_faults.specs.Notes.{NotesAll};
+ghost use Rattle.bdb_image.specs.of_faults.All.{IsAllOf};
+ghost use Rattle.bdb_image.specs.of_faults.Notes.{NotesAll};
 ghost use Rattle.bdb_format.specs.File.{file_of};
 ghost use Rattle.bdb_format.specs.Verdict.{faults_in, reference_faults, IsFirstOf};
 ghost use Rattle.bdb_graph.specs.Owned.{AreFew, AreOwned};
@@ -13,8 +13,8 @@ use crate::reach::note_reach;
 use crate::roles::Roles;
 use crate::tally::{Kinds, note_references};
 use crate::{Forest, Formed, Linked};
-use bdb_faults::{AllError, FaultSink, First, NamedList, refused_by};
 use bdb_format::{CheckError, Steps};
+use bdb_image::bdb_faults::{AllError, FaultSink, First, NamedList, refused_by};
 use bdb_image::metas_of;
 use std::alloc::{AllocError, Global};
 use std::sync::ledger::Ledger;

@@ -1,5 +1,5 @@
 ghost use Rattle.std.specs.Prelude.{◌≡◌, ◌≤◌, ◌+◌, ◌&&◌, ◌||◌, not, IsTrue, OnErr, OnOk};
-ghost use Rattle.bdb_faults.specs.Notes.{NotesAll};
+ghost use Rattle.bdb_image.specs.of_faults.Notes.{NotesAll};
 ghost use Rattle.bdb_format.specs.File.{file_of};
 ghost use Rattle.bdb_format.specs.Graph.{is_anchor, is_owned_twice, is_reserve, is_shared_too_often, is_unowned};
 ghost use Rattle.bdb_format.specs.Verdict.{ownership_faults, ownership_rows};
@@ -8,7 +8,7 @@ ghost use Rattle.bdb_image.specs.Noted.{page_faults};
 ghost use Rattle.bdb_graph.specs.Owned.{AreFew, IsFew};
 
 use crate::roles::Roles;
-use bdb_faults::{FaultSink, OwnershipRow, Row, note_if};
+use bdb_image::bdb_faults::{FaultSink, OwnershipRow, Row, note_if};
 use std::alloc::AllocError;
 
 /// Notes the pages from 1 on that have no owner and need one, or more than they may have.

@@ -1,12 +1,12 @@
 ghost use Rattle.std.specs.Prelude.{◌≡◌, ◌≤◌, ◌+◌, OnOk, [], length};
-ghost use Rattle.bdb_faults.specs.Notes.{NotesAll};
+ghost use Rattle.bdb_image.specs.of_faults.Notes.{NotesAll};
 ghost use Rattle.bdb_graph.specs.Marks.{AreSettled, HasWay, IsFit};
 ghost use Rattle.bdb_format.specs.File.{file_of};
 ghost use Rattle.bdb_format.specs.Graph.{reaches};
 ghost use Rattle.bdb_format.specs.Verdict.{reach_faults, reference_faults};
 
 use crate::roles::Roles;
-use bdb_faults::{FaultSink, ReachRow, Row, note_if};
+use bdb_image::bdb_faults::{FaultSink, ReachRow, Row, note_if};
 use std::alloc::{AllocError, Global};
 
 /// What is known of a page: nothing, that it stands on the way up that is open, or whether it reaches.

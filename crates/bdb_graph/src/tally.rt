@@ -1,5 +1,5 @@
 ghost use Rattle.std.specs.Prelude.{◌≡◌, ◌≤◌, ◌<◌, ◌+◌, ℕ, true, length, List, [], ◌∷◌, ◌++◌, map, IfOk, OnOk};
-ghost use Rattle.bdb_faults.specs.Notes.{NotesAll};
+ghost use Rattle.bdb_image.specs.of_faults.Notes.{NotesAll};
 ghost use Rattle.bdb_graph.specs.Leaps.{AreKnownIfAny, full_at, is_full};
 ghost use Rattle.bdb_image.specs.Noted.{misfits_of};
 ghost use Rattle.bdb_graph.specs.Tallies.{AreTallies, AreTalliesOf, IsTally, first_of, owner};
@@ -11,8 +11,8 @@ ghost use Rattle.bdb_format.specs.Verdict.{reference_faults};
 
 use crate::table::{BucketPages, tally_table};
 use crate::{Formed, references};
-use bdb_faults::FaultSink;
 use bdb_format::{Reference, Sort, Steps};
+use bdb_image::bdb_faults::FaultSink;
 use bdb_image::{Misfits, misfit};
 use std::alloc::{AllocError, Global};
 use std::sync::ledger::Ledger;

@@ -1,7 +1,7 @@
 -- What the test of a descent says of an item: an inline key is above the sought one.
 use Rattle.std.specs.Prelude.{ℕ, ◌<◌, Bool, false, List}
 use Rattle.bdb_format.specs.File.{File, page_at}
-use Rattle.bdb_tree.specs.Descent.{IsMonotone}
+use Rattle.test_images.specs.of_tree.Descent.{IsMonotone}
 use Rattle.bdb_format.specs.Less.{less}
 use Rattle.bdb_format.specs.Page.{InternalItem, Page, Internal, Content, Inline}
 

@@ -3,9 +3,9 @@
 ghost use Rattle.std.specs.Prelude.{◌≡◌, ◌≤◌, ◌^◌, length};
 
 use crate::linking::{PAIR, TREE};
-use bdb_faults::{AllError, Named};
 use bdb_format::{Fault, Order, Steps, Unsupported};
-use bdb_graph::{link_all, open_all};
+use bdb_overflow::bdb_faults::{AllError, Named};
+use bdb_overflow::bdb_graph::{link_all, open_all};
 use std::alloc::Global;
 use std::marker::Brand;
 use std::sync::ledger::{Blank, Ledger};

@@ -1,14 +1,14 @@
 //! Chains and the values that they hold. Values: docs/FORMAT.md, "Other pages" and "Stage 6, chains and trees".
 
 ghost use Rattle.std.specs.Prelude.{◌≡◌, IfSome};
-ghost use Rattle.bdb_image.specs.Linked.{FitsChain};
+ghost use Rattle.bdb_overflow.specs.of_image.Linked.{FitsChain};
 ghost use Rattle.bdb_format.specs.File.{file_of};
 
 use crate::fields::BTREE;
-use bdb_form::PageView;
 use bdb_format::{Fault, Order, Steps};
-use bdb_graph::{Linked, link, open_image};
-use bdb_layout::LeafItem;
+use bdb_overflow::bdb_form::PageView;
+use bdb_overflow::bdb_graph::{Linked, link, open_image};
+use bdb_overflow::bdb_layout::LeafItem;
 use bdb_overflow::{Datum, Pieces, check_chains, compare_datum, leaf_datum, pieces, pieces_at};
 use std::alloc::Global;
 use std::cmp::Ordering;

@@ -2,23 +2,23 @@
 
 ghost use Rattle.std.specs.Prelude.{◌≡◌, ◌+◌, ◌≤◌, ◌<◌, ◌∷◌, [], IsTrue};
 ghost use Rattle.std.specs.Bool.{OnTrue};
-ghost use Rattle.bdb_form.specs.Seen.{page_seen};
-ghost use Rattle.bdb_image.specs.Linked.{FitsTreeRoot};
+ghost use Rattle.bdb_overflow.specs.of_form.Seen.{page_seen};
+ghost use Rattle.bdb_overflow.specs.of_image.Linked.{FitsTreeRoot};
 ghost use Rattle.bdb_graph_tests.specs.Sought.{AllFit, IsFit, is_above};
 ghost use Rattle.bdb_format.specs.File.{file_of, page_at, type_in};
 ghost use Rattle.bdb_format.specs.Less.{less};
 ghost use Rattle.bdb_format.specs.References.{has_type};
-ghost use Rattle.bdb_tree.specs.Descent.{IsMonotone};
+ghost use Rattle.test_images.specs.of_tree.Descent.{IsMonotone};
 
-use bdb_form::{InternalView, PageView};
 use bdb_format::{Order, Steps};
-use bdb_graph::{Linked, Meta, Ref, TreeRoot, link, open_image};
-use bdb_layout::{InternalItem, InternalKey, compare};
-use bdb_tree::{Separate, descend_by};
+use bdb_overflow::bdb_form::{InternalView, PageView};
+use bdb_overflow::bdb_graph::{Linked, Meta, Ref, TreeRoot, link, open_image};
+use bdb_overflow::bdb_layout::{InternalItem, InternalKey, compare};
 use std::alloc::Global;
 use std::cmp::Ordering;
 use std::marker::Brand;
 use std::sync::ledger::{Blank, Ledger};
+use test_images::bdb_tree::{Separate, descend_by};
 use test_images::{Field, write};
 
 const SIZE: usize = 9 * 512;

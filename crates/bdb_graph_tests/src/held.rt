@@ -4,7 +4,7 @@ ghost use Rattle.std.specs.Prelude.{◌≡◌};
 
 use crate::fields::BTREE;
 use bdb_format::{Order, Steps};
-use bdb_graph::{References, Sort, open_image, references};
+use bdb_overflow::bdb_graph::{References, Sort, open_image, references};
 use std::alloc::Global;
 use std::marker::Brand;
 use std::sync::ledger::{Blank, Ledger};

@@ -3,7 +3,7 @@
 ghost use Rattle.std.specs.Prelude.{◌≡◌, ◌≤◌, ◌^◌, length};
 
 use bdb_format::{CheckError, Fault, Order, Steps};
-use bdb_graph::{link, open_image};
+use bdb_overflow::bdb_graph::{link, open_image};
 use std::alloc::Global;
 use std::marker::Brand;
 use std::sync::ledger::{Blank, Ledger};

@@ -2,7 +2,7 @@
 
 use crate::fields::{BTREE, LEAF};
 use bdb_format::{Fault, Order, Unsupported, Verdict};
-use bdb_graph::open_image;
+use bdb_overflow::bdb_graph::open_image;
 use std::alloc::Global;
 use test_images::{Field, write};
 

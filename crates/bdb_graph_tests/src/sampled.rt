@@ -6,12 +6,12 @@ use crate::structure_samples::{
     WRONG_LEAF, WRONG_LEAVES, WRONG_LENGTH, WRONG_LENGTH_AND_LINK, WRONG_LINK,
 };
 use bdb_format::{CheckError, Fault, Steps};
-use bdb_graph::{Linked, link, open_image};
+use bdb_overflow::bdb_graph::{Linked, link, open_image};
 use bdb_overflow::check_chains;
-use bdb_tree::check_trees;
 use std::alloc::Global;
 use std::marker::Brand;
 use std::sync::ledger::{Blank, Ledger};
+use test_images::bdb_tree::check_trees;
 use test_images::{Field, Sample};
 
 /// The page of the first fault of chains, and the page and code of that of leaves.

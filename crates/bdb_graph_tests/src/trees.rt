@@ -2,13 +2,13 @@
 
 ghost use Rattle.std.specs.Prelude.{◌≡◌};
 
-use bdb_form::PageView;
 use bdb_format::{CheckError, Fault, Order, Steps};
-use bdb_graph::{Linked, link, open_image};
-use bdb_tree::{check_trees, leaves_below, next_level};
+use bdb_overflow::bdb_form::PageView;
+use bdb_overflow::bdb_graph::{Linked, link, open_image};
 use std::alloc::Global;
 use std::marker::Brand;
 use std::sync::ledger::{Blank, Ledger};
+use test_images::bdb_tree::{check_trees, leaves_below, next_level};
 use test_images::{Field, write};
 
 const SIZE: usize = 5 * 512;

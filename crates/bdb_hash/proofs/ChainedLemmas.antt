@@ -7,13 +7,13 @@ use Rattle.std.specs.Cmp.Lexicographic.{slice_cmp}
 use Rattle.std.specs.Ordering.{nat_cmp}
 use Rattle.std.specs.Str.{bytes_eq}
 use Rattle.std.proofs.lemmas.Bool.{cases_Bool, cases_eq}
-use Rattle.bdb_faults.specs.Notes.{Notes}
-use Rattle.bdb_format.specs.declared.kinds.Fault.{Fault}
-use Rattle.bdb_format.specs.Contents.{StoredPair, pairs_of}
-use Rattle.bdb_format.specs.File.{file_of}
-use Rattle.bdb_format.proofs.LessLemmas.{eq_same}
-use Rattle.bdb_overflow.specs.Keys.{has_item, has_key}
-use Rattle.bdb_overflow.proofs.HeldLemmas.{apart}
+use Rattle.bdb_ranks.specs.of_faults.Notes.{Notes}
+use Rattle.bdb_ranks.specs.of_format.declared.kinds.Fault.{Fault}
+use Rattle.bdb_ranks.specs.of_format.Contents.{StoredPair, pairs_of}
+use Rattle.bdb_ranks.specs.of_format.File.{file_of}
+use Rattle.bdb_ranks.proofs.of_format.LessLemmas.{eq_same}
+use Rattle.bdb_ranks.specs.of_overflow.Keys.{has_item, has_key}
+use Rattle.bdb_ranks.proofs.of_overflow.HeldLemmas.{apart}
 use Rattle.bdb_buckets.specs.Chained.{AreAllOf, AreAmong, AreOf, Seen, chain_value}
 use Rattle.bdb_hash.specs.Noted.{repeat_fault}
 use Rattle.bdb_hash.specs.Passed.{NotesRepeats, key_of}

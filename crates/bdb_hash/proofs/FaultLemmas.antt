@@ -3,20 +3,20 @@ use Rattle.std.proofs.Common.{◌≡◌, ℕ, ◌+◌, ◌≤◌, Bool, true, fa
 use Rattle.std.specs.List.{Contains, flat_map, range_with_len}
 use Rattle.std.proofs.lemmas.List.{map-append}
 use Rattle.std.proofs.lemmas.List.Elements.{Contains-append_cases, Contains-append_left, Contains-append_right}
-use Rattle.bdb_image.specs.Linked.{HasMetadata}
-use Rattle.bdb_faults.specs.Notes.{Notes, NotesAll}
-use Rattle.bdb_faults.proofs.SinkLemmas.{notes_then}
-use Rattle.bdb_format.proofs.FaultLemmas.{same_parts}
-use Rattle.bdb_format.specs.declared.kinds.Fault.{Fault}
-use Rattle.bdb_format.specs.declared.metadata.HashMeta.{HashMeta}
-use Rattle.bdb_format.specs.ContentRows.{database_faults, database_rows, hash_contents, repeated}
-use Rattle.bdb_format.specs.Contents.{StoredPair, bucket_pages, bucket_pairs, pairs_of, table_pairs}
-use Rattle.bdb_format.specs.File.{File, file_of}
-use Rattle.bdb_format.specs.Page.{HashFields}
-use Rattle.bdb_format.specs.Verdict.{holding}
-use Rattle.bdb_format.proofs.MemberLemmas.{in_flat_map, in_map, no_member, of_flat_map, of_map, of_range}
-use Rattle.bdb_format.proofs.VerdictLemmas.{InOrder, in_by_page, of_by_page, table_in_order}
-use Rattle.bdb_format.proofs.RepeatLemmas.{of_repeated}
+use Rattle.bdb_ranks.specs.of_image.Linked.{HasMetadata}
+use Rattle.bdb_ranks.specs.of_faults.Notes.{Notes, NotesAll}
+use Rattle.bdb_ranks.proofs.of_faults.SinkLemmas.{notes_then}
+use Rattle.bdb_ranks.proofs.of_format.FaultLemmas.{same_parts}
+use Rattle.bdb_ranks.specs.of_format.declared.kinds.Fault.{Fault}
+use Rattle.bdb_ranks.specs.of_format.declared.metadata.HashMeta.{HashMeta}
+use Rattle.bdb_ranks.specs.of_format.ContentRows.{database_faults, database_rows, hash_contents, repeated}
+use Rattle.bdb_ranks.specs.of_format.Contents.{StoredPair, bucket_pages, bucket_pairs, pairs_of, table_pairs}
+use Rattle.bdb_ranks.specs.of_format.File.{File, file_of}
+use Rattle.bdb_ranks.specs.of_format.Page.{HashFields}
+use Rattle.bdb_ranks.specs.of_format.Verdict.{holding}
+use Rattle.bdb_ranks.proofs.of_format.MemberLemmas.{in_flat_map, in_map, no_member, of_flat_map, of_map, of_range}
+use Rattle.bdb_ranks.proofs.of_format.VerdictLemmas.{InOrder, in_by_page, of_by_page, table_in_order}
+use Rattle.bdb_ranks.proofs.of_format.RepeatLemmas.{of_repeated}
 use Rattle.bdb_hash.specs.Noted.{bucket_faults, has_stray, pair_faults, repeat_fault, repeat_faults, stored, stray_faults}
 use Rattle.bdb_buckets.specs.Told.{Told, bucket_told, joined_pages, page_told, table_told, told}
 use Rattle.bdb_buckets.specs.Views.{IsTable}

@@ -14,21 +14,21 @@ use Rattle.std.proofs.lemmas.List.Kept.{AllPairs-from_increasing}
 use Rattle.std.proofs.lemmas.List.Sorted.{IsPermutation-sym}
 use Rattle.std.proofs.lemmas.Map.Keys.{IsDistinct-IsPermutation}
 use Rattle.std.proofs.lemmas.Map.Made.{IsDistinct-from_AllPairs}
-use Rattle.bdb_faults.specs.Notes.{Notes}
-use Rattle.bdb_format.specs.declared.kinds.Fault.{Fault}
-use Rattle.bdb_format.specs.declared.metadata.HashMeta.{HashMeta}
-use Rattle.bdb_format.specs.Contents.{StoredPair, bucket_pages}
-use Rattle.bdb_format.specs.File.{file_of}
-use Rattle.bdb_format.specs.Hashing.{hash5}
-use Rattle.bdb_format.proofs.MemberLemmas.{first_member, in_map, later_member, of_map}
-use Rattle.bdb_format.proofs.RepeatLemmas.{repeated_after, repeated_is}
-use Rattle.bdb_format.proofs.LessLemmas.{eq_same}
+use Rattle.bdb_ranks.specs.of_faults.Notes.{Notes}
+use Rattle.bdb_ranks.specs.of_format.declared.kinds.Fault.{Fault}
+use Rattle.bdb_ranks.specs.of_format.declared.metadata.HashMeta.{HashMeta}
+use Rattle.bdb_ranks.specs.of_format.Contents.{StoredPair, bucket_pages}
+use Rattle.bdb_ranks.specs.of_format.File.{file_of}
+use Rattle.bdb_ranks.specs.of_format.Hashing.{hash5}
+use Rattle.bdb_ranks.proofs.of_format.MemberLemmas.{first_member, in_map, later_member, of_map}
+use Rattle.bdb_ranks.proofs.of_format.RepeatLemmas.{repeated_after, repeated_is}
+use Rattle.bdb_ranks.proofs.of_format.LessLemmas.{eq_same}
 use Rattle.bdb_hash.specs.Noted.{repeat_fault, repeat_faults, stored}
 use Rattle.bdb_hash.specs.Passed.{is_among, is_missed, key_hash}
 use Rattle.bdb_buckets.specs.Told.{Told, bucket_told, joined_pages, page_told}
 use Rattle.bdb_hash.proofs.RepeatLemmas.{has_same}
 use Rattle.bdb_buckets.proofs.TableLemmas.{told_more}
-use Rattle.bdb_faults.proofs.SinkLemmas.{notes_nothing}
+use Rattle.bdb_ranks.proofs.of_faults.SinkLemmas.{notes_nothing}
 
 -- Numbers that are apart.
 

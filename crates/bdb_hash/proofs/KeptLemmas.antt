@@ -7,15 +7,15 @@ use Rattle.std.specs.List.{Contains, IsDistinct, filter, flat_map, range_with_le
 use Rattle.std.specs.Str.{bytes_eq}
 use Rattle.std.proofs.lemmas.Bool.{eq-eqb, false_from_ne_true, or_from}
 use Rattle.std.proofs.lemmas.List.Elements.{All-contains, All-from_recursion, filter-append}
-use Rattle.bdb_faults.specs.Notes.{Notes}
-use Rattle.bdb_format.specs.declared.kinds.Fault.{Fault}
-use Rattle.bdb_format.specs.declared.metadata.HashMeta.{HashMeta}
-use Rattle.bdb_format.specs.Contents.{StoredPair, bucket_pages}
-use Rattle.bdb_format.specs.File.{file_of}
-use Rattle.bdb_format.specs.Hashing.{hash5}
-use Rattle.bdb_format.proofs.MemberLemmas.{first_member, in_map, later_member}
-use Rattle.bdb_format.proofs.RepeatLemmas.{has_key as has_this, repeated_after, repeated_is}
-use Rattle.bdb_format.proofs.LessLemmas.{eq_same}
+use Rattle.bdb_ranks.specs.of_faults.Notes.{Notes}
+use Rattle.bdb_ranks.specs.of_format.declared.kinds.Fault.{Fault}
+use Rattle.bdb_ranks.specs.of_format.declared.metadata.HashMeta.{HashMeta}
+use Rattle.bdb_ranks.specs.of_format.Contents.{StoredPair, bucket_pages}
+use Rattle.bdb_ranks.specs.of_format.File.{file_of}
+use Rattle.bdb_ranks.specs.of_format.Hashing.{hash5}
+use Rattle.bdb_ranks.proofs.of_format.MemberLemmas.{first_member, in_map, later_member}
+use Rattle.bdb_ranks.proofs.of_format.RepeatLemmas.{has_key as has_this, repeated_after, repeated_is}
+use Rattle.bdb_ranks.proofs.of_format.LessLemmas.{eq_same}
 use Rattle.bdb_buckets.specs.Chained.{AreOf, Seen}
 use Rattle.bdb_hash.specs.Noted.{repeat_fault, repeat_faults, stored}
 use Rattle.bdb_hash.specs.Passed.{IsNoting, NotesRepeats, is_among, is_kept, is_missed, key_hash}

@@ -13,3 +13,4 @@ pub mod RepeatLemmas
 pub mod RowLemmas
 pub mod ScanLemmas
 pub mod SetOrderLemmas
+pub use Rattle.bdb_buckets.proofs as of_buckets

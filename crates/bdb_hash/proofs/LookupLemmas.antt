@@ -8,30 +8,30 @@ use Rattle.std.proofs.lemmas.Bool.{cases_Bool, eq-eqb, eqb-true, false_from_ne_t
 use Rattle.std.proofs.lemmas.List.{append-nil}
 use Rattle.std.proofs.lemmas.List.Elements.{Contains-append_left}
 use Rattle.std.proofs.lemmas.List.Folds.{find-append}
-use Rattle.bdb_format.specs.declared.metadata.HashMeta.{HashMeta}
-use Rattle.bdb_format.specs.ContentRows.{bucket_of_key, database_faults, database_rows, hash_contents, repeated}
-use Rattle.bdb_format.specs.Contents.{StoredPair, bucket_pairs, data_of, table_pairs}
-use Rattle.bdb_format.specs.File.{File, file_of}
-use Rattle.bdb_format.specs.Less.{less, Less}
-use Rattle.bdb_format.specs.Lists.{ListKey, BytesKey, by_key, get, hash_list, insert_pair, listed_pair}
-use Rattle.bdb_format.specs.Page.{HashFields}
-use Rattle.bdb_format.proofs.LessLemmas.{eq_same, not_less_same}
-use Rattle.bdb_format.proofs.MemberLemmas.{first_member, in_range, is_empty, later_member, member_cases, no_member, none_passes, of_range}
-use Rattle.bdb_format.proofs.VerdictLemmas.{AllFail, no_rows_at}
-use Rattle.bdb_format.proofs.PairLemmas.{get_append}
-use Rattle.bdb_format.proofs.RepeatLemmas.{has_key as key_among, repeated_after, repeated_is}
-use Rattle.bdb_image.specs.Linked.{HasMetadata}
-use Rattle.bdb_faults.specs.Rows.{fault_at}
-use Rattle.bdb_faults.specs.declared.rows.ContentsRow.TheVariants.{KeyTwice}
-use Rattle.bdb_faults.specs.declared.rows.Row.TheVariants.{Contents}
+use Rattle.bdb_ranks.specs.of_format.declared.metadata.HashMeta.{HashMeta}
+use Rattle.bdb_ranks.specs.of_format.ContentRows.{bucket_of_key, database_faults, database_rows, hash_contents, repeated}
+use Rattle.bdb_ranks.specs.of_format.Contents.{StoredPair, bucket_pairs, data_of, table_pairs}
+use Rattle.bdb_ranks.specs.of_format.File.{File, file_of}
+use Rattle.bdb_ranks.specs.of_format.Less.{less, Less}
+use Rattle.bdb_ranks.specs.of_format.Lists.{ListKey, BytesKey, by_key, get, hash_list, insert_pair, listed_pair}
+use Rattle.bdb_ranks.specs.of_format.Page.{HashFields}
+use Rattle.bdb_ranks.proofs.of_format.LessLemmas.{eq_same, not_less_same}
+use Rattle.bdb_ranks.proofs.of_format.MemberLemmas.{first_member, in_range, is_empty, later_member, member_cases, no_member, none_passes, of_range}
+use Rattle.bdb_ranks.proofs.of_format.VerdictLemmas.{AllFail, no_rows_at}
+use Rattle.bdb_ranks.proofs.of_format.PairLemmas.{get_append}
+use Rattle.bdb_ranks.proofs.of_format.RepeatLemmas.{has_key as key_among, repeated_after, repeated_is}
+use Rattle.bdb_ranks.specs.of_image.Linked.{HasMetadata}
+use Rattle.bdb_ranks.specs.of_faults.Rows.{fault_at}
+use Rattle.bdb_ranks.specs.of_faults.declared.rows.ContentsRow.TheVariants.{KeyTwice}
+use Rattle.bdb_ranks.specs.of_faults.declared.rows.Row.TheVariants.{Contents}
 use Rattle.bdb_hash.specs.Scanned.{KeysDiffer}
 use Rattle.bdb_buckets.specs.Told.{IsSought, Told, bucket_told, has_key, joined_pages, told}
 use Rattle.bdb_buckets.specs.Views.{IsTable}
 use Rattle.bdb_hash.proofs.FaultLemmas.{bucket_is, few_buckets, repeat_in, table_stored}
 use Rattle.bdb_hash.proofs.PlainLemmas.{IsPlain, bucket_plain}
 use Rattle.bdb_hash.proofs.RowLemmas.{ArePlain, buckets_of}
-use Rattle.bdb_format.proofs.ListLemmas.{flat_map_twice}
-use Rattle.bdb_format.proofs.BoolLemmas.{second_false}
+use Rattle.bdb_ranks.proofs.of_format.ListLemmas.{flat_map_twice}
+use Rattle.bdb_ranks.proofs.of_format.BoolLemmas.{second_false}
 
 -- The walk over the pages of a bucket.
 

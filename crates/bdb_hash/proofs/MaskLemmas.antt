@@ -4,20 +4,20 @@ use Rattle.std.specs.Prelude.{None}
 use Rattle.std.proofs.lemmas.Bool.Decides.{nat_tests}
 use Rattle.std.proofs.lemmas.Bool.{not-false}
 use Rattle.std.proofs.lemmas.Nat.{and_le_r}
-use Rattle.bdb_format.proofs.GraphLemmas.{typed_none}
-use Rattle.bdb_format.specs.declared.metadata.HashMeta.{HashMeta}
-use Rattle.bdb_format.specs.declared.metadata.Head.{Head}
-use Rattle.bdb_format.specs.File.{file_of, page_bytes}
-use Rattle.bdb_format.specs.Hashing.{bucket}
-use Rattle.bdb_format.specs.HeadOf.{head_of}
-use Rattle.bdb_format.specs.Numbers.{byte_at}
-use Rattle.bdb_format.specs.Page.{HashFields, Meta, Page, PageType, HashMetaPage, Zero}
-use Rattle.bdb_format.specs.Reading.{abstract_page, is_zero, page_as, page_type}
-use Rattle.bdb_format.specs.Rows.{are_masks, form_code, typed_code}
-use Rattle.bdb_format.proofs.VerdictLemmas.{none_is_first_row}
-use Rattle.bdb_format.proofs.FileLemmas.{last_page, page_is}
-use Rattle.bdb_image.specs.Linked.{HasMetadata, IsForest}
-use Rattle.bdb_image.proofs.FirstLemmas.{formed_page}
+use Rattle.bdb_ranks.proofs.of_format.GraphLemmas.{typed_none}
+use Rattle.bdb_ranks.specs.of_format.declared.metadata.HashMeta.{HashMeta}
+use Rattle.bdb_ranks.specs.of_format.declared.metadata.Head.{Head}
+use Rattle.bdb_ranks.specs.of_format.File.{file_of, page_bytes}
+use Rattle.bdb_ranks.specs.of_format.Hashing.{bucket}
+use Rattle.bdb_ranks.specs.of_format.HeadOf.{head_of}
+use Rattle.bdb_ranks.specs.of_format.Numbers.{byte_at}
+use Rattle.bdb_ranks.specs.of_format.Page.{HashFields, Meta, Page, PageType, HashMetaPage, Zero}
+use Rattle.bdb_ranks.specs.of_format.Reading.{abstract_page, is_zero, page_as, page_type}
+use Rattle.bdb_ranks.specs.of_format.Rows.{are_masks, form_code, typed_code}
+use Rattle.bdb_ranks.proofs.of_format.VerdictLemmas.{none_is_first_row}
+use Rattle.bdb_ranks.proofs.of_format.FileLemmas.{last_page, page_is}
+use Rattle.bdb_ranks.specs.of_image.Linked.{HasMetadata, IsForest}
+use Rattle.bdb_ranks.proofs.of_image.FirstLemmas.{formed_page}
 
 -- the masks of a page that is metadata of a table
 abbrev HasMasks : Page → Type 0

@@ -1,11 +1,11 @@
 -- What is noted, one fault after another.
 use Rattle.std.proofs.Common.{◌≡◌, ℕ, Bool, true, false, [], ◌∷◌, ◌++◌, map, refl}
-use Rattle.bdb_faults.specs.Rows.{fault_if}
-use Rattle.bdb_faults.specs.declared.rows.Row.TheVariants.{Contents}
-use Rattle.bdb_format.specs.declared.kinds.Fault.{Fault}
-use Rattle.bdb_format.specs.Table.{◌:?◌}
-use Rattle.bdb_format.specs.Verdict.{holding}
-use Rattle.bdb_faults.specs.declared.rows.ContentsRow.TheVariants.{Duplicates, DuplicateKind, DuplicateOrder, Bucket}
+use Rattle.bdb_ranks.specs.of_faults.Rows.{fault_if}
+use Rattle.bdb_ranks.specs.of_faults.declared.rows.Row.TheVariants.{Contents}
+use Rattle.bdb_ranks.specs.of_format.declared.kinds.Fault.{Fault}
+use Rattle.bdb_ranks.specs.of_format.Table.{◌:?◌}
+use Rattle.bdb_ranks.specs.of_format.Verdict.{holding}
+use Rattle.bdb_ranks.specs.of_faults.declared.rows.ContentsRow.TheVariants.{Duplicates, DuplicateKind, DuplicateOrder, Bucket}
 
 abbrev pub contents_fault : ℕ → ℕ → Fault
 contents_fault page code = record { stage = 8; page = page; code = code }

@@ -12,16 +12,16 @@ use Rattle.std.proofs.lemmas.List.{append-nil, get_or-map, length-map}
 use Rattle.std.proofs.lemmas.Fn.{always_returns_same}
 use Rattle.std.proofs.lemmas.List.Elements.{Contains-get_or}
 use Rattle.std.proofs.lemmas.List.Sorted.{Contains-permutation, IsPermutation-map, IsPermutation-sym, ranks_by}
-use Rattle.bdb_format.specs.declared.metadata.HashMeta.{HashMeta}
-use Rattle.bdb_format.specs.Chains.{value_of}
-use Rattle.bdb_format.specs.Contents.{StoredPair, bucket_pages, table_pairs}
-use Rattle.bdb_format.specs.File.{File, file_of, page_at}
-use Rattle.bdb_format.specs.Page.{Hash, HashFields}
-use Rattle.bdb_format.specs.Page.{Page}
-use Rattle.bdb_format.specs.References.{item_at}
-use Rattle.bdb_format.proofs.MemberLemmas.{later_member, member_cases, no_member}
-use Rattle.bdb_image.specs.Linked.{HasMetadata}
-use Rattle.bdb_overflow.proofs.PrefixLemmas.{prefix_order}
+use Rattle.bdb_ranks.specs.of_format.declared.metadata.HashMeta.{HashMeta}
+use Rattle.bdb_ranks.specs.of_format.Chains.{value_of}
+use Rattle.bdb_ranks.specs.of_format.Contents.{StoredPair, bucket_pages, table_pairs}
+use Rattle.bdb_ranks.specs.of_format.File.{File, file_of, page_at}
+use Rattle.bdb_ranks.specs.of_format.Page.{Hash, HashFields}
+use Rattle.bdb_ranks.specs.of_format.Page.{Page}
+use Rattle.bdb_ranks.specs.of_format.References.{item_at}
+use Rattle.bdb_ranks.proofs.of_format.MemberLemmas.{later_member, member_cases, no_member}
+use Rattle.bdb_ranks.specs.of_image.Linked.{HasMetadata}
+use Rattle.bdb_ranks.proofs.of_overflow.PrefixLemmas.{prefix_order}
 use Rattle.bdb_buckets.specs.declared.place.Place.{Place}
 use Rattle.bdb_buckets.specs.Places.{Adds, AreAt, ArePlaces, IsAt, IsCollected, has_pair, key_at, key_in, pair_on, place_cmp, place_less}
 use Rattle.bdb_buckets.specs.Places.{told_at}

@@ -14,24 +14,24 @@ use Rattle.std.proofs.lemmas.List.Elements.{Contains-append_left, Contains-appen
 use Rattle.std.proofs.lemmas.List.Folds.{list_any-append}
 use Rattle.std.proofs.lemmas.List.Sums.{fold-append}
 use Rattle.std.proofs.lemmas.Map.Text.{is_eq-slice_cmp}
-use Rattle.bdb_faults.specs.Notes.{Notes}
-use Rattle.bdb_faults.specs.Rows.{fault_if}
-use Rattle.bdb_faults.specs.declared.rows.Row.TheVariants.{Contents}
-use Rattle.bdb_format.proofs.BoolLemmas.{cond_or}
-use Rattle.bdb_overflow.specs.Keys.{has_item, has_key, repeated_by}
-use Rattle.bdb_format.specs.declared.kinds.Fault.{Fault}
-use Rattle.bdb_format.specs.declared.metadata.HashMeta.{HashMeta}
-use Rattle.bdb_format.specs.ContentRows.{bucket_of_key, repeated}
-use Rattle.bdb_format.specs.Contents.{StoredPair}
-use Rattle.bdb_format.proofs.MemberLemmas.{filter_step, first_member, later_member, member_cases, no_member, none_passes, of_flat_map, of_map, of_range}
-use Rattle.bdb_format.proofs.RepeatLemmas.{has_key as has_this, repeated_after, repeated_is}
-use Rattle.bdb_format.proofs.LessLemmas.{eq_same}
+use Rattle.bdb_ranks.specs.of_faults.Notes.{Notes}
+use Rattle.bdb_ranks.specs.of_faults.Rows.{fault_if}
+use Rattle.bdb_ranks.specs.of_faults.declared.rows.Row.TheVariants.{Contents}
+use Rattle.bdb_ranks.proofs.of_format.BoolLemmas.{cond_or}
+use Rattle.bdb_ranks.specs.of_overflow.Keys.{has_item, has_key, repeated_by}
+use Rattle.bdb_ranks.specs.of_format.declared.kinds.Fault.{Fault}
+use Rattle.bdb_ranks.specs.of_format.declared.metadata.HashMeta.{HashMeta}
+use Rattle.bdb_ranks.specs.of_format.ContentRows.{bucket_of_key, repeated}
+use Rattle.bdb_ranks.specs.of_format.Contents.{StoredPair}
+use Rattle.bdb_ranks.proofs.of_format.MemberLemmas.{filter_step, first_member, later_member, member_cases, no_member, none_passes, of_flat_map, of_map, of_range}
+use Rattle.bdb_ranks.proofs.of_format.RepeatLemmas.{has_key as has_this, repeated_after, repeated_is}
+use Rattle.bdb_ranks.proofs.of_format.LessLemmas.{eq_same}
 use Rattle.bdb_hash.specs.Noted.{has_stray, has_stray_in, is_stray, repeat_fault, repeat_faults, stored}
 use Rattle.bdb_hash.specs.Passed.{AreKeysOf, IsNoting, NotesRepeats, behind, key_of}
 use Rattle.bdb_buckets.specs.Told.{Told, bucket_told, table_told}
-use Rattle.bdb_faults.specs.declared.rows.ContentsRow.TheVariants.{KeyTwice}
+use Rattle.bdb_ranks.specs.of_faults.declared.rows.ContentsRow.TheVariants.{KeyTwice}
 use Rattle.bdb_hash.proofs.RowLemmas.{buckets_of}
-use Rattle.bdb_faults.proofs.SinkLemmas.{notes_nothing, notes_then}
+use Rattle.bdb_ranks.proofs.of_faults.SinkLemmas.{notes_nothing, notes_then}
 use Rattle.bdb_hash.proofs.ChainedLemmas.{first_of, rest_of, first_page_of, other_pages_of}
 
 -- Repeats after other pairs.

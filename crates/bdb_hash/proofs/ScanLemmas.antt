@@ -14,25 +14,25 @@ use Rattle.std.proofs.lemmas.List.Folds.{flat_map-map}
 use Rattle.std.proofs.lemmas.List.Sorted.{Contains-permutation, IsPermutation-cons, IsPermutation-map, IsPermutation-middle, IsPermutation-refl}
 use Rattle.std.proofs.lemmas.List.Sorted.{IsPermutation-sym, IsPermutation-trans, ranks_by, sorted_far}
 use Rattle.std.proofs.lemmas.Map.Keys.{IsDistinct-IsPermutation}
-use Rattle.bdb_layout.specs.Seen.{OrderingIs}
-use Rattle.bdb_layout.proofs.KeyLemmas.{slice_cmp-is}
-use Rattle.bdb_format.specs.declared.metadata.HashMeta.{HashMeta}
-use Rattle.bdb_format.specs.Contents.{StoredPair, table_pairs}
-use Rattle.bdb_format.specs.File.{file_of}
-use Rattle.bdb_format.specs.Less.{less, Less}
-use Rattle.bdb_format.specs.Lists.{by_key, hash_list, insert_pair}
-use Rattle.bdb_format.specs.Page.{HashFields}
-use Rattle.bdb_format.proofs.ListLemmas.{all_of}
-use Rattle.bdb_format.proofs.LessLemmas.{eq_same, eq_self, less_trans, not_less_both, not_less_same}
-use Rattle.bdb_format.proofs.MemberLemmas.{first_member, in_map, later_member, member_cases, no_member, of_map}
-use Rattle.bdb_image.specs.Linked.{HasMetadata}
+use Rattle.bdb_ranks.specs.of_layout.Seen.{OrderingIs}
+use Rattle.bdb_ranks.proofs.of_layout.KeyLemmas.{slice_cmp-is}
+use Rattle.bdb_ranks.specs.of_format.declared.metadata.HashMeta.{HashMeta}
+use Rattle.bdb_ranks.specs.of_format.Contents.{StoredPair, table_pairs}
+use Rattle.bdb_ranks.specs.of_format.File.{file_of}
+use Rattle.bdb_ranks.specs.of_format.Less.{less, Less}
+use Rattle.bdb_ranks.specs.of_format.Lists.{by_key, hash_list, insert_pair}
+use Rattle.bdb_ranks.specs.of_format.Page.{HashFields}
+use Rattle.bdb_ranks.proofs.of_format.ListLemmas.{all_of}
+use Rattle.bdb_ranks.proofs.of_format.LessLemmas.{eq_same, eq_self, less_trans, not_less_both, not_less_same}
+use Rattle.bdb_ranks.proofs.of_format.MemberLemmas.{first_member, in_map, later_member, member_cases, no_member, of_map}
+use Rattle.bdb_ranks.specs.of_image.Linked.{HasMetadata}
 use Rattle.bdb_hash.specs.Scanned.{KeysDiffer, ranked}
 use Rattle.bdb_hash.specs.Noted.{stored}
 use Rattle.bdb_hash.specs.Passed.{key_of}
 use Rattle.bdb_buckets.specs.Told.{Told, listed_told, table_told, told, told_cmp}
 use Rattle.bdb_buckets.specs.Views.{IsTable}
 use Rattle.bdb_hash.proofs.FaultLemmas.{table_is_told, table_stored}
-use Rattle.bdb_overflow.proofs.KeyLemmas.{is_order}
+use Rattle.bdb_ranks.proofs.of_overflow.KeyLemmas.{is_order}
 use Rattle.bdb_hash.proofs.LookupLemmas.{AreApart, keys_apart, same_key}
 
 -- The order of keys.

@@ -2,13 +2,13 @@
 use Rattle.std.proofs.Common.{arith}
 use Rattle.std.proofs.Common.{◌≡◌, ℕ, Bool, true, false, ◌&&◌, List, ◌∷◌, Option, Some, None, refl, sym, ◌∙◌, ap, subst}
 use Rattle.std.proofs.lemmas.List.Elements.{All-head}
-use Rattle.bdb_format.specs.Chains.{value_of}
-use Rattle.bdb_format.specs.ContentRows.{ascends_from}
-use Rattle.bdb_format.specs.File.{File}
-use Rattle.bdb_format.specs.Page.{Item}
-use Rattle.bdb_overflow.specs.Datum.{FitsContent}
-use Rattle.bdb_tree.specs.Entries.{AreFit, values_of}
-use Rattle.bdb_tree.proofs.EntryLemmas.{deleted_value}
+use Rattle.bdb_ranks.specs.of_format.Chains.{value_of}
+use Rattle.bdb_ranks.specs.of_format.ContentRows.{ascends_from}
+use Rattle.bdb_ranks.specs.of_format.File.{File}
+use Rattle.bdb_ranks.specs.of_format.Page.{Item}
+use Rattle.bdb_ranks.specs.of_overflow.Datum.{FitsContent}
+use Rattle.bdb_ranks.specs.of_tree.Entries.{AreFit, values_of}
+use Rattle.bdb_ranks.proofs.of_tree.EntryLemmas.{deleted_value}
 use Rattle.bdb_hash.specs.SetOrder.{ascends_after, follows}
 
 pub first_fits : (file : File) (entry : Item) (rest entries : List Item) → entries ≡ entry ∷ rest → AreFit file entries → FitsContent file entry.content

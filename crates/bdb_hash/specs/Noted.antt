@@ -1,16 +1,16 @@
 -- The faults of a table's contents in the order in which they are noted, bucket by bucket. Source: docs/FORMAT.md, "Stage 8, contents".
 use Rattle.std.specs.Prelude.{ℕ, ◌==◌, ◌&&◌, not, if◌then◌else◌, Bool, List, [], map, ◌+◌, ◌++◌}
 use Rattle.std.specs.List.{flat_map, list_any, range_with_len}
-use Rattle.bdb_faults.specs.Rows.{fault_at, fault_if}
-use Rattle.bdb_faults.specs.declared.rows.ContentsRow.TheVariants.{Duplicates, DuplicateKind, DuplicateOrder, Bucket, KeyTwice}
-use Rattle.bdb_faults.specs.declared.rows.Row.TheVariants.{Contents}
-use Rattle.bdb_format.specs.declared.kinds.Fault.{Fault}
-use Rattle.bdb_format.specs.declared.metadata.HashMeta.{HashMeta}
-use Rattle.bdb_format.specs.ContentRows.{ascends, bucket_of_key, is_duplicate, is_wrong_set, repeated}
-use Rattle.bdb_format.specs.Contents.{StoredPair, data_of}
-use Rattle.bdb_format.specs.File.{file_of}
-use Rattle.bdb_format.specs.Flags.{has_duplicates, is_sorted}
-use Rattle.bdb_format.specs.Page.{HashFields}
+use Rattle.bdb_ranks.specs.of_faults.Rows.{fault_at, fault_if}
+use Rattle.bdb_ranks.specs.of_faults.declared.rows.ContentsRow.TheVariants.{Duplicates, DuplicateKind, DuplicateOrder, Bucket, KeyTwice}
+use Rattle.bdb_ranks.specs.of_faults.declared.rows.Row.TheVariants.{Contents}
+use Rattle.bdb_ranks.specs.of_format.declared.kinds.Fault.{Fault}
+use Rattle.bdb_ranks.specs.of_format.declared.metadata.HashMeta.{HashMeta}
+use Rattle.bdb_ranks.specs.of_format.ContentRows.{ascends, bucket_of_key, is_duplicate, is_wrong_set, repeated}
+use Rattle.bdb_ranks.specs.of_format.Contents.{StoredPair, data_of}
+use Rattle.bdb_ranks.specs.of_format.File.{file_of}
+use Rattle.bdb_ranks.specs.of_format.Flags.{has_duplicates, is_sorted}
+use Rattle.bdb_ranks.specs.of_format.Page.{HashFields}
 use Rattle.bdb_buckets.specs.Told.{Told, bucket_told, table_told}
 
 -- a stray: a pair of this bucket that isn't in the bucket of its key

@@ -3,12 +3,12 @@ use Rattle.std.specs.Prelude.{Bool, ◌≡◌, ℕ, ◌||◌, List, ◌∷◌, m
 use Rattle.std.specs.BTreeSet.{BTreeSet, contains}
 use Rattle.std.specs.Ordering.{nat_cmp}
 use Rattle.std.specs.List.{flat_map, fold, list_any}
-use Rattle.bdb_faults.specs.Notes.{Notes}
-use Rattle.bdb_overflow.specs.Keys.{has_item, has_key, repeated_by}
-use Rattle.bdb_format.specs.declared.kinds.Fault.{Fault}
-use Rattle.bdb_format.specs.declared.metadata.HashMeta.{HashMeta}
-use Rattle.bdb_format.specs.Contents.{StoredPair}
-use Rattle.bdb_format.specs.Hashing.{hash5}
+use Rattle.bdb_ranks.specs.of_faults.Notes.{Notes}
+use Rattle.bdb_ranks.specs.of_overflow.Keys.{has_item, has_key, repeated_by}
+use Rattle.bdb_ranks.specs.of_format.declared.kinds.Fault.{Fault}
+use Rattle.bdb_ranks.specs.of_format.declared.metadata.HashMeta.{HashMeta}
+use Rattle.bdb_ranks.specs.of_format.Contents.{StoredPair}
+use Rattle.bdb_ranks.specs.of_format.Hashing.{hash5}
 use Rattle.bdb_hash.specs.Noted.{is_stray, pair_faults, repeat_fault, stored}
 use Rattle.bdb_buckets.specs.Told.{Told}
 use Rattle.bdb_hash.specs.declared.passed.Passed.{Passed}

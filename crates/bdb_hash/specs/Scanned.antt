@@ -1,19 +1,19 @@
 -- The list of a table as the code gives it.
 use Rattle.std.specs.Prelude.{◌≡◌, ℕ, ◌++◌, List, map}
 use Rattle.std.specs.List.{Contains, flat_map}
-use Rattle.bdb_faults.specs.Rows.{fault_at}
-use Rattle.bdb_faults.specs.declared.rows.ContentsRow.TheVariants.{KeyTwice}
-use Rattle.bdb_faults.specs.declared.rows.Row.TheVariants.{Contents}
-use Rattle.bdb_overflow.specs.declared.datum.Datum.{Datum}
-use Rattle.bdb_overflow.specs.declared.datum.KeyView.{KeyView}
-use Rattle.bdb_overflow.specs.Datum.{datum_seen, key_view_seen}
+use Rattle.bdb_ranks.specs.of_faults.Rows.{fault_at}
+use Rattle.bdb_ranks.specs.of_faults.declared.rows.ContentsRow.TheVariants.{KeyTwice}
+use Rattle.bdb_ranks.specs.of_faults.declared.rows.Row.TheVariants.{Contents}
+use Rattle.bdb_ranks.specs.of_overflow.declared.datum.Datum.{Datum}
+use Rattle.bdb_ranks.specs.of_overflow.declared.datum.KeyView.{KeyView}
+use Rattle.bdb_ranks.specs.of_overflow.Datum.{datum_seen, key_view_seen}
 use Rattle.bdb_buckets.specs.Told.{Told, entry_list, listed_told, told}
-use Rattle.bdb_format.specs.declared.metadata.HashMeta.{HashMeta}
-use Rattle.bdb_format.specs.ContentRows.{database_faults}
-use Rattle.bdb_format.specs.Contents.{table_pairs}
-use Rattle.bdb_format.specs.File.{File, file_of}
-use Rattle.bdb_format.specs.Lists.{ListKey, by_key}
-use Rattle.bdb_format.specs.Page.{HashFields}
+use Rattle.bdb_ranks.specs.of_format.declared.metadata.HashMeta.{HashMeta}
+use Rattle.bdb_ranks.specs.of_format.ContentRows.{database_faults}
+use Rattle.bdb_ranks.specs.of_format.Contents.{table_pairs}
+use Rattle.bdb_ranks.specs.of_format.File.{File, file_of}
+use Rattle.bdb_ranks.specs.of_format.Lists.{ListKey, by_key}
+use Rattle.bdb_ranks.specs.of_format.Page.{HashFields}
 
 -- a pair of a list
 abbrev pub entry_seen : (KeyView × Datum) → ListKey × List ℕ

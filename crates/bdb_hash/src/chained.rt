@@ -1,18 +1,18 @@
 ghost use Rattle.std.specs.Prelude.{◌≡◌, [], IfOk};
-ghost use Rattle.bdb_format.specs.ContentRows.{ascends};
-ghost use Rattle.bdb_format.specs.Contents.{data_of};
-ghost use Rattle.bdb_format.specs.File.{file_of};
-ghost use Rattle.bdb_format.specs.Page.{Tree};
-ghost use Rattle.bdb_format.specs.Verdict.{structure_faults};
-ghost use Rattle.bdb_image.specs.Linked.{FitsDupRoot};
+ghost use Rattle.bdb_ranks.specs.of_format.ContentRows.{ascends};
+ghost use Rattle.bdb_ranks.specs.of_format.Contents.{data_of};
+ghost use Rattle.bdb_ranks.specs.of_format.File.{file_of};
+ghost use Rattle.bdb_ranks.specs.of_format.Page.{Tree};
+ghost use Rattle.bdb_ranks.specs.of_format.Verdict.{structure_faults};
+ghost use Rattle.bdb_ranks.specs.of_image.Linked.{FitsDupRoot};
 ghost use Rattle.bdb_buckets.specs.Chained.{chain_value};
 ghost use Rattle.bdb_hash.specs.Passed.{key_hash};
 
 use crate::set_order::set_ascends;
 use bdb_buckets::{Pair, hash_of};
-use bdb_graph::Forest;
-use bdb_overflow::is_shared;
 use bdb_ranks::Values;
+use bdb_ranks::bdb_graph::Forest;
+use bdb_ranks::bdb_overflow::is_shared;
 use std::alloc::{AllocError, Global};
 use std::collections::BTreeMap;
 use std::marker::Model;

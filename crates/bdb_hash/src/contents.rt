@@ -1,23 +1,23 @@
 ghost use Rattle.std.specs.Prelude.{◌≡◌, ◌+◌, [], IfErr, IfOk, OnOk};
 ghost use Rattle.std.specs.List.{flat_map, range_with_len};
-ghost use Rattle.bdb_faults.specs.Named.{HasNoted};
-ghost use Rattle.bdb_faults.specs.Notes.{Notes, NotesAll};
-ghost use Rattle.bdb_image.specs.Linked.{HasMetadata};
+ghost use Rattle.bdb_ranks.specs.of_faults.Named.{HasNoted};
+ghost use Rattle.bdb_ranks.specs.of_faults.Notes.{Notes, NotesAll};
+ghost use Rattle.bdb_ranks.specs.of_image.Linked.{HasMetadata};
 ghost use Rattle.bdb_hash.specs.Noted.{bucket_faults, has_stray};
 ghost use Rattle.bdb_buckets.specs.Views.{IsTable};
-ghost use Rattle.bdb_format.specs.ContentRows.{database_faults};
-ghost use Rattle.bdb_format.specs.File.{file_of};
-ghost use Rattle.bdb_format.specs.Page.{HashFields};
-ghost use Rattle.bdb_format.specs.Verdict.{structure_faults, IsFirstOf};
+ghost use Rattle.bdb_ranks.specs.of_format.ContentRows.{database_faults};
+ghost use Rattle.bdb_ranks.specs.of_format.File.{file_of};
+ghost use Rattle.bdb_ranks.specs.of_format.Page.{HashFields};
+ghost use Rattle.bdb_ranks.specs.of_format.Verdict.{structure_faults, IsFirstOf};
 
 use crate::Chains;
 use crate::passed::{Passed, note_bucket};
 use crate::repeats::note_again;
 use crate::strays::note_strayed;
 use bdb_buckets::{bucket_pages, buckets};
-use bdb_faults::{FaultSink, First, NamedList};
-use bdb_format::{CheckError, HashMeta};
-use bdb_graph::Linked;
+use bdb_ranks::bdb_faults::{FaultSink, First, NamedList};
+use bdb_ranks::bdb_format::{CheckError, HashMeta};
+use bdb_ranks::bdb_graph::Linked;
 use std::alloc::{AllocError, Global};
 
 /// Notes the pairs of a table by themselves, and those that have the key of an earlier one of their bucket, while its

@@ -1,18 +1,18 @@
 ghost use Rattle.std.specs.Prelude.{◌≡◌, ◌++◌, ℕ, [], IfOk, OnOk, map, true};
 ghost use Rattle.std.specs.BTreeSet.{BTreeSet};
 ghost use Rattle.std.specs.List.{IsDistinct};
-ghost use Rattle.bdb_image.specs.Linked.{HasMetadata};
+ghost use Rattle.bdb_ranks.specs.of_image.Linked.{HasMetadata};
 ghost use Rattle.bdb_buckets.specs.Chained.{AreAllOf, AreOf};
 ghost use Rattle.bdb_hash.specs.Passed.{is_among, is_missed, key_hash};
 ghost use Rattle.bdb_buckets.specs.Told.{joined_pages, table_told};
-ghost use Rattle.bdb_format.specs.File.{file_of};
-ghost use Rattle.bdb_format.specs.Page.{HashFields};
-ghost use Rattle.bdb_format.specs.Verdict.{structure_faults};
+ghost use Rattle.bdb_ranks.specs.of_format.File.{file_of};
+ghost use Rattle.bdb_ranks.specs.of_format.Page.{HashFields};
+ghost use Rattle.bdb_ranks.specs.of_format.Verdict.{structure_faults};
 
 use crate::Chains;
 use bdb_buckets::{BucketPages, PagePairs, bucket_pages, buckets};
-use bdb_format::HashMeta;
-use bdb_graph::Linked;
+use bdb_ranks::bdb_format::HashMeta;
+use bdb_ranks::bdb_graph::Linked;
 use std::alloc::{AllocError, Global};
 use std::collections::BTreeSet;
 

@@ -2,13 +2,13 @@ ghost use Rattle.std.specs.Prelude.{◌≡◌, ◌++◌, List, ℕ};
 ghost use Rattle.std.specs.Iterator.{YieldsFirstBy, item_count};
 ghost use Rattle.std.specs.List.{flat_map};
 ghost use Rattle.bdb_hash.specs.Scanned.{entry_seen};
-ghost use Rattle.bdb_overflow.specs.Datum.{datum_seen};
+ghost use Rattle.bdb_ranks.specs.of_overflow.Datum.{datum_seen};
 ghost use Rattle.bdb_buckets.specs.Told.{entry_list, listed_told};
-ghost use Rattle.bdb_format.specs.Lists.{ListKey};
+ghost use Rattle.bdb_ranks.specs.of_format.Lists.{ListKey};
 
 use crate::ranked::Ranked;
 use bdb_buckets::Data;
-use bdb_overflow::{Datum, KeyView};
+use bdb_ranks::bdb_overflow::{Datum, KeyView};
 use std::marker::Model;
 
 /// The list of a table that is left, in the order of its keys: each key with each of its data.
@@ -31,9 +31,9 @@ impl Drop for Scan<'_> {
 impl<'a> Model for Scan<'a> {
     ghost use Rattle.std.specs.Prelude.{◌++◌, List, ℕ};
     ghost use Rattle.std.specs.List.{flat_map};
-    ghost use Rattle.bdb_overflow.specs.Datum.{datum_seen};
+    ghost use Rattle.bdb_ranks.specs.of_overflow.Datum.{datum_seen};
     ghost use Rattle.bdb_buckets.specs.Told.{entry_list, listed_told};
-    ghost use Rattle.bdb_format.specs.Lists.{ListKey};
+    ghost use Rattle.bdb_ranks.specs.of_format.Lists.{ListKey};
 
     ghost Value = { List (ListKey × List ℕ) };
 

@@ -1,18 +1,18 @@
 ghost use Rattle.std.specs.Prelude.{◌≡◌, ◌+◌, ◌≤◌, []};
 ghost use Rattle.std.specs.List.{find};
-ghost use Rattle.bdb_image.specs.Linked.{HasMetadata};
+ghost use Rattle.bdb_ranks.specs.of_image.Linked.{HasMetadata};
 ghost use Rattle.bdb_buckets.specs.Told.{bucket_told, has_key};
 ghost use Rattle.bdb_buckets.specs.Views.{IsTable};
-ghost use Rattle.bdb_format.specs.ContentRows.{bucket_of_key, database_faults};
-ghost use Rattle.bdb_format.specs.File.{file_of};
-ghost use Rattle.bdb_format.specs.Lists.{BytesKey, get, hash_list};
-ghost use Rattle.bdb_format.specs.Page.{HashFields};
-ghost use Rattle.bdb_format.specs.Verdict.{structure_faults};
+ghost use Rattle.bdb_ranks.specs.of_format.ContentRows.{bucket_of_key, database_faults};
+ghost use Rattle.bdb_ranks.specs.of_format.File.{file_of};
+ghost use Rattle.bdb_ranks.specs.of_format.Lists.{BytesKey, get, hash_list};
+ghost use Rattle.bdb_ranks.specs.of_format.Page.{HashFields};
+ghost use Rattle.bdb_ranks.specs.of_format.Verdict.{structure_faults};
 
 use bdb_buckets::{Data, PagePairs, Pair, bucket_pages, buckets};
-use bdb_format::{HashMeta, Steps};
-use bdb_graph::Linked;
-use bdb_layout::{bucket_of, hash5};
+use bdb_ranks::bdb_format::{HashMeta, Steps};
+use bdb_ranks::bdb_graph::Linked;
+use bdb_ranks::bdb_layout::{bucket_of, hash5};
 use std::sync::ledger::Ledger;
 
 /// The first pair of a page with this key.

@@ -4,9 +4,9 @@ ghost use Rattle.std.specs.Vec.Iter.{into_iter_items};
 ghost use Rattle.bdb_buckets.specs.declared.place.Place.{Place as PlaceOf};
 
 use bdb_buckets::Place;
-use bdb_format::{Head, Order};
-use bdb_graph::Forest;
-use bdb_layout::u16_at;
+use bdb_ranks::bdb_format::{Head, Order};
+use bdb_ranks::bdb_graph::Forest;
+use bdb_ranks::bdb_layout::u16_at;
 use std::alloc::{AllocError, Global};
 use std::collections::VecDeque;
 use std::marker::Model;

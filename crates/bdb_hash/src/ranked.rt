@@ -2,12 +2,12 @@ ghost use Rattle.std.specs.Prelude.{◌≡◌, ◌≤◌, IfOk, true, map};
 ghost use Rattle.std.specs.Iterator.{YieldsFirstBy, item_count};
 ghost use Rattle.bdb_buckets.specs.Places.{ArePlaces, has_pair, told_at, told_on};
 ghost use Rattle.bdb_buckets.specs.Views.{IsTable};
-ghost use Rattle.bdb_format.specs.File.{file_of, page_at};
+ghost use Rattle.bdb_ranks.specs.of_format.File.{file_of, page_at};
 
 use crate::near::Near;
 use bdb_buckets::{Pair, Place};
-use bdb_form::PageView;
-use bdb_graph::Forest;
+use bdb_ranks::bdb_form::PageView;
+use bdb_ranks::bdb_graph::Forest;
 use std::alloc::{AllocError, Global};
 use std::marker::Model;
 

@@ -1,20 +1,20 @@
 ghost use Rattle.std.specs.Prelude.{◌≡◌, ◌+◌, ◌-◌, ◌^◌, [], IfOk, OnOk, length, min};
 ghost use Rattle.std.specs.List.Sorted.{IsPermutation, IsSortedBy};
-ghost use Rattle.bdb_image.specs.Linked.{HasMetadata};
+ghost use Rattle.bdb_ranks.specs.of_image.Linked.{HasMetadata};
 ghost use Rattle.bdb_buckets.specs.Places.{Adds, AreAt, place_less};
 ghost use Rattle.bdb_hash.specs.Scanned.{KeysDiffer, ranked};
 ghost use Rattle.bdb_buckets.specs.Told.{joined_pages, table_told};
 ghost use Rattle.bdb_buckets.specs.Views.{IsTable};
-ghost use Rattle.bdb_format.specs.File.{file_of};
-ghost use Rattle.bdb_format.specs.Lists.{hash_list};
-ghost use Rattle.bdb_format.specs.Page.{HashFields};
-ghost use Rattle.bdb_format.specs.Verdict.{structure_faults};
+ghost use Rattle.bdb_ranks.specs.of_format.File.{file_of};
+ghost use Rattle.bdb_ranks.specs.of_format.Lists.{hash_list};
+ghost use Rattle.bdb_ranks.specs.of_format.Page.{HashFields};
+ghost use Rattle.bdb_ranks.specs.of_format.Verdict.{structure_faults};
 
 use crate::Scan;
 use crate::ranked::Ranked;
 use bdb_buckets::{BucketPages, PagePairs, Place, bucket_pages, buckets, compare_places};
-use bdb_format::HashMeta;
-use bdb_graph::{Forest, Linked};
+use bdb_ranks::bdb_format::HashMeta;
+use bdb_ranks::bdb_graph::{Forest, Linked};
 use std::alloc::{AllocError, Global};
 
 /// How many pairs there are, once those of the pages of a bucket are counted; at most what a `usize` holds.

@@ -1,19 +1,19 @@
 ghost use Rattle.std.specs.Prelude.{◌≡◌, ◌&&◌, IfOk, OnOk, not};
-ghost use Rattle.bdb_faults.specs.Notes.{Notes};
+ghost use Rattle.bdb_ranks.specs.of_faults.Notes.{Notes};
 ghost use Rattle.bdb_hash.specs.Noted.{told_faults};
-ghost use Rattle.bdb_format.specs.ContentRows.{ascends, is_duplicate};
-ghost use Rattle.bdb_format.specs.Contents.{data_of};
-ghost use Rattle.bdb_format.specs.File.{file_of};
-ghost use Rattle.bdb_format.specs.Flags.{has_duplicates, is_sorted};
-ghost use Rattle.bdb_format.specs.Hashing.{bucket};
-ghost use Rattle.bdb_format.specs.Page.{HashFields};
+ghost use Rattle.bdb_ranks.specs.of_format.ContentRows.{ascends, is_duplicate};
+ghost use Rattle.bdb_ranks.specs.of_format.Contents.{data_of};
+ghost use Rattle.bdb_ranks.specs.of_format.File.{file_of};
+ghost use Rattle.bdb_ranks.specs.of_format.Flags.{has_duplicates, is_sorted};
+ghost use Rattle.bdb_ranks.specs.of_format.Hashing.{bucket};
+ghost use Rattle.bdb_ranks.specs.of_format.Page.{HashFields};
 
 use crate::Chains;
 use bdb_buckets::{Data, Pair};
-use bdb_faults::{ContentsRow, FaultSink, Row, note_if};
-use bdb_format::HashMeta;
-use bdb_layout::bucket_of;
-use bdb_overflow::is_less;
+use bdb_ranks::bdb_faults::{ContentsRow, FaultSink, Row, note_if};
+use bdb_ranks::bdb_format::HashMeta;
+use bdb_ranks::bdb_layout::bucket_of;
+use bdb_ranks::bdb_overflow::is_less;
 use std::alloc::AllocError;
 
 /// Whether data ascend strictly.

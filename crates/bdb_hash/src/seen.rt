@@ -1,13 +1,13 @@
 ghost use Rattle.std.specs.Prelude.{◌≡◌, ◌∷◌, [], OnOk, true};
-ghost use Rattle.bdb_overflow.specs.Keys.{has_key};
+ghost use Rattle.bdb_ranks.specs.of_overflow.Keys.{has_key};
 ghost use Rattle.std.specs.BTreeSet.{IsEmpty};
 ghost use Rattle.bdb_buckets.specs.Chained.{chain_value};
 ghost use Rattle.bdb_hash.specs.Passed.{NotesRepeats};
 
 use bdb_buckets::Pair;
-use bdb_faults::{ContentsRow, FaultSink, Row, note_if};
-use bdb_graph::Forest;
-use bdb_overflow::Keys;
+use bdb_ranks::bdb_faults::{ContentsRow, FaultSink, Row, note_if};
+use bdb_ranks::bdb_graph::Forest;
+use bdb_ranks::bdb_overflow::Keys;
 use std::alloc::{AllocError, Global};
 use std::collections::BTreeSet;
 use std::marker::Model;

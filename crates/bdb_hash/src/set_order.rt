@@ -1,17 +1,17 @@
 ghost use Rattle.std.specs.Prelude.{◌≡◌, [], IfOk};
 ghost use Rattle.std.specs.Option.{option_map};
-ghost use Rattle.bdb_format.specs.ContentRows.{ascends};
-ghost use Rattle.bdb_format.specs.Contents.{data_of};
-ghost use Rattle.bdb_format.specs.File.{file_of};
-ghost use Rattle.bdb_format.specs.Page.{Tree};
-ghost use Rattle.bdb_format.specs.Verdict.{structure_faults};
-ghost use Rattle.bdb_image.specs.Linked.{FitsDupRoot};
+ghost use Rattle.bdb_ranks.specs.of_format.ContentRows.{ascends};
+ghost use Rattle.bdb_ranks.specs.of_format.Contents.{data_of};
+ghost use Rattle.bdb_ranks.specs.of_format.File.{file_of};
+ghost use Rattle.bdb_ranks.specs.of_format.Page.{Tree};
+ghost use Rattle.bdb_ranks.specs.of_format.Verdict.{structure_faults};
+ghost use Rattle.bdb_ranks.specs.of_image.Linked.{FitsDupRoot};
 ghost use Rattle.bdb_hash.specs.SetOrder.{follows};
-ghost use Rattle.bdb_overflow.specs.Held.{FitsAny, FitsHeld, value_held};
+ghost use Rattle.bdb_ranks.specs.of_overflow.Held.{FitsAny, FitsHeld, value_held};
 
-use bdb_overflow::{Held, is_deleted, leaf_held};
 use bdb_ranks::Values;
-use bdb_tree::tree_entries;
+use bdb_ranks::bdb_overflow::{Held, is_deleted, leaf_held};
+use bdb_ranks::bdb_tree::tree_entries;
 use std::alloc::AllocError;
 
 /// Whether a value is above the last one, where there is one. An error is want of memory.

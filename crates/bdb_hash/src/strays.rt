@@ -1,23 +1,23 @@
 ghost use Rattle.std.specs.Prelude.{◌≡◌, ◌∷◌, [], OnOk, map};
 ghost use Rattle.std.specs.BTreeSet.{BTreeSet};
 ghost use Rattle.std.specs.List.{IsDistinct, filter};
-ghost use Rattle.bdb_faults.specs.Notes.{Notes};
-ghost use Rattle.bdb_image.specs.Linked.{HasMetadata};
+ghost use Rattle.bdb_ranks.specs.of_faults.Notes.{Notes};
+ghost use Rattle.bdb_ranks.specs.of_image.Linked.{HasMetadata};
 ghost use Rattle.bdb_buckets.specs.Chained.{AreAllOf, AreOf};
 ghost use Rattle.bdb_hash.specs.Noted.{repeat_faults, stray_faults};
 ghost use Rattle.bdb_hash.specs.Passed.{NotesRepeats, is_kept};
 ghost use Rattle.bdb_buckets.specs.Told.{joined_pages, table_told};
-ghost use Rattle.bdb_format.specs.File.{file_of};
-ghost use Rattle.bdb_format.specs.Page.{HashFields};
-ghost use Rattle.bdb_format.specs.Verdict.{structure_faults};
+ghost use Rattle.bdb_ranks.specs.of_format.File.{file_of};
+ghost use Rattle.bdb_ranks.specs.of_format.Page.{HashFields};
+ghost use Rattle.bdb_ranks.specs.of_format.Verdict.{structure_faults};
 
 use crate::Chains;
 use crate::hashes::repeated_hashes;
 use crate::seen::SeenKeys;
 use bdb_buckets::{BucketPages, PagePairs, Pair, bucket_pages, buckets};
-use bdb_faults::FaultSink;
-use bdb_format::HashMeta;
-use bdb_graph::Linked;
+use bdb_ranks::bdb_faults::FaultSink;
+use bdb_ranks::bdb_format::HashMeta;
+use bdb_ranks::bdb_graph::Linked;
 use std::alloc::{AllocError, Global};
 use std::collections::BTreeSet;
 

@@ -28,7 +28,7 @@ use Rattle.bdb_format.specs.References.{Asked, asked_by, fit_code}
 use Rattle.bdb_format.specs.Table.{◌:?◌, first_row}
 use Rattle.bdb_format.specs.Verdict.{fails_as}
 use Rattle.bdb_format.proofs.ListLemmas.{range_more, range_parts}
-use Rattle.bdb_layout.proofs.HashingLemmas.{below_group, group-le}
+use Rattle.bdb_meta.proofs.of_layout.HashingLemmas.{below_group, group-le}
 use Rattle.bdb_image.specs.declared.fits.Misfits.{Misfits}
 use Rattle.bdb_image.specs.Buckets.{AreLasts, IsLast, bucket_names, fails_as_bucket, run_names, run_refs}
 use Rattle.bdb_image.specs.Fits.{page_rows}

@@ -16,7 +16,7 @@ use Rattle.bdb_format.specs.Rows.{form_code}
 use Rattle.bdb_format.specs.Table.{first_row}
 use Rattle.bdb_format.proofs.VerdictLemmas.{AllFail, none_is_first_row}
 use Rattle.bdb_format.proofs.SizeLemmas.{size_bounds}
-use Rattle.bdb_form.proofs.FormedLemmas.{numbered}
+use Rattle.bdb_slots.proofs.of_form.FormedLemmas.{numbered}
 use Rattle.bdb_image.specs.Formed.{IsAccepted}
 
 -- Page 0.

@@ -2,11 +2,11 @@
 use Rattle.std.proofs.Common.{◌≡◌, ℕ, zero, suc, ◌≤◌, Bool, true, false, cond, List, length, arith, refl, sym, ◌∙◌, ap}
 use Rattle.std.specs.Prelude.{Option, Some, None, ◌==◌, ◌&&◌, nat_lt}
 use Rattle.std.proofs.lemmas.Bool.{ltb-false, or_parts}
-use Rattle.bdb_form.specs.declared.view.PageView.{PageView}
-use Rattle.bdb_form.specs.declared.view.PageView.TheVariants.{Zero as ZeroView, Free as FreeView, Meta as MetaView, Leaf as LeafView, Internal as InternalView}
-use Rattle.bdb_form.specs.declared.view.PageView.TheVariants.{RecnoLeaf as RecnoLeafView, RecnoInternal as RecnoInternalView, DupLeaf as DupLeafView}
-use Rattle.bdb_form.specs.declared.view.PageView.TheVariants.{Hash as HashView, Overflow as OverflowView, Queue as QueueView}
-use Rattle.bdb_form.specs.Seen.{page_seen}
+use Rattle.bdb_slots.specs.of_form.declared.view.PageView.{PageView}
+use Rattle.bdb_slots.specs.of_form.declared.view.PageView.TheVariants.{Zero as ZeroView, Free as FreeView, Meta as MetaView, Leaf as LeafView, Internal as InternalView}
+use Rattle.bdb_slots.specs.of_form.declared.view.PageView.TheVariants.{RecnoLeaf as RecnoLeafView, RecnoInternal as RecnoInternalView, DupLeaf as DupLeafView}
+use Rattle.bdb_slots.specs.of_form.declared.view.PageView.TheVariants.{Hash as HashView, Overflow as OverflowView, Queue as QueueView}
+use Rattle.bdb_slots.specs.of_form.Seen.{page_seen}
 use Rattle.bdb_format.specs.declared.kinds.Order.{Order}
 use Rattle.bdb_format.specs.declared.metadata.FileKind.{FileKind}
 use Rattle.bdb_format.specs.declared.metadata.FileKind.TheVariants.{Btree, Hash, Queue}

@@ -9,3 +9,8 @@ pub mod MetaLemmas
 pub mod NotedLemmas
 pub mod PieceLemmas
 pub mod RoleLemmas
+pub use Rattle.bdb_faults.proofs as of_faults
+pub use Rattle.bdb_slots.proofs.of_form as of_form
+pub use Rattle.bdb_format.proofs as of_format
+pub use Rattle.bdb_meta.proofs.of_layout as of_layout
+pub use Rattle.bdb_meta.proofs as of_meta

@@ -12,7 +12,7 @@ use crate::buckets::Run;
 use crate::fits::{Misfits, misfit};
 use bdb_faults::ReferenceRow;
 use bdb_format::{Reference, Sort};
-use bdb_layout::u32_at;
+use bdb_meta::bdb_layout::u32_at;
 use std::alloc::{AllocError, Global};
 
 /// Which pages of a file fit as buckets: for each page, and for the end behind them, the last page below it that fails

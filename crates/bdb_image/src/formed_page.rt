@@ -7,9 +7,9 @@ ghost use Rattle.bdb_format.specs.Graph.{is_hash_meta, is_meta, is_spare};
 ghost use Rattle.bdb_format.specs.References.{child_types, has_type, is_zero_page, root_types};
 
 use crate::Formed;
-use bdb_form::is_zero_at;
 use bdb_format::Order;
-use bdb_layout::{header, u16_at, u32_at};
+use bdb_meta::bdb_layout::{header, u16_at, u32_at};
+use bdb_slots::bdb_form::is_zero_at;
 use std::marker::Model;
 
 /// A page of a formed image, where its bytes lie.

@@ -11,8 +11,8 @@ ghost use Rattle.bdb_format.specs.declared.metadata.FileKind.TheVariants.{Queue}
 
 use crate::meta::meta_on;
 use crate::{Formed, Meta, References};
-use bdb_form::known_form;
 use bdb_format::{FileKind, Head, Order, Steps};
+use bdb_slots::bdb_form::known_form;
 use std::sync::ledger::Ledger;
 
 /// The references that a page holds, in order: one step, whatever they are. No memory is taken. No other

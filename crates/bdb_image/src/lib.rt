@@ -14,6 +14,11 @@ mod open;
 mod page;
 mod plain;
 
+pub use bdb_faults;
+pub use bdb_format;
+pub use bdb_meta;
+pub use bdb_meta::bdb_layout;
+pub use bdb_slots::bdb_form;
 pub use bucket_fits::BucketFits;
 pub use buckets::{Buckets, Run};
 pub use fits::{Misfits, misfit};

@@ -1,6 +1,6 @@
 ghost use Rattle.std.specs.Prelude.{◌≡◌, ◌^◌, ◌<◌, ℕ, []};
 ghost use Rattle.std.specs.Iterator.{YieldsFirst, item_count};
-ghost use Rattle.bdb_form.specs.Seen.{page_seen};
+ghost use Rattle.bdb_slots.specs.of_form.Seen.{page_seen};
 ghost use Rattle.bdb_image.specs.Buckets.{IsApart};
 ghost use Rattle.bdb_slots.specs.Plain.{IsPlain};
 ghost use Rattle.bdb_slots.specs.Slots.{HasRoom, IsNoMetadata, names_from, placed};
@@ -9,9 +9,9 @@ ghost use Rattle.bdb_format.specs.References.{first_free, targets_in, unless_zer
 ghost use Rattle.bdb_format.specs.declared.references.Sort.TheVariants.{Free};
 
 use crate::buckets::Buckets;
-use bdb_form::PageView;
 use bdb_format::{BtreeMeta, HashMeta, Reference, Sort};
 use bdb_slots::Source;
+use bdb_slots::bdb_form::PageView;
 use std::marker::Model;
 
 /// The references that a page holds, in order.

@@ -18,8 +18,8 @@ use bdb_faults::{
     AllError, FaultSink, FileRow, First, NamedList, Row, fault_of_form, fault_of_head, note_if,
     refused_by,
 };
-use bdb_form::is_zero;
 use bdb_format::{Head, Verdict};
+use bdb_slots::bdb_form::is_zero;
 use std::alloc::{AllocError, Global};
 
 /// The image as one on which no row of the first two stages holds, or else its verdict. The pages are

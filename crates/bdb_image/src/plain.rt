@@ -1,6 +1,6 @@
 ghost use Rattle.std.specs.Prelude.{◌≡◌, ◌≢◌, ◌^◌, ◌<◌, IsTrue, None, length, true};
 ghost use Rattle.std.specs.List.{All};
-ghost use Rattle.bdb_form.specs.Seen.{page_seen};
+ghost use Rattle.bdb_slots.specs.of_form.Seen.{page_seen};
 ghost use Rattle.bdb_slots.specs.Plain.{IsInline, IsPlain, IsPlainIn};
 ghost use Rattle.bdb_format.specs.HeadOf.{is_page_size};
 ghost use Rattle.bdb_format.specs.Reading.{abstract_page};
@@ -8,8 +8,8 @@ ghost use Rattle.bdb_format.specs.Rows.{form_code};
 ghost use Rattle.bdb_format.specs.declared.metadata.FileKind.TheVariants.{Queue};
 
 use crate::meta::meta_on;
-use bdb_form::{DupLeafView, HashView, LeafView, PageView, RecnoLeafView, known_form};
 use bdb_format::{FileKind, Head};
+use bdb_slots::bdb_form::{DupLeafView, HashView, LeafView, PageView, RecnoLeafView, known_form};
 use bdb_slots::content_name;
 
 /// Whether no item of a page without a fault of form names another page. It's asked while the items are at hand, so that

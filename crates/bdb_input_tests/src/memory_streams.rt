@@ -1,11 +1,11 @@
 // Sources and sinks in memory.
 use crate::std_streams::gives;
-use bdb_format::Bytes;
 use bdb_io::{
     Failed, Image, MemSink, MemSource, PureSink, PureSource, ReadError, Sink, Source, put_all,
     read_image,
 };
 use bdb_model::Words;
+use bdb_model::bdb_format::Bytes;
 use std::alloc::{AllocError, Global};
 use std::test::Fail;
 

@@ -1,8 +1,8 @@
 // What is answered to the sections of a dump text, as a text.
-use bdb_format::Bytes;
+use bdb_model::bdb_format::Bytes;
+use bdb_model::bdb_text_format::{KeyRef, PairRef, Section, Sections};
 use bdb_settle::{LoadError, settle};
 use bdb_text::read_dump;
-use bdb_text_format::{KeyRef, PairRef, Section, Sections};
 use std::alloc::{AllocError, Global};
 
 // A line of the key, a space and the datum.

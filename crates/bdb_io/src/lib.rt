@@ -11,6 +11,7 @@ mod put;
 mod source;
 
 pub use base::BaseSource;
+pub use bdb_format;
 pub use image::{Image, ReadError, read_image};
 pub use memory::{MemSink, MemSource};
 pub use outside::{StdSink, StdSource};

@@ -8,12 +8,12 @@ use Rattle.std.proofs.lemmas.List.{append-nil}
 use Rattle.std.proofs.lemmas.List.Elements.{All-head, All-tail}
 use Rattle.std.proofs.lemmas.List.Sums.{take_while-cons}
 use Rattle.std.proofs.lemmas.Slice.Eq.{bytes_eq-Decides}
-use Rattle.bdb_format.specs.Contents.{StoredPair, data_of}
-use Rattle.bdb_format.specs.ContentRows.{ascends, groups, is_unsorted, live_data, repeated}
-use Rattle.bdb_format.specs.File.{File}
-use Rattle.bdb_format.specs.Lists.{by_key, insert_pair, listed_pair}
-use Rattle.bdb_format.proofs.MemberLemmas.{first_member, later_member, member_cases, no_member, none_pass}
-use Rattle.bdb_format.proofs.RepeatLemmas.{has_key, repeated_after, repeated_is}
+use Rattle.bdb_law_grove.specs.of_format.Contents.{StoredPair, data_of}
+use Rattle.bdb_law_grove.specs.of_format.ContentRows.{ascends, groups, is_unsorted, live_data, repeated}
+use Rattle.bdb_law_grove.specs.of_format.File.{File}
+use Rattle.bdb_law_grove.specs.of_format.Lists.{by_key, insert_pair, listed_pair}
+use Rattle.bdb_law_grove.proofs.of_format.MemberLemmas.{first_member, later_member, member_cases, no_member, none_pass}
+use Rattle.bdb_law_grove.proofs.of_format.RepeatLemmas.{has_key, repeated_after, repeated_is}
 use Rattle.bdb_law_buckets.specs.Tables.{Keyed, listed_unit}
 use Rattle.bdb_law_buckets.proofs.DealLemmas.{AreApart, IsNoKey, insert_unit, units_by_key}
 use Rattle.bdb_law_buckets.proofs.StoredLemmas.{AreStored, IsStored, stored_append}

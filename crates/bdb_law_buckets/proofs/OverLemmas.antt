@@ -6,12 +6,12 @@ use Rattle.std.proofs.lemmas.Bool.{cases_eq, cases_lt, eq-eqb, ne_eqb, or_cases,
 use Rattle.std.proofs.lemmas.Grind.{flat_map-append}
 use Rattle.std.proofs.lemmas.List.{append-nil}
 use Rattle.std.proofs.lemmas.List.Elements.{All-append, All-nil}
-use Rattle.bdb_format.specs.declared.references.Reference.{Reference}
-use Rattle.bdb_format.specs.Page.{Content}
-use Rattle.bdb_format.specs.File.{File}
-use Rattle.bdb_format.specs.References.{refs}
-use Rattle.bdb_format.proofs.ListLemmas.{only_member, passes_here}
-use Rattle.bdb_format.proofs.MemberLemmas.{first_member, in_flat_map, in_map, in_range, member_cases, no_member, of_range}
+use Rattle.bdb_law_grove.specs.of_format.declared.references.Reference.{Reference}
+use Rattle.bdb_law_grove.specs.of_format.Page.{Content}
+use Rattle.bdb_law_grove.specs.of_format.File.{File}
+use Rattle.bdb_law_grove.specs.of_format.References.{refs}
+use Rattle.bdb_law_grove.proofs.of_format.ListLemmas.{only_member, passes_here}
+use Rattle.bdb_law_grove.proofs.of_format.MemberLemmas.{first_member, in_flat_map, in_map, in_range, member_cases, no_member, of_range}
 use Rattle.bdb_law_grove.specs.Growing.{IsCounted}
 use Rattle.bdb_law_grove.specs.Leaves.{Ascend, AscendIn, ContentFits, content_pages}
 use Rattle.bdb_law_grove.specs.Part.{IsBranch, between}

@@ -6,18 +6,18 @@ use Rattle.std.specs.List.{All, Contains, flat_map, list_any}
 use Rattle.std.proofs.lemmas.Bool.{eq-eqb, eqb-false}
 use Rattle.std.proofs.lemmas.List.{map-append}
 use Rattle.std.proofs.lemmas.List.Elements.{All-contains, Contains-append_cases}
-use Rattle.bdb_format.specs.declared.metadata.FileKind.TheVariants.{Queue}
-use Rattle.bdb_format.specs.declared.references.Reference.{Reference}
-use Rattle.bdb_format.specs.declared.references.Sort.{Sort}
-use Rattle.bdb_format.specs.declared.references.Sort.TheVariants.{OverflowHead, DuplicateRoot, HashNext}
-use Rattle.bdb_format.specs.Page.{Content, Item}
-use Rattle.bdb_format.specs.File.{File, header_in, page_at, type_in}
-use Rattle.bdb_format.specs.References.{content_targets, contents_in, fit_code, refs, targets_in, unless_zero}
-use Rattle.bdb_format.specs.Graph.{is_head_reference}
-use Rattle.bdb_format.specs.Chains.{chains_in, content_chains, is_wrong_length}
-use Rattle.bdb_format.specs.Leaves.{is_root_reference}
-use Rattle.bdb_format.proofs.ListLemmas.{only_member}
-use Rattle.bdb_format.proofs.MemberLemmas.{no_member, none_pass, of_flat_map}
+use Rattle.bdb_law_grove.specs.of_format.declared.metadata.FileKind.TheVariants.{Queue}
+use Rattle.bdb_law_grove.specs.of_format.declared.references.Reference.{Reference}
+use Rattle.bdb_law_grove.specs.of_format.declared.references.Sort.{Sort}
+use Rattle.bdb_law_grove.specs.of_format.declared.references.Sort.TheVariants.{OverflowHead, DuplicateRoot, HashNext}
+use Rattle.bdb_law_grove.specs.of_format.Page.{Content, Item}
+use Rattle.bdb_law_grove.specs.of_format.File.{File, header_in, page_at, type_in}
+use Rattle.bdb_law_grove.specs.of_format.References.{content_targets, contents_in, fit_code, refs, targets_in, unless_zero}
+use Rattle.bdb_law_grove.specs.of_format.Graph.{is_head_reference}
+use Rattle.bdb_law_grove.specs.of_format.Chains.{chains_in, content_chains, is_wrong_length}
+use Rattle.bdb_law_grove.specs.of_format.Leaves.{is_root_reference}
+use Rattle.bdb_law_grove.proofs.of_format.ListLemmas.{only_member}
+use Rattle.bdb_law_grove.proofs.of_format.MemberLemmas.{no_member, none_pass, of_flat_map}
 use Rattle.bdb_law_grove.specs.Part.{has_wrong_place}
 use Rattle.bdb_law_grove.specs.Standing.{names}
 use Rattle.bdb_law_grove.specs.Leaves.{ChainFits, ContentFits, SetFits, content_pages}

@@ -8,25 +8,25 @@ use Rattle.std.proofs.lemmas.List.{get_or_append_left, get_or-map, get_or-replic
 use Rattle.std.proofs.lemmas.List.Elements.{All-contains}
 use Rattle.std.proofs.lemmas.List.FromFn.{get_or-map-range_with_len, length-map-range_with_len}
 use Rattle.std.proofs.lemmas.Nat.{and_le_r, pow_pos}
-use Rattle.bdb_format.specs.declared.metadata.HashMeta.{HashMeta}
-use Rattle.bdb_format.specs.declared.settings.Settings.{Settings}
-use Rattle.bdb_format.specs.ByPage.{holding}
-use Rattle.bdb_format.specs.Chains.{chain_in}
-use Rattle.bdb_format.specs.Contents.{StoredPair, bucket_pairs, pairs_of, table_pairs}
-use Rattle.bdb_format.specs.ContentRows.{ascends, bucket_of_key, database_rows, has_duplicate, has_unsorted, has_wrong_bucket, has_wrong_set, is_duplicate}
-use Rattle.bdb_format.specs.ContentRows.{is_set, is_wrong_set, repeated}
-use Rattle.bdb_format.specs.Flags.{has_duplicates, is_sorted}
-use Rattle.bdb_format.specs.File.{File}
-use Rattle.bdb_format.specs.Hashing.{first_page, group}
-use Rattle.bdb_format.specs.Lists.{hash_list}
-use Rattle.bdb_format.specs.Numbers.{has_bit}
-use Rattle.bdb_format.specs.Page.{HashFields}
-use Rattle.bdb_format.specs.References.{fit_rows}
-use Rattle.bdb_format.specs.Table.{first_row}
-use Rattle.bdb_format.proofs.GroupLemmas.{least_passing}
-use Rattle.bdb_format.proofs.ListLemmas.{all_of}
-use Rattle.bdb_format.proofs.MemberLemmas.{no_member, none_pass, of_filter, of_flat_map, of_range}
-use Rattle.bdb_format.proofs.VerdictLemmas.{none_holds}
+use Rattle.bdb_law_grove.specs.of_format.declared.metadata.HashMeta.{HashMeta}
+use Rattle.bdb_law_grove.specs.of_format.declared.settings.Settings.{Settings}
+use Rattle.bdb_law_grove.specs.of_format.ByPage.{holding}
+use Rattle.bdb_law_grove.specs.of_format.Chains.{chain_in}
+use Rattle.bdb_law_grove.specs.of_format.Contents.{StoredPair, bucket_pairs, pairs_of, table_pairs}
+use Rattle.bdb_law_grove.specs.of_format.ContentRows.{ascends, bucket_of_key, database_rows, has_duplicate, has_unsorted, has_wrong_bucket, has_wrong_set, is_duplicate}
+use Rattle.bdb_law_grove.specs.of_format.ContentRows.{is_set, is_wrong_set, repeated}
+use Rattle.bdb_law_grove.specs.of_format.Flags.{has_duplicates, is_sorted}
+use Rattle.bdb_law_grove.specs.of_format.File.{File}
+use Rattle.bdb_law_grove.specs.of_format.Hashing.{first_page, group}
+use Rattle.bdb_law_grove.specs.of_format.Lists.{hash_list}
+use Rattle.bdb_law_grove.specs.of_format.Numbers.{has_bit}
+use Rattle.bdb_law_grove.specs.of_format.Page.{HashFields}
+use Rattle.bdb_law_grove.specs.of_format.References.{fit_rows}
+use Rattle.bdb_law_grove.specs.of_format.Table.{first_row}
+use Rattle.bdb_law_grove.proofs.of_format.GroupLemmas.{least_passing}
+use Rattle.bdb_law_grove.proofs.of_format.ListLemmas.{all_of}
+use Rattle.bdb_law_grove.proofs.of_format.MemberLemmas.{no_member, none_pass, of_filter, of_flat_map, of_range}
+use Rattle.bdb_law_grove.proofs.of_format.VerdictLemmas.{none_holds}
 use Rattle.bdb_law_grove.specs.Growing.{IsCounted}
 use Rattle.bdb_law_grove.specs.Part.{IsBranch, between, entrance_asks, entrances}
 use Rattle.bdb_law_grove.proofs.GroveLemmas.{fits_asked}

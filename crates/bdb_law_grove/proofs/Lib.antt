@@ -10,3 +10,4 @@ pub mod ShareLemmas
 pub mod SpanLemmas
 pub mod StandLemmas
 pub mod TakeLemmas
+pub use Rattle.bdb_format.proofs as of_format

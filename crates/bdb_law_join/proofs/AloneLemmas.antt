@@ -3,16 +3,16 @@ use Rattle.std.proofs.Common.{◌≡◌, ◌⊎◌, ℕ, zero, suc, ◌+◌, ◌
 use Rattle.std.proofs.Common.{◌∷◌, None, arith, refl, sym, ◌∙◌, ap, subst, inl, inr}
 use Rattle.std.specs.List.{Contains}
 use Rattle.std.proofs.lemmas.Bool.{cases_Bool, and_left, and_right}
-use Rattle.bdb_format.specs.Page.{Metadata, Meta}
-use Rattle.bdb_format.specs.File.{File, file_of, page_at}
-use Rattle.bdb_format.specs.Graph.{is_meta}
-use Rattle.bdb_format.specs.Master.{is_named_kind, master_in, master_pairs, master_rows, pairs_under}
-use Rattle.bdb_format.specs.Databases.{databases}
-use Rattle.bdb_format.specs.Verdict.{first_judgement, holding, master_faults}
-use Rattle.bdb_format.proofs.ListLemmas.{only_member}
-use Rattle.bdb_format.proofs.MemberLemmas.{first_member}
-use Rattle.bdb_format.proofs.VerdictLemmas.{AllFail, no_faults, none_holds}
-use Rattle.bdb_law_grove.specs.Part.{Part}
+use Rattle.bdb_graph.specs.of_format.Page.{Metadata, Meta}
+use Rattle.bdb_graph.specs.of_format.File.{File, file_of, page_at}
+use Rattle.bdb_graph.specs.of_format.Graph.{is_meta}
+use Rattle.bdb_graph.specs.of_format.Master.{is_named_kind, master_in, master_pairs, master_rows, pairs_under}
+use Rattle.bdb_graph.specs.of_format.Databases.{databases}
+use Rattle.bdb_graph.specs.of_format.Verdict.{first_judgement, holding, master_faults}
+use Rattle.bdb_graph.proofs.of_format.ListLemmas.{only_member}
+use Rattle.bdb_graph.proofs.of_format.MemberLemmas.{first_member}
+use Rattle.bdb_graph.proofs.of_format.VerdictLemmas.{AllFail, no_faults, none_holds}
+use Rattle.bdb_pack.specs.of_law_grove.Part.{Part}
 use Rattle.bdb_law_join.specs.Alone.{JoinsAlone, StandsAlone}
 use Rattle.bdb_law_join.specs.Joining.{AreJoined, HoldsLists, IsInPartOf, IsMetaOf, Joint, ShareOut}
 use Rattle.bdb_law_join.proofs.JoinLemmas.{joins_under_master}

@@ -2,17 +2,17 @@
 use Rattle.std.proofs.Common.{◌≡◌, ℕ, true, false, cond, ◌^◌, ◌<◌, List, [], ◌∷◌, ◌++◌, take, drop, arith, append_assoc, refl, ◌∙◌, ap, length-append}
 use Rattle.std.specs.Prelude.{◌==◌, if◌then◌else◌}
 use Rattle.std.proofs.lemmas.List.{take_at}
-use Rattle.bdb_format.specs.declared.kinds.Order.{Order}
-use Rattle.bdb_format.specs.declared.kinds.Order.TheVariants.{Big, Little}
-use Rattle.bdb_format.specs.declared.metadata.FileKind.{FileKind}
-use Rattle.bdb_format.specs.declared.metadata.FileKind.TheVariants.{Btree, Hash, Queue}
-use Rattle.bdb_format.specs.declared.metadata.Head.{Head}
-use Rattle.bdb_format.specs.HeadOf.{is_magic, order_of}
-use Rattle.bdb_format.specs.Numbers.{byte_at, four_at, number, number_at, spelled}
-use Rattle.bdb_format.specs.Rows.{magic_of, type_of, version_of}
-use Rattle.bdb_format.specs.Spelling.{common_bytes, last_field, lsn_bytes, zeros}
-use Rattle.bdb_format.proofs.SpellingLemmas.{byte_at-in, drop-behind, length-spelled, number_at-in}
-use Rattle.bdb_meta.proofs.FilledLemmas.{zeros-spelled}
+use Rattle.bdb_graph.specs.of_format.declared.kinds.Order.{Order}
+use Rattle.bdb_graph.specs.of_format.declared.kinds.Order.TheVariants.{Big, Little}
+use Rattle.bdb_graph.specs.of_format.declared.metadata.FileKind.{FileKind}
+use Rattle.bdb_graph.specs.of_format.declared.metadata.FileKind.TheVariants.{Btree, Hash, Queue}
+use Rattle.bdb_graph.specs.of_format.declared.metadata.Head.{Head}
+use Rattle.bdb_graph.specs.of_format.HeadOf.{is_magic, order_of}
+use Rattle.bdb_graph.specs.of_format.Numbers.{byte_at, four_at, number, number_at, spelled}
+use Rattle.bdb_graph.specs.of_format.Rows.{magic_of, type_of, version_of}
+use Rattle.bdb_graph.specs.of_format.Spelling.{common_bytes, last_field, lsn_bytes, zeros}
+use Rattle.bdb_graph.proofs.of_format.SpellingLemmas.{byte_at-in, drop-behind, length-spelled, number_at-in}
+use Rattle.bdb_graph.proofs.of_meta.FilledLemmas.{zeros-spelled}
 
 -- what is read of the fields that all metadata has, from a page of this number in a file with this head
 pub record ReadsAs (head : Head) (number : ℕ) (bytes : List ℕ) : Type 0 where

@@ -5,24 +5,24 @@ use Rattle.std.specs.List.{Contains}
 use Rattle.std.proofs.lemmas.Bool.{cases_lt}
 use Rattle.std.proofs.lemmas.List.{append-nil, get_or_past, length-map, length-replicate}
 use Rattle.bdb_pack.proofs.ImageLemmas.{counted_so_far, page_so_far}
-use Rattle.bdb_format.specs.declared.kinds.Order.{Order}
-use Rattle.bdb_format.specs.declared.metadata.BtreeMeta.{BtreeMeta}
-use Rattle.bdb_format.specs.declared.metadata.FileKind.TheVariants.{Btree}
-use Rattle.bdb_format.specs.declared.metadata.Head.{Head}
-use Rattle.bdb_format.specs.Spelling.{btree_bytes, common_bytes, last_field, zeros}
-use Rattle.bdb_format.specs.Numbers.{spelled}
-use Rattle.bdb_format.specs.Page.{BtreeFields, Meta, NoType}
-use Rattle.bdb_format.specs.Reading.{abstract_page}
-use Rattle.bdb_format.specs.HeadOf.{head_of, is_page_size}
-use Rattle.bdb_format.specs.Rows.{form_code, page_code}
-use Rattle.bdb_format.specs.File.{file_of, page_at}
-use Rattle.bdb_format.specs.Graph.{is_meta}
-use Rattle.bdb_format.proofs.SpellingLemmas.{length-spelled}
-use Rattle.bdb_format.proofs.SizeLemmas.{size_bounds}
-use Rattle.bdb_image.proofs.CodeLemmas.{tree_passed}
-use Rattle.bdb_image.proofs.HeldLemmas.{table_page, tree_page}
-use Rattle.bdb_law_grove.specs.Growing.{IsLater}
-use Rattle.bdb_meta.proofs.CommonLemmas.{length-common}
+use Rattle.bdb_graph.specs.of_format.declared.kinds.Order.{Order}
+use Rattle.bdb_graph.specs.of_format.declared.metadata.BtreeMeta.{BtreeMeta}
+use Rattle.bdb_graph.specs.of_format.declared.metadata.FileKind.TheVariants.{Btree}
+use Rattle.bdb_graph.specs.of_format.declared.metadata.Head.{Head}
+use Rattle.bdb_graph.specs.of_format.Spelling.{btree_bytes, common_bytes, last_field, zeros}
+use Rattle.bdb_graph.specs.of_format.Numbers.{spelled}
+use Rattle.bdb_graph.specs.of_format.Page.{BtreeFields, Meta, NoType}
+use Rattle.bdb_graph.specs.of_format.Reading.{abstract_page}
+use Rattle.bdb_graph.specs.of_format.HeadOf.{head_of, is_page_size}
+use Rattle.bdb_graph.specs.of_format.Rows.{form_code, page_code}
+use Rattle.bdb_graph.specs.of_format.File.{file_of, page_at}
+use Rattle.bdb_graph.specs.of_format.Graph.{is_meta}
+use Rattle.bdb_graph.proofs.of_format.SpellingLemmas.{length-spelled}
+use Rattle.bdb_graph.proofs.of_format.SizeLemmas.{size_bounds}
+use Rattle.bdb_graph.proofs.of_image.CodeLemmas.{tree_passed}
+use Rattle.bdb_graph.proofs.of_image.HeldLemmas.{table_page, tree_page}
+use Rattle.bdb_pack.specs.of_law_grove.Growing.{IsLater}
+use Rattle.bdb_graph.proofs.of_meta.CommonLemmas.{length-common}
 use Rattle.bdb_pack.specs.Built.{Built, bytes_of, file_so_far, joined_pages}
 use Rattle.bdb_pack.proofs.CutLemmas.{all_size}
 use Rattle.bdb_law_join.specs.Filed.{AreFiled, BtreesAreSpelled, FiledPartsAreJoined, IsSpelled, head_for}

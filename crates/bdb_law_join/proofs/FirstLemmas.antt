@@ -2,19 +2,19 @@
 use Rattle.std.proofs.Common.{◌≡◌, ℕ, Bool, true, false, List, None, arith, refl, sym, ◌∙◌, ap, inl, inr}
 use Rattle.std.specs.Prelude.{◌&&◌, ◌||◌}
 use Rattle.std.proofs.lemmas.Bool.{cases_Bool}
-use Rattle.bdb_format.specs.declared.metadata.BtreeMeta.{BtreeMeta}
-use Rattle.bdb_format.specs.declared.metadata.FileKind.{FileKind}
-use Rattle.bdb_format.specs.declared.metadata.FileKind.TheVariants.{Btree, Hash, Queue}
-use Rattle.bdb_format.specs.declared.metadata.Head.{Head}
-use Rattle.bdb_format.specs.Flags.{is_recno, names_databases}
-use Rattle.bdb_format.specs.Numbers.{byte_at, has_bit}
-use Rattle.bdb_format.specs.Page.{BtreeFields, Meta}
-use Rattle.bdb_format.specs.Reading.{abstract_page, btree_fields, is_zero, page_as, page_type}
-use Rattle.bdb_format.specs.Rows.{are_wrong_flags, form_code, metadata_rows, type_of}
-use Rattle.bdb_format.proofs.GraphLemmas.{typed_page}
-use Rattle.bdb_format.proofs.VerdictLemmas.{AllFail, none_is_first_row}
-use Rattle.bdb_image.proofs.CodeLemmas.{first_page_code, is_same}
-use Rattle.bdb_format.proofs.PageLemmas.{some_type, zero_byte}
+use Rattle.bdb_graph.specs.of_format.declared.metadata.BtreeMeta.{BtreeMeta}
+use Rattle.bdb_graph.specs.of_format.declared.metadata.FileKind.{FileKind}
+use Rattle.bdb_graph.specs.of_format.declared.metadata.FileKind.TheVariants.{Btree, Hash, Queue}
+use Rattle.bdb_graph.specs.of_format.declared.metadata.Head.{Head}
+use Rattle.bdb_graph.specs.of_format.Flags.{is_recno, names_databases}
+use Rattle.bdb_graph.specs.of_format.Numbers.{byte_at, has_bit}
+use Rattle.bdb_graph.specs.of_format.Page.{BtreeFields, Meta}
+use Rattle.bdb_graph.specs.of_format.Reading.{abstract_page, btree_fields, is_zero, page_as, page_type}
+use Rattle.bdb_graph.specs.of_format.Rows.{are_wrong_flags, form_code, metadata_rows, type_of}
+use Rattle.bdb_graph.proofs.of_format.GraphLemmas.{typed_page}
+use Rattle.bdb_graph.proofs.of_format.VerdictLemmas.{AllFail, none_is_first_row}
+use Rattle.bdb_graph.proofs.of_image.CodeLemmas.{first_page_code, is_same}
+use Rattle.bdb_graph.proofs.of_format.PageLemmas.{some_type, zero_byte}
 
 -- the rows of page 0 are those of metadata of its kind
 rows_fail : (head : Head) (page : List ℕ) (kind : FileKind) → head.kind ≡ kind → form_code head 0 page ≡ None

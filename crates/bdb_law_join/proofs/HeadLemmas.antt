@@ -4,20 +4,20 @@ use Rattle.std.proofs.Common.{Bool, true, false, List, [], ◌∷◌, length, Op
 use Rattle.std.specs.Prelude.{◌==◌, nat_le, nat_lt, not}
 use Rattle.std.proofs.Math.Nat.{mul-div_cancel, mul-mod_left}
 use Rattle.std.proofs.lemmas.Bool.{and_right, eq-eqb, le-ltb, lt-leb, ne_eqb}
-use Rattle.bdb_format.specs.declared.kinds.Order.{Order}
-use Rattle.bdb_format.specs.declared.metadata.FileKind.{FileKind}
-use Rattle.bdb_format.specs.declared.metadata.FileKind.TheVariants.{Btree, Hash, Queue}
-use Rattle.bdb_format.specs.declared.metadata.Head.{Head}
-use Rattle.bdb_format.specs.HeadOf.{file_kind, head_of, head_rows, heap_magic, is_magic}
-use Rattle.bdb_format.specs.HeadOf.{is_page_size, is_past, last_page, magic_at, order_of, pages_of}
-use Rattle.bdb_format.specs.Numbers.{byte_at, four_at, has_bit}
-use Rattle.bdb_format.specs.Rows.{form_code, is_queue}
-use Rattle.bdb_format.specs.Rows.{magic_of, metadata_rows, page_code, type_of, version_of}
-use Rattle.bdb_format.specs.Table.{Row, first_row}
-use Rattle.bdb_format.proofs.VerdictLemmas.{AllFail, none_is_first_row}
-use Rattle.bdb_format.proofs.SizeLemmas.{size_bounds}
-use Rattle.bdb_image.proofs.CodeLemmas.{code_by, first_page_code, tree_metadata}
-use Rattle.bdb_meta.specs.RowGroups.{flag_rows}
+use Rattle.bdb_graph.specs.of_format.declared.kinds.Order.{Order}
+use Rattle.bdb_graph.specs.of_format.declared.metadata.FileKind.{FileKind}
+use Rattle.bdb_graph.specs.of_format.declared.metadata.FileKind.TheVariants.{Btree, Hash, Queue}
+use Rattle.bdb_graph.specs.of_format.declared.metadata.Head.{Head}
+use Rattle.bdb_graph.specs.of_format.HeadOf.{file_kind, head_of, head_rows, heap_magic, is_magic}
+use Rattle.bdb_graph.specs.of_format.HeadOf.{is_page_size, is_past, last_page, magic_at, order_of, pages_of}
+use Rattle.bdb_graph.specs.of_format.Numbers.{byte_at, four_at, has_bit}
+use Rattle.bdb_graph.specs.of_format.Rows.{form_code, is_queue}
+use Rattle.bdb_graph.specs.of_format.Rows.{magic_of, metadata_rows, page_code, type_of, version_of}
+use Rattle.bdb_graph.specs.of_format.Table.{Row, first_row}
+use Rattle.bdb_graph.proofs.of_format.VerdictLemmas.{AllFail, none_is_first_row}
+use Rattle.bdb_graph.proofs.of_format.SizeLemmas.{size_bounds}
+use Rattle.bdb_graph.proofs.of_image.CodeLemmas.{code_by, first_page_code, tree_metadata}
+use Rattle.bdb_graph.specs.of_meta.RowGroups.{flag_rows}
 use Rattle.bdb_law_join.proofs.CommonLemmas.{ReadsAs}
 
 -- no row is the first that holds where none does

@@ -1,16 +1,16 @@
 -- Joined parts have no fault of any stage but that of a master.
 use Rattle.std.proofs.Common.{◌≡◌, ◌<◌, List, [], ◌∷◌, arith}
-use Rattle.bdb_format.specs.File.{File, file_of}
-use Rattle.bdb_format.specs.Verdict.{faults_of, ownership_faults, reach_faults, head_faults, tail_faults}
-use Rattle.bdb_format.proofs.GraphLemmas.{each_page_has_one_role}
-use Rattle.bdb_format.proofs.VerdictLemmas.{none_in}
-use Rattle.bdb_format.proofs.FileLemmas.{count_is, last_page}
+use Rattle.bdb_graph.specs.of_format.File.{File, file_of}
+use Rattle.bdb_graph.specs.of_format.Verdict.{faults_of, ownership_faults, reach_faults, head_faults, tail_faults}
+use Rattle.bdb_graph.proofs.of_format.GraphLemmas.{each_page_has_one_role}
+use Rattle.bdb_graph.proofs.of_format.VerdictLemmas.{none_in}
+use Rattle.bdb_graph.proofs.of_format.FileLemmas.{count_is, last_page}
 use Rattle.bdb_law_join.specs.Joining.{Joint, AreJoined, JoinsUnderMaster}
 use Rattle.bdb_law_join.proofs.SourceLemmas.{references_none}
 use Rattle.bdb_law_join.proofs.RoleLemmas.{role_of}
 use Rattle.bdb_law_join.proofs.ReachLemmas.{reached}
 use Rattle.bdb_law_join.proofs.StageLemmas.{contents_none, form_none, head_none, pages_of_file, structure_none, tail_none}
-use Rattle.bdb_format.proofs.FaultLemmas.{or_none}
+use Rattle.bdb_graph.proofs.of_format.FaultLemmas.{or_none}
 
 -- stages 4 and 5
 graph_none : (file : File) (joints : List Joint) → AreJoined file joints → file.last < file.count

@@ -5,20 +5,20 @@ use Rattle.std.specs.Prelude.{◌&&◌, ◌||◌}
 use Rattle.std.specs.List.{Contains, range_with_len}
 use Rattle.std.proofs.lemmas.Bool.{cases_Bool, not-false}
 use Rattle.std.proofs.lemmas.List.FromFn.{get_or-map-range_with_len, length-map-range_with_len}
-use Rattle.bdb_format.specs.declared.kinds.Order.{Order}
-use Rattle.bdb_format.specs.declared.metadata.Head.{Head}
-use Rattle.bdb_format.specs.Contents.{StoredPair, pair_at, pairs_in}
-use Rattle.bdb_format.specs.File.{File}
-use Rattle.bdb_format.specs.Numbers.{byte_at}
-use Rattle.bdb_format.specs.Page.{Chain, Content, Inline, Item, Listed, Set, Tree, Unknown}
-use Rattle.bdb_format.specs.Page.{PageType, HashPage, LeafPage}
-use Rattle.bdb_format.specs.Reading.{abstract_page, hash_item_at, is_zero, leaf_item_at, listed, page_as, page_type}
-use Rattle.bdb_format.specs.References.{is_shared_key}
-use Rattle.bdb_format.specs.Rows.{form_code, hash_rows, item_rows, leaf_rows, listed_code, typed_code}
-use Rattle.bdb_format.specs.Table.{first_row}
-use Rattle.bdb_format.proofs.GraphLemmas.{typed_none, typed_page, zero_page}
-use Rattle.bdb_format.proofs.ItemLemmas.{no_item_row}
-use Rattle.bdb_format.proofs.MemberLemmas.{no_member, of_map, of_range}
+use Rattle.bdb_graph.specs.of_format.declared.kinds.Order.{Order}
+use Rattle.bdb_graph.specs.of_format.declared.metadata.Head.{Head}
+use Rattle.bdb_graph.specs.of_format.Contents.{StoredPair, pair_at, pairs_in}
+use Rattle.bdb_graph.specs.of_format.File.{File}
+use Rattle.bdb_graph.specs.of_format.Numbers.{byte_at}
+use Rattle.bdb_graph.specs.of_format.Page.{Chain, Content, Inline, Item, Listed, Set, Tree, Unknown}
+use Rattle.bdb_graph.specs.of_format.Page.{PageType, HashPage, LeafPage}
+use Rattle.bdb_graph.specs.of_format.Reading.{abstract_page, hash_item_at, is_zero, leaf_item_at, listed, page_as, page_type}
+use Rattle.bdb_graph.specs.of_format.References.{is_shared_key}
+use Rattle.bdb_graph.specs.of_format.Rows.{form_code, hash_rows, item_rows, leaf_rows, listed_code, typed_code}
+use Rattle.bdb_graph.specs.of_format.Table.{first_row}
+use Rattle.bdb_graph.proofs.of_format.GraphLemmas.{typed_none, typed_page, zero_page}
+use Rattle.bdb_graph.proofs.of_format.ItemLemmas.{no_item_row}
+use Rattle.bdb_graph.proofs.of_format.MemberLemmas.{no_member, of_map, of_range}
 
 -- content of a known kind
 abbrev pub IsKnown : Content → Type 0

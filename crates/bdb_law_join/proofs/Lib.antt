@@ -16,3 +16,7 @@ pub mod RoleLemmas
 pub mod SourceLemmas
 pub mod StageLemmas
 pub mod WrittenLemmas
+pub use Rattle.bdb_graph.proofs as of_graph
+pub use Rattle.bdb_graph.proofs.of_image as of_image
+pub use Rattle.bdb_graph.proofs.of_meta as of_meta
+pub use Rattle.bdb_pack.proofs as of_pack

@@ -6,26 +6,26 @@ use Rattle.std.specs.List.{Contains, filter, flat_map, list_any}
 use Rattle.std.specs.Str.{bytes_eq}
 use Rattle.std.proofs.lemmas.Bool.{cases_Bool, cases_lt, and_left, and_right, and_parts, eq-eqb, lt-ltb, or_parts, and_from}
 use Rattle.std.proofs.lemmas.List.{get_or_past}
-use Rattle.bdb_format.specs.declared.metadata.BtreeMeta.{BtreeMeta}
-use Rattle.bdb_format.specs.Page.{BtreeFields, Chain, Content, Inline, Meta, NoType, Set, Tree, Unknown}
-use Rattle.bdb_format.specs.Flags.{has_duplicates, is_recno, names_databases}
-use Rattle.bdb_format.specs.File.{File, file_of, page_at, page_bytes}
-use Rattle.bdb_format.specs.Graph.{is_meta}
-use Rattle.bdb_format.specs.HeadOf.{head_of}
-use Rattle.bdb_format.specs.Chains.{value_of}
-use Rattle.bdb_format.specs.Contents.{StoredPair, data_of, pairs_in, pairs_of, tree_pairs}
-use Rattle.bdb_format.specs.ContentRows.{btree_contents, database_rows, has_duplicate, is_duplicate, is_set, recno_contents, repeated}
-use Rattle.bdb_format.specs.Leaves.{leaves}
-use Rattle.bdb_format.specs.Lists.{BytesKey, btree_list, is_key, listed_pair}
-use Rattle.bdb_format.specs.Master.{is_named_kind, is_none, is_page, master_in, master_pairs}
-use Rattle.bdb_format.specs.Master.{master_rows, misses_target, named_by, naming, page_named}
-use Rattle.bdb_format.specs.Master.{pairs_under}
-use Rattle.bdb_format.specs.Verdict.{holding, master_faults}
-use Rattle.bdb_format.proofs.MemberLemmas.{first_member, in_filter, in_map, later_member, member_cases, no_member, none_pass, none_passes}
-use Rattle.bdb_format.proofs.MemberLemmas.{of_filter, of_flat_map}
-use Rattle.bdb_format.proofs.RepeatLemmas.{repeated_after, repeated_is}
-use Rattle.bdb_format.proofs.VerdictLemmas.{AllFail, all_fail, no_faults, none_holds}
-use Rattle.bdb_format.proofs.FileLemmas.{last_page, page_is, pages_counted}
+use Rattle.bdb_graph.specs.of_format.declared.metadata.BtreeMeta.{BtreeMeta}
+use Rattle.bdb_graph.specs.of_format.Page.{BtreeFields, Chain, Content, Inline, Meta, NoType, Set, Tree, Unknown}
+use Rattle.bdb_graph.specs.of_format.Flags.{has_duplicates, is_recno, names_databases}
+use Rattle.bdb_graph.specs.of_format.File.{File, file_of, page_at, page_bytes}
+use Rattle.bdb_graph.specs.of_format.Graph.{is_meta}
+use Rattle.bdb_graph.specs.of_format.HeadOf.{head_of}
+use Rattle.bdb_graph.specs.of_format.Chains.{value_of}
+use Rattle.bdb_graph.specs.of_format.Contents.{StoredPair, data_of, pairs_in, pairs_of, tree_pairs}
+use Rattle.bdb_graph.specs.of_format.ContentRows.{btree_contents, database_rows, has_duplicate, is_duplicate, is_set, recno_contents, repeated}
+use Rattle.bdb_graph.specs.of_format.Leaves.{leaves}
+use Rattle.bdb_graph.specs.of_format.Lists.{BytesKey, btree_list, is_key, listed_pair}
+use Rattle.bdb_graph.specs.of_format.Master.{is_named_kind, is_none, is_page, master_in, master_pairs}
+use Rattle.bdb_graph.specs.of_format.Master.{master_rows, misses_target, named_by, naming, page_named}
+use Rattle.bdb_graph.specs.of_format.Master.{pairs_under}
+use Rattle.bdb_graph.specs.of_format.Verdict.{holding, master_faults}
+use Rattle.bdb_graph.proofs.of_format.MemberLemmas.{first_member, in_filter, in_map, later_member, member_cases, no_member, none_pass, none_passes}
+use Rattle.bdb_graph.proofs.of_format.MemberLemmas.{of_filter, of_flat_map}
+use Rattle.bdb_graph.proofs.of_format.RepeatLemmas.{repeated_after, repeated_is}
+use Rattle.bdb_graph.proofs.of_format.VerdictLemmas.{AllFail, all_fail, no_faults, none_holds}
+use Rattle.bdb_graph.proofs.of_format.FileLemmas.{last_page, page_is, pages_counted}
 use Rattle.bdb_law_join.specs.Joining.{AreJoined, HasForm, IsJoined, IsMetaOf, Joint}
 use Rattle.bdb_law_join.specs.Masters.{AreNamesApart, Entry, IsUnderMaster}
 use Rattle.bdb_law_join.proofs.FirstLemmas.{first_flags, master_is_keyed}

@@ -5,19 +5,19 @@ use Rattle.std.specs.List.{Contains, filter, enumerate_from}
 use Rattle.std.proofs.lemmas.Bool.{eqb-true}
 use Rattle.std.proofs.lemmas.List.{map-id}
 use Rattle.std.proofs.lemmas.Simd.{map-map}
-use Rattle.bdb_format.specs.declared.metadata.FileKind.TheVariants.{Queue as QueueFile}
-use Rattle.bdb_format.specs.declared.references.Reference.{Reference}
-use Rattle.bdb_format.specs.declared.references.Sort.{Sort}
-use Rattle.bdb_format.specs.declared.references.Sort.TheVariants.{Root}
-use Rattle.bdb_format.specs.Page.{Metadata, BtreeFields, HashFields, QueueFields, Meta}
-use Rattle.bdb_format.specs.File.{File, page_at}
-use Rattle.bdb_format.specs.References.{first_free, targets_in, refs, asked_by}
-use Rattle.bdb_format.specs.Graph.{held_by}
-use Rattle.bdb_format.proofs.MemberLemmas.{of_map}
-use Rattle.bdb_law_grove.specs.Part.{entrances, entrance_sort, entrance_asks}
-use Rattle.bdb_law_grove.proofs.OwnerLemmas.{names_page}
-use Rattle.bdb_law_grove.proofs.GroveLemmas.{reference_of, enumerated_names, of_references, refs_of}
-use Rattle.bdb_law_grove.proofs.SeveralLemmas.{count, named_count}
+use Rattle.bdb_graph.specs.of_format.declared.metadata.FileKind.TheVariants.{Queue as QueueFile}
+use Rattle.bdb_graph.specs.of_format.declared.references.Reference.{Reference}
+use Rattle.bdb_graph.specs.of_format.declared.references.Sort.{Sort}
+use Rattle.bdb_graph.specs.of_format.declared.references.Sort.TheVariants.{Root}
+use Rattle.bdb_graph.specs.of_format.Page.{Metadata, BtreeFields, HashFields, QueueFields, Meta}
+use Rattle.bdb_graph.specs.of_format.File.{File, page_at}
+use Rattle.bdb_graph.specs.of_format.References.{first_free, targets_in, refs, asked_by}
+use Rattle.bdb_graph.specs.of_format.Graph.{held_by}
+use Rattle.bdb_graph.proofs.of_format.MemberLemmas.{of_map}
+use Rattle.bdb_pack.specs.of_law_grove.Part.{entrances, entrance_sort, entrance_asks}
+use Rattle.bdb_pack.proofs.of_law_grove.OwnerLemmas.{names_page}
+use Rattle.bdb_pack.proofs.of_law_grove.GroveLemmas.{reference_of, enumerated_names, of_references, refs_of}
+use Rattle.bdb_pack.proofs.of_law_grove.SeveralLemmas.{count, named_count}
 use Rattle.bdb_law_join.specs.Joining.{NamesNoFree}
 
 no_free : (p free : ℕ) → (p ≡ 0 → free ≡ 0) → first_free p free ≡ []

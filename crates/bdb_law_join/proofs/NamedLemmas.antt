@@ -1,13 +1,13 @@
 -- The databases that a master names.
 use Rattle.std.proofs.Common.{◌≡◌, List, [], ◌∷◌, ◌++◌, map, Some, refl, sym, ◌∙◌, ap, subst}
 use Rattle.std.specs.List.{AllZip, Contains, flat_map}
-use Rattle.bdb_format.specs.declared.metadata.BtreeMeta.{BtreeMeta}
-use Rattle.bdb_format.specs.File.{File, file_of, page_at}
-use Rattle.bdb_format.specs.Contents.{StoredPair}
-use Rattle.bdb_format.specs.ContentRows.{fields_in}
-use Rattle.bdb_format.specs.Master.{master_in, master_pairs}
-use Rattle.bdb_format.specs.Databases.{Database, database_on, databases, databases_under, named_database}
-use Rattle.bdb_format.proofs.MemberLemmas.{first_member, later_member}
+use Rattle.bdb_graph.specs.of_format.declared.metadata.BtreeMeta.{BtreeMeta}
+use Rattle.bdb_graph.specs.of_format.File.{File, file_of, page_at}
+use Rattle.bdb_graph.specs.of_format.Contents.{StoredPair}
+use Rattle.bdb_graph.specs.of_format.ContentRows.{fields_in}
+use Rattle.bdb_graph.specs.of_format.Master.{master_in, master_pairs}
+use Rattle.bdb_graph.specs.of_format.Databases.{Database, database_on, databases, databases_under, named_database}
+use Rattle.bdb_graph.proofs.of_format.MemberLemmas.{first_member, later_member}
 use Rattle.bdb_law_join.specs.Joining.{AreJoined, Joint}
 use Rattle.bdb_law_join.specs.Masters.{IsDatabase, JoinsAll}
 use Rattle.bdb_law_join.proofs.JoinLemmas.{joins_under_master}

@@ -3,11 +3,11 @@ use Rattle.std.proofs.Common.{◌≡◌, ℕ, ◌+◌, ◌<◌, ◌≤◌, Bool,
 use Rattle.std.specs.Prelude.{◌==◌}
 use Rattle.std.specs.List.{filter, range_with_len}
 use Rattle.std.proofs.lemmas.List.{append-nil}
-use Rattle.bdb_format.specs.File.{File}
-use Rattle.bdb_format.specs.Graph.{held_by, all_references, owners}
-use Rattle.bdb_format.proofs.MemberLemmas.{of_range}
-use Rattle.bdb_law_grove.specs.Part.{owners_among}
-use Rattle.bdb_law_grove.proofs.OwnerLemmas.{NamesNot, filter_first, held_none, names_page, one_of_range}
+use Rattle.bdb_graph.specs.of_format.File.{File}
+use Rattle.bdb_graph.specs.of_format.Graph.{held_by, all_references, owners}
+use Rattle.bdb_graph.proofs.of_format.MemberLemmas.{of_range}
+use Rattle.bdb_pack.specs.of_law_grove.Part.{owners_among}
+use Rattle.bdb_pack.proofs.of_law_grove.OwnerLemmas.{NamesNot, filter_first, held_none, names_page, one_of_range}
 
 -- where only pages of a set name a page, its owners are those of that set
 pub owners_are : (pages : ℕ → Bool) (file : File) (p : ℕ) → ((q : ℕ) → q ≤ file.last → pages q ≡ false → NamesNot file p q)

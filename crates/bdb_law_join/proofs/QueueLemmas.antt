@@ -4,30 +4,30 @@ use Rattle.std.proofs.Common.{arith, refl, sym, ◌∙◌, ap, inl, inr}
 use Rattle.std.specs.List.{Contains, range_with_len}
 use Rattle.std.specs.Option.{option_to_list}
 use Rattle.std.proofs.lemmas.Bool.{cases_Bool, eqb-true, or_left}
-use Rattle.bdb_format.specs.declared.metadata.FileKind.TheVariants.{Queue as QueueFile}
-use Rattle.bdb_format.specs.declared.metadata.Head.{Head}
-use Rattle.bdb_format.specs.declared.metadata.QueueMeta.{QueueMeta}
-use Rattle.bdb_format.specs.declared.references.Reference.{Reference}
-use Rattle.bdb_format.specs.HeadOf.{head_of}
-use Rattle.bdb_format.specs.Numbers.{byte_at}
-use Rattle.bdb_format.specs.Page.{Metadata, QueueFields, Page, Zero, Free, Meta, Hash, Internal, RecnoInternal}
-use Rattle.bdb_format.specs.Page.{Leaf, RecnoLeaf, DupLeaf, Overflow, Queue, NoType}
-use Rattle.bdb_format.specs.Reading.{abstract_page, is_zero, page_as, page_type, queue_fields}
-use Rattle.bdb_format.specs.Rows.{form_code, may_have_type}
-use Rattle.bdb_format.specs.File.{File, file_of, page_at, page_bytes}
-use Rattle.bdb_format.specs.References.{refs}
-use Rattle.bdb_format.specs.Graph.{Owner, all_references, held_by, is_anchor, is_anchor_in, is_meta, is_reserve}
-use Rattle.bdb_format.specs.Chains.{chains_in}
-use Rattle.bdb_format.specs.Leaves.{leaf_places, root_references}
-use Rattle.bdb_format.specs.ContentRows.{contents_rows, database_rows, fields_in, fields_of, holds_code, holds_somewhere}
-use Rattle.bdb_format.specs.Verdict.{contents_faults, faults_of, first_judgement, form_faults, holding, master_faults}
-use Rattle.bdb_format.specs.Verdict.{ownership_faults, reach_faults, reference_faults, structure_faults}
-use Rattle.bdb_format.proofs.GraphLemmas.{each_page_has_one_role, type_fits, typed_page, zero_page}
-use Rattle.bdb_format.proofs.ListLemmas.{only_member}
-use Rattle.bdb_format.proofs.MemberLemmas.{is_empty, no_member, none_pass, of_flat_map, of_map}
-use Rattle.bdb_format.proofs.PageLemmas.{later_type}
-use Rattle.bdb_format.proofs.VerdictLemmas.{no_code, no_codes_at, no_faults, none_holds, none_in, none_within}
-use Rattle.bdb_format.proofs.FileLemmas.{kind_is, last_page, page_is}
+use Rattle.bdb_graph.specs.of_format.declared.metadata.FileKind.TheVariants.{Queue as QueueFile}
+use Rattle.bdb_graph.specs.of_format.declared.metadata.Head.{Head}
+use Rattle.bdb_graph.specs.of_format.declared.metadata.QueueMeta.{QueueMeta}
+use Rattle.bdb_graph.specs.of_format.declared.references.Reference.{Reference}
+use Rattle.bdb_graph.specs.of_format.HeadOf.{head_of}
+use Rattle.bdb_graph.specs.of_format.Numbers.{byte_at}
+use Rattle.bdb_graph.specs.of_format.Page.{Metadata, QueueFields, Page, Zero, Free, Meta, Hash, Internal, RecnoInternal}
+use Rattle.bdb_graph.specs.of_format.Page.{Leaf, RecnoLeaf, DupLeaf, Overflow, Queue, NoType}
+use Rattle.bdb_graph.specs.of_format.Reading.{abstract_page, is_zero, page_as, page_type, queue_fields}
+use Rattle.bdb_graph.specs.of_format.Rows.{form_code, may_have_type}
+use Rattle.bdb_graph.specs.of_format.File.{File, file_of, page_at, page_bytes}
+use Rattle.bdb_graph.specs.of_format.References.{refs}
+use Rattle.bdb_graph.specs.of_format.Graph.{Owner, all_references, held_by, is_anchor, is_anchor_in, is_meta, is_reserve}
+use Rattle.bdb_graph.specs.of_format.Chains.{chains_in}
+use Rattle.bdb_graph.specs.of_format.Leaves.{leaf_places, root_references}
+use Rattle.bdb_graph.specs.of_format.ContentRows.{contents_rows, database_rows, fields_in, fields_of, holds_code, holds_somewhere}
+use Rattle.bdb_graph.specs.of_format.Verdict.{contents_faults, faults_of, first_judgement, form_faults, holding, master_faults}
+use Rattle.bdb_graph.specs.of_format.Verdict.{ownership_faults, reach_faults, reference_faults, structure_faults}
+use Rattle.bdb_graph.proofs.of_format.GraphLemmas.{each_page_has_one_role, type_fits, typed_page, zero_page}
+use Rattle.bdb_graph.proofs.of_format.ListLemmas.{only_member}
+use Rattle.bdb_graph.proofs.of_format.MemberLemmas.{is_empty, no_member, none_pass, of_flat_map, of_map}
+use Rattle.bdb_graph.proofs.of_format.PageLemmas.{later_type}
+use Rattle.bdb_graph.proofs.of_format.VerdictLemmas.{no_code, no_codes_at, no_faults, none_holds, none_in, none_within}
+use Rattle.bdb_graph.proofs.of_format.FileLemmas.{kind_is, last_page, page_is}
 use Rattle.bdb_graph.proofs.ReachLemmas.{at_end}
 use Rattle.bdb_law_join.specs.Queues.{QueuesAreSound}
 use Rattle.bdb_law_join.proofs.AloneLemmas.{master_rows_fail, named_kind, no_pairs_at, unnamed_at}

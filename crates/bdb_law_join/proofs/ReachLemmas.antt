@@ -2,14 +2,14 @@
 use Rattle.std.proofs.Common.{◌≡◌, ℕ, ◌<◌, ◌≤◌, true, List, [], ◌∷◌, length, Some, arith, refl, sym, ◌∙◌, ap, subst, inl, inr}
 use Rattle.std.specs.List.{Contains}
 use Rattle.std.proofs.lemmas.Bool.{or_left}
-use Rattle.bdb_format.specs.File.{File}
-use Rattle.bdb_format.specs.Graph.{Owner, owners, first_holder, is_anchor, is_reserve, reaches}
-use Rattle.bdb_format.proofs.GraphLemmas.{IsOwner, is_owner}
-use Rattle.bdb_format.proofs.MemberLemmas.{first_member, member_or_not}
+use Rattle.bdb_graph.specs.of_format.File.{File}
+use Rattle.bdb_graph.specs.of_format.Graph.{Owner, owners, first_holder, is_anchor, is_reserve, reaches}
+use Rattle.bdb_graph.proofs.of_format.GraphLemmas.{IsOwner, is_owner}
+use Rattle.bdb_graph.proofs.of_format.MemberLemmas.{first_member, member_or_not}
 use Rattle.bdb_graph.specs.Marks.{IsFit}
 use Rattle.bdb_graph.proofs.ReachLemmas.{at_end, reaches_onward}
-use Rattle.bdb_law_grove.specs.Part.{IsWayIn, entrances}
-use Rattle.bdb_law_grove.proofs.BesideLemmas.{first_inside}
+use Rattle.bdb_pack.specs.of_law_grove.Part.{IsWayIn, entrances}
+use Rattle.bdb_pack.proofs.of_law_grove.BesideLemmas.{first_inside}
 use Rattle.bdb_law_join.specs.Joining.{Joint, AreJoined}
 use Rattle.bdb_law_join.proofs.SourceLemmas.{source_into, references_none}
 use Rattle.bdb_law_join.proofs.RoleLemmas.{entrance_count, inner_owners, joint_is_anchor}

@@ -3,16 +3,16 @@ use Rattle.std.proofs.Common.{◌≡◌, ◌⊎◌, ℕ, ◌≤◌, true, false,
 use Rattle.std.specs.Prelude.{◌==◌, ◌&&◌}
 use Rattle.std.specs.List.{Contains}
 use Rattle.std.proofs.lemmas.Bool.{eqb-false}
-use Rattle.bdb_format.specs.declared.metadata.FileKind.{FileKind}
-use Rattle.bdb_format.specs.declared.metadata.FileKind.TheVariants.{Btree, Hash as HashFile, Queue as QueueFile}
-use Rattle.bdb_format.specs.Page.{Metadata, BtreeFields, HashFields, QueueFields, Page}
-use Rattle.bdb_format.specs.File.{File, page_at, header_in}
-use Rattle.bdb_format.specs.Graph.{Owner, owners, is_anchor, is_anchor_in, is_meta}
-use Rattle.bdb_format.specs.Graph.{is_head_reference, has_heads_alone, HasRole, IsOwnedOnce, IsSharedHead}
-use Rattle.bdb_format.proofs.GraphLemmas.{IsOwner, is_owner, anchor_unowned}
-use Rattle.bdb_format.proofs.MemberLemmas.{first_member, member_or_not}
-use Rattle.bdb_law_grove.specs.Part.{IsOwnedBy, are_heads_alone, entrances, entrance_sort, owners_among}
-use Rattle.bdb_law_grove.proofs.SeveralLemmas.{count, some_count}
+use Rattle.bdb_graph.specs.of_format.declared.metadata.FileKind.{FileKind}
+use Rattle.bdb_graph.specs.of_format.declared.metadata.FileKind.TheVariants.{Btree, Hash as HashFile, Queue as QueueFile}
+use Rattle.bdb_graph.specs.of_format.Page.{Metadata, BtreeFields, HashFields, QueueFields, Page}
+use Rattle.bdb_graph.specs.of_format.File.{File, page_at, header_in}
+use Rattle.bdb_graph.specs.of_format.Graph.{Owner, owners, is_anchor, is_anchor_in, is_meta}
+use Rattle.bdb_graph.specs.of_format.Graph.{is_head_reference, has_heads_alone, HasRole, IsOwnedOnce, IsSharedHead}
+use Rattle.bdb_graph.proofs.of_format.GraphLemmas.{IsOwner, is_owner, anchor_unowned}
+use Rattle.bdb_graph.proofs.of_format.MemberLemmas.{first_member, member_or_not}
+use Rattle.bdb_pack.specs.of_law_grove.Part.{IsOwnedBy, are_heads_alone, entrances, entrance_sort, owners_among}
+use Rattle.bdb_pack.proofs.of_law_grove.SeveralLemmas.{count, some_count}
 use Rattle.bdb_law_join.specs.Joining.{Joint, AreJoined}
 use Rattle.bdb_law_join.proofs.OwnerLemmas.{owners_are, owners_of_one}
 use Rattle.bdb_law_join.proofs.MetaLemmas.{count_of_meta}

@@ -1,15 +1,15 @@
 -- Where a reference of joined parts comes from, and that it fits.
 use Rattle.std.proofs.Common.{◌≡◌, ◌⊎◌, ℕ, ◌+◌, ◌≤◌, true, false, List, [], Option, Some, None, arith, refl, ◌∙◌, subst, inl, inr}
 use Rattle.std.specs.List.{Contains}
-use Rattle.bdb_format.specs.declared.references.Reference.{Reference}
-use Rattle.bdb_format.specs.Table.{first_row}
-use Rattle.bdb_format.specs.Page.{Metadata, Meta}
-use Rattle.bdb_format.specs.File.{File, page_at}
-use Rattle.bdb_format.specs.References.{refs, fit_rows, fit_code}
-use Rattle.bdb_format.specs.Verdict.{fails_as, some_fails, reference_rows, reference_faults, holding}
-use Rattle.bdb_format.proofs.MemberLemmas.{none_pass}
-use Rattle.bdb_format.proofs.VerdictLemmas.{no_faults, none_holds}
-use Rattle.bdb_law_grove.specs.Part.{entrance_sort, entrance_asks}
+use Rattle.bdb_graph.specs.of_format.declared.references.Reference.{Reference}
+use Rattle.bdb_graph.specs.of_format.Table.{first_row}
+use Rattle.bdb_graph.specs.of_format.Page.{Metadata, Meta}
+use Rattle.bdb_graph.specs.of_format.File.{File, page_at}
+use Rattle.bdb_graph.specs.of_format.References.{refs, fit_rows, fit_code}
+use Rattle.bdb_graph.specs.of_format.Verdict.{fails_as, some_fails, reference_rows, reference_faults, holding}
+use Rattle.bdb_graph.proofs.of_format.MemberLemmas.{none_pass}
+use Rattle.bdb_graph.proofs.of_format.VerdictLemmas.{no_faults, none_holds}
+use Rattle.bdb_pack.specs.of_law_grove.Part.{entrance_sort, entrance_asks}
 use Rattle.bdb_law_join.specs.Joining.{Joint, AreJoined}
 use Rattle.bdb_law_join.proofs.MetaLemmas.{NamesEntrance, names_entrance, asks_same}
 

@@ -5,27 +5,27 @@ use Rattle.std.specs.Prelude.{◌==◌}
 use Rattle.std.specs.List.{Contains, filter, list_any, range_with_len}
 use Rattle.std.specs.Option.{option_to_list}
 use Rattle.std.proofs.lemmas.Bool.{and_right, or_parts, or_from}
-use Rattle.bdb_format.specs.declared.metadata.Head.{Head}
-use Rattle.bdb_format.specs.declared.references.Reference.{Reference}
-use Rattle.bdb_format.specs.declared.references.Sort.TheVariants.{Root}
-use Rattle.bdb_format.specs.Table.{Row, ◌:?◌, first_row}
-use Rattle.bdb_format.specs.Page.{Metadata, BtreeFields, HashFields, QueueFields, Page, Meta}
-use Rattle.bdb_format.specs.Reading.{abstract_page}
-use Rattle.bdb_format.specs.HeadOf.{head_of, head_rows}
-use Rattle.bdb_format.specs.Rows.{form_code}
-use Rattle.bdb_format.specs.File.{File, file_of, page_at, page_bytes}
-use Rattle.bdb_format.specs.References.{refs}
-use Rattle.bdb_format.specs.Graph.{Owner, all_references, held_by, is_meta}
-use Rattle.bdb_format.specs.Chains.{chains_in, is_wrong_length}
-use Rattle.bdb_format.specs.Leaves.{LeafPlace, is_root_reference, is_wrong_leaf, is_wrong_link, leaf_places, leaves, places_from, root_references}
-use Rattle.bdb_format.specs.ContentRows.{contents_rows, database_rows, fields_in, fields_of, holds_code, holds_somewhere}
-use Rattle.bdb_format.specs.Verdict.{holding, by_page, head_faults}
-use Rattle.bdb_format.specs.Verdict.{tail_faults, form_faults, structure_rows, structure_faults, contents_faults}
-use Rattle.bdb_format.proofs.ListLemmas.{only_member}
-use Rattle.bdb_format.proofs.MemberLemmas.{no_member, none_passes, none_pass, of_map, of_flat_map, of_filter, of_range}
-use Rattle.bdb_format.proofs.VerdictLemmas.{AllFail, all_fail, no_faults, none_holds}
-use Rattle.bdb_format.proofs.FileLemmas.{page_is}
-use Rattle.bdb_law_grove.specs.Part.{entrance_trees, has_wrong_place, is_wrong_place}
+use Rattle.bdb_graph.specs.of_format.declared.metadata.Head.{Head}
+use Rattle.bdb_graph.specs.of_format.declared.references.Reference.{Reference}
+use Rattle.bdb_graph.specs.of_format.declared.references.Sort.TheVariants.{Root}
+use Rattle.bdb_graph.specs.of_format.Table.{Row, ◌:?◌, first_row}
+use Rattle.bdb_graph.specs.of_format.Page.{Metadata, BtreeFields, HashFields, QueueFields, Page, Meta}
+use Rattle.bdb_graph.specs.of_format.Reading.{abstract_page}
+use Rattle.bdb_graph.specs.of_format.HeadOf.{head_of, head_rows}
+use Rattle.bdb_graph.specs.of_format.Rows.{form_code}
+use Rattle.bdb_graph.specs.of_format.File.{File, file_of, page_at, page_bytes}
+use Rattle.bdb_graph.specs.of_format.References.{refs}
+use Rattle.bdb_graph.specs.of_format.Graph.{Owner, all_references, held_by, is_meta}
+use Rattle.bdb_graph.specs.of_format.Chains.{chains_in, is_wrong_length}
+use Rattle.bdb_graph.specs.of_format.Leaves.{LeafPlace, is_root_reference, is_wrong_leaf, is_wrong_link, leaf_places, leaves, places_from, root_references}
+use Rattle.bdb_graph.specs.of_format.ContentRows.{contents_rows, database_rows, fields_in, fields_of, holds_code, holds_somewhere}
+use Rattle.bdb_graph.specs.of_format.Verdict.{holding, by_page, head_faults}
+use Rattle.bdb_graph.specs.of_format.Verdict.{tail_faults, form_faults, structure_rows, structure_faults, contents_faults}
+use Rattle.bdb_graph.proofs.of_format.ListLemmas.{only_member}
+use Rattle.bdb_graph.proofs.of_format.MemberLemmas.{no_member, none_passes, none_pass, of_map, of_flat_map, of_filter, of_range}
+use Rattle.bdb_graph.proofs.of_format.VerdictLemmas.{AllFail, all_fail, no_faults, none_holds}
+use Rattle.bdb_graph.proofs.of_format.FileLemmas.{page_is}
+use Rattle.bdb_pack.specs.of_law_grove.Part.{entrance_trees, has_wrong_place, is_wrong_place}
 use Rattle.bdb_law_join.specs.Joining.{Joint, AreJoined}
 use Rattle.bdb_law_join.proofs.MetaLemmas.{NamesEntrance}
 use Rattle.bdb_law_join.proofs.SourceLemmas.{page_of_meta, source}

@@ -3,16 +3,16 @@ use Rattle.std.proofs.Common.{◌≡◌, ℕ, ◌+◌, ◌≤◌, true, List, []
 use Rattle.std.proofs.Common.{arith, refl, sym, ◌∙◌}
 use Rattle.std.specs.List.{Contains}
 use Rattle.std.proofs.lemmas.List.{get_or-set_other, get_or-set_same, length-set}
-use Rattle.bdb_format.specs.declared.metadata.BtreeMeta.{BtreeMeta}
-use Rattle.bdb_format.specs.Rows.{page_code}
-use Rattle.bdb_format.specs.File.{File}
-use Rattle.bdb_format.specs.HeadOf.{head_of}
-use Rattle.bdb_format.specs.Lists.{ListKey}
-use Rattle.bdb_format.proofs.MemberLemmas.{first_member}
-use Rattle.bdb_format.proofs.FileLemmas.{last_page}
-use Rattle.bdb_law_grove.specs.Growing.{IsCounted, IsLater}
-use Rattle.bdb_law_grove.specs.Part.{IsPart, Part}
-use Rattle.bdb_law_grove.proofs.ChainLemmas.{between_is, is_between}
+use Rattle.bdb_graph.specs.of_format.declared.metadata.BtreeMeta.{BtreeMeta}
+use Rattle.bdb_graph.specs.of_format.Rows.{page_code}
+use Rattle.bdb_graph.specs.of_format.File.{File}
+use Rattle.bdb_graph.specs.of_format.HeadOf.{head_of}
+use Rattle.bdb_graph.specs.of_format.Lists.{ListKey}
+use Rattle.bdb_graph.proofs.of_format.MemberLemmas.{first_member}
+use Rattle.bdb_graph.proofs.of_format.FileLemmas.{last_page}
+use Rattle.bdb_pack.specs.of_law_grove.Growing.{IsCounted, IsLater}
+use Rattle.bdb_pack.specs.of_law_grove.Part.{IsPart, Part}
+use Rattle.bdb_pack.proofs.of_law_grove.ChainLemmas.{between_is, is_between}
 use Rattle.bdb_pack.specs.Built.{Built, bytes_of, file_so_far, with_page}
 use Rattle.bdb_pack.proofs.CutLemmas.{page_whole}
 use Rattle.bdb_law_join.specs.Filed.{AreFiled, IsSpelled}

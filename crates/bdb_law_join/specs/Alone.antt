@@ -1,13 +1,13 @@
 -- One part under page 0, which is no master. Source: docs/FORMAT.md, "Faults" and "Databases of a file".
 use Rattle.std.specs.Prelude.{◌≡◌, ℕ, ◌≤◌, true, List, [], ◌∷◌, None}
-use Rattle.bdb_format.specs.declared.metadata.FileKind.TheVariants.{Queue}
-use Rattle.bdb_format.specs.Page.{Meta}
-use Rattle.bdb_format.specs.File.{File, file_of, page_at}
-use Rattle.bdb_format.specs.Lists.{list_of}
-use Rattle.bdb_format.specs.Master.{master_in}
-use Rattle.bdb_format.specs.Databases.{databases}
-use Rattle.bdb_format.specs.Verdict.{faults_of, verdict_of}
-use Rattle.bdb_law_grove.specs.Part.{Part, IsPart}
+use Rattle.bdb_graph.specs.of_format.declared.metadata.FileKind.TheVariants.{Queue}
+use Rattle.bdb_graph.specs.of_format.Page.{Meta}
+use Rattle.bdb_graph.specs.of_format.File.{File, file_of, page_at}
+use Rattle.bdb_graph.specs.of_format.Lists.{list_of}
+use Rattle.bdb_graph.specs.of_format.Master.{master_in}
+use Rattle.bdb_graph.specs.of_format.Databases.{databases}
+use Rattle.bdb_graph.specs.of_format.Verdict.{faults_of, verdict_of}
+use Rattle.bdb_pack.specs.of_law_grove.Part.{Part, IsPart}
 use Rattle.bdb_law_join.specs.Joining.{HasForm, free_of}
 
 -- the pages above page 0 are a part, and page 0 is its metadata, which names no free page and isn't a master's

@@ -2,15 +2,15 @@
 -- Source: docs/FORMAT.md, "Metadata pages", "What the writing calls spell", "Stage 1, the file" and "Stage 2, the form of a page".
 use Rattle.std.specs.Prelude.{◌≡◌, ℕ, ◌-◌, ◌<◌, true, List, length, None}
 use Rattle.std.specs.List.{Contains}
-use Rattle.bdb_format.specs.declared.metadata.BtreeMeta.{BtreeMeta}
-use Rattle.bdb_format.specs.declared.metadata.FileKind.TheVariants.{Btree}
-use Rattle.bdb_format.specs.declared.metadata.Head.{Head}
-use Rattle.bdb_format.specs.Page.{BtreeFields, Meta}
-use Rattle.bdb_format.specs.Reading.{abstract_page}
-use Rattle.bdb_format.specs.Rows.{form_code, page_code}
-use Rattle.bdb_format.specs.File.{File}
-use Rattle.bdb_law_grove.specs.Growing.{IsCounted, IsLater}
-use Rattle.bdb_law_grove.specs.Part.{IsPart}
+use Rattle.bdb_graph.specs.of_format.declared.metadata.BtreeMeta.{BtreeMeta}
+use Rattle.bdb_graph.specs.of_format.declared.metadata.FileKind.TheVariants.{Btree}
+use Rattle.bdb_graph.specs.of_format.declared.metadata.Head.{Head}
+use Rattle.bdb_graph.specs.of_format.Page.{BtreeFields, Meta}
+use Rattle.bdb_graph.specs.of_format.Reading.{abstract_page}
+use Rattle.bdb_graph.specs.of_format.Rows.{form_code, page_code}
+use Rattle.bdb_graph.specs.of_format.File.{File}
+use Rattle.bdb_pack.specs.of_law_grove.Growing.{IsCounted, IsLater}
+use Rattle.bdb_pack.specs.of_law_grove.Part.{IsPart}
 use Rattle.bdb_pack.specs.Built.{Built, bytes_of, file_so_far, joined_pages}
 use Rattle.bdb_law_join.specs.Joining.{IsJoined, IsMetaOf, Joint, NamesNoFree, ShareOut}
 use Rattle.bdb_law_join.specs.Written.{AreLegal, SpellsMeta}

@@ -2,15 +2,15 @@
 -- Source: docs/FORMAT.md, "Faults".
 use Rattle.std.specs.Prelude.{◌≡◌, ◌⊎◌, ℕ, ◌+◌, ◌≤◌, true, List, [], None}
 use Rattle.std.specs.List.{Contains}
-use Rattle.bdb_format.specs.declared.metadata.FileKind.TheVariants.{Queue}
-use Rattle.bdb_format.specs.Table.{first_row}
-use Rattle.bdb_format.specs.Page.{Metadata, BtreeFields, HashFields, QueueFields, Meta}
-use Rattle.bdb_format.specs.HeadOf.{head_of, head_rows}
-use Rattle.bdb_format.specs.Rows.{form_code}
-use Rattle.bdb_format.specs.File.{File, file_of, page_at, page_bytes}
-use Rattle.bdb_format.specs.Lists.{list_of}
-use Rattle.bdb_format.specs.Verdict.{faults_of, master_faults}
-use Rattle.bdb_law_grove.specs.Part.{Part, IsPart}
+use Rattle.bdb_graph.specs.of_format.declared.metadata.FileKind.TheVariants.{Queue}
+use Rattle.bdb_graph.specs.of_format.Table.{first_row}
+use Rattle.bdb_graph.specs.of_format.Page.{Metadata, BtreeFields, HashFields, QueueFields, Meta}
+use Rattle.bdb_graph.specs.of_format.HeadOf.{head_of, head_rows}
+use Rattle.bdb_graph.specs.of_format.Rows.{form_code}
+use Rattle.bdb_graph.specs.of_format.File.{File, file_of, page_at, page_bytes}
+use Rattle.bdb_graph.specs.of_format.Lists.{list_of}
+use Rattle.bdb_graph.specs.of_format.Verdict.{faults_of, master_faults}
+use Rattle.bdb_pack.specs.of_law_grove.Part.{Part, IsPart}
 
 -- a metadata page, and the part that it names
 pub record Joint : Type 0 where

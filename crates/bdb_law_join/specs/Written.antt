@@ -1,20 +1,20 @@
 -- The pages of a tree under btree metadata that is written over page 0, as the image of a file.
 -- Source: docs/FORMAT.md, "Metadata pages", "What the writing calls spell", "Stage 1, the file" and "Stage 2, the form of a page".
 use Rattle.std.specs.Prelude.{◌≡◌, ℕ, ◌-◌, ◌<◌, ◌≤◌, ◌^◌, IsTrue, false, List, length, None}
-use Rattle.bdb_format.specs.declared.metadata.BtreeMeta.{BtreeMeta}
-use Rattle.bdb_format.specs.declared.metadata.FileKind.TheVariants.{Btree}
-use Rattle.bdb_format.specs.Table.{first_row}
-use Rattle.bdb_format.specs.Page.{BtreeFields}
-use Rattle.bdb_format.specs.Reading.{btree_fields}
-use Rattle.bdb_format.specs.Rows.{page_code}
-use Rattle.bdb_format.specs.Spelling.{btree_bytes}
-use Rattle.bdb_format.specs.Flags.{names_databases}
-use Rattle.bdb_format.specs.HeadOf.{head_of, head_rows, is_page_size}
-use Rattle.bdb_format.specs.File.{File, file_of}
-use Rattle.bdb_format.specs.Lists.{ListKey}
-use Rattle.bdb_law_grove.specs.Part.{IsPart, Part, between}
-use Rattle.bdb_law_grove.specs.Growing.{IsCounted, IsLater}
-use Rattle.bdb_meta.specs.RowGroups.{flag_rows}
+use Rattle.bdb_graph.specs.of_format.declared.metadata.BtreeMeta.{BtreeMeta}
+use Rattle.bdb_graph.specs.of_format.declared.metadata.FileKind.TheVariants.{Btree}
+use Rattle.bdb_graph.specs.of_format.Table.{first_row}
+use Rattle.bdb_graph.specs.of_format.Page.{BtreeFields}
+use Rattle.bdb_graph.specs.of_format.Reading.{btree_fields}
+use Rattle.bdb_graph.specs.of_format.Rows.{page_code}
+use Rattle.bdb_graph.specs.of_format.Spelling.{btree_bytes}
+use Rattle.bdb_graph.specs.of_format.Flags.{names_databases}
+use Rattle.bdb_graph.specs.of_format.HeadOf.{head_of, head_rows, is_page_size}
+use Rattle.bdb_graph.specs.of_format.File.{File, file_of}
+use Rattle.bdb_graph.specs.of_format.Lists.{ListKey}
+use Rattle.bdb_pack.specs.of_law_grove.Part.{IsPart, Part, between}
+use Rattle.bdb_pack.specs.of_law_grove.Growing.{IsCounted, IsLater}
+use Rattle.bdb_graph.specs.of_meta.RowGroups.{flag_rows}
 use Rattle.bdb_pack.specs.Built.{AreWhole, Built, bytes_of, file_so_far, joined_pages, with_page}
 use Rattle.bdb_pack.specs.Stored.{TellsPages}
 use Rattle.bdb_law_join.specs.Alone.{IsSoundAlone}

@@ -2,3 +2,7 @@
 #![tactic(auto)]
 
 pub mod laws;
+
+pub use bdb_graph;
+pub use bdb_graph::{bdb_layout, bdb_meta};
+pub use bdb_pack;

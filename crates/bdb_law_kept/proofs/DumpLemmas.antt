@@ -3,26 +3,26 @@ use Rattle.std.proofs.Common.{◌≡◌, ℕ, suc, Bool, true, false, not, cond,
 use Rattle.std.specs.Prelude.{◌&&◌, ◌||◌, ◌==◌, is_some, unwrap_or}
 use Rattle.std.specs.List.{All, Contains, flat_map, fold}
 use Rattle.std.proofs.lemmas.List.Elements.{All-head, All-tail}
-use Rattle.bdb_format.specs.declared.kinds.Kind.{Kind}
-use Rattle.bdb_format.specs.declared.kinds.Kind.TheVariants.{Btree, Recno, Hash, Queue}
-use Rattle.bdb_format.specs.declared.kinds.Order.{Order}
-use Rattle.bdb_format.specs.declared.metadata.BtreeMeta.{BtreeMeta}
-use Rattle.bdb_format.specs.declared.settings.Settings.{Settings}
-use Rattle.bdb_format.specs.ContentRows.{ascends, fields_in}
-use Rattle.bdb_format.specs.Master.{master_in}
+use Rattle.bdb_file.specs.of_format.declared.kinds.Kind.{Kind}
+use Rattle.bdb_file.specs.of_format.declared.kinds.Kind.TheVariants.{Btree, Recno, Hash, Queue}
+use Rattle.bdb_file.specs.of_format.declared.kinds.Order.{Order}
+use Rattle.bdb_file.specs.of_format.declared.metadata.BtreeMeta.{BtreeMeta}
+use Rattle.bdb_file.specs.of_format.declared.settings.Settings.{Settings}
+use Rattle.bdb_file.specs.of_format.ContentRows.{ascends, fields_in}
+use Rattle.bdb_file.specs.of_format.Master.{master_in}
 use Rattle.bdb_file.proofs.NamedLemmas.{with_name}
-use Rattle.bdb_format.specs.Databases.{Database, btree_settings, databases, databases_under, recno_settings, settings_of}
-use Rattle.bdb_format.specs.File.{File, file_of, page_at}
-use Rattle.bdb_format.specs.Flags.{is_recno}
-use Rattle.bdb_format.specs.HeadOf.{head_of}
-use Rattle.bdb_format.specs.Lists.{list_of}
-use Rattle.bdb_format.specs.Page.{BtreeFields, HashFields, Meta, Metadata, Page, QueueFields}
-use Rattle.bdb_format.proofs.ListLemmas.{all_of}
-use Rattle.bdb_format.proofs.MemberLemmas.{first_member, later_member, of_map}
-use Rattle.bdb_text_format.specs.declared.pairs.TextPair.{TextPair}
-use Rattle.bdb_text_format.specs.declared.sections.Section.{Section}
-use Rattle.bdb_text_format.specs.LineEnd.{line}
-use Rattle.bdb_text_format.specs.Written.{data_end, database_text, dump_text, header_lines, is_queue, pair_lines, section_lines, section_text}
+use Rattle.bdb_file.specs.of_format.Databases.{Database, btree_settings, databases, databases_under, recno_settings, settings_of}
+use Rattle.bdb_file.specs.of_format.File.{File, file_of, page_at}
+use Rattle.bdb_file.specs.of_format.Flags.{is_recno}
+use Rattle.bdb_file.specs.of_format.HeadOf.{head_of}
+use Rattle.bdb_file.specs.of_format.Lists.{list_of}
+use Rattle.bdb_file.specs.of_format.Page.{BtreeFields, HashFields, Meta, Metadata, Page, QueueFields}
+use Rattle.bdb_file.proofs.of_format.ListLemmas.{all_of}
+use Rattle.bdb_file.proofs.of_format.MemberLemmas.{first_member, later_member, of_map}
+use Rattle.bdb_settle.specs.of_text_format.declared.pairs.TextPair.{TextPair}
+use Rattle.bdb_settle.specs.of_text_format.declared.sections.Section.{Section}
+use Rattle.bdb_settle.specs.of_text_format.LineEnd.{line}
+use Rattle.bdb_settle.specs.of_text_format.Written.{data_end, database_text, dump_text, header_lines, is_queue, pair_lines, section_lines, section_text}
 use Rattle.bdb_settle.specs.declared.load_error.LoadError.{LoadError}
 use Rattle.bdb_settle.specs.LoadErrors.{is_among_names, is_too_wide, page_size_in, pair_errors, section_errors, sooner, where_so}
 use Rattle.bdb_text.specs.WrittenLaw.{AreSectionsOf, CanBeWritten, IsSectionOf, IsWritable, written_of}

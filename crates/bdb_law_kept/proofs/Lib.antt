@@ -11,3 +11,6 @@ pub mod WrittenLemmas
 pub mod HeaderLemmas
 pub mod SectionLemmas
 pub mod DumpLemmas
+pub use Rattle.bdb_file.proofs.of_btree as of_btree
+pub use Rattle.bdb_file.proofs as of_file
+pub use Rattle.bdb_text.proofs as of_text

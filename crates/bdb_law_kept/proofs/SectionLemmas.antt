@@ -4,17 +4,17 @@ use Rattle.std.specs.Prelude.{◌==◌}
 use Rattle.std.specs.List.{All}
 use Rattle.std.specs.Str.{bytes_eq}
 use Rattle.std.proofs.lemmas.List.Elements.{All-cons, All-head, All-nil, All-tail}
-use Rattle.bdb_format.specs.declared.kinds.Kind.TheVariants.{Recno}
-use Rattle.bdb_format.specs.declared.settings.Settings.{Settings}
-use Rattle.bdb_format.proofs.SizeLemmas.{size_bounds}
-use Rattle.bdb_text_format.specs.declared.pairs.TextPair.{TextPair}
-use Rattle.bdb_text_format.specs.declared.sections.Section.{Section}
-use Rattle.bdb_text_format.specs.Header.{Values, has_type, name_in, number_or, settings_in, values}
-use Rattle.bdb_text_format.specs.Reasons.{Parts, lines_with, names_with, parts_of}
-use Rattle.bdb_text_format.specs.Sections.{Reads, begin_with, header_fits, nothing_left, pairs_read, parts_read, section_read, sections_from, sections_in}
-use Rattle.bdb_text_format.specs.Sections.{text_sections, with_pairs, with_section}
-use Rattle.bdb_text_format.specs.TextLines.{is_data_end, text_lines}
-use Rattle.bdb_text_format.specs.Written.{version_line}
+use Rattle.bdb_file.specs.of_format.declared.kinds.Kind.TheVariants.{Recno}
+use Rattle.bdb_file.specs.of_format.declared.settings.Settings.{Settings}
+use Rattle.bdb_file.proofs.of_format.SizeLemmas.{size_bounds}
+use Rattle.bdb_settle.specs.of_text_format.declared.pairs.TextPair.{TextPair}
+use Rattle.bdb_settle.specs.of_text_format.declared.sections.Section.{Section}
+use Rattle.bdb_settle.specs.of_text_format.Header.{Values, has_type, name_in, number_or, settings_in, values}
+use Rattle.bdb_settle.specs.of_text_format.Reasons.{Parts, lines_with, names_with, parts_of}
+use Rattle.bdb_settle.specs.of_text_format.Sections.{Reads, begin_with, header_fits, nothing_left, pairs_read, parts_read, section_read, sections_from, sections_in}
+use Rattle.bdb_settle.specs.of_text_format.Sections.{text_sections, with_pairs, with_section}
+use Rattle.bdb_settle.specs.of_text_format.TextLines.{is_data_end, text_lines}
+use Rattle.bdb_settle.specs.of_text_format.Written.{version_line}
 use Rattle.bdb_law_sections.specs.Fit.{AreFitSettings, IsFitSection}
 use Rattle.bdb_law_sections.proofs.SectionLemmas.{read_sections_are_fit}
 use Rattle.bdb_law_kept.proofs.HeaderLemmas.{TellsLength}

@@ -2,14 +2,14 @@
 use Rattle.std.proofs.Common.{◌≡◌, ℕ, List, [], ◌∷◌, None, refl, sym, ◌∙◌, ap}
 use Rattle.std.specs.List.{Contains}
 use Rattle.std.proofs.lemmas.List.{get_or_default}
-use Rattle.bdb_format.specs.declared.kinds.Fault.{Fault}
-use Rattle.bdb_format.specs.Databases.{Database, databases}
-use Rattle.bdb_format.specs.File.{file_of}
-use Rattle.bdb_format.specs.HeadOf.{head_of}
-use Rattle.bdb_format.specs.Lists.{list_of}
-use Rattle.bdb_format.specs.Verdict.{faults_of, first_judgement}
-use Rattle.bdb_format.proofs.VerdictLemmas.{no_stage, none_in}
-use Rattle.bdb_image.specs.Linked.{HasMetadata, IsForest}
+use Rattle.bdb_file.specs.of_format.declared.kinds.Fault.{Fault}
+use Rattle.bdb_file.specs.of_format.Databases.{Database, databases}
+use Rattle.bdb_file.specs.of_format.File.{file_of}
+use Rattle.bdb_file.specs.of_format.HeadOf.{head_of}
+use Rattle.bdb_file.specs.of_format.Lists.{list_of}
+use Rattle.bdb_file.specs.of_format.Verdict.{faults_of, first_judgement}
+use Rattle.bdb_file.proofs.of_format.VerdictLemmas.{no_stage, none_in}
+use Rattle.bdb_file.specs.of_image.Linked.{HasMetadata, IsForest}
 use Rattle.bdb_file.specs.Named.{no_database}
 use Rattle.bdb_file.proofs.SoundLemmas.{has_metadata_at, no_contents, no_structure}
 use Rattle.bdb_law_kept.specs.Kept.{IsSound, settings_in}

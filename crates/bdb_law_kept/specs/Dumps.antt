@@ -1,16 +1,16 @@
 -- The dump of a sound file is read as sections that load into its lists. Source: docs/FORMAT.md, "Dump text" and "What loading does to a list".
 use Rattle.std.specs.Prelude.{◌≡◌, ℕ, ◌==◌, Bool, true, false, List, [], map, None, unwrap_or}
 use Rattle.std.specs.List.{AllZip, Contains}
-use Rattle.bdb_format.specs.declared.kinds.Kind.TheVariants.{Queue}
-use Rattle.bdb_format.specs.ContentRows.{ascends}
-use Rattle.bdb_format.specs.Databases.{Database, databases}
-use Rattle.bdb_format.specs.File.{file_of}
-use Rattle.bdb_format.specs.HeadOf.{head_of}
-use Rattle.bdb_format.specs.Lists.{list_of}
-use Rattle.bdb_text_format.specs.declared.sections.Section.{Section}
-use Rattle.bdb_text_format.specs.Pairs.{listed}
-use Rattle.bdb_text_format.specs.Sections.{Reads}
-use Rattle.bdb_text_format.specs.Written.{dump_text, header_lines}
+use Rattle.bdb_file.specs.of_format.declared.kinds.Kind.TheVariants.{Queue}
+use Rattle.bdb_file.specs.of_format.ContentRows.{ascends}
+use Rattle.bdb_file.specs.of_format.Databases.{Database, databases}
+use Rattle.bdb_file.specs.of_format.File.{file_of}
+use Rattle.bdb_file.specs.of_format.HeadOf.{head_of}
+use Rattle.bdb_file.specs.of_format.Lists.{list_of}
+use Rattle.bdb_settle.specs.of_text_format.declared.sections.Section.{Section}
+use Rattle.bdb_settle.specs.of_text_format.Pairs.{listed}
+use Rattle.bdb_settle.specs.of_text_format.Sections.{Reads}
+use Rattle.bdb_settle.specs.of_text_format.Written.{dump_text, header_lines}
 use Rattle.bdb_settle.specs.Loaded.{loaded}
 use Rattle.bdb_settle.specs.LoadErrors.{load_error}
 use Rattle.bdb_text.specs.WrittenLaw.{AreBytes}

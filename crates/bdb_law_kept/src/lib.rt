@@ -2,3 +2,7 @@
 #![tactic(auto)]
 
 pub mod laws;
+
+pub use bdb_file;
+pub use bdb_file::{bdb_btree, bdb_overflow, bdb_tree};
+pub use bdb_text;

@@ -4,14 +4,14 @@ use Rattle.std.specs.List.{All, Contains, flat_map, list_any}
 use Rattle.std.proofs.lemmas.Bool.{or_from, or_cases}
 use Rattle.std.proofs.lemmas.List.Elements.{All-contains, All-head, All-tail, Contains-append_cases}
 use Rattle.std.proofs.lemmas.List.Folds.{list_any-append}
-use Rattle.bdb_format.specs.declared.metadata.FileKind.TheVariants.{Queue}
-use Rattle.bdb_format.specs.declared.references.Reference.{Reference}
-use Rattle.bdb_format.specs.Page.{Content, InternalItem}
-use Rattle.bdb_format.specs.File.{File, page_at}
-use Rattle.bdb_format.specs.References.{refs}
-use Rattle.bdb_format.specs.Chains.{chains_in, content_chains, is_wrong_length}
-use Rattle.bdb_format.specs.Leaves.{is_root_reference}
-use Rattle.bdb_format.proofs.MemberLemmas.{no_member, of_map}
+use Rattle.bdb_law_grove.specs.of_format.declared.metadata.FileKind.TheVariants.{Queue}
+use Rattle.bdb_law_grove.specs.of_format.declared.references.Reference.{Reference}
+use Rattle.bdb_law_grove.specs.of_format.Page.{Content, InternalItem}
+use Rattle.bdb_law_grove.specs.of_format.File.{File, page_at}
+use Rattle.bdb_law_grove.specs.of_format.References.{refs}
+use Rattle.bdb_law_grove.specs.of_format.Chains.{chains_in, content_chains, is_wrong_length}
+use Rattle.bdb_law_grove.specs.of_format.Leaves.{is_root_reference}
+use Rattle.bdb_law_grove.proofs.of_format.MemberLemmas.{no_member, of_map}
 use Rattle.bdb_law_grove.proofs.BranchLemmas.{branch_with, of_list}
 use Rattle.bdb_law_levels.specs.Branches.{KeyHasLength, TowersAreBranches}
 use Rattle.bdb_law_levels.specs.Nodes.{HasItems, IsOver, IsTower, Node, keyed_item, no_node}

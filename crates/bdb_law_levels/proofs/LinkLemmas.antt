@@ -4,12 +4,12 @@ use Rattle.std.proofs.Common.{◌≡◌, ℕ, true, false, List, [], ◌∷◌, 
 use Rattle.std.specs.List.{All, list_any}
 use Rattle.std.proofs.lemmas.Bool.{and_from, or_from}
 use Rattle.std.proofs.lemmas.List.Elements.{All-head, All-tail}
-use Rattle.bdb_format.specs.declared.references.Sort.{Sort}
-use Rattle.bdb_format.specs.declared.references.Sort.TheVariants.{Root, DuplicateRoot}
-use Rattle.bdb_format.specs.File.{File, page_at, type_in}
-use Rattle.bdb_format.specs.Leaves.{places_from, wrong_leaf_types}
-use Rattle.bdb_format.specs.References.{has_type}
-use Rattle.bdb_format.proofs.TypeLemmas.{AllTypes, of_type}
+use Rattle.bdb_law_grove.specs.of_format.declared.references.Sort.{Sort}
+use Rattle.bdb_law_grove.specs.of_format.declared.references.Sort.TheVariants.{Root, DuplicateRoot}
+use Rattle.bdb_law_grove.specs.of_format.File.{File, page_at, type_in}
+use Rattle.bdb_law_grove.specs.of_format.Leaves.{places_from, wrong_leaf_types}
+use Rattle.bdb_law_grove.specs.of_format.References.{has_type}
+use Rattle.bdb_law_grove.proofs.of_format.TypeLemmas.{AllTypes, of_type}
 use Rattle.bdb_law_grove.specs.Part.{is_wrong_place}
 use Rattle.bdb_law_levels.specs.Links.{AreLinked, LinksOfTowers, LinksStand, leaf_types}
 use Rattle.bdb_law_levels.proofs.NodeLemmas.{towers_have_leaves}

@@ -4,11 +4,11 @@ use Rattle.std.specs.List.{All, flat_map, sum_by}
 use Rattle.std.proofs.lemmas.Grind.{flat_map-append}
 use Rattle.std.proofs.lemmas.List.Elements.{All-nil, All-cons, All-head, All-tail, All-contains, Contains-append_left, Contains-append_right}
 use Rattle.std.proofs.lemmas.List.Sums.{sum_by-cons, sum_by-append}
-use Rattle.bdb_format.specs.declared.pages.RecnoItem.{RecnoItem}
-use Rattle.bdb_format.specs.Page.{InternalItem}
-use Rattle.bdb_format.specs.File.{File, header_in, page_at}
-use Rattle.bdb_format.specs.Leaves.{children_in, leaves_in}
-use Rattle.bdb_format.proofs.ListLemmas.{all_of}
+use Rattle.bdb_law_grove.specs.of_format.declared.pages.RecnoItem.{RecnoItem}
+use Rattle.bdb_law_grove.specs.of_format.Page.{InternalItem}
+use Rattle.bdb_law_grove.specs.of_format.File.{File, header_in, page_at}
+use Rattle.bdb_law_grove.specs.of_format.Leaves.{children_in, leaves_in}
+use Rattle.bdb_law_grove.proofs.of_format.ListLemmas.{all_of}
 use Rattle.bdb_law_levels.specs.Nodes.{AreOver, HasItems, HasLeaves, IsOver, Node, TowersHaveLeaves, keyed_item, keyed_items, numbered_item}
 use Rattle.bdb_law_levels.specs.declared.inner_type.InnerType.{InnerType}
 use Rattle.bdb_law_levels.specs.declared.inner_type.InnerType.TheVariants.{Keyed, Numbered}

@@ -8,15 +8,15 @@ use Rattle.std.proofs.lemmas.Bool.{ne_eqb, or_from}
 use Rattle.std.proofs.lemmas.Grind.{flat_map-append}
 use Rattle.std.proofs.lemmas.List.{append-nil, append_assoc, map-append}
 use Rattle.std.proofs.lemmas.List.Elements.{All-contains, Contains-append_left, Contains-append_right}
-use Rattle.bdb_format.specs.declared.metadata.FileKind.TheVariants.{Queue}
-use Rattle.bdb_format.specs.declared.pages.RecnoItem.{RecnoItem}
-use Rattle.bdb_format.specs.declared.references.Reference.{Reference}
-use Rattle.bdb_format.specs.declared.references.Sort.TheVariants.{Child, OverflowHead}
-use Rattle.bdb_format.specs.Page.{Content, Inline, Set, Chain, Tree, Unknown, Internal, Page, RecnoInternal}
-use Rattle.bdb_format.specs.File.{File, page_at, header_in, type_in}
-use Rattle.bdb_format.specs.References.{internal_targets, fit_code, has_type, refs}
-use Rattle.bdb_format.proofs.ListLemmas.{only_member}
-use Rattle.bdb_format.proofs.MemberLemmas.{first_member, in_map, later_member, member_cases, no_member, of_flat_map, of_map}
+use Rattle.bdb_law_grove.specs.of_format.declared.metadata.FileKind.TheVariants.{Queue}
+use Rattle.bdb_law_grove.specs.of_format.declared.pages.RecnoItem.{RecnoItem}
+use Rattle.bdb_law_grove.specs.of_format.declared.references.Reference.{Reference}
+use Rattle.bdb_law_grove.specs.of_format.declared.references.Sort.TheVariants.{Child, OverflowHead}
+use Rattle.bdb_law_grove.specs.of_format.Page.{Content, Inline, Set, Chain, Tree, Unknown, Internal, Page, RecnoInternal}
+use Rattle.bdb_law_grove.specs.of_format.File.{File, page_at, header_in, type_in}
+use Rattle.bdb_law_grove.specs.of_format.References.{internal_targets, fit_code, has_type, refs}
+use Rattle.bdb_law_grove.proofs.of_format.ListLemmas.{only_member}
+use Rattle.bdb_law_grove.proofs.of_format.MemberLemmas.{first_member, in_map, later_member, member_cases, no_member, of_flat_map, of_map}
 use Rattle.bdb_law_grove.specs.Part.{IsGrove}
 use Rattle.bdb_law_grove.proofs.SeveralLemmas.{count, count-append, some_count}
 use Rattle.bdb_law_grove.proofs.StandLemmas.{with_page}

@@ -7,14 +7,14 @@ use Rattle.std.proofs.lemmas.Bool.{cases_eq, eqb-true, ne_eqb, or_left, or_cases
 use Rattle.std.proofs.lemmas.List.{nil_from_length}
 use Rattle.std.proofs.lemmas.List.Folds.{list_all-append}
 use Rattle.std.proofs.lemmas.List.Sums.{list_all-from_AllPass}
-use Rattle.bdb_format.proofs.ListLemmas.{all_of, only_member}
-use Rattle.bdb_format.specs.declared.references.Reference.{Reference}
-use Rattle.bdb_format.specs.declared.references.Sort.{Sort}
-use Rattle.bdb_format.specs.declared.references.Sort.TheVariants.{Free, Root, Bucket, HashNext, Child, OverflowHead, OverflowNext, DuplicateRoot}
-use Rattle.bdb_format.specs.File.{File, page_at, header_in}
-use Rattle.bdb_format.specs.References.{fit_code, refs}
-use Rattle.bdb_format.specs.Graph.{Owner, is_head_reference}
-use Rattle.bdb_format.proofs.MemberLemmas.{first_member, in_map, later_member}
+use Rattle.bdb_law_grove.proofs.of_format.ListLemmas.{all_of, only_member}
+use Rattle.bdb_law_grove.specs.of_format.declared.references.Reference.{Reference}
+use Rattle.bdb_law_grove.specs.of_format.declared.references.Sort.{Sort}
+use Rattle.bdb_law_grove.specs.of_format.declared.references.Sort.TheVariants.{Free, Root, Bucket, HashNext, Child, OverflowHead, OverflowNext, DuplicateRoot}
+use Rattle.bdb_law_grove.specs.of_format.File.{File, page_at, header_in}
+use Rattle.bdb_law_grove.specs.of_format.References.{fit_code, refs}
+use Rattle.bdb_law_grove.specs.of_format.Graph.{Owner, is_head_reference}
+use Rattle.bdb_law_grove.proofs.of_format.MemberLemmas.{first_member, in_map, later_member}
 use Rattle.bdb_law_grove.specs.Part.{IsGrove, IsOwnedBy, are_heads_alone, owners_among}
 use Rattle.bdb_law_grove.specs.Standing.{StandsOver, named_by, names}
 use Rattle.bdb_law_grove.proofs.BesideLemmas.{owners_within}

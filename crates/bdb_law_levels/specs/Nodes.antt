@@ -1,10 +1,10 @@
 -- Pages of a tree, level by level, in one file. Source: docs/FORMAT.md, "Internal items" and "Built trees".
 use Rattle.std.specs.Prelude.{◌≡◌, ℕ, ◌+◌, ◌<◌, ◌≤◌, List, [], ◌∷◌, ◌++◌, length, map, get_or}
 use Rattle.std.specs.List.{All, flat_map, sum_by}
-use Rattle.bdb_format.specs.declared.pages.RecnoItem.{RecnoItem}
-use Rattle.bdb_format.specs.Page.{Content, Inline, Set, Chain, Tree, Unknown, Internal, InternalItem, Listed, RecnoInternal}
-use Rattle.bdb_format.specs.File.{File, header_in, page_at}
-use Rattle.bdb_format.specs.Leaves.{leaves_in}
+use Rattle.bdb_law_grove.specs.of_format.declared.pages.RecnoItem.{RecnoItem}
+use Rattle.bdb_law_grove.specs.of_format.Page.{Content, Inline, Set, Chain, Tree, Unknown, Internal, InternalItem, Listed, RecnoInternal}
+use Rattle.bdb_law_grove.specs.of_format.File.{File, header_in, page_at}
+use Rattle.bdb_law_grove.specs.of_format.Leaves.{leaves_in}
 use Rattle.bdb_law_levels.specs.declared.inner_type.InnerType.{InnerType}
 use Rattle.bdb_law_levels.specs.declared.inner_type.InnerType.TheVariants.{Keyed, Numbered}
 

@@ -1,10 +1,10 @@
 -- A tower of levels over a grove is a grove that is entered by its root. Source: docs/FORMAT.md, "References" and "Stage 3, references" to "Stage 5, reach".
 use Rattle.std.specs.Prelude.{◌≡◌, ℕ, ◌+◌, ◌≤◌, ◌==◌, ◌||◌, if◌then◌else◌, Bool, true, false, List, [], ◌∷◌, length, map}
 use Rattle.std.specs.List.{All, Contains, filter, flat_map, list_any}
-use Rattle.bdb_format.specs.declared.metadata.FileKind.TheVariants.{Queue}
-use Rattle.bdb_format.specs.Page.{Content, Inline, Set, Chain, Tree, Unknown}
-use Rattle.bdb_format.specs.File.{File, header_in, page_at, type_in}
-use Rattle.bdb_format.specs.References.{has_type}
+use Rattle.bdb_law_grove.specs.of_format.declared.metadata.FileKind.TheVariants.{Queue}
+use Rattle.bdb_law_grove.specs.of_format.Page.{Content, Inline, Set, Chain, Tree, Unknown}
+use Rattle.bdb_law_grove.specs.of_format.File.{File, header_in, page_at, type_in}
+use Rattle.bdb_law_grove.specs.of_format.References.{has_type}
 use Rattle.bdb_law_grove.specs.Part.{IsGrove, are_heads_alone, owners_among}
 use Rattle.bdb_law_levels.specs.Nodes.{IsTower, Node}
 use Rattle.bdb_law_levels.specs.declared.inner_type.InnerType.{InnerType}

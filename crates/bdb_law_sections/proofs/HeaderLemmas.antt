@@ -6,18 +6,18 @@ use Rattle.std.specs.List.{cons_option, fold, list_all, list_any}
 use Rattle.std.proofs.lemmas.Bool.Decides.{nat_tests}
 use Rattle.std.proofs.lemmas.Slice.Eq.{bytes_eq-Decides}
 use Rattle.std.specs.Str.{bytes_eq}
-use Rattle.bdb_format.specs.declared.kinds.Kind.TheVariants.{Queue}
-use Rattle.bdb_format.specs.HeadOf.{is_page_size}
+use Rattle.bdb_text_format.specs.of_format.declared.kinds.Kind.TheVariants.{Queue}
+use Rattle.bdb_text_format.specs.of_format.HeadOf.{is_page_size}
 use Rattle.bdb_text_format.specs.declared.keywords.Judged.TheVariants.{Fits, Bad, LeftOut}
 use Rattle.bdb_text_format.specs.Header.{Values, conflicts, entries, entry_of, given, gives, has_record_type, has_type, is_on, name_in, number_or, repeats}
 use Rattle.bdb_text_format.specs.Header.{settings_in, values}
 use Rattle.bdb_text_format.specs.Keywords.{fitting, hex_value, is_hex, judged_number, legal_size, number_read, or_zero}
-use Rattle.bdb_format.specs.Digits.{digits_value, is_number}
+use Rattle.bdb_text_format.specs.of_format.Digits.{digits_value, is_number}
 use Rattle.bdb_text_format.specs.TextSpelling.{digit_value}
 use Rattle.std.proofs.Math.Pow.{pow_mono}
 use Rattle.std.proofs.lemmas.Nat.{pow-add}
 use Rattle.std.proofs.lemmas.Bool.{and_parts, not-true, or_cases, or_parts, or_right}
-use Rattle.bdb_format.specs.Databases.{is_name}
+use Rattle.bdb_text_format.specs.of_format.Databases.{is_name}
 use Rattle.bdb_text_format.specs.Reasons.{keyword_named, name_missing}
 use Rattle.bdb_text_format.specs.Sections.{entry_fits, fits, header_fits, keyword_fits, lines_fit}
 use Rattle.bdb_text_format.specs.Written.{Entry, holds_records}

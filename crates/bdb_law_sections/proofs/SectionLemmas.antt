@@ -6,7 +6,7 @@ use Rattle.std.specs.List.{All, list_any}
 use Rattle.std.specs.Str.{bytes_eq}
 use Rattle.std.proofs.lemmas.Bool.Decides.{nat_tests}
 use Rattle.std.proofs.lemmas.List.Elements.{All-cons, All-head, All-push, All-tail}
-use Rattle.bdb_format.specs.Databases.{is_name}
+use Rattle.bdb_text_format.specs.of_format.Databases.{is_name}
 use Rattle.bdb_text_format.specs.declared.pairs.TextPair.{TextPair}
 use Rattle.bdb_text_format.specs.declared.sections.Section.{Section}
 use Rattle.bdb_text_format.specs.Header.{Values, has_keys, has_record_type, is_on, name_in, prints, settings_in, values}

@@ -1,10 +1,10 @@
 -- What is so of the sections that a dump text is read as. Source: docs/FORMAT.md, "Read header" and "Reasons".
 use Rattle.std.specs.Prelude.{◌≡◌, ℕ, ◌≤◌, ◌<◌, ◌^◌, ◌==◌, IsTrue, Bool, true, false, List, [], ◌∷◌, ◌++◌, length, Option}
 use Rattle.std.specs.List.{All, list_any}
-use Rattle.bdb_format.specs.declared.kinds.Kind.TheVariants.{Queue}
-use Rattle.bdb_format.specs.declared.settings.Settings.{Settings}
-use Rattle.bdb_format.specs.Databases.{is_name}
-use Rattle.bdb_format.specs.HeadOf.{is_page_size}
+use Rattle.bdb_text_format.specs.of_format.declared.kinds.Kind.TheVariants.{Queue}
+use Rattle.bdb_text_format.specs.of_format.declared.settings.Settings.{Settings}
+use Rattle.bdb_text_format.specs.of_format.Databases.{is_name}
+use Rattle.bdb_text_format.specs.of_format.HeadOf.{is_page_size}
 use Rattle.bdb_text_format.specs.declared.pairs.Key.{Key}
 use Rattle.bdb_text_format.specs.declared.pairs.Key.TheVariants.{Bytes, Number}
 use Rattle.bdb_text_format.specs.declared.pairs.TextPair.{TextPair}

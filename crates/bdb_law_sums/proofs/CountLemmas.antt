@@ -4,7 +4,7 @@ use Rattle.std.specs.Prelude.{◌==◌}
 use Rattle.std.specs.List.{Contains, flat_map, range_with_len, sum_by}
 use Rattle.std.proofs.lemmas.Bool.{cases_Bool, eqb-true, eqb-false, ne_eqb}
 use Rattle.std.proofs.lemmas.List.Sums.{sum_by-cons, sum_by-append}
-use Rattle.bdb_format.proofs.MemberLemmas.{first_member, later_member, of_flat_map, of_range}
+use Rattle.bdb_tree.proofs.of_format.MemberLemmas.{first_member, later_member, of_flat_map, of_range}
 use Rattle.bdb_law_sums.specs.Counting.{PartsAreEntrances, times}
 
 pub sum_same : {X : Type 0} (f g : X → ℕ) (xs : List X) → ((x : X) → Contains xs x → f x ≡ g x) → sum_by f xs ≡ sum_by g xs

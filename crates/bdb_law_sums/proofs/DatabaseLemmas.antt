@@ -4,20 +4,20 @@ use Rattle.std.proofs.Common.{true≢false}
 use Rattle.std.specs.List.{range_with_len, sum_by}
 use Rattle.std.proofs.lemmas.Bool.{cases_Bool, cases_lt}
 use Rattle.std.proofs.lemmas.List.{get_or_past}
-use Rattle.bdb_format.specs.declared.references.Sort.{Sort}
-use Rattle.bdb_format.specs.declared.references.Sort.TheVariants.{Root, Bucket, DuplicateRoot}
-use Rattle.bdb_format.specs.Chains.{chain}
-use Rattle.bdb_format.specs.ContentRows.{fields_in, fields_of}
-use Rattle.bdb_format.specs.Contents.{bucket_pages}
-use Rattle.bdb_format.specs.File.{File, file_of, page_at}
-use Rattle.bdb_format.specs.Graph.{Owner, all_references, is_spare}
-use Rattle.bdb_format.specs.Leaves.{is_root_reference, leaves, root_references}
-use Rattle.bdb_format.specs.Page.{Metadata, BtreeFields, HashFields, QueueFields, Page, Zero, NoType}
-use Rattle.bdb_format.specs.References.{is_zero_page}
-use Rattle.bdb_format.proofs.MemberLemmas.{of_range}
-use Rattle.bdb_format.proofs.FileLemmas.{pages_counted}
-use Rattle.bdb_image.specs.Linked.{HasMetadata}
-use Rattle.bdb_graph.proofs.ReadLemmas.{is_of_page}
+use Rattle.bdb_tree.specs.of_format.declared.references.Sort.{Sort}
+use Rattle.bdb_tree.specs.of_format.declared.references.Sort.TheVariants.{Root, Bucket, DuplicateRoot}
+use Rattle.bdb_tree.specs.of_format.Chains.{chain}
+use Rattle.bdb_tree.specs.of_format.ContentRows.{fields_in, fields_of}
+use Rattle.bdb_tree.specs.of_format.Contents.{bucket_pages}
+use Rattle.bdb_tree.specs.of_format.File.{File, file_of, page_at}
+use Rattle.bdb_tree.specs.of_format.Graph.{Owner, all_references, is_spare}
+use Rattle.bdb_tree.specs.of_format.Leaves.{is_root_reference, leaves, root_references}
+use Rattle.bdb_tree.specs.of_format.Page.{Metadata, BtreeFields, HashFields, QueueFields, Page, Zero, NoType}
+use Rattle.bdb_tree.specs.of_format.References.{is_zero_page}
+use Rattle.bdb_tree.proofs.of_format.MemberLemmas.{of_range}
+use Rattle.bdb_tree.proofs.of_format.FileLemmas.{pages_counted}
+use Rattle.bdb_tree.specs.of_image.Linked.{HasMetadata}
+use Rattle.bdb_tree.proofs.of_graph.ReadLemmas.{is_of_page}
 use Rattle.bdb_tree.proofs.TreeLemmas.{typed_inside}
 use Rattle.bdb_law_sums.specs.Databases.{HashPagesAreOfTables, LeavesAreOfDatabases, buckets_below, leaves_below}
 use Rattle.bdb_law_sums.specs.HashSums.{WeighsHash, is_bucket, is_hash_page}

@@ -2,17 +2,17 @@
 use Rattle.std.proofs.Common.{◌≡◌, ◌≢◌, ℕ, ◌+◌, true, false, cond, List, arith, refl, sym, ◌∙◌, ap}
 use Rattle.std.specs.Prelude.{◌==◌}
 use Rattle.std.specs.List.{range_with_len, sum_by}
-use Rattle.bdb_format.specs.declared.metadata.FileKind.TheVariants.{Queue as QueueFile}
-use Rattle.bdb_format.specs.declared.pages.RecnoItem.{RecnoItem}
-use Rattle.bdb_format.specs.declared.references.Sort.{Sort}
-use Rattle.bdb_format.specs.declared.references.Sort.TheVariants.{Root, Bucket, HashNext, Child}
-use Rattle.bdb_format.specs.ContentRows.{fields_in, fields_of}
-use Rattle.bdb_format.specs.File.{File, file_of, page_at}
-use Rattle.bdb_format.specs.Graph.{Owner, all_references, held_by}
-use Rattle.bdb_format.specs.Hashing.{first_page}
-use Rattle.bdb_format.specs.Page.{InternalItem, Metadata, BtreeFields, HashFields, QueueFields, Page, Meta, Hash, Internal, RecnoInternal}
-use Rattle.bdb_format.specs.References.{refs}
-use Rattle.bdb_format.proofs.ReferenceLemmas.{forest_names}
+use Rattle.bdb_tree.specs.of_format.declared.metadata.FileKind.TheVariants.{Queue as QueueFile}
+use Rattle.bdb_tree.specs.of_format.declared.pages.RecnoItem.{RecnoItem}
+use Rattle.bdb_tree.specs.of_format.declared.references.Sort.{Sort}
+use Rattle.bdb_tree.specs.of_format.declared.references.Sort.TheVariants.{Root, Bucket, HashNext, Child}
+use Rattle.bdb_tree.specs.of_format.ContentRows.{fields_in, fields_of}
+use Rattle.bdb_tree.specs.of_format.File.{File, file_of, page_at}
+use Rattle.bdb_tree.specs.of_format.Graph.{Owner, all_references, held_by}
+use Rattle.bdb_tree.specs.of_format.Hashing.{first_page}
+use Rattle.bdb_tree.specs.of_format.Page.{InternalItem, Metadata, BtreeFields, HashFields, QueueFields, Page, Meta, Hash, Internal, RecnoInternal}
+use Rattle.bdb_tree.specs.of_format.References.{refs}
+use Rattle.bdb_tree.proofs.of_format.ReferenceLemmas.{forest_names}
 use Rattle.bdb_law_sums.proofs.CountLemmas.{sum_none, sum_parts, sum_same}
 use Rattle.bdb_law_sums.proofs.MetaLemmas.{fields_by_page}
 use Rattle.bdb_law_sums.proofs.NameLemmas.{OfStructure, named_sum, named_weight, sum_map, sum_refs}

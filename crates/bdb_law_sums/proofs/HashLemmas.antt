@@ -6,41 +6,41 @@ use Rattle.std.specs.List.{Contains, enumerate_from, flat_map, range_with_len, s
 use Rattle.std.proofs.lemmas.Bool.{and_parts, cases_Bool, eqb-true}
 use Rattle.std.proofs.lemmas.List.Elements.{Contains-append_right}
 use Rattle.std.proofs.lemmas.List.Sums.{sum_by-cons}
-use Rattle.bdb_format.specs.declared.metadata.FileKind.{FileKind}
-use Rattle.bdb_format.specs.declared.metadata.FileKind.TheVariants.{Btree, Hash as HashFile, Queue as QueueFile}
-use Rattle.bdb_format.specs.declared.references.Reference.{Reference}
-use Rattle.bdb_format.specs.declared.references.Sort.{Sort}
-use Rattle.bdb_format.specs.declared.references.Sort.TheVariants.{Free as FreeRef, Root, Bucket, HashNext, Child, OverflowHead, OverflowNext}
-use Rattle.bdb_format.specs.declared.references.Sort.TheVariants.{DuplicateRoot}
-use Rattle.bdb_format.specs.Chains.{chain, chain_in, next_of}
-use Rattle.bdb_format.specs.File.{File, file_of, header_in, page_at, type_in}
-use Rattle.bdb_format.specs.Graph.{OneRole, Owner, all_references, held_by, is_anchor, is_head_reference, is_meta, is_spare, owners}
-use Rattle.bdb_format.specs.declared.pages.RecnoItem.{RecnoItem}
-use Rattle.bdb_format.specs.HeadOf.{head_of}
-use Rattle.bdb_format.specs.Numbers.{has_bit}
-use Rattle.bdb_format.specs.Page.{Item, InternalItem, Listed, BtreeFields, HashFields, QueueFields}
-use Rattle.bdb_format.specs.Page.{Page, Zero, Meta, Hash, Internal, RecnoInternal}
-use Rattle.bdb_format.specs.Page.{PageType, HashPage}
-use Rattle.bdb_format.specs.declared.kinds.Order.{Order}
-use Rattle.bdb_format.specs.Numbers.{byte_at}
-use Rattle.bdb_format.specs.Reading.{abstract_page, hash_item_at, is_zero, listed, page_as, page_type}
-use Rattle.bdb_format.specs.File.{page_bytes}
-use Rattle.bdb_format.specs.References.{Asked, asked_by, child_types, contents_in, content_targets, fit_code, fit_rows, has_type, is_zero_page}
-use Rattle.bdb_format.specs.References.{targets_in, targets_of, refs, root_types, unless_zero}
-use Rattle.bdb_format.proofs.GraphLemmas.{each_fits, each_page_has_one_role, is_owner, owner_fits, reserve_is}
-use Rattle.bdb_format.proofs.MemberLemmas.{first_member, in_map, member_cases, no_member, of_map}
-use Rattle.bdb_format.proofs.VerdictLemmas.{AllFail, none_is_first_row}
-use Rattle.bdb_graph.specs.Forest.{AllDistinct, IsWayDown, Names}
-use Rattle.bdb_image.specs.Linked.{IsForest}
-use Rattle.bdb_graph.proofs.ForestLemmas.{no_page_twice_below, sound_graph}
-use Rattle.bdb_image.proofs.FirstLemmas.{formed_last}
-use Rattle.bdb_graph.proofs.ReachLemmas.{AllUpTo, few_distinct}
+use Rattle.bdb_tree.specs.of_format.declared.metadata.FileKind.{FileKind}
+use Rattle.bdb_tree.specs.of_format.declared.metadata.FileKind.TheVariants.{Btree, Hash as HashFile, Queue as QueueFile}
+use Rattle.bdb_tree.specs.of_format.declared.references.Reference.{Reference}
+use Rattle.bdb_tree.specs.of_format.declared.references.Sort.{Sort}
+use Rattle.bdb_tree.specs.of_format.declared.references.Sort.TheVariants.{Free as FreeRef, Root, Bucket, HashNext, Child, OverflowHead, OverflowNext}
+use Rattle.bdb_tree.specs.of_format.declared.references.Sort.TheVariants.{DuplicateRoot}
+use Rattle.bdb_tree.specs.of_format.Chains.{chain, chain_in, next_of}
+use Rattle.bdb_tree.specs.of_format.File.{File, file_of, header_in, page_at, type_in}
+use Rattle.bdb_tree.specs.of_format.Graph.{OneRole, Owner, all_references, held_by, is_anchor, is_head_reference, is_meta, is_spare, owners}
+use Rattle.bdb_tree.specs.of_format.declared.pages.RecnoItem.{RecnoItem}
+use Rattle.bdb_tree.specs.of_format.HeadOf.{head_of}
+use Rattle.bdb_tree.specs.of_format.Numbers.{has_bit}
+use Rattle.bdb_tree.specs.of_format.Page.{Item, InternalItem, Listed, BtreeFields, HashFields, QueueFields}
+use Rattle.bdb_tree.specs.of_format.Page.{Page, Zero, Meta, Hash, Internal, RecnoInternal}
+use Rattle.bdb_tree.specs.of_format.Page.{PageType, HashPage}
+use Rattle.bdb_tree.specs.of_format.declared.kinds.Order.{Order}
+use Rattle.bdb_tree.specs.of_format.Numbers.{byte_at}
+use Rattle.bdb_tree.specs.of_format.Reading.{abstract_page, hash_item_at, is_zero, listed, page_as, page_type}
+use Rattle.bdb_tree.specs.of_format.File.{page_bytes}
+use Rattle.bdb_tree.specs.of_format.References.{Asked, asked_by, child_types, contents_in, content_targets, fit_code, fit_rows, has_type, is_zero_page}
+use Rattle.bdb_tree.specs.of_format.References.{targets_in, targets_of, refs, root_types, unless_zero}
+use Rattle.bdb_tree.proofs.of_format.GraphLemmas.{each_fits, each_page_has_one_role, is_owner, owner_fits, reserve_is}
+use Rattle.bdb_tree.proofs.of_format.MemberLemmas.{first_member, in_map, member_cases, no_member, of_map}
+use Rattle.bdb_tree.proofs.of_format.VerdictLemmas.{AllFail, none_is_first_row}
+use Rattle.bdb_tree.specs.of_graph.Forest.{AllDistinct, IsWayDown, Names}
+use Rattle.bdb_tree.specs.of_image.Linked.{IsForest}
+use Rattle.bdb_tree.proofs.of_graph.ForestLemmas.{no_page_twice_below, sound_graph}
+use Rattle.bdb_tree.proofs.of_image.FirstLemmas.{formed_last}
+use Rattle.bdb_tree.proofs.of_graph.ReachLemmas.{AllUpTo, few_distinct}
 use Rattle.bdb_tree.proofs.ShapeLemmas.{no_queue}
-use Rattle.bdb_format.proofs.TypeLemmas.{AllTypes, of_type}
-use Rattle.bdb_format.proofs.ListLemmas.{in_enumerated, only_member}
-use Rattle.bdb_format.proofs.ReferenceLemmas.{forest_names, of_all}
-use Rattle.bdb_format.proofs.FileLemmas.{count_is as counted, last_page, page_is}
-use Rattle.bdb_graph.proofs.ChildLemmas.{is_queue_page}
+use Rattle.bdb_tree.proofs.of_format.TypeLemmas.{AllTypes, of_type}
+use Rattle.bdb_tree.proofs.of_format.ListLemmas.{in_enumerated, only_member}
+use Rattle.bdb_tree.proofs.of_format.ReferenceLemmas.{forest_names, of_all}
+use Rattle.bdb_tree.proofs.of_format.FileLemmas.{count_is as counted, last_page, page_is}
+use Rattle.bdb_tree.proofs.of_graph.ChildLemmas.{is_queue_page}
 use Rattle.bdb_law_sums.specs.Counting.{AreParts}
 use Rattle.bdb_law_sums.specs.HashSums.{HashPagesAreOfBuckets, WeighsHash, is_bucket, is_hash_page}
 use Rattle.bdb_law_sums.proofs.CountLemmas.{parts_are_entrances, sum_none, sum_parts, sum_plus, sum_same}

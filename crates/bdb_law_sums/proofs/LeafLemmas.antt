@@ -4,24 +4,24 @@ use Rattle.std.proofs.Common.{inr}
 use Rattle.std.specs.Prelude.{◌==◌, ◌&&◌, Some}
 use Rattle.std.specs.List.{Contains}
 use Rattle.std.proofs.lemmas.Bool.{eq-eqb}
-use Rattle.bdb_format.specs.declared.metadata.BtreeMeta.{BtreeMeta}
-use Rattle.bdb_format.specs.declared.references.Sort.{Sort}
-use Rattle.bdb_format.specs.declared.references.Sort.TheVariants.{Root, DuplicateRoot}
-use Rattle.bdb_format.specs.Contents.{entries_in, pairs_in, pairs_of}
-use Rattle.bdb_format.specs.File.{File, file_of, page_at, type_in}
-use Rattle.bdb_format.specs.Flags.{is_recno}
-use Rattle.bdb_format.specs.HeadOf.{head_of}
-use Rattle.bdb_format.specs.Leaves.{LeafPlace, is_root_reference, is_wrong_leaf, leaf_places, leaves, places_from, wrong_leaf_types}
-use Rattle.bdb_format.specs.Page.{BtreeFields, Page, Hash, Leaf, RecnoLeaf, DupLeaf}
-use Rattle.bdb_format.specs.References.{child_types, has_type}
-use Rattle.bdb_format.specs.Verdict.{structure_faults, structure_rows}
-use Rattle.bdb_format.proofs.BoolLemmas.{second_false}
-use Rattle.bdb_format.proofs.ListLemmas.{only_member}
-use Rattle.bdb_format.proofs.MemberLemmas.{first_member, later_member, member_cases, no_member, none_passes, of_flat_map}
-use Rattle.bdb_format.proofs.TypeLemmas.{keyed_below, of_type, tree_keyed}
-use Rattle.bdb_format.proofs.VerdictLemmas.{AllFail, no_rows_at}
-use Rattle.bdb_image.specs.Linked.{FitsDupRoot, FitsLeafPage, HasMetadata, IsForest, IsTarget}
-use Rattle.bdb_graph.proofs.LinkedLemmas.{root_fits}
+use Rattle.bdb_tree.specs.of_format.declared.metadata.BtreeMeta.{BtreeMeta}
+use Rattle.bdb_tree.specs.of_format.declared.references.Sort.{Sort}
+use Rattle.bdb_tree.specs.of_format.declared.references.Sort.TheVariants.{Root, DuplicateRoot}
+use Rattle.bdb_tree.specs.of_format.Contents.{entries_in, pairs_in, pairs_of}
+use Rattle.bdb_tree.specs.of_format.File.{File, file_of, page_at, type_in}
+use Rattle.bdb_tree.specs.of_format.Flags.{is_recno}
+use Rattle.bdb_tree.specs.of_format.HeadOf.{head_of}
+use Rattle.bdb_tree.specs.of_format.Leaves.{LeafPlace, is_root_reference, is_wrong_leaf, leaf_places, leaves, places_from, wrong_leaf_types}
+use Rattle.bdb_tree.specs.of_format.Page.{BtreeFields, Page, Hash, Leaf, RecnoLeaf, DupLeaf}
+use Rattle.bdb_tree.specs.of_format.References.{child_types, has_type}
+use Rattle.bdb_tree.specs.of_format.Verdict.{structure_faults, structure_rows}
+use Rattle.bdb_tree.proofs.of_format.BoolLemmas.{second_false}
+use Rattle.bdb_tree.proofs.of_format.ListLemmas.{only_member}
+use Rattle.bdb_tree.proofs.of_format.MemberLemmas.{first_member, later_member, member_cases, no_member, none_passes, of_flat_map}
+use Rattle.bdb_tree.proofs.of_format.TypeLemmas.{keyed_below, of_type, tree_keyed}
+use Rattle.bdb_tree.proofs.of_format.VerdictLemmas.{AllFail, no_rows_at}
+use Rattle.bdb_tree.specs.of_image.Linked.{FitsDupRoot, FitsLeafPage, HasMetadata, IsForest, IsTarget}
+use Rattle.bdb_tree.proofs.of_graph.LinkedLemmas.{root_fits}
 use Rattle.bdb_tree.specs.Trees.{IsTreePage}
 use Rattle.bdb_tree.proofs.ShapeLemmas.{is_tree_in}
 use Rattle.bdb_tree.proofs.TreeLemmas.{HasTypeAt, IsChild, child_is, leaf_fits, leaf_is_tree, leaf_low, leaves_of_inner, leaves_of_leaf, level}

@@ -12,3 +12,4 @@ pub mod ReadLemmas
 pub mod RecordLemmas
 pub mod SetLemmas
 pub mod TreeLemmas
+pub use Rattle.bdb_tree.proofs as of_tree

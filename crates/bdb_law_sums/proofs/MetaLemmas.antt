@@ -6,26 +6,26 @@ use Rattle.std.specs.List.{Contains, filter, flat_map, range_with_len, sum_by}
 use Rattle.std.specs.Option.{option_to_list}
 use Rattle.std.proofs.lemmas.Bool.{and_from, and_parts, cases_Bool, eq-eqb, eqb-false, lt-ltb, ltb-false, ltb-true, ne_eqb, not-false}
 use Rattle.std.proofs.lemmas.List.Sums.{length-filter, sum_by-cons}
-use Rattle.bdb_format.specs.declared.metadata.Head.{Head}
-use Rattle.bdb_format.specs.declared.metadata.FileKind.TheVariants.{Queue as QueueFile}
-use Rattle.bdb_format.specs.ContentRows.{fields_in, fields_of}
-use Rattle.bdb_format.specs.Contents.{StoredPair}
-use Rattle.bdb_format.specs.Databases.{Database, database_on, databases, databases_under, named_database}
-use Rattle.bdb_format.specs.File.{File, file_of, page_at, page_bytes, type_in}
-use Rattle.bdb_format.specs.Graph.{is_meta}
-use Rattle.bdb_format.specs.HeadOf.{head_of}
-use Rattle.bdb_format.specs.Master.{is_named_kind, is_page, master_in, master_pairs, master_rows, misses_target, named_by, naming, pairs_under}
-use Rattle.bdb_format.specs.Page.{Metadata, BtreeFields, HashFields, QueueFields, Page, Meta}
-use Rattle.bdb_format.specs.Reading.{abstract_page}
-use Rattle.bdb_format.specs.References.{has_type}
-use Rattle.bdb_format.specs.Verdict.{faults_of, master_faults}
-use Rattle.bdb_format.proofs.BoolLemmas.{second_false}
-use Rattle.bdb_format.proofs.ListLemmas.{only_member}
-use Rattle.bdb_format.proofs.MemberLemmas.{none_passes, no_member, of_flat_map, of_range}
-use Rattle.bdb_format.proofs.VerdictLemmas.{AllFail, no_rows_at, no_stage, none_in}
-use Rattle.bdb_format.proofs.FileLemmas.{page_is}
-use Rattle.bdb_image.specs.Linked.{IsForest}
-use Rattle.bdb_graph.proofs.ReadLemmas.{master_is}
+use Rattle.bdb_tree.specs.of_format.declared.metadata.Head.{Head}
+use Rattle.bdb_tree.specs.of_format.declared.metadata.FileKind.TheVariants.{Queue as QueueFile}
+use Rattle.bdb_tree.specs.of_format.ContentRows.{fields_in, fields_of}
+use Rattle.bdb_tree.specs.of_format.Contents.{StoredPair}
+use Rattle.bdb_tree.specs.of_format.Databases.{Database, database_on, databases, databases_under, named_database}
+use Rattle.bdb_tree.specs.of_format.File.{File, file_of, page_at, page_bytes, type_in}
+use Rattle.bdb_tree.specs.of_format.Graph.{is_meta}
+use Rattle.bdb_tree.specs.of_format.HeadOf.{head_of}
+use Rattle.bdb_tree.specs.of_format.Master.{is_named_kind, is_page, master_in, master_pairs, master_rows, misses_target, named_by, naming, pairs_under}
+use Rattle.bdb_tree.specs.of_format.Page.{Metadata, BtreeFields, HashFields, QueueFields, Page, Meta}
+use Rattle.bdb_tree.specs.of_format.Reading.{abstract_page}
+use Rattle.bdb_tree.specs.of_format.References.{has_type}
+use Rattle.bdb_tree.specs.of_format.Verdict.{faults_of, master_faults}
+use Rattle.bdb_tree.proofs.of_format.BoolLemmas.{second_false}
+use Rattle.bdb_tree.proofs.of_format.ListLemmas.{only_member}
+use Rattle.bdb_tree.proofs.of_format.MemberLemmas.{none_passes, no_member, of_flat_map, of_range}
+use Rattle.bdb_tree.proofs.of_format.VerdictLemmas.{AllFail, no_rows_at, no_stage, none_in}
+use Rattle.bdb_tree.proofs.of_format.FileLemmas.{page_is}
+use Rattle.bdb_tree.specs.of_image.Linked.{IsForest}
+use Rattle.bdb_tree.proofs.of_graph.ReadLemmas.{master_is}
 use Rattle.bdb_tree.proofs.PairLemmas.{master_pair_inside}
 use Rattle.bdb_tree.proofs.TreeLemmas.{typed_inside}
 use Rattle.bdb_law_sums.specs.Counting.{times}

@@ -4,17 +4,17 @@ use Rattle.std.specs.Prelude.{◌==◌}
 use Rattle.std.specs.List.{enumerate_from, flat_map, range_with_len, sum_by}
 use Rattle.std.specs.Option.{unwrap_or}
 use Rattle.std.proofs.lemmas.List.Sums.{sum_by-cons, sum_by-append}
-use Rattle.bdb_format.specs.declared.pages.RecnoItem.{RecnoItem}
-use Rattle.bdb_format.specs.declared.references.Reference.{Reference}
-use Rattle.bdb_format.specs.declared.references.Sort.{Sort}
-use Rattle.bdb_format.specs.declared.references.Sort.TheVariants.{Free as FreeRef, Root, Bucket, HashNext, Child, OverflowHead, OverflowNext}
-use Rattle.bdb_format.specs.declared.references.Sort.TheVariants.{DuplicateRoot}
-use Rattle.bdb_format.specs.File.{File, page_at}
-use Rattle.bdb_format.specs.Hashing.{first_page}
-use Rattle.bdb_format.specs.Leaves.{children_in}
-use Rattle.bdb_format.specs.Page.{Content, Inline, Set, Chain, Tree, Unknown, InternalItem, BtreeFields, HashFields, QueueFields, Page, Zero, Free}
-use Rattle.bdb_format.specs.Page.{Meta, Hash, Internal, RecnoInternal, Leaf, RecnoLeaf, DupLeaf, Overflow, Queue, NoType}
-use Rattle.bdb_format.specs.References.{content_targets, contents_in, first_free, internal_targets, refs, targets_in, targets_of, unless_zero}
+use Rattle.bdb_tree.specs.of_format.declared.pages.RecnoItem.{RecnoItem}
+use Rattle.bdb_tree.specs.of_format.declared.references.Reference.{Reference}
+use Rattle.bdb_tree.specs.of_format.declared.references.Sort.{Sort}
+use Rattle.bdb_tree.specs.of_format.declared.references.Sort.TheVariants.{Free as FreeRef, Root, Bucket, HashNext, Child, OverflowHead, OverflowNext}
+use Rattle.bdb_tree.specs.of_format.declared.references.Sort.TheVariants.{DuplicateRoot}
+use Rattle.bdb_tree.specs.of_format.File.{File, page_at}
+use Rattle.bdb_tree.specs.of_format.Hashing.{first_page}
+use Rattle.bdb_tree.specs.of_format.Leaves.{children_in}
+use Rattle.bdb_tree.specs.of_format.Page.{Content, Inline, Set, Chain, Tree, Unknown, InternalItem, BtreeFields, HashFields, QueueFields, Page, Zero, Free}
+use Rattle.bdb_tree.specs.of_format.Page.{Meta, Hash, Internal, RecnoInternal, Leaf, RecnoLeaf, DupLeaf, Overflow, Queue, NoType}
+use Rattle.bdb_tree.specs.of_format.References.{content_targets, contents_in, first_free, internal_targets, refs, targets_in, targets_of, unless_zero}
 use Rattle.bdb_law_sums.proofs.CountLemmas.{sum_none, sum_parts, sum_same}
 
 pub sum_map : {X Y : Type 0} (f : Y → ℕ) (g : X → Y) (xs : List X) → sum_by f (map g xs) ≡ sum_by (λ x. f (g x)) xs

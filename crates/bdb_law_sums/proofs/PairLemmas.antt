@@ -5,31 +5,31 @@ use Rattle.std.specs.Prelude.{◌==◌, ◌&&◌, Option, Some, None}
 use Rattle.std.specs.List.{enumerate_from, flat_map, range_with_len, sum_by}
 use Rattle.std.proofs.lemmas.Bool.{and_parts, eqb-true}
 use Rattle.std.proofs.lemmas.List.Sums.{sum_by-append, sum_by-cons}
-use Rattle.bdb_format.specs.declared.kinds.Order.{Order}
-use Rattle.bdb_format.specs.declared.metadata.HashMeta.{HashMeta}
-use Rattle.bdb_format.specs.Chains.{value_of}
-use Rattle.bdb_format.specs.ContentRows.{fields_of}
-use Rattle.bdb_format.specs.Contents.{StoredPair, bucket_pages, bucket_pairs, data_of, pair_at, pairs_in, pairs_of, table_pairs, tree_entries}
-use Rattle.bdb_format.specs.Contents.{tree_pairs}
-use Rattle.bdb_format.specs.Databases.{Database, databases}
-use Rattle.bdb_format.specs.File.{File, file_of, page_at, page_bytes, type_in}
-use Rattle.bdb_format.specs.Flags.{is_recno}
-use Rattle.bdb_format.specs.Graph.{is_spare}
-use Rattle.bdb_format.specs.HeadOf.{head_of}
-use Rattle.bdb_format.specs.Leaves.{leaves}
-use Rattle.bdb_format.specs.Lists.{ListKey, BytesKey, NumberKey, btree_list, by_key, hash_list, list_of, listed_entry, listed_pair, recno_list}
-use Rattle.bdb_format.specs.Master.{master_in}
-use Rattle.bdb_format.specs.Page.{Item, Listed, Metadata, BtreeFields, HashFields, QueueFields, Page, PageType, HashPage, Zero}
-use Rattle.bdb_format.specs.Page.{Hash, Leaf}
-use Rattle.bdb_format.specs.Reading.{abstract_page, hash_item_at, is_zero, listed, page_as, page_type}
-use Rattle.bdb_format.specs.Numbers.{byte_at}
-use Rattle.bdb_format.specs.References.{has_type}
-use Rattle.bdb_format.proofs.MemberLemmas.{of_range}
-use Rattle.bdb_format.proofs.PageLemmas.{length_items}
-use Rattle.bdb_format.proofs.TypeLemmas.{of_type}
-use Rattle.bdb_format.proofs.FileLemmas.{last_page, page_is}
-use Rattle.bdb_image.specs.Linked.{HasMetadata, IsForest}
-use Rattle.bdb_graph.proofs.ReadLemmas.{master_keys}
+use Rattle.bdb_tree.specs.of_format.declared.kinds.Order.{Order}
+use Rattle.bdb_tree.specs.of_format.declared.metadata.HashMeta.{HashMeta}
+use Rattle.bdb_tree.specs.of_format.Chains.{value_of}
+use Rattle.bdb_tree.specs.of_format.ContentRows.{fields_of}
+use Rattle.bdb_tree.specs.of_format.Contents.{StoredPair, bucket_pages, bucket_pairs, data_of, pair_at, pairs_in, pairs_of, table_pairs, tree_entries}
+use Rattle.bdb_tree.specs.of_format.Contents.{tree_pairs}
+use Rattle.bdb_tree.specs.of_format.Databases.{Database, databases}
+use Rattle.bdb_tree.specs.of_format.File.{File, file_of, page_at, page_bytes, type_in}
+use Rattle.bdb_tree.specs.of_format.Flags.{is_recno}
+use Rattle.bdb_tree.specs.of_format.Graph.{is_spare}
+use Rattle.bdb_tree.specs.of_format.HeadOf.{head_of}
+use Rattle.bdb_tree.specs.of_format.Leaves.{leaves}
+use Rattle.bdb_tree.specs.of_format.Lists.{ListKey, BytesKey, NumberKey, btree_list, by_key, hash_list, list_of, listed_entry, listed_pair, recno_list}
+use Rattle.bdb_tree.specs.of_format.Master.{master_in}
+use Rattle.bdb_tree.specs.of_format.Page.{Item, Listed, Metadata, BtreeFields, HashFields, QueueFields, Page, PageType, HashPage, Zero}
+use Rattle.bdb_tree.specs.of_format.Page.{Hash, Leaf}
+use Rattle.bdb_tree.specs.of_format.Reading.{abstract_page, hash_item_at, is_zero, listed, page_as, page_type}
+use Rattle.bdb_tree.specs.of_format.Numbers.{byte_at}
+use Rattle.bdb_tree.specs.of_format.References.{has_type}
+use Rattle.bdb_tree.proofs.of_format.MemberLemmas.{of_range}
+use Rattle.bdb_tree.proofs.of_format.PageLemmas.{length_items}
+use Rattle.bdb_tree.proofs.of_format.TypeLemmas.{of_type}
+use Rattle.bdb_tree.proofs.of_format.FileLemmas.{last_page, page_is}
+use Rattle.bdb_tree.specs.of_image.Linked.{HasMetadata, IsForest}
+use Rattle.bdb_tree.proofs.of_graph.ReadLemmas.{master_keys}
 use Rattle.bdb_law_sums.specs.Databases.{IsSoundForest, PairsAreOfDatabases, all_lists, buckets_below, by_bytes, given_on, given_pair, leaves_below}
 use Rattle.bdb_law_sums.specs.Databases.{master_fields, master_list, named_fields}
 use Rattle.bdb_law_sums.specs.HashSums.{is_hash_page}

@@ -1,18 +1,18 @@
 -- Metadata of a queue stands in no file of trees and tables.
 use Rattle.std.proofs.Common.{◌≡◌, ◌≢◌, ℕ, zero, suc, true, List, refl, subst, sym, ◌∙◌, true≢false}
-use Rattle.bdb_format.specs.declared.metadata.FileKind.{FileKind}
-use Rattle.bdb_format.specs.declared.metadata.FileKind.TheVariants.{Btree as BtreeFile, Hash as HashFile, Queue as QueueFile}
-use Rattle.bdb_format.specs.declared.metadata.QueueMeta.{QueueMeta}
-use Rattle.bdb_format.specs.File.{file_of, page_bytes}
-use Rattle.bdb_format.specs.HeadOf.{head_of}
-use Rattle.bdb_format.specs.Page.{QueueFields}
-use Rattle.bdb_format.specs.Rows.{may_have_type}
-use Rattle.bdb_format.proofs.GraphLemmas.{type_fits}
-use Rattle.bdb_format.proofs.PageLemmas.{later_type}
-use Rattle.bdb_format.proofs.FileLemmas.{kind_is}
-use Rattle.bdb_image.specs.Linked.{HasMetadata, IsForest}
-use Rattle.bdb_image.proofs.CodeLemmas.{not_zero}
-use Rattle.bdb_graph.proofs.ReadLemmas.{IsMetaPage, page_of_meta}
+use Rattle.bdb_tree.specs.of_format.declared.metadata.FileKind.{FileKind}
+use Rattle.bdb_tree.specs.of_format.declared.metadata.FileKind.TheVariants.{Btree as BtreeFile, Hash as HashFile, Queue as QueueFile}
+use Rattle.bdb_tree.specs.of_format.declared.metadata.QueueMeta.{QueueMeta}
+use Rattle.bdb_tree.specs.of_format.File.{file_of, page_bytes}
+use Rattle.bdb_tree.specs.of_format.HeadOf.{head_of}
+use Rattle.bdb_tree.specs.of_format.Page.{QueueFields}
+use Rattle.bdb_tree.specs.of_format.Rows.{may_have_type}
+use Rattle.bdb_tree.proofs.of_format.GraphLemmas.{type_fits}
+use Rattle.bdb_tree.proofs.of_format.PageLemmas.{later_type}
+use Rattle.bdb_tree.proofs.of_format.FileLemmas.{kind_is}
+use Rattle.bdb_tree.specs.of_image.Linked.{HasMetadata, IsForest}
+use Rattle.bdb_tree.proofs.of_image.CodeLemmas.{not_zero}
+use Rattle.bdb_tree.proofs.of_graph.ReadLemmas.{IsMetaPage, page_of_meta}
 
 no_queue_type : (kind : FileKind) (p : ℕ) → kind ≢ QueueFile → may_have_type kind p 10 ≡ true → ⊥
 no_queue_type BtreeFile zero other may = absurd cc

@@ -4,22 +4,22 @@ use Rattle.std.specs.Prelude.{◌==◌, not}
 use Rattle.std.specs.List.{Contains, enumerate_from, filter, flat_map, range_with_len, sum_by}
 use Rattle.std.proofs.lemmas.Bool.{cases_Bool, eq-eqb}
 use Rattle.std.proofs.lemmas.List.Sums.{sum_by-cons}
-use Rattle.bdb_format.specs.declared.metadata.HashMeta.{HashMeta}
-use Rattle.bdb_format.specs.declared.references.Sort.{Sort}
-use Rattle.bdb_format.specs.declared.references.Sort.TheVariants.{Root, DuplicateRoot}
-use Rattle.bdb_format.specs.Chains.{value_of}
-use Rattle.bdb_format.specs.Contents.{StoredPair, data_of, entries_in, live_values, table_pairs, tree_entries, tree_pairs}
-use Rattle.bdb_format.specs.File.{File, file_of, page_at, type_in}
-use Rattle.bdb_format.specs.Flags.{is_recno}
-use Rattle.bdb_format.specs.Graph.{Owner, all_references}
-use Rattle.bdb_format.specs.HeadOf.{head_of}
-use Rattle.bdb_format.specs.Leaves.{is_root_reference, leaves, root_references}
-use Rattle.bdb_format.specs.Lists.{ListKey, BytesKey, NumberKey, btree_list, by_key, hash_list, list_of, listed_entry, listed_pair, recno_list}
-use Rattle.bdb_format.specs.Page.{Item, Metadata, BtreeFields, HashFields, QueueFields, Page, RecnoLeaf, DupLeaf}
-use Rattle.bdb_format.specs.References.{has_type}
-use Rattle.bdb_format.proofs.MemberLemmas.{in_filter, member_cases, no_member}
-use Rattle.bdb_image.specs.Linked.{FitsTreeRoot, HasMetadata, IsTarget}
-use Rattle.bdb_graph.proofs.LinkedLemmas.{root_fits}
+use Rattle.bdb_tree.specs.of_format.declared.metadata.HashMeta.{HashMeta}
+use Rattle.bdb_tree.specs.of_format.declared.references.Sort.{Sort}
+use Rattle.bdb_tree.specs.of_format.declared.references.Sort.TheVariants.{Root, DuplicateRoot}
+use Rattle.bdb_tree.specs.of_format.Chains.{value_of}
+use Rattle.bdb_tree.specs.of_format.Contents.{StoredPair, data_of, entries_in, live_values, table_pairs, tree_entries, tree_pairs}
+use Rattle.bdb_tree.specs.of_format.File.{File, file_of, page_at, type_in}
+use Rattle.bdb_tree.specs.of_format.Flags.{is_recno}
+use Rattle.bdb_tree.specs.of_format.Graph.{Owner, all_references}
+use Rattle.bdb_tree.specs.of_format.HeadOf.{head_of}
+use Rattle.bdb_tree.specs.of_format.Leaves.{is_root_reference, leaves, root_references}
+use Rattle.bdb_tree.specs.of_format.Lists.{ListKey, BytesKey, NumberKey, btree_list, by_key, hash_list, list_of, listed_entry, listed_pair, recno_list}
+use Rattle.bdb_tree.specs.of_format.Page.{Item, Metadata, BtreeFields, HashFields, QueueFields, Page, RecnoLeaf, DupLeaf}
+use Rattle.bdb_tree.specs.of_format.References.{has_type}
+use Rattle.bdb_tree.proofs.of_format.MemberLemmas.{in_filter, member_cases, no_member}
+use Rattle.bdb_tree.specs.of_image.Linked.{FitsTreeRoot, HasMetadata, IsTarget}
+use Rattle.bdb_tree.proofs.of_graph.LinkedLemmas.{root_fits}
 use Rattle.bdb_tree.proofs.TreeLemmas.{leaf_inside}
 use Rattle.bdb_law_sums.specs.Counting.{times}
 use Rattle.bdb_law_sums.specs.Databases.{IsOfSet, IsOfSets, IsSoundForest, NoLeafOfBoth, RecordsAreOfDatabases, by_value, leaves_below}

@@ -6,36 +6,36 @@ use Rattle.std.specs.List.{Contains, filter, flat_map, list_all, range_with_len,
 use Rattle.std.specs.Option.{unwrap_or}
 use Rattle.std.proofs.lemmas.Bool.{and_parts, cases_Bool, eqb-true, not-false, or_parts, ltb-false}
 use Rattle.std.proofs.lemmas.List.Sums.{length-filter, sum_by-cons}
-use Rattle.bdb_format.specs.declared.metadata.FileKind.{FileKind}
-use Rattle.bdb_format.specs.declared.metadata.FileKind.TheVariants.{Btree, Hash as HashFile, Queue as QueueFile}
-use Rattle.bdb_format.specs.declared.metadata.Head.{Head}
-use Rattle.bdb_format.specs.declared.references.Reference.{Reference}
-use Rattle.bdb_format.specs.declared.references.Sort.{Sort}
-use Rattle.bdb_format.specs.declared.references.Sort.TheVariants.{Free as FreeRef, Root, Bucket, HashNext, Child, OverflowHead, OverflowNext}
-use Rattle.bdb_format.specs.declared.references.Sort.TheVariants.{DuplicateRoot}
-use Rattle.bdb_format.specs.File.{File, file_of, page_at, page_bytes, type_in}
-use Rattle.bdb_format.specs.Graph.{OneRole, Owner, all_references, held_by, is_anchor, is_anchor_in, is_head_reference, is_meta, is_spare, owners}
-use Rattle.bdb_format.specs.HeadOf.{head_of}
-use Rattle.bdb_format.specs.Leaves.{children_in, is_root_reference, leaves, root_references}
-use Rattle.bdb_format.specs.Numbers.{byte_at}
-use Rattle.bdb_format.specs.Reading.{abstract_page, is_zero, page_as, page_type}
-use Rattle.bdb_format.specs.Rows.{form_code, metadata_rows, type_of}
-use Rattle.bdb_format.specs.Table.{first_row}
-use Rattle.bdb_format.specs.declared.kinds.Order.{Order}
-use Rattle.bdb_graph.proofs.ChildLemmas.{is_queue_page}
-use Rattle.bdb_image.proofs.CodeLemmas.{first_page_code}
-use Rattle.bdb_image.proofs.FirstLemmas.{formed_page}
-use Rattle.bdb_format.specs.Page.{BtreeFields, HashFields, QueueFields, Page, Zero, Free, Meta, Hash, Internal, RecnoInternal, Leaf, RecnoLeaf}
-use Rattle.bdb_format.specs.Page.{DupLeaf, Overflow, Queue, NoType}
-use Rattle.bdb_format.specs.References.{Asked, asked_by, fit_code, fit_rows, has_type, is_zero_page, targets_of, refs}
-use Rattle.bdb_format.proofs.GraphLemmas.{each_fits, each_page_has_one_role, is_owner, owner_fits, reserve_is}
-use Rattle.bdb_format.proofs.MemberLemmas.{first_member, member_cases, no_member, of_map}
-use Rattle.bdb_format.proofs.VerdictLemmas.{AllFail, none_is_first_row}
-use Rattle.bdb_image.specs.Linked.{IsForest}
-use Rattle.bdb_graph.proofs.ForestLemmas.{sound_graph}
+use Rattle.bdb_tree.specs.of_format.declared.metadata.FileKind.{FileKind}
+use Rattle.bdb_tree.specs.of_format.declared.metadata.FileKind.TheVariants.{Btree, Hash as HashFile, Queue as QueueFile}
+use Rattle.bdb_tree.specs.of_format.declared.metadata.Head.{Head}
+use Rattle.bdb_tree.specs.of_format.declared.references.Reference.{Reference}
+use Rattle.bdb_tree.specs.of_format.declared.references.Sort.{Sort}
+use Rattle.bdb_tree.specs.of_format.declared.references.Sort.TheVariants.{Free as FreeRef, Root, Bucket, HashNext, Child, OverflowHead, OverflowNext}
+use Rattle.bdb_tree.specs.of_format.declared.references.Sort.TheVariants.{DuplicateRoot}
+use Rattle.bdb_tree.specs.of_format.File.{File, file_of, page_at, page_bytes, type_in}
+use Rattle.bdb_tree.specs.of_format.Graph.{OneRole, Owner, all_references, held_by, is_anchor, is_anchor_in, is_head_reference, is_meta, is_spare, owners}
+use Rattle.bdb_tree.specs.of_format.HeadOf.{head_of}
+use Rattle.bdb_tree.specs.of_format.Leaves.{children_in, is_root_reference, leaves, root_references}
+use Rattle.bdb_tree.specs.of_format.Numbers.{byte_at}
+use Rattle.bdb_tree.specs.of_format.Reading.{abstract_page, is_zero, page_as, page_type}
+use Rattle.bdb_tree.specs.of_format.Rows.{form_code, metadata_rows, type_of}
+use Rattle.bdb_tree.specs.of_format.Table.{first_row}
+use Rattle.bdb_tree.specs.of_format.declared.kinds.Order.{Order}
+use Rattle.bdb_tree.proofs.of_graph.ChildLemmas.{is_queue_page}
+use Rattle.bdb_tree.proofs.of_image.CodeLemmas.{first_page_code}
+use Rattle.bdb_tree.proofs.of_image.FirstLemmas.{formed_page}
+use Rattle.bdb_tree.specs.of_format.Page.{BtreeFields, HashFields, QueueFields, Page, Zero, Free, Meta, Hash, Internal, RecnoInternal, Leaf, RecnoLeaf}
+use Rattle.bdb_tree.specs.of_format.Page.{DupLeaf, Overflow, Queue, NoType}
+use Rattle.bdb_tree.specs.of_format.References.{Asked, asked_by, fit_code, fit_rows, has_type, is_zero_page, targets_of, refs}
+use Rattle.bdb_tree.proofs.of_format.GraphLemmas.{each_fits, each_page_has_one_role, is_owner, owner_fits, reserve_is}
+use Rattle.bdb_tree.proofs.of_format.MemberLemmas.{first_member, member_cases, no_member, of_map}
+use Rattle.bdb_tree.proofs.of_format.VerdictLemmas.{AllFail, none_is_first_row}
+use Rattle.bdb_tree.specs.of_image.Linked.{IsForest}
+use Rattle.bdb_tree.proofs.of_graph.ForestLemmas.{sound_graph}
 use Rattle.bdb_tree.specs.Trees.{IsRoot}
-use Rattle.bdb_format.proofs.TypeLemmas.{AllTypes, of_type}
-use Rattle.bdb_format.proofs.FileLemmas.{page_is}
+use Rattle.bdb_tree.proofs.of_format.TypeLemmas.{AllTypes, of_type}
+use Rattle.bdb_tree.proofs.of_format.FileLemmas.{page_is}
 use Rattle.bdb_tree.proofs.ShapeLemmas.{IsFormedPage, formed_at, no_queue}
 use Rattle.bdb_tree.proofs.TreeLemmas.{child_is, leaves_of_inner, leaves_of_leaf, root_is_tree, tree_cases}
 use Rattle.bdb_law_sums.specs.Counting.{AreParts, times}

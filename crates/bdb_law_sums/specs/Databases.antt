@@ -3,20 +3,20 @@ use Rattle.std.specs.Option.{option_to_list}
 use Rattle.std.specs.Prelude.{◌≡◌, ◌≢◌, ℕ, ◌+◌, ◌*◌, ◌<◌, ◌≤◌, if◌then◌else◌, Bool, true, List, [], ◌++◌, map, length, get_or}
 use Rattle.std.specs.Prelude.{Option, Some, None}
 use Rattle.std.specs.List.{Contains, flat_map, range_with_len, sum_by}
-use Rattle.bdb_format.specs.declared.metadata.BtreeMeta.{BtreeMeta}
-use Rattle.bdb_format.specs.declared.metadata.FileKind.TheVariants.{Queue}
-use Rattle.bdb_format.specs.ContentRows.{fields_of}
-use Rattle.bdb_format.specs.Contents.{StoredPair, bucket_pages, data_of, live_values, pairs_of}
-use Rattle.bdb_format.specs.Databases.{Database, databases}
-use Rattle.bdb_format.specs.File.{File, file_of, page_at}
-use Rattle.bdb_format.specs.Graph.{is_spare}
-use Rattle.bdb_format.specs.Leaves.{leaves}
-use Rattle.bdb_format.specs.Lists.{ListKey, BytesKey, NumberKey, btree_list, list_of}
-use Rattle.bdb_format.specs.Master.{master_in}
-use Rattle.bdb_format.specs.Page.{Metadata, BtreeFields, HashFields, QueueFields, Tree}
-use Rattle.bdb_format.specs.References.{no_item}
-use Rattle.bdb_format.specs.Verdict.{master_faults, structure_faults}
-use Rattle.bdb_image.specs.Linked.{FitsDupRoot, FitsTreeRoot, IsForest}
+use Rattle.bdb_tree.specs.of_format.declared.metadata.BtreeMeta.{BtreeMeta}
+use Rattle.bdb_tree.specs.of_format.declared.metadata.FileKind.TheVariants.{Queue}
+use Rattle.bdb_tree.specs.of_format.ContentRows.{fields_of}
+use Rattle.bdb_tree.specs.of_format.Contents.{StoredPair, bucket_pages, data_of, live_values, pairs_of}
+use Rattle.bdb_tree.specs.of_format.Databases.{Database, databases}
+use Rattle.bdb_tree.specs.of_format.File.{File, file_of, page_at}
+use Rattle.bdb_tree.specs.of_format.Graph.{is_spare}
+use Rattle.bdb_tree.specs.of_format.Leaves.{leaves}
+use Rattle.bdb_tree.specs.of_format.Lists.{ListKey, BytesKey, NumberKey, btree_list, list_of}
+use Rattle.bdb_tree.specs.of_format.Master.{master_in}
+use Rattle.bdb_tree.specs.of_format.Page.{Metadata, BtreeFields, HashFields, QueueFields, Tree}
+use Rattle.bdb_tree.specs.of_format.References.{no_item}
+use Rattle.bdb_tree.specs.of_format.Verdict.{master_faults, structure_faults}
+use Rattle.bdb_tree.specs.of_image.Linked.{FitsDupRoot, FitsTreeRoot, IsForest}
 use Rattle.bdb_tree.specs.Noted.{paired}
 use Rattle.bdb_law_sums.specs.HashSums.{is_hash_page}
 use Rattle.bdb_law_sums.specs.TreeSums.{leaf_weight}

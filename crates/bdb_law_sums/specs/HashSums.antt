@@ -1,15 +1,15 @@
 -- Sums over hash pages: over all pages, and over the buckets that they belong to. Source: docs/FORMAT.md, "References".
 use Rattle.std.specs.Prelude.{◌≡◌, ℕ, ◌+◌, Bool, true, false, List, [], ◌∷◌}
 use Rattle.std.specs.List.{filter, range_with_len, sum_by}
-use Rattle.bdb_format.specs.declared.references.Sort.{Sort}
-use Rattle.bdb_format.specs.declared.references.Sort.TheVariants.{Bucket}
-use Rattle.bdb_format.specs.Chains.{chain}
-use Rattle.bdb_format.specs.Contents.{StoredPair}
-use Rattle.bdb_format.specs.Lists.{by_key}
-use Rattle.bdb_format.specs.File.{File, file_of, page_at, type_in}
-use Rattle.bdb_format.specs.Graph.{Owner, all_references, is_spare}
-use Rattle.bdb_format.specs.References.{has_type}
-use Rattle.bdb_image.specs.Linked.{IsForest}
+use Rattle.bdb_tree.specs.of_format.declared.references.Sort.{Sort}
+use Rattle.bdb_tree.specs.of_format.declared.references.Sort.TheVariants.{Bucket}
+use Rattle.bdb_tree.specs.of_format.Chains.{chain}
+use Rattle.bdb_tree.specs.of_format.Contents.{StoredPair}
+use Rattle.bdb_tree.specs.of_format.Lists.{by_key}
+use Rattle.bdb_tree.specs.of_format.File.{File, file_of, page_at, type_in}
+use Rattle.bdb_tree.specs.of_format.Graph.{Owner, all_references, is_spare}
+use Rattle.bdb_tree.specs.of_format.References.{has_type}
+use Rattle.bdb_tree.specs.of_image.Linked.{IsForest}
 
 abbrev pub is_hash_page : File → ℕ → Bool
 is_hash_page file p = has_type (2 ∷ 13 ∷ []) (type_in (page_at file p))

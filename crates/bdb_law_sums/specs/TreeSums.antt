@@ -1,11 +1,11 @@
 -- Sums over leaves: over all pages, and over the trees that hold them. Source: docs/FORMAT.md, "References".
 use Rattle.std.specs.Prelude.{◌≡◌, ◌≤◌, IsTrue, ℕ, ◌+◌, if◌then◌else◌, List, [], ◌∷◌}
 use Rattle.std.specs.List.{range_with_len, sum_by}
-use Rattle.bdb_format.specs.File.{File, file_of, page_at, type_in}
-use Rattle.bdb_format.specs.Graph.{Owner}
-use Rattle.bdb_format.specs.Leaves.{leaves, root_references}
-use Rattle.bdb_format.specs.References.{has_type}
-use Rattle.bdb_image.specs.Linked.{IsForest}
+use Rattle.bdb_tree.specs.of_format.File.{File, file_of, page_at, type_in}
+use Rattle.bdb_tree.specs.of_format.Graph.{Owner}
+use Rattle.bdb_tree.specs.of_format.Leaves.{leaves, root_references}
+use Rattle.bdb_tree.specs.of_format.References.{has_type}
+use Rattle.bdb_tree.specs.of_image.Linked.{IsForest}
 use Rattle.bdb_law_sums.specs.Counting.{times}
 
 -- what a leaf weighs; another page weighs nothing

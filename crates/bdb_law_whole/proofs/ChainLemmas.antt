@@ -3,32 +3,32 @@ use Rattle.std.proofs.Common.{◌≡◌, ◌⊎◌, ℕ, zero, suc, ◌+◌, ◌
 use Rattle.std.specs.Prelude.{◌==◌, ◌&&◌, not, nat_lt, Some, None}
 use Rattle.std.specs.List.{Contains}
 use Rattle.std.proofs.lemmas.Bool.{and_from, cases_Bool, cases_eq, eq-eqb, eqb-false, eqb-true, ltb-false, ne_eqb, not-false, or_parts}
-use Rattle.bdb_format.specs.declared.kinds.Order.{Order}
-use Rattle.bdb_format.specs.declared.references.Reference.{Reference}
-use Rattle.bdb_format.specs.declared.references.Sort.TheVariants.{OverflowNext}
-use Rattle.bdb_format.specs.Chains.{chain_in, chains_in, content_chains, is_wrong_length, joined, next_of, pieces_of}
-use Rattle.bdb_format.specs.File.{File, file_of, header_in, page_at, page_bytes, type_in}
-use Rattle.bdb_format.specs.HeadOf.{head_of}
-use Rattle.bdb_format.specs.Numbers.{byte_at}
-use Rattle.bdb_format.specs.Page.{Chain, Page, Overflow, PageType, FreePage, HashPage, InternalPage, RecnoInternalPage, LeafPage, RecnoLeafPage, OverflowPage}
-use Rattle.bdb_format.specs.Page.{HashMetaPage, BtreeMetaPage, QueueMetaPage, QueuePage, DupLeafPage, OtherPage}
-use Rattle.bdb_format.specs.Reading.{abstract_page, is_zero, listed, page_as, page_type}
-use Rattle.bdb_format.specs.References.{asked_by, contents_in, fit_code, fit_rows, is_zero_page, has_type, refs, targets_in}
-use Rattle.bdb_format.specs.Verdict.{reference_faults, structure_faults, structure_rows}
-use Rattle.bdb_format.proofs.BoolLemmas.{first_or_none}
-use Rattle.bdb_format.proofs.GraphLemmas.{each_fits, typed_page}
-use Rattle.bdb_format.proofs.MemberLemmas.{first_member, in_flat_map, none_passes}
-use Rattle.bdb_format.proofs.ReferenceLemmas.{forest_names, of_all}
-use Rattle.bdb_format.proofs.TypeLemmas.{if_type, of_type}
-use Rattle.bdb_format.proofs.VerdictLemmas.{AllFail, no_rows_at, none_is_first_row}
-use Rattle.bdb_format.proofs.FileLemmas.{count_is, kind_is, last_page, page_is}
-use Rattle.bdb_image.specs.Fits.{asks_previous}
-use Rattle.bdb_graph.specs.Forest.{AllDistinct, IsWayDown, Names}
-use Rattle.bdb_image.specs.Linked.{FitsChain, IsForest}
-use Rattle.bdb_image.proofs.FirstLemmas.{formed_last}
-use Rattle.bdb_image.proofs.FitLemmas.{zero_type}
-use Rattle.bdb_graph.proofs.ForestLemmas.{no_page_twice_below, sound_graph}
-use Rattle.bdb_graph.proofs.ReachLemmas.{AllUpTo, few_distinct}
+use Rattle.bdb_survey.specs.of_format.declared.kinds.Order.{Order}
+use Rattle.bdb_survey.specs.of_format.declared.references.Reference.{Reference}
+use Rattle.bdb_survey.specs.of_format.declared.references.Sort.TheVariants.{OverflowNext}
+use Rattle.bdb_survey.specs.of_format.Chains.{chain_in, chains_in, content_chains, is_wrong_length, joined, next_of, pieces_of}
+use Rattle.bdb_survey.specs.of_format.File.{File, file_of, header_in, page_at, page_bytes, type_in}
+use Rattle.bdb_survey.specs.of_format.HeadOf.{head_of}
+use Rattle.bdb_survey.specs.of_format.Numbers.{byte_at}
+use Rattle.bdb_survey.specs.of_format.Page.{Chain, Page, Overflow, PageType, FreePage, HashPage, InternalPage, RecnoInternalPage, LeafPage, RecnoLeafPage, OverflowPage}
+use Rattle.bdb_survey.specs.of_format.Page.{HashMetaPage, BtreeMetaPage, QueueMetaPage, QueuePage, DupLeafPage, OtherPage}
+use Rattle.bdb_survey.specs.of_format.Reading.{abstract_page, is_zero, listed, page_as, page_type}
+use Rattle.bdb_survey.specs.of_format.References.{asked_by, contents_in, fit_code, fit_rows, is_zero_page, has_type, refs, targets_in}
+use Rattle.bdb_survey.specs.of_format.Verdict.{reference_faults, structure_faults, structure_rows}
+use Rattle.bdb_survey.proofs.of_format.BoolLemmas.{first_or_none}
+use Rattle.bdb_survey.proofs.of_format.GraphLemmas.{each_fits, typed_page}
+use Rattle.bdb_survey.proofs.of_format.MemberLemmas.{first_member, in_flat_map, none_passes}
+use Rattle.bdb_survey.proofs.of_format.ReferenceLemmas.{forest_names, of_all}
+use Rattle.bdb_survey.proofs.of_format.TypeLemmas.{if_type, of_type}
+use Rattle.bdb_survey.proofs.of_format.VerdictLemmas.{AllFail, no_rows_at, none_is_first_row}
+use Rattle.bdb_survey.proofs.of_format.FileLemmas.{count_is, kind_is, last_page, page_is}
+use Rattle.bdb_survey.specs.of_image.Fits.{asks_previous}
+use Rattle.bdb_survey.specs.of_graph.Forest.{AllDistinct, IsWayDown, Names}
+use Rattle.bdb_survey.specs.of_image.Linked.{FitsChain, IsForest}
+use Rattle.bdb_survey.proofs.of_image.FirstLemmas.{formed_last}
+use Rattle.bdb_survey.proofs.of_image.FitLemmas.{zero_type}
+use Rattle.bdb_survey.proofs.of_graph.ForestLemmas.{no_page_twice_below, sound_graph}
+use Rattle.bdb_survey.proofs.of_graph.ReachLemmas.{AllUpTo, few_distinct}
 use Rattle.bdb_survey.specs.Salvage.{follows, is_link, is_overflow, is_row, is_whole}
 use Rattle.bdb_law_whole.specs.Whole.{IsStructured}
 

@@ -3,21 +3,21 @@ use Rattle.std.proofs.Common.{◌≡◌, ℕ, zero, suc, ◌-◌, ◌<◌, ◌�
 use Rattle.std.specs.Prelude.{◌==◌, ◌&&◌, ◌%◌, nat_le, slice_index, if◌then◌else◌}
 use Rattle.std.specs.List.{Contains}
 use Rattle.std.proofs.lemmas.Bool.{and_parts, cases_Bool, eqb-true, leb-true}
-use Rattle.bdb_format.specs.declared.kinds.Order.{Order}
-use Rattle.bdb_format.specs.Chains.{joined, pieces_of, value_of}
-use Rattle.bdb_format.specs.File.{File, file_of, page_at, page_bytes}
-use Rattle.bdb_format.specs.HeadOf.{head_of}
-use Rattle.bdb_format.specs.Page.{Content, Inline, Set, Chain, Tree, Unknown, Item, Listed, Page, Leaf}
-use Rattle.bdb_format.specs.Reading.{entries_of, leaf_item_at, listed}
-use Rattle.bdb_format.specs.References.{contents_in, is_shared_key, item_at}
-use Rattle.bdb_format.proofs.LeafLemmas.{leaf_item_is, one_offset}
-use Rattle.bdb_format.proofs.PageLemmas.{index_offset, length_items}
-use Rattle.bdb_format.proofs.TargetLemmas.{own_held}
-use Rattle.bdb_format.proofs.FileLemmas.{last_page, page_is}
-use Rattle.bdb_graph.proofs.ChildLemmas.{is_queue_page}
-use Rattle.bdb_overflow.proofs.ContentLemmas.{held_fits, leaf_of}
+use Rattle.bdb_survey.specs.of_format.declared.kinds.Order.{Order}
+use Rattle.bdb_survey.specs.of_format.Chains.{joined, pieces_of, value_of}
+use Rattle.bdb_survey.specs.of_format.File.{File, file_of, page_at, page_bytes}
+use Rattle.bdb_survey.specs.of_format.HeadOf.{head_of}
+use Rattle.bdb_survey.specs.of_format.Page.{Content, Inline, Set, Chain, Tree, Unknown, Item, Listed, Page, Leaf}
+use Rattle.bdb_survey.specs.of_format.Reading.{entries_of, leaf_item_at, listed}
+use Rattle.bdb_survey.specs.of_format.References.{contents_in, is_shared_key, item_at}
+use Rattle.bdb_survey.proofs.of_format.LeafLemmas.{leaf_item_is, one_offset}
+use Rattle.bdb_survey.proofs.of_format.PageLemmas.{index_offset, length_items}
+use Rattle.bdb_survey.proofs.of_format.TargetLemmas.{own_held}
+use Rattle.bdb_survey.proofs.of_format.FileLemmas.{last_page, page_is}
+use Rattle.bdb_survey.proofs.of_graph.ChildLemmas.{is_queue_page}
+use Rattle.bdb_survey.proofs.of_overflow.ContentLemmas.{held_fits, leaf_of}
 use Rattle.bdb_survey.specs.Salvage.{is_whole, whole_values}
-use Rattle.bdb_tree.proofs.ShapeLemmas.{IsAlone}
+use Rattle.bdb_survey.proofs.of_tree.ShapeLemmas.{IsAlone}
 use Rattle.bdb_law_whole.specs.Whole.{IsStructured}
 use Rattle.bdb_law_whole.proofs.ChainLemmas.{named_whole}
 

@@ -3,20 +3,20 @@ use Rattle.std.proofs.Common.{◌≡◌, ℕ, zero, suc, ◌+◌, ◌-◌, ◌<�
 use Rattle.std.specs.Prelude.{if◌then◌else◌}
 use Rattle.std.specs.List.{count_by, flat_map, range_with_len, sum_by}
 use Rattle.std.proofs.lemmas.List.Sums.{sum_by-append, sum_by-cons}
-use Rattle.bdb_format.specs.Contents.{entries_in}
-use Rattle.bdb_format.specs.File.{File, file_of}
-use Rattle.bdb_format.specs.HeadOf.{head_of}
-use Rattle.bdb_format.specs.Lists.{ListKey, BytesKey, NumberKey}
-use Rattle.bdb_format.proofs.ListLemmas.{range_zero_more}
-use Rattle.bdb_format.proofs.MemberLemmas.{of_range}
-use Rattle.bdb_format.proofs.FileLemmas.{kind_is, past_last}
+use Rattle.bdb_survey.specs.of_format.Contents.{entries_in}
+use Rattle.bdb_survey.specs.of_format.File.{File, file_of}
+use Rattle.bdb_survey.specs.of_format.HeadOf.{head_of}
+use Rattle.bdb_survey.specs.of_format.Lists.{ListKey, BytesKey, NumberKey}
+use Rattle.bdb_survey.proofs.of_format.ListLemmas.{range_zero_more}
+use Rattle.bdb_survey.proofs.of_format.MemberLemmas.{of_range}
+use Rattle.bdb_survey.proofs.of_format.FileLemmas.{kind_is, past_last}
 use Rattle.bdb_survey.specs.Salvage.{is_taken, item_pairs, live_value, live_whole, loose, loose_on, stored, stored_on, stored_pair}
 use Rattle.bdb_survey.proofs.StoredPageLemmas.{count_is}
-use Rattle.bdb_law_sums.specs.Databases.{IsSoundForest, all_lists, by_bytes, by_value, given_on, left_on}
-use Rattle.bdb_law_sums.proofs.CountLemmas.{sum_parts, sum_same}
-use Rattle.bdb_law_sums.proofs.MetaLemmas.{sound_forest}
-use Rattle.bdb_law_sums.proofs.PairLemmas.{pairs_are_of_databases}
-use Rattle.bdb_law_sums.proofs.RecordLemmas.{records_are_of_databases}
+use Rattle.bdb_survey.specs.of_law_sums.Databases.{IsSoundForest, all_lists, by_bytes, by_value, given_on, left_on}
+use Rattle.bdb_survey.proofs.of_law_sums.CountLemmas.{sum_parts, sum_same}
+use Rattle.bdb_survey.proofs.of_law_sums.MetaLemmas.{sound_forest}
+use Rattle.bdb_survey.proofs.of_law_sums.PairLemmas.{pairs_are_of_databases}
+use Rattle.bdb_survey.proofs.of_law_sums.RecordLemmas.{records_are_of_databases}
 use Rattle.bdb_law_whole.specs.Guessed.{guessed}
 use Rattle.bdb_law_whole.specs.Kept.{SoundFilesAreKept, on_pair, on_record}
 use Rattle.bdb_law_whole.specs.Whole.{AreBytes, IsStructured}

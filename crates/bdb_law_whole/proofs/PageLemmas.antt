@@ -2,26 +2,26 @@
 use Rattle.std.proofs.Common.{◌≡◌, ◌⊎◌, ℕ, ◌+◌, ◌-◌, ◌/◌, ◌<◌, ◌≤◌, true, false, List, [], length, arith, sym, ◌∙◌, ap, subst, inl, inr}
 use Rattle.std.specs.Prelude.{◌==◌, Option, None}
 use Rattle.std.proofs.lemmas.Bool.{cases_Bool, cases_lt, eqb-true, not-false}
-use Rattle.bdb_format.specs.declared.kinds.Order.{Order}
-use Rattle.bdb_format.specs.declared.metadata.FileKind.TheVariants.{Queue}
-use Rattle.bdb_format.specs.declared.metadata.Head.{Head}
-use Rattle.bdb_format.specs.File.{file_of, page_at, page_bytes}
-use Rattle.bdb_format.specs.HeadOf.{head_of}
-use Rattle.bdb_format.specs.Numbers.{byte_at, four_at}
-use Rattle.bdb_format.specs.Page.{Page, Zero, NoType}
-use Rattle.bdb_format.specs.Reading.{abstract_page, is_zero, page_type}
-use Rattle.bdb_format.specs.Rows.{body_code, identity_rows, is_tree_type, page_code}
-use Rattle.bdb_format.specs.Table.{first_row}
-use Rattle.bdb_format.specs.Verdict.{head_faults, holding, tail_faults, tail_rows}
-use Rattle.bdb_format.proofs.VerdictLemmas.{all_fail, no_codes_at, none_is_first_row, none_within, or_else_none}
-use Rattle.bdb_format.proofs.GraphLemmas.{zero_page}
-use Rattle.bdb_format.proofs.FileLemmas.{past_last, count_is as pages_are, last_page, page_is as file_page}
-use Rattle.bdb_image.specs.Linked.{IsForest}
-use Rattle.bdb_image.proofs.CodeLemmas.{code_by}
-use Rattle.bdb_image.proofs.FirstLemmas.{formed_last, formed_page}
-use Rattle.bdb_image.proofs.HeldLemmas.{identity_none}
-use Rattle.bdb_graph.proofs.LinkedLemmas.{forest_code}
-use Rattle.bdb_overflow.proofs.LinkedLemmas.{count_is}
+use Rattle.bdb_survey.specs.of_format.declared.kinds.Order.{Order}
+use Rattle.bdb_survey.specs.of_format.declared.metadata.FileKind.TheVariants.{Queue}
+use Rattle.bdb_survey.specs.of_format.declared.metadata.Head.{Head}
+use Rattle.bdb_survey.specs.of_format.File.{file_of, page_at, page_bytes}
+use Rattle.bdb_survey.specs.of_format.HeadOf.{head_of}
+use Rattle.bdb_survey.specs.of_format.Numbers.{byte_at, four_at}
+use Rattle.bdb_survey.specs.of_format.Page.{Page, Zero, NoType}
+use Rattle.bdb_survey.specs.of_format.Reading.{abstract_page, is_zero, page_type}
+use Rattle.bdb_survey.specs.of_format.Rows.{body_code, identity_rows, is_tree_type, page_code}
+use Rattle.bdb_survey.specs.of_format.Table.{first_row}
+use Rattle.bdb_survey.specs.of_format.Verdict.{head_faults, holding, tail_faults, tail_rows}
+use Rattle.bdb_survey.proofs.of_format.VerdictLemmas.{all_fail, no_codes_at, none_is_first_row, none_within, or_else_none}
+use Rattle.bdb_survey.proofs.of_format.GraphLemmas.{zero_page}
+use Rattle.bdb_survey.proofs.of_format.FileLemmas.{past_last, count_is as pages_are, last_page, page_is as file_page}
+use Rattle.bdb_survey.specs.of_image.Linked.{IsForest}
+use Rattle.bdb_survey.proofs.of_image.CodeLemmas.{code_by}
+use Rattle.bdb_survey.proofs.of_image.FirstLemmas.{formed_last, formed_page}
+use Rattle.bdb_survey.proofs.of_image.HeldLemmas.{identity_none}
+use Rattle.bdb_survey.proofs.of_graph.LinkedLemmas.{forest_code}
+use Rattle.bdb_survey.proofs.of_overflow.LinkedLemmas.{count_is}
 use Rattle.bdb_survey.specs.Salvage.{salvaged_page, unless_code}
 use Rattle.bdb_survey.proofs.StoredPageLemmas.{page_is, page_past}
 use Rattle.bdb_survey.proofs.StoredPageLemmas.{count_is as salvaged_count}

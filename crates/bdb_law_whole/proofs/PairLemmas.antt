@@ -5,19 +5,19 @@ use Rattle.std.specs.Prelude.{not, if◌then◌else◌}
 use Rattle.std.specs.List.{Contains, filter, flat_map, range_with_len}
 use Rattle.std.proofs.lemmas.List.Elements.{Contains-get_or}
 use Rattle.std.proofs.lemmas.List.Folds.{flat_map-map}
-use Rattle.bdb_format.specs.Chains.{value_of}
-use Rattle.bdb_format.specs.Contents.{data_of, entries_in, live_values, pair_at, pairs_in, pairs_of}
-use Rattle.bdb_format.specs.File.{File, file_of, page_at}
-use Rattle.bdb_format.specs.Leaves.{leaves}
-use Rattle.bdb_format.specs.Page.{Content, Inline, Set, Chain, Tree, Unknown, Item, Listed, Page, Hash, Leaf, RecnoLeaf, DupLeaf}
-use Rattle.bdb_format.specs.References.{is_shared_key, item_at, no_item}
-use Rattle.bdb_format.proofs.MemberLemmas.{first_member, in_map, later_member, member_cases, no_member, of_range}
-use Rattle.bdb_format.proofs.ListLemmas.{flat_map_same}
-use Rattle.bdb_image.specs.Linked.{FitsDupRoot}
+use Rattle.bdb_survey.specs.of_format.Chains.{value_of}
+use Rattle.bdb_survey.specs.of_format.Contents.{data_of, entries_in, live_values, pair_at, pairs_in, pairs_of}
+use Rattle.bdb_survey.specs.of_format.File.{File, file_of, page_at}
+use Rattle.bdb_survey.specs.of_format.Leaves.{leaves}
+use Rattle.bdb_survey.specs.of_format.Page.{Content, Inline, Set, Chain, Tree, Unknown, Item, Listed, Page, Hash, Leaf, RecnoLeaf, DupLeaf}
+use Rattle.bdb_survey.specs.of_format.References.{is_shared_key, item_at, no_item}
+use Rattle.bdb_survey.proofs.of_format.MemberLemmas.{first_member, in_map, later_member, member_cases, no_member, of_range}
+use Rattle.bdb_survey.proofs.of_format.ListLemmas.{flat_map_same}
+use Rattle.bdb_survey.specs.of_image.Linked.{FitsDupRoot}
 use Rattle.bdb_survey.specs.Salvage.{item_pairs, live_value, live_whole, pair_in, paired_items, stored_on, stored_pair, whole_data, whole_values}
-use Rattle.bdb_tree.proofs.ShapeLemmas.{AreAlone, IsAlone, IsFormedPage, SetsAreData, formed_at}
-use Rattle.bdb_tree.proofs.TreeLemmas.{hash_dup_root, leaf_dup_root, leaf_low, root_is_tree}
-use Rattle.bdb_law_sums.specs.Databases.{given_on, given_pair}
+use Rattle.bdb_survey.proofs.of_tree.ShapeLemmas.{AreAlone, IsAlone, IsFormedPage, SetsAreData, formed_at}
+use Rattle.bdb_survey.proofs.of_tree.TreeLemmas.{hash_dup_root, leaf_dup_root, leaf_low, root_is_tree}
+use Rattle.bdb_survey.specs.of_law_sums.Databases.{given_on, given_pair}
 use Rattle.bdb_law_whole.specs.Guessed.{guessed}
 use Rattle.bdb_law_whole.specs.Whole.{AreBytes, IsStructured}
 use Rattle.bdb_law_whole.proofs.AlikeLemmas.{same_values, same_values_on}

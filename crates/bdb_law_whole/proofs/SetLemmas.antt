@@ -7,35 +7,35 @@ use Rattle.std.specs.List.{Contains, flat_map}
 use Rattle.std.proofs.lemmas.Bool.{and_parts, cases_lt, eq-eqb, eqb-true, le-ltb, ne_eqb, not-false}
 use Rattle.std.proofs.lemmas.List.{get_or_past}
 use Rattle.std.proofs.lemmas.List.Elements.{All-drop, All-get_or, All-take}
-use Rattle.bdb_format.specs.declared.kinds.Order.{Order}
-use Rattle.bdb_format.specs.declared.references.Sort.{Sort}
-use Rattle.bdb_format.specs.declared.references.Sort.TheVariants.{DuplicateRoot}
-use Rattle.bdb_format.specs.Chains.{chain, next_of}
-use Rattle.bdb_format.specs.File.{File, file_of, header_in, page_at, page_bytes, type_in}
-use Rattle.bdb_format.specs.HeadOf.{head_of}
-use Rattle.bdb_format.specs.Leaves.{LeafPlace, children_in, is_wrong_leaf, is_wrong_link, leaf_places, leaves, places_from, wrong_leaf_types}
-use Rattle.bdb_format.specs.Numbers.{byte_at}
-use Rattle.bdb_format.specs.Page.{Page, Zero, NoType, RecnoLeaf, DupLeaf, PageType, FreePage, HashPage, InternalPage, RecnoInternalPage, LeafPage}
-use Rattle.bdb_format.specs.Page.{RecnoLeafPage, OverflowPage, HashMetaPage, BtreeMetaPage, QueueMetaPage, QueuePage, DupLeafPage, OtherPage}
-use Rattle.bdb_format.specs.Reading.{abstract_page, is_zero, listed, page_as, page_type}
-use Rattle.bdb_format.specs.References.{child_types, fit_code, has_type}
-use Rattle.bdb_format.specs.Verdict.{structure_faults, structure_rows}
-use Rattle.bdb_format.proofs.BoolLemmas.{second_false}
-use Rattle.bdb_format.proofs.MemberLemmas.{first_member, later_member, member_cases, no_member, none_passes}
-use Rattle.bdb_format.proofs.TypeLemmas.{of_type}
-use Rattle.bdb_format.proofs.VerdictLemmas.{AllFail, no_rows_at}
-use Rattle.bdb_format.proofs.FileLemmas.{last_page, page_is}
-use Rattle.bdb_image.specs.Linked.{FitsDupRoot, FitsLeafPage, IsForest}
+use Rattle.bdb_survey.specs.of_format.declared.kinds.Order.{Order}
+use Rattle.bdb_survey.specs.of_format.declared.references.Sort.{Sort}
+use Rattle.bdb_survey.specs.of_format.declared.references.Sort.TheVariants.{DuplicateRoot}
+use Rattle.bdb_survey.specs.of_format.Chains.{chain, next_of}
+use Rattle.bdb_survey.specs.of_format.File.{File, file_of, header_in, page_at, page_bytes, type_in}
+use Rattle.bdb_survey.specs.of_format.HeadOf.{head_of}
+use Rattle.bdb_survey.specs.of_format.Leaves.{LeafPlace, children_in, is_wrong_leaf, is_wrong_link, leaf_places, leaves, places_from, wrong_leaf_types}
+use Rattle.bdb_survey.specs.of_format.Numbers.{byte_at}
+use Rattle.bdb_survey.specs.of_format.Page.{Page, Zero, NoType, RecnoLeaf, DupLeaf, PageType, FreePage, HashPage, InternalPage, RecnoInternalPage, LeafPage}
+use Rattle.bdb_survey.specs.of_format.Page.{RecnoLeafPage, OverflowPage, HashMetaPage, BtreeMetaPage, QueueMetaPage, QueuePage, DupLeafPage, OtherPage}
+use Rattle.bdb_survey.specs.of_format.Reading.{abstract_page, is_zero, listed, page_as, page_type}
+use Rattle.bdb_survey.specs.of_format.References.{child_types, fit_code, has_type}
+use Rattle.bdb_survey.specs.of_format.Verdict.{structure_faults, structure_rows}
+use Rattle.bdb_survey.proofs.of_format.BoolLemmas.{second_false}
+use Rattle.bdb_survey.proofs.of_format.MemberLemmas.{first_member, later_member, member_cases, no_member, none_passes}
+use Rattle.bdb_survey.proofs.of_format.TypeLemmas.{of_type}
+use Rattle.bdb_survey.proofs.of_format.VerdictLemmas.{AllFail, no_rows_at}
+use Rattle.bdb_survey.proofs.of_format.FileLemmas.{last_page, page_is}
+use Rattle.bdb_survey.specs.of_image.Linked.{FitsDupRoot, FitsLeafPage, IsForest}
 use Rattle.bdb_survey.specs.Salvage.{down, down_by, down_in, fits_below, follows, is_like, is_row, row_from, set_start, whole_set}
 use Rattle.bdb_survey.proofs.StoredPageLemmas.{last_is}
-use Rattle.bdb_tree.specs.Links.{pages_from}
-use Rattle.bdb_tree.specs.Trees.{IsTreePage}
-use Rattle.bdb_tree.proofs.BelongLemmas.{leaf_above, tree_above}
-use Rattle.bdb_tree.proofs.LinkLemmas.{all_pages}
-use Rattle.bdb_tree.proofs.TreeLemmas.{IsChild, child_is, dup_leaf_page, inner_type, leaf_fits, leaf_low, leaves_of_inner, leaves_of_leaf, level, link_is_right}
-use Rattle.bdb_tree.proofs.TreeLemmas.{place_of_root, recno_leaf, recno_leaf_page, root_is_tree, tree_cases, tree_inside, tree_level}
-use Rattle.bdb_tree.proofs.NotedLemmas.{place_leaf}
-use Rattle.bdb_law_sums.proofs.LeafLemmas.{keyed_leaf}
+use Rattle.bdb_survey.specs.of_tree.Links.{pages_from}
+use Rattle.bdb_survey.specs.of_tree.Trees.{IsTreePage}
+use Rattle.bdb_survey.proofs.of_tree.BelongLemmas.{leaf_above, tree_above}
+use Rattle.bdb_survey.proofs.of_tree.LinkLemmas.{all_pages}
+use Rattle.bdb_survey.proofs.of_tree.TreeLemmas.{IsChild, child_is, dup_leaf_page, inner_type, leaf_fits, leaf_low, leaves_of_inner, leaves_of_leaf, level, link_is_right}
+use Rattle.bdb_survey.proofs.of_tree.TreeLemmas.{place_of_root, recno_leaf, recno_leaf_page, root_is_tree, tree_cases, tree_inside, tree_level}
+use Rattle.bdb_survey.proofs.of_tree.NotedLemmas.{place_leaf}
+use Rattle.bdb_survey.proofs.of_law_sums.LeafLemmas.{keyed_leaf}
 use Rattle.bdb_law_whole.specs.Guessed.{guessed}
 use Rattle.bdb_law_whole.specs.Whole.{AreBytes, IsStructured}
 use Rattle.bdb_law_whole.proofs.AlikeLemmas.{same_chain, same_row}

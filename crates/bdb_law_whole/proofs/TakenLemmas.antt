@@ -3,21 +3,21 @@ use Rattle.std.proofs.Common.{◌≡◌, ℕ, ◌+◌, ◌*◌, ◌/◌, ◌<◌
 use Rattle.std.specs.Prelude.{◌==◌}
 use Rattle.std.specs.List.{Contains, flat_map, range_with_len}
 use Rattle.std.proofs.lemmas.Bool.{cases_lt, eq-eqb, eqb-true}
-use Rattle.bdb_format.specs.Chains.{chain}
-use Rattle.bdb_format.specs.File.{file_of, page_at}
-use Rattle.bdb_format.specs.HeadOf.{head_of}
-use Rattle.bdb_format.specs.Leaves.{leaves}
-use Rattle.bdb_format.specs.Page.{Content, Tree, Item, Page, Leaf, Hash}
-use Rattle.bdb_format.specs.References.{no_item}
-use Rattle.bdb_format.proofs.ListLemmas.{any_member, only_member, passes_here}
-use Rattle.bdb_format.proofs.MemberLemmas.{first_member, in_flat_map, in_map, in_range, no_member, of_flat_map, of_map, of_range}
-use Rattle.bdb_format.proofs.FileLemmas.{past_last}
-use Rattle.bdb_image.specs.Linked.{FitsDupRoot}
+use Rattle.bdb_survey.specs.of_format.Chains.{chain}
+use Rattle.bdb_survey.specs.of_format.File.{file_of, page_at}
+use Rattle.bdb_survey.specs.of_format.HeadOf.{head_of}
+use Rattle.bdb_survey.specs.of_format.Leaves.{leaves}
+use Rattle.bdb_survey.specs.of_format.Page.{Content, Tree, Item, Page, Leaf, Hash}
+use Rattle.bdb_survey.specs.of_format.References.{no_item}
+use Rattle.bdb_survey.proofs.of_format.ListLemmas.{any_member, only_member, passes_here}
+use Rattle.bdb_survey.proofs.of_format.MemberLemmas.{first_member, in_flat_map, in_map, in_range, no_member, of_flat_map, of_map, of_range}
+use Rattle.bdb_survey.proofs.of_format.FileLemmas.{past_last}
+use Rattle.bdb_survey.specs.of_image.Linked.{FitsDupRoot}
 use Rattle.bdb_survey.specs.Salvage.{ItemPair, is_taken, item_pairs, pair_in, pair_start, paired_items, set_start, set_starts, start_in, whole_values}
 use Rattle.bdb_survey.proofs.StoredPageLemmas.{count_is}
-use Rattle.bdb_tree.specs.Noted.{paired}
-use Rattle.bdb_law_sums.specs.Databases.{IsOfSet, IsOfSets, IsSetOfPair}
-use Rattle.bdb_law_sums.proofs.SetLemmas.{sets_are_of_pairs}
+use Rattle.bdb_survey.specs.of_tree.Noted.{paired}
+use Rattle.bdb_survey.specs.of_law_sums.Databases.{IsOfSet, IsOfSets, IsSetOfPair}
+use Rattle.bdb_survey.proofs.of_law_sums.SetLemmas.{sets_are_of_pairs}
 use Rattle.bdb_law_whole.specs.Guessed.{guessed}
 use Rattle.bdb_law_whole.specs.Whole.{AreBytes, IsStructured}
 use Rattle.bdb_law_whole.proofs.PageLemmas.{last_there, same_page, seen_alike}

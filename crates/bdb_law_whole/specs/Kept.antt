@@ -1,12 +1,12 @@
 -- What salvage keeps of a sound file: all that its databases list. Source: docs/FORMAT.md, "Salvage".
 use Rattle.std.specs.Prelude.{◌≡◌, ◌≢◌, ◌^◌, ◌≤◌, ℕ, Bool, false, List, [], length}
 use Rattle.std.specs.List.{count_by}
-use Rattle.bdb_format.specs.declared.metadata.FileKind.TheVariants.{Queue}
-use Rattle.bdb_format.specs.File.{File, file_of}
-use Rattle.bdb_format.specs.Lists.{ListKey, BytesKey, NumberKey}
-use Rattle.bdb_format.specs.Verdict.{faults_of}
+use Rattle.bdb_survey.specs.of_format.declared.metadata.FileKind.TheVariants.{Queue}
+use Rattle.bdb_survey.specs.of_format.File.{File, file_of}
+use Rattle.bdb_survey.specs.of_format.Lists.{ListKey, BytesKey, NumberKey}
+use Rattle.bdb_survey.specs.of_format.Verdict.{faults_of}
 use Rattle.bdb_survey.specs.Salvage.{loose, stored}
-use Rattle.bdb_law_sums.specs.Databases.{all_lists}
+use Rattle.bdb_survey.specs.of_law_sums.Databases.{all_lists}
 use Rattle.bdb_law_whole.specs.Guessed.{guessed}
 use Rattle.bdb_law_whole.specs.Whole.{AreBytes}
 

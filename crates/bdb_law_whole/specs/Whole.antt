@@ -1,14 +1,14 @@
 -- What salvage reads of a sound file. Source: docs/FORMAT.md, "Salvage".
 use Rattle.std.specs.Prelude.{◌≡◌, ◌<◌, ◌≤◌, ℕ, List, []}
 use Rattle.std.specs.List.{All}
-use Rattle.bdb_format.specs.declared.metadata.FileKind.TheVariants.{Queue}
-use Rattle.bdb_format.specs.File.{file_of, page_at}
-use Rattle.bdb_format.specs.HeadOf.{head_of}
-use Rattle.bdb_format.specs.Leaves.{leaves}
-use Rattle.bdb_format.specs.Verdict.{structure_faults}
-use Rattle.bdb_image.specs.Linked.{FitsDupRoot, IsForest}
+use Rattle.bdb_survey.specs.of_format.declared.metadata.FileKind.TheVariants.{Queue}
+use Rattle.bdb_survey.specs.of_format.File.{file_of, page_at}
+use Rattle.bdb_survey.specs.of_format.HeadOf.{head_of}
+use Rattle.bdb_survey.specs.of_format.Leaves.{leaves}
+use Rattle.bdb_survey.specs.of_format.Verdict.{structure_faults}
+use Rattle.bdb_survey.specs.of_image.Linked.{FitsDupRoot, IsForest}
 use Rattle.bdb_survey.specs.Salvage.{stored_on, whole_set}
-use Rattle.bdb_law_sums.specs.Databases.{given_on}
+use Rattle.bdb_survey.specs.of_law_sums.Databases.{given_on}
 use Rattle.bdb_law_whole.specs.Guessed.{guessed}
 
 -- each number is a byte

@@ -5,3 +5,4 @@ pub mod NumberLemmas
 pub mod ReadBackLemmas
 pub mod RowLemmas
 pub mod WritingLemmas
+pub use Rattle.bdb_format.proofs as of_format

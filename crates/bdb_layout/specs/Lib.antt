@@ -1,3 +1,4 @@
 pub mod Blocks
 pub mod Fits
 pub mod Seen
+pub use Rattle.bdb_format.specs as of_format

@@ -15,6 +15,7 @@ mod page_header;
 mod recno;
 mod writing;
 
+pub use bdb_format;
 pub use bdb_format::{Header, ItemFault, RecnoItem};
 pub use blocks::DupBlocks;
 pub use hash::{hash_fault, hash_item, known_hash_item};

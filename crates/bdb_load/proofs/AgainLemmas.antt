@@ -2,16 +2,16 @@
 use Rattle.std.proofs.Common.{◌≡◌, ℕ, Bool, true, List, [], ◌∷◌, map, refl, sym, ◌∙◌, ap, subst}
 use Rattle.std.specs.List.{AllZip}
 use Rattle.std.proofs.lemmas.Bool.{and_parts}
-use Rattle.bdb_format.specs.declared.kinds.Order.{Order}
-use Rattle.bdb_format.specs.declared.settings.Settings.{Settings}
-use Rattle.bdb_format.specs.ContentRows.{ascends, ascends_from}
-use Rattle.bdb_format.specs.Databases.{Database, databases}
-use Rattle.bdb_format.specs.File.{file_of}
-use Rattle.bdb_format.specs.HeadOf.{head_of}
-use Rattle.bdb_format.specs.Less.{less}
-use Rattle.bdb_text_format.specs.declared.sections.Section.{Section}
-use Rattle.bdb_text_format.specs.Written.{header_lines}
-use Rattle.bdb_mkleaves.proofs.UnitLemmas.{ascends_later}
+use Rattle.bdb_mkfile.specs.of_format.declared.kinds.Order.{Order}
+use Rattle.bdb_mkfile.specs.of_format.declared.settings.Settings.{Settings}
+use Rattle.bdb_mkfile.specs.of_format.ContentRows.{ascends, ascends_from}
+use Rattle.bdb_mkfile.specs.of_format.Databases.{Database, databases}
+use Rattle.bdb_mkfile.specs.of_format.File.{file_of}
+use Rattle.bdb_mkfile.specs.of_format.HeadOf.{head_of}
+use Rattle.bdb_mkfile.specs.of_format.Less.{less}
+use Rattle.bdb_mkfile.specs.of_text_format.declared.sections.Section.{Section}
+use Rattle.bdb_mkfile.specs.of_text_format.Written.{header_lines}
+use Rattle.bdb_mkfile.proofs.of_mkleaves.UnitLemmas.{ascends_later}
 use Rattle.bdb_law_kept.specs.Dumps.{AreKept, AreKeptAs, IsLoadedOf, bytes_of_section}
 use Rattle.bdb_law_kept.proofs.DumpLemmas.{dumps_are_kept, loaded_dumps_are_the_same}
 use Rattle.bdb_load.specs.Again.{DumpsLoadToThemselves, whole_dump}

@@ -1,7 +1,7 @@
 //! What follows from the definitions alone.
-ghost use Rattle.bdb_law_join.specs.Alone.{JoinsAlone};
-ghost use Rattle.bdb_law_join.specs.Masters.{JoinsAll};
-ghost use Rattle.bdb_law_join.specs.Queues.{QueuesAreSound};
+ghost use Rattle.bdb_mkfile.specs.of_law_join.Alone.{JoinsAlone};
+ghost use Rattle.bdb_mkfile.specs.of_law_join.Masters.{JoinsAll};
+ghost use Rattle.bdb_mkfile.specs.of_law_join.Queues.{QueuesAreSound};
 ghost use Rattle.bdb_load.specs.Again.{DumpsLoadToThemselves};
 ghost use Rattle.bdb_mkfile.specs.Loading.{ReadSectionsAreLoadable};
 

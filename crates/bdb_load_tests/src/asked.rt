@@ -1,7 +1,7 @@
 // What `run` answers over an image.
-use bdb_format::Bytes;
-use bdb_io::{MemSink, MemSource};
-use bdb_model::Words;
+use bdb_mkfile::bdb_format::Bytes;
+use bdb_mkfile::bdb_io::{MemSink, MemSource};
+use bdb_tool::bdb_model::Words;
 use bdb_tool::run_counted;
 use std::alloc::{AllocError, Global};
 use std::marker::Brand;

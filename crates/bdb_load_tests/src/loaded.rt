@@ -1,9 +1,9 @@
 // The image of a dump text, or why there is none.
-use bdb_format::Bytes;
-use bdb_io::Image;
+use bdb_mkfile::bdb_format::Bytes;
+use bdb_mkfile::bdb_io::Image;
+use bdb_mkfile::bdb_settle::LoadError;
 use bdb_mkfile::load;
-use bdb_settle::LoadError;
-use bdb_text::read_dump;
+use bdb_tool::bdb_text::read_dump;
 use std::alloc::{AllocError, Global};
 
 /// What is answered to a text.

@@ -12,8 +12,8 @@ use Rattle.bdb_format.specs.Master.{is_page}
 use Rattle.bdb_format.specs.File.{File}
 use Rattle.bdb_faults.specs.Notes.{Notes, NotesAll}
 use Rattle.bdb_faults.proofs.SinkLemmas.{notes_one}
-use Rattle.bdb_image.specs.Linked.{meta_pages}
-use Rattle.bdb_tree.proofs.ListedLemmas.{one_more}
+use Rattle.bdb_btree.specs.of_image.Linked.{meta_pages}
+use Rattle.bdb_btree.proofs.of_tree.ListedLemmas.{one_more}
 
 pub none_counted : (counts : List ℕ) (n : ℕ) (entries : List NamedPair) → length counts ≡ n → ((p : ℕ) → p < n → get_or counts p 0 ≡ 0)
     → AreCounts counts n (take 0 entries)

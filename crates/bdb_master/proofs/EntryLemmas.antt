@@ -11,8 +11,8 @@ use Rattle.bdb_format.specs.File.{File, page_at}
 use Rattle.bdb_format.specs.Graph.{is_meta}
 use Rattle.bdb_format.specs.Numbers.{four_at, number, number_at}
 use Rattle.bdb_format.specs.Page.{Page, Meta}
-use Rattle.bdb_image.specs.Linked.{meta_pages}
-use Rattle.bdb_overflow.specs.Datum.{FitsContent}
+use Rattle.bdb_btree.specs.of_image.Linked.{meta_pages}
+use Rattle.bdb_btree.specs.of_overflow.Datum.{FitsContent}
 use Rattle.bdb_btree.specs.Held.{ItemPair, stored_as}
 use Rattle.bdb_btree.specs.Pairs.{AreFit}
 use Rattle.bdb_master.specs.Entries.{NamedPair, entry_of, live_entries, master_entries, named}

@@ -17,13 +17,13 @@ use Rattle.bdb_format.specs.Table.{Row, ◌:?◌}
 use Rattle.bdb_format.specs.Verdict.{holding, master_faults}
 use Rattle.bdb_format.proofs.MemberLemmas.{first_member, in_flat_map, in_map, no_member, of_flat_map, of_map}
 use Rattle.bdb_format.proofs.VerdictLemmas.{IsOfStage, in_by_page, of_by_page}
-use Rattle.bdb_image.specs.Linked.{IsForest, meta_pages}
-use Rattle.bdb_tree.proofs.ListedLemmas.{at_meta, meta_at}
-use Rattle.bdb_tree.proofs.PairLemmas.{master_pair_inside}
+use Rattle.bdb_btree.specs.of_image.Linked.{IsForest, meta_pages}
+use Rattle.bdb_btree.proofs.of_tree.ListedLemmas.{at_meta, meta_at}
+use Rattle.bdb_btree.proofs.of_tree.PairLemmas.{master_pair_inside}
 use Rattle.bdb_master.specs.Entries.{NamedPair, count_fault, entries_naming, entry_fault, fault_at, master_entries, named, naming_fault, repeat_fault}
 use Rattle.std.specs.Option.{option_to_list}
 use Rattle.bdb_master.specs.Entries.{all_noted, by_naming, by_repeat, by_target, key_of, target_fault}
-use Rattle.bdb_overflow.specs.Keys.{repeated_by}
+use Rattle.bdb_btree.specs.of_overflow.Keys.{repeated_by}
 use Rattle.bdb_format.specs.Master.{is_named_kind, is_none, is_page, master_pairs, master_rows, misses_target, named_by, naming}
 use Rattle.bdb_format.proofs.RepeatLemmas.{of_repeated, repeated_after, repeated_is}
 use Rattle.bdb_faults.specs.Notes.{AreSame, NotesAll}

@@ -9,7 +9,7 @@ use Rattle.std.specs.Ordering.{nat_cmp}
 use Rattle.std.specs.Str.{bytes_eq}
 use Rattle.std.proofs.lemmas.Map.Text.{is_eq-slice_cmp}
 use Rattle.bdb_format.specs.declared.kinds.Fault.{Fault}
-use Rattle.bdb_overflow.specs.Keys.{has_item, has_key, repeated_by}
+use Rattle.bdb_btree.specs.of_overflow.Keys.{has_item, has_key, repeated_by}
 use Rattle.bdb_faults.specs.Notes.{Notes, NotesAll}
 use Rattle.bdb_faults.proofs.SinkLemmas.{notes_nothing, notes_one, notes_then}
 use Rattle.std.specs.Option.{option_to_list}

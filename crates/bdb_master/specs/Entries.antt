@@ -9,9 +9,9 @@ use Rattle.bdb_format.specs.Contents.{StoredPair}
 use Rattle.bdb_format.specs.Chains.{value_of}
 use Rattle.bdb_format.specs.File.{File, file_of}
 use Rattle.bdb_btree.specs.Held.{ItemPair}
-use Rattle.bdb_image.specs.Linked.{meta_pages}
-use Rattle.bdb_overflow.specs.Held.{chain_value}
-use Rattle.bdb_overflow.specs.Keys.{repeated_by}
+use Rattle.bdb_btree.specs.of_image.Linked.{meta_pages}
+use Rattle.bdb_btree.specs.of_overflow.Held.{chain_value}
+use Rattle.bdb_btree.specs.of_overflow.Keys.{repeated_by}
 use Rattle.bdb_format.specs.Master.{is_named_kind, is_page, master_pairs, named_by, page_named}
 
 -- a live pair: its leaf, its key, and the page that it names

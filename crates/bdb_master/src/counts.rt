@@ -2,14 +2,14 @@ ghost use Rattle.std.specs.Prelude.{◌≡◌, ◌<◌, ℕ, IfOk, OnOk, if◌th
 ghost use Rattle.bdb_faults.specs.Notes.{NotesAll};
 ghost use Rattle.bdb_master.specs.Entries.{AreCounts, by_naming, count_fault, one_more};
 ghost use Rattle.bdb_format.specs.Master.{is_page};
-ghost use Rattle.bdb_image.specs.Linked.{IsForest};
+ghost use Rattle.bdb_btree.specs.of_image.Linked.{IsForest};
 ghost use Rattle.bdb_format.specs.File.{file_of};
 
 use crate::entry::Entry;
 use crate::noting::note_given;
+use bdb_btree::bdb_graph::Linked;
 use bdb_faults::{FaultSink, MasterRow, Row};
 use bdb_format::Fault;
-use bdb_graph::Linked;
 use std::alloc::{AllocError, Global};
 
 /// One more pair that names a page; a third counts as a second.

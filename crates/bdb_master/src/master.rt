@@ -8,8 +8,8 @@ use crate::counts::note_naming;
 use crate::entry::Entry;
 use crate::repeats::note_repeats;
 use crate::targets::note_targets;
+use bdb_btree::bdb_graph::Linked;
 use bdb_faults::FaultSink;
-use bdb_graph::Linked;
 use std::alloc::{AllocError, Global};
 
 /// Notes the faults of stage 7, by the entries of the master. An error is want of memory: a byte for each page, and

@@ -8,11 +8,11 @@ ghost use Rattle.bdb_format.specs.Verdict.{structure_faults};
 use crate::entry::master_of;
 use crate::noting::note_given;
 use crate::seen_names::SeenNames;
+use bdb_btree::bdb_graph::{Forest, Linked};
+use bdb_btree::bdb_overflow::{is_deleted, leaf_held};
 use bdb_btree::{HeldPairs, pairs};
 use bdb_faults::{FaultSink, MasterRow, Row};
 use bdb_format::Fault;
-use bdb_graph::{Forest, Linked};
-use bdb_overflow::{is_deleted, leaf_held};
 use std::alloc::{AllocError, Global};
 
 /// The fault of a pair on this leaf, unless its key is new.

@@ -2,16 +2,16 @@ ghost use Rattle.std.specs.Prelude.{◌≡◌, OnOk};
 ghost use Rattle.bdb_faults.specs.Notes.{NotesAll};
 ghost use Rattle.bdb_master.specs.Entries.{by_target, target_fault};
 ghost use Rattle.bdb_format.specs.Master.{is_named_kind};
-ghost use Rattle.bdb_form.specs.Seen.{page_seen};
+ghost use Rattle.bdb_btree.specs.of_form.Seen.{page_seen};
 ghost use Rattle.bdb_format.specs.File.{file_of};
 ghost use Rattle.bdb_format.specs.Graph.{is_meta};
 
 use crate::entry::Entry;
 use crate::noting::note_given;
+use bdb_btree::bdb_form::PageView;
+use bdb_btree::bdb_graph::Linked;
 use bdb_faults::{FaultSink, MasterRow, Row};
-use bdb_form::PageView;
 use bdb_format::Fault;
-use bdb_graph::Linked;
 use std::alloc::AllocError;
 
 fn is_meta(view: &PageView<'_>) -> bool

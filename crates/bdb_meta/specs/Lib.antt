@@ -1,2 +1,3 @@
 pub mod RowGroups
 pub mod ReadBack
+pub use Rattle.bdb_layout.specs as of_layout

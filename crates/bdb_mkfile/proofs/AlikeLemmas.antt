@@ -1,13 +1,13 @@
 -- Lists for settings that say the same of them.
 use Rattle.std.proofs.Common.{◌≡◌, ◌&&◌, Bool, false, List, [], ◌∷◌, refl, sym, ◌∙◌, ap, subst}
-use Rattle.bdb_format.specs.declared.kinds.Kind.{Kind}
-use Rattle.bdb_format.specs.declared.kinds.Kind.TheVariants.{Btree, Recno, Hash, Queue}
-use Rattle.bdb_format.specs.declared.settings.Settings.{Settings}
-use Rattle.bdb_text_format.specs.declared.pairs.Pair.{Pair}
-use Rattle.bdb_mkleaves.proofs.RunLemmas.{all_map}
-use Rattle.bdb_mkleaves.specs.Spread.{tree_size}
-use Rattle.bdb_mktree.specs.Lists.{IsKeyFor, IsTreeList, IsPairFor, is_in_order, may_follow, units_in}
-use Rattle.bdb_mktree.specs.Units.{leaf_type_of}
+use Rattle.bdb_io.specs.of_format.declared.kinds.Kind.{Kind}
+use Rattle.bdb_io.specs.of_format.declared.kinds.Kind.TheVariants.{Btree, Recno, Hash, Queue}
+use Rattle.bdb_io.specs.of_format.declared.settings.Settings.{Settings}
+use Rattle.bdb_need.specs.of_text_format.declared.pairs.Pair.{Pair}
+use Rattle.bdb_need.proofs.of_mkleaves.RunLemmas.{all_map}
+use Rattle.bdb_need.specs.of_mkleaves.Spread.{tree_size}
+use Rattle.bdb_need.specs.of_mktree.Lists.{IsKeyFor, IsTreeList, IsPairFor, is_in_order, may_follow, units_in}
+use Rattle.bdb_need.specs.of_mktree.Units.{leaf_type_of}
 use Rattle.bdb_need.specs.Need.{list_pages}
 use Rattle.bdb_mkfile.specs.FileSettings.{file_settings, own_settings}
 use Rattle.bdb_mkfile.specs.Trees.{IsTreeSettings}

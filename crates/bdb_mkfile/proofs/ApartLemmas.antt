@@ -9,11 +9,11 @@ use Rattle.std.proofs.lemmas.List.Elements.{All-cons, All-head, All-nil, All-tai
 use Rattle.std.proofs.lemmas.List.Folds.{list_any-append}
 use Rattle.std.proofs.lemmas.List.Sums.{sum_by-cons}
 use Rattle.std.proofs.lemmas.Bool.{and_parts, or_parts}
-use Rattle.bdb_format.specs.ContentRows.{ascends, ascends_from}
-use Rattle.bdb_format.specs.Databases.{is_name}
-use Rattle.bdb_format.specs.Less.{less}
-use Rattle.bdb_format.proofs.LessLemmas.{eq_self, same_unless_less}
-use Rattle.bdb_text_format.specs.declared.sections.Section.{Section}
+use Rattle.bdb_io.specs.of_format.ContentRows.{ascends, ascends_from}
+use Rattle.bdb_io.specs.of_format.Databases.{is_name}
+use Rattle.bdb_io.specs.of_format.Less.{less}
+use Rattle.bdb_io.proofs.of_format.LessLemmas.{eq_self, same_unless_less}
+use Rattle.bdb_need.specs.of_text_format.declared.sections.Section.{Section}
 use Rattle.bdb_law_sections.specs.Fit.{AreNamedBehind}
 use Rattle.bdb_mkfile.specs.Builds.{in_name_order, name_of, put_named}
 use Rattle.bdb_mkfile.specs.Order.{AreApart, IsApart, named_before, with_named}

@@ -5,21 +5,21 @@ use Rattle.std.specs.Prelude.{is_some, nat_lt, slice_get, if◌then◌else◌, I
 use Rattle.std.specs.declared.alloc.AllocError.{AllocError}
 use Rattle.std.specs.List.{All, AllZip, fold, sum_by}
 use Rattle.std.proofs.lemmas.List.Elements.{All-cons, All-nil}
-use Rattle.bdb_format.specs.declared.kinds.Kind.{Kind}
-use Rattle.bdb_format.specs.declared.kinds.Kind.TheVariants.{Btree, Recno, Hash, Queue}
-use Rattle.bdb_format.specs.declared.kinds.Order.{Order}
-use Rattle.bdb_format.specs.declared.settings.Settings.{Settings}
-use Rattle.bdb_format.specs.Databases.{Database, databases}
-use Rattle.bdb_format.specs.File.{file_of}
-use Rattle.bdb_text_format.specs.declared.pairs.Pair.{Pair}
-use Rattle.bdb_text_format.specs.declared.sections.Section.{Section}
-use Rattle.bdb_text_format.specs.Pairs.{listed}
-use Rattle.bdb_text_format.specs.Written.{header_lines}
-use Rattle.bdb_settle.specs.declared.load_error.LoadError.{LoadError}
-use Rattle.bdb_settle.specs.declared.load_error.LoadError.TheVariants.{TooLarge, Memory}
-use Rattle.bdb_settle.specs.LoadErrors.{load_error, page_size_in}
-use Rattle.bdb_settle.specs.Loaded.{loaded, loaded_section}
-use Rattle.bdb_law_buckets.specs.Tables.{HasBuiltTable}
+use Rattle.bdb_io.specs.of_format.declared.kinds.Kind.{Kind}
+use Rattle.bdb_io.specs.of_format.declared.kinds.Kind.TheVariants.{Btree, Recno, Hash, Queue}
+use Rattle.bdb_io.specs.of_format.declared.kinds.Order.{Order}
+use Rattle.bdb_io.specs.of_format.declared.settings.Settings.{Settings}
+use Rattle.bdb_io.specs.of_format.Databases.{Database, databases}
+use Rattle.bdb_io.specs.of_format.File.{file_of}
+use Rattle.bdb_need.specs.of_text_format.declared.pairs.Pair.{Pair}
+use Rattle.bdb_need.specs.of_text_format.declared.sections.Section.{Section}
+use Rattle.bdb_need.specs.of_text_format.Pairs.{listed}
+use Rattle.bdb_need.specs.of_text_format.Written.{header_lines}
+use Rattle.bdb_need.specs.of_settle.declared.load_error.LoadError.{LoadError}
+use Rattle.bdb_need.specs.of_settle.declared.load_error.LoadError.TheVariants.{TooLarge, Memory}
+use Rattle.bdb_need.specs.of_settle.LoadErrors.{load_error, page_size_in}
+use Rattle.bdb_need.specs.of_settle.Loaded.{loaded, loaded_section}
+use Rattle.bdb_need.specs.of_law_buckets.Tables.{HasBuiltTable}
 use Rattle.bdb_need.specs.TreePages.{unlined_pairs}
 use Rattle.bdb_need.specs.Need.{list_pages, master_pages, need_of, section_pages}
 use Rattle.bdb_mkfile.specs.FileSettings.{file_settings, own_settings}

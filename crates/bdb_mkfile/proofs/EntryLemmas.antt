@@ -11,26 +11,26 @@ use Rattle.std.proofs.lemmas.List.{length-map, length-replicate}
 use Rattle.std.proofs.lemmas.List.Elements.{All-cons, All-head, All-nil, All-tail}
 use Rattle.std.proofs.lemmas.List.Sums.{sum_by-cons}
 use Rattle.std.proofs.lemmas.Simd.{map-map}
-use Rattle.bdb_format.specs.declared.kinds.Order.{Order}
-use Rattle.bdb_format.specs.declared.kinds.Order.TheVariants.{Big}
-use Rattle.bdb_format.specs.ContentRows.{ascends, ascends_from}
-use Rattle.bdb_format.specs.Less.{less}
-use Rattle.bdb_format.specs.Numbers.{pad4}
-use Rattle.bdb_format.proofs.SpellingLemmas.{length-spelled}
-use Rattle.bdb_law_levels.specs.declared.inner_type.InnerType.{InnerType}
-use Rattle.bdb_law_levels.specs.declared.inner_type.InnerType.TheVariants.{Keyed, Numbered}
-use Rattle.bdb_text_format.specs.declared.pairs.Pair.{Pair}
-use Rattle.bdb_text_format.specs.declared.pairs.Key.TheVariants.{Bytes}
-use Rattle.bdb_text_format.specs.declared.sections.Section.{Section}
-use Rattle.bdb_mkleaves.specs.declared.leaf_type.LeafType.{LeafType}
-use Rattle.bdb_mkleaves.specs.declared.leaf_type.LeafType.TheVariants.{Pairs}
-use Rattle.bdb_mkleaves.specs.Inner.{first_cost}
-use Rattle.bdb_mkleaves.specs.Laid.{inner_of}
-use Rattle.bdb_mkleaves.specs.Runs.{IsShort}
-use Rattle.bdb_mkleaves.specs.Spread.{inner_cost, leaf_key, leaves_and_levels, own_pages, pages_over, set_pages, set_type, spread_on, spread_units, tree_size}
-use Rattle.bdb_mkleaves.specs.Units.{EntryUnit, KeyedUnit, TreeUnit, chain_pages, has_own_tree, page_room, set_cost, unit_cost, value_cost}
-use Rattle.bdb_mkleaves.proofs.SpreadLemmas.{spread_map}
-use Rattle.bdb_mktree.specs.Lists.{IsPairFor, bytes_in, is_in_order, keyed_units, onto_units}
+use Rattle.bdb_io.specs.of_format.declared.kinds.Order.{Order}
+use Rattle.bdb_io.specs.of_format.declared.kinds.Order.TheVariants.{Big}
+use Rattle.bdb_io.specs.of_format.ContentRows.{ascends, ascends_from}
+use Rattle.bdb_io.specs.of_format.Less.{less}
+use Rattle.bdb_io.specs.of_format.Numbers.{pad4}
+use Rattle.bdb_io.proofs.of_format.SpellingLemmas.{length-spelled}
+use Rattle.bdb_need.specs.of_law_levels.declared.inner_type.InnerType.{InnerType}
+use Rattle.bdb_need.specs.of_law_levels.declared.inner_type.InnerType.TheVariants.{Keyed, Numbered}
+use Rattle.bdb_need.specs.of_text_format.declared.pairs.Pair.{Pair}
+use Rattle.bdb_need.specs.of_text_format.declared.pairs.Key.TheVariants.{Bytes}
+use Rattle.bdb_need.specs.of_text_format.declared.sections.Section.{Section}
+use Rattle.bdb_need.specs.of_mkleaves.declared.leaf_type.LeafType.{LeafType}
+use Rattle.bdb_need.specs.of_mkleaves.declared.leaf_type.LeafType.TheVariants.{Pairs}
+use Rattle.bdb_need.specs.of_mkleaves.Inner.{first_cost}
+use Rattle.bdb_need.specs.of_mkleaves.Laid.{inner_of}
+use Rattle.bdb_need.specs.of_mkleaves.Runs.{IsShort}
+use Rattle.bdb_need.specs.of_mkleaves.Spread.{inner_cost, leaf_key, leaves_and_levels, own_pages, pages_over, set_pages, set_type, spread_on, spread_units, tree_size}
+use Rattle.bdb_need.specs.of_mkleaves.Units.{EntryUnit, KeyedUnit, TreeUnit, chain_pages, has_own_tree, page_room, set_cost, unit_cost, value_cost}
+use Rattle.bdb_need.proofs.of_mkleaves.SpreadLemmas.{spread_map}
+use Rattle.bdb_need.specs.of_mktree.Lists.{IsPairFor, bytes_in, is_in_order, keyed_units, onto_units}
 use Rattle.bdb_need.specs.Need.{name_in}
 use Rattle.bdb_mkfile.specs.NamedImages.{IsNamed, name_entry}
 use Rattle.bdb_mkfile.specs.NamedLaws.{EntriesAreListed, EntriesTakePages}

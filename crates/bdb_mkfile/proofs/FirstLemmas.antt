@@ -1,17 +1,17 @@
 -- An image whose page 0 is metadata that is written over it.
 use Rattle.std.proofs.Common.{◌≡◌, ℕ, ◌-◌, ◌*◌, List, [], ◌++◌, length, set, take, append_assoc, arith, sym, ◌∙◌, ap, subst}
 use Rattle.std.proofs.lemmas.List.{append-nil, length-set, take_at}
-use Rattle.bdb_format.specs.declared.metadata.FileKind.{FileKind}
-use Rattle.bdb_format.specs.declared.metadata.Head.{Head}
-use Rattle.bdb_format.specs.HeadOf.{head_of}
-use Rattle.bdb_format.specs.Spelling.{common_bytes}
-use Rattle.bdb_format.proofs.SizeLemmas.{size_bounds}
-use Rattle.bdb_pack.specs.Built.{AreWhole, Built, joined_pages, with_page}
-use Rattle.bdb_pack.proofs.CutLemmas.{all_size, page_whole}
-use Rattle.bdb_law_join.specs.Written.{AreLegal}
-use Rattle.bdb_law_join.proofs.CommonLemmas.{ReadsAs, reads_common}
-use Rattle.bdb_law_join.proofs.HeadLemmas.{IsImage, image_head}
-use Rattle.bdb_mkqueue.proofs.WrittenLemmas.{begins}
+use Rattle.bdb_io.specs.of_format.declared.metadata.FileKind.{FileKind}
+use Rattle.bdb_io.specs.of_format.declared.metadata.Head.{Head}
+use Rattle.bdb_io.specs.of_format.HeadOf.{head_of}
+use Rattle.bdb_io.specs.of_format.Spelling.{common_bytes}
+use Rattle.bdb_io.proofs.of_format.SizeLemmas.{size_bounds}
+use Rattle.bdb_need.specs.of_pack.Built.{AreWhole, Built, joined_pages, with_page}
+use Rattle.bdb_need.proofs.of_pack.CutLemmas.{all_size, page_whole}
+use Rattle.bdb_need.specs.of_law_join.Written.{AreLegal}
+use Rattle.bdb_need.proofs.of_law_join.CommonLemmas.{ReadsAs, reads_common}
+use Rattle.bdb_need.proofs.of_law_join.HeadLemmas.{IsImage, image_head}
+use Rattle.bdb_need.proofs.of_mkqueue.WrittenLemmas.{begins}
 
 -- the image of pages after metadata of a kind is written over page 0
 pub record IsUnderMeta (built : Built) (kind : FileKind) (page image : List ℕ) : Type 0 where

@@ -6,28 +6,28 @@ use Rattle.std.specs.List.{All}
 use Rattle.std.proofs.Math.Nat.{mul-le-mul_right}
 use Rattle.std.proofs.lemmas.Bool.Decides.{nat_tests}
 use Rattle.std.proofs.lemmas.List.Elements.{All-head, All-map}
-use Rattle.bdb_format.specs.declared.kinds.Kind.{Kind}
-use Rattle.bdb_format.specs.declared.kinds.Kind.TheVariants.{Btree, Recno, Hash, Queue}
-use Rattle.bdb_format.specs.declared.settings.Settings.{Settings}
-use Rattle.bdb_format.specs.HeadOf.{is_page_size}
-use Rattle.bdb_format.specs.Numbers.{pad4}
-use Rattle.bdb_text_format.specs.declared.pairs.Pair.{Pair}
-use Rattle.bdb_text_format.specs.declared.pairs.Key.{Key}
-use Rattle.bdb_text_format.specs.declared.pairs.Key.TheVariants.{Bytes, Number}
-use Rattle.bdb_text_format.specs.declared.sections.Section.{Section}
-use Rattle.bdb_text_format.specs.Written.{holds_records}
+use Rattle.bdb_io.specs.of_format.declared.kinds.Kind.{Kind}
+use Rattle.bdb_io.specs.of_format.declared.kinds.Kind.TheVariants.{Btree, Recno, Hash, Queue}
+use Rattle.bdb_io.specs.of_format.declared.settings.Settings.{Settings}
+use Rattle.bdb_io.specs.of_format.HeadOf.{is_page_size}
+use Rattle.bdb_io.specs.of_format.Numbers.{pad4}
+use Rattle.bdb_need.specs.of_text_format.declared.pairs.Pair.{Pair}
+use Rattle.bdb_need.specs.of_text_format.declared.pairs.Key.{Key}
+use Rattle.bdb_need.specs.of_text_format.declared.pairs.Key.TheVariants.{Bytes, Number}
+use Rattle.bdb_need.specs.of_text_format.declared.sections.Section.{Section}
+use Rattle.bdb_need.specs.of_text_format.Written.{holds_records}
 use Rattle.bdb_law_sections.specs.Fit.{AreFit, AreFitSettings, AreNamedBehind, IsFitSection, is_number}
-use Rattle.bdb_mkleaves.specs.Runs.{IsShort}
-use Rattle.bdb_mktree.specs.Lists.{IsTreeList}
-use Rattle.bdb_mktree.specs.Units.{IsTreeKind}
-use Rattle.bdb_mkhash.specs.Table.{IsTableList}
-use Rattle.bdb_mkqueue.specs.Lists.{HasNext}
-use Rattle.bdb_settle.specs.ListLaw.{HasShortBytes, IsFit, IsKeyOf}
-use Rattle.bdb_settle.specs.LoadErrors.{load_error, page_size_in}
-use Rattle.bdb_settle.specs.Loaded.{filled_section, loaded, loaded_section, ordered_section, unnumbered}
-use Rattle.bdb_settle.proofs.FillingLemmas.{sections_filled}
-use Rattle.bdb_settle.proofs.ErrorLemmas.{sound_pairs}
-use Rattle.bdb_settle.proofs.ListLawLemmas.{load_into_lists}
+use Rattle.bdb_need.specs.of_mkleaves.Runs.{IsShort}
+use Rattle.bdb_need.specs.of_mktree.Lists.{IsTreeList}
+use Rattle.bdb_need.specs.of_mktree.Units.{IsTreeKind}
+use Rattle.bdb_need.specs.of_mkhash.Table.{IsTableList}
+use Rattle.bdb_need.specs.of_mkqueue.Lists.{HasNext}
+use Rattle.bdb_need.specs.of_settle.ListLaw.{HasShortBytes, IsFit, IsKeyOf}
+use Rattle.bdb_need.specs.of_settle.LoadErrors.{load_error, page_size_in}
+use Rattle.bdb_need.specs.of_settle.Loaded.{filled_section, loaded, loaded_section, ordered_section, unnumbered}
+use Rattle.bdb_need.proofs.of_settle.FillingLemmas.{sections_filled}
+use Rattle.bdb_need.proofs.of_settle.ErrorLemmas.{sound_pairs}
+use Rattle.bdb_need.proofs.of_settle.ListLawLemmas.{load_into_lists}
 use Rattle.bdb_need.specs.TreePages.{unlined_pairs}
 use Rattle.bdb_need.specs.Need.{AreSettled, IsListOf, IsSettled, list_pages, name_in, need_of, sized}
 use Rattle.bdb_mkfile.specs.LoneImages.{queue_pages}

@@ -26,3 +26,12 @@ pub mod MasterLemmas
 pub mod NameLemmas
 pub mod ReadLemmas
 pub mod ShortLemmas
+pub use Rattle.bdb_io.proofs.of_format as of_format
+pub use Rattle.bdb_need.proofs.of_graph as of_graph
+pub use Rattle.bdb_need.proofs.of_image as of_image
+pub use Rattle.bdb_need.proofs.of_law_join as of_law_join
+pub use Rattle.bdb_law_sections.proofs as of_law_sections
+pub use Rattle.bdb_need.proofs.of_layout as of_layout
+pub use Rattle.bdb_need.proofs.of_mkleaves as of_mkleaves
+pub use Rattle.bdb_need.proofs as of_need
+pub use Rattle.bdb_need.proofs.of_settle as of_settle

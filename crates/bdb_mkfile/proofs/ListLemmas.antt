@@ -9,28 +9,28 @@ use Rattle.std.proofs.lemmas.Bool.Decides.{nat_tests}
 use Rattle.std.proofs.lemmas.Nat.{le-div}
 use Rattle.std.proofs.lemmas.List.Elements.{All-cons, All-head, All-nil, All-tail, All-weaker}
 use Rattle.std.proofs.Math.Bool.{and-false}
-use Rattle.bdb_format.specs.declared.kinds.Kind.TheVariants.{Btree, Hash, Queue}
-use Rattle.bdb_format.specs.declared.settings.Settings.{Settings}
-use Rattle.bdb_format.specs.Less.{less}
-use Rattle.bdb_format.specs.Numbers.{pad4}
-use Rattle.bdb_text_format.specs.declared.pairs.Pair.{Pair}
-use Rattle.bdb_text_format.specs.declared.pairs.Key.{Key}
-use Rattle.bdb_text_format.specs.declared.pairs.Key.TheVariants.{Bytes, Number}
-use Rattle.bdb_text_format.specs.declared.pairs.TextPair.{TextPair}
-use Rattle.bdb_text_format.specs.declared.sections.Section.{Section}
-use Rattle.bdb_text_format.specs.Pairs.{AscendFrom, number_of}
-use Rattle.bdb_mktree.specs.Lists.{HasNumber, IsTreeList as IsTreeListFor}
-use Rattle.bdb_settle.specs.ListLaw.{HasShortBytes, IsFit, IsKeyOf}
-use Rattle.bdb_settle.specs.LoadErrors.{header_errors, is_among_names, is_too_wide, is_zero, load_error, page_size_in, pair_errors, section_errors, where_so}
-use Rattle.bdb_settle.specs.declared.load_error.LoadError.TheVariants.{QueueAmongNames, RecordTooLong, RecordZero}
-use Rattle.bdb_text_format.specs.Written.{holds_records, is_queue}
-use Rattle.bdb_settle.specs.Loaded.{loaded_pair, keeps_data, loaded, sorts_data, stands_before}
-use Rattle.bdb_settle.proofs.ErrorLemmas.{IsSound, sound_pairs, both_empty, each_empty, no_errors as none_hold, not_so}
-use Rattle.bdb_settle.proofs.ListLawLemmas.{load_into_lists, by_numbers, filled_length, positive as positive_of}
-use Rattle.bdb_settle.proofs.OrderedLemmas.{Ordered, OrderedFrom, fold_all, fold_ordered, follows}
-use Rattle.bdb_mkhash.specs.Table.{IsTableList}
-use Rattle.bdb_mkqueue.specs.Lists.{HasLength, HasNext, IsQueueList, next_number}
-use Rattle.bdb_mkqueue.proofs.RecordLemmas.{next_low}
+use Rattle.bdb_io.specs.of_format.declared.kinds.Kind.TheVariants.{Btree, Hash, Queue}
+use Rattle.bdb_io.specs.of_format.declared.settings.Settings.{Settings}
+use Rattle.bdb_io.specs.of_format.Less.{less}
+use Rattle.bdb_io.specs.of_format.Numbers.{pad4}
+use Rattle.bdb_need.specs.of_text_format.declared.pairs.Pair.{Pair}
+use Rattle.bdb_need.specs.of_text_format.declared.pairs.Key.{Key}
+use Rattle.bdb_need.specs.of_text_format.declared.pairs.Key.TheVariants.{Bytes, Number}
+use Rattle.bdb_need.specs.of_text_format.declared.pairs.TextPair.{TextPair}
+use Rattle.bdb_need.specs.of_text_format.declared.sections.Section.{Section}
+use Rattle.bdb_need.specs.of_text_format.Pairs.{AscendFrom, number_of}
+use Rattle.bdb_need.specs.of_mktree.Lists.{HasNumber, IsTreeList as IsTreeListFor}
+use Rattle.bdb_need.specs.of_settle.ListLaw.{HasShortBytes, IsFit, IsKeyOf}
+use Rattle.bdb_need.specs.of_settle.LoadErrors.{header_errors, is_among_names, is_too_wide, is_zero, load_error, page_size_in, pair_errors, section_errors, where_so}
+use Rattle.bdb_need.specs.of_settle.declared.load_error.LoadError.TheVariants.{QueueAmongNames, RecordTooLong, RecordZero}
+use Rattle.bdb_need.specs.of_text_format.Written.{holds_records, is_queue}
+use Rattle.bdb_need.specs.of_settle.Loaded.{loaded_pair, keeps_data, loaded, sorts_data, stands_before}
+use Rattle.bdb_need.proofs.of_settle.ErrorLemmas.{IsSound, sound_pairs, both_empty, each_empty, no_errors as none_hold, not_so}
+use Rattle.bdb_need.proofs.of_settle.ListLawLemmas.{load_into_lists, by_numbers, filled_length, positive as positive_of}
+use Rattle.bdb_need.proofs.of_settle.OrderedLemmas.{Ordered, OrderedFrom, fold_all, fold_ordered, follows}
+use Rattle.bdb_need.specs.of_mkhash.Table.{IsTableList}
+use Rattle.bdb_need.specs.of_mkqueue.Lists.{HasLength, HasNext, IsQueueList, next_number}
+use Rattle.bdb_need.proofs.of_mkqueue.RecordLemmas.{next_low}
 use Rattle.bdb_mkfile.specs.Lists.{LoadIntoQueues, LoadIntoTables, QueuesAreAlone, RecordsAreFew, TextHasNext}
 
 -- Errors.

@@ -12,31 +12,31 @@ use Rattle.std.proofs.lemmas.Nat.{ones_le_self, pow_pos}
 use Rattle.std.proofs.lemmas.List.{get_or_append_left, get_or-replicate, length-replicate}
 use Rattle.std.proofs.lemmas.List.FromFn.{length-map-range_with_len}
 use Rattle.std.proofs.lemmas.List.Sums.{sum_by-cons}
-use Rattle.bdb_format.specs.declared.kinds.Order.{Order}
-use Rattle.bdb_format.specs.declared.metadata.FileKind.TheVariants.{Hash, Queue}
-use Rattle.bdb_format.specs.declared.metadata.Head.{Head}
-use Rattle.bdb_format.specs.declared.metadata.HashMeta.{HashMeta}
-use Rattle.bdb_format.specs.declared.settings.Settings.{Settings}
-use Rattle.bdb_format.specs.Hashing.{group}
-use Rattle.bdb_format.specs.HeadOf.{is_page_size}
-use Rattle.bdb_format.specs.Numbers.{byte_at, four_at, has_bit, spelled}
-use Rattle.bdb_format.specs.Reading.{hash_fields, is_zero, page_type}
-use Rattle.bdb_format.specs.Rows.{are_masks, body_code, form_code, identity_rows, is_tree_type, lacks_spare, magic_of, metadata_rows, page_code, version_of}
-use Rattle.bdb_format.specs.Spelling.{common_bytes, last_field, table_bytes, zeros}
-use Rattle.bdb_format.specs.Table.{first_row}
-use Rattle.bdb_format.proofs.MemberLemmas.{none_pass, of_range}
-use Rattle.bdb_format.proofs.SpellingLemmas.{length-spelled, number_at-in}
-use Rattle.bdb_image.proofs.CodeLemmas.{first_page_code, tree_metadata}
-use Rattle.bdb_meta.proofs.CommonLemmas.{length-common}
-use Rattle.bdb_meta.proofs.SparesLemmas.{length-spares}
-use Rattle.bdb_law_join.proofs.CommonLemmas.{ReadsAs}
-use Rattle.bdb_law_join.proofs.HeadLemmas.{first_of_none, none_by}
-use Rattle.bdb_mkleaves.specs.Spread.{spread_on}
-use Rattle.bdb_mkleaves.specs.Units.{page_room}
-use Rattle.bdb_law_buckets.specs.Tables.{Keyed, dealt, table_meta}
-use Rattle.bdb_mkhash.specs.Buckets.{bits_for, buckets_of, spread_bucket, table_bits, table_size}
-use Rattle.bdb_mkhash.specs.Costs.{keyed_cost}
-use Rattle.bdb_law_buckets.proofs.TableLemmas.{group_low}
+use Rattle.bdb_io.specs.of_format.declared.kinds.Order.{Order}
+use Rattle.bdb_io.specs.of_format.declared.metadata.FileKind.TheVariants.{Hash, Queue}
+use Rattle.bdb_io.specs.of_format.declared.metadata.Head.{Head}
+use Rattle.bdb_io.specs.of_format.declared.metadata.HashMeta.{HashMeta}
+use Rattle.bdb_io.specs.of_format.declared.settings.Settings.{Settings}
+use Rattle.bdb_io.specs.of_format.Hashing.{group}
+use Rattle.bdb_io.specs.of_format.HeadOf.{is_page_size}
+use Rattle.bdb_io.specs.of_format.Numbers.{byte_at, four_at, has_bit, spelled}
+use Rattle.bdb_io.specs.of_format.Reading.{hash_fields, is_zero, page_type}
+use Rattle.bdb_io.specs.of_format.Rows.{are_masks, body_code, form_code, identity_rows, is_tree_type, lacks_spare, magic_of, metadata_rows, page_code, version_of}
+use Rattle.bdb_io.specs.of_format.Spelling.{common_bytes, last_field, table_bytes, zeros}
+use Rattle.bdb_io.specs.of_format.Table.{first_row}
+use Rattle.bdb_io.proofs.of_format.MemberLemmas.{none_pass, of_range}
+use Rattle.bdb_io.proofs.of_format.SpellingLemmas.{length-spelled, number_at-in}
+use Rattle.bdb_need.proofs.of_image.CodeLemmas.{first_page_code, tree_metadata}
+use Rattle.bdb_need.proofs.of_meta.CommonLemmas.{length-common}
+use Rattle.bdb_need.proofs.of_meta.SparesLemmas.{length-spares}
+use Rattle.bdb_need.proofs.of_law_join.CommonLemmas.{ReadsAs}
+use Rattle.bdb_need.proofs.of_law_join.HeadLemmas.{first_of_none, none_by}
+use Rattle.bdb_need.specs.of_mkleaves.Spread.{spread_on}
+use Rattle.bdb_need.specs.of_mkleaves.Units.{page_room}
+use Rattle.bdb_need.specs.of_law_buckets.Tables.{Keyed, dealt, table_meta}
+use Rattle.bdb_need.specs.of_mkhash.Buckets.{bits_for, buckets_of, spread_bucket, table_bits, table_size}
+use Rattle.bdb_need.specs.of_mkhash.Costs.{keyed_cost}
+use Rattle.bdb_need.proofs.of_law_buckets.TableLemmas.{group_low}
 
 -- How many bits.
 

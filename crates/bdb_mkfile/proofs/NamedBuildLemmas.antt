@@ -1,31 +1,31 @@
 -- Databases that are built under names.
 use Rattle.std.proofs.Common.{◌≡◌, ℕ, ◌+◌, ◌-◌, ◌≤◌, Bool, true, false, List, length, None, arith, refl, sym, ◌∙◌, ap, subst, inl, inr}
-use Rattle.bdb_format.specs.declared.kinds.Kind.{Kind}
-use Rattle.bdb_format.specs.declared.kinds.Kind.TheVariants.{Btree, Recno, Hash, Queue}
-use Rattle.bdb_format.specs.declared.kinds.Order.{Order}
-use Rattle.bdb_format.specs.declared.metadata.BtreeMeta.{BtreeMeta}
-use Rattle.bdb_format.specs.declared.metadata.HashMeta.{HashMeta}
-use Rattle.bdb_format.specs.declared.settings.Settings.{Settings}
-use Rattle.bdb_format.specs.Databases.{settings_of}
-use Rattle.bdb_format.specs.Page.{BtreeFields, HashFields}
-use Rattle.bdb_format.specs.Spelling.{table_bytes}
-use Rattle.bdb_format.specs.Table.{first_row}
-use Rattle.bdb_meta.specs.RowGroups.{flag_rows}
-use Rattle.bdb_law_grove.specs.Part.{IsPart, between}
-use Rattle.bdb_text_format.specs.declared.pairs.Pair.{Pair}
-use Rattle.bdb_text_format.specs.declared.sections.Section.{Section}
-use Rattle.bdb_text_format.specs.Pairs.{listed}
-use Rattle.bdb_pack.specs.Built.{Built}
-use Rattle.bdb_law_join.proofs.FiledLemmas.{btrees_are_spelled}
-use Rattle.bdb_mkleaves.specs.Layout.{AreTreesIn}
-use Rattle.bdb_mkleaves.specs.Spread.{tree_size}
-use Rattle.bdb_mkleaves.proofs.LayoutLemmas.{trees_are_in}
-use Rattle.bdb_mktree.specs.Building.{IsTreeBuilt}
-use Rattle.bdb_mktree.specs.Lists.{units_in}
-use Rattle.bdb_mktree.specs.Units.{IsTreeKind, is_counted, leaf_type_of}
-use Rattle.bdb_law_buckets.specs.Tables.{HasBuiltBuckets, table_meta}
-use Rattle.bdb_mkhash.specs.Buckets.{table_bits, table_cost, table_size, table_units}
-use Rattle.bdb_mkhash.specs.Table.{IsTableBuilt}
+use Rattle.bdb_io.specs.of_format.declared.kinds.Kind.{Kind}
+use Rattle.bdb_io.specs.of_format.declared.kinds.Kind.TheVariants.{Btree, Recno, Hash, Queue}
+use Rattle.bdb_io.specs.of_format.declared.kinds.Order.{Order}
+use Rattle.bdb_io.specs.of_format.declared.metadata.BtreeMeta.{BtreeMeta}
+use Rattle.bdb_io.specs.of_format.declared.metadata.HashMeta.{HashMeta}
+use Rattle.bdb_io.specs.of_format.declared.settings.Settings.{Settings}
+use Rattle.bdb_io.specs.of_format.Databases.{settings_of}
+use Rattle.bdb_io.specs.of_format.Page.{BtreeFields, HashFields}
+use Rattle.bdb_io.specs.of_format.Spelling.{table_bytes}
+use Rattle.bdb_io.specs.of_format.Table.{first_row}
+use Rattle.bdb_need.specs.of_meta.RowGroups.{flag_rows}
+use Rattle.bdb_need.specs.of_law_grove.Part.{IsPart, between}
+use Rattle.bdb_need.specs.of_text_format.declared.pairs.Pair.{Pair}
+use Rattle.bdb_need.specs.of_text_format.declared.sections.Section.{Section}
+use Rattle.bdb_need.specs.of_text_format.Pairs.{listed}
+use Rattle.bdb_need.specs.of_pack.Built.{Built}
+use Rattle.bdb_need.proofs.of_law_join.FiledLemmas.{btrees_are_spelled}
+use Rattle.bdb_need.specs.of_mkleaves.Layout.{AreTreesIn}
+use Rattle.bdb_need.specs.of_mkleaves.Spread.{tree_size}
+use Rattle.bdb_need.proofs.of_mkleaves.LayoutLemmas.{trees_are_in}
+use Rattle.bdb_need.specs.of_mktree.Building.{IsTreeBuilt}
+use Rattle.bdb_need.specs.of_mktree.Lists.{units_in}
+use Rattle.bdb_need.specs.of_mktree.Units.{IsTreeKind, is_counted, leaf_type_of}
+use Rattle.bdb_need.specs.of_law_buckets.Tables.{HasBuiltBuckets, table_meta}
+use Rattle.bdb_need.specs.of_mkhash.Buckets.{table_bits, table_cost, table_size, table_units}
+use Rattle.bdb_need.specs.of_mkhash.Table.{IsTableBuilt}
 use Rattle.bdb_need.specs.TreePages.{unlined_pairs, tree_pages}
 use Rattle.bdb_need.specs.Need.{list_pages, sized}
 use Rattle.bdb_mkfile.specs.FileSettings.{file_settings, own_settings}

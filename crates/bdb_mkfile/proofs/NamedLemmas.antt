@@ -5,41 +5,41 @@ use Rattle.std.specs.List.{All, AllZip, Contains, sum_by}
 use Rattle.std.proofs.lemmas.Bool.{cases_lt}
 use Rattle.std.proofs.lemmas.List.{length-map, length-reverse}
 use Rattle.std.proofs.lemmas.List.Elements.{All-cons, All-nil}
-use Rattle.bdb_format.specs.declared.kinds.Order.{Order}
-use Rattle.bdb_format.specs.declared.metadata.BtreeMeta.{BtreeMeta}
-use Rattle.bdb_format.specs.Databases.{Database, databases}
-use Rattle.bdb_format.specs.declared.kinds.Kind.TheVariants.{Btree}
-use Rattle.bdb_format.specs.File.{File, file_of, page_bytes}
-use Rattle.bdb_format.specs.HeadOf.{head_of}
-use Rattle.bdb_format.specs.Spelling.{btree_bytes}
-use Rattle.bdb_format.specs.Flags.{has_duplicates, names_databases}
-use Rattle.bdb_format.specs.Lists.{ListKey}
-use Rattle.bdb_format.specs.Page.{BtreeFields}
-use Rattle.bdb_format.specs.Reading.{is_zero}
-use Rattle.bdb_format.specs.Rows.{page_code}
-use Rattle.bdb_format.specs.Table.{first_row}
-use Rattle.bdb_format.specs.Verdict.{first_judgement}
-use Rattle.bdb_format.proofs.MemberLemmas.{first_member, later_member, member_cases}
-use Rattle.bdb_meta.specs.RowGroups.{flag_rows}
-use Rattle.bdb_law_grove.specs.Growing.{IsCounted, IsLater}
-use Rattle.bdb_law_grove.specs.Part.{IsPart, between}
-use Rattle.bdb_law_grove.proofs.ChainLemmas.{between_is, is_between}
-use Rattle.bdb_text_format.specs.declared.sections.Section.{Section}
-use Rattle.bdb_text_format.specs.Pairs.{listed}
-use Rattle.bdb_pack.specs.Built.{Built, bytes_of, file_so_far, joined_pages, with_zeros}
-use Rattle.bdb_pack.proofs.CutLemmas.{all_size}
-use Rattle.bdb_pack.proofs.ImageLemmas.{counted_so_far}
-use Rattle.bdb_law_join.specs.Filed.{AreFiled, IsSpelled}
-use Rattle.bdb_law_join.specs.Joining.{IsInPartOf, IsJoined, IsMetaOf, Joint}
-use Rattle.bdb_law_join.specs.Masters.{Entry, IsDatabase, IsSoundUnderMaster, IsUnderMaster}
-use Rattle.bdb_law_join.specs.Written.{HasHead, SpellsMeta}
-use Rattle.bdb_law_join.proofs.FiledLemmas.{btrees_are_spelled, filed_parts_are_joined, has_head, later as filed_later, read_back}
-use Rattle.bdb_law_join.proofs.NamedLemmas.{joins_all}
-use Rattle.bdb_law_join.proofs.ReadLemmas.{page_read}
-use Rattle.bdb_mkleaves.specs.Layout.{HasPagesOf}
-use Rattle.bdb_mkleaves.proofs.FilledLemmas.{later_self}
-use Rattle.bdb_mkleaves.proofs.RunLemmas.{later_before as later_in}
-use Rattle.bdb_law_buckets.specs.Tables.{HasBuiltTable}
+use Rattle.bdb_io.specs.of_format.declared.kinds.Order.{Order}
+use Rattle.bdb_io.specs.of_format.declared.metadata.BtreeMeta.{BtreeMeta}
+use Rattle.bdb_io.specs.of_format.Databases.{Database, databases}
+use Rattle.bdb_io.specs.of_format.declared.kinds.Kind.TheVariants.{Btree}
+use Rattle.bdb_io.specs.of_format.File.{File, file_of, page_bytes}
+use Rattle.bdb_io.specs.of_format.HeadOf.{head_of}
+use Rattle.bdb_io.specs.of_format.Spelling.{btree_bytes}
+use Rattle.bdb_io.specs.of_format.Flags.{has_duplicates, names_databases}
+use Rattle.bdb_io.specs.of_format.Lists.{ListKey}
+use Rattle.bdb_io.specs.of_format.Page.{BtreeFields}
+use Rattle.bdb_io.specs.of_format.Reading.{is_zero}
+use Rattle.bdb_io.specs.of_format.Rows.{page_code}
+use Rattle.bdb_io.specs.of_format.Table.{first_row}
+use Rattle.bdb_io.specs.of_format.Verdict.{first_judgement}
+use Rattle.bdb_io.proofs.of_format.MemberLemmas.{first_member, later_member, member_cases}
+use Rattle.bdb_need.specs.of_meta.RowGroups.{flag_rows}
+use Rattle.bdb_need.specs.of_law_grove.Growing.{IsCounted, IsLater}
+use Rattle.bdb_need.specs.of_law_grove.Part.{IsPart, between}
+use Rattle.bdb_need.proofs.of_law_grove.ChainLemmas.{between_is, is_between}
+use Rattle.bdb_need.specs.of_text_format.declared.sections.Section.{Section}
+use Rattle.bdb_need.specs.of_text_format.Pairs.{listed}
+use Rattle.bdb_need.specs.of_pack.Built.{Built, bytes_of, file_so_far, joined_pages, with_zeros}
+use Rattle.bdb_need.proofs.of_pack.CutLemmas.{all_size}
+use Rattle.bdb_need.proofs.of_pack.ImageLemmas.{counted_so_far}
+use Rattle.bdb_need.specs.of_law_join.Filed.{AreFiled, IsSpelled}
+use Rattle.bdb_need.specs.of_law_join.Joining.{IsInPartOf, IsJoined, IsMetaOf, Joint}
+use Rattle.bdb_need.specs.of_law_join.Masters.{Entry, IsDatabase, IsSoundUnderMaster, IsUnderMaster}
+use Rattle.bdb_need.specs.of_law_join.Written.{HasHead, SpellsMeta}
+use Rattle.bdb_need.proofs.of_law_join.FiledLemmas.{btrees_are_spelled, filed_parts_are_joined, has_head, later as filed_later, read_back}
+use Rattle.bdb_need.proofs.of_law_join.NamedLemmas.{joins_all}
+use Rattle.bdb_need.proofs.of_law_join.ReadLemmas.{page_read}
+use Rattle.bdb_need.specs.of_mkleaves.Layout.{HasPagesOf}
+use Rattle.bdb_need.proofs.of_mkleaves.FilledLemmas.{later_self}
+use Rattle.bdb_need.proofs.of_mkleaves.RunLemmas.{later_before as later_in}
+use Rattle.bdb_need.specs.of_law_buckets.Tables.{HasBuiltTable}
 use Rattle.bdb_need.specs.TreePages.{unlined_pairs}
 use Rattle.bdb_need.specs.Need.{section_pages}
 use Rattle.bdb_mkfile.proofs.TreeLemmas.{first_zero}

@@ -1,22 +1,22 @@
 -- The list of a master, and its tree.
 use Rattle.std.proofs.Common.{◌≡◌, ℕ, ◌+◌, ◌<◌, List, [], ◌∷◌, ◌++◌, length, take, get_or, arith, sym, ◌∙◌, ap, subst}
 use Rattle.std.proofs.lemmas.List.{length-take-le, take_more}
-use Rattle.bdb_format.specs.declared.kinds.Kind.TheVariants.{Btree}
-use Rattle.bdb_format.specs.declared.metadata.BtreeMeta.{BtreeMeta}
-use Rattle.bdb_format.specs.declared.settings.Settings.{Settings}
-use Rattle.bdb_format.specs.Databases.{settings_of}
-use Rattle.bdb_format.specs.Page.{BtreeFields}
-use Rattle.bdb_text_format.specs.declared.pairs.Pair.{Pair}
-use Rattle.bdb_text_format.specs.declared.sections.Section.{Section}
-use Rattle.bdb_text_format.specs.Pairs.{listed}
-use Rattle.bdb_law_grove.specs.Part.{between}
-use Rattle.bdb_pack.specs.Built.{Built}
-use Rattle.bdb_mkleaves.specs.Layout.{AreTreesIn}
-use Rattle.bdb_mkleaves.specs.Spread.{tree_size}
-use Rattle.bdb_mkleaves.proofs.LayoutLemmas.{trees_are_in}
-use Rattle.bdb_mktree.specs.Building.{IsTreeBuilt}
-use Rattle.bdb_mktree.specs.Lists.{IsTreeList, units_in}
-use Rattle.bdb_mktree.specs.Units.{is_counted, leaf_type_of}
+use Rattle.bdb_io.specs.of_format.declared.kinds.Kind.TheVariants.{Btree}
+use Rattle.bdb_io.specs.of_format.declared.metadata.BtreeMeta.{BtreeMeta}
+use Rattle.bdb_io.specs.of_format.declared.settings.Settings.{Settings}
+use Rattle.bdb_io.specs.of_format.Databases.{settings_of}
+use Rattle.bdb_io.specs.of_format.Page.{BtreeFields}
+use Rattle.bdb_need.specs.of_text_format.declared.pairs.Pair.{Pair}
+use Rattle.bdb_need.specs.of_text_format.declared.sections.Section.{Section}
+use Rattle.bdb_need.specs.of_text_format.Pairs.{listed}
+use Rattle.bdb_need.specs.of_law_grove.Part.{between}
+use Rattle.bdb_need.specs.of_pack.Built.{Built}
+use Rattle.bdb_need.specs.of_mkleaves.Layout.{AreTreesIn}
+use Rattle.bdb_need.specs.of_mkleaves.Spread.{tree_size}
+use Rattle.bdb_need.proofs.of_mkleaves.LayoutLemmas.{trees_are_in}
+use Rattle.bdb_need.specs.of_mktree.Building.{IsTreeBuilt}
+use Rattle.bdb_need.specs.of_mktree.Lists.{IsTreeList, units_in}
+use Rattle.bdb_need.specs.of_mktree.Units.{is_counted, leaf_type_of}
 use Rattle.bdb_need.specs.TreePages.{tree_pages}
 use Rattle.bdb_mkfile.specs.NamedImages.{AreNamed, names_pages}
 use Rattle.bdb_mkfile.specs.Layout.{entries_from, entry_of, named_tree_meta, settings_of_master}

@@ -6,29 +6,29 @@ use Rattle.std.specs.List.{All, AllZip, Contains, filter}
 use Rattle.std.specs.Str.{bytes_eq}
 use Rattle.std.proofs.lemmas.Bool.{and_parts, cases_eq, false_from_ne_true, ne_eqb}
 use Rattle.std.proofs.lemmas.List.Elements.{All-head, All-tail}
-use Rattle.bdb_format.specs.declared.kinds.Order.{Order}
-use Rattle.bdb_format.specs.declared.kinds.Order.TheVariants.{Big}
-use Rattle.bdb_format.specs.ContentRows.{ascends, ascends_from}
-use Rattle.bdb_format.specs.Databases.{Database, databases, settings_of}
-use Rattle.bdb_format.specs.File.{file_of}
-use Rattle.bdb_format.specs.HeadOf.{head_of}
-use Rattle.bdb_format.specs.Less.{Less, less}
-use Rattle.bdb_format.specs.Lists.{BytesKey, is_key, list_of}
-use Rattle.bdb_format.specs.Master.{is_page, page_named}
-use Rattle.bdb_format.specs.Numbers.{number as number_of, spelled}
-use Rattle.bdb_format.proofs.LessLemmas.{eq_same, less_trans, not_less_same}
-use Rattle.bdb_format.proofs.MemberLemmas.{first_member, later_member, member_cases, no_member}
-use Rattle.bdb_format.proofs.SpellingLemmas.{length-spelled, number-spelled}
-use Rattle.bdb_text_format.specs.declared.sections.Section.{Section}
-use Rattle.bdb_text_format.specs.Pairs.{listed}
-use Rattle.bdb_law_join.specs.Joining.{HoldsLists, IsMetaOf, Joint}
-use Rattle.bdb_law_join.specs.Masters.{AreNamesApart, Entry, IsDatabase}
-use Rattle.bdb_mkleaves.proofs.UnitLemmas.{ascends_later}
+use Rattle.bdb_io.specs.of_format.declared.kinds.Order.{Order}
+use Rattle.bdb_io.specs.of_format.declared.kinds.Order.TheVariants.{Big}
+use Rattle.bdb_io.specs.of_format.ContentRows.{ascends, ascends_from}
+use Rattle.bdb_io.specs.of_format.Databases.{Database, databases, settings_of}
+use Rattle.bdb_io.specs.of_format.File.{file_of}
+use Rattle.bdb_io.specs.of_format.HeadOf.{head_of}
+use Rattle.bdb_io.specs.of_format.Less.{Less, less}
+use Rattle.bdb_io.specs.of_format.Lists.{BytesKey, is_key, list_of}
+use Rattle.bdb_io.specs.of_format.Master.{is_page, page_named}
+use Rattle.bdb_io.specs.of_format.Numbers.{number as number_of, spelled}
+use Rattle.bdb_io.proofs.of_format.LessLemmas.{eq_same, less_trans, not_less_same}
+use Rattle.bdb_io.proofs.of_format.MemberLemmas.{first_member, later_member, member_cases, no_member}
+use Rattle.bdb_io.proofs.of_format.SpellingLemmas.{length-spelled, number-spelled}
+use Rattle.bdb_need.specs.of_text_format.declared.sections.Section.{Section}
+use Rattle.bdb_need.specs.of_text_format.Pairs.{listed}
+use Rattle.bdb_need.specs.of_law_join.Joining.{HoldsLists, IsMetaOf, Joint}
+use Rattle.bdb_need.specs.of_law_join.Masters.{AreNamesApart, Entry, IsDatabase}
+use Rattle.bdb_need.proofs.of_mkleaves.UnitLemmas.{ascends_later}
 use Rattle.bdb_need.specs.Need.{name_in}
 use Rattle.bdb_mkfile.specs.NamedImages.{IsDatabaseOf, IsNamed}
 use Rattle.bdb_mkfile.specs.NamedLaws.{EntriesNameDatabases, EntriesNameMetas}
 use Rattle.bdb_mkfile.specs.Layout.{AreJointsFrom, IsJointOf, entries_from}
-use Rattle.bdb_format.proofs.ListLemmas.{one_answer}
+use Rattle.bdb_io.proofs.of_format.ListLemmas.{one_answer}
 
 -- Numbers of pages.
 

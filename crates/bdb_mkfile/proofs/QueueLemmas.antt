@@ -1,27 +1,27 @@
 -- The image of a queue.
 use Rattle.std.proofs.Common.{◌≡◌, ℕ, ◌+◌, ◌-◌, ◌*◌, ◌<◌, ◌≤◌, ◌^◌, true, List, [], ◌∷◌, ◌++◌, length, take, None, arith, sym, ◌∙◌, ap}
-use Rattle.bdb_format.specs.declared.kinds.Kind.TheVariants.{Queue as QueueKind}
-use Rattle.bdb_format.specs.declared.metadata.FileKind.TheVariants.{Queue}
-use Rattle.bdb_format.specs.declared.metadata.Head.{Head}
-use Rattle.bdb_format.specs.declared.metadata.QueueMeta.{QueueMeta}
-use Rattle.bdb_format.specs.declared.settings.Settings.{Settings}
-use Rattle.bdb_format.specs.Databases.{settings_of}
-use Rattle.bdb_format.specs.File.{file_of}
-use Rattle.bdb_format.specs.Lists.{list_of}
-use Rattle.bdb_format.specs.HeadOf.{is_page_size}
-use Rattle.bdb_format.specs.Numbers.{spelled}
-use Rattle.bdb_format.specs.Page.{QueueFields}
-use Rattle.bdb_format.specs.Reading.{queue_fields}
-use Rattle.bdb_format.specs.Spelling.{queue_bytes, zeros}
-use Rattle.bdb_format.proofs.SizeLemmas.{size_bounds}
-use Rattle.bdb_text_format.specs.declared.pairs.Pair.{Pair}
-use Rattle.bdb_pack.specs.Built.{AreWhole, Built, bytes_of, joined_pages, with_page, with_zeros, written_over}
-use Rattle.bdb_pack.proofs.CutLemmas.{written_whole}
-use Rattle.bdb_law_join.specs.Written.{AreLegal}
-use Rattle.bdb_mkqueue.specs.Building.{IsQueueBuilt}
-use Rattle.bdb_mkqueue.specs.Layout.{queue_meta, queue_size}
-use Rattle.bdb_mkqueue.specs.Written.{IsSoundQueueOf, IsWrittenQueue}
-use Rattle.bdb_mkqueue.proofs.WrittenLemmas.{length-queue, written_queues_are_sound}
+use Rattle.bdb_io.specs.of_format.declared.kinds.Kind.TheVariants.{Queue as QueueKind}
+use Rattle.bdb_io.specs.of_format.declared.metadata.FileKind.TheVariants.{Queue}
+use Rattle.bdb_io.specs.of_format.declared.metadata.Head.{Head}
+use Rattle.bdb_io.specs.of_format.declared.metadata.QueueMeta.{QueueMeta}
+use Rattle.bdb_io.specs.of_format.declared.settings.Settings.{Settings}
+use Rattle.bdb_io.specs.of_format.Databases.{settings_of}
+use Rattle.bdb_io.specs.of_format.File.{file_of}
+use Rattle.bdb_io.specs.of_format.Lists.{list_of}
+use Rattle.bdb_io.specs.of_format.HeadOf.{is_page_size}
+use Rattle.bdb_io.specs.of_format.Numbers.{spelled}
+use Rattle.bdb_io.specs.of_format.Page.{QueueFields}
+use Rattle.bdb_io.specs.of_format.Reading.{queue_fields}
+use Rattle.bdb_io.specs.of_format.Spelling.{queue_bytes, zeros}
+use Rattle.bdb_io.proofs.of_format.SizeLemmas.{size_bounds}
+use Rattle.bdb_need.specs.of_text_format.declared.pairs.Pair.{Pair}
+use Rattle.bdb_need.specs.of_pack.Built.{AreWhole, Built, bytes_of, joined_pages, with_page, with_zeros, written_over}
+use Rattle.bdb_need.proofs.of_pack.CutLemmas.{written_whole}
+use Rattle.bdb_need.specs.of_law_join.Written.{AreLegal}
+use Rattle.bdb_need.specs.of_mkqueue.Building.{IsQueueBuilt}
+use Rattle.bdb_need.specs.of_mkqueue.Layout.{queue_meta, queue_size}
+use Rattle.bdb_need.specs.of_mkqueue.Written.{IsSoundQueueOf, IsWrittenQueue}
+use Rattle.bdb_need.proofs.of_mkqueue.WrittenLemmas.{length-queue, written_queues_are_sound}
 use Rattle.bdb_mkfile.specs.FileSettings.{file_settings, own_settings}
 use Rattle.bdb_mkfile.specs.LoneImages.{IsQueueImage, queue_first, queue_pages}
 use Rattle.bdb_mkfile.proofs.FirstLemmas.{IsUnderMeta, head_is, image_first, image_length}

@@ -3,11 +3,11 @@ use Rattle.std.proofs.Common.{◌≡◌, ℕ, ◌+◌, ◌<◌, ◌≤◌, true,
 use Rattle.std.specs.List.{Contains, sum_by}
 use Rattle.std.proofs.lemmas.Bool.{cases_lt}
 use Rattle.std.proofs.lemmas.List.Sums.{sum_by-cons}
-use Rattle.bdb_format.proofs.MemberLemmas.{first_member, later_member, member_cases, no_member}
-use Rattle.bdb_law_grove.proofs.ChainLemmas.{between_is, is_between}
-use Rattle.bdb_text_format.specs.declared.sections.Section.{Section}
-use Rattle.bdb_pack.specs.Built.{Built}
-use Rattle.bdb_law_join.specs.Joining.{IsInPartOf, IsMetaOf, Joint}
+use Rattle.bdb_io.proofs.of_format.MemberLemmas.{first_member, later_member, member_cases, no_member}
+use Rattle.bdb_need.proofs.of_law_grove.ChainLemmas.{between_is, is_between}
+use Rattle.bdb_need.specs.of_text_format.declared.sections.Section.{Section}
+use Rattle.bdb_need.specs.of_pack.Built.{Built}
+use Rattle.bdb_need.specs.of_law_join.Joining.{IsInPartOf, IsMetaOf, Joint}
 use Rattle.bdb_need.specs.Need.{section_pages}
 use Rattle.bdb_mkfile.specs.declared.named_metadata.DatabaseMeta.{DatabaseMeta}
 use Rattle.bdb_mkfile.specs.Layout.{AreJointsFrom}

@@ -1,20 +1,20 @@
 -- Settings and the metadata that says them.
 use Rattle.std.proofs.Common.{◌≡◌, ◌⊎◌, ℕ, ◌&&◌, Bool, true, false, List, [], ◌∷◌, Option, None, refl, sym, ◌∙◌, ap, subst, inl, inr}
-use Rattle.bdb_format.specs.declared.kinds.Kind.{Kind}
-use Rattle.bdb_format.specs.declared.kinds.Kind.TheVariants.{Btree, Recno, Hash, Queue}
-use Rattle.bdb_format.specs.declared.kinds.Order.{Order}
-use Rattle.bdb_format.specs.declared.metadata.BtreeMeta.{BtreeMeta}
-use Rattle.bdb_format.specs.declared.settings.Settings.{Settings}
-use Rattle.bdb_format.specs.Databases.{plain_settings, settings_of}
-use Rattle.bdb_format.specs.HeadOf.{is_page_size}
-use Rattle.bdb_format.specs.Flags.{names_databases}
-use Rattle.bdb_format.specs.Page.{BtreeFields}
-use Rattle.bdb_format.specs.Table.{first_row}
-use Rattle.bdb_meta.specs.RowGroups.{flag_rows}
-use Rattle.bdb_text_format.specs.Written.{header_lines}
-use Rattle.bdb_text_format.specs.declared.pairs.Pair.{Pair}
-use Rattle.bdb_mkleaves.proofs.RunLemmas.{all_map}
-use Rattle.bdb_mktree.specs.Lists.{IsKeyFor, IsTreeList, IsPairFor, is_in_order, may_follow}
+use Rattle.bdb_io.specs.of_format.declared.kinds.Kind.{Kind}
+use Rattle.bdb_io.specs.of_format.declared.kinds.Kind.TheVariants.{Btree, Recno, Hash, Queue}
+use Rattle.bdb_io.specs.of_format.declared.kinds.Order.{Order}
+use Rattle.bdb_io.specs.of_format.declared.metadata.BtreeMeta.{BtreeMeta}
+use Rattle.bdb_io.specs.of_format.declared.settings.Settings.{Settings}
+use Rattle.bdb_io.specs.of_format.Databases.{plain_settings, settings_of}
+use Rattle.bdb_io.specs.of_format.HeadOf.{is_page_size}
+use Rattle.bdb_io.specs.of_format.Flags.{names_databases}
+use Rattle.bdb_io.specs.of_format.Page.{BtreeFields}
+use Rattle.bdb_io.specs.of_format.Table.{first_row}
+use Rattle.bdb_need.specs.of_meta.RowGroups.{flag_rows}
+use Rattle.bdb_need.specs.of_text_format.Written.{header_lines}
+use Rattle.bdb_need.specs.of_text_format.declared.pairs.Pair.{Pair}
+use Rattle.bdb_need.proofs.of_mkleaves.RunLemmas.{all_map}
+use Rattle.bdb_need.specs.of_mktree.Lists.{IsKeyFor, IsTreeList, IsPairFor, is_in_order, may_follow}
 use Rattle.bdb_mkfile.specs.Trees.{IsTreeSettings}
 use Rattle.bdb_mkfile.specs.FileSettings.{file_settings, own_settings, tree_meta}
 

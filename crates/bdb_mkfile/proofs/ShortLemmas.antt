@@ -8,27 +8,27 @@ use Rattle.std.proofs.lemmas.Bool.{and_parts, lt-ltb}
 use Rattle.std.proofs.lemmas.Bool.Decides.{nat_tests}
 use Rattle.std.proofs.lemmas.List.Elements.{All-cons, All-head, All-map, All-nil, All-tail, All-weaker}
 use Rattle.std.proofs.lemmas.List.Folds.{fold-map}
-use Rattle.bdb_format.specs.declared.kinds.Kind.{Kind}
-use Rattle.bdb_format.specs.declared.kinds.Kind.TheVariants.{Btree, Recno, Hash, Queue}
-use Rattle.bdb_format.specs.declared.settings.Settings.{Settings}
-use Rattle.bdb_format.specs.HeadOf.{is_page_size}
-use Rattle.bdb_text_format.specs.declared.pairs.Pair.{Pair}
-use Rattle.bdb_text_format.specs.declared.pairs.Key.{Key}
-use Rattle.bdb_text_format.specs.declared.pairs.Key.TheVariants.{Bytes, Number}
-use Rattle.bdb_text_format.specs.declared.pairs.TextPair.{TextPair}
-use Rattle.bdb_text_format.specs.declared.sections.Section.{Section}
-use Rattle.bdb_text_format.specs.Written.{holds_records}
+use Rattle.bdb_io.specs.of_format.declared.kinds.Kind.{Kind}
+use Rattle.bdb_io.specs.of_format.declared.kinds.Kind.TheVariants.{Btree, Recno, Hash, Queue}
+use Rattle.bdb_io.specs.of_format.declared.settings.Settings.{Settings}
+use Rattle.bdb_io.specs.of_format.HeadOf.{is_page_size}
+use Rattle.bdb_need.specs.of_text_format.declared.pairs.Pair.{Pair}
+use Rattle.bdb_need.specs.of_text_format.declared.pairs.Key.{Key}
+use Rattle.bdb_need.specs.of_text_format.declared.pairs.Key.TheVariants.{Bytes, Number}
+use Rattle.bdb_need.specs.of_text_format.declared.pairs.TextPair.{TextPair}
+use Rattle.bdb_need.specs.of_text_format.declared.sections.Section.{Section}
+use Rattle.bdb_need.specs.of_text_format.Written.{holds_records}
 use Rattle.bdb_law_sections.specs.Fit.{AreFit, AreNamedBehind, IsFitPair, IsFitSection, is_number}
-use Rattle.bdb_mkleaves.specs.Runs.{IsShort}
-use Rattle.bdb_mktree.specs.Lists.{HasNumber, bytes_in}
-use Rattle.bdb_settle.specs.declared.load_error.LoadError.TheVariants.{TooLarge}
-use Rattle.bdb_settle.specs.ListLaw.{HasShortBytes}
-use Rattle.bdb_settle.specs.LoadErrors.{load_error}
-use Rattle.bdb_settle.specs.Loaded.{filled_value, has_length, loaded, loaded_pair, loaded_section, ordered, ordered_section, unlined, unlined_pairs, unnumbered}
-use Rattle.bdb_settle.proofs.ErrorLemmas.{IsSound, sound_pairs}
-use Rattle.bdb_settle.proofs.FillingLemmas.{fill, fold_filled}
-use Rattle.bdb_settle.proofs.ListLawLemmas.{filled_short}
-use Rattle.bdb_settle.proofs.OrderedLemmas.{fold_all}
+use Rattle.bdb_need.specs.of_mkleaves.Runs.{IsShort}
+use Rattle.bdb_need.specs.of_mktree.Lists.{HasNumber, bytes_in}
+use Rattle.bdb_need.specs.of_settle.declared.load_error.LoadError.TheVariants.{TooLarge}
+use Rattle.bdb_need.specs.of_settle.ListLaw.{HasShortBytes}
+use Rattle.bdb_need.specs.of_settle.LoadErrors.{load_error}
+use Rattle.bdb_need.specs.of_settle.Loaded.{filled_value, has_length, loaded, loaded_pair, loaded_section, ordered, ordered_section, unlined, unlined_pairs, unnumbered}
+use Rattle.bdb_need.proofs.of_settle.ErrorLemmas.{IsSound, sound_pairs}
+use Rattle.bdb_need.proofs.of_settle.FillingLemmas.{fill, fold_filled}
+use Rattle.bdb_need.proofs.of_settle.ListLawLemmas.{filled_short}
+use Rattle.bdb_need.proofs.of_settle.OrderedLemmas.{fold_all}
 use Rattle.bdb_need.specs.Need.{list_pages, master_pages, master_settings, name_in, need_of, section_pages, sized}
 use Rattle.bdb_need.proofs.NeedLemmas.{listed_again}
 use Rattle.bdb_mkfile.specs.NamedImages.{name_entry}

@@ -2,22 +2,22 @@
 use Rattle.std.proofs.Common.{◌≡◌, ℕ, ◌+◌, ◌<◌, ◌≤◌, true, List, [], ◌∷◌, ◌++◌, length, replicate, arith, refl, sym, ◌∙◌, ap, subst, inl, inr, length-append}
 use Rattle.std.proofs.lemmas.Bool.{cases_lt}
 use Rattle.std.proofs.lemmas.List.{get_or_append_left, reverse-append}
-use Rattle.bdb_pack.proofs.ImageLemmas.{page_so_far}
-use Rattle.bdb_format.specs.Databases.{settings_of}
-use Rattle.bdb_format.specs.File.{File, file_of, page_at}
-use Rattle.bdb_format.specs.Lists.{ListKey}
-use Rattle.bdb_format.specs.Page.{Metadata}
-use Rattle.bdb_format.specs.Reading.{abstract_page, is_zero}
-use Rattle.bdb_format.specs.Rows.{page_code}
-use Rattle.bdb_law_grove.specs.Growing.{IsLater, IsSamePage}
-use Rattle.bdb_law_grove.specs.Part.{between}
-use Rattle.bdb_law_grove.proofs.ChainLemmas.{between_is}
-use Rattle.bdb_text_format.specs.declared.sections.Section.{Section}
-use Rattle.bdb_text_format.specs.Pairs.{listed}
-use Rattle.bdb_pack.specs.Built.{Built, bytes_of, file_so_far, with_zeros}
-use Rattle.bdb_pack.proofs.AddedLemmas.{added_zero}
-use Rattle.bdb_mkleaves.specs.Layout.{HasPagesOf}
-use Rattle.bdb_mkleaves.specs.Leaves.{KeepsAll, KeepsBefore}
+use Rattle.bdb_need.proofs.of_pack.ImageLemmas.{page_so_far}
+use Rattle.bdb_io.specs.of_format.Databases.{settings_of}
+use Rattle.bdb_io.specs.of_format.File.{File, file_of, page_at}
+use Rattle.bdb_io.specs.of_format.Lists.{ListKey}
+use Rattle.bdb_io.specs.of_format.Page.{Metadata}
+use Rattle.bdb_io.specs.of_format.Reading.{abstract_page, is_zero}
+use Rattle.bdb_io.specs.of_format.Rows.{page_code}
+use Rattle.bdb_need.specs.of_law_grove.Growing.{IsLater, IsSamePage}
+use Rattle.bdb_need.specs.of_law_grove.Part.{between}
+use Rattle.bdb_need.proofs.of_law_grove.ChainLemmas.{between_is}
+use Rattle.bdb_need.specs.of_text_format.declared.sections.Section.{Section}
+use Rattle.bdb_need.specs.of_text_format.Pairs.{listed}
+use Rattle.bdb_need.specs.of_pack.Built.{Built, bytes_of, file_so_far, with_zeros}
+use Rattle.bdb_need.proofs.of_pack.AddedLemmas.{added_zero}
+use Rattle.bdb_need.specs.of_mkleaves.Layout.{HasPagesOf}
+use Rattle.bdb_need.specs.of_mkleaves.Leaves.{KeepsAll, KeepsBefore}
 use Rattle.bdb_need.specs.TreePages.{unlined_pairs}
 use Rattle.bdb_need.specs.Need.{list_pages, sized}
 use Rattle.bdb_mkfile.specs.FileSettings.{own_settings}

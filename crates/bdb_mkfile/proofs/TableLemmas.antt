@@ -1,31 +1,31 @@
 -- The image of a table.
 use Rattle.std.proofs.Common.{◌≡◌, ℕ, ◌+◌, ◌-◌, ◌*◌, ◌<◌, ◌≤◌, ◌^◌, Bool, true, false, cond, List, [], ◌∷◌, length, take, None}
 use Rattle.std.proofs.Common.{arith, refl, sym, ◌∙◌, ap, subst}
-use Rattle.bdb_format.specs.declared.kinds.Kind.TheVariants.{Hash as HashKind}
-use Rattle.bdb_format.specs.declared.kinds.Order.{Order}
-use Rattle.bdb_format.specs.declared.metadata.FileKind.TheVariants.{Hash}
-use Rattle.bdb_format.specs.declared.metadata.Head.{Head}
-use Rattle.bdb_format.specs.declared.metadata.HashMeta.{HashMeta}
-use Rattle.bdb_format.specs.declared.settings.Settings.{Settings}
-use Rattle.bdb_format.specs.Databases.{hash_settings, plain_settings, settings_of}
-use Rattle.bdb_format.specs.File.{file_of}
-use Rattle.bdb_format.specs.HeadOf.{is_page_size}
-use Rattle.bdb_format.specs.Lists.{list_of}
-use Rattle.bdb_format.specs.Numbers.{four_at, has_bit}
-use Rattle.bdb_format.specs.Page.{HashFields}
-use Rattle.bdb_format.specs.Reading.{hash_fields}
-use Rattle.bdb_format.specs.Spelling.{table_bytes}
-use Rattle.bdb_format.proofs.SizeLemmas.{size_bounds}
+use Rattle.bdb_io.specs.of_format.declared.kinds.Kind.TheVariants.{Hash as HashKind}
+use Rattle.bdb_io.specs.of_format.declared.kinds.Order.{Order}
+use Rattle.bdb_io.specs.of_format.declared.metadata.FileKind.TheVariants.{Hash}
+use Rattle.bdb_io.specs.of_format.declared.metadata.Head.{Head}
+use Rattle.bdb_io.specs.of_format.declared.metadata.HashMeta.{HashMeta}
+use Rattle.bdb_io.specs.of_format.declared.settings.Settings.{Settings}
+use Rattle.bdb_io.specs.of_format.Databases.{hash_settings, plain_settings, settings_of}
+use Rattle.bdb_io.specs.of_format.File.{file_of}
+use Rattle.bdb_io.specs.of_format.HeadOf.{is_page_size}
+use Rattle.bdb_io.specs.of_format.Lists.{list_of}
+use Rattle.bdb_io.specs.of_format.Numbers.{four_at, has_bit}
+use Rattle.bdb_io.specs.of_format.Page.{HashFields}
+use Rattle.bdb_io.specs.of_format.Reading.{hash_fields}
+use Rattle.bdb_io.specs.of_format.Spelling.{table_bytes}
+use Rattle.bdb_io.proofs.of_format.SizeLemmas.{size_bounds}
 use Rattle.std.proofs.lemmas.List.FromFn.{length-map-range_with_len}
-use Rattle.bdb_text_format.specs.declared.pairs.Pair.{Pair}
-use Rattle.bdb_text_format.specs.Pairs.{listed}
-use Rattle.bdb_pack.specs.Built.{AreWhole, Built, bytes_of, joined_pages, with_zeros, written_over}
-use Rattle.bdb_pack.proofs.CutLemmas.{written_whole}
-use Rattle.bdb_law_join.specs.Alone.{IsSoundAlone}
-use Rattle.bdb_law_join.specs.Written.{AreLegal}
-use Rattle.bdb_law_buckets.specs.Tables.{HasBuiltBuckets, table_meta}
-use Rattle.bdb_mkhash.specs.Buckets.{table_bits, table_size, table_units}
-use Rattle.bdb_mkhash.specs.Table.{IsTableBuilt}
+use Rattle.bdb_need.specs.of_text_format.declared.pairs.Pair.{Pair}
+use Rattle.bdb_need.specs.of_text_format.Pairs.{listed}
+use Rattle.bdb_need.specs.of_pack.Built.{AreWhole, Built, bytes_of, joined_pages, with_zeros, written_over}
+use Rattle.bdb_need.proofs.of_pack.CutLemmas.{written_whole}
+use Rattle.bdb_need.specs.of_law_join.Alone.{IsSoundAlone}
+use Rattle.bdb_need.specs.of_law_join.Written.{AreLegal}
+use Rattle.bdb_need.specs.of_law_buckets.Tables.{HasBuiltBuckets, table_meta}
+use Rattle.bdb_need.specs.of_mkhash.Buckets.{table_bits, table_size, table_units}
+use Rattle.bdb_need.specs.of_mkhash.Table.{IsTableBuilt}
 use Rattle.bdb_mkfile.specs.FileSettings.{file_settings, own_settings}
 use Rattle.bdb_mkfile.proofs.TreeLemmas.{first_zero}
 use Rattle.bdb_mkfile.specs.LoneImages.{IsTableImage, table_fields, table_first, table_pages}

@@ -2,31 +2,31 @@
 use Rattle.std.proofs.Common.{◌≡◌, ℕ, ◌+◌, ◌-◌, ◌<◌, ◌*◌, Bool, true, false, List, ◌++◌, length, arith, refl, sym, ◌∙◌, ap, subst}
 use Rattle.std.specs.List.{flat_map}
 use Rattle.std.proofs.lemmas.List.FromFn.{length-map-range_with_len}
-use Rattle.bdb_format.specs.declared.kinds.Kind.TheVariants.{Hash as HashKind}
-use Rattle.bdb_format.specs.declared.kinds.Order.{Order}
-use Rattle.bdb_format.specs.declared.metadata.FileKind.TheVariants.{Hash}
-use Rattle.bdb_format.specs.declared.metadata.Head.{Head}
-use Rattle.bdb_format.specs.declared.metadata.HashMeta.{HashMeta}
-use Rattle.bdb_format.specs.declared.settings.Settings.{Settings}
-use Rattle.bdb_format.specs.ByPage.{holding}
-use Rattle.bdb_format.specs.Contents.{table_pairs}
-use Rattle.bdb_format.specs.ContentRows.{database_rows}
-use Rattle.bdb_format.specs.Databases.{settings_of}
-use Rattle.bdb_format.specs.File.{File}
-use Rattle.bdb_format.specs.HeadOf.{is_page_size}
-use Rattle.bdb_format.specs.Lists.{hash_list}
-use Rattle.bdb_format.specs.Numbers.{four_at, spelled}
-use Rattle.bdb_format.specs.Page.{HashFields, Meta}
-use Rattle.bdb_format.specs.Reading.{hash_fields}
-use Rattle.bdb_format.specs.Spelling.{table_bytes, zeros}
-use Rattle.bdb_format.proofs.SizeLemmas.{size_bounds}
-use Rattle.bdb_image.proofs.HeldLemmas.{table_page}
-use Rattle.bdb_pack.specs.Built.{Built, bytes_of}
-use Rattle.bdb_law_join.specs.Filed.{head_for}
-use Rattle.bdb_law_join.specs.Joining.{free_of}
-use Rattle.bdb_law_join.specs.Written.{AreLegal}
-use Rattle.bdb_law_join.proofs.CommonLemmas.{ReadsAs, reads_common}
-use Rattle.bdb_law_buckets.specs.Tables.{table_meta}
+use Rattle.bdb_io.specs.of_format.declared.kinds.Kind.TheVariants.{Hash as HashKind}
+use Rattle.bdb_io.specs.of_format.declared.kinds.Order.{Order}
+use Rattle.bdb_io.specs.of_format.declared.metadata.FileKind.TheVariants.{Hash}
+use Rattle.bdb_io.specs.of_format.declared.metadata.Head.{Head}
+use Rattle.bdb_io.specs.of_format.declared.metadata.HashMeta.{HashMeta}
+use Rattle.bdb_io.specs.of_format.declared.settings.Settings.{Settings}
+use Rattle.bdb_io.specs.of_format.ByPage.{holding}
+use Rattle.bdb_io.specs.of_format.Contents.{table_pairs}
+use Rattle.bdb_io.specs.of_format.ContentRows.{database_rows}
+use Rattle.bdb_io.specs.of_format.Databases.{settings_of}
+use Rattle.bdb_io.specs.of_format.File.{File}
+use Rattle.bdb_io.specs.of_format.HeadOf.{is_page_size}
+use Rattle.bdb_io.specs.of_format.Lists.{hash_list}
+use Rattle.bdb_io.specs.of_format.Numbers.{four_at, spelled}
+use Rattle.bdb_io.specs.of_format.Page.{HashFields, Meta}
+use Rattle.bdb_io.specs.of_format.Reading.{hash_fields}
+use Rattle.bdb_io.specs.of_format.Spelling.{table_bytes, zeros}
+use Rattle.bdb_io.proofs.of_format.SizeLemmas.{size_bounds}
+use Rattle.bdb_need.proofs.of_image.HeldLemmas.{table_page}
+use Rattle.bdb_need.specs.of_pack.Built.{Built, bytes_of}
+use Rattle.bdb_need.specs.of_law_join.Filed.{head_for}
+use Rattle.bdb_need.specs.of_law_join.Joining.{free_of}
+use Rattle.bdb_need.specs.of_law_join.Written.{AreLegal}
+use Rattle.bdb_need.proofs.of_law_join.CommonLemmas.{ReadsAs, reads_common}
+use Rattle.bdb_need.specs.of_law_buckets.Tables.{table_meta}
 use Rattle.bdb_mkfile.specs.FileSettings.{own_settings}
 use Rattle.bdb_mkfile.proofs.MetaLemmas.{IsTablePage, few_flags, keyed_right, length-table, table_accepted}
 use Rattle.bdb_mkfile.specs.NamedLaws.{TablesAreSpelled, TablesHaveNames}

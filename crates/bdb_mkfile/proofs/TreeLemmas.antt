@@ -2,45 +2,45 @@
 use Rattle.std.proofs.Common.{◌≡◌, ℕ, ◌+◌, ◌-◌, ◌*◌, ◌<◌, ◌≤◌, ◌^◌, true, List, [], ◌∷◌, length, replicate, take, Bool}
 use Rattle.std.proofs.Common.{arith, refl, sym, ◌∙◌, ap, subst, length-append, IsTrue}
 use Rattle.std.proofs.lemmas.List.{length-set, take_at}
-use Rattle.bdb_format.specs.declared.kinds.Order.{Order}
-use Rattle.bdb_format.specs.declared.metadata.BtreeMeta.{BtreeMeta}
-use Rattle.bdb_format.specs.declared.settings.Settings.{Settings}
-use Rattle.bdb_format.specs.Databases.{settings_of}
-use Rattle.bdb_format.specs.File.{file_of}
-use Rattle.bdb_format.specs.HeadOf.{head_of, is_page_size}
-use Rattle.bdb_format.specs.Page.{BtreeFields}
-use Rattle.bdb_format.specs.Reading.{btree_fields, is_zero}
-use Rattle.bdb_format.specs.Spelling.{btree_bytes}
-use Rattle.bdb_format.proofs.SizeLemmas.{size_bounds}
-use Rattle.bdb_text_format.specs.declared.pairs.Pair.{Pair}
-use Rattle.bdb_text_format.specs.Pairs.{listed}
-use Rattle.bdb_law_grove.specs.Growing.{IsCounted, IsLater}
-use Rattle.bdb_law_grove.specs.Part.{between}
-use Rattle.bdb_law_grove.proofs.ChainLemmas.{between_is}
-use Rattle.bdb_pack.specs.Built.{AreWhole, Built, bytes_of, file_so_far, joined_pages, with_page, with_zeros, written_over}
-use Rattle.bdb_pack.proofs.AddedLemmas.{added_zero}
-use Rattle.bdb_pack.proofs.CutLemmas.{all_size, page_whole, written_whole}
-use Rattle.bdb_pack.proofs.ImageLemmas.{counted_so_far}
-use Rattle.bdb_law_join.specs.Alone.{IsSoundAlone}
-use Rattle.bdb_law_join.proofs.ReadLemmas.{page_read}
-use Rattle.bdb_law_join.specs.Written.{HasHead, HoldsTree, IsWritten, tree_part}
-use Rattle.bdb_law_join.proofs.WrittenLemmas.{above_stay, written_pages_are_read, written_trees_are_sound}
-use Rattle.bdb_mkleaves.specs.Layout.{AreTreesIn, HasPagesOf}
-use Rattle.bdb_mkleaves.specs.Spread.{tree_size}
-use Rattle.bdb_mkleaves.specs.Units.{TreeUnit}
-use Rattle.bdb_mkleaves.specs.declared.leaf_type.LeafType.{LeafType}
-use Rattle.bdb_mkleaves.proofs.FilledLemmas.{later_self}
-use Rattle.bdb_mkleaves.proofs.LayoutLemmas.{trees_are_in}
-use Rattle.bdb_mkleaves.proofs.RunLemmas.{later_before}
-use Rattle.bdb_mkqueue.proofs.WrittenLemmas.{begins}
-use Rattle.bdb_mktree.specs.Building.{IsTreeBuilt}
-use Rattle.bdb_mktree.specs.Lists.{units_in}
-use Rattle.bdb_mktree.specs.Units.{is_counted, leaf_type_of}
+use Rattle.bdb_io.specs.of_format.declared.kinds.Order.{Order}
+use Rattle.bdb_io.specs.of_format.declared.metadata.BtreeMeta.{BtreeMeta}
+use Rattle.bdb_io.specs.of_format.declared.settings.Settings.{Settings}
+use Rattle.bdb_io.specs.of_format.Databases.{settings_of}
+use Rattle.bdb_io.specs.of_format.File.{file_of}
+use Rattle.bdb_io.specs.of_format.HeadOf.{head_of, is_page_size}
+use Rattle.bdb_io.specs.of_format.Page.{BtreeFields}
+use Rattle.bdb_io.specs.of_format.Reading.{btree_fields, is_zero}
+use Rattle.bdb_io.specs.of_format.Spelling.{btree_bytes}
+use Rattle.bdb_io.proofs.of_format.SizeLemmas.{size_bounds}
+use Rattle.bdb_need.specs.of_text_format.declared.pairs.Pair.{Pair}
+use Rattle.bdb_need.specs.of_text_format.Pairs.{listed}
+use Rattle.bdb_need.specs.of_law_grove.Growing.{IsCounted, IsLater}
+use Rattle.bdb_need.specs.of_law_grove.Part.{between}
+use Rattle.bdb_need.proofs.of_law_grove.ChainLemmas.{between_is}
+use Rattle.bdb_need.specs.of_pack.Built.{AreWhole, Built, bytes_of, file_so_far, joined_pages, with_page, with_zeros, written_over}
+use Rattle.bdb_need.proofs.of_pack.AddedLemmas.{added_zero}
+use Rattle.bdb_need.proofs.of_pack.CutLemmas.{all_size, page_whole, written_whole}
+use Rattle.bdb_need.proofs.of_pack.ImageLemmas.{counted_so_far}
+use Rattle.bdb_need.specs.of_law_join.Alone.{IsSoundAlone}
+use Rattle.bdb_need.proofs.of_law_join.ReadLemmas.{page_read}
+use Rattle.bdb_need.specs.of_law_join.Written.{HasHead, HoldsTree, IsWritten, tree_part}
+use Rattle.bdb_need.proofs.of_law_join.WrittenLemmas.{above_stay, written_pages_are_read, written_trees_are_sound}
+use Rattle.bdb_need.specs.of_mkleaves.Layout.{AreTreesIn, HasPagesOf}
+use Rattle.bdb_need.specs.of_mkleaves.Spread.{tree_size}
+use Rattle.bdb_need.specs.of_mkleaves.Units.{TreeUnit}
+use Rattle.bdb_need.specs.of_mkleaves.declared.leaf_type.LeafType.{LeafType}
+use Rattle.bdb_need.proofs.of_mkleaves.FilledLemmas.{later_self}
+use Rattle.bdb_need.proofs.of_mkleaves.LayoutLemmas.{trees_are_in}
+use Rattle.bdb_need.proofs.of_mkleaves.RunLemmas.{later_before}
+use Rattle.bdb_need.proofs.of_mkqueue.WrittenLemmas.{begins}
+use Rattle.bdb_need.specs.of_mktree.Building.{IsTreeBuilt}
+use Rattle.bdb_need.specs.of_mktree.Lists.{units_in}
+use Rattle.bdb_need.specs.of_mktree.Units.{is_counted, leaf_type_of}
 use Rattle.bdb_need.specs.TreePages.{tree_pages}
 use Rattle.bdb_mkfile.specs.Trees.{IsTreeImage, IsTreeSettings, tree_first}
 use Rattle.bdb_mkfile.specs.FileSettings.{file_settings, tree_meta}
 use Rattle.bdb_mkfile.proofs.SettingsLemmas.{SaysSettings, says_settings}
-use Rattle.bdb_law_join.proofs.FiledLemmas.{length-btree}
+use Rattle.bdb_need.proofs.of_law_join.FiledLemmas.{length-btree}
 
 -- the metadata of page 0 as it is written through the lent page
 pub first_written : (old : Built) (page written : List ℕ) (order : Order) (last : ℕ) (meta : BtreeMeta) → 1 ≤ length old.pages → AreWhole old

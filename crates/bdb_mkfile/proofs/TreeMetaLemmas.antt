@@ -2,15 +2,15 @@
 use Rattle.std.proofs.Common.{◌≡◌, ℕ, ◌≤◌, Bool, true, false, None, arith, refl, sym, inl, inr, subst}
 use Rattle.std.specs.Prelude.{◌==◌}
 use Rattle.std.proofs.lemmas.Bool.{ne_eqb}
-use Rattle.bdb_format.specs.declared.kinds.Kind.{Kind}
-use Rattle.bdb_format.specs.declared.kinds.Kind.TheVariants.{Btree, Recno}
-use Rattle.bdb_format.specs.declared.kinds.Order.{Order}
-use Rattle.bdb_format.specs.declared.settings.Settings.{Settings}
-use Rattle.bdb_format.specs.Databases.{plain_settings, settings_of}
-use Rattle.bdb_format.specs.Flags.{has_duplicates, names_databases}
-use Rattle.bdb_format.specs.Page.{BtreeFields}
-use Rattle.bdb_format.specs.Table.{first_row}
-use Rattle.bdb_meta.specs.RowGroups.{flag_rows}
+use Rattle.bdb_io.specs.of_format.declared.kinds.Kind.{Kind}
+use Rattle.bdb_io.specs.of_format.declared.kinds.Kind.TheVariants.{Btree, Recno}
+use Rattle.bdb_io.specs.of_format.declared.kinds.Order.{Order}
+use Rattle.bdb_io.specs.of_format.declared.settings.Settings.{Settings}
+use Rattle.bdb_io.specs.of_format.Databases.{plain_settings, settings_of}
+use Rattle.bdb_io.specs.of_format.Flags.{has_duplicates, names_databases}
+use Rattle.bdb_io.specs.of_format.Page.{BtreeFields}
+use Rattle.bdb_io.specs.of_format.Table.{first_row}
+use Rattle.bdb_need.specs.of_meta.RowGroups.{flag_rows}
 use Rattle.bdb_mkfile.specs.FileSettings.{own_settings}
 use Rattle.bdb_mkfile.specs.Trees.{IsTreeSettings}
 use Rattle.bdb_mkfile.specs.NamedLaws.{TreesHaveNames}

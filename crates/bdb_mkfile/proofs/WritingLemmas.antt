@@ -2,10 +2,10 @@
 use Rattle.std.proofs.Common.{◌≡◌, ◌⊎◌, ℕ, ◌+◌, ◌-◌, ◌<◌, ◌≤◌, List, [], ◌∷◌, ◌++◌, length, reverse, take, get_or}
 use Rattle.std.proofs.Common.{arith, refl, sym, ◌∙◌, ap, subst, inl, inr, length-append}
 use Rattle.std.proofs.lemmas.List.{get_or-set_other, get_or-set_same, length-set, length-take-le, reverse-append, take_more}
-use Rattle.bdb_format.specs.declared.kinds.Order.{Order}
-use Rattle.bdb_pack.specs.Built.{Built, bytes_of, with_page, written_over}
-use Rattle.bdb_pack.proofs.CutLemmas.{page_whole, written_whole}
-use Rattle.bdb_law_join.specs.Written.{AreLegal}
+use Rattle.bdb_io.specs.of_format.declared.kinds.Order.{Order}
+use Rattle.bdb_need.specs.of_pack.Built.{Built, bytes_of, with_page, written_over}
+use Rattle.bdb_need.proofs.of_pack.CutLemmas.{page_whole, written_whole}
+use Rattle.bdb_need.specs.of_law_join.Written.{AreLegal}
 use Rattle.bdb_mkfile.specs.declared.named_metadata.DatabaseMeta.{DatabaseMeta}
 use Rattle.bdb_mkfile.specs.WrittenMetadata.{AreAsMany, ArePut, AreWrittenFrom, IsPut, IsWrittenOn, ReadsBack, meta_bytes}
 

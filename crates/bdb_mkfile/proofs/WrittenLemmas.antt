@@ -2,37 +2,37 @@
 use Rattle.std.proofs.Common.{◌≡◌, ℕ, zero, suc, ◌+◌, ◌-◌, ◌<◌, ◌≤◌, true, List, [], ◌++◌, length, None, arith, refl, sym, ◌∙◌, ap, subst}
 use Rattle.std.proofs.lemmas.List.{get_or-set_other, get_or-set_same, length-set}
 use Rattle.std.proofs.lemmas.List.FromFn.{length-map-range_with_len}
-use Rattle.bdb_format.specs.declared.metadata.FileKind.TheVariants.{Hash}
-use Rattle.bdb_format.specs.declared.metadata.Head.{Head}
-use Rattle.bdb_format.specs.declared.metadata.HashMeta.{HashMeta}
-use Rattle.bdb_format.specs.File.{file_of, page_at, page_bytes}
-use Rattle.bdb_format.specs.Graph.{is_meta}
-use Rattle.bdb_format.specs.HeadOf.{head_of, is_page_size}
-use Rattle.bdb_format.specs.Numbers.{four_at, spelled}
-use Rattle.bdb_format.specs.Page.{HashFields, Meta}
-use Rattle.bdb_format.specs.Reading.{abstract_page}
-use Rattle.bdb_format.specs.Rows.{form_code}
-use Rattle.bdb_format.specs.Spelling.{table_bytes, zeros}
-use Rattle.bdb_format.proofs.FileLemmas.{last_page, page_is}
-use Rattle.bdb_format.proofs.SizeLemmas.{size_bounds}
+use Rattle.bdb_io.specs.of_format.declared.metadata.FileKind.TheVariants.{Hash}
+use Rattle.bdb_io.specs.of_format.declared.metadata.Head.{Head}
+use Rattle.bdb_io.specs.of_format.declared.metadata.HashMeta.{HashMeta}
+use Rattle.bdb_io.specs.of_format.File.{file_of, page_at, page_bytes}
+use Rattle.bdb_io.specs.of_format.Graph.{is_meta}
+use Rattle.bdb_io.specs.of_format.HeadOf.{head_of, is_page_size}
+use Rattle.bdb_io.specs.of_format.Numbers.{four_at, spelled}
+use Rattle.bdb_io.specs.of_format.Page.{HashFields, Meta}
+use Rattle.bdb_io.specs.of_format.Reading.{abstract_page}
+use Rattle.bdb_io.specs.of_format.Rows.{form_code}
+use Rattle.bdb_io.specs.of_format.Spelling.{table_bytes, zeros}
+use Rattle.bdb_io.proofs.of_format.FileLemmas.{last_page, page_is}
+use Rattle.bdb_io.proofs.of_format.SizeLemmas.{size_bounds}
 use Rattle.std.specs.List.{flat_map}
 use Rattle.std.specs.Prelude.{◌*◌}
-use Rattle.bdb_image.proofs.CodeLemmas.{tree_passed}
-use Rattle.bdb_image.proofs.HeldLemmas.{table_page, tree_page}
-use Rattle.bdb_law_grove.specs.Growing.{IsLater, IsSamePage}
-use Rattle.bdb_law_grove.specs.Part.{IsPart, Part, between}
-use Rattle.bdb_law_grove.proofs.ChainLemmas.{between_is, is_between}
-use Rattle.bdb_pack.specs.Built.{Built, bytes_of, file_so_far, with_page}
-use Rattle.bdb_pack.specs.Stored.{IsLaterImage, TellsPages}
-use Rattle.bdb_pack.proofs.ImageLemmas.{images_are_later, page_so_far}
-use Rattle.bdb_law_join.specs.Alone.{StandsAlone}
-use Rattle.bdb_law_join.specs.Joining.{HasForm}
-use Rattle.bdb_law_join.proofs.AloneLemmas.{joins_alone, no_other_meta}
-use Rattle.bdb_law_join.proofs.CommonLemmas.{ReadsAs}
-use Rattle.bdb_law_join.proofs.HeadLemmas.{head_accepted}
-use Rattle.bdb_law_join.proofs.ReadLemmas.{page_read}
-use Rattle.bdb_law_buckets.specs.Tables.{table_meta}
-use Rattle.bdb_mkhash.specs.Buckets.{table_bits, table_cost}
+use Rattle.bdb_need.proofs.of_image.CodeLemmas.{tree_passed}
+use Rattle.bdb_need.proofs.of_image.HeldLemmas.{table_page, tree_page}
+use Rattle.bdb_need.specs.of_law_grove.Growing.{IsLater, IsSamePage}
+use Rattle.bdb_need.specs.of_law_grove.Part.{IsPart, Part, between}
+use Rattle.bdb_need.proofs.of_law_grove.ChainLemmas.{between_is, is_between}
+use Rattle.bdb_need.specs.of_pack.Built.{Built, bytes_of, file_so_far, with_page}
+use Rattle.bdb_need.specs.of_pack.Stored.{IsLaterImage, TellsPages}
+use Rattle.bdb_need.proofs.of_pack.ImageLemmas.{images_are_later, page_so_far}
+use Rattle.bdb_need.specs.of_law_join.Alone.{StandsAlone}
+use Rattle.bdb_need.specs.of_law_join.Joining.{HasForm}
+use Rattle.bdb_need.proofs.of_law_join.AloneLemmas.{joins_alone, no_other_meta}
+use Rattle.bdb_need.proofs.of_law_join.CommonLemmas.{ReadsAs}
+use Rattle.bdb_need.proofs.of_law_join.HeadLemmas.{head_accepted}
+use Rattle.bdb_need.proofs.of_law_join.ReadLemmas.{page_read}
+use Rattle.bdb_need.specs.of_law_buckets.Tables.{table_meta}
+use Rattle.bdb_need.specs.of_mkhash.Buckets.{table_bits, table_cost}
 use Rattle.bdb_mkfile.specs.WrittenTables.{IsWrittenTable, WrittenTablesAreSound, table_part}
 use Rattle.bdb_mkfile.proofs.FirstLemmas.{IsUnderMeta, head_for, head_is, reads_page, says_head, still_whole}
 use Rattle.bdb_mkfile.proofs.MetaLemmas.{IsTablePage, buckets_fit, few_flags, keyed_right, length-table, some_bits, table_accepted}

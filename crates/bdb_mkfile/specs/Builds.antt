@@ -1,17 +1,17 @@
 -- When an image is one that is built of sections. Source: docs/FORMAT.md, "Loading".
 use Rattle.std.specs.Prelude.{◌≡◌, ℕ, ◌*◌, if◌then◌else◌, Bool, List, [], ◌∷◌, length, map, Option, None, unwrap_or}
 use Rattle.std.specs.List.{AllZip}
-use Rattle.bdb_format.specs.declared.settings.Settings.{Settings}
-use Rattle.bdb_format.specs.Less.{less}
-use Rattle.bdb_format.specs.HeadOf.{head_of}
-use Rattle.bdb_format.specs.File.{file_of}
-use Rattle.bdb_format.specs.Lists.{list_of}
-use Rattle.bdb_format.specs.Databases.{Database, databases, settings_of}
-use Rattle.bdb_format.specs.Verdict.{verdict_of}
-use Rattle.bdb_text_format.specs.declared.sections.Section.{Section}
-use Rattle.bdb_text_format.specs.Pairs.{listed}
-use Rattle.bdb_text_format.specs.Written.{header_lines}
-use Rattle.bdb_settle.specs.Loaded.{loaded, loaded_section}
+use Rattle.bdb_io.specs.of_format.declared.settings.Settings.{Settings}
+use Rattle.bdb_io.specs.of_format.Less.{less}
+use Rattle.bdb_io.specs.of_format.HeadOf.{head_of}
+use Rattle.bdb_io.specs.of_format.File.{file_of}
+use Rattle.bdb_io.specs.of_format.Lists.{list_of}
+use Rattle.bdb_io.specs.of_format.Databases.{Database, databases, settings_of}
+use Rattle.bdb_io.specs.of_format.Verdict.{verdict_of}
+use Rattle.bdb_need.specs.of_text_format.declared.sections.Section.{Section}
+use Rattle.bdb_need.specs.of_text_format.Pairs.{listed}
+use Rattle.bdb_need.specs.of_text_format.Written.{header_lines}
+use Rattle.bdb_need.specs.of_settle.Loaded.{loaded, loaded_section}
 use Rattle.bdb_need.specs.Need.{need_of}
 
 -- Sections in the byte order of their names.

@@ -1,13 +1,13 @@
 -- The settings of a built database, and the metadata that says them. Source: docs/FORMAT.md, "Settings" and "Metadata pages".
 use Rattle.std.specs.Prelude.{ℕ, ◌+◌, ◌-◌, Bool, true, false, List, length}
-use Rattle.bdb_format.specs.declared.kinds.Kind.{Kind}
-use Rattle.bdb_format.specs.declared.kinds.Kind.TheVariants.{Btree, Recno, Hash, Queue}
-use Rattle.bdb_format.specs.declared.kinds.Order.{Order}
-use Rattle.bdb_format.specs.declared.metadata.BtreeMeta.{BtreeMeta}
-use Rattle.bdb_format.specs.declared.settings.Settings.{Settings}
-use Rattle.bdb_format.specs.Spelling.{btree_bytes}
-use Rattle.bdb_format.specs.Databases.{plain_settings}
-use Rattle.bdb_pack.specs.Built.{Built}
+use Rattle.bdb_io.specs.of_format.declared.kinds.Kind.{Kind}
+use Rattle.bdb_io.specs.of_format.declared.kinds.Kind.TheVariants.{Btree, Recno, Hash, Queue}
+use Rattle.bdb_io.specs.of_format.declared.kinds.Order.{Order}
+use Rattle.bdb_io.specs.of_format.declared.metadata.BtreeMeta.{BtreeMeta}
+use Rattle.bdb_io.specs.of_format.declared.settings.Settings.{Settings}
+use Rattle.bdb_io.specs.of_format.Spelling.{btree_bytes}
+use Rattle.bdb_io.specs.of_format.Databases.{plain_settings}
+use Rattle.bdb_need.specs.of_pack.Built.{Built}
 
 -- what settings say of a kind, in a file of a page size and an order: what belongs to other kinds is as a header without its keyword says
 abbrev pub own_settings : Kind → ℕ → Order → Settings → Settings

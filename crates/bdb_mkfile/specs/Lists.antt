@@ -2,19 +2,19 @@
 -- "Built queues".
 use Rattle.std.specs.Prelude.{◌≡◌, ◌+◌, ◌-◌, ◌*◌, ◌≤◌, ◌^◌, IsTrue, true, List, [], ◌∷◌, None}
 use Rattle.std.specs.List.{All}
-use Rattle.bdb_format.specs.declared.kinds.Kind.TheVariants.{Hash, Queue}
-use Rattle.bdb_format.specs.declared.settings.Settings.{Settings}
-use Rattle.bdb_format.specs.HeadOf.{is_page_size}
-use Rattle.bdb_format.specs.Numbers.{pad4}
-use Rattle.bdb_text_format.specs.declared.pairs.Pair.{Pair}
-use Rattle.bdb_text_format.specs.declared.pairs.TextPair.{TextPair}
-use Rattle.bdb_text_format.specs.declared.sections.Section.{Section}
-use Rattle.bdb_text_format.specs.Pairs.{AscendFrom}
-use Rattle.bdb_settle.specs.ListLaw.{HasShortBytes, IsFit}
-use Rattle.bdb_settle.specs.LoadErrors.{load_error}
-use Rattle.bdb_settle.specs.Loaded.{loaded}
-use Rattle.bdb_mkhash.specs.Table.{IsTableList}
-use Rattle.bdb_mkqueue.specs.Lists.{HasLength, HasNext, IsQueueList}
+use Rattle.bdb_io.specs.of_format.declared.kinds.Kind.TheVariants.{Hash, Queue}
+use Rattle.bdb_io.specs.of_format.declared.settings.Settings.{Settings}
+use Rattle.bdb_io.specs.of_format.HeadOf.{is_page_size}
+use Rattle.bdb_io.specs.of_format.Numbers.{pad4}
+use Rattle.bdb_need.specs.of_text_format.declared.pairs.Pair.{Pair}
+use Rattle.bdb_need.specs.of_text_format.declared.pairs.TextPair.{TextPair}
+use Rattle.bdb_need.specs.of_text_format.declared.sections.Section.{Section}
+use Rattle.bdb_need.specs.of_text_format.Pairs.{AscendFrom}
+use Rattle.bdb_need.specs.of_settle.ListLaw.{HasShortBytes, IsFit}
+use Rattle.bdb_need.specs.of_settle.LoadErrors.{load_error}
+use Rattle.bdb_need.specs.of_settle.Loaded.{loaded}
+use Rattle.bdb_need.specs.of_mkhash.Table.{IsTableList}
+use Rattle.bdb_need.specs.of_mkqueue.Lists.{HasLength, HasNext, IsQueueList}
 use Rattle.bdb_mkfile.specs.LoneImages.{queue_pages}
 
 -- where no error holds, each section of a hash loads into a list that a table can be built of, if its bytes have lengths that fit

@@ -1,21 +1,21 @@
 -- Sound images of one database without a name. Source: docs/FORMAT.md, "Metadata pages", "What the writing calls spell", "Built queues",
 -- "Built tables" and "Databases of a file".
 use Rattle.std.specs.Prelude.{◌≡◌, ℕ, ◌+◌, ◌*◌, List, [], ◌∷◌, length, take, None}
-use Rattle.bdb_format.specs.declared.metadata.HashMeta.{HashMeta}
-use Rattle.bdb_format.specs.declared.settings.Settings.{Settings}
-use Rattle.bdb_format.specs.HeadOf.{head_of}
-use Rattle.bdb_format.specs.File.{file_of}
-use Rattle.bdb_format.specs.Lists.{list_of}
-use Rattle.bdb_format.specs.Page.{HashFields, Metadata, QueueFields}
-use Rattle.bdb_format.specs.Rows.{records_per_page}
-use Rattle.bdb_format.specs.Spelling.{queue_bytes, table_bytes}
-use Rattle.bdb_format.specs.Databases.{databases, settings_of}
-use Rattle.bdb_format.specs.Verdict.{verdict_of}
-use Rattle.bdb_text_format.specs.declared.pairs.Pair.{Pair}
-use Rattle.bdb_text_format.specs.Pairs.{listed}
-use Rattle.bdb_law_buckets.specs.Tables.{HasBuiltBuckets, table_meta}
-use Rattle.bdb_mkhash.specs.Buckets.{table_bits, table_size, table_units}
-use Rattle.bdb_mkqueue.specs.Layout.{queue_meta, queue_size}
+use Rattle.bdb_io.specs.of_format.declared.metadata.HashMeta.{HashMeta}
+use Rattle.bdb_io.specs.of_format.declared.settings.Settings.{Settings}
+use Rattle.bdb_io.specs.of_format.HeadOf.{head_of}
+use Rattle.bdb_io.specs.of_format.File.{file_of}
+use Rattle.bdb_io.specs.of_format.Lists.{list_of}
+use Rattle.bdb_io.specs.of_format.Page.{HashFields, Metadata, QueueFields}
+use Rattle.bdb_io.specs.of_format.Rows.{records_per_page}
+use Rattle.bdb_io.specs.of_format.Spelling.{queue_bytes, table_bytes}
+use Rattle.bdb_io.specs.of_format.Databases.{databases, settings_of}
+use Rattle.bdb_io.specs.of_format.Verdict.{verdict_of}
+use Rattle.bdb_need.specs.of_text_format.declared.pairs.Pair.{Pair}
+use Rattle.bdb_need.specs.of_text_format.Pairs.{listed}
+use Rattle.bdb_need.specs.of_law_buckets.Tables.{HasBuiltBuckets, table_meta}
+use Rattle.bdb_need.specs.of_mkhash.Buckets.{table_bits, table_size, table_units}
+use Rattle.bdb_need.specs.of_mkqueue.Layout.{queue_meta, queue_size}
 
 -- A sound image of so many pages with one database, without a name: its metadata is this, says these settings, and gives this list. Page 0 has
 -- these bytes.

@@ -1,19 +1,19 @@
 -- The metadata of databases under names, as their pages spell it, and the trees whose roots it names. Source: docs/FORMAT.md, "What the writing calls
 -- spell", "Loading", "Built trees" and "Built tables".
 use Rattle.std.specs.Prelude.{◌≡◌, ℕ, ◌+◌, true, List, [], ◌∷◌, length}
-use Rattle.bdb_format.specs.declared.kinds.Kind.{Kind}
-use Rattle.bdb_format.specs.declared.kinds.Kind.TheVariants.{Btree, Recno, Hash, Queue}
-use Rattle.bdb_format.specs.declared.kinds.Order.{Order}
-use Rattle.bdb_format.specs.declared.settings.Settings.{Settings}
-use Rattle.bdb_format.specs.File.{page_bytes}
-use Rattle.bdb_format.specs.HeadOf.{head_of}
-use Rattle.bdb_text_format.specs.declared.pairs.Pair.{Pair}
-use Rattle.bdb_text_format.specs.declared.sections.Section.{Section}
-use Rattle.bdb_mkleaves.specs.Layout.{AreTreesIn}
-use Rattle.bdb_mkleaves.specs.declared.leaf_type.LeafType.TheVariants.{Pairs, Records}
-use Rattle.bdb_mktree.specs.Lists.{units_in}
-use Rattle.bdb_law_buckets.specs.Tables.{table_meta}
-use Rattle.bdb_mkhash.specs.Buckets.{table_bits, table_units}
+use Rattle.bdb_io.specs.of_format.declared.kinds.Kind.{Kind}
+use Rattle.bdb_io.specs.of_format.declared.kinds.Kind.TheVariants.{Btree, Recno, Hash, Queue}
+use Rattle.bdb_io.specs.of_format.declared.kinds.Order.{Order}
+use Rattle.bdb_io.specs.of_format.declared.settings.Settings.{Settings}
+use Rattle.bdb_io.specs.of_format.File.{page_bytes}
+use Rattle.bdb_io.specs.of_format.HeadOf.{head_of}
+use Rattle.bdb_need.specs.of_text_format.declared.pairs.Pair.{Pair}
+use Rattle.bdb_need.specs.of_text_format.declared.sections.Section.{Section}
+use Rattle.bdb_need.specs.of_mkleaves.Layout.{AreTreesIn}
+use Rattle.bdb_need.specs.of_mkleaves.declared.leaf_type.LeafType.TheVariants.{Pairs, Records}
+use Rattle.bdb_need.specs.of_mktree.Lists.{units_in}
+use Rattle.bdb_need.specs.of_law_buckets.Tables.{table_meta}
+use Rattle.bdb_need.specs.of_mkhash.Buckets.{table_bits, table_units}
 use Rattle.bdb_need.specs.TreePages.{unlined_pairs}
 use Rattle.bdb_mkfile.specs.FileSettings.{own_settings}
 use Rattle.bdb_mkfile.specs.declared.named_metadata.DatabaseMeta.{DatabaseMeta}

@@ -2,22 +2,22 @@
 -- "Stage 7, the master".
 use Rattle.std.specs.Prelude.{◌≡◌, ◌⊎◌, ℕ, ◌+◌, ◌*◌, true, List, length, map, replicate, Some, None}
 use Rattle.std.specs.List.{All, AllZip, sum_by}
-use Rattle.bdb_format.specs.declared.kinds.Kind.TheVariants.{Btree, Hash}
-use Rattle.bdb_format.specs.declared.kinds.Order.{Order}
-use Rattle.bdb_format.specs.declared.settings.Settings.{Settings}
-use Rattle.bdb_format.specs.ContentRows.{ascends}
-use Rattle.bdb_format.specs.Databases.{Database, databases, settings_of}
-use Rattle.bdb_format.specs.File.{file_of, page_bytes}
-use Rattle.bdb_format.specs.HeadOf.{head_of}
-use Rattle.bdb_format.specs.Lists.{list_of}
-use Rattle.bdb_format.specs.Spelling.{btree_bytes}
-use Rattle.bdb_format.specs.Verdict.{verdict_of}
-use Rattle.bdb_text_format.specs.declared.pairs.Pair.{Pair}
-use Rattle.bdb_text_format.specs.declared.pairs.Key.TheVariants.{Bytes}
-use Rattle.bdb_text_format.specs.declared.sections.Section.{Section}
-use Rattle.bdb_text_format.specs.Pairs.{listed}
-use Rattle.bdb_mkleaves.specs.Runs.{IsShort}
-use Rattle.bdb_law_buckets.specs.Tables.{HasBuiltTable}
+use Rattle.bdb_io.specs.of_format.declared.kinds.Kind.TheVariants.{Btree, Hash}
+use Rattle.bdb_io.specs.of_format.declared.kinds.Order.{Order}
+use Rattle.bdb_io.specs.of_format.declared.settings.Settings.{Settings}
+use Rattle.bdb_io.specs.of_format.ContentRows.{ascends}
+use Rattle.bdb_io.specs.of_format.Databases.{Database, databases, settings_of}
+use Rattle.bdb_io.specs.of_format.File.{file_of, page_bytes}
+use Rattle.bdb_io.specs.of_format.HeadOf.{head_of}
+use Rattle.bdb_io.specs.of_format.Lists.{list_of}
+use Rattle.bdb_io.specs.of_format.Spelling.{btree_bytes}
+use Rattle.bdb_io.specs.of_format.Verdict.{verdict_of}
+use Rattle.bdb_need.specs.of_text_format.declared.pairs.Pair.{Pair}
+use Rattle.bdb_need.specs.of_text_format.declared.pairs.Key.TheVariants.{Bytes}
+use Rattle.bdb_need.specs.of_text_format.declared.sections.Section.{Section}
+use Rattle.bdb_need.specs.of_text_format.Pairs.{listed}
+use Rattle.bdb_need.specs.of_mkleaves.Runs.{IsShort}
+use Rattle.bdb_need.specs.of_law_buckets.Tables.{HasBuiltTable}
 use Rattle.bdb_need.specs.TreePages.{unlined_pairs, tree_pages}
 use Rattle.bdb_need.specs.Need.{IsListOf, master_settings, name_in, section_pages, sized}
 use Rattle.bdb_mkfile.specs.FileSettings.{own_settings}

@@ -2,28 +2,28 @@
 -- Source: docs/FORMAT.md, "Metadata pages", "Stage 2, the form of a page", "Stage 7, the master" and "Databases of a file".
 use Rattle.std.specs.Prelude.{◌≡◌, ℕ, ◌+◌, ◌-◌, ◌<◌, ◌≤◌, ◌^◌, Bool, List, ◌∷◌, length, None}
 use Rattle.std.specs.List.{AllZip}
-use Rattle.bdb_format.specs.declared.kinds.Order.{Order}
-use Rattle.bdb_format.specs.declared.metadata.HashMeta.{HashMeta}
-use Rattle.bdb_format.specs.declared.settings.Settings.{Settings}
-use Rattle.bdb_format.specs.Databases.{databases, settings_of}
-use Rattle.bdb_format.specs.File.{File, file_of}
-use Rattle.bdb_format.specs.HeadOf.{head_of}
-use Rattle.bdb_format.specs.Lists.{ListKey}
-use Rattle.bdb_format.specs.Page.{BtreeFields, HashFields}
-use Rattle.bdb_format.specs.Reading.{hash_fields}
-use Rattle.bdb_format.specs.Spelling.{table_bytes}
-use Rattle.bdb_format.specs.Table.{first_row}
-use Rattle.bdb_text_format.specs.declared.sections.Section.{Section}
-use Rattle.bdb_text_format.specs.Pairs.{listed}
-use Rattle.bdb_meta.specs.RowGroups.{flag_rows}
-use Rattle.bdb_law_grove.specs.Part.{IsPart}
-use Rattle.bdb_pack.specs.Built.{Built, bytes_of}
-use Rattle.bdb_law_join.specs.Filed.{IsSpelled}
-use Rattle.bdb_law_join.specs.Joining.{HoldsLists, Joint}
-use Rattle.bdb_law_join.specs.Masters.{IsDatabase, NamesMetas}
-use Rattle.bdb_law_join.specs.Written.{AreLegal}
-use Rattle.bdb_mktree.specs.Lists.{IsTreeList}
-use Rattle.bdb_law_buckets.specs.Tables.{table_meta}
+use Rattle.bdb_io.specs.of_format.declared.kinds.Order.{Order}
+use Rattle.bdb_io.specs.of_format.declared.metadata.HashMeta.{HashMeta}
+use Rattle.bdb_io.specs.of_format.declared.settings.Settings.{Settings}
+use Rattle.bdb_io.specs.of_format.Databases.{databases, settings_of}
+use Rattle.bdb_io.specs.of_format.File.{File, file_of}
+use Rattle.bdb_io.specs.of_format.HeadOf.{head_of}
+use Rattle.bdb_io.specs.of_format.Lists.{ListKey}
+use Rattle.bdb_io.specs.of_format.Page.{BtreeFields, HashFields}
+use Rattle.bdb_io.specs.of_format.Reading.{hash_fields}
+use Rattle.bdb_io.specs.of_format.Spelling.{table_bytes}
+use Rattle.bdb_io.specs.of_format.Table.{first_row}
+use Rattle.bdb_need.specs.of_text_format.declared.sections.Section.{Section}
+use Rattle.bdb_need.specs.of_text_format.Pairs.{listed}
+use Rattle.bdb_need.specs.of_meta.RowGroups.{flag_rows}
+use Rattle.bdb_need.specs.of_law_grove.Part.{IsPart}
+use Rattle.bdb_need.specs.of_pack.Built.{Built, bytes_of}
+use Rattle.bdb_need.specs.of_law_join.Filed.{IsSpelled}
+use Rattle.bdb_need.specs.of_law_join.Joining.{HoldsLists, Joint}
+use Rattle.bdb_need.specs.of_law_join.Masters.{IsDatabase, NamesMetas}
+use Rattle.bdb_need.specs.of_law_join.Written.{AreLegal}
+use Rattle.bdb_need.specs.of_mktree.Lists.{IsTreeList}
+use Rattle.bdb_need.specs.of_law_buckets.Tables.{table_meta}
 use Rattle.bdb_need.specs.TreePages.{tree_pages}
 use Rattle.bdb_mkfile.specs.FileSettings.{file_settings}
 use Rattle.bdb_mkfile.specs.Trees.{IsTreeSettings}

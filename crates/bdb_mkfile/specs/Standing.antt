@@ -1,25 +1,25 @@
 -- Databases that were built one behind the other, before their metadata is written. Source: docs/FORMAT.md, "Pages of a loaded file".
 use Rattle.std.specs.Prelude.{◌≡◌, ℕ, ◌+◌, ◌<◌, ◌≤◌, IsTrue, List, [], ◌∷◌, length, map, reverse, None}
-use Rattle.bdb_format.specs.declared.kinds.Kind.TheVariants.{Btree}
-use Rattle.bdb_format.specs.declared.metadata.BtreeMeta.{BtreeMeta}
-use Rattle.bdb_format.specs.declared.settings.Settings.{Settings}
-use Rattle.bdb_format.specs.Databases.{settings_of}
-use Rattle.bdb_format.specs.File.{File}
-use Rattle.bdb_format.specs.Lists.{ListKey}
-use Rattle.bdb_format.specs.Page.{BtreeFields, Metadata}
-use Rattle.bdb_format.specs.Reading.{is_zero}
-use Rattle.bdb_format.specs.Rows.{page_code}
-use Rattle.bdb_law_grove.specs.Growing.{IsCounted, IsLater}
-use Rattle.bdb_law_grove.specs.Part.{IsPart, Part, between}
-use Rattle.bdb_text_format.specs.declared.pairs.Pair.{Pair}
-use Rattle.bdb_text_format.specs.declared.sections.Section.{Section}
-use Rattle.bdb_text_format.specs.Pairs.{listed}
-use Rattle.bdb_pack.specs.Built.{Built, bytes_of, file_so_far}
-use Rattle.bdb_law_join.specs.Filed.{IsSpelled}
-use Rattle.bdb_law_join.specs.Written.{AreLegal}
-use Rattle.bdb_mkleaves.specs.Layout.{HasPagesOf}
-use Rattle.bdb_mkleaves.specs.Leaves.{KeepsAll}
-use Rattle.bdb_law_buckets.specs.Tables.{HasBuiltTable}
+use Rattle.bdb_io.specs.of_format.declared.kinds.Kind.TheVariants.{Btree}
+use Rattle.bdb_io.specs.of_format.declared.metadata.BtreeMeta.{BtreeMeta}
+use Rattle.bdb_io.specs.of_format.declared.settings.Settings.{Settings}
+use Rattle.bdb_io.specs.of_format.Databases.{settings_of}
+use Rattle.bdb_io.specs.of_format.File.{File}
+use Rattle.bdb_io.specs.of_format.Lists.{ListKey}
+use Rattle.bdb_io.specs.of_format.Page.{BtreeFields, Metadata}
+use Rattle.bdb_io.specs.of_format.Reading.{is_zero}
+use Rattle.bdb_io.specs.of_format.Rows.{page_code}
+use Rattle.bdb_need.specs.of_law_grove.Growing.{IsCounted, IsLater}
+use Rattle.bdb_need.specs.of_law_grove.Part.{IsPart, Part, between}
+use Rattle.bdb_need.specs.of_text_format.declared.pairs.Pair.{Pair}
+use Rattle.bdb_need.specs.of_text_format.declared.sections.Section.{Section}
+use Rattle.bdb_need.specs.of_text_format.Pairs.{listed}
+use Rattle.bdb_need.specs.of_pack.Built.{Built, bytes_of, file_so_far}
+use Rattle.bdb_need.specs.of_law_join.Filed.{IsSpelled}
+use Rattle.bdb_need.specs.of_law_join.Written.{AreLegal}
+use Rattle.bdb_need.specs.of_mkleaves.Layout.{HasPagesOf}
+use Rattle.bdb_need.specs.of_mkleaves.Leaves.{KeepsAll}
+use Rattle.bdb_need.specs.of_law_buckets.Tables.{HasBuiltTable}
 use Rattle.bdb_need.specs.TreePages.{unlined_pairs}
 use Rattle.bdb_need.specs.Need.{list_pages, sized}
 use Rattle.bdb_mkfile.specs.FileSettings.{own_settings}

@@ -1,20 +1,20 @@
 -- Sound images of one btree or recno. Source: docs/FORMAT.md, "Metadata pages", "Built trees" and "Databases of a file".
 use Rattle.std.specs.Prelude.{◌≡◌, ℕ, ◌+◌, ◌*◌, IsTrue, true, false, List, [], ◌∷◌, length, take, None}
-use Rattle.bdb_format.specs.declared.kinds.Kind.TheVariants.{Recno}
-use Rattle.bdb_format.specs.declared.settings.Settings.{Settings}
-use Rattle.bdb_format.specs.HeadOf.{head_of, is_page_size}
-use Rattle.bdb_format.specs.File.{file_of}
-use Rattle.bdb_format.specs.Page.{BtreeFields, Metadata}
-use Rattle.bdb_format.specs.Lists.{list_of}
-use Rattle.bdb_format.specs.Spelling.{btree_bytes}
-use Rattle.bdb_format.specs.Databases.{databases, settings_of}
-use Rattle.bdb_format.specs.Verdict.{verdict_of}
-use Rattle.bdb_text_format.specs.declared.pairs.Pair.{Pair}
-use Rattle.bdb_text_format.specs.Pairs.{listed}
-use Rattle.bdb_mkleaves.specs.Layout.{AreTreesIn}
-use Rattle.bdb_mkleaves.specs.Spread.{tree_size}
-use Rattle.bdb_mktree.specs.Lists.{units_in}
-use Rattle.bdb_mktree.specs.Units.{IsTreeKind, is_counted, leaf_type_of}
+use Rattle.bdb_io.specs.of_format.declared.kinds.Kind.TheVariants.{Recno}
+use Rattle.bdb_io.specs.of_format.declared.settings.Settings.{Settings}
+use Rattle.bdb_io.specs.of_format.HeadOf.{head_of, is_page_size}
+use Rattle.bdb_io.specs.of_format.File.{file_of}
+use Rattle.bdb_io.specs.of_format.Page.{BtreeFields, Metadata}
+use Rattle.bdb_io.specs.of_format.Lists.{list_of}
+use Rattle.bdb_io.specs.of_format.Spelling.{btree_bytes}
+use Rattle.bdb_io.specs.of_format.Databases.{databases, settings_of}
+use Rattle.bdb_io.specs.of_format.Verdict.{verdict_of}
+use Rattle.bdb_need.specs.of_text_format.declared.pairs.Pair.{Pair}
+use Rattle.bdb_need.specs.of_text_format.Pairs.{listed}
+use Rattle.bdb_need.specs.of_mkleaves.Layout.{AreTreesIn}
+use Rattle.bdb_need.specs.of_mkleaves.Spread.{tree_size}
+use Rattle.bdb_need.specs.of_mktree.Lists.{units_in}
+use Rattle.bdb_need.specs.of_mktree.Units.{IsTreeKind, is_counted, leaf_type_of}
 use Rattle.bdb_need.specs.TreePages.{tree_pages}
 use Rattle.bdb_mkfile.specs.FileSettings.{tree_meta}
 

@@ -1,19 +1,19 @@
 -- The pages of a table under metadata that is written over page 0, as the image of a file.
 -- Source: docs/FORMAT.md, "Hash metadata", "What the writing calls spell", "Faults" and "Databases of a file".
 use Rattle.std.specs.Prelude.{◌≡◌, ℕ, ◌-◌, List, length}
-use Rattle.bdb_format.specs.declared.metadata.HashMeta.{HashMeta}
-use Rattle.bdb_format.specs.declared.settings.Settings.{Settings}
-use Rattle.bdb_format.specs.File.{file_of}
-use Rattle.bdb_format.specs.Lists.{ListKey}
-use Rattle.bdb_format.specs.Page.{HashFields}
-use Rattle.bdb_format.specs.Reading.{hash_fields}
-use Rattle.bdb_format.specs.Spelling.{table_bytes}
-use Rattle.bdb_law_grove.specs.Part.{Part, between}
-use Rattle.bdb_pack.specs.Built.{Built, joined_pages, with_page}
-use Rattle.bdb_law_join.specs.Alone.{IsSoundAlone}
-use Rattle.bdb_law_join.specs.Written.{AreLegal}
-use Rattle.bdb_law_buckets.specs.Tables.{HasBuiltBuckets, Keyed}
-use Rattle.bdb_mkhash.specs.Table.{IsTableBuilt}
+use Rattle.bdb_io.specs.of_format.declared.metadata.HashMeta.{HashMeta}
+use Rattle.bdb_io.specs.of_format.declared.settings.Settings.{Settings}
+use Rattle.bdb_io.specs.of_format.File.{file_of}
+use Rattle.bdb_io.specs.of_format.Lists.{ListKey}
+use Rattle.bdb_io.specs.of_format.Page.{HashFields}
+use Rattle.bdb_io.specs.of_format.Reading.{hash_fields}
+use Rattle.bdb_io.specs.of_format.Spelling.{table_bytes}
+use Rattle.bdb_need.specs.of_law_grove.Part.{Part, between}
+use Rattle.bdb_need.specs.of_pack.Built.{Built, joined_pages, with_page}
+use Rattle.bdb_need.specs.of_law_join.Alone.{IsSoundAlone}
+use Rattle.bdb_need.specs.of_law_join.Written.{AreLegal}
+use Rattle.bdb_need.specs.of_law_buckets.Tables.{HasBuiltBuckets, Keyed}
+use Rattle.bdb_need.specs.of_mkhash.Table.{IsTableBuilt}
 
 -- the image of pages after hash metadata is written over page 0, with a number of elements
 pub record IsWrittenTable (built : Built) (page : List ℕ) (elements : ℕ) (meta : HashMeta) (image : List ℕ) : Type 0 where

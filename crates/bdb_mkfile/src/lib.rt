@@ -15,8 +15,11 @@ mod queue;
 mod table;
 mod trees;
 
-pub use bdb_need::need;
-pub use bdb_settle::{LoadError, settle};
+pub use bdb_io;
+pub use bdb_io::bdb_format;
+pub use bdb_need;
+pub use bdb_need::bdb_settle::{LoadError, settle};
+pub use bdb_need::{bdb_graph, bdb_layout, bdb_settle, bdb_text_format, need};
 pub use image::named_image;
 pub use loading::load;
 pub use metadata::{file_settings, tree_meta};

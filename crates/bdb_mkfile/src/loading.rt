@@ -3,16 +3,16 @@ ghost use Rattle.bdb_mkfile.specs.NamedImages.{HasBuiltTables};
 ghost use Rattle.bdb_mkfile.specs.Builds.{Builds};
 ghost use Rattle.bdb_mkfile.specs.Loading.{AreLoadable, IsLoadRefusal, loading_error};
 ghost use Rattle.bdb_mkfile.specs.Settled.{AreBuildable, IsImageOfSections};
-ghost use Rattle.bdb_settle.specs.LoadErrors.{page_size_in};
+ghost use Rattle.bdb_need.specs.of_settle.LoadErrors.{page_size_in};
 
 use crate::alone::section_image;
 use crate::image::named_image;
 use crate::lengths::are_short;
 use crate::order::in_name_order;
 use bdb_io::Image;
+use bdb_need::bdb_settle::{LoadError, filled, ordered};
+use bdb_need::bdb_text_format::Sections;
 use bdb_need::filled_need;
-use bdb_settle::{LoadError, filled, ordered};
-use bdb_text_format::Sections;
 use std::alloc::{AllocError, Global};
 
 // Whether so many pages have more bytes than a number.

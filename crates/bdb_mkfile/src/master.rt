@@ -1,7 +1,7 @@
 ghost use Rattle.std.specs.Prelude.{◌≡◌, ◌+◌, ◌≤◌, ◌<◌, ◌^◌, ◌∷◌, ◌++◌, [], IfOk, IsTrue, OnOk, length};
-ghost use Rattle.bdb_format.specs.declared.kinds.Order.TheVariants.{Big};
-ghost use Rattle.bdb_format.specs.HeadOf.{is_page_size};
-ghost use Rattle.bdb_format.specs.Numbers.{spelled};
+ghost use Rattle.bdb_io.specs.of_format.declared.kinds.Order.TheVariants.{Big};
+ghost use Rattle.bdb_io.specs.of_format.HeadOf.{is_page_size};
+ghost use Rattle.bdb_io.specs.of_format.Numbers.{spelled};
 ghost use Rattle.bdb_need.specs.Need.{name_in};
 ghost use Rattle.bdb_need.specs.TreePages.{unlined_pairs};
 ghost use Rattle.bdb_mkfile.specs.NamedImages.{AreNamed, names_pages};
@@ -9,11 +9,11 @@ ghost use Rattle.bdb_mkfile.specs.Layout.{entries_from, entry_of, settings_of_ma
 ghost use Rattle.bdb_mkfile.specs.Standing.{IsMasterBuilt};
 
 use crate::named_metadata::named_tree_meta;
-use bdb_format::{BtreeMeta, Kind, Order, Settings, plain_settings};
-use bdb_mktree::build_tree;
+use bdb_io::bdb_format::{BtreeMeta, Kind, Order, Settings, plain_settings};
+use bdb_need::bdb_mktree::build_tree;
+use bdb_need::bdb_pack::Pages;
+use bdb_need::bdb_text_format::{KeyRef, PairRef, Section, TextPairs};
 use bdb_need::tree_pages;
-use bdb_pack::Pages;
-use bdb_text_format::{KeyRef, PairRef, Section, TextPairs};
 use std::alloc::{AllocError, Global};
 
 // The settings of the master.

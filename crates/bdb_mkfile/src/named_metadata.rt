@@ -1,14 +1,14 @@
 ghost use Rattle.std.specs.Prelude.{◌≡◌, ℕ, ◌+◌, ◌-◌, ◌<◌, ◌≤◌, IsTrue, length};
-ghost use Rattle.bdb_format.specs.HeadOf.{is_page_size};
-ghost use Rattle.bdb_format.specs.Reading.{is_zero};
-ghost use Rattle.bdb_pack.specs.Built.{bytes_of};
+ghost use Rattle.bdb_io.specs.of_format.HeadOf.{is_page_size};
+ghost use Rattle.bdb_io.specs.of_format.Reading.{is_zero};
+ghost use Rattle.bdb_need.specs.of_pack.Built.{bytes_of};
 ghost use Rattle.bdb_mkfile.specs.Layout.{named_table_meta, named_tree_meta};
 ghost use Rattle.bdb_mkfile.specs.WrittenMetadata.{ArePut, IsPut, ReadsBack, meta_bytes};
 
 use crate::metadata::tree_meta;
-use bdb_format::{BtreeMeta, HashMeta, Order, Settings};
-use bdb_meta::{put_btree_meta, put_hash_meta};
-use bdb_pack::Pages;
+use bdb_io::bdb_format::{BtreeMeta, HashMeta, Order, Settings};
+use bdb_need::bdb_meta::{put_btree_meta, put_hash_meta};
+use bdb_need::bdb_pack::Pages;
 
 /// The metadata of a database that is built, before it is written.
 #[derive(Clone, Copy)]

@@ -9,8 +9,8 @@ use Rattle.std.proofs.lemmas.List.{append-nil, get_or-map, get_or-set_other, get
 use Rattle.std.proofs.lemmas.List.Elements.{filter-append}
 use Rattle.std.proofs.lemmas.List.FromFn.{get_or-map-range_with_len, length-map-range_with_len}
 use Rattle.std.proofs.lemmas.Nat.{pow_pos}
-use Rattle.bdb_text_format.specs.declared.pairs.Pair.{Pair}
-use Rattle.bdb_mkleaves.specs.Units.{KeyedUnit, page_room}
+use Rattle.bdb_mktree.specs.of_text_format.declared.pairs.Pair.{Pair}
+use Rattle.bdb_mktree.specs.of_mkleaves.Units.{KeyedUnit, page_room}
 use Rattle.bdb_mktree.specs.Lists.{IsRunAt}
 use Rattle.bdb_law_buckets.specs.Tables.{Keyed, bucket_among, dealt}
 use Rattle.bdb_mkhash.specs.Buckets.{bits_for, buckets_of, keyed_of, table_units}

@@ -8,24 +8,24 @@ use Rattle.std.proofs.lemmas.List.{get_or-map, length-map, map-append}
 use Rattle.std.proofs.lemmas.List.Elements.{All-cons, All-contains, All-head, All-nil, All-tail}
 use Rattle.std.proofs.lemmas.List.FromFn.{get_or-map-range_with_len, length-map-range_with_len}
 use Rattle.std.proofs.lemmas.List.Sums.{sum_by-append, sum_by-cons}
-use Rattle.bdb_format.specs.declared.kinds.Kind.TheVariants.{Btree}
-use Rattle.bdb_format.specs.declared.metadata.HashMeta.{HashMeta}
-use Rattle.bdb_format.specs.declared.settings.Settings.{Settings}
-use Rattle.bdb_format.specs.ContentRows.{ascends}
-use Rattle.bdb_format.specs.File.{File}
-use Rattle.bdb_format.specs.Less.{less}
-use Rattle.bdb_format.specs.Page.{HashFields}
-use Rattle.bdb_format.proofs.ListLemmas.{all_of}
-use Rattle.bdb_format.proofs.MemberLemmas.{of_filter}
-use Rattle.bdb_law_grove.specs.Growing.{IsLater}
-use Rattle.bdb_law_grove.specs.Part.{IsPart, between}
-use Rattle.bdb_law_grove.proofs.ChainLemmas.{between_is, is_between}
-use Rattle.bdb_text_format.specs.Pairs.{listed}
-use Rattle.bdb_text_format.specs.declared.pairs.Pair.{Pair}
-use Rattle.bdb_pack.specs.Built.{Built, file_so_far}
-use Rattle.bdb_mkleaves.specs.Leaves.{KeepsAll}
-use Rattle.bdb_mkleaves.specs.Units.{EntryUnit, KeyedUnit, TreeUnit, key_of as tree_key, listed_keyed}
-use Rattle.bdb_mkleaves.proofs.RunLemmas.{later_before}
+use Rattle.bdb_mktree.specs.of_format.declared.kinds.Kind.TheVariants.{Btree}
+use Rattle.bdb_mktree.specs.of_format.declared.metadata.HashMeta.{HashMeta}
+use Rattle.bdb_mktree.specs.of_format.declared.settings.Settings.{Settings}
+use Rattle.bdb_mktree.specs.of_format.ContentRows.{ascends}
+use Rattle.bdb_mktree.specs.of_format.File.{File}
+use Rattle.bdb_mktree.specs.of_format.Less.{less}
+use Rattle.bdb_mktree.specs.of_format.Page.{HashFields}
+use Rattle.bdb_mktree.proofs.of_format.ListLemmas.{all_of}
+use Rattle.bdb_mktree.proofs.of_format.MemberLemmas.{of_filter}
+use Rattle.bdb_mktree.specs.of_law_grove.Growing.{IsLater}
+use Rattle.bdb_mktree.specs.of_law_grove.Part.{IsPart, between}
+use Rattle.bdb_mktree.proofs.of_law_grove.ChainLemmas.{between_is, is_between}
+use Rattle.bdb_mktree.specs.of_text_format.Pairs.{listed}
+use Rattle.bdb_mktree.specs.of_text_format.declared.pairs.Pair.{Pair}
+use Rattle.bdb_mktree.specs.of_pack.Built.{Built, file_so_far}
+use Rattle.bdb_mktree.specs.of_mkleaves.Leaves.{KeepsAll}
+use Rattle.bdb_mktree.specs.of_mkleaves.Units.{EntryUnit, KeyedUnit, TreeUnit, key_of as tree_key, listed_keyed}
+use Rattle.bdb_mktree.proofs.of_mkleaves.RunLemmas.{later_before}
 use Rattle.bdb_mktree.specs.Lists.{HasBytes, keyed_units}
 use Rattle.bdb_mktree.specs.Units.{IsShortUnit as IsShortTreeUnit, Suits}
 use Rattle.bdb_mktree.proofs.ListLemmas.{units_listed}

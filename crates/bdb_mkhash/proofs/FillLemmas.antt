@@ -8,19 +8,19 @@ use Rattle.std.proofs.lemmas.Grind.{flat_map-append}
 use Rattle.std.proofs.lemmas.List.{append-nil, drop-map, get_or-map, get_or-set_other, length-map, length-set, map-append, take_all, take_more}
 use Rattle.std.proofs.lemmas.List.Elements.{All-drop}
 use Rattle.std.proofs.lemmas.List.Sums.{sum_by-append, sum_by_push}
-use Rattle.bdb_format.specs.HeadOf.{is_page_size}
-use Rattle.bdb_format.specs.File.{File}
-use Rattle.bdb_format.specs.Page.{Content}
-use Rattle.bdb_format.specs.Rows.{page_code}
-use Rattle.bdb_format.proofs.SizeLemmas.{size_bounds}
-use Rattle.bdb_law_grove.specs.Growing.{IsLater}
-use Rattle.bdb_law_grove.specs.Part.{between}
-use Rattle.bdb_law_grove.proofs.ChainLemmas.{between_is, is_between}
-use Rattle.bdb_pack.specs.Built.{AreWhole, Built, bytes_of, file_so_far, with_page}
-use Rattle.bdb_pack.proofs.OpenLemmas.{open_is}
-use Rattle.bdb_mkleaves.specs.Leaves.{KeepsAll}
-use Rattle.bdb_mkleaves.specs.Units.{page_room}
-use Rattle.bdb_mkleaves.proofs.RunLemmas.{later_before}
+use Rattle.bdb_mktree.specs.of_format.HeadOf.{is_page_size}
+use Rattle.bdb_mktree.specs.of_format.File.{File}
+use Rattle.bdb_mktree.specs.of_format.Page.{Content}
+use Rattle.bdb_mktree.specs.of_format.Rows.{page_code}
+use Rattle.bdb_mktree.proofs.of_format.SizeLemmas.{size_bounds}
+use Rattle.bdb_mktree.specs.of_law_grove.Growing.{IsLater}
+use Rattle.bdb_mktree.specs.of_law_grove.Part.{between}
+use Rattle.bdb_mktree.proofs.of_law_grove.ChainLemmas.{between_is, is_between}
+use Rattle.bdb_mktree.specs.of_pack.Built.{AreWhole, Built, bytes_of, file_so_far, with_page}
+use Rattle.bdb_mktree.proofs.of_pack.OpenLemmas.{open_is}
+use Rattle.bdb_mktree.specs.of_mkleaves.Leaves.{KeepsAll}
+use Rattle.bdb_mktree.specs.of_mkleaves.Units.{page_room}
+use Rattle.bdb_mktree.proofs.of_mkleaves.RunLemmas.{later_before}
 use Rattle.bdb_law_buckets.specs.Tables.{Keyed, PlacedUnit, UnitStands, UnitsStand, contents_of, contents_on, unit_of}
 use Rattle.bdb_mkhash.specs.Costs.{keyed_own_pages, keyed_cost}
 use Rattle.bdb_mkhash.specs.Filling.{AreEmptyPages, ArePut, IsEmptyPage, IsFollowed, IsOpenPage, IsUnitPut, IsWholePage, no_unit}

@@ -7,18 +7,18 @@ use Rattle.std.specs.List.{sum_by}
 use Rattle.std.proofs.lemmas.Bool.{and_parts, cases_eq, cases_lt, eq-eqb, eqb-true, ne_eqb, or_cases, or_left, or_right}
 use Rattle.std.proofs.lemmas.List.{drop_all, drop-drop, drop_more, get_or-drop, get_or-map, map-append, take_all}
 use Rattle.std.proofs.lemmas.List.Sums.{sum_by-append}
-use Rattle.bdb_format.specs.HeadOf.{is_page_size}
-use Rattle.bdb_format.specs.File.{File, page_at}
-use Rattle.bdb_format.specs.Page.{Content, Hash, Item, Listed, NoType, Overflow, Page}
-use Rattle.bdb_format.specs.Reading.{abstract_page}
-use Rattle.bdb_format.specs.Rows.{page_code}
-use Rattle.bdb_law_grove.specs.Growing.{IsCounted, IsLater, IsSamePage}
-use Rattle.bdb_law_grove.specs.Part.{between}
-use Rattle.bdb_law_grove.proofs.ChainLemmas.{between_is, is_between}
-use Rattle.bdb_pack.specs.Built.{Built, bytes_of, file_so_far}
-use Rattle.bdb_mkleaves.specs.Spread.{spread_on}
-use Rattle.bdb_mkleaves.specs.Units.{page_room}
-use Rattle.bdb_mkleaves.proofs.RunLemmas.{later_before}
+use Rattle.bdb_mktree.specs.of_format.HeadOf.{is_page_size}
+use Rattle.bdb_mktree.specs.of_format.File.{File, page_at}
+use Rattle.bdb_mktree.specs.of_format.Page.{Content, Hash, Item, Listed, NoType, Overflow, Page}
+use Rattle.bdb_mktree.specs.of_format.Reading.{abstract_page}
+use Rattle.bdb_mktree.specs.of_format.Rows.{page_code}
+use Rattle.bdb_mktree.specs.of_law_grove.Growing.{IsCounted, IsLater, IsSamePage}
+use Rattle.bdb_mktree.specs.of_law_grove.Part.{between}
+use Rattle.bdb_mktree.proofs.of_law_grove.ChainLemmas.{between_is, is_between}
+use Rattle.bdb_mktree.specs.of_pack.Built.{Built, bytes_of, file_so_far}
+use Rattle.bdb_mktree.specs.of_mkleaves.Spread.{spread_on}
+use Rattle.bdb_mktree.specs.of_mkleaves.Units.{page_room}
+use Rattle.bdb_mktree.proofs.of_mkleaves.RunLemmas.{later_before}
 use Rattle.bdb_law_buckets.specs.Pages.{IsHashIn}
 use Rattle.bdb_law_buckets.specs.Tables.{BucketStands, Keyed, PlacedUnit, UnitsStand, contents_on, unit_of}
 use Rattle.bdb_mkhash.specs.Costs.{keyed_own_pages, keyed_cost}

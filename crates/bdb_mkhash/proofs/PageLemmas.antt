@@ -5,36 +5,36 @@ use Rattle.std.specs.Prelude.{◌^◌, ◌%◌, ◌==◌}
 use Rattle.std.specs.List.{sum_by}
 use Rattle.std.proofs.lemmas.List.{get_or-set_other, get_or_append_left, get_or_push, length-map, length-replicate, length-set, map-append}
 use Rattle.std.proofs.lemmas.List.Sums.{sum_by_push}
-use Rattle.bdb_format.specs.declared.kinds.Order.{Order}
-use Rattle.bdb_format.specs.declared.pages.Header.{Header}
-use Rattle.bdb_format.specs.HeadOf.{is_page_size}
-use Rattle.bdb_format.specs.Numbers.{byte_at, four_at, spelled}
-use Rattle.bdb_format.specs.Page.{Content, Hash, Item, Listed}
-use Rattle.bdb_format.specs.Reading.{entries_of, hash_item_at, header_of, index_end, listed, offset_of, page_type}
-use Rattle.bdb_format.specs.Rows.{is_wrong_entry_count, is_wrong_level}
-use Rattle.bdb_format.specs.Spelling.{hash_bytes, header_bytes}
-use Rattle.bdb_format.proofs.PageLemmas.{header_listed, length_items}
-use Rattle.bdb_format.proofs.SpellingLemmas.{length-overwritten, length-spelled}
-use Rattle.bdb_format.proofs.SizeLemmas.{size_bounds}
-use Rattle.bdb_pack.specs.Built.{Built, bytes_of, with_page, with_zeros}
-use Rattle.bdb_pack.specs.Items.{HasPlace, IsWritable, OnHash, extent, holds_item}
-use Rattle.bdb_pack.specs.OnPages.{HasPlaceOn, with_item_on}
-use Rattle.bdb_pack.specs.Placing.{HasRoom, begun_header, begun_page, empty_listed, high_free_of, page_and_item, page_with, place_below, with_item}
-use Rattle.bdb_pack.proofs.BegunLemmas.{begun_stays}
-use Rattle.bdb_pack.proofs.FormLemmas.{begun_is_formed}
-use Rattle.bdb_pack.proofs.HeaderLemmas.{begun_pages_take_items, header_read, length-header}
-use Rattle.bdb_pack.proofs.OpenLemmas.{open_is}
-use Rattle.bdb_pack.proofs.PlacedLemmas.{IsPlaced, is_below}
-use Rattle.bdb_pack.proofs.PlaceLemmas.{behind, byte_same, number_before, number_here, number_same}
-use Rattle.bdb_pack.proofs.PlacingLaws.{items_are_placed}
-use Rattle.bdb_pack.proofs.StandingLemmas.{end_same, hash_item_same, typed}
-use Rattle.bdb_mkleaves.proofs.EntryLemmas.{bytes_with}
-use Rattle.bdb_mkleaves.proofs.LeafLemmas.{HasLinks, linked_begun, linked_page, offset_linked, with_links}
+use Rattle.bdb_mktree.specs.of_format.declared.kinds.Order.{Order}
+use Rattle.bdb_mktree.specs.of_format.declared.pages.Header.{Header}
+use Rattle.bdb_mktree.specs.of_format.HeadOf.{is_page_size}
+use Rattle.bdb_mktree.specs.of_format.Numbers.{byte_at, four_at, spelled}
+use Rattle.bdb_mktree.specs.of_format.Page.{Content, Hash, Item, Listed}
+use Rattle.bdb_mktree.specs.of_format.Reading.{entries_of, hash_item_at, header_of, index_end, listed, offset_of, page_type}
+use Rattle.bdb_mktree.specs.of_format.Rows.{is_wrong_entry_count, is_wrong_level}
+use Rattle.bdb_mktree.specs.of_format.Spelling.{hash_bytes, header_bytes}
+use Rattle.bdb_mktree.proofs.of_format.PageLemmas.{header_listed, length_items}
+use Rattle.bdb_mktree.proofs.of_format.SpellingLemmas.{length-overwritten, length-spelled}
+use Rattle.bdb_mktree.proofs.of_format.SizeLemmas.{size_bounds}
+use Rattle.bdb_mktree.specs.of_pack.Built.{Built, bytes_of, with_page, with_zeros}
+use Rattle.bdb_mktree.specs.of_pack.Items.{HasPlace, IsWritable, OnHash, extent, holds_item}
+use Rattle.bdb_mktree.specs.of_pack.OnPages.{HasPlaceOn, with_item_on}
+use Rattle.bdb_mktree.specs.of_pack.Placing.{HasRoom, begun_header, begun_page, empty_listed, high_free_of, page_and_item, page_with, place_below, with_item}
+use Rattle.bdb_mktree.proofs.of_pack.BegunLemmas.{begun_stays}
+use Rattle.bdb_mktree.proofs.of_pack.FormLemmas.{begun_is_formed}
+use Rattle.bdb_mktree.proofs.of_pack.HeaderLemmas.{begun_pages_take_items, header_read, length-header}
+use Rattle.bdb_mktree.proofs.of_pack.OpenLemmas.{open_is}
+use Rattle.bdb_mktree.proofs.of_pack.PlacedLemmas.{IsPlaced, is_below}
+use Rattle.bdb_mktree.proofs.of_pack.PlaceLemmas.{behind, byte_same, number_before, number_here, number_same}
+use Rattle.bdb_mktree.proofs.of_pack.PlacingLaws.{items_are_placed}
+use Rattle.bdb_mktree.proofs.of_pack.StandingLemmas.{end_same, hash_item_same, typed}
+use Rattle.bdb_mktree.proofs.of_mkleaves.EntryLemmas.{bytes_with}
+use Rattle.bdb_mktree.proofs.of_mkleaves.LeafLemmas.{HasLinks, linked_begun, linked_page, offset_linked, with_links}
 use Rattle.bdb_law_buckets.specs.Pages.{hash_item}
 use Rattle.bdb_mkhash.specs.Filling.{IsGrown}
 use Rattle.bdb_mkhash.specs.Pages.{CanTakeContent, HashPagesAreFormed, HashPagesStand, HoldsContents, HoldsContentsOn, content_cost, page_header, room_of}
 use Rattle.bdb_mkhash.specs.Pages.{with_hash_page, with_next}
-use Rattle.bdb_pack.proofs.NewRowLemmas.{hash_least as some_bytes}
+use Rattle.bdb_mktree.proofs.of_pack.NewRowLemmas.{hash_least as some_bytes}
 
 -- The page by its bytes.
 

@@ -4,13 +4,13 @@ use Rattle.std.specs.Prelude.{◌^◌, Some}
 use Rattle.std.specs.Option.{option_map}
 use Rattle.std.specs.List.{All, flat_map}
 use Rattle.std.proofs.lemmas.List.{append-nil, drop_all}
-use Rattle.bdb_format.specs.declared.kinds.Order.{Order}
-use Rattle.bdb_format.specs.Numbers.{overwritten, spelled}
-use Rattle.bdb_format.specs.Reading.{blocks_of}
-use Rattle.bdb_format.specs.Spelling.{block_bytes}
-use Rattle.bdb_format.proofs.SpellingLemmas.{length-spelled}
-use Rattle.bdb_layout.specs.Blocks.{run_in}
-use Rattle.bdb_layout.proofs.ReadBackLemmas.{blocks_of-back}
+use Rattle.bdb_mktree.specs.of_format.declared.kinds.Order.{Order}
+use Rattle.bdb_mktree.specs.of_format.Numbers.{overwritten, spelled}
+use Rattle.bdb_mktree.specs.of_format.Reading.{blocks_of}
+use Rattle.bdb_mktree.specs.of_format.Spelling.{block_bytes}
+use Rattle.bdb_mktree.proofs.of_format.SpellingLemmas.{length-spelled}
+use Rattle.bdb_mktree.specs.of_layout.Blocks.{run_in}
+use Rattle.bdb_mktree.proofs.of_layout.ReadBackLemmas.{blocks_of-back}
 
 -- two bytes that are written whole
 pub spelled_over : (order : Order) (x : ℕ) → overwritten (0 ∷ 0 ∷ []) 0 (spelled 2 order x) ≡ spelled 2 order x

@@ -5,7 +5,7 @@ use Rattle.std.specs.List.{flat_map, sum_by}
 use Rattle.std.proofs.lemmas.Bool.{le-leb, lt-leb}
 use Rattle.std.proofs.lemmas.List.{append-nil}
 use Rattle.std.proofs.lemmas.List.Sums.{sum_by-cons}
-use Rattle.bdb_mkleaves.specs.Spread.{spread_on}
+use Rattle.bdb_mktree.specs.of_mkleaves.Spread.{spread_on}
 
 -- the first things stand on the open page
 pub spread_taken : {A : Type 0} (room : ℕ) (first cost : A → ℕ) (left : ℕ) (page xs : List A) (n : ℕ) → sum_by cost (take n xs) ≤ left

@@ -8,37 +8,37 @@ use Rattle.std.proofs.lemmas.Bool.{cases_lt, le-leb, lt-leb}
 use Rattle.std.proofs.lemmas.List.{append_assoc}
 use Rattle.std.proofs.lemmas.List.Sums.{sum_by-cons, sum_by_push}
 use Rattle.std.proofs.lemmas.List.Elements.{All-cons, All-nil}
-use Rattle.bdb_format.specs.declared.kinds.Order.{Order}
-use Rattle.bdb_format.specs.HeadOf.{is_page_size}
-use Rattle.bdb_format.specs.Chains.{value_of}
-use Rattle.bdb_format.specs.Contents.{data_of}
-use Rattle.bdb_format.specs.ContentRows.{is_set, is_wrong_set}
-use Rattle.bdb_format.specs.Numbers.{spelled}
-use Rattle.bdb_format.specs.Page.{Content, Inline, Set, Chain, Tree, Unknown}
-use Rattle.bdb_format.specs.File.{File}
-use Rattle.bdb_format.specs.Reading.{blocks_of}
-use Rattle.bdb_format.specs.Rows.{page_code}
-use Rattle.bdb_format.specs.Spelling.{block_bytes, hash_bytes}
-use Rattle.bdb_layout.specs.Blocks.{BlockRun, run_in}
-use Rattle.bdb_layout.proofs.WritingLemmas.{length-hash_chain, length-hash_inline, length-hash_tree}
-use Rattle.bdb_format.proofs.SpellingLemmas.{length-spelled}
-use Rattle.bdb_format.proofs.SizeLemmas.{size_bounds}
-use Rattle.bdb_law_grove.specs.Growing.{IsCounted, IsLater}
-use Rattle.bdb_law_grove.specs.Leaves.{ContentFits}
-use Rattle.bdb_law_grove.specs.Part.{between}
-use Rattle.bdb_law_grove.proofs.BranchLemmas.{no_branch}
-use Rattle.bdb_law_grove.proofs.ChainLemmas.{between_is, is_between}
-use Rattle.bdb_pack.specs.Built.{Built, bytes_of, file_so_far}
-use Rattle.bdb_pack.specs.Items.{IsWritable, OnLeaf}
-use Rattle.bdb_pack.specs.Values.{HasChain}
-use Rattle.bdb_pack.proofs.OpenLemmas.{open_is}
-use Rattle.bdb_mkleaves.specs.Leaves.{KeepsAll, KeepsOthers}
-use Rattle.bdb_mkleaves.specs.Puts.{ValueStands}
-use Rattle.bdb_mkleaves.specs.Sets.{IsSetBuilt}
-use Rattle.bdb_mkleaves.proofs.FilledLemmas.{value_read}
-use Rattle.bdb_mkleaves.proofs.PutLemmas.{chain_item, inline_item}
-use Rattle.bdb_mkleaves.proofs.RunLemmas.{later_before}
-use Rattle.bdb_mkleaves.proofs.StandLemmas.{values_stand_on}
+use Rattle.bdb_mktree.specs.of_format.declared.kinds.Order.{Order}
+use Rattle.bdb_mktree.specs.of_format.HeadOf.{is_page_size}
+use Rattle.bdb_mktree.specs.of_format.Chains.{value_of}
+use Rattle.bdb_mktree.specs.of_format.Contents.{data_of}
+use Rattle.bdb_mktree.specs.of_format.ContentRows.{is_set, is_wrong_set}
+use Rattle.bdb_mktree.specs.of_format.Numbers.{spelled}
+use Rattle.bdb_mktree.specs.of_format.Page.{Content, Inline, Set, Chain, Tree, Unknown}
+use Rattle.bdb_mktree.specs.of_format.File.{File}
+use Rattle.bdb_mktree.specs.of_format.Reading.{blocks_of}
+use Rattle.bdb_mktree.specs.of_format.Rows.{page_code}
+use Rattle.bdb_mktree.specs.of_format.Spelling.{block_bytes, hash_bytes}
+use Rattle.bdb_mktree.specs.of_layout.Blocks.{BlockRun, run_in}
+use Rattle.bdb_mktree.proofs.of_layout.WritingLemmas.{length-hash_chain, length-hash_inline, length-hash_tree}
+use Rattle.bdb_mktree.proofs.of_format.SpellingLemmas.{length-spelled}
+use Rattle.bdb_mktree.proofs.of_format.SizeLemmas.{size_bounds}
+use Rattle.bdb_mktree.specs.of_law_grove.Growing.{IsCounted, IsLater}
+use Rattle.bdb_mktree.specs.of_law_grove.Leaves.{ContentFits}
+use Rattle.bdb_mktree.specs.of_law_grove.Part.{between}
+use Rattle.bdb_mktree.proofs.of_law_grove.BranchLemmas.{no_branch}
+use Rattle.bdb_mktree.proofs.of_law_grove.ChainLemmas.{between_is, is_between}
+use Rattle.bdb_mktree.specs.of_pack.Built.{Built, bytes_of, file_so_far}
+use Rattle.bdb_mktree.specs.of_pack.Items.{IsWritable, OnLeaf}
+use Rattle.bdb_mktree.specs.of_pack.Values.{HasChain}
+use Rattle.bdb_mktree.proofs.of_pack.OpenLemmas.{open_is}
+use Rattle.bdb_mktree.specs.of_mkleaves.Leaves.{KeepsAll, KeepsOthers}
+use Rattle.bdb_mktree.specs.of_mkleaves.Puts.{ValueStands}
+use Rattle.bdb_mktree.specs.of_mkleaves.Sets.{IsSetBuilt}
+use Rattle.bdb_mktree.proofs.of_mkleaves.FilledLemmas.{value_read}
+use Rattle.bdb_mktree.proofs.of_mkleaves.PutLemmas.{chain_item, inline_item}
+use Rattle.bdb_mktree.proofs.of_mkleaves.RunLemmas.{later_before}
+use Rattle.bdb_mktree.proofs.of_mkleaves.StandLemmas.{values_stand_on}
 use Rattle.bdb_law_buckets.specs.Tables.{ContentsStand, HasSum, Keyed, PlacedUnit}
 use Rattle.bdb_law_buckets.proofs.OverLemmas.{contents_follow}
 use Rattle.bdb_mkhash.specs.Costs.{cost_in, data_cost, data_form, first_value, hash_item_cost, pages_in, blocks_cost, stand_together, keyed_cost}

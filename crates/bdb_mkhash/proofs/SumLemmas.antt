@@ -6,21 +6,21 @@ use Rattle.std.specs.List.{AllZip, flat_map, sum_by}
 use Rattle.std.proofs.lemmas.Grind.{flat_map-append}
 use Rattle.std.proofs.lemmas.List.{length-map, map-append}
 use Rattle.std.proofs.lemmas.List.Sums.{sum_by-cons}
-use Rattle.bdb_format.specs.Contents.{data_of}
-use Rattle.bdb_format.specs.File.{File, header_in, page_at}
-use Rattle.bdb_format.specs.Leaves.{children_in}
-use Rattle.bdb_format.specs.Page.{Item, Listed, Tree}
-use Rattle.bdb_law_grove.specs.Growing.{IsCounted, IsLater}
-use Rattle.bdb_law_levels.specs.Nodes.{IsTower, Node}
-use Rattle.bdb_pack.specs.Built.{Built, file_so_far}
-use Rattle.bdb_mkleaves.specs.Laid.{AreLaid, Counts, IsNodeOf, IsTreeLaid, entries_on, inner_of, number_on}
-use Rattle.bdb_mkleaves.specs.Layout.{IsTreeOn, live_entry}
-use Rattle.bdb_mkleaves.specs.LeafEntries.{leaf_of}
-use Rattle.bdb_mkleaves.specs.Placed.{LeafUnits, Placed, PlacedEntry, PlacedPairs, PlacedTree, entries_of, unit_of}
-use Rattle.bdb_mkleaves.specs.Spread.{set_type, spread_units}
-use Rattle.bdb_mkleaves.specs.Units.{page_room}
-use Rattle.bdb_mkleaves.specs.declared.leaf_type.LeafType.{LeafType}
-use Rattle.bdb_mkleaves.specs.declared.leaf_type.LeafType.TheVariants.{Pairs, Records, SortedData}
+use Rattle.bdb_mktree.specs.of_format.Contents.{data_of}
+use Rattle.bdb_mktree.specs.of_format.File.{File, header_in, page_at}
+use Rattle.bdb_mktree.specs.of_format.Leaves.{children_in}
+use Rattle.bdb_mktree.specs.of_format.Page.{Item, Listed, Tree}
+use Rattle.bdb_mktree.specs.of_law_grove.Growing.{IsCounted, IsLater}
+use Rattle.bdb_mktree.specs.of_law_levels.Nodes.{IsTower, Node}
+use Rattle.bdb_mktree.specs.of_pack.Built.{Built, file_so_far}
+use Rattle.bdb_mktree.specs.of_mkleaves.Laid.{AreLaid, Counts, IsNodeOf, IsTreeLaid, entries_on, inner_of, number_on}
+use Rattle.bdb_mktree.specs.of_mkleaves.Layout.{IsTreeOn, live_entry}
+use Rattle.bdb_mktree.specs.of_mkleaves.LeafEntries.{leaf_of}
+use Rattle.bdb_mktree.specs.of_mkleaves.Placed.{LeafUnits, Placed, PlacedEntry, PlacedPairs, PlacedTree, entries_of, unit_of}
+use Rattle.bdb_mktree.specs.of_mkleaves.Spread.{set_type, spread_units}
+use Rattle.bdb_mktree.specs.of_mkleaves.Units.{page_room}
+use Rattle.bdb_mktree.specs.of_mkleaves.declared.leaf_type.LeafType.{LeafType}
+use Rattle.bdb_mktree.specs.of_mkleaves.declared.leaf_type.LeafType.TheVariants.{Pairs, Records, SortedData}
 use Rattle.bdb_law_buckets.specs.Tables.{HasSum}
 use Rattle.bdb_mkhash.proofs.SpreadLemmas.{spread_all}
 

@@ -6,13 +6,13 @@ use Rattle.std.specs.List.{sum_by}
 use Rattle.std.proofs.lemmas.Bool.{cases_eq, cases_lt, or_cases, or_right}
 use Rattle.std.proofs.lemmas.List.{length-map, map-append, take_more}
 use Rattle.std.proofs.lemmas.List.Sums.{sum_by_push}
-use Rattle.bdb_format.specs.File.{File}
-use Rattle.bdb_format.specs.Rows.{page_code}
-use Rattle.bdb_law_grove.specs.Growing.{IsLater}
-use Rattle.bdb_law_grove.specs.Part.{between}
-use Rattle.bdb_law_grove.proofs.ChainLemmas.{between_is, is_between}
-use Rattle.bdb_pack.specs.Built.{Built, bytes_of, file_so_far}
-use Rattle.bdb_mkleaves.proofs.RunLemmas.{later_before}
+use Rattle.bdb_mktree.specs.of_format.File.{File}
+use Rattle.bdb_mktree.specs.of_format.Rows.{page_code}
+use Rattle.bdb_mktree.specs.of_law_grove.Growing.{IsLater}
+use Rattle.bdb_mktree.specs.of_law_grove.Part.{between}
+use Rattle.bdb_mktree.proofs.of_law_grove.ChainLemmas.{between_is, is_between}
+use Rattle.bdb_mktree.specs.of_pack.Built.{Built, bytes_of, file_so_far}
+use Rattle.bdb_mktree.proofs.of_mkleaves.RunLemmas.{later_before}
 use Rattle.bdb_law_buckets.specs.Tables.{BucketStands, Keyed, PlacedUnit, TableStands, unit_of}
 use Rattle.bdb_mkhash.specs.Buckets.{spread_bucket}
 use Rattle.bdb_mkhash.specs.Costs.{keyed_own_pages}

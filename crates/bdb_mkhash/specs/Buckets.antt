@@ -2,10 +2,10 @@
 use Rattle.std.specs.Prelude.{ℕ, ◌+◌, ◌*◌, ◌/◌, ◌^◌, nat_le, Bool, List, [], length, map}
 use Rattle.std.specs.List.{find, range_with_len, sum_by}
 use Rattle.std.specs.Option.{unwrap_or}
-use Rattle.bdb_text_format.specs.declared.pairs.Pair.{Pair}
-use Rattle.bdb_mkleaves.specs.Placed.{values_in}
-use Rattle.bdb_mkleaves.specs.Spread.{spread_on}
-use Rattle.bdb_mkleaves.specs.Units.{TreeUnit, key_of, page_room}
+use Rattle.bdb_mktree.specs.of_text_format.declared.pairs.Pair.{Pair}
+use Rattle.bdb_mktree.specs.of_mkleaves.Placed.{values_in}
+use Rattle.bdb_mktree.specs.of_mkleaves.Spread.{spread_on}
+use Rattle.bdb_mktree.specs.of_mkleaves.Units.{TreeUnit, key_of, page_room}
 use Rattle.bdb_mktree.specs.Lists.{keyed_units}
 use Rattle.bdb_law_buckets.specs.Tables.{Keyed, dealt}
 use Rattle.bdb_mkhash.specs.Costs.{keyed_own_pages, keyed_cost}

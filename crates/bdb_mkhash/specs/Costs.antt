@@ -1,8 +1,8 @@
 -- What a key and its data take of a page of a table, and the pages of their own. Source: docs/FORMAT.md, "Built tables".
 use Rattle.std.specs.Prelude.{ℕ, ◌+◌, ◌-◌, ◌/◌, nat_le, ◌&&◌, if◌then◌else◌, Bool, List, [], ◌∷◌, length}
 use Rattle.std.specs.List.{list_all, sum_by}
-use Rattle.bdb_mkleaves.specs.Spread.{set_pages}
-use Rattle.bdb_mkleaves.specs.Units.{chain_pages}
+use Rattle.bdb_mktree.specs.of_mkleaves.Spread.{set_pages}
+use Rattle.bdb_mktree.specs.of_mkleaves.Units.{chain_pages}
 use Rattle.bdb_law_buckets.specs.Tables.{Keyed}
 use Rattle.bdb_mkhash.specs.declared.form.DataForm.{DataForm}
 use Rattle.bdb_mkhash.specs.declared.form.DataForm.TheVariants.{One, Set, Tree}

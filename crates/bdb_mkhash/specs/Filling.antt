@@ -3,20 +3,20 @@
 use Rattle.std.specs.Prelude.{◌≡◌, ◌⊎◌, ℕ, ◌+◌, ◌%◌, ◌<◌, ◌≤◌, ◌==◌, ◌&&◌, ◌||◌, not, Bool, true, false, List, [], ◌∷◌, ◌++◌, drop, get_or, length, map, take}
 use Rattle.std.specs.Prelude.{None}
 use Rattle.std.specs.List.{sum_by}
-use Rattle.bdb_format.specs.declared.kinds.Order.{Order}
-use Rattle.bdb_format.specs.Page.{Content}
-use Rattle.bdb_format.specs.File.{File}
-use Rattle.bdb_format.specs.Contents.{data_of}
-use Rattle.bdb_format.specs.ContentRows.{is_set, is_wrong_set}
-use Rattle.bdb_format.specs.Rows.{page_code}
-use Rattle.bdb_law_grove.specs.Growing.{IsCounted, IsLater}
-use Rattle.bdb_law_grove.specs.Part.{between}
-use Rattle.bdb_pack.specs.Built.{Built, bytes_of, file_so_far}
-use Rattle.bdb_pack.specs.Items.{HasPlace, IsWritable, OnHash}
-use Rattle.bdb_mkleaves.specs.Leaves.{KeepsOthers}
-use Rattle.bdb_mkleaves.specs.Puts.{IsItemOf}
-use Rattle.bdb_mkleaves.specs.Spread.{spread_on}
-use Rattle.bdb_mkleaves.specs.Units.{page_room}
+use Rattle.bdb_mktree.specs.of_format.declared.kinds.Order.{Order}
+use Rattle.bdb_mktree.specs.of_format.Page.{Content}
+use Rattle.bdb_mktree.specs.of_format.File.{File}
+use Rattle.bdb_mktree.specs.of_format.Contents.{data_of}
+use Rattle.bdb_mktree.specs.of_format.ContentRows.{is_set, is_wrong_set}
+use Rattle.bdb_mktree.specs.of_format.Rows.{page_code}
+use Rattle.bdb_mktree.specs.of_law_grove.Growing.{IsCounted, IsLater}
+use Rattle.bdb_mktree.specs.of_law_grove.Part.{between}
+use Rattle.bdb_mktree.specs.of_pack.Built.{Built, bytes_of, file_so_far}
+use Rattle.bdb_mktree.specs.of_pack.Items.{HasPlace, IsWritable, OnHash}
+use Rattle.bdb_mktree.specs.of_mkleaves.Leaves.{KeepsOthers}
+use Rattle.bdb_mktree.specs.of_mkleaves.Puts.{IsItemOf}
+use Rattle.bdb_mktree.specs.of_mkleaves.Spread.{spread_on}
+use Rattle.bdb_mktree.specs.of_mkleaves.Units.{page_room}
 use Rattle.bdb_law_buckets.specs.Pages.{hash_item}
 use Rattle.bdb_law_buckets.specs.Tables.{BucketStands, ContentsStand, HasSum, Keyed, PlacedUnit, TableStands, UnitStands, UnitsStand, contents_of, contents_on}
 use Rattle.bdb_law_buckets.specs.Tables.{unit_of}

@@ -1,17 +1,17 @@
 -- Pages of a table that is being built: what their items take of them, and the page that holds them. Source: docs/FORMAT.md, "Hash items".
 use Rattle.std.specs.Prelude.{◌≡◌, ℕ, ◌+◌, ◌-◌, ◌%◌, ◌≤◌, List, length, map, None}
 use Rattle.std.specs.List.{sum_by}
-use Rattle.bdb_format.specs.declared.kinds.Order.{Order}
-use Rattle.bdb_format.specs.declared.pages.Header.{Header}
-use Rattle.bdb_format.specs.Numbers.{byte_at, four_at, overwritten, spelled}
-use Rattle.bdb_format.specs.Page.{Content, Hash, Item, Listed}
-use Rattle.bdb_format.specs.File.{File, page_at}
-use Rattle.bdb_format.specs.Reading.{abstract_page, index_end}
-use Rattle.bdb_format.specs.Rows.{page_code}
-use Rattle.bdb_format.specs.Spelling.{hash_bytes}
-use Rattle.bdb_pack.specs.Built.{Built, bytes_of, with_page, with_zeros}
-use Rattle.bdb_pack.specs.Items.{HasPlace, IsWritable, OnHash}
-use Rattle.bdb_pack.specs.Placing.{IsBegun, begun_page, high_free_of}
+use Rattle.bdb_mktree.specs.of_format.declared.kinds.Order.{Order}
+use Rattle.bdb_mktree.specs.of_format.declared.pages.Header.{Header}
+use Rattle.bdb_mktree.specs.of_format.Numbers.{byte_at, four_at, overwritten, spelled}
+use Rattle.bdb_mktree.specs.of_format.Page.{Content, Hash, Item, Listed}
+use Rattle.bdb_mktree.specs.of_format.File.{File, page_at}
+use Rattle.bdb_mktree.specs.of_format.Reading.{abstract_page, index_end}
+use Rattle.bdb_mktree.specs.of_format.Rows.{page_code}
+use Rattle.bdb_mktree.specs.of_format.Spelling.{hash_bytes}
+use Rattle.bdb_mktree.specs.of_pack.Built.{Built, bytes_of, with_page, with_zeros}
+use Rattle.bdb_mktree.specs.of_pack.Items.{HasPlace, IsWritable, OnHash}
+use Rattle.bdb_mktree.specs.of_pack.Placing.{IsBegun, begun_page, high_free_of}
 use Rattle.bdb_law_buckets.specs.Pages.{IsHashIn, hash_item}
 
 -- the bytes that an item takes of its page: two of the index, and its own

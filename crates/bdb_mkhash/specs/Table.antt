@@ -1,17 +1,17 @@
 -- A table that was built of a list. Source: docs/FORMAT.md, "Built tables".
 use Rattle.std.specs.Prelude.{◌≡◌, ℕ, ◌+◌, ◌<◌, ◌≤◌, List, length, map, None}
-use Rattle.bdb_format.specs.declared.kinds.Kind.TheVariants.{Btree}
-use Rattle.bdb_format.specs.declared.metadata.HashMeta.{HashMeta}
-use Rattle.bdb_format.specs.declared.settings.Settings.{Settings}
-use Rattle.bdb_format.specs.File.{File}
-use Rattle.bdb_format.specs.Lists.{ListKey}
-use Rattle.bdb_format.specs.Page.{HashFields}
-use Rattle.bdb_format.specs.Rows.{page_code}
-use Rattle.bdb_law_grove.specs.Growing.{IsCounted, IsLater}
-use Rattle.bdb_law_grove.specs.Part.{IsPart, between}
-use Rattle.bdb_text_format.specs.declared.pairs.Pair.{Pair}
-use Rattle.bdb_pack.specs.Built.{Built, bytes_of, file_so_far}
-use Rattle.bdb_mkleaves.specs.Leaves.{KeepsAll}
+use Rattle.bdb_mktree.specs.of_format.declared.kinds.Kind.TheVariants.{Btree}
+use Rattle.bdb_mktree.specs.of_format.declared.metadata.HashMeta.{HashMeta}
+use Rattle.bdb_mktree.specs.of_format.declared.settings.Settings.{Settings}
+use Rattle.bdb_mktree.specs.of_format.File.{File}
+use Rattle.bdb_mktree.specs.of_format.Lists.{ListKey}
+use Rattle.bdb_mktree.specs.of_format.Page.{HashFields}
+use Rattle.bdb_mktree.specs.of_format.Rows.{page_code}
+use Rattle.bdb_mktree.specs.of_law_grove.Growing.{IsCounted, IsLater}
+use Rattle.bdb_mktree.specs.of_law_grove.Part.{IsPart, between}
+use Rattle.bdb_mktree.specs.of_text_format.declared.pairs.Pair.{Pair}
+use Rattle.bdb_mktree.specs.of_pack.Built.{Built, bytes_of, file_so_far}
+use Rattle.bdb_mktree.specs.of_mkleaves.Leaves.{KeepsAll}
 use Rattle.bdb_mktree.specs.Lists.{IsTreeList}
 use Rattle.bdb_law_buckets.specs.Tables.{HasBuiltBuckets, Keyed, PlacedUnit, TableStands, table_meta, unit_of}
 use Rattle.bdb_mkhash.specs.Buckets.{buckets_of, spread_bucket, table_bits, table_size}

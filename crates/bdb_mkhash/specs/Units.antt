@@ -1,8 +1,8 @@
 -- Keys with their data in memory.
 use Rattle.std.specs.Prelude.{◌<◌, List, length, map}
 use Rattle.std.specs.List.{All}
-use Rattle.bdb_places.specs.Places.{values_seen}
-use Rattle.bdb_mkleaves.specs.Runs.{IsShort}
+use Rattle.bdb_mktree.specs.of_places.Places.{values_seen}
+use Rattle.bdb_mktree.specs.of_mkleaves.Runs.{IsShort}
 use Rattle.bdb_law_buckets.specs.Tables.{Keyed}
 use Rattle.bdb_mkhash.specs.declared.unit.Unit.{Unit as CodeUnit}
 

@@ -1,17 +1,17 @@
 ghost use Rattle.std.specs.Prelude.{◌≡◌, ℕ, ◌+◌, ◌<◌, ◌≤◌, ◌^◌, List, IfOk, IsTrue, length, map, replicate, []};
 ghost use Rattle.std.specs.List.{All};
-ghost use Rattle.bdb_format.specs.HeadOf.{is_page_size};
-ghost use Rattle.bdb_places.specs.Places.{values_seen};
-ghost use Rattle.bdb_text_format.specs.Placed.{pairs_of};
+ghost use Rattle.bdb_mktree.specs.of_format.HeadOf.{is_page_size};
+ghost use Rattle.bdb_mktree.specs.of_places.Places.{values_seen};
+ghost use Rattle.bdb_mktree.specs.of_text_format.Placed.{pairs_of};
 ghost use Rattle.bdb_law_buckets.specs.Tables.{Keyed, bucket_among};
 ghost use Rattle.bdb_mktree.specs.Lists.{HasBytes};
 ghost use Rattle.bdb_mkhash.specs.Buckets.{bits_for, buckets_of, table_cost, table_units};
 ghost use Rattle.bdb_mkhash.specs.Units.{units_seen};
 
 use crate::unit::{Unit, keyed_cost};
-use bdb_layout::{bucket_of, hash5};
+use bdb_mktree::bdb_layout::{bucket_of, hash5};
+use bdb_mktree::bdb_text_format::PairSlice;
 use bdb_mktree::{Run, run_at};
-use bdb_text_format::PairSlice;
 use std::alloc::{AllocError, Global};
 
 // A key of a list as it is stored.

@@ -1,16 +1,16 @@
 ghost use Rattle.std.specs.Prelude.{◌≡◌, ◌≤◌, ◌+◌, ◌-◌, ◌++◌, IfOk, length, replicate};
-ghost use Rattle.bdb_format.specs.declared.kinds.Kind.TheVariants.{Hash as HashKind};
-ghost use Rattle.bdb_text_format.specs.Pairs.{listed};
-ghost use Rattle.bdb_text_format.specs.Placed.{pairs_of};
+ghost use Rattle.bdb_mktree.specs.of_format.declared.kinds.Kind.TheVariants.{Hash as HashKind};
+ghost use Rattle.bdb_mktree.specs.of_text_format.Pairs.{listed};
+ghost use Rattle.bdb_mktree.specs.of_text_format.Placed.{pairs_of};
 ghost use Rattle.bdb_law_buckets.specs.Tables.{table_meta};
 ghost use Rattle.bdb_mkhash.specs.Buckets.{table_units};
 ghost use Rattle.bdb_mkhash.specs.Table.{IsTableBuilt, IsTableList};
 
 use crate::buckets::{bits_for, bucket_count, deal, table_cost};
 use crate::fill::{add_buckets, fill_buckets};
-use bdb_format::{HashMeta, Settings};
-use bdb_pack::Pages;
-use bdb_text_format::PairSlice;
+use bdb_mktree::bdb_format::{HashMeta, Settings};
+use bdb_mktree::bdb_pack::Pages;
+use bdb_mktree::bdb_text_format::PairSlice;
 use std::alloc::{AllocError, Global};
 
 // The spares of a table with so many bits to the number of a bucket, whose first page this is.

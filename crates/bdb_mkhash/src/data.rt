@@ -1,8 +1,8 @@
 ghost use Rattle.std.specs.Prelude.{◌≡◌, ◌+◌, ◌<◌, ◌≤◌, ◌%◌, false, IfOk, IsTrue, length};
 ghost use Rattle.std.specs.List.{All};
-ghost use Rattle.bdb_format.specs.HeadOf.{is_page_size};
-ghost use Rattle.bdb_places.specs.Places.{values_seen};
-ghost use Rattle.bdb_mkleaves.specs.Runs.{IsShort};
+ghost use Rattle.bdb_mktree.specs.of_format.HeadOf.{is_page_size};
+ghost use Rattle.bdb_mktree.specs.of_places.Places.{values_seen};
+ghost use Rattle.bdb_mktree.specs.of_mkleaves.Runs.{IsShort};
 ghost use Rattle.bdb_mkhash.specs.Costs.{data_cost, data_form, hash_item_cost, keyed_cost};
 ghost use Rattle.bdb_mkhash.specs.Filling.{AreDataPut, IsHalfPage, IsOpenPage, IsUnitPut, IsValuePut, IsWholePage, room_on};
 ghost use Rattle.bdb_mkhash.specs.Units.{IsShortUnit, unit_seen};
@@ -13,10 +13,10 @@ use crate::page::append_item;
 use crate::sets::spell_set;
 use crate::store::store;
 use crate::unit::{Unit, data_form};
-use bdb_layout::{DupBlocks, HashItem};
-use bdb_mkleaves::build_set;
-use bdb_pack::Pages;
-use bdb_places::Values;
+use bdb_mktree::bdb_layout::{DupBlocks, HashItem};
+use bdb_mktree::bdb_mkleaves::build_set;
+use bdb_mktree::bdb_pack::Pages;
+use bdb_mktree::bdb_places::Values;
 use std::alloc::{AllocError, Global};
 
 // Puts a value at the end of a page: its item, or that of a chain behind all pages.

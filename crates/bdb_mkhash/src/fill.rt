@@ -1,7 +1,7 @@
 ghost use Rattle.std.specs.Prelude.{◌≡◌, ◌+◌, ◌<◌, ◌≤◌, ◌^◌, [], IfOk, IsTrue, length, map};
 ghost use Rattle.std.specs.List.{All};
-ghost use Rattle.bdb_format.specs.HeadOf.{is_page_size};
-ghost use Rattle.bdb_mkleaves.specs.Leaves.{KeepsAll};
+ghost use Rattle.bdb_mktree.specs.of_format.HeadOf.{is_page_size};
+ghost use Rattle.bdb_mktree.specs.of_mkleaves.Leaves.{KeepsAll};
 ghost use Rattle.bdb_mkhash.specs.Filling.{AreEmptyPages, AreFilled, IsBucketFilled, IsEmptyPage, IsFollowed, IsOpenPage, IsPageFilled};
 ghost use Rattle.bdb_mkhash.specs.Pages.{HoldsContentsOn};
 ghost use Rattle.bdb_mkhash.specs.Units.{IsShortUnit, units_seen};
@@ -9,7 +9,7 @@ ghost use Rattle.bdb_mkhash.specs.Units.{IsShortUnit, units_seen};
 use crate::data::put_unit;
 use crate::page::{add_page, set_next};
 use crate::unit::{Unit, keyed_cost};
-use bdb_pack::Pages;
+use bdb_mktree::bdb_pack::Pages;
 use std::alloc::{AllocError, Global};
 
 // Puts units on a page without any, as many as have room there, and answers how many.

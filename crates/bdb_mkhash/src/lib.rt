@@ -11,4 +11,6 @@ mod sets;
 mod store;
 mod unit;
 
+pub use bdb_mktree;
+pub use bdb_mktree::{bdb_format, bdb_layout, bdb_pack, bdb_places, bdb_text_format};
 pub use build::build_table;

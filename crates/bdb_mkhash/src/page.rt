@@ -1,15 +1,15 @@
 ghost use Rattle.std.specs.Prelude.{◌≡◌, ◌+◌, ◌<◌, ◌≤◌, ◌^◌, ◌∷◌, ◌++◌, [], ℕ, List, IfOk, IsTrue, length};
-ghost use Rattle.bdb_format.specs.HeadOf.{is_page_size};
-ghost use Rattle.bdb_format.specs.Page.{Content as PageContent};
-ghost use Rattle.bdb_layout.specs.Seen.{HasOrder, hash_content_seen};
-ghost use Rattle.bdb_pack.specs.Built.{AreWhole, bytes_of, with_page};
-ghost use Rattle.bdb_pack.specs.OnPages.{IsBegunOn};
+ghost use Rattle.bdb_mktree.specs.of_format.HeadOf.{is_page_size};
+ghost use Rattle.bdb_mktree.specs.of_format.Page.{Content as PageContent};
+ghost use Rattle.bdb_mktree.specs.of_layout.Seen.{HasOrder, hash_content_seen};
+ghost use Rattle.bdb_mktree.specs.of_pack.Built.{AreWhole, bytes_of, with_page};
+ghost use Rattle.bdb_mktree.specs.of_pack.OnPages.{IsBegunOn};
 ghost use Rattle.bdb_mkhash.specs.Filling.{IsGrown};
 ghost use Rattle.bdb_mkhash.specs.Pages.{CanTakeContent, HoldsContentsOn, with_hash_page, with_next};
 
-use bdb_format::Header;
-use bdb_layout::{HashItem, put_u32};
-use bdb_pack::Pages;
+use bdb_mktree::bdb_format::Header;
+use bdb_mktree::bdb_layout::{HashItem, put_u32};
+use bdb_mktree::bdb_pack::Pages;
 use std::alloc::AllocError;
 
 /// How many pages a file may have.

@@ -1,12 +1,12 @@
 ghost use Rattle.std.specs.Prelude.{◌≡◌, ◌<◌, ◌^◌, IfOk, length};
 ghost use Rattle.std.specs.List.{All, flat_map};
-ghost use Rattle.bdb_format.specs.Numbers.{spelled};
-ghost use Rattle.bdb_format.specs.Spelling.{block_bytes};
-ghost use Rattle.bdb_places.specs.Places.{values_seen};
+ghost use Rattle.bdb_mktree.specs.of_format.Numbers.{spelled};
+ghost use Rattle.bdb_mktree.specs.of_format.Spelling.{block_bytes};
+ghost use Rattle.bdb_mktree.specs.of_places.Places.{values_seen};
 
-use bdb_format::{Bytes, Order};
-use bdb_layout::put_u16;
-use bdb_places::Values;
+use bdb_mktree::bdb_format::{Bytes, Order};
+use bdb_mktree::bdb_layout::put_u16;
+use bdb_mktree::bdb_places::Values;
 use std::alloc::{AllocError, Global};
 
 // A length in two bytes.

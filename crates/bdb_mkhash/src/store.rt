@@ -1,12 +1,12 @@
 ghost use Rattle.std.specs.Prelude.{◌≡◌, ◌-◌, ◌*◌, ◌<◌, ◌≤◌, ◌^◌, IfOk, IsTrue, length};
-ghost use Rattle.bdb_format.specs.HeadOf.{is_page_size};
-ghost use Rattle.bdb_layout.specs.Seen.{HasOrder, hash_content_seen};
-ghost use Rattle.bdb_mkleaves.specs.Runs.{IsShort};
+ghost use Rattle.bdb_mktree.specs.of_format.HeadOf.{is_page_size};
+ghost use Rattle.bdb_mktree.specs.of_layout.Seen.{HasOrder, hash_content_seen};
+ghost use Rattle.bdb_mktree.specs.of_mkleaves.Runs.{IsShort};
 ghost use Rattle.bdb_mkhash.specs.Filling.{IsHashItem};
 
 use crate::page::MAX_PAGES;
-use bdb_layout::HashItem;
-use bdb_pack::{Pages, Stored, push_value};
+use bdb_mktree::bdb_layout::HashItem;
+use bdb_mktree::bdb_pack::{Pages, Stored, push_value};
 use std::alloc::AllocError;
 
 // Whether there are numbers left for the pages of a value's chain.

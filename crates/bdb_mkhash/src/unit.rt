@@ -1,11 +1,11 @@
 ghost use Rattle.std.specs.Prelude.{◌≡◌, ◌<◌, ◌≤◌, ◌-◌, ◌/◌, IsTrue, length};
-ghost use Rattle.bdb_format.specs.HeadOf.{is_page_size};
-ghost use Rattle.bdb_places.specs.Places.{values_seen};
+ghost use Rattle.bdb_mktree.specs.of_format.HeadOf.{is_page_size};
+ghost use Rattle.bdb_mktree.specs.of_places.Places.{values_seen};
 ghost use Rattle.bdb_mkhash.specs.Costs.{data_cost, data_form, hash_item_cost, blocks_cost, stand_together, keyed_cost};
 ghost use Rattle.bdb_mkhash.specs.Units.{unit_seen};
 
 use crate::form::DataForm;
-use bdb_places::Values;
+use bdb_mktree::bdb_places::Values;
 
 /// A key of a table with all its data, one at least.
 #[derive(Clone, Copy)]

@@ -7,16 +7,16 @@ use Rattle.std.proofs.lemmas.Bool.{cases_lt, and_left, and_right, eq-eqb, le-leb
 use Rattle.std.proofs.lemmas.List.{get_or-set_same, get_or_append_left, get_or_push, length-map, map-append}
 use Rattle.std.proofs.lemmas.List.{get_or-map}
 use Rattle.std.proofs.lemmas.List.Sums.{sum_by_push}
-use Rattle.bdb_format.specs.declared.kinds.Order.{Order}
-use Rattle.bdb_format.specs.Numbers.{byte_at, four_at, pad4}
-use Rattle.bdb_format.specs.Page.{Content, Inline, Set, Chain, Tree, Unknown, Item, Leaf, LeafPage, Listed}
-use Rattle.bdb_format.specs.Reading.{abstract_page, entries_of, index_end, leaf_item_at, listed, offset_of, page_as, page_type}
-use Rattle.bdb_format.specs.References.{is_shared_key, no_item}
-use Rattle.bdb_format.specs.Rows.{item_row}
-use Rattle.bdb_format.specs.Spelling.{IsLeafContent, leaf_bytes}
-use Rattle.bdb_format.proofs.PageLemmas.{index_offset, length_items}
-use Rattle.bdb_format.proofs.LeafLemmas.{leaf_item_is}
-use Rattle.bdb_layout.proofs.WritingLemmas.{length-leaf_chain, length-leaf_inline, length-leaf_tree}
+use Rattle.bdb_places.specs.of_format.declared.kinds.Order.{Order}
+use Rattle.bdb_places.specs.of_format.Numbers.{byte_at, four_at, pad4}
+use Rattle.bdb_places.specs.of_format.Page.{Content, Inline, Set, Chain, Tree, Unknown, Item, Leaf, LeafPage, Listed}
+use Rattle.bdb_places.specs.of_format.Reading.{abstract_page, entries_of, index_end, leaf_item_at, listed, offset_of, page_as, page_type}
+use Rattle.bdb_places.specs.of_format.References.{is_shared_key, no_item}
+use Rattle.bdb_places.specs.of_format.Rows.{item_row}
+use Rattle.bdb_places.specs.of_format.Spelling.{IsLeafContent, leaf_bytes}
+use Rattle.bdb_places.proofs.of_format.PageLemmas.{index_offset, length_items}
+use Rattle.bdb_places.proofs.of_format.LeafLemmas.{leaf_item_is}
+use Rattle.bdb_pack.proofs.of_layout.WritingLemmas.{length-leaf_chain, length-leaf_inline, length-leaf_tree}
 use Rattle.bdb_pack.specs.Built.{Built, bytes_of, with_page}
 use Rattle.bdb_pack.specs.OnPages.{HasPlaceOn, with_item_on}
 use Rattle.bdb_pack.specs.Items.{HasPlace, IsWritable, OnLeaf, extent, holds_item}

@@ -4,12 +4,12 @@ use Rattle.std.specs.List.{All, flat_map, sum_by}
 use Rattle.std.proofs.lemmas.Simd.{map-map}
 use Rattle.std.proofs.lemmas.List.Elements.{All-cons, All-nil}
 use Rattle.std.proofs.lemmas.List.Sums.{sum_by-cons}
-use Rattle.bdb_format.specs.Page.{Content, Inline, Set, Chain, Tree, Unknown}
-use Rattle.bdb_format.specs.File.{File}
-use Rattle.bdb_format.specs.Chains.{value_of}
-use Rattle.bdb_law_grove.specs.Growing.{IsLater}
-use Rattle.bdb_law_grove.specs.Leaves.{AscendIn, content_pages}
-use Rattle.bdb_law_grove.specs.Part.{between}
+use Rattle.bdb_places.specs.of_format.Page.{Content, Inline, Set, Chain, Tree, Unknown}
+use Rattle.bdb_places.specs.of_format.File.{File}
+use Rattle.bdb_places.specs.of_format.Chains.{value_of}
+use Rattle.bdb_pack.specs.of_law_grove.Growing.{IsLater}
+use Rattle.bdb_pack.specs.of_law_grove.Leaves.{AscendIn, content_pages}
+use Rattle.bdb_pack.specs.of_law_grove.Part.{between}
 use Rattle.bdb_pack.specs.Built.{Built, file_so_far}
 use Rattle.bdb_pack.proofs.ImageLemmas.{counted_so_far}
 use Rattle.bdb_mkleaves.specs.Filled.{IsUnitPut, StandOn, unit_contents}

@@ -7,18 +7,18 @@ use Rattle.std.proofs.lemmas.Bool.{cases_Bool, cases_eq, cases_lt, false_from_ne
 use Rattle.std.proofs.lemmas.Grind.{flat_map-append}
 use Rattle.std.proofs.lemmas.List.Elements.{Contains-append_cases, Contains-append_left, Contains-append_right}
 use Rattle.bdb_pack.proofs.ImageLemmas.{page_so_far}
-use Rattle.bdb_format.specs.File.{header_in, page_at}
-use Rattle.bdb_format.specs.Rows.{page_code}
-use Rattle.bdb_format.proofs.MemberLemmas.{first_member, in_range, later_member, member_cases, of_range}
-use Rattle.bdb_format.proofs.ListLemmas.{only_member}
-use Rattle.bdb_law_grove.specs.Growing.{IsLater, IsSamePage}
-use Rattle.bdb_law_grove.specs.Leaves.{Ascend, ContentFits, content_pages}
-use Rattle.bdb_law_grove.specs.Part.{IsBranch, between}
-use Rattle.bdb_law_grove.proofs.BranchLemmas.{of_list}
-use Rattle.bdb_law_grove.proofs.ChainLemmas.{between_is, is_between, same_test}
-use Rattle.bdb_law_grove.proofs.LeafLemmas.{above_low, ascend_once}
-use Rattle.bdb_law_grove.proofs.SeveralLemmas.{count, count-append}
-use Rattle.bdb_law_grove.proofs.AscendLemmas.{ascend_strictly}
+use Rattle.bdb_places.specs.of_format.File.{header_in, page_at}
+use Rattle.bdb_places.specs.of_format.Rows.{page_code}
+use Rattle.bdb_places.proofs.of_format.MemberLemmas.{first_member, in_range, later_member, member_cases, of_range}
+use Rattle.bdb_places.proofs.of_format.ListLemmas.{only_member}
+use Rattle.bdb_pack.specs.of_law_grove.Growing.{IsLater, IsSamePage}
+use Rattle.bdb_pack.specs.of_law_grove.Leaves.{Ascend, ContentFits, content_pages}
+use Rattle.bdb_pack.specs.of_law_grove.Part.{IsBranch, between}
+use Rattle.bdb_pack.proofs.of_law_grove.BranchLemmas.{of_list}
+use Rattle.bdb_pack.proofs.of_law_grove.ChainLemmas.{between_is, is_between, same_test}
+use Rattle.bdb_pack.proofs.of_law_grove.LeafLemmas.{above_low, ascend_once}
+use Rattle.bdb_pack.proofs.of_law_grove.SeveralLemmas.{count, count-append}
+use Rattle.bdb_pack.proofs.of_law_grove.AscendLemmas.{ascend_strictly}
 use Rattle.bdb_law_levels.specs.Nodes.{Node}
 use Rattle.bdb_law_levels.specs.Roots.{is_of, pages_of as level_pages}
 use Rattle.bdb_pack.specs.Built.{Built, bytes_of, file_so_far}

@@ -3,14 +3,14 @@ use Rattle.std.proofs.Common.{◌≡◌, ℕ, Bool, List, [], ◌∷◌, ◌++�
 use Rattle.std.specs.List.{AllZip, Contains, flat_map}
 use Rattle.std.proofs.lemmas.List.Elements.{All-cons, All-nil}
 use Rattle.std.proofs.lemmas.List.Folds.{flat_map-map}
-use Rattle.bdb_format.specs.Page.{Tree}
-use Rattle.bdb_format.specs.Contents.{data_of}
-use Rattle.bdb_format.specs.ContentRows.{is_wrong_set}
-use Rattle.bdb_format.proofs.ListLemmas.{map_joined}
-use Rattle.bdb_law_grove.specs.Growing.{IsLater}
-use Rattle.bdb_law_grove.specs.Leaves.{ContentFits, SetFits}
-use Rattle.bdb_law_grove.specs.Part.{between}
-use Rattle.bdb_law_grove.proofs.BranchLemmas.{branch_is_known}
+use Rattle.bdb_places.specs.of_format.Page.{Tree}
+use Rattle.bdb_places.specs.of_format.Contents.{data_of}
+use Rattle.bdb_places.specs.of_format.ContentRows.{is_wrong_set}
+use Rattle.bdb_places.proofs.of_format.ListLemmas.{map_joined}
+use Rattle.bdb_pack.specs.of_law_grove.Growing.{IsLater}
+use Rattle.bdb_pack.specs.of_law_grove.Leaves.{ContentFits, SetFits}
+use Rattle.bdb_pack.specs.of_law_grove.Part.{between}
+use Rattle.bdb_pack.proofs.of_law_grove.BranchLemmas.{branch_is_known}
 use Rattle.bdb_pack.specs.Built.{Built, file_so_far}
 use Rattle.bdb_mkleaves.specs.Filled.{rest_of}
 use Rattle.bdb_mkleaves.specs.Finished.{FirstRootsAreLaid, HasLaidTree}

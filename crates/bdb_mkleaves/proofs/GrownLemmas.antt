@@ -4,16 +4,16 @@ use Rattle.std.specs.List.{All, AllZip, Contains, flat_map, range_with_len}
 use Rattle.std.proofs.lemmas.Grind.{flat_map-append}
 use Rattle.std.proofs.lemmas.List.Elements.{All-contains, All-head, All-tail}
 use Rattle.std.proofs.lemmas.List.Folds.{flat_map-map}
-use Rattle.bdb_format.specs.Page.{Item, Listed, Page}
-use Rattle.bdb_format.specs.File.{File, page_at}
-use Rattle.bdb_format.specs.Leaves.{first_or_zero}
-use Rattle.bdb_format.specs.Reading.{abstract_page}
-use Rattle.bdb_format.proofs.ListLemmas.{all_of, flat_map_same, flat_map_twice, map_joined}
-use Rattle.bdb_format.proofs.MemberLemmas.{first_member, in_flat_map, later_member, no_member, of_flat_map}
-use Rattle.bdb_law_grove.specs.Growing.{IsSamePage}
-use Rattle.bdb_law_grove.specs.Leaves.{Ascend, content_pages}
-use Rattle.bdb_law_grove.proofs.SeveralLemmas.{some_count}
-use Rattle.bdb_law_grove.proofs.AscendLemmas.{range_ascends}
+use Rattle.bdb_places.specs.of_format.Page.{Item, Listed, Page}
+use Rattle.bdb_places.specs.of_format.File.{File, page_at}
+use Rattle.bdb_places.specs.of_format.Leaves.{first_or_zero}
+use Rattle.bdb_places.specs.of_format.Reading.{abstract_page}
+use Rattle.bdb_places.proofs.of_format.ListLemmas.{all_of, flat_map_same, flat_map_twice, map_joined}
+use Rattle.bdb_places.proofs.of_format.MemberLemmas.{first_member, in_flat_map, later_member, no_member, of_flat_map}
+use Rattle.bdb_pack.specs.of_law_grove.Growing.{IsSamePage}
+use Rattle.bdb_pack.specs.of_law_grove.Leaves.{Ascend, content_pages}
+use Rattle.bdb_pack.proofs.of_law_grove.SeveralLemmas.{some_count}
+use Rattle.bdb_pack.proofs.of_law_grove.AscendLemmas.{range_ascends}
 use Rattle.bdb_law_levels.specs.Nodes.{Node}
 use Rattle.bdb_law_levels.specs.Roots.{key_heads}
 use Rattle.bdb_law_levels.specs.declared.inner_type.InnerType.{InnerType}

@@ -7,18 +7,18 @@ use Rattle.std.proofs.lemmas.List.{get_or-map, get_or_default, length-map, same_
 use Rattle.std.proofs.lemmas.Simd.{map-map}
 use Rattle.std.proofs.lemmas.List.FromFn.{get_or-map-range_with_len, length-map-range_with_len}
 use Rattle.std.proofs.lemmas.List.Folds.{flat_map-map}
-use Rattle.bdb_format.specs.declared.pages.Header.{Header}
-use Rattle.bdb_format.specs.Numbers.{byte_at}
-use Rattle.bdb_format.specs.Page.{Content, Item, Leaf, Listed}
-use Rattle.bdb_format.specs.File.{File}
-use Rattle.bdb_format.specs.Reading.{entries_of, header_of, leaf_item_at, page_type}
-use Rattle.bdb_format.specs.References.{contents_in, is_shared_key, item_at, no_item}
-use Rattle.bdb_format.specs.Contents.{StoredPair, pair_at, pairs_in}
-use Rattle.bdb_format.specs.Rows.{is_wrong_entry_count, is_wrong_level}
-use Rattle.bdb_format.proofs.MemberLemmas.{of_range}
-use Rattle.bdb_format.proofs.PageLemmas.{header_listed}
-use Rattle.bdb_format.proofs.TargetLemmas.{each_own}
-use Rattle.bdb_format.proofs.ListLemmas.{flat_map_same}
+use Rattle.bdb_places.specs.of_format.declared.pages.Header.{Header}
+use Rattle.bdb_places.specs.of_format.Numbers.{byte_at}
+use Rattle.bdb_places.specs.of_format.Page.{Content, Item, Leaf, Listed}
+use Rattle.bdb_places.specs.of_format.File.{File}
+use Rattle.bdb_places.specs.of_format.Reading.{entries_of, header_of, leaf_item_at, page_type}
+use Rattle.bdb_places.specs.of_format.References.{contents_in, is_shared_key, item_at, no_item}
+use Rattle.bdb_places.specs.of_format.Contents.{StoredPair, pair_at, pairs_in}
+use Rattle.bdb_places.specs.of_format.Rows.{is_wrong_entry_count, is_wrong_level}
+use Rattle.bdb_places.proofs.of_format.MemberLemmas.{of_range}
+use Rattle.bdb_places.proofs.of_format.PageLemmas.{header_listed}
+use Rattle.bdb_places.proofs.of_format.TargetLemmas.{each_own}
+use Rattle.bdb_places.proofs.of_format.ListLemmas.{flat_map_same}
 use Rattle.bdb_pack.specs.Built.{bytes_of}
 use Rattle.bdb_pack.proofs.FormLemmas.{begun_is_formed}
 use Rattle.bdb_mkleaves.specs.LeafEntries.{Entry, HoldsIn, LeavesAreFormed, LeavesStand, contents_of, leaf_of, no_entry, own_content, own_entry}

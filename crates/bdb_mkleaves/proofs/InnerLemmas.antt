@@ -5,22 +5,22 @@ use Rattle.std.specs.Prelude.{◌==◌, nat_lt}
 use Rattle.std.proofs.lemmas.Bool.{ne_eqb}
 use Rattle.std.proofs.lemmas.List.{get_or_push, length-map, length-replicate, map-append}
 use Rattle.std.proofs.lemmas.List.Sums.{sum_by_push}
-use Rattle.bdb_format.specs.declared.kinds.Order.{Order}
-use Rattle.bdb_format.specs.declared.pages.Header.{Header}
-use Rattle.bdb_format.specs.declared.pages.RecnoItem.{RecnoItem}
-use Rattle.bdb_format.specs.HeadOf.{is_page_size}
-use Rattle.bdb_format.specs.Numbers.{byte_at, four_at, number_at, overwritten, pad4, spelled, two_at}
-use Rattle.bdb_format.specs.Page.{Content, Inline, Set, Chain, Tree, Unknown, Internal, InternalItem, Listed, Overflow, Page, RecnoInternal}
-use Rattle.bdb_format.specs.Reading.{abstract_page, entries_of, header_of, index_end, internal_item_at, listed, page_type, recno_item_at}
-use Rattle.bdb_format.specs.Rows.{is_tree_type, is_wrong_entry_count, is_wrong_level, page_code}
-use Rattle.bdb_format.specs.Spelling.{IsKey, header_bytes, internal_bytes}
-use Rattle.bdb_format.specs.Table.{◌:?◌, first_row}
-use Rattle.bdb_format.proofs.PageLemmas.{header_listed, length_items}
-use Rattle.bdb_format.proofs.SpellingLemmas.{length-overwritten, length-spelled}
-use Rattle.bdb_format.proofs.SizeLemmas.{size_bounds}
-use Rattle.bdb_law_grove.specs.Growing.{IsSamePage}
-use Rattle.bdb_law_grove.proofs.GroveLemmas.{above}
-use Rattle.bdb_layout.proofs.WritingLemmas.{length-internal_chain, length-internal_inline}
+use Rattle.bdb_places.specs.of_format.declared.kinds.Order.{Order}
+use Rattle.bdb_places.specs.of_format.declared.pages.Header.{Header}
+use Rattle.bdb_places.specs.of_format.declared.pages.RecnoItem.{RecnoItem}
+use Rattle.bdb_places.specs.of_format.HeadOf.{is_page_size}
+use Rattle.bdb_places.specs.of_format.Numbers.{byte_at, four_at, number_at, overwritten, pad4, spelled, two_at}
+use Rattle.bdb_places.specs.of_format.Page.{Content, Inline, Set, Chain, Tree, Unknown, Internal, InternalItem, Listed, Overflow, Page, RecnoInternal}
+use Rattle.bdb_places.specs.of_format.Reading.{abstract_page, entries_of, header_of, index_end, internal_item_at, listed, page_type, recno_item_at}
+use Rattle.bdb_places.specs.of_format.Rows.{is_tree_type, is_wrong_entry_count, is_wrong_level, page_code}
+use Rattle.bdb_places.specs.of_format.Spelling.{IsKey, header_bytes, internal_bytes}
+use Rattle.bdb_places.specs.of_format.Table.{◌:?◌, first_row}
+use Rattle.bdb_places.proofs.of_format.PageLemmas.{header_listed, length_items}
+use Rattle.bdb_places.proofs.of_format.SpellingLemmas.{length-overwritten, length-spelled}
+use Rattle.bdb_places.proofs.of_format.SizeLemmas.{size_bounds}
+use Rattle.bdb_pack.specs.of_law_grove.Growing.{IsSamePage}
+use Rattle.bdb_pack.proofs.of_law_grove.GroveLemmas.{above}
+use Rattle.bdb_pack.proofs.of_layout.WritingLemmas.{length-internal_chain, length-internal_inline}
 use Rattle.bdb_law_levels.specs.declared.inner_type.InnerType.{InnerType}
 use Rattle.bdb_law_levels.specs.declared.inner_type.InnerType.TheVariants.{Keyed, Numbered}
 use Rattle.bdb_law_levels.specs.Nodes.{Node, keyed_item, keyed_items, numbered_item}

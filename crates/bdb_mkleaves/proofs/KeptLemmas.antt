@@ -4,11 +4,11 @@ use Rattle.std.proofs.Common.{arith, refl, sym, ◌∙◌, ap, subst, inl, inr, 
 use Rattle.std.specs.List.{All, AllZip, Contains, flat_map}
 use Rattle.std.proofs.lemmas.Bool.{cases_Bool, cases_eq, cases_lt}
 use Rattle.std.proofs.lemmas.List.Elements.{All-head, All-tail}
-use Rattle.bdb_format.specs.File.{File}
-use Rattle.bdb_format.specs.Rows.{page_code}
-use Rattle.bdb_format.proofs.MemberLemmas.{first_member, later_member, member_cases, no_member}
-use Rattle.bdb_law_grove.specs.Leaves.{content_pages}
-use Rattle.bdb_law_grove.proofs.BranchLemmas.{of_list}
+use Rattle.bdb_places.specs.of_format.File.{File}
+use Rattle.bdb_places.specs.of_format.Rows.{page_code}
+use Rattle.bdb_places.proofs.of_format.MemberLemmas.{first_member, later_member, member_cases, no_member}
+use Rattle.bdb_pack.specs.of_law_grove.Leaves.{content_pages}
+use Rattle.bdb_pack.proofs.of_law_grove.BranchLemmas.{of_list}
 use Rattle.bdb_law_levels.specs.Nodes.{Node}
 use Rattle.bdb_law_levels.specs.Roots.{is_of}
 use Rattle.bdb_pack.specs.Built.{Built, bytes_of, file_so_far}

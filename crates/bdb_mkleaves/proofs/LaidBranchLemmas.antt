@@ -6,21 +6,21 @@ use Rattle.std.specs.List.{All, AllZip, Contains, filter, flat_map, list_any, ra
 use Rattle.std.proofs.lemmas.Bool.{eqb-false, false_from_ne_true, or_from, or_left, or_cases}
 use Rattle.std.proofs.lemmas.Simd.{map-map}
 use Rattle.std.proofs.lemmas.List.Elements.{All-head, All-map, Contains-append_left, Contains-append_right, Contains-get_or}
-use Rattle.bdb_format.specs.declared.references.Reference.{Reference}
-use Rattle.bdb_format.specs.Page.{Content, Inline, Set, Chain, Tree, Unknown, Item, Listed}
-use Rattle.bdb_format.specs.File.{File, page_at, type_in}
-use Rattle.bdb_format.specs.References.{content_targets, contents_in, has_type, refs, targets_in}
-use Rattle.bdb_format.specs.Graph.{held_by, is_head_reference}
-use Rattle.bdb_format.specs.Chains.{content_chains, is_wrong_length}
-use Rattle.bdb_format.proofs.MemberLemmas.{first_member, in_flat_map, in_map, member_cases, no_member, none_pass, of_filter, of_map}
-use Rattle.bdb_law_grove.specs.Part.{IsBranch, are_heads_alone, owners_among}
-use Rattle.bdb_law_grove.specs.Leaves.{ChainFits, ContentFits, FilledLeaf, IsFilled, content_pages, pages_held}
-use Rattle.bdb_law_grove.specs.Standing.{named_by, names}
-use Rattle.bdb_law_grove.proofs.BranchLemmas.{of_list}
-use Rattle.bdb_law_grove.proofs.LeafLemmas.{all_names, ascend_once, chain_fits, leaf_names, leaves_stand_over, names_fit}
-use Rattle.bdb_law_grove.proofs.OwnerLemmas.{filter_first, names_page, one_of_range}
-use Rattle.bdb_law_grove.proofs.SeveralLemmas.{count, count-append, named_count, named_not, named_reference, once_apart, some_count}
-use Rattle.bdb_law_grove.proofs.TakeLemmas.{filter_inner}
+use Rattle.bdb_places.specs.of_format.declared.references.Reference.{Reference}
+use Rattle.bdb_places.specs.of_format.Page.{Content, Inline, Set, Chain, Tree, Unknown, Item, Listed}
+use Rattle.bdb_places.specs.of_format.File.{File, page_at, type_in}
+use Rattle.bdb_places.specs.of_format.References.{content_targets, contents_in, has_type, refs, targets_in}
+use Rattle.bdb_places.specs.of_format.Graph.{held_by, is_head_reference}
+use Rattle.bdb_places.specs.of_format.Chains.{content_chains, is_wrong_length}
+use Rattle.bdb_places.proofs.of_format.MemberLemmas.{first_member, in_flat_map, in_map, member_cases, no_member, none_pass, of_filter, of_map}
+use Rattle.bdb_pack.specs.of_law_grove.Part.{IsBranch, are_heads_alone, owners_among}
+use Rattle.bdb_pack.specs.of_law_grove.Leaves.{ChainFits, ContentFits, FilledLeaf, IsFilled, content_pages, pages_held}
+use Rattle.bdb_pack.specs.of_law_grove.Standing.{named_by, names}
+use Rattle.bdb_pack.proofs.of_law_grove.BranchLemmas.{of_list}
+use Rattle.bdb_pack.proofs.of_law_grove.LeafLemmas.{all_names, ascend_once, chain_fits, leaf_names, leaves_stand_over, names_fit}
+use Rattle.bdb_pack.proofs.of_law_grove.OwnerLemmas.{filter_first, names_page, one_of_range}
+use Rattle.bdb_pack.proofs.of_law_grove.SeveralLemmas.{count, count-append, named_count, named_not, named_reference, once_apart, some_count}
+use Rattle.bdb_pack.proofs.of_law_grove.TakeLemmas.{filter_inner}
 use Rattle.bdb_law_levels.specs.Branches.{KeyHasLength}
 use Rattle.bdb_law_levels.specs.Nodes.{Node}
 use Rattle.bdb_law_levels.specs.Roots.{IsHeadOnce, IsOfLevel, KeyStands, KeysStand, is_of, key_heads, pages_of as level_pages, types_below}

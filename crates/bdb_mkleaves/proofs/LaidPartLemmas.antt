@@ -6,28 +6,28 @@ use Rattle.std.specs.List.{All, Contains, flat_map, list_any}
 use Rattle.std.proofs.lemmas.Bool.{and_right}
 use Rattle.std.proofs.lemmas.List.{length-map}
 use Rattle.std.proofs.lemmas.List.Elements.{All-contains, All-head}
-use Rattle.bdb_format.specs.declared.metadata.BtreeMeta.{BtreeMeta}
-use Rattle.bdb_format.specs.declared.references.Sort.TheVariants.{Root}
-use Rattle.bdb_format.specs.Table.{first_row}
-use Rattle.bdb_format.specs.Page.{BtreeFields, Meta}
-use Rattle.bdb_format.specs.Flags.{btree_kind, counts_records, has_duplicates, is_fixed, is_sorted}
-use Rattle.bdb_format.specs.File.{File, page_at, type_in}
-use Rattle.bdb_format.specs.References.{fit_rows, has_type, root_types}
-use Rattle.bdb_format.specs.Chains.{value_of}
-use Rattle.bdb_format.specs.Leaves.{children_in, leaves}
-use Rattle.bdb_format.specs.Contents.{StoredPair, entries_in, pairs_of, tree_pairs}
-use Rattle.bdb_format.specs.ContentRows.{ascends, btree_contents, database_rows, has_wrong_count, has_wrong_record, has_wrong_separator, inner_in}
-use Rattle.bdb_format.specs.ContentRows.{inner_pages, is_out_of_order, is_wrong_at, neighbours, has_duplicate, has_unsorted, has_wrong_set}
-use Rattle.bdb_format.specs.ContentRows.{recno_contents}
-use Rattle.bdb_format.specs.Lists.{ListKey, list_of}
-use Rattle.bdb_format.specs.declared.kinds.Kind.TheVariants.{Btree, Recno}
-use Rattle.bdb_format.specs.ByPage.{holding}
-use Rattle.bdb_format.proofs.ListLemmas.{flat_map_twice, only_member}
-use Rattle.bdb_format.proofs.MemberLemmas.{first_member, none_pass, of_map}
-use Rattle.bdb_format.proofs.VerdictLemmas.{AllFail, none_holds}
-use Rattle.bdb_law_grove.specs.Part.{IsBranch, IsPart, entrance_asks, has_wrong_place}
-use Rattle.bdb_law_grove.proofs.GroveLemmas.{fits_asked}
-use Rattle.bdb_law_grove.proofs.SeveralLemmas.{one_at_most}
+use Rattle.bdb_places.specs.of_format.declared.metadata.BtreeMeta.{BtreeMeta}
+use Rattle.bdb_places.specs.of_format.declared.references.Sort.TheVariants.{Root}
+use Rattle.bdb_places.specs.of_format.Table.{first_row}
+use Rattle.bdb_places.specs.of_format.Page.{BtreeFields, Meta}
+use Rattle.bdb_places.specs.of_format.Flags.{btree_kind, counts_records, has_duplicates, is_fixed, is_sorted}
+use Rattle.bdb_places.specs.of_format.File.{File, page_at, type_in}
+use Rattle.bdb_places.specs.of_format.References.{fit_rows, has_type, root_types}
+use Rattle.bdb_places.specs.of_format.Chains.{value_of}
+use Rattle.bdb_places.specs.of_format.Leaves.{children_in, leaves}
+use Rattle.bdb_places.specs.of_format.Contents.{StoredPair, entries_in, pairs_of, tree_pairs}
+use Rattle.bdb_places.specs.of_format.ContentRows.{ascends, btree_contents, database_rows, has_wrong_count, has_wrong_record, has_wrong_separator, inner_in}
+use Rattle.bdb_places.specs.of_format.ContentRows.{inner_pages, is_out_of_order, is_wrong_at, neighbours, has_duplicate, has_unsorted, has_wrong_set}
+use Rattle.bdb_places.specs.of_format.ContentRows.{recno_contents}
+use Rattle.bdb_places.specs.of_format.Lists.{ListKey, list_of}
+use Rattle.bdb_places.specs.of_format.declared.kinds.Kind.TheVariants.{Btree, Recno}
+use Rattle.bdb_places.specs.of_format.ByPage.{holding}
+use Rattle.bdb_places.proofs.of_format.ListLemmas.{flat_map_twice, only_member}
+use Rattle.bdb_places.proofs.of_format.MemberLemmas.{first_member, none_pass, of_map}
+use Rattle.bdb_places.proofs.of_format.VerdictLemmas.{AllFail, none_holds}
+use Rattle.bdb_pack.specs.of_law_grove.Part.{IsBranch, IsPart, entrance_asks, has_wrong_place}
+use Rattle.bdb_pack.proofs.of_law_grove.GroveLemmas.{fits_asked}
+use Rattle.bdb_pack.proofs.of_law_grove.SeveralLemmas.{one_at_most}
 use Rattle.bdb_law_levels.specs.Contents.{AreLeaves, BeginsWith, Follow, entries_below, pairs_below}
 use Rattle.bdb_law_levels.specs.Links.{leaf_types}
 use Rattle.bdb_law_levels.specs.Nodes.{HasLeaves, IsTower, Node}

@@ -1,8 +1,8 @@
 -- A later file of a later file.
 use Rattle.std.proofs.Common.{◌≡◌, ℕ, Bool, true, arith, sym, subst, inl, inr}
-use Rattle.bdb_format.specs.Page.{Page}
-use Rattle.bdb_format.specs.File.{File}
-use Rattle.bdb_law_grove.specs.Growing.{IsLater, IsSamePage}
+use Rattle.bdb_places.specs.of_format.Page.{Page}
+use Rattle.bdb_places.specs.of_format.File.{File}
+use Rattle.bdb_pack.specs.of_law_grove.Growing.{IsLater, IsSamePage}
 
 -- what a page keeps twice, it keeps
 same_chain : (old middle new : Page) → IsSamePage old middle → IsSamePage middle new → IsSamePage old new

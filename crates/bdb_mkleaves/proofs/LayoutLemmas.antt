@@ -5,19 +5,19 @@ use Rattle.std.specs.List.{All, AllZip, Contains, flat_map, range_with_len}
 use Rattle.std.proofs.lemmas.Grind.{flat_map-append}
 use Rattle.std.proofs.lemmas.List.Elements.{All-contains, Contains-append_cases, Contains-append_left, Contains-append_right}
 use Rattle.std.proofs.lemmas.Simd.{map-map}
-use Rattle.bdb_format.specs.File.{File, file_of, page_bytes}
-use Rattle.bdb_format.specs.HeadOf.{head_of}
-use Rattle.bdb_format.specs.Numbers.{byte_at}
-use Rattle.bdb_format.specs.Page.{Content, Tree}
-use Rattle.bdb_format.specs.ContentRows.{is_wrong_set}
-use Rattle.bdb_format.specs.References.{has_type}
-use Rattle.bdb_format.specs.Reading.{entries_of as count_on}
-use Rattle.bdb_format.proofs.ListLemmas.{only_member}
-use Rattle.bdb_format.proofs.MemberLemmas.{no_member, of_flat_map, of_range}
-use Rattle.bdb_law_grove.specs.Growing.{IsCounted, IsLater}
-use Rattle.bdb_law_grove.specs.Part.{between}
-use Rattle.bdb_law_grove.proofs.ChainLemmas.{is_between}
-use Rattle.bdb_law_grove.proofs.AscendLemmas.{ascend_bounds}
+use Rattle.bdb_places.specs.of_format.File.{File, file_of, page_bytes}
+use Rattle.bdb_places.specs.of_format.HeadOf.{head_of}
+use Rattle.bdb_places.specs.of_format.Numbers.{byte_at}
+use Rattle.bdb_places.specs.of_format.Page.{Content, Tree}
+use Rattle.bdb_places.specs.of_format.ContentRows.{is_wrong_set}
+use Rattle.bdb_places.specs.of_format.References.{has_type}
+use Rattle.bdb_places.specs.of_format.Reading.{entries_of as count_on}
+use Rattle.bdb_places.proofs.of_format.ListLemmas.{only_member}
+use Rattle.bdb_places.proofs.of_format.MemberLemmas.{no_member, of_flat_map, of_range}
+use Rattle.bdb_pack.specs.of_law_grove.Growing.{IsCounted, IsLater}
+use Rattle.bdb_pack.specs.of_law_grove.Part.{between}
+use Rattle.bdb_pack.proofs.of_law_grove.ChainLemmas.{is_between}
+use Rattle.bdb_pack.proofs.of_law_grove.AscendLemmas.{ascend_bounds}
 use Rattle.bdb_law_levels.specs.declared.inner_type.InnerType.{InnerType}
 use Rattle.bdb_law_levels.specs.declared.inner_type.InnerType.TheVariants.{Keyed, Numbered}
 use Rattle.bdb_law_levels.specs.Nodes.{Node}

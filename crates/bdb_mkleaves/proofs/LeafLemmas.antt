@@ -4,17 +4,17 @@ use Rattle.std.proofs.Common.{subst, length-append}
 use Rattle.std.specs.List.{range_with_len, sum_by}
 use Rattle.std.proofs.lemmas.List.{get_or_push, length-replicate, same_lists}
 use Rattle.std.proofs.lemmas.List.FromFn.{get_or-map-range_with_len, length-map-range_with_len}
-use Rattle.bdb_format.specs.declared.kinds.Order.{Order}
-use Rattle.bdb_format.specs.declared.pages.Header.{Header}
-use Rattle.bdb_format.specs.HeadOf.{is_page_size}
-use Rattle.bdb_format.specs.Numbers.{byte_at, four_at, overwritten, spelled, two_at}
-use Rattle.bdb_format.specs.Page.{Listed}
-use Rattle.bdb_format.specs.Reading.{abstract_page, entries_of, header_of, index_end, leaf_item_at, listed, offset_of, page_type}
-use Rattle.bdb_format.specs.Rows.{item_row}
-use Rattle.bdb_format.specs.Spelling.{header_bytes}
-use Rattle.bdb_format.proofs.SpellingLemmas.{length-overwritten, length-spelled}
-use Rattle.bdb_format.proofs.SizeLemmas.{size_bounds}
-use Rattle.bdb_law_grove.proofs.GroveLemmas.{above}
+use Rattle.bdb_places.specs.of_format.declared.kinds.Order.{Order}
+use Rattle.bdb_places.specs.of_format.declared.pages.Header.{Header}
+use Rattle.bdb_places.specs.of_format.HeadOf.{is_page_size}
+use Rattle.bdb_places.specs.of_format.Numbers.{byte_at, four_at, overwritten, spelled, two_at}
+use Rattle.bdb_places.specs.of_format.Page.{Listed}
+use Rattle.bdb_places.specs.of_format.Reading.{abstract_page, entries_of, header_of, index_end, leaf_item_at, listed, offset_of, page_type}
+use Rattle.bdb_places.specs.of_format.Rows.{item_row}
+use Rattle.bdb_places.specs.of_format.Spelling.{header_bytes}
+use Rattle.bdb_places.proofs.of_format.SpellingLemmas.{length-overwritten, length-spelled}
+use Rattle.bdb_places.proofs.of_format.SizeLemmas.{size_bounds}
+use Rattle.bdb_pack.proofs.of_law_grove.GroveLemmas.{above}
 use Rattle.bdb_pack.specs.Built.{AreWhole, Built, bytes_of, with_page, with_zeros, written_over}
 use Rattle.bdb_pack.specs.Items.{takes_items}
 use Rattle.bdb_pack.specs.Placing.{IsBegun, begun_header, begun_page, empty_listed, empty_page, high_free_of}

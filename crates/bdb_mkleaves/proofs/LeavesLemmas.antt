@@ -3,7 +3,7 @@ use Rattle.std.proofs.Common.{◌≡◌, ℕ, ◌+◌, ◌<◌, ◌≤◌, Bool,
 use Rattle.std.proofs.Common.{inr, length-append, length-set, true≢false}
 use Rattle.std.specs.List.{Contains}
 use Rattle.std.proofs.lemmas.List.{get_or-set_other, get_or_append_left}
-use Rattle.bdb_format.proofs.MemberLemmas.{first_member, later_member, member_cases, no_member}
+use Rattle.bdb_places.proofs.of_format.MemberLemmas.{first_member, later_member, member_cases, no_member}
 use Rattle.bdb_pack.specs.Built.{Built, bytes_of, with_page, with_zeros}
 use Rattle.bdb_mkleaves.specs.LeafEntries.{Entry, HoldsEntries, HoldsEntriesOn, with_field, with_leaf}
 use Rattle.bdb_mkleaves.specs.Leaves.{AreSomeLeaves, HasRoomNow, IsOpened, KeepsOthers, LeavesFrom, first_of, last_of}

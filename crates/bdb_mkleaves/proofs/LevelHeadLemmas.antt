@@ -3,7 +3,7 @@ use Rattle.std.proofs.Common.{◌≡◌, ◌⊎◌, ℕ, ◌<◌, ◌≤◌, Lis
 use Rattle.std.specs.List.{Contains}
 use Rattle.std.proofs.lemmas.Bool.{cases_eq}
 use Rattle.std.proofs.lemmas.List.{get_or-set_other}
-use Rattle.bdb_format.proofs.MemberLemmas.{first_member, later_member, member_cases, no_member}
+use Rattle.bdb_places.proofs.of_format.MemberLemmas.{first_member, later_member, member_cases, no_member}
 use Rattle.bdb_pack.specs.Built.{AreWhole, Built, bytes_of}
 use Rattle.bdb_mkleaves.specs.Inner.{CountsFew, counting_two, raised}
 use Rattle.bdb_mkleaves.specs.Levels.{raising}

@@ -4,13 +4,13 @@ use Rattle.std.proofs.Common.{inl, inr, length-append}
 use Rattle.std.specs.List.{All, Contains, flat_map, range_with_len}
 use Rattle.std.proofs.lemmas.Bool.{cases_lt}
 use Rattle.bdb_pack.proofs.ImageLemmas.{page_so_far}
-use Rattle.bdb_format.specs.declared.pages.Header.{Header}
-use Rattle.bdb_format.specs.Page.{Content, Inline, Set, Chain, Tree, Unknown, Internal, Overflow, Page, RecnoInternal}
-use Rattle.bdb_format.specs.File.{File, header_in, page_at}
-use Rattle.bdb_format.specs.Reading.{abstract_page, header_of}
-use Rattle.bdb_format.specs.Rows.{page_code}
-use Rattle.bdb_format.proofs.MemberLemmas.{first_member, in_flat_map, later_member, member_cases, member_or_not, no_member}
-use Rattle.bdb_law_grove.specs.Growing.{IsSamePage}
+use Rattle.bdb_places.specs.of_format.declared.pages.Header.{Header}
+use Rattle.bdb_places.specs.of_format.Page.{Content, Inline, Set, Chain, Tree, Unknown, Internal, Overflow, Page, RecnoInternal}
+use Rattle.bdb_places.specs.of_format.File.{File, header_in, page_at}
+use Rattle.bdb_places.specs.of_format.Reading.{abstract_page, header_of}
+use Rattle.bdb_places.specs.of_format.Rows.{page_code}
+use Rattle.bdb_places.proofs.of_format.MemberLemmas.{first_member, in_flat_map, later_member, member_cases, member_or_not, no_member}
+use Rattle.bdb_pack.specs.of_law_grove.Growing.{IsSamePage}
 use Rattle.bdb_law_levels.specs.declared.inner_type.InnerType.{InnerType}
 use Rattle.bdb_law_levels.specs.declared.inner_type.InnerType.TheVariants.{Keyed, Numbered}
 use Rattle.bdb_law_levels.specs.Nodes.{AreOver, CountsTwo, IsOver, Node, no_node}

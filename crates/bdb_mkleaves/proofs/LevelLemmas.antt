@@ -8,7 +8,7 @@ use Rattle.std.proofs.lemmas.Grind.{flat_map-append}
 use Rattle.std.proofs.lemmas.List.{append-nil, get_or_default, get_or-set_other, get_or-set_same, get_or_append_left, get_or_push}
 use Rattle.std.proofs.lemmas.List.Elements.{Contains-append_cases}
 use Rattle.std.proofs.lemmas.List.Sums.{sum_by_push}
-use Rattle.bdb_format.proofs.MemberLemmas.{no_member}
+use Rattle.bdb_places.proofs.of_format.MemberLemmas.{no_member}
 use Rattle.bdb_law_levels.specs.declared.inner_type.InnerType.{InnerType}
 use Rattle.bdb_law_levels.specs.Nodes.{Node, no_node}
 use Rattle.bdb_pack.specs.Built.{AreWhole, Built, bytes_of}

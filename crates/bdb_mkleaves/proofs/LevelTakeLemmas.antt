@@ -5,21 +5,21 @@ use Rattle.std.specs.Option.{option_map}
 use Rattle.std.specs.List.{Contains}
 use Rattle.std.proofs.lemmas.Bool.{cases_eq, leb-false, leb-true}
 use Rattle.std.proofs.lemmas.List.{get_or-set_other, get_or_append_left, get_or_push, length-replicate}
-use Rattle.bdb_format.specs.declared.kinds.Order.{Order}
-use Rattle.bdb_format.specs.declared.pages.ItemFault.{ItemFault}
-use Rattle.bdb_format.specs.declared.pages.RecnoItem.{RecnoItem}
-use Rattle.bdb_format.specs.HeadOf.{is_page_size}
-use Rattle.bdb_format.specs.Numbers.{byte_at, pad4}
-use Rattle.bdb_format.specs.Page.{Content, Inline, Set, Chain, Tree, Unknown, InternalItem, Item, Listed}
-use Rattle.bdb_format.specs.Reading.{entries_of, index_end, leaf_item_at, page_type}
-use Rattle.bdb_format.specs.References.{no_item}
-use Rattle.bdb_format.specs.Rows.{item_code, item_row, leaf_rows}
-use Rattle.bdb_format.specs.Spelling.{header_bytes}
-use Rattle.bdb_format.specs.Table.{first_row}
-use Rattle.bdb_format.proofs.MemberLemmas.{first_member, member_cases, no_member}
-use Rattle.bdb_format.proofs.SpellingLemmas.{length-overwritten}
-use Rattle.bdb_format.proofs.LeafLemmas.{leaf_item_is}
-use Rattle.bdb_format.proofs.SizeLemmas.{size_bounds}
+use Rattle.bdb_places.specs.of_format.declared.kinds.Order.{Order}
+use Rattle.bdb_places.specs.of_format.declared.pages.ItemFault.{ItemFault}
+use Rattle.bdb_places.specs.of_format.declared.pages.RecnoItem.{RecnoItem}
+use Rattle.bdb_places.specs.of_format.HeadOf.{is_page_size}
+use Rattle.bdb_places.specs.of_format.Numbers.{byte_at, pad4}
+use Rattle.bdb_places.specs.of_format.Page.{Content, Inline, Set, Chain, Tree, Unknown, InternalItem, Item, Listed}
+use Rattle.bdb_places.specs.of_format.Reading.{entries_of, index_end, leaf_item_at, page_type}
+use Rattle.bdb_places.specs.of_format.References.{no_item}
+use Rattle.bdb_places.specs.of_format.Rows.{item_code, item_row, leaf_rows}
+use Rattle.bdb_places.specs.of_format.Spelling.{header_bytes}
+use Rattle.bdb_places.specs.of_format.Table.{first_row}
+use Rattle.bdb_places.proofs.of_format.MemberLemmas.{first_member, member_cases, no_member}
+use Rattle.bdb_places.proofs.of_format.SpellingLemmas.{length-overwritten}
+use Rattle.bdb_places.proofs.of_format.LeafLemmas.{leaf_item_is}
+use Rattle.bdb_places.proofs.of_format.SizeLemmas.{size_bounds}
 use Rattle.bdb_law_levels.specs.declared.inner_type.InnerType.{InnerType}
 use Rattle.bdb_law_levels.specs.declared.inner_type.InnerType.TheVariants.{Keyed, Numbered}
 use Rattle.bdb_law_levels.specs.Nodes.{Node, keyed_item, numbered_item}

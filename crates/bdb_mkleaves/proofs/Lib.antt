@@ -48,3 +48,6 @@ pub mod TopLemmas
 pub mod TowerLemmas
 pub mod TreeCountLemmas
 pub mod UnitLemmas
+pub use Rattle.bdb_pack.proofs.of_law_grove as of_law_grove
+pub use Rattle.bdb_pack.proofs.of_layout as of_layout
+pub use Rattle.bdb_pack.proofs as of_pack

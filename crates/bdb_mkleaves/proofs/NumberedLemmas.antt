@@ -6,16 +6,16 @@ use Rattle.std.specs.List.{All, AllZip, Contains, flat_map}
 use Rattle.std.proofs.lemmas.Bool.{cases_Bool, false_from_ne_true, or_left, or_right, or_cases}
 use Rattle.std.proofs.lemmas.List.{map-append}
 use Rattle.bdb_pack.proofs.ImageLemmas.{page_so_far}
-use Rattle.bdb_format.specs.File.{File, page_at}
-use Rattle.bdb_format.proofs.MemberLemmas.{no_member}
-use Rattle.bdb_law_grove.specs.Growing.{IsCounted, IsLater, IsSamePage}
-use Rattle.bdb_law_grove.specs.Leaves.{Ascend, ContentFits, content_pages}
-use Rattle.bdb_law_grove.specs.Part.{IsBranch, between}
-use Rattle.bdb_law_grove.proofs.BranchLemmas.{of_list}
-use Rattle.bdb_law_grove.proofs.ChainLemmas.{between_is, is_between, same_test}
-use Rattle.bdb_law_grove.proofs.LeafLemmas.{ascend_once}
-use Rattle.bdb_law_grove.proofs.SeveralLemmas.{count}
-use Rattle.bdb_law_grove.proofs.AscendLemmas.{ascend_strictly}
+use Rattle.bdb_places.specs.of_format.File.{File, page_at}
+use Rattle.bdb_places.proofs.of_format.MemberLemmas.{no_member}
+use Rattle.bdb_pack.specs.of_law_grove.Growing.{IsCounted, IsLater, IsSamePage}
+use Rattle.bdb_pack.specs.of_law_grove.Leaves.{Ascend, ContentFits, content_pages}
+use Rattle.bdb_pack.specs.of_law_grove.Part.{IsBranch, between}
+use Rattle.bdb_pack.proofs.of_law_grove.BranchLemmas.{of_list}
+use Rattle.bdb_pack.proofs.of_law_grove.ChainLemmas.{between_is, is_between, same_test}
+use Rattle.bdb_pack.proofs.of_law_grove.LeafLemmas.{ascend_once}
+use Rattle.bdb_pack.proofs.of_law_grove.SeveralLemmas.{count}
+use Rattle.bdb_pack.proofs.of_law_grove.AscendLemmas.{ascend_strictly}
 use Rattle.bdb_law_levels.specs.Nodes.{Node}
 use Rattle.bdb_law_levels.specs.Roots.{is_of}
 use Rattle.bdb_pack.specs.Built.{Built, file_so_far}

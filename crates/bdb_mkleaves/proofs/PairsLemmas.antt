@@ -7,11 +7,11 @@ use Rattle.std.proofs.lemmas.List.{append_assoc, get_or-append-add, map-append, 
 use Rattle.std.proofs.lemmas.List.Elements.{All-push}
 use Rattle.std.proofs.lemmas.List.Sums.{sum_by-append, sum_by-cons, sum_by-take-le, sum_by_push}
 use Rattle.std.proofs.lemmas.Grind.{flat_map-append}
-use Rattle.bdb_format.specs.declared.kinds.Order.{Order}
-use Rattle.bdb_format.specs.Page.{Content, Item}
-use Rattle.bdb_format.specs.Rows.{page_code}
-use Rattle.bdb_law_grove.specs.Part.{between}
-use Rattle.bdb_law_grove.proofs.ChainLemmas.{between_is, is_between}
+use Rattle.bdb_places.specs.of_format.declared.kinds.Order.{Order}
+use Rattle.bdb_places.specs.of_format.Page.{Content, Item}
+use Rattle.bdb_places.specs.of_format.Rows.{page_code}
+use Rattle.bdb_pack.specs.of_law_grove.Part.{between}
+use Rattle.bdb_pack.proofs.of_law_grove.ChainLemmas.{between_is, is_between}
 use Rattle.bdb_pack.specs.Built.{Built, bytes_of}
 use Rattle.bdb_mkleaves.specs.LeafEntries.{CanShareKey, Entry, HoldsEntriesOn, entry_cost, no_entry, own_entry, room_of, shared_entry, shared_key}
 use Rattle.bdb_mkleaves.specs.Leaves.{AreLeaves, AreSomeLeaves, last_of}

@@ -8,24 +8,24 @@ use Rattle.std.proofs.lemmas.List.{append-nil, append_assoc, map-append}
 use Rattle.std.proofs.lemmas.List.Elements.{All-append, All-cons, All-nil, All-push, Contains-append_cases, Contains-append_left}
 use Rattle.std.proofs.lemmas.List.Elements.{Contains-append_right}
 use Rattle.std.proofs.lemmas.Grind.{flat_map-append}
-use Rattle.bdb_format.specs.Page.{Content}
-use Rattle.bdb_format.specs.File.{File}
-use Rattle.bdb_format.specs.Rows.{page_code}
-use Rattle.bdb_format.proofs.ListLemmas.{only_member}
-use Rattle.bdb_format.proofs.MemberLemmas.{first_member, none_pass, none_passes}
-use Rattle.bdb_law_grove.specs.Growing.{IsLater}
-use Rattle.bdb_law_grove.specs.Leaves.{AscendIn, ContentFits, content_pages}
-use Rattle.bdb_law_grove.specs.Part.{IsBranch, between}
-use Rattle.bdb_law_grove.proofs.BranchLemmas.{branch_is_known, branches_stand_together, no_branch}
-use Rattle.bdb_law_grove.proofs.ChainLemmas.{between_is, is_between, same_test}
+use Rattle.bdb_places.specs.of_format.Page.{Content}
+use Rattle.bdb_places.specs.of_format.File.{File}
+use Rattle.bdb_places.specs.of_format.Rows.{page_code}
+use Rattle.bdb_places.proofs.of_format.ListLemmas.{only_member}
+use Rattle.bdb_places.proofs.of_format.MemberLemmas.{first_member, none_pass, none_passes}
+use Rattle.bdb_pack.specs.of_law_grove.Growing.{IsLater}
+use Rattle.bdb_pack.specs.of_law_grove.Leaves.{AscendIn, ContentFits, content_pages}
+use Rattle.bdb_pack.specs.of_law_grove.Part.{IsBranch, between}
+use Rattle.bdb_pack.proofs.of_law_grove.BranchLemmas.{branch_is_known, branches_stand_together, no_branch}
+use Rattle.bdb_pack.proofs.of_law_grove.ChainLemmas.{between_is, is_between, same_test}
 use Rattle.bdb_law_levels.specs.Roots.{key_heads}
 use Rattle.bdb_law_levels.specs.Roots.{is_of}
 use Rattle.bdb_pack.specs.Built.{Built, bytes_of, file_so_far}
 use Rattle.bdb_mkleaves.specs.Filled.{AllStand, AreFilled, IsUnitPut, StandOn, all_contents, rest_of, unit_contents}
 use Rattle.bdb_mkleaves.specs.Layout.{HasTreeOn}
 use Rattle.bdb_mkleaves.specs.LeafEntries.{Entry, HoldsEntriesOn, type_number}
-use Rattle.bdb_law_grove.proofs.BranchLemmas.{of_list}
-use Rattle.bdb_law_grove.proofs.AscendLemmas.{ascend_bounds, ascend_follow, ascend_on}
+use Rattle.bdb_pack.proofs.of_law_grove.BranchLemmas.{of_list}
+use Rattle.bdb_pack.proofs.of_law_grove.AscendLemmas.{ascend_bounds, ascend_follow, ascend_on}
 use Rattle.bdb_mkleaves.specs.Puts.{CountsOneFrom}
 use Rattle.bdb_mkleaves.specs.declared.leaf_type.LeafType.TheVariants.{Pairs, Records, SortedData}
 use Rattle.bdb_mkleaves.specs.Leaves.{AreLeaves, IsOpened, KeepsOthers}

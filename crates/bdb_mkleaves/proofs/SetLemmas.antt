@@ -5,13 +5,13 @@ use Rattle.std.specs.List.{flat_map, sum_by}
 use Rattle.std.proofs.lemmas.List.{append_assoc, map-append}
 use Rattle.std.proofs.lemmas.List.Elements.{Contains-append_right}
 use Rattle.std.proofs.lemmas.List.Sums.{sum_by_push}
-use Rattle.bdb_format.specs.Page.{Tree}
-use Rattle.bdb_format.specs.File.{File}
-use Rattle.bdb_format.specs.ContentRows.{is_wrong_set}
-use Rattle.bdb_format.proofs.MemberLemmas.{first_member}
-use Rattle.bdb_law_grove.specs.Growing.{IsCounted, IsLater}
-use Rattle.bdb_law_grove.specs.Part.{between}
-use Rattle.bdb_law_grove.proofs.ChainLemmas.{between_is}
+use Rattle.bdb_places.specs.of_format.Page.{Tree}
+use Rattle.bdb_places.specs.of_format.File.{File}
+use Rattle.bdb_places.specs.of_format.ContentRows.{is_wrong_set}
+use Rattle.bdb_places.proofs.of_format.MemberLemmas.{first_member}
+use Rattle.bdb_pack.specs.of_law_grove.Growing.{IsCounted, IsLater}
+use Rattle.bdb_pack.specs.of_law_grove.Part.{between}
+use Rattle.bdb_pack.proofs.of_law_grove.ChainLemmas.{between_is}
 use Rattle.bdb_pack.specs.Built.{Built, file_so_far}
 use Rattle.bdb_pack.proofs.ImageLemmas.{counted_so_far}
 use Rattle.bdb_mkleaves.specs.Filled.{AreFilled, AreSpreadOver, FilledNow, IsPushed, SpreadNow}

@@ -8,17 +8,17 @@ use Rattle.std.proofs.lemmas.Grind.{flat_map-append}
 use Rattle.std.proofs.lemmas.List.{append_assoc}
 use Rattle.std.proofs.lemmas.List.Elements.{All-append, All-cons, All-head, All-nil}
 use Rattle.std.proofs.lemmas.List.Sums.{sum_by-cons}
-use Rattle.bdb_format.specs.HeadOf.{is_page_size}
-use Rattle.bdb_format.specs.Page.{Content, Tree}
-use Rattle.bdb_format.specs.File.{File}
-use Rattle.bdb_format.specs.Rows.{page_code}
-use Rattle.bdb_format.proofs.SizeLemmas.{size_bounds}
-use Rattle.bdb_law_grove.specs.Growing.{IsCounted, IsLater}
-use Rattle.bdb_law_grove.specs.Leaves.{AscendIn, ContentFits, content_pages}
-use Rattle.bdb_law_grove.specs.Part.{IsBranch, between}
-use Rattle.bdb_law_grove.proofs.BranchLemmas.{branches_follow}
-use Rattle.bdb_law_grove.proofs.ChainLemmas.{between_is, is_between}
-use Rattle.bdb_law_grove.proofs.AscendLemmas.{ascend_bounds, ascend_follow}
+use Rattle.bdb_places.specs.of_format.HeadOf.{is_page_size}
+use Rattle.bdb_places.specs.of_format.Page.{Content, Tree}
+use Rattle.bdb_places.specs.of_format.File.{File}
+use Rattle.bdb_places.specs.of_format.Rows.{page_code}
+use Rattle.bdb_places.proofs.of_format.SizeLemmas.{size_bounds}
+use Rattle.bdb_pack.specs.of_law_grove.Growing.{IsCounted, IsLater}
+use Rattle.bdb_pack.specs.of_law_grove.Leaves.{AscendIn, ContentFits, content_pages}
+use Rattle.bdb_pack.specs.of_law_grove.Part.{IsBranch, between}
+use Rattle.bdb_pack.proofs.of_law_grove.BranchLemmas.{branches_follow}
+use Rattle.bdb_pack.proofs.of_law_grove.ChainLemmas.{between_is, is_between}
+use Rattle.bdb_pack.proofs.of_law_grove.AscendLemmas.{ascend_bounds, ascend_follow}
 use Rattle.bdb_law_levels.specs.Roots.{key_heads, pages_of as level_pages}
 use Rattle.bdb_pack.specs.Built.{AreWhole, Built, bytes_of, file_so_far}
 use Rattle.bdb_pack.proofs.ImageLemmas.{counted_so_far}

@@ -3,14 +3,14 @@ use Rattle.std.proofs.Common.{◌≡◌, ℕ, ◌+◌, ◌-◌, ◌<◌, ◌≤�
 use Rattle.std.specs.List.{flat_map}
 use Rattle.std.proofs.lemmas.Bool.{eq-eqb}
 use Rattle.std.proofs.lemmas.List.Elements.{All-cons, All-nil}
-use Rattle.bdb_format.specs.Page.{Content, Inline, Set, Chain, Tree, Unknown}
-use Rattle.bdb_format.specs.File.{File, header_in, page_at, type_in}
-use Rattle.bdb_format.specs.Chains.{joined, pieces_of, value_of}
-use Rattle.bdb_law_grove.specs.Growing.{IsCounted, IsRun}
-use Rattle.bdb_law_grove.specs.Leaves.{AscendIn, ChainFits, ContentFits, content_pages}
-use Rattle.bdb_law_grove.specs.Part.{IsBranch, between}
-use Rattle.bdb_law_grove.proofs.BranchLemmas.{branches_follow, chain_is_branch, no_branch}
-use Rattle.bdb_law_grove.proofs.AscendLemmas.{ascend_from}
+use Rattle.bdb_places.specs.of_format.Page.{Content, Inline, Set, Chain, Tree, Unknown}
+use Rattle.bdb_places.specs.of_format.File.{File, header_in, page_at, type_in}
+use Rattle.bdb_places.specs.of_format.Chains.{joined, pieces_of, value_of}
+use Rattle.bdb_pack.specs.of_law_grove.Growing.{IsCounted, IsRun}
+use Rattle.bdb_pack.specs.of_law_grove.Leaves.{AscendIn, ChainFits, ContentFits, content_pages}
+use Rattle.bdb_pack.specs.of_law_grove.Part.{IsBranch, between}
+use Rattle.bdb_pack.proofs.of_law_grove.BranchLemmas.{branches_follow, chain_is_branch, no_branch}
+use Rattle.bdb_pack.proofs.of_law_grove.AscendLemmas.{ascend_from}
 use Rattle.bdb_pack.specs.Stored.{AreFull, StandsIn}
 use Rattle.bdb_mkleaves.specs.Filled.{StandOn}
 use Rattle.bdb_mkleaves.specs.Puts.{ValueStands}

@@ -1,10 +1,10 @@
 -- What a pushed unit leaves as it was: the number of the first leaf, and the pages that are no leaves.
 use Rattle.std.proofs.Common.{Bool, ◌≡◌, ℕ, ◌+◌, ◌<◌, ◌≤◌, true, false, List, [], ◌∷◌, ◌++◌, length, arith, refl, sym, ◌∙◌, ap}
 use Rattle.std.proofs.lemmas.List.Elements.{Contains-append_right}
-use Rattle.bdb_format.specs.File.{File}
-use Rattle.bdb_format.proofs.MemberLemmas.{first_member}
-use Rattle.bdb_law_grove.specs.Growing.{IsLater}
-use Rattle.bdb_law_grove.proofs.AscendLemmas.{ascend_bounds}
+use Rattle.bdb_places.specs.of_format.File.{File}
+use Rattle.bdb_places.proofs.of_format.MemberLemmas.{first_member}
+use Rattle.bdb_pack.specs.of_law_grove.Growing.{IsLater}
+use Rattle.bdb_pack.proofs.of_law_grove.AscendLemmas.{ascend_bounds}
 use Rattle.bdb_law_levels.specs.Roots.{is_of}
 use Rattle.bdb_pack.specs.Built.{Built, file_so_far}
 use Rattle.bdb_mkleaves.specs.Filled.{AreFilled, rest_of}

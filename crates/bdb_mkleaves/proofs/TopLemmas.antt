@@ -4,10 +4,10 @@ use Rattle.std.proofs.Common.{arith, refl, sym, ◌∙◌, ap, subst, inl, inr, 
 use Rattle.std.specs.List.{AllZip, Contains, flat_map, range_with_len}
 use Rattle.std.proofs.lemmas.List.{append-nil, get_or-take}
 use Rattle.bdb_pack.proofs.ImageLemmas.{page_so_far}
-use Rattle.bdb_format.specs.File.{header_in, page_at}
-use Rattle.bdb_format.specs.Reading.{abstract_page}
-use Rattle.bdb_format.proofs.MemberLemmas.{in_flat_map}
-use Rattle.bdb_law_grove.specs.Growing.{IsLater, IsSamePage}
+use Rattle.bdb_places.specs.of_format.File.{header_in, page_at}
+use Rattle.bdb_places.specs.of_format.Reading.{abstract_page}
+use Rattle.bdb_places.proofs.of_format.MemberLemmas.{in_flat_map}
+use Rattle.bdb_pack.specs.of_law_grove.Growing.{IsLater, IsSamePage}
 use Rattle.bdb_law_levels.specs.declared.inner_type.InnerType.{InnerType}
 use Rattle.bdb_law_levels.specs.Nodes.{AreOver, IsOver, Node}
 use Rattle.bdb_pack.specs.Built.{Built, file_so_far, without_last}

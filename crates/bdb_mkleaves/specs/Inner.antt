@@ -2,15 +2,15 @@
 -- Source: docs/FORMAT.md, "Internal items".
 use Rattle.std.specs.Prelude.{◌≡◌, ℕ, ◌+◌, ◌-◌, ◌<◌, ◌≤◌, false, List, [], ◌∷◌, length, map, None}
 use Rattle.std.specs.List.{All, sum_by}
-use Rattle.bdb_format.specs.declared.kinds.Order.{Order}
-use Rattle.bdb_format.specs.declared.pages.Header.{Header}
-use Rattle.bdb_format.specs.declared.pages.RecnoItem.{RecnoItem}
-use Rattle.bdb_format.specs.Numbers.{byte_at, four_at, overwritten, pad4, spelled}
-use Rattle.bdb_format.specs.Page.{Content, Inline, Set, Chain, Tree, Unknown, Internal, InternalItem, Listed, Page, RecnoInternal}
-use Rattle.bdb_format.specs.File.{File, page_at}
-use Rattle.bdb_format.specs.Reading.{abstract_page, entries_of, is_deleted, offset_of}
-use Rattle.bdb_format.specs.Rows.{page_code}
-use Rattle.bdb_law_grove.specs.Growing.{IsSamePage}
+use Rattle.bdb_places.specs.of_format.declared.kinds.Order.{Order}
+use Rattle.bdb_places.specs.of_format.declared.pages.Header.{Header}
+use Rattle.bdb_places.specs.of_format.declared.pages.RecnoItem.{RecnoItem}
+use Rattle.bdb_places.specs.of_format.Numbers.{byte_at, four_at, overwritten, pad4, spelled}
+use Rattle.bdb_places.specs.of_format.Page.{Content, Inline, Set, Chain, Tree, Unknown, Internal, InternalItem, Listed, Page, RecnoInternal}
+use Rattle.bdb_places.specs.of_format.File.{File, page_at}
+use Rattle.bdb_places.specs.of_format.Reading.{abstract_page, entries_of, is_deleted, offset_of}
+use Rattle.bdb_places.specs.of_format.Rows.{page_code}
+use Rattle.bdb_pack.specs.of_law_grove.Growing.{IsSamePage}
 use Rattle.bdb_law_levels.specs.declared.inner_type.InnerType.{InnerType}
 use Rattle.bdb_law_levels.specs.declared.inner_type.InnerType.TheVariants.{Keyed, Numbered}
 use Rattle.bdb_law_levels.specs.Nodes.{CountsTwo, HasItems, Node, keyed_item, keyed_items, numbered_item}

@@ -2,18 +2,18 @@
 -- Source: docs/FORMAT.md, "Built trees", "References" and "Stage 3, references" to "Stage 8, contents".
 use Rattle.std.specs.Prelude.{◌≡◌, ◌⊎◌, ℕ, ◌/◌, ◌<◌, ◌≤◌, ◌==◌, ◌||◌, if◌then◌else◌, Bool, true, false, List, [], ◌∷◌, ◌++◌, length, map, Some}
 use Rattle.std.specs.List.{All, AllZip, Contains, filter, flat_map, list_any, sum_by}
-use Rattle.bdb_format.specs.declared.metadata.BtreeMeta.{BtreeMeta}
-use Rattle.bdb_format.specs.declared.metadata.FileKind.TheVariants.{Queue}
-use Rattle.bdb_format.specs.declared.references.Sort.{Sort}
-use Rattle.bdb_format.specs.Page.{BtreeFields, Content, DupLeaf, Inline, Item, Leaf, Page, RecnoLeaf, Tree}
-use Rattle.bdb_format.specs.Flags.{btree_kind, counts_records, has_duplicates, is_fixed, is_recno, is_sorted}
-use Rattle.bdb_format.specs.File.{File, header_in, page_at}
-use Rattle.bdb_format.specs.References.{has_type}
-use Rattle.bdb_format.specs.Leaves.{first_or_zero, leaves}
-use Rattle.bdb_format.specs.Contents.{data_of}
-use Rattle.bdb_format.specs.ContentRows.{ascends, is_wrong_set}
-use Rattle.bdb_law_grove.specs.Part.{IsBranch, IsPart, has_wrong_place}
-use Rattle.bdb_law_grove.specs.Leaves.{Ascend, ContentFits, FilledLeaf, SetFits, pages_held}
+use Rattle.bdb_places.specs.of_format.declared.metadata.BtreeMeta.{BtreeMeta}
+use Rattle.bdb_places.specs.of_format.declared.metadata.FileKind.TheVariants.{Queue}
+use Rattle.bdb_places.specs.of_format.declared.references.Sort.{Sort}
+use Rattle.bdb_places.specs.of_format.Page.{BtreeFields, Content, DupLeaf, Inline, Item, Leaf, Page, RecnoLeaf, Tree}
+use Rattle.bdb_places.specs.of_format.Flags.{btree_kind, counts_records, has_duplicates, is_fixed, is_recno, is_sorted}
+use Rattle.bdb_places.specs.of_format.File.{File, header_in, page_at}
+use Rattle.bdb_places.specs.of_format.References.{has_type}
+use Rattle.bdb_places.specs.of_format.Leaves.{first_or_zero, leaves}
+use Rattle.bdb_places.specs.of_format.Contents.{data_of}
+use Rattle.bdb_places.specs.of_format.ContentRows.{ascends, is_wrong_set}
+use Rattle.bdb_pack.specs.of_law_grove.Part.{IsBranch, IsPart, has_wrong_place}
+use Rattle.bdb_pack.specs.of_law_grove.Leaves.{Ascend, ContentFits, FilledLeaf, SetFits, pages_held}
 use Rattle.bdb_law_levels.specs.Links.{leaf_types}
 use Rattle.bdb_law_levels.specs.Nodes.{IsTower, Node}
 use Rattle.bdb_law_levels.specs.Roots.{is_of, pages_of as level_pages}

@@ -18,3 +18,7 @@ pub mod Sets
 pub mod Spread
 pub mod Tower
 pub mod Units
+pub use Rattle.bdb_pack.specs.of_law_grove as of_law_grove
+pub use Rattle.bdb_law_levels.specs as of_law_levels
+pub use Rattle.bdb_pack.specs.of_layout as of_layout
+pub use Rattle.bdb_pack.specs as of_pack

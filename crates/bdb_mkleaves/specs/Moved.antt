@@ -1,7 +1,7 @@
 -- The first leaf is moved behind all pages, so that the root of its tree may stand on its page. Source: docs/FORMAT.md, "Built trees".
 use Rattle.std.specs.Prelude.{◌≡◌, ℕ, ◌+◌, ◌<◌, List, [], ◌∷◌, ◌++◌, drop, length, replicate, set}
 use Rattle.std.specs.List.{Contains}
-use Rattle.bdb_law_grove.specs.Leaves.{Ascend}
+use Rattle.bdb_pack.specs.of_law_grove.Leaves.{Ascend}
 use Rattle.bdb_pack.specs.Built.{AreWhole, Built, bytes_of}
 use Rattle.bdb_mkleaves.specs.LeafEntries.{Entry, HoldsEntriesOn, with_field}
 use Rattle.bdb_mkleaves.specs.Leaves.{AreLeaves, KeepsOthers, first_of}

@@ -1,15 +1,15 @@
 -- What a tree is built of: units, each of which stands on one leaf. Source: docs/FORMAT.md, "Built trees".
 use Rattle.std.specs.Prelude.{ℕ, ◌+◌, ◌-◌, ◌/◌, ◌<◌, ◌≤◌, nat_le, nat_lt, ◌&&◌, not, if◌then◌else◌, Bool, false, List, [], ◌∷◌, length, map}
 use Rattle.std.specs.List.{enumerate_from, filter, flat_map, sum_by}
-use Rattle.bdb_format.specs.declared.kinds.Kind.{Kind}
-use Rattle.bdb_format.specs.declared.kinds.Kind.TheVariants.{Btree, Recno, Hash, Queue}
-use Rattle.bdb_format.specs.Numbers.{pad4}
-use Rattle.bdb_format.specs.Page.{Item}
-use Rattle.bdb_format.specs.File.{File, page_at}
-use Rattle.bdb_format.specs.Chains.{value_of}
-use Rattle.bdb_format.specs.Contents.{StoredPair, data_of, entries_in, pairs_of}
-use Rattle.bdb_format.specs.ContentRows.{groups}
-use Rattle.bdb_format.specs.Lists.{BytesKey, ListKey, NumberKey}
+use Rattle.bdb_places.specs.of_format.declared.kinds.Kind.{Kind}
+use Rattle.bdb_places.specs.of_format.declared.kinds.Kind.TheVariants.{Btree, Recno, Hash, Queue}
+use Rattle.bdb_places.specs.of_format.Numbers.{pad4}
+use Rattle.bdb_places.specs.of_format.Page.{Item}
+use Rattle.bdb_places.specs.of_format.File.{File, page_at}
+use Rattle.bdb_places.specs.of_format.Chains.{value_of}
+use Rattle.bdb_places.specs.of_format.Contents.{StoredPair, data_of, entries_in, pairs_of}
+use Rattle.bdb_places.specs.of_format.ContentRows.{groups}
+use Rattle.bdb_places.specs.of_format.Lists.{BytesKey, ListKey, NumberKey}
 
 -- a key with all its data, or a record and whether it's deleted
 pub data TreeUnit : Type 0 where

@@ -1,7 +1,7 @@
 ghost use Rattle.std.specs.Prelude.{ℕ, ◌≡◌, ◌<◌, ◌^◌, ◌++◌, ◌∷◌, [], IfOk, IsTrue, List, length};
-ghost use Rattle.bdb_format.specs.HeadOf.{is_page_size};
-ghost use Rattle.bdb_format.specs.Spelling.{leaf_bytes};
-ghost use Rattle.bdb_layout.specs.Seen.{leaf_item_seen};
+ghost use Rattle.bdb_places.specs.of_format.HeadOf.{is_page_size};
+ghost use Rattle.bdb_places.specs.of_format.Spelling.{leaf_bytes};
+ghost use Rattle.bdb_pack.specs.of_layout.Seen.{leaf_item_seen};
 ghost use Rattle.bdb_pack.specs.Built.{AreWhole, bytes_of, with_page};
 ghost use Rattle.bdb_pack.specs.OnPages.{IsBegunOn, with_item_on};
 ghost use Rattle.bdb_pack.specs.Placing.{page_and_shared};
@@ -11,9 +11,9 @@ ghost use Rattle.bdb_mkleaves.specs.declared.leaf_type.LeafType.TheVariants.{Pai
 
 use crate::LeafType;
 use crate::leaves::MAX_PAGES;
-use bdb_format::Header;
-use bdb_layout::{LeafItem, put_u32};
 use bdb_pack::Pages;
+use bdb_pack::bdb_layout::{LeafItem, put_u32};
+use bdb_places::bdb_format::Header;
 use std::alloc::AllocError;
 
 /// Adds a leaf without entries behind all pages, where a number is left for it, and answers that. `previous` is the leaf before it, 0 where it is

@@ -1,7 +1,7 @@
 ghost use Rattle.std.specs.Prelude.{ℕ, ◌≡◌, ◌<◌, ◌++◌, ◌∷◌, [], IfOk, IsTrue, List, length};
-ghost use Rattle.bdb_format.specs.HeadOf.{is_page_size};
-ghost use Rattle.bdb_format.specs.Spelling.{internal_bytes, recno_bytes};
-ghost use Rattle.bdb_layout.specs.Seen.{internal_item_seen};
+ghost use Rattle.bdb_places.specs.of_format.HeadOf.{is_page_size};
+ghost use Rattle.bdb_places.specs.of_format.Spelling.{internal_bytes, recno_bytes};
+ghost use Rattle.bdb_pack.specs.of_layout.Seen.{internal_item_seen};
 ghost use Rattle.bdb_law_levels.specs.Nodes.{Node, keyed_item, numbered_item};
 ghost use Rattle.bdb_law_levels.specs.declared.inner_type.InnerType.TheVariants.{Keyed, Numbered};
 ghost use Rattle.bdb_pack.specs.Built.{AreWhole};
@@ -10,10 +10,10 @@ ghost use Rattle.bdb_pack.specs.OnPages.{with_item_on};
 ghost use Rattle.bdb_mkleaves.specs.Inner.{CanTakeChild, HoldsChildrenOn, added_key, inner_number, raised, with_inner};
 
 use crate::leaves::MAX_PAGES;
-use bdb_format::{Header, RecnoItem};
 use bdb_law_levels::InnerType;
-use bdb_layout::{InternalItem, put_u16};
 use bdb_pack::Pages;
+use bdb_pack::bdb_layout::{InternalItem, put_u16};
+use bdb_places::bdb_format::{Header, RecnoItem};
 use std::alloc::AllocError;
 
 // The type byte of an internal page.

@@ -1,6 +1,6 @@
 ghost use Rattle.std.specs.Prelude.{◌≡◌, ◌+◌, ◌-◌, ◌*◌, ◌/◌, ◌≤◌, ◌<◌, ◌^◌, [], IfOk, IsTrue, length};
-ghost use Rattle.bdb_format.specs.HeadOf.{is_page_size};
-ghost use Rattle.bdb_layout.specs.Seen.{leaf_item_seen};
+ghost use Rattle.bdb_places.specs.of_format.HeadOf.{is_page_size};
+ghost use Rattle.bdb_pack.specs.of_layout.Seen.{leaf_item_seen};
 ghost use Rattle.bdb_pack.specs.Built.{AreWhole, bytes_of};
 ghost use Rattle.bdb_mkleaves.specs.LeafEntries.{CanShareKey, CanTakeEntry, own_entry, room_of, shared_key};
 ghost use Rattle.bdb_mkleaves.specs.Filled.{AreFilled, AreSomeFilled};
@@ -11,7 +11,7 @@ ghost use Rattle.bdb_mkleaves.specs.declared.leaf_type.LeafType.TheVariants.{Pai
 
 use crate::LeafType;
 use crate::entries::{add_leaf, append_item, append_shared_key, set_next};
-use bdb_layout::LeafItem;
+use bdb_pack::bdb_layout::LeafItem;
 use bdb_pack::{Pages, Stored, push_value};
 use std::alloc::{AllocError, Global};
 

@@ -1,7 +1,7 @@
 ghost use Rattle.std.specs.Prelude.{ℕ, ◌≡◌, ◌<◌, ◌∷◌, [], IfOk, IsTrue, List, length};
-ghost use Rattle.bdb_format.specs.HeadOf.{is_page_size};
-ghost use Rattle.bdb_format.specs.Page.{Content};
-ghost use Rattle.bdb_layout.specs.Seen.{key_seen};
+ghost use Rattle.bdb_places.specs.of_format.HeadOf.{is_page_size};
+ghost use Rattle.bdb_places.specs.of_format.Page.{Content};
+ghost use Rattle.bdb_pack.specs.of_layout.Seen.{key_seen};
 ghost use Rattle.bdb_law_levels.specs.Nodes.{Node};
 ghost use Rattle.bdb_law_levels.specs.declared.inner_type.InnerType.TheVariants.{Keyed, Numbered};
 ghost use Rattle.bdb_pack.specs.Built.{AreWhole};
@@ -9,10 +9,10 @@ ghost use Rattle.bdb_mkleaves.specs.Levels.{AnswersTo, AreChildren, BeginsWithKe
 ghost use Rattle.bdb_mkleaves.specs.Levels.{stored_heads, stored_key};
 
 use crate::inner::{add_inner, append_child, append_count, raise_count};
-use bdb_format::RecnoItem;
 use bdb_law_levels::InnerType;
-use bdb_layout::{InternalItem, InternalKey, LeafItem, known_leaf_item};
+use bdb_pack::bdb_layout::{InternalItem, InternalKey, LeafItem, known_leaf_item};
 use bdb_pack::{Pages, Stored};
+use bdb_places::bdb_format::RecnoItem;
 use std::alloc::{AllocError, Global};
 
 /// A page of a level, and what is below it.

@@ -16,6 +16,8 @@ mod sets;
 mod tower;
 mod units;
 
+pub use bdb_pack;
+pub use bdb_pack::bdb_layout;
 pub use leaf_type::LeafType;
 pub use leaves::Leaves;
 pub use sets::build_set;

@@ -1,5 +1,5 @@
 ghost use Rattle.std.specs.Prelude.{◌≡◌, ◌<◌, ◌≤◌, IfOk, IsTrue, length, replicate};
-ghost use Rattle.bdb_format.specs.HeadOf.{is_page_size};
+ghost use Rattle.bdb_places.specs.of_format.HeadOf.{is_page_size};
 ghost use Rattle.bdb_pack.specs.Built.{AreWhole, bytes_of, with_page};
 ghost use Rattle.bdb_mkleaves.specs.LeafEntries.{with_field};
 ghost use Rattle.bdb_mkleaves.specs.Leaves.{AreSomeLeaves};
@@ -7,8 +7,8 @@ ghost use Rattle.bdb_mkleaves.specs.Moved.{IsFirstMoved, IsMoved, first_leaf, se
 
 use crate::entries::set_previous;
 use crate::leaves::{Leaves, MAX_PAGES};
-use bdb_layout::put_u32;
 use bdb_pack::Pages;
+use bdb_pack::bdb_layout::put_u32;
 use std::alloc::AllocError;
 
 /// Writes the number of a page.

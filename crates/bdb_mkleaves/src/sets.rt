@@ -1,6 +1,6 @@
 ghost use Rattle.std.specs.Prelude.{◌≡◌, ◌≢◌, ◌≤◌, ◌<◌, ◌+◌, true, IfOk, IsTrue, length};
 ghost use Rattle.std.specs.List.{All};
-ghost use Rattle.bdb_format.specs.HeadOf.{is_page_size};
+ghost use Rattle.bdb_places.specs.of_format.HeadOf.{is_page_size};
 ghost use Rattle.bdb_pack.specs.Built.{bytes_of};
 ghost use Rattle.bdb_places.specs.Places.{values_seen};
 ghost use Rattle.bdb_mkleaves.specs.Filled.{AreSomeFilled};
@@ -13,8 +13,8 @@ ghost use Rattle.bdb_mkleaves.specs.declared.leaf_type.LeafType.TheVariants.{Pai
 use crate::LeafType;
 use crate::leaves::Leaves;
 use crate::units::value_cost;
-use bdb_layout::LeafItem;
 use bdb_pack::Pages;
+use bdb_pack::bdb_layout::LeafItem;
 use bdb_places::Values;
 use std::alloc::{AllocError, Global};
 

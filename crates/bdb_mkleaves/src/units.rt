@@ -1,6 +1,6 @@
 ghost use Rattle.std.specs.Prelude.{◌≡◌, ◌≢◌, ◌≤◌, ◌∷◌, [], false, IfOk, IsTrue, length};
 ghost use Rattle.std.specs.List.{All};
-ghost use Rattle.bdb_format.specs.HeadOf.{is_page_size};
+ghost use Rattle.bdb_places.specs.of_format.HeadOf.{is_page_size};
 ghost use Rattle.bdb_places.specs.Places.{values_seen};
 ghost use Rattle.bdb_mkleaves.specs.Filled.{AreSomeFilled, IsPushed};
 ghost use Rattle.bdb_mkleaves.specs.Runs.{IsShort, more_cost};

@@ -1,16 +1,16 @@
 -- The file of a queue, as a caller of `Pages` makes it: the queue is built behind a zero page, and its metadata written over that.
 use Rattle.std.proofs.Common.{◌≡◌, ℕ, ◌-◌, ◌^◌, ◌<◌, ◌≤◌, true, List, [], length}
 use Rattle.std.proofs.Common.{arith, sym, ◌∙◌, ap, subst}
-use Rattle.bdb_format.specs.declared.metadata.QueueMeta.{QueueMeta}
-use Rattle.bdb_format.specs.declared.settings.Settings.{Settings}
-use Rattle.bdb_format.specs.HeadOf.{is_page_size}
-use Rattle.bdb_format.specs.Reading.{is_zero, queue_fields}
-use Rattle.bdb_format.specs.Spelling.{queue_bytes}
-use Rattle.bdb_format.proofs.SizeLemmas.{size_bounds}
+use Rattle.bdb_text_format.specs.of_format.declared.metadata.QueueMeta.{QueueMeta}
+use Rattle.bdb_text_format.specs.of_format.declared.settings.Settings.{Settings}
+use Rattle.bdb_text_format.specs.of_format.HeadOf.{is_page_size}
+use Rattle.bdb_text_format.specs.of_format.Reading.{is_zero, queue_fields}
+use Rattle.bdb_text_format.specs.of_format.Spelling.{queue_bytes}
+use Rattle.bdb_text_format.proofs.of_format.SizeLemmas.{size_bounds}
 use Rattle.bdb_text_format.specs.declared.pairs.Pair.{Pair}
-use Rattle.bdb_pack.specs.Built.{AreWhole, Built, bytes_of, joined_pages, with_zeros, written_over}
-use Rattle.bdb_pack.proofs.AddedLemmas.{added_zero}
-use Rattle.bdb_pack.proofs.CutLemmas.{written_whole}
+use Rattle.bdb_law_join.specs.of_pack.Built.{AreWhole, Built, bytes_of, joined_pages, with_zeros, written_over}
+use Rattle.bdb_law_join.proofs.of_pack.AddedLemmas.{added_zero}
+use Rattle.bdb_law_join.proofs.of_pack.CutLemmas.{written_whole}
 use Rattle.bdb_mkqueue.specs.Building.{IsQueueBuilt, KeepsFirst}
 use Rattle.bdb_mkqueue.specs.Layout.{queue_meta}
 use Rattle.bdb_mkqueue.specs.Written.{IsSoundQueueOf, IsWrittenQueue}

@@ -8,22 +8,22 @@ use Rattle.std.proofs.lemmas.Bool.{cases_Bool, cases_eq, cases_lt, le-leb, lt-lt
 use Rattle.std.proofs.lemmas.Grind.{flat_map-append}
 use Rattle.std.proofs.lemmas.List.{append-nil}
 use Rattle.std.proofs.lemmas.List.FromFn.{get_or-map-range_with_len, length-map-range_with_len}
-use Rattle.bdb_format.specs.declared.kinds.Order.{Order}
-use Rattle.bdb_format.specs.declared.metadata.QueueMeta.{QueueMeta}
-use Rattle.bdb_format.specs.Numbers.{has_bit, pad4}
-use Rattle.bdb_format.specs.Page.{QueueFields}
-use Rattle.bdb_format.specs.Reading.{abstract_page}
-use Rattle.bdb_format.specs.File.{File, page_at}
-use Rattle.bdb_format.specs.Lists.{ListKey, NumberKey, is_record, list_of, listed_slot, page_records, queue_list, record_number, slot_at}
-use Rattle.bdb_format.specs.Spelling.{zeros}
-use Rattle.bdb_format.proofs.ListLemmas.{range_more, range_parts}
-use Rattle.bdb_format.proofs.SpellingLemmas.{byte_at-in, slice_range-in}
+use Rattle.bdb_text_format.specs.of_format.declared.kinds.Order.{Order}
+use Rattle.bdb_text_format.specs.of_format.declared.metadata.QueueMeta.{QueueMeta}
+use Rattle.bdb_text_format.specs.of_format.Numbers.{has_bit, pad4}
+use Rattle.bdb_text_format.specs.of_format.Page.{QueueFields}
+use Rattle.bdb_text_format.specs.of_format.Reading.{abstract_page}
+use Rattle.bdb_text_format.specs.of_format.File.{File, page_at}
+use Rattle.bdb_text_format.specs.of_format.Lists.{ListKey, NumberKey, is_record, list_of, listed_slot, page_records, queue_list, record_number, slot_at}
+use Rattle.bdb_text_format.specs.of_format.Spelling.{zeros}
+use Rattle.bdb_text_format.proofs.of_format.ListLemmas.{range_more, range_parts}
+use Rattle.bdb_text_format.proofs.of_format.SpellingLemmas.{byte_at-in, slice_range-in}
 use Rattle.bdb_text_format.specs.Pairs.{AscendFrom, listed, listed_key, number_of}
 use Rattle.bdb_text_format.specs.declared.pairs.Pair.{Pair}
 use Rattle.bdb_text_format.specs.declared.pairs.Key.{Key}
 use Rattle.bdb_text_format.specs.declared.pairs.Key.TheVariants.{Bytes, Number}
-use Rattle.bdb_pack.specs.Built.{Built}
-use Rattle.bdb_pack.proofs.CutLemmas.{suc-times}
+use Rattle.bdb_law_join.specs.of_pack.Built.{Built}
+use Rattle.bdb_law_join.proofs.of_pack.CutLemmas.{suc-times}
 use Rattle.bdb_mkqueue.specs.Building.{HasPages, HasRoom, IsQueueOn}
 use Rattle.bdb_mkqueue.specs.Layout.{page_of, queue_page, queue_size, record_of, records_page, slot_bytes, slot_of, slots_of}
 use Rattle.bdb_mkqueue.specs.Lists.{first_number, next_number}

@@ -8,19 +8,19 @@ use Rattle.std.proofs.Math.Seq.{drop-append-add, drop-append_seam, take-append-a
 use Rattle.std.proofs.lemmas.Bool.{eq-eqb}
 use Rattle.std.proofs.lemmas.List.{length-replicate, length-set, replicate-append-replicate}
 use Rattle.std.proofs.lemmas.List.Folds.{list_all_at}
-use Rattle.bdb_format.specs.declared.kinds.Order.{Order}
-use Rattle.bdb_format.specs.declared.pages.Header.{Header}
-use Rattle.bdb_format.specs.Numbers.{byte_at, four_at, overwritten, pad4}
-use Rattle.bdb_format.specs.Page.{Queue, Zero}
-use Rattle.bdb_format.specs.Reading.{abstract_page, header_of, is_zero, page_type}
-use Rattle.bdb_format.specs.Rows.{identity_rows, is_queue_type, queue_code}
-use Rattle.bdb_format.specs.Spelling.{header_bytes, zeros}
-use Rattle.bdb_format.specs.Table.{first_row}
-use Rattle.bdb_format.proofs.GraphLemmas.{typed_page, zero_page}
-use Rattle.bdb_image.proofs.CodeLemmas.{code_by}
-use Rattle.bdb_pack.proofs.AddedLemmas.{zeros_are}
-use Rattle.bdb_pack.proofs.CutLemmas.{suc-times}
-use Rattle.bdb_pack.proofs.HeaderLemmas.{header_read, length-header}
+use Rattle.bdb_text_format.specs.of_format.declared.kinds.Order.{Order}
+use Rattle.bdb_text_format.specs.of_format.declared.pages.Header.{Header}
+use Rattle.bdb_text_format.specs.of_format.Numbers.{byte_at, four_at, overwritten, pad4}
+use Rattle.bdb_text_format.specs.of_format.Page.{Queue, Zero}
+use Rattle.bdb_text_format.specs.of_format.Reading.{abstract_page, header_of, is_zero, page_type}
+use Rattle.bdb_text_format.specs.of_format.Rows.{identity_rows, is_queue_type, queue_code}
+use Rattle.bdb_text_format.specs.of_format.Spelling.{header_bytes, zeros}
+use Rattle.bdb_text_format.specs.of_format.Table.{first_row}
+use Rattle.bdb_text_format.proofs.of_format.GraphLemmas.{typed_page, zero_page}
+use Rattle.bdb_law_join.proofs.of_image.CodeLemmas.{code_by}
+use Rattle.bdb_law_join.proofs.of_pack.AddedLemmas.{zeros_are}
+use Rattle.bdb_law_join.proofs.of_pack.CutLemmas.{suc-times}
+use Rattle.bdb_law_join.proofs.of_pack.HeaderLemmas.{header_read, length-header}
 use Rattle.bdb_mkqueue.specs.Layout.{queue_page, records_header, records_page, slot_bytes}
 use Rattle.bdb_law_join.proofs.HeadLemmas.{none_by}
 

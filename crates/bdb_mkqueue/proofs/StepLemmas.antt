@@ -10,17 +10,17 @@ use Rattle.std.proofs.lemmas.List.{get_or-append_right, get_or-replicate, get_or
 use Rattle.std.proofs.lemmas.List.{length-replicate, length-set, take-append-drop, take_more}
 use Rattle.std.proofs.lemmas.List.Elements.{All-tail, All-take}
 use Rattle.std.proofs.lemmas.List.FromFn.{get_or-map-range_with_len, length-map-range_with_len}
-use Rattle.bdb_format.specs.declared.kinds.Order.{Order}
-use Rattle.bdb_format.specs.declared.metadata.QueueMeta.{QueueMeta}
-use Rattle.bdb_format.specs.Numbers.{overwritten, pad4}
-use Rattle.bdb_format.specs.Spelling.{header_bytes, zeros}
-use Rattle.bdb_format.proofs.SpellingLemmas.{length-overwritten}
+use Rattle.bdb_text_format.specs.of_format.declared.kinds.Order.{Order}
+use Rattle.bdb_text_format.specs.of_format.declared.metadata.QueueMeta.{QueueMeta}
+use Rattle.bdb_text_format.specs.of_format.Numbers.{overwritten, pad4}
+use Rattle.bdb_text_format.specs.of_format.Spelling.{header_bytes, zeros}
+use Rattle.bdb_text_format.proofs.of_format.SpellingLemmas.{length-overwritten}
 use Rattle.bdb_text_format.specs.declared.pairs.Pair.{Pair}
 use Rattle.bdb_text_format.specs.declared.pairs.Key.TheVariants.{Number}
 use Rattle.bdb_text_format.specs.Pairs.{AscendFrom, number_of}
-use Rattle.bdb_pack.specs.Built.{AreWhole, Built, bytes_of, with_page, written_over}
-use Rattle.bdb_pack.proofs.CutLemmas.{suc-times, written_whole}
-use Rattle.bdb_pack.proofs.HeaderLemmas.{length-header}
+use Rattle.bdb_law_join.specs.of_pack.Built.{AreWhole, Built, bytes_of, with_page, written_over}
+use Rattle.bdb_law_join.proofs.of_pack.CutLemmas.{suc-times, written_whole}
+use Rattle.bdb_law_join.proofs.of_pack.HeaderLemmas.{length-header}
 use Rattle.bdb_mkqueue.specs.Building.{HasRoom, IsQueueOn, KeepsFirst, reached, with_header, with_more, with_record}
 use Rattle.bdb_mkqueue.specs.Layout.{page_of, queue_page, queue_size, record_of, records_header, records_page, slot_of, slots_of}
 use Rattle.bdb_mkqueue.specs.Lists.{HasLength, next_number}

@@ -3,30 +3,30 @@ use Rattle.std.proofs.Common.{◌≡◌, ℕ, zero, suc, ◌+◌, ◌-◌, ◌*�
 use Rattle.std.proofs.Common.{append_assoc, arith, refl, sym, ◌∙◌, ap, subst, length-append}
 use Rattle.std.proofs.lemmas.Bool.{eq-eqb}
 use Rattle.std.proofs.lemmas.List.{append-nil, get_or-set_same, length-replicate, length-set, replicate-append-replicate}
-use Rattle.bdb_format.specs.declared.kinds.Order.{Order}
-use Rattle.bdb_format.specs.declared.metadata.FileKind.TheVariants.{Queue}
-use Rattle.bdb_format.specs.declared.metadata.Head.{Head}
-use Rattle.bdb_format.specs.declared.metadata.QueueMeta.{QueueMeta}
-use Rattle.bdb_format.specs.Table.{first_row}
-use Rattle.bdb_format.specs.Page.{Meta, QueueFields}
-use Rattle.bdb_format.specs.Numbers.{four_at, spelled}
-use Rattle.bdb_format.specs.Reading.{abstract_page}
-use Rattle.bdb_format.specs.Rows.{form_code, metadata_rows, queue_rows}
-use Rattle.bdb_format.specs.Spelling.{common_bytes, queue_bytes, zeros}
-use Rattle.bdb_format.specs.HeadOf.{head_of, head_rows, is_page_size}
-use Rattle.bdb_format.specs.File.{file_of, page_at, page_bytes}
-use Rattle.bdb_format.specs.Databases.{Database}
-use Rattle.bdb_format.specs.Verdict.{faults_in, or_else, tail_faults}
-use Rattle.bdb_format.proofs.SpellingLemmas.{length-spelled, number_at-in}
-use Rattle.bdb_format.proofs.VerdictLemmas.{none_in, none_is_first_row}
-use Rattle.bdb_format.proofs.FileLemmas.{kind_is, last_page, page_is}
-use Rattle.bdb_format.proofs.SizeLemmas.{size_bounds}
-use Rattle.bdb_image.proofs.CodeLemmas.{first_page_code, form_queue}
-use Rattle.bdb_image.proofs.MetaLemmas.{queue_page}
-use Rattle.bdb_meta.proofs.CommonLemmas.{length-common}
-use Rattle.bdb_meta.proofs.FilledLemmas.{zeros-spelled}
-use Rattle.bdb_pack.specs.Built.{AreWhole, Built, bytes_of, joined_pages, with_page}
-use Rattle.bdb_pack.proofs.CutLemmas.{all_size, page_whole}
+use Rattle.bdb_text_format.specs.of_format.declared.kinds.Order.{Order}
+use Rattle.bdb_text_format.specs.of_format.declared.metadata.FileKind.TheVariants.{Queue}
+use Rattle.bdb_text_format.specs.of_format.declared.metadata.Head.{Head}
+use Rattle.bdb_text_format.specs.of_format.declared.metadata.QueueMeta.{QueueMeta}
+use Rattle.bdb_text_format.specs.of_format.Table.{first_row}
+use Rattle.bdb_text_format.specs.of_format.Page.{Meta, QueueFields}
+use Rattle.bdb_text_format.specs.of_format.Numbers.{four_at, spelled}
+use Rattle.bdb_text_format.specs.of_format.Reading.{abstract_page}
+use Rattle.bdb_text_format.specs.of_format.Rows.{form_code, metadata_rows, queue_rows}
+use Rattle.bdb_text_format.specs.of_format.Spelling.{common_bytes, queue_bytes, zeros}
+use Rattle.bdb_text_format.specs.of_format.HeadOf.{head_of, head_rows, is_page_size}
+use Rattle.bdb_text_format.specs.of_format.File.{file_of, page_at, page_bytes}
+use Rattle.bdb_text_format.specs.of_format.Databases.{Database}
+use Rattle.bdb_text_format.specs.of_format.Verdict.{faults_in, or_else, tail_faults}
+use Rattle.bdb_text_format.proofs.of_format.SpellingLemmas.{length-spelled, number_at-in}
+use Rattle.bdb_text_format.proofs.of_format.VerdictLemmas.{none_in, none_is_first_row}
+use Rattle.bdb_text_format.proofs.of_format.FileLemmas.{kind_is, last_page, page_is}
+use Rattle.bdb_text_format.proofs.of_format.SizeLemmas.{size_bounds}
+use Rattle.bdb_law_join.proofs.of_image.CodeLemmas.{first_page_code, form_queue}
+use Rattle.bdb_law_join.proofs.of_image.MetaLemmas.{queue_page}
+use Rattle.bdb_law_join.proofs.of_meta.CommonLemmas.{length-common}
+use Rattle.bdb_law_join.proofs.of_meta.FilledLemmas.{zeros-spelled}
+use Rattle.bdb_law_join.specs.of_pack.Built.{AreWhole, Built, bytes_of, joined_pages, with_page}
+use Rattle.bdb_law_join.proofs.of_pack.CutLemmas.{all_size, page_whole}
 use Rattle.bdb_law_join.specs.Queues.{IsSoundQueue}
 use Rattle.bdb_law_join.proofs.CommonLemmas.{ReadsAs, reads_common}
 use Rattle.bdb_law_join.proofs.HeadLemmas.{IsImage, first_of_none, head_accepted, image_head}

@@ -1,13 +1,13 @@
 -- Where the records of a queue stand, and the bytes of its pages. Source: docs/FORMAT.md, "Databases of a file" and "Built queues".
 use Rattle.std.specs.Prelude.{ℕ, ◌+◌, ◌-◌, ◌*◌, ◌/◌, ◌%◌, ◌==◌, if◌then◌else◌, List, [], ◌∷◌, ◌++◌, length, map, Option, Some, None, is_some}
 use Rattle.std.specs.List.{flat_map, list_any, range_with_len}
-use Rattle.bdb_format.specs.declared.kinds.Order.{Order}
-use Rattle.bdb_format.specs.declared.metadata.QueueMeta.{QueueMeta}
-use Rattle.bdb_format.specs.declared.pages.Header.{Header}
-use Rattle.bdb_format.specs.declared.settings.Settings.{Settings}
-use Rattle.bdb_format.specs.Numbers.{pad4}
-use Rattle.bdb_format.specs.Rows.{records_per_page}
-use Rattle.bdb_format.specs.Spelling.{header_bytes, zeros}
+use Rattle.bdb_text_format.specs.of_format.declared.kinds.Order.{Order}
+use Rattle.bdb_text_format.specs.of_format.declared.metadata.QueueMeta.{QueueMeta}
+use Rattle.bdb_text_format.specs.of_format.declared.pages.Header.{Header}
+use Rattle.bdb_text_format.specs.of_format.declared.settings.Settings.{Settings}
+use Rattle.bdb_text_format.specs.of_format.Numbers.{pad4}
+use Rattle.bdb_text_format.specs.of_format.Rows.{records_per_page}
+use Rattle.bdb_text_format.specs.of_format.Spelling.{header_bytes, zeros}
 use Rattle.bdb_text_format.specs.declared.pairs.Pair.{Pair}
 use Rattle.bdb_text_format.specs.Pairs.{number_of}
 use Rattle.bdb_mkqueue.specs.Lists.{first_number, next_number}

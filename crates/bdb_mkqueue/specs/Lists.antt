@@ -1,7 +1,7 @@
 -- Lists that a queue can be built of. Source: docs/FORMAT.md, "Built queues".
 use Rattle.std.specs.Prelude.{◌≡◌, ℕ, ◌+◌, ◌<◌, ◌^◌, List, [], ◌∷◌, length}
 use Rattle.std.specs.List.{All}
-use Rattle.bdb_format.specs.declared.settings.Settings.{Settings}
+use Rattle.bdb_text_format.specs.of_format.declared.settings.Settings.{Settings}
 use Rattle.bdb_text_format.specs.declared.pairs.Pair.{Pair}
 use Rattle.bdb_text_format.specs.Pairs.{AscendFrom, number_of}
 

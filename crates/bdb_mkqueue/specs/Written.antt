@@ -1,18 +1,18 @@
 -- The pages of a queue under metadata that is written over page 0, as the image of a file.
 -- Source: docs/FORMAT.md, "Queue metadata", "What the writing calls spell", "Faults" and "Databases of a file".
 use Rattle.std.specs.Prelude.{◌≡◌, ℕ, ◌-◌, List, [], ◌∷◌, length, None}
-use Rattle.bdb_format.specs.declared.metadata.QueueMeta.{QueueMeta}
-use Rattle.bdb_format.specs.declared.settings.Settings.{Settings}
-use Rattle.bdb_format.specs.Page.{QueueFields}
-use Rattle.bdb_format.specs.Reading.{queue_fields}
-use Rattle.bdb_format.specs.Spelling.{queue_bytes}
-use Rattle.bdb_format.specs.File.{file_of}
-use Rattle.bdb_format.specs.Lists.{list_of}
-use Rattle.bdb_format.specs.Databases.{databases}
-use Rattle.bdb_format.specs.Verdict.{faults_of, verdict_of}
+use Rattle.bdb_text_format.specs.of_format.declared.metadata.QueueMeta.{QueueMeta}
+use Rattle.bdb_text_format.specs.of_format.declared.settings.Settings.{Settings}
+use Rattle.bdb_text_format.specs.of_format.Page.{QueueFields}
+use Rattle.bdb_text_format.specs.of_format.Reading.{queue_fields}
+use Rattle.bdb_text_format.specs.of_format.Spelling.{queue_bytes}
+use Rattle.bdb_text_format.specs.of_format.File.{file_of}
+use Rattle.bdb_text_format.specs.of_format.Lists.{list_of}
+use Rattle.bdb_text_format.specs.of_format.Databases.{databases}
+use Rattle.bdb_text_format.specs.of_format.Verdict.{faults_of, verdict_of}
 use Rattle.bdb_text_format.specs.declared.pairs.Pair.{Pair}
 use Rattle.bdb_text_format.specs.Pairs.{listed}
-use Rattle.bdb_pack.specs.Built.{Built, joined_pages, with_page}
+use Rattle.bdb_law_join.specs.of_pack.Built.{Built, joined_pages, with_page}
 use Rattle.bdb_law_join.specs.Written.{AreLegal}
 use Rattle.bdb_mkqueue.specs.Building.{IsQueueBuilt}
 

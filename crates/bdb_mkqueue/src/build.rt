@@ -1,6 +1,6 @@
 ghost use Rattle.std.specs.Prelude.{◌≡◌, ◌+◌, ◌-◌, ◌*◌, ◌<◌, ◌≤◌, ◌^◌, ◌∷◌, IfOk, length, take};
 ghost use Rattle.std.specs.List.{All};
-ghost use Rattle.bdb_format.specs.Numbers.{pad4};
+ghost use Rattle.bdb_text_format.specs.of_format.Numbers.{pad4};
 ghost use Rattle.bdb_mkqueue.specs.Building.{HasRoom, IsQueueBuilt, IsQueueOn, KeepsFirst, reached, with_header, with_more, with_record};
 ghost use Rattle.bdb_mkqueue.specs.Layout.{queue_meta};
 ghost use Rattle.bdb_text_format.specs.Pairs.{AscendFrom};
@@ -8,10 +8,10 @@ ghost use Rattle.bdb_text_format.specs.Placed.{pairs_of, slice_seen};
 ghost use Rattle.bdb_mkqueue.specs.Lists.{HasLength, HasNext, IsQueueList, first_number, next_number};
 
 use crate::records::{number_of, page_of, put_record, records_per_page, slot_of};
-use bdb_format::{Header, QueueMeta, Settings};
-use bdb_layout::put_header;
-use bdb_pack::Pages;
+use bdb_law_join::bdb_layout::put_header;
+use bdb_law_join::bdb_pack::Pages;
 use bdb_text_format::PairSlice;
+use bdb_text_format::bdb_format::{Header, QueueMeta, Settings};
 use std::alloc::AllocError;
 
 // The longest file that is read has no more pages.

@@ -1,12 +1,12 @@
 ghost use Rattle.std.specs.Prelude.{◌≡◌, ◌+◌, ◌*◌, ◌<◌, ◌≤◌, ◌^◌, ◌∷◌, length};
-ghost use Rattle.bdb_format.specs.Numbers.{overwritten, pad4};
-ghost use Rattle.bdb_format.specs.Rows.{records_per_page};
+ghost use Rattle.bdb_text_format.specs.of_format.Numbers.{overwritten, pad4};
+ghost use Rattle.bdb_text_format.specs.of_format.Rows.{records_per_page};
 ghost use Rattle.bdb_mkqueue.specs.Layout.{page_of, slot_of};
 ghost use Rattle.bdb_text_format.specs.Pairs.{number_of};
 ghost use Rattle.bdb_text_format.specs.Placed.{key_seen};
 
-use bdb_format::QueueMeta;
 use bdb_text_format::KeyRef;
+use bdb_text_format::bdb_format::QueueMeta;
 
 // What the first byte of a slot says of its record. Readers ask for the first bit alone; some tools of the original look for the second one.
 const VALID: u8 = 0x01;

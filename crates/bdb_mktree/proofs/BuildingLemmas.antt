@@ -5,15 +5,15 @@ use Rattle.std.specs.Prelude.{◌⊎◌}
 use Rattle.std.specs.List.{All, flat_map}
 use Rattle.std.proofs.lemmas.List.{append_assoc, map-append}
 use Rattle.std.proofs.lemmas.List.Elements.{All-head, All-nil, All-push, All-tail, Contains-append_right}
-use Rattle.bdb_pack.proofs.ImageLemmas.{counted_so_far, page_so_far}
-use Rattle.bdb_format.specs.declared.kinds.Kind.{Kind}
-use Rattle.bdb_format.specs.declared.settings.Settings.{Settings}
-use Rattle.bdb_format.specs.File.{File}
-use Rattle.bdb_format.specs.HeadOf.{is_page_size}
-use Rattle.bdb_format.proofs.MemberLemmas.{first_member}
-use Rattle.bdb_format.proofs.ListLemmas.{map_joined}
-use Rattle.bdb_law_grove.specs.Growing.{IsLater}
-use Rattle.bdb_pack.specs.Built.{Built, file_so_far}
+use Rattle.bdb_mkleaves.proofs.of_pack.ImageLemmas.{counted_so_far, page_so_far}
+use Rattle.bdb_text_format.specs.of_format.declared.kinds.Kind.{Kind}
+use Rattle.bdb_text_format.specs.of_format.declared.settings.Settings.{Settings}
+use Rattle.bdb_text_format.specs.of_format.File.{File}
+use Rattle.bdb_text_format.specs.of_format.HeadOf.{is_page_size}
+use Rattle.bdb_text_format.proofs.of_format.MemberLemmas.{first_member}
+use Rattle.bdb_text_format.proofs.of_format.ListLemmas.{map_joined}
+use Rattle.bdb_mkleaves.specs.of_law_grove.Growing.{IsLater}
+use Rattle.bdb_mkleaves.specs.of_pack.Built.{Built, file_so_far}
 use Rattle.bdb_mkleaves.specs.Counted.{AreCounted, CountedNow}
 use Rattle.bdb_mkleaves.specs.Filled.{AreFilled, IsPushed, rest_of}
 use Rattle.bdb_mkleaves.specs.Laid.{AreLaid}

@@ -4,21 +4,21 @@ use Rattle.std.proofs.Math.Path.{fun_ext}
 use Rattle.std.specs.List.{All, AllZip, flat_map}
 use Rattle.std.proofs.lemmas.Bool.{and_parts, cases_Bool, ltb-true}
 use Rattle.std.proofs.lemmas.List.Elements.{All-cons, All-head, All-nil, All-tail}
-use Rattle.bdb_format.specs.declared.kinds.Kind.{Kind}
-use Rattle.bdb_format.specs.declared.kinds.Kind.TheVariants.{Btree, Recno}
-use Rattle.bdb_format.specs.declared.kinds.Order.{Order}
-use Rattle.bdb_format.specs.declared.metadata.BtreeMeta.{BtreeMeta}
-use Rattle.bdb_format.specs.declared.settings.Settings.{Settings}
-use Rattle.bdb_format.specs.Page.{BtreeFields}
-use Rattle.bdb_format.specs.File.{File}
-use Rattle.bdb_format.specs.Flags.{btree_kind, counts_records, has_duplicates, is_fixed, is_recno, is_sorted}
-use Rattle.bdb_format.specs.ContentRows.{ascends}
-use Rattle.bdb_format.specs.Databases.{settings_of}
-use Rattle.bdb_format.proofs.ListLemmas.{map_joined}
-use Rattle.bdb_law_grove.specs.Growing.{IsCounted, IsLater}
-use Rattle.bdb_law_grove.specs.Part.{IsPart, between}
-use Rattle.bdb_law_grove.proofs.ChainLemmas.{is_between}
-use Rattle.bdb_pack.specs.Built.{Built, file_so_far}
+use Rattle.bdb_text_format.specs.of_format.declared.kinds.Kind.{Kind}
+use Rattle.bdb_text_format.specs.of_format.declared.kinds.Kind.TheVariants.{Btree, Recno}
+use Rattle.bdb_text_format.specs.of_format.declared.kinds.Order.{Order}
+use Rattle.bdb_text_format.specs.of_format.declared.metadata.BtreeMeta.{BtreeMeta}
+use Rattle.bdb_text_format.specs.of_format.declared.settings.Settings.{Settings}
+use Rattle.bdb_text_format.specs.of_format.Page.{BtreeFields}
+use Rattle.bdb_text_format.specs.of_format.File.{File}
+use Rattle.bdb_text_format.specs.of_format.Flags.{btree_kind, counts_records, has_duplicates, is_fixed, is_recno, is_sorted}
+use Rattle.bdb_text_format.specs.of_format.ContentRows.{ascends}
+use Rattle.bdb_text_format.specs.of_format.Databases.{settings_of}
+use Rattle.bdb_text_format.proofs.of_format.ListLemmas.{map_joined}
+use Rattle.bdb_mkleaves.specs.of_law_grove.Growing.{IsCounted, IsLater}
+use Rattle.bdb_mkleaves.specs.of_law_grove.Part.{IsPart, between}
+use Rattle.bdb_mkleaves.proofs.of_law_grove.ChainLemmas.{is_between}
+use Rattle.bdb_mkleaves.specs.of_pack.Built.{Built, file_so_far}
 use Rattle.bdb_mkleaves.specs.Filled.{AreFilled, rest_of}
 use Rattle.bdb_mkleaves.specs.Finished.{HasFirstRoot, HasLaidTree}
 use Rattle.bdb_mkleaves.specs.Laid.{Counts, Suits as SuitsTree, is_laid}

@@ -4,11 +4,11 @@ use Rattle.std.specs.Cmp.Derive.{both_true}
 use Rattle.std.proofs.lemmas.Bool.{and_parts}
 use Rattle.std.proofs.lemmas.List.{append-nil, append_assoc, map-append}
 use Rattle.std.proofs.lemmas.List.Elements.{All-head, All-tail}
-use Rattle.bdb_format.specs.declared.settings.Settings.{Settings}
-use Rattle.bdb_format.specs.ContentRows.{ascends, ascends_from}
-use Rattle.bdb_format.specs.Less.{less}
-use Rattle.bdb_format.specs.Lists.{ListKey}
-use Rattle.bdb_pack.specs.Built.{Built}
+use Rattle.bdb_text_format.specs.of_format.declared.settings.Settings.{Settings}
+use Rattle.bdb_text_format.specs.of_format.ContentRows.{ascends, ascends_from}
+use Rattle.bdb_text_format.specs.of_format.Less.{less}
+use Rattle.bdb_text_format.specs.of_format.Lists.{ListKey}
+use Rattle.bdb_mkleaves.specs.of_pack.Built.{Built}
 use Rattle.bdb_mkleaves.specs.Leaves.{KeepsBefore}
 use Rattle.bdb_mkleaves.specs.Moved.{first_leaf}
 use Rattle.bdb_mkleaves.specs.Units.{TreeUnit, key_of, list_of_units}

@@ -1,17 +1,17 @@
 -- Trees that are being built: a builder with its pages, and the units that these hold. Source: docs/FORMAT.md, "Built trees".
 use Rattle.std.specs.Prelude.{◌≡◌, ◌⊎◌, ℕ, ◌+◌, ◌<◌, ◌≤◌, IsTrue, false, List, [], ◌++◌, length, map, None}
 use Rattle.std.specs.List.{All, flat_map}
-use Rattle.bdb_format.specs.declared.metadata.BtreeMeta.{BtreeMeta}
-use Rattle.bdb_format.specs.declared.settings.Settings.{Settings}
-use Rattle.bdb_format.specs.Page.{BtreeFields}
-use Rattle.bdb_format.specs.Rows.{page_code}
-use Rattle.bdb_format.specs.File.{File}
-use Rattle.bdb_format.specs.HeadOf.{is_page_size}
-use Rattle.bdb_format.specs.Lists.{ListKey}
-use Rattle.bdb_format.specs.Databases.{settings_of}
-use Rattle.bdb_law_grove.specs.Growing.{IsCounted, IsLater}
-use Rattle.bdb_law_grove.specs.Part.{IsPart, between}
-use Rattle.bdb_pack.specs.Built.{Built, bytes_of, file_so_far}
+use Rattle.bdb_text_format.specs.of_format.declared.metadata.BtreeMeta.{BtreeMeta}
+use Rattle.bdb_text_format.specs.of_format.declared.settings.Settings.{Settings}
+use Rattle.bdb_text_format.specs.of_format.Page.{BtreeFields}
+use Rattle.bdb_text_format.specs.of_format.Rows.{page_code}
+use Rattle.bdb_text_format.specs.of_format.File.{File}
+use Rattle.bdb_text_format.specs.of_format.HeadOf.{is_page_size}
+use Rattle.bdb_text_format.specs.of_format.Lists.{ListKey}
+use Rattle.bdb_text_format.specs.of_format.Databases.{settings_of}
+use Rattle.bdb_mkleaves.specs.of_law_grove.Growing.{IsCounted, IsLater}
+use Rattle.bdb_mkleaves.specs.of_law_grove.Part.{IsPart, between}
+use Rattle.bdb_mkleaves.specs.of_pack.Built.{Built, bytes_of, file_so_far}
 use Rattle.bdb_mkleaves.specs.Counted.{AreCounted}
 use Rattle.bdb_mkleaves.specs.Filled.{rest_of}
 use Rattle.bdb_mkleaves.specs.Layout.{HaveTreesOn, IsTreeOn}

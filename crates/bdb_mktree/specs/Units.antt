@@ -1,11 +1,11 @@
 -- Units as a builder takes them, and what the settings of a database ask of them. Source: docs/FORMAT.md, "Built trees" and "Settings".
 use Rattle.std.specs.Prelude.{◌≡◌, ◌⊎◌, ℕ, ◌<◌, Bool, true, false, List, [], ◌∷◌, ◌++◌, length, map}
 use Rattle.std.specs.List.{All}
-use Rattle.bdb_places.specs.Places.{values_seen}
-use Rattle.bdb_format.specs.declared.kinds.Kind.{Kind}
-use Rattle.bdb_format.specs.declared.kinds.Kind.TheVariants.{Btree, Recno, Hash, Queue}
-use Rattle.bdb_format.specs.declared.settings.Settings.{Settings}
-use Rattle.bdb_format.specs.ContentRows.{ascends}
+use Rattle.bdb_text_format.specs.of_places.Places.{values_seen}
+use Rattle.bdb_text_format.specs.of_format.declared.kinds.Kind.{Kind}
+use Rattle.bdb_text_format.specs.of_format.declared.kinds.Kind.TheVariants.{Btree, Recno, Hash, Queue}
+use Rattle.bdb_text_format.specs.of_format.declared.settings.Settings.{Settings}
+use Rattle.bdb_text_format.specs.of_format.ContentRows.{ascends}
 use Rattle.bdb_mkleaves.specs.Runs.{IsShort}
 use Rattle.bdb_mkleaves.specs.Units.{TreeUnit, KeyedUnit, EntryUnit, key_of}
 use Rattle.bdb_mkleaves.specs.declared.leaf_type.LeafType.{LeafType}

@@ -8,8 +8,8 @@ ghost use Rattle.bdb_mktree.specs.Units.{IsTreeKind, unit_seen};
 
 use crate::runs::run_at;
 use crate::{TreeBuilder, Unit};
-use bdb_format::{Kind, Settings};
-use bdb_pack::Pages;
+use bdb_mkleaves::bdb_pack::Pages;
+use bdb_text_format::bdb_format::{Kind, Settings};
 use bdb_text_format::{KeyRef, PairSlice};
 use std::alloc::{AllocError, Global};
 

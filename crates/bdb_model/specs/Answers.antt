@@ -1,15 +1,15 @@
 -- The lines and texts of the program's answers. Source: README.md, "Use".
 use Rattle.std.specs.Prelude.{ℕ, Bool, true, List, [], ◌++◌, Option, Some, None, codes, decimal}
 use Rattle.std.specs.List.{flat_map}
-use Rattle.bdb_format.specs.declared.kinds.Fault.{Fault}
-use Rattle.bdb_format.specs.declared.kinds.Unsupported.{Unsupported}
-use Rattle.bdb_format.specs.Flags.{kind_of}
-use Rattle.bdb_format.specs.Databases.{Database}
-use Rattle.bdb_format.specs.Lists.{ListKey}
+use Rattle.bdb_text_format.specs.of_format.declared.kinds.Fault.{Fault}
+use Rattle.bdb_text_format.specs.of_format.declared.kinds.Unsupported.{Unsupported}
+use Rattle.bdb_text_format.specs.of_format.Flags.{kind_of}
+use Rattle.bdb_text_format.specs.of_format.Databases.{Database}
+use Rattle.bdb_text_format.specs.of_format.Lists.{ListKey}
 use Rattle.bdb_text_format.specs.TextSpelling.{spelling}
 use Rattle.bdb_text_format.specs.LineEnd.{line}
 use Rattle.bdb_text_format.specs.Written.{key_bytes, kind_text}
-use Rattle.bdb_format.specs.FaultNames.{fault_name, unsupported_name}
+use Rattle.bdb_text_format.specs.of_format.FaultNames.{fault_name, unsupported_name}
 
 -- a status, and what is written to the output and to the error sink
 pub record Answer : Type 0 where

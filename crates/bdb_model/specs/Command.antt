@@ -2,7 +2,7 @@
 use Rattle.std.specs.Prelude.{ℕ, ◌^◌, nat_le, ◌&&◌, if◌then◌else◌, Bool, true, false, List, [], ◌∷◌, take, Option, Some, None, codes}
 use Rattle.std.specs.List.{list_any}
 use Rattle.std.specs.Str.{bytes_eq}
-use Rattle.bdb_format.specs.Digits.{number_in}
+use Rattle.bdb_text_format.specs.of_format.Digits.{number_in}
 use Rattle.bdb_text_format.specs.TextSpelling.{bytes_spelled}
 
 -- Options and operands.

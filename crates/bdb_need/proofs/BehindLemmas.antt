@@ -7,8 +7,8 @@ use Rattle.std.proofs.lemmas.Bool.{cases_lt, le-leb, lt-leb}
 use Rattle.std.proofs.lemmas.List.{append-nil, append_assoc, length-replicate, replicate-append-replicate}
 use Rattle.std.proofs.lemmas.List.Elements.{All-cons, All-head, All-nil, All-tail}
 use Rattle.std.proofs.lemmas.Nat.{mul-le}
-use Rattle.bdb_mkleaves.specs.Spread.{first_or, pages_over, spread_items, spread_on}
-use Rattle.bdb_mkleaves.proofs.SpreadLemmas.{put_on_new, put_on_open}
+use Rattle.bdb_mkhash.specs.of_mkleaves.Spread.{first_or, pages_over, spread_items, spread_on}
+use Rattle.bdb_mkhash.proofs.of_mkleaves.SpreadLemmas.{put_on_new, put_on_open}
 
 -- What the first things of the pages behind the open one are told by, as things are put on pages from left to right.
 abbrev pub behind : {A : Type 0} → ℕ → (A → ℕ) → (A → ℕ) → (A → ℕ) → ℕ → List A → List ℕ

@@ -6,18 +6,18 @@ use Rattle.std.specs.List.{All, sum_by}
 use Rattle.std.proofs.Math.Bool.{and-false}
 use Rattle.std.proofs.lemmas.List.Elements.{All-cons, All-head, All-nil, All-tail}
 use Rattle.std.proofs.lemmas.List.Sums.{sum_by-cons}
-use Rattle.bdb_format.specs.declared.kinds.Kind.{Kind}
-use Rattle.bdb_format.specs.declared.kinds.Kind.TheVariants.{Btree, Recno, Hash, Queue}
-use Rattle.bdb_format.specs.declared.settings.Settings.{Settings}
-use Rattle.bdb_mkleaves.specs.Runs.{IsShort}
+use Rattle.bdb_mkhash.specs.of_format.declared.kinds.Kind.{Kind}
+use Rattle.bdb_mkhash.specs.of_format.declared.kinds.Kind.TheVariants.{Btree, Recno, Hash, Queue}
+use Rattle.bdb_mkhash.specs.of_format.declared.settings.Settings.{Settings}
+use Rattle.bdb_mkhash.specs.of_mkleaves.Runs.{IsShort}
 use Rattle.bdb_mkqueue.specs.Layout.{page_of, queue_size}
 use Rattle.bdb_mkqueue.specs.Lists.{next_number}
 use Rattle.bdb_need.proofs.SectionLemmas.{filled_before}
 use Rattle.bdb_need.specs.TreePages.{unlined_pairs, tree_pages}
-use Rattle.bdb_text_format.specs.declared.pairs.TextPair.{TextPair}
-use Rattle.bdb_text_format.specs.declared.sections.Section.{Section}
-use Rattle.bdb_text_format.specs.Pairs.{AscendFrom, number_of}
-use Rattle.bdb_text_format.specs.Written.{holds_records}
+use Rattle.bdb_mkhash.specs.of_text_format.declared.pairs.TextPair.{TextPair}
+use Rattle.bdb_mkhash.specs.of_text_format.declared.sections.Section.{Section}
+use Rattle.bdb_mkhash.specs.of_text_format.Pairs.{AscendFrom, number_of}
+use Rattle.bdb_mkhash.specs.of_text_format.Written.{holds_records}
 use Rattle.bdb_settle.specs.Loaded.{filled_pairs, filled_section, loaded}
 use Rattle.bdb_settle.proofs.FillingLemmas.{as_they_are}
 use Rattle.bdb_need.specs.Need.{AreSettled, IsListOf, IsSettled, master_pages, master_settings, name_in, name_pair, need_of, section_pages, sized}

@@ -2,7 +2,7 @@
 use Rattle.std.proofs.Common.{◌≡◌, ℕ, ◌+◌, ◌-◌, ◌<◌, ◌≤◌, List, [], ◌∷◌, ◌++◌, drop, get_or, length, map, take, arith, refl, sym, ◌∙◌, ap}
 use Rattle.std.proofs.Math.ListN.{drop_of_length-le, set}
 use Rattle.std.proofs.lemmas.List.{append-nil, append_assoc, drop-set-lt, drop_more, length-set, take_more_set}
-use Rattle.bdb_mkleaves.specs.Spread.{first_or, spread_items}
+use Rattle.bdb_mkhash.specs.of_mkleaves.Spread.{first_or, spread_items}
 use Rattle.bdb_need.proofs.BehindLemmas.{behind, behind_new, behind_open, heads_of_items, self}
 
 -- those that the rest of a level's items will add, where the open page has so many bytes left

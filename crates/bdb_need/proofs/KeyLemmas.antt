@@ -7,16 +7,16 @@ use Rattle.std.proofs.Math.ListN.{drop_of_length-le}
 use Rattle.std.proofs.lemmas.List.{length-drop, length-map}
 use Rattle.std.proofs.lemmas.List.Elements.{All-head, All-tail}
 use Rattle.std.proofs.lemmas.List.Sums.{sum_by-cons}
-use Rattle.bdb_format.specs.HeadOf.{is_page_size}
-use Rattle.bdb_format.proofs.SizeLemmas.{size_bounds}
-use Rattle.bdb_text_format.specs.declared.pairs.Pair.{Pair}
-use Rattle.bdb_text_format.specs.declared.pairs.TextPair.{TextPair}
-use Rattle.bdb_mkleaves.specs.Spread.{own_pages, pages_over, tree_size}
-use Rattle.bdb_mkleaves.specs.Units.{EntryUnit, KeyedUnit, TreeUnit, page_room, set_cost, value_cost}
-use Rattle.bdb_mkleaves.specs.declared.leaf_type.LeafType.TheVariants.{Pairs}
-use Rattle.bdb_mkleaves.proofs.PushLemmas.{cost_few}
-use Rattle.bdb_mktree.specs.Lists.{IsRunAt, bytes_in, keyed_units, onto_units}
-use Rattle.bdb_mktree.specs.Units.{IsShortUnit}
+use Rattle.bdb_mkhash.specs.of_format.HeadOf.{is_page_size}
+use Rattle.bdb_mkhash.proofs.of_format.SizeLemmas.{size_bounds}
+use Rattle.bdb_mkhash.specs.of_text_format.declared.pairs.Pair.{Pair}
+use Rattle.bdb_mkhash.specs.of_text_format.declared.pairs.TextPair.{TextPair}
+use Rattle.bdb_mkhash.specs.of_mkleaves.Spread.{own_pages, pages_over, tree_size}
+use Rattle.bdb_mkhash.specs.of_mkleaves.Units.{EntryUnit, KeyedUnit, TreeUnit, page_room, set_cost, value_cost}
+use Rattle.bdb_mkhash.specs.of_mkleaves.declared.leaf_type.LeafType.TheVariants.{Pairs}
+use Rattle.bdb_mkhash.proofs.of_mkleaves.PushLemmas.{cost_few}
+use Rattle.bdb_mkhash.specs.of_mktree.Lists.{IsRunAt, bytes_in, keyed_units, onto_units}
+use Rattle.bdb_mkhash.specs.of_mktree.Units.{IsShortUnit}
 use Rattle.bdb_need.specs.TreePages.{unlined_pairs, unlined}
 use Rattle.bdb_need.proofs.TreeLemmas.{KeyedTo, keyed_begun, keyed_end}
 

@@ -4,13 +4,13 @@ use Rattle.std.proofs.Common.{inl}
 use Rattle.std.specs.Prelude.{is_some, slice_get}
 use Rattle.std.specs.List.{All, sum_by}
 use Rattle.std.proofs.lemmas.List.Elements.{All-cons, All-head, All-nil, All-tail}
-use Rattle.bdb_format.specs.declared.kinds.Kind.TheVariants.{Btree}
-use Rattle.bdb_format.specs.declared.settings.Settings.{Settings}
-use Rattle.bdb_text_format.specs.declared.pairs.Pair.{Pair}
-use Rattle.bdb_text_format.specs.declared.pairs.TextPair.{TextPair}
-use Rattle.bdb_text_format.specs.declared.sections.Section.{Section}
-use Rattle.bdb_mkleaves.specs.Runs.{IsShort}
-use Rattle.bdb_mktree.specs.Lists.{IsTreeList}
+use Rattle.bdb_mkhash.specs.of_format.declared.kinds.Kind.TheVariants.{Btree}
+use Rattle.bdb_mkhash.specs.of_format.declared.settings.Settings.{Settings}
+use Rattle.bdb_mkhash.specs.of_text_format.declared.pairs.Pair.{Pair}
+use Rattle.bdb_mkhash.specs.of_text_format.declared.pairs.TextPair.{TextPair}
+use Rattle.bdb_mkhash.specs.of_text_format.declared.sections.Section.{Section}
+use Rattle.bdb_mkhash.specs.of_mkleaves.Runs.{IsShort}
+use Rattle.bdb_mkhash.specs.of_mktree.Lists.{IsTreeList}
 use Rattle.bdb_need.specs.TreePages.{unlined_pairs, tree_pages}
 use Rattle.bdb_settle.specs.ListLaw.{HasShortBytes, IsKeyOf}
 use Rattle.bdb_settle.specs.LoadErrors.{load_error}

@@ -2,8 +2,8 @@
 use Rattle.std.proofs.Common.{◌≡◌, ℕ, ◌+◌, ◌-◌, ◌≤◌, List, [], ◌∷◌, length, get_or, Some, arith, refl, sym, ◌∙◌, ap}
 use Rattle.std.specs.Prelude.{slice_get, ◌/◌}
 use Rattle.std.proofs.lemmas.Option.{get_or_from_slice_get, slice_get_within}
-use Rattle.bdb_text_format.specs.declared.pairs.TextPair.{TextPair}
-use Rattle.bdb_text_format.specs.Pairs.{AscendFrom, number_of}
+use Rattle.bdb_mkhash.specs.of_text_format.declared.pairs.TextPair.{TextPair}
+use Rattle.bdb_mkhash.specs.of_text_format.Pairs.{AscendFrom, number_of}
 use Rattle.bdb_mkqueue.specs.Layout.{queue_size}
 use Rattle.bdb_mkqueue.specs.Lists.{next_number}
 use Rattle.bdb_mkqueue.proofs.RecordLemmas.{next_low}

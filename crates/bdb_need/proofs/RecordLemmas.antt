@@ -9,14 +9,14 @@ use Rattle.std.proofs.lemmas.List.{drop_more, get_or-map, length-map, length-rep
 use Rattle.std.proofs.lemmas.List.Folds.{sum_by-replicate}
 use Rattle.std.proofs.lemmas.List.Sums.{sum_by-append, sum_by-cons}
 use Rattle.std.proofs.lemmas.Option.{get_or_from_slice_get, slice_get_within}
-use Rattle.bdb_format.specs.declared.settings.Settings.{Settings}
-use Rattle.bdb_text_format.specs.declared.pairs.Pair.{Pair}
-use Rattle.bdb_text_format.specs.declared.pairs.TextPair.{TextPair}
-use Rattle.bdb_text_format.specs.Pairs.{AscendFrom, number_of}
-use Rattle.bdb_mkleaves.specs.Spread.{own_pages, pages_over, tree_size}
-use Rattle.bdb_mkleaves.specs.Units.{EntryUnit, TreeUnit, chain_pages, unit_cost, value_cost}
-use Rattle.bdb_mkleaves.specs.declared.leaf_type.LeafType.TheVariants.{Records}
-use Rattle.bdb_mktree.specs.Lists.{missing, record_units}
+use Rattle.bdb_mkhash.specs.of_format.declared.settings.Settings.{Settings}
+use Rattle.bdb_mkhash.specs.of_text_format.declared.pairs.Pair.{Pair}
+use Rattle.bdb_mkhash.specs.of_text_format.declared.pairs.TextPair.{TextPair}
+use Rattle.bdb_mkhash.specs.of_text_format.Pairs.{AscendFrom, number_of}
+use Rattle.bdb_mkhash.specs.of_mkleaves.Spread.{own_pages, pages_over, tree_size}
+use Rattle.bdb_mkhash.specs.of_mkleaves.Units.{EntryUnit, TreeUnit, chain_pages, unit_cost, value_cost}
+use Rattle.bdb_mkhash.specs.of_mkleaves.declared.leaf_type.LeafType.TheVariants.{Records}
+use Rattle.bdb_mkhash.specs.of_mktree.Lists.{missing, record_units}
 use Rattle.bdb_settle.specs.Loaded.{filled_pair, filled_pairs}
 use Rattle.bdb_need.specs.declared.open_page.OpenPage.{OpenPage}
 use Rattle.bdb_need.specs.Counting.{ArePut, values_in}

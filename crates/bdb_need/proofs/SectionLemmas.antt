@@ -5,18 +5,18 @@ use Rattle.std.proofs.lemmas.List.{append-nil}
 use Rattle.std.proofs.Math.Bool.{and-false}
 use Rattle.std.specs.List.{All}
 use Rattle.std.proofs.lemmas.List.Elements.{All-cons, All-head, All-nil, All-tail}
-use Rattle.bdb_format.specs.declared.kinds.Kind.TheVariants.{Btree, Recno}
-use Rattle.bdb_format.specs.declared.settings.Settings.{Settings}
-use Rattle.bdb_text_format.specs.declared.pairs.Pair.{Pair}
-use Rattle.bdb_text_format.specs.declared.pairs.TextPair.{TextPair}
-use Rattle.bdb_text_format.specs.Pairs.{AscendFrom}
-use Rattle.bdb_mkleaves.specs.Runs.{IsShort}
-use Rattle.bdb_mktree.specs.Lists.{AreKeysOf, HasBytes, IsTreeList, IsPairFor, keyed_units, units_in}
-use Rattle.bdb_mktree.specs.Units.{IsShortUnit, IsTreeKind}
-use Rattle.bdb_text_format.specs.Written.{holds_records}
+use Rattle.bdb_mkhash.specs.of_format.declared.kinds.Kind.TheVariants.{Btree, Recno}
+use Rattle.bdb_mkhash.specs.of_format.declared.settings.Settings.{Settings}
+use Rattle.bdb_mkhash.specs.of_text_format.declared.pairs.Pair.{Pair}
+use Rattle.bdb_mkhash.specs.of_text_format.declared.pairs.TextPair.{TextPair}
+use Rattle.bdb_mkhash.specs.of_text_format.Pairs.{AscendFrom}
+use Rattle.bdb_mkhash.specs.of_mkleaves.Runs.{IsShort}
+use Rattle.bdb_mkhash.specs.of_mktree.Lists.{AreKeysOf, HasBytes, IsTreeList, IsPairFor, keyed_units, units_in}
+use Rattle.bdb_mkhash.specs.of_mktree.Units.{IsShortUnit, IsTreeKind}
+use Rattle.bdb_mkhash.specs.of_text_format.Written.{holds_records}
 use Rattle.bdb_settle.specs.Loaded.{filled_pair, filled_pairs, filled_value, has_length}
 use Rattle.bdb_settle.proofs.FillingLemmas.{as_they_are, value_as_is}
-use Rattle.bdb_mktree.proofs.OrderLemmas.{keys_fit, units_fit}
+use Rattle.bdb_mkhash.proofs.of_mktree.OrderLemmas.{keys_fit, units_fit}
 use Rattle.bdb_need.specs.Counting.{values_in}
 use Rattle.bdb_need.specs.TreePages.{unlined_pairs, unlined}
 

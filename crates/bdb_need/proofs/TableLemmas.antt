@@ -8,12 +8,12 @@ use Rattle.std.proofs.lemmas.Bool.{cases_eq, eq-eqb, le-leb, lt-leb, ne_eqb}
 use Rattle.std.proofs.lemmas.List.{get_or-set_other, get_or-set_same, get_or_default, length-replicate, length-set}
 use Rattle.std.proofs.lemmas.List.Elements.{All-head, All-tail}
 use Rattle.std.proofs.lemmas.List.Sums.{sum_by-cons}
-use Rattle.bdb_text_format.specs.declared.pairs.Pair.{Pair}
-use Rattle.bdb_text_format.specs.declared.pairs.TextPair.{TextPair}
-use Rattle.bdb_mkleaves.specs.Units.{KeyedUnit, TreeUnit, page_room}
-use Rattle.bdb_mktree.specs.Lists.{IsRunAt, keyed_units}
-use Rattle.bdb_mktree.specs.Units.{IsShortUnit}
-use Rattle.bdb_law_buckets.specs.Tables.{Keyed, bucket_among, dealt}
+use Rattle.bdb_mkhash.specs.of_text_format.declared.pairs.Pair.{Pair}
+use Rattle.bdb_mkhash.specs.of_text_format.declared.pairs.TextPair.{TextPair}
+use Rattle.bdb_mkhash.specs.of_mkleaves.Units.{KeyedUnit, TreeUnit, page_room}
+use Rattle.bdb_mkhash.specs.of_mktree.Lists.{IsRunAt, keyed_units}
+use Rattle.bdb_mkhash.specs.of_mktree.Units.{IsShortUnit}
+use Rattle.bdb_mkhash.specs.of_law_buckets.Tables.{Keyed, bucket_among, dealt}
 use Rattle.bdb_mkhash.specs.Buckets.{bits_for, buckets_of, spread_bucket, table_cost, table_units}
 use Rattle.bdb_mkhash.specs.Costs.{keyed_own_pages, keyed_cost}
 use Rattle.bdb_mkhash.proofs.BucketLemmas.{run_unit, found_at}

@@ -6,14 +6,14 @@ use Rattle.std.proofs.Math.ListN.{drop_of_length-le}
 use Rattle.std.proofs.lemmas.Bool.{cases_lt}
 use Rattle.std.proofs.lemmas.List.{append-nil, append_assoc, drop_more, length-map, map-append}
 use Rattle.std.proofs.lemmas.List.Elements.{All-nil, All-push}
-use Rattle.bdb_law_levels.specs.declared.inner_type.InnerType.{InnerType}
-use Rattle.bdb_law_levels.specs.declared.inner_type.InnerType.TheVariants.{Keyed}
-use Rattle.bdb_mkleaves.specs.Inner.{first_cost}
-use Rattle.bdb_mkleaves.specs.Laid.{inner_of}
-use Rattle.bdb_mkleaves.specs.Spread.{inner_cost, key_item_cost, leaf_key, leaves_and_levels, pages_over, spread_units, unit_key}
-use Rattle.bdb_mkleaves.specs.Units.{EntryUnit, TreeUnit, page_room, unit_cost}
-use Rattle.bdb_mkleaves.specs.declared.leaf_type.LeafType.{LeafType}
-use Rattle.bdb_mkleaves.specs.declared.leaf_type.LeafType.TheVariants.{Records}
+use Rattle.bdb_mkhash.specs.of_law_levels.declared.inner_type.InnerType.{InnerType}
+use Rattle.bdb_mkhash.specs.of_law_levels.declared.inner_type.InnerType.TheVariants.{Keyed}
+use Rattle.bdb_mkhash.specs.of_mkleaves.Inner.{first_cost}
+use Rattle.bdb_mkhash.specs.of_mkleaves.Laid.{inner_of}
+use Rattle.bdb_mkhash.specs.of_mkleaves.Spread.{inner_cost, key_item_cost, leaf_key, leaves_and_levels, pages_over, spread_units, unit_key}
+use Rattle.bdb_mkhash.specs.of_mkleaves.Units.{EntryUnit, TreeUnit, page_room, unit_cost}
+use Rattle.bdb_mkhash.specs.of_mkleaves.declared.leaf_type.LeafType.{LeafType}
+use Rattle.bdb_mkhash.specs.of_mkleaves.declared.leaf_type.LeafType.TheVariants.{Records}
 use Rattle.bdb_need.specs.declared.open_page.OpenPage.{OpenPage}
 use Rattle.bdb_need.specs.Counting.{ArePut, data_units, pages_on}
 use Rattle.bdb_need.proofs.BehindLemmas.{behind, behind-map, behind_new, behind_open, length-spread, self, spread_from}

@@ -3,10 +3,10 @@ use Rattle.std.proofs.Common.{◌≡◌, ℕ, ◌+◌, ◌-◌, ◌<◌, ◌≤�
 use Rattle.std.proofs.Common.{ap}
 use Rattle.std.specs.Prelude.{◌/◌, is_some}
 use Rattle.std.specs.List.{list_all, sum_by}
-use Rattle.bdb_format.specs.HeadOf.{is_page_size}
-use Rattle.bdb_format.proofs.SizeLemmas.{size_bounds}
-use Rattle.bdb_mkleaves.specs.Spread.{leaves_and_levels, set_type}
-use Rattle.bdb_mkleaves.specs.Units.{chain_pages, page_room}
+use Rattle.bdb_mkhash.specs.of_format.HeadOf.{is_page_size}
+use Rattle.bdb_mkhash.proofs.of_format.SizeLemmas.{size_bounds}
+use Rattle.bdb_mkhash.specs.of_mkleaves.Spread.{leaves_and_levels, set_type}
+use Rattle.bdb_mkhash.specs.of_mkleaves.Units.{chain_pages, page_room}
 use Rattle.bdb_mkhash.specs.Costs.{data_cost, data_form, is_inline, hash_item_cost, pages_in, blocks_cost, stand_together}
 use Rattle.bdb_mkhash.proofs.CostLemmas.{cost_more, data_few, form_more, inline_more, item_few, long_apart, much_apart}
 use Rattle.bdb_need.specs.Counting.{data_units}

@@ -1,9 +1,9 @@
 -- Pages that are counted while things are put on them. Source: docs/FORMAT.md, "Built trees".
 use Rattle.std.specs.Prelude.{◌≡◌, ℕ, ◌+◌, ◌-◌, ◌/◌, ◌≤◌, nat_le, if◌then◌else◌, false, List, [], ◌++◌, length, map}
-use Rattle.bdb_format.specs.Numbers.{pad4}
-use Rattle.bdb_mkleaves.specs.Spread.{spread_on}
-use Rattle.bdb_mkleaves.specs.Units.{EntryUnit, TreeUnit, page_room}
-use Rattle.bdb_text_format.specs.declared.pairs.TextPair.{TextPair}
+use Rattle.bdb_mkhash.specs.of_format.Numbers.{pad4}
+use Rattle.bdb_mkhash.specs.of_mkleaves.Spread.{spread_on}
+use Rattle.bdb_mkhash.specs.of_mkleaves.Units.{EntryUnit, TreeUnit, page_room}
+use Rattle.bdb_mkhash.specs.of_text_format.declared.pairs.TextPair.{TextPair}
 use Rattle.bdb_need.specs.declared.open_page.OpenPage.{OpenPage}
 
 -- how many pages things need that take so much, where the open page has so many bytes left

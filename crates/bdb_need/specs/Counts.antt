@@ -1,6 +1,6 @@
 -- Keys with their data. Source: docs/FORMAT.md, "Built tables".
 use Rattle.std.specs.Prelude.{ℕ, if◌then◌else◌, List, Option, Some, None}
-use Rattle.bdb_law_buckets.specs.Tables.{Keyed}
+use Rattle.bdb_mkhash.specs.of_law_buckets.Tables.{Keyed}
 use Rattle.bdb_mkhash.specs.Costs.{blocks_cost, stand_together}
 
 -- a key with its data

@@ -2,21 +2,21 @@
 -- "Pages of a loaded file".
 use Rattle.std.specs.Prelude.{◌≡◌, ℕ, ◌+◌, ◌-◌, ◌≤◌, if◌then◌else◌, IsTrue, List, [], ◌∷◌, map, replicate, Option, Some, None, is_some}
 use Rattle.std.specs.List.{All, sum_by}
-use Rattle.bdb_format.specs.declared.kinds.Kind.{Kind}
-use Rattle.bdb_format.specs.declared.kinds.Kind.TheVariants.{Btree, Recno, Hash, Queue}
-use Rattle.bdb_format.specs.declared.kinds.Order.TheVariants.{Little}
-use Rattle.bdb_format.specs.declared.settings.Settings.{Settings}
-use Rattle.bdb_format.specs.Databases.{plain_settings}
-use Rattle.bdb_format.specs.HeadOf.{is_page_size}
-use Rattle.bdb_format.specs.Numbers.{pad4}
-use Rattle.bdb_format.specs.Rows.{records_per_page}
-use Rattle.bdb_text_format.specs.declared.pairs.Pair.{Pair}
-use Rattle.bdb_text_format.specs.declared.pairs.Key.TheVariants.{Bytes}
-use Rattle.bdb_text_format.specs.declared.pairs.TextPair.{TextPair}
-use Rattle.bdb_text_format.specs.declared.sections.Section.{Section}
-use Rattle.bdb_text_format.specs.Pairs.{AscendFrom}
-use Rattle.bdb_mkleaves.specs.Runs.{IsShort}
-use Rattle.bdb_mktree.specs.Lists.{IsTreeList}
+use Rattle.bdb_mkhash.specs.of_format.declared.kinds.Kind.{Kind}
+use Rattle.bdb_mkhash.specs.of_format.declared.kinds.Kind.TheVariants.{Btree, Recno, Hash, Queue}
+use Rattle.bdb_mkhash.specs.of_format.declared.kinds.Order.TheVariants.{Little}
+use Rattle.bdb_mkhash.specs.of_format.declared.settings.Settings.{Settings}
+use Rattle.bdb_mkhash.specs.of_format.Databases.{plain_settings}
+use Rattle.bdb_mkhash.specs.of_format.HeadOf.{is_page_size}
+use Rattle.bdb_mkhash.specs.of_format.Numbers.{pad4}
+use Rattle.bdb_mkhash.specs.of_format.Rows.{records_per_page}
+use Rattle.bdb_mkhash.specs.of_text_format.declared.pairs.Pair.{Pair}
+use Rattle.bdb_mkhash.specs.of_text_format.declared.pairs.Key.TheVariants.{Bytes}
+use Rattle.bdb_mkhash.specs.of_text_format.declared.pairs.TextPair.{TextPair}
+use Rattle.bdb_mkhash.specs.of_text_format.declared.sections.Section.{Section}
+use Rattle.bdb_mkhash.specs.of_text_format.Pairs.{AscendFrom}
+use Rattle.bdb_mkhash.specs.of_mkleaves.Runs.{IsShort}
+use Rattle.bdb_mkhash.specs.of_mktree.Lists.{IsTreeList}
 use Rattle.bdb_mkhash.specs.Buckets.{table_size, table_units}
 use Rattle.bdb_mkhash.specs.Table.{IsTableList}
 use Rattle.bdb_mkqueue.specs.Layout.{queue_size}

@@ -1,8 +1,8 @@
 ghost use Rattle.std.specs.Prelude.{◌≡◌, ◌+◌, ◌≤◌, ◌<◌, ◌^◌, IsTrue};
-ghost use Rattle.bdb_format.specs.HeadOf.{is_page_size};
-ghost use Rattle.bdb_mkleaves.specs.Runs.{IsShort};
-ghost use Rattle.bdb_mkleaves.specs.Spread.{key_item_cost};
-ghost use Rattle.bdb_mkleaves.specs.Units.{chain_pages, page_room, value_cost};
+ghost use Rattle.bdb_mkhash.specs.of_format.HeadOf.{is_page_size};
+ghost use Rattle.bdb_mkhash.specs.of_mkleaves.Runs.{IsShort};
+ghost use Rattle.bdb_mkhash.specs.of_mkleaves.Spread.{key_item_cost};
+ghost use Rattle.bdb_mkhash.specs.of_mkleaves.Units.{chain_pages, page_room, value_cost};
 ghost use Rattle.bdb_need.specs.Counting.{length_chain, length_cost};
 
 /// The bytes of a page behind its header.

@@ -1,17 +1,17 @@
 ghost use Rattle.std.specs.Prelude.{◌≡◌, ◌+◌, ◌≤◌, ◌*◌, ◌^◌, IfOk, IsTrue, length};
 ghost use Rattle.std.specs.List.{All, sum_by};
-ghost use Rattle.bdb_format.specs.HeadOf.{is_page_size};
-ghost use Rattle.bdb_places.specs.Places.{values_seen};
-ghost use Rattle.bdb_mkleaves.specs.Runs.{IsShort, more_cost};
-ghost use Rattle.bdb_mkleaves.specs.Spread.{leaves_and_levels, set_type};
-ghost use Rattle.bdb_mkleaves.specs.Units.{chain_pages};
-ghost use Rattle.bdb_mkleaves.specs.declared.leaf_type.LeafType.TheVariants.{Records, SortedData};
+ghost use Rattle.bdb_mkhash.specs.of_format.HeadOf.{is_page_size};
+ghost use Rattle.bdb_mkhash.specs.of_places.Places.{values_seen};
+ghost use Rattle.bdb_mkhash.specs.of_mkleaves.Runs.{IsShort, more_cost};
+ghost use Rattle.bdb_mkhash.specs.of_mkleaves.Spread.{leaves_and_levels, set_type};
+ghost use Rattle.bdb_mkhash.specs.of_mkleaves.Units.{chain_pages};
+ghost use Rattle.bdb_mkhash.specs.of_mkleaves.declared.leaf_type.LeafType.TheVariants.{Records, SortedData};
 ghost use Rattle.bdb_need.specs.Counting.{data_units};
 
 use crate::costs::{chain_pages, key_item_cost, page_room, value_cost};
 use crate::keyed_leaves::KeyedLeaves;
 use crate::open_page::OpenPage;
-use bdb_places::Values;
+use bdb_mkhash::bdb_places::Values;
 use std::alloc::{AllocError, Global};
 
 /// The pages of the chains of data.

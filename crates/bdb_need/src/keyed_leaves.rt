@@ -1,6 +1,6 @@
 ghost use Rattle.std.specs.Prelude.{ℕ, ◌≡◌, ◌+◌, ◌-◌, ◌≤◌, ◌<◌, ◌*◌, ◌∷◌, ◌++◌, [], OnOk, length};
 ghost use Rattle.std.specs.List.{All};
-ghost use Rattle.bdb_mkleaves.specs.Spread.{pages_over};
+ghost use Rattle.bdb_mkhash.specs.of_mkleaves.Spread.{pages_over};
 
 use crate::levels::levels_over_keys;
 use std::alloc::{AllocError, Global};

@@ -1,20 +1,20 @@
 ghost use Rattle.std.specs.Prelude.{◌≡◌, ◌+◌, ◌≤◌, ◌<◌, ◌*◌, ◌^◌, IfOk, IsTrue, drop, length};
 ghost use Rattle.std.specs.List.{All};
-ghost use Rattle.bdb_format.specs.HeadOf.{is_page_size};
-ghost use Rattle.bdb_places.specs.Places.{values_seen};
-ghost use Rattle.bdb_text_format.specs.Placed.{pairs_of};
-ghost use Rattle.bdb_mkleaves.specs.Runs.{IsShort};
-ghost use Rattle.bdb_mkleaves.specs.Spread.{own_pages, tree_size};
-ghost use Rattle.bdb_mkleaves.specs.Units.{KeyedUnit, has_own_tree, page_room, unit_cost};
-ghost use Rattle.bdb_mkleaves.specs.declared.leaf_type.LeafType.TheVariants.{Pairs};
-ghost use Rattle.bdb_mktree.specs.Lists.{HasBytes, keyed_units};
-ghost use Rattle.bdb_mktree.specs.Units.{IsShortUnit};
+ghost use Rattle.bdb_mkhash.specs.of_format.HeadOf.{is_page_size};
+ghost use Rattle.bdb_mkhash.specs.of_places.Places.{values_seen};
+ghost use Rattle.bdb_mkhash.specs.of_text_format.Placed.{pairs_of};
+ghost use Rattle.bdb_mkhash.specs.of_mkleaves.Runs.{IsShort};
+ghost use Rattle.bdb_mkhash.specs.of_mkleaves.Spread.{own_pages, tree_size};
+ghost use Rattle.bdb_mkhash.specs.of_mkleaves.Units.{KeyedUnit, has_own_tree, page_room, unit_cost};
+ghost use Rattle.bdb_mkhash.specs.of_mkleaves.declared.leaf_type.LeafType.TheVariants.{Pairs};
+ghost use Rattle.bdb_mkhash.specs.of_mktree.Lists.{HasBytes, keyed_units};
+ghost use Rattle.bdb_mkhash.specs.of_mktree.Units.{IsShortUnit};
 
 use crate::costs::{chain_pages, key_item_cost, page_room, value_cost};
 use crate::data::{data_chains, data_cost, data_pages};
 use crate::keyed_leaves::KeyedLeaves;
-use bdb_mktree::{Run, run_at};
-use bdb_text_format::PairSlice;
+use bdb_mkhash::bdb_mktree::{Run, run_at};
+use bdb_mkhash::bdb_text_format::PairSlice;
 use std::alloc::{AllocError, Global};
 
 /// What a key with its data takes of its leaf.

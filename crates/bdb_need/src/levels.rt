@@ -1,6 +1,6 @@
 ghost use Rattle.std.specs.Prelude.{ℕ, ◌≡◌, ◌+◌, ◌-◌, ◌≤◌, ◌<◌, ◌*◌, ◌^◌, ◌∷◌, length, map, replicate};
 ghost use Rattle.std.specs.List.{All};
-ghost use Rattle.bdb_mkleaves.specs.Spread.{first_or, pages_over, spread_items};
+ghost use Rattle.bdb_mkhash.specs.of_mkleaves.Spread.{first_or, pages_over, spread_items};
 
 // What an item takes that counts records.
 const COUNT_COST: usize = 10;

@@ -1,14 +1,14 @@
 ghost use Rattle.std.specs.Prelude.{◌≡◌, ◌<◌, ◌^◌, IfOk, IsTrue, map};
 ghost use Rattle.std.specs.List.{All};
-ghost use Rattle.bdb_format.specs.HeadOf.{is_page_size};
-ghost use Rattle.bdb_text_format.specs.Placed.{pair_seen};
-ghost use Rattle.bdb_mkleaves.specs.Runs.{IsShort};
+ghost use Rattle.bdb_mkhash.specs.of_format.HeadOf.{is_page_size};
+ghost use Rattle.bdb_mkhash.specs.of_text_format.Placed.{pair_seen};
+ghost use Rattle.bdb_mkhash.specs.of_mkleaves.Runs.{IsShort};
 ghost use Rattle.bdb_need.specs.Need.{master_pages, master_settings, name_in, name_pair};
 
 use crate::trees::tree_pages;
-use bdb_format::{Kind, Order, Settings, plain_settings};
+use bdb_mkhash::bdb_format::{Kind, Order, Settings, plain_settings};
+use bdb_mkhash::bdb_text_format::{KeyRef, PairRef, Section, Sections, TextPairs};
 use bdb_settle::settle;
-use bdb_text_format::{KeyRef, PairRef, Section, Sections, TextPairs};
 use std::alloc::{AllocError, Global};
 
 // The settings of the master.

@@ -1,5 +1,5 @@
 ghost use Rattle.std.specs.Prelude.{◌≡◌, ◌+◌, ◌≤◌, ◌<◌, ◌*◌, ◌^◌, ◌∷◌, [], replicate};
-ghost use Rattle.bdb_mkleaves.specs.Spread.{pages_over};
+ghost use Rattle.bdb_mkhash.specs.of_mkleaves.Spread.{pages_over};
 ghost use Rattle.bdb_need.specs.Counting.{ArePut};
 
 use crate::levels::levels_over_counts;

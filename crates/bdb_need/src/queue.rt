@@ -1,14 +1,14 @@
 ghost use Rattle.std.specs.Prelude.{◌≡◌, ◌+◌, ◌-◌, ◌≤◌, ◌<◌, ◌^◌, IsTrue};
-ghost use Rattle.bdb_format.specs.HeadOf.{is_page_size};
-ghost use Rattle.bdb_format.specs.Numbers.{pad4};
-ghost use Rattle.bdb_format.specs.Rows.{records_per_page};
+ghost use Rattle.bdb_mkhash.specs.of_format.HeadOf.{is_page_size};
+ghost use Rattle.bdb_mkhash.specs.of_format.Numbers.{pad4};
+ghost use Rattle.bdb_mkhash.specs.of_format.Rows.{records_per_page};
 ghost use Rattle.bdb_mkqueue.specs.Layout.{queue_size};
-ghost use Rattle.bdb_text_format.specs.Pairs.{AscendFrom, number_of};
-ghost use Rattle.bdb_text_format.specs.Placed.{key_seen};
+ghost use Rattle.bdb_mkhash.specs.of_text_format.Pairs.{AscendFrom, number_of};
+ghost use Rattle.bdb_mkhash.specs.of_text_format.Placed.{key_seen};
 ghost use Rattle.bdb_need.specs.TreePages.{unlined_pairs};
 
-use bdb_format::Settings;
-use bdb_text_format::{KeyRef, TextPairs};
+use bdb_mkhash::bdb_format::Settings;
+use bdb_mkhash::bdb_text_format::{KeyRef, TextPairs};
 
 // The number of a record.
 fn number_of(key: KeyRef<'_>) -> u64

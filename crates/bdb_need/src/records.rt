@@ -1,21 +1,21 @@
 ghost use Rattle.std.specs.Prelude.{◌≡◌, ◌<◌, ◌^◌, Bool, IsTrue};
 ghost use Rattle.std.specs.List.{All};
-ghost use Rattle.bdb_format.specs.HeadOf.{is_page_size};
-ghost use Rattle.bdb_mkleaves.specs.Runs.{IsShort};
-ghost use Rattle.bdb_mkleaves.specs.Spread.{tree_size};
-ghost use Rattle.bdb_mkleaves.specs.declared.leaf_type.LeafType.TheVariants.{Records};
-ghost use Rattle.bdb_text_format.specs.Pairs.{AscendFrom, number_of};
-ghost use Rattle.bdb_text_format.specs.Placed.{key_seen, slice_seen};
-ghost use Rattle.bdb_mktree.specs.Lists.{record_units};
+ghost use Rattle.bdb_mkhash.specs.of_format.HeadOf.{is_page_size};
+ghost use Rattle.bdb_mkhash.specs.of_mkleaves.Runs.{IsShort};
+ghost use Rattle.bdb_mkhash.specs.of_mkleaves.Spread.{tree_size};
+ghost use Rattle.bdb_mkhash.specs.of_mkleaves.declared.leaf_type.LeafType.TheVariants.{Records};
+ghost use Rattle.bdb_mkhash.specs.of_text_format.Pairs.{AscendFrom, number_of};
+ghost use Rattle.bdb_mkhash.specs.of_text_format.Placed.{key_seen, slice_seen};
+ghost use Rattle.bdb_mkhash.specs.of_mktree.Lists.{record_units};
 ghost use Rattle.bdb_need.specs.Counting.{values_in};
 ghost use Rattle.bdb_need.specs.TreePages.{unlined_pairs};
 ghost use Rattle.bdb_settle.specs.Loaded.{filled_pairs};
 
 use crate::costs::{length_chain, length_cost, page_room};
 use crate::open_page::OpenPage;
-use bdb_format::Settings;
+use bdb_mkhash::bdb_format::Settings;
+use bdb_mkhash::bdb_text_format::{KeyRef, PairSlice};
 use bdb_settle::filled_len;
-use bdb_text_format::{KeyRef, PairSlice};
 
 // What a missing record takes of a leaf: an entry, and a deleted item without bytes.
 const MISSING_COST: usize = 6;

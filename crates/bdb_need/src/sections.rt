@@ -1,6 +1,6 @@
 ghost use Rattle.std.specs.Prelude.{◌≡◌, ◌+◌, ◌<◌, ◌^◌, IfOk, IsTrue, map};
 ghost use Rattle.std.specs.List.{All, sum_by};
-ghost use Rattle.bdb_format.specs.HeadOf.{is_page_size};
+ghost use Rattle.bdb_mkhash.specs.of_format.HeadOf.{is_page_size};
 ghost use Rattle.bdb_need.specs.Need.{AreSettled, IsListOf, IsSettled, list_pages, need_of, section_pages, sized};
 ghost use Rattle.bdb_need.specs.TreePages.{unlined_pairs};
 ghost use Rattle.bdb_settle.specs.Loaded.{filled_pairs, filled_section};
@@ -9,8 +9,8 @@ use crate::master::master_pages;
 use crate::queue::queue_pages;
 use crate::table::table_pages;
 use crate::trees::filled_tree_pages;
-use bdb_format::{Kind, Settings};
-use bdb_text_format::{Section, Sections, TextPairs};
+use bdb_mkhash::bdb_format::{Kind, Settings};
+use bdb_mkhash::bdb_text_format::{Section, Sections, TextPairs};
 use std::alloc::{AllocError, Global};
 
 // The pages of the database of a list once its records are filled up, its metadata not counted.

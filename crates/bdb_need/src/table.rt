@@ -1,20 +1,20 @@
 ghost use Rattle.std.specs.Prelude.{◌≡◌, ◌+◌, ◌<◌, ◌≤◌, ◌*◌, ◌^◌, IfOk, IsTrue, length};
 ghost use Rattle.std.specs.List.{All, sum_by};
-ghost use Rattle.bdb_format.specs.HeadOf.{is_page_size};
-ghost use Rattle.bdb_text_format.specs.Placed.{pairs_of};
-ghost use Rattle.bdb_mktree.specs.Lists.{HasBytes, keyed_units};
-ghost use Rattle.bdb_mktree.specs.Units.{IsShortUnit};
-ghost use Rattle.bdb_law_buckets.specs.Tables.{bucket_among};
+ghost use Rattle.bdb_mkhash.specs.of_format.HeadOf.{is_page_size};
+ghost use Rattle.bdb_mkhash.specs.of_text_format.Placed.{pairs_of};
+ghost use Rattle.bdb_mkhash.specs.of_mktree.Lists.{HasBytes, keyed_units};
+ghost use Rattle.bdb_mkhash.specs.of_mktree.Units.{IsShortUnit};
+ghost use Rattle.bdb_mkhash.specs.of_law_buckets.Tables.{bucket_among};
 ghost use Rattle.bdb_mkhash.specs.Buckets.{bits_for, buckets_of, spread_bucket, table_cost, table_size, table_units};
 ghost use Rattle.bdb_mkhash.specs.Costs.{keyed_own_pages};
 ghost use Rattle.bdb_mkhash.specs.Table.{IsTableList};
 ghost use Rattle.bdb_need.specs.TreePages.{unlined_pairs};
 
 use crate::units::{keyed_cost, keyed_own_pages};
-use bdb_format::Settings;
-use bdb_layout::{bucket_of, hash5};
-use bdb_mktree::run_at;
-use bdb_text_format::{PairSlice, TextPairs};
+use bdb_mkhash::bdb_format::Settings;
+use bdb_mkhash::bdb_layout::{bucket_of, hash5};
+use bdb_mkhash::bdb_mktree::run_at;
+use bdb_mkhash::bdb_text_format::{PairSlice, TextPairs};
 use std::alloc::{AllocError, Global};
 
 /// What all keys of a list take of the pages of buckets, and how many pages they have of their own.

@@ -1,15 +1,15 @@
 ghost use Rattle.std.specs.Prelude.{◌≡◌, ◌≤◌, ◌<◌, ◌^◌, IfOk, IsTrue};
-ghost use Rattle.bdb_format.specs.HeadOf.{is_page_size};
-ghost use Rattle.bdb_mkleaves.specs.Spread.{tree_size};
-ghost use Rattle.bdb_mktree.specs.Lists.{IsTreeList, units_in};
-ghost use Rattle.bdb_mktree.specs.Units.{IsTreeKind, leaf_type_of};
+ghost use Rattle.bdb_mkhash.specs.of_format.HeadOf.{is_page_size};
+ghost use Rattle.bdb_mkhash.specs.of_mkleaves.Spread.{tree_size};
+ghost use Rattle.bdb_mkhash.specs.of_mktree.Lists.{IsTreeList, units_in};
+ghost use Rattle.bdb_mkhash.specs.of_mktree.Units.{IsTreeKind, leaf_type_of};
 ghost use Rattle.bdb_need.specs.TreePages.{unlined_pairs, tree_pages};
 ghost use Rattle.bdb_settle.specs.Loaded.{filled_pairs};
 
 use crate::keys::keyed_pages;
 use crate::records::record_pages;
-use bdb_format::{Kind, Settings};
-use bdb_text_format::TextPairs;
+use bdb_mkhash::bdb_format::{Kind, Settings};
+use bdb_mkhash::bdb_text_format::TextPairs;
 use std::alloc::{AllocError, Global};
 
 /// How many pages the tree of a list has once its records are filled up, its root and the chains and trees of its data among them. No

@@ -1,16 +1,16 @@
 ghost use Rattle.std.specs.Prelude.{◌≡◌, ◌+◌, ◌<◌, ◌≤◌, ◌*◌, ◌^◌, IfOk, IsTrue, length};
 ghost use Rattle.std.specs.List.{All};
-ghost use Rattle.bdb_format.specs.HeadOf.{is_page_size};
-ghost use Rattle.bdb_places.specs.Places.{values_seen};
-ghost use Rattle.bdb_mkleaves.specs.Runs.{IsShort};
-ghost use Rattle.bdb_mkleaves.specs.Units.{page_room};
+ghost use Rattle.bdb_mkhash.specs.of_format.HeadOf.{is_page_size};
+ghost use Rattle.bdb_mkhash.specs.of_places.Places.{values_seen};
+ghost use Rattle.bdb_mkhash.specs.of_mkleaves.Runs.{IsShort};
+ghost use Rattle.bdb_mkhash.specs.of_mkleaves.Units.{page_room};
 ghost use Rattle.bdb_mkhash.specs.Costs.{data_cost, data_form, hash_item_cost, keyed_own_pages, pages_in, keyed_cost};
 ghost use Rattle.bdb_need.specs.Counts.{keyed, set_or_none};
 
 use crate::costs::chain_pages;
 use crate::data::{data_chains, data_pages};
-use bdb_mktree::Run;
-use bdb_places::Values;
+use bdb_mkhash::bdb_mktree::Run;
+use bdb_mkhash::bdb_places::Values;
 use std::alloc::{AllocError, Global};
 
 // What the item of a tree of data takes of a page, with its entry.

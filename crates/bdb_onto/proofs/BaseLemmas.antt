@@ -1,25 +1,25 @@
 -- The lists of a base are loaded as they are.
 use Rattle.std.proofs.Common.{◌≡◌, ℕ, Bool, true, false, cond, List, [], ◌∷◌, map, None, refl, sym, ◌∙◌, ap, subst}
 use Rattle.std.specs.List.{Contains}
-use Rattle.bdb_format.specs.declared.kinds.Kind.TheVariants.{Queue}
-use Rattle.bdb_format.specs.declared.kinds.Order.{Order}
-use Rattle.bdb_format.specs.declared.settings.Settings.{Settings}
-use Rattle.bdb_format.specs.Databases.{Database, btree_settings, databases, recno_settings, settings_of}
-use Rattle.bdb_format.specs.File.{file_of}
-use Rattle.bdb_format.specs.Flags.{is_recno}
-use Rattle.bdb_format.specs.HeadOf.{head_of}
-use Rattle.bdb_format.specs.Lists.{ListKey, BytesKey, NumberKey, list_of}
-use Rattle.bdb_format.specs.Page.{Metadata, BtreeFields, HashFields, QueueFields}
-use Rattle.bdb_format.proofs.MemberLemmas.{of_map}
-use Rattle.bdb_text_format.specs.declared.pairs.Pair.{Pair}
-use Rattle.bdb_text_format.specs.declared.pairs.Key.{Key}
-use Rattle.bdb_text_format.specs.declared.pairs.Key.TheVariants.{Bytes, Number}
-use Rattle.bdb_text_format.specs.declared.pairs.TextPair.{TextPair}
-use Rattle.bdb_text_format.specs.declared.sections.Section.{Section}
-use Rattle.bdb_text_format.specs.Pairs.{listed, listed_key}
-use Rattle.bdb_settle.specs.Loaded.{loaded, loaded_section, unnumbered}
-use Rattle.bdb_need.specs.TreePages.{unlined_pairs}
-use Rattle.bdb_text.specs.WrittenLaw.{pair_in}
+use Rattle.bdb_mkfile.specs.of_format.declared.kinds.Kind.TheVariants.{Queue}
+use Rattle.bdb_mkfile.specs.of_format.declared.kinds.Order.{Order}
+use Rattle.bdb_mkfile.specs.of_format.declared.settings.Settings.{Settings}
+use Rattle.bdb_mkfile.specs.of_format.Databases.{Database, btree_settings, databases, recno_settings, settings_of}
+use Rattle.bdb_mkfile.specs.of_format.File.{file_of}
+use Rattle.bdb_mkfile.specs.of_format.Flags.{is_recno}
+use Rattle.bdb_mkfile.specs.of_format.HeadOf.{head_of}
+use Rattle.bdb_mkfile.specs.of_format.Lists.{ListKey, BytesKey, NumberKey, list_of}
+use Rattle.bdb_mkfile.specs.of_format.Page.{Metadata, BtreeFields, HashFields, QueueFields}
+use Rattle.bdb_mkfile.proofs.of_format.MemberLemmas.{of_map}
+use Rattle.bdb_mkfile.specs.of_text_format.declared.pairs.Pair.{Pair}
+use Rattle.bdb_mkfile.specs.of_text_format.declared.pairs.Key.{Key}
+use Rattle.bdb_mkfile.specs.of_text_format.declared.pairs.Key.TheVariants.{Bytes, Number}
+use Rattle.bdb_mkfile.specs.of_text_format.declared.pairs.TextPair.{TextPair}
+use Rattle.bdb_mkfile.specs.of_text_format.declared.sections.Section.{Section}
+use Rattle.bdb_mkfile.specs.of_text_format.Pairs.{listed, listed_key}
+use Rattle.bdb_mkfile.specs.of_settle.Loaded.{loaded, loaded_section, unnumbered}
+use Rattle.bdb_mkfile.specs.of_need.TreePages.{unlined_pairs}
+use Rattle.bdb_law_kept.specs.of_text.WrittenLaw.{pair_in}
 use Rattle.bdb_law_kept.specs.Kept.{AreListOf, HasNoErrors, IsSound, LoadsAlike, settings_in}
 use Rattle.bdb_law_kept.proofs.AlikeLemmas.{keeps_lists, loads_without_errors}
 use Rattle.bdb_law_kept.proofs.NameLemmas.{queues_stand_alone}

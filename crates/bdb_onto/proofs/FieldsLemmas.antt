@@ -5,34 +5,34 @@ use Rattle.std.specs.List.{All, Contains, range_with_len, sum_by}
 use Rattle.std.proofs.lemmas.Bool.Decides.{nat_tests}
 use Rattle.std.proofs.lemmas.List.Elements.{All-cons, All-head, All-map, All-nil, All-tail}
 use Rattle.std.proofs.lemmas.List.Sums.{sum_by-cons, get_or-le-sum_by}
-use Rattle.bdb_format.specs.declared.kinds.Order.{Order}
-use Rattle.bdb_format.specs.declared.metadata.BtreeMeta.{BtreeMeta}
-use Rattle.bdb_format.specs.declared.metadata.FileKind.TheVariants.{Hash as HashFile}
-use Rattle.bdb_format.specs.declared.metadata.HashMeta.{HashMeta}
-use Rattle.bdb_format.specs.declared.metadata.QueueMeta.{QueueMeta}
-use Rattle.bdb_format.specs.declared.settings.Settings.{Settings}
-use Rattle.bdb_format.specs.Databases.{Database, btree_settings, databases, hash_settings, queue_settings, recno_settings}
-use Rattle.bdb_format.specs.File.{file_of, page_bytes}
-use Rattle.bdb_format.specs.Flags.{is_recno}
-use Rattle.bdb_format.specs.HeadOf.{head_of, is_page_size}
-use Rattle.bdb_format.specs.Lists.{ListKey, BytesKey, NumberKey, btree_list, list_of, recno_list}
-use Rattle.bdb_format.specs.Numbers.{four_at, has_bit}
-use Rattle.bdb_format.specs.Page.{Metadata, BtreeFields, HashFields, QueueFields}
-use Rattle.bdb_format.specs.Rows.{are_wrong_flags, metadata_rows}
-use Rattle.bdb_format.specs.Table.{Row}
-use Rattle.bdb_format.proofs.ListLemmas.{all_of}
-use Rattle.bdb_format.proofs.MemberLemmas.{in_range, none_passes}
-use Rattle.bdb_format.proofs.VerdictLemmas.{AllFail, none_is_first_row}
-use Rattle.bdb_image.specs.Formed.{IsAccepted}
-use Rattle.bdb_image.specs.Linked.{HasMetadata, IsForest}
-use Rattle.bdb_image.proofs.FirstLemmas.{formed_accepted}
-use Rattle.bdb_image.proofs.FormedLemmas.{accepted_paged}
-use Rattle.bdb_image.proofs.HeldLemmas.{table_formed}
-use Rattle.bdb_graph.proofs.ReadLemmas.{IsMetaPage, flags_fit, page_of_meta}
-use Rattle.bdb_text_format.specs.Written.{holds_records}
-use Rattle.bdb_law_sections.specs.Fit.{AreFitSettings, IsFitPair, IsFitSection}
-use Rattle.bdb_law_sections.proofs.PairLemmas.{fit_longer}
-use Rattle.bdb_text.specs.WrittenLaw.{AreBytes, IsPairOf}
+use Rattle.bdb_mkfile.specs.of_format.declared.kinds.Order.{Order}
+use Rattle.bdb_mkfile.specs.of_format.declared.metadata.BtreeMeta.{BtreeMeta}
+use Rattle.bdb_mkfile.specs.of_format.declared.metadata.FileKind.TheVariants.{Hash as HashFile}
+use Rattle.bdb_mkfile.specs.of_format.declared.metadata.HashMeta.{HashMeta}
+use Rattle.bdb_mkfile.specs.of_format.declared.metadata.QueueMeta.{QueueMeta}
+use Rattle.bdb_mkfile.specs.of_format.declared.settings.Settings.{Settings}
+use Rattle.bdb_mkfile.specs.of_format.Databases.{Database, btree_settings, databases, hash_settings, queue_settings, recno_settings}
+use Rattle.bdb_mkfile.specs.of_format.File.{file_of, page_bytes}
+use Rattle.bdb_mkfile.specs.of_format.Flags.{is_recno}
+use Rattle.bdb_mkfile.specs.of_format.HeadOf.{head_of, is_page_size}
+use Rattle.bdb_mkfile.specs.of_format.Lists.{ListKey, BytesKey, NumberKey, btree_list, list_of, recno_list}
+use Rattle.bdb_mkfile.specs.of_format.Numbers.{four_at, has_bit}
+use Rattle.bdb_mkfile.specs.of_format.Page.{Metadata, BtreeFields, HashFields, QueueFields}
+use Rattle.bdb_mkfile.specs.of_format.Rows.{are_wrong_flags, metadata_rows}
+use Rattle.bdb_mkfile.specs.of_format.Table.{Row}
+use Rattle.bdb_mkfile.proofs.of_format.ListLemmas.{all_of}
+use Rattle.bdb_mkfile.proofs.of_format.MemberLemmas.{in_range, none_passes}
+use Rattle.bdb_mkfile.proofs.of_format.VerdictLemmas.{AllFail, none_is_first_row}
+use Rattle.bdb_mkfile.specs.of_image.Formed.{IsAccepted}
+use Rattle.bdb_mkfile.specs.of_image.Linked.{HasMetadata, IsForest}
+use Rattle.bdb_mkfile.proofs.of_image.FirstLemmas.{formed_accepted}
+use Rattle.bdb_mkfile.proofs.of_image.FormedLemmas.{accepted_paged}
+use Rattle.bdb_mkfile.proofs.of_image.HeldLemmas.{table_formed}
+use Rattle.bdb_mkfile.proofs.of_graph.ReadLemmas.{IsMetaPage, flags_fit, page_of_meta}
+use Rattle.bdb_mkfile.specs.of_text_format.Written.{holds_records}
+use Rattle.bdb_mkfile.specs.of_law_sections.Fit.{AreFitSettings, IsFitPair, IsFitSection}
+use Rattle.bdb_mkfile.proofs.of_law_sections.PairLemmas.{fit_longer}
+use Rattle.bdb_law_kept.specs.of_text.WrittenLaw.{AreBytes, IsPairOf}
 use Rattle.bdb_law_kept.specs.Kept.{IsSound, settings_in}
 use Rattle.bdb_law_kept.proofs.BytesLemmas.{FileHoldsBytes, file_holds, page_all}
 use Rattle.bdb_law_kept.proofs.SoundLemmas.{forest_of, has_fields}

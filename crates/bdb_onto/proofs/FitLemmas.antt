@@ -6,20 +6,20 @@ use Rattle.std.specs.List.{All, Contains, filter, list_any}
 use Rattle.std.proofs.lemmas.Bool.{or_from, or_parts}
 use Rattle.std.proofs.lemmas.List.Elements.{All-append, All-contains, All-cons, All-head, All-nil, All-tail, All-weaker}
 use Rattle.std.proofs.lemmas.List.Folds.{list_any-append}
-use Rattle.bdb_format.specs.declared.kinds.Kind.{Kind}
-use Rattle.bdb_format.specs.declared.kinds.Kind.TheVariants.{Btree, Recno, Hash, Queue}
-use Rattle.bdb_format.specs.declared.settings.Settings.{Settings}
-use Rattle.bdb_format.specs.HeadOf.{is_page_size}
-use Rattle.bdb_format.specs.Databases.{Database, databases, is_name}
-use Rattle.bdb_format.specs.File.{file_of}
-use Rattle.bdb_format.proofs.ListLemmas.{all_of}
-use Rattle.bdb_format.proofs.MemberLemmas.{first_member, in_map, later_member, none_pass, none_passes, of_filter, of_map}
-use Rattle.bdb_text_format.specs.declared.sections.Section.{Section}
-use Rattle.bdb_text_format.specs.Reasons.{is_first}
-use Rattle.bdb_text_format.specs.Written.{holds_records}
-use Rattle.bdb_law_sections.specs.Fit.{AreFitSettings, AreNamedBehind, IsFitPair, IsFitSection}
-use Rattle.bdb_law_sections.proofs.PairLemmas.{fit_longer}
-use Rattle.bdb_text.specs.WrittenLaw.{AreNamedApart, CanStandTogether}
+use Rattle.bdb_mkfile.specs.of_format.declared.kinds.Kind.{Kind}
+use Rattle.bdb_mkfile.specs.of_format.declared.kinds.Kind.TheVariants.{Btree, Recno, Hash, Queue}
+use Rattle.bdb_mkfile.specs.of_format.declared.settings.Settings.{Settings}
+use Rattle.bdb_mkfile.specs.of_format.HeadOf.{is_page_size}
+use Rattle.bdb_mkfile.specs.of_format.Databases.{Database, databases, is_name}
+use Rattle.bdb_mkfile.specs.of_format.File.{file_of}
+use Rattle.bdb_mkfile.proofs.of_format.ListLemmas.{all_of}
+use Rattle.bdb_mkfile.proofs.of_format.MemberLemmas.{first_member, in_map, later_member, none_pass, none_passes, of_filter, of_map}
+use Rattle.bdb_mkfile.specs.of_text_format.declared.sections.Section.{Section}
+use Rattle.bdb_mkfile.specs.of_text_format.Reasons.{is_first}
+use Rattle.bdb_mkfile.specs.of_text_format.Written.{holds_records}
+use Rattle.bdb_mkfile.specs.of_law_sections.Fit.{AreFitSettings, AreNamedBehind, IsFitPair, IsFitSection}
+use Rattle.bdb_mkfile.proofs.of_law_sections.PairLemmas.{fit_longer}
+use Rattle.bdb_law_kept.specs.of_text.WrittenLaw.{AreNamedApart, CanStandTogether}
 use Rattle.bdb_law_kept.proofs.LaterLemmas.{AllLater, later_one}
 use Rattle.bdb_law_kept.proofs.NameLemmas.{all_together}
 use Rattle.bdb_onto.specs.declared.base.Base.{Base}
@@ -31,7 +31,7 @@ use Rattle.bdb_onto.proofs.BaseLemmas.{of_base}
 use Rattle.bdb_onto.proofs.ErrorLemmas.{AreOne, are_one, named_in_base, same_of}
 use Rattle.bdb_onto.proofs.FieldsLemmas.{AreFitBase, base_fits}
 use Rattle.bdb_onto.proofs.JoinLemmas.{found_in}
-use Rattle.bdb_text.proofs.WrittenLemmas.{is_name-sym}
+use Rattle.bdb_law_kept.proofs.of_text.WrittenLemmas.{is_name-sym}
 
 -- Names.
 

@@ -3,13 +3,13 @@ use Rattle.std.proofs.Common.{◌≡◌, Bool, true, false, cond, List, [], ◌�
 use Rattle.std.specs.List.{Contains, filter, find, fold}
 use Rattle.std.proofs.lemmas.List.{map-append}
 use Rattle.std.proofs.lemmas.List.Sums.{fold-append}
-use Rattle.bdb_format.specs.declared.settings.Settings.{Settings}
-use Rattle.bdb_format.proofs.MemberLemmas.{first_member, later_member, of_filter}
-use Rattle.bdb_text_format.specs.declared.pairs.Pair.{Pair}
-use Rattle.bdb_text_format.specs.declared.pairs.TextPair.{TextPair}
-use Rattle.bdb_text_format.specs.declared.sections.Section.{Section}
-use Rattle.bdb_settle.specs.Loaded.{loaded_pair, loaded, loaded_section, unnumbered, with_loaded}
-use Rattle.bdb_need.specs.TreePages.{unlined_pairs}
+use Rattle.bdb_mkfile.specs.of_format.declared.settings.Settings.{Settings}
+use Rattle.bdb_mkfile.proofs.of_format.MemberLemmas.{first_member, later_member, of_filter}
+use Rattle.bdb_mkfile.specs.of_text_format.declared.pairs.Pair.{Pair}
+use Rattle.bdb_mkfile.specs.of_text_format.declared.pairs.TextPair.{TextPair}
+use Rattle.bdb_mkfile.specs.of_text_format.declared.sections.Section.{Section}
+use Rattle.bdb_mkfile.specs.of_settle.Loaded.{loaded_pair, loaded, loaded_section, unnumbered, with_loaded}
+use Rattle.bdb_mkfile.specs.of_need.TreePages.{unlined_pairs}
 use Rattle.bdb_onto.specs.declared.base.Base.{Base}
 use Rattle.bdb_onto.specs.Bases.{IsBase}
 use Rattle.bdb_onto.specs.Onto.{in_base, is_left, is_partner, joined, joined_section, loaded_from, loaded_onto, pairs_from, partner_of, result_of}

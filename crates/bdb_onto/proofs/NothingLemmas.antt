@@ -3,12 +3,12 @@ use Rattle.std.proofs.Common.{◌≡◌, Bool, List, [], ◌++◌, length, map, 
 use Rattle.std.specs.Prelude.{◌==◌}
 use Rattle.std.specs.List.{find, flat_map}
 use Rattle.std.proofs.lemmas.List.Elements.{All-weaker}
-use Rattle.bdb_text_format.specs.declared.sections.Section.{Section}
-use Rattle.bdb_settle.specs.Loaded.{unlined_pairs, unnumbered}
-use Rattle.bdb_settle.specs.declared.load_error.LoadError.{LoadError}
-use Rattle.bdb_settle.specs.declared.load_error.LoadError.TheVariants.{RecordTooLong, QueueAmongNames, OntoKind, OntoNames}
-use Rattle.bdb_settle.specs.LoadErrors.{is_among_names, is_too_wide, pair_errors, where_so}
-use Rattle.bdb_settle.proofs.ErrorLemmas.{both_empty, each_empty, no_errors, not_so}
+use Rattle.bdb_mkfile.specs.of_text_format.declared.sections.Section.{Section}
+use Rattle.bdb_mkfile.specs.of_settle.Loaded.{unlined_pairs, unnumbered}
+use Rattle.bdb_mkfile.specs.of_settle.declared.load_error.LoadError.{LoadError}
+use Rattle.bdb_mkfile.specs.of_settle.declared.load_error.LoadError.TheVariants.{RecordTooLong, QueueAmongNames, OntoKind, OntoNames}
+use Rattle.bdb_mkfile.specs.of_settle.LoadErrors.{is_among_names, is_too_wide, pair_errors, where_so}
+use Rattle.bdb_mkfile.proofs.of_settle.ErrorLemmas.{both_empty, each_empty, no_errors, not_so}
 use Rattle.bdb_onto.specs.declared.base.Base.{Base}
 use Rattle.bdb_onto.specs.Laws.{NoFirstErrorIsNone, OntoNothingIsLoading}
 use Rattle.bdb_onto.specs.Onto.{HasNoErrorsOnto, in_base, is_misnamed, is_other, is_partner, loaded_from, onto_errors, pairs_from, partner_of}

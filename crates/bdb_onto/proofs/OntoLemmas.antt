@@ -3,11 +3,11 @@ use Rattle.std.proofs.Common.{◌≡◌, ℕ, Bool, true, false, List, [], ◌�
 use Rattle.std.specs.Prelude.{if◌then◌else◌, is_some, nat_lt}
 use Rattle.std.specs.List.{fold}
 use Rattle.std.proofs.lemmas.List.Elements.{All-nil}
-use Rattle.bdb_text_format.specs.declared.sections.Section.{Section}
-use Rattle.bdb_settle.specs.Loaded.{loaded_section}
-use Rattle.bdb_settle.specs.LoadErrors.{IsSettleRefusal, load_error}
-use Rattle.bdb_settle.specs.declared.load_error.LoadError.{LoadError}
-use Rattle.bdb_settle.specs.declared.load_error.LoadError.TheVariants.{TooLarge}
+use Rattle.bdb_mkfile.specs.of_text_format.declared.sections.Section.{Section}
+use Rattle.bdb_mkfile.specs.of_settle.Loaded.{loaded_section}
+use Rattle.bdb_mkfile.specs.of_settle.LoadErrors.{IsSettleRefusal, load_error}
+use Rattle.bdb_mkfile.specs.of_settle.declared.load_error.LoadError.{LoadError}
+use Rattle.bdb_mkfile.specs.of_settle.declared.load_error.LoadError.TheVariants.{TooLarge}
 use Rattle.bdb_mkfile.specs.Builds.{in_name_order}
 use Rattle.bdb_mkfile.specs.Loading.{AreLoadable, IsLoadRefusal, IsLoadRefusalBy, loading_error, or_else, size_error}
 use Rattle.bdb_mkfile.specs.Order.{AreApart, IsApart, with_named}

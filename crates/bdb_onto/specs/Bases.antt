@@ -1,14 +1,14 @@
 -- The databases of a sound file, as what a text is loaded onto. Source: docs/FORMAT.md, "Loading onto a file".
 use Rattle.std.specs.Prelude.{◌≡◌, ℕ, List, map, is_some}
-use Rattle.bdb_format.specs.Databases.{Database, databases}
-use Rattle.bdb_format.specs.File.{file_of, page_at}
-use Rattle.bdb_format.specs.HeadOf.{head_of}
-use Rattle.bdb_format.specs.Lists.{ListKey, BytesKey, NumberKey, list_of}
-use Rattle.bdb_format.specs.Master.{master_in}
-use Rattle.bdb_text_format.specs.declared.pairs.Key.TheVariants.{Bytes, Number}
-use Rattle.bdb_text_format.specs.declared.pairs.TextPair.{TextPair}
-use Rattle.bdb_text_format.specs.declared.sections.Section.{Section}
-use Rattle.bdb_text.specs.WrittenLaw.{AreBytes}
+use Rattle.bdb_mkfile.specs.of_format.Databases.{Database, databases}
+use Rattle.bdb_mkfile.specs.of_format.File.{file_of, page_at}
+use Rattle.bdb_mkfile.specs.of_format.HeadOf.{head_of}
+use Rattle.bdb_mkfile.specs.of_format.Lists.{ListKey, BytesKey, NumberKey, list_of}
+use Rattle.bdb_mkfile.specs.of_format.Master.{master_in}
+use Rattle.bdb_mkfile.specs.of_text_format.declared.pairs.Key.TheVariants.{Bytes, Number}
+use Rattle.bdb_mkfile.specs.of_text_format.declared.pairs.TextPair.{TextPair}
+use Rattle.bdb_mkfile.specs.of_text_format.declared.sections.Section.{Section}
+use Rattle.bdb_law_kept.specs.of_text.WrittenLaw.{AreBytes}
 use Rattle.bdb_law_kept.specs.Kept.{IsSound, settings_in}
 use Rattle.bdb_onto.specs.declared.base.Base.{Base}
 

@@ -1,8 +1,8 @@
 -- A text that is loaded onto a base is loaded as one text with the pairs of both. Source: docs/FORMAT.md, "Loading onto a file".
 use Rattle.std.specs.Prelude.{◌≡◌, ℕ, List, [], None}
-use Rattle.bdb_text_format.specs.declared.sections.Section.{Section}
-use Rattle.bdb_settle.specs.Loaded.{loaded_section}
-use Rattle.bdb_settle.specs.LoadErrors.{load_error}
+use Rattle.bdb_mkfile.specs.of_text_format.declared.sections.Section.{Section}
+use Rattle.bdb_mkfile.specs.of_settle.Loaded.{loaded_section}
+use Rattle.bdb_mkfile.specs.of_settle.LoadErrors.{load_error}
 use Rattle.bdb_mkfile.specs.Builds.{Builds, image_size}
 use Rattle.bdb_mkfile.specs.Loading.{AreLoadable}
 use Rattle.bdb_onto.specs.declared.base.Base.{Base}

@@ -2,23 +2,23 @@
 use Rattle.std.specs.Prelude.{◌≡◌, ℕ, ◌*◌, nat_lt, ◌==◌, ◌&&◌, ◌||◌, not, if◌then◌else◌, Bool, true, false, List, [], ◌++◌, length, map, Option, Some}
 use Rattle.std.specs.Prelude.{None, is_some}
 use Rattle.std.specs.List.{All, AllZip, filter, find, flat_map, fold, list_any}
-use Rattle.bdb_format.specs.declared.kinds.Kind.{Kind}
-use Rattle.bdb_format.specs.declared.settings.Settings.{Settings}
-use Rattle.bdb_format.specs.Databases.{Database, databases, is_name}
-use Rattle.bdb_format.specs.File.{file_of}
-use Rattle.bdb_format.specs.Lists.{list_of}
-use Rattle.bdb_format.specs.Verdict.{verdict_of}
-use Rattle.bdb_text_format.specs.declared.pairs.Pair.{Pair}
-use Rattle.bdb_text_format.specs.declared.pairs.TextPair.{TextPair}
-use Rattle.bdb_text_format.specs.declared.sections.Section.{Section}
-use Rattle.bdb_text_format.specs.Pairs.{listed}
-use Rattle.bdb_text_format.specs.Written.{header_lines, is_btree, is_hash, is_queue, is_recno}
-use Rattle.bdb_settle.specs.Loaded.{loaded_pair, unnumbered, with_loaded}
-use Rattle.bdb_settle.specs.declared.load_error.LoadError.{LoadError}
-use Rattle.bdb_settle.specs.declared.load_error.LoadError.TheVariants.{RecordTooLong, TooLarge, QueueAmongNames, OntoKind, OntoNames}
-use Rattle.bdb_settle.specs.LoadErrors.{is_among_names, is_too_wide, pair_errors, sooner, where_so}
-use Rattle.bdb_need.specs.TreePages.{unlined_pairs}
-use Rattle.bdb_need.specs.Need.{need_of}
+use Rattle.bdb_mkfile.specs.of_format.declared.kinds.Kind.{Kind}
+use Rattle.bdb_mkfile.specs.of_format.declared.settings.Settings.{Settings}
+use Rattle.bdb_mkfile.specs.of_format.Databases.{Database, databases, is_name}
+use Rattle.bdb_mkfile.specs.of_format.File.{file_of}
+use Rattle.bdb_mkfile.specs.of_format.Lists.{list_of}
+use Rattle.bdb_mkfile.specs.of_format.Verdict.{verdict_of}
+use Rattle.bdb_mkfile.specs.of_text_format.declared.pairs.Pair.{Pair}
+use Rattle.bdb_mkfile.specs.of_text_format.declared.pairs.TextPair.{TextPair}
+use Rattle.bdb_mkfile.specs.of_text_format.declared.sections.Section.{Section}
+use Rattle.bdb_mkfile.specs.of_text_format.Pairs.{listed}
+use Rattle.bdb_mkfile.specs.of_text_format.Written.{header_lines, is_btree, is_hash, is_queue, is_recno}
+use Rattle.bdb_mkfile.specs.of_settle.Loaded.{loaded_pair, unnumbered, with_loaded}
+use Rattle.bdb_mkfile.specs.of_settle.declared.load_error.LoadError.{LoadError}
+use Rattle.bdb_mkfile.specs.of_settle.declared.load_error.LoadError.TheVariants.{RecordTooLong, TooLarge, QueueAmongNames, OntoKind, OntoNames}
+use Rattle.bdb_mkfile.specs.of_settle.LoadErrors.{is_among_names, is_too_wide, pair_errors, sooner, where_so}
+use Rattle.bdb_mkfile.specs.of_need.TreePages.{unlined_pairs}
+use Rattle.bdb_mkfile.specs.of_need.Need.{need_of}
 use Rattle.bdb_law_kept.specs.Kept.{settings_in}
 use Rattle.bdb_mkfile.specs.Builds.{in_name_order}
 use Rattle.bdb_mkfile.specs.Loading.{IsLoadRefusalBy, or_else}

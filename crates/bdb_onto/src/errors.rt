@@ -1,14 +1,14 @@
 ghost use Rattle.std.specs.Prelude.{◌≡◌, option_copied};
 ghost use Rattle.std.specs.List.{fold};
-ghost use Rattle.bdb_settle.specs.LoadErrors.{sooner};
+ghost use Rattle.bdb_mkfile.specs.of_settle.LoadErrors.{sooner};
 ghost use Rattle.bdb_onto.specs.Bases.{IsBase};
 ghost use Rattle.bdb_onto.specs.Onto.{is_other, is_unlike, onto_error, onto_errors, same_kind};
 
 use crate::Base;
 use crate::partners::{is_misnamed, partner_of, settings_onto};
-use bdb_format::{Kind, Settings};
-use bdb_settle::{LoadError, is_among_names, is_too_wide, sooner_where, with_pairs};
-use bdb_text_format::{Section, Sections};
+use bdb_mkfile::bdb_format::{Kind, Settings};
+use bdb_mkfile::bdb_settle::{LoadError, is_among_names, is_too_wide, sooner_where, with_pairs};
+use bdb_mkfile::bdb_text_format::{Section, Sections};
 
 // Whether two kinds are the same.
 fn same_kind(a: Kind, b: Kind) -> bool

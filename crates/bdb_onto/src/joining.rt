@@ -1,8 +1,8 @@
 //! The pairs of sections behind those of their partners, as if one text had both.
 ghost use Rattle.std.specs.Prelude.{◌≡◌, [], ◌++◌, IfOk, List, Some, length, map, option_to_list};
 ghost use Rattle.std.specs.List.{All, flat_map};
-ghost use Rattle.bdb_text_format.specs.Placed.{slice_seen};
-ghost use Rattle.bdb_law_sections.specs.Fit.{AreNamedBehind};
+ghost use Rattle.bdb_mkfile.specs.of_text_format.Placed.{slice_seen};
+ghost use Rattle.bdb_mkfile.specs.of_law_sections.Fit.{AreNamedBehind};
 ghost use Rattle.bdb_onto.specs.Bases.{IsBase};
 ghost use Rattle.bdb_onto.specs.Joining.{IsPlaced, behind, emptied, placed_section, taken_at};
 ghost use Rattle.bdb_onto.specs.Onto.{joined};
@@ -10,8 +10,8 @@ ghost use Rattle.bdb_onto.specs.Search.{IsWithin};
 
 use crate::Base;
 use crate::partners::place_of;
-use bdb_format::{Order, Settings};
-use bdb_text_format::{PairSlice, Section, Sections, TextPairs};
+use bdb_mkfile::bdb_format::{Order, Settings};
+use bdb_mkfile::bdb_text_format::{PairSlice, Section, Sections, TextPairs};
 use std::alloc::{AllocError, Global};
 
 /// A section, and the place of its partner in the base, where it has one.

@@ -1,6 +1,6 @@
 ghost use Rattle.std.specs.Prelude.{◌≡◌, ◌≤◌, ◌^◌, None, IfErr, IfOk, OnOk};
 ghost use Rattle.bdb_mkfile.specs.NamedImages.{HasBuiltTables};
-ghost use Rattle.bdb_settle.specs.LoadErrors.{IsSettleRefusal};
+ghost use Rattle.bdb_mkfile.specs.of_settle.LoadErrors.{IsSettleRefusal};
 ghost use Rattle.bdb_mkfile.specs.Builds.{in_name_order};
 ghost use Rattle.bdb_mkfile.specs.Loading.{AreLoadable};
 ghost use Rattle.bdb_onto.specs.Bases.{IsBase};
@@ -9,9 +9,9 @@ ghost use Rattle.bdb_onto.specs.Onto.{BuildsOnto, IsOntoRefusal, loading_error_o
 use crate::Base;
 use crate::errors::onto_error;
 use crate::joining::joined;
-use bdb_io::Image;
+use bdb_mkfile::bdb_io::Image;
+use bdb_mkfile::bdb_text_format::Sections;
 use bdb_mkfile::{LoadError, in_name_order, load, settle};
-use bdb_text_format::Sections;
 use std::alloc::Global;
 
 /// What loading sections onto a base gives: its databases in the order of their names, with their lists, and without lines. An error is the

@@ -1,8 +1,8 @@
 -- The faults of stage 6 by chains, page by page, and the first of them.
 use Rattle.std.proofs.Common.{◌≡◌, ℕ, ◌+◌, List, subst, zero-add}
 use Rattle.std.specs.List.{flat_map, range_with_len}
-use Rattle.bdb_faults.specs.Notes.{Notes, NotesAll}
-use Rattle.bdb_faults.proofs.SinkLemmas.{notes_more, notes_none, notes_one}
+use Rattle.bdb_graph.specs.of_faults.Notes.{Notes, NotesAll}
+use Rattle.bdb_graph.proofs.of_faults.SinkLemmas.{notes_more, notes_none, notes_one}
 use Rattle.bdb_format.specs.declared.kinds.Fault.{Fault}
 use Rattle.bdb_format.specs.File.{File}
 use Rattle.bdb_format.specs.Verdict.{chain_faults}

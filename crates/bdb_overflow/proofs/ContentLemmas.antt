@@ -16,7 +16,7 @@ use Rattle.bdb_format.specs.References.{content_targets, is_shared_key, targets_
 use Rattle.bdb_format.proofs.MemberLemmas.{first_member, in_map}
 use Rattle.bdb_format.proofs.PageLemmas.{index_offset, length_items}
 use Rattle.bdb_format.proofs.TargetLemmas.{held_named, own_held}
-use Rattle.bdb_image.specs.Linked.{FitsChain, IsForest}
+use Rattle.bdb_graph.specs.of_image.Linked.{FitsChain, IsForest}
 use Rattle.bdb_graph.proofs.ChildLemmas.{is_queue_page, queue_page}
 use Rattle.bdb_graph.proofs.LinkedLemmas.{named_target}
 use Rattle.bdb_overflow.specs.Datum.{FitsContent}

@@ -6,8 +6,8 @@ use Rattle.std.specs.Cmp.Lexicographic.{slice_cmp}
 use Rattle.std.specs.Ordering.{nat_cmp}
 use Rattle.std.specs.Str.{bytes_eq}
 use Rattle.std.proofs.lemmas.Bool.{false_from_ne_true}
-use Rattle.bdb_layout.specs.Seen.{OrderingIs}
-use Rattle.bdb_layout.proofs.KeyLemmas.{slice_cmp-is}
+use Rattle.bdb_graph.specs.of_layout.Seen.{OrderingIs}
+use Rattle.bdb_graph.proofs.of_layout.KeyLemmas.{slice_cmp-is}
 use Rattle.bdb_format.specs.Less.{less, Less}
 use Rattle.bdb_format.proofs.LessLemmas.{eq_same, eq_self, not_less_both, not_less_same}
 

@@ -6,7 +6,7 @@ use Rattle.std.specs.List.{filter, flat_map, list_any, range_with_len}
 use Rattle.std.proofs.lemmas.Bool.{cases_order}
 use Rattle.std.proofs.lemmas.List.Folds.{flat_map-map, list_any-append, list_any_at}
 use Rattle.std.proofs.lemmas.List.FromFn.{get_or-range_with_len, length-range_with_len}
-use Rattle.bdb_slots.specs.Slots.{no_internal_item}
+use Rattle.bdb_graph.specs.of_slots.Slots.{no_internal_item}
 use Rattle.bdb_format.specs.Chains.{content_chains, is_wrong_length}
 use Rattle.bdb_format.specs.File.{File, page_at}
 use Rattle.bdb_format.specs.Page.{Content, DupLeaf, Hash, Internal, Item, InternalItem, Leaf, Listed, RecnoLeaf}

@@ -9,3 +9,6 @@ pub mod RunLemmas
 pub mod TakenLemmas
 pub mod UnchainedLemmas
 pub mod WholeLemmas
+pub use Rattle.bdb_graph.proofs.of_form as of_form
+pub use Rattle.bdb_graph.proofs as of_graph
+pub use Rattle.bdb_graph.proofs.of_image as of_image

@@ -27,13 +27,13 @@ use Rattle.bdb_format.proofs.PageLemmas.{later_type}
 use Rattle.bdb_format.proofs.VerdictLemmas.{AllFail, none_is_first_row}
 use Rattle.bdb_graph.proofs.ReachLemmas.{AllUpTo, few_distinct}
 use Rattle.bdb_graph.specs.Forest.{AllDistinct, IsWayDown, Names}
-use Rattle.bdb_image.specs.Linked.{FitsChain, IsForest}
-use Rattle.bdb_image.proofs.CodeLemmas.{code_by}
-use Rattle.bdb_image.proofs.FirstLemmas.{formed_accepted, formed_last, formed_page}
-use Rattle.bdb_image.proofs.FitLemmas.{typed, untyped, zero_type}
+use Rattle.bdb_graph.specs.of_image.Linked.{FitsChain, IsForest}
+use Rattle.bdb_graph.proofs.of_image.CodeLemmas.{code_by}
+use Rattle.bdb_graph.proofs.of_image.FirstLemmas.{formed_accepted, formed_last, formed_page}
+use Rattle.bdb_graph.proofs.of_image.FitLemmas.{typed, untyped, zero_type}
 use Rattle.bdb_graph.proofs.ForestLemmas.{no_page_twice_below, sound_graph}
-use Rattle.bdb_image.proofs.FormedLemmas.{IsPaged, accepted_paged, page_length}
-use Rattle.bdb_image.proofs.HeldLemmas.{other_formed}
+use Rattle.bdb_graph.proofs.of_image.FormedLemmas.{IsPaged, accepted_paged, page_length}
+use Rattle.bdb_graph.proofs.of_image.HeldLemmas.{other_formed}
 use Rattle.bdb_overflow.specs.Whole.{EndsIn, IsLink, IsWholeChain, next_at}
 use Rattle.bdb_overflow.proofs.WholeLemmas.{after_piece, count_as, data_at, link_next, link_piece, overflow_page, pieces_in, pieces_turn}
 use Rattle.bdb_format.proofs.ReferenceLemmas.{forest_names}

@@ -10,7 +10,7 @@ use Rattle.bdb_format.specs.Reading.{header_of}
 use Rattle.bdb_format.proofs.FileLemmas.{last_page, page_is}
 use Rattle.bdb_format.proofs.SizeLemmas.{size_bounds}
 use Rattle.bdb_graph.specs.Blanks.{ArePassedIfAny as AreKnownPassed, ComesAfter}
-use Rattle.bdb_image.specs.Linked.{IsForest}
+use Rattle.bdb_graph.specs.of_image.Linked.{IsForest}
 use Rattle.bdb_overflow.specs.Taken.{ArePassedIfAny, StandsFor, full_pieces, taken_pieces}
 use Rattle.bdb_overflow.specs.Whole.{IsLeft, IsLink, IsWholeChain, bytes_of, next_at, pieces_from}
 use Rattle.bdb_overflow.specs.declared.taken.Taken.{Taken}

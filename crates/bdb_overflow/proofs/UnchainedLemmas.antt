@@ -2,8 +2,8 @@
 use Rattle.std.proofs.Common.{◌≡◌, ℕ, ◌≤◌, true, false, true≢false, List, [], refl, sym, ◌∙◌, ap, subst, inl, inr}
 use Rattle.std.specs.List.{list_any}
 use Rattle.std.proofs.lemmas.Bool.{cases_Bool}
-use Rattle.bdb_faults.specs.Notes.{NotesAll}
-use Rattle.bdb_faults.proofs.SinkLemmas.{notes_none}
+use Rattle.bdb_graph.specs.of_faults.Notes.{NotesAll}
+use Rattle.bdb_graph.proofs.of_faults.SinkLemmas.{notes_none}
 use Rattle.bdb_format.specs.declared.kinds.Fault.{Fault}
 use Rattle.bdb_format.specs.Chains.{content_chains, is_wrong_length}
 use Rattle.bdb_format.specs.File.{File, file_of, page_at}
@@ -13,7 +13,7 @@ use Rattle.bdb_format.specs.References.{contents_in}
 use Rattle.bdb_format.specs.Verdict.{chain_faults}
 use Rattle.bdb_format.proofs.MemberLemmas.{none_pass, none_passes}
 use Rattle.bdb_graph.proofs.ChildLemmas.{is_queue_page}
-use Rattle.bdb_image.specs.Linked.{IsForest}
+use Rattle.bdb_graph.specs.of_image.Linked.{IsForest}
 use Rattle.bdb_graph.specs.Walked.{names_head}
 use Rattle.bdb_overflow.specs.Datum.{FitsContent}
 use Rattle.bdb_overflow.specs.Lengths.{has_wrong, is_wrong}

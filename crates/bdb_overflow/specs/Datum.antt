@@ -4,7 +4,7 @@ use Rattle.bdb_format.specs.Chains.{joined, value_of}
 use Rattle.bdb_format.specs.File.{File}
 use Rattle.bdb_format.specs.Lists.{ListKey, BytesKey, NumberKey}
 use Rattle.bdb_format.specs.Page.{Content, Inline, Set, Chain, Tree, Unknown}
-use Rattle.bdb_image.specs.Linked.{FitsChain}
+use Rattle.bdb_graph.specs.of_image.Linked.{FitsChain}
 use Rattle.bdb_overflow.specs.declared.datum.Datum.{Datum}
 use Rattle.bdb_overflow.specs.declared.datum.Datum.TheVariants.{Inline as InlineDatum, Chained}
 use Rattle.bdb_overflow.specs.declared.datum.KeyView.{KeyView}

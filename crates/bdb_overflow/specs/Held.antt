@@ -6,7 +6,7 @@ use Rattle.std.specs.declared.cmp.Ordering.{Ordering}
 use Rattle.bdb_format.specs.Chains.{joined, pieces_of}
 use Rattle.bdb_format.specs.File.{File, file_of}
 use Rattle.bdb_format.specs.Less.{less}
-use Rattle.bdb_image.specs.Linked.{FitsChain}
+use Rattle.bdb_graph.specs.of_image.Linked.{FitsChain}
 use Rattle.bdb_overflow.specs.declared.held.Held.{Held}
 use Rattle.bdb_overflow.specs.declared.held.Held.TheVariants.{Inline, Chained}
 

@@ -1,7 +1,7 @@
 -- Which items name a chain whose length isn't the one that they tell. Source: docs/FORMAT.md, "Stage 6, chains and trees".
 use Rattle.std.specs.Prelude.{ℕ, ◌&&◌, Bool, List, get_or, map, not}
 use Rattle.std.specs.List.{list_any}
-use Rattle.bdb_slots.specs.Slots.{no_internal_item}
+use Rattle.bdb_graph.specs.of_slots.Slots.{no_internal_item}
 use Rattle.bdb_format.specs.Chains.{chain_rows, chains_in, content_chains, is_wrong_length}
 use Rattle.bdb_format.specs.File.{File}
 use Rattle.bdb_format.specs.ByPage.{holding}

@@ -1,7 +1,7 @@
 -- A value that is read from its front, and how two of them compare. Source: docs/FORMAT.md, "Order of keys".
 use Rattle.std.specs.Prelude.{ℕ, List, ◌++◌}
 use Rattle.std.specs.declared.cmp.Ordering.{Ordering}
-use Rattle.bdb_layout.specs.Seen.{OrderingIs}
+use Rattle.bdb_graph.specs.of_layout.Seen.{OrderingIs}
 use Rattle.bdb_format.specs.Chains.{joined}
 use Rattle.bdb_overflow.specs.declared.run.Run.{Run}
 

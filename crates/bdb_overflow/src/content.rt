@@ -1,13 +1,13 @@
 ghost use Rattle.std.specs.Prelude.{◌≡◌};
 ghost use Rattle.std.specs.Option.{option_map};
-ghost use Rattle.bdb_layout.specs.Seen.{content_seen, hash_content_seen, key_seen, leaf_item_seen};
+ghost use Rattle.bdb_graph.specs.of_layout.Seen.{content_seen, hash_content_seen, key_seen, leaf_item_seen};
 ghost use Rattle.bdb_format.specs.Chains.{value_of};
 ghost use Rattle.bdb_format.specs.File.{file_of};
 ghost use Rattle.bdb_overflow.specs.Datum.{FitsContent, datum_seen, single_value};
 
 use crate::{Datum, chain_pieces};
 use bdb_graph::Forest;
-use bdb_layout::{Content, HashItem, InternalKey, LeafItem};
+use bdb_graph::bdb_layout::{Content, HashItem, InternalKey, LeafItem};
 
 /// The value of what an item holds; a set, on or off the page, is none.
 #[tactic(auto, unfolding(bdb_format::specs::Chains::value_of))]

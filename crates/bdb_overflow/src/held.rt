@@ -1,13 +1,13 @@
 ghost use Rattle.std.specs.Prelude.{◌≡◌};
 ghost use Rattle.bdb_format.specs.Chains.{value_of};
 ghost use Rattle.bdb_format.specs.File.{File, file_of};
-ghost use Rattle.bdb_layout.specs.Seen.{key_seen, leaf_item_seen};
+ghost use Rattle.bdb_graph.specs.of_layout.Seen.{key_seen, leaf_item_seen};
 ghost use Rattle.bdb_overflow.specs.Datum.{FitsContent, datum_seen};
 ghost use Rattle.bdb_overflow.specs.Held.{FitsHeld, value_held};
 
 use crate::{Datum, chain_pieces};
 use bdb_graph::Forest;
-use bdb_layout::{InternalKey, LeafItem};
+use bdb_graph::bdb_layout::{InternalKey, LeafItem};
 
 /// A value as an item holds it: bytes of its page, or the head of its chain.
 #[derive(Clone, Copy, Debug)]

@@ -2,13 +2,13 @@ ghost use Rattle.std.specs.Prelude.{◌≡◌, true, not, IfOk, OnErr, OnOk};
 ghost use Rattle.std.specs.BTreeSet.{IsEmpty, IsUnchanged, Updates};
 ghost use Rattle.std.specs.Cmp.Lexicographic.{slice_cmp};
 ghost use Rattle.std.specs.Ordering.{nat_cmp};
-ghost use Rattle.bdb_faults.specs.Notes.{Notes};
+ghost use Rattle.bdb_graph.specs.of_faults.Notes.{Notes};
 ghost use Rattle.bdb_overflow.specs.Datum.{datum_seen};
 ghost use Rattle.bdb_overflow.specs.Keys.{has_key, unless_new};
 
 use crate::{Datum, Key};
-use bdb_faults::FaultSink;
 use bdb_format::Fault;
+use bdb_graph::bdb_faults::FaultSink;
 use std::alloc::{AllocError, Global};
 use std::collections::BTreeSet;
 use std::marker::Model;

@@ -1,15 +1,15 @@
 ghost use Rattle.std.specs.Prelude.{◌≡◌, ◌+◌, ◌*◌, ◌<◌, ◌≤◌, length};
-ghost use Rattle.bdb_image.specs.Linked.{FitsChain, IsForest};
-ghost use Rattle.bdb_layout.specs.Seen.{content_seen};
+ghost use Rattle.bdb_graph.specs.of_image.Linked.{FitsChain, IsForest};
+ghost use Rattle.bdb_graph.specs.of_layout.Seen.{content_seen};
 ghost use Rattle.bdb_format.specs.Chains.{is_wrong_length};
 ghost use Rattle.bdb_format.specs.File.{file_of, page_at};
 ghost use Rattle.bdb_format.specs.Page.{DupLeaf, Hash, Internal, Leaf, RecnoLeaf};
 ghost use Rattle.bdb_overflow.specs.Datum.{FitsContent};
 ghost use Rattle.bdb_overflow.specs.Lengths.{has_wrong, is_wrong, is_wrong_entry, is_wrong_item, is_wrong_key};
 
-use bdb_form::{DupLeafView, HashView, InternalView, LeafView, PageView, RecnoLeafView};
 use bdb_graph::Linked;
-use bdb_layout::Content;
+use bdb_graph::bdb_form::{DupLeafView, HashView, InternalView, LeafView, PageView, RecnoLeafView};
+use bdb_graph::bdb_layout::Content;
 
 /// Whether the pages of a chain don't add up to a length.
 fn is_wrong_length(linked: &Linked<'_>, head: u32, total: u32) -> bool

@@ -1,10 +1,10 @@
 ghost use Rattle.std.specs.Prelude.{◌≡◌, ◌≤◌, ◌++◌, [], length, take};
-ghost use Rattle.bdb_layout.specs.Seen.{OrderingIs};
+ghost use Rattle.bdb_graph.specs.of_layout.Seen.{OrderingIs};
 ghost use Rattle.bdb_overflow.specs.Datum.{datum_seen};
 ghost use Rattle.bdb_overflow.specs.Runs.{run_seen};
 
 use crate::{Datum, Pieces};
-use bdb_layout::compare;
+use bdb_graph::bdb_layout::compare;
 use std::cmp::Ordering;
 
 /// The bytes of a value that are left: those that stand together in front, and the pieces after them.

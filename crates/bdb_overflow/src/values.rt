@@ -1,13 +1,13 @@
 ghost use Rattle.std.specs.Prelude.{◌≡◌, IfOk};
 ghost use Rattle.bdb_format.specs.File.{file_of};
 ghost use Rattle.bdb_format.specs.Less.{less};
-ghost use Rattle.bdb_image.specs.Linked.{FitsChain};
+ghost use Rattle.bdb_graph.specs.of_image.Linked.{FitsChain};
 ghost use Rattle.bdb_overflow.specs.Held.{FitsHeld, chain_value, value_held};
 
 use crate::{Datum, Held, chain_pieces, is_less};
-use bdb_form::PageView;
 use bdb_graph::Forest;
-use bdb_layout::compare;
+use bdb_graph::bdb_form::PageView;
+use bdb_graph::bdb_layout::compare;
 use std::alloc::{AllocError, Global};
 use std::cmp::Ordering;
 use std::collections::BTreeMap;

@@ -4,15 +4,15 @@ use Rattle.std.specs.Prelude.{nat_le, nat_lt, ◌||◌}
 use Rattle.std.specs.Option.{option_map}
 use Rattle.std.proofs.lemmas.Bool.{ltb-false, or_parts}
 use Rattle.std.proofs.lemmas.Bool.Decides.{nat_tests}
-use Rattle.bdb_format.specs.declared.kinds.Order.{Order}
-use Rattle.bdb_format.specs.declared.pages.ItemFault.{ItemFault}
-use Rattle.bdb_format.specs.declared.pages.ItemFault.TheVariants.{Offset}
-use Rattle.bdb_format.specs.Numbers.{byte_at}
-use Rattle.bdb_format.specs.Page.{HashPage, InternalPage, LeafPage, PageType, RecnoInternalPage}
-use Rattle.bdb_format.specs.Reading.{entries_of, index_end, offset_of, page_type}
-use Rattle.bdb_format.specs.Rows.{hash_rows, internal_rows, item_code, item_row, leaf_rows, recno_rows}
-use Rattle.bdb_format.specs.Table.{◌:?◌, first_row}
-use Rattle.bdb_format.proofs.SizeLemmas.{size_bounds}
+use Rattle.bdb_layout.specs.of_format.declared.kinds.Order.{Order}
+use Rattle.bdb_layout.specs.of_format.declared.pages.ItemFault.{ItemFault}
+use Rattle.bdb_layout.specs.of_format.declared.pages.ItemFault.TheVariants.{Offset}
+use Rattle.bdb_layout.specs.of_format.Numbers.{byte_at}
+use Rattle.bdb_layout.specs.of_format.Page.{HashPage, InternalPage, LeafPage, PageType, RecnoInternalPage}
+use Rattle.bdb_layout.specs.of_format.Reading.{entries_of, index_end, offset_of, page_type}
+use Rattle.bdb_layout.specs.of_format.Rows.{hash_rows, internal_rows, item_code, item_row, leaf_rows, recno_rows}
+use Rattle.bdb_layout.specs.of_format.Table.{◌:?◌, first_row}
+use Rattle.bdb_layout.proofs.of_format.SizeLemmas.{size_bounds}
 use Rattle.bdb_pack.specs.Placing.{RowsBegin, high_free_of}
 use Rattle.bdb_pack.proofs.RowsLemmas.{none_of_three}
 

@@ -2,13 +2,13 @@
 use Rattle.std.proofs.Common.{◌≡◌, ℕ, zero, suc, ◌<◌, ◌≤◌, false, not, List, length, Option, Some, None, arith, refl, sym, ◌∙◌, ap}
 use Rattle.std.specs.Prelude.{◌==◌}
 use Rattle.std.proofs.lemmas.Bool.{eq-eqb}
-use Rattle.bdb_format.specs.declared.kinds.Order.{Order}
-use Rattle.bdb_format.specs.Numbers.{byte_at, four_at}
-use Rattle.bdb_format.specs.Page.{PageType}
-use Rattle.bdb_format.specs.Reading.{entries_of, index_end, is_zero, page_type}
-use Rattle.bdb_format.specs.Rows.{body_code, identity_rows, index_rows, is_tree_type, is_wrong_entry_count, is_wrong_level, item_row, page_code}
-use Rattle.bdb_format.specs.Table.{first_row, lesser}
-use Rattle.bdb_format.proofs.ItemLemmas.{items_next, least_below, least_items}
+use Rattle.bdb_layout.specs.of_format.declared.kinds.Order.{Order}
+use Rattle.bdb_layout.specs.of_format.Numbers.{byte_at, four_at}
+use Rattle.bdb_layout.specs.of_format.Page.{PageType}
+use Rattle.bdb_layout.specs.of_format.Reading.{entries_of, index_end, is_zero, page_type}
+use Rattle.bdb_layout.specs.of_format.Rows.{body_code, identity_rows, index_rows, is_tree_type, is_wrong_entry_count, is_wrong_level, item_row, page_code}
+use Rattle.bdb_layout.specs.of_format.Table.{first_row, lesser}
+use Rattle.bdb_layout.proofs.of_format.ItemLemmas.{items_next, least_below, least_items}
 use Rattle.bdb_law_grove.proofs.GroveLemmas.{above}
 use Rattle.bdb_pack.specs.Placing.{BegunIsFormed}
 use Rattle.bdb_pack.proofs.OpenLemmas.{open_is}

@@ -1,16 +1,16 @@
 -- A header that was written is read, and its page takes items.
 use Rattle.std.proofs.Common.{◌≡◌, ℕ, ◌+◌, ◌^◌, ◌<◌, List, [], ◌∷◌, ◌++◌, length, drop, arith, refl, sym, ◌∙◌, ap, length-append}
 use Rattle.std.proofs.lemmas.List.{append_assoc}
-use Rattle.bdb_format.specs.declared.kinds.Order.{Order}
-use Rattle.bdb_format.specs.declared.pages.Header.{Header}
-use Rattle.bdb_format.specs.HeadOf.{is_page_size}
-use Rattle.bdb_format.specs.Numbers.{byte_at, number_at, spelled, two_at}
-use Rattle.bdb_format.specs.Page.{DupLeaf, Hash, Internal, Leaf, RecnoInternal, RecnoLeaf}
-use Rattle.bdb_format.specs.Reading.{entries_of, header_of, listed, page_as, page_type}
-use Rattle.bdb_format.specs.Spelling.{header_bytes, lsn_bytes}
-use Rattle.bdb_format.proofs.SpellingLemmas.{length-overwritten, length-spelled, number_at-first}
-use Rattle.bdb_format.proofs.TurnLemmas.{byte_at_past, number_at_past}
-use Rattle.bdb_format.proofs.SizeLemmas.{size_bounds}
+use Rattle.bdb_layout.specs.of_format.declared.kinds.Order.{Order}
+use Rattle.bdb_layout.specs.of_format.declared.pages.Header.{Header}
+use Rattle.bdb_layout.specs.of_format.HeadOf.{is_page_size}
+use Rattle.bdb_layout.specs.of_format.Numbers.{byte_at, number_at, spelled, two_at}
+use Rattle.bdb_layout.specs.of_format.Page.{DupLeaf, Hash, Internal, Leaf, RecnoInternal, RecnoLeaf}
+use Rattle.bdb_layout.specs.of_format.Reading.{entries_of, header_of, listed, page_as, page_type}
+use Rattle.bdb_layout.specs.of_format.Spelling.{header_bytes, lsn_bytes}
+use Rattle.bdb_layout.proofs.of_format.SpellingLemmas.{length-overwritten, length-spelled, number_at-first}
+use Rattle.bdb_layout.proofs.of_format.TurnLemmas.{byte_at_past, number_at_past}
+use Rattle.bdb_layout.proofs.of_format.SizeLemmas.{size_bounds}
 use Rattle.bdb_pack.specs.Items.{takes_items}
 use Rattle.bdb_pack.specs.Placing.{BegunPagesTakeItems, begun_header, begun_page, empty_listed, empty_page}
 use Rattle.bdb_pack.proofs.StandingLemmas.{listing, typed}

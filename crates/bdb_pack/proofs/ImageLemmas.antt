@@ -2,12 +2,12 @@
 use Rattle.std.proofs.Common.{◌≡◌, ℕ, ◌*◌, ◌<◌, ◌≤◌, List, [], length, take, drop, get_or, arith, sym, ◌∙◌, ap}
 use Rattle.std.proofs.lemmas.List.{get_or-map, length-map}
 use Rattle.std.proofs.lemmas.List.FromFn.{length-range_with_len}
-use Rattle.bdb_format.specs.declared.metadata.FileKind.TheVariants.{Queue}
-use Rattle.bdb_format.specs.Page.{NoType}
-use Rattle.bdb_format.specs.File.{file_of, page_at}
-use Rattle.bdb_format.specs.HeadOf.{head_of}
-use Rattle.bdb_format.specs.Reading.{abstract_page}
-use Rattle.bdb_format.proofs.FileLemmas.{last_page, page_is}
+use Rattle.bdb_layout.specs.of_format.declared.metadata.FileKind.TheVariants.{Queue}
+use Rattle.bdb_layout.specs.of_format.Page.{NoType}
+use Rattle.bdb_layout.specs.of_format.File.{file_of, page_at}
+use Rattle.bdb_layout.specs.of_format.HeadOf.{head_of}
+use Rattle.bdb_layout.specs.of_format.Reading.{abstract_page}
+use Rattle.bdb_layout.proofs.of_format.FileLemmas.{last_page, page_is}
 use Rattle.bdb_law_grove.specs.Growing.{IsCounted}
 use Rattle.bdb_pack.specs.Built.{AreWhole, Built, bytes_of, file_so_far, joined_pages}
 use Rattle.bdb_pack.proofs.CutLemmas.{all_size, page_of_cut}

@@ -20,3 +20,5 @@ pub mod StandingLemmas
 pub mod StoredLemmas
 pub mod TypeLemmas
 pub mod ValueLemmas
+pub use Rattle.bdb_law_grove.proofs as of_law_grove
+pub use Rattle.bdb_layout.proofs as of_layout

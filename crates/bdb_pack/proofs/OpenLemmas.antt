@@ -1,11 +1,11 @@
 -- What is known of a page before it is written.
 use Rattle.std.proofs.Common.{◌≡◌, ℕ, ◌*◌, ◌<◌, ◌≤◌, true, List, length, arith, ◌∙◌, ap, subst}
-use Rattle.bdb_format.specs.declared.kinds.Order.{Order}
-use Rattle.bdb_format.specs.declared.pages.RecnoItem.{RecnoItem}
-use Rattle.bdb_format.specs.HeadOf.{is_page_size}
-use Rattle.bdb_format.specs.Spelling.{recno_bytes}
-use Rattle.bdb_format.proofs.SpellingLemmas.{length-pair}
-use Rattle.bdb_format.proofs.SizeLemmas.{size_bounds}
+use Rattle.bdb_layout.specs.of_format.declared.kinds.Order.{Order}
+use Rattle.bdb_layout.specs.of_format.declared.pages.RecnoItem.{RecnoItem}
+use Rattle.bdb_layout.specs.of_format.HeadOf.{is_page_size}
+use Rattle.bdb_layout.specs.of_format.Spelling.{recno_bytes}
+use Rattle.bdb_layout.proofs.of_format.SpellingLemmas.{length-pair}
+use Rattle.bdb_layout.proofs.of_format.SizeLemmas.{size_bounds}
 use Rattle.bdb_pack.specs.Placing.{IsBegun, IsOpen}
 use Rattle.bdb_pack.specs.Built.{Built, built_of, bytes_of, with_page, written_over}
 use Rattle.bdb_pack.proofs.CutLemmas.{length_cut, page_length, written_page}

@@ -3,14 +3,14 @@ use Rattle.std.proofs.Common.{◌≡◌, ℕ, ◌+◌, ◌^◌, ◌<◌, ◌≤�
 use Rattle.std.specs.Prelude.{◌==◌, nat_lt}
 use Rattle.std.proofs.lemmas.Bool.{eq-eqb}
 use Rattle.std.proofs.lemmas.List.{drop_at, length-take-le, take_at}
-use Rattle.bdb_format.specs.declared.kinds.Order.{Order}
-use Rattle.bdb_format.specs.declared.pages.Header.{Header}
-use Rattle.bdb_format.specs.Numbers.{byte_at, four_at, overwritten, two_at}
-use Rattle.bdb_format.specs.Page.{Overflow}
-use Rattle.bdb_format.specs.Reading.{header_of, page_type}
-use Rattle.bdb_format.specs.Rows.{body_code}
-use Rattle.bdb_format.specs.Spelling.{header_bytes}
-use Rattle.bdb_format.proofs.SizeLemmas.{size_bounds}
+use Rattle.bdb_layout.specs.of_format.declared.kinds.Order.{Order}
+use Rattle.bdb_layout.specs.of_format.declared.pages.Header.{Header}
+use Rattle.bdb_layout.specs.of_format.Numbers.{byte_at, four_at, overwritten, two_at}
+use Rattle.bdb_layout.specs.of_format.Page.{Overflow}
+use Rattle.bdb_layout.specs.of_format.Reading.{header_of, page_type}
+use Rattle.bdb_layout.specs.of_format.Rows.{body_code}
+use Rattle.bdb_layout.specs.of_format.Spelling.{header_bytes}
+use Rattle.bdb_layout.proofs.of_format.SizeLemmas.{size_bounds}
 use Rattle.bdb_law_grove.proofs.GroveLemmas.{above}
 use Rattle.bdb_pack.specs.Values.{ChainPagesAreFormed, chain_page, piece_header, piece_length, piece_next}
 use Rattle.bdb_pack.proofs.FormLemmas.{code_none}

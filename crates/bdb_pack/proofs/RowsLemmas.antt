@@ -4,15 +4,15 @@ use Rattle.std.specs.Prelude.{nat_le, ◌||◌}
 use Rattle.std.specs.Option.{option_map}
 use Rattle.std.proofs.lemmas.Bool.{ne_eqb}
 use Rattle.std.proofs.lemmas.Bool.Decides.{nat_tests}
-use Rattle.bdb_format.specs.declared.kinds.Order.{Order}
-use Rattle.bdb_format.specs.declared.pages.ItemFault.{ItemFault}
-use Rattle.bdb_format.specs.declared.pages.ItemFault.TheVariants.{Extent, Kind, Offset}
-use Rattle.bdb_format.specs.Numbers.{byte_at}
-use Rattle.bdb_format.specs.Page.{HashPage}
-use Rattle.bdb_format.specs.Reading.{entries_of, hash_end, offset_of, page_type}
-use Rattle.bdb_format.specs.Rows.{hash_rows, item_code, item_row}
-use Rattle.bdb_format.specs.Table.{◌:?◌, first_row}
-use Rattle.bdb_format.proofs.BoolLemmas.{second_false}
+use Rattle.bdb_layout.specs.of_format.declared.kinds.Order.{Order}
+use Rattle.bdb_layout.specs.of_format.declared.pages.ItemFault.{ItemFault}
+use Rattle.bdb_layout.specs.of_format.declared.pages.ItemFault.TheVariants.{Extent, Kind, Offset}
+use Rattle.bdb_layout.specs.of_format.Numbers.{byte_at}
+use Rattle.bdb_layout.specs.of_format.Page.{HashPage}
+use Rattle.bdb_layout.specs.of_format.Reading.{entries_of, hash_end, offset_of, page_type}
+use Rattle.bdb_layout.specs.of_format.Rows.{hash_rows, item_code, item_row}
+use Rattle.bdb_layout.specs.of_format.Table.{◌:?◌, first_row}
+use Rattle.bdb_layout.proofs.of_format.BoolLemmas.{second_false}
 use Rattle.bdb_pack.specs.Placing.{IsBegun, high_free_of}
 
 pub none_of_three : (a b c : Bool) → option_map item_code (first_row {Code = ItemFault} (Offset :? a ∷ Kind :? b ∷ Extent :? c ∷ [])) ≡ None

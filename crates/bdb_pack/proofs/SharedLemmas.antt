@@ -2,13 +2,13 @@
 use Rattle.std.proofs.Common.{◌≡◌, ℕ, ◌+◌, ◌-◌, ◌≤◌, List, length, drop, None, arith, refl, sym, ◌∙◌, ap, subst}
 use Rattle.std.specs.Prelude.{◌%◌}
 use Rattle.std.proofs.lemmas.Bool.{ltb-false, or_parts}
-use Rattle.bdb_format.specs.declared.kinds.Order.{Order}
-use Rattle.bdb_format.specs.Numbers.{byte_at}
-use Rattle.bdb_format.specs.Page.{Leaf, LeafPage}
-use Rattle.bdb_format.specs.Reading.{entries_of, index_end, leaf_item_at, listed, offset_of, page_type}
-use Rattle.bdb_format.specs.Rows.{item_row, leaf_rows, item_code}
-use Rattle.bdb_format.specs.Table.{first_row}
-use Rattle.bdb_format.proofs.LeafLemmas.{one_offset}
+use Rattle.bdb_layout.specs.of_format.declared.kinds.Order.{Order}
+use Rattle.bdb_layout.specs.of_format.Numbers.{byte_at}
+use Rattle.bdb_layout.specs.of_format.Page.{Leaf, LeafPage}
+use Rattle.bdb_layout.specs.of_format.Reading.{entries_of, index_end, leaf_item_at, listed, offset_of, page_type}
+use Rattle.bdb_layout.specs.of_format.Rows.{item_row, leaf_rows, item_code}
+use Rattle.bdb_layout.specs.of_format.Table.{first_row}
+use Rattle.bdb_layout.proofs.of_format.LeafLemmas.{one_offset}
 use Rattle.std.specs.Option.{option_map}
 use Rattle.bdb_pack.specs.Placing.{EntriesAreShared, high_free_of, page_again, page_and_shared, with_item}
 use Rattle.bdb_pack.proofs.BegunLemmas.{grown_stays, still_none}

@@ -4,10 +4,10 @@ use Rattle.std.proofs.Common.{◌≡◌, ℕ, true, false, List, [], ◌∷◌, 
 use Rattle.std.specs.Prelude.{◌==◌}
 use Rattle.std.specs.List.{list_any}
 use Rattle.std.proofs.lemmas.Bool.{cases_Bool, eqb-true}
-use Rattle.bdb_format.specs.Page.{HashPage}
-use Rattle.bdb_format.specs.declared.kinds.Order.{Order}
-use Rattle.bdb_format.specs.Reading.{page_type}
-use Rattle.bdb_format.specs.Rows.{body_code, is_tree_type, listed_code}
+use Rattle.bdb_layout.specs.of_format.Page.{HashPage}
+use Rattle.bdb_layout.specs.of_format.declared.kinds.Order.{Order}
+use Rattle.bdb_layout.specs.of_format.Reading.{page_type}
+use Rattle.bdb_layout.specs.of_format.Rows.{body_code, is_tree_type, listed_code}
 use Rattle.bdb_pack.specs.Items.{is_hash_type, is_leaf_type, takes_items}
 
 -- the first of a list of types, or one of the others

@@ -1,11 +1,11 @@
 -- Items of any page, and the pages on which they may stand. Source: docs/FORMAT.md, "Items".
 use Rattle.std.specs.Prelude.{◌≡◌, ℕ, ◌^◌, ◌%◌, ◌<◌, ◌==◌, if◌then◌else◌, Bool, List, [], ◌∷◌}
 use Rattle.std.specs.List.{list_any}
-use Rattle.bdb_format.specs.declared.kinds.Order.{Order}
-use Rattle.bdb_format.specs.declared.pages.RecnoItem.{RecnoItem}
-use Rattle.bdb_format.specs.Numbers.{pad4}
-use Rattle.bdb_format.specs.Page.{Content, Inline, Set, Chain, Tree, Unknown, Item, InternalItem}
-use Rattle.bdb_format.specs.Spelling.{IsHashContent, IsKey, IsLeafContent, hash_bytes, internal_bytes, leaf_bytes, recno_bytes}
+use Rattle.bdb_layout.specs.of_format.declared.kinds.Order.{Order}
+use Rattle.bdb_layout.specs.of_format.declared.pages.RecnoItem.{RecnoItem}
+use Rattle.bdb_layout.specs.of_format.Numbers.{pad4}
+use Rattle.bdb_layout.specs.of_format.Page.{Content, Inline, Set, Chain, Tree, Unknown, Item, InternalItem}
+use Rattle.bdb_layout.specs.of_format.Spelling.{IsHashContent, IsKey, IsLeafContent, hash_bytes, internal_bytes, leaf_bytes, recno_bytes}
 
 -- an item of a leaf, of an internal page, of an internal page of a recno tree, or of a hash page
 pub data PageItem : Type 0 where

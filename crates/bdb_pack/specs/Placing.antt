@@ -1,14 +1,14 @@
 -- Pages that take items, and what placing one does. Source: docs/FORMAT.md, "Other pages" and "Items".
 use Rattle.std.specs.Prelude.{◌≡◌, ℕ, ◌+◌, ◌-◌, ◌%◌, ◌≤◌, ◌<◌, ◌^◌, nat_le, Bool, true, false, List, [], ◌∷◌, ◌++◌, length, None}
-use Rattle.bdb_format.specs.declared.kinds.Order.{Order}
-use Rattle.bdb_format.specs.declared.pages.Header.{Header}
-use Rattle.bdb_format.specs.HeadOf.{is_page_size}
-use Rattle.bdb_format.specs.Numbers.{byte_at, four_at, overwritten, spelled, two_at}
-use Rattle.bdb_format.specs.Page.{DupLeaf, DupLeafPage, Hash, HashPage, Internal, InternalPage, Item, Leaf, LeafPage, Listed, NoType, Page, PageType}
-use Rattle.bdb_format.specs.Page.{RecnoInternal, RecnoInternalPage, RecnoLeaf, RecnoLeafPage}
-use Rattle.bdb_format.specs.Reading.{abstract_page, entries_of, index_end, leaf_item_at, offset_of, page_type}
-use Rattle.bdb_format.specs.Rows.{is_wrong_entry_count, is_wrong_level, item_row, page_code}
-use Rattle.bdb_format.specs.Spelling.{header_bytes}
+use Rattle.bdb_layout.specs.of_format.declared.kinds.Order.{Order}
+use Rattle.bdb_layout.specs.of_format.declared.pages.Header.{Header}
+use Rattle.bdb_layout.specs.of_format.HeadOf.{is_page_size}
+use Rattle.bdb_layout.specs.of_format.Numbers.{byte_at, four_at, overwritten, spelled, two_at}
+use Rattle.bdb_layout.specs.of_format.Page.{DupLeaf, DupLeafPage, Hash, HashPage, Internal, InternalPage, Item, Leaf, LeafPage, Listed, NoType, Page, PageType}
+use Rattle.bdb_layout.specs.of_format.Page.{RecnoInternal, RecnoInternalPage, RecnoLeaf, RecnoLeafPage}
+use Rattle.bdb_layout.specs.of_format.Reading.{abstract_page, entries_of, index_end, leaf_item_at, offset_of, page_type}
+use Rattle.bdb_layout.specs.of_format.Rows.{is_wrong_entry_count, is_wrong_level, item_row, page_code}
+use Rattle.bdb_layout.specs.of_format.Spelling.{header_bytes}
 use Rattle.bdb_pack.specs.Items.{HasPlace, IsWritable, OnHash, OnInternal, OnLeaf, OnRecno, PageItem, extent, holds_item, item_bytes, takes_items}
 
 abbrev pub high_free_of : Order → List ℕ → ℕ

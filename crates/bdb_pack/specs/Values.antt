@@ -1,14 +1,14 @@
 -- Values that are stored in chains of their own. Source: docs/FORMAT.md, "Stored values".
 use Rattle.std.specs.Prelude.{◌≡◌, ℕ, true, None, ◌+◌, ◌-◌, ◌*◌, ◌/◌, ◌^◌, ◌<◌, ◌≤◌, nat_lt, if◌then◌else◌, List, [], ◌∷◌, ◌++◌, length, min, take, drop}
 use Rattle.std.specs.Prelude.{replicate}
-use Rattle.bdb_format.specs.declared.kinds.Order.{Order}
-use Rattle.bdb_format.specs.declared.pages.Header.{Header}
-use Rattle.bdb_format.specs.HeadOf.{is_page_size}
-use Rattle.bdb_format.specs.Numbers.{byte_at, overwritten}
-use Rattle.bdb_format.specs.Page.{Overflow}
-use Rattle.bdb_format.specs.Reading.{abstract_page, entries_of}
-use Rattle.bdb_format.specs.Rows.{page_code}
-use Rattle.bdb_format.specs.Spelling.{header_bytes}
+use Rattle.bdb_layout.specs.of_format.declared.kinds.Order.{Order}
+use Rattle.bdb_layout.specs.of_format.declared.pages.Header.{Header}
+use Rattle.bdb_layout.specs.of_format.HeadOf.{is_page_size}
+use Rattle.bdb_layout.specs.of_format.Numbers.{byte_at, overwritten}
+use Rattle.bdb_layout.specs.of_format.Page.{Overflow}
+use Rattle.bdb_layout.specs.of_format.Reading.{abstract_page, entries_of}
+use Rattle.bdb_layout.specs.of_format.Rows.{page_code}
+use Rattle.bdb_layout.specs.of_format.Spelling.{header_bytes}
 use Rattle.bdb_pack.specs.Built.{Built}
 use Rattle.bdb_pack.specs.declared.values.Stored.{Stored}
 use Rattle.bdb_pack.specs.declared.values.Stored.TheVariants.{Inline, Chain}

@@ -1,18 +1,18 @@
 ghost use Rattle.std.specs.Prelude.{◌≡◌, ℕ, ◌+◌, ◌-◌, ◌*◌, ◌<◌, ◌≤◌, ◌^◌, ◌∷◌, ◌++◌, [], IsTrue, OnErr, OnOk, IfOk, length, replicate, take, drop};
 ghost use Rattle.std.specs.Borrow.{sem};
 ghost use Rattle.std.specs.Bool.{OnTrue};
-ghost use Rattle.bdb_format.specs.HeadOf.{is_page_size};
-ghost use Rattle.bdb_format.specs.Numbers.{byte_at};
-ghost use Rattle.bdb_format.specs.Reading.{entries_of, index_end, is_zero};
-ghost use Rattle.bdb_format.specs.Spelling.{IsHashContent, IsKey, IsLeafContent, hash_bytes, internal_bytes, leaf_bytes, recno_bytes};
-ghost use Rattle.bdb_format.specs.declared.kinds.Order.{Order as ByteOrder};
+ghost use Rattle.bdb_layout.specs.of_format.HeadOf.{is_page_size};
+ghost use Rattle.bdb_layout.specs.of_format.Numbers.{byte_at};
+ghost use Rattle.bdb_layout.specs.of_format.Reading.{entries_of, index_end, is_zero};
+ghost use Rattle.bdb_layout.specs.of_format.Spelling.{IsHashContent, IsKey, IsLeafContent, hash_bytes, internal_bytes, leaf_bytes, recno_bytes};
+ghost use Rattle.bdb_layout.specs.of_format.declared.kinds.Order.{Order as ByteOrder};
 ghost use Rattle.bdb_layout.specs.Seen.{HasOrder, hash_content_seen, internal_item_seen, leaf_item_seen};
 ghost use Rattle.bdb_pack.specs.Items.{IsWritable, OnHash, OnInternal, OnLeaf, OnRecno, extent, takes_items};
 ghost use Rattle.bdb_pack.specs.OnPages.{HasPlaceOn, HasRoomOn, IsBegunOn, has_room_on, holds_on, with_item_on};
 ghost use Rattle.bdb_pack.specs.Placing.{CanShare, HasRoom, IsOpen, begun_page, entered, has_room, high_free_of, page_and_item, page_and_shared, place_below};
 ghost use Rattle.bdb_pack.specs.Built.{AreWhole, bytes_of, joined_pages, with_copy, with_page, with_zeros, without_last};
 
-use bdb_format::{Bytes, Header, Order, RecnoItem};
+use bdb_layout::bdb_format::{Bytes, Header, Order, RecnoItem};
 use bdb_layout::{
     HashItem, InternalItem, InternalKey, LeafItem, put_hash_item, put_header, put_internal_item,
     put_leaf_item, put_recno_item, put_u16, u16_at,

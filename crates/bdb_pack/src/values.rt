@@ -1,12 +1,12 @@
 ghost use Rattle.std.specs.Prelude.{◌≡◌, ◌+◌, ◌-◌, ◌*◌, ◌/◌, ◌<◌, ◌≤◌, ◌^◌, IfOk, IsTrue, length, min, take, replicate};
-ghost use Rattle.bdb_format.specs.HeadOf.{is_page_size};
-ghost use Rattle.bdb_format.specs.Numbers.{overwritten};
-ghost use Rattle.bdb_format.specs.Spelling.{header_bytes};
+ghost use Rattle.bdb_layout.specs.of_format.HeadOf.{is_page_size};
+ghost use Rattle.bdb_layout.specs.of_format.Numbers.{overwritten};
+ghost use Rattle.bdb_layout.specs.of_format.Spelling.{header_bytes};
 ghost use Rattle.bdb_pack.specs.Built.{with_page};
 ghost use Rattle.bdb_pack.specs.Values.{IsStored, chain_page, piece_length, piece_next, with_piece};
 
 use crate::Pages;
-use bdb_format::{Header, Order};
+use bdb_layout::bdb_format::{Header, Order};
 use bdb_layout::put_header;
 use std::alloc::AllocError;
 

@@ -2,13 +2,13 @@
 //! Values: docs/FORMAT.md, "Hash items".
 
 ghost use Rattle.std.specs.Prelude.{◌≡◌};
-ghost use Rattle.bdb_layout.specs.Seen.{HasOrder};
+ghost use Rattle.bdb_form.specs.of_layout.Seen.{HasOrder};
 
 use crate::Sheet;
 use crate::spelled::{FILLING, Spelled, header};
+use bdb_form::bdb_format::Order;
+use bdb_form::bdb_layout::{DupBlocks, HashItem};
 use bdb_form::{PageView, form};
-use bdb_format::Order;
-use bdb_layout::{DupBlocks, HashItem};
 use std::test::Fail;
 
 // The blocks `x` and `yz`.

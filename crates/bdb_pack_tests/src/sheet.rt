@@ -1,14 +1,14 @@
 ghost use Rattle.std.specs.Prelude.{◌≡◌, ◌==◌, ◌≤◌, IfOk, IsTrue, length};
 ghost use Rattle.std.specs.Bool.{OnTrue};
-ghost use Rattle.bdb_format.specs.HeadOf.{is_page_size};
-ghost use Rattle.bdb_format.specs.Numbers.{byte_at};
-ghost use Rattle.bdb_layout.specs.Seen.{HasOrder, hash_content_seen, internal_item_seen, leaf_item_seen};
+ghost use Rattle.bdb_form.specs.of_format.HeadOf.{is_page_size};
+ghost use Rattle.bdb_form.specs.of_format.Numbers.{byte_at};
+ghost use Rattle.bdb_form.specs.of_layout.Seen.{HasOrder, hash_content_seen, internal_item_seen, leaf_item_seen};
 ghost use Rattle.bdb_pack.specs.Items.{OnHash, OnInternal, OnLeaf, OnRecno, takes_items};
 ghost use Rattle.bdb_pack.specs.Placing.{CanShare};
 ghost use Rattle.bdb_pack_tests.specs.Sheet.{HasPairs, Takes};
 
-use bdb_format::{Header, Order, RecnoItem};
-use bdb_layout::{HashItem, InternalItem, LeafItem, u16_at};
+use bdb_form::bdb_format::{Header, Order, RecnoItem};
+use bdb_form::bdb_layout::{HashItem, InternalItem, LeafItem, u16_at};
 use bdb_pack::Pages;
 use std::alloc::{AllocError, Global};
 use std::marker::Model;

@@ -2,10 +2,10 @@
 //! Values: docs/FORMAT.md, "The header".
 
 ghost use Rattle.std.specs.Prelude.{◌≤◌, IsTrue, length};
-ghost use Rattle.bdb_format.specs.HeadOf.{is_page_size};
+ghost use Rattle.bdb_form.specs.of_format.HeadOf.{is_page_size};
 
+use bdb_form::bdb_format::{Bytes, Header, Order};
 use bdb_form::{PageView, form};
-use bdb_format::{Bytes, Header, Order};
 use bdb_pack::{Pages, Stored, push_value};
 use std::alloc::{AllocError, Global};
 use std::test::Fail;

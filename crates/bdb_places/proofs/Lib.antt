@@ -1,0 +1,1 @@
+pub use Rattle.bdb_format.proofs as of_format

@@ -5,6 +5,7 @@ mod place;
 mod span;
 mod values;
 
+pub use bdb_format;
 pub use place::{Place, PlacedKey};
 pub use span::Span;
 pub use values::Values;

@@ -4,7 +4,7 @@ use Rattle.std.proofs.Common.{◌≡◌, ℕ, ◌+◌, ◌-◌, ◌*◌, ◌<◌
 use Rattle.std.specs.Prelude.{Some, None, ◌==◌}
 use Rattle.std.proofs.lemmas.Bool.{eqb-true, not-false, or_parts}
 use Rattle.std.proofs.Math.Nat.{div-mul-le_self}
-use Rattle.bdb_form.specs.Formed.{QueuePage}
+use Rattle.bdb_overflow.specs.of_form.Formed.{QueuePage}
 use Rattle.bdb_format.specs.declared.kinds.Order.{Order}
 use Rattle.bdb_format.specs.declared.metadata.FileKind.TheVariants.{Queue as QueueKind}
 use Rattle.bdb_format.specs.declared.metadata.Head.{Head}
@@ -17,10 +17,10 @@ use Rattle.bdb_format.specs.Reading.{abstract_page, is_zero, page_as, page_type,
 use Rattle.bdb_format.specs.Rows.{form_code, metadata_rows, records_per_page}
 use Rattle.bdb_format.specs.Table.{first_row}
 use Rattle.bdb_format.proofs.VerdictLemmas.{AllFail, none_is_first_row}
-use Rattle.bdb_image.specs.Linked.{HasMetadata, IsForest}
-use Rattle.bdb_image.proofs.FirstLemmas.{formed_accepted, formed_last, formed_page}
-use Rattle.bdb_image.proofs.FormedLemmas.{accepted_paged, page_length}
-use Rattle.bdb_image.proofs.MetaLemmas.{queue_formed}
+use Rattle.bdb_overflow.specs.of_image.Linked.{HasMetadata, IsForest}
+use Rattle.bdb_overflow.proofs.of_image.FirstLemmas.{formed_accepted, formed_last, formed_page}
+use Rattle.bdb_overflow.proofs.of_image.FormedLemmas.{accepted_paged, page_length}
+use Rattle.bdb_overflow.proofs.of_image.MetaLemmas.{queue_formed}
 use Rattle.bdb_queue.specs.Records.{HasSlots}
 use Rattle.bdb_format.proofs.GraphLemmas.{typed_page}
 use Rattle.bdb_format.proofs.FileLemmas.{last_page, page_is}

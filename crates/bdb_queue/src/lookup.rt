@@ -1,6 +1,6 @@
 ghost use Rattle.std.specs.Prelude.{◌≡◌, ◌+◌, ◌<◌, ◌≤◌, length};
 ghost use Rattle.std.specs.Iterator.{YieldsFirstBy, item_count};
-ghost use Rattle.bdb_image.specs.Linked.{HasMetadata, IsForest};
+ghost use Rattle.bdb_overflow.specs.of_image.Linked.{HasMetadata, IsForest};
 ghost use Rattle.bdb_format.specs.File.{file_of, page_at};
 ghost use Rattle.bdb_format.specs.Lists.{NumberKey, get, queue_list};
 ghost use Rattle.bdb_format.specs.Page.{QueueFields};
@@ -8,10 +8,10 @@ ghost use Rattle.bdb_overflow.specs.Datum.{datum_seen};
 ghost use Rattle.bdb_queue.specs.Records.{data_in, record_in_slot, records_seen};
 
 use crate::record::{Record, record_in};
-use bdb_form::PageView;
 use bdb_format::{QueueMeta, Steps};
-use bdb_graph::{Forest, Linked};
 use bdb_overflow::Datum;
+use bdb_overflow::bdb_form::PageView;
+use bdb_overflow::bdb_graph::{Forest, Linked};
 use std::marker::Model;
 use std::sync::ledger::Ledger;
 

@@ -3,8 +3,8 @@ ghost use Rattle.bdb_format.specs.Lists.{listed_slot, record_number};
 ghost use Rattle.bdb_format.specs.Numbers.{pad4};
 ghost use Rattle.bdb_queue.specs.Records.{records_seen};
 
-use bdb_form::QueueView;
 use bdb_format::QueueMeta;
+use bdb_overflow::bdb_form::QueueView;
 
 /// A live record of a queue.
 #[derive(Clone, Copy)]

@@ -1,6 +1,6 @@
 ghost use Rattle.std.specs.Prelude.{◌≡◌};
 ghost use Rattle.std.specs.Iterator.{YieldsFirstBy, item_count};
-ghost use Rattle.bdb_image.specs.Linked.{HasMetadata};
+ghost use Rattle.bdb_overflow.specs.of_image.Linked.{HasMetadata};
 ghost use Rattle.bdb_format.specs.File.{file_of};
 ghost use Rattle.bdb_format.specs.Lists.{queue_list};
 ghost use Rattle.bdb_format.specs.Page.{QueueFields};
@@ -8,7 +8,7 @@ ghost use Rattle.bdb_overflow.specs.Datum.{datum_seen, key_view_seen};
 
 use crate::walk::{Place, first_from};
 use bdb_format::QueueMeta;
-use bdb_graph::Forest;
+use bdb_overflow::bdb_graph::Forest;
 use bdb_overflow::{Datum, KeyView};
 use std::marker::Model;
 

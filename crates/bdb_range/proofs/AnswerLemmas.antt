@@ -3,20 +3,20 @@ use Rattle.std.proofs.Common.{◌≡◌, ◌∙◌, ℕ, ◌+◌, ◌^◌, ◌<�
 use Rattle.std.specs.Prelude.{Option, Some, None, MatchOption}
 use Rattle.std.specs.List.{prefix_len}
 use Rattle.std.proofs.lemmas.List.{length-append}
-use Rattle.bdb_format.specs.declared.metadata.BtreeMeta.{BtreeMeta}
-use Rattle.bdb_format.specs.ContentRows.{database_faults}
-use Rattle.bdb_format.specs.File.{File, file_of, header_in, page_at}
-use Rattle.bdb_format.specs.Flags.{is_recno}
-use Rattle.bdb_format.specs.HeadOf.{head_of}
-use Rattle.bdb_format.specs.Leaves.{leaves}
-use Rattle.bdb_format.specs.Page.{BtreeFields}
-use Rattle.bdb_format.proofs.FileLemmas.{count_is}
-use Rattle.bdb_image.specs.Linked.{HasMetadata, IsForest}
-use Rattle.bdb_image.proofs.FirstLemmas.{formed_accepted}
-use Rattle.bdb_image.proofs.FormedLemmas.{accepted_paged}
-use Rattle.bdb_tree.specs.Descent.{descent}
-use Rattle.bdb_tree.specs.Trees.{IsRoot}
-use Rattle.bdb_tree.proofs.LinkLemmas.{few_leaves}
+use Rattle.bdb_btree.specs.of_format.declared.metadata.BtreeMeta.{BtreeMeta}
+use Rattle.bdb_btree.specs.of_format.ContentRows.{database_faults}
+use Rattle.bdb_btree.specs.of_format.File.{File, file_of, header_in, page_at}
+use Rattle.bdb_btree.specs.of_format.Flags.{is_recno}
+use Rattle.bdb_btree.specs.of_format.HeadOf.{head_of}
+use Rattle.bdb_btree.specs.of_format.Leaves.{leaves}
+use Rattle.bdb_btree.specs.of_format.Page.{BtreeFields}
+use Rattle.bdb_btree.proofs.of_format.FileLemmas.{count_is}
+use Rattle.bdb_btree.specs.of_image.Linked.{HasMetadata, IsForest}
+use Rattle.bdb_btree.proofs.of_image.FirstLemmas.{formed_accepted}
+use Rattle.bdb_btree.proofs.of_image.FormedLemmas.{accepted_paged}
+use Rattle.bdb_btree.specs.of_tree.Descent.{descent}
+use Rattle.bdb_btree.specs.of_tree.Trees.{IsRoot}
+use Rattle.bdb_btree.proofs.of_tree.LinkLemmas.{few_leaves}
 use Rattle.bdb_btree.specs.Pairs.{AreLeaves}
 use Rattle.bdb_btree.specs.Search.{is_below}
 use Rattle.bdb_btree.proofs.WalkLemmas.{are_leaves}

@@ -1,12 +1,12 @@
 -- The leaves of a btree's root.
 use Rattle.std.proofs.Common.{inl, ℕ, List, [], ◌∷◌, ◌++◌}
-use Rattle.bdb_format.specs.declared.metadata.BtreeMeta.{BtreeMeta}
-use Rattle.bdb_format.specs.File.{File, file_of}
-use Rattle.bdb_format.specs.HeadOf.{head_of}
-use Rattle.bdb_format.specs.Page.{BtreeFields}
-use Rattle.bdb_image.specs.Linked.{HasMetadata, IsForest}
-use Rattle.bdb_graph.proofs.LinkedLemmas.{root_fits}
-use Rattle.bdb_tree.specs.Trees.{IsRoot}
+use Rattle.bdb_btree.specs.of_format.declared.metadata.BtreeMeta.{BtreeMeta}
+use Rattle.bdb_btree.specs.of_format.File.{File, file_of}
+use Rattle.bdb_btree.specs.of_format.HeadOf.{head_of}
+use Rattle.bdb_btree.specs.of_format.Page.{BtreeFields}
+use Rattle.bdb_btree.specs.of_image.Linked.{HasMetadata, IsForest}
+use Rattle.bdb_btree.proofs.of_graph.LinkedLemmas.{root_fits}
+use Rattle.bdb_btree.specs.of_tree.Trees.{IsRoot}
 use Rattle.bdb_btree.specs.Pairs.{AreLeaves}
 
 pub is_root : (image : List ℕ) (meta : BtreeMeta) → IsForest image → HasMetadata (file_of image) (BtreeFields meta) → IsRoot (file_of image) meta.root

@@ -3,26 +3,26 @@ use Rattle.std.proofs.Common.{◌≡◌, ◌∙◌, inl, inr, ℕ, ◌≤◌, Li
 use Rattle.std.specs.List.{Contains, flat_map}
 use Rattle.std.proofs.lemmas.List.{take-append-drop}
 use Rattle.std.proofs.lemmas.List.Elements.{Contains-append_left, Contains-append_right}
-use Rattle.bdb_format.specs.declared.metadata.BtreeMeta.{BtreeMeta}
-use Rattle.bdb_format.specs.Contents.{pairs_of, tree_pairs}
-use Rattle.bdb_format.specs.File.{File, file_of}
-use Rattle.bdb_format.specs.declared.metadata.Head.{Head}
-use Rattle.bdb_format.specs.HeadOf.{head_of}
-use Rattle.bdb_format.specs.Leaves.{leaves}
-use Rattle.bdb_format.specs.Lists.{btree_list, listed_pair}
-use Rattle.bdb_format.specs.Page.{BtreeFields}
-use Rattle.bdb_format.specs.Verdict.{structure_faults}
-use Rattle.bdb_format.proofs.MemberLemmas.{first_member, in_flat_map, member_cases, no_member, of_flat_map}
-use Rattle.bdb_image.specs.Linked.{FitsLeafPage, HasMetadata, IsForest}
-use Rattle.bdb_graph.proofs.LinkedLemmas.{root_fits}
-use Rattle.bdb_tree.specs.Trees.{IsRoot}
-use Rattle.bdb_tree.proofs.LinkLemmas.{root_within}
-use Rattle.bdb_tree.proofs.TreeLemmas.{leaf_fits, root_is_tree}
+use Rattle.bdb_btree.specs.of_format.declared.metadata.BtreeMeta.{BtreeMeta}
+use Rattle.bdb_btree.specs.of_format.Contents.{pairs_of, tree_pairs}
+use Rattle.bdb_btree.specs.of_format.File.{File, file_of}
+use Rattle.bdb_btree.specs.of_format.declared.metadata.Head.{Head}
+use Rattle.bdb_btree.specs.of_format.HeadOf.{head_of}
+use Rattle.bdb_btree.specs.of_format.Leaves.{leaves}
+use Rattle.bdb_btree.specs.of_format.Lists.{btree_list, listed_pair}
+use Rattle.bdb_btree.specs.of_format.Page.{BtreeFields}
+use Rattle.bdb_btree.specs.of_format.Verdict.{structure_faults}
+use Rattle.bdb_btree.proofs.of_format.MemberLemmas.{first_member, in_flat_map, member_cases, no_member, of_flat_map}
+use Rattle.bdb_btree.specs.of_image.Linked.{FitsLeafPage, HasMetadata, IsForest}
+use Rattle.bdb_btree.proofs.of_graph.LinkedLemmas.{root_fits}
+use Rattle.bdb_btree.specs.of_tree.Trees.{IsRoot}
+use Rattle.bdb_btree.proofs.of_tree.LinkLemmas.{root_within}
+use Rattle.bdb_btree.proofs.of_tree.TreeLemmas.{leaf_fits, root_is_tree}
 use Rattle.bdb_btree.specs.Pairs.{AreFit, AreLeaves, Each, FitsPair}
 use Rattle.bdb_btree.specs.Search.{AreOpen}
 use Rattle.bdb_btree.proofs.RowLemmas.{tree_pairs_fit}
 use Rattle.bdb_btree.proofs.WalkLemmas.{are_leaves, each_of}
-use Rattle.bdb_format.proofs.FileLemmas.{last_page}
+use Rattle.bdb_btree.proofs.of_format.FileLemmas.{last_page}
 use Rattle.bdb_range.specs.Ranges.{in_range}
 use Rattle.bdb_range.specs.InRange.{pairs_between}
 use Rattle.bdb_range.specs.Spans.{Covers}

@@ -6,13 +6,13 @@ use Rattle.std.specs.List.{Contains, flat_map}
 use Rattle.std.proofs.lemmas.List.{take-append-drop}
 use Rattle.std.proofs.lemmas.List.Concat.{flat_map-append}
 use Rattle.std.proofs.lemmas.List.Elements.{Contains-append_left, Contains-append_right, filter-append}
-use Rattle.bdb_format.specs.Contents.{StoredPair, data_of, pairs_of, tree_pairs}
-use Rattle.bdb_format.specs.File.{File, file_of, header_in, page_at}
-use Rattle.bdb_format.specs.Leaves.{leaves}
-use Rattle.bdb_format.specs.Lists.{ListKey, BytesKey, btree_list, listed_pair}
-use Rattle.bdb_format.proofs.MemberLemmas.{first_member, later_member, member_cases, no_member}
-use Rattle.bdb_graph.specs.Forest.{AllDistinct, NotIn}
-use Rattle.bdb_graph.proofs.LeavesLemmas.{no_leaf_twice}
+use Rattle.bdb_btree.specs.of_format.Contents.{StoredPair, data_of, pairs_of, tree_pairs}
+use Rattle.bdb_btree.specs.of_format.File.{File, file_of, header_in, page_at}
+use Rattle.bdb_btree.specs.of_format.Leaves.{leaves}
+use Rattle.bdb_btree.specs.of_format.Lists.{ListKey, BytesKey, btree_list, listed_pair}
+use Rattle.bdb_btree.proofs.of_format.MemberLemmas.{first_member, later_member, member_cases, no_member}
+use Rattle.bdb_btree.specs.of_graph.Forest.{AllDistinct, NotIn}
+use Rattle.bdb_btree.proofs.of_graph.LeavesLemmas.{no_leaf_twice}
 use Rattle.bdb_range.specs.Ranges.{in_range, lies_between}
 use Rattle.bdb_range.specs.InRange.{pairs_between}
 use Rattle.bdb_range.specs.Spans.{ListsAreFiltered, SpansGiveRanges}

@@ -7,26 +7,26 @@ use Rattle.std.proofs.lemmas.List.{length-append, take-append-drop}
 use Rattle.std.proofs.lemmas.List.Concat.{flat_map-append}
 use Rattle.std.proofs.lemmas.List.Elements.{Contains-append_cases, filter-append}
 use Rattle.std.proofs.lemmas.Bool.{eq-eqb}
-use Rattle.bdb_format.specs.declared.metadata.BtreeMeta.{BtreeMeta}
-use Rattle.bdb_format.specs.Contents.{StoredPair, pairs_of, tree_pairs}
-use Rattle.bdb_format.specs.ContentRows.{btree_contents, database_faults, database_rows, is_out_of_order, neighbours}
-use Rattle.bdb_format.specs.File.{File, file_of}
-use Rattle.bdb_format.specs.Flags.{is_recno}
-use Rattle.bdb_format.specs.Leaves.{leaves}
-use Rattle.bdb_format.specs.Less.{less}
-use Rattle.bdb_format.specs.Page.{BtreeFields}
-use Rattle.bdb_format.proofs.LessLemmas.{less_above, less_self}
-use Rattle.bdb_format.proofs.MemberLemmas.{first_member, in_flat_map, later_member, member_cases, no_member, none_passes}
-use Rattle.bdb_format.proofs.ListLemmas.{passes_here}
-use Rattle.bdb_image.specs.Linked.{FitsLeafPage, HasMetadata, IsForest}
+use Rattle.bdb_btree.specs.of_format.declared.metadata.BtreeMeta.{BtreeMeta}
+use Rattle.bdb_btree.specs.of_format.Contents.{StoredPair, pairs_of, tree_pairs}
+use Rattle.bdb_btree.specs.of_format.ContentRows.{btree_contents, database_faults, database_rows, is_out_of_order, neighbours}
+use Rattle.bdb_btree.specs.of_format.File.{File, file_of}
+use Rattle.bdb_btree.specs.of_format.Flags.{is_recno}
+use Rattle.bdb_btree.specs.of_format.Leaves.{leaves}
+use Rattle.bdb_btree.specs.of_format.Less.{less}
+use Rattle.bdb_btree.specs.of_format.Page.{BtreeFields}
+use Rattle.bdb_btree.proofs.of_format.LessLemmas.{less_above, less_self}
+use Rattle.bdb_btree.proofs.of_format.MemberLemmas.{first_member, in_flat_map, later_member, member_cases, no_member, none_passes}
+use Rattle.bdb_btree.proofs.of_format.ListLemmas.{passes_here}
+use Rattle.bdb_btree.specs.of_image.Linked.{FitsLeafPage, HasMetadata, IsForest}
 use Rattle.bdb_btree.specs.Pairs.{AreLeaves}
 use Rattle.std.proofs.lemmas.List.{get_or-drop, length-drop}
 use Rattle.std.proofs.lemmas.List.Sums.{prefix_len-le-length, prefix_len_stops}
-use Rattle.bdb_format.specs.Verdict.{holding}
-use Rattle.bdb_format.proofs.BoolLemmas.{second_false}
-use Rattle.bdb_format.proofs.PairLemmas.{keyed_rows, neighbour_in}
-use Rattle.bdb_format.proofs.VerdictLemmas.{AllFail, all_fail, no_codes_at}
-use Rattle.bdb_tree.proofs.PairLemmas.{tree_pair_inside}
+use Rattle.bdb_btree.specs.of_format.Verdict.{holding}
+use Rattle.bdb_btree.proofs.of_format.BoolLemmas.{second_false}
+use Rattle.bdb_btree.proofs.of_format.PairLemmas.{keyed_rows, neighbour_in}
+use Rattle.bdb_btree.proofs.of_format.VerdictLemmas.{AllFail, all_fail, no_codes_at}
+use Rattle.bdb_btree.proofs.of_tree.PairLemmas.{tree_pair_inside}
 use Rattle.bdb_btree.proofs.FallLemmas.{dont_fall, tree_keys}
 use Rattle.bdb_btree.specs.Bounds.{DontFall}
 use Rattle.bdb_range.specs.Ranges.{lies_between}

@@ -7,21 +7,21 @@ use Rattle.std.proofs.lemmas.List.{drop_more, get_or-drop, get_or-take, length-d
 use Rattle.std.proofs.lemmas.List.Elements.{Contains-append_cases}
 use Rattle.std.proofs.lemmas.List.Folds.{flat_map-map}
 use Rattle.std.proofs.lemmas.List.Concat.{flat_map-append}
-use Rattle.bdb_format.specs.Chains.{value_of}
-use Rattle.bdb_format.specs.Contents.{StoredPair, pairs_of, tree_pairs}
-use Rattle.bdb_format.specs.File.{File, file_of, page_at, type_in}
-use Rattle.bdb_format.specs.Leaves.{children_in, leaves}
-use Rattle.bdb_format.specs.Less.{less}
-use Rattle.bdb_format.specs.Page.{InternalItem, Internal, Listed}
-use Rattle.bdb_format.proofs.LessLemmas.{less_above, less_trans}
-use Rattle.bdb_format.proofs.MemberLemmas.{in_flat_map, in_map, no_member, of_flat_map}
-use Rattle.bdb_format.proofs.TypeLemmas.{tree_keyed}
-use Rattle.bdb_image.specs.Linked.{IsForest}
-use Rattle.bdb_slots.specs.Slots.{no_internal_item}
-use Rattle.bdb_tree.specs.Descent.{IsLastFalse, chosen, descent, next_below}
-use Rattle.bdb_tree.proofs.DescentLemmas.{chosen_is, internal_inside, internal_is, is_inner, is_inner_below}
-use Rattle.bdb_tree.proofs.TreeLemmas.{HasTypeAt, IsChild, child_is, leaves_of_inner, leaves_of_leaf, level, tree_cases, tree_level}
-use Rattle.bdb_tree.proofs.WayLemmas.{chosen_among}
+use Rattle.bdb_btree.specs.of_format.Chains.{value_of}
+use Rattle.bdb_btree.specs.of_format.Contents.{StoredPair, pairs_of, tree_pairs}
+use Rattle.bdb_btree.specs.of_format.File.{File, file_of, page_at, type_in}
+use Rattle.bdb_btree.specs.of_format.Leaves.{children_in, leaves}
+use Rattle.bdb_btree.specs.of_format.Less.{less}
+use Rattle.bdb_btree.specs.of_format.Page.{InternalItem, Internal, Listed}
+use Rattle.bdb_btree.proofs.of_format.LessLemmas.{less_above, less_trans}
+use Rattle.bdb_btree.proofs.of_format.MemberLemmas.{in_flat_map, in_map, no_member, of_flat_map}
+use Rattle.bdb_btree.proofs.of_format.TypeLemmas.{tree_keyed}
+use Rattle.bdb_btree.specs.of_image.Linked.{IsForest}
+use Rattle.bdb_btree.specs.of_slots.Slots.{no_internal_item}
+use Rattle.bdb_btree.specs.of_tree.Descent.{IsLastFalse, chosen, descent, next_below}
+use Rattle.bdb_btree.proofs.of_tree.DescentLemmas.{chosen_is, internal_inside, internal_is, is_inner, is_inner_below}
+use Rattle.bdb_btree.proofs.of_tree.TreeLemmas.{HasTypeAt, IsChild, child_is, leaves_of_inner, leaves_of_leaf, level, tree_cases, tree_level}
+use Rattle.bdb_btree.proofs.of_tree.WayLemmas.{chosen_among}
 use Rattle.bdb_btree.specs.Search.{is_below}
 use Rattle.bdb_btree.proofs.FindLemmas.{AllSeparated, AreSeparated, all_separated, keyed_inner, last_from, no_inner, step_down}
 use Rattle.bdb_btree.proofs.InnerLemmas.{child_keyed}

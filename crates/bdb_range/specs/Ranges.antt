@@ -1,8 +1,8 @@
 -- The pairs of a list between two keys. Source: docs/FORMAT.md, "Ranges".
 use Rattle.std.specs.Prelude.{ℕ, ◌&&◌, not, Bool, false, List}
 use Rattle.std.specs.List.{filter}
-use Rattle.bdb_format.specs.Less.{less}
-use Rattle.bdb_format.specs.Lists.{ListKey, BytesKey, NumberKey}
+use Rattle.bdb_btree.specs.of_format.Less.{less}
+use Rattle.bdb_btree.specs.of_format.Lists.{ListKey, BytesKey, NumberKey}
 
 -- a key isn't less than the first bound, and is less than the second
 abbrev pub lies_between : List ℕ → List ℕ → List ℕ → Bool

@@ -1,17 +1,17 @@
 -- Leaves that cover a range of keys. Source: docs/FORMAT.md, "Stage 8, contents".
 use Rattle.std.specs.Prelude.{◌≡◌, ◌≤◌, ℕ, ◌+◌, Bool, true, false, List, ◌∷◌, ◌++◌, [], length, take}
 use Rattle.std.specs.List.{Contains, flat_map, prefix_len}
-use Rattle.bdb_format.specs.declared.metadata.BtreeMeta.{BtreeMeta}
-use Rattle.bdb_format.specs.ContentRows.{database_faults}
-use Rattle.bdb_format.specs.Contents.{StoredPair, pairs_of, tree_pairs}
-use Rattle.bdb_format.specs.File.{File, file_of, header_in, page_at}
-use Rattle.bdb_format.specs.Flags.{is_recno}
-use Rattle.bdb_format.specs.Leaves.{leaves}
-use Rattle.bdb_format.specs.Less.{less}
-use Rattle.bdb_format.specs.Lists.{btree_list, listed_pair}
-use Rattle.bdb_format.specs.Page.{BtreeFields}
-use Rattle.bdb_image.specs.Linked.{HasMetadata, IsForest}
-use Rattle.bdb_tree.specs.Descent.{descent}
+use Rattle.bdb_btree.specs.of_format.declared.metadata.BtreeMeta.{BtreeMeta}
+use Rattle.bdb_btree.specs.of_format.ContentRows.{database_faults}
+use Rattle.bdb_btree.specs.of_format.Contents.{StoredPair, pairs_of, tree_pairs}
+use Rattle.bdb_btree.specs.of_format.File.{File, file_of, header_in, page_at}
+use Rattle.bdb_btree.specs.of_format.Flags.{is_recno}
+use Rattle.bdb_btree.specs.of_format.Leaves.{leaves}
+use Rattle.bdb_btree.specs.of_format.Less.{less}
+use Rattle.bdb_btree.specs.of_format.Lists.{btree_list, listed_pair}
+use Rattle.bdb_btree.specs.of_format.Page.{BtreeFields}
+use Rattle.bdb_btree.specs.of_image.Linked.{HasMetadata, IsForest}
+use Rattle.bdb_btree.specs.of_tree.Descent.{descent}
 use Rattle.bdb_btree.specs.Search.{is_below}
 use Rattle.bdb_range.specs.Ranges.{in_range, lies_between}
 use Rattle.bdb_range.specs.InRange.{empty_leaves, holding_leaves, pairs_between}

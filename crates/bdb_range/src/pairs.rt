@@ -1,22 +1,22 @@
 ghost use Rattle.std.specs.Prelude.{◌≡◌, []};
 ghost use Rattle.std.specs.Iterator.{YieldsFirstBy, item_count};
-ghost use Rattle.bdb_image.specs.Linked.{HasMetadata};
-ghost use Rattle.bdb_format.specs.File.{file_of};
-ghost use Rattle.bdb_format.specs.Lists.{btree_list};
-ghost use Rattle.bdb_format.specs.Page.{BtreeFields};
-ghost use Rattle.bdb_format.specs.Verdict.{structure_faults};
-ghost use Rattle.bdb_overflow.specs.Datum.{datum_seen};
+ghost use Rattle.bdb_btree.specs.of_image.Linked.{HasMetadata};
+ghost use Rattle.bdb_btree.specs.of_format.File.{file_of};
+ghost use Rattle.bdb_btree.specs.of_format.Lists.{btree_list};
+ghost use Rattle.bdb_btree.specs.of_format.Page.{BtreeFields};
+ghost use Rattle.bdb_btree.specs.of_format.Verdict.{structure_faults};
+ghost use Rattle.bdb_btree.specs.of_overflow.Datum.{datum_seen};
 ghost use Rattle.bdb_btree.specs.Pairs.{pair_seen};
 ghost use Rattle.bdb_btree.specs.Search.{entry_seen};
 ghost use Rattle.bdb_range.specs.Ranges.{in_range, lies_between};
 ghost use Rattle.bdb_range.specs.Spans.{Covers};
 
 use crate::Span;
+use bdb_btree::bdb_format::BtreeMeta;
+use bdb_btree::bdb_graph::{Forest, Linked, Ref};
+use bdb_btree::bdb_overflow::{Datum, KeyView, is_less};
+use bdb_btree::bdb_tree::{Leaves, leaves};
 use bdb_btree::{Entries, PagePairs, Pair, next_entry, next_pair, page_pairs, pair_entries};
-use bdb_format::BtreeMeta;
-use bdb_graph::{Forest, Linked, Ref};
-use bdb_overflow::{Datum, KeyView, is_less};
-use bdb_tree::{Leaves, leaves};
 use std::marker::Model;
 
 /// The pairs of so many leaves that are left, in order.
@@ -40,8 +40,8 @@ impl Drop for SpanPairs<'_> {
 
 impl<'a> Model for SpanPairs<'a> {
     ghost use Rattle.std.specs.Prelude.{List, take};
-    ghost use Rattle.bdb_format.specs.Contents.{StoredPair};
-    ghost use Rattle.bdb_format.specs.File.{file_of};
+    ghost use Rattle.bdb_btree.specs.of_format.Contents.{StoredPair};
+    ghost use Rattle.bdb_btree.specs.of_format.File.{file_of};
 
     ghost Value = { List StoredPair };
 
@@ -105,8 +105,8 @@ impl Drop for RangePairs<'_, '_> {
 
 impl<'a, 'k> Model for RangePairs<'a, 'k> {
     ghost use Rattle.std.specs.Prelude.{List, ℕ};
-    ghost use Rattle.bdb_format.specs.File.{file_of};
-    ghost use Rattle.bdb_format.specs.Lists.{ListKey};
+    ghost use Rattle.bdb_btree.specs.of_format.File.{file_of};
+    ghost use Rattle.bdb_btree.specs.of_format.Lists.{ListKey};
 
     ghost Value = { List (ListKey × List ℕ) };
 

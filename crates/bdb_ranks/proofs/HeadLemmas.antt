@@ -29,16 +29,16 @@ use Rattle.bdb_format.proofs.GraphLemmas.{IsOwner, is_owner, owner_fits, reserve
 use Rattle.bdb_format.proofs.ListLemmas.{only_member}
 use Rattle.bdb_format.proofs.MemberLemmas.{first_member, member_cases, no_member, of_filter, of_flat_map, of_map}
 use Rattle.bdb_format.proofs.VerdictLemmas.{AllFail, none_is_first_row}
-use Rattle.bdb_form.specs.Formed.{OverflowPage}
-use Rattle.bdb_form.specs.Seen.{page_seen}
-use Rattle.bdb_form.specs.declared.view.PageView.{PageView}
-use Rattle.bdb_form.specs.declared.view.PageView.TheVariants.{Overflow as OverflowSeen}
-use Rattle.bdb_graph.specs.Forest.{IsWayUp, is_top}
-use Rattle.bdb_image.specs.Linked.{FitsChain, IsForest}
-use Rattle.bdb_graph.proofs.ChildLemmas.{is_queue_page}
-use Rattle.bdb_image.proofs.FirstLemmas.{formed_page}
-use Rattle.bdb_graph.proofs.ForestLemmas.{each_page_leads_up, sound_graph}
-use Rattle.bdb_image.proofs.HeldLemmas.{own_type}
+use Rattle.bdb_tree.specs.of_form.Formed.{OverflowPage}
+use Rattle.bdb_tree.specs.of_form.Seen.{page_seen}
+use Rattle.bdb_tree.specs.of_form.declared.view.PageView.{PageView}
+use Rattle.bdb_tree.specs.of_form.declared.view.PageView.TheVariants.{Overflow as OverflowSeen}
+use Rattle.bdb_tree.specs.of_graph.Forest.{IsWayUp, is_top}
+use Rattle.bdb_tree.specs.of_image.Linked.{FitsChain, IsForest}
+use Rattle.bdb_tree.proofs.of_graph.ChildLemmas.{is_queue_page}
+use Rattle.bdb_tree.proofs.of_image.FirstLemmas.{formed_page}
+use Rattle.bdb_tree.proofs.of_graph.ForestLemmas.{each_page_leads_up, sound_graph}
+use Rattle.bdb_tree.proofs.of_image.HeldLemmas.{own_type}
 use Rattle.bdb_tree.proofs.BelongLemmas.{no_anchor_in}
 use Rattle.bdb_tree.proofs.RootLemmas.{of_refs}
 use Rattle.bdb_tree.proofs.ShapeLemmas.{no_queue}

@@ -15,10 +15,10 @@ use Rattle.std.proofs.lemmas.List.Sorted.{Contains-permutation, IsPermutation-sy
 use Rattle.bdb_format.specs.File.{file_of}
 use Rattle.bdb_format.specs.Less.{less, Less}
 use Rattle.bdb_format.proofs.LessLemmas.{below_less, less_above, less_not_back, less_self, same_unless_less}
-use Rattle.bdb_overflow.specs.Held.{chain_value}
+use Rattle.bdb_tree.specs.of_overflow.Held.{chain_value}
 use Rattle.bdb_ranks.specs.Ranks.{AreBelow, AreRanked, AreRanks, is_above, no_chain, value_at, value_less}
 use Rattle.bdb_ranks.specs.Shared.{AreShared, ChainValue, IsShared}
-use Rattle.bdb_overflow.proofs.HeldLemmas.{apart}
+use Rattle.bdb_tree.proofs.of_overflow.HeldLemmas.{apart}
 use Rattle.bdb_format.proofs.ListLemmas.{one_answer}
 
 -- The sort.

@@ -4,7 +4,7 @@ use Rattle.std.specs.BTreeMap.{BTreeMap, get}
 use Rattle.std.specs.Ordering.{nat_cmp}
 use Rattle.bdb_format.specs.File.{file_of}
 use Rattle.bdb_format.specs.Less.{less}
-use Rattle.bdb_overflow.specs.Held.{chain_value}
+use Rattle.bdb_tree.specs.of_overflow.Held.{chain_value}
 use Rattle.bdb_ranks.specs.Shared.{ChainValue}
 
 -- these are in the order of the values

@@ -2,7 +2,7 @@
 use Rattle.std.specs.Prelude.{◌≡◌, ℕ, List}
 use Rattle.std.specs.List.{Contains}
 use Rattle.bdb_format.specs.File.{file_of}
-use Rattle.bdb_overflow.specs.Held.{chain_value}
+use Rattle.bdb_tree.specs.of_overflow.Held.{chain_value}
 
 -- a chain by its head
 pub record ChainValue : Type 0 where

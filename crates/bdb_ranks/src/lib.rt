@@ -5,4 +5,8 @@ mod ranking;
 mod shared;
 mod values;
 
+pub use bdb_format;
+pub use bdb_layout;
+pub use bdb_tree;
+pub use bdb_tree::{bdb_faults, bdb_form, bdb_graph, bdb_overflow};
 pub use values::Values;

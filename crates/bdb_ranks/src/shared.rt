@@ -1,12 +1,12 @@
 ghost use Rattle.std.specs.Prelude.{◌≡◌, ◌≤◌, IfOk, IfSome};
 ghost use Rattle.bdb_format.specs.File.{file_of};
-ghost use Rattle.bdb_image.specs.Linked.{IsForest};
-ghost use Rattle.bdb_overflow.specs.Datum.{datum_seen};
+ghost use Rattle.bdb_tree.specs.of_image.Linked.{IsForest};
+ghost use Rattle.bdb_tree.specs.of_overflow.Datum.{datum_seen};
 ghost use Rattle.bdb_ranks.specs.Shared.{AreShared, IsShared};
 
-use bdb_form::PageView;
-use bdb_graph::Forest;
-use bdb_overflow::{Datum, chain_pieces};
+use bdb_tree::bdb_form::PageView;
+use bdb_tree::bdb_graph::Forest;
+use bdb_tree::bdb_overflow::{Datum, chain_pieces};
 use std::alloc::{AllocError, Global};
 use std::marker::Model;
 
@@ -18,7 +18,7 @@ pub(crate) struct SharedChain<'a> {
 }
 
 impl<'a> Model for SharedChain<'a> {
-    ghost use Rattle.bdb_overflow.specs.Datum.{datum_seen};
+    ghost use Rattle.bdb_tree.specs.of_overflow.Datum.{datum_seen};
     ghost use Rattle.bdb_ranks.specs.Shared.{ChainValue};
 
     ghost Value = { ChainValue };

@@ -1,13 +1,13 @@
 ghost use Rattle.std.specs.Prelude.{◌≡◌, IfOk, IfSome, List, ℕ};
 ghost use Rattle.bdb_format.specs.File.{file_of};
 ghost use Rattle.bdb_format.specs.Less.{less};
-ghost use Rattle.bdb_image.specs.Linked.{FitsChain};
-ghost use Rattle.bdb_overflow.specs.Held.{FitsHeld, chain_value, value_held};
+ghost use Rattle.bdb_tree.specs.of_image.Linked.{FitsChain};
+ghost use Rattle.bdb_tree.specs.of_overflow.Held.{FitsHeld, chain_value, value_held};
 ghost use Rattle.bdb_ranks.specs.Ranks.{AreRanks};
 
 use crate::ranking::ranks_of;
-use bdb_graph::Forest;
-use bdb_overflow::{Held, Values as OwnValues, is_shared};
+use bdb_tree::bdb_graph::Forest;
+use bdb_tree::bdb_overflow::{Held, Values as OwnValues, is_shared};
 use std::alloc::{AllocError, Global};
 use std::collections::BTreeMap;
 use std::marker::Model;

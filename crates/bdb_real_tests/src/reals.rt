@@ -2,18 +2,18 @@
 
 ghost use Rattle.std.specs.Prelude.{◌≡◌, [], IsTrue, false};
 ghost use Rattle.std.specs.Iterator.{IsFinite};
-ghost use Rattle.bdb_image.specs.Linked.{HasMetadata};
-ghost use Rattle.bdb_format.specs.ContentRows.{database_faults};
-ghost use Rattle.bdb_format.specs.File.{file_of};
-ghost use Rattle.bdb_format.specs.Page.{BtreeFields, HashFields, QueueFields};
-ghost use Rattle.bdb_format.specs.Verdict.{structure_faults};
-ghost use Rattle.bdb_format.specs.Flags.{is_recno};
+ghost use Rattle.bdb_btree.specs.of_image.Linked.{HasMetadata};
+ghost use Rattle.bdb_btree.specs.of_format.ContentRows.{database_faults};
+ghost use Rattle.bdb_btree.specs.of_format.File.{file_of};
+ghost use Rattle.bdb_btree.specs.of_format.Page.{BtreeFields, HashFields, QueueFields};
+ghost use Rattle.bdb_btree.specs.of_format.Verdict.{structure_faults};
+ghost use Rattle.bdb_btree.specs.of_format.Flags.{is_recno};
 
 use crate::real_images::{self, Image};
 use crate::{real_btree_lists, real_btrees, real_lists, real_set_lists};
-use bdb_format::{BtreeMeta, HashMeta, QueueMeta, Steps};
-use bdb_graph::{Linked, Meta, link, open_image};
-use bdb_overflow::{Datum, KeyView, compare_datum};
+use bdb_btree::bdb_format::{BtreeMeta, HashMeta, QueueMeta, Steps};
+use bdb_btree::bdb_graph::{Linked, Meta, link, open_image};
+use bdb_btree::bdb_overflow::{Datum, KeyView, compare_datum};
 use std::alloc::Global;
 use std::cmp::Ordering;
 use std::marker::Brand;

@@ -7,11 +7,11 @@ use Rattle.std.specs.List.{All, Contains, flat_map, list_any}
 use Rattle.std.specs.Option.{unwrap_or}
 use Rattle.std.proofs.lemmas.List.Elements.{All-contains}
 use Rattle.std.proofs.Math.Bool.{or-false, or_assoc}
-use Rattle.bdb_faults.specs.Notes.{Notes, NotesAll}
-use Rattle.bdb_faults.proofs.SinkLemmas.{notes_both, notes_none, notes_one}
-use Rattle.bdb_faults.specs.Rows.{fault_if}
-use Rattle.bdb_faults.specs.declared.rows.ContentsRow.TheVariants.{Count}
-use Rattle.bdb_faults.specs.declared.rows.Row.TheVariants.{Contents}
+use Rattle.bdb_tree.specs.of_faults.Notes.{Notes, NotesAll}
+use Rattle.bdb_tree.proofs.of_faults.SinkLemmas.{notes_both, notes_none, notes_one}
+use Rattle.bdb_tree.specs.of_faults.Rows.{fault_if}
+use Rattle.bdb_tree.specs.of_faults.declared.rows.ContentsRow.TheVariants.{Count}
+use Rattle.bdb_tree.specs.of_faults.declared.rows.Row.TheVariants.{Contents}
 use Rattle.bdb_format.specs.declared.kinds.Fault.{Fault}
 use Rattle.bdb_format.specs.declared.pages.RecnoItem.{RecnoItem}
 use Rattle.bdb_format.specs.ContentRows.{has_wrong_count, inner_pages}
@@ -21,7 +21,7 @@ use Rattle.bdb_format.specs.Leaves.{children_in}
 use Rattle.bdb_format.specs.Page.{Item, Listed, RecnoInternal, RecnoLeaf}
 use Rattle.bdb_format.proofs.ListLemmas.{all_of, only_member}
 use Rattle.bdb_format.proofs.MemberLemmas.{in_map, later_member, no_member, of_flat_map}
-use Rattle.bdb_image.specs.Linked.{IsForest}
+use Rattle.bdb_tree.specs.of_image.Linked.{IsForest}
 use Rattle.bdb_tree.proofs.InnerLemmas.{faults_below, inner_noted, leads_down, no_inner}
 use Rattle.bdb_recno.specs.Counts.{counted, miscounts}
 use Rattle.bdb_recno.specs.Noted.{count_faults, fault_on}

@@ -1,11 +1,11 @@
 -- What the form of a leaf says of its entries.
 use Rattle.std.proofs.Common.{◌≡◌, ℕ, ◌*◌, ◌≤◌, List, length, Option, Some, None, arith, refl, sym, ◌∙◌, ap}
-use Rattle.bdb_form.specs.Formed.{IsListed}
-use Rattle.bdb_form.proofs.FormedLemmas.{listed_room}
-use Rattle.bdb_image.proofs.FirstLemmas.{formed_accepted, formed_last, formed_page}
-use Rattle.bdb_image.proofs.FormedLemmas.{IsPaged, accepted_paged, page_length}
-use Rattle.bdb_graph.proofs.LinkedLemmas.{forest_code}
-use Rattle.bdb_image.specs.Linked.{IsForest}
+use Rattle.bdb_tree.specs.of_form.Formed.{IsListed}
+use Rattle.bdb_tree.proofs.of_form.FormedLemmas.{listed_room}
+use Rattle.bdb_tree.proofs.of_image.FirstLemmas.{formed_accepted, formed_last, formed_page}
+use Rattle.bdb_tree.proofs.of_image.FormedLemmas.{IsPaged, accepted_paged, page_length}
+use Rattle.bdb_tree.proofs.of_graph.LinkedLemmas.{forest_code}
+use Rattle.bdb_tree.specs.of_image.Linked.{IsForest}
 use Rattle.bdb_format.specs.declared.kinds.Order.{Order}
 use Rattle.bdb_format.specs.File.{file_of, page_at, page_bytes}
 use Rattle.bdb_format.specs.HeadOf.{head_of}
@@ -15,7 +15,7 @@ use Rattle.bdb_format.specs.Rows.{page_code}
 use Rattle.bdb_format.proofs.PageLemmas.{length_items}
 use Rattle.bdb_format.proofs.FileLemmas.{kind_is, last_page, page_is}
 use Rattle.bdb_format.proofs.SizeLemmas.{size_bounds}
-use Rattle.bdb_graph.proofs.ChildLemmas.{is_queue_page}
+use Rattle.bdb_tree.proofs.of_graph.ChildLemmas.{is_queue_page}
 use Rattle.bdb_tree.proofs.ShapeLemmas.{no_queue}
 
 -- The bytes of a leaf.

@@ -6,10 +6,10 @@ use Rattle.std.specs.Prelude.{◌==◌}
 use Rattle.std.specs.List.{Contains, flat_map}
 use Rattle.std.proofs.lemmas.List.Concat.{flat_map-append}
 use Rattle.std.proofs.lemmas.List.Elements.{Contains-append_right}
-use Rattle.bdb_form.specs.declared.view.PageView.{PageView}
-use Rattle.bdb_form.specs.declared.view.PageView.TheVariants.{RecnoInternal as InternalView, RecnoLeaf as LeafView}
-use Rattle.bdb_form.specs.Seen.{page_seen}
-use Rattle.bdb_image.specs.Linked.{HasMetadata, IsForest}
+use Rattle.bdb_tree.specs.of_form.declared.view.PageView.{PageView}
+use Rattle.bdb_tree.specs.of_form.declared.view.PageView.TheVariants.{RecnoInternal as InternalView, RecnoLeaf as LeafView}
+use Rattle.bdb_tree.specs.of_form.Seen.{page_seen}
+use Rattle.bdb_tree.specs.of_image.Linked.{HasMetadata, IsForest}
 use Rattle.bdb_format.specs.declared.metadata.BtreeMeta.{BtreeMeta}
 use Rattle.bdb_format.specs.declared.pages.RecnoItem.{RecnoItem}
 use Rattle.bdb_format.specs.Contents.{tree_entries}

@@ -2,9 +2,9 @@
 use Rattle.std.proofs.Common.{◌≡◌, ℕ, ◌+◌, ◌*◌, ◌^◌, ◌≤◌, ◌<◌, true, List, [], ◌∷◌, length, arith, refl, ap, length-append}
 use Rattle.std.specs.List.{Contains}
 use Rattle.std.proofs.Math.Nat.{mul-le-mul_right}
-use Rattle.bdb_image.specs.Linked.{IsForest}
-use Rattle.bdb_image.proofs.FirstLemmas.{formed_accepted}
-use Rattle.bdb_image.proofs.FormedLemmas.{IsPaged, accepted_paged}
+use Rattle.bdb_tree.specs.of_image.Linked.{IsForest}
+use Rattle.bdb_tree.proofs.of_image.FirstLemmas.{formed_accepted}
+use Rattle.bdb_tree.proofs.of_image.FormedLemmas.{IsPaged, accepted_paged}
 use Rattle.bdb_format.specs.Contents.{entries_in, tree_entries}
 use Rattle.bdb_format.specs.File.{File, file_of, page_at}
 use Rattle.bdb_format.specs.HeadOf.{head_of}

@@ -6,7 +6,7 @@ use Rattle.std.specs.List.{Contains, flat_map, list_any}
 use Rattle.std.proofs.lemmas.Bool.{eqb-true, le-ltb, lt-ltb, ltb-false, ltb-true, not-false, or_parts}
 use Rattle.std.proofs.lemmas.List.{drop_more}
 use Rattle.std.proofs.lemmas.Option.{get_or_from_slice_get, slice_get_within}
-use Rattle.bdb_image.specs.Linked.{IsForest}
+use Rattle.bdb_tree.specs.of_image.Linked.{IsForest}
 use Rattle.bdb_format.specs.declared.pages.RecnoItem.{RecnoItem}
 use Rattle.bdb_format.specs.ContentRows.{has_wrong_count, inner_pages}
 use Rattle.bdb_format.specs.Contents.{tree_entries}

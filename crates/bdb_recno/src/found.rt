@@ -2,21 +2,21 @@ ghost use Rattle.std.specs.Prelude.{◌≡◌, ◌+◌, ◌≤◌, [], IsTrue};
 ghost use Rattle.std.specs.Iterator.{YieldsFirstBy, item_count};
 ghost use Rattle.std.specs.List.{cons_option};
 ghost use Rattle.std.specs.Option.{option_map};
-ghost use Rattle.bdb_image.specs.Linked.{HasMetadata, IsForest};
+ghost use Rattle.bdb_tree.specs.of_image.Linked.{HasMetadata, IsForest};
 ghost use Rattle.bdb_format.specs.ContentRows.{database_faults};
 ghost use Rattle.bdb_format.specs.File.{file_of, header_in, page_at};
 ghost use Rattle.bdb_format.specs.Lists.{NumberKey, get, recno_list};
 ghost use Rattle.bdb_format.specs.Page.{BtreeFields};
 ghost use Rattle.bdb_format.specs.Flags.{is_recno};
-ghost use Rattle.bdb_overflow.specs.Datum.{datum_seen};
+ghost use Rattle.bdb_tree.specs.of_overflow.Datum.{datum_seen};
 ghost use Rattle.bdb_recno.specs.Counts.{HasRightCounts};
 ghost use Rattle.bdb_recno.specs.Pages.{IsRecnoPage};
 
 use crate::page::pages_of;
 use crate::search::entry_below;
 use bdb_format::{BtreeMeta, Steps};
-use bdb_graph::{Forest, Linked};
-use bdb_overflow::{Datum, is_deleted, value_of};
+use bdb_tree::bdb_graph::{Forest, Linked};
+use bdb_tree::bdb_overflow::{Datum, is_deleted, value_of};
 use std::marker::Model;
 use std::sync::ledger::Ledger;
 
@@ -35,7 +35,7 @@ impl<'a> Model for Found<'a> {
     ghost use Rattle.std.specs.Prelude.{List, ℕ, []};
     ghost use Rattle.std.specs.List.{cons_option};
     ghost use Rattle.std.specs.Option.{option_map};
-    ghost use Rattle.bdb_overflow.specs.Datum.{datum_seen};
+    ghost use Rattle.bdb_tree.specs.of_overflow.Datum.{datum_seen};
 
     ghost Value = { List (List ℕ) };
 

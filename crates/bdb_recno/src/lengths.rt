@@ -1,23 +1,23 @@
 ghost use Rattle.std.specs.Prelude.{◌≡◌, [], OnOk, length};
-ghost use Rattle.bdb_faults.specs.Notes.{NotesAll};
-ghost use Rattle.bdb_image.specs.Linked.{IsForest};
-ghost use Rattle.bdb_layout.specs.Seen.{leaf_item_seen};
+ghost use Rattle.bdb_tree.specs.of_faults.Notes.{NotesAll};
+ghost use Rattle.bdb_tree.specs.of_image.Linked.{IsForest};
+ghost use Rattle.bdb_tree.specs.of_layout.Seen.{leaf_item_seen};
 ghost use Rattle.bdb_format.specs.Chains.{value_of};
 ghost use Rattle.bdb_format.specs.ContentRows.{has_wrong_record, is_wrong_record};
 ghost use Rattle.bdb_format.specs.File.{file_of, page_at};
 ghost use Rattle.bdb_format.specs.Leaves.{leaves};
 ghost use Rattle.bdb_format.specs.Verdict.{structure_faults};
-ghost use Rattle.bdb_overflow.specs.Datum.{FitsContent};
+ghost use Rattle.bdb_tree.specs.of_overflow.Datum.{FitsContent};
 ghost use Rattle.bdb_recno.specs.Noted.{length_faults};
 ghost use Rattle.bdb_recno.specs.Pages.{IsRecnoLeaf, IsRecnoPage};
 ghost use Rattle.bdb_tree.specs.Trees.{IsRoot};
 
 use crate::page::leaf_at;
-use bdb_faults::{ContentsRow, FaultSink, Row, note_if};
 use bdb_format::BtreeMeta;
-use bdb_graph::{Forest, Linked};
-use bdb_layout::LeafItem;
-use bdb_overflow::is_deleted;
+use bdb_tree::bdb_faults::{ContentsRow, FaultSink, Row, note_if};
+use bdb_tree::bdb_graph::{Forest, Linked};
+use bdb_tree::bdb_layout::LeafItem;
+use bdb_tree::bdb_overflow::is_deleted;
 use bdb_tree::tree_leaves;
 use std::alloc::AllocError;
 

@@ -10,6 +10,9 @@ mod listing;
 mod page;
 mod search;
 
+pub use bdb_format;
+pub use bdb_tree;
+pub use bdb_tree::{bdb_faults, bdb_graph, bdb_overflow};
 pub use contents::{all_faults, check, note_contents};
 pub use found::{Found, find};
 pub use list::scan;

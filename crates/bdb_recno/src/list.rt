@@ -1,5 +1,5 @@
 ghost use Rattle.std.specs.Prelude.{◌≡◌, [], IsTrue};
-ghost use Rattle.bdb_image.specs.Linked.{HasMetadata};
+ghost use Rattle.bdb_tree.specs.of_image.Linked.{HasMetadata};
 ghost use Rattle.bdb_format.specs.File.{file_of};
 ghost use Rattle.bdb_format.specs.Flags.{is_recno};
 ghost use Rattle.bdb_format.specs.Lists.{recno_list};
@@ -9,7 +9,7 @@ ghost use Rattle.bdb_format.specs.Verdict.{structure_faults};
 use crate::Scan;
 use crate::page::pages_of;
 use bdb_format::BtreeMeta;
-use bdb_graph::Linked;
+use bdb_tree::bdb_graph::Linked;
 use bdb_tree::tree_entries;
 
 /// The list of a recno: its live records, each with its place among all entries, from 1. It takes no memory.

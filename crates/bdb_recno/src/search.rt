@@ -1,18 +1,18 @@
 ghost use Rattle.std.specs.Prelude.{◌≡◌, ◌+◌, ◌≤◌};
 ghost use Rattle.std.specs.List.{slice_get};
 ghost use Rattle.std.specs.Option.{option_map};
-ghost use Rattle.bdb_image.specs.Linked.{IsForest};
-ghost use Rattle.bdb_layout.specs.Seen.{leaf_item_seen};
+ghost use Rattle.bdb_tree.specs.of_image.Linked.{IsForest};
+ghost use Rattle.bdb_tree.specs.of_layout.Seen.{leaf_item_seen};
 ghost use Rattle.bdb_format.specs.Contents.{tree_entries};
 ghost use Rattle.bdb_format.specs.File.{file_of, header_in, page_at};
 ghost use Rattle.bdb_recno.specs.Counts.{HasRightCounts, child_by_count};
 ghost use Rattle.bdb_recno.specs.Pages.{IsRecnoPage};
 
 use crate::page::{RecnoPage, recno_page};
-use bdb_form::{RecnoInternalView, RecnoLeafView};
 use bdb_format::Steps;
-use bdb_graph::Forest;
-use bdb_layout::LeafItem;
+use bdb_tree::bdb_form::{RecnoInternalView, RecnoLeafView};
+use bdb_tree::bdb_graph::Forest;
+use bdb_tree::bdb_layout::LeafItem;
 use std::sync::ledger::Ledger;
 
 /// By the counts of an internal page, the child below which the entry at a place stands, from 0, and its place there.

@@ -7,25 +7,25 @@ use Rattle.std.specs.Str.{bytes_eq}
 use Rattle.std.proofs.lemmas.Bool.{le-ltb, lt-ltb}
 use Rattle.std.proofs.lemmas.List.Elements.{All-append, All-cons, All-head, All-nil, All-tail, All-weaker}
 use Rattle.std.proofs.lemmas.List.Sums.{sum_by-append, sum_by-cons}
-use Rattle.bdb_format.specs.declared.kinds.Kind.TheVariants.{Btree, Recno}
-use Rattle.bdb_format.specs.File.{File}
-use Rattle.bdb_format.specs.HeadOf.{is_page_size}
-use Rattle.bdb_format.proofs.SizeLemmas.{long_page}
-use Rattle.bdb_text_format.specs.declared.pairs.Pair.{Pair}
-use Rattle.bdb_text_format.specs.declared.pairs.Key.TheVariants.{Number}
-use Rattle.bdb_text_format.specs.declared.sections.Section.{Section}
-use Rattle.bdb_text_format.specs.Pairs.{number_of}
-use Rattle.bdb_settle.specs.Loaded.{loaded, loaded_pair, loaded_section, put, stands_before, unlined_pairs, unnumbered, with_loaded}
-use Rattle.bdb_mkleaves.specs.Units.{TreeUnit, KeyedUnit, EntryUnit}
-use Rattle.bdb_mktree.specs.Lists.{bytes_in, keyed_units, missing, onto_units, record_units}
-use Rattle.bdb_mktree.specs.Units.{leaf_type_of}
-use Rattle.bdb_need.specs.TreePages.{tree_pages}
-use Rattle.bdb_need.specs.Need.{need_of, section_pages}
-use Rattle.bdb_need.proofs.NeedLemmas.{listed_again}
+use Rattle.bdb_model.specs.of_format.declared.kinds.Kind.TheVariants.{Btree, Recno}
+use Rattle.bdb_model.specs.of_format.File.{File}
+use Rattle.bdb_model.specs.of_format.HeadOf.{is_page_size}
+use Rattle.bdb_model.proofs.of_format.SizeLemmas.{long_page}
+use Rattle.bdb_model.specs.of_text_format.declared.pairs.Pair.{Pair}
+use Rattle.bdb_model.specs.of_text_format.declared.pairs.Key.TheVariants.{Number}
+use Rattle.bdb_model.specs.of_text_format.declared.sections.Section.{Section}
+use Rattle.bdb_model.specs.of_text_format.Pairs.{number_of}
+use Rattle.bdb_mkfile.specs.of_settle.Loaded.{loaded, loaded_pair, loaded_section, put, stands_before, unlined_pairs, unnumbered, with_loaded}
+use Rattle.bdb_mkfile.specs.of_mkleaves.Units.{TreeUnit, KeyedUnit, EntryUnit}
+use Rattle.bdb_mkfile.specs.of_mktree.Lists.{bytes_in, keyed_units, missing, onto_units, record_units}
+use Rattle.bdb_mkfile.specs.of_mktree.Units.{leaf_type_of}
+use Rattle.bdb_mkfile.specs.of_need.TreePages.{tree_pages}
+use Rattle.bdb_mkfile.specs.of_need.Need.{need_of, section_pages}
+use Rattle.bdb_mkfile.proofs.of_need.NeedLemmas.{listed_again}
 use Rattle.bdb_mkfile.specs.Builds.{image_size}
 use Rattle.bdb_rescue.specs.Text.{loose_settings, stored_settings}
-use Rattle.bdb_survey.specs.declared.guess.Guess.{Guess}
-use Rattle.bdb_survey.specs.Salvage.{loose, salvaged_file, stored}
+use Rattle.bdb_rescue.specs.of_survey.declared.guess.Guess.{Guess}
+use Rattle.bdb_rescue.specs.of_survey.Salvage.{loose, salvaged_file, stored}
 use Rattle.bdb_model.specs.declared.shape.Duplicates.TheVariants.{No, Unsorted, Sorted}
 use Rattle.bdb_model.specs.declared.shape.Shape.{Shape}
 use Rattle.bdb_model.specs.declared.shape.Shape.TheVariants.{Btree as BtreeShape, Hash as HashShape, Recno as RecnoShape}

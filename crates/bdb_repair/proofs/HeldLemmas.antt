@@ -7,22 +7,22 @@ use Rattle.std.proofs.lemmas.Bool.{cases_lt}
 use Rattle.std.proofs.lemmas.List.{get_or_past}
 use Rattle.std.proofs.lemmas.List.Elements.{All-contains, All-drop, All-take, Contains-get_or}
 use Rattle.std.proofs.lemmas.List.FromFn.{get_or-map-range_with_len, length-map-range_with_len}
-use Rattle.bdb_format.specs.declared.kinds.Order.{Order}
-use Rattle.bdb_format.specs.Chains.{joined, pieces_of, value_of}
-use Rattle.bdb_format.specs.Contents.{entries_in}
-use Rattle.bdb_format.specs.File.{File, page_at}
-use Rattle.bdb_format.specs.Numbers.{four_at}
-use Rattle.bdb_format.specs.Page.{Content, Chain, Inline, Item, Set, Tree, Unknown, Page, Hash, Leaf, NoType}
-use Rattle.bdb_format.specs.Reading.{abstract_page}
-use Rattle.bdb_format.specs.References.{no_item}
-use Rattle.bdb_format.specs.Rows.{page_code}
-use Rattle.bdb_format.proofs.MemberLemmas.{no_member, of_flat_map, of_map}
-use Rattle.bdb_format.proofs.ListLemmas.{only_member}
-use Rattle.bdb_text.specs.WrittenLaw.{AreBytes}
+use Rattle.bdb_model.specs.of_format.declared.kinds.Order.{Order}
+use Rattle.bdb_model.specs.of_format.Chains.{joined, pieces_of, value_of}
+use Rattle.bdb_model.specs.of_format.Contents.{entries_in}
+use Rattle.bdb_model.specs.of_format.File.{File, page_at}
+use Rattle.bdb_model.specs.of_format.Numbers.{four_at}
+use Rattle.bdb_model.specs.of_format.Page.{Content, Chain, Inline, Item, Set, Tree, Unknown, Page, Hash, Leaf, NoType}
+use Rattle.bdb_model.specs.of_format.Reading.{abstract_page}
+use Rattle.bdb_model.specs.of_format.References.{no_item}
+use Rattle.bdb_model.specs.of_format.Rows.{page_code}
+use Rattle.bdb_model.proofs.of_format.MemberLemmas.{no_member, of_flat_map, of_map}
+use Rattle.bdb_model.proofs.of_format.ListLemmas.{only_member}
+use Rattle.bdb_law_kept.specs.of_text.WrittenLaw.{AreBytes}
 use Rattle.bdb_law_kept.proofs.BytesLemmas.{FileHoldsBytes, HoldsBytes, PageHoldsBytes, entry_holds, page_holds, value_holds}
-use Rattle.bdb_survey.specs.Salvage.{ItemPair, is_taken, is_whole, item_pairs, live_value, live_whole, loose, loose_on, pair_in, paired_items, salvaged_file}
-use Rattle.bdb_survey.specs.Salvage.{salvaged_page}
-use Rattle.bdb_survey.specs.Salvage.{stored, stored_on, stored_pair, unless_code, whole_data, whole_set, whole_values}
+use Rattle.bdb_rescue.specs.of_survey.Salvage.{ItemPair, is_taken, is_whole, item_pairs, live_value, live_whole, loose, loose_on, pair_in, paired_items, salvaged_file}
+use Rattle.bdb_rescue.specs.of_survey.Salvage.{salvaged_page}
+use Rattle.bdb_rescue.specs.of_survey.Salvage.{stored, stored_on, stored_pair, unless_code, whole_data, whole_set, whole_values}
 
 abbrev IsByte : ℕ → Type 0
 IsByte byte = byte < 256

@@ -3,20 +3,20 @@ use Rattle.std.proofs.Common.{◌≡◌, ℕ, ◌*◌, Bool, true, false, cond, 
 use Rattle.std.proofs.lemmas.List.{length-map}
 use Rattle.std.specs.Prelude.{◌==◌, if◌then◌else◌}
 use Rattle.std.specs.List.{AllZip, flat_map, fold}
-use Rattle.bdb_format.specs.declared.settings.Settings.{Settings}
-use Rattle.bdb_format.specs.Databases.{Database, databases}
-use Rattle.bdb_format.specs.File.{file_of}
-use Rattle.bdb_format.specs.Less.{less}
-use Rattle.bdb_text_format.specs.declared.pairs.Pair.{Pair}
-use Rattle.bdb_text_format.specs.declared.pairs.TextPair.{TextPair}
-use Rattle.bdb_text_format.specs.declared.sections.Section.{Section}
-use Rattle.bdb_text_format.specs.Pairs.{listed}
-use Rattle.bdb_settle.specs.declared.load_error.LoadError.{LoadError}
-use Rattle.bdb_settle.specs.declared.load_error.LoadError.TheVariants.{RecordTooLong, RecordZero, QueueAmongNames}
-use Rattle.bdb_settle.specs.Loaded.{loaded, loaded_pair, loaded_section, unnumbered, with_loaded}
-use Rattle.bdb_settle.specs.LoadErrors.{header_errors, is_among_names, is_sooner, is_too_long, is_too_wide, is_zero, load_error, page_size_in, pair_errors}
-use Rattle.bdb_settle.specs.LoadErrors.{section_errors, sooner, where_so}
-use Rattle.bdb_need.specs.Need.{need_of}
+use Rattle.bdb_model.specs.of_format.declared.settings.Settings.{Settings}
+use Rattle.bdb_model.specs.of_format.Databases.{Database, databases}
+use Rattle.bdb_model.specs.of_format.File.{file_of}
+use Rattle.bdb_model.specs.of_format.Less.{less}
+use Rattle.bdb_model.specs.of_text_format.declared.pairs.Pair.{Pair}
+use Rattle.bdb_model.specs.of_text_format.declared.pairs.TextPair.{TextPair}
+use Rattle.bdb_model.specs.of_text_format.declared.sections.Section.{Section}
+use Rattle.bdb_model.specs.of_text_format.Pairs.{listed}
+use Rattle.bdb_mkfile.specs.of_settle.declared.load_error.LoadError.{LoadError}
+use Rattle.bdb_mkfile.specs.of_settle.declared.load_error.LoadError.TheVariants.{RecordTooLong, RecordZero, QueueAmongNames}
+use Rattle.bdb_mkfile.specs.of_settle.Loaded.{loaded, loaded_pair, loaded_section, unnumbered, with_loaded}
+use Rattle.bdb_mkfile.specs.of_settle.LoadErrors.{header_errors, is_among_names, is_sooner, is_too_long, is_too_wide, is_zero, load_error, page_size_in, pair_errors}
+use Rattle.bdb_mkfile.specs.of_settle.LoadErrors.{section_errors, sooner, where_so}
+use Rattle.bdb_mkfile.specs.of_need.Need.{need_of}
 use Rattle.bdb_mkfile.specs.Builds.{AreLoadedAs, IsLoadedAs, image_size, in_name_order, name_of, put_named}
 use Rattle.bdb_repair.specs.Reads.{LinesHaveNoPart, unlined, without_lines}
 

@@ -4,16 +4,16 @@ use Rattle.std.specs.Prelude.{IsTrue}
 use Rattle.std.specs.List.{All, enumerate_from, flat_map, sum_by}
 use Rattle.std.proofs.lemmas.List.Elements.{All-cons, All-nil}
 use Rattle.std.proofs.lemmas.List.Sums.{sum_by-cons}
-use Rattle.bdb_format.specs.declared.kinds.Kind.TheVariants.{Queue}
-use Rattle.bdb_format.specs.HeadOf.{is_page_size}
-use Rattle.bdb_format.specs.File.{File}
-use Rattle.bdb_text_format.specs.Written.{holds_records}
-use Rattle.bdb_law_sections.specs.Fit.{AreFitSettings, IsFitPair, IsFitSection}
-use Rattle.bdb_law_sections.proofs.PairLemmas.{fit_longer}
-use Rattle.bdb_settle.specs.LoadErrors.{load_error, pair_errors}
+use Rattle.bdb_model.specs.of_format.declared.kinds.Kind.TheVariants.{Queue}
+use Rattle.bdb_model.specs.of_format.HeadOf.{is_page_size}
+use Rattle.bdb_model.specs.of_format.File.{File}
+use Rattle.bdb_model.specs.of_text_format.Written.{holds_records}
+use Rattle.bdb_mkfile.specs.of_law_sections.Fit.{AreFitSettings, IsFitPair, IsFitSection}
+use Rattle.bdb_mkfile.proofs.of_law_sections.PairLemmas.{fit_longer}
+use Rattle.bdb_mkfile.specs.of_settle.LoadErrors.{load_error, pair_errors}
 use Rattle.bdb_mkfile.specs.Loading.{AreLoadable}
-use Rattle.bdb_survey.specs.declared.guess.Guess.{Guess}
-use Rattle.bdb_survey.specs.Salvage.{loose, salvaged_file, stored}
+use Rattle.bdb_rescue.specs.of_survey.declared.guess.Guess.{Guess}
+use Rattle.bdb_rescue.specs.of_survey.Salvage.{loose, salvaged_file, stored}
 use Rattle.bdb_model.specs.declared.shape.Duplicates.TheVariants.{No, Unsorted, Sorted}
 use Rattle.bdb_model.specs.declared.shape.Shape.{Shape}
 use Rattle.bdb_model.specs.declared.shape.Shape.TheVariants.{Btree as BtreeShape, Hash as HashShape, Recno as RecnoShape}

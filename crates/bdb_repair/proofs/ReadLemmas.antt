@@ -5,32 +5,32 @@ use Rattle.std.specs.Prelude.{◌-◌, ◌&&◌, nat_lt}
 use Rattle.std.specs.List.{All, enumerate_from}
 use Rattle.std.proofs.lemmas.Bool.{and_parts, ltb-true}
 use Rattle.std.proofs.lemmas.List.Elements.{All-cons, All-nil}
-use Rattle.bdb_format.specs.declared.kinds.Order.{Order}
-use Rattle.bdb_format.specs.declared.kinds.Order.TheVariants.{Big, Little}
-use Rattle.bdb_format.specs.declared.settings.Settings.{Settings}
-use Rattle.bdb_format.specs.File.{File}
-use Rattle.bdb_format.specs.HeadOf.{is_page_size}
-use Rattle.bdb_format.specs.Lists.{ListKey, BytesKey, NumberKey}
-use Rattle.bdb_format.proofs.ListLemmas.{all_of}
-use Rattle.bdb_format.proofs.MemberLemmas.{of_map}
-use Rattle.bdb_text_format.specs.declared.pairs.Key.{Key}
-use Rattle.bdb_text_format.specs.declared.pairs.Key.TheVariants.{Bytes, Number}
-use Rattle.bdb_text_format.specs.declared.pairs.TextPair.{TextPair}
-use Rattle.bdb_text_format.specs.declared.sections.Section.{Section}
-use Rattle.bdb_text_format.specs.Header.{settings_in}
-use Rattle.bdb_text_format.specs.Sections.{Reads}
-use Rattle.bdb_settle.specs.LoadErrors.{load_error}
-use Rattle.bdb_text.specs.WrittenLaw.{AreBytes, IsPairOf, IsWritable, Written, key_in, pair_in}
-use Rattle.bdb_text.proofs.LookedLemmas.{legal_below, looked, name-looked}
-use Rattle.bdb_text.proofs.ValueLemmas.{number_read-decimal, pairs_at-list}
-use Rattle.bdb_text.proofs.WrittenLemmas.{section_of, sections_of, written_are_these}
+use Rattle.bdb_model.specs.of_format.declared.kinds.Order.{Order}
+use Rattle.bdb_model.specs.of_format.declared.kinds.Order.TheVariants.{Big, Little}
+use Rattle.bdb_model.specs.of_format.declared.settings.Settings.{Settings}
+use Rattle.bdb_model.specs.of_format.File.{File}
+use Rattle.bdb_model.specs.of_format.HeadOf.{is_page_size}
+use Rattle.bdb_model.specs.of_format.Lists.{ListKey, BytesKey, NumberKey}
+use Rattle.bdb_model.proofs.of_format.ListLemmas.{all_of}
+use Rattle.bdb_model.proofs.of_format.MemberLemmas.{of_map}
+use Rattle.bdb_model.specs.of_text_format.declared.pairs.Key.{Key}
+use Rattle.bdb_model.specs.of_text_format.declared.pairs.Key.TheVariants.{Bytes, Number}
+use Rattle.bdb_model.specs.of_text_format.declared.pairs.TextPair.{TextPair}
+use Rattle.bdb_model.specs.of_text_format.declared.sections.Section.{Section}
+use Rattle.bdb_model.specs.of_text_format.Header.{settings_in}
+use Rattle.bdb_model.specs.of_text_format.Sections.{Reads}
+use Rattle.bdb_mkfile.specs.of_settle.LoadErrors.{load_error}
+use Rattle.bdb_law_kept.specs.of_text.WrittenLaw.{AreBytes, IsPairOf, IsWritable, Written, key_in, pair_in}
+use Rattle.bdb_law_kept.proofs.of_text.LookedLemmas.{legal_below, looked, name-looked}
+use Rattle.bdb_law_kept.proofs.of_text.ValueLemmas.{number_read-decimal, pairs_at-list}
+use Rattle.bdb_law_kept.proofs.of_text.WrittenLemmas.{section_of, sections_of, written_are_these}
 use Rattle.bdb_law_kept.proofs.BytesLemmas.{FileHoldsBytes}
 use Rattle.bdb_law_kept.proofs.LaterLemmas.{of_enumerate}
 use Rattle.bdb_rescue.proofs.LooseCountLemmas.{loose_few}
 use Rattle.bdb_rescue.specs.Text.{bytes_pair, loose_section as loose_text, loose_settings, numbered_record, salvage_text}
 use Rattle.bdb_rescue.specs.Text.{stored_section as stored_text, stored_settings}
-use Rattle.bdb_survey.specs.declared.guess.Guess.{Guess}
-use Rattle.bdb_survey.specs.Salvage.{loose, salvaged_file, stored}
+use Rattle.bdb_rescue.specs.of_survey.declared.guess.Guess.{Guess}
+use Rattle.bdb_rescue.specs.of_survey.Salvage.{loose, salvaged_file, stored}
 use Rattle.bdb_repair.specs.Parts.{loose_pair, loose_part, loose_section, stored_pair, stored_pairs, stored_section}
 use Rattle.bdb_repair.specs.Reads.{SalvageIsRead, unlined, without_lines}
 use Rattle.bdb_repair.proofs.HeldLemmas.{loose_hold, salvaged_holds, stored_hold}

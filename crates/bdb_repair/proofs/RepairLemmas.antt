@@ -2,14 +2,14 @@
 use Rattle.std.proofs.Common.{◌≡◌, ℕ, Bool, true, false, List, Option, Some, None, Result, Ok, Err, arith, refl, sym, ◌∙◌, ap, subst, inl, inr}
 use Rattle.std.specs.Prelude.{◌⊎◌, IfErr, IfOk, IsTrue, OnOk, if◌then◌else◌, nat_lt}
 use Rattle.std.proofs.lemmas.Bool.{lt-ltb, ltb-true}
-use Rattle.bdb_format.specs.HeadOf.{is_page_size}
-use Rattle.bdb_text_format.specs.declared.sections.Section.{Section}
-use Rattle.bdb_settle.specs.declared.load_error.LoadError.{LoadError}
-use Rattle.bdb_settle.specs.declared.load_error.LoadError.TheVariants.{TooLarge as TooLargeImage, Memory as MemoryForIt}
-use Rattle.bdb_settle.specs.LoadErrors.{load_error}
+use Rattle.bdb_model.specs.of_format.HeadOf.{is_page_size}
+use Rattle.bdb_model.specs.of_text_format.declared.sections.Section.{Section}
+use Rattle.bdb_mkfile.specs.of_settle.declared.load_error.LoadError.{LoadError}
+use Rattle.bdb_mkfile.specs.of_settle.declared.load_error.LoadError.TheVariants.{TooLarge as TooLargeImage, Memory as MemoryForIt}
+use Rattle.bdb_mkfile.specs.of_settle.LoadErrors.{load_error}
 use Rattle.bdb_mkfile.specs.Builds.{Builds, image_size}
 use Rattle.bdb_mkfile.specs.Loading.{AreLoadable, IsLoadRefusal, IsLoadRefusalBy, loading_error, or_else, size_error}
-use Rattle.bdb_survey.specs.declared.guess.Guess.{Guess}
+use Rattle.bdb_rescue.specs.of_survey.declared.guess.Guess.{Guess}
 use Rattle.bdb_rescue.specs.Kept.{Reading, file_in}
 use Rattle.bdb_repair.specs.declared.error.RepairError.TheVariants.{TooLarge}
 use Rattle.bdb_model.specs.declared.shape.Shape.{Shape}

@@ -8,10 +8,10 @@ use Rattle.std.proofs.lemmas.Bool.{cases_lt, lt-ltb}
 use Rattle.std.proofs.lemmas.Bool.Decides.{nat_tests}
 use Rattle.std.proofs.lemmas.List.Elements.{All-cons, All-head, All-nil, All-tail}
 use Rattle.std.proofs.lemmas.List.Sums.{sum_by-cons}
-use Rattle.bdb_mkleaves.specs.Spread.{leaves_and_levels, own_pages, set_pages, set_type, spread_on, spread_units, tree_size}
-use Rattle.bdb_mkleaves.specs.Units.{TreeUnit, KeyedUnit, EntryUnit, chain_pages, has_own_tree, page_room, set_cost, unit_cost, value_cost}
-use Rattle.bdb_mkleaves.specs.declared.leaf_type.LeafType.{LeafType}
-use Rattle.bdb_mkleaves.proofs.SpreadLemmas.{put_on_new, put_on_open}
+use Rattle.bdb_mkfile.specs.of_mkleaves.Spread.{leaves_and_levels, own_pages, set_pages, set_type, spread_on, spread_units, tree_size}
+use Rattle.bdb_mkfile.specs.of_mkleaves.Units.{TreeUnit, KeyedUnit, EntryUnit, chain_pages, has_own_tree, page_room, set_cost, unit_cost, value_cost}
+use Rattle.bdb_mkfile.specs.of_mkleaves.declared.leaf_type.LeafType.{LeafType}
+use Rattle.bdb_mkfile.proofs.of_mkleaves.SpreadLemmas.{put_on_new, put_on_open}
 use Rattle.bdb_repair.specs.Room.{datum_room}
 
 abbrev pub unit_room : TreeUnit → ℕ

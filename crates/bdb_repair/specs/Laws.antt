@@ -1,14 +1,14 @@
 -- What holds of the sections that are loaded, whatever was salvaged. Source: docs/FORMAT.md, "Repair".
 use Rattle.std.specs.Prelude.{◌≡◌, ℕ, ◌/◌, ◌≤◌, ◌<◌, IsTrue, List, length, Option, None}
-use Rattle.bdb_format.specs.HeadOf.{is_page_size}
-use Rattle.bdb_settle.specs.LoadErrors.{load_error}
+use Rattle.bdb_model.specs.of_format.HeadOf.{is_page_size}
+use Rattle.bdb_mkfile.specs.of_settle.LoadErrors.{load_error}
 use Rattle.bdb_mkfile.specs.Builds.{image_size}
 use Rattle.bdb_mkfile.specs.Loading.{AreLoadable}
 use Rattle.bdb_model.specs.declared.shape.Shape.{Shape}
 use Rattle.bdb_repair.specs.Parts.{repair_sections}
 use Rattle.bdb_repair.specs.Room.{least_room}
-use Rattle.bdb_survey.specs.declared.guess.Guess.{Guess}
-use Rattle.bdb_survey.specs.Salvage.{salvaged_file, stored}
+use Rattle.bdb_rescue.specs.of_survey.declared.guess.Guess.{Guess}
+use Rattle.bdb_rescue.specs.of_survey.Salvage.{salvaged_file, stored}
 
 abbrev pub PartsHaveNoErrors : Type 0
 PartsHaveNoErrors = (shape : Option Shape) (guess : Guess) (image : List ℕ) → load_error (repair_sections shape guess image) ≡ None

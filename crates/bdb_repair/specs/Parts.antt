@@ -1,16 +1,16 @@
 -- What is salvaged of an image, as sections that can be loaded. Source: docs/FORMAT.md, "Salvage" and "Repair".
 use Rattle.std.specs.Prelude.{ℕ, List, [], ◌∷◌, map, Option, Some, None, codes}
 use Rattle.std.specs.List.{enumerate_from}
-use Rattle.bdb_format.specs.File.{File}
-use Rattle.bdb_text_format.specs.declared.pairs.Key.TheVariants.{Bytes, Number}
-use Rattle.bdb_text_format.specs.declared.pairs.TextPair.{TextPair}
-use Rattle.bdb_text_format.specs.declared.sections.Section.{Section}
+use Rattle.bdb_model.specs.of_format.File.{File}
+use Rattle.bdb_model.specs.of_text_format.declared.pairs.Key.TheVariants.{Bytes, Number}
+use Rattle.bdb_model.specs.of_text_format.declared.pairs.TextPair.{TextPair}
+use Rattle.bdb_model.specs.of_text_format.declared.sections.Section.{Section}
 use Rattle.bdb_rescue.specs.Text.{loose_settings, stored_settings}
 use Rattle.bdb_model.specs.declared.shape.Shape.{Shape}
 use Rattle.bdb_model.specs.declared.shape.Shape.TheVariants.{Btree as BtreeShape, Hash as HashShape, Recno as RecnoShape}
 use Rattle.bdb_repair.specs.Shapes.{shaped_settings}
-use Rattle.bdb_survey.specs.declared.guess.Guess.{Guess}
-use Rattle.bdb_survey.specs.Salvage.{loose, salvaged_file, stored}
+use Rattle.bdb_rescue.specs.of_survey.declared.guess.Guess.{Guess}
+use Rattle.bdb_rescue.specs.of_survey.Salvage.{loose, salvaged_file, stored}
 
 -- a stored pair in a section, without a line
 abbrev pub stored_pair : (List ℕ × List ℕ) → TextPair

@@ -1,15 +1,15 @@
 -- The text that salvage writes reads as the sections of what is salvaged. Source: docs/FORMAT.md, "Salvage" and "Repair".
 use Rattle.std.specs.Prelude.{◌≡◌, ℕ, ◌≤◌, ◌^◌, IsTrue, Bool, List, length, map, None}
-use Rattle.bdb_format.specs.HeadOf.{is_page_size}
-use Rattle.bdb_text_format.specs.declared.pairs.TextPair.{TextPair}
-use Rattle.bdb_text_format.specs.declared.sections.Section.{Section}
-use Rattle.bdb_text_format.specs.Sections.{Reads}
-use Rattle.bdb_text.specs.WrittenLaw.{AreBytes}
-use Rattle.bdb_settle.specs.LoadErrors.{load_error}
+use Rattle.bdb_model.specs.of_format.HeadOf.{is_page_size}
+use Rattle.bdb_model.specs.of_text_format.declared.pairs.TextPair.{TextPair}
+use Rattle.bdb_model.specs.of_text_format.declared.sections.Section.{Section}
+use Rattle.bdb_model.specs.of_text_format.Sections.{Reads}
+use Rattle.bdb_law_kept.specs.of_text.WrittenLaw.{AreBytes}
+use Rattle.bdb_mkfile.specs.of_settle.LoadErrors.{load_error}
 use Rattle.bdb_mkfile.specs.Builds.{Builds}
 use Rattle.bdb_rescue.specs.Text.{salvage_text}
 use Rattle.bdb_repair.specs.Parts.{repair_sections}
-use Rattle.bdb_survey.specs.declared.guess.Guess.{Guess}
+use Rattle.bdb_rescue.specs.of_survey.declared.guess.Guess.{Guess}
 
 -- a pair, and a section, without the numbers of their lines
 

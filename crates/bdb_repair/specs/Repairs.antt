@@ -1,10 +1,10 @@
 -- What repairing an image gives. Source: docs/FORMAT.md, "Repair".
 use Rattle.std.specs.Prelude.{◌≡◌, ⊤, ℕ, nat_lt, Bool, true, false, List, Option, Some, None, Result, Ok, Err}
 use Rattle.bdb_mkfile.specs.Builds.{Builds, image_size}
-use Rattle.bdb_settle.specs.declared.load_error.LoadError.{LoadError}
-use Rattle.bdb_settle.specs.declared.load_error.LoadError.TheVariants.{RecordTooLong, RecordZero, OntoKind, OntoNames, QueueAmongNames}
-use Rattle.bdb_settle.specs.declared.load_error.LoadError.TheVariants.{TooLarge as TooLargeImage, Memory as MemoryForIt}
-use Rattle.bdb_survey.specs.declared.guess.Guess.{Guess}
+use Rattle.bdb_mkfile.specs.of_settle.declared.load_error.LoadError.{LoadError}
+use Rattle.bdb_mkfile.specs.of_settle.declared.load_error.LoadError.TheVariants.{RecordTooLong, RecordZero, OntoKind, OntoNames, QueueAmongNames}
+use Rattle.bdb_mkfile.specs.of_settle.declared.load_error.LoadError.TheVariants.{TooLarge as TooLargeImage, Memory as MemoryForIt}
+use Rattle.bdb_rescue.specs.of_survey.declared.guess.Guess.{Guess}
 use Rattle.bdb_rescue.specs.declared.error.SalvageError.{SalvageError}
 use Rattle.bdb_rescue.specs.declared.error.SalvageError.TheVariants.{NoMeta as NoMetaThere, Memory as MemoryThere}
 use Rattle.bdb_repair.specs.declared.error.RepairError.{RepairError}

@@ -1,13 +1,13 @@
 -- The bytes that a file of what is salvaged has at least. Source: docs/FORMAT.md, "Repair".
 use Rattle.std.specs.Prelude.{⊤, ℕ, ◌+◌, Bool, true, false, List, length, Option, Some, None}
 use Rattle.std.specs.List.{sum_by}
-use Rattle.bdb_format.specs.File.{File}
+use Rattle.bdb_model.specs.of_format.File.{File}
 use Rattle.bdb_repair.specs.declared.room.Fit.{Fit}
 use Rattle.bdb_repair.specs.declared.room.Fit.TheVariants.{Fits, Past, Scarce}
 use Rattle.bdb_model.specs.declared.shape.Duplicates.TheVariants.{No, Unsorted, Sorted}
 use Rattle.bdb_model.specs.declared.shape.Shape.{Shape}
 use Rattle.bdb_model.specs.declared.shape.Shape.TheVariants.{Btree as BtreeShape, Hash as HashShape, Recno as RecnoShape}
-use Rattle.bdb_survey.specs.Salvage.{loose, stored}
+use Rattle.bdb_rescue.specs.of_survey.Salvage.{loose, stored}
 
 -- what a datum takes of a file at least: its bytes, and four
 abbrev pub datum_room : List ℕ → ℕ

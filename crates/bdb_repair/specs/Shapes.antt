@@ -1,14 +1,14 @@
 -- The settings of the one database that what is salvaged is put into. Source: docs/FORMAT.md, "Repair".
 use Rattle.std.specs.Prelude.{Bool, true, false}
-use Rattle.bdb_format.specs.declared.kinds.Kind.{Kind}
-use Rattle.bdb_format.specs.declared.kinds.Kind.TheVariants.{Btree, Hash, Recno}
-use Rattle.bdb_format.specs.declared.settings.Settings.{Settings}
+use Rattle.bdb_model.specs.of_format.declared.kinds.Kind.{Kind}
+use Rattle.bdb_model.specs.of_format.declared.kinds.Kind.TheVariants.{Btree, Hash, Recno}
+use Rattle.bdb_model.specs.of_format.declared.settings.Settings.{Settings}
 use Rattle.bdb_rescue.specs.Text.{loose_settings}
 use Rattle.bdb_model.specs.declared.shape.Duplicates.{Duplicates}
 use Rattle.bdb_model.specs.declared.shape.Duplicates.TheVariants.{No, Unsorted, Sorted}
 use Rattle.bdb_model.specs.declared.shape.Shape.{Shape}
 use Rattle.bdb_model.specs.declared.shape.Shape.TheVariants.{Btree as BtreeShape, Hash as HashShape, Recno as RecnoShape}
-use Rattle.bdb_survey.specs.declared.guess.Guess.{Guess}
+use Rattle.bdb_rescue.specs.of_survey.declared.guess.Guess.{Guess}
 
 abbrev pub kind_of : Shape → Kind
 kind_of (BtreeShape duplicates) = Btree

@@ -1,18 +1,18 @@
 //! What is salvaged, as sections that can be loaded.
 ghost use Rattle.std.specs.Prelude.{◌≡◌, ◌++◌, ◌∷◌, ◌<◌, ◌≤◌, ◌^◌, [], IfOk, OnOk, Some, length};
 ghost use Rattle.std.specs.List.{flat_map};
-ghost use Rattle.bdb_overflow.specs.Datum.{datum_seen};
+ghost use Rattle.bdb_rescue.specs.of_overflow.Datum.{datum_seen};
 ghost use Rattle.bdb_repair.specs.Parts.{loose_pairs, loose_section, named_sections, repair_sections, shaped_pairs, shaped_section};
 ghost use Rattle.bdb_repair.specs.Parts.{stored_pair, stored_pairs, stored_section};
 ghost use Rattle.bdb_rescue.specs.Kept.{file_in, pairs_under};
-ghost use Rattle.bdb_survey.specs.Salvage.{loose, stored};
+ghost use Rattle.bdb_rescue.specs.of_survey.Salvage.{loose, stored};
 
 use crate::shape::shaped_settings;
 use crate::{Duplicates, Shape};
-use bdb_format::Bytes;
-use bdb_overflow::{Datum, bytes_in};
+use bdb_model::bdb_format::Bytes;
+use bdb_model::bdb_text_format::{KeyRef, PairRef, Section, Sections, TextPairs};
+use bdb_rescue::bdb_overflow::{Datum, bytes_in};
 use bdb_rescue::{SalvageEntries, SalvageEntry, SalvageValues, Salvaged};
-use bdb_text_format::{KeyRef, PairRef, Section, Sections, TextPairs};
 use std::alloc::{AllocError, Global};
 
 /// Rooms in which the bytes of chains are joined, for all keys and data of a section.

@@ -1,17 +1,17 @@
 //! `repair`: a sound file of what is salvaged.
 ghost use Rattle.std.specs.Prelude.{◌≡◌, ◌≤◌, ◌^◌, IfErr, IfSome, IsTrue, None, length};
-ghost use Rattle.bdb_format.specs.HeadOf.{is_page_size};
+ghost use Rattle.bdb_model.specs.of_format.HeadOf.{is_page_size};
 ghost use Rattle.bdb_rescue.specs.Guesses.{chosen};
 ghost use Rattle.bdb_repair.specs.Repairs.{IsRepaired, may_come, repair_answer, repair_refusal};
 
 use crate::parts::repair_sections;
 use crate::room::{Fit, Room, fit_of};
 use crate::{RepairError, Shape};
-use bdb_format::Steps;
-use bdb_io::Image;
+use bdb_mkfile::bdb_io::Image;
+use bdb_mkfile::bdb_settle::LoadError;
 use bdb_mkfile::load;
+use bdb_model::bdb_format::Steps;
 use bdb_rescue::{Guess, salvage};
-use bdb_settle::LoadError;
 use std::alloc::Global;
 use std::sync::ledger::Ledger;
 

@@ -1,7 +1,7 @@
 -- What is left of a pair that is read.
 use Rattle.std.specs.Prelude.{List, ℕ, [], ◌∷◌}
-use Rattle.bdb_overflow.specs.Datum.{datum_seen}
-use Rattle.bdb_overflow.specs.declared.datum.Datum.{Datum}
+use Rattle.bdb_survey.specs.of_overflow.Datum.{datum_seen}
+use Rattle.bdb_survey.specs.of_overflow.declared.datum.Datum.{Datum}
 use Rattle.bdb_rescue.specs.declared.entry.PairData.{PairData}
 use Rattle.bdb_rescue.specs.declared.entry.PairData.TheVariants.{None as Ended, One, Blocks, Set}
 

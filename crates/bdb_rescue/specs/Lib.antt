@@ -3,3 +3,8 @@ pub mod Guesses
 pub mod Kept
 pub mod Marks
 pub mod Text
+pub use Rattle.bdb_format.specs as of_format
+pub use Rattle.bdb_survey.specs.of_image as of_image
+pub use Rattle.bdb_survey.specs.of_law_sums as of_law_sums
+pub use Rattle.bdb_survey.specs.of_overflow as of_overflow
+pub use Rattle.bdb_survey.specs as of_survey

@@ -1,13 +1,13 @@
 ghost use Rattle.std.specs.Prelude.{◌≡◌, map};
 ghost use Rattle.std.specs.Iterator.{YieldsFirst, YieldsFirstBy, item_count};
-ghost use Rattle.bdb_overflow.specs.Datum.{datum_seen};
+ghost use Rattle.bdb_survey.specs.of_overflow.Datum.{datum_seen};
 ghost use Rattle.bdb_rescue.specs.Kept.{IsKeptPair, file_in, kept_pairs, keyed};
 
 use crate::Salvaged;
 use crate::entry::{PairData, pair_data};
 use crate::kept::KeptPair;
 use crate::places::Places;
-use bdb_overflow::Datum;
+use bdb_survey::bdb_overflow::Datum;
 use std::marker::Model;
 
 /// A stored key, and its data that are left.
@@ -19,7 +19,7 @@ pub struct SalvageEntry<'s, 'a> {
 
 impl<'s, 'a> Model for SalvageEntry<'s, 'a> {
     ghost use Rattle.std.specs.Prelude.{List, ℕ};
-    ghost use Rattle.bdb_overflow.specs.Datum.{datum_seen};
+    ghost use Rattle.bdb_survey.specs.of_overflow.Datum.{datum_seen};
     ghost use Rattle.bdb_rescue.specs.Entries.{data_left};
 
     ghost Value = { List ℕ × List (List ℕ) };

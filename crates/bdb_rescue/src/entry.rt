@@ -1,15 +1,15 @@
 ghost use Rattle.std.specs.Prelude.{◌≡◌, ◌+◌, ◌*◌, IsTrue};
 ghost use Rattle.std.specs.Iterator.{YieldsFirstBy};
-ghost use Rattle.bdb_layout.specs.Seen.{content_seen};
-ghost use Rattle.bdb_overflow.specs.Datum.{datum_seen};
+ghost use Rattle.bdb_survey.specs.of_layout.Seen.{content_seen};
+ghost use Rattle.bdb_survey.specs.of_overflow.Datum.{datum_seen};
 ghost use Rattle.bdb_rescue.specs.Entries.{data_left, pair_read};
 ghost use Rattle.bdb_rescue.specs.Kept.{IsKeptPair, data_at, data_here, file_in, given, is_held, item_of};
 
 use crate::Salvaged;
 use crate::kept::{DataPlace, KeptPair};
 use crate::values::SalvageValues;
-use bdb_layout::{Content, DupBlocks};
-use bdb_overflow::Datum;
+use bdb_survey::bdb_layout::{Content, DupBlocks};
+use bdb_survey::bdb_overflow::Datum;
 use std::marker::Model;
 
 /// The data of a pair that are left.
@@ -30,7 +30,7 @@ pub(crate) struct Entry<'s, 'a> {
 
 impl<'s, 'a> Model for Entry<'s, 'a> {
     ghost use Rattle.std.specs.Prelude.{List, ℕ};
-    ghost use Rattle.bdb_overflow.specs.Datum.{datum_seen};
+    ghost use Rattle.bdb_survey.specs.of_overflow.Datum.{datum_seen};
     ghost use Rattle.bdb_rescue.specs.Entries.{data_left};
     ghost use Rattle.bdb_rescue.specs.Kept.{under};
 

@@ -1,11 +1,11 @@
 ghost use Rattle.std.specs.Prelude.{◌≡◌, ◌++◌, ◌+◌, ◌*◌, ◌^◌, ◌<◌, IfOk, OnOk, length};
-ghost use Rattle.bdb_layout.specs.Seen.{content_seen};
+ghost use Rattle.bdb_survey.specs.of_layout.Seen.{content_seen};
 ghost use Rattle.std.specs.Option.{option_to_list};
 ghost use Rattle.bdb_rescue.specs.Kept.{data_places, kept_in, kept_on, kept_pair, kept_pairs};
 ghost use Rattle.bdb_survey.specs.Slots.{slots_seen};
 
 use crate::kept::{DataPlace, KeptPair};
-use bdb_layout::Content;
+use bdb_survey::bdb_layout::Content;
 use bdb_survey::{Slots, Survey, paired_slots};
 use std::alloc::{AllocError, Global};
 

@@ -17,7 +17,9 @@ mod tables;
 mod thin;
 mod values;
 
-pub use bdb_survey::Guess;
+pub use bdb_format;
+pub use bdb_survey;
+pub use bdb_survey::{Guess, bdb_overflow};
 pub use entries::{SalvageEntries, SalvageEntry};
 pub use error::SalvageError;
 pub use pairs::SalvagePairs;

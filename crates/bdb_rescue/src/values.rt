@@ -1,13 +1,13 @@
 ghost use Rattle.std.specs.Prelude.{◌≡◌, map};
 ghost use Rattle.std.specs.Iterator.{YieldsFirstBy, item_count};
 ghost use Rattle.std.specs.List.{All};
-ghost use Rattle.bdb_overflow.specs.Datum.{datum_seen};
+ghost use Rattle.bdb_survey.specs.of_overflow.Datum.{datum_seen};
 ghost use Rattle.bdb_rescue.specs.Kept.{IsKeptValue, file_in, value_at};
 
 use crate::Salvaged;
 use crate::kept::KeptValue;
 use crate::places::Places;
-use bdb_overflow::Datum;
+use bdb_survey::bdb_overflow::Datum;
 use std::marker::Model;
 
 /// Values that are left: those of a set, or the loose records.

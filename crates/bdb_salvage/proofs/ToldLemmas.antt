@@ -3,19 +3,19 @@ use Rattle.std.proofs.Common.{◌≡◌, ℕ, ◌≤◌, true, false, List, leng
 use Rattle.std.specs.Prelude.{◌==◌, if◌then◌else◌, Option, Some, None}
 use Rattle.std.specs.Option.{option_or}
 use Rattle.std.proofs.lemmas.Bool.{cases_Bool, le-ltb, ltb-false, not-false, or_cases, or_parts}
-use Rattle.bdb_format.specs.declared.kinds.Order.{Order}
-use Rattle.bdb_format.specs.declared.kinds.Order.TheVariants.{Big, Little}
-use Rattle.bdb_format.specs.HeadOf.{head_of, head_rows, heap_magic, is_magic, is_page_size, magic_at, order_of}
-use Rattle.bdb_format.specs.Numbers.{four_at}
-use Rattle.bdb_format.proofs.BoolLemmas.{first_or_none}
-use Rattle.bdb_format.proofs.VerdictLemmas.{none_is_first_row}
-use Rattle.bdb_format.specs.Table.{first_row}
-use Rattle.bdb_image.specs.Formed.{IsAccepted}
-use Rattle.bdb_image.proofs.FirstLemmas.{formed_accepted}
-use Rattle.bdb_law_sums.specs.Databases.{IsSoundForest}
-use Rattle.bdb_law_sums.proofs.MetaLemmas.{sound_forest}
+use Rattle.bdb_rescue.specs.of_format.declared.kinds.Order.{Order}
+use Rattle.bdb_rescue.specs.of_format.declared.kinds.Order.TheVariants.{Big, Little}
+use Rattle.bdb_rescue.specs.of_format.HeadOf.{head_of, head_rows, heap_magic, is_magic, is_page_size, magic_at, order_of}
+use Rattle.bdb_rescue.specs.of_format.Numbers.{four_at}
+use Rattle.bdb_rescue.proofs.of_format.BoolLemmas.{first_or_none}
+use Rattle.bdb_rescue.proofs.of_format.VerdictLemmas.{none_is_first_row}
+use Rattle.bdb_rescue.specs.of_format.Table.{first_row}
+use Rattle.bdb_rescue.specs.of_image.Formed.{IsAccepted}
+use Rattle.bdb_rescue.proofs.of_image.FirstLemmas.{formed_accepted}
+use Rattle.bdb_rescue.specs.of_law_sums.Databases.{IsSoundForest}
+use Rattle.bdb_rescue.proofs.of_law_sums.MetaLemmas.{sound_forest}
 use Rattle.bdb_law_whole.proofs.KeptLemmas.{sound_files_are_kept}
-use Rattle.bdb_survey.specs.declared.guess.Guess.{Guess}
+use Rattle.bdb_rescue.specs.of_survey.declared.guess.Guess.{Guess}
 use Rattle.bdb_rescue.specs.Guesses.{chosen, guess_in, guess_of, is_known_magic}
 use Rattle.bdb_salvage.specs.KeepsAll.{SalvageKeepsAll, guess_told}
 

@@ -1,9 +1,9 @@
 -- What salvage keeps of a sound file by the guess of its page 0. Source: docs/FORMAT.md, "Salvage".
 use Rattle.std.specs.Prelude.{◌≡◌, ℕ, List, Some, None}
-use Rattle.bdb_format.specs.File.{file_of}
-use Rattle.bdb_format.specs.HeadOf.{head_of}
+use Rattle.bdb_rescue.specs.of_format.File.{file_of}
+use Rattle.bdb_rescue.specs.of_format.HeadOf.{head_of}
 use Rattle.bdb_law_whole.specs.Kept.{IsSoundFile, KeepsLists}
-use Rattle.bdb_survey.specs.declared.guess.Guess.{Guess}
+use Rattle.bdb_rescue.specs.of_survey.declared.guess.Guess.{Guess}
 use Rattle.bdb_rescue.specs.Guesses.{chosen}
 use Rattle.bdb_rescue.specs.Kept.{file_in}
 

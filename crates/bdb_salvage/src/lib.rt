@@ -3,7 +3,8 @@
 
 pub mod laws;
 
+pub use bdb_rescue::bdb_survey::{Guess, chain_of};
 pub use bdb_rescue::{
-    SalvageEntries, SalvageEntry, SalvageError, SalvagePairs, SalvageValues, Salvaged, salvage,
+    SalvageEntries, SalvageEntry, SalvageError, SalvagePairs, SalvageValues, Salvaged, bdb_format,
+    bdb_overflow, salvage,
 };
-pub use bdb_survey::{Guess, chain_of};

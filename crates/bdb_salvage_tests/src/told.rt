@@ -2,8 +2,8 @@
 
 ghost use Rattle.std.specs.Prelude.{◌≡◌};
 
-use bdb_format::{Order, Steps};
-use bdb_overflow::Datum;
+use bdb_salvage::bdb_format::{Order, Steps};
+use bdb_salvage::bdb_overflow::Datum;
 use bdb_salvage::{Guess, SalvageError, Salvaged, salvage};
 use std::alloc::Global;
 use std::marker::Brand;

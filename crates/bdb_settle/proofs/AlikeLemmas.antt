@@ -6,7 +6,7 @@ use Rattle.std.specs.List.Sorted.{IsPermutation, IsSortedBy, IsStableBy, ties}
 use Rattle.std.proofs.lemmas.List.{get_or-map, length-map}
 use Rattle.std.proofs.lemmas.List.Elements.{Contains-get_or}
 use Rattle.std.proofs.lemmas.List.Sorted.{Contains-permutation, IsPermutation-sym}
-use Rattle.bdb_format.proofs.MemberLemmas.{first_member, in_filter, in_map, is_empty, later_member, no_member, of_filter, of_map}
+use Rattle.bdb_mktree.proofs.of_format.MemberLemmas.{first_member, in_filter, in_map, is_empty, later_member, no_member, of_filter, of_map}
 use Rattle.bdb_settle.proofs.StableLemmas.{tied_alike}
 
 filter_where : {X : Type 0} (p q : X → Bool) (xs : List X) → ((x : X) → Contains xs x → p x ≡ q x) → filter p xs ≡ filter q xs

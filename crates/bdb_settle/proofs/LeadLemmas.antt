@@ -4,12 +4,12 @@ use Rattle.std.proofs.Common.{inr, arith}
 use Rattle.std.proofs.lemmas.Bool.{cases_lt}
 use Rattle.std.proofs.lemmas.Bool.Decides.{nat_tests}
 use Rattle.std.proofs.lemmas.List.{get_or-drop, length-take, take-take}
-use Rattle.bdb_format.specs.Less.{less}
-use Rattle.bdb_places.specs.declared.place.PlacedKey.{PlacedKey}
-use Rattle.bdb_places.specs.declared.place.PlacedKey.TheVariants.{Bytes as BytesAt, Number as NumberAt}
-use Rattle.bdb_text_format.specs.Placed.{placed_key}
-use Rattle.bdb_text_format.specs.declared.pairs.Key.{Key}
-use Rattle.bdb_text_format.specs.declared.pairs.Key.TheVariants.{Bytes, Number}
+use Rattle.bdb_mktree.specs.of_format.Less.{less}
+use Rattle.bdb_mktree.specs.of_places.declared.place.PlacedKey.{PlacedKey}
+use Rattle.bdb_mktree.specs.of_places.declared.place.PlacedKey.TheVariants.{Bytes as BytesAt, Number as NumberAt}
+use Rattle.bdb_mktree.specs.of_text_format.Placed.{placed_key}
+use Rattle.bdb_mktree.specs.of_text_format.declared.pairs.Key.{Key}
+use Rattle.bdb_mktree.specs.of_text_format.declared.pairs.Key.TheVariants.{Bytes, Number}
 use Rattle.bdb_settle.specs.Loaded.{key_less}
 use Rattle.bdb_settle.specs.Leads.{Begins, lead_of, number_of}
 

@@ -10,10 +10,10 @@ use Rattle.std.proofs.lemmas.Bool.Decides.{nat_tests}
 use Rattle.std.proofs.lemmas.List.{get_or_default, take_more}
 use Rattle.std.proofs.lemmas.List.Elements.{All-append, All-cons, All-contains, All-nil, All-weaker}
 use Rattle.std.proofs.lemmas.List.Sorted.{Contains-permutation, IsPermutation-map, IsPermutation-sym}
-use Rattle.bdb_format.specs.declared.settings.Settings.{Settings}
-use Rattle.bdb_format.proofs.MemberLemmas.{of_map}
-use Rattle.bdb_places.specs.declared.place.Place.{Place}
-use Rattle.bdb_text_format.specs.Placed.{placed_key}
+use Rattle.bdb_mktree.specs.of_format.declared.settings.Settings.{Settings}
+use Rattle.bdb_mktree.proofs.of_format.MemberLemmas.{of_map}
+use Rattle.bdb_mktree.specs.of_places.declared.place.Place.{Place}
+use Rattle.bdb_mktree.specs.of_text_format.Placed.{placed_key}
 use Rattle.bdb_settle.specs.declared.leads.Led.{Led}
 use Rattle.bdb_settle.specs.Loaded.{key_less}
 use Rattle.bdb_settle.specs.Leads.{Begins, Share, lead_of, led, led_before}

@@ -9,23 +9,23 @@ use Rattle.std.proofs.lemmas.Bool.Decides.{nat_tests}
 use Rattle.std.proofs.lemmas.List.{length-replicate}
 use Rattle.std.proofs.lemmas.List.Elements.{All-cons, All-head, All-nil, All-tail, All-weaker}
 use Rattle.std.proofs.Math.Bool.{and-false, and-true}
-use Rattle.bdb_format.specs.declared.kinds.Kind.{Kind}
-use Rattle.bdb_format.specs.declared.kinds.Kind.TheVariants.{Btree, Recno}
-use Rattle.bdb_format.specs.declared.settings.Settings.{Settings}
-use Rattle.bdb_format.specs.Less.{less}
-use Rattle.bdb_format.proofs.LessLemmas.{eq_self, same_unless_less}
-use Rattle.bdb_mkleaves.specs.Runs.{IsShort}
-use Rattle.bdb_text_format.specs.declared.pairs.Pair.{Pair}
-use Rattle.bdb_text_format.specs.declared.pairs.Key.{Key}
-use Rattle.bdb_text_format.specs.declared.pairs.Key.TheVariants.{Bytes, Number}
-use Rattle.bdb_text_format.specs.declared.pairs.TextPair.{TextPair}
-use Rattle.bdb_text_format.specs.declared.sections.Section.{Section}
-use Rattle.bdb_text_format.specs.Pairs.{number_of}
+use Rattle.bdb_mktree.specs.of_format.declared.kinds.Kind.{Kind}
+use Rattle.bdb_mktree.specs.of_format.declared.kinds.Kind.TheVariants.{Btree, Recno}
+use Rattle.bdb_mktree.specs.of_format.declared.settings.Settings.{Settings}
+use Rattle.bdb_mktree.specs.of_format.Less.{less}
+use Rattle.bdb_mktree.proofs.of_format.LessLemmas.{eq_self, same_unless_less}
+use Rattle.bdb_mktree.specs.of_mkleaves.Runs.{IsShort}
+use Rattle.bdb_mktree.specs.of_text_format.declared.pairs.Pair.{Pair}
+use Rattle.bdb_mktree.specs.of_text_format.declared.pairs.Key.{Key}
+use Rattle.bdb_mktree.specs.of_text_format.declared.pairs.Key.TheVariants.{Bytes, Number}
+use Rattle.bdb_mktree.specs.of_text_format.declared.pairs.TextPair.{TextPair}
+use Rattle.bdb_mktree.specs.of_text_format.declared.sections.Section.{Section}
+use Rattle.bdb_mktree.specs.of_text_format.Pairs.{number_of}
 use Rattle.bdb_mktree.specs.Lists.{HasBytes, HasNumber, IsKeyFor, IsTreeList, IsPairFor, bytes_in, is_in_order, may_follow}
 use Rattle.bdb_mktree.specs.Units.{IsTreeKind}
 use Rattle.bdb_settle.specs.ListLaw.{HasShortBytes, IsFit, IsKeyOf, LoadIntoLists}
 use Rattle.bdb_settle.specs.LoadErrors.{is_zero}
-use Rattle.bdb_text_format.specs.Written.{holds_records}
+use Rattle.bdb_mktree.specs.of_text_format.Written.{holds_records}
 use Rattle.bdb_settle.specs.Loaded.{loaded_pair, filled_value, has_length, keeps_data, loaded, sorts_data, stands_before}
 use Rattle.bdb_settle.proofs.ErrorLemmas.{IsSound, sound_pairs}
 use Rattle.bdb_settle.proofs.OrderedLemmas.{Ordered, OrderedFrom, fold_all, fold_ordered, follows}

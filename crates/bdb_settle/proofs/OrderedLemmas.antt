@@ -5,8 +5,8 @@ use Rattle.std.specs.Cmp.{IsStrictWeakOrder}
 use Rattle.std.specs.List.{All, fold}
 use Rattle.std.proofs.lemmas.Bool.{or_parts}
 use Rattle.std.proofs.lemmas.List.Elements.{All-cons, All-head, All-nil, All-tail}
-use Rattle.bdb_format.specs.declared.settings.Settings.{Settings}
-use Rattle.bdb_text_format.specs.declared.pairs.Pair.{Pair}
+use Rattle.bdb_mktree.specs.of_format.declared.settings.Settings.{Settings}
+use Rattle.bdb_mktree.specs.of_text_format.declared.pairs.Pair.{Pair}
 use Rattle.bdb_settle.specs.Loaded.{keeps_data, put, stands_before, with_loaded}
 use Rattle.bdb_settle.proofs.KeyOrderLemmas.{pairs_weakly}
 use Rattle.bdb_settle.proofs.PutLemmas.{below}

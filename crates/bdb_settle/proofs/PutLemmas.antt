@@ -5,7 +5,7 @@ use Rattle.std.specs.Cmp.{IsStrictWeakOrder}
 use Rattle.std.specs.List.{All}
 use Rattle.std.proofs.lemmas.Bool.{or_parts, true_from_ne_false}
 use Rattle.std.proofs.lemmas.List.Elements.{All-head, All-tail}
-use Rattle.bdb_text_format.specs.declared.pairs.Pair.{Pair}
+use Rattle.bdb_mktree.specs.of_text_format.declared.pairs.Pair.{Pair}
 use Rattle.bdb_settle.specs.Loaded.{put}
 use Rattle.bdb_settle.specs.Settling.{stays}
 

@@ -8,11 +8,11 @@ use Rattle.std.specs.List.Sorted.{IsSortedBy}
 use Rattle.std.proofs.lemmas.List.Elements.{All-head, All-tail, All-append, All-cons, All-nil}
 use Rattle.std.proofs.lemmas.List.{reverse-reverse}
 use Rattle.std.proofs.lemmas.Option.{slice_get-get_or}
-use Rattle.bdb_format.specs.declared.settings.Settings.{Settings}
-use Rattle.bdb_text_format.specs.declared.pairs.Pair.{Pair}
-use Rattle.bdb_text_format.specs.declared.pairs.TextPair.{TextPair}
+use Rattle.bdb_mktree.specs.of_format.declared.settings.Settings.{Settings}
+use Rattle.bdb_mktree.specs.of_text_format.declared.pairs.Pair.{Pair}
+use Rattle.bdb_mktree.specs.of_text_format.declared.pairs.TextPair.{TextPair}
 use Rattle.bdb_settle.specs.Loaded.{keeps_data, put, stands_before, unnumbered, with_loaded}
-use Rattle.bdb_places.specs.declared.place.Place.{Place}
+use Rattle.bdb_mktree.specs.of_places.declared.place.Place.{Place}
 use Rattle.bdb_settle.specs.Settling.{Ascend, IsSettledTo, pair_on, place_before, stays}
 use Rattle.bdb_settle.proofs.KeyOrderLemmas.{pairs_weakly}
 use Rattle.bdb_settle.proofs.PutLemmas.{put_behind}

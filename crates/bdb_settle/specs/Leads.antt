@@ -1,11 +1,11 @@
 -- Places that are sorted by the first bytes in which their keys may differ. Source: docs/FORMAT.md, "Order of keys".
 use Rattle.std.specs.Prelude.{◌≡◌, ℕ, zero, suc, ◌+◌, ◌*◌, nat_lt, ◌&&◌, ◌||◌, not, Bool, List, drop, get_or, length, map, take}
 use Rattle.std.specs.List.{All}
-use Rattle.bdb_format.specs.declared.settings.Settings.{Settings}
-use Rattle.bdb_places.specs.declared.place.Place.{Place}
-use Rattle.bdb_text_format.specs.Placed.{placed_key}
-use Rattle.bdb_text_format.specs.declared.pairs.Key.{Key}
-use Rattle.bdb_text_format.specs.declared.pairs.Key.TheVariants.{Bytes, Number}
+use Rattle.bdb_mktree.specs.of_format.declared.settings.Settings.{Settings}
+use Rattle.bdb_mktree.specs.of_places.declared.place.Place.{Place}
+use Rattle.bdb_mktree.specs.of_text_format.Placed.{placed_key}
+use Rattle.bdb_mktree.specs.of_text_format.declared.pairs.Key.{Key}
+use Rattle.bdb_mktree.specs.of_text_format.declared.pairs.Key.TheVariants.{Bytes, Number}
 use Rattle.bdb_settle.specs.declared.leads.Led.{Led}
 use Rattle.bdb_settle.specs.Settling.{place_before}
 

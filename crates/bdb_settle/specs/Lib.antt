@@ -3,3 +3,4 @@ pub mod ListLaw
 pub mod LoadErrors
 pub mod Loaded
 pub mod Settling
+pub use Rattle.bdb_mktree.specs.of_text_format as of_text_format

@@ -1,13 +1,13 @@
 -- Which sections load into lists that trees can be built of. Source: docs/FORMAT.md, "Built trees".
 use Rattle.std.specs.Prelude.{◌≡◌, true, List, None}
 use Rattle.std.specs.List.{All}
-use Rattle.bdb_format.specs.declared.kinds.Kind.{Kind}
-use Rattle.bdb_format.specs.declared.kinds.Kind.TheVariants.{Btree, Recno, Hash, Queue}
-use Rattle.bdb_text_format.specs.declared.pairs.Pair.{Pair}
-use Rattle.bdb_text_format.specs.declared.pairs.Key.{Key}
-use Rattle.bdb_text_format.specs.declared.pairs.TextPair.{TextPair}
-use Rattle.bdb_text_format.specs.declared.sections.Section.{Section}
-use Rattle.bdb_mkleaves.specs.Runs.{IsShort}
+use Rattle.bdb_mktree.specs.of_format.declared.kinds.Kind.{Kind}
+use Rattle.bdb_mktree.specs.of_format.declared.kinds.Kind.TheVariants.{Btree, Recno, Hash, Queue}
+use Rattle.bdb_mktree.specs.of_text_format.declared.pairs.Pair.{Pair}
+use Rattle.bdb_mktree.specs.of_text_format.declared.pairs.Key.{Key}
+use Rattle.bdb_mktree.specs.of_text_format.declared.pairs.TextPair.{TextPair}
+use Rattle.bdb_mktree.specs.of_text_format.declared.sections.Section.{Section}
+use Rattle.bdb_mktree.specs.of_mkleaves.Runs.{IsShort}
 use Rattle.bdb_mktree.specs.Lists.{HasBytes, HasNumber, IsTreeList, bytes_in}
 use Rattle.bdb_mktree.specs.Units.{IsTreeKind}
 use Rattle.bdb_settle.specs.LoadErrors.{load_error}

@@ -1,15 +1,15 @@
 -- What loading does to the pairs of a section. Source: docs/FORMAT.md, "What loading does to a list" and "Order of keys".
 use Rattle.std.specs.Prelude.{ℕ, ◌-◌, ◌%◌, nat_lt, ◌&&◌, ◌||◌, not, if◌then◌else◌, Bool, true, false, List, [], ◌∷◌, ◌++◌, length, map, replicate}
 use Rattle.std.specs.List.{fold}
-use Rattle.bdb_format.specs.declared.settings.Settings.{Settings}
-use Rattle.bdb_format.specs.Less.{less}
-use Rattle.bdb_text_format.specs.declared.pairs.Pair.{Pair}
-use Rattle.bdb_text_format.specs.declared.pairs.Key.{Key}
-use Rattle.bdb_text_format.specs.declared.pairs.Key.TheVariants.{Bytes, Number}
-use Rattle.bdb_text_format.specs.declared.pairs.TextPair.{TextPair}
-pub use Rattle.bdb_text_format.specs.Pairs.{unlined, unlined_pairs, unnumbered}
-use Rattle.bdb_text_format.specs.declared.sections.Section.{Section}
-use Rattle.bdb_text_format.specs.Written.{holds_records}
+use Rattle.bdb_mktree.specs.of_format.declared.settings.Settings.{Settings}
+use Rattle.bdb_mktree.specs.of_format.Less.{less}
+use Rattle.bdb_mktree.specs.of_text_format.declared.pairs.Pair.{Pair}
+use Rattle.bdb_mktree.specs.of_text_format.declared.pairs.Key.{Key}
+use Rattle.bdb_mktree.specs.of_text_format.declared.pairs.Key.TheVariants.{Bytes, Number}
+use Rattle.bdb_mktree.specs.of_text_format.declared.pairs.TextPair.{TextPair}
+pub use Rattle.bdb_mktree.specs.of_text_format.Pairs.{unlined, unlined_pairs, unnumbered}
+use Rattle.bdb_mktree.specs.of_text_format.declared.sections.Section.{Section}
+use Rattle.bdb_mktree.specs.of_text_format.Written.{holds_records}
 
 -- Order.
 

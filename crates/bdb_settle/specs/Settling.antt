@@ -4,13 +4,13 @@ use Rattle.std.specs.List.{All, fold}
 use Rattle.std.specs.List.Sorted.{IsSortedBy, IsStableBy}
 use Rattle.std.specs.declared.cmp.Ordering.{Ordering}
 use Rattle.std.specs.declared.cmp.Ordering.TheVariants.{Less as Below, Equal, Greater}
-use Rattle.bdb_text_format.specs.declared.pairs.Pair.{Pair}
-use Rattle.bdb_text_format.specs.declared.pairs.Key.{Key}
-use Rattle.bdb_text_format.specs.declared.pairs.TextPair.{TextPair}
-use Rattle.bdb_format.specs.declared.settings.Settings.{Settings}
-use Rattle.bdb_places.specs.declared.place.Place.{Place}
-use Rattle.bdb_text_format.specs.Pairs.{unlined}
-use Rattle.bdb_text_format.specs.Placed.{ArePlaced, IsPlaced, placed_pair, placed_pairs}
+use Rattle.bdb_mktree.specs.of_text_format.declared.pairs.Pair.{Pair}
+use Rattle.bdb_mktree.specs.of_text_format.declared.pairs.Key.{Key}
+use Rattle.bdb_mktree.specs.of_text_format.declared.pairs.TextPair.{TextPair}
+use Rattle.bdb_mktree.specs.of_format.declared.settings.Settings.{Settings}
+use Rattle.bdb_mktree.specs.of_places.declared.place.Place.{Place}
+use Rattle.bdb_mktree.specs.of_text_format.Pairs.{unlined}
+use Rattle.bdb_mktree.specs.of_text_format.Placed.{ArePlaced, IsPlaced, placed_pair, placed_pairs}
 use Rattle.bdb_settle.specs.Loaded.{keeps_data, key_less, stands_before, unnumbered, with_loaded}
 
 -- the pair at a place of a run, without its line, and the order of places by their pairs

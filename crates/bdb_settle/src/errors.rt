@@ -1,15 +1,15 @@
 ghost use Rattle.std.specs.Prelude.{◌≡◌, ◌+◌, ◌==◌, length};
 ghost use Rattle.std.specs.List.{flat_map, fold};
-ghost use Rattle.bdb_text_format.specs.Placed.{key_seen, pair_seen, slice_seen};
-ghost use Rattle.bdb_text_format.specs.Written.{is_queue};
+ghost use Rattle.bdb_mktree.specs.of_text_format.Placed.{key_seen, pair_seen, slice_seen};
+ghost use Rattle.bdb_mktree.specs.of_text_format.Written.{is_queue};
 ghost use Rattle.bdb_settle.specs.LoadErrors.{header_errors, is_among_names, is_sooner, is_too_long, is_too_wide, is_zero};
 ghost use Rattle.bdb_settle.specs.LoadErrors.{load_error, pair_errors, page_size_in, section_errors, sooner, where_so};
-ghost use Rattle.bdb_format.specs.Numbers.{pad4};
+ghost use Rattle.bdb_mktree.specs.of_format.Numbers.{pad4};
 
 use crate::LoadError;
 use crate::filling::has_length;
-use bdb_format::{Kind, Settings};
-use bdb_text_format::{KeyRef, PairRef, PairSlice, Section, Sections};
+use bdb_mktree::bdb_format::{Kind, Settings};
+use bdb_mktree::bdb_text_format::{KeyRef, PairRef, PairSlice, Section, Sections};
 
 /// Whether an error has the lesser line, or on one line the lesser code.
 fn is_sooner(a: LoadError, b: LoadError) -> bool

@@ -1,11 +1,11 @@
 ghost use Rattle.std.specs.Prelude.{◌≡◌, ◌%◌, ◌++◌, ◌∷◌, [], length, map, reverse, IfOk, OnOk};
-ghost use Rattle.bdb_text_format.specs.Placed.{pair_seen, slice_seen};
+ghost use Rattle.bdb_mktree.specs.of_text_format.Placed.{pair_seen, slice_seen};
 ghost use Rattle.bdb_settle.specs.Loaded.{filled_pair, filled_pairs, filled_section, filled_value, has_length};
 
 use crate::order::holds_records;
 use crate::turning::turned;
-use bdb_format::Settings;
-use bdb_text_format::{PairRef, PairSlice, Section, Sections, TextPairs};
+use bdb_mktree::bdb_format::Settings;
+use bdb_mktree::bdb_text_format::{PairRef, PairSlice, Section, Sections, TextPairs};
 use std::alloc::{AllocError, Global};
 
 /// Whether records have a fixed length.

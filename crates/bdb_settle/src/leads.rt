@@ -1,14 +1,14 @@
 ghost use Rattle.std.specs.Prelude.{◌≡◌, ◌≤◌, get_or, length, map, take, true, IfOk, OnOk};
 ghost use Rattle.std.specs.List.Sorted.{IsPermutation, IsSortedBy, IsStableBy};
 ghost use Rattle.std.specs.Ordering.{is_lt};
-ghost use Rattle.bdb_text_format.specs.Placed.{key_seen, placed_key};
+ghost use Rattle.bdb_mktree.specs.of_text_format.Placed.{key_seen, placed_key};
 ghost use Rattle.bdb_settle.specs.Leads.{Begins, Share, lead_of, led, led_before, number_of};
 ghost use Rattle.bdb_settle.specs.Settling.{place_before};
 
 use crate::order::{compare_places, stands_before};
-use bdb_format::Settings;
-use bdb_places::{Place, PlacedKey};
-use bdb_text_format::{KeyRef, are_one, key_at};
+use bdb_mktree::bdb_format::Settings;
+use bdb_mktree::bdb_places::{Place, PlacedKey};
+use bdb_mktree::bdb_text_format::{KeyRef, are_one, key_at};
 use std::alloc::{AllocError, Global};
 use std::cmp::Ordering;
 

@@ -1,15 +1,15 @@
 ghost use Rattle.std.specs.Prelude.{◌≡◌, ◌&&◌};
 ghost use Rattle.std.specs.Ordering.{is_lt};
-ghost use Rattle.bdb_text_format.specs.Placed.{key_seen, placed_key};
-ghost use Rattle.bdb_text_format.specs.Written.{holds_records};
+ghost use Rattle.bdb_mktree.specs.of_text_format.Placed.{key_seen, placed_key};
+ghost use Rattle.bdb_mktree.specs.of_text_format.Written.{holds_records};
 ghost use Rattle.bdb_settle.specs.Loaded.{keeps_data, sorts_data};
-ghost use Rattle.bdb_format.specs.Less.{less};
+ghost use Rattle.bdb_mktree.specs.of_format.Less.{less};
 ghost use Rattle.bdb_settle.specs.Settling.{KeyOrderingIs, place_before};
 
-use bdb_format::{Kind, Settings};
-use bdb_layout::compare;
-use bdb_places::{Place, PlacedKey};
-use bdb_text_format::{KeyRef, are_one, key_at};
+use bdb_mktree::bdb_format::{Kind, Settings};
+use bdb_mktree::bdb_layout::compare;
+use bdb_mktree::bdb_places::{Place, PlacedKey};
+use bdb_mktree::bdb_text_format::{KeyRef, are_one, key_at};
 use std::cmp::Ordering;
 
 /// Whether keys are numbers of records.

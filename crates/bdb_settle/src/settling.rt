@@ -1,15 +1,15 @@
 ghost use Rattle.std.specs.Prelude.{◌≡◌, ◌||◌, ◌<◌, [], length, map, IfOk};
 ghost use Rattle.std.specs.List.{fold};
 ghost use Rattle.std.specs.List.Sorted.{IsSortedBy};
-ghost use Rattle.bdb_text_format.specs.Placed.{ArePlaced, placed_pairs};
+ghost use Rattle.bdb_mktree.specs.of_text_format.Placed.{ArePlaced, placed_pairs};
 ghost use Rattle.bdb_settle.specs.Loaded.{keeps_data, ordered, unnumbered, with_loaded};
 ghost use Rattle.bdb_settle.specs.Settling.{IsSortedOf, pair_on, place_before};
 
 use crate::leads::{are_sorted, sort_places};
 use crate::order::{keeps_data, stands_before};
-use bdb_format::Settings;
-use bdb_places::Place;
-use bdb_text_format::{PairSlice, PlacedPairs, TextPairs};
+use bdb_mktree::bdb_format::Settings;
+use bdb_mktree::bdb_places::Place;
+use bdb_mktree::bdb_text_format::{PairSlice, PlacedPairs, TextPairs};
 use std::alloc::{AllocError, Global};
 
 /// Whether a pair stays where the next one in their order comes.

@@ -5,12 +5,12 @@ use Rattle.std.proofs.lemmas.Bool.{cases_eq}
 use Rattle.std.specs.List.{All, flat_map}
 use Rattle.std.specs.Option.{is_some, option_to_list}
 use Rattle.std.specs.Prelude.{Option, Some, None, false, OnOk, Result, Ok, Err}
-use Rattle.bdb_format.specs.declared.references.Sort.{Sort}
-use Rattle.bdb_format.specs.declared.references.Sort.TheVariants.{HashNext}
-use Rattle.bdb_format.specs.declared.metadata.Head.{Head}
-use Rattle.bdb_format.specs.File.{page_bytes}
-use Rattle.bdb_format.specs.Page.{Item, Listed, Leaf as AnyLeaf, RecnoLeaf as AnyRecnoLeaf, DupLeaf as AnyDupLeaf, Hash as AnyHash}
-use Rattle.bdb_format.specs.References.{content_targets, item_at, no_item, own_entries, targets_in, unless_zero}
+use Rattle.bdb_form.specs.of_format.declared.references.Sort.{Sort}
+use Rattle.bdb_form.specs.of_format.declared.references.Sort.TheVariants.{HashNext}
+use Rattle.bdb_form.specs.of_format.declared.metadata.Head.{Head}
+use Rattle.bdb_form.specs.of_format.File.{page_bytes}
+use Rattle.bdb_form.specs.of_format.Page.{Item, Listed, Leaf as AnyLeaf, RecnoLeaf as AnyRecnoLeaf, DupLeaf as AnyDupLeaf, Hash as AnyHash}
+use Rattle.bdb_form.specs.of_format.References.{content_targets, item_at, no_item, own_entries, targets_in, unless_zero}
 use Rattle.bdb_slots.specs.declared.source.Source.TheVariants.{Nothing, Next}
 use Rattle.bdb_slots.specs.Plain.{IsInline, IsPlainIn}
 use Rattle.bdb_slots.specs.Slots.{names_from}

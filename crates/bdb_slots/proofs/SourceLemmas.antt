@@ -2,14 +2,14 @@
 use Rattle.std.proofs.Common.{◌≡◌, ℕ, suc, ◌+◌, ◌*◌, ◌-◌, [], ◌∷◌, ◌++◌, length, map, arith, refl, sym, ◌∙◌, ap}
 use Rattle.std.specs.List.{flat_map, range_with_len}
 use Rattle.std.proofs.lemmas.List.Concat.{flat_map_single}
-use Rattle.bdb_format.specs.declared.metadata.BtreeMeta.{BtreeMeta}
-use Rattle.bdb_format.specs.declared.metadata.HashMeta.{HashMeta}
-use Rattle.bdb_format.specs.declared.pages.RecnoItem.{RecnoItem}
-use Rattle.bdb_format.specs.declared.references.Sort.TheVariants.{Free as FreeRef, HashNext, Child}
-use Rattle.bdb_format.specs.Page.{Item, InternalItem, Listed, Meta, BtreeFields, HashFields, Leaf as AnyLeaf, RecnoLeaf as AnyRecnoLeaf, DupLeaf as AnyDupLeaf}
-use Rattle.bdb_format.specs.Page.{RecnoInternal as AnyRecnoInternal, Internal as AnyInternal, Hash as AnyHash}
-use Rattle.bdb_format.specs.References.{content_targets, first_free, targets_in, no_item, unless_zero}
-use Rattle.bdb_format.proofs.TargetLemmas.{each_content, each_own}
+use Rattle.bdb_form.specs.of_format.declared.metadata.BtreeMeta.{BtreeMeta}
+use Rattle.bdb_form.specs.of_format.declared.metadata.HashMeta.{HashMeta}
+use Rattle.bdb_form.specs.of_format.declared.pages.RecnoItem.{RecnoItem}
+use Rattle.bdb_form.specs.of_format.declared.references.Sort.TheVariants.{Free as FreeRef, HashNext, Child}
+use Rattle.bdb_form.specs.of_format.Page.{Item, InternalItem, Listed, Meta, BtreeFields, HashFields, Leaf as AnyLeaf, RecnoLeaf as AnyRecnoLeaf, DupLeaf as AnyDupLeaf}
+use Rattle.bdb_form.specs.of_format.Page.{RecnoInternal as AnyRecnoInternal, Internal as AnyInternal, Hash as AnyHash}
+use Rattle.bdb_form.specs.of_format.References.{content_targets, first_free, targets_in, no_item, unless_zero}
+use Rattle.bdb_form.proofs.of_format.TargetLemmas.{each_content, each_own}
 use Rattle.bdb_slots.specs.declared.source.Source.TheVariants.{Nothing, Tree, Table, Leaf, RecnoLeaf, DupLeaf, RecnoInternal, Internal, Hash}
 use Rattle.bdb_slots.specs.Slots.{item_names, names_from, no_recno_item}
 use Rattle.bdb_slots.proofs.SlotLemmas.{each_item, each_of_hash, each_of_internal, each_bucket}

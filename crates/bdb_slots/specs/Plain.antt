@@ -1,12 +1,12 @@
 -- Pages whose items name no other page, so that what they hold lies on them. Source: docs/FORMAT.md, "References".
 use Rattle.std.specs.Prelude.{◌≡◌, ◌≤◌, ℕ, List, []}
 use Rattle.std.specs.List.{All}
-use Rattle.bdb_format.specs.declared.metadata.FileKind.TheVariants.{Queue as QueueFile}
-use Rattle.bdb_format.specs.declared.metadata.Head.{Head}
-use Rattle.bdb_format.specs.File.{page_bytes}
-use Rattle.bdb_format.specs.Page.{Item, Page, Zero, Free, Meta, Hash, Internal, RecnoInternal, Leaf, RecnoLeaf, DupLeaf, Overflow, Queue, NoType}
-use Rattle.bdb_format.specs.Reading.{abstract_page}
-use Rattle.bdb_format.specs.References.{content_targets}
+use Rattle.bdb_form.specs.of_format.declared.metadata.FileKind.TheVariants.{Queue as QueueFile}
+use Rattle.bdb_form.specs.of_format.declared.metadata.Head.{Head}
+use Rattle.bdb_form.specs.of_format.File.{page_bytes}
+use Rattle.bdb_form.specs.of_format.Page.{Item, Page, Zero, Free, Meta, Hash, Internal, RecnoInternal, Leaf, RecnoLeaf, DupLeaf, Overflow, Queue, NoType}
+use Rattle.bdb_form.specs.of_format.Reading.{abstract_page}
+use Rattle.bdb_form.specs.of_format.References.{content_targets}
 
 -- an item names no page
 abbrev pub IsInline : Item → Type 0

@@ -6,13 +6,13 @@ use Rattle.bdb_form.specs.declared.view.PageView.TheVariants.{Zero, Free, Meta, 
 use Rattle.bdb_form.specs.declared.view.PageView.TheVariants.{RecnoInternal as RecnoInternalPage, DupLeaf as DupLeafPage, Hash as HashPage, Overflow, Queue}
 use Rattle.bdb_slots.specs.declared.source.Source.{Source}
 use Rattle.bdb_slots.specs.declared.source.Source.TheVariants.{Nothing, Next, Tree, Table, Leaf, RecnoLeaf, DupLeaf, RecnoInternal, Internal, Hash}
-use Rattle.bdb_format.specs.declared.pages.RecnoItem.{RecnoItem}
-use Rattle.bdb_format.specs.declared.references.Reference.{Reference}
-use Rattle.bdb_format.specs.declared.references.Sort.{Sort}
-use Rattle.bdb_format.specs.declared.references.Sort.TheVariants.{Free as FreeRef, Root, Bucket, HashNext, Child}
-use Rattle.bdb_format.specs.Hashing.{first_page}
-use Rattle.bdb_format.specs.Page.{Unknown, Item, InternalItem, Listed}
-use Rattle.bdb_format.specs.References.{content_targets, is_shared_key, no_item, unless_zero}
+use Rattle.bdb_form.specs.of_format.declared.pages.RecnoItem.{RecnoItem}
+use Rattle.bdb_form.specs.of_format.declared.references.Reference.{Reference}
+use Rattle.bdb_form.specs.of_format.declared.references.Sort.{Sort}
+use Rattle.bdb_form.specs.of_format.declared.references.Sort.TheVariants.{Free as FreeRef, Root, Bucket, HashNext, Child}
+use Rattle.bdb_form.specs.of_format.Hashing.{first_page}
+use Rattle.bdb_form.specs.of_format.Page.{Unknown, Item, InternalItem, Listed}
+use Rattle.bdb_form.specs.of_format.References.{content_targets, is_shared_key, no_item, unless_zero}
 
 abbrev pub no_internal_item : InternalItem
 no_internal_item = record { child = 0; count = 0; key = Unknown }

@@ -4,5 +4,6 @@
 mod names;
 mod source;
 
+pub use bdb_form;
 pub use names::content_name;
 pub use source::Source;

@@ -1,11 +1,11 @@
 ghost use Rattle.std.specs.Prelude.{◌≡◌, ◌+◌, ◌*◌, ◌<◌, length, option_to_list};
 ghost use Rattle.bdb_slots.specs.Slots.{child_names, entry_names, hash_names, internal_names, item_names};
-ghost use Rattle.bdb_layout.specs.Seen.{content_seen};
-ghost use Rattle.bdb_format.specs.References.{content_targets, unless_zero};
+ghost use Rattle.bdb_form.specs.of_layout.Seen.{content_seen};
+ghost use Rattle.bdb_form.specs.of_format.References.{content_targets, unless_zero};
 
+use bdb_form::bdb_format::Sort;
+use bdb_form::bdb_layout::Content;
 use bdb_form::{DupLeafView, HashView, InternalView, LeafView, RecnoInternalView, RecnoLeafView};
-use bdb_format::Sort;
-use bdb_layout::Content;
 
 /// What a page names: for what, and the number of a page, which need not be there.
 pub(crate) type Name = (Sort, u64);

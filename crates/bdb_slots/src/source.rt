@@ -2,17 +2,17 @@ ghost use Rattle.std.specs.Prelude.{◌≡◌, ◌<◌, ◌≤◌, ◌∷◌, []
 ghost use Rattle.bdb_form.specs.Seen.{page_seen};
 ghost use Rattle.bdb_slots.specs.Plain.{IsPlain};
 ghost use Rattle.bdb_slots.specs.Slots.{HasRoom, IsNoMetadata, names_from, slot_names, slots_of};
-ghost use Rattle.bdb_format.specs.References.{targets_in};
+ghost use Rattle.bdb_form.specs.of_format.References.{targets_in};
 
 use crate::names::{
     Name, child_name, dup_leaf_name, hash_name, internal_name, leaf_name, recno_leaf_name,
     unless_zero,
 };
+use bdb_form::bdb_format::Sort;
+use bdb_form::bdb_layout::page_of;
 use bdb_form::{
     DupLeafView, HashView, InternalView, LeafView, PageView, RecnoInternalView, RecnoLeafView,
 };
-use bdb_format::Sort;
-use bdb_layout::page_of;
 
 /// What a page names, slot by slot; a slot names at most one page.
 #[derive(Drop)]

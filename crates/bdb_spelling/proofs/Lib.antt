@@ -2,3 +2,4 @@ pub mod DigitLemmas
 pub mod ReadingLemmas
 pub mod RunLemmas
 pub mod SpellingLemmas
+pub use Rattle.bdb_text_format.proofs as of_text_format

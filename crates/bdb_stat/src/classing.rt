@@ -1,16 +1,16 @@
 //! The class of a page.
 ghost use Rattle.std.specs.Prelude.{◌≡◌, ◌≢◌, ◌≤◌, None, Some, false};
-ghost use Rattle.bdb_form.specs.Seen.{page_seen};
-ghost use Rattle.bdb_format.specs.File.{file_of, page_at};
-ghost use Rattle.bdb_format.specs.Graph.{is_meta, is_reserve, is_spare};
-ghost use Rattle.bdb_format.specs.Rows.{is_queue};
+ghost use Rattle.bdb_image.specs.of_form.Seen.{page_seen};
+ghost use Rattle.bdb_image.specs.of_format.File.{file_of, page_at};
+ghost use Rattle.bdb_image.specs.of_format.Graph.{is_meta, is_reserve, is_spare};
+ghost use Rattle.bdb_image.specs.of_format.Rows.{is_queue};
 ghost use Rattle.bdb_image.specs.Linked.{IsForest};
 ghost use Rattle.bdb_stat.specs.Classes.{class_by_type, class_of};
 
 use crate::class::Class;
-use bdb_form::PageView;
-use bdb_format::FileKind;
-use bdb_graph::Linked;
+use bdb_image::bdb_form::PageView;
+use bdb_image::bdb_format::FileKind;
+use bdb_turned::bdb_graph::Linked;
 
 /// Whether the file is a queue.
 fn is_queue(kind: FileKind) -> bool

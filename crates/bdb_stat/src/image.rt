@@ -1,8 +1,8 @@
 ghost use Rattle.std.specs.Prelude.{◌≡◌, ◌<◌, length};
-ghost use Rattle.bdb_format.specs.File.{page_bytes};
+ghost use Rattle.bdb_image.specs.of_format.File.{page_bytes};
 ghost use Rattle.bdb_image.specs.Formed.{IsAccepted};
 
-use bdb_format::Head;
+use bdb_image::bdb_format::Head;
 
 /// The bytes of a page of an image whose page 0 is accepted.
 #[tactic(auto, using(bdb_image::proofs::FormedLemmas::page_room, bdb_image::proofs::FormedLemmas::page_length))]

@@ -13,8 +13,8 @@ use Rattle.bdb_format.specs.Page.{Page, Zero, PageType}
 use Rattle.bdb_format.specs.Reading.{abstract_page, is_zero, page_as, page_type}
 use Rattle.bdb_format.specs.Rows.{page_code}
 use Rattle.bdb_format.proofs.SizeLemmas.{size_bounds}
-use Rattle.bdb_form.specs.Formed.{HoldsData}
-use Rattle.bdb_form.proofs.FormedLemmas.{holds_data, tree_body}
+use Rattle.bdb_overflow.specs.of_form.Formed.{HoldsData}
+use Rattle.bdb_overflow.proofs.of_form.FormedLemmas.{holds_data, tree_body}
 use Rattle.bdb_overflow.specs.Whole.{EndsIn, IsLink, IsWholeChain, bytes_of, next_at}
 use Rattle.bdb_overflow.proofs.WholeLemmas.{page_as_is, page_length}
 use Rattle.bdb_survey.specs.Salvage.{follows, is_link, is_overflow, is_row, salvaged_file, salvaged_page, unless_code}

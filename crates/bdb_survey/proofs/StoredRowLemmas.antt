@@ -7,8 +7,8 @@ use Rattle.bdb_format.specs.Chains.{next_of}
 use Rattle.bdb_format.specs.File.{File, header_in, page_at}
 use Rattle.bdb_format.specs.Page.{Page}
 use Rattle.bdb_format.proofs.MemberLemmas.{first_member, later_member, member_cases, no_member}
-use Rattle.bdb_graph.specs.Forest.{AllDistinct}
-use Rattle.bdb_graph.proofs.LeavesLemmas.{not_in}
+use Rattle.bdb_overflow.specs.of_graph.Forest.{AllDistinct}
+use Rattle.bdb_overflow.proofs.of_graph.LeavesLemmas.{not_in}
 use Rattle.bdb_survey.specs.RowLaw.{NoPageTwiceInARow}
 use Rattle.bdb_survey.specs.Salvage.{follows, is_link}
 

@@ -2,7 +2,7 @@
 use Rattle.std.specs.Prelude.{ℕ, Bool, List, IsTrue}
 use Rattle.bdb_format.specs.File.{File}
 use Rattle.bdb_format.specs.Page.{Page}
-use Rattle.bdb_graph.specs.Forest.{AllDistinct}
+use Rattle.bdb_overflow.specs.of_graph.Forest.{AllDistinct}
 use Rattle.bdb_survey.specs.Salvage.{follows}
 
 -- pages that follow each other are all distinct, whatever bytes they stand for

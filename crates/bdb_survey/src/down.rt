@@ -1,7 +1,7 @@
 ghost use Rattle.std.specs.Prelude.{◌≡◌, ◌==◌, ◌∷◌, [], if◌then◌else◌, ℕ};
 ghost use Rattle.bdb_format.specs.Page.{Internal, InternalItem, Listed, RecnoInternal};
 ghost use Rattle.bdb_format.specs.declared.pages.RecnoItem.{RecnoItem};
-ghost use Rattle.bdb_form.specs.Seen.{page_seen};
+ghost use Rattle.bdb_overflow.specs.of_form.Seen.{page_seen};
 ghost use Rattle.std.specs.List.{list_any};
 ghost use Rattle.bdb_format.specs.File.{header_in, page_at};
 ghost use Rattle.bdb_format.specs.References.{has_type};
@@ -10,7 +10,7 @@ ghost use Rattle.bdb_survey.specs.Ways.{fits_as, plain_type, way_from};
 ghost use Rattle.bdb_survey.specs.declared.down.Way.TheVariants.{Broken, Child};
 
 use crate::whole_pages::WholePages;
-use bdb_form::PageView;
+use bdb_overflow::bdb_form::PageView;
 
 /// Where the way down goes on from a page.
 #[derive(Clone, Copy, Debug)]

@@ -11,6 +11,8 @@ mod slots;
 mod survey;
 mod whole_pages;
 
+pub use bdb_overflow;
+pub use bdb_overflow::bdb_layout;
 pub use chain::chain_of;
 pub use guess::Guess;
 pub use row_leaves::RowPages;

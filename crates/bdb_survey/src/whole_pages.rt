@@ -1,8 +1,8 @@
 ghost use Rattle.std.specs.Prelude.{◌≡◌, ◌/◌, ◌^◌, ◌<◌, ◌≤◌, IsTrue, length, ℕ};
 ghost use Rattle.bdb_format.specs.Page.{NoType};
-ghost use Rattle.bdb_form.specs.Seen.{page_seen};
+ghost use Rattle.bdb_overflow.specs.of_form.Seen.{page_seen};
 ghost use Rattle.bdb_format.specs.Chains.{piece_in, pieces_of};
-ghost use Rattle.bdb_layout.specs.Seen.{content_seen};
+ghost use Rattle.bdb_overflow.specs.of_layout.Seen.{content_seen};
 ghost use Rattle.bdb_survey.specs.Items.{slot_at, slots_in};
 ghost use Rattle.bdb_format.specs.File.{page_at};
 ghost use Rattle.bdb_format.specs.HeadOf.{is_page_size};
@@ -12,8 +12,8 @@ ghost use Rattle.bdb_survey.specs.Salvage.{is_overflow, is_row, salvaged_file};
 
 use crate::Guess;
 use crate::slots::slots_of;
-use bdb_form::{PageView, form, known_form};
-use bdb_layout::{Content, u32_at};
+use bdb_overflow::bdb_form::{PageView, form, known_form};
+use bdb_overflow::bdb_layout::{Content, u32_at};
 use bdb_overflow::{Pieces, pieces_at};
 use std::marker::Model;
 

@@ -8,8 +8,8 @@ use Rattle.std.specs.List.{Contains, find, fold, list_any, range_with_len}
 use Rattle.std.proofs.lemmas.Bool.{eqb-true, eq-eqb}
 use Rattle.std.proofs.lemmas.Bool.Decides.{nat_tests}
 use Rattle.std.proofs.lemmas.List.{take_more}
-use Rattle.bdb_format.proofs.ListLemmas.{any_member, passes_here}
-use Rattle.bdb_format.proofs.MemberLemmas.{in_range, member_cases, no_member, none_pass, none_passes, of_range, first_member, later_member}
+use Rattle.bdb_io.proofs.of_format.ListLemmas.{any_member, passes_here}
+use Rattle.bdb_io.proofs.of_format.MemberLemmas.{in_range, member_cases, no_member, none_pass, none_passes, of_range, first_member, later_member}
 use Rattle.bdb_swap.specs.Crossing.{AreEnds, AreRanges, crosses, crosses_at, end_at, greatest_below, some_share}
 use Rattle.bdb_turned.specs.Overlaps.{share_bytes}
 

@@ -5,27 +5,27 @@ use Rattle.std.specs.Option.{option_map, unwrap_or}
 use Rattle.std.specs.List.{Contains, find, list_any, range_with_len}
 use Rattle.std.proofs.lemmas.Bool.{eqb-false, eqb-true}
 use Rattle.std.proofs.lemmas.List.{get_or-set_other, get_or-set_same, length-set}
-use Rattle.bdb_format.proofs.ListLemmas.{range_zero_more}
-use Rattle.bdb_format.proofs.MemberLemmas.{of_range}
-use Rattle.bdb_format.proofs.PageLemmas.{index_offset, length_items}
-use Rattle.bdb_format.specs.References.{no_item}
-use Rattle.bdb_format.specs.declared.kinds.Order.{Order}
-use Rattle.bdb_format.specs.Numbers.{two_at}
-use Rattle.bdb_format.specs.Page.{InternalItem, Item}
-use Rattle.bdb_format.specs.Rows.{internal_rows, leaf_rows, recno_rows}
-use Rattle.bdb_format.specs.Table.{first_row}
-use Rattle.bdb_format.specs.Reading.{entries_of, internal_item_at, leaf_item_at, listed, offset_of, recno_item_at}
+use Rattle.bdb_io.proofs.of_format.ListLemmas.{range_zero_more}
+use Rattle.bdb_io.proofs.of_format.MemberLemmas.{of_range}
+use Rattle.bdb_io.proofs.of_format.PageLemmas.{index_offset, length_items}
+use Rattle.bdb_io.specs.of_format.References.{no_item}
+use Rattle.bdb_io.specs.of_format.declared.kinds.Order.{Order}
+use Rattle.bdb_io.specs.of_format.Numbers.{two_at}
+use Rattle.bdb_io.specs.of_format.Page.{InternalItem, Item}
+use Rattle.bdb_io.specs.of_format.Rows.{internal_rows, leaf_rows, recno_rows}
+use Rattle.bdb_io.specs.of_format.Table.{first_row}
+use Rattle.bdb_io.specs.of_format.Reading.{entries_of, internal_item_at, leaf_item_at, listed, offset_of, recno_item_at}
 use Rattle.bdb_swap.specs.Crossing.{AreEnds, AreRanges, end_at, some_share}
 use Rattle.bdb_turned.specs.Overlaps.{internal_item_end, leaf_item_end, listed_overlap, share_bytes}
 use Rattle.bdb_turned.specs.Parts.{internal_high, leaf_high, recno_high}
-use Rattle.bdb_format.specs.declared.pages.RecnoItem.{RecnoItem}
-use Rattle.bdb_layout.proofs.RowLemmas.{recno_fits}
+use Rattle.bdb_io.specs.of_format.declared.pages.RecnoItem.{RecnoItem}
+use Rattle.bdb_image.proofs.of_layout.RowLemmas.{recno_fits}
 use Rattle.bdb_turned.specs.Fields.{no_internal, no_recno}
 use Rattle.bdb_turned.proofs.InnerLemmas.{IsInline as KeyInline, IsChain as KeyChain, internal_ends, key_case, same_item as inner_same}
 use Rattle.bdb_swap.proofs.CrossLemmas.{found_in}
 use Rattle.bdb_turned.proofs.ListedLemmas.{any_same, item_in}
 use Rattle.bdb_turned.proofs.LeafLemmas.{IsInline, IsTree, IsChain, kind_case, leaf_ends}
-use Rattle.bdb_format.proofs.LeafLemmas.{one_offset}
+use Rattle.bdb_io.proofs.of_format.LeafLemmas.{one_offset}
 
 abbrev otherwise : Option ℕ → Option ℕ → Option ℕ
 otherwise None other = other

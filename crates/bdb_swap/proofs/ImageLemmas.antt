@@ -5,16 +5,16 @@ use Rattle.std.specs.Prelude.{Bool, true, false, Some, None}
 use Rattle.std.specs.List.{find, flat_map, range_with_len}
 use Rattle.std.proofs.lemmas.Bool.{cases_lt}
 use Rattle.std.proofs.lemmas.List.Concat.{flat_map-append}
-use Rattle.bdb_format.proofs.ListLemmas.{range_zero_more}
-use Rattle.bdb_format.proofs.FileLemmas.{page_is, last_page}
-use Rattle.bdb_format.proofs.SizeLemmas.{size_bounds}
-use Rattle.bdb_format.proofs.VerdictLemmas.{none_within, or_else_none}
-use Rattle.bdb_format.specs.declared.kinds.Order.{Order}
-use Rattle.bdb_format.specs.declared.metadata.Head.{Head}
-use Rattle.bdb_format.specs.File.{file_of, page_at, page_bytes}
-use Rattle.bdb_format.specs.HeadOf.{head_of}
-use Rattle.bdb_format.specs.Reading.{abstract_page, is_zero}
-use Rattle.bdb_format.specs.Verdict.{file_faults, head_faults, tail_faults}
+use Rattle.bdb_io.proofs.of_format.ListLemmas.{range_zero_more}
+use Rattle.bdb_io.proofs.of_format.FileLemmas.{page_is, last_page}
+use Rattle.bdb_io.proofs.of_format.SizeLemmas.{size_bounds}
+use Rattle.bdb_io.proofs.of_format.VerdictLemmas.{none_within, or_else_none}
+use Rattle.bdb_io.specs.of_format.declared.kinds.Order.{Order}
+use Rattle.bdb_io.specs.of_format.declared.metadata.Head.{Head}
+use Rattle.bdb_io.specs.of_format.File.{file_of, page_at, page_bytes}
+use Rattle.bdb_io.specs.of_format.HeadOf.{head_of}
+use Rattle.bdb_io.specs.of_format.Reading.{abstract_page, is_zero}
+use Rattle.bdb_io.specs.of_format.Verdict.{file_faults, head_faults, tail_faults}
 use Rattle.bdb_image.proofs.FirstLemmas.{formed_accepted, formed_page}
 use Rattle.bdb_image.proofs.FormedLemmas.{accepted_paged}
 use Rattle.bdb_image.specs.Formed.{IsAccepted}
@@ -25,7 +25,7 @@ use Rattle.bdb_turned.specs.Turning.{turned_page}
 use Rattle.bdb_turned.proofs.FlipLemmas.{zero_above}
 use Rattle.bdb_swap.specs.Formed.{HasForm}
 use Rattle.bdb_swap.specs.Turns.{pages_turned}
-use Rattle.bdb_format.proofs.GraphLemmas.{zero_page}
+use Rattle.bdb_io.proofs.of_format.GraphLemmas.{zero_page}
 
 -- The image of a linked file has form.
 

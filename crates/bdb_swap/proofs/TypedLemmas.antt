@@ -1,14 +1,14 @@
 -- A page by its type.
 use Rattle.std.proofs.Common.{◌≡◌, ◌∙◌, ℕ, List, length, sym, ap, subst}
 use Rattle.std.specs.Prelude.{None, Bool, false, true, []}
-use Rattle.bdb_format.specs.declared.kinds.Order.{Order}
-use Rattle.bdb_format.specs.Numbers.{byte_at}
-use Rattle.bdb_format.specs.Page.{Item, PageType, OtherPage}
-use Rattle.bdb_format.specs.declared.pages.RecnoItem.{RecnoItem}
-use Rattle.bdb_format.specs.References.{no_item}
-use Rattle.bdb_format.specs.Reading.{abstract_page, entries_of, hash_item_at, internal_item_at, is_zero, leaf_item_at, listed, page_as, page_type}
-use Rattle.bdb_format.specs.Reading.{recno_item_at}
-use Rattle.bdb_format.specs.Rows.{form_code}
+use Rattle.bdb_io.specs.of_format.declared.kinds.Order.{Order}
+use Rattle.bdb_io.specs.of_format.Numbers.{byte_at}
+use Rattle.bdb_io.specs.of_format.Page.{Item, PageType, OtherPage}
+use Rattle.bdb_io.specs.of_format.declared.pages.RecnoItem.{RecnoItem}
+use Rattle.bdb_io.specs.of_format.References.{no_item}
+use Rattle.bdb_io.specs.of_format.Reading.{abstract_page, entries_of, hash_item_at, internal_item_at, is_zero, leaf_item_at, listed, page_as, page_type}
+use Rattle.bdb_io.specs.of_format.Reading.{recno_item_at}
+use Rattle.bdb_io.specs.of_format.Rows.{form_code}
 use Rattle.bdb_turned.specs.Fields.{Field, fields_of, hash_fields, internal_fields, leaf_fields, listed_fields, no_internal, no_recno, recno_fields}
 use Rattle.bdb_turned.specs.Parts.{all_fields, hash_part, internal_part, leaf_part, recno_part}
 use Rattle.bdb_turned.proofs.ListedLemmas.{listed_fields_are}
@@ -16,8 +16,8 @@ use Rattle.bdb_turned.specs.Overlaps.{overlaps}
 use Rattle.bdb_swap.specs.Turns.{Turns}
 pub use Rattle.bdb_turned.proofs.TypedLemmas.{has_room, has_rows}
 use Rattle.bdb_turned.proofs.PageLemmas.{AreNumbersOf, no_fields_turn, numbers_by_type}
-use Rattle.bdb_format.specs.declared.metadata.Head.{Head}
-use Rattle.bdb_format.specs.HeadOf.{is_page_size}
+use Rattle.bdb_io.specs.of_format.declared.metadata.Head.{Head}
+use Rattle.bdb_io.specs.of_format.HeadOf.{is_page_size}
 use Rattle.bdb_turned.specs.Turning.{turned_page}
 use Rattle.bdb_swap.proofs.WriteLemmas.{turns_none}
 

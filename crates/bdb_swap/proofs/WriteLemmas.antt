@@ -6,15 +6,15 @@ use Rattle.std.specs.List.{Contains}
 use Rattle.std.proofs.lemmas.List.{ext_get_or, get_or-drop, get_or-reverse, get_or-take, get_or_append_left, get_or-append_right, length-reverse}
 use Rattle.std.proofs.lemmas.List.{length-take-le}
 use Rattle.std.proofs.lemmas.List.Elements.{Contains-append_left, Contains-append_right, Contains-append_cases}
-use Rattle.bdb_format.proofs.MemberLemmas.{first_member, member_cases, no_member}
-use Rattle.bdb_format.proofs.TurnLemmas.{length-slice_range}
-use Rattle.bdb_format.specs.Numbers.{byte_at, overwritten}
+use Rattle.bdb_io.proofs.of_format.MemberLemmas.{first_member, member_cases, no_member}
+use Rattle.bdb_io.proofs.of_format.TurnLemmas.{length-slice_range}
+use Rattle.bdb_io.specs.of_format.Numbers.{byte_at, overwritten}
 use Rattle.bdb_turned.specs.Fields.{Field, block_fields, field}
 use Rattle.bdb_turned.specs.Apart.{run_length, AreApart, LieWithin}
 use Rattle.bdb_turned.specs.Turning.{mirror, turned_round}
 use Rattle.bdb_swap.specs.Turns.{Turns}
 use Rattle.bdb_turned.proofs.PlaceLemmas.{get_or-turned_round, inside_or_not, length-turned_round, mirror-inside, mirror-outside}
-use Rattle.bdb_format.proofs.SpellingLemmas.{length-overwritten}
+use Rattle.bdb_io.proofs.of_format.SpellingLemmas.{length-overwritten}
 
 some_last : (done : List Field) (f : Field) → Contains (done ++ f ∷ []) f
 some_last done f = Contains-append_right done (f ∷ []) f (first_member f [])

@@ -1,9 +1,9 @@
 -- An image whose pages can be turned round.
 use Rattle.std.specs.Prelude.{◌≡◌, ◌<◌, ℕ, List, None, false, true}
-use Rattle.bdb_format.specs.declared.metadata.Head.{Head}
-use Rattle.bdb_format.specs.File.{page_bytes}
-use Rattle.bdb_format.specs.Reading.{is_zero}
-use Rattle.bdb_format.specs.Rows.{form_code}
+use Rattle.bdb_io.specs.of_format.declared.metadata.Head.{Head}
+use Rattle.bdb_io.specs.of_format.File.{page_bytes}
+use Rattle.bdb_io.specs.of_format.Reading.{is_zero}
+use Rattle.bdb_io.specs.of_format.Rows.{form_code}
 use Rattle.bdb_image.specs.Formed.{IsAccepted}
 
 -- page 0 is accepted, no row of form holds for a page that isn't zero, and those above the last page are zero

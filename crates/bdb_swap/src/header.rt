@@ -1,11 +1,11 @@
 ghost use Rattle.std.specs.Prelude.{◌≡◌, ◌≤◌, length};
-ghost use Rattle.bdb_format.specs.Reading.{entries_of, index_end};
+ghost use Rattle.bdb_io.specs.of_format.Reading.{entries_of, index_end};
 ghost use Rattle.bdb_turned.specs.Fields.{header_fields, index_fields};
 ghost use Rattle.bdb_swap.specs.Turns.{Turns};
 
 use crate::number::{turn_four, turn_two};
-use bdb_format::Order;
-use bdb_layout::u16_at;
+use bdb_image::bdb_layout::u16_at;
+use bdb_io::bdb_format::Order;
 
 /// Turns the numbers of a page's header round.
 pub(crate) fn turn_header(page: &mut [u8], source: &[u8])

@@ -1,8 +1,8 @@
 ghost use Rattle.std.specs.Prelude.{◌≡◌, ◌<◌, ◌++◌, IfOk, OnOk, None, false, true, length};
-ghost use Rattle.bdb_format.specs.File.{page_bytes};
-ghost use Rattle.bdb_format.specs.HeadOf.{is_page_size};
-ghost use Rattle.bdb_format.specs.Reading.{abstract_page, is_zero};
-ghost use Rattle.bdb_format.specs.Rows.{form_code};
+ghost use Rattle.bdb_io.specs.of_format.File.{page_bytes};
+ghost use Rattle.bdb_io.specs.of_format.HeadOf.{is_page_size};
+ghost use Rattle.bdb_io.specs.of_format.Reading.{abstract_page, is_zero};
+ghost use Rattle.bdb_io.specs.of_format.Rows.{form_code};
 ghost use Rattle.bdb_image.specs.Formed.{IsAccepted};
 ghost use Rattle.bdb_turned.specs.Overlaps.{overlaps};
 ghost use Rattle.bdb_turned.specs.Turning.{turned_page};
@@ -12,7 +12,7 @@ ghost use Rattle.bdb_swap.specs.Formed.{HasForm};
 use crate::flipping::FlipError;
 use crate::overlap::page_overlaps;
 use crate::page::turn_page;
-use bdb_format::{Bytes, Head};
+use bdb_io::bdb_format::{Bytes, Head};
 use std::alloc::{AllocError, Global};
 
 /// The bytes of a page of an image whose page 0 is accepted.

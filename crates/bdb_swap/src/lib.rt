@@ -16,4 +16,7 @@ mod page;
 mod ranged;
 mod recno;
 
+pub use bdb_io;
+pub use bdb_io::bdb_format;
+pub use bdb_turned::bdb_graph;
 pub use flipping::{FlipError, flip};

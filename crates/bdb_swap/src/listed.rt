@@ -1,17 +1,17 @@
 ghost use Rattle.std.specs.Prelude.{◌≡◌, ◌<◌, ◌≤◌, None, ℕ, List, length};
 ghost use Rattle.std.specs.List.{flat_map, range_with_len};
-ghost use Rattle.bdb_format.specs.declared.kinds.Order.{Order as AnyOrder};
-ghost use Rattle.bdb_format.specs.Page.{PageType};
-ghost use Rattle.bdb_format.specs.Reading.{entries_of, index_end};
-ghost use Rattle.bdb_format.specs.Rows.{item_rows};
-ghost use Rattle.bdb_format.specs.Table.{first_row};
+ghost use Rattle.bdb_io.specs.of_format.declared.kinds.Order.{Order as AnyOrder};
+ghost use Rattle.bdb_io.specs.of_format.Page.{PageType};
+ghost use Rattle.bdb_io.specs.of_format.Reading.{entries_of, index_end};
+ghost use Rattle.bdb_io.specs.of_format.Rows.{item_rows};
+ghost use Rattle.bdb_io.specs.of_format.Table.{first_row};
 ghost use Rattle.bdb_turned.specs.Fields.{Field};
 ghost use Rattle.bdb_turned.specs.Parts.{all_fields};
 ghost use Rattle.bdb_swap.specs.Turns.{Turns};
 
 use crate::header::{turn_header, turn_index};
-use bdb_format::Order;
-use bdb_layout::u16_at;
+use bdb_image::bdb_layout::u16_at;
+use bdb_io::bdb_format::Order;
 
 /// The items of a type of pages with an index: the numbers of each, by its place in the index.
 pub(crate) trait Items {

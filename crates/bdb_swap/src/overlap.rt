@@ -1,16 +1,16 @@
 ghost use Rattle.std.specs.Prelude.{◌≡◌, ◌<◌, ◌≤◌, None, false, true, length};
-ghost use Rattle.bdb_format.specs.HeadOf.{is_page_size};
-ghost use Rattle.bdb_format.specs.Numbers.{byte_at};
-ghost use Rattle.bdb_format.specs.Reading.{abstract_page, is_zero, page_as, page_type};
-ghost use Rattle.bdb_format.specs.Rows.{body_code, form_code};
+ghost use Rattle.bdb_io.specs.of_format.HeadOf.{is_page_size};
+ghost use Rattle.bdb_io.specs.of_format.Numbers.{byte_at};
+ghost use Rattle.bdb_io.specs.of_format.Reading.{abstract_page, is_zero, page_as, page_type};
+ghost use Rattle.bdb_io.specs.of_format.Rows.{body_code, form_code};
 ghost use Rattle.bdb_turned.specs.Overlaps.{overlaps};
 
 use crate::internal::InternalItems;
 use crate::leaf::LeafItems;
 use crate::ranged::items_overlap;
 use crate::recno::RecnoItems;
-use bdb_form::is_zero;
-use bdb_format::{Head, Order};
+use bdb_image::bdb_form::is_zero;
+use bdb_io::bdb_format::{Head, Order};
 
 /// Whether some two items of a page that isn't zero share a byte, by its type. Those of a hash page can't.
 fn typed_overlaps(ends: &mut [u16], page: &[u8], order: Order) -> bool

@@ -1,8 +1,8 @@
 ghost use Rattle.std.specs.Prelude.{◌≡◌, ◌≤◌, None, false, true, length};
-ghost use Rattle.bdb_format.specs.HeadOf.{is_page_size};
-ghost use Rattle.bdb_format.specs.Numbers.{byte_at};
-ghost use Rattle.bdb_format.specs.Reading.{abstract_page, is_zero, page_as, page_type};
-ghost use Rattle.bdb_format.specs.Rows.{body_code, form_code};
+ghost use Rattle.bdb_io.specs.of_format.HeadOf.{is_page_size};
+ghost use Rattle.bdb_io.specs.of_format.Numbers.{byte_at};
+ghost use Rattle.bdb_io.specs.of_format.Reading.{abstract_page, is_zero, page_as, page_type};
+ghost use Rattle.bdb_io.specs.of_format.Rows.{body_code, form_code};
 ghost use Rattle.bdb_turned.specs.Fields.{fields_of};
 ghost use Rattle.bdb_turned.specs.Overlaps.{overlaps};
 ghost use Rattle.bdb_turned.specs.Turning.{turned_page};
@@ -16,8 +16,8 @@ use crate::listed::turn_listed;
 use crate::metadata::{turn_btree_meta, turn_hash_meta, turn_queue_meta};
 use crate::number::turn_fours;
 use crate::recno::RecnoItems;
-use bdb_form::is_zero;
-use bdb_format::{Head, Order};
+use bdb_image::bdb_form::is_zero;
+use bdb_io::bdb_format::{Head, Order};
 
 /// Turns a page round that isn't zero, by its type.
 fn turn_typed(page: &mut [u8], source: &[u8], order: Order)

@@ -1,14 +1,14 @@
 ghost use Rattle.std.specs.Prelude.{◌≡◌, ◌<◌, ◌≤◌, ◌==◌, ℕ, List, None, get_or, length, set};
-ghost use Rattle.bdb_format.specs.declared.kinds.Order.{Order as AnyOrder};
-ghost use Rattle.bdb_format.specs.Reading.{entries_of, index_end, offset_of};
-ghost use Rattle.bdb_format.specs.Rows.{item_rows};
-ghost use Rattle.bdb_format.specs.Table.{first_row};
+ghost use Rattle.bdb_io.specs.of_format.declared.kinds.Order.{Order as AnyOrder};
+ghost use Rattle.bdb_io.specs.of_format.Reading.{entries_of, index_end, offset_of};
+ghost use Rattle.bdb_io.specs.of_format.Rows.{item_rows};
+ghost use Rattle.bdb_io.specs.of_format.Table.{first_row};
 ghost use Rattle.bdb_swap.specs.Crossing.{AreEnds, AreNoted, AreRanges, some_share};
 
 use crate::crossing::{Noted, crosses};
 use crate::listed::Items;
-use bdb_format::Order;
-use bdb_layout::{offset_at, u16_at};
+use bdb_image::bdb_layout::{offset_at, u16_at};
+use bdb_io::bdb_format::Order;
 
 /// Items each of which is a range of bytes, from its offset up to its end.
 pub(crate) trait Ranged: Items {

@@ -1,5 +1,5 @@
 ghost use Rattle.std.specs.Prelude.{◌≡◌, ◌+◌, ◌≤◌, length};
-ghost use Rattle.bdb_format.specs.Page.{RecnoInternalPage};
+ghost use Rattle.bdb_io.specs.of_format.Page.{RecnoInternalPage};
 ghost use Rattle.bdb_turned.specs.Fields.{recno_fields};
 ghost use Rattle.bdb_turned.specs.Parts.{recno_high, recno_part};
 ghost use Rattle.bdb_swap.specs.Turns.{Turns};
@@ -7,8 +7,8 @@ ghost use Rattle.bdb_swap.specs.Turns.{Turns};
 use crate::listed::Items;
 use crate::number::turn_four;
 use crate::ranged::Ranged;
-use bdb_format::Order;
-use bdb_layout::offset_at;
+use bdb_image::bdb_layout::offset_at;
+use bdb_io::bdb_format::Order;
 
 /// The items of internal pages of a recno tree.
 pub(crate) struct RecnoItems;

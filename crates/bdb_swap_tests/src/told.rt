@@ -2,8 +2,8 @@
 
 ghost use Rattle.std.specs.Prelude.{◌≡◌, ◌≤◌, ◌^◌, length};
 
-use bdb_format::{Order, Steps};
-use bdb_graph::{link, open_image};
+use bdb_swap::bdb_format::{Order, Steps};
+use bdb_swap::bdb_graph::{link, open_image};
 use bdb_swap::{FlipError, flip};
 use std::alloc::Global;
 use std::marker::Brand;

@@ -6,9 +6,9 @@ use Rattle.std.proofs.lemmas.List.Elements.{All-head, All-tail}
 use Rattle.std.specs.List.{All, flat_map}
 use Rattle.hex.specs.Hex.{hex_digit_value}
 use Rattle.hex.proofs.HexLemmas.{IsDigits-lower_digits}
-use Rattle.bdb_text_format.specs.TextSpelling.{before, byte_before, byte_of_digits, bytes_spelled, digit_value, hex_digit, next_unit, printed, printed_unit}
-use Rattle.bdb_text_format.specs.TextSpelling.{spelling, two_digits}
-use Rattle.bdb_text_format.proofs.UnitLemmas.{read_empty, read_unit}
+use Rattle.bdb_spelling.specs.of_text_format.TextSpelling.{before, byte_before, byte_of_digits, bytes_spelled, digit_value, hex_digit, next_unit, printed, printed_unit}
+use Rattle.bdb_spelling.specs.of_text_format.TextSpelling.{spelling, two_digits}
+use Rattle.bdb_spelling.proofs.of_text_format.UnitLemmas.{read_empty, read_unit}
 use Rattle.bdb_text.specs.Laws.{SpelledIsRead}
 use Rattle.bdb_spelling.proofs.SpellingLemmas.{lower_digit}
 use Rattle.bdb_spelling.proofs.ReadingLemmas.{digit_value-hex, escaped_digits}

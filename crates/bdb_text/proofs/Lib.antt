@@ -16,3 +16,4 @@ pub mod HeaderReadLemmas
 pub mod PairLemmas
 pub mod SectionLemmas
 pub mod EarlierLemmas
+pub use Rattle.bdb_spelling.proofs as of_spelling

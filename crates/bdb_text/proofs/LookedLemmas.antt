@@ -4,21 +4,21 @@ use Rattle.std.proofs.Common.{sym, ap, ◌∙◌, codes, arith}
 use Rattle.std.specs.Prelude.{decimal, unwrap_or, nat_le}
 use Rattle.std.specs.List.{list_any}
 use Rattle.std.proofs.lemmas.Bool.{true≢false, eqb-true, and_parts, leb-true, leb-false, ne_eqb}
-use Rattle.bdb_format.specs.declared.kinds.Kind.{Kind}
-use Rattle.bdb_format.specs.declared.kinds.Kind.TheVariants.{Btree, Recno, Hash, Queue}
-use Rattle.bdb_format.specs.declared.kinds.Order.{Order}
-use Rattle.bdb_format.specs.declared.kinds.Order.TheVariants.{Big, Little}
-use Rattle.bdb_format.specs.declared.settings.Settings.{Settings}
-use Rattle.bdb_format.specs.Lists.{ListKey}
-use Rattle.bdb_format.specs.Table.{Row}
-use Rattle.bdb_text_format.specs.TextSpelling.{spelling}
+use Rattle.bdb_spelling.specs.of_format.declared.kinds.Kind.{Kind}
+use Rattle.bdb_spelling.specs.of_format.declared.kinds.Kind.TheVariants.{Btree, Recno, Hash, Queue}
+use Rattle.bdb_spelling.specs.of_format.declared.kinds.Order.{Order}
+use Rattle.bdb_spelling.specs.of_format.declared.kinds.Order.TheVariants.{Big, Little}
+use Rattle.bdb_spelling.specs.of_format.declared.settings.Settings.{Settings}
+use Rattle.bdb_spelling.specs.of_format.Lists.{ListKey}
+use Rattle.bdb_spelling.specs.of_format.Table.{Row}
+use Rattle.bdb_spelling.specs.of_text_format.TextSpelling.{spelling}
 use Rattle.bdb_text.proofs.LawLemmas.{spelled_read}
-use Rattle.bdb_text_format.specs.declared.keywords.Judged.TheVariants.{Fits, Bad}
-use Rattle.bdb_text_format.specs.Keywords.{any_number, legal_size, or_zero}
-use Rattle.bdb_text_format.specs.Header.{Values, conflicts, has_keys, has_record_type, is_value, name_in, number_or, order_in, prints, settings_in}
-use Rattle.bdb_text_format.specs.Reasons.{keyword_named}
-use Rattle.bdb_text_format.specs.Sections.{fits, keyword_fits}
-use Rattle.bdb_text_format.specs.Written.{Entry, entry_line, format_text, header_lines, header_table, holds_records, kind_text, order_text, ◌=:◌}
+use Rattle.bdb_spelling.specs.of_text_format.declared.keywords.Judged.TheVariants.{Fits, Bad}
+use Rattle.bdb_spelling.specs.of_text_format.Keywords.{any_number, legal_size, or_zero}
+use Rattle.bdb_spelling.specs.of_text_format.Header.{Values, conflicts, has_keys, has_record_type, is_value, name_in, number_or, order_in, prints, settings_in}
+use Rattle.bdb_spelling.specs.of_text_format.Reasons.{keyword_named}
+use Rattle.bdb_spelling.specs.of_text_format.Sections.{fits, keyword_fits}
+use Rattle.bdb_spelling.specs.of_text_format.Written.{Entry, entry_line, format_text, header_lines, header_table, holds_records, kind_text, order_text, ◌=:◌}
 use Rattle.bdb_text.specs.WrittenLaw.{AreBytes, CanBeWritten, in_conflict}
 use Rattle.bdb_text.proofs.LineLemmas.{has_feed, looked_up, table_fits}
 use Rattle.bdb_text.proofs.ValueLemmas.{decimal-no_feed, number_read-decimal, spelling-no_feed}

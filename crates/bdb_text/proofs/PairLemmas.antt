@@ -3,16 +3,16 @@ use Rattle.std.proofs.Common.{if◌then◌else◌, ◌≡◌, ◌≢◌, ℕ, �
 use Rattle.std.proofs.Common.{refl, sym, ap, ◌∙◌, arith, append_assoc, length-append}
 use Rattle.std.proofs.lemmas.Bool.{and_from, eqb-false, ne_eqb}
 use Rattle.std.proofs.lemmas.List.{append-nil}
-use Rattle.bdb_text_format.specs.declared.pairs.Key.{Key}
-use Rattle.bdb_text_format.specs.declared.pairs.Key.TheVariants.{Number}
-use Rattle.bdb_text_format.specs.declared.pairs.TextPair.{TextPair}
+use Rattle.bdb_spelling.specs.of_text_format.declared.pairs.Key.{Key}
+use Rattle.bdb_spelling.specs.of_text_format.declared.pairs.Key.TheVariants.{Number}
+use Rattle.bdb_spelling.specs.of_text_format.declared.pairs.TextPair.{TextPair}
 use Rattle.std.specs.Str.{bytes_eq}
 use Rattle.std.proofs.lemmas.Slice.Eq.{bytes_eq-Decides}
-use Rattle.bdb_text_format.specs.Written.{data_end}
-use Rattle.bdb_text_format.specs.TextLines.{is_data_end, text_lines}
-use Rattle.bdb_text_format.specs.Header.{Values, has_keys, has_record_type, prints}
-use Rattle.bdb_text_format.specs.Reasons.{data_line_reason, has_odd_length, is_key}
-use Rattle.bdb_text_format.specs.Sections.{counted_pairs, data_read, key_read, keyed_pairs, pairs_read, with_text_pair}
+use Rattle.bdb_spelling.specs.of_text_format.Written.{data_end}
+use Rattle.bdb_spelling.specs.of_text_format.TextLines.{is_data_end, text_lines}
+use Rattle.bdb_spelling.specs.of_text_format.Header.{Values, has_keys, has_record_type, prints}
+use Rattle.bdb_spelling.specs.of_text_format.Reasons.{data_line_reason, has_odd_length, is_key}
+use Rattle.bdb_spelling.specs.of_text_format.Sections.{counted_pairs, data_read, key_read, keyed_pairs, pairs_read, with_text_pair}
 use Rattle.bdb_text.specs.declared.data_lines.LineError.{LineError}
 use Rattle.bdb_text.specs.declared.data_lines.LineError.TheVariants.{Memory, Reason}
 use Rattle.bdb_text.specs.declared.data_pairs.Data.{Data}
@@ -24,7 +24,7 @@ use Rattle.bdb_text.specs.DataTo.{IsCountedTo, IsDataFault, IsDataRead, IsDataTo
 use Rattle.std.proofs.Math.Bool.{and-true, and_assoc}
 use Rattle.bdb_text.proofs.PartLemmas.{list_any-append_one}
 use Rattle.bdb_text.proofs.DataLemmas.{even_more, none-key, none-value, odd_more}
-use Rattle.bdb_text_format.specs.declared.faults.TextReason.TheVariants.{NoEnd}
+use Rattle.bdb_spelling.specs.of_text_format.declared.faults.TextReason.TheVariants.{NoEnd}
 
 -- A line more.
 

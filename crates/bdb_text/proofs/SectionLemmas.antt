@@ -4,16 +4,16 @@ use Rattle.std.proofs.Common.{sym, ap, ◌∙◌, arith, append_assoc, length-ap
 use Rattle.std.proofs.lemmas.Bool.{and_from, and_parts, false_from_ne_true, or_parts}
 use Rattle.std.proofs.lemmas.List.{append-nil, map-append}
 use Rattle.std.proofs.lemmas.Slice.Eq.{bytes_eq-Decides}
-use Rattle.bdb_text_format.specs.declared.faults.TextFault.{TextFault}
-use Rattle.bdb_text_format.specs.declared.pairs.TextPair.{TextPair}
-use Rattle.bdb_text_format.specs.declared.sections.Section.{Section}
-use Rattle.bdb_text_format.specs.Written.{Entry, data_end, header_end, version_line}
-use Rattle.bdb_text_format.specs.TextLines.{is_data_end, is_header_end, onto_first, text_lines}
-use Rattle.bdb_text_format.specs.Header.{Values, entries, entry_of, given, name_in, settings_in, values}
-use Rattle.bdb_text_format.specs.Reasons.{Parts, data_end_reason, data_line_reason, entry_reason, fault_from, fault_in, first_line_reason, header_end_reason}
-use Rattle.bdb_text_format.specs.Reasons.{name_of, name_of_parts, reason_of, text_fault}
-use Rattle.bdb_text_format.specs.Sections.{Reads, entry_fits, header_fits, lines_fit, pairs_read, parts_read, section_read, sections_from, sections_in}
-use Rattle.bdb_text_format.specs.Sections.{text_sections, with_section}
+use Rattle.bdb_spelling.specs.of_text_format.declared.faults.TextFault.{TextFault}
+use Rattle.bdb_spelling.specs.of_text_format.declared.pairs.TextPair.{TextPair}
+use Rattle.bdb_spelling.specs.of_text_format.declared.sections.Section.{Section}
+use Rattle.bdb_spelling.specs.of_text_format.Written.{Entry, data_end, header_end, version_line}
+use Rattle.bdb_spelling.specs.of_text_format.TextLines.{is_data_end, is_header_end, onto_first, text_lines}
+use Rattle.bdb_spelling.specs.of_text_format.Header.{Values, entries, entry_of, given, name_in, settings_in, values}
+use Rattle.bdb_spelling.specs.of_text_format.Reasons.{Parts, data_end_reason, data_line_reason, entry_reason, fault_from, fault_in, first_line_reason, header_end_reason}
+use Rattle.bdb_spelling.specs.of_text_format.Reasons.{name_of, name_of_parts, reason_of, text_fault}
+use Rattle.bdb_spelling.specs.of_text_format.Sections.{Reads, entry_fits, header_fits, lines_fit, pairs_read, parts_read, section_read, sections_from, sections_in}
+use Rattle.bdb_spelling.specs.of_text_format.Sections.{text_sections, with_section}
 use Rattle.bdb_text.specs.declared.data_pairs.Data.{Data}
 use Rattle.bdb_text.specs.declared.dump.Read.{Read}
 use Rattle.bdb_text.specs.declared.fields.Field.{Field}
@@ -29,8 +29,8 @@ use Rattle.bdb_text.proofs.LineLemmas.{sections_from-section}
 use Rattle.bdb_text.proofs.TableLemmas.{list_any-append}
 use Rattle.bdb_text.proofs.ReasonLemmas.{none-entry_reason, none-first_line_reason, none-header_end_reason}
 use Rattle.bdb_text.proofs.ReadLemmas.{clean-data, reason-open, section_iff}
-use Rattle.bdb_text_format.specs.declared.faults.TextReason.{TextReason}
-use Rattle.bdb_text_format.specs.declared.faults.TextReason.TheVariants.{NoVersion, NoEnd}
+use Rattle.bdb_spelling.specs.of_text_format.declared.faults.TextReason.{TextReason}
+use Rattle.bdb_spelling.specs.of_text_format.declared.faults.TextReason.TheVariants.{NoVersion, NoEnd}
 
 -- Lines without a reason.
 

@@ -8,19 +8,19 @@ use Rattle.std.proofs.lemmas.List.Elements.{All-cons, All-head, All-nil, All-tai
 use Rattle.std.proofs.lemmas.Grind.{flat_map-append}
 use Rattle.std.proofs.lemmas.Slice.Eq.{bytes_eq-Decides}
 use Rattle.std.specs.Str.{bytes_eq}
-use Rattle.bdb_format.specs.Databases.{is_name, Database}
-use Rattle.bdb_text_format.specs.LineEnd.{line}
+use Rattle.bdb_spelling.specs.of_format.Databases.{is_name, Database}
+use Rattle.bdb_spelling.specs.of_text_format.LineEnd.{line}
 use Rattle.std.proofs.lemmas.List.Folds.{list_any-append}
 use Rattle.std.specs.List.{list_any, flat_map}
-use Rattle.bdb_format.specs.declared.settings.Settings.{Settings}
-use Rattle.bdb_format.specs.Lists.{ListKey}
-use Rattle.bdb_text_format.specs.TextLines.{is_data_end, is_header_end, text_lines}
-use Rattle.bdb_text_format.specs.Header.{Values, conflicts, given, has_keys, has_record_type, name_in, prints, settings_in, values}
-use Rattle.bdb_text_format.specs.Reasons.{Parts, name_missing, name_of, name_of_parts}
-use Rattle.bdb_text_format.specs.Sections.{Reads, counted_pairs, header_fits, keyed_pairs, pairs_read, parts_read, section_read, sections_in, text_sections}
-use Rattle.bdb_text_format.specs.Sections.{with_pairs, with_section, sections_from}
-use Rattle.bdb_text_format.specs.Written.{data_end, data_line, entry_line, header_end, header_lines, header_table, holds_records, key_bytes, pair_lines}
-use Rattle.bdb_text_format.specs.Written.{section_lines, section_text, version_line, written, dump_text}
+use Rattle.bdb_spelling.specs.of_format.declared.settings.Settings.{Settings}
+use Rattle.bdb_spelling.specs.of_format.Lists.{ListKey}
+use Rattle.bdb_spelling.specs.of_text_format.TextLines.{is_data_end, is_header_end, text_lines}
+use Rattle.bdb_spelling.specs.of_text_format.Header.{Values, conflicts, given, has_keys, has_record_type, name_in, prints, settings_in, values}
+use Rattle.bdb_spelling.specs.of_text_format.Reasons.{Parts, name_missing, name_of, name_of_parts}
+use Rattle.bdb_spelling.specs.of_text_format.Sections.{Reads, counted_pairs, header_fits, keyed_pairs, pairs_read, parts_read, section_read, sections_in, text_sections}
+use Rattle.bdb_spelling.specs.of_text_format.Sections.{with_pairs, with_section, sections_from}
+use Rattle.bdb_spelling.specs.of_text_format.Written.{data_end, data_line, entry_line, header_end, header_lines, header_table, holds_records, key_bytes, pair_lines}
+use Rattle.bdb_spelling.specs.of_text_format.Written.{section_lines, section_text, version_line, written, dump_text}
 use Rattle.bdb_text.specs.WrittenLaw.{CanBeWritten, WrittenIsRead, AreNamedApart, AreSectionsOf, CanStandTogether, IsSectionOf, IsWritable, Written}
 use Rattle.bdb_text.specs.WrittenLaw.{WrittenAreRead, written_text, DumpIsRead, written_of}
 use Rattle.bdb_text.proofs.PartLemmas.{has_data_end, parts_of-ended}
@@ -29,8 +29,8 @@ use Rattle.bdb_text.proofs.TableLemmas.{any-written, lines_fit-table}
 use Rattle.bdb_text.proofs.ValueLemmas.{keyed_pairs-lines, pairs_at, pairs_at-list, spelling-no_feed}
 use Rattle.bdb_text.proofs.LookedLemmas.{keys-looked, lines-looked, looked, name-looked, no_conflict, prints-looked, records-looked, table_feeds}
 use Rattle.bdb_text.proofs.LookedLemmas.{table_fits-header}
-use Rattle.bdb_text_format.specs.declared.sections.Section.{Section}
-use Rattle.bdb_text_format.specs.declared.pairs.TextPair.{TextPair}
+use Rattle.bdb_spelling.specs.of_text_format.declared.sections.Section.{Section}
+use Rattle.bdb_spelling.specs.of_text_format.declared.pairs.TextPair.{TextPair}
 use Rattle.std.specs.Prelude.{⊤}
 
 abbrev header : Bool → Option (List ℕ) → Settings → List (List ℕ)

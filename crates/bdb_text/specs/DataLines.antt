@@ -1,12 +1,12 @@
 -- What a data line says, and its reasons.
 use Rattle.std.specs.Prelude.{◌≡◌, ℕ, ◌&&◌, if◌then◌else◌, Bool, true, false, not, List, [], ◌∷◌, Option, Some, None, is_none, ⊤}
-use Rattle.bdb_format.specs.Digits.{digits_value}
-use Rattle.bdb_format.specs.Table.{◌:?◌, first_row}
-use Rattle.bdb_text_format.specs.Reasons.{begins_with_space, is_record_number, spelled_in}
+use Rattle.bdb_spelling.specs.of_format.Digits.{digits_value}
+use Rattle.bdb_spelling.specs.of_format.Table.{◌:?◌, first_row}
+use Rattle.bdb_spelling.specs.of_text_format.Reasons.{begins_with_space, is_record_number, spelled_in}
 use Rattle.bdb_text.specs.declared.data_lines.LineError.{LineError}
 use Rattle.bdb_text.specs.declared.data_lines.LineError.TheVariants.{Memory, Reason}
-use Rattle.bdb_text_format.specs.declared.faults.TextReason.{TextReason}
-use Rattle.bdb_text_format.specs.declared.faults.TextReason.TheVariants.{NoSpace, BadDigit, BadEscape, BadNumber}
+use Rattle.bdb_spelling.specs.of_text_format.declared.faults.TextReason.{TextReason}
+use Rattle.bdb_spelling.specs.of_text_format.declared.faults.TextReason.TheVariants.{NoSpace, BadDigit, BadEscape, BadNumber}
 
 -- the reason of a data line, by how it is spelled and whether it is the number of a record
 abbrev pub line_reason : Bool → Bool → List ℕ → Option TextReason

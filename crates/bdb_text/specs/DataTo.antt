@@ -1,17 +1,17 @@
 -- How far the reader of a section's data lines has come.
 use Rattle.std.specs.Prelude.{◌≡◌, ℕ, ◌+◌, ◌&&◌, if◌then◌else◌, Bool, true, false, List, [], ◌∷◌, ◌++◌, length, Option, Some, is_none}
 use Rattle.std.specs.List.{list_any}
-use Rattle.bdb_text_format.specs.declared.faults.TextFault.{TextFault}
-use Rattle.bdb_text_format.specs.declared.pairs.TextPair.{TextPair}
-use Rattle.bdb_text_format.specs.Written.{data_end}
-use Rattle.bdb_text_format.specs.TextLines.{is_data_end, text_lines}
-use Rattle.bdb_text_format.specs.Header.{Values, has_record_type, prints}
-use Rattle.bdb_text_format.specs.Reasons.{data_end_reason, data_line_reason, has_odd_length}
-use Rattle.bdb_text_format.specs.Sections.{counted_pairs, data_read, keyed_pairs, pairs_read}
+use Rattle.bdb_spelling.specs.of_text_format.declared.faults.TextFault.{TextFault}
+use Rattle.bdb_spelling.specs.of_text_format.declared.pairs.TextPair.{TextPair}
+use Rattle.bdb_spelling.specs.of_text_format.Written.{data_end}
+use Rattle.bdb_spelling.specs.of_text_format.TextLines.{is_data_end, text_lines}
+use Rattle.bdb_spelling.specs.of_text_format.Header.{Values, has_record_type, prints}
+use Rattle.bdb_spelling.specs.of_text_format.Reasons.{data_end_reason, data_line_reason, has_odd_length}
+use Rattle.bdb_spelling.specs.of_text_format.Sections.{counted_pairs, data_read, keyed_pairs, pairs_read}
 use Rattle.bdb_text.specs.DataLines.{line_reason}
 use Rattle.bdb_text.specs.declared.data_pairs.Data.{Data}
-use Rattle.bdb_text_format.specs.declared.faults.TextReason.{TextReason}
-use Rattle.bdb_text_format.specs.declared.faults.TextReason.TheVariants.{KeyWithoutData, NoEnd}
+use Rattle.bdb_spelling.specs.of_text_format.declared.faults.TextReason.{TextReason}
+use Rattle.bdb_spelling.specs.of_text_format.declared.faults.TextReason.TheVariants.{KeyWithoutData, NoEnd}
 
 -- one data line after the other, none has a reason
 abbrev pub data_clean : Values → List (List ℕ) → List (List ℕ) → Bool

@@ -1,20 +1,20 @@
 -- How far the reader of a dump text has come.
 use Rattle.std.specs.Prelude.{◌≡◌, ℕ, ◌+◌, if◌then◌else◌, true, false, List, [], ◌∷◌, ◌++◌, length, Option, Some, None, ⊤}
 use Rattle.std.specs.List.{list_any}
-use Rattle.bdb_text_format.specs.declared.faults.TextFault.{TextFault}
-use Rattle.bdb_text_format.specs.Written.{Entry, header_end}
-use Rattle.bdb_text_format.specs.TextLines.{is_header_end, text_lines}
-use Rattle.bdb_text_format.specs.Header.{entries, entry_of}
-use Rattle.bdb_text_format.specs.Reasons.{entry_reason}
-use Rattle.bdb_text_format.specs.Sections.{lines_fit}
+use Rattle.bdb_spelling.specs.of_text_format.declared.faults.TextFault.{TextFault}
+use Rattle.bdb_spelling.specs.of_text_format.Written.{Entry, header_end}
+use Rattle.bdb_spelling.specs.of_text_format.TextLines.{is_header_end, text_lines}
+use Rattle.bdb_spelling.specs.of_text_format.Header.{entries, entry_of}
+use Rattle.bdb_spelling.specs.of_text_format.Reasons.{entry_reason}
+use Rattle.bdb_spelling.specs.of_text_format.Sections.{lines_fit}
 use Rattle.bdb_text.specs.declared.headers.Header.{Header}
 use Rattle.bdb_text.specs.declared.text_errors.TextError.{TextError}
 use Rattle.bdb_text.specs.declared.text_errors.TextError.TheVariants.{Fault, Memory}
 use Rattle.bdb_text.specs.declared.data_lines.LineError.{LineError}
 use Rattle.bdb_text.specs.declared.data_lines.LineError.TheVariants.{Memory as WantOfMemory, Reason}
 use Rattle.bdb_text.specs.Fields.{entries_in}
-use Rattle.bdb_text_format.specs.declared.faults.TextReason.{TextReason}
-use Rattle.bdb_text_format.specs.declared.faults.TextReason.TheVariants.{NoEnd}
+use Rattle.bdb_spelling.specs.of_text_format.declared.faults.TextReason.{TextReason}
+use Rattle.bdb_spelling.specs.of_text_format.declared.faults.TextReason.TheVariants.{NoEnd}
 
 -- The lines from `start` on begin with lines of a header that fit and give these entries; the rest of them begins with this number.
 pub record IsHeaderTo (lines : List (List ℕ)) (start : ℕ) (fields : List Entry) (rest : List (List ℕ)) (number : ℕ) : Type 0 where

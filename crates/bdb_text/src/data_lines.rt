@@ -1,13 +1,13 @@
 // The lines behind a header: a space and a spelling.
-ghost use Rattle.bdb_text_format.specs.declared.faults.TextReason.TheVariants.{BadDigit, BadEscape};
-ghost use Rattle.bdb_text_format.specs.Sections.{data_read, key_read};
-ghost use Rattle.bdb_text_format.specs.Placed.{key_seen};
+ghost use Rattle.bdb_spelling.specs.of_text_format.declared.faults.TextReason.TheVariants.{BadDigit, BadEscape};
+ghost use Rattle.bdb_spelling.specs.of_text_format.Sections.{data_read, key_read};
+ghost use Rattle.bdb_spelling.specs.of_text_format.Placed.{key_seen};
 ghost use Rattle.bdb_text.specs.DataLines.{IsLineError, record_number};
 ghost use Rattle.std.specs.Prelude.{◌≡◌, if◌then◌else◌, Bool, IfOk, IfErr, OnOk, Some};
 
-use bdb_format::number_in;
+use bdb_spelling::bdb_format::number_in;
+use bdb_spelling::bdb_text_format::{KeyRef, TextReason};
 use bdb_spelling::{SpellError, read_run};
-use bdb_text_format::{KeyRef, TextReason};
 
 /// Why a data line isn't read.
 #[derive(Clone, Copy, Debug, PartialEq, Eq)]

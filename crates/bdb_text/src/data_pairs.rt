@@ -1,5 +1,5 @@
 // The data lines of a section, read as pairs.
-ghost use Rattle.bdb_text_format.specs.Header.{has_keys};
+ghost use Rattle.bdb_spelling.specs.of_text_format.Header.{has_keys};
 ghost use Rattle.bdb_text.specs.DataTo.{IsDataFault, IsDataRead, IsDatum, IsDatumFault};
 ghost use Rattle.bdb_text.specs.Fields.{values_in};
 ghost use Rattle.bdb_text.specs.ReadTo.{OnFault, error_at};
@@ -10,7 +10,7 @@ use crate::fields::Field;
 use crate::meant::{has_keys, has_record_type, prints};
 use crate::text_errors::TextError;
 use crate::text_lines::cut_line;
-use bdb_text_format::{KeyRef, PairRef, TextFault, TextPairs, TextReason};
+use bdb_spelling::bdb_text_format::{KeyRef, PairRef, TextFault, TextPairs, TextReason};
 use std::alloc::Global;
 
 const DATA_END: [u8; 8] = *b"DATA=END";

@@ -1,7 +1,7 @@
 // A whole dump text, section by section.
-ghost use Rattle.bdb_text_format.specs.Header.{name_in};
-ghost use Rattle.bdb_text_format.specs.Reasons.{first_line_reason, name_missing};
-ghost use Rattle.bdb_text_format.specs.Sections.{Reads};
+ghost use Rattle.bdb_spelling.specs.of_text_format.Header.{name_in};
+ghost use Rattle.bdb_spelling.specs.of_text_format.Reasons.{first_line_reason, name_missing};
+ghost use Rattle.bdb_spelling.specs.of_text_format.Sections.{Reads};
 ghost use Rattle.bdb_text.specs.Fields.{values_in};
 ghost use Rattle.bdb_text.specs.ReadTo.{OnFault};
 ghost use Rattle.bdb_text.specs.SectionTo.{IsSectionFault, IsSectionRead, IsTextFault, named_end_reason, names_of};
@@ -14,9 +14,9 @@ use crate::headers::read_header;
 use crate::meant::{conflicts, settings_in};
 use crate::text_errors::TextError;
 use crate::text_lines::cut_line;
-use bdb_format::Bytes;
+use bdb_spelling::bdb_format::Bytes;
+use bdb_spelling::bdb_text_format::{Section, Sections, TextFault, TextReason};
 use bdb_spelling::{SpellError, read_spelling};
-use bdb_text_format::{Section, Sections, TextFault, TextReason};
 use std::alloc::Global;
 
 const TYPE: [u8; 4] = *b"type";

@@ -1,11 +1,11 @@
 // The sections of a text that were read so far.
-ghost use Rattle.bdb_format.specs.Databases.{is_name};
+ghost use Rattle.bdb_spelling.specs.of_format.Databases.{is_name};
 ghost use Rattle.bdb_text.specs.SectionTo.{names_of};
 ghost use Rattle.std.specs.List.{list_any};
 ghost use Rattle.std.specs.Prelude.{◌≡◌, ◌==◌, [], ◌∷◌, ◌++◌, IfOk, is_none, length};
 
-use bdb_format::Bytes;
-use bdb_text_format::{Section, Sections};
+use bdb_spelling::bdb_format::Bytes;
+use bdb_spelling::bdb_text_format::{Section, Sections};
 use std::alloc::{AllocError, Global};
 use std::collections::BTreeSet;
 use std::marker::Model;
@@ -21,7 +21,7 @@ pub struct Earlier {
 impl Model for Earlier {
     ghost use Rattle.bdb_text.specs.Earlier.{AreNames, keys_in};
     ghost use Rattle.bdb_text.specs.SectionTo.{names_of};
-    ghost use Rattle.bdb_text_format.specs.declared.sections.Section.{Section};
+    ghost use Rattle.bdb_spelling.specs.of_text_format.declared.sections.Section.{Section};
     ghost use Rattle.std.specs.Prelude.{List};
 
     ghost Value = { List Section };

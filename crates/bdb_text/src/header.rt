@@ -1,10 +1,10 @@
 ghost use Rattle.std.specs.Prelude.{◌≡◌, ◌++◌, ◌==◌, ◌&&◌, ◌||◌, not, [], IfOk, OnOk, map, option_copied, unwrap_or};
-ghost use Rattle.bdb_text_format.specs.Written.{format_text, has_sets, header_table, header_text, holds_records, is_btree, is_hash, is_recno, kind_text};
-ghost use Rattle.bdb_text_format.specs.Written.{order_text, shows_length, ◌=:◌};
-ghost use Rattle.bdb_format.specs.Table.{◌:?◌};
+ghost use Rattle.bdb_spelling.specs.of_text_format.Written.{format_text, has_sets, header_table, header_text, holds_records, is_btree, is_hash, is_recno, kind_text};
+ghost use Rattle.bdb_spelling.specs.of_text_format.Written.{order_text, shows_length, ◌=:◌};
+ghost use Rattle.bdb_spelling.specs.of_format.Table.{◌:?◌};
 ghost use Rattle.bdb_text.specs.Headers.{row_seen, row_text, rows_text, value_seen};
 
-use bdb_format::{Bytes, Kind, Order, Settings};
+use bdb_spelling::bdb_format::{Bytes, Kind, Order, Settings};
 use bdb_spelling::{number_text, push_line_text};
 use std::alloc::{AllocError, Global};
 

@@ -1,14 +1,14 @@
 // The keywords of a header, and which values they take.
-ghost use Rattle.bdb_text_format.specs.Header.{entry_of};
-ghost use Rattle.bdb_text_format.specs.Keywords.{a_spelling, any_number, find_named, is_order, later_keywords, legal_size, number_that, on_or_off, one_of};
-ghost use Rattle.bdb_text_format.specs.Keywords.{one_of_but};
-ghost use Rattle.bdb_text_format.specs.Reasons.{entry_reason, keyword_named};
+ghost use Rattle.bdb_spelling.specs.of_text_format.Header.{entry_of};
+ghost use Rattle.bdb_spelling.specs.of_text_format.Keywords.{a_spelling, any_number, find_named, is_order, later_keywords, legal_size, number_that, on_or_off, one_of};
+ghost use Rattle.bdb_spelling.specs.of_text_format.Keywords.{one_of_but};
+ghost use Rattle.bdb_spelling.specs.of_text_format.Reasons.{entry_reason, keyword_named};
 ghost use Rattle.bdb_text.specs.Fields.{entries_in, entry_in, judged_by};
 ghost use Rattle.std.specs.Prelude.{◌≡◌, ◌==◌, ◌∷◌, [], codes, false, not, IfOk, IfErr, Some, None};
 
 use crate::fields::{Field, field_of, is_given};
+use bdb_spelling::bdb_text_format::{Judged, TextReason};
 use bdb_spelling::{is_spelling, number_read};
-use bdb_text_format::{Judged, TextReason};
 
 const FORMAT: [u8; 6] = *b"format";
 

@@ -14,11 +14,12 @@ mod meant;
 mod text_errors;
 mod text_lines;
 
-pub use bdb_spelling::{
-    SpellError, is_spelling, line_text, number_text, push_line_text, read_spelling,
-};
-pub use bdb_text_format::{
+pub use bdb_spelling;
+pub use bdb_spelling::bdb_text_format::{
     Key, KeyRef, PairRef, PairSlice, Section, Sections, TextFault, TextPair, TextPairs, TextReason,
+};
+pub use bdb_spelling::{
+    SpellError, bdb_text_format, is_spelling, line_text, number_text, push_line_text, read_spelling,
 };
 pub use dump::read_dump;
 pub use header::{header_text, kind_word};

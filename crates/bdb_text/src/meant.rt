@@ -1,11 +1,11 @@
 // What a header says in all: its type, its conflicts and its settings.
-ghost use Rattle.bdb_text_format.specs.Header.{number_or, conflicts, has_keys, has_record_type, has_type, is_on, order_in, plain_in, prints, repeats};
-ghost use Rattle.bdb_text_format.specs.Header.{settings_in};
+ghost use Rattle.bdb_spelling.specs.of_text_format.Header.{number_or, conflicts, has_keys, has_record_type, has_type, is_on, order_in, plain_in, prints, repeats};
+ghost use Rattle.bdb_spelling.specs.of_text_format.Header.{settings_in};
 ghost use Rattle.bdb_text.specs.Fields.{values_in};
 ghost use Rattle.std.specs.Prelude.{◌≡◌, codes};
 
 use crate::fields::{Field, gives, number_or};
-use bdb_format::{Kind, Order, Settings, plain_settings};
+use bdb_spelling::bdb_format::{Kind, Order, Settings, plain_settings};
 
 const TYPE: [u8; 4] = *b"type";
 

@@ -1,2 +1,3 @@
 pub mod PlacedLemmas
 pub mod UnitLemmas
+pub use Rattle.bdb_places.proofs.of_format as of_format

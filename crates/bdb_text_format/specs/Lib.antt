@@ -9,3 +9,5 @@ pub mod Reasons
 pub mod Pairs
 pub mod Placed
 pub mod Sections
+pub use Rattle.bdb_places.specs.of_format as of_format
+pub use Rattle.bdb_places.specs as of_places

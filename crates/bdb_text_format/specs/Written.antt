@@ -1,16 +1,16 @@
 -- The dump text of databases, a section for each. Source: docs/FORMAT.md, "Dump text".
 use Rattle.std.specs.Prelude.{ℕ, ◌==◌, ◌&&◌, ◌||◌, not, if◌then◌else◌, Bool, true, false, List, [], ◌∷◌, ◌++◌, map, Option, codes, is_some, decimal, unwrap_or}
 use Rattle.std.specs.List.{flat_map}
-use Rattle.bdb_format.specs.declared.kinds.Kind.{Kind}
-use Rattle.bdb_format.specs.declared.kinds.Kind.TheVariants.{Btree, Recno, Hash, Queue}
-use Rattle.bdb_format.specs.declared.kinds.Order.{Order}
-use Rattle.bdb_format.specs.declared.kinds.Order.TheVariants.{Big, Little}
-use Rattle.bdb_format.specs.declared.settings.Settings.{Settings}
-use Rattle.bdb_format.specs.Table.{Row, ◌:?◌}
-use Rattle.bdb_format.specs.HeadOf.{head_of}
-use Rattle.bdb_format.specs.File.{file_of}
-use Rattle.bdb_format.specs.Lists.{ListKey, BytesKey, NumberKey, list_of}
-use Rattle.bdb_format.specs.Databases.{Database, settings_of}
+use Rattle.bdb_places.specs.of_format.declared.kinds.Kind.{Kind}
+use Rattle.bdb_places.specs.of_format.declared.kinds.Kind.TheVariants.{Btree, Recno, Hash, Queue}
+use Rattle.bdb_places.specs.of_format.declared.kinds.Order.{Order}
+use Rattle.bdb_places.specs.of_format.declared.kinds.Order.TheVariants.{Big, Little}
+use Rattle.bdb_places.specs.of_format.declared.settings.Settings.{Settings}
+use Rattle.bdb_places.specs.of_format.Table.{Row, ◌:?◌}
+use Rattle.bdb_places.specs.of_format.HeadOf.{head_of}
+use Rattle.bdb_places.specs.of_format.File.{file_of}
+use Rattle.bdb_places.specs.of_format.Lists.{ListKey, BytesKey, NumberKey, list_of}
+use Rattle.bdb_places.specs.of_format.Databases.{Database, settings_of}
 use Rattle.bdb_text_format.specs.LineEnd.{line}
 use Rattle.bdb_text_format.specs.TextSpelling.{spelling}
 

@@ -7,6 +7,8 @@ mod lent;
 mod pairs;
 mod sections;
 
+pub use bdb_places;
+pub use bdb_places::bdb_format;
 pub use faults::{TextFault, TextReason};
 pub use keywords::Judged;
 pub use lent::{KeyRef, PairRef, PairSlice, are_one, key_at, pair_at};

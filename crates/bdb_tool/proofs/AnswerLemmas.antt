@@ -6,31 +6,31 @@ use Rattle.std.proofs.lemmas.Option.{slice_get-get_or}
 use Rattle.bdb_format.specs.declared.kinds.Order.{Order}
 use Rattle.bdb_format.specs.declared.kinds.Verdict.{Verdict}
 use Rattle.bdb_format.specs.declared.kinds.Verdict.TheVariants.{Fault, Unsupported, Memory as MemoryVerdict}
-use Rattle.bdb_text_format.specs.LineEnd.{line}
-use Rattle.bdb_text_format.specs.Written.{database_text, dump_text, is_btree}
-use Rattle.bdb_model.specs.Answers.{Answer, done, fault_line, pairs_text, told, unsupported_line, value_line, values_text}
+use Rattle.bdb_repair.specs.of_text_format.LineEnd.{line}
+use Rattle.bdb_repair.specs.of_text_format.Written.{database_text, dump_text, is_btree}
+use Rattle.bdb_repair.specs.of_model.Answers.{Answer, done, fault_line, pairs_text, told, unsupported_line, value_line, values_text}
 use Rattle.bdb_tool.specs.FileAnswers.{converted, data_at, data_named, data_of_database, database_in, dumped, found, judged_answer, not_btree, not_found}
 use Rattle.bdb_tool.specs.FileAnswers.{range_answer, ranged, section_answer, sound_answer}
-use Rattle.bdb_model.specs.Change.{Change}
+use Rattle.bdb_repair.specs.of_model.Change.{Change}
 use Rattle.bdb_tool_words.specs.Commands.{Request, Verify, Get, Dump, Range, Convert, bounds_request, key_request}
-use Rattle.bdb_model.specs.Command.{asked_name}
+use Rattle.bdb_repair.specs.of_model.Command.{asked_name}
 use Rattle.bdb_format.specs.Databases.{Database, data_under, databases, place_of}
 use Rattle.bdb_format.specs.File.{File, file_of}
 use Rattle.bdb_format.specs.Flags.{kind_of}
 use Rattle.bdb_format.specs.Lists.{ListKey, list_of}
-use Rattle.bdb_turned.specs.Flipped.{overlap_in}
-use Rattle.bdb_range.specs.Ranges.{in_range}
+use Rattle.bdb_stat.specs.of_turned.Flipped.{overlap_in}
+use Rattle.bdb_tool_print.specs.of_range.Ranges.{in_range}
 use Rattle.bdb_format.specs.Verdict.{Faulty, Judgement, LeftOut, verdict_of}
-use Rattle.bdb_file.specs.Named.{database_at, no_database}
-use Rattle.bdb_file.specs.AnyOrder.{faults_by_rows, verdict_by}
-use Rattle.bdb_file.specs.Whole.{IsVerdictBy, IsVerdictOf}
-use Rattle.bdb_file.specs.declared.rows.Rows.{Rows}
-use Rattle.bdb_file.specs.declared.rows.Rows.TheVariants.{All}
-use Rattle.bdb_file.proofs.RowsLemmas.{all_are_of_all, no_verdict}
-use Rattle.bdb_rescue.specs.Text.{salvage_text}
-use Rattle.bdb_rescue.specs.Guesses.{chosen}
-use Rattle.bdb_survey.specs.declared.guess.Guess.{Guess}
-use Rattle.bdb_text_format.specs.TextSpelling.{bytes_spelled}
+use Rattle.bdb_repair.specs.of_file.Named.{database_at, no_database}
+use Rattle.bdb_repair.specs.of_file.AnyOrder.{faults_by_rows, verdict_by}
+use Rattle.bdb_repair.specs.of_file.Whole.{IsVerdictBy, IsVerdictOf}
+use Rattle.bdb_repair.specs.of_file.declared.rows.Rows.{Rows}
+use Rattle.bdb_repair.specs.of_file.declared.rows.Rows.TheVariants.{All}
+use Rattle.bdb_repair.proofs.of_file.RowsLemmas.{all_are_of_all, no_verdict}
+use Rattle.bdb_repair.specs.of_rescue.Text.{salvage_text}
+use Rattle.bdb_repair.specs.of_rescue.Guesses.{chosen}
+use Rattle.bdb_repair.specs.of_survey.declared.guess.Guess.{Guess}
+use Rattle.bdb_repair.specs.of_text_format.TextSpelling.{bytes_spelled}
 use Rattle.bdb_tool.specs.Outputs.{asked_answer, salvage_answer, salvaged_answer}
 use Rattle.bdb_tool_words.specs.WordsSeen.{request_seen}
 use Rattle.bdb_tool_words.specs.declared.command.Request.{Request as CodeRequest}
@@ -38,29 +38,29 @@ use Rattle.bdb_tool_words.specs.declared.command.Request.TheVariants.{Get as Get
 use Rattle.bdb_tool.specs.Parts.{Answered, Ends, Finishes, HasOwnStatus, IsRefusalTold, IsRefused, Reports, Tells, Unanswered}
 use Rattle.bdb_format.specs.declared.kinds.Kind.{Kind}
 use Rattle.bdb_format.proofs.KnownLemmas.{keeps_itself}
-use Rattle.bdb_text_format.specs.declared.faults.TextFault.{TextFault}
-use Rattle.bdb_text_format.specs.declared.sections.Section.{Section}
-use Rattle.bdb_text_format.specs.Reasons.{text_fault}
-use Rattle.bdb_settle.specs.declared.load_error.LoadError.{LoadError}
-use Rattle.bdb_settle.specs.declared.load_error.LoadError.TheVariants.{TooLarge, Memory as MemoryError}
-use Rattle.bdb_mkfile.specs.Builds.{image_size}
-use Rattle.bdb_mkfile.specs.Loading.{loading_error}
+use Rattle.bdb_repair.specs.of_text_format.declared.faults.TextFault.{TextFault}
+use Rattle.bdb_repair.specs.of_text_format.declared.sections.Section.{Section}
+use Rattle.bdb_repair.specs.of_text_format.Reasons.{text_fault}
+use Rattle.bdb_repair.specs.of_settle.declared.load_error.LoadError.{LoadError}
+use Rattle.bdb_repair.specs.of_settle.declared.load_error.LoadError.TheVariants.{TooLarge, Memory as MemoryError}
+use Rattle.bdb_repair.specs.of_mkfile.Builds.{image_size}
+use Rattle.bdb_repair.specs.of_mkfile.Loading.{loading_error}
 use Rattle.bdb_tool_build.specs.declared.refusal.Refusal.{Refusal}
 use Rattle.bdb_tool_build.specs.declared.refusal.Refusal.TheVariants.{Faulty as FaultyText, TooLarge as TooLargeImage, Memory as MemoryRefusal}
 use Rattle.bdb_tool_build.specs.Loads.{IsLoadAnswerBy, IsErrorAnswer, IsLoadAnswer, IsTextAnswer}
-use Rattle.bdb_onto.specs.declared.base.Base.{Base}
-use Rattle.bdb_onto.specs.Bases.{base_of}
-use Rattle.bdb_onto.specs.Onto.{loading_error_onto}
+use Rattle.bdb_tool_build.specs.of_onto.declared.base.Base.{Base}
+use Rattle.bdb_tool_build.specs.of_onto.Bases.{base_of}
+use Rattle.bdb_tool_build.specs.of_onto.Onto.{loading_error_onto}
 use Rattle.bdb_tool_build.specs.Ontos.{IsLoadOnto, IsTextOntoBy}
 use Rattle.bdb_tool.specs.Ontos.{IsOntoBy}
 use Rattle.bdb_tool_build.specs.Refusals.{IsRefusedAnswer}
 use Rattle.bdb_tool_build.specs.Trials.{IsTrialAnswer, IsTrialBy, trial_sections}
 use Rattle.bdb_tool.proofs.FinishLemmas.{memory_finishes, told_finishes, written_finishes}
 use Rattle.bdb_format.specs.Faults.{AppendsPrefix, Rose}
-use Rattle.bdb_tool_lines.specs.declared.cut.Cut.{Cut}
-use Rattle.bdb_tool_lines.specs.declared.cut.Cut.TheVariants.{WriteFault, Memory}
-use Rattle.bdb_tool_lines.specs.Printing.{Writes}
-use Rattle.bdb_tool_lines.proofs.PrintingLemmas.{moved, nothing_of}
+use Rattle.bdb_tool_print.specs.of_tool_lines.declared.cut.Cut.{Cut}
+use Rattle.bdb_tool_print.specs.of_tool_lines.declared.cut.Cut.TheVariants.{WriteFault, Memory}
+use Rattle.bdb_tool_print.specs.of_tool_lines.Printing.{Writes}
+use Rattle.bdb_tool_print.proofs.of_tool_lines.PrintingLemmas.{moved, nothing_of}
 
 -- One line.
 

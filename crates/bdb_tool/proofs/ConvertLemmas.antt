@@ -2,14 +2,14 @@
 use Rattle.std.proofs.Common.{◌≡◌, ◌⊎◌, ℕ, List, inl, inr, sym, subst, arith}
 use Rattle.std.specs.Prelude.{Option, Some, None, Result, Ok, Err}
 use Rattle.bdb_format.specs.declared.kinds.Order.{Order}
-use Rattle.bdb_tool_lines.specs.declared.cut.Cut.{Cut}
-use Rattle.bdb_tool_lines.specs.Printing.{Writes}
-use Rattle.bdb_tool_lines.proofs.PrintingLemmas.{moved}
-use Rattle.bdb_model.specs.Answers.{done}
+use Rattle.bdb_tool_print.specs.of_tool_lines.declared.cut.Cut.{Cut}
+use Rattle.bdb_tool_print.specs.of_tool_lines.Printing.{Writes}
+use Rattle.bdb_tool_print.proofs.of_tool_lines.PrintingLemmas.{moved}
+use Rattle.bdb_repair.specs.of_model.Answers.{done}
 use Rattle.bdb_tool.specs.FileAnswers.{converted, overlap_line}
-use Rattle.bdb_model.specs.Change.{Change}
-use Rattle.bdb_turned.specs.Flipped.{flip_of, overlap_in}
-use Rattle.bdb_model.specs.Lines.{memory_line}
+use Rattle.bdb_repair.specs.of_model.Change.{Change}
+use Rattle.bdb_stat.specs.of_turned.Flipped.{flip_of, overlap_in}
+use Rattle.bdb_repair.specs.of_model.Lines.{memory_line}
 use Rattle.bdb_swap.specs.Flip.{IsFlip}
 use Rattle.bdb_swap.specs.declared.flipping.FlipError.{FlipError}
 use Rattle.bdb_swap.specs.declared.flipping.FlipError.TheVariants.{Overlap}

@@ -2,15 +2,15 @@
 use Rattle.std.proofs.Common.{◌≡◌, ◌≢◌, ℕ, List, [], length, inl, inr, refl, sym, subst, ◌∙◌, arith}
 use Rattle.std.specs.Prelude.{Option, Ok, Err, Result}
 use Rattle.std.proofs.Math.Seq.{take-length}
-use Rattle.bdb_model.specs.Answers.{Answer, done}
-use Rattle.bdb_model.specs.Change.{Change, Gains, GainsPart}
+use Rattle.bdb_repair.specs.of_model.Answers.{Answer, done}
+use Rattle.bdb_repair.specs.of_model.Change.{Change, Gains, GainsPart}
 use Rattle.bdb_format.proofs.KnownLemmas.{appends_nothing}
-use Rattle.bdb_model.specs.Lines.{memory_line}
-use Rattle.bdb_tool_lines.specs.declared.cut.Cut.{Cut}
-use Rattle.bdb_tool_lines.specs.declared.cut.Cut.TheVariants.{WriteFault, Memory}
+use Rattle.bdb_repair.specs.of_model.Lines.{memory_line}
+use Rattle.bdb_tool_print.specs.of_tool_lines.declared.cut.Cut.{Cut}
+use Rattle.bdb_tool_print.specs.of_tool_lines.declared.cut.Cut.TheVariants.{WriteFault, Memory}
 use Rattle.bdb_tool.specs.Parts.{Finishes, HasOwnStatus, Reports, Tells}
-use Rattle.bdb_tool_lines.specs.Printing.{Writes}
-use Rattle.bdb_tool_lines.proofs.PrintingLemmas.{moved}
+use Rattle.bdb_tool_print.specs.of_tool_lines.Printing.{Writes}
+use Rattle.bdb_tool_print.proofs.of_tool_lines.PrintingLemmas.{moved}
 
 -- what was written whole was written in part
 whole_part : (text : List ℕ) (out : Change) → Gains out text → GainsPart out text

@@ -8,15 +8,15 @@ use Rattle.bdb_format.specs.File.{File}
 use Rattle.bdb_format.specs.Flags.{is_recno, kind_of}
 use Rattle.bdb_format.specs.Lists.{ListKey, btree_list, list_of}
 use Rattle.bdb_format.specs.Page.{Metadata, BtreeFields}
-use Rattle.bdb_file.specs.Named.{database_at, no_database}
-use Rattle.bdb_tool_lines.specs.declared.cut.Cut.{Cut}
-use Rattle.bdb_tool_lines.specs.Printing.{Writes}
-use Rattle.bdb_tool_lines.proofs.PrintingLemmas.{moved}
+use Rattle.bdb_repair.specs.of_file.Named.{database_at, no_database}
+use Rattle.bdb_tool_print.specs.of_tool_lines.declared.cut.Cut.{Cut}
+use Rattle.bdb_tool_print.specs.of_tool_lines.Printing.{Writes}
+use Rattle.bdb_tool_print.proofs.of_tool_lines.PrintingLemmas.{moved}
 use Rattle.bdb_tool.specs.FileAnswers.{database_in, not_btree, not_found, range_answer, ranged}
-use Rattle.bdb_model.specs.Answers.{done, pairs_text}
-use Rattle.bdb_model.specs.Change.{Change}
-use Rattle.bdb_range.specs.Ranges.{in_range}
-use Rattle.bdb_text_format.specs.Written.{is_btree}
+use Rattle.bdb_repair.specs.of_model.Answers.{done, pairs_text}
+use Rattle.bdb_repair.specs.of_model.Change.{Change}
+use Rattle.bdb_tool_print.specs.of_range.Ranges.{in_range}
+use Rattle.bdb_repair.specs.of_text_format.Written.{is_btree}
 use Rattle.bdb_tool.specs.Parts.{Finishes, Reports, Tells}
 use Rattle.bdb_tool.proofs.FinishLemmas.{told_finishes, written_finishes}
 

@@ -4,12 +4,12 @@ use Rattle.std.proofs.Common.{length-append, append-nil}
 use Rattle.std.specs.Prelude.{Option, Some, None, nat_lt}
 use Rattle.std.specs.Io.KnownBytes.{Consumes, IsAtEnd}
 use Rattle.std.proofs.lemmas.Bool.{le-ltb, lt-ltb}
-use Rattle.bdb_model.specs.Answers.{Answer, told, too_large_line}
+use Rattle.bdb_repair.specs.of_model.Answers.{Answer, told, too_large_line}
 use Rattle.bdb_tool_words.specs.Commands.{Ask, Command, Load, reads_input, usage}
-use Rattle.bdb_model.specs.Change.{Change, GainsPart, HasFailed, IsUncalled, Stays}
-use Rattle.bdb_file.specs.declared.rows.Rows.TheVariants.{All}
+use Rattle.bdb_repair.specs.of_model.Change.{Change, GainsPart, HasFailed, IsUncalled, Stays}
+use Rattle.bdb_repair.specs.of_file.declared.rows.Rows.TheVariants.{All}
 use Rattle.bdb_format.specs.Faults.{Rose, Took}
-use Rattle.bdb_model.specs.Lines.{memory_line, read_fault_line, write_fault_line}
+use Rattle.bdb_repair.specs.of_model.Lines.{memory_line, read_fault_line, write_fault_line}
 use Rattle.bdb_format.proofs.KnownLemmas.{keeps_itself}
 use Rattle.bdb_tool_build.specs.Loads.{IsTextAnswer}
 use Rattle.bdb_tool_build.specs.Trials.{IsTrialAnswer}
@@ -30,7 +30,7 @@ use Rattle.bdb_tool.proofs.TellingLemmas.{asked_own}
 use Rattle.bdb_tool.proofs.AnswerLemmas.{salvage_own, text_own, trial_own}
 use Rattle.bdb_tool.proofs.FinishLemmas.{memory_finishes, told_finishes}
 use Rattle.bdb_tool.proofs.RepairLemmas.{repair_own}
-use Rattle.bdb_tool_lines.proofs.PrintingLemmas.{moved}
+use Rattle.bdb_tool_print.proofs.of_tool_lines.PrintingLemmas.{moved}
 
 -- The input.
 

@@ -1,20 +1,20 @@
 -- What holds at the pages of a file is told.
 use Rattle.std.proofs.Common.{◌≡◌, ◌∙◌, ℕ, ◌<◌, List, [], ◌∷◌, length, map, inl, inr, refl, sym, subst, arith, ◌⊎◌}
 use Rattle.std.specs.Prelude.{Option, Ok, Err, Result}
-use Rattle.bdb_faults.specs.All.{IsAllOf}
-use Rattle.bdb_faults.specs.declared.named.AllError.{AllError}
-use Rattle.bdb_faults.specs.declared.named.AllError.TheVariants.{Faults}
-use Rattle.bdb_file.specs.AnyOrder.{faults_by_rows, verdict_by}
-use Rattle.bdb_file.specs.declared.rows.Rows.{Rows}
+use Rattle.bdb_stat.specs.of_faults.All.{IsAllOf}
+use Rattle.bdb_stat.specs.of_faults.declared.named.AllError.{AllError}
+use Rattle.bdb_stat.specs.of_faults.declared.named.AllError.TheVariants.{Faults}
+use Rattle.bdb_repair.specs.of_file.AnyOrder.{faults_by_rows, verdict_by}
+use Rattle.bdb_repair.specs.of_file.declared.rows.Rows.{Rows}
 use Rattle.bdb_format.specs.declared.kinds.Fault.{Fault}
-use Rattle.bdb_tool_lines.specs.Printing.{Writes}
-use Rattle.bdb_tool_lines.specs.Telling.{judgement_status, judgements_text}
-use Rattle.bdb_tool_lines.specs.declared.cut.Cut.{Cut}
-use Rattle.bdb_tool_lines.specs.declared.cut.Cut.TheVariants.{WriteFault}
-use Rattle.bdb_tool_lines.proofs.PrintingLemmas.{moved}
-use Rattle.bdb_model.specs.Change.{Change}
+use Rattle.bdb_tool_print.specs.of_tool_lines.Printing.{Writes}
+use Rattle.bdb_tool_print.specs.of_tool_lines.Telling.{judgement_status, judgements_text}
+use Rattle.bdb_tool_print.specs.of_tool_lines.declared.cut.Cut.{Cut}
+use Rattle.bdb_tool_print.specs.of_tool_lines.declared.cut.Cut.TheVariants.{WriteFault}
+use Rattle.bdb_tool_print.proofs.of_tool_lines.PrintingLemmas.{moved}
+use Rattle.bdb_repair.specs.of_model.Change.{Change}
 use Rattle.bdb_tool_words.specs.Commands.{Request, Verify}
-use Rattle.bdb_model.specs.Lines.{memory_line}
+use Rattle.bdb_repair.specs.of_model.Lines.{memory_line}
 use Rattle.bdb_format.specs.Verdict.{Faulty, Judgement, LeftOut, judgement_of}
 use Rattle.bdb_tool.specs.Outputs.{asked_answer, first_status, verified}
 use Rattle.bdb_tool.specs.Parts.{Finishes, HasOwnStatus, Tells}

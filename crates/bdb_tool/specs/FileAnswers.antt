@@ -7,15 +7,15 @@ use Rattle.bdb_format.specs.Flags.{kind_of}
 use Rattle.bdb_format.specs.HeadOf.{head_of}
 use Rattle.bdb_format.specs.Lists.{list_of}
 use Rattle.bdb_format.specs.Verdict.{Faulty, Judgement, LeftOut}
-use Rattle.bdb_text_format.specs.LineEnd.{line}
-use Rattle.bdb_text_format.specs.Written.{database_text, dump_text, is_btree}
-use Rattle.bdb_model.specs.Answers.{Answer, done, fault_line, list_text, pairs_text, told, unsupported_line, values_text}
+use Rattle.bdb_repair.specs.of_text_format.LineEnd.{line}
+use Rattle.bdb_repair.specs.of_text_format.Written.{database_text, dump_text, is_btree}
+use Rattle.bdb_repair.specs.of_model.Answers.{Answer, done, fault_line, list_text, pairs_text, told, unsupported_line, values_text}
 use Rattle.bdb_tool_words.specs.Commands.{Request, Verify, ListAll, Get, Dump, Range, Convert, Stat}
-use Rattle.bdb_range.specs.Ranges.{in_range}
+use Rattle.bdb_tool_print.specs.of_range.Ranges.{in_range}
 use Rattle.bdb_stat.specs.declared.class.Class.TheVariants.{Meta, Internal, Leaf, Hash, Overflow, Free, Reserve, Queue, Tail}
 use Rattle.bdb_stat.specs.Classes.{levels, pages_of}
 use Rattle.bdb_stat.specs.Unused.{unused}
-use Rattle.bdb_turned.specs.Flipped.{flip_of, overlap_in}
+use Rattle.bdb_stat.specs.of_turned.Flipped.{flip_of, overlap_in}
 
 abbrev pub not_found : Answer
 not_found = told 9 (line (codes "not found"))

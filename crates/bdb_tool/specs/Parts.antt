@@ -1,14 +1,14 @@
 -- The two halves of a run: what it takes from the words and the source, and how it writes the answer.
 use Rattle.std.specs.Prelude.{◌≡◌, ◌≢◌, ◌⊎◌, ℕ, ◌+◌, List, [], Result, Ok, Err, Some, string_bytes}
-use Rattle.bdb_file.specs.declared.rows.Rows.TheVariants.{All}
+use Rattle.bdb_repair.specs.of_file.declared.rows.Rows.TheVariants.{All}
 use Rattle.bdb_format.specs.declared.kinds.Verdict.{Verdict}
 use Rattle.bdb_format.specs.declared.kinds.Verdict.TheVariants.{Fault, Unsupported, Memory as MemoryVerdict}
-use Rattle.bdb_model.specs.Answers.{Answer, fault_line, told, too_large_line, unsupported_line}
+use Rattle.bdb_repair.specs.of_model.Answers.{Answer, fault_line, told, too_large_line, unsupported_line}
 use Rattle.bdb_tool_words.specs.Commands.{Request, usage}
-use Rattle.bdb_model.specs.Change.{Change, Gains, GainsPart, HasFailed, Stays}
-use Rattle.bdb_model.specs.Lines.{memory_line, read_fault_line, write_fault_line}
-use Rattle.bdb_tool_lines.specs.declared.cut.Cut.{Cut}
-use Rattle.bdb_tool_lines.specs.declared.cut.Cut.TheVariants.{WriteFault, Memory}
+use Rattle.bdb_repair.specs.of_model.Change.{Change, Gains, GainsPart, HasFailed, Stays}
+use Rattle.bdb_repair.specs.of_model.Lines.{memory_line, read_fault_line, write_fault_line}
+use Rattle.bdb_tool_print.specs.of_tool_lines.declared.cut.Cut.{Cut}
+use Rattle.bdb_tool_print.specs.of_tool_lines.declared.cut.Cut.TheVariants.{WriteFault, Memory}
 use Rattle.bdb_format.specs.Faults.{Took}
 use Rattle.bdb_format.specs.Verdict.{verdict_of}
 use Rattle.bdb_tool.specs.Ontos.{IsOntoBy, base_too_large_line}

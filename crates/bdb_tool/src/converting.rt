@@ -1,17 +1,17 @@
 //! The command that puts a file into a byte order.
 ghost use Rattle.std.specs.Prelude.{◌⊎◌};
 ghost use Rattle.bdb_tool.specs.FileAnswers.{converted, overlap_line};
-ghost use Rattle.bdb_model.specs.Change.{change};
-ghost use Rattle.bdb_turned.specs.Flipped.{overlap_in};
-ghost use Rattle.bdb_model.specs.Lines.{memory_line};
+ghost use Rattle.bdb_repair.specs.of_model.Change.{change};
+ghost use Rattle.bdb_stat.specs.of_turned.Flipped.{overlap_in};
+ghost use Rattle.bdb_repair.specs.of_model.Lines.{memory_line};
 ghost use Rattle.bdb_tool.specs.Parts.{Finishes, Tells};
 
 use crate::finish::{put, report, tell, tell_memory};
 use crate::status::OVERLAP;
 use crate::text::overlap_line;
-use bdb_file::Sound;
 use bdb_format::Order;
-use bdb_io::Sink;
+use bdb_repair::bdb_file::Sound;
+use bdb_swap::bdb_io::Sink;
 use bdb_swap::{FlipError, flip};
 use std::alloc::Global;
 

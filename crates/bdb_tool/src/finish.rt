@@ -1,12 +1,12 @@
 ghost use Rattle.std.specs.Prelude.{◌≢◌};
-ghost use Rattle.bdb_model.specs.Change.{change};
-ghost use Rattle.bdb_model.specs.Lines.{memory_line};
+ghost use Rattle.bdb_repair.specs.of_model.Change.{change};
+ghost use Rattle.bdb_repair.specs.of_model.Lines.{memory_line};
 ghost use Rattle.bdb_tool_words.specs.Commands.{usage};
 ghost use Rattle.bdb_tool.specs.Parts.{Reports, Tells};
-ghost use Rattle.bdb_tool_lines.specs.Printing.{Writes};
+ghost use Rattle.bdb_tool_print.specs.of_tool_lines.Printing.{Writes};
 
 use crate::status::{DONE, MEMORY, USAGE, WRITE_FAULT};
-use bdb_io::{Sink, put_all};
+use bdb_swap::bdb_io::{Sink, put_all};
 use bdb_tool_print::Cut;
 
 /// Writes an error line, and answers its status.

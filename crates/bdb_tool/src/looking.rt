@@ -1,19 +1,19 @@
 //! The command that asks for the data of a key.
 ghost use Rattle.std.specs.Prelude.{◌≡◌, [], IsTrue, MatchOption, List, Option, Some, is_some, not, option_copied, ℕ};
 ghost use Rattle.bdb_tool.specs.FileAnswers.{data_named, found};
-ghost use Rattle.bdb_model.specs.Change.{change};
-ghost use Rattle.bdb_model.specs.Command.{asked_name};
+ghost use Rattle.bdb_repair.specs.of_model.Change.{change};
+ghost use Rattle.bdb_repair.specs.of_model.Command.{asked_name};
 ghost use Rattle.bdb_tool_words.specs.Commands.{key_request};
 ghost use Rattle.bdb_format.specs.File.{file_of};
-ghost use Rattle.bdb_text_format.specs.TextSpelling.{bytes_spelled};
+ghost use Rattle.bdb_repair.specs.of_text_format.TextSpelling.{bytes_spelled};
 ghost use Rattle.bdb_tool.specs.Parts.{Finishes};
 
 use crate::finish::{report, tell, tell_memory};
 use crate::spelled::{name_bytes, name_sought, spelled};
 use crate::status::NOT_FOUND;
-use bdb_file::{Found, Sound};
 use bdb_format::Steps;
-use bdb_io::Sink;
+use bdb_repair::bdb_file::{Found, Sound};
+use bdb_swap::bdb_io::Sink;
 use bdb_tool_print::write_found;
 use bdb_tool_words::Lookup;
 use std::alloc::Global;

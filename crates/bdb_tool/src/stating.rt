@@ -1,17 +1,17 @@
 //! The command that tells what the pages of a file are.
 ghost use Rattle.std.specs.Prelude.{◌≡◌, IfOk, string_bytes};
 ghost use Rattle.bdb_format.specs.File.{file_of};
-ghost use Rattle.bdb_tool_lines.specs.Printing.{Writes};
+ghost use Rattle.bdb_tool_print.specs.of_tool_lines.Printing.{Writes};
 ghost use Rattle.bdb_tool.specs.FileAnswers.{stat_text};
-ghost use Rattle.bdb_model.specs.Answers.{done};
-ghost use Rattle.bdb_model.specs.Change.{change};
+ghost use Rattle.bdb_repair.specs.of_model.Answers.{done};
+ghost use Rattle.bdb_repair.specs.of_model.Change.{change};
 ghost use Rattle.bdb_tool.specs.Parts.{Finishes};
 ghost use Rattle.bdb_tool.specs.Figures.{figures_text, last_figures, other_figures, tree_figures};
 
 use crate::finish::{put, report};
-use bdb_file::Sound;
-use bdb_io::Sink;
+use bdb_repair::bdb_file::Sound;
 use bdb_stat::{Stat, stat};
+use bdb_swap::bdb_io::Sink;
 use bdb_tool_print::Cut;
 use std::alloc::{AllocError, Global};
 

@@ -1,18 +1,18 @@
 //! What holds at the pages of a file is told.
 ghost use Rattle.std.specs.Prelude.{◌≡◌, ◌⊎◌, ◌<◌, length};
-ghost use Rattle.bdb_model.specs.Change.{change};
-ghost use Rattle.bdb_model.specs.Lines.{memory_line};
-ghost use Rattle.bdb_faults.specs.Named.{judgement_seen};
-ghost use Rattle.bdb_tool_lines.specs.Telling.{judgement_line, judgement_status, judgements_text};
+ghost use Rattle.bdb_repair.specs.of_model.Change.{change};
+ghost use Rattle.bdb_repair.specs.of_model.Lines.{memory_line};
+ghost use Rattle.bdb_stat.specs.of_faults.Named.{judgement_seen};
+ghost use Rattle.bdb_tool_print.specs.of_tool_lines.Telling.{judgement_line, judgement_status, judgements_text};
 ghost use Rattle.bdb_tool.specs.Outputs.{first_status};
 ghost use Rattle.bdb_tool.specs.Parts.{IsRefused, Tells};
 
 use crate::finish::tell_memory;
 use crate::status::{FAULT, UNSUPPORTED, WRITE_FAULT};
-use bdb_faults::{Named, NamedList};
 use bdb_format::Verdict;
-use bdb_io::Sink;
-use bdb_tool_lines::{Room, tell_all, tell_one};
+use bdb_stat::bdb_faults::{Named, NamedList};
+use bdb_swap::bdb_io::Sink;
+use bdb_tool_print::bdb_tool_lines::{Room, tell_all, tell_one};
 use std::alloc::Global;
 
 /// The status that the first of what is told gives.

@@ -1,6 +1,6 @@
 ghost use Rattle.std.specs.Prelude.{◌≡◌, IfOk, string_bytes};
 ghost use Rattle.bdb_tool.specs.FileAnswers.{overlap_line, sound_line};
-ghost use Rattle.bdb_model.specs.Answers.{too_large_line};
+ghost use Rattle.bdb_repair.specs.of_model.Answers.{too_large_line};
 ghost use Rattle.bdb_tool.specs.Ontos.{base_too_large_line};
 
 use std::alloc::{AllocError, Global};

@@ -7,12 +7,12 @@ use Rattle.std.proofs.lemmas.List.{take_all}
 use Rattle.std.proofs.lemmas.List.Elements.{All-head, All-tail}
 use Rattle.std.proofs.lemmas.List.Sums.{fold-append}
 use Rattle.bdb_format.specs.Lists.{ListKey, BytesKey, NumberKey}
-use Rattle.bdb_text_format.specs.declared.pairs.Key.{Key}
-use Rattle.bdb_text_format.specs.declared.pairs.Key.TheVariants.{Number}
-use Rattle.bdb_text_format.specs.declared.pairs.TextPair.{TextPair}
-use Rattle.bdb_text_format.specs.Pairs.{last_key}
-use Rattle.bdb_text_format.specs.Placed.{pair_with}
-use Rattle.bdb_text_format.proofs.PlacedLemmas.{taken_more}
+use Rattle.bdb_model.specs.of_text_format.declared.pairs.Key.{Key}
+use Rattle.bdb_model.specs.of_text_format.declared.pairs.Key.TheVariants.{Number}
+use Rattle.bdb_model.specs.of_text_format.declared.pairs.TextPair.{TextPair}
+use Rattle.bdb_model.specs.of_text_format.Pairs.{last_key}
+use Rattle.bdb_model.specs.of_text_format.Placed.{pair_with}
+use Rattle.bdb_model.proofs.of_text_format.PlacedLemmas.{taken_more}
 use Rattle.bdb_onto.specs.Bases.{text_pair}
 use Rattle.bdb_tool_build.specs.Ontos.{list_key}
 use Rattle.bdb_tool_build.specs.Copied.{AreOf, EndsWith, HaveOneKey}

@@ -1,21 +1,21 @@
 -- From the sections of a text to its answer.
 use Rattle.std.proofs.Common.{◌≡◌, ℕ, true, List, ap, inl, inr, refl, subst, sym, ◌∙◌, ◌⊎◌}
 use Rattle.std.specs.Prelude.{Option, Some, None, Result, Ok, Err, MatchResult, is_none, is_some}
-use Rattle.bdb_text_format.specs.declared.faults.TextFault.{TextFault}
-use Rattle.bdb_text_format.specs.declared.sections.Section.{Section}
+use Rattle.bdb_model.specs.of_text_format.declared.faults.TextFault.{TextFault}
+use Rattle.bdb_model.specs.of_text_format.declared.sections.Section.{Section}
 use Rattle.bdb_model.specs.Answers.{Answer, done, told}
-use Rattle.bdb_text_format.specs.Reasons.{text_fault}
-use Rattle.bdb_text_format.specs.Sections.{Reads}
-use Rattle.bdb_text.proofs.ReadLemmas.{reads_or_faults}
-use Rattle.bdb_settle.specs.declared.load_error.LoadError.{LoadError}
-use Rattle.bdb_mkfile.specs.Loading.{IsLoadRefusal, loading_error}
-use Rattle.bdb_mkfile.proofs.BuildLemmas.{refusal_found}
+use Rattle.bdb_model.specs.of_text_format.Reasons.{text_fault}
+use Rattle.bdb_model.specs.of_text_format.Sections.{Reads}
+use Rattle.bdb_onto.proofs.of_text.ReadLemmas.{reads_or_faults}
+use Rattle.bdb_onto.specs.of_settle.declared.load_error.LoadError.{LoadError}
+use Rattle.bdb_onto.specs.of_mkfile.Loading.{IsLoadRefusal, loading_error}
+use Rattle.bdb_onto.proofs.of_mkfile.BuildLemmas.{refusal_found}
 use Rattle.bdb_tool_build.specs.declared.refusal.Refusal.{Refusal}
 use Rattle.bdb_tool_build.specs.Lines.{reason_line, error_line}
 use Rattle.bdb_tool_build.specs.Loads.{IsErrorAnswer, IsFaultAnswer, IsLoadAnswer, IsLoadAnswerBy, IsTextAnswer}
 use Rattle.bdb_tool_build.specs.Refusals.{IsRefusedAnswer, Says}
 use Rattle.bdb_tool_build.proofs.RefusalLemmas.{says_allowed, still_refused}
-use Rattle.bdb_settle.specs.declared.load_error.LoadError.TheVariants.{RecordTooLong, RecordZero, QueueAmongNames, OntoKind, OntoNames}
+use Rattle.bdb_onto.specs.of_settle.declared.load_error.LoadError.TheVariants.{RecordTooLong, RecordZero, QueueAmongNames, OntoKind, OntoNames}
 
 -- a text with a fault
 pub fault_refused : (text : List ℕ) (fault : TextFault) (refusal : Refusal) → text_fault text ≡ Some fault → Says (told 8 (reason_line fault)) refusal

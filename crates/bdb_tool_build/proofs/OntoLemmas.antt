@@ -1,12 +1,12 @@
 -- From the sections of a text to the answer on a base.
 use Rattle.std.proofs.Common.{◌≡◌, ◌⊎◌, ℕ, List, inl, inr, subst, sym, ap}
 use Rattle.std.specs.Prelude.{Option, Some, None, Result, Ok, Err, MatchResult}
-use Rattle.bdb_text_format.specs.declared.sections.Section.{Section}
-use Rattle.bdb_text_format.specs.Sections.{Reads}
+use Rattle.bdb_model.specs.of_text_format.declared.sections.Section.{Section}
+use Rattle.bdb_model.specs.of_text_format.Sections.{Reads}
 use Rattle.bdb_model.specs.Answers.{Answer, done}
-use Rattle.bdb_settle.specs.declared.load_error.LoadError.{LoadError}
-use Rattle.bdb_settle.specs.declared.load_error.LoadError.TheVariants.{Memory}
-use Rattle.bdb_mkfile.specs.Loading.{IsLoadRefusalBy, or_else}
+use Rattle.bdb_onto.specs.of_settle.declared.load_error.LoadError.{LoadError}
+use Rattle.bdb_onto.specs.of_settle.declared.load_error.LoadError.TheVariants.{Memory}
+use Rattle.bdb_onto.specs.of_mkfile.Loading.{IsLoadRefusalBy, or_else}
 use Rattle.bdb_onto.specs.declared.base.Base.{Base}
 use Rattle.bdb_onto.specs.Onto.{IsOntoRefusal, loading_error_onto, onto_error, size_error_onto}
 use Rattle.bdb_tool_build.specs.declared.refusal.Refusal.{Refusal}

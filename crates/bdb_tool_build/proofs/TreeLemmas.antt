@@ -8,13 +8,13 @@ use Rattle.bdb_format.specs.Contents.{StoredPair, data_of, pairs_of}
 use Rattle.bdb_format.specs.File.{File, file_of}
 use Rattle.bdb_format.specs.Leaves.{leaves}
 use Rattle.bdb_format.specs.Lists.{ListKey, BytesKey, btree_list, listed_pair}
-use Rattle.bdb_image.specs.Linked.{FitsLeafPage, IsForest}
-use Rattle.bdb_btree.specs.Pairs.{AreFit, FitsPair}
-use Rattle.bdb_btree.proofs.FallLemmas.{ShareKeys as HaveKeys, tree_keys}
-use Rattle.bdb_btree.proofs.PairLemmas.{pair_of_page}
-use Rattle.bdb_btree.proofs.WalkLemmas.{each_of, pairs_of_tree}
-use Rattle.bdb_text_format.specs.declared.pairs.Key.TheVariants.{Bytes}
-use Rattle.bdb_text_format.specs.declared.pairs.TextPair.{TextPair}
+use Rattle.bdb_onto.specs.of_image.Linked.{FitsLeafPage, IsForest}
+use Rattle.bdb_onto.specs.of_btree.Pairs.{AreFit, FitsPair}
+use Rattle.bdb_onto.proofs.of_btree.FallLemmas.{ShareKeys as HaveKeys, tree_keys}
+use Rattle.bdb_onto.proofs.of_btree.PairLemmas.{pair_of_page}
+use Rattle.bdb_onto.proofs.of_btree.WalkLemmas.{each_of, pairs_of_tree}
+use Rattle.bdb_model.specs.of_text_format.declared.pairs.Key.TheVariants.{Bytes}
+use Rattle.bdb_model.specs.of_text_format.declared.pairs.TextPair.{TextPair}
 use Rattle.bdb_onto.specs.Bases.{text_pair}
 use Rattle.bdb_tool_build.specs.Ontos.{list_key}
 use Rattle.bdb_tool_build.specs.Copied.{AreOf, Follow, ShareKeys}

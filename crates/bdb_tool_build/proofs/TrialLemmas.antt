@@ -10,18 +10,18 @@ use Rattle.bdb_format.specs.declared.kinds.Kind.TheVariants.{Btree, Recno, Hash,
 use Rattle.bdb_format.specs.declared.kinds.Order.TheVariants.{Big}
 use Rattle.bdb_format.specs.Numbers.{spelled}
 use Rattle.bdb_format.proofs.SpellingLemmas.{length-spelled}
-use Rattle.bdb_text_format.specs.declared.pairs.TextPair.{TextPair}
-use Rattle.bdb_text_format.specs.declared.sections.Section.{Section}
-use Rattle.bdb_text_format.specs.Written.{holds_records}
-use Rattle.bdb_law_sections.specs.Fit.{AreFitSettings, IsFitPair, IsFitSection}
-use Rattle.bdb_settle.specs.declared.load_error.LoadError.{LoadError}
-use Rattle.bdb_settle.specs.declared.load_error.LoadError.TheVariants.{Memory, TooLarge}
-use Rattle.bdb_settle.specs.Loaded.{unnumbered}
-use Rattle.bdb_settle.specs.LoadErrors.{load_error, pair_errors}
+use Rattle.bdb_model.specs.of_text_format.declared.pairs.TextPair.{TextPair}
+use Rattle.bdb_model.specs.of_text_format.declared.sections.Section.{Section}
+use Rattle.bdb_model.specs.of_text_format.Written.{holds_records}
+use Rattle.bdb_onto.specs.of_law_sections.Fit.{AreFitSettings, IsFitPair, IsFitSection}
+use Rattle.bdb_onto.specs.of_settle.declared.load_error.LoadError.{LoadError}
+use Rattle.bdb_onto.specs.of_settle.declared.load_error.LoadError.TheVariants.{Memory, TooLarge}
+use Rattle.bdb_onto.specs.of_settle.Loaded.{unnumbered}
+use Rattle.bdb_onto.specs.of_settle.LoadErrors.{load_error, pair_errors}
 use Rattle.bdb_gen.specs.Generated.{generated, number_from, pair_of}
-use Rattle.bdb_mkfile.specs.Builds.{image_size}
-use Rattle.bdb_mkfile.specs.Loading.{AreLoadable, IsLoadRefusal, loading_error, size_error}
-use Rattle.bdb_mkfile.proofs.BuildLemmas.{refusal_found}
+use Rattle.bdb_onto.specs.of_mkfile.Builds.{image_size}
+use Rattle.bdb_onto.specs.of_mkfile.Loading.{AreLoadable, IsLoadRefusal, loading_error, size_error}
+use Rattle.bdb_onto.proofs.of_mkfile.BuildLemmas.{refusal_found}
 use Rattle.bdb_model.specs.Answers.{Answer, told}
 use Rattle.bdb_tool_build.specs.declared.refusal.Refusal.{Refusal}
 use Rattle.bdb_tool_build.specs.Lines.{image_too_large_line}

@@ -6,9 +6,9 @@ use Rattle.bdb_format.specs.Contents.{StoredPair}
 use Rattle.bdb_format.specs.Flags.{is_recno}
 use Rattle.bdb_format.specs.Lists.{ListKey}
 use Rattle.bdb_format.specs.Page.{BtreeFields, Metadata}
-use Rattle.bdb_text_format.specs.declared.pairs.Key.{Key}
-use Rattle.bdb_text_format.specs.declared.pairs.TextPair.{TextPair}
-use Rattle.bdb_text_format.specs.Pairs.{last_key}
+use Rattle.bdb_model.specs.of_text_format.declared.pairs.Key.{Key}
+use Rattle.bdb_model.specs.of_text_format.declared.pairs.TextPair.{TextPair}
+use Rattle.bdb_model.specs.of_text_format.Pairs.{last_key}
 use Rattle.bdb_tool_build.specs.Ontos.{list_key}
 
 -- there is a last pair, and it has this key

@@ -1,12 +1,12 @@
 -- The lines that say why a text isn't loaded, and those of a trial. Source: README.md, "Use", and docs/FORMAT.md, "Reasons".
 use Rattle.std.specs.Prelude.{ℕ, List, ◌++◌, codes, decimal}
 use Rattle.bdb_format.specs.declared.kinds.Kind.{Kind}
-use Rattle.bdb_text_format.specs.declared.faults.TextFault.{TextFault}
-use Rattle.bdb_text_format.specs.ReasonTable.{reason_code, reason_name}
-use Rattle.bdb_text_format.specs.LineEnd.{line}
-use Rattle.bdb_text_format.specs.Written.{kind_text}
-use Rattle.bdb_settle.specs.declared.load_error.LoadError.{LoadError}
-use Rattle.bdb_settle.specs.LoadErrors.{code_of, line_of, name_of}
+use Rattle.bdb_model.specs.of_text_format.declared.faults.TextFault.{TextFault}
+use Rattle.bdb_model.specs.of_text_format.ReasonTable.{reason_code, reason_name}
+use Rattle.bdb_model.specs.of_text_format.LineEnd.{line}
+use Rattle.bdb_model.specs.of_text_format.Written.{kind_text}
+use Rattle.bdb_onto.specs.of_settle.declared.load_error.LoadError.{LoadError}
+use Rattle.bdb_onto.specs.of_settle.LoadErrors.{code_of, line_of, name_of}
 
 -- the line of a text's fault
 abbrev pub reason_line : TextFault → List ℕ

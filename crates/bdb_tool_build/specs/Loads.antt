@@ -1,14 +1,14 @@
 -- What `load` answers to a text that is within the limit. Source: README.md, "Use".
 use Rattle.std.specs.Prelude.{◌≡◌, ℕ, List, Option, Some, None}
-use Rattle.bdb_text_format.specs.declared.faults.TextFault.{TextFault}
-use Rattle.bdb_text_format.specs.declared.sections.Section.{Section}
+use Rattle.bdb_model.specs.of_text_format.declared.faults.TextFault.{TextFault}
+use Rattle.bdb_model.specs.of_text_format.declared.sections.Section.{Section}
 use Rattle.bdb_model.specs.Answers.{Answer, done, told}
-use Rattle.bdb_text_format.specs.Reasons.{text_fault}
-use Rattle.bdb_text_format.specs.Sections.{Reads}
-use Rattle.bdb_settle.specs.declared.load_error.LoadError.{LoadError}
-use Rattle.bdb_settle.specs.declared.load_error.LoadError.TheVariants.{TooLarge, Memory}
-use Rattle.bdb_mkfile.specs.Builds.{Builds}
-use Rattle.bdb_mkfile.specs.Loading.{loading_error}
+use Rattle.bdb_model.specs.of_text_format.Reasons.{text_fault}
+use Rattle.bdb_model.specs.of_text_format.Sections.{Reads}
+use Rattle.bdb_onto.specs.of_settle.declared.load_error.LoadError.{LoadError}
+use Rattle.bdb_onto.specs.of_settle.declared.load_error.LoadError.TheVariants.{TooLarge, Memory}
+use Rattle.bdb_onto.specs.of_mkfile.Builds.{Builds}
+use Rattle.bdb_onto.specs.of_mkfile.Loading.{loading_error}
 use Rattle.bdb_tool_build.specs.Lines.{error_line, image_too_large_line, reason_line}
 
 -- the answer to sections that have a load error; want of memory is none

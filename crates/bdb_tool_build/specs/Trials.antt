@@ -4,12 +4,12 @@ use Rattle.bdb_format.specs.declared.kinds.Kind.{Kind}
 use Rattle.bdb_format.specs.declared.kinds.Order.TheVariants.{Little}
 use Rattle.bdb_format.specs.declared.settings.Settings.{Settings}
 use Rattle.bdb_format.specs.Hashing.{hash5}
-use Rattle.bdb_text_format.specs.declared.sections.Section.{Section}
+use Rattle.bdb_model.specs.of_text_format.declared.sections.Section.{Section}
 use Rattle.bdb_model.specs.Answers.{Answer, done, told}
-use Rattle.bdb_text_format.specs.Written.{is_queue}
-use Rattle.bdb_settle.specs.Loaded.{loaded_section, unnumbered}
-use Rattle.bdb_need.specs.Need.{need_of}
-use Rattle.bdb_mkfile.specs.Builds.{Builds, image_size}
+use Rattle.bdb_model.specs.of_text_format.Written.{is_queue}
+use Rattle.bdb_onto.specs.of_settle.Loaded.{loaded_section, unnumbered}
+use Rattle.bdb_onto.specs.of_need.Need.{need_of}
+use Rattle.bdb_onto.specs.of_mkfile.Builds.{Builds, image_size}
 use Rattle.bdb_gen.specs.Generated.{generated}
 use Rattle.bdb_tool_build.specs.Lines.{image_too_large_line, trial_text}
 

@@ -1,15 +1,15 @@
 //! Keys and data, copied out of a file.
 ghost use Rattle.std.specs.Prelude.{◌≡◌, ◌++◌, ◌∷◌, ◌<◌, [], true, IfOk, OnOk, length};
-ghost use Rattle.bdb_overflow.specs.Datum.{datum_seen, key_view_seen};
-ghost use Rattle.bdb_text_format.specs.Placed.{key_seen, pair_with};
-ghost use Rattle.bdb_text_format.specs.declared.pairs.Key.TheVariants.{Bytes};
-ghost use Rattle.bdb_text_format.specs.Pairs.{last_key};
+ghost use Rattle.bdb_onto.specs.of_overflow.Datum.{datum_seen, key_view_seen};
+ghost use Rattle.bdb_model.specs.of_text_format.Placed.{key_seen, pair_with};
+ghost use Rattle.bdb_model.specs.of_text_format.declared.pairs.Key.TheVariants.{Bytes};
+ghost use Rattle.bdb_model.specs.of_text_format.Pairs.{last_key};
 ghost use Rattle.bdb_onto.specs.Bases.{text_pair};
 ghost use Rattle.bdb_tool_build.specs.Ontos.{list_key};
 ghost use Rattle.bdb_tool_build.specs.Copied.{EndsWith};
 
-use bdb_overflow::{Datum, KeyView, bytes_in, is_same};
-use bdb_text_format::{KeyRef, PairRef, TextPairs};
+use bdb_model::bdb_text_format::{KeyRef, PairRef, TextPairs};
+use bdb_onto::bdb_overflow::{Datum, KeyView, bytes_in, is_same};
 use std::alloc::{AllocError, Global};
 
 /// Rooms in which the bytes of chains are joined, for all keys and data of a base, and how many bytes may still be copied.

@@ -1,10 +1,10 @@
 //! `load`: from a dump text to the image of its sections.
 ghost use Rattle.std.specs.Prelude.{◌≡◌, ◌≤◌, ◌^◌, IfErr, IfOk, List, MatchResult, length, string_bytes, ℕ};
 ghost use Rattle.bdb_model.specs.Answers.{done, told};
-ghost use Rattle.bdb_text_format.specs.Sections.{Reads};
-ghost use Rattle.bdb_mkfile.specs.Loading.{AreLoadable, loading_error};
+ghost use Rattle.bdb_model.specs.of_text_format.Sections.{Reads};
+ghost use Rattle.bdb_onto.specs.of_mkfile.Loading.{AreLoadable, loading_error};
 ghost use Rattle.bdb_tool_build.specs.Lines.{image_too_large_line};
-ghost use Rattle.bdb_text_format.specs.Reasons.{text_fault};
+ghost use Rattle.bdb_model.specs.of_text_format.Reasons.{text_fault};
 ghost use Rattle.bdb_onto.specs.Bases.{IsBase};
 ghost use Rattle.bdb_onto.specs.Onto.{loading_error_onto};
 ghost use Rattle.bdb_tool_build.specs.Ontos.{IsLoadOnto, IsTextOnto};
@@ -13,12 +13,12 @@ ghost use Rattle.bdb_tool_build.specs.Refusals.{IsRefusedAnswer, Says};
 
 use crate::refusal::Refusal;
 use crate::texts::{error_line, image_too_large_line, reason_line};
-use bdb_io::Image;
-use bdb_mkfile::load;
+use bdb_model::bdb_text_format::{Sections, TextFault};
+use bdb_onto::bdb_io::Image;
+use bdb_onto::bdb_mkfile::load;
+use bdb_onto::bdb_settle::LoadError;
+use bdb_onto::bdb_text::{TextError, read_dump};
 use bdb_onto::{Base, load_onto};
-use bdb_settle::LoadError;
-use bdb_text::{TextError, read_dump};
-use bdb_text_format::{Sections, TextFault};
 use std::alloc::{AllocError, Global};
 
 // A line of why a text isn't loaded, where there is memory for it.

@@ -6,20 +6,20 @@ ghost use Rattle.bdb_format.specs.File.{file_of};
 ghost use Rattle.bdb_format.specs.Lists.{btree_list, listed_pair};
 ghost use Rattle.bdb_format.specs.Page.{BtreeFields};
 ghost use Rattle.bdb_format.specs.Verdict.{structure_faults};
-ghost use Rattle.bdb_image.specs.Linked.{FitsLeafPage, HasMetadata, IsForest};
-ghost use Rattle.bdb_btree.specs.Pairs.{FitsPair, left_of, pair_seen};
-ghost use Rattle.bdb_text_format.specs.declared.pairs.Key.{Key};
-ghost use Rattle.bdb_text_format.specs.declared.pairs.Key.TheVariants.{Bytes};
-ghost use Rattle.bdb_text_format.specs.Pairs.{last_key};
+ghost use Rattle.bdb_onto.specs.of_image.Linked.{FitsLeafPage, HasMetadata, IsForest};
+ghost use Rattle.bdb_onto.specs.of_btree.Pairs.{FitsPair, left_of, pair_seen};
+ghost use Rattle.bdb_model.specs.of_text_format.declared.pairs.Key.{Key};
+ghost use Rattle.bdb_model.specs.of_text_format.declared.pairs.Key.TheVariants.{Bytes};
+ghost use Rattle.bdb_model.specs.of_text_format.Pairs.{last_key};
 ghost use Rattle.bdb_onto.specs.Bases.{text_pair};
 ghost use Rattle.bdb_tool_build.specs.Copied.{AreOf, EndsWith, Follow, HaveOneKey};
 
 use crate::copied::Rooms;
-use bdb_btree::{Entries, Pair, next_entry, page_pairs, pair_entries};
 use bdb_format::BtreeMeta;
-use bdb_graph::{Forest, Linked};
-use bdb_text_format::TextPairs;
-use bdb_tree::tree_leaves;
+use bdb_model::bdb_text_format::TextPairs;
+use bdb_onto::bdb_btree::{Entries, Pair, next_entry, page_pairs, pair_entries};
+use bdb_onto::bdb_graph::{Forest, Linked};
+use bdb_onto::bdb_tree::tree_leaves;
 use std::alloc::{AllocError, Global};
 
 // Adds the data that are left of a key, with the key of the last pair.

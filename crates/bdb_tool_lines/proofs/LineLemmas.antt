@@ -2,11 +2,11 @@
 use Rattle.std.proofs.Common.{◌≡◌, ◌∙◌, ℕ, List, ◌++◌, ap, append_assoc}
 use Rattle.std.specs.Prelude.{Option, Result, codes}
 use Rattle.std.specs.Fmt.{decimal}
-use Rattle.bdb_format.specs.declared.kinds.Fault.{Fault}
-use Rattle.bdb_format.specs.declared.kinds.Unsupported.{Unsupported}
+use Rattle.bdb_faults.specs.of_format.declared.kinds.Fault.{Fault}
+use Rattle.bdb_faults.specs.of_format.declared.kinds.Unsupported.{Unsupported}
 use Rattle.bdb_model.specs.Answers.{fault_line, unsupported_line}
-use Rattle.bdb_format.specs.FaultNames.{fault_name, unsupported_name}
-use Rattle.bdb_text_format.specs.LineEnd.{line}
+use Rattle.bdb_faults.specs.of_format.FaultNames.{fault_name, unsupported_name}
+use Rattle.bdb_model.specs.of_text_format.LineEnd.{line}
 use Rattle.bdb_tool_lines.specs.Passing.{Passes}
 use Rattle.bdb_tool_lines.specs.Telling.{case_page_part, case_part, code_part, name_part, page_part, stage_part}
 use Rattle.bdb_tool_lines.specs.declared.cut.Cut.{Cut}

@@ -2,9 +2,9 @@
 use Rattle.std.specs.Prelude.{ℕ, List, ◌++◌, codes}
 use Rattle.std.specs.Fmt.{decimal}
 use Rattle.std.specs.List.{flat_map}
-use Rattle.bdb_format.specs.Verdict.{Judgement, Faulty, LeftOut}
+use Rattle.bdb_faults.specs.of_format.Verdict.{Judgement, Faulty, LeftOut}
 use Rattle.bdb_model.specs.Answers.{fault_line, unsupported_line}
-use Rattle.bdb_text_format.specs.LineEnd.{line}
+use Rattle.bdb_model.specs.of_text_format.LineEnd.{line}
 
 abbrev pub judgement_line : Judgement → List ℕ
 judgement_line (Faulty fault) = fault_line fault

@@ -8,6 +8,7 @@ mod printer;
 mod room;
 mod telling;
 
+pub use bdb_io;
 pub use cut::Cut;
 pub use room::Room;
 pub use telling::{tell_all, tell_one};

@@ -1,20 +1,20 @@
 //! The lines of what holds at the pages of a file.
 ghost use Rattle.std.specs.Prelude.{◌≡◌, ◌<◌, ◌++◌, IfErr, Some, length, slice_get};
-ghost use Rattle.bdb_format.specs.Verdict.{Judgement};
+ghost use Rattle.bdb_faults.specs.of_format.Verdict.{Judgement};
 ghost use Rattle.std.specs.Fmt.{decimal};
 ghost use Rattle.bdb_faults.specs.Named.{judgement_seen};
 ghost use Rattle.bdb_tool_lines.specs.Passing.{Passes};
 ghost use Rattle.bdb_tool_lines.specs.Telling.{case_page_part, case_part, code_part, judgement_line, name_part, page_part, stage_part};
 ghost use Rattle.bdb_tool_lines.specs.declared.cut.Cut.TheVariants.{WriteFault};
 ghost use Rattle.bdb_model.specs.Answers.{fault_line, unsupported_line};
-ghost use Rattle.bdb_format.specs.FaultNames.{fault_name, unsupported_name};
-ghost use Rattle.bdb_text_format.specs.LineEnd.{line};
+ghost use Rattle.bdb_faults.specs.of_format.FaultNames.{fault_name, unsupported_name};
+ghost use Rattle.bdb_model.specs.of_text_format.LineEnd.{line};
 
 use crate::Cut;
 use crate::digits::Digits;
 use crate::printer::Printer;
+use bdb_faults::bdb_format::{Fault, Unsupported};
 use bdb_faults::{Named, NamedList, fault_name, unsupported_name};
-use bdb_format::{Fault, Unsupported};
 use bdb_io::Sink;
 
 impl<'k, K: Sink> Printer<'k, K> {

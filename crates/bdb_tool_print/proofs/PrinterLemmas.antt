@@ -5,15 +5,15 @@ use Rattle.std.specs.List.{flat_map}
 use Rattle.std.proofs.Math.Seq.{drop-cons}
 use Rattle.std.proofs.lemmas.List.{drop_all}
 use Rattle.std.specs.Prelude.{Option, Ok, Err, OnOk, Result, IsErrAnd}
-use Rattle.bdb_format.specs.Chains.{joined}
+use Rattle.bdb_model.specs.of_format.Chains.{joined}
 use Rattle.bdb_model.specs.Change.{change}
-use Rattle.bdb_text_format.specs.TextSpelling.{spelling}
+use Rattle.bdb_model.specs.of_text_format.TextSpelling.{spelling}
 use Rattle.bdb_tool_lines.specs.Printing.{Prints, Writes}
 use Rattle.bdb_tool_print.specs.Printers.{Adds, HasAdded}
 use Rattle.bdb_tool_lines.specs.declared.cut.Cut.{Cut}
 use Rattle.bdb_tool_print.specs.declared.printing.Printer.{Printer}
 use Rattle.bdb_tool_lines.proofs.PrintingLemmas.{begins_cut, cut_short, nothing_printed, then_more, then_written}
-use Rattle.bdb_spelling.proofs.SpellingLemmas.{spelling-append}
+use Rattle.bdb_text.proofs.of_spelling.SpellingLemmas.{spelling-append}
 use Rattle.bdb_tool_print.proofs.SpellingLemmas.{spelling_none}
 
 -- a text and then another

@@ -3,24 +3,24 @@ ghost use Rattle.std.specs.Prelude.{◌≡◌, ◌++◌, ◌<◌, length, option
 ghost use Rattle.std.specs.List.{flat_map};
 ghost use Rattle.bdb_file.specs.Named.{database_at};
 ghost use Rattle.bdb_model.specs.Change.{change};
-ghost use Rattle.bdb_format.specs.Databases.{databases};
-ghost use Rattle.bdb_format.specs.File.{file_of};
-ghost use Rattle.bdb_text_format.specs.LineEnd.{line};
-ghost use Rattle.bdb_format.specs.Lists.{list_of};
-ghost use Rattle.bdb_text_format.specs.Written.{data_end, data_line, database_text, dump_text, header_text, key_bytes};
-ghost use Rattle.bdb_overflow.specs.Datum.{datum_seen, key_view_seen};
+ghost use Rattle.bdb_model.specs.of_format.Databases.{databases};
+ghost use Rattle.bdb_model.specs.of_format.File.{file_of};
+ghost use Rattle.bdb_model.specs.of_text_format.LineEnd.{line};
+ghost use Rattle.bdb_model.specs.of_format.Lists.{list_of};
+ghost use Rattle.bdb_model.specs.of_text_format.Written.{data_end, data_line, database_text, dump_text, header_text, key_bytes};
+ghost use Rattle.bdb_range.specs.of_overflow.Datum.{datum_seen, key_view_seen};
 ghost use Rattle.bdb_tool_print.specs.Printers.{Adds, pair_text};
 ghost use Rattle.bdb_tool_lines.specs.Printing.{Writes};
 ghost use Rattle.std.specs.Fmt.{decimal};
 
 use crate::printing::Printer;
 use bdb_file::{Db, Readable, Scan};
-use bdb_format::{Bytes, Settings};
-use bdb_io::Sink;
-use bdb_overflow::{Datum, KeyView};
-use bdb_spelling::SHORT_VALUE;
+use bdb_model::bdb_format::{Bytes, Settings};
+use bdb_range::bdb_overflow::{Datum, KeyView};
+use bdb_text::bdb_spelling::SHORT_VALUE;
 use bdb_text::{header_text, number_text};
 use bdb_tool_lines::Cut;
+use bdb_tool_lines::bdb_io::Sink;
 use std::alloc::Global;
 
 impl<'k, K: Sink> Printer<'k, K> {

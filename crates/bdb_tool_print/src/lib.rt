@@ -7,6 +7,8 @@ mod printing;
 mod ranging;
 mod salvaging;
 
+pub use bdb_range;
+pub use bdb_tool_lines;
 pub use bdb_tool_lines::Cut;
 pub use dumping::{write_section, write_sections};
 pub use listing::{write_found, write_list};

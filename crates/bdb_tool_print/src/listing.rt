@@ -2,22 +2,22 @@
 ghost use Rattle.std.specs.Prelude.{◌≡◌, ◌++◌, codes, option_copied, true};
 ghost use Rattle.bdb_model.specs.Answers.{list_text, name_text, value_line, values_text};
 ghost use Rattle.bdb_model.specs.Change.{change};
-ghost use Rattle.bdb_format.specs.Databases.{databases};
-ghost use Rattle.bdb_format.specs.File.{file_of};
-ghost use Rattle.bdb_text_format.specs.LineEnd.{line};
-ghost use Rattle.bdb_text_format.specs.TextSpelling.{spelling};
-ghost use Rattle.bdb_text_format.specs.Written.{kind_text};
-ghost use Rattle.bdb_overflow.specs.Datum.{datum_seen};
+ghost use Rattle.bdb_model.specs.of_format.Databases.{databases};
+ghost use Rattle.bdb_model.specs.of_format.File.{file_of};
+ghost use Rattle.bdb_model.specs.of_text_format.LineEnd.{line};
+ghost use Rattle.bdb_model.specs.of_text_format.TextSpelling.{spelling};
+ghost use Rattle.bdb_model.specs.of_text_format.Written.{kind_text};
+ghost use Rattle.bdb_range.specs.of_overflow.Datum.{datum_seen};
 ghost use Rattle.bdb_tool_print.specs.Printers.{Adds};
 ghost use Rattle.bdb_tool_lines.specs.Printing.{Writes};
 
 use crate::printing::Printer;
 use bdb_file::{Found, Readable};
-use bdb_format::{Bytes, Kind};
-use bdb_io::Sink;
-use bdb_overflow::Datum;
+use bdb_model::bdb_format::{Bytes, Kind};
+use bdb_range::bdb_overflow::Datum;
 use bdb_text::kind_word;
 use bdb_tool_lines::Cut;
+use bdb_tool_lines::bdb_io::Sink;
 use std::alloc::Global;
 
 impl<'k, K: Sink> Printer<'k, K> {

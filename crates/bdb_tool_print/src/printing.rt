@@ -1,18 +1,18 @@
 ghost use Rattle.std.specs.Prelude.{◌≡◌, ◌≤◌, [], false, length, OnOk};
 ghost use Rattle.bdb_model.specs.Answers.{value_line};
-ghost use Rattle.bdb_format.specs.Chains.{joined};
-ghost use Rattle.bdb_text_format.specs.LineEnd.{line};
-ghost use Rattle.bdb_text_format.specs.TextSpelling.{spelling};
-ghost use Rattle.bdb_text_format.specs.Written.{data_line};
-ghost use Rattle.bdb_overflow.specs.Datum.{datum_seen};
+ghost use Rattle.bdb_model.specs.of_format.Chains.{joined};
+ghost use Rattle.bdb_model.specs.of_text_format.LineEnd.{line};
+ghost use Rattle.bdb_model.specs.of_text_format.TextSpelling.{spelling};
+ghost use Rattle.bdb_model.specs.of_text_format.Written.{data_line};
+ghost use Rattle.bdb_range.specs.of_overflow.Datum.{datum_seen};
 ghost use Rattle.bdb_tool_print.specs.Printers.{Adds};
 
-use bdb_format::Bytes;
-use bdb_io::{Sink, put_all};
-use bdb_overflow::{Datum, Pieces};
-use bdb_spelling::{SHORT_VALUE, push_short_line};
+use bdb_model::bdb_format::Bytes;
+use bdb_range::bdb_overflow::{Datum, Pieces};
+use bdb_text::bdb_spelling::{SHORT_VALUE, push_short_line};
 use bdb_text::push_line_text;
 use bdb_tool_lines::Cut;
+use bdb_tool_lines::bdb_io::{Sink, put_all};
 use std::alloc::Global;
 
 /// How many bytes are gathered before they are written.

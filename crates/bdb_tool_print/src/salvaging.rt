@@ -2,22 +2,22 @@
 ghost use Rattle.std.specs.Prelude.{◌≡◌, ◌<◌, ◌≤◌, ◌^◌, ◌++◌, Some, codes, length, map};
 ghost use Rattle.std.specs.List.{enumerate_from, flat_map};
 ghost use Rattle.bdb_model.specs.Change.{change};
-ghost use Rattle.bdb_text_format.specs.LineEnd.{line};
-ghost use Rattle.bdb_text_format.specs.Written.{data_end, section_text};
-ghost use Rattle.bdb_overflow.specs.Datum.{datum_seen};
+ghost use Rattle.bdb_model.specs.of_text_format.LineEnd.{line};
+ghost use Rattle.bdb_model.specs.of_text_format.Written.{data_end, section_text};
+ghost use Rattle.bdb_range.specs.of_overflow.Datum.{datum_seen};
 ghost use Rattle.bdb_tool_print.specs.Printers.{Adds, pair_text};
 ghost use Rattle.bdb_tool_lines.specs.Printing.{Writes};
 ghost use Rattle.bdb_rescue.specs.Text.{bytes_pair, loose_section, loose_settings, numbered_record, salvage_text};
 ghost use Rattle.bdb_rescue.specs.Text.{stored_section, stored_settings};
 ghost use Rattle.bdb_rescue.specs.Kept.{file_in};
-ghost use Rattle.bdb_survey.specs.Salvage.{loose};
+ghost use Rattle.bdb_rescue.specs.of_survey.Salvage.{loose};
 
 use crate::printing::Printer;
-use bdb_format::{Bytes, Kind, Settings, plain_settings};
-use bdb_io::Sink;
-use bdb_overflow::{Datum, KeyView};
+use bdb_model::bdb_format::{Bytes, Kind, Settings, plain_settings};
+use bdb_range::bdb_overflow::{Datum, KeyView};
 use bdb_rescue::{Guess, SalvagePairs, SalvageValues, Salvaged};
 use bdb_tool_lines::Cut;
+use bdb_tool_lines::bdb_io::Sink;
 use std::alloc::Global;
 
 // The settings of the section of the loose records.

@@ -1,8 +1,8 @@
 //! How far an input is read, and what `trial` tells where its output fails.
 
-use bdb_io::{MemSink, MemSource};
 use std::alloc::{AllocError, Global};
 use std::test::Fail;
+use test_runs::bdb_io::{MemSink, MemSource};
 use test_runs::files::ONE_PAIR;
 use test_runs::images::bytes_of;
 use test_runs::outside::{Dripping, Narrow};

@@ -1,9 +1,9 @@
 //! A value of 40,000 bytes, whose 80,000 digits are written in two pieces.
 
-use bdb_format::Bytes;
-use bdb_io::{MemSink, MemSource, Sink};
 use std::alloc::{AllocError, Global};
 use std::test::Fail;
+use test_runs::bdb_format::Bytes;
+use test_runs::bdb_io::{MemSink, MemSource, Sink};
 use test_runs::files::LONG_VALUE;
 use test_runs::images::bytes_of;
 use test_runs::outside::Narrow;

@@ -1,10 +1,10 @@
 //! How a base is read, and what is told where that fails. The rules: README.md, "Use".
 
-use bdb_format::Bytes;
-use bdb_io::{BaseSource, MemSource, Source, StdSource};
 use std::alloc::{AllocError, Global};
 use std::fs;
 use std::test::Fail;
+use test_runs::bdb_format::Bytes;
+use test_runs::bdb_io::{BaseSource, MemSource, Source, StdSource};
 use test_runs::files::ONE_PAIR;
 use test_runs::images::bytes_of;
 use test_runs::outside::Dripping;

@@ -1,14 +1,14 @@
 //! `run` with a base, and the law's function.
 ghost use Rattle.std.specs.Prelude.{◌≡◌};
 
-use bdb_format::Steps;
-use bdb_io::{MemSink, MemSource, Source};
-use bdb_tool::laws::run_pure;
-use bdb_tool::run;
 use std::alloc::{AllocError, Global};
 use std::marker::Brand;
 use std::sync::ledger::{Blank, Ledger};
 use std::test::Fail;
+use test_runs::bdb_format::Steps;
+use test_runs::bdb_io::{MemSink, MemSource, Source};
+use test_runs::bdb_tool::laws::run_pure;
+use test_runs::bdb_tool::run;
 use test_runs::files::ONE_PAIR;
 use test_runs::images::bytes_of;
 use test_runs::outside::Dripping;

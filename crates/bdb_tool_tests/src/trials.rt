@@ -1,7 +1,7 @@
 //! What `trial` writes: the figures, and the hash of the image. The rules: README.md, "Use".
 
-use bdb_layout::hash5;
 use std::test::Fail;
+use test_runs::bdb_layout::hash5;
 use test_runs::files::ONE_PAIR;
 use test_runs::images::bytes_of;
 use test_runs::outside::Dripping;

@@ -4,11 +4,11 @@ use Rattle.std.specs.List.{find}
 use Rattle.std.specs.Str.{bytes_eq}
 use Rattle.bdb_file.specs.declared.rows.Rows.{Rows}
 use Rattle.bdb_file.specs.declared.rows.Rows.TheVariants.{All, AnyOrder}
-use Rattle.bdb_format.specs.declared.kinds.Kind.{Kind}
-use Rattle.bdb_format.specs.declared.kinds.Kind.TheVariants.{Btree, Recno, Hash, Queue}
-use Rattle.bdb_format.specs.declared.kinds.Order.{Order}
-use Rattle.bdb_format.specs.declared.kinds.Order.TheVariants.{Big, Little}
-use Rattle.bdb_format.specs.Digits.{number_in}
+use Rattle.bdb_model.specs.of_format.declared.kinds.Kind.{Kind}
+use Rattle.bdb_model.specs.of_format.declared.kinds.Kind.TheVariants.{Btree, Recno, Hash, Queue}
+use Rattle.bdb_model.specs.of_format.declared.kinds.Order.{Order}
+use Rattle.bdb_model.specs.of_format.declared.kinds.Order.TheVariants.{Big, Little}
+use Rattle.bdb_model.specs.of_format.Digits.{number_in}
 use Rattle.bdb_model.specs.Answers.{Answer, told}
 use Rattle.bdb_model.specs.Command.{Arguments, OptionRow, arguments, asked_name, hex_option, hex_row, is_given, limit_of, max_bytes, max_bytes_row}
 use Rattle.bdb_model.specs.Command.{name_option, name_row, once, operand_spelled, print_option, print_row, value_given}
@@ -16,8 +16,8 @@ use Rattle.bdb_model.specs.declared.shape.Duplicates.{Duplicates}
 use Rattle.bdb_model.specs.declared.shape.Duplicates.TheVariants.{No, Unsorted, Sorted}
 use Rattle.bdb_model.specs.declared.shape.Shape.{Shape}
 use Rattle.bdb_model.specs.declared.shape.Shape.TheVariants.{Btree as BtreeShape, Hash as HashShape, Recno as RecnoShape}
-use Rattle.bdb_survey.specs.declared.guess.Guess.{Guess}
-use Rattle.bdb_text_format.specs.LineEnd.{line}
+use Rattle.bdb_rescue.specs.of_survey.declared.guess.Guess.{Guess}
+use Rattle.bdb_model.specs.of_text_format.LineEnd.{line}
 
 -- what is asked of a sound file: of a key the name of its database, where one was given, and whether data are printed; of a
 -- dump the name of a database, where not all are asked for, and whether data are printed; of a range a name as of a key, the

@@ -2,7 +2,7 @@
 use Rattle.std.specs.Prelude.{ℕ, ◌≡◌, ◌<◌, ◌≤◌, ◌^◌, ◌++◌, Bool, true, false, not, List, [], ◌∷◌, drop, length, Option, Some, IfSome, IsTrue, is_some}
 use Rattle.std.specs.Prelude.{MatchOption, None, option_copied, ⊤}
 use Rattle.bdb_file.specs.declared.rows.Rows.TheVariants.{All}
-use Rattle.bdb_format.specs.HeadOf.{is_page_size}
+use Rattle.bdb_model.specs.of_format.HeadOf.{is_page_size}
 use Rattle.bdb_tool_words.specs.Commands.{Action, Command, CommandRow, Convert, ListAll, Load, LoadOnto, Repair, Request, Salvage, Stat, Trial, Verify}
 use Rattle.bdb_tool_words.specs.Commands.{any_order_option, any_order_row, as_option, as_row, asking, bounds_request, command_by, command_of, convert_row}
 use Rattle.bdb_tool_words.specs.Commands.{dump_row}
@@ -11,7 +11,7 @@ use Rattle.bdb_tool_words.specs.Commands.{onto_row, order_option, order_row, pag
 use Rattle.bdb_tool_words.specs.Commands.{text_request, trial_row, verify_row, within}
 use Rattle.bdb_model.specs.Command.{Arguments, Given, OptionRow, arguments, asked_name, hex_option, hex_row, is_given, max_bytes, max_bytes_row, name_option}
 use Rattle.bdb_model.specs.Command.{name_row, only_operands, print_option, print_row, row_of, value_given, with_option}
-use Rattle.bdb_text_format.specs.TextSpelling.{bytes_spelled}
+use Rattle.bdb_model.specs.of_text_format.TextSpelling.{bytes_spelled}
 use Rattle.bdb_tool_words.specs.declared.options.OptionWord.{OptionWord}
 use Rattle.bdb_tool_words.specs.declared.options.OptionWord.TheVariants.{MaxBytes as MaxBytesWord, Name as NameWord, Order as OrderWord}
 use Rattle.bdb_tool_words.specs.declared.options.OptionWord.TheVariants.{PageSize as PageSizeWord}

@@ -1,7 +1,7 @@
 //! The command that the words of a command line are. Nothing here allocates.
 ghost use Rattle.std.specs.Prelude.{◌≡◌, ◌≢◌, ◌≤◌, ◌^◌, [], ◌∷◌, IfSome, List, MatchOption, Some, drop, false, is_some, length, option_copied, option_map};
 ghost use Rattle.std.specs.Prelude.{true, ℕ};
-ghost use Rattle.bdb_format.specs.Digits.{number_in};
+ghost use Rattle.bdb_model.specs.of_format.Digits.{number_in};
 ghost use Rattle.bdb_tool_words.specs.Commands.{Action as ModelAction, Request as ModelRequest, at_most, command_of, command_on, commands, convert_row};
 ghost use Rattle.bdb_tool_words.specs.Commands.{dump_row};
 ghost use Rattle.bdb_tool_words.specs.Commands.{get_row, kind_named, load_row, onto_file, plain_row, range_row, reading_row, repair_row, row_named, rows_by};
@@ -13,7 +13,7 @@ use crate::guesses::{guess_asked, order_named};
 use crate::options::{OptionWord, read_arguments};
 use crate::shapes::{duplicates_named, shape_asked};
 use bdb_file::Rows;
-use bdb_format::{Kind, Order, number_in};
+use bdb_model::bdb_format::{Kind, Order, number_in};
 use bdb_model::{Shape, Words};
 use bdb_rescue::Guess;
 use bdb_text::is_spelling;

@@ -23,12 +23,12 @@ use Rattle.bdb_format.proofs.GraphLemmas.{IsOwner, is_owner, owner_fits, reserve
 use Rattle.bdb_format.proofs.MemberLemmas.{first_member, in_filter, in_flat_map, in_map, of_filter}
 use Rattle.bdb_format.proofs.VerdictLemmas.{AllFail, none_is_first_row}
 use Rattle.bdb_format.proofs.FileLemmas.{page_is}
-use Rattle.bdb_graph.specs.Forest.{IsWayUp, LeadsUp, is_top}
-use Rattle.bdb_image.specs.Linked.{FitsLeafPage, IsForest, IsTarget}
-use Rattle.bdb_graph.proofs.ChildLemmas.{children_are, is_child, is_queue_page}
-use Rattle.bdb_image.proofs.FirstLemmas.{formed_page}
-use Rattle.bdb_graph.proofs.ForestLemmas.{each_page_leads_up, sound_graph}
-use Rattle.bdb_image.proofs.HeldLemmas.{own_type}
+use Rattle.bdb_overflow.specs.of_graph.Forest.{IsWayUp, LeadsUp, is_top}
+use Rattle.bdb_overflow.specs.of_image.Linked.{FitsLeafPage, IsForest, IsTarget}
+use Rattle.bdb_overflow.proofs.of_graph.ChildLemmas.{children_are, is_child, is_queue_page}
+use Rattle.bdb_overflow.proofs.of_image.FirstLemmas.{formed_page}
+use Rattle.bdb_overflow.proofs.of_graph.ForestLemmas.{each_page_leads_up, sound_graph}
+use Rattle.bdb_overflow.proofs.of_image.HeldLemmas.{own_type}
 use Rattle.bdb_tree.specs.Trees.{IsRoot, IsTreePage}
 use Rattle.bdb_tree.proofs.ShapeLemmas.{IsLeafPage, is_tree_in, no_queue}
 use Rattle.bdb_tree.proofs.TreeLemmas.{inner_type, leaf_is_tree, leaves_of_inner, leaves_of_leaf, tree_cases, tree_inside, tree_is}

@@ -6,8 +6,8 @@ use Rattle.std.specs.List.{Contains, filter, flat_map, last_or}
 use Rattle.std.proofs.lemmas.Option.{get_or_from_slice_get}
 use Rattle.std.specs.Option.{is_some, unwrap_or}
 use Rattle.std.proofs.lemmas.List.Elements.{Contains-append_cases, Contains-append_left, Contains-append_right}
-use Rattle.bdb_image.specs.Linked.{IsForest}
-use Rattle.bdb_slots.specs.Slots.{no_internal_item}
+use Rattle.bdb_overflow.specs.of_image.Linked.{IsForest}
+use Rattle.bdb_overflow.specs.of_slots.Slots.{no_internal_item}
 use Rattle.bdb_format.specs.ContentRows.{inner_in, inner_pages}
 use Rattle.bdb_format.specs.File.{File, file_of, header_in, page_at, type_in}
 use Rattle.bdb_format.specs.Leaves.{children_in}

@@ -5,7 +5,7 @@ use Rattle.bdb_format.specs.File.{File, file_of, header_in, page_at}
 use Rattle.bdb_format.specs.Leaves.{children_in, leaves}
 use Rattle.bdb_format.specs.Page.{Page, Internal, RecnoInternal}
 use Rattle.bdb_format.proofs.MemberLemmas.{first_member}
-use Rattle.bdb_image.specs.Linked.{FitsLeafPage, IsForest}
+use Rattle.bdb_overflow.specs.of_image.Linked.{FitsLeafPage, IsForest}
 use Rattle.bdb_tree.specs.Links.{HasItem, first_below}
 use Rattle.bdb_tree.specs.Trees.{IsTreePage}
 use Rattle.bdb_tree.proofs.ShapeLemmas.{IsFormedPage, formed_at}

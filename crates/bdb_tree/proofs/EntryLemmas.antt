@@ -9,7 +9,7 @@ use Rattle.bdb_format.specs.Contents.{data_of, entries_in, live_values, tree_ent
 use Rattle.bdb_format.specs.File.{File, file_of, page_at}
 use Rattle.bdb_format.specs.Leaves.{leaves}
 use Rattle.bdb_format.specs.Page.{Item, Page, RecnoLeaf, DupLeaf, Tree}
-use Rattle.bdb_image.specs.Linked.{IsForest}
+use Rattle.bdb_overflow.specs.of_image.Linked.{IsForest}
 use Rattle.bdb_overflow.specs.Datum.{FitsContent}
 use Rattle.bdb_overflow.proofs.ContentLemmas.{dup_item_fits, recno_item_fits}
 use Rattle.bdb_tree.specs.Entries.{AreFit, AreThere, entries_left, entries_on, values_of}

@@ -5,12 +5,12 @@ use Rattle.std.specs.Prelude.{Option, Some, None}
 use Rattle.std.specs.List.{All, Contains, flat_map}
 use Rattle.std.specs.Option.{unwrap_or}
 use Rattle.std.proofs.lemmas.List.Elements.{All-contains}
-use Rattle.bdb_form.specs.declared.view.PageView.{PageView}
-use Rattle.bdb_form.specs.Seen.{header_seen, page_seen}
+use Rattle.bdb_overflow.specs.of_form.declared.view.PageView.{PageView}
+use Rattle.bdb_overflow.specs.of_form.Seen.{header_seen, page_seen}
 use Rattle.bdb_format.specs.File.{File, file_of, header_in, page_at}
 use Rattle.bdb_format.specs.Leaves.{children_in, leaves}
 use Rattle.bdb_format.proofs.MemberLemmas.{first_member, later_member, no_member, of_flat_map}
-use Rattle.bdb_image.specs.Linked.{IsForest}
+use Rattle.bdb_overflow.specs.of_image.Linked.{IsForest}
 use Rattle.bdb_tree.specs.Trees.{IsTreePage, children_at}
 use Rattle.bdb_tree.proofs.ShapeLemmas.{tree_header}
 use Rattle.bdb_tree.proofs.TreeLemmas.{IsChild, child_is, leaves_of_inner, leaves_of_leaf, level, tree_cases}

@@ -13,3 +13,9 @@ pub mod ShapeLemmas
 pub mod StageLemmas
 pub mod TreeLemmas
 pub mod WayLemmas
+pub use Rattle.bdb_faults.proofs as of_faults
+pub use Rattle.bdb_overflow.proofs.of_form as of_form
+pub use Rattle.bdb_format.proofs as of_format
+pub use Rattle.bdb_overflow.proofs.of_graph as of_graph
+pub use Rattle.bdb_overflow.proofs.of_image as of_image
+pub use Rattle.bdb_overflow.proofs as of_overflow

@@ -14,10 +14,10 @@ use Rattle.bdb_format.specs.HeadOf.{head_of}
 use Rattle.bdb_format.specs.Leaves.{LeafPlace, first_or_zero, is_root_reference, leaf_places, leaves, places_from}
 use Rattle.bdb_format.specs.Verdict.{structure_faults}
 use Rattle.bdb_format.proofs.MemberLemmas.{first_member, later_member, member_cases, no_member}
-use Rattle.bdb_image.specs.Linked.{FitsLeafPage, IsForest, IsTarget}
-use Rattle.bdb_image.proofs.FirstLemmas.{formed_last}
-use Rattle.bdb_graph.proofs.LeavesLemmas.{no_leaf_twice}
-use Rattle.bdb_graph.proofs.ReachLemmas.{AllUpTo, few_distinct}
+use Rattle.bdb_overflow.specs.of_image.Linked.{FitsLeafPage, IsForest, IsTarget}
+use Rattle.bdb_overflow.proofs.of_image.FirstLemmas.{formed_last}
+use Rattle.bdb_overflow.proofs.of_graph.LeavesLemmas.{no_leaf_twice}
+use Rattle.bdb_overflow.proofs.of_graph.ReachLemmas.{AllUpTo, few_distinct}
 use Rattle.bdb_tree.specs.Links.{IsLeafWalk, pages_from}
 use Rattle.bdb_tree.specs.Trees.{IsRoot, IsTreePage}
 use Rattle.bdb_tree.proofs.BelongLemmas.{Belongs, belongs, leaf_above}

@@ -9,7 +9,7 @@ use Rattle.bdb_format.specs.Graph.{is_meta}
 use Rattle.bdb_format.proofs.MemberLemmas.{in_filter, in_range, of_filter, of_range}
 use Rattle.bdb_faults.specs.Notes.{NotesAll}
 use Rattle.bdb_faults.proofs.SinkLemmas.{notes_next}
-use Rattle.bdb_image.specs.Linked.{meta_pages}
+use Rattle.bdb_overflow.specs.of_image.Linked.{meta_pages}
 
 pub meta_at : (file : File) (p : ℕ) → Contains (meta_pages file) p → (p ≤ file.last) × (is_meta (page_at file p) ≡ true)
 unfolding meta_pages

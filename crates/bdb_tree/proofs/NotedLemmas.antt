@@ -30,8 +30,8 @@ use Rattle.bdb_format.proofs.MemberLemmas.{first_member, in_flat_map, in_range, 
 use Rattle.bdb_format.proofs.MemberLemmas.{of_flat_map, of_range}
 use Rattle.bdb_format.proofs.ReferenceLemmas.{of_all}
 use Rattle.bdb_format.proofs.VerdictLemmas.{in_by_page, of_by_page}
-use Rattle.bdb_image.specs.Linked.{FitsLeafPage, IsForest, IsTarget, meta_pages}
-use Rattle.bdb_graph.specs.Walked.{names_set}
+use Rattle.bdb_overflow.specs.of_image.Linked.{FitsLeafPage, IsForest, IsTarget, meta_pages}
+use Rattle.bdb_overflow.specs.of_graph.Walked.{names_set}
 use Rattle.bdb_tree.specs.Noted.{by_part, data_faults, data_root, held_faults, held_sets, meta_faults, meta_root, paired, place_faults, place_in, root_faults}
 use Rattle.bdb_tree.specs.Trees.{IsTreePage}
 use Rattle.bdb_tree.proofs.ListedLemmas.{at_meta, meta_at}

@@ -9,9 +9,9 @@ use Rattle.bdb_format.specs.Leaves.{leaves}
 use Rattle.bdb_format.specs.Master.{master_in, master_pairs, pairs_under}
 use Rattle.bdb_format.specs.Page.{BtreeFields, Page, Hash, Leaf}
 use Rattle.bdb_format.proofs.MemberLemmas.{no_member, of_filter, of_flat_map, of_map}
-use Rattle.bdb_image.specs.Linked.{HasMetadata, IsForest}
-use Rattle.bdb_graph.proofs.LinkedLemmas.{root_fits}
-use Rattle.bdb_graph.proofs.ReadLemmas.{master_is}
+use Rattle.bdb_overflow.specs.of_image.Linked.{HasMetadata, IsForest}
+use Rattle.bdb_overflow.proofs.of_graph.LinkedLemmas.{root_fits}
+use Rattle.bdb_overflow.proofs.of_graph.ReadLemmas.{master_is}
 use Rattle.bdb_tree.proofs.TreeLemmas.{leaf_low, root_is_tree}
 
 -- a pair of a page says so

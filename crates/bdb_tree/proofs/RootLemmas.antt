@@ -22,9 +22,9 @@ use Rattle.bdb_format.specs.References.{refs, targets_in, targets_of, unless_zer
 use Rattle.bdb_format.proofs.ListLemmas.{only_member}
 use Rattle.bdb_format.proofs.MemberLemmas.{first_member, in_map, is_empty, later_member, member_cases, no_member, none_passes, of_filter, of_flat_map}
 use Rattle.bdb_format.proofs.MemberLemmas.{of_map, of_range}
-use Rattle.bdb_image.specs.Linked.{FitsDupRoot, FitsTreeRoot, IsForest}
-use Rattle.bdb_graph.proofs.LinkedLemmas.{root_fits}
-use Rattle.bdb_graph.specs.Walked.{is_set_reference, names_set}
+use Rattle.bdb_overflow.specs.of_image.Linked.{FitsDupRoot, FitsTreeRoot, IsForest}
+use Rattle.bdb_overflow.proofs.of_graph.LinkedLemmas.{root_fits}
+use Rattle.bdb_overflow.specs.of_graph.Walked.{is_set_reference, names_set}
 use Rattle.bdb_format.specs.Graph.{all_references}
 use Rattle.bdb_tree.specs.Noted.{data_faults, data_root, meta_root, paired, root_faults, set_root}
 use Rattle.bdb_tree.specs.Trees.{IsTreePage}

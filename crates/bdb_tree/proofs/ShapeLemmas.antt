@@ -5,9 +5,9 @@ use Rattle.std.specs.Prelude.{Some, None, ◌%◌, get_or, ◌==◌, ◌||◌, n
 use Rattle.std.proofs.lemmas.Bool.{and_parts, cases_Bool, eqb-false, eqb-true, ltb-false, not-false, true≢false}
 use Rattle.bdb_format.specs.declared.metadata.FileKind.TheVariants.{Queue as QueueFile}
 use Rattle.bdb_format.specs.declared.metadata.Head.{Head}
-use Rattle.bdb_form.specs.declared.view.PageView.{PageView}
-use Rattle.bdb_form.specs.declared.view.PageView.TheVariants.{Meta as MetaView, Leaf as LeafView, DupLeaf as DupLeafView}
-use Rattle.bdb_form.specs.Seen.{header_seen, page_seen}
+use Rattle.bdb_overflow.specs.of_form.declared.view.PageView.{PageView}
+use Rattle.bdb_overflow.specs.of_form.declared.view.PageView.TheVariants.{Meta as MetaView, Leaf as LeafView, DupLeaf as DupLeafView}
+use Rattle.bdb_overflow.specs.of_form.Seen.{header_seen, page_seen}
 use Rattle.bdb_format.specs.declared.kinds.Order.{Order}
 use Rattle.bdb_format.specs.File.{file_of, header_in, kind_in, page_at, page_bytes, type_in}
 use Rattle.bdb_format.specs.HeadOf.{head_of}
@@ -30,10 +30,10 @@ use Rattle.bdb_format.proofs.ItemLemmas.{IsIndexed, index_passes, no_index_row, 
 use Rattle.bdb_format.proofs.MemberLemmas.{of_map}
 use Rattle.std.proofs.lemmas.List.{length-map}
 use Rattle.bdb_format.proofs.PageLemmas.{length_items}
-use Rattle.bdb_image.specs.Formed.{IsFormed}
-use Rattle.bdb_image.specs.Linked.{IsForest}
-use Rattle.bdb_graph.proofs.ChildLemmas.{is_queue_page, queue_page}
-use Rattle.bdb_image.proofs.FirstLemmas.{formed_page}
+use Rattle.bdb_overflow.specs.of_image.Formed.{IsFormed}
+use Rattle.bdb_overflow.specs.of_image.Linked.{IsForest}
+use Rattle.bdb_overflow.proofs.of_graph.ChildLemmas.{is_queue_page, queue_page}
+use Rattle.bdb_overflow.proofs.of_image.FirstLemmas.{formed_page}
 use Rattle.bdb_tree.specs.Noted.{is_leaf_page}
 use Rattle.bdb_format.proofs.TypeLemmas.{if_type}
 use Rattle.bdb_format.proofs.FileLemmas.{last_page, page_is}

@@ -25,13 +25,13 @@ use Rattle.bdb_format.proofs.GraphLemmas.{each_fits}
 use Rattle.bdb_format.proofs.MemberLemmas.{first_member, in_filter, in_flat_map, in_map, none_passes, of_flat_map}
 use Rattle.bdb_format.proofs.VerdictLemmas.{AllFail, no_rows_at, none_is_first_row}
 use Rattle.bdb_format.proofs.TargetLemmas.{held_named, own_held}
-use Rattle.bdb_image.specs.Linked.{FitsDupRoot, FitsLeafPage, FitsTreeRoot, HasMetadata, IsForest, IsTarget}
-use Rattle.bdb_graph.proofs.ChildLemmas.{NamesChild, child_named, children_are, is_queue_page}
-use Rattle.bdb_graph.proofs.ForestLemmas.{sound_graph}
-use Rattle.bdb_graph.proofs.LinkedLemmas.{named_target, root_fits as target_fits}
-use Rattle.bdb_graph.proofs.TargetLemmas.{is_no_queue}
-use Rattle.bdb_form.specs.declared.view.PageView.{PageView}
-use Rattle.bdb_form.specs.Seen.{page_seen}
+use Rattle.bdb_overflow.specs.of_image.Linked.{FitsDupRoot, FitsLeafPage, FitsTreeRoot, HasMetadata, IsForest, IsTarget}
+use Rattle.bdb_overflow.proofs.of_graph.ChildLemmas.{NamesChild, child_named, children_are, is_queue_page}
+use Rattle.bdb_overflow.proofs.of_graph.ForestLemmas.{sound_graph}
+use Rattle.bdb_overflow.proofs.of_graph.LinkedLemmas.{named_target, root_fits as target_fits}
+use Rattle.bdb_overflow.proofs.of_graph.TargetLemmas.{is_no_queue}
+use Rattle.bdb_overflow.specs.of_form.declared.view.PageView.{PageView}
+use Rattle.bdb_overflow.specs.of_form.Seen.{page_seen}
 use Rattle.bdb_tree.specs.Noted.{is_leaf_page}
 use Rattle.bdb_tree.specs.Trees.{IsRoot, IsTreePage}
 use Rattle.bdb_tree.proofs.ShapeLemmas.{IsFormedPage, IsInnerPage, IsLeafPage, SetsAreData, formed_at, is_tree_in, leaf_shape, no_queue, tree_in}

@@ -4,8 +4,8 @@ use Rattle.std.proofs.Common.{inl, inr}
 use Rattle.std.specs.Prelude.{Option, Some, None, not}
 use Rattle.std.specs.List.{Contains, filter, last_or}
 use Rattle.std.specs.Option.{unwrap_or}
-use Rattle.bdb_slots.specs.Slots.{no_internal_item}
-use Rattle.bdb_image.specs.Linked.{FitsLeafPage, IsForest}
+use Rattle.bdb_overflow.specs.of_slots.Slots.{no_internal_item}
+use Rattle.bdb_overflow.specs.of_image.Linked.{FitsLeafPage, IsForest}
 use Rattle.bdb_format.specs.File.{File, file_of, page_at, type_in}
 use Rattle.bdb_format.specs.Page.{Page, InternalItem, Internal, Listed}
 use Rattle.bdb_format.specs.References.{child_types, has_type}

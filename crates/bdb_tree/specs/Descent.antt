@@ -4,7 +4,7 @@ use Rattle.std.specs.List.{Contains, filter, last_or}
 use Rattle.std.specs.Option.{unwrap_or}
 use Rattle.bdb_format.specs.ContentRows.{inner_pages}
 use Rattle.bdb_format.specs.File.{File, page_at}
-use Rattle.bdb_slots.specs.Slots.{no_internal_item}
+use Rattle.bdb_overflow.specs.of_slots.Slots.{no_internal_item}
 use Rattle.bdb_format.specs.Page.{InternalItem, Listed, Page, Internal}
 
 -- the items for which the test is false, the first item always counting so

@@ -4,7 +4,7 @@ use Rattle.bdb_format.specs.Chains.{chain}
 use Rattle.bdb_format.specs.File.{File, file_of}
 use Rattle.bdb_format.specs.Page.{Page, Internal, RecnoInternal}
 use Rattle.bdb_format.specs.Verdict.{structure_faults}
-use Rattle.bdb_image.specs.Linked.{FitsLeafPage, IsForest}
+use Rattle.bdb_overflow.specs.of_image.Linked.{FitsLeafPage, IsForest}
 
 -- a page and those that follow it by their next pages, up to next 0; 0 stands for no page
 unfoldable pub pages_from : File → ℕ → List ℕ

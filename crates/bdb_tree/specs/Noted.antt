@@ -6,7 +6,7 @@ use Rattle.bdb_format.specs.declared.kinds.Fault.{Fault}
 use Rattle.bdb_format.specs.declared.references.Sort.{Sort}
 use Rattle.bdb_format.specs.declared.references.Sort.TheVariants.{DuplicateRoot, Root}
 use Rattle.bdb_format.specs.File.{File, page_at}
-use Rattle.bdb_image.specs.Linked.{meta_pages}
+use Rattle.bdb_overflow.specs.of_image.Linked.{meta_pages}
 use Rattle.bdb_format.specs.Leaves.{LeafPlace, is_wrong_leaf, is_wrong_link, leaves, places_from}
 use Rattle.bdb_format.specs.Page.{Content, Tree, Item, BtreeFields, Page, Meta, Hash, Leaf, RecnoLeaf, DupLeaf}
 use Rattle.bdb_format.specs.References.{no_item}

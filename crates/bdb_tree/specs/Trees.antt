@@ -4,7 +4,7 @@ use Rattle.std.specs.Option.{unwrap_or}
 use Rattle.bdb_format.specs.File.{File, page_at, type_in}
 use Rattle.bdb_format.specs.Leaves.{children_in}
 use Rattle.bdb_format.specs.References.{has_type}
-use Rattle.bdb_image.specs.Linked.{FitsDupRoot, FitsTreeRoot}
+use Rattle.bdb_overflow.specs.of_image.Linked.{FitsDupRoot, FitsTreeRoot}
 
 -- an internal page or a leaf
 abbrev pub IsTreePage : File → ℕ → Type 0

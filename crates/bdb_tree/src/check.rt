@@ -7,7 +7,7 @@ ghost use Rattle.bdb_format.specs.Verdict.{tree_faults, IsFirstOf};
 use crate::trees::{note_all_sets, note_metas};
 use bdb_faults::{FaultSink, First, NamedList};
 use bdb_format::CheckError;
-use bdb_graph::Linked;
+use bdb_overflow::bdb_graph::Linked;
 use std::alloc::{AllocError, Global};
 
 /// Notes each row on leaves of trees at each page where it holds, in any order and repeats allowed: a type that the

@@ -1,14 +1,14 @@
 ghost use Rattle.std.specs.Prelude.{◌≡◌, ◌+◌, ◌<◌, ◌≤◌, ◌∷◌, [], Bool, IsTrue, Some, length};
-ghost use Rattle.bdb_layout.specs.Seen.{internal_item_seen};
-ghost use Rattle.bdb_image.specs.Linked.{FitsLeafPage, FitsTreeRoot, IsForest};
+ghost use Rattle.bdb_overflow.specs.of_layout.Seen.{internal_item_seen};
+ghost use Rattle.bdb_overflow.specs.of_image.Linked.{FitsLeafPage, FitsTreeRoot, IsForest};
 ghost use Rattle.bdb_format.specs.File.{file_of, header_in, page_at, type_in};
 ghost use Rattle.bdb_format.specs.Page.{InternalItem};
 ghost use Rattle.bdb_format.specs.References.{has_type};
 ghost use Rattle.bdb_tree.specs.Descent.{AllMonotone, AllReadable, AreReadable, IsLastFalse, IsMonotone, chosen, descent, next_below, steps_at};
 
-use bdb_form::{InternalView, PageView};
 use bdb_format::Steps;
-use bdb_graph::{Forest, LeafPage, Linked, Ref, TreeRoot};
+use bdb_overflow::bdb_form::{InternalView, PageView};
+use bdb_overflow::bdb_graph::{Forest, LeafPage, Linked, Ref, TreeRoot};
 use std::sync::ledger::Ledger;
 
 /// A key that is sought in a tree: what a descent asks of the items of internal pages.
@@ -20,7 +20,7 @@ pub trait Separate {
     ghost says: { Self → InternalItem → Bool };
 
     /// Whether the sought key is less than that of an item.
-    fn below(&self, item: &bdb_layout::InternalItem<'_>) -> bool
+    fn below(&self, item: &bdb_overflow::bdb_layout::InternalItem<'_>) -> bool
         requires { reads self.now (internal_item_seen item.now) }
         ensures { result ≡ says self.now (internal_item_seen item.now) };
 }

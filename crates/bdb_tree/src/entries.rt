@@ -1,7 +1,7 @@
 ghost use Rattle.std.specs.Prelude.{◌≡◌, []};
 ghost use Rattle.std.specs.Iterator.{YieldsFirstBy, item_count};
-ghost use Rattle.bdb_form.specs.Seen.{page_seen};
-ghost use Rattle.bdb_layout.specs.Seen.{leaf_item_seen};
+ghost use Rattle.bdb_overflow.specs.of_form.Seen.{page_seen};
+ghost use Rattle.bdb_overflow.specs.of_layout.Seen.{leaf_item_seen};
 ghost use Rattle.bdb_format.specs.Contents.{entries_in, tree_entries};
 ghost use Rattle.bdb_format.specs.File.{file_of};
 ghost use Rattle.bdb_format.specs.Verdict.{structure_faults};
@@ -9,9 +9,9 @@ ghost use Rattle.bdb_tree.specs.Entries.{AreFit, leaf_entries_seen};
 ghost use Rattle.bdb_tree.specs.Trees.{IsRoot};
 
 use crate::{Leaves, tree_leaves};
-use bdb_form::{DupLeafKind, Items, PageView, RecnoLeafKind};
-use bdb_graph::Forest;
-use bdb_layout::LeafItem;
+use bdb_overflow::bdb_form::{DupLeafKind, Items, PageView, RecnoLeafKind};
+use bdb_overflow::bdb_graph::Forest;
+use bdb_overflow::bdb_layout::LeafItem;
 use std::marker::Model;
 
 /// The entries of one page that are left: of a leaf of records or of sorted data; another page has none.

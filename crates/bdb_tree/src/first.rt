@@ -1,14 +1,14 @@
 ghost use Rattle.std.specs.Prelude.{◌≡◌, Some};
 ghost use Rattle.std.specs.List.{slice_get};
-ghost use Rattle.bdb_form.specs.Seen.{page_seen};
-ghost use Rattle.bdb_image.specs.Linked.{FitsDupRoot, FitsLeafPage, FitsTreeRoot, IsForest};
+ghost use Rattle.bdb_overflow.specs.of_form.Seen.{page_seen};
+ghost use Rattle.bdb_overflow.specs.of_image.Linked.{FitsDupRoot, FitsLeafPage, FitsTreeRoot, IsForest};
 ghost use Rattle.bdb_format.specs.File.{file_of, page_at};
 ghost use Rattle.bdb_format.specs.Leaves.{children_in, leaves};
 ghost use Rattle.bdb_tree.specs.Links.{HasItem, first_below};
 ghost use Rattle.bdb_tree.specs.Trees.{IsTreePage};
 
-use bdb_form::PageView;
-use bdb_graph::{DupRoot, Forest, LeafPage, Linked, Ref, TreeRoot};
+use bdb_overflow::bdb_form::PageView;
+use bdb_overflow::bdb_graph::{DupRoot, Forest, LeafPage, Linked, Ref, TreeRoot};
 
 /// The first leaf of the tree of metadata.
 #[tactic(auto, using(crate::proofs::TreeLemmas::root_is_tree))]

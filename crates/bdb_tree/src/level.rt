@@ -1,14 +1,14 @@
 ghost use Rattle.std.specs.Prelude.{◌≡◌, ◌++◌, [], IfOk, OnOk, map};
 ghost use Rattle.std.specs.List.{All, flat_map};
 ghost use Rattle.std.specs.Option.{unwrap_or};
-ghost use Rattle.bdb_form.specs.Seen.{page_seen};
-ghost use Rattle.bdb_image.specs.Linked.{IsForest};
+ghost use Rattle.bdb_overflow.specs.of_form.Seen.{page_seen};
+ghost use Rattle.bdb_overflow.specs.of_image.Linked.{IsForest};
 ghost use Rattle.bdb_format.specs.File.{file_of, header_in, page_at};
 ghost use Rattle.bdb_format.specs.Leaves.{children_in, leaves};
 ghost use Rattle.bdb_tree.specs.Trees.{IsTreePage, children_at};
 
-use bdb_form::{InternalView, PageView, RecnoInternalView};
-use bdb_graph::Forest;
+use bdb_overflow::bdb_form::{InternalView, PageView, RecnoInternalView};
+use bdb_overflow::bdb_graph::Forest;
 use std::alloc::{AllocError, Global};
 
 /// Adds the children of the items of an internal page of a recno.

@@ -1,12 +1,12 @@
 ghost use Rattle.std.specs.Prelude.{◌≡◌, ◌≤◌, ◌∷◌, ◌++◌, [], ℕ, List, length};
-ghost use Rattle.bdb_image.specs.Linked.{FitsLeafPage, IsForest};
+ghost use Rattle.bdb_overflow.specs.of_image.Linked.{FitsLeafPage, IsForest};
 ghost use Rattle.bdb_format.specs.File.{file_of};
 ghost use Rattle.bdb_format.specs.Leaves.{leaves};
 ghost use Rattle.bdb_format.specs.Verdict.{structure_faults};
 ghost use Rattle.bdb_tree.specs.Trees.{IsRoot};
 
 use crate::{Leaves, leftmost};
-use bdb_graph::{Forest, LeafPage, Linked, Ref};
+use bdb_overflow::bdb_graph::{Forest, LeafPage, Linked, Ref};
 
 /// The leaves of a tree from one on, by their links: those after it in its tree follow it. No memory is
 /// taken.

@@ -1,12 +1,12 @@
 ghost use Rattle.std.specs.Prelude.{◌≡◌, ◌<◌, ◌*◌, ◌+◌, length};
-ghost use Rattle.bdb_form.specs.Seen.{page_seen};
+ghost use Rattle.bdb_overflow.specs.of_form.Seen.{page_seen};
 ghost use Rattle.bdb_format.specs.Page.{Meta as MetaPage};
-ghost use Rattle.bdb_image.specs.Metas.{meta_seen};
+ghost use Rattle.bdb_overflow.specs.of_image.Metas.{meta_seen};
 ghost use Rattle.bdb_tree.specs.Noted.{data_root, meta_root, pair_count, paired};
 
-use bdb_form::PageView;
-use bdb_graph::Meta;
-use bdb_layout::{HashItem, LeafItem};
+use bdb_overflow::bdb_form::PageView;
+use bdb_overflow::bdb_graph::Meta;
+use bdb_overflow::bdb_layout::{HashItem, LeafItem};
 
 /// The root of the tree of metadata, if it's a btree's.
 pub(crate) fn meta_root(meta: &Meta) -> Option<u32>

@@ -1,10 +1,10 @@
 ghost use Rattle.std.specs.Prelude.{◌≡◌, Some};
-ghost use Rattle.bdb_form.specs.Seen.{page_seen};
+ghost use Rattle.bdb_overflow.specs.of_form.Seen.{page_seen};
 ghost use Rattle.bdb_format.specs.ContentRows.{wrong_set_types};
 ghost use Rattle.bdb_format.specs.File.{type_in};
 ghost use Rattle.bdb_format.specs.References.{has_type};
 
-use bdb_form::PageView;
+use bdb_overflow::bdb_form::PageView;
 
 /// Whether the root of a set off the page has a type that it hasn't where sets are sorted, or where they aren't.
 pub fn is_wrong_root(view: &PageView<'_>, sorted: bool) -> bool

@@ -1,6 +1,6 @@
 ghost use Rattle.std.specs.Prelude.{◌≡◌, []};
 ghost use Rattle.std.specs.Iterator.{YieldsFirstBy, item_count};
-ghost use Rattle.bdb_image.specs.Linked.{FitsDupRoot};
+ghost use Rattle.bdb_overflow.specs.of_image.Linked.{FitsDupRoot};
 ghost use Rattle.bdb_format.specs.Contents.{data_of};
 ghost use Rattle.bdb_format.specs.File.{file_of};
 ghost use Rattle.bdb_format.specs.Page.{Tree};
@@ -8,7 +8,7 @@ ghost use Rattle.bdb_format.specs.Verdict.{structure_faults};
 ghost use Rattle.bdb_overflow.specs.Datum.{datum_seen};
 
 use crate::{TreeEntries, tree_entries};
-use bdb_graph::Forest;
+use bdb_overflow::bdb_graph::Forest;
 use bdb_overflow::{Datum, is_deleted, value_of};
 use std::marker::Model;
 

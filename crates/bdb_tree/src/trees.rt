@@ -1,7 +1,7 @@
 ghost use Rattle.std.specs.Prelude.{◌≤◌, ◌+◌, IfSome, OnOk, Some};
 ghost use Rattle.std.specs.List.{flat_map, range_with_len};
 ghost use Rattle.bdb_faults.specs.Notes.{NotesAll};
-ghost use Rattle.bdb_image.specs.Linked.{IsForest, meta_pages};
+ghost use Rattle.bdb_overflow.specs.of_image.Linked.{IsForest, meta_pages};
 ghost use Rattle.bdb_format.specs.File.{file_of};
 ghost use Rattle.bdb_tree.specs.Noted.{held_sets, meta_faults, root_faults};
 ghost use Rattle.bdb_tree.specs.Trees.{IsTreePage};
@@ -10,7 +10,7 @@ use crate::leaves_below;
 use crate::named_roots::{data_root, meta_root, pairs};
 use crate::places::note_places;
 use bdb_faults::FaultSink;
-use bdb_graph::{Forest, Linked, Sort};
+use bdb_overflow::bdb_graph::{Forest, Linked, Sort};
 use std::alloc::{AllocError, Global};
 
 /// Notes the faults of the leaves of the tree with this root.

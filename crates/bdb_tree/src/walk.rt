@@ -1,11 +1,11 @@
 ghost use Rattle.std.specs.Prelude.{◌≡◌};
 ghost use Rattle.std.specs.Iterator.{YieldsFirst, item_count};
-ghost use Rattle.bdb_image.specs.Linked.{FitsLeafPage};
+ghost use Rattle.bdb_overflow.specs.of_image.Linked.{FitsLeafPage};
 ghost use Rattle.bdb_format.specs.Chains.{next_of};
 ghost use Rattle.bdb_format.specs.File.{file_of};
 ghost use Rattle.bdb_tree.specs.Links.{IsLeafWalk, pages_from};
 
-use bdb_graph::{Forest, LeafPage, Ref};
+use bdb_overflow::bdb_graph::{Forest, LeafPage, Ref};
 use std::marker::Model;
 
 /// The leaves of a tree from one on, by their next pages.

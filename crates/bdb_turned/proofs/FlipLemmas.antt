@@ -5,28 +5,28 @@ use Rattle.std.specs.Prelude.{cond, not, nat_lt, nat_le, ◌||◌, ◌&&◌, ◌
 use Rattle.std.specs.Option.{option_to_list}
 use Rattle.std.specs.List.{Contains, find, flat_map, range_with_len}
 use Rattle.std.proofs.lemmas.Bool.{cases_lt, eqb-true, not-false}
-use Rattle.bdb_format.proofs.MemberLemmas.{in_range, member_cases, no_member, of_range}
-use Rattle.bdb_format.proofs.ListLemmas.{flat_map_same}
-use Rattle.bdb_format.proofs.FileLemmas.{page_is, last_page as last_page_is}
+use Rattle.bdb_graph.proofs.of_format.MemberLemmas.{in_range, member_cases, no_member, of_range}
+use Rattle.bdb_graph.proofs.of_format.ListLemmas.{flat_map_same}
+use Rattle.bdb_graph.proofs.of_format.FileLemmas.{page_is, last_page as last_page_is}
 use Rattle.std.proofs.lemmas.List.{get_or-take, length-reverse, length-take-le, reverse-reverse}
-use Rattle.bdb_format.proofs.VerdictLemmas.{all_fail, no_code, no_codes_at, no_faults, none_is_first_row, none_within, or_else_none}
-use Rattle.bdb_image.proofs.CodeLemmas.{differs}
-use Rattle.bdb_image.proofs.FormedLemmas.{IsPaged, accepted_paged, page_length}
-use Rattle.bdb_format.specs.declared.kinds.Order.{Order}
-use Rattle.bdb_format.specs.declared.kinds.Order.TheVariants.{Big, Little}
-use Rattle.bdb_format.specs.declared.kinds.Fault.{Fault}
-use Rattle.bdb_format.specs.declared.metadata.FileKind.{FileKind}
-use Rattle.bdb_format.specs.declared.metadata.Head.{Head}
-use Rattle.bdb_format.specs.File.{File, file_of, page_at, page_bytes}
-use Rattle.bdb_format.specs.HeadOf.{file_kind, head_of, head_rows, heap_magic, is_magic, is_page_size, is_past, last_page, magic_at, order_of, pages_of}
-use Rattle.bdb_format.specs.Numbers.{byte_at, four_at, from_low_end, has_bit, number_at, turned}
-use Rattle.bdb_format.specs.Page.{Page}
-use Rattle.bdb_format.specs.Reading.{abstract_page, is_zero}
-use Rattle.bdb_format.specs.Rows.{form_code, is_queue, version_of}
-use Rattle.bdb_format.specs.Table.{Row, ◌:?◌, first_row}
-use Rattle.bdb_format.specs.Verdict.{reference_faults, ownership_faults, reach_faults, structure_faults, master_faults, contents_faults, by_page, faults_in}
-use Rattle.bdb_format.specs.Verdict.{faults_of, file_faults, form_faults, head_faults, holding, stage_faults, tail_faults, tail_rows}
-use Rattle.bdb_image.specs.Formed.{IsAccepted}
+use Rattle.bdb_graph.proofs.of_format.VerdictLemmas.{all_fail, no_code, no_codes_at, no_faults, none_is_first_row, none_within, or_else_none}
+use Rattle.bdb_graph.proofs.of_image.CodeLemmas.{differs}
+use Rattle.bdb_graph.proofs.of_image.FormedLemmas.{IsPaged, accepted_paged, page_length}
+use Rattle.bdb_graph.specs.of_format.declared.kinds.Order.{Order}
+use Rattle.bdb_graph.specs.of_format.declared.kinds.Order.TheVariants.{Big, Little}
+use Rattle.bdb_graph.specs.of_format.declared.kinds.Fault.{Fault}
+use Rattle.bdb_graph.specs.of_format.declared.metadata.FileKind.{FileKind}
+use Rattle.bdb_graph.specs.of_format.declared.metadata.Head.{Head}
+use Rattle.bdb_graph.specs.of_format.File.{File, file_of, page_at, page_bytes}
+use Rattle.bdb_graph.specs.of_format.HeadOf.{file_kind, head_of, head_rows, heap_magic, is_magic, is_page_size, is_past, last_page, magic_at, order_of, pages_of}
+use Rattle.bdb_graph.specs.of_format.Numbers.{byte_at, four_at, from_low_end, has_bit, number_at, turned}
+use Rattle.bdb_graph.specs.of_format.Page.{Page}
+use Rattle.bdb_graph.specs.of_format.Reading.{abstract_page, is_zero}
+use Rattle.bdb_graph.specs.of_format.Rows.{form_code, is_queue, version_of}
+use Rattle.bdb_graph.specs.of_format.Table.{Row, ◌:?◌, first_row}
+use Rattle.bdb_graph.specs.of_format.Verdict.{reference_faults, ownership_faults, reach_faults, structure_faults, master_faults, contents_faults, by_page, faults_in}
+use Rattle.bdb_graph.specs.of_format.Verdict.{faults_of, file_faults, form_faults, head_faults, holding, stage_faults, tail_faults, tail_rows}
+use Rattle.bdb_graph.specs.of_image.Formed.{IsAccepted}
 use Rattle.bdb_turned.specs.Flipped.{first_overlap, flipped}
 use Rattle.bdb_turned.specs.Laws.{TurnsRound, turned_head}
 use Rattle.bdb_turned.specs.Overlaps.{overlaps}
@@ -35,7 +35,7 @@ use Rattle.bdb_turned.proofs.JoinedLemmas.{joins_back, length_joined, number_in_
 use Rattle.bdb_turned.proofs.ListedLemmas.{map_same}
 use Rattle.bdb_turned.proofs.PageLemmas.{first_page_common, pages_turn_round, zero_stays}
 use Rattle.bdb_turned.proofs.PlainLemmas.{CommonSame}
-use Rattle.bdb_format.proofs.FaultLemmas.{or_none}
+use Rattle.bdb_graph.proofs.of_format.FaultLemmas.{or_none}
 
 -- what the pages of an image are, and what they become
 record CanFlip (image : List ℕ) : Type 0 where

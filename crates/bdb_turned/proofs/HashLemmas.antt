@@ -5,15 +5,15 @@ use Rattle.std.specs.Option.{unwrap_or}
 use Rattle.std.specs.List.{Contains}
 use Rattle.std.proofs.Math.Dec.{eqb-suc-zero}
 use Rattle.std.proofs.lemmas.Bool.Decides.{nat_tests}
-use Rattle.bdb_format.proofs.MemberLemmas.{first_member, later_member, no_member}
-use Rattle.bdb_layout.proofs.RowLemmas.{hash_fits}
-use Rattle.bdb_layout.specs.Fits.{FitsHash}
-use Rattle.bdb_format.specs.declared.kinds.Order.{Order}
-use Rattle.bdb_format.specs.Numbers.{byte_at, four_at, turned}
-use Rattle.bdb_format.specs.Page.{Content, Inline, Set, Chain, Tree, Item}
-use Rattle.bdb_format.specs.Reading.{blocks_of, entries_of, hash_content, hash_end, hash_item_at, offset_of}
-use Rattle.bdb_format.specs.Rows.{does_not_fall, hash_rows, misses_extent}
-use Rattle.bdb_format.specs.Table.{first_row}
+use Rattle.bdb_graph.proofs.of_format.MemberLemmas.{first_member, later_member, no_member}
+use Rattle.bdb_graph.proofs.of_layout.RowLemmas.{hash_fits}
+use Rattle.bdb_graph.specs.of_layout.Fits.{FitsHash}
+use Rattle.bdb_graph.specs.of_format.declared.kinds.Order.{Order}
+use Rattle.bdb_graph.specs.of_format.Numbers.{byte_at, four_at, turned}
+use Rattle.bdb_graph.specs.of_format.Page.{Content, Inline, Set, Chain, Tree, Item}
+use Rattle.bdb_graph.specs.of_format.Reading.{blocks_of, entries_of, hash_content, hash_end, hash_item_at, offset_of}
+use Rattle.bdb_graph.specs.of_format.Rows.{does_not_fall, hash_rows, misses_extent}
+use Rattle.bdb_graph.specs.of_format.Table.{first_row}
 use Rattle.bdb_turned.specs.Fields.{Field, block_fields, field, hash_fields}
 use Rattle.bdb_turned.specs.Apart.{IsUntouched, run_length}
 pub use Rattle.bdb_turned.specs.Parts.{hash_part}
@@ -22,7 +22,7 @@ use Rattle.bdb_turned.proofs.ReadLemmas.{IsTurned, number_same, slice_same}
 use Rattle.bdb_turned.proofs.ApartLemmas.{Between, bounds}
 use Rattle.bdb_turned.proofs.ListedLemmas.{ArePlaced, all_fields, in_index, in_item, untouched_in_item}
 use Rattle.bdb_turned.proofs.RunLemmas.{RunsTo, run_between, run_of, run_reads, run_turned}
-use Rattle.bdb_layout.proofs.BlockLemmas.{some_left}
+use Rattle.bdb_graph.proofs.of_layout.BlockLemmas.{some_left}
 use Rattle.bdb_turned.proofs.InnerLemmas.{lower}
 
 -- no row of a hash page holds

@@ -1,19 +1,19 @@
 -- What a file keeps in an order.
 use Rattle.std.proofs.Common.{◌≡◌, ◌∙◌, ℕ, List, [], length, refl, sym, ap}
 use Rattle.std.specs.Prelude.{cond, true, false, None}
-use Rattle.bdb_format.specs.declared.kinds.Order.{Order}
-use Rattle.bdb_format.specs.declared.kinds.Order.TheVariants.{Big, Little}
-use Rattle.bdb_format.specs.declared.metadata.Head.{Head}
-use Rattle.bdb_format.specs.Databases.{btree_settings, databases, recno_settings, settings_of}
-use Rattle.bdb_format.specs.Flags.{is_recno}
-use Rattle.bdb_format.specs.File.{File, file_of}
-use Rattle.bdb_format.specs.Graph.{is_anchor, is_reserve, owners}
-use Rattle.bdb_format.specs.HeadOf.{head_of}
-use Rattle.bdb_format.specs.Lists.{list_of}
-use Rattle.bdb_format.specs.Numbers.{turned}
-use Rattle.bdb_format.specs.Page.{Metadata, BtreeFields, HashFields, QueueFields}
-use Rattle.bdb_format.specs.References.{refs}
-use Rattle.bdb_format.specs.Verdict.{faults_of}
+use Rattle.bdb_graph.specs.of_format.declared.kinds.Order.{Order}
+use Rattle.bdb_graph.specs.of_format.declared.kinds.Order.TheVariants.{Big, Little}
+use Rattle.bdb_graph.specs.of_format.declared.metadata.Head.{Head}
+use Rattle.bdb_graph.specs.of_format.Databases.{btree_settings, databases, recno_settings, settings_of}
+use Rattle.bdb_graph.specs.of_format.Flags.{is_recno}
+use Rattle.bdb_graph.specs.of_format.File.{File, file_of}
+use Rattle.bdb_graph.specs.of_format.Graph.{is_anchor, is_reserve, owners}
+use Rattle.bdb_graph.specs.of_format.HeadOf.{head_of}
+use Rattle.bdb_graph.specs.of_format.Lists.{list_of}
+use Rattle.bdb_graph.specs.of_format.Numbers.{turned}
+use Rattle.bdb_graph.specs.of_format.Page.{Metadata, BtreeFields, HashFields, QueueFields}
+use Rattle.bdb_graph.specs.of_format.References.{refs}
+use Rattle.bdb_graph.specs.of_format.Verdict.{faults_of}
 use Rattle.bdb_turned.specs.Flipped.{first_overlap, flip_of, flipped, has_order, overlap_in, same_order}
 use Rattle.bdb_turned.specs.Laws.{FilesFlip, Flips, FlippedFilesKeepDatabases}
 use Rattle.bdb_turned.proofs.FlipLemmas.{TurnsWhole, image_turns}

@@ -3,17 +3,17 @@ use Rattle.std.proofs.Common.{◌≡◌, ◌∙◌, ◌⊎◌, inl, inr, ℕ, �
 use Rattle.std.specs.Prelude.{slice_range, false, None}
 use Rattle.std.specs.List.{Contains}
 use Rattle.std.proofs.lemmas.Bool.Decides.{nat_tests}
-use Rattle.bdb_format.proofs.MemberLemmas.{first_member, later_member, member_cases, no_member}
-use Rattle.bdb_format.proofs.TurnLemmas.{length-slice_range}
-use Rattle.bdb_layout.proofs.RowLemmas.{leaf_fits}
-use Rattle.bdb_layout.specs.Fits.{FitsLeaf}
-use Rattle.bdb_format.specs.declared.kinds.Order.{Order}
-use Rattle.bdb_format.specs.Numbers.{byte_at, four_at, two_at, turned}
-use Rattle.bdb_format.specs.Page.{Content, Inline, Set, Chain, Tree, Unknown, Item, PageType}
-use Rattle.bdb_format.specs.References.{no_item}
-use Rattle.bdb_format.specs.Reading.{entries_of, header_of, kind_at, leaf_content, leaf_item_at, listed, offset_of}
-use Rattle.bdb_format.specs.Rows.{item_rows, leaf_end, leaf_rows, listed_code}
-use Rattle.bdb_format.specs.Table.{first_row}
+use Rattle.bdb_graph.proofs.of_format.MemberLemmas.{first_member, later_member, member_cases, no_member}
+use Rattle.bdb_graph.proofs.of_format.TurnLemmas.{length-slice_range}
+use Rattle.bdb_graph.proofs.of_layout.RowLemmas.{leaf_fits}
+use Rattle.bdb_graph.specs.of_layout.Fits.{FitsLeaf}
+use Rattle.bdb_graph.specs.of_format.declared.kinds.Order.{Order}
+use Rattle.bdb_graph.specs.of_format.Numbers.{byte_at, four_at, two_at, turned}
+use Rattle.bdb_graph.specs.of_format.Page.{Content, Inline, Set, Chain, Tree, Unknown, Item, PageType}
+use Rattle.bdb_graph.specs.of_format.References.{no_item}
+use Rattle.bdb_graph.specs.of_format.Reading.{entries_of, header_of, kind_at, leaf_content, leaf_item_at, listed, offset_of}
+use Rattle.bdb_graph.specs.of_format.Rows.{item_rows, leaf_end, leaf_rows, listed_code}
+use Rattle.bdb_graph.specs.of_format.Table.{first_row}
 use Rattle.bdb_turned.specs.Fields.{Field, field, leaf_fields}
 use Rattle.bdb_turned.specs.Overlaps.{leaf_item_end, listed_overlap}
 use Rattle.bdb_turned.specs.Apart.{IsUntouched}
@@ -22,7 +22,7 @@ use Rattle.bdb_turned.proofs.ReadLemmas.{IsTurned, number_same, slice_same}
 use Rattle.bdb_turned.proofs.ApartLemmas.{Between}
 use Rattle.bdb_turned.proofs.ListedLemmas.{ArePlaced, all_fields, header_same, in_header, in_index, in_item, listed_apart, listed_same, rows_same}
 use Rattle.bdb_turned.proofs.ListedLemmas.{untouched_in_header, untouched_in_item}
-use Rattle.bdb_format.proofs.LeafLemmas.{one_offset}
+use Rattle.bdb_graph.proofs.of_format.LeafLemmas.{one_offset}
 
 -- no row of a leaf holds, and no two of its items overlap
 pub record IsLeaf (order : Order) (page : List ℕ) : Type 0 where

@@ -12,3 +12,4 @@ pub mod JoinedLemmas
 pub mod FlipLemmas
 mod LawLemmas
 pub mod TypedLemmas
+pub use Rattle.bdb_graph.proofs as of_graph

@@ -5,18 +5,18 @@ use Rattle.std.specs.Option.{option_map}
 use Rattle.std.specs.List.{Contains, flat_map, list_any, range_with_len}
 use Rattle.std.proofs.lemmas.List.Elements.{Contains-append_cases, Contains-append_left, Contains-append_right}
 use Rattle.std.proofs.lemmas.List.FromFn.{get_or-map-range_with_len, length-map-range_with_len}
-use Rattle.bdb_format.proofs.MemberLemmas.{first_member, later_member, none_passes, in_map, of_range, in_range}
-use Rattle.bdb_format.proofs.ListLemmas.{flat_map_same}
-use Rattle.bdb_format.proofs.PageLemmas.{index_offset, length_items}
+use Rattle.bdb_graph.proofs.of_format.MemberLemmas.{first_member, later_member, none_passes, in_map, of_range, in_range}
+use Rattle.bdb_graph.proofs.of_format.ListLemmas.{flat_map_same}
+use Rattle.bdb_graph.proofs.of_format.PageLemmas.{index_offset, length_items}
 use Rattle.std.proofs.lemmas.Bool.Decides.{nat_tests}
 use Rattle.bdb_turned.specs.Overlaps.{listed_overlap, share_bytes}
-use Rattle.bdb_format.specs.declared.kinds.Order.{Order}
-use Rattle.bdb_format.specs.declared.pages.ItemFault.{ItemFault}
-use Rattle.bdb_format.specs.Numbers.{byte_at, turned, four_at, two_at}
-use Rattle.bdb_format.specs.Page.{PageType}
-use Rattle.bdb_format.specs.Reading.{entries_of, header_of, listed, offset_of}
-use Rattle.bdb_format.specs.Rows.{index_rows, item_row, item_rows, is_code, item_code, listed_code}
-use Rattle.bdb_format.specs.Table.{Row, first_row}
+use Rattle.bdb_graph.specs.of_format.declared.kinds.Order.{Order}
+use Rattle.bdb_graph.specs.of_format.declared.pages.ItemFault.{ItemFault}
+use Rattle.bdb_graph.specs.of_format.Numbers.{byte_at, turned, four_at, two_at}
+use Rattle.bdb_graph.specs.of_format.Page.{PageType}
+use Rattle.bdb_graph.specs.of_format.Reading.{entries_of, header_of, listed, offset_of}
+use Rattle.bdb_graph.specs.of_format.Rows.{index_rows, item_row, item_rows, is_code, item_code, listed_code}
+use Rattle.bdb_graph.specs.of_format.Table.{Row, first_row}
 use Rattle.bdb_turned.specs.Fields.{Field, field, header_fields, index_fields, listed_fields}
 pub use Rattle.bdb_turned.specs.Parts.{all_fields}
 use Rattle.bdb_turned.specs.Apart.{AreApart, IsUntouched, LieWithin}

@@ -3,29 +3,29 @@ use Rattle.std.proofs.Common.{◌≡◌, ◌∙◌, ℕ, zero, suc, ◌+◌, ◌
 use Rattle.std.specs.Prelude.{cond, not, nat_lt, ◌&&◌, ◌==◌, Bool, true, false, Option, Some, None}
 use Rattle.std.proofs.lemmas.Bool.Decides.{nat_tests}
 use Rattle.std.proofs.lemmas.List.{ext_get_or}
-use Rattle.bdb_format.proofs.MemberLemmas.{no_member}
-use Rattle.bdb_format.proofs.SizeLemmas.{size_bounds}
-use Rattle.bdb_format.proofs.ItemLemmas.{IsIndexed, index_passes, no_index_row, no_item_row}
-use Rattle.bdb_format.specs.declared.kinds.Order.{Order}
-use Rattle.bdb_format.specs.declared.metadata.Head.{Head}
-use Rattle.bdb_format.specs.declared.metadata.FileKind.{FileKind}
-use Rattle.bdb_format.specs.declared.metadata.FileKind.TheVariants.{Btree, Hash as HashFile, Queue as QueueFile}
-use Rattle.bdb_format.specs.declared.pages.Header.{Header}
-use Rattle.bdb_format.specs.declared.pages.RecnoItem.{RecnoItem}
-use Rattle.bdb_format.specs.HeadOf.{is_page_size}
-use Rattle.bdb_format.specs.Numbers.{byte_at, four_at, two_at, turned}
-use Rattle.bdb_format.specs.Page.{Item, InternalItem, Metadata, BtreeFields, HashFields, QueueFields, Page, Zero, Free, Meta, Hash, Internal, RecnoInternal}
-use Rattle.bdb_format.specs.Page.{Leaf, RecnoLeaf, DupLeaf, Overflow, Queue, PageType, FreePage, HashPage, InternalPage, RecnoInternalPage, LeafPage}
-use Rattle.bdb_format.specs.Page.{RecnoLeafPage, OverflowPage, HashMetaPage, BtreeMetaPage, QueueMetaPage, QueuePage, DupLeafPage, OtherPage}
-use Rattle.bdb_format.specs.References.{no_item}
-use Rattle.bdb_format.specs.Reading.{abstract_page, btree_fields, entries_of, hash_fields as table_fields, hash_item_at, header_of, internal_item_at, is_zero}
-use Rattle.bdb_format.specs.Reading.{leaf_item_at, listed, page_as, page_type, queue_fields, recno_item_at}
-use Rattle.bdb_format.specs.Rows.{body_code, form_code, is_queue, is_queue_type, is_tree_type, item_rows, listed_code, may_have_type, meta_rows, kind_rows}
-use Rattle.bdb_format.specs.Rows.{typed_code, type_of}
-use Rattle.bdb_format.specs.Table.{Row, ◌:?◌, first_row}
-use Rattle.bdb_image.proofs.CodeLemmas.{code_by, not_zero}
-use Rattle.bdb_format.proofs.TypeLemmas.{one_type}
-use Rattle.bdb_format.proofs.PageLemmas.{later_type}
+use Rattle.bdb_graph.proofs.of_format.MemberLemmas.{no_member}
+use Rattle.bdb_graph.proofs.of_format.SizeLemmas.{size_bounds}
+use Rattle.bdb_graph.proofs.of_format.ItemLemmas.{IsIndexed, index_passes, no_index_row, no_item_row}
+use Rattle.bdb_graph.specs.of_format.declared.kinds.Order.{Order}
+use Rattle.bdb_graph.specs.of_format.declared.metadata.Head.{Head}
+use Rattle.bdb_graph.specs.of_format.declared.metadata.FileKind.{FileKind}
+use Rattle.bdb_graph.specs.of_format.declared.metadata.FileKind.TheVariants.{Btree, Hash as HashFile, Queue as QueueFile}
+use Rattle.bdb_graph.specs.of_format.declared.pages.Header.{Header}
+use Rattle.bdb_graph.specs.of_format.declared.pages.RecnoItem.{RecnoItem}
+use Rattle.bdb_graph.specs.of_format.HeadOf.{is_page_size}
+use Rattle.bdb_graph.specs.of_format.Numbers.{byte_at, four_at, two_at, turned}
+use Rattle.bdb_graph.specs.of_format.Page.{Item, InternalItem, Metadata, BtreeFields, HashFields, QueueFields, Page, Zero, Free, Meta, Hash, Internal, RecnoInternal}
+use Rattle.bdb_graph.specs.of_format.Page.{Leaf, RecnoLeaf, DupLeaf, Overflow, Queue, PageType, FreePage, HashPage, InternalPage, RecnoInternalPage, LeafPage}
+use Rattle.bdb_graph.specs.of_format.Page.{RecnoLeafPage, OverflowPage, HashMetaPage, BtreeMetaPage, QueueMetaPage, QueuePage, DupLeafPage, OtherPage}
+use Rattle.bdb_graph.specs.of_format.References.{no_item}
+use Rattle.bdb_graph.specs.of_format.Reading.{abstract_page, btree_fields, entries_of, hash_fields as table_fields, hash_item_at, header_of, internal_item_at, is_zero}
+use Rattle.bdb_graph.specs.of_format.Reading.{leaf_item_at, listed, page_as, page_type, queue_fields, recno_item_at}
+use Rattle.bdb_graph.specs.of_format.Rows.{body_code, form_code, is_queue, is_queue_type, is_tree_type, item_rows, listed_code, may_have_type, meta_rows, kind_rows}
+use Rattle.bdb_graph.specs.of_format.Rows.{typed_code, type_of}
+use Rattle.bdb_graph.specs.of_format.Table.{Row, ◌:?◌, first_row}
+use Rattle.bdb_graph.proofs.of_image.CodeLemmas.{code_by, not_zero}
+use Rattle.bdb_graph.proofs.of_format.TypeLemmas.{one_type}
+use Rattle.bdb_graph.proofs.of_format.PageLemmas.{later_type}
 use Rattle.std.proofs.lemmas.Bool.{eqb-true, lt-ltb}
 use Rattle.bdb_turned.specs.Fields.{Field, field, fields_of, fours, hash_fields, header_fields, internal_fields, leaf_fields, listed_fields, no_internal}
 use Rattle.bdb_turned.specs.Fields.{no_recno, recno_fields}
@@ -46,7 +46,7 @@ use Rattle.bdb_turned.proofs.InnerLemmas.{internal_placed, internal_turned, item
 use Rattle.bdb_turned.proofs.InnerLemmas.{recno_high, recno_low, recno_part, recno_placed, recno_rows_same, recno_same, recno_turned}
 use Rattle.bdb_turned.proofs.PlainLemmas.{CommonSame, btree_rows_same, btree_same, common_rows_same, common_same, fours_between, meta_all, meta_between}
 use Rattle.bdb_turned.proofs.PlainLemmas.{queue_rows_same, queue_same, table_rows_same, table_same}
-use Rattle.bdb_format.proofs.GraphLemmas.{typed_page, zero_page}
+use Rattle.bdb_graph.proofs.of_format.GraphLemmas.{typed_page, zero_page}
 
 -- what the other order says of a page of a type
 pub record TypeTurned (head : Head) (p : ℕ) (page other : List ℕ) (t : PageType) : Type 0 where

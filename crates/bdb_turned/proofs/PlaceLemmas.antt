@@ -4,8 +4,8 @@ use Rattle.std.specs.Prelude.{true, false, Some, None}
 use Rattle.std.specs.List.{Contains, find}
 use Rattle.std.proofs.lemmas.List.FromFn.{get_or-map-range_with_len, length-map-range_with_len}
 use Rattle.std.proofs.lemmas.Bool.Decides.{nat_tests}
-use Rattle.bdb_format.proofs.MemberLemmas.{first_member, later_member, member_cases, no_member}
-use Rattle.bdb_format.specs.Numbers.{byte_at}
+use Rattle.bdb_graph.proofs.of_format.MemberLemmas.{first_member, later_member, member_cases, no_member}
+use Rattle.bdb_graph.specs.of_format.Numbers.{byte_at}
 use Rattle.bdb_turned.specs.Fields.{Field}
 use Rattle.bdb_turned.specs.Turning.{is_in, mirror, turned_round}
 use Rattle.bdb_turned.specs.Apart.{AreApart, IsUntouched, LieWithin}

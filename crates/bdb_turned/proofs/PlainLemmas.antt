@@ -3,17 +3,17 @@ use Rattle.std.proofs.Common.{◌≡◌, ◌∙◌, inl, inr, ℕ, zero, suc, �
 use Rattle.std.specs.Prelude.{not, nat_lt, ◌||◌, ◌==◌}
 use Rattle.std.specs.List.{Contains, range_with_len}
 use Rattle.std.proofs.lemmas.List.Elements.{Contains-append_cases, Contains-append_left, Contains-append_right}
-use Rattle.bdb_format.proofs.MemberLemmas.{first_member, later_member, of_range}
-use Rattle.bdb_format.specs.declared.kinds.Order.{Order}
-use Rattle.bdb_format.specs.declared.metadata.FileKind.{FileKind}
-use Rattle.bdb_format.specs.declared.metadata.BtreeMeta.{BtreeMeta}
-use Rattle.bdb_format.specs.declared.metadata.HashMeta.{HashMeta}
-use Rattle.bdb_format.specs.declared.metadata.QueueMeta.{QueueMeta}
-use Rattle.bdb_format.specs.Numbers.{byte_at, four_at, turned}
-use Rattle.bdb_format.specs.Page.{Metadata, BtreeFields, HashFields, QueueFields}
-use Rattle.bdb_format.specs.Reading.{btree_fields, hash_fields as table_fields, queue_fields}
-use Rattle.bdb_format.specs.Rows.{are_masks, lacks_spare, records_per_page, btree_rows, meta_rows, queue_rows, table_rows}
-use Rattle.bdb_format.specs.Table.{Row, ◌:?◌}
+use Rattle.bdb_graph.proofs.of_format.MemberLemmas.{first_member, later_member, of_range}
+use Rattle.bdb_graph.specs.of_format.declared.kinds.Order.{Order}
+use Rattle.bdb_graph.specs.of_format.declared.metadata.FileKind.{FileKind}
+use Rattle.bdb_graph.specs.of_format.declared.metadata.BtreeMeta.{BtreeMeta}
+use Rattle.bdb_graph.specs.of_format.declared.metadata.HashMeta.{HashMeta}
+use Rattle.bdb_graph.specs.of_format.declared.metadata.QueueMeta.{QueueMeta}
+use Rattle.bdb_graph.specs.of_format.Numbers.{byte_at, four_at, turned}
+use Rattle.bdb_graph.specs.of_format.Page.{Metadata, BtreeFields, HashFields, QueueFields}
+use Rattle.bdb_graph.specs.of_format.Reading.{btree_fields, hash_fields as table_fields, queue_fields}
+use Rattle.bdb_graph.specs.of_format.Rows.{are_masks, lacks_spare, records_per_page, btree_rows, meta_rows, queue_rows, table_rows}
+use Rattle.bdb_graph.specs.of_format.Table.{Row, ◌:?◌}
 use Rattle.bdb_turned.specs.Fields.{Field, common_fields, field, fours, kind_fields}
 use Rattle.bdb_turned.specs.Apart.{IsUntouched}
 use Rattle.bdb_turned.proofs.ReadLemmas.{IsTurned, number_same}

@@ -4,16 +4,16 @@ use Rattle.std.proofs.Common.{length-drop}
 use Rattle.std.specs.Prelude.{slice_range, true, false, map}
 use Rattle.std.specs.List.{Contains, range_with_len}
 use Rattle.std.proofs.lemmas.Bool.Decides.{nat_tests}
-use Rattle.bdb_format.specs.Reading.{is_zero}
+use Rattle.bdb_graph.specs.of_format.Reading.{is_zero}
 use Rattle.std.proofs.lemmas.List.{ext_get_or, length-take-le, length-reverse, get_or-take, get_or-drop, get_or-reverse, get_or_past}
-use Rattle.bdb_format.proofs.TurnLemmas.{number-turned}
-use Rattle.bdb_format.specs.declared.kinds.Order.{Order}
-use Rattle.bdb_format.specs.Numbers.{byte_at, number, number_at, turned}
+use Rattle.bdb_graph.proofs.of_format.TurnLemmas.{number-turned}
+use Rattle.bdb_graph.specs.of_format.declared.kinds.Order.{Order}
+use Rattle.bdb_graph.specs.of_format.Numbers.{byte_at, number, number_at, turned}
 use Rattle.bdb_turned.specs.Fields.{Field, field}
 use Rattle.bdb_turned.specs.Turning.{mirror, turned_round}
 use Rattle.bdb_turned.specs.Apart.{AreApart, IsUntouched, LieWithin}
 use Rattle.bdb_turned.proofs.PlaceLemmas.{mirror-inside, mirror-outside, mirror-within, length-turned_round, get_or-turned_round, places_turn_back}
-use Rattle.bdb_format.proofs.PageLemmas.{zero_byte}
+use Rattle.bdb_graph.proofs.of_format.PageLemmas.{zero_byte}
 
 -- bytes that are others with these numbers turned round: all that is read of them
 pub record IsTurned (fields : List Field) (bytes other : List ℕ) : Type 0 where

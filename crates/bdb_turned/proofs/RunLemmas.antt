@@ -5,12 +5,12 @@ use Rattle.std.specs.List.{Contains}
 use Rattle.std.specs.Option.{option_map}
 use Rattle.std.proofs.lemmas.Bool.Decides.{nat_tests}
 use Rattle.std.proofs.lemmas.List.{drop-drop, drop-take, take-take, length-take-le}
-use Rattle.bdb_format.proofs.MemberLemmas.{first_member, later_member, member_cases, no_member}
-use Rattle.bdb_format.proofs.TurnLemmas.{length-slice_range}
-use Rattle.bdb_layout.proofs.BlockLemmas.{after_first, blocks_of-cons, lacks_block, with_first, whole_block}
-use Rattle.bdb_format.specs.declared.kinds.Order.{Order}
-use Rattle.bdb_format.specs.Numbers.{number, number_at, two_at, turned}
-use Rattle.bdb_format.specs.Reading.{blocks_of}
+use Rattle.bdb_graph.proofs.of_format.MemberLemmas.{first_member, later_member, member_cases, no_member}
+use Rattle.bdb_graph.proofs.of_format.TurnLemmas.{length-slice_range}
+use Rattle.bdb_graph.proofs.of_layout.BlockLemmas.{after_first, blocks_of-cons, lacks_block, with_first, whole_block}
+use Rattle.bdb_graph.specs.of_format.declared.kinds.Order.{Order}
+use Rattle.bdb_graph.specs.of_format.Numbers.{number, number_at, two_at, turned}
+use Rattle.bdb_graph.specs.of_format.Reading.{blocks_of}
 use Rattle.bdb_turned.specs.Fields.{Field, block_fields, field}
 use Rattle.bdb_turned.specs.Apart.{IsUntouched}
 use Rattle.bdb_turned.proofs.ReadLemmas.{IsTurned, number_same, slice_same}

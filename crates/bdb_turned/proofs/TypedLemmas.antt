@@ -1,13 +1,13 @@
 -- A page with an index by its type, where no row of it holds.
 use Rattle.std.proofs.Common.{◌≡◌, ◌∙◌, ℕ, ◌+◌, ◌*◌, ◌<◌, ◌≤◌, List, length, sym, ap}
 use Rattle.std.specs.Prelude.{None}
-use Rattle.bdb_format.proofs.ItemLemmas.{no_item_row}
-use Rattle.bdb_format.specs.declared.kinds.Order.{Order}
-use Rattle.bdb_format.specs.Numbers.{byte_at}
-use Rattle.bdb_format.specs.Page.{PageType}
-use Rattle.bdb_format.specs.Reading.{entries_of, page_type}
-use Rattle.bdb_format.specs.Rows.{body_code, item_rows, listed_code}
-use Rattle.bdb_format.specs.Table.{first_row}
+use Rattle.bdb_graph.proofs.of_format.ItemLemmas.{no_item_row}
+use Rattle.bdb_graph.specs.of_format.declared.kinds.Order.{Order}
+use Rattle.bdb_graph.specs.of_format.Numbers.{byte_at}
+use Rattle.bdb_graph.specs.of_format.Page.{PageType}
+use Rattle.bdb_graph.specs.of_format.Reading.{entries_of, page_type}
+use Rattle.bdb_graph.specs.of_format.Rows.{body_code, item_rows, listed_code}
+use Rattle.bdb_graph.specs.of_format.Table.{first_row}
 use Rattle.bdb_turned.proofs.PageLemmas.{room_of}
 
 -- what the code of a page with an index says

@@ -1,11 +1,11 @@
 -- A whole image in the other byte order. Source: docs/FORMAT.md, "The other byte order".
 use Rattle.std.specs.Prelude.{ℕ, ◌+◌, Bool, true, false, if◌then◌else◌, List, Option, None}
 use Rattle.std.specs.List.{find, flat_map, range_with_len}
-use Rattle.bdb_format.specs.declared.kinds.Order.{Order}
-use Rattle.bdb_format.specs.declared.kinds.Order.TheVariants.{Big, Little}
-use Rattle.bdb_format.specs.declared.metadata.Head.{Head}
-use Rattle.bdb_format.specs.File.{File, file_of, page_at, page_bytes}
-use Rattle.bdb_format.specs.HeadOf.{head_of}
+use Rattle.bdb_graph.specs.of_format.declared.kinds.Order.{Order}
+use Rattle.bdb_graph.specs.of_format.declared.kinds.Order.TheVariants.{Big, Little}
+use Rattle.bdb_graph.specs.of_format.declared.metadata.Head.{Head}
+use Rattle.bdb_graph.specs.of_format.File.{File, file_of, page_at, page_bytes}
+use Rattle.bdb_graph.specs.of_format.HeadOf.{head_of}
 use Rattle.bdb_turned.specs.Overlaps.{overlaps}
 use Rattle.bdb_turned.specs.Turning.{turned_page}
 

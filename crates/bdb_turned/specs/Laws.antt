@@ -1,18 +1,18 @@
 -- Laws of pages and files in the other byte order. Source: docs/FORMAT.md, "The other byte order".
 use Rattle.std.specs.Prelude.{◌≡◌, ◌≤◌, ◌^◌, ℕ, List, [], length, true, false, None}
-use Rattle.bdb_format.specs.declared.kinds.Order.{Order}
-use Rattle.bdb_format.specs.declared.metadata.Head.{Head}
-use Rattle.bdb_format.specs.Databases.{databases, settings_of}
-use Rattle.bdb_format.specs.File.{file_of}
-use Rattle.bdb_format.specs.Graph.{is_anchor, is_reserve, owners}
-use Rattle.bdb_format.specs.HeadOf.{head_of, is_page_size}
-use Rattle.bdb_format.specs.Lists.{list_of}
-use Rattle.bdb_format.specs.Numbers.{turned}
-use Rattle.bdb_format.specs.Page.{Metadata}
-use Rattle.bdb_format.specs.Reading.{abstract_page}
-use Rattle.bdb_format.specs.References.{refs}
-use Rattle.bdb_format.specs.Rows.{form_code}
-use Rattle.bdb_format.specs.Verdict.{faults_of}
+use Rattle.bdb_graph.specs.of_format.declared.kinds.Order.{Order}
+use Rattle.bdb_graph.specs.of_format.declared.metadata.Head.{Head}
+use Rattle.bdb_graph.specs.of_format.Databases.{databases, settings_of}
+use Rattle.bdb_graph.specs.of_format.File.{file_of}
+use Rattle.bdb_graph.specs.of_format.Graph.{is_anchor, is_reserve, owners}
+use Rattle.bdb_graph.specs.of_format.HeadOf.{head_of, is_page_size}
+use Rattle.bdb_graph.specs.of_format.Lists.{list_of}
+use Rattle.bdb_graph.specs.of_format.Numbers.{turned}
+use Rattle.bdb_graph.specs.of_format.Page.{Metadata}
+use Rattle.bdb_graph.specs.of_format.Reading.{abstract_page}
+use Rattle.bdb_graph.specs.of_format.References.{refs}
+use Rattle.bdb_graph.specs.of_format.Rows.{form_code}
+use Rattle.bdb_graph.specs.of_format.Verdict.{faults_of}
 use Rattle.bdb_turned.specs.Flipped.{flip_of, overlap_in}
 use Rattle.bdb_turned.specs.Overlaps.{overlaps}
 use Rattle.bdb_turned.specs.Turning.{turned_page}

@@ -5,3 +5,4 @@ pub mod Flipped
 pub mod Apart
 pub mod Parts
 pub mod Laws
+pub use Rattle.bdb_graph.specs.of_format as of_format

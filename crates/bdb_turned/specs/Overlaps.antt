@@ -1,10 +1,10 @@
 -- Items of a page that share a byte. Source: docs/FORMAT.md, "The other byte order".
 use Rattle.std.specs.Prelude.{ℕ, ◌+◌, nat_lt, ◌==◌, ◌&&◌, not, Bool, false, length, slice_index, get_or}
 use Rattle.std.specs.List.{list_any, range_with_len}
-use Rattle.bdb_format.specs.declared.pages.RecnoItem.{RecnoItem}
-use Rattle.bdb_format.specs.Page.{Content, Inline, Set, Chain, Tree, Unknown, Item, InternalItem, Listed, Page, Zero, Free, Meta, Hash, Internal, RecnoInternal}
-use Rattle.bdb_format.specs.Page.{Leaf, RecnoLeaf, DupLeaf, Overflow, Queue, NoType}
-use Rattle.bdb_format.specs.References.{no_item}
+use Rattle.bdb_graph.specs.of_format.declared.pages.RecnoItem.{RecnoItem}
+use Rattle.bdb_graph.specs.of_format.Page.{Content, Inline, Set, Chain, Tree, Unknown, Item, InternalItem, Listed, Page, Zero, Free, Meta, Hash, Internal, RecnoInternal}
+use Rattle.bdb_graph.specs.of_format.Page.{Leaf, RecnoLeaf, DupLeaf, Overflow, Queue, NoType}
+use Rattle.bdb_graph.specs.of_format.References.{no_item}
 use Rattle.bdb_turned.specs.Fields.{no_internal, no_recno}
 
 -- where an item of a leaf ends

@@ -1,9 +1,9 @@
 -- The numbers of the items of a page, by their places in the index, and where items end. Source: docs/FORMAT.md, "The other byte order".
 use Rattle.std.specs.Prelude.{ℕ, ◌+◌, List, ◌++◌}
 use Rattle.std.specs.List.{flat_map, range_with_len}
-use Rattle.bdb_format.specs.declared.kinds.Order.{Order}
-use Rattle.bdb_format.specs.Page.{Content, Inline, Set, Chain, Tree, Unknown}
-use Rattle.bdb_format.specs.Reading.{hash_item_at, internal_item_at, leaf_item_at, offset_of}
+use Rattle.bdb_graph.specs.of_format.declared.kinds.Order.{Order}
+use Rattle.bdb_graph.specs.of_format.Page.{Content, Inline, Set, Chain, Tree, Unknown}
+use Rattle.bdb_graph.specs.of_format.Reading.{hash_item_at, internal_item_at, leaf_item_at, offset_of}
 use Rattle.bdb_turned.specs.Fields.{Field, hash_fields, header_fields, index_fields, internal_fields, leaf_fields, recno_fields}
 use Rattle.bdb_turned.specs.Overlaps.{internal_item_end, leaf_item_end}
 use Rattle.bdb_turned.specs.Apart.{run_length}

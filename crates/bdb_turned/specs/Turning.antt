@@ -1,9 +1,9 @@
 -- Pages whose numbers are turned round. Source: docs/FORMAT.md, "The other byte order".
 use Rattle.std.specs.Prelude.{ℕ, ◌+◌, ◌-◌, ◌*◌, nat_le, nat_lt, ◌&&◌, Bool, List, map, length, Option, Some, None}
 use Rattle.std.specs.List.{find, range_with_len}
-use Rattle.bdb_format.specs.declared.kinds.Order.{Order}
-use Rattle.bdb_format.specs.Numbers.{byte_at}
-use Rattle.bdb_format.specs.Reading.{abstract_page}
+use Rattle.bdb_graph.specs.of_format.declared.kinds.Order.{Order}
+use Rattle.bdb_graph.specs.of_format.Numbers.{byte_at}
+use Rattle.bdb_graph.specs.of_format.Reading.{abstract_page}
 use Rattle.bdb_turned.specs.Fields.{Field, fields_of}
 
 -- a place lies in a number

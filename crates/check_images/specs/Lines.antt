@@ -1,10 +1,10 @@
 -- The lines that are printed for an image.
 use Rattle.std.specs.Prelude.{◌≡◌, ◌⊎◌, ℕ, ◌^◌, ◌==◌, nat_lt, if◌then◌else◌, List, ◌∷◌, [], ◌++◌, length, codes}
-use Rattle.bdb_file.specs.AnyOrder.{faults_by_rows}
-use Rattle.bdb_file.specs.declared.rows.Rows.{Rows}
-use Rattle.bdb_file.specs.declared.rows.Rows.TheVariants.{All, AnyOrder}
-use Rattle.bdb_model.specs.Answers.{Answer, told, too_large_line}
-use Rattle.bdb_text_format.specs.LineEnd.{line}
+use Rattle.bdb_tool.specs.of_file.AnyOrder.{faults_by_rows}
+use Rattle.bdb_tool.specs.of_file.declared.rows.Rows.{Rows}
+use Rattle.bdb_tool.specs.of_file.declared.rows.Rows.TheVariants.{All, AnyOrder}
+use Rattle.bdb_tool.specs.of_model.Answers.{Answer, told, too_large_line}
+use Rattle.bdb_tool.specs.of_text_format.LineEnd.{line}
 use Rattle.bdb_tool.specs.Outputs.{verified}
 
 -- the words that ask for the verdict by the rows that count

@@ -9,8 +9,8 @@ mod verdict;
 
 use crate::lines::{lines_on, unreadable};
 use crate::verdict::verdict_on;
-use bdb_file::Rows;
-use bdb_format::Bytes;
+use bdb_tool::bdb_file::Rows;
+use bdb_tool::bdb_format::Bytes;
 use std::alloc::AllocError;
 use std::io::Write;
 use std::rt::Files;

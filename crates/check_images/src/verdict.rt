@@ -1,10 +1,10 @@
 ghost use Rattle.std.specs.Prelude.{◌≡◌, IfOk};
 ghost use Rattle.check_images.specs.Lines.{verdict_on, verify_words};
 
-use bdb_file::Rows;
-use bdb_format::Bytes;
-use bdb_io::{MemSink, PureSource};
-use bdb_model::Words;
+use bdb_tool::bdb_file::Rows;
+use bdb_tool::bdb_format::Bytes;
+use bdb_tool::bdb_io::{MemSink, PureSource};
+use bdb_tool::bdb_model::Words;
 use bdb_tool::run_counted;
 use bdb_tool::status::{DONE, MEMORY, WRITE_FAULT};
 use std::alloc::{AllocError, Global};

@@ -1,7 +1,7 @@
 //! What a run gives where reads are short or fail, and where writes do.
 
-use bdb_io::{MemSink, Sink, Source};
 use std::alloc::{AllocError, Global};
+use test_runs::bdb_io::{MemSink, Sink, Source};
 use test_runs::outside::{Dripping, Narrow};
 use test_runs::running::{READ_FAULT, Ran, Told, WRITE_FAULT, gave, is_start, ran_over, status_of};
 

@@ -10,10 +10,10 @@ use crate::case::{Case, case_of};
 use crate::failing::{Whole, is_told};
 use crate::files::Kept;
 use crate::told::{Reads, told_of};
-use bdb_format::Bytes;
 use std::alloc::{AllocError, Global};
 use std::io::{self, Write};
 use std::rt::Files;
+use test_runs::bdb_format::Bytes;
 use test_runs::outside::Dripping;
 use test_runs::running::{Ran, ran_onto, ran_over};
 

@@ -1,20 +1,23 @@
 //! Both sides of a file, and what is told of them.
 
 ghost use Rattle.std.specs.Prelude.{◌≡◌, ◌<◌, ◌≤◌, ◌^◌, length};
-ghost use Rattle.bdb_format.specs.Databases.{databases};
-ghost use Rattle.bdb_format.specs.File.{file_of};
+ghost use Rattle.bdb_file.specs.of_format.Databases.{databases};
+ghost use Rattle.bdb_file.specs.of_format.File.{file_of};
 
 use crate::held::Held;
+use bdb_file::bdb_format::{Bytes, FileKind, Steps};
+use bdb_file::bdb_graph::Meta;
 use bdb_file::{Db, Scan, Sound, verify};
-use bdb_format::{Bytes, FileKind, Steps};
-use bdb_graph::Meta;
 use bdb_salvage::{SalvageError, SalvagePairs, SalvageValues, Salvaged, salvage};
 use std::alloc::{AllocError, Global};
 use std::marker::Brand;
 use std::sync::ledger::{Blank, Ledger};
 
 /// Adds the list of a master: its keys are names.
-fn add_names<'a>(held: &mut Held<'a>, list: &mut bdb_btree::Scan<'a>) -> Result<(), AllocError> {
+fn add_names<'a>(
+    held: &mut Held<'a>,
+    list: &mut bdb_file::bdb_btree::Scan<'a>,
+) -> Result<(), AllocError> {
     for (key, value) in list {
         held.add_entry(key, value)?;
     }
@@ -33,7 +36,7 @@ fn add_master<'a>(held: &mut Held<'a>, sound: &Sound<'a>) -> Result<(), AllocErr
         && number == 0
         && meta.flags & 0x20 != 0
     {
-        return add_names(held, &mut bdb_btree::scan(linked, &meta));
+        return add_names(held, &mut bdb_file::bdb_btree::scan(linked, &meta));
     }
     Ok(())
 }

@@ -1,6 +1,6 @@
-use bdb_format::Bytes;
-use bdb_io::{MemSink, PureSource};
-use bdb_model::Words;
+use bdb_file::bdb_format::Bytes;
+use bdb_tool::bdb_io::{MemSink, PureSource};
+use bdb_tool::bdb_model::Words;
 use bdb_tool::run_counted;
 use bdb_tool::status::{DONE, MEMORY, WRITE_FAULT};
 use std::alloc::{AllocError, Global};

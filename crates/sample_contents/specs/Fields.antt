@@ -2,9 +2,9 @@
 use Rattle.std.specs.Prelude.{ℕ, ◌+◌, ◌-◌, List, [], ◌∷◌, ◌++◌, map, length, replicate, codes}
 use Prim.Native.String.{String}
 use Rattle.std.specs.List.{flat_map}
-use Rattle.bdb_format.specs.declared.kinds.Order.TheVariants.{Little}
-use Rattle.bdb_format.specs.Numbers.{spelled, byte_at, overwritten}
-use Rattle.bdb_format.specs.Chains.{joined}
+use Rattle.sample_graphs.specs.of_format.declared.kinds.Order.TheVariants.{Little}
+use Rattle.sample_graphs.specs.of_format.Numbers.{spelled, byte_at, overwritten}
+use Rattle.sample_graphs.specs.of_format.Chains.{joined}
 
 abbrev pub two : ℕ → List ℕ
 two n = spelled 2 Little n

@@ -2,14 +2,14 @@
 use Rattle.std.specs.Prelude.{ℕ, List, map, codes}
 use Prim.Native.String.{String}
 use Rattle.std.specs.List.{flat_map}
-use Rattle.bdb_format.specs.declared.kinds.Fault.{Fault}
-use Rattle.bdb_format.specs.declared.settings.Settings.{Settings}
-use Rattle.bdb_format.specs.HeadOf.{head_of}
-use Rattle.bdb_format.specs.Page.{Metadata}
-use Rattle.bdb_format.specs.File.{file_of, page_at}
-use Rattle.bdb_format.specs.Lists.{ListKey, BytesKey, NumberKey, list_of}
-use Rattle.bdb_format.specs.ContentRows.{database_faults, fields_in}
-use Rattle.bdb_format.specs.Databases.{settings_of, data_under}
+use Rattle.sample_graphs.specs.of_format.declared.kinds.Fault.{Fault}
+use Rattle.sample_graphs.specs.of_format.declared.settings.Settings.{Settings}
+use Rattle.sample_graphs.specs.of_format.HeadOf.{head_of}
+use Rattle.sample_graphs.specs.of_format.Page.{Metadata}
+use Rattle.sample_graphs.specs.of_format.File.{file_of, page_at}
+use Rattle.sample_graphs.specs.of_format.Lists.{ListKey, BytesKey, NumberKey, list_of}
+use Rattle.sample_graphs.specs.of_format.ContentRows.{database_faults, fields_in}
+use Rattle.sample_graphs.specs.of_format.Databases.{settings_of, data_under}
 
 -- the metadata on a page of an image
 abbrev pub fields_at : List ℕ → ℕ → List Metadata

@@ -13,3 +13,5 @@ pub mod Shown
 pub mod StructureFaults
 pub mod Tables
 pub mod Trees
+pub use Rattle.sample_graphs.specs as of_sample_graphs
+pub use Rattle.sample_graphs.specs.of_sample_pages as of_sample_pages

@@ -1,9 +1,9 @@
 -- Settings of databases, and metadata with more of them than plain files have. Source: docs/FORMAT.md, "Metadata pages".
 use Rattle.std.specs.Prelude.{ℕ, Bool, true, false, List, [], ◌∷◌}
-use Rattle.bdb_format.specs.Numbers.{overwritten}
-use Rattle.bdb_format.specs.declared.kinds.Kind.TheVariants.{Btree, Recno, Hash, Queue}
-use Rattle.bdb_format.specs.declared.kinds.Order.TheVariants.{Little}
-use Rattle.bdb_format.specs.declared.settings.Settings.{Settings}
+use Rattle.sample_graphs.specs.of_format.Numbers.{overwritten}
+use Rattle.sample_graphs.specs.of_format.declared.kinds.Kind.TheVariants.{Btree, Recno, Hash, Queue}
+use Rattle.sample_graphs.specs.of_format.declared.kinds.Order.TheVariants.{Little}
+use Rattle.sample_graphs.specs.of_format.declared.settings.Settings.{Settings}
 use Rattle.sample_contents.specs.Fields.{one_leaf}
 use Rattle.sample_contents.specs.Records.{records}
 use Rattle.sample_contents.specs.Tables.{buckets}

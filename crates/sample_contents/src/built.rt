@@ -1,5 +1,5 @@
 ghost use Rattle.sample_contents.specs.Fields.{btree, leaf, pair, text};
-ghost use Rattle.sample_pages.specs.OnePair.{one_pair};
+ghost use Rattle.sample_graphs.specs.of_sample_pages.OnePair.{one_pair};
 ghost use Rattle.std.specs.Prelude.{◌≡◌, bytes_eq, true, [], ◌∷◌};
 
 /// The sample file, written from its fields.

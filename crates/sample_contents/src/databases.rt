@@ -6,9 +6,9 @@ ghost use Rattle.sample_contents.specs.Named.{names, two_databases};
 ghost use Rattle.sample_contents.specs.Queues.{second_of_three};
 ghost use Rattle.sample_contents.specs.Records.{first_and_third};
 ghost use Rattle.sample_contents.specs.Tables.{buckets, hash_live, set_in_a_bucket};
-ghost use Rattle.bdb_format.specs.Databases.{databases, place_of};
-ghost use Rattle.bdb_format.specs.File.{file_of};
-ghost use Rattle.sample_pages.specs.OnePair.{one_pair};
+ghost use Rattle.sample_graphs.specs.of_format.Databases.{databases, place_of};
+ghost use Rattle.sample_graphs.specs.of_format.File.{file_of};
+ghost use Rattle.sample_graphs.specs.of_sample_pages.OnePair.{one_pair};
 ghost use Rattle.std.specs.Prelude.{◌≡◌, codes, None, Some, [], ◌∷◌};
 
 /// Those that a master names, in the order of its list; a deleted pair names none.

@@ -2,8 +2,8 @@ ghost use Rattle.sample_contents.specs.Chains.{leaf_with_chain};
 ghost use Rattle.sample_contents.specs.Fields.{again, chain, gone, inline, live, one_leaf, pair, text};
 ghost use Rattle.sample_contents.specs.Separators.{split, split_in_three};
 ghost use Rattle.sample_graphs.specs.Named.{fault};
-ghost use Rattle.bdb_format.specs.Numbers.{overwritten};
-ghost use Rattle.bdb_format.specs.Verdict.{faults_of};
+ghost use Rattle.sample_graphs.specs.of_format.Numbers.{overwritten};
+ghost use Rattle.sample_graphs.specs.of_format.Verdict.{faults_of};
 ghost use Rattle.std.specs.Prelude.{◌≡◌, ◌+◌, [], ◌∷◌};
 
 /// The keys `61` and `6100`; one key twice; an order that is of unsigned bytes; a key without bytes.

@@ -1,16 +1,16 @@
 -- What is unfolded to compute the faults of a file.
 use Rattle.std.specs.Prelude.{⊤}
 use Rattle.sample_pages.proofs.Computed.{pages}
-use Rattle.bdb_format.specs.References.{refs, fit_code}
-use Rattle.bdb_format.specs.Graph.{all_references, owners, is_anchor, is_reserve, reaches_in}
-use Rattle.bdb_format.specs.Chains.{chain_in, pieces_of, value_of}
-use Rattle.bdb_format.specs.Leaves.{leaves_in, root_references, leaf_places}
-use Rattle.bdb_format.specs.Contents.{pairs_of, data_of, tree_pairs, tree_entries, table_pairs}
-use Rattle.bdb_format.specs.ContentRows.{inner_pages}
-use Rattle.bdb_format.specs.Master.{master_pairs}
-use Rattle.bdb_format.specs.File.{file_of}
-use Rattle.bdb_format.specs.Verdict.{head_faults, tail_faults, form_faults, reference_faults, ownership_faults, reach_faults}
-use Rattle.bdb_format.specs.Verdict.{structure_faults, master_faults, contents_faults, faults_in, faults_of}
+use Rattle.sample_pages.specs.of_format.References.{refs, fit_code}
+use Rattle.sample_pages.specs.of_format.Graph.{all_references, owners, is_anchor, is_reserve, reaches_in}
+use Rattle.sample_pages.specs.of_format.Chains.{chain_in, pieces_of, value_of}
+use Rattle.sample_pages.specs.of_format.Leaves.{leaves_in, root_references, leaf_places}
+use Rattle.sample_pages.specs.of_format.Contents.{pairs_of, data_of, tree_pairs, tree_entries, table_pairs}
+use Rattle.sample_pages.specs.of_format.ContentRows.{inner_pages}
+use Rattle.sample_pages.specs.of_format.Master.{master_pairs}
+use Rattle.sample_pages.specs.of_format.File.{file_of}
+use Rattle.sample_pages.specs.of_format.Verdict.{head_faults, tail_faults, form_faults, reference_faults, ownership_faults, reach_faults}
+use Rattle.sample_pages.specs.of_format.Verdict.{structure_faults, master_faults, contents_faults, faults_in, faults_of}
 
 unfoldable pub references : ⊤
 unfolding refs fit_code all_references owners is_anchor is_reserve reaches_in

@@ -1,6 +1,6 @@
 -- A fault by its three numbers.
 use Rattle.std.specs.Prelude.{ℕ}
-use Rattle.bdb_format.specs.declared.kinds.Fault.{Fault}
+use Rattle.sample_pages.specs.of_format.declared.kinds.Fault.{Fault}
 
 -- a stage, a page and a code
 abbrev pub fault : ℕ → ℕ → ℕ → Fault

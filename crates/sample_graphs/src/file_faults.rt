@@ -1,5 +1,5 @@
-ghost use Rattle.bdb_format.specs.Verdict.{LeftOut, faults_of, verdict_of};
-ghost use Rattle.bdb_format.specs.declared.kinds.Unsupported.TheVariants.{Checksum, Encryption, Heap, LargePage, Partition, Version};
+ghost use Rattle.sample_pages.specs.of_format.Verdict.{LeftOut, faults_of, verdict_of};
+ghost use Rattle.sample_pages.specs.of_format.declared.kinds.Unsupported.TheVariants.{Checksum, Encryption, Heap, LargePage, Partition, Version};
 ghost use Rattle.sample_graphs.specs.Named.{fault};
 ghost use Rattle.sample_graphs.specs.Tails.{file_tail, file_tail_many};
 ghost use Rattle.sample_pages.specs.FileFaults.{file_checksum, file_encryption, file_heap, file_large_page, file_last_page, file_magic, file_page_size};

@@ -1,5 +1,5 @@
-ghost use Rattle.bdb_format.specs.Verdict.{LeftOut, faults_of, verdict_of};
-ghost use Rattle.bdb_format.specs.declared.kinds.Unsupported.TheVariants.{Checksum, Compression, Encryption, Extent, OwnHash, Partition, Version, WrappedQueue};
+ghost use Rattle.sample_pages.specs.of_format.Verdict.{LeftOut, faults_of, verdict_of};
+ghost use Rattle.sample_pages.specs.of_format.declared.kinds.Unsupported.TheVariants.{Checksum, Compression, Encryption, Extent, OwnHash, Partition, Version, WrappedQueue};
 ghost use Rattle.sample_graphs.specs.MetaForms.{form_btree_flags_one, form_checksum_many, form_compression_one, form_encryption_many, form_extent_many};
 ghost use Rattle.sample_graphs.specs.MetaForms.{form_hash_buckets_many, form_hash_flags_many, form_hash_masks_many, form_meta_magic_one};
 ghost use Rattle.sample_graphs.specs.MetaForms.{form_meta_page_size_many, form_own_hash_many, form_page_number_many, form_page_type_one, form_partition_one};

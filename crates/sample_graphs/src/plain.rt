@@ -1,5 +1,5 @@
-ghost use Rattle.bdb_format.specs.Verdict.{Faulty, LeftOut, faults_of, verdict_of};
-ghost use Rattle.bdb_format.specs.declared.kinds.Unsupported.TheVariants.{LargePage, Version};
+ghost use Rattle.sample_pages.specs.of_format.Verdict.{Faulty, LeftOut, faults_of, verdict_of};
+ghost use Rattle.sample_pages.specs.of_format.declared.kinds.Unsupported.TheVariants.{LargePage, Version};
 ghost use Rattle.sample_graphs.specs.Named.{fault};
 ghost use Rattle.sample_graphs.specs.Worked.{empty_queue_big};
 ghost use Rattle.sample_pages.specs.Formed.{formed_btree_big, formed_btree_little, formed_hash_big, formed_hash_free_big, formed_hash_little, formed_queue_big};

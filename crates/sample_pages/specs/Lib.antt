@@ -7,3 +7,4 @@ pub mod PageFaults
 pub mod Pages
 pub mod Unfolded
 pub mod Verdicts
+pub use Rattle.bdb_format.specs as of_format

@@ -1,6 +1,6 @@
-ghost use Rattle.bdb_format.specs.Databases.{plain_settings};
-ghost use Rattle.bdb_format.specs.declared.kinds.Kind.TheVariants.{Btree, Hash, Queue, Recno};
-ghost use Rattle.bdb_format.specs.declared.kinds.Order.TheVariants.{Big, Little};
+ghost use Rattle.bdb_text_format.specs.of_format.Databases.{plain_settings};
+ghost use Rattle.bdb_text_format.specs.of_format.declared.kinds.Kind.TheVariants.{Btree, Hash, Queue, Recno};
+ghost use Rattle.bdb_text_format.specs.of_format.declared.kinds.Order.TheVariants.{Big, Little};
 ghost use Rattle.bdb_text_format.specs.declared.pairs.Key.TheVariants.{Bytes, Number};
 ghost use Rattle.bdb_text_format.specs.declared.faults.TextReason.TheVariants.{NoVersion, Version, UnknownKeyword, BadValue, RepeatedKeyword, NoType};
 ghost use Rattle.bdb_text_format.specs.declared.faults.TextReason.TheVariants.{Unsupported};

@@ -7,7 +7,7 @@ ghost use Rattle.sample_contents.specs.Queues.{over_two_pages, second_of_three};
 ghost use Rattle.sample_contents.specs.Records.{first_and_third};
 ghost use Rattle.sample_contents.specs.Shown.{dense_table, padded_queue, padded_records, three_keys};
 ghost use Rattle.sample_contents.specs.Tables.{buckets, five_keys, hash_live, set_in_a_bucket};
-ghost use Rattle.sample_pages.specs.OnePair.{deleted, one_pair, one_pair_big};
+ghost use Rattle.sample_contents.specs.of_sample_pages.OnePair.{deleted, one_pair, one_pair_big};
 ghost use Rattle.sample_texts.specs.Texts.{greatest_minkey, lines, section, text_of, unprinted_pair};
 ghost use Rattle.std.specs.Prelude.{◌≡◌, ◌++◌, [], ◌∷◌, false, true};
 

@@ -2,7 +2,7 @@
 use Rattle.std.proofs.Common.{◌≡◌, ℕ, suc, ◌<◌, List, [], ◌∷◌, length, get_or, map, Some, slice_get, arith, refl, ◌∙◌, ap, subst}
 use Rattle.std.specs.List.{Contains}
 use Rattle.std.proofs.lemmas.Option.{slice_get-get_or}
-use Rattle.bdb_format.proofs.MemberLemmas.{of_map}
+use Rattle.bdb_tree.proofs.of_format.MemberLemmas.{of_map}
 
 -- a list that shows at each place what is seen of another is what is seen of that
 pub same_list : {X Y : Type 0} (seen : X → Y) (ys : List Y) (xs : List X) → length ys ≡ length xs

@@ -1,7 +1,7 @@
 -- Lists of faults beside tables of their pages and codes. Source: this project's tests.
 use Rattle.std.specs.Prelude.{◌↔◌, ℕ, List, map}
 use Rattle.std.specs.List.{Contains}
-use Rattle.bdb_format.specs.Verdict.{Judgement, Faulty}
+use Rattle.bdb_tree.specs.of_format.Verdict.{Judgement, Faulty}
 
 -- a page and a code, as a fault of this stage
 abbrev pub row_judged : ℕ → ℕ × ℕ → Judgement

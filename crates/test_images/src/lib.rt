@@ -6,6 +6,7 @@ mod naming;
 mod opening;
 mod sample;
 
+pub use bdb_tree;
 pub use field::{Field, write};
 pub use naming::{has_rows, is_list_of};
 pub use opening::{btree_of, has_sound_trees, is_keyed, is_recno};

@@ -2,12 +2,12 @@
 
 ghost use Rattle.std.specs.Prelude.{◌≡◌, IsTrue, Some, map, slice_get};
 ghost use Rattle.std.specs.List.{Contains};
-ghost use Rattle.bdb_faults.specs.Named.{judgement_seen};
-ghost use Rattle.bdb_format.specs.Verdict.{Judgement};
+ghost use Rattle.bdb_tree.specs.of_faults.Named.{judgement_seen};
+ghost use Rattle.bdb_tree.specs.of_format.Verdict.{Judgement};
 ghost use Rattle.test_images.specs.Rows.{HasRows, row_judged};
 
-use bdb_faults::{Named, NamedList};
-use bdb_format::Fault;
+use bdb_tree::bdb_faults::{Named, NamedList};
+use bdb_tree::bdb_format::Fault;
 
 // Whether both are the same.
 fn is_same(a: Named, b: Named) -> bool

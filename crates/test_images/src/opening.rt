@@ -1,15 +1,15 @@
 //! A file that is sound up to stage 6, and the btree on its page 0.
 
 ghost use Rattle.std.specs.Prelude.{◌≡◌, [], IfSome, IsTrue, false};
-ghost use Rattle.bdb_image.specs.Linked.{HasMetadata};
-ghost use Rattle.bdb_format.specs.File.{file_of};
-ghost use Rattle.bdb_format.specs.Page.{BtreeFields};
-ghost use Rattle.bdb_format.specs.Verdict.{structure_faults};
-ghost use Rattle.bdb_format.specs.Flags.{is_recno};
+ghost use Rattle.bdb_tree.specs.of_image.Linked.{HasMetadata};
+ghost use Rattle.bdb_tree.specs.of_format.File.{file_of};
+ghost use Rattle.bdb_tree.specs.of_format.Page.{BtreeFields};
+ghost use Rattle.bdb_tree.specs.of_format.Verdict.{structure_faults};
+ghost use Rattle.bdb_tree.specs.of_format.Flags.{is_recno};
 
-use bdb_format::BtreeMeta;
-use bdb_graph::{Linked, Meta};
-use bdb_overflow::check_chains;
+use bdb_tree::bdb_format::BtreeMeta;
+use bdb_tree::bdb_graph::{Linked, Meta};
+use bdb_tree::bdb_overflow::check_chains;
 use bdb_tree::check_trees;
 use std::alloc::Global;
 

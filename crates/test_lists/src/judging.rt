@@ -1,13 +1,13 @@
 //! The verdict on a file that was built, and what is read of it.
 
 ghost use Rattle.std.specs.Prelude.{◌≡◌, ◌<◌, ◌≤◌, ◌^◌, IfOk, None, length, true};
-ghost use Rattle.bdb_format.specs.Databases.{databases};
-ghost use Rattle.bdb_format.specs.File.{file_of};
-ghost use Rattle.bdb_format.specs.Verdict.{verdict_of};
+ghost use Rattle.bdb_text_format.specs.of_format.Databases.{databases};
+ghost use Rattle.bdb_text_format.specs.of_format.File.{file_of};
+ghost use Rattle.bdb_text_format.specs.of_format.Verdict.{verdict_of};
 
+use bdb_file::bdb_overflow::{Datum, KeyView, is_same};
 use bdb_file::{Db, Found, Scan, Sound, verify};
-use bdb_format::{Bytes, Steps};
-use bdb_overflow::{Datum, KeyView, is_same};
+use bdb_text_format::bdb_format::{Bytes, Steps};
 use bdb_text_format::{KeyRef, PairRef, PairSlice};
 use std::alloc::{AllocError, Global};
 use std::marker::Brand;

@@ -3,4 +3,5 @@
 
 mod judging;
 
+pub use bdb_file::bdb_overflow;
 pub use judging::{gives, is_pair_at, pair_of};

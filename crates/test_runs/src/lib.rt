@@ -6,3 +6,6 @@ pub mod images;
 pub mod outside;
 pub mod running;
 pub mod texts;
+
+pub use bdb_tool;
+pub use bdb_tool::{bdb_format, bdb_io, bdb_layout};

@@ -1,7 +1,7 @@
 use Rattle.std.proofs.Common.{◌≡◌, ◌∙◌, List, ℕ, ap, map, refl, subst, sym}
 use Rattle.std.specs.List.{fold}
 use Rattle.bdb_format.specs.File.{File, file_of}
-use Rattle.bdb_image.specs.Linked.{IsForest}
+use Rattle.bdb_overflow.specs.of_image.Linked.{IsForest}
 use Rattle.bdb_overflow.specs.Held.{FitsHeld}
 use Rattle.bdb_btree.specs.Bounds.{ends_of, widen_by}
 use Rattle.bdb_btree.specs.Held.{AreKeyed, items_of, pair_held, stored_as}

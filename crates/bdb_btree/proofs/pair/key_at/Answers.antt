@@ -1,6 +1,6 @@
 use Rattle.std.specs.Prelude.{◌*◌}
 use Rattle.bdb_format.specs.File.{file_of}
-use Rattle.bdb_layout.specs.Seen.{leaf_item_seen}
+use Rattle.bdb_form.specs.of_layout.Seen.{leaf_item_seen}
 use Rattle.bdb_overflow.proofs.ContentLemmas.{leaf_item_fits}
 use Rattle.bdb_btree.proofs.pair.key_at.Goals as goal
 

@@ -7,8 +7,8 @@ use Rattle.bdb_format.specs.ContentRows.{has_wrong_separator, inner_pages}
 use Rattle.bdb_format.specs.Contents.{tree_pairs}
 use Rattle.bdb_format.specs.File.{File, file_of, page_at}
 use Rattle.bdb_format.specs.Page.{Internal}
-use Rattle.bdb_image.specs.Linked.{FitsLeafPage, IsForest}
-use Rattle.bdb_layout.specs.Seen.{internal_item_seen, key_seen}
+use Rattle.bdb_overflow.specs.of_image.Linked.{FitsLeafPage, IsForest}
+use Rattle.bdb_form.specs.of_layout.Seen.{internal_item_seen, key_seen}
 use Rattle.bdb_overflow.specs.Datum.{FitsContent}
 use Rattle.bdb_btree.specs.Bounds.{OrderedIf, beyond, ends_of, joined, under_ends}
 use Rattle.bdb_btree.specs.Counts.{IsKeyed}

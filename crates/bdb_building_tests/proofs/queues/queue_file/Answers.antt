@@ -1,6 +1,6 @@
 use Rattle.std.proofs.Common.{arith}
-use Rattle.bdb_text_format.specs.Placed.{pairs_of}
-use Rattle.bdb_mkqueue.proofs.FileLemmas.{filed, zero_first}
+use Rattle.bdb_need.specs.of_text_format.Placed.{pairs_of}
+use Rattle.bdb_need.proofs.of_mkqueue.FileLemmas.{filed, zero_first}
 use Rattle.bdb_building_tests.proofs.queues.queue_file.Goals as goal
 
 pub put_queue_meta-requires-clause-zero : goal.put_queue_meta-requires-clause-zero

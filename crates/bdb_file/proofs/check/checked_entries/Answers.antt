@@ -1,5 +1,5 @@
 use Rattle.std.proofs.Common.{[], ◌∷◌, sym, ◌∙◌}
-use Rattle.bdb_faults.proofs.SinkLemmas.{none_first}
+use Rattle.bdb_recno.proofs.of_faults.SinkLemmas.{none_first}
 use Rattle.bdb_file.specs.AnyOrder.{stages_by}
 use Rattle.bdb_file.proofs.OrderLemmas.{first_by}
 use Rattle.bdb_file.proofs.check.checked_entries.Goals as goal

@@ -1,11 +1,11 @@
 use Rattle.std.proofs.Common.{◌≡◌, ap, arith, sym, ◌∙◌}
-use Rattle.bdb_format.specs.File.{file_of}
-use Rattle.bdb_image.specs.Linked.{meta_pages}
-use Rattle.bdb_image.specs.Metas.{meta_seen}
-use Rattle.bdb_faults.proofs.SinkLemmas.{notes_none}
+use Rattle.bdb_recno.specs.of_format.File.{file_of}
+use Rattle.bdb_recno.specs.of_image.Linked.{meta_pages}
+use Rattle.bdb_recno.specs.of_image.Metas.{meta_seen}
+use Rattle.bdb_recno.proofs.of_faults.SinkLemmas.{notes_none}
 use Rattle.bdb_file.specs.Noted.{asked_on, is_asked, is_master}
 use Rattle.bdb_file.proofs.DatabaseLemmas.{database_more, database_passed, master_there}
-use Rattle.bdb_tree.proofs.ListedLemmas.{no_more}
+use Rattle.bdb_recno.proofs.of_tree.ListedLemmas.{no_more}
 use Rattle.bdb_file.proofs.contents.note_databases.Goals as goal
 use Rattle.bdb_file.proofs.contents.note_databases.Goals.{then-is_asked+in_ok-note_database, else-is_asked}
 

@@ -1,8 +1,8 @@
 use Rattle.std.specs.Prelude.{◌≡◌, take}
 use Rattle.std.specs.List.{flat_map}
-use Rattle.bdb_format.specs.File.{file_of}
-use Rattle.bdb_faults.specs.Notes.{NotesAll}
-use Rattle.bdb_image.specs.Linked.{meta_pages}
+use Rattle.bdb_recno.specs.of_format.File.{file_of}
+use Rattle.bdb_recno.specs.of_faults.Notes.{NotesAll}
+use Rattle.bdb_recno.specs.of_image.Linked.{meta_pages}
 use Rattle.bdb_file.specs.Noted.{asked_on}
 use Rattle.bdb_file.proofs.contents.note_databases.Given as goal
 

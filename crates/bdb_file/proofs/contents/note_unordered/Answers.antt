@@ -1,8 +1,8 @@
 use Rattle.std.proofs.Common.{subst}
-use Rattle.bdb_faults.specs.Notes.{NotesAll}
+use Rattle.bdb_recno.specs.of_faults.Notes.{NotesAll}
 use Rattle.bdb_file.specs.Noted.{by_asked}
 use Rattle.bdb_file.specs.declared.rows.Which.TheVariants.{Master}
-use Rattle.bdb_format.specs.File.{file_of}
+use Rattle.bdb_recno.specs.of_format.File.{file_of}
 use Rattle.bdb_file.proofs.OrderLemmas.{order_contents}
 use Rattle.bdb_file.proofs.contents.note_unordered.Goals as goal
 

@@ -1,7 +1,7 @@
 use Rattle.std.proofs.Common.{◌≡◌, ◌++◌}
 use Rattle.std.specs.Prelude.{take}
 use Rattle.std.specs.List.{flat_map}
-use Rattle.bdb_format.specs.File.{file_of}
+use Rattle.bdb_recno.specs.of_format.File.{file_of}
 use Rattle.bdb_file.specs.Named.{entry_database}
 use Rattle.bdb_file.proofs.named.push_named.Given as goal
 

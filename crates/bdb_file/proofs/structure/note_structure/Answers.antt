@@ -1,4 +1,4 @@
-use Rattle.bdb_format.specs.File.{file_of}
+use Rattle.bdb_recno.specs.of_format.File.{file_of}
 use Rattle.bdb_file.proofs.MergeLemmas.{structure_noted}
 use Rattle.bdb_file.proofs.structure.note_structure.Goals as goal
 

@@ -1,5 +1,5 @@
 use Rattle.std.proofs.Common.{[], ◌∷◌}
-use Rattle.bdb_faults.proofs.ListLemmas.{all_accepted, all_one, all_refused}
+use Rattle.bdb_recno.proofs.of_faults.ListLemmas.{all_accepted, all_one, all_refused}
 use Rattle.bdb_file.specs.AnyOrder.{stages_by}
 use Rattle.bdb_file.proofs.OrderLemmas.{listed, rows_ascend}
 use Rattle.bdb_file.proofs.verdict_all.entries_or_all.Goals as goal

@@ -1,5 +1,5 @@
 use Rattle.std.proofs.Common.{◌≡◌, ◌∙◌, [], ◌∷◌, sym}
-use Rattle.bdb_faults.proofs.SinkLemmas.{first_of_stages, none_first}
+use Rattle.bdb_image.proofs.of_faults.SinkLemmas.{first_of_stages, none_first}
 use Rattle.bdb_format.specs.Verdict.{faults_in}
 use Rattle.bdb_graph.proofs.linking.link.Goals as goal
 

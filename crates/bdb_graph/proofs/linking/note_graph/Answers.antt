@@ -1,6 +1,6 @@
 use Rattle.std.proofs.Common.{◌≡◌, ◌∙◌, [], ◌∷◌, List, ℕ, ◌+◌, refl, subst, sym, rules}
 use Rattle.std.specs.Prelude.{true, false}
-use Rattle.bdb_faults.specs.Notes.{NotesAll}
+use Rattle.bdb_image.specs.of_faults.Notes.{NotesAll}
 use Rattle.bdb_format.specs.File.{file_of}
 use Rattle.bdb_format.specs.Verdict.{faults_in, reference_faults}
 use Rattle.bdb_graph.specs.Owned.{AreCounts, AreFew}

@@ -1,5 +1,5 @@
 use Rattle.std.proofs.Common.{◌-◌}
-use Rattle.bdb_faults.specs.Notes.{NotesAll}
+use Rattle.bdb_image.specs.of_faults.Notes.{NotesAll}
 use Rattle.bdb_format.specs.File.{file_of}
 use Rattle.bdb_format.specs.Verdict.{by_page, holding, ownership_rows}
 use Rattle.bdb_graph.specs.Owned.{AreFew}

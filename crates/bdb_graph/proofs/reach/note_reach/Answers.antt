@@ -1,5 +1,5 @@
 use Rattle.std.proofs.Common.{◌≡◌, ◌∙◌, ap, arith, length, sym}
-use Rattle.bdb_faults.proofs.SinkLemmas.{notes_none}
+use Rattle.bdb_image.proofs.of_faults.SinkLemmas.{notes_none}
 use Rattle.bdb_format.specs.declared.metadata.Head.{Head}
 use Rattle.bdb_format.specs.File.{file_of}
 use Rattle.bdb_format.specs.Verdict.{holding, reach_rows}

@@ -1,5 +1,5 @@
 use Rattle.std.proofs.Common.{◌≡◌, ◌+◌, ◌-◌, length}
-use Rattle.bdb_faults.specs.Notes.{NotesAll}
+use Rattle.bdb_image.specs.of_faults.Notes.{NotesAll}
 use Rattle.bdb_graph.specs.Marks.{AreSettled}
 use Rattle.bdb_format.specs.File.{file_of}
 use Rattle.bdb_format.specs.Verdict.{by_page, holding, reach_rows}

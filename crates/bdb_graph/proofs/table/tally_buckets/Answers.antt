@@ -6,7 +6,7 @@ use Rattle.bdb_format.specs.References.{fit_code}
 use Rattle.bdb_image.specs.Buckets.{bucket_names}
 use Rattle.bdb_graph.specs.Leaps.{HasLeaps}
 use Rattle.bdb_image.specs.Noted.{misfits_of}
-use Rattle.bdb_slots.specs.Slots.{placed}
+use Rattle.bdb_image.specs.of_slots.Slots.{placed}
 use Rattle.bdb_graph.specs.Tallies.{AreTallies, owner}
 use Rattle.bdb_graph.proofs.TableLemmas.{tallied_more}
 use Rattle.bdb_graph.proofs.table.tally_buckets.Goals as goal

@@ -2,7 +2,7 @@ use Rattle.std.proofs.Common.{◌≡◌, ◌+◌, ◌-◌, length}
 use Rattle.bdb_graph.specs.Leaps.{AreKnownIfAny}
 use Rattle.bdb_graph.specs.Tallies.{AreTallies}
 use Rattle.bdb_graph.specs.Walked.{AreKinds}
-use Rattle.bdb_faults.specs.Notes.{NotesAll}
+use Rattle.bdb_image.specs.of_faults.Notes.{NotesAll}
 use Rattle.bdb_graph.proofs.TallyLemmas.{held_below}
 use Rattle.bdb_format.specs.File.{file_of}
 use Rattle.bdb_format.specs.Verdict.{by_page, holding, reference_rows}

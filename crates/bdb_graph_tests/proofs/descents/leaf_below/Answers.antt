@@ -1,6 +1,6 @@
 use Rattle.std.proofs.Common.{arith, subst}
 use Rattle.bdb_graph_tests.specs.Sought.{IsFit}
-use Rattle.bdb_tree.proofs.DescentLemmas.{internal_inside}
+use Rattle.test_images.proofs.of_tree.DescentLemmas.{internal_inside}
 use Rattle.bdb_graph_tests.proofs.descents.leaf_below.Goals as goal
 
 -- Each internal page is fit.

@@ -1,7 +1,7 @@
 use Rattle.std.proofs.Common.{◌++◌, length}
 use Rattle.std.specs.List.{flat_map}
 use Rattle.bdb_hash.specs.Scanned.{IsListedOn}
-use Rattle.bdb_overflow.specs.Datum.{datum_seen}
+use Rattle.bdb_ranks.specs.of_overflow.Datum.{datum_seen}
 use Rattle.bdb_buckets.specs.Told.{entry_list, listed_told}
 use Rattle.bdb_hash.proofs.listing.next_entry.Given as goal
 

@@ -1,6 +1,6 @@
 use Rattle.std.proofs.Common.{◌+◌}
 use Rattle.bdb_buckets.specs.Told.{IsSought, bucket_told}
-use Rattle.bdb_format.specs.File.{file_of}
+use Rattle.bdb_ranks.specs.of_format.File.{file_of}
 use Rattle.bdb_hash.proofs.lookup.find_in.Given as goal
 
 -- No page passed has a pair with the key, and each took a step.

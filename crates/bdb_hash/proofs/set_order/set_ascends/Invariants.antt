@@ -1,11 +1,11 @@
 use Rattle.std.proofs.Common.{◌≡◌}
 use Rattle.std.specs.Option.{option_map}
-use Rattle.bdb_format.specs.ContentRows.{ascends}
-use Rattle.bdb_format.specs.Contents.{data_of}
-use Rattle.bdb_format.specs.File.{file_of}
-use Rattle.bdb_format.specs.Page.{Tree}
-use Rattle.bdb_overflow.specs.Held.{FitsAny, value_held}
-use Rattle.bdb_tree.specs.Entries.{AreFit, values_of}
+use Rattle.bdb_ranks.specs.of_format.ContentRows.{ascends}
+use Rattle.bdb_ranks.specs.of_format.Contents.{data_of}
+use Rattle.bdb_ranks.specs.of_format.File.{file_of}
+use Rattle.bdb_ranks.specs.of_format.Page.{Tree}
+use Rattle.bdb_ranks.specs.of_overflow.Held.{FitsAny, value_held}
+use Rattle.bdb_ranks.specs.of_tree.Entries.{AreFit, values_of}
 use Rattle.bdb_hash.specs.SetOrder.{ascends_after}
 use Rattle.bdb_hash.proofs.set_order.set_ascends.Given as goal
 

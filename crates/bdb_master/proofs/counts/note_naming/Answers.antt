@@ -2,12 +2,12 @@ use Rattle.std.proofs.Common.{◌+◌, arith, ap}
 use Rattle.bdb_format.specs.File.{file_of}
 use Rattle.bdb_format.specs.declared.metadata.Head.{Head}
 use Rattle.bdb_format.proofs.FileLemmas.{last_page}
-use Rattle.bdb_image.specs.Linked.{meta_pages}
+use Rattle.bdb_btree.specs.of_image.Linked.{meta_pages}
 use Rattle.bdb_faults.proofs.SinkLemmas.{notes_none}
 use Rattle.std.specs.Option.{option_to_list}
 use Rattle.bdb_master.specs.Entries.{naming_fault}
 use Rattle.bdb_master.proofs.CountLemmas.{count_read, naming_more}
-use Rattle.bdb_tree.proofs.ListedLemmas.{no_more}
+use Rattle.bdb_btree.proofs.of_tree.ListedLemmas.{no_more}
 use Rattle.bdb_master.proofs.counts.note_naming.Goals as goal
 
 pub loop-i-init : goal.loop-i-init

@@ -2,7 +2,7 @@ use Rattle.std.specs.Prelude.{take}
 use Rattle.std.specs.List.{flat_map}
 use Rattle.bdb_format.specs.File.{file_of}
 use Rattle.bdb_faults.specs.Notes.{NotesAll}
-use Rattle.bdb_image.specs.Linked.{meta_pages}
+use Rattle.bdb_btree.specs.of_image.Linked.{meta_pages}
 use Rattle.std.specs.Option.{option_to_list}
 use Rattle.bdb_master.specs.Entries.{naming_fault}
 use Rattle.bdb_master.proofs.counts.note_naming.Given as goal

@@ -1,9 +1,9 @@
 use Rattle.std.proofs.Common.{◌≡◌, ◌*◌, true, false, inr, map, sym, ◌∙◌, ap}
 use Rattle.std.specs.Prelude.{nat_lt}
 use Rattle.std.specs.List.{list_all}
-use Rattle.bdb_settle.specs.declared.load_error.LoadError.TheVariants.{TooLarge}
-use Rattle.bdb_settle.specs.LoadErrors.{page_size_in}
-use Rattle.bdb_settle.specs.Loaded.{filled_section}
+use Rattle.bdb_need.specs.of_settle.declared.load_error.LoadError.TheVariants.{TooLarge}
+use Rattle.bdb_need.specs.of_settle.LoadErrors.{page_size_in}
+use Rattle.bdb_need.specs.of_settle.Loaded.{filled_section}
 use Rattle.bdb_need.specs.Need.{need_of}
 use Rattle.bdb_mkfile.specs.Lengths.{is_short_section}
 use Rattle.bdb_mkfile.proofs.BuildLemmas.{builds, no_error, refused_late, too_large, built_tables}

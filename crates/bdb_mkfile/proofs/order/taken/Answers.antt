@@ -1,5 +1,5 @@
 use Rattle.std.proofs.Common.{◌≡◌, ◌++◌, [], sym, ◌∙◌, ap, reverse}
-use Rattle.bdb_settle.proofs.SettlingLemmas.{none_left}
+use Rattle.bdb_need.proofs.of_settle.SettlingLemmas.{none_left}
 use Rattle.bdb_mkfile.proofs.order.taken.Goals as goal
 
 pub returns : goal.returns

@@ -1,5 +1,5 @@
 use Rattle.std.proofs.Common.{[], ◌∙◌, sym, subst}
-use Rattle.bdb_places.specs.Places.{values_seen}
+use Rattle.bdb_mktree.specs.of_places.Places.{values_seen}
 use Rattle.bdb_mkhash.specs.Filling.{IsValuePut}
 use Rattle.bdb_mkhash.proofs.CostLemmas.{first_is, one_long}
 use Rattle.bdb_mkhash.proofs.StoreLemmas.{one_put}

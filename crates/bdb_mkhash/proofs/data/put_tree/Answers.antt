@@ -1,5 +1,5 @@
 use Rattle.std.proofs.Common.{arith}
-use Rattle.bdb_places.specs.Places.{values_seen}
+use Rattle.bdb_mktree.specs.of_places.Places.{values_seen}
 use Rattle.bdb_mkhash.proofs.StoreLemmas.{takes_tree, tree_put}
 use Rattle.bdb_mkhash.proofs.data.put_tree.Goals as goal
 

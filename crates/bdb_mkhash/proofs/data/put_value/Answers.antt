@@ -1,4 +1,4 @@
-use Rattle.bdb_layout.specs.Seen.{hash_content_seen}
+use Rattle.bdb_mktree.specs.of_layout.Seen.{hash_content_seen}
 use Rattle.bdb_mkhash.proofs.StoreLemmas.{takes_item}
 use Rattle.bdb_mkhash.proofs.data.put_value.Goals as goal
 

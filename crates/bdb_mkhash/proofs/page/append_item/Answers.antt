@@ -1,4 +1,4 @@
-use Rattle.bdb_layout.specs.Seen.{hash_content_seen}
+use Rattle.bdb_mktree.specs.of_layout.Seen.{hash_content_seen}
 use Rattle.bdb_mkhash.proofs.PageLemmas.{item_grown, item_placed}
 use Rattle.bdb_mkhash.proofs.page.append_item.Goals as goal
 

@@ -1,5 +1,5 @@
 use Rattle.std.proofs.Common.{arith}
-use Rattle.bdb_mkleaves.proofs.LeafLemmas.{begun_long, field_written}
+use Rattle.bdb_mktree.proofs.of_mkleaves.LeafLemmas.{begun_long, field_written}
 use Rattle.bdb_mkhash.proofs.PageLemmas.{next_set}
 use Rattle.bdb_mkhash.proofs.page.set_next.Goals as goal
 

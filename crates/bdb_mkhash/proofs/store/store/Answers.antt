@@ -1,6 +1,6 @@
 use Rattle.std.proofs.Common.{arith, refl, subst}
-use Rattle.bdb_pack.specs.Values.{IsStored}
-use Rattle.bdb_format.proofs.SizeLemmas.{size_bounds}
+use Rattle.bdb_mktree.specs.of_pack.Values.{IsStored}
+use Rattle.bdb_mktree.proofs.of_format.SizeLemmas.{size_bounds}
 use Rattle.bdb_mkhash.proofs.StoreLemmas.{chain_stored, inline_stored}
 use Rattle.bdb_mkhash.proofs.store.store.Goals as goal
 

@@ -1,6 +1,6 @@
 use Rattle.std.specs.Prelude.{◌≡◌, ◌+◌, length, take}
 use Rattle.std.specs.List.{sum_by}
-use Rattle.bdb_places.specs.Places.{values_seen}
+use Rattle.bdb_mktree.specs.of_places.Places.{values_seen}
 use Rattle.bdb_mkhash.proofs.unit.blocks_cost.Given as goal
 
 -- The data passed take the cost.

@@ -1,6 +1,6 @@
 use Rattle.std.specs.Prelude.{◌≡◌, ◌+◌, length, true, take}
 use Rattle.std.specs.List.{list_all, sum_by}
-use Rattle.bdb_places.specs.Places.{values_seen}
+use Rattle.bdb_mktree.specs.of_places.Places.{values_seen}
 use Rattle.bdb_mkhash.specs.Costs.{is_inline}
 use Rattle.bdb_mkhash.proofs.unit.stand_together.Given as goal
 

@@ -1,4 +1,4 @@
-use Rattle.bdb_layout.specs.Seen.{leaf_item_seen}
+use Rattle.bdb_pack.specs.of_layout.Seen.{leaf_item_seen}
 use Rattle.bdb_mkleaves.proofs.EntryLemmas.{item_held, item_long, item_placed}
 use Rattle.bdb_mkleaves.proofs.entries.append_item.Goals as goal
 

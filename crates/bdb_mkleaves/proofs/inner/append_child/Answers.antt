@@ -1,5 +1,5 @@
 use Rattle.std.proofs.Common.{ap}
-use Rattle.bdb_layout.specs.Seen.{internal_item_seen}
+use Rattle.bdb_pack.specs.of_layout.Seen.{internal_item_seen}
 use Rattle.bdb_law_levels.specs.declared.inner_type.InnerType.TheVariants.{Keyed}
 use Rattle.bdb_pack.specs.Items.{OnInternal}
 use Rattle.bdb_mkleaves.proofs.InnerLemmas.{child_held}

@@ -1,5 +1,5 @@
 use Rattle.std.proofs.Common.{arith}
-use Rattle.bdb_format.proofs.SizeLemmas.{size_bounds}
+use Rattle.bdb_places.proofs.of_format.SizeLemmas.{size_bounds}
 use Rattle.bdb_mkleaves.proofs.LeafLemmas.{field_written}
 use Rattle.bdb_mkleaves.proofs.moving.set_sum.Goals as goal
 

@@ -1,5 +1,5 @@
 use Rattle.std.proofs.Common.{arith}
-use Rattle.bdb_format.proofs.SizeLemmas.{size_bounds}
+use Rattle.bdb_text_format.proofs.of_format.SizeLemmas.{size_bounds}
 use Rattle.bdb_mkqueue.proofs.StepLemmas.{header_written}
 use Rattle.bdb_mkqueue.proofs.build.begin_page.Goals as goal
 

@@ -1,5 +1,5 @@
 use Rattle.std.proofs.Common.{length, ap, arith}
-use Rattle.bdb_format.proofs.SizeLemmas.{size_bounds}
+use Rattle.bdb_text_format.proofs.of_format.SizeLemmas.{size_bounds}
 use Rattle.bdb_mkqueue.proofs.StepLemmas.{record_put}
 use Rattle.bdb_mkqueue.proofs.build.write_record.Goals as goal
 

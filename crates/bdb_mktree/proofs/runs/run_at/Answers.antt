@@ -1,7 +1,7 @@
 use Rattle.std.proofs.Common.{◌+◌, ◌-◌, ◌≡◌, List, ◌∙◌, ap, arith, drop, length, map, subst, sym, take}
 use Rattle.std.specs.List.{prefix_len}
 use Rattle.std.proofs.lemmas.List.{length-drop}
-use Rattle.bdb_places.specs.Places.{values_seen}
+use Rattle.bdb_text_format.specs.of_places.Places.{values_seen}
 use Rattle.bdb_text_format.specs.Pairs.{keys_of, unlined_pairs}
 use Rattle.bdb_text_format.specs.Placed.{key_seen, pairs_of, slice_seen}
 use Rattle.bdb_text_format.specs.declared.pairs.TextPair.{TextPair}

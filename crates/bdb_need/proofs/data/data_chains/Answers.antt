@@ -1,6 +1,6 @@
 use Rattle.std.proofs.Common.{◌^◌, arith}
-use Rattle.bdb_places.specs.Places.{values_seen}
-use Rattle.bdb_mkleaves.specs.Units.{chain_pages}
+use Rattle.bdb_mkhash.specs.of_places.Places.{values_seen}
+use Rattle.bdb_mkhash.specs.of_mkleaves.Units.{chain_pages}
 use Rattle.bdb_need.proofs.DataLemmas.{short_here, sum_end, sum_more}
 use Rattle.bdb_need.proofs.data.data_chains.Goals as goal
 

@@ -1,7 +1,7 @@
 use Rattle.std.proofs.Common.{◌≡◌, ◌≤◌, ◌*◌, ◌^◌, take}
 use Rattle.std.specs.List.{sum_by}
-use Rattle.bdb_places.specs.Places.{values_seen}
-use Rattle.bdb_mkleaves.specs.Units.{chain_pages}
+use Rattle.bdb_mkhash.specs.of_places.Places.{values_seen}
+use Rattle.bdb_mkhash.specs.of_mkleaves.Units.{chain_pages}
 use Rattle.bdb_need.proofs.data.data_chains.Given as goal
 
 -- The chains of the data passed are counted.

@@ -1,6 +1,6 @@
 use Rattle.std.proofs.Common.{◌+◌, ◌^◌, ap, arith}
-use Rattle.bdb_places.specs.Places.{values_seen}
-use Rattle.bdb_mkleaves.specs.Units.{value_cost}
+use Rattle.bdb_mkhash.specs.of_places.Places.{values_seen}
+use Rattle.bdb_mkhash.specs.of_mkleaves.Units.{value_cost}
 use Rattle.bdb_need.proofs.DataLemmas.{sum_end, sum_more}
 use Rattle.bdb_need.proofs.data.data_cost.Goals as goal
 

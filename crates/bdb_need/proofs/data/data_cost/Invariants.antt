@@ -1,6 +1,6 @@
 use Rattle.std.proofs.Common.{◌≡◌, ◌≤◌, ◌*◌, ◌^◌, take}
-use Rattle.bdb_places.specs.Places.{values_seen}
-use Rattle.bdb_mkleaves.specs.Runs.{more_cost}
+use Rattle.bdb_mkhash.specs.of_places.Places.{values_seen}
+use Rattle.bdb_mkhash.specs.of_mkleaves.Runs.{more_cost}
 use Rattle.bdb_need.proofs.data.data_cost.Given as goal
 
 -- The cost so far is that of the data passed.

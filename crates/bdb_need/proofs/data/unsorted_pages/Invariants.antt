@@ -1,5 +1,5 @@
 use Rattle.std.proofs.Common.{◌≤◌, drop}
-use Rattle.bdb_places.specs.Places.{values_seen}
+use Rattle.bdb_mkhash.specs.of_places.Places.{values_seen}
 use Rattle.bdb_need.specs.Counting.{data_units}
 use Rattle.bdb_need.proofs.TreeLemmas.{CountedTo}
 use Rattle.bdb_need.proofs.data.unsorted_pages.Given as goal

@@ -1,8 +1,8 @@
 use Rattle.std.proofs.Common.{arith, drop, length}
-use Rattle.bdb_places.specs.Places.{values_seen}
-use Rattle.bdb_text_format.specs.Placed.{pairs_of, slice_seen}
-use Rattle.bdb_mkleaves.specs.Units.{KeyedUnit}
-use Rattle.bdb_mktree.specs.Lists.{keyed_units}
+use Rattle.bdb_mkhash.specs.of_places.Places.{values_seen}
+use Rattle.bdb_mkhash.specs.of_text_format.Placed.{pairs_of, slice_seen}
+use Rattle.bdb_mkhash.specs.of_mkleaves.Units.{KeyedUnit}
+use Rattle.bdb_mkhash.specs.of_mktree.Lists.{keyed_units}
 use Rattle.bdb_need.proofs.KeyLemmas.{keys_end, keys_next, leaves_here, run_many, unit_short}
 use Rattle.bdb_need.proofs.TreeLemmas.{keyed_next}
 use Rattle.bdb_need.proofs.keys.keyed_pages.Goals as goal

@@ -1,6 +1,6 @@
 use Rattle.std.proofs.Common.{◌+◌, arith, subst}
 use Rattle.std.specs.Prelude.{◌⊎◌, ◌/◌, ◌<◌, ◌≤◌}
-use Rattle.bdb_places.specs.Places.{values_seen}
+use Rattle.bdb_mkhash.specs.of_places.Places.{values_seen}
 use Rattle.bdb_need.proofs.KeyLemmas.{shared_fits}
 use Rattle.bdb_need.proofs.keys.taken_by.Goals as goal
 

@@ -1,7 +1,7 @@
 use Rattle.std.proofs.Common.{◌≡◌, ◌-◌, Some, length, subst, sym, ◌∙◌, ap}
 use Rattle.std.specs.Prelude.{◌/◌, ◌+◌, slice_get}
 use Rattle.std.specs.Option.{option_map}
-use Rattle.bdb_text_format.specs.Placed.{pair_seen}
+use Rattle.bdb_mkhash.specs.of_text_format.Placed.{pair_seen}
 use Rattle.bdb_need.proofs.QueueLemmas.{IsGreatest, last_greatest}
 use Rattle.bdb_need.proofs.queue.queue_pages.Goals as goal
 

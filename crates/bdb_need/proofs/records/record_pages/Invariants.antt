@@ -1,7 +1,7 @@
 use Rattle.std.proofs.Common.{◌≡◌, ◌≤◌, ◌*◌, ◌^◌, take}
 use Rattle.std.specs.List.{sum_by}
-use Rattle.bdb_text_format.specs.Placed.{slice_seen}
-use Rattle.bdb_mkleaves.specs.Units.{chain_pages}
+use Rattle.bdb_mkhash.specs.of_text_format.Placed.{slice_seen}
+use Rattle.bdb_mkhash.specs.of_mkleaves.Units.{chain_pages}
 use Rattle.bdb_need.specs.Counting.{values_in}
 use Rattle.bdb_need.proofs.RecordLemmas.{RecordsPassed}
 use Rattle.bdb_settle.specs.Loaded.{filled_pairs}

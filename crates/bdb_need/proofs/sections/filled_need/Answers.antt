@@ -1,9 +1,9 @@
 use Rattle.std.proofs.Common.{◌≡◌, ◌+◌, ◌∙◌, true, false, ap, arith, map, subst, sym}
 use Rattle.std.specs.Prelude.{IsTrue, is_some}
 use Rattle.std.specs.List.{All, sum_by}
-use Rattle.bdb_format.specs.HeadOf.{is_page_size}
-use Rattle.bdb_mkleaves.specs.Runs.{IsShort}
-use Rattle.bdb_text_format.specs.declared.sections.Section.{Section}
+use Rattle.bdb_mkhash.specs.of_format.HeadOf.{is_page_size}
+use Rattle.bdb_mkhash.specs.of_mkleaves.Runs.{IsShort}
+use Rattle.bdb_mkhash.specs.of_text_format.declared.sections.Section.{Section}
 use Rattle.bdb_settle.specs.Loaded.{filled_section}
 use Rattle.bdb_need.specs.Need.{IsSettled, master_pages, name_in, section_pages}
 use Rattle.bdb_need.proofs.FilledLemmas.{each_before, first_filled, names_before, same_master, sums_filled}

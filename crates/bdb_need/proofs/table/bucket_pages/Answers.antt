@@ -1,6 +1,6 @@
 use Rattle.std.proofs.Common.{◌-◌, arith, refl}
-use Rattle.bdb_places.specs.Places.{values_seen}
-use Rattle.bdb_text_format.specs.Placed.{pairs_of, slice_seen}
+use Rattle.bdb_mkhash.specs.of_places.Places.{values_seen}
+use Rattle.bdb_mkhash.specs.of_text_format.Placed.{pairs_of, slice_seen}
 use Rattle.bdb_need.proofs.TableLemmas.{key_new, key_open, keys_begun, keys_end, run_some}
 use Rattle.bdb_need.proofs.table.bucket_pages.Goals as goal
 

@@ -1,8 +1,8 @@
 use Rattle.std.proofs.Common.{arith}
-use Rattle.bdb_format.proofs.SizeLemmas.{size_bounds}
-use Rattle.bdb_places.specs.Places.{values_seen}
-use Rattle.bdb_text_format.specs.Placed.{pairs_of, slice_seen}
-use Rattle.bdb_mkleaves.specs.Units.{KeyedUnit}
+use Rattle.bdb_mkhash.proofs.of_format.SizeLemmas.{size_bounds}
+use Rattle.bdb_mkhash.specs.of_places.Places.{values_seen}
+use Rattle.bdb_mkhash.specs.of_text_format.Placed.{pairs_of, slice_seen}
+use Rattle.bdb_mkhash.specs.of_mkleaves.Units.{KeyedUnit}
 use Rattle.bdb_need.proofs.KeyLemmas.{length-pairs, run_many}
 use Rattle.bdb_need.proofs.TableLemmas.{next_counted, run_some, unit_short}
 use Rattle.bdb_need.proofs.table.count_totals.Goals as goal

@@ -1,13 +1,13 @@
 use Rattle.std.proofs.Common.{◌≡◌, ◌∙◌, ap, subst, sym}
 use Rattle.std.specs.Prelude.{IfOk}
 use Rattle.std.specs.List.{All}
-use Rattle.bdb_mkleaves.specs.Runs.{IsShort}
-use Rattle.bdb_mkleaves.specs.Spread.{tree_size}
-use Rattle.bdb_mkleaves.specs.declared.leaf_type.LeafType.TheVariants.{Pairs, Records}
-use Rattle.bdb_text_format.specs.Pairs.{AscendFrom}
-use Rattle.bdb_text_format.specs.Placed.{pairs_of}
-use Rattle.bdb_mktree.specs.Lists.{HasBytes, IsTreeList, keyed_units, record_units, units_in}
-use Rattle.bdb_mktree.specs.Units.{IsShortUnit, leaf_type_of}
+use Rattle.bdb_mkhash.specs.of_mkleaves.Runs.{IsShort}
+use Rattle.bdb_mkhash.specs.of_mkleaves.Spread.{tree_size}
+use Rattle.bdb_mkhash.specs.of_mkleaves.declared.leaf_type.LeafType.TheVariants.{Pairs, Records}
+use Rattle.bdb_mkhash.specs.of_text_format.Pairs.{AscendFrom}
+use Rattle.bdb_mkhash.specs.of_text_format.Placed.{pairs_of}
+use Rattle.bdb_mkhash.specs.of_mktree.Lists.{HasBytes, IsTreeList, keyed_units, record_units, units_in}
+use Rattle.bdb_mkhash.specs.of_mktree.Units.{IsShortUnit, leaf_type_of}
 use Rattle.bdb_settle.specs.Loaded.{filled_pairs}
 use Rattle.bdb_need.specs.Counting.{values_in}
 use Rattle.bdb_need.specs.TreePages.{unlined_pairs, tree_pages}

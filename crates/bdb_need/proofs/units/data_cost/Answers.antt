@@ -1,5 +1,5 @@
 use Rattle.std.proofs.Common.{sym, ◌∙◌}
-use Rattle.bdb_places.specs.Places.{values_seen}
+use Rattle.bdb_mkhash.specs.of_places.Places.{values_seen}
 use Rattle.bdb_need.proofs.UnitLemmas.{apart_cost}
 use Rattle.bdb_need.proofs.units.data_cost.Goals as goal
 

@@ -1,5 +1,5 @@
 use Rattle.std.proofs.Common.{arith, refl}
-use Rattle.bdb_places.specs.Places.{values_seen}
+use Rattle.bdb_mkhash.specs.of_places.Places.{values_seen}
 use Rattle.bdb_need.proofs.UnitLemmas.{set_long, set_more, set_much}
 use Rattle.bdb_need.proofs.units.set_or_none.Goals as goal
 

@@ -1,4 +1,4 @@
-use Rattle.bdb_places.specs.Places.{values_seen}
+use Rattle.bdb_mkhash.specs.of_places.Places.{values_seen}
 use Rattle.bdb_need.proofs.UnitLemmas.{SetSoFar}
 use Rattle.bdb_need.proofs.units.set_or_none.Given as goal
 

@@ -1,5 +1,5 @@
 use Rattle.std.proofs.Common.{◌≡◌, ◌++◌, [], Some, sym, ◌∙◌, ap, map, reverse}
-use Rattle.bdb_settle.proofs.SettlingLemmas.{none_left}
+use Rattle.bdb_mkfile.proofs.of_settle.SettlingLemmas.{none_left}
 use Rattle.bdb_onto.proofs.joining.places_of.Goals as goal
 
 pub returns : goal.returns

@@ -1,6 +1,6 @@
 use Rattle.std.proofs.Common.{◌≡◌, ◌++◌, [], sym, ◌∙◌, ap, map, reverse}
 use Rattle.std.proofs.lemmas.List.Sorted.{All-permutation}
-use Rattle.bdb_settle.proofs.SettlingLemmas.{none_left}
+use Rattle.bdb_mkfile.proofs.of_settle.SettlingLemmas.{none_left}
 use Rattle.bdb_onto.specs.Joining.{IsPlaced, placed_section}
 use Rattle.bdb_onto.proofs.joining.with_places.Goals as goal
 

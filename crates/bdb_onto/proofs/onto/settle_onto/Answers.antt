@@ -1,7 +1,7 @@
 use Rattle.std.proofs.Common.{◌≡◌, ◌∙◌, None, ap, map, rules, subst, sym}
 use Rattle.std.specs.Prelude.{Err}
-use Rattle.bdb_settle.specs.Loaded.{loaded_section}
-use Rattle.bdb_settle.specs.LoadErrors.{IsSettleRefusal, load_error}
+use Rattle.bdb_mkfile.specs.of_settle.Loaded.{loaded_section}
+use Rattle.bdb_mkfile.specs.of_settle.LoadErrors.{IsSettleRefusal, load_error}
 use Rattle.bdb_onto.specs.Onto.{onto_error}
 use Rattle.bdb_onto.proofs.OntoLemmas.{loadable_onto, settle_refusal, settled_onto}
 use Rattle.bdb_onto.proofs.onto.settle_onto.Goals as goal

@@ -1,5 +1,5 @@
 use Rattle.std.proofs.Common.{◌∙◌, sym}
-use Rattle.bdb_faults.proofs.SinkLemmas.{first_found, none_first}
+use Rattle.bdb_graph.proofs.of_faults.SinkLemmas.{first_found, none_first}
 use Rattle.bdb_format.proofs.FaultLemmas.{chains_in_order}
 use Rattle.bdb_format.specs.File.{file_of}
 use Rattle.bdb_format.specs.Verdict.{chain_faults}

@@ -2,7 +2,7 @@ use Rattle.std.proofs.Common.{◌≡◌, ℕ, ◌-◌, ◌^◌, ◌<◌, length,
 use Rattle.std.specs.Prelude.{◌/◌}
 use Rattle.std.proofs.lemmas.Bool.{eqb-false, eqb-true}
 use Rattle.std.proofs.lemmas.List.{nil_from_length, take_all}
-use Rattle.bdb_format.proofs.SizeLemmas.{size_bounds}
+use Rattle.bdb_layout.proofs.of_format.SizeLemmas.{size_bounds}
 use Rattle.bdb_pack.specs.ValueLoop.{IsBegunChain}
 use Rattle.bdb_pack.proofs.ValueLemmas.{begun_chain, next_piece, page_left, whole_chain}
 use Rattle.bdb_pack.proofs.values.push_value.Goals as goal

@@ -1,5 +1,5 @@
 use Rattle.std.proofs.Common.{◌≤◌, ◌*◌, length, arith, subst, sym}
-use Rattle.bdb_survey.specs.Salvage.{loose}
+use Rattle.bdb_rescue.specs.of_survey.Salvage.{loose}
 use Rattle.bdb_rescue.specs.Kept.{file_in}
 use Rattle.bdb_rescue.proofs.LooseCountLemmas.{loose_few}
 use Rattle.bdb_repair.proofs.parts.loose_pairs.Goals as goal

@@ -1,7 +1,7 @@
 use Rattle.std.proofs.Common.{List, length, map, ◌∙◌, ap, arith, subst}
 use Rattle.std.proofs.lemmas.List.{length-map}
 use Rattle.std.proofs.lemmas.List.Sorted.{length_permutation}
-use Rattle.bdb_places.specs.declared.place.Place.{Place}
+use Rattle.bdb_mktree.specs.of_places.declared.place.Place.{Place}
 use Rattle.bdb_settle.specs.declared.leads.Led.{Led}
 use Rattle.bdb_settle.specs.Leads.{Share, led}
 use Rattle.bdb_settle.proofs.LedLemmas.{led_moved, led_sorted, led_stable}

@@ -1,7 +1,7 @@
 use Rattle.std.proofs.Common.{List, ℕ, ◌∙◌, subst, sym}
 use Rattle.std.specs.List.Sorted.{IsSortedBy}
-use Rattle.bdb_text_format.specs.Placed.{ArePlaced}
-use Rattle.bdb_text_format.specs.declared.pairs.TextPair.{TextPair}
+use Rattle.bdb_mktree.specs.of_text_format.Placed.{ArePlaced}
+use Rattle.bdb_mktree.specs.of_text_format.declared.pairs.TextPair.{TextPair}
 use Rattle.bdb_settle.specs.Settling.{pair_before, place_before}
 use Rattle.bdb_settle.proofs.PlaceLemmas.{pairs_settled, sorted_places}
 use Rattle.bdb_settle.proofs.settling.order_pairs.Goals as goal

@@ -1,6 +1,6 @@
 use Rattle.std.proofs.Common.{List, ◌++◌, ◌∙◌, ap}
-use Rattle.bdb_text_format.specs.Placed.{slice_seen}
-use Rattle.bdb_text_format.specs.declared.pairs.TextPair.{TextPair}
+use Rattle.bdb_mktree.specs.of_text_format.Placed.{slice_seen}
+use Rattle.bdb_mktree.specs.of_text_format.declared.pairs.TextPair.{TextPair}
 use Rattle.bdb_settle.proofs.PlaceLemmas.{sorted_of, sorted_still}
 use Rattle.bdb_settle.proofs.settling.sorted_pairs.Goals as goal
 

@@ -1,8 +1,8 @@
 use Rattle.std.proofs.Common.{◌≡◌, ◌∙◌, ◌≤◌, List, ℕ, ◌++◌, ap, arith, false, length, subst, sym}
 use Rattle.std.specs.Prelude.{None}
-use Rattle.bdb_format.specs.HeadOf.{is_page_size}
-use Rattle.bdb_format.specs.Reading.{is_zero}
-use Rattle.bdb_format.specs.Rows.{form_code}
+use Rattle.bdb_io.specs.of_format.HeadOf.{is_page_size}
+use Rattle.bdb_io.specs.of_format.Reading.{is_zero}
+use Rattle.bdb_io.specs.of_format.Rows.{form_code}
 use Rattle.bdb_image.proofs.FormedLemmas.{accepted_paged}
 use Rattle.bdb_swap.proofs.ImageLemmas.{all_turned, joined_long, none_more, overlap_found, page_bounds, pages_more, taken_whole}
 use Rattle.bdb_swap.specs.Turns.{pages_turned}

@@ -1,6 +1,6 @@
 use Rattle.std.proofs.Common.{◌≡◌, ◌∙◌, arith, subst}
 use Rattle.std.specs.List.{flat_map, range_with_len}
-use Rattle.bdb_format.specs.Reading.{entries_of}
+use Rattle.bdb_io.specs.of_format.Reading.{entries_of}
 use Rattle.bdb_swap.specs.Turns.{Turns}
 use Rattle.bdb_swap.proofs.PartLemmas.{turns_next}
 use Rattle.bdb_swap.proofs.listed.turn_items.Goals as goal

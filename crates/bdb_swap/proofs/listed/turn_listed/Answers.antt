@@ -1,5 +1,5 @@
 use Rattle.std.specs.List.{flat_map, range_with_len}
-use Rattle.bdb_format.specs.Reading.{entries_of}
+use Rattle.bdb_io.specs.of_format.Reading.{entries_of}
 use Rattle.bdb_turned.specs.Fields.{header_fields, index_fields}
 use Rattle.bdb_swap.proofs.WriteLemmas.{turns_both}
 use Rattle.bdb_swap.proofs.listed.turn_listed.Goals as goal

@@ -1,10 +1,10 @@
 use Rattle.std.proofs.Common.{◌≡◌, ◌∙◌, ap, sym, true, false}
-use Rattle.bdb_format.specs.Reading.{is_zero}
+use Rattle.bdb_io.specs.of_format.Reading.{is_zero}
 use Rattle.bdb_turned.specs.Overlaps.{overlaps}
 use Rattle.bdb_turned.proofs.PageLemmas.{body_passed}
 use Rattle.bdb_swap.proofs.ImageLemmas.{no_overlap_on_zeros}
 use Rattle.bdb_swap.proofs.overlap.page_overlaps.Goals as goal
-use Rattle.bdb_format.proofs.GraphLemmas.{typed_page}
+use Rattle.bdb_io.proofs.of_format.GraphLemmas.{typed_page}
 
 pub returns-then-is_zero-clause-found : goal.returns-then-is_zero-clause-found
 returns-then-is_zero-clause-found c =

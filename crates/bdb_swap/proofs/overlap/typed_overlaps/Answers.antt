@@ -1,9 +1,9 @@
 use Rattle.std.proofs.Common.{refl, ◌≡◌, ◌∙◌, arith, false}
 use Rattle.std.proofs.lemmas.Bool.Decides.{nat_tests}
-use Rattle.bdb_format.specs.Numbers.{byte_at}
-use Rattle.bdb_format.specs.Reading.{page_type}
-use Rattle.bdb_format.specs.Page.{FreePage, HashPage, InternalPage, RecnoInternalPage, LeafPage, RecnoLeafPage, OverflowPage}
-use Rattle.bdb_format.specs.Page.{HashMetaPage, BtreeMetaPage, QueueMetaPage, QueuePage, DupLeafPage, OtherPage}
+use Rattle.bdb_io.specs.of_format.Numbers.{byte_at}
+use Rattle.bdb_io.specs.of_format.Reading.{page_type}
+use Rattle.bdb_io.specs.of_format.Page.{FreePage, HashPage, InternalPage, RecnoInternalPage, LeafPage, RecnoLeafPage, OverflowPage}
+use Rattle.bdb_io.specs.of_format.Page.{HashMetaPage, BtreeMetaPage, QueueMetaPage, QueuePage, DupLeafPage, OtherPage}
 use Rattle.bdb_turned.specs.Overlaps.{overlaps}
 use Rattle.bdb_swap.proofs.EndLemmas.{internal_ranges, internal_shares, leaf_ranges, leaf_shares, recno_ranges, recno_shares}
 use Rattle.bdb_swap.proofs.TypedLemmas.{has_room, has_rows, overlaps_as, overlaps_other}

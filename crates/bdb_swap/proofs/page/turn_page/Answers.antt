@@ -1,6 +1,6 @@
 use Rattle.std.proofs.Common.{◌≡◌, ◌∙◌, arith, subst, true, false, List, ℕ}
-use Rattle.bdb_format.specs.Numbers.{byte_at}
-use Rattle.bdb_format.specs.Reading.{is_zero, page_as, page_type}
+use Rattle.bdb_io.specs.of_format.Numbers.{byte_at}
+use Rattle.bdb_io.specs.of_format.Reading.{is_zero, page_as, page_type}
 use Rattle.bdb_turned.specs.Fields.{fields_of}
 use Rattle.bdb_swap.specs.Turns.{Turns}
 use Rattle.bdb_turned.proofs.PageLemmas.{body_passed, zero_page_turns}

@@ -1,9 +1,9 @@
 use Rattle.std.proofs.Common.{refl, ◌≡◌, arith}
 use Rattle.std.proofs.lemmas.Bool.Decides.{nat_tests}
-use Rattle.bdb_format.specs.Numbers.{byte_at}
-use Rattle.bdb_format.specs.Reading.{page_type}
-use Rattle.bdb_format.specs.Page.{FreePage, HashPage, InternalPage, RecnoInternalPage, LeafPage, RecnoLeafPage, OverflowPage}
-use Rattle.bdb_format.specs.Page.{HashMetaPage, BtreeMetaPage, QueueMetaPage, QueuePage, DupLeafPage, OtherPage}
+use Rattle.bdb_io.specs.of_format.Numbers.{byte_at}
+use Rattle.bdb_io.specs.of_format.Reading.{page_type}
+use Rattle.bdb_io.specs.of_format.Page.{FreePage, HashPage, InternalPage, RecnoInternalPage, LeafPage, RecnoLeafPage, OverflowPage}
+use Rattle.bdb_io.specs.of_format.Page.{HashMetaPage, BtreeMetaPage, QueueMetaPage, QueuePage, DupLeafPage, OtherPage}
 use Rattle.bdb_turned.specs.Fields.{fields_of}
 use Rattle.bdb_swap.proofs.TypedLemmas.{has_room, has_rows, hash_numbers, internal_numbers, leaf_numbers, recno_numbers, turns_as, turns_other}
 use Rattle.bdb_swap.proofs.page.turn_typed.Goals as goal

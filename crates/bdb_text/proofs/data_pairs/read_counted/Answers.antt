@@ -1,7 +1,7 @@
 use Rattle.std.proofs.Common.{Some, List, ℕ, false, refl, sym, ap, ◌∙◌, ◌≡◌, arith}
 use Rattle.std.proofs.lemmas.Bool.{eqb-true}
 use Rattle.std.specs.Str.{bytes_eq}
-use Rattle.bdb_text_format.specs.TextLines.{is_data_end, text_lines}
+use Rattle.bdb_spelling.specs.of_text_format.TextLines.{is_data_end, text_lines}
 use Rattle.bdb_text.specs.Fields.{values_in}
 use Rattle.bdb_text.proofs.PairLemmas.{counted_end, counted_error, counted_more, data_ended}
 use Rattle.bdb_text.proofs.data_pairs.read_counted.Goals as goal

@@ -2,8 +2,8 @@ use Rattle.std.proofs.Common.{Some, rules, List, ℕ, false, sym, ap, ◌∙◌,
 use Rattle.std.specs.Prelude.{Err}
 use Rattle.std.proofs.lemmas.Bool.{eqb-true}
 use Rattle.std.specs.Str.{bytes_eq}
-use Rattle.bdb_text_format.specs.Placed.{key_seen}
-use Rattle.bdb_text_format.specs.TextLines.{is_data_end, text_lines}
+use Rattle.bdb_spelling.specs.of_text_format.Placed.{key_seen}
+use Rattle.bdb_spelling.specs.of_text_format.TextLines.{is_data_end, text_lines}
 use Rattle.bdb_text.specs.Fields.{values_in}
 use Rattle.bdb_text.proofs.PairLemmas.{behind_key_error, data_ended, key_error, keyed_end, keyed_more}
 use Rattle.bdb_text.proofs.data_pairs.read_keyed.Goals as goal

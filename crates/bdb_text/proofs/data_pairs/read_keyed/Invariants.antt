@@ -1,5 +1,5 @@
 use Rattle.std.proofs.Common.{◌+◌, ◌≤◌, length}
-use Rattle.bdb_text_format.specs.TextLines.{text_lines}
+use Rattle.bdb_spelling.specs.of_text_format.TextLines.{text_lines}
 use Rattle.bdb_text.specs.DataTo.{IsKeyedTo}
 use Rattle.bdb_text.specs.Fields.{values_in}
 use Rattle.bdb_text.proofs.data_pairs.read_keyed.Given as goal

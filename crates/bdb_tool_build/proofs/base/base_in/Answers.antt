@@ -1,5 +1,5 @@
 use Rattle.std.proofs.Common.{◌∙◌, ap}
-use Rattle.bdb_text.specs.WrittenLaw.{AreBytes}
+use Rattle.bdb_onto.specs.of_text.WrittenLaw.{AreBytes}
 use Rattle.bdb_onto.specs.Bases.{base_of}
 use Rattle.bdb_tool_build.proofs.BaseLemmas.{all_bytes, is_base}
 use Rattle.bdb_tool_build.proofs.base.base_in.Goals as goal

@@ -1,4 +1,4 @@
-use Rattle.bdb_mkfile.proofs.ReadLemmas.{read_sections_are_loadable}
+use Rattle.bdb_onto.proofs.of_mkfile.ReadLemmas.{read_sections_are_loadable}
 use Rattle.bdb_tool_build.proofs.LoadLemmas.{text_loaded}
 use Rattle.bdb_tool_build.proofs.loading.load_text.Goals as goal
 

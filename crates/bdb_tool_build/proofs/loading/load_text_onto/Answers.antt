@@ -1,4 +1,4 @@
-use Rattle.bdb_mkfile.proofs.ReadLemmas.{read_sections_are_loadable}
+use Rattle.bdb_onto.proofs.of_mkfile.ReadLemmas.{read_sections_are_loadable}
 use Rattle.bdb_tool_build.proofs.OntoLemmas.{text_loaded_onto}
 use Rattle.bdb_tool_build.proofs.loading.load_text_onto.Goals as goal
 

@@ -3,8 +3,8 @@ use Rattle.std.specs.List.{flat_map}
 use Rattle.bdb_format.specs.Contents.{pairs_of}
 use Rattle.bdb_format.specs.File.{file_of}
 use Rattle.bdb_format.specs.Lists.{listed_pair}
-use Rattle.bdb_btree.specs.Pairs.{AreFit}
-use Rattle.bdb_text_format.specs.declared.pairs.Key.TheVariants.{Bytes}
+use Rattle.bdb_onto.specs.of_btree.Pairs.{AreFit}
+use Rattle.bdb_model.specs.of_text_format.declared.pairs.Key.TheVariants.{Bytes}
 use Rattle.bdb_onto.specs.Bases.{text_pair}
 use Rattle.bdb_tool_build.specs.Copied.{EndsWith, ShareKeys}
 use Rattle.bdb_tool_build.proofs.tree.push_leaf.Given as goal

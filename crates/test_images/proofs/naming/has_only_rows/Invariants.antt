@@ -1,7 +1,7 @@
 -- The members that were passed are faults of the rows.
 use Rattle.std.proofs.Common.{◌≡◌, ℕ, ◌<◌, Some, map, slice_get}
 use Rattle.std.specs.List.{Contains}
-use Rattle.bdb_format.specs.Verdict.{Judgement}
+use Rattle.bdb_tree.specs.of_format.Verdict.{Judgement}
 use Rattle.test_images.specs.Rows.{row_judged}
 use Rattle.test_images.proofs.naming.has_only_rows.Given as goal
 

@@ -2,7 +2,7 @@ use Rattle.std.proofs.Common.{◌≡◌, ◌∙◌, List, ℕ, ap, refl, subst, 
 use Rattle.std.specs.List.{fold}
 use Rattle.bdb_format.specs.Contents.{tree_entries}
 use Rattle.bdb_format.specs.File.{File, file_of}
-use Rattle.bdb_layout.specs.Seen.{leaf_item_seen}
+use Rattle.bdb_form.specs.of_layout.Seen.{leaf_item_seen}
 use Rattle.bdb_overflow.specs.Held.{FitsAny, FitsHeld, value_held}
 use Rattle.bdb_tree.specs.Entries.{AreFit}
 use Rattle.bdb_tree.proofs.EntryLemmas.{all_values, rest_fit}

@@ -1,5 +1,5 @@
 use Rattle.std.proofs.Common.{subst}
-use Rattle.bdb_layout.specs.Seen.{hash_content_seen}
+use Rattle.bdb_graph.specs.of_layout.Seen.{hash_content_seen}
 use Rattle.bdb_overflow.specs.Datum.{datum_seen}
 use Rattle.bdb_buckets.specs.Chained.{IsHead}
 use Rattle.bdb_buckets.specs.Told.{told_as}

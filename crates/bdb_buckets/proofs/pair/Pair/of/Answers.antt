@@ -1,6 +1,6 @@
 use Rattle.std.proofs.Common.{◌≡◌, sym, ◌∙◌, ap, subst}
-use Rattle.bdb_form.specs.Pairs.{pair_seen}
-use Rattle.bdb_layout.specs.Seen.{hash_content_seen, hash_item_seen}
+use Rattle.bdb_graph.specs.of_form.Pairs.{pair_seen}
+use Rattle.bdb_graph.specs.of_layout.Seen.{hash_content_seen, hash_item_seen}
 use Rattle.bdb_overflow.specs.Datum.{datum_seen}
 use Rattle.bdb_buckets.specs.Chained.{chain_head, head_on}
 use Rattle.bdb_buckets.specs.Places.{IsRead}

@@ -1,7 +1,7 @@
 use Rattle.std.proofs.Common.{◌≡◌, drop}
 use Rattle.std.specs.Prelude.{option_copied}
-use Rattle.bdb_format.specs.Databases.{databases, place_from, place_of}
-use Rattle.bdb_format.specs.File.{file_of}
+use Rattle.bdb_recno.specs.of_format.Databases.{databases, place_from, place_of}
+use Rattle.bdb_recno.specs.of_format.File.{file_of}
 use Rattle.bdb_file.proofs.readable.Readable.by_name.Given as goal
 
 -- The name is none of the databases so far.

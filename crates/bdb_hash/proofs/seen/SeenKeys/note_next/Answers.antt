@@ -1,5 +1,5 @@
 use Rattle.std.proofs.Common.{[], ◌∷◌, subst, ◌∙◌}
-use Rattle.bdb_overflow.specs.Datum.{datum_seen}
+use Rattle.bdb_ranks.specs.of_overflow.Datum.{datum_seen}
 use Rattle.bdb_buckets.specs.Chained.{Seen}
 use Rattle.bdb_hash.specs.Passed.{NotesRepeats}
 use Rattle.bdb_hash.proofs.RepeatLemmas.{one_noted}

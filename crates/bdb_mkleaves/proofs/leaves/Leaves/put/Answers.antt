@@ -1,4 +1,4 @@
-use Rattle.bdb_layout.specs.Seen.{leaf_item_seen}
+use Rattle.bdb_pack.specs.of_layout.Seen.{leaf_item_seen}
 use Rattle.bdb_mkleaves.proofs.PutLemmas.{some_stay, takes_put}
 use Rattle.bdb_mkleaves.proofs.leaves.Leaves.put.Goals as goal
 

@@ -1,6 +1,6 @@
 use Rattle.std.proofs.Common.{◌*◌, ◌+◌, ◌-◌, length, take, drop, sym, ◌∙◌, ap, arith}
 use Rattle.bdb_pack.specs.Built.{Built, bytes_of}
-use Rattle.bdb_format.specs.HeadOf.{is_page_size}
+use Rattle.bdb_layout.specs.of_format.HeadOf.{is_page_size}
 use Rattle.bdb_pack.proofs.OpenLemmas.{page_size}
 use Rattle.bdb_pack.proofs.CutLemmas.{length_cut, page_of_cut}
 use Rattle.bdb_pack.proofs.pages.Pages.page.Goals as goal

@@ -1,5 +1,5 @@
 use Rattle.std.proofs.Common.{sym, subst}
-use Rattle.bdb_layout.specs.Seen.{hash_content_seen}
+use Rattle.bdb_form.specs.of_layout.Seen.{hash_content_seen}
 use Rattle.bdb_pack.specs.Items.{OnHash}
 use Rattle.bdb_pack_tests.specs.Sheet.{IsSheet}
 use Rattle.bdb_pack_tests.proofs.SheetLemmas.{with_taken}

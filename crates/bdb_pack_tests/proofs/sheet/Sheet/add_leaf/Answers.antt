@@ -1,5 +1,5 @@
 use Rattle.std.proofs.Common.{sym, subst}
-use Rattle.bdb_layout.specs.Seen.{leaf_item_seen}
+use Rattle.bdb_form.specs.of_layout.Seen.{leaf_item_seen}
 use Rattle.bdb_pack.specs.Items.{OnLeaf}
 use Rattle.bdb_pack_tests.specs.Sheet.{IsSheet}
 use Rattle.bdb_pack_tests.proofs.SheetLemmas.{with_taken}

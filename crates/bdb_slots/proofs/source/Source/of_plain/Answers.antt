@@ -1,5 +1,5 @@
 use Rattle.std.proofs.Common.{◌∙◌, ap, subst}
-use Rattle.bdb_format.specs.declared.references.Sort.TheVariants.{HashNext}
+use Rattle.bdb_form.specs.of_format.declared.references.Sort.TheVariants.{HashNext}
 use Rattle.bdb_form.specs.Seen.{page_seen}
 use Rattle.bdb_slots.specs.Plain.{IsPlain}
 use Rattle.bdb_slots.specs.Slots.{names_from}

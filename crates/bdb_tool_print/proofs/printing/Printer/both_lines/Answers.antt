@@ -1,6 +1,6 @@
-use Rattle.bdb_text_format.specs.LineEnd.{line}
-use Rattle.bdb_text_format.specs.Written.{data_line, key_bytes}
-use Rattle.bdb_overflow.specs.Datum.{datum_seen, key_view_seen}
+use Rattle.bdb_model.specs.of_text_format.LineEnd.{line}
+use Rattle.bdb_model.specs.of_text_format.Written.{data_line, key_bytes}
+use Rattle.bdb_range.specs.of_overflow.Datum.{datum_seen, key_view_seen}
 use Rattle.bdb_tool_print.proofs.PrinterLemmas.{adds_cut, cut_up, then_adds}
 use Rattle.bdb_tool_print.proofs.printing.Printer.both_lines.Goals as goal
 

@@ -1,5 +1,5 @@
 use Rattle.bdb_model.specs.Answers.{value_line, values_text}
-use Rattle.bdb_overflow.specs.Datum.{datum_seen}
+use Rattle.bdb_range.specs.of_overflow.Datum.{datum_seen}
 use Rattle.bdb_tool_print.proofs.PrinterLemmas.{adds_cut, cut_up}
 use Rattle.bdb_tool_print.proofs.printing.Printer.found_lines.Goals as goal
 

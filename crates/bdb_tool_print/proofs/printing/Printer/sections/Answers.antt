@@ -1,8 +1,8 @@
 use Rattle.std.proofs.Common.{◌<◌, ◌≤◌, ap, refl, arith, length}
 use Rattle.bdb_file.specs.Named.{database_at, no_database}
-use Rattle.bdb_format.specs.Databases.{databases}
-use Rattle.bdb_format.specs.File.{file_of}
-use Rattle.bdb_text_format.specs.Written.{database_text, dump_text}
+use Rattle.bdb_model.specs.of_format.Databases.{databases}
+use Rattle.bdb_model.specs.of_format.File.{file_of}
+use Rattle.bdb_model.specs.of_text_format.Written.{database_text, dump_text}
 use Rattle.bdb_tool_print.proofs.PrinterLemmas.{begins, cut_up, place_added, place_cut, places_added}
 use Rattle.bdb_tool_print.proofs.printing.Printer.sections.Goals as goal
 
