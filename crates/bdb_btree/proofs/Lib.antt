@@ -15,6 +15,7 @@ pub mod ScanLemmas
 pub mod SeenLemmas
 pub mod SeparatorLemmas
 pub mod WalkLemmas
+pub use Rattle.bdb_faults.proofs as of_faults
 pub use Rattle.bdb_format.proofs as of_format
 pub use Rattle.bdb_overflow.proofs.of_graph as of_graph
 pub use Rattle.bdb_overflow.proofs.of_image as of_image

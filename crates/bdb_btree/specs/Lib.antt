@@ -6,6 +6,7 @@ pub mod Pairs
 pub mod Rows
 pub mod Runs
 pub mod Search
+pub use Rattle.bdb_faults.specs as of_faults
 pub use Rattle.bdb_form.specs as of_form
 pub use Rattle.bdb_format.specs as of_format
 pub use Rattle.bdb_overflow.specs.of_graph as of_graph

@@ -1,8 +1,11 @@
--- The buckets of a table one after another, and the keys that came before a pair.
-use Rattle.std.proofs.Common.{◌≡◌, ℕ, ◌+◌, List, [], ◌++◌, arith}
+-- The pairs of a table, bucket by bucket.
+use Rattle.std.proofs.Common.{◌∷◌, map, refl, ◌∙◌, ap, ◌≡◌, ℕ, ◌+◌, List, [], ◌++◌, arith}
+use Rattle.std.proofs.lemmas.List.{map-append, append-nil}
+use Rattle.bdb_format.specs.Contents.{StoredPair, bucket_pages, bucket_pairs, pairs_of, table_pairs}
+use Rattle.bdb_buckets.specs.Told.{joined_pages, page_told, stored, table_told, told, bucket_told}
+use Rattle.bdb_buckets.proofs.RowLemmas.{buckets_of}
 use Rattle.std.specs.List.{flat_map, range_with_len}
 use Rattle.std.proofs.lemmas.Grind.{flat_map-append}
-use Rattle.std.proofs.lemmas.List.{append-nil}
 use Rattle.bdb_graph.specs.of_image.Linked.{HasMetadata, IsForest}
 use Rattle.bdb_graph.proofs.LinkedLemmas.{bucket_fits}
 use Rattle.bdb_buckets.specs.Views.{IsTable}
@@ -11,7 +14,6 @@ use Rattle.bdb_format.specs.Hashing.{first_page}
 use Rattle.bdb_format.specs.HeadOf.{head_of}
 use Rattle.bdb_format.specs.Page.{HashFields}
 use Rattle.bdb_format.specs.Verdict.{structure_faults}
-use Rattle.bdb_buckets.specs.Told.{bucket_told}
 use Rattle.bdb_format.specs.declared.metadata.HashMeta.{HashMeta}
 use Rattle.bdb_format.specs.File.{file_of}
 use Rattle.bdb_graph.proofs.TargetLemmas.{is_no_queue}
@@ -32,3 +34,30 @@ pub told_more : (image : List ℕ) (meta : HashMeta) (b : ℕ)
     → flat_map (bucket_told image meta) (range_with_len 0 (b + 1)) ≡ flat_map (bucket_told image meta)
     (range_with_len 0 b) ++ bucket_told image meta b
 told_more image meta b = grind (arith, range_zero_more, flat_map-append, append-nil)
+
+-- The pairs of a table, each with the file that it stands in.
+
+page_flat : (image : List ℕ) (ps : List ℕ) → joined_pages (map (page_told image) ps) ≡ map (told image) (flat_map (pairs_of (file_of image)) ps)
+page_flat image [] = refl
+page_flat image (p ∷ ps) = grind (arith, map-append, page_flat image ps)
+
+-- the pairs of a bucket
+pub bucket_is : (image : List ℕ) (meta : HashMeta) (b : ℕ) → bucket_told image meta b ≡ map (told image) (bucket_pairs (file_of image) meta b)
+bucket_is image meta b = page_flat image (bucket_pages (file_of image) meta b)
+
+stored_told : (image : List ℕ) (pairs : List StoredPair) → stored (map (told image) pairs) ≡ pairs
+stored_told image [] = refl
+stored_told image (pair ∷ pairs) = ap (λ ps. pair ∷ ps) (stored_told image pairs)
+
+told_flat : (image : List ℕ) (meta : HashMeta) (bs : List ℕ)
+    → flat_map (bucket_told image meta) bs ≡ map (told image) (flat_map (bucket_pairs (file_of image) meta) bs)
+told_flat image meta [] = refl
+told_flat image meta (b ∷ bs) = grind (arith, bucket_is, map-append, told_flat image meta bs)
+
+pub table_is_told : (image : List ℕ) (meta : HashMeta) → table_told image meta ≡ map (told image) (table_pairs (file_of image) meta)
+unfolding table_pairs
+table_is_told image meta = told_flat image meta (buckets_of meta)
+
+-- the pairs of a table
+pub table_stored : (image : List ℕ) (meta : HashMeta) → stored (table_told image meta) ≡ table_pairs (file_of image) meta
+table_stored image meta = ap stored (table_is_told image meta) ∙ stored_told image (table_pairs (file_of image) meta)

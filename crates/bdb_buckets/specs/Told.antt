@@ -21,6 +21,13 @@ pub record Told : Type 0 where
 abbrev pub told : List ℕ → StoredPair → Told
 told image pair = record { image = image; pair = pair }
 
+-- pairs without their file
+abbrev pub stored : List Told → List StoredPair
+stored pairs = map (λ (told : Told). told.pair) pairs
+
+abbrev pub key_of : StoredPair → List ℕ
+key_of pair = pair.key
+
 -- a pair of a page, by its key and what its data item holds
 abbrev pub told_as : List ℕ → ℕ → List ℕ → Content → Told
 told_as image p key content = told image (record { page = p; key = key; data_item = content; live = true; shares = false })

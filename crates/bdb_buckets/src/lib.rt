@@ -9,6 +9,10 @@ mod pairs;
 mod place;
 mod table;
 
+pub use bdb_format;
+pub use bdb_graph;
+pub use bdb_graph::{bdb_form, bdb_layout};
+pub use bdb_overflow;
 pub use bucket::{BucketPages, bucket_pages};
 pub use data::Data;
 pub use key::hash_of;

@@ -11,7 +11,8 @@ use crate::hash_samples::{
     DUPLICATES, DUPLICATES_TWICE, ELSEWHERE, ELSEWHERE_FIRST, KEY_TWICE, KEY_TWICE_LATER, UNSORTED,
     UNSORTED_FIRST, WRONG_SET,
 };
-use bdb_hash::{Found, Scan, check, find, scan};
+use bdb_hash::check;
+use bdb_hash_list::{Found, Scan, find, scan};
 use bdb_range::bdb_format::{CheckError, Fault, HashMeta, Order, Steps};
 use bdb_range::bdb_graph::{Linked, Meta, link, open_image};
 use bdb_range::bdb_overflow::{Datum, KeyView, compare_datum};
@@ -389,7 +390,7 @@ fn finds<L: Ledger>(
     true
 }
 
-#[tactic(auto, using(bdb_hash::proofs::LookupLemmas::no_key_twice))]
+#[tactic(auto, using(bdb_hash_list::proofs::LookupLemmas::no_key_twice))]
 fn holds<L: Ledger>(
     alloc: Global,
     linked: &Linked<'_>,

@@ -3,28 +3,28 @@ use Rattle.std.proofs.Common.{◌≡◌, ℕ, ◌+◌, ◌^◌, ◌<◌, ◌≤�
 use Rattle.std.specs.Prelude.{Err, IfErr, IsErrAnd, Ok, Result}
 use Rattle.std.specs.List.{Contains, range_with_len}
 use Rattle.std.specs.Option.{option_map}
-use Rattle.bdb_recno.specs.of_format.declared.kinds.CheckError.{CheckError}
-use Rattle.bdb_recno.specs.of_format.declared.kinds.CheckError.TheVariants.{Fault as FaultError, Memory as MemoryError}
-use Rattle.bdb_recno.specs.of_format.declared.kinds.Verdict.{Verdict}
-use Rattle.bdb_recno.specs.of_format.Verdict.{Faulty, IsFirstOf, Judgement, LeftOut, as_verdict, faults_in, first_fault, first_judgement, judgement_of, or_else}
-use Rattle.bdb_recno.specs.of_format.Verdict.{stage_faults, verdict_in}
-use Rattle.bdb_recno.proofs.of_format.VerdictLemmas.{or_else_both, skip_stage, skip_stages, stage_in_order, verdict_after, verdict_in_more, late_fault}
-use Rattle.bdb_recno.proofs.of_format.MemberLemmas.{first_member, no_member}
-use Rattle.bdb_recno.specs.of_format.declared.kinds.Fault.{Fault}
-use Rattle.bdb_recno.specs.of_format.File.{file_of}
-use Rattle.bdb_recno.specs.of_format.HeadOf.{head_of}
-use Rattle.bdb_recno.proofs.of_format.FileLemmas.{count_is, last_page}
-use Rattle.bdb_recno.specs.of_faults.All.{IsAllOf}
-use Rattle.bdb_recno.specs.of_faults.declared.named.AllError.{AllError}
-use Rattle.bdb_recno.specs.of_faults.declared.named.AllError.TheVariants.{Faults, Memory}
-use Rattle.bdb_recno.specs.of_image.Formed.{IsFormed}
-use Rattle.bdb_recno.proofs.of_image.FirstLemmas.{formed_last}
-use Rattle.bdb_file.specs.AnyOrder.{contents_by, faults_by_rows, stages_by, verdict_by}
+use Rattle.bdb_check.specs.of_format.declared.kinds.CheckError.{CheckError}
+use Rattle.bdb_check.specs.of_format.declared.kinds.CheckError.TheVariants.{Fault as FaultError, Memory as MemoryError}
+use Rattle.bdb_check.specs.of_format.declared.kinds.Verdict.{Verdict}
+use Rattle.bdb_check.specs.of_format.Verdict.{Faulty, IsFirstOf, Judgement, LeftOut, as_verdict, faults_in, first_fault, first_judgement, judgement_of, or_else}
+use Rattle.bdb_check.specs.of_format.Verdict.{stage_faults, verdict_in}
+use Rattle.bdb_check.proofs.of_format.VerdictLemmas.{or_else_both, skip_stage, skip_stages, stage_in_order, verdict_after, verdict_in_more, late_fault}
+use Rattle.bdb_check.proofs.of_format.MemberLemmas.{first_member, no_member}
+use Rattle.bdb_check.specs.of_format.declared.kinds.Fault.{Fault}
+use Rattle.bdb_check.specs.of_format.File.{file_of}
+use Rattle.bdb_check.specs.of_format.HeadOf.{head_of}
+use Rattle.bdb_check.proofs.of_format.FileLemmas.{count_is, last_page}
+use Rattle.bdb_check.specs.of_faults.All.{IsAllOf}
+use Rattle.bdb_check.specs.of_faults.declared.named.AllError.{AllError}
+use Rattle.bdb_check.specs.of_faults.declared.named.AllError.TheVariants.{Faults, Memory}
+use Rattle.bdb_check.specs.of_image.Formed.{IsFormed}
+use Rattle.bdb_check.proofs.of_image.FirstLemmas.{formed_last}
+use Rattle.bdb_check.specs.of_rows.AnyOrder.{contents_by, faults_by_rows, stages_by, verdict_by}
 use Rattle.bdb_file.specs.Whole.{IsVerdictBy, told_as}
-use Rattle.bdb_file.specs.declared.rows.Rows.{Rows}
-use Rattle.bdb_file.proofs.OrderLemmas.{of_counted}
-use Rattle.bdb_file.proofs.RowsLemmas.{read_in_any_order}
-use Rattle.bdb_file.proofs.WholeLemmas.{no_structure_fault, no_master_fault}
+use Rattle.bdb_check.specs.of_rows.declared.rows.Rows.{Rows}
+use Rattle.bdb_check.proofs.of_rows.OrderLemmas.{of_counted}
+use Rattle.bdb_databases.proofs.ReadableLemmas.{read_in_any_order}
+use Rattle.bdb_check.proofs.WholeLemmas.{no_structure_fault, no_master_fault}
 
 is_verdict : (rows : Rows) (image : List ℕ) (judgement : Judgement) → verdict_by rows image ≡ Some judgement
     → IsVerdictBy rows image (as_verdict judgement)

@@ -1,12 +1,12 @@
 -- A refusal of a whole file. Source: docs/FORMAT.md, "Faults".
 use Rattle.std.specs.Prelude.{◌≡◌, ℕ, List, Some}
-use Rattle.bdb_file.specs.AnyOrder.{verdict_by}
-use Rattle.bdb_file.specs.declared.rows.Rows.{Rows}
-use Rattle.bdb_recno.specs.of_format.declared.kinds.CheckError.{CheckError}
-use Rattle.bdb_recno.specs.of_format.declared.kinds.CheckError.TheVariants.{Fault as FaultError, Memory as MemoryError}
-use Rattle.bdb_recno.specs.of_format.declared.kinds.Verdict.{Verdict}
-use Rattle.bdb_recno.specs.of_format.declared.kinds.Verdict.TheVariants.{Fault as FaultVerdict, Unsupported, Memory}
-use Rattle.bdb_recno.specs.of_format.Verdict.{Faulty, LeftOut, verdict_of}
+use Rattle.bdb_check.specs.of_rows.AnyOrder.{verdict_by}
+use Rattle.bdb_check.specs.of_rows.declared.rows.Rows.{Rows}
+use Rattle.bdb_check.specs.of_format.declared.kinds.CheckError.{CheckError}
+use Rattle.bdb_check.specs.of_format.declared.kinds.CheckError.TheVariants.{Fault as FaultError, Memory as MemoryError}
+use Rattle.bdb_check.specs.of_format.declared.kinds.Verdict.{Verdict}
+use Rattle.bdb_check.specs.of_format.declared.kinds.Verdict.TheVariants.{Fault as FaultVerdict, Unsupported, Memory}
+use Rattle.bdb_check.specs.of_format.Verdict.{Faulty, LeftOut, verdict_of}
 
 -- a refusal tells the verdict, or is want of memory
 abbrev pub IsVerdictOf : List ℕ → Verdict → Type 0

@@ -1,37 +1,5 @@
 //! Laws of the databases of a file without faults, and of the rows that count in any order.
-ghost use Rattle.bdb_file.specs.Laws.{AllAreOfAll, MasterCounts, NamesAscend, NamesAscendInAnyOrder, SameWithoutOrder, SoundInAnyOrder};
-
-/// The names that a master gives ascend strictly in byte order, as its databases stand.
-#[tactic(auto, using(crate::proofs::NameOrderLemmas::names_ascend))]
-pub fn names_ascend()
-    ensures { NamesAscend }
-{}
-
-/// So do those of a file on which no row counts in any order.
-#[tactic(auto, using(crate::proofs::NameOrderLemmas::names_ascend_in_any_order))]
-pub fn names_ascend_in_any_order()
-    ensures { NamesAscendInAnyOrder }
-{}
-
-/// Where all rows count, the faults are those of the file, and so is the verdict.
-#[tactic(auto, using(crate::proofs::RowsLemmas::all_are_of_all))]
-pub fn all_are_of_all()
-    ensures { AllAreOfAll }
-{}
-
-/// A sound file has no fault that counts in any order.
-#[tactic(auto, using(crate::proofs::RowsLemmas::sound_in_any_order))]
-pub fn sound_in_any_order()
-    ensures { SoundInAnyOrder }
-{}
-
-/// In a file on which no row of order holds the same faults count in any order.
-#[tactic(auto, using(crate::proofs::RowsLemmas::same_without_order))]
-pub fn same_without_order()
-    ensures { SameWithoutOrder }
-{}
-
-/// All faults of a master count in any order.
-pub fn master_counts()
-    ensures { MasterCounts }
-{}
+pub use bdb_check::bdb_rows::laws::{
+    all_are_of_all, master_counts, same_without_order, sound_in_any_order,
+};
+pub use bdb_databases::laws::{names_ascend, names_ascend_in_any_order};

@@ -1,28 +1,15 @@
 ghost use Rattle.std.specs.Prelude.{◌≡◌, ◌<◌, ◌≤◌, ◌+◌, IfOk, length};
-ghost use Rattle.bdb_file.specs.Lookup.{most_steps};
-ghost use Rattle.bdb_file.specs.Named.{database_at};
-ghost use Rattle.bdb_recno.specs.of_format.Databases.{data_under, databases};
-ghost use Rattle.bdb_recno.specs.of_format.File.{file_of};
-ghost use Rattle.bdb_recno.specs.of_format.Lists.{list_of};
+ghost use Rattle.bdb_databases.specs.Lookup.{most_steps};
+ghost use Rattle.bdb_databases.specs.Named.{database_at};
+ghost use Rattle.bdb_check.specs.of_format.Databases.{data_under, databases};
+ghost use Rattle.bdb_check.specs.of_format.File.{file_of};
+ghost use Rattle.bdb_check.specs.of_format.Lists.{list_of};
 
-use crate::listing::scan_of;
-use crate::lookup::found_in;
-use crate::{Db, Found, Readable, Scan, Sound};
-use bdb_recno::bdb_format::Steps;
+use crate::{Db, Found, Scan, Sound};
+use bdb_check::bdb_format::Steps;
+use bdb_databases::found_in;
 use std::alloc::{AllocError, Global};
 use std::sync::ledger::Ledger;
-
-impl<'a> Readable<'a> {
-    /// The list of a database: its live pairs in order. That of a table takes memory for each of its pairs,
-    /// another one none; an error is want of it.
-    #[tactic(auto, using(crate::proofs::ReadableLemmas::has_new_keys))]
-    pub fn scan(&self, alloc: Global, db: Db) -> Result<Scan<'a>, AllocError>
-        requires { db < length (databases (file_of self.now)) }
-        ensures { IfOk result (λ scan. scan ≡ list_of (file_of self.now) (database_at (file_of self.now) db).fields) }
-    {
-        scan_of(alloc, self.linked(), self.meta(db))
-    }
-}
 
 impl<'a> Sound<'a> {
     /// The list of a database: its live pairs in order. That of a table takes memory for each of its pairs,

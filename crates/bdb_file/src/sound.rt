@@ -1,16 +1,16 @@
 ghost use Rattle.std.specs.Prelude.{◌≡◌, ◌<◌, [], IfSome, length, option_copied};
-ghost use Rattle.bdb_file.specs.Named.{database_at};
-ghost use Rattle.bdb_recno.specs.of_image.Linked.{HasMetadata};
-ghost use Rattle.bdb_recno.specs.of_image.Metas.{meta_seen};
-ghost use Rattle.bdb_recno.specs.of_format.ContentRows.{database_faults};
-ghost use Rattle.bdb_recno.specs.of_format.Databases.{databases, place_of, settings_of};
-ghost use Rattle.bdb_recno.specs.of_format.File.{file_of};
-ghost use Rattle.bdb_recno.specs.of_format.HeadOf.{head_of};
-ghost use Rattle.bdb_recno.specs.of_format.Verdict.{faults_of, structure_faults};
+ghost use Rattle.bdb_databases.specs.Named.{database_at};
+ghost use Rattle.bdb_check.specs.of_image.Linked.{HasMetadata};
+ghost use Rattle.bdb_check.specs.of_image.Metas.{meta_seen};
+ghost use Rattle.bdb_check.specs.of_format.ContentRows.{database_faults};
+ghost use Rattle.bdb_check.specs.of_format.Databases.{databases, place_of, settings_of};
+ghost use Rattle.bdb_check.specs.of_format.File.{file_of};
+ghost use Rattle.bdb_check.specs.of_format.HeadOf.{head_of};
+ghost use Rattle.bdb_check.specs.of_format.Verdict.{faults_of, structure_faults};
 
 use crate::{Db, Readable};
-use bdb_recno::bdb_format::{Head, Settings};
-use bdb_recno::bdb_graph::{Linked, Meta};
+use bdb_check::bdb_format::{Head, Settings};
+use bdb_check::bdb_graph::{Linked, Meta};
 use std::marker::Model;
 
 /// A file on which no row of any stage holds, with its databases: those that its master names, in the order of
@@ -22,7 +22,7 @@ pub struct Sound<'a> {
 
 impl<'a> Model for Sound<'a> {
     ghost use Rattle.std.specs.Prelude.{◌≡◌, [], List, ℕ};
-    ghost use Rattle.bdb_recno.specs.of_format.Verdict.{faults_of};
+    ghost use Rattle.bdb_check.specs.of_format.Verdict.{faults_of};
 
     ghost Value = { List ℕ };
 
@@ -103,7 +103,7 @@ impl<'a> Sound<'a> {
     }
 
     /// The metadata of a database, which keeps the rules of structure and of contents.
-    #[tactic(auto, using(crate::proofs::SoundLemmas::no_contents_at))]
+    #[tactic(auto, using(bdb_databases::proofs::SoundLemmas::no_contents_at))]
     pub fn meta(&self, db: Db) -> &Meta
         requires { db < length (databases (file_of self.now)) }
         ensures fields { meta_seen result.now ≡ (database_at (file_of self.now) db).fields }

@@ -1,14 +1,14 @@
 ghost use Rattle.std.specs.Prelude.{◌≡◌, ◌≤◌, ◌+◌, ◌^◌, [], ◌∷◌, IfErr, IfOk, None, OnOk, length};
-ghost use Rattle.bdb_file.specs.AnyOrder.{faults_by_rows};
+ghost use Rattle.bdb_check.specs.of_rows.AnyOrder.{faults_by_rows};
 ghost use Rattle.bdb_file.specs.Whole.{IsVerdictBy, IsVerdictOf, told_as};
-ghost use Rattle.bdb_recno.specs.of_format.File.{file_of};
-ghost use Rattle.bdb_recno.specs.of_format.Verdict.{faults_in, verdict_of};
+ghost use Rattle.bdb_check.specs.of_format.File.{file_of};
+ghost use Rattle.bdb_check.specs.of_format.Verdict.{faults_in, verdict_of};
 
-use crate::check::checked_entries;
-use crate::named::databases_of;
 use crate::{Readable, Rows, Sound};
-use bdb_recno::bdb_format::{CheckError, Steps, Verdict};
-use bdb_recno::bdb_graph::{Formed, link, open_image};
+use bdb_check::bdb_format::{CheckError, Steps, Verdict};
+use bdb_check::bdb_graph::{Formed, link, open_image};
+use bdb_check::checked_entries;
+use bdb_databases::databases_of;
 use std::alloc::Global;
 use std::sync::ledger::Ledger;
 

@@ -1,40 +1,17 @@
 ghost use Rattle.std.specs.Prelude.{◌≡◌, ◌≤◌, ◌+◌, ◌^◌, [], ◌∷◌, IfErr, IfOk, OnOk, length};
-ghost use Rattle.bdb_recno.specs.of_faults.All.{IsAllOf};
-ghost use Rattle.bdb_file.specs.AnyOrder.{faults_by_rows, stages_by};
-ghost use Rattle.bdb_master.specs.Entries.{master_entries};
-ghost use Rattle.bdb_recno.specs.of_format.File.{file_of};
-ghost use Rattle.bdb_recno.specs.of_format.Verdict.{faults_in, faults_of};
+ghost use Rattle.bdb_check.specs.of_faults.All.{IsAllOf};
+ghost use Rattle.bdb_check.specs.of_rows.AnyOrder.{faults_by_rows};
+ghost use Rattle.bdb_check.specs.of_format.File.{file_of};
+ghost use Rattle.bdb_check.specs.of_format.Verdict.{faults_in, faults_of};
 
-use crate::check::{Checked, note_file};
-use crate::named::databases_of;
 use crate::{Readable, Rows, Sound};
-use bdb_master::Entry;
-use bdb_recno::bdb_faults::{AllError, NamedList, refused_by};
-use bdb_recno::bdb_format::Steps;
-use bdb_recno::bdb_graph::{Formed, Linked, link_all, open_all};
+use bdb_check::bdb_faults::AllError;
+use bdb_check::bdb_format::Steps;
+use bdb_check::bdb_graph::{Formed, link_all, open_all};
+use bdb_check::entries_or_all;
+use bdb_databases::databases_of;
 use std::alloc::Global;
 use std::sync::ledger::Ledger;
-
-/// The entries of the master of a file in which no row of stages 6 to 8 that counts holds. A refusal has all faults of the
-/// first stage that has one; or it's want of memory.
-fn entries_or_all<'a>(
-    alloc: Global,
-    linked: &Linked<'a>,
-    rows: Rows,
-) -> Result<Vec<Entry<'a>>, AllError>
-    ensures entries { IfOk result (λ entries. entries.items ≡ master_entries (file_of linked.now)) }
-    ensures accepted { OnOk result (stages_by rows (6 ∷ 7 ∷ []) linked.now ≡ []) }
-    ensures refusal { IfErr result (IsAllOf (stages_by rows (6 ∷ 7 ∷ []) linked.now)) }
-{
-    let Ok(checked) = note_file(alloc, linked, rows, NamedList::new(alloc)) else {
-        return Err(AllError::Memory);
-    };
-    let Checked { found, entries } = checked;
-    match refused_by(found) {
-        Ok(()) => Ok(entries),
-        Err(error) => Err(error),
-    }
-}
 
 /// A formed image as a readable file, or all its faults that count.
 #[tactic(auto, using(crate::proofs::VerdictLemmas::whole_verdict))]

@@ -1,23 +1,19 @@
 -- Pairs of one file whose keys are chains.
-use Rattle.std.proofs.Common.{arith}
-use Rattle.std.proofs.Common.{◌≡◌, ℕ, Bool, true, false, ◌||◌, cond, List, [], ◌∷◌, map, refl, sym, ◌∙◌, ap, subst, inl, inr}
-use Rattle.std.specs.Prelude.{Result, Ok, Err, OnOk, OnErr}
-use Rattle.std.specs.BTreeSet.{BTreeSet, IsUnchanged, Updates}
-use Rattle.std.specs.Cmp.Lexicographic.{slice_cmp}
-use Rattle.std.specs.Ordering.{nat_cmp}
+use Rattle.std.proofs.Common.{◌≡◌, ℕ, Bool, true, ◌||◌, cond, List, [], ◌∷◌, map, refl, sym, ◌∙◌, ap, subst, inl, inr}
+use Rattle.std.specs.Prelude.{Result, Ok, Err, OnOk}
+use Rattle.std.specs.BTreeSet.{BTreeSet}
 use Rattle.std.specs.Str.{bytes_eq}
-use Rattle.std.proofs.lemmas.Bool.{cases_Bool, cases_eq}
+use Rattle.std.proofs.lemmas.Bool.{cases_Bool}
 use Rattle.bdb_ranks.specs.of_faults.Notes.{Notes}
 use Rattle.bdb_ranks.specs.of_format.declared.kinds.Fault.{Fault}
 use Rattle.bdb_ranks.specs.of_format.Contents.{StoredPair, pairs_of}
 use Rattle.bdb_ranks.specs.of_format.File.{file_of}
 use Rattle.bdb_ranks.proofs.of_format.LessLemmas.{eq_same}
 use Rattle.bdb_ranks.specs.of_overflow.Keys.{has_item, has_key}
-use Rattle.bdb_ranks.proofs.of_overflow.HeldLemmas.{apart}
-use Rattle.bdb_buckets.specs.Chained.{AreAllOf, AreAmong, AreOf, Seen, chain_value}
-use Rattle.bdb_hash.specs.Noted.{repeat_fault}
-use Rattle.bdb_hash.specs.Passed.{NotesRepeats, key_of}
-use Rattle.bdb_buckets.specs.Told.{Told, page_told, told}
+use Rattle.bdb_buckets.specs.Chained.{AreAllOf, AreOf}
+use Rattle.bdb_buckets.specs.Repeat.{repeat_fault}
+use Rattle.bdb_hash.specs.Passed.{NotesRepeats}
+use Rattle.bdb_buckets.specs.Told.{key_of, Told, page_told, told}
 
 -- Pairs of one file.
 
@@ -48,15 +44,6 @@ bucket_of_file image known pages ps are same =
 
 -- Keys that were seen.
 
-either : (a b : Bool) → b ≡ true → cond a true b ≡ true
-either true b is = refl
-either false b is = is
-
--- the keys before stay
-pub has_before : (old new : BTreeSet (List ℕ)) (key other : List ℕ) → Updates (slice_cmp nat_cmp) old new key true → has_key old other ≡ true
-    → has_key new other ≡ true
-has_before old new key other updates has = updates.0 other ∙ either _ (has_key old other) has
-
 -- a pair whose key is among them repeats it, and adds none
 pub seen_noted : (keys : BTreeSet (List ℕ)) (before after : List Fault → Type 0) (t : Told) → has_key keys t.pair.key ≡ true
     → Notes before after (repeat_fault t.pair ∷ []) → NotesRepeats keys keys before after (t ∷ [])
@@ -77,30 +64,7 @@ seen_noted keys before after t has notes = record {
           | inr other ↦ ap (λ b. b || has_item key_of seen sought) (sym other)
         ]
 
--- the heads are still among the keys, once more of these were added
-pub among_after : (image : List ℕ) (old new : BTreeSet (List ℕ)) (heads : BTreeSet ℕ) (key : List ℕ) → AreAmong (record { image = image; keys = old }) heads
-    → Updates (slice_cmp nat_cmp) old new key true → AreAmong (record { image = image; keys = new }) heads
-among_after image old new heads key among updates = record {
-  each = λ head is. has_before old new key (chain_value image head) updates (among.each head is);
-}
-
-pub among_unchanged : (image : List ℕ) (old new : BTreeSet (List ℕ)) (heads : BTreeSet ℕ) → AreAmong (record { image = image; keys = old }) heads
-    → IsUnchanged old new → AreAmong (record { image = image; keys = new }) heads
-among_unchanged image old new heads among same = grind arith
-
--- and one head more, of a key that is
-pub among_more : (seen : Seen) (old new : BTreeSet ℕ) (head : ℕ) → AreAmong seen old → has_key seen.keys (chain_value seen.image head) ≡ true
-    → Updates nat_cmp old new head true → AreAmong seen new
-among_more seen old new head among has updates = grind (arith, cases_eq, apart)
-
--- the same where the insertion may have failed
-pub among_inserted : {X E : Type 0} (result : Result X E) (seen : Seen) (old new : BTreeSet ℕ) (head : ℕ) → AreAmong seen old
-    → has_key seen.keys (chain_value seen.image head) ≡ true → OnOk result (Updates nat_cmp old new head true) → OnErr result (IsUnchanged old new)
-    → AreAmong seen new
-among_inserted (Ok x) seen old new head among has updates failed = among_more seen old new head among has updates
-among_inserted (Err e) seen old new head among has updates failed = record { each = λ other is. among.each other (rw (← failed) is) }
-
--- and a repeat where noting it may have failed
+-- the same where noting the repeat may have failed
 pub seen_noting : {E : Type 0} (result : Result (Unit {0}) E) (keys : BTreeSet (List ℕ)) (before after : List Fault → Type 0) (t : Told) (fault : Fault)
     → has_key keys t.pair.key ≡ true → fault ≡ repeat_fault t.pair → OnOk result (Notes before after (fault ∷ []))
     → OnOk result (NotesRepeats keys keys before after (t ∷ []))

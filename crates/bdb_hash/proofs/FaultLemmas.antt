@@ -1,7 +1,6 @@
 -- What is noted of a table's contents is each row at each page where it holds.
-use Rattle.std.proofs.Common.{◌≡◌, ℕ, ◌+◌, ◌≤◌, Bool, true, false, List, [], ◌∷◌, ◌++◌, map, arith, refl, sym, ◌∙◌, ap, subst, inl, inr}
+use Rattle.std.proofs.Common.{◌≡◌, ℕ, ◌+◌, Bool, true, false, List, [], ◌++◌, arith, refl, sym, subst, inl, inr}
 use Rattle.std.specs.List.{Contains, flat_map, range_with_len}
-use Rattle.std.proofs.lemmas.List.{map-append}
 use Rattle.std.proofs.lemmas.List.Elements.{Contains-append_cases, Contains-append_left, Contains-append_right}
 use Rattle.bdb_ranks.specs.of_image.Linked.{HasMetadata}
 use Rattle.bdb_ranks.specs.of_faults.Notes.{Notes, NotesAll}
@@ -9,77 +8,25 @@ use Rattle.bdb_ranks.proofs.of_faults.SinkLemmas.{notes_then}
 use Rattle.bdb_ranks.proofs.of_format.FaultLemmas.{same_parts}
 use Rattle.bdb_ranks.specs.of_format.declared.kinds.Fault.{Fault}
 use Rattle.bdb_ranks.specs.of_format.declared.metadata.HashMeta.{HashMeta}
-use Rattle.bdb_ranks.specs.of_format.ContentRows.{database_faults, database_rows, hash_contents, repeated}
-use Rattle.bdb_ranks.specs.of_format.Contents.{StoredPair, bucket_pages, bucket_pairs, pairs_of, table_pairs}
+use Rattle.bdb_ranks.specs.of_format.ContentRows.{database_faults, database_rows, repeated}
+use Rattle.bdb_ranks.specs.of_format.Contents.{StoredPair, bucket_pairs, table_pairs}
 use Rattle.bdb_ranks.specs.of_format.File.{File, file_of}
 use Rattle.bdb_ranks.specs.of_format.Page.{HashFields}
 use Rattle.bdb_ranks.specs.of_format.Verdict.{holding}
-use Rattle.bdb_ranks.proofs.of_format.MemberLemmas.{in_flat_map, in_map, no_member, of_flat_map, of_map, of_range}
-use Rattle.bdb_ranks.proofs.of_format.VerdictLemmas.{InOrder, in_by_page, of_by_page, table_in_order}
-use Rattle.bdb_ranks.proofs.of_format.RepeatLemmas.{of_repeated}
-use Rattle.bdb_hash.specs.Noted.{bucket_faults, has_stray, pair_faults, repeat_fault, repeat_faults, stored, stray_faults}
-use Rattle.bdb_buckets.specs.Told.{Told, bucket_told, joined_pages, page_told, table_told, told}
+use Rattle.bdb_ranks.proofs.of_format.MemberLemmas.{in_flat_map, in_map, no_member, of_flat_map, of_map}
+use Rattle.bdb_ranks.proofs.of_format.VerdictLemmas.{InOrder, of_by_page, table_in_order}
+use Rattle.bdb_hash.specs.Noted.{bucket_faults, has_stray, pair_faults, repeat_faults, stray_faults}
+use Rattle.bdb_buckets.specs.Repeat.{repeat_fault}
+use Rattle.bdb_buckets.specs.Told.{stored, Told, bucket_told, table_told, told}
 use Rattle.bdb_buckets.specs.Views.{IsTable}
-use Rattle.bdb_hash.proofs.NotedLemmas.{contents_fault}
-use Rattle.bdb_hash.proofs.PlainLemmas.{IsPlain, bucket_plain}
+use Rattle.bdb_buckets.proofs.ContentsLemmas.{contents_fault, codes_are, few_buckets, in_faults, repeat_in}
+use Rattle.bdb_buckets.proofs.PlainLemmas.{IsPlain, bucket_plain}
 use Rattle.bdb_hash.proofs.RepeatLemmas.{in_bucket, in_table}
-use Rattle.bdb_hash.proofs.RowLemmas.{ArePlain, buckets_of, page_holds, page_table, pair_faults_are, pair_holds, pair_table, repeat_holds}
-use Rattle.bdb_hash.proofs.RowLemmas.{repeat_row, rows_are, tests_of}
-
--- Told pairs.
-
-page_flat : (image : List ℕ) (ps : List ℕ) → joined_pages (map (page_told image) ps) ≡ map (told image) (flat_map (pairs_of (file_of image)) ps)
-page_flat image [] = refl
-page_flat image (p ∷ ps) = grind (arith, map-append, page_flat image ps)
-
--- the pairs of a bucket
-pub bucket_is : (image : List ℕ) (meta : HashMeta) (b : ℕ) → bucket_told image meta b ≡ map (told image) (bucket_pairs (file_of image) meta b)
-bucket_is image meta b = page_flat image (bucket_pages (file_of image) meta b)
-
-stored_told : (image : List ℕ) (pairs : List StoredPair) → stored (map (told image) pairs) ≡ pairs
-stored_told image [] = refl
-stored_told image (pair ∷ pairs) = ap (λ ps. pair ∷ ps) (stored_told image pairs)
-
-told_flat : (image : List ℕ) (meta : HashMeta) (bs : List ℕ)
-    → flat_map (bucket_told image meta) bs ≡ map (told image) (flat_map (bucket_pairs (file_of image) meta) bs)
-told_flat image meta [] = refl
-told_flat image meta (b ∷ bs) = grind (arith, bucket_is, map-append, told_flat image meta bs)
-
-pub table_is_told : (image : List ℕ) (meta : HashMeta) → table_told image meta ≡ map (told image) (table_pairs (file_of image) meta)
-unfolding table_pairs
-table_is_told image meta = told_flat image meta (buckets_of meta)
-
--- the pairs of a table
-pub table_stored : (image : List ℕ) (meta : HashMeta) → stored (table_told image meta) ≡ table_pairs (file_of image) meta
-table_stored image meta = ap stored (table_is_told image meta) ∙ stored_told image (table_pairs (file_of image) meta)
-
--- Which pairs there are.
-
-pub few_buckets : (meta : HashMeta) (b : ℕ) → Contains (buckets_of meta) b → b ≤ meta.max_bucket
-few_buckets meta b at = let within = of_range 0 (meta.max_bucket + 1) b at in omega (arith, within.1)
-
-pub table_plain : (image : List ℕ) (meta : HashMeta) → IsTable image → HasMetadata (file_of image) (HashFields meta)
-    → ArePlain (file_of image) (table_pairs (file_of image) meta)
-unfolding table_pairs
-table_plain image meta table has pair at =
-    let found = of_flat_map (bucket_pairs (file_of image) meta) (buckets_of meta) pair at in
-    bucket_plain image meta found.0 pair table has (few_buckets meta found.0 found.1) found.2
+use Rattle.bdb_buckets.proofs.TableLemmas.{bucket_is, table_stored}
+use Rattle.bdb_buckets.proofs.RowLemmas.{buckets_of, page_holds, pair_holds, pair_table, tests_of}
+use Rattle.bdb_hash.proofs.NotedLemmas.{pair_faults_are}
 
 -- The faults that are noted.
-
--- what holds at a page
-codes_are : (image : List ℕ) (meta : HashMeta) (p : ℕ) → IsTable image → HasMetadata (file_of image) (HashFields meta)
-    → holding (hash_contents (file_of image) meta p)
-    ≡ holding (page_table (bucket_pairs (file_of image) meta) (buckets_of meta) (tests_of (file_of image) meta) p
-    ++ (repeat_row (repeated (table_pairs (file_of image) meta)) p ∷ []))
-codes_are image meta p table has = ap holding (rows_are (file_of image) meta p (table_plain image meta table has))
-
-in_faults : (image : List ℕ) (meta : HashMeta) (page code : ℕ) → page ≤ (file_of image).last
-    → Contains (holding (hash_contents (file_of image) meta page)) code
-    → Contains (database_faults (file_of image) (HashFields meta)) (contents_fault page code)
-unfolding database_faults
-in_faults image meta page code low at = in_by_page 8 0 ((file_of image).last + 1) page code
-    (λ p. holding (database_rows (file_of image) (HashFields meta) p)) (omega arith) (omega arith) at
 
 -- a row that holds for a pair by itself is noted at its page
 own_in : (image : List ℕ) (meta : HashMeta) (b : ℕ) (fault : Fault) → IsTable image → HasMetadata (file_of image) (HashFields meta)
@@ -99,18 +46,6 @@ own_in image meta b fault table has listed at =
     (subst (λ codes. Contains codes code.0) (sym (codes_are image meta pair.0.page table has))
     (pair_holds (bucket_pairs file meta) (buckets_of meta) (tests_of file meta)
     (repeated (table_pairs file meta)) b pair.0 code.0 listed pair.1 code.1)))
-
--- so is a repeat of a key
-pub repeat_in : (image : List ℕ) (meta : HashMeta) (pair : StoredPair) → IsTable image → HasMetadata (file_of image) (HashFields meta)
-    → Contains (repeated (stored (table_told image meta))) pair
-    → Contains (database_faults (file_of image) (HashFields meta)) (repeat_fault pair)
-repeat_in image meta pair table has held =
-    let file : File = file_of image in
-    let again : Contains (repeated (table_pairs file meta)) pair = subst (λ ps. Contains (repeated ps) pair) (table_stored image meta) held in
-    let plain : IsPlain file pair = table_plain image meta table has pair (of_repeated (table_pairs file meta) pair again) in
-    in_faults image meta pair.page 9 plain.inside
-    (subst (λ codes. Contains codes 9) (sym (codes_are image meta pair.page table has))
-    (repeat_holds (bucket_pairs file meta) (buckets_of meta) (tests_of file meta) (repeated (table_pairs file meta)) pair again))
 
 -- a fault that was noted is one of the table's
 bucket_in : (image : List ℕ) (meta : HashMeta) (b : ℕ) (fault : Fault) → IsTable image → HasMetadata (file_of image) (HashFields meta)

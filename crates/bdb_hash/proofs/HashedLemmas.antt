@@ -1,6 +1,6 @@
 -- Pairs of a bucket whose keys have different hashes have different keys.
-use Rattle.std.proofs.Common.{◌≡◌, ◌≢◌, ℕ, zero, suc, ◌+◌, ◌-◌, ◌<◌, ◌≤◌, Bool, true, false, List, [], ◌∷◌, ◌++◌, map, length, get_or, arith, refl}
-use Rattle.std.proofs.Common.{sym, ◌∙◌, ap, subst}
+use Rattle.std.proofs.Common.{◌≡◌, ◌≢◌, ℕ, zero, suc, ◌+◌, ◌-◌, ◌<◌, ◌≤◌, Bool, true, false}
+use Rattle.std.proofs.Common.{List, [], ◌∷◌, ◌++◌, map, length, get_or, arith, refl, sym, ◌∙◌, ap, subst}
 use Rattle.std.specs.Prelude.{nat_eq, slice_index}
 use Rattle.std.specs.BTreeSet.{BTreeSet}
 use Rattle.std.specs.List.{AllPairs, Contains, IsDistinct, flat_map, range_with_len}
@@ -23,9 +23,10 @@ use Rattle.bdb_ranks.specs.of_format.Hashing.{hash5}
 use Rattle.bdb_ranks.proofs.of_format.MemberLemmas.{first_member, in_map, later_member, of_map}
 use Rattle.bdb_ranks.proofs.of_format.RepeatLemmas.{repeated_after, repeated_is}
 use Rattle.bdb_ranks.proofs.of_format.LessLemmas.{eq_same}
-use Rattle.bdb_hash.specs.Noted.{repeat_fault, repeat_faults, stored}
+use Rattle.bdb_buckets.specs.Repeat.{repeat_fault}
+use Rattle.bdb_hash.specs.Noted.{repeat_faults}
+use Rattle.bdb_buckets.specs.Told.{stored, Told, bucket_told, joined_pages, page_told}
 use Rattle.bdb_hash.specs.Passed.{is_among, is_missed, key_hash}
-use Rattle.bdb_buckets.specs.Told.{Told, bucket_told, joined_pages, page_told}
 use Rattle.bdb_hash.proofs.RepeatLemmas.{has_same}
 use Rattle.bdb_buckets.proofs.TableLemmas.{told_more}
 use Rattle.bdb_ranks.proofs.of_faults.SinkLemmas.{notes_nothing}

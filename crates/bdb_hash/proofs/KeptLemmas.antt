@@ -1,6 +1,5 @@
 -- Pairs whose hash no other pair has repeat no key, and need not be kept.
-use Rattle.std.proofs.Common.{arith}
-use Rattle.std.proofs.Common.{◌≡◌, ℕ, ◌+◌, Bool, true, false, not, ◌&&◌, ◌||◌, cond, List, [], ◌∷◌, ◌++◌, map, refl, sym, ◌∙◌, ap, subst}
+use Rattle.std.proofs.Common.{arith, ◌≡◌, ℕ, ◌+◌, Bool, true, false, not, ◌&&◌, ◌||◌, cond, List, [], ◌∷◌, ◌++◌, map, refl, sym, ◌∙◌, ap, subst}
 use Rattle.std.specs.Prelude.{nat_eq}
 use Rattle.std.specs.BTreeSet.{BTreeSet, IsEmpty}
 use Rattle.std.specs.List.{Contains, IsDistinct, filter, flat_map, range_with_len}
@@ -17,9 +16,10 @@ use Rattle.bdb_ranks.proofs.of_format.MemberLemmas.{first_member, in_map, later_
 use Rattle.bdb_ranks.proofs.of_format.RepeatLemmas.{has_key as has_this, repeated_after, repeated_is}
 use Rattle.bdb_ranks.proofs.of_format.LessLemmas.{eq_same}
 use Rattle.bdb_buckets.specs.Chained.{AreOf, Seen}
-use Rattle.bdb_hash.specs.Noted.{repeat_fault, repeat_faults, stored}
+use Rattle.bdb_buckets.specs.Repeat.{repeat_fault}
+use Rattle.bdb_hash.specs.Noted.{repeat_faults}
+use Rattle.bdb_buckets.specs.Told.{stored, Told, bucket_told, joined_pages, page_told}
 use Rattle.bdb_hash.specs.Passed.{IsNoting, NotesRepeats, is_among, is_kept, is_missed, key_hash}
-use Rattle.bdb_buckets.specs.Told.{Told, bucket_told, joined_pages, page_told}
 use Rattle.bdb_hash.proofs.ChainedLemmas.{rest_of, first_of, first_page_of, other_pages_of, bucket_of_file}
 use Rattle.bdb_hash.proofs.RepeatLemmas.{all_noting, both_noted, more_noting, none_noting, noted_anew, none_noted}
 use Rattle.bdb_buckets.proofs.TableLemmas.{told_more}

@@ -1,14 +1,16 @@
 -- What is noted, one fault after another.
+use Rattle.bdb_ranks.specs.of_format.declared.metadata.HashMeta.{HashMeta}
+use Rattle.bdb_ranks.specs.of_format.File.{file_of}
+use Rattle.bdb_buckets.specs.Told.{Told}
+use Rattle.bdb_buckets.proofs.ContentsLemmas.{contents_fault}
+use Rattle.bdb_buckets.proofs.RowLemmas.{pair_table, tests_of}
+use Rattle.bdb_hash.specs.Noted.{pair_faults}
 use Rattle.std.proofs.Common.{◌≡◌, ℕ, Bool, true, false, [], ◌∷◌, ◌++◌, map, refl}
 use Rattle.bdb_ranks.specs.of_faults.Rows.{fault_if}
 use Rattle.bdb_ranks.specs.of_faults.declared.rows.Row.TheVariants.{Contents}
-use Rattle.bdb_ranks.specs.of_format.declared.kinds.Fault.{Fault}
 use Rattle.bdb_ranks.specs.of_format.Table.{◌:?◌}
 use Rattle.bdb_ranks.specs.of_format.Verdict.{holding}
 use Rattle.bdb_ranks.specs.of_faults.declared.rows.ContentsRow.TheVariants.{Duplicates, DuplicateKind, DuplicateOrder, Bucket}
-
-abbrev pub contents_fault : ℕ → ℕ → Fault
-contents_fault page code = record { stage = 8; page = page; code = code }
 
 -- the faults of a pair are those of the rows that hold
 pub rows_noted : (page : ℕ) (a b c d : Bool)
@@ -31,3 +33,8 @@ rows_noted page false false true true = refl
 rows_noted page false false true false = refl
 rows_noted page false false false true = refl
 rows_noted page false false false false = refl
+
+-- the faults of a pair by itself are those of the tests that hold
+pub pair_faults_are : (meta : HashMeta) (b : ℕ) (t : Told)
+    → pair_faults meta b t ≡ map (contents_fault t.pair.page) (holding (pair_table (tests_of (file_of t.image) meta) b t.pair))
+pair_faults_are meta b t = rows_noted t.pair.page _ _ _ _

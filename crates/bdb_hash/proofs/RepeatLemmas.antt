@@ -1,6 +1,6 @@
 -- Where each key is in its own bucket, the pairs that repeat a key are those of each bucket, one bucket after another.
-use Rattle.std.proofs.Common.{◌≡◌, ℕ, zero, suc, ◌+◌, ◌≤◌, ◌<◌, Bool, true, false, ◌||◌, cond, List, [], ◌∷◌, ◌++◌, map, arith}
-use Rattle.std.proofs.Common.{refl, sym, ◌∙◌, ap, subst, not, inl, inr, append-nil, append_assoc}
+use Rattle.std.proofs.Common.{◌≡◌, ℕ, zero, suc, ◌+◌, ◌≤◌, ◌<◌, Bool, true, false, ◌||◌, cond, List, []}
+use Rattle.std.proofs.Common.{◌∷◌, ◌++◌, map, arith, refl, sym, ◌∙◌, ap, subst, not, inl, inr, append-nil, append_assoc}
 use Rattle.std.specs.Prelude.{◌==◌}
 use Rattle.std.specs.BTreeSet.{BTreeSet, IsEmpty, Updates}
 use Rattle.std.specs.Cmp.Lexicographic.{slice_cmp}
@@ -26,11 +26,12 @@ use Rattle.bdb_ranks.specs.of_format.Contents.{StoredPair}
 use Rattle.bdb_ranks.proofs.of_format.MemberLemmas.{filter_step, first_member, later_member, member_cases, no_member, none_passes, of_flat_map, of_map, of_range}
 use Rattle.bdb_ranks.proofs.of_format.RepeatLemmas.{has_key as has_this, repeated_after, repeated_is}
 use Rattle.bdb_ranks.proofs.of_format.LessLemmas.{eq_same}
-use Rattle.bdb_hash.specs.Noted.{has_stray, has_stray_in, is_stray, repeat_fault, repeat_faults, stored}
-use Rattle.bdb_hash.specs.Passed.{AreKeysOf, IsNoting, NotesRepeats, behind, key_of}
-use Rattle.bdb_buckets.specs.Told.{Told, bucket_told, table_told}
+use Rattle.bdb_hash.specs.Noted.{has_stray, has_stray_in, is_stray, repeat_faults}
+use Rattle.bdb_buckets.specs.Repeat.{repeat_fault}
+use Rattle.bdb_buckets.specs.Told.{stored, key_of, Told, bucket_told, table_told}
+use Rattle.bdb_hash.specs.Passed.{AreKeysOf, IsNoting, NotesRepeats, behind}
 use Rattle.bdb_ranks.specs.of_faults.declared.rows.ContentsRow.TheVariants.{KeyTwice}
-use Rattle.bdb_hash.proofs.RowLemmas.{buckets_of}
+use Rattle.bdb_buckets.proofs.RowLemmas.{buckets_of}
 use Rattle.bdb_ranks.proofs.of_faults.SinkLemmas.{notes_nothing, notes_then}
 use Rattle.bdb_hash.proofs.ChainedLemmas.{first_of, rest_of, first_page_of, other_pages_of}
 

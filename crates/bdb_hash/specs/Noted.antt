@@ -1,17 +1,18 @@
 -- The faults of a table's contents in the order in which they are noted, bucket by bucket. Source: docs/FORMAT.md, "Stage 8, contents".
 use Rattle.std.specs.Prelude.{ℕ, ◌==◌, ◌&&◌, not, if◌then◌else◌, Bool, List, [], map, ◌+◌, ◌++◌}
 use Rattle.std.specs.List.{flat_map, list_any, range_with_len}
-use Rattle.bdb_ranks.specs.of_faults.Rows.{fault_at, fault_if}
-use Rattle.bdb_ranks.specs.of_faults.declared.rows.ContentsRow.TheVariants.{Duplicates, DuplicateKind, DuplicateOrder, Bucket, KeyTwice}
+use Rattle.bdb_ranks.specs.of_faults.Rows.{fault_if}
+use Rattle.bdb_ranks.specs.of_faults.declared.rows.ContentsRow.TheVariants.{Duplicates, DuplicateKind, DuplicateOrder, Bucket}
 use Rattle.bdb_ranks.specs.of_faults.declared.rows.Row.TheVariants.{Contents}
 use Rattle.bdb_ranks.specs.of_format.declared.kinds.Fault.{Fault}
 use Rattle.bdb_ranks.specs.of_format.declared.metadata.HashMeta.{HashMeta}
 use Rattle.bdb_ranks.specs.of_format.ContentRows.{ascends, bucket_of_key, is_duplicate, is_wrong_set, repeated}
-use Rattle.bdb_ranks.specs.of_format.Contents.{StoredPair, data_of}
+use Rattle.bdb_ranks.specs.of_format.Contents.{data_of}
 use Rattle.bdb_ranks.specs.of_format.File.{file_of}
 use Rattle.bdb_ranks.specs.of_format.Flags.{has_duplicates, is_sorted}
 use Rattle.bdb_ranks.specs.of_format.Page.{HashFields}
-use Rattle.bdb_buckets.specs.Told.{Told, bucket_told, table_told}
+use Rattle.bdb_buckets.specs.Repeat.{repeat_fault}
+use Rattle.bdb_buckets.specs.Told.{stored, Told, bucket_told, table_told}
 
 -- a stray: a pair of this bucket that isn't in the bucket of its key
 abbrev pub is_stray : HashMeta → ℕ → Told → Bool
@@ -40,13 +41,6 @@ told_faults meta stray told =
 -- the faults of a pair of a bucket by itself
 abbrev pub pair_faults : HashMeta → ℕ → Told → List Fault
 pair_faults meta b told = told_faults meta (is_stray meta b told) told
-
--- a pair that has the key of an earlier one
-abbrev pub repeat_fault : StoredPair → Fault
-repeat_fault pair = fault_at (Contents KeyTwice) pair.page
-
-abbrev pub stored : List Told → List StoredPair
-stored pairs = map (λ (told : Told). told.pair) pairs
 
 -- the faults of those of these pairs that have the key of an earlier one of them
 abbrev pub repeat_faults : List Told → List Fault

@@ -9,8 +9,9 @@ use Rattle.bdb_ranks.specs.of_format.declared.kinds.Fault.{Fault}
 use Rattle.bdb_ranks.specs.of_format.declared.metadata.HashMeta.{HashMeta}
 use Rattle.bdb_ranks.specs.of_format.Contents.{StoredPair}
 use Rattle.bdb_ranks.specs.of_format.Hashing.{hash5}
-use Rattle.bdb_hash.specs.Noted.{is_stray, pair_faults, repeat_fault, stored}
-use Rattle.bdb_buckets.specs.Told.{Told}
+use Rattle.bdb_hash.specs.Noted.{is_stray, pair_faults}
+use Rattle.bdb_buckets.specs.Repeat.{repeat_fault}
+use Rattle.bdb_buckets.specs.Told.{stored, key_of, Told}
 use Rattle.bdb_hash.specs.declared.passed.Passed.{Passed}
 
 -- the hash of a pair's key
@@ -28,9 +29,6 @@ pub record IsPassing (meta : HashMeta) (b : ℕ) (before after : List Fault → 
   pub done : List Told
   pub whole : all ≡ done ++ left
   pub passes : Passes meta b before after old new done
-
-abbrev pub key_of : StoredPair → List ℕ
-key_of pair = pair.key
 
 -- the keys are those of these pairs
 abbrev pub AreKeysOf : BTreeSet (List ℕ) → List StoredPair → Type 0

@@ -8,25 +8,25 @@ use Rattle.std.proofs.lemmas.Bool.{cases_lt}
 use Rattle.std.proofs.lemmas.Grind.{reverse_onto}
 use Rattle.std.proofs.lemmas.List.{get_or_past, length-reverse}
 use Rattle.std.proofs.lemmas.List.Elements.{All-append, All-cons, All-contains, All-drop, All-head, All-nil, All-tail, All-take, Contains-get_or}
-use Rattle.bdb_file.specs.of_format.declared.kinds.Order.{Order}
-use Rattle.bdb_file.specs.of_format.declared.kinds.Order.TheVariants.{Big, Little}
-use Rattle.bdb_file.specs.of_format.declared.metadata.HashMeta.{HashMeta}
-use Rattle.bdb_file.specs.of_format.Chains.{chain, joined, piece_in, pieces_of, value_of}
-use Rattle.bdb_file.specs.of_format.Contents.{StoredPair, bucket_pages, bucket_pairs, data_of, entries_in, live_values, pair_at, pairs_in, pairs_of}
-use Rattle.bdb_file.specs.of_format.Contents.{table_pairs, tree_entries, tree_pairs}
-use Rattle.bdb_file.specs.of_format.ContentRows.{live_data}
-use Rattle.bdb_file.specs.of_format.File.{File, file_of, page_at, page_bytes}
-use Rattle.bdb_file.specs.of_format.HeadOf.{head_of}
-use Rattle.bdb_file.specs.of_format.Leaves.{leaves}
-use Rattle.bdb_file.specs.of_format.Numbers.{byte_at, four_at, from_low_end, number, number_at, two_at}
-use Rattle.bdb_file.specs.of_format.Page.{Content, Chain, Inline, Item, Listed, Set, Tree, Unknown, Page, PageType, HashPage, LeafPage, RecnoLeafPage}
-use Rattle.bdb_file.specs.of_format.Page.{DupLeafPage, OverflowPage, QueuePage, Hash, Leaf, RecnoLeaf, DupLeaf, Overflow, Queue, Zero}
-use Rattle.bdb_file.specs.of_format.Reading.{abstract_page, blocks_in, blocks_of, hash_end, hash_item_at, is_zero, kind_at, leaf_item_at, listed, offset_of}
-use Rattle.bdb_file.specs.of_format.Reading.{page_as, page_type}
-use Rattle.bdb_file.specs.of_format.References.{is_shared_key, item_at, no_item}
-use Rattle.bdb_file.proofs.of_format.ListLemmas.{all_of, only_member}
-use Rattle.bdb_file.proofs.of_format.MemberLemmas.{no_member, of_filter, of_flat_map, of_map}
-use Rattle.bdb_file.proofs.of_format.FileLemmas.{last_page, page_is, past_last}
+use Rattle.bdb_databases.specs.of_format.declared.kinds.Order.{Order}
+use Rattle.bdb_databases.specs.of_format.declared.kinds.Order.TheVariants.{Big, Little}
+use Rattle.bdb_databases.specs.of_format.declared.metadata.HashMeta.{HashMeta}
+use Rattle.bdb_databases.specs.of_format.Chains.{chain, joined, piece_in, pieces_of, value_of}
+use Rattle.bdb_databases.specs.of_format.Contents.{StoredPair, bucket_pages, bucket_pairs, data_of, entries_in, live_values, pair_at, pairs_in, pairs_of}
+use Rattle.bdb_databases.specs.of_format.Contents.{table_pairs, tree_entries, tree_pairs}
+use Rattle.bdb_databases.specs.of_format.ContentRows.{live_data}
+use Rattle.bdb_databases.specs.of_format.File.{File, file_of, page_at, page_bytes}
+use Rattle.bdb_databases.specs.of_format.HeadOf.{head_of}
+use Rattle.bdb_databases.specs.of_format.Leaves.{leaves}
+use Rattle.bdb_databases.specs.of_format.Numbers.{byte_at, four_at, from_low_end, number, number_at, two_at}
+use Rattle.bdb_databases.specs.of_format.Page.{Content, Chain, Inline, Item, Listed, Set, Tree, Unknown, Page, PageType, HashPage, LeafPage, RecnoLeafPage}
+use Rattle.bdb_databases.specs.of_format.Page.{DupLeafPage, OverflowPage, QueuePage, Hash, Leaf, RecnoLeaf, DupLeaf, Overflow, Queue, Zero}
+use Rattle.bdb_databases.specs.of_format.Reading.{abstract_page, blocks_in, blocks_of, hash_end, hash_item_at, is_zero, kind_at, leaf_item_at, listed, offset_of}
+use Rattle.bdb_databases.specs.of_format.Reading.{page_as, page_type}
+use Rattle.bdb_databases.specs.of_format.References.{is_shared_key, item_at, no_item}
+use Rattle.bdb_databases.proofs.of_format.ListLemmas.{all_of, only_member}
+use Rattle.bdb_databases.proofs.of_format.MemberLemmas.{no_member, of_filter, of_flat_map, of_map}
+use Rattle.bdb_databases.proofs.of_format.FileLemmas.{last_page, page_is, past_last}
 use Rattle.bdb_text.specs.WrittenLaw.{AreBytes}
 
 -- Numbers.

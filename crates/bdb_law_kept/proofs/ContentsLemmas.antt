@@ -3,34 +3,34 @@ use Rattle.std.proofs.Common.{◌≡◌, ℕ, ◌+◌, ◌≤◌, Bool, true, fa
 use Rattle.std.specs.Prelude.{◌&&◌, ◌==◌}
 use Rattle.std.specs.List.{Contains, flat_map, range_with_len}
 use Rattle.std.proofs.lemmas.Bool.{eq-eqb, true≢false}
-use Rattle.bdb_file.specs.of_format.declared.kinds.Order.{Order}
-use Rattle.bdb_file.specs.of_format.declared.metadata.BtreeMeta.{BtreeMeta}
-use Rattle.bdb_file.specs.of_format.declared.metadata.HashMeta.{HashMeta}
-use Rattle.bdb_file.specs.of_format.declared.settings.Settings.{Settings}
-use Rattle.bdb_file.specs.of_format.ContentRows.{btree_contents, database_faults, database_rows, repeated}
-use Rattle.bdb_file.specs.of_format.Contents.{StoredPair, bucket_pairs, table_pairs, tree_pairs}
-use Rattle.bdb_file.specs.of_format.Databases.{btree_settings, hash_settings, recno_settings, settings_of}
-use Rattle.bdb_file.specs.of_format.File.{File, file_of}
-use Rattle.bdb_file.specs.of_format.Flags.{is_recno}
-use Rattle.bdb_file.specs.of_format.Lists.{ListKey, btree_list, by_key, hash_list, list_of, listed_pair, recno_list}
-use Rattle.bdb_file.specs.of_format.Page.{BtreeFields, HashFields, Metadata, QueueFields}
-use Rattle.bdb_file.specs.of_format.Verdict.{holding, structure_faults}
-use Rattle.bdb_file.proofs.of_format.MemberLemmas.{is_empty, none_passes, of_flat_map, of_range}
-use Rattle.bdb_file.proofs.of_format.PairLemmas.{keyed_rows}
-use Rattle.bdb_file.proofs.of_format.RepeatLemmas.{of_repeated, repeated_is}
-use Rattle.bdb_file.proofs.of_format.VerdictLemmas.{AllFail, all_fail, no_codes_at}
-use Rattle.bdb_file.specs.of_image.Linked.{HasMetadata, IsForest}
-use Rattle.bdb_file.proofs.of_btree.FallLemmas.{tree_keys}
-use Rattle.bdb_file.proofs.of_tree.PairLemmas.{tree_pair_inside}
-use Rattle.bdb_file.proofs.of_hash.PlainLemmas.{IsPlain, bucket_plain}
-use Rattle.bdb_file.proofs.of_buckets.TableLemmas.{table_is}
+use Rattle.bdb_databases.specs.of_format.declared.kinds.Order.{Order}
+use Rattle.bdb_databases.specs.of_format.declared.metadata.BtreeMeta.{BtreeMeta}
+use Rattle.bdb_databases.specs.of_format.declared.metadata.HashMeta.{HashMeta}
+use Rattle.bdb_databases.specs.of_format.declared.settings.Settings.{Settings}
+use Rattle.bdb_databases.specs.of_format.ContentRows.{btree_contents, database_faults, database_rows, repeated}
+use Rattle.bdb_databases.specs.of_format.Contents.{StoredPair, bucket_pairs, table_pairs, tree_pairs}
+use Rattle.bdb_databases.specs.of_format.Databases.{btree_settings, hash_settings, recno_settings, settings_of}
+use Rattle.bdb_databases.specs.of_format.File.{File, file_of}
+use Rattle.bdb_databases.specs.of_format.Flags.{is_recno}
+use Rattle.bdb_databases.specs.of_format.Lists.{ListKey, btree_list, by_key, hash_list, list_of, listed_pair, recno_list}
+use Rattle.bdb_databases.specs.of_format.Page.{BtreeFields, HashFields, Metadata, QueueFields}
+use Rattle.bdb_databases.specs.of_format.Verdict.{holding, structure_faults}
+use Rattle.bdb_databases.proofs.of_format.MemberLemmas.{is_empty, none_passes, of_flat_map, of_range}
+use Rattle.bdb_databases.proofs.of_format.PairLemmas.{keyed_rows}
+use Rattle.bdb_databases.proofs.of_format.RepeatLemmas.{of_repeated, repeated_is}
+use Rattle.bdb_databases.proofs.of_format.VerdictLemmas.{AllFail, all_fail, no_codes_at}
+use Rattle.bdb_databases.specs.of_image.Linked.{HasMetadata, IsForest}
+use Rattle.bdb_databases.proofs.of_btree.FallLemmas.{tree_keys}
+use Rattle.bdb_databases.proofs.of_tree.PairLemmas.{tree_pair_inside}
+use Rattle.bdb_databases.proofs.of_buckets.PlainLemmas.{IsPlain, bucket_plain}
+use Rattle.bdb_databases.proofs.of_buckets.TableLemmas.{table_is}
 use Rattle.bdb_settle.specs.of_text_format.Written.{holds_records}
 use Rattle.bdb_law_kept.proofs.KeyedLemmas.{GoesBefore, HasFitData, NoRowHolds, fit_data, in_order, of_by_key, of_listed, pairs_go, pairs_ordered}
 use Rattle.bdb_law_kept.proofs.KeyedLemmas.{table_goes}
 use Rattle.bdb_law_kept.proofs.LaterLemmas.{AllLater}
 use Rattle.bdb_law_kept.proofs.NumberedLemmas.{IsKeptList, IsNotZero, queue_kept, recno_kept}
-use Rattle.bdb_file.proofs.NameOrderLemmas.{keys_kept}
-use Rattle.bdb_file.proofs.of_hash.LookupLemmas.{all_fail_at as table_fails}
+use Rattle.bdb_databases.proofs.NameOrderLemmas.{keys_kept}
+use Rattle.bdb_databases.proofs.of_hash_list.LookupLemmas.{all_fail_at as table_fails}
 
 -- pairs that go in order, with fit data, give a kept list
 pairs_kept : (settings : Settings) (file : File) (pairs : List StoredPair) → holds_records settings.kind ≡ false → settings.fixed ≡ false

@@ -3,22 +3,22 @@ use Rattle.std.proofs.Common.{◌≡◌, ℕ, suc, Bool, true, false, not, cond,
 use Rattle.std.specs.Prelude.{◌&&◌, ◌||◌, ◌==◌, is_some, unwrap_or}
 use Rattle.std.specs.List.{All, Contains, flat_map, fold}
 use Rattle.std.proofs.lemmas.List.Elements.{All-head, All-tail}
-use Rattle.bdb_file.specs.of_format.declared.kinds.Kind.{Kind}
-use Rattle.bdb_file.specs.of_format.declared.kinds.Kind.TheVariants.{Btree, Recno, Hash, Queue}
-use Rattle.bdb_file.specs.of_format.declared.kinds.Order.{Order}
-use Rattle.bdb_file.specs.of_format.declared.metadata.BtreeMeta.{BtreeMeta}
-use Rattle.bdb_file.specs.of_format.declared.settings.Settings.{Settings}
-use Rattle.bdb_file.specs.of_format.ContentRows.{ascends, fields_in}
-use Rattle.bdb_file.specs.of_format.Master.{master_in}
-use Rattle.bdb_file.proofs.NamedLemmas.{with_name}
-use Rattle.bdb_file.specs.of_format.Databases.{Database, btree_settings, databases, databases_under, recno_settings, settings_of}
-use Rattle.bdb_file.specs.of_format.File.{File, file_of, page_at}
-use Rattle.bdb_file.specs.of_format.Flags.{is_recno}
-use Rattle.bdb_file.specs.of_format.HeadOf.{head_of}
-use Rattle.bdb_file.specs.of_format.Lists.{list_of}
-use Rattle.bdb_file.specs.of_format.Page.{BtreeFields, HashFields, Meta, Metadata, Page, QueueFields}
-use Rattle.bdb_file.proofs.of_format.ListLemmas.{all_of}
-use Rattle.bdb_file.proofs.of_format.MemberLemmas.{first_member, later_member, of_map}
+use Rattle.bdb_databases.specs.of_format.declared.kinds.Kind.{Kind}
+use Rattle.bdb_databases.specs.of_format.declared.kinds.Kind.TheVariants.{Btree, Recno, Hash, Queue}
+use Rattle.bdb_databases.specs.of_format.declared.kinds.Order.{Order}
+use Rattle.bdb_databases.specs.of_format.declared.metadata.BtreeMeta.{BtreeMeta}
+use Rattle.bdb_databases.specs.of_format.declared.settings.Settings.{Settings}
+use Rattle.bdb_databases.specs.of_format.ContentRows.{ascends, fields_in}
+use Rattle.bdb_databases.specs.of_format.Master.{master_in}
+use Rattle.bdb_databases.proofs.NamedLemmas.{with_name}
+use Rattle.bdb_databases.specs.of_format.Databases.{Database, btree_settings, databases, databases_under, recno_settings, settings_of}
+use Rattle.bdb_databases.specs.of_format.File.{File, file_of, page_at}
+use Rattle.bdb_databases.specs.of_format.Flags.{is_recno}
+use Rattle.bdb_databases.specs.of_format.HeadOf.{head_of}
+use Rattle.bdb_databases.specs.of_format.Lists.{list_of}
+use Rattle.bdb_databases.specs.of_format.Page.{BtreeFields, HashFields, Meta, Metadata, Page, QueueFields}
+use Rattle.bdb_databases.proofs.of_format.ListLemmas.{all_of}
+use Rattle.bdb_databases.proofs.of_format.MemberLemmas.{first_member, later_member, of_map}
 use Rattle.bdb_settle.specs.of_text_format.declared.pairs.TextPair.{TextPair}
 use Rattle.bdb_settle.specs.of_text_format.declared.sections.Section.{Section}
 use Rattle.bdb_settle.specs.of_text_format.LineEnd.{line}

@@ -3,11 +3,11 @@ use Rattle.std.proofs.Common.{◌≡◌, ℕ, ◌^◌, ◌<◌, Bool, true, fals
 use Rattle.std.proofs.Common.{ap, subst, true≢false}
 use Rattle.std.specs.Prelude.{◌&&◌, ◌||◌, ◌==◌, decimal}
 use Rattle.std.proofs.lemmas.Bool.{and_parts}
-use Rattle.bdb_file.specs.of_format.declared.kinds.Kind.{Kind}
-use Rattle.bdb_file.specs.of_format.declared.kinds.Kind.TheVariants.{Btree, Recno, Hash, Queue}
-use Rattle.bdb_file.specs.of_format.declared.kinds.Order.{Order}
-use Rattle.bdb_file.specs.of_format.declared.kinds.Order.TheVariants.{Big, Little}
-use Rattle.bdb_file.specs.of_format.declared.settings.Settings.{Settings}
+use Rattle.bdb_databases.specs.of_format.declared.kinds.Kind.{Kind}
+use Rattle.bdb_databases.specs.of_format.declared.kinds.Kind.TheVariants.{Btree, Recno, Hash, Queue}
+use Rattle.bdb_databases.specs.of_format.declared.kinds.Order.{Order}
+use Rattle.bdb_databases.specs.of_format.declared.kinds.Order.TheVariants.{Big, Little}
+use Rattle.bdb_databases.specs.of_format.declared.settings.Settings.{Settings}
 use Rattle.std.proofs.lemmas.List.{append_cancel_right}
 use Rattle.std.proofs.Math.Bool.{and-false}
 use Rattle.bdb_settle.specs.of_text_format.Header.{entries, given, is_value}

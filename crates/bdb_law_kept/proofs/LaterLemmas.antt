@@ -2,7 +2,7 @@
 use Rattle.std.proofs.Common.{ℕ, zero, suc, ◌+◌, ◌<◌, ◌≤◌, List, [], ◌∷◌, ◌++◌, length, map, arith, refl, subst, inl, inr}
 use Rattle.std.specs.List.{Contains, enumerate_from, flat_map, range_with_len}
 use Rattle.std.proofs.lemmas.List.Elements.{Contains-append_cases}
-use Rattle.bdb_file.proofs.of_format.MemberLemmas.{first_member, later_member, member_cases, no_member, of_flat_map, of_map, of_range}
+use Rattle.bdb_databases.proofs.of_format.MemberLemmas.{first_member, later_member, member_cases, no_member, of_flat_map, of_map, of_range}
 
 -- each is so related to all later ones
 abbrev pub AllLater : {X : Type 0} → (X → X → Type 0) → List X → Type 0

@@ -11,6 +11,7 @@ pub mod WrittenLemmas
 pub mod HeaderLemmas
 pub mod SectionLemmas
 pub mod DumpLemmas
-pub use Rattle.bdb_file.proofs.of_btree as of_btree
-pub use Rattle.bdb_file.proofs as of_file
+pub use Rattle.bdb_databases.proofs.of_btree as of_btree
+pub use Rattle.bdb_databases.proofs as of_databases
+pub use Rattle.bdb_databases.proofs.of_rows as of_rows
 pub use Rattle.bdb_text.proofs as of_text

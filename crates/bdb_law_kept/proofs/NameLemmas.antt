@@ -4,29 +4,29 @@ use Rattle.std.specs.Prelude.{is_some, unwrap_or}
 use Rattle.std.specs.List.{Contains}
 use Rattle.std.specs.Str.{bytes_eq}
 use Rattle.std.proofs.lemmas.Bool.{false_from_ne_true}
-use Rattle.bdb_file.specs.of_format.declared.kinds.Kind.TheVariants.{Queue}
-use Rattle.bdb_file.specs.of_format.declared.metadata.BtreeMeta.{BtreeMeta}
-use Rattle.bdb_file.specs.of_format.declared.metadata.QueueMeta.{QueueMeta}
-use Rattle.bdb_file.specs.of_format.declared.metadata.FileKind.TheVariants.{Queue as QueueFile}
-use Rattle.bdb_file.specs.of_format.ContentRows.{fields_in}
-use Rattle.bdb_file.specs.of_format.Databases.{Database, btree_settings, database_on, databases, databases_under, is_name, named_database, recno_settings}
-use Rattle.bdb_file.specs.of_format.File.{File, file_of, page_at, page_bytes}
-use Rattle.bdb_file.specs.of_format.Flags.{is_recno}
-use Rattle.bdb_file.specs.of_format.HeadOf.{head_of}
-use Rattle.bdb_file.specs.of_format.Less.{less}
-use Rattle.bdb_file.specs.of_format.Master.{master_in, master_pairs, named_by}
-use Rattle.bdb_file.specs.of_format.Numbers.{byte_at}
-use Rattle.bdb_file.specs.of_format.Page.{BtreeFields, HashFields, Meta, Metadata, Page, QueueFields}
-use Rattle.bdb_file.proofs.of_format.GraphLemmas.{type_fits}
-use Rattle.bdb_file.proofs.of_format.ListLemmas.{only_member}
-use Rattle.bdb_file.proofs.of_format.LessLemmas.{eq_same, less_self}
-use Rattle.bdb_file.proofs.of_format.MemberLemmas.{first_member, in_map, later_member, no_member, none_pass, of_flat_map, of_map}
-use Rattle.bdb_file.specs.of_image.Linked.{HasMetadata}
-use Rattle.bdb_file.proofs.of_image.CodeLemmas.{not_zero}
-use Rattle.bdb_file.proofs.of_image.MetaLemmas.{zero_number}
-use Rattle.bdb_file.proofs.of_graph.ReadLemmas.{IsMetaPage, page_of_meta}
-use Rattle.bdb_file.proofs.NamedLemmas.{with_name}
-use Rattle.bdb_file.proofs.NameOrderLemmas.{names_ascend}
+use Rattle.bdb_databases.specs.of_format.declared.kinds.Kind.TheVariants.{Queue}
+use Rattle.bdb_databases.specs.of_format.declared.metadata.BtreeMeta.{BtreeMeta}
+use Rattle.bdb_databases.specs.of_format.declared.metadata.QueueMeta.{QueueMeta}
+use Rattle.bdb_databases.specs.of_format.declared.metadata.FileKind.TheVariants.{Queue as QueueFile}
+use Rattle.bdb_databases.specs.of_format.ContentRows.{fields_in}
+use Rattle.bdb_databases.specs.of_format.Databases.{Database, btree_settings, database_on, databases, databases_under, is_name, named_database, recno_settings}
+use Rattle.bdb_databases.specs.of_format.File.{File, file_of, page_at, page_bytes}
+use Rattle.bdb_databases.specs.of_format.Flags.{is_recno}
+use Rattle.bdb_databases.specs.of_format.HeadOf.{head_of}
+use Rattle.bdb_databases.specs.of_format.Less.{less}
+use Rattle.bdb_databases.specs.of_format.Master.{master_in, master_pairs, named_by}
+use Rattle.bdb_databases.specs.of_format.Numbers.{byte_at}
+use Rattle.bdb_databases.specs.of_format.Page.{BtreeFields, HashFields, Meta, Metadata, Page, QueueFields}
+use Rattle.bdb_databases.proofs.of_format.GraphLemmas.{type_fits}
+use Rattle.bdb_databases.proofs.of_format.ListLemmas.{only_member}
+use Rattle.bdb_databases.proofs.of_format.LessLemmas.{eq_same, less_self}
+use Rattle.bdb_databases.proofs.of_format.MemberLemmas.{first_member, in_map, later_member, no_member, none_pass, of_flat_map, of_map}
+use Rattle.bdb_databases.specs.of_image.Linked.{HasMetadata}
+use Rattle.bdb_databases.proofs.of_image.CodeLemmas.{not_zero}
+use Rattle.bdb_databases.proofs.of_image.MetaLemmas.{zero_number}
+use Rattle.bdb_databases.proofs.of_graph.ReadLemmas.{IsMetaPage, page_of_meta}
+use Rattle.bdb_databases.proofs.NamedLemmas.{with_name}
+use Rattle.bdb_databases.proofs.NameOrderLemmas.{names_ascend}
 use Rattle.bdb_text.specs.WrittenLaw.{AreNamedApart, CanStandTogether}
 use Rattle.bdb_law_kept.specs.Kept.{AreInOrderOfNames, CanAllStandTogether, IsSound, QueuesStandAlone, bytes_of_name, settings_in}
 use Rattle.bdb_law_kept.proofs.KeyedLemmas.{Rise, ascends_rise}

@@ -6,33 +6,33 @@ use Rattle.std.specs.List.{Contains, enumerate_from, range_with_len}
 use Rattle.std.proofs.lemmas.Bool.{and_parts, eq-eqb}
 use Rattle.std.proofs.lemmas.Bool.Decides.{nat_tests}
 use Rattle.std.proofs.Math.Nat.{mul-le-mul_right}
-use Rattle.bdb_file.specs.of_format.declared.metadata.BtreeMeta.{BtreeMeta}
-use Rattle.bdb_file.specs.of_format.declared.metadata.QueueMeta.{QueueMeta}
-use Rattle.bdb_file.specs.of_format.declared.kinds.Order.{Order}
-use Rattle.bdb_file.specs.of_format.declared.settings.Settings.{Settings}
-use Rattle.bdb_file.specs.of_format.ContentRows.{btree_contents, database_faults, database_rows, has_wrong_record, is_wrong_at, is_wrong_record}
-use Rattle.bdb_file.specs.of_format.ContentRows.{recno_contents}
-use Rattle.bdb_file.specs.of_format.Chains.{value_of}
-use Rattle.bdb_file.specs.of_format.Contents.{entries_in, tree_entries}
-use Rattle.bdb_file.specs.of_format.Databases.{queue_settings, recno_settings}
-use Rattle.bdb_file.specs.of_format.File.{File, file_of, no_header, page_at}
-use Rattle.bdb_file.specs.of_format.Flags.{is_fixed, is_recno}
-use Rattle.bdb_file.specs.of_format.Leaves.{leaves}
-use Rattle.bdb_file.specs.of_format.Lists.{ListKey, BytesKey, NumberKey, is_record, listed_entry, listed_slot, page_records, queue_list, recno_list}
-use Rattle.bdb_file.specs.of_format.Lists.{record_number, slot_at}
-use Rattle.bdb_file.specs.of_format.Numbers.{pad4}
-use Rattle.bdb_file.specs.of_format.Page.{BtreeFields, Item, Page, Queue, QueueFields}
-use Rattle.bdb_file.specs.of_format.Verdict.{holding}
-use Rattle.bdb_file.proofs.of_format.BoolLemmas.{second_false}
-use Rattle.bdb_file.proofs.of_format.ListLemmas.{only_member}
-use Rattle.bdb_file.proofs.of_format.MemberLemmas.{no_member, none_passes, of_flat_map, of_range}
-use Rattle.bdb_file.proofs.of_format.TurnLemmas.{length-slice_range}
-use Rattle.bdb_file.proofs.of_format.VerdictLemmas.{AllFail, all_fail, no_codes_at}
-use Rattle.bdb_file.specs.of_image.Linked.{HasMetadata, IsForest}
-use Rattle.bdb_file.specs.of_queue.Records.{HasSlots}
-use Rattle.bdb_file.proofs.of_queue.QueueLemmas.{page_slots}
-use Rattle.bdb_file.proofs.of_queue.RecordLemmas.{slot_room}
-use Rattle.bdb_file.proofs.of_recno.PageLemmas.{leaf_inside, leaves_recno, root_recno}
+use Rattle.bdb_databases.specs.of_format.declared.metadata.BtreeMeta.{BtreeMeta}
+use Rattle.bdb_databases.specs.of_format.declared.metadata.QueueMeta.{QueueMeta}
+use Rattle.bdb_databases.specs.of_format.declared.kinds.Order.{Order}
+use Rattle.bdb_databases.specs.of_format.declared.settings.Settings.{Settings}
+use Rattle.bdb_databases.specs.of_format.ContentRows.{btree_contents, database_faults, database_rows, has_wrong_record, is_wrong_at, is_wrong_record}
+use Rattle.bdb_databases.specs.of_format.ContentRows.{recno_contents}
+use Rattle.bdb_databases.specs.of_format.Chains.{value_of}
+use Rattle.bdb_databases.specs.of_format.Contents.{entries_in, tree_entries}
+use Rattle.bdb_databases.specs.of_format.Databases.{queue_settings, recno_settings}
+use Rattle.bdb_databases.specs.of_format.File.{File, file_of, no_header, page_at}
+use Rattle.bdb_databases.specs.of_format.Flags.{is_fixed, is_recno}
+use Rattle.bdb_databases.specs.of_format.Leaves.{leaves}
+use Rattle.bdb_databases.specs.of_format.Lists.{ListKey, BytesKey, NumberKey, is_record, listed_entry, listed_slot, page_records, queue_list, recno_list}
+use Rattle.bdb_databases.specs.of_format.Lists.{record_number, slot_at}
+use Rattle.bdb_databases.specs.of_format.Numbers.{pad4}
+use Rattle.bdb_databases.specs.of_format.Page.{BtreeFields, Item, Page, Queue, QueueFields}
+use Rattle.bdb_databases.specs.of_format.Verdict.{holding}
+use Rattle.bdb_databases.proofs.of_format.BoolLemmas.{second_false}
+use Rattle.bdb_databases.proofs.of_format.ListLemmas.{only_member}
+use Rattle.bdb_databases.proofs.of_format.MemberLemmas.{no_member, none_passes, of_flat_map, of_range}
+use Rattle.bdb_databases.proofs.of_format.TurnLemmas.{length-slice_range}
+use Rattle.bdb_databases.proofs.of_format.VerdictLemmas.{AllFail, all_fail, no_codes_at}
+use Rattle.bdb_databases.specs.of_image.Linked.{HasMetadata, IsForest}
+use Rattle.bdb_databases.specs.of_queue.Records.{HasSlots}
+use Rattle.bdb_databases.proofs.of_queue.QueueLemmas.{page_slots}
+use Rattle.bdb_databases.proofs.of_queue.RecordLemmas.{slot_room}
+use Rattle.bdb_databases.proofs.of_recno.PageLemmas.{leaf_inside, leaves_recno, root_recno}
 use Rattle.bdb_law_kept.proofs.LaterLemmas.{later_enumerate, later_flat, later_one, later_other, later_range, of_enumerate}
 use Rattle.bdb_law_kept.proofs.SettledLemmas.{ComesBefore, HasItsLength, InOrder}
 

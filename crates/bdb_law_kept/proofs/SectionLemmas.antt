@@ -4,9 +4,9 @@ use Rattle.std.specs.Prelude.{◌==◌}
 use Rattle.std.specs.List.{All}
 use Rattle.std.specs.Str.{bytes_eq}
 use Rattle.std.proofs.lemmas.List.Elements.{All-cons, All-head, All-nil, All-tail}
-use Rattle.bdb_file.specs.of_format.declared.kinds.Kind.TheVariants.{Recno}
-use Rattle.bdb_file.specs.of_format.declared.settings.Settings.{Settings}
-use Rattle.bdb_file.proofs.of_format.SizeLemmas.{size_bounds}
+use Rattle.bdb_databases.specs.of_format.declared.kinds.Kind.TheVariants.{Recno}
+use Rattle.bdb_databases.specs.of_format.declared.settings.Settings.{Settings}
+use Rattle.bdb_databases.proofs.of_format.SizeLemmas.{size_bounds}
 use Rattle.bdb_settle.specs.of_text_format.declared.pairs.TextPair.{TextPair}
 use Rattle.bdb_settle.specs.of_text_format.declared.sections.Section.{Section}
 use Rattle.bdb_settle.specs.of_text_format.Header.{Values, has_type, name_in, number_or, settings_in, values}

@@ -3,12 +3,12 @@ use Rattle.std.proofs.Common.{◌≡◌, ℕ, ◌-◌, Bool, true, false, not, c
 use Rattle.std.proofs.Common.{◌∙◌, ap, subst, inl, inr}
 use Rattle.std.specs.Prelude.{◌⊎◌, ◌&&◌, ◌||◌, ◌%◌, replicate}
 use Rattle.std.specs.List.{All, Contains, fold}
-use Rattle.bdb_file.specs.of_format.declared.settings.Settings.{Settings}
-use Rattle.bdb_file.specs.of_format.Less.{less}
-use Rattle.bdb_file.specs.of_format.Lists.{ListKey, BytesKey, NumberKey}
-use Rattle.bdb_file.proofs.of_format.ListLemmas.{all_of, only_member}
-use Rattle.bdb_file.proofs.of_format.MemberLemmas.{first_member, later_member, no_member}
-use Rattle.bdb_file.proofs.of_format.LessLemmas.{less_not_back}
+use Rattle.bdb_databases.specs.of_format.declared.settings.Settings.{Settings}
+use Rattle.bdb_databases.specs.of_format.Less.{less}
+use Rattle.bdb_databases.specs.of_format.Lists.{ListKey, BytesKey, NumberKey}
+use Rattle.bdb_databases.proofs.of_format.ListLemmas.{all_of, only_member}
+use Rattle.bdb_databases.proofs.of_format.MemberLemmas.{first_member, later_member, no_member}
+use Rattle.bdb_databases.proofs.of_format.LessLemmas.{less_not_back}
 use Rattle.std.proofs.lemmas.List.Elements.{Contains-append_cases}
 use Rattle.bdb_settle.specs.of_text_format.declared.pairs.Pair.{Pair}
 use Rattle.bdb_settle.specs.of_text_format.declared.pairs.Key.{Key}

@@ -2,16 +2,16 @@
 use Rattle.std.proofs.Common.{◌≡◌, ℕ, List, [], ◌∷◌, None, refl, sym, ◌∙◌, ap}
 use Rattle.std.specs.List.{Contains}
 use Rattle.std.proofs.lemmas.List.{get_or_default}
-use Rattle.bdb_file.specs.of_format.declared.kinds.Fault.{Fault}
-use Rattle.bdb_file.specs.of_format.Databases.{Database, databases}
-use Rattle.bdb_file.specs.of_format.File.{file_of}
-use Rattle.bdb_file.specs.of_format.HeadOf.{head_of}
-use Rattle.bdb_file.specs.of_format.Lists.{list_of}
-use Rattle.bdb_file.specs.of_format.Verdict.{faults_of, first_judgement}
-use Rattle.bdb_file.proofs.of_format.VerdictLemmas.{no_stage, none_in}
-use Rattle.bdb_file.specs.of_image.Linked.{HasMetadata, IsForest}
-use Rattle.bdb_file.specs.Named.{no_database}
-use Rattle.bdb_file.proofs.SoundLemmas.{has_metadata_at, no_contents, no_structure}
+use Rattle.bdb_databases.specs.of_format.declared.kinds.Fault.{Fault}
+use Rattle.bdb_databases.specs.of_format.Databases.{Database, databases}
+use Rattle.bdb_databases.specs.of_format.File.{file_of}
+use Rattle.bdb_databases.specs.of_format.HeadOf.{head_of}
+use Rattle.bdb_databases.specs.of_format.Lists.{list_of}
+use Rattle.bdb_databases.specs.of_format.Verdict.{faults_of, first_judgement}
+use Rattle.bdb_databases.proofs.of_format.VerdictLemmas.{no_stage, none_in}
+use Rattle.bdb_databases.specs.of_image.Linked.{HasMetadata, IsForest}
+use Rattle.bdb_databases.specs.Named.{no_database}
+use Rattle.bdb_databases.proofs.SoundLemmas.{has_metadata_at, no_contents, no_structure}
 use Rattle.bdb_law_kept.specs.Kept.{IsSound, settings_in}
 use Rattle.bdb_law_kept.proofs.ContentsLemmas.{list_kept}
 use Rattle.bdb_law_kept.proofs.NumberedLemmas.{IsKeptList}

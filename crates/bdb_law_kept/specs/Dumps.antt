@@ -1,12 +1,12 @@
 -- The dump of a sound file is read as sections that load into its lists. Source: docs/FORMAT.md, "Dump text" and "What loading does to a list".
 use Rattle.std.specs.Prelude.{◌≡◌, ℕ, ◌==◌, Bool, true, false, List, [], map, None, unwrap_or}
 use Rattle.std.specs.List.{AllZip, Contains}
-use Rattle.bdb_file.specs.of_format.declared.kinds.Kind.TheVariants.{Queue}
-use Rattle.bdb_file.specs.of_format.ContentRows.{ascends}
-use Rattle.bdb_file.specs.of_format.Databases.{Database, databases}
-use Rattle.bdb_file.specs.of_format.File.{file_of}
-use Rattle.bdb_file.specs.of_format.HeadOf.{head_of}
-use Rattle.bdb_file.specs.of_format.Lists.{list_of}
+use Rattle.bdb_databases.specs.of_format.declared.kinds.Kind.TheVariants.{Queue}
+use Rattle.bdb_databases.specs.of_format.ContentRows.{ascends}
+use Rattle.bdb_databases.specs.of_format.Databases.{Database, databases}
+use Rattle.bdb_databases.specs.of_format.File.{file_of}
+use Rattle.bdb_databases.specs.of_format.HeadOf.{head_of}
+use Rattle.bdb_databases.specs.of_format.Lists.{list_of}
 use Rattle.bdb_settle.specs.of_text_format.declared.sections.Section.{Section}
 use Rattle.bdb_settle.specs.of_text_format.Pairs.{listed}
 use Rattle.bdb_settle.specs.of_text_format.Sections.{Reads}

@@ -1,17 +1,17 @@
 -- What is kept where the dump of a sound file is loaded. Source: docs/FORMAT.md, "What loading does to a list" and "Dump text".
 use Rattle.std.specs.Prelude.{◌≡◌, ℕ, ◌≤◌, ◌^◌, ◌==◌, ◌||◌, true, false, List, [], ◌∷◌, length, map, Some, None, unwrap_or}
 use Rattle.std.specs.List.{All, Contains}
-use Rattle.bdb_file.specs.of_format.declared.kinds.Kind.TheVariants.{Queue}
-use Rattle.bdb_file.specs.of_format.declared.metadata.BtreeMeta.{BtreeMeta}
-use Rattle.bdb_file.specs.of_format.declared.settings.Settings.{Settings}
-use Rattle.bdb_file.specs.of_format.ContentRows.{ascends}
-use Rattle.bdb_file.specs.of_format.Databases.{Database, databases, settings_of}
-use Rattle.bdb_file.specs.of_format.File.{file_of, page_at}
-use Rattle.bdb_file.specs.of_format.HeadOf.{head_of}
-use Rattle.bdb_file.specs.of_format.Lists.{list_of}
-use Rattle.bdb_file.specs.of_format.Master.{master_in}
-use Rattle.bdb_file.specs.of_format.Page.{Metadata}
-use Rattle.bdb_file.specs.of_format.Verdict.{verdict_of}
+use Rattle.bdb_databases.specs.of_format.declared.kinds.Kind.TheVariants.{Queue}
+use Rattle.bdb_databases.specs.of_format.declared.metadata.BtreeMeta.{BtreeMeta}
+use Rattle.bdb_databases.specs.of_format.declared.settings.Settings.{Settings}
+use Rattle.bdb_databases.specs.of_format.ContentRows.{ascends}
+use Rattle.bdb_databases.specs.of_format.Databases.{Database, databases, settings_of}
+use Rattle.bdb_databases.specs.of_format.File.{file_of, page_at}
+use Rattle.bdb_databases.specs.of_format.HeadOf.{head_of}
+use Rattle.bdb_databases.specs.of_format.Lists.{list_of}
+use Rattle.bdb_databases.specs.of_format.Master.{master_in}
+use Rattle.bdb_databases.specs.of_format.Page.{Metadata}
+use Rattle.bdb_databases.specs.of_format.Verdict.{verdict_of}
 use Rattle.bdb_settle.specs.of_text_format.declared.pairs.TextPair.{TextPair}
 use Rattle.bdb_settle.specs.of_text_format.Pairs.{listed}
 use Rattle.bdb_settle.specs.of_text_format.Written.{has_sets, is_queue}

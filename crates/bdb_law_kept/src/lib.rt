@@ -3,6 +3,5 @@
 
 pub mod laws;
 
-pub use bdb_file;
-pub use bdb_file::{bdb_btree, bdb_overflow, bdb_tree};
+pub use bdb_databases::{bdb_btree, bdb_overflow, bdb_tree};
 pub use bdb_text;

@@ -22,7 +22,7 @@ use Rattle.bdb_format.specs.File.{File}
 use Rattle.bdb_format.specs.Master.{named_by}
 use Rattle.bdb_format.proofs.BoolLemmas.{cond_or}
 use Rattle.bdb_format.proofs.LessLemmas.{eq_same}
-use Rattle.bdb_hash.proofs.ChainedLemmas.{among_after, among_unchanged}
+use Rattle.bdb_buckets.proofs.ChainedLemmas.{among_after, among_unchanged}
 
 abbrev faults_of : List NamedPair → List Fault
 faults_of entries = flat_map (λ entry. option_to_list (repeat_fault entry)) entries

@@ -1,4 +1,3 @@
 pub mod Entries
 pub mod Names
 pub use Rattle.bdb_btree.specs as of_btree
-pub use Rattle.bdb_hash.specs as of_hash

@@ -11,7 +11,5 @@ mod seen_names;
 mod targets;
 
 pub use bdb_btree;
-pub use bdb_btree::bdb_ranks;
-pub use bdb_hash;
 pub use entry::{Entry, master_among, master_entries, master_of};
 pub use master::note_master;

@@ -31,7 +31,7 @@ impl Drop for SeenNames<'_> {
 }
 
 impl<'a> Model for SeenNames<'a> {
-    ghost use Rattle.bdb_hash.specs.of_buckets.Chained.{AreAmong, Seen};
+    ghost use Rattle.bdb_buckets.specs.Chained.{AreAmong, Seen};
 
     ghost Value = { Seen };
 

@@ -13,7 +13,7 @@ use Rattle.bdb_mkfile.specs.of_format.Databases.{Database, databases, databases_
 use Rattle.bdb_mkfile.specs.of_format.File.{File, file_of, page_at}
 use Rattle.bdb_mkfile.specs.of_format.Master.{master_in, master_pairs, named_by}
 use Rattle.bdb_mkfile.proofs.of_format.MemberLemmas.{first_member, is_empty, later_member, of_filter, of_flat_map, of_map}
-use Rattle.bdb_law_kept.proofs.of_file.NamedLemmas.{with_name}
+use Rattle.bdb_law_kept.proofs.of_databases.NamedLemmas.{with_name}
 use Rattle.bdb_mkfile.specs.of_text_format.declared.pairs.TextPair.{TextPair}
 use Rattle.bdb_mkfile.specs.of_text_format.declared.sections.Section.{Section}
 use Rattle.bdb_mkfile.specs.of_text_format.Written.{is_queue}

@@ -5,7 +5,7 @@ pub mod Onto
 pub mod Samples
 pub mod Search
 pub use Rattle.bdb_law_kept.specs.of_btree as of_btree
-pub use Rattle.bdb_law_kept.specs.of_file as of_file
+pub use Rattle.bdb_law_kept.specs.of_databases as of_databases
 pub use Rattle.bdb_mkfile.specs.of_image as of_image
 pub use Rattle.bdb_mkfile.specs.of_law_sections as of_law_sections
 pub use Rattle.bdb_mkfile.specs as of_mkfile

@@ -321,7 +321,7 @@ fn hash_finds<L: Ledger>(
     match spelled(alloc, key) {
         Some(bytes) => has_all(
             alloc,
-            bdb_hash::find(linked, meta, &bytes, steps),
+            bdb_hash_list::find(linked, meta, &bytes, steps),
             text,
             key,
         ),
@@ -329,13 +329,13 @@ fn hash_finds<L: Ledger>(
     }
 }
 
-#[tactic(auto, using(bdb_hash::proofs::LookupLemmas::no_key_twice))]
+#[tactic(auto, using(bdb_hash_list::proofs::LookupLemmas::no_key_twice))]
 fn hash_lists(alloc: Global, linked: &Linked<'_>, meta: &HashMeta, text: &str) -> bool
     requires meta { HasMetadata (file_of linked.now) (HashFields meta.now) }
     requires stage { structure_faults (file_of linked.now) ≡ [] }
     requires contents { database_faults (file_of linked.now) (HashFields meta.now) ≡ [] }
 {
-    match bdb_hash::scan(alloc, linked, meta) {
+    match bdb_hash_list::scan(alloc, linked, meta) {
         Ok(list) => lists(alloc, list, text),
         Err(_) => false,
     }

@@ -6,4 +6,4 @@ pub mod LineLemmas
 pub mod HeldLemmas
 pub mod ReadLemmas
 pub mod KeyedLemmas
-pub use Rattle.bdb_law_kept.proofs.of_file as of_file
+pub use Rattle.bdb_law_kept.proofs.of_rows as of_rows

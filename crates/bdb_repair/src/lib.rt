@@ -8,7 +8,7 @@ mod repairing;
 mod room;
 mod shape;
 
-pub use bdb_law_kept::{bdb_file, bdb_text};
+pub use bdb_law_kept::bdb_text;
 pub use bdb_model;
 pub use bdb_model::{Duplicates, Shape};
 pub use bdb_rescue;

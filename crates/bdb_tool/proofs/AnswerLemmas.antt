@@ -21,12 +21,12 @@ use Rattle.bdb_format.specs.Lists.{ListKey, list_of}
 use Rattle.bdb_stat.specs.of_turned.Flipped.{overlap_in}
 use Rattle.bdb_tool_print.specs.of_range.Ranges.{in_range}
 use Rattle.bdb_format.specs.Verdict.{Faulty, Judgement, LeftOut, verdict_of}
-use Rattle.bdb_repair.specs.of_file.Named.{database_at, no_database}
-use Rattle.bdb_repair.specs.of_file.AnyOrder.{faults_by_rows, verdict_by}
-use Rattle.bdb_repair.specs.of_file.Whole.{IsVerdictBy, IsVerdictOf}
-use Rattle.bdb_repair.specs.of_file.declared.rows.Rows.{Rows}
-use Rattle.bdb_repair.specs.of_file.declared.rows.Rows.TheVariants.{All}
-use Rattle.bdb_repair.proofs.of_file.RowsLemmas.{all_are_of_all, no_verdict}
+use Rattle.bdb_repair.specs.of_databases.Named.{database_at, no_database}
+use Rattle.bdb_repair.specs.of_rows.AnyOrder.{faults_by_rows, verdict_by}
+use Rattle.bdb_tool_build.specs.of_file.Whole.{IsVerdictBy, IsVerdictOf}
+use Rattle.bdb_repair.specs.of_rows.declared.rows.Rows.{Rows}
+use Rattle.bdb_repair.specs.of_rows.declared.rows.Rows.TheVariants.{All}
+use Rattle.bdb_repair.proofs.of_rows.RowsLemmas.{all_are_of_all, no_verdict}
 use Rattle.bdb_repair.specs.of_rescue.Text.{salvage_text}
 use Rattle.bdb_repair.specs.of_rescue.Guesses.{chosen}
 use Rattle.bdb_repair.specs.of_survey.declared.guess.Guess.{Guess}

@@ -8,7 +8,7 @@ use Rattle.bdb_format.specs.Verdict.{verdict_of}
 use Rattle.bdb_format.specs.declared.kinds.Verdict.{Verdict}
 use Rattle.bdb_format.specs.declared.kinds.Verdict.TheVariants.{Fault, Unsupported, Memory as MemoryVerdict}
 use Rattle.bdb_format.proofs.KnownLemmas.{keeps_itself}
-use Rattle.bdb_repair.specs.of_file.Whole.{IsVerdictOf}
+use Rattle.bdb_tool_build.specs.of_file.Whole.{IsVerdictOf}
 use Rattle.bdb_repair.specs.of_model.Answers.{Answer, fault_line, told, unsupported_line}
 use Rattle.bdb_repair.specs.of_model.Change.{Change}
 use Rattle.bdb_repair.specs.of_model.Lines.{memory_line}

@@ -8,7 +8,7 @@ use Rattle.bdb_format.specs.File.{File}
 use Rattle.bdb_format.specs.Flags.{is_recno, kind_of}
 use Rattle.bdb_format.specs.Lists.{ListKey, btree_list, list_of}
 use Rattle.bdb_format.specs.Page.{Metadata, BtreeFields}
-use Rattle.bdb_repair.specs.of_file.Named.{database_at, no_database}
+use Rattle.bdb_repair.specs.of_databases.Named.{database_at, no_database}
 use Rattle.bdb_tool_print.specs.of_tool_lines.declared.cut.Cut.{Cut}
 use Rattle.bdb_tool_print.specs.of_tool_lines.Printing.{Writes}
 use Rattle.bdb_tool_print.proofs.of_tool_lines.PrintingLemmas.{moved}

@@ -7,7 +7,7 @@ use Rattle.std.proofs.lemmas.Bool.{le-ltb, lt-ltb}
 use Rattle.bdb_repair.specs.of_model.Answers.{Answer, told, too_large_line}
 use Rattle.bdb_tool_words.specs.Commands.{Ask, Command, Load, reads_input, usage}
 use Rattle.bdb_repair.specs.of_model.Change.{Change, GainsPart, HasFailed, IsUncalled, Stays}
-use Rattle.bdb_repair.specs.of_file.declared.rows.Rows.TheVariants.{All}
+use Rattle.bdb_repair.specs.of_rows.declared.rows.Rows.TheVariants.{All}
 use Rattle.bdb_format.specs.Faults.{Rose, Took}
 use Rattle.bdb_repair.specs.of_model.Lines.{memory_line, read_fault_line, write_fault_line}
 use Rattle.bdb_format.proofs.KnownLemmas.{keeps_itself}

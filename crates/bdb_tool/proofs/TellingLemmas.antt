@@ -4,8 +4,8 @@ use Rattle.std.specs.Prelude.{Option, Ok, Err, Result}
 use Rattle.bdb_stat.specs.of_faults.All.{IsAllOf}
 use Rattle.bdb_stat.specs.of_faults.declared.named.AllError.{AllError}
 use Rattle.bdb_stat.specs.of_faults.declared.named.AllError.TheVariants.{Faults}
-use Rattle.bdb_repair.specs.of_file.AnyOrder.{faults_by_rows, verdict_by}
-use Rattle.bdb_repair.specs.of_file.declared.rows.Rows.{Rows}
+use Rattle.bdb_repair.specs.of_rows.AnyOrder.{faults_by_rows, verdict_by}
+use Rattle.bdb_repair.specs.of_rows.declared.rows.Rows.{Rows}
 use Rattle.bdb_format.specs.declared.kinds.Fault.{Fault}
 use Rattle.bdb_tool_print.specs.of_tool_lines.Printing.{Writes}
 use Rattle.bdb_tool_print.specs.of_tool_lines.Telling.{judgement_status, judgements_text}

@@ -1,8 +1,8 @@
 -- A law of the rows that count. Source: docs/FORMAT.md, "Stage 8, contents".
 use Rattle.std.specs.Prelude.{◌≡◌, ℕ, List, false}
 use Rattle.std.specs.List.{Contains}
-use Rattle.bdb_repair.specs.of_file.AnyOrder.{is_of_order}
-use Rattle.bdb_repair.specs.of_file.declared.rows.Rows.TheVariants.{All, AnyOrder}
+use Rattle.bdb_repair.specs.of_rows.AnyOrder.{is_of_order}
+use Rattle.bdb_repair.specs.of_rows.declared.rows.Rows.TheVariants.{All, AnyOrder}
 use Rattle.bdb_format.specs.declared.kinds.Fault.{Fault}
 use Rattle.bdb_format.specs.File.{file_of}
 use Rattle.bdb_format.specs.Verdict.{contents_faults}

@@ -1,7 +1,7 @@
 -- The answers to words, an input and a base: a status, and what is written to the output and to the error sink. Source: README.md, "Use".
 use Rattle.std.specs.Prelude.{◌≡◌, ◌⊎◌, ℕ, nat_lt, ◌&&◌, Bool, true, false, List, [], ◌∷◌, length, map, Option, Some, None, codes, ⊤}
-use Rattle.bdb_repair.specs.of_file.AnyOrder.{faults_by_rows, verdict_by}
-use Rattle.bdb_repair.specs.of_file.declared.rows.Rows.{Rows}
+use Rattle.bdb_repair.specs.of_rows.AnyOrder.{faults_by_rows, verdict_by}
+use Rattle.bdb_repair.specs.of_rows.declared.rows.Rows.{Rows}
 use Rattle.bdb_format.specs.declared.kinds.Fault.{Fault}
 use Rattle.bdb_format.specs.Verdict.{Judgement, judgement_of}
 use Rattle.bdb_tool_print.specs.of_tool_lines.Telling.{judgement_status, judgements_text}

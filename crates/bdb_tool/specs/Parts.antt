@@ -1,6 +1,6 @@
 -- The two halves of a run: what it takes from the words and the source, and how it writes the answer.
 use Rattle.std.specs.Prelude.{◌≡◌, ◌≢◌, ◌⊎◌, ℕ, ◌+◌, List, [], Result, Ok, Err, Some, string_bytes}
-use Rattle.bdb_repair.specs.of_file.declared.rows.Rows.TheVariants.{All}
+use Rattle.bdb_repair.specs.of_rows.declared.rows.Rows.TheVariants.{All}
 use Rattle.bdb_format.specs.declared.kinds.Verdict.{Verdict}
 use Rattle.bdb_format.specs.declared.kinds.Verdict.TheVariants.{Fault, Unsupported, Memory as MemoryVerdict}
 use Rattle.bdb_repair.specs.of_model.Answers.{Answer, fault_line, told, too_large_line, unsupported_line}

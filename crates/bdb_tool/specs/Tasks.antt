@@ -3,8 +3,8 @@ use Rattle.std.specs.Prelude.{◌≡◌, ℕ, ◌+◌, ◌≤◌, ◌^◌, IsTru
 use Rattle.std.specs.Io.KnownBytes.{Consumes, IsAtEnd}
 use Rattle.bdb_repair.specs.of_model.Change.{Change, HasFailed, IsUncalled}
 use Rattle.bdb_tool_words.specs.Commands.{Ask, Command, Load, Request, reads_input}
-use Rattle.bdb_repair.specs.of_file.declared.rows.Rows.{Rows}
-use Rattle.bdb_repair.specs.of_file.declared.rows.Rows.TheVariants.{All}
+use Rattle.bdb_repair.specs.of_rows.declared.rows.Rows.{Rows}
+use Rattle.bdb_repair.specs.of_rows.declared.rows.Rows.TheVariants.{All}
 use Rattle.bdb_format.specs.Faults.{Took}
 use Rattle.bdb_tool_words.specs.WordsSeen.{IsFitRepair, IsFitSalvage, IsFitTrial, reading_seen, repair_seen, request_seen, salvage_seen, trial_seen}
 use Rattle.bdb_tool_words.specs.declared.command.Repair.{Repair as CodeRepair}

@@ -3,7 +3,7 @@ ghost use Rattle.std.specs.Prelude.{◌≡◌, ◌≤◌, ◌^◌, IsTrue, Some,
 ghost use Rattle.bdb_tool.specs.FileAnswers.{sound_answer};
 ghost use Rattle.bdb_repair.specs.of_model.Change.{change};
 ghost use Rattle.bdb_tool_words.specs.Commands.{Request as ModelRequest};
-ghost use Rattle.bdb_repair.specs.of_file.declared.rows.Rows.TheVariants.{All};
+ghost use Rattle.bdb_repair.specs.of_rows.declared.rows.Rows.TheVariants.{All};
 ghost use Rattle.bdb_tool.specs.Outputs.{asked_answer};
 ghost use Rattle.bdb_tool.specs.Parts.{Finishes, IsTaskAnswered};
 ghost use Rattle.bdb_tool.specs.Tasks.{IsFitTask};
@@ -20,8 +20,8 @@ use crate::stating::answer_stat;
 use crate::task::Task;
 use crate::telling::refuse;
 use bdb_format::Steps;
-use bdb_repair::bdb_file::{Sound, verify};
 use bdb_swap::bdb_io::Sink;
+use bdb_tool_build::bdb_file::{Sound, verify};
 use bdb_tool_words::Request;
 use std::alloc::Global;
 use std::sync::ledger::Ledger;

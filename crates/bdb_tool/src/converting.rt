@@ -10,9 +10,9 @@ use crate::finish::{put, report, tell, tell_memory};
 use crate::status::OVERLAP;
 use crate::text::overlap_line;
 use bdb_format::Order;
-use bdb_repair::bdb_file::Sound;
 use bdb_swap::bdb_io::Sink;
 use bdb_swap::{FlipError, flip};
+use bdb_tool_build::bdb_file::Sound;
 use std::alloc::Global;
 
 /// Tells the page on which items overlap.

@@ -20,11 +20,11 @@ mod telling;
 mod text;
 
 pub use bdb_format;
-pub use bdb_repair::{bdb_file, bdb_model, bdb_text};
+pub use bdb_repair::{bdb_model, bdb_text};
 pub use bdb_stat::bdb_layout;
 pub use bdb_swap::bdb_io;
 pub use bdb_tool_build;
-pub use bdb_tool_build::bdb_gen;
+pub use bdb_tool_build::{bdb_file, bdb_gen};
 pub use bdb_tool_print::bdb_range;
 pub use bdb_tool_words::onto_file;
 pub use finish::tell_usage;

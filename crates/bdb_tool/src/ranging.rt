@@ -1,6 +1,6 @@
 //! The command that prints the pairs between two keys.
 ghost use Rattle.std.specs.Prelude.{◌≡◌, ◌<◌, [], IsTrue, List, MatchOption, Option, Some, false, is_some, length, not, option_copied, true, ℕ};
-ghost use Rattle.bdb_repair.specs.of_file.Named.{database_at};
+ghost use Rattle.bdb_repair.specs.of_databases.Named.{database_at};
 ghost use Rattle.bdb_stat.specs.of_image.Linked.{HasMetadata};
 ghost use Rattle.bdb_format.specs.ContentRows.{database_faults};
 ghost use Rattle.bdb_format.specs.Databases.{databases};
@@ -22,9 +22,9 @@ use crate::finish::{report, tell, tell_memory};
 use crate::spelled::{name_bytes, name_sought, spelled};
 use crate::status::{NOT_BTREE, NOT_FOUND};
 use bdb_format::{BtreeMeta, Steps};
-use bdb_repair::bdb_file::{Db, Sound};
 use bdb_stat::bdb_graph::{Linked, Meta};
 use bdb_swap::bdb_io::Sink;
+use bdb_tool_build::bdb_file::{Db, Sound};
 use bdb_tool_print::bdb_range::{RangePairs, pairs_of, span};
 use bdb_tool_print::write_pairs;
 use bdb_tool_words::Bounds;

@@ -1,6 +1,6 @@
 //! The commands that read a file whose databases can be read, by the rows that count: `verify`, `list` and `dump`.
 ghost use Rattle.std.specs.Prelude.{◌≡◌, ◌≤◌, ◌^◌, IsTrue, List, Option, Some, is_some, length, option_copied, ℕ};
-ghost use Rattle.bdb_repair.specs.of_file.AnyOrder.{faults_by_rows, verdict_by};
+ghost use Rattle.bdb_repair.specs.of_rows.AnyOrder.{faults_by_rows, verdict_by};
 ghost use Rattle.bdb_format.specs.HeadOf.{head_of};
 ghost use Rattle.bdb_tool_print.specs.of_tool_lines.Printing.{Writes};
 ghost use Rattle.bdb_tool.specs.FileAnswers.{dumped, judged_answer, sound_line};
@@ -17,9 +17,9 @@ use crate::status::NOT_FOUND;
 use crate::telling::{refuse, tell_list};
 use crate::text::sound_line;
 use bdb_format::Steps;
-use bdb_repair::bdb_file::{Readable, Rows, verify_all_by, verify_by};
 use bdb_stat::bdb_faults::AllError;
 use bdb_swap::bdb_io::Sink;
+use bdb_tool_build::bdb_file::{Readable, Rows, verify_all_by, verify_by};
 use bdb_tool_print::{Cut, write_list, write_section, write_sections};
 use bdb_tool_words::{Reading, Selection};
 use std::alloc::Global;

@@ -9,9 +9,9 @@ ghost use Rattle.bdb_tool.specs.Parts.{Finishes};
 ghost use Rattle.bdb_tool.specs.Figures.{figures_text, last_figures, other_figures, tree_figures};
 
 use crate::finish::{put, report};
-use bdb_repair::bdb_file::Sound;
 use bdb_stat::{Stat, stat};
 use bdb_swap::bdb_io::Sink;
+use bdb_tool_build::bdb_file::Sound;
 use bdb_tool_print::Cut;
 use std::alloc::{AllocError, Global};
 

@@ -5,9 +5,9 @@ ghost use Rattle.bdb_tool_words.specs.Commands.{Command as ModelCommand, command
 ghost use Rattle.bdb_tool.specs.Tasks.{IsFitTask, IsInputWithin, IsStopped, IsTaskTaken, IsUnreadable};
 ghost use Rattle.bdb_tool_words.specs.WordsSeen.{IsFitCommand, IsSeen, command_seen};
 
-use bdb_repair::bdb_file::Rows;
 use bdb_repair::bdb_model::Words;
 use bdb_swap::bdb_io::{Image, ReadError, Source, read_image};
+use bdb_tool_build::bdb_file::Rows;
 use bdb_tool_words::{Action, Command, Reading, Repair, Request, Salvage, Trial, command_of};
 use std::alloc::Global;
 

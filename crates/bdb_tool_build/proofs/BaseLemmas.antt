@@ -15,7 +15,7 @@ use Rattle.bdb_format.specs.Page.{DupLeaf, Overflow, Queue, NoType}
 use Rattle.bdb_format.specs.Verdict.{verdict_of}
 use Rattle.bdb_model.specs.of_text_format.declared.sections.Section.{Section}
 use Rattle.bdb_onto.specs.of_image.Metas.{meta_in}
-use Rattle.bdb_onto.specs.of_file.Named.{database_at, no_database}
+use Rattle.bdb_onto.specs.of_databases.Named.{database_at, no_database}
 use Rattle.bdb_onto.specs.of_text.WrittenLaw.{AreBytes}
 use Rattle.bdb_onto.specs.declared.base.Base.{Base}
 use Rattle.bdb_onto.specs.Bases.{IsBaseOf, base_of, base_section}

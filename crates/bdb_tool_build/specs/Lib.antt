@@ -4,4 +4,5 @@ pub mod Loads
 pub mod Ontos
 pub mod Refusals
 pub mod Trials
+pub use Rattle.bdb_file.specs as of_file
 pub use Rattle.bdb_onto.specs as of_onto

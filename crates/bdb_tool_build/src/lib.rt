@@ -10,6 +10,7 @@ mod tree;
 mod trial;
 
 pub use base::base_of;
+pub use bdb_file;
 pub use bdb_gen;
 pub use bdb_onto;
 pub use loading::{load_text, load_text_onto};

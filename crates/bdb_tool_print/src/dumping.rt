@@ -1,7 +1,7 @@
 // What `dump` prints.
 ghost use Rattle.std.specs.Prelude.{◌≡◌, ◌++◌, ◌<◌, length, option_copied};
 ghost use Rattle.std.specs.List.{flat_map};
-ghost use Rattle.bdb_file.specs.Named.{database_at};
+ghost use Rattle.bdb_databases.specs.Named.{database_at};
 ghost use Rattle.bdb_model.specs.Change.{change};
 ghost use Rattle.bdb_model.specs.of_format.Databases.{databases};
 ghost use Rattle.bdb_model.specs.of_format.File.{file_of};
@@ -14,7 +14,7 @@ ghost use Rattle.bdb_tool_lines.specs.Printing.{Writes};
 ghost use Rattle.std.specs.Fmt.{decimal};
 
 use crate::printing::Printer;
-use bdb_file::{Db, Readable, Scan};
+use bdb_databases::{Db, Readable, Scan};
 use bdb_model::bdb_format::{Bytes, Settings};
 use bdb_range::bdb_overflow::{Datum, KeyView};
 use bdb_text::bdb_spelling::SHORT_VALUE;

@@ -12,7 +12,7 @@ ghost use Rattle.bdb_tool_print.specs.Printers.{Adds};
 ghost use Rattle.bdb_tool_lines.specs.Printing.{Writes};
 
 use crate::printing::Printer;
-use bdb_file::{Found, Readable};
+use bdb_databases::{Found, Readable};
 use bdb_model::bdb_format::{Bytes, Kind};
 use bdb_range::bdb_overflow::Datum;
 use bdb_text::kind_word;

@@ -1,8 +1,8 @@
 -- The lines that are printed for an image.
 use Rattle.std.specs.Prelude.{◌≡◌, ◌⊎◌, ℕ, ◌^◌, ◌==◌, nat_lt, if◌then◌else◌, List, ◌∷◌, [], ◌++◌, length, codes}
-use Rattle.bdb_tool.specs.of_file.AnyOrder.{faults_by_rows}
-use Rattle.bdb_tool.specs.of_file.declared.rows.Rows.{Rows}
-use Rattle.bdb_tool.specs.of_file.declared.rows.Rows.TheVariants.{All, AnyOrder}
+use Rattle.bdb_tool.specs.of_rows.AnyOrder.{faults_by_rows}
+use Rattle.bdb_tool.specs.of_rows.declared.rows.Rows.{Rows}
+use Rattle.bdb_tool.specs.of_rows.declared.rows.Rows.TheVariants.{All, AnyOrder}
 use Rattle.bdb_tool.specs.of_model.Answers.{Answer, told, too_large_line}
 use Rattle.bdb_tool.specs.of_text_format.LineEnd.{line}
 use Rattle.bdb_tool.specs.Outputs.{verified}

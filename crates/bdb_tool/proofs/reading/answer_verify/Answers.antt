@@ -1,4 +1,4 @@
-use Rattle.bdb_repair.specs.of_file.AnyOrder.{faults_by_rows}
+use Rattle.bdb_repair.specs.of_rows.AnyOrder.{faults_by_rows}
 use Rattle.bdb_tool.proofs.FinishLemmas.{written_finishes}
 use Rattle.bdb_tool.proofs.TellingLemmas.{all_finish, sound_verified}
 use Rattle.bdb_tool.proofs.reading.answer_verify.Goals as goal

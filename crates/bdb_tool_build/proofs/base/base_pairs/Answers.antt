@@ -1,6 +1,6 @@
 use Rattle.std.proofs.Common.{◌≡◌, ◌∙◌, ℕ, List, ap, subst}
 use Rattle.std.specs.Prelude.{IfOk, map}
-use Rattle.bdb_onto.specs.of_file.Named.{database_at}
+use Rattle.bdb_onto.specs.of_databases.Named.{database_at}
 use Rattle.bdb_format.specs.File.{file_of}
 use Rattle.bdb_format.specs.Lists.{btree_list, list_of}
 use Rattle.bdb_onto.specs.of_image.Linked.{HasMetadata}

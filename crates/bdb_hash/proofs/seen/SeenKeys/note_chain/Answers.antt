@@ -4,7 +4,8 @@ use Rattle.bdb_ranks.specs.of_faults.declared.rows.ContentsRow.TheVariants.{KeyT
 use Rattle.bdb_ranks.specs.of_faults.declared.rows.Row.TheVariants.{Contents}
 use Rattle.bdb_ranks.specs.of_overflow.Keys.{has_key}
 use Rattle.bdb_buckets.specs.Chained.{Seen, chain_value}
-use Rattle.bdb_hash.proofs.ChainedLemmas.{among_inserted, seen_noting}
+use Rattle.bdb_buckets.proofs.ChainedLemmas.{among_inserted}
+use Rattle.bdb_hash.proofs.ChainedLemmas.{seen_noting}
 use Rattle.bdb_hash.proofs.seen.SeenKeys.note_chain.Goals as goal
 
 -- A chain that was seen repeats its key.

@@ -3,8 +3,8 @@ use Rattle.std.specs.Prelude.{◌||◌}
 use Rattle.bdb_master.proofs.RepeatLemmas.{added_again}
 use Rattle.bdb_format.specs.File.{file_of}
 use Rattle.bdb_format.proofs.LessLemmas.{eq_self}
-use Rattle.bdb_hash.specs.of_buckets.Chained.{Seen}
-use Rattle.bdb_hash.proofs.ChainedLemmas.{among_inserted}
+use Rattle.bdb_buckets.specs.Chained.{Seen}
+use Rattle.bdb_buckets.proofs.ChainedLemmas.{among_inserted}
 use Rattle.bdb_btree.specs.of_overflow.Datum.{datum_seen}
 use Rattle.bdb_btree.specs.of_overflow.Held.{chain_value}
 use Rattle.bdb_btree.specs.of_overflow.Keys.{has_key}

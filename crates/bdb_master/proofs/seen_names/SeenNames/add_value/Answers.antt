@@ -1,7 +1,7 @@
 use Rattle.std.proofs.Common.{subst}
 use Rattle.bdb_master.specs.Names.{HasAdded}
 use Rattle.bdb_master.proofs.RepeatLemmas.{added_once}
-use Rattle.bdb_hash.specs.of_buckets.Chained.{Seen}
+use Rattle.bdb_buckets.specs.Chained.{Seen}
 use Rattle.bdb_btree.specs.of_overflow.Datum.{datum_seen}
 use Rattle.bdb_master.proofs.seen_names.SeenNames.add_value.Goals as goal
 

@@ -1,6 +1,6 @@
 use Rattle.std.proofs.Common.{List, ℕ, ◌++◌, sym, subst}
 use Rattle.std.specs.List.{flat_map}
-use Rattle.bdb_file.specs.Named.{database_at}
+use Rattle.bdb_databases.specs.Named.{database_at}
 use Rattle.bdb_model.specs.of_format.Databases.{settings_of}
 use Rattle.bdb_model.specs.of_format.File.{file_of}
 use Rattle.bdb_model.specs.of_format.HeadOf.{head_of}

@@ -1,5 +1,5 @@
 use Rattle.std.proofs.Common.{◌<◌, ◌≤◌, ap, refl, arith, length}
-use Rattle.bdb_file.specs.Named.{database_at, no_database}
+use Rattle.bdb_databases.specs.Named.{database_at, no_database}
 use Rattle.bdb_model.specs.of_format.Databases.{databases}
 use Rattle.bdb_model.specs.of_format.File.{file_of}
 use Rattle.bdb_model.specs.of_text_format.Written.{database_text, dump_text}

@@ -1,0 +1,19 @@
+//! The databases of a file that can be read: their names, settings and lists, and what they have under a key.
+#![tactic(auto)]
+
+mod db;
+pub mod laws;
+mod listing;
+mod lookup;
+mod named;
+mod readable;
+mod reads;
+mod settings;
+
+pub use bdb_master::bdb_btree;
+pub use bdb_recno::{bdb_overflow, bdb_tree};
+pub use db::Db;
+pub use listing::Scan;
+pub use lookup::{Found, found_in};
+pub use named::{NamedMeta, databases_of};
+pub use readable::Readable;

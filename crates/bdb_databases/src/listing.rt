@@ -1,0 +1,104 @@
+ghost use Rattle.std.specs.Prelude.{◌≡◌, [], IfOk};
+ghost use Rattle.std.specs.Iterator.{YieldsFirstBy, item_count};
+ghost use Rattle.bdb_recno.specs.of_image.Linked.{HasMetadata};
+ghost use Rattle.bdb_recno.specs.of_image.Metas.{meta_seen};
+ghost use Rattle.bdb_databases.specs.Listing.{HasNewKeys, entries_left, entry_seen};
+ghost use Rattle.bdb_recno.specs.of_format.File.{file_of};
+ghost use Rattle.bdb_recno.specs.of_format.Lists.{list_of};
+ghost use Rattle.bdb_recno.specs.of_format.Page.{BtreeFields};
+ghost use Rattle.bdb_recno.specs.of_format.Verdict.{structure_faults};
+
+use bdb_recno::bdb_format::BtreeMeta;
+use bdb_recno::bdb_graph::{Linked, Meta};
+use bdb_recno::bdb_overflow::{Datum, KeyView};
+use std::alloc::{AllocError, Global};
+use std::marker::Model;
+
+/// What is left of the list of a database, by its kind.
+#[derive(Drop)]
+pub(crate) enum Entries<'a> {
+    Btree(bdb_master::bdb_btree::Scan<'a>),
+    Recno(bdb_recno::Scan<'a>),
+    Hash(bdb_hash_list::Scan<'a>),
+    Queue(bdb_queue::Scan<'a>),
+}
+
+impl<'a> Entries<'a> {
+    /// The first entry that is left.
+    fn first(&mut self) -> Option<(KeyView<'a>, Datum<'a>)>
+        ensures { YieldsFirstBy entry_seen entries_left self.old result self.new }
+    {
+        match self {
+            Entries::Btree(scan) => scan.next(),
+            Entries::Recno(scan) => scan.next(),
+            Entries::Hash(scan) => scan.next(),
+            Entries::Queue(scan) => scan.next(),
+        }
+    }
+}
+
+/// The list of a database that is left, in its order: each key with each of its data.
+pub struct Scan<'a> {
+    entries: Entries<'a>,
+}
+
+impl Drop for Scan<'_> {
+    fn drop(self) {
+        let Scan { entries: _entries } = self;
+    }
+}
+
+impl<'a> Model for Scan<'a> {
+    ghost use Rattle.std.specs.Prelude.{List, ℕ};
+    ghost use Rattle.bdb_recno.specs.of_format.Lists.{ListKey};
+    ghost use Rattle.bdb_databases.specs.Listing.{entries_left};
+
+    ghost Value = { List (ListKey × List ℕ) };
+
+    ghost view = { λ v. entries_left v.entries };
+}
+
+impl<'a> Iterator for Scan<'a> {
+    type Item = (KeyView<'a>, Datum<'a>);
+
+    ghost next_gives = { YieldsFirstBy entry_seen (λ left. left) };
+
+    ghost remaining = { item_count (λ left. left) };
+
+    fn next(&mut self) -> Option<(KeyView<'a>, Datum<'a>)> {
+        self.entries.first()
+    }
+}
+
+/// The list of a tree, of pairs or of records.
+fn tree_entries<'a>(linked: &Linked<'a>, meta: &BtreeMeta) -> Entries<'a>
+    requires meta { HasMetadata (file_of linked.now) (BtreeFields meta.now) }
+    requires stage { structure_faults (file_of linked.now) ≡ [] }
+    ensures { entries_left result ≡ list_of (file_of linked.now) (BtreeFields meta.now) }
+{
+    if !meta.is_recno() {
+        Entries::Btree(bdb_master::bdb_btree::scan(linked, meta))
+    } else {
+        Entries::Recno(bdb_recno::scan(linked, meta))
+    }
+}
+
+/// The list of a database, in which no key comes twice if it's a table. That of a table takes memory for each of its pairs, another one
+/// none; an error is want of it.
+pub(crate) fn scan_of<'a>(
+    alloc: Global,
+    linked: &Linked<'a>,
+    meta: &Meta,
+) -> Result<Scan<'a>, AllocError>
+    requires meta { HasMetadata (file_of linked.now) (meta_seen meta.now) }
+    requires stage { structure_faults (file_of linked.now) ≡ [] }
+    requires keys { HasNewKeys (file_of linked.now) (meta_seen meta.now) }
+    ensures { IfOk result (λ scan. scan ≡ list_of (file_of linked.now) (meta_seen meta.now)) }
+{
+    let entries = match meta {
+        Meta::Btree(meta) => tree_entries(linked, meta),
+        Meta::Hash(meta) => Entries::Hash(bdb_hash_list::scan(alloc, linked, meta)?),
+        Meta::Queue(meta) => Entries::Queue(bdb_queue::scan(linked, meta)),
+    };
+    Ok(Scan { entries })
+}
