@@ -1,11 +1,6 @@
-pub mod FinishLemmas
+pub mod BuiltLemmas
 pub mod RepairLemmas
 pub mod OntoLemmas
 pub mod RunLemmas
 pub mod TaskLemmas
-pub mod TellingLemmas
-pub mod AnswerLemmas
-pub mod RangeLemmas
-pub mod ConvertLemmas
-pub mod FigureLemmas
 pub mod OrderLemmas

@@ -1,13 +1,12 @@
 -- From the words and the source to a task.
 use Rattle.std.proofs.Common.{◌≡◌, ℕ, ◌+◌, false, true, List, refl, subst, sym, ◌∙◌, ap}
 use Rattle.std.specs.Prelude.{Option, Some, None, IsTrue, is_some}
-use Rattle.bdb_repair.specs.of_model.Change.{Change}
+use Rattle.bdb_model.specs.Change.{Change}
 use Rattle.bdb_tool_words.specs.Commands.{Action, Ask, Command, Load, Request, asking, handed, reads_input, within}
-use Rattle.bdb_repair.specs.of_file.declared.rows.Rows.{Rows}
-use Rattle.bdb_repair.specs.of_file.declared.rows.Rows.TheVariants.{All}
+use Rattle.bdb_file.specs.declared.rows.Rows.{Rows}
+use Rattle.bdb_file.specs.declared.rows.Rows.TheVariants.{All}
 use Rattle.bdb_format.specs.Faults.{Took}
-use Rattle.bdb_tool_words.specs.declared.command.Action.TheVariants.{Ask as AskWord, Read as ReadWord, Load as LoadWord, Salvage as SalvageWord}
-use Rattle.bdb_tool_words.specs.declared.command.Action.TheVariants.{Repair as RepairWord}
+use Rattle.bdb_tool_words.specs.declared.command.Action.TheVariants.{Ask as AskWord, Load as LoadWord, Read as ReadWord, Repair as RepairWord, Salvage as SalvageWord}
 use Rattle.bdb_tool_words.specs.declared.command.Reading.{Reading}
 use Rattle.bdb_tool_words.specs.declared.command.Request.{Request as CodeRequest}
 use Rattle.bdb_tool_words.specs.declared.command.Repair.{Repair as CodeRepair}

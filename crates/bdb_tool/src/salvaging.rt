@@ -1,15 +1,15 @@
 //! The command that salvages an image.
 ghost use Rattle.std.specs.Prelude.{◌≤◌, ◌^◌, length};
-ghost use Rattle.bdb_repair.specs.of_model.Change.{change};
+ghost use Rattle.bdb_model.specs.Change.{change};
 ghost use Rattle.bdb_tool.specs.Outputs.{salvage_answer};
-ghost use Rattle.bdb_tool.specs.Parts.{Finishes};
+ghost use Rattle.bdb_tool_ask.specs.Finished.{Finishes};
 ghost use Rattle.bdb_tool_words.specs.WordsSeen.{IsFitSalvage};
 
-use crate::finish::{report, tell, tell_memory};
-use crate::status::NO_META;
+use bdb_tool_ask::{report, tell, tell_memory};
+use bdb_tool_ask::status::NO_META;
 use bdb_format::Steps;
-use bdb_repair::bdb_rescue::{SalvageError, salvage};
-use bdb_swap::bdb_io::Sink;
+use bdb_rescue::{SalvageError, salvage};
+use bdb_io::Sink;
 use bdb_tool_print::write_salvaged;
 use bdb_tool_words::Salvage;
 use std::alloc::Global;

@@ -8,7 +8,8 @@ use Rattle.bdb_tool.specs.of_file.declared.rows.Rows.TheVariants.{All, AnyOrder}
 use Rattle.bdb_tool.specs.of_model.Answers.{Answer, told, too_large_line}
 use Rattle.bdb_tool.specs.of_model.Change.{Change, Gains, HasFailed}
 use Rattle.bdb_tool.specs.of_tool_words.Commands.{Ask, Command, Verify, command_of, handed}
-use Rattle.bdb_tool.specs.Outputs.{IsAnswerBySize, IsAnswerTo, IsCommandAnswer, IsInput, asked_alone, verified}
+use Rattle.bdb_tool.specs.Outputs.{IsAnswerBySize, IsAnswerTo, IsCommandAnswer, IsInput, asked_alone}
+use Rattle.bdb_tool_ask.specs.FileAnswers.{verified}
 use Rattle.bdb_tool.specs.Runs.{IsAnswered, RunsAs}
 use Rattle.check_images.specs.Lines.{text_told, verify_answer, verify_words}
 

@@ -5,7 +5,7 @@ use Rattle.bdb_tool.specs.of_file.declared.rows.Rows.{Rows}
 use Rattle.bdb_tool.specs.of_file.declared.rows.Rows.TheVariants.{All, AnyOrder}
 use Rattle.bdb_tool.specs.of_model.Answers.{Answer, told, too_large_line}
 use Rattle.bdb_tool.specs.of_text_format.LineEnd.{line}
-use Rattle.bdb_tool.specs.Outputs.{verified}
+use Rattle.bdb_tool_ask.specs.FileAnswers.{verified}
 
 -- the words that ask for the verdict by the rows that count
 abbrev pub verify_words : Rows → List (List ℕ)

@@ -1,6 +1,6 @@
 use Rattle.std.proofs.Common.{ℕ, Ok, subst}
 use Rattle.bdb_repair.specs.Repairs.{IsRepaired}
-use Rattle.bdb_repair.specs.of_rescue.Guesses.{chosen}
+use Rattle.bdb_rescue.specs.Guesses.{chosen}
 use Rattle.bdb_tool.proofs.RepairLemmas.{built_ends, large_ends, no_guess_ends, refused_within}
 use Rattle.bdb_tool.proofs.repairing.answer_repair.Goals as goal
 

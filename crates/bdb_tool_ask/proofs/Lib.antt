@@ -1,0 +1,6 @@
+pub mod FinishLemmas
+pub mod TellingLemmas
+pub mod AnswerLemmas
+pub mod RangeLemmas
+pub mod ConvertLemmas
+pub mod FigureLemmas
