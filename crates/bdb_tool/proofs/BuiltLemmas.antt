@@ -9,7 +9,7 @@ use Rattle.bdb_rescue.specs.Text.{salvage_text}
 use Rattle.bdb_rescue.specs.Guesses.{chosen}
 use Rattle.bdb_survey.specs.declared.guess.Guess.{Guess}
 use Rattle.bdb_tool.specs.Outputs.{salvage_answer, salvaged_answer}
-use Rattle.bdb_tool_ask.specs.Finished.{Finishes, HasOwnStatus, Reports, Tells}
+use Rattle.bdb_tool_lines.specs.Finished.{Finishes, HasOwnStatus, Reports, Tells}
 use Rattle.bdb_tool.specs.Parts.{Answered, Ends, IsRefusalTold, Unanswered}
 use Rattle.bdb_format.specs.declared.kinds.Kind.{Kind}
 use Rattle.bdb_format.proofs.KnownLemmas.{keeps_itself}
@@ -30,11 +30,10 @@ use Rattle.bdb_tool_build.specs.Ontos.{IsLoadOnto, IsTextOntoBy}
 use Rattle.bdb_tool.specs.Ontos.{IsOntoBy}
 use Rattle.bdb_tool_build.specs.Refusals.{IsRefusedAnswer}
 use Rattle.bdb_tool_build.specs.Trials.{IsTrialAnswer, IsTrialBy, trial_sections}
-use Rattle.bdb_tool_ask.proofs.FinishLemmas.{told_finishes, written_finishes}
+use Rattle.bdb_tool_lines.proofs.FinishLemmas.{low_own, told_finishes, written_finishes}
 use Rattle.bdb_tool_lines.specs.declared.cut.Cut.{Cut}
 use Rattle.bdb_tool_lines.specs.Printing.{Writes}
 use Rattle.bdb_tool_lines.proofs.PrintingLemmas.{moved}
-use Rattle.bdb_tool_ask.proofs.AnswerLemmas.{low_own}
 
 -- Commands that build a file.
 

@@ -10,12 +10,12 @@ ghost use Rattle.bdb_tool_build.specs.Loads.{IsTextAnswer};
 ghost use Rattle.bdb_tool_build.specs.Ontos.{IsTextOnto};
 ghost use Rattle.bdb_tool_build.specs.Trials.{IsTrialAnswer};
 
-use bdb_tool_ask::{put, refuse, report, tell, tell_memory};
-use bdb_tool_ask::status::{BAD_TEXT, TOO_LARGE};
 use bdb_format::Steps;
 use bdb_io::{Image, Sink};
 use bdb_onto::Base;
 use bdb_tool_build::{Refusal, base_of, load_text, load_text_onto, trial_text};
+use bdb_tool_lines::status::{BAD_TEXT, TOO_LARGE};
+use bdb_tool_lines::{put, refuse, report, tell, tell_memory};
 use bdb_tool_words::Trial;
 use std::alloc::Global;
 use std::sync::ledger::Ledger;

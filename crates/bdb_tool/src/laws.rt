@@ -5,8 +5,8 @@ ghost use Rattle.bdb_tool.specs.Outputs.{StatusIs};
 
 use crate::run;
 use bdb_format::{Bytes, Steps};
-use bdb_model::Words;
 use bdb_io::{PureSink, PureSource};
+use bdb_model::Words;
 use std::alloc::Global;
 use std::sync::ledger::Ledger;
 

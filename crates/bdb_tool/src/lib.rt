@@ -11,8 +11,9 @@ mod task;
 mod text;
 
 pub use bdb_repair::{bdb_file, bdb_model, bdb_text};
-pub use bdb_tool_ask::{bdb_format, bdb_io, bdb_layout, bdb_range, status, tell_usage};
+pub use bdb_tool_ask::{bdb_format, bdb_io, bdb_layout, bdb_range, tell_usage};
 pub use bdb_tool_build;
 pub use bdb_tool_build::bdb_gen;
+pub use bdb_tool_lines::status;
 pub use bdb_tool_words::onto_file;
 pub use program::{run, run_counted, run_onto};

@@ -8,13 +8,14 @@ ghost use Rattle.bdb_tool_words.specs.WordsSeen.{AreOnto};
 
 use crate::answer::answer;
 use crate::building::answer_onto;
-use bdb_tool_ask::{tell, tell_memory, tell_usage};
-use bdb_tool_ask::status::{READ_FAULT, TOO_LARGE};
 use crate::task::{Stop, input_of, task_of};
 use crate::text::{base_too_large_line, too_large_line};
 use bdb_format::Steps;
-use bdb_model::Words;
 use bdb_io::{Image, PureSource, Sink, Source};
+use bdb_model::Words;
+use bdb_tool_ask::tell_usage;
+use bdb_tool_lines::status::{READ_FAULT, TOO_LARGE};
+use bdb_tool_lines::{tell, tell_memory};
 use bdb_tool_words::base_limit;
 use std::alloc::Global;
 use std::sync::ledger::{Blank, Ledger};

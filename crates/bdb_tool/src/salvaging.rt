@@ -2,14 +2,14 @@
 ghost use Rattle.std.specs.Prelude.{◌≤◌, ◌^◌, length};
 ghost use Rattle.bdb_model.specs.Change.{change};
 ghost use Rattle.bdb_tool.specs.Outputs.{salvage_answer};
-ghost use Rattle.bdb_tool_ask.specs.Finished.{Finishes};
+ghost use Rattle.bdb_tool_lines.specs.Finished.{Finishes};
 ghost use Rattle.bdb_tool_words.specs.WordsSeen.{IsFitSalvage};
 
-use bdb_tool_ask::{report, tell, tell_memory};
-use bdb_tool_ask::status::NO_META;
 use bdb_format::Steps;
-use bdb_rescue::{SalvageError, salvage};
 use bdb_io::Sink;
+use bdb_rescue::{SalvageError, salvage};
+use bdb_tool_lines::status::NO_META;
+use bdb_tool_lines::{report, tell, tell_memory};
 use bdb_tool_print::write_salvaged;
 use bdb_tool_words::Salvage;
 use std::alloc::Global;

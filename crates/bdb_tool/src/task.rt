@@ -6,8 +6,8 @@ ghost use Rattle.bdb_tool.specs.Tasks.{IsFitTask, IsInputWithin, IsStopped, IsTa
 ghost use Rattle.bdb_tool_words.specs.WordsSeen.{IsFitCommand, IsSeen, command_seen};
 
 use bdb_file::Rows;
-use bdb_model::Words;
 use bdb_io::{Image, ReadError, Source, read_image};
+use bdb_model::Words;
 use bdb_tool_words::{Action, Command, Reading, Repair, Request, Salvage, Trial, command_of};
 use std::alloc::Global;
 

@@ -13,9 +13,9 @@ use Rattle.bdb_model.specs.Lines.{memory_line}
 use Rattle.bdb_swap.specs.Flip.{IsFlip}
 use Rattle.bdb_swap.specs.declared.flipping.FlipError.{FlipError}
 use Rattle.bdb_swap.specs.declared.flipping.FlipError.TheVariants.{Overlap}
-use Rattle.bdb_tool_ask.specs.Finished.{Finishes, Reports, Tells}
+use Rattle.bdb_tool_lines.specs.Finished.{Finishes, Reports, Tells}
 use Rattle.bdb_tool_ask.proofs.AnswerLemmas.{converted_own}
-use Rattle.bdb_tool_ask.proofs.FinishLemmas.{memory_finishes, told_finishes, written_finishes}
+use Rattle.bdb_tool_lines.proofs.FinishLemmas.{memory_finishes, told_finishes, written_finishes}
 
 -- the line was told as it was made
 pub line_told : (page : ℕ) (text : List ℕ) (err : Change) (status : ℕ) → text ≡ overlap_line page → Tells text 13 err status

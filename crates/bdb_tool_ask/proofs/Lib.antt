@@ -1,4 +1,3 @@
-pub mod FinishLemmas
 pub mod TellingLemmas
 pub mod AnswerLemmas
 pub mod RangeLemmas

@@ -17,8 +17,8 @@ use Rattle.bdb_model.specs.Answers.{done, pairs_text}
 use Rattle.bdb_model.specs.Change.{Change}
 use Rattle.bdb_range.specs.Ranges.{in_range}
 use Rattle.bdb_text_format.specs.Written.{is_btree}
-use Rattle.bdb_tool_ask.specs.Finished.{Finishes, Reports, Tells}
-use Rattle.bdb_tool_ask.proofs.FinishLemmas.{told_finishes, written_finishes}
+use Rattle.bdb_tool_lines.specs.Finished.{Finishes, Reports, Tells}
+use Rattle.bdb_tool_lines.proofs.FinishLemmas.{told_finishes, written_finishes}
 
 -- Kinds.
 

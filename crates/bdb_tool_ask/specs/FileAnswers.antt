@@ -19,7 +19,7 @@ use Rattle.bdb_turned.specs.Flipped.{flip_of, overlap_in}
 use Rattle.bdb_file.specs.AnyOrder.{faults_by_rows, verdict_by}
 use Rattle.bdb_file.specs.declared.rows.Rows.{Rows}
 use Rattle.bdb_format.specs.declared.kinds.Fault.{Fault}
-use Rattle.bdb_tool_lines.specs.Telling.{judgement_status, judgements_text}
+use Rattle.bdb_tool_lines.specs.Telling.{first_status, judgements_text}
 use Rattle.bdb_tool_ask.specs.FileAnswers.{judged_answer, sound_answer}
 
 abbrev pub not_found : Answer
@@ -118,11 +118,6 @@ abbrev pub judged_answer : Option Judgement → Request → List ℕ → Answer
 judged_answer None request image = sound_answer request image
 judged_answer (Some (Faulty fault)) request image = told 1 (fault_line fault)
 judged_answer (Some (LeftOut name page)) request image = told 3 (unsupported_line name page)
-
--- the status of the first of what holds
-abbrev pub first_status : List Judgement → ℕ
-first_status [] = 0
-first_status (judgement ∷ judgements) = judgement_status judgement
 
 -- `verify`: the line of a sound file, else a line for each fault of the first stage that has any, with the status of the first
 abbrev pub verified : List Fault → List ℕ → Answer

@@ -4,15 +4,15 @@ ghost use Rattle.bdb_tool_ask.specs.FileAnswers.{converted, overlap_line};
 ghost use Rattle.bdb_model.specs.Change.{change};
 ghost use Rattle.bdb_turned.specs.Flipped.{overlap_in};
 ghost use Rattle.bdb_model.specs.Lines.{memory_line};
-ghost use Rattle.bdb_tool_ask.specs.Finished.{Finishes, Tells};
+ghost use Rattle.bdb_tool_lines.specs.Finished.{Finishes, Tells};
 
-use crate::finish::{put, report, tell, tell_memory};
-use crate::status::OVERLAP;
 use crate::text::overlap_line;
-use bdb_format::Order;
 use bdb_file::Sound;
+use bdb_format::Order;
 use bdb_io::Sink;
 use bdb_swap::{FlipError, flip};
+use bdb_tool_lines::status::OVERLAP;
+use bdb_tool_lines::{put, report, tell, tell_memory};
 use std::alloc::Global;
 
 /// Tells the page on which items overlap.

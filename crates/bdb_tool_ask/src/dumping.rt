@@ -11,11 +11,11 @@ ghost use Rattle.bdb_text_format.specs.Written.{data_end, database_text, dump_te
 ghost use Rattle.bdb_tool_print.specs.Printers.{Adds, pair_text};
 ghost use Rattle.bdb_tool_lines.specs.Printing.{Writes};
 
-use bdb_tool_print::Printer;
 use bdb_file::{Db, Readable, Scan};
 use bdb_format::Bytes;
-use bdb_tool_lines::Cut;
 use bdb_io::Sink;
+use bdb_tool_lines::Cut;
+use bdb_tool_print::Printer;
 use std::alloc::Global;
 
 /// Prints the data lines of a list.
@@ -38,7 +38,12 @@ fn data<K: Sink>(printer: &mut Printer<'_, K>, list: &mut Scan<'_>, print: bool)
 }
 
 /// Prints the data lines of the list of a database, and the line that ends them.
-fn database_data<K: Sink>(printer: &mut Printer<'_, K>, readable: &Readable<'_>, db: Db, print: bool) -> Result<(), Cut>
+fn database_data<K: Sink>(
+    printer: &mut Printer<'_, K>,
+    readable: &Readable<'_>,
+    db: Db,
+    print: bool,
+) -> Result<(), Cut>
     requires { db < length (databases (file_of readable.now)) }
     ensures { Adds K.written K.faults printer.old printer.new
         (flat_map (pair_text print) (list_of (file_of readable.now) (database_at (file_of readable.now) db).fields) ++ line data_end) result }
@@ -51,7 +56,12 @@ fn database_data<K: Sink>(printer: &mut Printer<'_, K>, readable: &Readable<'_>,
 
 /// Prints the section of a database.
 #[tactic(auto, using(bdb_tool_print::proofs::DumpLemmas::section_by_parts, bdb_tool_print::proofs::PrinterLemmas::then_adds, bdb_tool_print::proofs::PrinterLemmas::adds_cut))]
-fn database_section<K: Sink>(printer: &mut Printer<'_, K>, readable: &Readable<'_>, db: Db, print: bool) -> Result<(), Cut>
+fn database_section<K: Sink>(
+    printer: &mut Printer<'_, K>,
+    readable: &Readable<'_>,
+    db: Db,
+    print: bool,
+) -> Result<(), Cut>
     requires { db < length (databases (file_of readable.now)) }
     ensures { Adds K.written K.faults printer.old printer.new (database_text print readable.now (database_at (file_of readable.now) db)) result }
 {
@@ -60,7 +70,11 @@ fn database_section<K: Sink>(printer: &mut Printer<'_, K>, readable: &Readable<'
 }
 
 /// Prints the section of each database.
-fn sections<K: Sink>(printer: &mut Printer<'_, K>, readable: &Readable<'_>, print: bool) -> Result<(), Cut>
+fn sections<K: Sink>(
+    printer: &mut Printer<'_, K>,
+    readable: &Readable<'_>,
+    print: bool,
+) -> Result<(), Cut>
     ensures { Adds K.written K.faults printer.old printer.new (dump_text print readable.now (databases (file_of readable.now))) result }
 {
     for i in 0..readable.databases() {

@@ -8,12 +8,12 @@ ghost use Rattle.bdb_overflow.specs.Datum.{datum_seen};
 ghost use Rattle.bdb_tool_print.specs.Printers.{Adds};
 ghost use Rattle.bdb_tool_lines.specs.Printing.{Writes};
 
-use bdb_tool_print::Printer;
 use bdb_file::{Found, Readable};
 use bdb_format::Bytes;
+use bdb_io::Sink;
 use bdb_overflow::Datum;
 use bdb_tool_lines::Cut;
-use bdb_io::Sink;
+use bdb_tool_print::Printer;
 use std::alloc::Global;
 
 /// Prints the line of each database.
@@ -29,7 +29,11 @@ fn database_lines<K: Sink>(printer: &mut Printer<'_, K>, readable: &Readable<'_>
 }
 
 /// Prints values, each on a line of its own.
-fn value_lines<K: Sink>(printer: &mut Printer<'_, K>, values: &mut Found<'_>, print: bool) -> Result<(), Cut>
+fn value_lines<K: Sink>(
+    printer: &mut Printer<'_, K>,
+    values: &mut Found<'_>,
+    print: bool,
+) -> Result<(), Cut>
     ensures { Adds K.written K.faults printer.old printer.new (values_text print values.old) result }
 {
     for value in values {
@@ -53,7 +57,12 @@ fn found_lines<K: Sink>(
 }
 
 /// The same, of values that are given up.
-fn found<K: Sink>(printer: &mut Printer<'_, K>, first: Datum<'_>, mut others: Found<'_>, print: bool) -> Result<(), Cut>
+fn found<K: Sink>(
+    printer: &mut Printer<'_, K>,
+    first: Datum<'_>,
+    mut others: Found<'_>,
+    print: bool,
+) -> Result<(), Cut>
     ensures { Adds K.written K.faults printer.old printer.new (value_line print (datum_seen first.entry) ++ values_text print others.entry) result }
 {
     found_lines(printer, &first, &mut others, print)
@@ -61,7 +70,11 @@ fn found<K: Sink>(printer: &mut Printer<'_, K>, first: Datum<'_>, mut others: Fo
 
 /// Writes the line of each database.
 #[tactic(auto, using(bdb_tool_print::proofs::PrinterLemmas::all_cut))]
-pub(crate) fn write_list<K: Sink>(alloc: Global, out: &mut K, readable: &Readable<'_>) -> Result<(), Cut>
+pub(crate) fn write_list<K: Sink>(
+    alloc: Global,
+    out: &mut K,
+    readable: &Readable<'_>,
+) -> Result<(), Cut>
     ensures { Writes (list_text (databases (file_of readable.now))) (change K.written K.faults out.old out.new) result }
 {
     let mut pending = Bytes::new(alloc);

@@ -7,27 +7,25 @@ ghost use Rattle.bdb_tool_ask.specs.FileAnswers.{asked_answer, dumped, judged_an
 ghost use Rattle.bdb_model.specs.Change.{change};
 ghost use Rattle.bdb_tool_words.specs.Commands.{Dump, ListAll, Request as ModelRequest, text_request};
 ghost use Rattle.bdb_model.specs.Command.{asked_name};
-ghost use Rattle.bdb_tool_ask.specs.Finished.{Finishes};
+ghost use Rattle.bdb_tool_lines.specs.Finished.{Finishes};
 ghost use Rattle.bdb_tool_words.specs.WordsSeen.{reading_seen};
 
-use crate::finish::{put, report, tell, tell_memory};
-use crate::spelled::name_sought;
-use crate::status::NOT_FOUND;
-use crate::telling::{refuse, tell_list};
-use crate::text::sound_line;
-use bdb_format::Steps;
-use bdb_file::{Readable, Rows, verify_all_by, verify_by};
-use bdb_faults::AllError;
-use bdb_io::Sink;
 use crate::dumping::{write_section, write_sections};
 use crate::listing::write_list;
-use bdb_tool_lines::Cut;
+use crate::spelled::name_sought;
+use crate::text::sound_line;
+use bdb_faults::AllError;
+use bdb_file::{Readable, Rows, verify_all_by, verify_by};
+use bdb_format::Steps;
+use bdb_io::Sink;
+use bdb_tool_lines::status::NOT_FOUND;
+use bdb_tool_lines::{Cut, put, refuse, report, tell, tell_list, tell_memory};
 use bdb_tool_words::{Reading, Selection};
 use std::alloc::Global;
 use std::sync::ledger::Ledger;
 
 /// Writes the line of a file on which no row that counts holds.
-#[tactic(auto, using(crate::proofs::AnswerLemmas::no_line, crate::proofs::AnswerLemmas::same_text))]
+#[tactic(auto, using(bdb_tool_lines::proofs::FinishLemmas::no_line, bdb_tool_lines::proofs::FinishLemmas::same_text))]
 fn print_sound<K: Sink>(alloc: Global, readable: &Readable<'_>, out: &mut K) -> Result<(), Cut>
     ensures { Writes (sound_line (head_of readable.now).pages) (change K.written K.faults out.old out.new) result }
 {

@@ -5,13 +5,13 @@ ghost use Rattle.bdb_tool_lines.specs.Printing.{Writes};
 ghost use Rattle.bdb_tool_ask.specs.FileAnswers.{stat_text};
 ghost use Rattle.bdb_model.specs.Answers.{done};
 ghost use Rattle.bdb_model.specs.Change.{change};
-ghost use Rattle.bdb_tool_ask.specs.Finished.{Finishes};
+ghost use Rattle.bdb_tool_lines.specs.Finished.{Finishes};
 ghost use Rattle.bdb_tool_ask.specs.Figures.{figures_text, last_figures, other_figures, tree_figures};
 
-use crate::finish::{put, report};
 use bdb_file::Sound;
-use bdb_stat::{Stat, stat};
 use bdb_io::Sink;
+use bdb_stat::{Stat, stat};
+use bdb_tool_lines::{put, report};
 use bdb_tool_print::Cut;
 use std::alloc::{AllocError, Global};
 
@@ -83,7 +83,7 @@ fn print_figures<K: Sink>(alloc: Global, sound: &Sound<'_>, out: &mut K) -> Resu
 }
 
 /// Answers `stat`.
-#[tactic(auto, using(crate::proofs::FinishLemmas::written_finishes))]
+#[tactic(auto, using(bdb_tool_lines::proofs::FinishLemmas::written_finishes))]
 pub(crate) fn answer_stat<K: Sink, E: Sink>(
     alloc: Global,
     sound: &Sound<'_>,

@@ -2,3 +2,5 @@ pub mod DigitLemmas
 pub mod LineLemmas
 pub mod PassingLemmas
 pub mod PrintingLemmas
+pub mod FinishLemmas
+pub mod RefusalLemmas

@@ -63,12 +63,7 @@ impl<'k, K: Sink> Printer<'k, K> {
     }
 
     /// Prints the two data lines of a pair.
-    pub fn pair(
-        &mut self,
-        key: KeyView<'_>,
-        value: Datum<'_>,
-        print: bool,
-    ) -> Result<(), Cut>
+    pub fn pair(&mut self, key: KeyView<'_>, value: Datum<'_>, print: bool) -> Result<(), Cut>
         ensures { Adds K.written K.faults self.old self.new (pair_text print (key_view_seen key.entry, datum_seen value.entry)) result }
     {
         self.both_lines(&key, &value, print)

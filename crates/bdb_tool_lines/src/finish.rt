@@ -1,13 +1,12 @@
 ghost use Rattle.std.specs.Prelude.{◌≢◌};
 ghost use Rattle.bdb_model.specs.Change.{change};
 ghost use Rattle.bdb_model.specs.Lines.{memory_line};
-ghost use Rattle.bdb_tool_words.specs.Commands.{usage};
-ghost use Rattle.bdb_tool_ask.specs.Finished.{Reports, Tells};
+ghost use Rattle.bdb_tool_lines.specs.Finished.{Reports, Tells};
 ghost use Rattle.bdb_tool_lines.specs.Printing.{Writes};
 
-use crate::status::{DONE, MEMORY, USAGE, WRITE_FAULT};
+use crate::cut::Cut;
+use crate::status::{DONE, MEMORY, WRITE_FAULT};
 use bdb_io::{Sink, put_all};
-use bdb_tool_print::Cut;
 
 /// Writes an error line, and answers its status.
 pub fn tell<E: Sink>(err: &mut E, text: &[u8], status: u8) -> u8
@@ -20,17 +19,6 @@ pub fn tell<E: Sink>(err: &mut E, text: &[u8], status: u8) -> u8
     }
 }
 
-/// Tells the names of all commands, where the words are none of them, and answers the status of that or of a write fault.
-pub fn tell_usage<E: Sink>(err: &mut E) -> u8
-    ensures { Tells usage.err 2 (change E.written E.faults err.old err.new) result }
-{
-    tell(
-        err,
-        b"usage: bdbtool verify, list, get, dump, load, salvage, trial, range, convert, stat or repair\n",
-        USAGE,
-    )
-}
-
 /// Tells that memory was wanting.
 pub fn tell_memory<E: Sink>(err: &mut E) -> u8
     ensures { Tells memory_line 7 (change E.written E.faults err.old err.new) result }
@@ -39,7 +27,7 @@ pub fn tell_memory<E: Sink>(err: &mut E) -> u8
 }
 
 /// Writes a text to the output.
-#[tactic(auto, using(crate::proofs::AnswerLemmas::line_written, crate::proofs::AnswerLemmas::line_cut))]
+#[tactic(auto, using(crate::proofs::FinishLemmas::line_written, crate::proofs::FinishLemmas::line_cut))]
 pub fn put<K: Sink>(out: &mut K, text: &[u8]) -> Result<(), Cut>
     ensures { Writes text.now (change K.written K.faults out.old out.new) result }
 {

@@ -1,18 +1,18 @@
-//! What holds at the pages of a file is told.
+//! What holds at the pages of a file is told, with its status.
 ghost use Rattle.std.specs.Prelude.{◌≡◌, ◌⊎◌, ◌<◌, length};
 ghost use Rattle.bdb_model.specs.Change.{change};
 ghost use Rattle.bdb_model.specs.Lines.{memory_line};
 ghost use Rattle.bdb_faults.specs.Named.{judgement_seen};
-ghost use Rattle.bdb_tool_lines.specs.Telling.{judgement_line, judgement_status, judgements_text};
-ghost use Rattle.bdb_tool_ask.specs.FileAnswers.{first_status};
-ghost use Rattle.bdb_tool_ask.specs.Finished.{IsRefused, Tells};
+ghost use Rattle.bdb_tool_lines.specs.Telling.{first_status, judgement_line, judgement_status, judgements_text};
+ghost use Rattle.bdb_tool_lines.specs.Finished.{IsRefused, Tells};
 
 use crate::finish::tell_memory;
+use crate::room::Room;
 use crate::status::{FAULT, UNSUPPORTED, WRITE_FAULT};
-use bdb_format::Verdict;
+use crate::telling::{tell_all, tell_one};
 use bdb_faults::{Named, NamedList};
+use bdb_format::Verdict;
 use bdb_io::Sink;
-use bdb_tool_lines::{Room, tell_all, tell_one};
 use std::alloc::Global;
 
 /// The status that the first of what is told gives.
@@ -37,7 +37,7 @@ fn status_of_first(all: &NamedList) -> u8
 }
 
 /// Tells what holds at a page.
-#[tactic(auto, using(crate::proofs::TellingLemmas::told_whole, crate::proofs::TellingLemmas::told_in_part))]
+#[tactic(auto, using(crate::proofs::RefusalLemmas::told_whole, crate::proofs::RefusalLemmas::told_in_part))]
 fn tell_named<E: Sink>(alloc: Global, named: Named, err: &mut E) -> u8
     ensures { Tells (judgement_line (judgement_seen named)) (judgement_status (judgement_seen named)) (change E.written E.faults err.old err.new) result
         ⊎ Tells memory_line 7 (change E.written E.faults err.old err.new) result }
@@ -52,8 +52,8 @@ fn tell_named<E: Sink>(alloc: Global, named: Named, err: &mut E) -> u8
 }
 
 /// Tells all that holds at the pages of a file, of which there is one thing at least.
-#[tactic(auto, using(crate::proofs::TellingLemmas::told_whole, crate::proofs::TellingLemmas::told_in_part))]
-pub(crate) fn tell_list<E: Sink>(alloc: Global, all: &NamedList, err: &mut E) -> u8
+#[tactic(auto, using(crate::proofs::RefusalLemmas::told_whole, crate::proofs::RefusalLemmas::told_in_part))]
+pub fn tell_list<E: Sink>(alloc: Global, all: &NamedList, err: &mut E) -> u8
     requires { 0 < length all.now }
     ensures { Tells (judgements_text all.now) (first_status all.now) (change E.written E.faults err.old err.new) result
         ⊎ Tells memory_line 7 (change E.written E.faults err.old err.new) result }

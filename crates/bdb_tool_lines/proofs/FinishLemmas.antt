@@ -1,16 +1,18 @@
 -- How an answer is written.
-use Rattle.std.proofs.Common.{◌≡◌, ◌≢◌, ℕ, List, [], length, inl, inr, refl, sym, subst, ◌∙◌, arith}
-use Rattle.std.specs.Prelude.{Option, Ok, Err, Result}
+use Rattle.std.proofs.Common.{List, [], arith, inl, inr, length, refl, subst, sym, ℕ, ◌<◌, ◌∙◌, ◌≡◌, ◌≢◌, ◌≤◌}
+use Rattle.std.specs.Prelude.{Err, Ok, Option, Result}
 use Rattle.std.proofs.Math.Seq.{take-length}
 use Rattle.bdb_model.specs.Answers.{Answer, done}
 use Rattle.bdb_model.specs.Change.{Change, Gains, GainsPart}
 use Rattle.bdb_format.proofs.KnownLemmas.{appends_nothing}
 use Rattle.bdb_model.specs.Lines.{memory_line}
 use Rattle.bdb_tool_lines.specs.declared.cut.Cut.{Cut}
-use Rattle.bdb_tool_lines.specs.declared.cut.Cut.TheVariants.{WriteFault, Memory}
-use Rattle.bdb_tool_ask.specs.Finished.{Finishes, HasOwnStatus, Reports, Tells}
+use Rattle.bdb_tool_lines.specs.declared.cut.Cut.TheVariants.{Memory, WriteFault}
+use Rattle.bdb_tool_lines.specs.Finished.{Finishes, HasOwnStatus, Reports, Tells}
 use Rattle.bdb_tool_lines.specs.Printing.{Writes}
-use Rattle.bdb_tool_lines.proofs.PrintingLemmas.{moved}
+use Rattle.bdb_tool_lines.proofs.PrintingLemmas.{moved, nothing_of}
+use Rattle.std.specs.Io.KnownBytes.{Appends}
+use Rattle.bdb_format.specs.Faults.{AppendsPrefix, Rose}
 
 -- what was written whole was written in part
 whole_part : (text : List ℕ) (out : Change) → Gains out text → GainsPart out text
@@ -78,3 +80,23 @@ written_finishes text out err (Err Memory) status writes reports = record {
   error_line_begun = λ is. inr (inl (reports.part is));
   memory = reports.told;
 }
+
+-- a status below 4 is the answer's own
+pub low_own : (answer : Answer) → answer.status < 4 → HasOwnStatus answer
+low_own answer low = record { no_read_fault = λ is. omega arith; no_write_fault = λ is. omega arith; no_memory = λ is. omega arith }
+
+-- One line.
+
+pub line_written : (a b : Option (List ℕ)) (f g : ℕ) (given text : List ℕ) → given ≡ text → Appends a b given → f ≤ g → Writes text (moved a b f g) (Ok tt)
+line_written a b f g given text is got later = record { written = subst (Appends a b) is got; later = later }
+
+pub line_cut : (a b : Option (List ℕ)) (f g : ℕ) (given text : List ℕ) → given ≡ text → AppendsPrefix a b given → f ≤ g → Rose f g
+    → Writes text (moved a b f g) (Err WriteFault)
+line_cut a b f g given text is part later rose = record { written = record { part = subst (AppendsPrefix a b) is part; cause = λ _. rose }; later = later }
+
+pub no_line : (a : Option (List ℕ)) (f : ℕ) (text : List ℕ) → Writes text (moved a a f f) (Err Memory)
+no_line a f text = record { written = record { part = nothing_of a text; cause = λ is. cc }; later = omega arith }
+
+-- a text was written that is another
+pub same_text : (given text : List ℕ) (out : Change) (result : Result Unit Cut) → given ≡ text → Writes given out result → Writes text out result
+same_text given text out result is writes = subst (λ bytes. Writes bytes out result) is writes
