@@ -1,6 +1,6 @@
 #!/bin/sh
-# The installed launcher, PREFIX/bin/bdbtool: answers words that ask for help or the version, and starts the program with all others.
-# What it reads stands in PREFIX/libexec/bdbtool, which it finds by its own place.
+# The installed launcher, PREFIX/bin/bdbtool: answers words that ask for help or the version, and starts the program with
+# all others. What it reads stands in PREFIX/libexec/bdbtool, which it finds by its own place.
 
 top=.
 case $0 in */*) top=${0%/*} ;; esac
@@ -15,7 +15,8 @@ show_version() {
 }
 
 show_more() {
-    printf '\nThe manual page: man bdbtool; recipes, and what each fault means: %s/share/doc/bdbtool\n' "$(cd "$top" && pwd)"
+    documents=$(cd "$top" && pwd)/share/doc/bdbtool
+    printf '\nThe manual page: man bdbtool; recipes, and what each fault means: %s\n' "$documents"
 }
 
 # shellcheck disable=SC2034

@@ -1,10 +1,13 @@
 #!/usr/bin/env python3
-"""check_launcher.py [PROGRAM]: tries ./bdbtool in an unbuilt copy of this checkout, and what tools/install.sh puts in place.
+"""Tries ./bdbtool in an unbuilt copy of this checkout, and what tools/install.sh puts in place.
 
-In the copy `rt` is a stub that leaves a mark, so that a build that shouldn't begin is seen. Words that are no command, and words that are one, are
-those of crates/check_runs, whose answers are the defined ones, and those of the tables below. Each line that is printed is a case that doesn't hold,
-or says what was skipped; the last is 'N of N hold'. Without PROGRAM a stub is installed. With it the launcher's judgement is compared with the
-program's own too, over the same words and some that are drawn by chance.
+Usage: check_launcher.py [PROGRAM]
+
+In the copy `rt` is a stub that leaves a mark, so that a build that shouldn't begin is seen. Words that are no command, and
+words that are one, are those of crates/check_runs, whose answers are the defined ones, and those of the tables below. Each
+line that is printed is a case that doesn't hold, or says what was skipped; the last is 'N of N hold'. Without PROGRAM a
+stub is installed. With it the launcher's judgement is compared with the program's own too, over the same words and some
+that are drawn by chance.
 """
 
 import os
@@ -17,7 +20,8 @@ import tempfile
 
 TOP = os.path.dirname(os.path.dirname(os.path.abspath(__file__)))
 STUB_RT = '#!/bin/sh\n: >"$MARK"\necho "rt: a build has begun" >&2\nexit 1\n'
-# The stub of the program: the words `no command` are refused as the program does; else it tells its words and what it was started with.
+# The stub of the program: words that begin with `no` are refused as the program does; else it tells its words, and the
+# setting that it was started with.
 STUB_PROGRAM = """#!/bin/sh
 if [ "$1" = no ]; then echo 'the usage line' >&2; exit 2; fi
 for word; do printf '%s\\0' "$word"; done
@@ -33,6 +37,12 @@ VALUES = {
     "--page-size": [b"512", b"32768"],
     "--as": [b"btree", b"hash", b"recno"],
     "--onto": [b"base"],
+}
+# What completion offers behind an option.
+VALUES_OFFERED = {
+    "--order": ["big", "little"],
+    "--page-size": "512 1024 2048 4096 8192 16384 32768".split(),
+    "--as": ["btree", "hash", "recno"],
 }
 FLAGS = ["--hex", "--print", "--any-order", "--duplicates", "--dupsort"]
 # Words that no table of check_runs has: odd ones, and those that the shell could take for its own.
@@ -134,9 +144,12 @@ def read(path):
 
 
 def table_of_runs():
-    """The words of each run of check_runs, and whether they are a command. The table has runs of `load --onto` without a base, which no command line is."""
+    """The words of each run of check_runs, and whether they are a command.
+
+    The table has runs of `load --onto` without a base too, in whose place a command line always has one.
+    """
     runs, lines = {}, read(f"{TOP}/crates/check_runs/stdout").splitlines()
-    tried = set(read(f"{TOP}/crates/check_runs/stdin").splitlines())
+    tried = {line for line in read(f"{TOP}/crates/check_runs/stdin").splitlines() if line}
     for place, line in enumerate(lines):
         if line not in tried or line.startswith(("#", "=")):
             continue
@@ -163,10 +176,17 @@ def shells():
     return [shell for shell in found if shutil.which(shell[0])] or [["sh"]]
 
 
-def is_command(words, shell):
-    """The launcher's judgement, by its own function."""
-    status, out, err = ran([*shell, "-c", '. "$0" && is_command "$@"', f"{TOP}/tools/launch.sh", *words])
-    return status == 0 if out + err == b"" else err
+def judged(rows, shell):
+    """The launcher's judgement of each row of words, by its own function, in one run of a shell."""
+    script = [b'. "$1"', b"judge() { is_command \"$@\"; echo $?; }"]
+    for words in rows:
+        script.append(b" ".join([b"judge", *(b"'" + word.replace(b"'", b"'\\''") + b"'" for word in words)]))
+    with tempfile.NamedTemporaryFile() as file:
+        file.write(b"\n".join(script) + b"\n")
+        file.flush()
+        status, out, err = ran([*shell, file.name, f"{TOP}/tools/launch.sh"])
+    answers = [line == b"0" for line in out.splitlines()]
+    return answers if status == 0 and err == b"" and len(answers) == len(rows) else [(status, err)] * len(rows)
 
 
 def words_by_chance(chance):
@@ -216,9 +236,9 @@ def check_words(checks, runs, unbuilt):
     for words in [list(words) for words, right in runs.items() if not right] + NO_COMMANDS + [[]]:
         answer = unbuilt.ran(words)
         checks.check(f"refused without a build: {words}", answer == (2, b"", refusal, False), answer)
+    rows = [*runs.items(), *((words, False) for words in NO_COMMANDS), *((words, True) for words in RIGHT)]
     for shell in shells():
-        for words, right in [*runs.items(), *((words, False) for words in NO_COMMANDS), *((words, True) for words in RIGHT)]:
-            found = is_command(words, shell)
+        for (words, right), found in zip(rows, judged([words for words, _ in rows], shell)):
             checks.check(f"{' '.join(shell)}: {'a' if right else 'no'} command: {list(words)}", found is right, found)
     for words in [[b"verify"], [b"get", b"-h"], [b"dump", b"--name", b"--help"]]:
         answer = unbuilt.ran(words)
@@ -242,7 +262,8 @@ def check_help(checks, unbuilt):
             checks.check(f"{command} -h", unbuilt.ran([command, "-h"]) == part)
     for shell in shells():
         checks.check(f"{' '.join(shell)}: --help", unbuilt.ran(["--help"], shell) == whole)
-    checks.check("no line of help above 120 columns", all(len(line) <= 120 for line in whole[1].splitlines() if b"/" not in line))
+    long = [line for line in whole[1].splitlines() if len(line) > 120 and b"/" not in line]
+    checks.check("no line of help above 120 columns", not long, long)
 
 
 def check_built(checks, unbuilt):
@@ -318,7 +339,7 @@ def check_installed(checks, room, unbuilt, program):
 def check_recipes(checks, prefix, env, program):
     folder = f"{prefix}/share/doc/bdbtool"
     recipes = recipes_of_page()
-    checks.check("each recipe is installed", sorted([*recipes, "FAULTS.md"]) == sorted(os.listdir(folder)), os.listdir(folder))
+    checks.check("each recipe is installed", sorted([*recipes, "FAULTS.md", "RECIPES.md"]) == sorted(os.listdir(folder)), os.listdir(folder))
     for name, text in recipes.items():
         place = f"{folder}/{name}"
         checks.check(f"{name} is that of the page", os.access(place, os.X_OK) and read(place) == text)
@@ -379,13 +400,6 @@ def check_bash(checks, prefix):
         check(["load", before, "b"], ["bin"])
 
 
-VALUES_OFFERED = {
-    "--order": ["big", "little"],
-    "--page-size": "512 1024 2048 4096 8192 16384 32768".split(),
-    "--as": ["btree", "hash", "recno"],
-}
-
-
 def check_zsh(checks, prefix):
     if not shutil.which("zsh"):
         return skip("completion in zsh, since there is no zsh")
@@ -418,13 +432,13 @@ def check_zsh(checks, prefix):
 
 
 def check_program(checks, runs, program):
-    """The launcher's judgement beside the program's, which is asked with no input. Words of trial name few pairs."""
+    """The launcher's judgement beside the program's, which is asked with no input."""
     chance = random.Random(1)
     drawn = [words_by_chance(chance) for _ in range(1000)]
-    for words in [*runs, *NO_COMMANDS, *RIGHT, *drawn, []]:
+    rows = [*runs, *NO_COMMANDS, *RIGHT, *drawn, []]
+    for words, right in zip(rows, judged(rows, shells()[0])):
         status, _, err = ran([program, *words])
-        judged = is_command(words, shells()[0])
-        checks.check(f"the program's judgement of {list(words)}", (status != 2) is judged, (status, err))
+        checks.check(f"the program's judgement of {list(words)}", (status != 2) is right, (status, err))
         if status == 2:
             checks.check(f"the program's usage line for {list(words)}", err == usage_line() + b"\n", err)
 

@@ -1,27 +1,32 @@
 # shellcheck shell=sh
-# What ./bdbtool and the installed launcher share: the help, whether words are a command, and the start of the program. Both read this file by `.`,
-# having set `called`, the launcher's name, and have a function `show_version` and a function `show_more`, the end of the help.
-# The rules of words stand in README.md, "Use"; crates/bdb_tool_words/specs/Commands.antt defines them, and tools/check_launcher.py compares.
+# What ./bdbtool and the installed launcher share: the help, whether words are a command, and the start of the program.
+# Both read this file by `.`, having set `called`, the launcher's name, and have a function `show_version`, and a function
+# `show_more`, which ends the help. The rules of words stand in README.md, "Use", and their definition in
+# crates/bdb_tool_words/specs/Commands.antt; tools/check_launcher.py compares.
 
 # The program's own line for words that are no command.
 usage='usage: bdbtool verify, list, get, dump, load, salvage, trial, range, convert, stat or repair'
 
 commands='verify list get range dump load salvage repair convert stat trial'
 
-# The row of a command: how many operands it has, its words but --max-bytes, and what it gives. An option in brackets by itself has no value, every
-# other one takes the next word. Another word has no row.
+# The row of a command: how many operands it has, its words but --max-bytes, and what it gives. An option that stands in
+# brackets by itself has no value, every other one takes the next word. Another word has no row.
 look_up() {
     case $1 in
     verify) set -- 0 'verify [--any-order]' 'says that a Berkeley DB file is sound, or names its faults' ;;
     list) set -- 0 'list [--any-order]' 'the databases of a sound file' ;;
     get) set -- 1 'get [--name NAME] [--hex] [--print] KEY' 'the data of a key' ;;
-    range) set -- 2 'range [--name NAME] [--hex] [--print] FROM TO' 'the pairs of a btree from one key to before another' ;;
+    range)
+        set -- 2 'range [--name NAME] [--hex] [--print] FROM TO' 'the pairs of a btree from one key to before another'
+        ;;
     dump) set -- 0 'dump [--name NAME] [--print] [--any-order]' 'the dump text of the databases, or of one' ;;
     load) set -- 0 'load [--onto BASE]' 'a file of a dump text, or of BASE with its pairs added' ;;
-    salvage) set -- 0 'salvage [--print] [--order ORDER --page-size SIZE]' 'the dump text of what a damaged file still has' ;;
+    salvage)
+        set -- 0 'salvage [--print] [--order ORDER --page-size SIZE]' 'the dump text of what a damaged file still has'
+        ;;
     repair)
         set -- 0 'repair [--as KIND [--duplicates] [--dupsort]] [--order ORDER --page-size SIZE]' \
-            'a new file of what a damaged one still has; with --as of one database, without a name'
+            'a new file of what a damaged one has, with --as of one database'
         ;;
     convert) set -- 1 'convert ORDER' 'the same file in a byte order' ;;
     stat) set -- 0 'stat' 'what the pages are, and how much of them holds nothing' ;;
@@ -84,7 +89,7 @@ show_command() {
     show_option '--as KIND' 'the new file has one database without a name: btree, hash or recno'
     show_option '--duplicates' 'a key of it has all its data, as they come; not with recno'
     show_option '--dupsort' 'a key of it has all its data, sorted, each once; not with recno'
-    show_option '--order ORDER' 'the byte order of a damaged file whose page 0 is lost: big or little; with --page-size'
+    show_option '--order ORDER' 'big or little: the byte order of a damaged file whose page 0 is lost; with --page-size'
     show_option '--page-size SIZE' 'its page size: 512, 1024, 2048, 4096, 8192, 16384 or 32768; with --order'
     show_operand '--max-bytes N' 'a longer input or new file is refused: from 1 to 1073741824 bytes, which it is by default'
     show_operand '--' 'ends the options'
@@ -103,13 +108,14 @@ show_command() {
     esac
     case $1 in
     get | range | dump)
-        printf '\nIn the print spelling a backslash stands before another one, or before the two hexadecimal digits of a byte.\n'
+        printf '\nIn the print spelling a backslash stands before another one, '
+        printf 'or before the two hexadecimal digits of a byte.\n'
         ;;
     esac
 }
 
-# Answers words that ask for help or the version, and ends. They are none that the program answers but by its usage line: `get -h` asks for the
-# key -h, and is taken for help only where no file can follow, at a terminal.
+# Answers words that ask for help or the version, and ends. They are none that the program answers but by its usage line:
+# `get -h` asks for the key -h, and is taken for help only where no file can follow, at a terminal.
 answer_help() {
     asked=
     case $#:$1 in
@@ -274,8 +280,8 @@ refuse_words() {
 }
 
 # Starts a program with words, and ends with its status. It has the last word on whether they are a command.
-# Large pages of memory, where the system has them: the program reads a file into one room and goes over it in the order of its trees, so that much
-# of what it waits for is where a small page lies.
+# Large pages of memory, where the system has them: the program reads a file into one room and goes over it in the order of
+# its trees, so that much of what it waits for is where a small page lies.
 start() {
     program=$1
     shift
