@@ -1,6 +1,6 @@
 #!/bin/sh
-# The installed launcher, PREFIX/bin/bdbtool: answers words that ask for help or the version, and starts the program with
-# all others. What it reads stands in PREFIX/libexec/bdbtool, which it finds by its own place.
+# The installed launcher, PREFIX/bin/bdbtool: answers words that ask for help or the version, and starts the program
+# with all others. What it reads stands in PREFIX/libexec/bdbtool, which it finds by its own place.
 
 top=.
 case $0 in */*) top=${0%/*} ;; esac

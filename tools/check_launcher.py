@@ -3,11 +3,11 @@
 
 Usage: check_launcher.py [PROGRAM]
 
-In the copy `rt` is a stub that leaves a mark, so that a build that shouldn't begin is seen. Words that are no command, and
-words that are one, are those of crates/check_runs, whose answers are the defined ones, and those of the tables below. Each
-line that is printed is a case that doesn't hold, or says what was skipped; the last is 'N of N hold'. Without PROGRAM a
-stub is installed. With it the launcher's judgement is compared with the program's own too, over the same words and some
-that are drawn by chance.
+In the copy `rt` is a stub that leaves a mark, so that a build that shouldn't begin is seen. Words that are no command,
+and words that are one, are those of crates/check_runs, whose answers are the defined ones, and those of the tables
+below. Each line that is printed is a case that doesn't hold, or says what was skipped; the last is 'N of N hold'.
+Without PROGRAM a stub is installed. With it the launcher's judgement is compared with the program's own too, over the
+same words and some that are drawn by chance.
 """
 
 import os
@@ -198,8 +198,8 @@ def words_by_chance(chance):
         words.append(option.encode())
         if option in VALUES:
             words.append(chance.choice(VALUES[option] if chance.random() < 0.8 else odd))
-    operands = {b"get": [[b"61"]], b"range": [[b"61", b"62"]], b"convert": [[b"big"]], b"trial": [[b"btree", b"1", b"1"]]}
-    words += chance.choice(operands.get(words[0], [[]]))
+    operands = {b"get": [b"61"], b"range": [b"61", b"62"], b"convert": [b"big"], b"trial": [b"btree", b"1", b"1"]}
+    words += operands.get(words[0], [])
     if chance.random() < 0.3:
         words.insert(chance.randrange(1, len(words) + 1), chance.choice(odd))
     return words
@@ -248,11 +248,13 @@ def check_words(checks, runs, unbuilt):
 def check_help(checks, unbuilt):
     """Help and version, without a build."""
     whole = unbuilt.ran(["--help"])
-    checks.check("--help", whole[0] == 0 and whole[2:] == (b"", False) and all(f"\n  {command}".encode() in whole[1] for command in COMMANDS), whole)
+    names_all = all(f"\n  {command}".encode() in whole[1] for command in COMMANDS)
+    checks.check("--help", whole[0] == 0 and whole[2:] == (b"", False) and names_all, whole)
     for word in ("-h", "help"):
         checks.check(f"{word} is --help", unbuilt.ran([word]) == whole)
     version = unbuilt.ran(["--version"])
-    checks.check("--version", version[0] == 0 and re.fullmatch(rb"bdbtool \d{4}-\d\d-\d\d \(\S+\)\n", version[1]) and version[2:] == (b"", False), version)
+    right = version[0] == 0 and re.fullmatch(rb"bdbtool \d{4}-\d\d-\d\d \(\S+\)\n", version[1])
+    checks.check("--version", right and version[2:] == (b"", False), version)
     for command in COMMANDS:
         part = unbuilt.ran([command, "--help"])
         right = part[0] == 0 and part[1].startswith(f"usage: bdbtool {command} ".encode()) and part[2:] == (b"", False)
@@ -275,7 +277,8 @@ def check_built(checks, unbuilt):
         checks.check(f"built: {words}", answer == (9, b"".join(word + b"\0" for word in words), TUNABLE, False), answer)
     hint = b"./bdbtool --help tells the commands and their options; the input comes by < FILE\n"
     answer = unbuilt.ran(["no", "command"])
-    checks.check("built: the program refuses, and a line is added", answer == (2, b"", b"the usage line\n" + hint, False), answer)
+    right = answer == (2, b"", b"the usage line\n" + hint, False)
+    checks.check("built: the program refuses, and a line is added", right, answer)
     answer = unbuilt.ran(["verify", "x"])
     checks.check("built: the program has the last word", answer == (9, b"verify\0x\0", TUNABLE, False), answer)
     checks.check("built: help", unbuilt.ran(["verify", "--help"])[1].startswith(b"usage: bdbtool verify "))
@@ -310,7 +313,8 @@ def check_installed(checks, room, unbuilt, program):
     os.makedirs(f"{room}/links")
     os.symlink(f"{prefix}/bin/bdbtool", f"{room}/links/linked")
     for name, place in ((f"{room}/links/linked", "/"), ("./bdbtool", f"{prefix}/bin"), ("bin/bdbtool", prefix)):
-        checks.check(f"installed: found as {name}", ran([name, "get", "--help"], cwd=place)[1].startswith(b"usage: bdbtool get "))
+        answer = ran([name, "get", "--help"], cwd=place)
+        checks.check(f"installed: found as {name}", answer[1].startswith(b"usage: bdbtool get "), answer)
     hint = b"bdbtool --help tells the commands and their options; the input comes by < FILE\n"
     if program:
         answer = ran(["bdbtool", "verify", "x"], cwd="/", env=env)
@@ -323,10 +327,13 @@ def check_installed(checks, room, unbuilt, program):
         checks.check("installed: words that are no command", answer == (2, b"", b"the usage line\n" + hint), answer)
         for words in RIGHT:
             answer = ran(["bdbtool", *words], cwd="/", env=dict(env, GLIBC_TUNABLES="a=b"))
-            checks.check(f"installed: {words}", answer == (9, b"".join(word + b"\0" for word in words), b"a=b:" + TUNABLE), answer)
-    whole = ran([f"{TOP}/tools/install.sh", "/usr", program or stub], env=dict(os.environ, DESTDIR=f"{room}/destination"))
-    staged = {path.decode().replace(f"{room}/destination/usr", prefix) for path in whole[1].splitlines()}
-    checks.check("DESTDIR", whole[0] == 0 and staged == places and not os.path.exists(f"{room}/destination/usr/share/man/index.db"), whole)
+            right = (9, b"".join(word + b"\0" for word in words), b"a=b:" + TUNABLE)
+            checks.check(f"installed: {words}", answer == right, answer)
+    destination = f"{room}/destination"
+    whole = ran([f"{TOP}/tools/install.sh", "/usr", program or stub], env=dict(os.environ, DESTDIR=destination))
+    staged = {path.decode().replace(f"{destination}/usr", prefix) for path in whole[1].splitlines()}
+    checks.check("DESTDIR", whole[0] == 0 and staged == places, whole)
+    checks.check("DESTDIR has no index", not os.path.exists(f"{destination}/usr/share/man/index.db"))
     for words in ([], [""], ["-x"], [prefix, stub, "more"]):
         checks.check(f"install.sh {words}", ran([f"{TOP}/tools/install.sh", *words])[0] == 2)
     checks.check("install.sh without a program", ran([f"{TOP}/tools/install.sh", prefix, f"{room}/none"])[0] == 1)
@@ -339,13 +346,15 @@ def check_installed(checks, room, unbuilt, program):
 def check_recipes(checks, prefix, env, program):
     folder = f"{prefix}/share/doc/bdbtool"
     recipes = recipes_of_page()
-    checks.check("each recipe is installed", sorted([*recipes, "FAULTS.md", "RECIPES.md"]) == sorted(os.listdir(folder)), os.listdir(folder))
+    found = sorted(os.listdir(folder))
+    checks.check("each recipe is installed", found == sorted([*recipes, "FAULTS.md", "RECIPES.md"]), found)
     for name, text in recipes.items():
         place = f"{folder}/{name}"
         checks.check(f"{name} is that of the page", os.access(place, os.X_OK) and read(place) == text)
     if program:
         answer = ran([f"{folder}/report.sh", f"{TOP}/samples"], env=env)
-        checks.check("report.sh runs", b"sound    " + f"{TOP}/samples/one-pair-little.db: 2 pages".encode() in answer[1].splitlines(), answer)
+        line = f"sound    {TOP}/samples/one-pair-little.db: 2 pages"
+        checks.check("report.sh runs", line.encode() in answer[1].splitlines(), answer)
     else:
         answer = ran([f"{folder}/lookup.sh", "a b"], env=env)
         checks.check("lookup.sh runs", answer[:2] == (9, b"get\0--print\0--\0a b\0get\0--print\0--\0a b\\00\0"), answer)
@@ -365,18 +374,23 @@ def check_page(checks, prefix):
 
 def options_of(prefix, command):
     """The options of a command, by its help."""
-    return sorted(set(re.findall(r"^  (--[a-z-]+)", ran([f"{prefix}/bin/bdbtool", command, "--help"])[1].decode(), re.M)))
+    answer = ran([f"{prefix}/bin/bdbtool", command, "--help"])
+    return sorted(set(re.findall(r"^  (--[a-z-]+)", answer[1].decode(), re.M)))
 
 
 def check_bash(checks, prefix):
     if not shutil.which("bash"):
         return skip("completion in bash, since there is no bash")
-    script = (
-        'source "$0"; complete -p bdbtool >/dev/null || exit; COMP_WORDS=(bdbtool "$@"); COMP_CWORD=$#; _bdbtool; printf "%s\\n" "${COMPREPLY[@]}"'
-    )
+    script = """
+        source "$0" && complete -p bdbtool >/dev/null || exit
+        COMP_WORDS=(bdbtool "$@") COMP_CWORD=$#
+        _bdbtool
+        printf '%s\\n' "${COMPREPLY[@]}"
+    """
+    completion = f"{prefix}/share/bash-completion/completions/bdbtool"
 
     def offered(*words):
-        status, out, err = ran(["bash", "-c", script, f"{prefix}/share/bash-completion/completions/bdbtool", *words], cwd=prefix)
+        status, out, err = ran(["bash", "-c", script, completion, *words], cwd=prefix)
         return sorted(out.decode().split()) if status == 0 and err == b"" else (status, err)
 
     def check(words, right):
@@ -424,11 +438,12 @@ def check_zsh(checks, prefix):
     checks.check("zsh offers --help", "--help\n--version\n" in offered("-"))
     for command in COMMANDS:
         found = offered(command, "-")
-        right = [*options_of(prefix, command), "--help"]
-        checks.check(f"zsh offers the options of {command}", sorted(re.findall(r"(--[a-z-]+)\[", found)) == sorted(right), found)
+        options = sorted(re.findall(r"(--[a-z-]+)\[", found))
+        checks.check(f"zsh offers the options of {command}", options == sorted([*options_of(prefix, command), "--help"]), found)
     for option, values in VALUES_OFFERED.items():
         found = offered("repair", option, "")
-        checks.check(f"zsh offers the values of {option}", re.search(rf"^{option}\[.*\({' '.join(values)}\)$", found, re.M), found)
+        row = rf"^{option}\[.*\({' '.join(values)}\)$"
+        checks.check(f"zsh offers the values of {option}", re.search(row, found, re.M), found)
 
 
 def check_program(checks, runs, program):

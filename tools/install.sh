@@ -1,6 +1,6 @@
 #!/bin/sh
-# install.sh PREFIX [PROGRAM]: puts the built program, or this one, under PREFIX, with its launcher, manual page, recipes
-# and completions, and tells each file. DESTDIR, where it is set, stands before each place.
+# install.sh PREFIX [PROGRAM]: puts the built program, or this one, under PREFIX, with its launcher, manual page,
+# recipes and completions, and tells each file. DESTDIR, where it is set, stands before each place.
 
 usage() {
     echo "usage: tools/install.sh PREFIX [PROGRAM]" >&2

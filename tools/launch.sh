@@ -1,6 +1,6 @@
 # shellcheck shell=sh
 # What ./bdbtool and the installed launcher share: the help, whether words are a command, and the start of the program.
-# Both read this file by `.`, having set `called`, the launcher's name, and have a function `show_version`, and a function
+# Both read this file by `.`, having set `called`, the launcher's name, and have two functions: `show_version`, and
 # `show_more`, which ends the help. The rules of words stand in README.md, "Use", and their definition in
 # crates/bdb_tool_words/specs/Commands.antt; tools/check_launcher.py compares.
 
@@ -91,7 +91,7 @@ show_command() {
     show_option '--dupsort' 'a key of it has all its data, sorted, each once; not with recno'
     show_option '--order ORDER' 'big or little: the byte order of a damaged file whose page 0 is lost; with --page-size'
     show_option '--page-size SIZE' 'its page size: 512, 1024, 2048, 4096, 8192, 16384 or 32768; with --order'
-    show_operand '--max-bytes N' 'a longer input or new file is refused: from 1 to 1073741824 bytes, which it is by default'
+    show_operand '--max-bytes N' 'a longer input or new file is refused: 1 to 1073741824 bytes, by default the latter'
     show_operand '--' 'ends the options'
     case $1 in
     get) show_operand KEY 'the key, in the print spelling; of a recno and a queue the number of a record' ;;
@@ -114,8 +114,8 @@ show_command() {
     esac
 }
 
-# Answers words that ask for help or the version, and ends. They are none that the program answers but by its usage line:
-# `get -h` asks for the key -h, and is taken for help only where no file can follow, at a terminal.
+# Answers words that ask for help or the version, and ends. The program answers such words by its usage line, but for
+# `get -h`: that asks for the key -h, and is taken for help only where no file can follow, at a terminal.
 answer_help() {
     asked=
     case $#:$1 in
@@ -149,10 +149,13 @@ is_utf8() {
     *) return 0 ;;
     esac
     rest='[89ab].'
+    two="(c[2-9a-f]|d.)$rest"
+    three="(e0[ab].|ed[89].|e[1-9a-cef]$rest)$rest"
+    four="(f0[9ab].|f48.|f[1-3]$rest)$rest$rest"
     {
         printf %s "$1" | od -An -v -tx1 | tr -d ' \n'
         echo
-    } | LC_ALL=C grep -Eqx "([0-7].|(c[2-9a-f]|d.)$rest|(e0[ab].|ed[89].|e[1-9a-cef]$rest)$rest|(f0[9ab].|f48.|f[1-3]$rest)$rest$rest)*"
+    } | LC_ALL=C grep -Eqx "([0-7].|$two|$three|$four)*"
 }
 
 # Whether a word is a number of one to ten decimal digits that lies within bounds.
@@ -280,8 +283,8 @@ refuse_words() {
 }
 
 # Starts a program with words, and ends with its status. It has the last word on whether they are a command.
-# Large pages of memory, where the system has them: the program reads a file into one room and goes over it in the order of
-# its trees, so that much of what it waits for is where a small page lies.
+# Large pages of memory, where the system has them: the program reads a file into one room and goes over it in the order
+# of its trees, so that much of what it waits for is where a small page lies.
 start() {
     program=$1
     shift
