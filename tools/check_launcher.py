@@ -56,6 +56,8 @@ NO_COMMANDS = [
     [b"verify", b"--*"],
     [b"verify", b"--max-bytes", b"0"],
     [b"verify", b"--max-bytes", b"1 "],
+    [b"verify", b"--max-bytes", b"1a"],
+    [b"verify", b"--max-bytes", b"+1"],
     [b"verify", b"--max-bytes", b""],
     [b"verify", b"--max-bytes", b"\xff"],
     [b" verify"],
@@ -73,6 +75,7 @@ NO_COMMANDS = [
     [b"get", b"\xf4\x90\x80\x80"],
     [b"get", b"\xc0\x80"],
     [b"get", b"--", b"\xe2\x82"],
+    [b"get", b"--hex] [--print", b"61"],
     [b"get", b"\\"],
     [b"get", b"a\\0"],
     [b"get", b"--hex", b"616"],
@@ -94,7 +97,7 @@ RIGHT = [
     [b"get", b"*"],
     [b"get", b"$(rt)"],
     [b"get", b"k\xc3\xa4se \xe2\x82\xac \xf0\x9f\x98\x80"],
-    [b"get", b"a\\00\\\\"],
+    [b"get", b"a\\00\\\\\\5C\\fF"],
     [b"get", b"--hex", b""],
     [b"get", b"--name", b"", b"a"],
     [b"get", b"--name", b"--", b"--", b"--"],
@@ -220,8 +223,8 @@ class Unbuilt:
         self.mark = f"{room}/mark"
         self.top = f"{room}/copy"
         make_copy(self.top)
-        write(f"{room}/stubs/rt", STUB_RT)
-        self.env = dict(os.environ, MARK=self.mark, PATH=f"{room}/stubs:{os.environ['PATH']}", TMPDIR=room)
+        write(f"{room}/kit/bin/rt", STUB_RT)
+        self.env = dict(os.environ, MARK=self.mark, PATH=f"{room}/kit/bin:{os.environ['PATH']}", TMPDIR=room)
 
     def ran(self, words, shell=()):
         """Status, output, error output, and whether a build has begun."""
@@ -242,7 +245,7 @@ def check_words(checks, runs, unbuilt):
             checks.check(f"{' '.join(shell)}: {'a' if right else 'no'} command: {list(words)}", found is right, found)
     for words in [[b"verify"], [b"get", b"-h"], [b"dump", b"--name", b"--help"]]:
         answer = unbuilt.ran(words)
-        checks.check(f"a build begins: {words}", answer[0] == 126 and answer[3], answer)
+        checks.check(f"a build begins: {words}", answer[0] == 126, answer)
 
 
 def check_help(checks, unbuilt):
@@ -286,7 +289,7 @@ def check_built(checks, unbuilt):
     answer = unbuilt.ran(["no", "command"])
     checks.check("outdated: refused without a build", answer == (2, b"", usage_line() + b"\n" + hint, False), answer)
     answer = unbuilt.ran(["verify"])
-    checks.check("outdated: a build begins", answer[0] == 126 and answer[3], answer)
+    checks.check("outdated: a build begins", answer[0] == 126, answer)
 
 
 def recipes_of_page():
@@ -439,7 +442,8 @@ def check_zsh(checks, prefix):
     for command in COMMANDS:
         found = offered(command, "-")
         options = sorted(re.findall(r"(--[a-z-]+)\[", found))
-        checks.check(f"zsh offers the options of {command}", options == sorted([*options_of(prefix, command), "--help"]), found)
+        right = sorted([*options_of(prefix, command), "--help"])
+        checks.check(f"zsh offers the options of {command}", options == right, found)
     for option, values in VALUES_OFFERED.items():
         found = offered("repair", option, "")
         row = rf"^{option}\[.*\({' '.join(values)}\)$"
