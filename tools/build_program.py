@@ -13,6 +13,7 @@ import hashlib
 import os
 import pathlib
 import shutil
+import signal
 import subprocess
 import sys
 import tempfile
@@ -128,9 +129,13 @@ class Proof:
         self.said = open(self.room / "said", "w+", errors="replace")
         own = ["--toolchain", f"{kit.folder}/toolchain"] if crate.is_program else ["--statements"]
         words = [str(kit.rattle), "build", *crate.words(kit, jobs), *own, "-o", str(self.made)]
-        # The longest chain goes first: the others take what it leaves.
-        before = None if is_first else lambda: os.nice(10)
-        self.process = subprocess.Popen(words, cwd=crate.folder, stdin=subprocess.DEVNULL, stdout=self.said, stderr=subprocess.STDOUT, preexec_fn=before)
+
+        def begin():
+            # A group of its own, so that the copies that the prover forks end with it. The longest chain goes first: the others take what it leaves.
+            os.setpgrp()
+            os.nice(0 if is_first else 10)
+
+        self.process = subprocess.Popen(words, cwd=crate.folder, stdin=subprocess.DEVNULL, stdout=self.said, stderr=subprocess.STDOUT, preexec_fn=begin)
         self.log = log
 
     def end(self):
@@ -150,7 +155,7 @@ class Proof:
 
     def drop(self):
         if self.process.poll() is None:
-            self.process.kill()
+            os.killpg(self.process.pid, signal.SIGKILL)
             self.process.wait()
         shutil.rmtree(self.room, ignore_errors=True)
 
@@ -252,8 +257,12 @@ def say(line):
 
 def main(words):
     program, log = (os.path.abspath(it) for it in words)
+    for it in (signal.SIGTERM, signal.SIGHUP):
+        signal.signal(it, lambda *_: sys.exit(1))
     kit = Kit()
+    pathlib.Path(log).parent.mkdir(parents=True, exist_ok=True)
     if not kit.is_whole():
+        pathlib.Path(log).write_text(f"{kit.folder} has not all parts of a toolchain: bin/rattle, rlibs, logic_built, rattle/logic, toolchain\n")
         return 3
     git = TOP / ".git"
     lock = open(git / "rt-ci.lock" if git.is_dir() else tempfile.gettempdir() + "/bdbtool-build.lock", "w")
