@@ -22,6 +22,8 @@ import time
 TOP = pathlib.Path(__file__).resolve().parent.parent
 GOAL = "bdbtool"
 PARTS = ("src", "specs", "proofs")
+# A chain counts as the longest where it has this part of its seconds.
+NEAR = 0.9
 
 
 class Kit:
@@ -180,14 +182,18 @@ class Build:
         found = [it for it in self.crates.values() if it.name not in busy and all(dep.name in self.done for dep in it.below)]
         return sorted(found, key=lambda it: -self.behind[it.name])
 
+    def left_behind(self, proof):
+        """The seconds of the longest chain that begins with what is left of a proof."""
+        spent = (time.monotonic() - proof.begun) * self.expected / self.taken
+        return self.behind[proof.crate.name] - min(spent, proof.crate.seconds)
+
     def start(self):
         """Begins as many proofs as there are processors: that of the longest chain with a process for each of them."""
         for crate in self.ready():
             left = self.memory - sum(it.memory for it in self.running)
-            longest = max([self.behind[it.crate.name] for it in self.running], default=0.0)
-            is_first = self.behind[crate.name] >= longest
             if len(self.running) >= self.processors or (self.running and crate.memory > left):
                 return
+            is_first = self.behind[crate.name] >= NEAR * max([self.left_behind(it) for it in self.running], default=0.0)
             room = 1 + int((left / crate.memory - 1) / 0.6)
             jobs = max(1, min(self.processors, room)) if is_first else 1
             self.running.append(Proof(crate, self.kit, jobs, is_first, self.log))
