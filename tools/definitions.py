@@ -16,7 +16,7 @@ MARKER = "<!-- From here on the page is written by tools/definitions.py. -->\n"
 ROOTS = TOP / "crates/bdb_tool/src/program.rt", ("run", "run_counted", "run_onto")
 NAME = r"[^\W\d][\w'-]*"
 DEFINITION = re.compile(r"(?:abbrev |unfoldable |opaque )?(?:pub )?(?:(?:record|data) (?P<type>[^\s({]+)|(?P<function>[^\s({=]+)(?= :))(?P<rest>.*)")
-IMPORT = re.compile(r"^(?:ghost |pub )*use Rattle\.(\w+)\.specs\.(\w+)\.\{([^}]*)\}", re.MULTILINE)
+IMPORT = re.compile(r"^(?:ghost |pub )*use Rattle\.(\w+)\.specs\.((?:of_\w+\.)*)(\w+)\.\{([^}]*)\}", re.MULTILINE)
 PASSED_ON = re.compile(r"^pub use Rattle\.(\w+)\.specs\.(\w+)$", re.MULTILINE)
 
 
@@ -79,12 +79,18 @@ def parsed(file):
     return says, found, imports(file), constructors
 
 
+def reached(crate, way):
+    """The crate whose definitions an import names: the first one, or the last of those that it goes by, as `of_NAME`."""
+    name = way.rstrip(".").rpartition(".")[2].removeprefix("of_")
+    return next((it for it in (f"bdb_{name}", name) if name and (TOP / "crates" / it).exists()), crate)
+
+
 def imports(file):
     found = {}
-    for crate, module, names in IMPORT.findall(file.read_text(encoding="utf-8")):
+    for crate, way, module, names in IMPORT.findall(file.read_text(encoding="utf-8")):
         for name in filter(None, map(str.strip, names.split(","))):
             original, _, here = name.partition(" as ")
-            found[(here or original).strip()] = (crate, module, original.strip())
+            found[(here or original).strip()] = (reached(crate, way), module, original.strip())
     return found
 
 

@@ -5,34 +5,34 @@ use Rattle.std.specs.Prelude.{◌&&◌, ◌||◌, ◌==◌}
 use Rattle.std.specs.List.{Contains, list_any}
 use Rattle.std.proofs.lemmas.Bool.{and_parts, eq-eqb, eqb-true, or_cases, or_right}
 use Rattle.std.proofs.lemmas.List.Folds.{list_any-append}
-use Rattle.bdb_faults.specs.Notes.{AreSame, Notes, NotesAll}
-use Rattle.bdb_faults.proofs.SinkLemmas.{notes_both, notes_one, notes_same}
-use Rattle.bdb_format.specs.declared.kinds.Fault.{Fault}
-use Rattle.bdb_format.specs.declared.metadata.BtreeMeta.{BtreeMeta}
-use Rattle.bdb_format.specs.ContentRows.{btree_contents, database_faults, groups, has_duplicate, has_unsorted, has_wrong_count, has_wrong_separator}
-use Rattle.bdb_format.specs.ContentRows.{has_wrong_set, holds_code, inner_pages, is_wrong_at, neighbours, recno_contents}
-use Rattle.bdb_format.specs.Contents.{StoredPair, tree_pairs}
-use Rattle.bdb_format.specs.File.{File, file_of, page_at}
-use Rattle.bdb_format.specs.Numbers.{has_bit}
-use Rattle.bdb_format.specs.Page.{BtreeFields}
-use Rattle.bdb_format.specs.Table.{Row}
-use Rattle.bdb_format.specs.Verdict.{by_page, holding}
-use Rattle.bdb_format.proofs.MemberLemmas.{filter_step, first_member, later_member, member_cases, no_member}
-use Rattle.bdb_format.proofs.VerdictLemmas.{InOrder, IsOfStage, in_by_page, of_by_page, table_in_order}
-use Rattle.bdb_format.specs.Flags.{counts_records, has_duplicates, is_sorted}
-use Rattle.bdb_overflow.specs.of_image.Linked.{FitsTreeRoot, IsForest}
+use Rattle.bdb_ranks.specs.of_faults.Notes.{AreSame, Notes, NotesAll}
+use Rattle.bdb_ranks.proofs.of_faults.SinkLemmas.{notes_both, notes_one, notes_same}
+use Rattle.bdb_ranks.specs.of_format.declared.kinds.Fault.{Fault}
+use Rattle.bdb_ranks.specs.of_format.declared.metadata.BtreeMeta.{BtreeMeta}
+use Rattle.bdb_ranks.specs.of_format.ContentRows.{btree_contents, database_faults, groups, has_duplicate, has_unsorted, has_wrong_count, has_wrong_separator}
+use Rattle.bdb_ranks.specs.of_format.ContentRows.{has_wrong_set, holds_code, inner_pages, is_wrong_at, neighbours, recno_contents}
+use Rattle.bdb_ranks.specs.of_format.Contents.{StoredPair, tree_pairs}
+use Rattle.bdb_ranks.specs.of_format.File.{File, file_of, page_at}
+use Rattle.bdb_ranks.specs.of_format.Numbers.{has_bit}
+use Rattle.bdb_ranks.specs.of_format.Page.{BtreeFields}
+use Rattle.bdb_ranks.specs.of_format.Table.{Row}
+use Rattle.bdb_ranks.specs.of_format.Verdict.{by_page, holding}
+use Rattle.bdb_ranks.proofs.of_format.MemberLemmas.{filter_step, first_member, later_member, member_cases, no_member}
+use Rattle.bdb_ranks.proofs.of_format.VerdictLemmas.{InOrder, IsOfStage, in_by_page, of_by_page, table_in_order}
+use Rattle.bdb_ranks.specs.of_format.Flags.{counts_records, has_duplicates, is_sorted}
+use Rattle.bdb_ranks.specs.of_image.Linked.{FitsTreeRoot, IsForest}
 use Rattle.bdb_btree.specs.Counts.{IsKeyed}
 use Rattle.bdb_btree.specs.Noted.{faults_at}
 use Rattle.bdb_btree.specs.Rows.{has_wrong_order, no_pairs_passed, pairs_faults}
-use Rattle.bdb_faults.specs.declared.rows.ContentsRow.TheVariants.{Duplicates, DuplicateKind, KeyOrder, Separator, DuplicateOrder, Count}
+use Rattle.bdb_ranks.specs.of_faults.declared.rows.ContentsRow.TheVariants.{Duplicates, DuplicateKind, KeyOrder, Separator, DuplicateOrder, Count}
 use Rattle.bdb_btree.specs.declared.pair_rows.Rules.{Rules}
 use Rattle.bdb_btree.proofs.InnerLemmas.{inner_pages_keyed}
 use Rattle.bdb_btree.proofs.NotedLemmas.{has, has_in, in_has, is_fault, is_of, row_has}
 use Rattle.bdb_btree.proofs.PairLemmas.{tree_pair}
 use Rattle.bdb_btree.proofs.RowLemmas.{pairs_have}
-use Rattle.bdb_tree.proofs.TreeLemmas.{typed_inside}
-use Rattle.bdb_format.proofs.ListLemmas.{any_member}
-use Rattle.bdb_format.proofs.PairLemmas.{neighbour_in}
+use Rattle.bdb_ranks.proofs.of_tree.TreeLemmas.{typed_inside}
+use Rattle.bdb_ranks.proofs.of_format.ListLemmas.{any_member}
+use Rattle.bdb_ranks.proofs.of_format.PairLemmas.{neighbour_in}
 
 -- A row that holds at a page holds of something there.
 

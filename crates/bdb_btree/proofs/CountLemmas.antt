@@ -6,23 +6,23 @@ use Rattle.std.specs.List.{Contains, filter, flat_map, fold, list_any}
 use Rattle.std.proofs.lemmas.Bool.Decides.{nat_tests}
 use Rattle.std.proofs.Math.Bool.{or-false, or_assoc}
 use Rattle.std.proofs.lemmas.List.Elements.{filter-append}
-use Rattle.bdb_faults.specs.Notes.{Notes, NotesAll}
-use Rattle.bdb_faults.proofs.SinkLemmas.{notes_both, notes_none, notes_one}
-use Rattle.bdb_faults.specs.Rows.{fault_if}
-use Rattle.bdb_faults.specs.declared.rows.ContentsRow.TheVariants.{Count}
-use Rattle.bdb_faults.specs.declared.rows.Row.TheVariants.{Contents}
-use Rattle.bdb_format.specs.declared.kinds.Fault.{Fault}
-use Rattle.bdb_format.specs.ContentRows.{has_wrong_count, inner_pages, is_wrong_count}
-use Rattle.bdb_format.specs.Contents.{StoredPair, tree_pairs}
-use Rattle.bdb_format.specs.File.{File, file_of, page_at}
-use Rattle.bdb_format.specs.Leaves.{children_in}
-use Rattle.bdb_format.specs.Page.{InternalItem, Listed, Internal}
-use Rattle.bdb_format.proofs.MemberLemmas.{later_member}
-use Rattle.bdb_overflow.specs.of_image.Linked.{IsForest}
+use Rattle.bdb_ranks.specs.of_faults.Notes.{Notes, NotesAll}
+use Rattle.bdb_ranks.proofs.of_faults.SinkLemmas.{notes_both, notes_none, notes_one}
+use Rattle.bdb_ranks.specs.of_faults.Rows.{fault_if}
+use Rattle.bdb_ranks.specs.of_faults.declared.rows.ContentsRow.TheVariants.{Count}
+use Rattle.bdb_ranks.specs.of_faults.declared.rows.Row.TheVariants.{Contents}
+use Rattle.bdb_ranks.specs.of_format.declared.kinds.Fault.{Fault}
+use Rattle.bdb_ranks.specs.of_format.ContentRows.{has_wrong_count, inner_pages, is_wrong_count}
+use Rattle.bdb_ranks.specs.of_format.Contents.{StoredPair, tree_pairs}
+use Rattle.bdb_ranks.specs.of_format.File.{File, file_of, page_at}
+use Rattle.bdb_ranks.specs.of_format.Leaves.{children_in}
+use Rattle.bdb_ranks.specs.of_format.Page.{InternalItem, Listed, Internal}
+use Rattle.bdb_ranks.proofs.of_format.MemberLemmas.{later_member}
+use Rattle.bdb_ranks.specs.of_image.Linked.{IsForest}
 use Rattle.bdb_btree.specs.Counts.{IsKeyed, added, count_pair, counted, counts_of}
 use Rattle.bdb_btree.specs.Noted.{faults_at}
 use Rattle.bdb_btree.specs.declared.counts.Counts.{Counts}
-use Rattle.bdb_tree.proofs.InnerLemmas.{faults_below, inner_noted, leads_down}
+use Rattle.bdb_ranks.proofs.of_tree.InnerLemmas.{faults_below, inner_noted, leads_down}
 use Rattle.bdb_btree.proofs.ItemLemmas.{keyed_child, level, pairs_joined}
 
 -- Pairs.

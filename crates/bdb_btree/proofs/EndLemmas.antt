@@ -6,14 +6,14 @@ use Rattle.std.specs.List.{fold, range_with_len}
 use Rattle.std.proofs.lemmas.Bool.Decides.{nat_tests}
 use Rattle.std.proofs.lemmas.List.Sums.{fold-append}
 use Rattle.std.proofs.Math.Bool.{or-false, or_assoc}
-use Rattle.bdb_format.specs.Chains.{value_of}
-use Rattle.bdb_format.specs.Contents.{StoredPair, pair_at, pairs_of}
-use Rattle.bdb_format.specs.File.{File, page_at}
-use Rattle.bdb_format.specs.Less.{less}
-use Rattle.bdb_format.specs.Page.{Item, Listed, Leaf}
-use Rattle.bdb_format.specs.References.{is_shared_key, item_at}
-use Rattle.bdb_format.proofs.LessLemmas.{less_above, less_self, less_trans, same_unless_less}
-use Rattle.bdb_format.proofs.MemberLemmas.{first_member, later_member}
+use Rattle.bdb_ranks.specs.of_format.Chains.{value_of}
+use Rattle.bdb_ranks.specs.of_format.Contents.{StoredPair, pair_at, pairs_of}
+use Rattle.bdb_ranks.specs.of_format.File.{File, page_at}
+use Rattle.bdb_ranks.specs.of_format.Less.{less}
+use Rattle.bdb_ranks.specs.of_format.Page.{Item, Listed, Leaf}
+use Rattle.bdb_ranks.specs.of_format.References.{is_shared_key, item_at}
+use Rattle.bdb_ranks.proofs.of_format.LessLemmas.{less_above, less_self, less_trans, same_unless_less}
+use Rattle.bdb_ranks.proofs.of_format.MemberLemmas.{first_member, later_member}
 use Rattle.bdb_btree.specs.Bounds.{Bounds, DontFall, Ends, NoneBelow, ends_of, greater_of, greatest_of, is_any_below, is_below, joined, least_of, lesser_of}
 use Rattle.bdb_btree.specs.Bounds.{no_ends, under, under_ends, under_pair, widen_by}
 use Rattle.bdb_btree.proofs.WalkLemmas.{all_pairs}

@@ -5,29 +5,29 @@ use Rattle.std.specs.Prelude.{◌&&◌, slice_index}
 use Rattle.std.specs.List.{flat_map, fold, Contains}
 use Rattle.std.proofs.lemmas.Bool.{cases_lt, eqb-true, false_from_ne_true}
 use Rattle.std.proofs.lemmas.List.{get_or_past}
-use Rattle.bdb_format.specs.declared.kinds.Order.{Order}
-use Rattle.bdb_format.specs.Contents.{StoredPair, pairs_of, tree_pairs}
-use Rattle.bdb_format.specs.File.{File, file_of, page_at}
-use Rattle.bdb_format.specs.Leaves.{leaves, children_in}
-use Rattle.bdb_format.specs.Page.{Item, Listed, Page, Leaf, PageType, LeafPage}
-use Rattle.bdb_format.specs.Reading.{abstract_page, leaf_item_at, listed, page_as}
-use Rattle.bdb_format.specs.References.{no_item}
-use Rattle.bdb_format.proofs.PageLemmas.{index_offset, length_items}
-use Rattle.bdb_format.proofs.LeafLemmas.{leaf_item_is, one_offset}
+use Rattle.bdb_ranks.specs.of_format.declared.kinds.Order.{Order}
+use Rattle.bdb_ranks.specs.of_format.Contents.{StoredPair, pairs_of, tree_pairs}
+use Rattle.bdb_ranks.specs.of_format.File.{File, file_of, page_at}
+use Rattle.bdb_ranks.specs.of_format.Leaves.{leaves, children_in}
+use Rattle.bdb_ranks.specs.of_format.Page.{Item, Listed, Page, Leaf, PageType, LeafPage}
+use Rattle.bdb_ranks.specs.of_format.Reading.{abstract_page, leaf_item_at, listed, page_as}
+use Rattle.bdb_ranks.specs.of_format.References.{no_item}
+use Rattle.bdb_ranks.proofs.of_format.PageLemmas.{index_offset, length_items}
+use Rattle.bdb_ranks.proofs.of_format.LeafLemmas.{leaf_item_is, one_offset}
 use Rattle.std.proofs.lemmas.List.Elements.{Contains-append_left}
-use Rattle.bdb_format.specs.ContentRows.{is_out_of_order, neighbours, neighbours_from}
-use Rattle.bdb_format.specs.Less.{less}
-use Rattle.bdb_format.proofs.LessLemmas.{less_above, less_not_back, less_self}
-use Rattle.bdb_format.proofs.ListLemmas.{flat_map_twice}
-use Rattle.bdb_format.proofs.MemberLemmas.{first_member, later_member, member_cases, no_member}
-use Rattle.bdb_format.proofs.FileLemmas.{last_page, page_is, pages_counted}
-use Rattle.bdb_overflow.specs.of_image.Linked.{IsForest}
-use Rattle.bdb_tree.proofs.TreeLemmas.{leaves_of_inner}
+use Rattle.bdb_ranks.specs.of_format.ContentRows.{is_out_of_order, neighbours, neighbours_from}
+use Rattle.bdb_ranks.specs.of_format.Less.{less}
+use Rattle.bdb_ranks.proofs.of_format.LessLemmas.{less_above, less_not_back, less_self}
+use Rattle.bdb_ranks.proofs.of_format.ListLemmas.{flat_map_twice}
+use Rattle.bdb_ranks.proofs.of_format.MemberLemmas.{first_member, later_member, member_cases, no_member}
+use Rattle.bdb_ranks.proofs.of_format.FileLemmas.{last_page, page_is, pages_counted}
+use Rattle.bdb_ranks.specs.of_image.Linked.{IsForest}
+use Rattle.bdb_ranks.proofs.of_tree.TreeLemmas.{leaves_of_inner}
 use Rattle.bdb_btree.specs.Bounds.{DontFall, NoneBelow, OrderedIf}
 use Rattle.bdb_btree.specs.Rows.{Passed, next_pair, no_pairs_passed}
 use Rattle.bdb_btree.proofs.OrderLemmas.{Shares, all_in_order, keys_alone}
 use Rattle.bdb_btree.proofs.PairLemmas.{PageShares, pages_share}
-use Rattle.bdb_form.proofs.FormedLemmas.{shared_after}
+use Rattle.bdb_ranks.proofs.of_form.FormedLemmas.{shared_after}
 
 -- Entries of a leaf with one offset are one item.
 

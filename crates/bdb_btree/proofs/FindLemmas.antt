@@ -11,43 +11,43 @@ use Rattle.std.proofs.lemmas.List.{get_or-drop, get_or-map, get_or-take, length-
 use Rattle.std.proofs.lemmas.List.Elements.{Contains-get_or}
 use Rattle.std.proofs.lemmas.Option.{slice_get-get_or}
 use Rattle.std.proofs.lemmas.Slice.Eq.{bytes_eq-Decides}
-use Rattle.bdb_format.specs.declared.metadata.BtreeMeta.{BtreeMeta}
-use Rattle.bdb_format.specs.Chains.{value_of}
-use Rattle.bdb_format.specs.ContentRows.{Separated, breaks, btree_contents, database_faults, database_rows, has_wrong_separator, inner_pages}
-use Rattle.bdb_format.specs.ContentRows.{no_separator, separated}
-use Rattle.bdb_format.specs.Contents.{StoredPair, data_of, pairs_of, tree_pairs}
-use Rattle.bdb_format.specs.File.{File, file_of, header_in, page_at, type_in}
-use Rattle.bdb_format.specs.HeadOf.{head_of}
-use Rattle.bdb_format.specs.Leaves.{children_in, leaves}
-use Rattle.bdb_format.specs.Less.{less}
-use Rattle.bdb_format.specs.Lists.{BytesKey, btree_list, get, listed_pair}
-use Rattle.bdb_format.specs.Page.{BtreeFields, InternalItem, Internal, Listed, Page, RecnoInternal}
-use Rattle.bdb_format.specs.References.{has_type}
-use Rattle.bdb_format.specs.Verdict.{holding, structure_faults}
-use Rattle.bdb_format.proofs.MemberLemmas.{first_member, in_flat_map, in_map, in_range, later_member, none_passes}
-use Rattle.bdb_format.proofs.VerdictLemmas.{AllFail, all_fail, no_codes_at}
-use Rattle.bdb_format.specs.Flags.{is_recno}
-use Rattle.bdb_overflow.specs.of_image.Linked.{FitsLeafPage, HasMetadata, IsForest}
-use Rattle.bdb_overflow.specs.of_slots.Slots.{no_internal_item}
-use Rattle.bdb_overflow.proofs.of_graph.LinkedLemmas.{root_fits}
-use Rattle.bdb_overflow.specs.Datum.{FitsContent}
-use Rattle.bdb_overflow.proofs.ContentLemmas.{key_fits}
-use Rattle.bdb_tree.specs.Descent.{AllMonotone, AllReadable, IsLastFalse, chosen, descent, go_on, next_below}
-use Rattle.bdb_tree.proofs.DescentLemmas.{chosen_is, internal_inside, internal_is, is_inner, is_inner_below, monotone_by_neighbours}
-use Rattle.bdb_tree.proofs.WayLemmas.{chosen_among}
+use Rattle.bdb_ranks.specs.of_format.declared.metadata.BtreeMeta.{BtreeMeta}
+use Rattle.bdb_ranks.specs.of_format.Chains.{value_of}
+use Rattle.bdb_ranks.specs.of_format.ContentRows.{Separated, breaks, btree_contents, database_faults, database_rows, has_wrong_separator, inner_pages}
+use Rattle.bdb_ranks.specs.of_format.ContentRows.{no_separator, separated}
+use Rattle.bdb_ranks.specs.of_format.Contents.{StoredPair, data_of, pairs_of, tree_pairs}
+use Rattle.bdb_ranks.specs.of_format.File.{File, file_of, header_in, page_at, type_in}
+use Rattle.bdb_ranks.specs.of_format.HeadOf.{head_of}
+use Rattle.bdb_ranks.specs.of_format.Leaves.{children_in, leaves}
+use Rattle.bdb_ranks.specs.of_format.Less.{less}
+use Rattle.bdb_ranks.specs.of_format.Lists.{BytesKey, btree_list, get, listed_pair}
+use Rattle.bdb_ranks.specs.of_format.Page.{BtreeFields, InternalItem, Internal, Listed, Page, RecnoInternal}
+use Rattle.bdb_ranks.specs.of_format.References.{has_type}
+use Rattle.bdb_ranks.specs.of_format.Verdict.{holding, structure_faults}
+use Rattle.bdb_ranks.proofs.of_format.MemberLemmas.{first_member, in_flat_map, in_map, in_range, later_member, none_passes}
+use Rattle.bdb_ranks.proofs.of_format.VerdictLemmas.{AllFail, all_fail, no_codes_at}
+use Rattle.bdb_ranks.specs.of_format.Flags.{is_recno}
+use Rattle.bdb_ranks.specs.of_image.Linked.{FitsLeafPage, HasMetadata, IsForest}
+use Rattle.bdb_ranks.specs.of_slots.Slots.{no_internal_item}
+use Rattle.bdb_ranks.proofs.of_graph.LinkedLemmas.{root_fits}
+use Rattle.bdb_ranks.specs.of_overflow.Datum.{FitsContent}
+use Rattle.bdb_ranks.proofs.of_overflow.ContentLemmas.{key_fits}
+use Rattle.bdb_ranks.specs.of_tree.Descent.{AllMonotone, AllReadable, IsLastFalse, chosen, descent, go_on, next_below}
+use Rattle.bdb_ranks.proofs.of_tree.DescentLemmas.{chosen_is, internal_inside, internal_is, is_inner, is_inner_below, monotone_by_neighbours}
+use Rattle.bdb_ranks.proofs.of_tree.WayLemmas.{chosen_among}
 use Rattle.bdb_btree.specs.Pairs.{AreFit, FitsPair, left_of}
 use Rattle.bdb_btree.specs.Search.{AreOpen, data_under, found_left, from_key, is_below, under}
 use Rattle.bdb_btree.proofs.InnerLemmas.{child_keyed}
 use Rattle.bdb_btree.proofs.PairLemmas.{pair_of_page}
 use Rattle.bdb_btree.proofs.WalkLemmas.{each_of}
 use Rattle.bdb_btree.proofs.RootLemmas.{root_keyed}
-use Rattle.bdb_tree.proofs.ShapeLemmas.{IsLeafPage}
-use Rattle.bdb_tree.proofs.TreeLemmas.{HasTypeAt, IsChild, child_is, leaves_of_inner, leaves_of_leaf, level, root_cases, tree_cases, tree_level}
-use Rattle.bdb_format.proofs.ListLemmas.{flat_map_twice}
-use Rattle.bdb_format.proofs.BoolLemmas.{second_false}
-use Rattle.bdb_format.proofs.TypeLemmas.{of_type, tree_keyed}
-use Rattle.bdb_format.proofs.PairLemmas.{get_append, keyed_rows}
-use Rattle.bdb_format.proofs.LessLemmas.{eq_same, less_trans}
+use Rattle.bdb_ranks.proofs.of_tree.ShapeLemmas.{IsLeafPage}
+use Rattle.bdb_ranks.proofs.of_tree.TreeLemmas.{HasTypeAt, IsChild, child_is, leaves_of_inner, leaves_of_leaf, level, root_cases, tree_cases, tree_level}
+use Rattle.bdb_ranks.proofs.of_format.ListLemmas.{flat_map_twice}
+use Rattle.bdb_ranks.proofs.of_format.BoolLemmas.{second_false}
+use Rattle.bdb_ranks.proofs.of_format.TypeLemmas.{of_type, tree_keyed}
+use Rattle.bdb_ranks.proofs.of_format.PairLemmas.{get_append, keyed_rows}
+use Rattle.bdb_ranks.proofs.of_format.LessLemmas.{eq_same, less_trans}
 
 -- What a list has under a key.
 

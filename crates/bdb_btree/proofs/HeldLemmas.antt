@@ -4,20 +4,20 @@ use Rattle.std.specs.List.{flat_map, fold, range_with_len}
 use Rattle.std.proofs.lemmas.List.{map-append}
 use Rattle.std.proofs.lemmas.List.Elements.{All-head}
 use Rattle.std.proofs.lemmas.Simd.{map-map}
-use Rattle.bdb_faults.specs.Notes.{Notes}
-use Rattle.bdb_format.specs.declared.kinds.Fault.{Fault}
-use Rattle.bdb_format.specs.Chains.{value_of}
-use Rattle.bdb_format.specs.Contents.{StoredPair, pair_at, pairs_in, pairs_of, tree_pairs}
-use Rattle.bdb_format.specs.File.{File, file_of, page_at}
-use Rattle.bdb_format.specs.Leaves.{leaves}
-use Rattle.bdb_format.specs.Page.{Item, Listed, Leaf, Page}
-use Rattle.bdb_format.specs.References.{is_shared_key, no_item}
-use Rattle.bdb_form.specs.Pairs.{pair_of, pairs_from}
-use Rattle.bdb_form.specs.Seen.{page_seen}
-use Rattle.bdb_form.specs.declared.view.PageView.{PageView}
-use Rattle.bdb_form.specs.declared.view.PageView.TheVariants.{Leaf as LeafSeen}
-use Rattle.bdb_overflow.specs.of_image.Linked.{FitsLeafPage, FitsTreeRoot, IsForest}
-use Rattle.bdb_overflow.specs.Datum.{FitsContent}
+use Rattle.bdb_ranks.specs.of_faults.Notes.{Notes}
+use Rattle.bdb_ranks.specs.of_format.declared.kinds.Fault.{Fault}
+use Rattle.bdb_ranks.specs.of_format.Chains.{value_of}
+use Rattle.bdb_ranks.specs.of_format.Contents.{StoredPair, pair_at, pairs_in, pairs_of, tree_pairs}
+use Rattle.bdb_ranks.specs.of_format.File.{File, file_of, page_at}
+use Rattle.bdb_ranks.specs.of_format.Leaves.{leaves}
+use Rattle.bdb_ranks.specs.of_format.Page.{Item, Listed, Leaf, Page}
+use Rattle.bdb_ranks.specs.of_format.References.{is_shared_key, no_item}
+use Rattle.bdb_ranks.specs.of_form.Pairs.{pair_of, pairs_from}
+use Rattle.bdb_ranks.specs.of_form.Seen.{page_seen}
+use Rattle.bdb_ranks.specs.of_form.declared.view.PageView.{PageView}
+use Rattle.bdb_ranks.specs.of_form.declared.view.PageView.TheVariants.{Leaf as LeafSeen}
+use Rattle.bdb_ranks.specs.of_image.Linked.{FitsLeafPage, FitsTreeRoot, IsForest}
+use Rattle.bdb_ranks.specs.of_overflow.Datum.{FitsContent}
 use Rattle.bdb_btree.specs.Held.{AreKeyed, FitsPassed, ItemPair, at_page, items_in, items_left, items_of, passed_seen, stored_as, tree_items}
 use Rattle.bdb_btree.specs.Pairs.{AreFit, AreLeaves, Each, FitsPair, left_of, stored_pair}
 use Rattle.bdb_btree.specs.Rows.{next_pair, no_pairs_passed, pair_faults}
@@ -26,9 +26,9 @@ use Rattle.bdb_btree.specs.declared.pair_rows.Passed.{Passed as CodePassed}
 use Rattle.bdb_btree.specs.declared.pair_rows.Rules.{Rules}
 use Rattle.bdb_btree.proofs.RowLemmas.{PassedTo, pass_more, pass_none, tree_pairs_fit}
 use Rattle.bdb_btree.proofs.WalkLemmas.{are_leaves, keys_fit, leaf_pairs, pairs_of_tree}
-use Rattle.bdb_tree.specs.Entries.{AreFit as EntriesFit, values_of}
-use Rattle.bdb_tree.specs.Trees.{IsRoot}
-use Rattle.bdb_tree.proofs.EntryLemmas.{deleted_value}
+use Rattle.bdb_ranks.specs.of_tree.Entries.{AreFit as EntriesFit, values_of}
+use Rattle.bdb_ranks.specs.of_tree.Trees.{IsRoot}
+use Rattle.bdb_ranks.proofs.of_tree.EntryLemmas.{deleted_value}
 
 -- The pairs of a leaf.
 

@@ -4,17 +4,17 @@ use Rattle.std.proofs.Common.{inl, inr, Option, Some, None}
 use Rattle.std.specs.List.{Contains, filter, flat_map}
 use Rattle.std.specs.Option.{is_some, unwrap_or}
 use Rattle.std.proofs.lemmas.List.Elements.{Contains-append_cases}
-use Rattle.bdb_format.specs.ContentRows.{inner_in, inner_pages}
-use Rattle.bdb_format.specs.File.{File, file_of, header_in, page_at, type_in}
-use Rattle.bdb_format.specs.Leaves.{children_in}
-use Rattle.bdb_format.specs.References.{child_types, has_type}
-use Rattle.bdb_format.proofs.ListLemmas.{only_member}
-use Rattle.bdb_format.proofs.MemberLemmas.{no_member, of_filter, of_flat_map}
-use Rattle.bdb_overflow.specs.of_image.Linked.{IsForest}
+use Rattle.bdb_ranks.specs.of_format.ContentRows.{inner_in, inner_pages}
+use Rattle.bdb_ranks.specs.of_format.File.{File, file_of, header_in, page_at, type_in}
+use Rattle.bdb_ranks.specs.of_format.Leaves.{children_in}
+use Rattle.bdb_ranks.specs.of_format.References.{child_types, has_type}
+use Rattle.bdb_ranks.proofs.of_format.ListLemmas.{only_member}
+use Rattle.bdb_ranks.proofs.of_format.MemberLemmas.{no_member, of_filter, of_flat_map}
+use Rattle.bdb_ranks.specs.of_image.Linked.{IsForest}
 use Rattle.bdb_btree.specs.Counts.{IsKeyed}
-use Rattle.bdb_tree.specs.Trees.{children_at}
-use Rattle.bdb_tree.proofs.TreeLemmas.{child_is}
-use Rattle.bdb_format.proofs.TypeLemmas.{of_type, keyed_below}
+use Rattle.bdb_ranks.specs.of_tree.Trees.{children_at}
+use Rattle.bdb_ranks.proofs.of_tree.TreeLemmas.{child_is}
+use Rattle.bdb_ranks.proofs.of_format.TypeLemmas.{of_type, keyed_below}
 
 abbrev is_inner : File → ℕ → Bool
 is_inner file p = is_some (children_in (page_at file p))

@@ -2,35 +2,35 @@
 use Rattle.std.proofs.Common.{arith}
 use Rattle.std.proofs.Common.{◌≡◌, ℕ, ◌+◌, ◌≤◌, Bool, true, List, map, refl, Some, ◌∷◌, ◌++◌, [], sym, ◌∙◌, ap, subst, inl, inr, append-nil}
 use Rattle.std.specs.List.{Contains, flat_map, slice_get}
-use Rattle.bdb_faults.specs.Notes.{NotesAll}
-use Rattle.bdb_faults.specs.declared.rows.ContentsRow.{ContentsRow}
-use Rattle.bdb_faults.proofs.SinkLemmas.{notes_none}
-use Rattle.bdb_form.specs.declared.view.PageView.{PageView}
-use Rattle.bdb_form.specs.declared.view.PageView.TheVariants.{Internal as InternalSeen}
-use Rattle.bdb_form.specs.Seen.{page_seen}
-use Rattle.bdb_format.specs.declared.kinds.Fault.{Fault}
-use Rattle.bdb_format.specs.ContentRows.{inner_pages}
-use Rattle.bdb_format.specs.Contents.{pairs_of, tree_pairs}
-use Rattle.bdb_format.specs.File.{File, file_of, header_in, page_at, type_in}
-use Rattle.bdb_format.specs.Leaves.{children_in, leaves}
-use Rattle.bdb_format.specs.Page.{InternalItem, Listed, Internal}
-use Rattle.bdb_format.specs.References.{has_type}
-use Rattle.bdb_format.proofs.ListLemmas.{flat_map_twice, member_of}
-use Rattle.bdb_format.proofs.MemberLemmas.{in_map}
-use Rattle.bdb_format.proofs.TypeLemmas.{of_type}
-use Rattle.bdb_overflow.specs.of_image.Linked.{FitsLeafPage, IsForest}
-use Rattle.bdb_overflow.specs.Datum.{FitsContent}
-use Rattle.bdb_overflow.proofs.ContentLemmas.{key_fits}
+use Rattle.bdb_ranks.specs.of_faults.Notes.{NotesAll}
+use Rattle.bdb_ranks.specs.of_faults.declared.rows.ContentsRow.{ContentsRow}
+use Rattle.bdb_ranks.proofs.of_faults.SinkLemmas.{notes_none}
+use Rattle.bdb_ranks.specs.of_form.declared.view.PageView.{PageView}
+use Rattle.bdb_ranks.specs.of_form.declared.view.PageView.TheVariants.{Internal as InternalSeen}
+use Rattle.bdb_ranks.specs.of_form.Seen.{page_seen}
+use Rattle.bdb_ranks.specs.of_format.declared.kinds.Fault.{Fault}
+use Rattle.bdb_ranks.specs.of_format.ContentRows.{inner_pages}
+use Rattle.bdb_ranks.specs.of_format.Contents.{pairs_of, tree_pairs}
+use Rattle.bdb_ranks.specs.of_format.File.{File, file_of, header_in, page_at, type_in}
+use Rattle.bdb_ranks.specs.of_format.Leaves.{children_in, leaves}
+use Rattle.bdb_ranks.specs.of_format.Page.{InternalItem, Listed, Internal}
+use Rattle.bdb_ranks.specs.of_format.References.{has_type}
+use Rattle.bdb_ranks.proofs.of_format.ListLemmas.{flat_map_twice, member_of}
+use Rattle.bdb_ranks.proofs.of_format.MemberLemmas.{in_map}
+use Rattle.bdb_ranks.proofs.of_format.TypeLemmas.{of_type}
+use Rattle.bdb_ranks.specs.of_image.Linked.{FitsLeafPage, IsForest}
+use Rattle.bdb_ranks.specs.of_overflow.Datum.{FitsContent}
+use Rattle.bdb_ranks.proofs.of_overflow.ContentLemmas.{key_fits}
 use Rattle.bdb_btree.specs.Bounds.{OrderedIf}
 use Rattle.bdb_btree.specs.Counts.{IsKeyed}
 use Rattle.bdb_btree.specs.Noted.{faults_at}
-use Rattle.bdb_tree.proofs.BelongLemmas.{leaf_is}
-use Rattle.bdb_tree.proofs.InnerLemmas.{no_inner}
+use Rattle.bdb_ranks.proofs.of_tree.BelongLemmas.{leaf_is}
+use Rattle.bdb_ranks.proofs.of_tree.InnerLemmas.{no_inner}
 use Rattle.bdb_btree.proofs.FallLemmas.{child_ordered}
 use Rattle.bdb_btree.proofs.FindLemmas.{keyed_inner}
 use Rattle.bdb_btree.proofs.InnerLemmas.{child_keyed}
-use Rattle.bdb_tree.specs.Trees.{IsTreePage}
-use Rattle.bdb_tree.proofs.TreeLemmas.{child_is, leaves_of_inner, leaves_of_leaf, tree_cases, typed_inside}
+use Rattle.bdb_ranks.specs.of_tree.Trees.{IsTreePage}
+use Rattle.bdb_ranks.proofs.of_tree.TreeLemmas.{child_is, leaves_of_inner, leaves_of_leaf, tree_cases, typed_inside}
 
 abbrev pub level : File → ℕ → ℕ
 level file p = (header_in (page_at file p)).level

@@ -1,3 +1,4 @@
+mod Below
 pub mod CheckLemmas
 pub mod CountLemmas
 pub mod EndLemmas
@@ -15,8 +16,8 @@ pub mod ScanLemmas
 pub mod SeenLemmas
 pub mod SeparatorLemmas
 pub mod WalkLemmas
-pub use Rattle.bdb_faults.proofs as of_faults
-pub use Rattle.bdb_format.proofs as of_format
-pub use Rattle.bdb_overflow.proofs.of_graph as of_graph
-pub use Rattle.bdb_overflow.proofs.of_image as of_image
-pub use Rattle.bdb_tree.proofs as of_tree
+pub use Rattle.bdb_ranks.proofs.of_faults as of_faults
+pub use Rattle.bdb_ranks.proofs.of_format as of_format
+pub use Rattle.bdb_ranks.proofs.of_graph as of_graph
+pub use Rattle.bdb_ranks.proofs.of_image as of_image
+pub use Rattle.bdb_ranks.proofs.of_tree as of_tree

@@ -3,18 +3,18 @@ use Rattle.std.proofs.Common.{◌≡◌, ℕ, zero, suc, ◌+◌, ◌*◌, ◌/�
 use Rattle.std.proofs.Common.{subst, inl, inr, add-one, true, true≢false}
 use Rattle.std.specs.List.{Contains, flat_map, range_with_len}
 use Rattle.std.proofs.lemmas.Option.{slice_get-get_or}
-use Rattle.bdb_format.specs.Contents.{StoredPair, pair_at, pairs_in, pairs_of, tree_pairs}
-use Rattle.bdb_format.specs.File.{File, file_of, page_at}
-use Rattle.bdb_format.specs.Leaves.{leaves}
-use Rattle.bdb_format.specs.Page.{Content, Inline, Set, Chain, Tree, Unknown, Item, Listed, Page, Hash, Leaf}
-use Rattle.bdb_format.specs.References.{is_shared_key, item_at, no_item}
-use Rattle.bdb_format.proofs.MemberLemmas.{no_member, of_flat_map, of_map, of_range}
-use Rattle.bdb_overflow.specs.of_image.Linked.{FitsLeafPage, IsForest}
+use Rattle.bdb_ranks.specs.of_format.Contents.{StoredPair, pair_at, pairs_in, pairs_of, tree_pairs}
+use Rattle.bdb_ranks.specs.of_format.File.{File, file_of, page_at}
+use Rattle.bdb_ranks.specs.of_format.Leaves.{leaves}
+use Rattle.bdb_ranks.specs.of_format.Page.{Content, Inline, Set, Chain, Tree, Unknown, Item, Listed, Page, Hash, Leaf}
+use Rattle.bdb_ranks.specs.of_format.References.{is_shared_key, item_at, no_item}
+use Rattle.bdb_ranks.proofs.of_format.MemberLemmas.{no_member, of_flat_map, of_map, of_range}
+use Rattle.bdb_ranks.specs.of_image.Linked.{FitsLeafPage, IsForest}
 use Rattle.bdb_btree.specs.Pairs.{FitsPair, FitsSet}
-use Rattle.bdb_tree.specs.Trees.{IsRoot}
+use Rattle.bdb_ranks.specs.of_tree.Trees.{IsRoot}
 use Rattle.bdb_btree.proofs.OrderLemmas.{ShareOnPage, Shares, SharesOnPage}
-use Rattle.bdb_overflow.proofs.ContentLemmas.{leaf_item_fits}
-use Rattle.bdb_tree.proofs.TreeLemmas.{leaf_dup_root, leaf_fits, leaf_inside, root_is_tree}
+use Rattle.bdb_ranks.proofs.of_overflow.ContentLemmas.{leaf_item_fits}
+use Rattle.bdb_ranks.proofs.of_tree.TreeLemmas.{leaf_dup_root, leaf_fits, leaf_inside, root_is_tree}
 use Rattle.bdb_btree.proofs.WalkLemmas.{leaf_pairs}
 
 -- What a pair names.

@@ -7,26 +7,26 @@ use Rattle.std.proofs.lemmas.Bool.{ne_eqb}
 use Rattle.std.proofs.lemmas.List.{take_all, take_more}
 use Rattle.std.proofs.lemmas.List.Sums.{fold-append}
 use Rattle.std.proofs.lemmas.Grind.{flat_map-append}
-use Rattle.bdb_faults.specs.Notes.{Notes, NotesAll}
-use Rattle.bdb_faults.proofs.SinkLemmas.{notes_both, notes_none, notes_one}
-use Rattle.bdb_faults.specs.Rows.{fault_if}
-use Rattle.bdb_faults.specs.declared.rows.ContentsRow.TheVariants.{Separator}
-use Rattle.bdb_faults.specs.declared.rows.Row.TheVariants.{Contents}
-use Rattle.bdb_format.specs.declared.kinds.Fault.{Fault}
-use Rattle.bdb_format.specs.Chains.{value_of}
-use Rattle.bdb_format.specs.ContentRows.{has_wrong_separator, inner_pages, separated}
-use Rattle.bdb_format.specs.Contents.{StoredPair, tree_pairs}
-use Rattle.bdb_format.specs.File.{File, file_of, page_at}
-use Rattle.bdb_format.specs.Leaves.{children_in}
-use Rattle.bdb_format.specs.Page.{InternalItem, Listed, Internal}
-use Rattle.bdb_overflow.specs.of_image.Linked.{IsForest}
-use Rattle.bdb_overflow.proofs.ContentLemmas.{got}
+use Rattle.bdb_ranks.specs.of_faults.Notes.{Notes, NotesAll}
+use Rattle.bdb_ranks.proofs.of_faults.SinkLemmas.{notes_both, notes_none, notes_one}
+use Rattle.bdb_ranks.specs.of_faults.Rows.{fault_if}
+use Rattle.bdb_ranks.specs.of_faults.declared.rows.ContentsRow.TheVariants.{Separator}
+use Rattle.bdb_ranks.specs.of_faults.declared.rows.Row.TheVariants.{Contents}
+use Rattle.bdb_ranks.specs.of_format.declared.kinds.Fault.{Fault}
+use Rattle.bdb_ranks.specs.of_format.Chains.{value_of}
+use Rattle.bdb_ranks.specs.of_format.ContentRows.{has_wrong_separator, inner_pages, separated}
+use Rattle.bdb_ranks.specs.of_format.Contents.{StoredPair, tree_pairs}
+use Rattle.bdb_ranks.specs.of_format.File.{File, file_of, page_at}
+use Rattle.bdb_ranks.specs.of_format.Leaves.{children_in}
+use Rattle.bdb_ranks.specs.of_format.Page.{InternalItem, Listed, Internal}
+use Rattle.bdb_ranks.specs.of_image.Linked.{IsForest}
+use Rattle.bdb_ranks.proofs.of_overflow.ContentLemmas.{got}
 use Rattle.bdb_btree.specs.Bounds.{Bounds, beyond, bounds_of, ends_of, joined, no_bounds, no_ends, past, see_item, see_items, under, under_ends, under_pair}
 use Rattle.bdb_btree.specs.Held.{FitsBounds, bounds_seen, ends_seen}
 use Rattle.bdb_btree.specs.Noted.{faults_at}
 use Rattle.bdb_btree.specs.declared.separators.Bounds.{Bounds as CodeBounds}
 use Rattle.bdb_btree.specs.declared.ends.Ends.{Ends as CodeEnds}
-use Rattle.bdb_tree.proofs.InnerLemmas.{faults_below, inner_noted, leads_down}
+use Rattle.bdb_ranks.proofs.of_tree.InnerLemmas.{faults_below, inner_noted, leads_down}
 use Rattle.bdb_btree.proofs.EndLemmas.{ends_joined, under_all}
 use Rattle.bdb_btree.proofs.ItemLemmas.{pairs_joined}
 use Rattle.bdb_btree.proofs.SeparatorLemmas.{wrong_separators}

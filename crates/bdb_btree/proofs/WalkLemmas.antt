@@ -5,23 +5,23 @@ use Rattle.std.proofs.Common.{ap}
 use Rattle.std.specs.List.{Contains, flat_map, range_with_len}
 use Rattle.std.proofs.lemmas.Option.{slice_get-get_or}
 use Rattle.std.proofs.lemmas.Simd.{map-map}
-use Rattle.bdb_format.specs.Contents.{pair_at, pairs_in, pairs_of, tree_pairs, StoredPair}
-use Rattle.bdb_format.specs.File.{File, file_of, page_at}
-use Rattle.bdb_format.specs.Leaves.{leaves}
-use Rattle.bdb_format.specs.Page.{Item, Listed, Leaf}
-use Rattle.bdb_format.specs.References.{is_shared_key, item_at, no_item}
-use Rattle.bdb_format.proofs.MemberLemmas.{first_member, later_member}
-use Rattle.bdb_form.specs.Pairs.{pair_of, pairs_from}
-use Rattle.bdb_form.specs.Seen.{page_seen}
-use Rattle.bdb_form.specs.declared.view.PageView.{PageView}
-use Rattle.bdb_form.specs.declared.view.PageView.TheVariants.{Leaf as LeafSeen}
-use Rattle.bdb_overflow.specs.of_image.Linked.{FitsLeafPage, IsForest}
-use Rattle.bdb_overflow.specs.Datum.{FitsContent}
-use Rattle.bdb_overflow.proofs.ContentLemmas.{leaf_item_fits}
+use Rattle.bdb_ranks.specs.of_format.Contents.{pair_at, pairs_in, pairs_of, tree_pairs, StoredPair}
+use Rattle.bdb_ranks.specs.of_format.File.{File, file_of, page_at}
+use Rattle.bdb_ranks.specs.of_format.Leaves.{leaves}
+use Rattle.bdb_ranks.specs.of_format.Page.{Item, Listed, Leaf}
+use Rattle.bdb_ranks.specs.of_format.References.{is_shared_key, item_at, no_item}
+use Rattle.bdb_ranks.proofs.of_format.MemberLemmas.{first_member, later_member}
+use Rattle.bdb_ranks.specs.of_form.Pairs.{pair_of, pairs_from}
+use Rattle.bdb_ranks.specs.of_form.Seen.{page_seen}
+use Rattle.bdb_ranks.specs.of_form.declared.view.PageView.{PageView}
+use Rattle.bdb_ranks.specs.of_form.declared.view.PageView.TheVariants.{Leaf as LeafSeen}
+use Rattle.bdb_ranks.specs.of_image.Linked.{FitsLeafPage, IsForest}
+use Rattle.bdb_ranks.specs.of_overflow.Datum.{FitsContent}
+use Rattle.bdb_ranks.proofs.of_overflow.ContentLemmas.{leaf_item_fits}
 use Rattle.bdb_btree.specs.Pairs.{AreLeaves, Each, KeysFit, left_of, pairs_left, stored_pair}
-use Rattle.bdb_tree.specs.Trees.{IsRoot}
-use Rattle.bdb_tree.proofs.TreeLemmas.{dup_leaf_page, leaf_fits, leaf_inside, leaf_page, recno_leaf_page, root_is_tree}
-use Rattle.bdb_format.proofs.TypeLemmas.{of_type}
+use Rattle.bdb_ranks.specs.of_tree.Trees.{IsRoot}
+use Rattle.bdb_ranks.proofs.of_tree.TreeLemmas.{dup_leaf_page, leaf_fits, leaf_inside, leaf_page, recno_leaf_page, root_is_tree}
+use Rattle.bdb_ranks.proofs.of_format.TypeLemmas.{of_type}
 
 -- What is so of each member is so of each.
 

@@ -2,16 +2,16 @@
 use Rattle.std.specs.Prelude.{ℕ, not, Bool, true, List, [], ◌++◌, map, Option}
 use Rattle.std.specs.List.{flat_map}
 use Rattle.std.specs.Option.{option_map}
-use Rattle.bdb_format.specs.Chains.{value_of}
-use Rattle.bdb_format.specs.Contents.{StoredPair}
-use Rattle.bdb_format.specs.File.{File, page_at}
-use Rattle.bdb_format.specs.Leaves.{leaves}
-use Rattle.bdb_format.specs.Page.{Item, Page, Leaf}
-use Rattle.bdb_format.specs.References.{no_item}
-use Rattle.bdb_form.specs.Pairs.{PairOf, pairs_from}
-use Rattle.bdb_form.specs.of_layout.Seen.{leaf_item_seen}
-use Rattle.bdb_overflow.specs.Datum.{FitsContent}
-use Rattle.bdb_overflow.specs.Held.{FitsAny, value_held}
+use Rattle.bdb_ranks.specs.of_format.Chains.{value_of}
+use Rattle.bdb_ranks.specs.of_format.Contents.{StoredPair}
+use Rattle.bdb_ranks.specs.of_format.File.{File, page_at}
+use Rattle.bdb_ranks.specs.of_format.Leaves.{leaves}
+use Rattle.bdb_ranks.specs.of_format.Page.{Item, Page, Leaf}
+use Rattle.bdb_ranks.specs.of_format.References.{no_item}
+use Rattle.bdb_ranks.specs.of_form.Pairs.{PairOf, pairs_from}
+use Rattle.bdb_ranks.specs.of_layout.Seen.{leaf_item_seen}
+use Rattle.bdb_ranks.specs.of_overflow.Datum.{FitsContent}
+use Rattle.bdb_ranks.specs.of_overflow.Held.{FitsAny, value_held}
 use Rattle.bdb_btree.specs.Bounds.{Bounds, Ends}
 use Rattle.bdb_btree.specs.Pairs.{Each, left_of}
 use Rattle.bdb_btree.specs.Rows.{Passed}

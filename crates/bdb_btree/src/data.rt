@@ -1,16 +1,16 @@
 ghost use Rattle.std.specs.Prelude.{◌≡◌, []};
 ghost use Rattle.std.specs.Iterator.{YieldsFirstBy, item_count};
-ghost use Rattle.bdb_form.specs.of_layout.Seen.{leaf_item_seen};
-ghost use Rattle.bdb_format.specs.Contents.{data_of};
-ghost use Rattle.bdb_format.specs.File.{file_of};
-ghost use Rattle.bdb_format.specs.Verdict.{structure_faults};
-ghost use Rattle.bdb_overflow.specs.Datum.{FitsContent, datum_seen};
+ghost use Rattle.bdb_ranks.specs.of_layout.Seen.{leaf_item_seen};
+ghost use Rattle.bdb_ranks.specs.of_format.Contents.{data_of};
+ghost use Rattle.bdb_ranks.specs.of_format.File.{file_of};
+ghost use Rattle.bdb_ranks.specs.of_format.Verdict.{structure_faults};
+ghost use Rattle.bdb_ranks.specs.of_overflow.Datum.{FitsContent, datum_seen};
 ghost use Rattle.bdb_btree.specs.Pairs.{FitsSet, left_of};
 
-use bdb_form::bdb_layout::LeafItem;
-use bdb_overflow::bdb_graph::Forest;
-use bdb_overflow::{Datum, value_of};
-use bdb_tree::{SetValues, set_values};
+use bdb_ranks::bdb_graph::Forest;
+use bdb_ranks::bdb_layout::LeafItem;
+use bdb_ranks::bdb_overflow::{Datum, value_of};
+use bdb_ranks::bdb_tree::{SetValues, set_values};
 use std::marker::Model;
 
 /// The data of a data item that are left: one value, or those of a set off the page.
@@ -41,7 +41,7 @@ impl<'a> Model for ItemData<'a> {
 }
 
 /// The data of a data item.
-#[tactic(auto, unfolding(bdb_format::specs::Contents::data_of))]
+#[tactic(auto, unfolding(crate::specs::Below::data_of))]
 #[inline(always)]
 pub(crate) fn item_data<'a>(forest: &Forest<'a>, item: &LeafItem<'a>) -> ItemData<'a>
     requires content { FitsContent (file_of forest.now) (leaf_item_seen item.now).content }

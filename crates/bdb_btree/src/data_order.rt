@@ -3,21 +3,21 @@ ghost use Rattle.std.specs.List.{fold};
 ghost use Rattle.bdb_btree.specs.Held.{pair_held, run_seen, stored_as};
 ghost use Rattle.bdb_btree.specs.Pairs.{FitsPair, FitsSet};
 ghost use Rattle.bdb_btree.specs.Runs.{follow, next_data};
-ghost use Rattle.bdb_overflow.specs.Datum.{FitsContent};
-ghost use Rattle.bdb_overflow.specs.Held.{FitsAny, FitsHeld, value_held};
-ghost use Rattle.bdb_form.specs.of_layout.Seen.{leaf_item_seen};
-ghost use Rattle.bdb_format.specs.Contents.{data_of};
-ghost use Rattle.bdb_format.specs.File.{file_of};
-ghost use Rattle.bdb_format.specs.Page.{Tree};
-ghost use Rattle.bdb_format.specs.Verdict.{structure_faults};
-ghost use Rattle.bdb_overflow.specs.of_image.Linked.{FitsDupRoot};
+ghost use Rattle.bdb_ranks.specs.of_overflow.Datum.{FitsContent};
+ghost use Rattle.bdb_ranks.specs.of_overflow.Held.{FitsAny, FitsHeld, value_held};
+ghost use Rattle.bdb_ranks.specs.of_layout.Seen.{leaf_item_seen};
+ghost use Rattle.bdb_ranks.specs.of_format.Contents.{data_of};
+ghost use Rattle.bdb_ranks.specs.of_format.File.{file_of};
+ghost use Rattle.bdb_ranks.specs.of_format.Page.{Tree};
+ghost use Rattle.bdb_ranks.specs.of_format.Verdict.{structure_faults};
+ghost use Rattle.bdb_ranks.specs.of_image.Linked.{FitsDupRoot};
 
 use crate::held::HeldPair;
 use crate::order::is_not_above;
-use bdb_form::bdb_layout::LeafItem;
-use bdb_overflow::{Held, is_deleted, leaf_held};
 use bdb_ranks::Values;
-use bdb_tree::tree_entries;
+use bdb_ranks::bdb_layout::LeafItem;
+use bdb_ranks::bdb_overflow::{Held, is_deleted, leaf_held};
+use bdb_ranks::bdb_tree::tree_entries;
 use std::alloc::AllocError;
 
 /// Values that ought to ascend: the last one, and whether some value wasn't above the one before it.
@@ -85,7 +85,7 @@ impl<'a> Run<'a> {
     }
 
     /// The data of a data item.
-    #[tactic(auto, unfolding(bdb_format::specs::Contents::data_of, bdb_format::specs::Chains::value_of))]
+    #[tactic(auto, unfolding(crate::specs::Below::data_of, crate::specs::Below::value_of))]
     fn see_content(&mut self, known: &mut Values<'a>, item: &LeafItem<'a>) -> Result<(), AllocError>
         requires last { FitsAny (file_of known.old) self.old.last }
         requires content { FitsContent (file_of known.old) (leaf_item_seen item.now).content }

@@ -1,14 +1,14 @@
 ghost use Rattle.std.specs.Prelude.{◌≡◌};
 ghost use Rattle.bdb_btree.specs.Held.{pair_held, without_key};
 ghost use Rattle.bdb_btree.specs.Pairs.{FitsSet};
-ghost use Rattle.bdb_form.specs.of_layout.Seen.{leaf_item_seen};
-ghost use Rattle.bdb_format.specs.ContentRows.{is_duplicate, is_wrong_set};
-ghost use Rattle.bdb_format.specs.File.{file_of};
+ghost use Rattle.bdb_ranks.specs.of_layout.Seen.{leaf_item_seen};
+ghost use Rattle.bdb_ranks.specs.of_format.ContentRows.{is_duplicate, is_wrong_set};
+ghost use Rattle.bdb_ranks.specs.of_format.File.{file_of};
 
 use crate::held::HeldPair;
-use bdb_form::bdb_layout::LeafItem;
-use bdb_overflow::bdb_graph::Forest;
-use bdb_tree::is_wrong_root;
+use bdb_ranks::bdb_graph::Forest;
+use bdb_ranks::bdb_layout::LeafItem;
+use bdb_ranks::bdb_tree::is_wrong_root;
 
 /// Whether only a database with duplicates may have a pair: it shares its key, or its data is a set.
 pub(crate) fn is_duplicate(pair: &HeldPair<'_>) -> bool

@@ -1,19 +1,19 @@
 ghost use Rattle.std.specs.Prelude.{◌≡◌, IfOk, OnOk, Some};
 ghost use Rattle.std.specs.Option.{option_map};
-ghost use Rattle.bdb_format.specs.Contents.{tree_pairs};
-ghost use Rattle.bdb_format.specs.File.{File, file_of};
-ghost use Rattle.bdb_overflow.specs.of_image.Linked.{FitsLeafPage};
-ghost use Rattle.bdb_overflow.specs.Held.{FitsAny, FitsHeld, value_held};
+ghost use Rattle.bdb_ranks.specs.of_format.Contents.{tree_pairs};
+ghost use Rattle.bdb_ranks.specs.of_format.File.{File, file_of};
+ghost use Rattle.bdb_ranks.specs.of_image.Linked.{FitsLeafPage};
+ghost use Rattle.bdb_ranks.specs.of_overflow.Held.{FitsAny, FitsHeld, value_held};
 ghost use Rattle.bdb_btree.specs.Bounds.{DontFall, OrderedIf, ends_of, greater_of, joined, lesser_of, no_ends, widen};
 ghost use Rattle.bdb_btree.specs.Held.{FitsEnds, ends_seen};
 
 use crate::held::page_items;
 use crate::order::is_less;
 use crate::pair::key_at;
-use bdb_form::PageView;
-use bdb_overflow::bdb_graph::Forest;
-use bdb_overflow::{Held, leaf_held};
 use bdb_ranks::Values;
+use bdb_ranks::bdb_form::PageView;
+use bdb_ranks::bdb_graph::Forest;
+use bdb_ranks::bdb_overflow::{Held, leaf_held};
 use std::alloc::AllocError;
 
 /// The lesser of two values, the first of which may be missing. An error is want of memory, for chains that are shared.
@@ -113,7 +113,7 @@ impl<'a> Ends<'a> {
 }
 
 /// Those of the keys of a leaf that don't fall: the first and the last.
-#[tactic(auto, using(bdb_tree::proofs::TreeLemmas::leaf_inside))]
+#[tactic(auto, using(crate::proofs::Below::leaf_inside))]
 fn ordered_ends<'a>(forest: &Forest<'a>, leaf: u32) -> Ends<'a>
     requires leaf { FitsLeafPage (file_of forest.now) leaf }
     requires order { DontFall (tree_pairs (file_of forest.now) leaf) }

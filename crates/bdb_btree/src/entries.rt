@@ -1,18 +1,18 @@
 ghost use Rattle.std.specs.Prelude.{◌≡◌, [], ◌∷◌, IfSome};
 ghost use Rattle.std.specs.List.{flat_map};
 ghost use Rattle.std.specs.Iterator.{YieldsFirstBy, item_count};
-ghost use Rattle.bdb_format.specs.File.{File, file_of};
-ghost use Rattle.bdb_format.specs.Lists.{listed_pair};
-ghost use Rattle.bdb_format.specs.Verdict.{structure_faults};
+ghost use Rattle.bdb_ranks.specs.of_format.File.{File, file_of};
+ghost use Rattle.bdb_ranks.specs.of_format.Lists.{listed_pair};
+ghost use Rattle.bdb_ranks.specs.of_format.Verdict.{structure_faults};
 ghost use Rattle.bdb_btree.specs.Pairs.{FitsPair, left_of, pair_seen};
 ghost use Rattle.bdb_btree.specs.Search.{AreOpen, entry_seen};
 
 use crate::data::{ItemData, item_data};
 use crate::pair::Pair;
 use crate::walk::Pairs;
-use bdb_form::bdb_layout::LeafItem;
-use bdb_overflow::bdb_graph::Forest;
-use bdb_overflow::{Datum, KeyView};
+use bdb_ranks::bdb_graph::Forest;
+use bdb_ranks::bdb_layout::LeafItem;
+use bdb_ranks::bdb_overflow::{Datum, KeyView};
 use std::marker::Model;
 
 /// The data of one pair that are left, each with the pair's key.
@@ -33,11 +33,11 @@ impl Drop for Entries<'_> {
 
 impl<'a> Model for Entries<'a> {
     ghost use Rattle.std.specs.Prelude.{List, ℕ};
-    ghost use Rattle.bdb_format.specs.Lists.{ListKey};
+    ghost use Rattle.bdb_ranks.specs.of_format.Lists.{ListKey};
 
     ghost Value = { List (ListKey × List ℕ) };
 
-    ghost use Rattle.bdb_overflow.specs.Datum.{datum_seen};
+    ghost use Rattle.bdb_ranks.specs.of_overflow.Datum.{datum_seen};
     ghost use Rattle.bdb_btree.specs.Search.{under};
 
     ghost view = { λ v. under (datum_seen v.key) v.values };
@@ -85,7 +85,7 @@ pub fn next_entry<'a>(here: &mut Option<Entries<'a>>) -> Option<(KeyView<'a>, Da
 
 /// The only entry of a live pair whose datum stands on its page.
 #[inline(always)]
-#[tactic(auto, unfolding(bdb_format::specs::Contents::data_of))]
+#[tactic(auto, unfolding(crate::specs::Below::data_of))]
 fn entry_on_page<'a>(pair: &Pair<'a>) -> Option<(KeyView<'a>, Datum<'a>)>
     ensures { IfSome result (λ entry. (file : File) → listed_pair file (pair_seen pair.now) ≡ entry_seen entry ∷ []) }
 {
@@ -116,8 +116,8 @@ impl Drop for Scan<'_> {
 
 impl<'a> Model for Scan<'a> {
     ghost use Rattle.std.specs.Prelude.{List, ℕ};
-    ghost use Rattle.bdb_format.specs.File.{file_of};
-    ghost use Rattle.bdb_format.specs.Lists.{ListKey};
+    ghost use Rattle.bdb_ranks.specs.of_format.File.{file_of};
+    ghost use Rattle.bdb_ranks.specs.of_format.Lists.{ListKey};
 
     ghost Value = { List (ListKey × List ℕ) };
 

@@ -1,19 +1,19 @@
 ghost use Rattle.std.specs.Prelude.{◌≡◌, ◌∷◌, [], MatchOption};
 ghost use Rattle.std.specs.Iterator.{YieldsFirstBy, item_count};
 ghost use Rattle.std.specs.List.{flat_map};
-ghost use Rattle.bdb_overflow.specs.of_image.Linked.{FitsLeafPage};
-ghost use Rattle.bdb_format.specs.Contents.{pairs_of};
-ghost use Rattle.bdb_format.specs.File.{file_of};
-ghost use Rattle.bdb_format.specs.Verdict.{structure_faults};
-ghost use Rattle.bdb_overflow.specs.Datum.{datum_seen};
+ghost use Rattle.bdb_ranks.specs.of_image.Linked.{FitsLeafPage};
+ghost use Rattle.bdb_ranks.specs.of_format.Contents.{pairs_of};
+ghost use Rattle.bdb_ranks.specs.of_format.File.{file_of};
+ghost use Rattle.bdb_ranks.specs.of_format.Verdict.{structure_faults};
+ghost use Rattle.bdb_ranks.specs.of_overflow.Datum.{datum_seen};
 ghost use Rattle.bdb_btree.specs.Pairs.{FitsPair, left_of, pair_seen};
 ghost use Rattle.bdb_btree.specs.Search.{AreOpen, data_under, from_key};
 
 use crate::data::{ItemData, item_data};
 use crate::pair::Pair;
 use crate::walk::{PagePairs, next_pair, page_pairs};
-use bdb_overflow::bdb_graph::Forest;
-use bdb_overflow::{Datum, is_same};
+use bdb_ranks::bdb_graph::Forest;
+use bdb_ranks::bdb_overflow::{Datum, is_same};
 use std::marker::Model;
 
 /// The first of these pairs that has a key; those before it are passed.
@@ -72,11 +72,11 @@ impl Drop for Found<'_> {
 
 impl<'a> Model for Found<'a> {
     ghost use Rattle.std.specs.Prelude.{List, ℕ};
-    ghost use Rattle.bdb_format.specs.File.{file_of};
+    ghost use Rattle.bdb_ranks.specs.of_format.File.{file_of};
 
     ghost Value = { List (List ℕ) };
 
-    ghost use Rattle.bdb_overflow.specs.Datum.{datum_seen};
+    ghost use Rattle.bdb_ranks.specs.of_overflow.Datum.{datum_seen};
     ghost use Rattle.bdb_btree.specs.Pairs.{left_of};
     ghost use Rattle.bdb_btree.specs.Search.{AreOpen, found_left};
 

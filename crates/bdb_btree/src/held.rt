@@ -1,16 +1,16 @@
 ghost use Rattle.std.specs.Prelude.{◌≡◌, []};
 ghost use Rattle.std.specs.Iterator.{YieldsFirstBy, item_count};
-ghost use Rattle.bdb_format.specs.File.{file_of};
-ghost use Rattle.bdb_format.specs.Verdict.{structure_faults};
-ghost use Rattle.bdb_overflow.specs.of_image.Linked.{FitsLeafPage, IsForest};
+ghost use Rattle.bdb_ranks.specs.of_format.File.{file_of};
+ghost use Rattle.bdb_ranks.specs.of_format.Verdict.{structure_faults};
+ghost use Rattle.bdb_ranks.specs.of_image.Linked.{FitsLeafPage, IsForest};
 ghost use Rattle.bdb_btree.specs.Held.{items_of, pair_held, tree_items};
 ghost use Rattle.bdb_btree.specs.Pairs.{AreLeaves, left_of};
-ghost use Rattle.bdb_tree.specs.Trees.{IsRoot};
+ghost use Rattle.bdb_ranks.specs.of_tree.Trees.{IsRoot};
 
-use bdb_form::bdb_layout::LeafItem;
-use bdb_form::{LeafKind, PageView};
-use bdb_overflow::bdb_graph::Forest;
-use bdb_tree::{Leaves, tree_leaves};
+use bdb_ranks::bdb_form::{LeafKind, PageView};
+use bdb_ranks::bdb_graph::Forest;
+use bdb_ranks::bdb_layout::LeafItem;
+use bdb_ranks::bdb_tree::{Leaves, tree_leaves};
 use std::marker::Model;
 
 /// A pair of a leaf, as its items hold it: of a key or a value in a chain they tell the head.
@@ -28,7 +28,7 @@ pub struct HeldPair<'a> {
 #[derive(Drop)]
 pub struct PageItems<'a> {
     page: u32,
-    pairs: bdb_form::PagePairs<'a, LeafKind>,
+    pairs: bdb_ranks::bdb_form::PagePairs<'a, LeafKind>,
 }
 
 impl<'a> Model for PageItems<'a> {
@@ -60,7 +60,7 @@ impl<'a> Iterator for PageItems<'a> {
 }
 
 /// The pairs of a leaf, in order; none where it isn't one of pairs.
-#[tactic(auto, using(bdb_tree::proofs::TreeLemmas::leaf_inside, crate::proofs::HeldLemmas::no_items))]
+#[tactic(auto, using(crate::proofs::Below::leaf_inside, crate::proofs::HeldLemmas::no_items))]
 pub(crate) fn page_items<'a>(forest: &Forest<'a>, page: u32) -> Option<PageItems<'a>>
     requires { FitsLeafPage (file_of forest.now) page }
     ensures pairs { left_of result ≡ items_of (file_of forest.now) page }
@@ -105,7 +105,7 @@ impl Drop for HeldPairs<'_> {
 
 impl<'a> Model for HeldPairs<'a> {
     ghost use Rattle.std.specs.Prelude.{List};
-    ghost use Rattle.bdb_format.specs.File.{file_of};
+    ghost use Rattle.bdb_ranks.specs.of_format.File.{file_of};
     ghost use Rattle.bdb_btree.specs.Held.{ItemPair, items_left};
     ghost use Rattle.bdb_btree.specs.Pairs.{AreLeaves};
 

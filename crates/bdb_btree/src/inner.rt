@@ -1,11 +1,11 @@
 ghost use Rattle.std.specs.Prelude.{◌≡◌, IfSome, None};
-ghost use Rattle.bdb_format.specs.File.{file_of, page_at};
-ghost use Rattle.bdb_format.specs.Page.{Internal};
-ghost use Rattle.bdb_overflow.specs.of_image.Linked.{FitsLeafPage, IsForest};
+ghost use Rattle.bdb_ranks.specs.of_format.File.{file_of, page_at};
+ghost use Rattle.bdb_ranks.specs.of_format.Page.{Internal};
+ghost use Rattle.bdb_ranks.specs.of_image.Linked.{FitsLeafPage, IsForest};
 ghost use Rattle.bdb_btree.specs.Counts.{IsKeyed};
 
-use bdb_form::{InternalView, PageView};
-use bdb_overflow::bdb_graph::Forest;
+use bdb_ranks::bdb_form::{InternalView, PageView};
+use bdb_ranks::bdb_graph::Forest;
 
 /// A page of a tree of pairs, if it's an internal page; the others are its leaves.
 #[tactic(auto, using(crate::proofs::ItemLemmas::keyed_inside))]

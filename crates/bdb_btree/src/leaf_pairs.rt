@@ -1,16 +1,16 @@
 ghost use Rattle.std.specs.Prelude.{◌≡◌, [], map};
-ghost use Rattle.bdb_overflow.specs.of_image.Linked.{HasMetadata};
-ghost use Rattle.bdb_format.specs.Contents.{tree_pairs};
-ghost use Rattle.bdb_format.specs.File.{file_of};
-ghost use Rattle.bdb_format.specs.Page.{BtreeFields};
-ghost use Rattle.bdb_format.specs.Verdict.{structure_faults};
+ghost use Rattle.bdb_ranks.specs.of_image.Linked.{HasMetadata};
+ghost use Rattle.bdb_ranks.specs.of_format.Contents.{tree_pairs};
+ghost use Rattle.bdb_ranks.specs.of_format.File.{file_of};
+ghost use Rattle.bdb_ranks.specs.of_format.Page.{BtreeFields};
+ghost use Rattle.bdb_ranks.specs.of_format.Verdict.{structure_faults};
 ghost use Rattle.bdb_btree.specs.Held.{AreKeyed, stored_as};
 ghost use Rattle.bdb_btree.specs.Pairs.{AreFit};
-ghost use Rattle.bdb_overflow.specs.of_image.Linked.{IsForest};
+ghost use Rattle.bdb_ranks.specs.of_image.Linked.{IsForest};
 
 use crate::held::{HeldPairs, tree_items};
-use bdb_format::BtreeMeta;
-use bdb_overflow::bdb_graph::Linked;
+use bdb_ranks::bdb_format::BtreeMeta;
+use bdb_ranks::bdb_graph::Linked;
 
 /// All pairs of a btree, from left to right, deleted ones too, as their items hold them. It takes no memory.
 #[tactic(auto, using(crate::proofs::HeldLemmas::stored_fit, crate::proofs::HeldLemmas::tree_keyed, crate::proofs::HeldLemmas::tree_stored))]

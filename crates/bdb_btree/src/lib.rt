@@ -20,14 +20,9 @@ mod separators;
 mod walk;
 mod way_down;
 
-pub use bdb_faults;
-pub use bdb_form;
-pub use bdb_form::bdb_layout;
-pub use bdb_format;
-pub use bdb_overflow;
-pub use bdb_overflow::bdb_graph;
-pub use bdb_ranks;
-pub use bdb_tree;
+pub use bdb_ranks::{
+    bdb_faults, bdb_form, bdb_format, bdb_graph, bdb_layout, bdb_overflow, bdb_tree,
+};
 pub use contents::{all_faults, check, note_contents};
 pub use entries::{Entries, Scan, next_entry, pair_entries};
 pub use found::Found;

@@ -1,18 +1,18 @@
 ghost use Rattle.std.specs.Prelude.{◌≡◌, ◌+◌, [], false};
-ghost use Rattle.bdb_overflow.specs.of_image.Linked.{HasMetadata};
-ghost use Rattle.bdb_format.specs.ContentRows.{database_faults};
-ghost use Rattle.bdb_format.specs.File.{file_of, header_in, page_at};
-ghost use Rattle.bdb_format.specs.Lists.{BytesKey, btree_list, get};
-ghost use Rattle.bdb_format.specs.Page.{BtreeFields};
-ghost use Rattle.bdb_format.specs.Verdict.{structure_faults};
-ghost use Rattle.bdb_format.specs.Flags.{is_recno};
+ghost use Rattle.bdb_ranks.specs.of_image.Linked.{HasMetadata};
+ghost use Rattle.bdb_ranks.specs.of_format.ContentRows.{database_faults};
+ghost use Rattle.bdb_ranks.specs.of_format.File.{file_of, header_in, page_at};
+ghost use Rattle.bdb_ranks.specs.of_format.Lists.{BytesKey, btree_list, get};
+ghost use Rattle.bdb_ranks.specs.of_format.Page.{BtreeFields};
+ghost use Rattle.bdb_ranks.specs.of_format.Verdict.{structure_faults};
+ghost use Rattle.bdb_ranks.specs.of_format.Flags.{is_recno};
 
 use crate::entries::Scan;
 use crate::found::{Found, found_on};
 use crate::walk::tree_pairs;
 use crate::way_down::leaf_for;
-use bdb_format::{BtreeMeta, Steps};
-use bdb_overflow::bdb_graph::Linked;
+use bdb_ranks::bdb_format::{BtreeMeta, Steps};
+use bdb_ranks::bdb_graph::Linked;
 use std::sync::ledger::Ledger;
 
 /// The list of a btree: its live pairs from left to right, each key with each of its data. It takes no

@@ -1,22 +1,22 @@
 ghost use Rattle.std.specs.Prelude.{◌≡◌, IfOk, None, OnOk, false, true};
 ghost use Rattle.std.specs.Option.{option_map};
-ghost use Rattle.bdb_format.specs.File.{file_of};
-ghost use Rattle.bdb_format.specs.Less.{less};
+ghost use Rattle.bdb_ranks.specs.of_format.File.{file_of};
+ghost use Rattle.bdb_ranks.specs.of_format.Less.{less};
 ghost use Rattle.bdb_btree.specs.Held.{keys_seen, pair_held, stored_as};
 ghost use Rattle.bdb_btree.specs.Runs.{is_not_above, next_key};
-ghost use Rattle.bdb_overflow.specs.Datum.{FitsContent};
-ghost use Rattle.bdb_overflow.specs.Held.{FitsAny, FitsHeld, value_held};
+ghost use Rattle.bdb_ranks.specs.of_overflow.Datum.{FitsContent};
+ghost use Rattle.bdb_ranks.specs.of_overflow.Held.{FitsAny, FitsHeld, value_held};
 
 use crate::held::HeldPair;
-use bdb_form::bdb_layout::compare;
-use bdb_overflow::{Held, leaf_held};
 use bdb_ranks::Values;
+use bdb_ranks::bdb_layout::compare;
+use bdb_ranks::bdb_overflow::{Held, leaf_held};
 use std::alloc::AllocError;
 use std::cmp::Ordering;
 
 /// Whether bytes of pages are less than others.
 #[inline(always)]
-#[tactic(auto, using(bdb_overflow::proofs::KeyLemmas::is_less))]
+#[tactic(auto, using(crate::proofs::Below::is_less))]
 fn is_less_bytes(a: &[u8], b: &[u8]) -> bool
     ensures { result ≡ less a.now b.now }
 {

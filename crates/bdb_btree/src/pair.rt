@@ -1,19 +1,19 @@
 ghost use Rattle.std.specs.Prelude.{◌≡◌, ◌*◌, ◌<◌, ◌≤◌, length};
-ghost use Rattle.bdb_format.specs.Chains.{value_of};
-ghost use Rattle.bdb_format.specs.File.{file_of, page_at};
-ghost use Rattle.bdb_format.specs.Page.{Leaf};
-ghost use Rattle.bdb_format.specs.References.{item_at};
-ghost use Rattle.bdb_form.specs.Pairs.{pair_seen as view_seen};
-ghost use Rattle.bdb_overflow.specs.of_image.Linked.{IsForest};
+ghost use Rattle.bdb_ranks.specs.of_format.Chains.{value_of};
+ghost use Rattle.bdb_ranks.specs.of_format.File.{file_of, page_at};
+ghost use Rattle.bdb_ranks.specs.of_format.Page.{Leaf};
+ghost use Rattle.bdb_ranks.specs.of_format.References.{item_at};
+ghost use Rattle.bdb_ranks.specs.of_form.Pairs.{pair_seen as view_seen};
+ghost use Rattle.bdb_ranks.specs.of_image.Linked.{IsForest};
 ghost use Rattle.bdb_btree.specs.Pairs.{pair_seen, stored_pair};
-ghost use Rattle.bdb_overflow.specs.Datum.{FitsContent};
-ghost use Rattle.bdb_overflow.specs.Held.{FitsHeld, value_held};
-ghost use Rattle.bdb_form.specs.of_layout.Seen.{leaf_item_seen};
+ghost use Rattle.bdb_ranks.specs.of_overflow.Datum.{FitsContent};
+ghost use Rattle.bdb_ranks.specs.of_overflow.Held.{FitsHeld, value_held};
+ghost use Rattle.bdb_ranks.specs.of_layout.Seen.{leaf_item_seen};
 
-use bdb_form::LeafView;
-use bdb_form::bdb_layout::LeafItem;
-use bdb_overflow::bdb_graph::Forest;
-use bdb_overflow::{Datum, Held, is_deleted, leaf_held, value_of};
+use bdb_ranks::bdb_form::LeafView;
+use bdb_ranks::bdb_graph::Forest;
+use bdb_ranks::bdb_layout::LeafItem;
+use bdb_ranks::bdb_overflow::{Datum, Held, is_deleted, leaf_held, value_of};
 
 /// A pair of a leaf, where it lies.
 #[derive(Drop)]
@@ -31,7 +31,11 @@ pub struct Pair<'a> {
 
 impl<'a> Pair<'a> {
     /// A pair as the view of its leaf gives it.
-    pub(crate) fn of(forest: &Forest<'a>, page: u32, pair: bdb_form::Pair<LeafItem<'a>>) -> Pair<'a>
+    pub(crate) fn of(
+        forest: &Forest<'a>,
+        page: u32,
+        pair: bdb_ranks::bdb_form::Pair<LeafItem<'a>>,
+    ) -> Pair<'a>
         requires { FitsContent (file_of forest.now) (leaf_item_seen pair.key).content }
         ensures { pair_seen result ≡ stored_pair (file_of forest.now) page (view_seen leaf_item_seen pair.entry) }
     {
@@ -46,7 +50,7 @@ impl<'a> Pair<'a> {
 }
 
 /// The key alone of a pair of a leaf, by its place there from 0.
-#[tactic(auto, using(bdb_form::proofs::WalkLemmas::read_item, bdb_overflow::proofs::ContentLemmas::leaf_item_fits))]
+#[tactic(auto, using(crate::proofs::Below::read_item, crate::proofs::Below::leaf_item_fits))]
 pub(crate) fn key_at<'a>(forest: &Forest<'a>, page: u32, leaf: &LeafView<'a>, i: u16) -> Held<'a>
     requires forest { IsForest forest.now }
     requires inside { page ≤ (file_of forest.now).last }

@@ -1,11 +1,11 @@
 ghost use Rattle.std.specs.Prelude.{◌≡◌, ◌&&◌, [], IfOk, OnOk, not};
-ghost use Rattle.bdb_overflow.specs.of_image.Linked.{FitsTreeRoot};
-ghost use Rattle.bdb_faults.specs.Notes.{Notes};
-ghost use Rattle.bdb_format.specs.ContentRows.{is_duplicate};
-ghost use Rattle.bdb_format.specs.Contents.{tree_pairs};
-ghost use Rattle.bdb_format.specs.File.{File, file_of};
-ghost use Rattle.bdb_format.specs.Verdict.{structure_faults};
-ghost use Rattle.bdb_overflow.specs.Datum.{FitsContent};
+ghost use Rattle.bdb_ranks.specs.of_image.Linked.{FitsTreeRoot};
+ghost use Rattle.bdb_ranks.specs.of_faults.Notes.{Notes};
+ghost use Rattle.bdb_ranks.specs.of_format.ContentRows.{is_duplicate};
+ghost use Rattle.bdb_ranks.specs.of_format.Contents.{tree_pairs};
+ghost use Rattle.bdb_ranks.specs.of_format.File.{File, file_of};
+ghost use Rattle.bdb_ranks.specs.of_format.Verdict.{structure_faults};
+ghost use Rattle.bdb_ranks.specs.of_overflow.Datum.{FitsContent};
 ghost use Rattle.bdb_btree.specs.Bounds.{OrderedIf};
 ghost use Rattle.bdb_btree.specs.Held.{FitsPassed, pair_held, passed_seen, stored_as, without_key};
 ghost use Rattle.bdb_btree.specs.Pairs.{FitsPair};
@@ -15,9 +15,9 @@ use crate::data_order::Run;
 use crate::duplicates::{is_duplicate, is_wrong_set};
 use crate::held::{HeldPair, tree_items};
 use crate::order::KeyOrder;
-use bdb_faults::{ContentsRow, FaultSink, Row, note_if};
-use bdb_overflow::bdb_graph::Forest;
 use bdb_ranks::Values;
+use bdb_ranks::bdb_faults::{ContentsRow, FaultSink, Row, note_if};
+use bdb_ranks::bdb_graph::Forest;
 use std::alloc::AllocError;
 
 /// What a database lets its pairs be.

@@ -1,26 +1,26 @@
 ghost use Rattle.std.specs.Prelude.{◌≡◌, IfOk, OnOk, if◌then◌else◌};
 ghost use Rattle.std.specs.Option.{option_map};
-ghost use Rattle.bdb_format.specs.Chains.{value_of};
-ghost use Rattle.bdb_format.specs.ContentRows.{has_wrong_separator, inner_pages};
-ghost use Rattle.bdb_format.specs.Contents.{tree_pairs};
-ghost use Rattle.bdb_format.specs.File.{File, file_of, page_at};
-ghost use Rattle.bdb_overflow.specs.Datum.{FitsContent};
-ghost use Rattle.bdb_overflow.specs.Held.{FitsAny, FitsHeld, value_held};
-ghost use Rattle.bdb_form.specs.of_layout.Seen.{internal_item_seen, key_seen};
+ghost use Rattle.bdb_ranks.specs.of_format.Chains.{value_of};
+ghost use Rattle.bdb_ranks.specs.of_format.ContentRows.{has_wrong_separator, inner_pages};
+ghost use Rattle.bdb_ranks.specs.of_format.Contents.{tree_pairs};
+ghost use Rattle.bdb_ranks.specs.of_format.File.{File, file_of, page_at};
+ghost use Rattle.bdb_ranks.specs.of_overflow.Datum.{FitsContent};
+ghost use Rattle.bdb_ranks.specs.of_overflow.Held.{FitsAny, FitsHeld, value_held};
+ghost use Rattle.bdb_ranks.specs.of_layout.Seen.{internal_item_seen, key_seen};
 ghost use Rattle.bdb_btree.specs.Bounds.{OrderedIf, beyond, ends_of, is_below, joined, no_bounds, no_ends, under_ends};
 ghost use Rattle.bdb_btree.specs.Counts.{IsKeyed};
 ghost use Rattle.bdb_btree.specs.Held.{FitsBounds, FitsEnds, bounds_seen, ends_seen};
 ghost use Rattle.bdb_btree.specs.Noted.{faults_at};
-ghost use Rattle.bdb_faults.specs.declared.rows.ContentsRow.TheVariants.{Separator};
-ghost use Rattle.bdb_faults.specs.Notes.{NotesAll};
+ghost use Rattle.bdb_ranks.specs.of_faults.declared.rows.ContentsRow.TheVariants.{Separator};
+ghost use Rattle.bdb_ranks.specs.of_faults.Notes.{NotesAll};
 
 use crate::ends::{Ends, leaf_ends};
 use crate::inner::inner_view;
 use crate::order::{is_less, is_not_above};
-use bdb_faults::{ContentsRow, FaultSink, Row, note_if};
-use bdb_form::bdb_layout::InternalItem;
-use bdb_overflow::{Held, key_held};
 use bdb_ranks::Values;
+use bdb_ranks::bdb_faults::{ContentsRow, FaultSink, Row, note_if};
+use bdb_ranks::bdb_layout::InternalItem;
+use bdb_ranks::bdb_overflow::{Held, key_held};
 use std::alloc::AllocError;
 
 /// Whether a value is below a bound, where there is one. An error is want of memory, for chains that are shared.

@@ -1,24 +1,24 @@
 ghost use Rattle.std.specs.Prelude.{◌≡◌, []};
 ghost use Rattle.std.specs.List.{flat_map};
 ghost use Rattle.std.specs.Iterator.{YieldsFirstBy, item_count};
-ghost use Rattle.bdb_format.specs.Contents.{pairs_of, tree_pairs};
-ghost use Rattle.bdb_format.specs.Verdict.{structure_faults};
-ghost use Rattle.bdb_format.specs.File.{file_of};
-ghost use Rattle.bdb_overflow.specs.of_image.Linked.{FitsLeafPage, IsForest};
+ghost use Rattle.bdb_ranks.specs.of_format.Contents.{pairs_of, tree_pairs};
+ghost use Rattle.bdb_ranks.specs.of_format.Verdict.{structure_faults};
+ghost use Rattle.bdb_ranks.specs.of_format.File.{file_of};
+ghost use Rattle.bdb_ranks.specs.of_image.Linked.{FitsLeafPage, IsForest};
 ghost use Rattle.bdb_btree.specs.Pairs.{AreLeaves, left_of, pair_seen};
-ghost use Rattle.bdb_tree.specs.Trees.{IsRoot};
+ghost use Rattle.bdb_ranks.specs.of_tree.Trees.{IsRoot};
 
 use crate::pair::Pair;
-use bdb_form::{LeafKind, PageView};
-use bdb_overflow::bdb_graph::Forest;
-use bdb_tree::{Leaves, tree_leaves};
+use bdb_ranks::bdb_form::{LeafKind, PageView};
+use bdb_ranks::bdb_graph::Forest;
+use bdb_ranks::bdb_tree::{Leaves, tree_leaves};
 use std::marker::Model;
 
 /// The pairs of one leaf that are left, in order.
 pub struct PagePairs<'a> {
     forest: Forest<'a>,
     page: u32,
-    pairs: bdb_form::PagePairs<'a, LeafKind>,
+    pairs: bdb_ranks::bdb_form::PagePairs<'a, LeafKind>,
 }
 
 impl Drop for PagePairs<'_> {
@@ -34,8 +34,8 @@ impl Drop for PagePairs<'_> {
 
 impl<'a> Model for PagePairs<'a> {
     ghost use Rattle.std.specs.Prelude.{List, map};
-    ghost use Rattle.bdb_format.specs.Contents.{StoredPair};
-    ghost use Rattle.bdb_format.specs.File.{file_of};
+    ghost use Rattle.bdb_ranks.specs.of_format.Contents.{StoredPair};
+    ghost use Rattle.bdb_ranks.specs.of_format.File.{file_of};
 
     ghost Value = { List StoredPair };
 
@@ -104,8 +104,8 @@ impl Drop for Pairs<'_> {
 
 impl<'a> Model for Pairs<'a> {
     ghost use Rattle.std.specs.Prelude.{List};
-    ghost use Rattle.bdb_format.specs.Contents.{StoredPair};
-    ghost use Rattle.bdb_format.specs.File.{file_of};
+    ghost use Rattle.bdb_ranks.specs.of_format.Contents.{StoredPair};
+    ghost use Rattle.bdb_ranks.specs.of_format.File.{file_of};
 
     ghost Value = { List StoredPair };
 

@@ -1,17 +1,17 @@
 ghost use Rattle.std.specs.Prelude.{◌≡◌, ◌+◌, [], false};
-ghost use Rattle.bdb_overflow.specs.of_image.Linked.{FitsLeafPage, HasMetadata, IsForest};
-ghost use Rattle.bdb_format.specs.ContentRows.{database_faults};
-ghost use Rattle.bdb_format.specs.File.{file_of, header_in, page_at};
-ghost use Rattle.bdb_format.specs.Flags.{is_recno};
-ghost use Rattle.bdb_format.specs.Page.{BtreeFields};
-ghost use Rattle.bdb_overflow.specs.Datum.{FitsContent};
-ghost use Rattle.bdb_tree.specs.Descent.{descent};
+ghost use Rattle.bdb_ranks.specs.of_image.Linked.{FitsLeafPage, HasMetadata, IsForest};
+ghost use Rattle.bdb_ranks.specs.of_format.ContentRows.{database_faults};
+ghost use Rattle.bdb_ranks.specs.of_format.File.{file_of, header_in, page_at};
+ghost use Rattle.bdb_ranks.specs.of_format.Flags.{is_recno};
+ghost use Rattle.bdb_ranks.specs.of_format.Page.{BtreeFields};
+ghost use Rattle.bdb_ranks.specs.of_overflow.Datum.{FitsContent};
+ghost use Rattle.bdb_ranks.specs.of_tree.Descent.{descent};
 ghost use Rattle.bdb_btree.specs.Search.{is_below};
 
-use bdb_format::{BtreeMeta, Steps};
-use bdb_overflow::bdb_graph::{Forest, LeafPage, Linked, Ref};
-use bdb_overflow::{Datum, is_less, key_datum};
-use bdb_tree::{Separate, descend_in};
+use bdb_ranks::bdb_format::{BtreeMeta, Steps};
+use bdb_ranks::bdb_graph::{Forest, LeafPage, Linked, Ref};
+use bdb_ranks::bdb_overflow::{Datum, is_less, key_datum};
+use bdb_ranks::bdb_tree::{Separate, descend_in};
 use std::sync::ledger::Ledger;
 
 /// A key that is sought among the items of internal pages.
@@ -26,7 +26,7 @@ impl<'s, 'a> Separate for Sought<'s, 'a> {
 
     ghost says = { λ sought item. is_below (file_of sought.forest.now) sought.key.now item };
 
-    fn below(&self, item: &bdb_form::bdb_layout::InternalItem<'_>) -> bool {
+    fn below(&self, item: &bdb_ranks::bdb_layout::InternalItem<'_>) -> bool {
         is_less(&Datum::Inline(self.key), &key_datum(self.forest, &item.key))
     }
 }

@@ -6,33 +6,33 @@ use Rattle.std.proofs.lemmas.Bool.{eqb-false, ne_eqb, or_parts, not-false}
 use Rattle.std.proofs.lemmas.List.{length-map}
 use Rattle.std.proofs.lemmas.List.Elements.{Contains-append_right}
 use Rattle.std.proofs.lemmas.Simd.{map-map}
-use Rattle.bdb_graph.specs.of_form.Pairs.{pairs_from}
-use Rattle.bdb_format.specs.declared.metadata.Head.{Head}
-use Rattle.bdb_format.specs.declared.metadata.HashMeta.{HashMeta}
-use Rattle.bdb_format.specs.declared.references.Sort.{Sort}
-use Rattle.bdb_format.specs.declared.references.Sort.TheVariants.{Bucket, HashNext}
-use Rattle.bdb_format.specs.Chains.{chain_in, next_of}
-use Rattle.bdb_format.specs.Contents.{bucket_pages, pairs_of}
-use Rattle.bdb_format.specs.File.{File, file_of, header_in, page_at, type_in}
-use Rattle.bdb_format.specs.Graph.{Owner}
-use Rattle.bdb_format.specs.Hashing.{first_page}
-use Rattle.bdb_format.specs.HeadOf.{head_of}
-use Rattle.bdb_format.specs.Page.{BtreeFields, HashFields, QueueFields, Item, Listed, Page, Zero, Meta, Hash}
-use Rattle.bdb_format.specs.References.{asked_by, fit_code, fit_rows, has_type, is_zero_page, no_item, unless_zero, content_targets, contents_in}
-use Rattle.bdb_format.specs.Verdict.{structure_faults, faults_in}
-use Rattle.bdb_format.proofs.GraphLemmas.{each_fits}
-use Rattle.bdb_format.proofs.MemberLemmas.{first_member}
-use Rattle.bdb_format.proofs.VerdictLemmas.{AllFail, none_is_first_row}
-use Rattle.bdb_graph.specs.of_image.Linked.{IsForest, IsTarget}
-use Rattle.bdb_graph.proofs.ForestLemmas.{sound_graph}
-use Rattle.bdb_graph.proofs.LinkedLemmas.{target_inside}
+use Rattle.bdb_tree.specs.of_form.Pairs.{pairs_from}
+use Rattle.bdb_tree.specs.of_format.declared.metadata.Head.{Head}
+use Rattle.bdb_tree.specs.of_format.declared.metadata.HashMeta.{HashMeta}
+use Rattle.bdb_tree.specs.of_format.declared.references.Sort.{Sort}
+use Rattle.bdb_tree.specs.of_format.declared.references.Sort.TheVariants.{Bucket, HashNext}
+use Rattle.bdb_tree.specs.of_format.Chains.{chain_in, next_of}
+use Rattle.bdb_tree.specs.of_format.Contents.{bucket_pages, pairs_of}
+use Rattle.bdb_tree.specs.of_format.File.{File, file_of, header_in, page_at, type_in}
+use Rattle.bdb_tree.specs.of_format.Graph.{Owner}
+use Rattle.bdb_tree.specs.of_format.Hashing.{first_page}
+use Rattle.bdb_tree.specs.of_format.HeadOf.{head_of}
+use Rattle.bdb_tree.specs.of_format.Page.{BtreeFields, HashFields, QueueFields, Item, Listed, Page, Zero, Meta, Hash}
+use Rattle.bdb_tree.specs.of_format.References.{asked_by, fit_code, fit_rows, has_type, is_zero_page, no_item, unless_zero, content_targets, contents_in}
+use Rattle.bdb_tree.specs.of_format.Verdict.{structure_faults, faults_in}
+use Rattle.bdb_tree.proofs.of_format.GraphLemmas.{each_fits}
+use Rattle.bdb_tree.proofs.of_format.MemberLemmas.{first_member}
+use Rattle.bdb_tree.proofs.of_format.VerdictLemmas.{AllFail, none_is_first_row}
+use Rattle.bdb_tree.specs.of_image.Linked.{IsForest, IsTarget}
+use Rattle.bdb_tree.proofs.of_graph.ForestLemmas.{sound_graph}
+use Rattle.bdb_tree.proofs.of_graph.LinkedLemmas.{target_inside}
 use Rattle.bdb_buckets.specs.Told.{Told, is_of_bucket, page_told, pages_from, told_pair}
 use Rattle.bdb_buckets.specs.Views.{IsOnWay, IsTable}
 use Rattle.bdb_buckets.proofs.PairLemmas.{page_names}
-use Rattle.bdb_format.proofs.ReferenceLemmas.{of_all}
-use Rattle.bdb_format.proofs.ChainLemmas.{chain_few}
-use Rattle.bdb_format.proofs.FileLemmas.{count_is}
-use Rattle.bdb_graph.proofs.TargetLemmas.{is_no_queue}
+use Rattle.bdb_tree.proofs.of_format.ReferenceLemmas.{of_all}
+use Rattle.bdb_tree.proofs.of_format.ChainLemmas.{chain_few}
+use Rattle.bdb_tree.proofs.of_format.FileLemmas.{count_is}
+use Rattle.bdb_tree.proofs.of_graph.TargetLemmas.{is_no_queue}
 
 -- Which pages a bucket has.
 

@@ -5,8 +5,8 @@ use Rattle.std.specs.BTreeSet.{BTreeSet, IsUnchanged, Updates}
 use Rattle.std.specs.Cmp.Lexicographic.{slice_cmp}
 use Rattle.std.specs.Ordering.{nat_cmp}
 use Rattle.std.proofs.lemmas.Bool.{cases_eq}
-use Rattle.bdb_overflow.specs.Keys.{has_key}
-use Rattle.bdb_overflow.proofs.HeldLemmas.{apart}
+use Rattle.bdb_tree.specs.of_overflow.Keys.{has_key}
+use Rattle.bdb_tree.proofs.of_overflow.HeldLemmas.{apart}
 use Rattle.bdb_buckets.specs.Chained.{AreAmong, Seen, chain_value}
 
 either : (a b : Bool) → b ≡ true → cond a true b ≡ true

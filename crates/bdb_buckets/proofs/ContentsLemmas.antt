@@ -1,17 +1,17 @@
 -- A row of a table's contents that holds at a page is one of its faults.
 use Rattle.std.proofs.Common.{◌≡◌, ℕ, ◌+◌, ◌≤◌, List, [], ◌∷◌, ◌++◌, arith, sym, ap, subst}
 use Rattle.std.specs.List.{Contains}
-use Rattle.bdb_graph.specs.of_image.Linked.{HasMetadata}
-use Rattle.bdb_format.specs.declared.kinds.Fault.{Fault}
-use Rattle.bdb_format.specs.declared.metadata.HashMeta.{HashMeta}
-use Rattle.bdb_format.specs.ContentRows.{database_faults, database_rows, hash_contents, repeated}
-use Rattle.bdb_format.specs.Contents.{StoredPair, bucket_pairs, table_pairs}
-use Rattle.bdb_format.specs.File.{File, file_of}
-use Rattle.bdb_format.specs.Page.{HashFields}
-use Rattle.bdb_format.specs.Verdict.{holding}
-use Rattle.bdb_format.proofs.MemberLemmas.{of_flat_map, of_range}
-use Rattle.bdb_format.proofs.VerdictLemmas.{in_by_page}
-use Rattle.bdb_format.proofs.RepeatLemmas.{of_repeated}
+use Rattle.bdb_tree.specs.of_image.Linked.{HasMetadata}
+use Rattle.bdb_tree.specs.of_format.declared.kinds.Fault.{Fault}
+use Rattle.bdb_tree.specs.of_format.declared.metadata.HashMeta.{HashMeta}
+use Rattle.bdb_tree.specs.of_format.ContentRows.{database_faults, database_rows, hash_contents, repeated}
+use Rattle.bdb_tree.specs.of_format.Contents.{StoredPair, bucket_pairs, table_pairs}
+use Rattle.bdb_tree.specs.of_format.File.{File, file_of}
+use Rattle.bdb_tree.specs.of_format.Page.{HashFields}
+use Rattle.bdb_tree.specs.of_format.Verdict.{holding}
+use Rattle.bdb_tree.proofs.of_format.MemberLemmas.{of_flat_map, of_range}
+use Rattle.bdb_tree.proofs.of_format.VerdictLemmas.{in_by_page}
+use Rattle.bdb_tree.proofs.of_format.RepeatLemmas.{of_repeated}
 use Rattle.bdb_buckets.specs.Repeat.{repeat_fault}
 use Rattle.bdb_buckets.specs.Told.{stored, table_told}
 use Rattle.bdb_buckets.specs.Views.{IsTable}

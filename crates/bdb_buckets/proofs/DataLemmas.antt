@@ -1,10 +1,10 @@
 -- The data of a pair that is one value.
 use Rattle.std.proofs.Common.{◌≡◌, ℕ, List, [], ◌∷◌, refl}
 use Rattle.std.specs.Prelude.{Option, Some, None}
-use Rattle.bdb_format.specs.Contents.{data_of}
-use Rattle.bdb_format.specs.File.{File}
-use Rattle.bdb_format.specs.Page.{Chain}
-use Rattle.bdb_overflow.specs.Datum.{single_value}
+use Rattle.bdb_tree.specs.of_format.Contents.{data_of}
+use Rattle.bdb_tree.specs.of_format.File.{File}
+use Rattle.bdb_tree.specs.of_format.Page.{Chain}
+use Rattle.bdb_tree.specs.of_overflow.Datum.{single_value}
 
 -- what is left where an item has this one value
 abbrev pub one_shown : Option (List ℕ) → List (List ℕ)

@@ -1,3 +1,4 @@
+mod Below
 pub mod BucketLemmas
 pub mod ChainedLemmas
 pub mod ContentsLemmas
@@ -8,7 +9,7 @@ pub mod PlaceKeyLemmas
 pub mod PlainLemmas
 pub mod RowLemmas
 pub mod TableLemmas
-pub use Rattle.bdb_format.proofs as of_format
-pub use Rattle.bdb_graph.proofs.of_image as of_image
-pub use Rattle.bdb_graph.proofs.of_layout as of_layout
-pub use Rattle.bdb_overflow.proofs as of_overflow
+pub use Rattle.bdb_tree.proofs.of_format as of_format
+pub use Rattle.bdb_tree.proofs.of_image as of_image
+pub use Rattle.bdb_tree.proofs.of_layout as of_layout
+pub use Rattle.bdb_tree.proofs.of_overflow as of_overflow

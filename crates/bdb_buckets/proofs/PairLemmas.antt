@@ -6,24 +6,24 @@ use Rattle.std.proofs.lemmas.Bool.{lt-ltb}
 use Rattle.std.proofs.lemmas.Option.{slice_get-get_or}
 use Rattle.std.proofs.lemmas.List.Elements.{recursion_from_All}
 use Rattle.std.proofs.lemmas.List.FromFn.{get_or-map-range_with_len, length-map-range_with_len}
-use Rattle.bdb_graph.specs.of_form.Pairs.{PairOf, pair_of, pairs_from}
-use Rattle.bdb_format.specs.declared.references.Sort.{Sort}
-use Rattle.bdb_format.specs.declared.references.Sort.TheVariants.{OverflowHead, DuplicateRoot}
-use Rattle.bdb_format.specs.Chains.{value_of}
-use Rattle.bdb_format.specs.File.{File, file_of, page_at}
-use Rattle.bdb_format.specs.Page.{Content, Inline, Set, Chain, Tree, Unknown, Item, Listed, Page, Hash}
-use Rattle.bdb_format.specs.References.{content_targets, no_item, targets_in}
-use Rattle.bdb_format.proofs.MemberLemmas.{first_member, in_map}
-use Rattle.bdb_format.proofs.TargetLemmas.{held_named}
-use Rattle.bdb_graph.specs.of_image.Linked.{IsTarget}
-use Rattle.bdb_graph.proofs.LinkedLemmas.{named_target, target_inside}
-use Rattle.bdb_graph.specs.of_layout.declared.items.HashItem.{HashItem}
-use Rattle.bdb_graph.specs.of_layout.Seen.{hash_content_seen, hash_item_seen}
-use Rattle.bdb_overflow.specs.Datum.{FitsContent, single_value}
+use Rattle.bdb_tree.specs.of_form.Pairs.{PairOf, pair_of, pairs_from}
+use Rattle.bdb_tree.specs.of_format.declared.references.Sort.{Sort}
+use Rattle.bdb_tree.specs.of_format.declared.references.Sort.TheVariants.{OverflowHead, DuplicateRoot}
+use Rattle.bdb_tree.specs.of_format.Chains.{value_of}
+use Rattle.bdb_tree.specs.of_format.File.{File, file_of, page_at}
+use Rattle.bdb_tree.specs.of_format.Page.{Content, Inline, Set, Chain, Tree, Unknown, Item, Listed, Page, Hash}
+use Rattle.bdb_tree.specs.of_format.References.{content_targets, no_item, targets_in}
+use Rattle.bdb_tree.proofs.of_format.MemberLemmas.{first_member, in_map}
+use Rattle.bdb_tree.proofs.of_format.TargetLemmas.{held_named}
+use Rattle.bdb_tree.specs.of_image.Linked.{IsTarget}
+use Rattle.bdb_tree.proofs.of_graph.LinkedLemmas.{named_target, target_inside}
+use Rattle.bdb_tree.specs.of_layout.declared.items.HashItem.{HashItem}
+use Rattle.bdb_tree.specs.of_layout.Seen.{hash_content_seen, hash_item_seen}
+use Rattle.bdb_tree.specs.of_overflow.Datum.{FitsContent, single_value}
 use Rattle.bdb_buckets.specs.Places.{IsGiven}
 use Rattle.bdb_buckets.specs.Views.{FitsRoot, IsPair, IsTable}
-use Rattle.bdb_format.proofs.ListLemmas.{member_of}
-use Rattle.bdb_format.proofs.ReferenceLemmas.{forest_names}
+use Rattle.bdb_tree.proofs.of_format.ListLemmas.{member_of}
+use Rattle.bdb_tree.proofs.of_format.ReferenceLemmas.{forest_names}
 
 -- The one value of an item.
 

@@ -4,11 +4,11 @@ use Rattle.std.specs.Prelude.{Some}
 use Rattle.std.specs.List.{slice_get}
 use Rattle.std.proofs.lemmas.Bool.{le-ltb, lt-ltb}
 use Rattle.std.proofs.lemmas.Option.{get_or_from_slice_get}
-use Rattle.bdb_format.specs.Chains.{value_of}
-use Rattle.bdb_format.specs.File.{file_of, page_at}
-use Rattle.bdb_format.specs.Page.{Hash, Item, Listed}
-use Rattle.bdb_graph.specs.of_layout.declared.items.HashItem.{HashItem}
-use Rattle.bdb_graph.specs.of_layout.Seen.{hash_content_seen, hash_item_seen}
+use Rattle.bdb_tree.specs.of_format.Chains.{value_of}
+use Rattle.bdb_tree.specs.of_format.File.{file_of, page_at}
+use Rattle.bdb_tree.specs.of_format.Page.{Hash, Item, Listed}
+use Rattle.bdb_tree.specs.of_layout.declared.items.HashItem.{HashItem}
+use Rattle.bdb_tree.specs.of_layout.Seen.{hash_content_seen, hash_item_seen}
 use Rattle.bdb_buckets.specs.declared.place.Place.{Place}
 use Rattle.bdb_buckets.specs.Places.{key_at, key_in}
 

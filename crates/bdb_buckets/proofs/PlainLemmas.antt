@@ -5,21 +5,21 @@ use Rattle.std.specs.List.{Contains, range_with_len}
 use Rattle.std.proofs.lemmas.Bool.{cases_lt, eqb-false}
 use Rattle.std.proofs.lemmas.List.{get_or_past}
 use Rattle.std.proofs.lemmas.List.FromFn.{get_or-map-range_with_len, length-map-range_with_len}
-use Rattle.bdb_format.specs.declared.kinds.Order.{Order}
-use Rattle.bdb_format.specs.declared.metadata.HashMeta.{HashMeta}
-use Rattle.bdb_format.specs.declared.references.Sort.TheVariants.{Bucket}
-use Rattle.bdb_format.specs.Chains.{chain_in, next_of}
-use Rattle.bdb_format.specs.Contents.{StoredPair, bucket_pages, bucket_pairs, pair_at, pairs_in, pairs_of}
-use Rattle.bdb_format.specs.File.{File, file_of, page_at}
-use Rattle.bdb_format.specs.Hashing.{first_page}
-use Rattle.bdb_format.specs.HeadOf.{head_of}
-use Rattle.bdb_format.specs.Page.{HashFields, Item, Listed, Page, PageType, HashPage, Zero, Hash}
-use Rattle.bdb_format.specs.Reading.{abstract_page, hash_item_at, listed, page_as}
-use Rattle.bdb_format.specs.References.{item_at}
-use Rattle.bdb_format.proofs.MemberLemmas.{member_cases, no_member, of_flat_map, of_map}
-use Rattle.bdb_format.proofs.FileLemmas.{last_page, page_is}
-use Rattle.bdb_graph.specs.of_image.Linked.{HasMetadata}
-use Rattle.bdb_graph.proofs.LinkedLemmas.{bucket_fits}
+use Rattle.bdb_tree.specs.of_format.declared.kinds.Order.{Order}
+use Rattle.bdb_tree.specs.of_format.declared.metadata.HashMeta.{HashMeta}
+use Rattle.bdb_tree.specs.of_format.declared.references.Sort.TheVariants.{Bucket}
+use Rattle.bdb_tree.specs.of_format.Chains.{chain_in, next_of}
+use Rattle.bdb_tree.specs.of_format.Contents.{StoredPair, bucket_pages, bucket_pairs, pair_at, pairs_in, pairs_of}
+use Rattle.bdb_tree.specs.of_format.File.{File, file_of, page_at}
+use Rattle.bdb_tree.specs.of_format.Hashing.{first_page}
+use Rattle.bdb_tree.specs.of_format.HeadOf.{head_of}
+use Rattle.bdb_tree.specs.of_format.Page.{HashFields, Item, Listed, Page, PageType, HashPage, Zero, Hash}
+use Rattle.bdb_tree.specs.of_format.Reading.{abstract_page, hash_item_at, listed, page_as}
+use Rattle.bdb_tree.specs.of_format.References.{item_at}
+use Rattle.bdb_tree.proofs.of_format.MemberLemmas.{member_cases, no_member, of_flat_map, of_map}
+use Rattle.bdb_tree.proofs.of_format.FileLemmas.{last_page, page_is}
+use Rattle.bdb_tree.specs.of_image.Linked.{HasMetadata}
+use Rattle.bdb_tree.proofs.of_graph.LinkedLemmas.{bucket_fits}
 use Rattle.bdb_buckets.specs.Told.{is_of_bucket, pages_from}
 use Rattle.bdb_buckets.specs.Views.{IsOfBucket, IsOnWay, IsTable}
 use Rattle.bdb_buckets.proofs.BucketLemmas.{after_hash, after_zero, bucket_on_way, next_of_hash, next_of_zero, pages_step, target_some}

@@ -4,17 +4,17 @@ use Rattle.std.specs.Cmp.Lexicographic.{slice_cmp}
 use Rattle.std.specs.List.{AllByRecursion, Contains}
 use Rattle.std.specs.Ordering.{is_lt, nat_cmp, ordering_then}
 use Rattle.std.specs.declared.cmp.Ordering.{Ordering}
-use Rattle.bdb_graph.specs.of_form.Pairs.{PairOf}
-use Rattle.bdb_overflow.specs.Datum.{FitsContent}
-use Rattle.bdb_overflow.specs.Prefix.{AreBytes, prefix_of}
+use Rattle.bdb_tree.specs.of_form.Pairs.{PairOf}
+use Rattle.bdb_tree.specs.of_overflow.Datum.{FitsContent}
+use Rattle.bdb_tree.specs.of_overflow.Prefix.{AreBytes, prefix_of}
 use Rattle.bdb_buckets.specs.declared.place.Place.{Place}
 use Rattle.bdb_buckets.specs.Told.{Told, told, told_pair}
 use Rattle.bdb_buckets.specs.Views.{IsPair, IsTable}
-use Rattle.bdb_format.specs.Chains.{value_of}
-use Rattle.bdb_format.specs.Contents.{StoredPair, pair_at}
-use Rattle.bdb_format.specs.File.{File, file_of, page_at}
-use Rattle.bdb_format.specs.Page.{Content, Item, Page, Hash, Unknown}
-use Rattle.bdb_format.specs.References.{item_at}
+use Rattle.bdb_tree.specs.of_format.Chains.{value_of}
+use Rattle.bdb_tree.specs.of_format.Contents.{StoredPair, pair_at}
+use Rattle.bdb_tree.specs.of_format.File.{File, file_of, page_at}
+use Rattle.bdb_tree.specs.of_format.Page.{Content, Item, Page, Hash, Unknown}
+use Rattle.bdb_tree.specs.of_format.References.{item_at}
 
 -- the pair with this index is on the page
 abbrev pub has_pair : Page → ℕ → Bool

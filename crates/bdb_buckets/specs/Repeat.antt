@@ -1,9 +1,9 @@
 -- The fault of a key that comes again in a table. Source: docs/FORMAT.md, "Stage 8, contents".
-use Rattle.bdb_graph.specs.of_faults.Rows.{fault_at}
-use Rattle.bdb_graph.specs.of_faults.declared.rows.ContentsRow.TheVariants.{KeyTwice}
-use Rattle.bdb_graph.specs.of_faults.declared.rows.Row.TheVariants.{Contents}
-use Rattle.bdb_format.specs.declared.kinds.Fault.{Fault}
-use Rattle.bdb_format.specs.Contents.{StoredPair}
+use Rattle.bdb_tree.specs.of_faults.Rows.{fault_at}
+use Rattle.bdb_tree.specs.of_faults.declared.rows.ContentsRow.TheVariants.{KeyTwice}
+use Rattle.bdb_tree.specs.of_faults.declared.rows.Row.TheVariants.{Contents}
+use Rattle.bdb_tree.specs.of_format.declared.kinds.Fault.{Fault}
+use Rattle.bdb_tree.specs.of_format.Contents.{StoredPair}
 
 -- a pair that has the key of an earlier one
 abbrev pub repeat_fault : StoredPair → Fault

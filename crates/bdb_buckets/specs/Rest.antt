@@ -2,7 +2,7 @@
 use Rattle.std.specs.Prelude.{ℕ, List, [], ◌∷◌, Some, None}
 use Rattle.bdb_buckets.specs.declared.data.Rest.{Rest}
 use Rattle.bdb_buckets.specs.declared.data.Rest.TheVariants.{One, Blocks, Leaves}
-use Rattle.bdb_overflow.specs.Datum.{datum_seen}
+use Rattle.bdb_tree.specs.of_overflow.Datum.{datum_seen}
 
 abbrev pub rest_shown : Rest → List (List ℕ)
 rest_shown (One None) = []

@@ -1,13 +1,13 @@
 -- A pair of a table with the file that it stands in. Source: docs/FORMAT.md, "Items".
 use Rattle.std.specs.Prelude.{◌≡◌, ◌≤◌, ℕ, ◌+◌, ◌==◌, not, if◌then◌else◌, Bool, true, false, List, [], map, length, Option, Some, None}
 use Rattle.std.specs.List.{find, flat_map, range_with_len}
-use Rattle.bdb_graph.specs.of_form.Pairs.{PairOf}
-use Rattle.bdb_format.specs.Chains.{chain_in, value_of}
-use Rattle.bdb_format.specs.Contents.{StoredPair, bucket_pages, pairs_of}
-use Rattle.bdb_format.specs.declared.metadata.HashMeta.{HashMeta}
-use Rattle.bdb_format.specs.File.{File, file_of}
-use Rattle.bdb_format.specs.Page.{Content, Item, Page, Zero, Hash}
-use Rattle.bdb_format.specs.Lists.{ListKey, BytesKey, listed_pair}
+use Rattle.bdb_tree.specs.of_form.Pairs.{PairOf}
+use Rattle.bdb_tree.specs.of_format.Chains.{chain_in, value_of}
+use Rattle.bdb_tree.specs.of_format.Contents.{StoredPair, bucket_pages, pairs_of}
+use Rattle.bdb_tree.specs.of_format.declared.metadata.HashMeta.{HashMeta}
+use Rattle.bdb_tree.specs.of_format.File.{File, file_of}
+use Rattle.bdb_tree.specs.of_format.Page.{Content, Item, Page, Zero, Hash}
+use Rattle.bdb_tree.specs.of_format.Lists.{ListKey, BytesKey, listed_pair}
 use Rattle.std.specs.declared.cmp.Ordering.{Ordering}
 use Rattle.std.specs.Cmp.Lexicographic.{slice_cmp}
 use Rattle.std.specs.Ordering.{nat_cmp}

@@ -1,16 +1,16 @@
 ghost use Rattle.std.specs.Prelude.{◌≡◌, ◌≤◌, [], length, map};
 ghost use Rattle.std.specs.Iterator.{YieldsFirstBy, item_count};
-ghost use Rattle.bdb_graph.specs.of_image.Linked.{HasMetadata};
+ghost use Rattle.bdb_tree.specs.of_image.Linked.{HasMetadata};
 ghost use Rattle.bdb_buckets.specs.Told.{page_told};
-ghost use Rattle.bdb_format.specs.Contents.{bucket_pages};
-ghost use Rattle.bdb_format.specs.File.{file_of};
-ghost use Rattle.bdb_format.specs.Page.{HashFields};
-ghost use Rattle.bdb_format.specs.Verdict.{structure_faults};
+ghost use Rattle.bdb_tree.specs.of_format.Contents.{bucket_pages};
+ghost use Rattle.bdb_tree.specs.of_format.File.{file_of};
+ghost use Rattle.bdb_tree.specs.of_format.Page.{HashFields};
+ghost use Rattle.bdb_tree.specs.of_format.Verdict.{structure_faults};
 
 use crate::PagePairs;
 use crate::pairs::page_pairs;
-use bdb_format::HashMeta;
-use bdb_graph::{Forest, Linked};
+use bdb_tree::bdb_format::HashMeta;
+use bdb_tree::bdb_graph::{Forest, Linked};
 use std::marker::Model;
 
 /// The pages of a bucket that are left, each as its pairs.
@@ -25,7 +25,7 @@ impl<'a> Model for BucketPages<'a> {
     ghost use Rattle.std.specs.Prelude.{List, map};
     ghost use Rattle.bdb_buckets.specs.Told.{Told, page_told, pages_from};
     ghost use Rattle.bdb_buckets.specs.Views.{IsOnWay};
-    ghost use Rattle.bdb_format.specs.File.{file_of};
+    ghost use Rattle.bdb_tree.specs.of_format.File.{file_of};
 
     ghost Value = { List (List Told) };
 

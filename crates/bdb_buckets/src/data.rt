@@ -1,15 +1,15 @@
 ghost use Rattle.std.specs.Prelude.{◌≡◌, []};
 ghost use Rattle.std.specs.Iterator.{YieldsFirstBy, item_count};
 ghost use Rattle.bdb_buckets.specs.Rest.{rest_shown};
-ghost use Rattle.bdb_overflow.specs.Datum.{FitsContent, datum_seen};
+ghost use Rattle.bdb_tree.specs.of_overflow.Datum.{FitsContent, datum_seen};
 ghost use Rattle.bdb_buckets.specs.Views.{FitsRoot, IsTable};
-ghost use Rattle.bdb_graph.specs.of_layout.Seen.{hash_content_seen};
-ghost use Rattle.bdb_format.specs.Contents.{data_of};
-ghost use Rattle.bdb_format.specs.File.{file_of};
+ghost use Rattle.bdb_tree.specs.of_layout.Seen.{hash_content_seen};
+ghost use Rattle.bdb_tree.specs.of_format.Contents.{data_of};
+ghost use Rattle.bdb_tree.specs.of_format.File.{file_of};
 
-use bdb_graph::Forest;
-use bdb_graph::bdb_layout::{DupBlocks, HashItem};
-use bdb_overflow::{Datum, hash_datum};
+use bdb_tree::bdb_graph::Forest;
+use bdb_tree::bdb_layout::{DupBlocks, HashItem};
+use bdb_tree::bdb_overflow::{Datum, hash_datum};
 use bdb_tree::{SetValues, set_values};
 use std::marker::Model;
 
@@ -66,7 +66,7 @@ impl<'a> Data<'a> {
     }
 
     /// The data that a data item holds.
-    #[tactic(auto, using(crate::proofs::DataLemmas::one_datum), unfolding(bdb_format::specs::Contents::data_of))]
+    #[tactic(auto, using(crate::proofs::DataLemmas::one_datum), unfolding(crate::specs::Below::data_of))]
     pub(crate) fn of_item(forest: &Forest<'a>, item: HashItem<'a>) -> Data<'a>
         requires table { IsTable forest.now }
         requires chain { FitsContent (file_of forest.now) (hash_content_seen item) }

@@ -1,9 +1,9 @@
 ghost use Rattle.std.specs.Prelude.{◌≡◌};
-ghost use Rattle.bdb_overflow.specs.Datum.{datum_seen};
-ghost use Rattle.bdb_format.specs.Hashing.{hash5};
+ghost use Rattle.bdb_tree.specs.of_overflow.Datum.{datum_seen};
+ghost use Rattle.bdb_tree.specs.of_format.Hashing.{hash5};
 
-use bdb_graph::bdb_layout::{hash5, hash5_after};
-use bdb_overflow::Datum;
+use bdb_tree::bdb_layout::{hash5, hash5_after};
+use bdb_tree::bdb_overflow::Datum;
 
 /// The hash of a key.
 #[inline(always)]

@@ -9,10 +9,7 @@ mod pairs;
 mod place;
 mod table;
 
-pub use bdb_format;
-pub use bdb_graph;
-pub use bdb_graph::{bdb_form, bdb_layout};
-pub use bdb_overflow;
+pub use bdb_tree::{bdb_form, bdb_format, bdb_graph, bdb_layout, bdb_overflow};
 pub use bucket::{BucketPages, bucket_pages};
 pub use data::Data;
 pub use key::hash_of;

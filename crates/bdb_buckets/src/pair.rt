@@ -1,22 +1,22 @@
 ghost use Rattle.std.specs.Prelude.{◌≡◌, [], ◌∷◌, IfSome, MatchOption, None};
-ghost use Rattle.bdb_graph.specs.of_form.Pairs.{pair_seen};
-ghost use Rattle.bdb_overflow.specs.Datum.{FitsContent, datum_seen};
+ghost use Rattle.bdb_tree.specs.of_form.Pairs.{pair_seen};
+ghost use Rattle.bdb_tree.specs.of_overflow.Datum.{FitsContent, datum_seen};
 ghost use Rattle.bdb_buckets.specs.Chained.{IsHead, chain_head};
 ghost use Rattle.bdb_buckets.specs.Places.{IsAt, IsGiven};
 ghost use Rattle.bdb_buckets.specs.Told.{entry_list, has_key, listed_told, told_pair};
 ghost use Rattle.bdb_buckets.specs.Views.{IsPair, value_on_page};
-ghost use Rattle.bdb_graph.specs.of_layout.Seen.{hash_content_seen, hash_item_seen};
-ghost use Rattle.bdb_format.specs.Chains.{value_of};
-ghost use Rattle.bdb_format.specs.ContentRows.{is_duplicate, is_wrong_set};
-ghost use Rattle.bdb_format.specs.Contents.{data_of};
-ghost use Rattle.bdb_format.specs.File.{file_of};
-ghost use Rattle.bdb_format.specs.Page.{Inline, Tree};
+ghost use Rattle.bdb_tree.specs.of_layout.Seen.{hash_content_seen, hash_item_seen};
+ghost use Rattle.bdb_tree.specs.of_format.Chains.{value_of};
+ghost use Rattle.bdb_tree.specs.of_format.ContentRows.{is_duplicate, is_wrong_set};
+ghost use Rattle.bdb_tree.specs.of_format.Contents.{data_of};
+ghost use Rattle.bdb_tree.specs.of_format.File.{file_of};
+ghost use Rattle.bdb_tree.specs.of_format.Page.{Inline, Tree};
 
 use crate::Data;
 use crate::place::Place;
-use bdb_graph::Forest;
-use bdb_graph::bdb_layout::HashItem;
-use bdb_overflow::{Datum, hash_datum, is_same, prefix};
+use bdb_tree::bdb_graph::Forest;
+use bdb_tree::bdb_layout::HashItem;
+use bdb_tree::bdb_overflow::{Datum, hash_datum, is_same, prefix};
 use bdb_tree::is_wrong_root;
 use std::marker::Model;
 
@@ -46,10 +46,10 @@ impl Drop for Pair<'_> {
 }
 
 impl<'a> Model for Pair<'a> {
-    ghost use Rattle.bdb_overflow.specs.Datum.{datum_seen};
+    ghost use Rattle.bdb_tree.specs.of_overflow.Datum.{datum_seen};
     ghost use Rattle.bdb_buckets.specs.Told.{Told, told_as};
     ghost use Rattle.bdb_buckets.specs.Chained.{IsKeyed};
-    ghost use Rattle.bdb_graph.specs.of_layout.Seen.{hash_content_seen};
+    ghost use Rattle.bdb_tree.specs.of_layout.Seen.{hash_content_seen};
 
     ghost Value = { Told };
 
@@ -87,7 +87,7 @@ impl<'a> Pair<'a> {
     pub fn of(
         forest: &Forest<'a>,
         page: u32,
-        pair: bdb_graph::bdb_form::Pair<HashItem<'a>>,
+        pair: bdb_tree::bdb_form::Pair<HashItem<'a>>,
     ) -> Pair<'a>
         requires { IsGiven forest.now page (pair_seen hash_item_seen pair) }
         ensures { result ≡ told_pair forest.now page (pair_seen hash_item_seen pair.entry) }
@@ -177,7 +177,7 @@ impl<'a> Pair<'a> {
 
     /// Its datum, if it has one and that stands on its page.
     #[inline(always)]
-    #[tactic(auto, unfolding(bdb_format::specs::Contents::data_of))]
+    #[tactic(auto, unfolding(crate::specs::Below::data_of))]
     pub fn value_on_page(&self) -> Option<&'a [u8]>
         ensures value { MatchOption result (value_on_page self.now.pair.data_item ≡ None) (λ bytes. self.now.pair.data_item ≡ Inline bytes.now) }
         ensures listed { IfSome result (λ bytes. listed_told self.now ≡ entry_list self.now.pair.key (bytes.now ∷ [])) }

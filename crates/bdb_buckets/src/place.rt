@@ -1,12 +1,12 @@
 ghost use Rattle.std.specs.Prelude.{◌≡◌};
-ghost use Rattle.bdb_overflow.specs.Datum.{datum_seen};
+ghost use Rattle.bdb_tree.specs.of_overflow.Datum.{datum_seen};
 ghost use Rattle.bdb_buckets.specs.Places.{key_at, place_cmp};
 ghost use Rattle.bdb_buckets.specs.Views.{IsTable};
 
 use crate::pair::key_of;
-use bdb_graph::Forest;
-use bdb_graph::bdb_form::PageView;
-use bdb_overflow::{Datum, compare_datum};
+use bdb_tree::bdb_form::PageView;
+use bdb_tree::bdb_graph::Forest;
+use bdb_tree::bdb_overflow::{Datum, compare_datum};
 use std::cmp::Ordering;
 
 /// Where a pair of a table stands, and the first eight bytes of its key as a number.
@@ -34,7 +34,7 @@ fn key_at<'a>(forest: &Forest<'a>, place: &Place) -> Datum<'a>
 }
 
 /// The order of two places. Keys are read only where their first eight bytes are the same.
-#[tactic(auto, using(bdb_overflow::proofs::KeyLemmas::is_order))]
+#[tactic(auto, using(crate::proofs::Below::is_order))]
 pub fn compare_places(forest: &Forest<'_>, a: &Place, b: &Place) -> Ordering
     requires { IsTable forest.now }
     ensures { result ≡ place_cmp forest.now a.now b.now }

@@ -1,3 +1,4 @@
+mod Below
 pub mod CopyLemmas
 pub mod GrowingLemmas
 pub mod QueueLemmas

@@ -4,7 +4,7 @@ use Rattle.std.proofs.Common.{arith, sym, ◌∙◌, ap, subst, drop-cons, add-o
 use Rattle.std.specs.List.{All}
 use Rattle.std.proofs.lemmas.List.{drop_all}
 use Rattle.std.proofs.lemmas.List.Elements.{All-cons}
-use Rattle.bdb_pack.specs.of_format.declared.settings.Settings.{Settings}
+use Rattle.bdb_need.specs.of_format.declared.settings.Settings.{Settings}
 use Rattle.bdb_need.specs.of_text_format.declared.pairs.Pair.{Pair}
 use Rattle.bdb_need.specs.of_text_format.Pairs.{AscendFrom, number_of}
 use Rattle.bdb_need.specs.of_mkqueue.Lists.{HasLength, HasNext, IsQueueList}

@@ -1,7 +1,7 @@
 -- Lists of records that are tested when a test runs.
 use Rattle.std.specs.Prelude.{ℕ, ◌≤◌, ◌<◌, ◌^◌, List, drop, length}
 use Rattle.std.specs.List.{All}
-use Rattle.bdb_pack.specs.of_format.declared.settings.Settings.{Settings}
+use Rattle.bdb_need.specs.of_format.declared.settings.Settings.{Settings}
 use Rattle.bdb_need.specs.of_text_format.declared.pairs.Pair.{Pair}
 use Rattle.bdb_need.specs.of_text_format.Pairs.{AscendFrom}
 use Rattle.bdb_need.specs.of_mkqueue.Lists.{HasLength, HasNext}

@@ -1,11 +1,11 @@
 -- Lists of pairs that are tested when a test runs, and trees that take a pair more.
 use Rattle.std.specs.Prelude.{◌≡◌, ℕ, Bool, true, List, [], ◌∷◌, ◌++◌, map, Option, None, Some}
-use Rattle.bdb_pack.specs.of_format.ContentRows.{ascends}
-use Rattle.bdb_pack.specs.of_format.Less.{less}
-use Rattle.bdb_pack.specs.of_format.declared.kinds.Kind.TheVariants.{Btree}
+use Rattle.bdb_need.specs.of_format.ContentRows.{ascends}
+use Rattle.bdb_need.specs.of_format.Less.{less}
+use Rattle.bdb_need.specs.of_format.declared.kinds.Kind.TheVariants.{Btree}
 use Rattle.bdb_need.specs.of_text_format.declared.pairs.Pair.{Pair}
 use Rattle.bdb_need.specs.of_text_format.declared.pairs.Key.TheVariants.{Number}
-use Rattle.bdb_pack.specs.Built.{Built}
+use Rattle.bdb_need.specs.of_pack.Built.{Built}
 use Rattle.bdb_need.specs.of_mkleaves.Units.{key_of}
 use Rattle.bdb_need.specs.of_mktree.Building.{Building, units_of}
 use Rattle.bdb_need.specs.of_mktree.declared.builder.TreeBuilder.{TreeBuilder}

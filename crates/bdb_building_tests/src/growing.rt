@@ -1,17 +1,17 @@
 //! A btree that takes pairs one by one.
 
 ghost use Rattle.std.specs.Prelude.{◌≡◌, ◌<◌, ◌^◌, ◌∷◌, [], IsTrue, length, map};
-ghost use Rattle.bdb_pack.specs.of_format.HeadOf.{is_page_size};
-ghost use Rattle.bdb_pack.specs.of_format.declared.kinds.Kind.TheVariants.{Btree};
+ghost use Rattle.bdb_need.specs.of_format.HeadOf.{is_page_size};
+ghost use Rattle.bdb_need.specs.of_format.declared.kinds.Kind.TheVariants.{Btree};
 ghost use Rattle.bdb_need.specs.of_places.Places.{value_at};
 ghost use Rattle.bdb_need.specs.of_mkleaves.Units.{KeyedUnit};
 ghost use Rattle.bdb_need.specs.of_mktree.Units.{unit_seen};
 ghost use Rattle.bdb_building_tests.specs.Trees.{is_above};
 
+use bdb_need::bdb_format::{Bytes, Settings};
 use bdb_need::bdb_mktree::{TreeBuilder, Unit};
+use bdb_need::bdb_pack::Pages;
 use bdb_need::bdb_places::{Place, PlacedKey, Span, Values};
-use bdb_pack::Pages;
-use bdb_pack::bdb_format::{Bytes, Settings};
 use std::alloc::{AllocError, Global};
 use std::marker::Model;
 use test_lists::bdb_overflow::{Datum, is_less};
@@ -60,7 +60,7 @@ pub struct Growing {
 }
 
 impl Model for Growing {
-    ghost use Rattle.bdb_pack.specs.Built.{Built};
+    ghost use Rattle.bdb_need.specs.of_pack.Built.{Built};
     ghost use Rattle.bdb_building_tests.specs.Trees.{IsGrowing};
 
     ghost Value = { Built };

@@ -1,10 +1,10 @@
 //! What settings must say for anything to be built by them.
 
 ghost use Rattle.std.specs.Prelude.{◌≡◌, IsTrue};
-ghost use Rattle.bdb_pack.specs.of_format.HeadOf.{is_page_size};
+ghost use Rattle.bdb_need.specs.of_format.HeadOf.{is_page_size};
 ghost use Rattle.bdb_need.specs.of_mktree.Units.{IsTreeKind};
 
-use bdb_pack::bdb_format::Kind;
+use bdb_need::bdb_format::Kind;
 
 pub fn is_page_size(size: u32) -> bool
     ensures { result ≡ is_page_size size }

@@ -1,8 +1,8 @@
 //! A queue under its metadata: the bytes of a whole file.
 
 ghost use Rattle.std.specs.Prelude.{◌≤◌, ◌+◌, ◌-◌, IfOk, IsTrue};
-ghost use Rattle.bdb_pack.specs.of_format.HeadOf.{is_page_size};
-ghost use Rattle.bdb_pack.specs.of_format.Numbers.{pad4};
+ghost use Rattle.bdb_need.specs.of_format.HeadOf.{is_page_size};
+ghost use Rattle.bdb_need.specs.of_format.Numbers.{pad4};
 ghost use Rattle.bdb_need.specs.of_text_format.Placed.{pairs_of};
 ghost use Rattle.bdb_need.specs.of_mkqueue.Layout.{queue_meta};
 ghost use Rattle.bdb_need.specs.of_mkqueue.Lists.{IsQueueList};
@@ -10,11 +10,11 @@ ghost use Rattle.bdb_need.specs.of_mkqueue.Written.{IsSoundQueueOf};
 
 use crate::legal::is_page_size;
 use crate::queue_lists::is_list_for;
+use bdb_need::bdb_format::{Bytes, Settings};
 use bdb_need::bdb_meta::put_queue_meta;
 use bdb_need::bdb_mkqueue::build_queue;
+use bdb_need::bdb_pack::Pages;
 use bdb_need::bdb_text_format::PairSlice;
-use bdb_pack::Pages;
-use bdb_pack::bdb_format::{Bytes, Settings};
 use std::alloc::{AllocError, Global};
 
 // Whether a page has room for a record.

@@ -6,8 +6,8 @@ ghost use Rattle.bdb_need.specs.of_text_format.Placed.{key_seen, pairs_of};
 ghost use Rattle.bdb_need.specs.of_mktree.Lists.{IsKeyFor, IsTreeList, IsPairFor, bytes_in, keyed_follow, may_follow};
 ghost use Rattle.bdb_building_tests.specs.Trees.{no_pair, one_seen};
 
+use bdb_need::bdb_format::{Kind, Settings};
 use bdb_need::bdb_text_format::{KeyRef, PairRef, PairSlice};
-use bdb_pack::bdb_format::{Kind, Settings};
 use test_lists::bdb_overflow::{Datum, is_less};
 
 #[tactic(auto, using(crate::proofs::CopyLemmas::one_at))]

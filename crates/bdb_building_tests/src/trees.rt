@@ -1,15 +1,15 @@
 //! A tree behind a page of metadata: the bytes of a whole file.
 
 ghost use Rattle.std.specs.Prelude.{IsTrue};
-ghost use Rattle.bdb_pack.specs.of_format.HeadOf.{is_page_size};
+ghost use Rattle.bdb_need.specs.of_format.HeadOf.{is_page_size};
 
 use crate::legal::{is_page_size, is_tree_kind};
 use crate::tree_lists::is_list_for;
+use bdb_need::bdb_format::{BtreeMeta, Bytes, Kind, Settings};
 use bdb_need::bdb_meta::put_btree_meta;
 use bdb_need::bdb_mktree::build_tree;
+use bdb_need::bdb_pack::Pages;
 use bdb_need::bdb_text_format::PairSlice;
-use bdb_pack::Pages;
-use bdb_pack::bdb_format::{BtreeMeta, Bytes, Kind, Settings};
 use std::alloc::{AllocError, Global};
 
 // The bytes of the longest image.
@@ -45,7 +45,7 @@ fn meta(settings: &Settings, root: u32) -> BtreeMeta {
 }
 
 /// A tree's pages behind metadata, in place of their first one. Of more than `MOST` bytes it names a wrong last page.
-#[tactic(auto, using(bdb_pack::proofs::AddedLemmas::zeros_are))]
+#[tactic(auto, using(crate::proofs::Below::zeros_are))]
 pub fn tree_image(
     alloc: Global,
     settings: &Settings,

@@ -8,13 +8,13 @@ use Rattle.bdb_recno.proofs.of_format.MemberLemmas.{is_empty, no_member}
 use Rattle.bdb_recno.proofs.of_format.VerdictLemmas.{none_within, or_else_none, skip_stage}
 use Rattle.bdb_recno.specs.of_faults.Notes.{NotesAll}
 use Rattle.bdb_recno.proofs.of_faults.SinkLemmas.{noted_all, notes_both}
-use Rattle.bdb_rows.specs.AnyOrder.{contents_by, stages_by}
-use Rattle.bdb_rows.specs.Noted.{HasJust}
-use Rattle.bdb_rows.specs.declared.rows.Rows.{Rows}
+use Rattle.bdb_any_order.specs.AnyOrder.{contents_by, stages_by}
+use Rattle.bdb_any_order.specs.Noted.{HasJust}
+use Rattle.bdb_any_order.specs.declared.rows.Rows.{Rows}
 use Rattle.bdb_master.proofs.NotingLemmas.{none_noted, some_noted}
 use Rattle.bdb_recno.specs.of_format.declared.kinds.CheckError.{CheckError}
-use Rattle.bdb_rows.specs.declared.rows.Rows.TheVariants.{All}
-use Rattle.bdb_rows.proofs.RowsLemmas.{all_stages}
+use Rattle.bdb_any_order.specs.declared.rows.Rows.TheVariants.{All}
+use Rattle.bdb_any_order.proofs.RowsLemmas.{all_stages}
 
 -- each of the stages, where none of them has faults
 

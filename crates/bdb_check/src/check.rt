@@ -1,18 +1,18 @@
 ghost use Rattle.std.specs.Prelude.{◌≡◌, [], ◌∷◌, IfErr, IfOk, OnOk};
 ghost use Rattle.bdb_recno.specs.of_faults.All.{IsAllOf};
-ghost use Rattle.bdb_rows.specs.AnyOrder.{stages_by};
+ghost use Rattle.bdb_any_order.specs.AnyOrder.{stages_by};
 ghost use Rattle.bdb_master.specs.Entries.{master_entries};
-ghost use Rattle.bdb_rows.specs.Noted.{HasJust};
+ghost use Rattle.bdb_any_order.specs.Noted.{HasJust};
 ghost use Rattle.bdb_recno.specs.of_format.File.{file_of};
 ghost use Rattle.bdb_recno.specs.of_format.Verdict.{IsFirstOf, faults_in};
 
 use crate::contents::note_contents;
 use crate::structure::note_structure;
+use bdb_any_order::Rows;
 use bdb_master::{Entry, master_entries, note_master};
 use bdb_recno::bdb_faults::{AllError, FaultSink, First, NamedList, refused_by};
 use bdb_recno::bdb_format::CheckError;
 use bdb_recno::bdb_graph::Linked;
-use bdb_rows::Rows;
 use std::alloc::{AllocError, Global};
 
 /// A sink after stages 6 to 8, and the entries of the master where none of them has faults that count.

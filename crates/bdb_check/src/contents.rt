@@ -1,8 +1,8 @@
 ghost use Rattle.std.specs.Prelude.{◌≡◌, ◌≤◌, ◌==◌, ◌&&◌, IfOk, OnOk, [], is_some};
 ghost use Rattle.bdb_recno.specs.of_faults.Notes.{NotesAll};
-ghost use Rattle.bdb_rows.specs.declared.rows.Rows.TheVariants.{All, AnyOrder};
-ghost use Rattle.bdb_rows.specs.AnyOrder.{contents_by};
-ghost use Rattle.bdb_rows.specs.Noted.{HasJust, by_asked, is_asked};
+ghost use Rattle.bdb_any_order.specs.declared.rows.Rows.TheVariants.{All, AnyOrder};
+ghost use Rattle.bdb_any_order.specs.AnyOrder.{contents_by};
+ghost use Rattle.bdb_any_order.specs.Noted.{HasJust, by_asked, is_asked};
 ghost use Rattle.bdb_recno.specs.of_format.ContentRows.{database_faults};
 ghost use Rattle.bdb_recno.specs.of_format.Master.{master_in};
 ghost use Rattle.bdb_recno.specs.of_format.Page.{Meta as MetaPage};
@@ -12,6 +12,7 @@ ghost use Rattle.bdb_recno.specs.of_image.Metas.{meta_seen};
 ghost use Rattle.bdb_recno.specs.of_format.File.{file_of};
 
 use crate::unordered::Unordered;
+use bdb_any_order::{Rows, Which};
 use bdb_hash::bdb_ranks::Values;
 use bdb_hash::{Chains, note_contents as note_hash};
 use bdb_master::bdb_btree::note_contents as note_btree;
@@ -19,7 +20,6 @@ use bdb_master::master_among;
 use bdb_recno::bdb_faults::FaultSink;
 use bdb_recno::bdb_graph::{Linked, Meta};
 use bdb_recno::note_contents as note_recno;
-use bdb_rows::{Rows, Which};
 use std::alloc::{AllocError, Global};
 
 /// Notes the faults of what the database with this metadata holds. An error is want of memory.
@@ -67,7 +67,7 @@ fn is_asked(which: Which, is_master: bool) -> bool
 
 /// Notes the faults of those databases that are asked for. What is found of chains that are shared is kept for all of them. An
 /// error is want of memory.
-#[tactic(auto, using(bdb_rows::proofs::DatabaseLemmas::has_metadata))]
+#[tactic(auto, using(bdb_any_order::proofs::DatabaseLemmas::has_metadata))]
 fn note_databases<'a, F: FaultSink>(
     alloc: Global,
     linked: &Linked<'a>,

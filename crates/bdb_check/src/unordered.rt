@@ -1,6 +1,6 @@
 ghost use Rattle.std.specs.Prelude.{◌≡◌, []};
-ghost use Rattle.bdb_rows.specs.AnyOrder.{is_of_order, is_row};
-ghost use Rattle.bdb_rows.specs.Noted.{HasNotedOthers};
+ghost use Rattle.bdb_any_order.specs.AnyOrder.{is_of_order, is_row};
+ghost use Rattle.bdb_any_order.specs.Noted.{HasNotedOthers};
 
 use bdb_recno::bdb_faults::{ContentsRow, FaultSink, Row};
 use bdb_recno::bdb_format::Fault;
@@ -55,7 +55,7 @@ impl<F: FaultSink> FaultSink for Unordered<F> {
 
     ghost takes_memory = { F.takes_memory };
 
-    #[tactic(auto, using(bdb_rows::proofs::OrderLemmas::other_noted, bdb_rows::proofs::OrderLemmas::order_noted))]
+    #[tactic(auto, using(bdb_any_order::proofs::OrderLemmas::other_noted, bdb_any_order::proofs::OrderLemmas::order_noted))]
     fn note(&mut self, fault: Fault) -> Result<(), AllocError> {
         self.is_empty = false;
         if is_of_order(fault) {

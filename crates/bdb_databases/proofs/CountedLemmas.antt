@@ -17,11 +17,11 @@ use Rattle.bdb_recno.specs.of_format.Page.{Page, Meta}
 use Rattle.bdb_recno.specs.of_format.Verdict.{master_faults}
 use Rattle.bdb_recno.proofs.of_format.MemberLemmas.{first_member, in_filter, later_member, no_member, of_map}
 use Rattle.bdb_recno.specs.of_image.Linked.{IsForest}
-use Rattle.bdb_rows.specs.AnyOrder.{faults_by_rows}
+use Rattle.bdb_any_order.specs.AnyOrder.{faults_by_rows}
 use Rattle.bdb_master.specs.Entries.{NamedPair, entries_naming, fault_at, master_entries}
 use Rattle.bdb_databases.specs.Named.{entry_database}
-use Rattle.bdb_rows.specs.declared.rows.Rows.TheVariants.{AnyOrder}
-use Rattle.bdb_rows.proofs.RowsLemmas.{master_kept}
+use Rattle.bdb_any_order.specs.declared.rows.Rows.TheVariants.{AnyOrder}
+use Rattle.bdb_any_order.proofs.RowsLemmas.{master_kept}
 use Rattle.bdb_recno.proofs.of_format.ListLemmas.{any_member}
 use Rattle.bdb_recno.proofs.of_format.FileLemmas.{last_page}
 use Rattle.bdb_master.proofs.MasterLemmas.{count_five, in_naming, master_inside}

@@ -5,6 +5,7 @@ pub mod NumberLemmas
 pub mod PlaceLemmas
 pub mod ReadableLemmas
 pub mod SoundLemmas
+pub use Rattle.bdb_any_order.proofs as of_any_order
 pub use Rattle.bdb_master.proofs.of_btree as of_btree
 pub use Rattle.bdb_hash_list.proofs.of_buckets as of_buckets
 pub use Rattle.bdb_recno.proofs.of_format as of_format
@@ -13,5 +14,4 @@ pub use Rattle.bdb_hash_list.proofs as of_hash_list
 pub use Rattle.bdb_recno.proofs.of_image as of_image
 pub use Rattle.bdb_queue.proofs as of_queue
 pub use Rattle.bdb_recno.proofs as of_recno
-pub use Rattle.bdb_rows.proofs as of_rows
 pub use Rattle.bdb_recno.proofs.of_tree as of_tree

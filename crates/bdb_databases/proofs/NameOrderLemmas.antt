@@ -29,14 +29,14 @@ use Rattle.bdb_master.specs.of_btree.Bounds.{DontFall, NoneBelow}
 use Rattle.bdb_master.proofs.of_btree.FallLemmas.{dont_fall, tree_keys}
 use Rattle.bdb_master.proofs.of_btree.PairLemmas.{tree_pair}
 use Rattle.bdb_master.specs.Entries.{fault_at, named}
-use Rattle.bdb_rows.specs.AnyOrder.{contents_by, faults_by_rows}
+use Rattle.bdb_any_order.specs.AnyOrder.{contents_by, faults_by_rows}
 use Rattle.bdb_databases.specs.Laws.{NamesAscend, NamesAscendInAnyOrder, name_bytes}
-use Rattle.bdb_rows.specs.declared.rows.Rows.TheVariants.{AnyOrder}
-use Rattle.bdb_rows.proofs.DatabaseLemmas.{has_metadata}
+use Rattle.bdb_any_order.specs.declared.rows.Rows.TheVariants.{AnyOrder}
+use Rattle.bdb_any_order.proofs.DatabaseLemmas.{has_metadata}
 use Rattle.bdb_master.proofs.MasterLemmas.{AreInside, master_inside, repeat_here}
 use Rattle.bdb_databases.proofs.NamedLemmas.{NamesMeta, entry_names}
-use Rattle.bdb_rows.proofs.OrderLemmas.{master_counts}
-use Rattle.bdb_rows.proofs.RowsLemmas.{contents_kept, early_kept, master_kept, sound_in_any_order}
+use Rattle.bdb_any_order.proofs.OrderLemmas.{master_counts}
+use Rattle.bdb_any_order.proofs.RowsLemmas.{contents_kept, early_kept, master_kept, sound_in_any_order}
 use Rattle.bdb_recno.proofs.of_format.BoolLemmas.{second_false}
 use Rattle.bdb_recno.proofs.of_format.PairLemmas.{neighbour_in, keyed_rows}
 use Rattle.bdb_recno.proofs.of_format.LessLemmas.{eq_self, same_unless_less}

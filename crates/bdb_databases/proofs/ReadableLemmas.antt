@@ -13,16 +13,16 @@ use Rattle.bdb_recno.specs.of_format.Verdict.{contents_faults}
 use Rattle.bdb_recno.proofs.of_format.MemberLemmas.{first_member, in_filter, in_flat_map, no_member}
 use Rattle.bdb_recno.specs.of_image.Linked.{HasMetadata, meta_pages}
 use Rattle.bdb_hash_list.specs.Scanned.{KeysDiffer}
-use Rattle.bdb_rows.specs.AnyOrder.{contents_by, counts, faults_by_rows}
-use Rattle.bdb_rows.specs.Contents.{faults_on}
+use Rattle.bdb_any_order.specs.AnyOrder.{contents_by, counts, faults_by_rows}
+use Rattle.bdb_any_order.specs.Contents.{faults_on}
 use Rattle.bdb_databases.specs.Listing.{HasNewKeys}
-use Rattle.bdb_rows.specs.declared.rows.Rows.TheVariants.{AnyOrder, All}
-use Rattle.bdb_rows.proofs.DatabaseLemmas.{of_pages}
+use Rattle.bdb_any_order.specs.declared.rows.Rows.TheVariants.{AnyOrder, All}
+use Rattle.bdb_any_order.proofs.DatabaseLemmas.{of_pages}
 use Rattle.bdb_recno.proofs.of_tree.ListedLemmas.{at_meta}
-use Rattle.bdb_rows.proofs.RowsLemmas.{contents_kept, fewer}
+use Rattle.bdb_any_order.proofs.RowsLemmas.{contents_kept, fewer}
 use Rattle.bdb_recno.specs.of_format.Databases.{Database, databases}
 use Rattle.bdb_databases.specs.Named.{IsReadable}
-use Rattle.bdb_rows.specs.declared.rows.Rows.{Rows}
+use Rattle.bdb_any_order.specs.declared.rows.Rows.{Rows}
 
 keys_differ : (image : List ℕ) (meta : HashMeta) → faults_by_rows AnyOrder image ≡ [] → HasMetadata (file_of image) (HashFields meta)
     → KeysDiffer (file_of image) meta

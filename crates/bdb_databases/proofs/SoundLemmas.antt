@@ -18,8 +18,8 @@ use Rattle.bdb_recno.proofs.of_format.FileLemmas.{past_last}
 use Rattle.bdb_recno.specs.of_image.Linked.{HasMetadata}
 use Rattle.bdb_recno.proofs.of_graph.ReadLemmas.{is_of_page}
 use Rattle.bdb_databases.specs.Named.{database_at, no_database}
-use Rattle.bdb_rows.proofs.ContentLemmas.{in_contents}
-use Rattle.bdb_rows.proofs.DatabaseLemmas.{in_fields}
+use Rattle.bdb_any_order.proofs.ContentLemmas.{in_contents}
+use Rattle.bdb_any_order.proofs.DatabaseLemmas.{in_fields}
 use Rattle.bdb_recno.proofs.of_tree.ListedLemmas.{at_meta}
 use Rattle.bdb_databases.proofs.NamedLemmas.{with_name}
 

@@ -1,7 +1,7 @@
 -- Laws of the databases that a master names. Source: docs/FORMAT.md, "Databases of a file".
 use Rattle.std.specs.Prelude.{◌≡◌, ◌≤◌, ◌^◌, ℕ, IsTrue, List, [], length, map, Some, unwrap_or}
-use Rattle.bdb_rows.specs.AnyOrder.{faults_by_rows}
-use Rattle.bdb_rows.specs.declared.rows.Rows.TheVariants.{AnyOrder}
+use Rattle.bdb_any_order.specs.AnyOrder.{faults_by_rows}
+use Rattle.bdb_any_order.specs.declared.rows.Rows.TheVariants.{AnyOrder}
 use Rattle.bdb_recno.specs.of_format.declared.metadata.BtreeMeta.{BtreeMeta}
 use Rattle.bdb_recno.specs.of_format.ContentRows.{ascends}
 use Rattle.bdb_recno.specs.of_format.Databases.{Database, databases}

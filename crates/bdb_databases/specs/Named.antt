@@ -3,9 +3,9 @@ use Rattle.std.specs.Prelude.{◌≡◌, ℕ, List, [], get_or, Some, None}
 use Rattle.bdb_recno.specs.of_format.Databases.{Database, database_on, databases}
 use Rattle.bdb_recno.specs.of_format.File.{File, file_of}
 use Rattle.bdb_recno.specs.of_format.Page.{QueueFields}
-use Rattle.bdb_rows.specs.AnyOrder.{faults_by_rows}
+use Rattle.bdb_any_order.specs.AnyOrder.{faults_by_rows}
 use Rattle.bdb_master.specs.Entries.{NamedPair}
-use Rattle.bdb_rows.specs.declared.rows.Rows.TheVariants.{AnyOrder}
+use Rattle.bdb_any_order.specs.declared.rows.Rows.TheVariants.{AnyOrder}
 
 -- what stands past the last database
 abbrev pub no_database : Database

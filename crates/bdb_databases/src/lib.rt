@@ -11,7 +11,6 @@ mod reads;
 mod settings;
 
 pub use bdb_master::bdb_btree;
-pub use bdb_recno::{bdb_overflow, bdb_tree};
 pub use db::Db;
 pub use listing::Scan;
 pub use lookup::{Found, found_in};

@@ -1,6 +1,6 @@
 ghost use Rattle.std.specs.Prelude.{◌≡◌, ◌<◌, [], IfSome, length, option_copied};
-ghost use Rattle.bdb_rows.specs.declared.rows.Rows.TheVariants.{AnyOrder};
-ghost use Rattle.bdb_rows.specs.AnyOrder.{faults_by_rows};
+ghost use Rattle.bdb_any_order.specs.declared.rows.Rows.TheVariants.{AnyOrder};
+ghost use Rattle.bdb_any_order.specs.AnyOrder.{faults_by_rows};
 ghost use Rattle.bdb_databases.specs.Named.{IsReadable, database_at};
 ghost use Rattle.bdb_recno.specs.of_image.Linked.{HasMetadata};
 ghost use Rattle.bdb_recno.specs.of_image.Metas.{meta_seen};
@@ -117,7 +117,7 @@ impl<'a> Readable<'a> {
     }
 
     /// The metadata of a database, which keeps the rules of structure.
-    #[tactic(auto, using(crate::proofs::SoundLemmas::has_metadata_at, bdb_rows::proofs::RowsLemmas::structure_kept))]
+    #[tactic(auto, using(crate::proofs::SoundLemmas::has_metadata_at, bdb_any_order::proofs::RowsLemmas::structure_kept))]
     pub fn meta(&self, db: Db) -> &Meta
         requires { db < length (databases (file_of self.now)) }
         ensures fields { meta_seen result.now ≡ (database_at (file_of self.now) db).fields }

@@ -5,10 +5,10 @@ use Rattle.bdb_check.specs.of_faults.declared.named.AllError.{AllError}
 use Rattle.bdb_check.specs.of_format.declared.kinds.Verdict.{Verdict}
 use Rattle.bdb_check.specs.of_format.declared.kinds.Verdict.TheVariants.{Fault as FaultVerdict, Unsupported, Memory}
 use Rattle.bdb_check.specs.of_format.Verdict.{faults_of, first_judgement, verdict_of}
-use Rattle.bdb_check.specs.of_rows.AnyOrder.{faults_by_rows}
+use Rattle.bdb_check.specs.of_any_order.AnyOrder.{faults_by_rows}
 use Rattle.bdb_file.specs.Whole.{IsVerdictBy, IsVerdictOf}
-use Rattle.bdb_check.specs.of_rows.declared.rows.Rows.TheVariants.{All}
-use Rattle.bdb_check.proofs.of_rows.RowsLemmas.{all_faults}
+use Rattle.bdb_check.specs.of_any_order.declared.rows.Rows.TheVariants.{All}
+use Rattle.bdb_check.proofs.of_any_order.RowsLemmas.{all_faults}
 
 pub all_accepted : (image : List ℕ) → faults_by_rows All image ≡ [] → faults_of image ≡ []
 all_accepted image none = sym (all_faults image) ∙ none

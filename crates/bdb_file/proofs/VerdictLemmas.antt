@@ -19,10 +19,10 @@ use Rattle.bdb_check.specs.of_faults.declared.named.AllError.{AllError}
 use Rattle.bdb_check.specs.of_faults.declared.named.AllError.TheVariants.{Faults, Memory}
 use Rattle.bdb_check.specs.of_image.Formed.{IsFormed}
 use Rattle.bdb_check.proofs.of_image.FirstLemmas.{formed_last}
-use Rattle.bdb_check.specs.of_rows.AnyOrder.{contents_by, faults_by_rows, stages_by, verdict_by}
+use Rattle.bdb_check.specs.of_any_order.AnyOrder.{contents_by, faults_by_rows, stages_by, verdict_by}
 use Rattle.bdb_file.specs.Whole.{IsVerdictBy, told_as}
-use Rattle.bdb_check.specs.of_rows.declared.rows.Rows.{Rows}
-use Rattle.bdb_check.proofs.of_rows.OrderLemmas.{of_counted}
+use Rattle.bdb_check.specs.of_any_order.declared.rows.Rows.{Rows}
+use Rattle.bdb_check.proofs.of_any_order.OrderLemmas.{of_counted}
 use Rattle.bdb_databases.proofs.ReadableLemmas.{read_in_any_order}
 use Rattle.bdb_check.proofs.WholeLemmas.{no_structure_fault, no_master_fault}
 

@@ -1,7 +1,7 @@
 -- A refusal of a whole file. Source: docs/FORMAT.md, "Faults".
 use Rattle.std.specs.Prelude.{◌≡◌, ℕ, List, Some}
-use Rattle.bdb_check.specs.of_rows.AnyOrder.{verdict_by}
-use Rattle.bdb_check.specs.of_rows.declared.rows.Rows.{Rows}
+use Rattle.bdb_check.specs.of_any_order.AnyOrder.{verdict_by}
+use Rattle.bdb_check.specs.of_any_order.declared.rows.Rows.{Rows}
 use Rattle.bdb_check.specs.of_format.declared.kinds.CheckError.{CheckError}
 use Rattle.bdb_check.specs.of_format.declared.kinds.CheckError.TheVariants.{Fault as FaultError, Memory as MemoryError}
 use Rattle.bdb_check.specs.of_format.declared.kinds.Verdict.{Verdict}

@@ -7,8 +7,10 @@ mod sound;
 mod verdict;
 mod verdict_all;
 
-pub use bdb_check::bdb_rows::Rows;
-pub use bdb_check::{bdb_faults, bdb_format, bdb_graph, bdb_overflow, check_file};
+pub use bdb_check::bdb_any_order::Rows;
+pub use bdb_check::{
+    bdb_btree, bdb_faults, bdb_format, bdb_graph, bdb_layout, bdb_overflow, bdb_tree, check_file,
+};
 pub use bdb_databases::{Db, Found, Readable, Scan};
 pub use sound::Sound;
 pub use verdict::{verify, verify_by};

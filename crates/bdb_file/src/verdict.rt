@@ -1,5 +1,5 @@
 ghost use Rattle.std.specs.Prelude.{◌≡◌, ◌≤◌, ◌+◌, ◌^◌, [], ◌∷◌, IfErr, IfOk, None, OnOk, length};
-ghost use Rattle.bdb_check.specs.of_rows.AnyOrder.{faults_by_rows};
+ghost use Rattle.bdb_check.specs.of_any_order.AnyOrder.{faults_by_rows};
 ghost use Rattle.bdb_file.specs.Whole.{IsVerdictBy, IsVerdictOf, told_as};
 ghost use Rattle.bdb_check.specs.of_format.File.{file_of};
 ghost use Rattle.bdb_check.specs.of_format.Verdict.{faults_in, verdict_of};

@@ -1,6 +1,6 @@
 ghost use Rattle.std.specs.Prelude.{◌≡◌, ◌≤◌, ◌+◌, ◌^◌, [], ◌∷◌, IfErr, IfOk, OnOk, length};
 ghost use Rattle.bdb_check.specs.of_faults.All.{IsAllOf};
-ghost use Rattle.bdb_check.specs.of_rows.AnyOrder.{faults_by_rows};
+ghost use Rattle.bdb_check.specs.of_any_order.AnyOrder.{faults_by_rows};
 ghost use Rattle.bdb_check.specs.of_format.File.{file_of};
 ghost use Rattle.bdb_check.specs.of_format.Verdict.{faults_in, faults_of};
 

@@ -2,17 +2,17 @@
 use Rattle.std.proofs.Common.{[], ◌∷◌, ◌≡◌, ℕ, ◌%◌, ◌<◌, ◌≤◌, List, length, drop, arith, refl, sym, ap, ltb-false, nat_eq, eq-eqb, eqb-true, ◌*◌, ◌-◌}
 use Rattle.std.proofs.Common.{le-leb, ne_eqb}
 use Rattle.std.specs.Prelude.{slice_index, not, ◌==◌, IsTrue, Bool, true, false, Option, Some, None, slice_get}
-use Rattle.bdb_format.specs.declared.kinds.Order.{Order}
-use Rattle.bdb_format.specs.declared.kinds.Order.TheVariants.{Big}
-use Rattle.bdb_format.specs.Numbers.{byte_at, four_at}
-use Rattle.bdb_format.specs.Page.{PageType, Queue}
-use Rattle.bdb_format.specs.Reading.{entries_of, index_end, is_zero, page_as, page_type, listed}
-use Rattle.bdb_format.specs.References.{is_shared_key}
-use Rattle.bdb_format.specs.Rows.{code_of, is_queue_type, body_code, is_tree_type, page_code, queue_code, index_rows, item_rows, is_wrong_entry_count}
-use Rattle.bdb_format.specs.Table.{◌:?◌, first_row}
-use Rattle.bdb_format.proofs.ItemLemmas.{index_passes, no_index_row, no_item_row}
-use Rattle.bdb_format.specs.declared.pages.Header.{Header}
-use Rattle.bdb_format.proofs.PageLemmas.{zero_header, length_items, get_item, header_listed, index_offset}
+use Rattle.bdb_layout.specs.of_format.declared.kinds.Order.{Order}
+use Rattle.bdb_layout.specs.of_format.declared.kinds.Order.TheVariants.{Big}
+use Rattle.bdb_layout.specs.of_format.Numbers.{byte_at, four_at}
+use Rattle.bdb_layout.specs.of_format.Page.{PageType, Queue}
+use Rattle.bdb_layout.specs.of_format.Reading.{entries_of, index_end, is_zero, page_as, page_type, listed}
+use Rattle.bdb_layout.specs.of_format.References.{is_shared_key}
+use Rattle.bdb_layout.specs.of_format.Rows.{code_of, is_queue_type, body_code, is_tree_type, page_code, queue_code, index_rows, item_rows, is_wrong_entry_count}
+use Rattle.bdb_layout.specs.of_format.Table.{◌:?◌, first_row}
+use Rattle.bdb_layout.proofs.of_format.ItemLemmas.{index_passes, no_index_row, no_item_row}
+use Rattle.bdb_layout.specs.of_format.declared.pages.Header.{Header}
+use Rattle.bdb_layout.proofs.of_format.PageLemmas.{zero_header, length_items, get_item, header_listed, index_offset}
 use Rattle.bdb_form.specs.Formed.{HoldsData, IsListed}
 
 -- A page with an index.

@@ -1,5 +1,6 @@
+mod Below
 pub mod FormedLemmas
 pub mod SlotLemmas
 pub mod WalkLemmas
 pub mod ZeroLemmas
-pub use Rattle.bdb_format.proofs as of_format
+pub use Rattle.bdb_layout.proofs.of_format as of_format

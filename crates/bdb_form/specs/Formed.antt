@@ -1,11 +1,11 @@
 -- What a view keeps of its page, and what callers see of the views that are no list of items.
 use Rattle.std.specs.Prelude.{◌≡◌, ◌≤◌, ◌+◌, ℕ, List, length, Option, Some, None, Result, Ok, Err}
-use Rattle.bdb_format.specs.declared.kinds.Order.{Order}
-use Rattle.bdb_format.specs.declared.pages.Header.{Header}
-use Rattle.bdb_format.specs.Numbers.{two_at}
-use Rattle.bdb_format.specs.Page.{PageType, Metadata, BtreeFields, HashFields, QueueFields, HashMetaPage, QueueMetaPage}
-use Rattle.bdb_format.specs.Reading.{hash_fields, btree_fields, queue_fields}
-use Rattle.bdb_format.specs.Rows.{listed_code}
+use Rattle.bdb_layout.specs.of_format.declared.kinds.Order.{Order}
+use Rattle.bdb_layout.specs.of_format.declared.pages.Header.{Header}
+use Rattle.bdb_layout.specs.of_format.Numbers.{two_at}
+use Rattle.bdb_layout.specs.of_format.Page.{PageType, Metadata, BtreeFields, HashFields, QueueFields, HashMetaPage, QueueMetaPage}
+use Rattle.bdb_layout.specs.of_format.Reading.{hash_fields, btree_fields, queue_fields}
+use Rattle.bdb_layout.specs.of_format.Rows.{listed_code}
 
 -- a page with an index has the type and no fault of form
 pub record IsListed (t : PageType) (order : Order) (page : List ℕ) : Type 0 where

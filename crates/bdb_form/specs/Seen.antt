@@ -2,11 +2,11 @@
 use Rattle.std.specs.Prelude.{ℕ, Result, Ok, Err}
 use Rattle.bdb_form.specs.declared.view.PageView.{PageView}
 use Rattle.bdb_form.specs.declared.view.PageView.TheVariants.{Zero, Free, Meta, Leaf, Internal, RecnoLeaf, RecnoInternal, DupLeaf, Hash, Overflow, Queue}
-use Rattle.bdb_format.specs.declared.pages.Header.{Header}
-use Rattle.bdb_format.specs.File.{no_header}
-use Rattle.bdb_format.specs.Page.{Page, Zero as ZeroPage, Free as FreePage, Meta as AnyMeta, Leaf as AnyLeaf, Internal as AnyInternal}
-use Rattle.bdb_format.specs.Page.{RecnoLeaf as AnyRecnoLeaf, RecnoInternal as AnyRecnoInternal, DupLeaf as AnyDupLeaf, Hash as AnyHash, Overflow as AnyOverflow}
-use Rattle.bdb_format.specs.Page.{Queue as AnyQueue}
+use Rattle.bdb_layout.specs.of_format.declared.pages.Header.{Header}
+use Rattle.bdb_layout.specs.of_format.File.{no_header}
+use Rattle.bdb_layout.specs.of_format.Page.{Page, Zero as ZeroPage, Free as FreePage, Meta as AnyMeta, Leaf as AnyLeaf, Internal as AnyInternal}
+use Rattle.bdb_layout.specs.of_format.Page.{RecnoLeaf as AnyRecnoLeaf, RecnoInternal as AnyRecnoInternal, DupLeaf as AnyDupLeaf, Hash as AnyHash, Overflow as AnyOverflow}
+use Rattle.bdb_layout.specs.of_format.Page.{Queue as AnyQueue}
 
 abbrev pub page_seen : PageView → Page
 page_seen (Zero view) = ZeroPage

@@ -1,15 +1,15 @@
 ghost use Rattle.std.specs.Prelude.{◌≡◌, ◌≤◌, ◌<◌, length};
 ghost use Rattle.std.specs.Option.{option_map};
-ghost use Rattle.bdb_format.specs.Reading.{entries_of, index_end};
-ghost use Rattle.bdb_format.specs.Rows.{all_item_rows, index_rows, item_code, item_row, listed_code};
-ghost use Rattle.bdb_format.specs.Table.{first_row, lesser};
+ghost use Rattle.bdb_layout.specs.of_format.Reading.{entries_of, index_end};
+ghost use Rattle.bdb_layout.specs.of_format.Rows.{all_item_rows, index_rows, item_code, item_row, listed_code};
+ghost use Rattle.bdb_layout.specs.of_format.Table.{first_row, lesser};
 
 use crate::PageKind;
-use bdb_format::Order;
+use bdb_layout::bdb_format::Order;
 use bdb_layout::{ItemFault, u16_at};
 
 // The code of the first row that holds for a page with an index: its own, else the least of its items.
-#[tactic(auto, using(crate::proofs::FormedLemmas::index_room, bdb_format::proofs::ItemLemmas::index_first, bdb_format::proofs::ItemLemmas::items_next))]
+#[tactic(auto, using(crate::proofs::FormedLemmas::index_room, crate::proofs::Below::index_first, crate::proofs::Below::items_next))]
 pub(crate) fn listed_code<K: PageKind>(page: &[u8], order: Order) -> Option<u8>
     requires header { 26 ≤ length page.now }
     requires size { length page.now ≤ 32768 }
@@ -21,7 +21,7 @@ pub(crate) fn listed_code<K: PageKind>(page: &[u8], order: Order) -> Option<u8>
     }
 }
 
-#[tactic(auto, unfolding(bdb_format::specs::Rows::index_rows))]
+#[tactic(auto, unfolding(crate::specs::Below::index_rows))]
 fn index_code<K: PageKind>(page: &[u8], order: Order) -> Option<u8>
     requires header { 26 ≤ length page.now }
     ensures { result ≡ first_row (index_rows order page.now K.page_type) }

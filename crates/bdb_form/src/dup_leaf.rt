@@ -1,9 +1,9 @@
-ghost use Rattle.bdb_format.specs.Page.{DupLeafPage};
-ghost use Rattle.bdb_format.specs.Reading.{leaf_item_at};
+ghost use Rattle.bdb_layout.specs.of_format.Page.{DupLeafPage};
+ghost use Rattle.bdb_layout.specs.of_format.Reading.{leaf_item_at};
 ghost use Rattle.bdb_layout.specs.Seen.{leaf_item_seen};
 
 use crate::{IndexedView, ItemKind, PageKind};
-use bdb_format::Order;
+use bdb_layout::bdb_format::Order;
 use bdb_layout::{ItemFault, LeafItem, known_leaf_item, leaf_fault};
 use std::marker::Model;
 
@@ -15,8 +15,8 @@ pub type DupLeafView<'a> = IndexedView<'a, DupLeafKind>;
 pub struct DupLeafKind;
 
 impl Model for DupLeafKind {
-    ghost use Rattle.bdb_format.specs.Page.{Item};
-    ghost use Rattle.bdb_format.specs.References.{no_item};
+    ghost use Rattle.bdb_layout.specs.of_format.Page.{Item};
+    ghost use Rattle.bdb_layout.specs.of_format.References.{no_item};
 
     ghost Value = { Item };
 

@@ -1,12 +1,12 @@
 ghost use Rattle.std.specs.Prelude.{◌≡◌, ◌≤◌, None, IfOk, IsTrue, false, length};
 ghost use Rattle.bdb_form.specs.Formed.{unless};
 ghost use Rattle.bdb_form.specs.Seen.{form_seen, header_seen, page_seen};
-ghost use Rattle.bdb_format.specs.HeadOf.{is_page_size};
-ghost use Rattle.bdb_format.specs.Numbers.{byte_at, four_at};
-ghost use Rattle.bdb_format.specs.Page.{OverflowPage};
-ghost use Rattle.bdb_format.specs.Reading.{abstract_page, header_of, is_zero, page_as, page_type};
-ghost use Rattle.bdb_format.specs.Rows.{body_code, identity_rows, is_queue_type, is_tree_type, page_code, queue_code};
-ghost use Rattle.bdb_format.specs.Table.{first_row};
+ghost use Rattle.bdb_layout.specs.of_format.HeadOf.{is_page_size};
+ghost use Rattle.bdb_layout.specs.of_format.Numbers.{byte_at, four_at};
+ghost use Rattle.bdb_layout.specs.of_format.Page.{OverflowPage};
+ghost use Rattle.bdb_layout.specs.of_format.Reading.{abstract_page, header_of, is_zero, page_as, page_type};
+ghost use Rattle.bdb_layout.specs.of_format.Rows.{body_code, identity_rows, is_queue_type, is_tree_type, page_code, queue_code};
+ghost use Rattle.bdb_layout.specs.of_format.Table.{first_row};
 
 use crate::codes::listed_code;
 use crate::zeros::is_zero;
@@ -14,7 +14,7 @@ use crate::{
     DupLeafKind, FreeView, HashKind, IndexedView, InternalKind, LeafKind, MetaView, OverflowView,
     PageView, QueueView, RecnoInternalKind, RecnoLeafKind, ZeroView,
 };
-use bdb_format::Order;
+use bdb_layout::bdb_format::Order;
 use bdb_layout::{u16_at, u32_at};
 
 /// A page above 0 of a btree or hash file as the view of its type, or the code of the first row of form
@@ -45,7 +45,7 @@ pub fn queue_form(page: &[u8], number: u32, order: Order) -> Result<PageView<'_>
 }
 
 /// The code of the first row of form that holds for a page above 0 of a btree or hash file, if one does.
-#[tactic(auto, unfolding(bdb_format::specs::Rows::page_code))]
+#[tactic(auto, unfolding(crate::specs::Below::page_code))]
 pub fn page_code(page: &[u8], number: u32, order: Order) -> Option<u8>
     requires { IsTrue (is_page_size (length page.now)) }
     ensures { result ≡ page_code order number page.now }
@@ -60,7 +60,7 @@ pub fn page_code(page: &[u8], number: u32, order: Order) -> Option<u8>
 }
 
 /// The code of the first row of form that holds for a page above 0 of a queue file, if one does.
-#[tactic(auto, unfolding(bdb_format::specs::Rows::queue_code))]
+#[tactic(auto, unfolding(crate::specs::Below::queue_code))]
 pub fn queue_code(page: &[u8], number: u32, order: Order) -> Option<u8>
     requires { IsTrue (is_page_size (length page.now)) }
     ensures { result ≡ queue_code order number page.now }
@@ -73,7 +73,7 @@ pub fn queue_code(page: &[u8], number: u32, order: Order) -> Option<u8>
 
 /// The view of a page above 0 of a btree or hash file for which no row of form is known to hold, without
 /// another look at its items.
-#[tactic(auto, using(crate::proofs::FormedLemmas::tree_page_form), unfolding(bdb_format::specs::Reading::abstract_page))]
+#[tactic(auto, using(crate::proofs::FormedLemmas::tree_page_form), unfolding(crate::specs::Below::abstract_page))]
 pub fn known_form(page: &[u8], number: u32, order: Order) -> PageView<'_>
     requires size { IsTrue (is_page_size (length page.now)) }
     requires form { page_code order number page.now ≡ None }
@@ -87,7 +87,7 @@ pub fn known_form(page: &[u8], number: u32, order: Order) -> PageView<'_>
 }
 
 /// The view of a page above 0 of a queue file for which no row of form is known to hold.
-#[tactic(auto, using(crate::proofs::FormedLemmas::queue_page_form), unfolding(bdb_format::specs::Reading::abstract_page))]
+#[tactic(auto, using(crate::proofs::FormedLemmas::queue_page_form), unfolding(crate::specs::Below::abstract_page))]
 pub fn known_queue_form(page: &[u8], number: u32, order: Order) -> PageView<'_>
     requires size { IsTrue (is_page_size (length page.now)) }
     requires form { queue_code order number page.now ≡ None }

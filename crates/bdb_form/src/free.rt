@@ -1,7 +1,7 @@
 ghost use Rattle.std.specs.Prelude.{◌≡◌, ◌≤◌, length};
-ghost use Rattle.bdb_format.specs.Reading.{header_of};
+ghost use Rattle.bdb_layout.specs.of_format.Reading.{header_of};
 
-use bdb_format::Order;
+use bdb_layout::bdb_format::Order;
 use bdb_layout::{Header, header, u32_at};
 use std::marker::Model;
 
@@ -14,8 +14,8 @@ pub struct FreeView<'a> {
 
 impl<'a> Model for FreeView<'a> {
     ghost use Rattle.bdb_form.specs.Formed.{HasHeader};
-    ghost use Rattle.bdb_format.specs.Reading.{header_of};
-    ghost use Rattle.bdb_format.specs.declared.pages.Header.{Header};
+    ghost use Rattle.bdb_layout.specs.of_format.Reading.{header_of};
+    ghost use Rattle.bdb_layout.specs.of_format.declared.pages.Header.{Header};
 
     ghost Value = { Header };
 

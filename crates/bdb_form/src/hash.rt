@@ -1,9 +1,9 @@
-ghost use Rattle.bdb_format.specs.Page.{HashPage};
-ghost use Rattle.bdb_format.specs.Reading.{hash_item_at};
+ghost use Rattle.bdb_layout.specs.of_format.Page.{HashPage};
+ghost use Rattle.bdb_layout.specs.of_format.Reading.{hash_item_at};
 ghost use Rattle.bdb_layout.specs.Seen.{hash_item_seen};
 
 use crate::{IndexedView, ItemKind, PageKind, PairKind};
-use bdb_format::Order;
+use bdb_layout::bdb_format::Order;
 use bdb_layout::{HashItem, ItemFault, hash_fault, known_hash_item};
 use std::marker::Model;
 
@@ -15,8 +15,8 @@ pub type HashView<'a> = IndexedView<'a, HashKind>;
 pub struct HashKind;
 
 impl Model for HashKind {
-    ghost use Rattle.bdb_format.specs.Page.{Item};
-    ghost use Rattle.bdb_format.specs.References.{no_item};
+    ghost use Rattle.bdb_layout.specs.of_format.Page.{Item};
+    ghost use Rattle.bdb_layout.specs.of_format.References.{no_item};
 
     ghost Value = { Item };
 
@@ -53,7 +53,7 @@ impl<'a> ItemKind<'a> for HashKind {
 
 impl PairKind for HashKind {
     ghost use Rattle.std.specs.Prelude.{refl, false};
-    ghost use Rattle.bdb_format.specs.References.{no_item};
+    ghost use Rattle.bdb_layout.specs.of_format.References.{no_item};
 
     const SHARES: bool = false;
 

@@ -1,11 +1,11 @@
 ghost use Rattle.std.specs.Prelude.{◌≡◌, ◌<◌, ◌≤◌, ℕ, List, length, slice_get, slice_index, Some, None};
-ghost use Rattle.bdb_format.specs.declared.kinds.Order.{Order as AnyOrder};
-ghost use Rattle.bdb_format.specs.Page.{PageType};
-ghost use Rattle.bdb_format.specs.Reading.{entries_of, header_of, index_end, listed};
-ghost use Rattle.bdb_format.specs.Rows.{is_wrong_entry_count, is_wrong_level, item_rows, listed_code};
-ghost use Rattle.bdb_format.specs.Table.{first_row};
+ghost use Rattle.bdb_layout.specs.of_format.declared.kinds.Order.{Order as AnyOrder};
+ghost use Rattle.bdb_layout.specs.of_format.Page.{PageType};
+ghost use Rattle.bdb_layout.specs.of_format.Reading.{entries_of, header_of, index_end, listed};
+ghost use Rattle.bdb_layout.specs.of_format.Rows.{is_wrong_entry_count, is_wrong_level, item_rows, listed_code};
+ghost use Rattle.bdb_layout.specs.of_format.Table.{first_row};
 
-use bdb_format::Order;
+use bdb_layout::bdb_format::Order;
 use bdb_layout::{Header, ItemFault, header, u16_at};
 use std::marker::{Model, PhantomData};
 
@@ -56,8 +56,8 @@ pub struct IndexedView<'a, K: PageKind> {
 
 impl<'a, K: PageKind> Model for IndexedView<'a, K> {
     ghost use Rattle.bdb_form.specs.Formed.{IsListed};
-    ghost use Rattle.bdb_format.specs.Page.{Listed};
-    ghost use Rattle.bdb_format.specs.Reading.{listed};
+    ghost use Rattle.bdb_layout.specs.of_format.Page.{Listed};
+    ghost use Rattle.bdb_layout.specs.of_format.Reading.{listed};
 
     ghost Value = { Listed K };
 

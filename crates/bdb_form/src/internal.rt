@@ -1,9 +1,9 @@
-ghost use Rattle.bdb_format.specs.Page.{InternalPage};
-ghost use Rattle.bdb_format.specs.Reading.{internal_item_at};
+ghost use Rattle.bdb_layout.specs.of_format.Page.{InternalPage};
+ghost use Rattle.bdb_layout.specs.of_format.Reading.{internal_item_at};
 ghost use Rattle.bdb_layout.specs.Seen.{internal_item_seen};
 
 use crate::{IndexedView, ItemKind, PageKind};
-use bdb_format::Order;
+use bdb_layout::bdb_format::Order;
 use bdb_layout::{InternalItem, ItemFault, internal_fault, known_internal_item};
 use std::marker::Model;
 
@@ -15,7 +15,7 @@ pub type InternalView<'a> = IndexedView<'a, InternalKind>;
 pub struct InternalKind;
 
 impl Model for InternalKind {
-    ghost use Rattle.bdb_format.specs.Page.{InternalItem, Unknown};
+    ghost use Rattle.bdb_layout.specs.of_format.Page.{InternalItem, Unknown};
 
     ghost Value = { InternalItem };
 

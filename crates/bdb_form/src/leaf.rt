@@ -1,9 +1,9 @@
-ghost use Rattle.bdb_format.specs.Page.{LeafPage};
-ghost use Rattle.bdb_format.specs.Reading.{leaf_item_at};
+ghost use Rattle.bdb_layout.specs.of_format.Page.{LeafPage};
+ghost use Rattle.bdb_layout.specs.of_format.Reading.{leaf_item_at};
 ghost use Rattle.bdb_layout.specs.Seen.{leaf_item_seen};
 
 use crate::{IndexedView, ItemKind, PageKind, PairKind};
-use bdb_format::Order;
+use bdb_layout::bdb_format::Order;
 use bdb_layout::{ItemFault, LeafItem, known_leaf_item, leaf_fault};
 use std::marker::Model;
 
@@ -15,8 +15,8 @@ pub type LeafView<'a> = IndexedView<'a, LeafKind>;
 pub struct LeafKind;
 
 impl Model for LeafKind {
-    ghost use Rattle.bdb_format.specs.Page.{Item};
-    ghost use Rattle.bdb_format.specs.References.{no_item};
+    ghost use Rattle.bdb_layout.specs.of_format.Page.{Item};
+    ghost use Rattle.bdb_layout.specs.of_format.References.{no_item};
 
     ghost Value = { Item };
 
@@ -53,7 +53,7 @@ impl<'a> ItemKind<'a> for LeafKind {
 
 impl PairKind for LeafKind {
     ghost use Rattle.std.specs.Prelude.{refl, true};
-    ghost use Rattle.bdb_format.specs.References.{no_item};
+    ghost use Rattle.bdb_layout.specs.of_format.References.{no_item};
 
     const SHARES: bool = true;
 

@@ -1,9 +1,9 @@
 ghost use Rattle.std.specs.Prelude.{◌≡◌, ◌≤◌, length};
 ghost use Rattle.bdb_form.specs.Formed.{fields_as};
-ghost use Rattle.bdb_format.specs.Numbers.{byte_at};
-ghost use Rattle.bdb_format.specs.Reading.{header_of, page_type};
+ghost use Rattle.bdb_layout.specs.of_format.Numbers.{byte_at};
+ghost use Rattle.bdb_layout.specs.of_format.Reading.{header_of, page_type};
 
-use bdb_format::Order;
+use bdb_layout::bdb_format::Order;
 use bdb_layout::{Header, header};
 use std::marker::Model;
 
@@ -16,8 +16,8 @@ pub struct MetaView<'a> {
 
 impl<'a> Model for MetaView<'a> {
     ghost use Rattle.bdb_form.specs.Formed.{HasHeader, MetaPage, fields_as};
-    ghost use Rattle.bdb_format.specs.Numbers.{byte_at};
-    ghost use Rattle.bdb_format.specs.Reading.{header_of, page_type};
+    ghost use Rattle.bdb_layout.specs.of_format.Numbers.{byte_at};
+    ghost use Rattle.bdb_layout.specs.of_format.Reading.{header_of, page_type};
 
     ghost Value = { MetaPage };
 

@@ -1,11 +1,11 @@
 ghost use Rattle.std.specs.Prelude.{◌≡◌, ◌≤◌, length, take, drop};
 ghost use Rattle.bdb_form.specs.Formed.{HoldsData, unless};
-ghost use Rattle.bdb_format.specs.Numbers.{two_at};
-ghost use Rattle.bdb_format.specs.Page.{OverflowPage};
-ghost use Rattle.bdb_format.specs.Reading.{header_of};
-ghost use Rattle.bdb_format.specs.Rows.{body_code};
+ghost use Rattle.bdb_layout.specs.of_format.Numbers.{two_at};
+ghost use Rattle.bdb_layout.specs.of_format.Page.{OverflowPage};
+ghost use Rattle.bdb_layout.specs.of_format.Reading.{header_of};
+ghost use Rattle.bdb_layout.specs.of_format.Rows.{body_code};
 
-use bdb_format::Order;
+use bdb_layout::bdb_format::Order;
 use bdb_layout::{Header, header, u16_at, u32_at};
 use std::marker::Model;
 
@@ -19,8 +19,8 @@ pub struct OverflowView<'a> {
 impl<'a> Model for OverflowView<'a> {
     ghost use Rattle.std.specs.Prelude.{take, drop};
     ghost use Rattle.bdb_form.specs.Formed.{HoldsData, OverflowPage};
-    ghost use Rattle.bdb_format.specs.Numbers.{two_at};
-    ghost use Rattle.bdb_format.specs.Reading.{header_of};
+    ghost use Rattle.bdb_layout.specs.of_format.Numbers.{two_at};
+    ghost use Rattle.bdb_layout.specs.of_format.Reading.{header_of};
 
     ghost Value = { OverflowPage };
 

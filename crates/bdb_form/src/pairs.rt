@@ -1,6 +1,6 @@
 ghost use Rattle.std.specs.Prelude.{◌≡◌, ◌+◌, ◌*◌, ◌<◌, ◌%◌, ◌==◌, ◌&&◌, Bool, ℕ, length, slice_get, Some};
-ghost use Rattle.bdb_format.specs.References.{is_shared_key};
-ghost use Rattle.bdb_format.specs.Rows.{is_wrong_entry_count};
+ghost use Rattle.bdb_layout.specs.of_format.References.{is_shared_key};
+ghost use Rattle.bdb_layout.specs.of_format.Rows.{is_wrong_entry_count};
 
 use crate::{IndexedView, ItemKind, PageKind};
 use bdb_layout::u16_at;
@@ -17,7 +17,7 @@ pub trait PairKind: PageKind {
     ghost stands_in_pairs: { (entries : ℕ) → is_wrong_entry_count Self.page_type entries ≡ (entries % 2 == 1) };
 }
 
-#[tactic(auto, using(bdb_format::proofs::PageLemmas::length_items, crate::proofs::FormedLemmas::listed_even))]
+#[tactic(auto, using(crate::proofs::Below::length_items, crate::proofs::FormedLemmas::listed_even))]
 impl<'a, K: PairKind> IndexedView<'a, K> {
     /// How many pairs there are.
     pub fn pairs(&self) -> u16

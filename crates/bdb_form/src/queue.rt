@@ -1,8 +1,8 @@
 ghost use Rattle.std.specs.Prelude.{◌≡◌, ◌≤◌, ◌+◌, ◌*◌, length, drop, slice_index, slice_range};
-ghost use Rattle.bdb_format.specs.Numbers.{four_at, has_bit, pad4};
-ghost use Rattle.bdb_format.specs.Reading.{header_of};
+ghost use Rattle.bdb_layout.specs.of_format.Numbers.{four_at, has_bit, pad4};
+ghost use Rattle.bdb_layout.specs.of_format.Reading.{header_of};
 
-use bdb_format::Order;
+use bdb_layout::bdb_format::Order;
 use bdb_layout::{Header, header};
 use std::marker::Model;
 
@@ -16,8 +16,8 @@ pub struct QueueView<'a> {
 impl<'a> Model for QueueView<'a> {
     ghost use Rattle.std.specs.Prelude.{drop};
     ghost use Rattle.bdb_form.specs.Formed.{HasHeader, QueuePage};
-    ghost use Rattle.bdb_format.specs.Numbers.{four_at};
-    ghost use Rattle.bdb_format.specs.Reading.{header_of};
+    ghost use Rattle.bdb_layout.specs.of_format.Numbers.{four_at};
+    ghost use Rattle.bdb_layout.specs.of_format.Reading.{header_of};
 
     ghost Value = { QueuePage };
 

@@ -1,8 +1,8 @@
-ghost use Rattle.bdb_format.specs.Page.{RecnoInternalPage};
-ghost use Rattle.bdb_format.specs.Reading.{recno_item_at};
+ghost use Rattle.bdb_layout.specs.of_format.Page.{RecnoInternalPage};
+ghost use Rattle.bdb_layout.specs.of_format.Reading.{recno_item_at};
 
 use crate::{IndexedView, ItemKind, PageKind};
-use bdb_format::Order;
+use bdb_layout::bdb_format::Order;
 use bdb_layout::{ItemFault, RecnoItem, known_recno_item, recno_fault};
 use std::marker::Model;
 
@@ -14,7 +14,7 @@ pub type RecnoInternalView<'a> = IndexedView<'a, RecnoInternalKind>;
 pub struct RecnoInternalKind;
 
 impl Model for RecnoInternalKind {
-    ghost use Rattle.bdb_format.specs.declared.pages.RecnoItem.{RecnoItem};
+    ghost use Rattle.bdb_layout.specs.of_format.declared.pages.RecnoItem.{RecnoItem};
 
     ghost Value = { RecnoItem };
 

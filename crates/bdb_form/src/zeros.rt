@@ -1,5 +1,5 @@
 ghost use Rattle.std.specs.Prelude.{◌≡◌, ◌≤◌, length};
-ghost use Rattle.bdb_format.specs.Reading.{is_zero};
+ghost use Rattle.bdb_layout.specs.of_format.Reading.{is_zero};
 
 /// Whether all bytes are 0. The type of most pages tells that at a glance.
 #[tactic(auto, using(crate::proofs::FormedLemmas::zero_type))]

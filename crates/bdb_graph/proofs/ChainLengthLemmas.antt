@@ -6,20 +6,20 @@ use Rattle.std.specs.List.{list_any, range_with_len}
 use Rattle.std.proofs.Math.Nat.{mul-le-mul_right}
 use Rattle.std.proofs.lemmas.Bool.{eqb-true, eq-eqb, ne_eqb, not-false}
 use Rattle.std.proofs.lemmas.List.FromFn.{get_or-map-range_with_len, map-range_with_len_more}
-use Rattle.bdb_format.specs.declared.metadata.Head.{Head}
-use Rattle.bdb_format.specs.declared.references.Sort.{Sort}
-use Rattle.bdb_format.specs.declared.references.Sort.TheVariants.{OverflowHead}
-use Rattle.bdb_format.specs.Chains.{chain_in, next_of, piece_in, pieces_of}
-use Rattle.bdb_format.specs.File.{File, file_of, header_in, page_at, type_in}
-use Rattle.bdb_format.specs.Graph.{all_references, is_head_reference}
-use Rattle.bdb_format.specs.HeadOf.{head_of}
-use Rattle.bdb_format.specs.Page.{Page}
-use Rattle.bdb_format.specs.References.{asked_by, fit_code, fit_rows, has_type}
-use Rattle.bdb_format.proofs.FileLemmas.{page_is}
-use Rattle.bdb_format.proofs.GraphLemmas.{each_fits}
-use Rattle.bdb_format.proofs.MemberLemmas.{none_passes}
-use Rattle.bdb_format.proofs.ReferenceLemmas.{of_all}
-use Rattle.bdb_format.proofs.VerdictLemmas.{AllFail, none_is_first_row}
+use Rattle.bdb_image.specs.of_format.declared.metadata.Head.{Head}
+use Rattle.bdb_image.specs.of_format.declared.references.Sort.{Sort}
+use Rattle.bdb_image.specs.of_format.declared.references.Sort.TheVariants.{OverflowHead}
+use Rattle.bdb_image.specs.of_format.Chains.{chain_in, next_of, piece_in, pieces_of}
+use Rattle.bdb_image.specs.of_format.File.{File, file_of, header_in, page_at, type_in}
+use Rattle.bdb_image.specs.of_format.Graph.{all_references, is_head_reference}
+use Rattle.bdb_image.specs.of_format.HeadOf.{head_of}
+use Rattle.bdb_image.specs.of_format.Page.{Page}
+use Rattle.bdb_image.specs.of_format.References.{asked_by, fit_code, fit_rows, has_type}
+use Rattle.bdb_image.proofs.of_format.FileLemmas.{page_is}
+use Rattle.bdb_image.proofs.of_format.GraphLemmas.{each_fits}
+use Rattle.bdb_image.proofs.of_format.MemberLemmas.{none_passes}
+use Rattle.bdb_image.proofs.of_format.ReferenceLemmas.{of_all}
+use Rattle.bdb_image.proofs.of_format.VerdictLemmas.{AllFail, none_is_first_row}
 use Rattle.bdb_graph.specs.declared.tally.Kinds.{Kinds}
 use Rattle.bdb_graph.specs.ChainLengths.{AreLengths, chain_length, kept_length, length_in, may_head}
 use Rattle.bdb_image.specs.Formed.{IsAccepted, IsFormed}

@@ -2,28 +2,28 @@
 use Rattle.std.proofs.Common.{◌≡◌, ◌⊎◌, ℕ, ◌+◌, ◌≤◌, Bool, true, false, List, [], ◌∷◌, ◌++◌, map, Some, None, arith, refl, sym, ◌∙◌, ap}
 use Rattle.std.proofs.Common.{true≢false}
 use Rattle.std.specs.List.{Contains, enumerate_from, filter, flat_map}
-use Rattle.bdb_format.specs.declared.kinds.Order.{Order}
-use Rattle.bdb_format.specs.declared.metadata.FileKind.TheVariants.{Queue as QueueFile}
-use Rattle.bdb_format.specs.declared.metadata.Head.{Head}
-use Rattle.bdb_format.specs.declared.pages.RecnoItem.{RecnoItem}
-use Rattle.bdb_format.specs.declared.references.Reference.{Reference}
-use Rattle.bdb_format.specs.declared.references.Sort.{Sort}
-use Rattle.bdb_format.specs.declared.references.Sort.TheVariants.{Child}
-use Rattle.bdb_format.specs.File.{File, file_of, page_at, page_bytes}
-use Rattle.bdb_format.specs.HeadOf.{head_of}
-use Rattle.bdb_format.specs.Leaves.{children_in}
-use Rattle.bdb_format.specs.Numbers.{byte_at}
-use Rattle.bdb_format.specs.Page.{Content, Inline, Set, Chain, Tree, Unknown, InternalItem, Page, Zero, Meta, Internal, RecnoInternal, Queue}
-use Rattle.bdb_format.specs.Reading.{abstract_page, is_zero, page_as, page_type}
-use Rattle.bdb_format.specs.References.{content_targets, internal_targets, targets_in, targets_of, refs}
-use Rattle.bdb_format.specs.Rows.{form_code, may_have_type}
-use Rattle.bdb_format.proofs.GraphLemmas.{type_fits, queue_types}
-use Rattle.bdb_format.proofs.MemberLemmas.{of_filter, of_map}
+use Rattle.bdb_image.specs.of_format.declared.kinds.Order.{Order}
+use Rattle.bdb_image.specs.of_format.declared.metadata.FileKind.TheVariants.{Queue as QueueFile}
+use Rattle.bdb_image.specs.of_format.declared.metadata.Head.{Head}
+use Rattle.bdb_image.specs.of_format.declared.pages.RecnoItem.{RecnoItem}
+use Rattle.bdb_image.specs.of_format.declared.references.Reference.{Reference}
+use Rattle.bdb_image.specs.of_format.declared.references.Sort.{Sort}
+use Rattle.bdb_image.specs.of_format.declared.references.Sort.TheVariants.{Child}
+use Rattle.bdb_image.specs.of_format.File.{File, file_of, page_at, page_bytes}
+use Rattle.bdb_image.specs.of_format.HeadOf.{head_of}
+use Rattle.bdb_image.specs.of_format.Leaves.{children_in}
+use Rattle.bdb_image.specs.of_format.Numbers.{byte_at}
+use Rattle.bdb_image.specs.of_format.Page.{Content, Inline, Set, Chain, Tree, Unknown, InternalItem, Page, Zero, Meta, Internal, RecnoInternal, Queue}
+use Rattle.bdb_image.specs.of_format.Reading.{abstract_page, is_zero, page_as, page_type}
+use Rattle.bdb_image.specs.of_format.References.{content_targets, internal_targets, targets_in, targets_of, refs}
+use Rattle.bdb_image.specs.of_format.Rows.{form_code, may_have_type}
+use Rattle.bdb_image.proofs.of_format.GraphLemmas.{type_fits, queue_types}
+use Rattle.bdb_image.proofs.of_format.MemberLemmas.{of_filter, of_map}
 use Rattle.bdb_image.specs.Formed.{IsFormed}
 use Rattle.bdb_image.specs.Linked.{IsForest}
 use Rattle.bdb_image.proofs.FirstLemmas.{formed_page}
-use Rattle.bdb_format.proofs.ReferenceLemmas.{forest_names}
-use Rattle.bdb_format.proofs.FileLemmas.{kind_is, last_page, page_is}
+use Rattle.bdb_image.proofs.of_format.ReferenceLemmas.{forest_names}
+use Rattle.bdb_image.proofs.of_format.FileLemmas.{kind_is, last_page, page_is}
 
 -- A queue file.
 

@@ -6,22 +6,22 @@ use Rattle.std.specs.List.{Contains, filter, flat_map, range_with_len}
 use Rattle.std.proofs.lemmas.Bool.{cases_Bool, eqb-false, eq-eqb, ltb-false, or_parts}
 use Rattle.std.proofs.lemmas.List.Elements.{Contains-append_cases, filter-append}
 use Rattle.std.proofs.lemmas.List.Folds.{list_all_at}
-use Rattle.bdb_format.specs.declared.references.Reference.{Reference}
-use Rattle.bdb_format.specs.declared.references.Sort.{Sort}
-use Rattle.bdb_format.specs.declared.references.Sort.TheVariants.{Child}
-use Rattle.bdb_format.specs.File.{File, file_of, page_at}
-use Rattle.bdb_format.specs.References.{refs, asked_by, fit_rows, fit_code}
-use Rattle.bdb_format.specs.Graph.{Owner, all_references, has_heads_alone, held_by, is_head_reference, owners}
-use Rattle.bdb_format.specs.Leaves.{children_in, leaves_in, leaves_under}
-use Rattle.bdb_format.specs.Verdict.{holding, ownership_faults, ownership_rows, reference_faults, faults_in}
-use Rattle.bdb_format.proofs.GraphLemmas.{each_fits}
-use Rattle.bdb_format.proofs.MemberLemmas.{first_member, in_filter, in_range, later_member, member_cases, no_member, of_filter, of_flat_map, of_map}
-use Rattle.bdb_format.proofs.VerdictLemmas.{AllFail, all_fail, no_codes_at, none_is_first_row}
+use Rattle.bdb_image.specs.of_format.declared.references.Reference.{Reference}
+use Rattle.bdb_image.specs.of_format.declared.references.Sort.{Sort}
+use Rattle.bdb_image.specs.of_format.declared.references.Sort.TheVariants.{Child}
+use Rattle.bdb_image.specs.of_format.File.{File, file_of, page_at}
+use Rattle.bdb_image.specs.of_format.References.{refs, asked_by, fit_rows, fit_code}
+use Rattle.bdb_image.specs.of_format.Graph.{Owner, all_references, has_heads_alone, held_by, is_head_reference, owners}
+use Rattle.bdb_image.specs.of_format.Leaves.{children_in, leaves_in, leaves_under}
+use Rattle.bdb_image.specs.of_format.Verdict.{holding, ownership_faults, ownership_rows, reference_faults, faults_in}
+use Rattle.bdb_image.proofs.of_format.GraphLemmas.{each_fits}
+use Rattle.bdb_image.proofs.of_format.MemberLemmas.{first_member, in_filter, in_range, later_member, member_cases, no_member, of_filter, of_flat_map, of_map}
+use Rattle.bdb_image.proofs.of_format.VerdictLemmas.{AllFail, all_fail, no_codes_at, none_is_first_row}
 use Rattle.bdb_graph.specs.Forest.{AllDistinct, IsWayDown, Names, NoLeafTwice, NotIn}
 use Rattle.bdb_image.specs.Linked.{IsForest}
 use Rattle.bdb_graph.proofs.ChildLemmas.{NamesChild, child_named, children_are, children_of, is_child}
 use Rattle.bdb_graph.proofs.ForestLemmas.{IsSoundGraph, few_owners, named_owner, no_page_twice_below, sound_graph}
-use Rattle.bdb_format.proofs.ListLemmas.{only_member}
+use Rattle.bdb_image.proofs.of_format.ListLemmas.{only_member}
 
 -- Members and filters.
 

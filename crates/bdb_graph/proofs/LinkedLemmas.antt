@@ -7,32 +7,32 @@ use Rattle.std.proofs.lemmas.Bool.{eqb-true, ltb-false, or_parts, true≢false}
 use Rattle.std.proofs.lemmas.List.Elements.{Contains-append_right, Contains-get_or}
 use Rattle.std.proofs.lemmas.List.FromFn.{length-range_with_len}
 use Rattle.std.proofs.lemmas.List.Sums.{count_by-le-length, length-filter}
-use Rattle.bdb_format.specs.declared.kinds.Order.{Order}
-use Rattle.bdb_format.specs.declared.metadata.BtreeMeta.{BtreeMeta}
-use Rattle.bdb_format.specs.declared.metadata.HashMeta.{HashMeta}
-use Rattle.bdb_format.specs.declared.metadata.FileKind.{FileKind}
-use Rattle.bdb_format.specs.declared.metadata.FileKind.TheVariants.{Btree, Hash, Queue}
-use Rattle.bdb_format.specs.declared.metadata.Head.{Head}
-use Rattle.bdb_format.specs.declared.references.Reference.{Reference}
-use Rattle.bdb_format.specs.declared.references.Sort.{Sort}
-use Rattle.bdb_format.specs.declared.references.Sort.TheVariants.{Root, Bucket}
-use Rattle.bdb_format.specs.File.{File, file_of, page_at, page_bytes}
-use Rattle.bdb_format.specs.Graph.{Owner, is_meta}
-use Rattle.bdb_format.specs.Hashing.{first_page}
-use Rattle.bdb_format.specs.HeadOf.{head_of}
-use Rattle.bdb_format.specs.Numbers.{byte_at}
-use Rattle.bdb_format.specs.Page.{Page, Zero, Meta, BtreeFields, HashFields}
-use Rattle.bdb_format.specs.Reading.{abstract_page, is_zero, page_as, page_type}
-use Rattle.bdb_format.specs.References.{asked_by, first_free, fit_code, fit_rows, targets_in, targets_of, refs}
-use Rattle.bdb_format.specs.HeadOf.{is_page_size}
-use Rattle.bdb_format.specs.Rows.{body_code, form_code, is_tree_type, may_have_type, page_code, queue_code, type_of}
-use Rattle.bdb_format.proofs.GraphLemmas.{each_fits, type_fits}
-use Rattle.bdb_format.proofs.MemberLemmas.{first_member, in_map, in_range, of_filter, of_range}
-use Rattle.bdb_format.proofs.PageLemmas.{later_type}
-use Rattle.bdb_format.proofs.VerdictLemmas.{AllFail, none_is_first_row}
+use Rattle.bdb_image.specs.of_format.declared.kinds.Order.{Order}
+use Rattle.bdb_image.specs.of_format.declared.metadata.BtreeMeta.{BtreeMeta}
+use Rattle.bdb_image.specs.of_format.declared.metadata.HashMeta.{HashMeta}
+use Rattle.bdb_image.specs.of_format.declared.metadata.FileKind.{FileKind}
+use Rattle.bdb_image.specs.of_format.declared.metadata.FileKind.TheVariants.{Btree, Hash, Queue}
+use Rattle.bdb_image.specs.of_format.declared.metadata.Head.{Head}
+use Rattle.bdb_image.specs.of_format.declared.references.Reference.{Reference}
+use Rattle.bdb_image.specs.of_format.declared.references.Sort.{Sort}
+use Rattle.bdb_image.specs.of_format.declared.references.Sort.TheVariants.{Root, Bucket}
+use Rattle.bdb_image.specs.of_format.File.{File, file_of, page_at, page_bytes}
+use Rattle.bdb_image.specs.of_format.Graph.{Owner, is_meta}
+use Rattle.bdb_image.specs.of_format.Hashing.{first_page}
+use Rattle.bdb_image.specs.of_format.HeadOf.{head_of}
+use Rattle.bdb_image.specs.of_format.Numbers.{byte_at}
+use Rattle.bdb_image.specs.of_format.Page.{Page, Zero, Meta, BtreeFields, HashFields}
+use Rattle.bdb_image.specs.of_format.Reading.{abstract_page, is_zero, page_as, page_type}
+use Rattle.bdb_image.specs.of_format.References.{asked_by, first_free, fit_code, fit_rows, targets_in, targets_of, refs}
+use Rattle.bdb_image.specs.of_format.HeadOf.{is_page_size}
+use Rattle.bdb_image.specs.of_format.Rows.{body_code, form_code, is_tree_type, may_have_type, page_code, queue_code, type_of}
+use Rattle.bdb_image.proofs.of_format.GraphLemmas.{each_fits, type_fits}
+use Rattle.bdb_image.proofs.of_format.MemberLemmas.{first_member, in_map, in_range, of_filter, of_range}
+use Rattle.bdb_image.proofs.of_format.PageLemmas.{later_type}
+use Rattle.bdb_image.proofs.of_format.VerdictLemmas.{AllFail, none_is_first_row}
 use Rattle.bdb_image.specs.Formed.{IsFormed}
 use Rattle.bdb_image.specs.Linked.{HasMetadata, IsTarget, meta_pages}
-use Rattle.bdb_format.specs.Verdict.{faults_in}
+use Rattle.bdb_image.specs.of_format.Verdict.{faults_in}
 use Rattle.bdb_image.specs.of_form.Formed.{fields_as}
 use Rattle.bdb_image.proofs.CodeLemmas.{code_by, form_queue, is_same, not_zero, tree_refused, two_none}
 use Rattle.bdb_image.proofs.FirstLemmas.{formed_page}
@@ -40,9 +40,9 @@ use Rattle.bdb_graph.proofs.ForestLemmas.{sound_graph}
 use Rattle.bdb_image.proofs.HeldLemmas.{identity_none}
 use Rattle.bdb_image.proofs.MetaLemmas.{is_by_fields}
 use Rattle.bdb_image.specs.Metas.{meta_in}
-use Rattle.bdb_format.proofs.ListLemmas.{in_enumerated}
-use Rattle.bdb_format.proofs.ReferenceLemmas.{forest_names, held_in_all, of_all}
-use Rattle.bdb_format.proofs.FileLemmas.{kind_is, last_page, page_is}
+use Rattle.bdb_image.proofs.of_format.ListLemmas.{in_enumerated}
+use Rattle.bdb_image.proofs.of_format.ReferenceLemmas.{forest_names, held_in_all, of_all}
+use Rattle.bdb_image.proofs.of_format.FileLemmas.{kind_is, last_page, page_is}
 
 -- Form.
 

@@ -3,22 +3,22 @@ use Rattle.std.proofs.Common.{◌≡◌, ℕ, ◌<◌, ◌≤◌, true, false, L
 use Rattle.std.proofs.Common.{sym, ◌∙◌, ap, subst, inl, inr}
 use Rattle.std.specs.List.{Contains}
 use Rattle.std.proofs.lemmas.Bool.{cases_eq}
-use Rattle.bdb_format.specs.declared.kinds.Order.{Order}
-use Rattle.bdb_format.specs.declared.metadata.BtreeMeta.{BtreeMeta}
-use Rattle.bdb_format.specs.declared.metadata.FileKind.TheVariants.{Btree}
-use Rattle.bdb_format.specs.ContentRows.{fields_in}
-use Rattle.bdb_format.specs.File.{file_of, page_at, page_bytes}
-use Rattle.bdb_format.specs.Flags.{is_recno, names_databases}
-use Rattle.bdb_format.specs.HeadOf.{head_of, is_page_size}
-use Rattle.bdb_format.specs.Master.{master_in}
-use Rattle.bdb_format.specs.Numbers.{byte_at, four_at, has_bit}
-use Rattle.bdb_format.specs.Page.{Metadata, BtreeFields, HashFields, QueueFields, Page, Meta}
-use Rattle.bdb_format.specs.Reading.{abstract_page, btree_fields, hash_fields, queue_fields}
-use Rattle.bdb_format.specs.Rows.{are_wrong_flags, form_code, metadata_rows}
-use Rattle.bdb_format.proofs.ListLemmas.{only_member}
-use Rattle.bdb_format.proofs.MemberLemmas.{no_member}
-use Rattle.bdb_format.proofs.VerdictLemmas.{AllFail, none_is_first_row}
-use Rattle.bdb_format.proofs.FileLemmas.{last_page, page_is}
+use Rattle.bdb_image.specs.of_format.declared.kinds.Order.{Order}
+use Rattle.bdb_image.specs.of_format.declared.metadata.BtreeMeta.{BtreeMeta}
+use Rattle.bdb_image.specs.of_format.declared.metadata.FileKind.TheVariants.{Btree}
+use Rattle.bdb_image.specs.of_format.ContentRows.{fields_in}
+use Rattle.bdb_image.specs.of_format.File.{file_of, page_at, page_bytes}
+use Rattle.bdb_image.specs.of_format.Flags.{is_recno, names_databases}
+use Rattle.bdb_image.specs.of_format.HeadOf.{head_of, is_page_size}
+use Rattle.bdb_image.specs.of_format.Master.{master_in}
+use Rattle.bdb_image.specs.of_format.Numbers.{byte_at, four_at, has_bit}
+use Rattle.bdb_image.specs.of_format.Page.{Metadata, BtreeFields, HashFields, QueueFields, Page, Meta}
+use Rattle.bdb_image.specs.of_format.Reading.{abstract_page, btree_fields, hash_fields, queue_fields}
+use Rattle.bdb_image.specs.of_format.Rows.{are_wrong_flags, form_code, metadata_rows}
+use Rattle.bdb_image.proofs.of_format.ListLemmas.{only_member}
+use Rattle.bdb_image.proofs.of_format.MemberLemmas.{no_member}
+use Rattle.bdb_image.proofs.of_format.VerdictLemmas.{AllFail, none_is_first_row}
+use Rattle.bdb_image.proofs.of_format.FileLemmas.{last_page, page_is}
 use Rattle.bdb_image.specs.Formed.{IsAccepted}
 use Rattle.bdb_image.specs.Linked.{HasMetadata, IsForest}
 use Rattle.bdb_image.specs.Metas.{meta_in}

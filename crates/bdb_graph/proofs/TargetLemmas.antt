@@ -1,11 +1,11 @@
 -- Laws that several crates use.
-use Rattle.bdb_format.proofs.ReferenceLemmas.{no_refs, of_all}
+use Rattle.bdb_image.proofs.of_format.ReferenceLemmas.{no_refs, of_all}
 use Rattle.std.proofs.Common.{◌≡◌, ℕ}
-use Rattle.bdb_format.specs.declared.metadata.FileKind.TheVariants.{Queue}
-use Rattle.bdb_format.specs.declared.references.Sort.{Sort}
-use Rattle.bdb_format.specs.File.{File}
-use Rattle.bdb_format.specs.References.{refs}
-use Rattle.bdb_format.proofs.MemberLemmas.{no_member}
+use Rattle.bdb_image.specs.of_format.declared.metadata.FileKind.TheVariants.{Queue}
+use Rattle.bdb_image.specs.of_format.declared.references.Sort.{Sort}
+use Rattle.bdb_image.specs.of_format.File.{File}
+use Rattle.bdb_image.specs.of_format.References.{refs}
+use Rattle.bdb_image.proofs.of_format.MemberLemmas.{no_member}
 use Rattle.bdb_image.specs.Linked.{IsTarget}
 
 -- a file with a reference is no queue file

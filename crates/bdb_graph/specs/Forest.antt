@@ -1,13 +1,13 @@
 -- The way from a page up by first owners, and ways down by references. Source: docs/FORMAT.md, "Stage 4, ownership" and "Stage 5, reach".
 use Rattle.std.specs.Prelude.{◌≡◌, ◌≢◌, ℕ, ◌≤◌, ◌||◌, Bool, false, IsTrue, List, [], ◌∷◌, length, Some}
 use Rattle.std.specs.List.{Contains}
-use Rattle.bdb_format.specs.declared.references.Reference.{Reference}
-use Rattle.bdb_format.specs.File.{File, file_of}
-use Rattle.bdb_format.specs.Graph.{first_holder, is_anchor, is_head_reference, is_reserve, owners}
-use Rattle.bdb_format.specs.Leaves.{leaves_in}
-use Rattle.bdb_format.specs.References.{refs}
+use Rattle.bdb_image.specs.of_format.declared.references.Reference.{Reference}
+use Rattle.bdb_image.specs.of_format.File.{File, file_of}
+use Rattle.bdb_image.specs.of_format.Graph.{first_holder, is_anchor, is_head_reference, is_reserve, owners}
+use Rattle.bdb_image.specs.of_format.Leaves.{leaves_in}
+use Rattle.bdb_image.specs.of_format.References.{refs}
 use Rattle.bdb_image.specs.Linked.{IsForest}
-use Rattle.bdb_format.specs.Verdict.{faults_in}
+use Rattle.bdb_image.specs.of_format.Verdict.{faults_in}
 
 abbrev pub NotIn : ℕ → List ℕ → Type 0
 NotIn x [] = Unit {0}

@@ -2,9 +2,9 @@
 use Rattle.std.specs.Prelude.{◌≡◌, ℕ, ◌+◌, ◌-◌, ◌^◌, ◌<◌, ◌≤◌, ◌==◌, min, if◌then◌else◌, Bool, true, false, List, length, get_or, Option, Some, None}
 use Rattle.std.specs.List.{filter, list_all, list_any}
 use Rattle.bdb_graph.specs.declared.tally.Tally.{Tally}
-use Rattle.bdb_format.specs.declared.references.Reference.{Reference}
-use Rattle.bdb_format.specs.File.{File}
-use Rattle.bdb_format.specs.Graph.{Owner, first_holder, is_hash_meta, is_head_reference, owners}
+use Rattle.bdb_image.specs.of_format.declared.references.Reference.{Reference}
+use Rattle.bdb_image.specs.of_format.File.{File}
+use Rattle.bdb_image.specs.of_format.Graph.{Owner, first_holder, is_hash_meta, is_head_reference, owners}
 
 abbrev pub owner : ℕ → Reference → Owner
 owner holder reference = record { holder = holder; reference = reference }

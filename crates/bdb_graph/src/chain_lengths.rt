@@ -1,7 +1,7 @@
 ghost use Rattle.std.specs.Prelude.{◌≡◌, ◌+◌, ◌≤◌, IfOk, length, map};
 ghost use Rattle.std.specs.List.{range_with_len};
-ghost use Rattle.bdb_format.specs.Chains.{next_of, piece_in};
-ghost use Rattle.bdb_format.specs.File.{file_of, page_at};
+ghost use Rattle.bdb_image.specs.of_format.Chains.{next_of, piece_in};
+ghost use Rattle.bdb_image.specs.of_format.File.{file_of, page_at};
 ghost use Rattle.bdb_graph.specs.ChainLengths.{AreLengths, chain_length, kept_length, may_head};
 ghost use Rattle.bdb_graph.specs.Walked.{IsWalked};
 
@@ -18,7 +18,7 @@ pub(crate) struct Link {
 }
 
 /// The link that a page is; one past the last holds nothing.
-#[tactic(auto, using(bdb_format::proofs::FileLemmas::last_page, bdb_format::proofs::FileLemmas::past_last, crate::proofs::ChainLengthLemmas::piece_short))]
+#[tactic(auto, using(crate::proofs::Below::last_page, crate::proofs::Below::past_last, crate::proofs::ChainLengthLemmas::piece_short))]
 pub(crate) fn link_at(formed: &Formed<'_>, number: u32) -> Link
     ensures length { result.length ≡ length (piece_in (page_at (file_of formed.now) number)) }
     ensures next { result.next ≡ next_of (file_of formed.now) number }
@@ -35,7 +35,7 @@ pub(crate) fn link_at(formed: &Formed<'_>, number: u32) -> Link
 }
 
 /// How many bytes the chain with this head has, by one look at each of its pages. It's noted where one of them has none.
-#[tactic(auto, using(bdb_format::proofs::FileLemmas::count_is))]
+#[tactic(auto, using(crate::proofs::Below::count_is))]
 fn chain_length(formed: &Formed<'_>, head: u32, has_blank: &mut bool) -> u32
     ensures { result ≡ chain_length (file_of formed.now) head }
 {
@@ -80,7 +80,7 @@ pub(crate) struct Lengths {
 }
 
 /// What is kept of each page up to the last, four bytes for each.
-#[tactic(auto, using(bdb_format::proofs::FileLemmas::last_page, crate::proofs::ChainLengthLemmas::kept_more))]
+#[tactic(auto, using(crate::proofs::Below::last_page, crate::proofs::ChainLengthLemmas::kept_more))]
 fn kept_lengths(alloc: Global, formed: &Formed<'_>) -> Result<Lengths, AllocError>
     ensures { IfOk result (λ lengths. lengths.kept.items ≡ map (kept_length (file_of formed.now)) (range_with_len 0 ((file_of formed.now).last + 1))) }
 {

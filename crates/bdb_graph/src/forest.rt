@@ -3,20 +3,20 @@ ghost use Rattle.bdb_image.specs.of_form.Seen.{header_seen, page_seen};
 ghost use Rattle.bdb_graph.specs.Blanks.{ArePassedIfAny, IsLent};
 ghost use Rattle.bdb_image.specs.Linked.{IsForest};
 ghost use Rattle.std.specs.List.{list_any};
-ghost use Rattle.bdb_format.specs.Graph.{all_references};
+ghost use Rattle.bdb_image.specs.of_format.Graph.{all_references};
 ghost use Rattle.bdb_graph.specs.Walked.{names_head, names_set};
 ghost use Rattle.bdb_image.specs.Metas.{meta_in, meta_seen};
 ghost use Rattle.std.specs.Option.{option_map};
-ghost use Rattle.bdb_format.specs.File.{file_of, page_at, page_bytes};
-ghost use Rattle.bdb_format.specs.HeadOf.{head_of, is_page_size};
-ghost use Rattle.bdb_format.specs.Reading.{abstract_page, header_of};
-ghost use Rattle.bdb_format.specs.Rows.{form_code};
-ghost use Rattle.bdb_format.specs.declared.metadata.FileKind.TheVariants.{Queue};
+ghost use Rattle.bdb_image.specs.of_format.File.{file_of, page_at, page_bytes};
+ghost use Rattle.bdb_image.specs.of_format.HeadOf.{head_of, is_page_size};
+ghost use Rattle.bdb_image.specs.of_format.Reading.{abstract_page, header_of};
+ghost use Rattle.bdb_image.specs.of_format.Rows.{form_code};
+ghost use Rattle.bdb_image.specs.of_format.declared.metadata.FileKind.TheVariants.{Queue};
 
 use crate::tally::Kinds;
 use crate::{Blanks, Formed, Meta};
-use bdb_format::{FileKind, Head};
 use bdb_image::bdb_form::{MetaView, PageView, known_form, known_queue_form};
+use bdb_image::bdb_format::{FileKind, Head};
 use bdb_image::meta_at;
 use std::marker::Model;
 
@@ -119,7 +119,7 @@ impl<'a> Forest<'a> {
     }
 
     /// A page up to the last one, by its type.
-    #[tactic(auto, using(bdb_format::proofs::FileLemmas::page_is, bdb_format::proofs::FileLemmas::last_page, bdb_format::proofs::FileLemmas::kind_is))]
+    #[tactic(auto, using(crate::proofs::Below::page_is, crate::proofs::Below::last_page, crate::proofs::Below::kind_is))]
     pub fn page(&self, number: u32) -> PageView<'a>
         requires { number ≤ (file_of self.now).last }
         ensures page { page_seen result ≡ page_at (file_of self.now) number }

@@ -15,10 +15,10 @@ mod roles;
 mod table;
 mod tally;
 
-pub use bdb_format::{Reference, Sort};
+pub use bdb_image::bdb_format::{Reference, Sort};
 pub use bdb_image::{
-    Formed, Meta, References, bdb_faults, bdb_form, bdb_layout, bdb_meta, open_all, open_image,
-    references,
+    Formed, Meta, References, bdb_faults, bdb_form, bdb_format, bdb_layout, bdb_meta, open_all,
+    open_image, references,
 };
 pub use blanks::Blanks;
 pub use forest::Forest;

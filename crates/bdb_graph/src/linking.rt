@@ -1,8 +1,8 @@
 ghost use Rattle.std.specs.Prelude.{◌≡◌, ◌≤◌, ◌+◌, [], ◌∷◌, IfErr, IfOk, OnOk};
 ghost use Rattle.bdb_image.specs.of_faults.All.{IsAllOf};
 ghost use Rattle.bdb_image.specs.of_faults.Notes.{NotesAll};
-ghost use Rattle.bdb_format.specs.File.{file_of};
-ghost use Rattle.bdb_format.specs.Verdict.{faults_in, reference_faults, IsFirstOf};
+ghost use Rattle.bdb_image.specs.of_format.File.{file_of};
+ghost use Rattle.bdb_image.specs.of_format.Verdict.{faults_in, reference_faults, IsFirstOf};
 ghost use Rattle.bdb_graph.specs.Owned.{AreFew, AreOwned};
 ghost use Rattle.bdb_graph.specs.Walked.{IsWalked};
 
@@ -13,8 +13,8 @@ use crate::reach::note_reach;
 use crate::roles::Roles;
 use crate::tally::{Kinds, note_references};
 use crate::{Forest, Formed, Linked};
-use bdb_format::{CheckError, Steps};
 use bdb_image::bdb_faults::{AllError, FaultSink, First, NamedList, refused_by};
+use bdb_image::bdb_format::{CheckError, Steps};
 use bdb_image::metas_of;
 use std::alloc::{AllocError, Global};
 use std::sync::ledger::Ledger;

@@ -1,9 +1,9 @@
 ghost use Rattle.std.specs.Prelude.{◌≡◌, ◌≤◌, ◌+◌, ◌&&◌, ◌||◌, not, IsTrue, OnErr, OnOk};
 ghost use Rattle.bdb_image.specs.of_faults.Notes.{NotesAll};
-ghost use Rattle.bdb_format.specs.File.{file_of};
-ghost use Rattle.bdb_format.specs.Graph.{is_anchor, is_owned_twice, is_reserve, is_shared_too_often, is_unowned};
-ghost use Rattle.bdb_format.specs.Verdict.{ownership_faults, ownership_rows};
-ghost use Rattle.bdb_format.specs.ByPage.{holding};
+ghost use Rattle.bdb_image.specs.of_format.File.{file_of};
+ghost use Rattle.bdb_image.specs.of_format.Graph.{is_anchor, is_owned_twice, is_reserve, is_shared_too_often, is_unowned};
+ghost use Rattle.bdb_image.specs.of_format.Verdict.{ownership_faults, ownership_rows};
+ghost use Rattle.bdb_image.specs.of_format.ByPage.{holding};
 ghost use Rattle.bdb_image.specs.Noted.{page_faults};
 ghost use Rattle.bdb_graph.specs.Owned.{AreFew, IsFew};
 
@@ -12,7 +12,7 @@ use bdb_image::bdb_faults::{FaultSink, OwnershipRow, Row, note_if};
 use std::alloc::AllocError;
 
 /// Notes the pages from 1 on that have no owner and need one, or more than they may have.
-#[tactic(auto, using(bdb_format::proofs::FileLemmas::last_page))]
+#[tactic(auto, using(crate::proofs::Below::last_page))]
 pub(crate) fn note_owners<F: FaultSink>(roles: &Roles<'_>, found: &mut F) -> Result<(), AllocError>
     ensures noted { OnOk result (NotesAll (F.has_noted found.old) (F.has_noted found.new) (ownership_faults (file_of roles.now))) }
     ensures few { OnOk result (AreFew (file_of roles.now) ((file_of roles.now).last + 1)) }

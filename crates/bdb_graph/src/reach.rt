@@ -1,9 +1,9 @@
 ghost use Rattle.std.specs.Prelude.{◌≡◌, ◌≤◌, ◌+◌, OnOk, [], length};
 ghost use Rattle.bdb_image.specs.of_faults.Notes.{NotesAll};
 ghost use Rattle.bdb_graph.specs.Marks.{AreSettled, HasWay, IsFit};
-ghost use Rattle.bdb_format.specs.File.{file_of};
-ghost use Rattle.bdb_format.specs.Graph.{reaches};
-ghost use Rattle.bdb_format.specs.Verdict.{reach_faults, reference_faults};
+ghost use Rattle.bdb_image.specs.of_format.File.{file_of};
+ghost use Rattle.bdb_image.specs.of_format.Graph.{reaches};
+ghost use Rattle.bdb_image.specs.of_format.Verdict.{reach_faults, reference_faults};
 
 use crate::roles::Roles;
 use bdb_image::bdb_faults::{FaultSink, ReachRow, Row, note_if};
@@ -20,7 +20,7 @@ pub(crate) enum Mark {
 /// Notes the pages from 1 on that don't reach an anchor or a reserve by the holders of first references. An error is
 /// want of memory. It takes a byte for each page, and comes to each page twice at most, besides the end of each
 /// way: once on the way up, and once to mark it, whether it reaches or not.
-#[tactic(auto, using(bdb_format::proofs::FileLemmas::last_page, crate::proofs::ReachLemmas::fit_file))]
+#[tactic(auto, using(crate::proofs::Below::last_page, crate::proofs::ReachLemmas::fit_file))]
 pub(crate) fn note_reach<F: FaultSink>(
     alloc: Global,
     roles: &Roles<'_>,

@@ -4,13 +4,13 @@ ghost use Rattle.bdb_image.specs.Formed.{IsFormed};
 ghost use Rattle.bdb_graph.specs.Tallies.{AreTalliesOf, IsTally};
 ghost use Rattle.bdb_graph.specs.Forest.{is_top};
 ghost use Rattle.bdb_graph.specs.Owned.{AreCounts};
-ghost use Rattle.bdb_format.specs.File.{file_of, page_at};
-ghost use Rattle.bdb_format.specs.HeadOf.{head_of};
-ghost use Rattle.bdb_format.specs.Graph.{first_holder, is_anchor, is_hash_meta, is_reserve, owners};
+ghost use Rattle.bdb_image.specs.of_format.File.{file_of, page_at};
+ghost use Rattle.bdb_image.specs.of_format.HeadOf.{head_of};
+ghost use Rattle.bdb_image.specs.of_format.Graph.{first_holder, is_anchor, is_hash_meta, is_reserve, owners};
 
 use crate::Formed;
 use crate::tally::Tally;
-use bdb_format::{FileKind, Head};
+use bdb_image::bdb_format::{FileKind, Head};
 use bdb_image::{FormedPage, page_at};
 use std::alloc::{AllocError, Global};
 use std::marker::Model;
@@ -26,7 +26,7 @@ pub(crate) struct Roles<'a> {
 impl<'a> Model for Roles<'a> {
     ghost use Rattle.std.specs.Prelude.{List, ℕ};
     ghost use Rattle.bdb_graph.specs.Tallies.{AreCounted};
-    ghost use Rattle.bdb_format.specs.File.{file_of};
+    ghost use Rattle.bdb_image.specs.of_format.File.{file_of};
 
     ghost Value = { List ℕ };
 
@@ -95,7 +95,7 @@ impl<'a> Roles<'a> {
     }
 
     /// Whether a page needs no owner: it's metadata, or a page of a queue file.
-    #[tactic(auto, using(bdb_format::proofs::FileLemmas::kind_is), unfolding(bdb_format::specs::Graph::is_anchor))]
+    #[tactic(auto, using(crate::proofs::Below::kind_is), unfolding(crate::specs::Below::is_anchor))]
     fn is_anchor(&self, page: u32) -> bool
         requires { page ≤ (file_of self.now).last }
         ensures { result ≡ is_anchor (file_of self.now) page }
@@ -107,7 +107,7 @@ impl<'a> Roles<'a> {
     }
 
     /// Whether a table holds a page in reserve.
-    #[tactic(auto, using(bdb_image::proofs::RoleLemmas::counts_none), unfolding(bdb_format::specs::Graph::is_reserve))]
+    #[tactic(auto, using(bdb_image::proofs::RoleLemmas::counts_none), unfolding(crate::specs::Below::is_reserve))]
     fn is_reserve(&self, page: u32) -> bool
         requires { page ≤ (file_of self.now).last }
         ensures { result ≡ is_reserve (file_of self.now) page }
@@ -125,7 +125,7 @@ impl<'a> Roles<'a> {
 }
 
 /// Whether a page is the metadata of a hash table.
-#[tactic(auto, using(bdb_format::proofs::FileLemmas::last_page, bdb_image::proofs::RoleLemmas::some_table, bdb_image::proofs::RoleLemmas::no_table))]
+#[tactic(auto, using(crate::proofs::Below::last_page, bdb_image::proofs::RoleLemmas::some_table, bdb_image::proofs::RoleLemmas::no_table))]
 fn has_table(formed: &Formed<'_>) -> bool
     ensures { result ≡ list_any is_hash_meta (file_of formed.now).pages }
 {

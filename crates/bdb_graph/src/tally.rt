@@ -3,16 +3,16 @@ ghost use Rattle.bdb_image.specs.of_faults.Notes.{NotesAll};
 ghost use Rattle.bdb_graph.specs.Leaps.{AreKnownIfAny, full_at, is_full};
 ghost use Rattle.bdb_image.specs.Noted.{misfits_of};
 ghost use Rattle.bdb_graph.specs.Tallies.{AreTallies, AreTalliesOf, IsTally, first_of, owner};
-ghost use Rattle.bdb_format.specs.File.{file_of};
-ghost use Rattle.bdb_format.specs.Graph.{Owner, all_references, is_head_reference};
+ghost use Rattle.bdb_image.specs.of_format.File.{file_of};
+ghost use Rattle.bdb_image.specs.of_format.Graph.{Owner, all_references, is_head_reference};
 ghost use Rattle.bdb_graph.specs.Walked.{AreKinds, is_set_reference};
-ghost use Rattle.bdb_format.specs.References.{fit_code, refs};
-ghost use Rattle.bdb_format.specs.Verdict.{reference_faults};
+ghost use Rattle.bdb_image.specs.of_format.References.{fit_code, refs};
+ghost use Rattle.bdb_image.specs.of_format.Verdict.{reference_faults};
 
 use crate::table::{BucketPages, tally_table};
 use crate::{Formed, references};
-use bdb_format::{Reference, Sort, Steps};
 use bdb_image::bdb_faults::FaultSink;
+use bdb_image::bdb_format::{Reference, Sort, Steps};
 use bdb_image::{Misfits, misfit};
 use std::alloc::{AllocError, Global};
 use std::sync::ledger::Ledger;
@@ -94,7 +94,7 @@ impl Tally {
 /// Notes the references that don't fit, and tells the tallies of pages 0 to the last: the one walk over the
 /// references of the file, with one step for each page. An error is want of memory. It takes 12 bytes for each page, and
 /// as many more while it runs over a file with a table.
-#[tactic(auto, using(bdb_format::proofs::FileLemmas::last_page))]
+#[tactic(auto, using(crate::proofs::Below::last_page))]
 pub(crate) fn note_references<L: Ledger, F: FaultSink>(
     alloc: Global,
     formed: &Formed<'_>,

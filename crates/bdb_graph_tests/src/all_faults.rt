@@ -3,12 +3,12 @@
 ghost use Rattle.std.specs.Prelude.{◌≡◌, ◌≤◌, ◌^◌, length};
 
 use crate::linking::{PAIR, TREE};
-use bdb_format::{Fault, Order, Steps, Unsupported};
-use bdb_overflow::bdb_faults::{AllError, Named};
-use bdb_overflow::bdb_graph::{link_all, open_all};
 use std::alloc::Global;
 use std::marker::Brand;
 use std::sync::ledger::{Blank, Ledger};
+use test_images::bdb_faults::{AllError, Named};
+use test_images::bdb_format::{Fault, Order, Steps, Unsupported};
+use test_images::bdb_graph::{link_all, open_all};
 use test_images::{Field, is_list_of, write};
 
 const SIZE: usize = 5 * 512;

@@ -1,19 +1,21 @@
 //! Chains and the values that they hold. Values: docs/FORMAT.md, "Other pages" and "Stage 6, chains and trees".
 
 ghost use Rattle.std.specs.Prelude.{◌≡◌, IfSome};
-ghost use Rattle.bdb_overflow.specs.of_image.Linked.{FitsChain};
-ghost use Rattle.bdb_format.specs.File.{file_of};
+ghost use Rattle.test_images.specs.of_image.Linked.{FitsChain};
+ghost use Rattle.test_images.specs.of_format.File.{file_of};
 
 use crate::fields::BTREE;
-use bdb_format::{Fault, Order, Steps};
-use bdb_overflow::bdb_form::PageView;
-use bdb_overflow::bdb_graph::{Linked, link, open_image};
-use bdb_overflow::bdb_layout::LeafItem;
-use bdb_overflow::{Datum, Pieces, check_chains, compare_datum, leaf_datum, pieces, pieces_at};
 use std::alloc::Global;
 use std::cmp::Ordering;
 use std::marker::Brand;
 use std::sync::ledger::{Blank, Ledger};
+use test_images::bdb_form::PageView;
+use test_images::bdb_format::{Fault, Order, Steps};
+use test_images::bdb_graph::{Linked, link, open_image};
+use test_images::bdb_layout::LeafItem;
+use test_images::bdb_overflow::{
+    Datum, Pieces, check_chains, compare_datum, leaf_datum, pieces, pieces_at,
+};
 use test_images::{Field, write};
 
 const PAGE: usize = 512;
@@ -136,7 +138,7 @@ enum Told {
 }
 
 // The item of the data on the leaf, where the image is linked.
-#[tactic(auto, using(bdb_format::proofs::FileLemmas::last_page, bdb_overflow::proofs::ContentLemmas::leaf_item_fits))]
+#[tactic(auto, using(crate::proofs::Below::last_page, crate::proofs::Below::leaf_item_fits))]
 fn datum_in<'a>(linked: &Linked<'a>) -> Option<Datum<'a>> {
     let forest = linked.forest();
     if forest.head().last < 1 {
@@ -149,7 +151,7 @@ fn datum_in<'a>(linked: &Linked<'a>) -> Option<Datum<'a>> {
 }
 
 // The head of its chain.
-#[tactic(auto, using(bdb_format::proofs::FileLemmas::last_page, bdb_overflow::proofs::ContentLemmas::leaf_item_fits))]
+#[tactic(auto, using(crate::proofs::Below::last_page, crate::proofs::Below::leaf_item_fits))]
 fn head_in(linked: &Linked<'_>) -> Option<u32>
     ensures { IfSome result (λ head. FitsChain (file_of linked.now) head) }
 {
@@ -172,7 +174,7 @@ fn pieces_in<'a>(linked: &Linked<'a>) -> Option<Pieces<'a>> {
     Some(pieces(linked, linked.chain(head)))
 }
 
-#[tactic(auto, using(bdb_overflow::proofs::LinkedLemmas::legal_size, bdb_overflow::proofs::LinkedLemmas::linked_whole))]
+#[tactic(auto, using(crate::proofs::Below::legal_size, crate::proofs::Below::linked_whole))]
 fn bare_pieces_in<'a>(linked: &Linked<'a>) -> Option<Pieces<'a>> {
     let head = head_in(linked)?;
     let forest = linked.forest();

@@ -2,22 +2,22 @@
 
 ghost use Rattle.std.specs.Prelude.{◌≡◌, ◌+◌, ◌≤◌, ◌<◌, ◌∷◌, [], IsTrue};
 ghost use Rattle.std.specs.Bool.{OnTrue};
-ghost use Rattle.bdb_overflow.specs.of_form.Seen.{page_seen};
-ghost use Rattle.bdb_overflow.specs.of_image.Linked.{FitsTreeRoot};
+ghost use Rattle.test_images.specs.of_form.Seen.{page_seen};
+ghost use Rattle.test_images.specs.of_image.Linked.{FitsTreeRoot};
 ghost use Rattle.bdb_graph_tests.specs.Sought.{AllFit, IsFit, is_above};
-ghost use Rattle.bdb_format.specs.File.{file_of, page_at, type_in};
-ghost use Rattle.bdb_format.specs.Less.{less};
-ghost use Rattle.bdb_format.specs.References.{has_type};
+ghost use Rattle.test_images.specs.of_format.File.{file_of, page_at, type_in};
+ghost use Rattle.test_images.specs.of_format.Less.{less};
+ghost use Rattle.test_images.specs.of_format.References.{has_type};
 ghost use Rattle.test_images.specs.of_tree.Descent.{IsMonotone};
 
-use bdb_format::{Order, Steps};
-use bdb_overflow::bdb_form::{InternalView, PageView};
-use bdb_overflow::bdb_graph::{Linked, Meta, Ref, TreeRoot, link, open_image};
-use bdb_overflow::bdb_layout::{InternalItem, InternalKey, compare};
 use std::alloc::Global;
 use std::cmp::Ordering;
 use std::marker::Brand;
 use std::sync::ledger::{Blank, Ledger};
+use test_images::bdb_form::{InternalView, PageView};
+use test_images::bdb_format::{Order, Steps};
+use test_images::bdb_graph::{Linked, Meta, Ref, TreeRoot, link, open_image};
+use test_images::bdb_layout::{InternalItem, InternalKey, compare};
 use test_images::bdb_tree::{Separate, descend_by};
 use test_images::{Field, write};
 
@@ -134,7 +134,7 @@ impl<'a> Separate for Sought<'a> {
     }
 }
 
-#[tactic(auto, using(bdb_format::proofs::LessLemmas::not_less_same, bdb_format::proofs::LessLemmas::not_less_both))]
+#[tactic(auto, using(crate::proofs::Below::not_less_same, crate::proofs::Below::not_less_both))]
 fn is_less(a: &[u8], b: &[u8]) -> bool
     ensures { result ≡ less a.now b.now }
 {
@@ -168,7 +168,7 @@ fn is_fit(linked: &Linked<'_>, number: u32, sought: &Sought<'_>) -> bool
 }
 
 /// Whether a key can be sought by halves on each internal page.
-#[tactic(auto, using(bdb_format::proofs::FileLemmas::last_page))]
+#[tactic(auto, using(crate::proofs::Below::last_page))]
 fn are_fit(linked: &Linked<'_>, sought: &Sought<'_>) -> bool
     ensures { OnTrue result (AllFit sought.now.key.now (file_of linked.now) ((file_of linked.now).last + 1)) }
 {
@@ -192,7 +192,7 @@ fn is_keyed(linked: &Linked<'_>, root: u32) -> bool
 }
 
 /// The leaf to which a key leads, where it can be sought.
-#[tactic(auto, using(bdb_format::proofs::FileLemmas::last_page))]
+#[tactic(auto, using(crate::proofs::Below::last_page))]
 fn leaf_below<L: Ledger>(
     linked: &Linked<'_>,
     root: Ref<TreeRoot>,

@@ -2,12 +2,12 @@
 
 ghost use Rattle.std.specs.Prelude.{◌≡◌};
 
-use bdb_format::{CheckError, Fault, Order, Steps};
-use bdb_overflow::bdb_form::PageView;
-use bdb_overflow::bdb_graph::{Linked, link, open_image};
 use std::alloc::Global;
 use std::marker::Brand;
 use std::sync::ledger::{Blank, Ledger};
+use test_images::bdb_form::PageView;
+use test_images::bdb_format::{CheckError, Fault, Order, Steps};
+use test_images::bdb_graph::{Linked, link, open_image};
 use test_images::bdb_tree::{check_trees, leaves_below, next_level};
 use test_images::{Field, write};
 
@@ -340,7 +340,7 @@ fn tells_the_first_fault_of_the_leaves(rt: HostRuntime) {
 }
 
 /// Whether these are the leaves below page 1, and these the pages right below it.
-#[tactic(auto, using(bdb_format::proofs::FileLemmas::last_page))]
+#[tactic(auto, using(crate::proofs::Below::last_page))]
 fn has_below(alloc: Global, linked: &Linked<'_>, leaves: &[u32], children: &[u32]) -> bool {
     let forest = linked.forest();
     if forest.head().last < 1 {

@@ -1,15 +1,15 @@
 //! Walks of a tree by its links. Values: docs/FORMAT.md, "Other pages" and "Items".
 
 ghost use Rattle.std.specs.Prelude.{◌≡◌, IfSome};
-ghost use Rattle.bdb_overflow.specs.of_image.Linked.{FitsTreeRoot};
-ghost use Rattle.bdb_format.specs.File.{file_of};
+ghost use Rattle.test_images.specs.of_image.Linked.{FitsTreeRoot};
+ghost use Rattle.test_images.specs.of_format.File.{file_of};
 
 use crate::fields::BTREE;
-use bdb_format::{Order, Steps};
-use bdb_overflow::bdb_graph::{Linked, Meta, Ref, TreeRoot, link, open_image};
 use std::alloc::Global;
 use std::marker::Brand;
 use std::sync::ledger::{Blank, Ledger};
+use test_images::bdb_format::{Order, Steps};
+use test_images::bdb_graph::{Linked, Meta, Ref, TreeRoot, link, open_image};
 use test_images::bdb_tree::{first_leaf, leaves};
 use test_images::{Field, has_sound_trees, write};
 

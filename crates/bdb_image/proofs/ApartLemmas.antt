@@ -3,11 +3,11 @@ use Rattle.std.proofs.Common.{◌≡◌, ℕ, suc, ◌+◌, ◌-◌, ◌≤◌, 
 use Rattle.std.proofs.lemmas.List.{map-append}
 use Rattle.std.proofs.lemmas.List.FromFn.{length-map-range_with_len}
 use Rattle.std.specs.Prelude.{None, Some}
-use Rattle.bdb_format.specs.declared.references.Reference.{Reference}
-use Rattle.bdb_format.specs.declared.references.Sort.{Sort}
-use Rattle.bdb_format.specs.declared.references.Sort.TheVariants.{Free as FreeRef}
-use Rattle.bdb_format.specs.References.{unless_zero}
-use Rattle.bdb_format.proofs.ListLemmas.{range_parts}
+use Rattle.bdb_faults.specs.of_format.declared.references.Reference.{Reference}
+use Rattle.bdb_faults.specs.of_format.declared.references.Sort.{Sort}
+use Rattle.bdb_faults.specs.of_format.declared.references.Sort.TheVariants.{Free as FreeRef}
+use Rattle.bdb_faults.specs.of_format.References.{unless_zero}
+use Rattle.bdb_faults.proofs.of_format.ListLemmas.{range_parts}
 use Rattle.bdb_slots.specs.declared.source.Source.{Source}
 use Rattle.bdb_slots.specs.declared.source.Source.TheVariants.{Next, Table}
 use Rattle.bdb_image.specs.Buckets.{IsApart, bucket_names, run_names, run_refs}

@@ -11,23 +11,23 @@ use Rattle.std.proofs.lemmas.List.{get_or_append_left, get_or_push}
 use Rattle.std.proofs.lemmas.List.Folds.{list_any-append}
 use Rattle.std.specs.Prelude.{get_or, min, nat_lt, ◌==◌, ◌&&◌, ◌||◌, not, Option, None, Some}
 use Rattle.std.specs.List.{list_any, range_with_len}
-use Rattle.bdb_format.specs.declared.references.Reference.{Reference}
-use Rattle.bdb_format.specs.declared.references.Sort.TheVariants.{Bucket}
-use Rattle.bdb_format.specs.declared.metadata.Head.{Head}
-use Rattle.bdb_format.specs.File.{File, file_of, page_at, page_bytes}
-use Rattle.bdb_format.specs.HeadOf.{head_of}
-use Rattle.bdb_format.specs.Numbers.{byte_at, four_at}
-use Rattle.bdb_format.specs.Reading.{is_zero, page_type}
-use Rattle.bdb_format.specs.Rows.{form_code, identity_rows, may_have_type, typed_code}
-use Rattle.bdb_format.specs.Page.{Zero}
-use Rattle.bdb_format.proofs.FileLemmas.{last_page, page_is}
-use Rattle.bdb_format.proofs.GraphLemmas.{zero_page}
+use Rattle.bdb_faults.specs.of_format.declared.references.Reference.{Reference}
+use Rattle.bdb_faults.specs.of_format.declared.references.Sort.TheVariants.{Bucket}
+use Rattle.bdb_faults.specs.of_format.declared.metadata.Head.{Head}
+use Rattle.bdb_faults.specs.of_format.File.{File, file_of, page_at, page_bytes}
+use Rattle.bdb_faults.specs.of_format.HeadOf.{head_of}
+use Rattle.bdb_faults.specs.of_format.Numbers.{byte_at, four_at}
+use Rattle.bdb_faults.specs.of_format.Reading.{is_zero, page_type}
+use Rattle.bdb_faults.specs.of_format.Rows.{form_code, identity_rows, may_have_type, typed_code}
+use Rattle.bdb_faults.specs.of_format.Page.{Zero}
+use Rattle.bdb_faults.proofs.of_format.FileLemmas.{last_page, page_is}
+use Rattle.bdb_faults.proofs.of_format.GraphLemmas.{zero_page}
 use Rattle.bdb_image.proofs.CodeLemmas.{identity_fails}
-use Rattle.bdb_format.specs.Hashing.{first_page, group}
-use Rattle.bdb_format.specs.References.{Asked, asked_by, fit_code}
-use Rattle.bdb_format.specs.Table.{◌:?◌, first_row}
-use Rattle.bdb_format.specs.Verdict.{fails_as}
-use Rattle.bdb_format.proofs.ListLemmas.{range_more, range_parts}
+use Rattle.bdb_faults.specs.of_format.Hashing.{first_page, group}
+use Rattle.bdb_faults.specs.of_format.References.{Asked, asked_by, fit_code}
+use Rattle.bdb_faults.specs.of_format.Table.{◌:?◌, first_row}
+use Rattle.bdb_faults.specs.of_format.Verdict.{fails_as}
+use Rattle.bdb_faults.proofs.of_format.ListLemmas.{range_more, range_parts}
 use Rattle.bdb_meta.proofs.of_layout.HashingLemmas.{below_group, group-le}
 use Rattle.bdb_image.specs.declared.fits.Misfits.{Misfits}
 use Rattle.bdb_image.specs.Buckets.{AreLasts, IsLast, bucket_names, fails_as_bucket, run_names, run_refs}

@@ -5,23 +5,23 @@ use Rattle.std.specs.Option.{option_map}
 use Rattle.std.specs.Result.{result_err}
 use Rattle.std.proofs.lemmas.Bool.{eqb-true, lt-ltb}
 use Rattle.std.proofs.lemmas.List.Folds.{list_all_at}
-use Rattle.bdb_format.specs.declared.kinds.Order.{Order}
-use Rattle.bdb_format.specs.declared.metadata.FileKind.{FileKind}
-use Rattle.bdb_format.specs.declared.metadata.FileKind.TheVariants.{Btree, Hash, Queue}
-use Rattle.bdb_format.specs.declared.metadata.Head.{Head}
-use Rattle.bdb_format.specs.declared.metadata.MetaFault.{MetaFault}
-use Rattle.bdb_format.specs.declared.metadata.MetaFault.TheVariants.{Fault as CodeFault}
-use Rattle.bdb_format.specs.HeadOf.{faulted, form_fault}
-use Rattle.bdb_format.specs.Numbers.{byte_at, two_at}
-use Rattle.bdb_format.specs.Page.{PageType, FreePage, HashPage, InternalPage, RecnoInternalPage, LeafPage, RecnoLeafPage, OverflowPage, HashMetaPage}
-use Rattle.bdb_format.specs.Page.{BtreeMetaPage, QueueMetaPage, QueuePage, DupLeafPage, OtherPage}
-use Rattle.bdb_format.specs.Reading.{is_zero, page_type}
-use Rattle.bdb_format.specs.Rows.{body_code, form_code, identity_rows, index_rows, is_queue_type, is_tree_type, all_item_rows, field_rows, listed_code}
-use Rattle.bdb_format.specs.Rows.{may_have_type, metadata_rows, page_code, queue_code, type_of, typed_code}
-use Rattle.bdb_format.specs.Table.{Row, ◌:?◌, answer, first_row}
-use Rattle.bdb_format.proofs.PageLemmas.{later_type, metadata_code}
-use Rattle.bdb_format.proofs.SizeLemmas.{size_bounds}
-use Rattle.bdb_format.specs.HeadOf.{is_page_size}
+use Rattle.bdb_faults.specs.of_format.declared.kinds.Order.{Order}
+use Rattle.bdb_faults.specs.of_format.declared.metadata.FileKind.{FileKind}
+use Rattle.bdb_faults.specs.of_format.declared.metadata.FileKind.TheVariants.{Btree, Hash, Queue}
+use Rattle.bdb_faults.specs.of_format.declared.metadata.Head.{Head}
+use Rattle.bdb_faults.specs.of_format.declared.metadata.MetaFault.{MetaFault}
+use Rattle.bdb_faults.specs.of_format.declared.metadata.MetaFault.TheVariants.{Fault as CodeFault}
+use Rattle.bdb_faults.specs.of_format.HeadOf.{faulted, form_fault}
+use Rattle.bdb_faults.specs.of_format.Numbers.{byte_at, two_at}
+use Rattle.bdb_faults.specs.of_format.Page.{PageType, FreePage, HashPage, InternalPage, RecnoInternalPage, LeafPage, RecnoLeafPage, OverflowPage, HashMetaPage}
+use Rattle.bdb_faults.specs.of_format.Page.{BtreeMetaPage, QueueMetaPage, QueuePage, DupLeafPage, OtherPage}
+use Rattle.bdb_faults.specs.of_format.Reading.{is_zero, page_type}
+use Rattle.bdb_faults.specs.of_format.Rows.{body_code, form_code, identity_rows, index_rows, is_queue_type, is_tree_type, all_item_rows, field_rows, listed_code}
+use Rattle.bdb_faults.specs.of_format.Rows.{may_have_type, metadata_rows, page_code, queue_code, type_of, typed_code}
+use Rattle.bdb_faults.specs.of_format.Table.{Row, ◌:?◌, answer, first_row}
+use Rattle.bdb_faults.proofs.of_format.PageLemmas.{later_type, metadata_code}
+use Rattle.bdb_faults.proofs.of_format.SizeLemmas.{size_bounds}
+use Rattle.bdb_faults.specs.of_format.HeadOf.{is_page_size}
 
 -- What the calls answer.
 

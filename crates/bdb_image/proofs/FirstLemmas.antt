@@ -2,14 +2,14 @@
 use Rattle.std.proofs.Common.{◌≡◌, ℕ, ◌+◌, ◌^◌, ◌<◌, ◌≤◌, true, false, cond, List, [], ◌∷◌, arith, refl}
 use Rattle.std.specs.Prelude.{Some, None, Result, Ok, Err}
 use Rattle.std.specs.Option.{option_to_list}
-use Rattle.bdb_format.specs.declared.metadata.Head.{Head}
-use Rattle.bdb_format.specs.declared.metadata.MetaFault.{MetaFault}
-use Rattle.bdb_format.specs.File.{page_bytes}
-use Rattle.bdb_format.specs.HeadOf.{faulted, head_of, head_rows}
-use Rattle.bdb_format.specs.Rows.{form_code}
-use Rattle.bdb_format.specs.Table.{Row, answer, first_row}
-use Rattle.bdb_format.specs.Verdict.{faults_in, form_faults, head_faults, tail_faults}
-use Rattle.bdb_format.proofs.VerdictLemmas.{no_code, no_codes_at, none_within, or_else_none}
+use Rattle.bdb_faults.specs.of_format.declared.metadata.Head.{Head}
+use Rattle.bdb_faults.specs.of_format.declared.metadata.MetaFault.{MetaFault}
+use Rattle.bdb_faults.specs.of_format.File.{page_bytes}
+use Rattle.bdb_faults.specs.of_format.HeadOf.{faulted, head_of, head_rows}
+use Rattle.bdb_faults.specs.of_format.Rows.{form_code}
+use Rattle.bdb_faults.specs.of_format.Table.{Row, answer, first_row}
+use Rattle.bdb_faults.specs.of_format.Verdict.{faults_in, form_faults, head_faults, tail_faults}
+use Rattle.bdb_faults.proofs.of_format.VerdictLemmas.{no_code, no_codes_at, none_within, or_else_none}
 use Rattle.bdb_image.proofs.FormedLemmas.{IsPaged, accepted_paged}
 use Rattle.bdb_image.specs.Formed.{IsAccepted, IsFormed}
 

@@ -4,25 +4,25 @@ use Rattle.std.specs.Prelude.{Option, Some, None, ◌==◌, ◌||◌, nat_lt}
 use Rattle.std.specs.List.{list_any}
 use Rattle.std.proofs.lemmas.Bool.{cases_Bool, cases_eq, cases_order, eqb-true, eqb-false, le-ltb, lt-ltb, ne_eqb, or_from}
 use Rattle.std.proofs.Math.Bool.{or-true}
-use Rattle.bdb_format.specs.declared.kinds.Fault.{Fault}
-use Rattle.bdb_format.specs.declared.kinds.Order.{Order}
-use Rattle.bdb_format.specs.declared.kinds.Order.TheVariants.{Big}
-use Rattle.bdb_format.specs.declared.pages.Header.{Header}
-use Rattle.bdb_format.specs.declared.references.Reference.{Reference}
-use Rattle.bdb_format.specs.File.{File, header_in, no_header, page_at, type_in}
-use Rattle.bdb_format.specs.Numbers.{byte_at, four_at, has_bit, two_at}
-use Rattle.bdb_format.specs.Page.{Page, PageType, FreePage, InternalPage, RecnoInternalPage, HashMetaPage}
-use Rattle.bdb_format.specs.Page.{BtreeMetaPage, QueueMetaPage, QueuePage, OtherPage}
-use Rattle.bdb_format.specs.Reading.{abstract_page, header_of, is_zero, listed, page_as, page_type}
-use Rattle.bdb_format.specs.References.{Asked, asked_by, child_types, fit_code, has_type, is_zero_page, root_types}
-use Rattle.bdb_format.specs.Table.{Row, first_row}
+use Rattle.bdb_faults.specs.of_format.declared.kinds.Fault.{Fault}
+use Rattle.bdb_faults.specs.of_format.declared.kinds.Order.{Order}
+use Rattle.bdb_faults.specs.of_format.declared.kinds.Order.TheVariants.{Big}
+use Rattle.bdb_faults.specs.of_format.declared.pages.Header.{Header}
+use Rattle.bdb_faults.specs.of_format.declared.references.Reference.{Reference}
+use Rattle.bdb_faults.specs.of_format.File.{File, header_in, no_header, page_at, type_in}
+use Rattle.bdb_faults.specs.of_format.Numbers.{byte_at, four_at, has_bit, two_at}
+use Rattle.bdb_faults.specs.of_format.Page.{Page, PageType, FreePage, InternalPage, RecnoInternalPage, HashMetaPage}
+use Rattle.bdb_faults.specs.of_format.Page.{BtreeMetaPage, QueueMetaPage, QueuePage, OtherPage}
+use Rattle.bdb_faults.specs.of_format.Reading.{abstract_page, header_of, is_zero, listed, page_as, page_type}
+use Rattle.bdb_faults.specs.of_format.References.{Asked, asked_by, child_types, fit_code, has_type, is_zero_page, root_types}
+use Rattle.bdb_faults.specs.of_format.Table.{Row, first_row}
 use Rattle.bdb_image.specs.Fits.{is_headed, page_rows}
-use Rattle.bdb_format.proofs.GraphLemmas.{zero_page, typed_page}
-use Rattle.bdb_format.proofs.PageLemmas.{zero_header as zero_fields}
-use Rattle.bdb_format.proofs.SizeLemmas.{long_page}
-use Rattle.bdb_format.proofs.TypeLemmas.{if_type}
+use Rattle.bdb_faults.proofs.of_format.GraphLemmas.{zero_page, typed_page}
+use Rattle.bdb_faults.proofs.of_format.PageLemmas.{zero_header as zero_fields}
+use Rattle.bdb_faults.proofs.of_format.SizeLemmas.{long_page}
+use Rattle.bdb_faults.proofs.of_format.TypeLemmas.{if_type}
 use Rattle.bdb_image.proofs.FormedLemmas.{tells_number}
-use Rattle.bdb_format.proofs.FileLemmas.{last_page, page_is}
+use Rattle.bdb_faults.proofs.of_format.FileLemmas.{last_page, page_is}
 
 -- Bytes as a page.
 

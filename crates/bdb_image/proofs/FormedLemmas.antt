@@ -5,17 +5,17 @@ use Rattle.std.specs.Prelude.{◌==◌, ◌||◌, not, None}
 use Rattle.std.proofs.Math.Nat.{mul-le-mul_left, mul-le-mul_right}
 use Rattle.std.proofs.lemmas.Bool.{eqb-true, leb-false, ltb-false, not-false}
 use Rattle.std.proofs.lemmas.List.{length-take-le, length-drop}
-use Rattle.bdb_format.specs.declared.metadata.FileKind.{FileKind}
-use Rattle.bdb_format.specs.declared.metadata.FileKind.TheVariants.{Btree, Hash, Queue}
-use Rattle.bdb_format.specs.declared.metadata.Head.{Head}
-use Rattle.bdb_format.specs.File.{page_bytes}
-use Rattle.bdb_format.specs.HeadOf.{file_kind, head_of, head_rows, is_page_size, is_past, last_page, magic_at, order_of, pages_of}
-use Rattle.bdb_format.specs.Numbers.{four_at}
-use Rattle.bdb_format.specs.Reading.{is_zero}
-use Rattle.bdb_format.specs.Rows.{form_code}
-use Rattle.bdb_format.specs.Table.{first_row}
-use Rattle.bdb_format.proofs.VerdictLemmas.{AllFail, none_is_first_row}
-use Rattle.bdb_format.proofs.SizeLemmas.{size_bounds}
+use Rattle.bdb_faults.specs.of_format.declared.metadata.FileKind.{FileKind}
+use Rattle.bdb_faults.specs.of_format.declared.metadata.FileKind.TheVariants.{Btree, Hash, Queue}
+use Rattle.bdb_faults.specs.of_format.declared.metadata.Head.{Head}
+use Rattle.bdb_faults.specs.of_format.File.{page_bytes}
+use Rattle.bdb_faults.specs.of_format.HeadOf.{file_kind, head_of, head_rows, is_page_size, is_past, last_page, magic_at, order_of, pages_of}
+use Rattle.bdb_faults.specs.of_format.Numbers.{four_at}
+use Rattle.bdb_faults.specs.of_format.Reading.{is_zero}
+use Rattle.bdb_faults.specs.of_format.Rows.{form_code}
+use Rattle.bdb_faults.specs.of_format.Table.{first_row}
+use Rattle.bdb_faults.proofs.of_format.VerdictLemmas.{AllFail, none_is_first_row}
+use Rattle.bdb_faults.proofs.of_format.SizeLemmas.{size_bounds}
 use Rattle.bdb_slots.proofs.of_form.FormedLemmas.{numbered}
 use Rattle.bdb_image.specs.Formed.{IsAccepted}
 

@@ -7,23 +7,23 @@ use Rattle.bdb_slots.specs.of_form.declared.view.PageView.TheVariants.{Zero as Z
 use Rattle.bdb_slots.specs.of_form.declared.view.PageView.TheVariants.{RecnoLeaf as RecnoLeafView, RecnoInternal as RecnoInternalView, DupLeaf as DupLeafView}
 use Rattle.bdb_slots.specs.of_form.declared.view.PageView.TheVariants.{Hash as HashView, Overflow as OverflowView, Queue as QueueView}
 use Rattle.bdb_slots.specs.of_form.Seen.{page_seen}
-use Rattle.bdb_format.specs.declared.kinds.Order.{Order}
-use Rattle.bdb_format.specs.declared.metadata.FileKind.{FileKind}
-use Rattle.bdb_format.specs.declared.metadata.FileKind.TheVariants.{Btree, Hash, Queue}
-use Rattle.bdb_format.specs.declared.metadata.Head.{Head}
-use Rattle.bdb_format.specs.File.{file_of, page_bytes}
-use Rattle.bdb_format.specs.HeadOf.{head_of, is_page_size}
-use Rattle.bdb_format.specs.Numbers.{byte_at}
-use Rattle.bdb_format.specs.Page.{Meta, BtreeFields, HashFields, PageType}
-use Rattle.bdb_format.specs.Page.{HashMetaPage, BtreeMetaPage, QueueMetaPage}
-use Rattle.bdb_format.specs.Reading.{abstract_page, btree_fields, hash_fields, is_zero, page_as, page_type}
-use Rattle.bdb_format.specs.References.{targets_of, refs}
-use Rattle.bdb_format.specs.Rows.{body_code, form_code, identity_rows, is_tree_type, may_have_type, metadata_rows, page_code, type_of, typed_code}
-use Rattle.bdb_format.specs.Table.{first_row}
-use Rattle.bdb_format.specs.Graph.{is_meta}
-use Rattle.bdb_format.proofs.PageLemmas.{metadata_code}
-use Rattle.bdb_format.proofs.VerdictLemmas.{AllFail, none_is_first_row}
-use Rattle.bdb_format.proofs.FileLemmas.{page_is, kind_is}
+use Rattle.bdb_faults.specs.of_format.declared.kinds.Order.{Order}
+use Rattle.bdb_faults.specs.of_format.declared.metadata.FileKind.{FileKind}
+use Rattle.bdb_faults.specs.of_format.declared.metadata.FileKind.TheVariants.{Btree, Hash, Queue}
+use Rattle.bdb_faults.specs.of_format.declared.metadata.Head.{Head}
+use Rattle.bdb_faults.specs.of_format.File.{file_of, page_bytes}
+use Rattle.bdb_faults.specs.of_format.HeadOf.{head_of, is_page_size}
+use Rattle.bdb_faults.specs.of_format.Numbers.{byte_at}
+use Rattle.bdb_faults.specs.of_format.Page.{Meta, BtreeFields, HashFields, PageType}
+use Rattle.bdb_faults.specs.of_format.Page.{HashMetaPage, BtreeMetaPage, QueueMetaPage}
+use Rattle.bdb_faults.specs.of_format.Reading.{abstract_page, btree_fields, hash_fields, is_zero, page_as, page_type}
+use Rattle.bdb_faults.specs.of_format.References.{targets_of, refs}
+use Rattle.bdb_faults.specs.of_format.Rows.{body_code, form_code, identity_rows, is_tree_type, may_have_type, metadata_rows, page_code, type_of, typed_code}
+use Rattle.bdb_faults.specs.of_format.Table.{first_row}
+use Rattle.bdb_faults.specs.of_format.Graph.{is_meta}
+use Rattle.bdb_faults.proofs.of_format.PageLemmas.{metadata_code}
+use Rattle.bdb_faults.proofs.of_format.VerdictLemmas.{AllFail, none_is_first_row}
+use Rattle.bdb_faults.proofs.of_format.FileLemmas.{page_is, kind_is}
 use Rattle.bdb_slots.specs.Slots.{IsNoMetadata, placed}
 use Rattle.bdb_image.proofs.CodeLemmas.{btree_last, code_by, code_same, differs, is_body, is_same, no_queue_type, not_zero, tree_code, two_none, typed_metadata}
 

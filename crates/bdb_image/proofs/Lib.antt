@@ -1,4 +1,5 @@
 pub mod ApartLemmas
+mod Below
 pub mod BucketLemmas
 pub mod CodeLemmas
 pub mod FirstLemmas
@@ -11,6 +12,6 @@ pub mod PieceLemmas
 pub mod RoleLemmas
 pub use Rattle.bdb_faults.proofs as of_faults
 pub use Rattle.bdb_slots.proofs.of_form as of_form
-pub use Rattle.bdb_format.proofs as of_format
+pub use Rattle.bdb_faults.proofs.of_format as of_format
 pub use Rattle.bdb_meta.proofs.of_layout as of_layout
 pub use Rattle.bdb_meta.proofs as of_meta

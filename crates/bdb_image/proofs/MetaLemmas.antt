@@ -4,28 +4,28 @@ use Rattle.std.proofs.Common.{◌≡◌, ℕ, zero, suc, ◌+◌, ◌≤◌, tru
 use Rattle.std.proofs.Common.{append-nil}
 use Rattle.std.specs.Prelude.{Some, None}
 use Rattle.std.proofs.lemmas.Bool.{true≢false, cases_eq}
-use Rattle.bdb_format.specs.declared.kinds.Order.{Order}
-use Rattle.bdb_format.specs.declared.metadata.FileKind.{FileKind}
-use Rattle.bdb_format.specs.declared.metadata.FileKind.TheVariants.{Btree, Hash, Queue}
-use Rattle.bdb_format.specs.declared.metadata.Head.{Head}
-use Rattle.bdb_format.specs.File.{File, file_of, page_at, page_bytes}
-use Rattle.bdb_format.specs.Graph.{is_meta}
-use Rattle.bdb_format.specs.HeadOf.{head_of, is_page_size}
-use Rattle.bdb_format.specs.Numbers.{byte_at}
-use Rattle.bdb_format.specs.Page.{Metadata, Page, Zero, Meta, HashFields, QueueFields}
-use Rattle.bdb_format.specs.Reading.{abstract_page, hash_fields, page_as, page_type, queue_fields}
-use Rattle.bdb_format.specs.Rows.{form_code, may_have_type, metadata_rows}
-use Rattle.bdb_format.specs.Table.{first_row}
-use Rattle.bdb_format.proofs.GraphLemmas.{type_fits}
-use Rattle.bdb_format.proofs.PageLemmas.{later_type}
+use Rattle.bdb_faults.specs.of_format.declared.kinds.Order.{Order}
+use Rattle.bdb_faults.specs.of_format.declared.metadata.FileKind.{FileKind}
+use Rattle.bdb_faults.specs.of_format.declared.metadata.FileKind.TheVariants.{Btree, Hash, Queue}
+use Rattle.bdb_faults.specs.of_format.declared.metadata.Head.{Head}
+use Rattle.bdb_faults.specs.of_format.File.{File, file_of, page_at, page_bytes}
+use Rattle.bdb_faults.specs.of_format.Graph.{is_meta}
+use Rattle.bdb_faults.specs.of_format.HeadOf.{head_of, is_page_size}
+use Rattle.bdb_faults.specs.of_format.Numbers.{byte_at}
+use Rattle.bdb_faults.specs.of_format.Page.{Metadata, Page, Zero, Meta, HashFields, QueueFields}
+use Rattle.bdb_faults.specs.of_format.Reading.{abstract_page, hash_fields, page_as, page_type, queue_fields}
+use Rattle.bdb_faults.specs.of_format.Rows.{form_code, may_have_type, metadata_rows}
+use Rattle.bdb_faults.specs.of_format.Table.{first_row}
+use Rattle.bdb_faults.proofs.of_format.GraphLemmas.{type_fits}
+use Rattle.bdb_faults.proofs.of_format.PageLemmas.{later_type}
 use Rattle.std.proofs.lemmas.List.Elements.{filter-append}
 use Rattle.bdb_image.specs.Linked.{meta_pages, metas_below}
 use Rattle.bdb_image.specs.Metas.{meta_in}
-use Rattle.bdb_format.specs.declared.metadata.HashMeta.{HashMeta}
+use Rattle.bdb_faults.specs.of_format.declared.metadata.HashMeta.{HashMeta}
 use Rattle.bdb_image.proofs.CodeLemmas.{differs, not_zero, queue_last}
 use Rattle.bdb_image.proofs.HeldLemmas.{few_buckets, metadata_formed, table_formed, table_page, tree_page, other_page, other_type, other_formed}
-use Rattle.bdb_format.proofs.ListLemmas.{range_zero_more}
-use Rattle.bdb_format.proofs.FileLemmas.{page_is}
+use Rattle.bdb_faults.proofs.of_format.ListLemmas.{range_zero_more}
+use Rattle.bdb_faults.proofs.of_format.FileLemmas.{page_is}
 
 -- Queue metadata.
 

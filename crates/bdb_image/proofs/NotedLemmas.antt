@@ -24,21 +24,21 @@ use Rattle.bdb_faults.proofs.AscendLemmas.{faults_ascend}
 use Rattle.bdb_faults.proofs.CaseLemmas.{form_code_is, head_code_is}
 use Rattle.bdb_faults.proofs.ListLemmas.{all_accepted, all_one, all_refused}
 use Rattle.bdb_faults.proofs.SinkLemmas.{noted_all, notes_both, notes_more, notes_none, notes_one}
-use Rattle.bdb_format.specs.declared.kinds.Fault.{Fault}
-use Rattle.bdb_format.specs.declared.metadata.Head.{Head}
-use Rattle.bdb_format.specs.declared.metadata.MetaFault.{MetaFault}
-use Rattle.bdb_format.specs.declared.references.Reference.{Reference}
-use Rattle.bdb_format.specs.File.{File, page_bytes}
-use Rattle.bdb_format.specs.HeadOf.{faulted, form_fault, head_fault, head_of, head_rows}
-use Rattle.bdb_format.specs.Reading.{is_zero}
-use Rattle.bdb_format.specs.References.{fit_code, refs}
-use Rattle.bdb_format.specs.Rows.{form_code as row_of_form}
-use Rattle.bdb_format.specs.Table.{Row, ◌:?◌, answer, first_row}
-use Rattle.bdb_format.specs.Verdict.{Judgement, by_page, fails_as, faults_in, form_faults, head_faults, holding, or_else, ownership_faults, ownership_rows}
-use Rattle.bdb_format.specs.Verdict.{reach_faults, reach_rows, reference_faults, reference_rows, some_fails, stage_faults, tail_faults, tail_rows}
-use Rattle.bdb_format.specs.Graph.{is_anchor, is_owned_twice, is_reserve, is_shared_too_often, is_unowned, reaches}
-use Rattle.bdb_format.proofs.MemberLemmas.{first_member, no_member}
-use Rattle.bdb_format.proofs.VerdictLemmas.{or_else_none, or_else_nothing}
+use Rattle.bdb_faults.specs.of_format.declared.kinds.Fault.{Fault}
+use Rattle.bdb_faults.specs.of_format.declared.metadata.Head.{Head}
+use Rattle.bdb_faults.specs.of_format.declared.metadata.MetaFault.{MetaFault}
+use Rattle.bdb_faults.specs.of_format.declared.references.Reference.{Reference}
+use Rattle.bdb_faults.specs.of_format.File.{File, page_bytes}
+use Rattle.bdb_faults.specs.of_format.HeadOf.{faulted, form_fault, head_fault, head_of, head_rows}
+use Rattle.bdb_faults.specs.of_format.Reading.{is_zero}
+use Rattle.bdb_faults.specs.of_format.References.{fit_code, refs}
+use Rattle.bdb_faults.specs.of_format.Rows.{form_code as row_of_form}
+use Rattle.bdb_faults.specs.of_format.Table.{Row, ◌:?◌, answer, first_row}
+use Rattle.bdb_faults.specs.of_format.Verdict.{Judgement, by_page, fails_as, faults_in, form_faults, head_faults, holding, or_else, ownership_faults, ownership_rows}
+use Rattle.bdb_faults.specs.of_format.Verdict.{reach_faults, reach_rows, reference_faults, reference_rows, some_fails, stage_faults, tail_faults, tail_rows}
+use Rattle.bdb_faults.specs.of_format.Graph.{is_anchor, is_owned_twice, is_reserve, is_shared_too_often, is_unowned, reaches}
+use Rattle.bdb_faults.proofs.of_format.MemberLemmas.{first_member, no_member}
+use Rattle.bdb_faults.proofs.of_format.VerdictLemmas.{or_else_none, or_else_nothing}
 use Rattle.bdb_image.proofs.CodeLemmas.{fault_of_rows}
 use Rattle.bdb_image.specs.declared.fits.Misfits.{Misfits}
 use Rattle.bdb_image.specs.Noted.{misfit_faults, misfits_of, more_misfits, page_faults}

@@ -2,12 +2,12 @@
 use Rattle.std.proofs.Common.{◌≡◌, ℕ, ◌-◌, ◌≤◌, true, false, List, [], length, drop, arith, sym, ◌∙◌, ap, inl, inr, length-drop, length-take}
 use Rattle.std.specs.Prelude.{min}
 use Rattle.std.proofs.lemmas.Bool.{cases_Bool, cases_eq, eqb-true}
-use Rattle.bdb_format.specs.declared.kinds.Order.{Order}
-use Rattle.bdb_format.specs.Chains.{piece_in}
-use Rattle.bdb_format.specs.Numbers.{byte_at, two_at}
-use Rattle.bdb_format.specs.Reading.{abstract_page, is_zero, page_as, page_type}
-use Rattle.bdb_format.proofs.GraphLemmas.{typed_page, zero_page}
-use Rattle.bdb_format.proofs.TypeLemmas.{if_type}
+use Rattle.bdb_faults.specs.of_format.declared.kinds.Order.{Order}
+use Rattle.bdb_faults.specs.of_format.Chains.{piece_in}
+use Rattle.bdb_faults.specs.of_format.Numbers.{byte_at, two_at}
+use Rattle.bdb_faults.specs.of_format.Reading.{abstract_page, is_zero, page_as, page_type}
+use Rattle.bdb_faults.proofs.of_format.GraphLemmas.{typed_page, zero_page}
+use Rattle.bdb_faults.proofs.of_format.TypeLemmas.{if_type}
 
 pub zero_piece : (order : Order) (page : List ℕ) → is_zero page ≡ true → 0 ≡ length (piece_in (abstract_page order page))
 zero_piece order page empty = sym (ap (λ p. length (piece_in p)) (zero_page order page empty))

@@ -4,16 +4,16 @@ use Rattle.std.specs.Prelude.{◌==◌, ◌&&◌, ◌||◌, min, ◌-◌, ◌^�
 use Rattle.std.specs.List.{list_any}
 use Rattle.std.proofs.lemmas.Bool.{cases_Bool, cases_eq, ne_eqb, or_from}
 use Rattle.std.proofs.lemmas.List.Folds.{list_all_at, list_any_at}
-use Rattle.bdb_format.specs.declared.kinds.Order.{Order}
-use Rattle.bdb_format.specs.File.{File, file_of, page_at}
-use Rattle.bdb_format.specs.Graph.{is_hash_meta, is_meta, is_spare}
-use Rattle.bdb_format.specs.Numbers.{byte_at}
-use Rattle.bdb_format.specs.Page.{NoType, PageType, HashPage}
-use Rattle.bdb_format.specs.Reading.{abstract_page, hash_item_at, header_of, is_zero, page_as, page_type}
-use Rattle.bdb_format.proofs.PageLemmas.{header_listed}
-use Rattle.bdb_format.proofs.ListLemmas.{none_of_list}
-use Rattle.bdb_format.proofs.GraphLemmas.{zero_page, typed_page}
-use Rattle.bdb_format.proofs.FileLemmas.{pages_counted}
+use Rattle.bdb_faults.specs.of_format.declared.kinds.Order.{Order}
+use Rattle.bdb_faults.specs.of_format.File.{File, file_of, page_at}
+use Rattle.bdb_faults.specs.of_format.Graph.{is_hash_meta, is_meta, is_spare}
+use Rattle.bdb_faults.specs.of_format.Numbers.{byte_at}
+use Rattle.bdb_faults.specs.of_format.Page.{NoType, PageType, HashPage}
+use Rattle.bdb_faults.specs.of_format.Reading.{abstract_page, hash_item_at, header_of, is_zero, page_as, page_type}
+use Rattle.bdb_faults.proofs.of_format.PageLemmas.{header_listed}
+use Rattle.bdb_faults.proofs.of_format.ListLemmas.{none_of_list}
+use Rattle.bdb_faults.proofs.of_format.GraphLemmas.{zero_page, typed_page}
+use Rattle.bdb_faults.proofs.of_format.FileLemmas.{pages_counted}
 
 -- Bytes as a page.
 

@@ -1,13 +1,13 @@
 -- The buckets of a table as runs of pages, and which pages fit as buckets. Source: docs/FORMAT.md, "References" and "Hash formulas".
 use Rattle.std.specs.Prelude.{◌≡◌, ℕ, ◌+◌, ◌-◌, ◌<◌, ◌^◌, nat_lt, Bool, List, [], ◌++◌, map, length, get_or, Option, Some, None}
 use Rattle.std.specs.List.{list_any, range_with_len}
-use Rattle.bdb_format.specs.declared.references.Reference.{Reference}
-use Rattle.bdb_format.specs.declared.references.Sort.{Sort}
-use Rattle.bdb_format.specs.declared.references.Sort.TheVariants.{Bucket}
-use Rattle.bdb_format.specs.File.{File}
-use Rattle.bdb_format.specs.Hashing.{first_page}
-use Rattle.bdb_format.specs.References.{fit_code}
-use Rattle.bdb_format.specs.Verdict.{fails_as}
+use Rattle.bdb_faults.specs.of_format.declared.references.Reference.{Reference}
+use Rattle.bdb_faults.specs.of_format.declared.references.Sort.{Sort}
+use Rattle.bdb_faults.specs.of_format.declared.references.Sort.TheVariants.{Bucket}
+use Rattle.bdb_faults.specs.of_format.File.{File}
+use Rattle.bdb_faults.specs.of_format.Hashing.{first_page}
+use Rattle.bdb_faults.specs.of_format.References.{fit_code}
+use Rattle.bdb_faults.specs.of_format.Verdict.{fails_as}
 use Rattle.bdb_slots.specs.Slots.{placed}
 use Rattle.bdb_image.specs.declared.bucket_fits.BucketFits.{BucketFits}
 use Rattle.bdb_image.specs.declared.buckets.Buckets.{Buckets}

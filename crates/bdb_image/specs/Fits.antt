@@ -1,12 +1,12 @@
 -- With which code a reference fails, as the code asks for it. Source: docs/FORMAT.md, "Stage 3, references".
 use Rattle.std.specs.Prelude.{◌≡◌, ℕ, ◌≤◌, ◌==◌, ◌&&◌, ◌||◌, not, Bool, false, List, [], ◌∷◌, length, Some, None}
 use Rattle.std.specs.List.{list_any}
-use Rattle.bdb_format.specs.File.{header_in, type_in}
-use Rattle.bdb_format.specs.Numbers.{byte_at}
-use Rattle.bdb_format.specs.Page.{Page}
-use Rattle.bdb_format.specs.Reading.{is_zero}
-use Rattle.bdb_format.specs.References.{Asked, has_type, is_asked, is_zero_page}
-use Rattle.bdb_format.specs.Table.{Row, ◌:?◌}
+use Rattle.bdb_faults.specs.of_format.File.{header_in, type_in}
+use Rattle.bdb_faults.specs.of_format.Numbers.{byte_at}
+use Rattle.bdb_faults.specs.of_format.Page.{Page}
+use Rattle.bdb_faults.specs.of_format.Reading.{is_zero}
+use Rattle.bdb_faults.specs.of_format.References.{Asked, has_type, is_asked, is_zero_page}
+use Rattle.bdb_faults.specs.of_format.Table.{Row, ◌:?◌}
 
 -- one of these types, with this previous page
 abbrev pub asks_previous : List ℕ → ℕ → Asked

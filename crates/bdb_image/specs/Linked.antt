@@ -1,15 +1,15 @@
 -- What a linked image keeps, and which pages fit which use. Source: docs/FORMAT.md, "References".
 use Rattle.std.specs.Prelude.{◌≡◌, ◌≤◌, ℕ, ◌+◌, IsTrue, List, [], ◌∷◌}
 use Rattle.std.specs.List.{Contains, filter, range_with_len}
-use Rattle.bdb_format.specs.declared.references.Sort.{Sort}
-use Rattle.bdb_format.specs.declared.references.Sort.TheVariants.{Root, Bucket, OverflowHead, DuplicateRoot}
-use Rattle.bdb_format.specs.File.{File, page_at, type_in}
-use Rattle.bdb_format.specs.Graph.{Owner, all_references, is_meta}
-use Rattle.bdb_format.specs.Page.{Metadata, Meta}
-use Rattle.bdb_format.specs.References.{has_type}
-use Rattle.bdb_format.specs.HeadOf.{head_of}
+use Rattle.bdb_faults.specs.of_format.declared.references.Sort.{Sort}
+use Rattle.bdb_faults.specs.of_format.declared.references.Sort.TheVariants.{Root, Bucket, OverflowHead, DuplicateRoot}
+use Rattle.bdb_faults.specs.of_format.File.{File, page_at, type_in}
+use Rattle.bdb_faults.specs.of_format.Graph.{Owner, all_references, is_meta}
+use Rattle.bdb_faults.specs.of_format.Page.{Metadata, Meta}
+use Rattle.bdb_faults.specs.of_format.References.{has_type}
+use Rattle.bdb_faults.specs.of_format.HeadOf.{head_of}
 use Rattle.bdb_image.specs.Formed.{IsFormed}
-use Rattle.bdb_format.specs.Verdict.{faults_in}
+use Rattle.bdb_faults.specs.of_format.Verdict.{faults_in}
 
 -- no row of the first five stages holds
 pub record IsForest (image : List ℕ) : Type 0 where

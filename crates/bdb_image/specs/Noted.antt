@@ -1,9 +1,9 @@
 -- The faults of the first five stages in the order in which they are noted. Source: docs/FORMAT.md, "Faults".
 use Rattle.std.specs.Prelude.{ℕ, ◌++◌, ◌||◌, false, List, map, Option}
 use Rattle.std.specs.List.{list_any}
-use Rattle.bdb_format.specs.declared.kinds.Fault.{Fault}
-use Rattle.bdb_format.specs.declared.references.Reference.{Reference}
-use Rattle.bdb_format.specs.Verdict.{fails_as}
+use Rattle.bdb_faults.specs.of_format.declared.kinds.Fault.{Fault}
+use Rattle.bdb_faults.specs.of_format.declared.references.Reference.{Reference}
+use Rattle.bdb_faults.specs.of_format.Verdict.{fails_as}
 use Rattle.bdb_faults.specs.Rows.{fault_if}
 use Rattle.bdb_faults.specs.declared.rows.ReferenceRow.TheVariants.{OutOfRange, WrongKind, WrongLevel, WrongBack}
 use Rattle.bdb_faults.specs.declared.rows.Row.TheVariants.{Reference as ReferenceRow}

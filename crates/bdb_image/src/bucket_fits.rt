@@ -4,14 +4,14 @@ ghost use Rattle.std.specs.Option.{option_map};
 ghost use Rattle.bdb_faults.specs.Rows.{reference_code};
 ghost use Rattle.bdb_image.specs.Buckets.{AreFits, AreLasts, fails_as_bucket, run_refs};
 ghost use Rattle.bdb_image.specs.Noted.{misfits_of};
-ghost use Rattle.bdb_format.specs.File.{File, file_of};
-ghost use Rattle.bdb_format.specs.References.{fit_code};
+ghost use Rattle.bdb_faults.specs.of_format.File.{File, file_of};
+ghost use Rattle.bdb_faults.specs.of_format.References.{fit_code};
 
 use crate::Formed;
 use crate::buckets::Run;
 use crate::fits::{Misfits, misfit};
 use bdb_faults::ReferenceRow;
-use bdb_format::{Reference, Sort};
+use bdb_faults::bdb_format::{Reference, Sort};
 use bdb_meta::bdb_layout::u32_at;
 use std::alloc::{AllocError, Global};
 
@@ -48,7 +48,7 @@ impl BucketFits {
     }
 
     /// With which rows some of the references to a run of pages fail.
-    #[tactic(auto, using(crate::proofs::BucketLemmas::run_misfits, bdb_format::proofs::FileLemmas::last_page))]
+    #[tactic(auto, using(crate::proofs::BucketLemmas::run_misfits, crate::proofs::Below::last_page))]
     pub fn misfits(&self, formed: &Formed<'_>, run: Run) -> Misfits
         requires fits { AreFits (file_of formed.now) self.now }
         requires some { 0 < run.len }
@@ -64,7 +64,7 @@ impl BucketFits {
 
 /// The row with which a page fails as a bucket. Above page 0 a page without a number is a zero page, which fits, so the
 /// bytes of the pages that a table has in reserve aren't all looked at.
-#[tactic(auto, using(crate::proofs::BucketLemmas::unnumbered_fits, bdb_format::proofs::FileLemmas::last_page, bdb_format::proofs::SizeLemmas::long_page))]
+#[tactic(auto, using(crate::proofs::BucketLemmas::unnumbered_fits, crate::proofs::Below::last_page, crate::proofs::Below::long_page))]
 fn row_of(formed: &Formed<'_>, page: u32) -> Option<ReferenceRow>
     requires { page ≤ (file_of formed.now).last }
     ensures { option_map reference_code result ≡ fit_code (file_of formed.now) 0 (record { place = 0; sort = Sort.Bucket; target = page }) }

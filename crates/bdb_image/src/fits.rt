@@ -4,14 +4,14 @@ ghost use Rattle.bdb_faults.specs.Notes.{Notes};
 ghost use Rattle.bdb_faults.specs.Rows.{reference_code};
 ghost use Rattle.bdb_image.specs.Fits.{asks_previous, is_of_type, page_rows};
 ghost use Rattle.bdb_image.specs.Noted.{both_misfits, misfit_faults, more_misfits, no_misfits};
-ghost use Rattle.bdb_format.specs.File.{file_of, header_in};
-ghost use Rattle.bdb_format.specs.References.{asked_by, asks_type, fit_code, has_type, is_asked};
-ghost use Rattle.bdb_format.specs.Table.{first_row};
+ghost use Rattle.bdb_faults.specs.of_format.File.{file_of, header_in};
+ghost use Rattle.bdb_faults.specs.of_format.References.{asked_by, asks_type, fit_code, has_type, is_asked};
+ghost use Rattle.bdb_faults.specs.of_format.Table.{first_row};
 
 use crate::Formed;
 use crate::formed_page::{FormedPage, is_one_of, page_at};
+use bdb_faults::bdb_format::{Reference, Sort};
 use bdb_faults::{FaultSink, ReferenceRow, Row, note_if};
-use bdb_format::{Reference, Sort};
 use std::alloc::AllocError;
 use std::marker::Model;
 
@@ -25,7 +25,7 @@ struct Demand {
 }
 
 impl Model for Demand {
-    ghost use Rattle.bdb_format.specs.References.{Asked};
+    ghost use Rattle.bdb_faults.specs.of_format.References.{Asked};
 
     ghost Value = { Asked };
 

@@ -1,11 +1,11 @@
 ghost use Rattle.std.specs.Prelude.{◌≡◌, ◌^◌, ◌<◌, ◌≤◌, IsTrue, length, None, true};
 ghost use Rattle.bdb_image.specs.Formed.{IsAccepted, IsFormed};
 ghost use Rattle.bdb_slots.specs.Plain.{ArePlain};
-ghost use Rattle.bdb_format.specs.File.{page_bytes};
-ghost use Rattle.bdb_format.specs.HeadOf.{head_of, is_page_size};
-ghost use Rattle.bdb_format.specs.Rows.{form_code};
+ghost use Rattle.bdb_faults.specs.of_format.File.{page_bytes};
+ghost use Rattle.bdb_faults.specs.of_format.HeadOf.{head_of, is_page_size};
+ghost use Rattle.bdb_faults.specs.of_format.Rows.{form_code};
 
-use bdb_format::Head;
+use bdb_faults::bdb_format::Head;
 use std::marker::Model;
 
 /// An image on which no row of the first two stages holds: its file is one that is read, and each of its

@@ -1,13 +1,13 @@
 ghost use Rattle.std.specs.Prelude.{◌≡◌, ◌≤◌, ◌==◌, ◌∷◌, [], length};
 ghost use Rattle.std.specs.List.{list_any};
 ghost use Rattle.bdb_image.specs.Fits.{IsLooked, is_headed};
-ghost use Rattle.bdb_format.specs.Chains.{piece_in};
-ghost use Rattle.bdb_format.specs.File.{file_of, header_in, page_at, type_in};
-ghost use Rattle.bdb_format.specs.Graph.{is_hash_meta, is_meta, is_spare};
-ghost use Rattle.bdb_format.specs.References.{child_types, has_type, is_zero_page, root_types};
+ghost use Rattle.bdb_faults.specs.of_format.Chains.{piece_in};
+ghost use Rattle.bdb_faults.specs.of_format.File.{file_of, header_in, page_at, type_in};
+ghost use Rattle.bdb_faults.specs.of_format.Graph.{is_hash_meta, is_meta, is_spare};
+ghost use Rattle.bdb_faults.specs.of_format.References.{child_types, has_type, is_zero_page, root_types};
 
 use crate::Formed;
-use bdb_format::Order;
+use bdb_faults::bdb_format::Order;
 use bdb_meta::bdb_layout::{header, u16_at, u32_at};
 use bdb_slots::bdb_form::is_zero_at;
 use std::marker::Model;
@@ -22,8 +22,8 @@ pub struct FormedPage<'a> {
 }
 
 impl<'a> Model for FormedPage<'a> {
-    ghost use Rattle.bdb_format.specs.Page.{Page};
-    ghost use Rattle.bdb_format.specs.Reading.{abstract_page};
+    ghost use Rattle.bdb_faults.specs.of_format.Page.{Page};
+    ghost use Rattle.bdb_faults.specs.of_format.Reading.{abstract_page};
     ghost use Rattle.bdb_image.specs.Fits.{IsLooked};
 
     ghost Value = { Page };

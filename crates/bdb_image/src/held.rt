@@ -1,17 +1,17 @@
 ghost use Rattle.std.specs.Prelude.{◌≡◌, ◌≢◌, ◌+◌, ◌^◌, ◌<◌, ◌≤◌, IsTrue, None, length, true};
 ghost use Rattle.bdb_slots.specs.Plain.{IsPlain, IsPlainIn};
 ghost use Rattle.bdb_slots.specs.Slots.{placed};
-ghost use Rattle.bdb_format.specs.File.{file_of};
-ghost use Rattle.bdb_format.specs.HeadOf.{is_page_size};
-ghost use Rattle.bdb_format.specs.Numbers.{byte_at};
-ghost use Rattle.bdb_format.specs.Reading.{abstract_page};
-ghost use Rattle.bdb_format.specs.References.{targets_in, targets_of, refs};
-ghost use Rattle.bdb_format.specs.Rows.{form_code, page_code};
-ghost use Rattle.bdb_format.specs.declared.metadata.FileKind.TheVariants.{Queue};
+ghost use Rattle.bdb_faults.specs.of_format.File.{file_of};
+ghost use Rattle.bdb_faults.specs.of_format.HeadOf.{is_page_size};
+ghost use Rattle.bdb_faults.specs.of_format.Numbers.{byte_at};
+ghost use Rattle.bdb_faults.specs.of_format.Reading.{abstract_page};
+ghost use Rattle.bdb_faults.specs.of_format.References.{targets_in, targets_of, refs};
+ghost use Rattle.bdb_faults.specs.of_format.Rows.{form_code, page_code};
+ghost use Rattle.bdb_faults.specs.of_format.declared.metadata.FileKind.TheVariants.{Queue};
 
 use crate::meta::meta_on;
 use crate::{Formed, Meta, References};
-use bdb_format::{FileKind, Head, Order, Steps};
+use bdb_faults::bdb_format::{FileKind, Head, Order, Steps};
 use bdb_slots::bdb_form::known_form;
 use std::sync::ledger::Ledger;
 
@@ -31,7 +31,7 @@ pub fn references<'a, L: Ledger>(
 }
 
 /// The references that a page holds, without a step.
-#[tactic(auto, using(crate::proofs::HeldLemmas::refs_of_page, bdb_format::proofs::FileLemmas::last_page))]
+#[tactic(auto, using(crate::proofs::HeldLemmas::refs_of_page, crate::proofs::Below::last_page))]
 fn references_of<'a>(formed: &Formed<'a>, page: u32) -> References<'a>
     requires { page ≤ (file_of formed.now).last }
     ensures { result ≡ refs (file_of formed.now) page }

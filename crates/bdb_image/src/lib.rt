@@ -15,7 +15,7 @@ mod page;
 mod plain;
 
 pub use bdb_faults;
-pub use bdb_format;
+pub use bdb_faults::bdb_format;
 pub use bdb_meta;
 pub use bdb_meta::bdb_layout;
 pub use bdb_slots::bdb_form;

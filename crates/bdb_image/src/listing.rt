@@ -4,12 +4,12 @@ ghost use Rattle.bdb_slots.specs.of_form.Seen.{page_seen};
 ghost use Rattle.bdb_image.specs.Buckets.{IsApart};
 ghost use Rattle.bdb_slots.specs.Plain.{IsPlain};
 ghost use Rattle.bdb_slots.specs.Slots.{HasRoom, IsNoMetadata, names_from, placed};
-ghost use Rattle.bdb_format.specs.Page.{BtreeFields, HashFields, Meta};
-ghost use Rattle.bdb_format.specs.References.{first_free, targets_in, unless_zero};
-ghost use Rattle.bdb_format.specs.declared.references.Sort.TheVariants.{Free};
+ghost use Rattle.bdb_faults.specs.of_format.Page.{BtreeFields, HashFields, Meta};
+ghost use Rattle.bdb_faults.specs.of_format.References.{first_free, targets_in, unless_zero};
+ghost use Rattle.bdb_faults.specs.of_format.declared.references.Sort.TheVariants.{Free};
 
 use crate::buckets::Buckets;
-use bdb_format::{BtreeMeta, HashMeta, Reference, Sort};
+use bdb_faults::bdb_format::{BtreeMeta, HashMeta, Reference, Sort};
 use bdb_slots::Source;
 use bdb_slots::bdb_form::PageView;
 use std::marker::Model;
@@ -24,7 +24,7 @@ pub struct References<'a> {
 
 impl<'a> Model for References<'a> {
     ghost use Rattle.std.specs.Prelude.{List};
-    ghost use Rattle.bdb_format.specs.declared.references.Reference.{Reference};
+    ghost use Rattle.bdb_faults.specs.of_format.declared.references.Reference.{Reference};
     ghost use Rattle.bdb_slots.specs.Slots.{HasPlace, names_from, placed};
 
     ghost Value = { List Reference };

@@ -2,14 +2,14 @@ ghost use Rattle.std.specs.Prelude.{◌≡◌, ◌≤◌, IfOk, IsTrue, Some, le
 ghost use Rattle.std.specs.Option.{option_map};
 ghost use Rattle.bdb_image.specs.Linked.{meta_pages};
 ghost use Rattle.bdb_image.specs.Metas.{meta_in, meta_seen};
-ghost use Rattle.bdb_format.specs.File.{file_of, page_at};
-ghost use Rattle.bdb_format.specs.HeadOf.{is_page_size};
-ghost use Rattle.bdb_format.specs.Numbers.{byte_at};
-ghost use Rattle.bdb_format.specs.Reading.{abstract_page};
+ghost use Rattle.bdb_faults.specs.of_format.File.{file_of, page_at};
+ghost use Rattle.bdb_faults.specs.of_format.HeadOf.{is_page_size};
+ghost use Rattle.bdb_faults.specs.of_format.Numbers.{byte_at};
+ghost use Rattle.bdb_faults.specs.of_format.Reading.{abstract_page};
 
 use crate::Formed;
 use crate::formed_page::page_at;
-use bdb_format::{BtreeMeta, HashMeta, Order, QueueMeta};
+use bdb_faults::bdb_format::{BtreeMeta, HashMeta, Order, QueueMeta};
 use bdb_meta::{btree_fields, hash_fields, queue_fields};
 use std::alloc::{AllocError, Global};
 
@@ -22,7 +22,7 @@ pub enum Meta {
 }
 
 /// The numbers of the metadata pages of an image, ascending, 4 bytes for each in a list that grows.
-#[tactic(auto, using(bdb_format::proofs::FileLemmas::last_page))]
+#[tactic(auto, using(crate::proofs::Below::last_page))]
 pub fn metas_of(alloc: Global, formed: &Formed) -> Result<Vec<u32>, AllocError>
     ensures { IfOk result (λ metas. metas.items ≡ meta_pages (file_of formed.now)) }
 {
@@ -36,7 +36,7 @@ pub fn metas_of(alloc: Global, formed: &Formed) -> Result<Vec<u32>, AllocError>
 }
 
 /// The fields of a page, if it's metadata.
-#[tactic(auto, using(crate::proofs::MetaLemmas::meta_of_page, bdb_format::proofs::FileLemmas::last_page))]
+#[tactic(auto, using(crate::proofs::MetaLemmas::meta_of_page, crate::proofs::Below::last_page))]
 pub fn meta_at(formed: &Formed, number: u32) -> Option<Meta>
     requires { number ≤ (file_of formed.now).last }
     ensures { option_map meta_seen result ≡ meta_in (page_at (file_of formed.now) number) }

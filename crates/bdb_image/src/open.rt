@@ -5,20 +5,20 @@ ghost use Rattle.bdb_faults.specs.Notes.{NotesAll};
 ghost use Rattle.bdb_image.specs.Formed.{IsAccepted, IsRead};
 ghost use Rattle.bdb_image.specs.Noted.{page_faults};
 ghost use Rattle.bdb_slots.specs.Plain.{ArePlain, IsPlainIn};
-ghost use Rattle.bdb_format.specs.HeadOf.{is_page_size};
-ghost use Rattle.bdb_format.specs.Rows.{form_code};
-ghost use Rattle.bdb_format.specs.Verdict.{as_verdict, faults_in, form_faults, tail_faults, verdict_in};
+ghost use Rattle.bdb_faults.specs.of_format.HeadOf.{is_page_size};
+ghost use Rattle.bdb_faults.specs.of_format.Rows.{form_code};
+ghost use Rattle.bdb_faults.specs.of_format.Verdict.{as_verdict, faults_in, form_faults, tail_faults, verdict_in};
 
 use crate::Formed;
 use crate::cases::verdict_on;
 use crate::formed::page_bytes;
 use crate::page::page_fault;
 use crate::plain::is_plain;
+use bdb_faults::bdb_format::{Head, Verdict};
 use bdb_faults::{
     AllError, FaultSink, FileRow, First, NamedList, Row, fault_of_form, fault_of_head, note_if,
     refused_by,
 };
-use bdb_format::{Head, Verdict};
 use bdb_slots::bdb_form::is_zero;
 use std::alloc::{AllocError, Global};
 

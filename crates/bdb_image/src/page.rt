@@ -1,11 +1,11 @@
 ghost use Rattle.std.specs.Prelude.{◌≡◌, ◌≢◌, ◌<◌, ◌^◌, IsTrue, length};
 ghost use Rattle.std.specs.Option.{option_map};
-ghost use Rattle.bdb_format.specs.HeadOf.{form_fault, is_page_size};
-ghost use Rattle.bdb_format.specs.Rows.{form_code, metadata_rows};
-ghost use Rattle.bdb_format.specs.Table.{first_row};
-ghost use Rattle.bdb_format.specs.declared.metadata.FileKind.TheVariants.{Queue};
+ghost use Rattle.bdb_faults.specs.of_format.HeadOf.{form_fault, is_page_size};
+ghost use Rattle.bdb_faults.specs.of_format.Rows.{form_code, metadata_rows};
+ghost use Rattle.bdb_faults.specs.of_format.Table.{first_row};
+ghost use Rattle.bdb_faults.specs.of_format.declared.metadata.FileKind.TheVariants.{Queue};
 
-use bdb_format::{FileKind, Head, MetaFault};
+use bdb_faults::bdb_format::{FileKind, Head, MetaFault};
 use bdb_meta::{btree_meta, hash_meta, queue_meta};
 use bdb_slots::bdb_form::{page_code, queue_code};
 

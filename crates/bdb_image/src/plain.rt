@@ -2,13 +2,13 @@ ghost use Rattle.std.specs.Prelude.{◌≡◌, ◌≢◌, ◌^◌, ◌<◌, IsTr
 ghost use Rattle.std.specs.List.{All};
 ghost use Rattle.bdb_slots.specs.of_form.Seen.{page_seen};
 ghost use Rattle.bdb_slots.specs.Plain.{IsInline, IsPlain, IsPlainIn};
-ghost use Rattle.bdb_format.specs.HeadOf.{is_page_size};
-ghost use Rattle.bdb_format.specs.Reading.{abstract_page};
-ghost use Rattle.bdb_format.specs.Rows.{form_code};
-ghost use Rattle.bdb_format.specs.declared.metadata.FileKind.TheVariants.{Queue};
+ghost use Rattle.bdb_faults.specs.of_format.HeadOf.{is_page_size};
+ghost use Rattle.bdb_faults.specs.of_format.Reading.{abstract_page};
+ghost use Rattle.bdb_faults.specs.of_format.Rows.{form_code};
+ghost use Rattle.bdb_faults.specs.of_format.declared.metadata.FileKind.TheVariants.{Queue};
 
 use crate::meta::meta_on;
-use bdb_format::{FileKind, Head};
+use bdb_faults::bdb_format::{FileKind, Head};
 use bdb_slots::bdb_form::{DupLeafView, HashView, LeafView, PageView, RecnoLeafView, known_form};
 use bdb_slots::content_name;
 

@@ -11,7 +11,6 @@ pub mod WrittenLemmas
 pub mod HeaderLemmas
 pub mod SectionLemmas
 pub mod DumpLemmas
-pub use Rattle.bdb_databases.proofs.of_btree as of_btree
+pub use Rattle.bdb_databases.proofs.of_any_order as of_any_order
 pub use Rattle.bdb_databases.proofs as of_databases
-pub use Rattle.bdb_databases.proofs.of_rows as of_rows
 pub use Rattle.bdb_text.proofs as of_text

@@ -3,5 +3,5 @@
 
 pub mod laws;
 
-pub use bdb_databases::{bdb_btree, bdb_overflow, bdb_tree};
+pub use bdb_databases::bdb_btree;
 pub use bdb_text;

@@ -2,3 +2,5 @@
 #![tactic(auto)]
 
 pub mod laws;
+
+pub use bdb_tree::{bdb_form, bdb_format, bdb_graph, bdb_layout, bdb_overflow};

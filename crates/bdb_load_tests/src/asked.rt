@@ -1,6 +1,6 @@
 // What `run` answers over an image.
-use bdb_mkfile::bdb_format::Bytes;
-use bdb_mkfile::bdb_io::{MemSink, MemSource};
+use bdb_tool::bdb_format::Bytes;
+use bdb_tool::bdb_io::{MemSink, MemSource};
 use bdb_tool::bdb_model::Words;
 use bdb_tool::run_counted;
 use std::alloc::{AllocError, Global};

@@ -1,8 +1,8 @@
 // The image of a dump text, or why there is none.
-use bdb_mkfile::bdb_format::Bytes;
-use bdb_mkfile::bdb_io::Image;
-use bdb_mkfile::bdb_settle::LoadError;
-use bdb_mkfile::load;
+use bdb_tool::bdb_format::Bytes;
+use bdb_tool::bdb_io::Image;
+use bdb_tool::bdb_mkfile::load;
+use bdb_tool::bdb_settle::LoadError;
 use bdb_tool::bdb_text::read_dump;
 use std::alloc::{AllocError, Global};
 
@@ -16,7 +16,7 @@ pub(crate) enum Answer {
 }
 
 /// Loads a text into an image of at most so many bytes; both have at most 2^30.
-#[tactic(auto, using(bdb_mkfile::proofs::ReadLemmas::read_sections_are_loadable))]
+#[tactic(auto, using(crate::proofs::Below::read_sections_are_loadable))]
 pub(crate) fn loaded(alloc: Global, text: &[u8], most: u64) -> Answer {
     if text.len() > 1073741824 || most > 1073741824 {
         return Answer::Other;

@@ -1,21 +1,21 @@
 // A thousand ranges of a file of 200,000 pairs: scanning the file for each of them wouldn't end in time.
 ghost use Rattle.std.specs.Prelude.{◌≡◌, ◌<◌, [], false, length};
-ghost use Rattle.bdb_mkfile.specs.of_image.Linked.{HasMetadata};
-ghost use Rattle.bdb_mkfile.specs.of_format.ContentRows.{database_faults};
-ghost use Rattle.bdb_mkfile.specs.of_format.Databases.{databases};
-ghost use Rattle.bdb_mkfile.specs.of_format.File.{file_of};
-ghost use Rattle.bdb_mkfile.specs.of_format.Flags.{is_recno};
-ghost use Rattle.bdb_mkfile.specs.of_format.Page.{BtreeFields};
-ghost use Rattle.bdb_mkfile.specs.of_format.Verdict.{structure_faults};
+ghost use Rattle.bdb_tool.specs.of_image.Linked.{HasMetadata};
+ghost use Rattle.bdb_tool.specs.of_format.ContentRows.{database_faults};
+ghost use Rattle.bdb_tool.specs.of_format.Databases.{databases};
+ghost use Rattle.bdb_tool.specs.of_format.File.{file_of};
+ghost use Rattle.bdb_tool.specs.of_format.Flags.{is_recno};
+ghost use Rattle.bdb_tool.specs.of_format.Page.{BtreeFields};
+ghost use Rattle.bdb_tool.specs.of_format.Verdict.{structure_faults};
 
 use crate::generated::text_of;
 use crate::loaded::image_of;
 use crate::settled::list_of;
-use bdb_mkfile::bdb_format::{BtreeMeta, Kind, Steps};
-use bdb_mkfile::bdb_graph::{Linked, Meta};
-use bdb_mkfile::bdb_text_format::{KeyRef, PairSlice};
 use bdb_tool::bdb_file::{Db, Sound, verify};
+use bdb_tool::bdb_format::{BtreeMeta, Kind, Steps};
+use bdb_tool::bdb_graph::{Linked, Meta};
 use bdb_tool::bdb_range::{pairs_of, span};
+use bdb_tool::bdb_text_format::{KeyRef, PairSlice};
 use std::alloc::Global;
 use std::marker::Brand;
 use std::sync::ledger::{Blank, Ledger};

@@ -1,7 +1,7 @@
 // The list that a dump text is loaded into.
-use bdb_mkfile::bdb_settle::settle;
-use bdb_mkfile::bdb_text_format::TextPairs;
+use bdb_tool::bdb_settle::settle;
 use bdb_tool::bdb_text::read_dump;
+use bdb_tool::bdb_text_format::TextPairs;
 use std::alloc::{AllocError, Global};
 
 /// The list of the last section of a text; an empty one where there is none.

@@ -1,3 +1,4 @@
+mod Below
 pub mod CountLemmas
 pub mod EntryLemmas
 pub mod MasterLemmas

@@ -1,13 +1,13 @@
 ghost use Rattle.std.specs.Prelude.{OnOk};
-ghost use Rattle.bdb_faults.specs.Notes.{Notes};
+ghost use Rattle.bdb_btree.specs.of_faults.Notes.{Notes};
 ghost use Rattle.std.specs.Option.{option_to_list};
 
-use bdb_faults::FaultSink;
-use bdb_format::Fault;
+use bdb_btree::bdb_faults::FaultSink;
+use bdb_btree::bdb_format::Fault;
 use std::alloc::AllocError;
 
 /// Notes a fault, if there is one.
-#[tactic(auto, using(bdb_faults::proofs::SinkLemmas::notes_nothing))]
+#[tactic(auto, using(crate::proofs::Below::notes_nothing))]
 pub(crate) fn note_given<F: FaultSink>(
     fault: Option<Fault>,
     found: &mut F,

@@ -2,13 +2,13 @@
 use Rattle.std.proofs.Common.{◌≡◌, ℕ, ◌+◌, ◌-◌, ◌^◌, ◌<◌, ◌≤◌, List, [], ◌∷◌, ◌++◌, length, IsTrue, ap, ◌∙◌, arith, append_assoc, length-append}
 use Rattle.std.proofs.lemmas.Bool.Decides.{nat_tests}
 use Rattle.std.proofs.lemmas.List.{length-replicate}
-use Rattle.bdb_format.specs.declared.kinds.Order.{Order}
-use Rattle.bdb_format.specs.declared.metadata.FileKind.{FileKind}
-use Rattle.bdb_format.specs.HeadOf.{is_page_size}
-use Rattle.bdb_format.specs.Numbers.{spelled, four_at}
-use Rattle.bdb_format.specs.Rows.{magic_of, version_of, type_of}
-use Rattle.bdb_format.specs.Spelling.{common_bytes, zeros, lsn_bytes}
-use Rattle.bdb_format.proofs.SpellingLemmas.{length-spelled, number_at-in, number_at-behind}
+use Rattle.bdb_layout.specs.of_format.declared.kinds.Order.{Order}
+use Rattle.bdb_layout.specs.of_format.declared.metadata.FileKind.{FileKind}
+use Rattle.bdb_layout.specs.of_format.HeadOf.{is_page_size}
+use Rattle.bdb_layout.specs.of_format.Numbers.{spelled, four_at}
+use Rattle.bdb_layout.specs.of_format.Rows.{magic_of, version_of, type_of}
+use Rattle.bdb_layout.specs.of_format.Spelling.{common_bytes, zeros, lsn_bytes}
+use Rattle.bdb_layout.proofs.of_format.SpellingLemmas.{length-spelled, number_at-in, number_at-behind}
 use Rattle.bdb_meta.proofs.FilledLemmas.{Filled, zeros-spelled}
 
 -- the pieces in the order in which they are written

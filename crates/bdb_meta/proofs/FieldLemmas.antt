@@ -1,14 +1,14 @@
 -- What is read from the bytes that spell metadata.
 use Rattle.std.proofs.Common.{◌≡◌, ℕ, ◌+◌, ◌-◌, ◌^◌, ◌<◌, List, ◌++◌, length, refl, ◌∙◌, append_assoc, length-append}
-use Rattle.bdb_format.specs.declared.kinds.Order.{Order}
-use Rattle.bdb_format.specs.declared.metadata.BtreeMeta.{BtreeMeta}
-use Rattle.bdb_format.specs.declared.metadata.HashMeta.{HashMeta}
-use Rattle.bdb_format.specs.declared.metadata.QueueMeta.{QueueMeta}
-use Rattle.bdb_format.specs.declared.metadata.FileKind.TheVariants.{Btree, Hash, Queue}
-use Rattle.bdb_format.specs.Numbers.{spelled, four_at}
-use Rattle.bdb_format.specs.Reading.{btree_fields, hash_fields, queue_fields}
-use Rattle.bdb_format.specs.Spelling.{btree_bytes, common_bytes, last_field, queue_bytes, table_bytes, zeros}
-use Rattle.bdb_format.proofs.SpellingLemmas.{length-spelled, number_at-behind, number_at-first}
+use Rattle.bdb_layout.specs.of_format.declared.kinds.Order.{Order}
+use Rattle.bdb_layout.specs.of_format.declared.metadata.BtreeMeta.{BtreeMeta}
+use Rattle.bdb_layout.specs.of_format.declared.metadata.HashMeta.{HashMeta}
+use Rattle.bdb_layout.specs.of_format.declared.metadata.QueueMeta.{QueueMeta}
+use Rattle.bdb_layout.specs.of_format.declared.metadata.FileKind.TheVariants.{Btree, Hash, Queue}
+use Rattle.bdb_layout.specs.of_format.Numbers.{spelled, four_at}
+use Rattle.bdb_layout.specs.of_format.Reading.{btree_fields, hash_fields, queue_fields}
+use Rattle.bdb_layout.specs.of_format.Spelling.{btree_bytes, common_bytes, last_field, queue_bytes, table_bytes, zeros}
+use Rattle.bdb_layout.proofs.of_format.SpellingLemmas.{length-spelled, number_at-behind, number_at-first}
 use Rattle.bdb_meta.specs.ReadBack.{BtreeFits, QueueFits, SparesFit, TableFits}
 use Rattle.bdb_meta.proofs.CommonLemmas.{behind-common, behind-number, flags-common, free-common, length-common}
 use Rattle.bdb_meta.proofs.SparesLemmas.{spares-in, spares_bytes}

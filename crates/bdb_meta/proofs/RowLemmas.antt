@@ -1,13 +1,13 @@
 -- Rows that follow one another, and the answer of a table with a value.
-use Rattle.bdb_format.proofs.PageLemmas.{answer_value}
+use Rattle.bdb_layout.proofs.of_format.PageLemmas.{answer_value}
 use Rattle.std.proofs.Common.{◌≡◌, ℕ, List, [], ◌∷◌, ◌++◌, ◌∙◌, ◌<◌, ◌≤◌, length, refl, arith, append_assoc}
 use Rattle.std.specs.Prelude.{None, Ok, Err}
-use Rattle.bdb_format.specs.declared.metadata.MetaFault.{MetaFault}
-use Rattle.bdb_format.specs.declared.kinds.Order.{Order}
-use Rattle.bdb_format.specs.declared.metadata.FileKind.{FileKind}
-use Rattle.bdb_format.specs.Rows.{kind_rows, metadata_rows}
-use Rattle.bdb_format.specs.Table.{Row, answer, first_row}
-use Rattle.bdb_format.specs.HeadOf.{faulted, head_rows}
+use Rattle.bdb_layout.specs.of_format.declared.metadata.MetaFault.{MetaFault}
+use Rattle.bdb_layout.specs.of_format.declared.kinds.Order.{Order}
+use Rattle.bdb_layout.specs.of_format.declared.metadata.FileKind.{FileKind}
+use Rattle.bdb_layout.specs.of_format.Rows.{kind_rows, metadata_rows}
+use Rattle.bdb_layout.specs.of_format.Table.{Row, answer, first_row}
+use Rattle.bdb_layout.specs.of_format.HeadOf.{faulted, head_rows}
 use Rattle.bdb_meta.specs.RowGroups.{common_rows, length_rows, page_rows, version_rows}
 
 -- rows that hold nowhere are passed

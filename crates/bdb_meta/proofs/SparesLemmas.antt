@@ -5,10 +5,10 @@ use Rattle.std.specs.List.{flat_map}
 use Rattle.std.proofs.lemmas.Grind.{flat_map-append}
 use Rattle.std.proofs.lemmas.List.{take_more}
 use Rattle.std.proofs.lemmas.List.FromFn.{fill_by_all}
-use Rattle.bdb_format.specs.declared.kinds.Order.{Order}
-use Rattle.bdb_format.specs.Numbers.{spelled, overwritten, four_at}
-use Rattle.bdb_format.specs.Reading.{hash_fields}
-use Rattle.bdb_format.proofs.SpellingLemmas.{length-spelled, number_at-behind, number_at-first, overwritten_next}
+use Rattle.bdb_layout.specs.of_format.declared.kinds.Order.{Order}
+use Rattle.bdb_layout.specs.of_format.Numbers.{spelled, overwritten, four_at}
+use Rattle.bdb_layout.specs.of_format.Reading.{hash_fields}
+use Rattle.bdb_layout.proofs.of_format.SpellingLemmas.{length-spelled, number_at-behind, number_at-first, overwritten_next}
 use Rattle.bdb_meta.proofs.CommonLemmas.{behind-number}
 
 abbrev pub spares_bytes : Order → List ℕ → List ℕ

@@ -1,3 +1,4 @@
+pub mod Below
 pub mod RowGroups
 pub mod ReadBack
 pub use Rattle.bdb_layout.specs as of_layout

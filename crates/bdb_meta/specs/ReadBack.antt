@@ -1,16 +1,16 @@
 -- What a writing call writes is read back as the same fields, where no row of the fault table holds for it.
 -- Source: docs/FORMAT.md, "What the writing calls spell" and "Metadata pages".
 use Rattle.std.specs.Prelude.{◌≡◌, ℕ, ◌^◌, ◌<◌, length, slice_index, None, Ok}
-use Rattle.bdb_format.specs.declared.kinds.Order.{Order}
-use Rattle.bdb_format.specs.declared.metadata.BtreeMeta.{BtreeMeta}
-use Rattle.bdb_format.specs.declared.metadata.HashMeta.{HashMeta}
-use Rattle.bdb_format.specs.declared.metadata.QueueMeta.{QueueMeta}
-use Rattle.bdb_format.specs.declared.metadata.FileKind.TheVariants.{Btree, Hash, Queue}
-use Rattle.bdb_format.specs.HeadOf.{faulted, form_fault}
-use Rattle.bdb_format.specs.Reading.{btree_fields, hash_fields, queue_fields}
-use Rattle.bdb_format.specs.Rows.{metadata_rows}
-use Rattle.bdb_format.specs.Spelling.{btree_bytes, queue_bytes, table_bytes}
-use Rattle.bdb_format.specs.Table.{answer, first_row}
+use Rattle.bdb_layout.specs.of_format.declared.kinds.Order.{Order}
+use Rattle.bdb_layout.specs.of_format.declared.metadata.BtreeMeta.{BtreeMeta}
+use Rattle.bdb_layout.specs.of_format.declared.metadata.HashMeta.{HashMeta}
+use Rattle.bdb_layout.specs.of_format.declared.metadata.QueueMeta.{QueueMeta}
+use Rattle.bdb_layout.specs.of_format.declared.metadata.FileKind.TheVariants.{Btree, Hash, Queue}
+use Rattle.bdb_layout.specs.of_format.HeadOf.{faulted, form_fault}
+use Rattle.bdb_layout.specs.of_format.Reading.{btree_fields, hash_fields, queue_fields}
+use Rattle.bdb_layout.specs.of_format.Rows.{metadata_rows}
+use Rattle.bdb_layout.specs.of_format.Spelling.{btree_bytes, queue_bytes, table_bytes}
+use Rattle.bdb_layout.specs.of_format.Table.{answer, first_row}
 
 -- each field fits four bytes
 pub record BtreeFits (meta : BtreeMeta) : Type 0 where

@@ -1,11 +1,11 @@
 -- Rows of the fault table, in the groups in which they are tested. Source: docs/FORMAT.md, "Faults".
 use Rattle.std.specs.Prelude.{ℕ, ◌%◌, ◌==◌, ◌||◌, not, List, [], ◌∷◌, ◌++◌, length}
-use Rattle.bdb_format.specs.declared.kinds.Order.{Order}
-use Rattle.bdb_format.specs.declared.metadata.FileKind.{FileKind}
-use Rattle.bdb_format.specs.Numbers.{byte_at, four_at, has_bit}
-use Rattle.bdb_format.specs.Table.{Row, ◌:?◌}
-use Rattle.bdb_format.specs.Rows.{are_wrong_flags, identity_rows, meta_rows, type_of, version_of}
-use Rattle.bdb_format.specs.HeadOf.{order_of, magic_at, file_kind, is_magic, heap_magic, is_page_size, is_past}
+use Rattle.bdb_layout.specs.of_format.declared.kinds.Order.{Order}
+use Rattle.bdb_layout.specs.of_format.declared.metadata.FileKind.{FileKind}
+use Rattle.bdb_layout.specs.of_format.Numbers.{byte_at, four_at, has_bit}
+use Rattle.bdb_layout.specs.of_format.Table.{Row, ◌:?◌}
+use Rattle.bdb_layout.specs.of_format.Rows.{are_wrong_flags, identity_rows, meta_rows, type_of, version_of}
+use Rattle.bdb_layout.specs.of_format.HeadOf.{order_of, magic_at, file_kind, is_magic, heap_magic, is_page_size, is_past}
 
 -- Of page 0, as it speaks of the file.
 

@@ -1,15 +1,15 @@
 ghost use Rattle.std.specs.Prelude.{◌≡◌, ◌≤◌, length, IsTrue};
-ghost use Rattle.bdb_format.specs.HeadOf.{faulted, form_fault, is_page_size};
-ghost use Rattle.bdb_format.specs.Reading.{btree_fields, is_zero};
-ghost use Rattle.bdb_format.specs.Rows.{are_wrong_flags, metadata_rows};
-ghost use Rattle.bdb_format.specs.Spelling.{btree_bytes};
-ghost use Rattle.bdb_format.specs.Table.{answer};
+ghost use Rattle.bdb_layout.specs.of_format.HeadOf.{faulted, form_fault, is_page_size};
+ghost use Rattle.bdb_layout.specs.of_format.Reading.{btree_fields, is_zero};
+ghost use Rattle.bdb_layout.specs.of_format.Rows.{are_wrong_flags, metadata_rows};
+ghost use Rattle.bdb_layout.specs.of_format.Spelling.{btree_bytes};
+ghost use Rattle.bdb_layout.specs.of_format.Table.{answer};
 ghost use Rattle.bdb_meta.specs.RowGroups.{flag_rows};
-ghost use Rattle.bdb_format.specs.declared.metadata.FileKind.TheVariants.{Btree};
+ghost use Rattle.bdb_layout.specs.of_format.declared.metadata.FileKind.TheVariants.{Btree};
 
 use crate::faults::form_fault;
 use crate::generic::{Generic, check_common, has_bit, put_generic};
-use bdb_format::{BtreeMeta, FileKind, MetaFault, Order};
+use bdb_layout::bdb_format::{BtreeMeta, FileKind, MetaFault, Order};
 use bdb_layout::{put_u32, u32_at};
 
 /// Whether flags aren't known or don't go together.
@@ -50,7 +50,7 @@ pub fn btree_fields(page: &[u8], order: Order) -> BtreeMeta
 }
 
 /// The fields of this page as btree metadata. A refusal is the code of the first row that holds.
-#[tactic(auto, unfolding(bdb_format::specs::Rows::metadata_rows))]
+#[tactic(auto, unfolding(crate::specs::Below::metadata_rows))]
 fn checked_btree(page: &[u8], order: Order, number: u32) -> Result<BtreeMeta, u8>
     requires { 512 ≤ length page.now }
     ensures { result ≡ answer (metadata_rows order page.now number 0 Btree) (btree_fields order page.now) }

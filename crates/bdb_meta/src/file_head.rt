@@ -1,12 +1,12 @@
 ghost use Rattle.std.specs.Prelude.{◌≡◌, ◌^◌, ◌≤◌, ◌/◌, length, IsTrue, OnOk};
-ghost use Rattle.bdb_format.specs.HeadOf.{faulted, file_kind, head_fault, head_of, head_rows, is_past, is_magic, is_page_size, last_page, order_of, pages_of};
-ghost use Rattle.bdb_format.specs.Numbers.{four_at};
+ghost use Rattle.bdb_layout.specs.of_format.HeadOf.{faulted, file_kind, head_fault, head_of, head_rows, is_past, is_magic, is_page_size, last_page, order_of, pages_of};
+ghost use Rattle.bdb_layout.specs.of_format.Numbers.{four_at};
 ghost use Rattle.bdb_meta.specs.RowGroups.{length_rows, page_rows, version_rows};
-ghost use Rattle.bdb_format.specs.Table.{answer};
+ghost use Rattle.bdb_layout.specs.of_format.Table.{answer};
 
 use crate::faults::head_fault;
 use crate::generic::{has_bit, is_partitioned, version_of};
-use bdb_format::{FileKind, Head, MetaFault, Order, is_page_size, magic_of};
+use bdb_layout::bdb_format::{FileKind, Head, MetaFault, Order, is_page_size, magic_of};
 use bdb_layout::u32_at;
 
 const HEAP_MAGIC: u32 = 0x074582;
@@ -70,7 +70,7 @@ fn last_page(image: &[u8], order: Order, kind: FileKind, pages: u32) -> u32
 }
 
 /// What page 0 says of the whole file, taken as it is.
-#[tactic(auto, unfolding(bdb_format::specs::HeadOf::head_of))]
+#[tactic(auto, unfolding(crate::specs::Below::head_of))]
 fn head_of(image: &[u8]) -> Head
     requires page { 512 ≤ length image.now }
     requires length { length image.now ≤ 2 ^ 30 }
@@ -136,7 +136,7 @@ fn check_pages(image: &[u8], order: Order) -> Result<(), u8>
 }
 
 /// Whether the last page isn't there. A queue goes to the end of its file.
-#[tactic(auto, unfolding(bdb_format::specs::HeadOf::head_of))]
+#[tactic(auto, unfolding(crate::specs::Below::head_of))]
 fn is_past(image: &[u8], head: &Head) -> bool
     requires { head.now ≡ head_of image.now }
     ensures { result ≡ is_past head.now.kind image.now }
@@ -148,7 +148,7 @@ fn is_past(image: &[u8], head: &Head) -> bool
 }
 
 /// The image has whole pages, the last one too. A refusal is the code of the row.
-#[tactic(auto, unfolding(bdb_format::specs::HeadOf::head_of))]
+#[tactic(auto, unfolding(crate::specs::Below::head_of))]
 fn check_length(image: &[u8], head: &Head) -> Result<(), u8>
     requires head { head.now ≡ head_of image.now }
     requires size { 512 ≤ head.now.page_size }
@@ -164,7 +164,7 @@ fn check_length(image: &[u8], head: &Head) -> Result<(), u8>
 }
 
 /// What page 0 says of the whole file. A refusal is the code of the first row that holds.
-#[tactic(auto, using(crate::proofs::RowLemmas::short_head), unfolding(bdb_format::specs::HeadOf::head_of))]
+#[tactic(auto, using(crate::proofs::RowLemmas::short_head), unfolding(crate::specs::Below::head_of))]
 fn checked_head(image: &[u8]) -> Result<Head, u8>
     requires { length image.now ≤ 2 ^ 30 }
     ensures { result ≡ answer (head_rows image.now) (head_of image.now) }

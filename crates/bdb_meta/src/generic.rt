@@ -1,12 +1,12 @@
 ghost use Rattle.std.specs.Prelude.{◌≡◌, ◌==◌, ◌≤◌, ◌<◌, ◌^◌, ◌-◌, ◌++◌, ◌||◌, length, not, IsTrue};
-ghost use Rattle.bdb_format.specs.Numbers.{byte_at, four_at, has_bit};
-ghost use Rattle.bdb_format.specs.Reading.{is_zero};
-ghost use Rattle.bdb_format.specs.Rows.{identity_rows, magic_of, meta_rows, type_of, version_of};
-ghost use Rattle.bdb_format.specs.Spelling.{common_bytes, last_field, zeros};
-ghost use Rattle.bdb_format.specs.Table.{answer};
+ghost use Rattle.bdb_layout.specs.of_format.Numbers.{byte_at, four_at, has_bit};
+ghost use Rattle.bdb_layout.specs.of_format.Reading.{is_zero};
+ghost use Rattle.bdb_layout.specs.of_format.Rows.{identity_rows, magic_of, meta_rows, type_of, version_of};
+ghost use Rattle.bdb_layout.specs.of_format.Spelling.{common_bytes, last_field, zeros};
+ghost use Rattle.bdb_layout.specs.of_format.Table.{answer};
 ghost use Rattle.bdb_meta.specs.RowGroups.{common_rows};
 
-use bdb_format::{FileKind, Order, magic_of};
+use bdb_layout::bdb_format::{FileKind, Order, magic_of};
 use bdb_layout::{put_u32, u32_at};
 
 /// The version that is read of a kind of file.

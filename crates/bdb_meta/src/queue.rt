@@ -1,14 +1,14 @@
 ghost use Rattle.std.specs.Prelude.{◌≡◌, ◌≤◌, length, IsTrue};
-ghost use Rattle.bdb_format.specs.HeadOf.{faulted, form_fault, is_page_size};
-ghost use Rattle.bdb_format.specs.Reading.{is_zero, queue_fields};
-ghost use Rattle.bdb_format.specs.Rows.{queue_rows, metadata_rows, records_per_page};
-ghost use Rattle.bdb_format.specs.Spelling.{queue_bytes};
-ghost use Rattle.bdb_format.specs.Table.{answer};
-ghost use Rattle.bdb_format.specs.declared.metadata.FileKind.TheVariants.{Queue};
+ghost use Rattle.bdb_layout.specs.of_format.HeadOf.{faulted, form_fault, is_page_size};
+ghost use Rattle.bdb_layout.specs.of_format.Reading.{is_zero, queue_fields};
+ghost use Rattle.bdb_layout.specs.of_format.Rows.{queue_rows, metadata_rows, records_per_page};
+ghost use Rattle.bdb_layout.specs.of_format.Spelling.{queue_bytes};
+ghost use Rattle.bdb_layout.specs.of_format.Table.{answer};
+ghost use Rattle.bdb_layout.specs.of_format.declared.metadata.FileKind.TheVariants.{Queue};
 
 use crate::faults::form_fault;
 use crate::generic::{Generic, check_common, put_generic};
-use bdb_format::{FileKind, MetaFault, Order, QueueMeta};
+use bdb_layout::bdb_format::{FileKind, MetaFault, Order, QueueMeta};
 use bdb_layout::{put_u32, u32_at};
 
 /// How many records of `re_len` bytes stand on a page of `size` bytes. A record has a byte of its own
@@ -58,7 +58,7 @@ pub fn queue_fields(page: &[u8], order: Order) -> QueueMeta
 }
 
 /// The fields of this page as queue metadata. A refusal is the code of the first row that holds.
-#[tactic(auto, unfolding(bdb_format::specs::Rows::metadata_rows))]
+#[tactic(auto, unfolding(crate::specs::Below::metadata_rows))]
 fn checked_queue(page: &[u8], order: Order) -> Result<QueueMeta, u8>
     requires { 512 ≤ length page.now }
     ensures { result ≡ answer (metadata_rows order page.now 0 0 Queue) (queue_fields order page.now) }

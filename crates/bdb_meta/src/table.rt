@@ -1,17 +1,17 @@
 ghost use Rattle.std.specs.Prelude.{◌≡◌, ◌+◌, ◌^◌, ◌<◌, ◌≤◌, length, IsTrue};
-ghost use Rattle.bdb_format.specs.Hashing.{group};
+ghost use Rattle.bdb_layout.specs.of_format.Hashing.{group};
 ghost use Rattle.std.specs.List.{flat_map};
-ghost use Rattle.bdb_format.specs.HeadOf.{faulted, form_fault, is_page_size};
-ghost use Rattle.bdb_format.specs.Numbers.{overwritten, spelled};
-ghost use Rattle.bdb_format.specs.Reading.{hash_fields, is_zero};
-ghost use Rattle.bdb_format.specs.Rows.{are_masks, lacks_spare, metadata_rows, table_rows};
-ghost use Rattle.bdb_format.specs.Spelling.{table_bytes};
-ghost use Rattle.bdb_format.specs.Table.{answer};
-ghost use Rattle.bdb_format.specs.declared.metadata.FileKind.TheVariants.{Hash};
+ghost use Rattle.bdb_layout.specs.of_format.HeadOf.{faulted, form_fault, is_page_size};
+ghost use Rattle.bdb_layout.specs.of_format.Numbers.{overwritten, spelled};
+ghost use Rattle.bdb_layout.specs.of_format.Reading.{hash_fields, is_zero};
+ghost use Rattle.bdb_layout.specs.of_format.Rows.{are_masks, lacks_spare, metadata_rows, table_rows};
+ghost use Rattle.bdb_layout.specs.of_format.Spelling.{table_bytes};
+ghost use Rattle.bdb_layout.specs.of_format.Table.{answer};
+ghost use Rattle.bdb_layout.specs.of_format.declared.metadata.FileKind.TheVariants.{Hash};
 
 use crate::faults::form_fault;
 use crate::generic::{Generic, check_common, put_generic};
-use bdb_format::{FileKind, HashMeta, MetaFault, Order};
+use bdb_layout::bdb_format::{FileKind, HashMeta, MetaFault, Order};
 use bdb_layout::{group_of, put_u32, u32_at};
 
 /// The hash of a fixed text, by which a file tells its hash function.
@@ -98,7 +98,7 @@ pub fn hash_fields(page: &[u8], order: Order) -> HashMeta
 }
 
 /// The fields of this page as hash metadata. A refusal is the code of the first row that holds.
-#[tactic(auto, unfolding(bdb_format::specs::Rows::metadata_rows))]
+#[tactic(auto, unfolding(crate::specs::Below::metadata_rows))]
 fn checked_table(page: &[u8], order: Order, number: u32, last: u32) -> Result<HashMeta, u8>
     requires page { 512 ≤ length page.now }
     requires last { last < 2 ^ 21 }

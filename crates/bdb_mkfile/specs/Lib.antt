@@ -16,6 +16,7 @@ pub mod Order
 pub mod Settled
 pub use Rattle.bdb_io.specs.of_format as of_format
 pub use Rattle.bdb_need.specs.of_image as of_image
+pub use Rattle.bdb_io.specs as of_io
 pub use Rattle.bdb_need.specs.of_law_join as of_law_join
 pub use Rattle.bdb_law_sections.specs as of_law_sections
 pub use Rattle.bdb_need.specs.of_layout as of_layout

@@ -16,7 +16,7 @@ mod trees;
 mod units;
 
 pub use bdb_mkhash;
-pub use bdb_mkhash::{bdb_layout, bdb_mktree, bdb_pack, bdb_places, bdb_text_format};
+pub use bdb_mkhash::{bdb_format, bdb_layout, bdb_mktree, bdb_pack, bdb_places, bdb_text_format};
 pub use bdb_mkqueue;
 pub use bdb_mkqueue::{bdb_graph, bdb_meta};
 pub use bdb_settle;

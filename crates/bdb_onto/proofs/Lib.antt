@@ -8,6 +8,5 @@ pub mod JoiningLemmas
 pub mod NothingLemmas
 pub mod OntoLemmas
 pub mod SearchLemmas
-pub use Rattle.bdb_law_kept.proofs.of_btree as of_btree
 pub use Rattle.bdb_mkfile.proofs as of_mkfile
 pub use Rattle.bdb_law_kept.proofs.of_text as of_text

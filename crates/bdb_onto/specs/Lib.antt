@@ -4,12 +4,8 @@ pub mod Laws
 pub mod Onto
 pub mod Samples
 pub mod Search
-pub use Rattle.bdb_law_kept.specs.of_btree as of_btree
-pub use Rattle.bdb_law_kept.specs.of_databases as of_databases
-pub use Rattle.bdb_mkfile.specs.of_image as of_image
 pub use Rattle.bdb_mkfile.specs.of_law_sections as of_law_sections
 pub use Rattle.bdb_mkfile.specs as of_mkfile
 pub use Rattle.bdb_mkfile.specs.of_need as of_need
-pub use Rattle.bdb_law_kept.specs.of_overflow as of_overflow
 pub use Rattle.bdb_mkfile.specs.of_settle as of_settle
 pub use Rattle.bdb_law_kept.specs.of_text as of_text

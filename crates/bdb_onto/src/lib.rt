@@ -9,8 +9,8 @@ mod onto;
 mod partners;
 
 pub use base::Base;
-pub use bdb_law_kept::{bdb_btree, bdb_overflow, bdb_text, bdb_tree};
+pub use bdb_law_kept::bdb_text;
 pub use bdb_mkfile;
-pub use bdb_mkfile::{bdb_graph, bdb_io, bdb_layout, bdb_settle};
+pub use bdb_mkfile::{bdb_io, bdb_settle};
 pub use errors::onto_error;
 pub use onto::{load_onto, settle_onto};

@@ -3,9 +3,9 @@ use Rattle.std.proofs.Common.{◌≡◌, ℕ, ◌+◌, List, subst, zero-add}
 use Rattle.std.specs.List.{flat_map, range_with_len}
 use Rattle.bdb_graph.specs.of_faults.Notes.{Notes, NotesAll}
 use Rattle.bdb_graph.proofs.of_faults.SinkLemmas.{notes_more, notes_none, notes_one}
-use Rattle.bdb_format.specs.declared.kinds.Fault.{Fault}
-use Rattle.bdb_format.specs.File.{File}
-use Rattle.bdb_format.specs.Verdict.{chain_faults}
+use Rattle.bdb_graph.specs.of_format.declared.kinds.Fault.{Fault}
+use Rattle.bdb_graph.specs.of_format.File.{File}
+use Rattle.bdb_graph.specs.of_format.Verdict.{chain_faults}
 use Rattle.bdb_overflow.specs.Lengths.{faults_at}
 
 -- the faults of the pages below one are noted

@@ -4,26 +4,26 @@ use Rattle.std.proofs.Common.{true≢false}
 use Rattle.std.specs.Prelude.{slice_get}
 use Rattle.std.specs.List.{Contains}
 use Rattle.std.proofs.lemmas.Bool.{and_parts, cases_Bool, eqb-true, leb-true}
-use Rattle.bdb_format.specs.declared.kinds.Order.{Order}
-use Rattle.bdb_format.specs.declared.metadata.FileKind.TheVariants.{Queue as QueueFile}
-use Rattle.bdb_format.specs.declared.references.Sort.TheVariants.{OverflowHead}
-use Rattle.bdb_format.specs.File.{File, file_of, page_at, page_bytes}
-use Rattle.bdb_format.specs.HeadOf.{head_of}
-use Rattle.bdb_format.specs.Page.{Content, Inline, Set, Chain, Tree, Unknown, Item, InternalItem, Listed, Page, Hash, Internal, Leaf, RecnoLeaf, DupLeaf}
-use Rattle.bdb_format.specs.Page.{PageType, LeafPage}
-use Rattle.bdb_format.specs.Reading.{abstract_page, entries_of, leaf_item_at, listed, page_as}
-use Rattle.bdb_format.specs.References.{content_targets, is_shared_key, targets_in, targets_of, no_item, contents_in}
-use Rattle.bdb_format.proofs.MemberLemmas.{first_member, in_map}
-use Rattle.bdb_format.proofs.PageLemmas.{index_offset, length_items}
-use Rattle.bdb_format.proofs.TargetLemmas.{held_named, own_held}
+use Rattle.bdb_graph.specs.of_format.declared.kinds.Order.{Order}
+use Rattle.bdb_graph.specs.of_format.declared.metadata.FileKind.TheVariants.{Queue as QueueFile}
+use Rattle.bdb_graph.specs.of_format.declared.references.Sort.TheVariants.{OverflowHead}
+use Rattle.bdb_graph.specs.of_format.File.{File, file_of, page_at, page_bytes}
+use Rattle.bdb_graph.specs.of_format.HeadOf.{head_of}
+use Rattle.bdb_graph.specs.of_format.Page.{Content, Inline, Set, Chain, Tree, Unknown, Item, InternalItem, Listed, Page, Hash, Internal, Leaf, RecnoLeaf, DupLeaf}
+use Rattle.bdb_graph.specs.of_format.Page.{PageType, LeafPage}
+use Rattle.bdb_graph.specs.of_format.Reading.{abstract_page, entries_of, leaf_item_at, listed, page_as}
+use Rattle.bdb_graph.specs.of_format.References.{content_targets, is_shared_key, targets_in, targets_of, no_item, contents_in}
+use Rattle.bdb_graph.proofs.of_format.MemberLemmas.{first_member, in_map}
+use Rattle.bdb_graph.proofs.of_format.PageLemmas.{index_offset, length_items}
+use Rattle.bdb_graph.proofs.of_format.TargetLemmas.{held_named, own_held}
 use Rattle.bdb_graph.specs.of_image.Linked.{FitsChain, IsForest}
 use Rattle.bdb_graph.proofs.ChildLemmas.{is_queue_page, queue_page}
 use Rattle.bdb_graph.proofs.LinkedLemmas.{named_target}
 use Rattle.bdb_overflow.specs.Datum.{FitsContent}
-use Rattle.bdb_format.proofs.ListLemmas.{member_of}
-use Rattle.bdb_format.proofs.ReferenceLemmas.{forest_names}
-use Rattle.bdb_format.proofs.LeafLemmas.{leaf_item_is, one_offset}
-use Rattle.bdb_format.proofs.FileLemmas.{last_page, page_is}
+use Rattle.bdb_graph.proofs.of_format.ListLemmas.{member_of}
+use Rattle.bdb_graph.proofs.of_format.ReferenceLemmas.{forest_names}
+use Rattle.bdb_graph.proofs.of_format.LeafLemmas.{leaf_item_is, one_offset}
+use Rattle.bdb_graph.proofs.of_format.FileLemmas.{last_page, page_is}
 
 -- Pages with items stand in no queue file.
 

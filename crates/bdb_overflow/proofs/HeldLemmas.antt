@@ -7,10 +7,10 @@ use Rattle.std.specs.Ordering.{is_eq, nat_cmp, ordering_then}
 use Rattle.std.specs.declared.cmp.Ordering.{Ordering}
 use Rattle.std.specs.declared.cmp.Ordering.TheVariants.{Less as Below, Equal, Greater}
 use Rattle.std.proofs.lemmas.Bool.{cases_eq, cases_order}
-use Rattle.bdb_format.specs.File.{file_of}
-use Rattle.bdb_format.specs.Less.{less}
+use Rattle.bdb_graph.specs.of_format.File.{file_of}
+use Rattle.bdb_graph.specs.of_format.Less.{less}
 use Rattle.bdb_overflow.specs.Held.{AreFound, chain_value, two_cmp}
-use Rattle.bdb_format.proofs.ListLemmas.{one_answer}
+use Rattle.bdb_graph.proofs.of_format.ListLemmas.{one_answer}
 
 -- two numbers that differ
 pub apart : (a b : ℕ) → (a ≡ b → ⊥) → is_eq (nat_cmp a b) ≡ false

@@ -7,16 +7,16 @@ use Rattle.std.proofs.lemmas.Bool.{cases_order}
 use Rattle.std.proofs.lemmas.List.Folds.{flat_map-map, list_any-append, list_any_at}
 use Rattle.std.proofs.lemmas.List.FromFn.{get_or-range_with_len, length-range_with_len}
 use Rattle.bdb_graph.specs.of_slots.Slots.{no_internal_item}
-use Rattle.bdb_format.specs.Chains.{content_chains, is_wrong_length}
-use Rattle.bdb_format.specs.File.{File, page_at}
-use Rattle.bdb_format.specs.Page.{Content, DupLeaf, Hash, Internal, Item, InternalItem, Leaf, Listed, RecnoLeaf}
-use Rattle.bdb_format.specs.References.{is_shared_key, no_item}
-use Rattle.bdb_format.specs.Verdict.{chain_faults}
-use Rattle.bdb_format.proofs.MemberLemmas.{none_pass, of_range}
-use Rattle.bdb_format.proofs.VerdictLemmas.{no_faults, none_holds}
+use Rattle.bdb_graph.specs.of_format.Chains.{content_chains, is_wrong_length}
+use Rattle.bdb_graph.specs.of_format.File.{File, page_at}
+use Rattle.bdb_graph.specs.of_format.Page.{Content, DupLeaf, Hash, Internal, Item, InternalItem, Leaf, Listed, RecnoLeaf}
+use Rattle.bdb_graph.specs.of_format.References.{is_shared_key, no_item}
+use Rattle.bdb_graph.specs.of_format.Verdict.{chain_faults}
+use Rattle.bdb_graph.proofs.of_format.MemberLemmas.{none_pass, of_range}
+use Rattle.bdb_graph.proofs.of_format.VerdictLemmas.{no_faults, none_holds}
 use Rattle.bdb_overflow.specs.Lengths.{has_wrong, is_wrong, is_wrong_entry, is_wrong_item, is_wrong_key}
 use Rattle.bdb_overflow.proofs.ContentLemmas.{got}
-use Rattle.bdb_format.proofs.ListLemmas.{none_of_list}
+use Rattle.bdb_graph.proofs.of_format.ListLemmas.{none_of_list}
 
 -- Items.
 

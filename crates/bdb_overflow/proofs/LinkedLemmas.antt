@@ -4,27 +4,27 @@ use Rattle.std.proofs.Common.{sym, ◌∙◌, ap, subst, inl, inr}
 use Rattle.std.specs.Prelude.{◌==◌, ◌||◌, ◌&&◌, nat_lt}
 use Rattle.std.specs.List.{Contains}
 use Rattle.std.proofs.lemmas.Bool.{cases_Bool, cases_eq, eq-eqb, eqb-false, eqb-true, ltb-false, ne_eqb, or_parts}
-use Rattle.bdb_format.specs.declared.kinds.Order.{Order}
-use Rattle.bdb_format.specs.declared.metadata.FileKind.{FileKind}
-use Rattle.bdb_format.specs.declared.metadata.FileKind.TheVariants.{Btree, Hash, Queue}
-use Rattle.bdb_format.specs.declared.metadata.Head.{Head}
-use Rattle.bdb_format.specs.declared.references.Reference.{Reference}
-use Rattle.bdb_format.specs.declared.references.Sort.{Sort}
-use Rattle.bdb_format.specs.declared.references.Sort.TheVariants.{OverflowHead, OverflowNext}
-use Rattle.bdb_format.specs.Chains.{chain_in, next_of, piece_in, pieces_of}
-use Rattle.bdb_format.specs.File.{File, file_as, file_of, header_in, page_at, page_bytes, type_in}
-use Rattle.bdb_format.specs.Graph.{Owner, all_references, owners}
-use Rattle.bdb_format.specs.HeadOf.{head_of, is_page_size}
-use Rattle.bdb_format.specs.Numbers.{byte_at, two_at}
-use Rattle.bdb_format.specs.Page.{Overflow, Page}
-use Rattle.bdb_format.specs.Reading.{abstract_page, header_of, is_zero, page_type}
-use Rattle.bdb_format.specs.References.{asked_by, fit_code, fit_rows, has_type, is_zero_page, targets_in, targets_of, refs}
-use Rattle.bdb_format.specs.Rows.{body_code, form_code, identity_rows, is_tree_type, may_have_type, page_code}
-use Rattle.bdb_format.specs.Table.{first_row}
-use Rattle.bdb_format.proofs.GraphLemmas.{IsOwner, each_fits, is_owner, type_fits}
-use Rattle.bdb_format.proofs.MemberLemmas.{first_member, in_filter}
-use Rattle.bdb_format.proofs.PageLemmas.{later_type}
-use Rattle.bdb_format.proofs.VerdictLemmas.{AllFail, none_is_first_row}
+use Rattle.bdb_graph.specs.of_format.declared.kinds.Order.{Order}
+use Rattle.bdb_graph.specs.of_format.declared.metadata.FileKind.{FileKind}
+use Rattle.bdb_graph.specs.of_format.declared.metadata.FileKind.TheVariants.{Btree, Hash, Queue}
+use Rattle.bdb_graph.specs.of_format.declared.metadata.Head.{Head}
+use Rattle.bdb_graph.specs.of_format.declared.references.Reference.{Reference}
+use Rattle.bdb_graph.specs.of_format.declared.references.Sort.{Sort}
+use Rattle.bdb_graph.specs.of_format.declared.references.Sort.TheVariants.{OverflowHead, OverflowNext}
+use Rattle.bdb_graph.specs.of_format.Chains.{chain_in, next_of, piece_in, pieces_of}
+use Rattle.bdb_graph.specs.of_format.File.{File, file_as, file_of, header_in, page_at, page_bytes, type_in}
+use Rattle.bdb_graph.specs.of_format.Graph.{Owner, all_references, owners}
+use Rattle.bdb_graph.specs.of_format.HeadOf.{head_of, is_page_size}
+use Rattle.bdb_graph.specs.of_format.Numbers.{byte_at, two_at}
+use Rattle.bdb_graph.specs.of_format.Page.{Overflow, Page}
+use Rattle.bdb_graph.specs.of_format.Reading.{abstract_page, header_of, is_zero, page_type}
+use Rattle.bdb_graph.specs.of_format.References.{asked_by, fit_code, fit_rows, has_type, is_zero_page, targets_in, targets_of, refs}
+use Rattle.bdb_graph.specs.of_format.Rows.{body_code, form_code, identity_rows, is_tree_type, may_have_type, page_code}
+use Rattle.bdb_graph.specs.of_format.Table.{first_row}
+use Rattle.bdb_graph.proofs.of_format.GraphLemmas.{IsOwner, each_fits, is_owner, type_fits}
+use Rattle.bdb_graph.proofs.of_format.MemberLemmas.{first_member, in_filter}
+use Rattle.bdb_graph.proofs.of_format.PageLemmas.{later_type}
+use Rattle.bdb_graph.proofs.of_format.VerdictLemmas.{AllFail, none_is_first_row}
 use Rattle.bdb_graph.proofs.ReachLemmas.{AllUpTo, few_distinct}
 use Rattle.bdb_graph.specs.Forest.{AllDistinct, IsWayDown, Names}
 use Rattle.bdb_graph.specs.of_image.Linked.{FitsChain, IsForest}
@@ -36,9 +36,9 @@ use Rattle.bdb_graph.proofs.of_image.FormedLemmas.{IsPaged, accepted_paged, page
 use Rattle.bdb_graph.proofs.of_image.HeldLemmas.{other_formed}
 use Rattle.bdb_overflow.specs.Whole.{EndsIn, IsLink, IsWholeChain, next_at}
 use Rattle.bdb_overflow.proofs.WholeLemmas.{after_piece, count_as, data_at, link_next, link_piece, overflow_page, pieces_in, pieces_turn}
-use Rattle.bdb_format.proofs.ReferenceLemmas.{forest_names}
-use Rattle.bdb_format.proofs.FileLemmas.{kind_is, last_page, page_is}
-use Rattle.bdb_format.proofs.SizeLemmas.{size_bounds}
+use Rattle.bdb_graph.proofs.of_format.ReferenceLemmas.{forest_names}
+use Rattle.bdb_graph.proofs.of_format.FileLemmas.{kind_is, last_page, page_is}
+use Rattle.bdb_graph.proofs.of_format.SizeLemmas.{size_bounds}
 
 -- Pages of a linked image.
 

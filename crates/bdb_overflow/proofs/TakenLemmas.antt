@@ -1,14 +1,14 @@
 -- Pieces with bytes, and the pages that are passed over.
 use Rattle.std.proofs.Common.{◌≡◌, ℕ, zero, suc, ◌/◌, ◌≤◌, true, List, [], ◌∷◌, ◌++◌, length, arith, refl, sym, ◌∙◌, ap, subst}
 use Rattle.std.specs.Prelude.{Option, Some, None}
-use Rattle.bdb_format.specs.declared.kinds.Order.{Order}
-use Rattle.bdb_format.specs.Chains.{joined, next_of, piece_in, pieces_of}
-use Rattle.bdb_format.specs.File.{file_as, file_of, header_in, page_at}
-use Rattle.bdb_format.specs.HeadOf.{head_of, is_page_size}
-use Rattle.bdb_format.specs.Page.{Overflow}
-use Rattle.bdb_format.specs.Reading.{header_of}
-use Rattle.bdb_format.proofs.FileLemmas.{last_page, page_is}
-use Rattle.bdb_format.proofs.SizeLemmas.{size_bounds}
+use Rattle.bdb_graph.specs.of_format.declared.kinds.Order.{Order}
+use Rattle.bdb_graph.specs.of_format.Chains.{joined, next_of, piece_in, pieces_of}
+use Rattle.bdb_graph.specs.of_format.File.{file_as, file_of, header_in, page_at}
+use Rattle.bdb_graph.specs.of_format.HeadOf.{head_of, is_page_size}
+use Rattle.bdb_graph.specs.of_format.Page.{Overflow}
+use Rattle.bdb_graph.specs.of_format.Reading.{header_of}
+use Rattle.bdb_graph.proofs.of_format.FileLemmas.{last_page, page_is}
+use Rattle.bdb_graph.proofs.of_format.SizeLemmas.{size_bounds}
 use Rattle.bdb_graph.specs.Blanks.{ArePassedIfAny as AreKnownPassed, ComesAfter}
 use Rattle.bdb_graph.specs.of_image.Linked.{IsForest}
 use Rattle.bdb_overflow.specs.Taken.{ArePassedIfAny, StandsFor, full_pieces, taken_pieces}

@@ -4,14 +4,14 @@ use Rattle.std.specs.List.{list_any}
 use Rattle.std.proofs.lemmas.Bool.{cases_Bool}
 use Rattle.bdb_graph.specs.of_faults.Notes.{NotesAll}
 use Rattle.bdb_graph.proofs.of_faults.SinkLemmas.{notes_none}
-use Rattle.bdb_format.specs.declared.kinds.Fault.{Fault}
-use Rattle.bdb_format.specs.Chains.{content_chains, is_wrong_length}
-use Rattle.bdb_format.specs.File.{File, file_of, page_at}
-use Rattle.bdb_format.specs.Graph.{all_references, is_head_reference}
-use Rattle.bdb_format.specs.Page.{Chain, Content, Inline, Meta, Page, Queue, Set, Tree, Unknown, Zero}
-use Rattle.bdb_format.specs.References.{contents_in}
-use Rattle.bdb_format.specs.Verdict.{chain_faults}
-use Rattle.bdb_format.proofs.MemberLemmas.{none_pass, none_passes}
+use Rattle.bdb_graph.specs.of_format.declared.kinds.Fault.{Fault}
+use Rattle.bdb_graph.specs.of_format.Chains.{content_chains, is_wrong_length}
+use Rattle.bdb_graph.specs.of_format.File.{File, file_of, page_at}
+use Rattle.bdb_graph.specs.of_format.Graph.{all_references, is_head_reference}
+use Rattle.bdb_graph.specs.of_format.Page.{Chain, Content, Inline, Meta, Page, Queue, Set, Tree, Unknown, Zero}
+use Rattle.bdb_graph.specs.of_format.References.{contents_in}
+use Rattle.bdb_graph.specs.of_format.Verdict.{chain_faults}
+use Rattle.bdb_graph.proofs.of_format.MemberLemmas.{none_pass, none_passes}
 use Rattle.bdb_graph.proofs.ChildLemmas.{is_queue_page}
 use Rattle.bdb_graph.specs.of_image.Linked.{IsForest}
 use Rattle.bdb_graph.specs.Walked.{names_head}

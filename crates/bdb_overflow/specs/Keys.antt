@@ -5,7 +5,7 @@ use Rattle.std.specs.Cmp.Lexicographic.{slice_cmp}
 use Rattle.std.specs.List.{list_any}
 use Rattle.std.specs.Ordering.{nat_cmp}
 use Rattle.std.specs.Str.{bytes_eq}
-use Rattle.bdb_format.specs.declared.kinds.Fault.{Fault}
+use Rattle.bdb_graph.specs.of_format.declared.kinds.Fault.{Fault}
 
 -- this key is among these
 abbrev pub has_key : BTreeSet (List ℕ) → List ℕ → Bool

@@ -2,12 +2,12 @@
 use Rattle.std.specs.Prelude.{ℕ, ◌&&◌, Bool, List, get_or, map, not}
 use Rattle.std.specs.List.{list_any}
 use Rattle.bdb_graph.specs.of_slots.Slots.{no_internal_item}
-use Rattle.bdb_format.specs.Chains.{chain_rows, chains_in, content_chains, is_wrong_length}
-use Rattle.bdb_format.specs.File.{File}
-use Rattle.bdb_format.specs.ByPage.{holding}
-use Rattle.bdb_format.specs.declared.kinds.Fault.{Fault}
-use Rattle.bdb_format.specs.Page.{Content, Item, InternalItem, Listed, Page}
-use Rattle.bdb_format.specs.References.{is_shared_key, no_item}
+use Rattle.bdb_graph.specs.of_format.Chains.{chain_rows, chains_in, content_chains, is_wrong_length}
+use Rattle.bdb_graph.specs.of_format.File.{File}
+use Rattle.bdb_graph.specs.of_format.ByPage.{holding}
+use Rattle.bdb_graph.specs.of_format.declared.kinds.Fault.{Fault}
+use Rattle.bdb_graph.specs.of_format.Page.{Content, Item, InternalItem, Listed, Page}
+use Rattle.bdb_graph.specs.of_format.References.{is_shared_key, no_item}
 
 abbrev pub is_wrong : File → Content → Bool
 is_wrong file content = list_any (is_wrong_length file) (content_chains content)

@@ -1,3 +1,4 @@
+pub mod Below
 pub mod Datum
 pub mod Held
 pub mod Keys
@@ -6,7 +7,9 @@ pub mod Prefix
 pub mod Runs
 pub mod Taken
 pub mod Whole
+pub use Rattle.bdb_graph.specs.of_faults as of_faults
 pub use Rattle.bdb_graph.specs.of_form as of_form
+pub use Rattle.bdb_graph.specs.of_format as of_format
 pub use Rattle.bdb_graph.specs as of_graph
 pub use Rattle.bdb_graph.specs.of_image as of_image
 pub use Rattle.bdb_graph.specs.of_layout as of_layout

@@ -1,6 +1,6 @@
 -- Which pages of a chain are gone through for its bytes. Source: docs/FORMAT.md, "Other pages".
 use Rattle.std.specs.Prelude.{◌≡◌, ℕ, ◌≤◌, List, [], ◌∷◌, length, Option, Some, None}
-use Rattle.bdb_format.specs.declared.kinds.Order.{Order}
+use Rattle.bdb_graph.specs.of_format.declared.kinds.Order.{Order}
 use Rattle.bdb_graph.specs.Blanks.{page_past}
 use Rattle.bdb_overflow.specs.Whole.{IsLeft, pieces_from}
 use Rattle.bdb_overflow.specs.declared.taken.Taken.{Taken}

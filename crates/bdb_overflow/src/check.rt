@@ -1,15 +1,15 @@
 ghost use Rattle.std.specs.Prelude.{◌≡◌, ◌≤◌, [], IfErr, IsTrue, OnErr, OnOk, Some};
 ghost use Rattle.bdb_graph.specs.of_faults.Named.{HasNoted};
 ghost use Rattle.bdb_graph.specs.of_faults.Notes.{Notes, NotesAll};
-ghost use Rattle.bdb_format.specs.File.{file_of};
-ghost use Rattle.bdb_format.specs.Verdict.{chain_faults, first_fault};
+ghost use Rattle.bdb_graph.specs.of_format.File.{file_of};
+ghost use Rattle.bdb_graph.specs.of_format.Verdict.{chain_faults, first_fault};
 ghost use Rattle.bdb_graph.specs.of_image.Linked.{IsForest};
 ghost use Rattle.bdb_overflow.specs.Lengths.{faults_at};
 
 use crate::lengths::has_wrong;
-use bdb_format::Fault;
 use bdb_graph::Linked;
 use bdb_graph::bdb_faults::{FaultSink, First, NamedList, Row, StructureRow};
+use bdb_graph::bdb_format::Fault;
 use std::alloc::AllocError;
 
 /// Each chain has the length that the items which name it tell. A refusal is the first fault: the least

@@ -1,8 +1,8 @@
 ghost use Rattle.std.specs.Prelude.{◌≡◌};
 ghost use Rattle.std.specs.Option.{option_map};
 ghost use Rattle.bdb_graph.specs.of_layout.Seen.{content_seen, hash_content_seen, key_seen, leaf_item_seen};
-ghost use Rattle.bdb_format.specs.Chains.{value_of};
-ghost use Rattle.bdb_format.specs.File.{file_of};
+ghost use Rattle.bdb_graph.specs.of_format.Chains.{value_of};
+ghost use Rattle.bdb_graph.specs.of_format.File.{file_of};
 ghost use Rattle.bdb_overflow.specs.Datum.{FitsContent, datum_seen, single_value};
 
 use crate::{Datum, chain_pieces};
@@ -10,7 +10,7 @@ use bdb_graph::Forest;
 use bdb_graph::bdb_layout::{Content, HashItem, InternalKey, LeafItem};
 
 /// The value of what an item holds; a set, on or off the page, is none.
-#[tactic(auto, unfolding(bdb_format::specs::Chains::value_of))]
+#[tactic(auto, unfolding(crate::specs::Below::value_of))]
 pub fn content_datum<'a>(forest: &Forest<'a>, content: &Content<'a>) -> Option<Datum<'a>>
     requires { FitsContent (file_of forest.now) (content_seen content.now) }
     ensures { option_map datum_seen result ≡ single_value (file_of forest.now) (content_seen content.now) }
@@ -39,7 +39,7 @@ pub fn hash_datum<'a>(forest: &Forest<'a>, item: &HashItem<'a>) -> Option<Datum<
 }
 
 /// The key of an item of an internal page.
-#[tactic(auto, unfolding(bdb_format::specs::Chains::value_of))]
+#[tactic(auto, unfolding(crate::specs::Below::value_of))]
 pub fn key_datum<'a>(forest: &Forest<'a>, key: &InternalKey<'a>) -> Datum<'a>
     requires { FitsContent (file_of forest.now) (key_seen key.now) }
     ensures { datum_seen result ≡ value_of (file_of forest.now) (key_seen key.now) }

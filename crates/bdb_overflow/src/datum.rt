@@ -1,9 +1,9 @@
 ghost use Rattle.std.specs.Prelude.{◌≡◌, ◌++◌, ◌==◌, IfOk, OnOk, length};
-ghost use Rattle.bdb_format.specs.Chains.{joined};
+ghost use Rattle.bdb_graph.specs.of_format.Chains.{joined};
 ghost use Rattle.bdb_overflow.specs.Datum.{datum_seen};
 
 use crate::Pieces;
-use bdb_format::Bytes;
+use bdb_graph::bdb_format::Bytes;
 use std::alloc::{AllocError, Global};
 
 /// A value: bytes of a page, or the pieces of its chain.

@@ -1,6 +1,6 @@
 ghost use Rattle.std.specs.Prelude.{◌≡◌};
-ghost use Rattle.bdb_format.specs.Chains.{value_of};
-ghost use Rattle.bdb_format.specs.File.{File, file_of};
+ghost use Rattle.bdb_graph.specs.of_format.Chains.{value_of};
+ghost use Rattle.bdb_graph.specs.of_format.File.{File, file_of};
 ghost use Rattle.bdb_graph.specs.of_layout.Seen.{key_seen, leaf_item_seen};
 ghost use Rattle.bdb_overflow.specs.Datum.{FitsContent, datum_seen};
 ghost use Rattle.bdb_overflow.specs.Held.{FitsHeld, value_held};
@@ -30,7 +30,7 @@ impl<'a> Held<'a> {
 }
 
 /// What an item of a leaf holds; a set off the page has no value by itself, and so no bytes.
-#[tactic(auto, unfolding(bdb_format::specs::Chains::value_of))]
+#[tactic(auto, unfolding(crate::specs::Below::value_of))]
 pub fn leaf_held<'a>(item: &LeafItem<'a>) -> Held<'a>
     ensures value { (file : File) → value_held file result ≡ value_of file (leaf_item_seen item.now).content }
     ensures fits { (file : File) → FitsContent file (leaf_item_seen item.now).content → FitsHeld file result }
@@ -43,7 +43,7 @@ pub fn leaf_held<'a>(item: &LeafItem<'a>) -> Held<'a>
 }
 
 /// What the key of an item of an internal page holds.
-#[tactic(auto, unfolding(bdb_format::specs::Chains::value_of))]
+#[tactic(auto, unfolding(crate::specs::Below::value_of))]
 pub fn key_held<'a>(key: &InternalKey<'a>) -> Held<'a>
     ensures value { (file : File) → value_held file result ≡ value_of file (key_seen key.now) }
     ensures fits { (file : File) → FitsContent file (key_seen key.now) → FitsHeld file result }

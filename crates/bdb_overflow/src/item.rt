@@ -1,6 +1,6 @@
 ghost use Rattle.std.specs.Prelude.{◌≡◌};
-ghost use Rattle.bdb_format.specs.Chains.{value_of};
-ghost use Rattle.bdb_format.specs.File.{file_of};
+ghost use Rattle.bdb_graph.specs.of_format.Chains.{value_of};
+ghost use Rattle.bdb_graph.specs.of_format.File.{file_of};
 ghost use Rattle.bdb_graph.specs.of_layout.Seen.{leaf_item_seen};
 ghost use Rattle.bdb_overflow.specs.Datum.{FitsContent, datum_seen};
 
@@ -20,7 +20,7 @@ pub fn is_deleted(item: &LeafItem<'_>) -> bool
 }
 
 /// The value of an item of a leaf; a set off the page has none by itself, and so no bytes.
-#[tactic(auto, unfolding(bdb_format::specs::Chains::value_of))]
+#[tactic(auto, unfolding(crate::specs::Below::value_of))]
 pub fn value_of<'a>(forest: &Forest<'a>, item: &LeafItem<'a>) -> Datum<'a>
     requires { FitsContent (file_of forest.now) (leaf_item_seen item.now).content }
     ensures { datum_seen result ≡ value_of (file_of forest.now) (leaf_item_seen item.now).content }

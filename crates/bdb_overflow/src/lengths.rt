@@ -1,9 +1,9 @@
 ghost use Rattle.std.specs.Prelude.{◌≡◌, ◌+◌, ◌*◌, ◌<◌, ◌≤◌, length};
 ghost use Rattle.bdb_graph.specs.of_image.Linked.{FitsChain, IsForest};
 ghost use Rattle.bdb_graph.specs.of_layout.Seen.{content_seen};
-ghost use Rattle.bdb_format.specs.Chains.{is_wrong_length};
-ghost use Rattle.bdb_format.specs.File.{file_of, page_at};
-ghost use Rattle.bdb_format.specs.Page.{DupLeaf, Hash, Internal, Leaf, RecnoLeaf};
+ghost use Rattle.bdb_graph.specs.of_format.Chains.{is_wrong_length};
+ghost use Rattle.bdb_graph.specs.of_format.File.{file_of, page_at};
+ghost use Rattle.bdb_graph.specs.of_format.Page.{DupLeaf, Hash, Internal, Leaf, RecnoLeaf};
 ghost use Rattle.bdb_overflow.specs.Datum.{FitsContent};
 ghost use Rattle.bdb_overflow.specs.Lengths.{has_wrong, is_wrong, is_wrong_entry, is_wrong_item, is_wrong_key};
 

@@ -17,7 +17,7 @@ mod taken;
 mod values;
 
 pub use bdb_graph;
-pub use bdb_graph::{bdb_faults, bdb_form, bdb_layout};
+pub use bdb_graph::{bdb_faults, bdb_form, bdb_format, bdb_layout};
 pub use chains::{chain_pieces, pieces};
 pub use check::{chain_faults, check_chains, note_chains};
 pub use content::{content_datum, hash_datum, key_datum, leaf_datum};

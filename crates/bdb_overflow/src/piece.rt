@@ -1,15 +1,15 @@
 ghost use Rattle.std.specs.Prelude.{◌≡◌, ◌+◌, ◌/◌, ◌^◌, ◌<◌, ◌≤◌, ◌∷◌, ◌==◌, [], ℕ, List, IsTrue, length, take, drop};
 ghost use Rattle.std.specs.Iterator.{YieldsFirstBy, item_count};
-ghost use Rattle.bdb_format.specs.Chains.{joined, pieces_of};
-ghost use Rattle.bdb_format.specs.File.{file_as};
-ghost use Rattle.bdb_format.specs.HeadOf.{is_page_size};
-ghost use Rattle.bdb_format.specs.Numbers.{two_at};
+ghost use Rattle.bdb_graph.specs.of_format.Chains.{joined, pieces_of};
+ghost use Rattle.bdb_graph.specs.of_format.File.{file_as};
+ghost use Rattle.bdb_graph.specs.of_format.HeadOf.{is_page_size};
+ghost use Rattle.bdb_graph.specs.of_format.Numbers.{two_at};
 ghost use Rattle.bdb_overflow.specs.Taken.{ArePassedBy, ArePassedIfAny, IsOnWay, full_pieces, taken_pieces};
 ghost use Rattle.bdb_overflow.specs.Whole.{IsLeft, IsWholeChain, bytes_of, pieces_from};
 
 use crate::taken::Taken;
-use bdb_format::Order;
 use bdb_graph::Blanks;
+use bdb_graph::bdb_format::Order;
 use bdb_graph::bdb_layout::{u16_at, u32_at};
 use std::marker::Model;
 

@@ -1,5 +1,5 @@
 ghost use Rattle.std.specs.Prelude.{◌≡◌, ℕ, List};
-ghost use Rattle.bdb_format.specs.declared.kinds.Order.{Order as PageOrder};
+ghost use Rattle.bdb_graph.specs.of_format.declared.kinds.Order.{Order as PageOrder};
 ghost use Rattle.bdb_overflow.specs.Taken.{ArePassedBy, StandsFor, taken_pieces};
 ghost use Rattle.bdb_overflow.specs.Whole.{IsLeft};
 

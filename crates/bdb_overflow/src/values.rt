@@ -1,6 +1,6 @@
 ghost use Rattle.std.specs.Prelude.{◌≡◌, IfOk};
-ghost use Rattle.bdb_format.specs.File.{file_of};
-ghost use Rattle.bdb_format.specs.Less.{less};
+ghost use Rattle.bdb_graph.specs.of_format.File.{file_of};
+ghost use Rattle.bdb_graph.specs.of_format.Less.{less};
 ghost use Rattle.bdb_graph.specs.of_image.Linked.{FitsChain};
 ghost use Rattle.bdb_overflow.specs.Held.{FitsHeld, chain_value, value_held};
 
@@ -34,7 +34,7 @@ impl<'a> Model for Values<'a> {
 }
 
 /// Whether more than one item may name a chain. Where none else does, nothing is to be kept of it.
-#[tactic(auto, using(bdb_format::proofs::FileLemmas::last_page))]
+#[tactic(auto, using(crate::proofs::Below::last_page))]
 pub fn is_shared(forest: &Forest<'_>, head: u32) -> bool {
     if head > forest.head().last {
         return false;
@@ -110,7 +110,7 @@ impl<'a> Values<'a> {
     }
 
     /// The same of two chains.
-    #[tactic(auto, using(bdb_format::proofs::LessLemmas::less_self))]
+    #[tactic(auto, using(crate::proofs::Below::less_self))]
     fn is_less_chain(&mut self, a: u32, b: u32) -> Result<bool, AllocError>
         requires first { FitsChain (file_of self.old) a }
         requires second { FitsChain (file_of self.old) b }

@@ -6,6 +6,5 @@ pub mod Placing
 pub mod Stored
 pub mod ValueLoop
 pub mod Values
-pub use Rattle.bdb_layout.specs.of_format as of_format
 pub use Rattle.bdb_law_grove.specs as of_law_grove
 pub use Rattle.bdb_layout.specs as of_layout

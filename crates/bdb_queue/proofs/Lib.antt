@@ -1,3 +1,4 @@
+mod Below
 pub mod RecordLemmas
 pub mod QueueLemmas
 pub mod FindLemmas

@@ -5,25 +5,25 @@ use Rattle.std.specs.Prelude.{Some, None, ◌==◌}
 use Rattle.std.proofs.lemmas.Bool.{eqb-true, not-false, or_parts}
 use Rattle.std.proofs.Math.Nat.{div-mul-le_self}
 use Rattle.bdb_overflow.specs.of_form.Formed.{QueuePage}
-use Rattle.bdb_format.specs.declared.kinds.Order.{Order}
-use Rattle.bdb_format.specs.declared.metadata.FileKind.TheVariants.{Queue as QueueKind}
-use Rattle.bdb_format.specs.declared.metadata.Head.{Head}
-use Rattle.bdb_format.specs.declared.metadata.QueueMeta.{QueueMeta}
-use Rattle.bdb_format.specs.File.{file_of, page_at, page_bytes, type_in}
-use Rattle.bdb_format.specs.HeadOf.{head_of, is_page_size}
-use Rattle.bdb_format.specs.Numbers.{byte_at, four_at, pad4}
-use Rattle.bdb_format.specs.Page.{QueueFields, Meta, Queue}
-use Rattle.bdb_format.specs.Reading.{abstract_page, is_zero, page_as, page_type, queue_fields}
-use Rattle.bdb_format.specs.Rows.{form_code, metadata_rows, records_per_page}
-use Rattle.bdb_format.specs.Table.{first_row}
-use Rattle.bdb_format.proofs.VerdictLemmas.{AllFail, none_is_first_row}
+use Rattle.bdb_overflow.specs.of_format.declared.kinds.Order.{Order}
+use Rattle.bdb_overflow.specs.of_format.declared.metadata.FileKind.TheVariants.{Queue as QueueKind}
+use Rattle.bdb_overflow.specs.of_format.declared.metadata.Head.{Head}
+use Rattle.bdb_overflow.specs.of_format.declared.metadata.QueueMeta.{QueueMeta}
+use Rattle.bdb_overflow.specs.of_format.File.{file_of, page_at, page_bytes, type_in}
+use Rattle.bdb_overflow.specs.of_format.HeadOf.{head_of, is_page_size}
+use Rattle.bdb_overflow.specs.of_format.Numbers.{byte_at, four_at, pad4}
+use Rattle.bdb_overflow.specs.of_format.Page.{QueueFields, Meta, Queue}
+use Rattle.bdb_overflow.specs.of_format.Reading.{abstract_page, is_zero, page_as, page_type, queue_fields}
+use Rattle.bdb_overflow.specs.of_format.Rows.{form_code, metadata_rows, records_per_page}
+use Rattle.bdb_overflow.specs.of_format.Table.{first_row}
+use Rattle.bdb_overflow.proofs.of_format.VerdictLemmas.{AllFail, none_is_first_row}
 use Rattle.bdb_overflow.specs.of_image.Linked.{HasMetadata, IsForest}
 use Rattle.bdb_overflow.proofs.of_image.FirstLemmas.{formed_accepted, formed_last, formed_page}
 use Rattle.bdb_overflow.proofs.of_image.FormedLemmas.{accepted_paged, page_length}
 use Rattle.bdb_overflow.proofs.of_image.MetaLemmas.{queue_formed}
 use Rattle.bdb_queue.specs.Records.{HasSlots}
-use Rattle.bdb_format.proofs.GraphLemmas.{typed_page}
-use Rattle.bdb_format.proofs.FileLemmas.{last_page, page_is}
+use Rattle.bdb_overflow.proofs.of_format.GraphLemmas.{typed_page}
+use Rattle.bdb_overflow.proofs.of_format.FileLemmas.{last_page, page_is}
 use Rattle.bdb_overflow.proofs.LinkedLemmas.{type_byte}
 
 -- a page of a type is that page of its bytes

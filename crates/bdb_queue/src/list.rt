@@ -1,11 +1,11 @@
 ghost use Rattle.std.specs.Prelude.{◌≡◌};
 ghost use Rattle.bdb_overflow.specs.of_image.Linked.{HasMetadata};
-ghost use Rattle.bdb_format.specs.File.{file_of};
-ghost use Rattle.bdb_format.specs.Lists.{queue_list};
-ghost use Rattle.bdb_format.specs.Page.{QueueFields};
+ghost use Rattle.bdb_overflow.specs.of_format.File.{file_of};
+ghost use Rattle.bdb_overflow.specs.of_format.Lists.{queue_list};
+ghost use Rattle.bdb_overflow.specs.of_format.Page.{QueueFields};
 
 use crate::Scan;
-use bdb_format::QueueMeta;
+use bdb_overflow::bdb_format::QueueMeta;
 use bdb_overflow::bdb_graph::Linked;
 
 /// The live records of the queue with this metadata, in order. It goes over the pages of the file, and takes

@@ -1,16 +1,16 @@
 ghost use Rattle.std.specs.Prelude.{◌≡◌, ◌+◌, ◌<◌, ◌≤◌, length};
 ghost use Rattle.std.specs.Iterator.{YieldsFirstBy, item_count};
 ghost use Rattle.bdb_overflow.specs.of_image.Linked.{HasMetadata, IsForest};
-ghost use Rattle.bdb_format.specs.File.{file_of, page_at};
-ghost use Rattle.bdb_format.specs.Lists.{NumberKey, get, queue_list};
-ghost use Rattle.bdb_format.specs.Page.{QueueFields};
+ghost use Rattle.bdb_overflow.specs.of_format.File.{file_of, page_at};
+ghost use Rattle.bdb_overflow.specs.of_format.Lists.{NumberKey, get, queue_list};
+ghost use Rattle.bdb_overflow.specs.of_format.Page.{QueueFields};
 ghost use Rattle.bdb_overflow.specs.Datum.{datum_seen};
 ghost use Rattle.bdb_queue.specs.Records.{data_in, record_in_slot, records_seen};
 
 use crate::record::{Record, record_in};
-use bdb_format::{QueueMeta, Steps};
 use bdb_overflow::Datum;
 use bdb_overflow::bdb_form::PageView;
+use bdb_overflow::bdb_format::{QueueMeta, Steps};
 use bdb_overflow::bdb_graph::{Forest, Linked};
 use std::marker::Model;
 use std::sync::ledger::Ledger;
@@ -32,7 +32,7 @@ fn record_on<'a>(forest: &Forest<'a>, meta: &QueueMeta, page: u32, slot: u32) ->
 }
 
 /// The record with the number after this one, if it's live. It stands at one place alone.
-#[tactic(auto, using(bdb_format::proofs::FileLemmas::last_page))]
+#[tactic(auto, using(crate::proofs::Below::last_page))]
 fn record_after<'a, L: Ledger>(
     forest: &Forest<'a>,
     meta: &QueueMeta,

@@ -1,13 +1,13 @@
 ghost use Rattle.std.specs.Prelude.{◌≡◌};
 ghost use Rattle.std.specs.Iterator.{YieldsFirstBy, item_count};
 ghost use Rattle.bdb_overflow.specs.of_image.Linked.{HasMetadata};
-ghost use Rattle.bdb_format.specs.File.{file_of};
-ghost use Rattle.bdb_format.specs.Lists.{queue_list};
-ghost use Rattle.bdb_format.specs.Page.{QueueFields};
+ghost use Rattle.bdb_overflow.specs.of_format.File.{file_of};
+ghost use Rattle.bdb_overflow.specs.of_format.Lists.{queue_list};
+ghost use Rattle.bdb_overflow.specs.of_format.Page.{QueueFields};
 ghost use Rattle.bdb_overflow.specs.Datum.{datum_seen, key_view_seen};
 
 use crate::walk::{Place, first_from};
-use bdb_format::QueueMeta;
+use bdb_overflow::bdb_format::QueueMeta;
 use bdb_overflow::bdb_graph::Forest;
 use bdb_overflow::{Datum, KeyView};
 use std::marker::Model;
@@ -31,8 +31,8 @@ impl Drop for Scan<'_> {
 
 impl<'a> Model for Scan<'a> {
     ghost use Rattle.std.specs.Prelude.{List, ℕ};
-    ghost use Rattle.bdb_format.specs.File.{file_of};
-    ghost use Rattle.bdb_format.specs.Lists.{ListKey};
+    ghost use Rattle.bdb_overflow.specs.of_format.File.{file_of};
+    ghost use Rattle.bdb_overflow.specs.of_format.Lists.{ListKey};
     ghost use Rattle.bdb_queue.specs.Records.{IsPlace, left_from};
 
     ghost Value = { List (ListKey × List ℕ) };

@@ -1,12 +1,12 @@
 ghost use Rattle.std.specs.Prelude.{◌≡◌, ◌<◌, ◌≤◌, ◌∷◌, [], IfSome, MatchOption};
 ghost use Rattle.bdb_overflow.specs.of_image.Linked.{HasMetadata, IsForest};
-ghost use Rattle.bdb_format.specs.File.{file_of, page_at};
-ghost use Rattle.bdb_format.specs.Page.{QueueFields};
+ghost use Rattle.bdb_overflow.specs.of_format.File.{file_of, page_at};
+ghost use Rattle.bdb_overflow.specs.of_format.Page.{QueueFields};
 ghost use Rattle.bdb_queue.specs.Records.{HasSlots, left_from, record_seen, records_from, slots_from};
 
 use crate::record::{Record, record_in};
-use bdb_format::QueueMeta;
 use bdb_overflow::bdb_form::{PageView, QueueView};
+use bdb_overflow::bdb_format::QueueMeta;
 use bdb_overflow::bdb_graph::Forest;
 
 /// The first record of a page from a slot on, and the slot after it.

@@ -5,30 +5,30 @@ use Rattle.std.specs.Prelude.{◌==◌}
 use Rattle.std.specs.List.{Contains, flat_map, range_with_len}
 use Rattle.std.proofs.lemmas.Bool.{cases_Bool, eqb-true, not-false, or_from}
 use Rattle.std.proofs.lemmas.List.Elements.{Contains-append_cases}
-use Rattle.bdb_format.specs.declared.kinds.Order.{Order}
-use Rattle.bdb_format.specs.declared.metadata.FileKind.{FileKind}
-use Rattle.bdb_format.specs.declared.metadata.FileKind.TheVariants.{Btree}
-use Rattle.bdb_format.specs.declared.metadata.Head.{Head}
-use Rattle.bdb_format.specs.declared.pages.RecnoItem.{RecnoItem}
-use Rattle.bdb_format.specs.declared.references.Reference.{Reference}
-use Rattle.bdb_format.specs.declared.references.Sort.{Sort}
-use Rattle.bdb_format.specs.declared.references.Sort.TheVariants.{Free as FreeRef, Root, Bucket, HashNext, Child, OverflowHead, OverflowNext, DuplicateRoot}
-use Rattle.bdb_format.specs.File.{File, file_of, header_in, page_at, page_bytes, type_in}
-use Rattle.bdb_format.specs.Graph.{Owner, all_references, first_holder, is_anchor, is_meta, is_reserve, is_spare, owners}
-use Rattle.bdb_format.specs.Hashing.{first_page}
-use Rattle.bdb_format.specs.HeadOf.{head_of}
-use Rattle.bdb_format.specs.Numbers.{byte_at}
-use Rattle.bdb_format.specs.Page.{BtreeFields, HashFields, Content, Chain, Tree, Page}
-use Rattle.bdb_format.specs.Page.{Free, Meta, Hash, Internal, RecnoInternal, Leaf, RecnoLeaf, DupLeaf, Overflow}
-use Rattle.bdb_format.specs.Reading.{is_zero, page_as, page_type}
-use Rattle.bdb_format.specs.References.{asked_by, child_types, content_targets, contents_in, first_free, fit_code, fit_rows, has_type, internal_targets}
-use Rattle.bdb_format.specs.References.{is_asked, is_zero_page, root_types, targets_in, unless_zero}
-use Rattle.bdb_format.specs.Rows.{form_code, type_of}
-use Rattle.bdb_format.proofs.FileLemmas.{page_is}
-use Rattle.bdb_format.proofs.GraphLemmas.{IsOwner, is_owner, owner_fits, reserve_is, typed_page, zero_page}
-use Rattle.bdb_format.proofs.ListLemmas.{only_member}
-use Rattle.bdb_format.proofs.MemberLemmas.{first_member, member_cases, no_member, of_filter, of_flat_map, of_map}
-use Rattle.bdb_format.proofs.VerdictLemmas.{AllFail, none_is_first_row}
+use Rattle.bdb_tree.specs.of_format.declared.kinds.Order.{Order}
+use Rattle.bdb_tree.specs.of_format.declared.metadata.FileKind.{FileKind}
+use Rattle.bdb_tree.specs.of_format.declared.metadata.FileKind.TheVariants.{Btree}
+use Rattle.bdb_tree.specs.of_format.declared.metadata.Head.{Head}
+use Rattle.bdb_tree.specs.of_format.declared.pages.RecnoItem.{RecnoItem}
+use Rattle.bdb_tree.specs.of_format.declared.references.Reference.{Reference}
+use Rattle.bdb_tree.specs.of_format.declared.references.Sort.{Sort}
+use Rattle.bdb_tree.specs.of_format.declared.references.Sort.TheVariants.{Free as FreeRef, Root, Bucket, HashNext, Child, OverflowHead, OverflowNext, DuplicateRoot}
+use Rattle.bdb_tree.specs.of_format.File.{File, file_of, header_in, page_at, page_bytes, type_in}
+use Rattle.bdb_tree.specs.of_format.Graph.{Owner, all_references, first_holder, is_anchor, is_meta, is_reserve, is_spare, owners}
+use Rattle.bdb_tree.specs.of_format.Hashing.{first_page}
+use Rattle.bdb_tree.specs.of_format.HeadOf.{head_of}
+use Rattle.bdb_tree.specs.of_format.Numbers.{byte_at}
+use Rattle.bdb_tree.specs.of_format.Page.{BtreeFields, HashFields, Content, Chain, Tree, Page}
+use Rattle.bdb_tree.specs.of_format.Page.{Free, Meta, Hash, Internal, RecnoInternal, Leaf, RecnoLeaf, DupLeaf, Overflow}
+use Rattle.bdb_tree.specs.of_format.Reading.{is_zero, page_as, page_type}
+use Rattle.bdb_tree.specs.of_format.References.{asked_by, child_types, content_targets, contents_in, first_free, fit_code, fit_rows, has_type, internal_targets}
+use Rattle.bdb_tree.specs.of_format.References.{is_asked, is_zero_page, root_types, targets_in, unless_zero}
+use Rattle.bdb_tree.specs.of_format.Rows.{form_code, type_of}
+use Rattle.bdb_tree.proofs.of_format.FileLemmas.{page_is}
+use Rattle.bdb_tree.proofs.of_format.GraphLemmas.{IsOwner, is_owner, owner_fits, reserve_is, typed_page, zero_page}
+use Rattle.bdb_tree.proofs.of_format.ListLemmas.{only_member}
+use Rattle.bdb_tree.proofs.of_format.MemberLemmas.{first_member, member_cases, no_member, of_filter, of_flat_map, of_map}
+use Rattle.bdb_tree.proofs.of_format.VerdictLemmas.{AllFail, none_is_first_row}
 use Rattle.bdb_tree.specs.of_form.Formed.{OverflowPage}
 use Rattle.bdb_tree.specs.of_form.Seen.{page_seen}
 use Rattle.bdb_tree.specs.of_form.declared.view.PageView.{PageView}

@@ -12,14 +12,14 @@ use Rattle.std.proofs.lemmas.Bool.{cases_eq, false_from_ne_true, ltb-false}
 use Rattle.std.proofs.lemmas.Fn.{always_returns_same}
 use Rattle.std.proofs.lemmas.List.Elements.{Contains-get_or}
 use Rattle.std.proofs.lemmas.List.Sorted.{Contains-permutation, IsPermutation-sym}
-use Rattle.bdb_format.specs.File.{file_of}
-use Rattle.bdb_format.specs.Less.{less, Less}
-use Rattle.bdb_format.proofs.LessLemmas.{below_less, less_above, less_not_back, less_self, same_unless_less}
+use Rattle.bdb_tree.specs.of_format.File.{file_of}
+use Rattle.bdb_tree.specs.of_format.Less.{less, Less}
+use Rattle.bdb_tree.proofs.of_format.LessLemmas.{below_less, less_above, less_not_back, less_self, same_unless_less}
 use Rattle.bdb_tree.specs.of_overflow.Held.{chain_value}
 use Rattle.bdb_ranks.specs.Ranks.{AreBelow, AreRanked, AreRanks, is_above, no_chain, value_at, value_less}
 use Rattle.bdb_ranks.specs.Shared.{AreShared, ChainValue, IsShared}
 use Rattle.bdb_tree.proofs.of_overflow.HeldLemmas.{apart}
-use Rattle.bdb_format.proofs.ListLemmas.{one_answer}
+use Rattle.bdb_tree.proofs.of_format.ListLemmas.{one_answer}
 
 -- The sort.
 

@@ -2,8 +2,8 @@
 use Rattle.std.proofs.Common.{◌≡◌, ℕ, List, [], ◌∷◌, ◌++◌, subst, inl, inr}
 use Rattle.std.specs.List.{Contains}
 use Rattle.std.proofs.lemmas.List.Elements.{Contains-append_cases}
-use Rattle.bdb_format.proofs.ListLemmas.{only_member}
-use Rattle.bdb_format.proofs.MemberLemmas.{no_member}
+use Rattle.bdb_tree.proofs.of_format.ListLemmas.{only_member}
+use Rattle.bdb_tree.proofs.of_format.MemberLemmas.{no_member}
 use Rattle.bdb_ranks.specs.Shared.{AreShared, ChainValue, IsShared}
 
 pub none_shared : (image : List ℕ) (chains : List ChainValue) → chains ≡ [] → AreShared image chains

@@ -5,8 +5,6 @@ mod ranking;
 mod shared;
 mod values;
 
-pub use bdb_format;
-pub use bdb_layout;
 pub use bdb_tree;
-pub use bdb_tree::{bdb_faults, bdb_form, bdb_graph, bdb_overflow};
+pub use bdb_tree::{bdb_faults, bdb_form, bdb_format, bdb_graph, bdb_layout, bdb_overflow};
 pub use values::Values;

@@ -1,7 +1,7 @@
 ghost use Rattle.std.specs.Prelude.{◌≡◌, ◌<◌, List, ℕ, IfOk, length};
 ghost use Rattle.std.specs.List.Sorted.{IsPermutation, IsSortedBy};
 ghost use Rattle.std.specs.Ordering.{is_lt};
-ghost use Rattle.bdb_format.specs.Less.{less};
+ghost use Rattle.bdb_tree.specs.of_format.Less.{less};
 ghost use Rattle.bdb_ranks.specs.Ranks.{AreRanks, is_above, value_less};
 ghost use Rattle.bdb_ranks.specs.Shared.{AreShared};
 
@@ -13,7 +13,7 @@ use std::cmp::Ordering;
 use std::collections::BTreeMap;
 
 /// The order of two chains by their values.
-#[tactic(auto, using(bdb_layout::proofs::KeyLemmas::by_bytes))]
+#[tactic(auto, using(crate::proofs::Below::by_bytes))]
 fn compare_chains(a: &SharedChain<'_>, b: &SharedChain<'_>) -> Ordering
     ensures { is_lt result ≡ less a.now.value b.now.value }
 {

@@ -1,5 +1,5 @@
 ghost use Rattle.std.specs.Prelude.{◌≡◌, ◌≤◌, IfOk, IfSome};
-ghost use Rattle.bdb_format.specs.File.{file_of};
+ghost use Rattle.bdb_tree.specs.of_format.File.{file_of};
 ghost use Rattle.bdb_tree.specs.of_image.Linked.{IsForest};
 ghost use Rattle.bdb_tree.specs.of_overflow.Datum.{datum_seen};
 ghost use Rattle.bdb_ranks.specs.Shared.{AreShared, IsShared};
@@ -61,7 +61,7 @@ fn shared_at<'a>(forest: &Forest<'a>, page: u32) -> Option<SharedChain<'a>>
 }
 
 /// The chains of a file that several items may name. An error is want of memory.
-#[tactic(auto, using(bdb_format::proofs::FileLemmas::last_page, crate::proofs::SharedLemmas::none_shared, crate::proofs::SharedLemmas::shared_more))]
+#[tactic(auto, using(crate::proofs::Below::last_page, crate::proofs::SharedLemmas::none_shared, crate::proofs::SharedLemmas::shared_more))]
 pub(crate) fn shared_chains<'a>(
     alloc: Global,
     forest: &Forest<'a>,

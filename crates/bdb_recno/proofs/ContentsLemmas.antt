@@ -1,7 +1,7 @@
 -- The faults that are noted of a recno are those of its contents.
 use Rattle.std.proofs.lemmas.Bool.{and_parts, and_from, false_from_ne_true}
 use Rattle.bdb_tree.specs.of_faults.Rows.{contents_code}
-use Rattle.bdb_format.proofs.ListLemmas.{only_member}
+use Rattle.bdb_tree.proofs.of_format.ListLemmas.{only_member}
 use Rattle.std.proofs.Common.{◌≡◌, ◌⊎◌, ℕ, zero, suc, ◌+◌, ◌≤◌, Bool, true, false, cond, List, [], ◌∷◌, ◌++◌, arith, refl, sym, ◌∙◌, ap}
 use Rattle.std.proofs.Common.{subst, inl, inr}
 use Rattle.std.specs.Prelude.{◌&&◌}
@@ -11,18 +11,18 @@ use Rattle.std.proofs.lemmas.List.Elements.{All-contains, Contains-append_cases,
 use Rattle.bdb_tree.specs.of_faults.Notes.{NotesAll}
 use Rattle.bdb_tree.proofs.of_faults.SinkLemmas.{notes_both, notes_same}
 use Rattle.bdb_tree.specs.of_image.Linked.{HasMetadata, IsForest}
-use Rattle.bdb_format.specs.declared.kinds.Fault.{Fault}
-use Rattle.bdb_format.specs.declared.metadata.BtreeMeta.{BtreeMeta}
-use Rattle.bdb_format.specs.ContentRows.{btree_contents, database_faults, database_rows, has_wrong_count, has_wrong_record, inner_in, inner_pages}
-use Rattle.bdb_format.specs.ContentRows.{is_wrong_at, recno_contents}
-use Rattle.bdb_format.specs.File.{File, file_of, header_in, page_at}
-use Rattle.bdb_format.specs.Leaves.{children_in, leaves}
-use Rattle.bdb_format.specs.Page.{BtreeFields, Page}
-use Rattle.bdb_format.specs.Table.{Row, ◌:?◌}
-use Rattle.bdb_format.specs.Verdict.{by_page, holding}
-use Rattle.bdb_format.proofs.MemberLemmas.{first_member, later_member, member_cases, no_member, of_filter}
-use Rattle.bdb_format.proofs.VerdictLemmas.{InOrder, in_by_page, of_by_page, table_in_order}
-use Rattle.bdb_format.specs.Flags.{is_fixed, is_recno}
+use Rattle.bdb_tree.specs.of_format.declared.kinds.Fault.{Fault}
+use Rattle.bdb_tree.specs.of_format.declared.metadata.BtreeMeta.{BtreeMeta}
+use Rattle.bdb_tree.specs.of_format.ContentRows.{btree_contents, database_faults, database_rows, has_wrong_count, has_wrong_record, inner_in, inner_pages}
+use Rattle.bdb_tree.specs.of_format.ContentRows.{is_wrong_at, recno_contents}
+use Rattle.bdb_tree.specs.of_format.File.{File, file_of, header_in, page_at}
+use Rattle.bdb_tree.specs.of_format.Leaves.{children_in, leaves}
+use Rattle.bdb_tree.specs.of_format.Page.{BtreeFields, Page}
+use Rattle.bdb_tree.specs.of_format.Table.{Row, ◌:?◌}
+use Rattle.bdb_tree.specs.of_format.Verdict.{by_page, holding}
+use Rattle.bdb_tree.proofs.of_format.MemberLemmas.{first_member, later_member, member_cases, no_member, of_filter}
+use Rattle.bdb_tree.proofs.of_format.VerdictLemmas.{InOrder, in_by_page, of_by_page, table_in_order}
+use Rattle.bdb_tree.specs.of_format.Flags.{is_fixed, is_recno}
 use Rattle.bdb_recno.specs.Counts.{HasRightCounts}
 use Rattle.bdb_recno.specs.Noted.{count_faults, length_faults}
 use Rattle.bdb_tree.specs.of_faults.declared.rows.ContentsRow.{ContentsRow}

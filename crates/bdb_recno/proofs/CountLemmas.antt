@@ -12,15 +12,15 @@ use Rattle.bdb_tree.proofs.of_faults.SinkLemmas.{notes_both, notes_none, notes_o
 use Rattle.bdb_tree.specs.of_faults.Rows.{fault_if}
 use Rattle.bdb_tree.specs.of_faults.declared.rows.ContentsRow.TheVariants.{Count}
 use Rattle.bdb_tree.specs.of_faults.declared.rows.Row.TheVariants.{Contents}
-use Rattle.bdb_format.specs.declared.kinds.Fault.{Fault}
-use Rattle.bdb_format.specs.declared.pages.RecnoItem.{RecnoItem}
-use Rattle.bdb_format.specs.ContentRows.{has_wrong_count, inner_pages}
-use Rattle.bdb_format.specs.Contents.{tree_entries}
-use Rattle.bdb_format.specs.File.{File, file_of, header_in, page_at}
-use Rattle.bdb_format.specs.Leaves.{children_in}
-use Rattle.bdb_format.specs.Page.{Item, Listed, RecnoInternal, RecnoLeaf}
-use Rattle.bdb_format.proofs.ListLemmas.{all_of, only_member}
-use Rattle.bdb_format.proofs.MemberLemmas.{in_map, later_member, no_member, of_flat_map}
+use Rattle.bdb_tree.specs.of_format.declared.kinds.Fault.{Fault}
+use Rattle.bdb_tree.specs.of_format.declared.pages.RecnoItem.{RecnoItem}
+use Rattle.bdb_tree.specs.of_format.ContentRows.{has_wrong_count, inner_pages}
+use Rattle.bdb_tree.specs.of_format.Contents.{tree_entries}
+use Rattle.bdb_tree.specs.of_format.File.{File, file_of, header_in, page_at}
+use Rattle.bdb_tree.specs.of_format.Leaves.{children_in}
+use Rattle.bdb_tree.specs.of_format.Page.{Item, Listed, RecnoInternal, RecnoLeaf}
+use Rattle.bdb_tree.proofs.of_format.ListLemmas.{all_of, only_member}
+use Rattle.bdb_tree.proofs.of_format.MemberLemmas.{in_map, later_member, no_member, of_flat_map}
 use Rattle.bdb_tree.specs.of_image.Linked.{IsForest}
 use Rattle.bdb_tree.proofs.InnerLemmas.{faults_below, inner_noted, leads_down, no_inner}
 use Rattle.bdb_recno.specs.Counts.{counted, miscounts}

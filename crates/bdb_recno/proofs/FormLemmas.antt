@@ -6,15 +6,15 @@ use Rattle.bdb_tree.proofs.of_image.FirstLemmas.{formed_accepted, formed_last, f
 use Rattle.bdb_tree.proofs.of_image.FormedLemmas.{IsPaged, accepted_paged, page_length}
 use Rattle.bdb_tree.proofs.of_graph.LinkedLemmas.{forest_code}
 use Rattle.bdb_tree.specs.of_image.Linked.{IsForest}
-use Rattle.bdb_format.specs.declared.kinds.Order.{Order}
-use Rattle.bdb_format.specs.File.{file_of, page_at, page_bytes}
-use Rattle.bdb_format.specs.HeadOf.{head_of}
-use Rattle.bdb_format.specs.Page.{Item, Listed, RecnoLeaf, PageType, RecnoLeafPage}
-use Rattle.bdb_format.specs.Reading.{abstract_page, leaf_item_at, listed, page_as}
-use Rattle.bdb_format.specs.Rows.{page_code}
-use Rattle.bdb_format.proofs.PageLemmas.{length_items}
-use Rattle.bdb_format.proofs.FileLemmas.{kind_is, last_page, page_is}
-use Rattle.bdb_format.proofs.SizeLemmas.{size_bounds}
+use Rattle.bdb_tree.specs.of_format.declared.kinds.Order.{Order}
+use Rattle.bdb_tree.specs.of_format.File.{file_of, page_at, page_bytes}
+use Rattle.bdb_tree.specs.of_format.HeadOf.{head_of}
+use Rattle.bdb_tree.specs.of_format.Page.{Item, Listed, RecnoLeaf, PageType, RecnoLeafPage}
+use Rattle.bdb_tree.specs.of_format.Reading.{abstract_page, leaf_item_at, listed, page_as}
+use Rattle.bdb_tree.specs.of_format.Rows.{page_code}
+use Rattle.bdb_tree.proofs.of_format.PageLemmas.{length_items}
+use Rattle.bdb_tree.proofs.of_format.FileLemmas.{kind_is, last_page, page_is}
+use Rattle.bdb_tree.proofs.of_format.SizeLemmas.{size_bounds}
 use Rattle.bdb_tree.proofs.of_graph.ChildLemmas.{is_queue_page}
 use Rattle.bdb_tree.proofs.ShapeLemmas.{no_queue}
 

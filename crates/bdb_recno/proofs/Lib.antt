@@ -7,7 +7,7 @@ pub mod PageLemmas
 pub mod ScanLemmas
 pub mod SearchLemmas
 pub use Rattle.bdb_tree.proofs.of_faults as of_faults
-pub use Rattle.bdb_format.proofs as of_format
+pub use Rattle.bdb_tree.proofs.of_format as of_format
 pub use Rattle.bdb_tree.proofs.of_graph as of_graph
 pub use Rattle.bdb_tree.proofs.of_image as of_image
 pub use Rattle.bdb_tree.proofs as of_tree

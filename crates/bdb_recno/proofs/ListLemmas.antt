@@ -6,16 +6,16 @@ use Rattle.std.specs.List.{enumerate_from, flat_map}
 use Rattle.std.proofs.lemmas.Bool.{eq-eqb, ne_eqb}
 use Rattle.std.proofs.lemmas.Option.{get_or_from_slice_get, slice_get_within}
 use Rattle.bdb_tree.specs.of_image.Linked.{IsForest}
-use Rattle.bdb_format.specs.Chains.{value_of}
-use Rattle.bdb_format.specs.Contents.{tree_entries}
-use Rattle.bdb_format.specs.File.{File, file_of}
-use Rattle.bdb_format.specs.Lists.{NumberKey, get, listed_entry, recno_list}
-use Rattle.bdb_format.specs.Page.{Item}
+use Rattle.bdb_tree.specs.of_format.Chains.{value_of}
+use Rattle.bdb_tree.specs.of_format.Contents.{tree_entries}
+use Rattle.bdb_tree.specs.of_format.File.{File, file_of}
+use Rattle.bdb_tree.specs.of_format.Lists.{NumberKey, get, listed_entry, recno_list}
+use Rattle.bdb_tree.specs.of_format.Page.{Item}
 use Rattle.bdb_tree.proofs.EntryLemmas.{all_fit}
 use Rattle.bdb_tree.specs.of_overflow.Datum.{FitsContent}
 use Rattle.bdb_recno.specs.Pages.{IsRecnoPage}
 use Rattle.bdb_recno.proofs.PageLemmas.{recno_tree}
-use Rattle.bdb_format.proofs.PairLemmas.{get_append}
+use Rattle.bdb_tree.proofs.of_format.PairLemmas.{get_append}
 
 -- What a list has under a number.
 

@@ -8,12 +8,12 @@ use Rattle.bdb_tree.specs.of_faults.Notes.{Notes, NotesAll}
 use Rattle.bdb_tree.proofs.of_faults.SinkLemmas.{notes_next, notes_one, notes_push}
 use Rattle.bdb_tree.specs.of_faults.Rows.{contents_code, fault_if}
 use Rattle.bdb_tree.specs.of_faults.declared.rows.Row.TheVariants.{Contents}
-use Rattle.bdb_format.specs.declared.kinds.Fault.{Fault}
-use Rattle.bdb_format.specs.ContentRows.{is_wrong_at}
-use Rattle.bdb_format.specs.File.{File, page_at}
-use Rattle.bdb_format.specs.Page.{Page}
-use Rattle.bdb_format.proofs.ListLemmas.{any_member, only_member}
-use Rattle.bdb_format.proofs.MemberLemmas.{first_member, in_flat_map, no_member, of_flat_map}
+use Rattle.bdb_tree.specs.of_format.declared.kinds.Fault.{Fault}
+use Rattle.bdb_tree.specs.of_format.ContentRows.{is_wrong_at}
+use Rattle.bdb_tree.specs.of_format.File.{File, page_at}
+use Rattle.bdb_tree.specs.of_format.Page.{Page}
+use Rattle.bdb_tree.proofs.of_format.ListLemmas.{any_member, only_member}
+use Rattle.bdb_tree.proofs.of_format.MemberLemmas.{first_member, in_flat_map, no_member, of_flat_map}
 use Rattle.bdb_recno.specs.Noted.{fault_on, faults_on}
 use Rattle.bdb_tree.specs.of_faults.declared.rows.ContentsRow.{ContentsRow}
 

@@ -10,14 +10,14 @@ use Rattle.bdb_tree.specs.of_form.declared.view.PageView.{PageView}
 use Rattle.bdb_tree.specs.of_form.declared.view.PageView.TheVariants.{RecnoInternal as InternalView, RecnoLeaf as LeafView}
 use Rattle.bdb_tree.specs.of_form.Seen.{page_seen}
 use Rattle.bdb_tree.specs.of_image.Linked.{HasMetadata, IsForest}
-use Rattle.bdb_format.specs.declared.metadata.BtreeMeta.{BtreeMeta}
-use Rattle.bdb_format.specs.declared.pages.RecnoItem.{RecnoItem}
-use Rattle.bdb_format.specs.Contents.{tree_entries}
-use Rattle.bdb_format.specs.File.{File, file_of, page_at, type_in}
-use Rattle.bdb_format.specs.Leaves.{children_in, leaves}
-use Rattle.bdb_format.specs.Page.{Item, Listed, BtreeFields, RecnoInternal, RecnoLeaf}
-use Rattle.bdb_format.specs.References.{child_types, has_type}
-use Rattle.bdb_format.specs.Flags.{is_recno}
+use Rattle.bdb_tree.specs.of_format.declared.metadata.BtreeMeta.{BtreeMeta}
+use Rattle.bdb_tree.specs.of_format.declared.pages.RecnoItem.{RecnoItem}
+use Rattle.bdb_tree.specs.of_format.Contents.{tree_entries}
+use Rattle.bdb_tree.specs.of_format.File.{File, file_of, page_at, type_in}
+use Rattle.bdb_tree.specs.of_format.Leaves.{children_in, leaves}
+use Rattle.bdb_tree.specs.of_format.Page.{Item, Listed, BtreeFields, RecnoInternal, RecnoLeaf}
+use Rattle.bdb_tree.specs.of_format.References.{child_types, has_type}
+use Rattle.bdb_tree.specs.of_format.Flags.{is_recno}
 use Rattle.bdb_recno.specs.Pages.{IsRecnoPage, IsRecnoLeaf}
 use Rattle.bdb_tree.specs.Entries.{entries_on}
 use Rattle.bdb_tree.specs.Trees.{IsTreePage}
@@ -25,8 +25,8 @@ use Rattle.bdb_tree.proofs.EntryLemmas.{entries_are}
 use Rattle.bdb_tree.proofs.ShapeLemmas.{IsLeafPage}
 use Rattle.bdb_tree.proofs.TreeLemmas.{IsChild, child_is, leaves_of_inner, leaves_of_leaf, meta_root_type, recno_internal_page, recno_leaf}
 use Rattle.bdb_tree.proofs.TreeLemmas.{recno_leaf_page, tree_cases, typed_inside}
-use Rattle.bdb_format.proofs.MemberLemmas.{first_member}
-use Rattle.bdb_format.proofs.TypeLemmas.{of_type}
+use Rattle.bdb_tree.proofs.of_format.MemberLemmas.{first_member}
+use Rattle.bdb_tree.proofs.of_format.TypeLemmas.{of_type}
 
 -- What a page is.
 

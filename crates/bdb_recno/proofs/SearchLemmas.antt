@@ -7,13 +7,13 @@ use Rattle.std.proofs.lemmas.Bool.{eqb-true, le-ltb, lt-ltb, ltb-false, ltb-true
 use Rattle.std.proofs.lemmas.List.{drop_more}
 use Rattle.std.proofs.lemmas.Option.{get_or_from_slice_get, slice_get_within}
 use Rattle.bdb_tree.specs.of_image.Linked.{IsForest}
-use Rattle.bdb_format.specs.declared.pages.RecnoItem.{RecnoItem}
-use Rattle.bdb_format.specs.ContentRows.{has_wrong_count, inner_pages}
-use Rattle.bdb_format.specs.Contents.{tree_entries}
-use Rattle.bdb_format.specs.File.{File, file_of, header_in, page_at}
-use Rattle.bdb_format.specs.Leaves.{children_in}
-use Rattle.bdb_format.specs.Page.{Item, Listed, RecnoInternal, RecnoLeaf}
-use Rattle.bdb_format.proofs.MemberLemmas.{first_member, later_member, of_map}
+use Rattle.bdb_tree.specs.of_format.declared.pages.RecnoItem.{RecnoItem}
+use Rattle.bdb_tree.specs.of_format.ContentRows.{has_wrong_count, inner_pages}
+use Rattle.bdb_tree.specs.of_format.Contents.{tree_entries}
+use Rattle.bdb_tree.specs.of_format.File.{File, file_of, header_in, page_at}
+use Rattle.bdb_tree.specs.of_format.Leaves.{children_in}
+use Rattle.bdb_tree.specs.of_format.Page.{Item, Listed, RecnoInternal, RecnoLeaf}
+use Rattle.bdb_tree.proofs.of_format.MemberLemmas.{first_member, later_member, of_map}
 use Rattle.bdb_tree.proofs.InnerLemmas.{LeadDown, child_inner, itself_inner, leads_down}
 use Rattle.bdb_tree.proofs.TreeLemmas.{tree_cases}
 use Rattle.bdb_recno.specs.Counts.{HasRightCounts, child_by_count, miscounts}

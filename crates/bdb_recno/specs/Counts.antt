@@ -1,10 +1,10 @@
 -- How the counts of internal pages lead to an entry. Source: docs/FORMAT.md, "Databases of a file".
 use Rattle.std.specs.Prelude.{◌≡◌, ℕ, ◌-◌, ◌^◌, ◌==◌, min, nat_lt, not, if◌then◌else◌, Bool, false, List, [], ◌∷◌, length, Option, Some, None}
 use Rattle.std.specs.List.{Contains}
-use Rattle.bdb_format.specs.declared.pages.RecnoItem.{RecnoItem}
-use Rattle.bdb_format.specs.Contents.{tree_entries}
-use Rattle.bdb_format.specs.ContentRows.{has_wrong_count, inner_pages}
-use Rattle.bdb_format.specs.File.{File, page_at}
+use Rattle.bdb_tree.specs.of_format.declared.pages.RecnoItem.{RecnoItem}
+use Rattle.bdb_tree.specs.of_format.Contents.{tree_entries}
+use Rattle.bdb_tree.specs.of_format.ContentRows.{has_wrong_count, inner_pages}
+use Rattle.bdb_tree.specs.of_format.File.{File, page_at}
 
 -- no internal page at or below this page has a wrong count
 pub record HasRightCounts (file : File) (p : ℕ) : Type 0 where

@@ -5,11 +5,11 @@ use Rattle.bdb_tree.specs.of_faults.Rows.{fault_if}
 use Rattle.bdb_tree.specs.of_faults.declared.rows.ContentsRow.{ContentsRow}
 use Rattle.bdb_tree.specs.of_faults.declared.rows.ContentsRow.TheVariants.{Count, RecordLength}
 use Rattle.bdb_tree.specs.of_faults.declared.rows.Row.TheVariants.{Contents}
-use Rattle.bdb_format.specs.declared.kinds.Fault.{Fault}
-use Rattle.bdb_format.specs.declared.metadata.BtreeMeta.{BtreeMeta}
-use Rattle.bdb_format.specs.ContentRows.{has_wrong_count, has_wrong_record}
-use Rattle.bdb_format.specs.File.{File, page_at}
-use Rattle.bdb_format.specs.Page.{Page}
+use Rattle.bdb_tree.specs.of_format.declared.kinds.Fault.{Fault}
+use Rattle.bdb_tree.specs.of_format.declared.metadata.BtreeMeta.{BtreeMeta}
+use Rattle.bdb_tree.specs.of_format.ContentRows.{has_wrong_count, has_wrong_record}
+use Rattle.bdb_tree.specs.of_format.File.{File, page_at}
+use Rattle.bdb_tree.specs.of_format.Page.{Page}
 
 -- the fault of a row at a page for which a test holds
 abbrev pub fault_on : File → ContentsRow → (Page → Bool) → ℕ → List Fault

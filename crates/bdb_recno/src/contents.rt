@@ -2,12 +2,12 @@ ghost use Rattle.std.specs.Prelude.{◌≡◌, [], IfErr, IsTrue, OnOk, if◌the
 ghost use Rattle.bdb_tree.specs.of_faults.Named.{HasNoted};
 ghost use Rattle.bdb_tree.specs.of_faults.Notes.{NotesAll};
 ghost use Rattle.bdb_tree.specs.of_image.Linked.{HasMetadata, IsForest};
-ghost use Rattle.bdb_format.specs.ContentRows.{database_faults};
-ghost use Rattle.bdb_format.specs.File.{file_of};
-ghost use Rattle.bdb_format.specs.Flags.{is_fixed, is_recno};
-ghost use Rattle.bdb_format.specs.Leaves.{leaves};
-ghost use Rattle.bdb_format.specs.Page.{BtreeFields};
-ghost use Rattle.bdb_format.specs.Verdict.{structure_faults, IsFirstOf};
+ghost use Rattle.bdb_tree.specs.of_format.ContentRows.{database_faults};
+ghost use Rattle.bdb_tree.specs.of_format.File.{file_of};
+ghost use Rattle.bdb_tree.specs.of_format.Flags.{is_fixed, is_recno};
+ghost use Rattle.bdb_tree.specs.of_format.Leaves.{leaves};
+ghost use Rattle.bdb_tree.specs.of_format.Page.{BtreeFields};
+ghost use Rattle.bdb_tree.specs.of_format.Verdict.{structure_faults, IsFirstOf};
 ghost use Rattle.bdb_recno.specs.Noted.{length_faults};
 ghost use Rattle.bdb_recno.specs.Pages.{IsRecnoPage};
 ghost use Rattle.bdb_tree.specs.Trees.{IsRoot};
@@ -15,8 +15,8 @@ ghost use Rattle.bdb_tree.specs.Trees.{IsRoot};
 use crate::counts::note_counts;
 use crate::lengths::note_lengths;
 use crate::page::pages_of;
-use bdb_format::{BtreeMeta, CheckError};
 use bdb_tree::bdb_faults::{FaultSink, First, NamedList};
+use bdb_tree::bdb_format::{BtreeMeta, CheckError};
 use bdb_tree::bdb_graph::{Forest, Linked};
 use std::alloc::AllocError;
 

@@ -2,19 +2,19 @@ ghost use Rattle.std.specs.Prelude.{◌≡◌, [], OnOk, length};
 ghost use Rattle.bdb_tree.specs.of_faults.Notes.{NotesAll};
 ghost use Rattle.bdb_tree.specs.of_image.Linked.{IsForest};
 ghost use Rattle.bdb_tree.specs.of_layout.Seen.{leaf_item_seen};
-ghost use Rattle.bdb_format.specs.Chains.{value_of};
-ghost use Rattle.bdb_format.specs.ContentRows.{has_wrong_record, is_wrong_record};
-ghost use Rattle.bdb_format.specs.File.{file_of, page_at};
-ghost use Rattle.bdb_format.specs.Leaves.{leaves};
-ghost use Rattle.bdb_format.specs.Verdict.{structure_faults};
+ghost use Rattle.bdb_tree.specs.of_format.Chains.{value_of};
+ghost use Rattle.bdb_tree.specs.of_format.ContentRows.{has_wrong_record, is_wrong_record};
+ghost use Rattle.bdb_tree.specs.of_format.File.{file_of, page_at};
+ghost use Rattle.bdb_tree.specs.of_format.Leaves.{leaves};
+ghost use Rattle.bdb_tree.specs.of_format.Verdict.{structure_faults};
 ghost use Rattle.bdb_tree.specs.of_overflow.Datum.{FitsContent};
 ghost use Rattle.bdb_recno.specs.Noted.{length_faults};
 ghost use Rattle.bdb_recno.specs.Pages.{IsRecnoLeaf, IsRecnoPage};
 ghost use Rattle.bdb_tree.specs.Trees.{IsRoot};
 
 use crate::page::leaf_at;
-use bdb_format::BtreeMeta;
 use bdb_tree::bdb_faults::{ContentsRow, FaultSink, Row, note_if};
+use bdb_tree::bdb_format::BtreeMeta;
 use bdb_tree::bdb_graph::{Forest, Linked};
 use bdb_tree::bdb_layout::LeafItem;
 use bdb_tree::bdb_overflow::is_deleted;
@@ -22,7 +22,7 @@ use bdb_tree::tree_leaves;
 use std::alloc::AllocError;
 
 /// How many bytes a record has. A chain isn't gone through: its length was counted when the file was linked.
-#[tactic(auto, unfolding(bdb_format::specs::Chains::value_of))]
+#[tactic(auto, unfolding(crate::specs::Below::value_of))]
 fn record_len(linked: &Linked<'_>, item: &LeafItem<'_>) -> u64
     requires { FitsContent (file_of linked.now) (leaf_item_seen item.now).content }
     ensures { result ≡ length (value_of (file_of linked.now) (leaf_item_seen item.now).content) }

@@ -10,9 +10,8 @@ mod listing;
 mod page;
 mod search;
 
-pub use bdb_format;
 pub use bdb_tree;
-pub use bdb_tree::{bdb_faults, bdb_graph, bdb_overflow};
+pub use bdb_tree::{bdb_faults, bdb_format, bdb_graph, bdb_layout, bdb_overflow};
 pub use contents::{all_faults, check, note_contents};
 pub use found::{Found, find};
 pub use list::scan;

@@ -1,14 +1,14 @@
 ghost use Rattle.std.specs.Prelude.{◌≡◌, [], IsTrue};
 ghost use Rattle.bdb_tree.specs.of_image.Linked.{HasMetadata};
-ghost use Rattle.bdb_format.specs.File.{file_of};
-ghost use Rattle.bdb_format.specs.Flags.{is_recno};
-ghost use Rattle.bdb_format.specs.Lists.{recno_list};
-ghost use Rattle.bdb_format.specs.Page.{BtreeFields};
-ghost use Rattle.bdb_format.specs.Verdict.{structure_faults};
+ghost use Rattle.bdb_tree.specs.of_format.File.{file_of};
+ghost use Rattle.bdb_tree.specs.of_format.Flags.{is_recno};
+ghost use Rattle.bdb_tree.specs.of_format.Lists.{recno_list};
+ghost use Rattle.bdb_tree.specs.of_format.Page.{BtreeFields};
+ghost use Rattle.bdb_tree.specs.of_format.Verdict.{structure_faults};
 
 use crate::Scan;
 use crate::page::pages_of;
-use bdb_format::BtreeMeta;
+use bdb_tree::bdb_format::BtreeMeta;
 use bdb_tree::bdb_graph::Linked;
 use bdb_tree::tree_entries;
 

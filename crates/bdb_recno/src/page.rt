@@ -1,13 +1,13 @@
 ghost use Rattle.std.specs.Prelude.{◌≡◌, IsTrue};
 ghost use Rattle.bdb_tree.specs.of_image.Linked.{FitsTreeRoot, HasMetadata, IsForest};
-ghost use Rattle.bdb_format.specs.File.{file_of, page_at};
-ghost use Rattle.bdb_format.specs.Page.{BtreeFields, RecnoLeaf};
-ghost use Rattle.bdb_format.specs.Flags.{is_recno};
+ghost use Rattle.bdb_tree.specs.of_format.File.{file_of, page_at};
+ghost use Rattle.bdb_tree.specs.of_format.Page.{BtreeFields, RecnoLeaf};
+ghost use Rattle.bdb_tree.specs.of_format.Flags.{is_recno};
 ghost use Rattle.bdb_recno.specs.Pages.{IsRecnoLeaf, IsRecnoPage};
 ghost use Rattle.bdb_recno.specs.Seen.{recno_page_seen};
 
-use bdb_format::BtreeMeta;
 use bdb_tree::bdb_form::{PageView, RecnoInternalView, RecnoLeafView};
+use bdb_tree::bdb_format::BtreeMeta;
 use bdb_tree::bdb_graph::{Forest, Linked};
 
 /// The pages of a file, in which the root of this recno is one of records.

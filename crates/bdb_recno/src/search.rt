@@ -3,14 +3,14 @@ ghost use Rattle.std.specs.List.{slice_get};
 ghost use Rattle.std.specs.Option.{option_map};
 ghost use Rattle.bdb_tree.specs.of_image.Linked.{IsForest};
 ghost use Rattle.bdb_tree.specs.of_layout.Seen.{leaf_item_seen};
-ghost use Rattle.bdb_format.specs.Contents.{tree_entries};
-ghost use Rattle.bdb_format.specs.File.{file_of, header_in, page_at};
+ghost use Rattle.bdb_tree.specs.of_format.Contents.{tree_entries};
+ghost use Rattle.bdb_tree.specs.of_format.File.{file_of, header_in, page_at};
 ghost use Rattle.bdb_recno.specs.Counts.{HasRightCounts, child_by_count};
 ghost use Rattle.bdb_recno.specs.Pages.{IsRecnoPage};
 
 use crate::page::{RecnoPage, recno_page};
-use bdb_format::Steps;
 use bdb_tree::bdb_form::{RecnoInternalView, RecnoLeafView};
+use bdb_tree::bdb_format::Steps;
 use bdb_tree::bdb_graph::Forest;
 use bdb_tree::bdb_layout::LeafItem;
 use std::sync::ledger::Ledger;

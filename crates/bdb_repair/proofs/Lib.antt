@@ -6,4 +6,7 @@ pub mod LineLemmas
 pub mod HeldLemmas
 pub mod ReadLemmas
 pub mod KeyedLemmas
-pub use Rattle.bdb_law_kept.proofs.of_rows as of_rows
+pub use Rattle.bdb_law_kept.proofs.of_any_order as of_any_order
+pub use Rattle.bdb_law_kept.proofs.of_databases as of_databases
+pub use Rattle.bdb_model.proofs.of_format as of_format
+pub use Rattle.bdb_mkfile.proofs as of_mkfile

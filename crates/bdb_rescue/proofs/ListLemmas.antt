@@ -3,8 +3,8 @@ use Rattle.std.proofs.Common.{◌≡◌, ℕ, suc, subst, ◌+◌, List, [], ◌
 use Rattle.std.specs.List.{All, Contains, flat_map, range_with_len}
 use Rattle.std.proofs.lemmas.List.{flat_map_more}
 use Rattle.std.proofs.lemmas.List.Elements.{All-contains}
-use Rattle.bdb_format.proofs.ListLemmas.{all_of, only_member, range_zero_more}
-use Rattle.bdb_format.proofs.MemberLemmas.{of_flat_map}
+use Rattle.bdb_text_format.proofs.of_format.ListLemmas.{all_of, only_member, range_zero_more}
+use Rattle.bdb_text_format.proofs.of_format.MemberLemmas.{of_flat_map}
 
 -- the same of each is the same of all
 pub flat_map_alike : {X Y : Type 0} (f g : X → List Y) (xs : List X) → ((x : X) → f x ≡ g x) → flat_map f xs ≡ flat_map g xs

@@ -7,17 +7,17 @@ use Rattle.std.proofs.Math.Nat.{mul_comm}
 use Rattle.std.proofs.lemmas.Bool.{cases_lt}
 use Rattle.std.proofs.lemmas.List.{get_or_past}
 use Rattle.std.proofs.lemmas.List.FromFn.{get_or-map-range_with_len, length-map-range_with_len, length-range_with_len}
-use Rattle.bdb_format.specs.declared.kinds.Order.{Order}
-use Rattle.bdb_format.specs.Chains.{joined, pieces_of}
-use Rattle.bdb_format.specs.Contents.{entries_in}
-use Rattle.bdb_format.specs.File.{File, page_at}
-use Rattle.bdb_format.specs.Numbers.{byte_at, four_at}
-use Rattle.bdb_format.specs.Page.{Content, Inline, Set, Chain, Tree, Unknown, Item, Zero, NoType, PageType, RecnoLeafPage, DupLeafPage}
-use Rattle.bdb_format.specs.Reading.{abstract_page, index_end, is_zero, leaf_item_at, page_as, page_type}
-use Rattle.bdb_format.specs.Rows.{body_code, identity_rows, is_tree_type, page_code}
-use Rattle.bdb_format.specs.Table.{first_row}
-use Rattle.bdb_format.proofs.ItemLemmas.{index_passes, no_index_row}
-use Rattle.bdb_format.proofs.PageLemmas.{length_items}
+use Rattle.bdb_text_format.specs.of_format.declared.kinds.Order.{Order}
+use Rattle.bdb_text_format.specs.of_format.Chains.{joined, pieces_of}
+use Rattle.bdb_text_format.specs.of_format.Contents.{entries_in}
+use Rattle.bdb_text_format.specs.of_format.File.{File, page_at}
+use Rattle.bdb_text_format.specs.of_format.Numbers.{byte_at, four_at}
+use Rattle.bdb_text_format.specs.of_format.Page.{Content, Inline, Set, Chain, Tree, Unknown, Item, Zero, NoType, PageType, RecnoLeafPage, DupLeafPage}
+use Rattle.bdb_text_format.specs.of_format.Reading.{abstract_page, index_end, is_zero, leaf_item_at, page_as, page_type}
+use Rattle.bdb_text_format.specs.of_format.Rows.{body_code, identity_rows, is_tree_type, page_code}
+use Rattle.bdb_text_format.specs.of_format.Table.{first_row}
+use Rattle.bdb_text_format.proofs.of_format.ItemLemmas.{index_passes, no_index_row}
+use Rattle.bdb_text_format.proofs.of_format.PageLemmas.{length_items}
 use Rattle.bdb_survey.specs.Salvage.{is_taken, is_whole, live_value, live_whole, loose, loose_on, salvaged_file, salvaged_page, unless_code, whole_values}
 use Rattle.bdb_survey.proofs.StoredPageLemmas.{count_is as whole_pages}
 

@@ -9,12 +9,12 @@ use Rattle.std.proofs.Math.Seq.{take-append_seam}
 use Rattle.std.proofs.lemmas.Grind.{flat_map-append}
 use Rattle.std.proofs.lemmas.List.Elements.{All-contains}
 use Rattle.std.proofs.lemmas.List.Folds.{flat_map-map}
-use Rattle.bdb_format.proofs.ListLemmas.{all_of, any_member, flat_map_twice, only_member, passes_here}
-use Rattle.bdb_format.proofs.MemberLemmas.{in_flat_map, in_range, member_cases, no_member, of_flat_map, of_range}
-use Rattle.bdb_format.specs.Chains.{chain, value_of}
-use Rattle.bdb_format.specs.File.{File, page_at}
-use Rattle.bdb_format.specs.Page.{Content, Inline, Set, Chain, Tree, Unknown, Item, Page, Zero, Free, Meta, Hash, Internal, RecnoInternal, Leaf, RecnoLeaf}
-use Rattle.bdb_format.specs.Page.{DupLeaf, Overflow, Queue, NoType}
+use Rattle.bdb_text_format.proofs.of_format.ListLemmas.{all_of, any_member, flat_map_twice, only_member, passes_here}
+use Rattle.bdb_text_format.proofs.of_format.MemberLemmas.{in_flat_map, in_range, member_cases, no_member, of_flat_map, of_range}
+use Rattle.bdb_text_format.specs.of_format.Chains.{chain, value_of}
+use Rattle.bdb_text_format.specs.of_format.File.{File, page_at}
+use Rattle.bdb_text_format.specs.of_format.Page.{Content, Inline, Set, Chain, Tree, Unknown, Item, Page, Zero, Free, Meta, Hash, Internal, RecnoInternal, Leaf, RecnoLeaf}
+use Rattle.bdb_text_format.specs.of_format.Page.{DupLeaf, Overflow, Queue, NoType}
 use Rattle.bdb_rescue.specs.declared.kept.DataPlace.{DataPlace}
 use Rattle.bdb_rescue.specs.declared.kept.DataPlace.TheVariants.{Here, Set as OnLeaves}
 use Rattle.bdb_rescue.specs.declared.kept.KeptPair.{KeptPair}

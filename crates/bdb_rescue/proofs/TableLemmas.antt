@@ -6,7 +6,7 @@ use Rattle.std.proofs.lemmas.List.{append_assoc}
 use Rattle.std.proofs.lemmas.List.FromFn.{get_or-map-range_with_len, length-map-range_with_len, map-range_with_len_more}
 use Rattle.std.proofs.lemmas.Grind.{flat_map-append}
 use Rattle.std.proofs.Math.Seq.{drop-append_seam, take-append_seam}
-use Rattle.bdb_format.proofs.ListLemmas.{range_parts}
+use Rattle.bdb_text_format.proofs.of_format.ListLemmas.{range_parts}
 use Rattle.bdb_rescue.specs.Kept.{HasPart, IsTable, below, part_of}
 use Rattle.bdb_rescue.proofs.ListLemmas.{more_pieces}
 

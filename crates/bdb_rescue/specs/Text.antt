@@ -1,11 +1,11 @@
 -- The text of what is salvaged from an image: a section for the stored pairs, and one for the loose records. Source: docs/FORMAT.md, "Salvage".
 use Rattle.std.specs.Prelude.{ℕ, Bool, true, List, [], ◌∷◌, ◌++◌, map, Some, codes}
 use Rattle.std.specs.List.{enumerate_from}
-use Rattle.bdb_format.specs.declared.kinds.Kind.TheVariants.{Btree, Recno}
-use Rattle.bdb_format.specs.declared.settings.Settings.{Settings}
-use Rattle.bdb_format.specs.Databases.{plain_settings}
-use Rattle.bdb_format.specs.File.{File}
-use Rattle.bdb_format.specs.Lists.{ListKey, BytesKey, NumberKey}
+use Rattle.bdb_text_format.specs.of_format.declared.kinds.Kind.TheVariants.{Btree, Recno}
+use Rattle.bdb_text_format.specs.of_format.declared.settings.Settings.{Settings}
+use Rattle.bdb_text_format.specs.of_format.Databases.{plain_settings}
+use Rattle.bdb_text_format.specs.of_format.File.{File}
+use Rattle.bdb_text_format.specs.of_format.Lists.{ListKey, BytesKey, NumberKey}
 use Rattle.bdb_text_format.specs.Written.{section_text}
 use Rattle.bdb_survey.specs.declared.guess.Guess.{Guess}
 use Rattle.bdb_survey.specs.Salvage.{loose, salvaged_file, stored}

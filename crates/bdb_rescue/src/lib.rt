@@ -17,9 +17,9 @@ mod tables;
 mod thin;
 mod values;
 
-pub use bdb_format;
 pub use bdb_survey;
-pub use bdb_survey::{Guess, bdb_overflow};
+pub use bdb_survey::{Guess, bdb_graph, bdb_overflow};
+pub use bdb_text_format::bdb_format;
 pub use entries::{SalvageEntries, SalvageEntry};
 pub use error::SalvageError;
 pub use pairs::SalvagePairs;

@@ -1,9 +1,9 @@
 ghost use Rattle.std.specs.Prelude.{◌≡◌, ◌≢◌, ◌^◌, ◌≤◌, ◌<◌, IfOk, IfSome, IsTrue, Err, None, Some, length};
 ghost use Rattle.std.specs.List.{Contains, flat_map};
-ghost use Rattle.bdb_format.specs.Chains.{chain, value_of};
-ghost use Rattle.bdb_format.specs.File.{page_at};
-ghost use Rattle.bdb_format.specs.Page.{Chain};
-ghost use Rattle.bdb_format.specs.HeadOf.{is_page_size};
+ghost use Rattle.bdb_text_format.specs.of_format.Chains.{chain, value_of};
+ghost use Rattle.bdb_text_format.specs.of_format.File.{page_at};
+ghost use Rattle.bdb_text_format.specs.of_format.Page.{Chain};
+ghost use Rattle.bdb_text_format.specs.of_format.HeadOf.{is_page_size};
 ghost use Rattle.bdb_rescue.specs.Guesses.{chosen};
 ghost use Rattle.bdb_rescue.specs.Kept.{IsKeptValue, IsTable, file_in, item_of, kept_pairs, loose_values, pairs_under, set_from, thin_from, value_at};
 ghost use Rattle.bdb_rescue.specs.Kept.{values_on};
@@ -23,10 +23,10 @@ use crate::starts::{first_leaves, taken_pages};
 use crate::tables::part;
 use crate::thin::{ThinTable, thin_table};
 use crate::{Guess, SalvageEntries, SalvageError, SalvagePairs, SalvageValues};
-use bdb_format::Steps;
 use bdb_survey::bdb_layout::Content;
 use bdb_survey::bdb_overflow::Datum;
 use bdb_survey::{Survey, WholePages};
+use bdb_text_format::bdb_format::Steps;
 use std::alloc::{AllocError, Global};
 use std::marker::Model;
 use std::sync::ledger::Ledger;
@@ -215,7 +215,7 @@ impl<'a> Salvaged<'a> {
     }
 
     /// The value in a whole chain. Pages without data are passed only where it has as many bytes as pages.
-    #[tactic(auto, using(crate::proofs::ThinLemmas::values_of_chains), unfolding(bdb_format::specs::Chains::value_of))]
+    #[tactic(auto, using(crate::proofs::ThinLemmas::values_of_chains), unfolding(crate::specs::Below::value_of))]
     pub(crate) fn chained<'s>(&'s self, head: u32, total: u32) -> Datum<'s>
         requires { IsTrue (is_whole (file_in self.now) head total) }
         ensures { datum_seen result ≡ value_of (file_in self.now) (Chain head total) }
@@ -231,7 +231,7 @@ impl<'a> Salvaged<'a> {
     }
 
     /// The value of an item that has one by itself.
-    #[tactic(auto, unfolding(bdb_format::specs::Chains::value_of))]
+    #[tactic(auto, unfolding(crate::specs::Below::value_of))]
     fn datum<'s>(&'s self, content: Content<'a>) -> Datum<'s>
         requires { IsTrue (is_valued (file_in self.now) (content_seen content)) }
         ensures { datum_seen result ≡ value_of (file_in self.now) (content_seen content.entry) }

@@ -6,5 +6,5 @@ pub mod laws;
 pub use bdb_rescue::bdb_survey::{Guess, chain_of};
 pub use bdb_rescue::{
     SalvageEntries, SalvageEntry, SalvageError, SalvagePairs, SalvageValues, Salvaged, bdb_format,
-    bdb_overflow, salvage,
+    bdb_graph, bdb_overflow, salvage,
 };

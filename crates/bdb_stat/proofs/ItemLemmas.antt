@@ -4,17 +4,17 @@ use Rattle.std.specs.Prelude.{◌==◌, cond, Bool, None, get_or, slice_index}
 use Rattle.std.proofs.lemmas.Bool.{cases_lt, eq-eqb, ne_eqb}
 use Rattle.std.proofs.lemmas.Bool.Decides.{nat_tests}
 use Rattle.std.proofs.lemmas.List.FromFn.{length-map-range_with_len}
-use Rattle.bdb_image.proofs.of_format.PageLemmas.{index_offset}
-use Rattle.bdb_image.proofs.of_format.TurnLemmas.{length-slice_range}
-use Rattle.bdb_image.specs.of_format.declared.kinds.Order.{Order}
-use Rattle.bdb_image.specs.of_format.Numbers.{two_at}
-use Rattle.bdb_image.specs.of_format.Page.{InternalItem, Item}
-use Rattle.bdb_image.specs.of_format.Reading.{entries_of, hash_end, hash_item_at, index_end, internal_item_at, kind_at, leaf_item_at, listed, offset_of, recno_item_at}
-use Rattle.bdb_image.specs.of_format.References.{no_item}
-use Rattle.bdb_image.specs.of_format.Rows.{hash_rows, internal_rows, leaf_end, leaf_rows, recno_rows}
-use Rattle.bdb_image.specs.of_format.Table.{first_row}
-use Rattle.bdb_image.proofs.of_layout.RowLemmas.{hash_fits, internal_fits}
-use Rattle.bdb_image.specs.of_layout.Fits.{FitsHash}
+use Rattle.bdb_turned.proofs.of_format.PageLemmas.{index_offset}
+use Rattle.bdb_turned.proofs.of_format.TurnLemmas.{length-slice_range}
+use Rattle.bdb_turned.specs.of_format.declared.kinds.Order.{Order}
+use Rattle.bdb_turned.specs.of_format.Numbers.{two_at}
+use Rattle.bdb_turned.specs.of_format.Page.{InternalItem, Item}
+use Rattle.bdb_turned.specs.of_format.Reading.{entries_of, hash_end, hash_item_at, index_end, internal_item_at, kind_at, leaf_item_at, listed, offset_of, recno_item_at}
+use Rattle.bdb_turned.specs.of_format.References.{no_item}
+use Rattle.bdb_turned.specs.of_format.Rows.{hash_rows, internal_rows, leaf_end, leaf_rows, recno_rows}
+use Rattle.bdb_turned.specs.of_format.Table.{first_row}
+use Rattle.bdb_turned.proofs.of_layout.RowLemmas.{hash_fits, internal_fits}
+use Rattle.bdb_turned.specs.of_layout.Fits.{FitsHash}
 use Rattle.bdb_turned.specs.Fields.{no_internal}
 use Rattle.bdb_turned.specs.Overlaps.{internal_item_end, leaf_item_end}
 use Rattle.bdb_stat.specs.Unused.{hash_unused, leaf_unused, listed_unused, places_outside}

@@ -1,3 +1,4 @@
+mod Below
 pub mod PlaceLemmas
 pub mod GapLemmas
 pub mod MarkLemmas

@@ -2,12 +2,12 @@
 use Rattle.std.proofs.Common.{◌≡◌, ◌∙◌, ℕ, ◌+◌, ◌-◌, ◌≤◌, false, List, drop, length, length-drop, length-take, take, sym, ap, arith, refl}
 use Rattle.std.specs.Prelude.{◌==◌, ◌||◌, Bool, None, min}
 use Rattle.std.proofs.lemmas.Bool.Decides.{nat_tests}
-use Rattle.bdb_image.proofs.of_format.TypeLemmas.{if_type}
-use Rattle.bdb_image.specs.of_format.declared.kinds.Order.{Order}
-use Rattle.bdb_image.specs.of_format.Numbers.{byte_at, two_at}
-use Rattle.bdb_image.specs.of_format.Page.{Page, PageType, OverflowPage}
-use Rattle.bdb_image.specs.of_format.Reading.{page_as, page_type}
-use Rattle.bdb_image.specs.of_format.Rows.{body_code}
+use Rattle.bdb_turned.proofs.of_format.TypeLemmas.{if_type}
+use Rattle.bdb_turned.specs.of_format.declared.kinds.Order.{Order}
+use Rattle.bdb_turned.specs.of_format.Numbers.{byte_at, two_at}
+use Rattle.bdb_turned.specs.of_format.Page.{Page, PageType, OverflowPage}
+use Rattle.bdb_turned.specs.of_format.Reading.{page_as, page_type}
+use Rattle.bdb_turned.specs.of_format.Rows.{body_code}
 use Rattle.bdb_stat.specs.Unused.{unused_in}
 
 -- what is computed for a page of a type is so for the page with the byte of this type

@@ -1,8 +1,8 @@
 -- Items of pages by the places where they begin. Source: docs/FORMAT.md, "Items".
 use Rattle.std.specs.Prelude.{◌<◌, ◌≤◌, ℕ, zero, suc, ◌+◌, List, length}
-use Rattle.bdb_image.specs.of_format.declared.kinds.Order.{Order}
-use Rattle.bdb_image.specs.of_format.Numbers.{two_at}
-use Rattle.bdb_image.specs.of_format.Reading.{entries_of, index_end, offset_of}
+use Rattle.bdb_turned.specs.of_format.declared.kinds.Order.{Order}
+use Rattle.bdb_turned.specs.of_format.Numbers.{two_at}
+use Rattle.bdb_turned.specs.of_format.Reading.{entries_of, index_end, offset_of}
 
 -- where an item of an internal page ends that begins at a place; an overflow key has 12 bytes
 abbrev pub internal_end : Order → List ℕ → ℕ → ℕ

@@ -1,9 +1,9 @@
 -- Bytes of pages that hold nothing. Source: docs/FORMAT.md, "Statistics".
 use Rattle.std.specs.Prelude.{ℕ, ◌+◌, ◌-◌, ◌*◌, nat_le, nat_lt, ◌==◌, ◌&&◌, not, if◌then◌else◌, Bool, length, slice_index, get_or}
 use Rattle.std.specs.List.{filter, list_any, range_with_len, sum_by}
-use Rattle.bdb_image.specs.of_format.File.{File, page_at}
-use Rattle.bdb_image.specs.of_format.Page.{Item, Listed, Page, Zero, Free, Meta, Hash, Internal, RecnoInternal, Leaf, RecnoLeaf, DupLeaf, Overflow, Queue, NoType}
-use Rattle.bdb_image.specs.of_format.References.{no_item}
+use Rattle.bdb_turned.specs.of_format.File.{File, page_at}
+use Rattle.bdb_turned.specs.of_format.Page.{Item, Listed, Page, Zero, Free, Meta, Hash, Internal, RecnoInternal, Leaf, RecnoLeaf, DupLeaf, Overflow, Queue, NoType}
+use Rattle.bdb_turned.specs.of_format.References.{no_item}
 use Rattle.bdb_turned.specs.Fields.{no_internal}
 use Rattle.bdb_turned.specs.Overlaps.{internal_item_end, leaf_item_end}
 

@@ -1,11 +1,11 @@
 //! Where items of pages end, each by the place where it begins.
 ghost use Rattle.std.specs.Prelude.{◌≡◌, ◌+◌, ◌≤◌, ℕ, List, length};
-ghost use Rattle.bdb_image.specs.of_format.declared.kinds.Order.{Order as AnyOrder};
-ghost use Rattle.bdb_image.specs.of_format.Rows.{leaf_end};
+ghost use Rattle.bdb_turned.specs.of_format.declared.kinds.Order.{Order as AnyOrder};
+ghost use Rattle.bdb_turned.specs.of_format.Rows.{leaf_end};
 ghost use Rattle.bdb_stat.specs.Ends.{internal_end, recno_end};
 
-use bdb_image::bdb_format::Order;
-use bdb_image::bdb_layout::u16_at;
+use bdb_turned::bdb_format::Order;
+use bdb_turned::bdb_layout::u16_at;
 
 /// Where the items of a type of pages end. Items that begin at one place are the same item.
 pub(crate) trait Ends {

@@ -1,11 +1,11 @@
 ghost use Rattle.std.specs.Prelude.{◌≡◌, ◌<◌, length};
-ghost use Rattle.bdb_image.specs.of_format.File.{page_bytes};
-ghost use Rattle.bdb_image.specs.Formed.{IsAccepted};
+ghost use Rattle.bdb_turned.specs.of_format.File.{page_bytes};
+ghost use Rattle.bdb_turned.specs.of_image.Formed.{IsAccepted};
 
-use bdb_image::bdb_format::Head;
+use bdb_turned::bdb_format::Head;
 
 /// The bytes of a page of an image whose page 0 is accepted.
-#[tactic(auto, using(bdb_image::proofs::FormedLemmas::page_room, bdb_image::proofs::FormedLemmas::page_length))]
+#[tactic(auto, using(crate::proofs::Below::page_room, crate::proofs::Below::page_length))]
 pub(crate) fn page_of<'a>(image: &'a [u8], head: &Head, number: u32) -> &'a [u8]
     requires head { IsAccepted image.now head.now }
     requires there { number < head.now.pages }

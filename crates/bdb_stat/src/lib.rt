@@ -13,8 +13,6 @@ mod marks;
 mod starts;
 mod unused;
 
-pub use bdb_image::{bdb_faults, bdb_layout};
-pub use bdb_turned::bdb_graph;
 pub use class::Class;
 pub use counting::stat;
 pub use figures::Stat;

@@ -1,14 +1,14 @@
 //! The bytes of a page that lie in no item, by the places where items begin.
 ghost use Rattle.std.specs.Prelude.{◌≡◌, ◌<◌, ◌≤◌, ◌↔◌, ◌-◌, ℕ, IfSome, length, true};
-ghost use Rattle.bdb_image.specs.of_format.Reading.{entries_of, index_end, offset_of};
+ghost use Rattle.bdb_turned.specs.of_format.Reading.{entries_of, index_end, offset_of};
 ghost use Rattle.bdb_stat.specs.Unused.{places_outside};
 ghost use Rattle.bdb_stat.specs.Ends.{ArePlaced};
 ghost use Rattle.bdb_stat.specs.Starts.{AreStarts};
 
 use crate::ends::Ends;
 use crate::marks::Marks;
-use bdb_image::bdb_format::Order;
-use bdb_image::bdb_layout::{index_end, offset_at, u16_at};
+use bdb_turned::bdb_format::Order;
+use bdb_turned::bdb_layout::{index_end, offset_at, u16_at};
 
 /// Marks the places where the items of a page begin, and no others. Items that begin at one place have one mark.
 fn mark_starts(starts: &mut Marks, page: &[u8], order: Order)

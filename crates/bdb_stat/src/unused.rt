@@ -1,11 +1,11 @@
 //! The bytes of a page that hold nothing.
 ghost use Rattle.std.specs.Prelude.{◌≡◌, ◌<◌, ◌≤◌, None, length};
-ghost use Rattle.bdb_image.specs.of_format.File.{file_of, page_at};
-ghost use Rattle.bdb_image.specs.of_format.HeadOf.{head_of};
-ghost use Rattle.bdb_image.specs.of_format.Numbers.{byte_at};
-ghost use Rattle.bdb_image.specs.of_format.Reading.{page_as, page_type};
-ghost use Rattle.bdb_image.specs.of_format.Rows.{body_code};
-ghost use Rattle.bdb_image.specs.Linked.{IsForest};
+ghost use Rattle.bdb_turned.specs.of_format.File.{file_of, page_at};
+ghost use Rattle.bdb_turned.specs.of_format.HeadOf.{head_of};
+ghost use Rattle.bdb_turned.specs.of_format.Numbers.{byte_at};
+ghost use Rattle.bdb_turned.specs.of_format.Reading.{page_as, page_type};
+ghost use Rattle.bdb_turned.specs.of_format.Rows.{body_code};
+ghost use Rattle.bdb_turned.specs.of_image.Linked.{IsForest};
 ghost use Rattle.bdb_stat.specs.Unused.{unused_in};
 
 use crate::ends::{InternalItems, LeafItems, RecnoItems};
@@ -13,9 +13,9 @@ use crate::hash::unused_before_items;
 use crate::image::page_of;
 use crate::marks::Marks;
 use crate::starts::unused_behind;
-use bdb_image::bdb_form::is_zero;
-use bdb_image::bdb_format::{Head, Order};
-use bdb_image::bdb_layout::u16_at;
+use bdb_turned::bdb_form::is_zero;
+use bdb_turned::bdb_format::{Head, Order};
+use bdb_turned::bdb_layout::u16_at;
 
 /// How many bytes of a page that isn't zero hold nothing, by its type.
 fn typed_unused(starts: &mut Marks, page: &[u8], order: Order) -> usize

@@ -4,19 +4,19 @@ use Rattle.std.proofs.Common.{eqb-true}
 use Rattle.std.specs.Prelude.{◌==◌, ◌&&◌, not, nat_lt, Option, Some, None}
 use Rattle.std.proofs.Common.{ltb-false}
 use Rattle.std.proofs.lemmas.Bool.{and_parts}
-use Rattle.bdb_format.specs.declared.kinds.Order.{Order}
-use Rattle.bdb_format.specs.Chains.{chain_in, next_of, piece_in, pieces_of}
-use Rattle.bdb_format.specs.File.{File, file_as, header_in, page_at}
-use Rattle.bdb_format.specs.HeadOf.{is_page_size}
-use Rattle.bdb_format.specs.Numbers.{byte_at, four_at, two_at}
-use Rattle.bdb_format.specs.Page.{Page, Zero, PageType}
-use Rattle.bdb_format.specs.Reading.{abstract_page, is_zero, page_as, page_type}
-use Rattle.bdb_format.specs.Rows.{page_code}
-use Rattle.bdb_format.proofs.SizeLemmas.{size_bounds}
-use Rattle.bdb_overflow.specs.of_form.Formed.{HoldsData}
-use Rattle.bdb_overflow.proofs.of_form.FormedLemmas.{holds_data, tree_body}
-use Rattle.bdb_overflow.specs.Whole.{EndsIn, IsLink, IsWholeChain, bytes_of, next_at}
-use Rattle.bdb_overflow.proofs.WholeLemmas.{page_as_is, page_length}
+use Rattle.bdb_law_sums.specs.of_format.declared.kinds.Order.{Order}
+use Rattle.bdb_law_sums.specs.of_format.Chains.{chain_in, next_of, piece_in, pieces_of}
+use Rattle.bdb_law_sums.specs.of_format.File.{File, file_as, header_in, page_at}
+use Rattle.bdb_law_sums.specs.of_format.HeadOf.{is_page_size}
+use Rattle.bdb_law_sums.specs.of_format.Numbers.{byte_at, four_at, two_at}
+use Rattle.bdb_law_sums.specs.of_format.Page.{Page, Zero, PageType}
+use Rattle.bdb_law_sums.specs.of_format.Reading.{abstract_page, is_zero, page_as, page_type}
+use Rattle.bdb_law_sums.specs.of_format.Rows.{page_code}
+use Rattle.bdb_law_sums.proofs.of_format.SizeLemmas.{size_bounds}
+use Rattle.bdb_law_sums.specs.of_form.Formed.{HoldsData}
+use Rattle.bdb_law_sums.proofs.of_form.FormedLemmas.{holds_data, tree_body}
+use Rattle.bdb_law_sums.specs.of_overflow.Whole.{EndsIn, IsLink, IsWholeChain, bytes_of, next_at}
+use Rattle.bdb_law_sums.proofs.of_overflow.WholeLemmas.{page_as_is, page_length}
 use Rattle.bdb_survey.specs.Salvage.{follows, is_link, is_overflow, is_row, salvaged_file, salvaged_page, unless_code}
 use Rattle.bdb_survey.proofs.StoredPageLemmas.{count_is, page_is, page_past}
 use Rattle.bdb_law_sums.proofs.HashLemmas.{no_turn, turn_is}
@@ -115,7 +115,7 @@ same_link order size image before p legal is =
     record {
       link = link;
       same = same;
-      next_is = ap (λ page. (header_in page).next) same ∙ Rattle.bdb_overflow.proofs.WholeLemmas.link_next order size image p
+      next_is = ap (λ page. (header_in page).next) same ∙ Rattle.bdb_law_sums.proofs.of_overflow.WholeLemmas.link_next order size image p
           (omega (arith, long)) link;
     }
   where

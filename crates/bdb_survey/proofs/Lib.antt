@@ -1,3 +1,4 @@
+mod Below
 pub mod StoredPageLemmas
 pub mod StoredRowLemmas
 pub mod PageLemmas
@@ -9,9 +10,9 @@ pub mod SurveyLemmas
 pub mod WayLemmas
 pub mod DownLemmas
 pub mod RowLemmas
-pub use Rattle.bdb_format.proofs as of_format
-pub use Rattle.bdb_overflow.proofs.of_graph as of_graph
-pub use Rattle.bdb_overflow.proofs.of_image as of_image
+pub use Rattle.bdb_law_sums.proofs.of_format as of_format
+pub use Rattle.bdb_law_sums.proofs.of_graph as of_graph
+pub use Rattle.bdb_law_sums.proofs.of_image as of_image
 pub use Rattle.bdb_law_sums.proofs as of_law_sums
-pub use Rattle.bdb_overflow.proofs as of_overflow
+pub use Rattle.bdb_law_sums.proofs.of_overflow as of_overflow
 pub use Rattle.bdb_law_sums.proofs.of_tree as of_tree

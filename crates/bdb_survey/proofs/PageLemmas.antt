@@ -4,25 +4,25 @@ use Rattle.std.proofs.Common.{inl, inr}
 use Rattle.std.proofs.lemmas.Bool.{cases_lt}
 use Rattle.std.specs.Prelude.{Option, Some, None, Result, Ok, Err}
 use Rattle.std.proofs.Math.Nat.{div-le_of_le-mul}
-use Rattle.bdb_overflow.specs.of_form.declared.view.PageView.{PageView}
-use Rattle.bdb_overflow.specs.of_form.declared.view.PageView.TheVariants.{Zero as ZeroView, Free, Meta, Leaf, Internal, RecnoLeaf, RecnoInternal, DupLeaf, Hash, Overflow}
-use Rattle.bdb_overflow.specs.of_form.declared.view.PageView.TheVariants.{Queue}
-use Rattle.bdb_overflow.specs.of_form.Formed.{MetaPage, QueuePage as QueueSeen}
-use Rattle.bdb_format.specs.declared.pages.Header.{Header}
-use Rattle.bdb_overflow.specs.of_form.Formed.{unless}
-use Rattle.bdb_overflow.specs.of_form.Seen.{form_seen, header_seen, page_seen}
-use Rattle.bdb_format.specs.declared.kinds.Order.{Order}
-use Rattle.bdb_format.specs.File.{File, header_in, page_at}
-use Rattle.bdb_format.specs.HeadOf.{is_page_size}
-use Rattle.bdb_format.specs.Chains.{piece_in}
-use Rattle.bdb_format.specs.Numbers.{four_at}
-use Rattle.bdb_format.specs.Page.{Page, NoType}
-use Rattle.bdb_format.specs.Reading.{abstract_page}
-use Rattle.bdb_format.specs.Rows.{page_code}
-use Rattle.bdb_format.proofs.SizeLemmas.{size_bounds}
-use Rattle.bdb_overflow.proofs.of_image.PieceLemmas.{piece_fits}
-use Rattle.bdb_overflow.specs.Whole.{bytes_of}
-use Rattle.bdb_overflow.proofs.WholeLemmas.{page_length}
+use Rattle.bdb_law_sums.specs.of_form.declared.view.PageView.{PageView}
+use Rattle.bdb_law_sums.specs.of_form.declared.view.PageView.TheVariants.{Zero as ZeroView, Free, Meta, Leaf, Internal, RecnoLeaf, RecnoInternal, DupLeaf, Hash, Overflow}
+use Rattle.bdb_law_sums.specs.of_form.declared.view.PageView.TheVariants.{Queue}
+use Rattle.bdb_law_sums.specs.of_form.Formed.{MetaPage, QueuePage as QueueSeen}
+use Rattle.bdb_law_sums.specs.of_format.declared.pages.Header.{Header}
+use Rattle.bdb_law_sums.specs.of_form.Formed.{unless}
+use Rattle.bdb_law_sums.specs.of_form.Seen.{form_seen, header_seen, page_seen}
+use Rattle.bdb_law_sums.specs.of_format.declared.kinds.Order.{Order}
+use Rattle.bdb_law_sums.specs.of_format.File.{File, header_in, page_at}
+use Rattle.bdb_law_sums.specs.of_format.HeadOf.{is_page_size}
+use Rattle.bdb_law_sums.specs.of_format.Chains.{piece_in}
+use Rattle.bdb_law_sums.specs.of_format.Numbers.{four_at}
+use Rattle.bdb_law_sums.specs.of_format.Page.{Page, NoType}
+use Rattle.bdb_law_sums.specs.of_format.Reading.{abstract_page}
+use Rattle.bdb_law_sums.specs.of_format.Rows.{page_code}
+use Rattle.bdb_law_sums.proofs.of_format.SizeLemmas.{size_bounds}
+use Rattle.bdb_law_sums.proofs.of_image.PieceLemmas.{piece_fits}
+use Rattle.bdb_law_sums.specs.of_overflow.Whole.{bytes_of}
+use Rattle.bdb_law_sums.proofs.of_overflow.WholeLemmas.{page_length}
 use Rattle.bdb_survey.specs.Items.{slots_in}
 use Rattle.bdb_survey.specs.Salvage.{salvaged_file, salvaged_page, unless_code}
 use Rattle.bdb_survey.proofs.StoredPageLemmas.{page_is, page_past}

@@ -3,17 +3,17 @@ use Rattle.std.proofs.Common.{◌≡◌, ℕ, ◌-◌, ◌*◌, ◌/◌, ◌<◌
 use Rattle.std.specs.List.{range_with_len}
 use Rattle.std.proofs.lemmas.List.{get_or_past}
 use Rattle.std.proofs.lemmas.List.FromFn.{get_or-map-range_with_len, length-map-range_with_len}
-use Rattle.bdb_format.specs.declared.kinds.Order.{Order}
-use Rattle.bdb_format.specs.File.{page_at}
-use Rattle.bdb_format.specs.Page.{NoType}
+use Rattle.bdb_law_sums.specs.of_format.declared.kinds.Order.{Order}
+use Rattle.bdb_law_sums.specs.of_format.File.{page_at}
+use Rattle.bdb_law_sums.specs.of_format.Page.{NoType}
 use Rattle.bdb_survey.specs.Salvage.{salvaged_file, salvaged_page}
 
 pub count_is : (order : Order) (size : ℕ) (image : List ℕ) → (salvaged_file order size image).count ≡ length image / size
-unfolding salvaged_file Rattle.bdb_format.specs.File.file_as
+unfolding salvaged_file Rattle.bdb_law_sums.specs.of_format.File.file_as
 count_is order size image = refl
 
 pub last_is : (order : Order) (size : ℕ) (image : List ℕ) → (salvaged_file order size image).last ≡ length image / size - 1
-unfolding salvaged_file Rattle.bdb_format.specs.File.file_as
+unfolding salvaged_file Rattle.bdb_law_sums.specs.of_format.File.file_as
 last_is order size image = refl
 
 pub page_is : (order : Order) (size : ℕ) (image : List ℕ) (p : ℕ) → p < length image / size

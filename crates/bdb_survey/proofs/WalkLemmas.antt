@@ -3,9 +3,9 @@ use Rattle.std.proofs.Common.{◌≡◌, ℕ, zero, suc, ◌+◌, ◌-◌, ◌*�
 use Rattle.std.proofs.Common.{length-append}
 use Rattle.std.specs.Prelude.{◌==◌, ◌&&◌, not, Option, Some, None}
 use Rattle.std.proofs.lemmas.Bool.{eq-eqb, ne_eqb}
-use Rattle.bdb_format.specs.Chains.{chain_in, joined, next_of, piece_in, pieces_of}
-use Rattle.bdb_format.specs.File.{File, page_at}
-use Rattle.bdb_format.specs.Page.{Page}
+use Rattle.bdb_law_sums.specs.of_format.Chains.{chain_in, joined, next_of, piece_in, pieces_of}
+use Rattle.bdb_law_sums.specs.of_format.File.{File, page_at}
+use Rattle.bdb_law_sums.specs.of_format.Page.{Page}
 use Rattle.bdb_survey.specs.declared.links.Extent.{Extent}
 use Rattle.bdb_survey.specs.declared.links.Link.{Link}
 use Rattle.bdb_survey.specs.Links.{link_in, link_of, rest_extent, extent_of}
@@ -41,7 +41,7 @@ link_given file p is = cond is (Some (record { length = length (piece_in (page_a
 link_is : (file : File) (test : Page → Bool) (before p : ℕ) → link_in file test before p ≡ link_given file p (is_link file test before p)
 link_is file test before p =
     elim (p == 0) as (λ b. cond b None (link_of test before (page_at file p))
-    ≡ link_given file p (not b && test (page_at file p) && (Rattle.bdb_format.specs.File.header_in (page_at file p)).previous == before)) [
+    ≡ link_given file p (not b && test (page_at file p) && (Rattle.bdb_law_sums.specs.of_format.File.header_in (page_at file p)).previous == before)) [
       | true ↦ refl
       | false ↦ refl
     ]

@@ -2,14 +2,14 @@
 use Rattle.std.proofs.Common.{◌≡◌, ℕ, zero, suc, ◌-◌, ◌+◌, ◌<◌, ◌≤◌, Bool, true, false, cond, List, [], ◌∷◌, map, drop, arith, refl, sym, ◌∙◌, ap}
 use Rattle.std.specs.Prelude.{◌==◌, ◌&&◌, ◌||◌, not, nat_lt, slice_get, Option, Some, None, is_none}
 use Rattle.std.proofs.lemmas.Bool.{eq-eqb, ne_eqb}
-use Rattle.bdb_format.specs.declared.pages.RecnoItem.{RecnoItem}
-use Rattle.bdb_format.specs.declared.references.Sort.TheVariants.{Child}
-use Rattle.bdb_format.specs.File.{File, header_in, page_at, type_in}
-use Rattle.bdb_format.specs.Leaves.{children_in}
-use Rattle.bdb_format.specs.Page.{InternalItem, Listed, Metadata, BtreeFields, HashFields, QueueFields, Page, Zero, Free, Meta, Hash, Internal, RecnoInternal}
-use Rattle.bdb_format.specs.Page.{Leaf, RecnoLeaf, DupLeaf, Overflow, Queue, NoType}
-use Rattle.bdb_format.specs.References.{asked_by, fit_code, has_type, is_zero_page}
-use Rattle.bdb_format.specs.Table.{◌:?◌, first_row}
+use Rattle.bdb_law_sums.specs.of_format.declared.pages.RecnoItem.{RecnoItem}
+use Rattle.bdb_law_sums.specs.of_format.declared.references.Sort.TheVariants.{Child}
+use Rattle.bdb_law_sums.specs.of_format.File.{File, header_in, page_at, type_in}
+use Rattle.bdb_law_sums.specs.of_format.Leaves.{children_in}
+use Rattle.bdb_law_sums.specs.of_format.Page.{InternalItem, Listed, Metadata, BtreeFields, HashFields, QueueFields, Page, Zero, Free, Meta, Hash, Internal, RecnoInternal}
+use Rattle.bdb_law_sums.specs.of_format.Page.{Leaf, RecnoLeaf, DupLeaf, Overflow, Queue, NoType}
+use Rattle.bdb_law_sums.specs.of_format.References.{asked_by, fit_code, has_type, is_zero_page}
+use Rattle.bdb_law_sums.specs.of_format.Table.{◌:?◌, first_row}
 use Rattle.bdb_survey.specs.declared.down.Way.{Way}
 use Rattle.bdb_survey.specs.declared.down.Way.TheVariants.{Ends, Child as ChildWay, Broken}
 use Rattle.bdb_survey.specs.Salvage.{down, down_by, down_in, fits_below}
@@ -55,14 +55,14 @@ rows_none false true z true = refl
 rows_none false true z false = refl
 rows_none false false z c = refl
 
-fits_by : (file : File) (p child level : ℕ) (page : Page) (types : List ℕ) → page_at file p ≡ page → Rattle.bdb_format.specs.References.child_types page ≡ types
+fits_by : (file : File) (p child level : ℕ) (page : Page) (types : List ℕ) → page_at file p ≡ page → Rattle.bdb_law_sums.specs.of_format.References.child_types page ≡ types
     → (header_in page).level - 1 ≡ level
     → ((fields : Metadata) → has_type types (type_in (Meta fields)) ≡ false)
     → fits_below file p child ≡ fits_as file types level child
 unfolding fit_code
 fits_by file p child level page types is of below meta =
     let target : Page = page_at file child in
-    ap (λ asked. is_none (first_row (Rattle.bdb_format.specs.References.fit_rows file asked child)))
+    ap (λ asked. is_none (first_row (Rattle.bdb_law_sums.specs.of_format.References.fit_rows file asked child)))
     (ap (λ pg. asked_by p pg Child) is
     ∙ (ap (λ ts. record { types = ts; or_zero = false; level = Some ((header_in page).level - 1); previous = None }) of
     ∙ ap (λ n. record { types = types; or_zero = false; level = Some n; previous = None }) below))

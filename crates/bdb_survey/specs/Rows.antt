@@ -1,8 +1,8 @@
 -- What begins at a page, and the pages of a row that are left. Source: docs/FORMAT.md, "Salvage".
 use Rattle.std.specs.Prelude.{ℕ, nat_lt, ◌==◌, if◌then◌else◌, Bool, true, false, List, [], Option, Some, None}
-use Rattle.bdb_format.specs.Chains.{chain_in, pieces_of}
-use Rattle.bdb_format.specs.File.{File, page_at}
-use Rattle.bdb_format.specs.Page.{Page, Internal, RecnoInternal, RecnoLeaf, DupLeaf, Overflow}
+use Rattle.bdb_law_sums.specs.of_format.Chains.{chain_in, pieces_of}
+use Rattle.bdb_law_sums.specs.of_format.File.{File, page_at}
+use Rattle.bdb_law_sums.specs.of_format.Page.{Page, Internal, RecnoInternal, RecnoLeaf, DupLeaf, Overflow}
 use Rattle.bdb_survey.specs.declared.down.Way.{Way}
 use Rattle.bdb_survey.specs.declared.down.Way.TheVariants.{Ends, Child, Broken}
 use Rattle.bdb_survey.specs.declared.links.Extent.{Extent}

@@ -2,17 +2,17 @@
 use Rattle.std.specs.Prelude.{ℕ, zero, suc, ◌+◌, ◌*◌, ◌/◌, ◌==◌, ◌&&◌, not, if◌then◌else◌, Bool, true, false, List, [], ◌∷◌, map, length, take, drop, get_or}
 use Rattle.std.specs.Prelude.{Option, Some, None, is_none}
 use Rattle.std.specs.List.{flat_map, list_any, range_with_len}
-use Rattle.bdb_format.specs.declared.kinds.Order.{Order}
-use Rattle.bdb_format.specs.declared.references.Sort.TheVariants.{Child}
-use Rattle.bdb_format.specs.Numbers.{four_at}
-use Rattle.bdb_format.specs.Page.{Content, Inline, Set, Chain, Tree, Unknown, Item, Page, Hash, Leaf, RecnoLeaf, DupLeaf, Overflow, NoType}
-use Rattle.bdb_format.specs.Reading.{abstract_page}
-use Rattle.bdb_format.specs.Rows.{page_code}
-use Rattle.bdb_format.specs.File.{File, file_as, header_in, page_at}
-use Rattle.bdb_format.specs.References.{fit_code, no_item}
-use Rattle.bdb_format.specs.Chains.{chain, joined, next_of, pieces_of}
-use Rattle.bdb_format.specs.Leaves.{children_in}
-use Rattle.bdb_format.specs.Contents.{entries_in}
+use Rattle.bdb_law_sums.specs.of_format.declared.kinds.Order.{Order}
+use Rattle.bdb_law_sums.specs.of_format.declared.references.Sort.TheVariants.{Child}
+use Rattle.bdb_law_sums.specs.of_format.Numbers.{four_at}
+use Rattle.bdb_law_sums.specs.of_format.Page.{Content, Inline, Set, Chain, Tree, Unknown, Item, Page, Hash, Leaf, RecnoLeaf, DupLeaf, Overflow, NoType}
+use Rattle.bdb_law_sums.specs.of_format.Reading.{abstract_page}
+use Rattle.bdb_law_sums.specs.of_format.Rows.{page_code}
+use Rattle.bdb_law_sums.specs.of_format.File.{File, file_as, header_in, page_at}
+use Rattle.bdb_law_sums.specs.of_format.References.{fit_code, no_item}
+use Rattle.bdb_law_sums.specs.of_format.Chains.{chain, joined, next_of, pieces_of}
+use Rattle.bdb_law_sums.specs.of_format.Leaves.{children_in}
+use Rattle.bdb_law_sums.specs.of_format.Contents.{entries_in}
 
 -- The pages.
 

@@ -1,13 +1,13 @@
 ghost use Rattle.std.specs.Prelude.{◌≡◌, ◌+◌, ◌/◌, ◌^◌, ◌≤◌, IsTrue, if◌then◌else◌, Some, None, length};
-ghost use Rattle.bdb_format.specs.Chains.{pieces_of};
-ghost use Rattle.bdb_format.specs.HeadOf.{is_page_size};
+ghost use Rattle.bdb_law_sums.specs.of_format.Chains.{pieces_of};
+ghost use Rattle.bdb_law_sums.specs.of_format.HeadOf.{is_page_size};
 ghost use Rattle.bdb_survey.specs.Salvage.{is_whole, salvaged_file};
 
 use crate::Guess;
 use crate::links::{RowKind, row_extent};
 use crate::whole_pages::WholePages;
-use bdb_format::Steps;
-use bdb_overflow::Pieces;
+use bdb_law_sums::bdb_format::Steps;
+use bdb_law_sums::bdb_overflow::Pieces;
 use std::sync::ledger::Ledger;
 
 /// The pieces of the chain with this head, whose data have this length in bytes; `None` exactly where it isn't

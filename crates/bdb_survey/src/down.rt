@@ -1,16 +1,16 @@
 ghost use Rattle.std.specs.Prelude.{◌≡◌, ◌==◌, ◌∷◌, [], if◌then◌else◌, ℕ};
-ghost use Rattle.bdb_format.specs.Page.{Internal, InternalItem, Listed, RecnoInternal};
-ghost use Rattle.bdb_format.specs.declared.pages.RecnoItem.{RecnoItem};
-ghost use Rattle.bdb_overflow.specs.of_form.Seen.{page_seen};
+ghost use Rattle.bdb_law_sums.specs.of_format.Page.{Internal, InternalItem, Listed, RecnoInternal};
+ghost use Rattle.bdb_law_sums.specs.of_format.declared.pages.RecnoItem.{RecnoItem};
+ghost use Rattle.bdb_law_sums.specs.of_form.Seen.{page_seen};
 ghost use Rattle.std.specs.List.{list_any};
-ghost use Rattle.bdb_format.specs.File.{header_in, page_at};
-ghost use Rattle.bdb_format.specs.References.{has_type};
+ghost use Rattle.bdb_law_sums.specs.of_format.File.{header_in, page_at};
+ghost use Rattle.bdb_law_sums.specs.of_format.References.{has_type};
 ghost use Rattle.bdb_survey.specs.Salvage.{down, fits_below, set_start};
 ghost use Rattle.bdb_survey.specs.Ways.{fits_as, plain_type, way_from};
 ghost use Rattle.bdb_survey.specs.declared.down.Way.TheVariants.{Broken, Child};
 
 use crate::whole_pages::WholePages;
-use bdb_overflow::bdb_form::PageView;
+use bdb_law_sums::bdb_form::PageView;
 
 /// Where the way down goes on from a page.
 #[derive(Clone, Copy, Debug)]

@@ -11,8 +11,7 @@ mod slots;
 mod survey;
 mod whole_pages;
 
-pub use bdb_overflow;
-pub use bdb_overflow::bdb_layout;
+pub use bdb_law_sums::{bdb_graph, bdb_layout, bdb_overflow};
 pub use chain::chain_of;
 pub use guess::Guess;
 pub use row_leaves::RowPages;

@@ -1,12 +1,12 @@
 ghost use Rattle.std.specs.Prelude.{◌≡◌};
 ghost use Rattle.std.specs.Iterator.{YieldsFirst, item_count};
-ghost use Rattle.bdb_overflow.specs.of_form.Seen.{page_seen};
-ghost use Rattle.bdb_format.specs.Chains.{chain, next_of};
-ghost use Rattle.bdb_format.specs.File.{header_in};
+ghost use Rattle.bdb_law_sums.specs.of_form.Seen.{page_seen};
+ghost use Rattle.bdb_law_sums.specs.of_format.Chains.{chain, next_of};
+ghost use Rattle.bdb_law_sums.specs.of_format.File.{header_in};
 ghost use Rattle.bdb_survey.specs.Rows.{unless_zero};
 
 use crate::whole_pages::WholePages;
-use bdb_overflow::bdb_form::PageView;
+use bdb_law_sums::bdb_form::PageView;
 use std::marker::Model;
 
 /// The next page that the header of a page names; metadata and pages of a queue have none.

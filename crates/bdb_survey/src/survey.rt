@@ -1,8 +1,8 @@
 ghost use Rattle.std.specs.Prelude.{◌≡◌, IfOk, map, IfSome};
 ghost use Rattle.std.specs.List.{range_with_len};
-ghost use Rattle.bdb_overflow.specs.of_form.Seen.{page_seen};
-ghost use Rattle.bdb_format.specs.File.{page_at};
-ghost use Rattle.bdb_overflow.specs.of_layout.Seen.{content_seen};
+ghost use Rattle.bdb_law_sums.specs.of_form.Seen.{page_seen};
+ghost use Rattle.bdb_law_sums.specs.of_format.File.{page_at};
+ghost use Rattle.bdb_law_sums.specs.of_layout.Seen.{content_seen};
 ghost use Rattle.std.specs.Option.{option_to_list};
 ghost use Rattle.bdb_survey.specs.Rows.{chain_row, is_chain_of, is_leaf_row, leaf_row, row_at, row_by, thin_pieces, way_row};
 ghost use Rattle.bdb_survey.specs.Items.{is_valued};
@@ -11,10 +11,10 @@ ghost use Rattle.bdb_survey.specs.Salvage.{is_whole, set_start};
 use crate::down::{Way, way_from};
 use crate::links::{Extent, RowKind, row_extent};
 use crate::whole_pages::WholePages;
-use bdb_format::Steps;
-use bdb_overflow::Pieces;
-use bdb_overflow::bdb_form::PageView;
-use bdb_overflow::bdb_layout::Content;
+use bdb_law_sums::bdb_form::PageView;
+use bdb_law_sums::bdb_format::Steps;
+use bdb_law_sums::bdb_layout::Content;
+use bdb_law_sums::bdb_overflow::Pieces;
 use std::alloc::{AllocError, Global};
 use std::marker::Model;
 use std::sync::ledger::Ledger;
@@ -42,7 +42,7 @@ pub struct Survey<'a> {
 impl<'a> Model for Survey<'a> {
     ghost use Rattle.std.specs.Prelude.{◌≡◌, map};
     ghost use Rattle.std.specs.List.{range_with_len};
-    ghost use Rattle.bdb_format.specs.File.{File};
+    ghost use Rattle.bdb_law_sums.specs.of_format.File.{File};
     ghost use Rattle.bdb_survey.specs.Rows.{row_at};
 
     ghost Value = { File };

@@ -1,20 +1,20 @@
 ghost use Rattle.std.specs.Prelude.{◌≡◌, ◌/◌, ◌^◌, ◌<◌, ◌≤◌, IsTrue, length, ℕ};
-ghost use Rattle.bdb_format.specs.Page.{NoType};
-ghost use Rattle.bdb_overflow.specs.of_form.Seen.{page_seen};
-ghost use Rattle.bdb_format.specs.Chains.{piece_in, pieces_of};
-ghost use Rattle.bdb_overflow.specs.of_layout.Seen.{content_seen};
+ghost use Rattle.bdb_law_sums.specs.of_format.Page.{NoType};
+ghost use Rattle.bdb_law_sums.specs.of_form.Seen.{page_seen};
+ghost use Rattle.bdb_law_sums.specs.of_format.Chains.{piece_in, pieces_of};
+ghost use Rattle.bdb_law_sums.specs.of_layout.Seen.{content_seen};
 ghost use Rattle.bdb_survey.specs.Items.{slot_at, slots_in};
-ghost use Rattle.bdb_format.specs.File.{page_at};
-ghost use Rattle.bdb_format.specs.HeadOf.{is_page_size};
-ghost use Rattle.bdb_overflow.specs.Whole.{bytes_of};
+ghost use Rattle.bdb_law_sums.specs.of_format.File.{page_at};
+ghost use Rattle.bdb_law_sums.specs.of_format.HeadOf.{is_page_size};
+ghost use Rattle.bdb_law_sums.specs.of_overflow.Whole.{bytes_of};
 ghost use Rattle.bdb_survey.specs.Links.{view_page};
 ghost use Rattle.bdb_survey.specs.Salvage.{is_overflow, is_row, salvaged_file};
 
 use crate::Guess;
 use crate::slots::slots_of;
-use bdb_overflow::bdb_form::{PageView, form, known_form};
-use bdb_overflow::bdb_layout::{Content, u32_at};
-use bdb_overflow::{Pieces, pieces_at};
+use bdb_law_sums::bdb_form::{PageView, form, known_form};
+use bdb_law_sums::bdb_layout::{Content, u32_at};
+use bdb_law_sums::bdb_overflow::{Pieces, pieces_at};
 use std::marker::Model;
 
 /// The whole pages of an image, as a guess reads them.
@@ -25,7 +25,7 @@ pub struct WholePages<'a> {
 }
 
 impl<'a> Model for WholePages<'a> {
-    ghost use Rattle.bdb_format.specs.File.{File};
+    ghost use Rattle.bdb_law_sums.specs.of_format.File.{File};
     ghost use Rattle.bdb_survey.specs.Reads.{IsRead};
     ghost use Rattle.bdb_survey.specs.Salvage.{salvaged_file};
 
@@ -37,7 +37,7 @@ impl<'a> Model for WholePages<'a> {
 }
 
 /// The bytes of a page that the image has whole.
-#[tactic(auto, using(bdb_overflow::proofs::WholeLemmas::page_room, bdb_overflow::proofs::WholeLemmas::page_length))]
+#[tactic(auto, using(crate::proofs::Below::page_room, crate::proofs::Below::page_length))]
 fn page_of<'a>(image: &'a [u8], size: u32, number: u32) -> &'a [u8]
     requires some { 1 ≤ size }
     requires there { number < length image.now / size }
@@ -49,7 +49,7 @@ fn page_of<'a>(image: &'a [u8], size: u32, number: u32) -> &'a [u8]
     &image[start..start + size]
 }
 
-#[tactic(auto, using(crate::proofs::StoredPageLemmas::count_is, bdb_format::proofs::SizeLemmas::long_page, crate::proofs::PageLemmas::few))]
+#[tactic(auto, using(crate::proofs::StoredPageLemmas::count_is, crate::proofs::Below::long_page, crate::proofs::PageLemmas::few))]
 impl<'a> WholePages<'a> {
     /// The pages of an image.
     pub fn over(image: &'a [u8], guess: Guess) -> WholePages<'a>
@@ -90,7 +90,7 @@ impl<'a> WholePages<'a> {
 
     /// A page by its number; none where there's no such page, or a row of form holds for it. Its own number
     /// isn't looked at.
-    #[tactic(auto, using(crate::proofs::StoredPageLemmas::page_past, bdb_format::proofs::SizeLemmas::long_page))]
+    #[tactic(auto, using(crate::proofs::StoredPageLemmas::page_past, crate::proofs::Below::long_page))]
     pub fn page(&self, number: u32) -> Option<PageView<'a>>
         ensures page { view_page result ≡ page_at self.now number }
         ensures short { length (piece_in (view_page result)) ≤ 32768 }

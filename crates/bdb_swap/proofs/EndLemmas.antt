@@ -19,7 +19,7 @@ use Rattle.bdb_swap.specs.Crossing.{AreEnds, AreRanges, end_at, some_share}
 use Rattle.bdb_turned.specs.Overlaps.{internal_item_end, leaf_item_end, listed_overlap, share_bytes}
 use Rattle.bdb_turned.specs.Parts.{internal_high, leaf_high, recno_high}
 use Rattle.bdb_io.specs.of_format.declared.pages.RecnoItem.{RecnoItem}
-use Rattle.bdb_image.proofs.of_layout.RowLemmas.{recno_fits}
+use Rattle.bdb_turned.proofs.of_layout.RowLemmas.{recno_fits}
 use Rattle.bdb_turned.specs.Fields.{no_internal, no_recno}
 use Rattle.bdb_turned.proofs.InnerLemmas.{IsInline as KeyInline, IsChain as KeyChain, internal_ends, key_case, same_item as inner_same}
 use Rattle.bdb_swap.proofs.CrossLemmas.{found_in}

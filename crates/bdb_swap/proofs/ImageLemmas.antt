@@ -15,10 +15,10 @@ use Rattle.bdb_io.specs.of_format.File.{file_of, page_at, page_bytes}
 use Rattle.bdb_io.specs.of_format.HeadOf.{head_of}
 use Rattle.bdb_io.specs.of_format.Reading.{abstract_page, is_zero}
 use Rattle.bdb_io.specs.of_format.Verdict.{file_faults, head_faults, tail_faults}
-use Rattle.bdb_image.proofs.FirstLemmas.{formed_accepted, formed_page}
-use Rattle.bdb_image.proofs.FormedLemmas.{accepted_paged}
-use Rattle.bdb_image.specs.Formed.{IsAccepted}
-use Rattle.bdb_image.specs.Linked.{IsForest}
+use Rattle.bdb_turned.proofs.of_image.FirstLemmas.{formed_accepted, formed_page}
+use Rattle.bdb_turned.proofs.of_image.FormedLemmas.{accepted_paged}
+use Rattle.bdb_turned.specs.of_image.Formed.{IsAccepted}
+use Rattle.bdb_turned.specs.of_image.Linked.{IsForest}
 use Rattle.bdb_turned.specs.Flipped.{first_overlap, flipped}
 use Rattle.bdb_turned.specs.Overlaps.{overlaps}
 use Rattle.bdb_turned.specs.Turning.{turned_page}

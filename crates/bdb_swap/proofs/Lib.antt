@@ -1,3 +1,4 @@
+mod Below
 pub mod WriteLemmas
 pub mod PartLemmas
 pub mod CrossLemmas

@@ -1,5 +1,5 @@
 ghost use Rattle.std.specs.Prelude.{◌≡◌, ◌+◌, ◌≤◌, length};
-ghost use Rattle.bdb_image.specs.of_layout.Seen.{hash_item_seen};
+ghost use Rattle.bdb_turned.specs.of_layout.Seen.{hash_item_seen};
 ghost use Rattle.bdb_io.specs.of_format.Page.{HashPage};
 ghost use Rattle.bdb_turned.specs.Fields.{block_fields, hash_fields};
 ghost use Rattle.bdb_turned.specs.Apart.{run_length};
@@ -8,8 +8,8 @@ ghost use Rattle.bdb_swap.specs.Turns.{Turns};
 
 use crate::listed::Items;
 use crate::number::{turn_four, turn_two};
-use bdb_image::bdb_layout::{DupBlocks, HashItem, known_hash_item, offset_at};
 use bdb_io::bdb_format::Order;
+use bdb_turned::bdb_layout::{DupBlocks, HashItem, known_hash_item, offset_at};
 
 /// The items of hash pages.
 pub(crate) struct HashItems;

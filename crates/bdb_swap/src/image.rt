@@ -3,7 +3,7 @@ ghost use Rattle.bdb_io.specs.of_format.File.{page_bytes};
 ghost use Rattle.bdb_io.specs.of_format.HeadOf.{is_page_size};
 ghost use Rattle.bdb_io.specs.of_format.Reading.{abstract_page, is_zero};
 ghost use Rattle.bdb_io.specs.of_format.Rows.{form_code};
-ghost use Rattle.bdb_image.specs.Formed.{IsAccepted};
+ghost use Rattle.bdb_turned.specs.of_image.Formed.{IsAccepted};
 ghost use Rattle.bdb_turned.specs.Overlaps.{overlaps};
 ghost use Rattle.bdb_turned.specs.Turning.{turned_page};
 ghost use Rattle.bdb_swap.specs.Flip.{IsTurnedImage};
@@ -16,7 +16,7 @@ use bdb_io::bdb_format::{Bytes, Head};
 use std::alloc::{AllocError, Global};
 
 /// The bytes of a page of an image whose page 0 is accepted.
-#[tactic(auto, using(bdb_image::proofs::FormedLemmas::page_room, bdb_image::proofs::FormedLemmas::page_length))]
+#[tactic(auto, using(crate::proofs::Below::page_room, crate::proofs::Below::page_length))]
 pub(crate) fn page_of<'a>(image: &'a [u8], head: &Head, number: u32) -> &'a [u8]
     requires head { IsAccepted image.now head.now }
     requires there { number < head.now.pages }

@@ -1,5 +1,5 @@
 ghost use Rattle.std.specs.Prelude.{◌≡◌, ◌+◌, ◌<◌, ◌≤◌, length};
-ghost use Rattle.bdb_image.specs.of_layout.Seen.{internal_item_seen};
+ghost use Rattle.bdb_turned.specs.of_layout.Seen.{internal_item_seen};
 ghost use Rattle.bdb_turned.specs.Fields.{internal_fields};
 ghost use Rattle.bdb_turned.specs.Overlaps.{internal_item_end};
 ghost use Rattle.bdb_io.specs.of_format.Page.{InternalPage};
@@ -9,8 +9,8 @@ ghost use Rattle.bdb_swap.specs.Turns.{Turns};
 use crate::listed::Items;
 use crate::number::{turn_four, turn_two};
 use crate::ranged::Ranged;
-use bdb_image::bdb_layout::{InternalItem, InternalKey, known_internal_item, offset_at};
 use bdb_io::bdb_format::Order;
+use bdb_turned::bdb_layout::{InternalItem, InternalKey, known_internal_item, offset_at};
 
 /// The items of internal pages.
 pub(crate) struct InternalItems;

@@ -1,5 +1,5 @@
 ghost use Rattle.std.specs.Prelude.{◌≡◌, ◌+◌, ◌<◌, ◌≤◌, length};
-ghost use Rattle.bdb_image.specs.of_layout.Seen.{leaf_item_seen};
+ghost use Rattle.bdb_turned.specs.of_layout.Seen.{leaf_item_seen};
 ghost use Rattle.bdb_turned.specs.Fields.{leaf_fields};
 ghost use Rattle.bdb_turned.specs.Overlaps.{leaf_item_end};
 ghost use Rattle.bdb_io.specs.of_format.Page.{LeafPage};
@@ -9,8 +9,8 @@ ghost use Rattle.bdb_swap.specs.Turns.{Turns};
 use crate::listed::Items;
 use crate::number::{turn_four, turn_two};
 use crate::ranged::Ranged;
-use bdb_image::bdb_layout::{LeafItem, known_leaf_item, offset_at};
 use bdb_io::bdb_format::Order;
+use bdb_turned::bdb_layout::{LeafItem, known_leaf_item, offset_at};
 
 /// The items of leaves, be they of a btree, a recno or a tree of duplicates.
 pub(crate) struct LeafItems;

@@ -7,3 +7,4 @@ pub mod DataLines
 pub mod ReadTo
 pub mod DataTo
 pub mod SectionTo
+pub use Rattle.bdb_spelling.specs.of_text_format as of_text_format

@@ -1,37 +1,35 @@
 -- A run with a base.
-use Rattle.std.proofs.Common.{◌≡◌, ◌⊎◌, ℕ, ◌+◌, ◌<◌, ◌≤◌, ◌&&◌, if◌then◌else◌, Bool, true, false, not, true≢false, List, [], length, inl, inr, refl, sym, subst}
-use Rattle.std.proofs.Common.{◌∙◌, ap, arith}
+use Rattle.std.proofs.Common.{Bool, List, [], ap, arith, false, if◌then◌else◌, inl, inr, length, not, refl, subst, sym, true, true≢false, ℕ, ◌&&◌, ◌+◌, ◌<◌, ◌∙◌, ◌≡◌, ◌≤◌, ◌⊎◌}
 use Rattle.std.specs.Prelude.{Option, Some, None}
 use Rattle.std.proofs.lemmas.Bool.{le-ltb, lt-ltb}
-use Rattle.bdb_format.specs.Faults.{Took}
-use Rattle.bdb_format.specs.Verdict.{verdict_of}
-use Rattle.bdb_format.specs.declared.kinds.Verdict.{Verdict}
-use Rattle.bdb_format.specs.declared.kinds.Verdict.TheVariants.{Fault, Unsupported, Memory as MemoryVerdict}
-use Rattle.bdb_format.proofs.KnownLemmas.{keeps_itself}
+use Rattle.bdb_repair.specs.of_format.Faults.{Took}
+use Rattle.bdb_repair.specs.of_format.Verdict.{verdict_of}
+use Rattle.bdb_repair.specs.of_format.declared.kinds.Verdict.{Verdict}
+use Rattle.bdb_repair.specs.of_format.declared.kinds.Verdict.TheVariants.{Fault, Unsupported, Memory as MemoryVerdict}
+use Rattle.bdb_repair.proofs.of_format.KnownLemmas.{keeps_itself}
 use Rattle.bdb_tool_build.specs.of_file.Whole.{IsVerdictOf}
 use Rattle.bdb_repair.specs.of_model.Answers.{Answer, fault_line, told, unsupported_line}
 use Rattle.bdb_repair.specs.of_model.Change.{Change}
 use Rattle.bdb_repair.specs.of_model.Lines.{memory_line}
-use Rattle.bdb_tool_print.proofs.of_tool_lines.PrintingLemmas.{moved}
+use Rattle.bdb_tool_ask.proofs.of_tool_lines.PrintingLemmas.{moved}
 use Rattle.bdb_tool_build.specs.of_onto.declared.base.Base.{Base}
 use Rattle.bdb_tool_build.specs.of_onto.Bases.{IsBaseOf}
 use Rattle.bdb_tool_build.specs.Ontos.{IsTextOnto}
-use Rattle.bdb_tool_words.specs.Commands.{Command, LoadOnto, command_of, command_on, handed, reads_base}
+use Rattle.bdb_tool_ask.specs.of_tool_words.Commands.{Command, LoadOnto, command_of, command_on, handed, reads_base}
 use Rattle.bdb_tool.specs.Ontos.{IsOntoAnswer, IsOntoBy, IsOntoBySize, base_too_large_line}
 use Rattle.bdb_tool.specs.Outputs.{Asked, asked_alone}
-use Rattle.bdb_tool.specs.Parts.{BaseFailed, BaseRead, BaseTooLong, BaseUnread, Ends, EndsOnto, IsRefused, IsTaskAnswered, IsToldOfBase, IsToldStop}
-use Rattle.bdb_tool.specs.Parts.{Tells, Answered, Unanswered}
+use Rattle.bdb_tool_ask.specs.Finished.{IsRefused, Tells}
+use Rattle.bdb_tool.specs.Parts.{Answered, BaseFailed, BaseRead, BaseTooLong, BaseUnread, Ends, EndsOnto, IsTaskAnswered, IsToldOfBase, IsToldStop, Unanswered}
 use Rattle.bdb_tool.specs.Runs.{IsAnswered, ReadsBase, RunsAs, RunsOn, asked_on}
 use Rattle.bdb_tool.specs.Tasks.{AreReading, IsInputWithin, IsStopped, IsTaskTaken, IsUnreadable}
-use Rattle.bdb_tool_words.specs.WordsSeen.{AreOnto}
+use Rattle.bdb_tool_ask.specs.of_tool_words.WordsSeen.{AreOnto}
 use Rattle.bdb_tool.specs.declared.task.Task.{Task}
 use Rattle.bdb_tool.specs.declared.task.Stop.{Stop}
 use Rattle.bdb_tool.specs.declared.task.Stop.TheVariants.{Usage, TooLarge, ReadFault, Memory as MemoryStop}
-use Rattle.bdb_tool.proofs.AnswerLemmas.{onto_own}
-use Rattle.bdb_tool.proofs.FinishLemmas.{memory_finishes, told_finishes}
+use Rattle.bdb_tool.proofs.BuiltLemmas.{onto_own}
+use Rattle.bdb_tool_ask.proofs.FinishLemmas.{memory_finishes, told_finishes}
 use Rattle.bdb_tool.proofs.TaskLemmas.{not_read}
-use Rattle.bdb_tool.proofs.RunLemmas.{calls_read, ended_runs, finished_runs, long_input, own_status, read_fault_runs, some_input, stopped_runs}
-use Rattle.bdb_tool.proofs.RunLemmas.{taken_runs, unanswered_runs, whole_input, within_answers}
+use Rattle.bdb_tool.proofs.RunLemmas.{calls_read, ended_runs, finished_runs, long_input, own_status, read_fault_runs, some_input, stopped_runs, taken_runs, unanswered_runs, whole_input, within_answers}
 
 -- A base that isn't sound.
 

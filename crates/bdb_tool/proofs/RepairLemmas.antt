@@ -1,11 +1,11 @@
 -- What `repair` answers.
 use Rattle.std.proofs.Common.{◌≡◌, ◌⊎◌, ℕ, Bool, true, false, List, Option, Some, None, Result, Ok, Err, inl, inr, refl, sym, subst, arith}
 use Rattle.std.specs.Prelude.{nat_lt}
-use Rattle.bdb_format.proofs.KnownLemmas.{keeps_itself}
+use Rattle.bdb_repair.proofs.of_format.KnownLemmas.{keeps_itself}
 use Rattle.bdb_repair.specs.of_text_format.declared.sections.Section.{Section}
-use Rattle.bdb_tool_print.specs.of_tool_lines.declared.cut.Cut.{Cut}
-use Rattle.bdb_tool_print.specs.of_tool_lines.Printing.{Writes}
-use Rattle.bdb_tool_print.proofs.of_tool_lines.PrintingLemmas.{moved}
+use Rattle.bdb_tool_ask.specs.of_tool_lines.declared.cut.Cut.{Cut}
+use Rattle.bdb_tool_ask.specs.of_tool_lines.Printing.{Writes}
+use Rattle.bdb_tool_ask.proofs.of_tool_lines.PrintingLemmas.{moved}
 use Rattle.bdb_repair.specs.of_mkfile.Builds.{image_size}
 use Rattle.bdb_repair.specs.of_model.Answers.{Answer, done, told}
 use Rattle.bdb_repair.specs.of_model.Change.{Change}
@@ -18,8 +18,9 @@ use Rattle.bdb_repair.specs.Repairs.{IsRepaired}
 use Rattle.bdb_repair.specs.of_rescue.Guesses.{chosen}
 use Rattle.bdb_repair.specs.of_survey.declared.guess.Guess.{Guess}
 use Rattle.bdb_tool.specs.Outputs.{IsImageBy, IsRepairAnswer, IsRepairBy, no_metadata}
-use Rattle.bdb_tool.specs.Parts.{Answered, Ends, HasOwnStatus, Reports, Tells, Unanswered}
-use Rattle.bdb_tool.proofs.FinishLemmas.{told_finishes, written_finishes}
+use Rattle.bdb_tool_ask.specs.Finished.{HasOwnStatus, Reports, Tells}
+use Rattle.bdb_tool.specs.Parts.{Answered, Ends, Unanswered}
+use Rattle.bdb_tool_ask.proofs.FinishLemmas.{told_finishes, written_finishes}
 use Rattle.bdb_tool_build.specs.Lines.{image_too_large_line}
 
 -- What is repaired is an answer.

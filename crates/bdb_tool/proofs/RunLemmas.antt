@@ -1,36 +1,35 @@
 -- From what a run takes, and how it writes its answer, to its whole promise.
-use Rattle.std.proofs.Common.{◌≡◌, ◌≢◌, ◌⊎◌, ℕ, ◌+◌, ◌<◌, ◌≤◌, ◌&&◌, Bool, true, false, List, [], length, inl, inr, refl, sym, subst, ◌∙◌, ap, arith}
-use Rattle.std.proofs.Common.{length-append, append-nil}
+use Rattle.std.proofs.Common.{Bool, List, [], ap, append-nil, arith, false, inl, inr, length, length-append, refl, subst, sym, true, ℕ, ◌&&◌, ◌+◌, ◌<◌, ◌∙◌, ◌≡◌, ◌≢◌, ◌≤◌, ◌⊎◌}
 use Rattle.std.specs.Prelude.{Option, Some, None, nat_lt}
 use Rattle.std.specs.Io.KnownBytes.{Consumes, IsAtEnd}
 use Rattle.std.proofs.lemmas.Bool.{le-ltb, lt-ltb}
 use Rattle.bdb_repair.specs.of_model.Answers.{Answer, told, too_large_line}
-use Rattle.bdb_tool_words.specs.Commands.{Ask, Command, Load, reads_input, usage}
+use Rattle.bdb_tool_ask.specs.of_tool_words.Commands.{Ask, Command, Load, reads_input, usage}
 use Rattle.bdb_repair.specs.of_model.Change.{Change, GainsPart, HasFailed, IsUncalled, Stays}
-use Rattle.bdb_repair.specs.of_rows.declared.rows.Rows.TheVariants.{All}
-use Rattle.bdb_format.specs.Faults.{Rose, Took}
+use Rattle.bdb_repair.specs.of_any_order.declared.rows.Rows.TheVariants.{All}
+use Rattle.bdb_repair.specs.of_format.Faults.{Rose, Took}
 use Rattle.bdb_repair.specs.of_model.Lines.{memory_line, read_fault_line, write_fault_line}
-use Rattle.bdb_format.proofs.KnownLemmas.{keeps_itself}
+use Rattle.bdb_repair.proofs.of_format.KnownLemmas.{keeps_itself}
 use Rattle.bdb_tool_build.specs.Loads.{IsTextAnswer}
 use Rattle.bdb_tool_build.specs.Trials.{IsTrialAnswer}
-use Rattle.bdb_tool.specs.Outputs.{AnswersInPart, Asked, IsActionAnswer, IsAnswerBySize, IsAnswerTo, IsCommandAnswer, IsInput, IsRepairAnswer, Output, StatusIs}
-use Rattle.bdb_tool.specs.Outputs.{asked_alone, asked_answer, salvage_answer}
-use Rattle.bdb_tool.specs.Parts.{Answered, Ends, Finishes, IsTaskAnswered, IsToldStop, Tells, Unanswered}
+use Rattle.bdb_tool.specs.Outputs.{AnswersInPart, Asked, IsActionAnswer, IsAnswerBySize, IsAnswerTo, IsCommandAnswer, IsInput, IsRepairAnswer, Output, StatusIs, asked_alone, salvage_answer}
+use Rattle.bdb_tool_ask.specs.FileAnswers.{asked_answer}
+use Rattle.bdb_tool_ask.specs.Finished.{Finishes, Tells}
+use Rattle.bdb_tool.specs.Parts.{Answered, Ends, IsTaskAnswered, IsToldStop, Unanswered}
 use Rattle.bdb_tool.specs.Runs.{ErrorLine, HasFailedReading, IsAnswered, OfAnswer, OfMemory, OfReadFault, OfWriteFault, RunsAs, RunsOn, asked_on}
 use Rattle.bdb_tool.specs.Tasks.{AreReading, IsRead, IsStopped, IsTaskTaken, IsTooLong}
-use Rattle.bdb_tool_words.specs.WordsSeen.{repair_seen, salvage_seen, trial_seen}
-use Rattle.bdb_tool_words.specs.declared.command.Repair.{Repair as CodeRepair}
-use Rattle.bdb_tool_words.specs.declared.command.Trial.{Trial as CodeTrial}
+use Rattle.bdb_tool_ask.specs.of_tool_words.WordsSeen.{repair_seen, salvage_seen, trial_seen}
+use Rattle.bdb_tool_ask.specs.of_tool_words.declared.command.Repair.{Repair as CodeRepair}
+use Rattle.bdb_tool_ask.specs.of_tool_words.declared.command.Trial.{Trial as CodeTrial}
 use Rattle.bdb_tool.specs.declared.task.Stop.{Stop}
 use Rattle.bdb_tool.specs.declared.task.Stop.TheVariants.{Usage, TooLarge, ReadFault, Memory as MemoryStop}
 use Rattle.bdb_tool.specs.declared.task.Task.{Task}
-use Rattle.bdb_tool.specs.declared.task.Task.TheVariants.{Ask as AskTask, Read as ReadTask, Load as LoadTask, Salvage as SalvageTask, Repair as RepairTask}
-use Rattle.bdb_tool.specs.declared.task.Task.TheVariants.{Trial as TrialTask}
-use Rattle.bdb_tool.proofs.TellingLemmas.{asked_own}
-use Rattle.bdb_tool.proofs.AnswerLemmas.{salvage_own, text_own, trial_own}
-use Rattle.bdb_tool.proofs.FinishLemmas.{memory_finishes, told_finishes}
+use Rattle.bdb_tool.specs.declared.task.Task.TheVariants.{Ask as AskTask, Load as LoadTask, Read as ReadTask, Repair as RepairTask, Salvage as SalvageTask, Trial as TrialTask}
+use Rattle.bdb_tool_ask.proofs.TellingLemmas.{asked_own}
+use Rattle.bdb_tool.proofs.BuiltLemmas.{salvage_own, text_own, trial_own}
+use Rattle.bdb_tool_ask.proofs.FinishLemmas.{memory_finishes, told_finishes}
 use Rattle.bdb_tool.proofs.RepairLemmas.{repair_own}
-use Rattle.bdb_tool_print.proofs.of_tool_lines.PrintingLemmas.{moved}
+use Rattle.bdb_tool_ask.proofs.of_tool_lines.PrintingLemmas.{moved}
 
 -- The input.
 

@@ -1,13 +1,13 @@
 -- A law of the rows that count. Source: docs/FORMAT.md, "Stage 8, contents".
 use Rattle.std.specs.Prelude.{◌≡◌, ℕ, List, false}
 use Rattle.std.specs.List.{Contains}
-use Rattle.bdb_repair.specs.of_rows.AnyOrder.{is_of_order}
-use Rattle.bdb_repair.specs.of_rows.declared.rows.Rows.TheVariants.{All, AnyOrder}
-use Rattle.bdb_format.specs.declared.kinds.Fault.{Fault}
-use Rattle.bdb_format.specs.File.{file_of}
-use Rattle.bdb_format.specs.Verdict.{contents_faults}
-use Rattle.bdb_tool_words.specs.Commands.{Request}
-use Rattle.bdb_tool.specs.Outputs.{asked_answer}
+use Rattle.bdb_repair.specs.of_any_order.AnyOrder.{is_of_order}
+use Rattle.bdb_repair.specs.of_any_order.declared.rows.Rows.TheVariants.{All, AnyOrder}
+use Rattle.bdb_repair.specs.of_format.declared.kinds.Fault.{Fault}
+use Rattle.bdb_repair.specs.of_format.File.{file_of}
+use Rattle.bdb_repair.specs.of_format.Verdict.{contents_faults}
+use Rattle.bdb_tool_ask.specs.of_tool_words.Commands.{Request}
+use Rattle.bdb_tool_ask.specs.FileAnswers.{asked_answer}
 
 -- on a file on which no row of order holds, what is asked is answered in any order as by all rows
 abbrev pub SameAnswersWithoutOrder : Type 0

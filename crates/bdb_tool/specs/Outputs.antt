@@ -1,13 +1,7 @@
 -- The answers to words, an input and a base: a status, and what is written to the output and to the error sink. Source: README.md, "Use".
-use Rattle.std.specs.Prelude.{◌≡◌, ◌⊎◌, ℕ, nat_lt, ◌&&◌, Bool, true, false, List, [], ◌∷◌, length, map, Option, Some, None, codes, ⊤}
-use Rattle.bdb_repair.specs.of_rows.AnyOrder.{faults_by_rows, verdict_by}
-use Rattle.bdb_repair.specs.of_rows.declared.rows.Rows.{Rows}
-use Rattle.bdb_format.specs.declared.kinds.Fault.{Fault}
-use Rattle.bdb_format.specs.Verdict.{Judgement, judgement_of}
-use Rattle.bdb_tool_print.specs.of_tool_lines.Telling.{judgement_status, judgements_text}
-use Rattle.bdb_tool_words.specs.Commands.{Action, Ask, Command, Load, LoadOnto, Repair, Request, Salvage, Trial, Verify, command_on, reads_input, usage}
+use Rattle.std.specs.Prelude.{◌≡◌, ◌⊎◌, ℕ, nat_lt, ◌&&◌, Bool, true, false, List, [], length, Option, Some, None, codes, ⊤}
+use Rattle.bdb_tool_ask.specs.of_tool_words.Commands.{Action, Ask, Command, Load, LoadOnto, Repair, Salvage, Trial, command_on, reads_input, usage}
 use Rattle.bdb_repair.specs.of_model.Answers.{Answer, done, told, too_large_line}
-use Rattle.bdb_tool.specs.FileAnswers.{judged_answer, sound_answer}
 use Rattle.bdb_repair.specs.of_model.Change.{Change, Gains, GainsPart, Stays}
 use Rattle.bdb_repair.specs.of_text_format.LineEnd.{line}
 use Rattle.bdb_repair.specs.of_rescue.Text.{salvage_text}
@@ -21,22 +15,7 @@ use Rattle.bdb_tool.specs.Ontos.{IsOntoAnswer}
 use Rattle.bdb_tool_build.specs.Lines.{image_too_large_line}
 use Rattle.bdb_tool_build.specs.Loads.{IsImageAnswer, IsTextAnswer}
 use Rattle.bdb_tool_build.specs.Trials.{IsTrialAnswer}
-
--- the status of the first of what holds
-abbrev pub first_status : List Judgement → ℕ
-first_status [] = 0
-first_status (judgement ∷ judgements) = judgement_status judgement
-
--- `verify`: the line of a sound file, else a line for each fault of the first stage that has any, with the status of the first
-abbrev pub verified : List Fault → List ℕ → Answer
-verified [] image = sound_answer Verify image
-verified (fault ∷ faults) image =
-    told (first_status (map judgement_of (fault ∷ faults))) (judgements_text (map judgement_of (fault ∷ faults)))
-
--- what is asked of a file, by the rows that count; but for `verify` the first fault alone is told
-abbrev pub asked_answer : Rows → Request → List ℕ → Answer
-asked_answer rows Verify image = verified (faults_by_rows rows image) image
-asked_answer rows request image = judged_answer (verdict_by rows image) request image
+use Rattle.bdb_tool_ask.specs.FileAnswers.{asked_answer}
 
 abbrev pub no_metadata : Answer
 no_metadata = told 10 (line (codes "no metadata page"))

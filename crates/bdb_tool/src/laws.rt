@@ -4,9 +4,9 @@ ghost use Rattle.bdb_tool.specs.Laws.{SameAnswersWithoutOrder};
 ghost use Rattle.bdb_tool.specs.Outputs.{StatusIs};
 
 use crate::run;
-use bdb_format::{Bytes, Steps};
+use bdb_repair::bdb_format::{Bytes, Steps};
+use bdb_repair::bdb_io::{PureSink, PureSource};
 use bdb_repair::bdb_model::Words;
-use bdb_swap::bdb_io::{PureSink, PureSource};
 use std::alloc::Global;
 use std::sync::ledger::Ledger;
 

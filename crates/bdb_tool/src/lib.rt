@@ -3,29 +3,19 @@
 
 mod answer;
 mod building;
-mod converting;
-mod finish;
 pub mod laws;
-mod looking;
 mod program;
-mod ranging;
-mod reading;
 mod repairing;
 mod salvaging;
-mod spelled;
-mod stating;
-pub mod status;
 mod task;
-mod telling;
 mod text;
 
-pub use bdb_format;
-pub use bdb_repair::{bdb_model, bdb_text};
-pub use bdb_stat::bdb_layout;
-pub use bdb_swap::bdb_io;
+pub use bdb_repair::{
+    bdb_btree, bdb_format, bdb_graph, bdb_io, bdb_layout, bdb_mkfile, bdb_model, bdb_settle,
+    bdb_text, bdb_text_format,
+};
+pub use bdb_tool_ask::bdb_tool_words::onto_file;
+pub use bdb_tool_ask::{bdb_range, status, tell_usage};
 pub use bdb_tool_build;
 pub use bdb_tool_build::{bdb_file, bdb_gen};
-pub use bdb_tool_print::bdb_range;
-pub use bdb_tool_words::onto_file;
-pub use finish::tell_usage;
 pub use program::{run, run_counted, run_onto};

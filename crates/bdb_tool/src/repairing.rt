@@ -3,17 +3,18 @@ ghost use Rattle.std.specs.Prelude.{◌⊎◌, ◌≤◌, ◌^◌, length};
 ghost use Rattle.bdb_repair.specs.of_model.Change.{change};
 ghost use Rattle.bdb_repair.specs.of_model.Lines.{memory_line};
 ghost use Rattle.bdb_tool.specs.Outputs.{IsRepairAnswer};
-ghost use Rattle.bdb_tool.specs.Parts.{Ends, Tells};
-ghost use Rattle.bdb_tool_words.specs.WordsSeen.{IsFitRepair};
+ghost use Rattle.bdb_tool_ask.specs.Finished.{Tells};
+ghost use Rattle.bdb_tool.specs.Parts.{Ends};
+ghost use Rattle.bdb_tool_ask.specs.of_tool_words.WordsSeen.{IsFitRepair};
 ghost use Rattle.bdb_tool_build.specs.Lines.{image_too_large_line};
 
-use crate::finish::{put, report, tell, tell_memory};
-use crate::status::{NO_META, TOO_LARGE};
-use bdb_format::Steps;
+use bdb_repair::bdb_format::Steps;
+use bdb_repair::bdb_io::Sink;
 use bdb_repair::{RepairError, repair_as};
-use bdb_swap::bdb_io::Sink;
+use bdb_tool_ask::bdb_tool_words::Repair;
+use bdb_tool_ask::status::{NO_META, TOO_LARGE};
+use bdb_tool_ask::{put, report, tell, tell_memory};
 use bdb_tool_build::image_too_large_line;
-use bdb_tool_words::Repair;
 use std::alloc::Global;
 use std::sync::ledger::Ledger;
 

@@ -4,18 +4,18 @@ use Rattle.std.proofs.Common.{refl, sym, ◌∙◌, ap}
 use Rattle.std.specs.Prelude.{is_some}
 use Rattle.std.proofs.lemmas.List.{map_more}
 use Rattle.std.proofs.lemmas.List.Elements.{All-cons, All-nil}
-use Rattle.bdb_format.specs.declared.metadata.BtreeMeta.{BtreeMeta}
-use Rattle.bdb_format.specs.Databases.{databases}
-use Rattle.bdb_format.specs.File.{File, file_of}
-use Rattle.bdb_format.specs.Lists.{btree_list, list_of, recno_list}
-use Rattle.bdb_format.specs.Flags.{names_databases}
-use Rattle.bdb_format.specs.Master.{master_in}
-use Rattle.bdb_format.specs.Page.{BtreeFields, HashFields, Metadata, Page, QueueFields, Zero, Free, Meta, Hash, Internal, RecnoInternal, Leaf, RecnoLeaf}
-use Rattle.bdb_format.specs.Page.{DupLeaf, Overflow, Queue, NoType}
-use Rattle.bdb_format.specs.Verdict.{verdict_of}
+use Rattle.bdb_model.specs.of_format.declared.metadata.BtreeMeta.{BtreeMeta}
+use Rattle.bdb_model.specs.of_format.Databases.{databases}
+use Rattle.bdb_model.specs.of_format.File.{File, file_of}
+use Rattle.bdb_model.specs.of_format.Lists.{btree_list, list_of, recno_list}
+use Rattle.bdb_model.specs.of_format.Flags.{names_databases}
+use Rattle.bdb_model.specs.of_format.Master.{master_in}
+use Rattle.bdb_model.specs.of_format.Page.{BtreeFields, HashFields, Metadata, Page, QueueFields, Zero, Free, Meta, Hash, Internal, RecnoInternal, Leaf, RecnoLeaf}
+use Rattle.bdb_model.specs.of_format.Page.{DupLeaf, Overflow, Queue, NoType}
+use Rattle.bdb_model.specs.of_format.Verdict.{verdict_of}
 use Rattle.bdb_model.specs.of_text_format.declared.sections.Section.{Section}
-use Rattle.bdb_onto.specs.of_image.Metas.{meta_in}
-use Rattle.bdb_onto.specs.of_databases.Named.{database_at, no_database}
+use Rattle.bdb_file.specs.of_image.Metas.{meta_in}
+use Rattle.bdb_file.specs.of_databases.Named.{database_at, no_database}
 use Rattle.bdb_onto.specs.of_text.WrittenLaw.{AreBytes}
 use Rattle.bdb_onto.specs.declared.base.Base.{Base}
 use Rattle.bdb_onto.specs.Bases.{IsBaseOf, base_of, base_section}

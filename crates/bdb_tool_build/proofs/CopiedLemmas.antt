@@ -6,7 +6,7 @@ use Rattle.std.specs.Prelude.{not, slice_get, IfOk, Result, Ok, Err}
 use Rattle.std.proofs.lemmas.List.{take_all}
 use Rattle.std.proofs.lemmas.List.Elements.{All-head, All-tail}
 use Rattle.std.proofs.lemmas.List.Sums.{fold-append}
-use Rattle.bdb_format.specs.Lists.{ListKey, BytesKey, NumberKey}
+use Rattle.bdb_model.specs.of_format.Lists.{ListKey, BytesKey, NumberKey}
 use Rattle.bdb_model.specs.of_text_format.declared.pairs.Key.{Key}
 use Rattle.bdb_model.specs.of_text_format.declared.pairs.Key.TheVariants.{Number}
 use Rattle.bdb_model.specs.of_text_format.declared.pairs.TextPair.{TextPair}

@@ -1,4 +1,5 @@
 pub mod BaseLemmas
+mod Below
 pub mod CopiedLemmas
 pub mod LoadLemmas
 pub mod OntoLemmas

@@ -4,15 +4,15 @@ use Rattle.std.specs.List.{flat_map}
 use Rattle.std.proofs.lemmas.Grind.{flat_map-append}
 use Rattle.std.proofs.lemmas.List.{map-append}
 use Rattle.std.proofs.lemmas.List.Elements.{All-cons, All-nil}
-use Rattle.bdb_format.specs.Contents.{StoredPair, data_of, pairs_of}
-use Rattle.bdb_format.specs.File.{File, file_of}
-use Rattle.bdb_format.specs.Leaves.{leaves}
-use Rattle.bdb_format.specs.Lists.{ListKey, BytesKey, btree_list, listed_pair}
-use Rattle.bdb_onto.specs.of_image.Linked.{FitsLeafPage, IsForest}
-use Rattle.bdb_onto.specs.of_btree.Pairs.{AreFit, FitsPair}
-use Rattle.bdb_onto.proofs.of_btree.FallLemmas.{ShareKeys as HaveKeys, tree_keys}
-use Rattle.bdb_onto.proofs.of_btree.PairLemmas.{pair_of_page}
-use Rattle.bdb_onto.proofs.of_btree.WalkLemmas.{each_of, pairs_of_tree}
+use Rattle.bdb_model.specs.of_format.Contents.{StoredPair, data_of, pairs_of}
+use Rattle.bdb_model.specs.of_format.File.{File, file_of}
+use Rattle.bdb_model.specs.of_format.Leaves.{leaves}
+use Rattle.bdb_model.specs.of_format.Lists.{ListKey, BytesKey, btree_list, listed_pair}
+use Rattle.bdb_file.specs.of_image.Linked.{FitsLeafPage, IsForest}
+use Rattle.bdb_file.specs.of_btree.Pairs.{AreFit, FitsPair}
+use Rattle.bdb_file.proofs.of_btree.FallLemmas.{ShareKeys as HaveKeys, tree_keys}
+use Rattle.bdb_file.proofs.of_btree.PairLemmas.{pair_of_page}
+use Rattle.bdb_file.proofs.of_btree.WalkLemmas.{each_of, pairs_of_tree}
 use Rattle.bdb_model.specs.of_text_format.declared.pairs.Key.TheVariants.{Bytes}
 use Rattle.bdb_model.specs.of_text_format.declared.pairs.TextPair.{TextPair}
 use Rattle.bdb_onto.specs.Bases.{text_pair}

@@ -5,11 +5,11 @@ use Rattle.std.specs.Prelude.{Some, None, if◌then◌else◌, map, nat_lt, repl
 use Rattle.std.specs.List.{All, flat_map}
 use Rattle.std.proofs.lemmas.List.{length-replicate}
 use Rattle.std.proofs.lemmas.List.Elements.{All-cons, All-head, All-map, All-nil, All-tail}
-use Rattle.bdb_format.specs.declared.kinds.Kind.{Kind}
-use Rattle.bdb_format.specs.declared.kinds.Kind.TheVariants.{Btree, Recno, Hash, Queue}
-use Rattle.bdb_format.specs.declared.kinds.Order.TheVariants.{Big}
-use Rattle.bdb_format.specs.Numbers.{spelled}
-use Rattle.bdb_format.proofs.SpellingLemmas.{length-spelled}
+use Rattle.bdb_model.specs.of_format.declared.kinds.Kind.{Kind}
+use Rattle.bdb_model.specs.of_format.declared.kinds.Kind.TheVariants.{Btree, Recno, Hash, Queue}
+use Rattle.bdb_model.specs.of_format.declared.kinds.Order.TheVariants.{Big}
+use Rattle.bdb_model.specs.of_format.Numbers.{spelled}
+use Rattle.bdb_model.proofs.of_format.SpellingLemmas.{length-spelled}
 use Rattle.bdb_model.specs.of_text_format.declared.pairs.TextPair.{TextPair}
 use Rattle.bdb_model.specs.of_text_format.declared.sections.Section.{Section}
 use Rattle.bdb_model.specs.of_text_format.Written.{holds_records}

@@ -1,11 +1,11 @@
 -- Pairs of a base as they are copied. Source: docs/FORMAT.md, "Loading onto a file".
 use Rattle.std.specs.Prelude.{◌≡◌, ◌<◌, ℕ, true, false, List, [], ◌∷◌, length}
 use Rattle.std.specs.List.{All}
-use Rattle.bdb_format.specs.declared.metadata.BtreeMeta.{BtreeMeta}
-use Rattle.bdb_format.specs.Contents.{StoredPair}
-use Rattle.bdb_format.specs.Flags.{is_recno}
-use Rattle.bdb_format.specs.Lists.{ListKey}
-use Rattle.bdb_format.specs.Page.{BtreeFields, Metadata}
+use Rattle.bdb_model.specs.of_format.declared.metadata.BtreeMeta.{BtreeMeta}
+use Rattle.bdb_model.specs.of_format.Contents.{StoredPair}
+use Rattle.bdb_model.specs.of_format.Flags.{is_recno}
+use Rattle.bdb_model.specs.of_format.Lists.{ListKey}
+use Rattle.bdb_model.specs.of_format.Page.{BtreeFields, Metadata}
 use Rattle.bdb_model.specs.of_text_format.declared.pairs.Key.{Key}
 use Rattle.bdb_model.specs.of_text_format.declared.pairs.TextPair.{TextPair}
 use Rattle.bdb_model.specs.of_text_format.Pairs.{last_key}

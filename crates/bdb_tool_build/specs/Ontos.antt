@@ -1,6 +1,6 @@
 -- What `load --onto` answers to a text and a base. Source: README.md, "Use", and docs/FORMAT.md, "Loading onto a file".
 use Rattle.std.specs.Prelude.{◌≡◌, ℕ, List, Option, Some, None}
-use Rattle.bdb_format.specs.Lists.{ListKey, BytesKey, NumberKey}
+use Rattle.bdb_model.specs.of_format.Lists.{ListKey, BytesKey, NumberKey}
 use Rattle.bdb_model.specs.of_text_format.declared.faults.TextFault.{TextFault}
 use Rattle.bdb_model.specs.of_text_format.declared.pairs.Key.{Key}
 use Rattle.bdb_model.specs.of_text_format.declared.pairs.Key.TheVariants.{Bytes, Number}

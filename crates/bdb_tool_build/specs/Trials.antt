@@ -1,9 +1,9 @@
 -- What `trial` answers. Source: README.md, "Use", and docs/FORMAT.md, "Generated pairs".
 use Rattle.std.specs.Prelude.{◌≡◌, ℕ, nat_lt, if◌then◌else◌, Bool, true, false, List, [], ◌∷◌, map, None}
-use Rattle.bdb_format.specs.declared.kinds.Kind.{Kind}
-use Rattle.bdb_format.specs.declared.kinds.Order.TheVariants.{Little}
-use Rattle.bdb_format.specs.declared.settings.Settings.{Settings}
-use Rattle.bdb_format.specs.Hashing.{hash5}
+use Rattle.bdb_model.specs.of_format.declared.kinds.Kind.{Kind}
+use Rattle.bdb_model.specs.of_format.declared.kinds.Order.TheVariants.{Little}
+use Rattle.bdb_model.specs.of_format.declared.settings.Settings.{Settings}
+use Rattle.bdb_model.specs.of_format.Hashing.{hash5}
 use Rattle.bdb_model.specs.of_text_format.declared.sections.Section.{Section}
 use Rattle.bdb_model.specs.Answers.{Answer, done, told}
 use Rattle.bdb_model.specs.of_text_format.Written.{is_queue}

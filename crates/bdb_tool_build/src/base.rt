@@ -1,23 +1,23 @@
 //! The databases of a sound file, copied out of it.
 ghost use Rattle.std.specs.Prelude.{◌≡◌, ◌<◌, ◌≤◌, ◌^◌, IfErr, IfOk, IfSome, None, OnOk, is_some, length, map, option_copied};
-ghost use Rattle.bdb_onto.specs.of_databases.Named.{database_at};
+ghost use Rattle.bdb_file.specs.of_databases.Named.{database_at};
 ghost use Rattle.bdb_file.specs.Whole.{IsVerdictOf};
-ghost use Rattle.bdb_format.specs.Databases.{databases};
-ghost use Rattle.bdb_format.specs.File.{file_of, page_at};
-ghost use Rattle.bdb_format.specs.Lists.{list_of};
-ghost use Rattle.bdb_format.specs.Master.{master_in};
-ghost use Rattle.bdb_format.specs.Verdict.{verdict_of};
-ghost use Rattle.bdb_onto.specs.of_image.Metas.{meta_seen};
+ghost use Rattle.bdb_model.specs.of_format.Databases.{databases};
+ghost use Rattle.bdb_model.specs.of_format.File.{file_of, page_at};
+ghost use Rattle.bdb_model.specs.of_format.Lists.{list_of};
+ghost use Rattle.bdb_model.specs.of_format.Master.{master_in};
+ghost use Rattle.bdb_model.specs.of_format.Verdict.{verdict_of};
+ghost use Rattle.bdb_file.specs.of_image.Metas.{meta_seen};
 ghost use Rattle.bdb_onto.specs.Bases.{IsBaseOf, base_of, base_section, text_pair};
 ghost use Rattle.bdb_tool_build.specs.Copied.{IsBtree};
 
 use crate::copied::{Rooms, push_listed};
 use crate::tree::btree_pairs;
+use bdb_file::bdb_graph::Meta;
 use bdb_file::{Db, Scan, Sound, verify};
-use bdb_format::{BtreeMeta, Bytes, Steps, Verdict};
+use bdb_model::bdb_format::{BtreeMeta, Bytes, Steps, Verdict};
 use bdb_model::bdb_text_format::{Section, Sections, TextPairs};
 use bdb_onto::Base;
-use bdb_onto::bdb_graph::Meta;
 use bdb_onto::bdb_io::Image;
 use std::alloc::{AllocError, Global};
 use std::sync::ledger::Ledger;

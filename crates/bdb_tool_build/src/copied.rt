@@ -1,6 +1,6 @@
 //! Keys and data, copied out of a file.
 ghost use Rattle.std.specs.Prelude.{◌≡◌, ◌++◌, ◌∷◌, ◌<◌, [], true, IfOk, OnOk, length};
-ghost use Rattle.bdb_onto.specs.of_overflow.Datum.{datum_seen, key_view_seen};
+ghost use Rattle.bdb_file.specs.of_overflow.Datum.{datum_seen, key_view_seen};
 ghost use Rattle.bdb_model.specs.of_text_format.Placed.{key_seen, pair_with};
 ghost use Rattle.bdb_model.specs.of_text_format.declared.pairs.Key.TheVariants.{Bytes};
 ghost use Rattle.bdb_model.specs.of_text_format.Pairs.{last_key};
@@ -8,8 +8,8 @@ ghost use Rattle.bdb_onto.specs.Bases.{text_pair};
 ghost use Rattle.bdb_tool_build.specs.Ontos.{list_key};
 ghost use Rattle.bdb_tool_build.specs.Copied.{EndsWith};
 
+use bdb_file::bdb_overflow::{Datum, KeyView, bytes_in, is_same};
 use bdb_model::bdb_text_format::{KeyRef, PairRef, TextPairs};
-use bdb_onto::bdb_overflow::{Datum, KeyView, bytes_in, is_same};
 use std::alloc::{AllocError, Global};
 
 /// Rooms in which the bytes of chains are joined, for all keys and data of a base, and how many bytes may still be copied.
@@ -58,7 +58,7 @@ fn key_of<'r>(
 }
 
 // Whether bytes are those of a key.
-#[tactic(auto, using(bdb_format::proofs::LessLemmas::eq_same))]
+#[tactic(auto, using(crate::proofs::Below::eq_same))]
 fn is_key(bytes: &[u8], key: &KeyView<'_>) -> bool
     ensures { result ≡ true → list_key (key_view_seen key.now) ≡ Bytes bytes.now }
 {

@@ -1,13 +1,13 @@
 //! The pairs of a btree, leaf by leaf: a key with its data.
 ghost use Rattle.std.specs.Prelude.{◌≡◌, ◌++◌, ◌∷◌, ◌<◌, [], true, IfOk, OnOk, length, map};
 ghost use Rattle.std.specs.List.{flat_map};
-ghost use Rattle.bdb_format.specs.Contents.{pairs_of};
-ghost use Rattle.bdb_format.specs.File.{file_of};
-ghost use Rattle.bdb_format.specs.Lists.{btree_list, listed_pair};
-ghost use Rattle.bdb_format.specs.Page.{BtreeFields};
-ghost use Rattle.bdb_format.specs.Verdict.{structure_faults};
-ghost use Rattle.bdb_onto.specs.of_image.Linked.{FitsLeafPage, HasMetadata, IsForest};
-ghost use Rattle.bdb_onto.specs.of_btree.Pairs.{FitsPair, left_of, pair_seen};
+ghost use Rattle.bdb_model.specs.of_format.Contents.{pairs_of};
+ghost use Rattle.bdb_model.specs.of_format.File.{file_of};
+ghost use Rattle.bdb_model.specs.of_format.Lists.{btree_list, listed_pair};
+ghost use Rattle.bdb_model.specs.of_format.Page.{BtreeFields};
+ghost use Rattle.bdb_model.specs.of_format.Verdict.{structure_faults};
+ghost use Rattle.bdb_file.specs.of_image.Linked.{FitsLeafPage, HasMetadata, IsForest};
+ghost use Rattle.bdb_file.specs.of_btree.Pairs.{FitsPair, left_of, pair_seen};
 ghost use Rattle.bdb_model.specs.of_text_format.declared.pairs.Key.{Key};
 ghost use Rattle.bdb_model.specs.of_text_format.declared.pairs.Key.TheVariants.{Bytes};
 ghost use Rattle.bdb_model.specs.of_text_format.Pairs.{last_key};
@@ -15,11 +15,11 @@ ghost use Rattle.bdb_onto.specs.Bases.{text_pair};
 ghost use Rattle.bdb_tool_build.specs.Copied.{AreOf, EndsWith, Follow, HaveOneKey};
 
 use crate::copied::Rooms;
-use bdb_format::BtreeMeta;
+use bdb_file::bdb_btree::{Entries, Pair, next_entry, page_pairs, pair_entries};
+use bdb_file::bdb_graph::{Forest, Linked};
+use bdb_file::bdb_tree::tree_leaves;
+use bdb_model::bdb_format::BtreeMeta;
 use bdb_model::bdb_text_format::TextPairs;
-use bdb_onto::bdb_btree::{Entries, Pair, next_entry, page_pairs, pair_entries};
-use bdb_onto::bdb_graph::{Forest, Linked};
-use bdb_onto::bdb_tree::tree_leaves;
 use std::alloc::{AllocError, Global};
 
 // Adds the data that are left of a key, with the key of the last pair.

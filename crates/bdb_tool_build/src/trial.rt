@@ -1,7 +1,7 @@
 //! `trial`: an image of generated pairs, and what is said of it.
 ghost use Rattle.std.specs.Prelude.{◌≡◌, ◌<◌, ◌≤◌, ◌^◌, ◌/◌, None, IfErr, IfOk, MatchResult, OnOk, false, length, nat_lt, string_bytes};
-ghost use Rattle.bdb_format.specs.Hashing.{hash5};
-ghost use Rattle.bdb_format.specs.Verdict.{verdict_of};
+ghost use Rattle.bdb_model.specs.of_format.Hashing.{hash5};
+ghost use Rattle.bdb_model.specs.of_format.Verdict.{verdict_of};
 ghost use Rattle.bdb_model.specs.Answers.{done};
 ghost use Rattle.bdb_onto.specs.of_mkfile.Builds.{Builds, image_size};
 ghost use Rattle.bdb_tool_build.specs.Lines.{trial_text};
@@ -11,12 +11,12 @@ ghost use Rattle.bdb_tool_build.specs.Trials.{IsTrialAnswer, trial_sections, tri
 use crate::loading::refusal_of;
 use crate::refusal::Refusal;
 use crate::texts::trial_lines;
+use bdb_file::bdb_layout::hash5;
 use bdb_file::verify;
-use bdb_format::{Kind, Order, Settings, Steps, Verdict};
 use bdb_gen::generate;
+use bdb_model::bdb_format::{Kind, Order, Settings, Steps, Verdict};
 use bdb_model::bdb_text_format::{Section, Sections};
 use bdb_onto::bdb_io::Image;
-use bdb_onto::bdb_layout::hash5;
 use bdb_onto::bdb_mkfile::load;
 use std::alloc::{AllocError, Global};
 use std::sync::ledger::Ledger;

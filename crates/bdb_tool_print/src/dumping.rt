@@ -1,27 +1,18 @@
-// What `dump` prints.
-ghost use Rattle.std.specs.Prelude.{◌≡◌, ◌++◌, ◌<◌, length, option_copied};
-ghost use Rattle.std.specs.List.{flat_map};
-ghost use Rattle.bdb_databases.specs.Named.{database_at};
-ghost use Rattle.bdb_model.specs.Change.{change};
-ghost use Rattle.bdb_model.specs.of_format.Databases.{databases};
-ghost use Rattle.bdb_model.specs.of_format.File.{file_of};
-ghost use Rattle.bdb_model.specs.of_text_format.LineEnd.{line};
-ghost use Rattle.bdb_model.specs.of_format.Lists.{list_of};
-ghost use Rattle.bdb_model.specs.of_text_format.Written.{data_end, data_line, database_text, dump_text, header_text, key_bytes};
+// The lines of a dump text.
+ghost use Rattle.std.specs.Prelude.{◌≡◌, option_copied};
+ghost use Rattle.bdb_text.specs.of_text_format.LineEnd.{line};
+ghost use Rattle.bdb_text.specs.of_text_format.Written.{data_line, header_text, key_bytes};
 ghost use Rattle.bdb_range.specs.of_overflow.Datum.{datum_seen, key_view_seen};
 ghost use Rattle.bdb_tool_print.specs.Printers.{Adds, pair_text};
-ghost use Rattle.bdb_tool_lines.specs.Printing.{Writes};
 ghost use Rattle.std.specs.Fmt.{decimal};
 
 use crate::printing::Printer;
-use bdb_databases::{Db, Readable, Scan};
-use bdb_model::bdb_format::{Bytes, Settings};
+use bdb_range::bdb_format::Settings;
 use bdb_range::bdb_overflow::{Datum, KeyView};
 use bdb_text::bdb_spelling::SHORT_VALUE;
 use bdb_text::{header_text, number_text};
 use bdb_tool_lines::Cut;
 use bdb_tool_lines::bdb_io::Sink;
-use std::alloc::Global;
 
 impl<'k, K: Sink> Printer<'k, K> {
     /// Prints the data line of any value.
@@ -72,38 +63,14 @@ impl<'k, K: Sink> Printer<'k, K> {
     }
 
     /// Prints the two data lines of a pair.
-    pub(crate) fn pair(
-        &mut self,
-        key: KeyView<'_>,
-        value: Datum<'_>,
-        print: bool,
-    ) -> Result<(), Cut>
+    pub fn pair(&mut self, key: KeyView<'_>, value: Datum<'_>, print: bool) -> Result<(), Cut>
         ensures { Adds K.written K.faults self.old self.new (pair_text print (key_view_seen key.entry, datum_seen value.entry)) result }
     {
         self.both_lines(&key, &value, print)
     }
 
-    /// Prints the data lines of a list.
-    fn pairs(&mut self, list: &mut Scan<'_>, print: bool) -> Result<(), Cut>
-        ensures { Adds K.written K.faults self.old self.new (flat_map (pair_text print) list.old) result }
-    {
-        for (key, value) in list {
-            self.pair(key, value, print)?;
-        }
-        Ok(())
-    }
-
-    /// Prints the data lines of a list, and the line that ends them.
-    #[tactic(auto, using(crate::proofs::PrinterLemmas::then_adds, crate::proofs::PrinterLemmas::adds_cut))]
-    fn data(&mut self, list: &mut Scan<'_>, print: bool) -> Result<(), Cut>
-        ensures { Adds K.written K.faults self.old self.new (flat_map (pair_text print) list.old ++ line data_end) result }
-    {
-        self.pairs(list, print)?;
-        self.text(b"DATA=END\n")
-    }
-
     /// Prints the header of a section.
-    pub(crate) fn header(
+    pub fn header(
         &mut self,
         name: Option<&[u8]>,
         settings: &Settings,
@@ -116,78 +83,4 @@ impl<'k, K: Sink> Printer<'k, K> {
             Err(_) => Err(Cut::Memory),
         }
     }
-
-    /// Prints the data lines of the list of a database, and the line that ends them.
-    fn database_data(&mut self, readable: &Readable<'_>, db: Db, print: bool) -> Result<(), Cut>
-        requires { db < length (databases (file_of readable.now)) }
-        ensures { Adds K.written K.faults self.old self.new
-            (flat_map (pair_text print) (list_of (file_of readable.now) (database_at (file_of readable.now) db).fields) ++ line data_end) result }
-    {
-        match readable.scan(self.alloc, db) {
-            Ok(mut list) => self.data(&mut list, print),
-            Err(_) => Err(Cut::Memory),
-        }
-    }
-
-    /// Prints the section of a database.
-    #[tactic(auto, using(crate::proofs::DumpLemmas::section_by_parts, crate::proofs::PrinterLemmas::then_adds, crate::proofs::PrinterLemmas::adds_cut))]
-    fn database_section(&mut self, readable: &Readable<'_>, db: Db, print: bool) -> Result<(), Cut>
-        requires { db < length (databases (file_of readable.now)) }
-        ensures { Adds K.written K.faults self.old self.new (database_text print readable.now (database_at (file_of readable.now) db)) result }
-    {
-        self.header(readable.name(db), &readable.settings(db), print)?;
-        self.database_data(readable, db, print)
-    }
-
-    /// Prints the section of each database.
-    fn sections(&mut self, readable: &Readable<'_>, print: bool) -> Result<(), Cut>
-        ensures { Adds K.written K.faults self.old self.new (dump_text print readable.now (databases (file_of readable.now))) result }
-    {
-        for i in 0..readable.databases() {
-            self.database_section(readable, readable.database(i), print)?;
-        }
-        Ok(())
-    }
-}
-
-/// Writes the section of a database.
-#[tactic(auto, using(crate::proofs::PrinterLemmas::all_cut))]
-pub fn write_section<K: Sink>(
-    alloc: Global,
-    out: &mut K,
-    readable: &Readable<'_>,
-    db: Db,
-    print: bool,
-) -> Result<(), Cut>
-    requires { db < length (databases (file_of readable.now)) }
-    ensures { Writes (database_text print readable.now (database_at (file_of readable.now) db)) (change K.written K.faults out.old out.new) result }
-{
-    let mut pending = Bytes::new(alloc);
-    let mut printer = Printer {
-        alloc,
-        out,
-        pending: &mut pending,
-    };
-    printer.database_section(readable, db, print)?;
-    printer.flush()
-}
-
-/// Writes the section of each database.
-#[tactic(auto, using(crate::proofs::PrinterLemmas::all_cut))]
-pub fn write_sections<K: Sink>(
-    alloc: Global,
-    out: &mut K,
-    readable: &Readable<'_>,
-    print: bool,
-) -> Result<(), Cut>
-    ensures { Writes (dump_text print readable.now (databases (file_of readable.now))) (change K.written K.faults out.old out.new) result }
-{
-    let mut pending = Bytes::new(alloc);
-    let mut printer = Printer {
-        alloc,
-        out,
-        pending: &mut pending,
-    };
-    printer.sections(readable, print)?;
-    printer.flush()
 }

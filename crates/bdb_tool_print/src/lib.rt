@@ -2,15 +2,15 @@
 #![tactic(auto)]
 
 mod dumping;
-mod listing;
+mod naming;
 mod printing;
 mod ranging;
 mod salvaging;
 
 pub use bdb_range;
+pub use bdb_text;
 pub use bdb_tool_lines;
 pub use bdb_tool_lines::Cut;
-pub use dumping::{write_section, write_sections};
-pub use listing::{write_found, write_list};
+pub use printing::Printer;
 pub use ranging::write_pairs;
 pub use salvaging::write_salvaged;

@@ -1,13 +1,13 @@
 ghost use Rattle.std.specs.Prelude.{◌≡◌, ◌≤◌, [], false, length, OnOk};
-ghost use Rattle.bdb_model.specs.Answers.{value_line};
-ghost use Rattle.bdb_model.specs.of_format.Chains.{joined};
-ghost use Rattle.bdb_model.specs.of_text_format.LineEnd.{line};
-ghost use Rattle.bdb_model.specs.of_text_format.TextSpelling.{spelling};
-ghost use Rattle.bdb_model.specs.of_text_format.Written.{data_line};
+ghost use Rattle.bdb_tool_lines.specs.of_model.Answers.{value_line};
+ghost use Rattle.bdb_range.specs.of_format.Chains.{joined};
+ghost use Rattle.bdb_text.specs.of_text_format.LineEnd.{line};
+ghost use Rattle.bdb_text.specs.of_text_format.TextSpelling.{spelling};
+ghost use Rattle.bdb_text.specs.of_text_format.Written.{data_line};
 ghost use Rattle.bdb_range.specs.of_overflow.Datum.{datum_seen};
 ghost use Rattle.bdb_tool_print.specs.Printers.{Adds};
 
-use bdb_model::bdb_format::Bytes;
+use bdb_range::bdb_format::Bytes;
 use bdb_range::bdb_overflow::{Datum, Pieces};
 use bdb_text::bdb_spelling::{SHORT_VALUE, push_short_line};
 use bdb_text::push_line_text;
@@ -20,15 +20,15 @@ const PIECE: usize = 65536;
 
 /// A text on its way to a sink: what was printed is written to it, or pending.
 #[derive(Drop)]
-pub(crate) struct Printer<'k, K: Sink> {
-    pub(crate) alloc: Global,
-    pub(crate) out: &'k mut K,
-    pub(crate) pending: &'k mut Bytes,
+pub struct Printer<'k, K: Sink> {
+    pub alloc: Global,
+    pub out: &'k mut K,
+    pub pending: &'k mut Bytes,
 }
 
 impl<'k, K: Sink> Printer<'k, K> {
     /// Writes what is pending.
-    pub(crate) fn flush(&mut self) -> Result<(), Cut>
+    pub fn flush(&mut self) -> Result<(), Cut>
         ensures prints { Adds K.written K.faults self.old self.new [] result }
         ensures empty { OnOk result (self.new.pending.now ≡ []) }
     {
@@ -52,7 +52,7 @@ impl<'k, K: Sink> Printer<'k, K> {
     }
 
     /// Prints a text as it is.
-    pub(crate) fn text(&mut self, text: &[u8]) -> Result<(), Cut>
+    pub fn text(&mut self, text: &[u8]) -> Result<(), Cut>
         ensures { Adds K.written K.faults self.old self.new text.now result }
     {
         match self.pending.push_all(text) {
@@ -62,7 +62,7 @@ impl<'k, K: Sink> Printer<'k, K> {
     }
 
     /// Prints the spelling of bytes.
-    pub(crate) fn spelled(&mut self, bytes: &[u8], print: bool) -> Result<(), Cut>
+    pub fn spelled(&mut self, bytes: &[u8], print: bool) -> Result<(), Cut>
         ensures { Adds K.written K.faults self.old self.new (spelling print bytes.now) result }
     {
         match push_line_text(self.pending, bytes, print) {
@@ -72,7 +72,7 @@ impl<'k, K: Sink> Printer<'k, K> {
     }
 
     /// Prints the data line of a short value by digits: it's gathered before it is added, since most lines are such.
-    pub(crate) fn short_line(&mut self, value: &[u8]) -> Result<(), Cut>
+    pub fn short_line(&mut self, value: &[u8]) -> Result<(), Cut>
         requires { length value.now ≤ SHORT_VALUE }
         ensures { Adds K.written K.faults self.old self.new (line (data_line false value.now)) result }
     {
@@ -93,7 +93,7 @@ impl<'k, K: Sink> Printer<'k, K> {
     }
 
     /// Prints the spelling of a value.
-    pub(crate) fn datum(&mut self, value: &Datum<'_>, print: bool) -> Result<(), Cut>
+    pub fn datum(&mut self, value: &Datum<'_>, print: bool) -> Result<(), Cut>
         ensures { Adds K.written K.faults self.old self.new (spelling print (datum_seen value.now)) result }
     {
         match value {
@@ -104,10 +104,17 @@ impl<'k, K: Sink> Printer<'k, K> {
 
     /// Prints the spelling of a value, and ends its line.
     #[tactic(auto, using(crate::proofs::PrinterLemmas::then_adds, crate::proofs::PrinterLemmas::adds_cut))]
-    pub(crate) fn value_line(&mut self, value: &Datum<'_>, print: bool) -> Result<(), Cut>
+    pub fn value_line(&mut self, value: &Datum<'_>, print: bool) -> Result<(), Cut>
         ensures { Adds K.written K.faults self.old self.new (value_line print (datum_seen value.now)) result }
     {
         self.datum(value, print)?;
         self.text(b"\n")
+    }
+
+    /// Prints a value of several on a line of its own.
+    pub fn found_line(&mut self, value: Datum<'_>, print: bool) -> Result<(), Cut>
+        ensures { Adds K.written K.faults self.old self.new (value_line print (datum_seen value.entry)) result }
+    {
+        self.value_line(&value, print)
     }
 }

@@ -1,16 +1,16 @@
 // What `range` prints.
 ghost use Rattle.std.specs.Prelude.{◌≡◌};
-ghost use Rattle.bdb_model.specs.Answers.{pair_lines, pairs_text, value_line};
-ghost use Rattle.bdb_model.specs.Change.{change};
-ghost use Rattle.bdb_model.specs.of_text_format.Written.{key_bytes};
+ghost use Rattle.bdb_tool_lines.specs.of_model.Answers.{pair_lines, pairs_text, value_line};
+ghost use Rattle.bdb_tool_lines.specs.of_model.Change.{change};
+ghost use Rattle.bdb_text.specs.of_text_format.Written.{key_bytes};
 ghost use Rattle.bdb_range.specs.of_overflow.Datum.{datum_seen, key_view_seen};
 ghost use Rattle.bdb_tool_print.specs.Printers.{Adds};
 ghost use Rattle.bdb_tool_lines.specs.Printing.{Writes};
 ghost use Rattle.std.specs.Fmt.{decimal};
 
 use crate::printing::Printer;
-use bdb_model::bdb_format::Bytes;
 use bdb_range::RangePairs;
+use bdb_range::bdb_format::Bytes;
 use bdb_range::bdb_overflow::{Datum, KeyView};
 use bdb_text::number_text;
 use bdb_tool_lines::Cut;

@@ -1,9 +1,9 @@
 // What `salvage` prints.
 ghost use Rattle.std.specs.Prelude.{◌≡◌, ◌<◌, ◌≤◌, ◌^◌, ◌++◌, Some, codes, length, map};
 ghost use Rattle.std.specs.List.{enumerate_from, flat_map};
-ghost use Rattle.bdb_model.specs.Change.{change};
-ghost use Rattle.bdb_model.specs.of_text_format.LineEnd.{line};
-ghost use Rattle.bdb_model.specs.of_text_format.Written.{data_end, section_text};
+ghost use Rattle.bdb_tool_lines.specs.of_model.Change.{change};
+ghost use Rattle.bdb_text.specs.of_text_format.LineEnd.{line};
+ghost use Rattle.bdb_text.specs.of_text_format.Written.{data_end, section_text};
 ghost use Rattle.bdb_range.specs.of_overflow.Datum.{datum_seen};
 ghost use Rattle.bdb_tool_print.specs.Printers.{Adds, pair_text};
 ghost use Rattle.bdb_tool_lines.specs.Printing.{Writes};
@@ -13,7 +13,7 @@ ghost use Rattle.bdb_rescue.specs.Kept.{file_in};
 ghost use Rattle.bdb_rescue.specs.of_survey.Salvage.{loose};
 
 use crate::printing::Printer;
-use bdb_model::bdb_format::{Bytes, Kind, Settings, plain_settings};
+use bdb_range::bdb_format::{Bytes, Kind, Settings, plain_settings};
 use bdb_range::bdb_overflow::{Datum, KeyView};
 use bdb_rescue::{Guess, SalvagePairs, SalvageValues, Salvaged};
 use bdb_tool_lines::Cut;

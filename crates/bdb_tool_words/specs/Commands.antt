@@ -2,8 +2,8 @@
 use Rattle.std.specs.Prelude.{ℕ, nat_le, ◌==◌, ◌&&◌, not, if◌then◌else◌, Bool, true, false, List, [], ◌∷◌, drop, length, Option, Some, None, codes}
 use Rattle.std.specs.List.{find}
 use Rattle.std.specs.Str.{bytes_eq}
-use Rattle.bdb_rows.specs.declared.rows.Rows.{Rows}
-use Rattle.bdb_rows.specs.declared.rows.Rows.TheVariants.{All, AnyOrder}
+use Rattle.bdb_any_order.specs.declared.rows.Rows.{Rows}
+use Rattle.bdb_any_order.specs.declared.rows.Rows.TheVariants.{All, AnyOrder}
 use Rattle.bdb_model.specs.of_format.declared.kinds.Kind.{Kind}
 use Rattle.bdb_model.specs.of_format.declared.kinds.Kind.TheVariants.{Btree, Recno, Hash, Queue}
 use Rattle.bdb_model.specs.of_format.declared.kinds.Order.{Order}

@@ -1,7 +1,7 @@
 -- What the values of the code are in the definitions of a command line's words.
 use Rattle.std.specs.Prelude.{ℕ, ◌≡◌, ◌<◌, ◌≤◌, ◌^◌, ◌++◌, Bool, true, false, not, List, [], ◌∷◌, drop, length, Option, Some, IfSome, IsTrue, is_some}
 use Rattle.std.specs.Prelude.{MatchOption, None, option_copied, ⊤}
-use Rattle.bdb_rows.specs.declared.rows.Rows.TheVariants.{All}
+use Rattle.bdb_any_order.specs.declared.rows.Rows.TheVariants.{All}
 use Rattle.bdb_model.specs.of_format.HeadOf.{is_page_size}
 use Rattle.bdb_tool_words.specs.Commands.{Action, Command, CommandRow, Convert, ListAll, Load, LoadOnto, Repair, Request, Salvage, Stat, Trial, Verify}
 use Rattle.bdb_tool_words.specs.Commands.{any_order_option, any_order_row, as_option, as_row, asking, bounds_request, command_by, command_of, convert_row}

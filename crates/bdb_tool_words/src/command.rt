@@ -12,10 +12,10 @@ ghost use Rattle.bdb_tool_words.specs.WordsSeen.{AreOnto, IsFitAction, IsFitComm
 use crate::guesses::{guess_asked, order_named};
 use crate::options::{OptionWord, read_arguments};
 use crate::shapes::{duplicates_named, shape_asked};
+use bdb_any_order::Rows;
 use bdb_model::bdb_format::{Kind, Order, number_in};
 use bdb_model::{Shape, Words};
 use bdb_rescue::Guess;
-use bdb_rows::Rows;
 use bdb_text::is_spelling;
 
 /// The word of a command.

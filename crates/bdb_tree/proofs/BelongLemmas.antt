@@ -4,25 +4,25 @@ use Rattle.std.proofs.Common.{ap, subst, inl, inr, true≢false}
 use Rattle.std.specs.Prelude.{◌==◌}
 use Rattle.std.specs.List.{Contains}
 use Rattle.std.proofs.lemmas.Bool.{cases_Bool, not-false, or_from}
-use Rattle.bdb_format.specs.declared.kinds.Order.{Order}
-use Rattle.bdb_format.specs.declared.metadata.FileKind.{FileKind}
-use Rattle.bdb_format.specs.declared.metadata.FileKind.TheVariants.{Btree, Queue as QueueFile}
-use Rattle.bdb_format.specs.declared.metadata.Head.{Head}
-use Rattle.bdb_format.specs.declared.references.Reference.{Reference}
-use Rattle.bdb_format.specs.declared.references.Sort.{Sort}
-use Rattle.bdb_format.specs.declared.references.Sort.TheVariants.{Root, Child, DuplicateRoot}
-use Rattle.bdb_format.specs.File.{File, file_of, page_at, page_bytes, type_in}
-use Rattle.bdb_format.specs.Graph.{Owner, all_references, first_holder, is_anchor, is_anchor_in, is_meta, is_reserve, is_spare, owners}
-use Rattle.bdb_format.specs.HeadOf.{head_of}
-use Rattle.bdb_format.specs.Leaves.{children_in, leaves}
-use Rattle.bdb_format.specs.Page.{Page, Internal, RecnoInternal}
-use Rattle.bdb_format.specs.Reading.{abstract_page, page_as, page_type}
-use Rattle.bdb_format.specs.References.{asked_by, child_types, fit_code, fit_rows, has_type, is_zero_page, refs}
-use Rattle.bdb_format.specs.Rows.{form_code, type_of}
-use Rattle.bdb_format.proofs.GraphLemmas.{IsOwner, is_owner, owner_fits, reserve_is, typed_page, zero_page}
-use Rattle.bdb_format.proofs.MemberLemmas.{first_member, in_filter, in_flat_map, in_map, of_filter}
-use Rattle.bdb_format.proofs.VerdictLemmas.{AllFail, none_is_first_row}
-use Rattle.bdb_format.proofs.FileLemmas.{page_is}
+use Rattle.bdb_overflow.specs.of_format.declared.kinds.Order.{Order}
+use Rattle.bdb_overflow.specs.of_format.declared.metadata.FileKind.{FileKind}
+use Rattle.bdb_overflow.specs.of_format.declared.metadata.FileKind.TheVariants.{Btree, Queue as QueueFile}
+use Rattle.bdb_overflow.specs.of_format.declared.metadata.Head.{Head}
+use Rattle.bdb_overflow.specs.of_format.declared.references.Reference.{Reference}
+use Rattle.bdb_overflow.specs.of_format.declared.references.Sort.{Sort}
+use Rattle.bdb_overflow.specs.of_format.declared.references.Sort.TheVariants.{Root, Child, DuplicateRoot}
+use Rattle.bdb_overflow.specs.of_format.File.{File, file_of, page_at, page_bytes, type_in}
+use Rattle.bdb_overflow.specs.of_format.Graph.{Owner, all_references, first_holder, is_anchor, is_anchor_in, is_meta, is_reserve, is_spare, owners}
+use Rattle.bdb_overflow.specs.of_format.HeadOf.{head_of}
+use Rattle.bdb_overflow.specs.of_format.Leaves.{children_in, leaves}
+use Rattle.bdb_overflow.specs.of_format.Page.{Page, Internal, RecnoInternal}
+use Rattle.bdb_overflow.specs.of_format.Reading.{abstract_page, page_as, page_type}
+use Rattle.bdb_overflow.specs.of_format.References.{asked_by, child_types, fit_code, fit_rows, has_type, is_zero_page, refs}
+use Rattle.bdb_overflow.specs.of_format.Rows.{form_code, type_of}
+use Rattle.bdb_overflow.proofs.of_format.GraphLemmas.{IsOwner, is_owner, owner_fits, reserve_is, typed_page, zero_page}
+use Rattle.bdb_overflow.proofs.of_format.MemberLemmas.{first_member, in_filter, in_flat_map, in_map, of_filter}
+use Rattle.bdb_overflow.proofs.of_format.VerdictLemmas.{AllFail, none_is_first_row}
+use Rattle.bdb_overflow.proofs.of_format.FileLemmas.{page_is}
 use Rattle.bdb_overflow.specs.of_graph.Forest.{IsWayUp, LeadsUp, is_top}
 use Rattle.bdb_overflow.specs.of_image.Linked.{FitsLeafPage, IsForest, IsTarget}
 use Rattle.bdb_overflow.proofs.of_graph.ChildLemmas.{children_are, is_child, is_queue_page}

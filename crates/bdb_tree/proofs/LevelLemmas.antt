@@ -7,14 +7,14 @@ use Rattle.std.specs.Option.{unwrap_or}
 use Rattle.std.proofs.lemmas.List.Elements.{All-contains}
 use Rattle.bdb_overflow.specs.of_form.declared.view.PageView.{PageView}
 use Rattle.bdb_overflow.specs.of_form.Seen.{header_seen, page_seen}
-use Rattle.bdb_format.specs.File.{File, file_of, header_in, page_at}
-use Rattle.bdb_format.specs.Leaves.{children_in, leaves}
-use Rattle.bdb_format.proofs.MemberLemmas.{first_member, later_member, no_member, of_flat_map}
+use Rattle.bdb_overflow.specs.of_format.File.{File, file_of, header_in, page_at}
+use Rattle.bdb_overflow.specs.of_format.Leaves.{children_in, leaves}
+use Rattle.bdb_overflow.proofs.of_format.MemberLemmas.{first_member, later_member, no_member, of_flat_map}
 use Rattle.bdb_overflow.specs.of_image.Linked.{IsForest}
 use Rattle.bdb_tree.specs.Trees.{IsTreePage, children_at}
 use Rattle.bdb_tree.proofs.ShapeLemmas.{tree_header}
 use Rattle.bdb_tree.proofs.TreeLemmas.{IsChild, child_is, leaves_of_inner, leaves_of_leaf, level, tree_cases}
-use Rattle.bdb_format.proofs.ListLemmas.{flat_map_twice, only_member, all_of, flat_map_same}
+use Rattle.bdb_overflow.proofs.of_format.ListLemmas.{flat_map_twice, only_member, all_of, flat_map_same}
 
 -- one item more, of those that are left
 pub children_more : {X : Type 0} (child : X → ℕ) (next before : List ℕ) (item : X) (rest left items : List X) → left ≡ item ∷ rest

@@ -1,4 +1,5 @@
 pub mod BelongLemmas
+mod Below
 pub mod DescentLemmas
 pub mod DownLemmas
 pub mod EntryLemmas
@@ -13,9 +14,10 @@ pub mod ShapeLemmas
 pub mod StageLemmas
 pub mod TreeLemmas
 pub mod WayLemmas
-pub use Rattle.bdb_faults.proofs as of_faults
+pub use Rattle.bdb_overflow.proofs.of_faults as of_faults
 pub use Rattle.bdb_overflow.proofs.of_form as of_form
-pub use Rattle.bdb_format.proofs as of_format
+pub use Rattle.bdb_overflow.proofs.of_format as of_format
 pub use Rattle.bdb_overflow.proofs.of_graph as of_graph
 pub use Rattle.bdb_overflow.proofs.of_image as of_image
+pub use Rattle.bdb_overflow.proofs.of_layout as of_layout
 pub use Rattle.bdb_overflow.proofs as of_overflow

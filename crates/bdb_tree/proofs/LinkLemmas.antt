@@ -5,15 +5,15 @@ use Rattle.std.specs.Prelude.{◌==◌, Some}
 use Rattle.std.specs.List.{Contains, slice_get}
 use Rattle.std.proofs.lemmas.Bool.{and_parts, eqb-true, ne_eqb, not-false}
 use Rattle.std.proofs.lemmas.List.Elements.{Contains-append_right}
-use Rattle.bdb_format.specs.declared.metadata.Head.{Head}
-use Rattle.bdb_format.specs.declared.references.Sort.{Sort}
-use Rattle.bdb_format.specs.declared.references.Sort.TheVariants.{DuplicateRoot, Root}
-use Rattle.bdb_format.specs.Chains.{chain, chain_in, next_of}
-use Rattle.bdb_format.specs.File.{File, file_of, header_in, page_at}
-use Rattle.bdb_format.specs.HeadOf.{head_of}
-use Rattle.bdb_format.specs.Leaves.{LeafPlace, first_or_zero, is_root_reference, leaf_places, leaves, places_from}
-use Rattle.bdb_format.specs.Verdict.{structure_faults}
-use Rattle.bdb_format.proofs.MemberLemmas.{first_member, later_member, member_cases, no_member}
+use Rattle.bdb_overflow.specs.of_format.declared.metadata.Head.{Head}
+use Rattle.bdb_overflow.specs.of_format.declared.references.Sort.{Sort}
+use Rattle.bdb_overflow.specs.of_format.declared.references.Sort.TheVariants.{DuplicateRoot, Root}
+use Rattle.bdb_overflow.specs.of_format.Chains.{chain, chain_in, next_of}
+use Rattle.bdb_overflow.specs.of_format.File.{File, file_of, header_in, page_at}
+use Rattle.bdb_overflow.specs.of_format.HeadOf.{head_of}
+use Rattle.bdb_overflow.specs.of_format.Leaves.{LeafPlace, first_or_zero, is_root_reference, leaf_places, leaves, places_from}
+use Rattle.bdb_overflow.specs.of_format.Verdict.{structure_faults}
+use Rattle.bdb_overflow.proofs.of_format.MemberLemmas.{first_member, later_member, member_cases, no_member}
 use Rattle.bdb_overflow.specs.of_image.Linked.{FitsLeafPage, IsForest, IsTarget}
 use Rattle.bdb_overflow.proofs.of_image.FirstLemmas.{formed_last}
 use Rattle.bdb_overflow.proofs.of_graph.LeavesLemmas.{no_leaf_twice}
@@ -22,8 +22,8 @@ use Rattle.bdb_tree.specs.Links.{IsLeafWalk, pages_from}
 use Rattle.bdb_tree.specs.Trees.{IsRoot, IsTreePage}
 use Rattle.bdb_tree.proofs.BelongLemmas.{Belongs, belongs, leaf_above}
 use Rattle.bdb_tree.proofs.TreeLemmas.{leaf_fits, leaf_inside, leaf_low, link_is_right, place_of_root, root_is_tree, tree_inside}
-use Rattle.bdb_format.proofs.ChainLemmas.{chain_few}
-use Rattle.bdb_format.proofs.FileLemmas.{count_is, last_page}
+use Rattle.bdb_overflow.proofs.of_format.ChainLemmas.{chain_few}
+use Rattle.bdb_overflow.proofs.of_format.FileLemmas.{count_is, last_page}
 
 -- Next pages.
 

@@ -6,30 +6,30 @@ use Rattle.std.specs.List.{All, Contains, flat_map, list_any, range_with_len}
 use Rattle.std.proofs.lemmas.Bool.{and_from, and_parts, eq-eqb, eqb-true, ne_eqb}
 use Rattle.std.proofs.lemmas.List.{take_all}
 use Rattle.std.proofs.lemmas.List.Elements.{Contains-append_cases, Contains-append_left, Contains-append_right, Contains-get_or}
-use Rattle.bdb_faults.specs.Notes.{AreSame, Notes, NotesAll}
-use Rattle.bdb_faults.specs.Rows.{fault_if, structure_code}
-use Rattle.bdb_faults.specs.declared.rows.Row.TheVariants.{Structure}
-use Rattle.bdb_faults.specs.declared.rows.StructureRow.{StructureRow}
-use Rattle.bdb_faults.specs.declared.rows.StructureRow.TheVariants.{LeafKind, LeafLink}
-use Rattle.bdb_faults.proofs.SinkLemmas.{notes_next, notes_one}
-use Rattle.bdb_format.specs.declared.kinds.Fault.{Fault}
-use Rattle.bdb_format.specs.declared.references.Reference.{Reference}
-use Rattle.bdb_format.specs.declared.references.Sort.{Sort}
-use Rattle.bdb_format.specs.declared.references.Sort.TheVariants.{DuplicateRoot, Root}
-use Rattle.bdb_format.specs.File.{File, file_of, page_at}
-use Rattle.bdb_format.specs.Graph.{Owner, all_references, is_meta}
-use Rattle.bdb_format.specs.Leaves.{LeafPlace, first_or_zero, is_root_reference, is_wrong_leaf, is_wrong_link, leaf_places, leaves, places_from}
-use Rattle.bdb_format.specs.Leaves.{root_references, tree_rows}
-use Rattle.bdb_format.specs.Page.{Meta, Page}
-use Rattle.bdb_format.specs.References.{refs}
-use Rattle.bdb_format.specs.Table.{◌:?◌}
-use Rattle.bdb_format.specs.Verdict.{holding, tree_faults}
-use Rattle.bdb_format.proofs.FaultLemmas.{same_parts}
-use Rattle.bdb_format.proofs.ListLemmas.{any_member, only_member, passes_here}
-use Rattle.bdb_format.proofs.MemberLemmas.{first_member, in_flat_map, in_range, is_empty, later_member, member_cases, no_member, of_filter}
-use Rattle.bdb_format.proofs.MemberLemmas.{of_flat_map, of_range}
-use Rattle.bdb_format.proofs.ReferenceLemmas.{of_all}
-use Rattle.bdb_format.proofs.VerdictLemmas.{in_by_page, of_by_page}
+use Rattle.bdb_overflow.specs.of_faults.Notes.{AreSame, Notes, NotesAll}
+use Rattle.bdb_overflow.specs.of_faults.Rows.{fault_if, structure_code}
+use Rattle.bdb_overflow.specs.of_faults.declared.rows.Row.TheVariants.{Structure}
+use Rattle.bdb_overflow.specs.of_faults.declared.rows.StructureRow.{StructureRow}
+use Rattle.bdb_overflow.specs.of_faults.declared.rows.StructureRow.TheVariants.{LeafKind, LeafLink}
+use Rattle.bdb_overflow.proofs.of_faults.SinkLemmas.{notes_next, notes_one}
+use Rattle.bdb_overflow.specs.of_format.declared.kinds.Fault.{Fault}
+use Rattle.bdb_overflow.specs.of_format.declared.references.Reference.{Reference}
+use Rattle.bdb_overflow.specs.of_format.declared.references.Sort.{Sort}
+use Rattle.bdb_overflow.specs.of_format.declared.references.Sort.TheVariants.{DuplicateRoot, Root}
+use Rattle.bdb_overflow.specs.of_format.File.{File, file_of, page_at}
+use Rattle.bdb_overflow.specs.of_format.Graph.{Owner, all_references, is_meta}
+use Rattle.bdb_overflow.specs.of_format.Leaves.{LeafPlace, first_or_zero, is_root_reference, is_wrong_leaf, is_wrong_link, leaf_places, leaves, places_from}
+use Rattle.bdb_overflow.specs.of_format.Leaves.{root_references, tree_rows}
+use Rattle.bdb_overflow.specs.of_format.Page.{Meta, Page}
+use Rattle.bdb_overflow.specs.of_format.References.{refs}
+use Rattle.bdb_overflow.specs.of_format.Table.{◌:?◌}
+use Rattle.bdb_overflow.specs.of_format.Verdict.{holding, tree_faults}
+use Rattle.bdb_overflow.proofs.of_format.FaultLemmas.{same_parts}
+use Rattle.bdb_overflow.proofs.of_format.ListLemmas.{any_member, only_member, passes_here}
+use Rattle.bdb_overflow.proofs.of_format.MemberLemmas.{first_member, in_flat_map, in_range, is_empty, later_member, member_cases, no_member, of_filter}
+use Rattle.bdb_overflow.proofs.of_format.MemberLemmas.{of_flat_map, of_range}
+use Rattle.bdb_overflow.proofs.of_format.ReferenceLemmas.{of_all}
+use Rattle.bdb_overflow.proofs.of_format.VerdictLemmas.{in_by_page, of_by_page}
 use Rattle.bdb_overflow.specs.of_image.Linked.{FitsLeafPage, IsForest, IsTarget, meta_pages}
 use Rattle.bdb_overflow.specs.of_graph.Walked.{names_set}
 use Rattle.bdb_tree.specs.Noted.{by_part, data_faults, data_root, held_faults, held_sets, meta_faults, meta_root, paired, place_faults, place_in, root_faults}

@@ -1,14 +1,14 @@
 -- The pairs of a tree, and of a master, stand on pages of the file.
 use Rattle.std.proofs.Common.{◌≡◌, ℕ, ◌≤◌, List, [], Some, None, arith, refl, sym, ap, inl}
 use Rattle.std.specs.List.{Contains}
-use Rattle.bdb_format.specs.declared.metadata.BtreeMeta.{BtreeMeta}
-use Rattle.bdb_format.specs.Contents.{StoredPair, pairs_in, pairs_of, tree_pairs}
-use Rattle.bdb_format.specs.File.{File, file_of, page_at}
-use Rattle.bdb_format.specs.HeadOf.{head_of}
-use Rattle.bdb_format.specs.Leaves.{leaves}
-use Rattle.bdb_format.specs.Master.{master_in, master_pairs, pairs_under}
-use Rattle.bdb_format.specs.Page.{BtreeFields, Page, Hash, Leaf}
-use Rattle.bdb_format.proofs.MemberLemmas.{no_member, of_filter, of_flat_map, of_map}
+use Rattle.bdb_overflow.specs.of_format.declared.metadata.BtreeMeta.{BtreeMeta}
+use Rattle.bdb_overflow.specs.of_format.Contents.{StoredPair, pairs_in, pairs_of, tree_pairs}
+use Rattle.bdb_overflow.specs.of_format.File.{File, file_of, page_at}
+use Rattle.bdb_overflow.specs.of_format.HeadOf.{head_of}
+use Rattle.bdb_overflow.specs.of_format.Leaves.{leaves}
+use Rattle.bdb_overflow.specs.of_format.Master.{master_in, master_pairs, pairs_under}
+use Rattle.bdb_overflow.specs.of_format.Page.{BtreeFields, Page, Hash, Leaf}
+use Rattle.bdb_overflow.proofs.of_format.MemberLemmas.{no_member, of_filter, of_flat_map, of_map}
 use Rattle.bdb_overflow.specs.of_image.Linked.{HasMetadata, IsForest}
 use Rattle.bdb_overflow.proofs.of_graph.LinkedLemmas.{root_fits}
 use Rattle.bdb_overflow.proofs.of_graph.ReadLemmas.{master_is}

@@ -3,40 +3,40 @@ use Rattle.std.proofs.Common.{◌≡◌, ◌⊎◌, ℕ, ◌<◌, ◌≤◌, Boo
 use Rattle.std.proofs.Common.{Contains}
 use Rattle.std.specs.Prelude.{Some, None, ◌%◌, get_or, ◌==◌, ◌||◌, not}
 use Rattle.std.proofs.lemmas.Bool.{and_parts, cases_Bool, eqb-false, eqb-true, ltb-false, not-false, true≢false}
-use Rattle.bdb_format.specs.declared.metadata.FileKind.TheVariants.{Queue as QueueFile}
-use Rattle.bdb_format.specs.declared.metadata.Head.{Head}
+use Rattle.bdb_overflow.specs.of_format.declared.metadata.FileKind.TheVariants.{Queue as QueueFile}
+use Rattle.bdb_overflow.specs.of_format.declared.metadata.Head.{Head}
 use Rattle.bdb_overflow.specs.of_form.declared.view.PageView.{PageView}
 use Rattle.bdb_overflow.specs.of_form.declared.view.PageView.TheVariants.{Meta as MetaView, Leaf as LeafView, DupLeaf as DupLeafView}
 use Rattle.bdb_overflow.specs.of_form.Seen.{header_seen, page_seen}
-use Rattle.bdb_format.specs.declared.kinds.Order.{Order}
-use Rattle.bdb_format.specs.File.{file_of, header_in, kind_in, page_at, page_bytes, type_in}
-use Rattle.bdb_format.specs.HeadOf.{head_of}
-use Rattle.bdb_format.specs.declared.references.Sort.{Sort}
-use Rattle.bdb_format.specs.declared.references.Sort.TheVariants.{DuplicateRoot, Root}
-use Rattle.bdb_format.specs.Leaves.{children_in, wrong_leaf_types}
+use Rattle.bdb_overflow.specs.of_format.declared.kinds.Order.{Order}
+use Rattle.bdb_overflow.specs.of_format.File.{file_of, header_in, kind_in, page_at, page_bytes, type_in}
+use Rattle.bdb_overflow.specs.of_format.HeadOf.{head_of}
+use Rattle.bdb_overflow.specs.of_format.declared.references.Sort.{Sort}
+use Rattle.bdb_overflow.specs.of_format.declared.references.Sort.TheVariants.{DuplicateRoot, Root}
+use Rattle.bdb_overflow.specs.of_format.Leaves.{children_in, wrong_leaf_types}
 use Rattle.std.proofs.lemmas.List.FromFn.{get_or-map-range_with_len, length-map-range_with_len}
-use Rattle.bdb_format.specs.Numbers.{byte_at}
-use Rattle.bdb_format.specs.Page.{Metadata, BtreeFields, Content, Inline, Chain, Tree, Unknown, Item, InternalItem, Listed}
-use Rattle.bdb_format.specs.Page.{Page, Meta, Hash, Internal, RecnoInternal, Leaf, RecnoLeaf, DupLeaf, PageType}
-use Rattle.bdb_format.specs.Page.{FreePage, HashPage, InternalPage, RecnoInternalPage, LeafPage, RecnoLeafPage, OverflowPage, HashMetaPage}
-use Rattle.bdb_format.specs.Page.{BtreeMetaPage, QueueMetaPage, QueuePage, DupLeafPage, OtherPage}
-use Rattle.bdb_format.specs.Reading.{abstract_page, entries_of, internal_item_at, is_zero, leaf_item_at, listed, page_as}
-use Rattle.bdb_format.specs.Reading.{page_type, recno_item_at, hash_item_at}
-use Rattle.bdb_format.specs.References.{has_type, no_item}
-use Rattle.bdb_format.specs.Rows.{form_code, leaf_rows, listed_code, type_of, typed_code, hash_rows, item_rows}
-use Rattle.bdb_format.specs.Table.{first_row}
-use Rattle.bdb_format.proofs.GraphLemmas.{typed_none, typed_page, zero_page}
-use Rattle.bdb_format.proofs.ItemLemmas.{IsIndexed, index_passes, no_index_row, no_item_row}
-use Rattle.bdb_format.proofs.MemberLemmas.{of_map}
+use Rattle.bdb_overflow.specs.of_format.Numbers.{byte_at}
+use Rattle.bdb_overflow.specs.of_format.Page.{Metadata, BtreeFields, Content, Inline, Chain, Tree, Unknown, Item, InternalItem, Listed}
+use Rattle.bdb_overflow.specs.of_format.Page.{Page, Meta, Hash, Internal, RecnoInternal, Leaf, RecnoLeaf, DupLeaf, PageType}
+use Rattle.bdb_overflow.specs.of_format.Page.{FreePage, HashPage, InternalPage, RecnoInternalPage, LeafPage, RecnoLeafPage, OverflowPage, HashMetaPage}
+use Rattle.bdb_overflow.specs.of_format.Page.{BtreeMetaPage, QueueMetaPage, QueuePage, DupLeafPage, OtherPage}
+use Rattle.bdb_overflow.specs.of_format.Reading.{abstract_page, entries_of, internal_item_at, is_zero, leaf_item_at, listed, page_as}
+use Rattle.bdb_overflow.specs.of_format.Reading.{page_type, recno_item_at, hash_item_at}
+use Rattle.bdb_overflow.specs.of_format.References.{has_type, no_item}
+use Rattle.bdb_overflow.specs.of_format.Rows.{form_code, leaf_rows, listed_code, type_of, typed_code, hash_rows, item_rows}
+use Rattle.bdb_overflow.specs.of_format.Table.{first_row}
+use Rattle.bdb_overflow.proofs.of_format.GraphLemmas.{typed_none, typed_page, zero_page}
+use Rattle.bdb_overflow.proofs.of_format.ItemLemmas.{IsIndexed, index_passes, no_index_row, no_item_row}
+use Rattle.bdb_overflow.proofs.of_format.MemberLemmas.{of_map}
 use Rattle.std.proofs.lemmas.List.{length-map}
-use Rattle.bdb_format.proofs.PageLemmas.{length_items}
+use Rattle.bdb_overflow.proofs.of_format.PageLemmas.{length_items}
 use Rattle.bdb_overflow.specs.of_image.Formed.{IsFormed}
 use Rattle.bdb_overflow.specs.of_image.Linked.{IsForest}
 use Rattle.bdb_overflow.proofs.of_graph.ChildLemmas.{is_queue_page, queue_page}
 use Rattle.bdb_overflow.proofs.of_image.FirstLemmas.{formed_page}
 use Rattle.bdb_tree.specs.Noted.{is_leaf_page}
-use Rattle.bdb_format.proofs.TypeLemmas.{if_type}
-use Rattle.bdb_format.proofs.FileLemmas.{last_page, page_is}
+use Rattle.bdb_overflow.proofs.of_format.TypeLemmas.{if_type}
+use Rattle.bdb_overflow.proofs.of_format.FileLemmas.{last_page, page_is}
 
 -- Form.
 

@@ -1,10 +1,10 @@
 -- Stage 6 in its two parts.
 use Rattle.std.proofs.Common.{◌≡◌, ◌+◌, []}
-use Rattle.bdb_format.specs.Chains.{chain_rows}
-use Rattle.bdb_format.specs.File.{File}
-use Rattle.bdb_format.specs.Leaves.{tree_rows}
-use Rattle.bdb_format.specs.Verdict.{chain_faults, holding, structure_faults, structure_rows, tree_faults}
-use Rattle.bdb_format.proofs.VerdictLemmas.{no_faults, no_rows_at, none_holds}
+use Rattle.bdb_overflow.specs.of_format.Chains.{chain_rows}
+use Rattle.bdb_overflow.specs.of_format.File.{File}
+use Rattle.bdb_overflow.specs.of_format.Leaves.{tree_rows}
+use Rattle.bdb_overflow.specs.of_format.Verdict.{chain_faults, holding, structure_faults, structure_rows, tree_faults}
+use Rattle.bdb_overflow.proofs.of_format.VerdictLemmas.{no_faults, no_rows_at, none_holds}
 
 -- where neither a chain nor a leaf has a fault, no row of the stage holds
 pub no_structure_fault : (file : File) → chain_faults file ≡ [] → tree_faults file ≡ [] → structure_faults file ≡ []

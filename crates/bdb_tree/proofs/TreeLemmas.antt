@@ -6,25 +6,25 @@ use Rattle.std.specs.List.{Contains, filter, flat_map}
 use Rattle.std.proofs.lemmas.Bool.{and_left, ne_eqb, cases_lt, eq-eqb, eqb-false, eqb-true, ltb-false, not-false, or_parts}
 use Rattle.std.proofs.lemmas.List.{get_or_past}
 use Rattle.std.proofs.lemmas.List.Elements.{Contains-append_right, Contains-get_or}
-use Rattle.bdb_format.specs.declared.metadata.BtreeMeta.{BtreeMeta}
-use Rattle.bdb_format.specs.declared.pages.RecnoItem.{RecnoItem}
-use Rattle.bdb_format.specs.declared.references.Reference.{Reference}
-use Rattle.bdb_format.specs.declared.references.Sort.{Sort}
-use Rattle.bdb_format.specs.declared.references.Sort.TheVariants.{Child, DuplicateRoot, Root}
-use Rattle.bdb_format.specs.File.{File, file_of, header_in, page_at, type_in}
-use Rattle.bdb_format.specs.Graph.{Owner, all_references}
-use Rattle.bdb_format.specs.HeadOf.{head_of}
-use Rattle.bdb_format.specs.Leaves.{LeafPlace, children_in, is_root_reference, is_wrong_link, leaf_places, leaves, leaves_in}
-use Rattle.bdb_format.specs.Leaves.{leaves_under, places_from, root_references}
-use Rattle.bdb_format.specs.Page.{BtreeFields, Content, Tree, Item, Listed, Page, Meta, Hash, Internal, RecnoInternal, Leaf, RecnoLeaf}
-use Rattle.bdb_format.specs.Page.{DupLeaf}
-use Rattle.bdb_format.specs.References.{asked_by, child_types, content_targets, first_free, fit_code, fit_rows, has_type, is_asked, is_shared_key}
-use Rattle.bdb_format.specs.References.{is_zero_page, targets_in, no_item, refs, root_types, contents_in}
-use Rattle.bdb_format.specs.Verdict.{reference_faults, structure_faults, structure_rows}
-use Rattle.bdb_format.proofs.GraphLemmas.{each_fits}
-use Rattle.bdb_format.proofs.MemberLemmas.{first_member, in_filter, in_flat_map, in_map, none_passes, of_flat_map}
-use Rattle.bdb_format.proofs.VerdictLemmas.{AllFail, no_rows_at, none_is_first_row}
-use Rattle.bdb_format.proofs.TargetLemmas.{held_named, own_held}
+use Rattle.bdb_overflow.specs.of_format.declared.metadata.BtreeMeta.{BtreeMeta}
+use Rattle.bdb_overflow.specs.of_format.declared.pages.RecnoItem.{RecnoItem}
+use Rattle.bdb_overflow.specs.of_format.declared.references.Reference.{Reference}
+use Rattle.bdb_overflow.specs.of_format.declared.references.Sort.{Sort}
+use Rattle.bdb_overflow.specs.of_format.declared.references.Sort.TheVariants.{Child, DuplicateRoot, Root}
+use Rattle.bdb_overflow.specs.of_format.File.{File, file_of, header_in, page_at, type_in}
+use Rattle.bdb_overflow.specs.of_format.Graph.{Owner, all_references}
+use Rattle.bdb_overflow.specs.of_format.HeadOf.{head_of}
+use Rattle.bdb_overflow.specs.of_format.Leaves.{LeafPlace, children_in, is_root_reference, is_wrong_link, leaf_places, leaves, leaves_in}
+use Rattle.bdb_overflow.specs.of_format.Leaves.{leaves_under, places_from, root_references}
+use Rattle.bdb_overflow.specs.of_format.Page.{BtreeFields, Content, Tree, Item, Listed, Page, Meta, Hash, Internal, RecnoInternal, Leaf, RecnoLeaf}
+use Rattle.bdb_overflow.specs.of_format.Page.{DupLeaf}
+use Rattle.bdb_overflow.specs.of_format.References.{asked_by, child_types, content_targets, first_free, fit_code, fit_rows, has_type, is_asked, is_shared_key}
+use Rattle.bdb_overflow.specs.of_format.References.{is_zero_page, targets_in, no_item, refs, root_types, contents_in}
+use Rattle.bdb_overflow.specs.of_format.Verdict.{reference_faults, structure_faults, structure_rows}
+use Rattle.bdb_overflow.proofs.of_format.GraphLemmas.{each_fits}
+use Rattle.bdb_overflow.proofs.of_format.MemberLemmas.{first_member, in_filter, in_flat_map, in_map, none_passes, of_flat_map}
+use Rattle.bdb_overflow.proofs.of_format.VerdictLemmas.{AllFail, no_rows_at, none_is_first_row}
+use Rattle.bdb_overflow.proofs.of_format.TargetLemmas.{held_named, own_held}
 use Rattle.bdb_overflow.specs.of_image.Linked.{FitsDupRoot, FitsLeafPage, FitsTreeRoot, HasMetadata, IsForest, IsTarget}
 use Rattle.bdb_overflow.proofs.of_graph.ChildLemmas.{NamesChild, child_named, children_are, is_queue_page}
 use Rattle.bdb_overflow.proofs.of_graph.ForestLemmas.{sound_graph}
@@ -36,11 +36,11 @@ use Rattle.bdb_tree.specs.Noted.{is_leaf_page}
 use Rattle.bdb_tree.specs.Trees.{IsRoot, IsTreePage}
 use Rattle.bdb_tree.proofs.ShapeLemmas.{IsFormedPage, IsInnerPage, IsLeafPage, SetsAreData, formed_at, is_tree_in, leaf_shape, no_queue, tree_in}
 use Rattle.bdb_tree.proofs.ShapeLemmas.{tree_shape, IsAlone}
-use Rattle.bdb_format.proofs.ListLemmas.{flat_map_same, in_enumerated, only_member}
-use Rattle.bdb_format.proofs.BoolLemmas.{second_false, first_or_none}
-use Rattle.bdb_format.proofs.ReferenceLemmas.{forest_names, of_all}
-use Rattle.bdb_format.proofs.TypeLemmas.{AllTypes, of_type, either_types}
-use Rattle.bdb_format.proofs.FileLemmas.{pages_counted}
+use Rattle.bdb_overflow.proofs.of_format.ListLemmas.{flat_map_same, in_enumerated, only_member}
+use Rattle.bdb_overflow.proofs.of_format.BoolLemmas.{second_false, first_or_none}
+use Rattle.bdb_overflow.proofs.of_format.ReferenceLemmas.{forest_names, of_all}
+use Rattle.bdb_overflow.proofs.of_format.TypeLemmas.{AllTypes, of_type, either_types}
+use Rattle.bdb_overflow.proofs.of_format.FileLemmas.{pages_counted}
 
 abbrev pub level : File → ℕ → ℕ
 level file p = (header_in (page_at file p)).level

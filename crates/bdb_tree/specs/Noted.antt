@@ -2,17 +2,17 @@
 use Rattle.std.specs.Prelude.{ℕ, ◌+◌, ◌-◌, ◌*◌, ◌/◌, ◌==◌, if◌then◌else◌, Bool, true, false, List, [], ◌++◌, get_or, length}
 use Rattle.std.specs.Prelude.{slice_index, Option, Some, None}
 use Rattle.std.specs.List.{flat_map, range_with_len}
-use Rattle.bdb_format.specs.declared.kinds.Fault.{Fault}
-use Rattle.bdb_format.specs.declared.references.Sort.{Sort}
-use Rattle.bdb_format.specs.declared.references.Sort.TheVariants.{DuplicateRoot, Root}
-use Rattle.bdb_format.specs.File.{File, page_at}
+use Rattle.bdb_overflow.specs.of_format.declared.kinds.Fault.{Fault}
+use Rattle.bdb_overflow.specs.of_format.declared.references.Sort.{Sort}
+use Rattle.bdb_overflow.specs.of_format.declared.references.Sort.TheVariants.{DuplicateRoot, Root}
+use Rattle.bdb_overflow.specs.of_format.File.{File, page_at}
 use Rattle.bdb_overflow.specs.of_image.Linked.{meta_pages}
-use Rattle.bdb_format.specs.Leaves.{LeafPlace, is_wrong_leaf, is_wrong_link, leaves, places_from}
-use Rattle.bdb_format.specs.Page.{Content, Tree, Item, BtreeFields, Page, Meta, Hash, Leaf, RecnoLeaf, DupLeaf}
-use Rattle.bdb_format.specs.References.{no_item}
-use Rattle.bdb_faults.specs.Rows.{fault_if}
-use Rattle.bdb_faults.specs.declared.rows.Row.TheVariants.{Structure}
-use Rattle.bdb_faults.specs.declared.rows.StructureRow.TheVariants.{LeafKind, LeafLink}
+use Rattle.bdb_overflow.specs.of_format.Leaves.{LeafPlace, is_wrong_leaf, is_wrong_link, leaves, places_from}
+use Rattle.bdb_overflow.specs.of_format.Page.{Content, Tree, Item, BtreeFields, Page, Meta, Hash, Leaf, RecnoLeaf, DupLeaf}
+use Rattle.bdb_overflow.specs.of_format.References.{no_item}
+use Rattle.bdb_overflow.specs.of_faults.Rows.{fault_if}
+use Rattle.bdb_overflow.specs.of_faults.declared.rows.Row.TheVariants.{Structure}
+use Rattle.bdb_overflow.specs.of_faults.declared.rows.StructureRow.TheVariants.{LeafKind, LeafLink}
 
 -- a leaf of a tree
 abbrev pub is_leaf_page : Page → Bool

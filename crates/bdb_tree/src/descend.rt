@@ -1,13 +1,13 @@
 ghost use Rattle.std.specs.Prelude.{◌≡◌, ◌+◌, ◌<◌, ◌≤◌, ◌∷◌, [], Bool, IsTrue, Some, length};
 ghost use Rattle.bdb_overflow.specs.of_layout.Seen.{internal_item_seen};
 ghost use Rattle.bdb_overflow.specs.of_image.Linked.{FitsLeafPage, FitsTreeRoot, IsForest};
-ghost use Rattle.bdb_format.specs.File.{file_of, header_in, page_at, type_in};
-ghost use Rattle.bdb_format.specs.Page.{InternalItem};
-ghost use Rattle.bdb_format.specs.References.{has_type};
+ghost use Rattle.bdb_overflow.specs.of_format.File.{file_of, header_in, page_at, type_in};
+ghost use Rattle.bdb_overflow.specs.of_format.Page.{InternalItem};
+ghost use Rattle.bdb_overflow.specs.of_format.References.{has_type};
 ghost use Rattle.bdb_tree.specs.Descent.{AllMonotone, AllReadable, AreReadable, IsLastFalse, IsMonotone, chosen, descent, next_below, steps_at};
 
-use bdb_format::Steps;
 use bdb_overflow::bdb_form::{InternalView, PageView};
+use bdb_overflow::bdb_format::Steps;
 use bdb_overflow::bdb_graph::{Forest, LeafPage, Linked, Ref, TreeRoot};
 use std::sync::ledger::Ledger;
 

@@ -14,10 +14,8 @@ mod set;
 mod trees;
 mod walk;
 
-pub use bdb_faults;
-pub use bdb_format;
 pub use bdb_overflow;
-pub use bdb_overflow::{bdb_form, bdb_graph, bdb_layout};
+pub use bdb_overflow::{bdb_faults, bdb_form, bdb_format, bdb_graph, bdb_layout};
 pub use check::{check_trees, note_trees, tree_faults};
 pub use descend::{Separate, descend_by, descend_in};
 pub use entries::{TreeEntries, tree_entries};

@@ -1,8 +1,8 @@
 ghost use Rattle.std.specs.Prelude.{◌≡◌, Some};
 ghost use Rattle.bdb_overflow.specs.of_form.Seen.{page_seen};
-ghost use Rattle.bdb_format.specs.ContentRows.{wrong_set_types};
-ghost use Rattle.bdb_format.specs.File.{type_in};
-ghost use Rattle.bdb_format.specs.References.{has_type};
+ghost use Rattle.bdb_overflow.specs.of_format.ContentRows.{wrong_set_types};
+ghost use Rattle.bdb_overflow.specs.of_format.File.{type_in};
+ghost use Rattle.bdb_overflow.specs.of_format.References.{has_type};
 
 use bdb_overflow::bdb_form::PageView;
 

@@ -1,15 +1,15 @@
 ghost use Rattle.std.specs.Prelude.{◌≤◌, ◌+◌, IfSome, OnOk, Some};
 ghost use Rattle.std.specs.List.{flat_map, range_with_len};
-ghost use Rattle.bdb_faults.specs.Notes.{NotesAll};
+ghost use Rattle.bdb_overflow.specs.of_faults.Notes.{NotesAll};
 ghost use Rattle.bdb_overflow.specs.of_image.Linked.{IsForest, meta_pages};
-ghost use Rattle.bdb_format.specs.File.{file_of};
+ghost use Rattle.bdb_overflow.specs.of_format.File.{file_of};
 ghost use Rattle.bdb_tree.specs.Noted.{held_sets, meta_faults, root_faults};
 ghost use Rattle.bdb_tree.specs.Trees.{IsTreePage};
 
 use crate::leaves_below;
 use crate::named_roots::{data_root, meta_root, pairs};
 use crate::places::note_places;
-use bdb_faults::FaultSink;
+use bdb_overflow::bdb_faults::FaultSink;
 use bdb_overflow::bdb_graph::{Forest, Linked, Sort};
 use std::alloc::{AllocError, Global};
 
@@ -32,7 +32,7 @@ fn note_leaves<F: FaultSink>(
 }
 
 /// Notes the faults of the leaves of the tree with this root, if there is one.
-#[tactic(auto, using(bdb_faults::proofs::SinkLemmas::notes_none))]
+#[tactic(auto, using(crate::proofs::Below::notes_none))]
 fn note_tree<F: FaultSink>(
     alloc: Global,
     forest: &Forest<'_>,
@@ -94,7 +94,7 @@ pub(crate) fn note_metas<F: FaultSink>(
 }
 
 /// Notes the faults of the leaves of the sets that data of pairs name. No page is looked at where no reference names a set.
-#[tactic(auto, using(bdb_format::proofs::FileLemmas::last_page))]
+#[tactic(auto, using(crate::proofs::Below::last_page))]
 pub(crate) fn note_all_sets<F: FaultSink>(
     alloc: Global,
     forest: &Forest<'_>,

@@ -12,4 +12,7 @@ pub mod JoinedLemmas
 pub mod FlipLemmas
 mod LawLemmas
 pub mod TypedLemmas
+pub use Rattle.bdb_graph.proofs.of_format as of_format
 pub use Rattle.bdb_graph.proofs as of_graph
+pub use Rattle.bdb_graph.proofs.of_image as of_image
+pub use Rattle.bdb_graph.proofs.of_layout as of_layout

@@ -4,3 +4,4 @@
 pub mod laws;
 
 pub use bdb_graph;
+pub use bdb_graph::{bdb_form, bdb_format, bdb_layout};

@@ -2,13 +2,14 @@
 use Rattle.std.proofs.Common.{◌≡◌, ◌≢◌, ℕ, ◌^◌, ne_eqb, Bool, true, false, List, [], length, ap, arith, refl, subst, sym, ◌∙◌}
 use Rattle.std.specs.Prelude.{IfOk, Result, Some, nat_lt, if◌then◌else◌}
 use Rattle.std.specs.Io.KnownBytes.{Appends}
-use Rattle.bdb_tool.specs.of_rows.AnyOrder.{faults_by_rows}
-use Rattle.bdb_tool.specs.of_rows.declared.rows.Rows.{Rows}
-use Rattle.bdb_tool.specs.of_rows.declared.rows.Rows.TheVariants.{All, AnyOrder}
+use Rattle.bdb_tool.specs.of_any_order.AnyOrder.{faults_by_rows}
+use Rattle.bdb_tool.specs.of_any_order.declared.rows.Rows.{Rows}
+use Rattle.bdb_tool.specs.of_any_order.declared.rows.Rows.TheVariants.{All, AnyOrder}
 use Rattle.bdb_tool.specs.of_model.Answers.{Answer, told, too_large_line}
 use Rattle.bdb_tool.specs.of_model.Change.{Change, Gains, HasFailed}
 use Rattle.bdb_tool.specs.of_tool_words.Commands.{Ask, Command, Verify, command_of, handed}
-use Rattle.bdb_tool.specs.Outputs.{IsAnswerBySize, IsAnswerTo, IsCommandAnswer, IsInput, asked_alone, verified}
+use Rattle.bdb_tool.specs.Outputs.{IsAnswerBySize, IsAnswerTo, IsCommandAnswer, IsInput, asked_alone}
+use Rattle.bdb_tool.specs.of_tool_ask.FileAnswers.{verified}
 use Rattle.bdb_tool.specs.Runs.{IsAnswered, RunsAs}
 use Rattle.check_images.specs.Lines.{text_told, verify_answer, verify_words}
 

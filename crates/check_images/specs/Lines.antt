@@ -1,11 +1,11 @@
 -- The lines that are printed for an image.
 use Rattle.std.specs.Prelude.{◌≡◌, ◌⊎◌, ℕ, ◌^◌, ◌==◌, nat_lt, if◌then◌else◌, List, ◌∷◌, [], ◌++◌, length, codes}
-use Rattle.bdb_tool.specs.of_rows.AnyOrder.{faults_by_rows}
-use Rattle.bdb_tool.specs.of_rows.declared.rows.Rows.{Rows}
-use Rattle.bdb_tool.specs.of_rows.declared.rows.Rows.TheVariants.{All, AnyOrder}
+use Rattle.bdb_tool.specs.of_any_order.AnyOrder.{faults_by_rows}
+use Rattle.bdb_tool.specs.of_any_order.declared.rows.Rows.{Rows}
+use Rattle.bdb_tool.specs.of_any_order.declared.rows.Rows.TheVariants.{All, AnyOrder}
 use Rattle.bdb_tool.specs.of_model.Answers.{Answer, told, too_large_line}
 use Rattle.bdb_tool.specs.of_text_format.LineEnd.{line}
-use Rattle.bdb_tool.specs.Outputs.{verified}
+use Rattle.bdb_tool.specs.of_tool_ask.FileAnswers.{verified}
 
 -- the words that ask for the verdict by the rows that count
 abbrev pub verify_words : Rows → List (List ℕ)

@@ -1,12 +1,12 @@
 //! Both sides of a file, and what is told of them.
 
 ghost use Rattle.std.specs.Prelude.{◌≡◌, ◌<◌, ◌≤◌, ◌^◌, length};
-ghost use Rattle.bdb_rows.specs.of_format.Databases.{databases};
-ghost use Rattle.bdb_rows.specs.of_format.File.{file_of};
+ghost use Rattle.bdb_salvage.specs.of_format.Databases.{databases};
+ghost use Rattle.bdb_salvage.specs.of_format.File.{file_of};
 
 use crate::held::Held;
-use bdb_rows::bdb_format::{Bytes, FileKind, Steps};
-use bdb_rows::bdb_graph::Meta;
+use bdb_salvage::bdb_format::{Bytes, FileKind, Steps};
+use bdb_salvage::bdb_graph::Meta;
 use bdb_salvage::{SalvageError, SalvagePairs, SalvageValues, Salvaged, salvage};
 use bdb_tool::bdb_file::{Db, Scan, Sound, verify};
 use std::alloc::{AllocError, Global};
@@ -16,7 +16,7 @@ use std::sync::ledger::{Blank, Ledger};
 /// Adds the list of a master: its keys are names.
 fn add_names<'a>(
     held: &mut Held<'a>,
-    list: &mut bdb_rows::bdb_btree::Scan<'a>,
+    list: &mut bdb_tool::bdb_btree::Scan<'a>,
 ) -> Result<(), AllocError> {
     for (key, value) in list {
         held.add_entry(key, value)?;
@@ -25,7 +25,7 @@ fn add_names<'a>(
 }
 
 /// Adds the list of a master, where there is one.
-#[tactic(auto, using(bdb_rows::proofs::DatabaseLemmas::has_metadata, bdb_databases::proofs::SoundLemmas::no_structure))]
+#[tactic(auto, using(crate::proofs::Below::has_metadata, crate::proofs::Below::no_structure))]
 fn add_master<'a>(held: &mut Held<'a>, sound: &Sound<'a>) -> Result<(), AllocError> {
     let linked = sound.linked();
     if linked.metas() == 0 {
@@ -36,7 +36,7 @@ fn add_master<'a>(held: &mut Held<'a>, sound: &Sound<'a>) -> Result<(), AllocErr
         && number == 0
         && meta.flags & 0x20 != 0
     {
-        return add_names(held, &mut bdb_rows::bdb_btree::scan(linked, &meta));
+        return add_names(held, &mut bdb_tool::bdb_btree::scan(linked, &meta));
     }
     Ok(())
 }

@@ -1,4 +1,4 @@
-use bdb_rows::bdb_format::Bytes;
+use bdb_salvage::bdb_format::Bytes;
 use bdb_tool::bdb_io::{MemSink, PureSource};
 use bdb_tool::bdb_model::Words;
 use bdb_tool::run_counted;

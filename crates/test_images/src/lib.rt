@@ -7,6 +7,7 @@ mod opening;
 mod sample;
 
 pub use bdb_tree;
+pub use bdb_tree::{bdb_faults, bdb_form, bdb_format, bdb_graph, bdb_layout, bdb_overflow};
 pub use field::{Field, write};
 pub use naming::{has_rows, is_list_of};
 pub use opening::{btree_of, has_sound_trees, is_keyed, is_recno};

@@ -1,5 +1,5 @@
 use Rattle.std.proofs.Common.{◌∙◌, ap}
-use Rattle.bdb_tool.specs.of_rows.declared.rows.Rows.TheVariants.{All, AnyOrder}
+use Rattle.bdb_tool.specs.of_any_order.declared.rows.Rows.TheVariants.{All, AnyOrder}
 use Rattle.check_images.specs.Lines.{verdict_on}
 use Rattle.check_images.proofs.LineLemmas.{lines_on_read}
 use Rattle.check_images.proofs.lines_of_file.Goals as goal

@@ -1,9 +1,9 @@
 use Rattle.std.proofs.Common.{◌∙◌, List, ℕ, subst, sym}
-use Rattle.bdb_faults.specs.Notes.{Notes, NotesAll}
-use Rattle.bdb_faults.specs.declared.rows.ContentsRow.TheVariants.{Separator}
-use Rattle.bdb_format.specs.ContentRows.{has_wrong_separator, inner_pages}
-use Rattle.bdb_format.specs.Contents.{tree_pairs}
-use Rattle.bdb_format.specs.File.{file_of, page_at}
+use Rattle.bdb_ranks.specs.of_faults.Notes.{Notes, NotesAll}
+use Rattle.bdb_ranks.specs.of_faults.declared.rows.ContentsRow.TheVariants.{Separator}
+use Rattle.bdb_ranks.specs.of_format.ContentRows.{has_wrong_separator, inner_pages}
+use Rattle.bdb_ranks.specs.of_format.Contents.{tree_pairs}
+use Rattle.bdb_ranks.specs.of_format.File.{file_of, page_at}
 use Rattle.bdb_btree.specs.Bounds.{OrderedIf}
 use Rattle.bdb_btree.specs.Counts.{IsKeyed}
 use Rattle.bdb_btree.specs.Noted.{faults_at}

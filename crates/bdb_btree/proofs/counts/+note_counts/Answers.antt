@@ -1,8 +1,8 @@
 use Rattle.std.proofs.Common.{◌∙◌, rules}
-use Rattle.bdb_faults.specs.declared.rows.ContentsRow.TheVariants.{Count}
-use Rattle.bdb_format.specs.ContentRows.{has_wrong_count}
-use Rattle.bdb_format.specs.File.{file_of, page_at}
-use Rattle.bdb_form.specs.of_layout.Seen.{internal_item_seen}
+use Rattle.bdb_ranks.specs.of_faults.declared.rows.ContentsRow.TheVariants.{Count}
+use Rattle.bdb_ranks.specs.of_format.ContentRows.{has_wrong_count}
+use Rattle.bdb_ranks.specs.of_format.File.{file_of, page_at}
+use Rattle.bdb_ranks.specs.of_layout.Seen.{internal_item_seen}
 use Rattle.bdb_btree.proofs.CountLemmas.{all_counted, all_passed, more_passed, none_passed}
 use Rattle.bdb_btree.proofs.ItemLemmas.{leaf_noted}
 use Rattle.bdb_btree.proofs.counts.+note_counts.Goals as goal

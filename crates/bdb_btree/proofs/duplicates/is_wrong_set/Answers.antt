@@ -1,9 +1,9 @@
 use Rattle.std.proofs.Common.{subst}
-use Rattle.bdb_format.specs.declared.references.Sort.TheVariants.{DuplicateRoot}
-use Rattle.bdb_format.specs.File.{file_of}
-use Rattle.bdb_overflow.proofs.of_graph.LinkedLemmas.{target_inside}
-use Rattle.bdb_form.specs.of_layout.Seen.{leaf_item_seen}
-use Rattle.bdb_form.specs.of_layout.declared.items.LeafItem.{LeafItem}
+use Rattle.bdb_ranks.specs.of_format.declared.references.Sort.TheVariants.{DuplicateRoot}
+use Rattle.bdb_ranks.specs.of_format.File.{file_of}
+use Rattle.bdb_ranks.proofs.of_graph.LinkedLemmas.{target_inside}
+use Rattle.bdb_ranks.specs.of_layout.Seen.{leaf_item_seen}
+use Rattle.bdb_ranks.specs.of_layout.declared.items.LeafItem.{LeafItem}
 use Rattle.bdb_btree.specs.Pairs.{FitsSet}
 use Rattle.bdb_btree.proofs.duplicates.is_wrong_set.Goals as goal
 

@@ -1,8 +1,8 @@
 use Rattle.std.proofs.Common.{◌≡◌, ◌∙◌, List, ℕ, ap, map, refl, subst, sym}
 use Rattle.std.specs.List.{fold}
-use Rattle.bdb_format.specs.File.{File, file_of}
-use Rattle.bdb_overflow.specs.of_image.Linked.{IsForest}
-use Rattle.bdb_overflow.specs.Held.{FitsHeld}
+use Rattle.bdb_ranks.specs.of_format.File.{File, file_of}
+use Rattle.bdb_ranks.specs.of_image.Linked.{IsForest}
+use Rattle.bdb_ranks.specs.of_overflow.Held.{FitsHeld}
 use Rattle.bdb_btree.specs.Bounds.{ends_of, widen_by}
 use Rattle.bdb_btree.specs.Held.{AreKeyed, items_of, pair_held, stored_as}
 use Rattle.bdb_btree.proofs.HeldLemmas.{first_keyed, page_keyed, page_stored}

@@ -1,7 +1,7 @@
 use Rattle.std.proofs.Common.{◌∙◌, ap, arith, subst, sym}
-use Rattle.bdb_format.specs.File.{file_of}
+use Rattle.bdb_ranks.specs.of_format.File.{file_of}
 use Rattle.bdb_btree.specs.Bounds.{DontFall, ends_of}
-use Rattle.bdb_overflow.specs.Held.{value_held}
+use Rattle.bdb_ranks.specs.of_overflow.Held.{value_held}
 use Rattle.bdb_btree.proofs.EndLemmas.{leaf_ends, no_ends_there}
 use Rattle.bdb_btree.proofs.ItemLemmas.{leaf_tree}
 use Rattle.bdb_btree.proofs.WalkLemmas.{no_pairs}

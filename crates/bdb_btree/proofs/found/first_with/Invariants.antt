@@ -1,5 +1,5 @@
 use Rattle.std.proofs.Common.{◌≡◌, length}
-use Rattle.bdb_overflow.specs.Datum.{datum_seen}
+use Rattle.bdb_ranks.specs.of_overflow.Datum.{datum_seen}
 use Rattle.bdb_btree.specs.Search.{from_key}
 use Rattle.bdb_btree.proofs.found.first_with.Given as goal
 

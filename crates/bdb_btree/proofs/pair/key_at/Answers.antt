@@ -1,7 +1,7 @@
 use Rattle.std.specs.Prelude.{◌*◌}
-use Rattle.bdb_format.specs.File.{file_of}
-use Rattle.bdb_form.specs.of_layout.Seen.{leaf_item_seen}
-use Rattle.bdb_overflow.proofs.ContentLemmas.{leaf_item_fits}
+use Rattle.bdb_ranks.specs.of_format.File.{file_of}
+use Rattle.bdb_ranks.specs.of_layout.Seen.{leaf_item_seen}
+use Rattle.bdb_ranks.proofs.of_overflow.ContentLemmas.{leaf_item_fits}
 use Rattle.bdb_btree.proofs.pair.key_at.Goals as goal
 
 pub returns-clause-fits : goal.returns-clause-fits

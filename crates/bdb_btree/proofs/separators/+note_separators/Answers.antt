@@ -1,15 +1,15 @@
 use Rattle.std.proofs.Common.{◌≡◌, ◌∙◌, ◌<◌, List, ℕ, arith, cond, refl, rules, subst, sym}
 use Rattle.std.specs.Prelude.{◌==◌}
-use Rattle.bdb_faults.specs.Notes.{NotesAll}
-use Rattle.bdb_faults.specs.declared.rows.ContentsRow.TheVariants.{Separator}
-use Rattle.bdb_format.specs.Chains.{value_of}
-use Rattle.bdb_format.specs.ContentRows.{has_wrong_separator, inner_pages}
-use Rattle.bdb_format.specs.Contents.{tree_pairs}
-use Rattle.bdb_format.specs.File.{File, file_of, page_at}
-use Rattle.bdb_format.specs.Page.{Internal}
-use Rattle.bdb_overflow.specs.of_image.Linked.{FitsLeafPage, IsForest}
-use Rattle.bdb_form.specs.of_layout.Seen.{internal_item_seen, key_seen}
-use Rattle.bdb_overflow.specs.Datum.{FitsContent}
+use Rattle.bdb_ranks.specs.of_faults.Notes.{NotesAll}
+use Rattle.bdb_ranks.specs.of_faults.declared.rows.ContentsRow.TheVariants.{Separator}
+use Rattle.bdb_ranks.specs.of_format.Chains.{value_of}
+use Rattle.bdb_ranks.specs.of_format.ContentRows.{has_wrong_separator, inner_pages}
+use Rattle.bdb_ranks.specs.of_format.Contents.{tree_pairs}
+use Rattle.bdb_ranks.specs.of_format.File.{File, file_of, page_at}
+use Rattle.bdb_ranks.specs.of_format.Page.{Internal}
+use Rattle.bdb_ranks.specs.of_image.Linked.{FitsLeafPage, IsForest}
+use Rattle.bdb_ranks.specs.of_layout.Seen.{internal_item_seen, key_seen}
+use Rattle.bdb_ranks.specs.of_overflow.Datum.{FitsContent}
 use Rattle.bdb_btree.specs.Bounds.{OrderedIf, beyond, ends_of, joined, under_ends}
 use Rattle.bdb_btree.specs.Counts.{IsKeyed}
 use Rattle.bdb_btree.specs.Held.{FitsBounds, bounds_seen, ends_seen}

@@ -1,5 +1,5 @@
-use Rattle.bdb_format.specs.File.{file_of}
-use Rattle.bdb_tree.proofs.TreeLemmas.{leaf_inside}
+use Rattle.bdb_ranks.specs.of_format.File.{file_of}
+use Rattle.bdb_ranks.proofs.of_tree.TreeLemmas.{leaf_inside}
 use Rattle.bdb_btree.proofs.WalkLemmas.{keys_fit, no_pairs, view_pairs}
 use Rattle.bdb_btree.proofs.walk.page_pairs.Goals as goal
 

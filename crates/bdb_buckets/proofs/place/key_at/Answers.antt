@@ -1,7 +1,7 @@
 use Rattle.std.proofs.Common.{◌*◌, arith, ap, sym}
-use Rattle.bdb_format.specs.declared.metadata.Head.{Head}
-use Rattle.bdb_format.proofs.FileLemmas.{last_page}
-use Rattle.bdb_overflow.specs.Datum.{datum_seen}
+use Rattle.bdb_tree.specs.of_format.declared.metadata.Head.{Head}
+use Rattle.bdb_tree.proofs.of_format.FileLemmas.{last_page}
+use Rattle.bdb_tree.specs.of_overflow.Datum.{datum_seen}
 use Rattle.bdb_buckets.proofs.PairLemmas.{item_fits}
 use Rattle.bdb_buckets.proofs.PlaceKeyLemmas.{key_here, no_page}
 use Rattle.bdb_buckets.proofs.place.key_at.Goals as goal

@@ -1,8 +1,8 @@
 use Rattle.std.proofs.Common.{◌≡◌, ◌≤◌, ap, arith}
-use Rattle.bdb_graph.proofs.LinkedLemmas.{bucket_few}
+use Rattle.bdb_tree.proofs.of_graph.LinkedLemmas.{bucket_few}
 use Rattle.bdb_buckets.proofs.TableLemmas.{table_is}
-use Rattle.bdb_format.specs.declared.metadata.Head.{Head}
-use Rattle.bdb_format.specs.HeadOf.{head_of}
+use Rattle.bdb_tree.specs.of_format.declared.metadata.Head.{Head}
+use Rattle.bdb_tree.specs.of_format.HeadOf.{head_of}
 use Rattle.bdb_buckets.proofs.table.buckets.Goals as goal
 
 -- The greatest bucket has a page, whose number isn't less.

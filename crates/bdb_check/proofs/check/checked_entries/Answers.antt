@@ -1,7 +1,7 @@
 use Rattle.std.proofs.Common.{[], ◌∷◌, sym, ◌∙◌}
 use Rattle.bdb_recno.proofs.of_faults.SinkLemmas.{none_first}
-use Rattle.bdb_rows.specs.AnyOrder.{stages_by}
-use Rattle.bdb_rows.proofs.OrderLemmas.{first_by}
+use Rattle.bdb_any_order.specs.AnyOrder.{stages_by}
+use Rattle.bdb_any_order.proofs.OrderLemmas.{first_by}
 use Rattle.bdb_check.proofs.check.checked_entries.Goals as goal
 
 pub returns-in-None-clause-accepted : goal.returns-in-None-clause-accepted

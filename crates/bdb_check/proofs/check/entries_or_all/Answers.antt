@@ -1,7 +1,7 @@
 use Rattle.std.proofs.Common.{[], ◌∷◌}
 use Rattle.bdb_recno.proofs.of_faults.ListLemmas.{all_accepted, all_one, all_refused}
-use Rattle.bdb_rows.specs.AnyOrder.{stages_by}
-use Rattle.bdb_rows.proofs.OrderLemmas.{listed, rows_ascend}
+use Rattle.bdb_any_order.specs.AnyOrder.{stages_by}
+use Rattle.bdb_any_order.proofs.OrderLemmas.{listed, rows_ascend}
 use Rattle.bdb_check.proofs.check.entries_or_all.Goals as goal
 
 pub refused_by-requires : goal.refused_by-requires

@@ -1,4 +1,4 @@
-use Rattle.bdb_rows.proofs.OrderLemmas.{all_contents}
+use Rattle.bdb_any_order.proofs.OrderLemmas.{all_contents}
 use Rattle.bdb_check.proofs.contents.note_all.Goals as goal
 
 pub returns : goal.returns

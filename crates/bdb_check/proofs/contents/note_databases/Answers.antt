@@ -3,8 +3,8 @@ use Rattle.bdb_recno.specs.of_format.File.{file_of}
 use Rattle.bdb_recno.specs.of_image.Linked.{meta_pages}
 use Rattle.bdb_recno.specs.of_image.Metas.{meta_seen}
 use Rattle.bdb_recno.proofs.of_faults.SinkLemmas.{notes_none}
-use Rattle.bdb_rows.specs.Noted.{asked_on, is_asked, is_master}
-use Rattle.bdb_rows.proofs.DatabaseLemmas.{database_more, database_passed, master_there}
+use Rattle.bdb_any_order.specs.Noted.{asked_on, is_asked, is_master}
+use Rattle.bdb_any_order.proofs.DatabaseLemmas.{database_more, database_passed, master_there}
 use Rattle.bdb_recno.proofs.of_tree.ListedLemmas.{no_more}
 use Rattle.bdb_check.proofs.contents.note_databases.Goals as goal
 use Rattle.bdb_check.proofs.contents.note_databases.Goals.{then-is_asked+in_ok-note_database, else-is_asked}

@@ -3,7 +3,7 @@ use Rattle.std.specs.List.{flat_map}
 use Rattle.bdb_recno.specs.of_format.File.{file_of}
 use Rattle.bdb_recno.specs.of_faults.Notes.{NotesAll}
 use Rattle.bdb_recno.specs.of_image.Linked.{meta_pages}
-use Rattle.bdb_rows.specs.Noted.{asked_on}
+use Rattle.bdb_any_order.specs.Noted.{asked_on}
 use Rattle.bdb_check.proofs.contents.note_databases.Given as goal
 
 -- The faults of those databases so far that are asked for are noted.

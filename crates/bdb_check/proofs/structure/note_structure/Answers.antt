@@ -1,5 +1,5 @@
 use Rattle.bdb_recno.specs.of_format.File.{file_of}
-use Rattle.bdb_rows.proofs.MergeLemmas.{structure_noted}
+use Rattle.bdb_any_order.proofs.MergeLemmas.{structure_noted}
 use Rattle.bdb_check.proofs.structure.note_structure.Goals as goal
 
 pub returns : goal.returns

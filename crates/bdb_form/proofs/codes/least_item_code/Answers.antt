@@ -1,7 +1,7 @@
 use Rattle.std.proofs.Common.{ℕ, Option, ◌≡◌, ◌∙◌, rules}
-use Rattle.bdb_format.specs.Reading.{entries_of}
-use Rattle.bdb_format.specs.Rows.{item_row}
-use Rattle.bdb_format.proofs.ItemLemmas.{least_below, least_items}
+use Rattle.bdb_layout.specs.of_format.Reading.{entries_of}
+use Rattle.bdb_layout.specs.of_format.Rows.{item_row}
+use Rattle.bdb_layout.proofs.of_format.ItemLemmas.{least_below, least_items}
 use Rattle.bdb_form.proofs.codes.least_item_code.Goals as goal
 
 -- The least of all items is the first of the rows on all of them.

@@ -1,6 +1,6 @@
 use Rattle.std.proofs.Common.{◌≡◌}
-use Rattle.bdb_format.specs.Rows.{item_row}
-use Rattle.bdb_format.proofs.ItemLemmas.{least_below}
+use Rattle.bdb_layout.specs.of_format.Rows.{item_row}
+use Rattle.bdb_layout.proofs.of_format.ItemLemmas.{least_below}
 use Rattle.bdb_form.proofs.codes.least_item_code.Given as goal
 
 -- The least code of the items so far.

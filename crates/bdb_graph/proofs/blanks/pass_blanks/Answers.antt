@@ -1,7 +1,7 @@
 use Rattle.std.proofs.Common.{◌≤◌, ap, arith, subst, sym}
-use Rattle.bdb_format.specs.declared.metadata.Head.{Head}
-use Rattle.bdb_format.specs.File.{file_of}
-use Rattle.bdb_format.proofs.FileLemmas.{last_page}
+use Rattle.bdb_image.specs.of_format.declared.metadata.Head.{Head}
+use Rattle.bdb_image.specs.of_format.File.{file_of}
+use Rattle.bdb_image.proofs.of_format.FileLemmas.{last_page}
 use Rattle.bdb_graph.specs.Blanks.{ArePassed, IsAfter}
 use Rattle.bdb_graph.proofs.BlankLemmas.{next_after, same_page}
 use Rattle.bdb_graph.proofs.blanks.pass_blanks.Goals as goal

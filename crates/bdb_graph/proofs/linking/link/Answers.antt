@@ -1,6 +1,6 @@
 use Rattle.std.proofs.Common.{◌≡◌, ◌∙◌, [], ◌∷◌, sym}
 use Rattle.bdb_image.proofs.of_faults.SinkLemmas.{first_of_stages, none_first}
-use Rattle.bdb_format.specs.Verdict.{faults_in}
+use Rattle.bdb_image.specs.of_format.Verdict.{faults_in}
 use Rattle.bdb_graph.proofs.linking.link.Goals as goal
 
 pub returns-in-Some-clause-refusal : goal.returns-in-Some-clause-refusal

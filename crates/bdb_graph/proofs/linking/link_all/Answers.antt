@@ -1,7 +1,7 @@
 use Rattle.std.proofs.Common.{rules, ◌≡◌, [], ◌∷◌, subst, sym}
 use Rattle.std.specs.Prelude.{Err, IfErr}
 use Rattle.bdb_image.specs.of_faults.All.{IsAllOf}
-use Rattle.bdb_format.specs.Verdict.{faults_in}
+use Rattle.bdb_image.specs.of_format.Verdict.{faults_in}
 use Rattle.bdb_image.proofs.NotedLemmas.{all_found, none_found, one_found}
 use Rattle.bdb_graph.proofs.linking.link_all.Goals as goal
 

@@ -1,8 +1,8 @@
 use Rattle.std.proofs.Common.{◌≡◌, ◌∙◌, arith, ap, refl, subst, sym}
-use Rattle.bdb_format.specs.File.{file_of}
-use Rattle.bdb_format.specs.Verdict.{holding, ownership_rows}
-use Rattle.bdb_format.specs.declared.metadata.Head.{Head}
-use Rattle.bdb_format.proofs.FileLemmas.{last_page}
+use Rattle.bdb_image.specs.of_format.File.{file_of}
+use Rattle.bdb_image.specs.of_format.Verdict.{holding, ownership_rows}
+use Rattle.bdb_image.specs.of_format.declared.metadata.Head.{Head}
+use Rattle.bdb_image.proofs.of_format.FileLemmas.{last_page}
 use Rattle.bdb_image.proofs.NotedLemmas.{none_noted, owners_noted, page_noted}
 use Rattle.bdb_graph.specs.Owned.{AreFew}
 use Rattle.bdb_graph.proofs.OwnedLemmas.{none_few, one_more_few}

@@ -1,9 +1,9 @@
 use Rattle.std.proofs.Common.{◌≡◌, ◌∙◌, ap, arith, length, sym}
 use Rattle.bdb_image.proofs.of_faults.SinkLemmas.{notes_none}
-use Rattle.bdb_format.specs.declared.metadata.Head.{Head}
-use Rattle.bdb_format.specs.File.{file_of}
-use Rattle.bdb_format.specs.Verdict.{holding, reach_rows}
-use Rattle.bdb_format.proofs.FileLemmas.{last_page}
+use Rattle.bdb_image.specs.of_format.declared.metadata.Head.{Head}
+use Rattle.bdb_image.specs.of_format.File.{file_of}
+use Rattle.bdb_image.specs.of_format.Verdict.{holding, reach_rows}
+use Rattle.bdb_image.proofs.of_format.FileLemmas.{last_page}
 use Rattle.bdb_graph.proofs.MarkLemmas.{none_marked}
 use Rattle.bdb_image.proofs.NotedLemmas.{page_noted, reach_noted, reached_noted}
 use Rattle.bdb_graph.proofs.TallyLemmas.{written_back}

@@ -1,5 +1,5 @@
 use Rattle.std.proofs.Common.{◌≡◌, ℕ, ◌+◌, ◌<◌, ◌≤◌, true, get_or}
-use Rattle.bdb_overflow.specs.of_slots.Slots.{no_internal_item}
+use Rattle.test_images.specs.of_slots.Slots.{no_internal_item}
 use Rattle.bdb_graph_tests.specs.Sought.{is_above}
 use Rattle.bdb_graph_tests.proofs.descents.stays_true.Given as goal
 

@@ -1,7 +1,7 @@
 use Rattle.std.proofs.Common.{◌≡◌, ◌∙◌, ap, arith, sym}
-use Rattle.bdb_format.specs.declared.metadata.Head.{Head}
-use Rattle.bdb_format.specs.File.{file_of}
-use Rattle.bdb_format.proofs.FileLemmas.{last_page}
+use Rattle.bdb_faults.specs.of_format.declared.metadata.Head.{Head}
+use Rattle.bdb_faults.specs.of_format.File.{file_of}
+use Rattle.bdb_faults.proofs.of_format.FileLemmas.{last_page}
 use Rattle.std.specs.Option.{option_map}
 use Rattle.bdb_faults.specs.Rows.{reference_code}
 use Rattle.bdb_image.proofs.FitLemmas.{names_page}

@@ -3,9 +3,9 @@ use Rattle.std.specs.Prelude.{None}
 use Rattle.bdb_faults.specs.Cases.{fault_of_head}
 use Rattle.bdb_faults.specs.Notes.{Notes, NotesAll}
 use Rattle.bdb_faults.proofs.SinkLemmas.{notes_one}
-use Rattle.bdb_format.specs.HeadOf.{head_fault, head_of, head_rows}
-use Rattle.bdb_format.specs.Table.{first_row}
-use Rattle.bdb_format.specs.declared.kinds.Fault.{Fault}
+use Rattle.bdb_faults.specs.of_format.HeadOf.{head_fault, head_of, head_rows}
+use Rattle.bdb_faults.specs.of_format.Table.{first_row}
+use Rattle.bdb_faults.specs.of_format.declared.kinds.Fault.{Fault}
 use Rattle.bdb_image.proofs.FirstLemmas.{faulted_value}
 use Rattle.bdb_image.proofs.NotedLemmas.{head_refused}
 use Rattle.bdb_image.proofs.open.note_form.Goals as goal

@@ -1,7 +1,7 @@
 use Rattle.std.proofs.Common.{[], ◌∷◌, subst}
 use Rattle.bdb_faults.specs.Notes.{Notes}
-use Rattle.bdb_format.specs.declared.kinds.Fault.{Fault}
-use Rattle.bdb_format.specs.Rows.{form_code}
+use Rattle.bdb_faults.specs.of_format.declared.kinds.Fault.{Fault}
+use Rattle.bdb_faults.specs.of_format.Rows.{form_code}
 use Rattle.bdb_image.proofs.NotedLemmas.{form_noted, form_passed}
 use Rattle.bdb_image.proofs.open.note_page.Goals as goal
 

@@ -2,7 +2,7 @@ use Rattle.std.proofs.Common.{◌∙◌, [], ◌∷◌, ap}
 use Rattle.std.specs.Prelude.{Some}
 use Rattle.std.specs.Option.{option_map}
 use Rattle.bdb_faults.proofs.SinkLemmas.{first_of_stages, none_first}
-use Rattle.bdb_format.specs.Verdict.{as_verdict, faults_in, judgement_of}
+use Rattle.bdb_faults.specs.of_format.Verdict.{as_verdict, faults_in, judgement_of}
 use Rattle.bdb_image.proofs.open.open_image.Goals as goal
 
 pub formed_by-requires-clause-form : goal.formed_by-requires-clause-form

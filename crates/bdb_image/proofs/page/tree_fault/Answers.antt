@@ -1,7 +1,7 @@
 use Rattle.std.proofs.Common.{◌∙◌, ap, arith, sym}
 use Rattle.std.specs.Option.{option_map}
-use Rattle.bdb_format.specs.declared.metadata.FileKind.TheVariants.{Btree, Hash}
-use Rattle.bdb_format.specs.HeadOf.{form_fault}
+use Rattle.bdb_faults.specs.of_format.declared.metadata.FileKind.TheVariants.{Btree, Hash}
+use Rattle.bdb_faults.specs.of_format.HeadOf.{form_fault}
 use Rattle.bdb_image.proofs.CodeLemmas.{tree_metadata, tree_passed, tree_refused}
 use Rattle.bdb_image.proofs.page.tree_fault.Goals as goal
 

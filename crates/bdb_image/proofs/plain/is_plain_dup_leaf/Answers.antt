@@ -1,6 +1,6 @@
 use Rattle.std.proofs.Common.{◌∙◌, ap, sym}
 use Rattle.bdb_meta.specs.of_layout.Seen.{leaf_item_seen}
-use Rattle.bdb_format.specs.References.{content_targets}
+use Rattle.bdb_faults.specs.of_format.References.{content_targets}
 use Rattle.bdb_slots.proofs.PlainLemmas.{one_more}
 use Rattle.bdb_image.proofs.plain.is_plain_dup_leaf.Goals as goal
 

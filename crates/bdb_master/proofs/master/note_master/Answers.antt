@@ -1,5 +1,5 @@
 use Rattle.std.proofs.Common.{sym, subst}
-use Rattle.bdb_faults.specs.Notes.{NotesAll}
+use Rattle.bdb_btree.specs.of_faults.Notes.{NotesAll}
 use Rattle.bdb_master.specs.Entries.{by_repeat}
 use Rattle.bdb_master.proofs.MasterLemmas.{master_noted}
 use Rattle.bdb_master.proofs.master.note_master.Goals as goal

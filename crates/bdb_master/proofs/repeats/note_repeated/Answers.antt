@@ -2,10 +2,10 @@ use Rattle.std.proofs.Common.{List, ℕ, sym, ◌∙◌, ap, subst}
 use Rattle.std.specs.Option.{option_to_list}
 use Rattle.bdb_btree.specs.Held.{AreKeyed, pair_held}
 use Rattle.bdb_btree.proofs.HeldLemmas.{first_keyed, rest_keyed}
-use Rattle.bdb_faults.specs.Notes.{Notes}
+use Rattle.bdb_btree.specs.of_faults.Notes.{Notes}
 use Rattle.bdb_master.proofs.RepeatLemmas.{IsNoted, begun, noted_on}
-use Rattle.bdb_format.specs.Chains.{value_of}
-use Rattle.bdb_format.specs.File.{File, file_of}
+use Rattle.bdb_btree.specs.of_format.Chains.{value_of}
+use Rattle.bdb_btree.specs.of_format.File.{File, file_of}
 use Rattle.bdb_btree.specs.of_overflow.Held.{FitsHeld, value_held}
 use Rattle.bdb_master.proofs.repeats.note_repeated.Goals as goal
 

@@ -1,8 +1,8 @@
 use Rattle.std.proofs.Common.{arith, subst}
 use Rattle.std.proofs.lemmas.List.{take_all}
-use Rattle.bdb_format.specs.File.{file_of}
-use Rattle.bdb_faults.specs.Notes.{NotesAll}
-use Rattle.bdb_faults.proofs.SinkLemmas.{notes_none}
+use Rattle.bdb_btree.specs.of_format.File.{file_of}
+use Rattle.bdb_btree.specs.of_faults.Notes.{NotesAll}
+use Rattle.bdb_btree.proofs.of_faults.SinkLemmas.{notes_none}
 use Rattle.bdb_master.specs.Entries.{by_target}
 use Rattle.bdb_master.proofs.TargetLemmas.{target_more}
 use Rattle.bdb_master.proofs.targets.note_targets.Goals as goal

@@ -1,8 +1,8 @@
 use Rattle.std.proofs.Common.{◌∙◌, sym}
 use Rattle.bdb_graph.proofs.of_faults.SinkLemmas.{first_found, none_first}
-use Rattle.bdb_format.proofs.FaultLemmas.{chains_in_order}
-use Rattle.bdb_format.specs.File.{file_of}
-use Rattle.bdb_format.specs.Verdict.{chain_faults}
+use Rattle.bdb_graph.proofs.of_format.FaultLemmas.{chains_in_order}
+use Rattle.bdb_graph.specs.of_format.File.{file_of}
+use Rattle.bdb_graph.specs.of_format.Verdict.{chain_faults}
 use Rattle.bdb_overflow.proofs.check.check_chains.Goals as goal
 
 pub returns-in-None-clause-accepted : goal.returns-in-None-clause-accepted

@@ -1,7 +1,7 @@
 use Rattle.std.proofs.Common.{◌≡◌, ◌+◌, ◌∙◌, ap, arith, sym}
-use Rattle.bdb_format.specs.declared.metadata.Head.{Head}
-use Rattle.bdb_format.specs.File.{file_of}
-use Rattle.bdb_format.proofs.FileLemmas.{last_page}
+use Rattle.bdb_graph.specs.of_format.declared.metadata.Head.{Head}
+use Rattle.bdb_graph.specs.of_format.File.{file_of}
+use Rattle.bdb_graph.proofs.of_format.FileLemmas.{last_page}
 use Rattle.bdb_overflow.proofs.ChainLemmas.{all_below, one_below}
 use Rattle.bdb_overflow.proofs.check.note_pages.Goals as goal
 

@@ -1,5 +1,5 @@
 use Rattle.std.proofs.Common.{arith, sym}
-use Rattle.bdb_format.specs.File.{file_of}
+use Rattle.bdb_graph.specs.of_format.File.{file_of}
 use Rattle.bdb_overflow.proofs.LengthLemmas.{hash_none, hash_some}
 use Rattle.bdb_overflow.proofs.lengths.hash_items_have_wrong.Goals as goal
 

@@ -1,4 +1,4 @@
-use Rattle.bdb_format.specs.File.{file_of}
+use Rattle.bdb_graph.specs.of_format.File.{file_of}
 use Rattle.bdb_overflow.specs.Lengths.{is_wrong_item}
 use Rattle.bdb_overflow.proofs.LengthLemmas.{NoneBelow}
 use Rattle.bdb_overflow.proofs.lengths.hash_items_have_wrong.Given as goal

@@ -1,5 +1,5 @@
 use Rattle.std.proofs.Common.{arith, sym}
-use Rattle.bdb_format.specs.File.{file_of}
+use Rattle.bdb_graph.specs.of_format.File.{file_of}
 use Rattle.bdb_overflow.proofs.LengthLemmas.{keys_none, keys_some}
 use Rattle.bdb_overflow.proofs.lengths.keys_have_wrong.Goals as goal
 

@@ -1,5 +1,5 @@
 use Rattle.std.proofs.Common.{◌*◌}
-use Rattle.bdb_format.specs.File.{file_of}
+use Rattle.bdb_graph.specs.of_format.File.{file_of}
 use Rattle.bdb_overflow.specs.Lengths.{is_wrong_entry}
 use Rattle.bdb_overflow.proofs.LengthLemmas.{NoneBelow}
 use Rattle.bdb_overflow.proofs.lengths.leaf_has_wrong.Given as goal

@@ -1,7 +1,7 @@
 use Rattle.std.proofs.Common.{arith, ap, ◌∙◌, ◌≤◌}
 use Rattle.std.proofs.lemmas.Nat.{mod_below}
-use Rattle.bdb_format.specs.declared.metadata.Head.{Head}
-use Rattle.bdb_format.proofs.FileLemmas.{last_page}
+use Rattle.bdb_overflow.specs.of_format.declared.metadata.Head.{Head}
+use Rattle.bdb_overflow.proofs.of_format.FileLemmas.{last_page}
 use Rattle.bdb_queue.specs.Records.{data_in}
 use Rattle.bdb_queue.proofs.FindLemmas.{none_past, record_under}
 use Rattle.bdb_queue.proofs.QueueLemmas.{some_slots}

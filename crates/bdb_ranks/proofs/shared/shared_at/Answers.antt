@@ -1,5 +1,5 @@
 use Rattle.std.proofs.Common.{sym, ◌∙◌, ap}
-use Rattle.bdb_format.specs.declared.pages.Header.{Header}
+use Rattle.bdb_tree.specs.of_format.declared.pages.Header.{Header}
 use Rattle.bdb_ranks.proofs.HeadLemmas.{head_fits}
 use Rattle.bdb_ranks.proofs.shared.shared_at.Goals as goal
 

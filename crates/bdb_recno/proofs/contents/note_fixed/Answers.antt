@@ -1,7 +1,7 @@
 use Rattle.std.proofs.Common.{◌∙◌, sym}
-use Rattle.bdb_format.specs.File.{file_of}
-use Rattle.bdb_format.specs.Flags.{is_fixed}
-use Rattle.bdb_format.specs.Leaves.{leaves}
+use Rattle.bdb_tree.specs.of_format.File.{file_of}
+use Rattle.bdb_tree.specs.of_format.Flags.{is_fixed}
+use Rattle.bdb_tree.specs.of_format.Leaves.{leaves}
 use Rattle.bdb_recno.specs.Noted.{length_faults}
 use Rattle.bdb_recno.proofs.ContentsLemmas.{lengths_noted}
 use Rattle.bdb_recno.proofs.contents.note_fixed.Goals as goal

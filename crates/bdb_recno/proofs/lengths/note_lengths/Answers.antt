@@ -1,8 +1,8 @@
 use Rattle.std.proofs.Common.{◌∙◌, [], ◌∷◌, ◌++◌, List, ℕ, ap, append-nil, append_assoc, subst, sym}
 use Rattle.bdb_tree.specs.of_faults.Notes.{NotesAll}
 use Rattle.bdb_tree.proofs.of_faults.SinkLemmas.{notes_none}
-use Rattle.bdb_format.specs.ContentRows.{has_wrong_record}
-use Rattle.bdb_format.specs.File.{file_of}
+use Rattle.bdb_tree.specs.of_format.ContentRows.{has_wrong_record}
+use Rattle.bdb_tree.specs.of_format.File.{file_of}
 use Rattle.bdb_recno.specs.Noted.{length_faults}
 use Rattle.bdb_tree.specs.of_faults.declared.rows.ContentsRow.TheVariants.{RecordLength}
 use Rattle.bdb_recno.proofs.NotedLemmas.{page_noted}

@@ -13,7 +13,7 @@ loop-page-preserved c =
       c.loop-page-test.true,
       c.count-page-end.ensures.count,
       ap
-          (λ (f : Rattle.bdb_format.specs.File.File). f.count) c.pages.ensures,
+          (λ (f : Rattle.bdb_text_format.specs.of_format.File.File). f.count) c.pages.ensures,
     ) in
     c.in_ok-keep_loose.ensures
     ∙ (ap (λ b. c.loop-page.kept.items ++ cond b [] (values_on c.args.survey.now c.loop-page.page)) (c.is_marked.ensures ∙ c.requires.at c.loop-page.page there)

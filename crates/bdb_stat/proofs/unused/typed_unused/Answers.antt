@@ -1,7 +1,7 @@
 use Rattle.std.proofs.Common.{◌∙◌, arith, length, refl}
 use Rattle.std.proofs.lemmas.Bool.Decides.{nat_tests}
-use Rattle.bdb_image.specs.of_format.Numbers.{byte_at}
-use Rattle.bdb_image.specs.of_format.Page.{HashPage, InternalPage, RecnoInternalPage, LeafPage, RecnoLeafPage, OverflowPage, DupLeafPage}
+use Rattle.bdb_turned.specs.of_format.Numbers.{byte_at}
+use Rattle.bdb_turned.specs.of_format.Page.{HashPage, InternalPage, RecnoInternalPage, LeafPage, RecnoLeafPage, OverflowPage, DupLeafPage}
 use Rattle.bdb_stat.specs.Unused.{unused_in}
 use Rattle.bdb_stat.proofs.ItemLemmas.{internal_outside, internals_placed, leaf_outside, leaves_placed, recno_outside, recnos_placed}
 use Rattle.bdb_stat.proofs.TypedLemmas.{by_type, chain_unused, nothing_unused}

@@ -1,5 +1,5 @@
 use Rattle.std.proofs.Common.{◌∙◌, ◌<◌, arith, sym}
-use Rattle.bdb_image.proofs.FormedLemmas.{accepted_paged}
+use Rattle.bdb_turned.proofs.of_image.FormedLemmas.{accepted_paged}
 use Rattle.bdb_stat.proofs.PageLemmas.{accepted_as, formed_at, nothing_above, some_on, zero_on}
 use Rattle.bdb_stat.proofs.unused.unused_on.Goals as goal
 

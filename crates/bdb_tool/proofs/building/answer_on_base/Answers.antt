@@ -1,5 +1,5 @@
 use Rattle.bdb_tool_build.specs.Ontos.{IsTextOnto}
-use Rattle.bdb_tool.proofs.AnswerLemmas.{refusal_ends, written_ends}
+use Rattle.bdb_tool.proofs.BuiltLemmas.{refusal_ends, written_ends}
 use Rattle.bdb_tool.proofs.building.answer_on_base.Goals as goal
 
 pub returns-in-Ok : goal.returns-in-Ok

@@ -1,5 +1,5 @@
 use Rattle.bdb_tool_build.specs.Trials.{IsTrialAnswer}
-use Rattle.bdb_tool.proofs.AnswerLemmas.{refusal_ends, written_ends}
+use Rattle.bdb_tool.proofs.BuiltLemmas.{refusal_ends, written_ends}
 use Rattle.bdb_tool.proofs.building.answer_trial.Goals as goal
 
 pub returns-in-Ok : goal.returns-in-Ok

@@ -1,6 +1,6 @@
 use Rattle.std.proofs.Common.{ap}
 use Rattle.std.specs.Prelude.{Err}
-use Rattle.bdb_tool.proofs.AnswerLemmas.{no_meta_finishes, salvage_finishes}
+use Rattle.bdb_tool.proofs.BuiltLemmas.{no_meta_finishes, salvage_finishes}
 use Rattle.bdb_tool.proofs.salvaging.answer_salvage.Goals as goal
 
 pub returns-in-Ok : goal.returns-in-Ok

@@ -1,5 +1,5 @@
 use Rattle.std.proofs.Common.{ap, sym, ◌∙◌}
-use Rattle.bdb_onto.specs.of_overflow.Datum.{key_view_seen}
+use Rattle.bdb_file.specs.of_overflow.Datum.{key_view_seen}
 use Rattle.bdb_model.specs.of_text_format.Placed.{key_seen, pair_seen, slice_seen}
 use Rattle.bdb_tool_build.specs.Ontos.{list_key}
 use Rattle.bdb_tool_build.proofs.CopiedLemmas.{ends_at}

@@ -1,15 +1,15 @@
 use Rattle.std.proofs.Common.{◌≡◌, ℕ, List, inl, map, subst, sym}
 use Rattle.std.specs.List.{flat_map}
-use Rattle.bdb_format.specs.Contents.{pairs_of}
-use Rattle.bdb_format.specs.File.{file_of}
-use Rattle.bdb_format.specs.Leaves.{leaves}
-use Rattle.bdb_format.specs.Lists.{btree_list}
-use Rattle.bdb_onto.specs.of_image.Linked.{FitsTreeRoot}
-use Rattle.bdb_onto.specs.of_btree.Pairs.{AreLeaves}
+use Rattle.bdb_model.specs.of_format.Contents.{pairs_of}
+use Rattle.bdb_model.specs.of_format.File.{file_of}
+use Rattle.bdb_model.specs.of_format.Leaves.{leaves}
+use Rattle.bdb_model.specs.of_format.Lists.{btree_list}
+use Rattle.bdb_file.specs.of_image.Linked.{FitsTreeRoot}
+use Rattle.bdb_file.specs.of_btree.Pairs.{AreLeaves}
 use Rattle.bdb_onto.specs.Bases.{text_pair}
 use Rattle.bdb_tool_build.specs.Copied.{Follow}
 use Rattle.bdb_tool_build.proofs.TreeLemmas.{last_follow, leaf_on, list_begins, next_follow, tree_follows}
-use Rattle.bdb_onto.proofs.of_btree.WalkLemmas.{are_leaves}
+use Rattle.bdb_file.proofs.of_btree.WalkLemmas.{are_leaves}
 use Rattle.bdb_tool_build.proofs.tree.btree_pairs.Goals as goal
 
 pub loop-leaf-init : goal.loop-leaf-init

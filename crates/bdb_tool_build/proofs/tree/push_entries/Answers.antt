@@ -1,7 +1,7 @@
 use Rattle.std.proofs.Common.{ℕ, List}
-use Rattle.bdb_format.specs.Lists.{ListKey}
-use Rattle.bdb_onto.specs.of_overflow.Datum.{datum_seen, key_view_seen}
-use Rattle.bdb_onto.specs.of_btree.Pairs.{left_of}
+use Rattle.bdb_model.specs.of_format.Lists.{ListKey}
+use Rattle.bdb_file.specs.of_overflow.Datum.{datum_seen, key_view_seen}
+use Rattle.bdb_file.specs.of_btree.Pairs.{left_of}
 use Rattle.bdb_tool_build.proofs.CopiedLemmas.{first_pushed, of_last}
 use Rattle.bdb_tool_build.proofs.tree.push_entries.Goals as goal
 

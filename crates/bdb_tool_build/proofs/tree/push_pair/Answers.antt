@@ -1,7 +1,7 @@
 use Rattle.std.proofs.Common.{arith}
-use Rattle.bdb_format.specs.File.{file_of}
-use Rattle.bdb_onto.specs.of_overflow.Datum.{datum_seen}
-use Rattle.bdb_onto.specs.of_btree.Pairs.{left_of, pair_seen}
+use Rattle.bdb_model.specs.of_format.File.{file_of}
+use Rattle.bdb_file.specs.of_overflow.Datum.{datum_seen}
+use Rattle.bdb_file.specs.of_btree.Pairs.{left_of, pair_seen}
 use Rattle.bdb_model.specs.of_text_format.declared.pairs.Key.TheVariants.{Bytes}
 use Rattle.bdb_tool_build.proofs.CopiedLemmas.{known_key, not_false, of_ends}
 use Rattle.bdb_tool_build.proofs.TreeLemmas.{pair_key}

@@ -1,8 +1,8 @@
 use Rattle.std.proofs.Common.{◌∙◌, sym}
-use Rattle.bdb_faults.proofs.SinkLemmas.{first_found, none_first}
-use Rattle.bdb_format.proofs.FaultLemmas.{leaves_in_order}
-use Rattle.bdb_format.specs.File.{file_of}
-use Rattle.bdb_format.specs.Verdict.{tree_faults}
+use Rattle.bdb_overflow.proofs.of_faults.SinkLemmas.{first_found, none_first}
+use Rattle.bdb_overflow.proofs.of_format.FaultLemmas.{leaves_in_order}
+use Rattle.bdb_overflow.specs.of_format.File.{file_of}
+use Rattle.bdb_overflow.specs.of_format.Verdict.{tree_faults}
 use Rattle.bdb_tree.proofs.check.check_trees.Goals as goal
 
 pub returns-in-None-clause-accepted : goal.returns-in-None-clause-accepted

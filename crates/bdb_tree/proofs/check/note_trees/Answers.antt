@@ -1,9 +1,9 @@
 use Rattle.std.proofs.Common.{◌+◌, List, ℕ, subst}
-use Rattle.bdb_faults.specs.Notes.{NotesAll}
-use Rattle.bdb_faults.proofs.SinkLemmas.{notes_both, notes_same}
+use Rattle.bdb_overflow.specs.of_faults.Notes.{NotesAll}
+use Rattle.bdb_overflow.proofs.of_faults.SinkLemmas.{notes_both, notes_same}
 use Rattle.std.specs.List.{flat_map, range_with_len}
-use Rattle.bdb_format.specs.File.{file_of}
-use Rattle.bdb_format.specs.Verdict.{tree_faults}
+use Rattle.bdb_overflow.specs.of_format.File.{file_of}
+use Rattle.bdb_overflow.specs.of_format.Verdict.{tree_faults}
 use Rattle.bdb_overflow.specs.of_image.Linked.{meta_pages}
 use Rattle.bdb_tree.specs.Noted.{by_part, held_sets, meta_faults}
 use Rattle.bdb_tree.proofs.NotedLemmas.{parts_noted}

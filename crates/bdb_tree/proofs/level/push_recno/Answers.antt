@@ -1,5 +1,5 @@
 use Rattle.std.proofs.Common.{ap, ◌∙◌, ◌++◌, map}
-use Rattle.bdb_format.specs.declared.pages.RecnoItem.{RecnoItem}
+use Rattle.bdb_overflow.specs.of_format.declared.pages.RecnoItem.{RecnoItem}
 use Rattle.bdb_tree.proofs.LevelLemmas.{children_more}
 use Rattle.bdb_tree.proofs.level.push_recno.Goals as goal
 

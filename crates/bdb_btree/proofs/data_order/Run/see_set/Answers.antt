@@ -1,11 +1,11 @@
 use Rattle.std.proofs.Common.{◌≡◌, ◌∙◌, List, ℕ, ap, refl, subst, sym}
 use Rattle.std.specs.List.{fold}
-use Rattle.bdb_format.specs.Contents.{tree_entries}
-use Rattle.bdb_format.specs.File.{File, file_of}
-use Rattle.bdb_form.specs.of_layout.Seen.{leaf_item_seen}
-use Rattle.bdb_overflow.specs.Held.{FitsAny, FitsHeld, value_held}
-use Rattle.bdb_tree.specs.Entries.{AreFit}
-use Rattle.bdb_tree.proofs.EntryLemmas.{all_values, rest_fit}
+use Rattle.bdb_ranks.specs.of_format.Contents.{tree_entries}
+use Rattle.bdb_ranks.specs.of_format.File.{File, file_of}
+use Rattle.bdb_ranks.specs.of_layout.Seen.{leaf_item_seen}
+use Rattle.bdb_ranks.specs.of_overflow.Held.{FitsAny, FitsHeld, value_held}
+use Rattle.bdb_ranks.specs.of_tree.Entries.{AreFit}
+use Rattle.bdb_ranks.proofs.of_tree.EntryLemmas.{all_values, rest_fit}
 use Rattle.bdb_btree.specs.Held.{run_seen}
 use Rattle.bdb_btree.specs.Runs.{follow}
 use Rattle.bdb_btree.proofs.HeldLemmas.{first_entry_fits, set_more, set_passed}

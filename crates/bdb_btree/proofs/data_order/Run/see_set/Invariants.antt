@@ -1,10 +1,10 @@
 use Rattle.std.proofs.Common.{◌≡◌}
 use Rattle.std.specs.List.{fold}
-use Rattle.bdb_format.specs.Contents.{data_of}
-use Rattle.bdb_format.specs.File.{file_of}
-use Rattle.bdb_format.specs.Page.{Tree}
-use Rattle.bdb_overflow.specs.Held.{FitsAny}
-use Rattle.bdb_tree.specs.Entries.{AreFit, values_of}
+use Rattle.bdb_ranks.specs.of_format.Contents.{data_of}
+use Rattle.bdb_ranks.specs.of_format.File.{file_of}
+use Rattle.bdb_ranks.specs.of_format.Page.{Tree}
+use Rattle.bdb_ranks.specs.of_overflow.Held.{FitsAny}
+use Rattle.bdb_ranks.specs.of_tree.Entries.{AreFit, values_of}
 use Rattle.bdb_btree.specs.Held.{run_seen}
 use Rattle.bdb_btree.specs.Runs.{follow}
 use Rattle.bdb_btree.proofs.data_order.Run.see_set.Given as goal

@@ -1,6 +1,6 @@
 use Rattle.std.proofs.Common.{◌≡◌, length}
-use Rattle.bdb_format.specs.File.{file_of}
-use Rattle.bdb_overflow.specs.Datum.{datum_seen}
+use Rattle.bdb_ranks.specs.of_format.File.{file_of}
+use Rattle.bdb_ranks.specs.of_overflow.Datum.{datum_seen}
 use Rattle.bdb_btree.specs.Pairs.{left_of}
 use Rattle.bdb_btree.specs.Search.{AreOpen, found_left}
 use Rattle.bdb_btree.proofs.found.FoundIterator.next.Given as goal

@@ -1,6 +1,6 @@
 use Rattle.std.proofs.Common.{subst}
-use Rattle.bdb_graph.specs.of_layout.Seen.{hash_content_seen}
-use Rattle.bdb_overflow.specs.Datum.{datum_seen}
+use Rattle.bdb_tree.specs.of_layout.Seen.{hash_content_seen}
+use Rattle.bdb_tree.specs.of_overflow.Datum.{datum_seen}
 use Rattle.bdb_buckets.specs.Chained.{IsHead}
 use Rattle.bdb_buckets.specs.Told.{told_as}
 use Rattle.bdb_buckets.proofs.HeadLemmas.{is_head}

@@ -1,7 +1,7 @@
 use Rattle.std.proofs.Common.{◌≡◌, sym, ◌∙◌, ap, subst}
-use Rattle.bdb_graph.specs.of_form.Pairs.{pair_seen}
-use Rattle.bdb_graph.specs.of_layout.Seen.{hash_content_seen, hash_item_seen}
-use Rattle.bdb_overflow.specs.Datum.{datum_seen}
+use Rattle.bdb_tree.specs.of_form.Pairs.{pair_seen}
+use Rattle.bdb_tree.specs.of_layout.Seen.{hash_content_seen, hash_item_seen}
+use Rattle.bdb_tree.specs.of_overflow.Datum.{datum_seen}
 use Rattle.bdb_buckets.specs.Chained.{chain_head, head_on}
 use Rattle.bdb_buckets.specs.Places.{IsRead}
 use Rattle.bdb_buckets.specs.Told.{told_as, told_pair}

@@ -1,7 +1,7 @@
 use Rattle.std.proofs.Common.{◌≡◌, ◌∙◌, ap, arith, sym}
-use Rattle.bdb_format.specs.File.{file_of}
-use Rattle.bdb_format.specs.declared.metadata.Head.{Head}
-use Rattle.bdb_format.proofs.FileLemmas.{last_page}
+use Rattle.bdb_image.specs.of_format.File.{file_of}
+use Rattle.bdb_image.specs.of_format.declared.metadata.Head.{Head}
+use Rattle.bdb_image.proofs.of_format.FileLemmas.{last_page}
 use Rattle.bdb_graph.proofs.RunLemmas.{no_leap_yet}
 use Rattle.bdb_graph.proofs.table.BucketPages.of.Goals as goal
 

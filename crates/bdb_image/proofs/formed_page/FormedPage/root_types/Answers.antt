@@ -1,8 +1,8 @@
 use Rattle.std.proofs.Common.{cond, [], ◌∷◌, ◌∙◌, ap, sym}
 use Rattle.std.specs.Prelude.{not, bit_and, ◌==◌}
 use Rattle.std.proofs.lemmas.Bool.{ne_eqb}
-use Rattle.bdb_format.specs.Numbers.{has_bit}
-use Rattle.bdb_format.specs.References.{root_types}
+use Rattle.bdb_faults.specs.of_format.Numbers.{has_bit}
+use Rattle.bdb_faults.specs.of_format.References.{root_types}
 use Rattle.bdb_image.proofs.FitLemmas.{tree_root}
 use Rattle.bdb_image.proofs.formed_page.FormedPage.root_types.Goals as goal
 

@@ -1,8 +1,8 @@
 use Rattle.std.specs.Prelude.{◌≡◌, ◌/◌, ◌<◌, length}
 use Rattle.std.proofs.Common.{arith, sym, ◌∙◌, ap}
-use Rattle.bdb_overflow.specs.of_form.Seen.{page_seen}
-use Rattle.bdb_format.specs.File.{page_at}
-use Rattle.bdb_format.specs.Page.{NoType}
+use Rattle.bdb_law_sums.specs.of_form.Seen.{page_seen}
+use Rattle.bdb_law_sums.specs.of_format.File.{page_at}
+use Rattle.bdb_law_sums.specs.of_format.Page.{NoType}
 use Rattle.bdb_survey.proofs.PageLemmas.{answer_is, answer_page, answer_short}
 use Rattle.bdb_survey.proofs.whole_pages.WholePages.page.Goals as goal
 

@@ -1,5 +1,5 @@
 use Rattle.std.proofs.Common.{ap}
-use Rattle.bdb_model.specs.Answers.{pair_lines, pairs_text}
+use Rattle.bdb_tool_lines.specs.of_model.Answers.{pair_lines, pairs_text}
 use Rattle.bdb_tool_print.proofs.PrinterLemmas.{begins, cut_up, item_added, item_cut, items_added}
 use Rattle.bdb_tool_print.proofs.printing.Printer.range_lines.Goals as goal
 

@@ -1,5 +1,5 @@
 use Rattle.std.specs.List.{flat_map}
-use Rattle.bdb_model.specs.Answers.{pair_lines, pairs_text}
+use Rattle.bdb_tool_lines.specs.of_model.Answers.{pair_lines, pairs_text}
 use Rattle.bdb_tool_print.specs.Printers.{HasAdded}
 use Rattle.bdb_tool_print.proofs.printing.Printer.range_lines.Given as goal
 

@@ -1,0 +1,4 @@
+pub mod AnyOrder
+pub mod Contents
+pub mod Laws
+pub mod Noted

@@ -1,5 +1,0 @@
-use Rattle.std.proofs.Common.{◌∙◌, inl}
-use Rattle.bdb_tool.proofs.converting.tell_overlap.Goals as goal
-
-pub returns-in-Ok : goal.returns-in-Ok
-returns-in-Ok g c = let written = c.as_bytes.ensures.value ∙ c.in-Ok.ensures in inl (rw written at c.tell.ensures)

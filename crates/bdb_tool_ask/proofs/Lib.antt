@@ -1,0 +1,8 @@
+mod Below
+pub mod FinishLemmas
+pub mod TellingLemmas
+pub mod AnswerLemmas
+pub mod RangeLemmas
+pub mod ConvertLemmas
+pub mod FigureLemmas
+pub use Rattle.bdb_tool_print.proofs.of_tool_lines as of_tool_lines

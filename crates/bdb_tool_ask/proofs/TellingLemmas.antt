@@ -1,0 +1,112 @@
+-- What holds at the pages of a file is told.
+use Rattle.std.proofs.Common.{◌≡◌, ◌∙◌, ℕ, ◌<◌, List, [], ◌∷◌, length, map, inl, inr, refl, sym, subst, arith, ◌⊎◌}
+use Rattle.std.specs.Prelude.{Option, Ok, Err, Result}
+use Rattle.bdb_file.specs.of_faults.All.{IsAllOf}
+use Rattle.bdb_file.specs.of_faults.declared.named.AllError.{AllError}
+use Rattle.bdb_file.specs.of_faults.declared.named.AllError.TheVariants.{Faults}
+use Rattle.bdb_file.specs.of_any_order.AnyOrder.{faults_by_rows, verdict_by}
+use Rattle.bdb_file.specs.of_any_order.declared.rows.Rows.{Rows}
+use Rattle.bdb_file.specs.of_format.declared.kinds.Fault.{Fault}
+use Rattle.bdb_tool_print.specs.of_tool_lines.Printing.{Writes}
+use Rattle.bdb_tool_print.specs.of_tool_lines.Telling.{judgement_status, judgements_text}
+use Rattle.bdb_tool_print.specs.of_tool_lines.declared.cut.Cut.{Cut}
+use Rattle.bdb_tool_print.specs.of_tool_lines.declared.cut.Cut.TheVariants.{WriteFault}
+use Rattle.bdb_tool_print.proofs.of_tool_lines.PrintingLemmas.{moved}
+use Rattle.bdb_tool_print.specs.of_model.Change.{Change}
+use Rattle.bdb_tool_words.specs.Commands.{Request, Verify}
+use Rattle.bdb_tool_print.specs.of_model.Lines.{memory_line}
+use Rattle.bdb_file.specs.of_format.Verdict.{Faulty, Judgement, LeftOut, judgement_of}
+use Rattle.bdb_tool_ask.specs.FileAnswers.{asked_answer, first_status, verified}
+use Rattle.bdb_tool_ask.specs.Finished.{Finishes, HasOwnStatus, Tells}
+use Rattle.bdb_tool_ask.proofs.AnswerLemmas.{judged_own, low_own}
+use Rattle.bdb_tool_ask.proofs.FinishLemmas.{memory_finishes, told_finishes}
+
+-- Statuses.
+
+low_status : (judgement : Judgement) → (judgement_status judgement ≡ 1) ⊎ (judgement_status judgement ≡ 3)
+low_status (Faulty fault) = inl refl
+low_status (LeftOut name page) = inr refl
+
+pub not_write_fault : (judgement : Judgement) → judgement_status judgement ≡ 5 → ⊥
+not_write_fault judgement is = elim (low_status judgement) [ inl one ↦ omega arith | inr three ↦ omega arith ]
+
+pub list_not_write_fault : (judgements : List Judgement) → first_status judgements ≡ 5 → ⊥
+list_not_write_fault [] is = omega arith
+list_not_write_fault (judgement ∷ judgements) is = not_write_fault judgement is
+
+list_not_memory : (judgements : List Judgement) → first_status judgements ≡ 7 → ⊥
+list_not_memory [] is = omega arith
+list_not_memory (judgement ∷ judgements) is = elim (low_status judgement) [ inl one ↦ omega arith | inr three ↦ omega arith ]
+
+list_own : (judgements : List Judgement) → first_status judgements < 4
+list_own [] = omega arith
+list_own (judgement ∷ judgements) = elim (low_status judgement) [ inl one ↦ omega arith | inr three ↦ omega arith ]
+
+-- Lines.
+
+-- they were written whole
+pub told_whole : (text : List ℕ) (wanted status : ℕ) (err : Change) (result : Result Unit Cut) → result ≡ Ok tt → status ≡ wanted → (wanted ≡ 5 → ⊥)
+    → Writes text err result
+    → Tells text wanted err status
+told_whole text wanted status err result was is own writes = record {
+  status_is = inl is;
+  told = λ _. (subst (Writes text err) was writes).written;
+  failed = λ five. absurd (own (sym is ∙ five));
+  part = λ five. absurd (own (sym is ∙ five));
+}
+
+-- they were cut off
+pub told_in_part : (text : List ℕ) (wanted : ℕ) (err : Change) (result : Result Unit Cut) (cut : Cut) → result ≡ Err cut → cut ≡ WriteFault → (wanted ≡ 5 → ⊥)
+    → Writes text err result
+    → Tells text wanted err 5
+told_in_part text wanted err result cut was cause own writes =
+    let writes_cut : Writes text err (Err cut) = subst (Writes text err) was writes in record {
+      status_is = inr refl;
+      told = λ is. absurd (own (sym is));
+      failed = λ _. writes_cut.written.cause cause;
+      part = λ _. writes_cut.written.part;
+    }
+
+-- `verify`.
+
+pub verified_own : (faults : List Fault) (image : List ℕ) → HasOwnStatus (verified faults image)
+verified_own [] image = low_own (verified [] image) (omega arith)
+verified_own (fault ∷ faults) image = low_own (verified (fault ∷ faults) image) (list_own (map judgement_of (fault ∷ faults)))
+
+pub asked_own : (rows : Rows) (request : Request) (image : List ℕ) → HasOwnStatus (asked_answer rows request image)
+asked_own rows Verify image = verified_own (faults_by_rows rows image) image
+asked_own rows request image = judged_own (verdict_by rows image) request image
+
+-- a file without faults
+pub sound_verified : (faults : List Fault) (file image : List ℕ) (out err : Change) (status : ℕ) → faults ≡ [] → file ≡ image
+    → Finishes (verified [] file) out err status
+    → Finishes (verified faults image) out err status
+sound_verified faults file image out err status none same finishes =
+    subst (λ (found : List Fault). Finishes (verified found image) out err status) (sym none)
+    (subst (λ (bytes : List ℕ). Finishes (verified [] bytes) out err status) same finishes)
+
+all_of : (faults : List Fault) (error : AllError) (all : List Judgement) → error ≡ Faults all → IsAllOf faults error
+    → (0 < length faults) × (all ≡ map judgement_of faults)
+all_of faults error all is are = subst (IsAllOf faults) is are
+
+-- all faults were told
+faults_finish : (faults : List Fault) (image : List ℕ) (all : List Judgement) (written : Option (List ℕ)) (count : ℕ) (err : Change) (status : ℕ)
+    → (0 < length faults) × (all ≡ map judgement_of faults)
+    → (Tells (judgements_text all) (first_status all) err status ⊎ Tells memory_line 7 err status)
+    → Finishes (verified faults image) (moved written written count count) err status
+faults_finish [] image all written count err status are told = absurd (omega (arith, are.0))
+faults_finish (fault ∷ faults) image all written count err status are (inl tells) =
+    let list : List Judgement = map judgement_of (fault ∷ faults) in
+    told_finishes (first_status list) (judgements_text list) written count err status (list_not_write_fault list) (list_not_memory list)
+    (subst (λ (js : List Judgement). Tells (judgements_text js) (first_status js) err status) are.1 tells)
+faults_finish (fault ∷ faults) image all written count err status are (inr tells) =
+    memory_finishes (verified (fault ∷ faults) image) written count err status (verified_own (fault ∷ faults) image) tells
+
+-- the same, of a refusal
+pub all_finish : (faults : List Fault) (image : List ℕ) (error : AllError) (all : List Judgement) (written : Option (List ℕ)) (count : ℕ) (err : Change)
+    (status : ℕ)
+    → error ≡ Faults all → IsAllOf faults error
+    → (Tells (judgements_text all) (first_status all) err status ⊎ Tells memory_line 7 err status)
+    → Finishes (verified faults image) (moved written written count count) err status
+all_finish faults image error all written count err status is are told = faults_finish faults image all written count err status
+    (all_of faults error all is are) told

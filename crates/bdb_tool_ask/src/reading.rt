@@ -1,0 +1,160 @@
+//! The commands that read a file whose databases can be read, by the rows that count: `verify`, `list` and `dump`.
+ghost use Rattle.std.specs.Prelude.{◌≡◌, ◌≤◌, ◌^◌, IsTrue, List, Option, Some, is_some, length, option_copied, ℕ};
+ghost use Rattle.bdb_file.specs.of_any_order.AnyOrder.{faults_by_rows, verdict_by};
+ghost use Rattle.bdb_file.specs.of_format.HeadOf.{head_of};
+ghost use Rattle.bdb_tool_print.specs.of_tool_lines.Printing.{Writes};
+ghost use Rattle.bdb_tool_ask.specs.FileAnswers.{asked_answer, dumped, judged_answer, sound_line, verified};
+ghost use Rattle.bdb_tool_print.specs.of_model.Change.{change};
+ghost use Rattle.bdb_tool_words.specs.Commands.{Dump, ListAll, Request as ModelRequest, text_request};
+ghost use Rattle.bdb_tool_print.specs.of_model.Command.{asked_name};
+ghost use Rattle.bdb_tool_ask.specs.Finished.{Finishes};
+ghost use Rattle.bdb_tool_words.specs.WordsSeen.{reading_seen};
+
+use crate::dumping::{write_section, write_sections};
+use crate::finish::{put, report, tell, tell_memory};
+use crate::listing::write_list;
+use crate::spelled::name_sought;
+use crate::status::NOT_FOUND;
+use crate::telling::{refuse, tell_list};
+use crate::text::sound_line;
+use bdb_file::bdb_faults::AllError;
+use bdb_file::bdb_format::Steps;
+use bdb_swap::bdb_io::Sink;
+use bdb_tool_print::bdb_tool_lines::Cut;
+use bdb_tool_words::{Reading, Selection};
+use std::alloc::Global;
+use std::sync::ledger::Ledger;
+
+/// Writes the line of a file on which no row that counts holds.
+#[tactic(auto, using(crate::proofs::AnswerLemmas::no_line, crate::proofs::AnswerLemmas::same_text))]
+fn print_sound<K: Sink>(alloc: Global, readable: &Readable<'_>, out: &mut K) -> Result<(), Cut>
+    ensures { Writes (sound_line (head_of readable.now).pages) (change K.written K.faults out.old out.new) result }
+{
+    match sound_line(alloc, readable.head().pages) {
+        Ok(line) => put(out, line.as_bytes()),
+        Err(_) => Err(Cut::Memory),
+    }
+}
+
+/// Dumps the database with a name.
+fn dump_named<K: Sink, E: Sink>(
+    alloc: Global,
+    readable: &Readable<'_>,
+    name: &[u8],
+    print: bool,
+    out: &mut K,
+    err: &mut E,
+) -> u8
+    ensures { Finishes (dumped print readable.now (Some name.now)) (change K.written K.faults out.old out.new)
+        (change E.written E.faults err.old err.new) result }
+{
+    match readable.by_name(Some(name)) {
+        Some(db) => report(write_section(alloc, out, readable, db, print), err),
+        None => tell(err, b"not found\n", NOT_FOUND),
+    }
+}
+
+/// Dumps the database with the name that is asked for, or all.
+fn dump_selected<K: Sink, E: Sink>(
+    alloc: Global,
+    readable: &Readable<'_>,
+    selection: &Selection<'_>,
+    out: &mut K,
+    err: &mut E,
+) -> u8
+    requires { IsTrue (is_some (text_request (asked_name (option_copied selection.now.name)) selection.now.print)) }
+    ensures { (name : Option (List ℕ)) → asked_name (option_copied selection.now.name) ≡ Some name
+        → Finishes (dumped selection.now.print readable.now name) (change K.written K.faults out.old out.new)
+        (change E.written E.faults err.old err.new) result }
+{
+    let Ok(name) = name_sought(alloc, selection.name) else {
+        return tell_memory(err);
+    };
+    match name {
+        Some(name) => dump_named(alloc, readable, name.as_slice(), selection.print, out, err),
+        None => report(write_sections(alloc, out, readable, selection.print), err),
+    }
+}
+
+/// Answers `verify`: all that holds is told.
+fn answer_verify<K: Sink, E: Sink, L: Ledger>(
+    alloc: Global,
+    image: &[u8],
+    rows: Rows,
+    out: &mut K,
+    err: &mut E,
+    steps: &mut Steps<L>,
+) -> u8
+    requires { length image.now ≤ 2 ^ 30 }
+    ensures { Finishes (verified (faults_by_rows rows image.now) image.now) (change K.written K.faults out.old out.new)
+        (change E.written E.faults err.old err.new) result }
+{
+    match verify_all_by(alloc, image, rows, steps) {
+        Ok(readable) => report(print_sound(alloc, &readable, out), err),
+        Err(AllError::Faults(all)) => tell_list(alloc, &all, err),
+        Err(AllError::Memory) => tell_memory(err),
+    }
+}
+
+/// Answers `list`.
+fn answer_list<K: Sink, E: Sink, L: Ledger>(
+    alloc: Global,
+    image: &[u8],
+    rows: Rows,
+    out: &mut K,
+    err: &mut E,
+    steps: &mut Steps<L>,
+) -> u8
+    requires { length image.now ≤ 2 ^ 30 }
+    ensures { Finishes (judged_answer (verdict_by rows image.now) ListAll image.now) (change K.written K.faults out.old out.new)
+        (change E.written E.faults err.old err.new) result }
+{
+    match verify_by(alloc, image, rows, steps) {
+        Ok(readable) => report(write_list(alloc, out, &readable), err),
+        Err(verdict) => refuse(alloc, verdict, err),
+    }
+}
+
+/// Answers `dump`.
+fn answer_dump<K: Sink, E: Sink, L: Ledger>(
+    alloc: Global,
+    image: &[u8],
+    rows: Rows,
+    selection: &Selection<'_>,
+    out: &mut K,
+    err: &mut E,
+    steps: &mut Steps<L>,
+) -> u8
+    requires size { length image.now ≤ 2 ^ 30 }
+    requires seen { IsTrue (is_some (text_request (asked_name (option_copied selection.now.name)) selection.now.print)) }
+    ensures { (name : Option (List ℕ)) → asked_name (option_copied selection.now.name) ≡ Some name
+        → Finishes (judged_answer (verdict_by rows image.now) (Dump name selection.now.print) image.now) (change K.written K.faults out.old out.new)
+        (change E.written E.faults err.old err.new) result }
+{
+    match verify_by(alloc, image, rows, steps) {
+        Ok(readable) => dump_selected(alloc, &readable, selection, out, err),
+        Err(verdict) => refuse(alloc, verdict, err),
+    }
+}
+
+/// Answers what is read of a file.
+pub fn answer_reading<K: Sink, E: Sink, L: Ledger>(
+    alloc: Global,
+    image: &[u8],
+    rows: Rows,
+    reading: &Reading<'_>,
+    out: &mut K,
+    err: &mut E,
+    steps: &mut Steps<L>,
+) -> u8
+    requires size { length image.now ≤ 2 ^ 30 }
+    requires seen { IsTrue (is_some (reading_seen reading.now)) }
+    ensures { (asked : ModelRequest) → reading_seen reading.now ≡ Some asked
+        → Finishes (asked_answer rows asked image.now) (change K.written K.faults out.old out.new) (change E.written E.faults err.old err.new) result }
+{
+    match reading {
+        Reading::Verify => answer_verify(alloc, image, rows, out, err, steps),
+        Reading::List => answer_list(alloc, image, rows, out, err, steps),
+        Reading::Dump(selection) => answer_dump(alloc, image, rows, selection, out, err, steps),
+    }
+}
