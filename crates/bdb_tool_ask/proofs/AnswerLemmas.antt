@@ -24,7 +24,7 @@ use Rattle.bdb_file.specs.of_any_order.AnyOrder.{faults_by_rows, verdict_by}
 use Rattle.bdb_file.specs.Whole.{IsVerdictBy, IsVerdictOf}
 use Rattle.bdb_file.specs.of_any_order.declared.rows.Rows.{Rows}
 use Rattle.bdb_file.specs.of_any_order.declared.rows.Rows.TheVariants.{All}
-use Rattle.bdb_file.proofs.RowsLemmas.{all_are_of_all, no_verdict}
+use Rattle.bdb_file.proofs.of_any_order.RowsLemmas.{all_are_of_all, no_verdict}
 use Rattle.bdb_tool_print.specs.of_text_format.TextSpelling.{bytes_spelled}
 use Rattle.bdb_tool_words.specs.WordsSeen.{request_seen}
 use Rattle.bdb_tool_words.specs.declared.command.Request.{Request as CodeRequest}
