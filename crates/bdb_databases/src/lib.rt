@@ -11,6 +11,7 @@ mod reads;
 mod settings;
 
 pub use bdb_master::bdb_btree;
+pub use bdb_recno::{bdb_format, bdb_overflow};
 pub use db::Db;
 pub use listing::Scan;
 pub use lookup::{Found, found_in};

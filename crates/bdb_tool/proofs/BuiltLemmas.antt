@@ -9,7 +9,7 @@ use Rattle.bdb_repair.specs.of_rescue.Text.{salvage_text}
 use Rattle.bdb_repair.specs.of_rescue.Guesses.{chosen}
 use Rattle.bdb_repair.specs.of_survey.declared.guess.Guess.{Guess}
 use Rattle.bdb_tool.specs.Outputs.{salvage_answer, salvaged_answer}
-use Rattle.bdb_tool_ask.specs.Finished.{Finishes, HasOwnStatus, Reports, Tells}
+use Rattle.bdb_tool_ask.specs.of_tool_lines.Finished.{Finishes, HasOwnStatus, Reports, Tells}
 use Rattle.bdb_tool.specs.Parts.{Answered, Ends, IsRefusalTold, Unanswered}
 use Rattle.bdb_repair.specs.of_format.declared.kinds.Kind.{Kind}
 use Rattle.bdb_repair.proofs.of_format.KnownLemmas.{keeps_itself}
@@ -30,11 +30,10 @@ use Rattle.bdb_tool_build.specs.Ontos.{IsLoadOnto, IsTextOntoBy}
 use Rattle.bdb_tool.specs.Ontos.{IsOntoBy}
 use Rattle.bdb_tool_build.specs.Refusals.{IsRefusedAnswer}
 use Rattle.bdb_tool_build.specs.Trials.{IsTrialAnswer, IsTrialBy, trial_sections}
-use Rattle.bdb_tool_ask.proofs.FinishLemmas.{told_finishes, written_finishes}
+use Rattle.bdb_tool_ask.proofs.of_tool_lines.FinishLemmas.{low_own, told_finishes, written_finishes}
 use Rattle.bdb_tool_ask.specs.of_tool_lines.declared.cut.Cut.{Cut}
 use Rattle.bdb_tool_ask.specs.of_tool_lines.Printing.{Writes}
 use Rattle.bdb_tool_ask.proofs.of_tool_lines.PrintingLemmas.{moved}
-use Rattle.bdb_tool_ask.proofs.AnswerLemmas.{low_own}
 
 -- Commands that build a file.
 

@@ -18,7 +18,7 @@ use Rattle.bdb_tool_build.specs.Ontos.{IsTextOnto}
 use Rattle.bdb_tool_ask.specs.of_tool_words.Commands.{Command, LoadOnto, command_of, command_on, handed, reads_base}
 use Rattle.bdb_tool.specs.Ontos.{IsOntoAnswer, IsOntoBy, IsOntoBySize, base_too_large_line}
 use Rattle.bdb_tool.specs.Outputs.{Asked, asked_alone}
-use Rattle.bdb_tool_ask.specs.Finished.{IsRefused, Tells}
+use Rattle.bdb_tool_ask.specs.of_tool_lines.Finished.{IsRefused, Tells}
 use Rattle.bdb_tool.specs.Parts.{Answered, BaseFailed, BaseRead, BaseTooLong, BaseUnread, Ends, EndsOnto, IsTaskAnswered, IsToldOfBase, IsToldStop, Unanswered}
 use Rattle.bdb_tool.specs.Runs.{IsAnswered, ReadsBase, RunsAs, RunsOn, asked_on}
 use Rattle.bdb_tool.specs.Tasks.{AreReading, IsInputWithin, IsStopped, IsTaskTaken, IsUnreadable}
@@ -27,7 +27,7 @@ use Rattle.bdb_tool.specs.declared.task.Task.{Task}
 use Rattle.bdb_tool.specs.declared.task.Stop.{Stop}
 use Rattle.bdb_tool.specs.declared.task.Stop.TheVariants.{Usage, TooLarge, ReadFault, Memory as MemoryStop}
 use Rattle.bdb_tool.proofs.BuiltLemmas.{onto_own}
-use Rattle.bdb_tool_ask.proofs.FinishLemmas.{memory_finishes, told_finishes}
+use Rattle.bdb_tool_ask.proofs.of_tool_lines.FinishLemmas.{memory_finishes, told_finishes}
 use Rattle.bdb_tool.proofs.TaskLemmas.{not_read}
 use Rattle.bdb_tool.proofs.RunLemmas.{calls_read, ended_runs, finished_runs, long_input, own_status, read_fault_runs, some_input, stopped_runs, taken_runs, unanswered_runs, whole_input, within_answers}
 

@@ -18,9 +18,9 @@ use Rattle.bdb_repair.specs.Repairs.{IsRepaired}
 use Rattle.bdb_repair.specs.of_rescue.Guesses.{chosen}
 use Rattle.bdb_repair.specs.of_survey.declared.guess.Guess.{Guess}
 use Rattle.bdb_tool.specs.Outputs.{IsImageBy, IsRepairAnswer, IsRepairBy, no_metadata}
-use Rattle.bdb_tool_ask.specs.Finished.{HasOwnStatus, Reports, Tells}
+use Rattle.bdb_tool_ask.specs.of_tool_lines.Finished.{HasOwnStatus, Reports, Tells}
 use Rattle.bdb_tool.specs.Parts.{Answered, Ends, Unanswered}
-use Rattle.bdb_tool_ask.proofs.FinishLemmas.{told_finishes, written_finishes}
+use Rattle.bdb_tool_ask.proofs.of_tool_lines.FinishLemmas.{told_finishes, written_finishes}
 use Rattle.bdb_tool_build.specs.Lines.{image_too_large_line}
 
 -- What is repaired is an answer.

@@ -14,7 +14,7 @@ use Rattle.bdb_tool_build.specs.Loads.{IsTextAnswer}
 use Rattle.bdb_tool_build.specs.Trials.{IsTrialAnswer}
 use Rattle.bdb_tool.specs.Outputs.{AnswersInPart, Asked, IsActionAnswer, IsAnswerBySize, IsAnswerTo, IsCommandAnswer, IsInput, IsRepairAnswer, Output, StatusIs, asked_alone, salvage_answer}
 use Rattle.bdb_tool_ask.specs.FileAnswers.{asked_answer}
-use Rattle.bdb_tool_ask.specs.Finished.{Finishes, Tells}
+use Rattle.bdb_tool_ask.specs.of_tool_lines.Finished.{Finishes, Tells}
 use Rattle.bdb_tool.specs.Parts.{Answered, Ends, IsTaskAnswered, IsToldStop, Unanswered}
 use Rattle.bdb_tool.specs.Runs.{ErrorLine, HasFailedReading, IsAnswered, OfAnswer, OfMemory, OfReadFault, OfWriteFault, RunsAs, RunsOn, asked_on}
 use Rattle.bdb_tool.specs.Tasks.{AreReading, IsRead, IsStopped, IsTaskTaken, IsTooLong}
@@ -27,7 +27,7 @@ use Rattle.bdb_tool.specs.declared.task.Task.{Task}
 use Rattle.bdb_tool.specs.declared.task.Task.TheVariants.{Ask as AskTask, Load as LoadTask, Read as ReadTask, Repair as RepairTask, Salvage as SalvageTask, Trial as TrialTask}
 use Rattle.bdb_tool_ask.proofs.TellingLemmas.{asked_own}
 use Rattle.bdb_tool.proofs.BuiltLemmas.{salvage_own, text_own, trial_own}
-use Rattle.bdb_tool_ask.proofs.FinishLemmas.{memory_finishes, told_finishes}
+use Rattle.bdb_tool_ask.proofs.of_tool_lines.FinishLemmas.{memory_finishes, told_finishes}
 use Rattle.bdb_tool.proofs.RepairLemmas.{repair_own}
 use Rattle.bdb_tool_ask.proofs.of_tool_lines.PrintingLemmas.{moved}
 

@@ -20,7 +20,7 @@ use Rattle.bdb_tool_build.specs.declared.refusal.Refusal.{Refusal}
 use Rattle.bdb_tool_build.specs.declared.refusal.Refusal.TheVariants.{Faulty as FaultyText, TooLarge as TooLargeImage, Memory as MemoryRefusal}
 use Rattle.bdb_tool_build.specs.Loads.{IsTextAnswer}
 use Rattle.bdb_tool_build.specs.Trials.{IsTrialAnswer}
-use Rattle.bdb_tool_ask.specs.Finished.{Finishes, Tells}
+use Rattle.bdb_tool_ask.specs.of_tool_lines.Finished.{Finishes, Tells}
 
 -- it was told why there is no task to answer, or that memory was wanting
 abbrev pub IsToldStop : Stop → Change → ℕ → Type 0

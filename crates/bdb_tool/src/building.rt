@@ -12,9 +12,9 @@ ghost use Rattle.bdb_tool_build.specs.Trials.{IsTrialAnswer};
 
 use bdb_repair::bdb_format::Steps;
 use bdb_repair::bdb_io::{Image, Sink};
+use bdb_tool_ask::bdb_tool_lines::status::{BAD_TEXT, TOO_LARGE};
+use bdb_tool_ask::bdb_tool_lines::{put, refuse, report, tell, tell_memory};
 use bdb_tool_ask::bdb_tool_words::Trial;
-use bdb_tool_ask::status::{BAD_TEXT, TOO_LARGE};
-use bdb_tool_ask::{put, refuse, report, tell, tell_memory};
 use bdb_tool_build::bdb_onto::Base;
 use bdb_tool_build::{Refusal, base_of, load_text, load_text_onto, trial_text};
 use std::alloc::Global;

@@ -14,8 +14,9 @@ pub use bdb_repair::{
     bdb_btree, bdb_format, bdb_graph, bdb_io, bdb_layout, bdb_mkfile, bdb_model, bdb_settle,
     bdb_text, bdb_text_format,
 };
+pub use bdb_tool_ask::bdb_tool_lines::status;
 pub use bdb_tool_ask::bdb_tool_words::onto_file;
-pub use bdb_tool_ask::{bdb_range, status, tell_usage};
+pub use bdb_tool_ask::{bdb_range, tell_usage};
 pub use bdb_tool_build;
 pub use bdb_tool_build::{bdb_file, bdb_gen};
 pub use program::{run, run_counted, run_onto};

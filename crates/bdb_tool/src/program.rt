@@ -13,9 +13,10 @@ use crate::text::{base_too_large_line, too_large_line};
 use bdb_repair::bdb_format::Steps;
 use bdb_repair::bdb_io::{Image, PureSource, Sink, Source};
 use bdb_repair::bdb_model::Words;
+use bdb_tool_ask::bdb_tool_lines::status::{READ_FAULT, TOO_LARGE};
+use bdb_tool_ask::bdb_tool_lines::{tell, tell_memory};
 use bdb_tool_ask::bdb_tool_words::base_limit;
-use bdb_tool_ask::status::{READ_FAULT, TOO_LARGE};
-use bdb_tool_ask::{tell, tell_memory, tell_usage};
+use bdb_tool_ask::tell_usage;
 use std::alloc::Global;
 use std::sync::ledger::{Blank, Ledger};
 

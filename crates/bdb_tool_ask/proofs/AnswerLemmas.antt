@@ -1,23 +1,22 @@
 -- Answers over a sound file.
-use Rattle.std.proofs.Common.{◌≡◌, ℕ, ◌<◌, Bool, true, false, List, [], ◌∷◌, ◌++◌, length, inl, inr, sym, subst, ◌∙◌, ap, arith, ◌≤◌}
-use Rattle.std.specs.Prelude.{if◌then◌else◌, Option, Some, None, Ok, Err, Result, not, option_copied, ⊤}
-use Rattle.std.specs.Io.KnownBytes.{Appends}
+use Rattle.std.proofs.Common.{◌≡◌, ℕ, ◌<◌, Bool, true, false, List, [], ◌∷◌, ◌++◌, length, inl, inr, sym, subst, ◌∙◌, ap, arith}
+use Rattle.std.specs.Prelude.{if◌then◌else◌, Option, Some, None, Result, not, option_copied, ⊤}
 use Rattle.std.proofs.lemmas.Option.{slice_get-get_or}
 use Rattle.bdb_file.specs.of_format.declared.kinds.Order.{Order}
 use Rattle.bdb_file.specs.of_format.declared.kinds.Verdict.{Verdict}
 use Rattle.bdb_file.specs.of_format.declared.kinds.Verdict.TheVariants.{Fault, Unsupported, Memory as MemoryVerdict}
-use Rattle.bdb_tool_print.specs.of_text_format.Written.{database_text, dump_text, is_btree}
-use Rattle.bdb_tool_print.specs.of_model.Answers.{Answer, done, fault_line, pairs_text, told, unsupported_line, value_line, values_text}
+use Rattle.bdb_tool_words.specs.of_text_format.Written.{database_text, dump_text, is_btree}
+use Rattle.bdb_tool_words.specs.of_model.Answers.{done, fault_line, pairs_text, told, unsupported_line, value_line, values_text}
 use Rattle.bdb_tool_ask.specs.FileAnswers.{asked_answer, converted, data_at, data_named, data_of_database, database_in, dumped, found, judged_answer, not_btree, not_found, range_answer, ranged, section_answer, sound_answer}
-use Rattle.bdb_tool_print.specs.of_model.Change.{Change}
+use Rattle.bdb_tool_words.specs.of_model.Change.{Change}
 use Rattle.bdb_tool_words.specs.Commands.{Request, Verify, Get, Dump, Range, Convert, bounds_request, key_request}
-use Rattle.bdb_tool_print.specs.of_model.Command.{asked_name}
+use Rattle.bdb_tool_words.specs.of_model.Command.{asked_name}
 use Rattle.bdb_file.specs.of_format.Databases.{Database, data_under, databases, place_of}
 use Rattle.bdb_file.specs.of_format.File.{File, file_of}
 use Rattle.bdb_file.specs.of_format.Flags.{kind_of}
 use Rattle.bdb_file.specs.of_format.Lists.{ListKey, list_of}
 use Rattle.bdb_stat.specs.of_turned.Flipped.{overlap_in}
-use Rattle.bdb_tool_print.specs.of_range.Ranges.{in_range}
+use Rattle.bdb_tool_dump.specs.of_range.Ranges.{in_range}
 use Rattle.bdb_file.specs.of_format.Verdict.{Faulty, Judgement, LeftOut, verdict_of}
 use Rattle.bdb_file.specs.of_databases.Named.{database_at, no_database}
 use Rattle.bdb_file.specs.of_any_order.AnyOrder.{faults_by_rows, verdict_by}
@@ -25,38 +24,17 @@ use Rattle.bdb_file.specs.Whole.{IsVerdictBy, IsVerdictOf}
 use Rattle.bdb_file.specs.of_any_order.declared.rows.Rows.{Rows}
 use Rattle.bdb_file.specs.of_any_order.declared.rows.Rows.TheVariants.{All}
 use Rattle.bdb_file.proofs.of_any_order.RowsLemmas.{all_are_of_all, no_verdict}
-use Rattle.bdb_tool_print.specs.of_text_format.TextSpelling.{bytes_spelled}
+use Rattle.bdb_tool_words.specs.of_text_format.TextSpelling.{bytes_spelled}
 use Rattle.bdb_tool_words.specs.WordsSeen.{request_seen}
 use Rattle.bdb_tool_words.specs.declared.command.Request.{Request as CodeRequest}
 use Rattle.bdb_tool_words.specs.declared.command.Request.TheVariants.{Get as GetWord, Range as RangeWord}
-use Rattle.bdb_tool_ask.specs.Finished.{Finishes, HasOwnStatus, IsRefused, Reports, Tells}
-use Rattle.bdb_tool_ask.proofs.FinishLemmas.{memory_finishes, told_finishes, written_finishes}
-use Rattle.bdb_file.specs.of_format.Faults.{AppendsPrefix, Rose}
-use Rattle.bdb_tool_print.specs.of_tool_lines.declared.cut.Cut.{Cut}
-use Rattle.bdb_tool_print.specs.of_tool_lines.declared.cut.Cut.TheVariants.{WriteFault, Memory}
-use Rattle.bdb_tool_print.specs.of_tool_lines.Printing.{Writes}
-use Rattle.bdb_tool_print.proofs.of_tool_lines.PrintingLemmas.{moved, nothing_of}
-
--- One line.
-
-pub line_written : (a b : Option (List ℕ)) (f g : ℕ) (given text : List ℕ) → given ≡ text → Appends a b given → f ≤ g → Writes text (moved a b f g) (Ok tt)
-line_written a b f g given text is got later = record { written = subst (Appends a b) is got; later = later }
-
-pub line_cut : (a b : Option (List ℕ)) (f g : ℕ) (given text : List ℕ) → given ≡ text → AppendsPrefix a b given → f ≤ g → Rose f g
-    → Writes text (moved a b f g) (Err WriteFault)
-line_cut a b f g given text is part later rose = record { written = record { part = subst (AppendsPrefix a b) is part; cause = λ _. rose }; later = later }
-
-pub no_line : (a : Option (List ℕ)) (f : ℕ) (text : List ℕ) → Writes text (moved a a f f) (Err Memory)
-no_line a f text = record { written = record { part = nothing_of a text; cause = λ is. cc }; later = omega arith }
-
--- a text was written that is another
-pub same_text : (given text : List ℕ) (out : Change) (result : Result Unit Cut) → given ≡ text → Writes given out result → Writes text out result
-same_text given text out result is writes = subst (λ bytes. Writes bytes out result) is writes
+use Rattle.bdb_tool_dump.specs.of_tool_lines.Finished.{Finishes, HasOwnStatus, IsRefused, Reports, Tells}
+use Rattle.bdb_tool_dump.proofs.of_tool_lines.FinishLemmas.{low_own, memory_finishes, told_finishes, written_finishes}
+use Rattle.bdb_tool_dump.specs.of_tool_lines.declared.cut.Cut.{Cut}
+use Rattle.bdb_tool_dump.specs.of_tool_lines.Printing.{Writes}
+use Rattle.bdb_tool_dump.proofs.of_tool_lines.PrintingLemmas.{moved}
 
 -- Statuses.
-
-pub low_own : (answer : Answer) → answer.status < 4 → HasOwnStatus answer
-low_own answer low = record { no_read_fault = λ is. omega arith; no_write_fault = λ is. omega arith; no_memory = λ is. omega arith }
 
 pub found_own : (prints : Bool) (values : List (List ℕ)) → HasOwnStatus (found prints values)
 found_own prints [] = record { no_read_fault = λ is. omega arith; no_write_fault = λ is. omega arith; no_memory = λ is. omega arith }

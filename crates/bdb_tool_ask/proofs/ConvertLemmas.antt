@@ -2,20 +2,20 @@
 use Rattle.std.proofs.Common.{◌≡◌, ◌⊎◌, ℕ, List, inl, inr, sym, subst, arith}
 use Rattle.std.specs.Prelude.{Option, Some, None, Result, Ok, Err}
 use Rattle.bdb_file.specs.of_format.declared.kinds.Order.{Order}
-use Rattle.bdb_tool_print.specs.of_tool_lines.declared.cut.Cut.{Cut}
-use Rattle.bdb_tool_print.specs.of_tool_lines.Printing.{Writes}
-use Rattle.bdb_tool_print.proofs.of_tool_lines.PrintingLemmas.{moved}
-use Rattle.bdb_tool_print.specs.of_model.Answers.{done}
+use Rattle.bdb_tool_dump.specs.of_tool_lines.declared.cut.Cut.{Cut}
+use Rattle.bdb_tool_dump.specs.of_tool_lines.Printing.{Writes}
+use Rattle.bdb_tool_dump.proofs.of_tool_lines.PrintingLemmas.{moved}
+use Rattle.bdb_tool_words.specs.of_model.Answers.{done}
 use Rattle.bdb_tool_ask.specs.FileAnswers.{converted, overlap_line}
-use Rattle.bdb_tool_print.specs.of_model.Change.{Change}
+use Rattle.bdb_tool_words.specs.of_model.Change.{Change}
 use Rattle.bdb_stat.specs.of_turned.Flipped.{flip_of, overlap_in}
-use Rattle.bdb_tool_print.specs.of_model.Lines.{memory_line}
+use Rattle.bdb_tool_words.specs.of_model.Lines.{memory_line}
 use Rattle.bdb_swap.specs.Flip.{IsFlip}
 use Rattle.bdb_swap.specs.declared.flipping.FlipError.{FlipError}
 use Rattle.bdb_swap.specs.declared.flipping.FlipError.TheVariants.{Overlap}
-use Rattle.bdb_tool_ask.specs.Finished.{Finishes, Reports, Tells}
+use Rattle.bdb_tool_dump.specs.of_tool_lines.Finished.{Finishes, Reports, Tells}
 use Rattle.bdb_tool_ask.proofs.AnswerLemmas.{converted_own}
-use Rattle.bdb_tool_ask.proofs.FinishLemmas.{memory_finishes, told_finishes, written_finishes}
+use Rattle.bdb_tool_dump.proofs.of_tool_lines.FinishLemmas.{memory_finishes, told_finishes, written_finishes}
 
 -- the line was told as it was made
 pub line_told : (page : ℕ) (text : List ℕ) (err : Change) (status : ℕ) → text ≡ overlap_line page → Tells text 13 err status

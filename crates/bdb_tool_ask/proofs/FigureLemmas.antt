@@ -5,7 +5,7 @@ use Rattle.bdb_file.specs.of_format.File.{File, file_of}
 use Rattle.bdb_stat.specs.Figures.{IsStat}
 use Rattle.bdb_stat.specs.declared.class.Class.TheVariants.{Meta, Internal, Leaf, Hash, Overflow, Free, Reserve, Queue, Tail}
 use Rattle.bdb_stat.specs.declared.figures.Stat.{Stat}
-use Rattle.bdb_tool_print.specs.of_text_format.LineEnd.{line}
+use Rattle.bdb_tool_words.specs.of_text_format.LineEnd.{line}
 use Rattle.bdb_tool_ask.specs.Figures.{figures_text, last_figures, other_figures}
 use Rattle.bdb_tool_ask.specs.FileAnswers.{figure_line, stat_text}
 

@@ -9,16 +9,16 @@ use Rattle.bdb_file.specs.of_format.Flags.{is_recno, kind_of}
 use Rattle.bdb_file.specs.of_format.Lists.{ListKey, btree_list, list_of}
 use Rattle.bdb_file.specs.of_format.Page.{Metadata, BtreeFields}
 use Rattle.bdb_file.specs.of_databases.Named.{database_at, no_database}
-use Rattle.bdb_tool_print.specs.of_tool_lines.declared.cut.Cut.{Cut}
-use Rattle.bdb_tool_print.specs.of_tool_lines.Printing.{Writes}
-use Rattle.bdb_tool_print.proofs.of_tool_lines.PrintingLemmas.{moved}
+use Rattle.bdb_tool_dump.specs.of_tool_lines.declared.cut.Cut.{Cut}
+use Rattle.bdb_tool_dump.specs.of_tool_lines.Printing.{Writes}
+use Rattle.bdb_tool_dump.proofs.of_tool_lines.PrintingLemmas.{moved}
 use Rattle.bdb_tool_ask.specs.FileAnswers.{database_in, not_btree, not_found, range_answer, ranged}
-use Rattle.bdb_tool_print.specs.of_model.Answers.{done, pairs_text}
-use Rattle.bdb_tool_print.specs.of_model.Change.{Change}
-use Rattle.bdb_tool_print.specs.of_range.Ranges.{in_range}
-use Rattle.bdb_tool_print.specs.of_text_format.Written.{is_btree}
-use Rattle.bdb_tool_ask.specs.Finished.{Finishes, Reports, Tells}
-use Rattle.bdb_tool_ask.proofs.FinishLemmas.{told_finishes, written_finishes}
+use Rattle.bdb_tool_words.specs.of_model.Answers.{done, pairs_text}
+use Rattle.bdb_tool_words.specs.of_model.Change.{Change}
+use Rattle.bdb_tool_dump.specs.of_range.Ranges.{in_range}
+use Rattle.bdb_tool_words.specs.of_text_format.Written.{is_btree}
+use Rattle.bdb_tool_dump.specs.of_tool_lines.Finished.{Finishes, Reports, Tells}
+use Rattle.bdb_tool_dump.proofs.of_tool_lines.FinishLemmas.{told_finishes, written_finishes}
 
 -- Kinds.
 

@@ -1,73 +1,23 @@
--- What holds at the pages of a file is told.
-use Rattle.std.proofs.Common.{◌≡◌, ◌∙◌, ℕ, ◌<◌, List, [], ◌∷◌, length, map, inl, inr, refl, sym, subst, arith, ◌⊎◌}
-use Rattle.std.specs.Prelude.{Option, Ok, Err, Result}
+-- What `verify` tells.
+use Rattle.std.proofs.Common.{◌≡◌, ℕ, ◌<◌, List, [], ◌∷◌, length, map, inl, inr, sym, subst, arith, ◌⊎◌}
+use Rattle.std.specs.Prelude.{Option}
 use Rattle.bdb_file.specs.of_faults.All.{IsAllOf}
 use Rattle.bdb_file.specs.of_faults.declared.named.AllError.{AllError}
 use Rattle.bdb_file.specs.of_faults.declared.named.AllError.TheVariants.{Faults}
 use Rattle.bdb_file.specs.of_any_order.AnyOrder.{faults_by_rows, verdict_by}
 use Rattle.bdb_file.specs.of_any_order.declared.rows.Rows.{Rows}
 use Rattle.bdb_file.specs.of_format.declared.kinds.Fault.{Fault}
-use Rattle.bdb_tool_print.specs.of_tool_lines.Printing.{Writes}
-use Rattle.bdb_tool_print.specs.of_tool_lines.Telling.{judgement_status, judgements_text}
-use Rattle.bdb_tool_print.specs.of_tool_lines.declared.cut.Cut.{Cut}
-use Rattle.bdb_tool_print.specs.of_tool_lines.declared.cut.Cut.TheVariants.{WriteFault}
-use Rattle.bdb_tool_print.proofs.of_tool_lines.PrintingLemmas.{moved}
-use Rattle.bdb_tool_print.specs.of_model.Change.{Change}
+use Rattle.bdb_tool_dump.specs.of_tool_lines.Telling.{first_status, judgements_text}
+use Rattle.bdb_tool_dump.proofs.of_tool_lines.PrintingLemmas.{moved}
+use Rattle.bdb_tool_words.specs.of_model.Change.{Change}
 use Rattle.bdb_tool_words.specs.Commands.{Request, Verify}
-use Rattle.bdb_tool_print.specs.of_model.Lines.{memory_line}
-use Rattle.bdb_file.specs.of_format.Verdict.{Faulty, Judgement, LeftOut, judgement_of}
-use Rattle.bdb_tool_ask.specs.FileAnswers.{asked_answer, first_status, verified}
-use Rattle.bdb_tool_ask.specs.Finished.{Finishes, HasOwnStatus, Tells}
-use Rattle.bdb_tool_ask.proofs.AnswerLemmas.{judged_own, low_own}
-use Rattle.bdb_tool_ask.proofs.FinishLemmas.{memory_finishes, told_finishes}
-
--- Statuses.
-
-low_status : (judgement : Judgement) → (judgement_status judgement ≡ 1) ⊎ (judgement_status judgement ≡ 3)
-low_status (Faulty fault) = inl refl
-low_status (LeftOut name page) = inr refl
-
-pub not_write_fault : (judgement : Judgement) → judgement_status judgement ≡ 5 → ⊥
-not_write_fault judgement is = elim (low_status judgement) [ inl one ↦ omega arith | inr three ↦ omega arith ]
-
-pub list_not_write_fault : (judgements : List Judgement) → first_status judgements ≡ 5 → ⊥
-list_not_write_fault [] is = omega arith
-list_not_write_fault (judgement ∷ judgements) is = not_write_fault judgement is
-
-list_not_memory : (judgements : List Judgement) → first_status judgements ≡ 7 → ⊥
-list_not_memory [] is = omega arith
-list_not_memory (judgement ∷ judgements) is = elim (low_status judgement) [ inl one ↦ omega arith | inr three ↦ omega arith ]
-
-list_own : (judgements : List Judgement) → first_status judgements < 4
-list_own [] = omega arith
-list_own (judgement ∷ judgements) = elim (low_status judgement) [ inl one ↦ omega arith | inr three ↦ omega arith ]
-
--- Lines.
-
--- they were written whole
-pub told_whole : (text : List ℕ) (wanted status : ℕ) (err : Change) (result : Result Unit Cut) → result ≡ Ok tt → status ≡ wanted → (wanted ≡ 5 → ⊥)
-    → Writes text err result
-    → Tells text wanted err status
-told_whole text wanted status err result was is own writes = record {
-  status_is = inl is;
-  told = λ _. (subst (Writes text err) was writes).written;
-  failed = λ five. absurd (own (sym is ∙ five));
-  part = λ five. absurd (own (sym is ∙ five));
-}
-
--- they were cut off
-pub told_in_part : (text : List ℕ) (wanted : ℕ) (err : Change) (result : Result Unit Cut) (cut : Cut) → result ≡ Err cut → cut ≡ WriteFault → (wanted ≡ 5 → ⊥)
-    → Writes text err result
-    → Tells text wanted err 5
-told_in_part text wanted err result cut was cause own writes =
-    let writes_cut : Writes text err (Err cut) = subst (Writes text err) was writes in record {
-      status_is = inr refl;
-      told = λ is. absurd (own (sym is));
-      failed = λ _. writes_cut.written.cause cause;
-      part = λ _. writes_cut.written.part;
-    }
-
--- `verify`.
+use Rattle.bdb_tool_words.specs.of_model.Lines.{memory_line}
+use Rattle.bdb_file.specs.of_format.Verdict.{Judgement, judgement_of}
+use Rattle.bdb_tool_ask.specs.FileAnswers.{asked_answer, verified}
+use Rattle.bdb_tool_dump.specs.of_tool_lines.Finished.{Finishes, HasOwnStatus, Tells}
+use Rattle.bdb_tool_dump.proofs.of_tool_lines.FinishLemmas.{low_own, memory_finishes, told_finishes}
+use Rattle.bdb_tool_ask.proofs.AnswerLemmas.{judged_own}
+use Rattle.bdb_tool_dump.proofs.of_tool_lines.RefusalLemmas.{list_not_memory, list_not_write_fault, list_own}
 
 pub verified_own : (faults : List Fault) (image : List ℕ) → HasOwnStatus (verified faults image)
 verified_own [] image = low_own (verified [] image) (omega arith)

@@ -7,11 +7,11 @@ use Rattle.bdb_file.specs.of_format.Flags.{kind_of}
 use Rattle.bdb_file.specs.of_format.HeadOf.{head_of}
 use Rattle.bdb_file.specs.of_format.Lists.{list_of}
 use Rattle.bdb_file.specs.of_format.Verdict.{Faulty, Judgement, LeftOut, judgement_of}
-use Rattle.bdb_tool_print.specs.of_text_format.LineEnd.{line}
-use Rattle.bdb_tool_print.specs.of_text_format.Written.{database_text, dump_text, is_btree}
-use Rattle.bdb_tool_print.specs.of_model.Answers.{Answer, done, fault_line, list_text, pairs_text, told, unsupported_line, values_text}
+use Rattle.bdb_tool_words.specs.of_text_format.LineEnd.{line}
+use Rattle.bdb_tool_words.specs.of_text_format.Written.{database_text, dump_text, is_btree}
+use Rattle.bdb_tool_words.specs.of_model.Answers.{Answer, done, fault_line, list_text, pairs_text, told, unsupported_line, values_text}
 use Rattle.bdb_tool_words.specs.Commands.{Convert, Dump, Get, ListAll, Range, Request, Stat, Verify}
-use Rattle.bdb_tool_print.specs.of_range.Ranges.{in_range}
+use Rattle.bdb_tool_dump.specs.of_range.Ranges.{in_range}
 use Rattle.bdb_stat.specs.declared.class.Class.TheVariants.{Meta, Internal, Leaf, Hash, Overflow, Free, Reserve, Queue, Tail}
 use Rattle.bdb_stat.specs.Classes.{levels, pages_of}
 use Rattle.bdb_stat.specs.Unused.{unused}
@@ -19,7 +19,7 @@ use Rattle.bdb_stat.specs.of_turned.Flipped.{flip_of, overlap_in}
 use Rattle.bdb_file.specs.of_any_order.AnyOrder.{faults_by_rows, verdict_by}
 use Rattle.bdb_file.specs.of_any_order.declared.rows.Rows.{Rows}
 use Rattle.bdb_file.specs.of_format.declared.kinds.Fault.{Fault}
-use Rattle.bdb_tool_print.specs.of_tool_lines.Telling.{judgement_status, judgements_text}
+use Rattle.bdb_tool_dump.specs.of_tool_lines.Telling.{first_status, judgements_text}
 use Rattle.bdb_tool_ask.specs.FileAnswers.{judged_answer, sound_answer}
 
 abbrev pub not_found : Answer
@@ -118,11 +118,6 @@ abbrev pub judged_answer : Option Judgement → Request → List ℕ → Answer
 judged_answer None request image = sound_answer request image
 judged_answer (Some (Faulty fault)) request image = told 1 (fault_line fault)
 judged_answer (Some (LeftOut name page)) request image = told 3 (unsupported_line name page)
-
--- the status of the first of what holds
-abbrev pub first_status : List Judgement → ℕ
-first_status [] = 0
-first_status (judgement ∷ judgements) = judgement_status judgement
 
 -- `verify`: the line of a sound file, else a line for each fault of the first stage that has any, with the status of the first
 abbrev pub verified : List Fault → List ℕ → Answer

@@ -1,20 +1,20 @@
 //! What is asked of a file: each request is answered by the file of its command.
 ghost use Rattle.std.specs.Prelude.{◌≡◌, ◌≤◌, ◌^◌, IsTrue, Some, is_some, length};
 ghost use Rattle.bdb_tool_ask.specs.FileAnswers.{asked_answer, sound_answer};
-ghost use Rattle.bdb_tool_print.specs.of_model.Change.{change};
+ghost use Rattle.bdb_tool_words.specs.of_model.Change.{change};
 ghost use Rattle.bdb_tool_words.specs.Commands.{Request as ModelRequest};
 ghost use Rattle.bdb_file.specs.of_any_order.declared.rows.Rows.TheVariants.{All};
-ghost use Rattle.bdb_tool_ask.specs.Finished.{Finishes};
+ghost use Rattle.bdb_tool_dump.specs.of_tool_lines.Finished.{Finishes};
 ghost use Rattle.bdb_tool_words.specs.WordsSeen.{request_seen};
 
 use crate::converting::answer_convert;
 use crate::looking::answer_lookup;
 use crate::ranging::answer_range;
 use crate::stating::answer_stat;
-use crate::telling::refuse;
 use bdb_file::bdb_format::Steps;
 use bdb_file::{Sound, verify};
 use bdb_swap::bdb_io::Sink;
+use bdb_tool_dump::bdb_tool_lines::refuse;
 use bdb_tool_words::Request;
 use std::alloc::Global;
 use std::sync::ledger::Ledger;

@@ -1,18 +1,18 @@
 //! The command that puts a file into a byte order.
 ghost use Rattle.std.specs.Prelude.{◌⊎◌};
 ghost use Rattle.bdb_tool_ask.specs.FileAnswers.{converted, overlap_line};
-ghost use Rattle.bdb_tool_print.specs.of_model.Change.{change};
+ghost use Rattle.bdb_tool_words.specs.of_model.Change.{change};
 ghost use Rattle.bdb_stat.specs.of_turned.Flipped.{overlap_in};
-ghost use Rattle.bdb_tool_print.specs.of_model.Lines.{memory_line};
-ghost use Rattle.bdb_tool_ask.specs.Finished.{Finishes, Tells};
+ghost use Rattle.bdb_tool_words.specs.of_model.Lines.{memory_line};
+ghost use Rattle.bdb_tool_dump.specs.of_tool_lines.Finished.{Finishes, Tells};
 
-use crate::finish::{put, report, tell, tell_memory};
-use crate::status::OVERLAP;
 use crate::text::overlap_line;
 use bdb_file::Sound;
 use bdb_file::bdb_format::Order;
 use bdb_swap::bdb_io::Sink;
 use bdb_swap::{FlipError, flip};
+use bdb_tool_dump::bdb_tool_lines::status::OVERLAP;
+use bdb_tool_dump::bdb_tool_lines::{put, report, tell, tell_memory};
 use std::alloc::Global;
 
 /// Tells the page on which items overlap.

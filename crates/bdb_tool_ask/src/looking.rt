@@ -1,19 +1,20 @@
 //! The command that asks for the data of a key.
 ghost use Rattle.std.specs.Prelude.{◌≡◌, [], IsTrue, MatchOption, List, Option, Some, is_some, not, option_copied, ℕ};
 ghost use Rattle.bdb_tool_ask.specs.FileAnswers.{data_named, found};
-ghost use Rattle.bdb_tool_print.specs.of_model.Change.{change};
-ghost use Rattle.bdb_tool_print.specs.of_model.Command.{asked_name};
+ghost use Rattle.bdb_tool_words.specs.of_model.Change.{change};
+ghost use Rattle.bdb_tool_words.specs.of_model.Command.{asked_name};
 ghost use Rattle.bdb_tool_words.specs.Commands.{key_request};
 ghost use Rattle.bdb_file.specs.of_format.File.{file_of};
-ghost use Rattle.bdb_tool_print.specs.of_text_format.TextSpelling.{bytes_spelled};
-ghost use Rattle.bdb_tool_ask.specs.Finished.{Finishes};
+ghost use Rattle.bdb_tool_words.specs.of_text_format.TextSpelling.{bytes_spelled};
+ghost use Rattle.bdb_tool_dump.specs.of_tool_lines.Finished.{Finishes};
 
-use crate::finish::{report, tell, tell_memory};
-use crate::listing::write_found;
 use crate::spelled::{name_bytes, name_sought, spelled};
-use crate::status::NOT_FOUND;
 use bdb_file::bdb_format::Steps;
+use bdb_file::{Found, Sound};
 use bdb_swap::bdb_io::Sink;
+use bdb_tool_dump::bdb_tool_lines::status::NOT_FOUND;
+use bdb_tool_dump::bdb_tool_lines::{report, tell, tell_memory};
+use bdb_tool_dump::write_found;
 use bdb_tool_words::Lookup;
 use std::alloc::Global;
 use std::sync::ledger::Ledger;

@@ -2,31 +2,29 @@
 ghost use Rattle.std.specs.Prelude.{◌≡◌, ◌≤◌, ◌^◌, IsTrue, List, Option, Some, is_some, length, option_copied, ℕ};
 ghost use Rattle.bdb_file.specs.of_any_order.AnyOrder.{faults_by_rows, verdict_by};
 ghost use Rattle.bdb_file.specs.of_format.HeadOf.{head_of};
-ghost use Rattle.bdb_tool_print.specs.of_tool_lines.Printing.{Writes};
+ghost use Rattle.bdb_tool_dump.specs.of_tool_lines.Printing.{Writes};
 ghost use Rattle.bdb_tool_ask.specs.FileAnswers.{asked_answer, dumped, judged_answer, sound_line, verified};
-ghost use Rattle.bdb_tool_print.specs.of_model.Change.{change};
+ghost use Rattle.bdb_tool_words.specs.of_model.Change.{change};
 ghost use Rattle.bdb_tool_words.specs.Commands.{Dump, ListAll, Request as ModelRequest, text_request};
-ghost use Rattle.bdb_tool_print.specs.of_model.Command.{asked_name};
-ghost use Rattle.bdb_tool_ask.specs.Finished.{Finishes};
+ghost use Rattle.bdb_tool_words.specs.of_model.Command.{asked_name};
+ghost use Rattle.bdb_tool_dump.specs.of_tool_lines.Finished.{Finishes};
 ghost use Rattle.bdb_tool_words.specs.WordsSeen.{reading_seen};
 
-use crate::dumping::{write_section, write_sections};
-use crate::finish::{put, report, tell, tell_memory};
-use crate::listing::write_list;
 use crate::spelled::name_sought;
-use crate::status::NOT_FOUND;
-use crate::telling::{refuse, tell_list};
 use crate::text::sound_line;
 use bdb_file::bdb_faults::AllError;
 use bdb_file::bdb_format::Steps;
+use bdb_file::{Readable, Rows, verify_all_by, verify_by};
 use bdb_swap::bdb_io::Sink;
-use bdb_tool_print::bdb_tool_lines::Cut;
+use bdb_tool_dump::bdb_tool_lines::status::NOT_FOUND;
+use bdb_tool_dump::bdb_tool_lines::{Cut, put, refuse, report, tell, tell_list, tell_memory};
+use bdb_tool_dump::{write_list, write_section, write_sections};
 use bdb_tool_words::{Reading, Selection};
 use std::alloc::Global;
 use std::sync::ledger::Ledger;
 
 /// Writes the line of a file on which no row that counts holds.
-#[tactic(auto, using(crate::proofs::AnswerLemmas::no_line, crate::proofs::AnswerLemmas::same_text))]
+#[tactic(auto, using(crate::proofs::Below::no_line, crate::proofs::Below::same_text))]
 fn print_sound<K: Sink>(alloc: Global, readable: &Readable<'_>, out: &mut K) -> Result<(), Cut>
     ensures { Writes (sound_line (head_of readable.now).pages) (change K.written K.faults out.old out.new) result }
 {

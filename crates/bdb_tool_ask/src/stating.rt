@@ -1,18 +1,18 @@
 //! The command that tells what the pages of a file are.
 ghost use Rattle.std.specs.Prelude.{◌≡◌, IfOk, string_bytes};
 ghost use Rattle.bdb_file.specs.of_format.File.{file_of};
-ghost use Rattle.bdb_tool_print.specs.of_tool_lines.Printing.{Writes};
+ghost use Rattle.bdb_tool_dump.specs.of_tool_lines.Printing.{Writes};
 ghost use Rattle.bdb_tool_ask.specs.FileAnswers.{stat_text};
-ghost use Rattle.bdb_tool_print.specs.of_model.Answers.{done};
-ghost use Rattle.bdb_tool_print.specs.of_model.Change.{change};
-ghost use Rattle.bdb_tool_ask.specs.Finished.{Finishes};
+ghost use Rattle.bdb_tool_words.specs.of_model.Answers.{done};
+ghost use Rattle.bdb_tool_words.specs.of_model.Change.{change};
+ghost use Rattle.bdb_tool_dump.specs.of_tool_lines.Finished.{Finishes};
 ghost use Rattle.bdb_tool_ask.specs.Figures.{figures_text, last_figures, other_figures, tree_figures};
 
-use crate::finish::{put, report};
 use bdb_file::Sound;
 use bdb_stat::{Stat, stat};
 use bdb_swap::bdb_io::Sink;
-use bdb_tool_print::Cut;
+use bdb_tool_dump::bdb_tool_lines::{put, report};
+use bdb_tool_dump::bdb_tool_print::Cut;
 use std::alloc::{AllocError, Global};
 
 /// The lines of all pages, and of those of trees.
@@ -83,7 +83,7 @@ fn print_figures<K: Sink>(alloc: Global, sound: &Sound<'_>, out: &mut K) -> Resu
 }
 
 /// Answers `stat`.
-#[tactic(auto, using(crate::proofs::FinishLemmas::written_finishes))]
+#[tactic(auto, using(crate::proofs::Below::written_finishes))]
 pub(crate) fn answer_stat<K: Sink, E: Sink>(
     alloc: Global,
     sound: &Sound<'_>,

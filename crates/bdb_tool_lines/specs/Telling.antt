@@ -1,5 +1,5 @@
 -- The lines by which it's told what holds at the pages of a file that isn't sound. Source: README.md, "Use".
-use Rattle.std.specs.Prelude.{ℕ, List, ◌++◌, codes}
+use Rattle.std.specs.Prelude.{ℕ, List, [], ◌∷◌, ◌++◌, codes}
 use Rattle.std.specs.Fmt.{decimal}
 use Rattle.std.specs.List.{flat_map}
 use Rattle.bdb_faults.specs.of_format.Verdict.{Judgement, Faulty, LeftOut}
@@ -18,6 +18,11 @@ judgements_text judgements = flat_map judgement_line judgements
 abbrev pub judgement_status : Judgement → ℕ
 judgement_status (Faulty fault) = 1
 judgement_status (LeftOut name page) = 3
+
+-- the status of the first of what holds
+abbrev pub first_status : List Judgement → ℕ
+first_status [] = 0
+first_status (judgement ∷ judgements) = judgement_status judgement
 
 -- The parts of a line, which are printed one after another.
 

@@ -8,9 +8,8 @@ mod ranging;
 mod salvaging;
 
 pub use bdb_range;
-pub use bdb_text;
 pub use bdb_tool_lines;
-pub use bdb_tool_lines::Cut;
+pub use bdb_tool_lines::{Cut, bdb_io};
 pub use printing::Printer;
 pub use ranging::write_pairs;
 pub use salvaging::write_salvaged;

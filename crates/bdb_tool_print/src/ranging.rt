@@ -10,7 +10,7 @@ ghost use Rattle.std.specs.Fmt.{decimal};
 
 use crate::printing::Printer;
 use bdb_range::RangePairs;
-use bdb_range::bdb_format::Bytes;
+use bdb_range::bdb_format::{Bytes, Bytes};
 use bdb_range::bdb_overflow::{Datum, KeyView};
 use bdb_text::number_text;
 use bdb_tool_lines::Cut;

@@ -6,6 +6,7 @@ mod guesses;
 mod options;
 mod shapes;
 
+pub use bdb_text;
 pub use command::{
     Action, Bounds, Command, Lookup, Reading, Repair, Request, Salvage, Selection, Trial,
     base_limit, command_of, onto_file,

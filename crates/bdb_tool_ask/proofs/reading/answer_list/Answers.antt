@@ -1,6 +1,6 @@
 use Rattle.bdb_tool_words.specs.Commands.{ListAll}
 use Rattle.bdb_tool_ask.proofs.AnswerLemmas.{readable_finishes, refused_by}
-use Rattle.bdb_tool_ask.proofs.FinishLemmas.{written_finishes}
+use Rattle.bdb_tool_dump.proofs.of_tool_lines.FinishLemmas.{written_finishes}
 use Rattle.bdb_tool_ask.proofs.reading.answer_list.Goals as goal
 
 pub returns-in-Ok : goal.returns-in-Ok

@@ -1,5 +1,5 @@
 use Rattle.bdb_file.specs.of_any_order.AnyOrder.{faults_by_rows}
-use Rattle.bdb_tool_ask.proofs.FinishLemmas.{written_finishes}
+use Rattle.bdb_tool_dump.proofs.of_tool_lines.FinishLemmas.{written_finishes}
 use Rattle.bdb_tool_ask.proofs.TellingLemmas.{all_finish, sound_verified}
 use Rattle.bdb_tool_ask.proofs.reading.answer_verify.Goals as goal
 

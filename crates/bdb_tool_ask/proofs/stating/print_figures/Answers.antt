@@ -1,5 +1,5 @@
 use Rattle.std.proofs.Common.{◌∙◌}
-use Rattle.bdb_tool_ask.proofs.AnswerLemmas.{same_text}
+use Rattle.bdb_tool_dump.proofs.of_tool_lines.FinishLemmas.{same_text}
 use Rattle.bdb_tool_ask.proofs.FigureLemmas.{stat_lines}
 use Rattle.bdb_tool_ask.proofs.stating.print_figures.Goals as goal
 

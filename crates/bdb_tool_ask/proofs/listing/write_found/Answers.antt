@@ -1,6 +1,0 @@
-use Rattle.std.proofs.Common.{rules}
-use Rattle.bdb_tool_print.proofs.PrinterLemmas.{all_written}
-use Rattle.bdb_tool_ask.proofs.listing.write_found.Goals as goal
-
-pub returns : goal.returns
-returns g c = all_written _ _ _ _ _ _ _ _ _ (search rules) c.new-pending.ensures c.in_ok-found.was c.found.ensures c.flush.ensures.prints c.flush.ensures.empty

@@ -1,0 +1,18 @@
+ghost use Rattle.bdb_tool_words.specs.of_model.Change.{change};
+ghost use Rattle.bdb_tool_words.specs.Commands.{usage};
+ghost use Rattle.bdb_tool_dump.specs.of_tool_lines.Finished.{Tells};
+
+use bdb_swap::bdb_io::Sink;
+use bdb_tool_dump::bdb_tool_lines::status::USAGE;
+use bdb_tool_dump::bdb_tool_lines::tell;
+
+/// Tells the names of all commands, where the words are none of them, and answers the status of that or of a write fault.
+pub fn tell_usage<E: Sink>(err: &mut E) -> u8
+    ensures { Tells usage.err 2 (change E.written E.faults err.old err.new) result }
+{
+    tell(
+        err,
+        b"usage: bdbtool verify, list, get, dump, load, salvage, trial, range, convert, stat or repair\n",
+        USAGE,
+    )
+}

@@ -1,0 +1,56 @@
+-- What holds at the pages of a file is told, with its status.
+use Rattle.std.proofs.Common.{◌≡◌, ◌∙◌, ℕ, ◌<◌, List, [], ◌∷◌, inl, inr, refl, sym, subst, arith, ◌⊎◌}
+use Rattle.std.specs.Prelude.{Ok, Err, Result}
+use Rattle.bdb_tool_lines.specs.Printing.{Writes}
+use Rattle.bdb_tool_lines.specs.Telling.{first_status, judgement_status}
+use Rattle.bdb_tool_lines.specs.declared.cut.Cut.{Cut}
+use Rattle.bdb_tool_lines.specs.declared.cut.Cut.TheVariants.{WriteFault}
+use Rattle.bdb_model.specs.Change.{Change}
+use Rattle.bdb_faults.specs.of_format.Verdict.{Faulty, Judgement, LeftOut}
+use Rattle.bdb_tool_lines.specs.Finished.{Tells}
+
+-- Statuses.
+
+low_status : (judgement : Judgement) → (judgement_status judgement ≡ 1) ⊎ (judgement_status judgement ≡ 3)
+low_status (Faulty fault) = inl refl
+low_status (LeftOut name page) = inr refl
+
+pub not_write_fault : (judgement : Judgement) → judgement_status judgement ≡ 5 → ⊥
+not_write_fault judgement is = elim (low_status judgement) [ inl one ↦ omega arith | inr three ↦ omega arith ]
+
+pub list_not_write_fault : (judgements : List Judgement) → first_status judgements ≡ 5 → ⊥
+list_not_write_fault [] is = omega arith
+list_not_write_fault (judgement ∷ judgements) is = not_write_fault judgement is
+
+pub list_not_memory : (judgements : List Judgement) → first_status judgements ≡ 7 → ⊥
+list_not_memory [] is = omega arith
+list_not_memory (judgement ∷ judgements) is = elim (low_status judgement) [ inl one ↦ omega arith | inr three ↦ omega arith ]
+
+pub list_own : (judgements : List Judgement) → first_status judgements < 4
+list_own [] = omega arith
+list_own (judgement ∷ judgements) = elim (low_status judgement) [ inl one ↦ omega arith | inr three ↦ omega arith ]
+
+-- Lines.
+
+-- they were written whole
+pub told_whole : (text : List ℕ) (wanted status : ℕ) (err : Change) (result : Result Unit Cut) → result ≡ Ok tt → status ≡ wanted → (wanted ≡ 5 → ⊥)
+    → Writes text err result
+    → Tells text wanted err status
+told_whole text wanted status err result was is own writes = record {
+  status_is = inl is;
+  told = λ _. (subst (Writes text err) was writes).written;
+  failed = λ five. absurd (own (sym is ∙ five));
+  part = λ five. absurd (own (sym is ∙ five));
+}
+
+-- they were cut off
+pub told_in_part : (text : List ℕ) (wanted : ℕ) (err : Change) (result : Result Unit Cut) (cut : Cut) → result ≡ Err cut → cut ≡ WriteFault → (wanted ≡ 5 → ⊥)
+    → Writes text err result
+    → Tells text wanted err 5
+told_in_part text wanted err result cut was cause own writes =
+    let writes_cut : Writes text err (Err cut) = subst (Writes text err) was writes in record {
+      status_is = inr refl;
+      told = λ is. absurd (own (sym is));
+      failed = λ _. writes_cut.written.cause cause;
+      part = λ _. writes_cut.written.part;
+    }

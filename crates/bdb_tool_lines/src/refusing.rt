@@ -1,0 +1,79 @@
+//! What holds at the pages of a file is told, with its status.
+ghost use Rattle.std.specs.Prelude.{◌≡◌, ◌⊎◌, ◌<◌, length};
+ghost use Rattle.bdb_model.specs.Change.{change};
+ghost use Rattle.bdb_model.specs.Lines.{memory_line};
+ghost use Rattle.bdb_faults.specs.Named.{judgement_seen};
+ghost use Rattle.bdb_tool_lines.specs.Telling.{first_status, judgement_line, judgement_status, judgements_text};
+ghost use Rattle.bdb_tool_lines.specs.Finished.{IsRefused, Tells};
+
+use crate::finish::tell_memory;
+use crate::room::Room;
+use crate::status::{FAULT, UNSUPPORTED, WRITE_FAULT};
+use crate::telling::{tell_all, tell_one};
+use bdb_faults::bdb_format::Verdict;
+use bdb_faults::{Named, NamedList};
+use bdb_io::Sink;
+use std::alloc::Global;
+
+/// The status that the first of what is told gives.
+fn status_of(first: Named) -> u8
+    ensures { result ≡ judgement_status (judgement_seen first) }
+{
+    match first {
+        Named::Fault(_) => FAULT,
+        Named::Unsupported(..) => UNSUPPORTED,
+    }
+}
+
+/// The status that the first of a list gives.
+fn status_of_first(all: &NamedList) -> u8
+    requires { 0 < length all.now }
+    ensures { result ≡ first_status all.now }
+{
+    match all.get(0) {
+        Some(first) => status_of(first),
+        None => unreachable!(),
+    }
+}
+
+/// Tells what holds at a page.
+#[tactic(auto, using(crate::proofs::RefusalLemmas::told_whole, crate::proofs::RefusalLemmas::told_in_part))]
+fn tell_named<E: Sink>(alloc: Global, named: Named, err: &mut E) -> u8
+    ensures { Tells (judgement_line (judgement_seen named)) (judgement_status (judgement_seen named)) (change E.written E.faults err.old err.new) result
+        ⊎ Tells memory_line 7 (change E.written E.faults err.old err.new) result }
+{
+    let Ok(mut room) = Room::new(alloc) else {
+        return tell_memory(err);
+    };
+    match tell_one(err, &mut room, named) {
+        Ok(()) => status_of(named),
+        Err(_) => WRITE_FAULT,
+    }
+}
+
+/// Tells all that holds at the pages of a file, of which there is one thing at least.
+#[tactic(auto, using(crate::proofs::RefusalLemmas::told_whole, crate::proofs::RefusalLemmas::told_in_part))]
+pub fn tell_list<E: Sink>(alloc: Global, all: &NamedList, err: &mut E) -> u8
+    requires { 0 < length all.now }
+    ensures { Tells (judgements_text all.now) (first_status all.now) (change E.written E.faults err.old err.new) result
+        ⊎ Tells memory_line 7 (change E.written E.faults err.old err.new) result }
+{
+    let Ok(mut room) = Room::new(alloc) else {
+        return tell_memory(err);
+    };
+    match tell_all(err, &mut room, all) {
+        Ok(()) => status_of_first(all),
+        Err(_) => WRITE_FAULT,
+    }
+}
+
+/// Tells why a file isn't sound: the first that holds.
+pub fn refuse<E: Sink>(alloc: Global, verdict: Verdict, err: &mut E) -> u8
+    ensures { IsRefused verdict (change E.written E.faults err.old err.new) result }
+{
+    match verdict {
+        Verdict::Fault(fault) => tell_named(alloc, Named::Fault(fault), err),
+        Verdict::Unsupported(name, page) => tell_named(alloc, Named::Unsupported(name, page), err),
+        Verdict::Memory => tell_memory(err),
+    }
+}
