@@ -22,6 +22,8 @@ import time
 TOP = pathlib.Path(__file__).resolve().parent.parent
 GOAL = "bdbtool"
 PARTS = ("src", "specs", "proofs")
+# Which seconds each crate took: a crate to a line, by a tab.
+SECONDS = TOP / "tools/build_seconds.tsv"
 # A chain counts as the longest where it has this part of its seconds.
 NEAR = 0.9
 
@@ -46,7 +48,7 @@ class Kit:
 class Crate:
     """A crate of crates.txt, with the libraries that it names."""
 
-    def __init__(self, name, names, crates):
+    def __init__(self, name, names, crates, measured):
         self.name = name
         self.folder = TOP / "crates" / name
         self.below = [crates[it] for it in names if it in crates]
@@ -58,8 +60,8 @@ class Crate:
         self.texts = [(str(it.relative_to(self.folder)), text) for it, text in texts.items()]
         code = sum(text.count(b"\n") for it, text in texts.items() if it.suffix == ".rt")
         proofs = sum(text.count(b"\n") for it, text in texts.items() if it.suffix == ".antt")
-        # Seconds and bytes that a check takes by one process, as measured on this project's crates.
-        self.seconds = 12 + 0.17 * code + 0.003 * proofs
+        # Seconds and bytes that a check takes by one process: as measured, or else by its lines.
+        self.seconds = measured.get(name, 12 + 0.17 * code + 0.003 * proofs)
         self.memory = 1_000_000_000 + 1_000_000 * code + 200_000 * proofs
 
     def all_below(self):
@@ -95,6 +97,8 @@ class Crate:
 def listed():
     """The crates that the program stands on, each after those below it, and its own last."""
     names, crates = {}, {}
+    rows = (line.split("\t") for line in SECONDS.read_text().splitlines())
+    measured = {name: float(seconds) for name, seconds in rows}
     for line in (TOP / "crates.txt").read_text().splitlines():
         name, colon, rest = line.split("#")[0].partition(":")
         if colon:
@@ -104,7 +108,7 @@ def listed():
         if name in names and name not in crates:
             for it in names[name]:
                 visit(it)
-            crates[name] = Crate(name, names[name], crates)
+            crates[name] = Crate(name, names[name], crates, measured)
 
     visit(GOAL)
     return crates
