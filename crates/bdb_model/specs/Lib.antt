@@ -36,7 +36,6 @@ pub use Rattle.bdb_text_format.specs.Pairs
 pub use Rattle.bdb_text_format.specs.Sections
 pub mod Change
 pub mod Lines
-pub mod Command
 pub mod Answers
 pub use Rattle.bdb_text_format.specs.of_format as of_format
 pub use Rattle.bdb_text_format.specs as of_text_format

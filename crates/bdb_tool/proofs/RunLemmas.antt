@@ -4,7 +4,7 @@ use Rattle.std.specs.Prelude.{Option, Some, None, nat_lt}
 use Rattle.std.specs.Io.KnownBytes.{Consumes, IsAtEnd}
 use Rattle.std.proofs.lemmas.Bool.{le-ltb, lt-ltb}
 use Rattle.bdb_repair.specs.of_model.Answers.{Answer, told, too_large_line}
-use Rattle.bdb_tool_ask.specs.of_tool_words.Commands.{Ask, Command, Load, reads_input, usage}
+use Rattle.bdb_tool_ask.specs.of_tool_words.Commands.{Ask, Command, Load, Repair, Salvage, Trial, reads_input, usage}
 use Rattle.bdb_repair.specs.of_model.Change.{Change, GainsPart, HasFailed, IsUncalled, Stays}
 use Rattle.bdb_repair.specs.of_any_order.declared.rows.Rows.TheVariants.{All}
 use Rattle.bdb_repair.specs.of_format.Faults.{Rose, Took}
@@ -18,7 +18,6 @@ use Rattle.bdb_tool_ask.specs.of_tool_lines.Finished.{Finishes, Tells}
 use Rattle.bdb_tool.specs.Parts.{Answered, Ends, IsTaskAnswered, IsToldStop, Unanswered}
 use Rattle.bdb_tool.specs.Runs.{ErrorLine, HasFailedReading, IsAnswered, OfAnswer, OfMemory, OfReadFault, OfWriteFault, RunsAs, RunsOn, asked_on}
 use Rattle.bdb_tool.specs.Tasks.{AreReading, IsRead, IsStopped, IsTaskTaken, IsTooLong}
-use Rattle.bdb_tool_ask.specs.of_tool_words.WordsSeen.{repair_seen, salvage_seen, trial_seen}
 use Rattle.bdb_tool_ask.specs.of_tool_words.declared.command.Repair.{Repair as CodeRepair}
 use Rattle.bdb_tool_ask.specs.of_tool_words.declared.command.Trial.{Trial as CodeTrial}
 use Rattle.bdb_tool.specs.declared.task.Stop.{Stop}
@@ -237,11 +236,11 @@ loaded_runs asks source out err limit text status read ends =
 
 -- an image that is repaired
 repaired_runs : (asks : Asked) (source out err : Change) (limit : ℕ) (asked : CodeRepair) (image : List ℕ) (status : ℕ)
-    → IsRead asks.command source (record { limit = limit; action = repair_seen asked }) image
+    → IsRead asks.command source (record { limit = limit; action = Repair asked }) image
     → Ends (IsRepairAnswer limit asked.shape asked.guess image) out err status
     → RunsAs asks source out err status
 repaired_runs asks source out err limit asked image status read ends =
-    let command : Command = record { limit = limit; action = repair_seen asked } in
+    let command : Command = record { limit = limit; action = Repair asked } in
     ended_runs asks source out err image command (IsRepairAnswer limit asked.shape asked.guess image) status
     (whole_input source.before source.now image read.input_is.bytes read.input_is.end) read.command_is
     (λ answer allows. (
@@ -251,10 +250,10 @@ repaired_runs asks source out err limit asked image status read ends =
 
 -- a trial
 tried_runs : (asks : Asked) (source out err : Change) (limit : ℕ) (trial : CodeTrial) (status : ℕ)
-    → asks.command ≡ Some (record { limit = limit; action = trial_seen trial }) → IsUncalled source
+    → asks.command ≡ Some (record { limit = limit; action = Trial trial }) → IsUncalled source
     → Ends (IsTrialAnswer limit trial.kind trial.seed trial.count) out err status → RunsAs asks source out err status
 tried_runs asks source out err limit trial status is uncalled ends =
-    let command : Command = record { limit = limit; action = trial_seen trial } in
+    let command : Command = record { limit = limit; action = Trial trial } in
     let input = some_input source.before in
     ended_runs asks source out err input.0 command (IsTrialAnswer limit trial.kind trial.seed trial.count) status input.1 is
     (λ answer allows. (
@@ -275,7 +274,7 @@ taken_runs asks source out err (AskTask request image) status taken answered =
     (answered taken.asked taken.seen)
 taken_runs asks source out err (LoadTask text limit) status taken answered = loaded_runs asks source out err limit text status taken.read answered
 taken_runs asks source out err (SalvageTask asked image) status taken answered =
-    let command : Command = record { limit = taken.limit; action = salvage_seen asked } in
+    let command : Command = record { limit = taken.limit; action = Salvage asked } in
     asked_runs asks source out err command image (salvage_answer asked.guess asked.print image) status taken.read refl
     (salvage_own asked.guess asked.print image).no_read_fault answered
 taken_runs asks source out err (RepairTask asked image limit) status taken answered = repaired_runs asks source out err limit asked image status taken.read

@@ -2,7 +2,7 @@
 use Rattle.std.proofs.Common.{◌≡◌, ℕ, ◌+◌, false, true, List, refl, subst, sym, ◌∙◌, ap}
 use Rattle.std.specs.Prelude.{Option, Some, None, IsTrue, is_some}
 use Rattle.bdb_repair.specs.of_model.Change.{Change}
-use Rattle.bdb_tool_ask.specs.of_tool_words.Commands.{Action, Ask, Command, Load, Request, asking, handed, reads_input, within}
+use Rattle.bdb_tool_ask.specs.of_tool_words.Commands.{Action, Ask, Command, Load, Repair, Request, Salvage, asking, handed, reads_input, within}
 use Rattle.bdb_repair.specs.of_any_order.declared.rows.Rows.{Rows}
 use Rattle.bdb_repair.specs.of_any_order.declared.rows.Rows.TheVariants.{All}
 use Rattle.bdb_repair.specs.of_format.Faults.{Took}
@@ -14,7 +14,7 @@ use Rattle.bdb_tool_ask.specs.of_tool_words.declared.command.Salvage.{Salvage as
 use Rattle.bdb_tool.specs.declared.task.Stop.{Stop}
 use Rattle.bdb_tool.specs.declared.task.Stop.TheVariants.{Usage, TooLarge, ReadFault, Memory}
 use Rattle.bdb_tool.specs.Tasks.{AreReading, IsAsked, IsInputWithin, IsStopped, IsUnreadable}
-use Rattle.bdb_tool_ask.specs.of_tool_words.WordsSeen.{IsSeen, reading_seen, repair_seen, request_seen, salvage_seen}
+use Rattle.bdb_tool_ask.specs.of_tool_words.WordsSeen.{IsSeen, reading_seen, request_seen}
 
 abbrev made : ℕ → Action → Command
 made limit action = record { limit = limit; action = action }
@@ -93,10 +93,10 @@ text_unread said source limit stop seen unread = not_read (handed false said) so
 
 pub salvage_unread : (said : Option Command) (source : Change) (limit : ℕ) (asked : CodeSalvage) (stop : Stop)
     → IsSeen (said) (record { limit = limit; action = SalvageWord asked }) → IsUnreadable limit source stop → IsStopped (handed false said) source stop
-salvage_unread said source limit asked stop seen unread = not_read (handed false said) source limit (salvage_seen asked) stop (ap (handed false) seen.0) refl
+salvage_unread said source limit asked stop seen unread = not_read (handed false said) source limit (Salvage asked) stop (ap (handed false) seen.0) refl
     unread
 
 pub repair_unread : (said : Option Command) (source : Change) (limit : ℕ) (asked : CodeRepair) (stop : Stop)
     → IsSeen said (record { limit = limit; action = RepairWord asked }) → IsUnreadable limit source stop → IsStopped (handed false said) source stop
-repair_unread said source limit asked stop seen unread = not_read (handed false said) source limit (repair_seen asked) stop (ap (handed false) seen.0) refl
+repair_unread said source limit asked stop seen unread = not_read (handed false said) source limit (Repair asked) stop (ap (handed false) seen.0) refl
     unread

@@ -49,9 +49,9 @@ abbrev pub IsActionAnswer : Action → ℕ → List ℕ → List ℕ → Answer 
 IsActionAnswer (Ask rows request) limit input base answer = answer ≡ asked_answer rows request input
 IsActionAnswer Load limit input base answer = IsTextAnswer limit input answer
 IsActionAnswer (LoadOnto file) limit input base answer = IsOntoAnswer limit input base answer
-IsActionAnswer (Salvage guess print) limit input base answer = answer ≡ salvage_answer guess print input
-IsActionAnswer (Repair shape guess) limit input base answer = IsRepairAnswer limit shape guess input answer
-IsActionAnswer (Trial kind seed count) limit input base answer = IsTrialAnswer limit kind seed count answer
+IsActionAnswer (Salvage asked) limit input base answer = answer ≡ salvage_answer asked.guess asked.print input
+IsActionAnswer (Repair asked) limit input base answer = IsRepairAnswer limit asked.shape asked.guess input answer
+IsActionAnswer (Trial asked) limit input base answer = IsTrialAnswer limit asked.kind asked.seed asked.count answer
 
 -- an answer to an input, by whether it is too long
 abbrev pub IsAnswerBySize : Bool → Command → List ℕ → List ℕ → Answer → Type 0

@@ -2,11 +2,11 @@
 use Rattle.std.specs.Prelude.{◌≡◌, ℕ, ◌+◌, ◌≤◌, ◌^◌, IsTrue, true, List, length, Option, Some, None, is_some}
 use Rattle.std.specs.Io.KnownBytes.{Consumes, IsAtEnd}
 use Rattle.bdb_repair.specs.of_model.Change.{Change, HasFailed, IsUncalled}
-use Rattle.bdb_tool_ask.specs.of_tool_words.Commands.{Ask, Command, Load, Request, reads_input}
+use Rattle.bdb_tool_ask.specs.of_tool_words.Commands.{Ask, Command, Load, Repair, Request, Salvage, Trial, reads_input}
 use Rattle.bdb_repair.specs.of_any_order.declared.rows.Rows.{Rows}
 use Rattle.bdb_repair.specs.of_any_order.declared.rows.Rows.TheVariants.{All}
 use Rattle.bdb_repair.specs.of_format.Faults.{Took}
-use Rattle.bdb_tool_ask.specs.of_tool_words.WordsSeen.{IsFitRepair, IsFitSalvage, IsFitTrial, reading_seen, repair_seen, request_seen, salvage_seen, trial_seen}
+use Rattle.bdb_tool_ask.specs.of_tool_words.WordsSeen.{IsFitRepair, IsFitSalvage, IsFitTrial, reading_seen, request_seen}
 use Rattle.bdb_tool_ask.specs.of_tool_words.declared.command.Repair.{Repair as CodeRepair}
 use Rattle.bdb_tool_ask.specs.of_tool_words.declared.command.Salvage.{Salvage as CodeSalvage}
 use Rattle.bdb_tool_ask.specs.of_tool_words.declared.command.Trial.{Trial as CodeTrial}
@@ -73,15 +73,15 @@ pub record IsTextRead (said : Option Command) (source : Change) (text : List ℕ
 -- the words ask to salvage the image, which is the input
 pub record IsSalvageRead (said : Option Command) (source : Change) (asked : CodeSalvage) (image : List ℕ) : Type 0 where
   pub limit : ℕ
-  pub read : IsRead said source (record { limit = limit; action = salvage_seen asked }) image
+  pub read : IsRead said source (record { limit = limit; action = Salvage asked }) image
 
 -- the words ask to repair the image, which is the input
 pub record IsRepairRead (said : Option Command) (source : Change) (asked : CodeRepair) (image : List ℕ) (limit : ℕ) : Type 0 where
-  pub read : IsRead said source (record { limit = limit; action = repair_seen asked }) image
+  pub read : IsRead said source (record { limit = limit; action = Repair asked }) image
 
 -- the words ask for a trial, and nothing was read
 pub record IsTried (said : Option Command) (source : Change) (trial : CodeTrial) (limit : ℕ) : Type 0 where
-  pub command_is : said ≡ Some (record { limit = limit; action = trial_seen trial })
+  pub command_is : said ≡ Some (record { limit = limit; action = Trial trial })
   pub uncalled : IsUncalled source
 
 -- what there is to do is what the words say

@@ -10,7 +10,7 @@ use Rattle.bdb_tool_words.specs.of_model.Answers.{done, fault_line, pairs_text, 
 use Rattle.bdb_tool_ask.specs.FileAnswers.{asked_answer, converted, data_at, data_named, data_of_database, database_in, dumped, found, judged_answer, not_btree, not_found, range_answer, ranged, section_answer, sound_answer}
 use Rattle.bdb_tool_words.specs.of_model.Change.{Change}
 use Rattle.bdb_tool_words.specs.Commands.{Request, Verify, Get, Dump, Range, Convert, bounds_request, key_request}
-use Rattle.bdb_tool_words.specs.of_model.Command.{asked_name}
+use Rattle.bdb_tool_words.specs.Commands.{asked_name}
 use Rattle.bdb_file.specs.of_format.Databases.{Database, data_under, databases, place_of}
 use Rattle.bdb_file.specs.of_format.File.{File, file_of}
 use Rattle.bdb_file.specs.of_format.Flags.{kind_of}

@@ -2,7 +2,7 @@
 ghost use Rattle.std.specs.Prelude.{◌≡◌, [], IsTrue, MatchOption, List, Option, Some, is_some, not, option_copied, ℕ};
 ghost use Rattle.bdb_tool_ask.specs.FileAnswers.{data_named, found};
 ghost use Rattle.bdb_tool_words.specs.of_model.Change.{change};
-ghost use Rattle.bdb_tool_words.specs.of_model.Command.{asked_name};
+ghost use Rattle.bdb_tool_words.specs.Commands.{asked_name};
 ghost use Rattle.bdb_tool_words.specs.Commands.{key_request};
 ghost use Rattle.bdb_file.specs.of_format.File.{file_of};
 ghost use Rattle.bdb_tool_words.specs.of_text_format.TextSpelling.{bytes_spelled};

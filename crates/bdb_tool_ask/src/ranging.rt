@@ -11,7 +11,7 @@ ghost use Rattle.bdb_file.specs.of_format.Page.{BtreeFields};
 ghost use Rattle.bdb_file.specs.of_format.Verdict.{structure_faults};
 ghost use Rattle.bdb_tool_ask.specs.FileAnswers.{ranged};
 ghost use Rattle.bdb_tool_words.specs.of_model.Change.{change};
-ghost use Rattle.bdb_tool_words.specs.of_model.Command.{asked_name};
+ghost use Rattle.bdb_tool_words.specs.Commands.{asked_name};
 ghost use Rattle.bdb_tool_words.specs.Commands.{bounds_request};
 ghost use Rattle.bdb_tool_dump.specs.of_range.Ranges.{in_range};
 ghost use Rattle.bdb_tool_words.specs.of_text_format.TextSpelling.{bytes_spelled};

@@ -6,7 +6,7 @@ ghost use Rattle.bdb_tool_dump.specs.of_tool_lines.Printing.{Writes};
 ghost use Rattle.bdb_tool_ask.specs.FileAnswers.{asked_answer, dumped, judged_answer, sound_line, verified};
 ghost use Rattle.bdb_tool_words.specs.of_model.Change.{change};
 ghost use Rattle.bdb_tool_words.specs.Commands.{Dump, ListAll, Request as ModelRequest, text_request};
-ghost use Rattle.bdb_tool_words.specs.of_model.Command.{asked_name};
+ghost use Rattle.bdb_tool_words.specs.Commands.{asked_name};
 ghost use Rattle.bdb_tool_dump.specs.of_tool_lines.Finished.{Finishes};
 ghost use Rattle.bdb_tool_words.specs.WordsSeen.{reading_seen};
 

@@ -8,6 +8,7 @@ mod ranging;
 mod salvaging;
 
 pub use bdb_range;
+pub use bdb_text;
 pub use bdb_tool_lines;
 pub use bdb_tool_lines::{Cut, bdb_io};
 pub use printing::Printer;

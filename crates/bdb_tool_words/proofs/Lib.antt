@@ -1,4 +1,4 @@
 pub mod CommandLemmas
-pub mod GivenLemmas
+pub mod FindLemmas
 pub mod ReadLemmas
 pub mod StepLemmas

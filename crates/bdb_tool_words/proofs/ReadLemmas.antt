@@ -1,105 +1,94 @@
--- The options that were read so far, and those from a place on.
-use Rattle.std.proofs.Common.{◌≡◌, Bool, true, false, List, [], ◌∷◌, ◌++◌, append_assoc, drop, inl, inr, refl, sym, ◌∙◌, ap}
-use Rattle.std.specs.Prelude.{ℕ, Option, Some, None}
+-- The options and operands from a place on.
+use Rattle.std.proofs.Common.{◌≡◌, ℕ, zero, suc, ◌+◌, Bool, true, false, Bor, List, [], ◌∷◌, drop, refl, subst, sym, ◌∙◌, ap, arith}
+use Rattle.std.specs.Prelude.{IfSome, IsSomeAnd, Option, Some, None, is_some, option_copied, option_map, slice_get}
 use Rattle.std.specs.Str.{bytes_eq}
-use Rattle.std.proofs.lemmas.Bool.{or_cases, or_left, or_parts, or_right}
-use Rattle.bdb_model.specs.Command.{Arguments, Given, OptionRow, arguments, has_repeated, is_given, once, with_option}
-use Rattle.bdb_tool_words.specs.declared.options.Arguments.{Arguments as ReadArguments}
-use Rattle.bdb_tool_words.specs.WordsSeen.{HasGiven, IsNew}
-use Rattle.bdb_tool_words.proofs.GivenLemmas.{given_other, is_given-push}
-use Rattle.bdb_tool_words.proofs.StepLemmas.{bytes_swapped}
+use Rattle.bdb_tool_words.specs.Arguments.{Arguments, has_repeated, once, only_operands, value_given, with_option}
+use Rattle.bdb_tool_words.specs.ArgumentsSeen.{or_none}
+
+-- The value of an option.
+
+-- the value of an option is its value among those that are left
+abbrev pub IsLeft : List ℕ → Option Arguments → Option Arguments → Type 0
+IsLeft word all rest = IfSome all (λ it. IsSomeAnd rest (λ left. value_given word it.given ≡ value_given word left.given))
+
+pub left_all : (word : List ℕ) (all : Option Arguments) → IsLeft word all all
+left_all word None = _
+left_all word (Some it) = refl
+
+pub left_more : (word : List ℕ) (all rest : Option Arguments) (other value : List ℕ) → IsLeft word all (with_option other value rest)
+    → bytes_eq other word ≡ false → IsLeft word all rest
+left_more word None rest other value left differs = _
+left_more word (Some it) None other value left differs = absurd left
+left_more word (Some it) (Some more) other value left differs = left ∙ rw differs refl
+
+pub left_found : (word : List ℕ) (all rest : Option Arguments) (other value : List ℕ) → IsLeft word all (with_option other value rest)
+    → bytes_eq other word ≡ true → IfSome all (λ it. Some value ≡ value_given word it.given)
+left_found word None rest other value left same = _
+left_found word (Some it) None other value left same = absurd left
+left_found word (Some it) (Some more) other value left same = sym (left ∙ rw same refl)
+
+pub left_end : (word : List ℕ) (all : Option Arguments) (operands : List (List ℕ)) → IsLeft word all (only_operands operands)
+    → IfSome all (λ it. None ≡ value_given word it.given)
+left_end word None operands left = _
+left_end word (Some it) operands left = sym left
+
+pub left_none : (word : List ℕ) (all : Option Arguments) → IsLeft word all None → IfSome all (λ it. None ≡ value_given word it.given)
+left_none word None left = _
+left_none word (Some it) left = absurd left
 
 -- Repeated options.
 
-repeats : (first : Given) (others : List Given) → is_given first.word others ≡ true → has_repeated (first ∷ others) ≡ true
-repeats first others is = rw is refl
+abbrev pub operands_in : Option Arguments → Option (List (List ℕ))
+operands_in all = option_map (λ (it : Arguments). it.operands) all
 
-repeats_later : (first : Given) (others : List Given) (is : Bool) → is_given first.word others ≡ is → has_repeated others ≡ true → has_repeated (first ∷ others)
-    ≡ true
-repeats_later first others true is later = rw is refl
-repeats_later first others false is later = rw is later
+-- where those after an option repeat none, neither do all, unless they have it too
+new_first : (word value : List ℕ) (rest : Arguments) (repeated : Bool) → None ≡ value_given word rest.given → has_repeated rest.given ≡ repeated
+    → operands_in (once (with_option word value (Some rest))) ≡ operands_in (once (Some rest))
+new_first word value rest true new is = rw (sym new, is) refl
+new_first word value rest false new is = rw (sym new, is) refl
 
-unrepeated : (first : Given) (others : List Given) → is_given first.word others ≡ false → has_repeated others ≡ false → has_repeated (first ∷ others) ≡ false
-unrepeated first others is later = rw is later
+pub once_new : (word value : List ℕ) (rest : Option Arguments) → IfSome rest (λ it. None ≡ value_given word it.given)
+    → operands_in (once (with_option word value rest)) ≡ operands_in (once rest)
+once_new word value None new = refl
+once_new word value (Some rest) new = new_first word value rest (has_repeated rest.given) new refl
 
-unrepeated_parts : (first : Given) (others : List Given) (is : Bool) → is_given first.word others ≡ is → has_repeated (first ∷ others) ≡ false
-    → (is_given first.word others ≡ false) × (has_repeated others ≡ false)
-unrepeated_parts first others true is distinct = let wrong : true ≡ false = sym (repeats first others is) ∙ distinct in cc
-unrepeated_parts first others false is distinct = (is, rw is at distinct)
+pub once_again : (word value again : List ℕ) (rest : Option Arguments) → IfSome rest (λ it. Some again ≡ value_given word it.given)
+    → operands_in (once (with_option word value rest)) ≡ None
+once_again word value again None given = refl
+once_again word value again (Some rest) given = rw (sym given) refl
 
-pub repeated_within : (before : List Given) (option : Given) (rest : List Given) → is_given option.word before ≡ true → has_repeated (before ++ option ∷ rest)
-    ≡ true
-repeated_within [] option rest is = cc
-repeated_within (first ∷ before) option rest is =
-    elim (or_cases (bytes_eq first.word option.word) (is_given option.word before) is) [
-      | inl same ↦ repeats first (before ++ option ∷ rest)
-          (is_given-push first.word before option rest ∙ or_right (is_given first.word before) _
-          (or_left (bytes_eq option.word first.word) (is_given first.word rest) (bytes_swapped first.word option.word true same)))
-      | inr later ↦ repeats_later first (before ++ option ∷ rest) (is_given first.word (before ++ option ∷ rest)) refl
-          (repeated_within before option rest later)
-    ]
+-- What was read.
 
-pub unrepeated_more : (before : List Given) (option : Given) → has_repeated before ≡ false → is_given option.word before ≡ false
-    → has_repeated (before ++ option ∷ []) ≡ false
-unrepeated_more [] option once new = refl
-unrepeated_more (first ∷ before) option once new =
-    let parts = unrepeated_parts first before (is_given first.word before) refl once in
-    let others = or_parts (bytes_eq first.word option.word) (is_given option.word before) new in
-    unrepeated first (before ++ option ∷ [])
-    (given_other first.word before option false (bytes_swapped first.word option.word false others.0) parts.0)
-    (unrepeated_more before option parts.1 others.1)
+once_by : (all : Arguments) (repeated : Bool) (it : Arguments) → has_repeated all.given ≡ repeated → once (Some all) ≡ Some it → Some all ≡ Some it
+once_by all true it is read = let none : None ≡ Some it = rw is at read in cc
+once_by all false it is read = rw is at read
 
--- Options before others.
+pub once_is : (all : Option Arguments) (it : Arguments) → once all ≡ Some it → all ≡ Some it
+once_is None it read = cc
+once_is (Some all) it read = once_by all (has_repeated all.given) it refl read
 
-abbrev pub after : List Given → Option Arguments → Option Arguments
-after before None = None
-after before (Some all) = Some (record { given = before ++ all.given; operands = all.operands })
+pub all_read : (all : Option Arguments) (operands : List (List ℕ)) → Some operands ≡ operands_in all → all ≡ Some (or_none all)
+all_read None operands is = cc
+all_read (Some all) operands is = refl
 
-after_none : (rest : Option Arguments) → after [] rest ≡ rest
-after_none None = refl
-after_none (Some all) = refl
+pub operands_read : (all : Option Arguments) (operands : List (List ℕ)) → Some operands ≡ operands_in all → (or_none all).operands ≡ operands
+operands_read None operands is = cc
+operands_read (Some all) operands is = cc
 
-after_option : (before : List Given) (option : Given) (rest : Option Arguments) → after before (with_option option.word option.value rest)
-    ≡ after (before ++ option ∷ []) rest
-after_option before option None = refl
-after_option before option (Some all) =
-    ap (λ (given : List Given). Some (record { given = given; operands = all.operands })) (sym (append_assoc before (option ∷ []) all.given))
+pub none_read : (all : Option Arguments) → None ≡ operands_in all → None ≡ all
+none_read None is = refl
+none_read (Some all) is = cc
 
-repeated_once : (before : List Given) (option : Given) (rest : Option Arguments) → is_given option.word before ≡ true
-    → once (after before (with_option option.word option.value rest)) ≡ None
-repeated_once before option None is = refl
-repeated_once before option (Some all) is = rw (repeated_within before option all.given is) refl
+-- the value of an option among all that was read
+pub value_read : (all : Option Arguments) (it : Arguments) (word : List ℕ) (value : Option (List ℕ)) → once all ≡ Some it
+    → IfSome all (λ one. value ≡ value_given word one.given) → value ≡ value_given word it.given
+value_read all it word value read found = subst (λ every. IfSome every (λ one. value ≡ value_given word one.given)) (once_is all it read) found
 
--- What holds while the options are read.
+pub is_some-copied : (text : Option (Bor (List ℕ))) → is_some text ≡ is_some (option_copied text)
+is_some-copied None = refl
+is_some-copied (Some text) = refl
 
-pub record IsReading (options : List OptionRow) (words : List (List ℕ)) (read : ReadArguments) : Type 0 where
-  pub before : List Given
-  pub has : HasGiven read before
-  pub once_each : has_repeated before ≡ false
-  pub split : arguments options (drop 1 words) ≡ after before (arguments options (drop read.operands words))
-
-pub begins : (options : List OptionRow) (words : List (List ℕ)) (read : ReadArguments) → HasGiven read [] → read.operands ≡ 1 → IsReading options words read
-begins options words read has first = record {
-  before = [];
-  has = has;
-  once_each = refl;
-  split = rw first (sym (after_none (arguments options (drop 1 words))));
-}
-
-pub reads_more : (options : List OptionRow) (words : List (List ℕ)) (read more : ReadArguments) (option : Given) (next : ℕ)
-    (reading : IsReading options words read) → IsNew reading.before option more → more.operands ≡ next → arguments options (drop read.operands words)
-    ≡ with_option option.word option.value (arguments options (drop next words)) → IsReading options words more
-reads_more options words read more option next reading new at step = record {
-  before = reading.before ++ option ∷ [];
-  has = new.1;
-  once_each = unrepeated_more reading.before option reading.once_each new.0;
-  split =
-      rw at (reading.split ∙ ap (λ (rest : Option Arguments). after reading.before rest) step
-      ∙ after_option reading.before option (arguments options (drop next words)));
-}
-
-pub reads_twice : (options : List OptionRow) (words : List (List ℕ)) (read : ReadArguments) (option : Given) (rest : Option Arguments)
-    (reading : IsReading options words read) → is_given option.word reading.before ≡ true → arguments options (drop read.operands words)
-    ≡ with_option option.word option.value rest → once (arguments options (drop 1 words)) ≡ None
-reads_twice options words read option rest reading is step =
-    ap once (reading.split ∙ ap (λ (left : Option Arguments). after reading.before left) step) ∙ repeated_once reading.before option rest is
+pub slice_get-drop : {X : Type 0} (xs : List X) (n i : ℕ) → slice_get (drop n xs) i ≡ slice_get xs (n + i)
+slice_get-drop xs zero i = let same : i ≡ 0 + i = omega arith in ap (slice_get xs) same
+slice_get-drop [] (suc n) i = refl
+slice_get-drop (x ∷ xs) (suc n) i = let next : suc (n + i) ≡ suc n + i = omega arith in slice_get-drop xs n i ∙ ap (slice_get (x ∷ xs)) next

@@ -1,3 +1,5 @@
+pub mod Arguments
+pub mod ArgumentsSeen
 pub mod Commands
 pub mod WordsSeen
 pub use Rattle.bdb_model.specs as of_model

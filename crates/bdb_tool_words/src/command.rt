@@ -1,26 +1,25 @@
 //! The command that the words of a command line are. Nothing here allocates.
-ghost use Rattle.std.specs.Prelude.{◌≡◌, ◌≢◌, ◌≤◌, ◌^◌, [], ◌∷◌, IfSome, List, MatchOption, Some, drop, false, is_some, length, option_copied, option_map};
-ghost use Rattle.std.specs.Prelude.{true, ℕ};
-ghost use Rattle.bdb_model.specs.of_format.Digits.{number_in};
-ghost use Rattle.bdb_tool_words.specs.Commands.{Action as ModelAction, Request as ModelRequest, at_most, command_of, command_on, commands, convert_row};
-ghost use Rattle.bdb_tool_words.specs.Commands.{dump_row};
-ghost use Rattle.bdb_tool_words.specs.Commands.{get_row, kind_named, load_row, onto_file, plain_row, range_row, reading_row, repair_row, row_named, rows_by};
-ghost use Rattle.bdb_tool_words.specs.Commands.{salvage_row, trial_row};
-ghost use Rattle.bdb_model.specs.Command.{asked_name, limit_of};
-ghost use Rattle.bdb_tool_words.specs.WordsSeen.{AreOnto, IsFitAction, IsFitCommand, IsReadBy, IsSeen, action_seen, reading_seen, row_meant};
+ghost use Rattle.std.specs.Prelude.{◌≡◌, IfSome, MatchOption, None, Some, false, drop, option_copied, option_map, true};
+ghost use Rattle.bdb_tool_words.specs.Commands.{action_of, command_by, command_of, command_on, commands, loading, onto_file, row_named, rows_asked};
+ghost use Rattle.bdb_tool_words.specs.declared.command.CommandName.TheVariants as command;
+ghost use Rattle.bdb_tool_words.specs.WordsSeen.{AreOnto, IsActionSeen, IsFitAction, IsFitCommand, IsSeen, action_seen, row_seen};
 
 use crate::guesses::{guess_asked, order_named};
-use crate::options::{OptionWord, read_arguments};
+use crate::options::{
+    ANY_ORDER, AS_KIND, Arguments, DUPLICATES, DUPSORT, HEX, MAX_BYTES, NAME, ONTO, ORDER,
+    OptionRow, PAGE_SIZE, PRINT, read_arguments,
+};
 use crate::shapes::{duplicates_named, shape_asked};
+use crate::values::{is_name, kind_named, limit_of, number_to, rows_by};
 use bdb_any_order::Rows;
-use bdb_model::bdb_format::{Kind, Order, number_in};
+use bdb_model::bdb_format::{Kind, Order};
 use bdb_model::{Shape, Words};
-use bdb_rescue::Guess;
-use bdb_text::is_spelling;
+use bdb_spelling::is_spelling;
+use bdb_survey::Guess;
 
-/// The word of a command.
+/// The name of a command.
 #[derive(Clone, Copy)]
-enum CommandWord {
+enum CommandName {
     Verify,
     List,
     Get,
@@ -129,71 +128,91 @@ pub struct Command<'w> {
     pub action: Action<'w>,
 }
 
-/// The operands of `range`.
-#[derive(Clone, Copy)]
-struct BoundWords<'w> {
-    from: &'w [u8],
-    to: &'w [u8],
-}
-
-/// The operands of `trial`.
-#[derive(Clone, Copy)]
-struct TrialWords<'w> {
-    kind: &'w [u8],
-    seed: &'w [u8],
-    count: &'w [u8],
-}
-
-/// The longest input that any command takes, in bytes.
-const LONGEST: u32 = 1 << 30;
-
 /// The greatest seed of `trial`.
 const GREATEST_SEED: u32 = 2147483647;
 
 /// The most pairs that `trial` makes.
 const MOST_PAIRS: u32 = 200000;
 
-/// The options of a command without any of its own.
-const PLAIN: [OptionWord; 1] = [OptionWord::MaxBytes];
+/// A command of the table: its name and its word, the options that it has, and how many operands.
+#[derive(Clone, Copy)]
+struct CommandRow {
+    name: CommandName,
+    word: &'static [u8],
+    options: &'static [OptionRow],
+    operands: usize,
+}
 
 /// The options of `get` and `range`.
-const LOOKUP: [OptionWord; 4] = [
-    OptionWord::MaxBytes,
-    OptionWord::Name,
-    OptionWord::Hex,
-    OptionWord::Print,
-];
+const LOOKUP: [OptionRow; 4] = [MAX_BYTES, NAME, HEX, PRINT];
 
-/// The options of `verify` and `list`.
-const READING: [OptionWord; 2] = [OptionWord::MaxBytes, OptionWord::AnyOrder];
-
-/// The options of `dump`.
-const SELECTION: [OptionWord; 4] = [
-    OptionWord::MaxBytes,
-    OptionWord::Name,
-    OptionWord::Print,
-    OptionWord::AnyOrder,
-];
-
-/// The options of `load`.
-const LOAD: [OptionWord; 2] = [OptionWord::MaxBytes, OptionWord::Onto];
-
-/// The options of `salvage`.
-const SALVAGE: [OptionWord; 4] = [
-    OptionWord::MaxBytes,
-    OptionWord::Order,
-    OptionWord::PageSize,
-    OptionWord::Print,
-];
-
-/// The options of `repair`.
-const REPAIR: [OptionWord; 6] = [
-    OptionWord::MaxBytes,
-    OptionWord::Order,
-    OptionWord::PageSize,
-    OptionWord::As,
-    OptionWord::Duplicates,
-    OptionWord::Dupsort,
+const COMMANDS: [CommandRow; 11] = [
+    CommandRow {
+        name: CommandName::Verify,
+        word: b"verify",
+        options: &[MAX_BYTES, ANY_ORDER],
+        operands: 0,
+    },
+    CommandRow {
+        name: CommandName::List,
+        word: b"list",
+        options: &[MAX_BYTES, ANY_ORDER],
+        operands: 0,
+    },
+    CommandRow {
+        name: CommandName::Get,
+        word: b"get",
+        options: &LOOKUP,
+        operands: 1,
+    },
+    CommandRow {
+        name: CommandName::Dump,
+        word: b"dump",
+        options: &[MAX_BYTES, NAME, PRINT, ANY_ORDER],
+        operands: 0,
+    },
+    CommandRow {
+        name: CommandName::Load,
+        word: b"load",
+        options: &[MAX_BYTES, ONTO],
+        operands: 0,
+    },
+    CommandRow {
+        name: CommandName::Salvage,
+        word: b"salvage",
+        options: &[MAX_BYTES, ORDER, PAGE_SIZE, PRINT],
+        operands: 0,
+    },
+    CommandRow {
+        name: CommandName::Trial,
+        word: b"trial",
+        options: &[MAX_BYTES],
+        operands: 3,
+    },
+    CommandRow {
+        name: CommandName::Range,
+        word: b"range",
+        options: &LOOKUP,
+        operands: 2,
+    },
+    CommandRow {
+        name: CommandName::Convert,
+        word: b"convert",
+        options: &[MAX_BYTES],
+        operands: 1,
+    },
+    CommandRow {
+        name: CommandName::Stat,
+        word: b"stat",
+        options: &[MAX_BYTES],
+        operands: 0,
+    },
+    CommandRow {
+        name: CommandName::Repair,
+        word: b"repair",
+        options: &[MAX_BYTES, ORDER, PAGE_SIZE, AS_KIND, DUPLICATES, DUPSORT],
+        operands: 0,
+    },
 ];
 
 /// The command that the words are, unless they are none.
@@ -202,8 +221,7 @@ pub fn command_of<'w>(words: &'w Words) -> Option<Command<'w>>
     ensures fit { IfSome result IsFitCommand }
 {
     let first = words.get(0)?;
-    let word = command_word(first)?;
-    command_by(word, words)
+    command_by(row_named(first)?, words)
 }
 
 /// The file that is opened as the base: that of a `load` with `--onto`. It takes no memory.
@@ -227,336 +245,171 @@ pub fn base_limit(words: &Words) -> Option<u32>
     }
 }
 
-// The command that a word names.
-fn command_word(word: &[u8]) -> Option<CommandWord>
-    ensures { option_map row_meant result ≡ row_named word.now commands }
+// The row of the table with a word.
+fn row_named(word: &[u8]) -> Option<CommandRow>
+    ensures { option_map row_seen result ≡ row_named word.now commands }
 {
-    if word == b"verify".as_slice() {
-        return Some(CommandWord::Verify);
-    }
-    if word == b"list".as_slice() {
-        return Some(CommandWord::List);
-    }
-    if word == b"get".as_slice() {
-        return Some(CommandWord::Get);
-    }
-    if word == b"dump".as_slice() {
-        return Some(CommandWord::Dump);
-    }
-    if word == b"load".as_slice() {
-        return Some(CommandWord::Load);
-    }
-    if word == b"salvage".as_slice() {
-        return Some(CommandWord::Salvage);
-    }
-    if word == b"trial".as_slice() {
-        return Some(CommandWord::Trial);
-    }
-    if word == b"range".as_slice() {
-        return Some(CommandWord::Range);
-    }
-    if word == b"convert".as_slice() {
-        return Some(CommandWord::Convert);
-    }
-    if word == b"stat".as_slice() {
-        return Some(CommandWord::Stat);
-    }
-    if word == b"repair".as_slice() {
-        return Some(CommandWord::Repair);
+    for row in &COMMANDS {
+        if word == row.word {
+            return Some(*row);
+        }
     }
     None
 }
 
-// The command of its word, by the words after it.
-fn command_by<'w>(word: CommandWord, words: &'w Words) -> Option<Command<'w>>
-    ensures command { IsReadBy (row_meant word) words.now result }
+// The command of a row, by the words after its own.
+fn command_by<'w>(row: CommandRow, words: &'w Words) -> Option<Command<'w>>
+    ensures command { MatchOption result (command_by (row_seen row) (drop 1 words.now) ≡ None) (IsSeen (command_by (row_seen row) (drop 1 words.now))) }
     ensures fit { IfSome result IsFitCommand }
 {
-    match word {
-        CommandWord::Verify => reading_command(words, Reading::Verify),
-        CommandWord::List => reading_command(words, Reading::List),
-        CommandWord::Get => lookup_command(words),
-        CommandWord::Dump => dump_command(words),
-        CommandWord::Load => load_command(words),
-        CommandWord::Salvage => salvage_command(words),
-        CommandWord::Trial => trial_command(words),
-        CommandWord::Range => range_command(words),
-        CommandWord::Convert => convert_command(words),
-        CommandWord::Stat => plain_command(words, Action::Ask(Request::Stat)),
-        CommandWord::Repair => repair_command(words),
-    }
-}
-
-// A command without operands and without options of its own.
-fn plain_command<'w>(words: &'w Words, action: Action<'w>) -> Option<Command<'w>>
-    requires fit { IsFitAction action }
-    ensures command { (word : List ℕ) (does : ModelAction) → action_seen action.entry ≡ Some does → IsReadBy (plain_row word does) words.now result }
-    ensures fit { IfSome result IsFitCommand }
-{
-    let read = read_arguments(words, &PLAIN)?;
-    if read.operands < words.len() {
+    let read = read_arguments(words, row.options)?;
+    if read.operand_count() != row.operands {
         return None;
     }
-    let limit = limit_of(read.max_bytes)?;
+    let limit = limit_of(read.value(MAX_BYTES))?;
+    let action = action_of(row.name, &read)?;
     Some(Command { limit, action })
 }
 
-// A command without operands that reads this of a file.
-fn reading_command<'w>(words: &'w Words, reading: Reading<'w>) -> Option<Command<'w>>
-    ensures command { (word : List ℕ) (asked : ModelRequest) → reading_seen reading.entry ≡ Some asked → IsReadBy (reading_row word asked) words.now result }
-    ensures fit { IfSome result IsFitCommand }
+// What a command does by its options and operands.
+fn action_of<'w>(name: CommandName, read: &Arguments<'w>) -> Option<Action<'w>>
+    ensures action { MatchOption result (action_of name read.now ≡ None) (IsActionSeen (action_of name read.now)) }
+    ensures fit { IfSome result IsFitAction }
 {
-    let read = read_arguments(words, &READING)?;
-    if read.operands < words.len() {
-        return None;
+    match name {
+        CommandName::Verify => Some(Action::Read(rows_asked(read), Reading::Verify)),
+        CommandName::List => Some(Action::Read(rows_asked(read), Reading::List)),
+        CommandName::Get => get_action(read),
+        CommandName::Dump => dump_action(read),
+        CommandName::Load => Some(load_action(read.value(ONTO))),
+        CommandName::Salvage => salvage_action(read),
+        CommandName::Trial => trial_action(read),
+        CommandName::Range => range_action(read),
+        CommandName::Convert => convert_action(read),
+        CommandName::Stat => Some(Action::Ask(Request::Stat)),
+        CommandName::Repair => repair_action(read),
     }
-    let limit = limit_of(read.max_bytes)?;
-    let action = Action::Read(rows_by(read.any_order), reading);
-    Some(Command { limit, action })
 }
 
-// The command `get`.
-fn lookup_command<'w>(words: &'w Words) -> Option<Command<'w>>
-    ensures command { IsReadBy get_row words.now result }
-    ensures fit { IfSome result IsFitCommand }
+// The rows that count, by whether any order is asked for.
+fn rows_asked(read: &Arguments<'_>) -> Rows
+    ensures { result ≡ rows_asked read.now }
 {
-    let read = read_arguments(words, &LOOKUP)?;
-    let key = sole_operand(words, read.operands)?;
-    let limit = limit_of(read.max_bytes)?;
-    if !is_name(read.name) || !is_spelling(key, !read.hex) {
+    rows_by(read.has(ANY_ORDER))
+}
+
+// What `get` does.
+fn get_action<'w>(read: &Arguments<'w>) -> Option<Action<'w>>
+    ensures action { MatchOption result (action_of command.Get read.now ≡ None) (IsActionSeen (action_of command.Get read.now)) }
+    ensures fit { IfSome result IsFitAction }
+{
+    let key = read.operand(0)?;
+    let name = read.value(NAME);
+    let hex = read.has(HEX);
+    if !is_name(name) || !is_spelling(key, !hex) {
         return None;
     }
     let lookup = Lookup {
-        name: read.name,
+        name,
         key,
-        hex: read.hex,
-        print: read.print,
+        hex,
+        print: read.has(PRINT),
     };
-    let action = Action::Ask(Request::Get(lookup));
-    Some(Command { limit, action })
+    Some(Action::Ask(Request::Get(lookup)))
 }
 
-// The command `dump`.
-fn dump_command<'w>(words: &'w Words) -> Option<Command<'w>>
-    ensures command { IsReadBy dump_row words.now result }
-    ensures fit { IfSome result IsFitCommand }
+// What `dump` does.
+fn dump_action<'w>(read: &Arguments<'w>) -> Option<Action<'w>>
+    ensures action { MatchOption result (action_of command.Dump read.now ≡ None) (IsActionSeen (action_of command.Dump read.now)) }
+    ensures fit { IfSome result IsFitAction }
 {
-    let read = read_arguments(words, &SELECTION)?;
-    if read.operands < words.len() {
-        return None;
-    }
-    let limit = limit_of(read.max_bytes)?;
-    if !is_name(read.name) {
+    let name = read.value(NAME);
+    if !is_name(name) {
         return None;
     }
     let selection = Selection {
-        name: read.name,
-        print: read.print,
+        name,
+        print: read.has(PRINT),
     };
-    let action = Action::Read(rows_by(read.any_order), Reading::Dump(selection));
-    Some(Command { limit, action })
+    Some(Action::Read(rows_asked(read), Reading::Dump(selection)))
 }
 
-// The command `load`.
-fn load_command<'w>(words: &'w Words) -> Option<Command<'w>>
-    ensures command { IsReadBy load_row words.now result }
-    ensures fit { IfSome result IsFitCommand }
+// What `load` does, by the file that it is loaded onto.
+fn load_action<'w>(onto: Option<&'w [u8]>) -> Action<'w>
+    ensures action { action_seen result ≡ Some (loading (option_copied onto.entry)) }
+    ensures fit { IsFitAction result }
 {
-    let read = read_arguments(words, &LOAD)?;
-    if read.operands < words.len() {
-        return None;
-    }
-    let limit = limit_of(read.max_bytes)?;
-    let action = match read.onto {
+    match onto {
         Some(file) => Action::LoadOnto(file),
         None => Action::Load,
-    };
-    Some(Command { limit, action })
-}
-
-// The command `salvage`.
-fn salvage_command<'w>(words: &'w Words) -> Option<Command<'w>>
-    ensures command { IsReadBy salvage_row words.now result }
-    ensures fit { IfSome result IsFitCommand }
-{
-    let read = read_arguments(words, &SALVAGE)?;
-    if read.operands < words.len() {
-        return None;
     }
-    let limit = limit_of(read.max_bytes)?;
-    let guess = guess_asked(read.order, read.page_size)?;
+}
+
+// What `salvage` does.
+fn salvage_action<'w>(read: &Arguments<'w>) -> Option<Action<'w>>
+    ensures action { MatchOption result (action_of command.Salvage read.now ≡ None) (IsActionSeen (action_of command.Salvage read.now)) }
+    ensures fit { IfSome result IsFitAction }
+{
     let asked = Salvage {
-        guess,
-        print: read.print,
+        guess: guess_asked(read.value(ORDER), read.value(PAGE_SIZE))?,
+        print: read.has(PRINT),
     };
-    let action = Action::Salvage(asked);
-    Some(Command { limit, action })
+    Some(Action::Salvage(asked))
 }
 
-// The command `trial`.
-fn trial_command<'w>(words: &'w Words) -> Option<Command<'w>>
-    ensures command { IsReadBy trial_row words.now result }
-    ensures fit { IfSome result IsFitCommand }
+// What `repair` does.
+fn repair_action<'w>(read: &Arguments<'w>) -> Option<Action<'w>>
+    ensures action { MatchOption result (action_of command.Repair read.now ≡ None) (IsActionSeen (action_of command.Repair read.now)) }
+    ensures fit { IfSome result IsFitAction }
 {
-    let read = read_arguments(words, &PLAIN)?;
-    let operands = trial_words(words, read.operands)?;
-    let limit = limit_of(read.max_bytes)?;
+    let duplicates = duplicates_named(read.has(DUPLICATES), read.has(DUPSORT));
+    let asked = Repair {
+        shape: shape_asked(read.value(AS_KIND), duplicates)?,
+        guess: guess_asked(read.value(ORDER), read.value(PAGE_SIZE))?,
+    };
+    Some(Action::Repair(asked))
+}
+
+// What `trial` does.
+fn trial_action<'w>(read: &Arguments<'w>) -> Option<Action<'w>>
+    ensures action { MatchOption result (action_of command.Trial read.now ≡ None) (IsActionSeen (action_of command.Trial read.now)) }
+    ensures fit { IfSome result IsFitAction }
+{
     let trial = Trial {
-        kind: kind_named(operands.kind)?,
-        seed: number_to(GREATEST_SEED, operands.seed)?,
-        count: number_to(MOST_PAIRS, operands.count)?,
+        kind: kind_named(read.operand(0)?)?,
+        seed: number_to(GREATEST_SEED, read.operand(1)?)?,
+        count: number_to(MOST_PAIRS, read.operand(2)?)?,
     };
-    let action = Action::Trial(trial);
-    Some(Command { limit, action })
+    Some(Action::Trial(trial))
 }
 
-// The command `range`.
-fn range_command<'w>(words: &'w Words) -> Option<Command<'w>>
-    ensures command { IsReadBy range_row words.now result }
-    ensures fit { IfSome result IsFitCommand }
+// What `range` does.
+fn range_action<'w>(read: &Arguments<'w>) -> Option<Action<'w>>
+    ensures action { MatchOption result (action_of command.Range read.now ≡ None) (IsActionSeen (action_of command.Range read.now)) }
+    ensures fit { IfSome result IsFitAction }
 {
-    let read = read_arguments(words, &LOOKUP)?;
-    let operands = bound_words(words, read.operands)?;
-    let limit = limit_of(read.max_bytes)?;
-    if !is_name(read.name)
-        || !is_spelling(operands.from, !read.hex)
-        || !is_spelling(operands.to, !read.hex)
-    {
+    let from = read.operand(0)?;
+    let to = read.operand(1)?;
+    let name = read.value(NAME);
+    let hex = read.has(HEX);
+    if !is_name(name) || !is_spelling(from, !hex) || !is_spelling(to, !hex) {
         return None;
     }
     let bounds = Bounds {
-        name: read.name,
-        from: operands.from,
-        to: operands.to,
-        hex: read.hex,
-        print: read.print,
+        name,
+        from,
+        to,
+        hex,
+        print: read.has(PRINT),
     };
-    let action = Action::Ask(Request::Range(bounds));
-    Some(Command { limit, action })
+    Some(Action::Ask(Request::Range(bounds)))
 }
 
-// The command `convert`.
-fn convert_command<'w>(words: &'w Words) -> Option<Command<'w>>
-    ensures command { IsReadBy convert_row words.now result }
-    ensures fit { IfSome result IsFitCommand }
+// What `convert` does.
+fn convert_action<'w>(read: &Arguments<'w>) -> Option<Action<'w>>
+    ensures action { MatchOption result (action_of command.Convert read.now ≡ None) (IsActionSeen (action_of command.Convert read.now)) }
+    ensures fit { IfSome result IsFitAction }
 {
-    let read = read_arguments(words, &PLAIN)?;
-    let word = sole_operand(words, read.operands)?;
-    let limit = limit_of(read.max_bytes)?;
-    let order = order_named(word)?;
-    let action = Action::Ask(Request::Convert(order));
-    Some(Command { limit, action })
-}
-
-// The command `repair`.
-fn repair_command<'w>(words: &'w Words) -> Option<Command<'w>>
-    ensures command { IsReadBy repair_row words.now result }
-    ensures fit { IfSome result IsFitCommand }
-{
-    let read = read_arguments(words, &REPAIR)?;
-    if read.operands < words.len() {
-        return None;
-    }
-    let limit = limit_of(read.max_bytes)?;
-    let shape = shape_asked(read.kind, duplicates_named(read.duplicates, read.dupsort))?;
-    let guess = guess_asked(read.order, read.page_size)?;
-    let action = Action::Repair(Repair { shape, guess });
-    Some(Command { limit, action })
-}
-
-// The two words from a place on, if there are just two.
-fn bound_words<'w>(words: &'w Words, place: usize) -> Option<BoundWords<'w>>
-    ensures { MatchOption result (length (drop place words.now) ≢ 2) (λ it. drop place words.now ≡ it.from.now ∷ it.to.now ∷ []) }
-{
-    let end = words.len();
-    let from = words.get(place)?;
-    let to = words.get(place + 1)?;
-    if place + 2 < end {
-        return None;
-    }
-    Some(BoundWords { from, to })
-}
-
-// The three words from a place on, if there are just three.
-fn trial_words<'w>(words: &'w Words, place: usize) -> Option<TrialWords<'w>>
-    ensures { MatchOption result (length (drop place words.now) ≢ 3) (λ it. drop place words.now ≡ it.kind.now ∷ it.seed.now ∷ it.count.now ∷ []) }
-{
-    let end = words.len();
-    let kind = words.get(place)?;
-    let seed = words.get(place + 1)?;
-    let count = words.get(place + 2)?;
-    if place + 3 < end {
-        return None;
-    }
-    Some(TrialWords { kind, seed, count })
-}
-
-// The kind that a word names.
-fn kind_named(word: &[u8]) -> Option<Kind>
-    ensures { result ≡ kind_named word.now }
-{
-    if word == b"btree".as_slice() {
-        Some(Kind::Btree)
-    } else if word == b"hash".as_slice() {
-        Some(Kind::Hash)
-    } else if word == b"recno".as_slice() {
-        Some(Kind::Recno)
-    } else if word == b"queue".as_slice() {
-        Some(Kind::Queue)
-    } else {
-        None
-    }
-}
-
-// The number that a word of digits says, if it is at most another.
-fn number_to(most: u32, word: &[u8]) -> Option<u32>
-    ensures seen { result ≡ at_most most (number_in word.now) }
-    ensures within { IfSome result (λ number. number ≤ most) }
-{
-    let number = u32::try_from(number_in(word)?).ok()?;
-    if number > most {
-        return None;
-    }
-    Some(number)
-}
-
-// The rows that count, by whether the option for any order is given.
-fn rows_by(any_order: bool) -> Rows
-    ensures { result ≡ rows_by any_order }
-{
-    if any_order { Rows::AnyOrder } else { Rows::All }
-}
-
-// The one word from a place on, if there is just one.
-fn sole_operand(words: &Words, place: usize) -> Option<&[u8]>
-    ensures { MatchOption result ((key : List ℕ) → drop place words.now ≢ key ∷ []) (λ key. drop place words.now ≡ key.now ∷ []) }
-{
-    let count = words.len();
-    let key = words.get(place)?;
-    if place + 1 == count { Some(key) } else { None }
-}
-
-// The longest input by the value of its option: a number from 1 to 2^30.
-fn limit_of(text: Option<&[u8]>) -> Option<u32>
-    ensures seen { result ≡ limit_of (option_copied text.entry) }
-    ensures limit { IfSome result (λ limit. limit ≤ 2 ^ 30) }
-{
-    let Some(text) = text else {
-        return Some(LONGEST);
-    };
-    let limit = u32::try_from(number_in(text)?).ok()?;
-    if limit < 1 || limit > LONGEST {
-        return None;
-    }
-    Some(limit)
-}
-
-// Whether the value of the option for a name spells one, where it is given.
-fn is_name(text: Option<&[u8]>) -> bool
-    ensures { result ≡ is_some (asked_name (option_copied text.entry)) }
-{
-    match text {
-        Some(text) => is_spelling(text, true),
-        None => true,
-    }
+    let order = order_named(read.operand(0)?)?;
+    Some(Action::Ask(Request::Convert(order)))
 }

@@ -4,7 +4,7 @@ ghost use Rattle.bdb_model.specs.of_format.HeadOf.{is_page_size};
 ghost use Rattle.bdb_tool_words.specs.Commands.{guess_asked, order_named, page_size_named};
 
 use bdb_model::bdb_format::Order;
-use bdb_rescue::Guess;
+use bdb_survey::Guess;
 
 /// The guess of an order and a page size, which are given together or not at all.
 pub(crate) fn guess_asked(order: Option<&[u8]>, page_size: Option<&[u8]>) -> Option<Option<Guess>>

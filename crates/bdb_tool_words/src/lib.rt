@@ -5,8 +5,8 @@ mod command;
 mod guesses;
 mod options;
 mod shapes;
+mod values;
 
-pub use bdb_text;
 pub use command::{
     Action, Bounds, Command, Lookup, Reading, Repair, Request, Salvage, Selection, Trial,
     base_limit, command_of, onto_file,

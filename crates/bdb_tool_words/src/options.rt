@@ -1,88 +1,168 @@
-//! The options before the operands of a command line.
-ghost use Rattle.std.specs.Prelude.{◌≡◌, ◌<◌, ◌^◌, [], IsTrue, List, MatchOption, OnSome, drop, length, map, option_copied};
-ghost use Rattle.bdb_model.specs.Command.{Given, arguments, is_given, once, row_of};
-ghost use Rattle.bdb_tool_words.specs.WordsSeen.{AreArguments, HasGiven, IsGivenBy, IsNew, IsRowOf, IsStep, given_seen, row_seen, word_count};
+//! The options that commands have, and the words after a command.
+ghost use Rattle.std.specs.Prelude.{◌≡◌, ◌<◌, ◌^◌, IfSome, List, MatchOption, drop, length, map, option_copied, option_map, slice_get, ℕ};
+ghost use Rattle.bdb_tool_words.specs.Arguments.{arguments, has, once, option_named, value_given, value_of};
+ghost use Rattle.bdb_tool_words.specs.ArgumentsSeen.{IsStep, option_seen};
 
 use bdb_model::Words;
+use std::marker::Model;
 
-/// An option of a command.
+/// An option of a command, by its word.
 #[derive(Clone, Copy)]
-pub enum OptionWord {
-    MaxBytes,
-    Name,
-    Order,
-    PageSize,
-    As,
-    Onto,
-    Hex,
-    Print,
-    Duplicates,
-    Dupsort,
-    AnyOrder,
+pub enum OptionRow {
+    /// The next word is its value.
+    Valued(&'static [u8]),
+    /// It has no value.
+    Flag(&'static [u8]),
 }
 
-/// An option that is given, with its value where it takes one.
-#[derive(Clone, Copy)]
-enum GivenOption<'w> {
-    MaxBytes(&'w [u8]),
-    Name(&'w [u8]),
-    Order(&'w [u8]),
-    PageSize(&'w [u8]),
-    As(&'w [u8]),
-    Onto(&'w [u8]),
-    Hex,
-    Print,
-    Duplicates,
-    Dupsort,
-    AnyOrder,
-}
+pub const MAX_BYTES: OptionRow = OptionRow::Valued(b"--max-bytes");
 
-/// The words after the command: the options that are given, and the place of the first operand.
+pub const NAME: OptionRow = OptionRow::Valued(b"--name");
+
+pub const ORDER: OptionRow = OptionRow::Valued(b"--order");
+
+pub const PAGE_SIZE: OptionRow = OptionRow::Valued(b"--page-size");
+
+pub const AS_KIND: OptionRow = OptionRow::Valued(b"--as");
+
+pub const ONTO: OptionRow = OptionRow::Valued(b"--onto");
+
+pub const HEX: OptionRow = OptionRow::Flag(b"--hex");
+
+pub const PRINT: OptionRow = OptionRow::Flag(b"--print");
+
+pub const DUPLICATES: OptionRow = OptionRow::Flag(b"--duplicates");
+
+pub const DUPSORT: OptionRow = OptionRow::Flag(b"--dupsort");
+
+pub const ANY_ORDER: OptionRow = OptionRow::Flag(b"--any-order");
+
+/// An option that is given, with its value, which is empty where it takes none.
 #[derive(Clone, Copy)]
-pub struct Arguments<'w> {
-    pub max_bytes: Option<&'w [u8]>,
-    pub name: Option<&'w [u8]>,
-    pub order: Option<&'w [u8]>,
-    pub page_size: Option<&'w [u8]>,
-    pub kind: Option<&'w [u8]>,
-    pub onto: Option<&'w [u8]>,
-    pub hex: bool,
-    pub print: bool,
-    pub duplicates: bool,
-    pub dupsort: bool,
-    pub any_order: bool,
-    pub operands: usize,
+struct Given<'w> {
+    word: &'w [u8],
+    value: &'w [u8],
 }
 
 /// What is at a place among the options: one more, and the place after it, or the place of the first operand.
 #[derive(Clone, Copy)]
 enum Step<'w> {
-    Given(GivenOption<'w>, usize),
+    Given(Given<'w>, usize),
     Operands(usize),
 }
 
-/// Reads the options after the command; `None` where one is unknown, given twice or lacks its value.
-pub fn read_arguments<'w>(words: &'w Words, options: &[OptionWord]) -> Option<Arguments<'w>>
-    ensures { MatchOption result (once (arguments (map row_seen options.now) (drop 1 words.now)) ≡ None)
-        (AreArguments (once (arguments (map row_seen options.now) (drop 1 words.now))) words.now) }
-{
-    let mut read = no_arguments();
-    while read.operands < words.len() {
-        match step_at(words, read.operands, options)? {
-            Step::Operands(place) => {
-                read.operands = place;
-                return Some(read);
-            }
-            Step::Given(option, next) => take_option(&mut read, option, next)?,
+/// The words after a command: the options that are given, and the operands.
+#[derive(Drop)]
+pub struct Arguments<'w> {
+    words: &'w Words,
+    options: &'static [OptionRow],
+    /// The place of the first operand.
+    first: usize,
+}
+
+impl<'w> Model for Arguments<'w> {
+    ghost use Rattle.bdb_tool_words.specs.Arguments.{Arguments};
+
+    ghost Value = { Arguments };
+
+    ghost use Rattle.bdb_tool_words.specs.ArgumentsSeen.{AreRead, arguments_seen};
+
+    ghost view = { arguments_seen };
+
+    ghost invariant = { AreRead };
+}
+
+impl<'w> Arguments<'w> {
+    /// The value of an option, where it is given; that of a flag is empty.
+    pub fn value(&self, option: OptionRow) -> Option<&'w [u8]>
+        ensures { option_copied result ≡ value_of (option_seen option) self.now }
+    {
+        value_from(self.words, 1, self.options, word_of(option))
+    }
+
+    /// Whether an option is given.
+    pub fn has(&self, option: OptionRow) -> bool
+        ensures { result ≡ has (option_seen option) self.now }
+    {
+        self.value(option).is_some()
+    }
+
+    pub fn operand_count(&self) -> usize
+        ensures { result ≡ length self.now.operands }
+    {
+        self.words.len().saturating_sub(self.first)
+    }
+
+    /// The operand at a place, from 0 on.
+    pub fn operand(&self, i: usize) -> Option<&'w [u8]>
+        ensures { option_copied result ≡ slice_get self.now.operands i }
+    {
+        if i < self.operand_count() {
+            self.words.get(self.first + i)
+        } else {
+            None
         }
     }
-    Some(read)
+}
+
+/// Reads the words after the command; `None` where an option is unknown, given twice or lacks its value.
+pub fn read_arguments<'w>(words: &'w Words, options: &'static [OptionRow]) -> Option<Arguments<'w>>
+    ensures { result ≡ once (arguments (map option_seen options.now) (drop 1 words.now)) }
+{
+    let first = first_operand(words, options)?;
+    Some(Arguments {
+        words,
+        options,
+        first,
+    })
+}
+
+// The place of the first operand; `None` where an option is unknown, given twice or lacks its value.
+fn first_operand(words: &Words, options: &[OptionRow]) -> Option<usize>
+    ensures within { length words.now < 2 ^ 64 }
+    ensures operands { option_map (λ first. drop first words.now) result
+        ≡ option_map (λ all. all.operands) (once (arguments (map option_seen options.now) (drop 1 words.now))) }
+{
+    let mut at = 1;
+    while at < words.len() {
+        match step_at(words, at, options)? {
+            Step::Operands(first) => return Some(first),
+            Step::Given(given, next) => {
+                if value_from(words, next, options, given.word).is_some() {
+                    return None;
+                }
+                at = next;
+            }
+        }
+    }
+    Some(at)
+}
+
+// The value of the option with a word, where it is given from a place on.
+fn value_from<'w>(
+    words: &'w Words,
+    place: usize,
+    options: &[OptionRow],
+    word: &[u8],
+) -> Option<&'w [u8]>
+    ensures { IfSome (arguments (map option_seen options.now) (drop place words.now))
+        (λ all. option_copied result ≡ value_given word.now all.given) }
+{
+    let mut at = place;
+    while at < words.len() {
+        match step_at(words, at, options)? {
+            Step::Operands(_) => return None,
+            Step::Given(given, _) if given.word == word => return Some(given.value),
+            Step::Given(_, next) => at = next,
+        }
+    }
+    None
 }
 
 // What stands at a place.
-fn step_at<'w>(words: &'w Words, at: usize, options: &[OptionWord]) -> Option<Step<'w>>
+fn step_at<'w>(words: &'w Words, at: usize, options: &[OptionRow]) -> Option<Step<'w>>
     requires { length words.now < 2 ^ 64 }
-    ensures { MatchOption result (arguments (map row_seen options.now) (drop at words.now) ≡ None) (IsStep (map row_seen options.now) words.now at) }
+    ensures { MatchOption result (arguments (map option_seen options.now) (drop at words.now) ≡ None) (IsStep (map option_seen options.now) words.now at) }
 {
     let Some(word) = words.get(at) else {
         return Some(Step::Operands(at));
@@ -93,13 +173,18 @@ fn step_at<'w>(words: &'w Words, at: usize, options: &[OptionWord]) -> Option<St
     if !word.starts_with(b"--") {
         return Some(Step::Operands(at));
     }
-    let option = given_option(option_word(word, options)?, words.get(at + 1))?;
-    Some(Step::Given(option, at + word_count(option)))
+    match option_named(word, options)? {
+        OptionRow::Flag(_) => Some(Step::Given(Given { word, value: b"" }, at + 1)),
+        OptionRow::Valued(_) => {
+            let value = words.get(at + 1)?;
+            Some(Step::Given(Given { word, value }, at + 2))
+        }
+    }
 }
 
 // The option of a command that a word names.
-fn option_word(word: &[u8], options: &[OptionWord]) -> Option<OptionWord>
-    ensures { MatchOption result (row_of (map row_seen options.now) word.now ≡ None) (IsRowOf (map row_seen options.now) word.now) }
+fn option_named(word: &[u8], options: &[OptionRow]) -> Option<OptionRow>
+    ensures { option_map option_seen result ≡ option_named word.now (map option_seen options.now) }
 {
     for option in options {
         if word == word_of(*option) {
@@ -109,103 +194,10 @@ fn option_word(word: &[u8], options: &[OptionWord]) -> Option<OptionWord>
     None
 }
 
-// The word of an option.
-fn word_of(option: OptionWord) -> &'static [u8]
-    ensures { result.now ≡ (row_seen option).word }
+fn word_of(option: OptionRow) -> &'static [u8]
+    ensures { result.now ≡ (option_seen option).word }
 {
     match option {
-        OptionWord::MaxBytes => b"--max-bytes",
-        OptionWord::Name => b"--name",
-        OptionWord::Order => b"--order",
-        OptionWord::PageSize => b"--page-size",
-        OptionWord::As => b"--as",
-        OptionWord::Onto => b"--onto",
-        OptionWord::Hex => b"--hex",
-        OptionWord::Print => b"--print",
-        OptionWord::Duplicates => b"--duplicates",
-        OptionWord::Dupsort => b"--dupsort",
-        OptionWord::AnyOrder => b"--any-order",
+        OptionRow::Valued(word) | OptionRow::Flag(word) => word,
     }
-}
-
-// An option with the word after it; `None` where it lacks its value.
-fn given_option<'w>(option: OptionWord, next: Option<&'w [u8]>) -> Option<GivenOption<'w>>
-    ensures { MatchOption result (IsTrue (row_seen option).takes_value × (option_copied next.entry ≡ None)) (IsGivenBy option (option_copied next.entry)) }
-{
-    Some(match option {
-        OptionWord::MaxBytes => GivenOption::MaxBytes(next?),
-        OptionWord::Name => GivenOption::Name(next?),
-        OptionWord::Order => GivenOption::Order(next?),
-        OptionWord::PageSize => GivenOption::PageSize(next?),
-        OptionWord::As => GivenOption::As(next?),
-        OptionWord::Onto => GivenOption::Onto(next?),
-        OptionWord::Hex => GivenOption::Hex,
-        OptionWord::Print => GivenOption::Print,
-        OptionWord::Duplicates => GivenOption::Duplicates,
-        OptionWord::Dupsort => GivenOption::Dupsort,
-        OptionWord::AnyOrder => GivenOption::AnyOrder,
-    })
-}
-
-// How many words an option takes.
-fn word_count(option: GivenOption<'_>) -> usize
-    ensures { result ≡ word_count option.entry }
-{
-    match option {
-        GivenOption::MaxBytes(_)
-        | GivenOption::Name(_)
-        | GivenOption::Order(_)
-        | GivenOption::PageSize(_)
-        | GivenOption::As(_)
-        | GivenOption::Onto(_) => 2,
-        GivenOption::Hex
-        | GivenOption::Print
-        | GivenOption::Duplicates
-        | GivenOption::Dupsort
-        | GivenOption::AnyOrder => 1,
-    }
-}
-
-fn no_arguments<'w>() -> Arguments<'w>
-    ensures options { HasGiven result [] }
-    ensures operands { result.operands ≡ 1 }
-{
-    Arguments {
-        max_bytes: None,
-        name: None,
-        order: None,
-        page_size: None,
-        kind: None,
-        onto: None,
-        hex: false,
-        print: false,
-        duplicates: false,
-        dupsort: false,
-        any_order: false,
-        operands: 1,
-    }
-}
-
-// One more option before the place of the next; `None` where it is given already.
-fn take_option<'w>(read: &mut Arguments<'w>, option: GivenOption<'w>, next: usize) -> Option<()>
-    ensures options { (before : List Given) → HasGiven read.old before → MatchOption result (IsTrue (is_given (given_seen option.entry).word before))
-        (λ _. IsNew before (given_seen option.entry) read.new) }
-    ensures operands { OnSome result (read.new.operands ≡ next) }
-{
-    match option {
-        GivenOption::MaxBytes(text) if read.max_bytes.is_none() => read.max_bytes = Some(text),
-        GivenOption::Name(text) if read.name.is_none() => read.name = Some(text),
-        GivenOption::Order(text) if read.order.is_none() => read.order = Some(text),
-        GivenOption::PageSize(text) if read.page_size.is_none() => read.page_size = Some(text),
-        GivenOption::As(text) if read.kind.is_none() => read.kind = Some(text),
-        GivenOption::Onto(text) if read.onto.is_none() => read.onto = Some(text),
-        GivenOption::Hex if !read.hex => read.hex = true,
-        GivenOption::Print if !read.print => read.print = true,
-        GivenOption::Duplicates if !read.duplicates => read.duplicates = true,
-        GivenOption::Dupsort if !read.dupsort => read.dupsort = true,
-        GivenOption::AnyOrder if !read.any_order => read.any_order = true,
-        _ => return None,
-    }
-    read.operands = next;
-    Some(())
 }

@@ -1,0 +1,7 @@
+use Rattle.std.proofs.Common.{ap, ◌∙◌}
+use Rattle.std.specs.Prelude.{is_some}
+use Rattle.bdb_tool_words.proofs.ReadLemmas.{is_some-copied}
+use Rattle.bdb_tool_words.proofs.options.Arguments.has.Goals as goal
+
+pub returns : goal.returns
+returns c = c.is_some.ensures ∙ is_some-copied c.value.result ∙ ap is_some c.value.ensures
