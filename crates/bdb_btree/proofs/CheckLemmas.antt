@@ -5,8 +5,8 @@ use Rattle.std.specs.Prelude.{◌&&◌, ◌||◌, ◌==◌}
 use Rattle.std.specs.List.{Contains, list_any}
 use Rattle.std.proofs.lemmas.Bool.{and_parts, eq-eqb, eqb-true, or_cases, or_right}
 use Rattle.std.proofs.lemmas.List.Folds.{list_any-append}
-use Rattle.bdb_ranks.specs.of_faults.Notes.{AreSame, Notes, NotesAll}
-use Rattle.bdb_ranks.proofs.of_faults.SinkLemmas.{notes_both, notes_one, notes_same}
+use Rattle.bdb_faults.specs.Notes.{AreSame, Notes, NotesAll}
+use Rattle.bdb_faults.proofs.SinkLemmas.{notes_both, notes_one, notes_same}
 use Rattle.bdb_ranks.specs.of_format.declared.kinds.Fault.{Fault}
 use Rattle.bdb_ranks.specs.of_format.declared.metadata.BtreeMeta.{BtreeMeta}
 use Rattle.bdb_ranks.specs.of_format.ContentRows.{btree_contents, database_faults, groups, has_duplicate, has_unsorted, has_wrong_count, has_wrong_separator}
@@ -24,7 +24,7 @@ use Rattle.bdb_ranks.specs.of_image.Linked.{FitsTreeRoot, IsForest}
 use Rattle.bdb_btree.specs.Counts.{IsKeyed}
 use Rattle.bdb_btree.specs.Noted.{faults_at}
 use Rattle.bdb_btree.specs.Rows.{has_wrong_order, no_pairs_passed, pairs_faults}
-use Rattle.bdb_ranks.specs.of_faults.declared.rows.ContentsRow.TheVariants.{Duplicates, DuplicateKind, KeyOrder, Separator, DuplicateOrder, Count}
+use Rattle.bdb_faults.specs.declared.rows.ContentsRow.TheVariants.{Duplicates, DuplicateKind, KeyOrder, Separator, DuplicateOrder, Count}
 use Rattle.bdb_btree.specs.declared.pair_rows.Rules.{Rules}
 use Rattle.bdb_btree.proofs.InnerLemmas.{inner_pages_keyed}
 use Rattle.bdb_btree.proofs.NotedLemmas.{has, has_in, in_has, is_fault, is_of, row_has}

@@ -4,7 +4,7 @@ use Rattle.std.specs.List.{flat_map, fold, range_with_len}
 use Rattle.std.proofs.lemmas.List.{map-append}
 use Rattle.std.proofs.lemmas.List.Elements.{All-head}
 use Rattle.std.proofs.lemmas.Simd.{map-map}
-use Rattle.bdb_ranks.specs.of_faults.Notes.{Notes}
+use Rattle.bdb_faults.specs.Notes.{Notes}
 use Rattle.bdb_ranks.specs.of_format.declared.kinds.Fault.{Fault}
 use Rattle.bdb_ranks.specs.of_format.Chains.{value_of}
 use Rattle.bdb_ranks.specs.of_format.Contents.{StoredPair, pair_at, pairs_in, pairs_of, tree_pairs}

@@ -16,7 +16,7 @@ pub mod ScanLemmas
 pub mod SeenLemmas
 pub mod SeparatorLemmas
 pub mod WalkLemmas
-pub use Rattle.bdb_ranks.proofs.of_faults as of_faults
+pub use Rattle.bdb_faults.proofs as of_faults
 pub use Rattle.bdb_ranks.proofs.of_format as of_format
 pub use Rattle.bdb_ranks.proofs.of_graph as of_graph
 pub use Rattle.bdb_ranks.proofs.of_image as of_image

@@ -5,9 +5,9 @@ use Rattle.std.specs.List.{Contains, flat_map, list_any}
 use Rattle.std.proofs.lemmas.Bool.{and_parts, eqb-true, eq-eqb}
 use Rattle.std.proofs.lemmas.Bool.Decides.{nat_tests}
 use Rattle.std.proofs.lemmas.List.Folds.{list_any-append}
-use Rattle.bdb_ranks.specs.of_faults.Rows.{contents_code, fault_if}
-use Rattle.bdb_ranks.specs.of_faults.declared.rows.ContentsRow.{ContentsRow}
-use Rattle.bdb_ranks.specs.of_faults.declared.rows.Row.TheVariants.{Contents}
+use Rattle.bdb_faults.specs.Rows.{contents_code, fault_if}
+use Rattle.bdb_faults.specs.declared.rows.ContentsRow.{ContentsRow}
+use Rattle.bdb_faults.specs.declared.rows.Row.TheVariants.{Contents}
 use Rattle.bdb_ranks.proofs.of_format.FaultLemmas.{same_parts}
 use Rattle.bdb_ranks.specs.of_format.declared.kinds.Fault.{Fault}
 use Rattle.bdb_ranks.proofs.of_format.ListLemmas.{any_member, passes_here}

@@ -2,23 +2,23 @@
 use Rattle.std.proofs.Common.{◌≡◌, ℕ, Bool, true, false, not, List, [], ◌∷◌, ◌++◌, ◌&&◌, refl, sym, ◌∙◌, ap, subst, inl, append_assoc}
 use Rattle.std.specs.Prelude.{◌==◌, ◌||◌}
 use Rattle.std.specs.List.{flat_map, fold, list_any}
-use Rattle.bdb_ranks.specs.of_faults.Rows.{fault_if}
-use Rattle.bdb_ranks.specs.of_faults.declared.rows.Row.TheVariants.{Contents}
+use Rattle.bdb_faults.specs.Rows.{fault_if}
+use Rattle.bdb_faults.specs.declared.rows.Row.TheVariants.{Contents}
 use Rattle.bdb_ranks.specs.of_format.declared.kinds.Fault.{Fault}
 use Rattle.bdb_ranks.specs.of_format.ContentRows.{has_duplicate, has_unsorted, has_wrong_set, is_duplicate, is_wrong_set}
 use Rattle.bdb_ranks.specs.of_format.Contents.{StoredPair, tree_pairs}
 use Rattle.bdb_ranks.specs.of_format.File.{File, file_of}
-use Rattle.bdb_ranks.specs.of_faults.Notes.{Notes}
+use Rattle.bdb_faults.specs.Notes.{Notes}
 use Rattle.bdb_ranks.specs.of_image.Linked.{FitsTreeRoot, IsForest}
 use Rattle.bdb_btree.specs.Pairs.{AreFit, FitsPair}
 use Rattle.bdb_btree.specs.Rows.{Passed, has_wrong_order, next_pair, no_pairs_passed, pair_faults, pairs_faults, passes}
-use Rattle.bdb_ranks.specs.of_faults.declared.rows.ContentsRow.TheVariants.{Duplicates, DuplicateKind, KeyOrder, DuplicateOrder}
+use Rattle.bdb_faults.specs.declared.rows.ContentsRow.TheVariants.{Duplicates, DuplicateKind, KeyOrder, DuplicateOrder}
 use Rattle.bdb_btree.specs.declared.pair_rows.Rules.{Rules}
 use Rattle.bdb_btree.proofs.NotedLemmas.{both_have, has, is_of, row_has}
 use Rattle.bdb_btree.proofs.OrderLemmas.{data_in_order, keys_in_order}
 use Rattle.bdb_btree.proofs.PairLemmas.{tree_pair, tree_shares}
 use Rattle.bdb_btree.proofs.WalkLemmas.{each_of}
-use Rattle.bdb_ranks.proofs.of_faults.SinkLemmas.{notes_nothing, notes_then}
+use Rattle.bdb_faults.proofs.SinkLemmas.{notes_nothing, notes_then}
 
 -- Going through the pairs.
 

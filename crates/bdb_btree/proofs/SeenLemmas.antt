@@ -7,11 +7,11 @@ use Rattle.std.proofs.lemmas.Bool.{ne_eqb}
 use Rattle.std.proofs.lemmas.List.{take_all, take_more}
 use Rattle.std.proofs.lemmas.List.Sums.{fold-append}
 use Rattle.std.proofs.lemmas.Grind.{flat_map-append}
-use Rattle.bdb_ranks.specs.of_faults.Notes.{Notes, NotesAll}
-use Rattle.bdb_ranks.proofs.of_faults.SinkLemmas.{notes_both, notes_none, notes_one}
-use Rattle.bdb_ranks.specs.of_faults.Rows.{fault_if}
-use Rattle.bdb_ranks.specs.of_faults.declared.rows.ContentsRow.TheVariants.{Separator}
-use Rattle.bdb_ranks.specs.of_faults.declared.rows.Row.TheVariants.{Contents}
+use Rattle.bdb_faults.specs.Notes.{Notes, NotesAll}
+use Rattle.bdb_faults.proofs.SinkLemmas.{notes_both, notes_none, notes_one}
+use Rattle.bdb_faults.specs.Rows.{fault_if}
+use Rattle.bdb_faults.specs.declared.rows.ContentsRow.TheVariants.{Separator}
+use Rattle.bdb_faults.specs.declared.rows.Row.TheVariants.{Contents}
 use Rattle.bdb_ranks.specs.of_format.declared.kinds.Fault.{Fault}
 use Rattle.bdb_ranks.specs.of_format.Chains.{value_of}
 use Rattle.bdb_ranks.specs.of_format.ContentRows.{has_wrong_separator, inner_pages, separated}

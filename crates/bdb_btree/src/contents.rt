@@ -1,7 +1,7 @@
 ghost use Rattle.std.specs.Prelude.{◌≡◌, [], false, IfErr, OnOk, if◌then◌else◌};
 ghost use Rattle.bdb_ranks.specs.of_image.Linked.{FitsTreeRoot, HasMetadata, IsForest};
-ghost use Rattle.bdb_ranks.specs.of_faults.Named.{HasNoted};
-ghost use Rattle.bdb_ranks.specs.of_faults.Notes.{NotesAll};
+ghost use Rattle.bdb_faults.specs.Named.{HasNoted};
+ghost use Rattle.bdb_faults.specs.Notes.{NotesAll};
 ghost use Rattle.bdb_ranks.specs.of_format.ContentRows.{database_faults, has_wrong_count, inner_pages};
 ghost use Rattle.bdb_ranks.specs.of_format.File.{file_of, page_at};
 ghost use Rattle.bdb_ranks.specs.of_format.Page.{BtreeFields};
@@ -9,15 +9,13 @@ ghost use Rattle.bdb_ranks.specs.of_format.Verdict.{structure_faults, IsFirstOf}
 ghost use Rattle.bdb_ranks.specs.of_format.Flags.{is_recno};
 ghost use Rattle.bdb_btree.specs.Counts.{IsKeyed};
 ghost use Rattle.bdb_btree.specs.Noted.{faults_at};
-ghost use Rattle.bdb_ranks.specs.of_faults.declared.rows.ContentsRow.TheVariants.{Count};
+ghost use Rattle.bdb_faults.specs.declared.rows.ContentsRow.TheVariants.{Count};
 
 use crate::counts::note_counts;
 use crate::pair_rows::{Rules, note_pairs};
 use crate::separators::note_separators;
-use bdb_ranks::Values;
-use bdb_ranks::bdb_faults::{FaultSink, First, NamedList};
-use bdb_ranks::bdb_format::{BtreeMeta, CheckError};
-use bdb_ranks::bdb_graph::{Forest, Linked};
+use bdb_faults::{FaultSink, First, NamedList};
+use bdb_ranks::{BtreeMeta, CheckError, Forest, Linked, Values};
 use std::alloc::{AllocError, Global};
 
 /// No row on what a btree holds holds. A refusal is the first fault: the least page, and there the least code;

@@ -7,10 +7,7 @@ ghost use Rattle.bdb_ranks.specs.of_format.Verdict.{structure_faults};
 ghost use Rattle.bdb_ranks.specs.of_overflow.Datum.{FitsContent, datum_seen};
 ghost use Rattle.bdb_btree.specs.Pairs.{FitsSet, left_of};
 
-use bdb_ranks::bdb_graph::Forest;
-use bdb_ranks::bdb_layout::LeafItem;
-use bdb_ranks::bdb_overflow::{Datum, value_of};
-use bdb_ranks::bdb_tree::{SetValues, set_values};
+use bdb_ranks::{Datum, Forest, LeafItem, SetValues, set_values, value_of};
 use std::marker::Model;
 
 /// The data of a data item that are left: one value, or those of a set off the page.

@@ -14,10 +14,7 @@ ghost use Rattle.bdb_ranks.specs.of_image.Linked.{FitsDupRoot};
 
 use crate::held::HeldPair;
 use crate::order::is_not_above;
-use bdb_ranks::Values;
-use bdb_ranks::bdb_layout::LeafItem;
-use bdb_ranks::bdb_overflow::{Held, is_deleted, leaf_held};
-use bdb_ranks::bdb_tree::tree_entries;
+use bdb_ranks::{Held, LeafItem, Values, is_deleted, leaf_held, tree_entries};
 use std::alloc::AllocError;
 
 /// Values that ought to ascend: the last one, and whether some value wasn't above the one before it.

@@ -6,9 +6,7 @@ ghost use Rattle.bdb_ranks.specs.of_format.ContentRows.{is_duplicate, is_wrong_s
 ghost use Rattle.bdb_ranks.specs.of_format.File.{file_of};
 
 use crate::held::HeldPair;
-use bdb_ranks::bdb_graph::Forest;
-use bdb_ranks::bdb_layout::LeafItem;
-use bdb_ranks::bdb_tree::is_wrong_root;
+use bdb_ranks::{Forest, LeafItem, is_wrong_root};
 
 /// Whether only a database with duplicates may have a pair: it shares its key, or its data is a set.
 pub(crate) fn is_duplicate(pair: &HeldPair<'_>) -> bool

@@ -10,10 +10,7 @@ ghost use Rattle.bdb_btree.specs.Held.{FitsEnds, ends_seen};
 use crate::held::page_items;
 use crate::order::is_less;
 use crate::pair::key_at;
-use bdb_ranks::Values;
-use bdb_ranks::bdb_form::PageView;
-use bdb_ranks::bdb_graph::Forest;
-use bdb_ranks::bdb_overflow::{Held, leaf_held};
+use bdb_ranks::{Forest, Held, PageView, Values, leaf_held};
 use std::alloc::AllocError;
 
 /// The lesser of two values, the first of which may be missing. An error is want of memory, for chains that are shared.

@@ -10,9 +10,7 @@ ghost use Rattle.bdb_btree.specs.Search.{AreOpen, entry_seen};
 use crate::data::{ItemData, item_data};
 use crate::pair::Pair;
 use crate::walk::Pairs;
-use bdb_ranks::bdb_graph::Forest;
-use bdb_ranks::bdb_layout::LeafItem;
-use bdb_ranks::bdb_overflow::{Datum, KeyView};
+use bdb_ranks::{Datum, Forest, KeyView, LeafItem};
 use std::marker::Model;
 
 /// The data of one pair that are left, each with the pair's key.

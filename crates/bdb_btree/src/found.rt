@@ -12,8 +12,7 @@ ghost use Rattle.bdb_btree.specs.Search.{AreOpen, data_under, from_key};
 use crate::data::{ItemData, item_data};
 use crate::pair::Pair;
 use crate::walk::{PagePairs, next_pair, page_pairs};
-use bdb_ranks::bdb_graph::Forest;
-use bdb_ranks::bdb_overflow::{Datum, is_same};
+use bdb_ranks::{Datum, Forest, is_same};
 use std::marker::Model;
 
 /// The first of these pairs that has a key; those before it are passed.

@@ -7,10 +7,7 @@ ghost use Rattle.bdb_btree.specs.Held.{items_of, pair_held, tree_items};
 ghost use Rattle.bdb_btree.specs.Pairs.{AreLeaves, left_of};
 ghost use Rattle.bdb_ranks.specs.of_tree.Trees.{IsRoot};
 
-use bdb_ranks::bdb_form::{LeafKind, PageView};
-use bdb_ranks::bdb_graph::Forest;
-use bdb_ranks::bdb_layout::LeafItem;
-use bdb_ranks::bdb_tree::{Leaves, tree_leaves};
+use bdb_ranks::{Forest, LeafItem, LeafKind, Leaves, PageView, tree_leaves};
 use std::marker::Model;
 
 /// A pair of a leaf, as its items hold it: of a key or a value in a chain they tell the head.
@@ -28,7 +25,7 @@ pub struct HeldPair<'a> {
 #[derive(Drop)]
 pub struct PageItems<'a> {
     page: u32,
-    pairs: bdb_ranks::bdb_form::PagePairs<'a, LeafKind>,
+    pairs: bdb_ranks::PagePairs<'a, LeafKind>,
 }
 
 impl<'a> Model for PageItems<'a> {

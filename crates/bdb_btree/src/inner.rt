@@ -4,8 +4,7 @@ ghost use Rattle.bdb_ranks.specs.of_format.Page.{Internal};
 ghost use Rattle.bdb_ranks.specs.of_image.Linked.{FitsLeafPage, IsForest};
 ghost use Rattle.bdb_btree.specs.Counts.{IsKeyed};
 
-use bdb_ranks::bdb_form::{InternalView, PageView};
-use bdb_ranks::bdb_graph::Forest;
+use bdb_ranks::{Forest, InternalView, PageView};
 
 /// A page of a tree of pairs, if it's an internal page; the others are its leaves.
 #[tactic(auto, using(crate::proofs::ItemLemmas::keyed_inside))]

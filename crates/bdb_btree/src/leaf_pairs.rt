@@ -9,8 +9,7 @@ ghost use Rattle.bdb_btree.specs.Pairs.{AreFit};
 ghost use Rattle.bdb_ranks.specs.of_image.Linked.{IsForest};
 
 use crate::held::{HeldPairs, tree_items};
-use bdb_ranks::bdb_format::BtreeMeta;
-use bdb_ranks::bdb_graph::Linked;
+use bdb_ranks::{BtreeMeta, Linked};
 
 /// All pairs of a btree, from left to right, deleted ones too, as their items hold them. It takes no memory.
 #[tactic(auto, using(crate::proofs::HeldLemmas::stored_fit, crate::proofs::HeldLemmas::tree_keyed, crate::proofs::HeldLemmas::tree_stored))]

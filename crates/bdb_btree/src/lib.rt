@@ -20,8 +20,11 @@ mod separators;
 mod walk;
 mod way_down;
 
+pub use bdb_faults::{FaultSink, MasterRow, NamedList, Row};
 pub use bdb_ranks::{
-    bdb_faults, bdb_form, bdb_format, bdb_graph, bdb_layout, bdb_overflow, bdb_tree,
+    BtreeMeta, Bytes, Datum, Forest, HashMeta, KeyView, Kind, LeafItem, LeafPage, Linked, Meta,
+    PageView, Pieces, QueueMeta, Ref, Settings, Steps, compare_datum, is_less, link, open_image,
+    plain_settings, u32_at,
 };
 pub use contents::{all_faults, check, note_contents};
 pub use entries::{Entries, Scan, next_entry, pair_entries};

@@ -11,8 +11,7 @@ use crate::entries::Scan;
 use crate::found::{Found, found_on};
 use crate::walk::tree_pairs;
 use crate::way_down::leaf_for;
-use bdb_ranks::bdb_format::{BtreeMeta, Steps};
-use bdb_ranks::bdb_graph::Linked;
+use bdb_ranks::{BtreeMeta, Linked, Steps};
 use std::sync::ledger::Ledger;
 
 /// The list of a btree: its live pairs from left to right, each key with each of its data. It takes no

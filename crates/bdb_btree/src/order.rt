@@ -8,9 +8,7 @@ ghost use Rattle.bdb_ranks.specs.of_overflow.Datum.{FitsContent};
 ghost use Rattle.bdb_ranks.specs.of_overflow.Held.{FitsAny, FitsHeld, value_held};
 
 use crate::held::HeldPair;
-use bdb_ranks::Values;
-use bdb_ranks::bdb_layout::compare;
-use bdb_ranks::bdb_overflow::{Held, leaf_held};
+use bdb_ranks::{Held, Values, compare, leaf_held};
 use std::alloc::AllocError;
 use std::cmp::Ordering;
 

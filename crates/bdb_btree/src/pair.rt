@@ -10,10 +10,7 @@ ghost use Rattle.bdb_ranks.specs.of_overflow.Datum.{FitsContent};
 ghost use Rattle.bdb_ranks.specs.of_overflow.Held.{FitsHeld, value_held};
 ghost use Rattle.bdb_ranks.specs.of_layout.Seen.{leaf_item_seen};
 
-use bdb_ranks::bdb_form::LeafView;
-use bdb_ranks::bdb_graph::Forest;
-use bdb_ranks::bdb_layout::LeafItem;
-use bdb_ranks::bdb_overflow::{Datum, Held, is_deleted, leaf_held, value_of};
+use bdb_ranks::{Datum, Forest, Held, LeafItem, LeafView, is_deleted, leaf_held, value_of};
 
 /// A pair of a leaf, where it lies.
 #[derive(Drop)]
@@ -34,7 +31,7 @@ impl<'a> Pair<'a> {
     pub(crate) fn of(
         forest: &Forest<'a>,
         page: u32,
-        pair: bdb_ranks::bdb_form::Pair<LeafItem<'a>>,
+        pair: bdb_ranks::Pair<LeafItem<'a>>,
     ) -> Pair<'a>
         requires { FitsContent (file_of forest.now) (leaf_item_seen pair.key).content }
         ensures { pair_seen result ≡ stored_pair (file_of forest.now) page (view_seen leaf_item_seen pair.entry) }

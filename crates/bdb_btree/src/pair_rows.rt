@@ -1,6 +1,6 @@
 ghost use Rattle.std.specs.Prelude.{◌≡◌, ◌&&◌, [], IfOk, OnOk, not};
 ghost use Rattle.bdb_ranks.specs.of_image.Linked.{FitsTreeRoot};
-ghost use Rattle.bdb_ranks.specs.of_faults.Notes.{Notes};
+ghost use Rattle.bdb_faults.specs.Notes.{Notes};
 ghost use Rattle.bdb_ranks.specs.of_format.ContentRows.{is_duplicate};
 ghost use Rattle.bdb_ranks.specs.of_format.Contents.{tree_pairs};
 ghost use Rattle.bdb_ranks.specs.of_format.File.{File, file_of};
@@ -15,9 +15,8 @@ use crate::data_order::Run;
 use crate::duplicates::{is_duplicate, is_wrong_set};
 use crate::held::{HeldPair, tree_items};
 use crate::order::KeyOrder;
-use bdb_ranks::Values;
-use bdb_ranks::bdb_faults::{ContentsRow, FaultSink, Row, note_if};
-use bdb_ranks::bdb_graph::Forest;
+use bdb_faults::{ContentsRow, FaultSink, Row, note_if};
+use bdb_ranks::{Forest, Values};
 use std::alloc::AllocError;
 
 /// What a database lets its pairs be.

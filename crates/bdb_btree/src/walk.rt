@@ -9,16 +9,14 @@ ghost use Rattle.bdb_btree.specs.Pairs.{AreLeaves, left_of, pair_seen};
 ghost use Rattle.bdb_ranks.specs.of_tree.Trees.{IsRoot};
 
 use crate::pair::Pair;
-use bdb_ranks::bdb_form::{LeafKind, PageView};
-use bdb_ranks::bdb_graph::Forest;
-use bdb_ranks::bdb_tree::{Leaves, tree_leaves};
+use bdb_ranks::{Forest, LeafKind, Leaves, PageView, tree_leaves};
 use std::marker::Model;
 
 /// The pairs of one leaf that are left, in order.
 pub struct PagePairs<'a> {
     forest: Forest<'a>,
     page: u32,
-    pairs: bdb_ranks::bdb_form::PagePairs<'a, LeafKind>,
+    pairs: bdb_ranks::PagePairs<'a, LeafKind>,
 }
 
 impl Drop for PagePairs<'_> {

@@ -8,10 +8,10 @@ ghost use Rattle.bdb_ranks.specs.of_overflow.Datum.{FitsContent};
 ghost use Rattle.bdb_ranks.specs.of_tree.Descent.{descent};
 ghost use Rattle.bdb_btree.specs.Search.{is_below};
 
-use bdb_ranks::bdb_format::{BtreeMeta, Steps};
-use bdb_ranks::bdb_graph::{Forest, LeafPage, Linked, Ref};
-use bdb_ranks::bdb_overflow::{Datum, is_less, key_datum};
-use bdb_ranks::bdb_tree::{Separate, descend_in};
+use bdb_ranks::{
+    BtreeMeta, Datum, Forest, LeafPage, Linked, Ref, Separate, Steps, descend_in, is_less,
+    key_datum,
+};
 use std::sync::ledger::Ledger;
 
 /// A key that is sought among the items of internal pages.
@@ -26,7 +26,7 @@ impl<'s, 'a> Separate for Sought<'s, 'a> {
 
     ghost says = { λ sought item. is_below (file_of sought.forest.now) sought.key.now item };
 
-    fn below(&self, item: &bdb_ranks::bdb_layout::InternalItem<'_>) -> bool {
+    fn below(&self, item: &bdb_ranks::InternalItem<'_>) -> bool {
         is_less(&Datum::Inline(self.key), &key_datum(self.forest, &item.key))
     }
 }

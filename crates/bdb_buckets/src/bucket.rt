@@ -9,8 +9,7 @@ ghost use Rattle.bdb_tree.specs.of_format.Verdict.{structure_faults};
 
 use crate::PagePairs;
 use crate::pairs::page_pairs;
-use bdb_tree::bdb_format::HashMeta;
-use bdb_tree::bdb_graph::{Forest, Linked};
+use bdb_tree::{Forest, HashMeta, Linked};
 use std::marker::Model;
 
 /// The pages of a bucket that are left, each as its pairs.

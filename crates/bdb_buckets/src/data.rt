@@ -7,10 +7,7 @@ ghost use Rattle.bdb_tree.specs.of_layout.Seen.{hash_content_seen};
 ghost use Rattle.bdb_tree.specs.of_format.Contents.{data_of};
 ghost use Rattle.bdb_tree.specs.of_format.File.{file_of};
 
-use bdb_tree::bdb_graph::Forest;
-use bdb_tree::bdb_layout::{DupBlocks, HashItem};
-use bdb_tree::bdb_overflow::{Datum, hash_datum};
-use bdb_tree::{SetValues, set_values};
+use bdb_tree::{Datum, DupBlocks, Forest, HashItem, SetValues, hash_datum, set_values};
 use std::marker::Model;
 
 /// What is left of the data of a pair.

@@ -2,8 +2,7 @@ ghost use Rattle.std.specs.Prelude.{◌≡◌};
 ghost use Rattle.bdb_tree.specs.of_overflow.Datum.{datum_seen};
 ghost use Rattle.bdb_tree.specs.of_format.Hashing.{hash5};
 
-use bdb_tree::bdb_layout::{hash5, hash5_after};
-use bdb_tree::bdb_overflow::Datum;
+use bdb_tree::{Datum, hash5, hash5_after};
 
 /// The hash of a key.
 #[inline(always)]

@@ -9,7 +9,10 @@ mod pairs;
 mod place;
 mod table;
 
-pub use bdb_tree::{bdb_form, bdb_format, bdb_graph, bdb_layout, bdb_overflow};
+pub use bdb_tree::{
+    Datum, Forest, HashMeta, Head, KeyView, Linked, Order, PageView, Steps, bucket_of, hash5,
+    u16_at,
+};
 pub use bucket::{BucketPages, bucket_pages};
 pub use data::Data;
 pub use key::hash_of;

@@ -14,10 +14,7 @@ ghost use Rattle.bdb_tree.specs.of_format.Page.{Inline, Tree};
 
 use crate::Data;
 use crate::place::Place;
-use bdb_tree::bdb_graph::Forest;
-use bdb_tree::bdb_layout::HashItem;
-use bdb_tree::bdb_overflow::{Datum, hash_datum, is_same, prefix};
-use bdb_tree::is_wrong_root;
+use bdb_tree::{Datum, Forest, HashItem, hash_datum, is_same, is_wrong_root, prefix};
 use std::marker::Model;
 
 /// A pair of a hash page, with its key.
@@ -84,11 +81,7 @@ fn head_of(item: &HashItem<'_>) -> Option<u32>
 impl<'a> Pair<'a> {
     /// A pair as the view of its page gives it.
     #[inline(always)]
-    pub fn of(
-        forest: &Forest<'a>,
-        page: u32,
-        pair: bdb_tree::bdb_form::Pair<HashItem<'a>>,
-    ) -> Pair<'a>
+    pub fn of(forest: &Forest<'a>, page: u32, pair: bdb_tree::Pair<HashItem<'a>>) -> Pair<'a>
         requires { IsGiven forest.now page (pair_seen hash_item_seen pair) }
         ensures { result ≡ told_pair forest.now page (pair_seen hash_item_seen pair.entry) }
     {

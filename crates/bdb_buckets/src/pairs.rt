@@ -7,15 +7,14 @@ ghost use Rattle.bdb_tree.specs.of_format.Chains.{next_of};
 ghost use Rattle.bdb_tree.specs.of_format.File.{file_of};
 
 use crate::Pair;
-use bdb_tree::bdb_form::{HashKind, PageView};
-use bdb_tree::bdb_graph::Forest;
+use bdb_tree::{Forest, HashKind, PageView};
 use std::marker::Model;
 
 /// The pairs that are left on a page of a bucket; none where it's a zero page.
 pub struct PagePairs<'a> {
     forest: Forest<'a>,
     page: u32,
-    pairs: Option<bdb_tree::bdb_form::PagePairs<'a, HashKind>>,
+    pairs: Option<bdb_tree::PagePairs<'a, HashKind>>,
 }
 
 impl Drop for PagePairs<'_> {
@@ -45,7 +44,7 @@ impl<'a> PagePairs<'a> {
     fn over(
         forest: &Forest<'a>,
         page: u32,
-        pairs: Option<bdb_tree::bdb_form::PagePairs<'a, HashKind>>,
+        pairs: Option<bdb_tree::PagePairs<'a, HashKind>>,
     ) -> PagePairs<'a>
         requires { AreGiven forest.now page pairs }
         ensures { result ≡ left_on forest.now page pairs.entry }

@@ -4,9 +4,7 @@ ghost use Rattle.bdb_buckets.specs.Places.{key_at, place_cmp};
 ghost use Rattle.bdb_buckets.specs.Views.{IsTable};
 
 use crate::pair::key_of;
-use bdb_tree::bdb_form::PageView;
-use bdb_tree::bdb_graph::Forest;
-use bdb_tree::bdb_overflow::{Datum, compare_datum};
+use bdb_tree::{Datum, Forest, PageView, compare_datum};
 use std::cmp::Ordering;
 
 /// Where a pair of a table stands, and the first eight bytes of its key as a number.

@@ -5,8 +5,7 @@ ghost use Rattle.bdb_tree.specs.of_format.File.{file_of};
 ghost use Rattle.bdb_tree.specs.of_format.Page.{HashFields};
 ghost use Rattle.bdb_tree.specs.of_format.Verdict.{structure_faults};
 
-use bdb_tree::bdb_format::HashMeta;
-use bdb_tree::bdb_graph::Linked;
+use bdb_tree::{HashMeta, Linked};
 
 /// How many buckets a table has.
 #[tactic(auto, using(crate::proofs::Below::bucket_few, crate::proofs::TableLemmas::table_is))]

@@ -7,9 +7,9 @@ use Rattle.bdb_need.specs.of_format.ContentRows.{ascends, ascends_from}
 use Rattle.bdb_need.specs.of_format.Less.{less}
 use Rattle.bdb_need.specs.of_pack.Built.{Built}
 use Rattle.bdb_need.specs.of_mkleaves.Units.{KeyedUnit, TreeUnit, key_of}
-use Rattle.bdb_need.specs.of_mktree.Building.{Building, units_of}
-use Rattle.bdb_need.specs.of_mktree.Units.{IsNext}
-use Rattle.bdb_need.specs.of_mktree.declared.builder.TreeBuilder.{TreeBuilder}
+use Rattle.bdb_mktree.specs.Building.{Building, units_of}
+use Rattle.bdb_mktree.specs.Units.{IsNext}
+use Rattle.bdb_mktree.specs.declared.builder.TreeBuilder.{TreeBuilder}
 use Rattle.bdb_building_tests.specs.Trees.{IsGrowing, is_above}
 
 -- a key above the last one keeps the order

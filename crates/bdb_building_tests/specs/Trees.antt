@@ -7,8 +7,8 @@ use Rattle.bdb_need.specs.of_text_format.declared.pairs.Pair.{Pair}
 use Rattle.bdb_need.specs.of_text_format.declared.pairs.Key.TheVariants.{Number}
 use Rattle.bdb_need.specs.of_pack.Built.{Built}
 use Rattle.bdb_need.specs.of_mkleaves.Units.{key_of}
-use Rattle.bdb_need.specs.of_mktree.Building.{Building, units_of}
-use Rattle.bdb_need.specs.of_mktree.declared.builder.TreeBuilder.{TreeBuilder}
+use Rattle.bdb_mktree.specs.Building.{Building, units_of}
+use Rattle.bdb_mktree.specs.declared.builder.TreeBuilder.{TreeBuilder}
 use Rattle.bdb_need.specs.of_text_format.declared.lent.PairRef.{PairRef}
 use Rattle.bdb_need.specs.of_text_format.Pairs.{unlined}
 use Rattle.bdb_need.specs.of_text_format.Placed.{pair_seen}

@@ -3,8 +3,7 @@
 use crate::counting::counted;
 use crate::settings::plain;
 use crate::values::{push, value_of};
-use bdb_need::bdb_format::{Bytes, Kind, Order, Settings};
-use bdb_need::bdb_text_format::{KeyRef, Section, TextPairs};
+use bdb_need::{Bytes, KeyRef, Kind, Order, Section, Settings, TextPairs};
 use std::alloc::{AllocError, Global};
 use std::test::Fail;
 

@@ -1,7 +1,7 @@
 //! How many pages the trees of dump texts need. The numbers are worked out from docs/FORMAT.md, "Built trees".
 
 use crate::counting::counted;
-use bdb_need::bdb_settle::settle;
+use bdb_need::settle;
 use bdb_text::read_dump;
 use std::alloc::{AllocError, Global};
 use std::test::Fail;

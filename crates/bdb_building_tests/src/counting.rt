@@ -2,8 +2,7 @@
 
 use crate::legal::{is_page_size, is_tree_kind};
 use crate::tree_lists::is_list_for;
-use bdb_need::bdb_text_format::Section;
-use bdb_need::tree_pages;
+use bdb_need::{Section, tree_pages};
 use std::alloc::{AllocError, Global};
 
 /// How many pages the file of a section needs, with its metadata page; nothing where it has a name, or isn't a btree or recno with a list in

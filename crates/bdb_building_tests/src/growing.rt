@@ -5,16 +5,14 @@ ghost use Rattle.bdb_need.specs.of_format.HeadOf.{is_page_size};
 ghost use Rattle.bdb_need.specs.of_format.declared.kinds.Kind.TheVariants.{Btree};
 ghost use Rattle.bdb_need.specs.of_places.Places.{value_at};
 ghost use Rattle.bdb_need.specs.of_mkleaves.Units.{KeyedUnit};
-ghost use Rattle.bdb_need.specs.of_mktree.Units.{unit_seen};
+ghost use Rattle.bdb_mktree.specs.Units.{unit_seen};
 ghost use Rattle.bdb_building_tests.specs.Trees.{is_above};
 
-use bdb_need::bdb_format::{Bytes, Settings};
-use bdb_need::bdb_mktree::{TreeBuilder, Unit};
-use bdb_need::bdb_pack::Pages;
-use bdb_need::bdb_places::{Place, PlacedKey, Span, Values};
+use bdb_mktree::{TreeBuilder, Unit};
+use bdb_need::{Bytes, Pages, Place, PlacedKey, Settings, Span, Values};
 use std::alloc::{AllocError, Global};
 use std::marker::Model;
-use test_lists::bdb_overflow::{Datum, is_less};
+use test_lists::{Datum, is_less};
 
 // Whether a key is above the last one, where there is one.
 fn is_above(last: &Option<Bytes>, key: &[u8]) -> bool

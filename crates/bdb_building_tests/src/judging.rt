@@ -2,8 +2,7 @@
 
 use crate::built_table;
 use crate::trees::{TreeImage, built_tree};
-use bdb_need::bdb_format::Settings;
-use bdb_need::bdb_text_format::PairSlice;
+use bdb_need::{PairSlice, Settings};
 use std::alloc::{AllocError, Global};
 use test_lists::gives;
 

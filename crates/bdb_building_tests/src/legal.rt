@@ -2,9 +2,9 @@
 
 ghost use Rattle.std.specs.Prelude.{◌≡◌, IsTrue};
 ghost use Rattle.bdb_need.specs.of_format.HeadOf.{is_page_size};
-ghost use Rattle.bdb_need.specs.of_mktree.Units.{IsTreeKind};
+ghost use Rattle.bdb_mktree.specs.Units.{IsTreeKind};
 
-use bdb_need::bdb_format::Kind;
+use bdb_need::Kind;
 
 pub fn is_page_size(size: u32) -> bool
     ensures { result ≡ is_page_size size }

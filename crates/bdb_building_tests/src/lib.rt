@@ -35,6 +35,6 @@ mod trees;
 #[cfg(test)]
 mod values;
 
-pub use bdb_need::{bdb_settle, bdb_text_format};
-pub use bdb_text;
+pub use bdb_need::{PairSlice, settle};
+pub use bdb_text::read_dump;
 pub use tables::{TableImage, built_table};

@@ -5,8 +5,7 @@ ghost use Rattle.bdb_need.specs.of_text_format.Pairs.{number_of};
 ghost use Rattle.bdb_need.specs.of_text_format.Placed.{key_seen, pairs_of};
 ghost use Rattle.bdb_need.specs.of_mkqueue.Lists.{IsQueueList};
 
-use bdb_need::bdb_format::Settings;
-use bdb_need::bdb_text_format::{KeyRef, PairSlice};
+use bdb_need::{KeyRef, PairSlice, Settings};
 
 fn number_of(key: KeyRef<'_>) -> u32
     ensures { result ≡ number_of (key_seen key.entry) }

@@ -10,11 +10,7 @@ ghost use Rattle.bdb_need.specs.of_mkqueue.Written.{IsSoundQueueOf};
 
 use crate::legal::is_page_size;
 use crate::queue_lists::is_list_for;
-use bdb_need::bdb_format::{Bytes, Settings};
-use bdb_need::bdb_meta::put_queue_meta;
-use bdb_need::bdb_mkqueue::build_queue;
-use bdb_need::bdb_pack::Pages;
-use bdb_need::bdb_text_format::PairSlice;
+use bdb_need::{Bytes, Pages, PairSlice, Settings, build_queue, put_queue_meta};
 use std::alloc::{AllocError, Global};
 
 // Whether a page has room for a record.

@@ -2,7 +2,7 @@
 
 ghost use Rattle.std.specs.Prelude.{◌≡◌};
 
-use bdb_need::bdb_format::{Kind, Order, Settings, plain_settings};
+use bdb_need::{Kind, Order, Settings, plain_settings};
 
 /// Those of single data, which aren't counted, and of records of any length.
 pub fn plain(kind: Kind, order: Order, page_size: u32) -> Settings

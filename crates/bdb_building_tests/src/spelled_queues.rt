@@ -3,7 +3,7 @@
 use crate::queues::built_queue;
 use crate::settings::queue_settings;
 use crate::values::{Numbered, numbered};
-use bdb_need::bdb_format::Order;
+use bdb_need::Order;
 use std::test::Fail;
 
 // Records 2 and 4, of five bytes each.

@@ -3,8 +3,7 @@
 use crate::judging::{TableShape, is_table_built};
 use crate::settings::table_settings;
 use crate::values::{Keyed, ORDERS, keyed, push, value_of};
-use bdb_need::bdb_format::Order;
-use bdb_need::bdb_text_format::{KeyRef, TextPairs};
+use bdb_need::{KeyRef, Order, TextPairs};
 use std::alloc::{AllocError, Global};
 use std::test::Fail;
 

@@ -5,11 +5,7 @@ ghost use Rattle.bdb_need.specs.of_format.HeadOf.{is_page_size};
 
 use crate::legal::is_page_size;
 use crate::tree_lists::is_list_for;
-use bdb_need::bdb_format::{Bytes, HashMeta, Kind, Settings};
-use bdb_need::bdb_meta::put_hash_meta;
-use bdb_need::bdb_mkhash::build_table;
-use bdb_need::bdb_pack::Pages;
-use bdb_need::bdb_text_format::PairSlice;
+use bdb_need::{Bytes, HashMeta, Kind, Pages, PairSlice, Settings, build_table, put_hash_meta};
 use std::alloc::{AllocError, Global};
 
 // The bytes of the longest image.

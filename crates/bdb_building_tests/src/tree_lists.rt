@@ -3,12 +3,11 @@
 ghost use Rattle.std.specs.Prelude.{◌≡◌, ◌+◌, ◌<◌, IsTrue, drop, get_or, length};
 ghost use Rattle.bdb_need.specs.of_text_format.Pairs.{number_of};
 ghost use Rattle.bdb_need.specs.of_text_format.Placed.{key_seen, pairs_of};
-ghost use Rattle.bdb_need.specs.of_mktree.Lists.{IsKeyFor, IsTreeList, IsPairFor, bytes_in, keyed_follow, may_follow};
+ghost use Rattle.bdb_mktree.specs.Lists.{IsKeyFor, IsTreeList, IsPairFor, bytes_in, keyed_follow, may_follow};
 ghost use Rattle.bdb_building_tests.specs.Trees.{no_pair, one_seen};
 
-use bdb_need::bdb_format::{Kind, Settings};
-use bdb_need::bdb_text_format::{KeyRef, PairRef, PairSlice};
-use test_lists::bdb_overflow::{Datum, is_less};
+use bdb_need::{KeyRef, Kind, PairRef, PairSlice, Settings};
+use test_lists::{Datum, is_less};
 
 #[tactic(auto, using(crate::proofs::CopyLemmas::one_at))]
 fn pair_at(list: PairSlice<'_>, i: usize) -> PairRef<'_>

@@ -4,8 +4,7 @@ use crate::judging::{TreeShape, is_tree_built};
 use crate::settings::tree_settings;
 use crate::trees::built_tree;
 use crate::values::{ORDERS, push, value_of};
-use bdb_need::bdb_format::{Bytes, Order};
-use bdb_need::bdb_text_format::{KeyRef, TextPairs};
+use bdb_need::{Bytes, KeyRef, Order, TextPairs};
 use std::alloc::{AllocError, Global};
 use std::test::Fail;
 

@@ -5,11 +5,8 @@ ghost use Rattle.bdb_need.specs.of_format.HeadOf.{is_page_size};
 
 use crate::legal::{is_page_size, is_tree_kind};
 use crate::tree_lists::is_list_for;
-use bdb_need::bdb_format::{BtreeMeta, Bytes, Kind, Settings};
-use bdb_need::bdb_meta::put_btree_meta;
-use bdb_need::bdb_mktree::build_tree;
-use bdb_need::bdb_pack::Pages;
-use bdb_need::bdb_text_format::PairSlice;
+use bdb_mktree::build_tree;
+use bdb_need::{BtreeMeta, Bytes, Kind, Pages, PairSlice, Settings, put_btree_meta};
 use std::alloc::{AllocError, Global};
 
 // The bytes of the longest image.

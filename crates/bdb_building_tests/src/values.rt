@@ -1,7 +1,6 @@
 //! What lists are made of.
 
-use bdb_need::bdb_format::{Bytes, Order};
-use bdb_need::bdb_text_format::{KeyRef, PairRef, TextPairs};
+use bdb_need::{Bytes, KeyRef, Order, PairRef, TextPairs};
 use std::alloc::{AllocError, Global};
 
 pub const ORDERS: [Order; 2] = [Order::Little, Order::Big];

@@ -10,9 +10,7 @@ use crate::contents::note_contents;
 use crate::structure::note_structure;
 use bdb_any_order::Rows;
 use bdb_master::{Entry, master_entries, note_master};
-use bdb_recno::bdb_faults::{AllError, FaultSink, First, NamedList, refused_by};
-use bdb_recno::bdb_format::CheckError;
-use bdb_recno::bdb_graph::Linked;
+use bdb_recno::{AllError, CheckError, FaultSink, First, Linked, NamedList, refused_by};
 use std::alloc::{AllocError, Global};
 
 /// A sink after stages 6 to 8, and the entries of the master where none of them has faults that count.

@@ -13,13 +13,9 @@ ghost use Rattle.bdb_recno.specs.of_format.File.{file_of};
 
 use crate::unordered::Unordered;
 use bdb_any_order::{Rows, Which};
-use bdb_hash::bdb_ranks::Values;
-use bdb_hash::{Chains, note_contents as note_hash};
-use bdb_master::bdb_btree::note_contents as note_btree;
-use bdb_master::master_among;
-use bdb_recno::bdb_faults::FaultSink;
-use bdb_recno::bdb_graph::{Linked, Meta};
-use bdb_recno::note_contents as note_recno;
+use bdb_hash::{Chains, Values, note_contents as note_hash};
+use bdb_master::{master_among, note_contents as note_btree};
+use bdb_recno::{FaultSink, Linked, Meta, note_contents as note_recno};
 use std::alloc::{AllocError, Global};
 
 /// Notes the faults of what the database with this metadata holds. An error is want of memory.

@@ -6,7 +6,11 @@ mod contents;
 mod structure;
 mod unordered;
 
-pub use bdb_any_order;
-pub use bdb_master::bdb_btree;
-pub use bdb_recno::{bdb_faults, bdb_format, bdb_graph, bdb_layout, bdb_overflow, bdb_tree};
+pub use bdb_any_order::{Rows, laws};
+pub use bdb_master::{Entries, Pair, next_entry, page_pairs, pair_entries};
+pub use bdb_recno::{
+    AllError, BtreeMeta, Bytes, CheckError, Datum, Forest, Formed, Head, KeyView, Linked, Meta,
+    Named, Order, Settings, Steps, Verdict, bytes_in, hash5, is_less, is_same, link, link_all,
+    open_all, open_image, tree_leaves,
+};
 pub use check::{check_file, checked_entries, entries_or_all};

@@ -3,10 +3,7 @@ ghost use Rattle.bdb_recno.specs.of_faults.Notes.{NotesAll};
 ghost use Rattle.bdb_recno.specs.of_format.File.{file_of};
 ghost use Rattle.bdb_recno.specs.of_format.Verdict.{structure_faults};
 
-use bdb_recno::bdb_faults::FaultSink;
-use bdb_recno::bdb_graph::Linked;
-use bdb_recno::bdb_overflow::note_chains;
-use bdb_recno::bdb_tree::note_trees;
+use bdb_recno::{FaultSink, Linked, note_chains, note_trees};
 use std::alloc::{AllocError, Global};
 
 /// Notes the faults of stage 6: chains without their lengths, and leaves without their kinds or neighbours. An error is want

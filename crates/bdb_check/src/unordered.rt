@@ -2,8 +2,7 @@ ghost use Rattle.std.specs.Prelude.{◌≡◌, []};
 ghost use Rattle.bdb_any_order.specs.AnyOrder.{is_of_order, is_row};
 ghost use Rattle.bdb_any_order.specs.Noted.{HasNotedOthers};
 
-use bdb_recno::bdb_faults::{ContentsRow, FaultSink, Row};
-use bdb_recno::bdb_format::Fault;
+use bdb_recno::{ContentsRow, Fault, FaultSink, Row};
 use std::alloc::AllocError;
 
 /// A sink that takes no notice of rows of order. All others are noted in the sink behind it.

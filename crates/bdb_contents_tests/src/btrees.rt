@@ -3,10 +3,10 @@
 ghost use Rattle.std.specs.Prelude.{◌≡◌};
 
 use crate::told::{Told, told_by};
-use bdb_range::bdb_btree::{HeldPair, check, pairs};
-use bdb_range::bdb_format::{Order, Steps};
-use bdb_range::bdb_graph::{Linked, link, open_image};
-use bdb_range::bdb_overflow::{Held, is_deleted, leaf_held};
+use bdb_btree::{HeldPair, check, pairs};
+use bdb_format::{Order, Steps};
+use bdb_overflow::{Held, is_deleted, leaf_held};
+use bdb_range::{Linked, link, open_image};
 use std::alloc::Global;
 use std::marker::Brand;
 use std::sync::ledger::{Blank, Ledger};

@@ -2,20 +2,20 @@
 
 ghost use Rattle.std.specs.Prelude.{◌≡◌, []};
 ghost use Rattle.bdb_range.specs.of_image.Linked.{HasMetadata};
-ghost use Rattle.bdb_range.specs.of_format.ContentRows.{database_faults};
-ghost use Rattle.bdb_range.specs.of_format.File.{file_of};
-ghost use Rattle.bdb_range.specs.of_format.Page.{HashFields};
-ghost use Rattle.bdb_range.specs.of_format.Verdict.{structure_faults};
+ghost use Rattle.bdb_format.specs.ContentRows.{database_faults};
+ghost use Rattle.bdb_format.specs.File.{file_of};
+ghost use Rattle.bdb_format.specs.Page.{HashFields};
+ghost use Rattle.bdb_format.specs.Verdict.{structure_faults};
 
 use crate::hash_samples::{
     DUPLICATES, DUPLICATES_TWICE, ELSEWHERE, ELSEWHERE_FIRST, KEY_TWICE, KEY_TWICE_LATER, UNSORTED,
     UNSORTED_FIRST, WRONG_SET,
 };
+use bdb_format::{CheckError, Fault, HashMeta, Order, Steps};
 use bdb_hash::check;
 use bdb_hash_list::{Found, Scan, find, scan};
-use bdb_range::bdb_format::{CheckError, Fault, HashMeta, Order, Steps};
-use bdb_range::bdb_graph::{Linked, Meta, link, open_image};
-use bdb_range::bdb_overflow::{Datum, KeyView, compare_datum};
+use bdb_overflow::{Datum, KeyView, compare_datum};
+use bdb_range::{Linked, Meta, link, open_image};
 use std::alloc::Global;
 use std::cmp::Ordering;
 use std::marker::Brand;

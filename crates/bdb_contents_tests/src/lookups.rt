@@ -2,17 +2,17 @@
 
 ghost use Rattle.std.specs.Prelude.{◌≡◌, [], false};
 ghost use Rattle.bdb_range.specs.of_image.Linked.{HasMetadata};
-ghost use Rattle.bdb_range.specs.of_format.ContentRows.{database_faults};
-ghost use Rattle.bdb_range.specs.of_format.File.{file_of};
-ghost use Rattle.bdb_range.specs.of_format.Page.{BtreeFields};
-ghost use Rattle.bdb_range.specs.of_format.Verdict.{structure_faults};
-ghost use Rattle.bdb_range.specs.of_format.Flags.{is_recno};
+ghost use Rattle.bdb_format.specs.ContentRows.{database_faults};
+ghost use Rattle.bdb_format.specs.File.{file_of};
+ghost use Rattle.bdb_format.specs.Page.{BtreeFields};
+ghost use Rattle.bdb_format.specs.Verdict.{structure_faults};
+ghost use Rattle.bdb_format.specs.Flags.{is_recno};
 
 use crate::lookup_cases::{CASES, Case, Entry, Part};
-use bdb_range::bdb_btree::{Found, Scan, check, find, scan};
-use bdb_range::bdb_format::{BtreeMeta, Order, Steps};
-use bdb_range::bdb_graph::{Linked, link, open_image};
-use bdb_range::bdb_overflow::{Datum, KeyView, compare_datum};
+use bdb_btree::{Found, Scan, check, find, scan};
+use bdb_format::{BtreeMeta, Order, Steps};
+use bdb_overflow::{Datum, KeyView, compare_datum};
+use bdb_range::{Linked, link, open_image};
 use std::alloc::Global;
 use std::cmp::Ordering;
 use std::marker::Brand;

@@ -2,17 +2,16 @@
 
 ghost use Rattle.std.specs.Prelude.{◌≡◌, [], IsTrue, false};
 ghost use Rattle.bdb_range.specs.of_image.Linked.{HasMetadata};
-ghost use Rattle.bdb_range.specs.of_format.File.{file_of};
-ghost use Rattle.bdb_range.specs.of_format.Flags.{is_recno};
-ghost use Rattle.bdb_range.specs.of_format.Page.{BtreeFields, HashFields};
-ghost use Rattle.bdb_range.specs.of_format.Verdict.{structure_faults};
+ghost use Rattle.bdb_format.specs.File.{file_of};
+ghost use Rattle.bdb_format.specs.Flags.{is_recno};
+ghost use Rattle.bdb_format.specs.Page.{BtreeFields, HashFields};
+ghost use Rattle.bdb_format.specs.Verdict.{structure_faults};
 
 use crate::btrees::COUNTED;
 use crate::hashes::THREE_BUCKETS;
 use crate::recnos::THREE_LEVELS;
-use bdb_range::bdb_faults::NamedList;
-use bdb_range::bdb_format::{BtreeMeta, HashMeta, Order, Steps};
-use bdb_range::bdb_graph::{Linked, Meta, link, open_image};
+use bdb_format::{BtreeMeta, HashMeta, Order, Steps};
+use bdb_range::{Linked, Meta, NamedList, link, open_image};
 use std::alloc::Global;
 use std::marker::Brand;
 use std::sync::ledger::{Blank, Ledger};
@@ -96,8 +95,7 @@ fn notes_btree(alloc: Global, linked: &Linked<'_>, meta: &BtreeMeta, rows: &[(u3
     requires stage { structure_faults (file_of linked.now) ≡ [] }
 {
     let mut found = NamedList::new(alloc);
-    bdb_range::bdb_btree::all_faults(alloc, linked, meta, &mut found).is_ok()
-        && has_rows(&found, 8, rows)
+    bdb_btree::all_faults(alloc, linked, meta, &mut found).is_ok() && has_rows(&found, 8, rows)
 }
 
 fn notes_recno(alloc: Global, linked: &Linked<'_>, meta: &BtreeMeta, rows: &[(u32, u8)]) -> bool

@@ -2,13 +2,13 @@
 
 ghost use Rattle.std.specs.Prelude.{◌≡◌};
 ghost use Rattle.bdb_range.specs.of_image.Linked.{HasMetadata};
-ghost use Rattle.bdb_range.specs.of_format.File.{file_of};
-ghost use Rattle.bdb_range.specs.of_format.Page.{QueueFields};
+ghost use Rattle.bdb_format.specs.File.{file_of};
+ghost use Rattle.bdb_format.specs.Page.{QueueFields};
 
+use bdb_format::{Order, QueueMeta, Steps};
+use bdb_overflow::{Datum, KeyView};
 use bdb_queue::{Scan, find, scan};
-use bdb_range::bdb_format::{Order, QueueMeta, Steps};
-use bdb_range::bdb_graph::{Linked, Meta, link, open_image};
-use bdb_range::bdb_overflow::{Datum, KeyView};
+use bdb_range::{Linked, Meta, link, open_image};
 use std::alloc::Global;
 use std::marker::Brand;
 use std::sync::ledger::{Blank, Ledger};

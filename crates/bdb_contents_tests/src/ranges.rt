@@ -2,18 +2,17 @@
 
 ghost use Rattle.std.specs.Prelude.{◌≡◌, [], false};
 ghost use Rattle.bdb_range.specs.of_image.Linked.{HasMetadata};
-ghost use Rattle.bdb_range.specs.of_format.ContentRows.{database_faults};
-ghost use Rattle.bdb_range.specs.of_format.File.{file_of};
-ghost use Rattle.bdb_range.specs.of_format.Page.{BtreeFields};
-ghost use Rattle.bdb_range.specs.of_format.Verdict.{structure_faults};
-ghost use Rattle.bdb_range.specs.of_format.Flags.{is_recno};
+ghost use Rattle.bdb_format.specs.ContentRows.{database_faults};
+ghost use Rattle.bdb_format.specs.File.{file_of};
+ghost use Rattle.bdb_format.specs.Page.{BtreeFields};
+ghost use Rattle.bdb_format.specs.Verdict.{structure_faults};
+ghost use Rattle.bdb_format.specs.Flags.{is_recno};
 
 use crate::lookup_cases::{Entry, Part};
 use crate::lookups::{is_next_entry, write_part};
-use bdb_range::bdb_btree::check;
-use bdb_range::bdb_format::{BtreeMeta, Order, Steps};
-use bdb_range::bdb_graph::{Linked, link, open_image};
-use bdb_range::{RangePairs, pairs_of, span};
+use bdb_btree::check;
+use bdb_format::{BtreeMeta, Order, Steps};
+use bdb_range::{Linked, RangePairs, link, open_image, pairs_of, span};
 use std::alloc::Global;
 use std::marker::Brand;
 use std::sync::ledger::{Blank, Ledger};

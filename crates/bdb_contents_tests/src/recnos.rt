@@ -3,16 +3,16 @@
 
 ghost use Rattle.std.specs.Prelude.{◌≡◌, [], IsTrue};
 ghost use Rattle.bdb_range.specs.of_image.Linked.{HasMetadata};
-ghost use Rattle.bdb_range.specs.of_format.ContentRows.{database_faults};
-ghost use Rattle.bdb_range.specs.of_format.File.{file_of};
-ghost use Rattle.bdb_range.specs.of_format.Page.{BtreeFields};
-ghost use Rattle.bdb_range.specs.of_format.Verdict.{structure_faults};
-ghost use Rattle.bdb_range.specs.of_format.Flags.{is_recno};
+ghost use Rattle.bdb_format.specs.ContentRows.{database_faults};
+ghost use Rattle.bdb_format.specs.File.{file_of};
+ghost use Rattle.bdb_format.specs.Page.{BtreeFields};
+ghost use Rattle.bdb_format.specs.Verdict.{structure_faults};
+ghost use Rattle.bdb_format.specs.Flags.{is_recno};
 
 use crate::told::{Told, told_by};
-use bdb_range::bdb_format::{BtreeMeta, Order, Steps};
-use bdb_range::bdb_graph::{Linked, link, open_image};
-use bdb_range::bdb_overflow::{Datum, KeyView};
+use bdb_format::{BtreeMeta, Order, Steps};
+use bdb_overflow::{Datum, KeyView};
+use bdb_range::{Linked, link, open_image};
 use bdb_recno::{Scan, check, find, scan};
 use std::alloc::Global;
 use std::marker::Brand;

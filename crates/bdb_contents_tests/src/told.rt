@@ -1,6 +1,6 @@
 //! What the check of a database says, and samples beside it.
 
-use bdb_range::bdb_format::{CheckError, Fault};
+use bdb_format::{CheckError, Fault};
 use test_images::Sample;
 
 /// What the check of a database says; refused is a file on which it is not run.

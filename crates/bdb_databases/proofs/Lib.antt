@@ -6,7 +6,7 @@ pub mod PlaceLemmas
 pub mod ReadableLemmas
 pub mod SoundLemmas
 pub use Rattle.bdb_any_order.proofs as of_any_order
-pub use Rattle.bdb_master.proofs.of_btree as of_btree
+pub use Rattle.bdb_btree.proofs as of_btree
 pub use Rattle.bdb_hash_list.proofs.of_buckets as of_buckets
 pub use Rattle.bdb_recno.proofs.of_format as of_format
 pub use Rattle.bdb_recno.proofs.of_graph as of_graph

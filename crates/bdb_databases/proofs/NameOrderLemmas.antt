@@ -25,9 +25,9 @@ use Rattle.bdb_recno.specs.of_format.Flags.{is_recno}
 use Rattle.bdb_recno.specs.of_image.Linked.{HasMetadata, IsForest}
 use Rattle.bdb_recno.proofs.of_graph.LinkedLemmas.{root_fits}
 use Rattle.bdb_recno.proofs.of_graph.ReadLemmas.{master_is, master_keys}
-use Rattle.bdb_master.specs.of_btree.Bounds.{DontFall, NoneBelow}
-use Rattle.bdb_master.proofs.of_btree.FallLemmas.{dont_fall, tree_keys}
-use Rattle.bdb_master.proofs.of_btree.PairLemmas.{tree_pair}
+use Rattle.bdb_btree.specs.Bounds.{DontFall, NoneBelow}
+use Rattle.bdb_btree.proofs.FallLemmas.{dont_fall, tree_keys}
+use Rattle.bdb_btree.proofs.PairLemmas.{tree_pair}
 use Rattle.bdb_master.specs.Entries.{fault_at, named}
 use Rattle.bdb_any_order.specs.AnyOrder.{contents_by, faults_by_rows}
 use Rattle.bdb_databases.specs.Laws.{NamesAscend, NamesAscendInAnyOrder, name_bytes}

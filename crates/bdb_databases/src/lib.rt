@@ -10,8 +10,7 @@ mod readable;
 mod reads;
 mod settings;
 
-pub use bdb_master::bdb_btree;
-pub use bdb_recno::{bdb_format, bdb_overflow};
+pub use bdb_recno::{Bytes, Datum};
 pub use db::Db;
 pub use listing::Scan;
 pub use lookup::{Found, found_in};

@@ -8,16 +8,14 @@ ghost use Rattle.bdb_recno.specs.of_format.Lists.{list_of};
 ghost use Rattle.bdb_recno.specs.of_format.Page.{BtreeFields};
 ghost use Rattle.bdb_recno.specs.of_format.Verdict.{structure_faults};
 
-use bdb_recno::bdb_format::BtreeMeta;
-use bdb_recno::bdb_graph::{Linked, Meta};
-use bdb_recno::bdb_overflow::{Datum, KeyView};
+use bdb_recno::{BtreeMeta, Datum, KeyView, Linked, Meta};
 use std::alloc::{AllocError, Global};
 use std::marker::Model;
 
 /// What is left of the list of a database, by its kind.
 #[derive(Drop)]
 pub(crate) enum Entries<'a> {
-    Btree(bdb_master::bdb_btree::Scan<'a>),
+    Btree(bdb_btree::Scan<'a>),
     Recno(bdb_recno::Scan<'a>),
     Hash(bdb_hash_list::Scan<'a>),
     Queue(bdb_queue::Scan<'a>),
@@ -77,7 +75,7 @@ fn tree_entries<'a>(linked: &Linked<'a>, meta: &BtreeMeta) -> Entries<'a>
     ensures { entries_left result ≡ list_of (file_of linked.now) (BtreeFields meta.now) }
 {
     if !meta.is_recno() {
-        Entries::Btree(bdb_master::bdb_btree::scan(linked, meta))
+        Entries::Btree(bdb_btree::scan(linked, meta))
     } else {
         Entries::Recno(bdb_recno::scan(linked, meta))
     }

@@ -11,16 +11,14 @@ ghost use Rattle.bdb_recno.specs.of_format.Verdict.{structure_faults};
 ghost use Rattle.bdb_recno.specs.of_format.Flags.{is_recno};
 ghost use Rattle.bdb_recno.specs.of_overflow.Datum.{datum_seen};
 
-use bdb_recno::bdb_format::{BtreeMeta, QueueMeta, Steps, number_in};
-use bdb_recno::bdb_graph::{Linked, Meta};
-use bdb_recno::bdb_overflow::Datum;
+use bdb_recno::{BtreeMeta, Datum, Linked, Meta, QueueMeta, Steps, number_in};
 use std::marker::Model;
 use std::sync::ledger::Ledger;
 
 /// What is left of the data of a key, by the kind of the database.
 #[derive(Drop)]
 pub(crate) enum Data<'a> {
-    Btree(bdb_master::bdb_btree::Found<'a>),
+    Btree(bdb_btree::Found<'a>),
     Recno(bdb_recno::Found<'a>),
     Hash(bdb_hash_list::Found<'a>),
     Queue(bdb_queue::Found<'a>),
@@ -134,7 +132,7 @@ fn tree_data<'a, L: Ledger>(
     ensures cost { steps.new ≤ steps.old + most_steps (file_of linked.now) (BtreeFields meta.now) }
 {
     if !meta.is_recno() {
-        Data::Btree(bdb_master::bdb_btree::find(linked, meta, key, steps))
+        Data::Btree(bdb_btree::find(linked, meta, key, steps))
     } else {
         record_in(linked, meta, key, steps)
     }

@@ -9,8 +9,7 @@ ghost use Rattle.bdb_recno.specs.of_format.File.{file_of};
 ghost use Rattle.bdb_recno.specs.of_format.Verdict.{master_faults, structure_faults};
 
 use bdb_master::{Entry, master_of};
-use bdb_recno::bdb_format::Bytes;
-use bdb_recno::bdb_graph::{Linked, Meta};
+use bdb_recno::{Bytes, Linked, Meta};
 use std::alloc::{AllocError, Global};
 use std::marker::Model;
 

@@ -12,8 +12,7 @@ ghost use Rattle.bdb_recno.specs.of_format.Verdict.{structure_faults};
 use crate::Db;
 use crate::named::NamedMeta;
 use crate::settings::settings_of;
-use bdb_recno::bdb_format::{Head, Settings};
-use bdb_recno::bdb_graph::{Linked, Meta};
+use bdb_recno::{Head, Linked, Meta, Settings};
 use std::marker::Model;
 
 /// A file whose databases can be read, whatever order its keys and data stand in: no row that counts in any order holds on it. Its

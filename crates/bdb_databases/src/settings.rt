@@ -2,8 +2,7 @@ ghost use Rattle.std.specs.Prelude.{◌≡◌};
 ghost use Rattle.bdb_recno.specs.of_image.Metas.{meta_seen};
 ghost use Rattle.bdb_recno.specs.of_format.Databases.{btree_settings, hash_settings, queue_settings, recno_settings, settings_of};
 
-use bdb_recno::bdb_format::{BtreeMeta, HashMeta, Head, Kind, QueueMeta, Settings, plain_settings};
-use bdb_recno::bdb_graph::Meta;
+use bdb_recno::{BtreeMeta, HashMeta, Head, Kind, Meta, QueueMeta, Settings, plain_settings};
 
 fn btree_settings(head: Head, meta: &BtreeMeta) -> Settings
     ensures { result ≡ btree_settings head.page_size head.order meta.now }

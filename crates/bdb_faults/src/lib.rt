@@ -13,7 +13,10 @@ mod rows;
 mod sink;
 mod table;
 
-pub use bdb_format;
+pub use bdb_format::{
+    BtreeMeta, Bytes, CheckError, Fault, FileKind, HashMeta, Head, Header, Kind, MetaFault, Order,
+    QueueMeta, Reference, Settings, Sort, Steps, Unsupported, Verdict, number_in, plain_settings,
+};
 pub use cases::{fault_of_form, fault_of_head};
 pub use first::First;
 pub use list::NamedList;

@@ -7,9 +7,10 @@ mod sound;
 mod verdict;
 mod verdict_all;
 
-pub use bdb_check::bdb_any_order::Rows;
 pub use bdb_check::{
-    bdb_btree, bdb_faults, bdb_format, bdb_graph, bdb_layout, bdb_overflow, bdb_tree, check_file,
+    AllError, BtreeMeta, Bytes, Datum, Entries, Forest, KeyView, Linked, Meta, Named, Order, Pair,
+    Rows, Steps, bytes_in, check_file, hash5, is_less, is_same, link, next_entry, open_image,
+    page_pairs, pair_entries, tree_leaves,
 };
 pub use bdb_databases::{Db, Found, Readable, Scan};
 pub use sound::Sound;

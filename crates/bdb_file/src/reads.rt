@@ -6,7 +6,7 @@ ghost use Rattle.bdb_check.specs.of_format.File.{file_of};
 ghost use Rattle.bdb_check.specs.of_format.Lists.{list_of};
 
 use crate::{Db, Found, Scan, Sound};
-use bdb_check::bdb_format::Steps;
+use bdb_check::Steps;
 use bdb_databases::found_in;
 use std::alloc::{AllocError, Global};
 use std::sync::ledger::Ledger;

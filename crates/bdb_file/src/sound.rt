@@ -9,8 +9,7 @@ ghost use Rattle.bdb_check.specs.of_format.HeadOf.{head_of};
 ghost use Rattle.bdb_check.specs.of_format.Verdict.{faults_of, structure_faults};
 
 use crate::{Db, Readable};
-use bdb_check::bdb_format::{Head, Settings};
-use bdb_check::bdb_graph::{Linked, Meta};
+use bdb_check::{Head, Linked, Meta, Settings};
 use std::marker::Model;
 
 /// A file on which no row of any stage holds, with its databases: those that its master names, in the order of

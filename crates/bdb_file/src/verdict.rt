@@ -5,9 +5,7 @@ ghost use Rattle.bdb_check.specs.of_format.File.{file_of};
 ghost use Rattle.bdb_check.specs.of_format.Verdict.{faults_in, verdict_of};
 
 use crate::{Readable, Rows, Sound};
-use bdb_check::bdb_format::{CheckError, Steps, Verdict};
-use bdb_check::bdb_graph::{Formed, link, open_image};
-use bdb_check::checked_entries;
+use bdb_check::{CheckError, Formed, Steps, Verdict, checked_entries, link, open_image};
 use bdb_databases::databases_of;
 use std::alloc::Global;
 use std::sync::ledger::Ledger;

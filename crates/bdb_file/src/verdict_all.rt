@@ -5,10 +5,7 @@ ghost use Rattle.bdb_check.specs.of_format.File.{file_of};
 ghost use Rattle.bdb_check.specs.of_format.Verdict.{faults_in, faults_of};
 
 use crate::{Readable, Rows, Sound};
-use bdb_check::bdb_faults::AllError;
-use bdb_check::bdb_format::Steps;
-use bdb_check::bdb_graph::{Formed, link_all, open_all};
-use bdb_check::entries_or_all;
+use bdb_check::{AllError, Formed, Steps, entries_or_all, link_all, open_all};
 use bdb_databases::databases_of;
 use std::alloc::Global;
 use std::sync::ledger::Ledger;

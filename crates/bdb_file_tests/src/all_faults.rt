@@ -4,9 +4,8 @@ ghost use Rattle.std.specs.Prelude.{◌≡◌};
 
 use crate::files::TWO_DATABASES;
 use crate::judging::SIZE;
-use bdb_file::bdb_faults::{AllError, Named};
-use bdb_file::bdb_format::{Fault, Order, Steps, Unsupported};
-use bdb_file::verify_all;
+use bdb_file::{AllError, Named, verify_all};
+use bdb_format::{Fault, Order, Steps, Unsupported};
 use std::alloc::Global;
 use std::marker::Brand;
 use std::sync::ledger::{Blank, Ledger};

@@ -4,9 +4,8 @@ ghost use Rattle.std.specs.Prelude.{◌≡◌};
 
 use crate::files::TWO_DATABASES;
 use crate::judging::SIZE;
-use bdb_file::bdb_faults::{AllError, Named};
-use bdb_file::bdb_format::{Fault, Order, Steps, Verdict};
-use bdb_file::{Readable, Rows, verify_all, verify_all_by, verify_by};
+use bdb_file::{AllError, Named, Readable, Rows, verify_all, verify_all_by, verify_by};
+use bdb_format::{Fault, Order, Steps, Verdict};
 use std::alloc::Global;
 use std::marker::Brand;
 use std::sync::ledger::{Blank, Ledger};

@@ -3,9 +3,8 @@
 ghost use Rattle.std.specs.Prelude.{◌≡◌};
 
 use crate::judging::{SIZE, Told, verdict_told};
-use bdb_file::bdb_format::{CheckError, Fault, Order, Steps, Unsupported};
-use bdb_file::bdb_graph::{link, open_image};
-use bdb_file::check_file;
+use bdb_file::{check_file, link, open_image};
+use bdb_format::{CheckError, Fault, Order, Steps, Unsupported};
 use std::alloc::Global;
 use std::marker::Brand;
 use std::sync::ledger::{Blank, Ledger};

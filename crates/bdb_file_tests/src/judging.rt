@@ -2,8 +2,8 @@
 
 ghost use Rattle.std.specs.Prelude.{◌≡◌};
 
-use bdb_file::bdb_format::{Fault, Steps, Unsupported, Verdict};
 use bdb_file::verify;
+use bdb_format::{Fault, Steps, Unsupported, Verdict};
 use std::alloc::Global;
 use std::marker::Brand;
 use std::sync::ledger::{Blank, Ledger};

@@ -1,15 +1,14 @@
 //! What a sound file tells: its databases, their settings, their lists, and what they have under a key.
 
 ghost use Rattle.std.specs.Prelude.{◌≡◌, ◌<◌, ◌≤◌, ◌^◌, length};
-ghost use Rattle.bdb_file.specs.of_format.Databases.{databases};
-ghost use Rattle.bdb_file.specs.of_format.File.{file_of};
+ghost use Rattle.bdb_format.specs.Databases.{databases};
+ghost use Rattle.bdb_format.specs.File.{file_of};
 
 use crate::files::TWO_DATABASES;
 use crate::judging::SIZE;
 use crate::worked::{ONE_PAIR, QUEUE};
-use bdb_file::bdb_format::{Bytes, Kind, Order, Steps};
-use bdb_file::bdb_overflow::{Datum, KeyView};
-use bdb_file::{Db, Scan, Sound, verify};
+use bdb_file::{Datum, Db, KeyView, Scan, Sound, verify};
+use bdb_format::{Bytes, Kind, Order, Steps};
 use std::alloc::{AllocError, Global};
 use std::marker::Brand;
 use std::sync::ledger::{Blank, Ledger};

@@ -1,7 +1,7 @@
 //! Small files, each for one rule. Values: docs/FORMAT.md, "Metadata pages" to "Stage 5, reach".
 
 use crate::judging::{SIZE, Told, verdict_told};
-use bdb_file::bdb_format::{Order, Unsupported};
+use bdb_format::{Order, Unsupported};
 use std::alloc::Global;
 use test_images::{Field, write};
 

@@ -5,8 +5,7 @@ ghost use Rattle.bdb_layout.specs.of_format.Rows.{all_item_rows, index_rows, ite
 ghost use Rattle.bdb_layout.specs.of_format.Table.{first_row, lesser};
 
 use crate::PageKind;
-use bdb_layout::bdb_format::Order;
-use bdb_layout::{ItemFault, u16_at};
+use bdb_layout::{ItemFault, Order, u16_at};
 
 // The code of the first row that holds for a page with an index: its own, else the least of its items.
 #[tactic(auto, using(crate::proofs::FormedLemmas::index_room, crate::proofs::Below::index_first, crate::proofs::Below::items_next))]

@@ -14,8 +14,7 @@ use crate::{
     DupLeafKind, FreeView, HashKind, IndexedView, InternalKind, LeafKind, MetaView, OverflowView,
     PageView, QueueView, RecnoInternalKind, RecnoLeafKind, ZeroView,
 };
-use bdb_layout::bdb_format::Order;
-use bdb_layout::{u16_at, u32_at};
+use bdb_layout::{Order, u16_at, u32_at};
 
 /// A page above 0 of a btree or hash file as the view of its type, or the code of the first row of form
 /// that holds for it. Of a metadata page only the number is looked at: its rows are those of `bdb_meta`.

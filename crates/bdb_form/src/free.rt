@@ -1,8 +1,7 @@
 ghost use Rattle.std.specs.Prelude.{◌≡◌, ◌≤◌, length};
 ghost use Rattle.bdb_layout.specs.of_format.Reading.{header_of};
 
-use bdb_layout::bdb_format::Order;
-use bdb_layout::{Header, header, u32_at};
+use bdb_layout::{Header, Order, header, u32_at};
 use std::marker::Model;
 
 /// A free page: its header, whose next names the next free page.

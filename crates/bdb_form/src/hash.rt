@@ -3,8 +3,7 @@ ghost use Rattle.bdb_layout.specs.of_format.Reading.{hash_item_at};
 ghost use Rattle.bdb_layout.specs.Seen.{hash_item_seen};
 
 use crate::{IndexedView, ItemKind, PageKind, PairKind};
-use bdb_layout::bdb_format::Order;
-use bdb_layout::{HashItem, ItemFault, hash_fault, known_hash_item};
+use bdb_layout::{HashItem, ItemFault, Order, hash_fault, known_hash_item};
 use std::marker::Model;
 
 /// A page of a hash table: pairs of a key and its data.

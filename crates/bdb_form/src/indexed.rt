@@ -5,8 +5,7 @@ ghost use Rattle.bdb_layout.specs.of_format.Reading.{entries_of, header_of, inde
 ghost use Rattle.bdb_layout.specs.of_format.Rows.{is_wrong_entry_count, is_wrong_level, item_rows, listed_code};
 ghost use Rattle.bdb_layout.specs.of_format.Table.{first_row};
 
-use bdb_layout::bdb_format::Order;
-use bdb_layout::{Header, ItemFault, header, u16_at};
+use bdb_layout::{Header, ItemFault, Order, header, u16_at};
 use std::marker::{Model, PhantomData};
 
 /// A type of pages with an index: what is tested of them, and how an item is read. In the definitions the

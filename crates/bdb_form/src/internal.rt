@@ -3,8 +3,7 @@ ghost use Rattle.bdb_layout.specs.of_format.Reading.{internal_item_at};
 ghost use Rattle.bdb_layout.specs.Seen.{internal_item_seen};
 
 use crate::{IndexedView, ItemKind, PageKind};
-use bdb_layout::bdb_format::Order;
-use bdb_layout::{InternalItem, ItemFault, internal_fault, known_internal_item};
+use bdb_layout::{InternalItem, ItemFault, Order, internal_fault, known_internal_item};
 use std::marker::Model;
 
 /// An internal page of a btree, or of a tree of sorted duplicates.

@@ -3,8 +3,7 @@ ghost use Rattle.bdb_layout.specs.of_format.Reading.{leaf_item_at};
 ghost use Rattle.bdb_layout.specs.Seen.{leaf_item_seen};
 
 use crate::{IndexedView, ItemKind, PageKind, PairKind};
-use bdb_layout::bdb_format::Order;
-use bdb_layout::{ItemFault, LeafItem, known_leaf_item, leaf_fault};
+use bdb_layout::{ItemFault, LeafItem, Order, known_leaf_item, leaf_fault};
 use std::marker::Model;
 
 /// A leaf of a btree: pairs of a key and its data.

@@ -21,8 +21,10 @@ mod view;
 mod zero;
 mod zeros;
 
-pub use bdb_layout;
-pub use bdb_layout::bdb_format;
+pub use bdb_layout::{
+    Bytes, Content, DupBlocks, HashItem, Header, InternalItem, InternalKey, LeafItem, Order,
+    RecnoItem, Sort, page_of, u16_at,
+};
 pub use dup_leaf::{DupLeafKind, DupLeafView};
 pub use forms::{
     form, is_zero_at, known_form, known_queue_form, page_code, queue_code, queue_form,

@@ -3,8 +3,7 @@ ghost use Rattle.bdb_form.specs.Formed.{fields_as};
 ghost use Rattle.bdb_layout.specs.of_format.Numbers.{byte_at};
 ghost use Rattle.bdb_layout.specs.of_format.Reading.{header_of, page_type};
 
-use bdb_layout::bdb_format::Order;
-use bdb_layout::{Header, header};
+use bdb_layout::{Header, Order, header};
 use std::marker::Model;
 
 /// A metadata page. Its fields are read by `bdb_meta`.

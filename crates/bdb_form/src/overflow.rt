@@ -5,8 +5,7 @@ ghost use Rattle.bdb_layout.specs.of_format.Page.{OverflowPage};
 ghost use Rattle.bdb_layout.specs.of_format.Reading.{header_of};
 ghost use Rattle.bdb_layout.specs.of_format.Rows.{body_code};
 
-use bdb_layout::bdb_format::Order;
-use bdb_layout::{Header, header, u16_at, u32_at};
+use bdb_layout::{Header, Order, header, u16_at, u32_at};
 use std::marker::Model;
 
 /// A page of a chain: a piece of a value.

@@ -2,8 +2,7 @@ ghost use Rattle.std.specs.Prelude.{◌≡◌, ◌≤◌, ◌+◌, ◌*◌, leng
 ghost use Rattle.bdb_layout.specs.of_format.Numbers.{four_at, has_bit, pad4};
 ghost use Rattle.bdb_layout.specs.of_format.Reading.{header_of};
 
-use bdb_layout::bdb_format::Order;
-use bdb_layout::{Header, header};
+use bdb_layout::{Header, Order, header};
 use std::marker::Model;
 
 /// A page of a queue: records of one length.

@@ -2,8 +2,7 @@ ghost use Rattle.bdb_layout.specs.of_format.Page.{RecnoInternalPage};
 ghost use Rattle.bdb_layout.specs.of_format.Reading.{recno_item_at};
 
 use crate::{IndexedView, ItemKind, PageKind};
-use bdb_layout::bdb_format::Order;
-use bdb_layout::{ItemFault, RecnoItem, known_recno_item, recno_fault};
+use bdb_layout::{ItemFault, Order, RecnoItem, known_recno_item, recno_fault};
 use std::marker::Model;
 
 /// An internal page of a recno tree, or of a tree of unsorted duplicates.

@@ -6,8 +6,7 @@ ghost use Rattle.bdb_text_format.specs.Pairs.{unnumbered};
 ghost use Rattle.bdb_text_format.specs.Placed.{key_seen};
 ghost use Rattle.bdb_gen.specs.Generated.{generated, next_number, pair_key, pair_of, value_length};
 
-use bdb_text_format::bdb_format::Kind;
-use bdb_text_format::{KeyRef, PairRef, TextPairs};
+use bdb_text_format::{KeyRef, Kind, PairRef, TextPairs};
 use std::alloc::{AllocError, Global};
 
 /// More bytes than a datum has.

@@ -15,9 +15,7 @@ ghost use Rattle.bdb_image.specs.of_format.declared.metadata.FileKind.TheVariant
 
 use crate::tally::Kinds;
 use crate::{Blanks, Formed, Meta};
-use bdb_image::bdb_form::{MetaView, PageView, known_form, known_queue_form};
-use bdb_image::bdb_format::{FileKind, Head};
-use bdb_image::meta_at;
+use bdb_image::{FileKind, Head, MetaView, PageView, known_form, known_queue_form, meta_at};
 use std::marker::Model;
 
 /// The pages of an image on which no row of the first five stages holds. It is a handle that costs nothing

@@ -15,10 +15,16 @@ mod roles;
 mod table;
 mod tally;
 
-pub use bdb_image::bdb_format::{Reference, Sort};
 pub use bdb_image::{
-    Formed, Meta, References, bdb_faults, bdb_form, bdb_format, bdb_layout, bdb_meta, open_all,
-    open_image, references,
+    BtreeMeta, Bytes, CheckError, Content, DupBlocks, DupLeafKind, DupLeafView, Fault, FaultSink,
+    FileKind, First, Formed, HashItem, HashKind, HashMeta, HashView, Head, Header, InternalItem,
+    InternalKey, InternalView, Items, Kind, LeafItem, LeafKind, LeafView, Meta, NamedList, Order,
+    PagePairs, PageView, Pair, QueueMeta, QueueView, RecnoInternalView, RecnoLeafKind,
+    RecnoLeafView, Reference, References, Row, Settings, Sort, Steps, StructureRow, Unsupported,
+    Verdict, bucket_of, compare, form, hash5, hash5_after, index_end, is_zero, known_form,
+    known_hash_item, known_internal_item, known_leaf_item, number_in, offset_at, open_all,
+    open_image, plain_settings, put_btree_meta, put_hash_meta, put_header, put_queue_meta, put_u16,
+    put_u32, references, u16_at, u32_at,
 };
 pub use blanks::Blanks;
 pub use forest::Forest;

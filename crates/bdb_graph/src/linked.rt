@@ -12,9 +12,7 @@ ghost use Rattle.bdb_image.specs.of_format.Page.{BtreeFields, HashFields, Meta a
 ghost use Rattle.bdb_image.specs.of_format.Reading.{header_of};
 
 use crate::{Bucket, Chain, DupRoot, Forest, Meta, Ref, TreeRoot};
-use bdb_image::bdb_form::PageView;
-use bdb_image::bdb_format::{BtreeMeta, HashMeta, Head};
-use bdb_image::bdb_layout::page_of;
+use bdb_image::{BtreeMeta, HashMeta, Head, PageView, page_of};
 use std::marker::Model;
 
 /// An image on which no row of the first five stages holds: its pages are a forest, whose roots its

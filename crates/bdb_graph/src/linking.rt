@@ -13,9 +13,7 @@ use crate::reach::note_reach;
 use crate::roles::Roles;
 use crate::tally::{Kinds, note_references};
 use crate::{Forest, Formed, Linked};
-use bdb_image::bdb_faults::{AllError, FaultSink, First, NamedList, refused_by};
-use bdb_image::bdb_format::{CheckError, Steps};
-use bdb_image::metas_of;
+use bdb_image::{AllError, CheckError, FaultSink, First, NamedList, Steps, metas_of, refused_by};
 use std::alloc::{AllocError, Global};
 use std::sync::ledger::Ledger;
 

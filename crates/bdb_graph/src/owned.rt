@@ -8,7 +8,7 @@ ghost use Rattle.bdb_image.specs.Noted.{page_faults};
 ghost use Rattle.bdb_graph.specs.Owned.{AreFew, IsFew};
 
 use crate::roles::Roles;
-use bdb_image::bdb_faults::{FaultSink, OwnershipRow, Row, note_if};
+use bdb_image::{FaultSink, OwnershipRow, Row, note_if};
 use std::alloc::AllocError;
 
 /// Notes the pages from 1 on that have no owner and need one, or more than they may have.

@@ -6,7 +6,7 @@ ghost use Rattle.bdb_image.specs.of_format.Graph.{reaches};
 ghost use Rattle.bdb_image.specs.of_format.Verdict.{reach_faults, reference_faults};
 
 use crate::roles::Roles;
-use bdb_image::bdb_faults::{FaultSink, ReachRow, Row, note_if};
+use bdb_image::{FaultSink, ReachRow, Row, note_if};
 use std::alloc::{AllocError, Global};
 
 /// What is known of a page: nothing, that it stands on the way up that is open, or whether it reaches.

@@ -10,8 +10,7 @@ ghost use Rattle.bdb_image.specs.of_format.Graph.{first_holder, is_anchor, is_ha
 
 use crate::Formed;
 use crate::tally::Tally;
-use bdb_image::bdb_format::{FileKind, Head};
-use bdb_image::{FormedPage, page_at};
+use bdb_image::{FileKind, FormedPage, Head, page_at};
 use std::alloc::{AllocError, Global};
 use std::marker::Model;
 

@@ -10,8 +10,7 @@ ghost use Rattle.bdb_image.specs.of_format.References.{fit_code};
 use crate::Formed;
 use crate::leaps::{first_open, no_leaps};
 use crate::tally::{Tally, note_at};
-use bdb_image::bdb_format::Sort;
-use bdb_image::{BucketFits, Buckets, Misfits, Run};
+use bdb_image::{BucketFits, Buckets, Misfits, Run, Sort};
 use std::alloc::{AllocError, Global};
 
 /// What is known of the pages of a file as buckets: which fit, and leaps over those that have so many owners that no

@@ -11,9 +11,7 @@ ghost use Rattle.bdb_image.specs.of_format.Verdict.{reference_faults};
 
 use crate::table::{BucketPages, tally_table};
 use crate::{Formed, references};
-use bdb_image::bdb_faults::FaultSink;
-use bdb_image::bdb_format::{Reference, Sort, Steps};
-use bdb_image::{Misfits, misfit};
+use bdb_image::{FaultSink, Misfits, Reference, Sort, Steps, misfit};
 use std::alloc::{AllocError, Global};
 use std::sync::ledger::Ledger;
 

@@ -3,13 +3,11 @@
 ghost use Rattle.std.specs.Prelude.{◌≡◌, ◌≤◌, ◌^◌, length};
 
 use crate::linking::{PAIR, TREE};
+use bdb_graph::{link_all, open_all};
 use std::alloc::Global;
 use std::marker::Brand;
 use std::sync::ledger::{Blank, Ledger};
-use test_images::bdb_faults::{AllError, Named};
-use test_images::bdb_format::{Fault, Order, Steps, Unsupported};
-use test_images::bdb_graph::{link_all, open_all};
-use test_images::{Field, is_list_of, write};
+use test_images::{AllError, Fault, Field, Named, Order, Steps, Unsupported, is_list_of, write};
 
 const SIZE: usize = 5 * 512;
 

@@ -5,18 +5,13 @@ ghost use Rattle.test_images.specs.of_image.Linked.{FitsChain};
 ghost use Rattle.test_images.specs.of_format.File.{file_of};
 
 use crate::fields::BTREE;
+use bdb_graph::{Linked, link, open_image};
+use bdb_overflow::{Datum, Pieces, check_chains, compare_datum, leaf_datum, pieces, pieces_at};
 use std::alloc::Global;
 use std::cmp::Ordering;
 use std::marker::Brand;
 use std::sync::ledger::{Blank, Ledger};
-use test_images::bdb_form::PageView;
-use test_images::bdb_format::{Fault, Order, Steps};
-use test_images::bdb_graph::{Linked, link, open_image};
-use test_images::bdb_layout::LeafItem;
-use test_images::bdb_overflow::{
-    Datum, Pieces, check_chains, compare_datum, leaf_datum, pieces, pieces_at,
-};
-use test_images::{Field, write};
+use test_images::{Fault, Field, LeafItem, Order, PageView, Steps, write};
 
 const PAGE: usize = 512;
 

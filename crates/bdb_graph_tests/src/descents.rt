@@ -10,16 +10,15 @@ ghost use Rattle.test_images.specs.of_format.Less.{less};
 ghost use Rattle.test_images.specs.of_format.References.{has_type};
 ghost use Rattle.test_images.specs.of_tree.Descent.{IsMonotone};
 
+use bdb_graph::{Linked, Meta, Ref, TreeRoot, link, open_image};
 use std::alloc::Global;
 use std::cmp::Ordering;
 use std::marker::Brand;
 use std::sync::ledger::{Blank, Ledger};
-use test_images::bdb_form::{InternalView, PageView};
-use test_images::bdb_format::{Order, Steps};
-use test_images::bdb_graph::{Linked, Meta, Ref, TreeRoot, link, open_image};
-use test_images::bdb_layout::{InternalItem, InternalKey, compare};
-use test_images::bdb_tree::{Separate, descend_by};
-use test_images::{Field, write};
+use test_images::{
+    Field, InternalItem, InternalKey, InternalView, Order, PageView, Separate, Steps, compare,
+    descend_by, write,
+};
 
 const SIZE: usize = 9 * 512;
 

@@ -3,12 +3,11 @@
 ghost use Rattle.std.specs.Prelude.{◌≡◌};
 
 use crate::fields::BTREE;
+use bdb_graph::{References, Sort, open_image, references};
 use std::alloc::Global;
 use std::marker::Brand;
 use std::sync::ledger::{Blank, Ledger};
-use test_images::bdb_format::{Order, Steps};
-use test_images::bdb_graph::{References, Sort, open_image, references};
-use test_images::{Field, write};
+use test_images::{Field, Order, Steps, write};
 
 const SIZE: usize = 512;
 

@@ -2,12 +2,11 @@
 
 ghost use Rattle.std.specs.Prelude.{◌≡◌, ◌≤◌, ◌^◌, length};
 
+use bdb_graph::{link, open_image};
 use std::alloc::Global;
 use std::marker::Brand;
 use std::sync::ledger::{Blank, Ledger};
-use test_images::bdb_format::{CheckError, Fault, Order, Steps};
-use test_images::bdb_graph::{link, open_image};
-use test_images::{Field, write};
+use test_images::{CheckError, Fault, Field, Order, Steps, write};
 
 const SIZE: usize = 5 * 512;
 

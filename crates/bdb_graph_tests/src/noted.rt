@@ -3,15 +3,12 @@
 ghost use Rattle.std.specs.Prelude.{◌≡◌};
 
 use crate::linking::{CHAIN, TREE};
+use bdb_graph::{Linked, link, open_image};
+use bdb_overflow::chain_faults;
 use std::alloc::Global;
 use std::marker::Brand;
 use std::sync::ledger::{Blank, Ledger};
-use test_images::bdb_faults::NamedList;
-use test_images::bdb_format::{Order, Steps};
-use test_images::bdb_graph::{Linked, link, open_image};
-use test_images::bdb_overflow::chain_faults;
-use test_images::bdb_tree::tree_faults;
-use test_images::{Field, has_rows, write};
+use test_images::{Field, NamedList, Order, Steps, has_rows, tree_faults, write};
 
 const SIZE: usize = 5 * 512;
 

@@ -1,10 +1,9 @@
 //! The verdict of the first two stages. Values: docs/FORMAT.md, "Faults".
 
 use crate::fields::{BTREE, LEAF};
+use bdb_graph::open_image;
 use std::alloc::Global;
-use test_images::bdb_format::{Fault, Order, Unsupported, Verdict};
-use test_images::bdb_graph::open_image;
-use test_images::{Field, write};
+use test_images::{Fault, Field, Order, Unsupported, Verdict, write};
 
 const SIZE: usize = 512;
 

@@ -4,8 +4,7 @@ ghost use Rattle.std.specs.Prelude.{◌≤◌};
 
 use crate::linking::{PAIR, TABLE, THIRD_BUCKET, Told, told_by};
 use std::alloc::{AllocError, Global};
-use test_images::bdb_format::Order;
-use test_images::{Field, write};
+use test_images::{Field, Order, write};
 
 const SIZE: usize = 8 * 512;
 

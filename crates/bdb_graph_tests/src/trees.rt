@@ -2,14 +2,13 @@
 
 ghost use Rattle.std.specs.Prelude.{◌≡◌};
 
+use bdb_graph::{Linked, link, open_image};
 use std::alloc::Global;
 use std::marker::Brand;
 use std::sync::ledger::{Blank, Ledger};
-use test_images::bdb_form::PageView;
-use test_images::bdb_format::{CheckError, Fault, Order, Steps};
-use test_images::bdb_graph::{Linked, link, open_image};
-use test_images::bdb_tree::{check_trees, leaves_below, next_level};
-use test_images::{Field, write};
+use test_images::{
+    CheckError, Fault, Field, Order, PageView, Steps, check_trees, leaves_below, next_level, write,
+};
 
 const SIZE: usize = 5 * 512;
 

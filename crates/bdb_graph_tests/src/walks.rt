@@ -5,13 +5,11 @@ ghost use Rattle.test_images.specs.of_image.Linked.{FitsTreeRoot};
 ghost use Rattle.test_images.specs.of_format.File.{file_of};
 
 use crate::fields::BTREE;
+use bdb_graph::{Linked, Meta, Ref, TreeRoot, link, open_image};
 use std::alloc::Global;
 use std::marker::Brand;
 use std::sync::ledger::{Blank, Ledger};
-use test_images::bdb_format::{Order, Steps};
-use test_images::bdb_graph::{Linked, Meta, Ref, TreeRoot, link, open_image};
-use test_images::bdb_tree::{first_leaf, leaves};
-use test_images::{Field, has_sound_trees, write};
+use test_images::{Field, Order, Steps, first_leaf, has_sound_trees, leaves, write};
 
 const SIZE: usize = 9 * 512;
 

@@ -3,8 +3,8 @@ use Rattle.std.proofs.Common.{◌≡◌, ℕ, ◌+◌, Bool, true, false, List, 
 use Rattle.std.specs.List.{Contains, flat_map, range_with_len}
 use Rattle.std.proofs.lemmas.List.Elements.{Contains-append_cases, Contains-append_left, Contains-append_right}
 use Rattle.bdb_ranks.specs.of_image.Linked.{HasMetadata}
-use Rattle.bdb_ranks.specs.of_faults.Notes.{Notes, NotesAll}
-use Rattle.bdb_ranks.proofs.of_faults.SinkLemmas.{notes_then}
+use Rattle.bdb_faults.specs.Notes.{Notes, NotesAll}
+use Rattle.bdb_faults.proofs.SinkLemmas.{notes_then}
 use Rattle.bdb_ranks.proofs.of_format.FaultLemmas.{same_parts}
 use Rattle.bdb_ranks.specs.of_format.declared.kinds.Fault.{Fault}
 use Rattle.bdb_ranks.specs.of_format.declared.metadata.HashMeta.{HashMeta}

@@ -14,7 +14,7 @@ use Rattle.std.proofs.lemmas.List.Kept.{AllPairs-from_increasing}
 use Rattle.std.proofs.lemmas.List.Sorted.{IsPermutation-sym}
 use Rattle.std.proofs.lemmas.Map.Keys.{IsDistinct-IsPermutation}
 use Rattle.std.proofs.lemmas.Map.Made.{IsDistinct-from_AllPairs}
-use Rattle.bdb_ranks.specs.of_faults.Notes.{Notes}
+use Rattle.bdb_faults.specs.Notes.{Notes}
 use Rattle.bdb_ranks.specs.of_format.declared.kinds.Fault.{Fault}
 use Rattle.bdb_ranks.specs.of_format.declared.metadata.HashMeta.{HashMeta}
 use Rattle.bdb_ranks.specs.of_format.Contents.{StoredPair, bucket_pages}
@@ -29,7 +29,7 @@ use Rattle.bdb_buckets.specs.Told.{stored, Told, bucket_told, joined_pages, page
 use Rattle.bdb_hash.specs.Passed.{is_among, is_missed, key_hash}
 use Rattle.bdb_hash.proofs.RepeatLemmas.{has_same}
 use Rattle.bdb_buckets.proofs.TableLemmas.{told_more}
-use Rattle.bdb_ranks.proofs.of_faults.SinkLemmas.{notes_nothing}
+use Rattle.bdb_faults.proofs.SinkLemmas.{notes_nothing}
 
 -- Numbers that are apart.
 

@@ -5,7 +5,7 @@ use Rattle.std.proofs.Math.Bool.{or-false}
 use Rattle.std.proofs.lemmas.Grind.{flat_map-append}
 use Rattle.std.proofs.lemmas.List.{map-append}
 use Rattle.std.proofs.lemmas.List.Folds.{list_any-append}
-use Rattle.bdb_ranks.specs.of_faults.Notes.{Notes}
+use Rattle.bdb_faults.specs.Notes.{Notes}
 use Rattle.bdb_ranks.specs.of_format.declared.kinds.Fault.{Fault}
 use Rattle.bdb_ranks.specs.of_format.declared.metadata.HashMeta.{HashMeta}
 use Rattle.bdb_ranks.specs.of_format.Contents.{bucket_pages}
@@ -14,7 +14,7 @@ use Rattle.bdb_hash.specs.Noted.{bucket_faults, has_stray_in, is_stray, pair_fau
 use Rattle.bdb_hash.specs.Passed.{IsPassing, Passes, key_hash}
 use Rattle.bdb_buckets.specs.Told.{Told, bucket_told, joined_pages, page_told}
 use Rattle.bdb_hash.specs.declared.passed.Passed.{Passed}
-use Rattle.bdb_ranks.proofs.of_faults.SinkLemmas.{notes_nothing, notes_then}
+use Rattle.bdb_faults.proofs.SinkLemmas.{notes_nothing, notes_then}
 use Rattle.bdb_ranks.proofs.of_format.ListLemmas.{range_zero_more}
 use Rattle.bdb_hash.proofs.ChainedLemmas.{first_of, rest_of, first_page_of, other_pages_of}
 

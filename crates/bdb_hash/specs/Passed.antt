@@ -3,7 +3,7 @@ use Rattle.std.specs.Prelude.{Bool, ◌≡◌, ℕ, ◌||◌, List, ◌∷◌, m
 use Rattle.std.specs.BTreeSet.{BTreeSet, contains}
 use Rattle.std.specs.Ordering.{nat_cmp}
 use Rattle.std.specs.List.{flat_map, fold, list_any}
-use Rattle.bdb_ranks.specs.of_faults.Notes.{Notes}
+use Rattle.bdb_faults.specs.Notes.{Notes}
 use Rattle.bdb_ranks.specs.of_overflow.Keys.{has_item, has_key, repeated_by}
 use Rattle.bdb_ranks.specs.of_format.declared.kinds.Fault.{Fault}
 use Rattle.bdb_ranks.specs.of_format.declared.metadata.HashMeta.{HashMeta}

@@ -10,9 +10,7 @@ ghost use Rattle.bdb_hash.specs.Passed.{key_hash};
 
 use crate::set_order::set_ascends;
 use bdb_buckets::{Pair, hash_of};
-use bdb_ranks::Values;
-use bdb_ranks::bdb_graph::Forest;
-use bdb_ranks::bdb_overflow::is_shared;
+use bdb_ranks::{Forest, Values, is_shared};
 use std::alloc::{AllocError, Global};
 use std::collections::BTreeMap;
 use std::marker::Model;

@@ -1,7 +1,7 @@
 ghost use Rattle.std.specs.Prelude.{◌≡◌, ◌+◌, [], IfErr, IfOk, OnOk};
 ghost use Rattle.std.specs.List.{flat_map, range_with_len};
-ghost use Rattle.bdb_ranks.specs.of_faults.Named.{HasNoted};
-ghost use Rattle.bdb_ranks.specs.of_faults.Notes.{Notes, NotesAll};
+ghost use Rattle.bdb_faults.specs.Named.{HasNoted};
+ghost use Rattle.bdb_faults.specs.Notes.{Notes, NotesAll};
 ghost use Rattle.bdb_ranks.specs.of_image.Linked.{HasMetadata};
 ghost use Rattle.bdb_hash.specs.Noted.{bucket_faults, has_stray};
 ghost use Rattle.bdb_buckets.specs.Views.{IsTable};
@@ -15,9 +15,8 @@ use crate::passed::{Passed, note_bucket};
 use crate::repeats::note_again;
 use crate::strays::note_strayed;
 use bdb_buckets::{bucket_pages, buckets};
-use bdb_ranks::bdb_faults::{FaultSink, First, NamedList};
-use bdb_ranks::bdb_format::{CheckError, HashMeta};
-use bdb_ranks::bdb_graph::Linked;
+use bdb_faults::{FaultSink, First, NamedList};
+use bdb_ranks::{CheckError, HashMeta, Linked};
 use std::alloc::{AllocError, Global};
 
 /// Notes the pairs of a table by themselves, and those that have the key of an earlier one of their bucket, while its

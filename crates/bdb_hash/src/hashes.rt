@@ -11,8 +11,7 @@ ghost use Rattle.bdb_ranks.specs.of_format.Verdict.{structure_faults};
 
 use crate::Chains;
 use bdb_buckets::{BucketPages, PagePairs, bucket_pages, buckets};
-use bdb_ranks::bdb_format::HashMeta;
-use bdb_ranks::bdb_graph::Linked;
+use bdb_ranks::{HashMeta, Linked};
 use std::alloc::{AllocError, Global};
 use std::collections::BTreeSet;
 

@@ -11,6 +11,6 @@ mod seen;
 mod set_order;
 mod strays;
 
-pub use bdb_ranks;
+pub use bdb_ranks::Values;
 pub use chained::Chains;
 pub use contents::{all_faults, check, note_contents};

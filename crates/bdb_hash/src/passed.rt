@@ -6,8 +6,8 @@ ghost use Rattle.bdb_buckets.specs.Told.{joined_pages};
 use crate::Chains;
 use crate::rows::{home_of, note_pair};
 use bdb_buckets::{BucketPages, PagePairs, Pair};
-use bdb_ranks::bdb_faults::FaultSink;
-use bdb_ranks::bdb_format::HashMeta;
+use bdb_faults::FaultSink;
+use bdb_ranks::HashMeta;
 use std::alloc::{AllocError, Global};
 
 /// What is kept of the pairs that have been gone through: the hashes of the keys of a bucket, and whether some pair of the

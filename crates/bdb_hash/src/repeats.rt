@@ -1,6 +1,6 @@
 ghost use Rattle.std.specs.Prelude.{◌≡◌, OnOk, false, map, nat_eq};
 ghost use Rattle.std.specs.List.{IsDistinct};
-ghost use Rattle.bdb_ranks.specs.of_faults.Notes.{Notes};
+ghost use Rattle.bdb_faults.specs.Notes.{Notes};
 ghost use Rattle.bdb_buckets.specs.Chained.{AreAllOf, AreOf};
 ghost use Rattle.bdb_hash.specs.Noted.{repeat_faults};
 ghost use Rattle.bdb_hash.specs.Passed.{NotesRepeats, key_hash};
@@ -8,8 +8,8 @@ ghost use Rattle.bdb_buckets.specs.Told.{joined_pages};
 
 use crate::seen::SeenKeys;
 use bdb_buckets::{BucketPages, PagePairs};
-use bdb_ranks::bdb_faults::FaultSink;
-use bdb_ranks::bdb_graph::Forest;
+use bdb_faults::FaultSink;
+use bdb_ranks::Forest;
 use std::alloc::{AllocError, Global};
 
 /// Notes those of the pairs of a page whose key there was, and adds the keys of all.

@@ -1,5 +1,5 @@
 ghost use Rattle.std.specs.Prelude.{◌≡◌, ◌&&◌, IfOk, OnOk, not};
-ghost use Rattle.bdb_ranks.specs.of_faults.Notes.{Notes};
+ghost use Rattle.bdb_faults.specs.Notes.{Notes};
 ghost use Rattle.bdb_hash.specs.Noted.{told_faults};
 ghost use Rattle.bdb_ranks.specs.of_format.ContentRows.{ascends, is_duplicate};
 ghost use Rattle.bdb_ranks.specs.of_format.Contents.{data_of};
@@ -10,10 +10,8 @@ ghost use Rattle.bdb_ranks.specs.of_format.Page.{HashFields};
 
 use crate::Chains;
 use bdb_buckets::{Data, Pair};
-use bdb_ranks::bdb_faults::{ContentsRow, FaultSink, Row, note_if};
-use bdb_ranks::bdb_format::HashMeta;
-use bdb_ranks::bdb_layout::bucket_of;
-use bdb_ranks::bdb_overflow::is_less;
+use bdb_faults::{ContentsRow, FaultSink, Row, note_if};
+use bdb_ranks::{HashMeta, bucket_of, is_less};
 use std::alloc::AllocError;
 
 /// Whether data ascend strictly.

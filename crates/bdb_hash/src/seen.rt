@@ -5,9 +5,8 @@ ghost use Rattle.bdb_buckets.specs.Chained.{chain_value};
 ghost use Rattle.bdb_hash.specs.Passed.{NotesRepeats};
 
 use bdb_buckets::Pair;
-use bdb_ranks::bdb_faults::{ContentsRow, FaultSink, Row, note_if};
-use bdb_ranks::bdb_graph::Forest;
-use bdb_ranks::bdb_overflow::Keys;
+use bdb_faults::{ContentsRow, FaultSink, Row, note_if};
+use bdb_ranks::{Forest, Keys};
 use std::alloc::{AllocError, Global};
 use std::collections::BTreeSet;
 use std::marker::Model;

@@ -9,9 +9,7 @@ ghost use Rattle.bdb_ranks.specs.of_image.Linked.{FitsDupRoot};
 ghost use Rattle.bdb_hash.specs.SetOrder.{follows};
 ghost use Rattle.bdb_ranks.specs.of_overflow.Held.{FitsAny, FitsHeld, value_held};
 
-use bdb_ranks::Values;
-use bdb_ranks::bdb_overflow::{Held, is_deleted, leaf_held};
-use bdb_ranks::bdb_tree::tree_entries;
+use bdb_ranks::{Held, Values, is_deleted, leaf_held, tree_entries};
 use std::alloc::AllocError;
 
 /// Whether a value is above the last one, where there is one. An error is want of memory.

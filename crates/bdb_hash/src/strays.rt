@@ -1,7 +1,7 @@
 ghost use Rattle.std.specs.Prelude.{◌≡◌, ◌∷◌, [], OnOk, map};
 ghost use Rattle.std.specs.BTreeSet.{BTreeSet};
 ghost use Rattle.std.specs.List.{IsDistinct, filter};
-ghost use Rattle.bdb_ranks.specs.of_faults.Notes.{Notes};
+ghost use Rattle.bdb_faults.specs.Notes.{Notes};
 ghost use Rattle.bdb_ranks.specs.of_image.Linked.{HasMetadata};
 ghost use Rattle.bdb_buckets.specs.Chained.{AreAllOf, AreOf};
 ghost use Rattle.bdb_hash.specs.Noted.{repeat_faults, stray_faults};
@@ -15,9 +15,8 @@ use crate::Chains;
 use crate::hashes::repeated_hashes;
 use crate::seen::SeenKeys;
 use bdb_buckets::{BucketPages, PagePairs, Pair, bucket_pages, buckets};
-use bdb_ranks::bdb_faults::FaultSink;
-use bdb_ranks::bdb_format::HashMeta;
-use bdb_ranks::bdb_graph::Linked;
+use bdb_faults::FaultSink;
+use bdb_ranks::{HashMeta, Linked};
 use std::alloc::{AllocError, Global};
 use std::collections::BTreeSet;
 

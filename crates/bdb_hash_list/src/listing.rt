@@ -7,8 +7,7 @@ ghost use Rattle.bdb_buckets.specs.Told.{entry_list, listed_told};
 ghost use Rattle.bdb_buckets.specs.of_format.Lists.{ListKey};
 
 use crate::ranked::Ranked;
-use bdb_buckets::Data;
-use bdb_buckets::bdb_overflow::{Datum, KeyView};
+use bdb_buckets::{Data, Datum, KeyView};
 use std::marker::Model;
 
 /// The list of a table that is left, in the order of its keys: each key with each of its data.

@@ -9,10 +9,9 @@ ghost use Rattle.bdb_buckets.specs.of_format.Lists.{BytesKey, get, hash_list};
 ghost use Rattle.bdb_buckets.specs.of_format.Page.{HashFields};
 ghost use Rattle.bdb_buckets.specs.of_format.Verdict.{structure_faults};
 
-use bdb_buckets::bdb_format::{HashMeta, Steps};
-use bdb_buckets::bdb_graph::Linked;
-use bdb_buckets::bdb_layout::{bucket_of, hash5};
-use bdb_buckets::{Data, PagePairs, Pair, bucket_pages, buckets};
+use bdb_buckets::{
+    Data, HashMeta, Linked, PagePairs, Pair, Steps, bucket_of, bucket_pages, buckets, hash5,
+};
 use std::sync::ledger::Ledger;
 
 /// The first pair of a page with this key.

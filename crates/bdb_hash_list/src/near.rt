@@ -3,10 +3,7 @@ ghost use Rattle.std.specs.Iterator.{YieldsFirstBy, item_count};
 ghost use Rattle.std.specs.Vec.Iter.{into_iter_items};
 ghost use Rattle.bdb_buckets.specs.declared.place.Place.{Place as PlaceOf};
 
-use bdb_buckets::Place;
-use bdb_buckets::bdb_format::{Head, Order};
-use bdb_buckets::bdb_graph::Forest;
-use bdb_buckets::bdb_layout::u16_at;
+use bdb_buckets::{Forest, Head, Order, Place, u16_at};
 use std::alloc::{AllocError, Global};
 use std::collections::VecDeque;
 use std::marker::Model;

@@ -5,9 +5,7 @@ ghost use Rattle.bdb_buckets.specs.Views.{IsTable};
 ghost use Rattle.bdb_buckets.specs.of_format.File.{file_of, page_at};
 
 use crate::near::Near;
-use bdb_buckets::bdb_form::PageView;
-use bdb_buckets::bdb_graph::Forest;
-use bdb_buckets::{Pair, Place};
+use bdb_buckets::{Forest, PageView, Pair, Place};
 use std::alloc::{AllocError, Global};
 use std::marker::Model;
 

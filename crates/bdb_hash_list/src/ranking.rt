@@ -12,9 +12,9 @@ ghost use Rattle.bdb_buckets.specs.of_format.Verdict.{structure_faults};
 
 use crate::Scan;
 use crate::ranked::Ranked;
-use bdb_buckets::bdb_format::HashMeta;
-use bdb_buckets::bdb_graph::{Forest, Linked};
-use bdb_buckets::{BucketPages, PagePairs, Place, bucket_pages, buckets, compare_places};
+use bdb_buckets::{
+    BucketPages, Forest, HashMeta, Linked, PagePairs, Place, bucket_pages, buckets, compare_places,
+};
 use std::alloc::{AllocError, Global};
 
 /// How many pairs there are, once those of the pages of a bucket are counted; at most what a `usize` holds.

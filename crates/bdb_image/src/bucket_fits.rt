@@ -10,9 +10,8 @@ ghost use Rattle.bdb_faults.specs.of_format.References.{fit_code};
 use crate::Formed;
 use crate::buckets::Run;
 use crate::fits::{Misfits, misfit};
-use bdb_faults::ReferenceRow;
-use bdb_faults::bdb_format::{Reference, Sort};
-use bdb_meta::bdb_layout::u32_at;
+use bdb_faults::{Reference, ReferenceRow, Sort};
+use bdb_meta::u32_at;
 use std::alloc::{AllocError, Global};
 
 /// Which pages of a file fit as buckets: for each page, and for the end behind them, the last page below it that fails

@@ -1,7 +1,7 @@
 ghost use Rattle.std.specs.Prelude.{◌≡◌, ◌<◌, ◌≤◌, ◌+◌, ◌-◌, ◌^◌, min};
 ghost use Rattle.bdb_image.specs.Buckets.{bucket_names, run_names};
 
-use bdb_meta::bdb_layout::{group_of, page_of};
+use bdb_meta::{group_of, page_of};
 
 /// So many pages one after another, each as a bucket.
 #[derive(Clone, Copy)]

@@ -1,8 +1,7 @@
 ghost use Rattle.std.specs.Prelude.{◌≡◌};
 ghost use Rattle.bdb_faults.specs.of_format.Verdict.{as_verdict, judgement_of};
 
-use bdb_faults::Named;
-use bdb_faults::bdb_format::{Fault, Verdict};
+use bdb_faults::{Fault, Named, Verdict};
 
 /// The verdict on a file by its first fault.
 pub(crate) fn verdict_on(fault: Fault) -> Verdict

@@ -10,8 +10,7 @@ ghost use Rattle.bdb_faults.specs.of_format.Table.{first_row};
 
 use crate::Formed;
 use crate::formed_page::{FormedPage, is_one_of, page_at};
-use bdb_faults::bdb_format::{Reference, Sort};
-use bdb_faults::{FaultSink, ReferenceRow, Row, note_if};
+use bdb_faults::{FaultSink, Reference, ReferenceRow, Row, Sort, note_if};
 use std::alloc::AllocError;
 use std::marker::Model;
 

@@ -5,7 +5,7 @@ ghost use Rattle.bdb_faults.specs.of_format.File.{page_bytes};
 ghost use Rattle.bdb_faults.specs.of_format.HeadOf.{head_of, is_page_size};
 ghost use Rattle.bdb_faults.specs.of_format.Rows.{form_code};
 
-use bdb_faults::bdb_format::Head;
+use bdb_faults::Head;
 use std::marker::Model;
 
 /// An image on which no row of the first two stages holds: its file is one that is read, and each of its

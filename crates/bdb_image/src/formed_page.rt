@@ -7,9 +7,9 @@ ghost use Rattle.bdb_faults.specs.of_format.Graph.{is_hash_meta, is_meta, is_spa
 ghost use Rattle.bdb_faults.specs.of_format.References.{child_types, has_type, is_zero_page, root_types};
 
 use crate::Formed;
-use bdb_faults::bdb_format::Order;
-use bdb_meta::bdb_layout::{header, u16_at, u32_at};
-use bdb_slots::bdb_form::is_zero_at;
+use bdb_faults::Order;
+use bdb_meta::{header, u16_at, u32_at};
+use bdb_slots::is_zero_at;
 use std::marker::Model;
 
 /// A page of a formed image, where its bytes lie.

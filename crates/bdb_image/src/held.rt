@@ -11,8 +11,8 @@ ghost use Rattle.bdb_faults.specs.of_format.declared.metadata.FileKind.TheVarian
 
 use crate::meta::meta_on;
 use crate::{Formed, Meta, References};
-use bdb_faults::bdb_format::{FileKind, Head, Order, Steps};
-use bdb_slots::bdb_form::known_form;
+use bdb_faults::{FileKind, Head, Order, Steps};
+use bdb_slots::known_form;
 use std::sync::ledger::Ledger;
 
 /// The references that a page holds, in order: one step, whatever they are. No memory is taken. No other

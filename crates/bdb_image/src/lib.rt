@@ -14,11 +14,23 @@ mod open;
 mod page;
 mod plain;
 
-pub use bdb_faults;
-pub use bdb_faults::bdb_format;
-pub use bdb_meta;
-pub use bdb_meta::bdb_layout;
-pub use bdb_slots::bdb_form;
+pub use bdb_faults::{
+    AllError, BtreeMeta, Bytes, CheckError, Fault, FaultSink, FileKind, First, HashMeta, Head,
+    Header, Kind, NamedList, Order, OwnershipRow, QueueMeta, ReachRow, Reference, Row, Settings,
+    Sort, Steps, StructureRow, Unsupported, Verdict, note_if, number_in, plain_settings,
+    refused_by,
+};
+pub use bdb_meta::{
+    Content, DupBlocks, HashItem, InternalItem, InternalKey, LeafItem, bucket_of, compare, hash5,
+    hash5_after, index_end, known_hash_item, known_internal_item, known_leaf_item, offset_at,
+    page_of, put_btree_meta, put_hash_meta, put_header, put_queue_meta, put_u16, put_u32, u16_at,
+    u32_at,
+};
+pub use bdb_slots::{
+    DupLeafKind, DupLeafView, HashKind, HashView, InternalView, Items, LeafKind, LeafView,
+    MetaView, PagePairs, PageView, Pair, QueueView, RecnoInternalView, RecnoLeafKind,
+    RecnoLeafView, form, is_zero, known_form, known_queue_form,
+};
 pub use bucket_fits::BucketFits;
 pub use buckets::{Buckets, Run};
 pub use fits::{Misfits, misfit};

@@ -9,9 +9,8 @@ ghost use Rattle.bdb_faults.specs.of_format.References.{first_free, targets_in, 
 ghost use Rattle.bdb_faults.specs.of_format.declared.references.Sort.TheVariants.{Free};
 
 use crate::buckets::Buckets;
-use bdb_faults::bdb_format::{BtreeMeta, HashMeta, Reference, Sort};
-use bdb_slots::Source;
-use bdb_slots::bdb_form::PageView;
+use bdb_faults::{BtreeMeta, HashMeta, Reference, Sort};
+use bdb_slots::{PageView, Source};
 use std::marker::Model;
 
 /// The references that a page holds, in order.

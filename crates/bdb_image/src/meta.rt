@@ -9,7 +9,7 @@ ghost use Rattle.bdb_faults.specs.of_format.Reading.{abstract_page};
 
 use crate::Formed;
 use crate::formed_page::page_at;
-use bdb_faults::bdb_format::{BtreeMeta, HashMeta, Order, QueueMeta};
+use bdb_faults::{BtreeMeta, HashMeta, Order, QueueMeta};
 use bdb_meta::{btree_fields, hash_fields, queue_fields};
 use std::alloc::{AllocError, Global};
 

@@ -14,12 +14,11 @@ use crate::cases::verdict_on;
 use crate::formed::page_bytes;
 use crate::page::page_fault;
 use crate::plain::is_plain;
-use bdb_faults::bdb_format::{Head, Verdict};
 use bdb_faults::{
-    AllError, FaultSink, FileRow, First, NamedList, Row, fault_of_form, fault_of_head, note_if,
-    refused_by,
+    AllError, FaultSink, FileRow, First, Head, NamedList, Row, Verdict, fault_of_form,
+    fault_of_head, note_if, refused_by,
 };
-use bdb_slots::bdb_form::is_zero;
+use bdb_slots::is_zero;
 use std::alloc::{AllocError, Global};
 
 /// The image as one on which no row of the first two stages holds, or else its verdict. The pages are

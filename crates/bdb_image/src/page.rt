@@ -5,9 +5,9 @@ ghost use Rattle.bdb_faults.specs.of_format.Rows.{form_code, metadata_rows};
 ghost use Rattle.bdb_faults.specs.of_format.Table.{first_row};
 ghost use Rattle.bdb_faults.specs.of_format.declared.metadata.FileKind.TheVariants.{Queue};
 
-use bdb_faults::bdb_format::{FileKind, Head, MetaFault};
+use bdb_faults::{FileKind, Head, MetaFault};
 use bdb_meta::{btree_meta, hash_meta, queue_meta};
-use bdb_slots::bdb_form::{page_code, queue_code};
+use bdb_slots::{page_code, queue_code};
 
 /// The first row of form that holds for a page up to the last one, if one does.
 #[tactic(auto, using(crate::proofs::CodeLemmas::first_page_code))]

@@ -8,9 +8,10 @@ ghost use Rattle.bdb_faults.specs.of_format.Rows.{form_code};
 ghost use Rattle.bdb_faults.specs.of_format.declared.metadata.FileKind.TheVariants.{Queue};
 
 use crate::meta::meta_on;
-use bdb_faults::bdb_format::{FileKind, Head};
-use bdb_slots::bdb_form::{DupLeafView, HashView, LeafView, PageView, RecnoLeafView, known_form};
-use bdb_slots::content_name;
+use bdb_faults::{FileKind, Head};
+use bdb_slots::{
+    DupLeafView, HashView, LeafView, PageView, RecnoLeafView, content_name, known_form,
+};
 
 /// Whether no item of a page without a fault of form names another page. It's asked while the items are at hand, so that
 /// they needn't be gone over again for what they name.

@@ -1,7 +1,6 @@
 // The first and the last pair of generated lists, worked out by hand from docs/FORMAT.md, "Generated pairs".
 use bdb_gen::generate;
-use bdb_model::bdb_format::Kind;
-use bdb_model::bdb_text_format::{KeyRef, TextPairs};
+use bdb_model::{KeyRef, Kind, TextPairs};
 use std::alloc::{AllocError, Global};
 use std::test::Fail;
 

@@ -1,4 +1,4 @@
-use bdb_model::bdb_format::{Kind, Order, Settings};
+use bdb_model::{Kind, Order, Settings};
 use bdb_text::{header_text, kind_word};
 use std::alloc::{AllocError, Global};
 use std::test::Fail;

@@ -1,5 +1,5 @@
 // A text of very many named sections: whether a name stands already isn't asked of each of them.
-use bdb_model::bdb_format::Bytes;
+use bdb_model::Bytes;
 use bdb_text::{TextError, TextFault, TextReason, read_dump};
 use std::alloc::{AllocError, Global};
 use std::test::Fail;

@@ -4,8 +4,7 @@ use bdb_io::{
     Failed, Image, MemSink, MemSource, PureSink, PureSource, ReadError, Sink, Source, put_all,
     read_image,
 };
-use bdb_model::Words;
-use bdb_model::bdb_format::Bytes;
+use bdb_model::{Bytes, Words};
 use std::alloc::{AllocError, Global};
 use std::test::Fail;
 

@@ -1,5 +1,5 @@
 // Dump texts that the original library's `db_dump -k` printed, of files under real/: what is read is spelled again.
-use bdb_model::bdb_format::Bytes;
+use bdb_model::Bytes;
 use bdb_text::{KeyRef, PairRef, Section, number_text, push_line_text, read_dump};
 use std::alloc::{AllocError, Global};
 use std::test::Fail;

@@ -1,6 +1,5 @@
 // What is answered to the sections of a dump text, as a text.
-use bdb_model::bdb_format::Bytes;
-use bdb_model::bdb_text_format::{KeyRef, PairRef, Section, Sections};
+use bdb_model::{Bytes, KeyRef, PairRef, Section, Sections};
 use bdb_settle::{LoadError, settle};
 use bdb_text::read_dump;
 use std::alloc::{AllocError, Global};

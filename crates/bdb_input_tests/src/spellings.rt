@@ -1,4 +1,4 @@
-use bdb_model::bdb_format::Bytes;
+use bdb_model::Bytes;
 use bdb_text::{SpellError, is_spelling, line_text, push_line_text, read_spelling};
 use std::alloc::{AllocError, Global};
 use std::test::Fail;

@@ -1,5 +1,5 @@
 // Dump texts that are read, field by field.
-use bdb_model::bdb_format::{Bytes, Kind, Order, Settings};
+use bdb_model::{Bytes, Kind, Order, Settings};
 use bdb_text::{KeyRef, PairRef, PairSlice, Section, Sections, TextPairs, read_dump};
 use std::alloc::{AllocError, Global};
 use std::test::Fail;

@@ -11,7 +11,9 @@ mod put;
 mod source;
 
 pub use base::BaseSource;
-pub use bdb_format;
+pub use bdb_format::{
+    BtreeMeta, Bytes, HashMeta, Head, Kind, Order, Settings, Steps, plain_settings,
+};
 pub use image::{Image, ReadError, read_image};
 pub use memory::{MemSink, MemSource};
 pub use outside::{StdSink, StdSource};

@@ -3,6 +3,5 @@
 
 pub mod laws;
 
-pub use bdb_graph;
-pub use bdb_graph::{bdb_layout, bdb_meta};
-pub use bdb_pack;
+pub use bdb_graph::{Linked, Meta, put_btree_meta, put_hash_meta, put_header, put_queue_meta};
+pub use bdb_pack::Pages;

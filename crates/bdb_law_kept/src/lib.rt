@@ -3,5 +3,4 @@
 
 pub mod laws;
 
-pub use bdb_databases::bdb_btree;
-pub use bdb_text;
+pub use bdb_text::{TextError, push_line_text, read_dump};

@@ -3,4 +3,7 @@
 
 pub mod laws;
 
-pub use bdb_tree::{bdb_form, bdb_format, bdb_graph, bdb_layout, bdb_overflow};
+pub use bdb_tree::{
+    Datum, DupLeafView, HashView, Header, KeyView, LeafView, Meta, Order, PageView, Pieces,
+    RecnoLeafView, Steps, bytes_in, compare_datum, form, known_form, pieces_at,
+};

@@ -15,8 +15,10 @@ mod page_header;
 mod recno;
 mod writing;
 
-pub use bdb_format;
-pub use bdb_format::{Header, ItemFault, RecnoItem};
+pub use bdb_format::{
+    BtreeMeta, Bytes, FileKind, HashMeta, Head, Header, ItemFault, MetaFault, Order, QueueMeta,
+    RecnoItem, Sort, Unsupported, is_page_size, magic_of,
+};
 pub use blocks::DupBlocks;
 pub use hash::{hash_fault, hash_item, known_hash_item};
 pub use hashing::{bucket_of, group_of, hash5, hash5_after, page_of};

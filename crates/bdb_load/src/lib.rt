@@ -4,6 +4,4 @@
 
 pub mod laws;
 
-pub use bdb_mkfile::bdb_need::need;
-pub use bdb_mkfile::bdb_settle::{LoadError, settle};
-pub use bdb_mkfile::{in_name_order, load};
+pub use bdb_mkfile::{LoadError, in_name_order, load, need, settle};

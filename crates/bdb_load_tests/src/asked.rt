@@ -1,8 +1,5 @@
 // What `run` answers over an image.
-use bdb_tool::bdb_format::Bytes;
-use bdb_tool::bdb_io::{MemSink, MemSource};
-use bdb_tool::bdb_model::Words;
-use bdb_tool::run_counted;
+use bdb_tool::{Bytes, MemSink, MemSource, Words, run_counted};
 use std::alloc::{AllocError, Global};
 use std::marker::Brand;
 use std::process::Abort;

@@ -1,10 +1,7 @@
 // Files of 200,000 generated pairs of each kind are sound, have the pairs in the order of their keys, and give each key its data.
 use crate::loaded::{Answer, loaded};
 use crate::settled::list_of;
-use bdb_tool::bdb_format::{Bytes, Kind};
-use bdb_tool::bdb_gen::generate;
-use bdb_tool::bdb_text::push_line_text;
-use bdb_tool::bdb_text_format::{KeyRef, PairSlice};
+use bdb_tool::{Bytes, KeyRef, Kind, PairSlice, generate, push_line_text};
 use std::alloc::{AllocError, Global};
 use std::process::Abort;
 use std::test::Fail;

@@ -1,7 +1,7 @@
 // What a file that is loaded says of its text: its settings and pairs are those of the text.
 use crate::asked::{NOT_FOUND, Question, ask, ask_all};
 use crate::loaded::{Answer, image_of, loaded};
-use bdb_tool::bdb_settle::LoadError;
+use bdb_tool::LoadError;
 use std::test::Fail;
 
 // A row: a dump text, and the text that its file is dumped as.

@@ -1,7 +1,7 @@
 // Files of one hash or one queue: their pages, by the rules of docs/FORMAT.md, "Built tables" and "Built queues", and what they are dumped as.
 use crate::asked::ask;
 use crate::loaded::{Answer, image_of, loaded};
-use bdb_tool::bdb_settle::LoadError;
+use bdb_tool::LoadError;
 use std::test::Fail;
 
 /// A dump text, the bytes of its file, what `verify` says of it, and the text that it is dumped as.

@@ -1,9 +1,5 @@
 // The image of a dump text, or why there is none.
-use bdb_tool::bdb_format::Bytes;
-use bdb_tool::bdb_io::Image;
-use bdb_tool::bdb_mkfile::load;
-use bdb_tool::bdb_settle::LoadError;
-use bdb_tool::bdb_text::read_dump;
+use bdb_tool::{Bytes, Image, LoadError, load, read_dump};
 use std::alloc::{AllocError, Global};
 
 /// What is answered to a text.

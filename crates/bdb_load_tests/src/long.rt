@@ -1,7 +1,7 @@
 // A datum of 243,000,000 bytes, in a chain of half a million pages of 512 bytes.
 use crate::loaded::{Answer, loaded};
 use crate::settled::list_of;
-use bdb_tool::bdb_format::Bytes;
+use bdb_tool::Bytes;
 use std::test::Fail;
 use test_lists::gives;
 

@@ -1,7 +1,7 @@
 // Files of databases under names: they stand in the byte order of their names, whatever that of the text is, each as its section says.
 use crate::asked::{NOT_FOUND, Question, ask, ask_all};
 use crate::loaded::image_of;
-use bdb_tool::bdb_format::Bytes;
+use bdb_tool::Bytes;
 use std::alloc::{AllocError, Global};
 use std::process::Abort;
 use std::test::Fail;

@@ -11,11 +11,9 @@ ghost use Rattle.bdb_tool.specs.of_format.Verdict.{structure_faults};
 use crate::generated::text_of;
 use crate::loaded::image_of;
 use crate::settled::list_of;
-use bdb_tool::bdb_file::{Db, Sound, verify};
-use bdb_tool::bdb_format::{BtreeMeta, Kind, Steps};
-use bdb_tool::bdb_graph::{Linked, Meta};
-use bdb_tool::bdb_range::{pairs_of, span};
-use bdb_tool::bdb_text_format::{KeyRef, PairSlice};
+use bdb_tool::{
+    BtreeMeta, Db, KeyRef, Kind, Linked, Meta, PairSlice, Sound, Steps, pairs_of, span, verify,
+};
 use std::alloc::Global;
 use std::marker::Brand;
 use std::sync::ledger::{Blank, Ledger};

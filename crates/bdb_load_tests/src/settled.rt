@@ -1,7 +1,5 @@
 // The list that a dump text is loaded into.
-use bdb_tool::bdb_settle::settle;
-use bdb_tool::bdb_text::read_dump;
-use bdb_tool::bdb_text_format::TextPairs;
+use bdb_tool::{TextPairs, read_dump, settle};
 use std::alloc::{AllocError, Global};
 
 /// The list of the last section of a text; an empty one where there is none.

@@ -1,7 +1,7 @@
 // How many pages the files of texts have, by the rules of docs/FORMAT.md, "Built trees", and that they dump as their texts.
 use crate::asked::ask;
 use crate::loaded::image_of;
-use bdb_tool::bdb_format::Bytes;
+use bdb_tool::Bytes;
 use std::alloc::{AllocError, Global};
 use std::test::Fail;
 

@@ -1,8 +1,7 @@
 // Trials of 200,000 pairs: how many pages their files have.
 ghost use Rattle.std.specs.Prelude.{◌≡◌};
 
-use bdb_tool::bdb_format::{Kind, Steps};
-use bdb_tool::bdb_tool_build::trial_text;
+use bdb_tool::{Kind, Steps, trial_text};
 use std::alloc::Global;
 use std::marker::Brand;
 use std::sync::ledger::{Blank, Ledger};

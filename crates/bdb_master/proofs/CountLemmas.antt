@@ -5,11 +5,11 @@ use Rattle.std.specs.Prelude.{get_or, min, take}
 use Rattle.std.specs.List.{flat_map, slice_get}
 use Rattle.std.proofs.lemmas.List.{get_or_default, take_all}
 use Rattle.std.proofs.lemmas.List.Filters.{length-filter_more}
-use Rattle.bdb_btree.specs.of_format.declared.kinds.Fault.{Fault}
+use Rattle.bdb_format.specs.declared.kinds.Fault.{Fault}
 use Rattle.std.specs.Option.{option_to_list}
 use Rattle.bdb_master.specs.Entries.{AreCounts, NamedPair, count_fault, entries_naming, naming_fault, one_more as one_counted_more}
-use Rattle.bdb_btree.specs.of_format.Master.{is_page}
-use Rattle.bdb_btree.specs.of_format.File.{File}
+use Rattle.bdb_format.specs.Master.{is_page}
+use Rattle.bdb_format.specs.File.{File}
 use Rattle.bdb_btree.specs.of_faults.Notes.{Notes, NotesAll}
 use Rattle.bdb_btree.proofs.of_faults.SinkLemmas.{notes_one}
 use Rattle.bdb_btree.specs.of_image.Linked.{meta_pages}

@@ -1,5 +1,5 @@
 -- The faults of a master are those of its pairs and of the pages that they name.
-use Rattle.bdb_btree.proofs.of_format.ListLemmas.{any_member, only_member, passes_here}
+use Rattle.bdb_format.proofs.ListLemmas.{any_member, only_member, passes_here}
 use Rattle.std.proofs.lemmas.Bool.Decides.{nat_tests}
 use Rattle.std.proofs.Common.{◌≡◌, ◌⊎◌, ℕ, ◌+◌, ◌≤◌, Bool, true, List, [], ◌∷◌, ◌++◌, length, map, Option, Some, None, arith, refl, sym, ◌∙◌, ap}
 use Rattle.std.proofs.Common.{subst, inl, inr}
@@ -8,24 +8,24 @@ use Rattle.std.specs.List.{Contains, filter, list_any}
 use Rattle.std.specs.Str.{bytes_eq}
 use Rattle.std.proofs.lemmas.Bool.{and_from, and_parts, eq-eqb, eqb-true}
 use Rattle.std.proofs.lemmas.List.Elements.{Contains-append_cases, Contains-append_left, Contains-append_right}
-use Rattle.bdb_btree.specs.of_format.declared.kinds.Fault.{Fault}
-use Rattle.bdb_btree.specs.of_format.ContentRows.{holds_code, repeated}
-use Rattle.bdb_btree.specs.of_format.Contents.{StoredPair}
-use Rattle.bdb_btree.specs.of_format.File.{File, file_of, page_at}
-use Rattle.bdb_btree.specs.of_format.Graph.{is_meta}
-use Rattle.bdb_btree.specs.of_format.Table.{Row, ◌:?◌}
-use Rattle.bdb_btree.specs.of_format.Verdict.{holding, master_faults}
-use Rattle.bdb_btree.proofs.of_format.MemberLemmas.{first_member, in_flat_map, in_map, no_member, of_flat_map, of_map}
-use Rattle.bdb_btree.proofs.of_format.VerdictLemmas.{IsOfStage, in_by_page, of_by_page}
+use Rattle.bdb_format.specs.declared.kinds.Fault.{Fault}
+use Rattle.bdb_format.specs.ContentRows.{holds_code, repeated}
+use Rattle.bdb_format.specs.Contents.{StoredPair}
+use Rattle.bdb_format.specs.File.{File, file_of, page_at}
+use Rattle.bdb_format.specs.Graph.{is_meta}
+use Rattle.bdb_format.specs.Table.{Row, ◌:?◌}
+use Rattle.bdb_format.specs.Verdict.{holding, master_faults}
+use Rattle.bdb_format.proofs.MemberLemmas.{first_member, in_flat_map, in_map, no_member, of_flat_map, of_map}
+use Rattle.bdb_format.proofs.VerdictLemmas.{IsOfStage, in_by_page, of_by_page}
 use Rattle.bdb_btree.specs.of_image.Linked.{IsForest, meta_pages}
 use Rattle.bdb_btree.proofs.of_tree.ListedLemmas.{at_meta, meta_at}
 use Rattle.bdb_btree.proofs.of_tree.PairLemmas.{master_pair_inside}
 use Rattle.bdb_master.specs.Entries.{NamedPair, count_fault, entries_naming, entry_fault, fault_at, master_entries, named, naming_fault, repeat_fault}
 use Rattle.std.specs.Option.{option_to_list}
 use Rattle.bdb_master.specs.Entries.{all_noted, by_naming, by_repeat, by_target, key_of, target_fault}
-use Rattle.bdb_btree.specs.of_overflow.Keys.{repeated_by}
-use Rattle.bdb_btree.specs.of_format.Master.{is_named_kind, is_none, is_page, master_pairs, master_rows, misses_target, named_by, naming}
-use Rattle.bdb_btree.proofs.of_format.RepeatLemmas.{of_repeated, repeated_after, repeated_is}
+use Rattle.bdb_overflow.specs.Keys.{repeated_by}
+use Rattle.bdb_format.specs.Master.{is_named_kind, is_none, is_page, master_pairs, master_rows, misses_target, named_by, naming}
+use Rattle.bdb_format.proofs.RepeatLemmas.{of_repeated, repeated_after, repeated_is}
 use Rattle.bdb_btree.specs.of_faults.Notes.{AreSame, NotesAll}
 use Rattle.bdb_btree.proofs.of_faults.SinkLemmas.{notes_both, notes_same}
 use Rattle.bdb_btree.proofs.CheckLemmas.{is_code as code_holding, of_code as holding_code}

@@ -2,8 +2,8 @@
 use Rattle.std.proofs.Common.{◌≡◌, List, [], ◌∷◌, length, refl, sym, ◌∙◌, ap, arith}
 use Rattle.std.specs.Prelude.{◌==◌, true, false}
 use Rattle.std.proofs.lemmas.Bool.{eq-eqb, eqb-true}
-use Rattle.bdb_btree.specs.of_format.declared.kinds.Fault.{Fault}
-use Rattle.bdb_btree.proofs.of_format.MemberLemmas.{is_empty, no_member}
+use Rattle.bdb_format.specs.declared.kinds.Fault.{Fault}
+use Rattle.bdb_format.proofs.MemberLemmas.{is_empty, no_member}
 use Rattle.bdb_btree.specs.of_faults.Notes.{NotesAll}
 use Rattle.bdb_btree.proofs.of_faults.SinkLemmas.{noted_all}
 

@@ -8,8 +8,8 @@ use Rattle.std.specs.List.{flat_map}
 use Rattle.std.specs.Ordering.{nat_cmp}
 use Rattle.std.specs.Str.{bytes_eq}
 use Rattle.std.proofs.lemmas.Map.Text.{is_eq-slice_cmp}
-use Rattle.bdb_btree.specs.of_format.declared.kinds.Fault.{Fault}
-use Rattle.bdb_btree.specs.of_overflow.Keys.{has_item, has_key, repeated_by}
+use Rattle.bdb_format.specs.declared.kinds.Fault.{Fault}
+use Rattle.bdb_overflow.specs.Keys.{has_item, has_key, repeated_by}
 use Rattle.bdb_btree.specs.of_faults.Notes.{Notes, NotesAll}
 use Rattle.bdb_btree.proofs.of_faults.SinkLemmas.{notes_nothing, notes_one, notes_then}
 use Rattle.std.specs.Option.{option_to_list}
@@ -17,11 +17,11 @@ use Rattle.bdb_btree.specs.Held.{ItemPair}
 use Rattle.bdb_master.specs.Entries.{NamedPair, by_repeat, entry_of, fault_at, key_of, live_entries, repeat_fault, repeat_of}
 use Rattle.bdb_master.specs.Names.{HasAdded}
 use Rattle.bdb_master.proofs.EntryLemmas.{live_first}
-use Rattle.bdb_btree.specs.of_format.Chains.{value_of}
-use Rattle.bdb_btree.specs.of_format.File.{File}
-use Rattle.bdb_btree.specs.of_format.Master.{named_by}
-use Rattle.bdb_btree.proofs.of_format.BoolLemmas.{cond_or}
-use Rattle.bdb_btree.proofs.of_format.LessLemmas.{eq_same}
+use Rattle.bdb_format.specs.Chains.{value_of}
+use Rattle.bdb_format.specs.File.{File}
+use Rattle.bdb_format.specs.Master.{named_by}
+use Rattle.bdb_format.proofs.BoolLemmas.{cond_or}
+use Rattle.bdb_format.proofs.LessLemmas.{eq_same}
 use Rattle.bdb_buckets.proofs.ChainedLemmas.{among_after, among_unchanged}
 
 abbrev faults_of : List NamedPair → List Fault

@@ -2,16 +2,16 @@
 use Rattle.std.proofs.Common.{◌≡◌, ℕ, ◌+◌, ◌<◌, false, List, length, arith, sym, ◌∙◌, ap, subst}
 use Rattle.std.specs.Prelude.{◌&&◌, nat_lt}
 use Rattle.std.specs.Prelude.{Option, get_or, take}
-use Rattle.bdb_btree.specs.of_format.declared.kinds.Fault.{Fault}
+use Rattle.bdb_format.specs.declared.kinds.Fault.{Fault}
 use Rattle.bdb_btree.specs.of_faults.Notes.{Notes, NotesAll}
 use Rattle.bdb_btree.proofs.of_faults.SinkLemmas.{notes_next, notes_one}
 use Rattle.std.specs.Option.{option_to_list}
 use Rattle.bdb_master.specs.Entries.{NamedPair, by_target, entry_fault, target_fault}
-use Rattle.bdb_btree.specs.of_format.File.{File, file_of}
-use Rattle.bdb_btree.specs.of_format.Graph.{is_meta}
-use Rattle.bdb_btree.specs.of_format.HeadOf.{head_of}
-use Rattle.bdb_btree.specs.of_format.Master.{is_named_kind}
-use Rattle.bdb_btree.proofs.of_format.FileLemmas.{last_page, past_last}
+use Rattle.bdb_format.specs.File.{File, file_of}
+use Rattle.bdb_format.specs.Graph.{is_meta}
+use Rattle.bdb_format.specs.HeadOf.{head_of}
+use Rattle.bdb_format.specs.Master.{is_named_kind}
+use Rattle.bdb_format.proofs.FileLemmas.{last_page, past_last}
 use Rattle.std.proofs.Math.Bool.{and-false}
 
 pub not_there : (image : List ℕ) (p : ℕ) → (head_of image).last < p → false ≡ is_named_kind (file_of image) p

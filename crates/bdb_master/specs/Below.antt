@@ -1,2 +1,2 @@
 -- What the tactics of this crate take from the crates below.
-pub use Rattle.bdb_btree.specs.of_format.Chains.{value_of}
+pub use Rattle.bdb_format.specs.Chains.{value_of}

@@ -1,15 +1,14 @@
 ghost use Rattle.std.specs.Prelude.{◌≡◌, ◌<◌, ℕ, IfOk, OnOk, if◌then◌else◌, get_or, length};
 ghost use Rattle.bdb_btree.specs.of_faults.Notes.{NotesAll};
 ghost use Rattle.bdb_master.specs.Entries.{AreCounts, by_naming, count_fault, one_more};
-ghost use Rattle.bdb_btree.specs.of_format.Master.{is_page};
+ghost use Rattle.bdb_format.specs.Master.{is_page};
 ghost use Rattle.bdb_btree.specs.of_image.Linked.{IsForest};
-ghost use Rattle.bdb_btree.specs.of_format.File.{file_of};
+ghost use Rattle.bdb_format.specs.File.{file_of};
 
 use crate::entry::Entry;
 use crate::noting::note_given;
-use bdb_btree::bdb_faults::{FaultSink, MasterRow, Row};
-use bdb_btree::bdb_format::Fault;
-use bdb_btree::bdb_graph::Linked;
+use bdb_btree::{FaultSink, Linked, MasterRow, Row};
+use bdb_format::Fault;
 use std::alloc::{AllocError, Global};
 
 /// One more pair that names a page; a third counts as a second.

@@ -2,18 +2,17 @@ ghost use Rattle.std.specs.Prelude.{◌≡◌, ◌++◌, [], IfOk, OnOk, map};
 ghost use Rattle.bdb_btree.specs.Held.{AreKeyed, pair_held, stored_as};
 ghost use Rattle.bdb_btree.specs.Pairs.{AreFit};
 ghost use Rattle.bdb_master.specs.Entries.{entry_of, live_entries, master_entries};
-ghost use Rattle.bdb_btree.specs.of_format.Master.{master_in};
+ghost use Rattle.bdb_format.specs.Master.{master_in};
 ghost use Rattle.bdb_btree.specs.of_image.Metas.{meta_seen};
-ghost use Rattle.bdb_btree.specs.of_format.File.{file_of, page_at};
-ghost use Rattle.bdb_btree.specs.of_format.Page.{Meta as MetaPage};
-ghost use Rattle.bdb_btree.specs.of_format.Verdict.{structure_faults};
-ghost use Rattle.bdb_btree.specs.of_overflow.Datum.{FitsContent};
+ghost use Rattle.bdb_format.specs.File.{file_of, page_at};
+ghost use Rattle.bdb_format.specs.Page.{Meta as MetaPage};
+ghost use Rattle.bdb_format.specs.Verdict.{structure_faults};
+ghost use Rattle.bdb_overflow.specs.Datum.{FitsContent};
 
 use crate::named_pages::NamedPages;
-use bdb_btree::bdb_format::{BtreeMeta, Bytes};
-use bdb_btree::bdb_graph::{Forest, Linked, Meta};
-use bdb_btree::bdb_overflow::{Datum, is_deleted, value_of};
-use bdb_btree::{HeldPair, HeldPairs, pairs};
+use bdb_btree::{Forest, HeldPair, HeldPairs, Linked, Meta, pairs};
+use bdb_format::{BtreeMeta, Bytes};
+use bdb_overflow::{Datum, is_deleted, value_of};
 use std::alloc::{AllocError, Global};
 use std::marker::Model;
 
@@ -27,7 +26,7 @@ pub struct Entry<'a> {
 
 impl<'a> Model for Entry<'a> {
     ghost use Rattle.bdb_master.specs.Entries.{NamedPair};
-    ghost use Rattle.bdb_btree.specs.of_overflow.Datum.{datum_seen};
+    ghost use Rattle.bdb_overflow.specs.Datum.{datum_seen};
 
     ghost Value = { NamedPair };
 

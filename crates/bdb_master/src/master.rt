@@ -1,15 +1,14 @@
 ghost use Rattle.std.specs.Prelude.{◌≡◌, [], OnOk};
 ghost use Rattle.bdb_btree.specs.of_faults.Notes.{NotesAll};
 ghost use Rattle.bdb_master.specs.Entries.{master_entries};
-ghost use Rattle.bdb_btree.specs.of_format.File.{file_of};
-ghost use Rattle.bdb_btree.specs.of_format.Verdict.{master_faults, structure_faults};
+ghost use Rattle.bdb_format.specs.File.{file_of};
+ghost use Rattle.bdb_format.specs.Verdict.{master_faults, structure_faults};
 
 use crate::counts::note_naming;
 use crate::entry::Entry;
 use crate::repeats::note_repeats;
 use crate::targets::note_targets;
-use bdb_btree::bdb_faults::FaultSink;
-use bdb_btree::bdb_graph::Linked;
+use bdb_btree::{FaultSink, Linked};
 use std::alloc::{AllocError, Global};
 
 /// Notes the faults of stage 7, by the entries of the master. An error is want of memory: a byte for each page, and

@@ -1,15 +1,14 @@
 ghost use Rattle.std.specs.Prelude.{◌≡◌, IfOk};
-ghost use Rattle.bdb_btree.specs.of_format.File.{file_of};
-ghost use Rattle.bdb_btree.specs.of_format.Master.{named_by, page_named};
+ghost use Rattle.bdb_format.specs.File.{file_of};
+ghost use Rattle.bdb_format.specs.Master.{named_by, page_named};
 ghost use Rattle.bdb_btree.specs.of_image.Linked.{FitsChain};
 ghost use Rattle.bdb_btree.specs.of_layout.Seen.{leaf_item_seen};
-ghost use Rattle.bdb_btree.specs.of_overflow.Datum.{FitsContent};
-ghost use Rattle.bdb_btree.specs.of_overflow.Held.{chain_value};
+ghost use Rattle.bdb_overflow.specs.Datum.{FitsContent};
+ghost use Rattle.bdb_overflow.specs.Held.{chain_value};
 
-use bdb_btree::bdb_format::Order;
-use bdb_btree::bdb_graph::Forest;
-use bdb_btree::bdb_layout::{LeafItem, u32_at};
-use bdb_btree::bdb_overflow::Held;
+use bdb_btree::{Forest, LeafItem, u32_at};
+use bdb_format::Order;
+use bdb_overflow::Held;
 use std::alloc::{AllocError, Global};
 use std::collections::BTreeMap;
 use std::marker::Model;

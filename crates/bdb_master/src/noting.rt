@@ -2,8 +2,8 @@ ghost use Rattle.std.specs.Prelude.{OnOk};
 ghost use Rattle.bdb_btree.specs.of_faults.Notes.{Notes};
 ghost use Rattle.std.specs.Option.{option_to_list};
 
-use bdb_btree::bdb_faults::FaultSink;
-use bdb_btree::bdb_format::Fault;
+use bdb_btree::FaultSink;
+use bdb_format::Fault;
 use std::alloc::AllocError;
 
 /// Notes a fault, if there is one.

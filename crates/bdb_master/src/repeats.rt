@@ -2,17 +2,15 @@ ghost use Rattle.std.specs.Prelude.{◌≡◌, [], None, OnOk, Some, if◌then�
 ghost use Rattle.bdb_btree.specs.Held.{AreKeyed};
 ghost use Rattle.bdb_btree.specs.of_faults.Notes.{NotesAll};
 ghost use Rattle.bdb_master.specs.Entries.{by_repeat, fault_at, live_entries, master_entries};
-ghost use Rattle.bdb_btree.specs.of_format.File.{file_of};
-ghost use Rattle.bdb_btree.specs.of_format.Verdict.{structure_faults};
+ghost use Rattle.bdb_format.specs.File.{file_of};
+ghost use Rattle.bdb_format.specs.Verdict.{structure_faults};
 
 use crate::entry::master_of;
 use crate::noting::note_given;
 use crate::seen_names::SeenNames;
-use bdb_btree::bdb_faults::{FaultSink, MasterRow, Row};
-use bdb_btree::bdb_format::Fault;
-use bdb_btree::bdb_graph::{Forest, Linked};
-use bdb_btree::bdb_overflow::{is_deleted, leaf_held};
-use bdb_btree::{HeldPairs, pairs};
+use bdb_btree::{FaultSink, Forest, HeldPairs, Linked, MasterRow, Row, pairs};
+use bdb_format::Fault;
+use bdb_overflow::{is_deleted, leaf_held};
 use std::alloc::{AllocError, Global};
 
 /// The fault of a pair on this leaf, unless its key is new.

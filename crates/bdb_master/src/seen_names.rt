@@ -1,14 +1,14 @@
 ghost use Rattle.std.specs.Prelude.{◌≡◌, IfOk, OnOk, not};
 ghost use Rattle.std.specs.BTreeSet.{IsEmpty};
 ghost use Rattle.bdb_master.specs.Names.{HasAdded};
-ghost use Rattle.bdb_btree.specs.of_format.File.{file_of};
+ghost use Rattle.bdb_format.specs.File.{file_of};
 ghost use Rattle.bdb_btree.specs.of_image.Linked.{FitsChain};
-ghost use Rattle.bdb_btree.specs.of_overflow.Datum.{datum_seen};
-ghost use Rattle.bdb_btree.specs.of_overflow.Held.{FitsHeld, chain_value, value_held};
-ghost use Rattle.bdb_btree.specs.of_overflow.Keys.{has_key};
+ghost use Rattle.bdb_overflow.specs.Datum.{datum_seen};
+ghost use Rattle.bdb_overflow.specs.Held.{FitsHeld, chain_value, value_held};
+ghost use Rattle.bdb_overflow.specs.Keys.{has_key};
 
-use bdb_btree::bdb_graph::Forest;
-use bdb_btree::bdb_overflow::{Datum, Held, Keys};
+use bdb_btree::Forest;
+use bdb_overflow::{Datum, Held, Keys};
 use std::alloc::{AllocError, Global};
 use std::collections::BTreeSet;
 use std::marker::Model;

@@ -1,17 +1,15 @@
 ghost use Rattle.std.specs.Prelude.{◌≡◌, OnOk};
 ghost use Rattle.bdb_btree.specs.of_faults.Notes.{NotesAll};
 ghost use Rattle.bdb_master.specs.Entries.{by_target, target_fault};
-ghost use Rattle.bdb_btree.specs.of_format.Master.{is_named_kind};
+ghost use Rattle.bdb_format.specs.Master.{is_named_kind};
 ghost use Rattle.bdb_btree.specs.of_form.Seen.{page_seen};
-ghost use Rattle.bdb_btree.specs.of_format.File.{file_of};
-ghost use Rattle.bdb_btree.specs.of_format.Graph.{is_meta};
+ghost use Rattle.bdb_format.specs.File.{file_of};
+ghost use Rattle.bdb_format.specs.Graph.{is_meta};
 
 use crate::entry::Entry;
 use crate::noting::note_given;
-use bdb_btree::bdb_faults::{FaultSink, MasterRow, Row};
-use bdb_btree::bdb_form::PageView;
-use bdb_btree::bdb_format::Fault;
-use bdb_btree::bdb_graph::Linked;
+use bdb_btree::{FaultSink, Linked, MasterRow, PageView, Row};
+use bdb_format::Fault;
 use std::alloc::AllocError;
 
 fn is_meta(view: &PageView<'_>) -> bool

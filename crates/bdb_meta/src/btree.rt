@@ -9,8 +9,7 @@ ghost use Rattle.bdb_layout.specs.of_format.declared.metadata.FileKind.TheVarian
 
 use crate::faults::form_fault;
 use crate::generic::{Generic, check_common, has_bit, put_generic};
-use bdb_layout::bdb_format::{BtreeMeta, FileKind, MetaFault, Order};
-use bdb_layout::{put_u32, u32_at};
+use bdb_layout::{BtreeMeta, FileKind, MetaFault, Order, put_u32, u32_at};
 
 /// Whether flags aren't known or don't go together.
 fn are_wrong_flags(number: u32, flags: u32) -> bool

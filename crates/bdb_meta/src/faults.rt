@@ -1,7 +1,7 @@
 ghost use Rattle.std.specs.Prelude.{◌≡◌};
 ghost use Rattle.bdb_layout.specs.of_format.HeadOf.{form_fault, head_fault};
 
-use bdb_layout::bdb_format::{MetaFault, Unsupported};
+use bdb_layout::{MetaFault, Unsupported};
 
 /// The fault of a row that speaks of the whole file, by its code.
 pub fn head_fault(code: u8) -> MetaFault

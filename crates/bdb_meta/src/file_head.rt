@@ -6,8 +6,7 @@ ghost use Rattle.bdb_layout.specs.of_format.Table.{answer};
 
 use crate::faults::head_fault;
 use crate::generic::{has_bit, is_partitioned, version_of};
-use bdb_layout::bdb_format::{FileKind, Head, MetaFault, Order, is_page_size, magic_of};
-use bdb_layout::u32_at;
+use bdb_layout::{FileKind, Head, MetaFault, Order, is_page_size, magic_of, u32_at};
 
 const HEAP_MAGIC: u32 = 0x074582;
 

@@ -6,8 +6,7 @@ ghost use Rattle.bdb_layout.specs.of_format.Spelling.{common_bytes, last_field, 
 ghost use Rattle.bdb_layout.specs.of_format.Table.{answer};
 ghost use Rattle.bdb_meta.specs.RowGroups.{common_rows};
 
-use bdb_layout::bdb_format::{FileKind, Order, magic_of};
-use bdb_layout::{put_u32, u32_at};
+use bdb_layout::{FileKind, Order, magic_of, put_u32, u32_at};
 
 /// The version that is read of a kind of file.
 pub fn version_of(kind: FileKind) -> u32

@@ -9,9 +9,12 @@ pub mod laws;
 mod queue;
 mod table;
 
-pub use bdb_layout;
-pub use bdb_layout::bdb_format;
-pub use bdb_layout::bdb_format::{BtreeMeta, FileKind, HashMeta, Head, MetaFault, QueueMeta};
+pub use bdb_layout::{
+    BtreeMeta, Content, DupBlocks, FileKind, HashItem, HashMeta, Head, InternalItem, InternalKey,
+    ItemFault, LeafItem, MetaFault, Order, QueueMeta, Unsupported, bucket_of, compare, group_of,
+    hash5, hash5_after, header, index_end, known_hash_item, known_internal_item, known_leaf_item,
+    leaf_item, offset_at, page_of, put_header, put_u16, put_u32, u16_at, u32_at,
+};
 pub use btree::{btree_fields, btree_meta, put_btree_meta};
 pub use file_head::head;
 pub use queue::{put_queue_meta, queue_fields, queue_meta};

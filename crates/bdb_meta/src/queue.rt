@@ -8,8 +8,7 @@ ghost use Rattle.bdb_layout.specs.of_format.declared.metadata.FileKind.TheVarian
 
 use crate::faults::form_fault;
 use crate::generic::{Generic, check_common, put_generic};
-use bdb_layout::bdb_format::{FileKind, MetaFault, Order, QueueMeta};
-use bdb_layout::{put_u32, u32_at};
+use bdb_layout::{FileKind, MetaFault, Order, QueueMeta, put_u32, u32_at};
 
 /// How many records of `re_len` bytes stand on a page of `size` bytes. A record has a byte of its own
 /// before it, and takes a multiple of 4.

@@ -11,8 +11,7 @@ ghost use Rattle.bdb_layout.specs.of_format.declared.metadata.FileKind.TheVarian
 
 use crate::faults::form_fault;
 use crate::generic::{Generic, check_common, put_generic};
-use bdb_layout::bdb_format::{FileKind, HashMeta, MetaFault, Order};
-use bdb_layout::{group_of, put_u32, u32_at};
+use bdb_layout::{FileKind, HashMeta, MetaFault, Order, group_of, put_u32, u32_at};
 
 /// The hash of a fixed text, by which a file tells its hash function.
 const CHARKEY: u32 = 0x5e688dd1;

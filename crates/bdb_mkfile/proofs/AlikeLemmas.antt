@@ -3,7 +3,7 @@ use Rattle.std.proofs.Common.{◌≡◌, ◌&&◌, Bool, false, List, [], ◌∷
 use Rattle.bdb_io.specs.of_format.declared.kinds.Kind.{Kind}
 use Rattle.bdb_io.specs.of_format.declared.kinds.Kind.TheVariants.{Btree, Recno, Hash, Queue}
 use Rattle.bdb_io.specs.of_format.declared.settings.Settings.{Settings}
-use Rattle.bdb_need.specs.of_text_format.declared.pairs.Pair.{Pair}
+use Rattle.bdb_text_format.specs.declared.pairs.Pair.{Pair}
 use Rattle.bdb_need.proofs.of_mkleaves.RunLemmas.{all_map}
 use Rattle.bdb_need.specs.of_mkleaves.Spread.{tree_size}
 use Rattle.bdb_need.specs.of_mktree.Lists.{IsKeyFor, IsTreeList, IsPairFor, is_in_order, may_follow, units_in}

@@ -13,7 +13,7 @@ use Rattle.bdb_io.specs.of_format.ContentRows.{ascends, ascends_from}
 use Rattle.bdb_io.specs.of_format.Databases.{is_name}
 use Rattle.bdb_io.specs.of_format.Less.{less}
 use Rattle.bdb_io.proofs.of_format.LessLemmas.{eq_self, same_unless_less}
-use Rattle.bdb_need.specs.of_text_format.declared.sections.Section.{Section}
+use Rattle.bdb_text_format.specs.declared.sections.Section.{Section}
 use Rattle.bdb_law_sections.specs.Fit.{AreNamedBehind}
 use Rattle.bdb_mkfile.specs.Builds.{in_name_order, name_of, put_named}
 use Rattle.bdb_mkfile.specs.Order.{AreApart, IsApart, named_before, with_named}

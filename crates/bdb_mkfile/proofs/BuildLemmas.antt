@@ -11,10 +11,10 @@ use Rattle.bdb_io.specs.of_format.declared.kinds.Order.{Order}
 use Rattle.bdb_io.specs.of_format.declared.settings.Settings.{Settings}
 use Rattle.bdb_io.specs.of_format.Databases.{Database, databases}
 use Rattle.bdb_io.specs.of_format.File.{file_of}
-use Rattle.bdb_need.specs.of_text_format.declared.pairs.Pair.{Pair}
-use Rattle.bdb_need.specs.of_text_format.declared.sections.Section.{Section}
-use Rattle.bdb_need.specs.of_text_format.Pairs.{listed}
-use Rattle.bdb_need.specs.of_text_format.Written.{header_lines}
+use Rattle.bdb_text_format.specs.declared.pairs.Pair.{Pair}
+use Rattle.bdb_text_format.specs.declared.sections.Section.{Section}
+use Rattle.bdb_text_format.specs.Pairs.{listed}
+use Rattle.bdb_text_format.specs.Written.{header_lines}
 use Rattle.bdb_need.specs.of_settle.declared.load_error.LoadError.{LoadError}
 use Rattle.bdb_need.specs.of_settle.declared.load_error.LoadError.TheVariants.{TooLarge, Memory}
 use Rattle.bdb_need.specs.of_settle.LoadErrors.{load_error, page_size_in}

@@ -19,9 +19,9 @@ use Rattle.bdb_io.specs.of_format.Numbers.{pad4}
 use Rattle.bdb_io.proofs.of_format.SpellingLemmas.{length-spelled}
 use Rattle.bdb_need.specs.of_law_levels.declared.inner_type.InnerType.{InnerType}
 use Rattle.bdb_need.specs.of_law_levels.declared.inner_type.InnerType.TheVariants.{Keyed, Numbered}
-use Rattle.bdb_need.specs.of_text_format.declared.pairs.Pair.{Pair}
-use Rattle.bdb_need.specs.of_text_format.declared.pairs.Key.TheVariants.{Bytes}
-use Rattle.bdb_need.specs.of_text_format.declared.sections.Section.{Section}
+use Rattle.bdb_text_format.specs.declared.pairs.Pair.{Pair}
+use Rattle.bdb_text_format.specs.declared.pairs.Key.TheVariants.{Bytes}
+use Rattle.bdb_text_format.specs.declared.sections.Section.{Section}
 use Rattle.bdb_need.specs.of_mkleaves.declared.leaf_type.LeafType.{LeafType}
 use Rattle.bdb_need.specs.of_mkleaves.declared.leaf_type.LeafType.TheVariants.{Pairs}
 use Rattle.bdb_need.specs.of_mkleaves.Inner.{first_cost}

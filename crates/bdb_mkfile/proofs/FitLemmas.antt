@@ -11,11 +11,11 @@ use Rattle.bdb_io.specs.of_format.declared.kinds.Kind.TheVariants.{Btree, Recno,
 use Rattle.bdb_io.specs.of_format.declared.settings.Settings.{Settings}
 use Rattle.bdb_io.specs.of_format.HeadOf.{is_page_size}
 use Rattle.bdb_io.specs.of_format.Numbers.{pad4}
-use Rattle.bdb_need.specs.of_text_format.declared.pairs.Pair.{Pair}
-use Rattle.bdb_need.specs.of_text_format.declared.pairs.Key.{Key}
-use Rattle.bdb_need.specs.of_text_format.declared.pairs.Key.TheVariants.{Bytes, Number}
-use Rattle.bdb_need.specs.of_text_format.declared.sections.Section.{Section}
-use Rattle.bdb_need.specs.of_text_format.Written.{holds_records}
+use Rattle.bdb_text_format.specs.declared.pairs.Pair.{Pair}
+use Rattle.bdb_text_format.specs.declared.pairs.Key.{Key}
+use Rattle.bdb_text_format.specs.declared.pairs.Key.TheVariants.{Bytes, Number}
+use Rattle.bdb_text_format.specs.declared.sections.Section.{Section}
+use Rattle.bdb_text_format.specs.Written.{holds_records}
 use Rattle.bdb_law_sections.specs.Fit.{AreFit, AreFitSettings, AreNamedBehind, IsFitSection, is_number}
 use Rattle.bdb_need.specs.of_mkleaves.Runs.{IsShort}
 use Rattle.bdb_need.specs.of_mktree.Lists.{IsTreeList}

@@ -4,7 +4,7 @@ use Rattle.std.specs.Prelude.{◌&&◌}
 use Rattle.std.specs.List.{list_all}
 use Rattle.std.proofs.lemmas.List.{drop_all, drop_more}
 use Rattle.std.proofs.lemmas.Option.{get_or_from_slice_get, slice_get_within}
-use Rattle.bdb_need.specs.of_text_format.declared.pairs.TextPair.{TextPair}
+use Rattle.bdb_text_format.specs.declared.pairs.TextPair.{TextPair}
 use Rattle.bdb_mkfile.specs.Lengths.{is_short_pair}
 
 pub all_on : (pairs : List TextPair) (i : ℕ) (pair : TextPair) (short : Bool) → slice_get pairs i ≡ Some pair → short ≡ is_short_pair pair

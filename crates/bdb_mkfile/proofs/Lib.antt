@@ -26,7 +26,6 @@ pub mod MasterLemmas
 pub mod NameLemmas
 pub mod ReadLemmas
 pub mod ShortLemmas
-pub use Rattle.bdb_io.proofs.of_format as of_format
 pub use Rattle.bdb_need.proofs.of_graph as of_graph
 pub use Rattle.bdb_need.proofs.of_image as of_image
 pub use Rattle.bdb_need.proofs.of_law_join as of_law_join

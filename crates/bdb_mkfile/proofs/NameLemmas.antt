@@ -7,8 +7,8 @@ use Rattle.std.specs.List.{All, filter, fold}
 use Rattle.std.specs.List.Sorted.{IsSortedBy, IsStableBy, ties}
 use Rattle.std.proofs.lemmas.Bool.{false_from_ne_true, true_from_ne_false}
 use Rattle.std.proofs.lemmas.List.Elements.{All-cons, All-head, All-nil, All-push, All-tail, filter-append}
-use Rattle.bdb_need.specs.of_text_format.declared.pairs.Key.TheVariants.{Bytes}
-use Rattle.bdb_need.specs.of_text_format.declared.sections.Section.{Section}
+use Rattle.bdb_text_format.specs.declared.pairs.Key.TheVariants.{Bytes}
+use Rattle.bdb_text_format.specs.declared.sections.Section.{Section}
 use Rattle.bdb_need.proofs.of_settle.KeyOrderLemmas.{key_chain, key_one_way}
 use Rattle.bdb_mkfile.specs.Builds.{name_of, put_named}
 use Rattle.bdb_mkfile.specs.Order.{named_before, with_named}

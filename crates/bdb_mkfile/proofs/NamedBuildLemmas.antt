@@ -12,9 +12,9 @@ use Rattle.bdb_io.specs.of_format.Spelling.{table_bytes}
 use Rattle.bdb_io.specs.of_format.Table.{first_row}
 use Rattle.bdb_need.specs.of_meta.RowGroups.{flag_rows}
 use Rattle.bdb_need.specs.of_law_grove.Part.{IsPart, between}
-use Rattle.bdb_need.specs.of_text_format.declared.pairs.Pair.{Pair}
-use Rattle.bdb_need.specs.of_text_format.declared.sections.Section.{Section}
-use Rattle.bdb_need.specs.of_text_format.Pairs.{listed}
+use Rattle.bdb_text_format.specs.declared.pairs.Pair.{Pair}
+use Rattle.bdb_text_format.specs.declared.sections.Section.{Section}
+use Rattle.bdb_text_format.specs.Pairs.{listed}
 use Rattle.bdb_need.specs.of_pack.Built.{Built}
 use Rattle.bdb_need.proofs.of_law_join.FiledLemmas.{btrees_are_spelled}
 use Rattle.bdb_need.specs.of_mkleaves.Layout.{AreTreesIn}

@@ -24,8 +24,8 @@ use Rattle.bdb_need.specs.of_meta.RowGroups.{flag_rows}
 use Rattle.bdb_need.specs.of_law_grove.Growing.{IsCounted, IsLater}
 use Rattle.bdb_need.specs.of_law_grove.Part.{IsPart, between}
 use Rattle.bdb_need.proofs.of_law_grove.ChainLemmas.{between_is, is_between}
-use Rattle.bdb_need.specs.of_text_format.declared.sections.Section.{Section}
-use Rattle.bdb_need.specs.of_text_format.Pairs.{listed}
+use Rattle.bdb_text_format.specs.declared.sections.Section.{Section}
+use Rattle.bdb_text_format.specs.Pairs.{listed}
 use Rattle.bdb_need.specs.of_pack.Built.{Built, bytes_of, file_so_far, joined_pages, with_zeros}
 use Rattle.bdb_need.proofs.of_pack.CutLemmas.{all_size}
 use Rattle.bdb_need.proofs.of_pack.ImageLemmas.{counted_so_far}

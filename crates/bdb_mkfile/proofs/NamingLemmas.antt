@@ -19,8 +19,8 @@ use Rattle.bdb_io.specs.of_format.Numbers.{number as number_of, spelled}
 use Rattle.bdb_io.proofs.of_format.LessLemmas.{eq_same, less_trans, not_less_same}
 use Rattle.bdb_io.proofs.of_format.MemberLemmas.{first_member, later_member, member_cases, no_member}
 use Rattle.bdb_io.proofs.of_format.SpellingLemmas.{length-spelled, number-spelled}
-use Rattle.bdb_need.specs.of_text_format.declared.sections.Section.{Section}
-use Rattle.bdb_need.specs.of_text_format.Pairs.{listed}
+use Rattle.bdb_text_format.specs.declared.sections.Section.{Section}
+use Rattle.bdb_text_format.specs.Pairs.{listed}
 use Rattle.bdb_need.specs.of_law_join.Joining.{HoldsLists, IsMetaOf, Joint}
 use Rattle.bdb_need.specs.of_law_join.Masters.{AreNamesApart, Entry, IsDatabase}
 use Rattle.bdb_need.proofs.of_mkleaves.UnitLemmas.{ascends_later}

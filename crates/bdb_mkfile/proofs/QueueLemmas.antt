@@ -14,7 +14,7 @@ use Rattle.bdb_io.specs.of_format.Page.{QueueFields}
 use Rattle.bdb_io.specs.of_format.Reading.{queue_fields}
 use Rattle.bdb_io.specs.of_format.Spelling.{queue_bytes, zeros}
 use Rattle.bdb_io.proofs.of_format.SizeLemmas.{size_bounds}
-use Rattle.bdb_need.specs.of_text_format.declared.pairs.Pair.{Pair}
+use Rattle.bdb_text_format.specs.declared.pairs.Pair.{Pair}
 use Rattle.bdb_need.specs.of_pack.Built.{AreWhole, Built, bytes_of, joined_pages, with_page, with_zeros, written_over}
 use Rattle.bdb_need.proofs.of_pack.CutLemmas.{written_whole}
 use Rattle.bdb_need.specs.of_law_join.Written.{AreLegal}

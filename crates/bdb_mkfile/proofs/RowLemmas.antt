@@ -5,7 +5,7 @@ use Rattle.std.proofs.lemmas.Bool.{cases_lt}
 use Rattle.std.proofs.lemmas.List.Sums.{sum_by-cons}
 use Rattle.bdb_io.proofs.of_format.MemberLemmas.{first_member, later_member, member_cases, no_member}
 use Rattle.bdb_need.proofs.of_law_grove.ChainLemmas.{between_is, is_between}
-use Rattle.bdb_need.specs.of_text_format.declared.sections.Section.{Section}
+use Rattle.bdb_text_format.specs.declared.sections.Section.{Section}
 use Rattle.bdb_need.specs.of_pack.Built.{Built}
 use Rattle.bdb_need.specs.of_law_join.Joining.{IsInPartOf, IsMetaOf, Joint}
 use Rattle.bdb_need.specs.Need.{section_pages}

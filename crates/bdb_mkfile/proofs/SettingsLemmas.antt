@@ -11,8 +11,8 @@ use Rattle.bdb_io.specs.of_format.Flags.{names_databases}
 use Rattle.bdb_io.specs.of_format.Page.{BtreeFields}
 use Rattle.bdb_io.specs.of_format.Table.{first_row}
 use Rattle.bdb_need.specs.of_meta.RowGroups.{flag_rows}
-use Rattle.bdb_need.specs.of_text_format.Written.{header_lines}
-use Rattle.bdb_need.specs.of_text_format.declared.pairs.Pair.{Pair}
+use Rattle.bdb_text_format.specs.Written.{header_lines}
+use Rattle.bdb_text_format.specs.declared.pairs.Pair.{Pair}
 use Rattle.bdb_need.proofs.of_mkleaves.RunLemmas.{all_map}
 use Rattle.bdb_need.specs.of_mktree.Lists.{IsKeyFor, IsTreeList, IsPairFor, is_in_order, may_follow}
 use Rattle.bdb_mkfile.specs.Trees.{IsTreeSettings}

@@ -12,8 +12,8 @@ use Rattle.bdb_io.specs.of_format.Rows.{page_code}
 use Rattle.bdb_need.specs.of_law_grove.Growing.{IsLater, IsSamePage}
 use Rattle.bdb_need.specs.of_law_grove.Part.{between}
 use Rattle.bdb_need.proofs.of_law_grove.ChainLemmas.{between_is}
-use Rattle.bdb_need.specs.of_text_format.declared.sections.Section.{Section}
-use Rattle.bdb_need.specs.of_text_format.Pairs.{listed}
+use Rattle.bdb_text_format.specs.declared.sections.Section.{Section}
+use Rattle.bdb_text_format.specs.Pairs.{listed}
 use Rattle.bdb_need.specs.of_pack.Built.{Built, bytes_of, file_so_far, with_zeros}
 use Rattle.bdb_need.proofs.of_pack.AddedLemmas.{added_zero}
 use Rattle.bdb_need.specs.of_mkleaves.Layout.{HasPagesOf}

@@ -17,8 +17,8 @@ use Rattle.bdb_io.specs.of_format.Reading.{hash_fields}
 use Rattle.bdb_io.specs.of_format.Spelling.{table_bytes}
 use Rattle.bdb_io.proofs.of_format.SizeLemmas.{size_bounds}
 use Rattle.std.proofs.lemmas.List.FromFn.{length-map-range_with_len}
-use Rattle.bdb_need.specs.of_text_format.declared.pairs.Pair.{Pair}
-use Rattle.bdb_need.specs.of_text_format.Pairs.{listed}
+use Rattle.bdb_text_format.specs.declared.pairs.Pair.{Pair}
+use Rattle.bdb_text_format.specs.Pairs.{listed}
 use Rattle.bdb_need.specs.of_pack.Built.{AreWhole, Built, bytes_of, joined_pages, with_zeros, written_over}
 use Rattle.bdb_need.proofs.of_pack.CutLemmas.{written_whole}
 use Rattle.bdb_need.specs.of_law_join.Alone.{IsSoundAlone}

@@ -12,8 +12,8 @@ use Rattle.bdb_io.specs.of_format.Page.{BtreeFields}
 use Rattle.bdb_io.specs.of_format.Reading.{btree_fields, is_zero}
 use Rattle.bdb_io.specs.of_format.Spelling.{btree_bytes}
 use Rattle.bdb_io.proofs.of_format.SizeLemmas.{size_bounds}
-use Rattle.bdb_need.specs.of_text_format.declared.pairs.Pair.{Pair}
-use Rattle.bdb_need.specs.of_text_format.Pairs.{listed}
+use Rattle.bdb_text_format.specs.declared.pairs.Pair.{Pair}
+use Rattle.bdb_text_format.specs.Pairs.{listed}
 use Rattle.bdb_need.specs.of_law_grove.Growing.{IsCounted, IsLater}
 use Rattle.bdb_need.specs.of_law_grove.Part.{between}
 use Rattle.bdb_need.proofs.of_law_grove.ChainLemmas.{between_is}

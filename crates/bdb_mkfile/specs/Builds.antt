@@ -8,9 +8,9 @@ use Rattle.bdb_io.specs.of_format.File.{file_of}
 use Rattle.bdb_io.specs.of_format.Lists.{list_of}
 use Rattle.bdb_io.specs.of_format.Databases.{Database, databases, settings_of}
 use Rattle.bdb_io.specs.of_format.Verdict.{verdict_of}
-use Rattle.bdb_need.specs.of_text_format.declared.sections.Section.{Section}
-use Rattle.bdb_need.specs.of_text_format.Pairs.{listed}
-use Rattle.bdb_need.specs.of_text_format.Written.{header_lines}
+use Rattle.bdb_text_format.specs.declared.sections.Section.{Section}
+use Rattle.bdb_text_format.specs.Pairs.{listed}
+use Rattle.bdb_text_format.specs.Written.{header_lines}
 use Rattle.bdb_need.specs.of_settle.Loaded.{loaded, loaded_section}
 use Rattle.bdb_need.specs.Need.{need_of}
 

@@ -1,8 +1,8 @@
 -- Lengths that fit their fields, which have four bytes. Source: docs/FORMAT.md, "Built trees".
 use Rattle.std.specs.Prelude.{ℕ, ◌^◌, nat_lt, ◌&&◌, Bool, List, length}
 use Rattle.std.specs.List.{list_all}
-use Rattle.bdb_need.specs.of_text_format.declared.pairs.TextPair.{TextPair}
-use Rattle.bdb_need.specs.of_text_format.declared.sections.Section.{Section}
+use Rattle.bdb_text_format.specs.declared.pairs.TextPair.{TextPair}
+use Rattle.bdb_text_format.specs.declared.sections.Section.{Section}
 use Rattle.bdb_need.specs.of_mktree.Lists.{bytes_in}
 use Rattle.bdb_need.specs.Need.{name_in}
 

@@ -16,7 +16,6 @@ pub mod Order
 pub mod Settled
 pub use Rattle.bdb_io.specs.of_format as of_format
 pub use Rattle.bdb_need.specs.of_image as of_image
-pub use Rattle.bdb_io.specs as of_io
 pub use Rattle.bdb_need.specs.of_law_join as of_law_join
 pub use Rattle.bdb_law_sections.specs as of_law_sections
 pub use Rattle.bdb_need.specs.of_layout as of_layout
@@ -24,4 +23,4 @@ pub use Rattle.bdb_need.specs.of_mkleaves as of_mkleaves
 pub use Rattle.bdb_need.specs.of_mktree as of_mktree
 pub use Rattle.bdb_need.specs as of_need
 pub use Rattle.bdb_need.specs.of_settle as of_settle
-pub use Rattle.bdb_need.specs.of_text_format as of_text_format
+pub use Rattle.bdb_text_format.specs as of_text_format

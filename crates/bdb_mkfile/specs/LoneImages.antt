@@ -11,8 +11,8 @@ use Rattle.bdb_io.specs.of_format.Rows.{records_per_page}
 use Rattle.bdb_io.specs.of_format.Spelling.{queue_bytes, table_bytes}
 use Rattle.bdb_io.specs.of_format.Databases.{databases, settings_of}
 use Rattle.bdb_io.specs.of_format.Verdict.{verdict_of}
-use Rattle.bdb_need.specs.of_text_format.declared.pairs.Pair.{Pair}
-use Rattle.bdb_need.specs.of_text_format.Pairs.{listed}
+use Rattle.bdb_text_format.specs.declared.pairs.Pair.{Pair}
+use Rattle.bdb_text_format.specs.Pairs.{listed}
 use Rattle.bdb_need.specs.of_law_buckets.Tables.{HasBuiltBuckets, table_meta}
 use Rattle.bdb_need.specs.of_mkhash.Buckets.{table_bits, table_size, table_units}
 use Rattle.bdb_need.specs.of_mkqueue.Layout.{queue_meta, queue_size}

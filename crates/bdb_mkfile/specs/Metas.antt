@@ -7,8 +7,8 @@ use Rattle.bdb_io.specs.of_format.declared.kinds.Order.{Order}
 use Rattle.bdb_io.specs.of_format.declared.settings.Settings.{Settings}
 use Rattle.bdb_io.specs.of_format.File.{page_bytes}
 use Rattle.bdb_io.specs.of_format.HeadOf.{head_of}
-use Rattle.bdb_need.specs.of_text_format.declared.pairs.Pair.{Pair}
-use Rattle.bdb_need.specs.of_text_format.declared.sections.Section.{Section}
+use Rattle.bdb_text_format.specs.declared.pairs.Pair.{Pair}
+use Rattle.bdb_text_format.specs.declared.sections.Section.{Section}
 use Rattle.bdb_need.specs.of_mkleaves.Layout.{AreTreesIn}
 use Rattle.bdb_need.specs.of_mkleaves.declared.leaf_type.LeafType.TheVariants.{Pairs, Records}
 use Rattle.bdb_need.specs.of_mktree.Lists.{units_in}

@@ -12,10 +12,10 @@ use Rattle.bdb_io.specs.of_format.HeadOf.{head_of}
 use Rattle.bdb_io.specs.of_format.Lists.{list_of}
 use Rattle.bdb_io.specs.of_format.Spelling.{btree_bytes}
 use Rattle.bdb_io.specs.of_format.Verdict.{verdict_of}
-use Rattle.bdb_need.specs.of_text_format.declared.pairs.Pair.{Pair}
-use Rattle.bdb_need.specs.of_text_format.declared.pairs.Key.TheVariants.{Bytes}
-use Rattle.bdb_need.specs.of_text_format.declared.sections.Section.{Section}
-use Rattle.bdb_need.specs.of_text_format.Pairs.{listed}
+use Rattle.bdb_text_format.specs.declared.pairs.Pair.{Pair}
+use Rattle.bdb_text_format.specs.declared.pairs.Key.TheVariants.{Bytes}
+use Rattle.bdb_text_format.specs.declared.sections.Section.{Section}
+use Rattle.bdb_text_format.specs.Pairs.{listed}
 use Rattle.bdb_need.specs.of_mkleaves.Runs.{IsShort}
 use Rattle.bdb_need.specs.of_law_buckets.Tables.{HasBuiltTable}
 use Rattle.bdb_need.specs.TreePages.{unlined_pairs, tree_pages}

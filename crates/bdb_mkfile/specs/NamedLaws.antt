@@ -13,8 +13,8 @@ use Rattle.bdb_io.specs.of_format.Page.{BtreeFields, HashFields}
 use Rattle.bdb_io.specs.of_format.Reading.{hash_fields}
 use Rattle.bdb_io.specs.of_format.Spelling.{table_bytes}
 use Rattle.bdb_io.specs.of_format.Table.{first_row}
-use Rattle.bdb_need.specs.of_text_format.declared.sections.Section.{Section}
-use Rattle.bdb_need.specs.of_text_format.Pairs.{listed}
+use Rattle.bdb_text_format.specs.declared.sections.Section.{Section}
+use Rattle.bdb_text_format.specs.Pairs.{listed}
 use Rattle.bdb_need.specs.of_meta.RowGroups.{flag_rows}
 use Rattle.bdb_need.specs.of_law_grove.Part.{IsPart}
 use Rattle.bdb_need.specs.of_pack.Built.{Built, bytes_of}

@@ -11,9 +11,9 @@ use Rattle.bdb_io.specs.of_format.Lists.{list_of}
 use Rattle.bdb_io.specs.of_format.Numbers.{pad4}
 use Rattle.bdb_io.specs.of_format.Page.{Metadata}
 use Rattle.bdb_io.specs.of_format.Verdict.{verdict_of}
-use Rattle.bdb_need.specs.of_text_format.declared.pairs.Pair.{Pair}
-use Rattle.bdb_need.specs.of_text_format.declared.sections.Section.{Section}
-use Rattle.bdb_need.specs.of_text_format.Pairs.{listed}
+use Rattle.bdb_text_format.specs.declared.pairs.Pair.{Pair}
+use Rattle.bdb_text_format.specs.declared.sections.Section.{Section}
+use Rattle.bdb_text_format.specs.Pairs.{listed}
 use Rattle.bdb_need.specs.of_mktree.Lists.{IsTreeList}
 use Rattle.bdb_need.specs.of_mkhash.Table.{IsTableList}
 use Rattle.bdb_need.specs.of_mkqueue.Lists.{IsQueueList}

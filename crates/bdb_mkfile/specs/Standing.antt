@@ -11,9 +11,9 @@ use Rattle.bdb_io.specs.of_format.Reading.{is_zero}
 use Rattle.bdb_io.specs.of_format.Rows.{page_code}
 use Rattle.bdb_need.specs.of_law_grove.Growing.{IsCounted, IsLater}
 use Rattle.bdb_need.specs.of_law_grove.Part.{IsPart, Part, between}
-use Rattle.bdb_need.specs.of_text_format.declared.pairs.Pair.{Pair}
-use Rattle.bdb_need.specs.of_text_format.declared.sections.Section.{Section}
-use Rattle.bdb_need.specs.of_text_format.Pairs.{listed}
+use Rattle.bdb_text_format.specs.declared.pairs.Pair.{Pair}
+use Rattle.bdb_text_format.specs.declared.sections.Section.{Section}
+use Rattle.bdb_text_format.specs.Pairs.{listed}
 use Rattle.bdb_need.specs.of_pack.Built.{Built, bytes_of, file_so_far}
 use Rattle.bdb_need.specs.of_law_join.Filed.{IsSpelled}
 use Rattle.bdb_need.specs.of_law_join.Written.{AreLegal}

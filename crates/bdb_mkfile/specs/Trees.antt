@@ -9,8 +9,8 @@ use Rattle.bdb_io.specs.of_format.Lists.{list_of}
 use Rattle.bdb_io.specs.of_format.Spelling.{btree_bytes}
 use Rattle.bdb_io.specs.of_format.Databases.{databases, settings_of}
 use Rattle.bdb_io.specs.of_format.Verdict.{verdict_of}
-use Rattle.bdb_need.specs.of_text_format.declared.pairs.Pair.{Pair}
-use Rattle.bdb_need.specs.of_text_format.Pairs.{listed}
+use Rattle.bdb_text_format.specs.declared.pairs.Pair.{Pair}
+use Rattle.bdb_text_format.specs.Pairs.{listed}
 use Rattle.bdb_need.specs.of_mkleaves.Layout.{AreTreesIn}
 use Rattle.bdb_need.specs.of_mkleaves.Spread.{tree_size}
 use Rattle.bdb_need.specs.of_mktree.Lists.{units_in}

@@ -1,5 +1,5 @@
 ghost use Rattle.std.specs.Prelude.{◌≡◌, IfOk};
-ghost use Rattle.bdb_need.specs.of_text_format.Placed.{pairs_of};
+ghost use Rattle.bdb_text_format.specs.Placed.{pairs_of};
 ghost use Rattle.bdb_mkfile.specs.FileSettings.{file_settings};
 ghost use Rattle.bdb_need.specs.TreePages.{unlined_pairs};
 ghost use Rattle.bdb_mkfile.specs.Settled.{IsAloneImage, IsBuildable};
@@ -8,9 +8,8 @@ use crate::metadata::file_settings;
 use crate::queue::queue_image;
 use crate::table::table_image;
 use crate::trees::tree_image;
-use bdb_io::Image;
-use bdb_io::bdb_format::{Kind, Settings};
-use bdb_need::bdb_text_format::{PairSlice, Section};
+use bdb_io::{Image, Kind, Settings};
+use bdb_text_format::{PairSlice, Section};
 use std::alloc::{AllocError, Global};
 
 // The image of a list as the only database of its file, of each kind.

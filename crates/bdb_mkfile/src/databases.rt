@@ -2,7 +2,7 @@ ghost use Rattle.std.specs.Prelude.{◌≡◌, ◌+◌, ◌≤◌, ◌<◌, ◌^
 ghost use Rattle.std.specs.List.{All};
 ghost use Rattle.bdb_io.specs.of_format.declared.kinds.Kind.TheVariants.{Hash as HashKind};
 ghost use Rattle.bdb_io.specs.of_format.HeadOf.{is_page_size};
-ghost use Rattle.bdb_need.specs.of_text_format.Placed.{pairs_of};
+ghost use Rattle.bdb_text_format.specs.Placed.{pairs_of};
 ghost use Rattle.bdb_need.specs.of_mktree.Lists.{IsTreeList};
 ghost use Rattle.bdb_need.specs.of_mkhash.Table.{IsTableList};
 ghost use Rattle.bdb_mkfile.specs.FileSettings.{file_settings, own_settings};
@@ -13,11 +13,9 @@ ghost use Rattle.bdb_mkfile.specs.Standing.{AreAdded, AreDatabasesBuilt, IsDatab
 use crate::metadata::file_settings;
 use crate::named_metadata::{DatabaseMeta, named_table_meta, named_tree_meta};
 use crate::table::element_count;
-use bdb_io::bdb_format::{Kind, Order, Settings};
-use bdb_need::bdb_mkhash::build_table;
-use bdb_need::bdb_mktree::build_tree;
-use bdb_need::bdb_pack::Pages;
-use bdb_need::bdb_text_format::{PairSlice, Section, Sections};
+use bdb_io::{Kind, Order, Settings};
+use bdb_need::{Pages, build_table, build_tree};
+use bdb_text_format::{PairSlice, Section, Sections};
 use std::alloc::{AllocError, Global};
 
 /// Adds so many zero pages at the end.

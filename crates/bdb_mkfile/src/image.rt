@@ -5,10 +5,9 @@ ghost use Rattle.bdb_mkfile.specs.NamedImages.{AreNamed, IsNamedImage};
 use crate::databases::{add_zeros, build_databases};
 use crate::master::build_master;
 use crate::named_metadata::{DatabaseMeta, put_meta, put_metas};
-use bdb_io::Image;
-use bdb_io::bdb_format::Order;
-use bdb_need::bdb_pack::Pages;
-use bdb_need::bdb_text_format::Sections;
+use bdb_io::{Image, Order};
+use bdb_need::Pages;
+use bdb_text_format::Sections;
 use std::alloc::{AllocError, Global};
 
 /// The image of sections under their names, in a file of this page size and order: page 0 is the metadata of the master, its tree

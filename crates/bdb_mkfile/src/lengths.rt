@@ -1,12 +1,12 @@
 ghost use Rattle.std.specs.Prelude.{◌≡◌};
 ghost use Rattle.std.specs.List.{list_all};
-ghost use Rattle.bdb_need.specs.of_text_format.Placed.{key_seen, pair_seen, slice_seen};
+ghost use Rattle.bdb_text_format.specs.Placed.{key_seen, pair_seen, slice_seen};
 ghost use Rattle.bdb_need.specs.Need.{name_in};
 ghost use Rattle.bdb_need.specs.of_mktree.Lists.{bytes_in};
 ghost use Rattle.bdb_mkfile.specs.Lengths.{is_short, is_short_pair, is_short_section};
 
-use bdb_io::bdb_format::Bytes;
-use bdb_need::bdb_text_format::{KeyRef, PairRef, PairSlice, Section, Sections};
+use bdb_io::Bytes;
+use bdb_text_format::{KeyRef, PairRef, PairSlice, Section, Sections};
 
 /// The most bytes that a field of four bytes can count.
 const MOST: usize = 4294967295;

@@ -15,11 +15,12 @@ mod queue;
 mod table;
 mod trees;
 
-pub use bdb_io;
-pub use bdb_io::bdb_format;
-pub use bdb_need;
-pub use bdb_need::bdb_settle::{LoadError, settle};
-pub use bdb_need::{bdb_graph, bdb_layout, bdb_settle, bdb_text_format, need};
+pub use bdb_io::Bytes;
+pub use bdb_need::{
+    Linked, LoadError, Meta, hash5, is_among_names, is_too_wide, need, settle, sooner_where,
+    with_pairs,
+};
+pub use bdb_text_format::{PairSlice, Section, Sections, TextPairs};
 pub use image::named_image;
 pub use loading::load;
 pub use metadata::{file_settings, tree_meta};

@@ -10,9 +10,8 @@ use crate::image::named_image;
 use crate::lengths::are_short;
 use crate::order::in_name_order;
 use bdb_io::Image;
-use bdb_need::bdb_settle::{LoadError, filled, ordered};
-use bdb_need::bdb_text_format::Sections;
-use bdb_need::filled_need;
+use bdb_need::{LoadError, filled, filled_need, ordered};
+use bdb_text_format::Sections;
 use std::alloc::{AllocError, Global};
 
 // Whether so many pages have more bytes than a number.

@@ -9,11 +9,9 @@ ghost use Rattle.bdb_mkfile.specs.Layout.{entries_from, entry_of, settings_of_ma
 ghost use Rattle.bdb_mkfile.specs.Standing.{IsMasterBuilt};
 
 use crate::named_metadata::named_tree_meta;
-use bdb_io::bdb_format::{BtreeMeta, Kind, Order, Settings, plain_settings};
-use bdb_need::bdb_mktree::build_tree;
-use bdb_need::bdb_pack::Pages;
-use bdb_need::bdb_text_format::{KeyRef, PairRef, Section, TextPairs};
-use bdb_need::tree_pages;
+use bdb_io::{BtreeMeta, Kind, Order, Settings, plain_settings};
+use bdb_need::{Pages, build_tree, tree_pages};
+use bdb_text_format::{KeyRef, PairRef, Section, TextPairs};
 use std::alloc::{AllocError, Global};
 
 // The settings of the master.

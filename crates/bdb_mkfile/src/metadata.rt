@@ -1,7 +1,7 @@
 ghost use Rattle.std.specs.Prelude.{◌≡◌, ◌≤◌};
 ghost use Rattle.bdb_mkfile.specs.FileSettings.{btree_flags, file_settings, flag, flags_of, recno_flags, tree_meta};
 
-use bdb_io::bdb_format::{BtreeMeta, Kind, Settings, plain_settings};
+use bdb_io::{BtreeMeta, Kind, Settings, plain_settings};
 
 /// The settings of a database in its own file: what belongs to other kinds is as a header without its keyword says.
 pub fn file_settings(settings: &Settings) -> Settings

@@ -6,9 +6,8 @@ ghost use Rattle.bdb_mkfile.specs.Layout.{named_table_meta, named_tree_meta};
 ghost use Rattle.bdb_mkfile.specs.WrittenMetadata.{ArePut, IsPut, ReadsBack, meta_bytes};
 
 use crate::metadata::tree_meta;
-use bdb_io::bdb_format::{BtreeMeta, HashMeta, Order, Settings};
-use bdb_need::bdb_meta::{put_btree_meta, put_hash_meta};
-use bdb_need::bdb_pack::Pages;
+use bdb_io::{BtreeMeta, HashMeta, Order, Settings};
+use bdb_need::{Pages, put_btree_meta, put_hash_meta};
 
 /// The metadata of a database that is built, before it is written.
 #[derive(Clone, Copy)]

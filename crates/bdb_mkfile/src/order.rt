@@ -5,8 +5,8 @@ ghost use Rattle.std.specs.Ordering.{is_lt};
 ghost use Rattle.bdb_mkfile.specs.Builds.{name_of};
 ghost use Rattle.bdb_mkfile.specs.Order.{named_before, with_named};
 
-use bdb_need::bdb_layout::compare;
-use bdb_need::bdb_text_format::{Section, Sections};
+use bdb_need::compare;
+use bdb_text_format::{Section, Sections};
 use std::alloc::{AllocError, Global};
 use std::cmp::Ordering;
 

@@ -2,17 +2,14 @@ ghost use Rattle.std.specs.Prelude.{◌≡◌, ◌+◌, ◌-◌, ◌≤◌, IfOk
 ghost use Rattle.bdb_io.specs.of_format.declared.kinds.Kind.TheVariants.{Queue as QueueKind};
 ghost use Rattle.bdb_io.specs.of_format.HeadOf.{is_page_size};
 ghost use Rattle.bdb_io.specs.of_format.Numbers.{pad4};
-ghost use Rattle.bdb_need.specs.of_text_format.Placed.{pairs_of};
+ghost use Rattle.bdb_text_format.specs.Placed.{pairs_of};
 ghost use Rattle.bdb_need.specs.of_mkqueue.Lists.{IsQueueList};
 ghost use Rattle.bdb_mkfile.specs.FileSettings.{file_settings};
 ghost use Rattle.bdb_mkfile.specs.LoneImages.{IsQueueImage};
 
-use bdb_io::Image;
-use bdb_io::bdb_format::Settings;
-use bdb_need::bdb_meta::put_queue_meta;
-use bdb_need::bdb_mkqueue::build_queue;
-use bdb_need::bdb_pack::Pages;
-use bdb_need::bdb_text_format::PairSlice;
+use bdb_io::{Image, Settings};
+use bdb_need::{Pages, build_queue, put_queue_meta};
+use bdb_text_format::PairSlice;
 use std::alloc::{AllocError, Global};
 
 /// The image of a queue with these settings and this list: page 0 is its metadata, and its pages follow. It is also refused where a record

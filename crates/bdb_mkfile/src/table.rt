@@ -1,17 +1,14 @@
 ghost use Rattle.std.specs.Prelude.{◌≡◌, IfOk, IsTrue, length, true};
 ghost use Rattle.bdb_io.specs.of_format.declared.kinds.Kind.TheVariants.{Hash as HashKind};
 ghost use Rattle.bdb_io.specs.of_format.HeadOf.{is_page_size};
-ghost use Rattle.bdb_need.specs.of_text_format.Placed.{pairs_of, slice_seen};
+ghost use Rattle.bdb_text_format.specs.Placed.{pairs_of, slice_seen};
 ghost use Rattle.bdb_need.specs.of_mkhash.Table.{IsTableList};
 ghost use Rattle.bdb_mkfile.specs.FileSettings.{file_settings};
 ghost use Rattle.bdb_mkfile.specs.LoneImages.{IsTableImage};
 
-use bdb_io::Image;
-use bdb_io::bdb_format::Settings;
-use bdb_need::bdb_meta::put_hash_meta;
-use bdb_need::bdb_mkhash::build_table;
-use bdb_need::bdb_pack::Pages;
-use bdb_need::bdb_text_format::PairSlice;
+use bdb_io::{Image, Settings};
+use bdb_need::{Pages, build_table, put_hash_meta};
+use bdb_text_format::PairSlice;
 use std::alloc::{AllocError, Global};
 
 /// How many pairs there are, where that fits the field of the metadata of a hash.

@@ -1,19 +1,16 @@
 ghost use Rattle.std.specs.Prelude.{◌≡◌, ◌≤◌, ◌^◌, IfOk, IsTrue, length};
 ghost use Rattle.bdb_io.specs.of_format.HeadOf.{is_page_size};
 ghost use Rattle.bdb_io.specs.of_format.Reading.{btree_fields, is_zero};
-ghost use Rattle.bdb_need.specs.of_text_format.Placed.{pairs_of};
+ghost use Rattle.bdb_text_format.specs.Placed.{pairs_of};
 ghost use Rattle.bdb_need.specs.of_pack.Built.{AreWhole, bytes_of, with_page};
 ghost use Rattle.bdb_need.specs.of_mktree.Lists.{IsTreeList};
 ghost use Rattle.bdb_mkfile.specs.Trees.{IsTreeImage, IsTreeSettings};
 ghost use Rattle.bdb_mkfile.specs.FileSettings.{file_settings, first_bytes};
 
 use crate::metadata::tree_meta;
-use bdb_io::Image;
-use bdb_io::bdb_format::{BtreeMeta, Settings};
-use bdb_need::bdb_meta::put_btree_meta;
-use bdb_need::bdb_mktree::build_tree;
-use bdb_need::bdb_pack::Pages;
-use bdb_need::bdb_text_format::PairSlice;
+use bdb_io::{BtreeMeta, Image, Settings};
+use bdb_need::{Pages, build_tree, put_btree_meta};
+use bdb_text_format::PairSlice;
 use std::alloc::{AllocError, Global};
 
 // Writes the metadata of a tree over page 0, which was kept for it.

@@ -9,9 +9,7 @@ ghost use Rattle.bdb_mkhash.specs.Buckets.{bits_for, buckets_of, table_cost, tab
 ghost use Rattle.bdb_mkhash.specs.Units.{units_seen};
 
 use crate::unit::{Unit, keyed_cost};
-use bdb_mktree::bdb_layout::{bucket_of, hash5};
-use bdb_mktree::bdb_text_format::PairSlice;
-use bdb_mktree::{Run, run_at};
+use bdb_mktree::{PairSlice, Run, bucket_of, hash5, run_at};
 use std::alloc::{AllocError, Global};
 
 // A key of a list as it is stored.

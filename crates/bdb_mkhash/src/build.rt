@@ -8,9 +8,7 @@ ghost use Rattle.bdb_mkhash.specs.Table.{IsTableBuilt, IsTableList};
 
 use crate::buckets::{bits_for, bucket_count, deal, table_cost};
 use crate::fill::{add_buckets, fill_buckets};
-use bdb_mktree::bdb_format::{HashMeta, Settings};
-use bdb_mktree::bdb_pack::Pages;
-use bdb_mktree::bdb_text_format::PairSlice;
+use bdb_mktree::{HashMeta, Pages, PairSlice, Settings};
 use std::alloc::{AllocError, Global};
 
 // The spares of a table with so many bits to the number of a bucket, whose first page this is.

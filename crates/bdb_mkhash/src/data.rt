@@ -13,10 +13,7 @@ use crate::page::append_item;
 use crate::sets::spell_set;
 use crate::store::store;
 use crate::unit::{Unit, data_form};
-use bdb_mktree::bdb_layout::{DupBlocks, HashItem};
-use bdb_mktree::bdb_mkleaves::build_set;
-use bdb_mktree::bdb_pack::Pages;
-use bdb_mktree::bdb_places::Values;
+use bdb_mktree::{DupBlocks, HashItem, Pages, Values, build_set};
 use std::alloc::{AllocError, Global};
 
 // Puts a value at the end of a page: its item, or that of a chain behind all pages.

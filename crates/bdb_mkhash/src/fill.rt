@@ -9,7 +9,7 @@ ghost use Rattle.bdb_mkhash.specs.Units.{IsShortUnit, units_seen};
 use crate::data::put_unit;
 use crate::page::{add_page, set_next};
 use crate::unit::{Unit, keyed_cost};
-use bdb_mktree::bdb_pack::Pages;
+use bdb_mktree::Pages;
 use std::alloc::{AllocError, Global};
 
 // Puts units on a page without any, as many as have room there, and answers how many.

@@ -11,6 +11,9 @@ mod sets;
 mod store;
 mod unit;
 
-pub use bdb_mktree;
-pub use bdb_mktree::{bdb_format, bdb_layout, bdb_pack, bdb_places, bdb_text_format};
+pub use bdb_mktree::{
+    BtreeMeta, Bytes, HashMeta, KeyRef, Kind, Order, Pages, PairRef, PairSlice, Place, PlacedKey,
+    Run, Section, Sections, Settings, Span, TextPairs, Values, bucket_of, build_tree, compare,
+    hash5, plain_settings, run_at, u32_at,
+};
 pub use build::build_table;

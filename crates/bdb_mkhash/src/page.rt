@@ -7,9 +7,7 @@ ghost use Rattle.bdb_mktree.specs.of_pack.OnPages.{IsBegunOn};
 ghost use Rattle.bdb_mkhash.specs.Filling.{IsGrown};
 ghost use Rattle.bdb_mkhash.specs.Pages.{CanTakeContent, HoldsContentsOn, with_hash_page, with_next};
 
-use bdb_mktree::bdb_format::Header;
-use bdb_mktree::bdb_layout::{HashItem, put_u32};
-use bdb_mktree::bdb_pack::Pages;
+use bdb_mktree::{HashItem, Header, Pages, put_u32};
 use std::alloc::AllocError;
 
 /// How many pages a file may have.

@@ -4,9 +4,7 @@ ghost use Rattle.bdb_mktree.specs.of_format.Numbers.{spelled};
 ghost use Rattle.bdb_mktree.specs.of_format.Spelling.{block_bytes};
 ghost use Rattle.bdb_mktree.specs.of_places.Places.{values_seen};
 
-use bdb_mktree::bdb_format::{Bytes, Order};
-use bdb_mktree::bdb_layout::put_u16;
-use bdb_mktree::bdb_places::Values;
+use bdb_mktree::{Bytes, Order, Values, put_u16};
 use std::alloc::{AllocError, Global};
 
 // A length in two bytes.

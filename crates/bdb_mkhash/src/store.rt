@@ -5,8 +5,7 @@ ghost use Rattle.bdb_mktree.specs.of_mkleaves.Runs.{IsShort};
 ghost use Rattle.bdb_mkhash.specs.Filling.{IsHashItem};
 
 use crate::page::MAX_PAGES;
-use bdb_mktree::bdb_layout::HashItem;
-use bdb_mktree::bdb_pack::{Pages, Stored, push_value};
+use bdb_mktree::{HashItem, Pages, Stored, push_value};
 use std::alloc::AllocError;
 
 // Whether there are numbers left for the pages of a value's chain.

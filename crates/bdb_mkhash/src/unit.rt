@@ -5,7 +5,7 @@ ghost use Rattle.bdb_mkhash.specs.Costs.{data_cost, data_form, hash_item_cost, b
 ghost use Rattle.bdb_mkhash.specs.Units.{unit_seen};
 
 use crate::form::DataForm;
-use bdb_mktree::bdb_places::Values;
+use bdb_mktree::Values;
 
 /// A key of a table with all its data, one at least.
 #[derive(Clone, Copy)]

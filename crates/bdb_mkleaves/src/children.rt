@@ -5,8 +5,7 @@ ghost use Rattle.bdb_mkleaves.specs.Moved.{AreLinked, numbers_of};
 
 use crate::leaves::Leaves;
 use crate::levels::Child;
-use bdb_pack::Pages;
-use bdb_pack::bdb_layout::u16_at;
+use bdb_pack::{Pages, u16_at};
 use std::alloc::{AllocError, Global};
 
 impl Leaves {

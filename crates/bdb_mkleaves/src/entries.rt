@@ -11,9 +11,8 @@ ghost use Rattle.bdb_mkleaves.specs.declared.leaf_type.LeafType.TheVariants.{Pai
 
 use crate::LeafType;
 use crate::leaves::MAX_PAGES;
-use bdb_pack::Pages;
-use bdb_pack::bdb_layout::{LeafItem, put_u32};
-use bdb_places::bdb_format::Header;
+use bdb_pack::{LeafItem, Pages, put_u32};
+use bdb_places::Header;
 use std::alloc::AllocError;
 
 /// Adds a leaf without entries behind all pages, where a number is left for it, and answers that. `previous` is the leaf before it, 0 where it is

@@ -11,9 +11,8 @@ ghost use Rattle.bdb_mkleaves.specs.Inner.{CanTakeChild, HoldsChildrenOn, added_
 
 use crate::leaves::MAX_PAGES;
 use bdb_law_levels::InnerType;
-use bdb_pack::Pages;
-use bdb_pack::bdb_layout::{InternalItem, put_u16};
-use bdb_places::bdb_format::{Header, RecnoItem};
+use bdb_pack::{InternalItem, Pages, put_u16};
+use bdb_places::{Header, RecnoItem};
 use std::alloc::AllocError;
 
 // The type byte of an internal page.

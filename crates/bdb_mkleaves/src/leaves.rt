@@ -11,8 +11,7 @@ ghost use Rattle.bdb_mkleaves.specs.declared.leaf_type.LeafType.TheVariants.{Pai
 
 use crate::LeafType;
 use crate::entries::{add_leaf, append_item, append_shared_key, set_next};
-use bdb_pack::bdb_layout::LeafItem;
-use bdb_pack::{Pages, Stored, push_value};
+use bdb_pack::{LeafItem, Pages, Stored, push_value};
 use std::alloc::{AllocError, Global};
 
 /// How many pages a file may have.

@@ -10,9 +10,8 @@ ghost use Rattle.bdb_mkleaves.specs.Levels.{stored_heads, stored_key};
 
 use crate::inner::{add_inner, append_child, append_count, raise_count};
 use bdb_law_levels::InnerType;
-use bdb_pack::bdb_layout::{InternalItem, InternalKey, LeafItem, known_leaf_item};
-use bdb_pack::{Pages, Stored};
-use bdb_places::bdb_format::RecnoItem;
+use bdb_pack::{InternalItem, InternalKey, LeafItem, Pages, Stored, known_leaf_item};
+use bdb_places::RecnoItem;
 use std::alloc::{AllocError, Global};
 
 /// A page of a level, and what is below it.

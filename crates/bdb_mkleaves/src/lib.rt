@@ -16,8 +16,10 @@ mod sets;
 mod tower;
 mod units;
 
-pub use bdb_pack;
-pub use bdb_pack::bdb_layout;
+pub use bdb_pack::{
+    DupBlocks, HashItem, Pages, Stored, bucket_of, compare, hash5, push_value, put_u16, put_u32,
+    u32_at,
+};
 pub use leaf_type::LeafType;
 pub use leaves::Leaves;
 pub use sets::build_set;

@@ -7,8 +7,7 @@ ghost use Rattle.bdb_mkleaves.specs.Moved.{IsFirstMoved, IsMoved, first_leaf, se
 
 use crate::entries::set_previous;
 use crate::leaves::{Leaves, MAX_PAGES};
-use bdb_pack::Pages;
-use bdb_pack::bdb_layout::put_u32;
+use bdb_pack::{Pages, put_u32};
 use std::alloc::AllocError;
 
 /// Writes the number of a page.

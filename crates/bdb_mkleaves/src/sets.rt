@@ -13,8 +13,7 @@ ghost use Rattle.bdb_mkleaves.specs.declared.leaf_type.LeafType.TheVariants.{Pai
 use crate::LeafType;
 use crate::leaves::Leaves;
 use crate::units::value_cost;
-use bdb_pack::Pages;
-use bdb_pack::bdb_layout::LeafItem;
+use bdb_pack::{LeafItem, Pages};
 use bdb_places::Values;
 use std::alloc::{AllocError, Global};
 

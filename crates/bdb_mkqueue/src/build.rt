@@ -8,10 +8,8 @@ ghost use Rattle.bdb_text_format.specs.Placed.{pairs_of, slice_seen};
 ghost use Rattle.bdb_mkqueue.specs.Lists.{HasLength, HasNext, IsQueueList, first_number, next_number};
 
 use crate::records::{number_of, page_of, put_record, records_per_page, slot_of};
-use bdb_law_join::bdb_layout::put_header;
-use bdb_law_join::bdb_pack::Pages;
-use bdb_text_format::PairSlice;
-use bdb_text_format::bdb_format::{Header, QueueMeta, Settings};
+use bdb_law_join::{Pages, put_header};
+use bdb_text_format::{Header, PairSlice, QueueMeta, Settings};
 use std::alloc::AllocError;
 
 // The longest file that is read has no more pages.

@@ -5,5 +5,5 @@ mod build;
 pub mod laws;
 mod records;
 
-pub use bdb_law_join::{bdb_graph, bdb_meta};
+pub use bdb_law_join::{Linked, Meta, put_btree_meta, put_hash_meta, put_queue_meta};
 pub use build::build_queue;

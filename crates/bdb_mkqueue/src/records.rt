@@ -5,8 +5,7 @@ ghost use Rattle.bdb_mkqueue.specs.Layout.{page_of, slot_of};
 ghost use Rattle.bdb_text_format.specs.Pairs.{number_of};
 ghost use Rattle.bdb_text_format.specs.Placed.{key_seen};
 
-use bdb_text_format::KeyRef;
-use bdb_text_format::bdb_format::QueueMeta;
+use bdb_text_format::{KeyRef, QueueMeta};
 
 // What the first byte of a slot says of its record. Readers ask for the first bit alone; some tools of the original look for the second one.
 const VALID: u8 = 0x01;

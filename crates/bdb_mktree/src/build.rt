@@ -8,9 +8,8 @@ ghost use Rattle.bdb_mktree.specs.Units.{IsTreeKind, unit_seen};
 
 use crate::runs::run_at;
 use crate::{TreeBuilder, Unit};
-use bdb_mkleaves::bdb_pack::Pages;
-use bdb_text_format::bdb_format::{Kind, Settings};
-use bdb_text_format::{KeyRef, PairSlice};
+use bdb_mkleaves::Pages;
+use bdb_text_format::{KeyRef, Kind, PairSlice, Settings};
 use std::alloc::{AllocError, Global};
 
 /// A record of a list, and the place of the next one to come.

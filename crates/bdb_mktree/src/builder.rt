@@ -6,9 +6,8 @@ ghost use Rattle.bdb_mktree.specs.Building.{Building, IsTreeBuilt, units_of};
 ghost use Rattle.bdb_mktree.specs.Units.{IsNext, IsShortUnit, IsTreeKind, Suits, is_counted, leaf_type_of, unit_seen};
 
 use crate::Unit;
-use bdb_mkleaves::bdb_pack::Pages;
-use bdb_mkleaves::{LeafType, Leaves};
-use bdb_text_format::bdb_format::{Kind, Settings};
+use bdb_mkleaves::{LeafType, Leaves, Pages};
+use bdb_text_format::{Kind, Settings};
 use std::alloc::{AllocError, Global};
 
 // The type of the leaves of a tree of this kind.

@@ -6,10 +6,15 @@ mod builder;
 mod runs;
 mod unit;
 
-pub use bdb_mkleaves;
-pub use bdb_mkleaves::{bdb_layout, bdb_pack};
-pub use bdb_text_format;
-pub use bdb_text_format::{bdb_format, bdb_places};
+pub use bdb_mkleaves::{
+    DupBlocks, HashItem, Pages, Stored, bucket_of, build_set, compare, hash5, push_value, put_u16,
+    put_u32, u32_at,
+};
+pub use bdb_text_format::{
+    BtreeMeta, Bytes, HashMeta, Header, KeyRef, Kind, Order, PairRef, PairSlice, Place, PlacedKey,
+    PlacedPairs, Section, Sections, Settings, Span, TextPairs, Values, are_one, key_at,
+    plain_settings,
+};
 pub use build::build_tree;
 pub use builder::TreeBuilder;
 pub use runs::{Run, run_at};

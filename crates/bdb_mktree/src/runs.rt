@@ -6,8 +6,7 @@ ghost use Rattle.bdb_text_format.specs.Placed.{key_seen, pairs_of, slice_seen};
 ghost use Rattle.bdb_mkleaves.specs.Units.{KeyedUnit};
 ghost use Rattle.bdb_mktree.specs.Lists.{HasBytes, IsRunAt, has_key, has_key_at};
 
-use bdb_text_format::bdb_places::Values;
-use bdb_text_format::{KeyRef, PairSlice};
+use bdb_text_format::{KeyRef, PairSlice, Values};
 
 // Whether a key of a list is this one.
 fn is_key(other: KeyRef<'_>, key: &[u8]) -> bool

@@ -1,4 +1,4 @@
-use bdb_text_format::bdb_places::Values;
+use bdb_text_format::Values;
 
 /// What a tree is built of, one after the other.
 #[derive(Clone, Copy)]

@@ -4,14 +4,11 @@
 mod shape;
 mod words;
 
-pub use bdb_text_format;
-pub use bdb_text_format::bdb_format::{
-    BtreeMeta, Bytes, CheckError, Fault, FileKind, HashMeta, Head, Header, ItemFault, Kind,
-    MetaFault, Order, QueueMeta, RecnoItem, Reference, Settings, Sort, Steps, Unsupported, Verdict,
-};
 pub use bdb_text_format::{
-    Judged, Key, KeyRef, Pair, PairRef, PairSlice, Section, Sections, TextFault, TextPair,
-    TextPairs, bdb_format,
+    BtreeMeta, Bytes, CheckError, Fault, FileKind, HashMeta, Head, Header, ItemFault, Judged, Key,
+    KeyRef, Kind, MetaFault, Order, Pair, PairRef, PairSlice, QueueMeta, RecnoItem, Reference,
+    Section, Sections, Settings, Sort, Steps, TextFault, TextPair, TextPairs, Unsupported, Verdict,
+    number_in, plain_settings,
 };
 pub use shape::{Duplicates, Shape};
 pub use words::Words;

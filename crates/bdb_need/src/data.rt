@@ -11,7 +11,7 @@ ghost use Rattle.bdb_need.specs.Counting.{data_units};
 use crate::costs::{chain_pages, key_item_cost, page_room, value_cost};
 use crate::keyed_leaves::KeyedLeaves;
 use crate::open_page::OpenPage;
-use bdb_mkhash::bdb_places::Values;
+use bdb_mkhash::Values;
 use std::alloc::{AllocError, Global};
 
 /// The pages of the chains of data.

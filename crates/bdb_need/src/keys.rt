@@ -13,8 +13,7 @@ ghost use Rattle.bdb_mkhash.specs.of_mktree.Units.{IsShortUnit};
 use crate::costs::{chain_pages, key_item_cost, page_room, value_cost};
 use crate::data::{data_chains, data_cost, data_pages};
 use crate::keyed_leaves::KeyedLeaves;
-use bdb_mkhash::bdb_mktree::{Run, run_at};
-use bdb_mkhash::bdb_text_format::PairSlice;
+use bdb_mkhash::{PairSlice, Run, run_at};
 use std::alloc::{AllocError, Global};
 
 /// What a key with its data takes of its leaf.

@@ -15,11 +15,15 @@ mod table;
 mod trees;
 mod units;
 
-pub use bdb_mkhash;
-pub use bdb_mkhash::{bdb_format, bdb_layout, bdb_mktree, bdb_pack, bdb_places, bdb_text_format};
-pub use bdb_mkqueue;
-pub use bdb_mkqueue::{bdb_graph, bdb_meta};
-pub use bdb_settle;
+pub use bdb_mkhash::{
+    BtreeMeta, Bytes, HashMeta, KeyRef, Kind, Order, Pages, PairRef, PairSlice, Place, PlacedKey,
+    Section, Settings, Span, TextPairs, Values, build_table, build_tree, compare, hash5,
+    plain_settings, u32_at,
+};
+pub use bdb_mkqueue::{Linked, Meta, build_queue, put_btree_meta, put_hash_meta, put_queue_meta};
+pub use bdb_settle::{
+    LoadError, filled, is_among_names, is_too_wide, ordered, settle, sooner_where, with_pairs,
+};
 pub use costs::chain_pages;
 pub use data::{data_chains, data_pages};
 pub use queue::queue_pages;

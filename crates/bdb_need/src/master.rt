@@ -6,8 +6,9 @@ ghost use Rattle.bdb_mkhash.specs.of_mkleaves.Runs.{IsShort};
 ghost use Rattle.bdb_need.specs.Need.{master_pages, master_settings, name_in, name_pair};
 
 use crate::trees::tree_pages;
-use bdb_mkhash::bdb_format::{Kind, Order, Settings, plain_settings};
-use bdb_mkhash::bdb_text_format::{KeyRef, PairRef, Section, Sections, TextPairs};
+use bdb_mkhash::{
+    KeyRef, Kind, Order, PairRef, Section, Sections, Settings, TextPairs, plain_settings,
+};
 use bdb_settle::settle;
 use std::alloc::{AllocError, Global};
 

@@ -7,8 +7,7 @@ ghost use Rattle.bdb_mkhash.specs.of_text_format.Pairs.{AscendFrom, number_of};
 ghost use Rattle.bdb_mkhash.specs.of_text_format.Placed.{key_seen};
 ghost use Rattle.bdb_need.specs.TreePages.{unlined_pairs};
 
-use bdb_mkhash::bdb_format::Settings;
-use bdb_mkhash::bdb_text_format::{KeyRef, TextPairs};
+use bdb_mkhash::{KeyRef, Settings, TextPairs};
 
 // The number of a record.
 fn number_of(key: KeyRef<'_>) -> u64

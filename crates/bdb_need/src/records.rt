@@ -13,8 +13,7 @@ ghost use Rattle.bdb_settle.specs.Loaded.{filled_pairs};
 
 use crate::costs::{length_chain, length_cost, page_room};
 use crate::open_page::OpenPage;
-use bdb_mkhash::bdb_format::Settings;
-use bdb_mkhash::bdb_text_format::{KeyRef, PairSlice};
+use bdb_mkhash::{KeyRef, PairSlice, Settings};
 use bdb_settle::filled_len;
 
 // What a missing record takes of a leaf: an entry, and a deleted item without bytes.

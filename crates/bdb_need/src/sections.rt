@@ -9,8 +9,7 @@ use crate::master::master_pages;
 use crate::queue::queue_pages;
 use crate::table::table_pages;
 use crate::trees::filled_tree_pages;
-use bdb_mkhash::bdb_format::{Kind, Settings};
-use bdb_mkhash::bdb_text_format::{Section, Sections, TextPairs};
+use bdb_mkhash::{Kind, Section, Sections, Settings, TextPairs};
 use std::alloc::{AllocError, Global};
 
 // The pages of the database of a list once its records are filled up, its metadata not counted.

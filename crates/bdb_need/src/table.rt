@@ -11,10 +11,7 @@ ghost use Rattle.bdb_mkhash.specs.Table.{IsTableList};
 ghost use Rattle.bdb_need.specs.TreePages.{unlined_pairs};
 
 use crate::units::{keyed_cost, keyed_own_pages};
-use bdb_mkhash::bdb_format::Settings;
-use bdb_mkhash::bdb_layout::{bucket_of, hash5};
-use bdb_mkhash::bdb_mktree::run_at;
-use bdb_mkhash::bdb_text_format::{PairSlice, TextPairs};
+use bdb_mkhash::{PairSlice, Settings, TextPairs, bucket_of, hash5, run_at};
 use std::alloc::{AllocError, Global};
 
 /// What all keys of a list take of the pages of buckets, and how many pages they have of their own.

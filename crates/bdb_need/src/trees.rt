@@ -8,8 +8,7 @@ ghost use Rattle.bdb_settle.specs.Loaded.{filled_pairs};
 
 use crate::keys::keyed_pages;
 use crate::records::record_pages;
-use bdb_mkhash::bdb_format::{Kind, Settings};
-use bdb_mkhash::bdb_text_format::TextPairs;
+use bdb_mkhash::{Kind, Settings, TextPairs};
 use std::alloc::{AllocError, Global};
 
 /// How many pages the tree of a list has once its records are filled up, its root and the chains and trees of its data among them. No

@@ -9,8 +9,7 @@ ghost use Rattle.bdb_need.specs.Counts.{keyed, set_or_none};
 
 use crate::costs::chain_pages;
 use crate::data::{data_chains, data_pages};
-use bdb_mkhash::bdb_mktree::Run;
-use bdb_mkhash::bdb_places::Values;
+use bdb_mkhash::{Run, Values};
 use std::alloc::{AllocError, Global};
 
 // What the item of a tree of data takes of a page, with its entry.

@@ -1,16 +1,16 @@
 -- The lists of a base are loaded as they are.
 use Rattle.std.proofs.Common.{◌≡◌, ℕ, Bool, true, false, cond, List, [], ◌∷◌, map, None, refl, sym, ◌∙◌, ap, subst}
 use Rattle.std.specs.List.{Contains}
-use Rattle.bdb_mkfile.specs.of_format.declared.kinds.Kind.TheVariants.{Queue}
-use Rattle.bdb_mkfile.specs.of_format.declared.kinds.Order.{Order}
-use Rattle.bdb_mkfile.specs.of_format.declared.settings.Settings.{Settings}
-use Rattle.bdb_mkfile.specs.of_format.Databases.{Database, btree_settings, databases, recno_settings, settings_of}
-use Rattle.bdb_mkfile.specs.of_format.File.{file_of}
-use Rattle.bdb_mkfile.specs.of_format.Flags.{is_recno}
-use Rattle.bdb_mkfile.specs.of_format.HeadOf.{head_of}
-use Rattle.bdb_mkfile.specs.of_format.Lists.{ListKey, BytesKey, NumberKey, list_of}
-use Rattle.bdb_mkfile.specs.of_format.Page.{Metadata, BtreeFields, HashFields, QueueFields}
-use Rattle.bdb_mkfile.proofs.of_format.MemberLemmas.{of_map}
+use Rattle.bdb_format.specs.declared.kinds.Kind.TheVariants.{Queue}
+use Rattle.bdb_format.specs.declared.kinds.Order.{Order}
+use Rattle.bdb_format.specs.declared.settings.Settings.{Settings}
+use Rattle.bdb_format.specs.Databases.{Database, btree_settings, databases, recno_settings, settings_of}
+use Rattle.bdb_format.specs.File.{file_of}
+use Rattle.bdb_format.specs.Flags.{is_recno}
+use Rattle.bdb_format.specs.HeadOf.{head_of}
+use Rattle.bdb_format.specs.Lists.{ListKey, BytesKey, NumberKey, list_of}
+use Rattle.bdb_format.specs.Page.{Metadata, BtreeFields, HashFields, QueueFields}
+use Rattle.bdb_format.proofs.MemberLemmas.{of_map}
 use Rattle.bdb_mkfile.specs.of_text_format.declared.pairs.Pair.{Pair}
 use Rattle.bdb_mkfile.specs.of_text_format.declared.pairs.Key.{Key}
 use Rattle.bdb_mkfile.specs.of_text_format.declared.pairs.Key.TheVariants.{Bytes, Number}

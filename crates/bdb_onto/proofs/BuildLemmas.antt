@@ -2,11 +2,11 @@
 use Rattle.std.proofs.Common.{◌≡◌, ℕ, ◌*◌, List, [], ◌∷◌, map, refl, sym, ◌∙◌, ap, subst}
 use Rattle.std.specs.List.{All, AllZip, filter}
 use Rattle.std.proofs.lemmas.List.Elements.{All-append, All-head, All-map, All-tail}
-use Rattle.bdb_mkfile.specs.of_format.declared.settings.Settings.{Settings}
-use Rattle.bdb_mkfile.specs.of_format.Databases.{Database, databases}
-use Rattle.bdb_mkfile.specs.of_format.File.{file_of}
-use Rattle.bdb_mkfile.proofs.of_format.ListLemmas.{all_of}
-use Rattle.bdb_mkfile.proofs.of_format.MemberLemmas.{of_filter}
+use Rattle.bdb_format.specs.declared.settings.Settings.{Settings}
+use Rattle.bdb_format.specs.Databases.{Database, databases}
+use Rattle.bdb_format.specs.File.{file_of}
+use Rattle.bdb_format.proofs.ListLemmas.{all_of}
+use Rattle.bdb_format.proofs.MemberLemmas.{of_filter}
 use Rattle.bdb_mkfile.specs.of_text_format.declared.sections.Section.{Section}
 use Rattle.bdb_mkfile.specs.of_text_format.Pairs.{listed}
 use Rattle.bdb_mkfile.specs.of_text_format.Written.{header_lines}

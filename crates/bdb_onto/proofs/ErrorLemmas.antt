@@ -4,15 +4,15 @@ use Rattle.std.specs.Prelude.{◌&&◌, ◌||◌, ◌==◌, is_some}
 use Rattle.std.specs.List.{All, Contains, filter, flat_map, fold}
 use Rattle.std.proofs.lemmas.Grind.{flat_map-append}
 use Rattle.std.proofs.lemmas.List.Elements.{All-head, All-tail}
-use Rattle.bdb_mkfile.specs.of_format.declared.kinds.Kind.{Kind}
-use Rattle.bdb_mkfile.specs.of_format.declared.kinds.Kind.TheVariants.{Btree, Recno, Hash, Queue}
-use Rattle.bdb_mkfile.specs.of_format.declared.metadata.BtreeMeta.{BtreeMeta}
-use Rattle.bdb_mkfile.specs.of_format.declared.settings.Settings.{Settings}
-use Rattle.bdb_mkfile.specs.of_format.ContentRows.{fields_in}
-use Rattle.bdb_mkfile.specs.of_format.Databases.{Database, databases, databases_under, is_name, named_database}
-use Rattle.bdb_mkfile.specs.of_format.File.{File, file_of, page_at}
-use Rattle.bdb_mkfile.specs.of_format.Master.{master_in, master_pairs, named_by}
-use Rattle.bdb_mkfile.proofs.of_format.MemberLemmas.{first_member, is_empty, later_member, of_filter, of_flat_map, of_map}
+use Rattle.bdb_format.specs.declared.kinds.Kind.{Kind}
+use Rattle.bdb_format.specs.declared.kinds.Kind.TheVariants.{Btree, Recno, Hash, Queue}
+use Rattle.bdb_format.specs.declared.metadata.BtreeMeta.{BtreeMeta}
+use Rattle.bdb_format.specs.declared.settings.Settings.{Settings}
+use Rattle.bdb_format.specs.ContentRows.{fields_in}
+use Rattle.bdb_format.specs.Databases.{Database, databases, databases_under, is_name, named_database}
+use Rattle.bdb_format.specs.File.{File, file_of, page_at}
+use Rattle.bdb_format.specs.Master.{master_in, master_pairs, named_by}
+use Rattle.bdb_format.proofs.MemberLemmas.{first_member, is_empty, later_member, of_filter, of_flat_map, of_map}
 use Rattle.bdb_law_kept.proofs.of_databases.NamedLemmas.{with_name}
 use Rattle.bdb_mkfile.specs.of_text_format.declared.pairs.TextPair.{TextPair}
 use Rattle.bdb_mkfile.specs.of_text_format.declared.sections.Section.{Section}

@@ -5,24 +5,24 @@ use Rattle.std.specs.List.{All, Contains, range_with_len, sum_by}
 use Rattle.std.proofs.lemmas.Bool.Decides.{nat_tests}
 use Rattle.std.proofs.lemmas.List.Elements.{All-cons, All-head, All-map, All-nil, All-tail}
 use Rattle.std.proofs.lemmas.List.Sums.{sum_by-cons, get_or-le-sum_by}
-use Rattle.bdb_mkfile.specs.of_format.declared.kinds.Order.{Order}
-use Rattle.bdb_mkfile.specs.of_format.declared.metadata.BtreeMeta.{BtreeMeta}
-use Rattle.bdb_mkfile.specs.of_format.declared.metadata.FileKind.TheVariants.{Hash as HashFile}
-use Rattle.bdb_mkfile.specs.of_format.declared.metadata.HashMeta.{HashMeta}
-use Rattle.bdb_mkfile.specs.of_format.declared.metadata.QueueMeta.{QueueMeta}
-use Rattle.bdb_mkfile.specs.of_format.declared.settings.Settings.{Settings}
-use Rattle.bdb_mkfile.specs.of_format.Databases.{Database, btree_settings, databases, hash_settings, queue_settings, recno_settings}
-use Rattle.bdb_mkfile.specs.of_format.File.{file_of, page_bytes}
-use Rattle.bdb_mkfile.specs.of_format.Flags.{is_recno}
-use Rattle.bdb_mkfile.specs.of_format.HeadOf.{head_of, is_page_size}
-use Rattle.bdb_mkfile.specs.of_format.Lists.{ListKey, BytesKey, NumberKey, btree_list, list_of, recno_list}
-use Rattle.bdb_mkfile.specs.of_format.Numbers.{four_at, has_bit}
-use Rattle.bdb_mkfile.specs.of_format.Page.{Metadata, BtreeFields, HashFields, QueueFields}
-use Rattle.bdb_mkfile.specs.of_format.Rows.{are_wrong_flags, metadata_rows}
-use Rattle.bdb_mkfile.specs.of_format.Table.{Row}
-use Rattle.bdb_mkfile.proofs.of_format.ListLemmas.{all_of}
-use Rattle.bdb_mkfile.proofs.of_format.MemberLemmas.{in_range, none_passes}
-use Rattle.bdb_mkfile.proofs.of_format.VerdictLemmas.{AllFail, none_is_first_row}
+use Rattle.bdb_format.specs.declared.kinds.Order.{Order}
+use Rattle.bdb_format.specs.declared.metadata.BtreeMeta.{BtreeMeta}
+use Rattle.bdb_format.specs.declared.metadata.FileKind.TheVariants.{Hash as HashFile}
+use Rattle.bdb_format.specs.declared.metadata.HashMeta.{HashMeta}
+use Rattle.bdb_format.specs.declared.metadata.QueueMeta.{QueueMeta}
+use Rattle.bdb_format.specs.declared.settings.Settings.{Settings}
+use Rattle.bdb_format.specs.Databases.{Database, btree_settings, databases, hash_settings, queue_settings, recno_settings}
+use Rattle.bdb_format.specs.File.{file_of, page_bytes}
+use Rattle.bdb_format.specs.Flags.{is_recno}
+use Rattle.bdb_format.specs.HeadOf.{head_of, is_page_size}
+use Rattle.bdb_format.specs.Lists.{ListKey, BytesKey, NumberKey, btree_list, list_of, recno_list}
+use Rattle.bdb_format.specs.Numbers.{four_at, has_bit}
+use Rattle.bdb_format.specs.Page.{Metadata, BtreeFields, HashFields, QueueFields}
+use Rattle.bdb_format.specs.Rows.{are_wrong_flags, metadata_rows}
+use Rattle.bdb_format.specs.Table.{Row}
+use Rattle.bdb_format.proofs.ListLemmas.{all_of}
+use Rattle.bdb_format.proofs.MemberLemmas.{in_range, none_passes}
+use Rattle.bdb_format.proofs.VerdictLemmas.{AllFail, none_is_first_row}
 use Rattle.bdb_mkfile.specs.of_image.Formed.{IsAccepted}
 use Rattle.bdb_mkfile.specs.of_image.Linked.{HasMetadata, IsForest}
 use Rattle.bdb_mkfile.proofs.of_image.FirstLemmas.{formed_accepted}

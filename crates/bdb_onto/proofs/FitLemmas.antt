@@ -6,14 +6,14 @@ use Rattle.std.specs.List.{All, Contains, filter, list_any}
 use Rattle.std.proofs.lemmas.Bool.{or_from, or_parts}
 use Rattle.std.proofs.lemmas.List.Elements.{All-append, All-contains, All-cons, All-head, All-nil, All-tail, All-weaker}
 use Rattle.std.proofs.lemmas.List.Folds.{list_any-append}
-use Rattle.bdb_mkfile.specs.of_format.declared.kinds.Kind.{Kind}
-use Rattle.bdb_mkfile.specs.of_format.declared.kinds.Kind.TheVariants.{Btree, Recno, Hash, Queue}
-use Rattle.bdb_mkfile.specs.of_format.declared.settings.Settings.{Settings}
-use Rattle.bdb_mkfile.specs.of_format.HeadOf.{is_page_size}
-use Rattle.bdb_mkfile.specs.of_format.Databases.{Database, databases, is_name}
-use Rattle.bdb_mkfile.specs.of_format.File.{file_of}
-use Rattle.bdb_mkfile.proofs.of_format.ListLemmas.{all_of}
-use Rattle.bdb_mkfile.proofs.of_format.MemberLemmas.{first_member, in_map, later_member, none_pass, none_passes, of_filter, of_map}
+use Rattle.bdb_format.specs.declared.kinds.Kind.{Kind}
+use Rattle.bdb_format.specs.declared.kinds.Kind.TheVariants.{Btree, Recno, Hash, Queue}
+use Rattle.bdb_format.specs.declared.settings.Settings.{Settings}
+use Rattle.bdb_format.specs.HeadOf.{is_page_size}
+use Rattle.bdb_format.specs.Databases.{Database, databases, is_name}
+use Rattle.bdb_format.specs.File.{file_of}
+use Rattle.bdb_format.proofs.ListLemmas.{all_of}
+use Rattle.bdb_format.proofs.MemberLemmas.{first_member, in_map, later_member, none_pass, none_passes, of_filter, of_map}
 use Rattle.bdb_mkfile.specs.of_text_format.declared.sections.Section.{Section}
 use Rattle.bdb_mkfile.specs.of_text_format.Reasons.{is_first}
 use Rattle.bdb_mkfile.specs.of_text_format.Written.{holds_records}

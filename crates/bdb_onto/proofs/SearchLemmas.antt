@@ -13,13 +13,13 @@ use Rattle.std.specs.declared.cmp.Ordering.TheVariants.{Less as Below, Equal, Gr
 use Rattle.std.proofs.lemmas.Bool.{false_from_ne_true}
 use Rattle.std.proofs.lemmas.Bool.Decides.{nat_tests}
 use Rattle.std.proofs.lemmas.List.Elements.{Contains-get_or}
-use Rattle.bdb_mkfile.specs.of_format.declared.metadata.BtreeMeta.{BtreeMeta}
-use Rattle.bdb_mkfile.specs.of_format.Databases.{Database, databases, is_name}
-use Rattle.bdb_mkfile.specs.of_format.File.{file_of, page_at}
-use Rattle.bdb_mkfile.specs.of_format.Less.{Less}
-use Rattle.bdb_mkfile.specs.of_format.Master.{master_in}
-use Rattle.bdb_mkfile.proofs.of_format.LessLemmas.{eq_same, eq_self, less_trans, not_less_both, not_less_same}
-use Rattle.bdb_mkfile.proofs.of_format.MemberLemmas.{first_member, in_map, later_member, of_map}
+use Rattle.bdb_format.specs.declared.metadata.BtreeMeta.{BtreeMeta}
+use Rattle.bdb_format.specs.Databases.{Database, databases, is_name}
+use Rattle.bdb_format.specs.File.{file_of, page_at}
+use Rattle.bdb_format.specs.Less.{Less}
+use Rattle.bdb_format.specs.Master.{master_in}
+use Rattle.bdb_format.proofs.LessLemmas.{eq_same, eq_self, less_trans, not_less_both, not_less_same}
+use Rattle.bdb_format.proofs.MemberLemmas.{first_member, in_map, later_member, of_map}
 use Rattle.bdb_mkfile.specs.of_layout.Seen.{OrderingIs}
 use Rattle.bdb_mkfile.proofs.of_layout.KeyLemmas.{slice_cmp-is}
 use Rattle.bdb_mkfile.specs.of_text_format.declared.sections.Section.{Section}

@@ -1,7 +1,7 @@
 -- Sections behind their partners, which are taken out of their places in the base. Source: docs/FORMAT.md, "Loading onto a file".
 use Rattle.std.specs.Prelude.{◌≡◌, ℕ, if◌then◌else◌, List, ◌++◌, map, set, slice_index_or, Option, Some, None}
 use Rattle.std.specs.List.{All}
-use Rattle.bdb_mkfile.specs.of_format.declared.kinds.Order.{Order}
+use Rattle.bdb_format.specs.declared.kinds.Order.{Order}
 use Rattle.bdb_mkfile.specs.of_text_format.declared.sections.Section.{Section}
 use Rattle.bdb_onto.specs.declared.base.Base.{Base}
 use Rattle.bdb_onto.specs.declared.joining.Placed.{Placed}

@@ -2,12 +2,12 @@
 use Rattle.std.specs.Prelude.{◌≡◌, ℕ, ◌*◌, nat_lt, ◌==◌, ◌&&◌, ◌||◌, not, if◌then◌else◌, Bool, true, false, List, [], ◌++◌, length, map, Option, Some}
 use Rattle.std.specs.Prelude.{None, is_some}
 use Rattle.std.specs.List.{All, AllZip, filter, find, flat_map, fold, list_any}
-use Rattle.bdb_mkfile.specs.of_format.declared.kinds.Kind.{Kind}
-use Rattle.bdb_mkfile.specs.of_format.declared.settings.Settings.{Settings}
-use Rattle.bdb_mkfile.specs.of_format.Databases.{Database, databases, is_name}
-use Rattle.bdb_mkfile.specs.of_format.File.{file_of}
-use Rattle.bdb_mkfile.specs.of_format.Lists.{list_of}
-use Rattle.bdb_mkfile.specs.of_format.Verdict.{verdict_of}
+use Rattle.bdb_format.specs.declared.kinds.Kind.{Kind}
+use Rattle.bdb_format.specs.declared.settings.Settings.{Settings}
+use Rattle.bdb_format.specs.Databases.{Database, databases, is_name}
+use Rattle.bdb_format.specs.File.{file_of}
+use Rattle.bdb_format.specs.Lists.{list_of}
+use Rattle.bdb_format.specs.Verdict.{verdict_of}
 use Rattle.bdb_mkfile.specs.of_text_format.declared.pairs.Pair.{Pair}
 use Rattle.bdb_mkfile.specs.of_text_format.declared.pairs.TextPair.{TextPair}
 use Rattle.bdb_mkfile.specs.of_text_format.declared.sections.Section.{Section}

@@ -4,8 +4,8 @@ use Rattle.std.specs.Cmp.Lexicographic.{slice_cmp}
 use Rattle.std.specs.List.{Contains}
 use Rattle.std.specs.Ordering.{nat_cmp}
 use Rattle.std.specs.declared.cmp.Ordering.{Ordering}
-use Rattle.bdb_mkfile.specs.of_format.Databases.{is_name}
-use Rattle.bdb_mkfile.specs.of_format.Less.{Less}
+use Rattle.bdb_format.specs.Databases.{is_name}
+use Rattle.bdb_format.specs.Less.{Less}
 use Rattle.bdb_mkfile.specs.of_text_format.declared.sections.Section.{Section}
 use Rattle.bdb_law_kept.proofs.LaterLemmas.{AllLater}
 use Rattle.bdb_mkfile.specs.Builds.{name_of}

@@ -1,5 +1,5 @@
-use bdb_mkfile::bdb_format::Order;
-use bdb_mkfile::bdb_text_format::Sections;
+use bdb_format::Order;
+use bdb_mkfile::Sections;
 
 /// The databases of a sound file with their lists, as what a text is loaded onto.
 #[derive(Drop)]

@@ -6,9 +6,10 @@ ghost use Rattle.bdb_onto.specs.Onto.{is_other, is_unlike, onto_error, onto_erro
 
 use crate::Base;
 use crate::partners::{is_misnamed, partner_of, settings_onto};
-use bdb_mkfile::bdb_format::{Kind, Settings};
-use bdb_mkfile::bdb_settle::{LoadError, is_among_names, is_too_wide, sooner_where, with_pairs};
-use bdb_mkfile::bdb_text_format::{Section, Sections};
+use bdb_format::{Kind, Settings};
+use bdb_mkfile::{
+    LoadError, Section, Sections, is_among_names, is_too_wide, sooner_where, with_pairs,
+};
 
 // Whether two kinds are the same.
 fn same_kind(a: Kind, b: Kind) -> bool

@@ -10,8 +10,8 @@ ghost use Rattle.bdb_onto.specs.Search.{IsWithin};
 
 use crate::Base;
 use crate::partners::place_of;
-use bdb_mkfile::bdb_format::{Order, Settings};
-use bdb_mkfile::bdb_text_format::{PairSlice, Section, Sections, TextPairs};
+use bdb_format::{Order, Settings};
+use bdb_mkfile::{PairSlice, Section, Sections, TextPairs};
 use std::alloc::{AllocError, Global};
 
 /// A section, and the place of its partner in the base, where it has one.

@@ -9,8 +9,7 @@ mod onto;
 mod partners;
 
 pub use base::Base;
-pub use bdb_law_kept::bdb_text;
-pub use bdb_mkfile;
-pub use bdb_mkfile::{bdb_io, bdb_settle};
+pub use bdb_law_kept::{TextError, read_dump};
+pub use bdb_mkfile::{LoadError, load};
 pub use errors::onto_error;
 pub use onto::{load_onto, settle_onto};

@@ -9,9 +9,8 @@ ghost use Rattle.bdb_onto.specs.Onto.{BuildsOnto, IsOntoRefusal, loading_error_o
 use crate::Base;
 use crate::errors::onto_error;
 use crate::joining::joined;
-use bdb_mkfile::bdb_io::Image;
-use bdb_mkfile::bdb_text_format::Sections;
-use bdb_mkfile::{LoadError, in_name_order, load, settle};
+use bdb_io::Image;
+use bdb_mkfile::{LoadError, Sections, in_name_order, load, settle};
 use std::alloc::Global;
 
 /// What loading sections onto a base gives: its databases in the order of their names, with their lists, and without lines. An error is the

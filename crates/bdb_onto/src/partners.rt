@@ -6,8 +6,8 @@ ghost use Rattle.bdb_onto.specs.Onto.{is_misnamed, partner_of, settings_onto};
 ghost use Rattle.bdb_onto.specs.Search.{AllNamed, IsPlaceOf, NamesRise, has_name, order_of};
 
 use crate::Base;
-use bdb_mkfile::bdb_format::Settings;
-use bdb_mkfile::bdb_text_format::{Section, Sections};
+use bdb_format::Settings;
+use bdb_mkfile::{Section, Sections};
 use std::cmp::Ordering;
 
 // The bytes of a database's name, none where it has none.

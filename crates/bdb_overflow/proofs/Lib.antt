@@ -10,7 +10,6 @@ pub mod RunLemmas
 pub mod TakenLemmas
 pub mod UnchainedLemmas
 pub mod WholeLemmas
-pub use Rattle.bdb_graph.proofs.of_faults as of_faults
 pub use Rattle.bdb_graph.proofs.of_form as of_form
 pub use Rattle.bdb_graph.proofs.of_format as of_format
 pub use Rattle.bdb_graph.proofs as of_graph

@@ -7,7 +7,6 @@ pub mod Prefix
 pub mod Runs
 pub mod Taken
 pub mod Whole
-pub use Rattle.bdb_graph.specs.of_faults as of_faults
 pub use Rattle.bdb_graph.specs.of_form as of_form
 pub use Rattle.bdb_graph.specs.of_format as of_format
 pub use Rattle.bdb_graph.specs as of_graph

@@ -7,9 +7,7 @@ ghost use Rattle.bdb_graph.specs.of_image.Linked.{IsForest};
 ghost use Rattle.bdb_overflow.specs.Lengths.{faults_at};
 
 use crate::lengths::has_wrong;
-use bdb_graph::Linked;
-use bdb_graph::bdb_faults::{FaultSink, First, NamedList, Row, StructureRow};
-use bdb_graph::bdb_format::Fault;
+use bdb_graph::{Fault, FaultSink, First, Linked, NamedList, Row, StructureRow};
 use std::alloc::AllocError;
 
 /// Each chain has the length that the items which name it tell. A refusal is the first fault: the least

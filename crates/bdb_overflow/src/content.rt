@@ -6,8 +6,7 @@ ghost use Rattle.bdb_graph.specs.of_format.File.{file_of};
 ghost use Rattle.bdb_overflow.specs.Datum.{FitsContent, datum_seen, single_value};
 
 use crate::{Datum, chain_pieces};
-use bdb_graph::Forest;
-use bdb_graph::bdb_layout::{Content, HashItem, InternalKey, LeafItem};
+use bdb_graph::{Content, Forest, HashItem, InternalKey, LeafItem};
 
 /// The value of what an item holds; a set, on or off the page, is none.
 #[tactic(auto, unfolding(crate::specs::Below::value_of))]

@@ -3,7 +3,7 @@ ghost use Rattle.bdb_graph.specs.of_format.Chains.{joined};
 ghost use Rattle.bdb_overflow.specs.Datum.{datum_seen};
 
 use crate::Pieces;
-use bdb_graph::bdb_format::Bytes;
+use bdb_graph::Bytes;
 use std::alloc::{AllocError, Global};
 
 /// A value: bytes of a page, or the pieces of its chain.

@@ -6,8 +6,7 @@ ghost use Rattle.bdb_overflow.specs.Datum.{FitsContent, datum_seen};
 ghost use Rattle.bdb_overflow.specs.Held.{FitsHeld, value_held};
 
 use crate::{Datum, chain_pieces};
-use bdb_graph::Forest;
-use bdb_graph::bdb_layout::{InternalKey, LeafItem};
+use bdb_graph::{Forest, InternalKey, LeafItem};
 
 /// A value as an item holds it: bytes of its page, or the head of its chain.
 #[derive(Clone, Copy, Debug)]

@@ -5,8 +5,7 @@ ghost use Rattle.bdb_graph.specs.of_layout.Seen.{leaf_item_seen};
 ghost use Rattle.bdb_overflow.specs.Datum.{FitsContent, datum_seen};
 
 use crate::{Datum, chain_pieces};
-use bdb_graph::Forest;
-use bdb_graph::bdb_layout::LeafItem;
+use bdb_graph::{Forest, LeafItem};
 
 /// Whether an item of a leaf is marked deleted.
 pub fn is_deleted(item: &LeafItem<'_>) -> bool

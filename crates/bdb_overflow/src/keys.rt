@@ -7,8 +7,7 @@ ghost use Rattle.bdb_overflow.specs.Datum.{datum_seen};
 ghost use Rattle.bdb_overflow.specs.Keys.{has_key, unless_new};
 
 use crate::{Datum, Key};
-use bdb_graph::bdb_faults::FaultSink;
-use bdb_graph::bdb_format::Fault;
+use bdb_graph::{Fault, FaultSink};
 use std::alloc::{AllocError, Global};
 use std::collections::BTreeSet;
 use std::marker::Model;

@@ -7,9 +7,9 @@ ghost use Rattle.bdb_graph.specs.of_format.Page.{DupLeaf, Hash, Internal, Leaf, 
 ghost use Rattle.bdb_overflow.specs.Datum.{FitsContent};
 ghost use Rattle.bdb_overflow.specs.Lengths.{has_wrong, is_wrong, is_wrong_entry, is_wrong_item, is_wrong_key};
 
-use bdb_graph::Linked;
-use bdb_graph::bdb_form::{DupLeafView, HashView, InternalView, LeafView, PageView, RecnoLeafView};
-use bdb_graph::bdb_layout::Content;
+use bdb_graph::{
+    Content, DupLeafView, HashView, InternalView, LeafView, Linked, PageView, RecnoLeafView,
+};
 
 /// Whether the pages of a chain don't add up to a length.
 fn is_wrong_length(linked: &Linked<'_>, head: u32, total: u32) -> bool

@@ -16,8 +16,15 @@ mod run;
 mod taken;
 mod values;
 
-pub use bdb_graph;
-pub use bdb_graph::{bdb_faults, bdb_form, bdb_format, bdb_layout};
+pub use bdb_graph::{
+    BtreeMeta, Bytes, CheckError, DupBlocks, DupLeafKind, DupLeafView, DupRoot, Fault, Forest,
+    Formed, HashItem, HashKind, HashMeta, HashView, Head, Header, InternalItem, InternalKey,
+    InternalView, Items, Kind, LeafItem, LeafKind, LeafPage, LeafView, Linked, Meta, Order,
+    PagePairs, PageView, Pair, QueueMeta, QueueView, RecnoInternalView, RecnoLeafKind,
+    RecnoLeafView, Ref, Settings, Sort, Steps, TreeRoot, Unsupported, Verdict, bucket_of, compare,
+    form, hash5, hash5_after, known_form, link, link_all, number_in, open_all, open_image,
+    plain_settings, put_u16, put_u32, u16_at, u32_at,
+};
 pub use chains::{chain_pieces, pieces};
 pub use check::{chain_faults, check_chains, note_chains};
 pub use content::{content_datum, hash_datum, key_datum, leaf_datum};

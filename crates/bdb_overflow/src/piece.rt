@@ -8,9 +8,7 @@ ghost use Rattle.bdb_overflow.specs.Taken.{ArePassedBy, ArePassedIfAny, IsOnWay,
 ghost use Rattle.bdb_overflow.specs.Whole.{IsLeft, IsWholeChain, bytes_of, pieces_from};
 
 use crate::taken::Taken;
-use bdb_graph::Blanks;
-use bdb_graph::bdb_format::Order;
-use bdb_graph::bdb_layout::{u16_at, u32_at};
+use bdb_graph::{Blanks, Order, u16_at, u32_at};
 use std::marker::Model;
 
 /// The bytes of a page that the image has whole.

@@ -4,7 +4,7 @@ ghost use Rattle.bdb_overflow.specs.Datum.{datum_seen};
 ghost use Rattle.bdb_overflow.specs.Runs.{run_seen};
 
 use crate::{Datum, Pieces};
-use bdb_graph::bdb_layout::compare;
+use bdb_graph::compare;
 use std::cmp::Ordering;
 
 /// The bytes of a value that are left: those that stand together in front, and the pieces after them.

@@ -5,9 +5,7 @@ ghost use Rattle.bdb_graph.specs.of_image.Linked.{FitsChain};
 ghost use Rattle.bdb_overflow.specs.Held.{FitsHeld, chain_value, value_held};
 
 use crate::{Datum, Held, chain_pieces, is_less};
-use bdb_graph::Forest;
-use bdb_graph::bdb_form::PageView;
-use bdb_graph::bdb_layout::compare;
+use bdb_graph::{Forest, PageView, compare};
 use std::alloc::{AllocError, Global};
 use std::cmp::Ordering;
 use std::collections::BTreeMap;

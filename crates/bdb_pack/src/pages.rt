@@ -12,10 +12,9 @@ ghost use Rattle.bdb_pack.specs.OnPages.{HasPlaceOn, HasRoomOn, IsBegunOn, has_r
 ghost use Rattle.bdb_pack.specs.Placing.{CanShare, HasRoom, IsOpen, begun_page, entered, has_room, high_free_of, page_and_item, page_and_shared, place_below};
 ghost use Rattle.bdb_pack.specs.Built.{AreWhole, bytes_of, joined_pages, with_copy, with_page, with_zeros, without_last};
 
-use bdb_layout::bdb_format::{Bytes, Header, Order, RecnoItem};
 use bdb_layout::{
-    HashItem, InternalItem, InternalKey, LeafItem, put_hash_item, put_header, put_internal_item,
-    put_leaf_item, put_recno_item, put_u16, u16_at,
+    Bytes, HashItem, Header, InternalItem, InternalKey, LeafItem, Order, RecnoItem, put_hash_item,
+    put_header, put_internal_item, put_leaf_item, put_recno_item, put_u16, u16_at,
 };
 use std::alloc::{AllocError, Global};
 use std::marker::Model;

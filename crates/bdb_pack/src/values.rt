@@ -6,8 +6,7 @@ ghost use Rattle.bdb_pack.specs.Built.{with_page};
 ghost use Rattle.bdb_pack.specs.Values.{IsStored, chain_page, piece_length, piece_next, with_piece};
 
 use crate::Pages;
-use bdb_layout::bdb_format::{Header, Order};
-use bdb_layout::put_header;
+use bdb_layout::{Header, Order, put_header};
 use std::alloc::AllocError;
 
 /// Where a value stands: on the page, or in a chain of its own.

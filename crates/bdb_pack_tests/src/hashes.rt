@@ -6,9 +6,7 @@ ghost use Rattle.bdb_form.specs.of_layout.Seen.{HasOrder};
 
 use crate::Sheet;
 use crate::spelled::{FILLING, Spelled, header};
-use bdb_form::bdb_format::Order;
-use bdb_form::bdb_layout::{DupBlocks, HashItem};
-use bdb_form::{PageView, form};
+use bdb_form::{DupBlocks, HashItem, Order, PageView, form};
 use std::test::Fail;
 
 // The blocks `x` and `yz`.

@@ -5,9 +5,7 @@ ghost use Rattle.std.specs.Prelude.{◌≤◌};
 
 use crate::Sheet;
 use crate::spelled::{FILLING, Spelled, header};
-use bdb_form::bdb_format::{Order, RecnoItem};
-use bdb_form::bdb_layout::{InternalItem, InternalKey};
-use bdb_form::{PageView, form};
+use bdb_form::{InternalItem, InternalKey, Order, PageView, RecnoItem, form};
 use std::alloc::{AllocError, Global};
 use std::test::Fail;
 

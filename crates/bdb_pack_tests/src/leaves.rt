@@ -3,9 +3,7 @@
 
 use crate::Sheet;
 use crate::spelled::{FILLING, Spelled, header};
-use bdb_form::bdb_format::Order;
-use bdb_form::bdb_layout::LeafItem;
-use bdb_form::{PageView, form};
+use bdb_form::{LeafItem, Order, PageView, form};
 use std::alloc::{AllocError, Global};
 use std::test::Fail;
 

@@ -7,8 +7,7 @@ ghost use Rattle.bdb_pack.specs.Items.{OnHash, OnInternal, OnLeaf, OnRecno, take
 ghost use Rattle.bdb_pack.specs.Placing.{CanShare};
 ghost use Rattle.bdb_pack_tests.specs.Sheet.{HasPairs, Takes};
 
-use bdb_form::bdb_format::{Header, Order, RecnoItem};
-use bdb_form::bdb_layout::{HashItem, InternalItem, LeafItem, u16_at};
+use bdb_form::{HashItem, Header, InternalItem, LeafItem, Order, RecnoItem, u16_at};
 use bdb_pack::Pages;
 use std::alloc::{AllocError, Global};
 use std::marker::Model;

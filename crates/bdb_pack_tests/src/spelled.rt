@@ -2,7 +2,7 @@
 
 ghost use Rattle.std.specs.Prelude.{◌≡◌};
 
-use bdb_form::bdb_format::{Header, Order};
+use bdb_form::{Header, Order};
 
 /// A page in an order: the bytes at its front and at its end. All between them are 0.
 #[derive(Clone, Copy)]

@@ -4,8 +4,7 @@
 ghost use Rattle.std.specs.Prelude.{◌≤◌, IsTrue, length};
 ghost use Rattle.bdb_form.specs.of_format.HeadOf.{is_page_size};
 
-use bdb_form::bdb_format::{Bytes, Header, Order};
-use bdb_form::{PageView, form};
+use bdb_form::{Bytes, Header, Order, PageView, form};
 use bdb_pack::{Pages, Stored, push_value};
 use std::alloc::{AllocError, Global};
 use std::test::Fail;

@@ -1,8 +1,7 @@
 //! Each row of form first on a page of each type that can have it, in both orders, and good pages read back.
 
 use bdb_form::{HashView, LeafView, PageView, RecnoLeafView, form, queue_form};
-use bdb_meta::bdb_format::Order;
-use bdb_meta::bdb_layout::{HashItem, InternalKey, LeafItem, put_u16, put_u32};
+use bdb_meta::{HashItem, InternalKey, LeafItem, Order, put_u16, put_u32};
 use std::process::Abort;
 
 const SIZE: usize = 512;

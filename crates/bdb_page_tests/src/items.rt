@@ -1,7 +1,6 @@
 //! The hash of keys, and one item of a leaf read, deleted and refused. Values: docs/FORMAT.md.
 
-use bdb_meta::bdb_format::Order;
-use bdb_meta::bdb_layout::{ItemFault, LeafItem, hash5, header, index_end, leaf_item};
+use bdb_meta::{ItemFault, LeafItem, Order, hash5, header, index_end, leaf_item};
 
 // The sample file's page 1: `a` at 508, `b` at 504.
 const FIELDS: [(usize, u8); 12] = [

@@ -1,11 +1,9 @@
 use self::Put::{Byte, Number};
 use bdb_meta::FileKind::{Btree, Hash, Queue};
 use bdb_meta::MetaFault::{Fault, Unsupported as LeftOut};
-use bdb_meta::bdb_format::{Order, Unsupported};
-use bdb_meta::bdb_layout::put_u32;
 use bdb_meta::{
-    BtreeMeta, FileKind, HashMeta, Head, MetaFault, QueueMeta, btree_meta, hash_meta, head,
-    put_btree_meta, put_hash_meta, put_queue_meta, queue_meta,
+    BtreeMeta, FileKind, HashMeta, Head, MetaFault, Order, QueueMeta, Unsupported, btree_meta,
+    hash_meta, head, put_btree_meta, put_hash_meta, put_queue_meta, put_u32, queue_meta,
 };
 use std::process::Abort;
 

@@ -5,8 +5,7 @@ ghost use Rattle.bdb_overflow.specs.of_format.Lists.{queue_list};
 ghost use Rattle.bdb_overflow.specs.of_format.Page.{QueueFields};
 
 use crate::Scan;
-use bdb_overflow::bdb_format::QueueMeta;
-use bdb_overflow::bdb_graph::Linked;
+use bdb_overflow::{Linked, QueueMeta};
 
 /// The live records of the queue with this metadata, in order. It goes over the pages of the file, and takes
 /// no memory.

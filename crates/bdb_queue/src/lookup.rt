@@ -8,10 +8,7 @@ ghost use Rattle.bdb_overflow.specs.Datum.{datum_seen};
 ghost use Rattle.bdb_queue.specs.Records.{data_in, record_in_slot, records_seen};
 
 use crate::record::{Record, record_in};
-use bdb_overflow::Datum;
-use bdb_overflow::bdb_form::PageView;
-use bdb_overflow::bdb_format::{QueueMeta, Steps};
-use bdb_overflow::bdb_graph::{Forest, Linked};
+use bdb_overflow::{Datum, Forest, Linked, PageView, QueueMeta, Steps};
 use std::marker::Model;
 use std::sync::ledger::Ledger;
 

@@ -3,8 +3,7 @@ ghost use Rattle.bdb_overflow.specs.of_format.Lists.{listed_slot, record_number}
 ghost use Rattle.bdb_overflow.specs.of_format.Numbers.{pad4};
 ghost use Rattle.bdb_queue.specs.Records.{records_seen};
 
-use bdb_overflow::bdb_form::QueueView;
-use bdb_overflow::bdb_format::QueueMeta;
+use bdb_overflow::{QueueMeta, QueueView};
 
 /// A live record of a queue.
 #[derive(Clone, Copy)]

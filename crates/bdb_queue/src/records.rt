@@ -7,9 +7,7 @@ ghost use Rattle.bdb_overflow.specs.of_format.Page.{QueueFields};
 ghost use Rattle.bdb_overflow.specs.Datum.{datum_seen, key_view_seen};
 
 use crate::walk::{Place, first_from};
-use bdb_overflow::bdb_format::QueueMeta;
-use bdb_overflow::bdb_graph::Forest;
-use bdb_overflow::{Datum, KeyView};
+use bdb_overflow::{Datum, Forest, KeyView, QueueMeta};
 use std::marker::Model;
 
 /// The live records of a queue that are left, each under its number.

@@ -5,9 +5,7 @@ ghost use Rattle.bdb_overflow.specs.of_format.Page.{QueueFields};
 ghost use Rattle.bdb_queue.specs.Records.{HasSlots, left_from, record_seen, records_from, slots_from};
 
 use crate::record::{Record, record_in};
-use bdb_overflow::bdb_form::{PageView, QueueView};
-use bdb_overflow::bdb_format::QueueMeta;
-use bdb_overflow::bdb_graph::Forest;
+use bdb_overflow::{Forest, PageView, QueueMeta, QueueView};
 
 /// The first record of a page from a slot on, and the slot after it.
 #[tactic(auto, using(crate::proofs::RecordLemmas::none_from, crate::proofs::RecordLemmas::next_from, crate::proofs::RecordLemmas::slot_room))]

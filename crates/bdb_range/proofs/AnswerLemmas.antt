@@ -14,9 +14,9 @@ use Rattle.bdb_btree.proofs.of_format.FileLemmas.{count_is}
 use Rattle.bdb_btree.specs.of_image.Linked.{HasMetadata, IsForest}
 use Rattle.bdb_btree.proofs.of_image.FirstLemmas.{formed_accepted}
 use Rattle.bdb_btree.proofs.of_image.FormedLemmas.{accepted_paged}
-use Rattle.bdb_btree.specs.of_tree.Descent.{descent}
-use Rattle.bdb_btree.specs.of_tree.Trees.{IsRoot}
-use Rattle.bdb_btree.proofs.of_tree.LinkLemmas.{few_leaves}
+use Rattle.bdb_tree.specs.Descent.{descent}
+use Rattle.bdb_tree.specs.Trees.{IsRoot}
+use Rattle.bdb_tree.proofs.LinkLemmas.{few_leaves}
 use Rattle.bdb_btree.specs.Pairs.{AreLeaves}
 use Rattle.bdb_btree.specs.Search.{is_below}
 use Rattle.bdb_btree.proofs.WalkLemmas.{are_leaves}

@@ -6,7 +6,7 @@ use Rattle.bdb_btree.specs.of_format.HeadOf.{head_of}
 use Rattle.bdb_btree.specs.of_format.Page.{BtreeFields}
 use Rattle.bdb_btree.specs.of_image.Linked.{HasMetadata, IsForest}
 use Rattle.bdb_btree.proofs.of_graph.LinkedLemmas.{root_fits}
-use Rattle.bdb_btree.specs.of_tree.Trees.{IsRoot}
+use Rattle.bdb_tree.specs.Trees.{IsRoot}
 use Rattle.bdb_btree.specs.Pairs.{AreLeaves}
 
 pub is_root : (image : List ℕ) (meta : BtreeMeta) → IsForest image → HasMetadata (file_of image) (BtreeFields meta) → IsRoot (file_of image) meta.root

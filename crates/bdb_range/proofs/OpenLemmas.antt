@@ -15,9 +15,9 @@ use Rattle.bdb_btree.specs.of_format.Verdict.{structure_faults}
 use Rattle.bdb_btree.proofs.of_format.MemberLemmas.{first_member, in_flat_map, member_cases, no_member, of_flat_map}
 use Rattle.bdb_btree.specs.of_image.Linked.{FitsLeafPage, HasMetadata, IsForest}
 use Rattle.bdb_btree.proofs.of_graph.LinkedLemmas.{root_fits}
-use Rattle.bdb_btree.specs.of_tree.Trees.{IsRoot}
-use Rattle.bdb_btree.proofs.of_tree.LinkLemmas.{root_within}
-use Rattle.bdb_btree.proofs.of_tree.TreeLemmas.{leaf_fits, root_is_tree}
+use Rattle.bdb_tree.specs.Trees.{IsRoot}
+use Rattle.bdb_tree.proofs.LinkLemmas.{root_within}
+use Rattle.bdb_tree.proofs.TreeLemmas.{leaf_fits, root_is_tree}
 use Rattle.bdb_btree.specs.Pairs.{AreFit, AreLeaves, Each, FitsPair}
 use Rattle.bdb_btree.specs.Search.{AreOpen}
 use Rattle.bdb_btree.proofs.RowLemmas.{tree_pairs_fit}

@@ -26,7 +26,7 @@ use Rattle.bdb_btree.specs.of_format.Verdict.{holding}
 use Rattle.bdb_btree.proofs.of_format.BoolLemmas.{second_false}
 use Rattle.bdb_btree.proofs.of_format.PairLemmas.{keyed_rows, neighbour_in}
 use Rattle.bdb_btree.proofs.of_format.VerdictLemmas.{AllFail, all_fail, no_codes_at}
-use Rattle.bdb_btree.proofs.of_tree.PairLemmas.{tree_pair_inside}
+use Rattle.bdb_tree.proofs.PairLemmas.{tree_pair_inside}
 use Rattle.bdb_btree.proofs.FallLemmas.{dont_fall, tree_keys}
 use Rattle.bdb_btree.specs.Bounds.{DontFall}
 use Rattle.bdb_range.specs.Ranges.{lies_between}

@@ -18,10 +18,10 @@ use Rattle.bdb_btree.proofs.of_format.MemberLemmas.{in_flat_map, in_map, no_memb
 use Rattle.bdb_btree.proofs.of_format.TypeLemmas.{tree_keyed}
 use Rattle.bdb_btree.specs.of_image.Linked.{IsForest}
 use Rattle.bdb_btree.specs.of_slots.Slots.{no_internal_item}
-use Rattle.bdb_btree.specs.of_tree.Descent.{IsLastFalse, chosen, descent, next_below}
-use Rattle.bdb_btree.proofs.of_tree.DescentLemmas.{chosen_is, internal_inside, internal_is, is_inner, is_inner_below}
-use Rattle.bdb_btree.proofs.of_tree.TreeLemmas.{HasTypeAt, IsChild, child_is, leaves_of_inner, leaves_of_leaf, level, tree_cases, tree_level}
-use Rattle.bdb_btree.proofs.of_tree.WayLemmas.{chosen_among}
+use Rattle.bdb_tree.specs.Descent.{IsLastFalse, chosen, descent, next_below}
+use Rattle.bdb_tree.proofs.DescentLemmas.{chosen_is, internal_inside, internal_is, is_inner, is_inner_below}
+use Rattle.bdb_tree.proofs.TreeLemmas.{HasTypeAt, IsChild, child_is, leaves_of_inner, leaves_of_leaf, level, tree_cases, tree_level}
+use Rattle.bdb_tree.proofs.WayLemmas.{chosen_among}
 use Rattle.bdb_btree.specs.Search.{is_below}
 use Rattle.bdb_btree.proofs.FindLemmas.{AllSeparated, AreSeparated, all_separated, keyed_inner, last_from, no_inner, step_down}
 use Rattle.bdb_btree.proofs.InnerLemmas.{child_keyed}

@@ -11,7 +11,7 @@ use Rattle.bdb_btree.specs.of_format.Less.{less}
 use Rattle.bdb_btree.specs.of_format.Lists.{btree_list, listed_pair}
 use Rattle.bdb_btree.specs.of_format.Page.{BtreeFields}
 use Rattle.bdb_btree.specs.of_image.Linked.{HasMetadata, IsForest}
-use Rattle.bdb_btree.specs.of_tree.Descent.{descent}
+use Rattle.bdb_tree.specs.Descent.{descent}
 use Rattle.bdb_btree.specs.Search.{is_below}
 use Rattle.bdb_range.specs.Ranges.{in_range, lies_between}
 use Rattle.bdb_range.specs.InRange.{empty_leaves, holding_leaves, pairs_between}

@@ -12,11 +12,11 @@ ghost use Rattle.bdb_range.specs.Ranges.{in_range, lies_between};
 ghost use Rattle.bdb_range.specs.Spans.{Covers};
 
 use crate::Span;
-use bdb_btree::bdb_format::BtreeMeta;
-use bdb_btree::bdb_graph::{Forest, Linked, Ref};
-use bdb_btree::bdb_overflow::{Datum, KeyView, is_less};
-use bdb_btree::bdb_tree::{Leaves, leaves};
-use bdb_btree::{Entries, PagePairs, Pair, next_entry, next_pair, page_pairs, pair_entries};
+use bdb_btree::{
+    BtreeMeta, Datum, Entries, Forest, KeyView, Linked, PagePairs, Pair, Ref, is_less, next_entry,
+    next_pair, page_pairs, pair_entries,
+};
+use bdb_tree::{Leaves, leaves};
 use std::marker::Model;
 
 /// The pairs of so many leaves that are left, in order.

@@ -2,7 +2,6 @@ mod Below
 pub mod HeadLemmas
 pub mod RankLemmas
 pub mod SharedLemmas
-pub use Rattle.bdb_tree.proofs.of_faults as of_faults
 pub use Rattle.bdb_tree.proofs.of_form as of_form
 pub use Rattle.bdb_tree.proofs.of_format as of_format
 pub use Rattle.bdb_tree.proofs.of_graph as of_graph

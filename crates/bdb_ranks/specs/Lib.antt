@@ -1,6 +1,5 @@
 pub mod Ranks
 pub mod Shared
-pub use Rattle.bdb_tree.specs.of_faults as of_faults
 pub use Rattle.bdb_tree.specs.of_form as of_form
 pub use Rattle.bdb_tree.specs.of_format as of_format
 pub use Rattle.bdb_tree.specs.of_graph as of_graph

@@ -6,8 +6,7 @@ ghost use Rattle.bdb_ranks.specs.Ranks.{AreRanks, is_above, value_less};
 ghost use Rattle.bdb_ranks.specs.Shared.{AreShared};
 
 use crate::shared::{SharedChain, shared_chains};
-use bdb_tree::bdb_graph::Forest;
-use bdb_tree::bdb_overflow::{compare_datum, is_less};
+use bdb_tree::{Forest, compare_datum, is_less};
 use std::alloc::{AllocError, Global};
 use std::cmp::Ordering;
 use std::collections::BTreeMap;

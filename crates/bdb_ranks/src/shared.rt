@@ -4,9 +4,7 @@ ghost use Rattle.bdb_tree.specs.of_image.Linked.{IsForest};
 ghost use Rattle.bdb_tree.specs.of_overflow.Datum.{datum_seen};
 ghost use Rattle.bdb_ranks.specs.Shared.{AreShared, IsShared};
 
-use bdb_tree::bdb_form::PageView;
-use bdb_tree::bdb_graph::Forest;
-use bdb_tree::bdb_overflow::{Datum, chain_pieces};
+use bdb_tree::{Datum, Forest, PageView, chain_pieces};
 use std::alloc::{AllocError, Global};
 use std::marker::Model;
 

@@ -6,8 +6,7 @@ ghost use Rattle.bdb_tree.specs.of_overflow.Held.{FitsHeld, chain_value, value_h
 ghost use Rattle.bdb_ranks.specs.Ranks.{AreRanks};
 
 use crate::ranking::ranks_of;
-use bdb_tree::bdb_graph::Forest;
-use bdb_tree::bdb_overflow::{Held, Values as OwnValues, is_shared};
+use bdb_tree::{Forest, Held, Values as OwnValues, is_shared};
 use std::alloc::{AllocError, Global};
 use std::collections::BTreeMap;
 use std::marker::Model;

@@ -11,9 +11,10 @@ ghost use Rattle.bdb_btree.specs.of_format.Flags.{is_recno};
 
 use crate::real_images::{self, Image};
 use crate::{real_btree_lists, real_btrees, real_lists, real_set_lists};
-use bdb_btree::bdb_format::{BtreeMeta, HashMeta, QueueMeta, Steps};
-use bdb_btree::bdb_graph::{Linked, Meta, link, open_image};
-use bdb_btree::bdb_overflow::{Datum, KeyView, compare_datum};
+use bdb_btree::{
+    BtreeMeta, Datum, HashMeta, KeyView, Linked, Meta, QueueMeta, Steps, compare_datum, link,
+    open_image,
+};
 use std::alloc::Global;
 use std::cmp::Ordering;
 use std::marker::Brand;

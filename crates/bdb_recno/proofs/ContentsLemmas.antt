@@ -1,6 +1,6 @@
 -- The faults that are noted of a recno are those of its contents.
 use Rattle.std.proofs.lemmas.Bool.{and_parts, and_from, false_from_ne_true}
-use Rattle.bdb_tree.specs.of_faults.Rows.{contents_code}
+use Rattle.bdb_faults.specs.Rows.{contents_code}
 use Rattle.bdb_tree.proofs.of_format.ListLemmas.{only_member}
 use Rattle.std.proofs.Common.{◌≡◌, ◌⊎◌, ℕ, zero, suc, ◌+◌, ◌≤◌, Bool, true, false, cond, List, [], ◌∷◌, ◌++◌, arith, refl, sym, ◌∙◌, ap}
 use Rattle.std.proofs.Common.{subst, inl, inr}
@@ -8,8 +8,8 @@ use Rattle.std.specs.Prelude.{◌&&◌}
 use Rattle.std.specs.List.{All, Contains, filter}
 use Rattle.std.specs.Option.{is_some}
 use Rattle.std.proofs.lemmas.List.Elements.{All-contains, Contains-append_cases, Contains-append_left, Contains-append_right}
-use Rattle.bdb_tree.specs.of_faults.Notes.{NotesAll}
-use Rattle.bdb_tree.proofs.of_faults.SinkLemmas.{notes_both, notes_same}
+use Rattle.bdb_faults.specs.Notes.{NotesAll}
+use Rattle.bdb_faults.proofs.SinkLemmas.{notes_both, notes_same}
 use Rattle.bdb_tree.specs.of_image.Linked.{HasMetadata, IsForest}
 use Rattle.bdb_tree.specs.of_format.declared.kinds.Fault.{Fault}
 use Rattle.bdb_tree.specs.of_format.declared.metadata.BtreeMeta.{BtreeMeta}
@@ -25,8 +25,8 @@ use Rattle.bdb_tree.proofs.of_format.VerdictLemmas.{InOrder, in_by_page, of_by_p
 use Rattle.bdb_tree.specs.of_format.Flags.{is_fixed, is_recno}
 use Rattle.bdb_recno.specs.Counts.{HasRightCounts}
 use Rattle.bdb_recno.specs.Noted.{count_faults, length_faults}
-use Rattle.bdb_tree.specs.of_faults.declared.rows.ContentsRow.{ContentsRow}
-use Rattle.bdb_tree.specs.of_faults.declared.rows.ContentsRow.TheVariants.{Count, RecordLength}
+use Rattle.bdb_faults.specs.declared.rows.ContentsRow.{ContentsRow}
+use Rattle.bdb_faults.specs.declared.rows.ContentsRow.TheVariants.{Count, RecordLength}
 use Rattle.bdb_recno.specs.Pages.{IsRecnoPage}
 use Rattle.bdb_recno.proofs.CountLemmas.{all_one, level_below, next_recno}
 use Rattle.bdb_recno.proofs.NotedLemmas.{in_faults_on, in_wrong_at, of_faults_on, of_wrong_at}

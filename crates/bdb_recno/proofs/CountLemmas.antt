@@ -7,11 +7,11 @@ use Rattle.std.specs.List.{All, Contains, flat_map, list_any}
 use Rattle.std.specs.Option.{unwrap_or}
 use Rattle.std.proofs.lemmas.List.Elements.{All-contains}
 use Rattle.std.proofs.Math.Bool.{or-false, or_assoc}
-use Rattle.bdb_tree.specs.of_faults.Notes.{Notes, NotesAll}
-use Rattle.bdb_tree.proofs.of_faults.SinkLemmas.{notes_both, notes_none, notes_one}
-use Rattle.bdb_tree.specs.of_faults.Rows.{fault_if}
-use Rattle.bdb_tree.specs.of_faults.declared.rows.ContentsRow.TheVariants.{Count}
-use Rattle.bdb_tree.specs.of_faults.declared.rows.Row.TheVariants.{Contents}
+use Rattle.bdb_faults.specs.Notes.{Notes, NotesAll}
+use Rattle.bdb_faults.proofs.SinkLemmas.{notes_both, notes_none, notes_one}
+use Rattle.bdb_faults.specs.Rows.{fault_if}
+use Rattle.bdb_faults.specs.declared.rows.ContentsRow.TheVariants.{Count}
+use Rattle.bdb_faults.specs.declared.rows.Row.TheVariants.{Contents}
 use Rattle.bdb_tree.specs.of_format.declared.kinds.Fault.{Fault}
 use Rattle.bdb_tree.specs.of_format.declared.pages.RecnoItem.{RecnoItem}
 use Rattle.bdb_tree.specs.of_format.ContentRows.{has_wrong_count, inner_pages}

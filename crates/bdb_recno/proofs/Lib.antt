@@ -6,7 +6,7 @@ pub mod NotedLemmas
 pub mod PageLemmas
 pub mod ScanLemmas
 pub mod SearchLemmas
-pub use Rattle.bdb_tree.proofs.of_faults as of_faults
+pub use Rattle.bdb_faults.proofs as of_faults
 pub use Rattle.bdb_tree.proofs.of_format as of_format
 pub use Rattle.bdb_tree.proofs.of_graph as of_graph
 pub use Rattle.bdb_tree.proofs.of_image as of_image

@@ -4,10 +4,10 @@ use Rattle.std.proofs.Common.{◌≡◌, ℕ, ◌+◌, ◌<◌, Bool, true, fals
 use Rattle.std.specs.List.{Contains}
 use Rattle.std.proofs.lemmas.Bool.{and_parts, eqb-true, eq-eqb}
 use Rattle.std.proofs.lemmas.List.Folds.{list_any_at}
-use Rattle.bdb_tree.specs.of_faults.Notes.{Notes, NotesAll}
-use Rattle.bdb_tree.proofs.of_faults.SinkLemmas.{notes_next, notes_one, notes_push}
-use Rattle.bdb_tree.specs.of_faults.Rows.{contents_code, fault_if}
-use Rattle.bdb_tree.specs.of_faults.declared.rows.Row.TheVariants.{Contents}
+use Rattle.bdb_faults.specs.Notes.{Notes, NotesAll}
+use Rattle.bdb_faults.proofs.SinkLemmas.{notes_next, notes_one, notes_push}
+use Rattle.bdb_faults.specs.Rows.{contents_code, fault_if}
+use Rattle.bdb_faults.specs.declared.rows.Row.TheVariants.{Contents}
 use Rattle.bdb_tree.specs.of_format.declared.kinds.Fault.{Fault}
 use Rattle.bdb_tree.specs.of_format.ContentRows.{is_wrong_at}
 use Rattle.bdb_tree.specs.of_format.File.{File, page_at}
@@ -15,7 +15,7 @@ use Rattle.bdb_tree.specs.of_format.Page.{Page}
 use Rattle.bdb_tree.proofs.of_format.ListLemmas.{any_member, only_member}
 use Rattle.bdb_tree.proofs.of_format.MemberLemmas.{first_member, in_flat_map, no_member, of_flat_map}
 use Rattle.bdb_recno.specs.Noted.{fault_on, faults_on}
-use Rattle.bdb_tree.specs.of_faults.declared.rows.ContentsRow.{ContentsRow}
+use Rattle.bdb_faults.specs.declared.rows.ContentsRow.{ContentsRow}
 
 pub of_wrong_at : (file : File) (test : Page → Bool) (pages : List ℕ) (p : ℕ) → is_wrong_at file test pages p ≡ true
     → Contains pages p × (test (page_at file p) ≡ true)

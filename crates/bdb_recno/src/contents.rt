@@ -1,6 +1,6 @@
 ghost use Rattle.std.specs.Prelude.{◌≡◌, [], IfErr, IsTrue, OnOk, if◌then◌else◌};
-ghost use Rattle.bdb_tree.specs.of_faults.Named.{HasNoted};
-ghost use Rattle.bdb_tree.specs.of_faults.Notes.{NotesAll};
+ghost use Rattle.bdb_faults.specs.Named.{HasNoted};
+ghost use Rattle.bdb_faults.specs.Notes.{NotesAll};
 ghost use Rattle.bdb_tree.specs.of_image.Linked.{HasMetadata, IsForest};
 ghost use Rattle.bdb_tree.specs.of_format.ContentRows.{database_faults};
 ghost use Rattle.bdb_tree.specs.of_format.File.{file_of};
@@ -15,9 +15,8 @@ ghost use Rattle.bdb_tree.specs.Trees.{IsRoot};
 use crate::counts::note_counts;
 use crate::lengths::note_lengths;
 use crate::page::pages_of;
-use bdb_tree::bdb_faults::{FaultSink, First, NamedList};
-use bdb_tree::bdb_format::{BtreeMeta, CheckError};
-use bdb_tree::bdb_graph::{Forest, Linked};
+use bdb_faults::{FaultSink, First, NamedList};
+use bdb_tree::{BtreeMeta, CheckError, Forest, Linked};
 use std::alloc::AllocError;
 
 /// The contents of a recno: the counts of its internal pages and, where records have a fixed length, the

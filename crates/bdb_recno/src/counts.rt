@@ -1,5 +1,5 @@
 ghost use Rattle.std.specs.Prelude.{◌≡◌, IfOk, OnOk, length};
-ghost use Rattle.bdb_tree.specs.of_faults.Notes.{NotesAll};
+ghost use Rattle.bdb_faults.specs.Notes.{NotesAll};
 ghost use Rattle.bdb_tree.specs.of_image.Linked.{IsForest};
 ghost use Rattle.bdb_tree.specs.of_format.ContentRows.{inner_pages};
 ghost use Rattle.bdb_tree.specs.of_format.Contents.{tree_entries};
@@ -9,8 +9,8 @@ ghost use Rattle.bdb_recno.specs.Noted.{count_faults};
 ghost use Rattle.bdb_recno.specs.Pages.{IsRecnoPage};
 
 use crate::page::{RecnoPage, recno_page};
-use bdb_tree::bdb_faults::{ContentsRow, FaultSink, Row, note_if};
-use bdb_tree::bdb_graph::Forest;
+use bdb_faults::{ContentsRow, FaultSink, Row, note_if};
+use bdb_tree::Forest;
 use std::alloc::AllocError;
 
 /// How many entries stand at or below a page, up to the greatest number, while the internal pages there that have a wrong count

@@ -14,9 +14,7 @@ ghost use Rattle.bdb_recno.specs.Pages.{IsRecnoPage};
 
 use crate::page::pages_of;
 use crate::search::entry_below;
-use bdb_tree::bdb_format::{BtreeMeta, Steps};
-use bdb_tree::bdb_graph::{Forest, Linked};
-use bdb_tree::bdb_overflow::{Datum, is_deleted, value_of};
+use bdb_tree::{BtreeMeta, Datum, Forest, Linked, Steps, is_deleted, value_of};
 use std::marker::Model;
 use std::sync::ledger::Ledger;
 

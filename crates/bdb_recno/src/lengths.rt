@@ -1,5 +1,5 @@
 ghost use Rattle.std.specs.Prelude.{◌≡◌, [], OnOk, length};
-ghost use Rattle.bdb_tree.specs.of_faults.Notes.{NotesAll};
+ghost use Rattle.bdb_faults.specs.Notes.{NotesAll};
 ghost use Rattle.bdb_tree.specs.of_image.Linked.{IsForest};
 ghost use Rattle.bdb_tree.specs.of_layout.Seen.{leaf_item_seen};
 ghost use Rattle.bdb_tree.specs.of_format.Chains.{value_of};
@@ -13,12 +13,8 @@ ghost use Rattle.bdb_recno.specs.Pages.{IsRecnoLeaf, IsRecnoPage};
 ghost use Rattle.bdb_tree.specs.Trees.{IsRoot};
 
 use crate::page::leaf_at;
-use bdb_tree::bdb_faults::{ContentsRow, FaultSink, Row, note_if};
-use bdb_tree::bdb_format::BtreeMeta;
-use bdb_tree::bdb_graph::{Forest, Linked};
-use bdb_tree::bdb_layout::LeafItem;
-use bdb_tree::bdb_overflow::is_deleted;
-use bdb_tree::tree_leaves;
+use bdb_faults::{ContentsRow, FaultSink, Row, note_if};
+use bdb_tree::{BtreeMeta, Forest, LeafItem, Linked, is_deleted, tree_leaves};
 use std::alloc::AllocError;
 
 /// How many bytes a record has. A chain isn't gone through: its length was counted when the file was linked.

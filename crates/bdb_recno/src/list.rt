@@ -8,9 +8,7 @@ ghost use Rattle.bdb_tree.specs.of_format.Verdict.{structure_faults};
 
 use crate::Scan;
 use crate::page::pages_of;
-use bdb_tree::bdb_format::BtreeMeta;
-use bdb_tree::bdb_graph::Linked;
-use bdb_tree::tree_entries;
+use bdb_tree::{BtreeMeta, Linked, tree_entries};
 
 /// The list of a recno: its live records, each with its place among all entries, from 1. It takes no memory.
 #[tactic(auto, using(crate::proofs::ScanLemmas::all_listed))]

@@ -4,9 +4,7 @@ ghost use Rattle.bdb_tree.specs.of_format.File.{file_of};
 ghost use Rattle.bdb_recno.specs.Entries.{AreNumbered, listed_after};
 ghost use Rattle.bdb_recno.specs.Pairs.{pair_seen};
 
-use bdb_tree::TreeEntries;
-use bdb_tree::bdb_graph::Forest;
-use bdb_tree::bdb_overflow::{Datum, KeyView, is_deleted, value_of};
+use bdb_tree::{Datum, Forest, KeyView, TreeEntries, is_deleted, value_of};
 use std::marker::Model;
 
 /// The live records of a recno that are left, in order, each with its number as key.

@@ -6,9 +6,7 @@ ghost use Rattle.bdb_tree.specs.of_format.Flags.{is_recno};
 ghost use Rattle.bdb_recno.specs.Pages.{IsRecnoLeaf, IsRecnoPage};
 ghost use Rattle.bdb_recno.specs.Seen.{recno_page_seen};
 
-use bdb_tree::bdb_form::{PageView, RecnoInternalView, RecnoLeafView};
-use bdb_tree::bdb_format::BtreeMeta;
-use bdb_tree::bdb_graph::{Forest, Linked};
+use bdb_tree::{BtreeMeta, Forest, Linked, PageView, RecnoInternalView, RecnoLeafView};
 
 /// The pages of a file, in which the root of this recno is one of records.
 pub(crate) fn pages_of<'a>(linked: &Linked<'a>, meta: &BtreeMeta) -> Forest<'a>

@@ -9,10 +9,7 @@ ghost use Rattle.bdb_recno.specs.Counts.{HasRightCounts, child_by_count};
 ghost use Rattle.bdb_recno.specs.Pages.{IsRecnoPage};
 
 use crate::page::{RecnoPage, recno_page};
-use bdb_tree::bdb_form::{RecnoInternalView, RecnoLeafView};
-use bdb_tree::bdb_format::Steps;
-use bdb_tree::bdb_graph::Forest;
-use bdb_tree::bdb_layout::LeafItem;
+use bdb_tree::{Forest, LeafItem, RecnoInternalView, RecnoLeafView, Steps};
 use std::sync::ledger::Ledger;
 
 /// By the counts of an internal page, the child below which the entry at a place stands, from 0, and its place there.

@@ -7,7 +7,7 @@ pub mod Shapes
 pub use Rattle.bdb_law_kept.specs.of_any_order as of_any_order
 pub use Rattle.bdb_model.specs.of_format as of_format
 pub use Rattle.bdb_mkfile.specs.of_image as of_image
-pub use Rattle.bdb_mkfile.specs.of_io as of_io
+pub use Rattle.bdb_io.specs as of_io
 pub use Rattle.bdb_mkfile.specs as of_mkfile
 pub use Rattle.bdb_model.specs as of_model
 pub use Rattle.bdb_rescue.specs as of_rescue

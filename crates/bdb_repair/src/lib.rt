@@ -8,11 +8,15 @@ mod repairing;
 mod room;
 mod shape;
 
-pub use bdb_law_kept::{bdb_btree, bdb_text};
-pub use bdb_mkfile;
-pub use bdb_mkfile::{bdb_graph, bdb_io, bdb_layout, bdb_settle};
-pub use bdb_model;
-pub use bdb_model::{Duplicates, Shape, bdb_format, bdb_text_format};
-pub use bdb_rescue;
+pub use bdb_io::{
+    BaseSource, Failed, Image, MemSink, MemSource, PureSink, PureSource, ReadError, Sink, Source,
+    StdSink, StdSource, put_all, read_image,
+};
+pub use bdb_law_kept::{push_line_text, read_dump};
+pub use bdb_mkfile::{Linked, LoadError, Meta, hash5, load, settle};
+pub use bdb_model::{
+    BtreeMeta, Bytes, Duplicates, KeyRef, Kind, Order, PairSlice, Shape, Steps, TextPairs, Words,
+};
+pub use bdb_rescue::{SalvageError, salvage};
 pub use error::RepairError;
 pub use repairing::{repair, repair_as};

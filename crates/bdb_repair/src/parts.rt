@@ -9,10 +9,8 @@ ghost use Rattle.bdb_rescue.specs.of_survey.Salvage.{loose, stored};
 
 use crate::shape::shaped_settings;
 use crate::{Duplicates, Shape};
-use bdb_model::bdb_format::Bytes;
-use bdb_model::bdb_text_format::{KeyRef, PairRef, Section, Sections, TextPairs};
-use bdb_rescue::bdb_overflow::{Datum, bytes_in};
-use bdb_rescue::{SalvageEntries, SalvageEntry, SalvageValues, Salvaged};
+use bdb_model::{Bytes, KeyRef, PairRef, Section, Sections, TextPairs};
+use bdb_rescue::{Datum, SalvageEntries, SalvageEntry, SalvageValues, Salvaged, bytes_in};
 use std::alloc::{AllocError, Global};
 
 /// Rooms in which the bytes of chains are joined, for all keys and data of a section.

@@ -7,10 +7,9 @@ ghost use Rattle.bdb_repair.specs.Repairs.{IsRepaired, may_come, repair_answer, 
 use crate::parts::repair_sections;
 use crate::room::{Fit, Room, fit_of};
 use crate::{RepairError, Shape};
-use bdb_mkfile::bdb_io::Image;
-use bdb_mkfile::bdb_settle::LoadError;
-use bdb_mkfile::load;
-use bdb_model::bdb_format::Steps;
+use bdb_io::Image;
+use bdb_mkfile::{LoadError, load};
+use bdb_model::Steps;
 use bdb_rescue::{Guess, salvage};
 use std::alloc::Global;
 use std::sync::ledger::Ledger;

@@ -1,8 +1,7 @@
 ghost use Rattle.std.specs.Prelude.{◌≡◌};
 ghost use Rattle.bdb_repair.specs.Shapes.{are_several, are_sorted, duplicates_of, kind_of, shaped_settings};
 
-use bdb_model::bdb_format::{Kind, Settings, plain_settings};
-use bdb_model::{Duplicates, Shape};
+use bdb_model::{Duplicates, Kind, Settings, Shape, plain_settings};
 use bdb_rescue::Guess;
 
 fn kind_of(shape: Shape) -> Kind

@@ -7,7 +7,7 @@ use crate::Salvaged;
 use crate::entry::{PairData, pair_data};
 use crate::kept::KeptPair;
 use crate::places::Places;
-use bdb_survey::bdb_overflow::Datum;
+use bdb_survey::Datum;
 use std::marker::Model;
 
 /// A stored key, and its data that are left.

@@ -8,8 +8,7 @@ ghost use Rattle.bdb_rescue.specs.Kept.{IsKeptPair, data_at, data_here, file_in,
 use crate::Salvaged;
 use crate::kept::{DataPlace, KeptPair};
 use crate::values::SalvageValues;
-use bdb_survey::bdb_layout::{Content, DupBlocks};
-use bdb_survey::bdb_overflow::Datum;
+use bdb_survey::{Content, Datum, DupBlocks};
 use std::marker::Model;
 
 /// The data of a pair that are left.

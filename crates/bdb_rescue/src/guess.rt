@@ -1,9 +1,8 @@
 ghost use Rattle.std.specs.Prelude.{◌≡◌, ◌+◌, ◌≤◌, length};
 ghost use Rattle.bdb_rescue.specs.Guesses.{chosen, guess_in, guess_of, is_known_magic};
 
-use bdb_survey::Guess;
-use bdb_survey::bdb_layout::u32_at;
-use bdb_text_format::bdb_format::{FileKind, Order, is_page_size, magic_of};
+use bdb_survey::{Guess, u32_at};
+use bdb_text_format::{FileKind, Order, is_page_size, magic_of};
 
 /// The guess that is given, or else the one that page 0 tells.
 pub(crate) fn chosen(guess: Option<Guess>, image: &[u8]) -> Option<Guess>

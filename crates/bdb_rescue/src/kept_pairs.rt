@@ -5,8 +5,7 @@ ghost use Rattle.bdb_rescue.specs.Kept.{data_places, kept_in, kept_on, kept_pair
 ghost use Rattle.bdb_survey.specs.Slots.{slots_seen};
 
 use crate::kept::{DataPlace, KeptPair};
-use bdb_survey::bdb_layout::Content;
-use bdb_survey::{Slots, Survey, paired_slots};
+use bdb_survey::{Content, Slots, Survey, paired_slots};
 use std::alloc::{AllocError, Global};
 
 /// Where the data of a data item are, if they are whole.

@@ -17,9 +17,8 @@ mod tables;
 mod thin;
 mod values;
 
-pub use bdb_survey;
-pub use bdb_survey::{Guess, bdb_graph, bdb_overflow};
-pub use bdb_text_format::bdb_format;
+pub use bdb_survey::{Datum, Guess, KeyView, Meta, bytes_in, chain_of, compare_datum};
+pub use bdb_text_format::{Bytes, FileKind, Order, Steps};
 pub use entries::{SalvageEntries, SalvageEntry};
 pub use error::SalvageError;
 pub use pairs::SalvagePairs;

@@ -8,7 +8,7 @@ use crate::Salvaged;
 use crate::entry::Entry;
 use crate::kept::KeptPair;
 use crate::places::Places;
-use bdb_survey::bdb_overflow::Datum;
+use bdb_survey::Datum;
 use std::marker::Model;
 
 /// The stored pairs that are left.

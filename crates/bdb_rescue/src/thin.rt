@@ -2,8 +2,7 @@ ghost use Rattle.std.specs.Prelude.{◌≡◌, ◌++◌, IfOk, OnOk};
 ghost use Rattle.bdb_text_format.specs.of_format.Chains.{joined};
 ghost use Rattle.bdb_rescue.specs.Kept.{IsTable, bytes_in, thin_from};
 
-use bdb_survey::Survey;
-use bdb_survey::bdb_overflow::Pieces;
+use bdb_survey::{Pieces, Survey};
 use std::alloc::{AllocError, Global};
 
 /// The bytes of the whole chains that have fewer bytes than pages, each chain's together, in the order of their

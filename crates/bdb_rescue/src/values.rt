@@ -7,7 +7,7 @@ ghost use Rattle.bdb_rescue.specs.Kept.{IsKeptValue, file_in, value_at};
 use crate::Salvaged;
 use crate::kept::KeptValue;
 use crate::places::Places;
-use bdb_survey::bdb_overflow::Datum;
+use bdb_survey::Datum;
 use std::marker::Model;
 
 /// Values that are left: those of a set, or the loose records.

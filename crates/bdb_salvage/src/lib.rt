@@ -3,8 +3,7 @@
 
 pub mod laws;
 
-pub use bdb_rescue::bdb_survey::{Guess, chain_of};
 pub use bdb_rescue::{
-    SalvageEntries, SalvageEntry, SalvageError, SalvagePairs, SalvageValues, Salvaged, bdb_format,
-    bdb_graph, bdb_overflow, salvage,
+    Bytes, Datum, FileKind, Guess, KeyView, Meta, Order, SalvageEntries, SalvageEntry,
+    SalvageError, SalvagePairs, SalvageValues, Salvaged, Steps, chain_of, compare_datum, salvage,
 };

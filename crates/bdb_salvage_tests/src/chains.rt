@@ -4,9 +4,7 @@ ghost use Rattle.std.specs.Prelude.{◌≡◌};
 
 use crate::images::CHAIN;
 use crate::told::{Case, is_given};
-use bdb_salvage::bdb_format::{Bytes, Order, Steps};
-use bdb_salvage::bdb_overflow::Datum;
-use bdb_salvage::{Guess, chain_of};
+use bdb_salvage::{Bytes, Datum, Guess, Order, Steps, chain_of};
 use std::alloc::Global;
 use std::marker::Brand;
 use std::sync::ledger::{Blank, Ledger};

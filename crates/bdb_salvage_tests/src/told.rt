@@ -2,9 +2,7 @@
 
 ghost use Rattle.std.specs.Prelude.{◌≡◌};
 
-use bdb_salvage::bdb_format::{Order, Steps};
-use bdb_salvage::bdb_overflow::Datum;
-use bdb_salvage::{Guess, SalvageError, Salvaged, salvage};
+use bdb_salvage::{Datum, Guess, Order, SalvageError, Salvaged, Steps, salvage};
 use std::alloc::Global;
 use std::marker::Brand;
 use std::sync::ledger::{Blank, Ledger};

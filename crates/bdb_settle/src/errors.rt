@@ -8,8 +8,7 @@ ghost use Rattle.bdb_mktree.specs.of_format.Numbers.{pad4};
 
 use crate::LoadError;
 use crate::filling::has_length;
-use bdb_mktree::bdb_format::{Kind, Settings};
-use bdb_mktree::bdb_text_format::{KeyRef, PairRef, PairSlice, Section, Sections};
+use bdb_mktree::{KeyRef, Kind, PairRef, PairSlice, Section, Sections, Settings};
 
 /// Whether an error has the lesser line, or on one line the lesser code.
 fn is_sooner(a: LoadError, b: LoadError) -> bool

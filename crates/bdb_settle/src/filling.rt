@@ -4,8 +4,7 @@ ghost use Rattle.bdb_settle.specs.Loaded.{filled_pair, filled_pairs, filled_sect
 
 use crate::order::holds_records;
 use crate::turning::turned;
-use bdb_mktree::bdb_format::Settings;
-use bdb_mktree::bdb_text_format::{PairRef, PairSlice, Section, Sections, TextPairs};
+use bdb_mktree::{PairRef, PairSlice, Section, Sections, Settings, TextPairs};
 use std::alloc::{AllocError, Global};
 
 /// Whether records have a fixed length.

@@ -6,9 +6,7 @@ ghost use Rattle.bdb_settle.specs.Leads.{Begins, Share, lead_of, led, led_before
 ghost use Rattle.bdb_settle.specs.Settling.{place_before};
 
 use crate::order::{compare_places, stands_before};
-use bdb_mktree::bdb_format::Settings;
-use bdb_mktree::bdb_places::{Place, PlacedKey};
-use bdb_mktree::bdb_text_format::{KeyRef, are_one, key_at};
+use bdb_mktree::{KeyRef, Place, PlacedKey, Settings, are_one, key_at};
 use std::alloc::{AllocError, Global};
 use std::cmp::Ordering;
 

@@ -6,10 +6,7 @@ ghost use Rattle.bdb_settle.specs.Loaded.{keeps_data, sorts_data};
 ghost use Rattle.bdb_mktree.specs.of_format.Less.{less};
 ghost use Rattle.bdb_settle.specs.Settling.{KeyOrderingIs, place_before};
 
-use bdb_mktree::bdb_format::{Kind, Settings};
-use bdb_mktree::bdb_layout::compare;
-use bdb_mktree::bdb_places::{Place, PlacedKey};
-use bdb_mktree::bdb_text_format::{KeyRef, are_one, key_at};
+use bdb_mktree::{KeyRef, Kind, Place, PlacedKey, Settings, are_one, compare, key_at};
 use std::cmp::Ordering;
 
 /// Whether keys are numbers of records.

@@ -7,7 +7,7 @@ use crate::errors::load_error;
 use crate::filling::filled;
 use crate::settling::order_pairs;
 use crate::turning::turned;
-use bdb_mktree::bdb_text_format::{Section, Sections};
+use bdb_mktree::{Section, Sections};
 use std::alloc::{AllocError, Global};
 
 /// A section with its list, whose records aren't filled up.

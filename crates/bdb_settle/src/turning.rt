@@ -1,6 +1,6 @@
 ghost use Rattle.std.specs.Prelude.{◌≡◌, IfOk, reverse};
 
-use bdb_mktree::bdb_text_format::{Section, Sections};
+use bdb_mktree::{Section, Sections};
 use std::alloc::{AllocError, Global};
 
 /// Sections in the other order.

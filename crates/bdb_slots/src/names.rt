@@ -3,9 +3,9 @@ ghost use Rattle.bdb_slots.specs.Slots.{child_names, entry_names, hash_names, in
 ghost use Rattle.bdb_form.specs.of_layout.Seen.{content_seen};
 ghost use Rattle.bdb_form.specs.of_format.References.{content_targets, unless_zero};
 
-use bdb_form::bdb_format::Sort;
-use bdb_form::bdb_layout::Content;
-use bdb_form::{DupLeafView, HashView, InternalView, LeafView, RecnoInternalView, RecnoLeafView};
+use bdb_form::{
+    Content, DupLeafView, HashView, InternalView, LeafView, RecnoInternalView, RecnoLeafView, Sort,
+};
 
 /// What a page names: for what, and the number of a page, which need not be there.
 pub(crate) type Name = (Sort, u64);

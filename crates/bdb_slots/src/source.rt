@@ -8,10 +8,9 @@ use crate::names::{
     Name, child_name, dup_leaf_name, hash_name, internal_name, leaf_name, recno_leaf_name,
     unless_zero,
 };
-use bdb_form::bdb_format::Sort;
-use bdb_form::bdb_layout::page_of;
 use bdb_form::{
     DupLeafView, HashView, InternalView, LeafView, PageView, RecnoInternalView, RecnoLeafView,
+    Sort, page_of,
 };
 
 /// What a page names, slot by slot; a slot names at most one page.

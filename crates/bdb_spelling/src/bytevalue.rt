@@ -6,7 +6,7 @@ ghost use Rattle.bdb_text_format.specs.Written.{data_line};
 ghost use Rattle.bdb_spelling.specs.Spellings.{AddsPart, first_seen};
 
 use crate::spellings::First;
-use bdb_text_format::bdb_format::Bytes;
+use bdb_text_format::Bytes;
 use std::alloc::AllocError;
 
 /// How many bytes are spelled at once.

@@ -3,7 +3,7 @@ ghost use Rattle.bdb_text_format.specs.TextSpelling.{digit_value};
 ghost use Rattle.bdb_spelling.specs.DigitsIn.{digits_in, hexadecimal};
 ghost use Rattle.std.specs.Prelude.{◌≡◌, ◌<◌, ◌≤◌, ◌^◌, IfSome, length};
 
-use bdb_text_format::bdb_format::number_in;
+use bdb_text_format::number_in;
 
 /// The value of a digit, in either case.
 fn digit_value(byte: u8) -> Option<u64>

@@ -9,8 +9,10 @@ mod printed;
 mod runs;
 mod spellings;
 
-pub use bdb_text_format;
-pub use bdb_text_format::bdb_format;
+pub use bdb_text_format::{
+    Bytes, Judged, Key, KeyRef, Kind, Order, PairRef, PairSlice, Section, Sections, Settings,
+    TextFault, TextPair, TextPairs, TextReason, number_in, plain_settings,
+};
 pub use bytevalue::{SHORT_VALUE, push_short_line};
 pub use digits::number_read;
 pub use lines::{line_text, push_line_text};

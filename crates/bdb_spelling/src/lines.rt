@@ -4,7 +4,7 @@ ghost use Rattle.bdb_spelling.specs.Spellings.{AddsPart};
 
 use crate::bytevalue::push_digits;
 use crate::printed::push_printed;
-use bdb_text_format::bdb_format::Bytes;
+use bdb_text_format::Bytes;
 use std::alloc::{AllocError, Global};
 
 /// The spelling of bytes, without a space before it or a line feed behind: printed, or two hexadecimal digits a byte.

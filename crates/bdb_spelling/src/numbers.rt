@@ -1,7 +1,7 @@
 ghost use Rattle.std.specs.Prelude.{◌≡◌, IfOk};
 ghost use Rattle.std.specs.Fmt.{decimal};
 
-use bdb_text_format::bdb_format::Bytes;
+use bdb_text_format::Bytes;
 use std::alloc::{AllocError, Global};
 
 /// A number in decimal, without leading zeros.

@@ -6,7 +6,7 @@ ghost use Rattle.bdb_spelling.specs.Spellings.{AddsPart, first_seen};
 
 use crate::bytevalue::{first_of_digits, two_digits};
 use crate::spellings::First;
-use bdb_text_format::bdb_format::Bytes;
+use bdb_text_format::Bytes;
 use std::alloc::AllocError;
 
 /// Adds bytes as they are printed; a first part of them where memory is wanting.

@@ -5,7 +5,7 @@ ghost use Rattle.bdb_spelling.specs.SpellErrors.{IsSpellError};
 
 use crate::bytevalue::first_of_digits;
 use crate::printed::first_printed;
-use bdb_text_format::bdb_format::Bytes;
+use bdb_text_format::Bytes;
 use std::alloc::{AllocError, Global};
 
 /// Why a text isn't read.

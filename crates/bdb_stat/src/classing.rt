@@ -8,9 +8,7 @@ ghost use Rattle.bdb_turned.specs.of_image.Linked.{IsForest};
 ghost use Rattle.bdb_stat.specs.Classes.{class_by_type, class_of};
 
 use crate::class::Class;
-use bdb_turned::bdb_form::PageView;
-use bdb_turned::bdb_format::FileKind;
-use bdb_turned::bdb_graph::Linked;
+use bdb_turned::{FileKind, Linked, PageView};
 
 /// Whether the file is a queue.
 fn is_queue(kind: FileKind) -> bool

@@ -9,7 +9,7 @@ use crate::classing::class_of;
 use crate::figures::Stat;
 use crate::marks::Marks;
 use crate::unused::unused_on;
-use bdb_turned::bdb_graph::Linked;
+use bdb_turned::Linked;
 use std::alloc::{AllocError, Global};
 
 /// The level of a page of a tree; 0 of a page of another class.

@@ -4,8 +4,7 @@ ghost use Rattle.bdb_turned.specs.of_format.declared.kinds.Order.{Order as AnyOr
 ghost use Rattle.bdb_turned.specs.of_format.Rows.{leaf_end};
 ghost use Rattle.bdb_stat.specs.Ends.{internal_end, recno_end};
 
-use bdb_turned::bdb_format::Order;
-use bdb_turned::bdb_layout::u16_at;
+use bdb_turned::{Order, u16_at};
 
 /// Where the items of a type of pages end. Items that begin at one place are the same item.
 pub(crate) trait Ends {

@@ -5,8 +5,7 @@ ghost use Rattle.bdb_turned.specs.of_format.Table.{first_row};
 ghost use Rattle.bdb_stat.specs.Unused.{hash_unused};
 ghost use Rattle.bdb_stat.specs.Ends.{lowest};
 
-use bdb_turned::bdb_format::Order;
-use bdb_turned::bdb_layout::{index_end, offset_at, u16_at};
+use bdb_turned::{Order, index_end, offset_at, u16_at};
 
 /// Where the last item of a page begins, or else the page's end.
 #[tactic(auto, using(crate::proofs::ItemLemmas::no_lowest, crate::proofs::ItemLemmas::last_lowest))]

@@ -2,7 +2,7 @@ ghost use Rattle.std.specs.Prelude.{◌≡◌, ◌<◌, length};
 ghost use Rattle.bdb_turned.specs.of_format.File.{page_bytes};
 ghost use Rattle.bdb_turned.specs.of_image.Formed.{IsAccepted};
 
-use bdb_turned::bdb_format::Head;
+use bdb_turned::Head;
 
 /// The bytes of a page of an image whose page 0 is accepted.
 #[tactic(auto, using(crate::proofs::Below::page_room, crate::proofs::Below::page_length))]

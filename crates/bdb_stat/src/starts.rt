@@ -7,8 +7,7 @@ ghost use Rattle.bdb_stat.specs.Starts.{AreStarts};
 
 use crate::ends::Ends;
 use crate::marks::Marks;
-use bdb_turned::bdb_format::Order;
-use bdb_turned::bdb_layout::{index_end, offset_at, u16_at};
+use bdb_turned::{Order, index_end, offset_at, u16_at};
 
 /// Marks the places where the items of a page begin, and no others. Items that begin at one place have one mark.
 fn mark_starts(starts: &mut Marks, page: &[u8], order: Order)

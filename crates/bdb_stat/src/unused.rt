@@ -13,9 +13,7 @@ use crate::hash::unused_before_items;
 use crate::image::page_of;
 use crate::marks::Marks;
 use crate::starts::unused_behind;
-use bdb_turned::bdb_form::is_zero;
-use bdb_turned::bdb_format::{Head, Order};
-use bdb_turned::bdb_layout::u16_at;
+use bdb_turned::{Head, Order, is_zero, u16_at};
 
 /// How many bytes of a page that isn't zero hold nothing, by its type.
 fn typed_unused(starts: &mut Marks, page: &[u8], order: Order) -> usize

@@ -6,8 +6,7 @@ ghost use Rattle.bdb_survey.specs.Salvage.{is_whole, salvaged_file};
 use crate::Guess;
 use crate::links::{RowKind, row_extent};
 use crate::whole_pages::WholePages;
-use bdb_law_sums::bdb_format::Steps;
-use bdb_law_sums::bdb_overflow::Pieces;
+use bdb_law_sums::{Pieces, Steps};
 use std::sync::ledger::Ledger;
 
 /// The pieces of the chain with this head, whose data have this length in bytes; `None` exactly where it isn't

@@ -10,7 +10,7 @@ ghost use Rattle.bdb_survey.specs.Ways.{fits_as, plain_type, way_from};
 ghost use Rattle.bdb_survey.specs.declared.down.Way.TheVariants.{Broken, Child};
 
 use crate::whole_pages::WholePages;
-use bdb_law_sums::bdb_form::PageView;
+use bdb_law_sums::PageView;
 
 /// Where the way down goes on from a page.
 #[derive(Clone, Copy, Debug)]

@@ -1,4 +1,4 @@
-use bdb_law_sums::bdb_format::Order;
+use bdb_law_sums::Order;
 
 /// How an image is read: the order of its bytes, and the number of bytes of a page.
 #[derive(Clone, Copy, Debug, PartialEq, Eq)]

@@ -11,7 +11,8 @@ mod slots;
 mod survey;
 mod whole_pages;
 
-pub use bdb_law_sums::{bdb_graph, bdb_layout, bdb_overflow};
+pub use bdb_law_sums::{Datum, KeyView, Meta, Pieces, bytes_in, compare_datum};
+pub use bdb_layout::{Content, DupBlocks, u32_at};
 pub use chain::chain_of;
 pub use guess::Guess;
 pub use row_leaves::RowPages;

@@ -4,8 +4,7 @@ ghost use Rattle.bdb_law_sums.specs.of_form.Seen.{page_seen};
 ghost use Rattle.bdb_survey.specs.Links.{extent_of, is_of_kind, link_in, link_of};
 
 use crate::whole_pages::WholePages;
-use bdb_law_sums::bdb_form::PageView;
-use bdb_law_sums::bdb_format::{Header, Steps};
+use bdb_law_sums::{Header, PageView, Steps};
 use std::sync::ledger::Ledger;
 
 /// What a row is made of: pages that name each other, forward and back.

@@ -6,7 +6,7 @@ ghost use Rattle.bdb_law_sums.specs.of_format.File.{header_in};
 ghost use Rattle.bdb_survey.specs.Rows.{unless_zero};
 
 use crate::whole_pages::WholePages;
-use bdb_law_sums::bdb_form::PageView;
+use bdb_law_sums::PageView;
 use std::marker::Model;
 
 /// The next page that the header of a page names; metadata and pages of a queue have none.

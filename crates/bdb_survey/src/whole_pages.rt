@@ -2,7 +2,7 @@ ghost use Rattle.std.specs.Prelude.{◌≡◌, ◌/◌, ◌^◌, ◌<◌, ◌≤
 ghost use Rattle.bdb_law_sums.specs.of_format.Page.{NoType};
 ghost use Rattle.bdb_law_sums.specs.of_form.Seen.{page_seen};
 ghost use Rattle.bdb_law_sums.specs.of_format.Chains.{piece_in, pieces_of};
-ghost use Rattle.bdb_law_sums.specs.of_layout.Seen.{content_seen};
+ghost use Rattle.bdb_layout.specs.Seen.{content_seen};
 ghost use Rattle.bdb_survey.specs.Items.{slot_at, slots_in};
 ghost use Rattle.bdb_law_sums.specs.of_format.File.{page_at};
 ghost use Rattle.bdb_law_sums.specs.of_format.HeadOf.{is_page_size};
@@ -12,9 +12,8 @@ ghost use Rattle.bdb_survey.specs.Salvage.{is_overflow, is_row, salvaged_file};
 
 use crate::Guess;
 use crate::slots::slots_of;
-use bdb_law_sums::bdb_form::{PageView, form, known_form};
-use bdb_law_sums::bdb_layout::{Content, u32_at};
-use bdb_law_sums::bdb_overflow::{Pieces, pieces_at};
+use bdb_law_sums::{PageView, Pieces, form, known_form, pieces_at};
+use bdb_layout::{Content, u32_at};
 use std::marker::Model;
 
 /// The whole pages of an image, as a guess reads them.

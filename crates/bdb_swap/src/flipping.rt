@@ -2,9 +2,8 @@ ghost use Rattle.std.specs.Prelude.{◌≡◌};
 ghost use Rattle.bdb_swap.specs.Flip.{IsFlip};
 
 use crate::image::{copy_of, turned_image};
-use bdb_io::Image;
-use bdb_io::bdb_format::{Bytes, Order};
-use bdb_turned::bdb_graph::Linked;
+use bdb_io::{Bytes, Image, Order};
+use bdb_turned::Linked;
 use std::alloc::{AllocError, Global};
 use std::marker::Model;
 use thiserror::Error;

@@ -8,8 +8,8 @@ ghost use Rattle.bdb_swap.specs.Turns.{Turns};
 
 use crate::listed::Items;
 use crate::number::{turn_four, turn_two};
-use bdb_io::bdb_format::Order;
-use bdb_turned::bdb_layout::{DupBlocks, HashItem, known_hash_item, offset_at};
+use bdb_io::Order;
+use bdb_turned::{DupBlocks, HashItem, known_hash_item, offset_at};
 
 /// The items of hash pages.
 pub(crate) struct HashItems;

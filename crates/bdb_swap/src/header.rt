@@ -4,8 +4,8 @@ ghost use Rattle.bdb_turned.specs.Fields.{header_fields, index_fields};
 ghost use Rattle.bdb_swap.specs.Turns.{Turns};
 
 use crate::number::{turn_four, turn_two};
-use bdb_io::bdb_format::Order;
-use bdb_turned::bdb_layout::u16_at;
+use bdb_io::Order;
+use bdb_turned::u16_at;
 
 /// Turns the numbers of a page's header round.
 pub(crate) fn turn_header(page: &mut [u8], source: &[u8])

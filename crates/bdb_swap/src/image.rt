@@ -12,7 +12,7 @@ ghost use Rattle.bdb_swap.specs.Formed.{HasForm};
 use crate::flipping::FlipError;
 use crate::overlap::page_overlaps;
 use crate::page::turn_page;
-use bdb_io::bdb_format::{Bytes, Head};
+use bdb_io::{Bytes, Head};
 use std::alloc::{AllocError, Global};
 
 /// The bytes of a page of an image whose page 0 is accepted.

@@ -9,8 +9,8 @@ ghost use Rattle.bdb_swap.specs.Turns.{Turns};
 use crate::listed::Items;
 use crate::number::{turn_four, turn_two};
 use crate::ranged::Ranged;
-use bdb_io::bdb_format::Order;
-use bdb_turned::bdb_layout::{InternalItem, InternalKey, known_internal_item, offset_at};
+use bdb_io::Order;
+use bdb_turned::{InternalItem, InternalKey, known_internal_item, offset_at};
 
 /// The items of internal pages.
 pub(crate) struct InternalItems;

@@ -9,8 +9,8 @@ ghost use Rattle.bdb_swap.specs.Turns.{Turns};
 use crate::listed::Items;
 use crate::number::{turn_four, turn_two};
 use crate::ranged::Ranged;
-use bdb_io::bdb_format::Order;
-use bdb_turned::bdb_layout::{LeafItem, known_leaf_item, offset_at};
+use bdb_io::Order;
+use bdb_turned::{LeafItem, known_leaf_item, offset_at};
 
 /// The items of leaves, be they of a btree, a recno or a tree of duplicates.
 pub(crate) struct LeafItems;

@@ -16,7 +16,6 @@ mod page;
 mod ranged;
 mod recno;
 
-pub use bdb_io;
-pub use bdb_io::bdb_format;
-pub use bdb_turned::bdb_graph;
+pub use bdb_io::{Order, Sink, Steps};
+pub use bdb_turned::{link, open_image};
 pub use flipping::{FlipError, flip};

@@ -10,8 +10,8 @@ ghost use Rattle.bdb_turned.specs.Parts.{all_fields};
 ghost use Rattle.bdb_swap.specs.Turns.{Turns};
 
 use crate::header::{turn_header, turn_index};
-use bdb_io::bdb_format::Order;
-use bdb_turned::bdb_layout::u16_at;
+use bdb_io::Order;
+use bdb_turned::u16_at;
 
 /// The items of a type of pages with an index: the numbers of each, by its place in the index.
 pub(crate) trait Items {

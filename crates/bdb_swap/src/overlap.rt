@@ -9,8 +9,8 @@ use crate::internal::InternalItems;
 use crate::leaf::LeafItems;
 use crate::ranged::items_overlap;
 use crate::recno::RecnoItems;
-use bdb_io::bdb_format::{Head, Order};
-use bdb_turned::bdb_form::is_zero;
+use bdb_io::{Head, Order};
+use bdb_turned::is_zero;
 
 /// Whether some two items of a page that isn't zero share a byte, by its type. Those of a hash page can't.
 fn typed_overlaps(ends: &mut [u16], page: &[u8], order: Order) -> bool

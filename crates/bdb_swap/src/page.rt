@@ -16,8 +16,8 @@ use crate::listed::turn_listed;
 use crate::metadata::{turn_btree_meta, turn_hash_meta, turn_queue_meta};
 use crate::number::turn_fours;
 use crate::recno::RecnoItems;
-use bdb_io::bdb_format::{Head, Order};
-use bdb_turned::bdb_form::is_zero;
+use bdb_io::{Head, Order};
+use bdb_turned::is_zero;
 
 /// Turns a page round that isn't zero, by its type.
 fn turn_typed(page: &mut [u8], source: &[u8], order: Order)

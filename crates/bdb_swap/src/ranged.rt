@@ -7,8 +7,8 @@ ghost use Rattle.bdb_swap.specs.Crossing.{AreEnds, AreNoted, AreRanges, some_sha
 
 use crate::crossing::{Noted, crosses};
 use crate::listed::Items;
-use bdb_io::bdb_format::Order;
-use bdb_turned::bdb_layout::{offset_at, u16_at};
+use bdb_io::Order;
+use bdb_turned::{offset_at, u16_at};
 
 /// Items each of which is a range of bytes, from its offset up to its end.
 pub(crate) trait Ranged: Items {

@@ -7,8 +7,8 @@ ghost use Rattle.bdb_swap.specs.Turns.{Turns};
 use crate::listed::Items;
 use crate::number::turn_four;
 use crate::ranged::Ranged;
-use bdb_io::bdb_format::Order;
-use bdb_turned::bdb_layout::offset_at;
+use bdb_io::Order;
+use bdb_turned::offset_at;
 
 /// The items of internal pages of a recno tree.
 pub(crate) struct RecnoItems;

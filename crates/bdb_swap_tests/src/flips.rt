@@ -1,7 +1,7 @@
 //! Files of each kind, a field a line. Values: docs/FORMAT.md, "Metadata pages" to "Items" and "The other byte order".
 
 use crate::told::{Told, outcome};
-use bdb_swap::bdb_format::Order;
+use bdb_swap::Order;
 use test_images::Field;
 
 /// A file of so many pages, as what is written over zeros.

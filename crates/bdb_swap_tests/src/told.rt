@@ -2,9 +2,7 @@
 
 ghost use Rattle.std.specs.Prelude.{◌≡◌, ◌≤◌, ◌^◌, length};
 
-use bdb_swap::bdb_format::{Order, Steps};
-use bdb_swap::bdb_graph::{link, open_image};
-use bdb_swap::{FlipError, flip};
+use bdb_swap::{FlipError, Order, Steps, flip, link, open_image};
 use std::alloc::Global;
 use std::marker::Brand;
 use std::sync::ledger::{Blank, Ledger};

@@ -5,9 +5,7 @@ ghost use Rattle.bdb_spelling.specs.of_text_format.Placed.{key_seen};
 ghost use Rattle.bdb_text.specs.DataLines.{IsLineError, record_number};
 ghost use Rattle.std.specs.Prelude.{◌≡◌, if◌then◌else◌, Bool, IfOk, IfErr, OnOk, Some};
 
-use bdb_spelling::bdb_format::number_in;
-use bdb_spelling::bdb_text_format::{KeyRef, TextReason};
-use bdb_spelling::{SpellError, read_run};
+use bdb_spelling::{KeyRef, SpellError, TextReason, number_in, read_run};
 
 /// Why a data line isn't read.
 #[derive(Clone, Copy, Debug, PartialEq, Eq)]

@@ -10,7 +10,7 @@ use crate::fields::Field;
 use crate::meant::{has_keys, has_record_type, prints};
 use crate::text_errors::TextError;
 use crate::text_lines::cut_line;
-use bdb_spelling::bdb_text_format::{KeyRef, PairRef, TextFault, TextPairs, TextReason};
+use bdb_spelling::{KeyRef, PairRef, TextFault, TextPairs, TextReason};
 use std::alloc::Global;
 
 const DATA_END: [u8; 8] = *b"DATA=END";

@@ -14,9 +14,7 @@ use crate::headers::read_header;
 use crate::meant::{conflicts, settings_in};
 use crate::text_errors::TextError;
 use crate::text_lines::cut_line;
-use bdb_spelling::bdb_format::Bytes;
-use bdb_spelling::bdb_text_format::{Section, Sections, TextFault, TextReason};
-use bdb_spelling::{SpellError, read_spelling};
+use bdb_spelling::{Bytes, Section, Sections, SpellError, TextFault, TextReason, read_spelling};
 use std::alloc::Global;
 
 const TYPE: [u8; 4] = *b"type";

@@ -4,8 +4,7 @@ ghost use Rattle.bdb_text.specs.SectionTo.{names_of};
 ghost use Rattle.std.specs.List.{list_any};
 ghost use Rattle.std.specs.Prelude.{◌≡◌, ◌==◌, [], ◌∷◌, ◌++◌, IfOk, is_none, length};
 
-use bdb_spelling::bdb_format::Bytes;
-use bdb_spelling::bdb_text_format::{Section, Sections};
+use bdb_spelling::{Bytes, Section, Sections};
 use std::alloc::{AllocError, Global};
 use std::collections::BTreeSet;
 use std::marker::Model;

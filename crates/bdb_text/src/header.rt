@@ -4,8 +4,7 @@ ghost use Rattle.bdb_spelling.specs.of_text_format.Written.{order_text, shows_le
 ghost use Rattle.bdb_spelling.specs.of_format.Table.{◌:?◌};
 ghost use Rattle.bdb_text.specs.Headers.{row_seen, row_text, rows_text, value_seen};
 
-use bdb_spelling::bdb_format::{Bytes, Kind, Order, Settings};
-use bdb_spelling::{number_text, push_line_text};
+use bdb_spelling::{Bytes, Kind, Order, Settings, number_text, push_line_text};
 use std::alloc::{AllocError, Global};
 
 /// What stands behind the equals sign of a header line.

@@ -6,7 +6,7 @@ use crate::fields::Field;
 use crate::keywords::judge;
 use crate::text_errors::TextError;
 use crate::text_lines::cut_line;
-use bdb_spelling::bdb_text_format::{TextFault, TextReason};
+use bdb_spelling::{TextFault, TextReason};
 use std::alloc::Global;
 
 const HEADER_END: [u8; 10] = *b"HEADER=END";

@@ -7,8 +7,7 @@ ghost use Rattle.bdb_text.specs.Fields.{entries_in, entry_in, judged_by};
 ghost use Rattle.std.specs.Prelude.{◌≡◌, ◌==◌, ◌∷◌, [], codes, false, not, IfOk, IfErr, Some, None};
 
 use crate::fields::{Field, field_of, is_given};
-use bdb_spelling::bdb_text_format::{Judged, TextReason};
-use bdb_spelling::{is_spelling, number_read};
+use bdb_spelling::{Judged, TextReason, is_spelling, number_read};
 
 const FORMAT: [u8; 6] = *b"format";
 

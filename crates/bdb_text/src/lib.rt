@@ -14,12 +14,10 @@ mod meant;
 mod text_errors;
 mod text_lines;
 
-pub use bdb_spelling;
-pub use bdb_spelling::bdb_text_format::{
-    Key, KeyRef, PairRef, PairSlice, Section, Sections, TextFault, TextPair, TextPairs, TextReason,
-};
 pub use bdb_spelling::{
-    SpellError, bdb_text_format, is_spelling, line_text, number_text, push_line_text, read_spelling,
+    Key, KeyRef, PairRef, PairSlice, SHORT_VALUE, Section, Sections, SpellError, TextFault,
+    TextPair, TextPairs, TextReason, is_spelling, line_text, number_text, push_line_text,
+    push_short_line, read_spelling,
 };
 pub use dump::read_dump;
 pub use header::{header_text, kind_word};

@@ -5,7 +5,7 @@ ghost use Rattle.bdb_text.specs.Fields.{values_in};
 ghost use Rattle.std.specs.Prelude.{◌≡◌, codes};
 
 use crate::fields::{Field, gives, number_or};
-use bdb_spelling::bdb_format::{Kind, Order, Settings, plain_settings};
+use bdb_spelling::{Kind, Order, Settings, plain_settings};
 
 const TYPE: [u8; 4] = *b"type";
 

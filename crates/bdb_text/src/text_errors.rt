@@ -1,6 +1,6 @@
 ghost use Rattle.std.specs.Prelude.{◌≡◌};
 
-use bdb_spelling::bdb_text_format::TextFault;
+use bdb_spelling::TextFault;
 use std::alloc::AllocError;
 use thiserror::Error;
 

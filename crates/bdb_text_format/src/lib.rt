@@ -7,8 +7,11 @@ mod lent;
 mod pairs;
 mod sections;
 
-pub use bdb_places;
-pub use bdb_places::bdb_format;
+pub use bdb_places::{
+    BtreeMeta, Bytes, CheckError, Fault, FileKind, HashMeta, Head, Header, ItemFault, Kind,
+    MetaFault, Order, Place, PlacedKey, QueueMeta, RecnoItem, Reference, Settings, Sort, Span,
+    Steps, Unsupported, Values, Verdict, is_page_size, magic_of, number_in, plain_settings,
+};
 pub use faults::{TextFault, TextReason};
 pub use keywords::Judged;
 pub use lent::{KeyRef, PairRef, PairSlice, are_one, key_at, pair_at};

@@ -6,8 +6,7 @@ ghost use Rattle.bdb_text_format.specs.Placed.{placed_pairs, slice_seen};
 ghost use Rattle.bdb_text_format.specs.declared.pairs.TextPair.{TextPair};
 
 use crate::lent::{KeyRef, PairRef, PairSlice};
-use bdb_places::bdb_format::Bytes;
-use bdb_places::{Place, PlacedKey, Span};
+use bdb_places::{Bytes, Place, PlacedKey, Span};
 use std::alloc::{AllocError, Global};
 use std::marker::Model;
 

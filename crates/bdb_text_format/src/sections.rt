@@ -1,7 +1,7 @@
 ghost use Rattle.std.specs.Prelude.{◌≡◌, ◌==◌, ◌-◌, List, [], ◌∷◌, ◌++◌, OnOk, OnErr, length, option_copied, option_to_list, slice_get};
 
 use crate::pairs::TextPairs;
-use bdb_places::bdb_format::{Bytes, Settings};
+use bdb_places::{Bytes, Settings};
 use std::alloc::{AllocError, Global};
 use std::marker::Model;
 

@@ -12,17 +12,17 @@ use Rattle.bdb_repair.specs.of_model.Answers.{Answer, fault_line, told, unsuppor
 use Rattle.bdb_repair.specs.of_model.Change.{Change}
 use Rattle.bdb_repair.specs.of_model.Lines.{memory_line}
 use Rattle.bdb_tool_ask.proofs.of_tool_lines.PrintingLemmas.{moved}
-use Rattle.bdb_tool_build.specs.of_onto.declared.base.Base.{Base}
-use Rattle.bdb_tool_build.specs.of_onto.Bases.{IsBaseOf}
+use Rattle.bdb_onto.specs.declared.base.Base.{Base}
+use Rattle.bdb_onto.specs.Bases.{IsBaseOf}
 use Rattle.bdb_tool_build.specs.Ontos.{IsTextOnto}
-use Rattle.bdb_tool_ask.specs.of_tool_words.Commands.{Command, LoadOnto, command_of, command_on, handed, reads_base}
+use Rattle.bdb_tool_words.specs.Commands.{Command, LoadOnto, command_of, command_on, handed, reads_base}
 use Rattle.bdb_tool.specs.Ontos.{IsOntoAnswer, IsOntoBy, IsOntoBySize, base_too_large_line}
 use Rattle.bdb_tool.specs.Outputs.{Asked, asked_alone}
 use Rattle.bdb_tool_ask.specs.of_tool_lines.Finished.{IsRefused, Tells}
 use Rattle.bdb_tool.specs.Parts.{Answered, BaseFailed, BaseRead, BaseTooLong, BaseUnread, Ends, EndsOnto, IsTaskAnswered, IsToldOfBase, IsToldStop, Unanswered}
 use Rattle.bdb_tool.specs.Runs.{IsAnswered, ReadsBase, RunsAs, RunsOn, asked_on}
 use Rattle.bdb_tool.specs.Tasks.{AreReading, IsInputWithin, IsStopped, IsTaskTaken, IsUnreadable}
-use Rattle.bdb_tool_ask.specs.of_tool_words.WordsSeen.{AreOnto}
+use Rattle.bdb_tool_words.specs.WordsSeen.{AreOnto}
 use Rattle.bdb_tool.specs.declared.task.Task.{Task}
 use Rattle.bdb_tool.specs.declared.task.Stop.{Stop}
 use Rattle.bdb_tool.specs.declared.task.Stop.TheVariants.{Usage, TooLarge, ReadFault, Memory as MemoryStop}

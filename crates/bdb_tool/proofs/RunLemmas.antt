@@ -4,7 +4,7 @@ use Rattle.std.specs.Prelude.{Option, Some, None, nat_lt}
 use Rattle.std.specs.Io.KnownBytes.{Consumes, IsAtEnd}
 use Rattle.std.proofs.lemmas.Bool.{le-ltb, lt-ltb}
 use Rattle.bdb_repair.specs.of_model.Answers.{Answer, told, too_large_line}
-use Rattle.bdb_tool_ask.specs.of_tool_words.Commands.{Ask, Command, Load, Repair, Salvage, Trial, reads_input, usage}
+use Rattle.bdb_tool_words.specs.Commands.{Ask, Command, Load, Repair, Salvage, Trial, reads_input, usage}
 use Rattle.bdb_repair.specs.of_model.Change.{Change, GainsPart, HasFailed, IsUncalled, Stays}
 use Rattle.bdb_repair.specs.of_any_order.declared.rows.Rows.TheVariants.{All}
 use Rattle.bdb_repair.specs.of_format.Faults.{Rose, Took}
@@ -18,8 +18,8 @@ use Rattle.bdb_tool_ask.specs.of_tool_lines.Finished.{Finishes, Tells}
 use Rattle.bdb_tool.specs.Parts.{Answered, Ends, IsTaskAnswered, IsToldStop, Unanswered}
 use Rattle.bdb_tool.specs.Runs.{ErrorLine, HasFailedReading, IsAnswered, OfAnswer, OfMemory, OfReadFault, OfWriteFault, RunsAs, RunsOn, asked_on}
 use Rattle.bdb_tool.specs.Tasks.{AreReading, IsRead, IsStopped, IsTaskTaken, IsTooLong}
-use Rattle.bdb_tool_ask.specs.of_tool_words.declared.command.Repair.{Repair as CodeRepair}
-use Rattle.bdb_tool_ask.specs.of_tool_words.declared.command.Trial.{Trial as CodeTrial}
+use Rattle.bdb_tool_words.specs.declared.command.Repair.{Repair as CodeRepair}
+use Rattle.bdb_tool_words.specs.declared.command.Trial.{Trial as CodeTrial}
 use Rattle.bdb_tool.specs.declared.task.Stop.{Stop}
 use Rattle.bdb_tool.specs.declared.task.Stop.TheVariants.{Usage, TooLarge, ReadFault, Memory as MemoryStop}
 use Rattle.bdb_tool.specs.declared.task.Task.{Task}

@@ -2,19 +2,19 @@
 use Rattle.std.proofs.Common.{◌≡◌, ℕ, ◌+◌, false, true, List, refl, subst, sym, ◌∙◌, ap}
 use Rattle.std.specs.Prelude.{Option, Some, None, IsTrue, is_some}
 use Rattle.bdb_repair.specs.of_model.Change.{Change}
-use Rattle.bdb_tool_ask.specs.of_tool_words.Commands.{Action, Ask, Command, Load, Repair, Request, Salvage, asking, handed, reads_input, within}
+use Rattle.bdb_tool_words.specs.Commands.{Action, Ask, Command, Load, Repair, Request, Salvage, asking, handed, reads_input, within}
 use Rattle.bdb_repair.specs.of_any_order.declared.rows.Rows.{Rows}
 use Rattle.bdb_repair.specs.of_any_order.declared.rows.Rows.TheVariants.{All}
 use Rattle.bdb_repair.specs.of_format.Faults.{Took}
-use Rattle.bdb_tool_ask.specs.of_tool_words.declared.command.Action.TheVariants.{Ask as AskWord, Load as LoadWord, Read as ReadWord, Repair as RepairWord, Salvage as SalvageWord}
-use Rattle.bdb_tool_ask.specs.of_tool_words.declared.command.Reading.{Reading}
-use Rattle.bdb_tool_ask.specs.of_tool_words.declared.command.Request.{Request as CodeRequest}
-use Rattle.bdb_tool_ask.specs.of_tool_words.declared.command.Repair.{Repair as CodeRepair}
-use Rattle.bdb_tool_ask.specs.of_tool_words.declared.command.Salvage.{Salvage as CodeSalvage}
+use Rattle.bdb_tool_words.specs.declared.command.Action.TheVariants.{Ask as AskWord, Load as LoadWord, Read as ReadWord, Repair as RepairWord, Salvage as SalvageWord}
+use Rattle.bdb_tool_words.specs.declared.command.Reading.{Reading}
+use Rattle.bdb_tool_words.specs.declared.command.Request.{Request as CodeRequest}
+use Rattle.bdb_tool_words.specs.declared.command.Repair.{Repair as CodeRepair}
+use Rattle.bdb_tool_words.specs.declared.command.Salvage.{Salvage as CodeSalvage}
 use Rattle.bdb_tool.specs.declared.task.Stop.{Stop}
 use Rattle.bdb_tool.specs.declared.task.Stop.TheVariants.{Usage, TooLarge, ReadFault, Memory}
 use Rattle.bdb_tool.specs.Tasks.{AreReading, IsAsked, IsInputWithin, IsStopped, IsUnreadable}
-use Rattle.bdb_tool_ask.specs.of_tool_words.WordsSeen.{IsSeen, reading_seen, request_seen}
+use Rattle.bdb_tool_words.specs.WordsSeen.{IsSeen, reading_seen, request_seen}
 
 abbrev made : ℕ → Action → Command
 made limit action = record { limit = limit; action = action }

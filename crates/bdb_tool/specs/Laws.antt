@@ -6,7 +6,7 @@ use Rattle.bdb_repair.specs.of_any_order.declared.rows.Rows.TheVariants.{All, An
 use Rattle.bdb_repair.specs.of_format.declared.kinds.Fault.{Fault}
 use Rattle.bdb_repair.specs.of_format.File.{file_of}
 use Rattle.bdb_repair.specs.of_format.Verdict.{contents_faults}
-use Rattle.bdb_tool_ask.specs.of_tool_words.Commands.{Request}
+use Rattle.bdb_tool_words.specs.Commands.{Request}
 use Rattle.bdb_tool_ask.specs.FileAnswers.{asked_answer}
 
 -- on a file on which no row of order holds, what is asked is answered in any order as by all rows

@@ -2,7 +2,7 @@
 use Rattle.std.specs.Prelude.{◌≡◌, ◌⊎◌, ℕ, ◌+◌, List, Some, string_bytes}
 use Rattle.bdb_repair.specs.of_any_order.declared.rows.Rows.TheVariants.{All}
 use Rattle.bdb_repair.specs.of_model.Answers.{Answer, told, too_large_line}
-use Rattle.bdb_tool_ask.specs.of_tool_words.Commands.{Request, usage}
+use Rattle.bdb_tool_words.specs.Commands.{Request, usage}
 use Rattle.bdb_repair.specs.of_model.Change.{Change, HasFailed, Stays}
 use Rattle.bdb_repair.specs.of_model.Lines.{memory_line, read_fault_line}
 use Rattle.bdb_repair.specs.of_format.Faults.{Took}
@@ -11,7 +11,7 @@ use Rattle.bdb_tool.specs.Ontos.{IsOntoBy, base_too_large_line}
 use Rattle.bdb_tool_ask.specs.FileAnswers.{asked_answer}
 use Rattle.bdb_tool.specs.Outputs.{IsRepairAnswer, salvage_answer}
 use Rattle.bdb_tool.specs.Tasks.{IsInputWithin}
-use Rattle.bdb_tool_ask.specs.of_tool_words.WordsSeen.{reading_seen, request_seen}
+use Rattle.bdb_tool_words.specs.WordsSeen.{reading_seen, request_seen}
 use Rattle.bdb_tool.specs.declared.task.Task.{Task}
 use Rattle.bdb_tool.specs.declared.task.Task.TheVariants.{Ask as AskTask, Load as LoadTask, Read as ReadTask, Repair as RepairTask, Salvage as SalvageTask, Trial as TrialTask}
 use Rattle.bdb_tool.specs.declared.task.Stop.{Stop}

@@ -2,14 +2,14 @@
 use Rattle.std.specs.Prelude.{◌≡◌, ℕ, ◌+◌, ◌≤◌, ◌^◌, IsTrue, true, List, length, Option, Some, None, is_some}
 use Rattle.std.specs.Io.KnownBytes.{Consumes, IsAtEnd}
 use Rattle.bdb_repair.specs.of_model.Change.{Change, HasFailed, IsUncalled}
-use Rattle.bdb_tool_ask.specs.of_tool_words.Commands.{Ask, Command, Load, Repair, Request, Salvage, Trial, reads_input}
+use Rattle.bdb_tool_words.specs.Commands.{Ask, Command, Load, Repair, Request, Salvage, Trial, reads_input}
 use Rattle.bdb_repair.specs.of_any_order.declared.rows.Rows.{Rows}
 use Rattle.bdb_repair.specs.of_any_order.declared.rows.Rows.TheVariants.{All}
 use Rattle.bdb_repair.specs.of_format.Faults.{Took}
-use Rattle.bdb_tool_ask.specs.of_tool_words.WordsSeen.{IsFitRepair, IsFitSalvage, IsFitTrial, reading_seen, request_seen}
-use Rattle.bdb_tool_ask.specs.of_tool_words.declared.command.Repair.{Repair as CodeRepair}
-use Rattle.bdb_tool_ask.specs.of_tool_words.declared.command.Salvage.{Salvage as CodeSalvage}
-use Rattle.bdb_tool_ask.specs.of_tool_words.declared.command.Trial.{Trial as CodeTrial}
+use Rattle.bdb_tool_words.specs.WordsSeen.{IsFitRepair, IsFitSalvage, IsFitTrial, reading_seen, request_seen}
+use Rattle.bdb_tool_words.specs.declared.command.Repair.{Repair as CodeRepair}
+use Rattle.bdb_tool_words.specs.declared.command.Salvage.{Salvage as CodeSalvage}
+use Rattle.bdb_tool_words.specs.declared.command.Trial.{Trial as CodeTrial}
 use Rattle.bdb_tool.specs.declared.task.Task.{Task}
 use Rattle.bdb_tool.specs.declared.task.Task.TheVariants.{Ask as AskTask, Load as LoadTask, Read as ReadTask, Repair as RepairTask, Salvage as SalvageTask, Trial as TrialTask}
 use Rattle.bdb_tool.specs.declared.task.Stop.{Stop}

@@ -4,9 +4,7 @@ ghost use Rattle.bdb_tool.specs.Laws.{SameAnswersWithoutOrder};
 ghost use Rattle.bdb_tool.specs.Outputs.{StatusIs};
 
 use crate::run;
-use bdb_repair::bdb_format::{Bytes, Steps};
-use bdb_repair::bdb_io::{PureSink, PureSource};
-use bdb_repair::bdb_model::Words;
+use bdb_repair::{Bytes, PureSink, PureSource, Steps, Words};
 use std::alloc::Global;
 use std::sync::ledger::Ledger;
 

@@ -11,12 +11,11 @@ mod task;
 mod text;
 
 pub use bdb_repair::{
-    bdb_btree, bdb_format, bdb_graph, bdb_io, bdb_layout, bdb_mkfile, bdb_model, bdb_settle,
-    bdb_text, bdb_text_format,
+    BaseSource, BtreeMeta, Bytes, Failed, Image, KeyRef, Kind, Linked, LoadError, MemSink,
+    MemSource, Meta, Order, PairSlice, PureSource, Sink, Source, StdSink, StdSource, Steps,
+    TextPairs, Words, hash5, load, push_line_text, put_all, read_dump, settle,
 };
-pub use bdb_tool_ask::bdb_tool_lines::status;
-pub use bdb_tool_ask::bdb_tool_words::onto_file;
-pub use bdb_tool_ask::{bdb_range, tell_usage};
-pub use bdb_tool_build;
-pub use bdb_tool_build::{bdb_file, bdb_gen};
+pub use bdb_tool_ask::{pairs_of, span, status, tell_usage};
+pub use bdb_tool_build::{Db, Rows, Scan, Sound, generate, trial_text, verify};
+pub use bdb_tool_words::onto_file;
 pub use program::{run, run_counted, run_onto};

@@ -1,22 +1,19 @@
 ghost use Rattle.std.specs.Prelude.{◌≡◌, ◌≤◌, ◌^◌, List, Some, false, length, ℕ};
 ghost use Rattle.bdb_repair.specs.of_model.Change.{change};
-ghost use Rattle.bdb_tool_ask.specs.of_tool_words.Commands.{command_on};
+ghost use Rattle.bdb_tool_words.specs.Commands.{command_on};
 ghost use Rattle.bdb_tool.specs.Outputs.{Asked, asked_alone};
 ghost use Rattle.bdb_tool.specs.Parts.{EndsOnto, IsToldOfBase, IsToldStop};
 ghost use Rattle.bdb_tool.specs.Runs.{RunsAs, RunsOn, base_change};
-ghost use Rattle.bdb_tool_ask.specs.of_tool_words.WordsSeen.{AreOnto};
+ghost use Rattle.bdb_tool_words.specs.WordsSeen.{AreOnto};
 
 use crate::answer::answer;
 use crate::building::answer_onto;
 use crate::task::{Stop, input_of, task_of};
 use crate::text::{base_too_large_line, too_large_line};
-use bdb_repair::bdb_format::Steps;
-use bdb_repair::bdb_io::{Image, PureSource, Sink, Source};
-use bdb_repair::bdb_model::Words;
-use bdb_tool_ask::bdb_tool_lines::status::{READ_FAULT, TOO_LARGE};
-use bdb_tool_ask::bdb_tool_lines::{tell, tell_memory};
-use bdb_tool_ask::bdb_tool_words::base_limit;
-use bdb_tool_ask::tell_usage;
+use bdb_repair::{Image, PureSource, Sink, Source, Steps, Words};
+use bdb_tool_ask::status::{READ_FAULT, TOO_LARGE};
+use bdb_tool_ask::{tell, tell_memory, tell_usage};
+use bdb_tool_words::base_limit;
 use std::alloc::Global;
 use std::sync::ledger::{Blank, Ledger};
 

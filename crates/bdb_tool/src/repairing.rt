@@ -5,16 +5,14 @@ ghost use Rattle.bdb_repair.specs.of_model.Lines.{memory_line};
 ghost use Rattle.bdb_tool.specs.Outputs.{IsRepairAnswer};
 ghost use Rattle.bdb_tool_ask.specs.of_tool_lines.Finished.{Tells};
 ghost use Rattle.bdb_tool.specs.Parts.{Ends};
-ghost use Rattle.bdb_tool_ask.specs.of_tool_words.WordsSeen.{IsFitRepair};
+ghost use Rattle.bdb_tool_words.specs.WordsSeen.{IsFitRepair};
 ghost use Rattle.bdb_tool_build.specs.Lines.{image_too_large_line};
 
-use bdb_repair::bdb_format::Steps;
-use bdb_repair::bdb_io::Sink;
-use bdb_repair::{RepairError, repair_as};
-use bdb_tool_ask::bdb_tool_lines::status::{NO_META, TOO_LARGE};
-use bdb_tool_ask::bdb_tool_lines::{put, report, tell, tell_memory};
-use bdb_tool_ask::bdb_tool_words::Repair;
+use bdb_repair::{RepairError, Sink, Steps, repair_as};
+use bdb_tool_ask::status::{NO_META, TOO_LARGE};
+use bdb_tool_ask::{put, report, tell, tell_memory};
 use bdb_tool_build::image_too_large_line;
+use bdb_tool_words::Repair;
 use std::alloc::Global;
 use std::sync::ledger::Ledger;
 

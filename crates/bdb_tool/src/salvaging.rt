@@ -3,15 +3,12 @@ ghost use Rattle.std.specs.Prelude.{◌≤◌, ◌^◌, length};
 ghost use Rattle.bdb_repair.specs.of_model.Change.{change};
 ghost use Rattle.bdb_tool.specs.Outputs.{salvage_answer};
 ghost use Rattle.bdb_tool_ask.specs.of_tool_lines.Finished.{Finishes};
-ghost use Rattle.bdb_tool_ask.specs.of_tool_words.WordsSeen.{IsFitSalvage};
+ghost use Rattle.bdb_tool_words.specs.WordsSeen.{IsFitSalvage};
 
-use bdb_repair::bdb_format::Steps;
-use bdb_repair::bdb_io::Sink;
-use bdb_repair::bdb_rescue::{SalvageError, salvage};
-use bdb_tool_ask::bdb_tool_lines::status::NO_META;
-use bdb_tool_ask::bdb_tool_lines::{report, tell, tell_memory};
-use bdb_tool_ask::bdb_tool_print::write_salvaged;
-use bdb_tool_ask::bdb_tool_words::Salvage;
+use bdb_repair::{SalvageError, Sink, Steps, salvage};
+use bdb_tool_ask::status::NO_META;
+use bdb_tool_ask::{report, tell, tell_memory, write_salvaged};
+use bdb_tool_words::Salvage;
 use std::alloc::Global;
 use std::sync::ledger::Ledger;
 

@@ -1,16 +1,13 @@
 //! What there is to do, and what it is done with.
 ghost use Rattle.std.specs.Prelude.{◌^◌, ◌≤◌, IfOk, IsTrue, MatchResult, Option, false, is_some};
 ghost use Rattle.bdb_repair.specs.of_model.Change.{change};
-ghost use Rattle.bdb_tool_ask.specs.of_tool_words.Commands.{Command as ModelCommand, command_on, handed};
+ghost use Rattle.bdb_tool_words.specs.Commands.{Command as ModelCommand, command_on, handed};
 ghost use Rattle.bdb_tool.specs.Tasks.{IsFitTask, IsInputWithin, IsStopped, IsTaskTaken, IsUnreadable};
-ghost use Rattle.bdb_tool_ask.specs.of_tool_words.WordsSeen.{IsFitCommand, IsSeen, command_seen};
+ghost use Rattle.bdb_tool_words.specs.WordsSeen.{IsFitCommand, IsSeen, command_seen};
 
-use bdb_repair::bdb_io::{Image, ReadError, Source, read_image};
-use bdb_repair::bdb_model::Words;
-use bdb_tool_ask::bdb_tool_words::{
-    Action, Command, Reading, Repair, Request, Salvage, Trial, command_of,
-};
-use bdb_tool_build::bdb_file::Rows;
+use bdb_repair::{Image, ReadError, Source, Words, read_image};
+use bdb_tool_build::Rows;
+use bdb_tool_words::{Action, Command, Reading, Repair, Request, Salvage, Trial, command_of};
 use std::alloc::Global;
 
 /// What there is to do. A number is the limit of the command, in bytes.

@@ -1,4 +1,3 @@
 pub mod FileAnswers
 pub mod Figures
 pub use Rattle.bdb_tool_dump.specs.of_tool_lines as of_tool_lines
-pub use Rattle.bdb_tool_words.specs as of_tool_words

@@ -7,12 +7,10 @@ ghost use Rattle.bdb_tool_words.specs.of_model.Lines.{memory_line};
 ghost use Rattle.bdb_tool_dump.specs.of_tool_lines.Finished.{Finishes, Tells};
 
 use crate::text::overlap_line;
-use bdb_file::Sound;
-use bdb_file::bdb_format::Order;
-use bdb_swap::bdb_io::Sink;
-use bdb_swap::{FlipError, flip};
-use bdb_tool_dump::bdb_tool_lines::status::OVERLAP;
-use bdb_tool_dump::bdb_tool_lines::{put, report, tell, tell_memory};
+use bdb_file::{Order, Sound};
+use bdb_swap::{FlipError, Sink, flip};
+use bdb_tool_dump::status::OVERLAP;
+use bdb_tool_dump::{put, report, tell, tell_memory};
 use std::alloc::Global;
 
 /// Tells the page on which items overlap.

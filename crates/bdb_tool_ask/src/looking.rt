@@ -9,12 +9,10 @@ ghost use Rattle.bdb_tool_words.specs.of_text_format.TextSpelling.{bytes_spelled
 ghost use Rattle.bdb_tool_dump.specs.of_tool_lines.Finished.{Finishes};
 
 use crate::spelled::{name_bytes, name_sought, spelled};
-use bdb_file::bdb_format::Steps;
-use bdb_file::{Found, Sound};
-use bdb_swap::bdb_io::Sink;
-use bdb_tool_dump::bdb_tool_lines::status::NOT_FOUND;
-use bdb_tool_dump::bdb_tool_lines::{report, tell, tell_memory};
-use bdb_tool_dump::write_found;
+use bdb_file::{Found, Sound, Steps};
+use bdb_swap::Sink;
+use bdb_tool_dump::status::NOT_FOUND;
+use bdb_tool_dump::{report, tell, tell_memory, write_found};
 use bdb_tool_words::Lookup;
 use std::alloc::Global;
 use std::sync::ledger::Ledger;

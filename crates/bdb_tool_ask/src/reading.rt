@@ -12,13 +12,13 @@ ghost use Rattle.bdb_tool_words.specs.WordsSeen.{reading_seen};
 
 use crate::spelled::name_sought;
 use crate::text::sound_line;
-use bdb_file::bdb_faults::AllError;
-use bdb_file::bdb_format::Steps;
-use bdb_file::{Readable, Rows, verify_all_by, verify_by};
-use bdb_swap::bdb_io::Sink;
-use bdb_tool_dump::bdb_tool_lines::status::NOT_FOUND;
-use bdb_tool_dump::bdb_tool_lines::{Cut, put, refuse, report, tell, tell_list, tell_memory};
-use bdb_tool_dump::{write_list, write_section, write_sections};
+use bdb_file::{AllError, Readable, Rows, Steps, verify_all_by, verify_by};
+use bdb_swap::Sink;
+use bdb_tool_dump::status::NOT_FOUND;
+use bdb_tool_dump::{
+    Cut, put, refuse, report, tell, tell_list, tell_memory, write_list, write_section,
+    write_sections,
+};
 use bdb_tool_words::{Reading, Selection};
 use std::alloc::Global;
 use std::sync::ledger::Ledger;

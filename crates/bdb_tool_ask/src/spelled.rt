@@ -3,8 +3,8 @@ ghost use Rattle.std.specs.Prelude.{◌≡◌, IfOk, IsTrue, Some, is_some, opti
 ghost use Rattle.bdb_tool_words.specs.Commands.{asked_name};
 ghost use Rattle.bdb_tool_words.specs.of_text_format.TextSpelling.{bytes_spelled};
 
-use bdb_file::bdb_format::Bytes;
-use bdb_tool_dump::bdb_text::{SpellError, read_spelling};
+use bdb_file::Bytes;
+use bdb_tool_dump::{SpellError, read_spelling};
 use std::alloc::{AllocError, Global};
 
 /// The bytes of a spelling that was tested.

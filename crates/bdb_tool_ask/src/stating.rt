@@ -10,9 +10,9 @@ ghost use Rattle.bdb_tool_ask.specs.Figures.{figures_text, last_figures, other_f
 
 use bdb_file::Sound;
 use bdb_stat::{Stat, stat};
-use bdb_swap::bdb_io::Sink;
-use bdb_tool_dump::bdb_tool_lines::{put, report};
-use bdb_tool_dump::bdb_tool_print::Cut;
+use bdb_swap::Sink;
+use bdb_tool_dump::{put, report};
+use bdb_tool_print::Cut;
 use std::alloc::{AllocError, Global};
 
 /// The lines of all pages, and of those of trees.

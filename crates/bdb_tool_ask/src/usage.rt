@@ -2,9 +2,9 @@ ghost use Rattle.bdb_tool_words.specs.of_model.Change.{change};
 ghost use Rattle.bdb_tool_words.specs.Commands.{usage};
 ghost use Rattle.bdb_tool_dump.specs.of_tool_lines.Finished.{Tells};
 
-use bdb_swap::bdb_io::Sink;
-use bdb_tool_dump::bdb_tool_lines::status::USAGE;
-use bdb_tool_dump::bdb_tool_lines::tell;
+use bdb_swap::Sink;
+use bdb_tool_dump::status::USAGE;
+use bdb_tool_dump::tell;
 
 /// Tells the names of all commands, where the words are none of them, and answers the status of that or of a write fault.
 pub fn tell_usage<E: Sink>(err: &mut E) -> u8

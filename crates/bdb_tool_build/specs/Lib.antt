@@ -5,4 +5,3 @@ pub mod Ontos
 pub mod Refusals
 pub mod Trials
 pub use Rattle.bdb_file.specs as of_file
-pub use Rattle.bdb_onto.specs as of_onto

@@ -13,12 +13,10 @@ ghost use Rattle.bdb_tool_build.specs.Copied.{IsBtree};
 
 use crate::copied::{Rooms, push_listed};
 use crate::tree::btree_pairs;
-use bdb_file::bdb_graph::Meta;
-use bdb_file::{Db, Scan, Sound, verify};
-use bdb_model::bdb_format::{BtreeMeta, Bytes, Steps, Verdict};
-use bdb_model::bdb_text_format::{Section, Sections, TextPairs};
+use bdb_file::{Db, Meta, Scan, Sound, verify};
+use bdb_io::Image;
+use bdb_model::{BtreeMeta, Bytes, Section, Sections, Steps, TextPairs, Verdict};
 use bdb_onto::Base;
-use bdb_onto::bdb_io::Image;
 use std::alloc::{AllocError, Global};
 use std::sync::ledger::Ledger;
 

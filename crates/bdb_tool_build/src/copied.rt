@@ -8,8 +8,8 @@ ghost use Rattle.bdb_onto.specs.Bases.{text_pair};
 ghost use Rattle.bdb_tool_build.specs.Ontos.{list_key};
 ghost use Rattle.bdb_tool_build.specs.Copied.{EndsWith};
 
-use bdb_file::bdb_overflow::{Datum, KeyView, bytes_in, is_same};
-use bdb_model::bdb_text_format::{KeyRef, PairRef, TextPairs};
+use bdb_file::{Datum, KeyView, bytes_in, is_same};
+use bdb_model::{KeyRef, PairRef, TextPairs};
 use std::alloc::{AllocError, Global};
 
 /// Rooms in which the bytes of chains are joined, for all keys and data of a base, and how many bytes may still be copied.

@@ -10,9 +10,8 @@ mod tree;
 mod trial;
 
 pub use base::base_of;
-pub use bdb_file;
-pub use bdb_gen;
-pub use bdb_onto;
+pub use bdb_file::{Db, Rows, Scan, Sound, verify};
+pub use bdb_gen::generate;
 pub use loading::{load_text, load_text_onto};
 pub use refusal::Refusal;
 pub use texts::image_too_large_line;

@@ -13,12 +13,9 @@ ghost use Rattle.bdb_tool_build.specs.Refusals.{IsRefusedAnswer, Says};
 
 use crate::refusal::Refusal;
 use crate::texts::{error_line, image_too_large_line, reason_line};
-use bdb_model::bdb_text_format::{Sections, TextFault};
-use bdb_onto::bdb_io::Image;
-use bdb_onto::bdb_mkfile::load;
-use bdb_onto::bdb_settle::LoadError;
-use bdb_onto::bdb_text::{TextError, read_dump};
-use bdb_onto::{Base, load_onto};
+use bdb_io::Image;
+use bdb_model::{Sections, TextFault};
+use bdb_onto::{Base, LoadError, TextError, load, load_onto, read_dump};
 use std::alloc::{AllocError, Global};
 
 // A line of why a text isn't loaded, where there is memory for it.

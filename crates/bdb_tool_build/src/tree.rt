@@ -15,11 +15,8 @@ ghost use Rattle.bdb_onto.specs.Bases.{text_pair};
 ghost use Rattle.bdb_tool_build.specs.Copied.{AreOf, EndsWith, Follow, HaveOneKey};
 
 use crate::copied::Rooms;
-use bdb_file::bdb_btree::{Entries, Pair, next_entry, page_pairs, pair_entries};
-use bdb_file::bdb_graph::{Forest, Linked};
-use bdb_file::bdb_tree::tree_leaves;
-use bdb_model::bdb_format::BtreeMeta;
-use bdb_model::bdb_text_format::TextPairs;
+use bdb_file::{Entries, Forest, Linked, Pair, next_entry, page_pairs, pair_entries, tree_leaves};
+use bdb_model::{BtreeMeta, TextPairs};
 use std::alloc::{AllocError, Global};
 
 // Adds the data that are left of a key, with the key of the last pair.

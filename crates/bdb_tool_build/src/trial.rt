@@ -11,13 +11,11 @@ ghost use Rattle.bdb_tool_build.specs.Trials.{IsTrialAnswer, trial_sections, tri
 use crate::loading::refusal_of;
 use crate::refusal::Refusal;
 use crate::texts::trial_lines;
-use bdb_file::bdb_layout::hash5;
-use bdb_file::verify;
+use bdb_file::{hash5, verify};
 use bdb_gen::generate;
-use bdb_model::bdb_format::{Kind, Order, Settings, Steps, Verdict};
-use bdb_model::bdb_text_format::{Section, Sections};
-use bdb_onto::bdb_io::Image;
-use bdb_onto::bdb_mkfile::load;
+use bdb_io::Image;
+use bdb_model::{Kind, Order, Section, Sections, Settings, Steps, Verdict};
+use bdb_onto::load;
 use std::alloc::{AllocError, Global};
 use std::sync::ledger::Ledger;
 

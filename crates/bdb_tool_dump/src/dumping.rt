@@ -11,11 +11,8 @@ ghost use Rattle.bdb_tool_print.specs.of_text_format.Written.{data_end, database
 ghost use Rattle.bdb_tool_print.specs.Printers.{Adds, pair_text};
 ghost use Rattle.bdb_tool_print.specs.of_tool_lines.Printing.{Writes};
 
-use bdb_databases::bdb_format::Bytes;
-use bdb_databases::{Db, Readable, Scan};
-use bdb_tool_print::Printer;
-use bdb_tool_print::bdb_io::Sink;
-use bdb_tool_print::bdb_tool_lines::Cut;
+use bdb_databases::{Bytes, Db, Readable, Scan};
+use bdb_tool_print::{Cut, Printer, Sink};
 use std::alloc::Global;
 
 /// Prints the data lines of a list.

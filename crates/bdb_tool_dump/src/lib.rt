@@ -4,7 +4,9 @@
 mod dumping;
 mod listing;
 
-pub use bdb_tool_print;
-pub use bdb_tool_print::{bdb_range, bdb_text, bdb_tool_lines};
+pub use bdb_tool_print::{
+    Cut, RangePairs, SpellError, pairs_of, put, read_spelling, refuse, report, span, status, tell,
+    tell_list, tell_memory,
+};
 pub use dumping::{write_section, write_sections};
 pub use listing::{write_found, write_list};

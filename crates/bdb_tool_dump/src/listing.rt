@@ -8,12 +8,8 @@ ghost use Rattle.bdb_databases.specs.of_overflow.Datum.{datum_seen};
 ghost use Rattle.bdb_tool_print.specs.Printers.{Adds};
 ghost use Rattle.bdb_tool_print.specs.of_tool_lines.Printing.{Writes};
 
-use bdb_databases::bdb_format::Bytes;
-use bdb_databases::bdb_overflow::Datum;
-use bdb_databases::{Found, Readable};
-use bdb_tool_print::Printer;
-use bdb_tool_print::bdb_io::Sink;
-use bdb_tool_print::bdb_tool_lines::Cut;
+use bdb_databases::{Bytes, Datum, Found, Readable};
+use bdb_tool_print::{Cut, Printer, Sink};
 use std::alloc::Global;
 
 /// Prints the line of each database.

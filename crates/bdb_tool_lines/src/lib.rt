@@ -11,7 +11,7 @@ mod room;
 pub mod status;
 mod telling;
 
-pub use bdb_io;
+pub use bdb_io::{Sink, put_all};
 pub use cut::Cut;
 pub use finish::{put, report, tell, tell_memory};
 pub use refusing::{refuse, tell_list};

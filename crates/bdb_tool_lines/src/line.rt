@@ -13,8 +13,7 @@ ghost use Rattle.bdb_model.specs.of_text_format.LineEnd.{line};
 use crate::Cut;
 use crate::digits::Digits;
 use crate::printer::Printer;
-use bdb_faults::bdb_format::{Fault, Unsupported};
-use bdb_faults::{Named, NamedList, fault_name, unsupported_name};
+use bdb_faults::{Fault, Named, NamedList, Unsupported, fault_name, unsupported_name};
 use bdb_io::Sink;
 
 impl<'k, K: Sink> Printer<'k, K> {

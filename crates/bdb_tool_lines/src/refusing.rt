@@ -10,8 +10,7 @@ use crate::finish::tell_memory;
 use crate::room::Room;
 use crate::status::{FAULT, UNSUPPORTED, WRITE_FAULT};
 use crate::telling::{tell_all, tell_one};
-use bdb_faults::bdb_format::Verdict;
-use bdb_faults::{Named, NamedList};
+use bdb_faults::{Named, NamedList, Verdict};
 use bdb_io::Sink;
 use std::alloc::Global;
 

@@ -7,12 +7,9 @@ ghost use Rattle.bdb_tool_print.specs.Printers.{Adds, pair_text};
 ghost use Rattle.std.specs.Fmt.{decimal};
 
 use crate::printing::Printer;
-use bdb_range::bdb_format::Settings;
-use bdb_range::bdb_overflow::{Datum, KeyView};
-use bdb_text::bdb_spelling::SHORT_VALUE;
-use bdb_text::{header_text, number_text};
-use bdb_tool_lines::Cut;
-use bdb_tool_lines::bdb_io::Sink;
+use bdb_range::{Datum, KeyView, Settings};
+use bdb_text::{SHORT_VALUE, header_text, number_text};
+use bdb_tool_lines::{Cut, Sink};
 
 impl<'k, K: Sink> Printer<'k, K> {
     /// Prints the data line of any value.

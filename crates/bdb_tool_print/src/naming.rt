@@ -7,10 +7,9 @@ ghost use Rattle.bdb_text.specs.of_text_format.Written.{kind_text};
 ghost use Rattle.bdb_tool_print.specs.Printers.{Adds};
 
 use crate::printing::Printer;
-use bdb_range::bdb_format::Kind;
+use bdb_range::Kind;
 use bdb_text::kind_word;
-use bdb_tool_lines::Cut;
-use bdb_tool_lines::bdb_io::Sink;
+use bdb_tool_lines::{Cut, Sink};
 
 impl<'k, K: Sink> Printer<'k, K> {
     /// Prints a blank and a name.

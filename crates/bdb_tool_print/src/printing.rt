@@ -7,12 +7,9 @@ ghost use Rattle.bdb_text.specs.of_text_format.Written.{data_line};
 ghost use Rattle.bdb_range.specs.of_overflow.Datum.{datum_seen};
 ghost use Rattle.bdb_tool_print.specs.Printers.{Adds};
 
-use bdb_range::bdb_format::Bytes;
-use bdb_range::bdb_overflow::{Datum, Pieces};
-use bdb_text::bdb_spelling::{SHORT_VALUE, push_short_line};
-use bdb_text::push_line_text;
-use bdb_tool_lines::Cut;
-use bdb_tool_lines::bdb_io::{Sink, put_all};
+use bdb_range::{Bytes, Datum, Pieces};
+use bdb_text::{SHORT_VALUE, push_line_text, push_short_line};
+use bdb_tool_lines::{Cut, Sink, put_all};
 use std::alloc::Global;
 
 /// How many bytes are gathered before they are written.

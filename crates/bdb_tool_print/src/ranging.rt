@@ -9,12 +9,9 @@ ghost use Rattle.bdb_tool_lines.specs.Printing.{Writes};
 ghost use Rattle.std.specs.Fmt.{decimal};
 
 use crate::printing::Printer;
-use bdb_range::RangePairs;
-use bdb_range::bdb_format::{Bytes, Bytes};
-use bdb_range::bdb_overflow::{Datum, KeyView};
+use bdb_range::{Bytes, Bytes, Datum, KeyView, RangePairs};
 use bdb_text::number_text;
-use bdb_tool_lines::Cut;
-use bdb_tool_lines::bdb_io::Sink;
+use bdb_tool_lines::{Cut, Sink};
 use std::alloc::Global;
 
 impl<'k, K: Sink> Printer<'k, K> {

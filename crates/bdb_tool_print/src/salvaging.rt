@@ -13,11 +13,9 @@ ghost use Rattle.bdb_rescue.specs.Kept.{file_in};
 ghost use Rattle.bdb_rescue.specs.of_survey.Salvage.{loose};
 
 use crate::printing::Printer;
-use bdb_range::bdb_format::{Bytes, Kind, Settings, plain_settings};
-use bdb_range::bdb_overflow::{Datum, KeyView};
+use bdb_range::{Bytes, Datum, KeyView, Kind, Settings, plain_settings};
 use bdb_rescue::{Guess, SalvagePairs, SalvageValues, Salvaged};
-use bdb_tool_lines::Cut;
-use bdb_tool_lines::bdb_io::Sink;
+use bdb_tool_lines::{Cut, Sink};
 use std::alloc::Global;
 
 // The settings of the section of the loose records.

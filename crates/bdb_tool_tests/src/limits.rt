@@ -2,7 +2,6 @@
 
 use std::alloc::{AllocError, Global};
 use std::test::Fail;
-use test_runs::bdb_io::{MemSink, MemSource};
 use test_runs::files::ONE_PAIR;
 use test_runs::images::bytes_of;
 use test_runs::outside::{Dripping, Narrow};
@@ -10,6 +9,7 @@ use test_runs::running::Told::Line;
 use test_runs::running::{
     READ_FAULT, WRITE_FAULT, gave, is_start, ran_of, ran_over, source_over, status_of,
 };
+use test_runs::{MemSink, MemSource};
 
 #[test]
 fn reads_a_byte_beyond_its_limit(rt: HostRuntime) -> Result<(), Fail> {

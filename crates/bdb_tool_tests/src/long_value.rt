@@ -2,12 +2,11 @@
 
 use std::alloc::{AllocError, Global};
 use std::test::Fail;
-use test_runs::bdb_format::Bytes;
-use test_runs::bdb_io::{MemSink, MemSource, Sink};
 use test_runs::files::LONG_VALUE;
 use test_runs::images::bytes_of;
 use test_runs::outside::Narrow;
 use test_runs::running::{WRITE_FAULT, is_start, status_of};
+use test_runs::{Bytes, MemSink, MemSource, Sink};
 
 /// The last page of the chain, which begins at page 2: 82 pages of 486 bytes, and one of 148.
 const LAST: u8 = 84;

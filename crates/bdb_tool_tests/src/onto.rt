@@ -3,13 +3,12 @@
 use std::alloc::{AllocError, Global};
 use std::fs;
 use std::test::Fail;
-use test_runs::bdb_format::Bytes;
-use test_runs::bdb_io::{BaseSource, MemSource, Source, StdSource};
 use test_runs::files::ONE_PAIR;
 use test_runs::images::bytes_of;
 use test_runs::outside::Dripping;
 use test_runs::running::Told::{Done, Line};
 use test_runs::running::{READ_FAULT, Ran, gave, ran_onto, ran_over};
+use test_runs::{BaseSource, Bytes, MemSource, Source, StdSource};
 
 // A pair with a key of the base, and one with another.
 const TWO_MORE: &[u8] = b"VERSION=3\ntype=btree\nHEADER=END\n 61\n 63\n 7a\n 79\nDATA=END\n";

@@ -5,14 +5,12 @@ use std::alloc::{AllocError, Global};
 use std::marker::Brand;
 use std::sync::ledger::{Blank, Ledger};
 use std::test::Fail;
-use test_runs::bdb_format::Steps;
-use test_runs::bdb_io::{MemSink, MemSource, Source};
-use test_runs::bdb_tool::laws::run_pure;
-use test_runs::bdb_tool::run;
 use test_runs::files::ONE_PAIR;
 use test_runs::images::bytes_of;
+use test_runs::laws::run_pure;
 use test_runs::outside::Dripping;
 use test_runs::running::{source_over, words_of};
+use test_runs::{MemSink, MemSource, Source, Steps, run};
 
 fn status_beside<L: Ledger, B: Source>(
     alloc: Global,

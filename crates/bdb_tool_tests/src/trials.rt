@@ -1,8 +1,8 @@
 //! What `trial` writes: the figures, and the hash of the image. The rules: README.md, "Use".
 
 use std::test::Fail;
-use test_runs::bdb_layout::hash5;
 use test_runs::files::ONE_PAIR;
+use test_runs::hash5;
 use test_runs::images::bytes_of;
 use test_runs::outside::Dripping;
 use test_runs::running::{ran_of, ran_over};

@@ -12,8 +12,7 @@ use crate::options::{
 use crate::shapes::{duplicates_named, shape_asked};
 use crate::values::{is_name, kind_named, limit_of, number_to, rows_by};
 use bdb_any_order::Rows;
-use bdb_model::bdb_format::{Kind, Order};
-use bdb_model::{Shape, Words};
+use bdb_model::{Kind, Order, Shape, Words};
 use bdb_spelling::is_spelling;
 use bdb_survey::Guess;
 

@@ -3,7 +3,7 @@ ghost use Rattle.std.specs.Prelude.{◌≡◌, IfSome, IsTrue, option_copied};
 ghost use Rattle.bdb_model.specs.of_format.HeadOf.{is_page_size};
 ghost use Rattle.bdb_tool_words.specs.Commands.{guess_asked, order_named, page_size_named};
 
-use bdb_model::bdb_format::Order;
+use bdb_model::Order;
 use bdb_survey::Guess;
 
 /// The guess of an order and a page size, which are given together or not at all.

@@ -3,7 +3,7 @@ ghost use Rattle.std.specs.Prelude.{◌≡◌, ◌≤◌, ◌^◌, IfSome, is_so
 ghost use Rattle.bdb_tool_words.specs.Commands.{asked_name, kind_named, limit_of, number_to, rows_by};
 
 use bdb_any_order::Rows;
-use bdb_model::bdb_format::{Kind, number_in};
+use bdb_model::{Kind, number_in};
 use bdb_spelling::is_spelling;
 
 /// The longest input that any command takes, in bytes.

@@ -3,8 +3,8 @@ use Rattle.std.proofs.Common.{◌≡◌, ℕ, zero, suc, ◌+◌, ◌-◌, ◌�
 use Rattle.std.specs.List.{Contains, filter, flat_map}
 use Rattle.std.specs.Option.{is_some, unwrap_or}
 use Rattle.std.proofs.lemmas.List.Elements.{Contains-append_cases, Contains-append_left, Contains-append_right}
-use Rattle.bdb_overflow.specs.of_faults.Notes.{AreSame, NotesAll}
-use Rattle.bdb_overflow.proofs.of_faults.SinkLemmas.{notes_same}
+use Rattle.bdb_faults.specs.Notes.{AreSame, NotesAll}
+use Rattle.bdb_faults.proofs.SinkLemmas.{notes_same}
 use Rattle.bdb_overflow.specs.of_format.declared.kinds.Fault.{Fault}
 use Rattle.bdb_overflow.specs.of_format.ContentRows.{inner_in, inner_pages}
 use Rattle.bdb_overflow.specs.of_format.File.{File, file_of, header_in, page_at}

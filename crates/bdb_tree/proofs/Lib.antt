@@ -14,7 +14,6 @@ pub mod ShapeLemmas
 pub mod StageLemmas
 pub mod TreeLemmas
 pub mod WayLemmas
-pub use Rattle.bdb_overflow.proofs.of_faults as of_faults
 pub use Rattle.bdb_overflow.proofs.of_form as of_form
 pub use Rattle.bdb_overflow.proofs.of_format as of_format
 pub use Rattle.bdb_overflow.proofs.of_graph as of_graph

@@ -7,8 +7,8 @@ use Rattle.bdb_overflow.specs.of_format.declared.kinds.Fault.{Fault}
 use Rattle.bdb_overflow.specs.of_format.File.{File, page_at}
 use Rattle.bdb_overflow.specs.of_format.Graph.{is_meta}
 use Rattle.bdb_overflow.proofs.of_format.MemberLemmas.{in_filter, in_range, of_filter, of_range}
-use Rattle.bdb_overflow.specs.of_faults.Notes.{NotesAll}
-use Rattle.bdb_overflow.proofs.of_faults.SinkLemmas.{notes_next}
+use Rattle.bdb_faults.specs.Notes.{NotesAll}
+use Rattle.bdb_faults.proofs.SinkLemmas.{notes_next}
 use Rattle.bdb_overflow.specs.of_image.Linked.{meta_pages}
 
 pub meta_at : (file : File) (p : ℕ) → Contains (meta_pages file) p → (p ≤ file.last) × (is_meta (page_at file p) ≡ true)

@@ -6,12 +6,12 @@ use Rattle.std.specs.List.{All, Contains, flat_map, list_any, range_with_len}
 use Rattle.std.proofs.lemmas.Bool.{and_from, and_parts, eq-eqb, eqb-true, ne_eqb}
 use Rattle.std.proofs.lemmas.List.{take_all}
 use Rattle.std.proofs.lemmas.List.Elements.{Contains-append_cases, Contains-append_left, Contains-append_right, Contains-get_or}
-use Rattle.bdb_overflow.specs.of_faults.Notes.{AreSame, Notes, NotesAll}
-use Rattle.bdb_overflow.specs.of_faults.Rows.{fault_if, structure_code}
-use Rattle.bdb_overflow.specs.of_faults.declared.rows.Row.TheVariants.{Structure}
-use Rattle.bdb_overflow.specs.of_faults.declared.rows.StructureRow.{StructureRow}
-use Rattle.bdb_overflow.specs.of_faults.declared.rows.StructureRow.TheVariants.{LeafKind, LeafLink}
-use Rattle.bdb_overflow.proofs.of_faults.SinkLemmas.{notes_next, notes_one}
+use Rattle.bdb_faults.specs.Notes.{AreSame, Notes, NotesAll}
+use Rattle.bdb_faults.specs.Rows.{fault_if, structure_code}
+use Rattle.bdb_faults.specs.declared.rows.Row.TheVariants.{Structure}
+use Rattle.bdb_faults.specs.declared.rows.StructureRow.{StructureRow}
+use Rattle.bdb_faults.specs.declared.rows.StructureRow.TheVariants.{LeafKind, LeafLink}
+use Rattle.bdb_faults.proofs.SinkLemmas.{notes_next, notes_one}
 use Rattle.bdb_overflow.specs.of_format.declared.kinds.Fault.{Fault}
 use Rattle.bdb_overflow.specs.of_format.declared.references.Reference.{Reference}
 use Rattle.bdb_overflow.specs.of_format.declared.references.Sort.{Sort}

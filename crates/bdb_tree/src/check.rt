@@ -1,13 +1,12 @@
 ghost use Rattle.std.specs.Prelude.{◌≡◌, [], IfErr, OnOk};
-ghost use Rattle.bdb_overflow.specs.of_faults.Named.{HasNoted};
-ghost use Rattle.bdb_overflow.specs.of_faults.Notes.{NotesAll};
+ghost use Rattle.bdb_faults.specs.Named.{HasNoted};
+ghost use Rattle.bdb_faults.specs.Notes.{NotesAll};
 ghost use Rattle.bdb_overflow.specs.of_format.File.{file_of};
 ghost use Rattle.bdb_overflow.specs.of_format.Verdict.{tree_faults, IsFirstOf};
 
 use crate::trees::{note_all_sets, note_metas};
-use bdb_overflow::bdb_faults::{FaultSink, First, NamedList};
-use bdb_overflow::bdb_format::CheckError;
-use bdb_overflow::bdb_graph::Linked;
+use bdb_faults::{FaultSink, First, NamedList};
+use bdb_overflow::{CheckError, Linked};
 use std::alloc::{AllocError, Global};
 
 /// Notes each row on leaves of trees at each page where it holds, in any order and repeats allowed: a type that the

@@ -6,9 +6,7 @@ ghost use Rattle.bdb_overflow.specs.of_format.Page.{InternalItem};
 ghost use Rattle.bdb_overflow.specs.of_format.References.{has_type};
 ghost use Rattle.bdb_tree.specs.Descent.{AllMonotone, AllReadable, AreReadable, IsLastFalse, IsMonotone, chosen, descent, next_below, steps_at};
 
-use bdb_overflow::bdb_form::{InternalView, PageView};
-use bdb_overflow::bdb_format::Steps;
-use bdb_overflow::bdb_graph::{Forest, LeafPage, Linked, Ref, TreeRoot};
+use bdb_overflow::{Forest, InternalView, LeafPage, Linked, PageView, Ref, Steps, TreeRoot};
 use std::sync::ledger::Ledger;
 
 /// A key that is sought in a tree: what a descent asks of the items of internal pages.
@@ -20,7 +18,7 @@ pub trait Separate {
     ghost says: { Self → InternalItem → Bool };
 
     /// Whether the sought key is less than that of an item.
-    fn below(&self, item: &bdb_overflow::bdb_layout::InternalItem<'_>) -> bool
+    fn below(&self, item: &bdb_overflow::InternalItem<'_>) -> bool
         requires { reads self.now (internal_item_seen item.now) }
         ensures { result ≡ says self.now (internal_item_seen item.now) };
 }

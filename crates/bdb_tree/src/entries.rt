@@ -9,9 +9,7 @@ ghost use Rattle.bdb_tree.specs.Entries.{AreFit, leaf_entries_seen};
 ghost use Rattle.bdb_tree.specs.Trees.{IsRoot};
 
 use crate::{Leaves, tree_leaves};
-use bdb_overflow::bdb_form::{DupLeafKind, Items, PageView, RecnoLeafKind};
-use bdb_overflow::bdb_graph::Forest;
-use bdb_overflow::bdb_layout::LeafItem;
+use bdb_overflow::{DupLeafKind, Forest, Items, LeafItem, PageView, RecnoLeafKind};
 use std::marker::Model;
 
 /// The entries of one page that are left: of a leaf of records or of sorted data; another page has none.

@@ -7,8 +7,7 @@ ghost use Rattle.bdb_overflow.specs.of_format.Leaves.{children_in, leaves};
 ghost use Rattle.bdb_tree.specs.Links.{HasItem, first_below};
 ghost use Rattle.bdb_tree.specs.Trees.{IsTreePage};
 
-use bdb_overflow::bdb_form::PageView;
-use bdb_overflow::bdb_graph::{DupRoot, Forest, LeafPage, Linked, Ref, TreeRoot};
+use bdb_overflow::{DupRoot, Forest, LeafPage, Linked, PageView, Ref, TreeRoot};
 
 /// The first leaf of the tree of metadata.
 #[tactic(auto, using(crate::proofs::TreeLemmas::root_is_tree))]

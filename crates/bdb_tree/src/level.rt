@@ -7,8 +7,7 @@ ghost use Rattle.bdb_overflow.specs.of_format.File.{file_of, header_in, page_at}
 ghost use Rattle.bdb_overflow.specs.of_format.Leaves.{children_in, leaves};
 ghost use Rattle.bdb_tree.specs.Trees.{IsTreePage, children_at};
 
-use bdb_overflow::bdb_form::{InternalView, PageView, RecnoInternalView};
-use bdb_overflow::bdb_graph::Forest;
+use bdb_overflow::{Forest, InternalView, PageView, RecnoInternalView};
 use std::alloc::{AllocError, Global};
 
 /// Adds the children of the items of an internal page of a recno.

@@ -6,7 +6,7 @@ ghost use Rattle.bdb_overflow.specs.of_format.Verdict.{structure_faults};
 ghost use Rattle.bdb_tree.specs.Trees.{IsRoot};
 
 use crate::{Leaves, leftmost};
-use bdb_overflow::bdb_graph::{Forest, LeafPage, Linked, Ref};
+use bdb_overflow::{Forest, LeafPage, Linked, Ref};
 
 /// The leaves of a tree from one on, by their links: those after it in its tree follow it. No memory is
 /// taken.

@@ -4,9 +4,7 @@ ghost use Rattle.bdb_overflow.specs.of_format.Page.{Meta as MetaPage};
 ghost use Rattle.bdb_overflow.specs.of_image.Metas.{meta_seen};
 ghost use Rattle.bdb_tree.specs.Noted.{data_root, meta_root, pair_count, paired};
 
-use bdb_overflow::bdb_form::PageView;
-use bdb_overflow::bdb_graph::Meta;
-use bdb_overflow::bdb_layout::{HashItem, LeafItem};
+use bdb_overflow::{HashItem, LeafItem, Meta, PageView};
 
 /// The root of the tree of metadata, if it's a btree's.
 pub(crate) fn meta_root(meta: &Meta) -> Option<u32>

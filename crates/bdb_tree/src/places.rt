@@ -1,6 +1,6 @@
 ghost use Rattle.std.specs.Prelude.{◌≡◌, ◌<◌, ◌&&◌, ◌==◌, IsTrue, OnOk, length, slice_index};
 ghost use Rattle.std.specs.List.{All, flat_map};
-ghost use Rattle.bdb_overflow.specs.of_faults.Notes.{Notes, NotesAll};
+ghost use Rattle.bdb_faults.specs.Notes.{Notes, NotesAll};
 ghost use Rattle.bdb_overflow.specs.of_form.Seen.{page_seen};
 ghost use Rattle.bdb_overflow.specs.of_image.Linked.{FitsLeafPage, IsForest};
 ghost use Rattle.bdb_overflow.specs.of_format.File.{file_of, header_in, type_in};
@@ -8,9 +8,8 @@ ghost use Rattle.bdb_overflow.specs.of_format.Leaves.{places_from, wrong_leaf_ty
 ghost use Rattle.bdb_overflow.specs.of_format.References.{has_type};
 ghost use Rattle.bdb_tree.specs.Noted.{is_leaf_page, place_faults, place_in};
 
-use bdb_overflow::bdb_faults::{FaultSink, Row, StructureRow, note_if};
-use bdb_overflow::bdb_form::PageView;
-use bdb_overflow::bdb_graph::{Forest, Sort};
+use bdb_faults::{FaultSink, Row, StructureRow, note_if};
+use bdb_overflow::{Forest, PageView, Sort};
 use std::alloc::AllocError;
 
 /// Whether a leaf names these two as its previous and its next page.

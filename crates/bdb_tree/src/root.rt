@@ -4,7 +4,7 @@ ghost use Rattle.bdb_overflow.specs.of_format.ContentRows.{wrong_set_types};
 ghost use Rattle.bdb_overflow.specs.of_format.File.{type_in};
 ghost use Rattle.bdb_overflow.specs.of_format.References.{has_type};
 
-use bdb_overflow::bdb_form::PageView;
+use bdb_overflow::PageView;
 
 /// Whether the root of a set off the page has a type that it hasn't where sets are sorted, or where they aren't.
 pub fn is_wrong_root(view: &PageView<'_>, sorted: bool) -> bool

@@ -8,8 +8,7 @@ ghost use Rattle.bdb_overflow.specs.of_format.Verdict.{structure_faults};
 ghost use Rattle.bdb_overflow.specs.Datum.{datum_seen};
 
 use crate::{TreeEntries, tree_entries};
-use bdb_overflow::bdb_graph::Forest;
-use bdb_overflow::{Datum, is_deleted, value_of};
+use bdb_overflow::{Datum, Forest, is_deleted, value_of};
 use std::marker::Model;
 
 /// The data of a set off the page that are left: the values of the live entries of its leaves, from left to

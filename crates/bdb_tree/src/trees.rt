@@ -1,6 +1,6 @@
 ghost use Rattle.std.specs.Prelude.{◌≤◌, ◌+◌, IfSome, OnOk, Some};
 ghost use Rattle.std.specs.List.{flat_map, range_with_len};
-ghost use Rattle.bdb_overflow.specs.of_faults.Notes.{NotesAll};
+ghost use Rattle.bdb_faults.specs.Notes.{NotesAll};
 ghost use Rattle.bdb_overflow.specs.of_image.Linked.{IsForest, meta_pages};
 ghost use Rattle.bdb_overflow.specs.of_format.File.{file_of};
 ghost use Rattle.bdb_tree.specs.Noted.{held_sets, meta_faults, root_faults};
@@ -9,8 +9,8 @@ ghost use Rattle.bdb_tree.specs.Trees.{IsTreePage};
 use crate::leaves_below;
 use crate::named_roots::{data_root, meta_root, pairs};
 use crate::places::note_places;
-use bdb_overflow::bdb_faults::FaultSink;
-use bdb_overflow::bdb_graph::{Forest, Linked, Sort};
+use bdb_faults::FaultSink;
+use bdb_overflow::{Forest, Linked, Sort};
 use std::alloc::{AllocError, Global};
 
 /// Notes the faults of the leaves of the tree with this root.

@@ -5,7 +5,7 @@ ghost use Rattle.bdb_overflow.specs.of_format.Chains.{next_of};
 ghost use Rattle.bdb_overflow.specs.of_format.File.{file_of};
 ghost use Rattle.bdb_tree.specs.Links.{IsLeafWalk, pages_from};
 
-use bdb_overflow::bdb_graph::{Forest, LeafPage, Ref};
+use bdb_overflow::{Forest, LeafPage, Ref};
 use std::marker::Model;
 
 /// The leaves of a tree from one on, by their next pages.

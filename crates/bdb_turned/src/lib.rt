@@ -3,5 +3,8 @@
 
 pub mod laws;
 
-pub use bdb_graph;
-pub use bdb_graph::{bdb_form, bdb_format, bdb_layout};
+pub use bdb_graph::{
+    DupBlocks, FileKind, HashItem, Head, InternalItem, InternalKey, LeafItem, Linked, Order,
+    PageView, index_end, is_zero, known_hash_item, known_internal_item, known_leaf_item, link,
+    offset_at, open_image, u16_at,
+};

@@ -4,10 +4,11 @@
 ghost use Rattle.std.specs.Prelude.{◌≡◌, IfOk, map, string_bytes};
 ghost use Rattle.std.specs.Vec.Iter.{into_iter_items};
 
-use bdb_tool::bdb_io::{BaseSource, Sink, StdSink, StdSource, put_all};
-use bdb_tool::bdb_model::Words;
 use bdb_tool::status::{MEMORY, USAGE};
-use bdb_tool::{onto_file, run_counted, run_onto, tell_usage};
+use bdb_tool::{
+    BaseSource, Sink, StdSink, StdSource, Words, onto_file, put_all, run_counted, run_onto,
+    tell_usage,
+};
 use std::alloc::{AllocError, Global};
 use std::env::{self, Args};
 use std::fs::{self, File, Metadata};

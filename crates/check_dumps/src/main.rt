@@ -2,10 +2,11 @@
 //! pairs it has. A fault is told by its line and reason, with status 8.
 #![tactic(auto)]
 
-use bdb_io::bdb_format::Bytes;
-use bdb_io::{ReadError, Sink, StdSink, StdSource, put_all, read_image};
-use bdb_text::bdb_text_format::{KeyRef, PairRef, Section, Sections, TextFault};
-use bdb_text::{TextError, header_text, number_text, push_line_text, read_dump};
+use bdb_io::{Bytes, ReadError, Sink, StdSink, StdSource, put_all, read_image};
+use bdb_text::{
+    KeyRef, PairRef, Section, Sections, TextError, TextFault, header_text, number_text,
+    push_line_text, read_dump,
+};
 use std::alloc::{AllocError, Global};
 use std::env;
 use std::process::ExitCode;

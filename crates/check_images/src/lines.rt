@@ -2,7 +2,7 @@ ghost use Rattle.std.specs.Prelude.{◌≡◌, ◌++◌, IfOk};
 ghost use Rattle.check_images.specs.Lines.{lines_on, unreadable};
 ghost use Rattle.bdb_tool.specs.of_text_format.LineEnd.{line};
 
-use bdb_tool::bdb_format::Bytes;
+use bdb_tool::Bytes;
 use std::alloc::{AllocError, Global};
 
 /// The lines on an image: its name, and what is told of it by all rows and in any order.

@@ -9,8 +9,7 @@ mod verdict;
 
 use crate::lines::{lines_on, unreadable};
 use crate::verdict::verdict_on;
-use bdb_tool::bdb_file::Rows;
-use bdb_tool::bdb_format::Bytes;
+use bdb_tool::{Bytes, Rows};
 use std::alloc::AllocError;
 use std::io::Write;
 use std::rt::Files;

@@ -1,12 +1,8 @@
 ghost use Rattle.std.specs.Prelude.{◌≡◌, IfOk};
 ghost use Rattle.check_images.specs.Lines.{verdict_on, verify_words};
 
-use bdb_tool::bdb_file::Rows;
-use bdb_tool::bdb_format::Bytes;
-use bdb_tool::bdb_io::{MemSink, PureSource};
-use bdb_tool::bdb_model::Words;
-use bdb_tool::run_counted;
 use bdb_tool::status::{DONE, MEMORY, WRITE_FAULT};
+use bdb_tool::{Bytes, MemSink, PureSource, Rows, Words, run_counted};
 use std::alloc::{AllocError, Global};
 use std::marker::Brand;
 use std::sync::ledger::Blank;

@@ -1,9 +1,9 @@
 //! What a run gives where reads are short or fail, and where writes do.
 
 use std::alloc::{AllocError, Global};
-use test_runs::bdb_io::{MemSink, Sink, Source};
 use test_runs::outside::{Dripping, Narrow};
 use test_runs::running::{READ_FAULT, Ran, Told, WRITE_FAULT, gave, is_start, ran_over, status_of};
+use test_runs::{MemSink, Sink, Source};
 
 /// The longest input of which each byte is a read that fails.
 const SHORT: usize = 256;

@@ -1,7 +1,7 @@
 use std::alloc::{AllocError, Global};
 use std::rt::Files;
 use std::{fs, io};
-use test_runs::bdb_format::Bytes;
+use test_runs::Bytes;
 
 /// The outputs that are kept, by name.
 #[derive(Drop)]

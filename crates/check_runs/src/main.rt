@@ -13,7 +13,7 @@ use crate::told::{Reads, told_of};
 use std::alloc::{AllocError, Global};
 use std::io::{self, Write};
 use std::rt::Files;
-use test_runs::bdb_format::Bytes;
+use test_runs::Bytes;
 use test_runs::outside::Dripping;
 use test_runs::running::{Ran, ran_onto, ran_over};
 

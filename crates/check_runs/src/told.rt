@@ -1,5 +1,5 @@
 use std::alloc::{AllocError, Global};
-use test_runs::bdb_format::Bytes;
+use test_runs::Bytes;
 use test_runs::running::Ran;
 
 /// Whether the input, and the base where there is one, were read.

@@ -5,19 +5,16 @@ ghost use Rattle.bdb_salvage.specs.of_format.Databases.{databases};
 ghost use Rattle.bdb_salvage.specs.of_format.File.{file_of};
 
 use crate::held::Held;
-use bdb_salvage::bdb_format::{Bytes, FileKind, Steps};
-use bdb_salvage::bdb_graph::Meta;
-use bdb_salvage::{SalvageError, SalvagePairs, SalvageValues, Salvaged, salvage};
-use bdb_tool::bdb_file::{Db, Scan, Sound, verify};
+use bdb_salvage::{
+    Bytes, FileKind, Meta, SalvageError, SalvagePairs, SalvageValues, Salvaged, Steps, salvage,
+};
+use bdb_tool::{Db, Scan, Sound, verify};
 use std::alloc::{AllocError, Global};
 use std::marker::Brand;
 use std::sync::ledger::{Blank, Ledger};
 
 /// Adds the list of a master: its keys are names.
-fn add_names<'a>(
-    held: &mut Held<'a>,
-    list: &mut bdb_tool::bdb_btree::Scan<'a>,
-) -> Result<(), AllocError> {
+fn add_names<'a>(held: &mut Held<'a>, list: &mut bdb_btree::Scan<'a>) -> Result<(), AllocError> {
     for (key, value) in list {
         held.add_entry(key, value)?;
     }
@@ -36,7 +33,7 @@ fn add_master<'a>(held: &mut Held<'a>, sound: &Sound<'a>) -> Result<(), AllocErr
         && number == 0
         && meta.flags & 0x20 != 0
     {
-        return add_names(held, &mut bdb_tool::bdb_btree::scan(linked, &meta));
+        return add_names(held, &mut bdb_btree::scan(linked, &meta));
     }
     Ok(())
 }

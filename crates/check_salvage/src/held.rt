@@ -1,6 +1,6 @@
 //! Pairs and records, in no order.
 
-use bdb_salvage::bdb_overflow::{Datum, KeyView, compare_datum};
+use bdb_salvage::{Datum, KeyView, compare_datum};
 use std::alloc::{AllocError, Global};
 use std::cmp::Ordering;
 

@@ -8,7 +8,7 @@ mod rounds;
 
 use crate::census::census_of;
 use crate::rounds::told_of;
-use bdb_salvage::bdb_format::Bytes;
+use bdb_salvage::Bytes;
 use std::alloc::{AllocError, Global};
 use std::io::Write;
 use std::rt::Files;

@@ -1,8 +1,6 @@
-use bdb_salvage::bdb_format::Bytes;
-use bdb_tool::bdb_io::{MemSink, PureSource};
-use bdb_tool::bdb_model::Words;
-use bdb_tool::run_counted;
+use bdb_salvage::Bytes;
 use bdb_tool::status::{DONE, MEMORY, WRITE_FAULT};
+use bdb_tool::{MemSink, PureSource, Words, run_counted};
 use std::alloc::{AllocError, Global};
 use std::marker::Brand;
 use std::sync::ledger::Blank;

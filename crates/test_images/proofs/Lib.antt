@@ -1,5 +1,4 @@
 mod FieldLemmas
 pub mod RowLemmas
 pub use Rattle.bdb_tree.proofs.of_format as of_format
-pub use Rattle.bdb_tree.proofs.of_overflow as of_overflow
 pub use Rattle.bdb_tree.proofs as of_tree

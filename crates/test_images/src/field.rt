@@ -3,8 +3,7 @@ ghost use Rattle.std.specs.Prelude.{◌≡◌};
 ghost use Rattle.test_images.specs.Fields.{field_put, put_at};
 ghost use Rattle.bdb_tree.specs.of_format.Numbers.{spelled};
 
-use bdb_tree::bdb_format::Order;
-use bdb_tree::bdb_layout::{put_u16, put_u32};
+use bdb_tree::{Order, put_u16, put_u32};
 
 /// What is written at a place, the number of its first byte: a byte, a number of two or four bytes, or bytes as they are.
 #[derive(Clone, Copy)]

@@ -6,8 +6,11 @@ mod naming;
 mod opening;
 mod sample;
 
-pub use bdb_tree;
-pub use bdb_tree::{bdb_faults, bdb_form, bdb_format, bdb_graph, bdb_layout, bdb_overflow};
+pub use bdb_tree::{
+    AllError, CheckError, Fault, InternalItem, InternalKey, InternalView, LeafItem, Named,
+    NamedList, Order, PageView, Separate, Steps, Unsupported, Verdict, check_trees, compare,
+    descend_by, first_leaf, leaves, leaves_below, next_level, tree_faults,
+};
 pub use field::{Field, write};
 pub use naming::{has_rows, is_list_of};
 pub use opening::{btree_of, has_sound_trees, is_keyed, is_recno};

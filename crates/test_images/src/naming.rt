@@ -6,8 +6,7 @@ ghost use Rattle.bdb_tree.specs.of_faults.Named.{judgement_seen};
 ghost use Rattle.bdb_tree.specs.of_format.Verdict.{Judgement};
 ghost use Rattle.test_images.specs.Rows.{HasRows, row_judged};
 
-use bdb_tree::bdb_faults::{Named, NamedList};
-use bdb_tree::bdb_format::Fault;
+use bdb_tree::{Fault, Named, NamedList};
 
 // Whether both are the same.
 fn is_same(a: Named, b: Named) -> bool

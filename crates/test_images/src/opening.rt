@@ -7,10 +7,7 @@ ghost use Rattle.bdb_tree.specs.of_format.Page.{BtreeFields};
 ghost use Rattle.bdb_tree.specs.of_format.Verdict.{structure_faults};
 ghost use Rattle.bdb_tree.specs.of_format.Flags.{is_recno};
 
-use bdb_tree::bdb_format::BtreeMeta;
-use bdb_tree::bdb_graph::{Linked, Meta};
-use bdb_tree::bdb_overflow::check_chains;
-use bdb_tree::check_trees;
+use bdb_tree::{BtreeMeta, Linked, Meta, check_chains, check_trees};
 use std::alloc::Global;
 
 /// Whether no row of stage 6 holds; not, where memory is wanting.

@@ -4,7 +4,7 @@ ghost use Rattle.test_images.specs.Fields.{field_put};
 ghost use Rattle.bdb_tree.specs.of_format.declared.kinds.Order.TheVariants.{Little};
 
 use crate::field::{Field, write};
-use bdb_tree::bdb_format::Order;
+use bdb_tree::Order;
 use std::alloc::{AllocError, Global};
 
 /// An image as what is written over zeros: its size in bytes, and its fields in little-endian.

@@ -5,10 +5,8 @@ ghost use Rattle.bdb_text_format.specs.of_format.Databases.{databases};
 ghost use Rattle.bdb_text_format.specs.of_format.File.{file_of};
 ghost use Rattle.bdb_text_format.specs.of_format.Verdict.{verdict_of};
 
-use bdb_file::bdb_overflow::{Datum, KeyView, is_same};
-use bdb_file::{Db, Found, Scan, Sound, verify};
-use bdb_text_format::bdb_format::{Bytes, Steps};
-use bdb_text_format::{KeyRef, PairRef, PairSlice};
+use bdb_file::{Datum, Db, Found, KeyView, Scan, Sound, is_same, verify};
+use bdb_text_format::{Bytes, KeyRef, PairRef, PairSlice, Steps};
 use std::alloc::{AllocError, Global};
 use std::marker::Brand;
 use std::sync::ledger::{Blank, Ledger};

@@ -3,5 +3,5 @@
 
 mod judging;
 
-pub use bdb_file::bdb_overflow;
+pub use bdb_file::{Datum, is_less};
 pub use judging::{gives, is_pair_at, pair_of};

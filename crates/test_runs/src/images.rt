@@ -1,6 +1,6 @@
 //! Images that are written a field a line.
 
-use bdb_tool::bdb_format::{Bytes, Order};
+use bdb_tool::{Bytes, Order};
 use std::alloc::{AllocError, Global};
 use test_images::{Field, write};
 

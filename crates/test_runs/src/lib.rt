@@ -7,5 +7,6 @@ pub mod outside;
 pub mod running;
 pub mod texts;
 
-pub use bdb_tool;
-pub use bdb_tool::{bdb_format, bdb_io, bdb_layout};
+pub use bdb_tool::{
+    BaseSource, Bytes, MemSink, MemSource, Sink, Source, StdSource, Steps, hash5, laws, run,
+};

@@ -1,6 +1,6 @@
 ghost use Rattle.std.specs.Prelude.{None};
 
-use bdb_tool::bdb_io::{Failed, MemSink, Sink, Source};
+use bdb_tool::{Failed, MemSink, Sink, Source};
 use std::alloc::{AllocError, Global};
 
 /// A source that gives at most `most` bytes a read, fails at one of its calls, counted from 1, and counts them.

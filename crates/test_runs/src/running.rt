@@ -1,9 +1,7 @@
 //! Runs over memory, and what they give.
 
 use crate::images::{File, bytes_of};
-use bdb_tool::bdb_io::{MemSink, MemSource, Sink, Source};
-use bdb_tool::bdb_model::Words;
-use bdb_tool::{run_counted, run_onto};
+use bdb_tool::{MemSink, MemSource, Sink, Source, Words, run_counted, run_onto};
 use std::alloc::{AllocError, Global};
 use std::marker::Brand;
 use std::sync::ledger::Blank;

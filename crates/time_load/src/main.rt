@@ -4,11 +4,8 @@
 
 ghost use Rattle.std.specs.Prelude.{◌≤◌, ◌^◌, length};
 
-use bdb_mkfile::bdb_format::Bytes;
-use bdb_mkfile::bdb_io::{Image, ReadError, StdSink, StdSource, put_all, read_image};
-use bdb_mkfile::bdb_settle::{LoadError, settle};
-use bdb_mkfile::bdb_text_format::Sections;
-use bdb_mkfile::load;
+use bdb_io::{Image, ReadError, StdSink, StdSource, put_all, read_image};
+use bdb_mkfile::{Bytes, LoadError, Sections, load, settle};
 use bdb_text::{TextError, read_dump};
 use std::alloc::{AllocError, Global};
 use std::env;

@@ -4,12 +4,8 @@
 
 ghost use Rattle.std.specs.Prelude.{◌≤◌, ◌^◌, length};
 
-use bdb_building_tests::bdb_settle::settle;
-use bdb_building_tests::bdb_text::read_dump;
-use bdb_building_tests::bdb_text_format::PairSlice;
-use bdb_building_tests::built_table;
-use bdb_io::bdb_format::{Bytes, Settings};
-use bdb_io::{ReadError, StdSink, StdSource, put_all, read_image};
+use bdb_building_tests::{PairSlice, built_table, read_dump, settle};
+use bdb_io::{Bytes, ReadError, Settings, StdSink, StdSource, put_all, read_image};
 use std::alloc::{AllocError, Global};
 use std::env;
 use std::process::ExitCode;

@@ -4,8 +4,7 @@
 
 ghost use Rattle.std.specs.Prelude.{◌≤◌, ◌^◌, length};
 
-use bdb_io::bdb_format::Order;
-use bdb_io::{ReadError, StdSink, StdSource, put_all, read_image};
+use bdb_io::{Order, ReadError, StdSink, StdSource, put_all, read_image};
 use bdb_pack::{Pages, push_value};
 use std::alloc::{AllocError, Global};
 use std::env;

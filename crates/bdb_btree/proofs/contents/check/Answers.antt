@@ -2,7 +2,7 @@ use Rattle.std.proofs.Common.{◌∙◌, sym}
 use Rattle.bdb_ranks.specs.of_format.ContentRows.{database_faults}
 use Rattle.bdb_ranks.specs.of_format.File.{file_of}
 use Rattle.bdb_ranks.specs.of_format.Page.{BtreeFields}
-use Rattle.bdb_ranks.proofs.of_faults.SinkLemmas.{first_found, none_first}
+use Rattle.bdb_faults.proofs.SinkLemmas.{first_found, none_first}
 use Rattle.bdb_btree.proofs.CheckLemmas.{in_order}
 use Rattle.bdb_btree.proofs.contents.check.Goals as goal
 

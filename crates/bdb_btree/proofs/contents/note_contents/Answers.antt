@@ -1,5 +1,5 @@
 use Rattle.std.proofs.Common.{List, ℕ, subst}
-use Rattle.bdb_ranks.specs.of_faults.Notes.{NotesAll}
+use Rattle.bdb_faults.specs.Notes.{NotesAll}
 use Rattle.bdb_ranks.specs.of_format.ContentRows.{database_faults}
 use Rattle.bdb_ranks.specs.of_format.File.{file_of}
 use Rattle.bdb_ranks.specs.of_format.Page.{BtreeFields}

@@ -1,5 +1,5 @@
 use Rattle.std.proofs.Common.{◌≡◌, ◌∙◌, List, ℕ, ap, map, refl, subst, sym}
-use Rattle.bdb_ranks.specs.of_faults.Notes.{Notes}
+use Rattle.bdb_faults.specs.Notes.{Notes}
 use Rattle.bdb_ranks.specs.of_format.Contents.{tree_pairs}
 use Rattle.bdb_ranks.specs.of_format.File.{File, file_of}
 use Rattle.bdb_ranks.specs.of_image.Linked.{IsForest}

@@ -1,6 +1,6 @@
 use Rattle.std.proofs.Common.{◌≡◌}
 use Rattle.std.specs.List.{flat_map, list_any, range_with_len}
-use Rattle.bdb_ranks.specs.of_faults.Notes.{Notes}
+use Rattle.bdb_faults.specs.Notes.{Notes}
 use Rattle.bdb_hash.specs.Noted.{bucket_faults, has_stray_in}
 use Rattle.bdb_hash.proofs.contents.note_by_bucket.Given as goal
 

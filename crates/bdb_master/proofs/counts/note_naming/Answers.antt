@@ -1,7 +1,7 @@
 use Rattle.std.proofs.Common.{◌+◌, arith, ap}
-use Rattle.bdb_btree.specs.of_format.File.{file_of}
-use Rattle.bdb_btree.specs.of_format.declared.metadata.Head.{Head}
-use Rattle.bdb_btree.proofs.of_format.FileLemmas.{last_page}
+use Rattle.bdb_format.specs.File.{file_of}
+use Rattle.bdb_format.specs.declared.metadata.Head.{Head}
+use Rattle.bdb_format.proofs.FileLemmas.{last_page}
 use Rattle.bdb_btree.specs.of_image.Linked.{meta_pages}
 use Rattle.bdb_btree.proofs.of_faults.SinkLemmas.{notes_none}
 use Rattle.std.specs.Option.{option_to_list}

@@ -1,8 +1,8 @@
 use Rattle.std.proofs.Common.{List, sym, subst}
 use Rattle.std.specs.Prelude.{IfOk}
 use Rattle.bdb_io.specs.of_format.declared.settings.Settings.{Settings}
-use Rattle.bdb_need.specs.of_text_format.Placed.{pairs_of}
-use Rattle.bdb_need.specs.of_text_format.declared.pairs.TextPair.{TextPair}
+use Rattle.bdb_text_format.specs.Placed.{pairs_of}
+use Rattle.bdb_text_format.specs.declared.pairs.TextPair.{TextPair}
 use Rattle.bdb_need.specs.TreePages.{unlined_pairs}
 use Rattle.bdb_mkfile.specs.FileSettings.{file_settings}
 use Rattle.bdb_mkfile.specs.Settled.{IsAloneImage, IsBuildable}

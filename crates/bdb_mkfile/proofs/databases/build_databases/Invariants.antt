@@ -1,5 +1,5 @@
 use Rattle.std.proofs.Common.{◌≡◌, List, ◌++◌, length}
-use Rattle.bdb_need.specs.of_text_format.declared.sections.Section.{Section}
+use Rattle.bdb_text_format.specs.declared.sections.Section.{Section}
 use Rattle.bdb_mkfile.specs.Standing.{AreDatabasesBuilt}
 use Rattle.bdb_mkfile.proofs.databases.build_databases.Given as goal
 

@@ -1,6 +1,6 @@
 use Rattle.std.proofs.Common.{◌≡◌, ◌+◌, ◌∙◌, ap, sym, arith, subst}
-use Rattle.bdb_need.specs.of_text_format.Pairs.{unlined_pairs}
-use Rattle.bdb_need.specs.of_text_format.Placed.{pairs_of}
+use Rattle.bdb_text_format.specs.Pairs.{unlined_pairs}
+use Rattle.bdb_text_format.specs.Placed.{pairs_of}
 use Rattle.bdb_io.specs.of_format.declared.settings.Settings.{Settings}
 use Rattle.bdb_mkfile.specs.NamedImages.{AreNamed}
 use Rattle.bdb_mkfile.specs.Layout.{settings_of_master}

@@ -1,8 +1,8 @@
 use Rattle.std.proofs.Common.{◌≡◌, ◌++◌, ◌∷◌, [], ◌∙◌, ap, refl}
 use Rattle.std.proofs.lemmas.List.{map-append}
-use Rattle.bdb_need.specs.of_text_format.Pairs.{unlined, unlined_pairs}
-use Rattle.bdb_need.specs.of_text_format.declared.pairs.Key.TheVariants.{Bytes}
-use Rattle.bdb_need.specs.of_text_format.declared.pairs.TextPair.{TextPair}
+use Rattle.bdb_text_format.specs.Pairs.{unlined, unlined_pairs}
+use Rattle.bdb_text_format.specs.declared.pairs.Key.TheVariants.{Bytes}
+use Rattle.bdb_text_format.specs.declared.pairs.TextPair.{TextPair}
 use Rattle.bdb_mkfile.specs.Layout.{entry_of}
 use Rattle.bdb_mkfile.proofs.master.push_entry.Goals as goal
 

@@ -1,6 +1,6 @@
 use Rattle.std.proofs.Common.{arith, sym, ◌∙◌, subst, IsTrue}
-use Rattle.bdb_need.specs.of_text_format.Pairs.{unlined}
-use Rattle.bdb_need.specs.of_text_format.Placed.{pairs_of, slice_seen}
+use Rattle.bdb_text_format.specs.Pairs.{unlined}
+use Rattle.bdb_text_format.specs.Placed.{pairs_of, slice_seen}
 use Rattle.std.proofs.lemmas.List.{length-map}
 use Rattle.bdb_io.specs.of_format.Reading.{is_zero}
 use Rattle.bdb_mkfile.proofs.TreeLemmas.{first_zero, still_zero}

@@ -1,5 +1,5 @@
 use Rattle.std.proofs.Common.{◌≡◌, ◌++◌, List, ℕ}
-use Rattle.bdb_tree.specs.of_faults.Notes.{NotesAll}
+use Rattle.bdb_faults.specs.Notes.{NotesAll}
 use Rattle.bdb_tree.specs.of_format.File.{file_of}
 use Rattle.bdb_tree.specs.of_format.Leaves.{leaves}
 use Rattle.bdb_recno.specs.Noted.{length_faults}

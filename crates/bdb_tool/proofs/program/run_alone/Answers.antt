@@ -1,4 +1,4 @@
-use Rattle.bdb_tool_ask.specs.of_tool_words.Commands.{command_on}
+use Rattle.bdb_tool_words.specs.Commands.{command_on}
 use Rattle.std.specs.Prelude.{false}
 use Rattle.bdb_tool.proofs.OntoLemmas.{stopped_alone, taken_alone}
 use Rattle.bdb_tool.proofs.program.run_alone.Goals as goal

@@ -1,4 +1,4 @@
-use Rattle.bdb_tool_ask.specs.of_tool_words.Commands.{command_of}
+use Rattle.bdb_tool_words.specs.Commands.{command_of}
 use Rattle.bdb_tool.proofs.task.task_of.Goals as goal
 
 pub returns-clause-task : goal.returns-clause-task

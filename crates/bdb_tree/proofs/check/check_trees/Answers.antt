@@ -1,5 +1,5 @@
 use Rattle.std.proofs.Common.{◌∙◌, sym}
-use Rattle.bdb_overflow.proofs.of_faults.SinkLemmas.{first_found, none_first}
+use Rattle.bdb_faults.proofs.SinkLemmas.{first_found, none_first}
 use Rattle.bdb_overflow.proofs.of_format.FaultLemmas.{leaves_in_order}
 use Rattle.bdb_overflow.specs.of_format.File.{file_of}
 use Rattle.bdb_overflow.specs.of_format.Verdict.{tree_faults}

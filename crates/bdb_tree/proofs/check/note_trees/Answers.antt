@@ -1,6 +1,6 @@
 use Rattle.std.proofs.Common.{◌+◌, List, ℕ, subst}
-use Rattle.bdb_overflow.specs.of_faults.Notes.{NotesAll}
-use Rattle.bdb_overflow.proofs.of_faults.SinkLemmas.{notes_both, notes_same}
+use Rattle.bdb_faults.specs.Notes.{NotesAll}
+use Rattle.bdb_faults.proofs.SinkLemmas.{notes_both, notes_same}
 use Rattle.std.specs.List.{flat_map, range_with_len}
 use Rattle.bdb_overflow.specs.of_format.File.{file_of}
 use Rattle.bdb_overflow.specs.of_format.Verdict.{tree_faults}

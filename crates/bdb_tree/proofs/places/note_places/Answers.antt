@@ -1,5 +1,5 @@
 use Rattle.std.proofs.Common.{arith, subst}
-use Rattle.bdb_overflow.specs.of_faults.Notes.{NotesAll}
+use Rattle.bdb_faults.specs.Notes.{NotesAll}
 use Rattle.bdb_overflow.specs.of_format.File.{file_of}
 use Rattle.bdb_tree.specs.Noted.{place_faults}
 use Rattle.bdb_tree.proofs.NotedLemmas.{all_places, place_more}

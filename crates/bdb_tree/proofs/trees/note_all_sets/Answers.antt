@@ -1,7 +1,7 @@
 use Rattle.std.proofs.Common.{◌≡◌, ◌∙◌, ◌+◌, ap, arith, subst, sym}
 use Rattle.std.specs.List.{flat_map, range_with_len}
-use Rattle.bdb_overflow.specs.of_faults.Notes.{NotesAll}
-use Rattle.bdb_overflow.proofs.of_faults.SinkLemmas.{notes_more, notes_none}
+use Rattle.bdb_faults.specs.Notes.{NotesAll}
+use Rattle.bdb_faults.proofs.SinkLemmas.{notes_more, notes_none}
 use Rattle.bdb_overflow.specs.of_format.declared.metadata.Head.{Head}
 use Rattle.bdb_overflow.specs.of_format.File.{File, file_of}
 use Rattle.bdb_overflow.proofs.of_format.FileLemmas.{last_page}

@@ -1,6 +1,6 @@
 use Rattle.std.proofs.Common.{◌≡◌, ◌∙◌, List, ℕ, ap, arith, subst, sym}
 use Rattle.std.specs.Prelude.{IfSome, Option}
-use Rattle.bdb_overflow.specs.of_faults.Notes.{NotesAll}
+use Rattle.bdb_faults.specs.Notes.{NotesAll}
 use Rattle.bdb_overflow.specs.of_format.declared.references.Sort.TheVariants.{Root}
 use Rattle.bdb_overflow.specs.of_format.File.{File, file_of, page_at}
 use Rattle.bdb_overflow.specs.of_image.Linked.{meta_pages}

@@ -1,6 +1,6 @@
 use Rattle.std.proofs.Common.{◌≡◌, ◌∙◌, ap, arith, subst}
-use Rattle.bdb_overflow.specs.of_faults.Notes.{NotesAll}
-use Rattle.bdb_overflow.proofs.of_faults.SinkLemmas.{notes_more}
+use Rattle.bdb_faults.specs.Notes.{NotesAll}
+use Rattle.bdb_faults.proofs.SinkLemmas.{notes_more}
 use Rattle.bdb_overflow.specs.of_form.Seen.{page_seen}
 use Rattle.bdb_overflow.specs.of_format.declared.references.Sort.TheVariants.{DuplicateRoot}
 use Rattle.bdb_overflow.specs.of_format.File.{File, file_of, page_at}

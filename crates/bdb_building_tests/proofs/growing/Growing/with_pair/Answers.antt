@@ -1,5 +1,5 @@
 use Rattle.std.proofs.Common.{◌≡◌, true, ◌++◌, ◌∷◌, [], ap, sym, subst, ◌∙◌, Some}
-use Rattle.bdb_need.specs.of_mktree.Building.{units_of}
+use Rattle.bdb_mktree.specs.Building.{units_of}
 use Rattle.bdb_building_tests.specs.Trees.{IsGrowing, is_above}
 use Rattle.bdb_building_tests.proofs.GrowingLemmas.{comes_next, grown}
 use Rattle.bdb_building_tests.proofs.growing.Growing.with_pair.Goals as goal

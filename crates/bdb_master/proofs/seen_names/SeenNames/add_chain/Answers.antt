@@ -1,13 +1,13 @@
 use Rattle.std.proofs.Common.{◌≡◌, true, not, ap, subst, sym, ◌∙◌}
 use Rattle.std.specs.Prelude.{◌||◌}
 use Rattle.bdb_master.proofs.RepeatLemmas.{added_again}
-use Rattle.bdb_btree.specs.of_format.File.{file_of}
-use Rattle.bdb_btree.proofs.of_format.LessLemmas.{eq_self}
+use Rattle.bdb_format.specs.File.{file_of}
+use Rattle.bdb_format.proofs.LessLemmas.{eq_self}
 use Rattle.bdb_buckets.specs.Chained.{Seen}
 use Rattle.bdb_buckets.proofs.ChainedLemmas.{among_inserted}
-use Rattle.bdb_btree.specs.of_overflow.Datum.{datum_seen}
-use Rattle.bdb_btree.specs.of_overflow.Held.{chain_value}
-use Rattle.bdb_btree.specs.of_overflow.Keys.{has_key}
+use Rattle.bdb_overflow.specs.Datum.{datum_seen}
+use Rattle.bdb_overflow.specs.Held.{chain_value}
+use Rattle.bdb_overflow.specs.Keys.{has_key}
 use Rattle.bdb_master.proofs.seen_names.SeenNames.add_chain.Goals as goal
 
 -- A chain that was seen is among the names.

@@ -2,7 +2,7 @@ use Rattle.std.proofs.Common.{subst}
 use Rattle.bdb_master.specs.Names.{HasAdded}
 use Rattle.bdb_master.proofs.RepeatLemmas.{added_once}
 use Rattle.bdb_buckets.specs.Chained.{Seen}
-use Rattle.bdb_btree.specs.of_overflow.Datum.{datum_seen}
+use Rattle.bdb_overflow.specs.Datum.{datum_seen}
 use Rattle.bdb_master.proofs.seen_names.SeenNames.add_value.Goals as goal
 
 pub returns-clause-keys : goal.returns-clause-keys
