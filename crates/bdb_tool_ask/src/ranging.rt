@@ -19,7 +19,7 @@ ghost use Rattle.bdb_tool_words.specs.of_text_format.Written.{is_btree};
 ghost use Rattle.bdb_tool_dump.specs.of_tool_lines.Finished.{Finishes};
 
 use crate::spelled::{name_bytes, name_sought, spelled};
-use bdb_file::{BtreeMeta, Db, Db, Linked, Meta, Sound, Sound, Steps};
+use bdb_file::{BtreeMeta, Db, Linked, Meta, Sound, Steps};
 use bdb_swap::Sink;
 use bdb_tool_dump::status::{NOT_BTREE, NOT_FOUND};
 use bdb_tool_dump::{RangePairs, pairs_of, report, span, tell, tell_memory};

@@ -9,7 +9,7 @@ ghost use Rattle.bdb_tool_lines.specs.Printing.{Writes};
 ghost use Rattle.std.specs.Fmt.{decimal};
 
 use crate::printing::Printer;
-use bdb_range::{Bytes, Bytes, Datum, KeyView, RangePairs};
+use bdb_range::{Bytes, Datum, KeyView, RangePairs};
 use bdb_text::number_text;
 use bdb_tool_lines::{Cut, Sink};
 use std::alloc::Global;
