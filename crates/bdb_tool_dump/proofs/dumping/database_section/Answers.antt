@@ -19,7 +19,7 @@ returns-in_err-header g c =
     let settings = settings_of (head_of image).page_size (head_of image).order database.fields in
     let list = list_of (file_of image) database.fields in
     let is = cut_up c.from_residual.result c.in_err-header.field-0.0 c.from_residual.ensures.1 in
-    subst (λ (text : List ℕ). Adds g.K.Sink.written g.K.Sink.faults c.args.printer.now c.header.new.printer text c.from_residual.result)
+    subst (λ (text : List ℕ). Adds g.K.Sink.written g.K.Sink.faults c.args.printer.now c.header.new.self text c.from_residual.result)
     (sym (section_by_parts c.args.print database.name settings list))
     (adds_cut _ _ _ _ (header_text c.args.print database.name settings) (flat_map (pair_text c.args.print) list ++ line data_end) _ _ _
     c.in_err-header.was is (rw (c.name.ensures, c.settings.ensures) at c.header.ensures))
