@@ -27,7 +27,7 @@ use Rattle.bdb_databases.proofs.of_buckets.TableLemmas.{table_is}
 use Rattle.bdb_settle.specs.of_text_format.Written.{holds_records}
 use Rattle.bdb_law_kept.proofs.KeyedLemmas.{GoesBefore, HasFitData, NoRowHolds, fit_data, in_order, of_by_key, of_listed, pairs_go, pairs_ordered}
 use Rattle.bdb_law_kept.proofs.KeyedLemmas.{table_goes}
-use Rattle.bdb_law_kept.proofs.LaterLemmas.{AllLater}
+use Rattle.bdb_law_kept.specs.Later.{AllLater}
 use Rattle.bdb_law_kept.proofs.NumberedLemmas.{IsKeptList, IsNotZero, queue_kept, recno_kept}
 use Rattle.bdb_databases.proofs.NameOrderLemmas.{keys_kept}
 use Rattle.bdb_databases.proofs.of_hash_list.LookupLemmas.{all_fail_at as table_fails}

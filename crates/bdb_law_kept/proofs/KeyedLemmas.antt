@@ -24,7 +24,8 @@ use Rattle.bdb_databases.proofs.of_format.LessLemmas.{eq_self, less_trans, same_
 use Rattle.bdb_databases.proofs.of_btree.FallLemmas.{ShareKeys}
 use Rattle.bdb_settle.specs.of_text_format.Written.{holds_records}
 use Rattle.bdb_settle.specs.Loaded.{keeps_data, sorts_data}
-use Rattle.bdb_law_kept.proofs.LaterLemmas.{AllLater, later_flat, later_map, later_one, later_other}
+use Rattle.bdb_law_kept.specs.Later.{AllLater}
+use Rattle.bdb_law_kept.proofs.LaterLemmas.{later_flat, later_map, later_one, later_other}
 use Rattle.bdb_law_kept.proofs.SettledLemmas.{ComesBefore, InOrder}
 use Rattle.bdb_databases.proofs.NameOrderLemmas.{not_repeated}
 

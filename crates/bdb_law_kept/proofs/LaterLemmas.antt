@@ -1,13 +1,9 @@
--- Lists in which each member is related to all that come later.
+-- Laws of lists in which each member is related to all that come later.
 use Rattle.std.proofs.Common.{ℕ, zero, suc, ◌+◌, ◌<◌, ◌≤◌, List, [], ◌∷◌, ◌++◌, length, map, arith, refl, subst, inl, inr}
 use Rattle.std.specs.List.{Contains, enumerate_from, flat_map, range_with_len}
 use Rattle.std.proofs.lemmas.List.Elements.{Contains-append_cases}
+use Rattle.bdb_law_kept.specs.Later.{AllLater}
 use Rattle.bdb_databases.proofs.of_format.MemberLemmas.{first_member, later_member, member_cases, no_member, of_flat_map, of_map, of_range}
-
--- each is so related to all later ones
-abbrev pub AllLater : {X : Type 0} → (X → X → Type 0) → List X → Type 0
-AllLater R [] = Unit {0}
-AllLater R (x ∷ xs) = ((y : _) → Contains xs y → R x y) × AllLater R xs
 
 pub later_one : {X : Type 0} (R : X → X → Type 0) (x : X) → AllLater R (x ∷ [])
 later_one R x = (λ y at. absurd (no_member [] y refl at), tt)

@@ -20,7 +20,8 @@ use Rattle.bdb_settle.specs.Settling.{stays}
 use Rattle.bdb_settle.proofs.KeyOrderLemmas.{key_less_self, key_one_way, pairs_weakly}
 use Rattle.bdb_settle.proofs.PutLemmas.{put_behind}
 use Rattle.bdb_text.specs.WrittenLaw.{key_in, pair_in}
-use Rattle.bdb_law_kept.proofs.LaterLemmas.{AllLater, later_map, later_other}
+use Rattle.bdb_law_kept.specs.Later.{AllLater}
+use Rattle.bdb_law_kept.proofs.LaterLemmas.{later_map, later_other}
 
 -- Pairs put in turn.
 

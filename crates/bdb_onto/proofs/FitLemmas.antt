@@ -20,7 +20,8 @@ use Rattle.bdb_mkfile.specs.of_text_format.Written.{holds_records}
 use Rattle.bdb_mkfile.specs.of_law_sections.Fit.{AreFitSettings, AreNamedBehind, IsFitPair, IsFitSection}
 use Rattle.bdb_mkfile.proofs.of_law_sections.PairLemmas.{fit_longer}
 use Rattle.bdb_law_kept.specs.of_text.WrittenLaw.{AreNamedApart, CanStandTogether}
-use Rattle.bdb_law_kept.proofs.LaterLemmas.{AllLater, later_one}
+use Rattle.bdb_law_kept.specs.Later.{AllLater}
+use Rattle.bdb_law_kept.proofs.LaterLemmas.{later_one}
 use Rattle.bdb_law_kept.proofs.NameLemmas.{all_together}
 use Rattle.bdb_onto.specs.declared.base.Base.{Base}
 use Rattle.bdb_onto.specs.Bases.{IsBase, base_section}

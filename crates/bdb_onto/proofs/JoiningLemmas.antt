@@ -15,7 +15,7 @@ use Rattle.bdb_format.proofs.ListLemmas.{member_of}
 use Rattle.bdb_format.proofs.MemberLemmas.{first_member, later_member, member_cases, no_member, none_pass, none_passes}
 use Rattle.bdb_mkfile.specs.of_text_format.declared.sections.Section.{Section}
 use Rattle.bdb_mkfile.specs.of_law_sections.Fit.{AreNamedBehind}
-use Rattle.bdb_law_kept.proofs.LaterLemmas.{AllLater}
+use Rattle.bdb_law_kept.specs.Later.{AllLater}
 use Rattle.bdb_onto.specs.declared.base.Base.{Base}
 use Rattle.bdb_onto.specs.declared.joining.Placed.{Placed}
 use Rattle.bdb_onto.specs.Bases.{IsBase}

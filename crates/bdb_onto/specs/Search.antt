@@ -7,7 +7,7 @@ use Rattle.std.specs.declared.cmp.Ordering.{Ordering}
 use Rattle.bdb_format.specs.Databases.{is_name}
 use Rattle.bdb_format.specs.Less.{Less}
 use Rattle.bdb_mkfile.specs.of_text_format.declared.sections.Section.{Section}
-use Rattle.bdb_law_kept.proofs.LaterLemmas.{AllLater}
+use Rattle.bdb_law_kept.specs.Later.{AllLater}
 use Rattle.bdb_mkfile.specs.Builds.{name_of}
 
 -- the order of a database's name and a name
