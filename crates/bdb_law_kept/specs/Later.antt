@@ -5,4 +5,4 @@ use Rattle.std.specs.List.{Contains}
 -- each is so related to all later ones
 abbrev pub AllLater : {X : Type 0} → (X → X → Type 0) → List X → Type 0
 AllLater R [] = Unit {0}
-AllLater R (x ∷ xs) = ((y : X) → Contains xs y → R x y) × AllLater R xs
+AllLater {X = X} R (x ∷ xs) = ((y : X) → Contains xs y → R x y) × AllLater R xs
