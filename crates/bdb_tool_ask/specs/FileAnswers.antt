@@ -20,7 +20,6 @@ use Rattle.bdb_file.specs.of_any_order.AnyOrder.{faults_by_rows, verdict_by}
 use Rattle.bdb_file.specs.of_any_order.declared.rows.Rows.{Rows}
 use Rattle.bdb_file.specs.of_format.declared.kinds.Fault.{Fault}
 use Rattle.bdb_tool_dump.specs.of_tool_lines.Telling.{first_status, judgements_text}
-use Rattle.bdb_tool_ask.specs.FileAnswers.{judged_answer, sound_answer}
 
 abbrev pub not_found : Answer
 not_found = told 9 (line (codes "not found"))
