@@ -1,16 +1,14 @@
 -- What is noted of the faults that count in any order, and how they stand.
-use Rattle.std.proofs.Common.{◌≡◌, ◌⊎◌, ℕ, ◌+◌, ◌≤◌, Bool, true, false, cond, List, [], ◌∷◌, ◌++◌, length, map, Option, Some, None, arith, refl, sym}
+use Rattle.std.proofs.Common.{◌≡◌, ◌⊎◌, ℕ, ◌+◌, ◌≤◌, Bool, true, false, cond, List, [], ◌∷◌, ◌++◌, length, Option, Some, None, arith, refl, sym}
 use Rattle.std.proofs.Common.{ap, subst, inl, inr, append-nil, length-append, ne_eqb}
 use Rattle.std.specs.Prelude.{◌==◌, ◌||◌, not}
 use Rattle.std.specs.List.{Contains, filter, flat_map}
 use Rattle.std.specs.Option.{is_some}
 use Rattle.std.proofs.lemmas.Bool.{and_parts, eqb-true, or_cases, or_right}
 use Rattle.std.proofs.lemmas.List.Elements.{Contains-append_cases, Contains-append_left, Contains-append_right}
-use Rattle.bdb_btree.specs.of_faults.Named.{Ascends, ComesBefore, HasNoted}
-use Rattle.bdb_btree.specs.of_faults.Notes.{IsFirst, Notes, NotesAll}
+use Rattle.bdb_btree.specs.of_faults.Notes.{Ascends, HasJust, Notes, NotesAll}
 use Rattle.bdb_btree.proofs.of_faults.AscendLemmas.{faults_ascend, stage_ascends}
-use Rattle.bdb_btree.proofs.of_faults.SinkLemmas.{first_is, noted_all}
-use Rattle.bdb_btree.specs.of_format.ByPage.{ComesFirst}
+use Rattle.bdb_btree.proofs.of_faults.SinkLemmas.{noted_all}
 use Rattle.bdb_btree.specs.of_format.declared.kinds.Fault.{Fault}
 use Rattle.bdb_btree.specs.of_format.declared.metadata.BtreeMeta.{BtreeMeta}
 use Rattle.bdb_btree.specs.of_format.ContentRows.{contents_rows, database_faults, database_rows, fields_in, holds_code}
@@ -19,16 +17,16 @@ use Rattle.bdb_btree.specs.of_format.Flags.{names_databases}
 use Rattle.bdb_btree.specs.of_format.Graph.{is_meta}
 use Rattle.bdb_btree.specs.of_format.Master.{master_in}
 use Rattle.bdb_btree.specs.of_format.Page.{BtreeFields, Page, Meta}
-use Rattle.bdb_btree.specs.of_format.Verdict.{Faulty, Judgement, contents_faults, faults_in, first_fault, holding, judgement_of}
-use Rattle.bdb_btree.proofs.of_format.MemberLemmas.{first_member, in_filter, in_flat_map, in_map, member_cases, no_member, of_filter, of_flat_map, of_map}
-use Rattle.bdb_btree.proofs.of_format.VerdictLemmas.{InOrder, IsOfStage, of_by_page, or_else_both, stage_in_order, stages_in_order, late_fault}
+use Rattle.bdb_btree.specs.of_format.Verdict.{contents_faults, faults_in, holding}
+use Rattle.bdb_btree.proofs.of_format.MemberLemmas.{in_filter, in_flat_map, no_member, of_filter, of_flat_map}
+use Rattle.bdb_btree.proofs.of_format.VerdictLemmas.{IsOfStage, of_by_page, or_else_both}
 use Rattle.bdb_btree.proofs.CheckLemmas.{is_code as code_holding, of_code as holding_code}
 use Rattle.bdb_btree.specs.of_image.Linked.{meta_pages}
 use Rattle.bdb_btree.proofs.of_graph.ReadLemmas.{master_is}
 use Rattle.bdb_any_order.specs.AnyOrder.{contents_by, counts, holds_under, is_of_order, stages_by}
 use Rattle.bdb_any_order.specs.Contents.{faults_on}
 use Rattle.bdb_any_order.specs.Laws.{MasterCounts}
-use Rattle.bdb_any_order.specs.Noted.{HasJust, HasNotedOthers, asked_on, by_asked, is_asked, is_master, is_other}
+use Rattle.bdb_any_order.specs.Noted.{HasNotedOthers, asked_on, by_asked, is_asked, is_master, is_other}
 use Rattle.bdb_any_order.specs.declared.rows.Rows.{Rows}
 use Rattle.bdb_any_order.specs.declared.rows.Rows.TheVariants.{All, AnyOrder}
 use Rattle.bdb_any_order.specs.declared.rows.Which.{Which}
@@ -247,69 +245,18 @@ master_counts image meta fault is at =
 
 -- How they stand.
 
-filtered_ascend : (test : Fault → Bool) (faults : List Fault) → Ascends (map judgement_of faults) → Ascends (map judgement_of (filter test faults))
+filtered_ascend : (test : Fault → Bool) (faults : List Fault) → Ascends faults → Ascends (filter test faults)
 filtered_ascend test [] up = up
 filtered_ascend test (fault ∷ faults) up = step (test fault) (filtered_ascend test faults up.1)
   where
-    among : (other : Judgement) → Contains (map judgement_of (filter test faults)) other → Contains (map judgement_of faults) other
-    among other at =
-        let found = of_map judgement_of (filter test faults) other at in
-        subst (Contains (map judgement_of faults)) found.2 (in_map judgement_of faults found.0 (of_filter test faults found.0 found.1).0)
-
-    step : (b : Bool) → Ascends (map judgement_of (filter test faults)) → Ascends (map judgement_of (cond b (fault ∷ filter test faults) (filter test faults)))
-    step true rest = (λ other at. up.0 other (among other at), rest)
+    step : (b : Bool) → Ascends (filter test faults) → Ascends (cond b (fault ∷ filter test faults) (filter test faults))
+    step true rest = (λ other at. up.0 other (of_filter test faults other at).0, rest)
     step false rest = rest
 
-contents_ascend : (rows : Rows) (image : List ℕ) → Ascends (map judgement_of (contents_by rows (file_of image)))
+contents_ascend : (rows : Rows) (image : List ℕ) → Ascends (contents_by rows (file_of image))
 contents_ascend All image = stage_ascends image 8
 contents_ascend AnyOrder image = filtered_ascend (counts (file_of image)) (contents_faults (file_of image)) (stage_ascends image 8)
 
-pub rows_ascend : (rows : Rows) (image stages : List ℕ) → Ascends (map judgement_of (stages_by rows stages image))
+pub rows_ascend : (rows : Rows) (image stages : List ℕ) → Ascends (stages_by rows stages image)
 rows_ascend rows image stages =
-    or_else_both (λ fs. Ascends (map judgement_of fs)) (faults_in stages image) (contents_by rows (file_of image)) (faults_ascend image stages)
-    (contents_ascend rows image)
-
-comes_first : (a b : Fault) → ComesBefore (Faulty a) (Faulty b) → ComesFirst a b
-comes_first a b (inl low) = inl low
-comes_first a b (inr (same, low)) = inr (same, omega (arith, low))
-
-in_order_of : (stage : ℕ) (faults : List Fault) → 3 ≤ stage → ((fault : Fault) → Contains faults fault → fault.stage ≡ stage)
-    → Ascends (map judgement_of faults) → InOrder stage faults
-in_order_of stage faults late one up = record {
-  one_stage = one;
-  rises = λ first rest fault same at.
-      let ascends : Ascends (map judgement_of (first ∷ rest)) = subst (λ fs. Ascends (map judgement_of fs)) same up in
-      let stands : (other : Fault) → Contains faults other → judgement_of other ≡ Faulty other =
-      λ other is. late_fault other (omega (arith, late, one other is)) in
-      elim (member_cases first rest fault (subst (λ fs. Contains fs fault) same at)) [
-        | inl is ↦ subst (ComesFirst first) is (inr (refl, omega arith))
-        | inr later ↦ comes_first first fault
-            (subst (λ j. ComesBefore j (Faulty fault)) (stands first (subst (λ fs. Contains fs first) (sym same) (first_member first rest)))
-            (subst (λ j. ComesBefore (judgement_of first) j) (stands fault at)
-            (ascends.0 (judgement_of fault) (in_map judgement_of rest fault later))))
-      ];
-}
-
-contents_in_order : (rows : Rows) (image : List ℕ) → InOrder 8 (contents_by rows (file_of image))
-contents_in_order rows image =
-    in_order_of 8 (contents_by rows (file_of image)) (omega arith)
-    (λ fault at. (stage_in_order image 8).one_stage fault (of_counted rows (file_of image) fault at)) (contents_ascend rows image)
-
-rows_in_order : (rows : Rows) (image stages : List ℕ) → (stage : ℕ) × InOrder stage (stages_by rows stages image)
-rows_in_order rows image stages =
-    or_else_both (λ fs. (stage : ℕ) × InOrder stage fs) (faults_in stages image) (contents_by rows (file_of image)) (stages_in_order image stages)
-    (8, contents_in_order rows image)
-
--- The sinks that keep the first, and all.
-
-pub first_by : (rows : Rows) (image stages : List ℕ) (first : Option Fault) → HasJust (IsFirst first) (stages_by rows stages image)
-    → first ≡ first_fault (stages_by rows stages image)
-first_by rows image stages first just =
-    let order = rows_in_order rows image stages in first_is order.0 (stages_by rows stages image) just.0 first order.1 just.2 just.1
-
-pub listed : (faults : List Fault) (list : List Judgement) → HasJust (HasNoted list) faults → NotesAll (HasNoted []) (HasNoted list) faults
-listed faults list just = (just.0, just.2, λ before none. subst (λ fs. HasNoted list (fs ++ just.0)) (sym (nothing before none)) just.1)
-  where
-    nothing : (before : List Fault) → [] ≡ map judgement_of before → before ≡ []
-    nothing [] none = refl
-    nothing (fault ∷ faults) none = absurd cc
+    or_else_both Ascends (faults_in stages image) (contents_by rows (file_of image)) (faults_ascend image stages) (contents_ascend rows image)

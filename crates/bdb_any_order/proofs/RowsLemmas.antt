@@ -20,7 +20,7 @@ or_else_twice [] ys zs = refl
 or_else_twice (x ∷ xs) ys zs = refl
 
 -- some stages and stage 8 after them
-pub all_stages : (image stages : List ℕ) → stages_by All stages image ≡ faults_in (stages ++ (8 ∷ [])) image
+all_stages : (image stages : List ℕ) → stages_by All stages image ≡ faults_in (stages ++ (8 ∷ [])) image
 unfolding faults_in
 all_stages image [] = sym (or_else_nothing (contents_faults (file_of image)))
 all_stages image (stage ∷ stages) =

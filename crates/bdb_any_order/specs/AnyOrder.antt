@@ -2,12 +2,12 @@
 -- docs/FORMAT.md, "Stage 8, contents".
 use Rattle.std.specs.Prelude.{ℕ, ◌==◌, ◌&&◌, ◌||◌, not, Bool, false, List, Option, Some, None}
 use Rattle.std.specs.List.{filter, range_with_len}
-use Rattle.bdb_btree.specs.of_faults.Rows.{row_code, row_stage}
-use Rattle.bdb_btree.specs.of_faults.declared.rows.ContentsRow.{ContentsRow}
-use Rattle.bdb_btree.specs.of_faults.declared.rows.ContentsRow.TheVariants.{KeyOrder, Separator, DuplicateOrder}
-use Rattle.bdb_btree.specs.of_faults.declared.rows.Row.TheVariants.{Contents}
 use Rattle.bdb_any_order.specs.declared.rows.Rows.{Rows}
 use Rattle.bdb_any_order.specs.declared.rows.Rows.TheVariants.{All, AnyOrder}
+use Rattle.bdb_btree.specs.of_format.RowCodes.{row_code, row_stage}
+use Rattle.bdb_btree.specs.of_format.declared.rows.ContentsRow.{ContentsRow}
+use Rattle.bdb_btree.specs.of_format.declared.rows.ContentsRow.TheVariants.{KeyOrder, Separator, DuplicateOrder}
+use Rattle.bdb_btree.specs.of_format.declared.rows.Row.TheVariants.{Contents}
 use Rattle.bdb_btree.specs.of_format.declared.kinds.Fault.{Fault}
 use Rattle.bdb_btree.specs.of_format.declared.metadata.BtreeMeta.{BtreeMeta}
 use Rattle.bdb_btree.specs.of_format.ContentRows.{database_rows, holds_code}

@@ -2,7 +2,6 @@
 use Rattle.std.specs.Prelude.{◌≡◌, ℕ, ◌==◌, ◌&&◌, not, if◌then◌else◌, Bool, true, List, [], length}
 use Rattle.std.specs.List.{filter, flat_map}
 use Rattle.std.specs.Option.{is_some}
-use Rattle.bdb_btree.specs.of_faults.Notes.{AreSame}
 use Rattle.bdb_any_order.specs.declared.rows.Which.{Which}
 use Rattle.bdb_any_order.specs.declared.rows.Which.TheVariants.{Each, Master, Others}
 use Rattle.bdb_any_order.specs.AnyOrder.{is_of_order}
@@ -11,10 +10,6 @@ use Rattle.bdb_btree.specs.of_format.declared.kinds.Fault.{Fault}
 use Rattle.bdb_btree.specs.of_format.File.{File, page_at}
 use Rattle.bdb_btree.specs.of_format.Master.{master_in}
 use Rattle.bdb_btree.specs.of_image.Linked.{meta_pages}
-
--- just these faults were noted, in any order and repeats allowed
-abbrev pub HasJust : (List Fault → Type 0) → List Fault → Type 0
-HasJust has faults = (noted : List Fault) × has noted × AreSame noted faults
 
 -- a fault that isn't of order
 abbrev pub is_other : Fault → Bool

@@ -18,13 +18,13 @@ use Rattle.bdb_ranks.specs.of_format.Page.{BtreeFields}
 use Rattle.bdb_ranks.specs.of_format.Table.{Row}
 use Rattle.bdb_ranks.specs.of_format.Verdict.{by_page, holding}
 use Rattle.bdb_ranks.proofs.of_format.MemberLemmas.{filter_step, first_member, later_member, member_cases, no_member}
-use Rattle.bdb_ranks.proofs.of_format.VerdictLemmas.{InOrder, IsOfStage, in_by_page, of_by_page, table_in_order}
+use Rattle.bdb_ranks.proofs.of_format.VerdictLemmas.{IsOfStage, in_by_page, of_by_page}
 use Rattle.bdb_ranks.specs.of_format.Flags.{counts_records, has_duplicates, is_sorted}
 use Rattle.bdb_ranks.specs.of_image.Linked.{FitsTreeRoot, IsForest}
 use Rattle.bdb_btree.specs.Counts.{IsKeyed}
 use Rattle.bdb_btree.specs.Noted.{faults_at}
 use Rattle.bdb_btree.specs.Rows.{has_wrong_order, no_pairs_passed, pairs_faults}
-use Rattle.bdb_faults.specs.declared.rows.ContentsRow.TheVariants.{Duplicates, DuplicateKind, KeyOrder, Separator, DuplicateOrder, Count}
+use Rattle.bdb_ranks.specs.of_format.declared.rows.ContentsRow.TheVariants.{Duplicates, DuplicateKind, KeyOrder, Separator, DuplicateOrder, Count}
 use Rattle.bdb_btree.specs.declared.pair_rows.Rules.{Rules}
 use Rattle.bdb_btree.proofs.InnerLemmas.{inner_pages_keyed}
 use Rattle.bdb_btree.proofs.NotedLemmas.{has, has_in, in_has, is_fault, is_of, row_has}
@@ -274,10 +274,3 @@ all_noted image rules meta counts before first second after forest fits keyed fl
     (notes_both before first second pairs separators (notes_one before first pairs one) two)
     (subst (λ b. NotesAll second after (cond b wrong [])) keeps three))
     (noted_same image rules meta forest fits keyed flags duplicates sorted)
-
--- the faults of a btree are all of stage 8, and the first comes before all of them
-pub in_order : (file : File) (meta : BtreeMeta) → has_bit meta.flags 2 ≡ false → InOrder 8 (database_faults file (BtreeFields meta))
-in_order file meta flags =
-    subst (InOrder 8) (sym (faults_are file meta flags))
-    (table_in_order 8 0 (file.last + 1) (btree_contents file meta)
-    (λ p. (omega arith, (omega arith, (omega arith, (omega arith, (omega arith, (omega arith, tt))))))))

@@ -9,7 +9,9 @@ use Rattle.bdb_ranks.specs.of_format.declared.kinds.Order.{Order}
 use Rattle.bdb_ranks.specs.of_format.Contents.{StoredPair, pairs_of, tree_pairs}
 use Rattle.bdb_ranks.specs.of_format.File.{File, file_of, page_at}
 use Rattle.bdb_ranks.specs.of_format.Leaves.{leaves, children_in}
-use Rattle.bdb_ranks.specs.of_format.Page.{Item, Listed, Page, Leaf, PageType, LeafPage}
+use Rattle.bdb_ranks.specs.of_format.Page.{Item, Listed, Page, Leaf}
+use Rattle.bdb_ranks.specs.of_format.declared.pages.PageType.{PageType}
+use Rattle.bdb_ranks.specs.of_format.declared.pages.PageType.TheVariants.{Leaf as LeafPage}
 use Rattle.bdb_ranks.specs.of_format.Reading.{abstract_page, leaf_item_at, listed, page_as}
 use Rattle.bdb_ranks.specs.of_format.References.{no_item}
 use Rattle.bdb_ranks.proofs.of_format.PageLemmas.{index_offset, length_items}

@@ -3,7 +3,7 @@ use Rattle.std.proofs.Common.{arith}
 use Rattle.std.proofs.Common.{◌≡◌, ℕ, ◌+◌, ◌≤◌, Bool, true, List, map, refl, Some, ◌∷◌, ◌++◌, [], sym, ◌∙◌, ap, subst, inl, inr, append-nil}
 use Rattle.std.specs.List.{Contains, flat_map, slice_get}
 use Rattle.bdb_faults.specs.Notes.{NotesAll}
-use Rattle.bdb_faults.specs.declared.rows.ContentsRow.{ContentsRow}
+use Rattle.bdb_ranks.specs.of_format.declared.rows.ContentsRow.{ContentsRow}
 use Rattle.bdb_faults.proofs.SinkLemmas.{notes_none}
 use Rattle.bdb_ranks.specs.of_form.declared.view.PageView.{PageView}
 use Rattle.bdb_ranks.specs.of_form.declared.view.PageView.TheVariants.{Internal as InternalSeen}

@@ -5,9 +5,9 @@ use Rattle.std.specs.List.{Contains, flat_map, list_any}
 use Rattle.std.proofs.lemmas.Bool.{and_parts, eqb-true, eq-eqb}
 use Rattle.std.proofs.lemmas.Bool.Decides.{nat_tests}
 use Rattle.std.proofs.lemmas.List.Folds.{list_any-append}
-use Rattle.bdb_faults.specs.Rows.{contents_code, fault_if}
-use Rattle.bdb_faults.specs.declared.rows.ContentsRow.{ContentsRow}
-use Rattle.bdb_faults.specs.declared.rows.Row.TheVariants.{Contents}
+use Rattle.bdb_ranks.specs.of_format.RowCodes.{contents_row_code, fault_if}
+use Rattle.bdb_ranks.specs.of_format.declared.rows.ContentsRow.{ContentsRow}
+use Rattle.bdb_ranks.specs.of_format.declared.rows.Row.TheVariants.{Contents}
 use Rattle.bdb_ranks.proofs.of_format.FaultLemmas.{same_parts}
 use Rattle.bdb_ranks.specs.of_format.declared.kinds.Fault.{Fault}
 use Rattle.bdb_ranks.proofs.of_format.ListLemmas.{any_member, passes_here}
@@ -37,7 +37,7 @@ has_in faults fault is =
 
 -- a fault is one of a row
 abbrev pub is_of : ContentsRow → Fault → Bool
-is_of row fault = (8 == fault.stage) && (contents_code row == fault.code)
+is_of row fault = (8 == fault.stage) && (contents_row_code row == fault.code)
 
 one_has : (row : ContentsRow) (page : ℕ) (holds : Bool) (fault : Fault)
     → has (fault_if (Contents row) page holds) fault ≡ (is_of row fault && ((page == fault.page) && holds))

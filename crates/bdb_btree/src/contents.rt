@@ -1,6 +1,6 @@
 ghost use Rattle.std.specs.Prelude.{◌≡◌, [], false, IfErr, OnOk, if◌then◌else◌};
 ghost use Rattle.bdb_ranks.specs.of_image.Linked.{FitsTreeRoot, HasMetadata, IsForest};
-ghost use Rattle.bdb_faults.specs.Named.{HasNoted};
+ghost use Rattle.bdb_faults.specs.Notes.{HasNoted};
 ghost use Rattle.bdb_faults.specs.Notes.{NotesAll};
 ghost use Rattle.bdb_ranks.specs.of_format.ContentRows.{database_faults, has_wrong_count, inner_pages};
 ghost use Rattle.bdb_ranks.specs.of_format.File.{file_of, page_at};
@@ -9,12 +9,12 @@ ghost use Rattle.bdb_ranks.specs.of_format.Verdict.{structure_faults, IsFirstOf}
 ghost use Rattle.bdb_ranks.specs.of_format.Flags.{is_recno};
 ghost use Rattle.bdb_btree.specs.Counts.{IsKeyed};
 ghost use Rattle.bdb_btree.specs.Noted.{faults_at};
-ghost use Rattle.bdb_faults.specs.declared.rows.ContentsRow.TheVariants.{Count};
+ghost use Rattle.bdb_ranks.specs.of_format.declared.rows.ContentsRow.TheVariants.{Count};
 
 use crate::counts::note_counts;
 use crate::pair_rows::{Rules, note_pairs};
 use crate::separators::note_separators;
-use bdb_faults::{FaultSink, First, NamedList};
+use bdb_faults::{FaultSink, First, NamedList, checked};
 use bdb_ranks::{BtreeMeta, CheckError, Forest, Linked, Values};
 use std::alloc::{AllocError, Global};
 
@@ -28,13 +28,8 @@ pub fn check(alloc: Global, linked: &Linked<'_>, meta: &BtreeMeta) -> Result<(),
     ensures refusal { IfErr result (IsFirstOf (database_faults (file_of linked.now) (BtreeFields meta.now))) }
 {
     let mut first = First::new();
-    let Ok(()) = note_alone(alloc, linked, meta, &mut first) else {
-        return Err(CheckError::Memory);
-    };
-    match first.fault() {
-        None => Ok(()),
-        Some(fault) => Err(CheckError::Fault(fault)),
-    }
+    let answer = note_alone(alloc, linked, meta, &mut first);
+    checked(first, answer)
 }
 
 /// Notes each row on what a btree holds at each page where it holds, in a list of all.
@@ -86,6 +81,7 @@ pub fn note_contents<'a, F: FaultSink>(
         (database_faults (file_of linked.now) (BtreeFields meta.now))) }
     ensures same { known.new ≡ known.old }
 {
+    // What it ensures: its root is that of a tree, in a file that linking accepts.
     linked.root(meta);
     let forest = linked.forest();
     note_forest(&forest, meta, known, found)?;

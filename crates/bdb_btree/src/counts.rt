@@ -6,15 +6,15 @@ ghost use Rattle.bdb_ranks.specs.of_format.Contents.{pairs_of, tree_pairs};
 ghost use Rattle.bdb_ranks.specs.of_format.File.{file_of, page_at};
 ghost use Rattle.bdb_btree.specs.Counts.{IsKeyed, added, count_pair, counts_of};
 ghost use Rattle.bdb_btree.specs.Noted.{faults_at};
-ghost use Rattle.bdb_faults.specs.declared.rows.ContentsRow.TheVariants.{Count};
+ghost use Rattle.bdb_ranks.specs.of_format.declared.rows.ContentsRow.TheVariants.{Count};
 ghost use Rattle.bdb_faults.specs.Notes.{NotesAll};
 ghost use Rattle.bdb_btree.specs.Pairs.{pair_seen};
 
 use crate::inner::inner_view;
 use crate::pair::Pair;
 use crate::walk::page_pairs;
-use bdb_faults::{ContentsRow, FaultSink, Row, note_if};
-use bdb_ranks::Forest;
+use bdb_faults::{FaultSink, note_if};
+use bdb_ranks::{ContentsRow, Forest, Row};
 use std::alloc::AllocError;
 
 /// How many pairs there are, live ones and all, up to the greatest number.

@@ -20,6 +20,7 @@ pub(crate) fn is_wrong_set(forest: &Forest<'_>, sorted: bool, pair: &HeldPair<'_
     requires { FitsSet (file_of forest.now) (leaf_item_seen pair.now.value).content }
     ensures { result ≡ is_wrong_set (file_of forest.now) sorted (leaf_item_seen pair.now.value).content }
 {
+    // What it ensures: the pages are a forest.
     forest.head();
     match pair.value {
         LeafItem::Duplicates { root, .. } => is_wrong_root(&forest.page(root), sorted),

@@ -20,7 +20,7 @@ mod separators;
 mod walk;
 mod way_down;
 
-pub use bdb_faults::{FaultSink, MasterRow, NamedList, Row};
+pub use bdb_faults::{FaultSink, NamedList};
 pub use bdb_ranks::{
     BtreeMeta, Bytes, Datum, Forest, HashMeta, KeyView, Kind, LeafItem, LeafPage, Linked, Meta,
     PageView, Pieces, QueueMeta, Ref, Settings, Steps, compare_datum, is_less, link, open_image,

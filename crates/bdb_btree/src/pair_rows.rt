@@ -15,8 +15,8 @@ use crate::data_order::Run;
 use crate::duplicates::{is_duplicate, is_wrong_set};
 use crate::held::{HeldPair, tree_items};
 use crate::order::KeyOrder;
-use bdb_faults::{ContentsRow, FaultSink, Row, note_if};
-use bdb_ranks::{Forest, Values};
+use bdb_faults::{FaultSink, note_if};
+use bdb_ranks::{ContentsRow, Forest, Row, Values};
 use std::alloc::AllocError;
 
 /// What a database lets its pairs be.
@@ -142,6 +142,7 @@ pub(crate) fn note_pairs<F: FaultSink>(
     ensures same { known.new ≡ known.old }
 {
     let forest = known.forest();
+    // What it ensures: the pages are a forest.
     forest.head();
     let mut passed = Passed::new();
     for pair in tree_items(&forest, root) {

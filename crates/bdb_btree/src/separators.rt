@@ -11,14 +11,14 @@ ghost use Rattle.bdb_btree.specs.Bounds.{OrderedIf, beyond, ends_of, is_below, j
 ghost use Rattle.bdb_btree.specs.Counts.{IsKeyed};
 ghost use Rattle.bdb_btree.specs.Held.{FitsBounds, FitsEnds, bounds_seen, ends_seen};
 ghost use Rattle.bdb_btree.specs.Noted.{faults_at};
-ghost use Rattle.bdb_faults.specs.declared.rows.ContentsRow.TheVariants.{Separator};
+ghost use Rattle.bdb_ranks.specs.of_format.declared.rows.ContentsRow.TheVariants.{Separator};
 ghost use Rattle.bdb_faults.specs.Notes.{NotesAll};
 
 use crate::ends::{Ends, leaf_ends};
 use crate::inner::inner_view;
 use crate::order::{is_less, is_not_above};
-use bdb_faults::{ContentsRow, FaultSink, Row, note_if};
-use bdb_ranks::{Held, InternalItem, Values, key_held};
+use bdb_faults::{FaultSink, note_if};
+use bdb_ranks::{ContentsRow, Held, InternalItem, Row, Values, key_held};
 use std::alloc::AllocError;
 
 /// Whether a value is below a bound, where there is one. An error is want of memory, for chains that are shared.

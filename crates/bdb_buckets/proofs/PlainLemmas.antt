@@ -13,7 +13,9 @@ use Rattle.bdb_tree.specs.of_format.Contents.{StoredPair, bucket_pages, bucket_p
 use Rattle.bdb_tree.specs.of_format.File.{File, file_of, page_at}
 use Rattle.bdb_tree.specs.of_format.Hashing.{first_page}
 use Rattle.bdb_tree.specs.of_format.HeadOf.{head_of}
-use Rattle.bdb_tree.specs.of_format.Page.{HashFields, Item, Listed, Page, PageType, HashPage, Zero, Hash}
+use Rattle.bdb_tree.specs.of_format.Page.{HashFields, Item, Listed, Page, Zero, Hash}
+use Rattle.bdb_tree.specs.of_format.declared.pages.PageType.{PageType}
+use Rattle.bdb_tree.specs.of_format.declared.pages.PageType.TheVariants.{Hash as HashPage}
 use Rattle.bdb_tree.specs.of_format.Reading.{abstract_page, hash_item_at, listed, page_as}
 use Rattle.bdb_tree.specs.of_format.References.{item_at}
 use Rattle.bdb_tree.proofs.of_format.MemberLemmas.{member_cases, no_member, of_flat_map, of_map}

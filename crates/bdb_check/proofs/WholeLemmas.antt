@@ -3,18 +3,14 @@ use Rattle.std.proofs.Common.{◌≡◌, ℕ, Bool, true, false, List, [], ◌�
 use Rattle.std.specs.Prelude.{◌==◌}
 use Rattle.bdb_recno.specs.of_format.declared.kinds.Fault.{Fault}
 use Rattle.bdb_recno.specs.of_format.File.{file_of}
-use Rattle.bdb_recno.specs.of_format.Verdict.{faults_in, master_faults, or_else, structure_faults, IsFirstOf}
+use Rattle.bdb_recno.specs.of_format.Verdict.{faults_in, master_faults, or_else, structure_faults}
 use Rattle.bdb_recno.proofs.of_format.MemberLemmas.{is_empty, no_member}
 use Rattle.bdb_recno.proofs.of_format.VerdictLemmas.{none_within, or_else_none, skip_stage}
-use Rattle.bdb_recno.specs.of_faults.Notes.{NotesAll}
+use Rattle.bdb_recno.specs.of_faults.Notes.{HasJust, NotesAll}
 use Rattle.bdb_recno.proofs.of_faults.SinkLemmas.{noted_all, notes_both}
 use Rattle.bdb_any_order.specs.AnyOrder.{contents_by, stages_by}
-use Rattle.bdb_any_order.specs.Noted.{HasJust}
 use Rattle.bdb_any_order.specs.declared.rows.Rows.{Rows}
 use Rattle.bdb_master.proofs.NotingLemmas.{none_noted, some_noted}
-use Rattle.bdb_recno.specs.of_format.declared.kinds.CheckError.{CheckError}
-use Rattle.bdb_any_order.specs.declared.rows.Rows.TheVariants.{All}
-use Rattle.bdb_any_order.proofs.RowsLemmas.{all_stages}
 
 -- each of the stages, where none of them has faults
 
@@ -102,12 +98,3 @@ module _ (rows : Rows) (image : List ℕ) (before first : List Fault → Type 0)
         → HasJust after (contents_by rows (file_of image)) → HasJust after (stages_by rows (6 ∷ 7 ∷ []) image)
     contents_whole after empty is says contents =
         subst (HasJust after) (sym (contents_last rows image none (no_master empty is says))) contents
-
--- Where all rows count.
-
-pub late_stages : (image : List ℕ) → stages_by All (6 ∷ 7 ∷ []) image ≡ [] → faults_in (6 ∷ 7 ∷ 8 ∷ []) image ≡ []
-late_stages image none = sym (all_stages image (6 ∷ 7 ∷ [])) ∙ none
-
-pub late_refusal : (image : List ℕ) (error : CheckError) → IsFirstOf (stages_by All (6 ∷ 7 ∷ []) image) error
-    → IsFirstOf (faults_in (6 ∷ 7 ∷ 8 ∷ []) image) error
-late_refusal image error is = subst (λ fs. IsFirstOf fs error) (all_stages image (6 ∷ 7 ∷ [])) is

@@ -1,8 +1,8 @@
 ghost use Rattle.std.specs.Prelude.{◌≡◌, ◌≤◌, ◌==◌, ◌&&◌, IfOk, OnOk, [], is_some};
-ghost use Rattle.bdb_recno.specs.of_faults.Notes.{NotesAll};
+ghost use Rattle.bdb_recno.specs.of_faults.Notes.{NotesAll, HasJust};
 ghost use Rattle.bdb_any_order.specs.declared.rows.Rows.TheVariants.{All, AnyOrder};
 ghost use Rattle.bdb_any_order.specs.AnyOrder.{contents_by};
-ghost use Rattle.bdb_any_order.specs.Noted.{HasJust, by_asked, is_asked};
+ghost use Rattle.bdb_any_order.specs.Noted.{by_asked, is_asked};
 ghost use Rattle.bdb_recno.specs.of_format.ContentRows.{database_faults};
 ghost use Rattle.bdb_recno.specs.of_format.Master.{master_in};
 ghost use Rattle.bdb_recno.specs.of_format.Page.{Meta as MetaPage};

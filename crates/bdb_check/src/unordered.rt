@@ -1,8 +1,10 @@
-ghost use Rattle.std.specs.Prelude.{◌≡◌, []};
+ghost use Rattle.std.specs.Prelude.{◌≡◌, [], ℕ};
 ghost use Rattle.bdb_any_order.specs.AnyOrder.{is_of_order, is_row};
 ghost use Rattle.bdb_any_order.specs.Noted.{HasNotedOthers};
+ghost use Rattle.bdb_recno.specs.of_format.RowCodes.{fault_at};
+ghost use Rattle.bdb_recno.specs.of_format.declared.rows.Row.TheVariants.{Contents};
 
-use bdb_recno::{ContentsRow, Fault, FaultSink, Row};
+use bdb_recno::{ContentsRow, FaultSink, Row};
 use std::alloc::AllocError;
 
 /// A sink that takes no notice of rows of order. All others are noted in the sink behind it.
@@ -12,21 +14,35 @@ pub(crate) struct Unordered<F> {
     is_empty: bool,
 }
 
-/// Whether a fault is of this row of stage 8.
-fn is_row(fault: Fault, row: ContentsRow) -> bool
-    ensures { result ≡ is_row fault row }
+/// Whether a row of stage 8 says in which order keys or data stand.
+fn tells_order(row: ContentsRow) -> bool
+    ensures { (page : ℕ) → result ≡ is_of_order (fault_at (Contents row) page) }
 {
-    let row = Row::Contents(row).at(fault.page);
-    fault.stage == row.stage && fault.code == row.code
+    match row {
+        ContentsRow::KeyOrder | ContentsRow::Separator | ContentsRow::DuplicateOrder => true,
+        ContentsRow::Duplicates
+        | ContentsRow::DuplicateKind
+        | ContentsRow::Count
+        | ContentsRow::RecordLength
+        | ContentsRow::Bucket
+        | ContentsRow::KeyTwice => false,
+    }
 }
 
-/// Whether a fault is of a row that says in which order keys or data stand.
-fn is_of_order(fault: Fault) -> bool
-    ensures { result ≡ is_of_order fault }
+/// Whether a row of any stage says so.
+fn is_of_order(row: Row) -> bool
+    ensures { (page : ℕ) → result ≡ is_of_order (fault_at row page) }
 {
-    is_row(fault, ContentsRow::KeyOrder)
-        || is_row(fault, ContentsRow::Separator)
-        || is_row(fault, ContentsRow::DuplicateOrder)
+    match row {
+        Row::Contents(row) => tells_order(row),
+        Row::File(_)
+        | Row::Form(_)
+        | Row::Reference(_)
+        | Row::Ownership(_)
+        | Row::Reach(_)
+        | Row::Structure(_)
+        | Row::Master(_) => false,
+    }
 }
 
 impl<F: FaultSink> Unordered<F> {
@@ -55,12 +71,12 @@ impl<F: FaultSink> FaultSink for Unordered<F> {
     ghost takes_memory = { F.takes_memory };
 
     #[tactic(auto, using(bdb_any_order::proofs::OrderLemmas::other_noted, bdb_any_order::proofs::OrderLemmas::order_noted))]
-    fn note(&mut self, fault: Fault) -> Result<(), AllocError> {
+    fn note(&mut self, row: Row, page: u32) -> Result<(), AllocError> {
         self.is_empty = false;
-        if is_of_order(fault) {
+        if is_of_order(row) {
             return Ok(());
         }
-        self.found.note(fault)
+        self.found.note(row, page)
     }
 
     fn is_empty(&self) -> bool {

@@ -1,9 +1,9 @@
 -- In a table of a file on which no row counts in any order no key comes twice.
 use Rattle.std.proofs.Common.{◌≡◌, ℕ, List, [], refl, sym, ap, subst}
 use Rattle.std.specs.List.{Contains}
-use Rattle.bdb_recno.specs.of_faults.Rows.{fault_at}
-use Rattle.bdb_recno.specs.of_faults.declared.rows.ContentsRow.TheVariants.{KeyTwice}
-use Rattle.bdb_recno.specs.of_faults.declared.rows.Row.TheVariants.{Contents}
+use Rattle.bdb_recno.specs.of_format.RowCodes.{fault_at}
+use Rattle.bdb_recno.specs.of_format.declared.rows.ContentsRow.TheVariants.{KeyTwice}
+use Rattle.bdb_recno.specs.of_format.declared.rows.Row.TheVariants.{Contents}
 use Rattle.bdb_recno.specs.of_format.declared.metadata.HashMeta.{HashMeta}
 use Rattle.bdb_recno.specs.of_format.ContentRows.{database_faults, fields_in}
 use Rattle.bdb_recno.specs.of_format.File.{File, file_of, page_at}

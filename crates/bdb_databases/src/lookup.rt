@@ -87,6 +87,7 @@ fn record_in<'a, L: Ledger>(
     ensures found { data_left result ≡ data_under (file_of linked.now) (BtreeFields meta.now) key.now }
     ensures cost { steps.new ≤ steps.old + most_steps (file_of linked.now) (BtreeFields meta.now) }
 {
+    // What it ensures: the pages are a forest.
     linked.head();
     let Some(number) = number_in(key) else {
         return Data::Nothing;

@@ -105,6 +105,7 @@ fn push_named(
     ensures { OnOk result (databases.new.items
         ≡ databases.old.items ++ flat_map (entry_database (file_of linked.now)) (master_entries (file_of linked.now))) }
 {
+    // What it ensures: the pages are a forest.
     linked.head();
     for entry in entries {
         push_entry(alloc, databases, linked, entry)?;

@@ -1,15 +1,21 @@
 -- The first of some faults, and of one more.
-use Rattle.std.proofs.Common.{◌≡◌, ◌⊎◌, ◌++◌, List, [], ◌∷◌, length, arith, refl, sym, ap, subst, inl, inr}
+use Rattle.std.proofs.Common.{◌≡◌, ◌⊎◌, ◌++◌, List, [], ◌∷◌, length, arith, refl, sym, ◌∙◌, ap, subst, inl, inr}
 use Rattle.std.proofs.lemmas.Bool.{ne_eqb}
-use Rattle.std.specs.Prelude.{◌==◌, Option, Some, None, is_none}
+use Rattle.std.specs.Prelude.{◌==◌, true, Option, Some, None, is_none, OnOk, Result}
 use Rattle.std.specs.List.{Contains}
 use Rattle.std.proofs.lemmas.List.Elements.{Contains-append_cases, Contains-append_left, Contains-append_right}
 use Rattle.bdb_format.specs.ByPage.{ComesFirst}
 use Rattle.bdb_format.specs.declared.kinds.Fault.{Fault}
-use Rattle.bdb_format.proofs.MemberLemmas.{first_member, no_member}
+use Rattle.bdb_format.proofs.MemberLemmas.{first_member, member_cases, no_member}
 use Rattle.bdb_format.proofs.ListLemmas.{only_member}
 use Rattle.bdb_format.proofs.FaultLemmas.{comes_itself, comes_through}
-use Rattle.bdb_faults.specs.Notes.{IsFirst, IsFirstNoted}
+use Rattle.std.specs.Option.{option_map}
+use Rattle.bdb_format.specs.Verdict.{as_verdict, first_fault, first_judgement, judgement_of}
+use Rattle.bdb_faults.specs.Refusals.{IsFirstRefusal, first_verdict, is_first_memory}
+use Rattle.bdb_faults.specs.declared.refusals.FirstError.{FirstError}
+use Rattle.bdb_faults.specs.declared.refusals.FirstError.TheVariants.{Fault as FirstFault, Memory as FirstMemory}
+use Rattle.bdb_faults.specs.Notes.{AreSame, Ascends, ComesBefore, HasJust, IsFirst, IsFirstNoted, NotesAll}
+use Rattle.bdb_faults.proofs.SinkLemmas.{all_noted, none_same}
 
 of_one_more : (xs : List Fault) (x y : Fault) → Contains (xs ++ (x ∷ [])) y → Contains xs y ⊎ (x ≡ y)
 of_one_more xs x y at =
@@ -47,3 +53,37 @@ pub none_noted : (first : Option Fault) (faults : List Fault) → IsFirst first 
 none_noted None faults is = ap (λ (fs : List Fault). length fs == 0) (sym is)
 none_noted (Some fault) [] is = absurd (no_member [] fault refl is.holds)
 none_noted (Some fault) (other ∷ faults) is = sym (ne_eqb (length (other ∷ faults)) 0 (λ e. absurd (omega (arith, e))))
+
+-- the first of what was noted is the first of a list in order that has the same faults
+pub first_is : (faults noted : List Fault) (first : Option Fault) → Ascends faults → AreSame noted faults → IsFirst first noted → first ≡ first_fault faults
+first_is faults noted None up same is = ap first_fault (sym (none_same noted faults same is))
+first_is [] noted (Some fault) up same is = absurd (no_member [] fault refl ((same fault).0 is.holds))
+first_is (first ∷ faults) noted (Some fault) up same is =
+    elim (member_cases first faults fault ((same fault).0 is.holds)) [
+      | inl here ↦ ap (λ (f : Fault). Some f) (sym here)
+      | inr later ↦ absurd (apart first fault (up.0 fault later) (is.first first ((same first).1 (first_member first faults))))
+    ]
+  where
+    apart : (a b : Fault) → ComesBefore a b → ComesFirst b a → ⊥
+    apart a b before first = grind arith
+
+-- what a check noted is refused by its first, where there is one
+pub first_accepted : (first : Option Fault) (faults : List Fault) → first ≡ None → HasJust (IsFirst first) faults → faults ≡ []
+first_accepted first faults none has = none_same has.0 faults has.2 (subst (λ (o : Option Fault). IsFirst o has.0) none has.1)
+
+pub first_refused : (first : Option Fault) (fault : Fault) (faults : List Fault) → first ≡ Some fault → Ascends faults → HasJust (IsFirst first) faults
+    → first_fault faults ≡ Some fault
+first_refused first fault faults some up has = sym (first_is faults has.0 first up has.2 has.1) ∙ some
+
+-- What the refusal by the first is told as.
+
+pub first_judged : (faults : List Fault) (error : FirstError) → IsFirstRefusal faults error → (is_first_memory error ≡ true → ⊥)
+    → Some (first_verdict error) ≡ option_map as_verdict (first_judgement faults)
+first_judged faults (FirstFault named) is room = ap (λ fault. option_map as_verdict (option_map judgement_of fault)) (sym is)
+first_judged faults FirstMemory is room = absurd (room refl)
+
+-- what a check noted over a new `First`
+pub newly_noted : {T E : Type 0} (answer : Result T E) (new first : Option Fault) (faults : List Fault) → new ≡ None
+    → OnOk answer (NotesAll (IsFirst new) (IsFirst first) faults) → OnOk answer (HasJust (IsFirst first) faults)
+newly_noted answer new first faults begun all =
+    all_noted answer (IsFirst new) (IsFirst first) faults (subst (λ (o : Option Fault). IsFirst o []) (sym begun) refl) all

@@ -1,5 +1,4 @@
 pub mod AscendLemmas
-pub mod CaseLemmas
 pub mod FirstLemmas
 pub mod ListLemmas
 pub mod MemberLemmas

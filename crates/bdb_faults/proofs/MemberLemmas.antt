@@ -8,15 +8,15 @@ use Rattle.std.proofs.lemmas.Bool.Decides.{nat_tests}
 use Rattle.std.proofs.lemmas.List.Kept.{Any-dedup, Contains-from_dedup}
 use Rattle.std.proofs.lemmas.List.Sorted.{Contains-permutation, IsPermutation-sym}
 use Rattle.bdb_format.proofs.MemberLemmas.{member_cases, no_member, of_map, in_map}
-use Rattle.bdb_format.specs.Verdict.{Judgement}
-use Rattle.bdb_faults.specs.declared.member.Member.{Member}
-use Rattle.bdb_faults.specs.declared.member.Held.{Held}
-use Rattle.bdb_faults.specs.declared.member.Held.TheVariants.{Fault as FaultHeld, Case}
-use Rattle.bdb_faults.specs.Members.{is_before, is_same, member_seen, held_seen}
-use Rattle.bdb_faults.specs.Named.{page_of, code_of, AreOne, Ascends, ComesBefore}
+use Rattle.bdb_format.specs.declared.kinds.Fault.{Fault}
+use Rattle.bdb_format.specs.Cases.{fault_seen}
+use Rattle.bdb_format.specs.RowCodes.{row_code}
+use Rattle.bdb_format.specs.declared.named.Named.{Named}
+use Rattle.bdb_faults.specs.Members.{is_before, is_same}
+use Rattle.bdb_faults.specs.Notes.{AreOne, Ascends, ComesBefore}
 
-abbrev code_in : Member → ℕ
-code_in member = code_of (member_seen member)
+abbrev code_in : Named → ℕ
+code_in named = row_code named.row
 
 -- By tests on numbers.
 
@@ -52,90 +52,92 @@ before_weakly = grind (arith, one_way, chain)
 same_equivalence : IsEquivalence is_same
 same_equivalence = grind (arith, same_from, same_way, same_through)
 
--- a member has its page
-page_seen : (page : ℕ) (held : Held) → page_of (held_seen page held) ≡ page
-page_seen page (FaultHeld stage code) = refl
-page_seen page (Case name) = refl
-
-comes_after : (a b : Member) → is_before b a ≡ false → is_same b a ≡ false → ComesBefore (member_seen a) (member_seen b)
+comes_after : (a b : Named) → is_before b a ≡ false → is_same b a ≡ false → ComesBefore (fault_seen a) (fault_seen b)
 comes_after a b not_before apart =
-    rw (page_seen a.page a.held, page_seen b.page b.held) (after b.page a.page (code_in b) (code_in a) not_before apart)
+    after b.page a.page (code_in b) (code_in a) not_before apart
 
-through : (a b c : Judgement) → ComesBefore a b → ComesBefore b c → ComesBefore a c
+through : (a b c : Fault) → ComesBefore a b → ComesBefore b c → ComesBefore a c
 through a b c first second = grind arith
 
 -- A sorted list.
 
-abbrev Rises : Member → List Member → Type 0
+abbrev Rises : Named → List Named → Type 0
 Rises last [] = Unit {0}
 Rises last (member ∷ members) = (is_before member last ≡ false) × Rises member members
 
-sorted_rest : (x : Member) (xs : List Member) → IsSortedBy is_before (x ∷ xs) → IsSortedBy is_before xs
+sorted_rest : (x : Named) (xs : List Named) → IsSortedBy is_before (x ∷ xs) → IsSortedBy is_before xs
 sorted_rest x xs sorted k d low high =
     let e : suc k + 1 ≡ suc (k + 1) = omega arith in
     subst (λ n. is_before (get_or (x ∷ xs) n d) (get_or xs k d) ≡ false) e (sorted (suc k) d (omega arith) (omega arith))
 
-rises_from : (last : Member) (rest : List Member) → IsSortedBy is_before (last ∷ rest) → Rises last rest
+rises_from : (last : Named) (rest : List Named) → IsSortedBy is_before (last ∷ rest) → Rises last rest
 rises_from last [] sorted = tt
 rises_from last (x ∷ rest) sorted =
     (sorted 0 x (omega arith) (omega arith), rises_from x rest (sorted_rest last (x ∷ rest) sorted))
 
 -- where the first one goes as a repeat
-rises_past : (last x : Member) (xs : List Member) → is_before x last ≡ false → Rises x xs → Rises last xs
+rises_past : (last x : Named) (xs : List Named) → is_before x last ≡ false → Rises x xs → Rises last xs
 rises_past last x [] not_before rises = tt
 rises_past last x (y ∷ ys) not_before rises = (before_weakly.chain y x last rises.0 not_before, rises.1)
 
 -- What is left without repeats.
 
-record FromOn (last : Member) (left : List Member) : Type 0 where
-  up : Ascends (map member_seen left)
-  from_on : (other : Judgement) → Contains (map member_seen left) other → (member_seen last ≡ other) ⊎ ComesBefore (member_seen last) other
+record FromOn (last : Named) (left : List Named) : Type 0 where
+  up : Ascends (map fault_seen left)
+  from_on : (other : Fault) → Contains (map fault_seen left) other → (fault_seen last ≡ other) ⊎ ComesBefore (fault_seen last) other
 
-later_on : (last x : Member) (other : Judgement) → ComesBefore (member_seen last) (member_seen x)
-    → (member_seen x ≡ other) ⊎ ComesBefore (member_seen x) other → ComesBefore (member_seen last) other
-later_on last x other before (inl same) = subst (ComesBefore (member_seen last)) same before
-later_on last x other before (inr comes) = through (member_seen last) (member_seen x) other before comes
+later_on : (last x : Named) (other : Fault) → ComesBefore (fault_seen last) (fault_seen x)
+    → (fault_seen x ≡ other) ⊎ ComesBefore (fault_seen x) other → ComesBefore (fault_seen last) other
+later_on last x other before (inl same) = subst (ComesBefore (fault_seen last)) same before
+later_on last x other before (inr comes) = through (fault_seen last) (fault_seen x) other before comes
 
-one_more : (last x : Member) (left : List Member) → ComesBefore (member_seen last) (member_seen x) → FromOn x left → FromOn last (last ∷ left)
-one_more last x left before is = grind (arith, later_on, member_cases)
+one_more : (last x : Named) (left : List Named) → ComesBefore (fault_seen last) (fault_seen x) → FromOn x left → FromOn last (last ∷ left)
+one_more last x left before is = record {
+  up = (λ other at. later_on last x other before (is.from_on other at), is.up);
+  from_on = λ other at.
+      elim (member_cases (fault_seen last) (map fault_seen left) other at) [
+        | inl same ↦ inl same
+        | inr later ↦ inr (later_on last x other before (is.from_on other later))
+      ];
+}
 
-next : (last x : Member) (b : Bool) (dropped kept : List Member) → is_same x last ≡ b → is_before x last ≡ false → FromOn last dropped
+next : (last x : Named) (b : Bool) (dropped kept : List Named) → is_same x last ≡ b → is_before x last ≡ false → FromOn last dropped
     → FromOn x kept → FromOn last (cond b dropped (last ∷ kept))
 next last x true dropped kept is not_before without with_it = without
 next last x false dropped kept is not_before without with_it = one_more last x kept (comes_after last x not_before is) with_it
 
-left_from : (last : Member) (xs : List Member) → Rises last xs → FromOn last (dedup_from is_same last xs)
+left_from : (last : Named) (xs : List Named) → Rises last xs → FromOn last (dedup_from is_same last xs)
 left_from last [] rises = grind (arith, no_member, member_cases)
 left_from last (x ∷ xs) rises =
     next last x (is_same x last) (dedup_from is_same last xs) (dedup_from is_same x xs) refl rises.0
     (left_from last xs (rises_past last x xs rises.0 rises.1)) (left_from x xs rises.1)
 
-pub left_ascends : (sorted : List Member) → IsSortedBy is_before sorted → Ascends (map member_seen (dedup is_same sorted))
+pub left_ascends : (sorted : List Named) → IsSortedBy is_before sorted → Ascends (map fault_seen (dedup is_same sorted))
 left_ascends [] sorted = tt
 left_ascends (x ∷ xs) sorted = (left_from x xs (rises_from x xs sorted)).up
 
 -- what is left are members of the list
-pub left_of : (old sorted : List Member) (judgement : Judgement) → IsPermutation old sorted
-    → Contains (map member_seen (dedup is_same sorted)) judgement → Contains (map member_seen old) judgement
-left_of old sorted judgement moved at =
-    let found = of_map member_seen (dedup is_same sorted) judgement at in
+pub left_of : (old sorted : List Named) (fault : Fault) → IsPermutation old sorted
+    → Contains (map fault_seen (dedup is_same sorted)) fault → Contains (map fault_seen old) fault
+left_of old sorted fault moved at =
+    let found = of_map fault_seen (dedup is_same sorted) fault at in
     let there = Contains-permutation sorted old found.0 (IsPermutation-sym old sorted moved) (Contains-from_dedup is_same sorted found.0 found.1) in
-    subst (Contains (map member_seen old)) found.2 (in_map member_seen old found.0 there)
+    subst (Contains (map fault_seen old)) found.2 (in_map fault_seen old found.0 there)
 
-same_seen : (old : List Member) (x y : Member) → AreOne (map member_seen old) → Contains old x → Contains old y → is_same x y ≡ true
-    → member_seen x ≡ member_seen y
+same_seen : (old : List Named) (x y : Named) → AreOne (map fault_seen old) → Contains old x → Contains old y → is_same x y ≡ true
+    → fault_seen x ≡ fault_seen y
 same_seen old x y one at_x at_y is =
     let parts = same_parts x.page y.page (code_in x) (code_in y) is in
-    one (member_seen x) (member_seen y) (in_map member_seen old x at_x) (in_map member_seen old y at_y)
-    (page_seen x.page x.held ∙ parts.0 ∙ sym (page_seen y.page y.held)) parts.1
+    one (fault_seen x) (fault_seen y) (in_map fault_seen old x at_x) (in_map fault_seen old y at_y)
+    parts.0 parts.1
 
 -- and each member is left, where no two of one place differ
-pub is_left : (old sorted : List Member) (judgement : Judgement) → IsPermutation old sorted → AreOne (map member_seen old)
-    → Contains (map member_seen old) judgement → Contains (map member_seen (dedup is_same sorted)) judgement
-is_left old sorted judgement moved one at =
-    let found = of_map member_seen old judgement at in
+pub is_left : (old sorted : List Named) (fault : Fault) → IsPermutation old sorted → AreOne (map fault_seen old)
+    → Contains (map fault_seen old) fault → Contains (map fault_seen (dedup is_same sorted)) fault
+is_left old sorted fault moved one at =
+    let found = of_map fault_seen old fault at in
     let kept = Any-dedup same_equivalence sorted found.0 (Contains-permutation old sorted found.0 moved found.1) in
     let here : Contains (dedup is_same sorted) kept.1 = (kept.0, kept.2, kept.3) in
     let back = Contains-permutation sorted old kept.1 (IsPermutation-sym old sorted moved) (Contains-from_dedup is_same sorted kept.1 here) in
-    subst (Contains (map member_seen (dedup is_same sorted))) (sym (same_seen old found.0 kept.1 one found.1 back kept.4) ∙ found.2)
-    (in_map member_seen (dedup is_same sorted) kept.1 here)
+    subst (Contains (map fault_seen (dedup is_same sorted))) (sym (same_seen old found.0 kept.1 one found.1 back kept.4) ∙ found.2)
+    (in_map fault_seen (dedup is_same sorted) kept.1 here)

@@ -1,17 +1,14 @@
 -- Laws of what was noted.
 use Rattle.std.proofs.Common.{◌≡◌, ℕ, ◌+◌, ◌<◌, List, [], ◌∷◌, ◌++◌, length, get_or, take, refl, sym, ◌∙◌, ap, subst, inl, inr, append_assoc, append-nil}
-use Rattle.std.specs.Prelude.{Option, Some, None}
+use Rattle.std.specs.Prelude.{Result, Ok, Err, OnOk}
 use Rattle.std.specs.List.{Contains, flat_map, range_with_len}
 use Rattle.std.proofs.lemmas.Grind.{flat_map-append}
 use Rattle.std.proofs.lemmas.List.Elements.{Contains-append_cases, Contains-append_left, Contains-append_right}
 use Rattle.std.proofs.lemmas.List.{take_more}
-use Rattle.bdb_format.specs.Verdict.{faults_in, first_fault}
 use Rattle.bdb_format.specs.declared.kinds.Fault.{Fault}
-use Rattle.bdb_format.proofs.FaultLemmas.{same_fault}
 use Rattle.bdb_format.proofs.ListLemmas.{range_more}
-use Rattle.bdb_format.proofs.MemberLemmas.{first_member, is_empty, no_member}
-use Rattle.bdb_format.proofs.VerdictLemmas.{InOrder, stages_in_order}
-use Rattle.bdb_faults.specs.Notes.{AreSame, IsFirst, Notes, NotesAll}
+use Rattle.bdb_format.proofs.MemberLemmas.{is_empty, no_member}
+use Rattle.bdb_faults.specs.Notes.{AreSame, HasJust, Notes, NotesAll}
 
 -- What a check notes, part by part.
 
@@ -82,43 +79,18 @@ notes_next before middle after give xs i d low first second =
     subst (λ ys. NotesAll before after (flat_map give ys)) (sym (take_more xs i d low))
     (notes_push before middle after give (take i xs) (get_or xs i d) first second)
 
--- The sink that keeps the first.
+-- Of nothing on.
 
--- no first exactly where nothing was noted
-no_first : (faults noted : List Fault) → AreSame noted faults → noted ≡ [] → faults ≡ []
-no_first faults noted same none = is_empty faults (λ fault at. no_member noted fault none ((same fault).1 at))
-
--- the first of what was noted is the first of a list in order that has the same faults
-pub first_is : (stage : ℕ) (faults noted : List Fault) (first : Option Fault) → InOrder stage faults → AreSame noted faults → IsFirst first noted
-    → first ≡ first_fault faults
-first_is stage faults noted None order same is = ap first_fault (sym (no_first faults noted same is))
-first_is stage [] noted (Some fault) order same is = absurd (no_member [] fault refl ((same fault).0 is.holds))
-first_is stage (first ∷ faults) noted (Some fault) order same is =
-    let there = (same fault).0 is.holds in
-    let here = first_member first faults in
-    ap (λ (f : Fault). Some f)
-    (same_fault fault first (order.one_stage fault there ∙ sym (order.one_stage first here)) (is.first first ((same first).1 here))
-    (order.rises first faults fault refl there))
-
--- a sink that had noted nothing has noted faults that are the same as these
-pub noted_all : (before after : List Fault → Type 0) (faults : List Fault) → before [] → NotesAll before after faults
-    → (noted : List Fault) × after noted × AreSame noted faults
+-- a sink that had noted nothing has noted just these
+pub noted_all : (before after : List Fault → Type 0) (faults : List Fault) → before [] → NotesAll before after faults → HasJust after faults
 noted_all before after faults begun all = (all.0, all.2 [] begun, all.1)
 
--- what a check over a new `First` found
-pub first_found : (stage : ℕ) (faults : List Fault) (start first : Option Fault) → InOrder stage faults → start ≡ None
-    → NotesAll (IsFirst start) (IsFirst first) faults → first ≡ first_fault faults
-first_found stage faults start first order new all =
-    let it = noted_all (IsFirst None) (IsFirst first) faults refl (subst (λ (o : Option Fault). NotesAll (IsFirst o) (IsFirst first) faults) new all) in
-    first_is stage faults it.0 first order it.2 it.1
+-- the same where a check answered
+pub all_noted : {T E : Type 0} (answer : Result T E) (before after : List Fault → Type 0) (faults : List Fault) → before []
+    → OnOk answer (NotesAll before after faults) → OnOk answer (HasJust after faults)
+all_noted (Ok value) before after faults begun all = noted_all before after faults begun all
+all_noted (Err error) before after faults begun all = all
 
--- and what one of some stages found
-pub first_of_stages : (image stages : List ℕ) (start first : Option Fault) → start ≡ None → NotesAll (IsFirst start) (IsFirst first) (faults_in stages image)
-    → first ≡ first_fault (faults_in stages image)
-first_of_stages image stages start first new all =
-    let order = stages_in_order image stages in first_found order.0 (faults_in stages image) start first order.1 new all
-
--- a list of which there is no first is empty
-pub none_first : (faults : List Fault) → None ≡ first_fault faults → faults ≡ []
-none_first [] none = refl
-none_first (fault ∷ faults) none = absurd cc
+-- nothing was noted exactly where there is nothing
+pub none_same : (noted faults : List Fault) → AreSame noted faults → noted ≡ [] → faults ≡ []
+none_same noted faults same none = is_empty faults (λ fault at. no_member noted fault none ((same fault).1 at))

@@ -1,7 +1,4 @@
-pub mod All
-pub mod Cases
 pub mod Members
-pub mod Named
 pub mod Notes
-pub mod Rows
+pub mod Refusals
 pub use Rattle.bdb_format.specs as of_format

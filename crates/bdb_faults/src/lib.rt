@@ -1,30 +1,22 @@
 //! Where the faults of a check go: a sink that keeps the first of them, or a list of all.
 #![tactic(auto)]
 
-mod cases;
-mod codes;
 mod first;
+mod judge;
 mod list;
-mod member;
-mod named;
 mod note;
-mod refusal;
-mod rows;
+mod refusals;
 mod sink;
-mod table;
 
 pub use bdb_format::{
-    BtreeMeta, Bytes, CheckError, Fault, FileKind, HashMeta, Head, Header, Kind, MetaFault, Order,
-    QueueMeta, Reference, Settings, Sort, Steps, Unsupported, Verdict, number_in, plain_settings,
+    BtreeMeta, Bytes, CheckError, ContentsRow, Fault, FileKind, FileRow, FormRow, HashMeta, Head,
+    Header, Kind, Named, Order, OwnershipRow, PageType, QueueMeta, ReachRow, Reference,
+    ReferenceRow, Row, Settings, Sort, Steps, StructureRow, Verdict, has_type, keyed_types,
+    number_in, plain_settings, record_types,
 };
-pub use cases::{fault_of_form, fault_of_head};
-pub use first::First;
+pub use first::{First, checked};
+pub use judge::{Judge, judged};
 pub use list::NamedList;
-pub use named::{AllError, Named, fault_name, unsupported_name};
 pub use note::note_if;
-pub use refusal::refused_by;
-pub use rows::{
-    ContentsRow, FileRow, FormRow, MasterRow, OwnershipRow, ReachRow, ReferenceRow, Row,
-    StructureRow,
-};
+pub use refusals::{AllError, FirstError, check_error, first_verdict};
 pub use sink::FaultSink;

@@ -1,9 +1,9 @@
 ghost use Rattle.std.specs.Prelude.{IsTrue, OnErr, OnOk};
 ghost use Rattle.bdb_faults.specs.Notes.{Notes};
-ghost use Rattle.bdb_faults.specs.Rows.{fault_if};
+ghost use Rattle.bdb_format.specs.RowCodes.{fault_if};
 
 use crate::FaultSink;
-use crate::rows::Row;
+use bdb_format::Row;
 use std::alloc::AllocError;
 
 /// Notes a row at a page, where it holds there. An error is want of memory.
@@ -18,7 +18,7 @@ pub fn note_if<F: FaultSink>(
     ensures refused { OnErr result (IsTrue F.takes_memory) }
 {
     if holds {
-        found.note(row.at(page))?;
+        found.note(row, page)?;
     }
     Ok(())
 }

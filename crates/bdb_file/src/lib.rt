@@ -5,14 +5,12 @@ pub mod laws;
 mod reads;
 mod sound;
 mod verdict;
-mod verdict_all;
 
 pub use bdb_check::{
-    AllError, BtreeMeta, Bytes, Datum, Entries, Forest, KeyView, Linked, Meta, Named, Order, Pair,
-    Rows, Steps, bytes_in, check_file, hash5, is_less, is_same, link, next_entry, open_image,
-    page_pairs, pair_entries, tree_leaves,
+    AllError, BtreeMeta, Bytes, Datum, Entries, First, FirstError, Forest, KeyView, Linked, Meta,
+    NamedList, Order, Pair, Rows, Steps, bytes_in, hash5, is_less, is_same, next_entry, page_pairs,
+    pair_entries, tree_leaves,
 };
 pub use bdb_databases::{Db, Found, Readable, Scan};
 pub use sound::Sound;
-pub use verdict::{verify, verify_by};
-pub use verdict_all::{verify_all, verify_all_by};
+pub use verdict::{sound_by, verify, verify_all, verify_by};

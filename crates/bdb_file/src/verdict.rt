@@ -1,67 +1,81 @@
 ghost use Rattle.std.specs.Prelude.{◌≡◌, ◌≤◌, ◌+◌, ◌^◌, [], ◌∷◌, IfErr, IfOk, None, OnOk, length};
 ghost use Rattle.bdb_check.specs.of_any_order.AnyOrder.{faults_by_rows};
-ghost use Rattle.bdb_file.specs.Whole.{IsVerdictBy, IsVerdictOf, told_as};
+ghost use Rattle.bdb_file.specs.Whole.{IsVerdictOf};
+ghost use Rattle.bdb_check.specs.of_faults.Refusals.{IsAllOf};
 ghost use Rattle.bdb_check.specs.of_format.File.{file_of};
-ghost use Rattle.bdb_check.specs.of_format.Verdict.{faults_in, verdict_of};
+ghost use Rattle.bdb_check.specs.of_format.Verdict.{faults_in, faults_of, verdict_of};
 
 use crate::{Readable, Rows, Sound};
-use bdb_check::{CheckError, Formed, Steps, Verdict, checked_entries, link, open_image};
+use bdb_check::{
+    AllError, First, Formed, Judge, NamedList, Steps, Verdict, entries_by, first_verdict, link_by,
+    open_by,
+};
 use bdb_databases::databases_of;
 use std::alloc::Global;
 use std::sync::ledger::Ledger;
 
-/// The refusal of a check as a verdict.
-fn told_as(error: CheckError) -> Verdict
-    ensures { result ≡ told_as error }
-{
-    match error {
-        CheckError::Fault(fault) => Verdict::Fault(fault),
-        CheckError::Memory => Verdict::Memory,
-    }
-}
-
-/// A formed image as a readable file, or its refusal by the rows that count.
-#[tactic(auto, using(crate::proofs::VerdictLemmas::first_verdict))]
-fn checked<'a, L: Ledger>(
+/// A formed image as a readable file, or a refusal by the rows that count.
+#[tactic(auto, using(crate::proofs::VerdictLemmas::whole_verdict))]
+fn readable<'a, J: Judge + Drop, L: Ledger>(
     alloc: Global,
     formed: Formed<'a>,
     rows: Rows,
     steps: &mut Steps<L>,
-) -> Result<Readable<'a>, CheckError>
+) -> Result<Readable<'a>, J::Refusal>
     requires { faults_in (1 ∷ 2 ∷ []) formed ≡ [] }
     ensures readable { IfOk result (λ readable. readable ≡ formed.entry) }
     ensures accepted { OnOk result (faults_by_rows rows formed.entry ≡ []) }
-    ensures refusal { IfErr result (λ error. IsVerdictBy rows formed.entry (told_as error)) }
+    ensures refusal { IfErr result (J.refuses (faults_by_rows rows formed.entry)) }
     ensures cost { steps.new ≤ steps.old + ((file_of formed.entry).last + 1) }
 {
-    let linked = link(alloc, formed, steps)?;
-    let entries = checked_entries(alloc, &linked, rows)?;
-    let databases = databases_of(alloc, &linked, &entries).map_err(|_| CheckError::Memory)?;
-    Ok(Readable::over(linked, databases))
+    let linked = link_by::<J, L>(alloc, formed, steps)?;
+    let entries = entries_by::<J>(alloc, &linked, rows)?;
+    match databases_of(alloc, &linked, &entries) {
+        Ok(databases) => Ok(Readable::over(linked, databases)),
+        Err(_) => Err(J::memory()),
+    }
 }
 
-/// An image as a file whose databases can be read, or its verdict by the rows that count: the least page, and there the least code,
-/// of the first of the eight stages in which such a row holds, or the case that is left out by name. `Memory` is want of memory. It
-/// takes no more steps than the image has whole pages.
-#[tactic(auto, using(crate::proofs::VerdictLemmas::form_refused, crate::proofs::VerdictLemmas::whole_pages))]
-pub fn verify_by<'a, L: Ledger>(
+/// An image as a file whose databases can be read. A refusal has what holds, of the rows that count, of the first of the eight
+/// stages in which one holds; a case that is left out by name stands among them. It takes no more steps than the image has whole
+/// pages.
+#[tactic(auto, using(crate::proofs::VerdictLemmas::whole_pages))]
+pub fn verify_by<'a, J: Judge + Drop, L: Ledger>(
     alloc: Global,
     image: &'a [u8],
     rows: Rows,
     steps: &mut Steps<L>,
-) -> Result<Readable<'a>, Verdict>
+) -> Result<Readable<'a>, J::Refusal>
     requires { length image.now ≤ 2 ^ 30 }
     ensures readable { IfOk result (λ readable. readable ≡ image.now) }
     ensures accepted { OnOk result (faults_by_rows rows image.now ≡ []) }
-    ensures refusal { IfErr result (IsVerdictBy rows image.now) }
+    ensures refusal { IfErr result (J.refuses (faults_by_rows rows image.now)) }
     ensures cost { steps.new ≤ steps.old + (file_of image.now).count }
 {
-    let formed = open_image(alloc, image)?;
-    checked(alloc, formed, rows, steps).map_err(told_as)
+    let formed = open_by::<J>(alloc, image)?;
+    readable::<J, L>(alloc, formed, rows, steps)
 }
 
-/// An image as a sound file, or its verdict: that of `verify_by` where all rows count.
-#[tactic(auto, using(crate::proofs::RowsLemmas::all_accepted, crate::proofs::RowsLemmas::all_verdict, crate::proofs::RowsLemmas::all_refusal))]
+/// An image as a sound file: the same, where all rows count.
+#[tactic(auto, using(crate::proofs::RowsLemmas::all_accepted))]
+pub fn sound_by<'a, J: Judge + Drop, L: Ledger>(
+    alloc: Global,
+    image: &'a [u8],
+    steps: &mut Steps<L>,
+) -> Result<Sound<'a>, J::Refusal>
+    requires { length image.now ≤ 2 ^ 30 }
+    ensures sound { IfOk result (λ sound. sound ≡ image.now) }
+    ensures accepted { OnOk result (faults_of image.now ≡ []) }
+    ensures refusal { IfErr result (J.refuses (faults_of image.now)) }
+    ensures cost { steps.new ≤ steps.old + (file_of image.now).count }
+{
+    let readable = verify_by::<J, L>(alloc, image, Rows::All, steps)?;
+    Ok(Sound::over(readable))
+}
+
+/// The same, or else the verdict on the image: the least page, and there the least row, of the first stage in which a row holds, or
+/// the case that is left out by name. `Memory` is want of memory.
+#[tactic(auto, using(crate::proofs::RowsLemmas::none_judged, crate::proofs::RowsLemmas::first_told))]
 pub fn verify<'a, L: Ledger>(
     alloc: Global,
     image: &'a [u8],
@@ -73,6 +87,21 @@ pub fn verify<'a, L: Ledger>(
     ensures refusal { IfErr result (IsVerdictOf image.now) }
     ensures cost { steps.new ≤ steps.old + (file_of image.now).count }
 {
-    let readable = verify_by(alloc, image, Rows::All, steps)?;
-    Ok(Sound::over(readable))
+    sound_by::<First, L>(alloc, image, steps).map_err(first_verdict)
+}
+
+/// The same, or else all that holds, page by page and row by row, each once. `Memory` is want of memory; the list takes at most 24
+/// bytes for each fault.
+pub fn verify_all<'a, L: Ledger>(
+    alloc: Global,
+    image: &'a [u8],
+    steps: &mut Steps<L>,
+) -> Result<Sound<'a>, AllError>
+    requires { length image.now ≤ 2 ^ 30 }
+    ensures sound { IfOk result (λ sound. sound ≡ image.now) }
+    ensures accepted { OnOk result (faults_of image.now ≡ []) }
+    ensures refusal { IfErr result (IsAllOf (faults_of image.now)) }
+    ensures cost { steps.new ≤ steps.old + (file_of image.now).count }
+{
+    sound_by::<NamedList, L>(alloc, image, steps)
 }

@@ -4,8 +4,8 @@ ghost use Rattle.std.specs.Prelude.{◌≡◌};
 
 use crate::files::TWO_DATABASES;
 use crate::judging::SIZE;
-use bdb_file::{AllError, Named, verify_all};
-use bdb_format::{Fault, Order, Steps, Unsupported};
+use bdb_file::{AllError, verify_all};
+use bdb_format::{Fault, Order, Steps};
 use std::alloc::Global;
 use std::marker::Brand;
 use std::sync::ledger::{Blank, Ledger};
@@ -15,7 +15,7 @@ use test_images::{Field, is_list_of, write};
 #[derive(Clone, Copy)]
 struct Case {
     fields: &'static [Field],
-    named: &'static [Named],
+    named: &'static [Fault],
 }
 
 const CASES: [Case; 6] = [
@@ -27,12 +27,17 @@ const CASES: [Case; 6] = [
     Case {
         fields: &[Field::Four(1544, 9), Field::Four(1072, 0x80)],
         named: &[
-            Named::Unsupported(Unsupported::Compression, 2),
-            Named::Fault(Fault {
+            // Compression
+            Fault {
+                stage: 2,
+                page: 2,
+                code: 9,
+            },
+            Fault {
                 stage: 2,
                 page: 3,
                 code: 1,
-            }),
+            },
         ],
     },
     // The leaves of the master and of a name neighbours, beside a wrong page of b.
@@ -43,48 +48,48 @@ const CASES: [Case; 6] = [
             Field::Byte(1006, 0),
         ],
         named: &[
-            Named::Fault(Fault {
+            Fault {
                 stage: 6,
                 page: 1,
                 code: 3,
-            }),
-            Named::Fault(Fault {
+            },
+            Fault {
                 stage: 6,
                 page: 3,
                 code: 3,
-            }),
+            },
         ],
     },
     // b names page 2 as well, so that page 4 has no name.
     Case {
         fields: &[Field::Byte(1006, 2)],
         named: &[
-            Named::Fault(Fault {
+            Fault {
                 stage: 7,
                 page: 2,
                 code: 5,
-            }),
-            Named::Fault(Fault {
+            },
+            Fault {
                 stage: 7,
                 page: 4,
                 code: 1,
-            }),
+            },
         ],
     },
     // b's page in low order first.
     Case {
         fields: &[Field::Byte(1003, 4), Field::Byte(1006, 0)],
         named: &[
-            Named::Fault(Fault {
+            Fault {
                 stage: 7,
                 page: 1,
                 code: 3,
-            }),
-            Named::Fault(Fault {
+            },
+            Fault {
                 stage: 7,
                 page: 4,
                 code: 1,
-            }),
+            },
         ],
     },
     // The names out of order, and a key of bucket 1 in bucket 0, on page 5.
@@ -100,16 +105,16 @@ const CASES: [Case; 6] = [
             Field::Byte(3069, 0x64),
         ],
         named: &[
-            Named::Fault(Fault {
+            Fault {
                 stage: 8,
                 page: 1,
                 code: 3,
-            }),
-            Named::Fault(Fault {
+            },
+            Fault {
                 stage: 8,
                 page: 5,
                 code: 8,
-            }),
+            },
         ],
     },
 ];
@@ -117,7 +122,7 @@ const CASES: [Case; 6] = [
 fn names_counted<L: Ledger>(
     alloc: Global,
     image: &[u8; SIZE],
-    named: &[Named],
+    named: &[Fault],
     blank: Blank,
 ) -> bool
     requires name { blank.name ≡ L.name }

@@ -4,8 +4,8 @@ ghost use Rattle.std.specs.Prelude.{◌≡◌};
 
 use crate::files::TWO_DATABASES;
 use crate::judging::SIZE;
-use bdb_file::{AllError, Named, Readable, Rows, verify_all, verify_all_by, verify_by};
-use bdb_format::{Fault, Order, Steps, Verdict};
+use bdb_file::{AllError, First, FirstError, NamedList, Readable, Rows, verify_all, verify_by};
+use bdb_format::{Fault, Order, Steps};
 use std::alloc::Global;
 use std::marker::Brand;
 use std::sync::ledger::{Blank, Ledger};
@@ -15,8 +15,8 @@ use test_images::{Field, is_list_of, write};
 #[derive(Clone, Copy)]
 struct Case {
     fields: &'static [Field],
-    named: &'static [Named],
-    in_any_order: &'static [Named],
+    named: &'static [Fault],
+    in_any_order: &'static [Fault],
 }
 
 const CASES: [Case; 4] = [
@@ -46,11 +46,11 @@ const CASES: [Case; 4] = [
             Field::Byte(2034, 1),
             Field::Byte(2035, 0x79),
         ],
-        named: &[Named::Fault(Fault {
+        named: &[Fault {
             stage: 8,
             page: 3,
             code: 3,
-        })],
+        }],
         in_any_order: &[],
     },
     // The names out of order, and a key of bucket 1 in bucket 0, on page 5.
@@ -66,28 +66,28 @@ const CASES: [Case; 4] = [
             Field::Byte(3069, 0x64),
         ],
         named: &[
-            Named::Fault(Fault {
+            Fault {
                 stage: 8,
                 page: 1,
                 code: 3,
-            }),
-            Named::Fault(Fault {
+            },
+            Fault {
                 stage: 8,
                 page: 5,
                 code: 8,
-            }),
+            },
         ],
         in_any_order: &[
-            Named::Fault(Fault {
+            Fault {
                 stage: 8,
                 page: 1,
                 code: 3,
-            }),
-            Named::Fault(Fault {
+            },
+            Fault {
                 stage: 8,
                 page: 5,
                 code: 8,
-            }),
+            },
         ],
     },
     // The keys of a out of order, and that key in bucket 0.
@@ -119,22 +119,22 @@ const CASES: [Case; 4] = [
             Field::Byte(3069, 0x64),
         ],
         named: &[
-            Named::Fault(Fault {
+            Fault {
                 stage: 8,
                 page: 3,
                 code: 3,
-            }),
-            Named::Fault(Fault {
+            },
+            Fault {
                 stage: 8,
                 page: 5,
                 code: 8,
-            }),
+            },
         ],
-        in_any_order: &[Named::Fault(Fault {
+        in_any_order: &[Fault {
             stage: 8,
             page: 5,
             code: 8,
-        })],
+        }],
     },
 ];
 
@@ -145,7 +145,7 @@ fn has_both(readable: &Readable<'_>) -> bool {
         && readable.by_name(Some(b"b")).is_some()
 }
 
-fn are_all(found: Result<Readable<'_>, AllError>, named: &[Named]) -> bool {
+fn are_all(found: Result<Readable<'_>, AllError>, named: &[Fault]) -> bool {
     match found {
         Ok(readable) => named.is_empty() && has_both(&readable),
         Err(AllError::Faults(list)) => is_list_of(&list, named),
@@ -153,10 +153,10 @@ fn are_all(found: Result<Readable<'_>, AllError>, named: &[Named]) -> bool {
     }
 }
 
-fn is_first(found: Result<Readable<'_>, Verdict>, named: &[Named]) -> bool {
+fn is_first(found: Result<Readable<'_>, FirstError>, named: &[Fault]) -> bool {
     match (found, named.first()) {
         (Ok(readable), None) => has_both(&readable),
-        (Err(Verdict::Fault(fault)), Some(first)) => *first == Named::Fault(fault),
+        (Err(FirstError::Fault(found)), Some(first)) => *first == found.fault(),
         _ => false,
     }
 }
@@ -164,7 +164,7 @@ fn is_first(found: Result<Readable<'_>, Verdict>, named: &[Named]) -> bool {
 fn names_all<L: Ledger>(
     alloc: Global,
     image: &[u8; SIZE],
-    named: &[Named],
+    named: &[Fault],
     steps: &mut Steps<L>,
 ) -> bool {
     match verify_all(alloc, image, steps) {
@@ -182,11 +182,11 @@ fn is_named<L: Ledger>(alloc: Global, image: &[u8; SIZE], case: &Case, blank: Bl
     let mut steps = Steps::<L>::new(blank);
     names_all(alloc, image, case.named, &mut steps)
         && are_all(
-            verify_all_by(alloc, image, Rows::AnyOrder, &mut steps),
+            verify_by::<NamedList, L>(alloc, image, Rows::AnyOrder, &mut steps),
             case.in_any_order,
         )
         && is_first(
-            verify_by(alloc, image, Rows::AnyOrder, &mut steps),
+            verify_by::<First, L>(alloc, image, Rows::AnyOrder, &mut steps),
             case.in_any_order,
         )
 }

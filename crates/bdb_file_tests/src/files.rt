@@ -1,13 +1,8 @@
 //! Whole files: a master with two databases. Values: docs/FORMAT.md, "Databases of a file" and "Stage 7, the master".
 
-ghost use Rattle.std.specs.Prelude.{◌≡◌};
-
 use crate::judging::{SIZE, Told, verdict_told};
-use bdb_file::{check_file, link, open_image};
-use bdb_format::{CheckError, Fault, Order, Steps, Unsupported};
+use bdb_format::{Order, Unsupported};
 use std::alloc::Global;
-use std::marker::Brand;
-use std::sync::ledger::{Blank, Ledger};
 use test_images::{Field, write};
 
 /// What is written over the file, and what comes of it.
@@ -166,58 +161,12 @@ const CASES: [Case; 10] = [
     },
 ];
 
-fn told_by(answer: Result<(), CheckError>) -> Told {
-    match answer {
-        Ok(()) => Told::Sound,
-        Err(CheckError::Fault(Fault { stage, page, code })) => Told::Fault { stage, page, code },
-        Err(CheckError::Memory) => Told::Memory,
-    }
-}
-
-fn told_counted<L: Ledger>(alloc: Global, image: &[u8], steps: &mut Steps<L>) -> Told {
-    if image.len() > SIZE {
-        return Told::Refused;
-    }
-    let Ok(formed) = open_image(alloc, image) else {
-        return Told::Refused;
-    };
-    match link(alloc, formed, steps) {
-        Ok(linked) => told_by(check_file(alloc, &linked)),
-        Err(_) => Told::Refused,
-    }
-}
-
-fn told_blank<L: Ledger>(alloc: Global, image: &[u8], blank: Blank) -> Told
-    requires name { blank.name ≡ L.name }
-    requires parts { blank.parts ≡ L.parts }
-    requires one { L.parts ≡ 1 }
-{
-    let mut steps = Steps::<L>::new(blank);
-    told_counted(alloc, image, &mut steps)
-}
-
-fn is_as_told(alloc: Global, case: &Case, order: Order) -> bool {
-    let mut image = [0u8; SIZE];
-    write(&mut image, &TWO_DATABASES, order);
-    write(&mut image, case.fields, order);
-    told_blank::<Brand>(alloc, &image, Blank::new(1)) == case.told
-}
-
 /// Whether the verdict on the file of two databases is this, once these fields are written over it.
 fn has_verdict(alloc: Global, fields: &[Field], told: Told, order: Order) -> bool {
     let mut image = [0u8; SIZE];
     write(&mut image, &TWO_DATABASES, order);
     write(&mut image, fields, order);
     verdict_told(alloc, &image) == told
-}
-
-#[test]
-fn tells_the_first_fault_of_a_file(rt: HostRuntime) {
-    for case in &CASES {
-        for order in [Order::Little, Order::Big] {
-            assert!(rt; is_as_told(rt.alloc(), case, order));
-        }
-    }
 }
 
 #[test]

@@ -1,14 +1,22 @@
 -- What it means for a page with an index that no row of form holds for it.
-use Rattle.std.proofs.Common.{[], ◌∷◌, ◌≡◌, ℕ, ◌%◌, ◌<◌, ◌≤◌, List, length, drop, arith, refl, sym, ap, ltb-false, nat_eq, eq-eqb, eqb-true, ◌*◌, ◌-◌}
+use Rattle.std.proofs.Common.{[], ◌∷◌, ◌≡◌, ℕ, ◌%◌, ◌<◌, ◌≤◌, List, length, drop, arith, refl, sym, ap, ◌∙◌, ltb-false, nat_eq, eq-eqb, eqb-true, ◌*◌, ◌-◌}
 use Rattle.std.proofs.Common.{le-leb, ne_eqb}
 use Rattle.std.specs.Prelude.{slice_index, not, ◌==◌, IsTrue, Bool, true, false, Option, Some, None, slice_get}
 use Rattle.bdb_layout.specs.of_format.declared.kinds.Order.{Order}
 use Rattle.bdb_layout.specs.of_format.declared.kinds.Order.TheVariants.{Big}
 use Rattle.bdb_layout.specs.of_format.Numbers.{byte_at, four_at}
-use Rattle.bdb_layout.specs.of_format.Page.{PageType, Queue}
+use Rattle.bdb_layout.specs.of_format.Page.{Queue}
+use Rattle.bdb_layout.specs.of_format.declared.pages.PageType.{PageType}
+use Rattle.bdb_layout.specs.of_format.declared.pages.PageType.TheVariants.{Free as FreePage, Overflow as OverflowPage}
 use Rattle.bdb_layout.specs.of_format.Reading.{entries_of, index_end, is_zero, page_as, page_type, listed}
 use Rattle.bdb_layout.specs.of_format.References.{is_shared_key}
-use Rattle.bdb_layout.specs.of_format.Rows.{code_of, is_queue_type, body_code, is_tree_type, page_code, queue_code, index_rows, item_rows, is_wrong_entry_count}
+use Rattle.std.specs.Option.{option_map}
+use Rattle.bdb_layout.specs.of_format.declared.pages.ItemFault.{ItemFault}
+use Rattle.bdb_layout.specs.of_format.declared.pages.ItemFault.TheVariants.{Offset, Kind, Extent}
+use Rattle.bdb_layout.specs.ItemRows.{item_form}
+use Rattle.bdb_layout.specs.of_format.RowCodes.{form_row_code}
+use Rattle.bdb_layout.specs.of_format.Rows.{code_of, is_queue_type, body_code, is_tree_type, page_code, queue_code, index_rows, item_code, item_rows}
+use Rattle.bdb_layout.specs.of_format.Rows.{is_wrong_entry_count}
 use Rattle.bdb_layout.specs.of_format.Table.{◌:?◌, first_row}
 use Rattle.bdb_layout.proofs.of_format.ItemLemmas.{index_passes, no_index_row, no_item_row}
 use Rattle.bdb_layout.specs.of_format.declared.pages.Header.{Header}
@@ -50,10 +58,10 @@ shared_after offsets i above = grind (arith, eq-eqb, le-leb)
 -- Pages that are known to have no fault of form.
 
 -- a page with a type isn't a zero page
-pub zero_type : (page : List ℕ) → 26 ≤ length page → (byte_at page 25 ≡ 0 → ⊥) → is_zero page ≡ false
+pub zero_type : (page : List ℕ) → 26 ≤ length page → (page_type (byte_at page 25) ≡ FreePage → ⊥) → is_zero page ≡ false
 zero_type page long typed =
     elim (is_zero page) as (λ b. is_zero page ≡ b → b ≡ false) [
-      | true ↦ λ zeros. absurd (typed (sym (ap (λ (header : Header). header.page_type) (zero_header Big page long zeros))))
+      | true ↦ λ zeros. absurd (typed (sym (ap (λ (header : Header). page_type header.page_type) (zero_header Big page long zeros))))
       | false ↦ λ same. refl
     ] refl
 
@@ -114,8 +122,9 @@ queue_type order number page none other = eqb-true (byte_at page 25) 11 (typed o
 
 -- the data of an overflow page lie on it
 pub holds_data : (order : Order) (page : List ℕ) → length page ≤ 32768 → 26 ≤ length page → body_code order page (page_type (byte_at page 25)) ≡ None
-    → byte_at page 25 ≡ 7 → HoldsData order page
-holds_data order page size header none seven = grind (arith, ltb-false)
+    → page_type (byte_at page 25) ≡ OverflowPage → HoldsData order page
+holds_data order page size header none is =
+    let code : body_code order page OverflowPage ≡ None = sym (ap (body_code order page) is) ∙ none in grind (arith, ltb-false, code)
 
 -- the page of records that such a page stands for
 pub queue_page : (order : Order) (number : ℕ) (page : List ℕ) → queue_code order number page ≡ None → is_zero page ≡ false
@@ -133,3 +142,10 @@ pub ruleset indexed_over = (header_listed, length_items, index_offset, listed_ro
 
 -- what an item of an index needs
 pub ruleset indexed_item = (listed_room, sound_item, item_is, length_items)
+
+-- what is wrong with an item has the code of its row
+pub item_coded : (fault : Option ItemFault) → option_map form_row_code (option_map item_form fault) ≡ option_map item_code fault
+item_coded None = refl
+item_coded (Some Offset) = refl
+item_coded (Some Kind) = refl
+item_coded (Some Extent) = refl

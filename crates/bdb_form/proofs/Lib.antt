@@ -1,4 +1,5 @@
 mod Below
+pub mod EndLemmas
 pub mod FormedLemmas
 pub mod SlotLemmas
 pub mod WalkLemmas

@@ -3,7 +3,9 @@ use Rattle.std.specs.Prelude.{◌≡◌, ◌≤◌, ◌+◌, ℕ, List, length, 
 use Rattle.bdb_layout.specs.of_format.declared.kinds.Order.{Order}
 use Rattle.bdb_layout.specs.of_format.declared.pages.Header.{Header}
 use Rattle.bdb_layout.specs.of_format.Numbers.{two_at}
-use Rattle.bdb_layout.specs.of_format.Page.{PageType, Metadata, BtreeFields, HashFields, QueueFields, HashMetaPage, QueueMetaPage}
+use Rattle.bdb_layout.specs.of_format.Page.{Metadata, BtreeFields, HashFields, QueueFields}
+use Rattle.bdb_layout.specs.of_format.declared.pages.PageType.{PageType}
+use Rattle.bdb_layout.specs.of_format.declared.pages.PageType.TheVariants.{HashMeta as HashMetaPage, QueueMeta as QueueMetaPage}
 use Rattle.bdb_layout.specs.of_format.Reading.{hash_fields, btree_fields, queue_fields}
 use Rattle.bdb_layout.specs.of_format.Rows.{listed_code}
 

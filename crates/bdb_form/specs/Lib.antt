@@ -1,4 +1,5 @@
 pub mod Below
+pub mod Ends
 pub mod Formed
 pub mod Pairs
 pub mod Seen

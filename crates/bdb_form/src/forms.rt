@@ -1,20 +1,22 @@
 ghost use Rattle.std.specs.Prelude.{◌≡◌, ◌≤◌, None, IfOk, IsTrue, false, length};
+ghost use Rattle.std.specs.Option.{option_map};
+ghost use Rattle.bdb_layout.specs.of_format.RowCodes.{form_row_code};
 ghost use Rattle.bdb_form.specs.Formed.{unless};
 ghost use Rattle.bdb_form.specs.Seen.{form_seen, header_seen, page_seen};
 ghost use Rattle.bdb_layout.specs.of_format.HeadOf.{is_page_size};
 ghost use Rattle.bdb_layout.specs.of_format.Numbers.{byte_at, four_at};
-ghost use Rattle.bdb_layout.specs.of_format.Page.{OverflowPage};
+ghost use Rattle.bdb_layout.specs.of_format.declared.pages.PageType.TheVariants.{Overflow as OverflowPage};
 ghost use Rattle.bdb_layout.specs.of_format.Reading.{abstract_page, header_of, is_zero, page_as, page_type};
 ghost use Rattle.bdb_layout.specs.of_format.Rows.{body_code, identity_rows, is_queue_type, is_tree_type, page_code, queue_code};
 ghost use Rattle.bdb_layout.specs.of_format.Table.{first_row};
 
-use crate::codes::listed_code;
+use crate::rows::listed_row;
 use crate::zeros::is_zero;
 use crate::{
-    DupLeafKind, FreeView, HashKind, IndexedView, InternalKind, LeafKind, MetaView, OverflowView,
-    PageView, QueueView, RecnoInternalKind, RecnoLeafKind, ZeroView,
+    EntryLeafKind, FreeView, HashKind, IndexedView, InternalKind, LeafKind, MetaView, OverflowView,
+    PageView, QueueView, RecnoInternalKind, Records, SortedData, ZeroView,
 };
-use bdb_layout::{Order, u16_at, u32_at};
+use bdb_layout::{FormRow, Order, PageType, page_type, u16_at, u32_at};
 
 /// A page above 0 of a btree or hash file as the view of its type, or the code of the first row of form
 /// that holds for it. Of a metadata page only the number is looked at: its rows are those of `bdb_meta`.
@@ -24,8 +26,8 @@ pub fn form(page: &[u8], number: u32, order: Order) -> Result<PageView<'_>, u8>
     ensures page { form_seen result ≡ unless (page_code order number page.now) (abstract_page order page.now) }
     ensures header { IfOk result (λ view. header_seen view ≡ header_of order page.now) }
 {
-    match page_code(page, number, order) {
-        Some(code) => Err(code),
+    match page_row(page, number, order) {
+        Some(row) => Err(row.entry().code),
         None => Ok(known_form(page, number, order)),
     }
 }
@@ -37,32 +39,32 @@ pub fn queue_form(page: &[u8], number: u32, order: Order) -> Result<PageView<'_>
     ensures page { form_seen result ≡ unless (queue_code order number page.now) (abstract_page order page.now) }
     ensures header { IfOk result (λ view. header_seen view ≡ header_of order page.now) }
 {
-    match queue_code(page, number, order) {
-        Some(code) => Err(code),
+    match queue_row(page, number, order) {
+        Some(row) => Err(row.entry().code),
         None => Ok(known_queue_form(page, number, order)),
     }
 }
 
-/// The code of the first row of form that holds for a page above 0 of a btree or hash file, if one does.
+/// The first row of form that holds for a page above 0 of a btree or hash file, if one does.
 #[tactic(auto, unfolding(crate::specs::Below::page_code))]
-pub fn page_code(page: &[u8], number: u32, order: Order) -> Option<u8>
+pub fn page_row(page: &[u8], number: u32, order: Order) -> Option<FormRow>
     requires { IsTrue (is_page_size (length page.now)) }
-    ensures { result ≡ page_code order number page.now }
+    ensures { option_map form_row_code result ≡ page_code order number page.now }
 {
     if is_zero(page) {
         return None;
     }
     match tree_identity(page, number, order) {
-        Some(code) => Some(code),
-        None => body_code(page, order),
+        Some(row) => Some(row),
+        None => body_row(page, order),
     }
 }
 
-/// The code of the first row of form that holds for a page above 0 of a queue file, if one does.
+/// The first row of form that holds for a page above 0 of a queue file, if one does.
 #[tactic(auto, unfolding(crate::specs::Below::queue_code))]
-pub fn queue_code(page: &[u8], number: u32, order: Order) -> Option<u8>
+pub fn queue_row(page: &[u8], number: u32, order: Order) -> Option<FormRow>
     requires { IsTrue (is_page_size (length page.now)) }
-    ensures { result ≡ queue_code order number page.now }
+    ensures { option_map form_row_code result ≡ queue_code order number page.now }
 {
     if is_zero(page) {
         return None;
@@ -114,59 +116,83 @@ pub fn is_zero_at(page: &[u8], number: u32, order: Order) -> bool
     }
 }
 
-// The code of the first row that holds of those on the number and the type of a page.
-fn tree_identity(page: &[u8], number: u32, order: Order) -> Option<u8>
+// Whether a page has a type of those above 0 of a btree or hash file.
+fn is_tree_type(page: &[u8]) -> bool
     requires { 26 ≤ length page.now }
-    ensures { result ≡ first_row (identity_rows order page.now number is_tree_type) }
+    ensures { result ≡ is_tree_type (byte_at page.now 25) }
+{
+    match page_type(page) {
+        PageType::QueueMeta | PageType::Queue | PageType::Other => false,
+        PageType::Free
+        | PageType::Hash
+        | PageType::Internal
+        | PageType::RecnoInternal
+        | PageType::Leaf
+        | PageType::RecnoLeaf
+        | PageType::Overflow
+        | PageType::HashMeta
+        | PageType::BtreeMeta
+        | PageType::DupLeaf => true,
+    }
+}
+
+// The first row that holds of those on the number and the type of a page.
+fn tree_identity(page: &[u8], number: u32, order: Order) -> Option<FormRow>
+    requires { 26 ≤ length page.now }
+    ensures { option_map form_row_code result ≡ first_row (identity_rows order page.now number is_tree_type) }
 {
     if u32_at(page, 8, order) != number {
-        return Some(1);
+        return Some(FormRow::PageNumber);
     }
-    if !matches!(page[25], 0 | 2..=9 | 12 | 13) {
-        return Some(2);
+    if !is_tree_type(page) {
+        return Some(FormRow::PageType);
     }
     None
 }
 
-fn queue_identity(page: &[u8], number: u32, order: Order) -> Option<u8>
+fn queue_identity(page: &[u8], number: u32, order: Order) -> Option<FormRow>
     requires { 26 ≤ length page.now }
-    ensures { result ≡ first_row (identity_rows order page.now number is_queue_type) }
+    ensures { option_map form_row_code result ≡ first_row (identity_rows order page.now number is_queue_type) }
 {
     if u32_at(page, 8, order) != number {
-        return Some(1);
+        return Some(FormRow::PageNumber);
     }
-    if page[25] != 11 {
-        return Some(2);
+    if !matches!(page_type(page), PageType::Queue) {
+        return Some(FormRow::PageType);
     }
     None
 }
 
-// The code of the row that holds for a page of a type of a btree or hash file, its number and type aside.
-fn body_code(page: &[u8], order: Order) -> Option<u8>
+// The row that holds for a page of a type of a btree or hash file, its number and type aside.
+fn body_row(page: &[u8], order: Order) -> Option<FormRow>
     requires header { 26 ≤ length page.now }
     requires size { length page.now ≤ 32768 }
-    requires of_tree { IsTrue (is_tree_type (byte_at page.now 25)) }
-    ensures { result ≡ body_code order page.now (page_type (byte_at page.now 25)) }
+    ensures { option_map form_row_code result ≡ body_code order page.now (page_type (byte_at page.now 25)) }
 {
-    match page[25] {
-        0 | 8 | 9 => None,
-        3 => listed_code::<InternalKind>(page, order),
-        4 => listed_code::<RecnoInternalKind>(page, order),
-        5 => listed_code::<LeafKind>(page, order),
-        6 => listed_code::<RecnoLeafKind>(page, order),
-        7 => data_code(page, order),
-        12 => listed_code::<DupLeafKind>(page, order),
-        _ => listed_code::<HashKind>(page, order),
+    match page_type(page) {
+        PageType::Internal => listed_row::<InternalKind>(page, order),
+        PageType::RecnoInternal => listed_row::<RecnoInternalKind>(page, order),
+        PageType::Leaf => listed_row::<LeafKind>(page, order),
+        PageType::RecnoLeaf => listed_row::<EntryLeafKind<Records>>(page, order),
+        PageType::DupLeaf => listed_row::<EntryLeafKind<SortedData>>(page, order),
+        PageType::Hash => listed_row::<HashKind>(page, order),
+        PageType::Overflow => data_row(page, order),
+        PageType::Free
+        | PageType::HashMeta
+        | PageType::BtreeMeta
+        | PageType::QueueMeta
+        | PageType::Queue
+        | PageType::Other => None,
     }
 }
 
-// The code of the row that holds for an overflow page whose data don't lie on it.
-fn data_code(page: &[u8], order: Order) -> Option<u8>
+// The row that holds for an overflow page whose data don't lie on it.
+fn data_row(page: &[u8], order: Order) -> Option<FormRow>
     requires { 26 ≤ length page.now }
-    ensures { result ≡ body_code order page.now OverflowPage }
+    ensures { option_map form_row_code result ≡ body_code order page.now OverflowPage }
 {
     if page.len() < 26 + usize::from(u16_at(page, 22, order)) {
-        Some(25)
+        Some(FormRow::OverflowRoom)
     } else {
         None
     }
@@ -182,15 +208,16 @@ fn known_type(page: &[u8], order: Order) -> PageView<'_>
     ensures page { page_seen result ≡ page_as order page.now (page_type (byte_at page.now 25)) }
     ensures header { header_seen result ≡ header_of order page.now }
 {
-    match page[25] {
-        0 => PageView::Free(FreeView::over(page, order)),
-        3 => PageView::Internal(IndexedView::over(page, order)),
-        4 => PageView::RecnoInternal(IndexedView::over(page, order)),
-        5 => PageView::Leaf(IndexedView::over(page, order)),
-        6 => PageView::RecnoLeaf(IndexedView::over(page, order)),
-        7 => PageView::Overflow(OverflowView::over(page, order)),
-        8 | 9 => PageView::Meta(MetaView::over(page, order)),
-        12 => PageView::DupLeaf(IndexedView::over(page, order)),
-        _ => PageView::Hash(IndexedView::over(page, order)),
+    match page_type(page) {
+        PageType::Free => PageView::Free(FreeView::over(page, order)),
+        PageType::Internal => PageView::Internal(IndexedView::over(page, order)),
+        PageType::RecnoInternal => PageView::RecnoInternal(IndexedView::over(page, order)),
+        PageType::Leaf => PageView::Leaf(IndexedView::over(page, order)),
+        PageType::RecnoLeaf => PageView::RecnoLeaf(IndexedView::over(page, order)),
+        PageType::DupLeaf => PageView::DupLeaf(IndexedView::over(page, order)),
+        PageType::Hash => PageView::Hash(IndexedView::over(page, order)),
+        PageType::Overflow => PageView::Overflow(OverflowView::over(page, order)),
+        PageType::HashMeta | PageType::BtreeMeta => PageView::Meta(MetaView::over(page, order)),
+        PageType::QueueMeta | PageType::Queue | PageType::Other => unreachable!(),
     }
 }

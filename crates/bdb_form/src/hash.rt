@@ -1,9 +1,9 @@
-ghost use Rattle.bdb_layout.specs.of_format.Page.{HashPage};
+ghost use Rattle.bdb_layout.specs.of_format.declared.pages.PageType.TheVariants.{Hash as HashPage};
 ghost use Rattle.bdb_layout.specs.of_format.Reading.{hash_item_at};
 ghost use Rattle.bdb_layout.specs.Seen.{hash_item_seen};
 
-use crate::{IndexedView, ItemKind, PageKind, PairKind};
-use bdb_layout::{HashItem, ItemFault, Order, hash_fault, known_hash_item};
+use crate::{ContentKind, IndexedView, ItemKind, PageKind, PairKind};
+use bdb_layout::{Content, FormRow, HashItem, Order, hash_row, known_hash_item};
 use std::marker::Model;
 
 /// A page of a hash table: pairs of a key and its data.
@@ -23,9 +23,18 @@ impl Model for HashKind {
 }
 
 impl PageKind for HashKind {
+    ghost use Rattle.std.specs.Prelude.{false};
+    ghost use Rattle.bdb_layout.specs.of_format.References.{no_item};
+
     ghost page_type = { HashPage };
 
     ghost item_at = { hash_item_at };
+
+    ghost no_item = { no_item };
+
+    const SHARES: bool = false;
+
+    ghost SHARES = { false };
 
     fn is_wrong_level(_level: u8) -> bool {
         false
@@ -35,8 +44,8 @@ impl PageKind for HashKind {
         entries % 2 == 1
     }
 
-    fn item_fault(page: &[u8], order: Order, index: u16) -> Option<ItemFault> {
-        hash_fault(page, order, index)
+    fn item_row(page: &[u8], order: Order, index: u16) -> Option<FormRow> {
+        hash_row(page, order, index)
     }
 }
 
@@ -51,14 +60,15 @@ impl<'a> ItemKind<'a> for HashKind {
 }
 
 impl PairKind for HashKind {
-    ghost use Rattle.std.specs.Prelude.{refl, false};
-    ghost use Rattle.bdb_layout.specs.of_format.References.{no_item};
-
-    const SHARES: bool = false;
-
-    ghost SHARES = { false };
-
-    ghost no_item = { no_item };
+    ghost use Rattle.std.specs.Prelude.{refl};
 
     ghost stands_in_pairs = { λ entries. refl };
+}
+
+impl<'a> ContentKind<'a> for HashKind {
+    ghost content_of = { λ item. item.content };
+
+    fn content(item: &HashItem<'a>) -> Content<'a> {
+        item.content()
+    }
 }

@@ -1,11 +1,14 @@
-ghost use Rattle.std.specs.Prelude.{◌≡◌, ◌<◌, ◌≤◌, ℕ, List, length, slice_get, slice_index, Some, None};
+ghost use Rattle.std.specs.Prelude.{◌≡◌, ◌<◌, ◌≤◌, ℕ, List, length, slice_get, slice_index, Some, None, ◌&&◌, Bool};
+ghost use Rattle.std.specs.Option.{option_map};
 ghost use Rattle.bdb_layout.specs.of_format.declared.kinds.Order.{Order as AnyOrder};
-ghost use Rattle.bdb_layout.specs.of_format.Page.{PageType};
+ghost use Rattle.bdb_layout.specs.of_format.declared.pages.PageType.{PageType};
 ghost use Rattle.bdb_layout.specs.of_format.Reading.{entries_of, header_of, index_end, listed};
+ghost use Rattle.bdb_layout.specs.of_format.References.{is_shared_key};
 ghost use Rattle.bdb_layout.specs.of_format.Rows.{is_wrong_entry_count, is_wrong_level, item_rows, listed_code};
 ghost use Rattle.bdb_layout.specs.of_format.Table.{first_row};
+ghost use Rattle.bdb_layout.specs.ItemRows.{item_form};
 
-use bdb_layout::{Header, ItemFault, Order, header, u16_at};
+use bdb_layout::{FormRow, Header, Order, header, u16_at};
 use std::marker::{Model, PhantomData};
 
 /// A type of pages with an index: what is tested of them, and how an item is read. In the definitions the
@@ -15,6 +18,14 @@ pub trait PageKind {
 
     ghost item_at: { AnyOrder → List ℕ → ℕ → Self };
 
+    // What stands for an item that isn't there.
+    ghost no_item: { Self };
+
+    /// Whether an entry may be the key of the pair before it once more, by one offset for both.
+    const SHARES: bool;
+
+    ghost SHARES: { Bool };
+
     /// Whether a page of this type has another level.
     fn is_wrong_level(level: u8) -> bool
         ensures { result ≡ is_wrong_level page_type level };
@@ -23,17 +34,17 @@ pub trait PageKind {
     fn is_wrong_entry_count(entries: u16) -> bool
         ensures { result ≡ is_wrong_entry_count page_type entries };
 
-    /// The first thing that is wrong with an item, if anything is.
-    fn item_fault(page: &[u8], order: Order, index: u16) -> Option<ItemFault>
+    /// The first row that holds for an item, if one does.
+    fn item_row(page: &[u8], order: Order, index: u16) -> Option<FormRow>
         requires room { index_end order page.now ≤ length page.now }
         requires entry { index < entries_of order page.now }
-        ensures { result ≡ first_row (item_rows page_type order page.now index) };
+        ensures { result ≡ option_map item_form (first_row (item_rows page_type order page.now index)) };
 }
 
 /// A type of pages with an index, whose items are lent from the page.
 pub trait ItemKind<'a>: PageKind {
     /// An item.
-    type Item;
+    type Item: Drop;
 
     ghost item_seen: { Self.Item → Self };
 
@@ -113,6 +124,15 @@ impl<'a, K: PageKind> IndexedView<'a, K> {
         ensures { result ≡ slice_index self.now.offsets index }
     {
         u16_at(self.page, 26 + 2 * index, self.order)
+    }
+
+    /// Whether an entry is the key of the pair before it once more.
+    pub fn is_shared(&self, index: u16) -> bool
+        requires { index < length self.now.items }
+        ensures { result ≡ (K.SHARES && is_shared_key self.now.offsets index) }
+    {
+        let i = usize::from(index);
+        K::SHARES && i % 2 == 0 && i >= 2 && self.offset(i) == self.offset(i - 2)
     }
 }
 

@@ -1,9 +1,12 @@
-ghost use Rattle.bdb_layout.specs.of_format.Page.{InternalPage};
+ghost use Rattle.bdb_layout.specs.of_format.declared.pages.PageType.TheVariants.{Internal as InternalPage};
 ghost use Rattle.bdb_layout.specs.of_format.Reading.{internal_item_at};
+ghost use Rattle.bdb_layout.specs.of_format.Rows.{internal_end};
 ghost use Rattle.bdb_layout.specs.Seen.{internal_item_seen};
 
-use crate::{IndexedView, ItemKind, PageKind};
-use bdb_layout::{InternalItem, ItemFault, Order, internal_fault, known_internal_item};
+use crate::{ContentKind, EndKind, IndexedView, ItemKind, PageKind};
+use bdb_layout::{
+    Content, FormRow, InternalItem, Order, internal_end, internal_row, known_internal_item,
+};
 use std::marker::Model;
 
 /// An internal page of a btree, or of a tree of sorted duplicates.
@@ -22,9 +25,18 @@ impl Model for InternalKind {
 }
 
 impl PageKind for InternalKind {
+    ghost use Rattle.std.specs.Prelude.{false};
+    ghost use Rattle.bdb_layout.specs.of_format.Page.{Unknown};
+
     ghost page_type = { InternalPage };
 
     ghost item_at = { internal_item_at };
+
+    ghost no_item = { record { child = 0; count = 0; key = Unknown } };
+
+    const SHARES: bool = false;
+
+    ghost SHARES = { false };
 
     fn is_wrong_level(level: u8) -> bool {
         level < 2
@@ -34,8 +46,8 @@ impl PageKind for InternalKind {
         entries == 0
     }
 
-    fn item_fault(page: &[u8], order: Order, index: u16) -> Option<ItemFault> {
-        internal_fault(page, order, index)
+    fn item_row(page: &[u8], order: Order, index: u16) -> Option<FormRow> {
+        internal_row(page, order, index)
     }
 }
 
@@ -46,5 +58,23 @@ impl<'a> ItemKind<'a> for InternalKind {
 
     fn known_item(page: &'a [u8], order: Order, index: u16) -> InternalItem<'a> {
         known_internal_item(page, order, index)
+    }
+}
+
+impl EndKind for InternalKind {
+    ghost least = { 12 };
+
+    ghost end = { internal_end };
+
+    fn end_at(page: &[u8], order: Order, at: usize) -> usize {
+        internal_end(page, order, at)
+    }
+}
+
+impl<'a> ContentKind<'a> for InternalKind {
+    ghost content_of = { λ item. item.key };
+
+    fn content(item: &InternalItem<'a>) -> Content<'a> {
+        item.key.content()
     }
 }

@@ -1,9 +1,11 @@
-ghost use Rattle.bdb_layout.specs.of_format.Page.{LeafPage};
+ghost use Rattle.bdb_layout.specs.of_format.declared.pages.PageType.TheVariants.{Leaf as LeafPage};
 ghost use Rattle.bdb_layout.specs.of_format.Reading.{leaf_item_at};
+ghost use Rattle.bdb_layout.specs.of_format.References.{no_item};
+ghost use Rattle.bdb_layout.specs.of_format.Rows.{leaf_end};
 ghost use Rattle.bdb_layout.specs.Seen.{leaf_item_seen};
 
-use crate::{IndexedView, ItemKind, PageKind, PairKind};
-use bdb_layout::{ItemFault, LeafItem, Order, known_leaf_item, leaf_fault};
+use crate::{ContentKind, EndKind, IndexedView, ItemKind, PageKind, PairKind};
+use bdb_layout::{Content, FormRow, LeafItem, Order, known_leaf_item, leaf_end, leaf_row};
 use std::marker::Model;
 
 /// A leaf of a btree: pairs of a key and its data.
@@ -23,9 +25,17 @@ impl Model for LeafKind {
 }
 
 impl PageKind for LeafKind {
+    ghost use Rattle.std.specs.Prelude.{true};
+
     ghost page_type = { LeafPage };
 
     ghost item_at = { leaf_item_at };
+
+    ghost no_item = { no_item };
+
+    const SHARES: bool = true;
+
+    ghost SHARES = { true };
 
     fn is_wrong_level(level: u8) -> bool {
         level != 1
@@ -35,8 +45,8 @@ impl PageKind for LeafKind {
         entries % 2 == 1
     }
 
-    fn item_fault(page: &[u8], order: Order, index: u16) -> Option<ItemFault> {
-        leaf_fault(page, order, index)
+    fn item_row(page: &[u8], order: Order, index: u16) -> Option<FormRow> {
+        leaf_row(page, order, index)
     }
 }
 
@@ -50,15 +60,26 @@ impl<'a> ItemKind<'a> for LeafKind {
     }
 }
 
+impl EndKind for LeafKind {
+    ghost least = { 3 };
+
+    ghost end = { leaf_end };
+
+    fn end_at(page: &[u8], order: Order, at: usize) -> usize {
+        leaf_end(page, order, at)
+    }
+}
+
+impl<'a> ContentKind<'a> for LeafKind {
+    ghost content_of = { λ item. item.content };
+
+    fn content(item: &LeafItem<'a>) -> Content<'a> {
+        item.content()
+    }
+}
+
 impl PairKind for LeafKind {
-    ghost use Rattle.std.specs.Prelude.{refl, true};
-    ghost use Rattle.bdb_layout.specs.of_format.References.{no_item};
-
-    const SHARES: bool = true;
-
-    ghost SHARES = { true };
-
-    ghost no_item = { no_item };
+    ghost use Rattle.std.specs.Prelude.{refl};
 
     ghost stands_in_pairs = { λ entries. refl };
 }

@@ -1,7 +1,7 @@
 ghost use Rattle.std.specs.Prelude.{◌≡◌, ◌≤◌, length, take, drop};
 ghost use Rattle.bdb_form.specs.Formed.{HoldsData, unless};
 ghost use Rattle.bdb_layout.specs.of_format.Numbers.{two_at};
-ghost use Rattle.bdb_layout.specs.of_format.Page.{OverflowPage};
+ghost use Rattle.bdb_layout.specs.of_format.declared.pages.PageType.TheVariants.{Overflow as OverflowPage};
 ghost use Rattle.bdb_layout.specs.of_format.Reading.{header_of};
 ghost use Rattle.bdb_layout.specs.of_format.Rows.{body_code};
 

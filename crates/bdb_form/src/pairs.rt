@@ -1,4 +1,4 @@
-ghost use Rattle.std.specs.Prelude.{◌≡◌, ◌+◌, ◌*◌, ◌<◌, ◌%◌, ◌==◌, ◌&&◌, Bool, ℕ, length, slice_get, Some};
+ghost use Rattle.std.specs.Prelude.{◌≡◌, ◌+◌, ◌*◌, ◌<◌, ◌%◌, ◌==◌, ◌&&◌, ℕ, length, slice_get, Some};
 ghost use Rattle.bdb_layout.specs.of_format.References.{is_shared_key};
 ghost use Rattle.bdb_layout.specs.of_format.Rows.{is_wrong_entry_count};
 
@@ -7,13 +7,6 @@ use bdb_layout::u16_at;
 
 /// A type of pages whose items stand in pairs of a key and its data.
 pub trait PairKind: PageKind {
-    /// Whether a pair may have the key of the pair before it, by one offset for both.
-    const SHARES: bool;
-
-    ghost SHARES: { Bool };
-
-    ghost no_item: { Self };
-
     ghost stands_in_pairs: { (entries : ℕ) → is_wrong_entry_count Self.page_type entries ≡ (entries % 2 == 1) };
 }
 

@@ -2,7 +2,7 @@ ghost use Rattle.std.specs.Prelude.{◌≡◌, ◌≤◌, ◌+◌, ◌*◌, leng
 ghost use Rattle.bdb_layout.specs.of_format.Numbers.{four_at, has_bit, pad4};
 ghost use Rattle.bdb_layout.specs.of_format.Reading.{header_of};
 
-use bdb_layout::{Header, Order, header};
+use bdb_layout::{Header, Order, header, slot_size};
 use std::marker::Model;
 
 /// A page of a queue: records of one length.
@@ -60,12 +60,4 @@ impl<'a> QueueView<'a> {
         let end = start + 1 + re_len as usize;
         (page[start] & 1 != 0, &page[start + 1..end])
     }
-}
-
-// The bytes of a slot: one, the record, and what pads them.
-fn slot_size(re_len: u32) -> usize
-    ensures size { result ≡ pad4 (re_len + 1) }
-    ensures room { re_len + 1 ≤ result }
-{
-    (re_len as usize + 1 + 3) / 4 * 4
 }

@@ -1,8 +1,9 @@
-ghost use Rattle.bdb_layout.specs.of_format.Page.{RecnoInternalPage};
+ghost use Rattle.bdb_layout.specs.of_format.declared.pages.PageType.TheVariants.{RecnoInternal as RecnoInternalPage};
 ghost use Rattle.bdb_layout.specs.of_format.Reading.{recno_item_at};
+ghost use Rattle.bdb_layout.specs.of_format.Rows.{recno_end};
 
-use crate::{IndexedView, ItemKind, PageKind};
-use bdb_layout::{ItemFault, Order, RecnoItem, known_recno_item, recno_fault};
+use crate::{EndKind, IndexedView, ItemKind, PageKind};
+use bdb_layout::{FormRow, Order, RecnoItem, known_recno_item, recno_end, recno_row};
 use std::marker::Model;
 
 /// An internal page of a recno tree, or of a tree of unsorted duplicates.
@@ -21,9 +22,17 @@ impl Model for RecnoInternalKind {
 }
 
 impl PageKind for RecnoInternalKind {
+    ghost use Rattle.std.specs.Prelude.{false};
+
     ghost page_type = { RecnoInternalPage };
 
     ghost item_at = { recno_item_at };
+
+    ghost no_item = { record { child = 0; count = 0 } };
+
+    const SHARES: bool = false;
+
+    ghost SHARES = { false };
 
     fn is_wrong_level(level: u8) -> bool {
         level < 2
@@ -33,8 +42,8 @@ impl PageKind for RecnoInternalKind {
         entries == 0
     }
 
-    fn item_fault(page: &[u8], order: Order, index: u16) -> Option<ItemFault> {
-        recno_fault(page, order, index)
+    fn item_row(page: &[u8], order: Order, index: u16) -> Option<FormRow> {
+        recno_row(page, order, index)
     }
 }
 
@@ -45,5 +54,15 @@ impl<'a> ItemKind<'a> for RecnoInternalKind {
 
     fn known_item(page: &'a [u8], order: Order, index: u16) -> RecnoItem {
         known_recno_item(page, order, index)
+    }
+}
+
+impl EndKind for RecnoInternalKind {
+    ghost least = { 8 };
+
+    ghost end = { recno_end };
+
+    fn end_at(_page: &[u8], _order: Order, at: usize) -> usize {
+        recno_end(at)
     }
 }

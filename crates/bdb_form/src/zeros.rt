@@ -1,12 +1,14 @@
 ghost use Rattle.std.specs.Prelude.{◌≡◌, ◌≤◌, length};
 ghost use Rattle.bdb_layout.specs.of_format.Reading.{is_zero};
 
+use bdb_layout::{PageType, page_type};
+
 /// Whether all bytes are 0. The type of most pages tells that at a glance.
 #[tactic(auto, using(crate::proofs::FormedLemmas::zero_type))]
 pub fn is_zero(page: &[u8]) -> bool
     ensures { result ≡ is_zero page.now }
 {
-    if page.len() >= 26 && page[25] != 0 {
+    if page.len() >= 26 && !matches!(page_type(page), PageType::Free) {
         return false;
     }
     are_zeros(page)

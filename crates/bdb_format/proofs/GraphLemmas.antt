@@ -14,7 +14,8 @@ use Rattle.bdb_format.specs.declared.references.Sort.TheVariants.{Root, Child}
 use Rattle.bdb_format.specs.declared.references.Reference.{Reference}
 use Rattle.bdb_format.specs.Numbers.{byte_at}
 use Rattle.bdb_format.specs.Table.{Row, ◌:?◌, first_row}
-use Rattle.bdb_format.specs.Page.{Metadata, BtreeFields, HashFields, QueueFields, Page, PageType, Zero, Meta, Internal, RecnoInternal}
+use Rattle.bdb_format.specs.Page.{Metadata, BtreeFields, HashFields, QueueFields, Page, Zero, Meta, Internal, RecnoInternal}
+use Rattle.bdb_format.specs.declared.pages.PageType.{PageType}
 use Rattle.bdb_format.specs.Reading.{is_zero, page_type, page_as, abstract_page}
 use Rattle.bdb_format.specs.Rows.{code_of, identity_rows, may_have_type, typed_code, form_code}
 use Rattle.bdb_format.specs.HeadOf.{head_of}

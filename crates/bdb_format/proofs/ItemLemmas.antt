@@ -8,7 +8,7 @@ use Rattle.bdb_format.specs.declared.kinds.Order.{Order}
 use Rattle.bdb_format.specs.declared.pages.ItemFault.{ItemFault}
 use Rattle.bdb_format.specs.declared.pages.ItemFault.TheVariants.{Offset, Kind, Extent}
 use Rattle.bdb_format.specs.Numbers.{byte_at}
-use Rattle.bdb_format.specs.Page.{PageType}
+use Rattle.bdb_format.specs.declared.pages.PageType.{PageType}
 use Rattle.bdb_format.specs.Reading.{entries_of, index_end}
 use Rattle.bdb_format.specs.Rows.{all_item_rows, index_rows, is_code, is_wrong_entry_count, is_wrong_level, item_code, item_row, item_rows, listed_code}
 use Rattle.bdb_format.specs.Table.{Row, ◌:?◌, first_row, lesser}

@@ -24,3 +24,5 @@ pub mod Verdict
 pub mod PageOf
 pub mod Faults
 pub mod FaultNames
+pub mod RowCodes
+pub mod Cases

@@ -51,19 +51,3 @@ pub data Page : Type 0 where
   Overflow : Header → List ℕ → Page
   Queue : ℕ → List ℕ → Page
   NoType : Page
-
--- the type of a page
-pub data PageType : Type 0 where
-  FreePage : PageType
-  HashPage : PageType
-  InternalPage : PageType
-  RecnoInternalPage : PageType
-  LeafPage : PageType
-  RecnoLeafPage : PageType
-  OverflowPage : PageType
-  HashMetaPage : PageType
-  BtreeMetaPage : PageType
-  QueueMetaPage : PageType
-  QueuePage : PageType
-  DupLeafPage : PageType
-  OtherPage : PageType

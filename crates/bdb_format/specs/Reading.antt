@@ -11,9 +11,12 @@ use Rattle.bdb_format.specs.declared.metadata.HashMeta.{HashMeta}
 use Rattle.bdb_format.specs.declared.metadata.QueueMeta.{QueueMeta}
 use Rattle.bdb_format.specs.Numbers.{byte_at, two_at, four_at}
 use Rattle.bdb_format.specs.Page.{Content, Inline, Set, Chain, Tree, Unknown, Item, InternalItem, Listed, BtreeFields, HashFields, QueueFields, Page, Zero}
-use Rattle.bdb_format.specs.Page.{Free, Meta, Hash, Internal, RecnoInternal, Leaf, RecnoLeaf, DupLeaf, Overflow, Queue, NoType, PageType, FreePage, HashPage}
-use Rattle.bdb_format.specs.Page.{InternalPage, RecnoInternalPage, LeafPage, RecnoLeafPage, OverflowPage, HashMetaPage, BtreeMetaPage, QueueMetaPage, QueuePage}
-use Rattle.bdb_format.specs.Page.{DupLeafPage, OtherPage}
+use Rattle.bdb_format.specs.Page.{Free, Meta, Hash, Internal, RecnoInternal, Leaf, RecnoLeaf, DupLeaf, Overflow, Queue, NoType}
+use Rattle.bdb_format.specs.declared.pages.PageType.{PageType}
+use Rattle.bdb_format.specs.declared.pages.PageType.TheVariants.{Free as FreePage, Hash as HashPage, Internal as InternalPage}
+use Rattle.bdb_format.specs.declared.pages.PageType.TheVariants.{RecnoInternal as RecnoInternalPage, Leaf as LeafPage, RecnoLeaf as RecnoLeafPage}
+use Rattle.bdb_format.specs.declared.pages.PageType.TheVariants.{Overflow as OverflowPage, HashMeta as HashMetaPage, BtreeMeta as BtreeMetaPage}
+use Rattle.bdb_format.specs.declared.pages.PageType.TheVariants.{QueueMeta as QueueMetaPage, Queue as QueuePage, DupLeaf as DupLeafPage, Other as OtherPage}
 
 -- the fields of a page header
 abbrev pub header_of : Order → List ℕ → Header

@@ -15,8 +15,11 @@ use Rattle.bdb_format.specs.declared.metadata.QueueMeta.{QueueMeta}
 use Rattle.bdb_format.specs.Numbers.{byte_at, two_at, four_at, has_bit, pad4}
 use Rattle.bdb_format.specs.Hashing.{group}
 use Rattle.bdb_format.specs.Table.{Row, ◌:?◌, first_row}
-use Rattle.bdb_format.specs.Page.{PageType, FreePage, HashPage, InternalPage, RecnoInternalPage, LeafPage, RecnoLeafPage, OverflowPage, HashMetaPage}
-use Rattle.bdb_format.specs.Page.{BtreeMetaPage, QueueMetaPage, QueuePage, DupLeafPage, OtherPage}
+use Rattle.bdb_format.specs.declared.pages.PageType.{PageType}
+use Rattle.bdb_format.specs.declared.pages.PageType.TheVariants.{Free as FreePage, Hash as HashPage, Internal as InternalPage}
+use Rattle.bdb_format.specs.declared.pages.PageType.TheVariants.{RecnoInternal as RecnoInternalPage, Leaf as LeafPage, RecnoLeaf as RecnoLeafPage}
+use Rattle.bdb_format.specs.declared.pages.PageType.TheVariants.{Overflow as OverflowPage, HashMeta as HashMetaPage, BtreeMeta as BtreeMetaPage}
+use Rattle.bdb_format.specs.declared.pages.PageType.TheVariants.{QueueMeta as QueueMetaPage, Queue as QueuePage, DupLeaf as DupLeafPage, Other as OtherPage}
 use Rattle.bdb_format.specs.Reading.{entries_of, index_end, offset_of, kind_at, blocks_of, hash_end, hash_fields, queue_fields, is_zero, page_type}
 
 -- the magic number, the version and the type of metadata
@@ -51,6 +54,14 @@ is_leaf_kind type_byte index kind = kind == 1 || kind == 3 || (kind == 2 && type
 abbrev pub leaf_end : Order → List ℕ → ℕ → ℕ
 leaf_end order page at = if kind_at page at == 1 then at + 3 + two_at order page at else at + 12
 
+-- where an item of an internal page ends; an overflow key has 12 bytes
+abbrev pub internal_end : Order → List ℕ → ℕ → ℕ
+internal_end order page at = at + 12 + two_at order page at
+
+-- where an item of an internal page of a recno tree ends
+abbrev pub recno_end : Order → List ℕ → ℕ → ℕ
+recno_end order page at = at + 8
+
 -- the rows of an item of a leaf
 unfoldable pub leaf_rows : Order → List ℕ → ℕ → List (Row ItemFault)
 leaf_rows order page index =
@@ -66,14 +77,14 @@ internal_rows order page index =
     let at : ℕ = offset_of order page index in
     Offset :? (nat_lt at (index_end order page) || nat_lt (length page) (at + 12))
     ∷ Kind :? not (kind_at page at == 1 || kind_at page at == 3)
-    ∷ Extent :? (nat_lt (length page) (at + 12 + two_at order page at) || (kind_at page at == 3 && not (two_at order page at == 12)))
+    ∷ Extent :? (nat_lt (length page) (internal_end order page at) || (kind_at page at == 3 && not (two_at order page at == 12)))
     ∷ []
 
 -- the rows of an item of an internal page of a recno tree
 unfoldable pub recno_rows : Order → List ℕ → ℕ → List (Row ItemFault)
 recno_rows order page index =
     let at : ℕ = offset_of order page index in
-    Offset :? (nat_lt at (index_end order page) || nat_lt (length page) (at + 8))
+    Offset :? (nat_lt at (index_end order page) || nat_lt (length page) (recno_end order page at))
     ∷ []
 
 -- a hash page has inline and overflow items, and sets on and off the page as data

@@ -9,17 +9,26 @@ mod head;
 mod kinds;
 pub mod laws;
 mod metadata;
+mod named;
 mod pages;
 mod references;
+mod rows;
 mod settings;
 mod steps;
+mod table;
 
 pub use bytes::Bytes;
 pub use digits::number_in;
 pub use head::{is_page_size, magic_of};
 pub use kinds::{CheckError, Fault, Kind, Order, Unsupported, Verdict};
 pub use metadata::{BtreeMeta, FileKind, HashMeta, Head, MetaFault, QueueMeta};
-pub use pages::{Header, ItemFault, RecnoItem};
+pub use named::Named;
+pub use pages::{Header, ItemFault, PageType, RecnoItem, has_type, keyed_types, record_types};
 pub use references::{Reference, Sort};
+pub use rows::{
+    ContentsRow, FileRow, FormRow, MasterRow, OwnershipRow, ReachRow, ReferenceRow, Row,
+    StructureRow,
+};
 pub use settings::{Settings, plain_settings};
 pub use steps::Steps;
+pub use table::RowEntry;

@@ -59,7 +59,6 @@ fn stand_for(nexts: &mut [u32], page: u32, after: u32)
 }
 
 /// Passes over the pages without data of the chain with this head, by one look at each of its pages.
-#[tactic(auto, using(crate::proofs::Below::last_page))]
 fn pass_blanks(formed: &Formed<'_>, nexts: &mut [u32], head: u32)
     requires { ArePassed (file_of formed.now) nexts.old }
     ensures { ArePassed (file_of formed.now) nexts.new }
@@ -82,7 +81,7 @@ fn pass_blanks(formed: &Formed<'_>, nexts: &mut [u32], head: u32)
 
 /// The pages without data of all chains. There each page of a chain has one place, so that all chains together are gone through once. It
 /// takes four bytes for each page.
-#[tactic(auto, using(crate::proofs::Below::last_page, crate::proofs::BlankLemmas::none_passed))]
+#[tactic(auto, using(crate::proofs::BlankLemmas::none_passed))]
 pub(crate) fn blanks_of(alloc: Global, formed: &Formed<'_>) -> Result<Blanks, AllocError>
     ensures { IfOk result (λ blanks. ArePassed (file_of formed.now) blanks) }
 {

@@ -18,7 +18,7 @@ pub(crate) struct Link {
 }
 
 /// The link that a page is; one past the last holds nothing.
-#[tactic(auto, using(crate::proofs::Below::last_page, crate::proofs::Below::past_last, crate::proofs::ChainLengthLemmas::piece_short))]
+#[tactic(auto, using(crate::proofs::Below::past_last, crate::proofs::ChainLengthLemmas::piece_short))]
 pub(crate) fn link_at(formed: &Formed<'_>, number: u32) -> Link
     ensures length { result.length ≡ length (piece_in (page_at (file_of formed.now) number)) }
     ensures next { result.next ≡ next_of (file_of formed.now) number }
@@ -80,7 +80,7 @@ pub(crate) struct Lengths {
 }
 
 /// What is kept of each page up to the last, four bytes for each.
-#[tactic(auto, using(crate::proofs::Below::last_page, crate::proofs::ChainLengthLemmas::kept_more))]
+#[tactic(auto, using(crate::proofs::ChainLengthLemmas::kept_more))]
 fn kept_lengths(alloc: Global, formed: &Formed<'_>) -> Result<Lengths, AllocError>
     ensures { IfOk result (λ lengths. lengths.kept.items ≡ map (kept_length (file_of formed.now)) (range_with_len 0 ((file_of formed.now).last + 1))) }
 {

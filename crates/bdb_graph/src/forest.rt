@@ -103,6 +103,7 @@ impl<'a> Forest<'a> {
     /// What page 0 says of the whole file.
     pub fn head(&self) -> Head
         ensures head { result ≡ head_of self.now }
+        ensures last { result.last ≡ (file_of self.now).last }
         ensures few { result.last < 2 ^ 21 }
         ensures forest { IsForest self.now }
     {
@@ -117,7 +118,7 @@ impl<'a> Forest<'a> {
     }
 
     /// A page up to the last one, by its type.
-    #[tactic(auto, using(crate::proofs::Below::page_is, crate::proofs::Below::last_page, crate::proofs::Below::kind_is))]
+    #[tactic(auto, using(crate::proofs::Below::page_is, crate::proofs::Below::kind_is))]
     pub fn page(&self, number: u32) -> PageView<'a>
         requires { number ≤ (file_of self.now).last }
         ensures page { page_seen result ≡ page_at (file_of self.now) number }

@@ -78,6 +78,7 @@ impl<'a> Linked<'a> {
     /// What page 0 says of the whole file.
     pub fn head(&self) -> Head
         ensures head { result ≡ head_of self.now }
+        ensures last { result.last ≡ (file_of self.now).last }
         ensures few { result.last < 2 ^ 21 }
         ensures forest { IsForest self.now }
     {

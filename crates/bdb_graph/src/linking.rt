@@ -1,5 +1,5 @@
 ghost use Rattle.std.specs.Prelude.{◌≡◌, ◌≤◌, ◌+◌, [], ◌∷◌, IfErr, IfOk, OnOk};
-ghost use Rattle.bdb_image.specs.of_faults.All.{IsAllOf};
+ghost use Rattle.bdb_image.specs.of_faults.Refusals.{IsAllOf};
 ghost use Rattle.bdb_image.specs.of_faults.Notes.{NotesAll};
 ghost use Rattle.bdb_image.specs.of_format.File.{file_of};
 ghost use Rattle.bdb_image.specs.of_format.Verdict.{faults_in, reference_faults, IsFirstOf};
@@ -13,15 +13,40 @@ use crate::reach::note_reach;
 use crate::roles::Roles;
 use crate::tally::{Kinds, note_references};
 use crate::{Forest, Formed, Linked};
-use bdb_image::{AllError, CheckError, FaultSink, First, NamedList, Steps, metas_of, refused_by};
+use bdb_image::{
+    AllError, CheckError, FaultSink, First, Judge, NamedList, Steps, check_error, judged, metas_of,
+};
 use std::alloc::{AllocError, Global};
 use std::sync::ledger::Ledger;
 
-/// The image as one whose pages are a forest, or else the first fault of stages 3 to 5: a reference that
-/// doesn't fit, a page without an owner or with too many, or one that isn't reached. It takes at most a step for
+/// The image as one whose pages are a forest. A refusal has what holds of the first of stages 3 to 5 that has any: a reference
+/// that doesn't fit, a page without an owner or with too many, or one that isn't reached. It takes at most a step for
 /// each page up to the last, which are no more than the whole pages of the image, and 16 bytes for each while it
-/// runs, 24 where the file has a table. The answer keeps 4 bytes for each page, how many owners it has, the number of each metadata
-/// page, in 4 bytes, and where an item names a chain 4 bytes more for each page, the lengths of chains. `Memory` is want of memory.
+/// runs, 24 where the file has a table; and the judge's memory. The answer keeps 4 bytes for each page, how many owners it has, the number of each
+/// metadata page, in 4 bytes, and where an item names a chain 4 bytes more for each page, the lengths of chains.
+pub fn link_by<'a, J: Judge + Drop, L: Ledger>(
+    alloc: Global,
+    formed: Formed<'a>,
+    steps: &mut Steps<L>,
+) -> Result<Linked<'a>, J::Refusal>
+    ensures linked { IfOk result (λ linked. linked ≡ formed.entry) }
+    ensures accepted { OnOk result (faults_in (3 ∷ 4 ∷ 5 ∷ []) formed.entry ≡ []) }
+    ensures refusal { IfErr result (J.refuses (faults_in (3 ∷ 4 ∷ 5 ∷ []) formed.entry)) }
+    ensures cost { steps.new ≤ steps.old + ((file_of formed.entry).last + 1) }
+{
+    let mut found = J::begin(alloc);
+    let answer = note_graph(alloc, &formed, steps, &mut found);
+    let walk = match judged(found, answer) {
+        Ok(walk) => walk,
+        Err(refusal) => return Err(refusal),
+    };
+    match walked(alloc, formed, walk) {
+        Ok(linked) => Ok(linked),
+        Err(_) => Err(J::memory()),
+    }
+}
+
+/// The same, or else the first fault. `Memory` is want of memory.
 pub fn link<'a, L: Ledger>(
     alloc: Global,
     formed: Formed<'a>,
@@ -32,18 +57,11 @@ pub fn link<'a, L: Ledger>(
     ensures refusal { IfErr result (IsFirstOf (faults_in (3 ∷ 4 ∷ 5 ∷ []) formed.entry)) }
     ensures cost { steps.new ≤ steps.old + ((file_of formed.entry).last + 1) }
 {
-    let mut first = First::new();
-    let Ok(walk) = note_graph(alloc, &formed, steps, &mut first) else {
-        return Err(CheckError::Memory);
-    };
-    if let Some(fault) = first.fault() {
-        return Err(CheckError::Fault(fault));
-    }
-    walked(alloc, formed, walk).map_err(|_| CheckError::Memory)
+    link_by::<First, L>(alloc, formed, steps).map_err(check_error)
 }
 
-/// The same, with all faults of the first of stages 3 to 5 that has any: page by page and code by code, each once. A
-/// list of them takes memory besides.
+/// The same, or else all that holds, page by page and row by row, each once. `Memory` is want of memory, that for the list of
+/// them too.
 pub fn link_all<'a, L: Ledger>(
     alloc: Global,
     formed: Formed<'a>,
@@ -54,12 +72,7 @@ pub fn link_all<'a, L: Ledger>(
     ensures refusal { IfErr result (IsAllOf (faults_in (3 ∷ 4 ∷ 5 ∷ []) formed.entry)) }
     ensures cost { steps.new ≤ steps.old + ((file_of formed.entry).last + 1) }
 {
-    let mut found = NamedList::new(alloc);
-    let Ok(walk) = note_graph(alloc, &formed, steps, &mut found) else {
-        return Err(AllError::Memory);
-    };
-    refused_by(found)?;
-    walked(alloc, formed, walk).map_err(|_| AllError::Memory)
+    link_by::<NamedList, L>(alloc, formed, steps)
 }
 
 /// What the walk over the references of a file tells: what they name, and how many owners each page has.

@@ -12,7 +12,6 @@ use bdb_image::{FaultSink, OwnershipRow, Row, note_if};
 use std::alloc::AllocError;
 
 /// Notes the pages from 1 on that have no owner and need one, or more than they may have.
-#[tactic(auto, using(crate::proofs::Below::last_page))]
 pub(crate) fn note_owners<F: FaultSink>(roles: &Roles<'_>, found: &mut F) -> Result<(), AllocError>
     ensures noted { OnOk result (NotesAll (F.has_noted found.old) (F.has_noted found.new) (ownership_faults (file_of roles.now))) }
     ensures few { OnOk result (AreFew (file_of roles.now) ((file_of roles.now).last + 1)) }

@@ -51,6 +51,7 @@ impl<'a> Roles<'a> {
     /// What page 0 says of the whole file.
     pub(crate) fn head(&self) -> Head
         ensures head { result ≡ head_of self.now }
+        ensures last { result.last ≡ (file_of self.now).last }
         ensures few { result.last < 2 ^ 21 }
         ensures formed { IsFormed self.now result }
     {
@@ -124,7 +125,7 @@ impl<'a> Roles<'a> {
 }
 
 /// Whether a page is the metadata of a hash table.
-#[tactic(auto, using(crate::proofs::Below::last_page, bdb_image::proofs::RoleLemmas::some_table, bdb_image::proofs::RoleLemmas::no_table))]
+#[tactic(auto, using(bdb_image::proofs::RoleLemmas::some_table, bdb_image::proofs::RoleLemmas::no_table))]
 fn has_table(formed: &Formed<'_>) -> bool
     ensures { result ≡ list_any is_hash_meta (file_of formed.now).pages }
 {

@@ -3,11 +3,12 @@
 ghost use Rattle.std.specs.Prelude.{◌≡◌, ◌≤◌, ◌^◌, length};
 
 use crate::linking::{PAIR, TREE};
+use bdb_format::{Fault, Named, Order, Steps, Unsupported};
 use bdb_graph::{link_all, open_all};
 use std::alloc::Global;
 use std::marker::Brand;
 use std::sync::ledger::{Blank, Ledger};
-use test_images::{AllError, Fault, Field, Named, Order, Steps, Unsupported, is_list_of, write};
+use test_images::{AllError, Field, is_list_of, write};
 
 const SIZE: usize = 5 * 512;
 
@@ -16,7 +17,7 @@ const SIZE: usize = 5 * 512;
 struct Case {
     base: &'static [Field],
     fields: &'static [Field],
-    named: &'static [Named],
+    named: &'static [Fault],
 }
 
 const CASES: [Case; 7] = [
@@ -34,16 +35,16 @@ const CASES: [Case; 7] = [
             Field::Byte(536, 2),
         ],
         named: &[
-            Named::Fault(Fault {
+            Fault {
                 stage: 1,
                 page: 2,
                 code: 12,
-            }),
-            Named::Fault(Fault {
+            },
+            Fault {
                 stage: 1,
                 page: 4,
                 code: 12,
-            }),
+            },
         ],
     },
     // Two pages with a fault of form, beside a root that isn't there.
@@ -55,16 +56,16 @@ const CASES: [Case; 7] = [
             Field::Four(1544, 7),
         ],
         named: &[
-            Named::Fault(Fault {
+            Fault {
                 stage: 2,
                 page: 2,
                 code: 1,
-            }),
-            Named::Fault(Fault {
+            },
+            Fault {
                 stage: 2,
                 page: 3,
                 code: 1,
-            }),
+            },
         ],
     },
     // An internal page whose first item names page 0, and the second that page itself.
@@ -72,16 +73,16 @@ const CASES: [Case; 7] = [
         base: &TREE,
         fields: &[Field::Four(1012, 0), Field::Four(980, 1)],
         named: &[
-            Named::Fault(Fault {
+            Fault {
                 stage: 3,
                 page: 1,
                 code: 1,
-            }),
-            Named::Fault(Fault {
+            },
+            Fault {
                 stage: 3,
                 page: 1,
                 code: 2,
-            }),
+            },
         ],
     },
     // Both items of the root name leaf 2.
@@ -89,16 +90,16 @@ const CASES: [Case; 7] = [
         base: &TREE,
         fields: &[Field::Four(980, 2)],
         named: &[
-            Named::Fault(Fault {
+            Fault {
                 stage: 4,
                 page: 2,
                 code: 2,
-            }),
-            Named::Fault(Fault {
+            },
+            Fault {
                 stage: 4,
                 page: 3,
                 code: 1,
-            }),
+            },
         ],
     },
     // Two overflow pages that are each its own next.
@@ -116,16 +117,16 @@ const CASES: [Case; 7] = [
             Field::Byte(1561, 7),
         ],
         named: &[
-            Named::Fault(Fault {
+            Fault {
                 stage: 5,
                 page: 2,
                 code: 1,
-            }),
-            Named::Fault(Fault {
+            },
+            Fault {
                 stage: 5,
                 page: 3,
                 code: 1,
-            }),
+            },
         ],
     },
     // A case that is left out by name, beside a fault of form on page 1.
@@ -133,12 +134,17 @@ const CASES: [Case; 7] = [
         base: &PAIR,
         fields: &[Field::Four(48, 0x80), Field::Four(520, 7)],
         named: &[
-            Named::Unsupported(Unsupported::Compression, 0),
-            Named::Fault(Fault {
+            // Compression
+            Fault {
+                stage: 2,
+                page: 0,
+                code: 9,
+            },
+            Fault {
                 stage: 2,
                 page: 1,
                 code: 1,
-            }),
+            },
         ],
     },
 ];
@@ -169,7 +175,7 @@ fn judge_of(alloc: Global, case: &Case, order: Order) -> Result<(), AllError> {
 }
 
 /// Whether these, and no others, are named of a file.
-fn names(judged: Result<(), AllError>, named: &[Named]) -> bool {
+fn names(judged: Result<(), AllError>, named: &[Fault]) -> bool {
     match judged {
         Ok(()) => named.is_empty(),
         Err(AllError::Faults(list)) => is_list_of(&list, named),

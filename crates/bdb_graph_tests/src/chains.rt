@@ -2,16 +2,17 @@
 
 ghost use Rattle.std.specs.Prelude.{◌≡◌, IfSome};
 ghost use Rattle.test_images.specs.of_image.Linked.{FitsChain};
-ghost use Rattle.test_images.specs.of_format.File.{file_of};
+ghost use Rattle.bdb_format.specs.File.{file_of};
 
 use crate::fields::BTREE;
+use bdb_format::{Fault, Order, Steps};
 use bdb_graph::{Linked, link, open_image};
 use bdb_overflow::{Datum, Pieces, check_chains, compare_datum, leaf_datum, pieces, pieces_at};
 use std::alloc::Global;
 use std::cmp::Ordering;
 use std::marker::Brand;
 use std::sync::ledger::{Blank, Ledger};
-use test_images::{Fault, Field, LeafItem, Order, PageView, Steps, write};
+use test_images::{Field, LeafItem, PageView, write};
 
 const PAGE: usize = 512;
 
@@ -133,7 +134,7 @@ enum Told {
 }
 
 // The item of the data on the leaf, where the image is linked.
-#[tactic(auto, using(crate::proofs::Below::last_page, crate::proofs::Below::leaf_item_fits))]
+#[tactic(auto, using(crate::proofs::Below::leaf_item_fits))]
 fn datum_in<'a>(linked: &Linked<'a>) -> Option<Datum<'a>> {
     let forest = linked.forest();
     if forest.head().last < 1 {
@@ -146,7 +147,7 @@ fn datum_in<'a>(linked: &Linked<'a>) -> Option<Datum<'a>> {
 }
 
 // The head of its chain.
-#[tactic(auto, using(crate::proofs::Below::last_page, crate::proofs::Below::leaf_item_fits))]
+#[tactic(auto, using(crate::proofs::Below::leaf_item_fits))]
 fn head_in(linked: &Linked<'_>) -> Option<u32>
     ensures { IfSome result (λ head. FitsChain (file_of linked.now) head) }
 {

@@ -5,19 +5,19 @@ ghost use Rattle.std.specs.Bool.{OnTrue};
 ghost use Rattle.test_images.specs.of_form.Seen.{page_seen};
 ghost use Rattle.test_images.specs.of_image.Linked.{FitsTreeRoot};
 ghost use Rattle.bdb_graph_tests.specs.Sought.{AllFit, IsFit, is_above};
-ghost use Rattle.test_images.specs.of_format.File.{file_of, page_at, type_in};
-ghost use Rattle.test_images.specs.of_format.Less.{less};
-ghost use Rattle.test_images.specs.of_format.References.{has_type};
+ghost use Rattle.bdb_format.specs.File.{file_of, page_at, type_in};
+ghost use Rattle.bdb_format.specs.Less.{less};
+ghost use Rattle.bdb_format.specs.References.{has_type};
 ghost use Rattle.test_images.specs.of_tree.Descent.{IsMonotone};
 
+use bdb_format::{Order, Steps};
 use bdb_graph::{Linked, Meta, Ref, TreeRoot, link, open_image};
 use std::alloc::Global;
 use std::cmp::Ordering;
 use std::marker::Brand;
 use std::sync::ledger::{Blank, Ledger};
 use test_images::{
-    Field, InternalItem, InternalKey, InternalView, Order, PageView, Separate, Steps, compare,
-    descend_by, write,
+    Field, InternalItem, InternalKey, InternalView, PageView, Separate, compare, descend_by, write,
 };
 
 const SIZE: usize = 9 * 512;
@@ -167,7 +167,6 @@ fn is_fit(linked: &Linked<'_>, number: u32, sought: &Sought<'_>) -> bool
 }
 
 /// Whether a key can be sought by halves on each internal page.
-#[tactic(auto, using(crate::proofs::Below::last_page))]
 fn are_fit(linked: &Linked<'_>, sought: &Sought<'_>) -> bool
     ensures { OnTrue result (AllFit sought.now.key.now (file_of linked.now) ((file_of linked.now).last + 1)) }
 {
@@ -191,7 +190,6 @@ fn is_keyed(linked: &Linked<'_>, root: u32) -> bool
 }
 
 /// The leaf to which a key leads, where it can be sought.
-#[tactic(auto, using(crate::proofs::Below::last_page))]
 fn leaf_below<L: Ledger>(
     linked: &Linked<'_>,
     root: Ref<TreeRoot>,

@@ -3,11 +3,12 @@
 ghost use Rattle.std.specs.Prelude.{◌≡◌};
 
 use crate::fields::BTREE;
+use bdb_format::{Order, Steps};
 use bdb_graph::{References, Sort, open_image, references};
 use std::alloc::Global;
 use std::marker::Brand;
 use std::sync::ledger::{Blank, Ledger};
-use test_images::{Field, Order, Steps, write};
+use test_images::{Field, write};
 
 const SIZE: usize = 512;
 
@@ -189,7 +190,6 @@ fn are(found: References<'_>, expected: &[(Sort, u64)]) -> bool {
     count as usize == expected.len()
 }
 
-#[tactic(auto, using(crate::proofs::Below::last_page))]
 fn holds<L: Ledger>(
     alloc: Global,
     image: &[u8; COUNT * SIZE],

@@ -2,11 +2,12 @@
 
 ghost use Rattle.std.specs.Prelude.{◌≡◌, ◌≤◌, ◌^◌, length};
 
+use bdb_format::{CheckError, Fault, Order, Steps};
 use bdb_graph::{link, open_image};
 use std::alloc::Global;
 use std::marker::Brand;
 use std::sync::ledger::{Blank, Ledger};
-use test_images::{CheckError, Fault, Field, Order, Steps, write};
+use test_images::{Field, write};
 
 const SIZE: usize = 5 * 512;
 

@@ -3,12 +3,13 @@
 ghost use Rattle.std.specs.Prelude.{◌≡◌};
 
 use crate::linking::{CHAIN, TREE};
+use bdb_format::{Order, Steps};
 use bdb_graph::{Linked, link, open_image};
 use bdb_overflow::chain_faults;
 use std::alloc::Global;
 use std::marker::Brand;
 use std::sync::ledger::{Blank, Ledger};
-use test_images::{Field, NamedList, Order, Steps, has_rows, tree_faults, write};
+use test_images::{Field, NamedList, has_rows, tree_faults, write};
 
 const SIZE: usize = 5 * 512;
 

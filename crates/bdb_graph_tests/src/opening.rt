@@ -1,9 +1,10 @@
 //! The verdict of the first two stages. Values: docs/FORMAT.md, "Faults".
 
 use crate::fields::{BTREE, LEAF};
+use bdb_format::{Fault, Order, Unsupported, Verdict};
 use bdb_graph::open_image;
 use std::alloc::Global;
-use test_images::{Fault, Field, Order, Unsupported, Verdict, write};
+use test_images::{Field, write};
 
 const SIZE: usize = 512;
 

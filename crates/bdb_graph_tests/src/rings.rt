@@ -3,8 +3,9 @@
 ghost use Rattle.std.specs.Prelude.{◌≤◌};
 
 use crate::linking::{PAIR, TABLE, THIRD_BUCKET, Told, told_by};
+use bdb_format::Order;
 use std::alloc::{AllocError, Global};
-use test_images::{Field, Order, write};
+use test_images::{Field, write};
 
 const SIZE: usize = 8 * 512;
 

@@ -5,12 +5,13 @@ ghost use Rattle.std.specs.Prelude.{◌≡◌};
 use crate::structure_samples::{
     WRONG_LEAF, WRONG_LEAVES, WRONG_LENGTH, WRONG_LENGTH_AND_LINK, WRONG_LINK,
 };
+use bdb_format::{CheckError, Fault, Steps};
 use bdb_graph::{Linked, link, open_image};
 use bdb_overflow::check_chains;
 use std::alloc::Global;
 use std::marker::Brand;
 use std::sync::ledger::{Blank, Ledger};
-use test_images::{CheckError, Fault, Field, Sample, Steps, check_trees};
+use test_images::{Field, Sample, check_trees};
 
 /// The page of the first fault of chains, and the page and code of that of leaves.
 #[derive(Clone, Copy)]

@@ -2,13 +2,12 @@
 
 ghost use Rattle.std.specs.Prelude.{◌≡◌};
 
+use bdb_format::{CheckError, Fault, Order, Steps};
 use bdb_graph::{Linked, link, open_image};
 use std::alloc::Global;
 use std::marker::Brand;
 use std::sync::ledger::{Blank, Ledger};
-use test_images::{
-    CheckError, Fault, Field, Order, PageView, Steps, check_trees, leaves_below, next_level, write,
-};
+use test_images::{Field, PageView, check_trees, leaves_below, next_level, write};
 
 const SIZE: usize = 5 * 512;
 
@@ -339,7 +338,6 @@ fn tells_the_first_fault_of_the_leaves(rt: HostRuntime) {
 }
 
 /// Whether these are the leaves below page 1, and these the pages right below it.
-#[tactic(auto, using(crate::proofs::Below::last_page))]
 fn has_below(alloc: Global, linked: &Linked<'_>, leaves: &[u32], children: &[u32]) -> bool {
     let forest = linked.forest();
     if forest.head().last < 1 {

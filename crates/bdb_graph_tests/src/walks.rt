@@ -2,14 +2,15 @@
 
 ghost use Rattle.std.specs.Prelude.{◌≡◌, IfSome};
 ghost use Rattle.test_images.specs.of_image.Linked.{FitsTreeRoot};
-ghost use Rattle.test_images.specs.of_format.File.{file_of};
+ghost use Rattle.bdb_format.specs.File.{file_of};
 
 use crate::fields::BTREE;
+use bdb_format::{Order, Steps};
 use bdb_graph::{Linked, Meta, Ref, TreeRoot, link, open_image};
 use std::alloc::Global;
 use std::marker::Brand;
 use std::sync::ledger::{Blank, Ledger};
-use test_images::{Field, Order, Steps, first_leaf, has_sound_trees, leaves, write};
+use test_images::{Field, first_leaf, has_sound_trees, leaves, write};
 
 const SIZE: usize = 9 * 512;
 

@@ -14,7 +14,7 @@ use Rattle.bdb_ranks.specs.of_format.File.{File, file_of}
 use Rattle.bdb_ranks.specs.of_format.Page.{HashFields}
 use Rattle.bdb_ranks.specs.of_format.Verdict.{holding}
 use Rattle.bdb_ranks.proofs.of_format.MemberLemmas.{in_flat_map, in_map, no_member, of_flat_map, of_map}
-use Rattle.bdb_ranks.proofs.of_format.VerdictLemmas.{InOrder, of_by_page, table_in_order}
+use Rattle.bdb_ranks.proofs.of_format.VerdictLemmas.{of_by_page}
 use Rattle.bdb_hash.specs.Noted.{bucket_faults, has_stray, pair_faults, repeat_faults, stray_faults}
 use Rattle.bdb_buckets.specs.Repeat.{repeat_fault}
 use Rattle.bdb_buckets.specs.Told.{stored, Told, bucket_told, table_told, told}
@@ -143,10 +143,3 @@ all_noted image meta strayed before mid after table has is one two = (
   λ fault. (noted_in image meta strayed fault table has, covered image meta strayed fault table has is),
   notes_then before mid after (flat_map (bucket_faults image meta) (buckets_of meta)) (stray_faults image meta strayed) one two,
 )
-
--- the faults of a table are all of stage 8, and the first comes before all of them
-pub in_order : (file : File) (meta : HashMeta) → InOrder 8 (database_faults file (HashFields meta))
-unfolding database_faults
-in_order file meta =
-    table_in_order 8 0 (file.last + 1) (database_rows file (HashFields meta))
-    (λ p. (omega arith, (omega arith, (omega arith, (omega arith, (omega arith, tt))))))

@@ -6,11 +6,11 @@ use Rattle.bdb_buckets.proofs.ContentsLemmas.{contents_fault}
 use Rattle.bdb_buckets.proofs.RowLemmas.{pair_table, tests_of}
 use Rattle.bdb_hash.specs.Noted.{pair_faults}
 use Rattle.std.proofs.Common.{◌≡◌, ℕ, Bool, true, false, [], ◌∷◌, ◌++◌, map, refl}
-use Rattle.bdb_faults.specs.Rows.{fault_if}
-use Rattle.bdb_faults.specs.declared.rows.Row.TheVariants.{Contents}
+use Rattle.bdb_ranks.specs.of_format.RowCodes.{fault_if}
+use Rattle.bdb_ranks.specs.of_format.declared.rows.Row.TheVariants.{Contents}
 use Rattle.bdb_ranks.specs.of_format.Table.{◌:?◌}
 use Rattle.bdb_ranks.specs.of_format.Verdict.{holding}
-use Rattle.bdb_faults.specs.declared.rows.ContentsRow.TheVariants.{Duplicates, DuplicateKind, DuplicateOrder, Bucket}
+use Rattle.bdb_ranks.specs.of_format.declared.rows.ContentsRow.TheVariants.{Duplicates, DuplicateKind, DuplicateOrder, Bucket}
 
 -- the faults of a pair are those of the rows that hold
 pub rows_noted : (page : ℕ) (a b c d : Bool)

@@ -15,8 +15,8 @@ use Rattle.std.proofs.lemmas.List.Folds.{list_any-append}
 use Rattle.std.proofs.lemmas.List.Sums.{fold-append}
 use Rattle.std.proofs.lemmas.Map.Text.{is_eq-slice_cmp}
 use Rattle.bdb_faults.specs.Notes.{Notes}
-use Rattle.bdb_faults.specs.Rows.{fault_if}
-use Rattle.bdb_faults.specs.declared.rows.Row.TheVariants.{Contents}
+use Rattle.bdb_ranks.specs.of_format.RowCodes.{fault_if}
+use Rattle.bdb_ranks.specs.of_format.declared.rows.Row.TheVariants.{Contents}
 use Rattle.bdb_ranks.proofs.of_format.BoolLemmas.{cond_or}
 use Rattle.bdb_ranks.specs.of_overflow.Keys.{has_item, has_key, repeated_by}
 use Rattle.bdb_ranks.specs.of_format.declared.kinds.Fault.{Fault}
@@ -30,8 +30,8 @@ use Rattle.bdb_hash.specs.Noted.{has_stray, has_stray_in, is_stray, repeat_fault
 use Rattle.bdb_buckets.specs.Repeat.{repeat_fault}
 use Rattle.bdb_buckets.specs.Told.{stored, key_of, Told, bucket_told, table_told}
 use Rattle.bdb_hash.specs.Passed.{AreKeysOf, IsNoting, NotesRepeats, behind}
-use Rattle.bdb_faults.specs.declared.rows.ContentsRow.TheVariants.{KeyTwice}
 use Rattle.bdb_buckets.proofs.RowLemmas.{buckets_of}
+use Rattle.bdb_ranks.specs.of_format.declared.rows.ContentsRow.TheVariants.{KeyTwice}
 use Rattle.bdb_faults.proofs.SinkLemmas.{notes_nothing, notes_then}
 use Rattle.bdb_hash.proofs.ChainedLemmas.{first_of, rest_of, first_page_of, other_pages_of}
 

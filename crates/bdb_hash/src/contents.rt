@@ -1,6 +1,6 @@
 ghost use Rattle.std.specs.Prelude.{◌≡◌, ◌+◌, [], IfErr, IfOk, OnOk};
 ghost use Rattle.std.specs.List.{flat_map, range_with_len};
-ghost use Rattle.bdb_faults.specs.Named.{HasNoted};
+ghost use Rattle.bdb_faults.specs.Notes.{HasNoted};
 ghost use Rattle.bdb_faults.specs.Notes.{Notes, NotesAll};
 ghost use Rattle.bdb_ranks.specs.of_image.Linked.{HasMetadata};
 ghost use Rattle.bdb_hash.specs.Noted.{bucket_faults, has_stray};
@@ -15,7 +15,7 @@ use crate::passed::{Passed, note_bucket};
 use crate::repeats::note_again;
 use crate::strays::note_strayed;
 use bdb_buckets::{bucket_pages, buckets};
-use bdb_faults::{FaultSink, First, NamedList};
+use bdb_faults::{FaultSink, First, NamedList, checked};
 use bdb_ranks::{CheckError, HashMeta, Linked};
 use std::alloc::{AllocError, Global};
 
@@ -108,13 +108,8 @@ pub fn check(alloc: Global, linked: &Linked<'_>, meta: &HashMeta) -> Result<(), 
     ensures refusal { IfErr result (IsFirstOf (database_faults (file_of linked.now) (HashFields meta.now))) }
 {
     let mut first = First::new();
-    let Ok(()) = note_alone(alloc, linked, meta, &mut first) else {
-        return Err(CheckError::Memory);
-    };
-    match first.fault() {
-        None => Ok(()),
-        Some(fault) => Err(CheckError::Fault(fault)),
-    }
+    let answer = note_alone(alloc, linked, meta, &mut first);
+    checked(first, answer)
 }
 
 /// Notes each row of contents at each page where it holds for the table of this metadata, in a list of all.

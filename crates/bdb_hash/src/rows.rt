@@ -10,8 +10,8 @@ ghost use Rattle.bdb_ranks.specs.of_format.Page.{HashFields};
 
 use crate::Chains;
 use bdb_buckets::{Data, Pair};
-use bdb_faults::{ContentsRow, FaultSink, Row, note_if};
-use bdb_ranks::{HashMeta, bucket_of, is_less};
+use bdb_faults::{FaultSink, note_if};
+use bdb_ranks::{ContentsRow, HashMeta, Row, bucket_of, is_less};
 use std::alloc::AllocError;
 
 /// Whether data ascend strictly.

@@ -5,8 +5,8 @@ ghost use Rattle.bdb_buckets.specs.Chained.{chain_value};
 ghost use Rattle.bdb_hash.specs.Passed.{NotesRepeats};
 
 use bdb_buckets::Pair;
-use bdb_faults::{ContentsRow, FaultSink, Row, note_if};
-use bdb_ranks::{Forest, Keys};
+use bdb_faults::{FaultSink, note_if};
+use bdb_ranks::{ContentsRow, Forest, Keys, Row};
 use std::alloc::{AllocError, Global};
 use std::collections::BTreeSet;
 use std::marker::Model;
@@ -81,7 +81,7 @@ impl<'a> SeenKeys<'a> {
         ensures same { self.new.image ≡ self.old.image }
     {
         if self.heads.contains(&head) {
-            return found.note(Row::Contents(ContentsRow::KeyTwice).at(pair.page()));
+            return found.note(Row::Contents(ContentsRow::KeyTwice), pair.page());
         }
         self.note_next(pair, found)?;
         self.heads.insert(head)?;

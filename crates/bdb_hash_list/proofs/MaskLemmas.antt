@@ -11,7 +11,9 @@ use Rattle.bdb_buckets.specs.of_format.File.{file_of, page_bytes}
 use Rattle.bdb_buckets.specs.of_format.Hashing.{bucket}
 use Rattle.bdb_buckets.specs.of_format.HeadOf.{head_of}
 use Rattle.bdb_buckets.specs.of_format.Numbers.{byte_at}
-use Rattle.bdb_buckets.specs.of_format.Page.{HashFields, Meta, Page, PageType, HashMetaPage, Zero}
+use Rattle.bdb_buckets.specs.of_format.Page.{HashFields, Meta, Page, Zero}
+use Rattle.bdb_buckets.specs.of_format.declared.pages.PageType.{PageType}
+use Rattle.bdb_buckets.specs.of_format.declared.pages.PageType.TheVariants.{HashMeta as HashMetaPage}
 use Rattle.bdb_buckets.specs.of_format.Reading.{abstract_page, is_zero, page_as, page_type}
 use Rattle.bdb_buckets.specs.of_format.Rows.{are_masks, form_code, typed_code}
 use Rattle.bdb_buckets.proofs.of_format.VerdictLemmas.{none_is_first_row}

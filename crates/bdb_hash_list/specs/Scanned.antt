@@ -1,9 +1,9 @@
 -- The list of a table as the code gives it.
 use Rattle.std.specs.Prelude.{◌≡◌, ℕ, ◌++◌, List, map}
 use Rattle.std.specs.List.{Contains, flat_map}
-use Rattle.bdb_buckets.specs.of_faults.Rows.{fault_at}
-use Rattle.bdb_buckets.specs.of_faults.declared.rows.ContentsRow.TheVariants.{KeyTwice}
-use Rattle.bdb_buckets.specs.of_faults.declared.rows.Row.TheVariants.{Contents}
+use Rattle.bdb_buckets.specs.of_format.RowCodes.{fault_at}
+use Rattle.bdb_buckets.specs.of_format.declared.rows.ContentsRow.TheVariants.{KeyTwice}
+use Rattle.bdb_buckets.specs.of_format.declared.rows.Row.TheVariants.{Contents}
 use Rattle.bdb_buckets.specs.of_overflow.declared.datum.Datum.{Datum}
 use Rattle.bdb_buckets.specs.of_overflow.declared.datum.KeyView.{KeyView}
 use Rattle.bdb_buckets.specs.of_overflow.Datum.{datum_seen, key_view_seen}

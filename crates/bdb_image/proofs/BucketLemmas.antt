@@ -22,6 +22,7 @@ use Rattle.bdb_faults.specs.of_format.Rows.{form_code, identity_rows, may_have_t
 use Rattle.bdb_faults.specs.of_format.Page.{Zero}
 use Rattle.bdb_faults.proofs.of_format.FileLemmas.{last_page, page_is}
 use Rattle.bdb_faults.proofs.of_format.GraphLemmas.{zero_page}
+use Rattle.bdb_faults.proofs.of_format.SizeLemmas.{long_page}
 use Rattle.bdb_image.proofs.CodeLemmas.{identity_fails}
 use Rattle.bdb_faults.specs.of_format.Hashing.{first_page, group}
 use Rattle.bdb_faults.specs.of_format.References.{Asked, asked_by, fit_code}
@@ -261,3 +262,6 @@ unnumbered_fits image p above low none unnumbered =
     fits
     ∙ fits_there (file_of image) 0 reference
     (or_from (p == 0) (nat_lt (file_of image).last p) (ne_eqb p 0 (omega arith)) (le-ltb (file_of image).last p low))
+
+-- a page without a number fits
+pub ruleset unnumbered_pages = (unnumbered_fits, long_page)

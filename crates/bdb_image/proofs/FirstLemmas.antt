@@ -3,25 +3,24 @@ use Rattle.std.proofs.Common.{◌≡◌, ℕ, ◌+◌, ◌^◌, ◌<◌, ◌≤�
 use Rattle.std.specs.Prelude.{Some, None, Result, Ok, Err}
 use Rattle.std.specs.Option.{option_to_list}
 use Rattle.bdb_faults.specs.of_format.declared.metadata.Head.{Head}
-use Rattle.bdb_faults.specs.of_format.declared.metadata.MetaFault.{MetaFault}
 use Rattle.bdb_faults.specs.of_format.File.{page_bytes}
-use Rattle.bdb_faults.specs.of_format.HeadOf.{faulted, head_of, head_rows}
+use Rattle.bdb_faults.specs.of_format.HeadOf.{head_of, head_rows}
 use Rattle.bdb_faults.specs.of_format.Rows.{form_code}
 use Rattle.bdb_faults.specs.of_format.Table.{Row, answer, first_row}
 use Rattle.bdb_faults.specs.of_format.Verdict.{faults_in, form_faults, head_faults, tail_faults}
 use Rattle.bdb_faults.proofs.of_format.VerdictLemmas.{no_code, no_codes_at, none_within, or_else_none}
+use Rattle.bdb_faults.proofs.of_format.FileLemmas.{last_page}
 use Rattle.bdb_image.proofs.FormedLemmas.{IsPaged, accepted_paged}
 use Rattle.bdb_image.specs.Formed.{IsAccepted, IsFormed}
 
 -- an answer that is a value: no row holds
-pub faulted_value : {T : Type 0} (fault : ℕ → MetaFault) (rows : List (Row ℕ)) (value found : T) → Ok found ≡ faulted fault (answer rows value)
-    → (found ≡ value) × (first_row rows ≡ None)
-faulted_value fault [] value found same = (cc, refl)
-faulted_value {T = T} fault (row ∷ rows) value found same =
-    elim row.holds as (λ b. ◌≡◌ {A = Result T MetaFault} (Ok found) (faulted fault (cond b (Err row.code) (answer rows value)))
+pub answer_is_value : {T : Type 0} (rows : List (Row ℕ)) (value found : T) → Ok found ≡ answer rows value → (found ≡ value) × (first_row rows ≡ None)
+answer_is_value [] value found same = (cc, refl)
+answer_is_value {T = T} (row ∷ rows) value found same =
+    elim row.holds as (λ b. ◌≡◌ {A = Result T ℕ} (Ok found) (cond b (Err row.code) (answer rows value))
     → (found ≡ value) × (cond b (Some row.code) (first_row rows) ≡ None)) [
       | true ↦ λ is. absurd cc
-      | false ↦ λ is. faulted_value fault rows value found is
+      | false ↦ λ is. answer_is_value rows value found is
     ] same
 
 no_head_fault : (image : List ℕ) → faults_in (1 ∷ 2 ∷ []) image ≡ [] → first_row (head_rows image) ≡ None
@@ -56,4 +55,4 @@ formed_page image number none low =
     (none_within 1 2 image 2 none (omega arith) (omega arith)) (omega arith) (omega arith))
 
 -- what pages of sound form are
-pub ruleset formed_pages = (formed_page, formed_accepted, formed_last, formed_few)
+pub ruleset formed_pages = (formed_page, formed_accepted, formed_last, formed_few, last_page)

@@ -83,13 +83,6 @@ pub page_length : (image : List ℕ) (head : Head) (number : ℕ) → IsAccepted
     ≡ head.page_size
 page_length image head number accepted below = grind (arith, page_room, length-take-le, length-drop)
 
--- the same for the range of bytes of the page
-pub same_length : (image : List ℕ) (head : Head) (number : ℕ) → IsAccepted image head → number < head.pages
-    → length (take (number * head.page_size + head.page_size - number * head.page_size) (drop (number * head.page_size) image)) ≡ head.page_size
-same_length image head number accepted below =
-    let same : number * head.page_size + head.page_size - number * head.page_size ≡ head.page_size = omega arith in
-    ap (λ n. length (take n (drop (number * head.page_size) image))) same ∙ page_length image head number accepted below
-
 -- a page that isn't a zero page tells its own number
 pub tells_number : (head : Head) (number : ℕ) (page : List ℕ) → form_code head number page ≡ None → is_zero page ≡ false
     → four_at head.order page 8 ≡ number

@@ -1,7 +1,7 @@
 -- What a page without a fault of form is, by its type.
-use Rattle.std.proofs.Common.{◌≡◌, ℕ, zero, suc, ◌≤◌, Bool, true, false, cond, List, length, arith, refl, sym, ◌∙◌, ap}
-use Rattle.std.specs.Prelude.{Option, Some, None, ◌==◌, ◌&&◌, nat_lt}
-use Rattle.std.proofs.lemmas.Bool.{ltb-false, or_parts}
+use Rattle.std.proofs.Common.{◌≡◌, ℕ, zero, suc, ◌≤◌, Bool, true, false, cond, List, length, arith, refl, sym, ◌∙◌, ap, subst, inl, inr}
+use Rattle.std.specs.Prelude.{Option, Some, None, ◌&&◌, nat_lt, not}
+use Rattle.std.proofs.lemmas.Bool.{cases_Bool, ltb-false, or_parts}
 use Rattle.bdb_slots.specs.of_form.declared.view.PageView.{PageView}
 use Rattle.bdb_slots.specs.of_form.declared.view.PageView.TheVariants.{Zero as ZeroView, Free as FreeView, Meta as MetaView, Leaf as LeafView, Internal as InternalView}
 use Rattle.bdb_slots.specs.of_form.declared.view.PageView.TheVariants.{RecnoLeaf as RecnoLeafView, RecnoInternal as RecnoInternalView, DupLeaf as DupLeafView}
@@ -14,18 +14,21 @@ use Rattle.bdb_faults.specs.of_format.declared.metadata.Head.{Head}
 use Rattle.bdb_faults.specs.of_format.File.{file_of, page_bytes}
 use Rattle.bdb_faults.specs.of_format.HeadOf.{head_of, is_page_size}
 use Rattle.bdb_faults.specs.of_format.Numbers.{byte_at}
-use Rattle.bdb_faults.specs.of_format.Page.{Meta, BtreeFields, HashFields, PageType}
-use Rattle.bdb_faults.specs.of_format.Page.{HashMetaPage, BtreeMetaPage, QueueMetaPage}
+use Rattle.bdb_faults.specs.of_format.Page.{Meta, BtreeFields, HashFields}
+use Rattle.bdb_faults.specs.of_format.declared.pages.PageType.{PageType}
+use Rattle.bdb_faults.specs.of_format.declared.pages.PageType.TheVariants.{HashMeta as HashMetaPage, BtreeMeta as BtreeMetaPage, QueueMeta as QueueMetaPage}
 use Rattle.bdb_faults.specs.of_format.Reading.{abstract_page, btree_fields, hash_fields, is_zero, page_as, page_type}
 use Rattle.bdb_faults.specs.of_format.References.{targets_of, refs}
 use Rattle.bdb_faults.specs.of_format.Rows.{body_code, form_code, identity_rows, is_tree_type, may_have_type, metadata_rows, page_code, type_of, typed_code}
 use Rattle.bdb_faults.specs.of_format.Table.{first_row}
 use Rattle.bdb_faults.specs.of_format.Graph.{is_meta}
+use Rattle.bdb_faults.proofs.of_format.GraphLemmas.{typed_page, zero_page}
 use Rattle.bdb_faults.proofs.of_format.PageLemmas.{metadata_code}
+use Rattle.bdb_faults.proofs.of_format.TypeLemmas.{byte_as}
 use Rattle.bdb_faults.proofs.of_format.VerdictLemmas.{AllFail, none_is_first_row}
 use Rattle.bdb_faults.proofs.of_format.FileLemmas.{page_is, kind_is}
 use Rattle.bdb_slots.specs.Slots.{IsNoMetadata, placed}
-use Rattle.bdb_image.proofs.CodeLemmas.{btree_last, code_by, code_same, differs, is_body, is_same, no_queue_type, not_zero, tree_code, two_none, typed_metadata}
+use Rattle.bdb_image.proofs.CodeLemmas.{btree_last, code_by, code_same, is_same, not_zero, other_code, ten_fails, tree_code, two_none, typed_metadata}
 
 pub refs_of_page : (image : List ℕ) (p : ℕ) → p ≤ (head_of image).last
     → refs (file_of image) p ≡ placed 0 (targets_of (head_of image).kind p (abstract_page (head_of image).order (page_bytes (head_of image) image p)))
@@ -108,36 +111,34 @@ other_formed head (suc n) page forest none table tree =
     let identity : Option ℕ = first_row (identity_rows head.order page (suc n) is_tree_type) in
     sym (tree_code head (suc n) page (omega arith) forest
     ∙ code_same (is_zero page) identity (typed_code head (suc n) page (page_type byte)) (body_code head.order page (page_type byte))
-    (λ passed. (is_body byte (differs byte 8 table) (differs byte 9 tree) (no_queue_type byte (two_none _ _ passed))).same head (suc n) page))
+    (λ passed. other_code head (suc n) page byte (λ is. table (byte_as byte HashMetaPage is))
+    (λ is. tree (byte_as byte BtreeMetaPage is)) (two_none _ _ passed)))
     ∙ none
 
-abbrev pub is_meta_type : PageType → Bool
-is_meta_type HashMetaPage = true
-is_meta_type BtreeMetaPage = true
-is_meta_type QueueMetaPage = true
-is_meta_type t = false
+-- a page with another type isn't metadata
+pub other_page : (order : Order) (page : List ℕ) (t : PageType) → (t ≡ HashMetaPage → ⊥) → (t ≡ BtreeMetaPage → ⊥) → (t ≡ QueueMetaPage → ⊥)
+    → is_meta (page_as order page t) ≡ false
+other_page order page HashMetaPage hash btree queue = absurd (hash refl)
+other_page order page BtreeMetaPage hash btree queue = absurd (btree refl)
+other_page order page QueueMetaPage hash btree queue = absurd (queue refl)
+other_page order page t hash btree queue = refl
 
-if_other : (b : Bool) (s t : PageType) → is_meta_type s ≡ false → is_meta_type t ≡ false → is_meta_type (cond b s t) ≡ false
-if_other true s t first second = first
-if_other false s t first second = second
-
-else_other : (b : Bool) (s t : PageType) → b ≡ false → is_meta_type t ≡ false → is_meta_type (cond b s t) ≡ false
-else_other true s t none second = absurd cc
-else_other false s t none second = second
-
-pub other_type : (byte : ℕ) → (byte == 8) ≡ false → (byte == 9) ≡ false → (byte == 10) ≡ false → is_meta_type (page_type byte) ≡ false
-other_type byte table tree queue = grind (arith, if_other, else_other)
-
-pub other_page : (order : Order) (page : List ℕ) (t : PageType) → is_meta_type t ≡ false → is_meta (page_as order page t) ≡ false
-other_page order page HashMetaPage other = absurd cc
-other_page order page BtreeMetaPage other = absurd cc
-other_page order page QueueMetaPage other = absurd cc
-other_page order page t other = refl
-
+-- a page of a tree with another type isn't: no page of a tree has the type of queue metadata
 other_abstract : (order : Order) (number : ℕ) (page : List ℕ) → page_code order number page ≡ None → (byte_at page 25 ≡ 8 → ⊥) → (byte_at page 25 ≡ 9 → ⊥)
     → is_meta (abstract_page order page) ≡ false
-unfolding page_code abstract_page
-other_abstract order number page none table tree = grind (arith, code_by, other_page, other_type, differs, no_queue_type, two_none, identity_none)
+unfolding page_code
+other_abstract order number page none table tree =
+    elim (cases_Bool (is_zero page)) [
+      | inl empty ↦ ap is_meta (zero_page order page empty)
+      | inr some ↦
+          let identity : Option ℕ = first_row (identity_rows order page number is_tree_type) in
+          let typed : Option ℕ = body_code order page (page_type (byte_at page 25)) in
+          let passed : identity ≡ None = identity_none identity typed (ap (λ b. code_by b identity typed) (sym some) ∙ none) in
+          ap is_meta (typed_page order page some)
+          ∙ other_page order page (page_type (byte_at page 25)) (λ is. table (byte_as (byte_at page 25) HashMetaPage is))
+          (λ is. tree (byte_as (byte_at page 25) BtreeMetaPage is))
+          (λ is. ten_fails (subst (λ b. not (is_tree_type b) ≡ false) (byte_as (byte_at page 25) QueueMetaPage is) (two_none _ _ passed)))
+    ]
 
 other_view : (view : PageView) → is_meta (page_seen view) ≡ false → IsNoMetadata view
 other_view (MetaView view) other = absurd cc

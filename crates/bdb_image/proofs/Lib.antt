@@ -1,5 +1,4 @@
 pub mod ApartLemmas
-mod Below
 pub mod BucketLemmas
 pub mod CodeLemmas
 pub mod FirstLemmas

@@ -3,7 +3,7 @@ use Rattle.std.proofs.Common.{arith}
 use Rattle.std.proofs.Common.{◌≡◌, ℕ, zero, suc, ◌+◌, ◌≤◌, true, false, cond, inl, inr, List, [], ◌∷◌, ◌++◌, length, refl, sym, ◌∙◌, ap, subst}
 use Rattle.std.proofs.Common.{append-nil}
 use Rattle.std.specs.Prelude.{Some, None}
-use Rattle.std.proofs.lemmas.Bool.{true≢false, cases_eq}
+use Rattle.std.proofs.lemmas.Bool.{true≢false, cases_Bool, cases_eq}
 use Rattle.bdb_faults.specs.of_format.declared.kinds.Order.{Order}
 use Rattle.bdb_faults.specs.of_format.declared.metadata.FileKind.{FileKind}
 use Rattle.bdb_faults.specs.of_format.declared.metadata.FileKind.TheVariants.{Btree, Hash, Queue}
@@ -12,18 +12,20 @@ use Rattle.bdb_faults.specs.of_format.File.{File, file_of, page_at, page_bytes}
 use Rattle.bdb_faults.specs.of_format.Graph.{is_meta}
 use Rattle.bdb_faults.specs.of_format.HeadOf.{head_of, is_page_size}
 use Rattle.bdb_faults.specs.of_format.Numbers.{byte_at}
-use Rattle.bdb_faults.specs.of_format.Page.{Metadata, Page, Zero, Meta, HashFields, QueueFields}
-use Rattle.bdb_faults.specs.of_format.Reading.{abstract_page, hash_fields, page_as, page_type, queue_fields}
+use Rattle.bdb_faults.specs.of_format.Page.{Metadata, Page, Zero, Meta, BtreeFields, HashFields, QueueFields}
+use Rattle.bdb_faults.specs.of_format.declared.pages.PageType.TheVariants.{HashMeta as HashMetaPage, BtreeMeta as BtreeMetaPage, QueueMeta as QueueMetaPage}
+use Rattle.bdb_faults.specs.of_format.Reading.{abstract_page, btree_fields, hash_fields, is_zero, page_as, page_type, queue_fields}
 use Rattle.bdb_faults.specs.of_format.Rows.{form_code, may_have_type, metadata_rows}
 use Rattle.bdb_faults.specs.of_format.Table.{first_row}
-use Rattle.bdb_faults.proofs.of_format.GraphLemmas.{type_fits}
+use Rattle.bdb_faults.proofs.of_format.GraphLemmas.{type_fits, typed_page, zero_page}
+use Rattle.bdb_faults.proofs.of_format.TypeLemmas.{byte_as}
 use Rattle.bdb_faults.proofs.of_format.PageLemmas.{later_type}
 use Rattle.std.proofs.lemmas.List.Elements.{filter-append}
 use Rattle.bdb_image.specs.Linked.{meta_pages, metas_below}
 use Rattle.bdb_image.specs.Metas.{meta_in}
 use Rattle.bdb_faults.specs.of_format.declared.metadata.HashMeta.{HashMeta}
-use Rattle.bdb_image.proofs.CodeLemmas.{differs, not_zero, queue_last}
-use Rattle.bdb_image.proofs.HeldLemmas.{few_buckets, metadata_formed, table_formed, table_page, tree_page, other_page, other_type, other_formed}
+use Rattle.bdb_image.proofs.CodeLemmas.{not_zero, queue_last}
+use Rattle.bdb_image.proofs.HeldLemmas.{few_buckets, metadata_formed, table_formed, table_page, tree_page, other_page, other_formed}
 use Rattle.bdb_faults.proofs.of_format.ListLemmas.{range_zero_more}
 use Rattle.bdb_faults.proofs.of_format.FileLemmas.{page_is}
 
@@ -55,10 +57,21 @@ no_fields : (page : Page) → is_meta page ≡ false → meta_in page ≡ None
 no_fields (Meta fields) other = absurd cc
 no_fields page other = refl
 
+pub other_fields : (order : Order) (page : List ℕ) → (page_type (byte_at page 25) ≡ HashMetaPage → ⊥) → (page_type (byte_at page 25) ≡ BtreeMetaPage → ⊥)
+    → (page_type (byte_at page 25) ≡ QueueMetaPage → ⊥) → meta_in (abstract_page order page) ≡ None
+other_fields order page hash btree queue =
+    elim (cases_Bool (is_zero page)) [
+      | inl empty ↦ no_fields (abstract_page order page) (ap is_meta (zero_page order page empty))
+      | inr some ↦
+          no_fields (abstract_page order page)
+          (ap is_meta (typed_page order page some) ∙ other_page order page (page_type (byte_at page 25)) hash btree queue)
+    ]
+
 pub no_meta : (order : Order) (page : List ℕ) → (byte_at page 25 ≡ 8 → ⊥) → (byte_at page 25 ≡ 9 → ⊥) → (byte_at page 25 ≡ 10 → ⊥)
     → meta_in (abstract_page order page) ≡ None
-unfolding abstract_page
-no_meta order page table tree queue = grind (arith, no_fields, other_page, other_type, differs)
+no_meta order page table tree queue =
+    other_fields order page (λ is. table (byte_as (byte_at page 25) HashMetaPage is)) (λ is. tree (byte_as (byte_at page 25) BtreeMetaPage is))
+    (λ is. queue (byte_as (byte_at page 25) QueueMetaPage is))
 
 -- The file.
 
@@ -124,6 +137,22 @@ no_more_meta file n metas below other = below ∙ sym (one_page_more file n ∙ 
 pub all_metas : (file : File) (n : ℕ) (metas : List ℕ) → n ≡ file.last + 1 → metas ≡ metas_below file n → metas ≡ meta_pages file
 unfolding meta_pages
 all_metas file n metas all below = below ∙ ap (metas_below file) all
+
+-- metadata by its type
+
+pub table_fields : (order : Order) (page : List ℕ) → is_page_size (length page) ≡ true → page_type (byte_at page 25) ≡ HashMetaPage
+    → Some (HashFields (hash_fields order page)) ≡ meta_in (abstract_page order page)
+table_fields order page size is = sym (ap meta_in (table_page order page size (byte_as (byte_at page 25) HashMetaPage is)))
+
+pub tree_fields : (order : Order) (page : List ℕ) → is_page_size (length page) ≡ true → page_type (byte_at page 25) ≡ BtreeMetaPage
+    → Some (BtreeFields (btree_fields order page)) ≡ meta_in (abstract_page order page)
+tree_fields order page size is = sym (ap meta_in (tree_page order page size (byte_as (byte_at page 25) BtreeMetaPage is)))
+
+pub record_fields : (order : Order) (page : List ℕ) → is_page_size (length page) ≡ true → page_type (byte_at page 25) ≡ QueueMetaPage
+    → Some (QueueFields (queue_fields order page)) ≡ meta_in (abstract_page order page)
+record_fields order page size is = sym (ap meta_in (queue_page order page size (byte_as (byte_at page 25) QueueMetaPage is)))
+
+pub ruleset fields_by_type = (table_fields, tree_fields, record_fields, other_fields)
 
 -- which metadata a page holds
 pub ruleset held_fields = (is_fields, few_buckets_known, no_table, no_tree, other_formed)

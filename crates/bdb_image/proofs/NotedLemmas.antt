@@ -3,43 +3,37 @@ use Rattle.std.proofs.Common.{◌≡◌, ℕ, ◌+◌, ◌-◌, ◌≤◌, Bool,
 use Rattle.std.proofs.Common.{append-nil}
 use Rattle.std.specs.Prelude.{◌==◌, ◌&&◌, ◌||◌, Err}
 use Rattle.std.specs.List.{list_any}
-use Rattle.std.specs.Option.{option_map, option_to_list}
+use Rattle.std.specs.Option.{option_to_list}
 use Rattle.std.specs.Result.{result_err}
 use Rattle.std.proofs.lemmas.Bool.{eqb-true, ne_eqb}
 use Rattle.std.proofs.lemmas.List.Folds.{list_any-append}
 use Rattle.std.proofs.Math.Bool.{or-false}
-use Rattle.bdb_faults.specs.All.{IsAllOf, IsSettled}
-use Rattle.bdb_faults.specs.Named.{AreOne, HasNoted}
 use Rattle.bdb_faults.specs.Notes.{AreSame, Notes, NotesAll}
-use Rattle.bdb_faults.specs.Cases.{fault_of_form, fault_of_head, form_code, head_code}
-use Rattle.bdb_faults.specs.Rows.{fault_at, fault_if}
-use Rattle.bdb_faults.specs.declared.named.AllError.{AllError}
-use Rattle.bdb_faults.specs.declared.rows.FileRow.TheVariants.{Tail}
-use Rattle.bdb_faults.specs.declared.rows.OwnershipRow.TheVariants.{NoOwner, TooMany}
-use Rattle.bdb_faults.specs.declared.rows.ReachRow.TheVariants.{Unreached}
-use Rattle.bdb_faults.specs.declared.rows.ReferenceRow.TheVariants.{OutOfRange, WrongKind, WrongLevel, WrongBack}
-use Rattle.bdb_faults.specs.declared.rows.Row.{Row as FaultRow}
-use Rattle.bdb_faults.specs.declared.rows.Row.TheVariants.{File as FileRow, Ownership, Reach, Reference as ReferenceRow}
-use Rattle.bdb_faults.proofs.AscendLemmas.{faults_ascend}
-use Rattle.bdb_faults.proofs.CaseLemmas.{form_code_is, head_code_is}
-use Rattle.bdb_faults.proofs.ListLemmas.{all_accepted, all_one, all_refused}
+use Rattle.bdb_faults.specs.of_format.RowCodes.{fault_at, fault_if, file_row_code, form_row_code}
+use Rattle.bdb_faults.specs.of_format.declared.rows.FileRow.{FileRow as FileRows}
+use Rattle.bdb_faults.specs.of_format.declared.rows.FileRow.TheVariants.{Tail}
+use Rattle.bdb_faults.specs.of_format.declared.rows.FormRow.{FormRow}
+use Rattle.bdb_faults.specs.of_format.declared.rows.OwnershipRow.TheVariants.{NoOwner, TooMany}
+use Rattle.bdb_faults.specs.of_format.declared.rows.ReachRow.TheVariants.{Unreached}
+use Rattle.bdb_faults.specs.of_format.declared.rows.ReferenceRow.TheVariants.{OutOfRange, WrongKind, WrongLevel, WrongBack}
+use Rattle.bdb_faults.specs.of_format.declared.rows.Row.{Row as FaultRow}
+use Rattle.bdb_faults.specs.of_format.declared.rows.Row.TheVariants.{File as FileRow, Form, Ownership, Reach, Reference as ReferenceRow}
 use Rattle.bdb_faults.proofs.SinkLemmas.{noted_all, notes_both, notes_more, notes_none, notes_one}
 use Rattle.bdb_faults.specs.of_format.declared.kinds.Fault.{Fault}
 use Rattle.bdb_faults.specs.of_format.declared.metadata.Head.{Head}
-use Rattle.bdb_faults.specs.of_format.declared.metadata.MetaFault.{MetaFault}
 use Rattle.bdb_faults.specs.of_format.declared.references.Reference.{Reference}
 use Rattle.bdb_faults.specs.of_format.File.{File, page_bytes}
-use Rattle.bdb_faults.specs.of_format.HeadOf.{faulted, form_fault, head_fault, head_of, head_rows}
+use Rattle.bdb_faults.specs.of_format.HeadOf.{head_of, head_rows}
 use Rattle.bdb_faults.specs.of_format.Reading.{is_zero}
 use Rattle.bdb_faults.specs.of_format.References.{fit_code, refs}
 use Rattle.bdb_faults.specs.of_format.Rows.{form_code as row_of_form}
 use Rattle.bdb_faults.specs.of_format.Table.{Row, ◌:?◌, answer, first_row}
-use Rattle.bdb_faults.specs.of_format.Verdict.{Judgement, by_page, fails_as, faults_in, form_faults, head_faults, holding, or_else, ownership_faults, ownership_rows}
+use Rattle.bdb_faults.specs.of_format.Verdict.{by_page, fails_as, faults_in, form_faults, head_faults, holding, or_else, ownership_faults, ownership_rows}
 use Rattle.bdb_faults.specs.of_format.Verdict.{reach_faults, reach_rows, reference_faults, reference_rows, some_fails, stage_faults, tail_faults, tail_rows}
 use Rattle.bdb_faults.specs.of_format.Graph.{is_anchor, is_owned_twice, is_reserve, is_shared_too_often, is_unowned, reaches}
 use Rattle.bdb_faults.proofs.of_format.MemberLemmas.{first_member, no_member}
 use Rattle.bdb_faults.proofs.of_format.VerdictLemmas.{or_else_none, or_else_nothing}
-use Rattle.bdb_image.proofs.CodeLemmas.{fault_of_rows}
+use Rattle.bdb_image.proofs.CodeLemmas.{code_of_answer}
 use Rattle.bdb_image.specs.declared.fits.Misfits.{Misfits}
 use Rattle.bdb_image.specs.Noted.{misfit_faults, misfits_of, more_misfits, page_faults}
 
@@ -181,16 +175,14 @@ tail_noted before after image head n is all noted =
 
 -- Stage 2.
 
-pub form_noted : (before after : List Fault → Type 0) (page : ℕ) (code : Option ℕ) (fault : MetaFault) → Some fault ≡ option_map form_fault code
-    → Notes before after (fault_of_form fault page ∷ []) → NotesAll before after (page_faults 2 page (option_to_list code))
-form_noted before after page None fault is noted = absurd cc
-form_noted before after page (Some code) fault is noted =
-    let same : fault ≡ form_fault code = cc in
-    let told : form_code fault ≡ code = ap form_code same ∙ form_code_is code in
-    subst (λ c. NotesAll before after (page_faults 2 page (c ∷ []))) told (notes_one before after (fault_of_form fault page ∷ []) noted)
+pub form_noted : (before after : List Fault → Type 0) (page : ℕ) (code : Option ℕ) (row : FormRow) → Some (form_row_code row) ≡ code
+    → Notes before after (fault_at (Form row) page ∷ []) → NotesAll before after (page_faults 2 page (option_to_list code))
+form_noted before after page None row is noted = absurd cc
+form_noted before after page (Some code) row is noted =
+    let same : form_row_code row ≡ code = cc in
+    subst (λ c. NotesAll before after (page_faults 2 page (c ∷ []))) same (notes_one before after (fault_at (Form row) page ∷ []) noted)
 
-pub form_passed : (before : List Fault → Type 0) (page : ℕ) (code : Option ℕ) → None ≡ option_map form_fault code
-    → NotesAll before before (page_faults 2 page (option_to_list code))
+pub form_passed : (before : List Fault → Type 0) (page : ℕ) (code : Option ℕ) → None ≡ code → NotesAll before before (page_faults 2 page (option_to_list code))
 form_passed before page None is = notes_none before
 form_passed before page (Some code) is = absurd cc
 
@@ -205,23 +197,18 @@ forms_noted before after image head n is all noted =
 
 -- Page 0.
 
-head_alone : (code : Option ℕ) (fault : MetaFault) → Some fault ≡ option_map head_fault code
-    → by_page 1 0 1 (λ p. option_to_list code) ≡ fault_of_head fault ∷ []
-head_alone None fault is = absurd cc
-head_alone (Some code) fault is =
-    let same : fault ≡ head_fault code = cc in
-    let told : code ≡ head_code fault = sym (ap head_code same ∙ head_code_is code) in
-    ap (λ c. page_faults 1 0 (c ∷ [])) told
+head_alone : (code : Option ℕ) (row : FileRows) → Some (file_row_code row) ≡ code → by_page 1 0 1 (λ p. option_to_list code) ≡ fault_at (FileRow row) 0 ∷ []
+head_alone None row is = absurd cc
+head_alone (Some code) row is = let same : code ≡ file_row_code row = cc in ap (λ c. page_faults 1 0 (c ∷ [])) same
 
 -- page 0 is refused: its fault is the only one
-pub head_refused : (image : List ℕ) (fault : MetaFault) → Err fault ≡ faulted head_fault (answer (head_rows image) (head_of image))
-    → faults_in (1 ∷ 2 ∷ []) image ≡ fault_of_head fault ∷ []
+pub head_refused : (image : List ℕ) (row : FileRows) → Err (file_row_code row) ≡ answer (head_rows image) (head_of image)
+    → faults_in (1 ∷ 2 ∷ []) image ≡ fault_at (FileRow row) 0 ∷ []
 unfolding faults_in head_faults
-head_refused image fault same =
-    let first : Some fault ≡ option_map head_fault (first_row (head_rows image)) = ap result_err same
-    ∙ fault_of_rows head_fault (head_rows image) (head_of image) in
+head_refused image row same =
+    let first : Some (file_row_code row) ≡ first_row (head_rows image) = ap result_err same ∙ code_of_answer (head_rows image) (head_of image) in
     ap (λ (faults : List Fault). or_else (or_else faults (λ _. tail_faults image)) (λ _. faults_in (2 ∷ []) image))
-    (head_alone (first_row (head_rows image)) fault first)
+    (head_alone (first_row (head_rows image)) row first)
 
 -- page 0 is accepted: stage 1 is what is noted of the pages above the last one
 pub head_passed : (image : List ℕ) → first_row (head_rows image) ≡ None → faults_in (1 ∷ 2 ∷ []) image ≡ or_else (tail_faults image) (λ _. form_faults image)
@@ -297,20 +284,3 @@ module _ (before middle : List Fault → Type 0) (faults : List Fault) (empty : 
 pub last_stage : (image : List ℕ) (stage : ℕ) → faults_in (stage ∷ []) image ≡ stage_faults image stage
 unfolding faults_in
 last_stage image stage = or_else_nothing (stage_faults image stage)
-
--- All faults.
-
--- what a check of some stages found over a new `NamedList`
-module _ (image stages : List ℕ) (begun list : List Judgement) where
-  from_new : begun ≡ [] → NotesAll (HasNoted begun) (HasNoted list) (faults_in stages image) → NotesAll (HasNoted []) (HasNoted list) (faults_in stages image)
-  from_new new all = subst (λ (js : List Judgement). NotesAll (HasNoted js) (HasNoted list) (faults_in stages image)) new all
-
-  pub one_found : begun ≡ [] → NotesAll (HasNoted begun) (HasNoted list) (faults_in stages image) → AreOne list
-  one_found new all = all_one (faults_in stages image) list (faults_ascend image stages) (from_new new all)
-
-  pub none_found : begun ≡ [] → NotesAll (HasNoted begun) (HasNoted list) (faults_in stages image) → list ≡ [] → faults_in stages image ≡ []
-  none_found new all none = all_accepted (faults_in stages image) list (from_new new all) none
-
-  pub all_found : (error : AllError) → begun ≡ [] → NotesAll (HasNoted begun) (HasNoted list) (faults_in stages image) → IsSettled list error
-      → IsAllOf (faults_in stages image) error
-  all_found error new all settled = all_refused (faults_in stages image) list error (faults_ascend image stages) (from_new new all) settled

@@ -1,109 +1,69 @@
 -- The roles of a page, by its bytes.
-use Rattle.std.proofs.Common.{◌≡◌, ℕ, zero, suc, ◌<◌, ◌≤◌, Bool, true, false, cond, ◌⊎◌, List, length, arith, refl, sym, ◌∙◌, ap, subst, inl, inr}
-use Rattle.std.specs.Prelude.{◌==◌, ◌&&◌, ◌||◌, min, ◌-◌, ◌^◌}
+use Rattle.std.proofs.Common.{◌≡◌, ℕ, zero, suc, ◌<◌, ◌≤◌, true, false, List, length, arith, refl, sym, ◌∙◌, ap}
+use Rattle.std.specs.Prelude.{Option, Some, None, ◌==◌, ◌&&◌, min, ◌-◌, ◌^◌}
 use Rattle.std.specs.List.{list_any}
-use Rattle.std.proofs.lemmas.Bool.{cases_Bool, cases_eq, ne_eqb, or_from}
-use Rattle.std.proofs.lemmas.List.Folds.{list_all_at, list_any_at}
+use Rattle.std.proofs.lemmas.Bool.{ne_eqb}
+use Rattle.std.proofs.lemmas.List.Folds.{list_any_at}
 use Rattle.bdb_faults.specs.of_format.declared.kinds.Order.{Order}
+use Rattle.bdb_faults.specs.of_format.declared.pages.PageType.{PageType}
+use Rattle.bdb_faults.specs.of_format.declared.pages.PageType.TheVariants.{Free as FreePage, Hash as HashPage, HashMeta as HashMetaPage, BtreeMeta as BtreeMetaPage}
+use Rattle.bdb_faults.specs.of_format.declared.pages.PageType.TheVariants.{QueueMeta as QueueMetaPage}
 use Rattle.bdb_faults.specs.of_format.File.{File, file_of, page_at}
 use Rattle.bdb_faults.specs.of_format.Graph.{is_hash_meta, is_meta, is_spare}
-use Rattle.bdb_faults.specs.of_format.Numbers.{byte_at}
-use Rattle.bdb_faults.specs.of_format.Page.{NoType, PageType, HashPage}
-use Rattle.bdb_faults.specs.of_format.Reading.{abstract_page, hash_item_at, header_of, is_zero, page_as, page_type}
-use Rattle.bdb_faults.proofs.of_format.PageLemmas.{header_listed}
+use Rattle.bdb_faults.specs.of_format.Numbers.{four_at}
+use Rattle.bdb_faults.specs.of_format.Page.{NoType}
+use Rattle.bdb_faults.specs.of_format.Reading.{abstract_page, header_of, listed}
+use Rattle.bdb_image.specs.Told.{is_metadata, page_told, told_type}
+use Rattle.bdb_image.proofs.FitLemmas.{as_told}
 use Rattle.bdb_faults.proofs.of_format.ListLemmas.{none_of_list}
-use Rattle.bdb_faults.proofs.of_format.GraphLemmas.{zero_page, typed_page}
 use Rattle.bdb_faults.proofs.of_format.FileLemmas.{pages_counted}
-
--- Bytes as a page.
-
--- a page with a byte that isn't 0 is no zero page
-some_byte : (page : List ℕ) (byte : ℕ) → 512 ≤ length page → byte_at page 25 ≡ byte → (byte == 0) ≡ false → is_zero page ≡ false
-some_byte page byte long is other = list_all_at (λ b. b == 0) page 25 0 (omega arith) (ap (λ b. b == 0) is ∙ other)
-
-page_of_byte : (order : Order) (page : List ℕ) (byte : ℕ) → 512 ≤ length page → byte_at page 25 ≡ byte → (byte == 0) ≡ false
-    → abstract_page order page ≡ page_as order page (page_type byte)
-page_of_byte order page byte long is other = typed_page order page (some_byte page byte long is other) ∙ ap (λ b. page_as order page (page_type b)) is
-
--- Tests of a type that fail.
-
-test_of : (f : PageType → Bool) (b : Bool) (s t : PageType) → f s ≡ false → f t ≡ false → f (cond b s t) ≡ false
-test_of f true s t first second = first
-test_of f false s t first second = second
-
--- the type isn't this one
-test_past : (f : PageType → Bool) (b : Bool) (s t : PageType) → b ≡ false → f t ≡ false → f (cond b s t) ≡ false
-test_past f true s t none second = absurd cc
-test_past f false s t none second = second
-
-no_meta_type : (order : Order) (page : List ℕ) (byte : ℕ) → (byte == 8) ≡ false → (byte == 9) ≡ false → (byte == 10) ≡ false
-    → is_meta (page_as order page (page_type byte)) ≡ false
-no_meta_type order page byte table tree queue = grind (arith, test_of, test_past)
-
-no_hash_meta_type : (order : Order) (page : List ℕ) (byte : ℕ) → (byte == 8) ≡ false → is_hash_meta (page_as order page (page_type byte)) ≡ false
-no_hash_meta_type order page byte table = grind (arith, test_of, test_past)
-
-no_spare_type : (order : Order) (page : List ℕ) (byte : ℕ) → (byte == 0) ≡ false → (byte == 2) ≡ false → (byte == 13) ≡ false
-    → is_spare (page_as order page (page_type byte)) ≡ false
-no_spare_type order page byte free hash sorted = grind (arith, test_past, test_of)
 
 -- Metadata.
 
-no_meta : (order : Order) (page : List ℕ) (byte : ℕ) → byte_at page 25 ≡ byte → (byte == 8) ≡ false → (byte == 9) ≡ false → (byte == 10) ≡ false
-    → is_meta (abstract_page order page) ≡ false
-no_meta order page byte is table tree queue = grind (arith, cases_Bool, zero_page, typed_page, no_meta_type)
+meta_as : (order : Order) (page : List ℕ) (type : Option PageType) → is_metadata type ≡ is_meta (page_told order page type)
+meta_as order page None = refl
+meta_as order page (Some HashMetaPage) = refl
+meta_as order page (Some BtreeMetaPage) = refl
+meta_as order page (Some QueueMetaPage) = refl
+meta_as order page (Some t) = refl
 
-meta_by : (order : Order) (page : List ℕ) (byte : ℕ) → 512 ≤ length page → byte_at page 25 ≡ byte → is_meta (abstract_page order page)
-    ≡ (byte == 8 || byte == 9 || byte == 10)
-meta_by order page byte long is =
-    elim (cases_eq byte 8) [
-      | inl table ↦ subst (λ b. byte_at page 25 ≡ b → is_meta (abstract_page order page) ≡ (b == 8 || b == 9 || b == 10)) (sym table)
-          (λ same. ap is_meta (page_of_byte order page 8 long same refl)) is
-      | inr no_table ↦
-          elim (cases_eq byte 9) [
-            | inl tree ↦ subst (λ b. byte_at page 25 ≡ b → is_meta (abstract_page order page) ≡ (b == 8 || b == 9 || b == 10)) (sym tree)
-                (λ same. ap is_meta (page_of_byte order page 9 long same refl)) is
-            | inr no_tree ↦
-                elim (cases_eq byte 10) [
-                  | inl queue ↦ subst (λ b. byte_at page 25 ≡ b → is_meta (abstract_page order page) ≡ (b == 8 || b == 9 || b == 10)) (sym queue)
-                      (λ same. ap is_meta (page_of_byte order page 10 long same refl)) is
-                  | inr no_queue ↦
-                      no_meta order page byte is (ne_eqb _ _ no_table) (ne_eqb _ _ no_tree) (ne_eqb _ _ no_queue)
-                      ∙ sym (or_from (byte == 8 || byte == 9) (byte == 10) (or_from (byte == 8) (byte == 9) (ne_eqb _ _ no_table) (ne_eqb _ _ no_tree))
-                      (ne_eqb _ _ no_queue))
-                ]
-          ]
-    ]
+pub meta_is : (order : Order) (page : List ℕ) → is_metadata (told_type page) ≡ is_meta (abstract_page order page)
+meta_is order page = as_told is_meta order page (told_type page) _ refl (meta_as order page (told_type page))
 
-pub meta_is : (order : Order) (page : List ℕ) → 512 ≤ length page → is_meta (abstract_page order page)
-    ≡ (byte_at page 25 == 8 || byte_at page 25 == 9 || byte_at page 25 == 10)
-meta_is order page long = meta_by order page (byte_at page 25) long refl
+pub table_is : (order : Order) (page : List ℕ) → told_type page ≡ Some HashMetaPage → true ≡ is_hash_meta (abstract_page order page)
+table_is order page is = as_told is_hash_meta order page (Some HashMetaPage) _ is refl
 
-pub hash_meta_is : (order : Order) (page : List ℕ) → 512 ≤ length page → is_hash_meta (abstract_page order page) ≡ (byte_at page 25 == 8)
-hash_meta_is order page long = grind (arith, cases_eq, page_of_byte, cases_Bool, zero_page, typed_page, no_hash_meta_type, ne_eqb)
+table_as : (order : Order) (page : List ℕ) (type : Option PageType) → (type ≡ Some HashMetaPage → ⊥) → false ≡ is_hash_meta (page_told order page type)
+table_as order page None other = refl
+table_as order page (Some HashMetaPage) other = absurd (other refl)
+table_as order page (Some t) other = refl
+
+pub table_is_not : (order : Order) (page : List ℕ) → (told_type page ≡ Some HashMetaPage → ⊥) → false ≡ is_hash_meta (abstract_page order page)
+table_is_not order page other = as_told is_hash_meta order page (told_type page) _ refl (table_as order page (told_type page) other)
 
 -- Spare pages.
 
-pub spare_zero : (order : Order) (page : List ℕ) → is_zero page ≡ true → is_spare (abstract_page order page) ≡ true
-spare_zero order page empty = ap is_spare (zero_page order page empty)
+pub spare_zero : (order : Order) (page : List ℕ) → told_type page ≡ None → true ≡ is_spare (abstract_page order page)
+spare_zero order page is = as_told is_spare order page None _ is refl
 
-pub spare_free : (order : Order) (page : List ℕ) → is_zero page ≡ false → byte_at page 25 ≡ 0 → is_spare (abstract_page order page)
-    ≡ ((header_of order page).next == 0)
-spare_free order page some is = ap is_spare (typed_page order page some) ∙ ap (λ b. is_spare (page_as order page (page_type b))) is
+pub spare_free : (order : Order) (page : List ℕ) → told_type page ≡ Some FreePage → (four_at order page 16 == 0) ≡ is_spare (abstract_page order page)
+spare_free order page is = as_told is_spare order page (Some FreePage) _ is refl
 
-spare_table : (order : Order) (page : List ℕ) → is_spare (page_as order page HashPage)
-    ≡ ((header_of order page).entries == 0 && (header_of order page).previous == 0 && (header_of order page).next == 0)
-spare_table order page = ap (λ header. header.entries == 0 && header.previous == 0 && header.next == 0) (header_listed order page (hash_item_at order page))
+pub spare_hash : (order : Order) (page : List ℕ) → told_type page ≡ Some HashPage
+    → ((header_of order page).entries == 0 && (header_of order page).previous == 0 && (header_of order page).next == 0) ≡ is_spare (abstract_page order page)
+unfolding listed
+spare_hash order page is = as_told is_spare order page (Some HashPage) _ is refl
 
--- either type of hash page
-pub spare_hash : (order : Order) (page : List ℕ) (byte : ℕ) → is_zero page ≡ false → byte_at page 25 ≡ byte → (byte ≡ 2) ⊎ (byte ≡ 13)
-    → is_spare (abstract_page order page) ≡ ((header_of order page).entries == 0 && (header_of order page).previous == 0 && (header_of order page).next == 0)
-spare_hash order page byte some is hash = grind (arith, typed_page, spare_table)
+spare_as : (order : Order) (page : List ℕ) (type : Option PageType) → (type ≡ None → ⊥) → (type ≡ Some FreePage → ⊥) → (type ≡ Some HashPage → ⊥)
+    → false ≡ is_spare (page_told order page type)
+spare_as order page None zeros free hash = absurd (zeros refl)
+spare_as order page (Some FreePage) zeros free hash = absurd (free refl)
+spare_as order page (Some HashPage) zeros free hash = absurd (hash refl)
+spare_as order page (Some t) zeros free hash = refl
 
-pub spare_other : (order : Order) (page : List ℕ) → is_zero page ≡ false → (byte_at page 25 ≡ 0 → ⊥) → (byte_at page 25 ≡ 2 → ⊥) → (byte_at page 25 ≡ 13 → ⊥)
-    → is_spare (abstract_page order page) ≡ false
-spare_other order page some free hash sorted =
-    ap is_spare (typed_page order page some) ∙ no_spare_type order page (byte_at page 25) (ne_eqb _ _ free) (ne_eqb _ _ hash) (ne_eqb _ _ sorted)
+pub spare_other : (order : Order) (page : List ℕ) → (told_type page ≡ None → ⊥) → (told_type page ≡ Some FreePage → ⊥)
+    → (told_type page ≡ Some HashPage → ⊥) → false ≡ is_spare (abstract_page order page)
+spare_other order page zeros free hash = as_told is_spare order page (told_type page) _ refl (spare_as order page (told_type page) zeros free hash)
 
 -- The file.
 

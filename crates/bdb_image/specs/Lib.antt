@@ -4,6 +4,7 @@ pub mod Formed
 pub mod Linked
 pub mod Metas
 pub mod Noted
+pub mod Told
 pub use Rattle.bdb_faults.specs as of_faults
 pub use Rattle.bdb_slots.specs.of_form as of_form
 pub use Rattle.bdb_faults.specs.of_format as of_format

@@ -1,7 +1,7 @@
 ghost use Rattle.std.specs.Prelude.{◌≡◌, ◌≢◌, ◌<◌, ◌≤◌, ◌+◌, ◌^◌, if◌then◌else◌, ℕ, IfOk, OnOk, length};
 ghost use Rattle.std.specs.List.{list_any, range_with_len};
 ghost use Rattle.std.specs.Option.{option_map};
-ghost use Rattle.bdb_faults.specs.Rows.{reference_code};
+ghost use Rattle.bdb_faults.specs.of_format.RowCodes.{reference_row_code};
 ghost use Rattle.bdb_image.specs.Buckets.{AreFits, AreLasts, fails_as_bucket, run_refs};
 ghost use Rattle.bdb_image.specs.Noted.{misfits_of};
 ghost use Rattle.bdb_faults.specs.of_format.File.{File, file_of};
@@ -47,7 +47,7 @@ impl BucketFits {
     }
 
     /// With which rows some of the references to a run of pages fail.
-    #[tactic(auto, using(crate::proofs::BucketLemmas::run_misfits, crate::proofs::Below::last_page))]
+    #[tactic(auto, using(crate::proofs::BucketLemmas::run_misfits))]
     pub fn misfits(&self, formed: &Formed<'_>, run: Run) -> Misfits
         requires fits { AreFits (file_of formed.now) self.now }
         requires some { 0 < run.len }
@@ -63,10 +63,10 @@ impl BucketFits {
 
 /// The row with which a page fails as a bucket. Above page 0 a page without a number is a zero page, which fits, so the
 /// bytes of the pages that a table has in reserve aren't all looked at.
-#[tactic(auto, using(crate::proofs::BucketLemmas::unnumbered_fits, crate::proofs::Below::last_page, crate::proofs::Below::long_page))]
+#[tactic(auto, using(crate::proofs::BucketLemmas::unnumbered_pages))]
 fn row_of(formed: &Formed<'_>, page: u32) -> Option<ReferenceRow>
     requires { page ≤ (file_of formed.now).last }
-    ensures { option_map reference_code result ≡ fit_code (file_of formed.now) 0 (record { place = 0; sort = Sort.Bucket; target = page }) }
+    ensures { option_map reference_row_code result ≡ fit_code (file_of formed.now) 0 (record { place = 0; sort = Sort.Bucket; target = page }) }
 {
     if page > 0 && u32_at(formed.page_bytes(page), 8, formed.head().order) == 0 {
         return None;

@@ -1,16 +1,16 @@
 ghost use Rattle.std.specs.Prelude.{◌≡◌, ◌≤◌, IsTrue, OnErr, OnOk, false};
 ghost use Rattle.std.specs.Option.{option_map};
 ghost use Rattle.bdb_faults.specs.Notes.{Notes};
-ghost use Rattle.bdb_faults.specs.Rows.{reference_code};
+ghost use Rattle.bdb_faults.specs.of_format.RowCodes.{reference_row_code};
 ghost use Rattle.bdb_image.specs.Fits.{asks_previous, is_of_type, page_rows};
 ghost use Rattle.bdb_image.specs.Noted.{both_misfits, misfit_faults, more_misfits, no_misfits};
 ghost use Rattle.bdb_faults.specs.of_format.File.{file_of, header_in};
-ghost use Rattle.bdb_faults.specs.of_format.References.{asked_by, asks_type, fit_code, has_type, is_asked};
+ghost use Rattle.bdb_faults.specs.of_format.References.{asked_by, asks_type, fit_code, is_asked};
 ghost use Rattle.bdb_faults.specs.of_format.Table.{first_row};
 
 use crate::Formed;
-use crate::formed_page::{FormedPage, is_one_of, page_at};
-use bdb_faults::{FaultSink, Reference, ReferenceRow, Row, Sort, note_if};
+use crate::formed_page::{FormedPage, page_at};
+use bdb_faults::{FaultSink, PageType, Reference, ReferenceRow, Row, Sort, has_type, note_if};
 use std::alloc::AllocError;
 use std::marker::Model;
 
@@ -56,7 +56,7 @@ impl Demand {
 
     /// The first row with which a page that is there falls short of what is asked.
     fn misfit(&self, page: &FormedPage) -> Option<ReferenceRow>
-        ensures { option_map reference_code result ≡ first_row (page_rows self.now page.now) }
+        ensures { option_map reference_row_code result ≡ first_row (page_rows self.now page.now) }
     {
         if !self.is_of_type(page) {
             Some(ReferenceRow::WrongKind)
@@ -72,7 +72,7 @@ impl Demand {
     fn is_of_type(&self, page: &FormedPage) -> bool
         ensures { result ≡ is_of_type self.now page.now }
     {
-        has_type(self.types, page.page_type()) || (self.or_zero && page.is_zero())
+        has_type(self.types, page.type_byte()) || (self.or_zero && page.is_zero())
     }
 
     fn is_of_level(&self, page: &FormedPage) -> bool
@@ -94,38 +94,34 @@ impl Demand {
     }
 }
 
-fn has_type(types: &[u8], page_type: Option<u8>) -> bool
-    ensures { result ≡ has_type types.now page_type }
-{
-    match page_type {
-        Some(page_type) => is_one_of(types, page_type),
-        None => false,
-    }
-}
-
 /// What a reference of this sort asks, by its holder and the holder's page.
 fn asked_by(holder: u32, page: &FormedPage, sort: Sort) -> Demand
     ensures { result ≡ asked_by holder page.now sort }
 {
     match sort {
-        Sort::Free => Demand::of_types(&[0]),
+        Sort::Free => Demand::of_types(&[PageType::FREE]),
         Sort::Root => Demand::of_types(page.root_types()),
         Sort::Bucket => Demand {
-            types: &[2, 13],
+            types: &[PageType::UNSORTED_HASH, PageType::HASH],
             or_zero: true,
             level: None,
             previous: Some(0),
         },
-        Sort::HashNext => Demand::after(&[2, 13], holder),
+        Sort::HashNext => Demand::after(&[PageType::UNSORTED_HASH, PageType::HASH], holder),
         Sort::Child => Demand {
             types: page.child_types(),
             or_zero: false,
             level: Some(u32::from(page.level()).saturating_sub(1)),
             previous: None,
         },
-        Sort::OverflowHead => Demand::after(&[7], 0),
-        Sort::OverflowNext => Demand::after(&[7], holder),
-        Sort::DuplicateRoot => Demand::of_types(&[3, 4, 6, 12]),
+        Sort::OverflowHead => Demand::after(&[PageType::OVERFLOW], 0),
+        Sort::OverflowNext => Demand::after(&[PageType::OVERFLOW], holder),
+        Sort::DuplicateRoot => Demand::of_types(&[
+            PageType::INTERNAL,
+            PageType::RECNO_INTERNAL,
+            PageType::RECNO_LEAF,
+            PageType::DUP_LEAF,
+        ]),
     }
 }
 
@@ -133,7 +129,7 @@ fn asked_by(holder: u32, page: &FormedPage, sort: Sort) -> Demand
 #[tactic(auto, using(crate::proofs::FitLemmas::pages_named))]
 pub fn misfit(formed: &Formed, holder: u32, reference: Reference) -> Option<ReferenceRow>
     requires { holder ≤ (file_of formed.now).last }
-    ensures { option_map reference_code result ≡ fit_code (file_of formed.now) holder reference }
+    ensures { option_map reference_row_code result ≡ fit_code (file_of formed.now) holder reference }
 {
     if reference.target == 0 || reference.target > u64::from(formed.head().last) {
         return Some(ReferenceRow::OutOfRange);
@@ -166,7 +162,7 @@ impl Misfits {
 
     /// The rows after one more reference.
     pub fn with(self, misfit: Option<ReferenceRow>) -> Misfits
-        ensures { result ≡ more_misfits self (option_map reference_code misfit) }
+        ensures { result ≡ more_misfits self (option_map reference_row_code misfit) }
     {
         Misfits {
             target: self.target || matches!(misfit, Some(ReferenceRow::OutOfRange)),

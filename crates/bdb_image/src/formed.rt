@@ -1,11 +1,12 @@
 ghost use Rattle.std.specs.Prelude.{◌≡◌, ◌^◌, ◌<◌, ◌≤◌, IsTrue, length, None, true};
 ghost use Rattle.bdb_image.specs.Formed.{IsAccepted, IsFormed};
 ghost use Rattle.bdb_slots.specs.Plain.{ArePlain};
-ghost use Rattle.bdb_faults.specs.of_format.File.{page_bytes};
+ghost use Rattle.bdb_faults.specs.of_format.File.{file_of, page_bytes};
 ghost use Rattle.bdb_faults.specs.of_format.HeadOf.{head_of, is_page_size};
 ghost use Rattle.bdb_faults.specs.of_format.Rows.{form_code};
 
 use bdb_faults::Head;
+use bdb_meta::page_slice;
 use std::marker::Model;
 
 /// An image on which no row of the first two stages holds: its file is one that is read, and each of its
@@ -56,6 +57,7 @@ impl<'a> Formed<'a> {
     /// What page 0 says of the whole file.
     pub fn head(&self) -> Head
         ensures head { result ≡ head_of self.now }
+        ensures last { result.last ≡ (file_of self.now).last }
         ensures few { result.last < 2 ^ 21 }
         ensures formed { IsFormed self.now result }
     {
@@ -89,15 +91,13 @@ impl<'a> Formed<'a> {
 }
 
 /// The bytes of a page of an image whose page 0 is accepted.
-#[tactic(auto, using(crate::proofs::FormedLemmas::page_room, crate::proofs::FormedLemmas::page_length))]
-pub(crate) fn page_bytes<'a>(image: &'a [u8], head: &Head, number: u32) -> &'a [u8]
+#[tactic(auto, using(crate::proofs::FormedLemmas::page_room))]
+pub fn page_bytes<'a>(image: &'a [u8], head: &Head, number: u32) -> &'a [u8]
     requires head { IsAccepted image.now head.now }
     requires there { number < head.now.pages }
     ensures bytes { result.now ≡ page_bytes head.now image.now number }
     ensures size { length result.now ≡ head.now.page_size }
     ensures legal { IsTrue (is_page_size (length result.now)) }
 {
-    let size = head.page_size as usize;
-    let start = number as usize * size;
-    &image[start..start + size]
+    page_slice(image, head.page_size, number)
 }

@@ -1,14 +1,15 @@
-ghost use Rattle.std.specs.Prelude.{◌≡◌, ◌≤◌, ◌==◌, ◌∷◌, [], length};
-ghost use Rattle.std.specs.List.{list_any};
-ghost use Rattle.bdb_image.specs.Fits.{IsLooked, is_headed};
+ghost use Rattle.std.specs.Prelude.{◌≡◌, ◌≤◌, ◌∷◌, [], if◌then◌else◌, false, length};
+ghost use Rattle.bdb_image.specs.Told.{is_headed, is_metadata, told_type};
 ghost use Rattle.bdb_faults.specs.of_format.Chains.{piece_in};
 ghost use Rattle.bdb_faults.specs.of_format.File.{file_of, header_in, page_at, type_in};
 ghost use Rattle.bdb_faults.specs.of_format.Graph.{is_hash_meta, is_meta, is_spare};
+ghost use Rattle.bdb_faults.specs.of_format.Numbers.{four_at, has_bit};
+ghost use Rattle.bdb_faults.specs.of_format.Reading.{is_zero};
 ghost use Rattle.bdb_faults.specs.of_format.References.{child_types, has_type, is_zero_page, root_types};
 
 use crate::Formed;
-use bdb_faults::Order;
-use bdb_meta::{header, u16_at, u32_at};
+use bdb_faults::{Order, PageType, keyed_types, record_types};
+use bdb_meta::{header, page_type, u16_at, u32_at};
 use bdb_slots::is_zero_at;
 use std::marker::Model;
 
@@ -17,20 +18,20 @@ use std::marker::Model;
 pub struct FormedPage<'a> {
     bytes: &'a [u8],
     order: Order,
-    // Whether all its bytes are 0, which its number tells.
-    is_zero: bool,
+    // None of a zero page.
+    page_type: Option<PageType>,
 }
 
 impl<'a> Model for FormedPage<'a> {
     ghost use Rattle.bdb_faults.specs.of_format.Page.{Page};
     ghost use Rattle.bdb_faults.specs.of_format.Reading.{abstract_page};
-    ghost use Rattle.bdb_image.specs.Fits.{IsLooked};
+    ghost use Rattle.bdb_image.specs.Told.{IsLooked};
 
     ghost Value = { Page };
 
     ghost view = { λ v. abstract_page v.order v.bytes.now };
 
-    ghost invariant = { λ v. IsLooked v.bytes.now v.is_zero };
+    ghost invariant = { λ v. IsLooked v.bytes.now v.page_type };
 }
 
 /// A page up to the last one.
@@ -44,23 +45,58 @@ pub fn page_at<'a>(formed: &Formed<'a>, number: u32) -> FormedPage<'a>
     FormedPage {
         bytes,
         order,
-        is_zero: is_zero_at(bytes, number, order),
+        page_type: told_type(bytes, number, order),
     }
 }
 
-/// Whether a type is one of these.
-pub(crate) fn is_one_of(types: &[u8], byte: u8) -> bool
-    ensures { result ≡ list_any (λ type. type == byte) types.now }
+// The type of a page that tells its own number; a zero page has none.
+fn told_type(page: &[u8], number: u32, order: Order) -> Option<PageType>
+    requires header { 26 ≤ length page.now }
+    requires told { is_zero page.now ≡ false → four_at order page.now 8 ≡ number }
+    ensures { result ≡ told_type page.now }
 {
-    types.iter().any(|one| *one == byte)
+    if is_zero_at(page, number, order) {
+        None
+    } else {
+        Some(page_type(page))
+    }
 }
 
-/// Whether a page begins with the fields of a header: it isn't a zero page, metadata or a page of a queue.
-fn is_headed(page: &[u8], empty: bool) -> bool
-    requires looked { IsLooked page.now empty }
-    ensures { result ≡ is_headed page.now }
+// Whether pages of a type begin with the fields of a header.
+fn is_headed(page_type: Option<PageType>) -> bool
+    ensures { result ≡ is_headed page_type }
 {
-    !empty && matches!(page[25], 0 | 2..=7 | 12 | 13)
+    !matches!(
+        page_type,
+        None | Some(
+            PageType::HashMeta
+                | PageType::BtreeMeta
+                | PageType::QueueMeta
+                | PageType::Queue
+                | PageType::Other
+        )
+    )
+}
+
+// Whether a type is one of metadata.
+fn is_metadata(page_type: Option<PageType>) -> bool
+    ensures { result ≡ is_metadata page_type }
+{
+    matches!(
+        page_type,
+        Some(PageType::HashMeta | PageType::BtreeMeta | PageType::QueueMeta)
+    )
+}
+
+// The types that the root of a tree with these flags may have: those of a recno where it is one.
+fn root_types(flags: u32) -> &'static [u8]
+    ensures { result.now ≡ (if has_bit flags 2 then 4 ∷ 6 ∷ [] else 3 ∷ 5 ∷ []) }
+{
+    if flags & 2 != 0 {
+        &[PageType::RECNO_INTERNAL, PageType::RECNO_LEAF]
+    } else {
+        &[PageType::INTERNAL, PageType::LEAF]
+    }
 }
 
 impl<'a> FormedPage<'a> {
@@ -69,19 +105,18 @@ impl<'a> FormedPage<'a> {
     pub(crate) fn is_zero(&self) -> bool
         ensures { result ≡ is_zero_page self.now }
     {
-        self.is_zero
+        self.page_type.is_none()
     }
 
-    /// Its type; a zero page has none.
-    #[tactic(auto, using(crate::proofs::FitLemmas::typed, crate::proofs::FitLemmas::untyped, crate::proofs::FitLemmas::zero_type))]
-    pub(crate) fn page_type(&self) -> Option<u8>
+    /// Its type byte; a zero page has none.
+    #[tactic(auto, using(crate::proofs::FitLemmas::type_is))]
+    pub(crate) fn type_byte(&self) -> Option<u8>
         ensures { result ≡ type_in self.now }
     {
-        let byte = self.bytes[25];
-        if self.is_zero || !is_one_of(&[0, 2, 3, 4, 5, 6, 7, 8, 9, 10, 11, 12, 13], byte) {
-            return None;
+        match self.page_type {
+            None | Some(PageType::Other) => None,
+            Some(_) => Some(self.bytes[25]),
         }
-        Some(byte)
     }
 
     /// The page before it; 0 where it has no header.
@@ -89,7 +124,7 @@ impl<'a> FormedPage<'a> {
     pub fn previous(&self) -> u32
         ensures { result ≡ (header_in self.now).previous }
     {
-        if is_headed(self.bytes, self.is_zero) {
+        if is_headed(self.page_type) {
             u32_at(self.bytes, 12, self.order)
         } else {
             0
@@ -101,7 +136,7 @@ impl<'a> FormedPage<'a> {
     pub fn next(&self) -> u32
         ensures { result ≡ (header_in self.now).next }
     {
-        if is_headed(self.bytes, self.is_zero) {
+        if is_headed(self.page_type) {
             u32_at(self.bytes, 16, self.order)
         } else {
             0
@@ -113,7 +148,7 @@ impl<'a> FormedPage<'a> {
     pub fn entries(&self) -> u16
         ensures { result ≡ (header_in self.now).entries }
     {
-        if is_headed(self.bytes, self.is_zero) {
+        if is_headed(self.page_type) {
             u16_at(self.bytes, 20, self.order)
         } else {
             0
@@ -125,7 +160,7 @@ impl<'a> FormedPage<'a> {
     pub(crate) fn level(&self) -> u8
         ensures { result ≡ (header_in self.now).level }
     {
-        if is_headed(self.bytes, self.is_zero) {
+        if is_headed(self.page_type) {
             self.bytes[24]
         } else {
             0
@@ -137,7 +172,7 @@ impl<'a> FormedPage<'a> {
     pub fn is_overflow(&self) -> bool
         ensures { result ≡ has_type (7 ∷ []) (type_in self.now) }
     {
-        self.bytes[25] == 7
+        matches!(self.page_type, Some(PageType::Overflow))
     }
 
     /// How many bytes of a value it holds; none where it isn't a page of a chain.
@@ -145,42 +180,34 @@ impl<'a> FormedPage<'a> {
     pub fn piece_len(&self) -> u32
         ensures { result ≡ length (piece_in self.now) }
     {
-        if self.is_zero || self.bytes[25] != 7 {
-            return 0;
+        match self.page_type {
+            Some(PageType::Overflow) => {
+                let told = usize::from(u16_at(self.bytes, 22, self.order));
+                told.min(self.bytes.len() - 26) as u32
+            }
+            _ => 0,
         }
-        let told = usize::from(u16_at(self.bytes, 22, self.order));
-        told.min(self.bytes.len() - 26) as u32
     }
 
-    /// The types that the root of a tree may have, where this is btree metadata: those of a recno where it is one.
-    #[tactic(auto, using(crate::proofs::FitLemmas::zero_root, crate::proofs::FitLemmas::no_root))]
+    /// The types that the root of a tree may have, where this is btree metadata.
+    #[tactic(auto, using(crate::proofs::FitLemmas::tree_root, crate::proofs::FitLemmas::no_root))]
     pub(crate) fn root_types(&self) -> &'static [u8]
         ensures { result.now ≡ root_types self.now }
     {
-        if self.is_zero {
-            return &[];
-        }
-        match self.bytes[25] {
-            9 if u32_at(self.bytes, 48, self.order) & 2 != 0 => &[4, 6],
-            9 => &[3, 5],
+        match self.page_type {
+            Some(PageType::BtreeMeta) => root_types(u32_at(self.bytes, 48, self.order)),
             _ => &[],
         }
     }
 
-    /// The types that a page below may have, where this is an internal page: those of a leaf where this has level 2.
+    /// The types that a page below may have, where this is an internal page.
     #[tactic(auto, using(crate::proofs::FitLemmas::types_of_children))]
     pub(crate) fn child_types(&self) -> &'static [u8]
         ensures { result.now ≡ child_types self.now }
     {
-        if self.is_zero {
-            return &[];
-        }
-        let is_lowest = self.bytes[24] == 2;
-        match self.bytes[25] {
-            3 if is_lowest => &[5, 12],
-            3 => &[3],
-            4 if is_lowest => &[6],
-            4 => &[4],
+        match self.page_type {
+            Some(PageType::Internal) => keyed_types(self.bytes[24]),
+            Some(PageType::RecnoInternal) => record_types(self.bytes[24]),
             _ => &[],
         }
     }
@@ -193,16 +220,15 @@ impl<'a> FormedPage<'a> {
     pub fn is_meta(&self) -> bool
         ensures { result ≡ is_meta self.now }
     {
-        let byte = self.bytes[25];
-        byte == 8 || byte == 9 || byte == 10
+        is_metadata(self.page_type)
     }
 
     /// Whether it's the metadata of a hash table.
-    #[tactic(auto, using(crate::proofs::RoleLemmas::hash_meta_is))]
+    #[tactic(auto, using(crate::proofs::RoleLemmas::table_is, crate::proofs::RoleLemmas::table_is_not))]
     pub fn is_hash_meta(&self) -> bool
         ensures { result ≡ is_hash_meta self.now }
     {
-        self.bytes[25] == 8
+        matches!(self.page_type, Some(PageType::HashMeta))
     }
 
     /// Whether a table may hold it in reserve, as long as no reference names it.
@@ -210,13 +236,13 @@ impl<'a> FormedPage<'a> {
     pub fn is_spare(&self) -> bool
         ensures { result ≡ is_spare self.now }
     {
-        if self.is_zero {
-            return true;
-        }
-        let header = header(self.bytes, self.order);
-        match self.bytes[25] {
-            0 => header.next == 0,
-            2 | 13 => header.entries == 0 && header.previous == 0 && header.next == 0,
+        match self.page_type {
+            None => true,
+            Some(PageType::Free) => u32_at(self.bytes, 16, self.order) == 0,
+            Some(PageType::Hash) => {
+                let header = header(self.bytes, self.order);
+                header.entries == 0 && header.previous == 0 && header.next == 0
+            }
             _ => false,
         }
     }

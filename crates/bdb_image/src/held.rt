@@ -31,7 +31,7 @@ pub fn references<'a, L: Ledger>(
 }
 
 /// The references that a page holds, without a step.
-#[tactic(auto, using(crate::proofs::HeldLemmas::refs_of_page, crate::proofs::Below::last_page))]
+#[tactic(auto, using(crate::proofs::HeldLemmas::refs_of_page))]
 fn references_of<'a>(formed: &Formed<'a>, page: u32) -> References<'a>
     requires { page ≤ (file_of formed.now).last }
     ensures { result ≡ refs (file_of formed.now) page }

@@ -3,7 +3,6 @@
 
 mod bucket_fits;
 mod buckets;
-mod cases;
 mod fits;
 mod formed;
 mod formed_page;
@@ -14,29 +13,112 @@ mod open;
 mod page;
 mod plain;
 
-pub use bdb_faults::{
-    AllError, BtreeMeta, Bytes, CheckError, Fault, FaultSink, FileKind, First, HashMeta, Head,
-    Header, Kind, NamedList, Order, OwnershipRow, QueueMeta, ReachRow, Reference, Row, Settings,
-    Sort, Steps, StructureRow, Unsupported, Verdict, note_if, number_in, plain_settings,
-    refused_by,
-};
-pub use bdb_meta::{
-    Content, DupBlocks, HashItem, InternalItem, InternalKey, LeafItem, bucket_of, compare, hash5,
-    hash5_after, index_end, known_hash_item, known_internal_item, known_leaf_item, offset_at,
-    page_of, put_btree_meta, put_hash_meta, put_header, put_queue_meta, put_u16, put_u32, u16_at,
-    u32_at,
-};
-pub use bdb_slots::{
-    DupLeafKind, DupLeafView, HashKind, HashView, InternalView, Items, LeafKind, LeafView,
-    MetaView, PagePairs, PageView, Pair, QueueView, RecnoInternalView, RecnoLeafKind,
-    RecnoLeafView, form, is_zero, known_form, known_queue_form,
-};
+pub use bdb_faults::AllError;
+pub use bdb_faults::BtreeMeta;
+pub use bdb_faults::Bytes;
+pub use bdb_faults::CheckError;
+pub use bdb_faults::ContentsRow;
+pub use bdb_faults::Fault;
+pub use bdb_faults::FaultSink;
+pub use bdb_faults::FileKind;
+pub use bdb_faults::First;
+pub use bdb_faults::FirstError;
+pub use bdb_faults::HashMeta;
+pub use bdb_faults::Head;
+pub use bdb_faults::Header;
+pub use bdb_faults::Judge;
+pub use bdb_faults::Kind;
+pub use bdb_faults::NamedList;
+pub use bdb_faults::Order;
+pub use bdb_faults::OwnershipRow;
+pub use bdb_faults::PageType;
+pub use bdb_faults::QueueMeta;
+pub use bdb_faults::ReachRow;
+pub use bdb_faults::Reference;
+pub use bdb_faults::Row;
+pub use bdb_faults::Settings;
+pub use bdb_faults::Sort;
+pub use bdb_faults::Steps;
+pub use bdb_faults::StructureRow;
+pub use bdb_faults::Verdict;
+pub use bdb_faults::check_error;
+pub use bdb_faults::has_type;
+pub use bdb_faults::judged;
+pub use bdb_faults::keyed_types;
+pub use bdb_faults::note_if;
+pub use bdb_faults::number_in;
+pub use bdb_faults::plain_settings;
+pub use bdb_faults::record_types;
+pub use bdb_meta::Content;
+pub use bdb_meta::DupBlocks;
+pub use bdb_meta::HashItem;
+pub use bdb_meta::InternalItem;
+pub use bdb_meta::InternalKey;
+pub use bdb_meta::LeafItem;
+pub use bdb_meta::bucket_of;
+pub use bdb_meta::compare;
+pub use bdb_meta::hash5;
+pub use bdb_meta::hash5_after;
+pub use bdb_meta::index_end;
+pub use bdb_meta::known_hash_item;
+pub use bdb_meta::known_internal_item;
+pub use bdb_meta::known_leaf_item;
+pub use bdb_meta::offset_at;
+pub use bdb_meta::page_of;
+pub use bdb_meta::page_slice;
+pub use bdb_meta::page_type;
+pub use bdb_meta::put_btree_meta;
+pub use bdb_meta::put_hash_meta;
+pub use bdb_meta::put_header;
+pub use bdb_meta::put_queue_meta;
+pub use bdb_meta::put_u16;
+pub use bdb_meta::put_u32;
+pub use bdb_meta::records_per_page;
+pub use bdb_meta::slot_size;
+pub use bdb_meta::u16_at;
+pub use bdb_meta::u32_at;
+pub use bdb_slots::ContentKind;
+pub use bdb_slots::DupLeafView;
+pub use bdb_slots::EndKind;
+pub use bdb_slots::Entries;
+pub use bdb_slots::EntryLeafKind;
+pub use bdb_slots::HashKind;
+pub use bdb_slots::HashView;
+pub use bdb_slots::IndexedView;
+pub use bdb_slots::InternalKind;
+pub use bdb_slots::InternalView;
+pub use bdb_slots::Items;
+pub use bdb_slots::LeafKind;
+pub use bdb_slots::LeafView;
+pub use bdb_slots::MetaView;
+pub use bdb_slots::PageKind;
+pub use bdb_slots::PagePairs;
+pub use bdb_slots::PageView;
+pub use bdb_slots::Pair;
+pub use bdb_slots::QueueView;
+pub use bdb_slots::RecnoInternalKind;
+pub use bdb_slots::RecnoInternalView;
+pub use bdb_slots::RecnoLeafView;
+pub use bdb_slots::Records;
+pub use bdb_slots::SortedData;
+pub use bdb_slots::form;
+pub use bdb_slots::is_zero;
+pub use bdb_slots::known_form;
+pub use bdb_slots::known_queue_form;
 pub use bucket_fits::BucketFits;
-pub use buckets::{Buckets, Run};
-pub use fits::{Misfits, misfit};
+pub use buckets::Buckets;
+pub use buckets::Run;
+pub use fits::Misfits;
+pub use fits::misfit;
 pub use formed::Formed;
-pub use formed_page::{FormedPage, page_at};
+pub use formed::page_bytes;
+pub use formed_page::FormedPage;
+pub use formed_page::page_at;
 pub use held::references;
 pub use listing::References;
-pub use meta::{Meta, meta_at, metas_of};
-pub use open::{open_all, open_image};
+pub use meta::Meta;
+pub use meta::meta_at;
+pub use meta::metas_of;
+pub use open::open_all;
+pub use open::open_by;
+pub use open::open_image;

@@ -1,16 +1,15 @@
-ghost use Rattle.std.specs.Prelude.{◌≡◌, ◌≤◌, IfOk, IsTrue, Some, length};
+ghost use Rattle.std.specs.Prelude.{◌≡◌, ◌≤◌, IfOk, IsTrue, length};
 ghost use Rattle.std.specs.Option.{option_map};
 ghost use Rattle.bdb_image.specs.Linked.{meta_pages};
 ghost use Rattle.bdb_image.specs.Metas.{meta_in, meta_seen};
 ghost use Rattle.bdb_faults.specs.of_format.File.{file_of, page_at};
 ghost use Rattle.bdb_faults.specs.of_format.HeadOf.{is_page_size};
-ghost use Rattle.bdb_faults.specs.of_format.Numbers.{byte_at};
 ghost use Rattle.bdb_faults.specs.of_format.Reading.{abstract_page};
 
 use crate::Formed;
 use crate::formed_page::page_at;
-use bdb_faults::{BtreeMeta, HashMeta, Order, QueueMeta};
-use bdb_meta::{btree_fields, hash_fields, queue_fields};
+use bdb_faults::{BtreeMeta, HashMeta, Order, PageType, QueueMeta};
+use bdb_meta::{btree_fields, hash_fields, page_type, queue_fields};
 use std::alloc::{AllocError, Global};
 
 /// The fields of a metadata page.
@@ -22,7 +21,6 @@ pub enum Meta {
 }
 
 /// The numbers of the metadata pages of an image, ascending, 4 bytes for each in a list that grows.
-#[tactic(auto, using(crate::proofs::Below::last_page))]
 pub fn metas_of(alloc: Global, formed: &Formed) -> Result<Vec<u32>, AllocError>
     ensures { IfOk result (λ metas. metas.items ≡ meta_pages (file_of formed.now)) }
 {
@@ -36,7 +34,7 @@ pub fn metas_of(alloc: Global, formed: &Formed) -> Result<Vec<u32>, AllocError>
 }
 
 /// The fields of a page, if it's metadata.
-#[tactic(auto, using(crate::proofs::MetaLemmas::meta_of_page, crate::proofs::Below::last_page))]
+#[tactic(auto, using(crate::proofs::MetaLemmas::meta_of_page))]
 pub fn meta_at(formed: &Formed, number: u32) -> Option<Meta>
     requires { number ≤ (file_of formed.now).last }
     ensures { option_map meta_seen result ≡ meta_in (page_at (file_of formed.now) number) }
@@ -44,30 +42,17 @@ pub fn meta_at(formed: &Formed, number: u32) -> Option<Meta>
     meta_on(formed.page_bytes(number), formed.head().order)
 }
 
-/// The fields of a page without a fault of form, if it's metadata. The type of most pages tells at a glance that they aren't.
-#[tactic(auto, using(crate::proofs::MetaLemmas::no_meta))]
+/// The fields of a page without a fault of form, if it's metadata: the one place where metadata is read again, without another
+/// judgement.
+#[tactic(auto, using(crate::proofs::MetaLemmas::fields_by_type))]
 pub(crate) fn meta_on(page: &[u8], order: Order) -> Option<Meta>
     requires { IsTrue (is_page_size (length page.now)) }
     ensures { option_map meta_seen result ≡ meta_in (abstract_page order page.now) }
 {
-    if page[25] < 8 || page[25] > 10 {
-        return None;
-    }
-    Some(fields_on(page, order))
-}
-
-/// The fields of a metadata page without a fault of form: the one place where metadata is read again, without another
-/// judgement.
-#[tactic(auto, using(crate::proofs::HeldLemmas::table_page, crate::proofs::HeldLemmas::tree_page, crate::proofs::MetaLemmas::queue_page))]
-fn fields_on(page: &[u8], order: Order) -> Meta
-    requires size { IsTrue (is_page_size (length page.now)) }
-    requires least { 8 ≤ byte_at page.now 25 }
-    requires most { byte_at page.now 25 ≤ 10 }
-    ensures { Some (meta_seen result) ≡ meta_in (abstract_page order page.now) }
-{
-    match page[25] {
-        8 => Meta::Hash(hash_fields(page, order)),
-        9 => Meta::Btree(btree_fields(page, order)),
-        _ => Meta::Queue(queue_fields(page, order)),
+    match page_type(page) {
+        PageType::HashMeta => Some(Meta::Hash(hash_fields(page, order))),
+        PageType::BtreeMeta => Some(Meta::Btree(btree_fields(page, order))),
+        PageType::QueueMeta => Some(Meta::Queue(queue_fields(page, order))),
+        _ => None,
     }
 }

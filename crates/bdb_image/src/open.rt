@@ -1,7 +1,7 @@
 ghost use Rattle.std.specs.Prelude.{◌≡◌, ◌≤◌, ◌^◌, [], ◌∷◌, ◌<◌, IfErr, IfOk, IsTrue, OnErr, OnOk, length, option_map, option_to_list, true};
 ghost use Rattle.std.specs.Result.{result_err};
-ghost use Rattle.bdb_faults.specs.All.{IsAllOf};
 ghost use Rattle.bdb_faults.specs.Notes.{NotesAll};
+ghost use Rattle.bdb_faults.specs.Refusals.{IsAllOf};
 ghost use Rattle.bdb_image.specs.Formed.{IsAccepted, IsRead};
 ghost use Rattle.bdb_image.specs.Noted.{page_faults};
 ghost use Rattle.bdb_slots.specs.Plain.{ArePlain, IsPlainIn};
@@ -10,49 +10,56 @@ ghost use Rattle.bdb_faults.specs.of_format.Rows.{form_code};
 ghost use Rattle.bdb_faults.specs.of_format.Verdict.{as_verdict, faults_in, form_faults, tail_faults, verdict_in};
 
 use crate::Formed;
-use crate::cases::verdict_on;
 use crate::formed::page_bytes;
-use crate::page::page_fault;
+use crate::page::page_row;
 use crate::plain::is_plain;
 use bdb_faults::{
-    AllError, FaultSink, FileRow, First, Head, NamedList, Row, Verdict, fault_of_form,
-    fault_of_head, note_if, refused_by,
+    AllError, FaultSink, FileRow, First, Head, Judge, NamedList, Row, Verdict, first_verdict,
+    judged, note_if,
 };
 use bdb_slots::is_zero;
 use std::alloc::{AllocError, Global};
 
-/// The image as one on which no row of the first two stages holds, or else its verdict. The pages are
-/// read where they lie; no memory is taken.
-pub fn open_image<'a>(_alloc: Global, image: &'a [u8]) -> Result<Formed<'a>, Verdict>
+/// The image as one on which no row of the first two stages holds. A refusal has what holds of the first of them that has
+/// any: page 0 has one row in stage 1 at most, and each page one in stage 2. The pages are read where they lie; no memory is
+/// taken but the judge's.
+pub fn open_by<'a, J: Judge + Drop>(
+    alloc: Global,
+    image: &'a [u8],
+) -> Result<Formed<'a>, J::Refusal>
+    requires { length image.now ≤ 2 ^ 30 }
+    ensures formed { IfOk result (λ formed. formed ≡ image.now) }
+    ensures accepted { OnOk result (faults_in (1 ∷ 2 ∷ []) image.now ≡ []) }
+    ensures refusal { IfErr result (J.refuses (faults_in (1 ∷ 2 ∷ []) image.now)) }
+    ensures want { IfErr result (λ refusal. J.wants_memory refusal ≡ true → IsTrue J.takes_memory) }
+{
+    let mut found = J::begin(alloc);
+    let answer = note_form(image, &mut found);
+    match judged(found, answer) {
+        Ok(read) => Ok(formed_by(image, read)),
+        Err(refusal) => Err(refusal),
+    }
+}
+
+/// The same, or else the verdict on the image.
+#[tactic(auto, using(bdb_faults::proofs::FirstLemmas::first_judged))]
+pub fn open_image<'a>(alloc: Global, image: &'a [u8]) -> Result<Formed<'a>, Verdict>
     requires { length image.now ≤ 2 ^ 30 }
     ensures formed { IfOk result (λ formed. formed ≡ image.now) }
     ensures accepted { OnOk result (faults_in (1 ∷ 2 ∷ []) image.now ≡ []) }
     ensures verdict { result_err result ≡ option_map as_verdict (verdict_in (1 ∷ 2 ∷ []) image.now) }
 {
-    let mut first = First::new();
-    let Ok(read) = note_form(image, &mut first) else {
-        unreachable!()
-    };
-    match first.fault() {
-        Some(fault) => Err(verdict_on(fault)),
-        None => Ok(formed_by(image, read)),
-    }
+    open_by::<First>(alloc, image).map_err(first_verdict)
 }
 
-/// The same, with all faults of the first of the two stages that has any: page by page and code by code, each once.
-/// Page 0 has one in stage 1 at most, and each page one in stage 2. `Memory` is want of memory for the list of them.
+/// The same, or else all that holds, page by page and row by row, each once. `Memory` is want of memory for the list of them.
 pub fn open_all<'a>(alloc: Global, image: &'a [u8]) -> Result<Formed<'a>, AllError>
     requires { length image.now ≤ 2 ^ 30 }
     ensures formed { IfOk result (λ formed. formed ≡ image.now) }
     ensures accepted { OnOk result (faults_in (1 ∷ 2 ∷ []) image.now ≡ []) }
     ensures refusal { IfErr result (IsAllOf (faults_in (1 ∷ 2 ∷ []) image.now)) }
 {
-    let mut found = NamedList::new(alloc);
-    let Ok(read) = note_form(image, &mut found) else {
-        return Err(AllError::Memory);
-    };
-    refused_by(found)?;
-    Ok(formed_by(image, read))
+    open_by::<NamedList>(alloc, image)
 }
 
 /// What is read of the pages while their form is tested.
@@ -84,13 +91,13 @@ fn note_form<F: FaultSink>(image: &[u8], found: &mut F) -> Result<Option<Read>, 
     ensures read { IfOk result (IsRead image.now) }
     ensures refused { OnErr result (IsTrue F.takes_memory) }
 {
-    match bdb_meta::head(image) {
+    match bdb_meta::checked_head(image) {
         Ok(head) => {
             let plain = note_pages(image, &head, found)?;
             Ok(Some(Read { head, plain }))
         }
-        Err(fault) => {
-            found.note(fault_of_head(fault))?;
+        Err(row) => {
+            found.note(Row::File(row), 0)?;
             Ok(None)
         }
     }
@@ -155,9 +162,9 @@ fn note_page<F: FaultSink>(
         (page_faults 2 number (option_to_list (form_code head.now number page.now)))) }
     ensures refused { OnErr result (IsTrue F.takes_memory) }
 {
-    match page_fault(page, head, number) {
-        Some(fault) => {
-            found.note(fault_of_form(fault, number))?;
+    match page_row(page, head, number) {
+        Some(row) => {
+            found.note(Row::Form(row), number)?;
             Ok(false)
         }
         None => Ok(plain && is_plain(page, head, number)),

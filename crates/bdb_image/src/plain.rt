@@ -1,17 +1,16 @@
-ghost use Rattle.std.specs.Prelude.{◌≡◌, ◌≢◌, ◌^◌, ◌<◌, IsTrue, None, length, true};
+ghost use Rattle.std.specs.Prelude.{◌≡◌, ◌≢◌, ◌^◌, ◌<◌, [], IsTrue, None, length, true};
 ghost use Rattle.std.specs.List.{All};
 ghost use Rattle.bdb_slots.specs.of_form.Seen.{page_seen};
-ghost use Rattle.bdb_slots.specs.Plain.{IsInline, IsPlain, IsPlainIn};
+ghost use Rattle.bdb_slots.specs.Plain.{IsPlain, IsPlainIn};
 ghost use Rattle.bdb_faults.specs.of_format.HeadOf.{is_page_size};
 ghost use Rattle.bdb_faults.specs.of_format.Reading.{abstract_page};
+ghost use Rattle.bdb_faults.specs.of_format.References.{content_targets};
 ghost use Rattle.bdb_faults.specs.of_format.Rows.{form_code};
 ghost use Rattle.bdb_faults.specs.of_format.declared.metadata.FileKind.TheVariants.{Queue};
 
 use crate::meta::meta_on;
 use bdb_faults::{FileKind, Head};
-use bdb_slots::{
-    DupLeafView, HashView, LeafView, PageView, RecnoLeafView, content_name, known_form,
-};
+use bdb_slots::{ContentKind, IndexedView, PageView, content_name, known_form};
 
 /// Whether no item of a page without a fault of form names another page. It's asked while the items are at hand, so that
 /// they needn't be gone over again for what they name.
@@ -47,52 +46,20 @@ fn is_plain_view(view: &PageView<'_>) -> bool
     ensures { result ≡ true → IsPlain (page_seen view.now) }
 {
     match view {
-        PageView::Leaf(page) => is_plain_leaf(page),
-        PageView::RecnoLeaf(page) => is_plain_recno_leaf(page),
-        PageView::DupLeaf(page) => is_plain_dup_leaf(page),
-        PageView::Hash(page) => is_plain_bucket(page),
+        PageView::Leaf(page) => holds_none(page),
+        PageView::RecnoLeaf(page) => holds_none(page),
+        PageView::DupLeaf(page) => holds_none(page),
+        PageView::Hash(page) => holds_none(page),
         _ => true,
     }
 }
 
-fn is_plain_leaf(page: &LeafView<'_>) -> bool
-    ensures { result ≡ true → All IsInline page.now.items }
+// Whether no item of a page names another page.
+fn holds_none<'a, K: ContentKind<'a>>(page: &IndexedView<'a, K>) -> bool
+    ensures { result ≡ true → All (λ item. content_targets (K.content_of item) ≡ []) page.now.items }
 {
     for item in page.items() {
-        if content_name(&item.content()).is_some() {
-            return false;
-        }
-    }
-    true
-}
-
-fn is_plain_recno_leaf(page: &RecnoLeafView<'_>) -> bool
-    ensures { result ≡ true → All IsInline page.now.items }
-{
-    for item in page.items() {
-        if content_name(&item.content()).is_some() {
-            return false;
-        }
-    }
-    true
-}
-
-fn is_plain_dup_leaf(page: &DupLeafView<'_>) -> bool
-    ensures { result ≡ true → All IsInline page.now.items }
-{
-    for item in page.items() {
-        if content_name(&item.content()).is_some() {
-            return false;
-        }
-    }
-    true
-}
-
-fn is_plain_bucket(page: &HashView<'_>) -> bool
-    ensures { result ≡ true → All IsInline page.now.items }
-{
-    for item in page.items() {
-        if content_name(&item.content()).is_some() {
+        if content_name(&K::content(&item)).is_some() {
             return false;
         }
     }

@@ -12,7 +12,7 @@ mod source;
 
 pub use base::BaseSource;
 pub use bdb_format::{
-    BtreeMeta, Bytes, HashMeta, Head, Kind, Order, Settings, Steps, plain_settings,
+    BtreeMeta, Bytes, HashMeta, Head, Kind, Order, PageType, Settings, Steps, plain_settings,
 };
 pub use image::{Image, ReadError, read_image};
 pub use memory::{MemSink, MemSource};

@@ -11,7 +11,8 @@ use Rattle.bdb_graph.specs.of_format.Contents.{StoredPair, pair_at, pairs_in}
 use Rattle.bdb_graph.specs.of_format.File.{File}
 use Rattle.bdb_graph.specs.of_format.Numbers.{byte_at}
 use Rattle.bdb_graph.specs.of_format.Page.{Chain, Content, Inline, Item, Listed, Set, Tree, Unknown}
-use Rattle.bdb_graph.specs.of_format.Page.{PageType, HashPage, LeafPage}
+use Rattle.bdb_graph.specs.of_format.declared.pages.PageType.{PageType}
+use Rattle.bdb_graph.specs.of_format.declared.pages.PageType.TheVariants.{Hash as HashPage, Leaf as LeafPage}
 use Rattle.bdb_graph.specs.of_format.Reading.{abstract_page, hash_item_at, is_zero, leaf_item_at, listed, page_as, page_type}
 use Rattle.bdb_graph.specs.of_format.References.{is_shared_key}
 use Rattle.bdb_graph.specs.of_format.Rows.{form_code, hash_rows, item_rows, leaf_rows, listed_code, typed_code}

@@ -19,8 +19,11 @@ use Rattle.bdb_databases.specs.of_format.File.{File, file_of, page_at, page_byte
 use Rattle.bdb_databases.specs.of_format.HeadOf.{head_of}
 use Rattle.bdb_databases.specs.of_format.Leaves.{leaves}
 use Rattle.bdb_databases.specs.of_format.Numbers.{byte_at, four_at, from_low_end, number, number_at, two_at}
-use Rattle.bdb_databases.specs.of_format.Page.{Content, Chain, Inline, Item, Listed, Set, Tree, Unknown, Page, PageType, HashPage, LeafPage, RecnoLeafPage}
-use Rattle.bdb_databases.specs.of_format.Page.{DupLeafPage, OverflowPage, QueuePage, Hash, Leaf, RecnoLeaf, DupLeaf, Overflow, Queue, Zero}
+use Rattle.bdb_databases.specs.of_format.Page.{Content, Chain, Inline, Item, Listed, Set, Tree, Unknown, Page}
+use Rattle.bdb_databases.specs.of_format.Page.{Hash, Leaf, RecnoLeaf, DupLeaf, Overflow, Queue, Zero}
+use Rattle.bdb_databases.specs.of_format.declared.pages.PageType.{PageType}
+use Rattle.bdb_databases.specs.of_format.declared.pages.PageType.TheVariants.{Hash as HashPage, Leaf as LeafPage, RecnoLeaf as RecnoLeafPage}
+use Rattle.bdb_databases.specs.of_format.declared.pages.PageType.TheVariants.{DupLeaf as DupLeafPage, Overflow as OverflowPage, Queue as QueuePage}
 use Rattle.bdb_databases.specs.of_format.Reading.{abstract_page, blocks_in, blocks_of, hash_end, hash_item_at, is_zero, kind_at, leaf_item_at, listed, offset_of}
 use Rattle.bdb_databases.specs.of_format.Reading.{page_as, page_type}
 use Rattle.bdb_databases.specs.of_format.References.{is_shared_key, item_at, no_item}

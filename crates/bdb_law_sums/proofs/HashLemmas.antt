@@ -20,7 +20,8 @@ use Rattle.bdb_tree.specs.of_format.HeadOf.{head_of}
 use Rattle.bdb_tree.specs.of_format.Numbers.{has_bit}
 use Rattle.bdb_tree.specs.of_format.Page.{Item, InternalItem, Listed, BtreeFields, HashFields, QueueFields}
 use Rattle.bdb_tree.specs.of_format.Page.{Page, Zero, Meta, Hash, Internal, RecnoInternal}
-use Rattle.bdb_tree.specs.of_format.Page.{PageType, HashPage}
+use Rattle.bdb_tree.specs.of_format.declared.pages.PageType.{PageType}
+use Rattle.bdb_tree.specs.of_format.declared.pages.PageType.TheVariants.{Hash as HashPage}
 use Rattle.bdb_tree.specs.of_format.declared.kinds.Order.{Order}
 use Rattle.bdb_tree.specs.of_format.Numbers.{byte_at}
 use Rattle.bdb_tree.specs.of_format.Reading.{abstract_page, hash_item_at, is_zero, listed, page_as, page_type}

@@ -19,7 +19,9 @@ use Rattle.bdb_tree.specs.of_format.HeadOf.{head_of}
 use Rattle.bdb_tree.specs.of_format.Leaves.{leaves}
 use Rattle.bdb_tree.specs.of_format.Lists.{ListKey, BytesKey, NumberKey, btree_list, by_key, hash_list, list_of, listed_entry, listed_pair, recno_list}
 use Rattle.bdb_tree.specs.of_format.Master.{master_in}
-use Rattle.bdb_tree.specs.of_format.Page.{Item, Listed, Metadata, BtreeFields, HashFields, QueueFields, Page, PageType, HashPage, Zero}
+use Rattle.bdb_tree.specs.of_format.Page.{Item, Listed, Metadata, BtreeFields, HashFields, QueueFields, Page, Zero}
+use Rattle.bdb_tree.specs.of_format.declared.pages.PageType.{PageType}
+use Rattle.bdb_tree.specs.of_format.declared.pages.PageType.TheVariants.{Hash as HashPage}
 use Rattle.bdb_tree.specs.of_format.Page.{Hash, Leaf}
 use Rattle.bdb_tree.specs.of_format.Reading.{abstract_page, hash_item_at, is_zero, listed, page_as, page_type}
 use Rattle.bdb_tree.specs.of_format.Numbers.{byte_at}

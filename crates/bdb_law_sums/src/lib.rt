@@ -4,6 +4,7 @@
 pub mod laws;
 
 pub use bdb_tree::{
-    Datum, DupLeafView, HashView, Header, KeyView, LeafView, Meta, Order, PageView, Pieces,
-    RecnoLeafView, Steps, bytes_in, compare_datum, form, known_form, pieces_at,
+    Datum, DupLeafView, HashView, Header, KeyView, LeafView, Meta, Order, PageType, PageView,
+    Pieces, RecnoLeafView, Steps, bytes_in, compare_datum, form, has_type, keyed_types, known_form,
+    page_bytes, pieces_at, record_types,
 };

@@ -10,8 +10,13 @@ use Rattle.bdb_survey.specs.of_format.Chains.{chain_in, chains_in, content_chain
 use Rattle.bdb_survey.specs.of_format.File.{File, file_of, header_in, page_at, page_bytes, type_in}
 use Rattle.bdb_survey.specs.of_format.HeadOf.{head_of}
 use Rattle.bdb_survey.specs.of_format.Numbers.{byte_at}
-use Rattle.bdb_survey.specs.of_format.Page.{Chain, Page, Overflow, PageType, FreePage, HashPage, InternalPage, RecnoInternalPage, LeafPage, RecnoLeafPage, OverflowPage}
-use Rattle.bdb_survey.specs.of_format.Page.{HashMetaPage, BtreeMetaPage, QueueMetaPage, QueuePage, DupLeafPage, OtherPage}
+use Rattle.bdb_survey.specs.of_format.Page.{Chain, Page, Overflow}
+use Rattle.bdb_survey.specs.of_format.declared.pages.PageType.{PageType}
+use Rattle.bdb_survey.specs.of_format.declared.pages.PageType.TheVariants.{Free as FreePage, Hash as HashPage, Internal as InternalPage}
+use Rattle.bdb_survey.specs.of_format.declared.pages.PageType.TheVariants.{RecnoInternal as RecnoInternalPage, Leaf as LeafPage, RecnoLeaf as RecnoLeafPage}
+use Rattle.bdb_survey.specs.of_format.declared.pages.PageType.TheVariants.{Overflow as OverflowPage, HashMeta as HashMetaPage, BtreeMeta as BtreeMetaPage}
+use Rattle.bdb_survey.specs.of_format.declared.pages.PageType.TheVariants.{QueueMeta as QueueMetaPage, Queue as QueuePage, DupLeaf as DupLeafPage}
+use Rattle.bdb_survey.specs.of_format.declared.pages.PageType.TheVariants.{Other as OtherPage}
 use Rattle.bdb_survey.specs.of_format.Reading.{abstract_page, is_zero, listed, page_as, page_type}
 use Rattle.bdb_survey.specs.of_format.References.{asked_by, contents_in, fit_code, fit_rows, is_zero_page, has_type, refs, targets_in}
 use Rattle.bdb_survey.specs.of_format.Verdict.{reference_faults, structure_faults, structure_rows}

@@ -15,8 +15,13 @@ use Rattle.bdb_survey.specs.of_format.File.{File, file_of, header_in, page_at, p
 use Rattle.bdb_survey.specs.of_format.HeadOf.{head_of}
 use Rattle.bdb_survey.specs.of_format.Leaves.{LeafPlace, children_in, is_wrong_leaf, is_wrong_link, leaf_places, leaves, places_from, wrong_leaf_types}
 use Rattle.bdb_survey.specs.of_format.Numbers.{byte_at}
-use Rattle.bdb_survey.specs.of_format.Page.{Page, Zero, NoType, RecnoLeaf, DupLeaf, PageType, FreePage, HashPage, InternalPage, RecnoInternalPage, LeafPage}
-use Rattle.bdb_survey.specs.of_format.Page.{RecnoLeafPage, OverflowPage, HashMetaPage, BtreeMetaPage, QueueMetaPage, QueuePage, DupLeafPage, OtherPage}
+use Rattle.bdb_survey.specs.of_format.Page.{Page, Zero, NoType, RecnoLeaf, DupLeaf}
+use Rattle.bdb_survey.specs.of_format.declared.pages.PageType.{PageType}
+use Rattle.bdb_survey.specs.of_format.declared.pages.PageType.TheVariants.{Free as FreePage, Hash as HashPage, Internal as InternalPage}
+use Rattle.bdb_survey.specs.of_format.declared.pages.PageType.TheVariants.{RecnoInternal as RecnoInternalPage, Leaf as LeafPage, RecnoLeaf as RecnoLeafPage}
+use Rattle.bdb_survey.specs.of_format.declared.pages.PageType.TheVariants.{Overflow as OverflowPage, HashMeta as HashMetaPage, BtreeMeta as BtreeMetaPage}
+use Rattle.bdb_survey.specs.of_format.declared.pages.PageType.TheVariants.{QueueMeta as QueueMetaPage, Queue as QueuePage, DupLeaf as DupLeafPage}
+use Rattle.bdb_survey.specs.of_format.declared.pages.PageType.TheVariants.{Other as OtherPage}
 use Rattle.bdb_survey.specs.of_format.Reading.{abstract_page, is_zero, listed, page_as, page_type}
 use Rattle.bdb_survey.specs.of_format.References.{child_types, fit_code, has_type}
 use Rattle.bdb_survey.specs.of_format.Verdict.{structure_faults, structure_rows}

@@ -1,15 +1,21 @@
 -- An item of which no row holds lies on its page, and is the answer.
-use Rattle.std.proofs.Common.{◌≡◌, ℕ, ◌+◌, ◌≤◌, List, [], ◌∷◌, length, arith, refl}
+use Rattle.std.proofs.Common.{◌≡◌, ℕ, ◌+◌, ◌≤◌, List, [], ◌∷◌, length, arith, refl, sym, ◌∙◌, ap}
 use Rattle.std.specs.Prelude.{cond, Bool, true, false, Option, Some, None, Result, Err}
 use Rattle.std.proofs.lemmas.Bool.Decides.{nat_tests}
 use Rattle.bdb_format.specs.declared.kinds.Order.{Order}
 use Rattle.bdb_format.specs.Reading.{offset_of, hash_end}
 use Rattle.bdb_format.specs.Rows.{leaf_rows, internal_rows, recno_rows, hash_rows}
 use Rattle.bdb_format.specs.Table.{Row, ◌:?◌, first_row, answer}
+use Rattle.std.specs.Option.{option_map}
+use Rattle.bdb_format.specs.declared.pages.ItemFault.{ItemFault}
+use Rattle.bdb_format.specs.declared.pages.ItemFault.TheVariants.{Offset, Kind, Extent}
+use Rattle.bdb_format.proofs.PageLemmas.{map_none}
+use Rattle.bdb_format.specs.declared.rows.FormRow.{FormRow}
+use Rattle.bdb_layout.specs.ItemRows.{item_fault, item_form}
 use Rattle.bdb_layout.specs.Fits.{FitsLeaf, FitsInternal, FitsHash}
 
 -- where a row holds, the answer is the first that does
-pub answer_error : {Code T : Type 0} (rows : List (Row Code)) (value : T) (code : Code) → first_row rows ≡ Some code → answer rows value ≡ Err code
+answer_error : {Code T : Type 0} (rows : List (Row Code)) (value : T) (code : Code) → first_row rows ≡ Some code → answer rows value ≡ Err code
 answer_error [] value code some = absurd cc
 answer_error {Code = Code} {T = T} (row ∷ rows) value code some =
     let first : Bool → Option Code = λ b. cond b (Some row.code) (first_row rows) in
@@ -17,6 +23,26 @@ answer_error {Code = Code} {T = T} (row ∷ rows) value code some =
       | true ↦ λ same. cc
       | false ↦ λ same. answer_error rows value code same
     ] some
+
+-- the same of what is wrong with an item, by its row
+same_fault : (fault : ItemFault) → item_fault (item_form fault) ≡ fault
+same_fault Offset = refl
+same_fault Kind = refl
+same_fault Extent = refl
+
+by_row : {T : Type 0} (rows : List (Row ItemFault)) (value : T) (first : Option ItemFault) (row : FormRow) → first_row rows ≡ first
+    → option_map item_form first ≡ Some row → answer rows value ≡ Err (item_fault row)
+by_row rows value None row is some = absurd cc
+by_row {T = T} rows value (Some fault) row is some =
+    let same : item_form fault ≡ row = cc in
+    answer_error rows value fault is ∙ ap (λ f. Err {T = T} f) (sym (same_fault fault) ∙ ap item_fault same)
+
+pub answer_row : {T : Type 0} (rows : List (Row ItemFault)) (value : T) (row : FormRow) → option_map item_form (first_row rows) ≡ Some row
+    → answer rows value ≡ Err (item_fault row)
+answer_row rows value row some = by_row rows value (first_row rows) row refl some
+
+pub no_row : (rows : List (Row ItemFault)) → option_map item_form (first_row rows) ≡ None → first_row rows ≡ None
+no_row rows none = map_none item_form (first_row rows) none
 
 -- three tests that fail
 record Fail (a b c : Bool) : Type 0 where

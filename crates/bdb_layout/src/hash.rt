@@ -1,45 +1,49 @@
 ghost use Rattle.std.specs.Prelude.{◌≡◌, ◌+◌, ◌<◌, ◌≤◌, [], ◌∷◌, IfOk, false, length, None};
+ghost use Rattle.std.specs.Option.{option_map};
 ghost use Rattle.bdb_format.specs.Numbers.{byte_at};
 ghost use Rattle.bdb_format.specs.Reading.{entries_of, hash_content, hash_end, hash_item_at, index_end};
 ghost use Rattle.bdb_format.specs.Rows.{does_not_fall, hash_rows, is_hash_kind, misses_extent};
 ghost use Rattle.bdb_format.specs.Table.{answer, first_row};
 ghost use Rattle.bdb_layout.specs.Fits.{FitsHash};
 ghost use Rattle.bdb_layout.specs.Seen.{HasOrder, hash_content_seen, answer_seen, hash_item_seen};
+ghost use Rattle.bdb_layout.specs.ItemRows.{item_form};
 
 use crate::blocks::is_run;
+use crate::item_rows::item_fault;
+use crate::lengths::hash_end;
 use crate::{DupBlocks, HashItem, index_end, offset_at, u32_at};
-use bdb_format::{ItemFault, Order};
+use bdb_format::{FormRow, ItemFault, Order};
 
 /// The item of a hash page at a place of its index, or the first thing that is wrong with it.
-#[tactic(auto, using(bdb_format::proofs::PageLemmas::answer_value, crate::proofs::RowLemmas::answer_error))]
+#[tactic(auto, using(bdb_format::proofs::PageLemmas::answer_value, crate::proofs::RowLemmas::answer_row, crate::proofs::RowLemmas::no_row))]
 pub fn hash_item(page: &[u8], order: Order, index: u16) -> Result<HashItem<'_>, ItemFault>
     requires room { index_end order page.now ≤ length page.now }
     requires entry { index < entries_of order page.now }
     ensures item { answer_seen hash_item_seen result ≡ answer (hash_rows order page.now index) (hash_item_at order page.now index) }
     ensures order { IfOk result (λ item. HasOrder order item) }
 {
-    match hash_fault(page, order, index) {
-        Some(fault) => Err(fault),
+    match hash_row(page, order, index) {
+        Some(row) => Err(item_fault(row)),
         None => Ok(known_hash_item(page, order, index)),
     }
 }
 
-/// The first thing that is wrong with the item of a hash page at a place of its index, if anything is.
+/// The first row that holds for the item of a hash page at a place of its index, if one does.
 #[tactic(auto, unfolding(bdb_format::specs::Rows::hash_rows))]
-pub fn hash_fault(page: &[u8], order: Order, index: u16) -> Option<ItemFault>
+pub fn hash_row(page: &[u8], order: Order, index: u16) -> Option<FormRow>
     requires room { index_end order page.now ≤ length page.now }
     requires entry { index < entries_of order page.now }
-    ensures { result ≡ first_row (hash_rows order page.now index) }
+    ensures { result ≡ option_map item_form (first_row (hash_rows order page.now index)) }
 {
     let at = usize::from(offset_at(page, order, index));
     if at < index_end(page, order) || page.len() <= at || does_not_fall(page, order, index) {
-        return Some(ItemFault::Offset);
+        return Some(FormRow::ItemOffset);
     }
     if !is_hash_kind(index, page[at]) {
-        return Some(ItemFault::Kind);
+        return Some(FormRow::ItemType);
     }
     if misses_extent(page, order, at, hash_end(page, order, index)) {
-        return Some(ItemFault::Extent);
+        return Some(FormRow::ItemExtent);
     }
     None
 }
@@ -73,19 +77,6 @@ fn is_hash_kind(index: u16, kind: u8) -> bool
     ensures { result ≡ is_hash_kind index kind }
 {
     kind == 1 || kind == 3 || (index % 2 == 1 && (kind == 2 || kind == 4))
-}
-
-// Where an item ends: where the one before it begins, the first at the page's end.
-fn hash_end(page: &[u8], order: Order, index: u16) -> usize
-    requires room { index_end order page.now ≤ length page.now }
-    requires entry { index < entries_of order page.now }
-    ensures { result ≡ hash_end order page.now index }
-{
-    if index == 0 {
-        page.len()
-    } else {
-        usize::from(offset_at(page, order, index - 1))
-    }
 }
 
 // Whether an item hasn't the extent of its kind.

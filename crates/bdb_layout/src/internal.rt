@@ -1,45 +1,48 @@
 ghost use Rattle.std.specs.Prelude.{◌≡◌, ◌+◌, ◌<◌, ◌≤◌, ◌⊎◌, length, None};
+ghost use Rattle.std.specs.Option.{option_map};
 ghost use Rattle.bdb_format.specs.Reading.{entries_of, index_end, internal_item_at, internal_key, kind_at};
 ghost use Rattle.bdb_format.specs.Rows.{internal_rows};
 ghost use Rattle.bdb_format.specs.Numbers.{four_at};
 ghost use Rattle.bdb_format.specs.Table.{answer, first_row};
 ghost use Rattle.bdb_layout.specs.Fits.{FitsInternal};
 ghost use Rattle.bdb_layout.specs.Seen.{answer_seen, internal_item_seen, key_seen};
+ghost use Rattle.bdb_layout.specs.ItemRows.{item_form};
 
-use crate::{InternalItem, InternalKey, index_end, offset_at, u16_at, u32_at};
-use bdb_format::{ItemFault, Order};
+use crate::item_rows::item_fault;
+use crate::{InternalItem, InternalKey, index_end, internal_end, offset_at, u16_at, u32_at};
+use bdb_format::{FormRow, ItemFault, Order};
 
 /// The item of an internal page with keys at a place of its index, or the first thing that is wrong with it.
-#[tactic(auto, using(bdb_format::proofs::PageLemmas::answer_value, crate::proofs::RowLemmas::answer_error))]
+#[tactic(auto, using(bdb_format::proofs::PageLemmas::answer_value, crate::proofs::RowLemmas::answer_row, crate::proofs::RowLemmas::no_row))]
 pub fn internal_item(page: &[u8], order: Order, index: u16) -> Result<InternalItem<'_>, ItemFault>
     requires room { index_end order page.now ≤ length page.now }
     requires entry { index < entries_of order page.now }
     ensures { answer_seen internal_item_seen result ≡ answer (internal_rows order page.now index) (internal_item_at order page.now index) }
 {
-    match internal_fault(page, order, index) {
-        Some(fault) => Err(fault),
+    match internal_row(page, order, index) {
+        Some(row) => Err(item_fault(row)),
         None => Ok(known_internal_item(page, order, index)),
     }
 }
 
-/// The first thing that is wrong with the item of an internal page with keys at a place of its index, if anything is.
+/// The first row that holds for the item of an internal page with keys at a place of its index, if one does.
 #[tactic(auto, unfolding(bdb_format::specs::Rows::internal_rows))]
-pub fn internal_fault(page: &[u8], order: Order, index: u16) -> Option<ItemFault>
+pub fn internal_row(page: &[u8], order: Order, index: u16) -> Option<FormRow>
     requires room { index_end order page.now ≤ length page.now }
     requires entry { index < entries_of order page.now }
-    ensures { result ≡ first_row (internal_rows order page.now index) }
+    ensures { result ≡ option_map item_form (first_row (internal_rows order page.now index)) }
 {
     let at = usize::from(offset_at(page, order, index));
     if at < index_end(page, order) || page.len() < at + 12 {
-        return Some(ItemFault::Offset);
+        return Some(FormRow::ItemOffset);
     }
     let kind = page[at + 2] % 128;
     if kind != 1 && kind != 3 {
-        return Some(ItemFault::Kind);
+        return Some(FormRow::ItemType);
     }
-    let size = usize::from(u16_at(page, at, order));
-    if page.len() < at + 12 + size || (kind == 3 && size != 12) {
-        return Some(ItemFault::Extent);
+    let end = internal_end(page, order, at);
+    if page.len() < end || (kind == 3 && end != at + 24) {
+        return Some(FormRow::ItemExtent);
     }
     None
 }

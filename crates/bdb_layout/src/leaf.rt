@@ -1,43 +1,47 @@
 ghost use Rattle.std.specs.Prelude.{◌≡◌, ◌+◌, ◌<◌, ◌≤◌, length, None};
+ghost use Rattle.std.specs.Option.{option_map};
+ghost use Rattle.bdb_format.specs.Numbers.{byte_at};
 ghost use Rattle.bdb_format.specs.Reading.{entries_of, index_end, is_deleted, kind_at, leaf_content, leaf_item_at};
-ghost use Rattle.bdb_format.specs.Rows.{is_leaf_kind, leaf_end, leaf_rows};
+ghost use Rattle.bdb_format.specs.Rows.{is_leaf_kind, leaf_rows};
 ghost use Rattle.bdb_format.specs.Table.{answer, first_row};
 ghost use Rattle.bdb_layout.specs.Fits.{FitsLeaf};
 ghost use Rattle.bdb_layout.specs.Seen.{answer_seen, leaf_item_seen};
+ghost use Rattle.bdb_layout.specs.ItemRows.{item_form};
 
-use crate::{LeafItem, index_end, offset_at, u16_at, u32_at};
-use bdb_format::{ItemFault, Order};
+use crate::item_rows::item_fault;
+use crate::{LeafItem, index_end, leaf_end, offset_at, page_type, u16_at, u32_at};
+use bdb_format::{FormRow, ItemFault, Order, PageType};
 
 /// The item of a leaf at a place of its index, or the first thing that is wrong with it.
-#[tactic(auto, using(bdb_format::proofs::PageLemmas::answer_value, crate::proofs::RowLemmas::answer_error))]
+#[tactic(auto, using(bdb_format::proofs::PageLemmas::answer_value, crate::proofs::RowLemmas::answer_row, crate::proofs::RowLemmas::no_row))]
 pub fn leaf_item(page: &[u8], order: Order, index: u16) -> Result<LeafItem<'_>, ItemFault>
     requires room { index_end order page.now ≤ length page.now }
     requires entry { index < entries_of order page.now }
     ensures { answer_seen leaf_item_seen result ≡ answer (leaf_rows order page.now index) (leaf_item_at order page.now index) }
 {
-    match leaf_fault(page, order, index) {
-        Some(fault) => Err(fault),
+    match leaf_row(page, order, index) {
+        Some(row) => Err(item_fault(row)),
         None => Ok(known_leaf_item(page, order, index)),
     }
 }
 
-/// The first thing that is wrong with the item of a leaf at a place of its index, if anything is.
+/// The first row that holds for the item of a leaf at a place of its index, if one does.
 #[tactic(auto, unfolding(bdb_format::specs::Rows::leaf_rows))]
-pub fn leaf_fault(page: &[u8], order: Order, index: u16) -> Option<ItemFault>
+pub fn leaf_row(page: &[u8], order: Order, index: u16) -> Option<FormRow>
     requires room { index_end order page.now ≤ length page.now }
     requires entry { index < entries_of order page.now }
-    ensures { result ≡ first_row (leaf_rows order page.now index) }
+    ensures { result ≡ option_map item_form (first_row (leaf_rows order page.now index)) }
 {
     let at = usize::from(offset_at(page, order, index));
     if at < index_end(page, order) || page.len() < at + 3 {
-        return Some(ItemFault::Offset);
+        return Some(FormRow::ItemOffset);
     }
     let kind = page[at + 2] % 128;
-    if !is_leaf_kind(page[25], index, kind) {
-        return Some(ItemFault::Kind);
+    if !is_leaf_kind(page, index, kind) {
+        return Some(FormRow::ItemType);
     }
     if page.len() < leaf_end(page, order, at) {
-        return Some(ItemFault::Extent);
+        return Some(FormRow::ItemExtent);
     }
     None
 }
@@ -55,21 +59,13 @@ pub fn known_leaf_item(page: &[u8], order: Order, index: u16) -> LeafItem<'_>
 }
 
 // Whether an item of this kind may stand at a place of a leaf's index.
-fn is_leaf_kind(page_type: u8, index: u16, kind: u8) -> bool
-    ensures { result ≡ is_leaf_kind page_type index kind }
+fn is_leaf_kind(page: &[u8], index: u16, kind: u8) -> bool
+    requires { 26 ≤ length page.now }
+    ensures { result ≡ is_leaf_kind (byte_at page.now 25) index kind }
 {
-    kind == 1 || kind == 3 || (kind == 2 && page_type == 5 && index % 2 == 1)
-}
-
-// Where an item of a leaf ends.
-fn leaf_end(page: &[u8], order: Order, at: usize) -> usize
-    requires { at + 3 ≤ length page.now }
-    ensures { result ≡ leaf_end order page.now at }
-{
-    match page[at + 2] % 128 {
-        1 => at + 3 + usize::from(u16_at(page, at, order)),
-        _ => at + 12,
-    }
+    kind == 1
+        || kind == 3
+        || (kind == 2 && matches!(page_type(page), PageType::Leaf) && index % 2 == 1)
 }
 
 // The item at an offset.

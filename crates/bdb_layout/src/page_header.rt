@@ -1,8 +1,9 @@
 ghost use Rattle.std.specs.Prelude.{◌≡◌, ◌≤◌, length};
-ghost use Rattle.bdb_format.specs.Reading.{header_of};
+ghost use Rattle.bdb_format.specs.Numbers.{byte_at};
+ghost use Rattle.bdb_format.specs.Reading.{header_of, page_type};
 
 use crate::{u16_at, u32_at};
-use bdb_format::{Header, Order};
+use bdb_format::{Header, Order, PageType};
 
 /// The header of a page.
 pub fn header(page: &[u8], order: Order) -> Header
@@ -18,4 +19,12 @@ pub fn header(page: &[u8], order: Order) -> Header
         level: page[24],
         page_type: page[25],
     }
+}
+
+/// The type of a page.
+pub fn page_type(page: &[u8]) -> PageType
+    requires { 26 ≤ length page.now }
+    ensures { result ≡ page_type (byte_at page.now 25) }
+{
+    PageType::of(page[25])
 }

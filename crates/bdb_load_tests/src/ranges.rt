@@ -73,7 +73,7 @@ fn are_ranges<L: Ledger>(
     requires stage { structure_faults (file_of linked.now) ≡ [] }
     requires contents { database_faults (file_of linked.now) (BtreeFields meta.now) ≡ [] }
 {
-    if meta.flags & 0x02 != 0 {
+    if meta.is_recno() {
         return false;
     }
     for turn in 0..1000usize {

@@ -1,5 +1,7 @@
 ghost use Rattle.std.specs.Prelude.{◌≡◌, ◌<◌, ℕ, IfOk, OnOk, if◌then◌else◌, get_or, length};
+ghost use Rattle.std.specs.Option.{option_map};
 ghost use Rattle.bdb_btree.specs.of_faults.Notes.{NotesAll};
+ghost use Rattle.bdb_format.specs.Cases.{fault_seen};
 ghost use Rattle.bdb_master.specs.Entries.{AreCounts, by_naming, count_fault, one_more};
 ghost use Rattle.bdb_format.specs.Master.{is_page};
 ghost use Rattle.bdb_btree.specs.of_image.Linked.{IsForest};
@@ -7,8 +9,8 @@ ghost use Rattle.bdb_format.specs.File.{file_of};
 
 use crate::entry::Entry;
 use crate::noting::note_given;
-use bdb_btree::{FaultSink, Linked, MasterRow, Row};
-use bdb_format::Fault;
+use bdb_btree::{FaultSink, Linked};
+use bdb_format::{MasterRow, Named, Row};
 use std::alloc::{AllocError, Global};
 
 /// One more pair that names a page; a third counts as a second.
@@ -45,8 +47,8 @@ fn counts_of(alloc: Global, pages: u32, entries: &[Entry<'_>]) -> Result<Vec<u8>
 }
 
 /// The fault of a metadata page that so many pairs name: above page 0 it's named once.
-fn count_fault(page: u32, count: u8) -> Option<Fault>
-    ensures { result ≡ count_fault page count }
+fn count_fault(page: u32, count: u8) -> Option<Named>
+    ensures { option_map fault_seen result ≡ count_fault page count }
 {
     match count {
         _ if page == 0 => None,
@@ -57,7 +59,6 @@ fn count_fault(page: u32, count: u8) -> Option<Fault>
 }
 
 /// Notes the metadata pages that a master names not at all or twice. An error is want of memory.
-#[tactic(auto, using(crate::proofs::Below::last_page))]
 pub(crate) fn note_naming<F: FaultSink>(
     alloc: Global,
     linked: &Linked<'_>,

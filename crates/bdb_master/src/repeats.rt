@@ -1,6 +1,8 @@
 ghost use Rattle.std.specs.Prelude.{◌≡◌, [], None, OnOk, Some, if◌then◌else◌};
 ghost use Rattle.bdb_btree.specs.Held.{AreKeyed};
+ghost use Rattle.std.specs.Option.{option_map};
 ghost use Rattle.bdb_btree.specs.of_faults.Notes.{NotesAll};
+ghost use Rattle.bdb_format.specs.Cases.{fault_seen};
 ghost use Rattle.bdb_master.specs.Entries.{by_repeat, fault_at, live_entries, master_entries};
 ghost use Rattle.bdb_format.specs.File.{file_of};
 ghost use Rattle.bdb_format.specs.Verdict.{structure_faults};
@@ -8,14 +10,14 @@ ghost use Rattle.bdb_format.specs.Verdict.{structure_faults};
 use crate::entry::master_of;
 use crate::noting::note_given;
 use crate::seen_names::SeenNames;
-use bdb_btree::{FaultSink, Forest, HeldPairs, Linked, MasterRow, Row, pairs};
-use bdb_format::Fault;
+use bdb_btree::{FaultSink, Forest, HeldPairs, Linked, pairs};
+use bdb_format::{Fault, MasterRow, Named, Row};
 use bdb_overflow::{is_deleted, leaf_held};
 use std::alloc::{AllocError, Global};
 
 /// The fault of a pair on this leaf, unless its key is new.
-fn repeat_on(page: u32, is_new: bool) -> Option<Fault>
-    ensures { result ≡ (if is_new then None else Some (fault_at page 4)) }
+fn repeat_on(page: u32, is_new: bool) -> Option<Named>
+    ensures { option_map fault_seen result ≡ (if is_new then None else Some (fault_at page 4)) }
 {
     if is_new {
         return None;

@@ -1,5 +1,7 @@
 ghost use Rattle.std.specs.Prelude.{◌≡◌, OnOk};
+ghost use Rattle.std.specs.Option.{option_map};
 ghost use Rattle.bdb_btree.specs.of_faults.Notes.{NotesAll};
+ghost use Rattle.bdb_format.specs.Cases.{fault_seen};
 ghost use Rattle.bdb_master.specs.Entries.{by_target, target_fault};
 ghost use Rattle.bdb_format.specs.Master.{is_named_kind};
 ghost use Rattle.bdb_btree.specs.of_form.Seen.{page_seen};
@@ -8,8 +10,8 @@ ghost use Rattle.bdb_format.specs.Graph.{is_meta};
 
 use crate::entry::Entry;
 use crate::noting::note_given;
-use bdb_btree::{FaultSink, Linked, MasterRow, PageView, Row};
-use bdb_format::Fault;
+use bdb_btree::{FaultSink, Linked, PageView};
+use bdb_format::{MasterRow, Named, Row};
 use std::alloc::AllocError;
 
 fn is_meta(view: &PageView<'_>) -> bool
@@ -19,7 +21,7 @@ fn is_meta(view: &PageView<'_>) -> bool
 }
 
 /// Whether this page is a metadata page above page 0.
-#[tactic(auto, using(crate::proofs::TargetLemmas::not_there, crate::proofs::Below::last_page))]
+#[tactic(auto, using(crate::proofs::TargetLemmas::not_there))]
 fn is_named_kind(linked: &Linked<'_>, page: u32) -> bool
     ensures { result ≡ is_named_kind (file_of linked.now) page }
 {
@@ -30,8 +32,8 @@ fn is_named_kind(linked: &Linked<'_>, page: u32) -> bool
 }
 
 /// The fault of a master's pair on this page that names another, if it has one.
-fn target_fault(linked: &Linked<'_>, page: u32, names: Option<u32>) -> Option<Fault>
-    ensures { result ≡ target_fault (file_of linked.now) page names }
+fn target_fault(linked: &Linked<'_>, page: u32, names: Option<u32>) -> Option<Named>
+    ensures { option_map fault_seen result ≡ target_fault (file_of linked.now) page names }
 {
     match names {
         Some(named) if is_named_kind(linked, named) => None,

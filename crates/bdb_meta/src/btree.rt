@@ -4,12 +4,12 @@ ghost use Rattle.bdb_layout.specs.of_format.Reading.{btree_fields, is_zero};
 ghost use Rattle.bdb_layout.specs.of_format.Rows.{are_wrong_flags, metadata_rows};
 ghost use Rattle.bdb_layout.specs.of_format.Spelling.{btree_bytes};
 ghost use Rattle.bdb_layout.specs.of_format.Table.{answer};
+ghost use Rattle.bdb_layout.specs.of_format.RowCodes.{coded, form_row_code};
 ghost use Rattle.bdb_meta.specs.RowGroups.{flag_rows};
 ghost use Rattle.bdb_layout.specs.of_format.declared.metadata.FileKind.TheVariants.{Btree};
 
-use crate::faults::form_fault;
 use crate::generic::{Generic, check_common, has_bit, put_generic};
-use bdb_layout::{BtreeMeta, FileKind, MetaFault, Order, put_u32, u32_at};
+use bdb_layout::{BtreeMeta, FileKind, FormRow, MetaFault, Order, put_u32, u32_at};
 
 /// Whether flags aren't known or don't go together.
 fn are_wrong_flags(number: u32, flags: u32) -> bool
@@ -20,15 +20,15 @@ fn are_wrong_flags(number: u32, flags: u32) -> bool
         || (has_bit(flags, 0x04) && has_bit(flags, 0x41))
 }
 
-/// The rows of btree metadata alone hold nowhere. A refusal is the code of the first that does.
-fn check_btree(number: u32, meta: &BtreeMeta) -> Result<(), u8>
-    ensures { result ≡ answer (flag_rows number meta.now.flags) tt }
+/// The rows of btree metadata alone hold nowhere. A refusal is the first that does.
+fn check_btree(number: u32, meta: &BtreeMeta) -> Result<(), FormRow>
+    ensures { coded form_row_code result ≡ answer (flag_rows number meta.now.flags) tt }
 {
     if has_bit(meta.flags, 0x80) {
-        return Err(9);
+        return Err(FormRow::Compression);
     }
     if are_wrong_flags(number, meta.flags) {
-        return Err(10);
+        return Err(FormRow::BtreeFlags);
     }
     Ok(())
 }
@@ -48,11 +48,11 @@ pub fn btree_fields(page: &[u8], order: Order) -> BtreeMeta
     }
 }
 
-/// The fields of this page as btree metadata. A refusal is the code of the first row that holds.
+/// The fields of this page as btree metadata. A refusal is the first row that holds.
 #[tactic(auto, unfolding(crate::specs::Below::metadata_rows))]
-fn checked_btree(page: &[u8], order: Order, number: u32) -> Result<BtreeMeta, u8>
+pub fn checked_btree(page: &[u8], order: Order, number: u32) -> Result<BtreeMeta, FormRow>
     requires { 512 ≤ length page.now }
-    ensures { result ≡ answer (metadata_rows order page.now number 0 Btree) (btree_fields order page.now) }
+    ensures { coded form_row_code result ≡ answer (metadata_rows order page.now number 0 Btree) (btree_fields order page.now) }
 {
     check_common(page, order, number, FileKind::Btree)?;
     let meta = btree_fields(page, order);
@@ -68,7 +68,7 @@ pub fn btree_meta(page: &[u8], order: Order, number: u32) -> Result<BtreeMeta, M
 {
     match checked_btree(page, order, number) {
         Ok(meta) => Ok(meta),
-        Err(code) => Err(form_fault(code)),
+        Err(row) => Err(row.fault()),
     }
 }
 

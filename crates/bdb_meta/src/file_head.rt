@@ -3,10 +3,10 @@ ghost use Rattle.bdb_layout.specs.of_format.HeadOf.{faulted, file_kind, head_fau
 ghost use Rattle.bdb_layout.specs.of_format.Numbers.{four_at};
 ghost use Rattle.bdb_meta.specs.RowGroups.{length_rows, page_rows, version_rows};
 ghost use Rattle.bdb_layout.specs.of_format.Table.{answer};
+ghost use Rattle.bdb_layout.specs.of_format.RowCodes.{coded, file_row_code};
 
-use crate::faults::head_fault;
 use crate::generic::{has_bit, is_partitioned, version_of};
-use bdb_layout::{FileKind, Head, MetaFault, Order, is_page_size, magic_of, u32_at};
+use bdb_layout::{FileKind, FileRow, Head, MetaFault, Order, is_page_size, magic_of, u32_at};
 
 const HEAP_MAGIC: u32 = 0x074582;
 
@@ -89,47 +89,47 @@ fn head_of(image: &[u8]) -> Head
     }
 }
 
-/// The magic number and the version are ones that are read. A refusal is the code of the row.
-fn check_version(image: &[u8], order: Order) -> Result<(), u8>
+/// The magic number and the version are ones that are read. A refusal is the row.
+fn check_version(image: &[u8], order: Order) -> Result<(), FileRow>
     requires page { 512 ≤ length image.now }
     requires order { order ≡ order_of image.now }
-    ensures { result ≡ answer (version_rows image.now) tt }
+    ensures { coded file_row_code result ≡ answer (version_rows image.now) tt }
 {
     let magic = u32_at(image, 12, order);
     if !is_magic(magic) {
-        return Err(2);
+        return Err(FileRow::Magic);
     }
     if magic == HEAP_MAGIC {
-        return Err(3);
+        return Err(FileRow::Heap);
     }
     if u32_at(image, 16, order) != version_of(file_kind(magic)) {
-        return Err(4);
+        return Err(FileRow::Version);
     }
     Ok(())
 }
 
-/// The page size and what is asked of the pages are read. A refusal is the code of the row.
-fn check_pages(image: &[u8], order: Order) -> Result<(), u8>
+/// The page size and what is asked of the pages are read. A refusal is the row.
+fn check_pages(image: &[u8], order: Order) -> Result<(), FileRow>
     requires page { 512 ≤ length image.now }
     requires order { order ≡ order_of image.now }
-    ensures rows { result ≡ answer (page_rows image.now) tt }
+    ensures rows { coded file_row_code result ≡ answer (page_rows image.now) tt }
     ensures size { OnOk result (512 ≤ four_at (order_of image.now) image.now 20) }
 {
     let size = u32_at(image, 20, order);
     if !is_page_size(size) && size != LARGE_PAGE {
-        return Err(5);
+        return Err(FileRow::PageSize);
     }
     if size == LARGE_PAGE {
-        return Err(6);
+        return Err(FileRow::LargePage);
     }
     if image[24] != 0 {
-        return Err(7);
+        return Err(FileRow::Encryption);
     }
     if has_bit(u32::from(image[26]), 0x01) {
-        return Err(8);
+        return Err(FileRow::Checksum);
     }
     if is_partitioned(image, order) {
-        return Err(9);
+        return Err(FileRow::Partition);
     }
     Ok(())
 }
@@ -146,30 +146,30 @@ fn is_past(image: &[u8], head: &Head) -> bool
     }
 }
 
-/// The image has whole pages, the last one too. A refusal is the code of the row.
+/// The image has whole pages, the last one too. A refusal is the row.
 #[tactic(auto, unfolding(crate::specs::Below::head_of))]
-fn check_length(image: &[u8], head: &Head) -> Result<(), u8>
+fn check_length(image: &[u8], head: &Head) -> Result<(), FileRow>
     requires head { head.now ≡ head_of image.now }
     requires size { 512 ≤ head.now.page_size }
-    ensures { result ≡ answer (length_rows image.now) tt }
+    ensures { coded file_row_code result ≡ answer (length_rows image.now) tt }
 {
     if image.len() % head.page_size as usize != 0 {
-        return Err(10);
+        return Err(FileRow::Ragged);
     }
     if is_past(image, head) {
-        return Err(11);
+        return Err(FileRow::LastPage);
     }
     Ok(())
 }
 
-/// What page 0 says of the whole file. A refusal is the code of the first row that holds.
+/// What page 0 says of the whole file. A refusal is the first row that holds.
 #[tactic(auto, using(crate::proofs::RowLemmas::short_head), unfolding(crate::specs::Below::head_of))]
-fn checked_head(image: &[u8]) -> Result<Head, u8>
+pub fn checked_head(image: &[u8]) -> Result<Head, FileRow>
     requires { length image.now ≤ 2 ^ 30 }
-    ensures { result ≡ answer (head_rows image.now) (head_of image.now) }
+    ensures { coded file_row_code result ≡ answer (head_rows image.now) (head_of image.now) }
 {
     if image.len() < 512 {
-        return Err(1);
+        return Err(FileRow::Short);
     }
     let order = order_of(image);
     check_version(image, order)?;
@@ -186,6 +186,6 @@ pub fn head(image: &[u8]) -> Result<Head, MetaFault>
 {
     match checked_head(image) {
         Ok(head) => Ok(head),
-        Err(code) => Err(head_fault(code)),
+        Err(row) => Err(row.fault()),
     }
 }

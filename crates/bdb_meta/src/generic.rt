@@ -4,9 +4,10 @@ ghost use Rattle.bdb_layout.specs.of_format.Reading.{is_zero};
 ghost use Rattle.bdb_layout.specs.of_format.Rows.{identity_rows, magic_of, meta_rows, type_of, version_of};
 ghost use Rattle.bdb_layout.specs.of_format.Spelling.{common_bytes, last_field, zeros};
 ghost use Rattle.bdb_layout.specs.of_format.Table.{answer};
+ghost use Rattle.bdb_layout.specs.of_format.RowCodes.{coded, form_row_code};
 ghost use Rattle.bdb_meta.specs.RowGroups.{common_rows};
 
-use bdb_layout::{FileKind, Order, magic_of, put_u32, u32_at};
+use bdb_layout::{FileKind, FormRow, Order, PageType, magic_of, put_u32, u32_at};
 
 /// The version that is read of a kind of file.
 pub fn version_of(kind: FileKind) -> u32
@@ -23,9 +24,9 @@ pub fn type_of(kind: FileKind) -> u8
     ensures { result ≡ type_of kind }
 {
     match kind {
-        FileKind::Btree => 9,
-        FileKind::Hash => 8,
-        FileKind::Queue => 10,
+        FileKind::Btree => PageType::BTREE_META,
+        FileKind::Hash => PageType::HASH_META,
+        FileKind::Queue => PageType::QUEUE_META,
     }
 }
 
@@ -44,50 +45,50 @@ pub fn is_partitioned(page: &[u8], order: Order) -> bool
     has_bit(u32::from(page[26]), 0x06) || u32_at(page, 36, order) != 0
 }
 
-/// The page has its number, and the type of metadata of this kind. A refusal is the code of the row.
-fn check_identity(page: &[u8], order: Order, number: u32, kind: FileKind) -> Result<(), u8>
+/// The page has its number, and the type of metadata of this kind. A refusal is the row.
+fn check_identity(page: &[u8], order: Order, number: u32, kind: FileKind) -> Result<(), FormRow>
     requires { 40 ≤ length page.now }
-    ensures { result ≡ answer (identity_rows order page.now number (λ byte. byte == type_of kind)) tt }
+    ensures { coded form_row_code result ≡ answer (identity_rows order page.now number (λ byte. byte == type_of kind)) tt }
 {
     if u32_at(page, 8, order) != number {
-        return Err(1);
+        return Err(FormRow::PageNumber);
     }
     if page[25] != type_of(kind) {
-        return Err(2);
+        return Err(FormRow::PageType);
     }
     Ok(())
 }
 
-/// The rows of all metadata hold nowhere. A refusal is the code of the first that does.
-fn check_generic(page: &[u8], order: Order, number: u32, kind: FileKind) -> Result<(), u8>
+/// The rows of all metadata hold nowhere. A refusal is the first that does.
+fn check_generic(page: &[u8], order: Order, number: u32, kind: FileKind) -> Result<(), FormRow>
     requires { 40 ≤ length page.now }
-    ensures { result ≡ answer (meta_rows order page.now number kind) tt }
+    ensures { coded form_row_code result ≡ answer (meta_rows order page.now number kind) tt }
 {
     if number > 0 && u32_at(page, 12, order) != magic_of(kind) {
-        return Err(3);
+        return Err(FormRow::MetaMagic);
     }
     if number > 0 && u32_at(page, 16, order) != version_of(kind) {
-        return Err(4);
+        return Err(FormRow::Version);
     }
     if u32_at(page, 20, order) as usize != page.len() {
-        return Err(5);
+        return Err(FormRow::MetaPageSize);
     }
     if page[24] != 0 {
-        return Err(6);
+        return Err(FormRow::Encryption);
     }
     if has_bit(u32::from(page[26]), 0x01) {
-        return Err(7);
+        return Err(FormRow::Checksum);
     }
     if is_partitioned(page, order) {
-        return Err(8);
+        return Err(FormRow::Partition);
     }
     Ok(())
 }
 
-/// No row of any metadata holds for this page. A refusal is the code of the first that does.
-pub fn check_common(page: &[u8], order: Order, number: u32, kind: FileKind) -> Result<(), u8>
+/// No row of any metadata holds for this page. A refusal is the first that does.
+pub fn check_common(page: &[u8], order: Order, number: u32, kind: FileKind) -> Result<(), FormRow>
     requires { 40 ≤ length page.now }
-    ensures { result ≡ answer (common_rows order page.now number kind) tt }
+    ensures { coded form_row_code result ≡ answer (common_rows order page.now number kind) tt }
 {
     check_identity(page, order, number, kind)?;
     check_generic(page, order, number, kind)

@@ -2,7 +2,6 @@
 #![tactic(auto)]
 
 mod btree;
-mod faults;
 mod file_head;
 mod generic;
 pub mod laws;
@@ -13,9 +12,10 @@ pub use bdb_layout::{
     BtreeMeta, Content, DupBlocks, FileKind, HashItem, HashMeta, Head, InternalItem, InternalKey,
     ItemFault, LeafItem, MetaFault, Order, QueueMeta, Unsupported, bucket_of, compare, group_of,
     hash5, hash5_after, header, index_end, known_hash_item, known_internal_item, known_leaf_item,
-    leaf_item, offset_at, page_of, put_header, put_u16, put_u32, u16_at, u32_at,
+    leaf_item, offset_at, page_of, page_slice, page_type, put_header, put_u16, put_u32,
+    records_per_page, slot_size, u16_at, u32_at,
 };
-pub use btree::{btree_fields, btree_meta, put_btree_meta};
-pub use file_head::head;
-pub use queue::{put_queue_meta, queue_fields, queue_meta};
-pub use table::{hash_fields, hash_meta, put_hash_meta};
+pub use btree::{btree_fields, btree_meta, checked_btree, put_btree_meta};
+pub use file_head::{checked_head, head};
+pub use queue::{checked_queue, put_queue_meta, queue_fields, queue_meta};
+pub use table::{checked_table, hash_fields, hash_meta, put_hash_meta};

@@ -1,43 +1,36 @@
-ghost use Rattle.std.specs.Prelude.{◌≡◌, ◌≤◌, length, IsTrue};
+ghost use Rattle.std.specs.Prelude.{◌≡◌, ◌<◌, ◌≤◌, ◌^◌, length, IsTrue};
 ghost use Rattle.bdb_layout.specs.of_format.HeadOf.{faulted, form_fault, is_page_size};
 ghost use Rattle.bdb_layout.specs.of_format.Reading.{is_zero, queue_fields};
-ghost use Rattle.bdb_layout.specs.of_format.Rows.{queue_rows, metadata_rows, records_per_page};
+ghost use Rattle.bdb_layout.specs.of_format.Rows.{queue_rows, metadata_rows};
 ghost use Rattle.bdb_layout.specs.of_format.Spelling.{queue_bytes};
 ghost use Rattle.bdb_layout.specs.of_format.Table.{answer};
+ghost use Rattle.bdb_layout.specs.of_format.RowCodes.{coded, form_row_code};
 ghost use Rattle.bdb_layout.specs.of_format.declared.metadata.FileKind.TheVariants.{Queue};
 
-use crate::faults::form_fault;
 use crate::generic::{Generic, check_common, put_generic};
-use bdb_layout::{FileKind, MetaFault, Order, QueueMeta, put_u32, u32_at};
+use bdb_layout::{
+    FileKind, FormRow, MetaFault, Order, QueueMeta, put_u32, records_per_page, u32_at,
+};
 
-/// How many records of `re_len` bytes stand on a page of `size` bytes. A record has a byte of its own
-/// before it, and takes a multiple of 4.
-fn records_per_page(size: usize, re_len: u32) -> u64
-    requires { 28 ≤ size }
-    ensures { result ≡ records_per_page size re_len }
-{
-    let padded = (u64::from(re_len) + 1).div_ceil(4) * 4;
-    (size as u64 - 28) / padded
-}
-
-/// The rows of queue metadata alone hold nowhere. A refusal is the code of the first that does.
-fn check_queue(page: &[u8], order: Order, meta: &QueueMeta) -> Result<(), u8>
+/// The rows of queue metadata alone hold nowhere. A refusal is the first that does.
+fn check_queue(page: &[u8], order: Order, meta: &QueueMeta) -> Result<(), FormRow>
     requires page { 96 ≤ length page.now }
+    requires size { length page.now < 2 ^ 32 }
     requires meta { meta.now ≡ queue_fields order page.now }
-    ensures { result ≡ answer (queue_rows order page.now) tt }
+    ensures { coded form_row_code result ≡ answer (queue_rows order page.now) tt }
 {
-    let per_page = records_per_page(page.len(), meta.re_len);
+    let per_page = records_per_page(page.len() as u32, meta.re_len);
     if u32_at(page, 92, order) != 0 {
-        return Err(15);
+        return Err(FormRow::Extent);
     }
-    if per_page == 0 || u64::from(meta.per_page) != per_page {
-        return Err(16);
+    if per_page == 0 || meta.per_page != per_page {
+        return Err(FormRow::QueueRecord);
     }
     if meta.first == 0 || meta.current == 0 {
-        return Err(17);
+        return Err(FormRow::QueueFirst);
     }
     if meta.first > meta.current {
-        return Err(18);
+        return Err(FormRow::WrappedQueue);
     }
     Ok(())
 }
@@ -56,11 +49,12 @@ pub fn queue_fields(page: &[u8], order: Order) -> QueueMeta
     }
 }
 
-/// The fields of this page as queue metadata. A refusal is the code of the first row that holds.
+/// The fields of this page as queue metadata. A refusal is the first row that holds.
 #[tactic(auto, unfolding(crate::specs::Below::metadata_rows))]
-fn checked_queue(page: &[u8], order: Order) -> Result<QueueMeta, u8>
-    requires { 512 ≤ length page.now }
-    ensures { result ≡ answer (metadata_rows order page.now 0 0 Queue) (queue_fields order page.now) }
+pub fn checked_queue(page: &[u8], order: Order) -> Result<QueueMeta, FormRow>
+    requires room { 512 ≤ length page.now }
+    requires size { length page.now < 2 ^ 32 }
+    ensures { coded form_row_code result ≡ answer (metadata_rows order page.now 0 0 Queue) (queue_fields order page.now) }
 {
     check_common(page, order, 0, FileKind::Queue)?;
     let meta = queue_fields(page, order);
@@ -76,7 +70,7 @@ pub fn queue_meta(page: &[u8], order: Order) -> Result<QueueMeta, MetaFault>
 {
     match checked_queue(page, order) {
         Ok(meta) => Ok(meta),
-        Err(code) => Err(form_fault(code)),
+        Err(row) => Err(row.fault()),
     }
 }
 

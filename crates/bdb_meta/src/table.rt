@@ -7,11 +7,11 @@ ghost use Rattle.bdb_layout.specs.of_format.Reading.{hash_fields, is_zero};
 ghost use Rattle.bdb_layout.specs.of_format.Rows.{are_masks, lacks_spare, metadata_rows, table_rows};
 ghost use Rattle.bdb_layout.specs.of_format.Spelling.{table_bytes};
 ghost use Rattle.bdb_layout.specs.of_format.Table.{answer};
+ghost use Rattle.bdb_layout.specs.of_format.RowCodes.{coded, form_row_code};
 ghost use Rattle.bdb_layout.specs.of_format.declared.metadata.FileKind.TheVariants.{Hash};
 
-use crate::faults::form_fault;
 use crate::generic::{Generic, check_common, put_generic};
-use bdb_layout::{FileKind, HashMeta, MetaFault, Order, group_of, put_u32, u32_at};
+use bdb_layout::{FileKind, FormRow, HashMeta, MetaFault, Order, group_of, put_u32, u32_at};
 
 /// The hash of a fixed text, by which a file tells its hash function.
 const CHARKEY: u32 = 0x5e688dd1;
@@ -46,24 +46,24 @@ fn lacks_spare(meta: &HashMeta) -> bool
     (0..groups(meta.max_bucket)).any(|group| meta.spares[group] == 0)
 }
 
-/// The rows of hash metadata alone hold nowhere. A refusal is the code of the first that does.
-fn check_table(page: &[u8], order: Order, last: u32, meta: &HashMeta) -> Result<(), u8>
+/// The rows of hash metadata alone hold nowhere. A refusal is the first that does.
+fn check_table(page: &[u8], order: Order, last: u32, meta: &HashMeta) -> Result<(), FormRow>
     requires page { 224 ≤ length page.now }
     requires last { last < 2 ^ 21 }
     requires meta { meta.now ≡ hash_fields order page.now }
-    ensures { result ≡ answer (table_rows order page.now last) tt }
+    ensures { coded form_row_code result ≡ answer (table_rows order page.now last) tt }
 {
     if u32_at(page, 92, order) != CHARKEY {
-        return Err(11);
+        return Err(FormRow::OwnHash);
     }
     if meta.flags > 0x07 {
-        return Err(12);
+        return Err(FormRow::HashFlags);
     }
     if !are_masks(meta) {
-        return Err(13);
+        return Err(FormRow::HashMasks);
     }
     if meta.max_bucket > last || lacks_spare(meta) {
-        return Err(14);
+        return Err(FormRow::HashBuckets);
     }
     Ok(())
 }
@@ -96,12 +96,12 @@ pub fn hash_fields(page: &[u8], order: Order) -> HashMeta
     }
 }
 
-/// The fields of this page as hash metadata. A refusal is the code of the first row that holds.
+/// The fields of this page as hash metadata. A refusal is the first row that holds.
 #[tactic(auto, unfolding(crate::specs::Below::metadata_rows))]
-fn checked_table(page: &[u8], order: Order, number: u32, last: u32) -> Result<HashMeta, u8>
+pub fn checked_table(page: &[u8], order: Order, number: u32, last: u32) -> Result<HashMeta, FormRow>
     requires page { 512 ≤ length page.now }
     requires last { last < 2 ^ 21 }
-    ensures { result ≡ answer (metadata_rows order page.now number last Hash) (hash_fields order page.now) }
+    ensures { coded form_row_code result ≡ answer (metadata_rows order page.now number last Hash) (hash_fields order page.now) }
 {
     check_common(page, order, number, FileKind::Hash)?;
     let meta = hash_fields(page, order);
@@ -118,7 +118,7 @@ pub fn hash_meta(page: &[u8], order: Order, number: u32, last: u32) -> Result<Ha
 {
     match checked_table(page, order, number, last) {
         Ok(meta) => Ok(meta),
-        Err(code) => Err(form_fault(code)),
+        Err(row) => Err(row.fault()),
     }
 }
 

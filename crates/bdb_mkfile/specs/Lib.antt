@@ -14,6 +14,7 @@ pub mod Lengths
 pub mod Loading
 pub mod Order
 pub mod Settled
+pub use Rattle.bdb_need.specs.of_faults as of_faults
 pub use Rattle.bdb_io.specs.of_format as of_format
 pub use Rattle.bdb_need.specs.of_image as of_image
 pub use Rattle.bdb_need.specs.of_law_join as of_law_join

@@ -7,15 +7,11 @@ ghost use Rattle.bdb_mktree.specs.of_pack.OnPages.{IsBegunOn};
 ghost use Rattle.bdb_mkhash.specs.Filling.{IsGrown};
 ghost use Rattle.bdb_mkhash.specs.Pages.{CanTakeContent, HoldsContentsOn, with_hash_page, with_next};
 
-use bdb_mktree::{HashItem, Header, Pages, put_u32};
+use bdb_mktree::{HashItem, Header, PageType, Pages, put_u32};
 use std::alloc::AllocError;
 
 /// How many pages a file may have.
 pub(crate) const MAX_PAGES: u32 = 1 << 21;
-
-/// The type of a page whose keys are in no order: whoever seeks a key looks at each one. The original finds keys on a page of type 13 by
-/// halving, in an order of its own.
-const UNSORTED: u8 = 2;
 
 /// Adds a page of a table without items behind all pages, where a number is left for it, and answers that. `previous` is
 /// the page before it in its bucket, 0 where it is the first.
@@ -39,7 +35,7 @@ pub(crate) fn add_page(pages: &mut Pages, previous: u32) -> Result<u32, AllocErr
             entries: 0,
             high_free: 0,
             level: 0,
-            page_type: UNSORTED,
+            page_type: PageType::UNSORTED_HASH,
         },
     );
     Ok(number)

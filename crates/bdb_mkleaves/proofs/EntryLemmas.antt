@@ -9,7 +9,8 @@ use Rattle.std.proofs.lemmas.List.{get_or-map}
 use Rattle.std.proofs.lemmas.List.Sums.{sum_by_push}
 use Rattle.bdb_places.specs.of_format.declared.kinds.Order.{Order}
 use Rattle.bdb_places.specs.of_format.Numbers.{byte_at, four_at, pad4}
-use Rattle.bdb_places.specs.of_format.Page.{Content, Inline, Set, Chain, Tree, Unknown, Item, Leaf, LeafPage, Listed}
+use Rattle.bdb_places.specs.of_format.Page.{Content, Inline, Set, Chain, Tree, Unknown, Item, Leaf, Listed}
+use Rattle.bdb_places.specs.of_format.declared.pages.PageType.TheVariants.{Leaf as LeafPage}
 use Rattle.bdb_places.specs.of_format.Reading.{abstract_page, entries_of, index_end, leaf_item_at, listed, offset_of, page_as, page_type}
 use Rattle.bdb_places.specs.of_format.References.{is_shared_key, no_item}
 use Rattle.bdb_places.specs.of_format.Rows.{item_row}

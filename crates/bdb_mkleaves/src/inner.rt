@@ -12,7 +12,7 @@ ghost use Rattle.bdb_mkleaves.specs.Inner.{CanTakeChild, HoldsChildrenOn, added_
 use crate::leaves::MAX_PAGES;
 use bdb_law_levels::InnerType;
 use bdb_pack::{InternalItem, Pages, put_u16};
-use bdb_places::{Header, RecnoItem};
+use bdb_places::{Header, PageType, RecnoItem};
 use std::alloc::AllocError;
 
 // The type byte of an internal page.
@@ -20,8 +20,8 @@ fn type_of(inner: InnerType) -> u8
     ensures { result ≡ inner_number inner }
 {
     match inner {
-        InnerType::Keyed => 3,
-        InnerType::Numbered => 4,
+        InnerType::Keyed => PageType::INTERNAL,
+        InnerType::Numbered => PageType::RECNO_INTERNAL,
     }
 }
 

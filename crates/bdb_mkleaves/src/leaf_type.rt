@@ -3,6 +3,7 @@ ghost use Rattle.bdb_mkleaves.specs.Laid.{inner_of};
 ghost use Rattle.bdb_mkleaves.specs.LeafEntries.{count_of, type_number};
 
 use bdb_law_levels::InnerType;
+use bdb_places::PageType;
 
 /// The types of leaves of trees.
 #[derive(Clone, Copy, Debug, PartialEq, Eq)]
@@ -21,9 +22,9 @@ impl LeafType {
         ensures { result ≡ type_number self }
     {
         match self {
-            LeafType::Pairs => 5,
-            LeafType::Records => 6,
-            LeafType::SortedData => 12,
+            LeafType::Pairs => PageType::LEAF,
+            LeafType::Records => PageType::RECNO_LEAF,
+            LeafType::SortedData => PageType::DUP_LEAF,
         }
     }
 

@@ -17,8 +17,8 @@ mod tower;
 mod units;
 
 pub use bdb_pack::{
-    DupBlocks, HashItem, Pages, Stored, bucket_of, compare, hash5, push_value, put_u16, put_u32,
-    u32_at,
+    DupBlocks, HashItem, Pages, Stored, bucket_of, compare, hash5, pad4, push_value, put_u16,
+    put_u32, records_per_page, slot_size, u32_at,
 };
 pub use leaf_type::LeafType;
 pub use leaves::Leaves;

@@ -8,7 +8,7 @@ ghost use Rattle.bdb_mkleaves.specs.Units.{EntryUnit, KeyedUnit, has_own_tree, u
 ghost use Rattle.bdb_mkleaves.specs.declared.leaf_type.LeafType.TheVariants.{Pairs};
 
 use crate::leaves::Leaves;
-use bdb_pack::Pages;
+use bdb_pack::{Pages, pad4};
 use bdb_places::Values;
 use std::alloc::AllocError;
 
@@ -17,7 +17,7 @@ pub(crate) fn value_cost(size: usize, value: &[u8]) -> usize
     ensures { result ≡ value_cost size value.now }
 {
     if value.len() <= size / 8 {
-        (value.len() + 6) / 4 * 4
+        pad4(3 + value.len())
     } else {
         12
     }

@@ -7,9 +7,9 @@ ghost use Rattle.bdb_text_format.specs.Pairs.{AscendFrom};
 ghost use Rattle.bdb_text_format.specs.Placed.{pairs_of, slice_seen};
 ghost use Rattle.bdb_mkqueue.specs.Lists.{HasLength, HasNext, IsQueueList, first_number, next_number};
 
-use crate::records::{number_of, page_of, put_record, records_per_page, slot_of};
-use bdb_law_join::{Pages, put_header};
-use bdb_text_format::{Header, PairSlice, QueueMeta, Settings};
+use crate::records::{number_of, page_of, put_record, slot_of};
+use bdb_law_join::{Pages, put_header, records_per_page};
+use bdb_text_format::{Header, PageType, PairSlice, QueueMeta, Settings};
 use std::alloc::AllocError;
 
 // The longest file that is read has no more pages.
@@ -39,7 +39,7 @@ fn begin_page(pages: &mut Pages, number: u32)
         entries: 0,
         high_free: 0,
         level: 0,
-        page_type: 11,
+        page_type: PageType::QUEUE,
     };
     put_header(pages.page_mut(number), order, &header);
 }
@@ -126,7 +126,7 @@ fn queue_meta(page_size: usize, settings: &Settings, list: PairSlice<'_>) -> Que
         current: next_number(list),
         re_len: settings.re_len,
         re_pad: settings.re_pad,
-        per_page: records_per_page(page_size, settings.re_len),
+        per_page: records_per_page(page_size as u32, settings.re_len),
     }
 }
 

@@ -1,10 +1,10 @@
 ghost use Rattle.std.specs.Prelude.{◌≡◌, ◌+◌, ◌*◌, ◌<◌, ◌≤◌, ◌^◌, ◌∷◌, length};
 ghost use Rattle.bdb_text_format.specs.of_format.Numbers.{overwritten, pad4};
-ghost use Rattle.bdb_text_format.specs.of_format.Rows.{records_per_page};
 ghost use Rattle.bdb_mkqueue.specs.Layout.{page_of, slot_of};
 ghost use Rattle.bdb_text_format.specs.Pairs.{number_of};
 ghost use Rattle.bdb_text_format.specs.Placed.{key_seen};
 
+use bdb_law_join::slot_size;
 use bdb_text_format::{KeyRef, QueueMeta};
 
 // What the first byte of a slot says of its record. Readers ask for the first bit alone; some tools of the original look for the second one.
@@ -20,24 +20,6 @@ pub(crate) fn number_of(key: KeyRef<'_>) -> u32
         KeyRef::Bytes(_) => 0,
         KeyRef::Number(number) => number,
     }
-}
-
-// The bytes of a slot: the one that says what it is, the record, and what pads them.
-fn slot_size(re_len: u32) -> usize
-    ensures size { result ≡ pad4 (re_len + 1) }
-    ensures room { re_len + 1 ≤ result }
-    ensures high { result ≤ re_len + 4 }
-{
-    (re_len as usize + 1).div_ceil(4) * 4
-}
-
-/// How many records of `re_len` bytes stand on a page of `size` bytes.
-pub(crate) fn records_per_page(size: usize, re_len: u32) -> u32
-    requires low { 28 ≤ size }
-    requires high { size ≤ 32768 }
-    ensures { result ≡ records_per_page size re_len }
-{
-    ((size - 28) / slot_size(re_len)) as u32
 }
 
 /// The page of a record.

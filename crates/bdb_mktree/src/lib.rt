@@ -7,12 +7,12 @@ mod runs;
 mod unit;
 
 pub use bdb_mkleaves::{
-    DupBlocks, HashItem, Pages, Stored, bucket_of, build_set, compare, hash5, push_value, put_u16,
-    put_u32, u32_at,
+    DupBlocks, HashItem, Pages, Stored, bucket_of, build_set, compare, hash5, pad4, push_value,
+    put_u16, put_u32, records_per_page, slot_size, u32_at,
 };
 pub use bdb_text_format::{
-    BtreeMeta, Bytes, HashMeta, Header, KeyRef, Kind, Order, PairRef, PairSlice, Place, PlacedKey,
-    PlacedPairs, Section, Sections, Settings, Span, TextPairs, Values, are_one, key_at,
+    BtreeMeta, Bytes, HashMeta, Header, KeyRef, Kind, Order, PageType, PairRef, PairSlice, Place,
+    PlacedKey, PlacedPairs, Section, Sections, Settings, Span, TextPairs, Values, are_one, key_at,
     plain_settings,
 };
 pub use build::build_tree;

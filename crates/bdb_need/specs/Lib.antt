@@ -2,6 +2,7 @@ pub mod Counting
 pub mod TreePages
 pub mod Counts
 pub mod Need
+pub use Rattle.bdb_mkqueue.specs.of_faults as of_faults
 pub use Rattle.bdb_mkhash.specs.of_format as of_format
 pub use Rattle.bdb_mkqueue.specs.of_image as of_image
 pub use Rattle.bdb_mkhash.specs.of_law_buckets as of_law_buckets

@@ -5,6 +5,8 @@ ghost use Rattle.bdb_mkhash.specs.of_mkleaves.Spread.{key_item_cost};
 ghost use Rattle.bdb_mkhash.specs.of_mkleaves.Units.{chain_pages, page_room, value_cost};
 ghost use Rattle.bdb_need.specs.Counting.{length_chain, length_cost};
 
+use bdb_mkhash::pad4;
+
 /// The bytes of a page behind its header.
 pub(crate) fn page_room(size: usize) -> usize
     requires { IsTrue (is_page_size size) }
@@ -20,11 +22,7 @@ pub(crate) fn length_cost(size: usize, len: usize) -> usize
     ensures few { result ≤ 4200 }
     ensures fits { result + 2 ≤ page_room size }
 {
-    if len <= size / 8 {
-        (len + 6) / 4 * 4
-    } else {
-        12
-    }
+    if len <= size / 8 { pad4(3 + len) } else { 12 }
 }
 
 /// The bytes of a value's item on a leaf.
@@ -68,7 +66,7 @@ pub(crate) fn key_item_cost(size: usize, key: &[u8]) -> u16
     ensures fits { result + 14 ≤ page_room size }
 {
     if key.len() <= size / 8 {
-        (2 + (key.len() + 15) / 4 * 4) as u16
+        (2 + pad4(12 + key.len())) as u16
     } else {
         26
     }

@@ -7,7 +7,7 @@ ghost use Rattle.bdb_mkhash.specs.of_text_format.Pairs.{AscendFrom, number_of};
 ghost use Rattle.bdb_mkhash.specs.of_text_format.Placed.{key_seen};
 ghost use Rattle.bdb_need.specs.TreePages.{unlined_pairs};
 
-use bdb_mkhash::{KeyRef, Settings, TextPairs};
+use bdb_mkhash::{KeyRef, Settings, TextPairs, records_per_page};
 
 // The number of a record.
 fn number_of(key: KeyRef<'_>) -> u64
@@ -20,22 +20,6 @@ fn number_of(key: KeyRef<'_>) -> u64
     }
 }
 
-// The bytes of a slot: one, the record, and what pads them.
-fn slot_size(re_len: u32) -> u64
-    ensures size { result ≡ pad4 (re_len + 1) }
-    ensures room { re_len + 1 ≤ result }
-{
-    (u64::from(re_len) + 1).div_ceil(4) * 4
-}
-
-// How many records of `re_len` bytes stand on a page of `size` bytes.
-fn records_per_page(size: u32, re_len: u32) -> u64
-    requires low { 28 ≤ size }
-    ensures { result ≡ records_per_page size re_len }
-{
-    u64::from(size - 28) / slot_size(re_len)
-}
-
 /// How many pages the queue of a list has, its metadata not counted: those up to the page of its greatest record.
 pub fn queue_pages(settings: &Settings, list: &TextPairs) -> u64
     requires legal { IsTrue (is_page_size settings.now.page_size) }
@@ -44,7 +28,7 @@ pub fn queue_pages(settings: &Settings, list: &TextPairs) -> u64
     ensures pages { result ≡ queue_size (records_per_page settings.now.page_size settings.now.re_len) (unlined_pairs list.now) }
     ensures few { result ≤ 2 ^ 32 }
 {
-    let per_page = records_per_page(settings.page_size, settings.re_len);
+    let per_page = u64::from(records_per_page(settings.page_size, settings.re_len));
     match list.as_slice().last() {
         Some(pair) => 1 + (number_of(pair.key) - 1) / per_page,
         None => 0,

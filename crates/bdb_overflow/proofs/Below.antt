@@ -1,3 +1,2 @@
 -- What the tactics of this crate take from the crates below.
-pub use Rattle.bdb_graph.proofs.of_format.FileLemmas.{last_page}
 pub use Rattle.bdb_graph.proofs.of_format.LessLemmas.{less_self}

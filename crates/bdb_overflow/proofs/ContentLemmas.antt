@@ -10,7 +10,8 @@ use Rattle.bdb_graph.specs.of_format.declared.references.Sort.TheVariants.{Overf
 use Rattle.bdb_graph.specs.of_format.File.{File, file_of, page_at, page_bytes}
 use Rattle.bdb_graph.specs.of_format.HeadOf.{head_of}
 use Rattle.bdb_graph.specs.of_format.Page.{Content, Inline, Set, Chain, Tree, Unknown, Item, InternalItem, Listed, Page, Hash, Internal, Leaf, RecnoLeaf, DupLeaf}
-use Rattle.bdb_graph.specs.of_format.Page.{PageType, LeafPage}
+use Rattle.bdb_graph.specs.of_format.declared.pages.PageType.{PageType}
+use Rattle.bdb_graph.specs.of_format.declared.pages.PageType.TheVariants.{Leaf as LeafPage}
 use Rattle.bdb_graph.specs.of_format.Reading.{abstract_page, entries_of, leaf_item_at, listed, page_as}
 use Rattle.bdb_graph.specs.of_format.References.{content_targets, is_shared_key, targets_in, targets_of, no_item, contents_in}
 use Rattle.bdb_graph.proofs.of_format.MemberLemmas.{first_member, in_map}
@@ -20,6 +21,7 @@ use Rattle.bdb_graph.specs.of_image.Linked.{FitsChain, IsForest}
 use Rattle.bdb_graph.proofs.ChildLemmas.{is_queue_page, queue_page}
 use Rattle.bdb_graph.proofs.LinkedLemmas.{named_target}
 use Rattle.bdb_overflow.specs.Datum.{FitsContent}
+use Rattle.bdb_overflow.specs.Lengths.{AreFit}
 use Rattle.bdb_graph.proofs.of_format.ListLemmas.{member_of}
 use Rattle.bdb_graph.proofs.of_format.ReferenceLemmas.{forest_names}
 use Rattle.bdb_graph.proofs.of_format.LeafLemmas.{leaf_item_is, one_offset}
@@ -165,3 +167,27 @@ leaf_item_fits image p page i item forest low is at =
     ∙ (ap (λ (l : Listed Item). get_or l.items i no_item) (sym as_listed) ∙ found.1) in
     subst (λ (it : Item). FitsContent (file_of image) it.content) same (entry_fits i image p order bytes i forest low (is ∙ ap (λ l. Leaf l) as_listed)
     (omega arith) there)
+
+-- All items of a page.
+
+pub records_fit : (image : List ℕ) (p : ℕ) (page : Listed Item) → IsForest image → p ≤ (file_of image).last → page_at (file_of image) p ≡ RecnoLeaf page
+    → AreFit (file_of image) (λ (item : Item). item.content) page
+records_fit image p page forest low is = λ i item at. recno_item_fits image p page i item forest low is at
+
+pub sorted_fit : (image : List ℕ) (p : ℕ) (page : Listed Item) → IsForest image → p ≤ (file_of image).last → page_at (file_of image) p ≡ DupLeaf page
+    → AreFit (file_of image) (λ (item : Item). item.content) page
+sorted_fit image p page forest low is = λ i item at. dup_item_fits image p page i item forest low is at
+
+pub bucket_fit : (image : List ℕ) (p : ℕ) (page : Listed Item) → IsForest image → p ≤ (file_of image).last → page_at (file_of image) p ≡ Hash page
+    → AreFit (file_of image) (λ (item : Item). item.content) page
+bucket_fit image p page forest low is = λ i item at. hash_item_fits image p page i item forest low is at
+
+pub keys_fit : (image : List ℕ) (p : ℕ) (page : Listed InternalItem) → IsForest image → p ≤ (file_of image).last → page_at (file_of image) p ≡ Internal page
+    → AreFit (file_of image) (λ (item : InternalItem). item.key) page
+keys_fit image p page forest low is = λ i item at. key_fits image p page i item forest low is at
+
+pub leaf_fit : (image : List ℕ) (p : ℕ) (page : Listed Item) → IsForest image → p ≤ (file_of image).last → page_at (file_of image) p ≡ Leaf page
+    → AreFit (file_of image) (λ (item : Item). item.content) page
+leaf_fit image p page forest low is = λ i item at. leaf_item_fits image p page i item forest low is at
+
+pub ruleset items_fit = (records_fit, sorted_fit, bucket_fit, keys_fit, leaf_fit)

@@ -1,57 +1,32 @@
 -- Chains of a wrong length, item by item, and the faults that they are.
-use Rattle.std.proofs.Common.{◌≡◌, ℕ, ◌+◌, ◌*◌, ◌%◌, ◌<◌, ◌≤◌, Bool, true, false, List, [], ◌∷◌, length, map, get_or, Some, arith, refl, ◌∙◌, ap}
-use Rattle.std.proofs.Common.{zero-add}
+use Rattle.std.proofs.Common.{◌≡◌, ℕ, zero, suc, ◌+◌, ◌<◌, ◌≤◌, Bool, true, false, List, [], ◌∷◌, length, drop, map, get_or, Some, arith, refl, sym, ◌∙◌, ap}
+use Rattle.std.proofs.Common.{add-one, zero-add}
+use Rattle.std.proofs.Math.Seq.{drop-cons}
+use Rattle.std.proofs.lemmas.List.{drop_all}
 use Rattle.std.specs.Prelude.{◌&&◌, ◌||◌, slice_get}
 use Rattle.std.specs.List.{filter, flat_map, list_any, range_with_len}
-use Rattle.std.proofs.lemmas.Bool.{cases_order}
 use Rattle.std.proofs.lemmas.List.Folds.{flat_map-map, list_any-append, list_any_at}
 use Rattle.std.proofs.lemmas.List.FromFn.{get_or-range_with_len, length-range_with_len}
 use Rattle.bdb_graph.specs.of_slots.Slots.{no_internal_item}
 use Rattle.bdb_graph.specs.of_format.Chains.{content_chains, is_wrong_length}
 use Rattle.bdb_graph.specs.of_format.File.{File, page_at}
 use Rattle.bdb_graph.specs.of_format.Page.{Content, DupLeaf, Hash, Internal, Item, InternalItem, Leaf, Listed, RecnoLeaf}
-use Rattle.bdb_graph.specs.of_format.References.{is_shared_key, no_item}
+use Rattle.bdb_graph.specs.of_format.References.{no_item}
 use Rattle.bdb_graph.specs.of_format.Verdict.{chain_faults}
 use Rattle.bdb_graph.proofs.of_format.MemberLemmas.{none_pass, of_range}
 use Rattle.bdb_graph.proofs.of_format.VerdictLemmas.{no_faults, none_holds}
-use Rattle.bdb_overflow.specs.Lengths.{has_wrong, is_wrong, is_wrong_entry, is_wrong_item, is_wrong_key}
+use Rattle.bdb_overflow.specs.Lengths.{has_wrong, is_wrong, some_wrong}
 use Rattle.bdb_overflow.proofs.ContentLemmas.{got}
-use Rattle.bdb_graph.proofs.of_format.ListLemmas.{none_of_list}
 
--- Items.
-
-pub item_is_wrong : (file : File) (page : Listed Item) (i : ℕ) (item : Item) → slice_get page.items i ≡ Some item
-    → is_wrong_item file page i ≡ is_wrong file item.content
-item_is_wrong file page i item at = ap (λ (it : Item). is_wrong file it.content) (got page.items i item no_item at).1
-
-pub key_is_wrong : (file : File) (page : Listed InternalItem) (i : ℕ) (item : InternalItem) → slice_get page.items i ≡ Some item
-    → is_wrong_key file page i ≡ is_wrong file item.key
-key_is_wrong file page i item at = ap (λ (it : InternalItem). is_wrong file it.key) (got page.items i item no_internal_item at).1
-
--- a key that isn't shared
-pub own_is_wrong : (file : File) (page : Listed Item) (i : ℕ) (item : Item) → slice_get page.items (2 * i) ≡ Some item → is_shared_key page.offsets (2 * i)
-    ≡ false
-    → is_wrong_entry file page (2 * i) ≡ is_wrong file item.content
-own_is_wrong file page i item at own = rw own (item_is_wrong file page (2 * i) item at)
-
-pub shared_is_right : (file : File) (page : Listed Item) (i : ℕ) → is_shared_key page.offsets (2 * i) ≡ true → is_wrong_entry file page (2 * i) ≡ false
-shared_is_right file page i shared = rw shared refl
-
-odd_is_own : (offsets : List ℕ) (i : ℕ) → is_shared_key offsets (2 * i + 1) ≡ false
-odd_is_own offsets i = let odd : (2 * i + 1) % 2 ≡ 1 = omega arith in rw odd refl
-
-pub data_is_wrong : (file : File) (page : Listed Item) (i : ℕ) (item : Item) → slice_get page.items (2 * i + 1) ≡ Some item
-    → is_wrong_entry file page (2 * i + 1) ≡ is_wrong file item.content
-data_is_wrong file page i item at = rw (odd_is_own page.offsets i) (item_is_wrong file page (2 * i + 1) item at)
+-- an item that was read is the one of its entry
+pub entry_is : {I : Type 0} (page : Listed I) (i : ℕ) (item none : I) → slice_get page.items i ≡ Some item → get_or page.items i none ≡ item
+entry_is page i item none at = (got page.items i item none at).1
 
 -- Pages.
 
 -- a test fails below a number
 abbrev pub NoneBelow : (ℕ → Bool) → ℕ → Type 0
 NoneBelow test n = (k : ℕ) → k < n → test k ≡ false
-
-pub pair_more : (test : ℕ → Bool) (i : ℕ) → NoneBelow test (2 * i) → test (2 * i) ≡ false → test (2 * i + 1) ≡ false → NoneBelow test (2 * (i + 1))
-pair_more test i none key value k below = grind (arith, cases_order)
 
 pub any_of_all : {X C : Type 0} (wrong : C → Bool) (f : X → List C) (xs : List X) → list_any wrong (flat_map f xs) ≡ list_any (λ x. list_any wrong (f x)) xs
 any_of_all wrong f [] = refl
@@ -63,64 +38,52 @@ wrong_held : {X : Type 0} (file : File) (f : X → Content) (xs : List X)
 wrong_held file f xs =
     ap (list_any (is_wrong_length file)) (flat_map-map content_chains f xs) ∙ any_of_all (is_wrong_length file) (λ x. content_chains (f x)) xs
 
-some_of : {X : Type 0} (file : File) (f : X → Content) (d : X) (xs : List X) (i : ℕ) → i < length xs → is_wrong file (f (get_or xs i d)) ≡ true
-    → list_any (is_wrong_length file) (flat_map content_chains (map f xs)) ≡ true
-some_of file f d xs i there is = wrong_held file f xs ∙ list_any_at (λ x. is_wrong file (f x)) xs i d there is
+-- a test of each element by its index
+any_index : {X : Type 0} (f : X → Bool) (d : X) (xs : List X) (i n : ℕ) → i + n ≡ length xs
+    → list_any (λ k. f (get_or xs k d)) (range_with_len i n) ≡ list_any f (drop i xs)
+any_index f d xs i zero all = rw (drop_all i xs (omega arith)) refl
+any_index f d xs i (suc n) all = grind (arith, add-one, drop-cons, any_index f d xs (i + 1) n (omega arith))
 
-none_of : {X : Type 0} (file : File) (f : X → Content) (d : X) (xs : List X) (n : ℕ) → NoneBelow (λ k. is_wrong file (f (get_or xs k d))) n → length xs ≤ n
-    → list_any (is_wrong_length file) (flat_map content_chains (map f xs)) ≡ false
-none_of file f d xs n none all = wrong_held file f xs ∙ none_of_list (λ x. is_wrong file (f x)) d xs (λ k lt. none k (omega arith))
+-- a page without shared keys, entry by entry
+plain_wrong : {I : Type 0} (file : File) (content : I → Content) (none : I) (page : Listed I)
+    → some_wrong file false content none page ≡ list_any (is_wrong_length file) (flat_map content_chains (map content page.items))
+plain_wrong file content none page =
+    any_index (λ item. is_wrong file (content item)) none page.items 0 (length page.items) refl ∙ sym (wrong_held file content page.items)
 
 any_kept : {X : Type 0} (test keeps : X → Bool) (xs : List X) → list_any test (filter keeps xs) ≡ list_any (λ x. keeps x && test x) xs
 any_kept test keeps [] = refl
 any_kept test keeps (x ∷ xs) = grind (arith, any_kept test keeps xs)
 
--- a btree leaf, entry by entry
-wrong_entries : (file : File) (page : Listed Item) → has_wrong file (Leaf page) ≡ list_any (is_wrong_entry file page) (range_with_len 0 (length page.items))
+wrong_entries : (file : File) (page : Listed Item) → has_wrong file (Leaf page) ≡ some_wrong file true (λ (item : Item). item.content) no_item page
 wrong_entries file page = grind (arith, wrong_held, any_kept)
 
-pub records_some : (file : File) (page : Listed Item) (i : ℕ) → i < length page.items → is_wrong_item file page i ≡ true → has_wrong file (RecnoLeaf page)
-    ≡ true
-records_some file page i there is = some_of file (λ (item : Item). item.content) no_item page.items i there is
+pub leaf_wrong : (file : File) (page : Listed Item) → some_wrong file true (λ (item : Item). item.content) no_item page ≡ has_wrong file (Leaf page)
+leaf_wrong file page = sym (wrong_entries file page)
 
-pub records_none : (file : File) (page : Listed Item) (n : ℕ) → NoneBelow (is_wrong_item file page) n → length page.items ≤ n → has_wrong file (RecnoLeaf page)
-    ≡ false
-records_none file page n none all = none_of file (λ (item : Item). item.content) no_item page.items n none all
+pub records_wrong : (file : File) (page : Listed Item) → some_wrong file false (λ (item : Item). item.content) no_item page ≡ has_wrong file (RecnoLeaf page)
+records_wrong file page = plain_wrong file (λ (item : Item). item.content) no_item page
 
-pub duplicates_some : (file : File) (page : Listed Item) (i : ℕ) → i < length page.items → is_wrong_item file page i ≡ true → has_wrong file (DupLeaf page)
-    ≡ true
-duplicates_some file page i there is = some_of file (λ (item : Item). item.content) no_item page.items i there is
+pub sorted_wrong : (file : File) (page : Listed Item) → some_wrong file false (λ (item : Item). item.content) no_item page ≡ has_wrong file (DupLeaf page)
+sorted_wrong file page = plain_wrong file (λ (item : Item). item.content) no_item page
 
-pub duplicates_none : (file : File) (page : Listed Item) (n : ℕ) → NoneBelow (is_wrong_item file page) n → length page.items ≤ n → has_wrong file (DupLeaf page)
-    ≡ false
-duplicates_none file page n none all = none_of file (λ (item : Item). item.content) no_item page.items n none all
+pub hash_wrong : (file : File) (page : Listed Item) → some_wrong file false (λ (item : Item). item.content) no_item page ≡ has_wrong file (Hash page)
+hash_wrong file page = plain_wrong file (λ (item : Item). item.content) no_item page
 
-pub hash_some : (file : File) (page : Listed Item) (i : ℕ) → i < length page.items → is_wrong_item file page i ≡ true → has_wrong file (Hash page) ≡ true
-hash_some file page i there is = some_of file (λ (item : Item). item.content) no_item page.items i there is
+pub keys_wrong : (file : File) (page : Listed InternalItem) → some_wrong file false (λ (item : InternalItem). item.key) no_internal_item page
+    ≡ has_wrong file (Internal page)
+keys_wrong file page = plain_wrong file (λ (item : InternalItem). item.key) no_internal_item page
 
-pub hash_none : (file : File) (page : Listed Item) (n : ℕ) → NoneBelow (is_wrong_item file page) n → length page.items ≤ n → has_wrong file (Hash page) ≡ false
-hash_none file page n none all = none_of file (λ (item : Item). item.content) no_item page.items n none all
+-- a test that holds for an entry, or for none
+pub entries_some : (test : ℕ → Bool) (n i : ℕ) → i < n → test i ≡ true → list_any test (range_with_len 0 n) ≡ true
+entries_some test n i there is =
+    list_any_at test (range_with_len 0 n) i 0 (omega (arith, length-range_with_len 0 n)) (ap test (get_or-range_with_len 0 n i 0 there ∙ zero-add i) ∙ is)
 
-pub keys_some : (file : File) (page : Listed InternalItem) (i : ℕ) → i < length page.items → is_wrong_key file page i ≡ true → has_wrong file (Internal page)
-    ≡ true
-keys_some file page i there is = some_of file (λ (item : InternalItem). item.key) no_internal_item page.items i there is
+pub entries_none : (test : ℕ → Bool) (n k : ℕ) → NoneBelow test k → n ≤ k → list_any test (range_with_len 0 n) ≡ false
+entries_none test n k none all =
+    none_pass test (range_with_len 0 n) (λ i at. let inside = of_range 0 n i at in none i (omega (arith, inside.1)))
 
-pub keys_none : (file : File) (page : Listed InternalItem) (n : ℕ) → NoneBelow (is_wrong_key file page) n → length page.items ≤ n
-    → has_wrong file (Internal page) ≡ false
-keys_none file page n none all = none_of file (λ (item : InternalItem). item.key) no_internal_item page.items n none all
-
-pub leaf_some : (file : File) (page : Listed Item) (i : ℕ) → i < length page.items → is_wrong_entry file page i ≡ true → has_wrong file (Leaf page) ≡ true
-leaf_some file page i there is =
-    let indices : List ℕ = range_with_len 0 (length page.items) in
-    wrong_entries file page
-    ∙ list_any_at (is_wrong_entry file page) indices i 0 (omega (arith, length-range_with_len 0 (length page.items)))
-    (ap (is_wrong_entry file page) (get_or-range_with_len 0 (length page.items) i 0 there ∙ zero-add i) ∙ is)
-
-pub leaf_none : (file : File) (page : Listed Item) (n : ℕ) → NoneBelow (is_wrong_entry file page) n → length page.items ≤ n → has_wrong file (Leaf page) ≡ false
-leaf_none file page n none all =
-    let indices : List ℕ = range_with_len 0 (length page.items) in
-    wrong_entries file page
-    ∙ none_pass (is_wrong_entry file page) indices (λ k at. let inside = of_range 0 (length page.items) k at in none k (omega (arith, inside.1)))
+-- whether a page names a chain of a wrong length
+pub ruleset wrong_by_page = (leaf_wrong, records_wrong, sorted_wrong, hash_wrong, keys_wrong)
 
 -- The stage.
 

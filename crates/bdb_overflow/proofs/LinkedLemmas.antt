@@ -30,7 +30,7 @@ use Rattle.bdb_graph.specs.Forest.{AllDistinct, IsWayDown, Names}
 use Rattle.bdb_graph.specs.of_image.Linked.{FitsChain, IsForest}
 use Rattle.bdb_graph.proofs.of_image.CodeLemmas.{code_by}
 use Rattle.bdb_graph.proofs.of_image.FirstLemmas.{formed_accepted, formed_last, formed_page}
-use Rattle.bdb_graph.proofs.of_image.FitLemmas.{typed, untyped, zero_type}
+use Rattle.bdb_graph.proofs.of_image.FitLemmas.{type_byte}
 use Rattle.bdb_graph.proofs.ForestLemmas.{no_page_twice_below, sound_graph}
 use Rattle.bdb_graph.proofs.of_image.FormedLemmas.{IsPaged, accepted_paged, page_length}
 use Rattle.bdb_graph.proofs.of_image.HeldLemmas.{other_formed}
@@ -64,10 +64,6 @@ count_is image = refl
 length_is : (image : List ℕ) (p : ℕ) → IsForest image → p ≤ (head_of image).last → length (page_bytes (head_of image) image p) ≡ (head_of image).page_size
 length_is image p forest low =
     page_length image (head_of image) p (formed_accepted image (head_of image) forest.formed) (omega (arith, formed_last image (head_of image) forest.formed))
-
--- the type of a page is its type byte
-pub type_byte : (order : Order) (page : List ℕ) (t : ℕ) → type_in (abstract_page order page) ≡ Some t → (is_zero page ≡ false) × (byte_at page 25 ≡ t)
-type_byte order page t is = grind (arith, cases_Bool, None, Some, zero_type, typed, untyped)
 
 no_queue : (kind : FileKind) (p byte : ℕ) → 1 ≤ p → byte ≡ 7 → may_have_type kind p byte ≡ true → kind ≡ Queue → ⊥
 no_queue Btree p byte low seven may queue = cc

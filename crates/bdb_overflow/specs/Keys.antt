@@ -5,7 +5,6 @@ use Rattle.std.specs.Cmp.Lexicographic.{slice_cmp}
 use Rattle.std.specs.List.{list_any}
 use Rattle.std.specs.Ordering.{nat_cmp}
 use Rattle.std.specs.Str.{bytes_eq}
-use Rattle.bdb_graph.specs.of_format.declared.kinds.Fault.{Fault}
 
 -- this key is among these
 abbrev pub has_key : BTreeSet (List ℕ) → List ℕ → Bool
@@ -20,7 +19,3 @@ abbrev pub repeated_by : {X : Type 0} → (X → List ℕ) → List X → List X
 repeated_by key before [] = []
 repeated_by key before (x ∷ xs) =
     if has_item key before (key x) then x ∷ repeated_by key (x ∷ before) xs else repeated_by key (x ∷ before) xs
-
--- the fault of an item, unless its key is new
-abbrev pub unless_new : Bool → Fault → List Fault
-unless_new is_new fault = if is_new then [] else fault ∷ []

@@ -1,5 +1,5 @@
 ghost use Rattle.std.specs.Prelude.{◌≡◌, ◌≤◌, [], IfErr, IsTrue, OnErr, OnOk, Some};
-ghost use Rattle.bdb_graph.specs.of_faults.Named.{HasNoted};
+ghost use Rattle.bdb_graph.specs.of_faults.Notes.{HasNoted};
 ghost use Rattle.bdb_graph.specs.of_faults.Notes.{Notes, NotesAll};
 ghost use Rattle.bdb_graph.specs.of_format.File.{file_of};
 ghost use Rattle.bdb_graph.specs.of_format.Verdict.{chain_faults, first_fault};
@@ -7,7 +7,9 @@ ghost use Rattle.bdb_graph.specs.of_image.Linked.{IsForest};
 ghost use Rattle.bdb_overflow.specs.Lengths.{faults_at};
 
 use crate::lengths::has_wrong;
-use bdb_graph::{Fault, FaultSink, First, Linked, NamedList, Row, StructureRow};
+use bdb_graph::{
+    Fault, FaultSink, First, FirstError, Linked, NamedList, Row, StructureRow, judged,
+};
 use std::alloc::AllocError;
 
 /// Each chain has the length that the items which name it tell. A refusal is the first fault: the least
@@ -17,13 +19,12 @@ pub fn check_chains(linked: &Linked<'_>) -> Result<(), Fault>
     ensures refusal { IfErr result (λ fault. first_fault (chain_faults (file_of linked.now)) ≡ Some fault) }
 {
     let mut first = First::new();
-    let Ok(()) = note_chains(linked, &mut first) else {
+    let answer = note_chains(linked, &mut first);
+    match judged(first, answer) {
+        Ok(()) => Ok(()),
+        Err(FirstError::Fault(named)) => Err(named.fault()),
         // Such a sink takes no memory.
-        unreachable!()
-    };
-    match first.fault() {
-        None => Ok(()),
-        Some(fault) => Err(fault),
+        Err(FirstError::Memory) => unreachable!(),
     }
 }
 
@@ -70,7 +71,7 @@ fn note_page<F: FaultSink>(linked: &Linked<'_>, page: u32, found: &mut F) -> Res
     ensures refused { OnErr result (IsTrue F.takes_memory) }
 {
     if has_wrong(linked, page) {
-        found.note(Row::Structure(StructureRow::ChainLength).at(page))?;
+        found.note(Row::Structure(StructureRow::ChainLength), page)?;
     }
     Ok(())
 }

@@ -2,12 +2,10 @@ ghost use Rattle.std.specs.Prelude.{◌≡◌, true, not, IfOk, OnErr, OnOk};
 ghost use Rattle.std.specs.BTreeSet.{IsEmpty, IsUnchanged, Updates};
 ghost use Rattle.std.specs.Cmp.Lexicographic.{slice_cmp};
 ghost use Rattle.std.specs.Ordering.{nat_cmp};
-ghost use Rattle.bdb_graph.specs.of_faults.Notes.{Notes};
 ghost use Rattle.bdb_overflow.specs.Datum.{datum_seen};
-ghost use Rattle.bdb_overflow.specs.Keys.{has_key, unless_new};
+ghost use Rattle.bdb_overflow.specs.Keys.{has_key};
 
 use crate::{Datum, Key};
-use bdb_graph::{Fault, FaultSink};
 use std::alloc::{AllocError, Global};
 use std::collections::BTreeSet;
 use std::marker::Model;
@@ -45,23 +43,5 @@ impl<'a> Keys<'a> {
     {
         let is_new = self.set.insert(Key::of(key))?;
         Ok(is_new)
-    }
-
-    /// Adds a key, and notes a fault unless the key is new. An error is want of memory.
-    pub fn note<F: FaultSink>(
-        &mut self,
-        key: Datum<'a>,
-        fault: Fault,
-        found: &mut F,
-    ) -> Result<(), AllocError>
-        ensures noted { OnOk result (Notes (F.has_noted found.old) (F.has_noted found.new)
-            (unless_new (not (has_key self.old (datum_seen key.entry))) fault)) }
-        ensures updates { OnOk result (Updates (slice_cmp nat_cmp) self.old self.new (datum_seen key.entry) true) }
-    {
-        let is_new = self.add(key)?;
-        if !is_new {
-            found.note(fault)?;
-        }
-        Ok(())
     }
 }

@@ -8,20 +8,18 @@ ghost use Rattle.bdb_overflow.specs.Taken.{ArePassedBy, ArePassedIfAny, IsOnWay,
 ghost use Rattle.bdb_overflow.specs.Whole.{IsLeft, IsWholeChain, bytes_of, pieces_from};
 
 use crate::taken::Taken;
-use bdb_graph::{Blanks, Order, u16_at, u32_at};
+use bdb_graph::{Blanks, Order, page_slice, u16_at, u32_at};
 use std::marker::Model;
 
-/// The bytes of a page that the image has whole.
-#[tactic(auto, using(crate::proofs::WholeLemmas::page_room, crate::proofs::WholeLemmas::page_length))]
-fn page_of<'a>(image: &'a [u8], size: u32, number: u32) -> &'a [u8]
+/// The bytes of a page that an image has whole, by the size of a page.
+#[tactic(auto, using(crate::proofs::WholeLemmas::page_room))]
+pub fn page_bytes<'a>(image: &'a [u8], size: u32, number: u32) -> &'a [u8]
     requires some { 1 ≤ size }
     requires there { number < length image.now / size }
     ensures bytes { result.now ≡ bytes_of size image.now number }
     ensures whole { length result.now ≡ size }
 {
-    let size = size as usize;
-    let start = number as usize * size;
-    &image[start..start + size]
+    page_slice(image, size, number)
 }
 
 /// The data on a page of a chain.
@@ -42,7 +40,7 @@ fn first_piece<'a>(image: &'a [u8], order: Order, size: u32, head: u32) -> (&'a 
     ensures pieces { pieces_from order size image.now head ≡ result.0.now ∷ pieces_from order size image.now result.1 }
     ensures rest { IsLeft order size image.now result.1 }
 {
-    let page = page_of(image, size, head);
+    let page = page_bytes(image, size, head);
     (data_of(page, order), u32_at(page, 16, order))
 }
 
@@ -151,6 +149,7 @@ impl<'a> Pieces<'a> {
     pub(crate) fn length(&self) -> u64
         ensures { result ≡ length (joined self.now) }
     {
+        // What holds of the pieces is known where a field of them is looked at.
         let _ = &self.image;
         length_of(self.again())
     }
@@ -159,6 +158,7 @@ impl<'a> Pieces<'a> {
     pub(crate) fn has_length(&self, len: u64) -> bool
         ensures { result ≡ (length (joined self.now) == len) }
     {
+        // What holds of the pieces is known where a field of them is looked at.
         let _ = &self.image;
         have_length(self.again(), len)
     }

@@ -32,7 +32,6 @@ impl<'a> Model for Values<'a> {
 }
 
 /// Whether more than one item may name a chain. Where none else does, nothing is to be kept of it.
-#[tactic(auto, using(crate::proofs::Below::last_page))]
 pub fn is_shared(forest: &Forest<'_>, head: u32) -> bool {
     if head > forest.head().last {
         return false;

@@ -4,7 +4,7 @@ use Rattle.std.specs.Prelude.{◌==◌}
 use Rattle.std.proofs.lemmas.Bool.{eq-eqb}
 use Rattle.bdb_layout.specs.of_format.declared.kinds.Order.{Order}
 use Rattle.bdb_layout.specs.of_format.Numbers.{byte_at, four_at}
-use Rattle.bdb_layout.specs.of_format.Page.{PageType}
+use Rattle.bdb_layout.specs.of_format.declared.pages.PageType.{PageType}
 use Rattle.bdb_layout.specs.of_format.Reading.{entries_of, index_end, is_zero, page_type}
 use Rattle.bdb_layout.specs.of_format.Rows.{body_code, identity_rows, index_rows, is_tree_type, is_wrong_entry_count, is_wrong_level, item_row, page_code}
 use Rattle.bdb_layout.specs.of_format.Table.{first_row, lesser}

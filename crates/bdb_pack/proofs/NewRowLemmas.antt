@@ -9,7 +9,9 @@ use Rattle.std.proofs.lemmas.List.{append_assoc}
 use Rattle.bdb_layout.specs.of_format.declared.kinds.Order.{Order}
 use Rattle.bdb_layout.specs.of_format.declared.pages.RecnoItem.{RecnoItem}
 use Rattle.bdb_layout.specs.of_format.Numbers.{byte_at, spelled, two_at}
-use Rattle.bdb_layout.specs.of_format.Page.{Chain, Content, HashPage, Inline, InternalPage, Item, LeafPage, RecnoInternalPage, Set, Tree, Unknown}
+use Rattle.bdb_layout.specs.of_format.Page.{Chain, Content, Inline, Item, Set, Tree, Unknown}
+use Rattle.bdb_layout.specs.of_format.declared.pages.PageType.TheVariants.{Hash as HashPage, Internal as InternalPage, Leaf as LeafPage}
+use Rattle.bdb_layout.specs.of_format.declared.pages.PageType.TheVariants.{RecnoInternal as RecnoInternalPage}
 use Rattle.bdb_layout.specs.of_format.Reading.{blocks_of, hash_end, hash_item_at, index_end, kind_at, offset_of}
 use Rattle.bdb_layout.specs.of_format.Rows.{hash_rows, internal_rows, is_hash_kind, is_leaf_kind, item_row, leaf_end, leaf_rows, recno_rows}
 use Rattle.bdb_layout.specs.of_format.Spelling.{IsHashContent, IsKey, IsLeafContent, block_bytes, hash_bytes, internal_bytes, kind_byte, leaf_bytes, recno_bytes, zeros}

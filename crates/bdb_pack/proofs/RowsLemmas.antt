@@ -8,7 +8,7 @@ use Rattle.bdb_layout.specs.of_format.declared.kinds.Order.{Order}
 use Rattle.bdb_layout.specs.of_format.declared.pages.ItemFault.{ItemFault}
 use Rattle.bdb_layout.specs.of_format.declared.pages.ItemFault.TheVariants.{Extent, Kind, Offset}
 use Rattle.bdb_layout.specs.of_format.Numbers.{byte_at}
-use Rattle.bdb_layout.specs.of_format.Page.{HashPage}
+use Rattle.bdb_layout.specs.of_format.declared.pages.PageType.TheVariants.{Hash as HashPage}
 use Rattle.bdb_layout.specs.of_format.Reading.{entries_of, hash_end, offset_of, page_type}
 use Rattle.bdb_layout.specs.of_format.Rows.{hash_rows, item_code, item_row}
 use Rattle.bdb_layout.specs.of_format.Table.{◌:?◌, first_row}

@@ -4,7 +4,8 @@ use Rattle.std.specs.Prelude.{◌%◌}
 use Rattle.std.proofs.lemmas.Bool.{ltb-false, or_parts}
 use Rattle.bdb_layout.specs.of_format.declared.kinds.Order.{Order}
 use Rattle.bdb_layout.specs.of_format.Numbers.{byte_at}
-use Rattle.bdb_layout.specs.of_format.Page.{Leaf, LeafPage}
+use Rattle.bdb_layout.specs.of_format.Page.{Leaf}
+use Rattle.bdb_layout.specs.of_format.declared.pages.PageType.TheVariants.{Leaf as LeafPage}
 use Rattle.bdb_layout.specs.of_format.Reading.{entries_of, index_end, leaf_item_at, listed, offset_of, page_type}
 use Rattle.bdb_layout.specs.of_format.Rows.{item_row, leaf_rows, item_code}
 use Rattle.bdb_layout.specs.of_format.Table.{first_row}

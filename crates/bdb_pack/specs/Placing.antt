@@ -4,8 +4,11 @@ use Rattle.bdb_layout.specs.of_format.declared.kinds.Order.{Order}
 use Rattle.bdb_layout.specs.of_format.declared.pages.Header.{Header}
 use Rattle.bdb_layout.specs.of_format.HeadOf.{is_page_size}
 use Rattle.bdb_layout.specs.of_format.Numbers.{byte_at, four_at, overwritten, spelled, two_at}
-use Rattle.bdb_layout.specs.of_format.Page.{DupLeaf, DupLeafPage, Hash, HashPage, Internal, InternalPage, Item, Leaf, LeafPage, Listed, NoType, Page, PageType}
-use Rattle.bdb_layout.specs.of_format.Page.{RecnoInternal, RecnoInternalPage, RecnoLeaf, RecnoLeafPage}
+use Rattle.bdb_layout.specs.of_format.Page.{DupLeaf, Hash, Internal, Item, Leaf, Listed, NoType, Page}
+use Rattle.bdb_layout.specs.of_format.Page.{RecnoInternal, RecnoLeaf}
+use Rattle.bdb_layout.specs.of_format.declared.pages.PageType.{PageType}
+use Rattle.bdb_layout.specs.of_format.declared.pages.PageType.TheVariants.{DupLeaf as DupLeafPage, Hash as HashPage, Internal as InternalPage}
+use Rattle.bdb_layout.specs.of_format.declared.pages.PageType.TheVariants.{Leaf as LeafPage, RecnoInternal as RecnoInternalPage, RecnoLeaf as RecnoLeafPage}
 use Rattle.bdb_layout.specs.of_format.Reading.{abstract_page, entries_of, index_end, leaf_item_at, offset_of, page_type}
 use Rattle.bdb_layout.specs.of_format.Rows.{is_wrong_entry_count, is_wrong_level, item_row, page_code}
 use Rattle.bdb_layout.specs.of_format.Spelling.{header_bytes}

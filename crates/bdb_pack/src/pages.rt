@@ -13,8 +13,8 @@ ghost use Rattle.bdb_pack.specs.Placing.{CanShare, HasRoom, IsOpen, begun_page, 
 ghost use Rattle.bdb_pack.specs.Built.{AreWhole, bytes_of, joined_pages, with_copy, with_page, with_zeros, without_last};
 
 use bdb_layout::{
-    Bytes, HashItem, Header, InternalItem, InternalKey, LeafItem, Order, RecnoItem, put_hash_item,
-    put_header, put_internal_item, put_leaf_item, put_recno_item, put_u16, u16_at,
+    Bytes, HashItem, Header, InternalItem, InternalKey, LeafItem, Order, PageType, RecnoItem, pad4,
+    put_hash_item, put_header, put_internal_item, put_leaf_item, put_recno_item, put_u16, u16_at,
 };
 use std::alloc::{AllocError, Global};
 use std::marker::Model;
@@ -369,10 +369,10 @@ fn extent(page_type: u8, long: usize) -> usize
     requires { long < 2 ^ 32 }
     ensures { result ≡ extent page_type long }
 {
-    if page_type == 2 || page_type == 13 {
+    if page_type == PageType::UNSORTED_HASH || page_type == PageType::HASH {
         long
     } else {
-        (long + 3) / 4 * 4
+        pad4(long)
     }
 }
 

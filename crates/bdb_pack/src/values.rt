@@ -6,7 +6,7 @@ ghost use Rattle.bdb_pack.specs.Built.{with_page};
 ghost use Rattle.bdb_pack.specs.Values.{IsStored, chain_page, piece_length, piece_next, with_piece};
 
 use crate::Pages;
-use bdb_layout::{Header, Order, put_header};
+use bdb_layout::{Header, Order, PageType, put_header};
 use std::alloc::AllocError;
 
 /// Where a value stands: on the page, or in a chain of its own.
@@ -78,7 +78,7 @@ fn push_piece(pages: &mut Pages, previous: u32, rest: &[u8]) -> Result<(u32, usi
         entries: 1,
         high_free: n as u16,
         level: 0,
-        page_type: 7,
+        page_type: PageType::OVERFLOW,
     };
     put_piece(pages.page_mut(number), order, &header, &rest[..n]);
     Ok((number, n))

@@ -1,4 +1,3 @@
-mod Below
 pub mod RecordLemmas
 pub mod QueueLemmas
 pub mod FindLemmas

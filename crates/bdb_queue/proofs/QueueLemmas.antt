@@ -24,7 +24,7 @@ use Rattle.bdb_overflow.proofs.of_image.MetaLemmas.{queue_formed}
 use Rattle.bdb_queue.specs.Records.{HasSlots}
 use Rattle.bdb_overflow.proofs.of_format.GraphLemmas.{typed_page}
 use Rattle.bdb_overflow.proofs.of_format.FileLemmas.{last_page, page_is}
-use Rattle.bdb_overflow.proofs.LinkedLemmas.{type_byte}
+use Rattle.bdb_overflow.proofs.of_image.FitLemmas.{type_byte}
 
 -- a page of a type is that page of its bytes
 page_of_type : (image : List ℕ) (p t : ℕ) → p ≤ (file_of image).last → type_in (page_at (file_of image) p) ≡ Some t

@@ -29,7 +29,6 @@ fn record_on<'a>(forest: &Forest<'a>, meta: &QueueMeta, page: u32, slot: u32) ->
 }
 
 /// The record with the number after this one, if it's live. It stands at one place alone.
-#[tactic(auto, using(crate::proofs::Below::last_page))]
 fn record_after<'a, L: Ledger>(
     forest: &Forest<'a>,
     meta: &QueueMeta,

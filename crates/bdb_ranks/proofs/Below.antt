@@ -1,3 +1,2 @@
 -- What the tactics of this crate take from the crates below.
-pub use Rattle.bdb_tree.proofs.of_format.FileLemmas.{last_page}
 pub use Rattle.bdb_tree.proofs.of_layout.KeyLemmas.{by_bytes}

@@ -1,6 +1,6 @@
 -- The faults that are noted of a recno are those of its contents.
 use Rattle.std.proofs.lemmas.Bool.{and_parts, and_from, false_from_ne_true}
-use Rattle.bdb_faults.specs.Rows.{contents_code}
+use Rattle.bdb_tree.specs.of_format.RowCodes.{contents_row_code}
 use Rattle.bdb_tree.proofs.of_format.ListLemmas.{only_member}
 use Rattle.std.proofs.Common.{◌≡◌, ◌⊎◌, ℕ, zero, suc, ◌+◌, ◌≤◌, Bool, true, false, cond, List, [], ◌∷◌, ◌++◌, arith, refl, sym, ◌∙◌, ap}
 use Rattle.std.proofs.Common.{subst, inl, inr}
@@ -21,12 +21,12 @@ use Rattle.bdb_tree.specs.of_format.Page.{BtreeFields, Page}
 use Rattle.bdb_tree.specs.of_format.Table.{Row, ◌:?◌}
 use Rattle.bdb_tree.specs.of_format.Verdict.{by_page, holding}
 use Rattle.bdb_tree.proofs.of_format.MemberLemmas.{first_member, later_member, member_cases, no_member, of_filter}
-use Rattle.bdb_tree.proofs.of_format.VerdictLemmas.{InOrder, in_by_page, of_by_page, table_in_order}
+use Rattle.bdb_tree.proofs.of_format.VerdictLemmas.{in_by_page, of_by_page}
 use Rattle.bdb_tree.specs.of_format.Flags.{is_fixed, is_recno}
 use Rattle.bdb_recno.specs.Counts.{HasRightCounts}
 use Rattle.bdb_recno.specs.Noted.{count_faults, length_faults}
-use Rattle.bdb_faults.specs.declared.rows.ContentsRow.{ContentsRow}
-use Rattle.bdb_faults.specs.declared.rows.ContentsRow.TheVariants.{Count, RecordLength}
+use Rattle.bdb_tree.specs.of_format.declared.rows.ContentsRow.{ContentsRow}
+use Rattle.bdb_tree.specs.of_format.declared.rows.ContentsRow.TheVariants.{Count, RecordLength}
 use Rattle.bdb_recno.specs.Pages.{IsRecnoPage}
 use Rattle.bdb_recno.proofs.CountLemmas.{all_one, level_below, next_recno}
 use Rattle.bdb_recno.proofs.NotedLemmas.{in_faults_on, in_wrong_at, of_faults_on, of_wrong_at}
@@ -94,8 +94,8 @@ recno_faults file meta = by_page 8 0 (file.last + 1) (codes_at file meta)
 
 -- a fault of a page of a list, by its row, is one of the recno
 row_holds : (file : File) (meta : BtreeMeta) (row : ContentsRow) (test : Page → Bool) (pages : List ℕ) (p : ℕ) → Contains pages p → p ≤ file.last
-    → test (page_at file p) ≡ true → (is_wrong_at file test pages p ≡ true → Contains (codes_at file meta p) (contents_code row))
-    → Contains (recno_faults file meta) (record { stage = 8; page = p; code = contents_code row })
+    → test (page_at file p) ≡ true → (is_wrong_at file test pages p ≡ true → Contains (codes_at file meta p) (contents_row_code row))
+    → Contains (recno_faults file meta) (record { stage = 8; page = p; code = contents_row_code row })
 row_holds file meta row test pages p listed low wrong holds = grind (arith, in_by_page, in_wrong_at)
 
 of_lengths : (b : Bool) (faults : List Fault) (fault : Fault) → Contains (cond b faults []) fault → (b ≡ true) × Contains faults fault
@@ -183,11 +183,6 @@ all_noted before middle after image meta forest has recno counts lengths =
     (notes_both before middle after (count_faults file (inner_pages file meta.root))
     (cond (is_fixed meta) (length_faults file meta (leaves file meta.root)) []) counts lengths)
     (λ fault. (λ at. noted_holds image meta fault forest root at, λ at. holds_noted file meta fault at)))
-
--- the faults of a recno are all of stage 8, and the first comes before all of them
-pub in_order : (file : File) (meta : BtreeMeta) → is_recno meta ≡ true → InOrder 8 (database_faults file (BtreeFields meta))
-in_order file meta recno =
-    subst (InOrder 8) (sym (faults_are file meta recno)) (table_in_order 8 0 (file.last + 1) (recno_contents file meta) (λ p. (omega arith, (omega arith, tt))))
 
 -- contents without a fault have right counts
 pub right_counts : (image : List ℕ) (meta : BtreeMeta) → IsForest image → HasMetadata (file_of image) (BtreeFields meta) → is_recno meta ≡ true

@@ -9,7 +9,9 @@ use Rattle.bdb_tree.specs.of_image.Linked.{IsForest}
 use Rattle.bdb_tree.specs.of_format.declared.kinds.Order.{Order}
 use Rattle.bdb_tree.specs.of_format.File.{file_of, page_at, page_bytes}
 use Rattle.bdb_tree.specs.of_format.HeadOf.{head_of}
-use Rattle.bdb_tree.specs.of_format.Page.{Item, Listed, RecnoLeaf, PageType, RecnoLeafPage}
+use Rattle.bdb_tree.specs.of_format.Page.{Item, Listed, RecnoLeaf}
+use Rattle.bdb_tree.specs.of_format.declared.pages.PageType.{PageType}
+use Rattle.bdb_tree.specs.of_format.declared.pages.PageType.TheVariants.{RecnoLeaf as RecnoLeafPage}
 use Rattle.bdb_tree.specs.of_format.Reading.{abstract_page, leaf_item_at, listed, page_as}
 use Rattle.bdb_tree.specs.of_format.Rows.{page_code}
 use Rattle.bdb_tree.proofs.of_format.PageLemmas.{length_items}

@@ -6,8 +6,8 @@ use Rattle.std.proofs.lemmas.Bool.{and_parts, eqb-true, eq-eqb}
 use Rattle.std.proofs.lemmas.List.Folds.{list_any_at}
 use Rattle.bdb_faults.specs.Notes.{Notes, NotesAll}
 use Rattle.bdb_faults.proofs.SinkLemmas.{notes_next, notes_one, notes_push}
-use Rattle.bdb_faults.specs.Rows.{contents_code, fault_if}
-use Rattle.bdb_faults.specs.declared.rows.Row.TheVariants.{Contents}
+use Rattle.bdb_tree.specs.of_format.RowCodes.{contents_row_code, fault_if}
+use Rattle.bdb_tree.specs.of_format.declared.rows.Row.TheVariants.{Contents}
 use Rattle.bdb_tree.specs.of_format.declared.kinds.Fault.{Fault}
 use Rattle.bdb_tree.specs.of_format.ContentRows.{is_wrong_at}
 use Rattle.bdb_tree.specs.of_format.File.{File, page_at}
@@ -15,7 +15,7 @@ use Rattle.bdb_tree.specs.of_format.Page.{Page}
 use Rattle.bdb_tree.proofs.of_format.ListLemmas.{any_member, only_member}
 use Rattle.bdb_tree.proofs.of_format.MemberLemmas.{first_member, in_flat_map, no_member, of_flat_map}
 use Rattle.bdb_recno.specs.Noted.{fault_on, faults_on}
-use Rattle.bdb_faults.specs.declared.rows.ContentsRow.{ContentsRow}
+use Rattle.bdb_tree.specs.of_format.declared.rows.ContentsRow.{ContentsRow}
 
 pub of_wrong_at : (file : File) (test : Page → Bool) (pages : List ℕ) (p : ℕ) → is_wrong_at file test pages p ≡ true
     → Contains pages p × (test (page_at file p) ≡ true)
@@ -28,18 +28,18 @@ in_wrong_at file test pages p at wrong = grind (arith, list_any_at, eq-eqb)
 -- a fault at a page of a list for which a test holds
 pub record IsFaultOn (file : File) (row : ContentsRow) (test : Page → Bool) (pages : List ℕ) (fault : Fault) : Type 0 where
   pub page : ℕ
-  pub is : fault ≡ record { stage = 8; page = page; code = contents_code row }
+  pub is : fault ≡ record { stage = 8; page = page; code = contents_row_code row }
   pub listed : Contains pages page
   pub wrong : test (page_at file page) ≡ true
 
 of_fault_if : (row : ContentsRow) (page : ℕ) (holds : Bool) (fault : Fault) → Contains (fault_if (Contents row) page holds) fault
-    → (holds ≡ true) × (fault ≡ record { stage = 8; page = page; code = contents_code row })
-of_fault_if row page true fault at = (refl, sym (only_member (record { stage = 8; page = page; code = contents_code row }) fault at))
+    → (holds ≡ true) × (fault ≡ record { stage = 8; page = page; code = contents_row_code row })
+of_fault_if row page true fault at = (refl, sym (only_member (record { stage = 8; page = page; code = contents_row_code row }) fault at))
 of_fault_if row page false fault at = absurd (no_member [] fault refl at)
 
 in_fault_if : (row : ContentsRow) (page : ℕ) (holds : Bool) → holds ≡ true
-    → Contains (fault_if (Contents row) page holds) (record { stage = 8; page = page; code = contents_code row })
-in_fault_if row page true is = first_member (record { stage = 8; page = page; code = contents_code row }) []
+    → Contains (fault_if (Contents row) page holds) (record { stage = 8; page = page; code = contents_row_code row })
+in_fault_if row page true is = first_member (record { stage = 8; page = page; code = contents_row_code row }) []
 in_fault_if row page false is = absurd cc
 
 pub of_faults_on : (file : File) (row : ContentsRow) (test : Page → Bool) (pages : List ℕ) (fault : Fault) → Contains (faults_on file row test pages) fault
@@ -50,9 +50,9 @@ of_faults_on file row test pages fault at =
     record { page = found.0; is = here.1; listed = found.1; wrong = here.0 }
 
 pub in_faults_on : (file : File) (row : ContentsRow) (test : Page → Bool) (pages : List ℕ) (p : ℕ) → Contains pages p → test (page_at file p) ≡ true
-    → Contains (faults_on file row test pages) (record { stage = 8; page = p; code = contents_code row })
+    → Contains (faults_on file row test pages) (record { stage = 8; page = p; code = contents_row_code row })
 in_faults_on file row test pages p at wrong =
-    in_flat_map (fault_on file row test) pages p (record { stage = 8; page = p; code = contents_code row }) at (in_fault_if row p (test (page_at file p)) wrong)
+    in_flat_map (fault_on file row test) pages p (record { stage = 8; page = p; code = contents_row_code row }) at (in_fault_if row p (test (page_at file p)) wrong)
 
 -- Pages noted one after another.
 

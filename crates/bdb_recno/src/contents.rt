@@ -1,5 +1,5 @@
 ghost use Rattle.std.specs.Prelude.{◌≡◌, [], IfErr, IsTrue, OnOk, if◌then◌else◌};
-ghost use Rattle.bdb_faults.specs.Named.{HasNoted};
+ghost use Rattle.bdb_faults.specs.Notes.{HasNoted};
 ghost use Rattle.bdb_faults.specs.Notes.{NotesAll};
 ghost use Rattle.bdb_tree.specs.of_image.Linked.{HasMetadata, IsForest};
 ghost use Rattle.bdb_tree.specs.of_format.ContentRows.{database_faults};
@@ -15,7 +15,7 @@ ghost use Rattle.bdb_tree.specs.Trees.{IsRoot};
 use crate::counts::note_counts;
 use crate::lengths::note_lengths;
 use crate::page::pages_of;
-use bdb_faults::{FaultSink, First, NamedList};
+use bdb_faults::{FaultSink, First, NamedList, checked};
 use bdb_tree::{BtreeMeta, CheckError, Forest, Linked};
 use std::alloc::AllocError;
 
@@ -29,13 +29,8 @@ pub fn check(linked: &Linked<'_>, meta: &BtreeMeta) -> Result<(), CheckError>
     ensures refusal { IfErr result (IsFirstOf (database_faults (file_of linked.now) (BtreeFields meta.now))) }
 {
     let mut first = First::new();
-    let Ok(()) = note_contents(linked, meta, &mut first) else {
-        return Err(CheckError::Memory);
-    };
-    match first.fault() {
-        None => Ok(()),
-        Some(fault) => Err(CheckError::Fault(fault)),
-    }
+    let answer = note_contents(linked, meta, &mut first);
+    checked(first, answer)
 }
 
 /// Notes each row on what a recno holds at each page where it holds, in a list of all. An error is want of memory.

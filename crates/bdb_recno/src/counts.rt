@@ -9,8 +9,8 @@ ghost use Rattle.bdb_recno.specs.Noted.{count_faults};
 ghost use Rattle.bdb_recno.specs.Pages.{IsRecnoPage};
 
 use crate::page::{RecnoPage, recno_page};
-use bdb_faults::{ContentsRow, FaultSink, Row, note_if};
-use bdb_tree::Forest;
+use bdb_faults::{FaultSink, note_if};
+use bdb_tree::{ContentsRow, Forest, Row};
 use std::alloc::AllocError;
 
 /// How many entries stand at or below a page, up to the greatest number, while the internal pages there that have a wrong count

@@ -13,8 +13,8 @@ ghost use Rattle.bdb_recno.specs.Pages.{IsRecnoLeaf, IsRecnoPage};
 ghost use Rattle.bdb_tree.specs.Trees.{IsRoot};
 
 use crate::page::leaf_at;
-use bdb_faults::{ContentsRow, FaultSink, Row, note_if};
-use bdb_tree::{BtreeMeta, Forest, LeafItem, Linked, is_deleted, tree_leaves};
+use bdb_faults::{FaultSink, note_if};
+use bdb_tree::{BtreeMeta, ContentsRow, Forest, LeafItem, Linked, Row, is_deleted, tree_leaves};
 use std::alloc::AllocError;
 
 /// How many bytes a record has. A chain isn't gone through: its length was counted when the file was linked.

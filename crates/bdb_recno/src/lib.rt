@@ -10,12 +10,11 @@ mod listing;
 mod page;
 mod search;
 
-pub use bdb_faults::{AllError, ContentsRow, FaultSink, First, Named, NamedList, Row, refused_by};
+pub use bdb_faults::{AllError, FaultSink, First, FirstError, Judge, NamedList, first_verdict};
 pub use bdb_tree::{
-    BtreeMeta, Bytes, CheckError, Datum, Fault, Forest, Formed, HashMeta, Head, KeyView, Kind,
-    Linked, Meta, Order, QueueMeta, Settings, Steps, Verdict, bytes_in, hash5, is_less, is_same,
-    link, link_all, note_chains, note_trees, number_in, open_all, open_image, plain_settings,
-    tree_leaves,
+    BtreeMeta, Bytes, ContentsRow, Datum, Forest, Formed, HashMeta, Head, KeyView, Kind, Linked,
+    Meta, Order, QueueMeta, Row, Settings, Steps, Verdict, bytes_in, hash5, is_less, is_same,
+    link_by, note_chains, note_trees, number_in, open_by, plain_settings, tree_leaves,
 };
 pub use contents::{all_faults, check, note_contents};
 pub use found::{Found, find};

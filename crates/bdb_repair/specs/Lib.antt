@@ -5,6 +5,7 @@ pub mod Repairs
 pub mod Room
 pub mod Shapes
 pub use Rattle.bdb_law_kept.specs.of_any_order as of_any_order
+pub use Rattle.bdb_mkfile.specs.of_faults as of_faults
 pub use Rattle.bdb_model.specs.of_format as of_format
 pub use Rattle.bdb_mkfile.specs.of_image as of_image
 pub use Rattle.bdb_io.specs as of_io

@@ -12,7 +12,9 @@ use Rattle.bdb_text_format.specs.of_format.Chains.{joined, pieces_of}
 use Rattle.bdb_text_format.specs.of_format.Contents.{entries_in}
 use Rattle.bdb_text_format.specs.of_format.File.{File, page_at}
 use Rattle.bdb_text_format.specs.of_format.Numbers.{byte_at, four_at}
-use Rattle.bdb_text_format.specs.of_format.Page.{Content, Inline, Set, Chain, Tree, Unknown, Item, Zero, NoType, PageType, RecnoLeafPage, DupLeafPage}
+use Rattle.bdb_text_format.specs.of_format.Page.{Content, Inline, Set, Chain, Tree, Unknown, Item, Zero, NoType}
+use Rattle.bdb_text_format.specs.of_format.declared.pages.PageType.{PageType}
+use Rattle.bdb_text_format.specs.of_format.declared.pages.PageType.TheVariants.{RecnoLeaf as RecnoLeafPage, DupLeaf as DupLeafPage}
 use Rattle.bdb_text_format.specs.of_format.Reading.{abstract_page, index_end, is_zero, leaf_item_at, page_as, page_type}
 use Rattle.bdb_text_format.specs.of_format.Rows.{body_code, identity_rows, is_tree_type, page_code}
 use Rattle.bdb_text_format.specs.of_format.Table.{first_row}

@@ -4,11 +4,10 @@ ghost use Rattle.bdb_mktree.specs.of_text_format.Placed.{key_seen, pair_seen, sl
 ghost use Rattle.bdb_mktree.specs.of_text_format.Written.{is_queue};
 ghost use Rattle.bdb_settle.specs.LoadErrors.{header_errors, is_among_names, is_sooner, is_too_long, is_too_wide, is_zero};
 ghost use Rattle.bdb_settle.specs.LoadErrors.{load_error, pair_errors, page_size_in, section_errors, sooner, where_so};
-ghost use Rattle.bdb_mktree.specs.of_format.Numbers.{pad4};
 
 use crate::LoadError;
 use crate::filling::has_length;
-use bdb_mktree::{KeyRef, Kind, PairRef, PairSlice, Section, Sections, Settings};
+use bdb_mktree::{KeyRef, Kind, PairRef, PairSlice, Section, Sections, Settings, slot_size};
 
 /// Whether an error has the lesser line, or on one line the lesser code.
 fn is_sooner(a: LoadError, b: LoadError) -> bool
@@ -88,18 +87,11 @@ fn is_queue(kind: Kind) -> bool
     }
 }
 
-/// The bytes that a record of a queue takes on its page.
-fn slot_size(re_len: u32) -> u64
-    ensures { result ≡ pad4 (re_len + 1) }
-{
-    (u64::from(re_len) + 1 + 3) / 4 * 4
-}
-
 /// Whether a queue's record doesn't fit a page of so many bytes.
 pub fn is_too_wide(size: u32, settings: &Settings) -> bool
     ensures { result ≡ is_too_wide size settings.now }
 {
-    is_queue(settings.kind) && u64::from(size.saturating_sub(28)) < slot_size(settings.re_len)
+    is_queue(settings.kind) && (size.saturating_sub(28) as usize) < slot_size(settings.re_len)
 }
 
 /// Whether a queue has a name, or isn't alone.

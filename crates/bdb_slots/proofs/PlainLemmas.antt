@@ -9,7 +9,7 @@ use Rattle.bdb_form.specs.of_format.declared.references.Sort.{Sort}
 use Rattle.bdb_form.specs.of_format.declared.references.Sort.TheVariants.{HashNext}
 use Rattle.bdb_form.specs.of_format.declared.metadata.Head.{Head}
 use Rattle.bdb_form.specs.of_format.File.{page_bytes}
-use Rattle.bdb_form.specs.of_format.Page.{Item, Listed, Leaf as AnyLeaf, RecnoLeaf as AnyRecnoLeaf, DupLeaf as AnyDupLeaf, Hash as AnyHash}
+use Rattle.bdb_form.specs.of_format.Page.{Content, Item, Listed, Leaf as AnyLeaf, RecnoLeaf as AnyRecnoLeaf, DupLeaf as AnyDupLeaf, Hash as AnyHash}
 use Rattle.bdb_form.specs.of_format.References.{content_targets, item_at, no_item, own_entries, targets_in, unless_zero}
 use Rattle.bdb_slots.specs.declared.source.Source.TheVariants.{Nothing, Next}
 use Rattle.bdb_slots.specs.Plain.{IsInline, IsPlainIn}
@@ -49,11 +49,17 @@ plain_bucket p page plain =
     append-nil (unless_zero HashNext page.header.next)
     ∙ sym (ap (λ names. names ++ unless_zero HashNext page.header.next) (none_held page.items plain))
 
+-- no item names a page by what it holds
+abbrev pub AllInline : {I : Type 0} → (I → Content) → List I → Type 0
+AllInline content items = All (λ item. content_targets (content item) ≡ []) items
+
 -- an item more of those that are left
-pub one_more : (item : Item) (left items rest : List Item) (name : Option (Sort × ℕ)) → left ≡ item ∷ rest → option_to_list name ≡ content_targets item.content
-    → false ≡ is_some name → (All IsInline left → All IsInline items) → All IsInline rest → All IsInline items
-one_more item left items rest None same named none all plain = all (rw same (All-cons IsInline item rest (sym named) plain))
-one_more item left items rest (Some name) same named none all plain = absurd cc
+pub one_more : {I : Type 0} (content : I → Content) (item : I) (left items rest : List I) (name : Option (Sort × ℕ)) → left ≡ item ∷ rest
+    → option_to_list name ≡ content_targets (content item) → false ≡ is_some name → (AllInline content left → AllInline content items)
+    → AllInline content rest → AllInline content items
+one_more content item left items rest None same named none all plain =
+    all (rw same (All-cons (λ other. content_targets (content other) ≡ []) item rest (sym named) plain))
+one_more content item left items rest (Some name) same named none all plain = absurd cc
 
 -- a page more
 pub plain_more : (head : Head) (image : List ℕ) (n : ℕ) (before after : Bool) (page : List ℕ) → page ≡ page_bytes head image n

@@ -5,9 +5,10 @@ mod names;
 mod source;
 
 pub use bdb_form::{
-    DupLeafKind, DupLeafView, HashKind, HashView, InternalView, Items, LeafKind, LeafView,
-    MetaView, PagePairs, PageView, Pair, QueueView, RecnoInternalView, RecnoLeafKind,
-    RecnoLeafView, form, is_zero, is_zero_at, known_form, known_queue_form, page_code, queue_code,
+    ContentKind, DupLeafView, EndKind, Entries, EntryLeafKind, HashKind, HashView, IndexedView,
+    InternalKind, InternalView, Items, LeafKind, LeafView, MetaView, PageKind, PagePairs, PageView,
+    Pair, QueueView, RecnoInternalKind, RecnoInternalView, RecnoLeafView, Records, SortedData,
+    form, is_zero, is_zero_at, known_form, known_queue_form, page_row, queue_row,
 };
 pub use names::content_name;
 pub use source::Source;

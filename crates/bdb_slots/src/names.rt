@@ -1,10 +1,10 @@
-ghost use Rattle.std.specs.Prelude.{◌≡◌, ◌+◌, ◌*◌, ◌<◌, length, option_to_list};
-ghost use Rattle.bdb_slots.specs.Slots.{child_names, entry_names, hash_names, internal_names, item_names};
+ghost use Rattle.std.specs.Prelude.{◌≡◌, ◌+◌, ◌*◌, ◌<◌, ◌&&◌, [], get_or, if◌then◌else◌, length, option_to_list};
+ghost use Rattle.bdb_slots.specs.Slots.{child_names, hash_names, internal_names};
 ghost use Rattle.bdb_form.specs.of_layout.Seen.{content_seen};
-ghost use Rattle.bdb_form.specs.of_format.References.{content_targets, unless_zero};
+ghost use Rattle.bdb_form.specs.of_format.References.{content_targets, is_shared_key, unless_zero};
 
 use bdb_form::{
-    Content, DupLeafView, HashView, InternalView, LeafView, RecnoInternalView, RecnoLeafView, Sort,
+    Content, ContentKind, HashView, IndexedView, InternalView, RecnoInternalView, Sort,
 };
 
 /// What a page names: for what, and the number of a page, which need not be there.
@@ -31,38 +31,20 @@ pub fn content_name(content: &Content) -> Option<Name>
     }
 }
 
-/// The page that an item of a btree leaf names; a key that is shared names nothing of its own.
-pub(crate) fn leaf_name(page: &LeafView, slot: u32) -> Option<Name>
+/// The page that an item names by what it holds; a key that is shared names nothing of its own.
+pub(crate) fn item_name<'a, K: ContentKind<'a>>(
+    page: &IndexedView<'a, K>,
+    slot: u32,
+) -> Option<Name>
     requires { slot < length page.now.items }
-    ensures { option_to_list result ≡ entry_names page.now slot }
+    ensures { option_to_list result
+        ≡ (if K.SHARES && is_shared_key page.now.offsets slot then [] else content_targets (K.content_of (get_or page.now.items slot K.no_item))) }
 {
-    prove!(slot < 2 * u32::from(page.pairs()));
-    let pair = (slot / 2) as u16;
-    if slot % 2 == 1 {
-        return content_name(&page.value(pair).content());
-    }
-    if page.shares(pair) {
+    prove!(slot < u32::from(page.entries()));
+    if page.is_shared(slot as u16) {
         return None;
     }
-    content_name(&page.key(pair).content())
-}
-
-/// The page that an item of a leaf of records names.
-pub(crate) fn recno_leaf_name(page: &RecnoLeafView, slot: u32) -> Option<Name>
-    requires { slot < length page.now.items }
-    ensures { option_to_list result ≡ item_names page.now slot }
-{
-    prove!(slot < u32::from(page.entries()));
-    content_name(&page.item(slot as u16).content())
-}
-
-/// The page that an item of a leaf of duplicates names.
-pub(crate) fn dup_leaf_name(page: &DupLeafView, slot: u32) -> Option<Name>
-    requires { slot < length page.now.items }
-    ensures { option_to_list result ≡ item_names page.now slot }
-{
-    prove!(slot < u32::from(page.entries()));
-    content_name(&page.item(slot as u16).content())
+    content_name(&K::content(&page.item(slot as u16)))
 }
 
 /// The page below, which an item of an internal page of records names.
@@ -92,13 +74,8 @@ pub(crate) fn hash_name(page: &HashView, slot: u32) -> Option<Name>
     requires { slot < length page.now.items + 1 }
     ensures { option_to_list result ≡ hash_names page.now slot }
 {
-    prove!(slot <= 2 * u32::from(page.pairs()));
-    let pair = (slot / 2) as u16;
-    if pair == page.pairs() {
+    if slot == u32::from(page.entries()) {
         return unless_zero(Sort::HashNext, page.header().next);
     }
-    if slot % 2 == 1 {
-        return content_name(&page.value(pair).content());
-    }
-    content_name(&page.key(pair).content())
+    item_name(page, slot)
 }

@@ -4,10 +4,7 @@ ghost use Rattle.bdb_slots.specs.Plain.{IsPlain};
 ghost use Rattle.bdb_slots.specs.Slots.{HasRoom, IsNoMetadata, names_from, slot_names, slots_of};
 ghost use Rattle.bdb_form.specs.of_format.References.{targets_in};
 
-use crate::names::{
-    Name, child_name, dup_leaf_name, hash_name, internal_name, leaf_name, recno_leaf_name,
-    unless_zero,
-};
+use crate::names::{Name, child_name, hash_name, internal_name, item_name, unless_zero};
 use bdb_form::{
     DupLeafView, HashView, InternalView, LeafView, PageView, RecnoInternalView, RecnoLeafView,
     Sort, page_of,
@@ -112,9 +109,9 @@ impl<'a> Source<'a> {
             Source::Tree { root, .. } => Some((Sort::Root, u64::from(*root))),
             Source::Table { free, .. } if slot == 0 => unless_zero(Sort::Free, *free),
             Source::Table { spares, .. } => Some((Sort::Bucket, page_of(slot - 1, spares))),
-            Source::Leaf(page) => leaf_name(page, slot),
-            Source::RecnoLeaf(page) => recno_leaf_name(page, slot),
-            Source::DupLeaf(page) => dup_leaf_name(page, slot),
+            Source::Leaf(page) => item_name(page, slot),
+            Source::RecnoLeaf(page) => item_name(page, slot),
+            Source::DupLeaf(page) => item_name(page, slot),
             Source::RecnoInternal(page) => child_name(page, slot),
             Source::Internal(page) => internal_name(page, slot),
             Source::Hash(page) => hash_name(page, slot),

@@ -1,28 +1,22 @@
 -- The items of pages, by the places where they begin.
 use Rattle.std.proofs.Common.{◌≡◌, ◌∙◌, ◌⊎◌, inl, inr, ℕ, zero, suc, ◌+◌, ◌-◌, ◌*◌, ◌<◌, ◌≤◌, true, false, List, length, refl, sym, ap, arith}
 use Rattle.std.specs.Prelude.{◌==◌, cond, Bool, None, get_or, slice_index}
-use Rattle.std.proofs.lemmas.Bool.{cases_lt, eq-eqb, ne_eqb}
+use Rattle.std.proofs.lemmas.Bool.{cases_lt, ne_eqb}
 use Rattle.std.proofs.lemmas.Bool.Decides.{nat_tests}
 use Rattle.std.proofs.lemmas.List.FromFn.{length-map-range_with_len}
 use Rattle.bdb_turned.proofs.of_format.PageLemmas.{index_offset}
-use Rattle.bdb_turned.proofs.of_format.TurnLemmas.{length-slice_range}
 use Rattle.bdb_turned.specs.of_format.declared.kinds.Order.{Order}
-use Rattle.bdb_turned.specs.of_format.Numbers.{two_at}
-use Rattle.bdb_turned.specs.of_format.Page.{InternalItem, Item}
-use Rattle.bdb_turned.specs.of_format.Reading.{entries_of, hash_end, hash_item_at, index_end, internal_item_at, kind_at, leaf_item_at, listed, offset_of, recno_item_at}
-use Rattle.bdb_turned.specs.of_format.References.{no_item}
-use Rattle.bdb_turned.specs.of_format.Rows.{hash_rows, internal_rows, leaf_end, leaf_rows, recno_rows}
+use Rattle.bdb_turned.specs.of_format.Reading.{entries_of, hash_end, hash_item_at, index_end, listed, offset_of}
+use Rattle.bdb_turned.specs.of_format.Rows.{hash_rows, listed_code}
+use Rattle.bdb_turned.specs.of_format.declared.pages.PageType.TheVariants.{Hash as HashPage}
+use Rattle.bdb_turned.proofs.of_form.EndLemmas.{has_rows, listed_index}
 use Rattle.bdb_turned.specs.of_format.Table.{first_row}
-use Rattle.bdb_turned.proofs.of_layout.RowLemmas.{hash_fits, internal_fits}
+use Rattle.bdb_turned.proofs.of_layout.RowLemmas.{hash_fits}
 use Rattle.bdb_turned.specs.of_layout.Fits.{FitsHash}
-use Rattle.bdb_turned.specs.Fields.{no_internal}
-use Rattle.bdb_turned.specs.Overlaps.{internal_item_end, leaf_item_end}
-use Rattle.bdb_stat.specs.Unused.{hash_unused, leaf_unused, listed_unused, places_outside}
-use Rattle.bdb_turned.proofs.InnerLemmas.{IsInline as KeyInline, IsChain as KeyChain, key_case}
-use Rattle.bdb_turned.proofs.LeafLemmas.{IsInline, IsTree, IsChain, kind_case}
+use Rattle.bdb_stat.specs.Unused.{hash_unused, item_unused, listed_unused, places_outside}
 use Rattle.bdb_turned.proofs.ListedLemmas.{item_in}
 use Rattle.bdb_stat.proofs.PlaceLemmas.{all_outside, is_inside, is_outside, none_outside, outside_parts, same_outside}
-use Rattle.bdb_stat.specs.Ends.{ArePlaced, IsPlaced, internal_end, lowest, recno_end}
+use Rattle.bdb_stat.specs.Ends.{lowest}
 
 -- a page with an index, by the ends of its items
 listed_is : {I : Type 0} (order : Order) (page : List ℕ) (item_at : ℕ → I) (size : ℕ) (end other : ℕ → ℕ)
@@ -36,118 +30,16 @@ listed_is order page item_at size end other ends =
     ap (λ m. places_outside (26 + 2 * m) size m (λ i. slice_index offsets i) end) many
     ∙ same_outside (26 + 2 * n) size n (λ i. slice_index offsets i) end (offset_of order page) other (λ i lt. index_offset order page item_at i lt) ends
 
--- Leaves.
-
-end_of_leaf_item : (order : Order) (page : List ℕ) (i : ℕ) → first_row (leaf_rows order page i) ≡ None
-    → leaf_item_end (offset_of order page i) (leaf_item_at order page i).content ≡ leaf_end order page (offset_of order page i)
-end_of_leaf_item order page i none =
-    let at : ℕ = offset_of order page i in
-    elim (kind_case order page i none) [
-      | IsInline kind is inside ↦
-          let one : (kind_at page at == 1) ≡ true = eq-eqb (kind_at page at) 1 kind in
-          ap (leaf_item_end at) is
-          ∙ rw one (ap (λ (m : ℕ). at + 3 + m) (length-slice_range page (at + 3) (at + 3 + two_at order page at) inside ∙ omega arith))
-      | IsTree kind is inside ↦
-          let other : (kind_at page at == 1) ≡ false = ne_eqb (kind_at page at) 1 (λ same. omega arith) in ap (leaf_item_end at) is ∙ rw other refl
-      | IsChain kind is inside ↦
-          let other : (kind_at page at == 1) ≡ false = ne_eqb (kind_at page at) 1 (λ same. omega arith) in ap (leaf_item_end at) is ∙ rw other refl
-    ]
-
-pub leaf_outside : (order : Order) (page : List ℕ) → ((i : ℕ) → i < entries_of order page → first_row (leaf_rows order page i) ≡ None)
-    → places_outside (index_end order page) (length page) (entries_of order page) (offset_of order page) (λ i. leaf_end order page (offset_of order page i))
-    ≡ leaf_unused (length page) (listed order page (leaf_item_at order page))
-leaf_outside order page rows =
-    let p = listed order page (leaf_item_at order page) in
-    sym (listed_is order page (leaf_item_at order page) (length page) (λ i. leaf_item_end (slice_index p.offsets i) (get_or p.items i no_item).content)
-    (λ i. leaf_end order page (offset_of order page i))
-    (λ i lt. ap (λ (at : ℕ). leaf_item_end at (get_or p.items i no_item).content) (index_offset order page (leaf_item_at order page) i lt)
-    ∙ (ap (λ (item : Item). leaf_item_end (offset_of order page i) item.content) (item_in order page (leaf_item_at order page) no_item i lt)
-    ∙ end_of_leaf_item order page i (rows i lt))))
-
-leaf_placed : (order : Order) (page : List ℕ) (i : ℕ) → first_row (leaf_rows order page i) ≡ None
-    → IsPlaced (index_end order page) (length page) 3 (offset_of order page i) (leaf_end order page (offset_of order page i))
-unfolding leaf_rows
-leaf_placed order page i none = record {
-  behind = grind (arith, nat_tests, none);
-  room = grind (arith, nat_tests, none);
-  some = some_in (kind_at page (offset_of order page i) == 1) (offset_of order page i) (two_at order page (offset_of order page i));
-  within = grind (arith, nat_tests, none);
-}
-  where
-    some_in : (inline : Bool) (at n : ℕ) → at < cond inline (at + 3 + n) (at + 12)
-    some_in true at n = omega arith
-    some_in false at n = omega arith
-
-pub leaves_placed : (order : Order) (page : List ℕ) → ((i : ℕ) → i < entries_of order page → first_row (leaf_rows order page i) ≡ None)
-    → ArePlaced order page 3 (leaf_end order page)
-leaves_placed order page rows = λ i lt. leaf_placed order page i (rows i lt)
-
--- Internal pages.
-
-end_of_internal_item : (order : Order) (page : List ℕ) (i : ℕ) → first_row (internal_rows order page i) ≡ None
-    → internal_item_end (offset_of order page i) (internal_item_at order page i).key ≡ internal_end order page (offset_of order page i)
-end_of_internal_item order page i none =
-    let at : ℕ = offset_of order page i in
-    elim (key_case order page i none) [
-      | KeyInline kind is inside ↦
-          ap (internal_item_end at) is ∙ ap (λ (m : ℕ). at + 12 + m) (length-slice_range page (at + 12) (at + 12 + two_at order page at) inside ∙ omega arith)
-      | KeyChain kind is inside ↦
-          let twelve : two_at order page at ≡ 12 = twelve_of (internal_fits order page i none).kind kind in ap (internal_item_end at) is ∙ omega arith
-    ]
-  where
-    twelve_of : {kind long : ℕ} → (kind ≡ 1) ⊎ ((kind ≡ 3) × (long ≡ 12)) → kind ≡ 3 → long ≡ 12
-    twelve_of (inl one) three = absurd (omega arith)
-    twelve_of (inr both) three = both.1
-
-pub internal_outside : (order : Order) (page : List ℕ) → ((i : ℕ) → i < entries_of order page → first_row (internal_rows order page i) ≡ None)
-    → places_outside (index_end order page) (length page) (entries_of order page) (offset_of order page) (λ i. internal_end order page (offset_of order page i))
-    ≡ listed_unused (length page) (listed order page (internal_item_at order page))
-    (λ i. internal_item_end (slice_index (listed order page (internal_item_at order page)).offsets i)
-    (get_or (listed order page (internal_item_at order page)).items i no_internal).key)
-internal_outside order page rows =
-    let p = listed order page (internal_item_at order page) in
-    sym (listed_is order page (internal_item_at order page) (length page)
-    (λ i. internal_item_end (slice_index p.offsets i) (get_or p.items i no_internal).key) (λ i. internal_end order page (offset_of order page i))
-    (λ i lt. ap (λ (at : ℕ). internal_item_end at (get_or p.items i no_internal).key) (index_offset order page (internal_item_at order page) i lt)
-    ∙ (ap (λ (item : InternalItem). internal_item_end (offset_of order page i) item.key) (item_in order page (internal_item_at order page) no_internal i lt)
-    ∙ end_of_internal_item order page i (rows i lt))))
-
-internal_placed : (order : Order) (page : List ℕ) (i : ℕ) → first_row (internal_rows order page i) ≡ None
-    → IsPlaced (index_end order page) (length page) 12 (offset_of order page i) (internal_end order page (offset_of order page i))
-unfolding internal_rows
-internal_placed order page i none = record {
-  behind = grind (arith, nat_tests, none);
-  room = grind (arith, nat_tests, none);
-  some = omega arith;
-  within = grind (arith, nat_tests, none);
-}
-
-pub internals_placed : (order : Order) (page : List ℕ) → ((i : ℕ) → i < entries_of order page → first_row (internal_rows order page i) ≡ None)
-    → ArePlaced order page 12 (internal_end order page)
-internals_placed order page rows = λ i lt. internal_placed order page i (rows i lt)
-
--- Internal pages of a recno tree.
-
-pub recno_outside : (order : Order) (page : List ℕ)
-    → places_outside (index_end order page) (length page) (entries_of order page) (offset_of order page) (λ i. recno_end order page (offset_of order page i))
-    ≡ listed_unused (length page) (listed order page (recno_item_at order page)) (λ i. slice_index (listed order page (recno_item_at order page)).offsets i + 8)
-recno_outside order page =
-    sym (listed_is order page (recno_item_at order page) (length page) (λ i. slice_index (listed order page (recno_item_at order page)).offsets i + 8)
-    (λ i. recno_end order page (offset_of order page i)) (λ i lt. ap (λ (at : ℕ). at + 8) (index_offset order page (recno_item_at order page) i lt)))
-
-recno_placed : (order : Order) (page : List ℕ) (i : ℕ) → first_row (recno_rows order page i) ≡ None
-    → IsPlaced (index_end order page) (length page) 8 (offset_of order page i) (recno_end order page (offset_of order page i))
-unfolding recno_rows
-recno_placed order page i none = record {
-  behind = grind (arith, nat_tests, none);
-  room = grind (arith, nat_tests, none);
-  some = omega arith;
-  within = grind (arith, nat_tests, none);
-}
-
-pub recnos_placed : (order : Order) (page : List ℕ) → ((i : ℕ) → i < entries_of order page → first_row (recno_rows order page i) ≡ None)
-    → ArePlaced order page 8 (recno_end order page)
-recnos_placed order page rows = λ i lt. recno_placed order page i (rows i lt)
+-- its items end where what they hold says
+pub items_outside : {I : Type 0} (item_end : ℕ → I → ℕ) (none : I) (order : Order) (page : List ℕ) (item_at : ℕ → I) (end : ℕ → ℕ)
+    → ((i : ℕ) → i < entries_of order page → item_end (offset_of order page i) (item_at i) ≡ end (offset_of order page i))
+    → places_outside (index_end order page) (length page) (entries_of order page) (offset_of order page) (λ i. end (offset_of order page i))
+    ≡ item_unused (length page) item_end none (listed order page item_at)
+items_outside item_end none order page item_at end ends =
+    let p = listed order page item_at in
+    sym (listed_is order page item_at (length page) (λ i. item_end (slice_index p.offsets i) (get_or p.items i none)) (λ i. end (offset_of order page i))
+    (λ i lt. ap (λ (at : ℕ). item_end at (get_or p.items i none)) (index_offset order page item_at i lt)
+    ∙ (ap (item_end (offset_of order page i)) (item_in order page item_at none i lt) ∙ ends i lt)))
 
 -- Hash pages: items lie one after another down from the page's end.
 
@@ -229,27 +121,29 @@ pub last_lowest : (size n : ℕ) (begin : ℕ → ℕ) → (n ≡ 0 → ⊥) →
 last_lowest size zero begin some = absurd (some refl)
 last_lowest size (suc m) begin some = ap begin (omega arith)
 
+pub hash_index : (order : Order) (page : List ℕ) → listed_code order page HashPage ≡ None → index_end order page ≤ length page
+hash_index order page none = listed_index HashPage order page none
+
 -- where the last item begins, or else the page's end, is behind the index
-pub lowest_behind : (order : Order) (page : List ℕ) → index_end order page ≤ length page
-    → ((i : ℕ) → i < entries_of order page → first_row (hash_rows order page i) ≡ None)
+pub lowest_behind : (order : Order) (page : List ℕ) → listed_code order page HashPage ≡ None
     → index_end order page ≤ lowest (length page) (offset_of order page) (entries_of order page)
-lowest_behind order page room rows = by (entries_of order page) (λ i lt. hash_behind order page i (rows i lt))
+lowest_behind order page none = by (entries_of order page) (λ i lt. hash_behind order page i (has_rows order page HashPage none i lt))
   where
     by : (n : ℕ) → ((i : ℕ) → i < n → index_end order page ≤ offset_of order page i) → index_end order page ≤ lowest (length page) (offset_of order page) n
-    by zero behind = room
+    by zero behind = listed_index HashPage order page none
     by (suc m) behind = behind m (omega arith)
 
 -- and what lies between is unused
-pub hash_outside : (order : Order) (page : List ℕ) → index_end order page ≤ length page
-    → ((i : ℕ) → i < entries_of order page → first_row (hash_rows order page i) ≡ None)
+pub hash_outside : (order : Order) (page : List ℕ) → listed_code order page HashPage ≡ None
     → lowest (length page) (offset_of order page) (entries_of order page) - index_end order page
     ≡ hash_unused (length page) (listed order page (hash_item_at order page))
-hash_outside order page room rows =
+hash_outside order page none =
     let n : ℕ = entries_of order page in
     let p = listed order page (hash_item_at order page) in
     sym (listed_is order page (hash_item_at order page) (length page) (λ i. cond (i == 0) (length page) (slice_index p.offsets (i - 1)))
     (end_before (length page) (offset_of order page)) (λ i lt. ends i lt)
-    ∙ below_tiles (index_end order page) (length page) n (offset_of order page) (hash_tiled order page n rows) (lowest_behind order page room rows))
+    ∙ below_tiles (index_end order page) (length page) n (offset_of order page) (hash_tiled order page n (has_rows order page HashPage none))
+    (lowest_behind order page none))
   where
     ends : (i : ℕ) → i < entries_of order page
         → cond (i == 0) (length page) (slice_index (listed order page (hash_item_at order page)).offsets (i - 1))

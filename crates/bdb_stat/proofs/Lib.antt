@@ -1,4 +1,3 @@
-mod Below
 pub mod PlaceLemmas
 pub mod GapLemmas
 pub mod MarkLemmas

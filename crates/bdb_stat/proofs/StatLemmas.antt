@@ -28,7 +28,7 @@ use Rattle.bdb_turned.specs.of_image.Linked.{IsForest}
 use Rattle.bdb_stat.specs.Classes.{class_by_type, class_of, is_class, levels_below, pages_below, same_class, tree_level}
 use Rattle.bdb_turned.specs.of_format.References.{no_item}
 use Rattle.bdb_turned.specs.Fields.{no_internal}
-use Rattle.bdb_turned.specs.Overlaps.{internal_item_end, leaf_item_end}
+use Rattle.bdb_turned.specs.of_form.Ends.{internal_item_end, leaf_item_end}
 use Rattle.bdb_stat.specs.Unused.{listed_unused, unused_below, unused_in}
 use Rattle.bdb_stat.specs.declared.class.Class.{Class}
 use Rattle.bdb_stat.specs.declared.class.Class.TheVariants.{Meta, Internal, Leaf, Hash, Overflow, Free as FreeClass, Reserve, Queue, Tail}

@@ -2,10 +2,12 @@
 use Rattle.std.specs.Prelude.{ℕ, ◌+◌, ◌-◌, ◌*◌, nat_le, nat_lt, ◌==◌, ◌&&◌, not, if◌then◌else◌, Bool, length, slice_index, get_or}
 use Rattle.std.specs.List.{filter, list_any, range_with_len, sum_by}
 use Rattle.bdb_turned.specs.of_format.File.{File, page_at}
-use Rattle.bdb_turned.specs.of_format.Page.{Item, Listed, Page, Zero, Free, Meta, Hash, Internal, RecnoInternal, Leaf, RecnoLeaf, DupLeaf, Overflow, Queue, NoType}
+use Rattle.bdb_turned.specs.of_format.Page.{Item, InternalItem, Listed, Page, Zero, Free, Meta, Hash, Internal, RecnoInternal, Leaf, RecnoLeaf, DupLeaf}
+use Rattle.bdb_turned.specs.of_format.Page.{Overflow, Queue, NoType}
 use Rattle.bdb_turned.specs.of_format.References.{no_item}
-use Rattle.bdb_turned.specs.Fields.{no_internal}
-use Rattle.bdb_turned.specs.Overlaps.{internal_item_end, leaf_item_end}
+use Rattle.bdb_turned.specs.of_format.declared.pages.RecnoItem.{RecnoItem}
+use Rattle.bdb_turned.specs.Fields.{no_internal, no_recno}
+use Rattle.bdb_turned.specs.of_form.Ends.{internal_item_end, leaf_item_end}
 
 -- a place lies in one of n ranges, each from its begin up to its end
 abbrev pub lies_in : ℕ → (ℕ → ℕ) → (ℕ → ℕ) → ℕ → Bool
@@ -23,8 +25,12 @@ listed_unused size page end = places_outside (26 + 2 * length page.offsets) size
 abbrev pub hash_unused : ℕ → Listed Item → ℕ
 hash_unused size page = listed_unused size page (λ i. if i == 0 then size else slice_index page.offsets (i - 1))
 
+-- other items end where what they hold says
+abbrev pub item_unused : {I : Type 0} → ℕ → (ℕ → I → ℕ) → I → Listed I → ℕ
+item_unused size item_end none page = listed_unused size page (λ i. item_end (slice_index page.offsets i) (get_or page.items i none))
+
 abbrev pub leaf_unused : ℕ → Listed Item → ℕ
-leaf_unused size page = listed_unused size page (λ i. leaf_item_end (slice_index page.offsets i) (get_or page.items i no_item).content)
+leaf_unused size page = item_unused size (λ at (item : Item). leaf_item_end at item.content) no_item page
 
 -- how many bytes of a page of a size hold nothing, by its type
 unfoldable pub unused_in : ℕ → Page → ℕ
@@ -32,8 +38,8 @@ unused_in size Zero = 0
 unused_in size (Free header) = 0
 unused_in size (Meta fields) = 0
 unused_in size (Hash page) = hash_unused size page
-unused_in size (Internal page) = listed_unused size page (λ i. internal_item_end (slice_index page.offsets i) (get_or page.items i no_internal).key)
-unused_in size (RecnoInternal page) = listed_unused size page (λ i. slice_index page.offsets i + 8)
+unused_in size (Internal page) = item_unused size (λ at (item : InternalItem). internal_item_end at item.key) no_internal page
+unused_in size (RecnoInternal page) = item_unused size (λ at (item : RecnoItem). at + 8) no_recno page
 unused_in size (Leaf page) = leaf_unused size page
 unused_in size (RecnoLeaf page) = leaf_unused size page
 unused_in size (DupLeaf page) = leaf_unused size page

@@ -1,7 +1,7 @@
-ghost use Rattle.std.specs.Prelude.{◌≡◌, ◌<◌, ◌≤◌, None, ℕ, length};
+ghost use Rattle.std.specs.Prelude.{◌≡◌, ◌≤◌, None, length};
 ghost use Rattle.bdb_turned.specs.of_format.Reading.{entries_of, hash_item_at, index_end, listed, offset_of};
-ghost use Rattle.bdb_turned.specs.of_format.Rows.{hash_rows};
-ghost use Rattle.bdb_turned.specs.of_format.Table.{first_row};
+ghost use Rattle.bdb_turned.specs.of_format.Rows.{listed_code};
+ghost use Rattle.bdb_turned.specs.of_format.declared.pages.PageType.TheVariants.{Hash as HashPage};
 ghost use Rattle.bdb_stat.specs.Unused.{hash_unused};
 ghost use Rattle.bdb_stat.specs.Ends.{lowest};
 
@@ -23,11 +23,10 @@ fn lowest(page: &[u8], order: Order) -> usize
 
 /// How many bytes of a hash page lie in no item, nor in its header or its index: those before the last item, since items lie
 /// one after another down from the page's end.
-#[tactic(auto, using(crate::proofs::ItemLemmas::lowest_behind, crate::proofs::ItemLemmas::hash_outside))]
+#[tactic(auto, using(crate::proofs::ItemLemmas::hash_index, crate::proofs::ItemLemmas::lowest_behind, crate::proofs::ItemLemmas::hash_outside))]
 pub(crate) fn unused_before_items(page: &[u8], order: Order) -> usize
     requires header { 26 ≤ length page.now }
-    requires room { index_end order page.now ≤ length page.now }
-    requires items { (i : ℕ) → i < entries_of order page.now → first_row (hash_rows order page.now i) ≡ None }
+    requires code { listed_code order page.now HashPage ≡ None }
     ensures { result ≡ hash_unused (length page.now) (listed order page.now (hash_item_at order page.now)) }
 {
     lowest(page, order) - index_end(page, order)

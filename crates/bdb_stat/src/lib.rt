@@ -4,10 +4,8 @@
 mod class;
 mod classing;
 mod counting;
-mod ends;
 mod figures;
 mod hash;
-mod image;
 pub mod laws;
 mod marks;
 mod starts;

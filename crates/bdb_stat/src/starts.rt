@@ -1,13 +1,13 @@
 //! The bytes of a page that lie in no item, by the places where items begin.
-ghost use Rattle.std.specs.Prelude.{◌≡◌, ◌<◌, ◌≤◌, ◌↔◌, ◌-◌, ℕ, IfSome, length, true};
-ghost use Rattle.bdb_turned.specs.of_format.Reading.{entries_of, index_end, offset_of};
-ghost use Rattle.bdb_stat.specs.Unused.{places_outside};
-ghost use Rattle.bdb_stat.specs.Ends.{ArePlaced};
+ghost use Rattle.std.specs.Prelude.{◌≡◌, ◌<◌, ◌≤◌, ◌↔◌, ◌-◌, ℕ, IfSome, None, length, true};
+ghost use Rattle.bdb_turned.specs.of_format.Reading.{entries_of, index_end, listed, offset_of};
+ghost use Rattle.bdb_turned.specs.of_format.Rows.{listed_code};
+ghost use Rattle.bdb_stat.specs.Unused.{item_unused, places_outside};
+ghost use Rattle.bdb_turned.specs.of_form.Ends.{ArePlaced};
 ghost use Rattle.bdb_stat.specs.Starts.{AreStarts};
 
-use crate::ends::Ends;
 use crate::marks::Marks;
-use bdb_turned::{Order, index_end, offset_at, u16_at};
+use bdb_turned::{EndKind, LaidKind, Order, index_end, offset_at, u16_at};
 
 /// Marks the places where the items of a page begin, and no others. Items that begin at one place have one mark.
 fn mark_starts(starts: &mut Marks, page: &[u8], order: Order)
@@ -26,21 +26,21 @@ fn mark_starts(starts: &mut Marks, page: &[u8], order: Order)
 
 /// How many bytes behind the index lie in no item: those before each item that are past the ends of all items before it, and
 /// those past all ends. An item that begins within another is reached in its turn.
-fn bytes_outside<E: Ends>(starts: &Marks, page: &[u8], order: Order) -> usize
+fn bytes_outside<K: EndKind>(starts: &Marks, page: &[u8], order: Order) -> usize
     requires header { 26 ≤ length page.now }
     requires room { index_end order page.now ≤ length page.now }
-    requires items { ArePlaced order page.now E.least (E.end order page.now) }
+    requires items { ArePlaced order page.now K.least (K.end order page.now) }
     requires size { length starts.now ≡ length page.now }
     requires marked { AreStarts starts.now (entries_of order page.now) (offset_of order page.now) }
     ensures { result ≡ places_outside (index_end order page.now) (length page.now) (entries_of order page.now) (offset_of order page.now)
-        (λ i. E.end order page.now (offset_of order page.now i)) }
+        (λ i. K.end order page.now (offset_of order page.now i)) }
 {
     let mut from = index_end(page, order);
     let mut reached = from;
     let mut outside = 0;
     while let Some(at) = starts.next(from) {
         outside += at.saturating_sub(reached);
-        reached = reached.max(E::end_at(page, order, at));
+        reached = reached.max(K::end_at(page, order, at));
         from = at + 1;
     }
     outside + (page.len() - reached)
@@ -57,18 +57,18 @@ fn is_shared(page: &[u8], order: Order, entry: u16) -> bool
 
 /// How many bytes behind the index lie in no item, where the items lie one after another down from the page's end, as those of
 /// a page that was filled in order do: the gaps between them. `None` where one lies otherwise.
-fn bytes_between<E: Ends>(page: &[u8], order: Order) -> Option<usize>
+fn bytes_between<K: EndKind>(page: &[u8], order: Order) -> Option<usize>
     requires header { 26 ≤ length page.now }
     requires room { index_end order page.now ≤ length page.now }
-    requires items { ArePlaced order page.now E.least (E.end order page.now) }
+    requires items { ArePlaced order page.now K.least (K.end order page.now) }
     ensures { IfSome result (λ n. n ≡ places_outside (index_end order page.now) (length page.now) (entries_of order page.now) (offset_of order page.now)
-        (λ i. E.end order page.now (offset_of order page.now i))) }
+        (λ i. K.end order page.now (offset_of order page.now i))) }
 {
     let mut lowest = page.len();
     let mut outside = 0;
     for i in 0..u16_at(page, 20, order) {
         let at = usize::from(offset_at(page, order, i));
-        let end = E::end_at(page, order, at);
+        let end = K::end_at(page, order, at);
         if end <= lowest {
             outside += lowest - end;
             lowest = at;
@@ -79,20 +79,30 @@ fn bytes_between<E: Ends>(page: &[u8], order: Order) -> Option<usize>
     Some(outside + (lowest - index_end(page, order)))
 }
 
-/// How many bytes of a page with an index lie in no item, nor in its header or its index. What was marked of another page
-/// is cleared.
-pub(crate) fn unused_behind<E: Ends>(starts: &mut Marks, page: &[u8], order: Order) -> usize
+/// How many bytes behind the index lie in no item. What was marked of another page is cleared.
+fn bytes_in_none<K: EndKind>(starts: &mut Marks, page: &[u8], order: Order) -> usize
     requires header { 26 ≤ length page.now }
     requires room { index_end order page.now ≤ length page.now }
-    requires items { ArePlaced order page.now E.least (E.end order page.now) }
+    requires items { ArePlaced order page.now K.least (K.end order page.now) }
     requires size { length starts.old ≡ length page.now }
     ensures unused { result ≡ places_outside (index_end order page.now) (length page.now) (entries_of order page.now) (offset_of order page.now)
-        (λ i. E.end order page.now (offset_of order page.now i)) }
+        (λ i. K.end order page.now (offset_of order page.now i)) }
     ensures same { length starts.new ≡ length starts.old }
 {
-    if let Some(outside) = bytes_between::<E>(page, order) {
+    if let Some(outside) = bytes_between::<K>(page, order) {
         return outside;
     }
     mark_starts(starts, page, order);
-    bytes_outside::<E>(starts, page, order)
+    bytes_outside::<K>(starts, page, order)
+}
+
+/// How many bytes of a page with an index lie in no item, nor in its header or its index.
+pub(crate) fn unused_behind<K: LaidKind>(starts: &mut Marks, page: &[u8], order: Order) -> usize
+    requires header { 26 ≤ length page.now }
+    requires code { listed_code order page.now K.page_type ≡ None }
+    requires size { length starts.old ≡ length page.now }
+    ensures unused { result ≡ item_unused (length page.now) K.item_end K.no_item (listed order page.now (K.item_at order page.now)) }
+    ensures same { length starts.new ≡ length starts.old }
+{
+    bytes_in_none::<K>(starts, page, order)
 }

@@ -2,36 +2,36 @@
 ghost use Rattle.std.specs.Prelude.{◌≡◌, ◌<◌, ◌≤◌, None, length};
 ghost use Rattle.bdb_turned.specs.of_format.File.{file_of, page_at};
 ghost use Rattle.bdb_turned.specs.of_format.HeadOf.{head_of};
-ghost use Rattle.bdb_turned.specs.of_format.Numbers.{byte_at};
-ghost use Rattle.bdb_turned.specs.of_format.Reading.{page_as, page_type};
+ghost use Rattle.bdb_turned.specs.of_format.Reading.{page_as};
 ghost use Rattle.bdb_turned.specs.of_format.Rows.{body_code};
 ghost use Rattle.bdb_turned.specs.of_image.Linked.{IsForest};
 ghost use Rattle.bdb_stat.specs.Unused.{unused_in};
 
-use crate::ends::{InternalItems, LeafItems, RecnoItems};
 use crate::hash::unused_before_items;
-use crate::image::page_of;
 use crate::marks::Marks;
 use crate::starts::unused_behind;
-use bdb_turned::{Head, Order, is_zero, u16_at};
+use bdb_turned::{
+    EntryLeafKind, Head, InternalKind, LeafKind, Order, PageType, RecnoInternalKind, Records,
+    SortedData, is_zero, page_bytes, page_type, u16_at,
+};
 
-/// How many bytes of a page that isn't zero hold nothing, by its type.
-fn typed_unused(starts: &mut Marks, page: &[u8], order: Order) -> usize
+/// How many bytes of a page of a type that isn't zero hold nothing.
+#[tactic(auto, using(crate::proofs::TypedLemmas::chain_unused, crate::proofs::TypedLemmas::nothing_unused), unfolding(crate::specs::Unused::unused_in))]
+fn typed_unused(starts: &mut Marks, page: &[u8], order: Order, page_type: PageType) -> usize
     requires long { 512 ≤ length page.now }
-    requires code { body_code order page.now (page_type (byte_at page.now 25)) ≡ None }
+    requires code { body_code order page.now page_type ≡ None }
     requires size { length starts.old ≡ length page.now }
-    ensures unused { result ≡ unused_in (length page.now) (page_as order page.now (page_type (byte_at page.now 25))) }
+    ensures unused { result ≡ unused_in (length page.now) (page_as order page.now page_type) }
     ensures same { length starts.new ≡ length starts.old }
 {
-    match page[25] {
-        2 => unused_before_items(page, order),
-        3 => unused_behind::<InternalItems>(starts, page, order),
-        4 => unused_behind::<RecnoItems>(starts, page, order),
-        5 => unused_behind::<LeafItems>(starts, page, order),
-        6 => unused_behind::<LeafItems>(starts, page, order),
-        7 => page.len() - 26 - usize::from(u16_at(page, 22, order)),
-        12 => unused_behind::<LeafItems>(starts, page, order),
-        13 => unused_before_items(page, order),
+    match page_type {
+        PageType::Hash => unused_before_items(page, order),
+        PageType::Internal => unused_behind::<InternalKind>(starts, page, order),
+        PageType::RecnoInternal => unused_behind::<RecnoInternalKind>(starts, page, order),
+        PageType::Leaf => unused_behind::<LeafKind>(starts, page, order),
+        PageType::RecnoLeaf => unused_behind::<EntryLeafKind<Records>>(starts, page, order),
+        PageType::DupLeaf => unused_behind::<EntryLeafKind<SortedData>>(starts, page, order),
+        PageType::Overflow => page.len() - 26 - usize::from(u16_at(page, 22, order)),
         _ => 0,
     }
 }
@@ -48,9 +48,9 @@ pub(crate) fn unused_on(starts: &mut Marks, image: &[u8], head: &Head, number: u
     if number > head.last {
         return 0;
     }
-    let page = page_of(image, head, number);
+    let page = page_bytes(image, head, number);
     if is_zero(page) {
         return 0;
     }
-    typed_unused(starts, page, head.order)
+    typed_unused(starts, page, head.order, page_type(page))
 }

@@ -9,7 +9,8 @@ use Rattle.bdb_law_sums.specs.of_format.Chains.{chain_in, next_of, piece_in, pie
 use Rattle.bdb_law_sums.specs.of_format.File.{File, file_as, header_in, page_at}
 use Rattle.bdb_law_sums.specs.of_format.HeadOf.{is_page_size}
 use Rattle.bdb_law_sums.specs.of_format.Numbers.{byte_at, four_at, two_at}
-use Rattle.bdb_law_sums.specs.of_format.Page.{Page, Zero, PageType}
+use Rattle.bdb_law_sums.specs.of_format.Page.{Page, Zero}
+use Rattle.bdb_law_sums.specs.of_format.declared.pages.PageType.{PageType}
 use Rattle.bdb_law_sums.specs.of_format.Reading.{abstract_page, is_zero, page_as, page_type}
 use Rattle.bdb_law_sums.specs.of_format.Rows.{page_code}
 use Rattle.bdb_law_sums.proofs.of_format.SizeLemmas.{size_bounds}

@@ -1,16 +1,14 @@
-ghost use Rattle.std.specs.Prelude.{◌≡◌, ◌==◌, ◌∷◌, [], if◌then◌else◌, ℕ};
+ghost use Rattle.std.specs.Prelude.{◌≡◌, if◌then◌else◌, ℕ};
 ghost use Rattle.bdb_law_sums.specs.of_format.Page.{Internal, InternalItem, Listed, RecnoInternal};
 ghost use Rattle.bdb_law_sums.specs.of_format.declared.pages.RecnoItem.{RecnoItem};
 ghost use Rattle.bdb_law_sums.specs.of_form.Seen.{page_seen};
-ghost use Rattle.std.specs.List.{list_any};
 ghost use Rattle.bdb_law_sums.specs.of_format.File.{header_in, page_at};
-ghost use Rattle.bdb_law_sums.specs.of_format.References.{has_type};
 ghost use Rattle.bdb_survey.specs.Salvage.{down, fits_below, set_start};
 ghost use Rattle.bdb_survey.specs.Ways.{fits_as, plain_type, way_from};
 ghost use Rattle.bdb_survey.specs.declared.down.Way.TheVariants.{Broken, Child};
 
 use crate::whole_pages::WholePages;
-use bdb_law_sums::PageView;
+use bdb_law_sums::{PageType, PageView, has_type, keyed_types, record_types};
 
 /// Where the way down goes on from a page.
 #[derive(Clone, Copy, Debug)]
@@ -29,32 +27,15 @@ fn page_type(page: &PageView<'_>) -> Option<u8>
 {
     match page {
         PageView::Zero(_) | PageView::Meta(_) => None,
-        PageView::Free(_) => Some(0),
+        PageView::Free(_) => Some(PageType::FREE),
         PageView::Hash(view) => Some(view.header().page_type),
-        PageView::Internal(_) => Some(3),
-        PageView::RecnoInternal(_) => Some(4),
-        PageView::Leaf(_) => Some(5),
-        PageView::RecnoLeaf(_) => Some(6),
-        PageView::Overflow(_) => Some(7),
-        PageView::Queue(_) => Some(11),
-        PageView::DupLeaf(_) => Some(12),
-    }
-}
-
-/// Whether a type is one of these.
-fn is_one_of(types: &[u8], page_type: u8) -> bool
-    ensures { result ≡ list_any (λ type. type == page_type) types.now }
-{
-    types.iter().any(|one| *one == page_type)
-}
-
-/// Whether there is a type, and it's one of these.
-fn has_type(types: &[u8], page_type: Option<u8>) -> bool
-    ensures { result ≡ has_type types.now page_type }
-{
-    match page_type {
-        Some(page_type) => is_one_of(types, page_type),
-        None => false,
+        PageView::Internal(_) => Some(PageType::INTERNAL),
+        PageView::RecnoInternal(_) => Some(PageType::RECNO_INTERNAL),
+        PageView::Leaf(_) => Some(PageType::LEAF),
+        PageView::RecnoLeaf(_) => Some(PageType::RECNO_LEAF),
+        PageView::Overflow(_) => Some(PageType::OVERFLOW),
+        PageView::Queue(_) => Some(PageType::QUEUE),
+        PageView::DupLeaf(_) => Some(PageType::DUP_LEAF),
     }
 }
 
@@ -81,20 +62,6 @@ fn fits(pages: &WholePages<'_>, types: &[u8], level: u8, child: u32) -> bool
         Some(page) => has_type(types, page_type(&page)) && level == level_on(&page),
         None => false,
     }
-}
-
-/// The types of the pages below an internal page of this level.
-fn keyed_types(level: u8) -> &'static [u8]
-    ensures { result.now ≡ if level == 2 then 5 ∷ 12 ∷ [] else 3 ∷ [] }
-{
-    if level == 2 { &[5, 12] } else { &[3] }
-}
-
-/// The types of the pages below an internal page of this level in a tree of records.
-fn record_types(level: u8) -> &'static [u8]
-    ensures { result.now ≡ if level == 2 then 6 ∷ [] else 4 ∷ [] }
-{
-    if level == 2 { &[6] } else { &[4] }
 }
 
 /// Whether a page fits as a child of an internal page of this level.

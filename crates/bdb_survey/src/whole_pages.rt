@@ -1,4 +1,4 @@
-ghost use Rattle.std.specs.Prelude.{◌≡◌, ◌/◌, ◌^◌, ◌<◌, ◌≤◌, IsTrue, length, ℕ};
+ghost use Rattle.std.specs.Prelude.{◌≡◌, ◌^◌, ◌<◌, ◌≤◌, IsTrue, length, ℕ};
 ghost use Rattle.bdb_law_sums.specs.of_format.Page.{NoType};
 ghost use Rattle.bdb_law_sums.specs.of_form.Seen.{page_seen};
 ghost use Rattle.bdb_law_sums.specs.of_format.Chains.{piece_in, pieces_of};
@@ -6,13 +6,12 @@ ghost use Rattle.bdb_layout.specs.Seen.{content_seen};
 ghost use Rattle.bdb_survey.specs.Items.{slot_at, slots_in};
 ghost use Rattle.bdb_law_sums.specs.of_format.File.{page_at};
 ghost use Rattle.bdb_law_sums.specs.of_format.HeadOf.{is_page_size};
-ghost use Rattle.bdb_law_sums.specs.of_overflow.Whole.{bytes_of};
 ghost use Rattle.bdb_survey.specs.Links.{view_page};
 ghost use Rattle.bdb_survey.specs.Salvage.{is_overflow, is_row, salvaged_file};
 
 use crate::Guess;
 use crate::slots::slots_of;
-use bdb_law_sums::{PageView, Pieces, form, known_form, pieces_at};
+use bdb_law_sums::{PageView, Pieces, form, known_form, page_bytes, pieces_at};
 use bdb_layout::{Content, u32_at};
 use std::marker::Model;
 
@@ -33,19 +32,6 @@ impl<'a> Model for WholePages<'a> {
     ghost view = { λ v. salvaged_file v.guess.order v.guess.page_size v.image.now };
 
     ghost invariant = { λ v. IsRead v.guess.page_size v.image.now };
-}
-
-/// The bytes of a page that the image has whole.
-#[tactic(auto, using(crate::proofs::Below::page_room, crate::proofs::Below::page_length))]
-fn page_of<'a>(image: &'a [u8], size: u32, number: u32) -> &'a [u8]
-    requires some { 1 ≤ size }
-    requires there { number < length image.now / size }
-    ensures bytes { result.now ≡ bytes_of size image.now number }
-    ensures whole { length result.now ≡ size }
-{
-    let size = size as usize;
-    let start = number as usize * size;
-    &image[start..start + size]
 }
 
 #[tactic(auto, using(crate::proofs::StoredPageLemmas::count_is, crate::proofs::Below::long_page, crate::proofs::PageLemmas::few))]
@@ -83,6 +69,7 @@ impl<'a> WholePages<'a> {
     pub fn last(&self) -> u32
         ensures { result ≡ self.now.last }
     {
+        // What holds of the pages is known where a field of them is looked at.
         let _ = &self.image;
         self.count().saturating_sub(1)
     }
@@ -97,7 +84,7 @@ impl<'a> WholePages<'a> {
         if number as usize >= self.image.len() / self.guess.page_size as usize {
             return None;
         }
-        let page = page_of(self.image, self.guess.page_size, number);
+        let page = page_bytes(self.image, self.guess.page_size, number);
         let number = u32_at(page, 8, self.guess.order);
         match form(page, number, self.guess.order) {
             Ok(view) => Some(view),
@@ -121,7 +108,7 @@ impl<'a> WholePages<'a> {
         requires { 1 ≤ length (slots_in (page_at self.now number)) }
         ensures { page_seen result ≡ page_at self.now number }
     {
-        let page = page_of(self.image, self.guess.page_size, number);
+        let page = page_bytes(self.image, self.guess.page_size, number);
         let number = u32_at(page, 8, self.guess.order);
         known_form(page, number, self.guess.order)
     }

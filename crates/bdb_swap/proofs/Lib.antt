@@ -1,4 +1,3 @@
-mod Below
 pub mod WriteLemmas
 pub mod PartLemmas
 pub mod CrossLemmas

@@ -1,23 +1,17 @@
 ghost use Rattle.std.specs.Prelude.{◌≡◌, ◌+◌, ◌≤◌, length};
 ghost use Rattle.bdb_turned.specs.of_layout.Seen.{hash_item_seen};
-ghost use Rattle.bdb_io.specs.of_format.Page.{HashPage};
 ghost use Rattle.bdb_turned.specs.Fields.{block_fields, hash_fields};
 ghost use Rattle.bdb_turned.specs.Apart.{run_length};
-ghost use Rattle.bdb_turned.specs.Parts.{hash_item_end, hash_part};
+ghost use Rattle.bdb_turned.specs.Parts.{hash_item_end};
 ghost use Rattle.bdb_swap.specs.Turns.{Turns};
 
-use crate::listed::Items;
+use crate::listed::TurnKind;
 use crate::number::{turn_four, turn_two};
 use bdb_io::Order;
-use bdb_turned::{DupBlocks, HashItem, known_hash_item, offset_at};
+use bdb_turned::{DupBlocks, HashItem, HashKind, known_hash_item, offset_at};
 
-/// The items of hash pages.
-pub(crate) struct HashItems;
-
-impl Items for HashItems {
-    ghost page_type = { HashPage };
-
-    ghost numbers = { hash_part };
+impl TurnKind for HashKind {
+    ghost fields = { λ at item. hash_fields at item.content };
 
     fn turn_item(page: &mut [u8], source: &[u8], order: Order, index: u16) {
         let at = usize::from(offset_at(source, order, index));

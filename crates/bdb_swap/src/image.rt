@@ -1,9 +1,7 @@
-ghost use Rattle.std.specs.Prelude.{◌≡◌, ◌<◌, ◌++◌, IfOk, OnOk, None, false, true, length};
-ghost use Rattle.bdb_io.specs.of_format.File.{page_bytes};
+ghost use Rattle.std.specs.Prelude.{◌≡◌, ◌++◌, IfOk, OnOk, None, false, true, length};
 ghost use Rattle.bdb_io.specs.of_format.HeadOf.{is_page_size};
 ghost use Rattle.bdb_io.specs.of_format.Reading.{abstract_page, is_zero};
 ghost use Rattle.bdb_io.specs.of_format.Rows.{form_code};
-ghost use Rattle.bdb_turned.specs.of_image.Formed.{IsAccepted};
 ghost use Rattle.bdb_turned.specs.Overlaps.{overlaps};
 ghost use Rattle.bdb_turned.specs.Turning.{turned_page};
 ghost use Rattle.bdb_swap.specs.Flip.{IsTurnedImage};
@@ -13,20 +11,8 @@ use crate::flipping::FlipError;
 use crate::overlap::page_overlaps;
 use crate::page::turn_page;
 use bdb_io::{Bytes, Head};
+use bdb_turned::page_bytes;
 use std::alloc::{AllocError, Global};
-
-/// The bytes of a page of an image whose page 0 is accepted.
-#[tactic(auto, using(crate::proofs::Below::page_room, crate::proofs::Below::page_length))]
-pub(crate) fn page_of<'a>(image: &'a [u8], head: &Head, number: u32) -> &'a [u8]
-    requires head { IsAccepted image.now head.now }
-    requires there { number < head.now.pages }
-    ensures bytes { result.now ≡ page_bytes head.now image.now number }
-    ensures size { length result.now ≡ head.now.page_size }
-{
-    let size = head.page_size as usize;
-    let start = number as usize * size;
-    &image[start..start + size]
-}
 
 /// A copy of bytes, whose room is taken at once.
 pub(crate) fn copy_of(alloc: Global, bytes: &[u8]) -> Result<Vec<u8>, AllocError>
@@ -59,7 +45,7 @@ pub(crate) fn turned_image(alloc: Global, image: &[u8], head: &Head) -> Result<B
     let mut copy = Vec::with_capacity(alloc, image.len())?;
     let mut ends = [0u16; 32768];
     for number in 0..head.pages {
-        let page = page_of(image, head, number);
+        let page = page_bytes(image, head, number);
         if page_overlaps(&mut ends[..page.len()], page, head, number) {
             return Err(FlipError::Overlap(number));
         }

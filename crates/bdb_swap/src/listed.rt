@@ -1,56 +1,52 @@
 ghost use Rattle.std.specs.Prelude.{◌≡◌, ◌<◌, ◌≤◌, None, ℕ, List, length};
 ghost use Rattle.std.specs.List.{flat_map, range_with_len};
-ghost use Rattle.bdb_io.specs.of_format.declared.kinds.Order.{Order as AnyOrder};
-ghost use Rattle.bdb_io.specs.of_format.Page.{PageType};
-ghost use Rattle.bdb_io.specs.of_format.Reading.{entries_of, index_end};
-ghost use Rattle.bdb_io.specs.of_format.Rows.{item_rows};
+ghost use Rattle.bdb_io.specs.of_format.Reading.{entries_of, index_end, listed, offset_of};
+ghost use Rattle.bdb_io.specs.of_format.Rows.{item_rows, listed_code};
 ghost use Rattle.bdb_io.specs.of_format.Table.{first_row};
-ghost use Rattle.bdb_turned.specs.Fields.{Field};
-ghost use Rattle.bdb_turned.specs.Parts.{all_fields};
+ghost use Rattle.bdb_turned.specs.Fields.{Field, listed_fields};
 ghost use Rattle.bdb_swap.specs.Turns.{Turns};
 
 use crate::header::{turn_header, turn_index};
 use bdb_io::Order;
-use bdb_turned::u16_at;
+use bdb_turned::{PageKind, u16_at};
 
-/// The items of a type of pages with an index: the numbers of each, by its place in the index.
-pub(crate) trait Items {
-    ghost page_type: { PageType };
-
-    ghost numbers: { AnyOrder → List ℕ → ℕ → List Field };
+/// A type of pages with an index, by the numbers of its items.
+pub(crate) trait TurnKind: PageKind {
+    // The numbers of an item that begins at a place.
+    ghost fields: { ℕ → Self → List Field };
 
     /// Turns the numbers of an item round.
     fn turn_item(page: &mut [u8], source: &[u8], order: Order, index: u16)
         requires room { index_end order source.now ≤ length source.now }
         requires entry { index < entries_of order source.now }
-        requires sound { first_row (item_rows page_type order source.now index) ≡ None }
+        requires sound { first_row (item_rows Self.page_type order source.now index) ≡ None }
         requires same { length page.old ≡ length source.now }
-        ensures turns { Turns source.now (numbers order source.now index) page.old page.new }
+        ensures turns { Turns source.now (fields (offset_of order source.now index) (Self.item_at order source.now index)) page.old page.new }
         ensures same { length page.new ≡ length page.old };
 }
 
 /// Turns the numbers of all items of a page round.
-fn turn_items<I: Items>(page: &mut [u8], source: &[u8], order: Order)
+fn turn_items<K: TurnKind>(page: &mut [u8], source: &[u8], order: Order)
     requires header { 26 ≤ length source.now }
     requires room { index_end order source.now ≤ length source.now }
-    requires items { (i : ℕ) → i < entries_of order source.now → first_row (item_rows I.page_type order source.now i) ≡ None }
+    requires items { (i : ℕ) → i < entries_of order source.now → first_row (item_rows K.page_type order source.now i) ≡ None }
     requires same { length page.old ≡ length source.now }
-    ensures { Turns source.now (flat_map (I.numbers order source.now) (range_with_len 0 (entries_of order source.now))) page.old page.new }
+    ensures { Turns source.now (flat_map (λ i. K.fields (offset_of order source.now i) (K.item_at order source.now i))
+        (range_with_len 0 (entries_of order source.now))) page.old page.new }
 {
     for i in 0..u16_at(source, 20, order) {
-        I::turn_item(page, source, order, i);
+        K::turn_item(page, source, order, i);
     }
 }
 
 /// Turns a page with an index round: its header, its index, and its items.
-pub(crate) fn turn_listed<I: Items>(page: &mut [u8], source: &[u8], order: Order)
+pub(crate) fn turn_listed<K: TurnKind>(page: &mut [u8], source: &[u8], order: Order)
     requires header { 26 ≤ length source.now }
-    requires room { index_end order source.now ≤ length source.now }
-    requires items { (i : ℕ) → i < entries_of order source.now → first_row (item_rows I.page_type order source.now i) ≡ None }
+    requires code { listed_code order source.now K.page_type ≡ None }
     requires same { length page.old ≡ length source.now }
-    ensures { Turns source.now (all_fields (entries_of order source.now) (I.numbers order source.now)) page.old page.new }
+    ensures { Turns source.now (listed_fields K.fields K.no_item (listed order source.now (K.item_at order source.now))) page.old page.new }
 {
     turn_header(page, source);
     turn_index(page, source, order);
-    turn_items::<I>(page, source, order);
+    turn_items::<K>(page, source, order);
 }

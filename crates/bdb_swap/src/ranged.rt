@@ -1,27 +1,13 @@
-ghost use Rattle.std.specs.Prelude.{◌≡◌, ◌<◌, ◌≤◌, ◌==◌, ℕ, List, None, get_or, length, set};
-ghost use Rattle.bdb_io.specs.of_format.declared.kinds.Order.{Order as AnyOrder};
-ghost use Rattle.bdb_io.specs.of_format.Reading.{entries_of, index_end, offset_of};
-ghost use Rattle.bdb_io.specs.of_format.Rows.{item_rows};
-ghost use Rattle.bdb_io.specs.of_format.Table.{first_row};
-ghost use Rattle.bdb_swap.specs.Crossing.{AreEnds, AreNoted, AreRanges, some_share};
+ghost use Rattle.std.specs.Prelude.{◌≡◌, ◌<◌, ◌≤◌, ◌==◌, ℕ, None, get_or, length, set};
+ghost use Rattle.bdb_io.specs.of_format.Reading.{entries_of, index_end, listed, offset_of};
+ghost use Rattle.bdb_io.specs.of_format.Rows.{listed_code};
+ghost use Rattle.bdb_turned.specs.Overlaps.{listed_overlap};
+ghost use Rattle.bdb_turned.specs.of_form.Ends.{ArePlaced};
+ghost use Rattle.bdb_swap.specs.Crossing.{AreEnds, AreNoted};
 
 use crate::crossing::{Noted, crosses};
-use crate::listed::Items;
 use bdb_io::Order;
-use bdb_turned::{offset_at, u16_at};
-
-/// Items each of which is a range of bytes, from its offset up to its end.
-pub(crate) trait Ranged: Items {
-    ghost high: { AnyOrder → List ℕ → ℕ → ℕ };
-
-    /// Where an item ends.
-    fn item_end(page: &[u8], order: Order, index: u16) -> usize
-        requires room { index_end order page.now ≤ length page.now }
-        requires entry { index < entries_of order page.now }
-        requires sound { first_row (item_rows Self.page_type order page.now index) ≡ None }
-        requires low { high order page.now index < 65536 }
-        ensures { result ≡ high order page.now index };
-}
+use bdb_turned::{EndKind, LaidKind, offset_at, u16_at};
 
 /// Notes the end of a range at the place where it begins, and tells whether none was noted there.
 fn note_end(ends: &mut [u16], at: usize, end: usize) -> bool
@@ -36,15 +22,14 @@ fn note_end(ends: &mut [u16], at: usize, end: usize) -> bool
 }
 
 /// Notes where the items of a page end.
-fn note_ends<I: Ranged>(ends: &mut [u16], page: &[u8], order: Order) -> Noted
+fn note_ends<K: EndKind>(ends: &mut [u16], page: &[u8], order: Order) -> Noted
     requires header { 26 ≤ length page.now }
     requires room { index_end order page.now ≤ length page.now }
-    requires items { (i : ℕ) → i < entries_of order page.now → first_row (item_rows I.page_type order page.now i) ≡ None }
-    requires ranges { AreRanges (entries_of order page.now) (length page.now) (offset_of order page.now) (I.high order page.now) }
+    requires items { ArePlaced order page.now K.least (K.end order page.now) }
     requires low { length page.now < 65536 }
     requires size { length ends.old ≡ length page.now }
     requires clear { (k : ℕ) → k < length ends.old → get_or ends.old k 0 ≡ 0 }
-    ensures ends { AreEnds ends.new (entries_of order page.now) (offset_of order page.now) (I.high order page.now) }
+    ensures ends { AreEnds ends.new (entries_of order page.now) (offset_of order page.now) (λ i. K.end order page.now (offset_of order page.now i)) }
     ensures same { length ends.new ≡ length ends.old }
     ensures noted { AreNoted ends.new result.first result.places }
 {
@@ -54,7 +39,7 @@ fn note_ends<I: Ranged>(ends: &mut [u16], page: &[u8], order: Order) -> Noted
     };
     for i in 0..u16_at(page, 20, order) {
         let at = usize::from(offset_at(page, order, i));
-        if note_end(ends, at, I::item_end(page, order, i)) {
+        if note_end(ends, at, K::end_at(page, order, at)) {
             noted.places += 1;
         }
         noted.first = noted.first.min(at);
@@ -63,17 +48,15 @@ fn note_ends<I: Ranged>(ends: &mut [u16], page: &[u8], order: Order) -> Noted
 }
 
 /// Whether some two items of a page that begin at different places share a byte. What was noted of another page is cleared.
-pub(crate) fn items_overlap<I: Ranged>(ends: &mut [u16], page: &[u8], order: Order) -> bool
+pub(crate) fn items_overlap<K: LaidKind>(ends: &mut [u16], page: &[u8], order: Order) -> bool
     requires header { 26 ≤ length page.now }
-    requires room { index_end order page.now ≤ length page.now }
-    requires items { (i : ℕ) → i < entries_of order page.now → first_row (item_rows I.page_type order page.now i) ≡ None }
-    requires ranges { AreRanges (entries_of order page.now) (length page.now) (offset_of order page.now) (I.high order page.now) }
+    requires code { listed_code order page.now K.page_type ≡ None }
     requires low { length page.now < 65536 }
     requires size { length ends.old ≡ length page.now }
-    ensures found { result ≡ some_share (entries_of order page.now) (offset_of order page.now) (I.high order page.now) }
+    ensures found { result ≡ listed_overlap K.item_end K.no_item (listed order page.now (K.item_at order page.now)) }
     ensures same { length ends.new ≡ length ends.old }
 {
     ends.fill(0);
-    let noted = note_ends::<I>(ends, page, order);
+    let noted = note_ends::<K>(ends, page, order);
     crosses(ends, &noted)
 }

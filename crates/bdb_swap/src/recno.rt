@@ -1,33 +1,17 @@
 ghost use Rattle.std.specs.Prelude.{◌≡◌, ◌+◌, ◌≤◌, length};
-ghost use Rattle.bdb_io.specs.of_format.Page.{RecnoInternalPage};
 ghost use Rattle.bdb_turned.specs.Fields.{recno_fields};
-ghost use Rattle.bdb_turned.specs.Parts.{recno_high, recno_part};
 ghost use Rattle.bdb_swap.specs.Turns.{Turns};
 
-use crate::listed::Items;
+use crate::listed::TurnKind;
 use crate::number::turn_four;
-use crate::ranged::Ranged;
 use bdb_io::Order;
-use bdb_turned::offset_at;
+use bdb_turned::{RecnoInternalKind, offset_at};
 
-/// The items of internal pages of a recno tree.
-pub(crate) struct RecnoItems;
-
-impl Items for RecnoItems {
-    ghost page_type = { RecnoInternalPage };
-
-    ghost numbers = { recno_part };
+impl TurnKind for RecnoInternalKind {
+    ghost fields = { λ at item. recno_fields at };
 
     fn turn_item(page: &mut [u8], source: &[u8], order: Order, index: u16) {
         turn_recno_item(page, source, usize::from(offset_at(source, order, index)));
-    }
-}
-
-impl Ranged for RecnoItems {
-    ghost high = { recno_high };
-
-    fn item_end(page: &[u8], order: Order, index: u16) -> usize {
-        usize::from(offset_at(page, order, index)) + 8
     }
 }
 

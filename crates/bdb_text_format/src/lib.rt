@@ -9,8 +9,8 @@ mod sections;
 
 pub use bdb_places::{
     BtreeMeta, Bytes, CheckError, Fault, FileKind, HashMeta, Head, Header, ItemFault, Kind,
-    MetaFault, Order, Place, PlacedKey, QueueMeta, RecnoItem, Reference, Settings, Sort, Span,
-    Steps, Unsupported, Values, Verdict, is_page_size, magic_of, number_in, plain_settings,
+    MetaFault, Order, PageType, Place, PlacedKey, QueueMeta, RecnoItem, Reference, Settings, Sort,
+    Span, Steps, Unsupported, Values, Verdict, is_page_size, magic_of, number_in, plain_settings,
 };
 pub use faults::{TextFault, TextReason};
 pub use keywords::Judged;

@@ -1,14 +1,18 @@
 -- A run with a base.
 use Rattle.std.proofs.Common.{Bool, List, [], ap, arith, false, if◌then◌else◌, inl, inr, length, not, refl, subst, sym, true, true≢false, ℕ, ◌&&◌, ◌+◌, ◌<◌, ◌∙◌, ◌≡◌, ◌≤◌, ◌⊎◌}
 use Rattle.std.specs.Prelude.{Option, Some, None}
+use Rattle.std.specs.Option.{option_map}
 use Rattle.std.proofs.lemmas.Bool.{le-ltb, lt-ltb}
 use Rattle.bdb_repair.specs.of_format.Faults.{Took}
-use Rattle.bdb_repair.specs.of_format.Verdict.{verdict_of}
-use Rattle.bdb_repair.specs.of_format.declared.kinds.Verdict.{Verdict}
-use Rattle.bdb_repair.specs.of_format.declared.kinds.Verdict.TheVariants.{Fault, Unsupported, Memory as MemoryVerdict}
+use Rattle.bdb_repair.specs.of_format.Verdict.{Judgement, faults_of, judgement_of, verdict_of}
+use Rattle.bdb_repair.specs.of_format.declared.kinds.Fault.{Fault}
+use Rattle.bdb_repair.specs.of_faults.Refusals.{IsFirstRefusal}
+use Rattle.bdb_repair.specs.of_format.Cases.{judgement_seen}
+use Rattle.bdb_repair.specs.of_faults.declared.refusals.FirstError.{FirstError}
+use Rattle.bdb_repair.specs.of_faults.declared.refusals.FirstError.TheVariants.{Fault as FirstFault, Memory as FirstMemory}
+use Rattle.bdb_tool_ask.specs.of_tool_lines.Telling.{judgement_line, judgement_status}
 use Rattle.bdb_repair.proofs.of_format.KnownLemmas.{keeps_itself}
-use Rattle.bdb_tool_build.specs.of_file.Whole.{IsVerdictOf}
-use Rattle.bdb_repair.specs.of_model.Answers.{Answer, fault_line, told, unsupported_line}
+use Rattle.bdb_repair.specs.of_model.Answers.{Answer, told}
 use Rattle.bdb_repair.specs.of_model.Change.{Change}
 use Rattle.bdb_repair.specs.of_model.Lines.{memory_line}
 use Rattle.bdb_tool_ask.proofs.of_tool_lines.PrintingLemmas.{moved}
@@ -28,24 +32,23 @@ use Rattle.bdb_tool.specs.declared.task.Stop.{Stop}
 use Rattle.bdb_tool.specs.declared.task.Stop.TheVariants.{Usage, TooLarge, ReadFault, Memory as MemoryStop}
 use Rattle.bdb_tool.proofs.BuiltLemmas.{onto_own}
 use Rattle.bdb_tool_ask.proofs.of_tool_lines.FinishLemmas.{memory_finishes, told_finishes}
+use Rattle.bdb_tool_ask.proofs.AnswerLemmas.{judgement_told}
 use Rattle.bdb_tool.proofs.TaskLemmas.{not_read}
 use Rattle.bdb_tool.proofs.RunLemmas.{calls_read, ended_runs, finished_runs, long_input, own_status, read_fault_runs, some_input, stopped_runs, taken_runs, unanswered_runs, whole_input, within_answers}
 
 -- A base that isn't sound.
 
--- its verdict was told, or that memory was wanting
-pub refused_ends : (verdict : Verdict) (limit : ℕ) (text image : List ℕ) (written : Option (List ℕ)) (faults : ℕ) (err : Change) (status : ℕ)
-    → IsVerdictOf image verdict
-    → IsRefused verdict err status → Ends (IsOntoBy limit (verdict_of image) text image) (moved written written faults faults) err status
-refused_ends (Fault fault) limit text image written faults err status is (inl tells) =
-    Answered (told 1 (fault_line fault)) (subst (λ verdict. IsOntoBy limit verdict text image (told 1 (fault_line fault))) (sym is) refl)
-    (told_finishes 1 (fault_line fault) written faults err status (λ five. omega arith) (λ seven. omega arith) tells)
-refused_ends (Fault fault) limit text image written faults err status is (inr tells) = Unanswered (keeps_itself written) tells
-refused_ends (Unsupported name page) limit text image written faults err status is (inl tells) =
-    Answered (told 3 (unsupported_line name page)) (subst (λ verdict. IsOntoBy limit verdict text image (told 3 (unsupported_line name page))) (sym is) refl)
-    (told_finishes 3 (unsupported_line name page) written faults err status (λ five. omega arith) (λ seven. omega arith) tells)
-refused_ends (Unsupported name page) limit text image written faults err status is (inr tells) = Unanswered (keeps_itself written) tells
-refused_ends MemoryVerdict limit text image written faults err status is tells = Unanswered (keeps_itself written) tells
+-- what holds first was told, or that memory was wanting
+pub refused_ends : (error : FirstError) (limit : ℕ) (text image : List ℕ) (written : Option (List ℕ)) (faults : ℕ) (err : Change) (status : ℕ)
+    → IsFirstRefusal (faults_of image) error
+    → IsRefused error err status → Ends (IsOntoBy limit (verdict_of image) text image) (moved written written faults faults) err status
+refused_ends (FirstFault named) limit text image written faults err status is (inl tells) =
+    let judgement : Judgement = judgement_seen named in
+    let answer : Answer = told (judgement_status judgement) (judgement_line judgement) in
+    Answered answer (subst (λ (first : Option Fault). IsOntoBy limit (option_map judgement_of first) text image answer) (sym is) refl)
+    (judgement_told judgement written faults err status tells)
+refused_ends (FirstFault named) limit text image written faults err status is (inr tells) = Unanswered (keeps_itself written) tells
+refused_ends FirstMemory limit text image written faults err status is tells = Unanswered (keeps_itself written) tells
 
 -- A base that is sound.
 

@@ -87,7 +87,7 @@ pub(crate) fn answer_onto<K: Sink, E: Sink, L: Ledger>(
 {
     match base_of(alloc, image, u64::from(limit), steps) {
         Ok(base) => answer_on_base(alloc, text, base, limit, out, err),
-        Err(verdict) => refuse(alloc, verdict, err),
+        Err(error) => refuse(alloc, error, err),
     }
 }
 

@@ -1,10 +1,15 @@
 -- Answers over a sound file.
-use Rattle.std.proofs.Common.{◌≡◌, ℕ, ◌<◌, Bool, true, false, List, [], ◌∷◌, ◌++◌, length, inl, inr, sym, subst, ◌∙◌, ap, arith}
-use Rattle.std.specs.Prelude.{if◌then◌else◌, Option, Some, None, Result, not, option_copied, ⊤}
+use Rattle.std.proofs.Common.{◌≡◌, ℕ, ◌<◌, Bool, true, false, List, [], ◌∷◌, ◌++◌, length, inl, inr, sym, subst, ◌∙◌, ap, arith, refl}
+use Rattle.std.specs.Prelude.{if◌then◌else◌, Option, Some, None, Result, not, option_copied}
+use Rattle.std.specs.Option.{option_map}
 use Rattle.std.proofs.lemmas.Option.{slice_get-get_or}
 use Rattle.bdb_file.specs.of_format.declared.kinds.Order.{Order}
-use Rattle.bdb_file.specs.of_format.declared.kinds.Verdict.{Verdict}
-use Rattle.bdb_file.specs.of_format.declared.kinds.Verdict.TheVariants.{Fault, Unsupported, Memory as MemoryVerdict}
+use Rattle.bdb_file.specs.of_format.declared.kinds.Fault.{Fault}
+use Rattle.bdb_file.specs.of_faults.Refusals.{IsFirstRefusal}
+use Rattle.bdb_file.specs.of_format.Cases.{judgement_seen}
+use Rattle.bdb_file.specs.of_faults.declared.refusals.FirstError.{FirstError}
+use Rattle.bdb_file.specs.of_faults.declared.refusals.FirstError.TheVariants.{Fault as FirstFault, Memory as FirstMemory}
+use Rattle.bdb_tool_dump.specs.of_tool_lines.Telling.{judgement_line, judgement_status}
 use Rattle.bdb_tool_words.specs.of_text_format.Written.{database_text, dump_text, is_btree}
 use Rattle.bdb_tool_words.specs.of_model.Answers.{done, fault_line, pairs_text, told, unsupported_line, value_line, values_text}
 use Rattle.bdb_tool_ask.specs.FileAnswers.{asked_answer, converted, data_at, data_named, data_of_database, database_in, dumped, found, judged_answer, not_btree, not_found, range_answer, ranged, section_answer, sound_answer}
@@ -17,10 +22,9 @@ use Rattle.bdb_file.specs.of_format.Flags.{kind_of}
 use Rattle.bdb_file.specs.of_format.Lists.{ListKey, list_of}
 use Rattle.bdb_stat.specs.of_turned.Flipped.{overlap_in}
 use Rattle.bdb_tool_dump.specs.of_range.Ranges.{in_range}
-use Rattle.bdb_file.specs.of_format.Verdict.{Faulty, Judgement, LeftOut, verdict_of}
+use Rattle.bdb_file.specs.of_format.Verdict.{Faulty, Judgement, LeftOut, verdict_of, first_judgement, judgement_of}
 use Rattle.bdb_file.specs.of_databases.Named.{database_at, no_database}
 use Rattle.bdb_file.specs.of_any_order.AnyOrder.{faults_by_rows, verdict_by}
-use Rattle.bdb_file.specs.Whole.{IsVerdictBy, IsVerdictOf}
 use Rattle.bdb_file.specs.of_any_order.declared.rows.Rows.{Rows}
 use Rattle.bdb_file.specs.of_any_order.declared.rows.Rows.TheVariants.{All}
 use Rattle.bdb_file.proofs.of_any_order.RowsLemmas.{all_are_of_all, no_verdict}
@@ -92,51 +96,33 @@ readable_finishes rows image file asked out err status finishes none same =
 
 -- A file that isn't sound.
 
--- the refusal tells a verdict
-IsOf : Option Judgement → Verdict → Type 0
-IsOf verdict (Fault fault) = verdict ≡ Some (Faulty fault)
-IsOf verdict (Unsupported name page) = verdict ≡ Some (LeftOut name page)
-IsOf verdict MemoryVerdict = ⊤
+-- what holds first was told
+pub judgement_told : (judgement : Judgement) (written : Option (List ℕ)) (faults : ℕ) (err : Change) (status : ℕ)
+    → Tells (judgement_line judgement) (judgement_status judgement) err status
+    → Finishes (told (judgement_status judgement) (judgement_line judgement)) (moved written written faults faults) err status
+judgement_told (Faulty fault) written faults err status tells =
+    told_finishes 1 (fault_line fault) written faults err status (λ five. omega arith) (λ seven. omega arith) tells
+judgement_told (LeftOut name page) written faults err status tells =
+    told_finishes 3 (unsupported_line name page) written faults err status (λ five. omega arith) (λ seven. omega arith) tells
 
-verdict_told : (of : Option Judgement) (verdict : Verdict) (request : Request) (image : List ℕ) (written : Option (List ℕ)) (faults : ℕ) (err : Change)
-    (status : ℕ) → IsOf of verdict → IsRefused verdict err status → Finishes (judged_answer of request image) (moved written written faults faults) err status
-unfolding IsOf
-verdict_told of (Fault fault) request image written faults err status is (inl tells) =
-    subst (λ it. Finishes (judged_answer it request image) (moved written written faults faults) err status) (sym is)
-    (told_finishes 1 (fault_line fault) written faults err status (λ five. omega arith) (λ seven. omega arith) tells)
-verdict_told of (Fault fault) request image written faults err status is (inr tells) =
-    memory_finishes (judged_answer of request image) written faults err status (judged_own of request image) tells
-verdict_told of (Unsupported name page) request image written faults err status is (inl tells) =
-    subst (λ it. Finishes (judged_answer it request image) (moved written written faults faults) err status) (sym is)
-    (told_finishes 3 (unsupported_line name page) written faults err status (λ five. omega arith) (λ seven. omega arith) tells)
-verdict_told of (Unsupported name page) request image written faults err status is (inr tells) =
-    memory_finishes (judged_answer of request image) written faults err status (judged_own of request image) tells
-verdict_told of MemoryVerdict request image written faults err status is tells =
-    memory_finishes (judged_answer of request image) written faults err status (judged_own of request image) tells
+told_judged : (judgement : Judgement) (request : Request) (image : List ℕ) → told (judgement_status judgement) (judgement_line judgement)
+    ≡ judged_answer (Some judgement) request image
+told_judged (Faulty fault) request image = refl
+told_judged (LeftOut name page) request image = refl
 
-of_file : (verdict : Verdict) (image : List ℕ) → IsVerdictOf image verdict → IsOf (verdict_of image) verdict
-unfolding IsOf
-of_file (Fault fault) image is = is
-of_file (Unsupported name page) image is = is
-of_file MemoryVerdict image is = tt
-
-of_rows : (rows : Rows) (verdict : Verdict) (image : List ℕ) → IsVerdictBy rows image verdict → IsOf (verdict_by rows image) verdict
-unfolding IsOf
-of_rows rows (Fault fault) image is = is
-of_rows rows (Unsupported name page) image is = is
-of_rows rows MemoryVerdict image is = tt
-
-pub refused_finishes : (verdict : Verdict) (request : Request) (image : List ℕ) (written : Option (List ℕ)) (faults : ℕ) (err : Change) (status : ℕ)
-    → IsVerdictOf image verdict → IsRefused verdict err status
-    → Finishes (judged_answer (verdict_of image) request image) (moved written written faults faults) err status
-refused_finishes verdict request image written faults err status is refused =
-    verdict_told (verdict_of image) verdict request image written faults err status (of_file verdict image is) refused
-
-pub refused_by : (rows : Rows) (verdict : Verdict) (request : Request) (image : List ℕ) (written : Option (List ℕ)) (faults : ℕ) (err : Change) (status : ℕ)
-    → IsVerdictBy rows image verdict → IsRefused verdict err status
-    → Finishes (judged_answer (verdict_by rows image) request image) (moved written written faults faults) err status
-refused_by rows verdict request image written faults err status is refused =
-    verdict_told (verdict_by rows image) verdict request image written faults err status (of_rows rows verdict image is) refused
+-- or that memory was wanting
+pub refused_finishes : (found : List Fault) (error : FirstError) (request : Request) (image : List ℕ) (written : Option (List ℕ)) (faults : ℕ) (err : Change)
+    (status : ℕ) → IsFirstRefusal found error → IsRefused error err status
+    → Finishes (judged_answer (first_judgement found) request image) (moved written written faults faults) err status
+refused_finishes found (FirstFault named) request image written faults err status is (inl tells) =
+    subst (λ (first : Option Fault). Finishes (judged_answer (option_map judgement_of first) request image) (moved written written faults faults) err status)
+    (sym is)
+    (subst (λ (answer : Answer). Finishes answer (moved written written faults faults) err status) (told_judged (judgement_seen named) request image)
+    (judgement_told (judgement_seen named) written faults err status tells))
+refused_finishes found (FirstFault named) request image written faults err status is (inr tells) =
+    memory_finishes (judged_answer (first_judgement found) request image) written faults err status (judged_own (first_judgement found) request image) tells
+refused_finishes found FirstMemory request image written faults err status is tells =
+    memory_finishes (judged_answer (first_judgement found) request image) written faults err status (judged_own (first_judgement found) request image) tells
 
 -- What is asked of a sound file.
 

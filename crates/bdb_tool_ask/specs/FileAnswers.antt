@@ -6,7 +6,7 @@ use Rattle.bdb_file.specs.of_format.File.{File, file_of}
 use Rattle.bdb_file.specs.of_format.Flags.{kind_of}
 use Rattle.bdb_file.specs.of_format.HeadOf.{head_of}
 use Rattle.bdb_file.specs.of_format.Lists.{list_of}
-use Rattle.bdb_file.specs.of_format.Verdict.{Faulty, Judgement, LeftOut, judgement_of}
+use Rattle.bdb_file.specs.of_format.Verdict.{Faulty, Judgement, LeftOut}
 use Rattle.bdb_tool_words.specs.of_text_format.LineEnd.{line}
 use Rattle.bdb_tool_words.specs.of_text_format.Written.{database_text, dump_text, is_btree}
 use Rattle.bdb_tool_words.specs.of_model.Answers.{Answer, done, fault_line, list_text, pairs_text, told, unsupported_line, values_text}
@@ -19,7 +19,7 @@ use Rattle.bdb_stat.specs.of_turned.Flipped.{flip_of, overlap_in}
 use Rattle.bdb_file.specs.of_any_order.AnyOrder.{faults_by_rows, verdict_by}
 use Rattle.bdb_file.specs.of_any_order.declared.rows.Rows.{Rows}
 use Rattle.bdb_file.specs.of_format.declared.kinds.Fault.{Fault}
-use Rattle.bdb_tool_dump.specs.of_tool_lines.Telling.{first_status, judgements_text}
+use Rattle.bdb_tool_dump.specs.of_tool_lines.Telling.{faults_text, first_status}
 
 abbrev pub not_found : Answer
 not_found = told 9 (line (codes "not found"))
@@ -121,8 +121,7 @@ judged_answer (Some (LeftOut name page)) request image = told 3 (unsupported_lin
 -- `verify`: the line of a sound file, else a line for each fault of the first stage that has any, with the status of the first
 abbrev pub verified : List Fault → List ℕ → Answer
 verified [] image = sound_answer Verify image
-verified (fault ∷ faults) image =
-    told (first_status (map judgement_of (fault ∷ faults))) (judgements_text (map judgement_of (fault ∷ faults)))
+verified (fault ∷ faults) image = told (first_status (fault ∷ faults)) (faults_text (fault ∷ faults))
 
 -- what is asked of a file, by the rows that count; but for `verify` the first fault alone is told
 abbrev pub asked_answer : Rows → Request → List ℕ → Answer

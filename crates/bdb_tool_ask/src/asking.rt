@@ -11,7 +11,7 @@ use crate::converting::answer_convert;
 use crate::looking::answer_lookup;
 use crate::ranging::answer_range;
 use crate::stating::answer_stat;
-use bdb_file::{Sound, Steps, verify};
+use bdb_file::{First, Sound, Steps, sound_by};
 use bdb_swap::Sink;
 use bdb_tool_dump::refuse;
 use bdb_tool_words::Request;
@@ -53,8 +53,8 @@ pub fn answer_file<K: Sink, E: Sink, L: Ledger>(
     ensures { (asked : ModelRequest) → request_seen request.now ≡ Some asked
         → Finishes (asked_answer All asked image.now) (change K.written K.faults out.old out.new) (change E.written E.faults err.old err.new) result }
 {
-    match verify(alloc, image, steps) {
+    match sound_by::<First, L>(alloc, image, steps) {
         Ok(sound) => answer_sound(alloc, &sound, request, out, err, steps),
-        Err(verdict) => refuse(alloc, verdict, err),
+        Err(error) => refuse(alloc, error, err),
     }
 }

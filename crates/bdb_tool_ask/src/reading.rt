@@ -12,7 +12,7 @@ ghost use Rattle.bdb_tool_words.specs.WordsSeen.{reading_seen};
 
 use crate::spelled::name_sought;
 use crate::text::sound_line;
-use bdb_file::{AllError, Readable, Rows, Steps, verify_all_by, verify_by};
+use bdb_file::{AllError, First, NamedList, Readable, Rows, Steps, verify_by};
 use bdb_swap::Sink;
 use bdb_tool_dump::status::NOT_FOUND;
 use bdb_tool_dump::{
@@ -87,7 +87,7 @@ fn answer_verify<K: Sink, E: Sink, L: Ledger>(
     ensures { Finishes (verified (faults_by_rows rows image.now) image.now) (change K.written K.faults out.old out.new)
         (change E.written E.faults err.old err.new) result }
 {
-    match verify_all_by(alloc, image, rows, steps) {
+    match verify_by::<NamedList, L>(alloc, image, rows, steps) {
         Ok(readable) => report(print_sound(alloc, &readable, out), err),
         Err(AllError::Faults(all)) => tell_list(alloc, &all, err),
         Err(AllError::Memory) => tell_memory(err),
@@ -107,9 +107,9 @@ fn answer_list<K: Sink, E: Sink, L: Ledger>(
     ensures { Finishes (judged_answer (verdict_by rows image.now) ListAll image.now) (change K.written K.faults out.old out.new)
         (change E.written E.faults err.old err.new) result }
 {
-    match verify_by(alloc, image, rows, steps) {
+    match verify_by::<First, L>(alloc, image, rows, steps) {
         Ok(readable) => report(write_list(alloc, out, &readable), err),
-        Err(verdict) => refuse(alloc, verdict, err),
+        Err(error) => refuse(alloc, error, err),
     }
 }
 
@@ -129,9 +129,9 @@ fn answer_dump<K: Sink, E: Sink, L: Ledger>(
         → Finishes (judged_answer (verdict_by rows image.now) (Dump name selection.now.print) image.now) (change K.written K.faults out.old out.new)
         (change E.written E.faults err.old err.new) result }
 {
-    match verify_by(alloc, image, rows, steps) {
+    match verify_by::<First, L>(alloc, image, rows, steps) {
         Ok(readable) => dump_selected(alloc, &readable, selection, out, err),
-        Err(verdict) => refuse(alloc, verdict, err),
+        Err(error) => refuse(alloc, error, err),
     }
 }
 

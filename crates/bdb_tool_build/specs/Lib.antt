@@ -4,4 +4,3 @@ pub mod Loads
 pub mod Ontos
 pub mod Refusals
 pub mod Trials
-pub use Rattle.bdb_file.specs as of_file

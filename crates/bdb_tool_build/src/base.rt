@@ -1,21 +1,21 @@
 //! The databases of a sound file, copied out of it.
 ghost use Rattle.std.specs.Prelude.{◌≡◌, ◌<◌, ◌≤◌, ◌^◌, IfErr, IfOk, IfSome, None, OnOk, is_some, length, map, option_copied};
 ghost use Rattle.bdb_file.specs.of_databases.Named.{database_at};
-ghost use Rattle.bdb_file.specs.Whole.{IsVerdictOf};
+ghost use Rattle.bdb_file.specs.of_faults.Refusals.{IsFirstRefusal};
 ghost use Rattle.bdb_model.specs.of_format.Databases.{databases};
 ghost use Rattle.bdb_model.specs.of_format.File.{file_of, page_at};
 ghost use Rattle.bdb_model.specs.of_format.Lists.{list_of};
 ghost use Rattle.bdb_model.specs.of_format.Master.{master_in};
-ghost use Rattle.bdb_model.specs.of_format.Verdict.{verdict_of};
+ghost use Rattle.bdb_model.specs.of_format.Verdict.{faults_of, verdict_of};
 ghost use Rattle.bdb_file.specs.of_image.Metas.{meta_seen};
 ghost use Rattle.bdb_onto.specs.Bases.{IsBaseOf, base_of, base_section, text_pair};
 ghost use Rattle.bdb_tool_build.specs.Copied.{IsBtree};
 
 use crate::copied::{Rooms, push_listed};
 use crate::tree::btree_pairs;
-use bdb_file::{Db, Meta, Scan, Sound, verify};
+use bdb_file::{Db, First, FirstError, Meta, Scan, Sound, sound_by, verify};
 use bdb_io::Image;
-use bdb_model::{BtreeMeta, Bytes, Section, Sections, Steps, TextPairs, Verdict};
+use bdb_model::{BtreeMeta, Bytes, Section, Sections, Steps, TextPairs};
 use bdb_onto::Base;
 use std::alloc::{AllocError, Global};
 use std::sync::ledger::Ledger;
@@ -72,7 +72,7 @@ fn btree_meta(meta: &Meta) -> Option<&BtreeMeta>
     ensures { IfSome result (λ btree. IsBtree (meta_seen meta.now) btree.now) }
 {
     match meta {
-        Meta::Btree(meta) if meta.flags & 0x02 == 0 => Some(meta),
+        Meta::Btree(meta) if !meta.is_recno() => Some(meta),
         _ => None,
     }
 }
@@ -166,21 +166,21 @@ fn base_in<L: Ledger>(
     image: &[u8],
     max: u64,
     steps: &mut Steps<L>,
-) -> Result<Base, Verdict>
+) -> Result<Base, FirstError>
     requires small { length image.now ≤ 2 ^ 30 }
     requires max { max ≤ 2 ^ 30 }
     ensures base { IfOk result (λ base. IsBaseOf image.now base) }
     ensures sound { OnOk result (verdict_of image.now ≡ None) }
-    ensures refused { IfErr result (IsVerdictOf image.now) }
+    ensures refused { IfErr result (IsFirstRefusal (faults_of image.now)) }
 {
-    let sound = verify(alloc, image, steps)?;
+    let sound = sound_by::<First, L>(alloc, image, steps)?;
     match base_within(alloc, sound, COPIES * (max + image.len() as u64)) {
         Ok(base) => Ok(base),
-        Err(_) => Err(Verdict::Memory),
+        Err(_) => Err(FirstError::Memory),
     }
 }
 
-/// The base that an image is, where it is sound, for a file of at most `max` bytes; else the verdict on it, or want of memory. A key is copied once for all its
+/// The base that an image is, where it is sound, for a file of at most `max` bytes; else the first fault, or want of memory. A key is copied once for all its
 /// data, each datum once, and the image is given up. Where the copies have more than four times the bytes of `max` and the image together, that is want of
 /// memory.
 pub fn base_of<L: Ledger>(
@@ -188,12 +188,12 @@ pub fn base_of<L: Ledger>(
     image: Image,
     max: u64,
     steps: &mut Steps<L>,
-) -> Result<Base, Verdict>
+) -> Result<Base, FirstError>
     requires small { length image ≤ 2 ^ 30 }
     requires max { max ≤ 2 ^ 30 }
     ensures base { IfOk result (λ base. IsBaseOf image base) }
     ensures sound { OnOk result (verdict_of image ≡ None) }
-    ensures refused { IfErr result (IsVerdictOf image) }
+    ensures refused { IfErr result (IsFirstRefusal (faults_of image)) }
 {
     base_in(alloc, image.bytes(), max, steps)
 }

@@ -42,10 +42,11 @@ fault_line_printed written faults old new fault result passes =
     ++ name_part (fault_name fault.stage fault.code)) (fault_line fault) result
     (fault_line_is fault) passes
 
-pub case_line_printed : {K : Type 0} (written : K → Option (List ℕ)) (faults : K → ℕ) (old new : Printer K) (name : Unsupported) (page : ℕ)
+pub case_line_printed : {K : Type 0} (written : K → Option (List ℕ)) (faults : K → ℕ) (old new : Printer K) (case : Unsupported) (name : List ℕ) (page : ℕ)
     (result : Result Unit Cut)
-    → Passes written faults old new (case_part (unsupported_name name) ++ case_page_part page) result
-    → Passes written faults old new (unsupported_line name page) result
-case_line_printed written faults old new name page result passes =
-    same_text written faults old new (case_part (unsupported_name name) ++ case_page_part page) (unsupported_line name page) result (case_line_is name page)
+    → name ≡ unsupported_name case → Passes written faults old new (case_part name ++ case_page_part page) result
+    → Passes written faults old new (unsupported_line case page) result
+case_line_printed written faults old new case name page result is passes =
+    same_text written faults old new (case_part name ++ case_page_part page) (unsupported_line case page) result
+    (ap (λ bytes. case_part bytes ++ case_page_part page) is ∙ case_line_is case page)
     passes

@@ -6,7 +6,8 @@ use Rattle.bdb_tool_lines.specs.Telling.{first_status, judgement_status}
 use Rattle.bdb_tool_lines.specs.declared.cut.Cut.{Cut}
 use Rattle.bdb_tool_lines.specs.declared.cut.Cut.TheVariants.{WriteFault}
 use Rattle.bdb_model.specs.Change.{Change}
-use Rattle.bdb_faults.specs.of_format.Verdict.{Faulty, Judgement, LeftOut}
+use Rattle.bdb_faults.specs.of_format.Verdict.{Faulty, Judgement, LeftOut, judgement_of}
+use Rattle.bdb_faults.specs.of_format.declared.kinds.Fault.{Fault}
 use Rattle.bdb_tool_lines.specs.Finished.{Tells}
 
 -- Statuses.
@@ -18,17 +19,17 @@ low_status (LeftOut name page) = inr refl
 pub not_write_fault : (judgement : Judgement) → judgement_status judgement ≡ 5 → ⊥
 not_write_fault judgement is = elim (low_status judgement) [ inl one ↦ omega arith | inr three ↦ omega arith ]
 
-pub list_not_write_fault : (judgements : List Judgement) → first_status judgements ≡ 5 → ⊥
+pub list_not_write_fault : (faults : List Fault) → first_status faults ≡ 5 → ⊥
 list_not_write_fault [] is = omega arith
-list_not_write_fault (judgement ∷ judgements) is = not_write_fault judgement is
+list_not_write_fault (fault ∷ faults) is = not_write_fault (judgement_of fault) is
 
-pub list_not_memory : (judgements : List Judgement) → first_status judgements ≡ 7 → ⊥
+pub list_not_memory : (faults : List Fault) → first_status faults ≡ 7 → ⊥
 list_not_memory [] is = omega arith
-list_not_memory (judgement ∷ judgements) is = elim (low_status judgement) [ inl one ↦ omega arith | inr three ↦ omega arith ]
+list_not_memory (fault ∷ faults) is = elim (low_status (judgement_of fault)) [ inl one ↦ omega arith | inr three ↦ omega arith ]
 
-pub list_own : (judgements : List Judgement) → first_status judgements < 4
+pub list_own : (faults : List Fault) → first_status faults < 4
 list_own [] = omega arith
-list_own (judgement ∷ judgements) = elim (low_status judgement) [ inl one ↦ omega arith | inr three ↦ omega arith ]
+list_own (fault ∷ faults) = elim (low_status (judgement_of fault)) [ inl one ↦ omega arith | inr three ↦ omega arith ]
 
 -- Lines.
 

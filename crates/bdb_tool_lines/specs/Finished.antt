@@ -1,10 +1,12 @@
 -- How an answer is written: to the output, or to the error sink. Source: README.md, "Use".
 use Rattle.std.specs.Prelude.{◌≡◌, ◌≢◌, ◌⊎◌, ℕ, List, [], Result, Ok, Err}
-use Rattle.bdb_faults.specs.of_format.declared.kinds.Verdict.{Verdict}
-use Rattle.bdb_faults.specs.of_format.declared.kinds.Verdict.TheVariants.{Fault, Unsupported, Memory as MemoryVerdict}
-use Rattle.bdb_model.specs.Answers.{Answer, fault_line, told, unsupported_line}
+use Rattle.bdb_faults.specs.of_format.Cases.{judgement_seen}
+use Rattle.bdb_faults.specs.declared.refusals.FirstError.{FirstError}
+use Rattle.bdb_faults.specs.declared.refusals.FirstError.TheVariants.{Fault as FirstFault, Memory as FirstMemory}
+use Rattle.bdb_model.specs.Answers.{Answer}
 use Rattle.bdb_model.specs.Change.{Change, Gains, GainsPart, HasFailed}
 use Rattle.bdb_model.specs.Lines.{memory_line, write_fault_line}
+use Rattle.bdb_tool_lines.specs.Telling.{judgement_line, judgement_status}
 use Rattle.bdb_tool_lines.specs.declared.cut.Cut.{Cut}
 use Rattle.bdb_tool_lines.specs.declared.cut.Cut.TheVariants.{WriteFault, Memory}
 
@@ -38,8 +40,8 @@ pub record HasOwnStatus (answer : Answer) : Type 0 where
   pub no_write_fault : answer.status ≢ 5
   pub no_memory : answer.status ≢ 7
 
--- the verdict was told, or that memory was wanting
-abbrev pub IsRefused : Verdict → Change → ℕ → Type 0
-IsRefused (Fault fault) err status = Tells (fault_line fault) 1 err status ⊎ Tells memory_line 7 err status
-IsRefused (Unsupported name page) err status = Tells (unsupported_line name page) 3 err status ⊎ Tells memory_line 7 err status
-IsRefused MemoryVerdict err status = Tells memory_line 7 err status
+-- what holds first was told, or that memory was wanting
+abbrev pub IsRefused : FirstError → Change → ℕ → Type 0
+IsRefused (FirstFault named) err status =
+    Tells (judgement_line (judgement_seen named)) (judgement_status (judgement_seen named)) err status ⊎ Tells memory_line 7 err status
+IsRefused FirstMemory err status = Tells memory_line 7 err status

@@ -2,7 +2,8 @@
 use Rattle.std.specs.Prelude.{ℕ, List, [], ◌∷◌, ◌++◌, codes}
 use Rattle.std.specs.Fmt.{decimal}
 use Rattle.std.specs.List.{flat_map}
-use Rattle.bdb_faults.specs.of_format.Verdict.{Judgement, Faulty, LeftOut}
+use Rattle.bdb_faults.specs.of_format.Verdict.{Judgement, Faulty, LeftOut, judgement_of}
+use Rattle.bdb_faults.specs.of_format.declared.kinds.Fault.{Fault}
 use Rattle.bdb_model.specs.Answers.{fault_line, unsupported_line}
 use Rattle.bdb_model.specs.of_text_format.LineEnd.{line}
 
@@ -10,9 +11,12 @@ abbrev pub judgement_line : Judgement → List ℕ
 judgement_line (Faulty fault) = fault_line fault
 judgement_line (LeftOut name page) = unsupported_line name page
 
+abbrev pub fault_told : Fault → List ℕ
+fault_told fault = judgement_line (judgement_of fault)
+
 -- a line for each
-unfoldable pub judgements_text : List Judgement → List ℕ
-judgements_text judgements = flat_map judgement_line judgements
+unfoldable pub faults_text : List Fault → List ℕ
+faults_text faults = flat_map fault_told faults
 
 -- 1 for a fault, 3 for a case that is left out
 abbrev pub judgement_status : Judgement → ℕ
@@ -20,9 +24,9 @@ judgement_status (Faulty fault) = 1
 judgement_status (LeftOut name page) = 3
 
 -- the status of the first of what holds
-abbrev pub first_status : List Judgement → ℕ
+abbrev pub first_status : List Fault → ℕ
 first_status [] = 0
-first_status (judgement ∷ judgements) = judgement_status judgement
+first_status (fault ∷ faults) = judgement_status (judgement_of fault)
 
 -- The parts of a line, which are printed one after another.
 

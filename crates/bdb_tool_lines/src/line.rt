@@ -1,10 +1,11 @@
 //! The lines of what holds at the pages of a file.
 ghost use Rattle.std.specs.Prelude.{◌≡◌, ◌<◌, ◌++◌, IfErr, Some, length, slice_get};
-ghost use Rattle.bdb_faults.specs.of_format.Verdict.{Judgement};
+ghost use Rattle.bdb_faults.specs.of_format.declared.kinds.Fault.{Fault as FaultSeen};
+ghost use Rattle.bdb_faults.specs.of_format.declared.kinds.Unsupported.{Unsupported};
 ghost use Rattle.std.specs.Fmt.{decimal};
-ghost use Rattle.bdb_faults.specs.Named.{judgement_seen};
+ghost use Rattle.bdb_faults.specs.of_format.Cases.{fault_seen, judgement_seen};
 ghost use Rattle.bdb_tool_lines.specs.Passing.{Passes};
-ghost use Rattle.bdb_tool_lines.specs.Telling.{case_page_part, case_part, code_part, judgement_line, name_part, page_part, stage_part};
+ghost use Rattle.bdb_tool_lines.specs.Telling.{case_page_part, case_part, code_part, fault_told, judgement_line, name_part, page_part, stage_part};
 ghost use Rattle.bdb_tool_lines.specs.declared.cut.Cut.TheVariants.{WriteFault};
 ghost use Rattle.bdb_model.specs.Answers.{fault_line, unsupported_line};
 ghost use Rattle.bdb_faults.specs.of_format.FaultNames.{fault_name, unsupported_name};
@@ -13,7 +14,7 @@ ghost use Rattle.bdb_model.specs.of_text_format.LineEnd.{line};
 use crate::Cut;
 use crate::digits::Digits;
 use crate::printer::Printer;
-use bdb_faults::{Fault, Named, NamedList, Unsupported, fault_name, unsupported_name};
+use bdb_faults::{Fault, Named, NamedList};
 use bdb_io::Sink;
 
 impl<'k, K: Sink> Printer<'k, K> {
@@ -114,30 +115,31 @@ impl<'k, K: Sink> Printer<'k, K> {
 
     /// Adds the line of a fault, by its parts.
     #[tactic(auto, using(crate::proofs::PassingLemmas::then_passes, crate::proofs::PassingLemmas::passes_cut))]
-    fn fault_parts(&mut self, fault: Fault) -> Result<(), Cut>
-        ensures passes { Passes K.written K.faults self.old self.new ((stage_part fault.stage ++ (page_part fault.page ++ code_part fault.code))
-            ++ name_part (fault_name fault.stage fault.code)) result }
+    fn fault_parts(&mut self, named: Named) -> Result<(), Cut>
+        ensures passes { Passes K.written K.faults self.old self.new
+            ((stage_part (fault_seen named).stage ++ (page_part (fault_seen named).page ++ code_part (fault_seen named).code))
+            ++ name_part (fault_name (fault_seen named).stage (fault_seen named).code)) result }
         ensures cause { IfErr result (λ cut. cut ≡ WriteFault) }
     {
-        self.row(fault)?;
-        self.name(fault_name(fault).as_bytes())
+        self.row(named.fault())?;
+        self.name(named.row.entry().name.as_bytes())
     }
 
     /// Adds the line of a fault.
     #[tactic(auto, using(crate::proofs::LineLemmas::fault_line_printed))]
-    fn fault(&mut self, fault: Fault) -> Result<(), Cut>
-        ensures passes { Passes K.written K.faults self.old self.new (fault_line fault) result }
+    fn fault(&mut self, named: Named) -> Result<(), Cut>
+        ensures passes { Passes K.written K.faults self.old self.new (fault_line (fault_seen named)) result }
         ensures cause { IfErr result (λ cut. cut ≡ WriteFault) }
     {
-        self.fault_parts(fault)
+        self.fault_parts(named)
     }
 
     /// Adds the name of a case that is left out.
-    fn case(&mut self, name: Unsupported) -> Result<(), Cut>
-        ensures passes { Passes K.written K.faults self.old self.new (case_part (unsupported_name name)) result }
+    fn case(&mut self, name: &[u8]) -> Result<(), Cut>
+        ensures passes { Passes K.written K.faults self.old self.new (case_part name.now) result }
         ensures cause { IfErr result (λ cut. cut ≡ WriteFault) }
     {
-        self.both(b"unsupported: ", unsupported_name(name).as_bytes())
+        self.both(b"unsupported: ", name)
     }
 
     /// Adds the page of a case.
@@ -152,18 +154,19 @@ impl<'k, K: Sink> Printer<'k, K> {
 
     /// Adds the line of a case that is left out, by its parts.
     #[tactic(auto, using(crate::proofs::PassingLemmas::then_passes, crate::proofs::PassingLemmas::passes_cut))]
-    fn case_parts(&mut self, name: Unsupported, page: u32) -> Result<(), Cut>
-        ensures passes { Passes K.written K.faults self.old self.new (case_part (unsupported_name name) ++ case_page_part page) result }
+    fn case_parts(&mut self, name: &[u8], page: u32) -> Result<(), Cut>
+        ensures passes { Passes K.written K.faults self.old self.new (case_part name.now ++ case_page_part page) result }
         ensures cause { IfErr result (λ cut. cut ≡ WriteFault) }
     {
         self.case(name)?;
         self.case_page(page)
     }
 
-    /// Adds the line of a case that is left out, at a page.
+    /// Adds the line of a case that is left out by this name, at a page.
     #[tactic(auto, using(crate::proofs::LineLemmas::case_line_printed))]
-    fn unsupported(&mut self, name: Unsupported, page: u32) -> Result<(), Cut>
-        ensures passes { Passes K.written K.faults self.old self.new (unsupported_line name page) result }
+    fn unsupported(&mut self, name: &[u8], page: u32) -> Result<(), Cut>
+        ensures passes { (case : Unsupported) → name.now ≡ unsupported_name case
+            → Passes K.written K.faults self.old self.new (unsupported_line case page) result }
         ensures cause { IfErr result (λ cut. cut ≡ WriteFault) }
     {
         self.case_parts(name, page)
@@ -174,17 +177,17 @@ impl<'k, K: Sink> Printer<'k, K> {
         ensures passes { Passes K.written K.faults self.old self.new (judgement_line (judgement_seen named)) result }
         ensures cause { IfErr result (λ cut. cut ≡ WriteFault) }
     {
-        match named {
-            Named::Fault(fault) => self.fault(fault),
-            Named::Unsupported(name, page) => self.unsupported(name, page),
+        let entry = named.row.entry();
+        match entry.case {
+            None => self.fault(named),
+            Some(_) => self.unsupported(entry.name.as_bytes(), named.page),
         }
     }
 
     /// Adds the line of the one at a place of a list.
     pub(crate) fn item(&mut self, all: &NamedList, i: usize) -> Result<(), Cut>
         requires { i < length all.now }
-        ensures passes { (judgement : Judgement) → slice_get all.now i ≡ Some judgement
-            → Passes K.written K.faults self.old self.new (judgement_line judgement) result }
+        ensures passes { (fault : FaultSeen) → slice_get all.now i ≡ Some fault → Passes K.written K.faults self.old self.new (fault_told fault) result }
         ensures cause { IfErr result (λ cut. cut ≡ WriteFault) }
     {
         match all.get(i) {

@@ -2,15 +2,15 @@
 ghost use Rattle.std.specs.Prelude.{◌≡◌, ◌⊎◌, ◌<◌, length};
 ghost use Rattle.bdb_model.specs.Change.{change};
 ghost use Rattle.bdb_model.specs.Lines.{memory_line};
-ghost use Rattle.bdb_faults.specs.Named.{judgement_seen};
-ghost use Rattle.bdb_tool_lines.specs.Telling.{first_status, judgement_line, judgement_status, judgements_text};
+ghost use Rattle.bdb_tool_lines.specs.Telling.{first_status, judgement_line, judgement_status, faults_text};
 ghost use Rattle.bdb_tool_lines.specs.Finished.{IsRefused, Tells};
+ghost use Rattle.bdb_faults.specs.of_format.Cases.{judgement_seen};
 
 use crate::finish::tell_memory;
 use crate::room::Room;
 use crate::status::{FAULT, UNSUPPORTED, WRITE_FAULT};
 use crate::telling::{tell_all, tell_one};
-use bdb_faults::{Named, NamedList, Verdict};
+use bdb_faults::{FirstError, Named, NamedList};
 use bdb_io::Sink;
 use std::alloc::Global;
 
@@ -18,9 +18,9 @@ use std::alloc::Global;
 fn status_of(first: Named) -> u8
     ensures { result ≡ judgement_status (judgement_seen first) }
 {
-    match first {
-        Named::Fault(_) => FAULT,
-        Named::Unsupported(..) => UNSUPPORTED,
+    match first.row.entry().case {
+        None => FAULT,
+        Some(_) => UNSUPPORTED,
     }
 }
 
@@ -54,7 +54,7 @@ fn tell_named<E: Sink>(alloc: Global, named: Named, err: &mut E) -> u8
 #[tactic(auto, using(crate::proofs::RefusalLemmas::told_whole, crate::proofs::RefusalLemmas::told_in_part))]
 pub fn tell_list<E: Sink>(alloc: Global, all: &NamedList, err: &mut E) -> u8
     requires { 0 < length all.now }
-    ensures { Tells (judgements_text all.now) (first_status all.now) (change E.written E.faults err.old err.new) result
+    ensures { Tells (faults_text all.now) (first_status all.now) (change E.written E.faults err.old err.new) result
         ⊎ Tells memory_line 7 (change E.written E.faults err.old err.new) result }
 {
     let Ok(mut room) = Room::new(alloc) else {
@@ -67,12 +67,11 @@ pub fn tell_list<E: Sink>(alloc: Global, all: &NamedList, err: &mut E) -> u8
 }
 
 /// Tells why a file isn't sound: the first that holds.
-pub fn refuse<E: Sink>(alloc: Global, verdict: Verdict, err: &mut E) -> u8
-    ensures { IsRefused verdict (change E.written E.faults err.old err.new) result }
+pub fn refuse<E: Sink>(alloc: Global, error: FirstError, err: &mut E) -> u8
+    ensures { IsRefused error (change E.written E.faults err.old err.new) result }
 {
-    match verdict {
-        Verdict::Fault(fault) => tell_named(alloc, Named::Fault(fault), err),
-        Verdict::Unsupported(name, page) => tell_named(alloc, Named::Unsupported(name, page), err),
-        Verdict::Memory => tell_memory(err),
+    match error {
+        FirstError::Fault(named) => tell_named(alloc, named, err),
+        FirstError::Memory => tell_memory(err),
     }
 }

@@ -1,8 +1,8 @@
 ghost use Rattle.std.specs.Prelude.{◌≡◌, [], IfErr};
-ghost use Rattle.bdb_faults.specs.Named.{judgement_seen};
+ghost use Rattle.bdb_faults.specs.of_format.Cases.{judgement_seen};
 ghost use Rattle.bdb_tool_lines.specs.Passing.{Passes};
 ghost use Rattle.bdb_tool_lines.specs.Printing.{Writes};
-ghost use Rattle.bdb_tool_lines.specs.Telling.{judgement_line, judgements_text};
+ghost use Rattle.bdb_tool_lines.specs.Telling.{faults_text, judgement_line};
 ghost use Rattle.bdb_tool_lines.specs.declared.cut.Cut.TheVariants.{WriteFault};
 ghost use Rattle.bdb_model.specs.Change.{change};
 
@@ -14,7 +14,7 @@ use bdb_io::Sink;
 
 /// Adds a line for each of these.
 fn print_all<K: Sink>(printer: &mut Printer<'_, K>, all: &NamedList) -> Result<(), Cut>
-    ensures passes { Passes K.written K.faults printer.old printer.new (judgements_text all.now) result }
+    ensures passes { Passes K.written K.faults printer.old printer.new (faults_text all.now) result }
     ensures cause { IfErr result (λ cut. cut ≡ WriteFault) }
 {
     for i in 0..all.len() {
@@ -27,7 +27,7 @@ fn print_all<K: Sink>(printer: &mut Printer<'_, K>, all: &NamedList) -> Result<(
 #[tactic(auto, using(crate::proofs::PassingLemmas::all_cut))]
 fn write_all<K: Sink>(out: &mut K, room: &mut Room, all: &NamedList) -> Result<(), Cut>
     requires { room.old ≡ [] }
-    ensures lines { Writes (judgements_text all.now) (change K.written K.faults out.old out.new) result }
+    ensures lines { Writes (faults_text all.now) (change K.written K.faults out.old out.new) result }
     ensures cause { IfErr result (λ cut. cut ≡ WriteFault) }
 {
     let mut printer = Printer { out, room };
@@ -50,7 +50,7 @@ fn write_one<K: Sink>(out: &mut K, room: &mut Room, named: Named) -> Result<(), 
 /// Writes a line for each of these to a sink. The room has nothing in it at the start, nor afterwards. An error is a write that failed.
 pub fn tell_all<K: Sink>(out: &mut K, room: &mut Room, all: &NamedList) -> Result<(), Cut>
     requires { room.old ≡ [] }
-    ensures lines { Writes (judgements_text all.now) (change K.written K.faults out.old out.new) result }
+    ensures lines { Writes (faults_text all.now) (change K.written K.faults out.old out.new) result }
     ensures cause { IfErr result (λ cut. cut ≡ WriteFault) }
     ensures empty { room.new ≡ [] }
 {

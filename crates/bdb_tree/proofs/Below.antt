@@ -1,3 +1,2 @@
 -- What the tactics of this crate take from the crates below.
 pub use Rattle.bdb_faults.proofs.SinkLemmas.{notes_none}
-pub use Rattle.bdb_overflow.proofs.of_format.FileLemmas.{last_page}

@@ -7,10 +7,10 @@ use Rattle.std.proofs.lemmas.Bool.{and_from, and_parts, eq-eqb, eqb-true, ne_eqb
 use Rattle.std.proofs.lemmas.List.{take_all}
 use Rattle.std.proofs.lemmas.List.Elements.{Contains-append_cases, Contains-append_left, Contains-append_right, Contains-get_or}
 use Rattle.bdb_faults.specs.Notes.{AreSame, Notes, NotesAll}
-use Rattle.bdb_faults.specs.Rows.{fault_if, structure_code}
-use Rattle.bdb_faults.specs.declared.rows.Row.TheVariants.{Structure}
-use Rattle.bdb_faults.specs.declared.rows.StructureRow.{StructureRow}
-use Rattle.bdb_faults.specs.declared.rows.StructureRow.TheVariants.{LeafKind, LeafLink}
+use Rattle.bdb_overflow.specs.of_format.RowCodes.{fault_if, structure_row_code}
+use Rattle.bdb_overflow.specs.of_format.declared.rows.Row.TheVariants.{Structure}
+use Rattle.bdb_overflow.specs.of_format.declared.rows.StructureRow.{StructureRow}
+use Rattle.bdb_overflow.specs.of_format.declared.rows.StructureRow.TheVariants.{LeafKind, LeafLink}
 use Rattle.bdb_faults.proofs.SinkLemmas.{notes_next, notes_one}
 use Rattle.bdb_overflow.specs.of_format.declared.kinds.Fault.{Fault}
 use Rattle.bdb_overflow.specs.of_format.declared.references.Reference.{Reference}
@@ -189,13 +189,13 @@ of_noted image fault forest at =
 -- The faults of the stage.
 
 in_fault_if : (row : StructureRow) (page : ℕ) (holds : Bool) → holds ≡ true
-    → Contains (fault_if (Structure row) page holds) (leaf_fault page (structure_code row))
-in_fault_if row page true is = first_member (leaf_fault page (structure_code row)) []
+    → Contains (fault_if (Structure row) page holds) (leaf_fault page (structure_row_code row))
+in_fault_if row page true is = first_member (leaf_fault page (structure_row_code row)) []
 in_fault_if row page false is = absurd cc
 
 of_fault_if : (row : StructureRow) (page : ℕ) (holds : Bool) (fault : Fault) → Contains (fault_if (Structure row) page holds) fault
-    → (holds ≡ true) × (leaf_fault page (structure_code row) ≡ fault)
-of_fault_if row page true fault at = (refl, only_member (leaf_fault page (structure_code row)) fault at)
+    → (holds ≡ true) × (leaf_fault page (structure_row_code row) ≡ fault)
+of_fault_if row page true fault at = (refl, only_member (leaf_fault page (structure_row_code row)) fault at)
 of_fault_if row page false fault at = absurd (no_member [] fault refl at)
 
 -- the codes of two rows that hold
@@ -243,16 +243,16 @@ code_of_two false false code at = absurd (no_member [] code refl at)
 
 -- a fault of a row that holds somewhere at its page is noted
 noted_row : (image : List ℕ) (fault : Fault) (row : StructureRow) (wrong : LeafPlace → Bool) → IsForest image → fault.stage ≡ 6
-    → fault.code ≡ structure_code row
-    → ((place : LeafPlace) → wrong place ≡ true → Contains (place_faults (file_of image) place) (leaf_fault place.leaf (structure_code row)))
+    → fault.code ≡ structure_row_code row
+    → ((place : LeafPlace) → wrong place ≡ true → Contains (place_faults (file_of image) place) (leaf_fault place.leaf (structure_row_code row)))
     → list_any (λ (other : LeafPlace). other.leaf == fault.page && wrong other) (leaf_places (file_of image)) ≡ true
     → Contains (noted (file_of image)) fault
 noted_row image fault row wrong forest stage is each any =
     let found = any_member (λ (other : LeafPlace). other.leaf == fault.page && wrong other) (leaf_places (file_of image)) any in
     let both = and_parts (found.0.leaf == fault.page) (wrong found.0) found.2 in
     subst (Contains (noted (file_of image)))
-    (same_parts 6 fault.stage found.0.leaf fault.page (structure_code row) fault.code (sym stage) (eqb-true found.0.leaf fault.page both.0) (sym is))
-    (in_noted image found.0 (leaf_fault found.0.leaf (structure_code row)) forest found.1 (each found.0 both.1))
+    (same_parts 6 fault.stage found.0.leaf fault.page (structure_row_code row) fault.code (sym stage) (eqb-true found.0.leaf fault.page both.0) (sym is))
+    (in_noted image found.0 (leaf_fault found.0.leaf (structure_row_code row)) forest found.1 (each found.0 both.1))
 
 -- a fault of the stage is noted
 of_tree_faults : (image : List ℕ) (fault : Fault) → IsForest image → Contains (tree_faults (file_of image)) fault → Contains (noted (file_of image)) fault

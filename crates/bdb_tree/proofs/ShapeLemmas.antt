@@ -17,9 +17,12 @@ use Rattle.bdb_overflow.specs.of_format.Leaves.{children_in, wrong_leaf_types}
 use Rattle.std.proofs.lemmas.List.FromFn.{get_or-map-range_with_len, length-map-range_with_len}
 use Rattle.bdb_overflow.specs.of_format.Numbers.{byte_at}
 use Rattle.bdb_overflow.specs.of_format.Page.{Metadata, BtreeFields, Content, Inline, Chain, Tree, Unknown, Item, InternalItem, Listed}
-use Rattle.bdb_overflow.specs.of_format.Page.{Page, Meta, Hash, Internal, RecnoInternal, Leaf, RecnoLeaf, DupLeaf, PageType}
-use Rattle.bdb_overflow.specs.of_format.Page.{FreePage, HashPage, InternalPage, RecnoInternalPage, LeafPage, RecnoLeafPage, OverflowPage, HashMetaPage}
-use Rattle.bdb_overflow.specs.of_format.Page.{BtreeMetaPage, QueueMetaPage, QueuePage, DupLeafPage, OtherPage}
+use Rattle.bdb_overflow.specs.of_format.Page.{Page, Meta, Hash, Internal, RecnoInternal, Leaf, RecnoLeaf, DupLeaf}
+use Rattle.bdb_overflow.specs.of_format.declared.pages.PageType.{PageType}
+use Rattle.bdb_overflow.specs.of_format.declared.pages.PageType.TheVariants.{Free as FreePage, Hash as HashPage, Internal as InternalPage}
+use Rattle.bdb_overflow.specs.of_format.declared.pages.PageType.TheVariants.{RecnoInternal as RecnoInternalPage, Leaf as LeafPage, RecnoLeaf as RecnoLeafPage}
+use Rattle.bdb_overflow.specs.of_format.declared.pages.PageType.TheVariants.{Overflow as OverflowPage, HashMeta as HashMetaPage, BtreeMeta as BtreeMetaPage}
+use Rattle.bdb_overflow.specs.of_format.declared.pages.PageType.TheVariants.{QueueMeta as QueueMetaPage, Queue as QueuePage, DupLeaf as DupLeafPage, Other as OtherPage}
 use Rattle.bdb_overflow.specs.of_format.Reading.{abstract_page, entries_of, internal_item_at, is_zero, leaf_item_at, listed, page_as}
 use Rattle.bdb_overflow.specs.of_format.Reading.{page_type, recno_item_at, hash_item_at}
 use Rattle.bdb_overflow.specs.of_format.References.{has_type, no_item}

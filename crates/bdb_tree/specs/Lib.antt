@@ -3,7 +3,6 @@ pub mod Entries
 pub mod Links
 pub mod Noted
 pub mod Trees
-pub use Rattle.bdb_faults.specs as of_faults
 pub use Rattle.bdb_overflow.specs.of_form as of_form
 pub use Rattle.bdb_overflow.specs.of_format as of_format
 pub use Rattle.bdb_overflow.specs.of_graph as of_graph

@@ -1,11 +1,11 @@
 ghost use Rattle.std.specs.Prelude.{◌≡◌, [], IfErr, OnOk};
-ghost use Rattle.bdb_faults.specs.Named.{HasNoted};
+ghost use Rattle.bdb_faults.specs.Notes.{HasNoted};
 ghost use Rattle.bdb_faults.specs.Notes.{NotesAll};
 ghost use Rattle.bdb_overflow.specs.of_format.File.{file_of};
 ghost use Rattle.bdb_overflow.specs.of_format.Verdict.{tree_faults, IsFirstOf};
 
 use crate::trees::{note_all_sets, note_metas};
-use bdb_faults::{FaultSink, First, NamedList};
+use bdb_faults::{FaultSink, First, NamedList, checked};
 use bdb_overflow::{CheckError, Linked};
 use std::alloc::{AllocError, Global};
 
@@ -43,11 +43,6 @@ pub fn check_trees(alloc: Global, linked: &Linked<'_>) -> Result<(), CheckError>
     ensures refusal { IfErr result (IsFirstOf (tree_faults (file_of linked.now))) }
 {
     let mut first = First::new();
-    let Ok(()) = note_trees(alloc, linked, &mut first) else {
-        return Err(CheckError::Memory);
-    };
-    match first.fault() {
-        None => Ok(()),
-        Some(fault) => Err(CheckError::Fault(fault)),
-    }
+    let answer = note_trees(alloc, linked, &mut first);
+    checked(first, answer)
 }

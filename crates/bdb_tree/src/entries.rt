@@ -9,15 +9,15 @@ ghost use Rattle.bdb_tree.specs.Entries.{AreFit, leaf_entries_seen};
 ghost use Rattle.bdb_tree.specs.Trees.{IsRoot};
 
 use crate::{Leaves, tree_leaves};
-use bdb_overflow::{DupLeafKind, Forest, Items, LeafItem, PageView, RecnoLeafKind};
+use bdb_overflow::{EntryLeafKind, Forest, Items, LeafItem, PageView, Records, SortedData};
 use std::marker::Model;
 
 /// The entries of one page that are left: of a leaf of records or of sorted data; another page has none.
 #[derive(Drop)]
 pub(crate) enum LeafEntries<'a> {
     Empty,
-    Records(Items<'a, RecnoLeafKind>),
-    Sorted(Items<'a, DupLeafKind>),
+    Records(Items<'a, EntryLeafKind<Records>>),
+    Sorted(Items<'a, EntryLeafKind<SortedData>>),
 }
 
 impl<'a> LeafEntries<'a> {

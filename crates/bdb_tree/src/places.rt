@@ -8,8 +8,8 @@ ghost use Rattle.bdb_overflow.specs.of_format.Leaves.{places_from, wrong_leaf_ty
 ghost use Rattle.bdb_overflow.specs.of_format.References.{has_type};
 ghost use Rattle.bdb_tree.specs.Noted.{is_leaf_page, place_faults, place_in};
 
-use bdb_faults::{FaultSink, Row, StructureRow, note_if};
-use bdb_overflow::{Forest, PageView, Sort};
+use bdb_faults::{FaultSink, note_if};
+use bdb_overflow::{Forest, PageView, Row, Sort, StructureRow};
 use std::alloc::AllocError;
 
 /// Whether a leaf names these two as its previous and its next page.

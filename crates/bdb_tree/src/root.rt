@@ -4,7 +4,7 @@ ghost use Rattle.bdb_overflow.specs.of_format.ContentRows.{wrong_set_types};
 ghost use Rattle.bdb_overflow.specs.of_format.File.{type_in};
 ghost use Rattle.bdb_overflow.specs.of_format.References.{has_type};
 
-use bdb_overflow::PageView;
+use bdb_overflow::{PageType, PageView};
 
 /// Whether the root of a set off the page has a type that it hasn't where sets are sorted, or where they aren't.
 pub fn is_wrong_root(view: &PageView<'_>, sorted: bool) -> bool
@@ -23,8 +23,8 @@ fn is_wrong_type(page_type: u8, sorted: bool) -> bool
     ensures { result ≡ has_type (wrong_set_types sorted) (Some page_type) }
 {
     if sorted {
-        page_type == 4 || page_type == 6
+        page_type == PageType::RECNO_INTERNAL || page_type == PageType::RECNO_LEAF
     } else {
-        page_type == 3 || page_type == 12
+        page_type == PageType::INTERNAL || page_type == PageType::DUP_LEAF
     }
 }

@@ -94,7 +94,6 @@ pub(crate) fn note_metas<F: FaultSink>(
 }
 
 /// Notes the faults of the leaves of the sets that data of pairs name. No page is looked at where no reference names a set.
-#[tactic(auto, using(crate::proofs::Below::last_page))]
 pub(crate) fn note_all_sets<F: FaultSink>(
     alloc: Global,
     forest: &Forest<'_>,

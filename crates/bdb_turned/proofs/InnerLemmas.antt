@@ -15,7 +15,9 @@ use Rattle.bdb_graph.specs.of_format.Reading.{entries_of, internal_item_at, inte
 use Rattle.bdb_graph.specs.of_format.Rows.{internal_rows, recno_rows}
 use Rattle.bdb_graph.specs.of_format.Table.{first_row}
 use Rattle.bdb_turned.specs.Fields.{Field, field, internal_fields, key_fields, no_internal, no_recno, recno_fields}
-use Rattle.bdb_turned.specs.Overlaps.{internal_item_end, listed_overlap}
+use Rattle.bdb_graph.specs.of_form.Ends.{internal_item_end}
+use Rattle.bdb_graph.proofs.of_form.EndLemmas.{KeyInline as IsInline, KeyChain as IsChain, KeyCase, key_case}
+use Rattle.bdb_turned.specs.Overlaps.{listed_overlap}
 use Rattle.bdb_turned.specs.Apart.{IsUntouched}
 pub use Rattle.bdb_turned.specs.Parts.{internal_high, internal_part, recno_high, recno_part}
 use Rattle.bdb_turned.proofs.ReadLemmas.{IsTurned, number_same, slice_same}
@@ -45,33 +47,10 @@ same_item order page i j same =
           at (kind_at page at);
     } in item) same
 
-key_is : (order : Order) (page : List ℕ) (i : ℕ) → (internal_item_at order page i).key ≡ internal_key order page (offset_of order page i)
-    (kind_at page (offset_of order page i))
-unfolding internal_item_at
-key_is order page i = refl
-
 internal_begins : (order : Order) (page : List ℕ) (i : ℕ) → first_row (internal_rows order page i) ≡ None
     → 26 + 2 * entries_of order page ≤ offset_of order page i
 unfolding internal_rows
 internal_begins order page i none = grind (arith, nat_tests)
-
--- a key by its kind
-pub data KeyCase (order : Order) (page : List ℕ) (at : ℕ) (key : Content) : Type 0 where
-  IsInline : kind_at page at ≡ 1 → key ≡ Inline (slice_range page (at + 12) (at + 12 + two_at order page at)) → at + 12 + two_at order page at ≤ length page
-      → KeyCase order page at key
-  IsChain : kind_at page at ≡ 3 → key ≡ Chain (four_at order page (at + 16)) (four_at order page (at + 20)) → at + 24 ≤ length page → KeyCase order page at key
-
-pub key_case : (order : Order) (page : List ℕ) (i : ℕ) → first_row (internal_rows order page i) ≡ None
-    → KeyCase order page (offset_of order page i) (internal_item_at order page i).key
-key_case order page i none =
-    let at : ℕ = offset_of order page i in
-    let fits : FitsInternal order page at = internal_fits order page i none in
-    let within : at + 12 + two_at order page at ≤ length page = fits.within in
-    elim fits.kind [
-      | inl one ↦ IsInline one (key_is order page i ∙ ap (internal_key order page at) one) within
-      | inr three ↦ let size : two_at order page at ≡ 12 = three.1 in IsChain three.0 (key_is order page i ∙ ap (internal_key order page at) three.0)
-          (omega arith)
-    ]
 
 key_between : (order : Order) (page : List ℕ) (at : ℕ) (key : Content) → KeyCase order page at key
     → Between (at + 12) (key_fields at key) (internal_item_end at key)

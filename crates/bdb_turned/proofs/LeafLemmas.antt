@@ -5,17 +5,18 @@ use Rattle.std.specs.List.{Contains}
 use Rattle.std.proofs.lemmas.Bool.Decides.{nat_tests}
 use Rattle.bdb_graph.proofs.of_format.MemberLemmas.{first_member, later_member, member_cases, no_member}
 use Rattle.bdb_graph.proofs.of_format.TurnLemmas.{length-slice_range}
-use Rattle.bdb_graph.proofs.of_layout.RowLemmas.{leaf_fits}
-use Rattle.bdb_graph.specs.of_layout.Fits.{FitsLeaf}
 use Rattle.bdb_graph.specs.of_format.declared.kinds.Order.{Order}
 use Rattle.bdb_graph.specs.of_format.Numbers.{byte_at, four_at, two_at, turned}
-use Rattle.bdb_graph.specs.of_format.Page.{Content, Inline, Set, Chain, Tree, Unknown, Item, PageType}
+use Rattle.bdb_graph.specs.of_format.Page.{Content, Inline, Set, Chain, Tree, Unknown, Item}
+use Rattle.bdb_graph.specs.of_format.declared.pages.PageType.{PageType}
 use Rattle.bdb_graph.specs.of_format.References.{no_item}
 use Rattle.bdb_graph.specs.of_format.Reading.{entries_of, header_of, kind_at, leaf_content, leaf_item_at, listed, offset_of}
 use Rattle.bdb_graph.specs.of_format.Rows.{item_rows, leaf_end, leaf_rows, listed_code}
 use Rattle.bdb_graph.specs.of_format.Table.{first_row}
 use Rattle.bdb_turned.specs.Fields.{Field, field, leaf_fields}
-use Rattle.bdb_turned.specs.Overlaps.{leaf_item_end, listed_overlap}
+use Rattle.bdb_graph.specs.of_form.Ends.{leaf_item_end}
+use Rattle.bdb_graph.proofs.of_form.EndLemmas.{IsInline, IsTree, IsChain, KindCase, kind_case}
+use Rattle.bdb_turned.specs.Overlaps.{listed_overlap}
 use Rattle.bdb_turned.specs.Apart.{IsUntouched}
 pub use Rattle.bdb_turned.specs.Parts.{leaf_high, leaf_part}
 use Rattle.bdb_turned.proofs.ReadLemmas.{IsTurned, number_same, slice_same}
@@ -40,37 +41,9 @@ leaf_between at (Chain head total) = (omega arith, (omega arith, omega arith))
 leaf_between at (Tree root) = (omega arith, omega arith)
 leaf_between at Unknown = omega arith
 
--- what the rows say of an item
-content_is : (order : Order) (page : List ℕ) (i : ℕ) → (leaf_item_at order page i).content ≡ leaf_content order page (offset_of order page i)
-    (kind_at page (offset_of order page i))
-unfolding leaf_item_at
-content_is order page i = refl
-
 leaf_begins : (order : Order) (page : List ℕ) (i : ℕ) → first_row (leaf_rows order page i) ≡ None → 26 + 2 * entries_of order page ≤ offset_of order page i
 unfolding leaf_rows
 leaf_begins order page i none = grind (arith, nat_tests)
-
--- an item by its kind
-pub data KindCase (order : Order) (page : List ℕ) (at : ℕ) (content : Content) : Type 0 where
-  IsInline : kind_at page at ≡ 1 → content ≡ Inline (slice_range page (at + 3) (at + 3 + two_at order page at)) → at + 3 + two_at order page at ≤ length page
-      → KindCase order page at content
-  IsTree : kind_at page at ≡ 2 → content ≡ Tree (four_at order page (at + 4)) → at + 12 ≤ length page → KindCase order page at content
-  IsChain : kind_at page at ≡ 3 → content ≡ Chain (four_at order page (at + 4)) (four_at order page (at + 8)) → at + 12 ≤ length page
-      → KindCase order page at content
-
-one_to_three : (k : ℕ) → 1 ≤ k → k ≤ 3 → (k ≡ 1) ⊎ ((k ≡ 2) ⊎ (k ≡ 3))
-one_to_three k low high = grind arith
-
-pub kind_case : (order : Order) (page : List ℕ) (i : ℕ) → first_row (leaf_rows order page i) ≡ None
-    → KindCase order page (offset_of order page i) (leaf_item_at order page i).content
-kind_case order page i none =
-    let at : ℕ = offset_of order page i in
-    let fits : FitsLeaf order page at = leaf_fits order page i none in
-    elim (one_to_three (kind_at page at) fits.least fits.most) [
-      | inl one ↦ IsInline one (content_is order page i ∙ ap (leaf_content order page at) one) (fits.inline one)
-      | inr (inl two) ↦ IsTree two (content_is order page i ∙ ap (leaf_content order page at) two) (fits.other (omega arith))
-      | inr (inr three) ↦ IsChain three (content_is order page i ∙ ap (leaf_content order page at) three) (fits.other (omega arith))
-    ]
 
 pub leaf_ends : (order : Order) (page : List ℕ) (i : ℕ) → first_row (leaf_rows order page i) ≡ None → leaf_high order page i ≤ length page
 leaf_ends order page i none =

@@ -11,7 +11,7 @@ pub mod PageLemmas
 pub mod JoinedLemmas
 pub mod FlipLemmas
 mod LawLemmas
-pub mod TypedLemmas
+pub use Rattle.bdb_graph.proofs.of_form as of_form
 pub use Rattle.bdb_graph.proofs.of_format as of_format
 pub use Rattle.bdb_graph.proofs as of_graph
 pub use Rattle.bdb_graph.proofs.of_image as of_image

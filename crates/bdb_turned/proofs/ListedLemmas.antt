@@ -13,7 +13,7 @@ use Rattle.bdb_turned.specs.Overlaps.{listed_overlap, share_bytes}
 use Rattle.bdb_graph.specs.of_format.declared.kinds.Order.{Order}
 use Rattle.bdb_graph.specs.of_format.declared.pages.ItemFault.{ItemFault}
 use Rattle.bdb_graph.specs.of_format.Numbers.{byte_at, turned, four_at, two_at}
-use Rattle.bdb_graph.specs.of_format.Page.{PageType}
+use Rattle.bdb_graph.specs.of_format.declared.pages.PageType.{PageType}
 use Rattle.bdb_graph.specs.of_format.Reading.{entries_of, header_of, listed, offset_of}
 use Rattle.bdb_graph.specs.of_format.Rows.{index_rows, item_row, item_rows, is_code, item_code, listed_code}
 use Rattle.bdb_graph.specs.of_format.Table.{Row, first_row}

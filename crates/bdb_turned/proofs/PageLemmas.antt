@@ -15,8 +15,13 @@ use Rattle.bdb_graph.specs.of_format.declared.pages.RecnoItem.{RecnoItem}
 use Rattle.bdb_graph.specs.of_format.HeadOf.{is_page_size}
 use Rattle.bdb_graph.specs.of_format.Numbers.{byte_at, four_at, two_at, turned}
 use Rattle.bdb_graph.specs.of_format.Page.{Item, InternalItem, Metadata, BtreeFields, HashFields, QueueFields, Page, Zero, Free, Meta, Hash, Internal, RecnoInternal}
-use Rattle.bdb_graph.specs.of_format.Page.{Leaf, RecnoLeaf, DupLeaf, Overflow, Queue, PageType, FreePage, HashPage, InternalPage, RecnoInternalPage, LeafPage}
-use Rattle.bdb_graph.specs.of_format.Page.{RecnoLeafPage, OverflowPage, HashMetaPage, BtreeMetaPage, QueueMetaPage, QueuePage, DupLeafPage, OtherPage}
+use Rattle.bdb_graph.specs.of_format.Page.{Leaf, RecnoLeaf, DupLeaf, Overflow, Queue}
+use Rattle.bdb_graph.specs.of_format.declared.pages.PageType.{PageType}
+use Rattle.bdb_graph.specs.of_format.declared.pages.PageType.TheVariants.{Free as FreePage, Hash as HashPage, Internal as InternalPage}
+use Rattle.bdb_graph.specs.of_format.declared.pages.PageType.TheVariants.{RecnoInternal as RecnoInternalPage, Leaf as LeafPage, RecnoLeaf as RecnoLeafPage}
+use Rattle.bdb_graph.specs.of_format.declared.pages.PageType.TheVariants.{Overflow as OverflowPage, HashMeta as HashMetaPage, BtreeMeta as BtreeMetaPage}
+use Rattle.bdb_graph.specs.of_format.declared.pages.PageType.TheVariants.{QueueMeta as QueueMetaPage, Queue as QueuePage, DupLeaf as DupLeafPage}
+use Rattle.bdb_graph.specs.of_format.declared.pages.PageType.TheVariants.{Other as OtherPage}
 use Rattle.bdb_graph.specs.of_format.References.{no_item}
 use Rattle.bdb_graph.specs.of_format.Reading.{abstract_page, btree_fields, entries_of, hash_fields as table_fields, hash_item_at, header_of, internal_item_at, is_zero}
 use Rattle.bdb_graph.specs.of_format.Reading.{leaf_item_at, listed, page_as, page_type, queue_fields, recno_item_at}
@@ -30,7 +35,8 @@ use Rattle.std.proofs.lemmas.Bool.{eqb-true, lt-ltb}
 use Rattle.bdb_turned.specs.Fields.{Field, field, fields_of, fours, hash_fields, header_fields, internal_fields, leaf_fields, listed_fields, no_internal}
 use Rattle.bdb_turned.specs.Fields.{no_recno, recno_fields}
 use Rattle.bdb_turned.specs.Laws.{PagesTurnRound, TurnsRound, turned_head}
-use Rattle.bdb_turned.specs.Overlaps.{internal_item_end, leaf_item_end, listed_overlap, overlaps}
+use Rattle.bdb_graph.specs.of_form.Ends.{internal_item_end, leaf_item_end}
+use Rattle.bdb_turned.specs.Overlaps.{listed_overlap, overlaps}
 use Rattle.bdb_turned.specs.Apart.{AreApart, IsUntouched, LieWithin}
 use Rattle.bdb_turned.specs.Turning.{turned_page, turned_round}
 use Rattle.bdb_turned.proofs.PlaceLemmas.{get_or-turned_round, length-turned_round, mirror-outside}

@@ -2,26 +2,11 @@
 use Rattle.std.specs.Prelude.{ℕ, ◌+◌, nat_lt, ◌==◌, ◌&&◌, not, Bool, false, length, slice_index, get_or}
 use Rattle.std.specs.List.{list_any, range_with_len}
 use Rattle.bdb_graph.specs.of_format.declared.pages.RecnoItem.{RecnoItem}
-use Rattle.bdb_graph.specs.of_format.Page.{Content, Inline, Set, Chain, Tree, Unknown, Item, InternalItem, Listed, Page, Zero, Free, Meta, Hash, Internal, RecnoInternal}
+use Rattle.bdb_graph.specs.of_format.Page.{Item, InternalItem, Listed, Page, Zero, Free, Meta, Hash, Internal, RecnoInternal}
 use Rattle.bdb_graph.specs.of_format.Page.{Leaf, RecnoLeaf, DupLeaf, Overflow, Queue, NoType}
 use Rattle.bdb_graph.specs.of_format.References.{no_item}
+use Rattle.bdb_graph.specs.of_form.Ends.{internal_item_end, leaf_item_end}
 use Rattle.bdb_turned.specs.Fields.{no_internal, no_recno}
-
--- where an item of a leaf ends
-abbrev pub leaf_item_end : ℕ → Content → ℕ
-leaf_item_end at (Inline bytes) = at + 3 + length bytes
-leaf_item_end at (Set blocks) = at
-leaf_item_end at (Chain head total) = at + 12
-leaf_item_end at (Tree root) = at + 12
-leaf_item_end at Unknown = at
-
--- where an internal item ends; an overflow key is an overflow item of a leaf
-abbrev pub internal_item_end : ℕ → Content → ℕ
-internal_item_end at (Inline bytes) = at + 12 + length bytes
-internal_item_end at (Set blocks) = at
-internal_item_end at (Chain head total) = at + 24
-internal_item_end at (Tree root) = at
-internal_item_end at Unknown = at
 
 -- two items that begin at different offsets share a byte
 abbrev pub share_bytes : ℕ → ℕ → ℕ → ℕ → Bool

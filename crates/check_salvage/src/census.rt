@@ -31,7 +31,7 @@ fn add_master<'a>(held: &mut Held<'a>, sound: &Sound<'a>) -> Result<(), AllocErr
     let (number, meta) = linked.meta(0);
     if let Meta::Btree(meta) = meta
         && number == 0
-        && meta.flags & 0x20 != 0
+        && meta.names_databases()
     {
         return add_names(held, &mut bdb_btree::scan(linked, &meta));
     }

@@ -1,4 +1,3 @@
 mod FieldLemmas
 pub mod RowLemmas
-pub use Rattle.bdb_tree.proofs.of_format as of_format
 pub use Rattle.bdb_tree.proofs as of_tree

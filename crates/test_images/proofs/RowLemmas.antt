@@ -4,16 +4,15 @@ use Rattle.std.specs.List.{Contains}
 use Rattle.std.proofs.lemmas.Option.{slice_get-get_or}
 use Rattle.bdb_tree.proofs.of_format.MemberLemmas.{of_map}
 
--- a list that shows at each place what is seen of another is what is seen of that
-pub same_list : {X Y : Type 0} (seen : X → Y) (ys : List Y) (xs : List X) → length ys ≡ length xs
-    → ((k : ℕ) → k < length xs → slice_get ys k ≡ slice_get (map seen xs) k) → ys ≡ map seen xs
-same_list seen [] [] lengths same = refl
-same_list seen [] (x ∷ xs) lengths same = absurd (omega arith)
-same_list seen (y ∷ ys) [] lengths same = absurd (omega arith)
-same_list seen (y ∷ ys) (x ∷ xs) lengths same =
-    let first : Some y ≡ Some (seen x) = same 0 (omega arith) in
-    let heads : y ≡ seen x = cc in
-    let rest : ys ≡ map seen xs = same_list seen ys xs (omega arith) (λ k lt. same (suc k) (omega arith)) in
+-- lists that show the same at each place are the same
+pub same_list : {X : Type 0} (ys xs : List X) → length ys ≡ length xs → ((k : ℕ) → k < length xs → slice_get ys k ≡ slice_get xs k) → ys ≡ xs
+same_list [] [] lengths same = refl
+same_list [] (x ∷ xs) lengths same = absurd (omega arith)
+same_list (y ∷ ys) [] lengths same = absurd (omega arith)
+same_list (y ∷ ys) (x ∷ xs) lengths same =
+    let first : Some y ≡ Some x = same 0 (omega arith) in
+    let heads : y ≡ x = cc in
+    let rest : ys ≡ xs = same_list ys xs (omega arith) (λ k lt. same (suc k) (omega arith)) in
     cc
 
 -- what holds at each place holds of each member

@@ -1,12 +1,12 @@
 -- Lists of faults beside tables of their pages and codes. Source: this project's tests.
 use Rattle.std.specs.Prelude.{◌↔◌, ℕ, List, map}
 use Rattle.std.specs.List.{Contains}
-use Rattle.bdb_tree.specs.of_format.Verdict.{Judgement, Faulty}
+use Rattle.bdb_tree.specs.of_format.declared.kinds.Fault.{Fault}
 
 -- a page and a code, as a fault of this stage
-abbrev pub row_judged : ℕ → ℕ × ℕ → Judgement
-row_judged stage row = Faulty (record { stage = stage; page = row.0; code = row.1 })
+abbrev pub row_fault : ℕ → ℕ × ℕ → Fault
+row_fault stage row = record { stage = stage; page = row.0; code = row.1 }
 
 -- a list has the faults of these rows and no others, in any order and repeats allowed
-abbrev pub HasRows : List Judgement → ℕ → List (ℕ × ℕ) → Type 0
-HasRows list stage rows = (judgement : Judgement) → Contains list judgement ↔ Contains (map (row_judged stage) rows) judgement
+abbrev pub HasRows : List Fault → ℕ → List (ℕ × ℕ) → Type 0
+HasRows list stage rows = (fault : Fault) → Contains list fault ↔ Contains (map (row_fault stage) rows) fault

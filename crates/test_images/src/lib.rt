@@ -7,9 +7,8 @@ mod opening;
 mod sample;
 
 pub use bdb_tree::{
-    AllError, CheckError, Fault, InternalItem, InternalKey, InternalView, LeafItem, Named,
-    NamedList, Order, PageView, Separate, Steps, Unsupported, Verdict, check_trees, compare,
-    descend_by, first_leaf, leaves, leaves_below, next_level, tree_faults,
+    AllError, InternalItem, InternalKey, InternalView, LeafItem, NamedList, PageView, Separate,
+    check_trees, compare, descend_by, first_leaf, leaves, leaves_below, next_level, tree_faults,
 };
 pub use field::{Field, write};
 pub use naming::{has_rows, is_list_of};

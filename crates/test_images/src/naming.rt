@@ -2,59 +2,58 @@
 
 ghost use Rattle.std.specs.Prelude.{◌≡◌, IsTrue, Some, map, slice_get};
 ghost use Rattle.std.specs.List.{Contains};
-ghost use Rattle.bdb_tree.specs.of_faults.Named.{judgement_seen};
-ghost use Rattle.bdb_tree.specs.of_format.Verdict.{Judgement};
-ghost use Rattle.test_images.specs.Rows.{HasRows, row_judged};
+ghost use Rattle.bdb_tree.specs.of_format.declared.kinds.Fault.{Fault as FaultSeen};
+ghost use Rattle.test_images.specs.Rows.{HasRows, row_fault};
 
-use bdb_tree::{Fault, Named, NamedList};
+use bdb_tree::{Fault, NamedList};
 
 // Whether both are the same.
-fn is_same(a: Named, b: Named) -> bool
-    ensures { IsTrue result → judgement_seen a ≡ judgement_seen b }
+fn is_same(a: Fault, b: Fault) -> bool
+    ensures { IsTrue result → a ≡ b }
 {
     a == b
 }
 
 // Whether a list has this one at a place, from 0.
-fn is_at(list: &NamedList, i: usize, named: Named) -> bool
-    ensures { IsTrue result → slice_get list.now i ≡ Some (judgement_seen named) }
+fn is_at(list: &NamedList, i: usize, fault: Fault) -> bool
+    ensures { IsTrue result → slice_get list.now i ≡ Some fault }
 {
     match list.get(i) {
-        Some(found) => is_same(found, named),
+        Some(found) => is_same(found.fault(), fault),
         None => false,
     }
 }
 
 /// Whether a list has these, in this order, and no others.
 #[tactic(auto, using(crate::proofs::RowLemmas::same_list))]
-pub fn is_list_of(list: &NamedList, named: &[Named]) -> bool
-    ensures { IsTrue result → list.now ≡ map judgement_seen named.now }
+pub fn is_list_of(list: &NamedList, faults: &[Fault]) -> bool
+    ensures { IsTrue result → list.now ≡ faults.now }
 {
-    if list.len() != named.len() {
+    if list.len() != faults.len() {
         return false;
     }
-    for (i, one) in named.iter().enumerate() {
-        if !is_at(list, i, *one) {
+    for (i, fault) in faults.iter().enumerate() {
+        if !is_at(list, i, *fault) {
             return false;
         }
     }
     true
 }
 
-// What a row of a stage names.
-fn row_named(stage: u8, row: (u32, u8)) -> Named
-    ensures { judgement_seen result ≡ row_judged stage row }
+// The fault of a row of a stage.
+fn row_fault(stage: u8, row: (u32, u8)) -> Fault
+    ensures { result ≡ row_fault stage row }
 {
     let (page, code) = row;
-    Named::Fault(Fault { stage, page, code })
+    Fault { stage, page, code }
 }
 
 // Whether a list has this one.
-fn has(list: &NamedList, named: Named) -> bool
-    ensures { IsTrue result → Contains list.now (judgement_seen named) }
+fn has(list: &NamedList, fault: Fault) -> bool
+    ensures { IsTrue result → Contains list.now fault }
 {
     for i in 0..list.len() {
-        if is_at(list, i, named) {
+        if is_at(list, i, fault) {
             return true;
         }
     }
@@ -62,11 +61,11 @@ fn has(list: &NamedList, named: Named) -> bool
 }
 
 // Whether this one is the fault of a row.
-fn is_of_rows(named: Named, stage: u8, rows: &[(u32, u8)]) -> bool
-    ensures { IsTrue result → Contains (map (row_judged stage) rows.now) (judgement_seen named) }
+fn is_of_rows(fault: Fault, stage: u8, rows: &[(u32, u8)]) -> bool
+    ensures { IsTrue result → Contains (map (row_fault stage) rows.now) fault }
 {
     for row in rows {
-        if is_same(row_named(stage, *row), named) {
+        if is_same(row_fault(stage, *row), fault) {
             return true;
         }
     }
@@ -75,10 +74,10 @@ fn is_of_rows(named: Named, stage: u8, rows: &[(u32, u8)]) -> bool
 
 // Whether a list has the fault of each row.
 fn has_each_row(list: &NamedList, stage: u8, rows: &[(u32, u8)]) -> bool
-    ensures { IsTrue result → (judgement : Judgement) → Contains (map (row_judged stage) rows.now) judgement → Contains list.now judgement }
+    ensures { IsTrue result → (fault : FaultSeen) → Contains (map (row_fault stage) rows.now) fault → Contains list.now fault }
 {
     for row in rows {
-        if !has(list, row_named(stage, *row)) {
+        if !has(list, row_fault(stage, *row)) {
             return false;
         }
     }
@@ -87,10 +86,10 @@ fn has_each_row(list: &NamedList, stage: u8, rows: &[(u32, u8)]) -> bool
 
 // Whether the member at a place, if there is one, is the fault of a row.
 fn is_of_rows_at(list: &NamedList, i: usize, stage: u8, rows: &[(u32, u8)]) -> bool
-    ensures { IsTrue result → (judgement : Judgement) → slice_get list.now i ≡ Some judgement → Contains (map (row_judged stage) rows.now) judgement }
+    ensures { IsTrue result → (fault : FaultSeen) → slice_get list.now i ≡ Some fault → Contains (map (row_fault stage) rows.now) fault }
 {
     match list.get(i) {
-        Some(found) => is_of_rows(found, stage, rows),
+        Some(found) => is_of_rows(found.fault(), stage, rows),
         None => true,
     }
 }
@@ -98,7 +97,7 @@ fn is_of_rows_at(list: &NamedList, i: usize, stage: u8, rows: &[(u32, u8)]) -> b
 // Whether a list has no other faults than those of rows.
 #[tactic(auto, using(crate::proofs::RowLemmas::each_member))]
 fn has_only_rows(list: &NamedList, stage: u8, rows: &[(u32, u8)]) -> bool
-    ensures { IsTrue result → (judgement : Judgement) → Contains list.now judgement → Contains (map (row_judged stage) rows.now) judgement }
+    ensures { IsTrue result → (fault : FaultSeen) → Contains list.now fault → Contains (map (row_fault stage) rows.now) fault }
 {
     for i in 0..list.len() {
         if !is_of_rows_at(list, i, stage, rows) {

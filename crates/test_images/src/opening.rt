@@ -35,12 +35,12 @@ pub fn btree_of(linked: &Linked<'_>) -> Option<BtreeMeta>
 pub fn is_keyed(meta: &BtreeMeta) -> bool
     ensures { IsTrue result → is_recno meta.now ≡ false }
 {
-    meta.flags & 0x02 == 0
+    !meta.is_recno()
 }
 
 /// Whether it's a recno.
 pub fn is_recno(meta: &BtreeMeta) -> bool
     ensures { IsTrue result → IsTrue (is_recno meta.now) }
 {
-    meta.flags & 0x02 != 0
+    meta.is_recno()
 }

@@ -1,6 +1,6 @@
 use Rattle.std.proofs.Common.{◌∙◌, List, ℕ, subst, sym}
 use Rattle.bdb_faults.specs.Notes.{Notes, NotesAll}
-use Rattle.bdb_faults.specs.declared.rows.ContentsRow.TheVariants.{Separator}
+use Rattle.bdb_ranks.specs.of_format.declared.rows.ContentsRow.TheVariants.{Separator}
 use Rattle.bdb_ranks.specs.of_format.ContentRows.{has_wrong_separator, inner_pages}
 use Rattle.bdb_ranks.specs.of_format.Contents.{tree_pairs}
 use Rattle.bdb_ranks.specs.of_format.File.{file_of, page_at}

@@ -1,5 +1,5 @@
 use Rattle.std.proofs.Common.{◌∙◌, rules}
-use Rattle.bdb_faults.specs.declared.rows.ContentsRow.TheVariants.{Count}
+use Rattle.bdb_ranks.specs.of_format.declared.rows.ContentsRow.TheVariants.{Count}
 use Rattle.bdb_ranks.specs.of_format.ContentRows.{has_wrong_count}
 use Rattle.bdb_ranks.specs.of_format.File.{file_of, page_at}
 use Rattle.bdb_ranks.specs.of_layout.Seen.{internal_item_seen}

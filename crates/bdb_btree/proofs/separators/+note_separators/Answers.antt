@@ -1,7 +1,7 @@
 use Rattle.std.proofs.Common.{◌≡◌, ◌∙◌, ◌<◌, List, ℕ, arith, cond, refl, rules, subst, sym}
 use Rattle.std.specs.Prelude.{◌==◌}
 use Rattle.bdb_faults.specs.Notes.{NotesAll}
-use Rattle.bdb_faults.specs.declared.rows.ContentsRow.TheVariants.{Separator}
+use Rattle.bdb_ranks.specs.of_format.declared.rows.ContentsRow.TheVariants.{Separator}
 use Rattle.bdb_ranks.specs.of_format.Chains.{value_of}
 use Rattle.bdb_ranks.specs.of_format.ContentRows.{has_wrong_separator, inner_pages}
 use Rattle.bdb_ranks.specs.of_format.Contents.{tree_pairs}

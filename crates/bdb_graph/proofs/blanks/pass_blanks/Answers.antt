@@ -1,7 +1,5 @@
-use Rattle.std.proofs.Common.{◌≤◌, ap, arith, subst, sym}
-use Rattle.bdb_image.specs.of_format.declared.metadata.Head.{Head}
+use Rattle.std.proofs.Common.{◌≤◌, arith, subst, sym}
 use Rattle.bdb_image.specs.of_format.File.{file_of}
-use Rattle.bdb_image.proofs.of_format.FileLemmas.{last_page}
 use Rattle.bdb_graph.specs.Blanks.{ArePassed, IsAfter}
 use Rattle.bdb_graph.proofs.BlankLemmas.{next_after, same_page}
 use Rattle.bdb_graph.proofs.blanks.pass_blanks.Goals as goal
@@ -12,7 +10,7 @@ pub loop-turn-preserved : goal.loop-turn-preserved
 loop-turn-preserved c =
     let file = file_of c.args.formed.now in
     let high : c.loop-turn.page ≤ (file_of c.args.formed.now).last = omega
-    (arith, c.if-page-head.false, ap (λ (head : Head). head.last) c.head.ensures.head, last_page c.args.formed.now) in
+    (arith, c.if-page-head.false, c.head.ensures.last) in
     elim c.if-link-gt0.branch [
       | then-link-gt0 w ↦ record {
         all = subst (ArePassed file) (sym w.nexts-is) (w.stand_for.ensures file c.loop-turn.invariant.here c.loop-turn.invariant.all);

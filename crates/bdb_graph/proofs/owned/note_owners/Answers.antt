@@ -1,8 +1,6 @@
-use Rattle.std.proofs.Common.{◌≡◌, ◌∙◌, arith, ap, refl, subst, sym}
+use Rattle.std.proofs.Common.{◌≡◌, arith, refl, subst}
 use Rattle.bdb_image.specs.of_format.File.{file_of}
 use Rattle.bdb_image.specs.of_format.Verdict.{holding, ownership_rows}
-use Rattle.bdb_image.specs.of_format.declared.metadata.Head.{Head}
-use Rattle.bdb_image.proofs.of_format.FileLemmas.{last_page}
 use Rattle.bdb_image.proofs.NotedLemmas.{none_noted, owners_noted, page_noted}
 use Rattle.bdb_graph.specs.Owned.{AreFew}
 use Rattle.bdb_graph.proofs.OwnedLemmas.{none_few, one_more_few}
@@ -25,12 +23,12 @@ loop-page-preserved g c = record {
 pub returns-clause-noted : goal.returns-clause-noted
 returns-clause-noted g c =
     let last : c.head-page-end.result.last ≡ (file_of c.args.roles.now).last =
-    ap (λ (head : Head). head.last) c.head-page-end.ensures.head ∙ sym (last_page c.args.roles.now) in
+    c.head-page-end.ensures.last in
     owners_noted (g.F.FaultSink.has_noted c.args.found.now) (g.F.FaultSink.has_noted c.loop-page.found) (file_of c.args.roles.now) c.loop-page.page
     (omega (arith, last)) c.loop-page.invariant.rows
 
 pub returns-clause-few : goal.returns-clause-few
 returns-clause-few g c =
     let last : c.head-page-end.result.last ≡ (file_of c.args.roles.now).last =
-    ap (λ (head : Head). head.last) c.head-page-end.ensures.head ∙ sym (last_page c.args.roles.now) in
+    c.head-page-end.ensures.last in
     subst (AreFew (file_of c.args.roles.now)) (omega (arith, last)) c.loop-page.invariant.few

@@ -1,9 +1,7 @@
 use Rattle.std.proofs.Common.{◌≡◌, ◌∙◌, ap, arith, length, sym}
 use Rattle.bdb_image.proofs.of_faults.SinkLemmas.{notes_none}
-use Rattle.bdb_image.specs.of_format.declared.metadata.Head.{Head}
 use Rattle.bdb_image.specs.of_format.File.{file_of}
 use Rattle.bdb_image.specs.of_format.Verdict.{holding, reach_rows}
-use Rattle.bdb_image.proofs.of_format.FileLemmas.{last_page}
 use Rattle.bdb_graph.proofs.MarkLemmas.{none_marked}
 use Rattle.bdb_image.proofs.NotedLemmas.{page_noted, reach_noted, reached_noted}
 use Rattle.bdb_graph.proofs.TallyLemmas.{written_back}
@@ -14,7 +12,7 @@ pub loop-page-init : goal.loop-page-init
 loop-page-init g c = record {
   faults = notes_none (g.F.FaultSink.has_noted c.args.found.now);
   settled = rw (c.in_ok-marks.ensures.items_if_clones_equal (λ y same. same)) (none_marked (file_of c.args.roles.now) _);
-  len = omega (arith, c.in_ok-marks.ensures.len, ap (λ (head : Head). head.last) c.head.ensures.head, last_page c.args.roles.now);
+  len = omega (arith, c.in_ok-marks.ensures.len, c.head.ensures.last);
 }
 
 pub loop-page-preserved : goal.loop-page-preserved
@@ -36,6 +34,6 @@ loop-page-preserved g c =
 pub returns : goal.returns
 returns g c =
     let last : c.head-page-end.result.last ≡ (file_of c.args.roles.now).last =
-    ap (λ (head : Head). head.last) c.head-page-end.ensures.head ∙ sym (last_page c.args.roles.now) in
+    c.head-page-end.ensures.last in
     reach_noted (g.F.FaultSink.has_noted c.args.found.now) (g.F.FaultSink.has_noted c.loop-page.found) (file_of c.args.roles.now) c.loop-page.page
     (omega (arith, last)) c.loop-page.invariant.faults

@@ -4,8 +4,6 @@ use Rattle.bdb_graph.proofs.TallyLemmas.{held_more, kinds_all, tallied_all, tall
 use Rattle.bdb_graph.specs.Walked.{AreKinds}
 use Rattle.bdb_image.specs.of_format.File.{file_of}
 use Rattle.bdb_image.specs.of_format.Verdict.{holding, reference_rows}
-use Rattle.bdb_image.specs.of_format.declared.metadata.Head.{Head}
-use Rattle.bdb_image.proofs.of_format.FileLemmas.{last_page}
 use Rattle.bdb_graph.proofs.tally.note_references.Goals as goal
 
 -- The references of this page are added to those of the pages before it, and fit.
@@ -35,20 +33,17 @@ loop-page-preserved g c =
 -- The last page is passed.
 pub returns-clause-tallies : goal.returns-clause-tallies
 returns-clause-tallies g c =
-    let last : c.head-pages.result.last ≡ (file_of c.args.formed.now).last = ap (λ (head : Head). head.last) c.head-pages.ensures.head
-    ∙ sym (last_page c.args.formed.now) in
+    let last : c.head-pages.result.last ≡ (file_of c.args.formed.now).last = c.head-pages.ensures.last in
     let all : c.loop-page.page ≡ (file_of c.args.formed.now).last + 1 = omega arith in
     tallied_all (file_of c.args.formed.now) c.loop-page.page c.loop-page.tallies.items all (omega (arith, c.loop-page.invariant.len)) c.loop-page.invariant.all
 
 pub returns-clause-kinds : goal.returns-clause-kinds
 returns-clause-kinds g c =
-    let last : c.head-pages.result.last ≡ (file_of c.args.formed.now).last = ap (λ (head : Head). head.last) c.head-pages.ensures.head
-    ∙ sym (last_page c.args.formed.now) in
+    let last : c.head-pages.result.last ≡ (file_of c.args.formed.now).last = c.head-pages.ensures.last in
     kinds_all (file_of c.args.formed.now) c.loop-page.page c.loop-page.kinds (omega (arith, last)) c.loop-page.invariant.kinds
 
 pub returns-clause-noted : goal.returns-clause-noted
 returns-clause-noted g c =
-    let last : c.head-pages.result.last ≡ (file_of c.args.formed.now).last = ap (λ (head : Head). head.last) c.head-pages.ensures.head
-    ∙ sym (last_page c.args.formed.now) in
+    let last : c.head-pages.result.last ≡ (file_of c.args.formed.now).last = c.head-pages.ensures.last in
     references_noted (g.F.FaultSink.has_noted c.args.found.now) (g.F.FaultSink.has_noted c.loop-page.found) (file_of c.args.formed.now) c.loop-page.page
     (omega (arith, last)) c.loop-page.invariant.faults

@@ -1,12 +1,10 @@
 use Rattle.std.proofs.Common.{sym, subst}
 use Rattle.std.specs.Prelude.{IsTrue}
 use Rattle.bdb_faults.specs.of_format.HeadOf.{is_page_size}
-use Rattle.bdb_image.proofs.FormedLemmas.{accepted_paged, same_length}
+use Rattle.bdb_image.proofs.FormedLemmas.{accepted_paged}
 use Rattle.bdb_image.proofs.formed.page_bytes.Goals as goal
 
 -- A page has the size that page 0 tells, which is a legal one.
 pub returns-clause-legal : goal.returns-clause-legal
 returns-clause-legal c =
-    subst (λ n. IsTrue (is_page_size n))
-    (sym (same_length c.args.image.now c.args.head.now c.args.number c.requires.head c.requires.there))
-    (accepted_paged c.args.image.now c.args.head.now c.requires.head).legal
+    subst (λ n. IsTrue (is_page_size n)) (sym c.page_bytes.ensures.whole) (accepted_paged c.args.image.now c.args.head.now c.requires.head).legal

@@ -1,6 +1,3 @@
-use Rattle.std.proofs.Common.{[], ◌∷◌, subst}
-use Rattle.bdb_faults.specs.Notes.{Notes}
-use Rattle.bdb_faults.specs.of_format.declared.kinds.Fault.{Fault}
 use Rattle.bdb_faults.specs.of_format.Rows.{form_code}
 use Rattle.bdb_image.proofs.NotedLemmas.{form_noted, form_passed}
 use Rattle.bdb_image.proofs.open.note_page.Goals as goal
@@ -8,9 +5,7 @@ use Rattle.bdb_image.proofs.open.note_page.Goals as goal
 pub returns-in_ok-note-in-Some-clause-noted : goal.returns-in_ok-note-in-Some-clause-noted
 returns-in_ok-note-in-Some-clause-noted g c =
     form_noted (g.F.FaultSink.has_noted c.args.found.now) (g.F.FaultSink.has_noted c.note.new.self) c.args.number
-    (form_code c.args.head.now c.args.number c.args.page.now) c.in-Some.fault c.in-Some.ensures
-    (subst (λ (fault : Fault). Notes (g.F.FaultSink.has_noted c.args.found.now) (g.F.FaultSink.has_noted c.note.new.self) (fault ∷ [])) c.fault_of_form.ensures
-    c.in_ok-note-in-Some.ensures.noted)
+    (form_code c.args.head.now c.args.number c.args.page.now) c.in-Some.row c.in-Some.ensures c.in_ok-note-in-Some.ensures.noted
 
 pub returns-then-plain-clause-noted : goal.returns-then-plain-clause-noted
 returns-then-plain-clause-noted g c =

@@ -1,7 +1,7 @@
-use Rattle.std.proofs.Common.{◌+◌, arith, ap}
+use Rattle.std.proofs.Common.{◌+◌, arith}
+use Rattle.std.specs.Option.{option_map}
+use Rattle.bdb_format.specs.Cases.{fault_seen}
 use Rattle.bdb_format.specs.File.{file_of}
-use Rattle.bdb_format.specs.declared.metadata.Head.{Head}
-use Rattle.bdb_format.proofs.FileLemmas.{last_page}
 use Rattle.bdb_btree.specs.of_image.Linked.{meta_pages}
 use Rattle.bdb_btree.proofs.of_faults.SinkLemmas.{notes_none}
 use Rattle.std.specs.Option.{option_to_list}
@@ -17,9 +17,9 @@ pub loop-i-preserved : goal.loop-i-preserved
 loop-i-preserved g c =
     naming_more (g.F.FaultSink.has_noted c.args.found.now) (g.F.FaultSink.has_noted c.loop-i.found) (g.F.FaultSink.has_noted c.note_given.new.found)
     (file_of c.args.linked.now) c.args.entries.now c.loop-i.i
-    c.meta-number.result.0 c.index.result.now c.count_fault.result c.meta-number.ensures.number
+    c.meta-number.result.0 c.index.result.now (option_map fault_seen c.count_fault.result) c.meta-number.ensures.number
     (count_read c.in_ok-counts.counts.items (c.head.result.last + 1) c.meta-number.result.0 c.index.result.now c.args.entries.now c.in_ok-counts.ensures
-    (omega (arith, c.meta-number.ensures.inside, last_page c.args.linked.now, ap (λ (h : Head). h.last) c.head.ensures.head)) c.index.ensures)
+    (omega (arith, c.meta-number.ensures.inside, c.head.ensures.last)) c.index.ensures)
     c.count_fault.ensures
     c.loop-i.invariant c.in_ok-note_given.ensures
 

@@ -1,5 +1,7 @@
 use Rattle.std.proofs.Common.{arith, subst}
 use Rattle.std.proofs.lemmas.List.{take_all}
+use Rattle.std.specs.Option.{option_map}
+use Rattle.bdb_format.specs.Cases.{fault_seen}
 use Rattle.bdb_format.specs.File.{file_of}
 use Rattle.bdb_btree.specs.of_faults.Notes.{NotesAll}
 use Rattle.bdb_btree.proofs.of_faults.SinkLemmas.{notes_none}
@@ -14,7 +16,8 @@ pub loop-entry-preserved : goal.loop-entry-preserved
 loop-entry-preserved g c =
     target_more (g.F.FaultSink.has_noted c.args.found.now) (g.F.FaultSink.has_noted c.loop-entry.found) (g.F.FaultSink.has_noted c.note_given.new.found)
     (file_of c.args.linked.now) c.args.entries.now
-    c.loop-entry.entry-index c.entry-item.result c.page.result c.names.result c.target_fault.result (omega arith) c.entry-item.is c.page.ensures
+    c.loop-entry.entry-index c.entry-item.result c.page.result c.names.result (option_map fault_seen c.target_fault.result)
+    (omega arith) c.entry-item.is c.page.ensures
     c.names.ensures c.target_fault.ensures c.loop-entry.invariant c.in_ok-note_given.ensures
 
 pub returns : goal.returns

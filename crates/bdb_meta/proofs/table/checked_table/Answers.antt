@@ -2,6 +2,7 @@ use Rattle.std.proofs.Common.{sym, ◌∙◌, rules}
 use Rattle.bdb_layout.specs.of_format.declared.metadata.FileKind.TheVariants.{Hash}
 use Rattle.bdb_layout.specs.of_format.Reading.{hash_fields}
 use Rattle.bdb_layout.specs.of_format.Rows.{table_rows}
+use Rattle.bdb_layout.specs.of_format.RowCodes.{form_row_code}
 use Rattle.bdb_meta.proofs.RowLemmas.{answer-code, answer-value, metadata-kind}
 use Rattle.bdb_meta.proofs.table.checked_table.Goals as goal
 
@@ -10,7 +11,8 @@ returns-in_err-check_table c =
     let page = c.args.page.now in
     let fields = hash_fields c.args.order page in
     let kind = metadata-kind c.args.order page c.args.number c.args.last Hash fields (sym c.in_ok-check_common.ensures) in
-    rw (kind ∙ answer-code (table_rows c.args.order page c.args.last) fields c.in_err-check_table.field-0.0 (sym c.in_err-check_table.ensures)) (search rules)
+    rw (kind ∙ answer-code (table_rows c.args.order page c.args.last) fields (form_row_code c.in_err-check_table.field-0.0)
+    (sym c.in_err-check_table.ensures)) (search rules)
 
 pub returns : goal.returns
 returns c =

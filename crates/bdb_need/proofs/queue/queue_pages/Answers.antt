@@ -17,4 +17,4 @@ overflow_sub-result c = (greatest c).low
 
 pub returns-in-Some-clause-pages : goal.returns-in-Some-clause-pages
 returns-in-Some-clause-pages c =
-    ap (λ k. 1 + (c.number_of.result - 1) / k) c.records_per_page-per_page.ensures ∙ sym ((greatest c).size _)
+    ap (λ k. 1 + (c.number_of.result - 1) / k) (c.from-per_page.ensures ∙ c.records_per_page.ensures) ∙ sym ((greatest c).size _)

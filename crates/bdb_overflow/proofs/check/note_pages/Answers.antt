@@ -1,14 +1,11 @@
-use Rattle.std.proofs.Common.{◌≡◌, ◌+◌, ◌∙◌, ap, arith, sym}
-use Rattle.bdb_graph.specs.of_format.declared.metadata.Head.{Head}
+use Rattle.std.proofs.Common.{◌≡◌, ◌+◌, arith}
 use Rattle.bdb_graph.specs.of_format.File.{file_of}
-use Rattle.bdb_graph.proofs.of_format.FileLemmas.{last_page}
 use Rattle.bdb_overflow.proofs.ChainLemmas.{all_below, one_below}
 use Rattle.bdb_overflow.proofs.check.note_pages.Goals as goal
 
 pub note_page-requires-clause-there : goal.note_page-requires-clause-there
 note_page-requires-clause-there g c =
-    let last : c.head-last.result.last ≡ (file_of c.args.linked.now).last = ap (λ (head : Head). head.last) c.head-last.ensures.head
-    ∙ sym (last_page c.args.linked.now) in
+    let last : c.head-last.result.last ≡ (file_of c.args.linked.now).last = c.head-last.ensures.last in
     omega (arith, last)
 
 pub loop-page-preserved : goal.loop-page-preserved
@@ -18,8 +15,7 @@ loop-page-preserved g c =
 
 pub returns-in_ok-note_page-clause-noted : goal.returns-in_ok-note_page-clause-noted
 returns-in_ok-note_page-clause-noted g c =
-    let last : c.head-last.result.last ≡ (file_of c.args.linked.now).last = ap (λ (head : Head). head.last) c.head-last.ensures.head
-    ∙ sym (last_page c.args.linked.now) in
+    let last : c.head-last.result.last ≡ (file_of c.args.linked.now).last = c.head-last.ensures.last in
     all_below (g.F.FaultSink.has_noted c.args.found.now) (g.F.FaultSink.has_noted c.note_page.new.found) (file_of c.args.linked.now)
     (c.loop-page.page + 1) (omega (arith, last))
     (one_below (g.F.FaultSink.has_noted c.args.found.now) (g.F.FaultSink.has_noted c.loop-page.found) (g.F.FaultSink.has_noted c.note_page.new.found)

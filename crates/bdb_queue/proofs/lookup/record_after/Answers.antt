@@ -1,7 +1,5 @@
 use Rattle.std.proofs.Common.{arith, ap, ◌∙◌, ◌≤◌}
 use Rattle.std.proofs.lemmas.Nat.{mod_below}
-use Rattle.bdb_overflow.specs.of_format.declared.metadata.Head.{Head}
-use Rattle.bdb_overflow.proofs.of_format.FileLemmas.{last_page}
 use Rattle.bdb_queue.specs.Records.{data_in}
 use Rattle.bdb_queue.proofs.FindLemmas.{none_past, record_under}
 use Rattle.bdb_queue.proofs.QueueLemmas.{some_slots}
@@ -21,7 +19,7 @@ pub returns-then-before-last-clause-data : goal.returns-then-before-last-clause-
 returns-then-before-last-clause-data g c =
     let some : 1 ≤ c.args.meta.now.per_page = omega (arith, some_slots c.args.forest.now c.args.meta.now c.head-last.ensures.forest c.requires) in
     none_past c.args.forest.now c.args.meta.now c.args.number some (omega
-    (arith, c.if-before-last.true, last_page c.args.forest.now, ap (λ (head : Head). head.last) c.head-last.ensures.head))
+    (arith, c.if-before-last.true, c.head-last.ensures.last))
 
 -- The one place of the number.
 pub returns-clause-data : goal.returns-clause-data

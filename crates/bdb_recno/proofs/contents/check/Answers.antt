@@ -1,22 +1,22 @@
-use Rattle.std.proofs.Common.{◌∙◌, sym}
+use Rattle.std.proofs.Common.{List}
 use Rattle.bdb_tree.specs.of_format.ContentRows.{database_faults}
-use Rattle.bdb_tree.specs.of_format.File.{file_of}
+use Rattle.bdb_tree.specs.of_format.declared.kinds.Fault.{Fault}
+use Rattle.bdb_tree.specs.of_format.File.{File, file_of}
 use Rattle.bdb_tree.specs.of_format.Page.{BtreeFields}
-use Rattle.bdb_faults.proofs.SinkLemmas.{first_found, none_first}
-use Rattle.bdb_recno.proofs.ContentsLemmas.{in_order}
+use Rattle.bdb_faults.proofs.AscendLemmas.{database_ascends}
+use Rattle.bdb_faults.proofs.FirstLemmas.{newly_noted}
 use Rattle.bdb_recno.proofs.contents.check.Goals as goal
 
-pub returns-in-None-clause-accepted : goal.returns-in-None-clause-accepted
-returns-in-None-clause-accepted c =
-    none_first (database_faults (file_of c.args.linked.now) (BtreeFields c.args.meta.now))
-    (c.in-None.ensures
-    ∙ first_found 8 (database_faults (file_of c.args.linked.now) (BtreeFields c.args.meta.now)) c.new-first.result c.note_contents.new.found
-    (in_order (file_of c.args.linked.now) c.args.meta.now c.requires.recno) c.new-first.ensures
-    c.in-Ok.ensures)
+pub returns-clause-accepted : goal.returns-clause-accepted
+returns-clause-accepted c =
+    let file : File = file_of c.args.linked.now in
+    let faults : List Fault = database_faults file (BtreeFields c.args.meta.now) in
+    c.checked.ensures.accepted faults (database_ascends file (BtreeFields c.args.meta.now))
+    (newly_noted c.note_contents-answer.result c.new-first.result c.note_contents-answer.new.found faults c.new-first.ensures c.note_contents-answer.ensures)
 
-pub returns-in-Some-clause-refusal : goal.returns-in-Some-clause-refusal
-returns-in-Some-clause-refusal c =
-    sym (c.in-Some.ensures
-    ∙ first_found 8 (database_faults (file_of c.args.linked.now) (BtreeFields c.args.meta.now)) c.new-first.result c.note_contents.new.found
-    (in_order (file_of c.args.linked.now) c.args.meta.now c.requires.recno) c.new-first.ensures
-    c.in-Ok.ensures)
+pub returns-clause-refusal : goal.returns-clause-refusal
+returns-clause-refusal c =
+    let file : File = file_of c.args.linked.now in
+    let faults : List Fault = database_faults file (BtreeFields c.args.meta.now) in
+    c.checked.ensures.refused faults (database_ascends file (BtreeFields c.args.meta.now))
+    (newly_noted c.note_contents-answer.result c.new-first.result c.note_contents-answer.new.found faults c.new-first.ensures c.note_contents-answer.ensures)

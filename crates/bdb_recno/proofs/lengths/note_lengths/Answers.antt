@@ -4,7 +4,7 @@ use Rattle.bdb_faults.proofs.SinkLemmas.{notes_none}
 use Rattle.bdb_tree.specs.of_format.ContentRows.{has_wrong_record}
 use Rattle.bdb_tree.specs.of_format.File.{file_of}
 use Rattle.bdb_recno.specs.Noted.{length_faults}
-use Rattle.bdb_faults.specs.declared.rows.ContentsRow.TheVariants.{RecordLength}
+use Rattle.bdb_tree.specs.of_format.declared.rows.ContentsRow.TheVariants.{RecordLength}
 use Rattle.bdb_recno.proofs.NotedLemmas.{page_noted}
 use Rattle.bdb_recno.proofs.PageLemmas.{turned_leaf}
 use Rattle.bdb_recno.proofs.lengths.note_lengths.Goals as goal

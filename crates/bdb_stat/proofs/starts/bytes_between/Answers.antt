@@ -9,7 +9,7 @@ pub overflow_add-outside : goal.overflow_add-outside
 overflow_add-outside g c =
     let few : c.loop-i.outside + c.loop-i.lowest ≤ length c.args.page.now =
     few_above (index_end c.args.order c.args.page.now) (length c.args.page.now) c.loop-i.i (offset_of c.args.order c.args.page.now)
-    (λ i. g.E.Ends.end c.args.order c.args.page.now (offset_of c.args.order c.args.page.now i)) c.loop-i.lowest c.loop-i.outside c.loop-i.invariant in
+    (λ i. g.K.EndKind.end c.args.order c.args.page.now (offset_of c.args.order c.args.page.now i)) c.loop-i.lowest c.loop-i.outside c.loop-i.invariant in
     omega (arith, few)
 
 pub loop-i-preserved : goal.loop-i-preserved
@@ -21,27 +21,27 @@ loop-i-preserved g c =
       | then-end-lowest w ↦
           rw (w.lowest-is, w.outside-is, c.end_at-end.ensures, c.from-at.ensures, c.offset_at.ensures)
           (falling_next (index_end c.args.order c.args.page.now) (length c.args.page.now) c.loop-i.i (offset_of c.args.order c.args.page.now)
-          (λ i. g.E.Ends.end c.args.order c.args.page.now (offset_of c.args.order c.args.page.now i)) c.loop-i.lowest c.loop-i.outside c.loop-i.invariant
+          (λ i. g.K.EndKind.end c.args.order c.args.page.now (offset_of c.args.order c.args.page.now i)) c.loop-i.lowest c.loop-i.outside c.loop-i.invariant
           placed.behind placed.some (omega (
             arith,
             w.if-end-lowest.true,
             c.end_at-end.ensures,
-            ap (g.E.Ends.end c.args.order c.args.page.now) begins,
+            ap (g.K.EndKind.end c.args.order c.args.page.now) begins,
           )))
       | else-end-lowest+else-not-is_shared w ↦
           let shared = w.is_shared.ensures.0 w.if-not-is_shared.false in
           rw (w.lowest-is, w.outside-is)
           (falling_again (index_end c.args.order c.args.page.now) (length c.args.page.now) c.loop-i.i (offset_of c.args.order c.args.page.now)
-          (λ i. g.E.Ends.end c.args.order c.args.page.now (offset_of c.args.order c.args.page.now i)) c.loop-i.lowest c.loop-i.outside (c.loop-i.i - 2)
+          (λ i. g.K.EndKind.end c.args.order c.args.page.now (offset_of c.args.order c.args.page.now i)) c.loop-i.lowest c.loop-i.outside (c.loop-i.i - 2)
           c.loop-i.invariant
-          (omega (arith, shared.0)) shared.1 (ap (g.E.Ends.end c.args.order c.args.page.now) shared.1))
+          (omega (arith, shared.0)) shared.1 (ap (g.K.EndKind.end c.args.order c.args.page.now) shared.1))
     ]
 
 pub overflow_add-result : goal.overflow_add-result
 overflow_add-result g c =
     let few : c.loop-i.outside + c.loop-i.lowest ≤ length c.args.page.now =
     few_above (index_end c.args.order c.args.page.now) (length c.args.page.now) c.loop-i.i (offset_of c.args.order c.args.page.now)
-    (λ i. g.E.Ends.end c.args.order c.args.page.now (offset_of c.args.order c.args.page.now i)) c.loop-i.lowest c.loop-i.outside c.loop-i.invariant in
+    (λ i. g.K.EndKind.end c.args.order c.args.page.now (offset_of c.args.order c.args.page.now i)) c.loop-i.lowest c.loop-i.outside c.loop-i.invariant in
     omega (arith, few)
 
 pub returns : goal.returns
@@ -49,7 +49,7 @@ returns g c =
     let all : c.loop-i.i ≡ entries_of c.args.order c.args.page.now = omega (arith, c.u16_at-i-end.ensures) in
     rw c.index_end.ensures
     (subst (λ n. c.loop-i.outside + (c.loop-i.lowest - index_end c.args.order c.args.page.now) ≡ places_outside (index_end c.args.order c.args.page.now)
-    (length c.args.page.now) n (offset_of c.args.order c.args.page.now) (λ i. g.E.Ends.end c.args.order c.args.page.now
+    (length c.args.page.now) n (offset_of c.args.order c.args.page.now) (λ i. g.K.EndKind.end c.args.order c.args.page.now
     (offset_of c.args.order c.args.page.now i))) all
     (falling_end (index_end c.args.order c.args.page.now) (length c.args.page.now) c.loop-i.i (offset_of c.args.order c.args.page.now)
-    (λ i. g.E.Ends.end c.args.order c.args.page.now (offset_of c.args.order c.args.page.now i)) c.loop-i.lowest c.loop-i.outside c.loop-i.invariant))
+    (λ i. g.K.EndKind.end c.args.order c.args.page.now (offset_of c.args.order c.args.page.now i)) c.loop-i.lowest c.loop-i.outside c.loop-i.invariant))

@@ -6,5 +6,5 @@ use Rattle.bdb_stat.proofs.starts.bytes_between.Given as goal
 -- The items so far lie one after another.
 abbrev pub invariant-loop-i : goal.invariant-loop-i
 invariant-loop-i g l =
-    IsFalling (index_end l.order l.page) (length l.page) l.i (offset_of l.order l.page) (λ i. g.E.Ends.end l.order l.page (offset_of l.order l.page i)) l.lowest
-    l.outside
+    IsFalling (index_end l.order l.page) (length l.page) l.i (offset_of l.order l.page)
+    (λ i. g.K.EndKind.end l.order l.page (offset_of l.order l.page i)) l.lowest l.outside

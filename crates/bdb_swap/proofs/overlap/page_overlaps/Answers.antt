@@ -1,5 +1,6 @@
 use Rattle.std.proofs.Common.{◌≡◌, ◌∙◌, ap, sym, true, false}
-use Rattle.bdb_io.specs.of_format.Reading.{is_zero}
+use Rattle.bdb_io.specs.of_format.Reading.{is_zero, page_as}
+use Rattle.bdb_io.specs.of_format.Rows.{body_code}
 use Rattle.bdb_turned.specs.Overlaps.{overlaps}
 use Rattle.bdb_turned.proofs.PageLemmas.{body_passed}
 use Rattle.bdb_swap.proofs.ImageLemmas.{no_overlap_on_zeros}
@@ -14,9 +15,12 @@ returns-then-is_zero-clause-found c =
 pub typed_overlaps-requires-clause-code : goal.typed_overlaps-requires-clause-code
 typed_overlaps-requires-clause-code c =
     let some : is_zero c.args.page.now ≡ false = sym c.is_zero.ensures ∙ c.if-is_zero.false in
-    body_passed c.args.head.now c.args.number c.args.page.now (c.requires.form some) some
+    ap (body_code c.args.head.now.order c.args.page.now) c.page_type.ensures
+    ∙ body_passed c.args.head.now c.args.number c.args.page.now (c.requires.form some) some
 
 pub returns-clause-found : goal.returns-clause-found
 returns-clause-found c =
     let some : is_zero c.args.page.now ≡ false = sym c.is_zero.ensures ∙ c.if-is_zero.false in
-    c.typed_overlaps.ensures.found ∙ ap overlaps (sym (typed_page c.args.head.now.order c.args.page.now some))
+    c.typed_overlaps.ensures.found
+    ∙ ap (λ t. overlaps (page_as c.args.head.now.order c.args.page.now t)) c.page_type.ensures
+    ∙ ap overlaps (sym (typed_page c.args.head.now.order c.args.page.now some))

@@ -1,4 +1,5 @@
-use Rattle.std.proofs.Common.{◌≡◌, ◌∙◌, arith, subst, true, false, List, ℕ}
+use Rattle.std.proofs.Common.{◌≡◌, ◌∙◌, ap, arith, subst, true, false, List, ℕ}
+use Rattle.bdb_io.specs.of_format.Rows.{body_code}
 use Rattle.bdb_io.specs.of_format.Numbers.{byte_at}
 use Rattle.bdb_io.specs.of_format.Reading.{is_zero, page_as, page_type}
 use Rattle.bdb_turned.specs.Fields.{fields_of}
@@ -10,7 +11,8 @@ use Rattle.bdb_swap.proofs.page.turn_page.Goals as goal
 pub turn_typed-requires-clause-code : goal.turn_typed-requires-clause-code
 turn_typed-requires-clause-code c =
     let some : is_zero c.args.source.now ≡ false = grind (arith, c.is_zero.ensures, c.if-not-is_zero.true) in
-    body_passed c.args.head.now c.args.number c.args.source.now (c.requires.form some) some
+    ap (body_code c.args.head.now.order c.args.source.now) c.page_type.ensures
+    ∙ body_passed c.args.head.now c.args.number c.args.source.now (c.requires.form some) some
 
 pub returns-then-not-is_zero : goal.returns-then-not-is_zero
 returns-then-not-is_zero c =
@@ -18,7 +20,9 @@ returns-then-not-is_zero c =
     page_turns c.args.head.now c.args.number c.args.source.now c.turn_typed.new.page c.requires.size (c.requires.form some) c.requires.apart some
     (subst (λ (old : List ℕ). Turns c.args.source.now (fields_of (page_as c.args.head.now.order c.args.source.now (page_type (byte_at c.args.source.now 25))))
     old c.turn_typed.new.page)
-    c.requires.copied c.turn_typed.ensures)
+    c.requires.copied
+    (subst (λ t. Turns c.args.source.now (fields_of (page_as c.args.head.now.order c.args.source.now t)) c.args.page.now c.turn_typed.new.page)
+    c.page_type.ensures c.turn_typed.ensures))
 
 -- A zero page stays.
 pub returns-else-not-is_zero : goal.returns-else-not-is_zero

@@ -6,4 +6,4 @@ returns-in-Ok g c =
     ends_on_base c.args.limit c.in-Ok.base c.args.text c.args.image _ _ _ c.in-Ok.ensures.base c.in-Ok.ensures.sound c.answer_on_base.ensures
 
 pub returns-in-Err : goal.returns-in-Err
-returns-in-Err g c = refused_ends c.in-Err.verdict c.args.limit c.args.text c.args.image _ _ _ _ c.in-Err.ensures.refused c.refuse.ensures
+returns-in-Err g c = refused_ends c.in-Err.error c.args.limit c.args.text c.args.image _ _ _ _ c.in-Err.ensures.refused c.refuse.ensures

@@ -1,6 +1,7 @@
+use Rattle.bdb_file.specs.of_any_order.AnyOrder.{faults_by_rows}
 use Rattle.bdb_tool_words.specs.Commands.{Dump}
-use Rattle.bdb_tool_ask.proofs.AnswerLemmas.{readable_finishes, refused_by}
-use Rattle.bdb_tool_ask.proofs.reading.answer_dump.Goals as goal
+use Rattle.bdb_tool_ask.proofs.AnswerLemmas.{readable_finishes, refused_finishes}
+use Rattle.bdb_tool_ask.proofs.reading.answer_dump.{Goals as goal}
 
 pub returns-in-Ok : goal.returns-in-Ok
 returns-in-Ok g c = λ name is.
@@ -9,4 +10,5 @@ returns-in-Ok g c = λ name is.
 
 pub returns-in-Err : goal.returns-in-Err
 returns-in-Err g c = λ name is.
-    refused_by c.args.rows c.in-Err.verdict (Dump name c.args.selection.now.print) c.args.image.now _ _ _ _ c.in-Err.ensures.refusal c.refuse.ensures
+    refused_finishes (faults_by_rows c.args.rows c.args.image.now) c.in-Err.error (Dump name c.args.selection.now.print) c.args.image.now _ _ _ _
+    c.in-Err.ensures.refusal c.refuse.ensures

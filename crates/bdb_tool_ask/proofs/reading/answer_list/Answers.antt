@@ -1,7 +1,8 @@
+use Rattle.bdb_file.specs.of_any_order.AnyOrder.{faults_by_rows}
 use Rattle.bdb_tool_words.specs.Commands.{ListAll}
-use Rattle.bdb_tool_ask.proofs.AnswerLemmas.{readable_finishes, refused_by}
+use Rattle.bdb_tool_ask.proofs.AnswerLemmas.{readable_finishes, refused_finishes}
 use Rattle.bdb_tool_dump.proofs.of_tool_lines.FinishLemmas.{written_finishes}
-use Rattle.bdb_tool_ask.proofs.reading.answer_list.Goals as goal
+use Rattle.bdb_tool_ask.proofs.reading.answer_list.{Goals as goal}
 
 pub returns-in-Ok : goal.returns-in-Ok
 returns-in-Ok g c =
@@ -9,4 +10,5 @@ returns-in-Ok g c =
     c.in-Ok.ensures.accepted c.in-Ok.ensures.readable
 
 pub returns-in-Err : goal.returns-in-Err
-returns-in-Err g c = refused_by c.args.rows c.in-Err.verdict ListAll c.args.image.now _ _ _ _ c.in-Err.ensures.refusal c.refuse.ensures
+returns-in-Err g c =
+    refused_finishes (faults_by_rows c.args.rows c.args.image.now) c.in-Err.error ListAll c.args.image.now _ _ _ _ c.in-Err.ensures.refusal c.refuse.ensures

@@ -1,10 +1,8 @@
-use Rattle.std.proofs.Common.{◌≡◌, ◌∙◌, ◌+◌, ap, arith, subst, sym}
+use Rattle.std.proofs.Common.{◌≡◌, ◌∙◌, ◌+◌, arith, subst, sym}
 use Rattle.std.specs.List.{flat_map, range_with_len}
 use Rattle.bdb_faults.specs.Notes.{NotesAll}
 use Rattle.bdb_faults.proofs.SinkLemmas.{notes_more, notes_none}
-use Rattle.bdb_overflow.specs.of_format.declared.metadata.Head.{Head}
 use Rattle.bdb_overflow.specs.of_format.File.{File, file_of}
-use Rattle.bdb_overflow.proofs.of_format.FileLemmas.{last_page}
 use Rattle.bdb_tree.specs.Noted.{held_sets}
 use Rattle.bdb_tree.proofs.NotedLemmas.{no_set_faults}
 use Rattle.bdb_tree.proofs.trees.note_all_sets.Goals as goal
@@ -26,7 +24,7 @@ pub returns : goal.returns
 returns g c =
     let file : File = file_of c.args.forest.now in
     let last : c.head-page-end.result.last ≡ file.last =
-    ap (λ (head : Head). head.last) c.head-page-end.ensures.head ∙ sym (last_page c.args.forest.now) in
+    c.head-page-end.ensures.last in
     let all : c.loop-page.page ≡ file.last + 1 = omega arith in
     subst (λ n. NotesAll (g.F.FaultSink.has_noted c.args.found.now) (g.F.FaultSink.has_noted c.loop-page.found)
     (flat_map (held_sets file) (range_with_len 0 n))) all c.loop-page.invariant

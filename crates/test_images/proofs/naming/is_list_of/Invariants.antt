@@ -1,7 +1,6 @@
 -- The lists are the same at the places that were passed.
-use Rattle.std.proofs.Common.{◌≡◌, ℕ, ◌<◌, map, slice_get}
-use Rattle.bdb_tree.specs.of_faults.Named.{judgement_seen}
+use Rattle.std.proofs.Common.{◌≡◌, ℕ, ◌<◌, slice_get}
 use Rattle.test_images.proofs.naming.is_list_of.Given as goal
 
 abbrev pub invariant-loop-i : goal.invariant-loop-i
-invariant-loop-i l = (k : ℕ) → k < l.i → slice_get l.list k ≡ slice_get (map judgement_seen l.named) k
+invariant-loop-i l = (k : ℕ) → k < l.i → slice_get l.list k ≡ slice_get l.faults k

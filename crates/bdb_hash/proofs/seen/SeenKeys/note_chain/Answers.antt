@@ -1,7 +1,7 @@
 use Rattle.std.proofs.Common.{◌≡◌, true, ap, subst, sym, ◌∙◌}
-use Rattle.bdb_faults.specs.Rows.{fault_at}
-use Rattle.bdb_faults.specs.declared.rows.ContentsRow.TheVariants.{KeyTwice}
-use Rattle.bdb_faults.specs.declared.rows.Row.TheVariants.{Contents}
+use Rattle.bdb_ranks.specs.of_format.RowCodes.{fault_at}
+use Rattle.bdb_ranks.specs.of_format.declared.rows.ContentsRow.TheVariants.{KeyTwice}
+use Rattle.bdb_ranks.specs.of_format.declared.rows.Row.TheVariants.{Contents}
 use Rattle.bdb_ranks.specs.of_overflow.Keys.{has_key}
 use Rattle.bdb_buckets.specs.Chained.{Seen, chain_value}
 use Rattle.bdb_buckets.proofs.ChainedLemmas.{among_inserted}

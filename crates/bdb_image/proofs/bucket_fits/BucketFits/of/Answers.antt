@@ -1,21 +1,19 @@
-use Rattle.std.proofs.Common.{◌≡◌, ◌∙◌, ap, arith, sym}
+use Rattle.std.proofs.Common.{◌≡◌, arith}
 use Rattle.bdb_faults.specs.of_format.File.{file_of}
-use Rattle.bdb_faults.specs.of_format.declared.metadata.Head.{Head}
-use Rattle.bdb_faults.proofs.of_format.FileLemmas.{last_page}
 use Rattle.bdb_image.proofs.bucket_fits.BucketFits.of.Goals as goal
 
 -- The page is there.
 pub row_of-row-requires : goal.row_of-row-requires
 row_of-row-requires c =
     let last : c.head.result.last ≡ (file_of c.args.formed.now).last =
-    ap (λ (head : Head). head.last) c.head.ensures.head ∙ sym (last_page c.args.formed.now) in
+    c.head.ensures.last in
     omega arith
 
 -- The last page is passed.
 pub returns : goal.returns
 returns c =
     let last : c.head.result.last ≡ (file_of c.args.formed.now).last =
-    ap (λ (head : Head). head.last) c.head.ensures.head ∙ sym (last_page c.args.formed.now) in
+    c.head.ensures.last in
     record {
       kinds = c.loop-page.invariant.of_type;
       backs = c.loop-page.invariant.of_back;

@@ -12,7 +12,7 @@ returns-in-Ok c =
     let there : c.args.number < length c.self.inside.image.now / c.self.inside.guess.page_size = c.if-number-self.false in
     let same : page_seen c.in-Ok.view ≡ page_at c.args.self.now c.args.number =
     sym (ap answer_page c.in-Ok.is) ∙ answer_is c.self.inside.guess.order c.self.inside.guess.page_size c.self.inside.image.now c.args.number
-    c.page_of-page.result.now c.u32_at-number.result c.form.result c.args.self.now (sym c.self.view_is) there c.page_of-page.ensures.bytes
+    c.page_bytes-page.result.now c.u32_at-number.result c.form.result c.args.self.now (sym c.self.view_is) there c.page_bytes-page.ensures.bytes
     c.u32_at-number.ensures c.form.ensures.page in
     record {
       page = same;
@@ -25,6 +25,6 @@ returns-in-Err c =
     let there : c.args.number < length c.self.inside.image.now / c.self.inside.guess.page_size = c.if-number-self.false in
     let same : NoType ≡ page_at c.args.self.now c.args.number =
     sym (ap answer_page c.in-Err.is) ∙ answer_is c.self.inside.guess.order c.self.inside.guess.page_size c.self.inside.image.now c.args.number
-    c.page_of-page.result.now c.u32_at-number.result c.form.result c.args.self.now (sym c.self.view_is) there c.page_of-page.ensures.bytes
+    c.page_bytes-page.result.now c.u32_at-number.result c.form.result c.args.self.now (sym c.self.view_is) there c.page_bytes-page.ensures.bytes
     c.u32_at-number.ensures c.form.ensures.page in
     record { page = same; short = omega arith }

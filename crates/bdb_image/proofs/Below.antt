@@ -1,3 +1,0 @@
--- What the tactics of this crate take from the crates below.
-pub use Rattle.bdb_faults.proofs.of_format.FileLemmas.{last_page}
-pub use Rattle.bdb_faults.proofs.of_format.SizeLemmas.{long_page}

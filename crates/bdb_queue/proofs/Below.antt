@@ -1,2 +1,0 @@
--- What the tactics of this crate take from the crates below.
-pub use Rattle.bdb_overflow.proofs.of_format.FileLemmas.{last_page}
