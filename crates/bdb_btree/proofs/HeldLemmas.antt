@@ -21,7 +21,7 @@ use Rattle.bdb_ranks.specs.of_overflow.Datum.{FitsContent}
 use Rattle.bdb_btree.specs.Held.{AreKeyed, FitsPassed, ItemPair, at_page, items_in, items_left, items_of, passed_seen, stored_as, tree_items}
 use Rattle.bdb_btree.specs.Pairs.{AreFit, AreLeaves, Each, FitsPair, left_of, stored_pair}
 use Rattle.bdb_btree.specs.Rows.{next_pair, no_pairs_passed, pair_faults}
-use Rattle.bdb_btree.specs.Runs.{Run, follow}
+use Rattle.bdb_btree.specs.Runs.{Ascent, follow}
 use Rattle.bdb_btree.specs.declared.pair_rows.Passed.{Passed as CodePassed}
 use Rattle.bdb_btree.specs.declared.pair_rows.Rules.{Rules}
 use Rattle.bdb_btree.proofs.RowLemmas.{PassedTo, pass_more, pass_none, tree_pairs_fit}
@@ -177,7 +177,7 @@ live_value : (file : File) (entry : Item) (rest : List Item) → entry.deleted �
 live_value file entry rest live = rw live refl
 
 -- one more entry, which is live
-pub set_more : (file : File) (run next whole : Run) (entry : Item) (rest entries : List Item) (value : List ℕ) → entries ≡ entry ∷ rest
+pub set_more : (file : File) (run next whole : Ascent) (entry : Item) (rest entries : List Item) (value : List ℕ) → entries ≡ entry ∷ rest
     → entry.deleted ≡ false → value ≡ value_of file entry.content → next ≡ follow run value → fold follow run (values_of file entries) ≡ whole
     → fold follow next (values_of file rest) ≡ whole
 set_more file run next whole entry rest entries value steps live value_is is so_far =
@@ -185,7 +185,7 @@ set_more file run next whole entry rest entries value steps live value_is is so_
     ∙ (sym (ap (fold follow run) (ap (values_of file) steps ∙ live_value file entry rest live)) ∙ so_far)
 
 -- or deleted
-pub set_passed : (file : File) (run whole : Run) (entry : Item) (rest entries : List Item) → entries ≡ entry ∷ rest → entry.deleted ≡ true
+pub set_passed : (file : File) (run whole : Ascent) (entry : Item) (rest entries : List Item) → entries ≡ entry ∷ rest → entry.deleted ≡ true
     → fold follow run (values_of file entries) ≡ whole → fold follow run (values_of file rest) ≡ whole
 set_passed file run whole entry rest entries steps deleted so_far =
     sym (ap (fold follow run) (ap (values_of file) steps ∙ deleted_value file entry rest deleted)) ∙ so_far

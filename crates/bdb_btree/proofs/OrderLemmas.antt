@@ -12,7 +12,7 @@ use Rattle.bdb_ranks.specs.of_format.Contents.{StoredPair}
 use Rattle.bdb_ranks.specs.of_format.ContentRows.{ascends, ascends_from, has_unsorted, is_out_of_order, is_unsorted, live_data, neighbours, neighbours_from}
 use Rattle.bdb_ranks.proofs.of_format.MemberLemmas.{member_cases, no_member}
 use Rattle.bdb_btree.specs.Rows.{Passed, has_wrong_order, next_pair, no_pairs_passed, passes}
-use Rattle.bdb_btree.specs.Runs.{KeyOrder, Run, follow, is_not_above, is_wrong_key, next_key}
+use Rattle.bdb_btree.specs.Runs.{KeyOrder, Ascent, follow, is_not_above, is_wrong_key, next_key}
 
 -- Keys.
 
@@ -82,7 +82,7 @@ abbrev pub SharesOnPage : ℕ → List StoredPair → Type 0
 SharesOnPage p pairs = Shares (λ (pair : StoredPair). pair.page) p pairs
 
 -- a run after some values
-abbrev run_over : Option (List ℕ) → List (List ℕ) → Run
+abbrev run_over : Option (List ℕ) → List (List ℕ) → Ascent
 run_over last values = fold follow (record { last = last; broken = false }) values
 
 run_on : (values : List (List ℕ)) (last : Option (List ℕ)) (broken : Bool)
@@ -166,7 +166,7 @@ marked_groups file q last [] p shares = grind (arith, nat_tests)
 marked_groups file q last (pair ∷ pairs) p shares =
     let here : List (List ℕ) = live_data file pair in
     let later : List (List ℕ) = shared_data file pairs in
-    let run : Run = run_over (begins last pair) here in
+    let run : Ascent = run_over (begins last pair) here in
     let at : Bool = pair.page == p in
     let rest : Bool = has_unsorted file pairs p in
     -- the data of this pair and of those after it that share its key are told at once

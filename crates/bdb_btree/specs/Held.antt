@@ -15,8 +15,8 @@ use Rattle.bdb_ranks.specs.of_overflow.Held.{FitsAny, value_held}
 use Rattle.bdb_btree.specs.Bounds.{Bounds, Ends}
 use Rattle.bdb_btree.specs.Pairs.{Each, left_of}
 use Rattle.bdb_btree.specs.Rows.{Passed}
-use Rattle.bdb_btree.specs.Runs.{KeyOrder, Run}
-use Rattle.bdb_btree.specs.declared.data_order.Run.{Run as CodeRun}
+use Rattle.bdb_btree.specs.Runs.{KeyOrder, Ascent}
+use Rattle.bdb_btree.specs.declared.data_order.Ascent.{Ascent as CodeAscent}
 use Rattle.bdb_btree.specs.declared.ends.Ends.{Ends as CodeEnds}
 use Rattle.bdb_btree.specs.declared.held.HeldPair.{HeldPair}
 use Rattle.bdb_btree.specs.declared.order.KeyOrder.{KeyOrder as CodeKeyOrder}
@@ -75,7 +75,7 @@ AreKeyed file pairs = Each (λ (pair : ItemPair). FitsContent file pair.key.cont
 abbrev pub keys_seen : File → CodeKeyOrder → KeyOrder
 keys_seen file keys = record { before = option_map (value_held file) keys.before; wrong = keys.wrong; ordered = keys.ordered }
 
-abbrev pub run_seen : File → CodeRun → Run
+abbrev pub run_seen : File → CodeAscent → Ascent
 run_seen file run = record { last = option_map (value_held file) run.last; broken = run.broken }
 
 abbrev pub passed_seen : File → CodePassed → Passed

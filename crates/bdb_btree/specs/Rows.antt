@@ -8,13 +8,13 @@ use Rattle.bdb_ranks.specs.of_format.declared.kinds.Fault.{Fault}
 use Rattle.bdb_ranks.specs.of_format.ContentRows.{is_duplicate, is_out_of_order, is_wrong_set, neighbours}
 use Rattle.bdb_ranks.specs.of_format.Contents.{StoredPair}
 use Rattle.bdb_ranks.specs.of_format.File.{File}
-use Rattle.bdb_btree.specs.Runs.{KeyOrder as KeysPassed, Run, next_data, next_key}
+use Rattle.bdb_btree.specs.Runs.{KeyOrder as KeysPassed, Ascent, next_data, next_key}
 use Rattle.bdb_btree.specs.declared.pair_rows.Rules.{Rules}
 
 -- what is kept of the pairs that have been gone through
 pub record Passed : Type 0 where
   pub keys : KeysPassed
-  pub values : Run
+  pub values : Ascent
 
 abbrev pub no_pairs_passed : Passed
 no_pairs_passed =

@@ -12,11 +12,11 @@ is_not_above None value = false
 is_not_above (Some before) value = not (less before value)
 
 -- the last value of a run, and whether some value wasn't above the one before it
-pub record Run : Type 0 where
+pub record Ascent : Type 0 where
   pub last : Option (List ℕ)
   pub broken : Bool
 
-abbrev pub follow : Run → List ℕ → Run
+abbrev pub follow : Ascent → List ℕ → Ascent
 follow run value = record { last = Some value; broken = run.broken || is_not_above run.last value }
 
 -- The keys of pairs.
@@ -41,8 +41,8 @@ next_key order pair = record {
 -- The data of pairs.
 
 -- a run goes on where a pair shares its key, else it begins anew
-abbrev pub run_at : Run → StoredPair → Run
+abbrev pub run_at : Ascent → StoredPair → Ascent
 run_at run pair = record { last = if pair.shares then run.last else None; broken = false }
 
-abbrev pub next_data : File → Run → StoredPair → Run
+abbrev pub next_data : File → Ascent → StoredPair → Ascent
 next_data file run pair = fold follow (run_at run pair) (live_data file pair)

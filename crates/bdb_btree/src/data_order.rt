@@ -19,12 +19,12 @@ use std::alloc::AllocError;
 
 /// Values that ought to ascend: the last one, and whether some value wasn't above the one before it.
 #[derive(Drop)]
-pub(crate) struct Run<'a> {
+pub(crate) struct Ascent<'a> {
     last: Option<Held<'a>>,
     broken: bool,
 }
 
-impl<'a> Run<'a> {
+impl<'a> Ascent<'a> {
     /// The next value. An error is want of memory.
     fn follow(&mut self, known: &mut Values<'a>, value: Held<'a>) -> Result<(), AllocError>
         requires last { FitsAny (file_of known.old) self.old.last }
@@ -42,12 +42,12 @@ impl<'a> Run<'a> {
     }
 }
 
-impl<'a> Run<'a> {
+impl<'a> Ascent<'a> {
     /// No value yet.
-    pub(crate) fn new() -> Run<'a>
+    pub(crate) fn new() -> Ascent<'a>
         ensures { result ≡ record { last = None; broken = false } }
     {
-        Run {
+        Ascent {
             last: None,
             broken: false,
         }
@@ -101,7 +101,7 @@ impl<'a> Run<'a> {
     }
 }
 
-impl<'a> Run<'a> {
+impl<'a> Ascent<'a> {
     /// The live data of the next pair: they have to ascend, and where it shares its key to follow those before. An error
     /// is want of memory.
     pub(crate) fn see(

@@ -11,7 +11,7 @@ ghost use Rattle.bdb_btree.specs.Held.{FitsPassed, pair_held, passed_seen, store
 ghost use Rattle.bdb_btree.specs.Pairs.{FitsPair};
 ghost use Rattle.bdb_btree.specs.Rows.{next_pair, no_pairs_passed, pair_faults, pairs_faults};
 
-use crate::data_order::Run;
+use crate::data_order::Ascent;
 use crate::duplicates::{is_duplicate, is_wrong_set};
 use crate::held::{HeldPair, tree_items};
 use crate::order::KeyOrder;
@@ -32,7 +32,7 @@ pub(crate) struct Rules {
 #[derive(Drop)]
 struct Passed<'a> {
     keys: KeyOrder<'a>,
-    values: Run<'a>,
+    values: Ascent<'a>,
 }
 
 /// Whether only another database may have a pair.
@@ -50,7 +50,7 @@ impl<'a> Passed<'a> {
     {
         Passed {
             keys: KeyOrder::new(),
-            values: Run::new(),
+            values: Ascent::new(),
         }
     }
 

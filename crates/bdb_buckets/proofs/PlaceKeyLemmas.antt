@@ -9,20 +9,20 @@ use Rattle.bdb_tree.specs.of_format.File.{file_of, page_at}
 use Rattle.bdb_tree.specs.of_format.Page.{Hash, Item, Listed}
 use Rattle.bdb_tree.specs.of_layout.declared.items.HashItem.{HashItem}
 use Rattle.bdb_tree.specs.of_layout.Seen.{hash_content_seen, hash_item_seen}
-use Rattle.bdb_buckets.specs.declared.place.Place.{Place}
+use Rattle.bdb_buckets.specs.declared.place.PairPlace.{PairPlace}
 use Rattle.bdb_buckets.specs.Places.{key_at, key_in}
 
-pub no_page : (image : List ℕ) (place : Place) → (file_of image).last < place.page → [] ≡ key_at image place
+pub no_page : (image : List ℕ) (place : PairPlace) → (file_of image).last < place.page → [] ≡ key_at image place
 no_page image place above =
     sym (ap (λ b. cond b [] (key_in (file_of image) (page_at (file_of image) place.page) place.index)) (lt-ltb (file_of image).last place.page above))
 
-pub on_page : (image : List ℕ) (place : Place) → place.page ≤ (file_of image).last
+pub on_page : (image : List ℕ) (place : PairPlace) → place.page ≤ (file_of image).last
     → key_at image place ≡ key_in (file_of image) (page_at (file_of image) place.page) place.index
 on_page image place low =
     ap (λ b. cond b [] (key_in (file_of image) (page_at (file_of image) place.page) place.index)) (le-ltb (file_of image).last place.page low)
 
 -- the key on a hash page
-pub key_here : (image : List ℕ) (place : Place) (page : Listed Item) (item : HashItem) (bytes : List ℕ) → place.page ≤ (file_of image).last
+pub key_here : (image : List ℕ) (place : PairPlace) (page : Listed Item) (item : HashItem) (bytes : List ℕ) → place.page ≤ (file_of image).last
     → page_at (file_of image) place.page ≡ Hash page
     → 2 * place.index + 1 < length page.items → slice_get page.items (2 * place.index) ≡ Some (hash_item_seen item)
     → bytes ≡ value_of (file_of image) (hash_content_seen item) → bytes ≡ key_at image place

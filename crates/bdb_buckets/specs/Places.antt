@@ -7,7 +7,7 @@ use Rattle.std.specs.declared.cmp.Ordering.{Ordering}
 use Rattle.bdb_tree.specs.of_form.Pairs.{PairOf}
 use Rattle.bdb_tree.specs.of_overflow.Datum.{FitsContent}
 use Rattle.bdb_tree.specs.of_overflow.Prefix.{AreBytes, prefix_of}
-use Rattle.bdb_buckets.specs.declared.place.Place.{Place}
+use Rattle.bdb_buckets.specs.declared.place.PairPlace.{PairPlace}
 use Rattle.bdb_buckets.specs.Told.{Told, told, told_pair}
 use Rattle.bdb_buckets.specs.Views.{IsPair, IsTable}
 use Rattle.bdb_tree.specs.of_format.Chains.{value_of}
@@ -56,48 +56,48 @@ AreGiven image p None = Unit {0}
 AreGiven image p (Some pairs) = AllByRecursion (IsGiven image p) pairs
 
 -- the pair at a place
-abbrev pub told_at : List ℕ → Place → Told
+abbrev pub told_at : List ℕ → PairPlace → Told
 told_at image place = told_on image place.page place.index
 
 -- a place is that of a pair, with the first bytes of its key
-pub record IsAt (place : Place) (t : Told) : Type 0 where
+pub record IsAt (place : PairPlace) (t : Told) : Type 0 where
   pub stands : StandsOn place.page place.index t
   pub first : place.first ≡ prefix_of 8 t.pair.key
   pub bytes : AreBytes 8 t.pair.key
 
 -- places are those of these pairs, one for each
-abbrev pub AreAt : List Place → List Told → Type 0
+abbrev pub AreAt : List PairPlace → List Told → Type 0
 AreAt [] [] = Unit {0}
 AreAt [] (t ∷ ts) = ⊥
 AreAt (place ∷ places) [] = ⊥
 AreAt (place ∷ places) (t ∷ ts) = IsAt place t × AreAt places ts
 
 -- the places of these pairs were added
-pub record Adds (old new : List Place) (pairs : List Told) : Type 0 where
+pub record Adds (old new : List PairPlace) (pairs : List Told) : Type 0 where
   pub after : (before : List Told) → AreAt old before → AreAt new (before ++ pairs)
 
 -- the places of all pairs but of those that are left were added
-pub record IsCollected (old new : List Place) (all left : List Told) : Type 0 where
+pub record IsCollected (old new : List PairPlace) (all left : List Told) : Type 0 where
   pub done : List Told
   pub whole : all ≡ done ++ left
   pub adds : Adds old new done
 
 -- places of pairs of one file
-pub record ArePlaces (image : List ℕ) (places : List Place) : Type 0 where
+pub record ArePlaces (image : List ℕ) (places : List PairPlace) : Type 0 where
   pub table : IsTable image
-  pub each : (place : Place) → Contains places place → IsAt place (told_at image place)
+  pub each : (place : PairPlace) → Contains places place → IsAt place (told_at image place)
 
 -- the key at any place, empty where no pair is
 abbrev pub key_in : File → Page → ℕ → List ℕ
 key_in file (Hash page) i = if nat_lt (2 * i + 1) (length page.items) then value_of file (item_at page (2 * i)).content else []
 key_in file page i = []
 
-abbrev pub key_at : List ℕ → Place → List ℕ
+abbrev pub key_at : List ℕ → PairPlace → List ℕ
 key_at image place = if nat_lt (file_of image).last place.page then [] else key_in (file_of image) (page_at (file_of image) place.page) place.index
 
 -- places compare by the first bytes of their keys, and where these are the same by the keys
-abbrev pub place_cmp : List ℕ → Place → Place → Ordering
+abbrev pub place_cmp : List ℕ → PairPlace → PairPlace → Ordering
 place_cmp image a b = ordering_then (nat_cmp a.first b.first) (slice_cmp nat_cmp (key_at image a) (key_at image b))
 
-abbrev pub place_less : List ℕ → Place → Place → Bool
+abbrev pub place_less : List ℕ → PairPlace → PairPlace → Bool
 place_less image a b = is_lt (place_cmp image a b)

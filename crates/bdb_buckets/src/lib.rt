@@ -18,5 +18,5 @@ pub use data::Data;
 pub use key::hash_of;
 pub use pair::Pair;
 pub use pairs::PagePairs;
-pub use place::{Place, compare_places};
+pub use place::{PairPlace, compare_places};
 pub use table::buckets;

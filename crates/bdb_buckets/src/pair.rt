@@ -13,7 +13,7 @@ ghost use Rattle.bdb_tree.specs.of_format.File.{file_of};
 ghost use Rattle.bdb_tree.specs.of_format.Page.{Inline, Tree};
 
 use crate::Data;
-use crate::place::Place;
+use crate::place::PairPlace;
 use bdb_tree::{Datum, Forest, HashItem, hash_datum, is_same, is_wrong_root, prefix};
 use std::marker::Model;
 
@@ -103,10 +103,10 @@ impl<'a> Pair<'a> {
     }
 
     /// Where it stands.
-    pub fn place(&self) -> Place
+    pub fn place(&self) -> PairPlace
         ensures { IsAt result self.now }
     {
-        Place {
+        PairPlace {
             first: prefix(&self.key),
             page: self.page,
             index: self.index,

@@ -9,14 +9,14 @@ use std::cmp::Ordering;
 
 /// Where a pair of a table stands, and the first eight bytes of its key as a number.
 #[derive(Drop)]
-pub struct Place {
+pub struct PairPlace {
     pub first: u64,
     pub page: u32,
     pub index: u16,
 }
 
 /// The key at any place, empty where no pair is.
-fn key_at<'a>(forest: &Forest<'a>, place: &Place) -> Datum<'a>
+fn key_at<'a>(forest: &Forest<'a>, place: &PairPlace) -> Datum<'a>
     requires { IsTable forest.now }
     ensures { datum_seen result ≡ key_at forest.now place.now }
 {
@@ -33,7 +33,7 @@ fn key_at<'a>(forest: &Forest<'a>, place: &Place) -> Datum<'a>
 
 /// The order of two places. Keys are read only where their first eight bytes are the same.
 #[tactic(auto, using(crate::proofs::Below::is_order))]
-pub fn compare_places(forest: &Forest<'_>, a: &Place, b: &Place) -> Ordering
+pub fn compare_places(forest: &Forest<'_>, a: &PairPlace, b: &PairPlace) -> Ordering
     requires { IsTable forest.now }
     ensures { result ≡ place_cmp forest.now a.now b.now }
 {

@@ -1,11 +1,11 @@
 //! Whether a tree can be built of a list, found by one pass from its end.
 
 ghost use Rattle.std.specs.Prelude.{◌≡◌, ◌+◌, ◌<◌, IsTrue, drop, get_or, length};
-ghost use Rattle.bdb_need.specs.of_text_format.Pairs.{number_of};
 ghost use Rattle.bdb_need.specs.of_text_format.Placed.{key_seen, pairs_of};
 ghost use Rattle.bdb_mktree.specs.Lists.{IsKeyFor, IsTreeList, IsPairFor, bytes_in, keyed_follow, may_follow};
 ghost use Rattle.bdb_building_tests.specs.Trees.{no_pair, one_seen};
 
+use bdb_mktree::number_of;
 use bdb_need::{KeyRef, Kind, PairRef, PairSlice, Settings};
 use test_lists::{Datum, is_less};
 
@@ -41,15 +41,6 @@ fn bytes_in(key: KeyRef<'_>) -> &[u8]
     match key {
         KeyRef::Bytes(key) => key,
         KeyRef::Number(_) => &[],
-    }
-}
-
-fn number_of(key: KeyRef<'_>) -> u32
-    ensures { result ≡ number_of (key_seen key.entry) }
-{
-    match key {
-        KeyRef::Bytes(_) => 0,
-        KeyRef::Number(number) => number,
     }
 }
 

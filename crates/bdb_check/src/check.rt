@@ -7,7 +7,7 @@ ghost use Rattle.bdb_recno.specs.of_format.File.{file_of};
 use crate::contents::note_contents;
 use crate::structure::note_structure;
 use bdb_any_order::Rows;
-use bdb_master::{Entry, master_entries, note_master};
+use bdb_master::{MasterEntry, master_entries, note_master};
 use bdb_recno::{FaultSink, Judge, Linked};
 use std::alloc::{AllocError, Global};
 
@@ -15,7 +15,7 @@ use std::alloc::{AllocError, Global};
 #[derive(Drop)]
 pub(crate) struct Checked<'a, F> {
     pub(crate) found: F,
-    pub(crate) entries: Vec<Entry<'a>>,
+    pub(crate) entries: Vec<MasterEntry<'a>>,
 }
 
 /// Notes the faults of the first of stages 6 to 8 that has any that count. An error is want of memory. While it runs it takes a byte
@@ -50,7 +50,7 @@ pub fn entries_by<'a, J: Judge + Drop>(
     alloc: Global,
     linked: &Linked<'a>,
     rows: Rows,
-) -> Result<Vec<Entry<'a>>, J::Refusal>
+) -> Result<Vec<MasterEntry<'a>>, J::Refusal>
     ensures entries { IfOk result (λ entries. entries.items ≡ master_entries (file_of linked.now)) }
     ensures accepted { OnOk result (stages_by rows (6 ∷ 7 ∷ []) linked.now ≡ []) }
     ensures refusal { IfErr result (J.refuses (stages_by rows (6 ∷ 7 ∷ []) linked.now)) }

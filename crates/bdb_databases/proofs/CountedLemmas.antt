@@ -51,8 +51,8 @@ few_in file (entry ∷ entries) =
 
 -- Entries that name pages of which each is named once name distinct pages.
 
-abbrev number_of : NamedPair → ℕ
-number_of entry = unwrap_or entry.names 0
+abbrev named_number : NamedPair → ℕ
+named_number entry = unwrap_or entry.names 0
 
 -- an entry names a page that no other one names
 record NamesOnce (entries : List NamedPair) (entry : NamedPair) : Type 0 where
@@ -83,11 +83,11 @@ two_name entry other entries p at here there =
     let some : kept.0 < length (entries_naming p entries) = kept.1 in
     rw (is_named entry p here) (omega arith)
 
-distinct : (entries : List NamedPair) → NameOnce entries entries → IsDistinct eqb (map number_of entries)
+distinct : (entries : List NamedPair) → NameOnce entries entries → IsDistinct eqb (map named_number entries)
 unfolding IsDistinct
 distinct [] once = tt
 distinct (entry ∷ entries) once = (
-  all_from (λ n. eqb (number_of entry) n ≡ false) (map number_of entries) apart,
+  all_from (λ n. eqb (named_number entry) n ≡ false) (map named_number entries) apart,
   distinct entries (λ other at. later other (once other (later_member entry entries other at))),
 )
   where
@@ -96,17 +96,17 @@ distinct (entry ∷ entries) once = (
         let few : length (entries_naming names.page (entry ∷ entries)) ≤ 1 = names.once in
         record { page = names.page; names_are = names.names_are; once = omega (arith, naming_rises names.page entry entries) }
 
-    apart : (n : ℕ) → Contains (map number_of entries) n → eqb (number_of entry) n ≡ false
+    apart : (n : ℕ) → Contains (map named_number entries) n → eqb (named_number entry) n ≡ false
     apart n at =
-        let found = of_map number_of entries n at in
+        let found = of_map named_number entries n at in
         let other : NamedPair = found.0 in
         let here : NamesOnce (entry ∷ entries) entry = once entry (first_member entry entries) in
         let there : NamesOnce (entry ∷ entries) other = once other (later_member entry entries other found.1) in
-        let p : number_of entry ≡ here.page = ap (λ names. unwrap_or names 0) here.names_are in
-        let q : number_of other ≡ there.page = ap (λ names. unwrap_or names 0) there.names_are in
-        let is : number_of other ≡ n = found.2 in
-        false_from_ne_true (eqb (number_of entry) n) (λ same.
-        let equal : number_of entry ≡ n = eqb-true (number_of entry) n same in
+        let p : named_number entry ≡ here.page = ap (λ names. unwrap_or names 0) here.names_are in
+        let q : named_number other ≡ there.page = ap (λ names. unwrap_or names 0) there.names_are in
+        let is : named_number other ≡ n = found.2 in
+        false_from_ne_true (eqb (named_number entry) n) (λ same.
+        let equal : named_number entry ≡ n = eqb-true (named_number entry) n same in
         let one : there.page ≡ here.page = omega arith in
         let two = two_name entry other entries here.page found.1 here.names_are (there.names_are ∙ ap (λ (k : ℕ). Some k) one) in
         omega (arith, two, here.once))
@@ -142,18 +142,18 @@ few_entries image forest none =
     let entries : List NamedPair = master_entries (file_of image) in
     omega (
       arith,
-      length-map entries number_of,
-      length-le_from_distinct_below (map number_of entries) ((file_of image).last + 1) (distinct entries (names_once image forest none)) below,
+      length-map entries named_number,
+      length-le_from_distinct_below (map named_number entries) ((file_of image).last + 1) (distinct entries (names_once image forest none)) below,
     )
   where
-    below : (q : ℕ) → list_any (eqb q) (map number_of (master_entries (file_of image))) ≡ true → q < (file_of image).last + 1
+    below : (q : ℕ) → list_any (eqb q) (map named_number (master_entries (file_of image))) ≡ true → q < (file_of image).last + 1
     below q passes =
-        let found = any_member (eqb q) (map number_of (master_entries (file_of image))) passes in
-        let entry = of_map number_of (master_entries (file_of image)) found.0 found.1 in
+        let found = any_member (eqb q) (map named_number (master_entries (file_of image))) passes in
+        let entry = of_map named_number (master_entries (file_of image)) found.0 found.1 in
         let names : NamesMeta (file_of image) entry.0 = entry_names (file_of image) entry.0 (master_inside image forest) none entry.1 in
         let inside : names.page ≤ (file_of image).last = kind_inside image names.page names.kind in
-        let number : number_of entry.0 ≡ names.page = ap (λ n. unwrap_or n 0) names.names_are in
-        let is : number_of entry.0 ≡ found.0 = entry.2 in
+        let number : named_number entry.0 ≡ names.page = ap (λ n. unwrap_or n 0) names.names_are in
+        let is : named_number entry.0 ≡ found.0 = entry.2 in
         let same : q ≡ found.0 = eqb-true q found.0 found.2 in
         omega arith
 

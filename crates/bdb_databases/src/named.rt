@@ -8,7 +8,7 @@ ghost use Rattle.std.specs.List.{flat_map};
 ghost use Rattle.bdb_recno.specs.of_format.File.{file_of};
 ghost use Rattle.bdb_recno.specs.of_format.Verdict.{master_faults, structure_faults};
 
-use bdb_master::{Entry, master_of};
+use bdb_master::{MasterEntry, master_of};
 use bdb_recno::{Bytes, Linked, Meta};
 use std::alloc::{AllocError, Global};
 use std::marker::Model;
@@ -80,7 +80,7 @@ fn push_entry(
     alloc: Global,
     databases: &mut Vec<NamedMeta>,
     linked: &Linked<'_>,
-    entry: &Entry<'_>,
+    entry: &MasterEntry<'_>,
 ) -> Result<(), AllocError>
     requires { ForSome entry.now.names (λ page. page ≤ (file_of linked.now).last) }
     ensures { OnOk result (databases.new.items ≡ databases.old.items ++ entry_database (file_of linked.now) entry.now) }
@@ -97,7 +97,7 @@ fn push_named(
     alloc: Global,
     databases: &mut Vec<NamedMeta>,
     linked: &Linked<'_>,
-    entries: &[Entry<'_>],
+    entries: &[MasterEntry<'_>],
 ) -> Result<(), AllocError>
     requires structure { structure_faults (file_of linked.now) ≡ [] }
     requires entries { entries.now ≡ master_entries (file_of linked.now) }
@@ -119,7 +119,7 @@ fn push_named(
 pub fn databases_of(
     alloc: Global,
     linked: &Linked<'_>,
-    entries: &[Entry<'_>],
+    entries: &[MasterEntry<'_>],
 ) -> Result<Vec<NamedMeta>, AllocError>
     requires structure { structure_faults (file_of linked.now) ≡ [] }
     requires entries { entries.now ≡ master_entries (file_of linked.now) }

@@ -1,5 +1,5 @@
 -- What a file is refused for by the faults of a stage: the first, or all of them. Source: docs/FORMAT.md, "Faults".
-use Rattle.std.proofs.Common.{subst, sym, ◌∙◌}
+use Rattle.std.proofs.Common.{arith, subst, sym, ◌∙◌}
 use Rattle.std.specs.Prelude.{◌≡◌, ◌<◌, Bool, true, false, List, [], ◌∷◌, length, Some}
 use Rattle.bdb_format.specs.declared.kinds.CheckError.{CheckError}
 use Rattle.bdb_format.specs.declared.kinds.CheckError.TheVariants.{Fault as CheckFault, Memory as CheckMemory}
@@ -47,7 +47,7 @@ is_all_memory (Faults all) = false
 is_all_memory AllMemory = true
 
 pub all_alike : (xs ys : List Fault) (error : AllError) → ((xs ≡ [] → ⊥) → ys ≡ xs) → IsAllOf xs error → IsAllOf ys error
-all_alike [] ys (Faults all) same is = absurd cc
+all_alike [] ys (Faults all) same is = absurd (omega (arith, is.0))
 all_alike (x ∷ xs) ys (Faults all) same is =
     let they : ys ≡ x ∷ xs = same (λ none. absurd cc) in
     (subst (λ (fs : List Fault). 0 < length fs) (sym they) is.0, is.1 ∙ sym they)

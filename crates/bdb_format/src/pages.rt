@@ -1,4 +1,5 @@
 ghost use Rattle.std.specs.Prelude.{◌≡◌, ◌==◌, ◌∷◌, [], if◌then◌else◌};
+ghost use Rattle.std.specs.List.{list_any};
 ghost use Rattle.bdb_format.specs.Reading.{page_type};
 ghost use Rattle.bdb_format.specs.References.{has_type};
 
@@ -92,12 +93,19 @@ impl PageType {
     }
 }
 
+/// Whether a type byte is one of these.
+fn is_one_of(types: &[u8], page_type: u8) -> bool
+    ensures { result ≡ list_any (λ type. type == page_type) types.now }
+{
+    types.iter().any(|one| *one == page_type)
+}
+
 /// Whether a page has a type, and one of these type bytes.
 pub fn has_type(types: &[u8], page_type: Option<u8>) -> bool
     ensures { result ≡ has_type types.now page_type }
 {
     match page_type {
-        Some(page_type) => types.iter().any(|one| *one == page_type),
+        Some(page_type) => is_one_of(types, page_type),
         None => false,
     }
 }

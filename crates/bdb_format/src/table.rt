@@ -245,7 +245,7 @@ impl Row {
     }
 
     /// What the table says of it.
-    #[tactic(auto, unfolding(bdb_format::specs::FaultNames::fault_name))]
+    #[tactic(auto, unfolding(crate::specs::FaultNames::fault_name))]
     pub fn entry(self) -> RowEntry
         ensures code { result.code ≡ row_code self }
         ensures name { result.name.now ≡ fault_name (row_stage self) (row_code self) }

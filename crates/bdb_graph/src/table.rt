@@ -10,7 +10,7 @@ ghost use Rattle.bdb_image.specs.of_format.References.{fit_code};
 use crate::Formed;
 use crate::leaps::{first_open, no_leaps};
 use crate::tally::{Tally, note_at};
-use bdb_image::{BucketFits, Buckets, Misfits, Run, Sort};
+use bdb_image::{BucketFits, BucketRun, Buckets, Misfits, Sort};
 use std::alloc::{AllocError, Global};
 
 /// What is known of the pages of a file as buckets: which fit, and leaps over those that have so many owners that no
@@ -103,7 +103,7 @@ fn tally_buckets(
 
 /// Adds references to a run of pages as buckets to the tallies of those that are there. Full pages are leapt over, so each
 /// page is noted twice at most, however many tables name it.
-fn note_run(tallies: &mut [Tally], leaps: &mut [u32], holder: u32, run: Run)
+fn note_run(tallies: &mut [Tally], leaps: &mut [u32], holder: u32, run: BucketRun)
     requires { HasLeaps tallies.old leaps.old }
     ensures leaps { HasLeaps tallies.new leaps.new }
     ensures tallies { (os : List Owner) (place : ℕ) → AreTallies tallies.old os

@@ -1,9 +1,9 @@
 ghost use Rattle.std.specs.Prelude.{◌≡◌, ◌++◌, IfOk, List};
 ghost use Rattle.std.specs.Iterator.{YieldsFirstBy, item_count};
 ghost use Rattle.std.specs.Vec.Iter.{into_iter_items};
-ghost use Rattle.bdb_buckets.specs.declared.place.Place.{Place as PlaceOf};
+ghost use Rattle.bdb_buckets.specs.declared.place.PairPlace.{PairPlace as PlaceOf};
 
-use bdb_buckets::{Forest, Head, Order, Place, u16_at};
+use bdb_buckets::{Forest, Head, Order, PairPlace, u16_at};
 use std::alloc::{AllocError, Global};
 use std::collections::VecDeque;
 use std::marker::Model;
@@ -17,8 +17,8 @@ const NEAR: usize = 32;
 pub(crate) struct Near<'a> {
     image: &'a [u8],
     head: Head,
-    near: VecDeque<Place>,
-    rest: IntoIter<Place>,
+    near: VecDeque<PairPlace>,
+    rest: IntoIter<PairPlace>,
     // What was read. Nothing asks for it.
     seen: u8,
 }
@@ -38,9 +38,9 @@ impl Drop for Near<'_> {
 impl<'a> Model for Near<'a> {
     ghost use Rattle.std.specs.Prelude.{◌++◌, List};
     ghost use Rattle.std.specs.Vec.Iter.{into_iter_items};
-    ghost use Rattle.bdb_buckets.specs.declared.place.Place.{Place};
+    ghost use Rattle.bdb_buckets.specs.declared.place.PairPlace.{PairPlace};
 
-    ghost Value = { List Place };
+    ghost Value = { List PairPlace };
 
     ghost view = { λ it. it.near.items ++ into_iter_items it.rest };
 }
@@ -50,7 +50,7 @@ impl<'a> Near<'a> {
     pub(crate) fn over(
         alloc: Global,
         forest: &Forest<'a>,
-        places: Vec<Place>,
+        places: Vec<PairPlace>,
     ) -> Result<Near<'a>, AllocError>
         ensures { IfOk result (λ near. near ≡ places.items) }
     {
@@ -74,7 +74,7 @@ fn byte_by(page: &[u8], order: Order, entry: usize) -> Option<u8> {
 }
 
 /// The sum of the page's type and of the first bytes of the key and the datum of the pair at a place.
-fn first_bytes(image: &[u8], head: &Head, place: &Place) -> Option<u8> {
+fn first_bytes(image: &[u8], head: &Head, place: &PairPlace) -> Option<u8> {
     let size = head.page_size as usize;
     let first = (place.page as usize).saturating_mul(size);
     let page = image.get(first..first.saturating_add(size))?;
@@ -87,8 +87,8 @@ fn first_bytes(image: &[u8], head: &Head, place: &Place) -> Option<u8> {
 
 /// Takes places as far as there is room for them, and answers what was read there.
 fn take_near(
-    near: &mut VecDeque<Place>,
-    rest: &mut IntoIter<Place>,
+    near: &mut VecDeque<PairPlace>,
+    rest: &mut IntoIter<PairPlace>,
     image: &[u8],
     head: &Head,
 ) -> u8
@@ -109,13 +109,13 @@ fn take_near(
 }
 
 impl<'a> Iterator for Near<'a> {
-    type Item = Place;
+    type Item = PairPlace;
 
     ghost next_gives = { YieldsFirstBy (λ (place : PlaceOf). place) (λ left. left) };
 
     ghost remaining = { item_count (λ left. left) };
 
-    fn next(&mut self) -> Option<Place> {
+    fn next(&mut self) -> Option<PairPlace> {
         if self.near.is_empty() {
             let seen = take_near(&mut self.near, &mut self.rest, self.image, &self.head);
             self.seen = self.seen.wrapping_add(seen);

@@ -5,7 +5,7 @@ ghost use Rattle.bdb_buckets.specs.Views.{IsTable};
 ghost use Rattle.bdb_buckets.specs.of_format.File.{file_of, page_at};
 
 use crate::near::Near;
-use bdb_buckets::{Forest, PageView, Pair, Place};
+use bdb_buckets::{Forest, PageView, Pair, PairPlace};
 use std::alloc::{AllocError, Global};
 use std::marker::Model;
 
@@ -33,7 +33,7 @@ impl<'a> Ranked<'a> {
     pub(crate) fn over(
         alloc: Global,
         forest: &Forest<'a>,
-        places: Vec<Place>,
+        places: Vec<PairPlace>,
     ) -> Result<Ranked<'a>, AllocError>
         requires { ArePlaces forest.now places.items }
         ensures { IfOk result (λ pairs. pairs ≡ map (told_at forest.now) places.items) }

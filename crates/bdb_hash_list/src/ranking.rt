@@ -13,7 +13,8 @@ ghost use Rattle.bdb_buckets.specs.of_format.Verdict.{structure_faults};
 use crate::Scan;
 use crate::ranked::Ranked;
 use bdb_buckets::{
-    BucketPages, Forest, HashMeta, Linked, PagePairs, Place, bucket_pages, buckets, compare_places,
+    BucketPages, Forest, HashMeta, Linked, PagePairs, PairPlace, bucket_pages, buckets,
+    compare_places,
 };
 use std::alloc::{AllocError, Global};
 
@@ -46,7 +47,7 @@ fn count_pairs(linked: &Linked<'_>, meta: &HashMeta) -> usize
 
 /// Adds the places of the pairs of a page.
 #[tactic(auto, using(crate::proofs::PlaceLemmas::all_collected, crate::proofs::PlaceLemmas::none_collected, crate::proofs::PlaceLemmas::one_collected))]
-fn push_page(places: &mut Vec<Place>, page: PagePairs<'_>) -> Result<(), AllocError>
+fn push_page(places: &mut Vec<PairPlace>, page: PagePairs<'_>) -> Result<(), AllocError>
     ensures { OnOk result (Adds places.old.items places.new.items page.entry) }
 {
     for pair in page {
@@ -57,7 +58,7 @@ fn push_page(places: &mut Vec<Place>, page: PagePairs<'_>) -> Result<(), AllocEr
 
 /// Adds the places of the pairs of the pages of a bucket.
 #[tactic(auto, using(crate::proofs::PlaceLemmas::all_collected, crate::proofs::PlaceLemmas::more_collected, crate::proofs::PlaceLemmas::none_collected))]
-fn push_bucket(places: &mut Vec<Place>, pages: BucketPages<'_>) -> Result<(), AllocError>
+fn push_bucket(places: &mut Vec<PairPlace>, pages: BucketPages<'_>) -> Result<(), AllocError>
     ensures { OnOk result (Adds places.old.items places.new.items (joined_pages pages.entry)) }
 {
     for page in pages {
@@ -73,7 +74,7 @@ fn table_places(
     alloc: Global,
     linked: &Linked<'_>,
     meta: &HashMeta,
-) -> Result<Vec<Place>, AllocError>
+) -> Result<Vec<PairPlace>, AllocError>
     requires meta { HasMetadata (file_of linked.now) (HashFields meta.now) }
     requires stage { structure_faults (file_of linked.now) ≡ [] }
     ensures places { IfOk result (λ places. AreAt places.items (table_told linked.now meta.now)) }
@@ -87,7 +88,7 @@ fn table_places(
 }
 
 /// Puts places into the order of their keys, and takes no memory.
-fn sort_places(forest: &Forest<'_>, places: &mut Vec<Place>)
+fn sort_places(forest: &Forest<'_>, places: &mut Vec<PairPlace>)
     requires { IsTable forest.now }
     ensures moved { IsPermutation places.old.items places.new.items }
     ensures sorted { IsSortedBy (place_less forest.now) places.new.items }

@@ -8,7 +8,7 @@ ghost use Rattle.bdb_faults.specs.of_format.File.{File, file_of};
 ghost use Rattle.bdb_faults.specs.of_format.References.{fit_code};
 
 use crate::Formed;
-use crate::buckets::Run;
+use crate::buckets::BucketRun;
 use crate::fits::{Misfits, misfit};
 use bdb_faults::{Reference, ReferenceRow, Sort};
 use bdb_meta::u32_at;
@@ -48,7 +48,7 @@ impl BucketFits {
 
     /// With which rows some of the references to a run of pages fail.
     #[tactic(auto, using(crate::proofs::BucketLemmas::run_misfits))]
-    pub fn misfits(&self, formed: &Formed<'_>, run: Run) -> Misfits
+    pub fn misfits(&self, formed: &Formed<'_>, run: BucketRun) -> Misfits
         requires fits { AreFits (file_of formed.now) self.now }
         requires some { 0 < run.len }
         ensures { (holder place : ℕ) → result ≡ misfits_of (fit_code (file_of formed.now) holder) (run_refs place run.first run.len) }
@@ -112,7 +112,7 @@ fn last_with(last: u32, page: u32, fails: bool) -> u32
 
 /// Whether one of the pages of a run fails so. Those above the last page fail otherwise.
 #[tactic(auto, using(crate::proofs::BucketLemmas::run_judged))]
-fn any_fails(lasts: &[u32], run: Run) -> bool
+fn any_fails(lasts: &[u32], run: BucketRun) -> bool
     requires { 0 < length lasts.now }
     ensures { (file : File) (code : ℕ) → length lasts.now ≡ file.last + 2 → code ≢ 1 → AreLasts file code lasts.now
         → result ≡ list_any (fails_as_bucket file code) (range_with_len run.first run.len) }

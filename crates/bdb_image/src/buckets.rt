@@ -5,12 +5,12 @@ use bdb_meta::{group_of, page_of};
 
 /// So many pages one after another, each as a bucket.
 #[derive(Clone, Copy)]
-pub struct Run {
+pub struct BucketRun {
     pub first: u64,
     pub len: u32,
 }
 
-impl Run {
+impl BucketRun {
     /// The page behind the last one.
     pub fn end(self) -> u64
         ensures { result ≡ min (self.first + self.len) (2 ^ 64 - 1) }
@@ -29,7 +29,7 @@ pub struct Buckets {
 impl Buckets {
     /// The pages of a bucket and of those behind it in its group, which are consecutive. So a table has 32 runs at most.
     #[tactic(auto, using(crate::proofs::BucketLemmas::in_group, crate::proofs::BucketLemmas::group_ends, crate::proofs::BucketLemmas::group_fits))]
-    pub fn run_from(&self, bucket: u32) -> Run
+    pub fn run_from(&self, bucket: u32) -> BucketRun
         requires few { self.now.max_bucket < 2 ^ 31 }
         requires there { bucket ≤ self.now.max_bucket }
         ensures some { 0 < result.len }
@@ -38,7 +38,7 @@ impl Buckets {
     {
         let group_end = 2_u32.pow(group_of(bucket));
         let end = group_end.min(self.max_bucket + 1);
-        Run {
+        BucketRun {
             first: page_of(bucket, &self.spares),
             len: end - bucket,
         }

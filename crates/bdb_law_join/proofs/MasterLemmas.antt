@@ -27,7 +27,7 @@ use Rattle.bdb_graph.proofs.of_format.RepeatLemmas.{repeated_after, repeated_is}
 use Rattle.bdb_graph.proofs.of_format.VerdictLemmas.{AllFail, all_fail, no_faults, none_holds}
 use Rattle.bdb_graph.proofs.of_format.FileLemmas.{last_page, page_is, pages_counted}
 use Rattle.bdb_law_join.specs.Joining.{AreJoined, HasForm, IsJoined, IsMetaOf, Joint}
-use Rattle.bdb_law_join.specs.Masters.{AreNamesApart, Entry, IsUnderMaster}
+use Rattle.bdb_law_join.specs.Masters.{AreNamesApart, MasterPair, IsUnderMaster}
 use Rattle.bdb_law_join.proofs.FirstLemmas.{first_flags, master_is_keyed}
 use Rattle.bdb_law_join.proofs.KnownLemmas.{IsKnown, pairs_known}
 use Rattle.bdb_law_join.proofs.RoleLemmas.{no_meta_inside}
@@ -35,7 +35,7 @@ use Rattle.bdb_law_join.proofs.SourceLemmas.{page_of_meta}
 use Rattle.bdb_law_join.proofs.StageLemmas.{fields_same}
 
 -- a pair of the master as an entry of its list
-abbrev pub entry_of : File → StoredPair → Entry
+abbrev pub entry_of : File → StoredPair → MasterPair
 entry_of file pair = (BytesKey pair.key, value_of file pair.data_item)
 
 abbrev is_live : StoredPair → Bool
@@ -97,11 +97,11 @@ all_known image root pair form at =
       | inr past ↦ absurd (no_member (pairs_in file p (page_at file p)) pair (ap (pairs_in file p) (get_or_past file.pages p NoType past)) found.2)
     ]
 
-keyed_master : (image : List ℕ) (joints : List Joint) (meta : BtreeMeta) (entries : List Entry) → IsJoined image joints
+keyed_master : (image : List ℕ) (joints : List Joint) (meta : BtreeMeta) (entries : List MasterPair) → IsJoined image joints
     → IsUnderMaster (file_of image) joints meta entries → is_recno meta ≡ false
 keyed_master image joints meta entries is under = grind (arith, page_is, master_is_keyed, first_flags)
 
-values : (image : List ℕ) (joints : List Joint) (meta : BtreeMeta) (entries : List Entry) (pair : StoredPair) → IsJoined image joints
+values : (image : List ℕ) (joints : List Joint) (meta : BtreeMeta) (entries : List MasterPair) (pair : StoredPair) → IsJoined image joints
     → IsUnderMaster (file_of image) joints meta entries → Contains (filter is_live (tree_pairs (file_of image) meta.root)) pair
     → IsValue (file_of image) pair
 values image joints meta entries pair is under at =
@@ -113,7 +113,7 @@ values image joints meta entries pair is under at =
 
 -- Its list.
 
-list_step : (file : File) (pair : StoredPair) (rest : List StoredPair) (others : List Entry) (b : Bool) → (b ≡ true → IsValue file pair)
+list_step : (file : File) (pair : StoredPair) (rest : List StoredPair) (others : List MasterPair) (b : Bool) → (b ≡ true → IsValue file pair)
     → others ≡ map (entry_of file) rest
     → cond b (map (λ value. (BytesKey pair.key, value)) (data_of file pair.data_item)) [] ++ others ≡ map (entry_of file) (cond b (pair ∷ rest) rest)
 list_step file pair rest others true value same =
@@ -140,7 +140,7 @@ unfolding master_pairs
 pairs_are file meta is master = ap (pairs_under file) (master_is file meta is master)
 
 -- the entries are those of the pairs
-pub entries_are : (image : List ℕ) (joints : List Joint) (meta : BtreeMeta) (entries : List Entry) → IsJoined image joints
+pub entries_are : (image : List ℕ) (joints : List Joint) (meta : BtreeMeta) (entries : List MasterPair) → IsJoined image joints
     → IsUnderMaster (file_of image) joints meta entries → entries ≡ map (entry_of (file_of image)) (master_pairs (file_of image))
 unfolding btree_list
 entries_are image joints meta entries is under = grind (arith, keyed_master, list_of_live, values, pairs_are)
@@ -161,7 +161,7 @@ abbrev pub Names : File → List Joint → StoredPair → Type 0
 Names file joints pair = (p : ℕ) × (named_by file pair.data_item ≡ Some p) × (1 ≤ p) × IsMetaOf joints p
 
 -- each pair of the master does
-pub pair_names : (image : List ℕ) (joints : List Joint) (meta : BtreeMeta) (entries : List Entry) (pair : StoredPair) → IsJoined image joints
+pub pair_names : (image : List ℕ) (joints : List Joint) (meta : BtreeMeta) (entries : List MasterPair) (pair : StoredPair) → IsJoined image joints
     → IsUnderMaster (file_of image) joints meta entries → Contains (master_pairs (file_of image)) pair → Names (file_of image) joints pair
 pair_names image joints meta entries pair is under at =
     let file : File = file_of image in
@@ -171,7 +171,7 @@ pair_names image joints meta entries pair is under at =
     let found = under.named.nothing_else (entry_of file pair) listed in
     (found.0, named_is file pair.data_item ∙ found.1, found.2, found.3)
 
-count_step : (b c : Bool) (pair : StoredPair) (pairs : List StoredPair) (entry : Entry) (entries : List Entry) → b ≡ c
+count_step : (b c : Bool) (pair : StoredPair) (pairs : List StoredPair) (entry : MasterPair) (entries : List MasterPair) → b ≡ c
     → length pairs ≡ length entries → length (cond b (pair ∷ pairs) pairs) ≡ length (cond c (entry ∷ entries) entries)
 count_step true true pair pairs entry entries same rest = omega (arith, rest)
 count_step true false pair pairs entry entries same rest = absurd cc
@@ -180,16 +180,16 @@ count_step false false pair pairs entry entries same rest = rest
 
 naming_count : (file : File) (p : ℕ) (pairs : List StoredPair)
     → length (filter (λ (pair : StoredPair). is_page (named_by file pair.data_item) p) pairs)
-    ≡ length (filter (λ (entry : Entry). is_page (page_named entry.1) p) (map (entry_of file) pairs))
+    ≡ length (filter (λ (entry : MasterPair). is_page (page_named entry.1) p) (map (entry_of file) pairs))
 naming_count file p [] = refl
 naming_count file p (pair ∷ pairs) =
     count_step _ _ pair _ (entry_of file pair) _ (ap (λ named. is_page named p) (named_is file pair.data_item)) (naming_count file p pairs)
 
-named_once : (image : List ℕ) (joints : List Joint) (meta : BtreeMeta) (entries : List Entry) (p : ℕ) → IsJoined image joints
+named_once : (image : List ℕ) (joints : List Joint) (meta : BtreeMeta) (entries : List MasterPair) (p : ℕ) → IsJoined image joints
     → IsUnderMaster (file_of image) joints meta entries → 1 ≤ p → IsMetaOf joints p → length (naming (file_of image) p) ≡ 1
 named_once image joints meta entries p is under above of =
     naming_count (file_of image) p (master_pairs (file_of image))
-    ∙ (ap (λ es. length (filter (λ (entry : Entry). is_page (page_named entry.1) p) es)) (sym (entries_are image joints meta entries is under))
+    ∙ (ap (λ es. length (filter (λ (entry : MasterPair). is_page (page_named entry.1) p) es)) (sym (entries_are image joints meta entries is under))
     ∙ under.named.once p above of)
 
 -- names apart aren't repeated
@@ -230,12 +230,12 @@ is_meta_of : (file : File) (joints : List Joint) (p : ℕ) → AreJoined file jo
 is_meta_of file joints p all (j, member, same) = ap is_meta (page_of_meta file joints j p all member same)
 
 -- a row on metadata pages above 0 fails where its test does for a page that is named once
-counted_row : (image : List ℕ) (joints : List Joint) (meta : BtreeMeta) (entries : List Entry) (p : ℕ) (test : ℕ → Bool) → IsJoined image joints
+counted_row : (image : List ℕ) (joints : List Joint) (meta : BtreeMeta) (entries : List MasterPair) (p : ℕ) (test : ℕ → Bool) → IsJoined image joints
     → IsUnderMaster (file_of image) joints meta entries → p ≤ (file_of image).last → test 1 ≡ false
     → (is_named_kind (file_of image) p && test (length (naming (file_of image) p))) ≡ false
 counted_row image joints meta entries p test is under high fails = grind (arith, cases_Bool, above_zero, named_once, meta_of, and_right, and_left)
 
-named_row : (image : List ℕ) (joints : List Joint) (meta : BtreeMeta) (entries : List Entry) (pair : StoredPair) → IsJoined image joints
+named_row : (image : List ℕ) (joints : List Joint) (meta : BtreeMeta) (entries : List MasterPair) (pair : StoredPair) → IsJoined image joints
     → IsUnderMaster (file_of image) joints meta entries → Contains (master_pairs (file_of image)) pair
     → (is_none (named_by (file_of image) pair.data_item) ≡ false) × (misses_target (file_of image) (named_by (file_of image) pair.data_item) ≡ false)
 named_row image joints meta entries pair is under at =
@@ -245,7 +245,7 @@ named_row image joints meta entries pair is under at =
       ap (misses_target file) found.1 ∙ ap not (of_named_kind file found.0 found.2 (is_meta_of file joints found.0 is.joined found.3)),
     )
 
-pub master_none : (image : List ℕ) (joints : List Joint) (meta : BtreeMeta) (entries : List Entry) → IsJoined image joints
+pub master_none : (image : List ℕ) (joints : List Joint) (meta : BtreeMeta) (entries : List MasterPair) → IsJoined image joints
     → IsUnderMaster (file_of image) joints meta entries → master_faults (file_of image) ≡ []
 unfolding master_faults
 master_none image joints meta entries is under =

@@ -11,22 +11,22 @@ use Rattle.bdb_graph.specs.of_format.Databases.{Database, databases}
 use Rattle.bdb_law_join.specs.Joining.{HoldsLists, IsJoined, IsMetaOf, Joint}
 
 -- an entry of the list of a master: a name, and the bytes that name a page
-abbrev pub Entry : Type 0
-Entry = ListKey × List ℕ
+abbrev pub MasterPair : Type 0
+MasterPair = ListKey × List ℕ
 
 -- no name stands twice
-abbrev pub AreNamesApart : List Entry → Type 0
+abbrev pub AreNamesApart : List MasterPair → Type 0
 AreNamesApart [] = Unit {0}
-AreNamesApart (entry ∷ entries) = ((other : Entry) → Contains entries other → is_key entry.0 other.0 ≡ false) × AreNamesApart entries
+AreNamesApart (entry ∷ entries) = ((other : MasterPair) → Contains entries other → is_key entry.0 other.0 ≡ false) × AreNamesApart entries
 
 -- entries name each metadata page above 0 once, and nothing else, under names of their own
-pub record NamesMetas (joints : List Joint) (entries : List Entry) : Type 0 where
-  pub nothing_else : (entry : Entry) → Contains entries entry → (p : ℕ) × (page_named entry.1 ≡ Some p) × (1 ≤ p) × IsMetaOf joints p
-  pub once : (p : ℕ) → 1 ≤ p → IsMetaOf joints p → length (filter (λ (entry : Entry). is_page (page_named entry.1) p) entries) ≡ 1
+pub record NamesMetas (joints : List Joint) (entries : List MasterPair) : Type 0 where
+  pub nothing_else : (entry : MasterPair) → Contains entries entry → (p : ℕ) × (page_named entry.1 ≡ Some p) × (1 ≤ p) × IsMetaOf joints p
+  pub once : (p : ℕ) → 1 ≤ p → IsMetaOf joints p → length (filter (λ (entry : MasterPair). is_page (page_named entry.1) p) entries) ≡ 1
   pub names : AreNamesApart entries
 
 -- page 0 is the metadata of a master, whose keys have one value each, and these are its entries
-pub record IsUnderMaster (file : File) (joints : List Joint) (meta : BtreeMeta) (entries : List Entry) : Type 0 where
+pub record IsUnderMaster (file : File) (joints : List Joint) (meta : BtreeMeta) (entries : List MasterPair) : Type 0 where
   pub is : page_at file 0 ≡ Meta (BtreeFields meta)
   pub master : names_databases meta ≡ true
   pub plain : has_duplicates (BtreeFields meta) ≡ false
@@ -34,7 +34,7 @@ pub record IsUnderMaster (file : File) (joints : List Joint) (meta : BtreeMeta) 
   pub named : NamesMetas joints entries
 
 -- a database with the name of an entry, and the fields of the joint whose metadata page the entry names
-pub record IsDatabase (joints : List Joint) (entry : Entry) (database : Database) : Type 0 where
+pub record IsDatabase (joints : List Joint) (entry : MasterPair) (database : Database) : Type 0 where
   pub joint : Joint
   pub at : Contains joints joint
   pub key : List ℕ
@@ -44,11 +44,11 @@ pub record IsDatabase (joints : List Joint) (entry : Entry) (database : Database
   pub fields : database.fields ≡ joint.part.fields
 
 -- the file is sound, each metadata page has the list of its part, and the databases are those that the entries name, in their order
-pub record IsSoundUnderMaster (image : List ℕ) (joints : List Joint) (entries : List Entry) : Type 0 where
+pub record IsSoundUnderMaster (image : List ℕ) (joints : List Joint) (entries : List MasterPair) : Type 0 where
   pub holds : HoldsLists image joints
   pub named : AllZip (IsDatabase joints) entries (databases (file_of image))
 
 abbrev pub JoinsAll : Type 0
 JoinsAll =
-    (image : List ℕ) (joints : List Joint) (meta : BtreeMeta) (entries : List Entry) → IsJoined image joints
+    (image : List ℕ) (joints : List Joint) (meta : BtreeMeta) (entries : List MasterPair) → IsJoined image joints
     → IsUnderMaster (file_of image) joints meta entries → IsSoundUnderMaster image joints entries

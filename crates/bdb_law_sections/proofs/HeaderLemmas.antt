@@ -20,29 +20,29 @@ use Rattle.std.proofs.lemmas.Bool.{and_parts, not-true, or_cases, or_parts, or_r
 use Rattle.bdb_text_format.specs.of_format.Databases.{is_name}
 use Rattle.bdb_text_format.specs.Reasons.{keyword_named, name_missing}
 use Rattle.bdb_text_format.specs.Sections.{entry_fits, fits, header_fits, keyword_fits, lines_fit}
-use Rattle.bdb_text_format.specs.Written.{Entry, holds_records}
+use Rattle.bdb_text_format.specs.Written.{HeaderLine, holds_records}
 use Rattle.bdb_law_sections.specs.Fit.{AreFitSettings}
 
 -- A value that a header gives fits its keyword.
 
-entry_there : (before : List Entry) (entry : Option Entry) → entry_fits before entry ≡ true
-    → (found : Entry) × (entry ≡ Some found) × (keyword_fits found (keyword_named found.name) ≡ true)
+entry_there : (before : List HeaderLine) (entry : Option HeaderLine) → entry_fits before entry ≡ true
+    → (found : HeaderLine) × (entry ≡ Some found) × (keyword_fits found (keyword_named found.name) ≡ true)
 entry_there before None is = absurd (cc is)
 entry_there before (Some entry) is =
     (entry, refl, (and_parts (is_none (given entry.name before)) (keyword_fits entry (keyword_named entry.name)) is).1)
 
-value_if : (name value : List ℕ) (entry : Entry) (others : Option (List ℕ)) (b : Bool) → b ≡ bytes_eq entry.name name
+value_if : (name value : List ℕ) (entry : HeaderLine) (others : Option (List ℕ)) (b : Bool) → b ≡ bytes_eq entry.name name
     → (if b then Some entry.value else others) ≡ Some value
     → keyword_fits entry (keyword_named entry.name) ≡ true
-    → (others ≡ Some value → (found : Entry) × (found.value ≡ value) × (bytes_eq found.name name ≡ true)
+    → (others ≡ Some value → (found : HeaderLine) × (found.value ≡ value) × (bytes_eq found.name name ≡ true)
     × (keyword_fits found (keyword_named found.name) ≡ true))
-    → (found : Entry) × (found.value ≡ value) × (bytes_eq found.name name ≡ true) × (keyword_fits found (keyword_named found.name) ≡ true)
+    → (found : HeaderLine) × (found.value ≡ value) × (bytes_eq found.name name ≡ true) × (keyword_fits found (keyword_named found.name) ≡ true)
 value_if name value entry others true is given_is fits rest = (entry, (let e : entry.value ≡ value = cc given_is in e), sym is, fits)
 value_if name value entry others false is given_is fits rest = rest given_is
 
 pub given_fits : (before lines : List (List ℕ)) (name value : List ℕ) → lines_fit before lines ≡ true
     → given name (entries lines) ≡ Some value
-    → (found : Entry) × (found.value ≡ value) × (bytes_eq found.name name ≡ true) × (keyword_fits found (keyword_named found.name) ≡ true)
+    → (found : HeaderLine) × (found.value ≡ value) × (bytes_eq found.name name ≡ true) × (keyword_fits found (keyword_named found.name) ≡ true)
 given_fits before [] name value fit is = absurd (cc is)
 given_fits before (line ∷ lines) name value fit is =
     let first = entry_there (entries before) (entry_of line)

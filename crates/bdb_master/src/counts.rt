@@ -7,7 +7,7 @@ ghost use Rattle.bdb_format.specs.Master.{is_page};
 ghost use Rattle.bdb_btree.specs.of_image.Linked.{IsForest};
 ghost use Rattle.bdb_format.specs.File.{file_of};
 
-use crate::entry::Entry;
+use crate::entry::MasterEntry;
 use crate::noting::note_given;
 use bdb_btree::{FaultSink, Linked};
 use bdb_format::{MasterRow, Named, Row};
@@ -36,7 +36,7 @@ fn count(counts: &mut Vec<u8>, names: Option<u32>)
 
 /// How many pairs of a master name each page below a number. An error is want of memory: a byte for each page.
 #[tactic(auto, using(crate::proofs::CountLemmas::none_counted, crate::proofs::CountLemmas::counted_more, crate::proofs::CountLemmas::all_counted))]
-fn counts_of(alloc: Global, pages: u32, entries: &[Entry<'_>]) -> Result<Vec<u8>, AllocError>
+fn counts_of(alloc: Global, pages: u32, entries: &[MasterEntry<'_>]) -> Result<Vec<u8>, AllocError>
     ensures { IfOk result (λ counts. AreCounts counts.items pages entries.now) }
 {
     let mut counts = vec![in alloc; 0; pages as usize]?;
@@ -62,7 +62,7 @@ fn count_fault(page: u32, count: u8) -> Option<Named>
 pub(crate) fn note_naming<F: FaultSink>(
     alloc: Global,
     linked: &Linked<'_>,
-    entries: &[Entry<'_>],
+    entries: &[MasterEntry<'_>],
     found: &mut F,
 ) -> Result<(), AllocError>
     ensures noted { OnOk result (NotesAll (F.has_noted found.old) (F.has_noted found.new) (by_naming (file_of linked.now) entries.now)) }

@@ -18,13 +18,13 @@ use std::marker::Model;
 
 /// A live pair of a master: its leaf, its key, and the page that it names, if it names one.
 #[derive(Drop)]
-pub struct Entry<'a> {
+pub struct MasterEntry<'a> {
     page: u32,
     key: Datum<'a>,
     names: Option<u32>,
 }
 
-impl<'a> Model for Entry<'a> {
+impl<'a> Model for MasterEntry<'a> {
     ghost use Rattle.bdb_master.specs.Entries.{NamedPair};
     ghost use Rattle.bdb_overflow.specs.Datum.{datum_seen};
 
@@ -33,13 +33,13 @@ impl<'a> Model for Entry<'a> {
     ghost view = { λ it. record { page = it.page; key = datum_seen it.key; names = it.names } };
 }
 
-impl<'a> Entry<'a> {
+impl<'a> MasterEntry<'a> {
     /// A live pair of a master, which names a page or none.
-    fn of(forest: &Forest<'a>, pair: &HeldPair<'a>, names: Option<u32>) -> Entry<'a>
+    fn of(forest: &Forest<'a>, pair: &HeldPair<'a>, names: Option<u32>) -> MasterEntry<'a>
         requires { FitsContent (file_of forest.now) (pair_held pair.now).key.content }
         ensures { result ≡ entry_of (file_of forest.now) names (pair_held pair.now) }
     {
-        Entry {
+        MasterEntry {
             page: pair.page,
             key: value_of(forest, &pair.key),
             names,
@@ -97,7 +97,7 @@ pub fn master_among(meta: Meta) -> Option<BtreeMeta>
 #[tactic(auto, using(crate::proofs::EntryLemmas::living_entries))]
 fn push_live<'a>(
     alloc: Global,
-    entries: &mut Vec<Entry<'a>>,
+    entries: &mut Vec<MasterEntry<'a>>,
     known: &mut NamedPages<'a>,
     pairs: HeldPairs<'a>,
 ) -> Result<(), AllocError>
@@ -109,7 +109,7 @@ fn push_live<'a>(
     for pair in pairs {
         if !is_deleted(&pair.value) {
             let names = known.named_by(alloc, &pair.value)?;
-            entries.push(Entry::of(&forest, &pair, names))?;
+            entries.push(MasterEntry::of(&forest, &pair, names))?;
         }
     }
     Ok(())
@@ -117,7 +117,10 @@ fn push_live<'a>(
 
 /// The live pairs of the master of a file, in order; none where it has no master. An error is want of memory.
 #[tactic(auto, using(crate::proofs::EntryLemmas::entries_of_master, crate::proofs::EntryLemmas::no_entries))]
-pub fn master_entries<'a>(alloc: Global, linked: &Linked<'a>) -> Result<Vec<Entry<'a>>, AllocError>
+pub fn master_entries<'a>(
+    alloc: Global,
+    linked: &Linked<'a>,
+) -> Result<Vec<MasterEntry<'a>>, AllocError>
     requires { structure_faults (file_of linked.now) ≡ [] }
     ensures { IfOk result (λ entries. entries.items ≡ master_entries (file_of linked.now)) }
 {

@@ -11,5 +11,5 @@ mod seen_names;
 mod targets;
 
 pub use bdb_btree::{Entries, Pair, next_entry, note_contents, page_pairs, pair_entries};
-pub use entry::{Entry, master_among, master_entries, master_of};
+pub use entry::{MasterEntry, master_among, master_entries, master_of};
 pub use master::note_master;

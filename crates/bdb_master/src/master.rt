@@ -5,7 +5,7 @@ ghost use Rattle.bdb_format.specs.File.{file_of};
 ghost use Rattle.bdb_format.specs.Verdict.{master_faults, structure_faults};
 
 use crate::counts::note_naming;
-use crate::entry::Entry;
+use crate::entry::MasterEntry;
 use crate::repeats::note_repeats;
 use crate::targets::note_targets;
 use bdb_btree::{FaultSink, Linked};
@@ -16,7 +16,7 @@ use std::alloc::{AllocError, Global};
 pub fn note_master<F: FaultSink>(
     alloc: Global,
     linked: &Linked<'_>,
-    entries: &[Entry<'_>],
+    entries: &[MasterEntry<'_>],
     found: &mut F,
 ) -> Result<(), AllocError>
     requires structure { structure_faults (file_of linked.now) ≡ [] }

@@ -8,7 +8,7 @@ ghost use Rattle.bdb_btree.specs.of_form.Seen.{page_seen};
 ghost use Rattle.bdb_format.specs.File.{file_of};
 ghost use Rattle.bdb_format.specs.Graph.{is_meta};
 
-use crate::entry::Entry;
+use crate::entry::MasterEntry;
 use crate::noting::note_given;
 use bdb_btree::{FaultSink, Linked, PageView};
 use bdb_format::{MasterRow, Named, Row};
@@ -45,7 +45,7 @@ fn target_fault(linked: &Linked<'_>, page: u32, names: Option<u32>) -> Option<Na
 /// Notes the master's pairs that name no metadata page above page 0.
 pub(crate) fn note_targets<F: FaultSink>(
     linked: &Linked<'_>,
-    entries: &[Entry<'_>],
+    entries: &[MasterEntry<'_>],
     found: &mut F,
 ) -> Result<(), AllocError>
     ensures { OnOk result (NotesAll (F.has_noted found.old) (F.has_noted found.new) (by_target (file_of linked.now) entries.now)) }

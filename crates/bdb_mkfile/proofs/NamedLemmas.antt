@@ -31,7 +31,7 @@ use Rattle.bdb_need.proofs.of_pack.CutLemmas.{all_size}
 use Rattle.bdb_need.proofs.of_pack.ImageLemmas.{counted_so_far}
 use Rattle.bdb_need.specs.of_law_join.Filed.{AreFiled, IsSpelled}
 use Rattle.bdb_need.specs.of_law_join.Joining.{IsInPartOf, IsJoined, IsMetaOf, Joint}
-use Rattle.bdb_need.specs.of_law_join.Masters.{Entry, IsDatabase, IsSoundUnderMaster, IsUnderMaster}
+use Rattle.bdb_need.specs.of_law_join.Masters.{MasterPair, IsDatabase, IsSoundUnderMaster, IsUnderMaster}
 use Rattle.bdb_need.specs.of_law_join.Written.{HasHead, SpellsMeta}
 use Rattle.bdb_need.proofs.of_law_join.FiledLemmas.{btrees_are_spelled, filed_parts_are_joined, has_head, later as filed_later, read_back}
 use Rattle.bdb_need.proofs.of_law_join.NamedLemmas.{joins_all}
@@ -117,7 +117,7 @@ pub record IsFilledIn (size : ℕ) (order : Order) (sections : List Section) (em
   pub image_is : image ≡ joined_pages after.pages
 
 -- buckets are as built in the databases where they are in the parts
-all_built : (g : File) (joints : List Joint) (entries : List Entry) (found : List Database)
+all_built : (g : File) (joints : List Joint) (entries : List MasterPair) (found : List Database)
     → ((j : Joint) → Contains joints j → HasBuiltTable g j.part.fields) → AllZip (IsDatabase joints) entries found
     → All (λ (database : Database). HasBuiltTable g database.fields) found
 all_built g joints [] [] each zip = All-nil (λ (database : Database). HasBuiltTable g database.fields)

@@ -22,7 +22,7 @@ use Rattle.bdb_io.proofs.of_format.SpellingLemmas.{length-spelled, number-spelle
 use Rattle.bdb_text_format.specs.declared.sections.Section.{Section}
 use Rattle.bdb_text_format.specs.Pairs.{listed}
 use Rattle.bdb_need.specs.of_law_join.Joining.{HoldsLists, IsMetaOf, Joint}
-use Rattle.bdb_need.specs.of_law_join.Masters.{AreNamesApart, Entry, IsDatabase}
+use Rattle.bdb_need.specs.of_law_join.Masters.{AreNamesApart, MasterPair, IsDatabase}
 use Rattle.bdb_need.proofs.of_mkleaves.UnitLemmas.{ascends_later}
 use Rattle.bdb_need.specs.Need.{name_in}
 use Rattle.bdb_mkfile.specs.NamedImages.{IsDatabaseOf, IsNamed}
@@ -39,11 +39,11 @@ spelled_named p small =
     ∙ ap (λ n. Some n) (number-spelled 4 Big p (omega (arith, small)))
 
 -- the entries that name a page
-abbrev naming : ℕ → List Entry → List Entry
-naming p entries = filter (λ (entry : Entry). is_page (page_named entry.1) p) entries
+abbrev naming : ℕ → List MasterPair → List MasterPair
+naming p entries = filter (λ (entry : MasterPair). is_page (page_named entry.1) p) entries
 
 -- an entry more
-naming_by : (b : Bool) (entry : Entry) (entries : List Entry) (p : ℕ) → is_page (page_named entry.1) p ≡ b
+naming_by : (b : Bool) (entry : MasterPair) (entries : List MasterPair) (p : ℕ) → is_page (page_named entry.1) p ≡ b
     → naming p (entry ∷ entries) ≡ cond b (entry ∷ naming p entries) (naming p entries)
 naming_by b entry entries p is = ap (λ c. cond c (entry ∷ naming p entries) (naming p entries)) is
 
@@ -57,7 +57,7 @@ none_named : (number p : ℕ) (sections : List Section) → number + length sect
 none_named number p [] few low = refl
 none_named number p (section ∷ sections) few low =
     let other : (number == p) ≡ false = ne_eqb number p (λ same. omega (arith, same, low)) in
-    let rest : List Entry = listed (entries_from (number + 1) sections) in
+    let rest : List MasterPair = listed (entries_from (number + 1) sections) in
     ap length (naming_by false (BytesKey (name_in section.name), spelled 4 Big number) rest p (names_own number p (omega (arith, few)) ∙ other))
     ∙ none_named (number + 1) p sections (omega (arith, few)) (omega (arith, low))
 
@@ -67,8 +67,8 @@ one_named : (number p : ℕ) (sections : List Section) → number + length secti
 one_named number p [] few low high = absurd (omega (arith, low, high))
 one_named number p (section ∷ sections) few low high =
     let small : number < 2 ^ 32 = omega (arith, few) in
-    let entry : Entry = (BytesKey (name_in section.name), spelled 4 Big number) in
-    let rest : List Entry = listed (entries_from (number + 1) sections) in
+    let entry : MasterPair = (BytesKey (name_in section.name), spelled 4 Big number) in
+    let rest : List MasterPair = listed (entries_from (number + 1) sections) in
     elim (cases_eq number p) [
       | inl same ↦
           ap length (naming_by true entry rest p (names_own number p small ∙ eq-eqb number p same))
@@ -97,7 +97,7 @@ joint_low size order number (section ∷ sections) (first ∷ joints) joint are 
     ]
 
 -- each entry names the metadata page of a section
-named_there : (size : ℕ) (order : Order) (number : ℕ) (sections : List Section) (joints : List Joint) (entry : Entry)
+named_there : (size : ℕ) (order : Order) (number : ℕ) (sections : List Section) (joints : List Joint) (entry : MasterPair)
     → number + length sections ≤ 2 ^ 32 → AreJointsFrom size order number sections joints → Contains (listed (entries_from number sections)) entry
     → (p : ℕ) × (page_named entry.1 ≡ Some p) × (number ≤ p) × IsMetaOf joints p
 named_there size order number [] joints entry few are at = absurd (no_member [] entry refl at)
@@ -107,7 +107,7 @@ named_there size order number (section ∷ sections) (first ∷ joints) entry fe
     elim (member_cases (BytesKey (name_in section.name), spelled 4 Big number) (listed (entries_from (number + 1) sections)) entry at) [
       | inl here ↦ (
         number,
-        ap (λ (e : Entry). page_named e.1) (sym here) ∙ spelled_named number (omega (arith, few)),
+        ap (λ (e : MasterPair). page_named e.1) (sym here) ∙ spelled_named number (omega (arith, few)),
         omega arith,
         (first, first_member first joints, own.meta),
       )
@@ -124,7 +124,7 @@ abbrev pub names_of : List Section → List (List ℕ)
 names_of sections = map (λ (section : Section). name_in section.name) sections
 
 -- the entries behind a name have others
-others_apart : (name low : List ℕ) (number : ℕ) (sections : List Section) (entry : Entry) → (low ≡ name) ⊎ Less name low
+others_apart : (name low : List ℕ) (number : ℕ) (sections : List Section) (entry : MasterPair) → (low ≡ name) ⊎ Less name low
     → ascends_from low (names_of sections) ≡ true → Contains (listed (entries_from number sections)) entry → is_key (BytesKey name) entry.0 ≡ false
 others_apart name low number [] entry above rise at = absurd (no_member [] entry refl at)
 others_apart name low number (section ∷ sections) entry above rise at =
@@ -136,7 +136,7 @@ others_apart name low number (section ∷ sections) entry above rise at =
     ] in
     elim (member_cases (BytesKey next, spelled 4 Big number) (listed (entries_from (number + 1) sections)) entry at) [
       | inl here ↦
-          ap (λ (e : Entry). is_key (BytesKey name) e.0) (sym here)
+          ap (λ (e : MasterPair). is_key (BytesKey name) e.0) (sym here)
           ∙ false_from_ne_true (bytes_eq name next) (λ same. not_less_same name (subst (Less name) (sym (eq_same name next same)) higher))
       | inr later ↦ others_apart name next (number + 1) sections entry (inr higher) parts.1 later
     ]

@@ -9,11 +9,11 @@ ghost use Rattle.bdb_mkhash.specs.Buckets.{bits_for, buckets_of, table_cost, tab
 ghost use Rattle.bdb_mkhash.specs.Units.{units_seen};
 
 use crate::unit::{Unit, keyed_cost};
-use bdb_mktree::{PairSlice, Run, bucket_of, hash5, run_at};
+use bdb_mktree::{KeyGroup, PairSlice, bucket_of, hash5, run_at};
 use std::alloc::{AllocError, Global};
 
 // A key of a list as it is stored.
-fn unit_of<'a>(run: &Run<'a>) -> Unit<'a>
+fn unit_of<'a>(run: &KeyGroup<'a>) -> Unit<'a>
     ensures key { result.key.now ≡ run.now.key.now }
     ensures values { values_seen result.values ≡ values_seen run.now.values }
 {

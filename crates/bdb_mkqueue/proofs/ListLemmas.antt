@@ -25,7 +25,7 @@ use Rattle.bdb_text_format.specs.declared.pairs.Key.TheVariants.{Bytes, Number}
 use Rattle.bdb_law_join.specs.of_pack.Built.{Built}
 use Rattle.bdb_law_join.proofs.of_pack.CutLemmas.{suc-times}
 use Rattle.bdb_mkqueue.specs.Building.{HasPages, HasRoom, IsQueueOn}
-use Rattle.bdb_mkqueue.specs.Layout.{page_of, queue_page, queue_size, record_of, records_page, slot_bytes, slot_of, slots_of}
+use Rattle.bdb_mkqueue.specs.Layout.{page_of_record, queue_page, queue_size, record_of, records_page, slot_bytes, slot_of, slots_of}
 use Rattle.bdb_mkqueue.specs.Lists.{first_number, next_number}
 use Rattle.bdb_mkqueue.proofs.NumberLemmas.{place_of, slot_low}
 use Rattle.bdb_mkqueue.proofs.PageLemmas.{AllFit, FitsSlot, OnPage, from_slot, records_stand, tail_of, zeros_stand}
@@ -247,10 +247,10 @@ size_enough k [] some is = omega arith
 size_enough k (x ∷ xs) some is =
     let n : ℕ = next_number (number_of x.key + 1) xs - 1 in
     let after : number_of x.key + 1 ≤ next_number (number_of x.key + 1) xs = next_low (number_of x.key + 1) xs is.1 in
-    let at : (page_of k n - 1) * k + 1 + slot_of k n ≡ n = place_of k n (omega (arith, after, is.0)) in
+    let at : (page_of_record k n - 1) * k + 1 + slot_of k n ≡ n = place_of k n (omega (arith, after, is.0)) in
     let low : slot_of k n < k = slot_low k n some in
-    let page : suc (page_of k n - 1) ≡ page_of k n = omega arith in
-    let whole : page_of k n * k ≡ k + (page_of k n - 1) * k = ap (λ q. q * k) (sym page) ∙ suc-times (page_of k n - 1) k in
+    let page : suc (page_of_record k n - 1) ≡ page_of_record k n = omega arith in
+    let whole : page_of_record k n * k ≡ k + (page_of_record k n - 1) * k = ap (λ q. q * k) (sym page) ∙ suc-times (page_of_record k n - 1) k in
     omega (arith, at, low, whole, after, is.0)
 
 -- in each file with these pages the queue has the list

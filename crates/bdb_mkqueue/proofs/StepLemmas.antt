@@ -22,7 +22,7 @@ use Rattle.bdb_law_join.specs.of_pack.Built.{AreWhole, Built, bytes_of, with_pag
 use Rattle.bdb_law_join.proofs.of_pack.CutLemmas.{suc-times, written_whole}
 use Rattle.bdb_law_join.proofs.of_pack.HeaderLemmas.{length-header}
 use Rattle.bdb_mkqueue.specs.Building.{HasRoom, IsQueueOn, KeepsFirst, reached, with_header, with_more, with_record}
-use Rattle.bdb_mkqueue.specs.Layout.{page_of, queue_page, queue_size, record_of, records_header, records_page, slot_of, slots_of}
+use Rattle.bdb_mkqueue.specs.Layout.{page_of_record, queue_page, queue_size, record_of, records_header, records_page, slot_of, slots_of}
 use Rattle.bdb_mkqueue.specs.Lists.{HasLength, next_number}
 use Rattle.bdb_mkqueue.proofs.ListLemmas.{slots_on}
 use Rattle.bdb_mkqueue.proofs.NumberLemmas.{place_of, slot_low}
@@ -163,7 +163,7 @@ reached_first built p above some = grind (arith, first_if, get_or-set_other, mor
 
 put_queue : (meta : QueueMeta) (done : List Pair) (pair : Pair) (mid : Built) (p : ℕ) → IsReady meta done mid p → HasRoom mid.size meta
     → AscendFrom 1 (done ++ (pair ∷ [])) → ((r : ℕ) (value : List ℕ) → record_of done r ≡ Some value → length value ≡ meta.re_len)
-    → length pair.value ≡ meta.re_len → p ≡ page_of meta.per_page (number_of pair.key)
+    → length pair.value ≡ meta.re_len → p ≡ page_of_record meta.per_page (number_of pair.key)
     → IsQueueOn meta (done ++ (pair ∷ [])) (with_record meta mid p (slot_of meta.per_page (number_of pair.key)) pair.value)
 put_queue meta done pair mid p is room ascend long own page_is =
     let k : ℕ = meta.per_page in
@@ -252,7 +252,7 @@ pub record IsPushed (meta : QueueMeta) (list : List Pair) (place : ℕ) (old : B
   pub on : IsQueueOn meta (take place list) old
 
 can_reach : (meta : QueueMeta) (list : List Pair) (place : ℕ) (old : Built) → IsPushed meta list place old
-    → CanReach meta (take place list) old (page_of meta.per_page (number_of (pair_at list place).key))
+    → CanReach meta (take place list) old (page_of_record meta.per_page (number_of (pair_at list place).key))
 can_reach meta list place old is =
     let done : List Pair = take place list in
     let both = ascend_both 1 done (pair_at list place ∷ []) (taken_ascend list place is.ascend is.there) in
@@ -274,10 +274,10 @@ number_some list place is low =
 -- its page is reached
 pub page_there : (meta : QueueMeta) (list : List Pair) (place : ℕ) (old mid : Built) (page : ℕ)
     → IsPushed meta list place old
-    → page ≡ page_of meta.per_page (number_of (pair_at list place).key) → mid ≡ reached old page → page < length mid.pages
+    → page ≡ page_of_record meta.per_page (number_of (pair_at list place).key) → mid ≡ reached old page → page < length mid.pages
 page_there meta list place old mid page is page_is reached_is =
     let k : ℕ = meta.per_page in
-    let p : ℕ = page_of k (number_of (pair_at list place).key) in
+    let p : ℕ = page_of_record k (number_of (pair_at list place).key) in
     let all : IsReady meta (take place list) (reached old p) p = ready meta (take place list) old p (can_reach meta list place old is) in
     let count : length mid.pages ≡ 1 + p = ap (λ (b : Built). length b.pages) (reached_is ∙ ap (reached old) page_is) ∙ all.count in
     omega (arith, count, page_is)
@@ -293,7 +293,7 @@ slot_room meta list place old mid page slot value is reached_is slot_is value_is
 
 -- then it is put there
 pub pushed : (meta : QueueMeta) (list : List Pair) (place : ℕ) (old mid new : Built) (page slot : ℕ) (value : List ℕ)
-    → IsPushed meta list place old → page ≡ page_of meta.per_page (number_of (pair_at list place).key)
+    → IsPushed meta list place old → page ≡ page_of_record meta.per_page (number_of (pair_at list place).key)
     → slot ≡ slot_of meta.per_page (number_of (pair_at list place).key) → value ≡ (pair_at list place).value → mid ≡ reached old page
     → new ≡ with_record meta mid page slot value → IsQueueOn meta (take (place + 1) list) new × KeepsFirst old new
 pushed meta list place old mid new page slot value is page_is slot_is value_is reached_is new_is =
@@ -301,7 +301,7 @@ pushed meta list place old mid new page slot value is page_is slot_is value_is r
     let done : List Pair = take place list in
     let pair : Pair = pair_at list place in
     let n : ℕ = number_of pair.key in
-    let p : ℕ = page_of k n in
+    let p : ℕ = page_of_record k n in
     let can : CanReach meta done old p = can_reach meta list place old is in
     let there : Built = reached old p in
     let all : IsReady meta done there p = ready meta done old p can in

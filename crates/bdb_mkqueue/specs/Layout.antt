@@ -23,8 +23,8 @@ queue_meta settings list = record {
 }
 
 -- the page of a record, where a page has so many, and its slot there
-abbrev pub page_of : ℕ → ℕ → ℕ
-page_of per_page number = 1 + (number - 1) / per_page
+abbrev pub page_of_record : ℕ → ℕ → ℕ
+page_of_record per_page number = 1 + (number - 1) / per_page
 
 abbrev pub slot_of : ℕ → ℕ → ℕ
 slot_of per_page number = (number - 1) % per_page
@@ -32,7 +32,7 @@ slot_of per_page number = (number - 1) % per_page
 -- how many pages a queue has: up to that of the greatest record, none where it is empty
 abbrev pub queue_size : ℕ → List Pair → ℕ
 queue_size per_page [] = 0
-queue_size per_page (pair ∷ pairs) = page_of per_page (next_number 1 (pair ∷ pairs) - 1)
+queue_size per_page (pair ∷ pairs) = page_of_record per_page (next_number 1 (pair ∷ pairs) - 1)
 
 -- the value of the record with a number
 abbrev pub record_of : List Pair → ℕ → Option (List ℕ)

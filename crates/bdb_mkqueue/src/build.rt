@@ -7,9 +7,9 @@ ghost use Rattle.bdb_text_format.specs.Pairs.{AscendFrom};
 ghost use Rattle.bdb_text_format.specs.Placed.{pairs_of, slice_seen};
 ghost use Rattle.bdb_mkqueue.specs.Lists.{HasLength, HasNext, IsQueueList, first_number, next_number};
 
-use crate::records::{number_of, page_of, put_record, slot_of};
+use crate::records::{page_of_record, put_record, slot_of};
 use bdb_law_join::{Pages, put_header, records_per_page};
-use bdb_text_format::{Header, PageType, PairSlice, QueueMeta, Settings};
+use bdb_text_format::{Header, PageType, PairSlice, QueueMeta, Settings, number_of};
 use std::alloc::AllocError;
 
 // The longest file that is read has no more pages.
@@ -86,7 +86,7 @@ fn push_record(
 {
     let pair = list.at(place);
     let number = number_of(pair.key);
-    let page = page_of(meta, number);
+    let page = page_of_record(meta, number);
     reach_page(pages, page)?;
     let slot = slot_of(meta, number);
     write_record(pages, meta, page, slot, pair.value);

@@ -1,32 +1,20 @@
 ghost use Rattle.std.specs.Prelude.{◌≡◌, ◌+◌, ◌*◌, ◌<◌, ◌≤◌, ◌^◌, ◌∷◌, length};
 ghost use Rattle.bdb_text_format.specs.of_format.Numbers.{overwritten, pad4};
-ghost use Rattle.bdb_mkqueue.specs.Layout.{page_of, slot_of};
-ghost use Rattle.bdb_text_format.specs.Pairs.{number_of};
-ghost use Rattle.bdb_text_format.specs.Placed.{key_seen};
+ghost use Rattle.bdb_mkqueue.specs.Layout.{page_of_record, slot_of};
 
 use bdb_law_join::slot_size;
-use bdb_text_format::{KeyRef, QueueMeta};
+use bdb_text_format::QueueMeta;
 
 // What the first byte of a slot says of its record. Readers ask for the first bit alone; some tools of the original look for the second one.
 const VALID: u8 = 0x01;
 
 const SET: u8 = 0x02;
 
-/// The number of a record.
-pub(crate) fn number_of(key: KeyRef<'_>) -> u32
-    ensures { result ≡ number_of (key_seen key.entry) }
-{
-    match key {
-        KeyRef::Bytes(_) => 0,
-        KeyRef::Number(number) => number,
-    }
-}
-
 /// The page of a record.
-pub(crate) fn page_of(meta: &QueueMeta, number: u32) -> u32
+pub(crate) fn page_of_record(meta: &QueueMeta, number: u32) -> u32
     requires number { 1 ≤ number }
     requires some { 1 ≤ meta.now.per_page }
-    ensures { result ≡ page_of meta.now.per_page number }
+    ensures { result ≡ page_of_record meta.now.per_page number }
 {
     1 + (number - 1) / meta.per_page
 }

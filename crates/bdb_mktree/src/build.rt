@@ -1,7 +1,7 @@
 ghost use Rattle.std.specs.Prelude.{◌≡◌, ◌≤◌, ◌<◌, [], IfOk, drop, length};
 ghost use Rattle.std.specs.List.{All};
-ghost use Rattle.bdb_text_format.specs.Pairs.{AscendFrom, listed, number_of};
-ghost use Rattle.bdb_text_format.specs.Placed.{key_seen, pairs_of, slice_seen};
+ghost use Rattle.bdb_text_format.specs.Pairs.{AscendFrom, listed};
+ghost use Rattle.bdb_text_format.specs.Placed.{pairs_of, slice_seen};
 ghost use Rattle.bdb_mktree.specs.Building.{ArePushed, CanBePushed, IsTreeBuilt};
 ghost use Rattle.bdb_mktree.specs.Lists.{AreKeysOf, HasBytes, IsTreeList, IsRecordAt, keyed_units, record_units, units_in};
 ghost use Rattle.bdb_mktree.specs.Units.{IsTreeKind, unit_seen};
@@ -9,7 +9,7 @@ ghost use Rattle.bdb_mktree.specs.Units.{IsTreeKind, unit_seen};
 use crate::runs::run_at;
 use crate::{TreeBuilder, Unit};
 use bdb_mkleaves::Pages;
-use bdb_text_format::{KeyRef, Kind, PairSlice, Settings};
+use bdb_text_format::{Kind, PairSlice, Settings, number_of};
 use std::alloc::{AllocError, Global};
 
 /// A record of a list, and the place of the next one to come.
@@ -40,16 +40,6 @@ fn push_keys(
         start = run.end;
     }
     Ok(())
-}
-
-// The number of a record.
-fn number_of(key: KeyRef<'_>) -> u32
-    ensures { result ≡ number_of (key_seen key.entry) }
-{
-    match key {
-        KeyRef::Bytes(_) => 0,
-        KeyRef::Number(number) => number,
-    }
 }
 
 // The record with a number: that of the pair at a place, or a missing one before it.

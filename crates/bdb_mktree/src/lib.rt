@@ -13,9 +13,9 @@ pub use bdb_mkleaves::{
 pub use bdb_text_format::{
     BtreeMeta, Bytes, HashMeta, Header, KeyRef, Kind, Order, PageType, PairRef, PairSlice, Place,
     PlacedKey, PlacedPairs, Section, Sections, Settings, Span, TextPairs, Values, are_one, key_at,
-    plain_settings,
+    number_of, plain_settings,
 };
 pub use build::build_tree;
 pub use builder::TreeBuilder;
-pub use runs::{Run, run_at};
+pub use runs::{KeyGroup, run_at};
 pub use unit::Unit;

@@ -42,7 +42,7 @@ fn run_length(list: PairSlice<'_>, key: &[u8]) -> usize
 
 /// A key with all its data, and the place behind its pairs.
 #[derive(Clone, Copy)]
-pub struct Run<'a> {
+pub struct KeyGroup<'a> {
     /// The key, once for all data.
     pub key: &'a [u8],
     /// The data, in the order of the list: one at least.
@@ -52,7 +52,7 @@ pub struct Run<'a> {
 }
 
 /// The key at a place of a list, with all its data.
-pub fn run_at<'a>(list: PairSlice<'a>, start: usize) -> Run<'a>
+pub fn run_at<'a>(list: PairSlice<'a>, start: usize) -> KeyGroup<'a>
     requires keys { All (λ pair. HasBytes pair.key) (pairs_of list) }
     requires more { start < length (slice_seen list) }
     ensures { IsRunAt (pairs_of list.entry) start (KeyedUnit result.key.now (values_seen result.values)) result.end }
@@ -62,7 +62,7 @@ pub fn run_at<'a>(list: PairSlice<'a>, start: usize) -> Run<'a>
     };
     let (_, rest) = list.split_at(start);
     let (run, behind) = rest.split_at(run_length(rest, key));
-    Run {
+    KeyGroup {
         key,
         values: run.values(),
         end: list.len() - behind.len(),

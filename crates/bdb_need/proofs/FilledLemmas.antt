@@ -10,7 +10,7 @@ use Rattle.bdb_mkhash.specs.of_format.declared.kinds.Kind.{Kind}
 use Rattle.bdb_mkhash.specs.of_format.declared.kinds.Kind.TheVariants.{Btree, Recno, Hash, Queue}
 use Rattle.bdb_mkhash.specs.of_format.declared.settings.Settings.{Settings}
 use Rattle.bdb_mkhash.specs.of_mkleaves.Runs.{IsShort}
-use Rattle.bdb_mkqueue.specs.Layout.{page_of, queue_size}
+use Rattle.bdb_mkqueue.specs.Layout.{page_of_record, queue_size}
 use Rattle.bdb_mkqueue.specs.Lists.{next_number}
 use Rattle.bdb_need.proofs.SectionLemmas.{filled_before}
 use Rattle.bdb_need.specs.TreePages.{unlined_pairs, tree_pages}
@@ -47,7 +47,7 @@ next_filled settings least (pair ∷ pairs) = next_filled settings (number_of pa
 pub queue_filled : (settings : Settings) (per_page : ℕ) (pairs : List TextPair)
     → queue_size per_page (unlined_pairs (filled_pairs settings pairs)) ≡ queue_size per_page (unlined_pairs pairs)
 queue_filled settings per_page [] = refl
-queue_filled settings per_page (pair ∷ pairs) = ap (λ n. page_of per_page (n - 1)) (next_filled settings 1 (pair ∷ pairs))
+queue_filled settings per_page (pair ∷ pairs) = ap (λ n. page_of_record per_page (n - 1)) (next_filled settings 1 (pair ∷ pairs))
 
 -- Sections with lists of their kinds.
 

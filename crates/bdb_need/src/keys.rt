@@ -13,7 +13,7 @@ ghost use Rattle.bdb_mkhash.specs.of_mktree.Units.{IsShortUnit};
 use crate::costs::{chain_pages, key_item_cost, page_room, value_cost};
 use crate::data::{data_chains, data_cost, data_pages};
 use crate::keyed_leaves::KeyedLeaves;
-use bdb_mkhash::{PairSlice, Run, run_at};
+use bdb_mkhash::{KeyGroup, PairSlice, run_at};
 use std::alloc::{AllocError, Global};
 
 /// What a key with its data takes of its leaf.
@@ -25,7 +25,7 @@ struct Taken {
 }
 
 // What a key takes of its leaf: with all its data, or with the root of their tree where they would take too much.
-fn taken_by(run: &Run<'_>, size: usize) -> Taken
+fn taken_by(run: &KeyGroup<'_>, size: usize) -> Taken
     requires { IsTrue (is_page_size size) }
     ensures cost { result.cost ≡ unit_cost size (KeyedUnit run.now.key.now (values_seen run.now.values)) }
     ensures tree { result.has_tree ≡ has_own_tree size run.now.key.now (values_seen run.now.values) }
@@ -49,7 +49,7 @@ fn taken_by(run: &Run<'_>, size: usize) -> Taken
 // The pages of its own: the chains of the key and its data, and the tree of the data where there is one.
 fn own_pages(
     alloc: Global,
-    run: &Run<'_>,
+    run: &KeyGroup<'_>,
     size: usize,
     sorted: bool,
     has_tree: bool,

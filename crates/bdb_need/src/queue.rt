@@ -3,22 +3,11 @@ ghost use Rattle.bdb_mkhash.specs.of_format.HeadOf.{is_page_size};
 ghost use Rattle.bdb_mkhash.specs.of_format.Numbers.{pad4};
 ghost use Rattle.bdb_mkhash.specs.of_format.Rows.{records_per_page};
 ghost use Rattle.bdb_mkqueue.specs.Layout.{queue_size};
-ghost use Rattle.bdb_mkhash.specs.of_text_format.Pairs.{AscendFrom, number_of};
-ghost use Rattle.bdb_mkhash.specs.of_text_format.Placed.{key_seen};
+ghost use Rattle.bdb_mkhash.specs.of_text_format.Pairs.{AscendFrom};
 ghost use Rattle.bdb_need.specs.TreePages.{unlined_pairs};
 
-use bdb_mkhash::{KeyRef, Settings, TextPairs, records_per_page};
-
-// The number of a record.
-fn number_of(key: KeyRef<'_>) -> u64
-    ensures number { result ≡ number_of (key_seen key.entry) }
-    ensures few { result < 2 ^ 32 }
-{
-    match key {
-        KeyRef::Bytes(_) => 0,
-        KeyRef::Number(number) => u64::from(number),
-    }
-}
+use crate::records::number_of;
+use bdb_mkhash::{Settings, TextPairs, records_per_page};
 
 /// How many pages the queue of a list has, its metadata not counted: those up to the page of its greatest record.
 pub fn queue_pages(settings: &Settings, list: &TextPairs) -> u64

@@ -19,8 +19,8 @@ use bdb_settle::filled_len;
 // What a missing record takes of a leaf: an entry, and a deleted item without bytes.
 const MISSING_COST: usize = 6;
 
-// The number of a record.
-fn number_of(key: KeyRef<'_>) -> u64
+/// The number of a record; 0 of a key that is bytes.
+pub(crate) fn number_of(key: KeyRef<'_>) -> u64
     ensures number { result ≡ number_of (key_seen key.entry) }
     ensures few { result < 2 ^ 32 }
 {

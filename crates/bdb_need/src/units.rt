@@ -9,7 +9,7 @@ ghost use Rattle.bdb_need.specs.Counts.{keyed, set_or_none};
 
 use crate::costs::chain_pages;
 use crate::data::{data_chains, data_pages};
-use bdb_mkhash::{Run, Values};
+use bdb_mkhash::{KeyGroup, Values};
 use std::alloc::{AllocError, Global};
 
 // What the item of a tree of data takes of a page, with its entry.
@@ -88,7 +88,7 @@ fn data_own_pages(
 }
 
 /// What a key with its data takes of a page.
-pub(crate) fn keyed_cost(size: usize, run: &Run<'_>) -> usize
+pub(crate) fn keyed_cost(size: usize, run: &KeyGroup<'_>) -> usize
     requires legal { IsTrue (is_page_size size) }
     requires some { 0 < length (values_seen run.now.values) }
     ensures cost { result ≡ keyed_cost size (keyed run.now.key.now (values_seen run.now.values)) }
@@ -102,7 +102,7 @@ pub(crate) fn keyed_own_pages(
     alloc: Global,
     size: usize,
     sorted: bool,
-    run: &Run<'_>,
+    run: &KeyGroup<'_>,
 ) -> Result<u128, AllocError>
     requires legal { IsTrue (is_page_size size) }
     requires some { 0 < length (values_seen run.now.values) }

@@ -3,10 +3,10 @@ use Rattle.std.specs.Prelude.{ℕ, List, ◌++◌}
 use Rattle.std.specs.declared.cmp.Ordering.{Ordering}
 use Rattle.bdb_graph.specs.of_layout.Seen.{OrderingIs}
 use Rattle.bdb_graph.specs.of_format.Chains.{joined}
-use Rattle.bdb_overflow.specs.declared.run.Run.{Run}
+use Rattle.bdb_overflow.specs.declared.run.Remainder.{Remainder}
 
 -- the bytes that are left
-abbrev pub run_seen : Run → List ℕ
+abbrev pub run_seen : Remainder → List ℕ
 run_seen run = run.front.now ++ joined run.rest
 
 -- the order of two lists is that of two others

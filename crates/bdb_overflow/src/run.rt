@@ -9,22 +9,22 @@ use std::cmp::Ordering;
 
 /// The bytes of a value that are left: those that stand together in front, and the pieces after them.
 #[derive(Drop)]
-struct Run<'a> {
+struct Remainder<'a> {
     front: &'a [u8],
     rest: Pieces<'a>,
 }
 
-impl<'a> Run<'a> {
+impl<'a> Remainder<'a> {
     /// All bytes of a value.
-    fn of(datum: &Datum<'a>) -> Run<'a>
+    fn of(datum: &Datum<'a>) -> Remainder<'a>
         ensures { run_seen result ≡ datum_seen datum.now }
     {
         match datum {
-            Datum::Inline(bytes) => Run {
+            Datum::Inline(bytes) => Remainder {
                 front: bytes,
                 rest: Pieces::none(),
             },
-            Datum::Chained(pieces) => Run {
+            Datum::Chained(pieces) => Remainder {
                 front: &[],
                 rest: pieces.again(),
             },
@@ -54,7 +54,7 @@ impl<'a> Run<'a> {
 }
 
 /// The order of what is left of two values, which goes from piece to piece.
-fn compare_runs(mut a: Run<'_>, mut b: Run<'_>) -> Ordering
+fn compare_runs(mut a: Remainder<'_>, mut b: Remainder<'_>) -> Ordering
     ensures { OrderingIs result (run_seen a.entry) (run_seen b.entry) }
 {
     loop {
@@ -81,6 +81,6 @@ pub fn compare_datum(a: &Datum<'_>, b: &Datum<'_>) -> Ordering
 {
     match (a, b) {
         (Datum::Inline(a), Datum::Inline(b)) => compare(a, b),
-        _ => compare_runs(Run::of(a), Run::of(b)),
+        _ => compare_runs(Remainder::of(a), Remainder::of(b)),
     }
 }

@@ -81,8 +81,8 @@ record IsAt (meta : QueueMeta) (index p slot : ℕ) : Type 0 where
 place_of : (meta : QueueMeta) (index p slot : ℕ) → 1 ≤ p → slot < meta.per_page → record_number meta p slot ≡ index + 1 → IsAt meta index p slot
 place_of meta index p slot low inside own = grind (arith, div-mul-add, mod-mul-add)
 
-number_of : (meta : QueueMeta) (index : ℕ) → record_number meta (index / meta.per_page + 1) (index % meta.per_page) ≡ index + 1
-number_of meta index = grind (arith, div-add-mod')
+number_at : (meta : QueueMeta) (index : ℕ) → record_number meta (index / meta.per_page + 1) (index % meta.per_page) ≡ index + 1
+number_at meta index = grind (arith, div-add-mod')
 
 -- The list of a queue.
 
@@ -109,7 +109,7 @@ record_under image meta index some =
           ∙ sym (ap (λ q. record_in_slot meta page q slot) (past_last image page past))
       | inr low ↦
           only_one (λ p. filter (has_number number) (records p)) 1 file.last page (omega arith) (omega arith) others
-          ∙ own_page meta page number slot (page_at file page) (mod_below index meta.per_page (omega arith)) (number_of meta index)
+          ∙ own_page meta page number slot (page_at file page) (mod_below index meta.per_page (omega arith)) (number_at meta index)
           (λ s inside differs own. differs (sym (place_of meta index page s (omega arith) inside own).slot_is))
     ]))
 

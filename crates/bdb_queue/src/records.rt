@@ -6,7 +6,7 @@ ghost use Rattle.bdb_overflow.specs.of_format.Lists.{queue_list};
 ghost use Rattle.bdb_overflow.specs.of_format.Page.{QueueFields};
 ghost use Rattle.bdb_overflow.specs.Datum.{datum_seen, key_view_seen};
 
-use crate::walk::{Place, first_from};
+use crate::walk::{SlotPlace, first_from};
 use bdb_overflow::{Datum, Forest, KeyView, QueueMeta};
 use std::marker::Model;
 
@@ -14,7 +14,7 @@ use std::marker::Model;
 pub struct Scan<'a> {
     forest: Forest<'a>,
     meta: QueueMeta,
-    next: Place,
+    next: SlotPlace,
 }
 
 impl Drop for Scan<'_> {
@@ -50,7 +50,7 @@ impl<'a> Scan<'a> {
         Scan {
             forest,
             meta,
-            next: Place { page: 1, slot: 0 },
+            next: SlotPlace { page: 1, slot: 0 },
         }
     }
 }

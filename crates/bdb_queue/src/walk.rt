@@ -52,7 +52,7 @@ pub(crate) fn first_on<'a>(
 
 /// A slot of a page.
 #[derive(Clone, Copy)]
-pub(crate) struct Place {
+pub(crate) struct SlotPlace {
     pub(crate) page: u32,
     pub(crate) slot: u32,
 }
@@ -62,8 +62,8 @@ pub(crate) struct Place {
 pub(crate) fn first_from<'a>(
     forest: &Forest<'a>,
     meta: &QueueMeta,
-    place: Place,
-) -> Option<(Record<'a>, Place)>
+    place: SlotPlace,
+) -> Option<(Record<'a>, SlotPlace)>
     requires meta { HasMetadata (file_of forest.now) (QueueFields meta.now) }
     requires page { 1 ≤ place.page }
     ensures records { MatchOption result (left_from (file_of forest.now) meta.now place.page place.slot ≡ [])
@@ -74,7 +74,7 @@ pub(crate) fn first_from<'a>(
     let mut slot = place.slot;
     for page in place.page..forest.head().last + 1 {
         if let Some((record, after)) = first_on(forest, meta, page, slot) {
-            return Some((record, Place { page, slot: after }));
+            return Some((record, SlotPlace { page, slot: after }));
         }
         slot = 0;
     }

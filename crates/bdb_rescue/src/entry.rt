@@ -22,12 +22,12 @@ pub(crate) enum PairData<'s, 'a> {
 
 /// The data of a pair that are left, each with the pair's key.
 #[derive(Drop)]
-pub(crate) struct Entry<'s, 'a> {
+pub(crate) struct PairLeft<'s, 'a> {
     key: Datum<'s>,
     values: PairData<'s, 'a>,
 }
 
-impl<'s, 'a> Model for Entry<'s, 'a> {
+impl<'s, 'a> Model for PairLeft<'s, 'a> {
     ghost use Rattle.std.specs.Prelude.{List, ℕ};
     ghost use Rattle.bdb_survey.specs.of_overflow.Datum.{datum_seen};
     ghost use Rattle.bdb_rescue.specs.Entries.{data_left};
@@ -86,14 +86,14 @@ impl<'s, 'a> PairData<'s, 'a> {
     }
 }
 
-impl<'s, 'a> Entry<'s, 'a> {
+impl<'s, 'a> PairLeft<'s, 'a> {
     /// A pair with its data.
     #[tactic(auto, unfolding(crate::specs::Kept::given))]
-    pub(crate) fn of(salvaged: &'s Salvaged<'a>, pair: KeptPair) -> Entry<'s, 'a>
+    pub(crate) fn of(salvaged: &'s Salvaged<'a>, pair: KeptPair) -> PairLeft<'s, 'a>
         requires { IsKeptPair (file_in salvaged.now) pair }
         ensures { result ≡ given (file_in salvaged.now) pair }
     {
-        Entry {
+        PairLeft {
             key: salvaged.value_on(pair.page, 2 * u32::from(pair.index)),
             values: pair_data(salvaged, pair),
         }

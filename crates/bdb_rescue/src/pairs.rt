@@ -5,7 +5,7 @@ ghost use Rattle.bdb_rescue.specs.Entries.{pair_read};
 ghost use Rattle.bdb_rescue.specs.Kept.{IsKeptPair, file_in, given_live, kept_pairs, left_of};
 
 use crate::Salvaged;
-use crate::entry::Entry;
+use crate::entry::PairLeft;
 use crate::kept::KeptPair;
 use crate::places::Places;
 use bdb_survey::Datum;
@@ -14,7 +14,7 @@ use std::marker::Model;
 /// The stored pairs that are left.
 pub struct SalvagePairs<'s, 'a> {
     salvaged: &'s Salvaged<'a>,
-    here: Option<Entry<'s, 'a>>,
+    here: Option<PairLeft<'s, 'a>>,
     pairs: Places<'s, KeptPair>,
 }
 
@@ -55,19 +55,19 @@ impl<'s, 'a> SalvagePairs<'s, 'a> {
 }
 
 /// What a kept pair gives; a deleted one gives nothing.
-fn live_entry<'s, 'a>(salvaged: &'s Salvaged<'a>, pair: KeptPair) -> Option<Entry<'s, 'a>>
+fn live_entry<'s, 'a>(salvaged: &'s Salvaged<'a>, pair: KeptPair) -> Option<PairLeft<'s, 'a>>
     requires { IsKeptPair (file_in salvaged.now) pair }
     ensures { left_of result ≡ given_live (file_in salvaged.now) pair }
 {
     if pair.live {
-        Some(Entry::of(salvaged, pair))
+        Some(PairLeft::of(salvaged, pair))
     } else {
         None
     }
 }
 
 /// The next pair of an entry, if there is one.
-fn next_here<'s>(here: &mut Option<Entry<'s, '_>>) -> Option<(Datum<'s>, Datum<'s>)>
+fn next_here<'s>(here: &mut Option<PairLeft<'s, '_>>) -> Option<(Datum<'s>, Datum<'s>)>
     ensures { YieldsFirstBy pair_read left_of here.old result here.new }
 {
     match here {

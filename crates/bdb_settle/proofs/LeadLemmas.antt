@@ -11,7 +11,7 @@ use Rattle.bdb_mktree.specs.of_text_format.Placed.{placed_key}
 use Rattle.bdb_mktree.specs.of_text_format.declared.pairs.Key.{Key}
 use Rattle.bdb_mktree.specs.of_text_format.declared.pairs.Key.TheVariants.{Bytes, Number}
 use Rattle.bdb_settle.specs.Loaded.{key_less}
-use Rattle.bdb_settle.specs.Leads.{Begins, lead_of, number_of}
+use Rattle.bdb_settle.specs.Leads.{Begins, lead_of, leading_number}
 
 -- Numbers of bytes.
 
@@ -19,7 +19,7 @@ abbrev pub AreBytes : List ℕ → Type 0
 AreBytes bytes = (i : ℕ) → get_or bytes i 0 < 256
 
 -- eight bytes fit
-pub number_fits : (n : ℕ) (bytes : List ℕ) → AreBytes bytes → n < 8 → number_of n bytes * 256 + 255 < 2 ^ 64
+pub number_fits : (n : ℕ) (bytes : List ℕ) → AreBytes bytes → n < 8 → leading_number n bytes * 256 + 255 < 2 ^ 64
 number_fits zero bytes are low = omega (arith)
 number_fits (suc zero) bytes are low = omega (arith, are 0)
 number_fits (suc (suc zero)) bytes are low = omega (arith, are 0, are 1)
@@ -31,7 +31,7 @@ number_fits (suc (suc (suc (suc (suc (suc (suc zero))))))) bytes are low = omega
 number_fits (suc (suc (suc (suc (suc (suc (suc (suc n)))))))) bytes are low = absurd (omega (arith, low))
 
 -- the same number is that of the same first bytes
-same_first : (n : ℕ) (a b : List ℕ) → AreBytes a → AreBytes b → number_of n a ≡ number_of n b → (i : ℕ) → i < n → get_or a i 0 ≡ get_or b i 0
+same_first : (n : ℕ) (a b : List ℕ) → AreBytes a → AreBytes b → leading_number n a ≡ leading_number n b → (i : ℕ) → i < n → get_or a i 0 ≡ get_or b i 0
 same_first zero a b a_bytes b_bytes same i low = absurd (omega (arith, low))
 same_first (suc n) a b a_bytes b_bytes same i low =
     elim (cases_lt i n) [
@@ -53,13 +53,13 @@ less_at (suc n) (x ∷ a) (y ∷ b) same below =
     let rest : less a b ≡ true = less_at n a b (λ i low. same (suc i) (omega (arith, low))) below in
     grind (arith, nat_tests)
 
-pub number_less : (n : ℕ) (a b : List ℕ) → AreBytes a → AreBytes b → number_of n a < number_of n b → less a b ≡ true
+pub number_less : (n : ℕ) (a b : List ℕ) → AreBytes a → AreBytes b → leading_number n a < leading_number n b → less a b ≡ true
 number_less zero a b a_bytes b_bytes below = absurd (omega (arith, below))
 number_less (suc n) a b a_bytes b_bytes below =
-    elim (cases_lt (number_of n a) (number_of n b)) [
+    elim (cases_lt (leading_number n a) (leading_number n b)) [
       | inl sooner ↦ number_less n a b a_bytes b_bytes sooner
       | inr not_sooner ↦
-          let same : number_of n a ≡ number_of n b = omega (arith, below, not_sooner, a_bytes n, b_bytes n) in
+          let same : leading_number n a ≡ leading_number n b = omega (arith, below, not_sooner, a_bytes n, b_bytes n) in
           less_at n a b (same_first n a b a_bytes b_bytes same) (omega (arith, below, same))
     ]
 

@@ -10,13 +10,13 @@ use Rattle.bdb_settle.specs.declared.leads.Led.{Led}
 use Rattle.bdb_settle.specs.Settling.{place_before}
 
 -- the first bytes as a number, the first of them the greatest; zeros behind the end
-abbrev pub number_of : ℕ → List ℕ → ℕ
-number_of zero bytes = 0
-number_of (suc n) bytes = number_of n bytes * 256 + get_or bytes n 0
+abbrev pub leading_number : ℕ → List ℕ → ℕ
+leading_number zero bytes = 0
+leading_number (suc n) bytes = leading_number n bytes * 256 + get_or bytes n 0
 
 -- what a key is sorted by first, where all share so many bytes
 abbrev pub lead_of : ℕ → Key → ℕ
-lead_of shared (Bytes key) = number_of 8 (drop shared key)
+lead_of shared (Bytes key) = leading_number 8 (drop shared key)
 lead_of shared (Number n) = 0
 
 abbrev pub led : List ℕ → ℕ → Place → Led

@@ -2,7 +2,7 @@ ghost use Rattle.std.specs.Prelude.{◌≡◌, ◌≤◌, get_or, length, map, t
 ghost use Rattle.std.specs.List.Sorted.{IsPermutation, IsSortedBy, IsStableBy};
 ghost use Rattle.std.specs.Ordering.{is_lt};
 ghost use Rattle.bdb_mktree.specs.of_text_format.Placed.{key_seen, placed_key};
-ghost use Rattle.bdb_settle.specs.Leads.{Begins, Share, lead_of, led, led_before, number_of};
+ghost use Rattle.bdb_settle.specs.Leads.{Begins, Share, lead_of, led, led_before, leading_number};
 ghost use Rattle.bdb_settle.specs.Settling.{place_before};
 
 use crate::order::{compare_places, stands_before};
@@ -94,7 +94,7 @@ fn byte_or_zero(bytes: &[u8], i: usize) -> u8
 
 // The first eight bytes as a number.
 fn first_eight(bytes: &[u8]) -> u64
-    ensures { result ≡ number_of 8 bytes.now }
+    ensures { result ≡ leading_number 8 bytes.now }
 {
     let mut number = 0;
     for i in 0..8 {

@@ -41,22 +41,22 @@ impl From<AllocError> for LoadError {
 
 /// What the table of errors says of one.
 #[derive(Clone, Copy)]
-struct Entry {
+struct LoadErrorEntry {
     line: u64,
     code: u8,
     name: &'static str,
 }
 
-fn row(line: u64, code: u8, name: &'static str) -> Entry
+fn row(line: u64, code: u8, name: &'static str) -> LoadErrorEntry
     ensures line { result.line ≡ line }
     ensures code { result.code ≡ code }
     ensures name { result.name.now ≡ name.now }
 {
-    Entry { line, code, name }
+    LoadErrorEntry { line, code, name }
 }
 
 impl LoadError {
-    fn entry(self) -> Entry
+    fn entry(self) -> LoadErrorEntry
         ensures line { result.line ≡ line_of self }
         ensures code { result.code ≡ code_of self }
         ensures name { result.name.now ≡ name_of self }

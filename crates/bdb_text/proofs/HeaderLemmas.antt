@@ -7,16 +7,16 @@ use Rattle.std.proofs.lemmas.Grind.{flat_map-append}
 use Rattle.bdb_spelling.specs.of_format.declared.settings.Settings.{Settings}
 use Rattle.bdb_spelling.specs.of_format.Table.{Row}
 use Rattle.bdb_spelling.specs.of_text_format.LineEnd.{line}
-use Rattle.bdb_spelling.specs.of_text_format.Written.{Entry, entry_line, header_end, header_table, header_text, version_line, written}
+use Rattle.bdb_spelling.specs.of_text_format.Written.{HeaderLine, entry_line, header_end, header_table, header_text, version_line, written}
 use Rattle.bdb_text.specs.Headers.{rows_text}
 
 -- the lines of the entries whose test holds are those of the rows
-one_row : (holds : Bool) (entry : Entry) (entries : List Entry) (rest : List ℕ) → flat_map line (map entry_line entries) ≡ rest
+one_row : (holds : Bool) (entry : HeaderLine) (entries : List HeaderLine) (rest : List ℕ) → flat_map line (map entry_line entries) ≡ rest
     → flat_map line (map entry_line (if holds then entry ∷ entries else entries)) ≡ (if holds then line (entry_line entry) else []) ++ rest
 one_row true entry entries rest is = ap (λ (text : List ℕ). line (entry_line entry) ++ text) is
 one_row false entry entries rest is = is
 
-lines_of_rows : (rows : List (Row Entry)) → flat_map line (map entry_line (written rows)) ≡ rows_text rows
+lines_of_rows : (rows : List (Row HeaderLine)) → flat_map line (map entry_line (written rows)) ≡ rows_text rows
 lines_of_rows [] = refl
 lines_of_rows (row ∷ rows) = one_row row.holds row.code (written rows) (rows_text rows) (lines_of_rows rows)
 

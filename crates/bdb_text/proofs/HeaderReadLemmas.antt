@@ -5,7 +5,7 @@ use Rattle.std.specs.Prelude.{is_ok, is_err, Result, Ok, Err}
 use Rattle.std.proofs.lemmas.Bool.{and_from, true≢false}
 use Rattle.std.proofs.lemmas.List.{map-append}
 use Rattle.std.proofs.lemmas.List.Elements.{filter_map-append}
-use Rattle.bdb_spelling.specs.of_text_format.Written.{Entry}
+use Rattle.bdb_spelling.specs.of_text_format.Written.{HeaderLine}
 use Rattle.bdb_spelling.specs.of_text_format.TextLines.{is_header_end}
 use Rattle.bdb_spelling.specs.of_text_format.Header.{entries, entry_of}
 use Rattle.bdb_spelling.specs.of_text_format.Reasons.{entry_reason}
@@ -26,13 +26,13 @@ pub pushed : {T E : Type 0} (r : Result T E) (now old : List Field) (field : Fie
     → entries_in now ≡ entries_in old ++ entry_in field ∷ []
 pushed r now old field e h = ap entries_in (pushed_by r now (old ++ field ∷ []) old e h) ∙ map-append entry_in old (field ∷ [])
 
-pub header_more : (lines : List (List ℕ)) (start : ℕ) (fields : List Entry) (line : List ℕ) (rest more : List (List ℕ)) (number : ℕ) (entry : Entry)
+pub header_more : (lines : List (List ℕ)) (start : ℕ) (fields : List HeaderLine) (line : List ℕ) (rest more : List (List ℕ)) (number : ℕ) (entry : HeaderLine)
     → IsHeaderTo lines start fields rest number → rest ≡ line ∷ more → is_header_end line ≡ false → entry_of line ≡ Some entry
     → entry_reason fields (entry_of line) ≡ None
     → IsHeaderTo lines start (fields ++ entry ∷ []) more (number + 1)
 header_more lines start fields line rest more number entry to is other entered none =
     let fits : entry_fits (entries to.header) (entry_of line) ≡ true =
-    sym (none-entry_reason (entries to.header) (entry_of line)) ∙ ap (λ (es : List Entry). is_none (entry_reason es (entry_of line))) to.fields_are
+    sym (none-entry_reason (entries to.header) (entry_of line)) ∙ ap (λ (es : List HeaderLine). is_none (entry_reason es (entry_of line))) to.fields_are
     ∙ ap is_none none in
     record {
       header = to.header ++ line ∷ [];

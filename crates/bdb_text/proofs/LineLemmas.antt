@@ -11,7 +11,7 @@ use Rattle.bdb_spelling.specs.of_text_format.TextLines.{is_data_end, text_lines}
 use Rattle.bdb_spelling.specs.of_text_format.Header.{entries, entry_of, given}
 use Rattle.bdb_spelling.specs.of_text_format.Reasons.{keyword_named, name_of}
 use Rattle.bdb_spelling.specs.of_text_format.Sections.{keyword_fits, section_read, sections_from, with_section}
-use Rattle.bdb_spelling.specs.of_text_format.Written.{Entry, data_end, entry_line, written}
+use Rattle.bdb_spelling.specs.of_text_format.Written.{HeaderLine, data_end, entry_line, written}
 use Rattle.bdb_text.proofs.PartLemmas.{has_data_end}
 
 -- a line has no line feed
@@ -55,15 +55,15 @@ entry_of-line (byte ∷ name) value h =
     let both = or_parts (byte == 61) (has_equals name) h in
     rw (both.0, entry_of-line name value both.1) refl
 
-abbrev pub names_have_equals : List (Row Entry) → Bool
-names_have_equals rows = list_any (λ (row : Row Entry). has_equals row.code.name) rows
+abbrev pub names_have_equals : List (Row HeaderLine) → Bool
+names_have_equals rows = list_any (λ (row : Row HeaderLine). has_equals row.code.name) rows
 
 -- the value of a table's first row of this name, where it is written
-abbrev pub looked_up : List ℕ → List (Row Entry) → Option (List ℕ)
+abbrev pub looked_up : List ℕ → List (Row HeaderLine) → Option (List ℕ)
 looked_up name [] = None
 looked_up name (row ∷ rows) = if bytes_eq row.code.name name then (if row.holds then Some row.code.value else looked_up name rows) else looked_up name rows
 
-given-written_by : (name : List ℕ) (row : Row Entry) (holds same : Bool) (others : List Entry) (rest : Option (List ℕ)) → given name others ≡ rest
+given-written_by : (name : List ℕ) (row : Row HeaderLine) (holds same : Bool) (others : List HeaderLine) (rest : Option (List ℕ)) → given name others ≡ rest
     → row.holds ≡ holds → bytes_eq row.code.name name ≡ same
     → given name (if row.holds then row.code ∷ others else others)
     ≡ (if bytes_eq row.code.name name then (if row.holds then Some row.code.value else rest) else rest)
@@ -72,12 +72,12 @@ given-written_by name row true false others rest e h s = rw (h, s) e
 given-written_by name row false true others rest e h s = rw (h, s) e
 given-written_by name row false false others rest e h s = rw (h, s) e
 
-pub given-written : (name : List ℕ) (rows : List (Row Entry)) → given name (written rows) ≡ looked_up name rows
+pub given-written : (name : List ℕ) (rows : List (Row HeaderLine)) → given name (written rows) ≡ looked_up name rows
 given-written name [] = refl
 given-written name (row ∷ rows) = given-written_by name row row.holds (bytes_eq row.code.name name) (written rows) (looked_up name rows)
     (given-written name rows) refl refl
 
-entries-written_by : (row : Row Entry) (holds : Bool) (others : List Entry) → row.holds ≡ holds → has_equals row.code.name ≡ false
+entries-written_by : (row : Row HeaderLine) (holds : Bool) (others : List HeaderLine) → row.holds ≡ holds → has_equals row.code.name ≡ false
     → entries (map entry_line others) ≡ others
     → entries (map entry_line (if row.holds then row.code ∷ others else others)) ≡ (if row.holds then row.code ∷ others else others)
 entries-written_by row true others h n e =
@@ -85,7 +85,7 @@ entries-written_by row true others h n e =
     rw (h, one, e) refl
 entries-written_by row false others h n e = rw h e
 
-pub entries-written : (rows : List (Row Entry)) → names_have_equals rows ≡ false → entries (map entry_line (written rows)) ≡ written rows
+pub entries-written : (rows : List (Row HeaderLine)) → names_have_equals rows ≡ false → entries (map entry_line (written rows)) ≡ written rows
 entries-written [] h = refl
 entries-written (row ∷ rows) h =
     let both = or_parts (has_equals row.code.name) (names_have_equals rows) h in
@@ -94,16 +94,16 @@ entries-written (row ∷ rows) h =
 -- A table's entries fit: each value fits its keyword, and no name stands twice.
 
 -- no earlier row has this name
-abbrev pub is_named : List ℕ → List (Row Entry) → Bool
-is_named name rows = list_any (λ (row : Row Entry). bytes_eq row.code.name name) rows
+abbrev pub is_named : List ℕ → List (Row HeaderLine) → Bool
+is_named name rows = list_any (λ (row : Row HeaderLine). bytes_eq row.code.name name) rows
 
 -- each row fits, and no row has the name of an earlier one
-abbrev pub table_fits : List (Row Entry) → List (Row Entry) → Bool
+abbrev pub table_fits : List (Row HeaderLine) → List (Row HeaderLine) → Bool
 table_fits before [] = true
 table_fits before (row ∷ rows) =
     not (is_named row.code.name before) && (keyword_fits row.code (keyword_named row.code.name) && table_fits (before ++ row ∷ []) rows)
 
-pub looked_up-unnamed : (name : List ℕ) (rows : List (Row Entry)) → is_named name rows ≡ false → looked_up name rows ≡ None
+pub looked_up-unnamed : (name : List ℕ) (rows : List (Row HeaderLine)) → is_named name rows ≡ false → looked_up name rows ≡ None
 looked_up-unnamed name [] h = refl
 looked_up-unnamed name (row ∷ rows) h =
     let both = or_parts (bytes_eq row.code.name name) (is_named name rows) h in

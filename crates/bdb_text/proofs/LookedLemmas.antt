@@ -18,7 +18,7 @@ use Rattle.bdb_spelling.specs.of_text_format.Keywords.{any_number, legal_size, o
 use Rattle.bdb_spelling.specs.of_text_format.Header.{Values, conflicts, has_keys, has_record_type, is_value, name_in, number_or, order_in, prints, settings_in}
 use Rattle.bdb_spelling.specs.of_text_format.Reasons.{keyword_named}
 use Rattle.bdb_spelling.specs.of_text_format.Sections.{fits, keyword_fits}
-use Rattle.bdb_spelling.specs.of_text_format.Written.{Entry, entry_line, format_text, header_lines, header_table, holds_records, kind_text, order_text, ◌=:◌}
+use Rattle.bdb_spelling.specs.of_text_format.Written.{HeaderLine, entry_line, format_text, header_lines, header_table, holds_records, kind_text, order_text, ◌=:◌}
 use Rattle.bdb_text.specs.WrittenLaw.{AreBytes, CanBeWritten, in_conflict}
 use Rattle.bdb_text.proofs.LineLemmas.{has_feed, looked_up, table_fits}
 use Rattle.bdb_text.proofs.ValueLemmas.{decimal-no_feed, number_read-decimal, spelling-no_feed}
@@ -188,7 +188,7 @@ feeds_order Little = refl
 feeds_order Big = refl
 
 pub table_feeds : (print : Bool) (name : Option (List ℕ)) (settings : Settings) (list : List (ListKey × List ℕ)) → CanBeWritten name settings list
-    → list_any (λ (row : Row Entry). has_feed (entry_line row.code)) (header_table print name settings) ≡ false
+    → list_any (λ (row : Row HeaderLine). has_feed (entry_line row.code)) (header_table print name settings) ≡ false
 table_feeds print name settings list can =
     let format = feeds_format print in
     let named = spelling-no_feed true (unwrap_or name []) in

@@ -13,7 +13,7 @@ use Rattle.bdb_spelling.specs.of_text_format.Reasons.{is_left_out, name_missing}
 use Rattle.bdb_spelling.specs.of_text_format.Sections.{entry_fits, keyword_fits, fits}
 use Rattle.std.proofs.Math.Bool.{and-false}
 use Rattle.bdb_text.proofs.BoolLemmas.{not-none}
-use Rattle.bdb_spelling.specs.of_text_format.Written.{Entry, version_line}
+use Rattle.bdb_spelling.specs.of_text_format.Written.{HeaderLine, version_line}
 use Rattle.bdb_spelling.specs.of_text_format.declared.faults.TextReason.{TextReason}
 use Rattle.bdb_spelling.specs.of_text_format.declared.faults.TextReason.TheVariants.{NoVersion, Version, BadValue, RepeatedKeyword, NoType, Unsupported, NameMissing}
 use Rattle.bdb_spelling.specs.of_text_format.declared.faults.TextReason.TheVariants.{NameTwice, Conflict}
@@ -50,14 +50,14 @@ not-some : {T : Type 0} (answer : Option T) → not (is_some answer) ≡ is_none
 not-some None = refl
 not-some (Some x) = refl
 
-none-keyword_reason : (before : List Entry) (entry : Entry) (keyword : Option Keyword)
+none-keyword_reason : (before : List HeaderLine) (entry : HeaderLine) (keyword : Option Keyword)
     → is_none (keyword_reason before entry keyword) ≡ (is_none (given entry.name before) && keyword_fits entry keyword)
 none-keyword_reason before entry None = sym (and-false (is_none (given entry.name before)))
 none-keyword_reason before entry (Some keyword) =
     judged_by (is_some (given entry.name before)) (keyword.judged entry.value)
     ∙ ap (λ (b : Bool). b && fits (keyword.judged entry.value)) (not-some (given entry.name before))
 
-pub none-entry_reason : (before : List Entry) (entry : Option Entry) → is_none (entry_reason before entry) ≡ entry_fits before entry
+pub none-entry_reason : (before : List HeaderLine) (entry : Option HeaderLine) → is_none (entry_reason before entry) ≡ entry_fits before entry
 none-entry_reason before None = refl
 none-entry_reason before (Some entry) = none-keyword_reason before entry (keyword_named entry.name)
 

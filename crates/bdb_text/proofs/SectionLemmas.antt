@@ -7,7 +7,7 @@ use Rattle.std.proofs.lemmas.Slice.Eq.{bytes_eq-Decides}
 use Rattle.bdb_spelling.specs.of_text_format.declared.faults.TextFault.{TextFault}
 use Rattle.bdb_spelling.specs.of_text_format.declared.pairs.TextPair.{TextPair}
 use Rattle.bdb_spelling.specs.of_text_format.declared.sections.Section.{Section}
-use Rattle.bdb_spelling.specs.of_text_format.Written.{Entry, data_end, header_end, version_line}
+use Rattle.bdb_spelling.specs.of_text_format.Written.{HeaderLine, data_end, header_end, version_line}
 use Rattle.bdb_spelling.specs.of_text_format.TextLines.{is_data_end, is_header_end, onto_first, text_lines}
 use Rattle.bdb_spelling.specs.of_text_format.Header.{Values, entries, entry_of, given, name_in, settings_in, values}
 use Rattle.bdb_spelling.specs.of_text_format.Reasons.{Parts, data_end_reason, data_line_reason, entry_reason, fault_from, fault_in, first_line_reason, header_end_reason}
@@ -78,7 +78,7 @@ clean-version names before = refl
 
 -- A header.
 
-no_end : (before : List Entry) (line : List ℕ) → entry_fits before (entry_of line) ≡ true → is_data_end line ≡ false
+no_end : (before : List HeaderLine) (line : List ℕ) → entry_fits before (entry_of line) ≡ true → is_data_end line ≡ false
 no_end before line fits = false_from_ne_true (is_data_end line) (λ is.
     let same : line ≡ data_end = (bytes_eq-Decides line data_end).0 is in
     let wrong : false ≡ true = none-entry_reason before (entry_of data_end) ∙ ap (λ (l : List ℕ). entry_fits before (entry_of l)) (sym same) ∙ fits in
@@ -102,7 +102,7 @@ clean-header names first before (line ∷ header) b h fits =
     rw (open_, parts.0, none) (clean-header names first (before ++ line ∷ []) header (list_any-append_one is_header_end before line b parts.0) parts.1 both.1)
 
 -- behind the lines of a header
-fault_from-header : (names : List (Option (List ℕ))) (first : List ℕ) (lines : List (List ℕ)) (start : ℕ) (fields : List Entry) (rest : List (List ℕ))
+fault_from-header : (names : List (Option (List ℕ))) (first : List ℕ) (lines : List (List ℕ)) (start : ℕ) (fields : List HeaderLine) (rest : List (List ℕ))
     (number : ℕ)
     → (to : IsHeaderTo lines start fields rest number) → fault_from names (first ∷ []) start lines ≡ fault_from names (first ∷ to.header) number rest
 fault_from-header names first lines start fields rest number to =
@@ -111,7 +111,7 @@ fault_from-header names first lines start fields rest number to =
     (header-no_end [] to.header to.fits)
     ∙ ap (λ (n : ℕ). fault_from names (first ∷ to.header) n rest) (sym to.number_is)
 
-header_end_by : (names : List (Option (List ℕ))) (header : List (List ℕ)) (fields : List Entry) (reason : TextReason) (line : ℕ)
+header_end_by : (names : List (Option (List ℕ))) (header : List (List ℕ)) (fields : List HeaderLine) (reason : TextReason) (line : ℕ)
     (rest : List (List ℕ)) (first : List ℕ)
     → has_header_end header ≡ false
     → entries header ≡ fields → header_reason fields rest ≡ Some reason
@@ -125,7 +125,7 @@ header_end_by names header fields reason line (x ∷ rest) first h e is =
     by_end : (ends : Bool) → (if ends then None else entry_reason fields (entry_of x)) ≡ Some reason
         → (if ends then header_end_reason names (values header) else entry_reason (entries header) (entry_of x)) ≡ Some reason
     by_end true none = cc
-    by_end false some = ap (λ (es : List Entry). entry_reason es (entry_of x)) e ∙ some
+    by_end false some = ap (λ (es : List HeaderLine). entry_reason es (entry_of x)) e ∙ some
 
 -- the fault of a header is that of its section
 pub header_fault : (names : List (Option (List ℕ))) (text line behind : List ℕ) (start : ℕ) (fault : TextFault) → text_lines text ≡ line ∷ text_lines behind
@@ -142,7 +142,7 @@ header_fault names text line behind start fault lines none is =
 values-header : (lines : List (List ℕ)) (start : ℕ) (fields : List Field) (rest : List (List ℕ)) (number : ℕ)
     → (to : IsHeaderTo lines start (entries_in fields) rest number)
     → values to.header ≡ values_in fields
-values-header lines start fields rest number to = ap {B = Values} (λ (es : List Entry). λ (name : List ℕ). given name es) to.fields_are
+values-header lines start fields rest number to = ap {B = Values} (λ (es : List HeaderLine). λ (name : List ℕ). given name es) to.fields_are
 
 -- the reasons of a header's end, as the code finds them
 end_reason_is : (names : List (Option (List ℕ))) (header : Values) (name : Option (List ℕ)) (reason : Option TextReason) → name ≡ name_in header
@@ -151,7 +151,7 @@ end_reason_is : (names : List (Option (List ℕ))) (header : Values) (name : Opt
 end_reason_is names header name reason named is = ap (named_end_reason names header) (sym named) ∙ sym is
 
 -- what stands before the end of a header
-fault_from-version : (names : List (Option (List ℕ))) (text line behind : List ℕ) (start : ℕ) (fields : List Entry) (rest : List (List ℕ)) (number : ℕ)
+fault_from-version : (names : List (Option (List ℕ))) (text line behind : List ℕ) (start : ℕ) (fields : List HeaderLine) (rest : List (List ℕ)) (number : ℕ)
     → text_lines text ≡ line ∷ text_lines behind → None ≡ first_line_reason line → (to : IsHeaderTo (text_lines behind) (start + 1) fields rest number)
     → fault_from names [] start (text_lines text) ≡ fault_from names (version_line ∷ to.header) number rest
 fault_from-version names text line behind start fields rest number lines none to =

@@ -7,7 +7,7 @@ use Rattle.bdb_spelling.specs.of_format.Table.{Row}
 use Rattle.bdb_spelling.specs.of_text_format.Header.{given}
 use Rattle.bdb_spelling.specs.of_text_format.Reasons.{keyword_named}
 use Rattle.bdb_spelling.specs.of_text_format.Sections.{keyword_fits, lines_fit}
-use Rattle.bdb_spelling.specs.of_text_format.Written.{Entry, entry_line, written}
+use Rattle.bdb_spelling.specs.of_text_format.Written.{HeaderLine, entry_line, written}
 use Rattle.bdb_text.proofs.LineLemmas.{entries-written, entry_of-line, given-written, has_equals, is_named, looked_up-unnamed, names_have_equals, table_fits}
 
 pub list_any-append : (test : List ℕ → Bool) (a b : List (List ℕ)) → list_any test a ≡ false → list_any test b ≡ false → list_any test (a ++ b) ≡ false
@@ -16,33 +16,33 @@ list_any-append test (x ∷ a) b h k =
     let both = or_parts (test x) (list_any test a) h in
     rw (both.0, list_any-append test a b both.1 k) refl
 
-any-written_by : (test : List ℕ → Bool) (row : Row Entry) (holds : Bool) (others : List Entry) → row.holds ≡ holds → test (entry_line row.code) ≡ false
+any-written_by : (test : List ℕ → Bool) (row : Row HeaderLine) (holds : Bool) (others : List HeaderLine) → row.holds ≡ holds → test (entry_line row.code) ≡ false
     → list_any test (map entry_line others) ≡ false → list_any test (map entry_line (if row.holds then row.code ∷ others else others)) ≡ false
 any-written_by test row true others h t o = rw (h, t) o
 any-written_by test row false others h t o = rw h o
 
-pub any-written : (test : List ℕ → Bool) (rows : List (Row Entry)) → list_any (λ (row : Row Entry). test (entry_line row.code)) rows ≡ false
+pub any-written : (test : List ℕ → Bool) (rows : List (Row HeaderLine)) → list_any (λ (row : Row HeaderLine). test (entry_line row.code)) rows ≡ false
     → list_any test (map entry_line (written rows)) ≡ false
 any-written test [] h = refl
 any-written test (row ∷ rows) h =
-    let both = or_parts (test (entry_line row.code)) (list_any (λ (row : Row Entry). test (entry_line row.code)) rows) h in
+    let both = or_parts (test (entry_line row.code)) (list_any (λ (row : Row HeaderLine). test (entry_line row.code)) rows) h in
     any-written_by test row row.holds (written rows) refl both.0 (any-written test rows both.1)
 
 -- one row more
-written-more_by : (rows more : List (Row Entry)) (first row : Row Entry) → written more ≡ written rows ++ (if row.holds then row.code ∷ [] else [])
+written-more_by : (rows more : List (Row HeaderLine)) (first row : Row HeaderLine) → written more ≡ written rows ++ (if row.holds then row.code ∷ [] else [])
     → (holds : Bool) → first.holds ≡ holds → written (first ∷ more) ≡ written (first ∷ rows) ++ (if row.holds then row.code ∷ [] else [])
 written-more_by rows more first row e true h = rw (h, e) refl
 written-more_by rows more first row e false h = rw (h, e) refl
 
-written-more : (rows : List (Row Entry)) (row : Row Entry) → written (rows ++ row ∷ []) ≡ written rows ++ (if row.holds then row.code ∷ [] else [])
+written-more : (rows : List (Row HeaderLine)) (row : Row HeaderLine) → written (rows ++ row ∷ []) ≡ written rows ++ (if row.holds then row.code ∷ [] else [])
 written-more [] row = refl
 written-more (first ∷ rows) row = written-more_by rows (rows ++ row ∷ []) first row (written-more rows row) first.holds refl
 
-map-append_one : (a b : List Entry) → map entry_line (a ++ b) ≡ map entry_line a ++ map entry_line b
+map-append_one : (a b : List HeaderLine) → map entry_line (a ++ b) ≡ map entry_line a ++ map entry_line b
 map-append_one [] b = refl
 map-append_one (x ∷ a) b = ap (λ (s : List (List ℕ)). entry_line x ∷ s) (map-append_one a b)
 
-names_more : (rows : List (Row Entry)) (row : Row Entry) → names_have_equals rows ≡ false → has_equals row.code.name ≡ false
+names_more : (rows : List (Row HeaderLine)) (row : Row HeaderLine) → names_have_equals rows ≡ false → has_equals row.code.name ≡ false
     → names_have_equals (rows ++ row ∷ []) ≡ false
 names_more [] row h e = rw e refl
 names_more (first ∷ rows) row h e =
@@ -50,7 +50,7 @@ names_more (first ∷ rows) row h e =
     rw (both.0, names_more rows row both.1 e) refl
 
 -- the lines of a table fit a header
-lines_fit-step : (before : List (Row Entry)) (row : Row Entry) (rows : List (Row Entry)) → names_have_equals before ≡ false → has_equals row.code.name ≡ false
+lines_fit-step : (before : List (Row HeaderLine)) (row : Row HeaderLine) (rows : List (Row HeaderLine)) → names_have_equals before ≡ false → has_equals row.code.name ≡ false
     → is_named row.code.name before ≡ false → keyword_fits row.code (keyword_named row.code.name) ≡ true
     → lines_fit (map entry_line (written (before ++ row ∷ []))) (map entry_line (written rows)) ≡ true
     → (holds : Bool) → row.holds ≡ holds
@@ -60,17 +60,17 @@ lines_fit-step before row rows n e unnamed fits more true h =
     let all = entries-written before n in
     let none : given row.code.name (written before) ≡ None = given-written row.code.name before ∙ looked_up-unnamed row.code.name before unnamed in
     let lines : map entry_line (written (before ++ row ∷ [])) ≡ map entry_line (written before) ++ entry_line row.code ∷ [] =
-    ap (λ (s : List Entry). map entry_line s) (written-more before row ∙ ap (λ (b : Bool). written before ++ (if b then row.code ∷ [] else [])) h)
+    ap (λ (s : List HeaderLine). map entry_line s) (written-more before row ∙ ap (λ (b : Bool). written before ++ (if b then row.code ∷ [] else [])) h)
     ∙ map-append_one (written before) (row.code ∷ []) in
     let rest = rw lines at more in
     rw (h, one, all, none, fits) rest
 lines_fit-step before row rows n e unnamed fits more false h =
     let lines : map entry_line (written (before ++ row ∷ [])) ≡ map entry_line (written before) =
-    ap (λ (s : List Entry). map entry_line s) (written-more before row ∙ ap (λ (b : Bool). written before ++ (if b then row.code ∷ [] else [])) h
+    ap (λ (s : List HeaderLine). map entry_line s) (written-more before row ∙ ap (λ (b : Bool). written before ++ (if b then row.code ∷ [] else [])) h
     ∙ append-nil (written before)) in
     rw h (rw lines at more)
 
-pub lines_fit-table : (before rows : List (Row Entry)) → names_have_equals before ≡ false → names_have_equals rows ≡ false → table_fits before rows ≡ true
+pub lines_fit-table : (before rows : List (Row HeaderLine)) → names_have_equals before ≡ false → names_have_equals rows ≡ false → table_fits before rows ≡ true
     → lines_fit (map entry_line (written before)) (map entry_line (written rows)) ≡ true
 lines_fit-table before [] n m h = refl
 lines_fit-table before (row ∷ rows) n m h =

@@ -4,7 +4,7 @@ use Rattle.std.specs.List.{flat_map}
 use Rattle.bdb_spelling.specs.of_format.Table.{Row, ◌:?◌}
 use Rattle.bdb_spelling.specs.of_text_format.LineEnd.{line}
 use Rattle.bdb_spelling.specs.of_text_format.TextSpelling.{spelling}
-use Rattle.bdb_spelling.specs.of_text_format.Written.{Entry, ◌=:◌, entry_line}
+use Rattle.bdb_spelling.specs.of_text_format.Written.{HeaderLine, ◌=:◌, entry_line}
 use Rattle.bdb_text.specs.declared.header.HeaderRow.{HeaderRow}
 use Rattle.bdb_text.specs.declared.header.Value.{Value}
 use Rattle.bdb_text.specs.declared.header.Value.TheVariants.{Word, Number, Name}
@@ -14,13 +14,13 @@ value_seen (Word text) = text.now
 value_seen (Number number) = decimal number
 value_seen (Name name) = spelling true name.now
 
-abbrev pub row_seen : HeaderRow → Row Entry
+abbrev pub row_seen : HeaderRow → Row HeaderLine
 row_seen row = (row.keyword.now =: value_seen row.value) :? row.holds
 
 -- the line of a row, where it holds
-abbrev pub row_text : Row Entry → List ℕ
+abbrev pub row_text : Row HeaderLine → List ℕ
 row_text row = if row.holds then line (entry_line row.code) else []
 
 -- the lines of the rows that hold
-abbrev pub rows_text : List (Row Entry) → List ℕ
+abbrev pub rows_text : List (Row HeaderLine) → List ℕ
 rows_text rows = flat_map row_text rows

@@ -2,7 +2,7 @@
 use Rattle.std.specs.Prelude.{◌≡◌, ℕ, ◌+◌, if◌then◌else◌, true, false, List, [], ◌∷◌, ◌++◌, length, Option, Some, None, ⊤}
 use Rattle.std.specs.List.{list_any}
 use Rattle.bdb_spelling.specs.of_text_format.declared.faults.TextFault.{TextFault}
-use Rattle.bdb_spelling.specs.of_text_format.Written.{Entry, header_end}
+use Rattle.bdb_spelling.specs.of_text_format.Written.{HeaderLine, header_end}
 use Rattle.bdb_spelling.specs.of_text_format.TextLines.{is_header_end, text_lines}
 use Rattle.bdb_spelling.specs.of_text_format.Header.{entries, entry_of}
 use Rattle.bdb_spelling.specs.of_text_format.Reasons.{entry_reason}
@@ -17,7 +17,7 @@ use Rattle.bdb_spelling.specs.of_text_format.declared.faults.TextReason.{TextRea
 use Rattle.bdb_spelling.specs.of_text_format.declared.faults.TextReason.TheVariants.{NoEnd}
 
 -- The lines from `start` on begin with lines of a header that fit and give these entries; the rest of them begins with this number.
-pub record IsHeaderTo (lines : List (List ℕ)) (start : ℕ) (fields : List Entry) (rest : List (List ℕ)) (number : ℕ) : Type 0 where
+pub record IsHeaderTo (lines : List (List ℕ)) (start : ℕ) (fields : List HeaderLine) (rest : List (List ℕ)) (number : ℕ) : Type 0 where
   pub header : List (List ℕ)
   pub lines_are : lines ≡ header ++ rest
   pub not_ended : list_any is_header_end header ≡ false
@@ -30,13 +30,13 @@ abbrev pub IsHeaderRead : List ℕ → ℕ → Header → Type 0
 IsHeaderRead text start header = IsHeaderTo (text_lines text) start (entries_in header.fields.items) (header_end ∷ text_lines header.rest.now) header.number
 
 -- the reason of the next line of a header, where it doesn't end it
-abbrev pub header_reason : List Entry → List (List ℕ) → Option TextReason
+abbrev pub header_reason : List HeaderLine → List (List ℕ) → Option TextReason
 header_reason fields [] = Some NoEnd
 header_reason fields (line ∷ lines) = if is_header_end line then None else entry_reason fields (entry_of line)
 
 -- behind lines of a header that fit stands one with this reason
 pub record IsHeaderFault (text : List ℕ) (start : ℕ) (fault : TextFault) : Type 0 where
-  pub fields : List Entry
+  pub fields : List HeaderLine
   pub rest : List (List ℕ)
   pub to : IsHeaderTo (text_lines text) start fields rest fault.line
   pub reason_is : header_reason fields rest ≡ Some fault.reason

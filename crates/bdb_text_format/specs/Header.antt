@@ -9,25 +9,25 @@ use Rattle.bdb_places.specs.of_format.declared.kinds.Order.TheVariants.{Big, Lit
 use Rattle.bdb_places.specs.of_format.declared.settings.Settings.{Settings}
 use Rattle.bdb_places.specs.of_format.Databases.{plain_settings}
 use Rattle.bdb_text_format.specs.TextSpelling.{bytes_spelled}
-use Rattle.bdb_text_format.specs.Written.{Entry}
+use Rattle.bdb_text_format.specs.Written.{HeaderLine}
 use Rattle.bdb_text_format.specs.Keywords.{or_zero, number_read}
 
 -- a byte before the name of an entry
-abbrev pub with_byte : ℕ → Option Entry → Option Entry
+abbrev pub with_byte : ℕ → Option HeaderLine → Option HeaderLine
 with_byte byte None = None
 with_byte byte (Some entry) = Some (record entry { name = byte ∷ entry.name })
 
 -- a header line at its first equals sign
-abbrev pub entry_of : List ℕ → Option Entry
+abbrev pub entry_of : List ℕ → Option HeaderLine
 entry_of [] = None
 entry_of (byte ∷ rest) = if byte == 61 then Some (record { name = []; value = rest }) else with_byte byte (entry_of rest)
 
 -- the entries of the lines that have an equals sign
-abbrev pub entries : List (List ℕ) → List Entry
+abbrev pub entries : List (List ℕ) → List HeaderLine
 entries lines = filter_map entry_of lines
 
 -- the value that a header gives a keyword
-abbrev pub given : List ℕ → List Entry → Option (List ℕ)
+abbrev pub given : List ℕ → List HeaderLine → Option (List ℕ)
 given name [] = None
 given name (entry ∷ others) = if bytes_eq entry.name name then Some entry.value else given name others
 

@@ -10,7 +10,7 @@ use Rattle.bdb_places.specs.of_format.Table.{◌:?◌, first_row}
 use Rattle.bdb_text_format.specs.TextSpelling.{bytes_spelled}
 use Rattle.bdb_text_format.specs.declared.faults.TextFault.{TextFault}
 use Rattle.bdb_text_format.specs.TextLines.{text_lines, is_header_end, is_data_end}
-use Rattle.bdb_text_format.specs.Written.{Entry, version_line}
+use Rattle.bdb_text_format.specs.Written.{HeaderLine, version_line}
 use Rattle.bdb_text_format.specs.declared.keywords.Judged.{Judged}
 use Rattle.bdb_text_format.specs.declared.keywords.Judged.TheVariants.{Fits, Bad, LeftOut}
 use Rattle.bdb_text_format.specs.Keywords.{Keyword, keywords}
@@ -65,7 +65,7 @@ abbrev pub keyword_named : List ℕ → Option Keyword
 keyword_named name = find (λ (keyword : Keyword). bytes_eq name keyword.name) keywords
 
 -- the reason of an entry, by its keyword and the entries before it
-abbrev pub keyword_reason : List Entry → Entry → Option Keyword → Option TextReason
+abbrev pub keyword_reason : List HeaderLine → HeaderLine → Option Keyword → Option TextReason
 keyword_reason before entry None = Some UnknownKeyword
 keyword_reason before entry (Some keyword) = first_row (
     RepeatedKeyword :? is_some (given entry.name before)
@@ -74,7 +74,7 @@ keyword_reason before entry (Some keyword) = first_row (
     ∷ [])
 
 -- the reason of a header line
-abbrev pub entry_reason : List Entry → Option Entry → Option TextReason
+abbrev pub entry_reason : List HeaderLine → Option HeaderLine → Option TextReason
 entry_reason before None = Some UnknownKeyword
 entry_reason before (Some entry) = keyword_reason before entry (keyword_named entry.name)
 

@@ -11,7 +11,7 @@ use Rattle.bdb_places.specs.of_format.Databases.{is_name}
 use Rattle.bdb_places.specs.of_format.Digits.{digits_value}
 use Rattle.bdb_text_format.specs.TextSpelling.{bytes_spelled}
 use Rattle.bdb_text_format.specs.TextLines.{text_lines, is_data_end}
-use Rattle.bdb_text_format.specs.Written.{Entry, version_line}
+use Rattle.bdb_text_format.specs.Written.{HeaderLine, version_line}
 use Rattle.bdb_text_format.specs.declared.keywords.Judged.{Judged}
 use Rattle.bdb_text_format.specs.declared.keywords.Judged.TheVariants.{Fits, Bad, LeftOut}
 use Rattle.bdb_text_format.specs.Keywords.{Keyword}
@@ -27,12 +27,12 @@ fits Bad = false
 fits LeftOut = false
 
 -- whether an entry fits its keyword
-abbrev pub keyword_fits : Entry → Option Keyword → Bool
+abbrev pub keyword_fits : HeaderLine → Option Keyword → Bool
 keyword_fits entry None = false
 keyword_fits entry (Some keyword) = fits (keyword.judged entry.value)
 
 -- whether an entry fits, behind those before it
-abbrev pub entry_fits : List Entry → Option Entry → Bool
+abbrev pub entry_fits : List HeaderLine → Option HeaderLine → Bool
 entry_fits before None = false
 entry_fits before (Some entry) = is_none (given entry.name before) && keyword_fits entry (keyword_named entry.name)
 

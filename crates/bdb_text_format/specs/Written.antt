@@ -50,12 +50,12 @@ kind_text Queue = codes "queue"
 -- The header of a section.
 
 -- a header line: what stands before its equals sign, and what stands behind
-pub record Entry : Type 0 where
+pub record HeaderLine : Type 0 where
   pub name : List ℕ
   pub value : List ℕ
 
 infix 75 ◌=:◌
-abbrev pub ◌=:◌ : List ℕ → List ℕ → Entry
+abbrev pub ◌=:◌ : List ℕ → List ℕ → HeaderLine
 name =: value = record { name = name; value = value }
 
 -- the word for a spelling
@@ -81,7 +81,7 @@ abbrev pub holds_records : Kind → Bool
 holds_records kind = is_recno kind || is_queue kind
 
 -- the lines between the first of a header and the last, each with the test of where it is written
-abbrev pub header_table : Bool → Option (List ℕ) → Settings → List (Row Entry)
+abbrev pub header_table : Bool → Option (List ℕ) → Settings → List (Row HeaderLine)
 header_table print name settings =
     codes "format" =: format_text print :? true
     ∷ codes "database" =: spelling true (unwrap_or name []) :? is_some name
@@ -100,11 +100,11 @@ header_table print name settings =
     ∷ []
 
 -- the entries whose test holds
-abbrev pub written : List (Row Entry) → List Entry
+abbrev pub written : List (Row HeaderLine) → List HeaderLine
 written [] = []
 written (row ∷ rows) = if row.holds then row.code ∷ written rows else written rows
 
-abbrev pub entry_line : Entry → List ℕ
+abbrev pub entry_line : HeaderLine → List ℕ
 entry_line entry = entry.name ++ 61 ∷ entry.value
 
 abbrev pub version_line : List ℕ

@@ -41,20 +41,20 @@ pub enum TextReason {
 
 /// What the table of reasons says of one.
 #[derive(Clone, Copy)]
-struct Entry {
+struct ReasonEntry {
     code: u8,
     name: &'static str,
 }
 
-fn row(code: u8, name: &'static str) -> Entry
+fn row(code: u8, name: &'static str) -> ReasonEntry
     ensures code { result.code ≡ code }
     ensures name { result.name.now ≡ name.now }
 {
-    Entry { code, name }
+    ReasonEntry { code, name }
 }
 
 impl TextReason {
-    fn entry(self) -> Entry
+    fn entry(self) -> ReasonEntry
         ensures code { result.code ≡ reason_code self }
         ensures name { result.name.now ≡ reason_name self }
     {

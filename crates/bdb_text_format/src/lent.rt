@@ -1,6 +1,7 @@
 ghost use Rattle.std.specs.Prelude.{◌≡◌, ◌==◌, ◌<◌, ◌≤◌, ◌-◌, Some, drop, true, length, map, slice_get, take};
 ghost use Rattle.std.specs.Option.{option_map};
 ghost use Rattle.bdb_places.specs.Places.{values_seen};
+ghost use Rattle.bdb_text_format.specs.Pairs.{number_of};
 ghost use Rattle.bdb_text_format.specs.Placed.{pair_seen, placed_key, placed_pair, placed_pairs, are_one, key_seen, share_key, slice_seen};
 ghost use Rattle.bdb_text_format.specs.declared.pairs.TextPair.{TextPair};
 
@@ -11,6 +12,16 @@ use bdb_places::{Place, PlacedKey, Values};
 pub enum KeyRef<'a> {
     Bytes(&'a [u8]),
     Number(u32),
+}
+
+/// The number of a record; 0 of a key that is bytes.
+pub fn number_of(key: KeyRef<'_>) -> u32
+    ensures { result ≡ number_of (key_seen key.entry) }
+{
+    match key {
+        KeyRef::Bytes(_) => 0,
+        KeyRef::Number(number) => number,
+    }
 }
 
 /// A pair, lent, and the number of its first line in the text, counted from 1; 0 where it isn't of a text.

@@ -14,6 +14,6 @@ pub use bdb_places::{
 };
 pub use faults::{TextFault, TextReason};
 pub use keywords::Judged;
-pub use lent::{KeyRef, PairRef, PairSlice, are_one, key_at, pair_at};
+pub use lent::{KeyRef, PairRef, PairSlice, are_one, key_at, number_of, pair_at};
 pub use pairs::{Key, Pair, PlacedPairs, TextPair, TextPairs};
 pub use sections::{Section, Sections};

@@ -1,6 +1,6 @@
 use Rattle.std.proofs.Common.{◌≡◌, length}
 use Rattle.bdb_overflow.specs.Runs.{run_seen}
-use Rattle.bdb_overflow.proofs.run.Run.fill.Given as goal
+use Rattle.bdb_overflow.proofs.run.Remainder.fill.Given as goal
 
 -- The same bytes are left.
 abbrev pub invariant-loop-self : goal.invariant-loop-self

@@ -9,7 +9,7 @@ use Rattle.bdb_ranks.proofs.of_tree.EntryLemmas.{all_values, rest_fit}
 use Rattle.bdb_btree.specs.Held.{run_seen}
 use Rattle.bdb_btree.specs.Runs.{follow}
 use Rattle.bdb_btree.proofs.HeldLemmas.{first_entry_fits, set_more, set_passed}
-use Rattle.bdb_btree.proofs.data_order.Run.see_set.Goals as goal
+use Rattle.bdb_btree.proofs.data_order.Ascent.see_set.Goals as goal
 
 pub loop-entry-init : goal.loop-entry-init
 loop-entry-init c =

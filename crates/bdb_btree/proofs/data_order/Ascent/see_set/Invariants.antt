@@ -7,7 +7,7 @@ use Rattle.bdb_ranks.specs.of_overflow.Held.{FitsAny}
 use Rattle.bdb_ranks.specs.of_tree.Entries.{AreFit, values_of}
 use Rattle.bdb_btree.specs.Held.{run_seen}
 use Rattle.bdb_btree.specs.Runs.{follow}
-use Rattle.bdb_btree.proofs.data_order.Run.see_set.Given as goal
+use Rattle.bdb_btree.proofs.data_order.Ascent.see_set.Given as goal
 
 -- The run and the values that are left make up the whole.
 abbrev pub invariant-loop-entry : goal.invariant-loop-entry
