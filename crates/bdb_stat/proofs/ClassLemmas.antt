@@ -4,32 +4,32 @@ use Rattle.std.specs.Prelude.{◌==◌, ◌&&◌, ◌||◌, cond, nat_lt, not, B
 use Rattle.std.specs.List.{list_any}
 use Rattle.std.proofs.lemmas.Bool.{cases_Bool, eq-eqb, eqb-true}
 use Rattle.std.proofs.lemmas.Bool.Decides.{nat_tests}
-use Rattle.bdb_turned.specs.of_format.declared.kinds.Order.{Order}
-use Rattle.bdb_turned.specs.of_format.declared.metadata.FileKind.{FileKind}
-use Rattle.bdb_turned.specs.of_format.declared.metadata.FileKind.TheVariants.{Btree, Hash as HashFile, Queue as QueueFile}
-use Rattle.bdb_turned.specs.of_format.declared.metadata.Head.{Head}
-use Rattle.bdb_turned.specs.of_form.declared.view.PageView.{PageView}
-use Rattle.bdb_turned.specs.of_form.declared.view.PageView.TheVariants.{Zero as ZeroView, Free as FreeView, Meta as MetaView, Leaf as LeafView, Internal as InternalView}
-use Rattle.bdb_turned.specs.of_form.declared.view.PageView.TheVariants.{RecnoLeaf as RecnoLeafView, RecnoInternal as RecnoInternalView, DupLeaf as DupLeafView}
-use Rattle.bdb_turned.specs.of_form.declared.view.PageView.TheVariants.{Hash as HashView, Overflow as OverflowView, Queue as QueueView}
-use Rattle.bdb_turned.specs.of_form.Seen.{header_seen, page_seen}
-use Rattle.bdb_turned.specs.of_format.declared.pages.Header.{Header}
-use Rattle.bdb_turned.proofs.of_format.FileLemmas.{kind_is, last_page, page_is}
-use Rattle.bdb_turned.proofs.of_format.GraphLemmas.{type_fits, typed_page, zero_page}
-use Rattle.bdb_turned.proofs.of_format.PageLemmas.{later_type, some_type, zero_byte}
-use Rattle.bdb_turned.proofs.of_format.TypeLemmas.{one_type}
-use Rattle.bdb_turned.proofs.of_format.VerdictLemmas.{no_rows_at, none_within}
-use Rattle.bdb_turned.specs.of_format.File.{File, file_of, header_in, page_at, page_bytes}
-use Rattle.bdb_turned.specs.of_format.Graph.{is_anchor, is_anchor_in, is_hash_meta, is_meta, is_reserve, is_spare, owners}
-use Rattle.bdb_turned.specs.of_format.HeadOf.{head_of}
-use Rattle.bdb_turned.specs.of_format.Numbers.{byte_at}
-use Rattle.bdb_turned.specs.of_format.Page.{Page}
-use Rattle.bdb_turned.specs.of_format.Reading.{abstract_page, is_zero, page_as, page_type}
-use Rattle.bdb_turned.specs.of_format.Rows.{form_code, is_queue, is_tree_type, may_have_type, type_of}
-use Rattle.bdb_turned.specs.of_format.Verdict.{ownership_faults, ownership_rows}
-use Rattle.bdb_turned.proofs.of_image.FirstLemmas.{formed_page}
-use Rattle.bdb_turned.proofs.of_image.HeldLemmas.{own_type}
-use Rattle.bdb_turned.specs.of_image.Linked.{IsForest}
+use Rattle.bdb_law_turned.specs.of_format.declared.kinds.Order.{Order}
+use Rattle.bdb_law_turned.specs.of_format.declared.metadata.FileKind.{FileKind}
+use Rattle.bdb_law_turned.specs.of_format.declared.metadata.FileKind.TheVariants.{Btree, Hash as HashFile, Queue as QueueFile}
+use Rattle.bdb_law_turned.specs.of_format.declared.metadata.Head.{Head}
+use Rattle.bdb_law_turned.specs.of_form.declared.view.PageView.{PageView}
+use Rattle.bdb_law_turned.specs.of_form.declared.view.PageView.TheVariants.{Zero as ZeroView, Free as FreeView, Meta as MetaView, Leaf as LeafView, Internal as InternalView}
+use Rattle.bdb_law_turned.specs.of_form.declared.view.PageView.TheVariants.{RecnoLeaf as RecnoLeafView, RecnoInternal as RecnoInternalView, DupLeaf as DupLeafView}
+use Rattle.bdb_law_turned.specs.of_form.declared.view.PageView.TheVariants.{Hash as HashView, Overflow as OverflowView, Queue as QueueView}
+use Rattle.bdb_law_turned.specs.of_form.Seen.{header_seen, page_seen}
+use Rattle.bdb_law_turned.specs.of_format.declared.pages.Header.{Header}
+use Rattle.bdb_law_turned.proofs.of_format.FileLemmas.{kind_is, last_page, page_is}
+use Rattle.bdb_law_turned.proofs.of_format.GraphLemmas.{type_fits, typed_page, zero_page}
+use Rattle.bdb_law_turned.proofs.of_format.PageLemmas.{later_type, some_type, zero_byte}
+use Rattle.bdb_law_turned.proofs.of_format.TypeLemmas.{one_type}
+use Rattle.bdb_law_turned.proofs.of_format.VerdictLemmas.{no_rows_at, none_within}
+use Rattle.bdb_law_turned.specs.of_format.File.{File, file_of, header_in, page_at, page_bytes}
+use Rattle.bdb_law_turned.specs.of_format.Graph.{is_anchor, is_anchor_in, is_hash_meta, is_meta, is_reserve, is_spare, owners}
+use Rattle.bdb_law_turned.specs.of_format.HeadOf.{head_of}
+use Rattle.bdb_law_turned.specs.of_format.Numbers.{byte_at}
+use Rattle.bdb_law_turned.specs.of_format.Page.{Page}
+use Rattle.bdb_law_turned.specs.of_format.Reading.{abstract_page, is_zero, page_as, page_type}
+use Rattle.bdb_law_turned.specs.of_format.Rows.{form_code, is_queue, is_tree_type, may_have_type, type_of}
+use Rattle.bdb_law_turned.specs.of_format.Verdict.{ownership_faults, ownership_rows}
+use Rattle.bdb_law_turned.proofs.of_image.FirstLemmas.{formed_page}
+use Rattle.bdb_law_turned.proofs.of_image.HeldLemmas.{own_type}
+use Rattle.bdb_law_turned.specs.of_image.Linked.{IsForest}
 use Rattle.bdb_stat.specs.Classes.{class_by_type, class_of, is_class, same_class, tree_level}
 use Rattle.bdb_stat.specs.declared.class.Class.{Class}
 use Rattle.bdb_stat.specs.declared.class.Class.TheVariants.{Internal, Leaf, Meta, Queue, Reserve, Tail}

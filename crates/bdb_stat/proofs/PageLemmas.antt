@@ -1,20 +1,20 @@
 -- The pages of an image and their bytes.
 use Rattle.std.proofs.Common.{◌≡◌, ◌∙◌, ℕ, ◌<◌, ◌≤◌, true, false, List, length, sym, ap, subst, arith}
 use Rattle.std.specs.Prelude.{None}
-use Rattle.bdb_turned.proofs.of_format.FileLemmas.{last_page, page_is, past_last}
-use Rattle.bdb_turned.proofs.of_format.GraphLemmas.{typed_page, zero_page}
-use Rattle.bdb_turned.specs.of_format.declared.metadata.Head.{Head}
-use Rattle.bdb_turned.specs.of_format.File.{file_of, page_at, page_bytes}
-use Rattle.bdb_turned.specs.of_format.HeadOf.{head_of}
-use Rattle.bdb_turned.specs.of_format.Numbers.{byte_at}
-use Rattle.bdb_turned.specs.of_format.Reading.{abstract_page, is_zero, page_as, page_type}
-use Rattle.bdb_turned.specs.of_format.Rows.{body_code, form_code}
-use Rattle.bdb_turned.proofs.of_graph.ChainLengthLemmas.{size_is}
-use Rattle.bdb_turned.proofs.of_image.FirstLemmas.{formed_accepted, formed_page}
-use Rattle.bdb_turned.specs.of_image.Formed.{IsAccepted}
-use Rattle.bdb_turned.specs.of_image.Linked.{IsForest}
+use Rattle.bdb_law_turned.proofs.of_format.FileLemmas.{last_page, page_is, past_last}
+use Rattle.bdb_law_turned.proofs.of_format.GraphLemmas.{typed_page, zero_page}
+use Rattle.bdb_law_turned.specs.of_format.declared.metadata.Head.{Head}
+use Rattle.bdb_law_turned.specs.of_format.File.{file_of, page_at, page_bytes}
+use Rattle.bdb_law_turned.specs.of_format.HeadOf.{head_of}
+use Rattle.bdb_law_turned.specs.of_format.Numbers.{byte_at}
+use Rattle.bdb_law_turned.specs.of_format.Reading.{abstract_page, is_zero, page_as, page_type}
+use Rattle.bdb_law_turned.specs.of_format.Rows.{body_code, form_code}
+use Rattle.bdb_law_turned.proofs.of_graph.ChainLengthLemmas.{size_is}
+use Rattle.bdb_law_turned.proofs.of_image.FirstLemmas.{formed_accepted, formed_page}
+use Rattle.bdb_law_turned.specs.of_image.Formed.{IsAccepted}
+use Rattle.bdb_law_turned.specs.of_image.Linked.{IsForest}
 use Rattle.bdb_stat.specs.Unused.{unused_in}
-use Rattle.bdb_turned.proofs.PageLemmas.{body_passed}
+use Rattle.bdb_law_turned.proofs.PageLemmas.{body_passed}
 
 pub accepted_as : (image : List ℕ) (head : Head) → IsForest image → head ≡ head_of image → IsAccepted image head
 accepted_as image head forest is = subst (IsAccepted image) (sym is) (formed_accepted image (head_of image) forest.formed)

@@ -7,8 +7,8 @@ use Rattle.std.proofs.lemmas.Bool.{cases_Bool, cases_lt}
 use Rattle.std.proofs.lemmas.Bool.Decides.{nat_tests}
 use Rattle.std.proofs.lemmas.List.Elements.{filter-append}
 use Rattle.std.proofs.lemmas.List.FromFn.{length-range_with_len}
-use Rattle.bdb_turned.proofs.of_format.ListLemmas.{any_member, passes_here, range_parts}
-use Rattle.bdb_turned.proofs.of_format.MemberLemmas.{first_member, in_range, later_member, none_pass, of_range}
+use Rattle.bdb_law_turned.proofs.of_format.ListLemmas.{any_member, passes_here, range_parts}
+use Rattle.bdb_law_turned.proofs.of_format.MemberLemmas.{first_member, in_range, later_member, none_pass, of_range}
 use Rattle.bdb_stat.specs.Unused.{lies_in, places_outside}
 
 -- a place lies in a range that holds it

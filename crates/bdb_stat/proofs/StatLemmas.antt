@@ -10,35 +10,35 @@ use Rattle.std.proofs.lemmas.List.Elements.{filter-append}
 use Rattle.std.proofs.lemmas.List.FromFn.{length-range_with_len}
 use Rattle.std.proofs.lemmas.List.Sums.{fold-append, sum_by_push}
 use Rattle.std.proofs.Math.Nat.{mul-le-mul_right}
-use Rattle.bdb_turned.proofs.of_format.FileLemmas.{count_is}
-use Rattle.bdb_turned.proofs.of_format.SizeLemmas.{size_bounds}
-use Rattle.bdb_turned.proofs.of_format.VerdictLemmas.{no_stage, none_in}
-use Rattle.bdb_turned.specs.of_format.File.{File, file_of, page_at}
-use Rattle.bdb_turned.specs.of_format.Graph.{is_meta, is_reserve}
-use Rattle.bdb_turned.specs.of_format.declared.metadata.Head.{Head}
-use Rattle.bdb_turned.specs.of_format.HeadOf.{head_of, is_page_size}
-use Rattle.bdb_turned.specs.of_format.Page.{Listed, Page, Zero, Free, Meta as MetaPage, Hash as HashPage, Internal as InternalPage, RecnoInternal, Leaf as LeafPage}
-use Rattle.bdb_turned.specs.of_format.Page.{RecnoLeaf, DupLeaf, Overflow as OverflowPage, Queue as QueuePage, NoType}
-use Rattle.bdb_turned.specs.of_format.Rows.{is_queue}
-use Rattle.bdb_turned.specs.of_format.Verdict.{faults_of}
-use Rattle.bdb_turned.proofs.of_image.FirstLemmas.{formed_accepted}
-use Rattle.bdb_turned.proofs.of_image.FormedLemmas.{IsPaged, accepted_paged}
-use Rattle.bdb_turned.specs.of_image.Formed.{IsAccepted}
-use Rattle.bdb_turned.specs.of_image.Linked.{IsForest}
+use Rattle.bdb_law_turned.proofs.of_format.FileLemmas.{count_is}
+use Rattle.bdb_law_turned.proofs.of_format.SizeLemmas.{size_bounds}
+use Rattle.bdb_law_turned.proofs.of_format.VerdictLemmas.{no_stage, none_in}
+use Rattle.bdb_law_turned.specs.of_format.File.{File, file_of, page_at}
+use Rattle.bdb_law_turned.specs.of_format.Graph.{is_meta, is_reserve}
+use Rattle.bdb_law_turned.specs.of_format.declared.metadata.Head.{Head}
+use Rattle.bdb_law_turned.specs.of_format.HeadOf.{head_of, is_page_size}
+use Rattle.bdb_law_turned.specs.of_format.Page.{Listed, Page, Zero, Free, Meta as MetaPage, Hash as HashPage, Internal as InternalPage, RecnoInternal, Leaf as LeafPage}
+use Rattle.bdb_law_turned.specs.of_format.Page.{RecnoLeaf, DupLeaf, Overflow as OverflowPage, Queue as QueuePage, NoType}
+use Rattle.bdb_law_turned.specs.of_format.Rows.{is_queue}
+use Rattle.bdb_law_turned.specs.of_format.Verdict.{faults_of}
+use Rattle.bdb_law_turned.proofs.of_image.FirstLemmas.{formed_accepted}
+use Rattle.bdb_law_turned.proofs.of_image.FormedLemmas.{IsPaged, accepted_paged}
+use Rattle.bdb_law_turned.specs.of_image.Formed.{IsAccepted}
+use Rattle.bdb_law_turned.specs.of_image.Linked.{IsForest}
 use Rattle.bdb_stat.specs.Classes.{class_by_type, class_of, is_class, levels_below, pages_below, same_class, tree_level}
-use Rattle.bdb_turned.specs.of_format.References.{no_item}
-use Rattle.bdb_turned.specs.Fields.{no_internal}
-use Rattle.bdb_turned.specs.of_form.Ends.{internal_item_end, leaf_item_end}
+use Rattle.bdb_law_turned.specs.of_format.References.{no_item}
+use Rattle.bdb_law_turned.specs.Fields.{no_internal}
+use Rattle.bdb_law_turned.specs.of_form.Ends.{internal_item_end, leaf_item_end}
 use Rattle.bdb_stat.specs.Unused.{listed_unused, unused_below, unused_in}
 use Rattle.bdb_stat.specs.declared.class.Class.{Class}
 use Rattle.bdb_stat.specs.declared.class.Class.TheVariants.{Meta, Internal, Leaf, Hash, Overflow, Free as FreeClass, Reserve, Queue, Tail}
 use Rattle.bdb_stat.proofs.ClassLemmas.{has_class}
-use Rattle.bdb_turned.proofs.of_graph.ChainLengthLemmas.{size_is}
+use Rattle.bdb_law_turned.proofs.of_graph.ChainLengthLemmas.{size_is}
 use Rattle.bdb_stat.proofs.PlaceLemmas.{few_kept, few_outside}
 use Rattle.bdb_stat.specs.declared.figures.Stat.{Stat}
 use Rattle.bdb_stat.specs.Figures.{Counts, IsStat, count_in}
 use Rattle.bdb_stat.specs.Laws.{ClassesAddUp}
-use Rattle.bdb_turned.proofs.of_format.ListLemmas.{range_zero_more}
+use Rattle.bdb_law_turned.proofs.of_format.ListLemmas.{range_zero_more}
 
 -- One page more.
 

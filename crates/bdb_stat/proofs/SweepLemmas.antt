@@ -3,11 +3,11 @@ use Rattle.std.proofs.Common.{◌≡◌, ◌∙◌, inl, inr, ℕ, ◌+◌, ◌-
 use Rattle.std.specs.Prelude.{◌==◌, ◌||◌, ◌++◌, cond, get_or, max, slice_index}
 use Rattle.std.specs.List.{Contains, list_any, range_with_len}
 use Rattle.std.proofs.lemmas.Bool.{cases_lt, eq-eqb, eqb-true}
-use Rattle.bdb_turned.proofs.of_format.ListLemmas.{any_member, passes_here, range_zero_more}
-use Rattle.bdb_turned.proofs.of_format.MemberLemmas.{in_range, of_range}
+use Rattle.bdb_law_turned.proofs.of_format.ListLemmas.{any_member, passes_here, range_zero_more}
+use Rattle.bdb_law_turned.proofs.of_format.MemberLemmas.{in_range, of_range}
 use Rattle.bdb_stat.specs.Unused.{lies_in, places_outside}
 use Rattle.bdb_stat.proofs.PlaceLemmas.{all_outside, few_outside, is_inside, is_outside, none_outside, outside_parts}
-use Rattle.bdb_turned.specs.of_form.Ends.{IsPlaced}
+use Rattle.bdb_law_turned.specs.of_form.Ends.{IsPlaced}
 use Rattle.bdb_stat.specs.Starts.{AreStarts, IsNext, NoStart}
 
 -- an item that begins there is marked, and what is marked begins an item

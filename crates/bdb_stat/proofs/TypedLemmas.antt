@@ -2,14 +2,14 @@
 use Rattle.std.proofs.Common.{◌≡◌, ◌∙◌, ℕ, ◌+◌, ◌-◌, ◌≤◌, List, drop, length, length-drop, length-take, take, ap, arith, refl}
 use Rattle.std.specs.Prelude.{None, min}
 use Rattle.std.proofs.lemmas.Bool.Decides.{nat_tests}
-use Rattle.bdb_turned.specs.of_format.declared.kinds.Order.{Order}
-use Rattle.bdb_turned.specs.of_format.declared.pages.PageType.{PageType}
-use Rattle.bdb_turned.specs.of_format.declared.pages.PageType.TheVariants.{Hash as HashPage, Internal as InternalPage, RecnoInternal as RecnoInternalPage}
-use Rattle.bdb_turned.specs.of_format.declared.pages.PageType.TheVariants.{Leaf as LeafPage, RecnoLeaf as RecnoLeafPage, DupLeaf as DupLeafPage}
-use Rattle.bdb_turned.specs.of_format.declared.pages.PageType.TheVariants.{Overflow as OverflowPage}
-use Rattle.bdb_turned.specs.of_format.Numbers.{two_at}
-use Rattle.bdb_turned.specs.of_format.Reading.{page_as}
-use Rattle.bdb_turned.specs.of_format.Rows.{body_code}
+use Rattle.bdb_law_turned.specs.of_format.declared.kinds.Order.{Order}
+use Rattle.bdb_law_turned.specs.of_format.declared.pages.PageType.{PageType}
+use Rattle.bdb_law_turned.specs.of_format.declared.pages.PageType.TheVariants.{Hash as HashPage, Internal as InternalPage, RecnoInternal as RecnoInternalPage}
+use Rattle.bdb_law_turned.specs.of_format.declared.pages.PageType.TheVariants.{Leaf as LeafPage, RecnoLeaf as RecnoLeafPage, DupLeaf as DupLeafPage}
+use Rattle.bdb_law_turned.specs.of_format.declared.pages.PageType.TheVariants.{Overflow as OverflowPage}
+use Rattle.bdb_law_turned.specs.of_format.Numbers.{two_at}
+use Rattle.bdb_law_turned.specs.of_format.Reading.{page_as}
+use Rattle.bdb_law_turned.specs.of_format.Rows.{body_code}
 use Rattle.bdb_stat.specs.Unused.{unused_in}
 
 -- a page of a chain has the bytes behind its piece

@@ -5,4 +5,4 @@ pub mod Marked
 pub mod Starts
 pub mod Figures
 pub mod Laws
-pub use Rattle.bdb_turned.specs as of_turned
+pub use Rattle.bdb_law_turned.specs as of_law_turned

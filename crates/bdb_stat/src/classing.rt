@@ -1,14 +1,14 @@
 //! The class of a page.
 ghost use Rattle.std.specs.Prelude.{◌≡◌, ◌≢◌, ◌≤◌, None, Some, false};
-ghost use Rattle.bdb_turned.specs.of_form.Seen.{page_seen};
-ghost use Rattle.bdb_turned.specs.of_format.File.{file_of, page_at};
-ghost use Rattle.bdb_turned.specs.of_format.Graph.{is_meta, is_reserve, is_spare};
-ghost use Rattle.bdb_turned.specs.of_format.Rows.{is_queue};
-ghost use Rattle.bdb_turned.specs.of_image.Linked.{IsForest};
+ghost use Rattle.bdb_law_turned.specs.of_form.Seen.{page_seen};
+ghost use Rattle.bdb_law_turned.specs.of_format.File.{file_of, page_at};
+ghost use Rattle.bdb_law_turned.specs.of_format.Graph.{is_meta, is_reserve, is_spare};
+ghost use Rattle.bdb_law_turned.specs.of_format.Rows.{is_queue};
+ghost use Rattle.bdb_law_turned.specs.of_image.Linked.{IsForest};
 ghost use Rattle.bdb_stat.specs.Classes.{class_by_type, class_of};
 
 use crate::class::Class;
-use bdb_turned::{FileKind, Linked, PageView};
+use bdb_law_turned::{FileKind, Linked, PageView};
 
 /// Whether the file is a queue.
 fn is_queue(kind: FileKind) -> bool

@@ -1,6 +1,6 @@
 //! The figures of a file, page by page.
 ghost use Rattle.std.specs.Prelude.{◌≡◌, IfOk, Some};
-ghost use Rattle.bdb_turned.specs.of_format.File.{file_of};
+ghost use Rattle.bdb_law_turned.specs.of_format.File.{file_of};
 ghost use Rattle.bdb_stat.specs.Classes.{class_of, tree_level};
 ghost use Rattle.bdb_stat.specs.Figures.{IsStat};
 
@@ -9,7 +9,7 @@ use crate::classing::class_of;
 use crate::figures::Stat;
 use crate::marks::Marks;
 use crate::unused::unused_on;
-use bdb_turned::Linked;
+use bdb_law_turned::Linked;
 use std::alloc::{AllocError, Global};
 
 /// The level of a page of a tree; 0 of a page of another class.

@@ -1,11 +1,11 @@
 ghost use Rattle.std.specs.Prelude.{◌≡◌, ◌≤◌, None, length};
-ghost use Rattle.bdb_turned.specs.of_format.Reading.{entries_of, hash_item_at, index_end, listed, offset_of};
-ghost use Rattle.bdb_turned.specs.of_format.Rows.{listed_code};
-ghost use Rattle.bdb_turned.specs.of_format.declared.pages.PageType.TheVariants.{Hash as HashPage};
+ghost use Rattle.bdb_law_turned.specs.of_format.Reading.{entries_of, hash_item_at, index_end, listed, offset_of};
+ghost use Rattle.bdb_law_turned.specs.of_format.Rows.{listed_code};
+ghost use Rattle.bdb_law_turned.specs.of_format.declared.pages.PageType.TheVariants.{Hash as HashPage};
 ghost use Rattle.bdb_stat.specs.Unused.{hash_unused};
 ghost use Rattle.bdb_stat.specs.Ends.{lowest};
 
-use bdb_turned::{Order, index_end, offset_at, u16_at};
+use bdb_law_turned::{Order, index_end, offset_at, u16_at};
 
 /// Where the last item of a page begins, or else the page's end.
 #[tactic(auto, using(crate::proofs::ItemLemmas::no_lowest, crate::proofs::ItemLemmas::last_lowest))]

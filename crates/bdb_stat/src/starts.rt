@@ -1,13 +1,13 @@
 //! The bytes of a page that lie in no item, by the places where items begin.
 ghost use Rattle.std.specs.Prelude.{◌≡◌, ◌<◌, ◌≤◌, ◌↔◌, ◌-◌, ℕ, IfSome, None, length, true};
-ghost use Rattle.bdb_turned.specs.of_format.Reading.{entries_of, index_end, listed, offset_of};
-ghost use Rattle.bdb_turned.specs.of_format.Rows.{listed_code};
+ghost use Rattle.bdb_law_turned.specs.of_format.Reading.{entries_of, index_end, listed, offset_of};
+ghost use Rattle.bdb_law_turned.specs.of_format.Rows.{listed_code};
 ghost use Rattle.bdb_stat.specs.Unused.{item_unused, places_outside};
-ghost use Rattle.bdb_turned.specs.of_form.Ends.{ArePlaced};
+ghost use Rattle.bdb_law_turned.specs.of_form.Ends.{ArePlaced};
 ghost use Rattle.bdb_stat.specs.Starts.{AreStarts};
 
 use crate::marks::Marks;
-use bdb_turned::{EndKind, LaidKind, Order, index_end, offset_at, u16_at};
+use bdb_law_turned::{EndKind, LaidKind, Order, index_end, offset_at, u16_at};
 
 /// Marks the places where the items of a page begin, and no others. Items that begin at one place have one mark.
 fn mark_starts(starts: &mut Marks, page: &[u8], order: Order)

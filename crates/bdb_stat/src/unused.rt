@@ -1,16 +1,16 @@
 //! The bytes of a page that hold nothing.
 ghost use Rattle.std.specs.Prelude.{◌≡◌, ◌<◌, ◌≤◌, None, length};
-ghost use Rattle.bdb_turned.specs.of_format.File.{file_of, page_at};
-ghost use Rattle.bdb_turned.specs.of_format.HeadOf.{head_of};
-ghost use Rattle.bdb_turned.specs.of_format.Reading.{page_as};
-ghost use Rattle.bdb_turned.specs.of_format.Rows.{body_code};
-ghost use Rattle.bdb_turned.specs.of_image.Linked.{IsForest};
+ghost use Rattle.bdb_law_turned.specs.of_format.File.{file_of, page_at};
+ghost use Rattle.bdb_law_turned.specs.of_format.HeadOf.{head_of};
+ghost use Rattle.bdb_law_turned.specs.of_format.Reading.{page_as};
+ghost use Rattle.bdb_law_turned.specs.of_format.Rows.{body_code};
+ghost use Rattle.bdb_law_turned.specs.of_image.Linked.{IsForest};
 ghost use Rattle.bdb_stat.specs.Unused.{unused_in};
 
 use crate::hash::unused_before_items;
 use crate::marks::Marks;
 use crate::starts::unused_behind;
-use bdb_turned::{
+use bdb_law_turned::{
     EntryLeafKind, Head, InternalKind, LeafKind, Order, PageType, RecnoInternalKind, Records,
     SortedData, is_zero, page_bytes, page_type, u16_at,
 };

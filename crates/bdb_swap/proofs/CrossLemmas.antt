@@ -11,7 +11,7 @@ use Rattle.std.proofs.lemmas.List.{take_more}
 use Rattle.bdb_io.proofs.of_format.ListLemmas.{any_member, passes_here}
 use Rattle.bdb_io.proofs.of_format.MemberLemmas.{in_range, member_cases, no_member, none_pass, none_passes, of_range, first_member, later_member}
 use Rattle.bdb_swap.specs.Crossing.{AreEnds, AreRanges, crosses, crosses_at, end_at, greatest_below, some_share}
-use Rattle.bdb_turned.specs.Overlaps.{share_bytes}
+use Rattle.bdb_law_turned.specs.Overlaps.{share_bytes}
 
 -- The greatest end.
 

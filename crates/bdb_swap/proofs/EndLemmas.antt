@@ -11,10 +11,10 @@ use Rattle.bdb_io.proofs.of_format.PageLemmas.{index_offset, length_items}
 use Rattle.bdb_io.specs.of_format.declared.kinds.Order.{Order}
 use Rattle.bdb_io.specs.of_format.Reading.{entries_of, listed, offset_of}
 use Rattle.bdb_swap.specs.Crossing.{AreEnds, AreRanges, end_at, some_share}
-use Rattle.bdb_turned.specs.Overlaps.{listed_overlap, share_bytes}
-use Rattle.bdb_turned.specs.of_form.Ends.{ArePlaced}
+use Rattle.bdb_law_turned.specs.Overlaps.{listed_overlap, share_bytes}
+use Rattle.bdb_law_turned.specs.of_form.Ends.{ArePlaced}
 use Rattle.bdb_swap.proofs.CrossLemmas.{found_in}
-use Rattle.bdb_turned.proofs.ListedLemmas.{any_same, item_in}
+use Rattle.bdb_law_turned.proofs.ListedLemmas.{any_same, item_in}
 
 abbrev otherwise : Option ℕ → Option ℕ → Option ℕ
 otherwise None other = other

@@ -15,14 +15,14 @@ use Rattle.bdb_io.specs.of_format.File.{file_of, page_at, page_bytes}
 use Rattle.bdb_io.specs.of_format.HeadOf.{head_of}
 use Rattle.bdb_io.specs.of_format.Reading.{abstract_page, is_zero}
 use Rattle.bdb_io.specs.of_format.Verdict.{file_faults, head_faults, tail_faults}
-use Rattle.bdb_turned.proofs.of_image.FirstLemmas.{formed_accepted, formed_page}
-use Rattle.bdb_turned.proofs.of_image.FormedLemmas.{accepted_paged}
-use Rattle.bdb_turned.specs.of_image.Formed.{IsAccepted}
-use Rattle.bdb_turned.specs.of_image.Linked.{IsForest}
-use Rattle.bdb_turned.specs.Flipped.{first_overlap, flipped}
-use Rattle.bdb_turned.specs.Overlaps.{overlaps}
-use Rattle.bdb_turned.specs.Turning.{turned_page}
-use Rattle.bdb_turned.proofs.FlipLemmas.{zero_above}
+use Rattle.bdb_law_turned.proofs.of_image.FirstLemmas.{formed_accepted, formed_page}
+use Rattle.bdb_law_turned.proofs.of_image.FormedLemmas.{accepted_paged}
+use Rattle.bdb_law_turned.specs.of_image.Formed.{IsAccepted}
+use Rattle.bdb_law_turned.specs.of_image.Linked.{IsForest}
+use Rattle.bdb_law_turned.specs.Flipped.{first_overlap, flipped}
+use Rattle.bdb_law_turned.specs.Overlaps.{overlaps}
+use Rattle.bdb_law_turned.specs.Turning.{turned_page}
+use Rattle.bdb_law_turned.proofs.FlipLemmas.{zero_above}
 use Rattle.bdb_swap.specs.Formed.{HasForm}
 use Rattle.bdb_swap.specs.Turns.{pages_turned}
 use Rattle.bdb_io.proofs.of_format.GraphLemmas.{zero_page}

@@ -10,10 +10,10 @@ use Rattle.bdb_io.specs.of_format.HeadOf.{is_page_size}
 use Rattle.bdb_io.specs.of_format.Numbers.{byte_at}
 use Rattle.bdb_io.specs.of_format.Reading.{abstract_page, is_zero, page_as, page_type}
 use Rattle.bdb_io.specs.of_format.Rows.{form_code}
-use Rattle.bdb_turned.specs.Fields.{fields_of}
-use Rattle.bdb_turned.specs.Overlaps.{overlaps}
-use Rattle.bdb_turned.specs.Turning.{turned_page}
-use Rattle.bdb_turned.proofs.PageLemmas.{AreNumbersOf, no_fields_turn, numbers_by_type}
+use Rattle.bdb_law_turned.specs.Fields.{fields_of}
+use Rattle.bdb_law_turned.specs.Overlaps.{overlaps}
+use Rattle.bdb_law_turned.specs.Turning.{turned_page}
+use Rattle.bdb_law_turned.proofs.PageLemmas.{AreNumbersOf, no_fields_turn, numbers_by_type}
 use Rattle.bdb_swap.specs.Turns.{Turns}
 
 -- no two items share a byte on pages of other types

@@ -9,11 +9,11 @@ use Rattle.std.proofs.lemmas.List.Elements.{Contains-append_left, Contains-appen
 use Rattle.bdb_io.proofs.of_format.MemberLemmas.{first_member, member_cases, no_member}
 use Rattle.bdb_io.proofs.of_format.TurnLemmas.{length-slice_range}
 use Rattle.bdb_io.specs.of_format.Numbers.{byte_at, overwritten}
-use Rattle.bdb_turned.specs.Fields.{Field, block_fields, field}
-use Rattle.bdb_turned.specs.Apart.{run_length, AreApart, LieWithin}
-use Rattle.bdb_turned.specs.Turning.{mirror, turned_round}
+use Rattle.bdb_law_turned.specs.Fields.{Field, block_fields, field}
+use Rattle.bdb_law_turned.specs.Apart.{run_length, AreApart, LieWithin}
+use Rattle.bdb_law_turned.specs.Turning.{mirror, turned_round}
 use Rattle.bdb_swap.specs.Turns.{Turns}
-use Rattle.bdb_turned.proofs.PlaceLemmas.{get_or-turned_round, inside_or_not, length-turned_round, mirror-inside, mirror-outside}
+use Rattle.bdb_law_turned.proofs.PlaceLemmas.{get_or-turned_round, inside_or_not, length-turned_round, mirror-inside, mirror-outside}
 use Rattle.bdb_io.proofs.of_format.SpellingLemmas.{length-overwritten}
 
 some_last : (done : List Field) (f : Field) → Contains (done ++ f ∷ []) f

@@ -2,7 +2,7 @@
 use Rattle.std.specs.Prelude.{◌≡◌, ◌<◌, ◌≤◌, ℕ, max, nat_lt, ◌==◌, ◌&&◌, not, Bool, List, length, take, slice_index}
 use Rattle.std.specs.List.{count_by, find, fold, list_any, range_with_len}
 use Rattle.std.specs.Option.{option_map, unwrap_or}
-use Rattle.bdb_turned.specs.Overlaps.{share_bytes}
+use Rattle.bdb_law_turned.specs.Overlaps.{share_bytes}
 
 -- the end of the first of n ranges that begins at a place, 0 where none does
 abbrev pub end_at : ℕ → (ℕ → ℕ) → (ℕ → ℕ) → ℕ → ℕ

@@ -4,7 +4,7 @@ use Rattle.bdb_io.specs.of_format.declared.metadata.Head.{Head}
 use Rattle.bdb_io.specs.of_format.File.{page_bytes}
 use Rattle.bdb_io.specs.of_format.Reading.{is_zero}
 use Rattle.bdb_io.specs.of_format.Rows.{form_code}
-use Rattle.bdb_turned.specs.of_image.Formed.{IsAccepted}
+use Rattle.bdb_law_turned.specs.of_image.Formed.{IsAccepted}
 
 -- page 0 is accepted, no row of form holds for a page that isn't zero, and those above the last page are zero
 pub record HasForm (head : Head) (image : List ℕ) : Type 0 where

@@ -3,9 +3,9 @@ use Rattle.std.specs.Prelude.{◌≡◌, ℕ, List, ◌++◌, length}
 use Rattle.std.specs.List.{flat_map, range_with_len}
 use Rattle.bdb_io.specs.of_format.declared.metadata.Head.{Head}
 use Rattle.bdb_io.specs.of_format.File.{page_bytes}
-use Rattle.bdb_turned.specs.Fields.{Field}
-use Rattle.bdb_turned.specs.Turning.{turned_page, turned_round}
-use Rattle.bdb_turned.specs.Apart.{AreApart, LieWithin}
+use Rattle.bdb_law_turned.specs.Fields.{Field}
+use Rattle.bdb_law_turned.specs.Turning.{turned_page, turned_round}
+use Rattle.bdb_law_turned.specs.Apart.{AreApart, LieWithin}
 
 -- one page of bytes has more of the numbers of another turned round than before
 abbrev pub Turns : List ℕ → List Field → List ℕ → List ℕ → Type 0

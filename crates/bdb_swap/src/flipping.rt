@@ -3,7 +3,7 @@ ghost use Rattle.bdb_swap.specs.Flip.{IsFlip};
 
 use crate::image::{copy_of, turned_image};
 use bdb_io::{Bytes, Image, Order};
-use bdb_turned::Linked;
+use bdb_law_turned::Linked;
 use std::alloc::{AllocError, Global};
 use std::marker::Model;
 use thiserror::Error;

@@ -1,14 +1,14 @@
 ghost use Rattle.std.specs.Prelude.{◌≡◌, ◌+◌, ◌≤◌, length};
-ghost use Rattle.bdb_turned.specs.of_layout.Seen.{hash_item_seen};
-ghost use Rattle.bdb_turned.specs.Fields.{block_fields, hash_fields};
-ghost use Rattle.bdb_turned.specs.Apart.{run_length};
-ghost use Rattle.bdb_turned.specs.Parts.{hash_item_end};
+ghost use Rattle.bdb_law_turned.specs.of_layout.Seen.{hash_item_seen};
+ghost use Rattle.bdb_law_turned.specs.Fields.{block_fields, hash_fields};
+ghost use Rattle.bdb_law_turned.specs.Apart.{run_length};
+ghost use Rattle.bdb_law_turned.specs.Parts.{hash_item_end};
 ghost use Rattle.bdb_swap.specs.Turns.{Turns};
 
 use crate::listed::TurnKind;
 use crate::number::{turn_four, turn_two};
 use bdb_io::Order;
-use bdb_turned::{DupBlocks, HashItem, HashKind, known_hash_item, offset_at};
+use bdb_law_turned::{DupBlocks, HashItem, HashKind, known_hash_item, offset_at};
 
 impl TurnKind for HashKind {
     ghost fields = { λ at item. hash_fields at item.content };

@@ -1,11 +1,11 @@
 ghost use Rattle.std.specs.Prelude.{◌≡◌, ◌≤◌, length};
 ghost use Rattle.bdb_io.specs.of_format.Reading.{entries_of, index_end};
-ghost use Rattle.bdb_turned.specs.Fields.{header_fields, index_fields};
+ghost use Rattle.bdb_law_turned.specs.Fields.{header_fields, index_fields};
 ghost use Rattle.bdb_swap.specs.Turns.{Turns};
 
 use crate::number::{turn_four, turn_two};
 use bdb_io::Order;
-use bdb_turned::u16_at;
+use bdb_law_turned::u16_at;
 
 /// Turns the numbers of a page's header round.
 pub(crate) fn turn_header(page: &mut [u8], source: &[u8])

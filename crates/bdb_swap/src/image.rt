@@ -2,8 +2,8 @@ ghost use Rattle.std.specs.Prelude.{◌≡◌, ◌++◌, IfOk, OnOk, None, false
 ghost use Rattle.bdb_io.specs.of_format.HeadOf.{is_page_size};
 ghost use Rattle.bdb_io.specs.of_format.Reading.{abstract_page, is_zero};
 ghost use Rattle.bdb_io.specs.of_format.Rows.{form_code};
-ghost use Rattle.bdb_turned.specs.Overlaps.{overlaps};
-ghost use Rattle.bdb_turned.specs.Turning.{turned_page};
+ghost use Rattle.bdb_law_turned.specs.Overlaps.{overlaps};
+ghost use Rattle.bdb_law_turned.specs.Turning.{turned_page};
 ghost use Rattle.bdb_swap.specs.Flip.{IsTurnedImage};
 ghost use Rattle.bdb_swap.specs.Formed.{HasForm};
 
@@ -11,7 +11,7 @@ use crate::flipping::FlipError;
 use crate::overlap::page_overlaps;
 use crate::page::turn_page;
 use bdb_io::{Bytes, Head};
-use bdb_turned::page_bytes;
+use bdb_law_turned::page_bytes;
 use std::alloc::{AllocError, Global};
 
 /// A copy of bytes, whose room is taken at once.

@@ -1,13 +1,13 @@
 ghost use Rattle.std.specs.Prelude.{◌≡◌, ◌≤◌, length};
-ghost use Rattle.bdb_turned.specs.of_layout.Seen.{internal_item_seen};
-ghost use Rattle.bdb_turned.specs.Fields.{internal_fields};
-ghost use Rattle.bdb_turned.specs.of_form.Ends.{internal_item_end};
+ghost use Rattle.bdb_law_turned.specs.of_layout.Seen.{internal_item_seen};
+ghost use Rattle.bdb_law_turned.specs.Fields.{internal_fields};
+ghost use Rattle.bdb_law_turned.specs.of_form.Ends.{internal_item_end};
 ghost use Rattle.bdb_swap.specs.Turns.{Turns};
 
 use crate::listed::TurnKind;
 use crate::number::{turn_four, turn_two};
 use bdb_io::Order;
-use bdb_turned::{InternalItem, InternalKey, InternalKind, known_internal_item, offset_at};
+use bdb_law_turned::{InternalItem, InternalKey, InternalKind, known_internal_item, offset_at};
 
 impl TurnKind for InternalKind {
     ghost fields = { internal_fields };

@@ -1,13 +1,13 @@
 ghost use Rattle.std.specs.Prelude.{◌≡◌, ◌≤◌, length};
-ghost use Rattle.bdb_turned.specs.of_layout.Seen.{leaf_item_seen};
-ghost use Rattle.bdb_turned.specs.Fields.{leaf_fields};
-ghost use Rattle.bdb_turned.specs.of_form.Ends.{leaf_item_end};
+ghost use Rattle.bdb_law_turned.specs.of_layout.Seen.{leaf_item_seen};
+ghost use Rattle.bdb_law_turned.specs.Fields.{leaf_fields};
+ghost use Rattle.bdb_law_turned.specs.of_form.Ends.{leaf_item_end};
 ghost use Rattle.bdb_swap.specs.Turns.{Turns};
 
 use crate::listed::TurnKind;
 use crate::number::{turn_four, turn_two};
 use bdb_io::Order;
-use bdb_turned::{Entries, EntryLeafKind, LeafItem, LeafKind, known_leaf_item, offset_at};
+use bdb_law_turned::{Entries, EntryLeafKind, LeafItem, LeafKind, known_leaf_item, offset_at};
 
 impl TurnKind for LeafKind {
     ghost fields = { λ at item. leaf_fields at item.content };

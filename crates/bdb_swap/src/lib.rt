@@ -17,5 +17,5 @@ mod ranged;
 mod recno;
 
 pub use bdb_io::{Order, Sink, Steps};
-pub use bdb_turned::{link, open_image};
+pub use bdb_law_turned::{link, open_image};
 pub use flipping::{FlipError, flip};

@@ -3,12 +3,12 @@ ghost use Rattle.std.specs.List.{flat_map, range_with_len};
 ghost use Rattle.bdb_io.specs.of_format.Reading.{entries_of, index_end, listed, offset_of};
 ghost use Rattle.bdb_io.specs.of_format.Rows.{item_rows, listed_code};
 ghost use Rattle.bdb_io.specs.of_format.Table.{first_row};
-ghost use Rattle.bdb_turned.specs.Fields.{Field, listed_fields};
+ghost use Rattle.bdb_law_turned.specs.Fields.{Field, listed_fields};
 ghost use Rattle.bdb_swap.specs.Turns.{Turns};
 
 use crate::header::{turn_header, turn_index};
 use bdb_io::Order;
-use bdb_turned::{PageKind, u16_at};
+use bdb_law_turned::{PageKind, u16_at};
 
 /// A type of pages with an index, by the numbers of its items.
 pub(crate) trait TurnKind: PageKind {

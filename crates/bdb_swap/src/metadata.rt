@@ -1,5 +1,5 @@
 ghost use Rattle.std.specs.Prelude.{◌≡◌, ◌≤◌, ◌++◌, length};
-ghost use Rattle.bdb_turned.specs.Fields.{common_fields, fours};
+ghost use Rattle.bdb_law_turned.specs.Fields.{common_fields, fours};
 ghost use Rattle.bdb_swap.specs.Turns.{Turns};
 
 use crate::number::turn_fours;

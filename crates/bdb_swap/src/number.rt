@@ -1,6 +1,6 @@
 ghost use Rattle.std.specs.Prelude.{◌≡◌, ◌+◌, ◌*◌, ◌≤◌, length, reverse, slice_range};
 ghost use Rattle.bdb_io.specs.of_format.Numbers.{overwritten};
-ghost use Rattle.bdb_turned.specs.Fields.{fours};
+ghost use Rattle.bdb_law_turned.specs.Fields.{fours};
 ghost use Rattle.bdb_swap.specs.Turns.{Turns};
 
 /// Writes the four bytes that another page has at a place, in the reverse order.

@@ -2,17 +2,17 @@ ghost use Rattle.std.specs.Prelude.{◌≡◌, ◌<◌, ◌≤◌, None, false, 
 ghost use Rattle.bdb_io.specs.of_format.HeadOf.{is_page_size};
 ghost use Rattle.bdb_io.specs.of_format.Reading.{abstract_page, is_zero, page_as};
 ghost use Rattle.bdb_io.specs.of_format.Rows.{body_code, form_code};
-ghost use Rattle.bdb_turned.specs.Overlaps.{overlaps};
+ghost use Rattle.bdb_law_turned.specs.Overlaps.{overlaps};
 
 use crate::ranged::items_overlap;
 use bdb_io::{Head, Order, PageType};
-use bdb_turned::{
+use bdb_law_turned::{
     EntryLeafKind, InternalKind, LeafKind, RecnoInternalKind, Records, SortedData, is_zero,
     page_type,
 };
 
 /// Whether some two items of a page of a type share a byte. Those of a hash page can't.
-#[tactic(auto, using(crate::proofs::TypedLemmas::none_overlap), unfolding(bdb_turned::specs::Overlaps::overlaps))]
+#[tactic(auto, using(crate::proofs::TypedLemmas::none_overlap), unfolding(bdb_law_turned::specs::Overlaps::overlaps))]
 fn typed_overlaps(ends: &mut [u16], page: &[u8], order: Order, page_type: PageType) -> bool
     requires long { 512 ≤ length page.now }
     requires low { length page.now < 65536 }

@@ -2,9 +2,9 @@ ghost use Rattle.std.specs.Prelude.{◌≡◌, ◌≤◌, None, false, true, len
 ghost use Rattle.bdb_io.specs.of_format.HeadOf.{is_page_size};
 ghost use Rattle.bdb_io.specs.of_format.Reading.{abstract_page, is_zero, page_as};
 ghost use Rattle.bdb_io.specs.of_format.Rows.{body_code, form_code};
-ghost use Rattle.bdb_turned.specs.Fields.{fields_of};
-ghost use Rattle.bdb_turned.specs.Overlaps.{overlaps};
-ghost use Rattle.bdb_turned.specs.Turning.{turned_page};
+ghost use Rattle.bdb_law_turned.specs.Fields.{fields_of};
+ghost use Rattle.bdb_law_turned.specs.Overlaps.{overlaps};
+ghost use Rattle.bdb_law_turned.specs.Turning.{turned_page};
 ghost use Rattle.bdb_swap.specs.Turns.{Turns};
 
 use crate::header::turn_header;
@@ -12,13 +12,13 @@ use crate::listed::turn_listed;
 use crate::metadata::{turn_btree_meta, turn_hash_meta, turn_queue_meta};
 use crate::number::turn_fours;
 use bdb_io::{Head, Order, PageType};
-use bdb_turned::{
+use bdb_law_turned::{
     EntryLeafKind, HashKind, InternalKind, LeafKind, RecnoInternalKind, Records, SortedData,
     is_zero, page_type,
 };
 
 /// Turns a page of a type round.
-#[tactic(auto, using(crate::proofs::WriteLemmas::turns_none), unfolding(bdb_turned::specs::Fields::fields_of))]
+#[tactic(auto, using(crate::proofs::WriteLemmas::turns_none), unfolding(bdb_law_turned::specs::Fields::fields_of))]
 fn turn_typed(page: &mut [u8], source: &[u8], order: Order, page_type: PageType)
     requires size { 512 ≤ length source.now }
     requires code { body_code order source.now page_type ≡ None }

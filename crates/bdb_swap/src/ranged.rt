@@ -1,13 +1,13 @@
 ghost use Rattle.std.specs.Prelude.{◌≡◌, ◌<◌, ◌≤◌, ◌==◌, ℕ, None, get_or, length, set};
 ghost use Rattle.bdb_io.specs.of_format.Reading.{entries_of, index_end, listed, offset_of};
 ghost use Rattle.bdb_io.specs.of_format.Rows.{listed_code};
-ghost use Rattle.bdb_turned.specs.Overlaps.{listed_overlap};
-ghost use Rattle.bdb_turned.specs.of_form.Ends.{ArePlaced};
+ghost use Rattle.bdb_law_turned.specs.Overlaps.{listed_overlap};
+ghost use Rattle.bdb_law_turned.specs.of_form.Ends.{ArePlaced};
 ghost use Rattle.bdb_swap.specs.Crossing.{AreEnds, AreNoted};
 
 use crate::crossing::{Noted, crosses};
 use bdb_io::Order;
-use bdb_turned::{EndKind, LaidKind, offset_at, u16_at};
+use bdb_law_turned::{EndKind, LaidKind, offset_at, u16_at};
 
 /// Notes the end of a range at the place where it begins, and tells whether none was noted there.
 fn note_end(ends: &mut [u16], at: usize, end: usize) -> bool

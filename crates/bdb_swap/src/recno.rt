@@ -1,11 +1,11 @@
 ghost use Rattle.std.specs.Prelude.{◌≡◌, ◌+◌, ◌≤◌, length};
-ghost use Rattle.bdb_turned.specs.Fields.{recno_fields};
+ghost use Rattle.bdb_law_turned.specs.Fields.{recno_fields};
 ghost use Rattle.bdb_swap.specs.Turns.{Turns};
 
 use crate::listed::TurnKind;
 use crate::number::turn_four;
 use bdb_io::Order;
-use bdb_turned::{RecnoInternalKind, offset_at};
+use bdb_law_turned::{RecnoInternalKind, offset_at};
 
 impl TurnKind for RecnoInternalKind {
     ghost fields = { λ at item. recno_fields at };

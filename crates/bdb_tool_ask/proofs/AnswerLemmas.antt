@@ -20,7 +20,7 @@ use Rattle.bdb_file.specs.of_format.Databases.{Database, data_under, databases, 
 use Rattle.bdb_file.specs.of_format.File.{File, file_of}
 use Rattle.bdb_file.specs.of_format.Flags.{kind_of}
 use Rattle.bdb_file.specs.of_format.Lists.{ListKey, list_of}
-use Rattle.bdb_stat.specs.of_turned.Flipped.{overlap_in}
+use Rattle.bdb_stat.specs.of_law_turned.Flipped.{overlap_in}
 use Rattle.bdb_tool_dump.specs.of_range.Ranges.{in_range}
 use Rattle.bdb_file.specs.of_format.Verdict.{Faulty, Judgement, LeftOut, verdict_of, first_judgement, judgement_of}
 use Rattle.bdb_file.specs.of_databases.Named.{database_at, no_database}

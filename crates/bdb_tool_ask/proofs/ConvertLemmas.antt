@@ -8,7 +8,7 @@ use Rattle.bdb_tool_dump.proofs.of_tool_lines.PrintingLemmas.{moved}
 use Rattle.bdb_tool_words.specs.of_model.Answers.{done}
 use Rattle.bdb_tool_ask.specs.FileAnswers.{converted, overlap_line}
 use Rattle.bdb_tool_words.specs.of_model.Change.{Change}
-use Rattle.bdb_stat.specs.of_turned.Flipped.{flip_of, overlap_in}
+use Rattle.bdb_stat.specs.of_law_turned.Flipped.{flip_of, overlap_in}
 use Rattle.bdb_tool_words.specs.of_model.Lines.{memory_line}
 use Rattle.bdb_swap.specs.Flip.{IsFlip}
 use Rattle.bdb_swap.specs.declared.flipping.FlipError.{FlipError}

@@ -15,7 +15,7 @@ use Rattle.bdb_tool_dump.specs.of_range.Ranges.{in_range}
 use Rattle.bdb_stat.specs.declared.class.Class.TheVariants.{Meta, Internal, Leaf, Hash, Overflow, Free, Reserve, Queue, Tail}
 use Rattle.bdb_stat.specs.Classes.{levels, pages_of}
 use Rattle.bdb_stat.specs.Unused.{unused}
-use Rattle.bdb_stat.specs.of_turned.Flipped.{flip_of, overlap_in}
+use Rattle.bdb_stat.specs.of_law_turned.Flipped.{flip_of, overlap_in}
 use Rattle.bdb_file.specs.of_any_order.AnyOrder.{faults_by_rows, verdict_by}
 use Rattle.bdb_file.specs.of_any_order.declared.rows.Rows.{Rows}
 use Rattle.bdb_file.specs.of_format.declared.kinds.Fault.{Fault}

@@ -2,7 +2,7 @@
 ghost use Rattle.std.specs.Prelude.{◌⊎◌};
 ghost use Rattle.bdb_tool_ask.specs.FileAnswers.{converted, overlap_line};
 ghost use Rattle.bdb_tool_words.specs.of_model.Change.{change};
-ghost use Rattle.bdb_stat.specs.of_turned.Flipped.{overlap_in};
+ghost use Rattle.bdb_stat.specs.of_law_turned.Flipped.{overlap_in};
 ghost use Rattle.bdb_tool_words.specs.of_model.Lines.{memory_line};
 ghost use Rattle.bdb_tool_dump.specs.of_tool_lines.Finished.{Finishes, Tells};
 

@@ -1,7 +1,7 @@
 //! Whole files.
 ghost use Rattle.std.specs.Prelude.{◌≡◌, Some, None};
-ghost use Rattle.bdb_turned.specs.of_format.declared.kinds.Order.TheVariants.{Big, Little};
-ghost use Rattle.bdb_turned.specs.Flipped.{flip_of, overlap_in};
+ghost use Rattle.bdb_law_turned.specs.of_format.declared.kinds.Order.TheVariants.{Big, Little};
+ghost use Rattle.bdb_law_turned.specs.Flipped.{flip_of, overlap_in};
 ghost use Rattle.sample_pages.specs.OnePair.{one_pair, one_pair_big};
 ghost use Rattle.sample_turned.specs.Samples.{overlapping};
 

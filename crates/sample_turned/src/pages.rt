@@ -1,7 +1,7 @@
 //! Pages of several types.
 ghost use Rattle.std.specs.Prelude.{◌≡◌};
-ghost use Rattle.bdb_turned.specs.of_format.declared.kinds.Order.TheVariants.{Little};
-ghost use Rattle.bdb_turned.specs.Turning.{turned_page};
+ghost use Rattle.bdb_law_turned.specs.of_format.declared.kinds.Order.TheVariants.{Little};
+ghost use Rattle.bdb_law_turned.specs.Turning.{turned_page};
 ghost use Rattle.sample_turned.specs.Samples.{chain_page, chain_page_big, inner_page, inner_page_big, queue_page, queue_page_big};
 ghost use Rattle.sample_turned.specs.Samples.{set_page, set_page_big, table_metadata, table_metadata_big};
 

@@ -1,5 +1,5 @@
 use Rattle.std.proofs.Common.{◌∙◌}
-use Rattle.bdb_turned.proofs.of_form.EndLemmas.{has_rows, listed_index}
+use Rattle.bdb_law_turned.proofs.of_form.EndLemmas.{has_rows, listed_index}
 use Rattle.bdb_stat.proofs.ItemLemmas.{items_outside}
 use Rattle.bdb_stat.proofs.starts.unused_behind.Goals as goal
 

@@ -1,6 +1,6 @@
 use Rattle.std.proofs.Common.{◌≡◌, ◌≤◌, ◌+◌, length, ℕ, List}
-use Rattle.bdb_turned.specs.Fields.{block_fields}
-use Rattle.bdb_turned.specs.Apart.{run_length}
+use Rattle.bdb_law_turned.specs.Fields.{block_fields}
+use Rattle.bdb_law_turned.specs.Apart.{run_length}
 use Rattle.bdb_swap.specs.Turns.{Turns}
 use Rattle.bdb_swap.proofs.hash.turn_blocks.Given as goal
 

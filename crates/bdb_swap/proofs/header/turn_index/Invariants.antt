@@ -1,5 +1,5 @@
 use Rattle.std.proofs.Common.{◌≡◌, length}
-use Rattle.bdb_turned.specs.Fields.{index_fields}
+use Rattle.bdb_law_turned.specs.Fields.{index_fields}
 use Rattle.bdb_swap.specs.Turns.{Turns}
 use Rattle.bdb_swap.proofs.header.turn_index.Given as goal
 

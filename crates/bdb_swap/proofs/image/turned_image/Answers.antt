@@ -3,10 +3,10 @@ use Rattle.std.specs.Prelude.{None}
 use Rattle.bdb_io.specs.of_format.HeadOf.{is_page_size}
 use Rattle.bdb_io.specs.of_format.Reading.{is_zero}
 use Rattle.bdb_io.specs.of_format.Rows.{form_code}
-use Rattle.bdb_turned.proofs.of_image.FormedLemmas.{accepted_paged}
+use Rattle.bdb_law_turned.proofs.of_image.FormedLemmas.{accepted_paged}
 use Rattle.bdb_swap.proofs.ImageLemmas.{all_turned, joined_long, none_more, overlap_found, page_bounds, pages_more, taken_whole}
 use Rattle.bdb_swap.specs.Turns.{pages_turned}
-use Rattle.bdb_turned.specs.Turning.{turned_page}
+use Rattle.bdb_law_turned.specs.Turning.{turned_page}
 use Rattle.bdb_swap.proofs.image.turned_image.Goals as goal
 
 -- There is a place for each byte of a page.

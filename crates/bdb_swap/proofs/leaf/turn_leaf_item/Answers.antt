@@ -1,5 +1,5 @@
 use Rattle.std.proofs.Common.{[], ◌∷◌, ◌+◌}
-use Rattle.bdb_turned.specs.Fields.{field}
+use Rattle.bdb_law_turned.specs.Fields.{field}
 use Rattle.bdb_swap.proofs.WriteLemmas.{turns_both, turns_one}
 use Rattle.bdb_swap.proofs.leaf.turn_leaf_item.Goals as goal
 

@@ -1,4 +1,4 @@
-use Rattle.bdb_turned.specs.Fields.{common_fields, fours}
+use Rattle.bdb_law_turned.specs.Fields.{common_fields, fours}
 use Rattle.bdb_swap.proofs.WriteLemmas.{turns_both}
 use Rattle.bdb_swap.proofs.metadata.turn_btree_meta.Goals as goal
 

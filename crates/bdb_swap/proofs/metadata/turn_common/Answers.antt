@@ -1,4 +1,4 @@
-use Rattle.bdb_turned.specs.Fields.{fours}
+use Rattle.bdb_law_turned.specs.Fields.{fours}
 use Rattle.bdb_swap.proofs.WriteLemmas.{turns_both}
 use Rattle.bdb_swap.proofs.metadata.turn_common.Goals as goal
 

@@ -1,5 +1,5 @@
 use Rattle.std.proofs.Common.{◌++◌}
-use Rattle.bdb_turned.specs.Fields.{common_fields, fours}
+use Rattle.bdb_law_turned.specs.Fields.{common_fields, fours}
 use Rattle.bdb_swap.proofs.WriteLemmas.{turns_both}
 use Rattle.bdb_swap.proofs.metadata.turn_hash_meta.Goals as goal
 

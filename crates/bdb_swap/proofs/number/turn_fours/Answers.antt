@@ -1,5 +1,5 @@
 use Rattle.std.proofs.Common.{◌≡◌, ◌+◌, ◌*◌, arith, subst}
-use Rattle.bdb_turned.specs.Fields.{fours}
+use Rattle.bdb_law_turned.specs.Fields.{fours}
 use Rattle.bdb_swap.specs.Turns.{Turns}
 use Rattle.bdb_swap.proofs.PartLemmas.{fours_more, turns_then}
 use Rattle.bdb_swap.proofs.number.turn_fours.Goals as goal

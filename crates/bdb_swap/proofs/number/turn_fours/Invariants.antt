@@ -1,5 +1,5 @@
 use Rattle.std.proofs.Common.{◌≡◌, length}
-use Rattle.bdb_turned.specs.Fields.{fours}
+use Rattle.bdb_law_turned.specs.Fields.{fours}
 use Rattle.bdb_swap.specs.Turns.{Turns}
 use Rattle.bdb_swap.proofs.number.turn_fours.Given as goal
 

@@ -1,10 +1,10 @@
 use Rattle.std.proofs.Common.{◌∙◌, ap, subst}
 use Rattle.bdb_io.specs.of_format.Page.{Item}
 use Rattle.bdb_io.specs.of_format.Reading.{offset_of}
-use Rattle.bdb_turned.specs.of_layout.Seen.{hash_item_seen}
-use Rattle.bdb_turned.specs.Fields.{hash_fields}
+use Rattle.bdb_law_turned.specs.of_layout.Seen.{hash_item_seen}
+use Rattle.bdb_law_turned.specs.Fields.{hash_fields}
 use Rattle.bdb_swap.specs.Turns.{Turns}
-use Rattle.bdb_turned.proofs.HashLemmas.{hash_ends_at}
+use Rattle.bdb_law_turned.proofs.HashLemmas.{hash_ends_at}
 use Rattle.bdb_swap.proofs.hash.HashKindTurnKind.turn_item.Goals as goal
 
 -- An item of which no row holds ends on the page.

@@ -1,7 +1,7 @@
 use Rattle.std.proofs.Common.{◌∙◌, ap, subst}
-use Rattle.bdb_turned.specs.Fields.{internal_fields}
+use Rattle.bdb_law_turned.specs.Fields.{internal_fields}
 use Rattle.bdb_swap.specs.Turns.{Turns}
-use Rattle.bdb_turned.proofs.InnerLemmas.{internal_ends_at}
+use Rattle.bdb_law_turned.proofs.InnerLemmas.{internal_ends_at}
 use Rattle.bdb_swap.proofs.internal.InternalKindTurnKind.turn_item.Goals as goal
 
 -- An item of which no row holds ends on the page.

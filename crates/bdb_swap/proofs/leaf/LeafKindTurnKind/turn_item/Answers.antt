@@ -1,6 +1,6 @@
 use Rattle.std.proofs.Common.{refl, subst}
 use Rattle.bdb_swap.specs.Turns.{Turns}
-use Rattle.bdb_turned.proofs.LeafLemmas.{leaf_ends}
+use Rattle.bdb_law_turned.proofs.LeafLemmas.{leaf_ends}
 use Rattle.bdb_swap.proofs.leaf.LeafKindTurnKind.turn_item.Goals as goal
 
 -- An item of which no row holds ends on the page.

@@ -1,7 +1,7 @@
 use Rattle.std.proofs.Common.{◌∙◌, ◌+◌, ◌≤◌, ap, arith, length, subst}
 use Rattle.bdb_io.specs.of_format.Reading.{offset_of}
-use Rattle.bdb_turned.proofs.of_layout.RowLemmas.{recno_fits}
-use Rattle.bdb_turned.specs.Fields.{recno_fields}
+use Rattle.bdb_law_turned.proofs.of_layout.RowLemmas.{recno_fits}
+use Rattle.bdb_law_turned.specs.Fields.{recno_fields}
 use Rattle.bdb_swap.specs.Turns.{Turns}
 use Rattle.bdb_swap.proofs.recno.RecnoInternalKindTurnKind.turn_item.Goals as goal
 

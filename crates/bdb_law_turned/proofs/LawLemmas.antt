@@ -14,9 +14,9 @@ use Rattle.bdb_graph.specs.of_format.Numbers.{turned}
 use Rattle.bdb_graph.specs.of_format.Page.{Metadata, BtreeFields, HashFields, QueueFields}
 use Rattle.bdb_graph.specs.of_format.References.{refs}
 use Rattle.bdb_graph.specs.of_format.Verdict.{faults_of}
-use Rattle.bdb_turned.specs.Flipped.{first_overlap, flip_of, flipped, has_order, overlap_in, same_order}
-use Rattle.bdb_turned.specs.Laws.{FilesFlip, Flips, FlippedFilesKeepDatabases}
-use Rattle.bdb_turned.proofs.FlipLemmas.{TurnsWhole, image_turns}
+use Rattle.bdb_law_turned.specs.Flipped.{first_overlap, flip_of, flipped, has_order, overlap_in, same_order}
+use Rattle.bdb_law_turned.specs.Laws.{FilesFlip, Flips, FlippedFilesKeepDatabases}
+use Rattle.bdb_law_turned.proofs.FlipLemmas.{TurnsWhole, image_turns}
 
 same_is : (order other : Order) → same_order order other ≡ true → order ≡ other
 same_is Little Little is = refl

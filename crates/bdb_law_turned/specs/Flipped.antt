@@ -6,8 +6,8 @@ use Rattle.bdb_graph.specs.of_format.declared.kinds.Order.TheVariants.{Big, Litt
 use Rattle.bdb_graph.specs.of_format.declared.metadata.Head.{Head}
 use Rattle.bdb_graph.specs.of_format.File.{File, file_of, page_at, page_bytes}
 use Rattle.bdb_graph.specs.of_format.HeadOf.{head_of}
-use Rattle.bdb_turned.specs.Overlaps.{overlaps}
-use Rattle.bdb_turned.specs.Turning.{turned_page}
+use Rattle.bdb_law_turned.specs.Overlaps.{overlaps}
+use Rattle.bdb_law_turned.specs.Turning.{turned_page}
 
 abbrev pub same_order : Order → Order → Bool
 same_order Little Little = true

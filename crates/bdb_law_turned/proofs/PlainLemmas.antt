@@ -14,11 +14,11 @@ use Rattle.bdb_graph.specs.of_format.Page.{Metadata, BtreeFields, HashFields, Qu
 use Rattle.bdb_graph.specs.of_format.Reading.{btree_fields, hash_fields as table_fields, queue_fields}
 use Rattle.bdb_graph.specs.of_format.Rows.{are_masks, lacks_spare, records_per_page, btree_rows, meta_rows, queue_rows, table_rows}
 use Rattle.bdb_graph.specs.of_format.Table.{Row, ◌:?◌}
-use Rattle.bdb_turned.specs.Fields.{Field, common_fields, field, fours, kind_fields}
-use Rattle.bdb_turned.specs.Apart.{IsUntouched}
-use Rattle.bdb_turned.proofs.ReadLemmas.{IsTurned, number_same}
-use Rattle.bdb_turned.proofs.ApartLemmas.{Between, bounds}
-use Rattle.bdb_turned.proofs.ListedLemmas.{map_same}
+use Rattle.bdb_law_turned.specs.Fields.{Field, common_fields, field, fours, kind_fields}
+use Rattle.bdb_law_turned.specs.Apart.{IsUntouched}
+use Rattle.bdb_law_turned.proofs.ReadLemmas.{IsTurned, number_same}
+use Rattle.bdb_law_turned.proofs.ApartLemmas.{Between, bounds}
+use Rattle.bdb_law_turned.proofs.ListedLemmas.{map_same}
 
 pub fours_between : (begin n : ℕ) → Between begin (fours begin n) (begin + 4 * n)
 fours_between begin zero = omega arith

@@ -9,10 +9,10 @@ use Rattle.std.proofs.lemmas.List.{ext_get_or, length-take-le, length-reverse, g
 use Rattle.bdb_graph.proofs.of_format.TurnLemmas.{number-turned}
 use Rattle.bdb_graph.specs.of_format.declared.kinds.Order.{Order}
 use Rattle.bdb_graph.specs.of_format.Numbers.{byte_at, number, number_at, turned}
-use Rattle.bdb_turned.specs.Fields.{Field, field}
-use Rattle.bdb_turned.specs.Turning.{mirror, turned_round}
-use Rattle.bdb_turned.specs.Apart.{AreApart, IsUntouched, LieWithin}
-use Rattle.bdb_turned.proofs.PlaceLemmas.{mirror-inside, mirror-outside, mirror-within, length-turned_round, get_or-turned_round, places_turn_back}
+use Rattle.bdb_law_turned.specs.Fields.{Field, field}
+use Rattle.bdb_law_turned.specs.Turning.{mirror, turned_round}
+use Rattle.bdb_law_turned.specs.Apart.{AreApart, IsUntouched, LieWithin}
+use Rattle.bdb_law_turned.proofs.PlaceLemmas.{mirror-inside, mirror-outside, mirror-within, length-turned_round, get_or-turned_round, places_turn_back}
 use Rattle.bdb_graph.proofs.of_format.PageLemmas.{zero_byte}
 
 -- bytes that are others with these numbers turned round: all that is read of them

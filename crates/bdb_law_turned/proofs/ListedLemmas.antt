@@ -9,7 +9,7 @@ use Rattle.bdb_graph.proofs.of_format.MemberLemmas.{first_member, later_member, 
 use Rattle.bdb_graph.proofs.of_format.ListLemmas.{flat_map_same}
 use Rattle.bdb_graph.proofs.of_format.PageLemmas.{index_offset, length_items}
 use Rattle.std.proofs.lemmas.Bool.Decides.{nat_tests}
-use Rattle.bdb_turned.specs.Overlaps.{listed_overlap, share_bytes}
+use Rattle.bdb_law_turned.specs.Overlaps.{listed_overlap, share_bytes}
 use Rattle.bdb_graph.specs.of_format.declared.kinds.Order.{Order}
 use Rattle.bdb_graph.specs.of_format.declared.pages.ItemFault.{ItemFault}
 use Rattle.bdb_graph.specs.of_format.Numbers.{byte_at, turned, four_at, two_at}
@@ -17,11 +17,11 @@ use Rattle.bdb_graph.specs.of_format.declared.pages.PageType.{PageType}
 use Rattle.bdb_graph.specs.of_format.Reading.{entries_of, header_of, listed, offset_of}
 use Rattle.bdb_graph.specs.of_format.Rows.{index_rows, item_row, item_rows, is_code, item_code, listed_code}
 use Rattle.bdb_graph.specs.of_format.Table.{Row, first_row}
-use Rattle.bdb_turned.specs.Fields.{Field, field, header_fields, index_fields, listed_fields}
-pub use Rattle.bdb_turned.specs.Parts.{all_fields}
-use Rattle.bdb_turned.specs.Apart.{AreApart, IsUntouched, LieWithin}
-use Rattle.bdb_turned.proofs.ReadLemmas.{IsTurned, number_same}
-use Rattle.bdb_turned.proofs.ApartLemmas.{AreParts, Between, apart_append, apart_between, apart_parts, bounds, in_parts, index_between, of_parts}
+use Rattle.bdb_law_turned.specs.Fields.{Field, field, header_fields, index_fields, listed_fields}
+pub use Rattle.bdb_law_turned.specs.Parts.{all_fields}
+use Rattle.bdb_law_turned.specs.Apart.{AreApart, IsUntouched, LieWithin}
+use Rattle.bdb_law_turned.proofs.ReadLemmas.{IsTurned, number_same}
+use Rattle.bdb_law_turned.proofs.ApartLemmas.{AreParts, Between, apart_append, apart_between, apart_parts, bounds, in_parts, index_between, of_parts}
 
 -- the items lie behind the index, and on the page
 pub record ArePlaced (n size : ℕ) (part : ℕ → List Field) (low high : ℕ → ℕ) : Type 0 where

@@ -6,7 +6,7 @@ use Rattle.bdb_graph.specs.of_format.Page.{Item, InternalItem, Listed, Page, Zer
 use Rattle.bdb_graph.specs.of_format.Page.{Leaf, RecnoLeaf, DupLeaf, Overflow, Queue, NoType}
 use Rattle.bdb_graph.specs.of_format.References.{no_item}
 use Rattle.bdb_graph.specs.of_form.Ends.{internal_item_end, leaf_item_end}
-use Rattle.bdb_turned.specs.Fields.{no_internal, no_recno}
+use Rattle.bdb_law_turned.specs.Fields.{no_internal, no_recno}
 
 -- two items that begin at different offsets share a byte
 abbrev pub share_bytes : ℕ → ℕ → ℕ → ℕ → Bool

@@ -32,26 +32,26 @@ use Rattle.bdb_graph.proofs.of_image.CodeLemmas.{code_by, not_zero}
 use Rattle.bdb_graph.proofs.of_format.TypeLemmas.{one_type}
 use Rattle.bdb_graph.proofs.of_format.PageLemmas.{later_type}
 use Rattle.std.proofs.lemmas.Bool.{eqb-true, lt-ltb}
-use Rattle.bdb_turned.specs.Fields.{Field, field, fields_of, fours, hash_fields, header_fields, internal_fields, leaf_fields, listed_fields, no_internal}
-use Rattle.bdb_turned.specs.Fields.{no_recno, recno_fields}
-use Rattle.bdb_turned.specs.Laws.{PagesTurnRound, TurnsRound, turned_head}
+use Rattle.bdb_law_turned.specs.Fields.{Field, field, fields_of, fours, hash_fields, header_fields, internal_fields, leaf_fields, listed_fields, no_internal}
+use Rattle.bdb_law_turned.specs.Fields.{no_recno, recno_fields}
+use Rattle.bdb_law_turned.specs.Laws.{PagesTurnRound, TurnsRound, turned_head}
 use Rattle.bdb_graph.specs.of_form.Ends.{internal_item_end, leaf_item_end}
-use Rattle.bdb_turned.specs.Overlaps.{listed_overlap, overlaps}
-use Rattle.bdb_turned.specs.Apart.{AreApart, IsUntouched, LieWithin}
-use Rattle.bdb_turned.specs.Turning.{turned_page, turned_round}
-use Rattle.bdb_turned.proofs.PlaceLemmas.{get_or-turned_round, length-turned_round, mirror-outside}
-use Rattle.bdb_turned.proofs.ReadLemmas.{IsTurned, number_same, rest_same, turned_is, turned_twice, zero_same}
-use Rattle.bdb_turned.proofs.ApartLemmas.{Between, apart_between, bounds, untouched_past}
-use Rattle.bdb_turned.proofs.ListedLemmas.{ArePlaced, all_fields, header_same, in_header, listed_fields_are, listed_same, placed_apart, placed_within}
-use Rattle.bdb_turned.proofs.ListedLemmas.{rows_same, untouched_in_header, header_between}
-use Rattle.bdb_turned.proofs.LeafLemmas.{IsLeaf, LeafTurned, leaf_all, leaf_high, leaf_low, leaf_part, leaf_placed, leaf_turned}
-use Rattle.bdb_turned.proofs.HashLemmas.{IsHash, HashTurned, hash_all, hash_high, hash_low, hash_part, hash_placed, hash_turned, item_same as hash_item_same}
-use Rattle.bdb_turned.proofs.HashLemmas.{item_rows_same as hash_rows_same}
-use Rattle.bdb_turned.proofs.InnerLemmas.{IsInternal, InternalTurned, IsRecno, RecnoTurned, internal_all, internal_high, internal_low, internal_part}
-use Rattle.bdb_turned.proofs.InnerLemmas.{internal_placed, internal_turned, item_same as inner_item_same, item_rows_same as inner_rows_same, recno_all}
-use Rattle.bdb_turned.proofs.InnerLemmas.{recno_high, recno_low, recno_part, recno_placed, recno_rows_same, recno_same, recno_turned}
-use Rattle.bdb_turned.proofs.PlainLemmas.{CommonSame, btree_rows_same, btree_same, common_rows_same, common_same, fours_between, meta_all, meta_between}
-use Rattle.bdb_turned.proofs.PlainLemmas.{queue_rows_same, queue_same, table_rows_same, table_same}
+use Rattle.bdb_law_turned.specs.Overlaps.{listed_overlap, overlaps}
+use Rattle.bdb_law_turned.specs.Apart.{AreApart, IsUntouched, LieWithin}
+use Rattle.bdb_law_turned.specs.Turning.{turned_page, turned_round}
+use Rattle.bdb_law_turned.proofs.PlaceLemmas.{get_or-turned_round, length-turned_round, mirror-outside}
+use Rattle.bdb_law_turned.proofs.ReadLemmas.{IsTurned, number_same, rest_same, turned_is, turned_twice, zero_same}
+use Rattle.bdb_law_turned.proofs.ApartLemmas.{Between, apart_between, bounds, untouched_past}
+use Rattle.bdb_law_turned.proofs.ListedLemmas.{ArePlaced, all_fields, header_same, in_header, listed_fields_are, listed_same, placed_apart, placed_within}
+use Rattle.bdb_law_turned.proofs.ListedLemmas.{rows_same, untouched_in_header, header_between}
+use Rattle.bdb_law_turned.proofs.LeafLemmas.{IsLeaf, LeafTurned, leaf_all, leaf_high, leaf_low, leaf_part, leaf_placed, leaf_turned}
+use Rattle.bdb_law_turned.proofs.HashLemmas.{IsHash, HashTurned, hash_all, hash_high, hash_low, hash_part, hash_placed, hash_turned, item_same as hash_item_same}
+use Rattle.bdb_law_turned.proofs.HashLemmas.{item_rows_same as hash_rows_same}
+use Rattle.bdb_law_turned.proofs.InnerLemmas.{IsInternal, InternalTurned, IsRecno, RecnoTurned, internal_all, internal_high, internal_low, internal_part}
+use Rattle.bdb_law_turned.proofs.InnerLemmas.{internal_placed, internal_turned, item_same as inner_item_same, item_rows_same as inner_rows_same, recno_all}
+use Rattle.bdb_law_turned.proofs.InnerLemmas.{recno_high, recno_low, recno_part, recno_placed, recno_rows_same, recno_same, recno_turned}
+use Rattle.bdb_law_turned.proofs.PlainLemmas.{CommonSame, btree_rows_same, btree_same, common_rows_same, common_same, fours_between, meta_all, meta_between}
+use Rattle.bdb_law_turned.proofs.PlainLemmas.{queue_rows_same, queue_same, table_rows_same, table_same}
 use Rattle.bdb_graph.proofs.of_format.GraphLemmas.{typed_page, zero_page}
 
 -- what the other order says of a page of a type

@@ -13,9 +13,9 @@ use Rattle.bdb_graph.specs.of_format.Reading.{abstract_page}
 use Rattle.bdb_graph.specs.of_format.References.{refs}
 use Rattle.bdb_graph.specs.of_format.Rows.{form_code}
 use Rattle.bdb_graph.specs.of_format.Verdict.{faults_of}
-use Rattle.bdb_turned.specs.Flipped.{flip_of, overlap_in}
-use Rattle.bdb_turned.specs.Overlaps.{overlaps}
-use Rattle.bdb_turned.specs.Turning.{turned_page}
+use Rattle.bdb_law_turned.specs.Flipped.{flip_of, overlap_in}
+use Rattle.bdb_law_turned.specs.Overlaps.{overlaps}
+use Rattle.bdb_law_turned.specs.Turning.{turned_page}
 
 -- what page 0 says of a file, in the other order
 abbrev pub turned_head : Head → Head

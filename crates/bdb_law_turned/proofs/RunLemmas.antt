@@ -11,10 +11,10 @@ use Rattle.bdb_graph.proofs.of_layout.BlockLemmas.{after_first, blocks_of-cons, 
 use Rattle.bdb_graph.specs.of_format.declared.kinds.Order.{Order}
 use Rattle.bdb_graph.specs.of_format.Numbers.{number, number_at, two_at, turned}
 use Rattle.bdb_graph.specs.of_format.Reading.{blocks_of}
-use Rattle.bdb_turned.specs.Fields.{Field, block_fields, field}
-use Rattle.bdb_turned.specs.Apart.{IsUntouched}
-use Rattle.bdb_turned.proofs.ReadLemmas.{IsTurned, number_same, slice_same}
-use Rattle.bdb_turned.proofs.ApartLemmas.{Between}
+use Rattle.bdb_law_turned.specs.Fields.{Field, block_fields, field}
+use Rattle.bdb_law_turned.specs.Apart.{IsUntouched}
+use Rattle.bdb_law_turned.proofs.ReadLemmas.{IsTurned, number_same, slice_same}
+use Rattle.bdb_law_turned.proofs.ApartLemmas.{Between}
 
 -- these blocks stand one after another on a page, from a place up to another
 abbrev pub RunsTo : Order → List ℕ → ℕ → ℕ → List (List ℕ) → Type 0

@@ -27,14 +27,14 @@ use Rattle.bdb_graph.specs.of_format.Table.{Row, ◌:?◌, first_row}
 use Rattle.bdb_graph.specs.of_format.Verdict.{reference_faults, ownership_faults, reach_faults, structure_faults, master_faults, contents_faults, by_page, faults_in}
 use Rattle.bdb_graph.specs.of_format.Verdict.{faults_of, file_faults, form_faults, head_faults, holding, stage_faults, tail_faults, tail_rows}
 use Rattle.bdb_graph.specs.of_image.Formed.{IsAccepted}
-use Rattle.bdb_turned.specs.Flipped.{first_overlap, flipped}
-use Rattle.bdb_turned.specs.Laws.{TurnsRound, turned_head}
-use Rattle.bdb_turned.specs.Overlaps.{overlaps}
-use Rattle.bdb_turned.specs.Turning.{turned_page}
-use Rattle.bdb_turned.proofs.JoinedLemmas.{joins_back, length_joined, number_in_front, page_of_joined}
-use Rattle.bdb_turned.proofs.ListedLemmas.{map_same}
-use Rattle.bdb_turned.proofs.PageLemmas.{first_page_common, pages_turn_round, zero_stays}
-use Rattle.bdb_turned.proofs.PlainLemmas.{CommonSame}
+use Rattle.bdb_law_turned.specs.Flipped.{first_overlap, flipped}
+use Rattle.bdb_law_turned.specs.Laws.{TurnsRound, turned_head}
+use Rattle.bdb_law_turned.specs.Overlaps.{overlaps}
+use Rattle.bdb_law_turned.specs.Turning.{turned_page}
+use Rattle.bdb_law_turned.proofs.JoinedLemmas.{joins_back, length_joined, number_in_front, page_of_joined}
+use Rattle.bdb_law_turned.proofs.ListedLemmas.{map_same}
+use Rattle.bdb_law_turned.proofs.PageLemmas.{first_page_common, pages_turn_round, zero_stays}
+use Rattle.bdb_law_turned.proofs.PlainLemmas.{CommonSame}
 use Rattle.bdb_graph.proofs.of_format.FaultLemmas.{or_none}
 
 -- what the pages of an image are, and what they become

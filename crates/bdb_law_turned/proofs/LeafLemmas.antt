@@ -13,16 +13,16 @@ use Rattle.bdb_graph.specs.of_format.References.{no_item}
 use Rattle.bdb_graph.specs.of_format.Reading.{entries_of, header_of, kind_at, leaf_content, leaf_item_at, listed, offset_of}
 use Rattle.bdb_graph.specs.of_format.Rows.{item_rows, leaf_end, leaf_rows, listed_code}
 use Rattle.bdb_graph.specs.of_format.Table.{first_row}
-use Rattle.bdb_turned.specs.Fields.{Field, field, leaf_fields}
+use Rattle.bdb_law_turned.specs.Fields.{Field, field, leaf_fields}
 use Rattle.bdb_graph.specs.of_form.Ends.{leaf_item_end}
 use Rattle.bdb_graph.proofs.of_form.EndLemmas.{IsInline, IsTree, IsChain, KindCase, kind_case}
-use Rattle.bdb_turned.specs.Overlaps.{listed_overlap}
-use Rattle.bdb_turned.specs.Apart.{IsUntouched}
-pub use Rattle.bdb_turned.specs.Parts.{leaf_high, leaf_part}
-use Rattle.bdb_turned.proofs.ReadLemmas.{IsTurned, number_same, slice_same}
-use Rattle.bdb_turned.proofs.ApartLemmas.{Between}
-use Rattle.bdb_turned.proofs.ListedLemmas.{ArePlaced, all_fields, header_same, in_header, in_index, in_item, listed_apart, listed_same, rows_same}
-use Rattle.bdb_turned.proofs.ListedLemmas.{untouched_in_header, untouched_in_item}
+use Rattle.bdb_law_turned.specs.Overlaps.{listed_overlap}
+use Rattle.bdb_law_turned.specs.Apart.{IsUntouched}
+pub use Rattle.bdb_law_turned.specs.Parts.{leaf_high, leaf_part}
+use Rattle.bdb_law_turned.proofs.ReadLemmas.{IsTurned, number_same, slice_same}
+use Rattle.bdb_law_turned.proofs.ApartLemmas.{Between}
+use Rattle.bdb_law_turned.proofs.ListedLemmas.{ArePlaced, all_fields, header_same, in_header, in_index, in_item, listed_apart, listed_same, rows_same}
+use Rattle.bdb_law_turned.proofs.ListedLemmas.{untouched_in_header, untouched_in_item}
 use Rattle.bdb_graph.proofs.of_format.LeafLemmas.{one_offset}
 
 -- no row of a leaf holds, and no two of its items overlap

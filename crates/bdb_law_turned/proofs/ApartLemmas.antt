@@ -3,8 +3,8 @@ use Rattle.std.proofs.Common.{◌≡◌, ◌∙◌, ◌⊎◌, inl, inr, ℕ, ze
 use Rattle.std.specs.List.{Contains, flat_map, range_with_len}
 use Rattle.std.proofs.lemmas.List.Elements.{Contains-append_cases}
 use Rattle.bdb_graph.proofs.of_format.MemberLemmas.{member_cases, no_member, of_flat_map, in_flat_map, of_range, in_range}
-use Rattle.bdb_turned.specs.Fields.{Field, field}
-use Rattle.bdb_turned.specs.Apart.{AreApart, AreDisjoint, IsUntouched}
+use Rattle.bdb_law_turned.specs.Fields.{Field, field}
+use Rattle.bdb_law_turned.specs.Apart.{AreApart, AreDisjoint, IsUntouched}
 
 -- each of these numbers ends before the next begins, from one place up to another
 abbrev pub Between : ℕ → List Field → ℕ → Type 0

@@ -1,7 +1,7 @@
 -- Numbers of a page that share no byte. Source: docs/FORMAT.md, "The other byte order".
 use Rattle.std.specs.Prelude.{◌≡◌, ◌⊎◌, ◌≤◌, ℕ, suc, ◌+◌, List, [], ◌∷◌, length}
 use Rattle.std.specs.List.{Contains}
-use Rattle.bdb_turned.specs.Fields.{Field}
+use Rattle.bdb_law_turned.specs.Fields.{Field}
 
 -- one ends before the other begins
 abbrev pub AreDisjoint : Field → Field → Type 0

@@ -14,16 +14,16 @@ use Rattle.bdb_graph.specs.of_format.Page.{Content, Inline, Set, Chain, Tree, It
 use Rattle.bdb_graph.specs.of_format.Reading.{blocks_of, entries_of, hash_content, hash_end, hash_item_at, offset_of}
 use Rattle.bdb_graph.specs.of_format.Rows.{does_not_fall, hash_rows, misses_extent}
 use Rattle.bdb_graph.specs.of_format.Table.{first_row}
-use Rattle.bdb_turned.specs.Fields.{Field, block_fields, field, hash_fields}
-use Rattle.bdb_turned.specs.Apart.{IsUntouched, run_length}
-pub use Rattle.bdb_turned.specs.Parts.{hash_part}
-use Rattle.bdb_turned.specs.Parts.{hash_item_end}
-use Rattle.bdb_turned.proofs.ReadLemmas.{IsTurned, number_same, slice_same}
-use Rattle.bdb_turned.proofs.ApartLemmas.{Between, bounds}
-use Rattle.bdb_turned.proofs.ListedLemmas.{ArePlaced, all_fields, in_index, in_item, untouched_in_item}
-use Rattle.bdb_turned.proofs.RunLemmas.{RunsTo, run_between, run_of, run_reads, run_turned}
+use Rattle.bdb_law_turned.specs.Fields.{Field, block_fields, field, hash_fields}
+use Rattle.bdb_law_turned.specs.Apart.{IsUntouched, run_length}
+pub use Rattle.bdb_law_turned.specs.Parts.{hash_part}
+use Rattle.bdb_law_turned.specs.Parts.{hash_item_end}
+use Rattle.bdb_law_turned.proofs.ReadLemmas.{IsTurned, number_same, slice_same}
+use Rattle.bdb_law_turned.proofs.ApartLemmas.{Between, bounds}
+use Rattle.bdb_law_turned.proofs.ListedLemmas.{ArePlaced, all_fields, in_index, in_item, untouched_in_item}
+use Rattle.bdb_law_turned.proofs.RunLemmas.{RunsTo, run_between, run_of, run_reads, run_turned}
 use Rattle.bdb_graph.proofs.of_layout.BlockLemmas.{some_left}
-use Rattle.bdb_turned.proofs.InnerLemmas.{lower}
+use Rattle.bdb_law_turned.proofs.InnerLemmas.{lower}
 
 -- no row of a hash page holds
 pub record IsHash (order : Order) (page : List ℕ) : Type 0 where

@@ -14,15 +14,15 @@ use Rattle.bdb_graph.specs.of_format.Page.{Content, Inline, Chain, InternalItem}
 use Rattle.bdb_graph.specs.of_format.Reading.{entries_of, internal_item_at, internal_key, kind_at, listed, offset_of, recno_item_at}
 use Rattle.bdb_graph.specs.of_format.Rows.{internal_rows, recno_rows}
 use Rattle.bdb_graph.specs.of_format.Table.{first_row}
-use Rattle.bdb_turned.specs.Fields.{Field, field, internal_fields, key_fields, no_internal, no_recno, recno_fields}
+use Rattle.bdb_law_turned.specs.Fields.{Field, field, internal_fields, key_fields, no_internal, no_recno, recno_fields}
 use Rattle.bdb_graph.specs.of_form.Ends.{internal_item_end}
 use Rattle.bdb_graph.proofs.of_form.EndLemmas.{KeyInline as IsInline, KeyChain as IsChain, KeyCase, key_case}
-use Rattle.bdb_turned.specs.Overlaps.{listed_overlap}
-use Rattle.bdb_turned.specs.Apart.{IsUntouched}
-pub use Rattle.bdb_turned.specs.Parts.{internal_high, internal_part, recno_high, recno_part}
-use Rattle.bdb_turned.proofs.ReadLemmas.{IsTurned, number_same, slice_same}
-use Rattle.bdb_turned.proofs.ApartLemmas.{Between, untouched_before, untouched_cons, untouched_past}
-use Rattle.bdb_turned.proofs.ListedLemmas.{ArePlaced, all_fields, in_index, in_item, listed_apart, untouched_in_item}
+use Rattle.bdb_law_turned.specs.Overlaps.{listed_overlap}
+use Rattle.bdb_law_turned.specs.Apart.{IsUntouched}
+pub use Rattle.bdb_law_turned.specs.Parts.{internal_high, internal_part, recno_high, recno_part}
+use Rattle.bdb_law_turned.proofs.ReadLemmas.{IsTurned, number_same, slice_same}
+use Rattle.bdb_law_turned.proofs.ApartLemmas.{Between, untouched_before, untouched_cons, untouched_past}
+use Rattle.bdb_law_turned.proofs.ListedLemmas.{ArePlaced, all_fields, in_index, in_item, listed_apart, untouched_in_item}
 
 -- no row of an internal page holds, and no two of its items overlap
 pub record IsInternal (order : Order) (page : List ℕ) : Type 0 where

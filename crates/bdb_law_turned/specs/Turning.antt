@@ -4,7 +4,7 @@ use Rattle.std.specs.List.{find, range_with_len}
 use Rattle.bdb_graph.specs.of_format.declared.kinds.Order.{Order}
 use Rattle.bdb_graph.specs.of_format.Numbers.{byte_at}
 use Rattle.bdb_graph.specs.of_format.Reading.{abstract_page}
-use Rattle.bdb_turned.specs.Fields.{Field, fields_of}
+use Rattle.bdb_law_turned.specs.Fields.{Field, fields_of}
 
 -- a place lies in a number
 abbrev pub is_in : ℕ → Field → Bool

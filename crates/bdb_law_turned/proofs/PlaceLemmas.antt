@@ -6,9 +6,9 @@ use Rattle.std.proofs.lemmas.List.FromFn.{get_or-map-range_with_len, length-map-
 use Rattle.std.proofs.lemmas.Bool.Decides.{nat_tests}
 use Rattle.bdb_graph.proofs.of_format.MemberLemmas.{first_member, later_member, member_cases, no_member}
 use Rattle.bdb_graph.specs.of_format.Numbers.{byte_at}
-use Rattle.bdb_turned.specs.Fields.{Field}
-use Rattle.bdb_turned.specs.Turning.{is_in, mirror, turned_round}
-use Rattle.bdb_turned.specs.Apart.{AreApart, IsUntouched, LieWithin}
+use Rattle.bdb_law_turned.specs.Fields.{Field}
+use Rattle.bdb_law_turned.specs.Turning.{is_in, mirror, turned_round}
+use Rattle.bdb_law_turned.specs.Apart.{AreApart, IsUntouched, LieWithin}
 
 -- the first number that holds a place
 pub record FirstIs (fields : List Field) (k : ℕ) (f : Field) : Type 0 where
