@@ -8,7 +8,7 @@ ghost use Rattle.bdb_faults.specs.of_format.Reading.{is_zero};
 ghost use Rattle.bdb_faults.specs.of_format.References.{child_types, has_type, is_zero_page, root_types};
 
 use crate::Formed;
-use bdb_faults::{Order, PageType, keyed_types, record_types};
+use bdb_faults::{BtreeMeta, Order, PageType, keyed_types, record_types};
 use bdb_meta::{header, page_type, u16_at, u32_at};
 use bdb_slots::is_zero_at;
 use std::marker::Model;
@@ -92,7 +92,7 @@ fn is_metadata(page_type: Option<PageType>) -> bool
 fn root_types(flags: u32) -> &'static [u8]
     ensures { result.now ≡ (if has_bit flags 2 then 4 ∷ 6 ∷ [] else 3 ∷ 5 ∷ []) }
 {
-    if flags & 2 != 0 {
+    if flags & BtreeMeta::RECNO != 0 {
         &[PageType::RECNO_INTERNAL, PageType::RECNO_LEAF]
     } else {
         &[PageType::INTERNAL, PageType::LEAF]

@@ -1,5 +1,5 @@
 -- An item of which no row holds lies on its page, and is the answer.
-use Rattle.std.proofs.Common.{◌≡◌, ℕ, ◌+◌, ◌≤◌, List, [], ◌∷◌, length, arith, refl, sym, ◌∙◌, ap}
+use Rattle.std.proofs.Common.{◌≡◌, ℕ, ◌+◌, ◌≤◌, List, [], ◌∷◌, length, arith, refl, sym, subst, ◌∙◌, ap}
 use Rattle.std.specs.Prelude.{cond, Bool, true, false, Option, Some, None, Result, Err}
 use Rattle.std.proofs.lemmas.Bool.Decides.{nat_tests}
 use Rattle.bdb_format.specs.declared.kinds.Order.{Order}
@@ -33,9 +33,9 @@ same_fault Extent = refl
 by_row : {T : Type 0} (rows : List (Row ItemFault)) (value : T) (first : Option ItemFault) (row : FormRow) → first_row rows ≡ first
     → option_map item_form first ≡ Some row → answer rows value ≡ Err (item_fault row)
 by_row rows value None row is some = absurd cc
-by_row {T = T} rows value (Some fault) row is some =
+by_row rows value (Some fault) row is some =
     let same : item_form fault ≡ row = cc in
-    answer_error rows value fault is ∙ ap (λ f. Err {T = T} f) (sym (same_fault fault) ∙ ap item_fault same)
+    subst (λ (f : ItemFault). answer rows value ≡ Err f) (sym (same_fault fault) ∙ ap item_fault same) (answer_error rows value fault is)
 
 pub answer_row : {T : Type 0} (rows : List (Row ItemFault)) (value : T) (row : FormRow) → option_map item_form (first_row rows) ≡ Some row
     → answer rows value ≡ Err (item_fault row)

@@ -15,16 +15,18 @@ use bdb_layout::{BtreeMeta, FileKind, FormRow, MetaFault, Order, put_u32, u32_at
 fn are_wrong_flags(number: u32, flags: u32) -> bool
     ensures { result ≡ are_wrong_flags number flags }
 {
-    flags > 0xff
-        || (has_bit(flags, 0x02) && (has_bit(flags, 0x45) || (number == 0 && has_bit(flags, 0x20))))
-        || (has_bit(flags, 0x04) && has_bit(flags, 0x41))
+    flags > BtreeMeta::ALL
+        || (has_bit(flags, BtreeMeta::RECNO)
+            && (has_bit(flags, BtreeMeta::KEYED)
+                || (number == 0 && has_bit(flags, BtreeMeta::NAMES))))
+        || (has_bit(flags, BtreeMeta::RECORD_NUMBERS) && has_bit(flags, BtreeMeta::SEVERAL))
 }
 
 /// The rows of btree metadata alone hold nowhere. A refusal is the first that does.
 fn check_btree(number: u32, meta: &BtreeMeta) -> Result<(), FormRow>
     ensures { coded form_row_code result ≡ answer (flag_rows number meta.now.flags) tt }
 {
-    if has_bit(meta.flags, 0x80) {
+    if has_bit(meta.flags, BtreeMeta::COMPRESSED) {
         return Err(FormRow::Compression);
     }
     if are_wrong_flags(number, meta.flags) {

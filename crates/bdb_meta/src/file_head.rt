@@ -5,7 +5,7 @@ ghost use Rattle.bdb_meta.specs.RowGroups.{length_rows, page_rows, version_rows}
 ghost use Rattle.bdb_layout.specs.of_format.Table.{answer};
 ghost use Rattle.bdb_layout.specs.of_format.RowCodes.{coded, file_row_code};
 
-use crate::generic::{has_bit, is_partitioned, version_of};
+use crate::generic::{CHECKSUM, has_bit, is_partitioned, version_of};
 use bdb_layout::{FileKind, FileRow, Head, MetaFault, Order, is_page_size, magic_of, u32_at};
 
 const HEAP_MAGIC: u32 = 0x074582;
@@ -125,7 +125,7 @@ fn check_pages(image: &[u8], order: Order) -> Result<(), FileRow>
     if image[24] != 0 {
         return Err(FileRow::Encryption);
     }
-    if has_bit(u32::from(image[26]), 0x01) {
+    if has_bit(u32::from(image[26]), CHECKSUM) {
         return Err(FileRow::Checksum);
     }
     if is_partitioned(image, order) {

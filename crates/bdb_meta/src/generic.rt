@@ -30,6 +30,12 @@ pub fn type_of(kind: FileKind) -> u8
     }
 }
 
+/// A bit of the metaflags: each page has a checksum.
+pub(crate) const CHECKSUM: u32 = 0x01;
+
+// The bits of the metaflags that a partitioned file has.
+const PARTITIONS: u32 = 0x06;
+
 /// Whether one of these bits is set.
 pub fn has_bit(flags: u32, bits: u32) -> bool
     ensures { result ≡ has_bit flags bits }
@@ -42,7 +48,7 @@ pub fn is_partitioned(page: &[u8], order: Order) -> bool
     requires { 40 ≤ length page.now }
     ensures { result ≡ (has_bit (byte_at page.now 26) 0x06 || not (four_at order page.now 36 == 0)) }
 {
-    has_bit(u32::from(page[26]), 0x06) || u32_at(page, 36, order) != 0
+    has_bit(u32::from(page[26]), PARTITIONS) || u32_at(page, 36, order) != 0
 }
 
 /// The page has its number, and the type of metadata of this kind. A refusal is the row.
@@ -76,7 +82,7 @@ fn check_generic(page: &[u8], order: Order, number: u32, kind: FileKind) -> Resu
     if page[24] != 0 {
         return Err(FormRow::Encryption);
     }
-    if has_bit(u32::from(page[26]), 0x01) {
+    if has_bit(u32::from(page[26]), CHECKSUM) {
         return Err(FormRow::Checksum);
     }
     if is_partitioned(page, order) {

@@ -56,7 +56,7 @@ fn check_table(page: &[u8], order: Order, last: u32, meta: &HashMeta) -> Result<
     if u32_at(page, 92, order) != CHARKEY {
         return Err(FormRow::OwnHash);
     }
-    if meta.flags > 0x07 {
+    if meta.flags > HashMeta::ALL {
         return Err(FormRow::HashFlags);
     }
     if !are_masks(meta) {

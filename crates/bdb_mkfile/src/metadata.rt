@@ -50,14 +50,18 @@ fn flag(is_set: bool, bit: u32) -> u32
 fn btree_flags(settings: &Settings) -> u32
     ensures { result ≡ btree_flags settings.now.duplicates settings.now.sorted settings.now.recnum }
 {
-    flag(settings.duplicates, 0x01) + flag(settings.recnum, 0x04) + flag(settings.sorted, 0x40)
+    flag(settings.duplicates, BtreeMeta::DUPLICATES)
+        + flag(settings.recnum, BtreeMeta::RECORD_NUMBERS)
+        + flag(settings.sorted, BtreeMeta::SORTED)
 }
 
 // The flags of a recno.
 fn recno_flags(settings: &Settings) -> u32
     ensures { result ≡ recno_flags settings.now.fixed settings.now.renumber }
 {
-    0x02 + flag(settings.fixed, 0x08) + flag(settings.renumber, 0x10)
+    BtreeMeta::RECNO
+        + flag(settings.fixed, BtreeMeta::FIXED)
+        + flag(settings.renumber, BtreeMeta::RENUMBERS)
 }
 
 /// The metadata of a tree with these settings and this root.

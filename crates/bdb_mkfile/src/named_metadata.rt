@@ -22,7 +22,7 @@ pub(crate) fn named_tree_meta(settings: &Settings, root: u32) -> BtreeMeta
     ensures { result ≡ named_tree_meta settings.now root }
 {
     let mut meta = tree_meta(settings, root);
-    meta.flags += 0x20;
+    meta.flags += BtreeMeta::NAMES;
     meta
 }
 
@@ -32,7 +32,7 @@ pub(crate) fn named_table_meta(meta: &HashMeta) -> HashMeta
     ensures { result ≡ named_table_meta meta.now }
 {
     let mut named = *meta;
-    named.flags += 0x02;
+    named.flags += HashMeta::NAMES;
     named
 }
 

@@ -30,8 +30,12 @@ fn table_meta(settings: &Settings, first: u32, bits: u32) -> HashMeta
     ensures { result ≡ table_meta settings.now first bits }
 {
     let count = bucket_count(bits);
-    let duplicates = if settings.duplicates { 0x01 } else { 0 };
-    let sorted = if settings.sorted { 0x04 } else { 0 };
+    let duplicates = if settings.duplicates {
+        HashMeta::DUPLICATES
+    } else {
+        0
+    };
+    let sorted = if settings.sorted { HashMeta::SORTED } else { 0 };
     HashMeta {
         flags: duplicates + sorted,
         max_bucket: count - 1,
