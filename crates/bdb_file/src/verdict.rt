@@ -87,7 +87,10 @@ pub fn verify<'a, L: Ledger>(
     ensures refusal { IfErr result (IsVerdictOf image.now) }
     ensures cost { steps.new ≤ steps.old + (file_of image.now).count }
 {
-    sound_by::<First, L>(alloc, image, steps).map_err(first_verdict)
+    match sound_by::<First, L>(alloc, image, steps) {
+        Ok(sound) => Ok(sound),
+        Err(error) => Err(first_verdict(error)),
+    }
 }
 
 /// The same, or else all that holds, page by page and row by row, each once. `Memory` is want of memory; the list takes at most 24

@@ -57,7 +57,10 @@ pub fn link<'a, L: Ledger>(
     ensures refusal { IfErr result (IsFirstOf (faults_in (3 ∷ 4 ∷ 5 ∷ []) formed.entry)) }
     ensures cost { steps.new ≤ steps.old + ((file_of formed.entry).last + 1) }
 {
-    link_by::<First, L>(alloc, formed, steps).map_err(check_error)
+    match link_by::<First, L>(alloc, formed, steps) {
+        Ok(linked) => Ok(linked),
+        Err(error) => Err(check_error(error)),
+    }
 }
 
 /// The same, or else all that holds, page by page and row by row, each once. `Memory` is want of memory, that for the list of

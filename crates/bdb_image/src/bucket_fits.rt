@@ -68,7 +68,8 @@ fn row_of(formed: &Formed<'_>, page: u32) -> Option<ReferenceRow>
     requires { page ≤ (file_of formed.now).last }
     ensures { option_map reference_row_code result ≡ fit_code (file_of formed.now) 0 (record { place = 0; sort = Sort.Bucket; target = page }) }
 {
-    if page > 0 && u32_at(formed.page_bytes(page), 8, formed.head().order) == 0 {
+    let order = formed.head().order;
+    if page > 0 && u32_at(formed.page_bytes(page), 8, order) == 0 {
         return None;
     }
     let as_bucket = Reference {

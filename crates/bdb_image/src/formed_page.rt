@@ -1,4 +1,4 @@
-ghost use Rattle.std.specs.Prelude.{◌≡◌, ◌≤◌, ◌∷◌, [], if◌then◌else◌, false, length};
+ghost use Rattle.std.specs.Prelude.{◌≡◌, ◌==◌, ◌&&◌, ◌≤◌, ◌∷◌, [], if◌then◌else◌, false, length};
 ghost use Rattle.bdb_image.specs.Told.{is_headed, is_metadata, told_type};
 ghost use Rattle.bdb_faults.specs.of_format.Chains.{piece_in};
 ghost use Rattle.bdb_faults.specs.of_format.File.{file_of, header_in, page_at, type_in};
@@ -8,7 +8,7 @@ ghost use Rattle.bdb_faults.specs.of_format.Reading.{is_zero};
 ghost use Rattle.bdb_faults.specs.of_format.References.{child_types, has_type, is_zero_page, root_types};
 
 use crate::Formed;
-use bdb_faults::{BtreeMeta, Order, PageType, keyed_types, record_types};
+use bdb_faults::{BtreeMeta, Header, Order, PageType, keyed_types, record_types};
 use bdb_meta::{header, page_type, u16_at, u32_at};
 use bdb_slots::is_zero_at;
 use std::marker::Model;
@@ -97,6 +97,13 @@ fn root_types(flags: u32) -> &'static [u8]
     } else {
         &[PageType::INTERNAL, PageType::LEAF]
     }
+}
+
+// Whether a page with this header has no entry, and stands alone in its list.
+fn is_bare(header: Header) -> bool
+    ensures { result ≡ (header.entries == 0 && header.previous == 0 && header.next == 0) }
+{
+    header.entries == 0 && header.previous == 0 && header.next == 0
 }
 
 impl<'a> FormedPage<'a> {
@@ -239,10 +246,7 @@ impl<'a> FormedPage<'a> {
         match self.page_type {
             None => true,
             Some(PageType::Free) => u32_at(self.bytes, 16, self.order) == 0,
-            Some(PageType::Hash) => {
-                let header = header(self.bytes, self.order);
-                header.entries == 0 && header.previous == 0 && header.next == 0
-            }
+            Some(PageType::Hash) => is_bare(header(self.bytes, self.order)),
             _ => false,
         }
     }

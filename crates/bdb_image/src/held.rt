@@ -36,12 +36,8 @@ fn references_of<'a>(formed: &Formed<'a>, page: u32) -> References<'a>
     requires { page ≤ (file_of formed.now).last }
     ensures { result ≡ refs (file_of formed.now) page }
 {
-    held_by(
-        formed.page_bytes(page),
-        &formed.head(),
-        page,
-        formed.is_plain(),
-    )
+    let head = formed.head();
+    held_by(formed.page_bytes(page), &head, page, formed.is_plain())
 }
 
 /// The references of a page without a fault of form, whose items are known to name none where it is plain. A queue file

@@ -39,7 +39,8 @@ pub fn meta_at(formed: &Formed, number: u32) -> Option<Meta>
     requires { number ≤ (file_of formed.now).last }
     ensures { option_map meta_seen result ≡ meta_in (page_at (file_of formed.now) number) }
 {
-    meta_on(formed.page_bytes(number), formed.head().order)
+    let order = formed.head().order;
+    meta_on(formed.page_bytes(number), order)
 }
 
 /// The fields of a page without a fault of form, if it's metadata: the one place where metadata is read again, without another

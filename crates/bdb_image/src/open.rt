@@ -49,7 +49,10 @@ pub fn open_image<'a>(alloc: Global, image: &'a [u8]) -> Result<Formed<'a>, Verd
     ensures accepted { OnOk result (faults_in (1 ∷ 2 ∷ []) image.now ≡ []) }
     ensures verdict { result_err result ≡ option_map as_verdict (verdict_in (1 ∷ 2 ∷ []) image.now) }
 {
-    open_by::<First>(alloc, image).map_err(first_verdict)
+    match open_by::<First>(alloc, image) {
+        Ok(formed) => Ok(formed),
+        Err(error) => Err(first_verdict(error)),
+    }
 }
 
 /// The same, or else all that holds, page by page and row by row, each once. `Memory` is want of memory for the list of them.

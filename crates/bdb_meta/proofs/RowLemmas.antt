@@ -72,6 +72,13 @@ metadata-groups : {T : Type 0} → (order : Order) (page : List ℕ) (number las
 unfolding metadata_rows
 metadata-groups order page number last kind value = grind (arith, append_assoc)
 
+-- a row of any metadata answers, whatever its kind
+pub metadata-common : {T : Type 0} → (order : Order) (page : List ℕ) (number last : ℕ) (kind : FileKind) (value : T) (code : ℕ)
+    → answer {T = Unit {0}} (common_rows order page number kind) tt ≡ Err code → answer (metadata_rows order page number last kind) value ≡ Err code
+metadata-common order page number last kind value code common =
+    metadata-groups order page number last kind value
+    ∙ answer-first (common_rows order page number kind) (kind_rows order page number last kind) value code common
+
 pub metadata-kind : {T : Type 0} → (order : Order) (page : List ℕ) (number last : ℕ) (kind : FileKind) (value : T)
     → answer {T = Unit {0}} (common_rows order page number kind) tt ≡ Ok tt
     → answer (metadata_rows order page number last kind) value ≡ answer (kind_rows order page number last kind) value

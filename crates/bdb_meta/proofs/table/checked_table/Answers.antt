@@ -3,8 +3,14 @@ use Rattle.bdb_layout.specs.of_format.declared.metadata.FileKind.TheVariants.{Ha
 use Rattle.bdb_layout.specs.of_format.Reading.{hash_fields}
 use Rattle.bdb_layout.specs.of_format.Rows.{table_rows}
 use Rattle.bdb_layout.specs.of_format.RowCodes.{form_row_code}
-use Rattle.bdb_meta.proofs.RowLemmas.{answer-code, answer-value, metadata-kind}
+use Rattle.bdb_meta.proofs.RowLemmas.{answer-code, answer-value, metadata-common, metadata-kind}
 use Rattle.bdb_meta.proofs.table.checked_table.Goals as goal
+
+pub returns-in_err-check_common : goal.returns-in_err-check_common
+returns-in_err-check_common c =
+    let page = c.args.page.now in
+    rw (metadata-common c.args.order page c.args.number c.args.last Hash (hash_fields c.args.order page) (form_row_code c.in_err-check_common.field-0.0)
+    (sym c.in_err-check_common.ensures)) (search rules)
 
 pub returns-in_err-check_table : goal.returns-in_err-check_table
 returns-in_err-check_table c =
