@@ -1,14 +1,16 @@
 -- Lines that are put together of parts.
-use Rattle.std.proofs.Common.{◌≡◌, ◌∙◌, ℕ, List, ◌++◌, ap, append_assoc}
-use Rattle.std.specs.Prelude.{Option, Result, codes}
+use Rattle.std.proofs.Common.{◌≡◌, ◌∙◌, ℕ, List, ◌++◌, ap, append_assoc, sym}
+use Rattle.std.specs.Prelude.{Option, Some, Result, codes}
 use Rattle.std.specs.Fmt.{decimal}
 use Rattle.bdb_faults.specs.of_format.declared.kinds.Fault.{Fault}
 use Rattle.bdb_faults.specs.of_format.declared.kinds.Unsupported.{Unsupported}
 use Rattle.bdb_model.specs.Answers.{fault_line, unsupported_line}
+use Rattle.bdb_faults.specs.of_format.Cases.{judged_as}
+use Rattle.bdb_faults.specs.of_format.Verdict.{judgement_of}
 use Rattle.bdb_faults.specs.of_format.FaultNames.{fault_name, unsupported_name}
 use Rattle.bdb_model.specs.of_text_format.LineEnd.{line}
 use Rattle.bdb_tool_lines.specs.Passing.{Passes}
-use Rattle.bdb_tool_lines.specs.Telling.{case_page_part, case_part, code_part, name_part, page_part, stage_part}
+use Rattle.bdb_tool_lines.specs.Telling.{case_page_part, case_part, code_part, judgement_line, name_part, page_part, stage_part}
 use Rattle.bdb_tool_lines.specs.declared.cut.Cut.{Cut}
 use Rattle.bdb_tool_lines.specs.declared.printer.Printer.{Printer}
 use Rattle.bdb_tool_lines.proofs.PassingLemmas.{same_text}
@@ -33,13 +35,12 @@ case_line_is : (name : Unsupported) (page : ℕ) → case_part (unsupported_name
 unfolding case_part case_page_part
 case_line_is name page = append_assoc (codes "unsupported: ") (unsupported_name name) (codes ", page " ++ line (decimal page))
 
-pub fault_line_printed : {K : Type 0} (written : K → Option (List ℕ)) (faults : K → ℕ) (old new : Printer K) (fault : Fault) (result : Result Unit Cut)
-    → Passes written faults old new ((stage_part fault.stage ++ (page_part fault.page ++ code_part fault.code))
-    ++ name_part (fault_name fault.stage fault.code)) result
-    → Passes written faults old new (fault_line fault) result
-fault_line_printed written faults old new fault result passes =
-    same_text written faults old new ((stage_part fault.stage ++ (page_part fault.page ++ code_part fault.code))
-    ++ name_part (fault_name fault.stage fault.code)) (fault_line fault) result
+pub fault_line_printed : {K : Type 0} (written : K → Option (List ℕ)) (faults : K → ℕ) (old new : Printer K) (stage page code : ℕ) (result : Result Unit Cut)
+    → Passes written faults old new ((stage_part stage ++ (page_part page ++ code_part code)) ++ name_part (fault_name stage code)) result
+    → Passes written faults old new (fault_line (record { stage = stage; page = page; code = code })) result
+fault_line_printed written faults old new stage page code result passes =
+    let fault : Fault = record { stage = stage; page = page; code = code } in
+    same_text written faults old new ((stage_part stage ++ (page_part page ++ code_part code)) ++ name_part (fault_name stage code)) (fault_line fault) result
     (fault_line_is fault) passes
 
 pub case_line_printed : {K : Type 0} (written : K → Option (List ℕ)) (faults : K → ℕ) (old new : Printer K) (case : Unsupported) (name : List ℕ) (page : ℕ)
@@ -50,3 +51,8 @@ case_line_printed written faults old new case name page result is passes =
     same_text written faults old new (case_part name ++ case_page_part page) (unsupported_line case page) result
     (ap (λ bytes. case_part bytes ++ case_page_part page) is ∙ case_line_is case page)
     passes
+
+-- the name of a case that the row of a fault is, at its page
+pub case_told : (fault : Fault) (case : Option Unsupported) (name : Unsupported) → case ≡ Some name → judged_as fault case ≡ judgement_of fault
+    → unsupported_line name fault.page ≡ judgement_line (judgement_of fault)
+case_told fault case name is judged = ap (λ (named : Option Unsupported). judgement_line (judged_as fault named)) (sym is) ∙ ap judgement_line judged

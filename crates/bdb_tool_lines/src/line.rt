@@ -135,6 +135,7 @@ impl<'k, K: Sink> Printer<'k, K> {
     }
 
     /// Adds the name of a case that is left out.
+    #[tactic(auto, unfolding(crate::specs::Telling::case_part))]
     fn case(&mut self, name: &[u8]) -> Result<(), Cut>
         ensures passes { Passes K.written K.faults self.old self.new (case_part name.now) result }
         ensures cause { IfErr result (λ cut. cut ≡ WriteFault) }
