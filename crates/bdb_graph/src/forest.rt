@@ -125,7 +125,8 @@ impl<'a> Forest<'a> {
         ensures header { header_seen result ≡ header_of (head_of self.now).order (page_bytes (head_of self.now) self.now number) }
         ensures forest { IsForest self.now }
     {
-        view_of(self.formed.page_bytes(number), &self.formed.head(), number)
+        let head = self.formed.head();
+        view_of(self.formed.page_bytes(number), &head, number)
     }
 
     /// The fields of a page up to the last one, if it's metadata.

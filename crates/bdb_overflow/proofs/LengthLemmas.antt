@@ -1,6 +1,7 @@
 -- Chains of a wrong length, item by item, and the faults that they are.
-use Rattle.std.proofs.Common.{◌≡◌, ℕ, zero, suc, ◌+◌, ◌<◌, ◌≤◌, Bool, true, false, List, [], ◌∷◌, length, drop, map, get_or, Some, arith, refl, sym, ◌∙◌, ap}
+use Rattle.std.proofs.Common.{◌≡◌, ℕ, zero, suc, ◌+◌, ◌<◌, ◌≤◌, Bool, true, false, List, [], ◌∷◌, length, drop, map, get_or, Some, arith, inl, inr, refl, subst, sym, ◌∙◌, ap}
 use Rattle.std.proofs.Common.{add-one, zero-add}
+use Rattle.std.proofs.lemmas.Bool.{cases_lt}
 use Rattle.std.proofs.Math.Seq.{drop-cons}
 use Rattle.std.proofs.lemmas.List.{drop_all}
 use Rattle.std.specs.Prelude.{◌&&◌, ◌||◌, slice_get}
@@ -28,6 +29,12 @@ entry_is page i item none at = (got page.items i item none at).1
 abbrev pub NoneBelow : (ℕ → Bool) → ℕ → Type 0
 NoneBelow test n = (k : ℕ) → k < n → test k ≡ false
 
+pub one_more : (test : ℕ → Bool) (n : ℕ) → NoneBelow test n → test n ≡ false → NoneBelow test (n + 1)
+one_more test n none last k low = elim (cases_lt k n) [
+  | inl below ↦ none k below
+  | inr above ↦ let same : n ≡ k = omega (arith, above, low) in subst (λ (i : ℕ). test i ≡ false) same last
+]
+
 pub any_of_all : {X C : Type 0} (wrong : C → Bool) (f : X → List C) (xs : List X) → list_any wrong (flat_map f xs) ≡ list_any (λ x. list_any wrong (f x)) xs
 any_of_all wrong f [] = refl
 any_of_all wrong f (x ∷ xs) = list_any-append wrong (f x) (flat_map f xs) ∙ ap (λ b. list_any wrong (f x) || b) (any_of_all wrong f xs)
@@ -48,7 +55,7 @@ any_index f d xs i (suc n) all = grind (arith, add-one, drop-cons, any_index f d
 plain_wrong : {I : Type 0} (file : File) (content : I → Content) (none : I) (page : Listed I)
     → some_wrong file false content none page ≡ list_any (is_wrong_length file) (flat_map content_chains (map content page.items))
 plain_wrong file content none page =
-    any_index (λ item. is_wrong file (content item)) none page.items 0 (length page.items) refl ∙ sym (wrong_held file content page.items)
+    any_index (λ item. is_wrong file (content item)) none page.items 0 (length page.items) (omega arith) ∙ sym (wrong_held file content page.items)
 
 any_kept : {X : Type 0} (test keeps : X → Bool) (xs : List X) → list_any test (filter keeps xs) ≡ list_any (λ x. keeps x && test x) xs
 any_kept test keeps [] = refl

@@ -6,6 +6,7 @@ pub mod KeyLemmas
 pub mod LengthLemmas
 pub mod LinkedLemmas
 pub mod PrefixLemmas
+mod RefusalLemmas
 pub mod RunLemmas
 pub mod TakenLemmas
 pub mod UnchainedLemmas
