@@ -5,12 +5,11 @@ use Rattle.std.specs.List.{Contains}
 use Rattle.std.proofs.lemmas.Bool.Decides.{nat_tests}
 use Rattle.bdb_graph.proofs.of_format.MemberLemmas.{first_member, later_member}
 use Rattle.bdb_graph.proofs.of_format.TurnLemmas.{length-slice_range}
-use Rattle.bdb_graph.proofs.of_layout.RowLemmas.{internal_fits, recno_fits}
-use Rattle.bdb_graph.specs.of_layout.Fits.{FitsInternal}
+use Rattle.bdb_graph.proofs.of_layout.RowLemmas.{recno_fits}
 use Rattle.bdb_graph.specs.of_format.declared.kinds.Order.{Order}
 use Rattle.bdb_graph.specs.of_format.declared.pages.RecnoItem.{RecnoItem}
 use Rattle.bdb_graph.specs.of_format.Numbers.{byte_at, four_at, two_at, turned}
-use Rattle.bdb_graph.specs.of_format.Page.{Content, Inline, Chain, InternalItem}
+use Rattle.bdb_graph.specs.of_format.Page.{Content, Inline, InternalItem}
 use Rattle.bdb_graph.specs.of_format.Reading.{entries_of, internal_item_at, internal_key, kind_at, listed, offset_of, recno_item_at}
 use Rattle.bdb_graph.specs.of_format.Rows.{internal_rows, recno_rows}
 use Rattle.bdb_graph.specs.of_format.Table.{first_row}

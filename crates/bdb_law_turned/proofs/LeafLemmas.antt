@@ -1,5 +1,5 @@
 -- Leaves whose numbers are turned round.
-use Rattle.std.proofs.Common.{◌≡◌, ◌∙◌, ◌⊎◌, inl, inr, ℕ, ◌+◌, ◌-◌, ◌*◌, ◌<◌, ◌≤◌, List, [], ◌∷◌, length, refl, sym, ap, subst, arith}
+use Rattle.std.proofs.Common.{◌≡◌, ◌∙◌, inl, inr, ℕ, ◌+◌, ◌-◌, ◌*◌, ◌<◌, ◌≤◌, List, [], ◌∷◌, length, refl, sym, ap, subst, arith}
 use Rattle.std.specs.Prelude.{slice_range, false, None}
 use Rattle.std.specs.List.{Contains}
 use Rattle.std.proofs.lemmas.Bool.Decides.{nat_tests}
@@ -15,7 +15,7 @@ use Rattle.bdb_graph.specs.of_format.Rows.{item_rows, leaf_end, leaf_rows, liste
 use Rattle.bdb_graph.specs.of_format.Table.{first_row}
 use Rattle.bdb_law_turned.specs.Fields.{Field, field, leaf_fields}
 use Rattle.bdb_graph.specs.of_form.Ends.{leaf_item_end}
-use Rattle.bdb_graph.proofs.of_form.EndLemmas.{IsInline, IsTree, IsChain, KindCase, kind_case}
+use Rattle.bdb_graph.proofs.of_form.EndLemmas.{IsInline, IsTree, IsChain, kind_case}
 use Rattle.bdb_law_turned.specs.Overlaps.{listed_overlap}
 use Rattle.bdb_law_turned.specs.Apart.{IsUntouched}
 pub use Rattle.bdb_law_turned.specs.Parts.{leaf_high, leaf_part}

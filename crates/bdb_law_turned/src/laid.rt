@@ -1,69 +1,46 @@
 //! Where the items of pages lie.
-ghost use Rattle.std.specs.Prelude.{◌≡◌, ℕ, List, None};
-ghost use Rattle.bdb_graph.specs.of_form.Ends.{ArePlaced};
-ghost use Rattle.bdb_graph.specs.of_format.declared.kinds.Order.{Order as AnyOrder};
-ghost use Rattle.bdb_graph.specs.of_format.Reading.{offset_of};
-ghost use Rattle.bdb_graph.specs.of_format.Rows.{item_rows, listed_code};
-ghost use Rattle.bdb_graph.specs.of_format.Table.{first_row};
+ghost use Rattle.std.specs.Prelude.{◌≡◌, ◌+◌, ◌<◌, ℕ, None};
+ghost use Rattle.bdb_graph.specs.of_form.Ends.{ArePlaced, internal_item_end, leaf_item_end};
+ghost use Rattle.bdb_graph.specs.of_format.Reading.{entries_of, offset_of};
+ghost use Rattle.bdb_graph.specs.of_format.Rows.{listed_code};
 
-use bdb_graph::{EndKind, Entries, EntryLeafKind, InternalKind, LeafKind, RecnoInternalKind};
+use bdb_graph::{
+    EndKind, Entries, EntryLeafKind, InternalKind, LeafKind, Order, RecnoInternalKind,
+};
 
-/// A type of pages whose items lie on them, and end where what they hold says, where no row of form holds.
+/// A type of pages whose items end where what they hold says.
 pub trait LaidKind: EndKind {
     // Where an item that begins at a place ends, by what it holds.
     ghost item_end: { ℕ → Self → ℕ };
 
-    ghost are_placed: { (order : AnyOrder) (page : List ℕ) → listed_code order page Self.page_type ≡ None
-        → ArePlaced order page Self.least (Self.end order page) };
-
-    ghost ends_are: { (order : AnyOrder) (page : List ℕ) (index : ℕ) → first_row (item_rows Self.page_type order page index) ≡ None
-        → item_end (offset_of order page index) (Self.item_at order page index) ≡ Self.end order page (offset_of order page index) };
+    /// The law of such a type: where no row of form holds for a page, its items lie on it, and end so.
+    fn are_laid(page: &[u8], order: Order)
+        requires { listed_code order page.now Self.page_type ≡ None }
+        ensures placed { ArePlaced order page.now Self.least (Self.end order page.now) }
+        ensures ends { (i : ℕ) → i < entries_of order page.now
+            → item_end (offset_of order page.now i) (Self.item_at order page.now i) ≡ Self.end order page.now (offset_of order page.now i) };
 }
 
 impl LaidKind for LeafKind {
-    ghost use Rattle.std.specs.Prelude.{refl};
-    ghost use Rattle.bdb_graph.proofs.of_form.EndLemmas.{end_of_leaf_item, leaves_placed};
-    ghost use Rattle.bdb_graph.specs.of_format.declared.pages.PageType.TheVariants.{Leaf};
-    ghost use Rattle.bdb_graph.specs.of_form.Ends.{leaf_item_end};
-
     ghost item_end = { λ at item. leaf_item_end at item.content };
 
-    ghost are_placed = { λ order page none. leaves_placed Leaf order page (λ i. refl) none };
-
-    ghost ends_are = { λ order page index none. end_of_leaf_item order page index none };
+    fn are_laid(_page: &[u8], _order: Order) {}
 }
 
 impl<E: Entries> LaidKind for EntryLeafKind<E> {
-    ghost use Rattle.std.proofs.Common.{◌∙◌, ap, sym};
-    ghost use Rattle.bdb_graph.proofs.of_form.EndLemmas.{end_of_leaf_item, leaves_placed};
-    ghost use Rattle.bdb_graph.specs.of_format.Table.{first_row};
-    ghost use Rattle.bdb_graph.specs.of_form.Ends.{leaf_item_end};
-
     ghost item_end = { λ at item. leaf_item_end at item.content };
 
-    ghost are_placed = { λ order page none. leaves_placed E.page_type order page (E.have_items order page) none };
-
-    ghost ends_are = { λ order page index none. end_of_leaf_item order page index (sym (ap first_row (E.have_items order page index)) ∙ none) };
+    fn are_laid(_page: &[u8], _order: Order) {}
 }
 
 impl LaidKind for InternalKind {
-    ghost use Rattle.bdb_graph.proofs.of_form.EndLemmas.{end_of_internal_item, internals_placed};
-    ghost use Rattle.bdb_graph.specs.of_form.Ends.{internal_item_end};
-
     ghost item_end = { λ at item. internal_item_end at item.key };
 
-    ghost are_placed = { λ order page none. internals_placed order page none };
-
-    ghost ends_are = { λ order page index none. end_of_internal_item order page index none };
+    fn are_laid(_page: &[u8], _order: Order) {}
 }
 
 impl LaidKind for RecnoInternalKind {
-    ghost use Rattle.std.specs.Prelude.{◌+◌, refl};
-    ghost use Rattle.bdb_graph.proofs.of_form.EndLemmas.{recnos_placed};
-
     ghost item_end = { λ at item. at + 8 };
 
-    ghost are_placed = { λ order page none. recnos_placed order page none };
-
-    ghost ends_are = { λ order page index none. refl };
+    fn are_laid(_page: &[u8], _order: Order) {}
 }
