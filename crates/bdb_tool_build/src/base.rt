@@ -13,7 +13,7 @@ ghost use Rattle.bdb_tool_build.specs.Copied.{IsBtree};
 
 use crate::copied::{Rooms, push_listed};
 use crate::tree::btree_pairs;
-use bdb_file::{Db, First, FirstError, Meta, Scan, Sound, sound_by, verify};
+use bdb_file::{Db, First, FirstError, Meta, Scan, Sound, sound_by};
 use bdb_io::Image;
 use bdb_model::{BtreeMeta, Bytes, Section, Sections, Steps, TextPairs};
 use bdb_onto::Base;
