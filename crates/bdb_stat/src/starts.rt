@@ -104,5 +104,6 @@ pub(crate) fn unused_behind<K: LaidKind>(starts: &mut Marks, page: &[u8], order:
     ensures unused { result ≡ item_unused (length page.now) K.item_end K.no_item (listed order page.now (K.item_at order page.now)) }
     ensures same { length starts.new ≡ length starts.old }
 {
+    K::are_laid(page, order);
     bytes_in_none::<K>(starts, page, order)
 }
