@@ -11,7 +11,7 @@ use Rattle.bdb_file.specs.of_faults.declared.refusals.FirstError.{FirstError}
 use Rattle.bdb_file.specs.of_faults.declared.refusals.FirstError.TheVariants.{Fault as FirstFault, Memory as FirstMemory}
 use Rattle.bdb_tool_dump.specs.of_tool_lines.Telling.{judgement_line, judgement_status}
 use Rattle.bdb_tool_words.specs.of_text_format.Written.{database_text, dump_text, is_btree}
-use Rattle.bdb_tool_words.specs.of_model.Answers.{done, fault_line, pairs_text, told, unsupported_line, value_line, values_text}
+use Rattle.bdb_tool_words.specs.of_model.Answers.{Answer, done, fault_line, pairs_text, told, unsupported_line, value_line, values_text}
 use Rattle.bdb_tool_ask.specs.FileAnswers.{asked_answer, converted, data_at, data_named, data_of_database, database_in, dumped, found, judged_answer, not_btree, not_found, range_answer, ranged, section_answer, sound_answer}
 use Rattle.bdb_tool_words.specs.of_model.Change.{Change}
 use Rattle.bdb_tool_words.specs.Commands.{Request, Verify, Get, Dump, Range, Convert, bounds_request, key_request}
@@ -111,18 +111,18 @@ told_judged (Faulty fault) request image = refl
 told_judged (LeftOut name page) request image = refl
 
 -- or that memory was wanting
-pub refused_finishes : (found : List Fault) (error : FirstError) (request : Request) (image : List ℕ) (written : Option (List ℕ)) (faults : ℕ) (err : Change)
-    (status : ℕ) → IsFirstRefusal found error → IsRefused error err status
-    → Finishes (judged_answer (first_judgement found) request image) (moved written written faults faults) err status
-refused_finishes found (FirstFault named) request image written faults err status is (inl tells) =
+pub refused_finishes : (all : List Fault) (error : FirstError) (request : Request) (image : List ℕ) (written : Option (List ℕ)) (faults : ℕ) (err : Change)
+    (status : ℕ) → IsFirstRefusal all error → IsRefused error err status
+    → Finishes (judged_answer (first_judgement all) request image) (moved written written faults faults) err status
+refused_finishes all (FirstFault named) request image written faults err status is (inl tells) =
     subst (λ (first : Option Fault). Finishes (judged_answer (option_map judgement_of first) request image) (moved written written faults faults) err status)
     (sym is)
     (subst (λ (answer : Answer). Finishes answer (moved written written faults faults) err status) (told_judged (judgement_seen named) request image)
     (judgement_told (judgement_seen named) written faults err status tells))
-refused_finishes found (FirstFault named) request image written faults err status is (inr tells) =
-    memory_finishes (judged_answer (first_judgement found) request image) written faults err status (judged_own (first_judgement found) request image) tells
-refused_finishes found FirstMemory request image written faults err status is tells =
-    memory_finishes (judged_answer (first_judgement found) request image) written faults err status (judged_own (first_judgement found) request image) tells
+refused_finishes all (FirstFault named) request image written faults err status is (inr tells) =
+    memory_finishes (judged_answer (first_judgement all) request image) written faults err status (judged_own (first_judgement all) request image) tells
+refused_finishes all FirstMemory request image written faults err status is tells =
+    memory_finishes (judged_answer (first_judgement all) request image) written faults err status (judged_own (first_judgement all) request image) tells
 
 -- What is asked of a sound file.
 
