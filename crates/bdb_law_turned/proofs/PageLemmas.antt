@@ -45,7 +45,8 @@ use Rattle.bdb_law_turned.proofs.ApartLemmas.{Between, apart_between, bounds, un
 use Rattle.bdb_law_turned.proofs.ListedLemmas.{ArePlaced, all_fields, header_same, in_header, listed_fields_are, listed_same, placed_apart, placed_within}
 use Rattle.bdb_law_turned.proofs.ListedLemmas.{rows_same, untouched_in_header, header_between}
 use Rattle.bdb_law_turned.proofs.LeafLemmas.{IsLeaf, LeafTurned, leaf_all, leaf_high, leaf_low, leaf_part, leaf_placed, leaf_turned}
-use Rattle.bdb_law_turned.proofs.HashLemmas.{IsHash, HashTurned, hash_all, hash_high, hash_low, hash_part, hash_placed, hash_turned, item_same as hash_item_same}
+use Rattle.bdb_law_turned.proofs.HashLemmas.{IsHash, HashTurned, hash_all, hash_high, hash_low, hash_part, hash_placed}
+use Rattle.bdb_law_turned.proofs.HashLemmas.{hash_turned, item_same as hash_item_same}
 use Rattle.bdb_law_turned.proofs.HashLemmas.{item_rows_same as hash_rows_same}
 use Rattle.bdb_law_turned.proofs.InnerLemmas.{IsInternal, InternalTurned, IsRecno, RecnoTurned, internal_all, internal_high, internal_low, internal_part}
 use Rattle.bdb_law_turned.proofs.InnerLemmas.{internal_placed, internal_turned, item_same as inner_item_same, item_rows_same as inner_rows_same, recno_all}

@@ -10,7 +10,8 @@ use Rattle.bdb_law_turned.specs.of_format.declared.metadata.FileKind.TheVariants
 use Rattle.bdb_law_turned.specs.of_format.declared.metadata.Head.{Head}
 use Rattle.bdb_law_turned.specs.of_form.declared.view.PageView.{PageView}
 use Rattle.bdb_law_turned.specs.of_form.declared.view.PageView.TheVariants.{Zero as ZeroView, Free as FreeView, Meta as MetaView, Leaf as LeafView, Internal as InternalView}
-use Rattle.bdb_law_turned.specs.of_form.declared.view.PageView.TheVariants.{RecnoLeaf as RecnoLeafView, RecnoInternal as RecnoInternalView, DupLeaf as DupLeafView}
+use Rattle.bdb_law_turned.specs.of_form.declared.view.PageView.TheVariants.{RecnoLeaf as RecnoLeafView, RecnoInternal as RecnoInternalView}
+use Rattle.bdb_law_turned.specs.of_form.declared.view.PageView.TheVariants.{DupLeaf as DupLeafView}
 use Rattle.bdb_law_turned.specs.of_form.declared.view.PageView.TheVariants.{Hash as HashView, Overflow as OverflowView, Queue as QueueView}
 use Rattle.bdb_law_turned.specs.of_form.Seen.{header_seen, page_seen}
 use Rattle.bdb_law_turned.specs.of_format.declared.pages.Header.{Header}
