@@ -34,4 +34,4 @@ pub page_turns : (head : Head) (p : ℕ) (page new : List ℕ) → is_page_size 
 page_turns head p page new size none apart some turns =
     let numbers : AreNumbersOf head.order page (fields_of (page_as head.order page (page_type (byte_at page 25)))) =
     numbers_by_type head p page size none apart some in
-    turns [] numbers.apart numbers.within (sym (no_fields_turn page)) ∙ sym numbers.turned
+    turns.turned [] numbers.apart numbers.within (sym (no_fields_turn page)) ∙ sym numbers.turned

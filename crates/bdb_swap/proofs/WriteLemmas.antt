@@ -147,24 +147,28 @@ two_reversed bytes at inside =
 -- one number
 pub turns_one : (source old new : List ℕ) (at width : ℕ) → new ≡ overwritten old at (reverse (slice_range source at (at + width)))
     → Turns source (field at width ∷ []) old new
-turns_one source old new at width is done apart within was =
-    is ∙ (ap (λ bytes. overwritten bytes at (reverse (slice_range source at (at + width)))) was ∙ fields_are_written done (field at width) source apart within)
+turns_one source old new at width is = record {
+  turned = λ done apart within was. is
+      ∙ (ap (λ bytes. overwritten bytes at (reverse (slice_range source at (at + width)))) was ∙ fields_are_written done (field at width) source apart within);
+}
 
 -- none
 pub turns_none : (source old : List ℕ) → Turns source [] old old
-turns_none source old done apart within was = was ∙ ap (λ fields. turned_round fields source) (sym (append-nil done))
+turns_none source old = record { turned = λ done apart within was. was ∙ ap (λ fields. turned_round fields source) (sym (append-nil done)) }
 
 -- some, and then others
 pub turns_both : (source old middle new : List ℕ) (xs ys : List Field) → Turns source xs old middle → Turns source ys middle new
     → Turns source (xs ++ ys) old new
-turns_both source old middle new xs ys first second done apart within was =
-    let all : done ++ (xs ++ ys) ≡ (done ++ xs) ++ ys = sym (append_assoc done xs ys) in
-    let apart_all : AreApart ((done ++ xs) ++ ys) = subst AreApart all apart in
-    let within_all : LieWithin ((done ++ xs) ++ ys) (length source) = subst (λ fields. LieWithin fields (length source)) all within in
-    let here : middle ≡ turned_round (done ++ xs) source =
-    first done (λ f g at_f at_g. apart_all f g (Contains-append_left (done ++ xs) ys f at_f) (Contains-append_left (done ++ xs) ys g at_g))
-    (λ f at. within_all f (Contains-append_left (done ++ xs) ys f at)) was in
-    second (done ++ xs) apart_all within_all here ∙ ap (λ fields. turned_round fields source) (sym all)
+turns_both source old middle new xs ys first second = record {
+  turned = λ done apart within was.
+      let all : done ++ (xs ++ ys) ≡ (done ++ xs) ++ ys = sym (append_assoc done xs ys) in
+      let apart_all : AreApart ((done ++ xs) ++ ys) = subst AreApart all apart in
+      let within_all : LieWithin ((done ++ xs) ++ ys) (length source) = subst (λ fields. LieWithin fields (length source)) all within in
+      let here : middle ≡ turned_round (done ++ xs) source =
+      first.turned done (λ f g at_f at_g. apart_all f g (Contains-append_left (done ++ xs) ys f at_f) (Contains-append_left (done ++ xs) ys g at_g))
+      (λ f at. within_all f (Contains-append_left (done ++ xs) ys f at)) was in
+      second.turned (done ++ xs) apart_all within_all here ∙ ap (λ fields. turned_round fields source) (sym all);
+}
 
 -- the lengths of one block more
 pub turns_block : (source old middle new last : List ℕ) (place : ℕ) (left rest : List (List ℕ)) (block : List ℕ) → left ≡ block ∷ rest

@@ -8,10 +8,9 @@ use Rattle.bdb_law_turned.specs.Turning.{turned_page, turned_round}
 use Rattle.bdb_law_turned.specs.Apart.{AreApart, LieWithin}
 
 -- one page of bytes has more of the numbers of another turned round than before
-abbrev pub Turns : List ℕ → List Field → List ℕ → List ℕ → Type 0
-Turns source fields old new =
-    (done : List Field) → AreApart (done ++ fields) → LieWithin (done ++ fields) (length source) → old ≡ turned_round done source
-    → new ≡ turned_round (done ++ fields) source
+pub record Turns (source : List ℕ) (fields : List Field) (old new : List ℕ) : Type 0 where
+  pub turned : (done : List Field) → AreApart (done ++ fields) → LieWithin (done ++ fields) (length source) → old ≡ turned_round done source
+      → new ≡ turned_round (done ++ fields) source
 
 -- so many pages of an image turned round, one after another
 abbrev pub pages_turned : Head → List ℕ → ℕ → List ℕ

@@ -56,6 +56,7 @@ pub(crate) fn items_overlap<K: LaidKind>(ends: &mut [u16], page: &[u8], order: O
     ensures found { result ≡ listed_overlap K.item_end K.no_item (listed order page.now (K.item_at order page.now)) }
     ensures same { length ends.new ≡ length ends.old }
 {
+    K::are_laid(page, order);
     ends.fill(0);
     let noted = note_ends::<K>(ends, page, order);
     crosses(ends, &noted)

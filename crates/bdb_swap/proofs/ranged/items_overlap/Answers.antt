@@ -1,5 +1,5 @@
 use Rattle.std.proofs.Common.{◌≡◌, ◌∙◌, ℕ, arith, length, subst, sym}
-use Rattle.bdb_law_turned.proofs.of_form.EndLemmas.{has_rows, listed_index}
+use Rattle.bdb_law_turned.proofs.of_form.EndLemmas.{listed_index}
 use Rattle.bdb_io.specs.of_format.Reading.{entries_of, offset_of}
 use Rattle.bdb_swap.specs.Crossing.{AreRanges}
 use Rattle.bdb_swap.proofs.CrossLemmas.{ranges_cross}
@@ -9,9 +9,6 @@ use Rattle.bdb_swap.proofs.ranged.items_overlap.Goals as goal
 pub note_ends-noted-requires-clause-room : goal.note_ends-noted-requires-clause-room
 note_ends-noted-requires-clause-room g c = listed_index g.K.PageKind.page_type c.args.order c.args.page.now c.requires.code
 
-pub note_ends-noted-requires-clause-items : goal.note_ends-noted-requires-clause-items
-note_ends-noted-requires-clause-items g c = g.K.LaidKind.are_placed c.args.order c.args.page.now c.requires.code
-
 pub returns-clause-found : goal.returns-clause-found
 returns-clause-found g c =
     let end : ℕ → ℕ = g.K.EndKind.end c.args.order c.args.page.now in
@@ -20,8 +17,7 @@ returns-clause-found g c =
     c.crosses.ensures
     ∙ ranges_cross (entries_of c.args.order c.args.page.now) begin (λ i. end (begin i)) c.note_ends-noted.new.ends
     (subst (λ (size : ℕ). AreRanges (entries_of c.args.order c.args.page.now) size begin (λ i. end (begin i))) (sym long)
-    (ranges_of c.args.order c.args.page.now g.K.EndKind.least end (g.K.LaidKind.are_placed c.args.order c.args.page.now c.requires.code)))
+    (ranges_of c.args.order c.args.page.now g.K.EndKind.least end c.are_laid.ensures.placed))
     c.note_ends-noted.ensures.ends
     ∙ listed_shares g.K.LaidKind.item_end g.K.PageKind.no_item c.args.order c.args.page.now (g.K.PageKind.item_at c.args.order c.args.page.now)
-    (λ i. end (begin i))
-    (λ i lt. g.K.LaidKind.ends_are c.args.order c.args.page.now i (has_rows c.args.order c.args.page.now g.K.PageKind.page_type c.requires.code i lt))
+    (λ i. end (begin i)) c.are_laid.ensures.ends
