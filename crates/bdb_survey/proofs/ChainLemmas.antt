@@ -11,9 +11,11 @@ use Rattle.bdb_law_sums.specs.of_format.HeadOf.{is_page_size}
 use Rattle.bdb_law_sums.specs.of_format.Numbers.{byte_at, four_at, two_at}
 use Rattle.bdb_law_sums.specs.of_format.Page.{Page, Zero}
 use Rattle.bdb_law_sums.specs.of_format.declared.pages.PageType.{PageType}
+use Rattle.bdb_law_sums.specs.of_format.declared.pages.PageType.TheVariants.{Overflow as OverflowPage}
 use Rattle.bdb_law_sums.specs.of_format.Reading.{abstract_page, is_zero, page_as, page_type}
 use Rattle.bdb_law_sums.specs.of_format.Rows.{page_code}
 use Rattle.bdb_law_sums.proofs.of_format.SizeLemmas.{size_bounds}
+use Rattle.bdb_law_sums.proofs.of_format.TypeLemmas.{byte_as}
 use Rattle.bdb_law_sums.specs.of_form.Formed.{HoldsData}
 use Rattle.bdb_law_sums.proofs.of_form.FormedLemmas.{holds_data, tree_body}
 use Rattle.bdb_law_sums.specs.of_overflow.Whole.{EndsIn, IsLink, IsWholeChain, bytes_of, next_at}
@@ -24,28 +26,9 @@ use Rattle.bdb_law_sums.proofs.HashLemmas.{no_turn, turn_is}
 
 -- An overflow page by its bytes.
 
-abbrev pub NoChain : PageType → Type 0
-NoChain t = (order : Order) (page : List ℕ) → is_overflow (page_as order page t) ≡ false
-
-kept : (b : Bool) (x y : PageType) → NoChain x → NoChain y → NoChain (cond b x y)
-kept true x y p q = p
-kept false x y p q = q
-
-other_byte : (byte : ℕ) → (byte == 7) ≡ false → NoChain (page_type byte)
-other_byte byte seven =
-    rw seven (
-    kept (byte == 0) _ _ (λ o p. refl) (
-    kept (byte == 2) _ _ (λ o p. refl) (
-    kept (byte == 3) _ _ (λ o p. refl) (
-    kept (byte == 4) _ _ (λ o p. refl) (
-    kept (byte == 5) _ _ (λ o p. refl) (
-    kept (byte == 6) _ _ (λ o p. refl) (
-    kept (byte == 8) _ _ (λ o p. refl) (
-    kept (byte == 9) _ _ (λ o p. refl) (
-    kept (byte == 10) _ _ (λ o p. refl) (
-    kept (byte == 11) _ _ (λ o p. refl) (
-    kept (byte == 12) _ _ (λ o p. refl) (
-    kept (byte == 13) _ _ (λ o p. refl) (λ o p. refl)))))))))))))
+overflow_type : (order : Order) (page : List ℕ) (t : PageType) → is_overflow (page_as order page t) ≡ true → t ≡ OverflowPage
+overflow_type order page OverflowPage is = refl
+overflow_type order page t is = absurd cc
 
 -- a page of a chain has type 7, and its data lie on it
 record IsChainPage (order : Order) (page : List ℕ) : Type 0 where
@@ -53,20 +36,13 @@ record IsChainPage (order : Order) (page : List ℕ) : Type 0 where
   room : 26 + two_at order page 22 ≤ length page
   same : salvaged_page order page ≡ abstract_page order page
 
-byte_seven : (order : Order) (page : List ℕ) (byte : ℕ) → is_overflow (page_as order page (page_type byte)) ≡ true → byte ≡ 7
-byte_seven order page byte is =
-    elim (byte == 7) as (λ b. (byte == 7) ≡ b → byte ≡ 7) [
-      | true ↦ λ same. eqb-true byte 7 same
-      | false ↦ λ other. absurd (let no : true ≡ false = sym is ∙ other_byte byte other order page in cc)
-    ] refl
-
 by_zero : (order : Order) (page : List ℕ) → 26 ≤ length page → length page ≤ 32768 → page_code order (four_at order page 8) page ≡ None
     → (zeros : Bool) → is_zero page ≡ zeros → is_overflow (elim zeros [ true ↦ Zero | false ↦ page_as order page (page_type (byte_at page 25)) ]) ≡ true
     → HoldsData order page × (byte_at page 25 ≡ 7)
 by_zero order page header size none true zeros is = absurd cc
 by_zero order page header size none false zeros is =
-    let seven : byte_at page 25 ≡ 7 = byte_seven order page (byte_at page 25) is in
-    (holds_data order page size header (tree_body order (four_at order page 8) page none zeros) seven, seven)
+    let type : page_type (byte_at page 25) ≡ OverflowPage = overflow_type order page (page_type (byte_at page 25)) is in
+    (holds_data order page size header (tree_body order (four_at order page 8) page none zeros) type, byte_as (byte_at page 25) OverflowPage type)
 
 by_code : (order : Order) (page : List ℕ) → 26 ≤ length page → length page ≤ 32768
     → (code : Option ℕ) → page_code order (four_at order page 8) page ≡ code → is_overflow (unless_code code (abstract_page order page)) ≡ true
