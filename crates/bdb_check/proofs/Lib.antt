@@ -1,3 +1,4 @@
+mod UnorderedLemmas
 pub mod WholeLemmas
 pub use Rattle.bdb_any_order.proofs as of_any_order
 pub use Rattle.bdb_master.proofs.of_btree as of_btree

@@ -70,7 +70,6 @@ impl<F: FaultSink> FaultSink for Unordered<F> {
 
     ghost takes_memory = { F.takes_memory };
 
-    #[tactic(auto, using(bdb_any_order::proofs::OrderLemmas::other_noted, bdb_any_order::proofs::OrderLemmas::order_noted))]
     fn note(&mut self, row: Row, page: u32) -> Result<(), AllocError> {
         self.is_empty = false;
         if is_of_order(row) {

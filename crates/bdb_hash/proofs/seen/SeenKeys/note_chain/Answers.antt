@@ -17,8 +17,9 @@ returns-then-contains-clause-noted g c =
     let there : has_key seen.keys (chain_value seen.image c.args.head) ≡ true = subst (λ (s : Seen). has_key s.keys (chain_value s.image c.args.head) ≡ true)
     c.self.view_is here in
     let key : c.args.pair.now.pair.key ≡ chain_value seen.image c.args.head = c.requires.head ∙ ap (λ image. chain_value image c.args.head) c.requires.pair in
-    seen_noting c.note.result seen.keys (g.F.FaultSink.has_noted c.args.found.now) (g.F.FaultSink.has_noted c.note.new.self) c.args.pair.now c.at.result
-    (ap (has_key seen.keys) key ∙ there) (c.at.ensures ∙ ap (λ page. fault_at (Contents KeyTwice) page) c.page.ensures) c.note.ensures.noted
+    seen_noting c.note.result seen.keys (g.F.FaultSink.has_noted c.args.found.now) (g.F.FaultSink.has_noted c.note.new.self) c.args.pair.now
+    (fault_at (Contents KeyTwice) c.page.result) (ap (has_key seen.keys) key ∙ there) (ap (λ page. fault_at (Contents KeyTwice) page) c.page.ensures)
+    c.note.ensures.noted
 
 -- The key is among those seen now.
 pub invariant_of-self-2 : goal.invariant_of-self-2
