@@ -5,6 +5,7 @@ use Rattle.std.specs.List.{Contains}
 use Rattle.std.proofs.lemmas.Bool.{cases_lt}
 use Rattle.std.proofs.lemmas.List.{append-nil, get_or_past, length-map, length-replicate}
 use Rattle.bdb_pack.proofs.ImageLemmas.{counted_so_far, page_so_far}
+use Rattle.bdb_graph.proofs.of_format.TypeLemmas.{byte_as}
 use Rattle.bdb_graph.specs.of_format.declared.kinds.Order.{Order}
 use Rattle.bdb_graph.specs.of_format.declared.metadata.BtreeMeta.{BtreeMeta}
 use Rattle.bdb_graph.specs.of_format.declared.metadata.FileKind.TheVariants.{Btree}
@@ -184,8 +185,8 @@ part_formed before after joints j p filed member inside low =
     λ found. no_meta_inside (file_so_far after) joints j p all member inside (ap is_meta (page_so_far after p low) ∙ found) in
     tree_passed (head_for after) p page (omega (arith, (all.parts j member).branch.grove.low p inside)) (λ queue. cc)
     (ap (λ o. page_code o p page) filed.order ∙ (ap (page_code before.order p) (filed.same j p member inside) ∙ filed.formed j p member inside))
-    (λ table. no_meta (ap is_meta (table_page after.order page legal table)))
-    (λ tree. no_meta (ap is_meta (tree_page after.order page legal tree)))
+    (λ table. no_meta (ap is_meta (table_page after.order page legal (byte_as _ _ table))))
+    (λ tree. no_meta (ap is_meta (tree_page after.order page legal (byte_as _ _ tree))))
 
 page_formed : (before after : Built) (joints : List Joint) (p : ℕ) → AreFiled before after joints → p < length after.pages
     → form_code (head_for after) p (bytes_of after p) ≡ None
