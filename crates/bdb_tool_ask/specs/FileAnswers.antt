@@ -1,5 +1,5 @@
 -- What is answered over a file, by its verdict and what is asked. Source: README.md, "Use".
-use Rattle.std.specs.Prelude.{Bool, List, None, Option, Some, [], codes, decimal, if◌then◌else◌, map, slice_get, ℕ, ◌++◌, ◌∷◌, ◌≡◌}
+use Rattle.std.specs.Prelude.{Bool, List, None, Option, Some, [], codes, decimal, if◌then◌else◌, slice_get, ℕ, ◌++◌, ◌∷◌}
 use Rattle.bdb_file.specs.of_format.declared.kinds.Order.{Order}
 use Rattle.bdb_file.specs.of_format.Databases.{Database, data_under, databases, place_of}
 use Rattle.bdb_file.specs.of_format.File.{File, file_of}

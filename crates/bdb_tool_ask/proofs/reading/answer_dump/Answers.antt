@@ -1,7 +1,7 @@
 use Rattle.bdb_file.specs.of_any_order.AnyOrder.{faults_by_rows}
 use Rattle.bdb_tool_words.specs.Commands.{Dump}
 use Rattle.bdb_tool_ask.proofs.AnswerLemmas.{readable_finishes, refused_finishes}
-use Rattle.bdb_tool_ask.proofs.reading.answer_dump.{Goals as goal}
+use Rattle.bdb_tool_ask.proofs.reading.answer_dump.Goals as goal
 
 pub returns-in-Ok : goal.returns-in-Ok
 returns-in-Ok g c = λ name is.

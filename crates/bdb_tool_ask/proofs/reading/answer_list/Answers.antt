@@ -2,7 +2,7 @@ use Rattle.bdb_file.specs.of_any_order.AnyOrder.{faults_by_rows}
 use Rattle.bdb_tool_words.specs.Commands.{ListAll}
 use Rattle.bdb_tool_ask.proofs.AnswerLemmas.{readable_finishes, refused_finishes}
 use Rattle.bdb_tool_dump.proofs.of_tool_lines.FinishLemmas.{written_finishes}
-use Rattle.bdb_tool_ask.proofs.reading.answer_list.{Goals as goal}
+use Rattle.bdb_tool_ask.proofs.reading.answer_list.Goals as goal
 
 pub returns-in-Ok : goal.returns-in-Ok
 returns-in-Ok g c =
