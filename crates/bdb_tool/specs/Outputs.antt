@@ -1,7 +1,6 @@
 -- The answers to words, an input and a base: a status, and what is written to the output and to the error sink. Source: README.md, "Use".
 use Rattle.std.specs.Prelude.{◌≡◌, ◌⊎◌, ℕ, nat_lt, ◌&&◌, Bool, true, false, List, [], length, Option, Some, None, codes, ⊤}
 use Rattle.bdb_tool_words.specs.Commands.{Action, Ask, Command, Load, LoadOnto, Repair, Salvage, Trial, command_on, reads_input, usage}
-use Rattle.bdb_tool_ask.specs.of_tool_lines.Telling.{faults_text}
 use Rattle.bdb_repair.specs.of_model.Answers.{Answer, done, told, too_large_line}
 use Rattle.bdb_repair.specs.of_model.Change.{Change, Gains, GainsPart, Stays}
 use Rattle.bdb_repair.specs.of_text_format.LineEnd.{line}
