@@ -14,6 +14,7 @@ use Rattle.bdb_io.specs.of_format.Reading.{abstract_page}
 use Rattle.bdb_io.specs.of_format.Rows.{form_code}
 use Rattle.bdb_io.specs.of_format.Spelling.{table_bytes, zeros}
 use Rattle.bdb_io.proofs.of_format.FileLemmas.{last_page, page_is}
+use Rattle.bdb_io.proofs.of_format.TypeLemmas.{byte_as}
 use Rattle.bdb_io.proofs.of_format.SizeLemmas.{size_bounds}
 use Rattle.std.specs.List.{flat_map}
 use Rattle.std.specs.Prelude.{◌*◌}
@@ -198,8 +199,8 @@ written_tables_are_sound settings old built units list meta elements page image 
         let right : is_page_size (length (bytes_of built p)) ≡ true = ap is_page_size (is.pages.whole p there) ∙ is.pages.legal in
         tree_passed (head_for built Hash) p (bytes_of built p) (omega (arith, above)) (λ queue. cc)
         (table.formed p (omega (arith, above, one)) there)
-        (λ hash. no_meta p above there (ap is_meta (table_page built.order (bytes_of built p) right hash)))
-        (λ tree. no_meta p above there (ap is_meta (tree_page built.order (bytes_of built p) right tree)))
+        (λ hash. no_meta p above there (ap is_meta (table_page built.order (bytes_of built p) right (byte_as _ _ hash))))
+        (λ tree. no_meta p above there (ap is_meta (tree_page built.order (bytes_of built p) right (byte_as _ _ tree))))
 
     formed : (p : ℕ) → p ≤ (head_of image).last → form_code (head_of image) p (page_bytes (head_of image) image p) ≡ None
     formed zero high =
