@@ -53,13 +53,16 @@ fn least_item_row<K: PageKind>(page: &[u8], order: Order) -> Option<FormRow>
     least
 }
 
+// Most items have no row.
 fn lesser(a: Option<FormRow>, b: Option<FormRow>) -> Option<FormRow>
     ensures { option_map form_row_code result ≡ lesser (option_map form_row_code a) (option_map form_row_code b) }
 {
-    match (a, b) {
-        (None, b) => b,
-        (Some(a), None) => Some(a),
-        (Some(a), Some(b)) => Some(lesser_of(a, b)),
+    let Some(b) = b else {
+        return a;
+    };
+    match a {
+        None => Some(b),
+        Some(a) => Some(lesser_of(a, b)),
     }
 }
 
