@@ -47,7 +47,7 @@ fn spellings_are_appended(rt: HostRuntime) -> Result<(), Fail> {
 // A row: a text, whether it is printed, and its bytes.
 type Row = (&'static [u8], bool, Result<&'static [u8], SpellError>);
 
-const TEXTS: [Row; 12] = [
+const TEXTS: [Row; 14] = [
     (b"", true, Ok(b"")),
     (br"\\\0aA\0A", true, Ok(b"\\\nA\n")),
     (b"\x00\xff", true, Ok(b"\x00\xff")),
@@ -60,6 +60,8 @@ const TEXTS: [Row; 12] = [
     (b"5c0", false, Err(SpellError::Bad)),
     (b"5g", false, Err(SpellError::Bad)),
     (b" 5c", false, Err(SpellError::Bad)),
+    (&[b'a'; 1026], false, Ok(&[0xaa; 513])),
+    (&[b'a'; 1025], false, Err(SpellError::Bad)),
 ];
 
 fn reads_as(read: &Result<Bytes, SpellError>, want: Result<&[u8], SpellError>) -> bool {

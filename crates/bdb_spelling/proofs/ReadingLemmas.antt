@@ -1,14 +1,15 @@
 -- What a text begins with, and the value of digits.
-use Rattle.std.proofs.Common.{◌≡◌, ◌≢◌, ℕ, ◌+◌, ◌*◌, ◌<◌, Bool, true, false, List, [], ◌∷◌, ◌++◌, length, slice_index, ne_eqb, append_assoc, Option, Some, None}
+use Rattle.std.proofs.Common.{◌≡◌, ◌≢◌, ℕ, ◌+◌, ◌*◌, Bool, true, List, [], ◌∷◌, length, slice_index, ne_eqb, Option, Some, None}
 use Rattle.std.proofs.Common.{Result, Ok, Err, refl, sym, ap, ◌∙◌, arith}
 use Rattle.std.specs.Prelude.{MatchResult, is_some}
 use Rattle.std.proofs.lemmas.List.{append-nil, nil_from_length}
 use Rattle.std.proofs.lemmas.Bool.Decides.{nat_tests}
 use Rattle.hex.specs.declared.error.FromHexError.{FromHexError}
 use Rattle.hex.specs.Hex.{decode_pairs, decode_sized, digit_or_error, hex_digit_value, ◌>>=◌}
-use Rattle.bdb_text_format.specs.TextSpelling.{before, byte_before, byte_of_digits, bytes_spelled, digit_value, digits_unit, escaped_unit, next_unit}
+use Rattle.bdb_text_format.specs.TextSpelling.{byte_before, byte_of_digits, bytes_spelled, digit_value, digits_unit, escaped_unit}
 use Rattle.bdb_text_format.specs.TextSpelling.{printed_unit}
-use Rattle.bdb_text_format.proofs.UnitLemmas.{read_empty, read_no_unit, read_unit, unit_shorter}
+use Rattle.bdb_spelling.specs.Runs.{joined}
+use Rattle.bdb_text_format.proofs.UnitLemmas.{read_empty}
 
 -- The value of digits.
 
@@ -96,47 +97,6 @@ printed_itself text byte rest is other = rw (is, ne_eqb byte 92 other) refl
 
 pub spelled_empty : (print : Bool) (text : List ℕ) → length text ≡ 0 → bytes_spelled print text ≡ Some []
 spelled_empty print text none = ap (bytes_spelled print) (nil_from_length text none) ∙ read_empty print
-
--- bytes before those that follow, where these are there
-abbrev pub joined : List ℕ → Option (List ℕ) → Option (List ℕ)
-joined bytes (Some behind) = Some (bytes ++ behind)
-joined bytes None = None
-
-joined_before : (bytes : List ℕ) (byte : ℕ) (behind : Option (List ℕ)) → joined bytes (before byte behind) ≡ joined (bytes ++ byte ∷ []) behind
-joined_before bytes byte None = refl
-joined_before bytes byte (Some behind) = ap Some (sym (append_assoc bytes (byte ∷ []) behind))
-
-is_some-before : (byte : ℕ) (behind : Option (List ℕ)) → is_some (before byte behind) ≡ is_some behind
-is_some-before byte None = refl
-is_some-before byte (Some behind) = refl
-
--- one byte more was read
-pub joined_more : (print : Bool) (text bytes rest : List ℕ) (byte : ℕ) (behind : List ℕ) → bytes_spelled print text ≡ joined bytes (bytes_spelled print rest)
-    → Some (byte, behind) ≡ next_unit print rest → bytes_spelled print text ≡ joined (bytes ++ byte ∷ []) (bytes_spelled print behind)
-joined_more print text bytes rest byte behind e unit =
-    e ∙ ap (joined bytes) (read_unit print rest byte behind (sym unit)) ∙ joined_before bytes byte (bytes_spelled print behind)
-
--- a text is a spelling where what stands behind its first unit is one
-pub is_some-behind : (print : Bool) (text rest : List ℕ) (byte : ℕ) (behind : List ℕ) → is_some (bytes_spelled print text) ≡ is_some (bytes_spelled print rest)
-    → Some (byte, behind) ≡ next_unit print rest → is_some (bytes_spelled print text) ≡ is_some (bytes_spelled print behind)
-is_some-behind print text rest byte behind e unit =
-    e ∙ ap is_some (read_unit print rest byte behind (sym unit)) ∙ is_some-before byte (bytes_spelled print behind)
-
--- and none where it doesn't begin with a unit
-pub is_some-no_unit : (print : Bool) (text rest : List ℕ) → is_some (bytes_spelled print text) ≡ is_some (bytes_spelled print rest) → length rest ≢ 0
-    → None ≡ next_unit print rest → false ≡ is_some (bytes_spelled print text)
-is_some-no_unit print text rest e some none = sym (e ∙ ap is_some (read_no_unit print rest (omega arith) (sym none)))
-
--- so the rest of a spelling begins with one
-pub always_unit : (print : Bool) (text bytes rest : List ℕ) → true ≡ is_some (bytes_spelled print text)
-    → bytes_spelled print text ≡ joined bytes (bytes_spelled print rest) → length rest ≢ 0
-    → None ≡ next_unit print rest → ⊥
-always_unit print text bytes rest is e some none =
-    let wrong : true ≡ false = is ∙ ap is_some (e ∙ ap (joined bytes) (read_no_unit print rest (omega arith) (sym none))) in
-    cc
-
-pub shorter : (print : Bool) (rest : List ℕ) (byte : ℕ) (behind : List ℕ) → Some (byte, behind) ≡ next_unit print rest → length behind < length rest
-shorter print rest byte behind unit = unit_shorter print rest byte behind (sym unit)
 
 -- all were read
 pub joined_all : (print : Bool) (text bytes rest : List ℕ) → bytes_spelled print text ≡ joined bytes (bytes_spelled print rest) → length rest ≡ 0

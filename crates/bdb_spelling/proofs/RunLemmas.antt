@@ -2,7 +2,7 @@
 use Rattle.std.proofs.Common.{min, length-take, length-drop, drop_of_length-le, nat_le, eq-eqb, ◌≡◌, ◌≢◌, ℕ, zero, suc, ◌+◌, ◌-◌, ◌*◌, ◌/◌, ◌%◌, ◌<◌, ◌≤◌, ◌==◌}
 use Rattle.std.proofs.Common.{if◌then◌else◌, Bool, true, false, List, [], ◌∷◌, ◌++◌, length, take, drop, slice_index, Option, Some, None, Result, Ok, Err, refl}
 use Rattle.std.proofs.Common.{sym, ap, ◌∙◌, arith, append_assoc}
-use Rattle.std.specs.Prelude.{MatchResult, is_ok, ◌⊎◌}
+use Rattle.std.specs.Prelude.{MatchResult, is_ok, is_some, ◌⊎◌}
 use Rattle.std.proofs.Common.{inl, inr}
 use Rattle.std.proofs.lemmas.List.{append-nil, take_all, take-append-drop}
 use Rattle.std.proofs.lemmas.Bool.{eqb-true, false_from_ne_true, leb-true, leb-false, or_from, or_parts}
@@ -10,11 +10,8 @@ use Rattle.hex.specs.declared.error.FromHexError.{FromHexError}
 use Rattle.hex.specs.Hex.{decode_pairs, decode_sized, digit_or_error, hex_digit_value, ◌>>=◌}
 use Rattle.bdb_text_format.specs.TextSpelling.{before, byte_before, byte_of_digits, bytes_spelled, digit_value, next_unit}
 use Rattle.bdb_text_format.proofs.UnitLemmas.{read_empty, read_no_unit, read_unit}
-use Rattle.bdb_spelling.specs.declared.spellings.SpellError.{SpellError}
-use Rattle.bdb_spelling.specs.declared.spellings.SpellError.TheVariants.{Bad, Memory}
-use Rattle.bdb_spelling.specs.SpellErrors.{IsSpellError}
-use Rattle.bdb_spelling.specs.Runs.{AddsSpelled, has_backslash}
-use Rattle.bdb_spelling.proofs.ReadingLemmas.{digit_value-hex, joined}
+use Rattle.bdb_spelling.specs.Runs.{has_backslash, joined}
+use Rattle.bdb_spelling.proofs.ReadingLemmas.{digit_value-hex}
 
 -- Digits.
 
@@ -119,13 +116,9 @@ pub decoded : (run out : List ℕ) (n : ℕ) (result : Result Unit FromHexError)
     → bytes_spelled false run ≡ (if is_ok result then Some out else None)
 decoded run out n result size h = sym (sized_by run n (length run % 2 == 1) refl size) ∙ decoded_by (decode_sized run n) out result h
 
--- A run more.
+-- A run of digits.
 
-joined_joined : (bytes more : List ℕ) (behind : Option (List ℕ)) → joined bytes (joined more behind) ≡ joined (bytes ++ more) behind
-joined_joined bytes more None = refl
-joined_joined bytes more (Some behind) = ap Some (sym (append_assoc bytes more behind))
-
--- the loop's run, and what stands behind it
+-- the run, and what stands behind it
 abbrev pub run_size : List ℕ → ℕ
 run_size rest = min (length rest) 1024
 
@@ -165,22 +158,14 @@ spelled-run rest =
     ap (bytes_spelled false) (sym (run-behind (run_size rest) rest))
     ∙ spelled-run_by (take (run_size rest) rest) (behind (run_size rest) rest) (full_or_last rest)
 
-pub run_more : (text bytes rest new : List ℕ) (n : ℕ) → n ≡ run_size rest → bytes_spelled false text ≡ joined bytes (bytes_spelled false rest)
-    → AddsSpelled false (take n rest) bytes new → bytes_spelled false text ≡ joined new (bytes_spelled false (behind n rest))
-run_more text bytes rest new n size e adds =
-    let run : bytes_spelled false (take (run_size rest) rest) ≡ Some adds.0 = ap (λ k. bytes_spelled false (take k rest)) (sym size) ∙ adds.1 in
-    e ∙ ap (joined bytes) (spelled-run rest ∙ ap (λ b. both b (bytes_spelled false (behind (run_size rest) rest))) run)
-    ∙ joined_joined bytes adds.0 (bytes_spelled false (behind (run_size rest) rest))
-    ∙ ap (λ b. joined b (bytes_spelled false (behind (run_size rest) rest))) (sym adds.2)
-    ∙ ap (λ k. joined new (bytes_spelled false (behind k rest))) (sym size)
+pub digits_read : (text bytes : List ℕ) (n : ℕ) → n ≡ run_size text → bytes_spelled false (take n text) ≡ Some bytes
+    → bytes_spelled false text ≡ joined bytes (bytes_spelled false (behind n text))
+digits_read text bytes n size is =
+    rw size (spelled-run text ∙ ap (λ b. both b (bytes_spelled false (behind (run_size text) text))) (ap (λ k. bytes_spelled false (take k text)) (sym size) ∙ is))
 
--- an error of the run is one of the text
-pub run_error : (text bytes rest : List ℕ) (n : ℕ) (error : SpellError) → n ≡ run_size rest → bytes_spelled false text ≡ joined bytes (bytes_spelled false rest)
-    → IsSpellError false (take n rest) error → IsSpellError false text error
-run_error text bytes rest n Bad size e none =
-    let run : bytes_spelled false (take (run_size rest) rest) ≡ None = ap (λ k. bytes_spelled false (take k rest)) (sym size) ∙ none in
-    e ∙ ap (joined bytes) (spelled-run rest ∙ ap (λ b. both b (bytes_spelled false (behind (run_size rest) rest))) run)
-run_error text bytes rest n Memory size e none = tt
+pub digits_refused : (text : List ℕ) (n : ℕ) → n ≡ run_size text → bytes_spelled false (take n text) ≡ None → bytes_spelled false text ≡ None
+digits_refused text n size is =
+    spelled-run text ∙ ap (λ b. both b (bytes_spelled false (behind (run_size text) text))) (ap (λ k. bytes_spelled false (take k text)) (sym size) ∙ is)
 
 -- Printed texts.
 
@@ -203,13 +188,41 @@ spelled-plain (byte ∷ run) rest plain =
     read_unit true (byte ∷ (run ++ rest)) byte (run ++ rest) (rw parts.0 refl)
     ∙ ap (before byte) (spelled-plain run rest parts.1) ∙ joined_before byte run (bytes_spelled true rest)
 
-pub plain_more : (text bytes rest : List ℕ) (n : ℕ) → bytes_spelled true text ≡ joined bytes (bytes_spelled true rest) → has_backslash (take n rest) ≡ false
-    → bytes_spelled true text ≡ joined (bytes ++ take n rest) (bytes_spelled true (behind n rest))
-plain_more text bytes rest n e plain =
-    e ∙ ap (joined bytes) (ap (bytes_spelled true) (sym (run-behind n rest)) ∙ spelled-plain (take n rest) (behind n rest) plain)
-    ∙ joined_joined bytes (take n rest) (bytes_spelled true (behind n rest))
+pub plain_read : (text : List ℕ) (n : ℕ) → has_backslash (take n text) ≡ false
+    → bytes_spelled true text ≡ joined (take n text) (bytes_spelled true (behind n text))
+plain_read text n plain = ap (bytes_spelled true) (sym (run-behind n text)) ∙ spelled-plain (take n text) (behind n text) plain
 
--- no unit, no spelling
-pub none_more : (text bytes rest : List ℕ) → bytes_spelled true text ≡ joined bytes (bytes_spelled true rest) → length rest ≢ 0 → None ≡ next_unit true rest
-    → bytes_spelled true text ≡ None
-none_more text bytes rest e some none = e ∙ ap (joined bytes) (read_no_unit true rest (omega arith) (sym none))
+-- one byte
+pub unit_read : (print : Bool) (text : List ℕ) (byte : ℕ) (behind : List ℕ) → Some (byte, behind) ≡ next_unit print text
+    → bytes_spelled print text ≡ joined (byte ∷ []) (bytes_spelled print behind)
+unit_read print text byte behind unit = read_unit print text byte behind (sym unit) ∙ one (bytes_spelled print behind)
+  where
+    one : (bytes : Option (List ℕ)) → before byte bytes ≡ joined (byte ∷ []) bytes
+    one None = refl
+    one (Some bytes) = refl
+
+pub unit_refused : (print : Bool) (text : List ℕ) → length text ≢ 0 → None ≡ next_unit print text → bytes_spelled print text ≡ None
+unit_refused print text some none = read_no_unit print text (omega arith) (sym none)
+
+-- From run to run.
+
+joined_joined : (bytes more : List ℕ) (behind : Option (List ℕ)) → joined bytes (joined more behind) ≡ joined (bytes ++ more) behind
+joined_joined bytes more None = refl
+joined_joined bytes more (Some behind) = ap Some (sym (append_assoc bytes more behind))
+
+pub run_more : (print : Bool) (text bytes rest more behind : List ℕ) → bytes_spelled print text ≡ joined bytes (bytes_spelled print rest)
+    → bytes_spelled print rest ≡ joined more (bytes_spelled print behind) → bytes_spelled print text ≡ joined (bytes ++ more) (bytes_spelled print behind)
+run_more print text bytes rest more behind so_far run = so_far ∙ ap (joined bytes) run ∙ joined_joined bytes more (bytes_spelled print behind)
+
+pub run_refused : (print : Bool) (text bytes rest : List ℕ) → bytes_spelled print text ≡ joined bytes (bytes_spelled print rest)
+    → bytes_spelled print rest ≡ None → bytes_spelled print text ≡ None
+run_refused print text bytes rest so_far none = so_far ∙ ap (joined bytes) none
+
+-- a text is a spelling where what stands behind its first run is one
+pub is_some-behind : (print : Bool) (text rest more behind : List ℕ) → is_some (bytes_spelled print text) ≡ is_some (bytes_spelled print rest)
+    → bytes_spelled print rest ≡ joined more (bytes_spelled print behind) → is_some (bytes_spelled print text) ≡ is_some (bytes_spelled print behind)
+is_some-behind print text rest more behind so_far run = so_far ∙ ap is_some run ∙ kept (bytes_spelled print behind)
+  where
+    kept : (bytes : Option (List ℕ)) → is_some (joined more bytes) ≡ is_some bytes
+    kept None = refl
+    kept (Some bytes) = refl

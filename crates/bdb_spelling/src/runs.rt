@@ -1,8 +1,8 @@
-// A spelling is read once, a run at a time.
+// A spelling is read a run at a time: a thousand digits, the bytes before a backslash, or what a backslash begins.
 ghost use Rattle.bdb_text_format.specs.TextSpelling.{bytes_spelled};
-ghost use Rattle.bdb_spelling.specs.Runs.{AddsSpelled, has_backslash};
+ghost use Rattle.bdb_spelling.specs.Runs.{by_run, has_backslash};
 ghost use Rattle.bdb_spelling.specs.SpellErrors.{IsSpellError};
-ghost use Rattle.std.specs.Prelude.{◌≡◌, ◌≤◌, ◌/◌, if◌then◌else◌, None, IfErr, OnOk, Some, false, length, take, true};
+ghost use Rattle.std.specs.Prelude.{◌≡◌, ◌≢◌, ◌≤◌, ◌<◌, ◌/◌, if◌then◌else◌, None, IfErr, IfSome, OnOk, Some, false, length, take, true};
 
 use crate::printed::first_printed;
 use crate::spellings::SpellError;
@@ -12,34 +12,66 @@ use memchr::memchr;
 const RUN: usize = 1024;
 
 /// How many bytes they spell.
-const BYTES: usize = 512;
+pub const BYTES: usize = 512;
 
-/// Puts the bytes that a text spells, printed or by two digits each, into a room, in the place of what it has. `Bad` comes exactly where the text is no
-/// spelling.
+/// The bytes that the first run of a text spells, and the text behind it.
+#[derive(Clone, Copy)]
+pub struct Run<'t, 'p> {
+    pub bytes: &'p [u8],
+    pub rest: &'t [u8],
+}
+
+/// Puts the bytes that a text spells, printed or by two digits each, into a room, in the place of what it has. `Bad` comes only where the text is no
+/// spelling, and `Ok` only where it is one.
 pub fn read_run(text: &[u8], print: bool, room: &mut Vec<u8>) -> Result<(), SpellError>
     ensures ok { OnOk result (bytes_spelled print text.now ≡ Some room.new.items) }
     ensures err { IfErr result (IsSpellError print text.now) }
 {
+    room.clear();
+    let mut piece = [0u8; BYTES];
+    let mut rest = text;
+    while !rest.is_empty() {
+        let Some(run) = next_run(rest, print, &mut piece) else {
+            return Err(SpellError::Bad);
+        };
+        room.extend_from_slice(run.bytes)?;
+        rest = run.rest;
+    }
+    Ok(())
+}
+
+/// The first run of a text. Its bytes lie in the text where they stand for themselves, and else in the piece.
+pub fn next_run<'t: 'p, 'p>(
+    text: &'t [u8],
+    print: bool,
+    piece: &'p mut [u8; BYTES],
+) -> Option<Run<'t, 'p>>
+    requires some { length text.now ≢ 0 }
+    ensures value { bytes_spelled print text.now ≡ by_run print result }
+    ensures shorter { IfSome result (λ run. length run.rest.now < length text.now) }
+{
     if print {
-        read_printed(text, room)
+        printed_run(text, piece)
     } else {
-        read_digits(text, room)
+        digits_run(text, piece)
     }
 }
 
-// Puts the bytes that digits spell into a room.
-fn read_digits(text: &[u8], room: &mut Vec<u8>) -> Result<(), SpellError>
-    ensures ok { OnOk result (bytes_spelled false text.now ≡ Some room.new.items) }
-    ensures err { IfErr result (IsSpellError false text.now) }
+// The first run of a text of digits.
+fn digits_run<'t: 'p, 'p>(text: &'t [u8], piece: &'p mut [u8; BYTES]) -> Option<Run<'t, 'p>>
+    requires some { length text.now ≢ 0 }
+    ensures value { bytes_spelled false text.now ≡ by_run false result }
+    ensures shorter { IfSome result (λ run. length run.rest.now < length text.now) }
 {
-    room.clear();
-    let mut rest = text;
-    while !rest.is_empty() {
-        let run = rest.len().min(RUN);
-        push_decoded(room, &rest[..run])?;
-        rest = &rest[run..];
+    let digits = text.len().min(RUN);
+    let bytes = &mut piece[..digits / 2];
+    if !is_decoded(&text[..digits], bytes) {
+        return None;
     }
-    Ok(())
+    Some(Run {
+        bytes,
+        rest: &text[digits..],
+    })
 }
 
 // Puts the bytes that digits spell in their place, where they spell some.
@@ -50,42 +82,25 @@ fn is_decoded(run: &[u8], bytes: &mut [u8]) -> bool
     hex::decode_to_slice(run, bytes).is_ok()
 }
 
-// Adds the bytes that a run of digits spells.
-fn push_decoded(bytes: &mut Vec<u8>, run: &[u8]) -> Result<(), SpellError>
-    requires { length run.now ≤ RUN }
-    ensures ok { OnOk result (AddsSpelled false run.now bytes.old.items bytes.new.items) }
-    ensures err { IfErr result (IsSpellError false run.now) }
+// The first run of a printed text.
+fn printed_run<'t: 'p, 'p>(text: &'t [u8], piece: &'p mut [u8; BYTES]) -> Option<Run<'t, 'p>>
+    requires some { length text.now ≢ 0 }
+    ensures value { bytes_spelled true text.now ≡ by_run true result }
+    ensures shorter { IfSome result (λ run. length run.rest.now < length text.now) }
 {
-    let mut piece = [0u8; BYTES];
-    let decoded = &mut piece[..run.len() / 2];
-    if !is_decoded(run, decoded) {
-        return Err(SpellError::Bad);
+    let plain = plain_len(text);
+    if plain > 0 {
+        return Some(Run {
+            bytes: &text[..plain],
+            rest: &text[plain..],
+        });
     }
-    bytes.extend_from_slice(decoded)?;
-    Ok(())
-}
-
-// Puts the bytes that a printed text spells into a room.
-fn read_printed(text: &[u8], room: &mut Vec<u8>) -> Result<(), SpellError>
-    ensures ok { OnOk result (bytes_spelled true text.now ≡ Some room.new.items) }
-    ensures err { IfErr result (IsSpellError true text.now) }
-{
-    room.clear();
-    let mut rest = text;
-    while !rest.is_empty() {
-        let plain = plain_len(rest);
-        if plain == 0 {
-            let Some(first) = first_printed(rest) else {
-                return Err(SpellError::Bad);
-            };
-            room.extend_from_slice(&[first.byte])?;
-            rest = first.rest;
-        } else {
-            room.extend_from_slice(&rest[..plain])?;
-            rest = &rest[plain..];
-        }
-    }
-    Ok(())
+    let first = first_printed(text)?;
+    piece[0] = first.byte;
+    Some(Run {
+        bytes: &piece[..1],
+        rest: first.rest,
+    })
 }
 
 // How many bytes stand before the first backslash.

@@ -1,10 +1,8 @@
 ghost use Rattle.std.specs.Prelude.{◌≡◌, is_some, IfOk, IfErr, None, Some};
-ghost use Rattle.bdb_text_format.specs.TextSpelling.{bytes_spelled, next_unit};
-ghost use Rattle.bdb_spelling.specs.Spellings.{first_seen};
+ghost use Rattle.bdb_text_format.specs.TextSpelling.{bytes_spelled};
 ghost use Rattle.bdb_spelling.specs.SpellErrors.{IsSpellError};
 
-use crate::bytevalue::first_of_digits;
-use crate::printed::first_printed;
+use crate::runs::{BYTES, next_run, read_run};
 use bdb_text_format::Bytes;
 use std::alloc::{AllocError, Global};
 
@@ -44,39 +42,22 @@ pub fn read_spelling(alloc: Global, text: &[u8], print: bool) -> Result<Bytes, S
     if !is_spelling(text, print) {
         return Err(SpellError::Bad);
     }
-    let mut bytes = Bytes::new(alloc);
-    let mut rest = text;
-    while !rest.is_empty() {
-        let Some(first) = first_of(rest, print) else {
-            unreachable!()
-        };
-        bytes.push_all(&[first.byte])?;
-        rest = first.rest;
-    }
-    Ok(bytes)
+    let mut bytes = Vec::new(alloc);
+    read_run(text, print, &mut bytes)?;
+    Ok(Bytes::from_vec(bytes))
 }
 
 /// Whether a text is the spelling of some bytes, printed or by two digits each. It takes no memory.
 pub fn is_spelling(text: &[u8], print: bool) -> bool
     ensures { result ≡ is_some (bytes_spelled print text.now) }
 {
+    let mut piece = [0u8; BYTES];
     let mut rest = text;
     while !rest.is_empty() {
-        match first_of(rest, print) {
-            Some(first) => rest = first.rest,
+        match next_run(rest, print, &mut piece) {
+            Some(run) => rest = run.rest,
             None => return false,
         }
     }
     true
-}
-
-// The first byte that a text spells.
-fn first_of(text: &[u8], print: bool) -> Option<First<'_>>
-    ensures { first_seen result ≡ next_unit print text.now }
-{
-    if print {
-        first_printed(text)
-    } else {
-        first_of_digits(text)
-    }
 }

@@ -1,3 +1,4 @@
+pub mod NumberLemmas
 pub mod WriteLemmas
 pub mod PartLemmas
 pub mod CrossLemmas

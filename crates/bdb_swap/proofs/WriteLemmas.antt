@@ -1,5 +1,5 @@
 -- Numbers turned round one after another.
-use Rattle.std.proofs.Common.{◌≡◌, ◌∙◌, ◌⊎◌, inl, inr, ℕ, suc, ◌+◌, ◌-◌, ◌*◌, ◌<◌, ◌≤◌, List, [], ◌∷◌, ◌++◌, length, drop, take, reverse, get_or, refl, sym, ap}
+use Rattle.std.proofs.Common.{◌≡◌, ◌∙◌, ◌⊎◌, inl, inr, ℕ, suc, ◌+◌, ◌-◌, ◌*◌, ◌<◌, ◌≤◌, List, [], ◌∷◌, ◌++◌, length, drop, take, reverse, refl, sym, ap}
 use Rattle.std.proofs.Common.{subst, arith, append-nil, append_assoc}
 use Rattle.std.specs.Prelude.{slice_range}
 use Rattle.std.specs.List.{Contains}
@@ -102,45 +102,6 @@ fields_are_written done f bytes apart within =
           ∙ (get_or-take (b + w - b) (drop b bytes) (w - 1 - (k - b)) 0 (omega arith)
           ∙ (get_or-drop b bytes (w - 1 - (k - b)) 0 ∙ (ap (byte_at bytes) (sums ∙ sym there) ∙ sym right)))))
     ])
-
--- The bytes of a number in the reverse order.
-
-pub four_reversed : (bytes : List ℕ) (at : ℕ) → at + 4 ≤ length bytes
-    → reverse (slice_range bytes at (at + 4)) ≡ get_or bytes (at + 3) 0 ∷ get_or bytes (at + 2) 0 ∷ get_or bytes (at + 1) 0 ∷ get_or bytes at 0 ∷ []
-four_reversed bytes at inside =
-    let slice : List ℕ = slice_range bytes at (at + 4) in
-    let long : length slice ≡ 4 = length-slice_range bytes at (at + 4) inside ∙ omega arith in
-    let size : at + 4 - at ≡ 4 = omega arith in
-    let read : (k : ℕ) → k < 4 → get_or slice k 0 ≡ get_or bytes (at + k) 0 = λ k lt. get_or-take (at + 4 - at) (drop at bytes) k 0 (omega arith)
-    ∙ get_or-drop at bytes k 0 in
-    let zero_on : at + 0 ≡ at = omega arith in
-    let four : slice ≡ get_or slice 0 0 ∷ get_or slice 1 0 ∷ get_or slice 2 0 ∷ get_or slice 3 0 ∷ [] = of_four slice long in
-    ap reverse four ∙ rw (read 0 (omega arith), read 1 (omega arith), read 2 (omega arith), read 3 (omega arith), zero_on) refl
-  where
-    of_four : (xs : List ℕ) → length xs ≡ 4 → xs ≡ get_or xs 0 0 ∷ get_or xs 1 0 ∷ get_or xs 2 0 ∷ get_or xs 3 0 ∷ []
-    of_four [] long = absurd (omega arith)
-    of_four (a ∷ []) long = absurd (omega arith)
-    of_four (a ∷ b ∷ []) long = absurd (omega arith)
-    of_four (a ∷ b ∷ c ∷ []) long = absurd (omega arith)
-    of_four (a ∷ b ∷ c ∷ d ∷ []) long = refl
-    of_four (a ∷ b ∷ c ∷ d ∷ e ∷ rest) long = absurd (omega arith)
-
-pub two_reversed : (bytes : List ℕ) (at : ℕ) → at + 2 ≤ length bytes → reverse (slice_range bytes at (at + 2)) ≡ get_or bytes (at + 1) 0 ∷ get_or bytes at 0
-    ∷ []
-two_reversed bytes at inside =
-    let slice : List ℕ = slice_range bytes at (at + 2) in
-    let long : length slice ≡ 2 = length-slice_range bytes at (at + 2) inside ∙ omega arith in
-    let read : (k : ℕ) → k < 2 → get_or slice k 0 ≡ get_or bytes (at + k) 0 = λ k lt. get_or-take (at + 2 - at) (drop at bytes) k 0 (omega arith)
-    ∙ get_or-drop at bytes k 0 in
-    let zero_on : at + 0 ≡ at = omega arith in
-    let two : slice ≡ get_or slice 0 0 ∷ get_or slice 1 0 ∷ [] = of_two slice long in
-    ap reverse two ∙ rw (read 0 (omega arith), read 1 (omega arith), zero_on) refl
-  where
-    of_two : (xs : List ℕ) → length xs ≡ 2 → xs ≡ get_or xs 0 0 ∷ get_or xs 1 0 ∷ []
-    of_two [] long = absurd (omega arith)
-    of_two (a ∷ []) long = absurd (omega arith)
-    of_two (a ∷ b ∷ []) long = refl
-    of_two (a ∷ b ∷ c ∷ rest) long = absurd (omega arith)
 
 -- Numbers turned round step by step.
 

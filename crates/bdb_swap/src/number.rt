@@ -3,24 +3,28 @@ ghost use Rattle.bdb_io.specs.of_format.Numbers.{overwritten};
 ghost use Rattle.bdb_law_turned.specs.Fields.{fours};
 ghost use Rattle.bdb_swap.specs.Turns.{Turns};
 
+use byteorder::{BigEndian, ByteOrder, LittleEndian};
+
+// A number that is read from its high end and written from its low end has its bytes in the reverse order.
+
 /// Writes the four bytes that another page has at a place, in the reverse order.
-#[tactic(auto, using(crate::proofs::WriteLemmas::four_reversed))]
 pub(crate) fn turn_four(page: &mut [u8], source: &[u8], at: usize)
     requires inside { at + 4 ≤ length source.now }
     requires same { length page.old ≡ length source.now }
     ensures { page.new ≡ overwritten page.old at (reverse (slice_range source.now at (at + 4))) }
 {
-    page[at..at + 4].copy_from_slice(&[source[at + 3], source[at + 2], source[at + 1], source[at]]);
+    let number = BigEndian::read_u32(&source[at..at + 4]);
+    LittleEndian::write_u32(&mut page[at..at + 4], number);
 }
 
 /// The same of two bytes.
-#[tactic(auto, using(crate::proofs::WriteLemmas::two_reversed))]
 pub(crate) fn turn_two(page: &mut [u8], source: &[u8], at: usize)
     requires inside { at + 2 ≤ length source.now }
     requires same { length page.old ≡ length source.now }
     ensures { page.new ≡ overwritten page.old at (reverse (slice_range source.now at (at + 2))) }
 {
-    page[at..at + 2].copy_from_slice(&[source[at + 1], source[at]]);
+    let number = BigEndian::read_u16(&source[at..at + 2]);
+    LittleEndian::write_u16(&mut page[at..at + 2], number);
 }
 
 /// Turns so many numbers of four bytes round, one after another.

@@ -1,0 +1,7 @@
+use Rattle.bdb_swap.proofs.NumberLemmas.{put_turned}
+use Rattle.bdb_swap.proofs.number.turn_four.Goals as goal
+
+pub returns : goal.returns
+returns c = put_turned c.args.source.now c.args.page.now c.write_u32.new.buf c.args.at 4 c.read_u32-number.result (λ i. (c.type_inv.source i).fits)
+    c.requires.inside
+    c.read_u32-number.ensures c.write_u32.ensures
