@@ -2,7 +2,7 @@
 """check_numbers.py: no number of a row, a page type or a flag stands in code outside its table.
 
 It looks at the code of the crates that the program stands on, without comments and contracts. A row's numbers stand in
-`bdb_format/src/table.rt`, the bytes of page types in `pages.rt` there, flags in `flags.rt`. It prints each line that names
+`bdb_format/src/rows.rt`, the bytes of page types in `pages.rt` there, flags in `flags.rt`. It prints each line that names
 one elsewhere. Status 1 where there is any.
 """
 import pathlib
@@ -10,7 +10,7 @@ import re
 import sys
 
 TOP = pathlib.Path(__file__).resolve().parent.parent
-TABLES = {"bdb_format/src/table.rt", "bdb_format/src/pages.rt", "bdb_format/src/flags.rt", "bdb_format/src/rows.rt"}
+TABLES = {"bdb_format/src/pages.rt", "bdb_format/src/flags.rt", "bdb_format/src/rows.rt"}
 NUMBER = r"(?:0x[0-9a-f]+|[0-9]+)\b"
 SIGNS = {
     "a page type": [

@@ -4,7 +4,7 @@ use Rattle.std.specs.Prelude.{ℕ, ◌==◌, ◌&&◌, ◌||◌, not, Bool, fals
 use Rattle.std.specs.List.{filter, range_with_len}
 use Rattle.bdb_any_order.specs.declared.rows.Rows.{Rows}
 use Rattle.bdb_any_order.specs.declared.rows.Rows.TheVariants.{All, AnyOrder}
-use Rattle.bdb_btree.specs.of_format.RowCodes.{row_code, row_stage}
+use Rattle.bdb_btree.specs.of_format.FaultTable.{row_code, row_stage}
 use Rattle.bdb_btree.specs.of_format.declared.rows.ContentsRow.{ContentsRow}
 use Rattle.bdb_btree.specs.of_format.declared.rows.ContentsRow.TheVariants.{KeyOrder, Separator, DuplicateOrder}
 use Rattle.bdb_btree.specs.of_format.declared.rows.Row.TheVariants.{Contents}

@@ -2,7 +2,7 @@
 use Rattle.std.proofs.Common.{◌≡◌, ℕ, Bool, true, false, not, List, [], ◌∷◌, ◌++◌, ◌&&◌, refl, sym, ◌∙◌, ap, subst, inl, append_assoc}
 use Rattle.std.specs.Prelude.{◌==◌, ◌||◌}
 use Rattle.std.specs.List.{flat_map, fold, list_any}
-use Rattle.bdb_ranks.specs.of_format.RowCodes.{fault_if}
+use Rattle.bdb_ranks.specs.of_format.FaultTable.{fault_if}
 use Rattle.bdb_ranks.specs.of_format.declared.rows.Row.TheVariants.{Contents}
 use Rattle.bdb_ranks.specs.of_format.declared.kinds.Fault.{Fault}
 use Rattle.bdb_ranks.specs.of_format.ContentRows.{has_duplicate, has_unsorted, has_wrong_set, is_duplicate, is_wrong_set}

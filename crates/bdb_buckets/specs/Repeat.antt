@@ -1,5 +1,5 @@
 -- The fault of a key that comes again in a table. Source: docs/FORMAT.md, "Stage 8, contents".
-use Rattle.bdb_tree.specs.of_format.RowCodes.{fault_at}
+use Rattle.bdb_tree.specs.of_format.FaultTable.{fault_at}
 use Rattle.bdb_tree.specs.of_format.declared.rows.ContentsRow.TheVariants.{KeyTwice}
 use Rattle.bdb_tree.specs.of_format.declared.rows.Row.TheVariants.{Contents}
 use Rattle.bdb_tree.specs.of_format.declared.kinds.Fault.{Fault}

@@ -1,7 +1,7 @@
 -- In a table of a file on which no row counts in any order no key comes twice.
 use Rattle.std.proofs.Common.{◌≡◌, ℕ, List, [], refl, sym, ap, subst}
 use Rattle.std.specs.List.{Contains}
-use Rattle.bdb_recno.specs.of_format.RowCodes.{fault_at}
+use Rattle.bdb_recno.specs.of_format.FaultTable.{fault_at}
 use Rattle.bdb_recno.specs.of_format.declared.rows.ContentsRow.TheVariants.{KeyTwice}
 use Rattle.bdb_recno.specs.of_format.declared.rows.Row.TheVariants.{Contents}
 use Rattle.bdb_recno.specs.of_format.declared.metadata.HashMeta.{HashMeta}

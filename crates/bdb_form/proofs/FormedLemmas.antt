@@ -14,7 +14,7 @@ use Rattle.std.specs.Option.{option_map}
 use Rattle.bdb_layout.specs.of_format.declared.pages.ItemFault.{ItemFault}
 use Rattle.bdb_layout.specs.of_format.declared.pages.ItemFault.TheVariants.{Offset, Kind, Extent}
 use Rattle.bdb_layout.specs.ItemRows.{item_form}
-use Rattle.bdb_layout.specs.of_format.RowCodes.{form_row_code}
+use Rattle.bdb_layout.specs.of_format.FaultTable.{form_row_code}
 use Rattle.bdb_layout.specs.of_format.Rows.{code_of, is_queue_type, body_code, is_tree_type, page_code, queue_code, index_rows, item_code, item_rows}
 use Rattle.bdb_layout.specs.of_format.Rows.{is_wrong_entry_count}
 use Rattle.bdb_layout.specs.of_format.Table.{◌:?◌, first_row}

@@ -1,6 +1,6 @@
 ghost use Rattle.std.specs.Prelude.{◌≡◌, ◌≤◌, None, IfOk, IsTrue, false, length};
 ghost use Rattle.std.specs.Option.{option_map};
-ghost use Rattle.bdb_layout.specs.of_format.RowCodes.{form_row_code};
+ghost use Rattle.bdb_layout.specs.of_format.FaultTable.{form_row_code};
 ghost use Rattle.bdb_form.specs.Formed.{unless};
 ghost use Rattle.bdb_form.specs.Seen.{form_seen, header_seen, page_seen};
 ghost use Rattle.bdb_layout.specs.of_format.HeadOf.{is_page_size};

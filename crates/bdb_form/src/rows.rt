@@ -3,7 +3,7 @@ ghost use Rattle.std.specs.Option.{option_map};
 ghost use Rattle.bdb_layout.specs.of_format.Reading.{entries_of, index_end};
 ghost use Rattle.bdb_layout.specs.of_format.Rows.{all_item_rows, index_rows, item_row, listed_code};
 ghost use Rattle.bdb_layout.specs.of_format.Table.{first_row, lesser};
-ghost use Rattle.bdb_layout.specs.of_format.RowCodes.{form_row_code};
+ghost use Rattle.bdb_layout.specs.of_format.FaultTable.{form_row_code};
 
 use crate::PageKind;
 use bdb_layout::{FormRow, Order, u16_at};

@@ -5,7 +5,7 @@ use Rattle.bdb_format.specs.declared.kinds.Unsupported.{Unsupported}
 use Rattle.bdb_format.specs.declared.metadata.MetaFault.{MetaFault}
 use Rattle.bdb_format.specs.declared.metadata.MetaFault.TheVariants.{Fault as CodeFault, Unsupported as NamedCase}
 use Rattle.bdb_format.specs.Verdict.{Judgement, Faulty, LeftOut, judgement_of}
-use Rattle.bdb_format.specs.RowCodes.{fault_at}
+use Rattle.bdb_format.specs.FaultTable.{fault_at}
 use Rattle.bdb_format.specs.declared.named.Named.{Named}
 
 -- a code, which may be that of a case

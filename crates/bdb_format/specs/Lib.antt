@@ -23,6 +23,5 @@ pub mod Databases
 pub mod Verdict
 pub mod PageOf
 pub mod Faults
-pub mod FaultNames
-pub mod RowCodes
+pub mod FaultTable
 pub mod Cases

@@ -15,7 +15,6 @@ mod references;
 mod rows;
 mod settings;
 mod steps;
-mod table;
 
 pub use bytes::Bytes;
 pub use digits::number_in;
@@ -26,9 +25,8 @@ pub use named::Named;
 pub use pages::{Header, ItemFault, PageType, RecnoItem, has_type, keyed_types, record_types};
 pub use references::{Reference, Sort};
 pub use rows::{
-    ContentsRow, FileRow, FormRow, MasterRow, OwnershipRow, ReachRow, ReferenceRow, Row,
+    ContentsRow, FileRow, FormRow, MasterRow, OwnershipRow, ReachRow, ReferenceRow, Row, RowEntry,
     StructureRow,
 };
 pub use settings::{Settings, plain_settings};
 pub use steps::Steps;
-pub use table::RowEntry;

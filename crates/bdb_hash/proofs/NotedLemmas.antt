@@ -6,7 +6,7 @@ use Rattle.bdb_buckets.proofs.ContentsLemmas.{contents_fault}
 use Rattle.bdb_buckets.proofs.RowLemmas.{pair_table, tests_of}
 use Rattle.bdb_hash.specs.Noted.{pair_faults}
 use Rattle.std.proofs.Common.{◌≡◌, ℕ, Bool, true, false, [], ◌∷◌, ◌++◌, map, refl}
-use Rattle.bdb_ranks.specs.of_format.RowCodes.{fault_if}
+use Rattle.bdb_ranks.specs.of_format.FaultTable.{fault_if}
 use Rattle.bdb_ranks.specs.of_format.declared.rows.Row.TheVariants.{Contents}
 use Rattle.bdb_ranks.specs.of_format.Table.{◌:?◌}
 use Rattle.bdb_ranks.specs.of_format.Verdict.{holding}

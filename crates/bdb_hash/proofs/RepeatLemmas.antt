@@ -15,7 +15,7 @@ use Rattle.std.proofs.lemmas.List.Folds.{list_any-append}
 use Rattle.std.proofs.lemmas.List.Sums.{fold-append}
 use Rattle.std.proofs.lemmas.Map.Text.{is_eq-slice_cmp}
 use Rattle.bdb_faults.specs.Notes.{Notes}
-use Rattle.bdb_ranks.specs.of_format.RowCodes.{fault_if}
+use Rattle.bdb_ranks.specs.of_format.FaultTable.{fault_if}
 use Rattle.bdb_ranks.specs.of_format.declared.rows.Row.TheVariants.{Contents}
 use Rattle.bdb_ranks.proofs.of_format.BoolLemmas.{cond_or}
 use Rattle.bdb_ranks.specs.of_overflow.Keys.{has_item, has_key, repeated_by}

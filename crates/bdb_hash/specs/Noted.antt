@@ -1,7 +1,7 @@
 -- The faults of a table's contents in the order in which they are noted, bucket by bucket. Source: docs/FORMAT.md, "Stage 8, contents".
 use Rattle.std.specs.Prelude.{ℕ, ◌==◌, ◌&&◌, not, if◌then◌else◌, Bool, List, [], map, ◌+◌, ◌++◌}
 use Rattle.std.specs.List.{flat_map, list_any, range_with_len}
-use Rattle.bdb_ranks.specs.of_format.RowCodes.{fault_at, fault_if}
+use Rattle.bdb_ranks.specs.of_format.FaultTable.{fault_at, fault_if}
 use Rattle.bdb_ranks.specs.of_format.declared.rows.ContentsRow.TheVariants.{Duplicates, DuplicateKind, DuplicateOrder, Bucket, KeyTwice}
 use Rattle.bdb_ranks.specs.of_format.declared.rows.Row.TheVariants.{Contents}
 use Rattle.bdb_ranks.specs.of_format.declared.kinds.Fault.{Fault}

@@ -22,7 +22,7 @@ use Rattle.bdb_buckets.proofs.of_format.PairLemmas.{get_append}
 use Rattle.bdb_buckets.proofs.of_format.RepeatLemmas.{has_key as key_among, repeated_after, repeated_is}
 use Rattle.bdb_buckets.specs.of_image.Linked.{HasMetadata}
 use Rattle.bdb_hash_list.specs.Scanned.{KeysDiffer}
-use Rattle.bdb_buckets.specs.of_format.RowCodes.{fault_at}
+use Rattle.bdb_buckets.specs.of_format.FaultTable.{fault_at}
 use Rattle.bdb_buckets.specs.of_format.declared.rows.ContentsRow.TheVariants.{KeyTwice}
 use Rattle.bdb_buckets.specs.of_format.declared.rows.Row.TheVariants.{Contents}
 use Rattle.bdb_buckets.specs.Told.{IsSought, Told, bucket_told, has_key, joined_pages, told}

@@ -1,7 +1,7 @@
 -- The list of a table as the code gives it.
 use Rattle.std.specs.Prelude.{◌≡◌, ℕ, ◌++◌, List, map}
 use Rattle.std.specs.List.{Contains, flat_map}
-use Rattle.bdb_buckets.specs.of_format.RowCodes.{fault_at}
+use Rattle.bdb_buckets.specs.of_format.FaultTable.{fault_at}
 use Rattle.bdb_buckets.specs.of_format.declared.rows.ContentsRow.TheVariants.{KeyTwice}
 use Rattle.bdb_buckets.specs.of_format.declared.rows.Row.TheVariants.{Contents}
 use Rattle.bdb_buckets.specs.of_overflow.declared.datum.Datum.{Datum}

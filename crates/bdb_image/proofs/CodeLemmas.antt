@@ -9,7 +9,7 @@ use Rattle.bdb_faults.specs.of_format.declared.kinds.Order.{Order}
 use Rattle.bdb_faults.specs.of_format.declared.metadata.FileKind.{FileKind}
 use Rattle.bdb_faults.specs.of_format.declared.metadata.FileKind.TheVariants.{Btree, Hash, Queue}
 use Rattle.bdb_faults.specs.of_format.declared.metadata.Head.{Head}
-use Rattle.bdb_faults.specs.of_format.RowCodes.{coded}
+use Rattle.bdb_faults.specs.of_format.FaultTable.{coded}
 use Rattle.bdb_faults.specs.of_format.Numbers.{byte_at}
 use Rattle.bdb_faults.specs.of_format.declared.pages.PageType.{PageType}
 use Rattle.bdb_faults.specs.of_format.declared.pages.PageType.TheVariants.{BtreeMeta as BtreeMetaPage, HashMeta as HashMetaPage, QueueMeta as QueueMetaPage}

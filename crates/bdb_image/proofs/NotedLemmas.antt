@@ -9,7 +9,7 @@ use Rattle.std.proofs.lemmas.Bool.{eqb-true, ne_eqb}
 use Rattle.std.proofs.lemmas.List.Folds.{list_any-append}
 use Rattle.std.proofs.Math.Bool.{or-false}
 use Rattle.bdb_faults.specs.Notes.{AreSame, Notes, NotesAll}
-use Rattle.bdb_faults.specs.of_format.RowCodes.{fault_at, fault_if, file_row_code, form_row_code}
+use Rattle.bdb_faults.specs.of_format.FaultTable.{fault_at, fault_if, file_row_code, form_row_code}
 use Rattle.bdb_faults.specs.of_format.declared.rows.FileRow.{FileRow as FileRows}
 use Rattle.bdb_faults.specs.of_format.declared.rows.FileRow.TheVariants.{Tail}
 use Rattle.bdb_faults.specs.of_format.declared.rows.FormRow.{FormRow}

@@ -1,7 +1,7 @@
 ghost use Rattle.std.specs.Prelude.{◌≡◌, ◌≤◌, IsTrue, OnErr, OnOk, false};
 ghost use Rattle.std.specs.Option.{option_map};
 ghost use Rattle.bdb_faults.specs.Notes.{Notes};
-ghost use Rattle.bdb_faults.specs.of_format.RowCodes.{reference_row_code};
+ghost use Rattle.bdb_faults.specs.of_format.FaultTable.{reference_row_code};
 ghost use Rattle.bdb_image.specs.Fits.{asks_previous, is_of_type, page_rows};
 ghost use Rattle.bdb_image.specs.Noted.{both_misfits, misfit_faults, more_misfits, no_misfits};
 ghost use Rattle.bdb_faults.specs.of_format.File.{file_of, header_in};

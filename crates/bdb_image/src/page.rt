@@ -1,6 +1,6 @@
 ghost use Rattle.std.specs.Prelude.{◌≡◌, ◌≢◌, ◌<◌, ◌^◌, IsTrue, length};
 ghost use Rattle.std.specs.Option.{option_map};
-ghost use Rattle.bdb_faults.specs.of_format.RowCodes.{form_row_code};
+ghost use Rattle.bdb_faults.specs.of_format.FaultTable.{form_row_code};
 ghost use Rattle.bdb_faults.specs.of_format.HeadOf.{is_page_size};
 ghost use Rattle.bdb_faults.specs.of_format.Rows.{form_code, metadata_rows};
 ghost use Rattle.bdb_faults.specs.of_format.Table.{first_row};

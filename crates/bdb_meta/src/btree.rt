@@ -4,7 +4,7 @@ ghost use Rattle.bdb_layout.specs.of_format.Reading.{btree_fields, is_zero};
 ghost use Rattle.bdb_layout.specs.of_format.Rows.{are_wrong_flags, metadata_rows};
 ghost use Rattle.bdb_layout.specs.of_format.Spelling.{btree_bytes};
 ghost use Rattle.bdb_layout.specs.of_format.Table.{answer};
-ghost use Rattle.bdb_layout.specs.of_format.RowCodes.{coded, form_row_code};
+ghost use Rattle.bdb_layout.specs.of_format.FaultTable.{coded, form_row_code};
 ghost use Rattle.bdb_meta.specs.RowGroups.{flag_rows};
 ghost use Rattle.bdb_layout.specs.of_format.declared.metadata.FileKind.TheVariants.{Btree};
 

@@ -3,7 +3,7 @@ ghost use Rattle.bdb_layout.specs.of_format.HeadOf.{faulted, file_kind, head_fau
 ghost use Rattle.bdb_layout.specs.of_format.Numbers.{four_at};
 ghost use Rattle.bdb_meta.specs.RowGroups.{length_rows, page_rows, version_rows};
 ghost use Rattle.bdb_layout.specs.of_format.Table.{answer};
-ghost use Rattle.bdb_layout.specs.of_format.RowCodes.{coded, file_row_code};
+ghost use Rattle.bdb_layout.specs.of_format.FaultTable.{coded, file_row_code};
 
 use crate::generic::{CHECKSUM, has_bit, is_partitioned, version_of};
 use bdb_layout::{FileKind, FileRow, Head, MetaFault, Order, is_page_size, magic_of, u32_at};

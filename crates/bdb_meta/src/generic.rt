@@ -4,7 +4,7 @@ ghost use Rattle.bdb_layout.specs.of_format.Reading.{is_zero};
 ghost use Rattle.bdb_layout.specs.of_format.Rows.{identity_rows, magic_of, meta_rows, type_of, version_of};
 ghost use Rattle.bdb_layout.specs.of_format.Spelling.{common_bytes, last_field, zeros};
 ghost use Rattle.bdb_layout.specs.of_format.Table.{answer};
-ghost use Rattle.bdb_layout.specs.of_format.RowCodes.{coded, form_row_code};
+ghost use Rattle.bdb_layout.specs.of_format.FaultTable.{coded, form_row_code};
 ghost use Rattle.bdb_meta.specs.RowGroups.{common_rows};
 
 use bdb_layout::{FileKind, FormRow, Order, PageType, magic_of, put_u32, u32_at};

@@ -4,7 +4,7 @@ ghost use Rattle.bdb_layout.specs.of_format.Reading.{is_zero, queue_fields};
 ghost use Rattle.bdb_layout.specs.of_format.Rows.{queue_rows, metadata_rows};
 ghost use Rattle.bdb_layout.specs.of_format.Spelling.{queue_bytes};
 ghost use Rattle.bdb_layout.specs.of_format.Table.{answer};
-ghost use Rattle.bdb_layout.specs.of_format.RowCodes.{coded, form_row_code};
+ghost use Rattle.bdb_layout.specs.of_format.FaultTable.{coded, form_row_code};
 ghost use Rattle.bdb_layout.specs.of_format.declared.metadata.FileKind.TheVariants.{Queue};
 
 use crate::generic::{Generic, check_common, put_generic};

@@ -7,7 +7,7 @@ ghost use Rattle.bdb_layout.specs.of_format.Reading.{hash_fields, is_zero};
 ghost use Rattle.bdb_layout.specs.of_format.Rows.{are_masks, lacks_spare, metadata_rows, table_rows};
 ghost use Rattle.bdb_layout.specs.of_format.Spelling.{table_bytes};
 ghost use Rattle.bdb_layout.specs.of_format.Table.{answer};
-ghost use Rattle.bdb_layout.specs.of_format.RowCodes.{coded, form_row_code};
+ghost use Rattle.bdb_layout.specs.of_format.FaultTable.{coded, form_row_code};
 ghost use Rattle.bdb_layout.specs.of_format.declared.metadata.FileKind.TheVariants.{Hash};
 
 use crate::generic::{Generic, check_common, put_generic};

@@ -9,7 +9,7 @@ use Rattle.bdb_text_format.specs.of_format.Lists.{ListKey}
 use Rattle.bdb_text_format.specs.TextSpelling.{spelling}
 use Rattle.bdb_text_format.specs.LineEnd.{line}
 use Rattle.bdb_text_format.specs.Written.{key_bytes, kind_text}
-use Rattle.bdb_text_format.specs.of_format.FaultNames.{fault_name, unsupported_name}
+use Rattle.bdb_text_format.specs.of_format.FaultTable.{fault_name, unsupported_name}
 
 -- a status, and what is written to the output and to the error sink
 pub record Answer : Type 0 where

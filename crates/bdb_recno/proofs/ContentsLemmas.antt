@@ -1,6 +1,6 @@
 -- The faults that are noted of a recno are those of its contents.
 use Rattle.std.proofs.lemmas.Bool.{and_parts, and_from, false_from_ne_true}
-use Rattle.bdb_tree.specs.of_format.RowCodes.{contents_row_code}
+use Rattle.bdb_tree.specs.of_format.FaultTable.{contents_row_code}
 use Rattle.bdb_tree.proofs.of_format.ListLemmas.{only_member}
 use Rattle.std.proofs.Common.{◌≡◌, ◌⊎◌, ℕ, zero, suc, ◌+◌, ◌≤◌, Bool, true, false, cond, List, [], ◌∷◌, ◌++◌, arith, refl, sym, ◌∙◌, ap}
 use Rattle.std.proofs.Common.{subst, inl, inr}

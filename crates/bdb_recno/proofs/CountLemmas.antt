@@ -9,7 +9,7 @@ use Rattle.std.proofs.lemmas.List.Elements.{All-contains}
 use Rattle.std.proofs.Math.Bool.{or-false, or_assoc}
 use Rattle.bdb_faults.specs.Notes.{Notes, NotesAll}
 use Rattle.bdb_faults.proofs.SinkLemmas.{notes_both, notes_none, notes_one}
-use Rattle.bdb_tree.specs.of_format.RowCodes.{fault_if}
+use Rattle.bdb_tree.specs.of_format.FaultTable.{fault_if}
 use Rattle.bdb_tree.specs.of_format.declared.rows.ContentsRow.TheVariants.{Count}
 use Rattle.bdb_tree.specs.of_format.declared.rows.Row.TheVariants.{Contents}
 use Rattle.bdb_tree.specs.of_format.declared.kinds.Fault.{Fault}

@@ -6,7 +6,7 @@ use Rattle.std.proofs.lemmas.Bool.{and_parts, eqb-true, eq-eqb}
 use Rattle.std.proofs.lemmas.List.Folds.{list_any_at}
 use Rattle.bdb_faults.specs.Notes.{Notes, NotesAll}
 use Rattle.bdb_faults.proofs.SinkLemmas.{notes_next, notes_one, notes_push}
-use Rattle.bdb_tree.specs.of_format.RowCodes.{contents_row_code, fault_if}
+use Rattle.bdb_tree.specs.of_format.FaultTable.{contents_row_code, fault_if}
 use Rattle.bdb_tree.specs.of_format.declared.rows.Row.TheVariants.{Contents}
 use Rattle.bdb_tree.specs.of_format.declared.kinds.Fault.{Fault}
 use Rattle.bdb_tree.specs.of_format.ContentRows.{is_wrong_at}

@@ -8,7 +8,7 @@ ghost use Rattle.bdb_tool_lines.specs.Passing.{Passes};
 ghost use Rattle.bdb_tool_lines.specs.Telling.{case_page_part, case_part, code_part, fault_told, judgement_line, name_part, page_part, stage_part};
 ghost use Rattle.bdb_tool_lines.specs.declared.cut.Cut.TheVariants.{WriteFault};
 ghost use Rattle.bdb_model.specs.Answers.{fault_line, unsupported_line};
-ghost use Rattle.bdb_faults.specs.of_format.FaultNames.{fault_name, unsupported_name};
+ghost use Rattle.bdb_faults.specs.of_format.FaultTable.{fault_name, unsupported_name};
 ghost use Rattle.bdb_model.specs.of_text_format.LineEnd.{line};
 
 use crate::Cut;

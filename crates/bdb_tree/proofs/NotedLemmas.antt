@@ -7,7 +7,7 @@ use Rattle.std.proofs.lemmas.Bool.{and_from, and_parts, eq-eqb, eqb-true, ne_eqb
 use Rattle.std.proofs.lemmas.List.{take_all}
 use Rattle.std.proofs.lemmas.List.Elements.{Contains-append_cases, Contains-append_left, Contains-append_right, Contains-get_or}
 use Rattle.bdb_faults.specs.Notes.{AreSame, Notes, NotesAll}
-use Rattle.bdb_overflow.specs.of_format.RowCodes.{fault_if, structure_row_code}
+use Rattle.bdb_overflow.specs.of_format.FaultTable.{fault_if, structure_row_code}
 use Rattle.bdb_overflow.specs.of_format.declared.rows.Row.TheVariants.{Structure}
 use Rattle.bdb_overflow.specs.of_format.declared.rows.StructureRow.{StructureRow}
 use Rattle.bdb_overflow.specs.of_format.declared.rows.StructureRow.TheVariants.{LeafKind, LeafLink}

@@ -10,7 +10,7 @@ use Rattle.bdb_overflow.specs.of_image.Linked.{meta_pages}
 use Rattle.bdb_overflow.specs.of_format.Leaves.{LeafPlace, is_wrong_leaf, is_wrong_link, leaves, places_from}
 use Rattle.bdb_overflow.specs.of_format.Page.{Content, Tree, Item, BtreeFields, Page, Meta, Hash, Leaf, RecnoLeaf, DupLeaf}
 use Rattle.bdb_overflow.specs.of_format.References.{no_item}
-use Rattle.bdb_overflow.specs.of_format.RowCodes.{fault_if}
+use Rattle.bdb_overflow.specs.of_format.FaultTable.{fault_if}
 use Rattle.bdb_overflow.specs.of_format.declared.rows.Row.TheVariants.{Structure}
 use Rattle.bdb_overflow.specs.of_format.declared.rows.StructureRow.TheVariants.{LeafKind, LeafLink}
 

@@ -1,7 +1,7 @@
 use Rattle.std.proofs.Common.{◌≡◌, List, [], ◌∷◌, ap, length, subst, sym, ◌∙◌, arith}
 use Rattle.std.specs.Prelude.{None}
 use Rattle.bdb_faults.specs.Notes.{NotesAll}
-use Rattle.bdb_faults.specs.of_format.RowCodes.{fault_at}
+use Rattle.bdb_faults.specs.of_format.FaultTable.{fault_at}
 use Rattle.bdb_faults.specs.of_format.declared.rows.Row.TheVariants.{File as FileRow}
 use Rattle.bdb_faults.proofs.SinkLemmas.{notes_one}
 use Rattle.bdb_faults.specs.of_format.HeadOf.{head_of, head_rows}
