@@ -184,7 +184,7 @@ few_owners true n counted other few = absurd cc
 few_owners false n counted other few = ltb-false 1 n few
 
 -- the holder of a reference other than to the head of a chain is the only one
-first_names : (file : File) (p q : ℕ) → IsSoundGraph file → p ≤ file.last → Names file p q → first_holder (owners file q) ≡ Some p
+pub first_names : (file : File) (p q : ℕ) → IsSoundGraph file → p ≤ file.last → Names file p q → first_holder (owners file q) ≡ Some p
 unfolding ownership_faults
 first_names file p q sound low names =
     let owner : Owner = record { holder = p; reference = names.reference } in

@@ -6,7 +6,7 @@ use std::alloc::{AllocError, Global};
 
 /// No leap yet: each page, and the end behind them, leads to itself.
 #[tactic(auto, using(crate::proofs::Below::range_more))]
-pub(crate) fn no_leaps(alloc: Global, len: u32) -> Result<Vec<u32>, AllocError>
+pub fn no_leaps(alloc: Global, len: u32) -> Result<Vec<u32>, AllocError>
     ensures { IfOk result (λ leaps. leaps.items ≡ range_with_len 0 len) }
 {
     let mut leaps = Vec::with_capacity(alloc, len as usize)?;
@@ -18,7 +18,7 @@ pub(crate) fn no_leaps(alloc: Global, len: u32) -> Result<Vec<u32>, AllocError>
 
 /// The first page from one on over which no leap goes, or the end. The leaps on the way are made longer, so that many
 /// walks over the same pages take few steps.
-pub(crate) fn first_open(leaps: &mut [u32], from: u32) -> u32
+pub fn first_open(leaps: &mut [u32], from: u32) -> u32
     requires leaps { AreLeaps leaps.old }
     requires from { from < length leaps.old }
     ensures leaps { AreLeaps leaps.new }

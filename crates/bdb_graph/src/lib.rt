@@ -16,6 +16,7 @@ mod table;
 mod tally;
 
 pub use bdb_image::BtreeMeta;
+pub use bdb_image::Buckets;
 pub use bdb_image::Bytes;
 pub use bdb_image::CheckError;
 pub use bdb_image::Content;
@@ -108,6 +109,7 @@ pub use bdb_image::u16_at;
 pub use bdb_image::u32_at;
 pub use blanks::Blanks;
 pub use forest::Forest;
+pub use leaps::{first_open, no_leaps};
 pub use linked::Linked;
 pub use linking::link;
 pub use linking::link_all;
