@@ -23,6 +23,7 @@ use Rattle.bdb_faults.proofs.of_format.PageLemmas.{later_type}
 use Rattle.std.proofs.lemmas.List.Elements.{filter-append}
 use Rattle.bdb_image.specs.Linked.{meta_pages, metas_below}
 use Rattle.bdb_image.specs.Metas.{meta_in}
+use Rattle.bdb_image.specs.Told.{is_metadata}
 use Rattle.bdb_faults.specs.of_format.declared.metadata.HashMeta.{HashMeta}
 use Rattle.bdb_image.proofs.CodeLemmas.{not_zero, queue_last}
 use Rattle.bdb_image.proofs.HeldLemmas.{few_buckets, metadata_formed, table_formed, table_page, tree_page, other_page, other_formed}
@@ -66,6 +67,12 @@ other_fields order page hash btree queue =
           no_fields (abstract_page order page)
           (ap is_meta (typed_page order page some) ∙ other_page order page (page_type (byte_at page 25)) hash btree queue)
     ]
+
+-- a page whose type is none of metadata
+pub unmarked_fields : (order : Order) (page : List ℕ) → is_metadata (Some (page_type (byte_at page 25))) ≡ false → meta_in (abstract_page order page) ≡ None
+unmarked_fields order page none =
+    other_fields order page (λ is. true≢false (sym (ap (λ t. is_metadata (Some t)) is) ∙ none)) (λ is. true≢false (sym (ap (λ t. is_metadata (Some t)) is) ∙ none))
+    (λ is. true≢false (sym (ap (λ t. is_metadata (Some t)) is) ∙ none))
 
 pub no_meta : (order : Order) (page : List ℕ) → (byte_at page 25 ≡ 8 → ⊥) → (byte_at page 25 ≡ 9 → ⊥) → (byte_at page 25 ≡ 10 → ⊥)
     → meta_in (abstract_page order page) ≡ None

@@ -78,8 +78,8 @@ fn is_headed(page_type: Option<PageType>) -> bool
     )
 }
 
-// Whether a type is one of metadata.
-fn is_metadata(page_type: Option<PageType>) -> bool
+/// Whether a type is one of metadata.
+pub(crate) fn is_metadata(page_type: Option<PageType>) -> bool
     ensures { result ≡ is_metadata page_type }
 {
     matches!(

@@ -7,7 +7,7 @@ ghost use Rattle.bdb_faults.specs.of_format.HeadOf.{is_page_size};
 ghost use Rattle.bdb_faults.specs.of_format.Reading.{abstract_page};
 
 use crate::Formed;
-use crate::formed_page::page_at;
+use crate::formed_page::{is_metadata, page_at};
 use bdb_faults::{BtreeMeta, HashMeta, Order, PageType, QueueMeta};
 use bdb_meta::{btree_fields, hash_fields, page_type, queue_fields};
 use std::alloc::{AllocError, Global};
@@ -43,10 +43,21 @@ pub fn meta_at(formed: &Formed, number: u32) -> Option<Meta>
     meta_on(formed.page_bytes(number), order)
 }
 
-/// The fields of a page without a fault of form, if it's metadata: the one place where metadata is read again, without another
-/// judgement.
-#[tactic(auto, using(crate::proofs::MetaLemmas::fields_by_type))]
+/// The fields of a page without a fault of form, if it's metadata. The type of most pages tells at a glance that they aren't.
+#[tactic(auto, using(crate::proofs::MetaLemmas::unmarked_fields))]
 pub(crate) fn meta_on(page: &[u8], order: Order) -> Option<Meta>
+    requires { IsTrue (is_page_size (length page.now)) }
+    ensures { option_map meta_seen result ≡ meta_in (abstract_page order page.now) }
+{
+    if !is_metadata(Some(page_type(page))) {
+        return None;
+    }
+    fields_on(page, order)
+}
+
+/// The same of any page: the one place where metadata is read again, without another judgement.
+#[tactic(auto, using(crate::proofs::MetaLemmas::fields_by_type))]
+fn fields_on(page: &[u8], order: Order) -> Option<Meta>
     requires { IsTrue (is_page_size (length page.now)) }
     ensures { option_map meta_seen result ≡ meta_in (abstract_page order page.now) }
 {
