@@ -4,6 +4,7 @@
 mod faults;
 mod keywords;
 mod lent;
+mod list;
 mod pairs;
 mod sections;
 
@@ -15,5 +16,6 @@ pub use bdb_places::{
 pub use faults::{TextFault, TextReason};
 pub use keywords::Judged;
 pub use lent::{KeyRef, PairRef, PairSlice, are_one, key_at, number_of, pair_at};
+pub use list::{PairList, lent_key};
 pub use pairs::{Key, Pair, PlacedPairs, TextPair, TextPairs};
 pub use sections::{Section, Sections};

@@ -2,8 +2,8 @@ use Rattle.std.proofs.Common.{arith, sym, ◌∙◌}
 use Rattle.std.proofs.lemmas.Bool.Decides.{nat_tests}
 use Rattle.bdb_text_format.specs.Placed.{slice_seen}
 use Rattle.bdb_text_format.proofs.PlacedLemmas.{joined_more, last_shared}
-use Rattle.bdb_text_format.proofs.pairs.TextPairs.push_all.Goals as goal
-use Rattle.bdb_text_format.proofs.pairs.TextPairs.push_all.Goals.{then-i-gt0, else-i-gt0}
+use Rattle.bdb_text_format.proofs.pairs.TextPairs.push_each.Goals as goal
+use Rattle.bdb_text_format.proofs.pairs.TextPairs.push_each.Goals.{then-i-gt0, else-i-gt0}
 
 -- The key that is shared is that of the pair which was added last.
 pub push_beside-requires-clause-same : goal.push_beside-requires-clause-same
@@ -17,4 +17,4 @@ push_beside-requires-clause-same c =
 
 pub loop-i-preserved : goal.loop-i-preserved
 loop-i-preserved c =
-    c.in_ok-push_beside.ensures ∙ joined_more c.args.self.now c.loop-i.self (slice_seen c.args.pairs) c.loop-i.i _ c.loop-i.invariant c.at.ensures
+    c.in_ok-push_beside.ensures.ok ∙ joined_more c.args.self.now c.loop-i.self (slice_seen c.args.pairs) c.loop-i.i _ c.loop-i.invariant c.at.ensures
