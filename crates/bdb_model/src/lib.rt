@@ -1,4 +1,4 @@
-//! The words of a command, and the definitions that answers cite; what bdb_format and bdb_text_format have is passed on.
+//! The words of a command, and the definitions that answers cite; what bdb_faults and bdb_text_format have of lists and plain types is passed on.
 #![tactic(auto)]
 
 mod shape;
