@@ -1,3 +1,4 @@
+pub mod DigitTables
 pub mod DigitsIn
 pub mod Runs
 pub mod SpellErrors

@@ -2,6 +2,7 @@
 #![tactic(auto)]
 
 mod bytevalue;
+mod digit_tables;
 mod digits;
 mod lines;
 mod numbers;

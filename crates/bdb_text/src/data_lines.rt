@@ -27,6 +27,7 @@ pub fn read_data(line: &[u8], print: bool, room: &mut Vec<u8>) -> Result<(), Lin
     if first != b' ' {
         return Err(LineError::Reason(TextReason::NoSpace));
     }
+    room.clear();
     match read_run(text, print, room) {
         Ok(()) => Ok(()),
         Err(SpellError::Memory) => Err(LineError::Memory),
