@@ -2,10 +2,9 @@
 use Rattle.std.proofs.Common.{◌≡◌, ◌≢◌, ℕ, Bool, true, List, [], ◌∷◌, length, ne_eqb, Option, Some, None}
 use Rattle.std.proofs.Common.{refl, sym, ap, ◌∙◌}
 use Rattle.std.specs.Prelude.{is_some}
-use Rattle.std.proofs.lemmas.List.{append-nil, nil_from_length}
+use Rattle.std.proofs.lemmas.List.{nil_from_length}
 use Rattle.bdb_text_format.specs.TextSpelling.{byte_before, byte_of_digits, bytes_spelled, digit_value, digits_unit, escaped_unit}
 use Rattle.bdb_text_format.specs.TextSpelling.{printed_unit}
-use Rattle.bdb_spelling.specs.Runs.{joined}
 use Rattle.bdb_text_format.proofs.UnitLemmas.{read_empty}
 
 -- The first unit.
@@ -43,11 +42,6 @@ printed_itself text byte rest is other = rw (is, ne_eqb byte 92 other) refl
 
 pub spelled_empty : (print : Bool) (text : List ℕ) → length text ≡ 0 → bytes_spelled print text ≡ Some []
 spelled_empty print text none = ap (bytes_spelled print) (nil_from_length text none) ∙ read_empty print
-
--- all were read
-pub joined_all : (print : Bool) (text bytes rest : List ℕ) → bytes_spelled print text ≡ joined bytes (bytes_spelled print rest) → length rest ≡ 0
-    → bytes_spelled print text ≡ Some bytes
-joined_all print text bytes rest e h = e ∙ ap (joined bytes) (spelled_empty print rest h) ∙ ap Some (append-nil bytes)
 
 -- a text whose rest is empty is a spelling where its rest is one
 pub is_some-empty : (print : Bool) (text rest : List ℕ) → is_some (bytes_spelled print text) ≡ is_some (bytes_spelled print rest) → length rest ≡ 0

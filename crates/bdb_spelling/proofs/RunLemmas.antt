@@ -1,5 +1,5 @@
 -- Reading a spelling a run at a time.
-use Rattle.std.proofs.Common.{min, length-take, length-drop, drop_of_length-le, nat_le, ◌≡◌, ◌≢◌, ℕ, zero, suc, ◌+◌, ◌-◌, ◌*◌, ◌/◌, ◌%◌, ◌<◌, ◌≤◌, ◌==◌}
+use Rattle.std.proofs.Common.{min, length-take, length-drop, drop_of_length-le, nat_le, ◌≡◌, ◌≢◌, ℕ, zero, suc, ◌+◌, ◌-◌, ◌*◌, ◌<◌, ◌≤◌, ◌==◌}
 use Rattle.std.proofs.Common.{if◌then◌else◌, Bool, true, false, List, [], ◌∷◌, ◌++◌, length, take, drop, slice_index, slice_set, Option, Some, None, refl}
 use Rattle.std.proofs.Common.{sym, ap, ◌∙◌, arith, append_assoc}
 use Rattle.std.specs.Prelude.{is_some, ◌⊎◌}
@@ -220,14 +220,6 @@ unit_refused print text some none = read_no_unit print text (omega arith) (sym n
 joined_joined : (bytes more : List ℕ) (behind : Option (List ℕ)) → joined bytes (joined more behind) ≡ joined (bytes ++ more) behind
 joined_joined bytes more None = refl
 joined_joined bytes more (Some behind) = ap Some (sym (append_assoc bytes more behind))
-
-pub run_more : (print : Bool) (text bytes rest more behind : List ℕ) → bytes_spelled print text ≡ joined bytes (bytes_spelled print rest)
-    → bytes_spelled print rest ≡ joined more (bytes_spelled print behind) → bytes_spelled print text ≡ joined (bytes ++ more) (bytes_spelled print behind)
-run_more print text bytes rest more behind so_far run = so_far ∙ ap (joined bytes) run ∙ joined_joined bytes more (bytes_spelled print behind)
-
-pub run_refused : (print : Bool) (text bytes rest : List ℕ) → bytes_spelled print text ≡ joined bytes (bytes_spelled print rest)
-    → bytes_spelled print rest ≡ None → bytes_spelled print text ≡ None
-run_refused print text bytes rest so_far none = so_far ∙ ap (joined bytes) none
 
 -- a text is a spelling where what stands behind its first run is one
 pub is_some-behind : (print : Bool) (text rest more behind : List ℕ) → is_some (bytes_spelled print text) ≡ is_some (bytes_spelled print rest)
