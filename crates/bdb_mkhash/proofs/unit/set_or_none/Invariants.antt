@@ -1,6 +1,6 @@
-use Rattle.bdb_mkhash.specs.of_places.Places.{values_seen}
-use Rattle.bdb_need.proofs.UnitLemmas.{SetSoFar}
-use Rattle.bdb_need.proofs.units.set_or_none.Given as goal
+use Rattle.bdb_mktree.specs.of_places.Places.{values_seen}
+use Rattle.bdb_mkhash.proofs.CostLemmas.{SetSoFar}
+use Rattle.bdb_mkhash.proofs.unit.set_or_none.Given as goal
 
 -- The data passed stand in their items, and take the cost.
 abbrev pub invariant-loop-i : goal.invariant-loop-i

@@ -1,7 +1,7 @@
 use Rattle.std.proofs.Common.{arith, refl}
-use Rattle.bdb_mkhash.specs.of_places.Places.{values_seen}
-use Rattle.bdb_need.proofs.UnitLemmas.{set_long, set_more, set_much}
-use Rattle.bdb_need.proofs.units.set_or_none.Goals as goal
+use Rattle.bdb_mktree.specs.of_places.Places.{values_seen}
+use Rattle.bdb_mkhash.proofs.CostLemmas.{set_long, set_more, set_much}
+use Rattle.bdb_mkhash.proofs.unit.set_or_none.Goals as goal
 
 pub returns-then-len-size : goal.returns-then-len-size
 returns-then-len-size c =
