@@ -1,3 +1,4 @@
+pub mod GatheredLemmas
 pub mod PlacedLemmas
 pub mod UnitLemmas
 pub use Rattle.bdb_places.proofs.of_format as of_format
