@@ -1,3 +1,4 @@
+pub mod GatheredLemmas
 pub mod GuessLemmas
 pub mod KeptLemmas
 pub mod LeftLemmas

@@ -1,5 +1,6 @@
 pub mod Below
 pub mod Entries
+pub mod Gathered
 pub mod Guesses
 pub mod Kept
 pub mod Marks

@@ -4,6 +4,7 @@
 mod entries;
 mod entry;
 mod error;
+mod gathered;
 mod guess;
 mod kept;
 mod kept_pairs;
@@ -21,6 +22,7 @@ pub use bdb_survey::{Datum, Guess, KeyView, Meta, bytes_in, chain_of, compare_da
 pub use bdb_text_format::{Bytes, FileKind, Order, Steps};
 pub use entries::{SalvageEntries, SalvageEntry};
 pub use error::SalvageError;
+pub use gathered::{loose_pairs, stored_pairs};
 pub use pairs::SalvagePairs;
 pub use salvaged::{Salvaged, salvage};
 pub use values::SalvageValues;

@@ -204,6 +204,13 @@ impl<'a> Salvaged<'a> {
         &self.pairs
     }
 
+    /// The places of the loose records.
+    pub(crate) fn loose_places(&self) -> &[KeptValue]
+        ensures { result.now ≡ loose_values (file_in self.now) }
+    {
+        &self.values
+    }
+
     /// The bytes of a whole chain, where they are fewer than its pages; else none.
     fn thin_bytes<'s>(&'s self, head: u32) -> &'s [u8]
         requires { IsTrue (is_row (file_in self.now) is_overflow head) }
@@ -259,7 +266,7 @@ impl<'a> Salvaged<'a> {
     }
 
     /// The places of the values of the set that begins at a page.
-    fn places_in(&self, leaf: u32) -> &[KeptValue]
+    pub(crate) fn places_in(&self, leaf: u32) -> &[KeptValue]
         requires { Contains (set_starts (file_in self.now)) leaf }
         ensures { result.now ≡ flat_map (values_on (file_in self.now)) (chain (file_in self.now) leaf) }
     {

@@ -1,4 +1,1 @@
-pub mod ListLemmas
-pub mod PlacedLemmas
-pub mod UnitLemmas
-pub use Rattle.bdb_places.proofs.of_format as of_format
+pub mod GatheredLemmas

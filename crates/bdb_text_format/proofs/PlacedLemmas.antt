@@ -24,7 +24,7 @@ use Rattle.bdb_text_format.specs.Placed.{placed_pairs}
 behind : (old new : List ℕ) → Keeps old new → new ≡ old ++ drop (length old) new
 behind old new kept = sym (take-append-drop (length old) new) ∙ ap (λ front. front ++ drop (length old) new) kept
 
-long : (old new : List ℕ) → Keeps old new → length old ≤ length new
+pub long : (old new : List ℕ) → Keeps old new → length old ≤ length new
 long old new kept = omega (arith, ap length (behind old new kept), length-append old (drop (length old) new))
 
 -- a run keeps what it had where more is added

@@ -8,6 +8,7 @@ pub mod ReasonTable
 pub mod Reasons
 pub mod Pairs
 pub mod Placed
+pub mod Gathered
 pub mod Sections
 pub use Rattle.bdb_places.specs.of_format as of_format
 pub use Rattle.bdb_places.specs as of_places

@@ -2,6 +2,7 @@
 #![tactic(auto)]
 
 mod faults;
+mod gathered;
 mod keywords;
 mod lent;
 mod list;
@@ -14,6 +15,7 @@ pub use bdb_places::{
     Span, Steps, Unsupported, Values, Verdict, is_page_size, magic_of, number_in, plain_settings,
 };
 pub use faults::{TextFault, TextReason};
+pub use gathered::Gathered;
 pub use keywords::Judged;
 pub use lent::{KeyRef, PairRef, PairSlice, are_one, key_at, number_of, pair_at};
 pub use list::{PairList, lent_key};

@@ -61,7 +61,7 @@ impl Model for TextPairs {
 
 // Adds bytes at the end of a run, where it stays below 2^32, and answers where they stand.
 #[tactic(auto, using(crate::proofs::PlacedLemmas::kept_all, crate::proofs::PlacedLemmas::kept_more, crate::proofs::PlacedLemmas::piece_put))]
-fn put(bytes: &mut Vec<u8>, piece: &[u8]) -> Result<Span, AllocError>
+pub(crate) fn put(bytes: &mut Vec<u8>, piece: &[u8]) -> Result<Span, AllocError>
     ensures kept { Keeps bytes.old.items bytes.new.items }
     ensures ok { IfOk result (IsPiecePut bytes.new.items piece.now) }
 {

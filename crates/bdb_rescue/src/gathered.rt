@@ -1,0 +1,349 @@
+//! What is salvaged as pairs of a section.
+ghost use Rattle.std.specs.Prelude.{◌≡◌, ◌∷◌, ◌+◌, ◌*◌, ◌++◌, ◌≤◌, ◌^◌, [], ℕ, List, IfOk, IfSome, IsTrue, OnOk, drop, length, map, take};
+ghost use Rattle.std.specs.List.{All, Contains};
+ghost use Rattle.bdb_rescue.specs.Gathered.{Adds, Grows, StandFrom, loose_pairs, set_data, stored_pair};
+ghost use Rattle.bdb_rescue.specs.Kept.{IsKeptPair, IsKeptValue, data_at, data_here, file_in, given_live, is_held, item_of, value_at};
+ghost use Rattle.bdb_survey.specs.Items.{is_valued};
+ghost use Rattle.bdb_survey.specs.Salvage.{is_whole, loose, set_starts, stored};
+ghost use Rattle.bdb_survey.specs.of_layout.Seen.{content_seen};
+ghost use Rattle.bdb_survey.specs.of_overflow.Datum.{datum_seen};
+ghost use Rattle.bdb_text_format.specs.declared.pairs.TextPair.{TextPair};
+ghost use Rattle.bdb_text_format.specs.of_places.Places.{span_in};
+ghost use Rattle.bdb_text_format.specs.Gathered.{HasChains, IsSpanOf};
+ghost use Rattle.bdb_text_format.specs.Placed.{IsKeyPlaced, IsPiecePut, Keeps};
+ghost use Rattle.bdb_text_format.specs.of_format.Chains.{value_of};
+ghost use Rattle.bdb_text_format.specs.of_format.Page.{Chain};
+
+use crate::Salvaged;
+use crate::kept::{DataPlace, KeptPair, KeptValue};
+use crate::places::Places;
+use bdb_survey::{Content, Datum, DupBlocks, bytes_in};
+use bdb_text_format::{Gathered, PlacedKey, Span, TextPairs};
+use std::alloc::{AllocError, Global};
+use std::collections::BTreeMap;
+use std::marker::Model;
+
+/// Pairs in the making. The value of a chain stands in their run once, however many items name it, and so do the data of a set.
+#[derive(Drop)]
+struct Gatherer<'s, 'a> {
+    salvaged: &'s Salvaged<'a>,
+    pairs: Gathered,
+    // At which pair the data of a set begin, by its first leaf.
+    sets: BTreeMap<u32, usize>,
+    room: Vec<u8>,
+}
+
+impl<'s, 'a> Model for Gatherer<'s, 'a> {
+    ghost use Rattle.bdb_rescue.specs.Gathered.{InHand, IsInHand};
+    ghost use Rattle.bdb_rescue.specs.Kept.{file_in};
+
+    ghost Value = { InHand };
+
+    ghost view = { λ it. record { reading = it.salvaged.now; gathered = it.pairs } };
+
+    ghost invariant = { λ it. IsInHand (file_in it.salvaged.now) it.pairs it.sets };
+}
+
+// Adds the value of the chain with this head, whose pieces are joined in a room.
+fn put_chain(
+    head: u32,
+    value: Datum<'_>,
+    room: &mut Vec<u8>,
+    pairs: &mut Gathered,
+) -> Result<Span, AllocError>
+    ensures kept { Keeps pairs.old.bytes pairs.new.bytes }
+    ensures pairs { pairs.new.pairs ≡ pairs.old.pairs }
+    ensures chains { (chain : ℕ → List ℕ) → datum_seen value.entry ≡ chain head → HasChains chain pairs.old → HasChains chain pairs.new }
+    ensures ok { IfOk result (IsPiecePut pairs.new.bytes (datum_seen value.entry)) }
+{
+    let bytes = bytes_in(value, room)?;
+    pairs.put_chain(head, bytes)
+}
+
+#[tactic(auto, using(crate::proofs::GatheredLemmas::in_hand))]
+impl<'s, 'a> Gatherer<'s, 'a> {
+    // Where the value of a whole chain stands.
+    #[tactic(auto, using(crate::proofs::GatheredLemmas::in_hand), unfolding(crate::specs::Below::value_of))]
+    fn chain_span(&mut self, head: u32, total: u32) -> Result<Span, AllocError>
+        requires { IsTrue (is_whole (file_in self.old.reading) head total) }
+        ensures grows { Grows self.old self.new }
+        ensures ok { IfOk result (IsPiecePut self.new.gathered.bytes (value_of (file_in self.old.reading) (Chain head total))) }
+    {
+        if let Some(span) = self.pairs.chain(head) {
+            return Ok(span);
+        }
+        let value = self.salvaged.chained(head, total);
+        put_chain(head, value, &mut self.room, &mut self.pairs)
+    }
+
+    // Where bytes stand that are added.
+    fn bytes_span(&mut self, bytes: &[u8]) -> Result<Span, AllocError>
+        ensures grows { Grows self.old self.new }
+        ensures ok { IfOk result (IsPiecePut self.new.gathered.bytes bytes.now) }
+    {
+        self.pairs.put(bytes)
+    }
+
+    // Where the value of an item stands that has one by itself.
+    #[tactic(auto, unfolding(crate::specs::Below::value_of))]
+    fn span(&mut self, content: Content<'a>) -> Result<Span, AllocError>
+        requires { IsTrue (is_valued (file_in self.old.reading) (content_seen content)) }
+        ensures grows { Grows self.old self.new }
+        ensures ok { IfOk result (IsPiecePut self.new.gathered.bytes (value_of (file_in self.old.reading) (content_seen content.entry))) }
+    {
+        match content {
+            Content::Inline(bytes) => self.bytes_span(bytes),
+            Content::Overflow { head, total } => self.chain_span(head, total),
+            Content::Set(_) | Content::OffPage { .. } => self.bytes_span(&[]),
+        }
+    }
+
+    // Adds a key with a datum that stands there.
+    fn push_span(&mut self, key: PlacedKey, value: Span) -> Result<(), AllocError>
+        requires key { IsKeyPlaced self.old.gathered.bytes key }
+        requires value { IsSpanOf self.old.gathered.bytes value }
+        ensures { OnOk result (Adds self.old self.new key (span_in self.old.gathered.bytes value ∷ [])) }
+    {
+        self.pairs.push(key, value)
+    }
+
+    // Adds a key with the value of an item.
+    fn push(&mut self, key: PlacedKey, content: Content<'a>) -> Result<(), AllocError>
+        requires valued { IsTrue (is_valued (file_in self.old.reading) (content_seen content)) }
+        requires key { IsKeyPlaced self.old.gathered.bytes key }
+        ensures { OnOk result (Adds self.old self.new key (value_of (file_in self.old.reading) (content_seen content.entry) ∷ [])) }
+    {
+        let value = self.span(content)?;
+        self.push_span(key, value)
+    }
+
+    // Adds a key with some bytes.
+    fn push_bytes(&mut self, key: PlacedKey, bytes: &[u8]) -> Result<(), AllocError>
+        requires { IsKeyPlaced self.old.gathered.bytes key }
+        ensures { OnOk result (Adds self.old self.new key (bytes.now ∷ [])) }
+    {
+        let value = self.bytes_span(bytes)?;
+        self.push_span(key, value)
+    }
+
+    // Adds a key with each datum of a set on its page.
+    #[tactic(auto, using(crate::proofs::GatheredLemmas::so_far_adds))]
+    fn push_blocks(&mut self, key: PlacedKey, blocks: DupBlocks<'a>) -> Result<(), AllocError>
+        requires { IsKeyPlaced self.old.gathered.bytes key }
+        ensures { OnOk result (Adds self.old self.new key blocks.entry.blocks) }
+    {
+        for block in blocks {
+            self.push_bytes(key, block)?;
+        }
+        Ok(())
+    }
+
+    // Adds a key with the value at a place.
+    fn push_place(&mut self, key: PlacedKey, place: KeptValue) -> Result<(), AllocError>
+        requires kept { IsKeptValue (file_in self.old.reading) place }
+        requires key { IsKeyPlaced self.old.gathered.bytes key }
+        ensures { OnOk result (Adds self.old self.new key (value_at (file_in self.old.reading) place ∷ [])) }
+    {
+        let content = self
+            .salvaged
+            .pages()
+            .content(place.page, u32::from(place.index));
+        self.push(key, content)
+    }
+
+    // Adds a key with the value at each of some places.
+    #[tactic(auto, using(crate::proofs::GatheredLemmas::so_far_adds, crate::proofs::LeftLemmas::values_rest, crate::proofs::LeftLemmas::first_value))]
+    fn push_places(&mut self, key: PlacedKey, places: &[KeptValue]) -> Result<(), AllocError>
+        requires kept { All (IsKeptValue (file_in self.old.reading)) places.now }
+        requires key { IsKeyPlaced self.old.gathered.bytes key }
+        ensures { OnOk result (Adds self.old self.new key (map (value_at (file_in self.old.reading)) places.now)) }
+    {
+        for place in Places::over(places) {
+            self.push_place(key, place)?;
+        }
+        Ok(())
+    }
+
+    // At which pair the data of the set begin whose first leaf this is, if they stand there.
+    fn set_from(&self, leaf: u32) -> Option<usize>
+        ensures { IfSome result (StandFrom self.now.gathered.pairs (set_data (file_in self.now.reading) leaf)) }
+    {
+        match self.sets.get(&leaf) {
+            Some(from) => Some(*from),
+            None => None,
+        }
+    }
+
+    // Adds a key with data that stand there.
+    fn push_again(&mut self, key: PlacedKey, from: usize, count: usize) -> Result<(), AllocError>
+        requires key { IsKeyPlaced self.old.gathered.bytes key }
+        requires there { from + count ≤ length self.old.gathered.pairs }
+        ensures { OnOk result (Adds self.old self.new key (map (λ (pair : TextPair). pair.value) (take count (drop from self.old.gathered.pairs)))) }
+    {
+        let to = self.pairs.len().min(from.saturating_add(count));
+        self.pairs.push_again(key, from, to)
+    }
+
+    // Adds a key with the data of a set, and notes where these stand.
+    fn push_new_set(
+        &mut self,
+        key: PlacedKey,
+        leaf: u32,
+        places: &[KeptValue],
+    ) -> Result<(), AllocError>
+        requires kept { All (IsKeptValue (file_in self.old.reading)) places.now }
+        requires places { map (value_at (file_in self.old.reading)) places.now ≡ set_data (file_in self.old.reading) leaf }
+        requires key { IsKeyPlaced self.old.gathered.bytes key }
+        ensures { OnOk result (Adds self.old self.new key (set_data (file_in self.old.reading) leaf)) }
+    {
+        let from = self.pairs.len();
+        self.push_places(key, places)?;
+        self.sets.insert(leaf, from)?;
+        Ok(())
+    }
+
+    // Adds a key with the data of the set whose first leaf this is.
+    #[tactic(auto, using(crate::proofs::GatheredLemmas::in_hand, crate::proofs::KeptLemmas::all_in_set))]
+    fn push_set(&mut self, key: PlacedKey, leaf: u32) -> Result<(), AllocError>
+        requires starts { Contains (set_starts (file_in self.old.reading)) leaf }
+        requires key { IsKeyPlaced self.old.gathered.bytes key }
+        ensures { OnOk result (Adds self.old self.new key (set_data (file_in self.old.reading) leaf)) }
+    {
+        let places = self.salvaged.places_in(leaf);
+        match self.set_from(leaf) {
+            Some(from) => self.push_again(key, from, places.len()),
+            None => self.push_new_set(key, leaf, places),
+        }
+    }
+
+    // Adds a key with the data in a data item.
+    #[tactic(auto, unfolding(crate::specs::Below::value_of))]
+    fn push_here(&mut self, key: PlacedKey, content: Content<'a>) -> Result<(), AllocError>
+        requires held { IsTrue (is_held (file_in self.old.reading) (content_seen content)) }
+        requires key { IsKeyPlaced self.old.gathered.bytes key }
+        ensures { OnOk result (Adds self.old self.new key (data_here (file_in self.old.reading) (content_seen content.entry))) }
+    {
+        match content {
+            Content::Inline(bytes) => self.push_bytes(key, bytes),
+            Content::Set(blocks) => self.push_blocks(key, blocks),
+            Content::Overflow { head, total } => self.push(key, Content::Overflow { head, total }),
+            Content::OffPage { .. } => Ok(()),
+        }
+    }
+
+    // Adds a key with the data of a pair.
+    #[tactic(auto, using(crate::proofs::LooseLemmas::set_values))]
+    fn push_data(&mut self, key: PlacedKey, pair: KeptPair) -> Result<(), AllocError>
+        requires pair { IsKeptPair (file_in self.old.reading) pair }
+        requires key { IsKeyPlaced self.old.gathered.bytes key }
+        ensures { OnOk result (Adds self.old self.new key
+            (data_at (file_in self.old.reading) (item_of (file_in self.old.reading) pair.page (2 * pair.index + 1)).content pair.place)) }
+    {
+        match pair.place {
+            DataPlace::Here => {
+                let index = 2 * u32::from(pair.index) + 1;
+                let content = self.salvaged.pages().content(pair.page, index);
+                self.push_here(key, content)
+            }
+            DataPlace::Set { leaf } => self.push_set(key, leaf),
+        }
+    }
+
+    // Where the key of a pair stands.
+    fn key_span(&mut self, pair: KeptPair) -> Result<Span, AllocError>
+        requires { IsKeptPair (file_in self.old.reading) pair }
+        ensures grows { Grows self.old self.new }
+        ensures ok { IfOk result (IsPiecePut self.new.gathered.bytes
+            (value_of (file_in self.old.reading) (item_of (file_in self.old.reading) pair.page (2 * pair.index)).content)) }
+    {
+        let index = 2 * u32::from(pair.index);
+        let content = self.salvaged.pages().content(pair.page, index);
+        self.span(content)
+    }
+
+    // Adds what a kept pair gives. Its key stands there once for all its data.
+    fn push_pair(&mut self, pair: KeptPair) -> Result<(), AllocError>
+        requires { IsKeptPair (file_in self.old.reading) pair }
+        ensures reading { OnOk result (self.new.reading ≡ self.old.reading) }
+        ensures pairs { OnOk result (self.new.gathered.pairs ≡ self.old.gathered.pairs ++ map stored_pair (given_live (file_in self.old.reading) pair)) }
+    {
+        if !pair.live {
+            return Ok(());
+        }
+        let key = self.key_span(pair)?;
+        self.push_data(PlacedKey::Bytes(key), pair)?;
+        Ok(())
+    }
+
+    // The pairs.
+    fn into_pairs(self) -> TextPairs
+        ensures { result ≡ self.entry.gathered.pairs }
+    {
+        self.pairs.into_pairs()
+    }
+}
+
+// Nothing yet of an image, with room for so many pairs.
+fn nothing_yet<'s, 'a>(
+    alloc: Global,
+    salvaged: &'s Salvaged<'a>,
+    pairs: usize,
+) -> Result<Gatherer<'s, 'a>, AllocError>
+    ensures reading { IfOk result (λ it. it.reading ≡ salvaged.now) }
+    ensures pairs { IfOk result (λ it. it.gathered.pairs ≡ []) }
+{
+    Ok(Gatherer {
+        salvaged,
+        pairs: Gathered::new(alloc, pairs)?,
+        sets: BTreeMap::new(alloc),
+        room: Vec::new(alloc),
+    })
+}
+
+// How many data a pair has, a set on its page counted as one.
+fn data_count(salvaged: &Salvaged<'_>, pair: KeptPair) -> usize
+    requires { IsKeptPair (file_in salvaged.now) pair }
+{
+    match pair.place {
+        DataPlace::Here => 1,
+        DataPlace::Set { leaf } => salvaged.places_in(leaf).len(),
+    }
+}
+
+// About how many pairs there are. No datum is looked at.
+#[tactic(auto, using(crate::proofs::KeptLemmas::all_pairs, crate::proofs::LeftLemmas::pairs_rest, crate::proofs::LeftLemmas::first_pair))]
+fn pair_count(salvaged: &Salvaged<'_>) -> usize {
+    let mut count: usize = 0;
+    for pair in Places::over(salvaged.kept_pairs()) {
+        count = count.saturating_add(data_count(salvaged, pair));
+    }
+    count
+}
+
+/// The stored pairs of an image as pairs of a section.
+#[tactic(auto, using(crate::proofs::KeptLemmas::all_pairs, crate::proofs::StoredLemmas::stored_is, crate::proofs::LeftLemmas::pairs_rest, crate::proofs::LeftLemmas::first_pair))]
+pub fn stored_pairs(alloc: Global, salvaged: &Salvaged<'_>) -> Result<TextPairs, AllocError>
+    ensures { IfOk result (λ pairs. pairs ≡ map stored_pair (stored (file_in salvaged.now))) }
+{
+    let mut all = nothing_yet(alloc, salvaged, pair_count(salvaged))?;
+    for pair in Places::over(salvaged.kept_pairs()) {
+        all.push_pair(pair)?;
+    }
+    Ok(all.into_pairs())
+}
+
+/// The loose records of an image as pairs of a section, which are numbered from 1.
+#[tactic(auto, using(crate::proofs::LooseLemmas::loose_is, crate::proofs::KeptLemmas::all_loose, crate::proofs::LeftLemmas::values_rest, crate::proofs::LeftLemmas::first_value))]
+pub fn loose_pairs(alloc: Global, salvaged: &Salvaged<'_>) -> Result<TextPairs, AllocError>
+    requires { length salvaged.now.image ≤ 2 ^ 30 }
+    ensures { IfOk result (λ pairs. pairs ≡ loose_pairs (loose (file_in salvaged.now))) }
+{
+    let places = salvaged.loose_places();
+    let mut all = nothing_yet(alloc, salvaged, places.len())?;
+    let mut number = 0;
+    for place in Places::over(places) {
+        number += 1;
+        all.push_place(PlacedKey::Number(number), place)?;
+    }
+    Ok(all.into_pairs())
+}

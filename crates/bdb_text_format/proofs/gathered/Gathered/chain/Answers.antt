@@ -1,0 +1,9 @@
+use Rattle.std.proofs.Common.{ap, sym, ◌∙◌}
+use Rattle.std.specs.Prelude.{option_copied}
+use Rattle.bdb_text_format.specs.Gathered.{Gathering, noted}
+use Rattle.bdb_text_format.proofs.gathered.Gathered.chain.Goals as goal
+
+pub returns-in-Some : goal.returns-in-Some
+returns-in-Some c = λ value has.
+    has.each c.args.head c.in-Some.span.now
+    (sym (ap (λ (it : Gathering). noted it.chains c.args.head) c.self.view_is) ∙ (sym c.get.ensures.value ∙ ap option_copied c.in-Some.is))
