@@ -388,18 +388,25 @@ def shuffle(text):
         shuffled.write(lines[-1])
 
 
+def is_read_by_original(sample, spelling):
+    """Whether `db5.3_load` reads such a text: it loses its place in a printed one of records with numbers."""
+    return spelling != "print" or sample.kind not in ("recno", "queue")
+
+
 def print_load(program, name, spelling, sample, folder, before):
     """A row of the table of `load`, on a text that is already there, and what the program took."""
     text, built = folder / "text", folder / "built.db"
     with text.open("rb") as standard_input, built.open("wb") as standard_output:
         subprocess.run([program, "load"], stdin=standard_input, stdout=standard_output, check=True)
     size = built.stat().st_size
-    commands = ([program, "load"], ["db5.3_load", "-h", folder, built], ["md5sum"])
-    own, original, sums = map(least_of, turns(commands, text, RUNS, lambda: built.unlink(missing_ok=True)))
+    original = [["db5.3_load", "-h", folder, built]] if is_read_by_original(sample, spelling) else []
+    commands = ([program, "load"], ["md5sum"], *original)
+    own, sums, *originals = map(least_of, turns(commands, text, RUNS, lambda: built.unlink(missing_ok=True)))
     long = text.stat().st_size
     grew = "–" if before is None else f"× {own.user / before.user:.1f}"
     above = max(0, own.peak - long - size) / sample.items
-    ratios = [f"{own.user:.3g}", f"{original.user:.3g}", f"{own.user / original.user:.3g}", f"{sums.user:.3g}", f"{own.user / sums.user:.3g}"]
+    beside = [f"{originals[0].user:.3g}", f"{own.user / originals[0].user:.3g}"] if originals else ["–", "–"]
+    ratios = [f"{own.user:.3g}", *beside, f"{sums.user:.3g}", f"{own.user / sums.user:.3g}"]
     print_row([name, spelling, f"{sample.items:,}", f"{long:,}", f"{size:,}", *ratios, grew, f"{own.peak:,}", f"{above:.1f}"])
     return own
 
