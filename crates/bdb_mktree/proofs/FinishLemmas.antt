@@ -151,10 +151,8 @@ finished_part : (builder : TreeBuilder) (old new : Built) (root : ℕ) → (buil
       list = list_of_units builder.settings.kind (units_of builder old);
     })
 finished_part builder old new root building has grows g meta counted later says names =
-    subst (λ pages. IsPart g (record { pages = pages; fields = BtreeFields meta; list = list_of_units settings.kind (units_of builder old) }))
-    (fun_ext tree.pages)
-    (subst (λ list. IsPart g (record { pages = is_laid rest tree.placed tree.above; fields = BtreeFields meta; list = list })) by_kind.1
-    (laid_trees_are_parts type g rest tree.placed tree.nodes tree.above tree.top meta tree.laid (names ∙ sym tree.top_is) by_kind.0))
+    rw (← fun_ext tree.pages, ← by_kind.1) (laid_trees_are_parts type g rest tree.placed tree.nodes tree.above tree.top meta tree.laid (names ∙ sym
+        tree.top_is) by_kind.0)
   where
     settings : Settings
     settings = builder.settings
@@ -240,14 +238,9 @@ trees_laid_out : (builder : TreeBuilder) (old new : Built) (root : ℕ) → (bui
     (is_counted builder.settings.kind builder.settings.recnum) (units_of builder old) root)
     × HaveTreesOn (leaf_type_of builder.settings.kind) new (between (first_leaf builder.leaves) (length new.pages)) on.tree
 trees_laid_out builder old new root building has =
-    subst (λ us. (on : IsTreeOn (leaf_type_of builder.settings.kind) new pages counted us root)
-    × HaveTreesOn (leaf_type_of builder.settings.kind) new pages on.tree) (sym (building_read builder old building))
-    (subst (λ t. (on : IsTreeOn t new pages counted (map unit_of all) root) × HaveTreesOn t new pages on.tree) building.type (
-      laid.0,
-      subst (λ us. All (HasTreeOn new pages (contents_below type laid.0.tree)) us) (sym placed_is)
-          (subst (λ cs. All (HasTreeOn new pages cs) all) (contents_held type laid.0.tree.placed all placed_is)
-          (finished_trees_keep_trees builder.leaves old new counted first building.closed building.units root building.counted.filled has)),
-    ))
+    rw (building_read builder old building, ← building.type) (laid.0, subst (λ us. All (HasTreeOn new pages (contents_below type laid.0.tree)) us) (sym
+        placed_is) (subst (λ cs. All (HasTreeOn new pages cs) all) (contents_held type laid.0.tree.placed all placed_is) (finished_trees_keep_trees
+        builder.leaves old new counted first building.closed building.units root building.counted.filled has)),)
   where
     counted : Bool
     counted = is_counted builder.settings.kind builder.settings.recnum

@@ -51,9 +51,7 @@ before_other key value other units first none =
       | inr other_key ↦ other_key
     ] in
     ap (onto_units key value) first.is
-    ∙ (ap (λ b. cond b (KeyedUnit other (value ∷ first.values) ∷ first.others)
-    (KeyedUnit key (value ∷ []) ∷ KeyedUnit other first.values ∷ first.others)) test
-    ∙ ap (λ us. KeyedUnit key (value ∷ []) ∷ us) (sym first.is))
+    ∙ (cc (test, first.is))
 
 before_same : (key value : List ℕ) (values : List (List ℕ)) (units : List TreeUnit)
     → onto_units key value (KeyedUnit key values ∷ units) ≡ KeyedUnit key (value ∷ values) ∷ units
@@ -88,9 +86,8 @@ run_is_unit key (pair ∷ pairs) n all is some =
           let counted = ap (λ b. cond b (1 + prefix_len (has_key key) (keys_of pairs)) 0) same in
           let long : n ≡ suc (prefix_len (has_key key) (keys_of pairs)) = omega (arith, is, counted) in
           ap (λ k. onto_units k pair.value (keyed_units pairs)) key_is
-          ∙ (by_rest (prefix_len (has_key key) (keys_of pairs)) refl
-          (λ m more some_more. run_is_unit key pairs m (All-tail (λ (pair : Pair). HasBytes pair.key) pair pairs all) more some_more)
-          ∙ ap (λ m. KeyedUnit key (take m (values_of (pair ∷ pairs))) ∷ keyed_units (drop m (pair ∷ pairs))) (sym long))
+          ∙ (cc (by_rest (prefix_len (has_key key) (keys_of pairs)) refl (λ m more some_more. run_is_unit key pairs m (All-tail (λ (pair : Pair). HasBytes
+              pair.key) pair pairs all) more some_more), long))
       | inr other ↦ let none = ap (λ b. cond b (1 + prefix_len (has_key key) (keys_of pairs)) 0) other in absurd (omega (arith, is, none, some))
     ]
   where
