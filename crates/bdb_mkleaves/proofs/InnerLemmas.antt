@@ -262,19 +262,15 @@ keyed_read : (order : Order) (bytes : List ℕ) (page : Listed InternalItem) →
     ≡ Internal page
     → IsRead order bytes page
 keyed_read order bytes page long type is =
+    let inside : (a b : Listed InternalItem) → Internal a ≡ Internal b → a ≡ b = λ a b same. cc in
     is_read order bytes page (internal_item_at order bytes) (inside _ _ (sym (typed order bytes 3 long refl type) ∙ is))
-  where
-    inside : (a b : Listed InternalItem) → Internal a ≡ Internal b → a ≡ b
-    inside a b same = cc
 
 numbered_read : (order : Order) (bytes : List ℕ) (page : Listed RecnoItem) → 25 < length bytes → byte_at bytes 25 ≡ 4 → abstract_page order bytes
     ≡ RecnoInternal page
     → IsRead order bytes page
 numbered_read order bytes page long type is =
+    let inside : (a b : Listed RecnoItem) → RecnoInternal a ≡ RecnoInternal b → a ≡ b = λ a b same. cc in
     is_read order bytes page (recno_item_at order bytes) (inside _ _ (sym (typed order bytes 4 long refl type) ∙ is))
-  where
-    inside : (a b : Listed RecnoItem) → RecnoInternal a ≡ RecnoInternal b → a ≡ b
-    inside a b same = cc
 
 length-keyed : (nodes : List Node) → length (keyed_items nodes) ≡ length nodes
 length-keyed [] = refl
