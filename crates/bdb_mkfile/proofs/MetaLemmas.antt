@@ -178,54 +178,32 @@ rows_accepted : (settings : Settings) (head : Head) (number first : ℕ) (page :
     → IsTablePage settings head number first page bits flags → first_row (metadata_rows head.order page number head.last Hash) ≡ None
 unfolding metadata_rows
 rows_accepted settings head number first page bits flags is =
+    let own : not (four_at head.order page 8 == number) ≡ false = ap not (eq-eqb (four_at head.order page 8) number is.reads.number_is) in
+    let type : not (byte_at page 25 == 8) ≡ false = ap not (eq-eqb (byte_at page 25) 8 is.reads.type) in
+    let magic : (nat_lt 0 number && not (four_at head.order page 12 == magic_of Hash)) ≡ false =
+    and_right (nat_lt 0 number) (not (four_at head.order page 12 == magic_of Hash))
+    (ap not (eq-eqb (four_at head.order page 12) (magic_of Hash) is.reads.magic)) in
+    let version : (nat_lt 0 number && not (four_at head.order page 16 == version_of Hash)) ≡ false =
+    and_right (nat_lt 0 number) (not (four_at head.order page 16 == version_of Hash))
+    (ap not (eq-eqb (four_at head.order page 16) (version_of Hash) is.reads.version)) in
+    let size : not (four_at head.order page 20 == length page) ≡ false =
+    ap not (eq-eqb (four_at head.order page 20) (length page) (is.reads.size_is ∙ sym is.long)) in
+    let plain : not (byte_at page 24 == 0) ≡ false = ap (λ b. not (b == 0)) is.reads.plain in
+    let sum : has_bit (byte_at page 26) 0x01 ≡ false = ap (λ b. has_bit b 0x01) is.reads.flags in
+    let parted : (has_bit (byte_at page 26) 0x06 || not (four_at head.order page 36 == 0)) ≡ false =
+    ap (λ b. has_bit b 0x06 || not (four_at head.order page 36 == 0)) is.reads.flags ∙ ap (λ n. not (n == 0)) is.reads.partitions in
+    let key : not (four_at head.order page 92 == 0x5e688dd1) ≡ false = ap (λ n. not (n == 0x5e688dd1)) is.key in
+    let known : nat_lt 0x07 (four_at head.order page 48) ≡ false = ap (λ (m : HashMeta). nat_lt 0x07 m.flags) is.fields ∙ le-ltb 0x07 flags is.known in
+    let masks : not (are_masks (hash_fields head.order page)) ≡ false =
+    ap (λ m. not (are_masks m)) is.fields ∙ ap not (masks_right settings first bits is.some) in
+    let within : nat_lt head.last (four_at head.order page 72) ≡ false =
+    ap (λ (m : HashMeta). nat_lt head.last m.max_bucket) is.fields ∙ le-ltb head.last (2 ^ bits - 1) (omega (arith, is.room)) in
+    let spares : (nat_lt head.last (four_at head.order page 72) || lacks_spare (hash_fields head.order page)) ≡ false =
+    ap (λ b. b || lacks_spare (hash_fields head.order page)) within
+    ∙ (ap lacks_spare is.fields
+    ∙ spares_there settings first bits is.above (few_bits settings head.order page first bits flags is.fields)) in
     first_of_none (metadata_rows head.order page number head.last Hash)
     (own, (type, (magic, (version, (size, (plain, (sum, (parted, (key, (known, (masks, (spares, tt))))))))))))
-  where
-    own : not (four_at head.order page 8 == number) ≡ false
-    own = ap not (eq-eqb (four_at head.order page 8) number is.reads.number_is)
-
-    type : not (byte_at page 25 == 8) ≡ false
-    type = ap not (eq-eqb (byte_at page 25) 8 is.reads.type)
-
-    magic : (nat_lt 0 number && not (four_at head.order page 12 == magic_of Hash)) ≡ false
-    magic =
-        and_right (nat_lt 0 number) (not (four_at head.order page 12 == magic_of Hash))
-        (ap not (eq-eqb (four_at head.order page 12) (magic_of Hash) is.reads.magic))
-
-    version : (nat_lt 0 number && not (four_at head.order page 16 == version_of Hash)) ≡ false
-    version =
-        and_right (nat_lt 0 number) (not (four_at head.order page 16 == version_of Hash))
-        (ap not (eq-eqb (four_at head.order page 16) (version_of Hash) is.reads.version))
-
-    size : not (four_at head.order page 20 == length page) ≡ false
-    size = ap not (eq-eqb (four_at head.order page 20) (length page) (is.reads.size_is ∙ sym is.long))
-
-    plain : not (byte_at page 24 == 0) ≡ false
-    plain = ap (λ b. not (b == 0)) is.reads.plain
-
-    sum : has_bit (byte_at page 26) 0x01 ≡ false
-    sum = ap (λ b. has_bit b 0x01) is.reads.flags
-
-    parted : (has_bit (byte_at page 26) 0x06 || not (four_at head.order page 36 == 0)) ≡ false
-    parted = ap (λ b. has_bit b 0x06 || not (four_at head.order page 36 == 0)) is.reads.flags ∙ ap (λ n. not (n == 0)) is.reads.partitions
-
-    key : not (four_at head.order page 92 == 0x5e688dd1) ≡ false
-    key = ap (λ n. not (n == 0x5e688dd1)) is.key
-
-    known : nat_lt 0x07 (four_at head.order page 48) ≡ false
-    known = ap (λ (m : HashMeta). nat_lt 0x07 m.flags) is.fields ∙ le-ltb 0x07 flags is.known
-
-    masks : not (are_masks (hash_fields head.order page)) ≡ false
-    masks = ap (λ m. not (are_masks m)) is.fields ∙ ap not (masks_right settings first bits is.some)
-
-    within : nat_lt head.last (four_at head.order page 72) ≡ false
-    within = ap (λ (m : HashMeta). nat_lt head.last m.max_bucket) is.fields ∙ le-ltb head.last (2 ^ bits - 1) (omega (arith, is.room))
-
-    spares : (nat_lt head.last (four_at head.order page 72) || lacks_spare (hash_fields head.order page)) ≡ false
-    spares =
-        ap (λ b. b || lacks_spare (hash_fields head.order page)) within
-        ∙ (ap lacks_spare is.fields
-        ∙ spares_there settings first bits is.above (few_bits settings head.order page first bits flags is.fields))
 
 -- above page 0 its number and its type are right
 code_accepted : (settings : Settings) (head : Head) (number first : ℕ) (page : List ℕ) (bits flags : ℕ)

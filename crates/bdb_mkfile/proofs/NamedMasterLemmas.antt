@@ -87,6 +87,23 @@ settings_again settings size old are =
 pub master_built : (sections : List Section) (size : ℕ) (settings : Settings) (count first : ℕ) (list : List Pair) (old new : Built)
     (root : ℕ) (meta : BtreeMeta) → IsMasterBehind sections size settings count first list old new root meta → IsMasterBuilt sections old new meta
 master_built sections size settings count first list old new root meta is =
+    let own : settings ≡ settings_of_master old.size old.order = is.settings_are ∙ ap (λ n. settings_of_master n old.order) (sym is.size_is) in
+    let page_size : settings.page_size ≡ old.size = ap (λ (s : Settings). s.page_size) own in
+    let many : length new.pages ≡ length old.pages + names_pages old.size sections =
+    is.tree.count
+    ∙ (ap (λ n. length old.pages + tree_size (leaf_type_of settings.kind) n settings.sorted (units_in settings.kind list))
+    (is.tree.kept.size ∙ sym page_size)
+    ∙ (ap (λ n. length old.pages + n)
+    (entries_counted settings list first sections (settings_again settings size old is.settings_are) is.list_is)
+    ∙ ap (λ n. length old.pages + names_pages n sections) page_size)) in
+    let first_is : first ≡ length new.pages =
+    is.first_is ∙ (ap (λ n. length old.pages + n) (is.count_is ∙ ap (λ n. names_pages n sections) page_size) ∙ sym many) in
+    let list_is : list ≡ entries_from (length new.pages) sections = is.list_is ∙ ap (λ n. entries_from n sections) first_is in
+    let says : settings_of new.size new.order (BtreeFields meta) ≡ settings =
+    ap (λ n. settings_of n new.order (BtreeFields meta)) is.tree.kept.size
+    ∙ (ap (λ o. settings_of old.size o (BtreeFields meta)) is.tree.kept.order
+    ∙ (ap (λ m. settings_of old.size old.order (BtreeFields m)) (is.meta_is ∙ ap (λ s. named_tree_meta s root) own)
+    ∙ ((master_is_said old.size old.order root).settings_are ∙ sym own))) in
     record {
       kept = is.tree.kept;
       count = many;
@@ -110,31 +127,3 @@ master_built sections size settings count first list old new root meta is =
             buckets = λ g counted later. tt;
           });
     }
-  where
-    own : settings ≡ settings_of_master old.size old.order
-    own = is.settings_are ∙ ap (λ n. settings_of_master n old.order) (sym is.size_is)
-
-    page_size : settings.page_size ≡ old.size
-    page_size = ap (λ (s : Settings). s.page_size) own
-
-    many : length new.pages ≡ length old.pages + names_pages old.size sections
-    many =
-        is.tree.count
-        ∙ (ap (λ n. length old.pages + tree_size (leaf_type_of settings.kind) n settings.sorted (units_in settings.kind list))
-        (is.tree.kept.size ∙ sym page_size)
-        ∙ (ap (λ n. length old.pages + n)
-        (entries_counted settings list first sections (settings_again settings size old is.settings_are) is.list_is)
-        ∙ ap (λ n. length old.pages + names_pages n sections) page_size))
-
-    first_is : first ≡ length new.pages
-    first_is = is.first_is ∙ (ap (λ n. length old.pages + n) (is.count_is ∙ ap (λ n. names_pages n sections) page_size) ∙ sym many)
-
-    list_is : list ≡ entries_from (length new.pages) sections
-    list_is = is.list_is ∙ ap (λ n. entries_from n sections) first_is
-
-    says : settings_of new.size new.order (BtreeFields meta) ≡ settings
-    says =
-        ap (λ n. settings_of n new.order (BtreeFields meta)) is.tree.kept.size
-        ∙ (ap (λ o. settings_of old.size o (BtreeFields meta)) is.tree.kept.order
-        ∙ (ap (λ m. settings_of old.size old.order (BtreeFields m)) (is.meta_is ∙ ap (λ s. named_tree_meta s root) own)
-        ∙ ((master_is_said old.size old.order root).settings_are ∙ sym own)))

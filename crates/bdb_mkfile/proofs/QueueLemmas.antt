@@ -64,6 +64,33 @@ pub record IsQueueFiled (settings : Settings) (list : List Pair) (empty added bu
 pub queue_filed : (settings : Settings) (list : List Pair) (empty added built : Built) (meta : QueueMeta) (count : ℕ) (lent page image : List ℕ)
     → IsQueueFiled settings list empty added built meta count lent page image → IsQueueImage settings list image
 queue_filed settings list empty added built meta count lent page image is =
+    let meta_is : meta ≡ queue_meta settings list = is.queue.meta_is in
+    let order : built.order ≡ settings.order = is.queue.kept.order ∙ (ap (λ (b : Built). b.order) is.added_is ∙ is.order) in
+    let size : built.size ≡ settings.page_size = is.queue.kept.size ∙ (ap (λ (b : Built). b.size) is.added_is ∙ is.size) in
+    let pages : length built.pages ≡ 1 + queue_pages settings list = is.queue.laid_out.count ∙ ap (λ (m : QueueMeta). 1 + queue_size m.per_page list) meta_is in
+    let some : 1 ≤ length built.pages = omega (arith, pages) in
+    let legal : AreLegal built = record { legal = is.legal; some = some; few = omega (arith, is.count_is, is.few); whole = is.whole } in
+    let long : length lent ≡ built.size = ap length is.lent_is ∙ is.whole 0 (omega (arith, some)) in
+    let spelled_as : page ≡ queue_bytes built.order built.size (length built.pages - 1) meta =
+    is.bytes
+    ∙ (ap (λ o. queue_bytes o (length lent) (count - 1) meta) (sym order)
+    ∙ (ap (λ s. queue_bytes built.order s (count - 1) meta) long ∙ ap (λ n. queue_bytes built.order built.size (n - 1) meta) is.count_is)) in
+    let fills : length page ≡ built.size =
+    ap length spelled_as
+    ∙ length-queue built.order built.size (length built.pages - 1) meta (omega (arith, (size_bounds built.size is.legal).0)) in
+    let image_is : image ≡ joined_pages (with_page built 0 page).pages =
+    is.image_is ∙ ap (λ (b : Built). joined_pages b.pages) (written_whole built 0 page is.whole (omega (arith, some)) fills) in
+    let under : IsUnderMeta built Queue page image = under_queue built page meta image legal spelled_as image_is in
+    let written : IsWrittenQueue built page meta image =
+    record { pages = legal; bytes = spelled_as; fields = ap (λ o. queue_fields o page) order ∙ is.fields; image_is = image_is } in
+    let sound : IsSoundQueueOf image meta list = written_queues_are_sound settings list added built meta page image is.queue written in
+    let last : length built.pages - 1 ≡ queue_pages settings list = omega (arith, pages) in
+    let first : page ≡ queue_first settings list =
+    spelled_as
+    ∙ (ap (λ o. queue_bytes o built.size (length built.pages - 1) meta) order
+    ∙ (ap (λ s. queue_bytes settings.order s (length built.pages - 1) meta) size
+    ∙ (ap (λ n. queue_bytes settings.order settings.page_size n meta) last
+    ∙ ap (λ m. queue_bytes settings.order settings.page_size (queue_pages settings list) m) meta_is))) in
     record {
       sound = sound.verdict;
       size = image_length built Queue page image under ∙ (ap (λ n. n * built.size) pages ∙ ap (λ n. (1 + queue_pages settings list) * n) size);
@@ -76,58 +103,3 @@ queue_filed settings list empty added built meta count lent page image is =
           ∙ (ap (λ k. own_settings k settings.page_size settings.order settings) (sym is.kind) ∙ sym is.own)));
       list = ap (λ m. list_of (file_of image) (QueueFields m)) (sym meta_is) ∙ sound.listed_is;
     }
-  where
-    meta_is : meta ≡ queue_meta settings list
-    meta_is = is.queue.meta_is
-
-    order : built.order ≡ settings.order
-    order = is.queue.kept.order ∙ (ap (λ (b : Built). b.order) is.added_is ∙ is.order)
-
-    size : built.size ≡ settings.page_size
-    size = is.queue.kept.size ∙ (ap (λ (b : Built). b.size) is.added_is ∙ is.size)
-
-    pages : length built.pages ≡ 1 + queue_pages settings list
-    pages = is.queue.laid_out.count ∙ ap (λ (m : QueueMeta). 1 + queue_size m.per_page list) meta_is
-
-    some : 1 ≤ length built.pages
-    some = omega (arith, pages)
-
-    legal : AreLegal built
-    legal = record { legal = is.legal; some = some; few = omega (arith, is.count_is, is.few); whole = is.whole }
-
-    long : length lent ≡ built.size
-    long = ap length is.lent_is ∙ is.whole 0 (omega (arith, some))
-
-    spelled_as : page ≡ queue_bytes built.order built.size (length built.pages - 1) meta
-    spelled_as =
-        is.bytes
-        ∙ (ap (λ o. queue_bytes o (length lent) (count - 1) meta) (sym order)
-        ∙ (ap (λ s. queue_bytes built.order s (count - 1) meta) long ∙ ap (λ n. queue_bytes built.order built.size (n - 1) meta) is.count_is))
-
-    fills : length page ≡ built.size
-    fills =
-        ap length spelled_as
-        ∙ length-queue built.order built.size (length built.pages - 1) meta (omega (arith, (size_bounds built.size is.legal).0))
-
-    image_is : image ≡ joined_pages (with_page built 0 page).pages
-    image_is = is.image_is ∙ ap (λ (b : Built). joined_pages b.pages) (written_whole built 0 page is.whole (omega (arith, some)) fills)
-
-    under : IsUnderMeta built Queue page image
-    under = under_queue built page meta image legal spelled_as image_is
-
-    written : IsWrittenQueue built page meta image
-    written = record { pages = legal; bytes = spelled_as; fields = ap (λ o. queue_fields o page) order ∙ is.fields; image_is = image_is }
-
-    sound : IsSoundQueueOf image meta list
-    sound = written_queues_are_sound settings list added built meta page image is.queue written
-
-    last : length built.pages - 1 ≡ queue_pages settings list
-    last = omega (arith, pages)
-
-    first : page ≡ queue_first settings list
-    first =
-        spelled_as
-        ∙ (ap (λ o. queue_bytes o built.size (length built.pages - 1) meta) order
-        ∙ (ap (λ s. queue_bytes settings.order s (length built.pages - 1) meta) size
-        ∙ (ap (λ n. queue_bytes settings.order settings.page_size n meta) last
-        ∙ ap (λ m. queue_bytes settings.order settings.page_size (queue_pages settings list) m) meta_is)))

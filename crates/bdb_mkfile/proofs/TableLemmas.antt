@@ -77,6 +77,50 @@ pub record IsTableFiled (settings : Settings) (list : List Pair) (empty added bu
 pub table_filed : (settings : Settings) (list : List Pair) (empty added built : Built) (meta : HashMeta) (count elements : ℕ)
     (lent page image : List ℕ) → IsTableFiled settings list empty added built meta count elements lent page image → IsTableImage settings list image
 table_filed settings list empty added built meta count elements lent page image is =
+    let one : length added.pages ≡ 1 = (first_zero empty added is.none is.added_is).1 in
+    let added_size : added.size ≡ settings.page_size = ap (λ (b : Built). b.size) is.added_is ∙ is.size in
+    let order : built.order ≡ settings.order = is.table.kept.order ∙ (ap (λ (b : Built). b.order) is.added_is ∙ is.order) in
+    let size : built.size ≡ settings.page_size = is.table.kept.size ∙ added_size in
+    let meta_is : meta ≡ table_fields settings list =
+    is.table.fields
+    ∙ (ap (λ n. table_meta settings n (table_bits added.size (table_units list))) one
+    ∙ ap (λ s. table_meta settings 1 (table_bits s (table_units list))) added_size) in
+    let pages : length built.pages ≡ 1 + table_pages settings list =
+    is.table.count
+    ∙ (ap (λ n. n + table_size added.size settings.sorted (table_units list)) one
+    ∙ ap (λ s. 1 + table_size s settings.sorted (table_units list)) added_size) in
+    let some : 1 ≤ length built.pages = omega (arith, pages) in
+    let legal : AreLegal built = record { legal = is.legal; some = some; few = omega (arith, is.count_is, is.few); whole = is.whole } in
+    let long : length lent ≡ built.size = ap length is.lent_is ∙ is.whole 0 (omega (arith, some)) in
+    let spelled_as : page ≡ table_bytes built.order built.size 0 (length built.pages - 1) elements meta =
+    is.bytes
+    ∙ (ap (λ o. table_bytes o (length lent) 0 (count - 1) elements meta) (sym order)
+    ∙ (ap (λ s. table_bytes built.order s 0 (count - 1) elements meta) long
+    ∙ ap (λ n. table_bytes built.order built.size 0 (n - 1) elements meta) is.count_is)) in
+    let fields : hash_fields built.order page ≡ meta = ap (λ o. hash_fields o page) order ∙ is.fields in
+    let spares : length meta.spares ≡ 32 =
+    sym (ap (λ (m : HashMeta). length m.spares) fields) ∙ length-map-range_with_len (λ g. four_at built.order page (96 + 4 * g)) 0 32 in
+    let fills : length page ≡ built.size =
+    ap length spelled_as
+    ∙ length-table built.order built.size 0 (length built.pages - 1) elements meta (omega (arith, (size_bounds built.size is.legal).0)) spares in
+    let written : IsWrittenTable built page elements meta image = record {
+      pages = legal;
+      bytes = spelled_as;
+      fields = fields;
+      image_is = is.image_is ∙ ap (λ (b : Built). joined_pages b.pages) (written_whole built 0 page is.whole (omega (arith, some)) fills);
+    } in
+    let under : IsUnderMeta built Hash page image = under_table built page elements meta image written in
+    let both : IsSoundAlone image (table_part built meta (listed list)) × HasBuiltBuckets (file_of image) meta =
+    written_tables_are_sound settings added built (table_units list) (listed list) meta elements page image one is.table written in
+    let sound : IsSoundAlone image (table_part built meta (listed list)) = both.0 in
+    let last : length built.pages - 1 ≡ table_pages settings list = omega (arith, pages) in
+    let first : page ≡ table_first settings list =
+    spelled_as
+    ∙ (ap (λ o. table_bytes o built.size 0 (length built.pages - 1) elements meta) order
+    ∙ (ap (λ s. table_bytes settings.order s 0 (length built.pages - 1) elements meta) size
+    ∙ (ap (λ n. table_bytes settings.order settings.page_size 0 n elements meta) last
+    ∙ (ap (λ n. table_bytes settings.order settings.page_size 0 (table_pages settings list) n meta) is.elements_are
+    ∙ ap (λ m. table_bytes settings.order settings.page_size 0 (table_pages settings list) (length list) m) meta_is)))) in
     record {
       is = record {
         sound = sound.verdict;
@@ -93,84 +137,3 @@ table_filed settings list empty added built meta count elements lent page image 
       };
       buckets = subst (HasBuiltBuckets (file_of image)) meta_is both.1;
     }
-  where
-    one : length added.pages ≡ 1
-    one = (first_zero empty added is.none is.added_is).1
-
-    added_size : added.size ≡ settings.page_size
-    added_size = ap (λ (b : Built). b.size) is.added_is ∙ is.size
-
-    order : built.order ≡ settings.order
-    order = is.table.kept.order ∙ (ap (λ (b : Built). b.order) is.added_is ∙ is.order)
-
-    size : built.size ≡ settings.page_size
-    size = is.table.kept.size ∙ added_size
-
-    meta_is : meta ≡ table_fields settings list
-    meta_is =
-        is.table.fields
-        ∙ (ap (λ n. table_meta settings n (table_bits added.size (table_units list))) one
-        ∙ ap (λ s. table_meta settings 1 (table_bits s (table_units list))) added_size)
-
-    pages : length built.pages ≡ 1 + table_pages settings list
-    pages =
-        is.table.count
-        ∙ (ap (λ n. n + table_size added.size settings.sorted (table_units list)) one
-        ∙ ap (λ s. 1 + table_size s settings.sorted (table_units list)) added_size)
-
-    some : 1 ≤ length built.pages
-    some = omega (arith, pages)
-
-    legal : AreLegal built
-    legal = record { legal = is.legal; some = some; few = omega (arith, is.count_is, is.few); whole = is.whole }
-
-    long : length lent ≡ built.size
-    long = ap length is.lent_is ∙ is.whole 0 (omega (arith, some))
-
-    spelled_as : page ≡ table_bytes built.order built.size 0 (length built.pages - 1) elements meta
-    spelled_as =
-        is.bytes
-        ∙ (ap (λ o. table_bytes o (length lent) 0 (count - 1) elements meta) (sym order)
-        ∙ (ap (λ s. table_bytes built.order s 0 (count - 1) elements meta) long
-        ∙ ap (λ n. table_bytes built.order built.size 0 (n - 1) elements meta) is.count_is))
-
-    fields : hash_fields built.order page ≡ meta
-    fields = ap (λ o. hash_fields o page) order ∙ is.fields
-
-    spares : length meta.spares ≡ 32
-    spares =
-        sym (ap (λ (m : HashMeta). length m.spares) fields) ∙ length-map-range_with_len (λ g. four_at built.order page (96 + 4 * g)) 0 32
-
-    fills : length page ≡ built.size
-    fills =
-        ap length spelled_as
-        ∙ length-table built.order built.size 0 (length built.pages - 1) elements meta (omega (arith, (size_bounds built.size is.legal).0)) spares
-
-    written : IsWrittenTable built page elements meta image
-    written = record {
-      pages = legal;
-      bytes = spelled_as;
-      fields = fields;
-      image_is = is.image_is ∙ ap (λ (b : Built). joined_pages b.pages) (written_whole built 0 page is.whole (omega (arith, some)) fills);
-    }
-
-    under : IsUnderMeta built Hash page image
-    under = under_table built page elements meta image written
-
-    both : IsSoundAlone image (table_part built meta (listed list)) × HasBuiltBuckets (file_of image) meta
-    both = written_tables_are_sound settings added built (table_units list) (listed list) meta elements page image one is.table written
-
-    sound : IsSoundAlone image (table_part built meta (listed list))
-    sound = both.0
-
-    last : length built.pages - 1 ≡ table_pages settings list
-    last = omega (arith, pages)
-
-    first : page ≡ table_first settings list
-    first =
-        spelled_as
-        ∙ (ap (λ o. table_bytes o built.size 0 (length built.pages - 1) elements meta) order
-        ∙ (ap (λ s. table_bytes settings.order s 0 (length built.pages - 1) elements meta) size
-        ∙ (ap (λ n. table_bytes settings.order settings.page_size 0 n elements meta) last
-        ∙ (ap (λ n. table_bytes settings.order settings.page_size 0 (table_pages settings list) n meta) is.elements_are
-        ∙ ap (λ m. table_bytes settings.order settings.page_size 0 (table_pages settings list) (length list) m) meta_is))))

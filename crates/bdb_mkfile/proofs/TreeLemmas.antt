@@ -83,6 +83,69 @@ pub topped_image : (settings : Settings) (list : List Pair) (old built : Built) 
     → image ≡ joined_pages (with_page built 0 (btree_bytes built.order built.size 0 (length built.pages - 1) meta)).pages
     → IsTreeImage settings list image
 topped_image settings list old built root meta image is image_is =
+    let page : List ℕ = btree_bytes built.order built.size 0 (length built.pages - 1) meta in
+    let said : SaysSettings settings meta = says settings list old built root meta is in
+    let some : 1 ≤ length built.pages = omega (arith, is.tree.count) in
+    let low : 0 < length built.pages = omega (arith, some) in
+    let holds : HoldsTree built meta (listed list) = record {
+      part = λ g counted later.
+          is.tree.part g meta counted later
+          (ap (λ n. settings_of n built.order (BtreeFields meta)) is.size
+          ∙ (ap (λ o. settings_of settings.page_size o (BtreeFields meta)) is.order ∙ said.settings_are))
+          (ap (λ (m : BtreeMeta). m.root) is.meta_is);
+      formed = is.tree.formed;
+      no_free = ap (λ (m : BtreeMeta). m.free) is.meta_is;
+      no_master = said.no_master;
+    } in
+    let written : IsWritten built page meta image = record {
+      pages = record { legal = is.legal; some = some; few = is.few; whole = is.whole };
+      spells = record { bytes = refl; fields = is.fields; flags = said.no_row };
+      image_is = image_is;
+    } in
+    let alone : IsSoundAlone image (tree_part built meta (listed list)) = written_trees_are_sound built page meta (listed list) image holds written in
+    let head : HasHead (with_page built 0 page) image = (written_pages_are_read built page meta image written).0 in
+    let fills : length page ≡ built.size =
+    length-btree built.order built.size 0 (length built.pages - 1) meta (omega (arith, (size_bounds built.size is.legal).0)) in
+    let units : List TreeUnit = units_in settings.kind list in
+    let type : LeafType = leaf_type_of settings.kind in
+    let counted : Bool = is_counted settings.kind settings.recnum in
+    let meta_at : meta ≡ tree_meta settings 1 = is.meta_is ∙ ap (tree_meta settings) is.tree.root_is in
+    let after : Built = with_page built 0 page in
+    let count : length after.pages ≡ length built.pages = length-set built.pages 0 page in
+    -- the pages above page 0 stand in the image
+    let kept : IsCounted (file_of image) × IsLater (between 1 (length built.pages)) (file_so_far built) (file_of image) =
+    subst (λ g. IsCounted g × IsLater (between 1 (length built.pages)) (file_so_far built) g)
+    (sym (written_pages_are_read built page meta image written).1) (
+      counted_so_far after (omega (arith, count, some)),
+      later_before built after (between 1 (length built.pages)) (between 1 (length built.pages)) (file_so_far after) refl (omega (arith, count))
+          (λ p at. at)
+          (λ p at. let within = between_is 1 (length built.pages) p at in (within.1, above_stay built page p within.0))
+          (later_self after (between 1 (length built.pages))),
+    ) in
+    let has_pages : HasPagesOf built (between 1 (length built.pages)) image = record {
+      counted = kept.0;
+      later = kept.1;
+      order = head.tells.order;
+      same = λ p at there.
+          page_read after image (head_of image) p (page_whole built 0 page is.whole low fills) image_is head.tells.size (omega (arith, there, count))
+          ∙ above_stay built page p (between_is 1 (length built.pages) p at).0;
+    } in
+    let last : length built.pages - 1 ≡ tree_pages settings list = omega (arith, is.tree.count, ap (λ n. tree_size type n settings.sorted units) is.size) in
+    let first : take settings.page_size image ≡ tree_first settings list =
+    let begun = begins built.pages page some in
+    ap (λ n. take n image) (sym is.size)
+    ∙ (ap (take built.size) (image_is ∙ begun.1)
+    ∙ (take_at page begun.0 built.size fills
+    ∙ (ap (λ o. btree_bytes o built.size 0 (length built.pages - 1) meta) is.order
+    ∙ (ap (λ n. btree_bytes settings.order n 0 (length built.pages - 1) meta) is.size
+    ∙ (ap (λ n. btree_bytes settings.order settings.page_size 0 n meta) last
+    ∙ ap (btree_bytes settings.order settings.page_size 0 (tree_pages settings list)) meta_at))))) in
+    let long : length image
+    ≡ (1 + tree_size (leaf_type_of settings.kind) settings.page_size settings.sorted (units_in settings.kind list)) * settings.page_size =
+    ap length image_is
+    ∙ ((all_size built.size (with_page built 0 page).pages (page_whole built 0 page is.whole low fills)).1
+    ∙ (ap (λ n. n * built.size) (length-set built.pages 0 page ∙ is.tree.count)
+    ∙ ap (λ n. (1 + tree_size (leaf_type_of settings.kind) n settings.sorted (units_in settings.kind list)) * n) is.size)) in
     record {
       sound = alone.verdict;
       size = long;
@@ -99,108 +162,6 @@ topped_image settings list old built root meta image is image_is =
           ∙ (ap (λ o. settings_of settings.page_size o (BtreeFields meta)) (head.tells.order ∙ is.order) ∙ said.settings_are);
       list = alone.list;
     }
-  where
-    page : List ℕ
-    page = btree_bytes built.order built.size 0 (length built.pages - 1) meta
-
-    said : SaysSettings settings meta
-    said = says settings list old built root meta is
-
-    some : 1 ≤ length built.pages
-    some = omega (arith, is.tree.count)
-
-    low : 0 < length built.pages
-    low = omega (arith, some)
-
-    holds : HoldsTree built meta (listed list)
-    holds = record {
-      part = λ g counted later.
-          is.tree.part g meta counted later
-          (ap (λ n. settings_of n built.order (BtreeFields meta)) is.size
-          ∙ (ap (λ o. settings_of settings.page_size o (BtreeFields meta)) is.order ∙ said.settings_are))
-          (ap (λ (m : BtreeMeta). m.root) is.meta_is);
-      formed = is.tree.formed;
-      no_free = ap (λ (m : BtreeMeta). m.free) is.meta_is;
-      no_master = said.no_master;
-    }
-
-    written : IsWritten built page meta image
-    written = record {
-      pages = record { legal = is.legal; some = some; few = is.few; whole = is.whole };
-      spells = record { bytes = refl; fields = is.fields; flags = said.no_row };
-      image_is = image_is;
-    }
-
-    alone : IsSoundAlone image (tree_part built meta (listed list))
-    alone = written_trees_are_sound built page meta (listed list) image holds written
-
-    head : HasHead (with_page built 0 page) image
-    head = (written_pages_are_read built page meta image written).0
-
-    fills : length page ≡ built.size
-    fills = length-btree built.order built.size 0 (length built.pages - 1) meta (omega (arith, (size_bounds built.size is.legal).0))
-
-    units : List TreeUnit
-    units = units_in settings.kind list
-
-    type : LeafType
-    type = leaf_type_of settings.kind
-
-    counted : Bool
-    counted = is_counted settings.kind settings.recnum
-
-    meta_at : meta ≡ tree_meta settings 1
-    meta_at = is.meta_is ∙ ap (tree_meta settings) is.tree.root_is
-
-    after : Built
-    after = with_page built 0 page
-
-    count : length after.pages ≡ length built.pages
-    count = length-set built.pages 0 page
-
-    -- the pages above page 0 stand in the image
-    kept : IsCounted (file_of image) × IsLater (between 1 (length built.pages)) (file_so_far built) (file_of image)
-    kept =
-        subst (λ g. IsCounted g × IsLater (between 1 (length built.pages)) (file_so_far built) g)
-        (sym (written_pages_are_read built page meta image written).1) (
-          counted_so_far after (omega (arith, count, some)),
-          later_before built after (between 1 (length built.pages)) (between 1 (length built.pages)) (file_so_far after) refl (omega (arith, count))
-              (λ p at. at)
-              (λ p at. let within = between_is 1 (length built.pages) p at in (within.1, above_stay built page p within.0))
-              (later_self after (between 1 (length built.pages))),
-        )
-
-    has_pages : HasPagesOf built (between 1 (length built.pages)) image
-    has_pages = record {
-      counted = kept.0;
-      later = kept.1;
-      order = head.tells.order;
-      same = λ p at there.
-          page_read after image (head_of image) p (page_whole built 0 page is.whole low fills) image_is head.tells.size (omega (arith, there, count))
-          ∙ above_stay built page p (between_is 1 (length built.pages) p at).0;
-    }
-
-    last : length built.pages - 1 ≡ tree_pages settings list
-    last = omega (arith, is.tree.count, ap (λ n. tree_size type n settings.sorted units) is.size)
-
-    first : take settings.page_size image ≡ tree_first settings list
-    first =
-        let begun = begins built.pages page some in
-        ap (λ n. take n image) (sym is.size)
-        ∙ (ap (take built.size) (image_is ∙ begun.1)
-        ∙ (take_at page begun.0 built.size fills
-        ∙ (ap (λ o. btree_bytes o built.size 0 (length built.pages - 1) meta) is.order
-        ∙ (ap (λ n. btree_bytes settings.order n 0 (length built.pages - 1) meta) is.size
-        ∙ (ap (λ n. btree_bytes settings.order settings.page_size 0 n meta) last
-        ∙ ap (btree_bytes settings.order settings.page_size 0 (tree_pages settings list)) meta_at)))))
-
-    long : length image
-        ≡ (1 + tree_size (leaf_type_of settings.kind) settings.page_size settings.sorted (units_in settings.kind list)) * settings.page_size
-    long =
-        ap length image_is
-        ∙ ((all_size built.size (with_page built 0 page).pages (page_whole built 0 page is.whole low fills)).1
-        ∙ (ap (λ n. n * built.size) (length-set built.pages 0 page ∙ is.tree.count)
-        ∙ ap (λ n. (1 + tree_size (leaf_type_of settings.kind) n settings.sorted (units_in settings.kind list)) * n) is.size))
 
 -- page 0 is a zero page still
 pub still_zero : (old built : Built) → IsTrue (is_zero (bytes_of old 0)) → bytes_of built 0 ≡ bytes_of old 0 → IsTrue (is_zero (bytes_of built 0))

@@ -70,6 +70,8 @@ dealt_more : (bits : ℕ) (done : List Keyed) (unit : Keyed) → bucket_among bi
     → set (buckets_of bits done) (bucket_among bits unit.key) (dealt bits done (bucket_among bits unit.key) ++ (unit ∷ []))
     ≡ buckets_of bits (done ++ (unit ∷ []))
 dealt_more bits done unit low =
+    let n : ℕ = 2 ^ bits in
+    let b : ℕ = bucket_among bits unit.key in
     same_lists _ _
     (length-set (buckets_of bits done) b (dealt bits done b ++ (unit ∷ []))
     ∙ (length-map-range_with_len (dealt bits done) 0 n ∙ sym (length-map-range_with_len (dealt bits (done ++ (unit ∷ []))) 0 n)))
@@ -93,12 +95,6 @@ dealt_more bits done unit low =
           ∙ (before ∙ sym (after ∙ (grown ∙ (ap (λ t. dealt bits done k ++ cond t (unit ∷ []) []) (ne_eqb b k other) ∙ append-nil
           (dealt bits done k)))))
     ])
-  where
-    n : ℕ
-    n = 2 ^ bits
-
-    b : ℕ
-    b = bucket_among bits unit.key
 
 pub one_dealt : (bits : ℕ) (all left : List Keyed) (unit : Keyed) (old new : List (List Keyed)) → AreDealt bits all (unit ∷ left) old
     → bucket_among bits unit.key < 2 ^ bits

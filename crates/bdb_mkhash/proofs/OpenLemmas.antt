@@ -69,6 +69,11 @@ holds_kept old new p previous next contents order same holds = grind arith
 pub bucket_begun : (p : ℕ) (old now : Built) (sorted : Bool) (units : List Keyed) (n : ℕ) → p < length old.pages → HoldsContentsOn old p 0 0 []
     → IsPageFilled p old now sorted units n → IsBucketOpen p old now sorted units p n
 bucket_begun p old now sorted units n there empty filled =
+    let grows : length old.pages ≤ length now.pages = filled.put.kept.grows in
+    let room_size : ℕ = page_room old.size in
+    let cost : Keyed → ℕ = keyed_cost old.size in
+    let taken : room_on now p + sum_by cost (take n units) ≡ room_size = filled.put.room in
+    let room : room_on now p + sum_by cost (map unit_of filled.put.placed) ≡ room_size = ap (λ us. room_on now p + sum_by cost us) filled.put.are ∙ taken in
     record {
       few = filled.few;
       kept = filled.put.kept;
@@ -99,21 +104,6 @@ bucket_begun p old now sorted units n there empty filled =
       full = filled.full;
       count = let count = filled.put.count in omega (arith, count);
     }
-  where
-    grows : length old.pages ≤ length now.pages
-    grows = filled.put.kept.grows
-
-    room_size : ℕ
-    room_size = page_room old.size
-
-    cost : Keyed → ℕ
-    cost = keyed_cost old.size
-
-    taken : room_on now p + sum_by cost (take n units) ≡ room_size
-    taken = filled.put.room
-
-    room : room_on now p + sum_by cost (map unit_of filled.put.placed) ≡ room_size
-    room = ap (λ us. room_on now p + sum_by cost us) filled.put.are ∙ taken
 
 -- The next page.
 
@@ -362,6 +352,9 @@ module _ (p : ℕ) (old now mid new : Built) (sorted : Bool) (units : List Keyed
 pub bucket_done : (p : ℕ) (old new : Built) (sorted : Bool) (units : List Keyed) (current done : ℕ) → p < length old.pages
     → IsBucketOpen p old new sorted units current done → done ≡ length units → IsBucketFilled p old new sorted units
 bucket_done p old new sorted units current done low is all =
+    let a : ℕ = length old.pages in
+    let d : ℕ = length new.pages in
+    let grows : a ≤ d = is.kept.grows in
     record {
       kept = is.kept;
       pages = is.closed ++ (is.last ∷ []);
@@ -401,12 +394,3 @@ bucket_done p old new sorted units current done low is all =
           ap (sum_by (keyed_own_pages old.size sorted)) (take_all done units (omega (arith, all))) in
           omega (arith, count, whole, length-append is.closed (is.last ∷ []));
     }
-  where
-    a : ℕ
-    a = length old.pages
-
-    d : ℕ
-    d = length new.pages
-
-    grows : a ≤ d
-    grows = is.kept.grows

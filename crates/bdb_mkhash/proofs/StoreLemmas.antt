@@ -388,6 +388,11 @@ takes_tree old mid p sorted values root page form set small room =
 pub tree_put : (p : ℕ) (old mid new : Built) (sorted : Bool) (values : List (List ℕ)) (root : ℕ) → p < length old.pages
     → data_form old.size values ≡ OffPage → IsSetBuilt old mid sorted values root → IsGrown p mid new (Tree root) → AreDataPut p old new sorted values
 tree_put p old mid new sorted values root low form set grown =
+    let tree_later : (g : File) → IsLater (between (length old.pages) (length new.pages)) (file_so_far new) g
+    → IsLater (between (length old.pages) (length mid.pages)) (file_so_far mid) g = λ g later.
+    let count = grown.count in
+    later_of p (length old.pages) (length mid.pages) mid new (between (length old.pages) (length new.pages)) g grown.kept low (omega arith)
+    (λ q from under. is_between (length old.pages) (length new.pages) q from (omega (arith, under, count))) later in
     let count = grown.count in
     record {
       kept = keeps_both p old mid new set.kept grown.kept;
@@ -413,13 +418,6 @@ tree_put p old mid new sorted values root low form set grown =
           ∙ set.formed q from (omega (arith, under, count)));
       count = count ∙ (set.count ∙ ap (λ f. length old.pages + pages_in f old.size sorted values) (sym form));
     }
-  where
-    tree_later : (g : File) → IsLater (between (length old.pages) (length new.pages)) (file_so_far new) g
-        → IsLater (between (length old.pages) (length mid.pages)) (file_so_far mid) g
-    tree_later g later =
-        let count = grown.count in
-        later_of p (length old.pages) (length mid.pages) mid new (between (length old.pages) (length new.pages)) g grown.kept low (omega arith)
-        (λ q from under. is_between (length old.pages) (length new.pages) q from (omega (arith, under, count))) later
 
 -- A key with its data.
 
@@ -457,6 +455,20 @@ room_left p old mid unit page put room =
 pub unit_put : (p : ℕ) (old mid new : Built) (sorted : Bool) (unit : Keyed) → p < length old.pages → (put : IsValuePut p old mid unit.key)
     → AreDataPut p mid new sorted unit.values → IsUnitPut p old new sorted unit
 unit_put p old mid new sorted unit low put data' =
+    let kept_key : KeepsOthers p old mid = keeps_both p old put.between mid put.stored.item.kept put.grown.kept in
+    let placed : PlacedUnit = record { unit = unit; key_item = put.content; data_item = data'.content; beyond = length new.pages } in
+    let key_later : (g : File) → IsLater (between (length old.pages) (length new.pages)) (file_so_far new) g
+    → IsLater (between (length old.pages) (length mid.pages)) (file_so_far mid) g = λ g later.
+    let more = data'.kept.grows in
+    later_of p (length old.pages) (length mid.pages) mid new (between (length old.pages) (length new.pages)) g data'.kept low (omega arith)
+    (λ q from under. is_between (length old.pages) (length new.pages) q from (omega (arith, under, more))) later in
+    let data_later : (g : File) → IsLater (between (length old.pages) (length new.pages)) (file_so_far new) g
+    → IsLater (between (length mid.pages) (length new.pages)) (file_so_far new) g = λ g later.
+    let grows = kept_key.grows in
+    later_before new new (between (length mid.pages) (length new.pages)) (between (length old.pages) (length new.pages)) g refl (omega arith)
+    (λ q at. let is = between_is (length mid.pages) (length new.pages) q at in is_between (length old.pages) (length new.pages) q
+    (omega (arith, is.0, grows)) is.1)
+    (λ q at. ((between_is (length mid.pages) (length new.pages) q at).1, refl)) later in
     let grows = kept_key.grows in
     let more = data'.kept.grows in
     let size = kept_key.size in
@@ -501,25 +513,3 @@ unit_put p old mid new sorted unit low put data' =
           ap (λ n. pages_in (data_form n unit.values) n sorted unit.values) size in
           omega (arith, one, two, same);
     }
-  where
-    kept_key : KeepsOthers p old mid
-    kept_key = keeps_both p old put.between mid put.stored.item.kept put.grown.kept
-
-    placed : PlacedUnit
-    placed = record { unit = unit; key_item = put.content; data_item = data'.content; beyond = length new.pages }
-
-    key_later : (g : File) → IsLater (between (length old.pages) (length new.pages)) (file_so_far new) g
-        → IsLater (between (length old.pages) (length mid.pages)) (file_so_far mid) g
-    key_later g later =
-        let more = data'.kept.grows in
-        later_of p (length old.pages) (length mid.pages) mid new (between (length old.pages) (length new.pages)) g data'.kept low (omega arith)
-        (λ q from under. is_between (length old.pages) (length new.pages) q from (omega (arith, under, more))) later
-
-    data_later : (g : File) → IsLater (between (length old.pages) (length new.pages)) (file_so_far new) g
-        → IsLater (between (length mid.pages) (length new.pages)) (file_so_far new) g
-    data_later g later =
-        let grows = kept_key.grows in
-        later_before new new (between (length mid.pages) (length new.pages)) (between (length old.pages) (length new.pages)) g refl (omega arith)
-        (λ q at. let is = between_is (length mid.pages) (length new.pages) q at in is_between (length old.pages) (length new.pages) q
-        (omega (arith, is.0, grows)) is.1)
-        (λ q at. ((between_is (length mid.pages) (length new.pages) q at).1, refl)) later

@@ -288,27 +288,19 @@ finished_trees_are_laid leaves old new counted before closed units root filled o
 -- The pages that stood.
 
 pub finished_trees_keep_pages : FinishedTreesKeepPages
-finished_trees_keep_pages leaves old new counted closed units root on = (
-  λ pages among.
-      later_before old mid pages pages (file_so_far new) on.moved.order (omega (arith, more)) (λ p is. is)
-      (λ p is. let at = among p is in (at.0, same p at.0 at.1))
-      (on.tower.later pages (λ p is. let at = among p is in (omega (arith, at.0, more), apart p (first_leaf leaves) at.1 two.0))),
-  λ p low none.
-      on.tower.form_kept p (omega (arith, low, more)) (apart p (first_leaf leaves) none two.0)
-      ∙ (ap (λ o. page_code o p (bytes_of mid p)) on.moved.order ∙ ap (page_code old.order p) (same p low none)),
-)
-  where
-    mid : Built
-    mid = on.between
-
-    more : length mid.pages ≡ length old.pages + 1
-    more = on.moved.count
-
-    two : Contains (numbers_of leaves) (first_leaf leaves) × Contains (numbers_of leaves) (second_leaf leaves)
-    two = first_two leaves on.several
-
-    apart : (p q : ℕ) → is_of (numbers_of leaves) p ≡ false → Contains (numbers_of leaves) q → p ≡ q → ⊥
-    apart p q none at e = true≢false (sym (is_one (numbers_of leaves) p (subst (Contains (numbers_of leaves)) (sym e) at)) ∙ none)
-
-    same : (p : ℕ) → p < length old.pages → is_of (numbers_of leaves) p ≡ false → bytes_of mid p ≡ bytes_of old p
-    same p low none = on.moved.same p low (apart p (first_leaf leaves) none two.0) (apart p (second_leaf leaves) none two.1)
+finished_trees_keep_pages leaves old new counted closed units root on =
+    let mid : Built = on.between in
+    let more : length mid.pages ≡ length old.pages + 1 = on.moved.count in
+    let two : Contains (numbers_of leaves) (first_leaf leaves) × Contains (numbers_of leaves) (second_leaf leaves) = first_two leaves on.several in
+    let apart : (p q : ℕ) → is_of (numbers_of leaves) p ≡ false → Contains (numbers_of leaves) q → p ≡ q → ⊥ = λ p q none at e.
+    true≢false (sym (is_one (numbers_of leaves) p (subst (Contains (numbers_of leaves)) (sym e) at)) ∙ none) in
+    let same : (p : ℕ) → p < length old.pages → is_of (numbers_of leaves) p ≡ false → bytes_of mid p ≡ bytes_of old p = λ p low none.
+    on.moved.same p low (apart p (first_leaf leaves) none two.0) (apart p (second_leaf leaves) none two.1) in (
+      λ pages among.
+          later_before old mid pages pages (file_so_far new) on.moved.order (omega (arith, more)) (λ p is. is)
+          (λ p is. let at = among p is in (at.0, same p at.0 at.1))
+          (on.tower.later pages (λ p is. let at = among p is in (omega (arith, at.0, more), apart p (first_leaf leaves) at.1 two.0))),
+      λ p low none.
+          on.tower.form_kept p (omega (arith, low, more)) (apart p (first_leaf leaves) none two.0)
+          ∙ (ap (λ o. page_code o p (bytes_of mid p)) on.moved.order ∙ ap (page_code old.order p) (same p low none)),
+    )

@@ -33,7 +33,7 @@ use Rattle.bdb_pack.proofs.BegunLemmas.{begun_stays}
 use Rattle.bdb_pack.proofs.CutLemmas.{written_whole}
 use Rattle.bdb_pack.proofs.FormLemmas.{begun_is_formed}
 use Rattle.bdb_pack.proofs.HeaderLemmas.{begun_pages_take_items, header_read, length-header}
-use Rattle.bdb_pack.proofs.OpenLemmas.{length-recno, open_is}
+use Rattle.bdb_pack.proofs.OpenLemmas.{recno_length, open_is}
 use Rattle.bdb_pack.proofs.PlaceLemmas.{behind, byte_same, drop_same, number_before, number_here, number_same}
 use Rattle.bdb_pack.proofs.PlacedLemmas.{IsPlaced, is_below}
 use Rattle.bdb_pack.proofs.PlacingLaws.{items_are_placed}
@@ -126,13 +126,13 @@ keyed_cost order child count Unknown fits = absurd fits
 pub item_cost_is : (inner : InnerType) (order : Order) (node : Node) → ShapeOf inner node
     → 2 + pad4 (length (item_bytes order (child_item inner node.key node))) ≡ child_cost inner node
 item_cost_is Keyed order node fits = keyed_cost order node.page node.count node.key fits
-item_cost_is Numbered order node fits = ap (λ n. 2 + pad4 n) (length-recno order (numbered_item node))
+item_cost_is Numbered order node fits = ap (λ n. 2 + pad4 n) (recno_length order (numbered_item node))
 
 -- the first node may have any key
 pub first_cost_is : (inner : InnerType) (order : Order) (node : Node) → 2 + pad4 (length (item_bytes order (child_item inner (Inline []) node)))
     ≡ first_cost inner
 first_cost_is Keyed order node = keyed_cost order node.page node.count (Inline []) tt
-first_cost_is Numbered order node = ap (λ n. 2 + pad4 n) (length-recno order (numbered_item node))
+first_cost_is Numbered order node = ap (λ n. 2 + pad4 n) (recno_length order (numbered_item node))
 
 shape_written : (inner : InnerType) (node : Node) → IsWritable (child_item inner node.key node) → ShapeOf inner node
 shape_written Keyed node fits = shape_of_key node.key fits.0
@@ -262,19 +262,15 @@ keyed_read : (order : Order) (bytes : List ℕ) (page : Listed InternalItem) →
     ≡ Internal page
     → IsRead order bytes page
 keyed_read order bytes page long type is =
+    let inside : (a b : Listed InternalItem) → Internal a ≡ Internal b → a ≡ b = λ a b same. cc in
     is_read order bytes page (internal_item_at order bytes) (inside _ _ (sym (typed order bytes 3 long refl type) ∙ is))
-  where
-    inside : (a b : Listed InternalItem) → Internal a ≡ Internal b → a ≡ b
-    inside a b same = cc
 
 numbered_read : (order : Order) (bytes : List ℕ) (page : Listed RecnoItem) → 25 < length bytes → byte_at bytes 25 ≡ 4 → abstract_page order bytes
     ≡ RecnoInternal page
     → IsRead order bytes page
 numbered_read order bytes page long type is =
+    let inside : (a b : Listed RecnoItem) → RecnoInternal a ≡ RecnoInternal b → a ≡ b = λ a b same. cc in
     is_read order bytes page (recno_item_at order bytes) (inside _ _ (sym (typed order bytes 4 long refl type) ∙ is))
-  where
-    inside : (a b : Listed RecnoItem) → RecnoInternal a ≡ RecnoInternal b → a ≡ b
-    inside a b same = cc
 
 length-keyed : (nodes : List Node) → length (keyed_items nodes) ≡ length nodes
 length-keyed [] = refl

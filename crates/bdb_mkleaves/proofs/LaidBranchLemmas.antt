@@ -277,24 +277,21 @@ key_long type g leaf key fit (inr first) =
 keys_stand : (type : LeafType) (g : File) (rest : ℕ → Bool) (placed : List LeafUnits) (nodes : List Node) (above : List (List Node)) (root : Node)
     → IsTreeLaid type g rest placed nodes above root → (inner : InnerType) → inner_of type ≡ inner
     → KeysStand inner g (with_leaves rest placed) nodes × All (KeyHasLength inner g) nodes
-keys_stand type g rest placed nodes above root laid Keyed keyed = (
-  (
-    of_leaves (IsNodeOf type) (IsIn type g rest placed) (λ node. KeyStands g (with_leaves rest placed) node.key)
-        (λ leaf node is at. key_stands type g rest placed nodes above root laid leaf at node.key (first leaf node is))
-        placed nodes laid.nodes_are all,
-    λ h. omega (arith, heads_of_nodes type placed nodes h keyed laid.nodes_are, ascend_once 0 h (held_by_leaves type placed) laid.held),
-  ),
-  of_leaves (IsNodeOf type) (IsIn type g rest placed) (KeyHasLength Keyed g)
-      (λ leaf node is at. key_long type g leaf node.key at.fit (first leaf node is))
-      placed nodes laid.nodes_are all,
-)
-  where
-    all : All (IsIn type g rest placed) placed
-    all = all_in type g rest placed nodes above root laid
-
-    first : (leaf : LeafUnits) (node : Node) → IsNodeOf type leaf node
-        → ((bytes : List ℕ) × (node.key ≡ Inline bytes)) ⊎ IsFirst type (entries_on leaf) node.key
-    first leaf node is = key_first type leaf.units node.key (subst (λ inner. IsKeyOf inner (entries_on leaf) node.key) keyed is.key)
+keys_stand type g rest placed nodes above root laid Keyed keyed =
+    let all : All (IsIn type g rest placed) placed = all_in type g rest placed nodes above root laid in
+    let first : (leaf : LeafUnits) (node : Node) → IsNodeOf type leaf node
+    → ((bytes : List ℕ) × (node.key ≡ Inline bytes)) ⊎ IsFirst type (entries_on leaf) node.key = λ leaf node is.
+    key_first type leaf.units node.key (subst (λ inner. IsKeyOf inner (entries_on leaf) node.key) keyed is.key) in (
+      (
+        of_leaves (IsNodeOf type) (IsIn type g rest placed) (λ node. KeyStands g (with_leaves rest placed) node.key)
+            (λ leaf node is at. key_stands type g rest placed nodes above root laid leaf at node.key (first leaf node is))
+            placed nodes laid.nodes_are all,
+        λ h. omega (arith, heads_of_nodes type placed nodes h keyed laid.nodes_are, ascend_once 0 h (held_by_leaves type placed) laid.held),
+      ),
+      of_leaves (IsNodeOf type) (IsIn type g rest placed) (KeyHasLength Keyed g)
+          (λ leaf node is at. key_long type g leaf node.key at.fit (first leaf node is))
+          placed nodes laid.nodes_are all,
+    )
 keys_stand type g rest placed nodes above root laid Numbered numbered = (tt, λ k d low. tt)
 
 -- The levels over the leaves.
@@ -310,6 +307,11 @@ of_level type g leaf node is holds = grind (arith, at_bottom, right_type)
 
 pub laid_trees_are_branches : LaidTreesAreBranches
 laid_trees_are_branches type g rest placed nodes above root laid =
+    let same : map (λ (node : Node). node.page) nodes ≡ pages_of placed = node_pages type placed nodes laid.nodes_are in
+    let branch : IsBranch g (with_leaves rest placed) (map (λ (node : Node). node.page) nodes) =
+    subst (IsBranch g (with_leaves rest placed)) (sym same) (leaves_branch type g rest placed nodes above root laid) in
+    let keys : KeysStand (inner_of type) g (with_leaves rest placed) nodes × All (KeyHasLength (inner_of type) g) nodes =
+    keys_stand type g rest placed nodes above root laid (inner_of type) refl in
     towers_are_branches (inner_of type) g (with_leaves rest placed) 1 nodes above root
     (record {
       tower = laid.tower;
@@ -330,12 +332,3 @@ laid_trees_are_branches type g rest placed nodes above root laid =
       apart = λ p. omega (arith, laid.apart p, count-append p (pages_of placed) (level_pages above));
     })
     keys.1 branch
-  where
-    same : map (λ (node : Node). node.page) nodes ≡ pages_of placed
-    same = node_pages type placed nodes laid.nodes_are
-
-    branch : IsBranch g (with_leaves rest placed) (map (λ (node : Node). node.page) nodes)
-    branch = subst (IsBranch g (with_leaves rest placed)) (sym same) (leaves_branch type g rest placed nodes above root laid)
-
-    keys : KeysStand (inner_of type) g (with_leaves rest placed) nodes × All (KeyHasLength (inner_of type) g) nodes
-    keys = keys_stand type g rest placed nodes above root laid (inner_of type) refl

@@ -232,6 +232,13 @@ no_groups leaves built (units ∷ closed) entries none hold =
 pub leaf_rooted : (leaves : Leaves) (built : Built) (counted : Bool) (before : ℕ) (closed : List (List Placed)) (units : List Placed)
     → leaves.closed.items ≡ [] → AreWhole built → AreFilled leaves built before closed units → IsOneLeaf leaves built built counted closed units
 leaf_rooted leaves built counted before closed units none whole filled =
+    let units_of_last : AreFilled leaves built before closed units → Fills leaves.leaf_type built.size before built units = λ filled. record {
+      sizes = all_right (IsPlacedBySize built.size) (flat_map (λ leaf. leaf) closed) units filled.sizes;
+      heads = all_right (CountsOneFrom before built) (flat_map (unit_contents leaves.leaf_type) (flat_map (λ leaf. leaf) closed))
+          (flat_map (unit_contents leaves.leaf_type) units)
+          (subst (All (CountsOneFrom before built))
+          (flat_map-append (unit_contents leaves.leaf_type) (flat_map (λ leaf. leaf) closed) units) filled.heads);
+    } in
     record {
       numbers = none;
       closed_is = no_groups leaves built closed (flat_map entries_of units) none filled.hold;
@@ -242,15 +249,6 @@ leaf_rooted leaves built counted before closed units none whole filled =
       counts = leaves_counted counted leaves.leaf_type (leaves.last ∷ []) (units ∷ []);
     }
   where
-    units_of_last : AreFilled leaves built before closed units → Fills leaves.leaf_type built.size before built units
-    units_of_last filled = record {
-      sizes = all_right (IsPlacedBySize built.size) (flat_map (λ leaf. leaf) closed) units filled.sizes;
-      heads = all_right (CountsOneFrom before built) (flat_map (unit_contents leaves.leaf_type) (flat_map (λ leaf. leaf) closed))
-          (flat_map (unit_contents leaves.leaf_type) units)
-          (subst (All (CountsOneFrom before built))
-          (flat_map-append (unit_contents leaves.leaf_type) (flat_map (λ leaf. leaf) closed) units) filled.heads);
-    }
-
     begins_or_none : (us : List Placed) → Fills leaves.leaf_type built.size before built us
         → (us ≡ []) ⊎ Begins built.size before built (flat_map entries_of us)
     begins_or_none [] fills = inl refl

@@ -142,6 +142,8 @@ pub next_pair : (leaves : Leaves) (old now one new : Built) (key first value : L
     → ArePairsPut leaves old now key first values → IsGrown leaves now one shared_key → length one.pages ≡ length now.pages
     → IsPut leaves one new value false → ArePairsPut leaves old new key first (values ++ (value ∷ []))
 next_pair leaves old now one new key first value values has so_far grown count put =
+    let map_held : Item → Item → List ValueItem → List (Content × List ℕ) = λ key_item first_item others.
+    (key_item.content, key) ∷ (first_item.content, first) ∷ map held_by_item others in
     let some : AreSomeLeaves leaves old = record { closed = has.closed; entries = has.entries; hold = has.hold } in
     let there = has.hold.there in
     let again = key_again leaves old now one so_far.key_item so_far.first_item so_far.others _ there so_far.run grown count some in
@@ -170,9 +172,6 @@ next_pair leaves old now one new key first value values has so_far grown count p
           (sym (map-append held_by_item so_far.others (datum ∷ []))))
           (runs_follow leaves old one new _ _ _ _ there again.kept.size again run));
     }
-  where
-    map_held : Item → Item → List ValueItem → List (Content × List ℕ)
-    map_held key_item first_item others = (key_item.content, key) ∷ (first_item.content, first) ∷ map held_by_item others
 
 -- The room that is left.
 

@@ -30,6 +30,7 @@ linked_nodes : (inner : InnerType) (order : Order) (page new : List ℕ) (p leve
     → HasLinks order page new number before after → HoldsChildren inner order page p level nodes → byte_at new 25 ≡ inner_number inner
     → 25 < length page → 25 < length new → HasNodes inner (abstract_page order new) nodes
 linked_nodes Keyed order page new p level number before after nodes is holds type long long_new =
+    let inside : (a b : Listed InternalItem) → Internal a ≡ Internal b → a ≡ b = λ a b e. cc in
     let (l, page_is, items) = holds.is in
     let read : listed order page (internal_item_at order page) ≡ l = inside _ _ (sym (typed order page 3 long refl holds.type_is) ∙ page_is) in
     let same : (k : ℕ) → k < entries_of order page → internal_item_at order new k ≡ internal_item_at order page k =
@@ -42,10 +43,8 @@ linked_nodes Keyed order page new p level number before after nodes is holds typ
           ∙ ap (λ m. with_links m number before after) read),
       items,
     )
-  where
-    inside : (a b : Listed InternalItem) → Internal a ≡ Internal b → a ≡ b
-    inside a b e = cc
 linked_nodes Numbered order page new p level number before after nodes is holds type long long_new =
+    let inside : (a b : Listed RecnoItem) → RecnoInternal a ≡ RecnoInternal b → a ≡ b = λ a b e. cc in
     let (l, page_is, items) = holds.is in
     let read : listed order page (recno_item_at order page) ≡ l = inside _ _ (sym (typed order page 4 long refl holds.type_is) ∙ page_is) in
     let same : (k : ℕ) → k < entries_of order page → recno_item_at order new k ≡ recno_item_at order page k =
@@ -58,9 +57,6 @@ linked_nodes Numbered order page new p level number before after nodes is holds 
           ∙ ap (λ m. with_links m number before after) read),
       items,
     )
-  where
-    inside : (a b : Listed RecnoItem) → RecnoInternal a ≡ RecnoInternal b → a ≡ b
-    inside a b e = cc
 
 -- its number changes
 renumbered : (inner : InnerType) (order : Order) (page : List ℕ) (p level number : ℕ) (nodes : List Node) → number < 2 ^ 32

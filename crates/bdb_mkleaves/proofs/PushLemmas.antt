@@ -46,14 +46,12 @@ some_units leaves built cost before closed (unit ∷ units) filled whole test fi
 pub whole_units : (g : File) (units : List Placed) → All (StandsPlaced Pairs g) units → length (flat_map entries_of units) % 2 ≡ 0
 whole_units g [] stand = refl
 whole_units g (unit ∷ units) stand =
+    let both : (n m : ℕ) → n % 2 ≡ 0 → m % 2 ≡ 0 → (n + m) % 2 ≡ 0 = λ n m one two. omega (arith, one, two) in
     let one = whole_unit unit (stand 0 unit (omega arith)) in
     let rest = whole_units g units (λ k d low. stand (suc k) d (omega (arith, low))) in
     ap (λ n. n % 2) (length-append (entries_of unit) (flat_map entries_of units))
     ∙ both (length (entries_of unit)) (length (flat_map entries_of units)) one rest
   where
-    both : (n m : ℕ) → n % 2 ≡ 0 → m % 2 ≡ 0 → (n + m) % 2 ≡ 0
-    both n m one two = omega (arith, one, two)
-
     more_even : (key : ValueItem) (more : List ValueItem) → length (flat_map (further_entries key) more) % 2 ≡ 0
     more_even key [] = refl
     more_even key (datum ∷ more) = let rest = more_even key more in omega (arith, rest)
@@ -278,15 +276,11 @@ keyed_tree size key values i cost more was low is much many =
 pub keyed_whole : (size : ℕ) (key : List ℕ) (values : List (List ℕ)) (i cost : ℕ) → KeyedSoFar size key values i cost → length values ≤ i
     → (cost ≡ unit_cost size (KeyedUnit key values)) × (false ≡ has_own_tree size key values)
 keyed_whole size key values i cost was past =
-    (sum ∙ ap (λ b. if b then value_cost size key + 16 else set_cost size key values) none, none)
-  where
-    sum : cost ≡ set_cost size key values
-    sum = was.sum ∙ ap (λ vs. value_cost size key + more_cost size vs) (take_all i values past)
-
-    none : false ≡ has_own_tree size key values
-    none = elim (cases_lt 1 (length values)) [
+    let sum : cost ≡ set_cost size key values = was.sum ∙ ap (λ vs. value_cost size key + more_cost size vs) (take_all i values past) in
+    let none : false ≡ has_own_tree size key values = elim (cases_lt 1 (length values)) [
       | inl many ↦
           let low = was.low many (omega (arith, many, past)) in
           sym (ap (λ b. b && nat_lt ((size - 26) / 4) (set_cost size key values)) (lt-ltb _ _ many) ∙ le-ltb _ _ (omega (arith, low, sum)))
       | inr one ↦ sym (ap (λ b. b && nat_lt ((size - 26) / 4) (set_cost size key values)) (le-ltb _ _ one))
-    ]
+    ] in
+    (sum ∙ ap (λ b. if b then value_cost size key + 16 else set_cost size key values) none, none)

@@ -240,6 +240,12 @@ closed_more closed units = grind (arith, append-nil, flat_map-append)
 pub rest_opened : (before a : ℕ) (numbers : List ℕ) → before ≤ a → ((p : ℕ) → is_of numbers p ≡ true → p < a)
     → (p : ℕ) → (between before (a + 1) p && not (is_of (numbers ++ (a ∷ [])) p)) ≡ (between before a p && not (is_of numbers p))
 rest_opened before a numbers low under p =
+    let none_of_both : (xs ys : List ℕ) (p : ℕ) → is_of (xs ++ ys) p ≡ false → (is_of xs p ≡ false) × (is_of ys p ≡ false) = λ xs ys p none. (
+      none_pass (λ q. p == q) xs (λ q at. none_passes (λ q. p == q) (xs ++ ys) q none (Contains-append_left xs ys q at)),
+      none_pass (λ q. p == q) ys (λ q at. none_passes (λ q. p == q) (xs ++ ys) q none (Contains-append_right xs ys q at)),
+    ) in
+    let one_of : (a p : ℕ) → is_of (a ∷ []) p ≡ false → p ≡ a → ⊥ = λ a p none same.
+    true≢false (sym (eq-eqb p a same) ∙ none_passes (λ q. p == q) (a ∷ []) a none (first_member a [])) in
     same_test _ _
     (λ is.
     let parts = rest_is before (a + 1) (numbers ++ (a ∷ [])) p is in
@@ -254,15 +260,6 @@ rest_opened before a numbers low under p =
       | inl one ↦ none_passes (λ q. p == q) numbers q parts.2 one
       | inr last ↦ ne_eqb p q (λ e. let same : a ≡ q = only_member a q last in omega (arith, e, same, parts.1))
     ])))
-  where
-    none_of_both : (xs ys : List ℕ) (p : ℕ) → is_of (xs ++ ys) p ≡ false → (is_of xs p ≡ false) × (is_of ys p ≡ false)
-    none_of_both xs ys p none = (
-      none_pass (λ q. p == q) xs (λ q at. none_passes (λ q. p == q) (xs ++ ys) q none (Contains-append_left xs ys q at)),
-      none_pass (λ q. p == q) ys (λ q at. none_passes (λ q. p == q) (xs ++ ys) q none (Contains-append_right xs ys q at)),
-    )
-
-    one_of : (a p : ℕ) → is_of (a ∷ []) p ≡ false → p ≡ a → ⊥
-    one_of a p none same = true≢false (sym (eq-eqb p a same) ∙ none_passes (λ q. p == q) (a ∷ []) a none (first_member a []))
 
 pub leaf_opened : (leaves next : Leaves) (old new : Built) (before : ℕ) (closed : List (List Placed)) (units : List Placed)
     → AreFilled leaves old before closed units → 0 < length units → IsOpened leaves next old new

@@ -128,6 +128,25 @@ pub set_built : (old mid new : Built) (sorted : Bool) (values : List (List ℕ))
     → (set : IsSetFilled old mid (set_type sorted) values leaves) → HasFirstRoot leaves mid new true set.closed set.units root
     → IsSetBuilt old new sorted values root
 set_built old mid new sorted values leaves root set has =
+    let keeps : KeepsBefore (length old.pages) mid new =
+    finished_trees_keep_older_pages leaves mid new true (length old.pages) set.closed set.units root set.filled has in
+    let before : length old.pages ≤ length mid.pages = set.kept.grows in
+    let grows : length mid.pages ≤ length new.pages = keeps.grows in
+    let stands : (g : File) → IsCounted g → IsLater (between (length old.pages) (length new.pages)) (file_so_far new) g
+    → SetStands g (length old.pages) (length new.pages) sorted values root = λ g counted later.
+    let is =
+    grown_sets_stand leaves mid new true (length old.pages) set.closed set.units root values
+    (λ e. no_pairs sorted (sym set.type_is ∙ e)) set.filled has set.units_are g counted later in
+    record {
+      on = is.0;
+      holds = is.1;
+      right = ap (λ b. is_wrong_set g b (Tree root)) (sym (ap has_sorted_data set.type_is ∙ sorted_as_asked sorted)) ∙ is.2;
+    } in
+    let inside : (length old.pages ≤ root) × (root < length new.pages) =
+    let low = set.filled.low in
+    let set_now = stands (file_so_far new) (counted_so_far new (omega (arith, low, before, grows)))
+    (later_self new (between (length old.pages) (length new.pages))) in
+    between_is (length old.pages) (length new.pages) root (set_now.on.branch.grove.entered root (first_member root [])) in
     record {
       kept = record {
         size = keeps.size ∙ set.kept.size;
@@ -152,31 +171,3 @@ set_built old mid new sorted values leaves root set has =
           (subst (λ us. IsTreeOn leaves.leaf_type new (between (length old.pages) (length new.pages)) true us root) set.units_are
           (finished_trees_are_laid_out leaves mid new true (length old.pages) set.closed set.units root set.filled set.spread has).0);
     }
-  where
-    keeps : KeepsBefore (length old.pages) mid new
-    keeps = finished_trees_keep_older_pages leaves mid new true (length old.pages) set.closed set.units root set.filled has
-
-    before : length old.pages ≤ length mid.pages
-    before = set.kept.grows
-
-    grows : length mid.pages ≤ length new.pages
-    grows = keeps.grows
-
-    stands : (g : File) → IsCounted g → IsLater (between (length old.pages) (length new.pages)) (file_so_far new) g
-        → SetStands g (length old.pages) (length new.pages) sorted values root
-    stands g counted later =
-        let is =
-        grown_sets_stand leaves mid new true (length old.pages) set.closed set.units root values
-        (λ e. no_pairs sorted (sym set.type_is ∙ e)) set.filled has set.units_are g counted later in
-        record {
-          on = is.0;
-          holds = is.1;
-          right = ap (λ b. is_wrong_set g b (Tree root)) (sym (ap has_sorted_data set.type_is ∙ sorted_as_asked sorted)) ∙ is.2;
-        }
-
-    inside : (length old.pages ≤ root) × (root < length new.pages)
-    inside =
-        let low = set.filled.low in
-        let set_now = stands (file_so_far new) (counted_so_far new (omega (arith, low, before, grows)))
-        (later_self new (between (length old.pages) (length new.pages))) in
-        between_is (length old.pages) (length new.pages) root (set_now.on.branch.grove.entered root (first_member root []))

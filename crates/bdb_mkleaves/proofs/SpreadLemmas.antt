@@ -139,6 +139,7 @@ ends_on room cost page [] = record {
   next = λ x high. put_on_new room cost cost (room - sum_by cost page) page x [] high;
 }
 ends_on {A} room cost page (y ∷ ys) =
+    let left : ℕ = room - sum_by cost page in
     elim (cases_lt left (cost y)) [
       | inl full ↦
           let on : EndsOn room cost (y ∷ []) ys = ends_on room cost (y ∷ []) ys in
@@ -168,9 +169,6 @@ ends_on {A} room cost page (y ∷ ys) =
             next = λ x high. step (ys ++ (x ∷ [])) ∙ on.next x high;
           }
     ]
-  where
-    left : ℕ
-    left = room - sum_by cost page
 
 same_ends : {A : Type 0} (xs ys : List A) (x y : A) → xs ++ (x ∷ []) ≡ ys ++ (y ∷ []) → (xs ≡ ys) × (x ≡ y)
 same_ends [] [] x y is = (refl, cc)

@@ -44,28 +44,18 @@ use Rattle.bdb_mktree.specs.declared.builder.TreeBuilder.{TreeBuilder}
 -- the leaves of the file so far hold the units that were put on them
 pub leaves_hold : (leaves : Leaves) (built : Built) (before : ℕ) (closed : List (List Placed)) (units : List Placed)
     → AreFilled leaves built before closed units → All (HoldsUnits leaves.leaf_type (file_so_far built)) (placed_on leaves closed units)
-leaves_hold leaves built before closed units filled = hold_units type g 0 (placed_on leaves closed units) laid
-  where
-    g : File
-    g = file_so_far built
-
-    type : LeafType
-    type = leaves.leaf_type
-
-    known : AreNumbered leaves built before closed units
-    known = are_numbered leaves built before closed units filled
-
-    there : 1 ≤ length built.pages
-    there = let last = filled.hold.there in omega (arith, last)
-
-    laid : AreLaid type g 0 (placed_on leaves closed units)
-    laid =
-        laid_leaves type built g 0 (numbers_of leaves) (closed ++ (units ∷ []))
-        (any_order type built 0 (numbers_of leaves) (map (λ us. flat_map entries_of us) (closed ++ (units ∷ []))) 0 known.from)
-        (λ p at. inl (page_so_far built p (known.within p at).1))
-        (all_joined (StandsPlaced type g) (λ (leaf : LeafUnits). leaf.units) (placed_on leaves closed units)
-        (subst (All (StandsPlaced type g)) (sym known.units_are)
-        (filled.stands g (counted_so_far built there) (later_self built (rest_of before leaves built))).placed))
+leaves_hold leaves built before closed units filled =
+    let g : File = file_so_far built in
+    let type : LeafType = leaves.leaf_type in
+    let known : AreNumbered leaves built before closed units = are_numbered leaves built before closed units filled in
+    let there : 1 ≤ length built.pages = let last = filled.hold.there in omega (arith, last) in
+    let laid : AreLaid type g 0 (placed_on leaves closed units) =
+    laid_leaves type built g 0 (numbers_of leaves) (closed ++ (units ∷ []))
+    (any_order type built 0 (numbers_of leaves) (map (λ us. flat_map entries_of us) (closed ++ (units ∷ []))) 0 known.from)
+    (λ p at. inl (page_so_far built p (known.within p at).1))
+    (all_joined (StandsPlaced type g) (λ (leaf : LeafUnits). leaf.units) (placed_on leaves closed units)
+    (rw known.units_are ((filled.stands g (counted_so_far built there) (later_self built (rest_of before leaves built))).placed))) in
+    hold_units type g 0 (placed_on leaves closed units) laid
 
 read_on : (g : File) (kind : Kind) (placed : List LeafUnits) → IsTreeKind kind → All (HoldsUnits (leaf_type_of kind) g) placed
     → flat_map (units_on g kind) (pages_of placed) ≡ flat_map (λ (leaf : LeafUnits). map unit_of leaf.units) placed
@@ -74,13 +64,17 @@ read_on g kind (leaf ∷ placed) is all =
     let here : units_on g kind leaf.page ≡ map unit_of leaf.units =
     elim is [
       | inl btree ↦
-          ap (λ k. units_on g k leaf.page) btree
-          ∙ (units_are_read g leaf).0 (subst (λ k. HoldsUnits (leaf_type_of k) g leaf) btree
-          (All-head (HoldsUnits (leaf_type_of kind) g) leaf placed all))
+          cc (
+            btree,
+            (units_are_read g leaf).0
+                (subst (λ k. HoldsUnits (leaf_type_of k) g leaf) btree (All-head (HoldsUnits (leaf_type_of kind) g) leaf placed all)),
+          )
       | inr recno ↦
-          ap (λ k. units_on g k leaf.page) recno
-          ∙ (units_are_read g leaf).1 (subst (λ k. HoldsUnits (leaf_type_of k) g leaf) recno
-          (All-head (HoldsUnits (leaf_type_of kind) g) leaf placed all))
+          cc (
+            recno,
+            (units_are_read g leaf).1
+                (subst (λ k. HoldsUnits (leaf_type_of k) g leaf) recno (All-head (HoldsUnits (leaf_type_of kind) g) leaf placed all)),
+          )
     ] in
     ap (λ us. us ++ flat_map (units_on g kind) (pages_of placed)) here
     ∙ ap (λ us. map unit_of leaf.units ++ us) (read_on g kind placed is (All-tail (HoldsUnits (leaf_type_of kind) g) leaf placed all))
@@ -92,9 +86,12 @@ pub units_read : (leaves : Leaves) (built : Built) (before : ℕ) (closed : List
 units_read leaves built before closed units kind is type filled =
     let known = are_numbered leaves built before closed units filled in
     ap (flat_map (units_on (file_so_far built) kind)) (sym known.pages_are)
-    ∙ (read_on (file_so_far built) kind (placed_on leaves closed units) is
-    (subst (λ t. All (HoldsUnits t (file_so_far built)) (placed_on leaves closed units)) type (leaves_hold leaves built before closed units filled))
-    ∙ (sym (map_joined unit_of (λ (leaf : LeafUnits). leaf.units) (placed_on leaves closed units)) ∙ ap (map unit_of) known.units_are))
+    ∙ (cc (
+      read_on (file_so_far built) kind (placed_on leaves closed units) is
+          (subst (λ t. All (HoldsUnits t (file_so_far built)) (placed_on leaves closed units)) type (leaves_hold leaves built before closed units filled)),
+      map_joined unit_of (λ (leaf : LeafUnits). leaf.units) (placed_on leaves closed units),
+      known.units_are,
+    ))
 
 pub building_read : (builder : TreeBuilder) (built : Built) → (building : Building builder built)
     → units_of builder built ≡ map unit_of (all_placed building.closed building.units)

@@ -151,52 +151,14 @@ finished_part : (builder : TreeBuilder) (old new : Built) (root : ℕ) → (buil
       list = list_of_units builder.settings.kind (units_of builder old);
     })
 finished_part builder old new root building has grows g meta counted later says names =
-    subst (λ pages. IsPart g (record { pages = pages; fields = BtreeFields meta; list = list_of_units settings.kind (units_of builder old) }))
-    (fun_ext tree.pages)
-    (subst (λ list. IsPart g (record { pages = is_laid rest tree.placed tree.above; fields = BtreeFields meta; list = list })) by_kind.1
-    (laid_trees_are_parts type g rest tree.placed tree.nodes tree.above tree.top meta tree.laid (names ∙ sym tree.top_is) by_kind.0))
-  where
-    settings : Settings
-    settings = builder.settings
-
-    first : ℕ
-    first = first_leaf builder.leaves
-
-    type : LeafType
-    type = builder.leaves.leaf_type
-
-    rest : ℕ → Bool
-    rest = rest_of first builder.leaves old
-
-    all : List Placed
-    all = all_placed building.closed building.units
-
-    tree : HasLaidTree type g rest first (length new.pages) (is_counted settings.kind settings.recnum) (building.closed ++ (building.units ∷ [])) root
-    tree = first_roots_are_laid builder.leaves old new (is_counted settings.kind settings.recnum) first building.closed building.units root
-        building.counted.filled has g counted later
-
-    placed_is : flat_map (λ (leaf : LeafUnits). leaf.units) tree.placed ≡ all
-    placed_is = all_on tree.placed (building.closed ++ (building.units ∷ [])) tree.units_are ∙ all_units building.closed building.units
-
-    units_are : units_in tree.placed ≡ map unit_of all
-    units_are = sym (map_joined unit_of (λ (leaf : LeafUnits). leaf.units) tree.placed) ∙ ap (map unit_of) placed_is
-
-    on_leaves : (P : Placed → Type 0) → All P all → All (λ (leaf : LeafUnits). All P leaf.units) tree.placed
-    on_leaves P each = all_joined P (λ (leaf : LeafUnits). leaf.units) tree.placed (subst (All P) (sym placed_is) each)
-
-    list_is : (kind : Kind) → kind ≡ settings.kind → list_of_units kind (units_in tree.placed) ≡ list_of_units settings.kind (units_of builder old)
-    list_is kind same =
-        ap (λ k. list_of_units k (units_in tree.placed)) same ∙ ap (list_of_units settings.kind)
-        (units_are ∙ sym (building_read builder old building))
-
-    counts_of : (t : LeafType) → is_counted settings.kind settings.recnum ≡ true → type ≡ t → AllZip (Counts t) tree.placed tree.nodes
-    counts_of t is same =
-        subst (λ t. AllZip (Counts t) tree.placed tree.nodes) same
-        (subst (λ c. CountsLeaves c type tree.placed tree.nodes) is tree.counts)
-
-    by_kind : SuitsTree type g meta tree.placed tree.nodes
-        × (list_of_units (btree_kind meta) (units_in tree.placed) ≡ list_of_units settings.kind (units_of builder old))
-    by_kind = elim building.kind [
+    let on_leaves : (P : Placed → Type 0) → All P all → All (λ (leaf : LeafUnits). All P leaf.units) tree.placed = λ P each.
+    all_joined P (λ (leaf : LeafUnits). leaf.units) tree.placed (subst (All P) (sym placed_is) each) in
+    let counts_of : (t : LeafType) → is_counted settings.kind settings.recnum ≡ true → type ≡ t → AllZip (Counts t) tree.placed tree.nodes = λ t is same.
+    subst (λ t. AllZip (Counts t) tree.placed tree.nodes) same
+    (subst (λ c. CountsLeaves c type tree.placed tree.nodes) is tree.counts) in
+    let by_kind : SuitsTree type g meta tree.placed tree.nodes
+    × (list_of_units (btree_kind meta) (units_in tree.placed) ≡ list_of_units settings.kind (units_of builder old)) =
+    elim building.kind [
       | inl btree ↦
           let said = says_btree new.size new.order meta settings says btree in
           let leaf : type ≡ Pairs = building.type ∙ ap leaf_type_of btree in (
@@ -231,7 +193,39 @@ finished_part builder old new root building has grows g meta counted later says 
                 }),
             list_is (btree_kind meta) (ap (λ b. cond b Recno Btree) said.kind ∙ sym recno),
           )
-    ]
+    ] in
+    rw (← fun_ext tree.pages, ← by_kind.1)
+    (laid_trees_are_parts type g rest tree.placed tree.nodes tree.above tree.top meta tree.laid (names ∙ sym tree.top_is) by_kind.0)
+  where
+    settings : Settings
+    settings = builder.settings
+
+    first : ℕ
+    first = first_leaf builder.leaves
+
+    type : LeafType
+    type = builder.leaves.leaf_type
+
+    rest : ℕ → Bool
+    rest = rest_of first builder.leaves old
+
+    all : List Placed
+    all = all_placed building.closed building.units
+
+    tree : HasLaidTree type g rest first (length new.pages) (is_counted settings.kind settings.recnum) (building.closed ++ (building.units ∷ [])) root
+    tree = first_roots_are_laid builder.leaves old new (is_counted settings.kind settings.recnum) first building.closed building.units root
+        building.counted.filled has g counted later
+
+    placed_is : flat_map (λ (leaf : LeafUnits). leaf.units) tree.placed ≡ all
+    placed_is = all_on tree.placed (building.closed ++ (building.units ∷ [])) tree.units_are ∙ all_units building.closed building.units
+
+    units_are : units_in tree.placed ≡ map unit_of all
+    units_are = sym (map_joined unit_of (λ (leaf : LeafUnits). leaf.units) tree.placed) ∙ ap (map unit_of) placed_is
+
+    list_is : (kind : Kind) → kind ≡ settings.kind → list_of_units kind (units_in tree.placed) ≡ list_of_units settings.kind (units_of builder old)
+    list_is kind same =
+        ap (λ k. list_of_units k (units_in tree.placed)) same ∙ ap (list_of_units settings.kind)
+        (units_are ∙ sym (building_read builder old building))
 
 -- it is laid out, and so are the trees of its units' data
 trees_laid_out : (builder : TreeBuilder) (old new : Built) (root : ℕ) → (building : Building builder old)
@@ -240,37 +234,23 @@ trees_laid_out : (builder : TreeBuilder) (old new : Built) (root : ℕ) → (bui
     (is_counted builder.settings.kind builder.settings.recnum) (units_of builder old) root)
     × HaveTreesOn (leaf_type_of builder.settings.kind) new (between (first_leaf builder.leaves) (length new.pages)) on.tree
 trees_laid_out builder old new root building has =
-    subst (λ us. (on : IsTreeOn (leaf_type_of builder.settings.kind) new pages counted us root)
-    × HaveTreesOn (leaf_type_of builder.settings.kind) new pages on.tree) (sym (building_read builder old building))
-    (subst (λ t. (on : IsTreeOn t new pages counted (map unit_of all) root) × HaveTreesOn t new pages on.tree) building.type (
+    let counted : Bool = is_counted builder.settings.kind builder.settings.recnum in
+    let first : ℕ = first_leaf builder.leaves in
+    let pages : ℕ → Bool = between first (length new.pages) in
+    let type : LeafType = builder.leaves.leaf_type in
+    let all : List Placed = all_placed building.closed building.units in
+    let laid : (on : IsTreeOn type new pages counted (map unit_of all) root)
+    × (map (λ (leaf : LeafUnits). leaf.units) on.tree.placed ≡ building.closed ++ (building.units ∷ [])) =
+    finished_trees_are_laid_out builder.leaves old new counted first building.closed building.units root building.counted.filled
+    building.counted.spread has in
+    let placed_is : placed_below laid.0.tree ≡ all =
+    all_on laid.0.tree.placed (building.closed ++ (building.units ∷ [])) laid.1 ∙ all_units building.closed building.units in
+    rw (building_read builder old building, ← building.type) (
       laid.0,
-      subst (λ us. All (HasTreeOn new pages (contents_below type laid.0.tree)) us) (sym placed_is)
-          (subst (λ cs. All (HasTreeOn new pages cs) all) (contents_held type laid.0.tree.placed all placed_is)
-          (finished_trees_keep_trees builder.leaves old new counted first building.closed building.units root building.counted.filled has)),
-    ))
-  where
-    counted : Bool
-    counted = is_counted builder.settings.kind builder.settings.recnum
-
-    first : ℕ
-    first = first_leaf builder.leaves
-
-    pages : ℕ → Bool
-    pages = between first (length new.pages)
-
-    type : LeafType
-    type = builder.leaves.leaf_type
-
-    all : List Placed
-    all = all_placed building.closed building.units
-
-    laid : (on : IsTreeOn type new pages counted (map unit_of all) root)
-        × (map (λ (leaf : LeafUnits). leaf.units) on.tree.placed ≡ building.closed ++ (building.units ∷ []))
-    laid = finished_trees_are_laid_out builder.leaves old new counted first building.closed building.units root building.counted.filled
-        building.counted.spread has
-
-    placed_is : placed_below laid.0.tree ≡ all
-    placed_is = all_on laid.0.tree.placed (building.closed ++ (building.units ∷ [])) laid.1 ∙ all_units building.closed building.units
+      subst (λ us. All (HasTreeOn new pages (contents_below type laid.0.tree)) us) (sym
+          placed_is) (subst (λ cs. All (HasTreeOn new pages cs) all) (contents_held type laid.0.tree.placed all placed_is) (finished_trees_keep_trees
+          builder.leaves old new counted first building.closed building.units root building.counted.filled has)),
+    )
 
 pub tree_built : (builder : TreeBuilder) (old new : Built) (root : ℕ) → (building : Building builder old)
     → HasFirstRoot builder.leaves old new (is_counted builder.settings.kind builder.settings.recnum) building.closed building.units root

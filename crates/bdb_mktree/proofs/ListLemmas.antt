@@ -51,9 +51,7 @@ before_other key value other units first none =
       | inr other_key ↦ other_key
     ] in
     ap (onto_units key value) first.is
-    ∙ (ap (λ b. cond b (KeyedUnit other (value ∷ first.values) ∷ first.others)
-    (KeyedUnit key (value ∷ []) ∷ KeyedUnit other first.values ∷ first.others)) test
-    ∙ ap (λ us. KeyedUnit key (value ∷ []) ∷ us) (sym first.is))
+    ∙ (cc (test, first.is))
 
 before_same : (key value : List ℕ) (values : List (List ℕ)) (units : List TreeUnit)
     → onto_units key value (KeyedUnit key values ∷ units) ≡ KeyedUnit key (value ∷ values) ∷ units
@@ -82,21 +80,21 @@ pub run_is_unit : (key : List ℕ) (pairs : List Pair) (n : ℕ) → All (λ (pa
     → keyed_units pairs ≡ KeyedUnit key (take n (values_of pairs)) ∷ keyed_units (drop n pairs)
 run_is_unit key [] n all is some = absurd (omega (arith, is, some))
 run_is_unit key (pair ∷ pairs) n all is some =
+    let has : HasBytes pair.key = All-head (λ (pair : Pair). HasBytes pair.key) pair pairs all in
     elim (cases_Bool (has_key key pair.key)) [
       | inl same ↦
           let key_is : bytes_in pair.key ≡ key = eq_same (bytes_in pair.key) key (sym (key_test key pair.key has) ∙ same) in
           let counted = ap (λ b. cond b (1 + prefix_len (has_key key) (keys_of pairs)) 0) same in
           let long : n ≡ suc (prefix_len (has_key key) (keys_of pairs)) = omega (arith, is, counted) in
           ap (λ k. onto_units k pair.value (keyed_units pairs)) key_is
-          ∙ (by_rest (prefix_len (has_key key) (keys_of pairs)) refl
-          (λ m more some_more. run_is_unit key pairs m (All-tail (λ (pair : Pair). HasBytes pair.key) pair pairs all) more some_more)
-          ∙ ap (λ m. KeyedUnit key (take m (values_of (pair ∷ pairs))) ∷ keyed_units (drop m (pair ∷ pairs))) (sym long))
+          ∙ (cc (
+            by_rest (prefix_len (has_key key) (keys_of pairs)) refl (λ m more some_more. run_is_unit key pairs m (All-tail (λ (pair : Pair). HasBytes
+                pair.key) pair pairs all) more some_more),
+            long,
+          ))
       | inr other ↦ let none = ap (λ b. cond b (1 + prefix_len (has_key key) (keys_of pairs)) 0) other in absurd (omega (arith, is, none, some))
     ]
   where
-    has : HasBytes pair.key
-    has = All-head (λ (pair : Pair). HasBytes pair.key) pair pairs all
-
     by_rest : (m : ℕ) → prefix_len (has_key key) (keys_of pairs) ≡ m
         → ((m : ℕ) → prefix_len (has_key key) (keys_of pairs) ≡ m → 0 < m
         → keyed_units pairs ≡ KeyedUnit key (take m (values_of pairs)) ∷ keyed_units (drop m pairs))
@@ -180,6 +178,14 @@ pub is_run : (pairs : List TextPair) (start n : ℕ) (key : List ℕ) (pair : Te
     → slice_get pairs start ≡ Some pair → pair.key ≡ Bytes key → n ≡ run_from key pairs start
     → IsRunAt (unlined_pairs pairs) start (KeyedUnit key (map (λ (pair : TextPair). pair.value) (take n (drop start pairs)))) (start + n)
 is_run pairs start n key pair all at is long =
+    let from : drop start (unlined_pairs pairs) ≡ unlined_pairs (drop start pairs) = drop-map unlined start pairs in
+    let inside : start < length pairs = slice_get_within pairs start pair at in
+    let some : 0 < n = omega (arith, long, run_goes_on key pairs start pair at (ap (has_key key) is ∙ eq_self key)) in
+    let most : n ≤ length (drop start pairs) = run_long key (drop start pairs) n long in
+    let size : length (drop start pairs) ≡ length pairs - start = length-drop start pairs in
+    let data_are : take n (values_of (drop start (unlined_pairs pairs))) ≡ map (λ (pair : TextPair). pair.value) (take n (drop start pairs)) =
+    ap (λ ps. take n (values_of ps)) from
+    ∙ (ap (take n) (sym (values_unlined (drop start pairs))) ∙ take-map (λ (pair : TextPair). pair.value) n (drop start pairs)) in
     record {
       ahead = omega (arith, some);
       within = omega (arith, most, size, inside, length-map pairs unlined);
@@ -193,26 +199,6 @@ is_run pairs start n key pair all at is long =
           ∙ ap (λ ps. KeyedUnit key (map (λ (pair : TextPair). pair.value) (take n (drop start pairs))) ∷ keyed_units ps)
           (drop-drop n start (unlined_pairs pairs)));
     }
-  where
-    from : drop start (unlined_pairs pairs) ≡ unlined_pairs (drop start pairs)
-    from = drop-map unlined start pairs
-
-    inside : start < length pairs
-    inside = slice_get_within pairs start pair at
-
-    some : 0 < n
-    some = omega (arith, long, run_goes_on key pairs start pair at (ap (has_key key) is ∙ eq_self key))
-
-    most : n ≤ length (drop start pairs)
-    most = run_long key (drop start pairs) n long
-
-    size : length (drop start pairs) ≡ length pairs - start
-    size = length-drop start pairs
-
-    data_are : take n (values_of (drop start (unlined_pairs pairs))) ≡ map (λ (pair : TextPair). pair.value) (take n (drop start pairs))
-    data_are =
-        ap (λ ps. take n (values_of ps)) from
-        ∙ (ap (take n) (sym (values_unlined (drop start pairs))) ∙ take-map (λ (pair : TextPair). pair.value) n (drop start pairs))
 
 -- the record of a number is missing before the pair at a place
 pub is_missing : (pairs : List Pair) (place number there : ℕ) → AscendFrom number (drop place pairs) → place < length pairs

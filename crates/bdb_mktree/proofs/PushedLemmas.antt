@@ -32,8 +32,7 @@ comes_next : (settings : Settings) (units : List TreeUnit) (unit : TreeUnit) (le
     → IsNext settings units unit
 comes_next settings units unit left keys is =
     prefix_ascends (map key_of (units ++ (unit ∷ []))) (map key_of left)
-    (subst (λ us. ascends us ≡ true) (ap (map key_of) (sym (append_assoc units (unit ∷ []) left)) ∙ map-append key_of (units ++ (unit ∷ [])) left)
-    (keys is))
+    (rw (← ap (map key_of) (sym (append_assoc units (unit ∷ []) left)) ∙ map-append key_of (units ++ (unit ∷ [])) left) (keys is))
 
 -- Pages before one stay, and stay.
 
@@ -89,10 +88,7 @@ all_built builder next old begun mid new units list first root settings are none
     sym (append-nil (units_of next mid)) ∙ (are.units ∙ ap (λ us. us ++ units) none) in
     let told : next.settings ≡ settings = are.settings ∙ says in
     let now : IsTreeBuilt settings first mid new units list root =
-    subst (λ l. IsTreeBuilt settings first mid new units l root) gives
-    (subst (λ us. IsTreeBuilt settings first mid new us (list_of_units settings.kind us) root) units_are
-    (subst (λ n. IsTreeBuilt settings n mid new (units_of next mid) (list_of_units settings.kind (units_of next mid)) root) (are.first ∙ at)
-    (subst (λ s. IsTreeBuilt s (first_leaf next.leaves) mid new (units_of next mid) (list_of_units s.kind (units_of next mid)) root) told built))) in
+    rw (← gives, ← units_are, ← are.first ∙ at, ← told) built in
     record {
       root_is = now.root_is;
       count = now.count;

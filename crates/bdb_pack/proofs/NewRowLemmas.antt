@@ -20,7 +20,7 @@ use Rattle.bdb_layout.proofs.WritingLemmas.{length-hash_chain, length-hash_tree,
 use Rattle.bdb_layout.proofs.WritingLemmas.{length-leaf_tree}
 use Rattle.bdb_law_grove.proofs.GroveLemmas.{above}
 use Rattle.bdb_pack.specs.Items.{IsHashPlace, IsLeafPlace}
-use Rattle.bdb_pack.proofs.OpenLemmas.{length-recno}
+use Rattle.bdb_pack.proofs.OpenLemmas.{recno_length}
 use Rattle.bdb_pack.proofs.RowsLemmas.{three_none}
 use Rattle.bdb_pack.proofs.StandingLemmas.{hash_here}
 
@@ -152,7 +152,7 @@ internal_row_none order new index at child count Unknown rest is fits = absurd f
 pub recno_row_none : (order : Order) (new : List ℕ) (index at : ℕ) (item : RecnoItem) (rest : List ℕ)
     → IsNew order new index at (recno_bytes order item) rest → item_row RecnoInternalPage order new index ≡ None
 unfolding recno_rows
-recno_row_none order new index at item rest is = grind (arith, length-recno, or_from, above)
+recno_row_none order new index at item rest is = grind (arith, recno_length, or_from, above)
 
 -- Hash pages.
 

@@ -14,9 +14,9 @@ use Rattle.bdb_pack.proofs.CutLemmas.{length_cut, page_length, written_page}
 pub open_is : (order : Order) (page : List ℕ) → IsBegun order page → IsOpen order page
 open_is order page begun = grind (arith, size_bounds)
 
-pub length-recno : (order : Order) (item : RecnoItem) → length (recno_bytes order item) ≡ 8
+pub recno_length : (order : Order) (item : RecnoItem) → length (recno_bytes order item) ≡ 8
 unfolding recno_bytes
-length-recno order item = length-pair order item.child item.count
+recno_length order item = length-pair order item.child item.count
 
 -- the bytes of one page were changed
 pub edited : (size count : ℕ) (order : Order) (bytes : List ℕ) (built : Built) (p : ℕ) (f : Order → List ℕ → List ℕ) (page new : List ℕ)

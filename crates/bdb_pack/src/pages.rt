@@ -85,6 +85,7 @@ impl Pages {
     }
 
     /// How many pages there are.
+    #[tactic(auto, using(crate::proofs::CutLemmas::length_cut, crate::proofs::CutLemmas::page_length))]
     pub fn count(&self) -> u32
         ensures count { result ≡ length self.now.pages }
         ensures legal { IsTrue (is_page_size self.now.size) }
@@ -94,6 +95,7 @@ impl Pages {
     }
 
     /// Bytes of a page.
+    #[tactic(auto, using(crate::proofs::CutLemmas::length_cut, crate::proofs::CutLemmas::page_length))]
     pub fn size(&self) -> usize
         ensures size { result ≡ self.now.size }
         ensures legal { IsTrue (is_page_size result) }
@@ -103,6 +105,7 @@ impl Pages {
     }
 
     /// The order of the numbers.
+    #[tactic(auto, using(crate::proofs::CutLemmas::length_cut, crate::proofs::CutLemmas::page_length))]
     pub fn order(&self) -> Order
         ensures order { result ≡ self.now.order }
         ensures legal { IsTrue (is_page_size self.now.size) }
@@ -140,6 +143,7 @@ impl Pages {
     }
 
     /// Takes the last page away.
+    #[tactic(auto, using(crate::proofs::CutLemmas::cut_fewer, crate::proofs::CutLemmas::cut_take, crate::proofs::CutLemmas::length_cut))]
     pub fn drop_last(&mut self)
         requires some { 1 ≤ length self.old.pages }
         ensures { self.new ≡ without_last self.old }
@@ -329,6 +333,7 @@ impl Pages {
     }
 
     /// The bytes of a page, to be read.
+    #[tactic(auto, using(crate::proofs::OpenLemmas::page_size, crate::proofs::CutLemmas::length_cut, crate::proofs::CutLemmas::page_of_cut))]
     pub fn page(&self, number: u32) -> &[u8]
         requires { number < length self.now.pages }
         ensures bytes { result.now ≡ bytes_of self.now number }
@@ -339,6 +344,7 @@ impl Pages {
     }
 
     /// All pages, joined in order, without a copy and without memory.
+    #[tactic(auto, using(crate::proofs::CutLemmas::joined_cut))]
     pub fn into_bytes(self) -> Bytes
         ensures { result ≡ joined_pages self.pages }
     {
@@ -470,6 +476,7 @@ fn internal_length(item: &InternalItem<'_>) -> usize
 }
 
 // How many bytes an item of an internal page of a recno tree has.
+#[tactic(auto, using(crate::proofs::OpenLemmas::recno_length))]
 fn recno_length(item: &RecnoItem) -> usize
     ensures { (order : ByteOrder) → result ≡ length (recno_bytes order item.now) }
 {
@@ -493,6 +500,7 @@ fn hash_length(item: &HashItem<'_>, order: Order) -> usize
 }
 
 // An item of a hash page that has room there fits: its numbers and the lengths of its blocks are those of their fields.
+#[tactic(auto, using(crate::proofs::FitLemmas::set_fits))]
 fn fit_hash(item: &HashItem<'_>, order: Order)
     requires { length (hash_bytes order (hash_content_seen item.now)) ≤ 32768 }
     ensures { IsHashContent (hash_content_seen item.now) }
