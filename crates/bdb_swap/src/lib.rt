@@ -7,6 +7,7 @@ mod hash;
 mod header;
 mod image;
 mod internal;
+pub mod laws;
 mod leaf;
 mod listed;
 mod metadata;

@@ -4,7 +4,8 @@ ghost use Rattle.bdb_text.specs.DataTo.{IsKeyedFault, IsKeyedRead, IsPairFault, 
 ghost use Rattle.bdb_text.specs.Fields.{values_in};
 ghost use Rattle.bdb_text.specs.ReadTo.{OnFault, error_at};
 ghost use Rattle.bdb_spelling.specs.of_text_format.Header.{has_keys, has_record_type, prints};
-ghost use Rattle.std.specs.Prelude.{◌≡◌, ◌+◌, ◌<◌, ◌≤◌, ◌^◌, IfOk, IfErr, length};
+ghost use Rattle.bdb_spelling.specs.of_text_format.Placed.{ArePlaced, placed_pairs};
+ghost use Rattle.std.specs.Prelude.{◌≡◌, ◌+◌, ◌<◌, ◌≤◌, ◌^◌, [], IfOk, IfErr, length};
 
 use crate::data_lines::{LineError, read_data, read_key};
 use crate::fields::Field;
@@ -186,13 +187,34 @@ fn way_of(fields: &[Field<'_>]) -> Way
     }
 }
 
+// An empty run with room for so many bytes, where memory isn't wanting: so it isn't moved while it grows.
+fn run_with_room(alloc: Global, room: usize) -> Vec<u8>
+    ensures { result.items ≡ [] }
+{
+    match Vec::with_capacity(alloc, room) {
+        Ok(bytes) => bytes,
+        Err(_) => Vec::new(alloc),
+    }
+}
+
+// The pairs at places in a run, which gives back the room that it doesn't use.
+fn pairs_in(bytes: Vec<u8>, places: Vec<Place>) -> TextPairs
+    requires { ArePlaced bytes.items places.items }
+    ensures { result ≡ placed_pairs bytes.items places.items }
+{
+    let mut bytes = bytes;
+    bytes.shrink_to_fit();
+    TextPairs::from_placed(PlacedPairs { bytes, places })
+}
+
 /// The pairs of a section with this header, whose bytes are decoded where they stand then. The number is that of the text's first line, which stands behind the
-/// header's end.
+/// header's end. Room for `room` bytes is taken at once, and what isn't used of it is given back.
 pub fn read_pairs<'a>(
     alloc: Global,
     text: &'a [u8],
     start: u64,
     fields: &[Field<'_>],
+    room: usize,
 ) -> Result<Data<'a>, TextError>
     requires { start + length text.now ≤ 2 ^ 31 }
     ensures ok { IfOk result (λ read. IsDataRead (values_in fields.now) text.now start read) }
@@ -200,7 +222,7 @@ pub fn read_pairs<'a>(
     ensures err { IfErr result (OnFault (IsDataFault (values_in fields.now) text.now start)) }
 {
     let way = way_of(fields);
-    let mut bytes: Vec<u8> = Vec::new(alloc);
+    let mut bytes = run_with_room(alloc, room);
     let mut places: Vec<Place> = Vec::new(alloc);
     let mut number = start;
     let mut rest = text;
@@ -208,7 +230,7 @@ pub fn read_pairs<'a>(
         let cut = cut_line(rest);
         if cut.line == DATA_END.as_slice() {
             return Ok(Data {
-                pairs: TextPairs::from_placed(PlacedPairs { bytes, places }),
+                pairs: pairs_in(bytes, places),
                 rest: cut.rest,
                 number: number + 1,
             });

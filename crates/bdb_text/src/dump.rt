@@ -53,6 +53,16 @@ pub fn read_dump(alloc: Global, text: &[u8]) -> Result<Sections, TextError>
     Ok(earlier.into_sections())
 }
 
+// How many bytes the pairs of the first section may have, of the text that is left: half of it, as each is spelled by two digits. The pairs of later
+// sections have room as they grow, since nothing tells how many more there are.
+fn room_for(text: &[u8], earlier: &Earlier) -> usize {
+    if earlier.is_empty() {
+        text.len() / 2 + 1
+    } else {
+        0
+    }
+}
+
 // The section that a text begins with, behind these others. The number is that of its first line.
 fn read_section<'a>(
     alloc: Global,
@@ -82,7 +92,8 @@ fn read_section<'a>(
             reason,
         }));
     }
-    let data = read_pairs(alloc, header.rest, header.number + 1, &header.fields)?;
+    let room = room_for(header.rest, earlier);
+    let data = read_pairs(alloc, header.rest, header.number + 1, &header.fields, room)?;
     let section = Section {
         name,
         settings: settings_in(&header.fields),
