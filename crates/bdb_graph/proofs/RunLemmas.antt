@@ -9,9 +9,7 @@ use Rattle.std.proofs.Math.Bool.{or-false}
 use Rattle.std.specs.Prelude.{min, nat_lt, ◌||◌, not, Option, None, Some}
 use Rattle.std.specs.List.{filter, list_all, list_any, range_with_len}
 use Rattle.bdb_image.specs.of_format.declared.references.Sort.TheVariants.{Bucket}
-use Rattle.bdb_image.specs.of_format.Hashing.{first_page}
-use Rattle.bdb_image.specs.of_format.Graph.{Owner, first_holder, is_head_reference}
-use Rattle.bdb_image.specs.of_format.File.{File}
+use Rattle.bdb_image.specs.of_format.Terms.{File, Owner, first_holder, first_page, is_head_reference}
 use Rattle.bdb_graph.specs.declared.table.BucketPages.{BucketPages}
 use Rattle.bdb_graph.specs.declared.tally.Kinds.{Kinds}
 use Rattle.bdb_graph.specs.declared.tally.Tally.{Tally}
@@ -142,7 +140,7 @@ noted_more old tallies new leaps later holder first n at next is below note len 
       (subst (AreTallies new) (joined os holder place first (m + 1) k) over);
 }
 
-left_none : (first n at q m len : ℕ) → first ≤ at → (first + n ≤ at) ⊎ (len ≤ at) → m ≡ min (at - first) n → first + m ≤ q → q < first + n → q < len → ⊥
+pub left_none : (first n at q m len : ℕ) → first ≤ at → (first + n ≤ at) ⊎ (len ≤ at) → m ≡ min (at - first) n → first + m ≤ q → q < first + n → q < len → ⊥
 left_none first n at q m len on (inl whole) is from below low = omega arith
 left_none first n at q m len on (inr past) is from below low = omega arith
 

@@ -1,5 +1,5 @@
 -- What is noted of a table's contents is each row at each page where it holds.
-use Rattle.std.proofs.Common.{◌≡◌, ℕ, ◌+◌, Bool, true, false, List, [], ◌++◌, arith, refl, sym, subst, inl, inr}
+use Rattle.std.proofs.Common.{◌≡◌, ℕ, ◌+◌, Bool, true, false, List, [], ◌++◌, refl, sym, subst, inl, inr}
 use Rattle.std.specs.List.{Contains, flat_map, range_with_len}
 use Rattle.std.proofs.lemmas.List.Elements.{Contains-append_cases, Contains-append_left, Contains-append_right}
 use Rattle.bdb_ranks.specs.of_image.Linked.{HasMetadata}
@@ -8,10 +8,7 @@ use Rattle.bdb_faults.proofs.SinkLemmas.{notes_then}
 use Rattle.bdb_ranks.proofs.of_format.FaultLemmas.{same_parts}
 use Rattle.bdb_ranks.specs.of_format.declared.kinds.Fault.{Fault}
 use Rattle.bdb_ranks.specs.of_format.declared.metadata.HashMeta.{HashMeta}
-use Rattle.bdb_ranks.specs.of_format.ContentRows.{database_faults, database_rows, repeated}
-use Rattle.bdb_ranks.specs.of_format.Contents.{StoredPair, bucket_pairs, table_pairs}
-use Rattle.bdb_ranks.specs.of_format.File.{File, file_of}
-use Rattle.bdb_ranks.specs.of_format.Page.{HashFields}
+use Rattle.bdb_ranks.specs.of_format.Terms.{File, HashFields, StoredPair, bucket_pairs, database_faults, database_rows, file_of, repeated, table_pairs}
 use Rattle.bdb_ranks.specs.of_format.Verdict.{holding}
 use Rattle.bdb_ranks.proofs.of_format.MemberLemmas.{in_flat_map, in_map, no_member, of_flat_map, of_map}
 use Rattle.bdb_ranks.proofs.of_format.VerdictLemmas.{of_by_page}

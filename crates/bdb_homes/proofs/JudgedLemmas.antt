@@ -1,6 +1,6 @@
 -- A page as it is looked at.
 use Rattle.std.proofs.Common.{◌≡◌, true, ◌∙◌, refl}
-use Rattle.std.specs.Prelude.{Option, Some, None}
+use Rattle.std.specs.Prelude.{Some, None}
 use Rattle.bdb_graph.specs.of_form.Formed.{MetaPage as MetaBytes}
 use Rattle.bdb_graph.specs.of_form.declared.view.PageView.{PageView}
 use Rattle.bdb_graph.specs.of_form.declared.view.PageView.TheVariants.{Zero, Free, Meta as MetaView, Leaf, Internal, RecnoLeaf, RecnoInternal, DupLeaf, Hash}
@@ -8,8 +8,7 @@ use Rattle.bdb_graph.specs.of_form.declared.view.PageView.TheVariants.{Overflow,
 use Rattle.bdb_graph.specs.of_image.Metas.{meta_in, meta_seen}
 use Rattle.bdb_graph.specs.of_image.declared.meta.Meta.{Meta as Fields}
 use Rattle.bdb_graph.specs.of_slots.Slots.{IsNoMetadata}
-use Rattle.bdb_survey.specs.of_format.Graph.{is_meta}
-use Rattle.bdb_survey.specs.of_format.Page.{Page, Meta as MetaPage, NoType}
+use Rattle.bdb_survey.specs.of_format.Terms.{Meta as MetaPage, NoType, Page, is_meta}
 
 -- the fields of a metadata page are the page
 pub fields_are : (page : Page) (meta : Fields) → is_meta page ≡ true → Some (meta_seen meta) ≡ meta_in page → MetaPage (meta_seen meta) ≡ page

@@ -1,7 +1,7 @@
 -- What is salvaged of an image, as sections that can be loaded. Source: docs/FORMAT.md, "Salvage" and "Repair".
 use Rattle.std.specs.Prelude.{ℕ, List, [], ◌∷◌, map, Option, Some, None, codes}
 use Rattle.std.specs.List.{enumerate_from}
-use Rattle.bdb_model.specs.of_format.File.{File}
+use Rattle.bdb_model.specs.of_format.Terms.{File}
 use Rattle.bdb_model.specs.of_text_format.declared.pairs.Key.TheVariants.{Bytes, Number}
 use Rattle.bdb_model.specs.of_text_format.declared.pairs.TextPair.{TextPair}
 use Rattle.bdb_model.specs.of_text_format.declared.sections.Section.{Section}

@@ -1,7 +1,7 @@
 -- The bytes that a file of what is salvaged has at least. Source: docs/FORMAT.md, "Repair".
 use Rattle.std.specs.Prelude.{⊤, ℕ, ◌+◌, Bool, true, false, List, length, Option, Some, None}
 use Rattle.std.specs.List.{sum_by}
-use Rattle.bdb_model.specs.of_format.File.{File}
+use Rattle.bdb_model.specs.of_format.Terms.{File}
 use Rattle.bdb_repair.specs.declared.room.Fit.{Fit}
 use Rattle.bdb_repair.specs.declared.room.Fit.TheVariants.{Fits, Past, Scarce}
 use Rattle.bdb_model.specs.declared.shape.Duplicates.TheVariants.{No, Unsorted, Sorted}

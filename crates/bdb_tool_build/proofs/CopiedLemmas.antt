@@ -1,17 +1,16 @@
 -- Pairs of a base, put one behind the other.
-use Rattle.std.proofs.Common.{◌≡◌, ℕ, ◌+◌, ◌-◌, ◌<◌, Bool, true, false, List, [], ◌∷◌, ◌++◌, append-nil, append_assoc, arith, length}
+use Rattle.std.proofs.Common.{◌≡◌, ℕ, ◌+◌, ◌-◌, ◌<◌, Bool, true, List, [], ◌∷◌, ◌++◌, append-nil, append_assoc, arith, length}
 use Rattle.std.proofs.Common.{length-append, map, take}
 use Rattle.std.proofs.Common.{refl, sym, ◌∙◌, ap, Some, subst}
-use Rattle.std.specs.Prelude.{not, slice_get, IfOk, Result, Ok, Err}
+use Rattle.std.specs.Prelude.{slice_get, IfOk, Result, Ok, Err}
 use Rattle.std.proofs.lemmas.List.{take_all}
 use Rattle.std.proofs.lemmas.List.Elements.{All-head, All-tail}
 use Rattle.std.proofs.lemmas.List.Sums.{fold-append}
-use Rattle.bdb_model.specs.of_format.Lists.{ListKey, BytesKey, NumberKey}
+use Rattle.bdb_model.specs.of_format.Terms.{BytesKey, ListKey, NumberKey}
 use Rattle.bdb_model.specs.of_text_format.declared.pairs.Key.{Key}
 use Rattle.bdb_model.specs.of_text_format.declared.pairs.Key.TheVariants.{Number}
 use Rattle.bdb_model.specs.of_text_format.declared.pairs.TextPair.{TextPair}
-use Rattle.bdb_model.specs.of_text_format.Pairs.{last_key}
-use Rattle.bdb_model.specs.of_text_format.Placed.{pair_with}
+use Rattle.bdb_model.specs.of_text_format.Terms.{last_key, pair_with}
 use Rattle.bdb_model.proofs.of_text_format.PlacedLemmas.{taken_more}
 use Rattle.bdb_onto.specs.Bases.{text_pair}
 use Rattle.bdb_tool_build.specs.Ontos.{list_key}
@@ -90,7 +89,3 @@ pub known_key : {E : Type 0} (result : Result Bool E) (key : Key) (entries : Lis
     → IfOk result (λ some. some ≡ true → (k : Key) → AreOf k entries → EndsWith k pairs) → IfOk result (λ has. has ≡ true → EndsWith key pairs)
 known_key (Ok some) key entries pairs of ends = λ is. ends is key of
 known_key (Err error) key entries pairs of ends = ends
-
-pub not_false : (b : Bool) → not b ≡ false → b ≡ true
-not_false true is = refl
-not_false false is = sym is

@@ -4,10 +4,7 @@ use Rattle.std.specs.List.{flat_map}
 use Rattle.std.proofs.lemmas.Grind.{flat_map-append}
 use Rattle.std.proofs.lemmas.List.{map-append}
 use Rattle.std.proofs.lemmas.List.Elements.{All-cons, All-nil}
-use Rattle.bdb_model.specs.of_format.Contents.{StoredPair, data_of, pairs_of}
-use Rattle.bdb_model.specs.of_format.File.{File, file_of}
-use Rattle.bdb_model.specs.of_format.Leaves.{leaves}
-use Rattle.bdb_model.specs.of_format.Lists.{ListKey, BytesKey, btree_list, listed_pair}
+use Rattle.bdb_model.specs.of_format.Terms.{BytesKey, File, ListKey, StoredPair, btree_list, data_of, file_of, leaves, listed_pair, pairs_of}
 use Rattle.bdb_file.specs.of_image.Linked.{FitsLeafPage, IsForest}
 use Rattle.bdb_file.specs.of_btree.Pairs.{AreFit, FitsPair}
 use Rattle.bdb_file.proofs.of_btree.FallLemmas.{ShareKeys as HaveKeys, tree_keys}
@@ -37,13 +34,6 @@ pub leaf_fit : (image : List ℕ) (p : ℕ) → IsForest image → FitsLeafPage 
 leaf_fit image p forest fits = each_of (FitsPair (file_of image)) (pairs_of (file_of image) p) (λ pair at. (pair_of_page image p pair forest fits at).fits)
 
 -- Lists, one more at a time.
-
-on_more : {A B C : Type 0} (f : B → C) (g : A → List B) (now new : List C) (x : A) (left rest : List A) → left ≡ x ∷ rest → new ≡ now ++ map f (g x)
-    → now ++ map f (flat_map g left) ≡ new ++ map f (flat_map g rest)
-on_more f g now new x left rest are pushed =
-    ap (λ xs. now ++ map f (flat_map g xs)) are
-    ∙ (ap (λ ys. now ++ ys) (map-append f (g x) (flat_map g rest))
-    ∙ (sym (append_assoc now (map f (g x)) (map f (flat_map g rest))) ∙ sym (ap (λ ys. ys ++ map f (flat_map g rest)) pushed)))
 
 -- Pairs that share their key.
 
@@ -77,12 +67,6 @@ tree_follows image root = record {
 pub list_of_leaves : (file : File) (root : ℕ) → btree_list file root ≡ flat_map (listed_pair file) (flat_map (pairs_of file) (leaves file root))
 unfolding btree_list
 list_of_leaves file root = ap (flat_map (listed_pair file)) (sym (pairs_of_tree file root))
-
--- one more pair of those that are listed
-pub pair_more : (file : File) (old now new : List TextPair) (pair : StoredPair) (left rest : List StoredPair)
-    → left ≡ pair ∷ rest → old ≡ now ++ map text_pair (flat_map (listed_pair file) left) → new ≡ now ++ map text_pair (listed_pair file pair)
-    → old ≡ new ++ map text_pair (flat_map (listed_pair file) rest)
-pair_more file old now new pair left rest are so_far pushed = so_far ∙ on_more text_pair (listed_pair file) now new pair left rest are pushed
 
 -- one more leaf
 pub leaf_more : (file : File) (old now new : List TextPair) (p : ℕ) (left rest : List ℕ) → left ≡ p ∷ rest

@@ -1,6 +1,6 @@
 use Rattle.std.proofs.Common.{◌≡◌, ◌++◌, ◌<◌, length}
 use Rattle.bdb_model.specs.of_text_format.declared.pairs.Key.TheVariants.{Bytes}
-use Rattle.bdb_model.specs.of_text_format.Pairs.{last_key}
+use Rattle.bdb_model.specs.of_text_format.Terms.{last_key}
 use Rattle.bdb_rescue.specs.Kept.{pairs_under}
 use Rattle.bdb_repair.specs.Parts.{stored_pairs}
 use Rattle.bdb_repair.proofs.parts.push_entry.Given as goal
