@@ -4,8 +4,7 @@
 The processes that prove are looked at five times a second while the command runs, those alone that it started: each names its crate, and
 lies in a folder of its own where it tries an edit. FILE gets a line for each crate with the processor minutes of its proof, of its tests'
 proof and of its must-fail edits, by tabs, and a last line `all` with those of the whole command, everything that it started counted in, by
-the clock, and the load of the machine when it began and ended. `tools/lines.sh FILE` makes the table of docs/CRATES.md of it. The status is
-that of the command.
+the clock, and the load of the machine when it began and ended. The status is that of the command.
 """
 
 import os
