@@ -13,7 +13,10 @@ TOP = os.path.dirname(os.path.dirname(os.path.abspath(__file__)))
 FOLDER = f"{TOP}/tools/recipes"
 PAGE = f"{TOP}/docs/RECIPES.md"
 PROGRAM = f"{TOP}/crates/bdbtool/out/bdbtool"
-NAMES = ["report", "lookup", "range", "move", "order", "edit", "onto", "rescue", "restore", "guess", "records", "status"]
+NAMES = [
+    "report", "lookup", "range", "move", "order", "pad", "edit", "onto",
+    "recover", "rescue", "restore", "guess", "records", "mend", "status",
+]
 # What the recipes run, and the Debian package that has it.
 NEEDED = {
     "db5.3_verify": "db5.3-util",
@@ -23,6 +26,8 @@ NEEDED = {
     "makemap": "sendmail-bin",
     "editmap": "sendmail-bin",
     "dbscan": "389-ds-base",
+    "squidGuard": "squidguard",
+    "perl": "libberkeleydb-perl",
 }
 HEAD = """# Recipes
 

@@ -4,6 +4,10 @@
 kind=$1
 file=$(realpath -- "$2") || exit
 shift 2
+if bdbtool verify --any-order <"$file" >/dev/null 2>&1; then
+    echo "$file is sound, at least in an order of its program's own: nothing is replaced" >&2
+    exit 1
+fi
 umask 077
 new=$(mktemp "$file.XXXXXX") || exit
 trap 'rm -f "$new"' EXIT
