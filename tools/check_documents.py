@@ -16,7 +16,7 @@ LINES = {"README.md": 120, "docs/CRATES.md": 150, "docs/BENCH.md": 250, "docs/DE
 COLUMNS = 120
 WORDS = 14
 # Pages that tools write of what ran, and of the definitions.
-WRITTEN = {"docs/RECIPES.md", "docs/ORIGINAL.md", "docs/DEFINITIONS.md"}
+WRITTEN = {"docs/CALLS.md", "docs/RECIPES.md", "docs/ORIGINAL.md", "docs/DEFINITIONS.md"}
 
 
 def documents():
@@ -62,10 +62,10 @@ def main():
         if len(places) < 2:
             continue
         first, second = places[0], places[1]
-        if last.get(first[0]) in (first[1], first[1] - 1) :
-            last[first[0]] = first[1]
-            continue
+        is_later = last.get(first[0]) in (first[1], first[1] - 1)
         last[first[0]] = first[1]
+        if is_later:
+            continue
         told.append(f"{first[0]}:{first[1]} and {second[0]}:{second[1]}: {run}")
     print("\n".join(told) if told else "the documents keep their limits")
     return bool(told)
