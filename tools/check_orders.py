@@ -76,7 +76,7 @@ def found(program, path, bases):
             under.setdefault(key, []).append(value)
         keys = list(under)
         for key in keys[:: max(1, len(keys) // ASKED)]:
-            words = ["get", "--any-order", *base.naming, "--hex", check_real.spelling(key, "bytevalue")]
+            words = ["get", "--any-order", *base.naming, *check_real.key_words(base, key)]
             wanted = check_real.lines_text([check_real.spelling(value, "bytevalue") for value in under[key]])
             if check_real.answer(program, words, path) != check_real.Answer(0, wanted, ""):
                 yield f"{' '.join(words)}: not the {len(under[key])} data of the text"

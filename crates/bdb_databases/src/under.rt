@@ -110,7 +110,7 @@ impl<'a> Model for Under<'a> {
 
 impl<'a> Under<'a> {
     pub(crate) fn of(list: Scan<'a>, key: Sought) -> Under<'a>
-        ensures { result ≡ listed_under key.entry list.entry }
+        ensures { result ≡ listed_under key list.entry }
     {
         Under { list, key }
     }
