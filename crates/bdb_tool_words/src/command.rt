@@ -299,7 +299,7 @@ fn rows_asked(read: &Arguments<'_>) -> Rows
 
 // What `get` does with what it asks: it goes down a tree, but where any order is asked for.
 fn lookup_action(rows: Rows, lookup: Lookup<'_>) -> Action<'_>
-    ensures seen { action_seen result ≡ asking rows (request_seen (CodeGet lookup)) }
+    ensures seen { action_seen result ≡ asking rows (request_seen (CodeGet lookup.entry)) }
     ensures fit { IsFitAction result }
 {
     match rows {
