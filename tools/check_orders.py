@@ -5,8 +5,8 @@ usage: check_orders.py [PROGRAM [FILE..]]
 
 PROGRAM is the built program; without it, crates/bdbtool/out/bdbtool. The files are those of real/orders, with their dump texts, and each FILE, of which
 `db5.3_dump -k` gives one. Of each file `verify` must tell faults of order alone, KeyOrder, Separator and DuplicateOrder, or for a FILE none; `get` must tell
-the first of them, and not take the option; `verify --any-order` must find it sound, `list --any-order` give the databases of the text, and
-`dump --any-order` its data lines, in both spellings and by name. Prints a line for each answer that differs, and then how many files have none; the exit
+the first of them; `verify --any-order` must find it sound, `list --any-order` give the databases of the text, `dump --any-order` its data lines, in both
+spellings and by name, and `get --any-order` the data of some of its keys. Prints a line for each answer that differs, and then how many files have none; the exit
 status is 1 where a file has one.
 """
 import pathlib
@@ -19,7 +19,8 @@ import check_real
 TOP = check_real.TOP
 ORDERS = TOP / "real/orders"
 OF_ORDER = re.compile(r"fault: stage 8 page \d+ code (3 KeyOrder|4 Separator|5 DuplicateOrder)")
-USAGE = 2
+# How many keys of each database are asked for.
+ASKED = 25
 SOUND = re.compile(r"sound, \d+ pages\n")
 FORMS = {"bytevalue": [], "print": ["--print"]}
 
@@ -41,8 +42,6 @@ def judged(program, path):
     first = check_real.Answer(plain.status, "", check_real.lines_text(told[:1]))
     if told and check_real.answer(program, ["get", "a"], path) != first:
         yield "get: another answer than the first line of verify"
-    if check_real.answer(program, ["get", "--any-order", "a"], path).status != USAGE:
-        yield "get --any-order: no usage fault"
     given = check_real.answer(program, ["verify", "--any-order"], path)
     if given.status or given.err or not SOUND.fullmatch(given.out):
         yield f"verify --any-order: {check_real.shown(tuple(given))}"
@@ -69,10 +68,24 @@ def dumped(program, path, bases):
                 yield f"{' '.join(words)}: status {given.status}, {len(data)} data lines and not these {len(wanted)}"
 
 
+def found(program, path, bases):
+    """What is wrong with the data of keys: of some, spread over each list, and of one that isn't there."""
+    for base in bases:
+        under = {}
+        for key, value in base.pairs:
+            under.setdefault(key, []).append(value)
+        keys = list(under)
+        for key in keys[:: max(1, len(keys) // ASKED)]:
+            words = ["get", "--any-order", *base.naming, *check_real.key_words(base, key)]
+            wanted = check_real.lines_text([check_real.spelling(value, "bytevalue") for value in under[key]])
+            if check_real.answer(program, words, path) != check_real.Answer(0, wanted, ""):
+                yield f"{' '.join(words)}: not the {len(under[key])} data of the text"
+
+
 def holds(program, path):
     """Whether all answers about a file are right; prints those that aren't."""
     bases = [check_real.database(*section) for section in check_real.sections(text_of(path))]
-    wrong = [*judged(program, path), *listed(program, path, bases), *dumped(program, path, bases)]
+    wrong = [*judged(program, path), *listed(program, path, bases), *dumped(program, path, bases), *found(program, path, bases)]
     for line in wrong:
         print(f"{path.name}: {line}", flush=True)
     return not wrong

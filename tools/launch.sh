@@ -15,7 +15,7 @@ look_up() {
     case $1 in
     verify) set -- 0 'verify [--any-order]' 'says that a Berkeley DB file is sound, or names its faults' ;;
     list) set -- 0 'list [--any-order]' 'the databases of a sound file' ;;
-    get) set -- 1 'get [--name NAME] [--hex] [--print] KEY' 'the data of a key' ;;
+    get) set -- 1 'get [--name NAME] [--hex] [--print] [--any-order] KEY' 'the data of a key' ;;
     range)
         set -- 2 'range [--name NAME] [--hex] [--print] FROM TO' 'the pairs of a btree from one key to before another'
         ;;

@@ -5,6 +5,7 @@ pub mod NumberLemmas
 pub mod PlaceLemmas
 pub mod ReadableLemmas
 pub mod SoundLemmas
+pub mod UnderLemmas
 pub use Rattle.bdb_any_order.proofs as of_any_order
 pub use Rattle.bdb_btree.proofs as of_btree
 pub use Rattle.bdb_hash_list.proofs.of_buckets as of_buckets

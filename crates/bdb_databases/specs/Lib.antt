@@ -2,6 +2,7 @@ pub mod Laws
 pub mod Listing
 pub mod Lookup
 pub mod Named
+pub mod Under
 pub use Rattle.bdb_any_order.specs as of_any_order
 pub use Rattle.bdb_recno.specs.of_format as of_format
 pub use Rattle.bdb_recno.specs.of_image as of_image

@@ -9,6 +9,7 @@ mod named;
 mod readable;
 mod reads;
 mod settings;
+mod under;
 
 pub use bdb_recno::{Bytes, Datum};
 pub use db::Db;

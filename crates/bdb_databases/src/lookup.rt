@@ -6,6 +6,7 @@ ghost use Rattle.bdb_databases.specs.Lookup.{data_left, most_steps};
 ghost use Rattle.bdb_recno.specs.of_format.Terms.{BtreeFields, QueueFields, data_under, database_faults, file_of, is_recno, structure_faults};
 ghost use Rattle.bdb_recno.specs.of_overflow.Datum.{datum_seen};
 
+use crate::under::Under;
 use bdb_recno::{BtreeMeta, Datum, Linked, Meta, QueueMeta, Steps, number_in};
 use std::marker::Model;
 use std::sync::ledger::Ledger;
@@ -17,6 +18,7 @@ pub(crate) enum Data<'a> {
     Recno(bdb_recno::Found<'a>),
     Hash(bdb_hash_list::Found<'a>),
     Queue(bdb_queue::Found<'a>),
+    Under(Under<'a>),
     Nothing,
 }
 
@@ -30,6 +32,7 @@ impl<'a> Data<'a> {
             Data::Recno(found) => found.next(),
             Data::Hash(found) => found.next(),
             Data::Queue(found) => found.next(),
+            Data::Under(found) => found.first(),
             Data::Nothing => None,
         }
     }
@@ -64,6 +67,17 @@ impl<'a> Iterator for Found<'a> {
 
     fn next(&mut self) -> Option<Datum<'a>> {
         self.data.first()
+    }
+}
+
+impl<'a> Found<'a> {
+    /// The data under a key of a list.
+    pub(crate) fn under(under: Under<'a>) -> Found<'a>
+        ensures { result ≡ under.entry }
+    {
+        Found {
+            data: Data::Under(under),
+        }
     }
 }
 

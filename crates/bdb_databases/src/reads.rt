@@ -1,9 +1,10 @@
 ghost use Rattle.std.specs.Prelude.{◌≡◌, ◌<◌, IfOk, length};
 ghost use Rattle.bdb_databases.specs.Named.{database_at};
-ghost use Rattle.bdb_recno.specs.of_format.Terms.{databases, file_of, list_of};
+ghost use Rattle.bdb_recno.specs.of_format.Terms.{data_under, databases, file_of, list_of};
 
 use crate::listing::scan_of;
-use crate::{Db, Readable, Scan};
+use crate::under::{Under, has_records, key_sought};
+use crate::{Db, Found, Readable, Scan};
 use std::alloc::{AllocError, Global};
 
 impl<'a> Readable<'a> {
@@ -15,5 +16,17 @@ impl<'a> Readable<'a> {
         ensures { IfOk result (λ scan. scan ≡ list_of (file_of self.now) (database_at (file_of self.now) db).fields) }
     {
         scan_of(alloc, self.linked(), self.meta(db))
+    }
+
+    /// What a database has under a key, in order, whatever order its keys stand in: its list is gone over. Of records the key says the number, in one
+    /// to ten decimal digits. An error is want of memory.
+    #[tactic(auto, using(crate::proofs::UnderLemmas::under_key))]
+    pub fn find(&self, alloc: Global, db: Db, key: &[u8]) -> Result<Found<'a>, AllocError>
+        requires { db < length (databases (file_of self.now)) }
+        ensures { IfOk result (λ found. found ≡ data_under (file_of self.now) (database_at (file_of self.now) db).fields key.now) }
+    {
+        let sought = key_sought(alloc, has_records(self.meta(db)), key)?;
+        let list = self.scan(alloc, db)?;
+        Ok(Found::under(Under::of(list, sought)))
     }
 }

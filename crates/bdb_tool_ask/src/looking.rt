@@ -1,5 +1,5 @@
 //! The command that asks for the data of a key.
-ghost use Rattle.std.specs.Prelude.{◌≡◌, [], IsTrue, MatchOption, List, Option, Some, is_some, not, option_copied, ℕ};
+ghost use Rattle.std.specs.Prelude.{◌≡◌, [], IfOk, IsTrue, MatchOption, List, Option, Some, is_some, not, option_copied, ℕ};
 ghost use Rattle.bdb_tool_ask.specs.FileAnswers.{data_named, found};
 ghost use Rattle.bdb_tool_words.specs.of_model.Change.{change};
 ghost use Rattle.bdb_tool_words.specs.Commands.{asked_name};
@@ -9,12 +9,12 @@ ghost use Rattle.bdb_tool_words.specs.of_text_format.Terms.{bytes_spelled};
 ghost use Rattle.bdb_tool_dump.specs.of_tool_lines.Finished.{Finishes};
 
 use crate::spelled::{name_bytes, name_sought, spelled};
-use bdb_file::{Found, Sound, Steps};
+use bdb_file::{Found, Readable, Sound, Steps};
 use bdb_swap::Sink;
 use bdb_tool_dump::status::NOT_FOUND;
 use bdb_tool_dump::{report, tell, tell_memory, write_found};
 use bdb_tool_words::Lookup;
-use std::alloc::Global;
+use std::alloc::{AllocError, Global};
 use std::sync::ledger::Ledger;
 
 /// Answers with what was found under a key, or that nothing was.
@@ -74,5 +74,49 @@ pub(crate) fn answer_lookup<K: Sink, E: Sink, L: Ledger>(
     match named_data(sound, name_bytes(&name), key.as_slice(), steps) {
         Some(values) => answer_found(alloc, values, lookup.print, out, err),
         None => tell(err, b"not found\n", NOT_FOUND),
+    }
+}
+
+/// What a key has in the list of the database with a name; `None` where no database has it.
+fn listed_data<'a>(
+    alloc: Global,
+    readable: &Readable<'a>,
+    name: Option<&[u8]>,
+    key: &[u8],
+) -> Result<Option<Found<'a>>, AllocError>
+    ensures { IfOk result (λ found. MatchOption found ([] ≡ data_named (file_of readable.now) (option_copied name.entry) key.now)
+        (λ values. values ≡ data_named (file_of readable.now) (option_copied name.entry) key.now)) }
+{
+    match readable.by_name(name) {
+        Some(db) => Ok(Some(readable.find(alloc, db, key)?)),
+        None => Ok(None),
+    }
+}
+
+/// Answers `get` of a file whose keys may stand in an order of their own: the list is gone over.
+pub(crate) fn answer_sought<K: Sink, E: Sink>(
+    alloc: Global,
+    readable: &Readable<'_>,
+    lookup: &Lookup<'_>,
+    out: &mut K,
+    err: &mut E,
+) -> u8
+    requires { IsTrue (is_some (key_request (asked_name (option_copied lookup.now.name)) (bytes_spelled (not lookup.now.hex) lookup.now.key.now)
+        lookup.now.print)) }
+    ensures { (name : Option (List ℕ)) (key : List ℕ) → asked_name (option_copied lookup.now.name) ≡ Some name
+        → bytes_spelled (not lookup.now.hex) lookup.now.key.now ≡ Some key
+        → Finishes (found lookup.now.print (data_named (file_of readable.now) name key)) (change K.written K.faults out.old out.new)
+        (change E.written E.faults err.old err.new) result }
+{
+    let Ok(name) = name_sought(alloc, lookup.name) else {
+        return tell_memory(err);
+    };
+    let Ok(key) = spelled(alloc, lookup.key, !lookup.hex) else {
+        return tell_memory(err);
+    };
+    match listed_data(alloc, readable, name_bytes(&name), key.as_slice()) {
+        Ok(Some(values)) => answer_found(alloc, values, lookup.print, out, err),
+        Ok(None) => tell(err, b"not found\n", NOT_FOUND),
+        Err(_) => tell_memory(err),
     }
 }

@@ -1,15 +1,17 @@
-//! The commands that read a file whose databases can be read, by the rows that count: `verify`, `list` and `dump`.
-ghost use Rattle.std.specs.Prelude.{◌≡◌, ◌≤◌, ◌^◌, IsTrue, List, Option, Some, is_some, length, option_copied, ℕ};
+//! The commands that read a file whose databases can be read, by the rows that count: `verify`, `list`, `get` and `dump`.
+ghost use Rattle.std.specs.Prelude.{◌≡◌, ◌≤◌, ◌^◌, IsTrue, List, Option, Some, is_some, length, not, option_copied, ℕ};
+ghost use Rattle.bdb_tool_words.specs.of_text_format.Terms.{bytes_spelled};
 ghost use Rattle.bdb_file.specs.of_any_order.AnyOrder.{faults_by_rows, verdict_by};
 ghost use Rattle.bdb_file.specs.of_format.Terms.{head_of};
 ghost use Rattle.bdb_tool_dump.specs.of_tool_lines.Printing.{Writes};
 ghost use Rattle.bdb_tool_ask.specs.FileAnswers.{asked_answer, dumped, judged_answer, sound_line, verified};
 ghost use Rattle.bdb_tool_words.specs.of_model.Change.{change};
-ghost use Rattle.bdb_tool_words.specs.Commands.{Dump, ListAll, Request as ModelRequest, text_request};
+ghost use Rattle.bdb_tool_words.specs.Commands.{Dump, Get, ListAll, Request as ModelRequest, key_request, text_request};
 ghost use Rattle.bdb_tool_words.specs.Commands.{asked_name};
 ghost use Rattle.bdb_tool_dump.specs.of_tool_lines.Finished.{Finishes};
 ghost use Rattle.bdb_tool_words.specs.WordsSeen.{reading_seen};
 
+use crate::looking::answer_sought;
 use crate::spelled::name_sought;
 use crate::text::sound_line;
 use bdb_file::{AllError, First, NamedList, Readable, Rows, Steps, verify_by};
@@ -19,7 +21,7 @@ use bdb_tool_dump::{
     Cut, put, refuse, report, tell, tell_list, tell_memory, write_list, write_section,
     write_sections,
 };
-use bdb_tool_words::{Reading, Selection};
+use bdb_tool_words::{Lookup, Reading, Selection};
 use std::alloc::Global;
 use std::sync::ledger::Ledger;
 
@@ -135,6 +137,30 @@ fn answer_dump<K: Sink, E: Sink, L: Ledger>(
     }
 }
 
+/// Answers `get`, by going over the list.
+fn answer_get<K: Sink, E: Sink, L: Ledger>(
+    alloc: Global,
+    image: &[u8],
+    rows: Rows,
+    lookup: &Lookup<'_>,
+    out: &mut K,
+    err: &mut E,
+    steps: &mut Steps<L>,
+) -> u8
+    requires size { length image.now ≤ 2 ^ 30 }
+    requires seen { IsTrue (is_some (key_request (asked_name (option_copied lookup.now.name)) (bytes_spelled (not lookup.now.hex) lookup.now.key.now)
+        lookup.now.print)) }
+    ensures { (name : Option (List ℕ)) (key : List ℕ) → asked_name (option_copied lookup.now.name) ≡ Some name
+        → bytes_spelled (not lookup.now.hex) lookup.now.key.now ≡ Some key
+        → Finishes (judged_answer (verdict_by rows image.now) (Get name key lookup.now.print) image.now) (change K.written K.faults out.old out.new)
+        (change E.written E.faults err.old err.new) result }
+{
+    match verify_by::<First, L>(alloc, image, rows, steps) {
+        Ok(readable) => answer_sought(alloc, &readable, lookup, out, err),
+        Err(error) => refuse(alloc, error, err),
+    }
+}
+
 /// Answers what is read of a file.
 pub fn answer_reading<K: Sink, E: Sink, L: Ledger>(
     alloc: Global,
@@ -153,6 +179,7 @@ pub fn answer_reading<K: Sink, E: Sink, L: Ledger>(
     match reading {
         Reading::Verify => answer_verify(alloc, image, rows, out, err, steps),
         Reading::List => answer_list(alloc, image, rows, out, err, steps),
+        Reading::Get(lookup) => answer_get(alloc, image, rows, lookup, out, err, steps),
         Reading::Dump(selection) => answer_dump(alloc, image, rows, selection, out, err, steps),
     }
 }

@@ -119,7 +119,7 @@ abbrev pub commands : List CommandRow
 commands =
     row command.Verify (codes "verify") (max_bytes ∷ any_order ∷ []) 0
     ∷ row command.List (codes "list") (max_bytes ∷ any_order ∷ []) 0
-    ∷ row command.Get (codes "get") (max_bytes ∷ name ∷ hex ∷ print ∷ []) 1
+    ∷ row command.Get (codes "get") (max_bytes ∷ name ∷ hex ∷ print ∷ any_order ∷ []) 1
     ∷ row command.Dump (codes "dump") (max_bytes ∷ name ∷ print ∷ any_order ∷ []) 0
     ∷ row command.Load (codes "load") (max_bytes ∷ onto ∷ []) 0
     ∷ row command.Salvage (codes "salvage") (max_bytes ∷ order ∷ page_size ∷ print ∷ []) 0
@@ -246,7 +246,7 @@ bounds_request _ _ _ prints = None
 abbrev pub asking : Rows → Option Request → Option Action
 asking rows request = option_map (Ask rows) request
 
--- the rows that `verify`, `list` and `dump` go by
+-- the rows that `verify`, `list`, `get` and `dump` go by
 abbrev pub rows_asked : Arguments → Rows
 rows_asked all = rows_by (has any_order all)
 
@@ -274,7 +274,7 @@ loading (Some file) = LoadOnto file
 abbrev pub action_of : CommandName → Arguments → Option Action
 action_of command.Verify all = Some (Ask (rows_asked all) Verify)
 action_of command.List all = Some (Ask (rows_asked all) ListAll)
-action_of command.Get all = asking All (key_request (name_asked all) (operand_spelled 0 all) (has print all))
+action_of command.Get all = asking (rows_asked all) (key_request (name_asked all) (operand_spelled 0 all) (has print all))
 action_of command.Dump all = asking (rows_asked all) (text_request (name_asked all) (has print all))
 action_of command.Load all = Some (loading (value_of onto all))
 action_of command.Salvage all = salvaging (has print all) (guess_of all)

@@ -8,7 +8,7 @@ use Rattle.bdb_tool_words.specs.Commands.{Action, Command, CommandRow, Convert, 
 use Rattle.bdb_tool_words.specs.Commands.{asked_name, asking, bounds_request, command_of, key_request, text_request, within}
 use Rattle.bdb_tool_words.specs.declared.command.CommandRow.{CommandRow as CodeRow}
 use Rattle.bdb_tool_words.specs.declared.command.Reading.{Reading}
-use Rattle.bdb_tool_words.specs.declared.command.Reading.TheVariants.{Verify as VerifyWord, List as ListWord, Dump as DumpWord}
+use Rattle.bdb_tool_words.specs.declared.command.Reading.TheVariants.{Verify as VerifyWord, List as ListWord, Get as FindWord, Dump as DumpWord}
 use Rattle.bdb_tool_words.specs.declared.command.Request.{Request as CodeRequest}
 use Rattle.bdb_tool_words.specs.declared.command.Request.TheVariants.{Get as GetWord, Range as RangeWord, Convert as ConvertWord, Stat as StatWord}
 use Rattle.bdb_tool_words.specs.declared.command.Action.{Action as CodeAction}
@@ -26,6 +26,7 @@ row_seen row = record { name = row.name; word = row.word.now; options = map opti
 abbrev pub reading_seen : Reading → Option Request
 reading_seen VerifyWord = Some Verify
 reading_seen ListWord = Some ListAll
+reading_seen (FindWord it) = key_request (asked_name (option_copied it.name)) (bytes_spelled (not it.hex) it.key.now) it.print
 reading_seen (DumpWord it) = text_request (asked_name (option_copied it.name)) it.print
 
 abbrev pub request_seen : CodeRequest → Option Request

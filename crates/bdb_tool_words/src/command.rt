@@ -1,8 +1,9 @@
 //! The command that the words of a command line are. Nothing here allocates.
 ghost use Rattle.std.specs.Prelude.{◌≡◌, IfSome, MatchOption, None, Some, false, drop, option_copied, option_map, true};
-ghost use Rattle.bdb_tool_words.specs.Commands.{action_of, command_by, command_of, command_on, commands, loading, onto_file, row_named, rows_asked};
+ghost use Rattle.bdb_tool_words.specs.Commands.{action_of, asking, command_by, command_of, command_on, commands, loading, onto_file, row_named, rows_asked};
 ghost use Rattle.bdb_tool_words.specs.declared.command.CommandName.TheVariants as command;
-ghost use Rattle.bdb_tool_words.specs.WordsSeen.{AreOnto, IsActionSeen, IsFitAction, IsFitCommand, IsSeen, action_seen, row_seen};
+ghost use Rattle.bdb_tool_words.specs.declared.command.Request.TheVariants.{Get as CodeGet};
+ghost use Rattle.bdb_tool_words.specs.WordsSeen.{AreOnto, IsActionSeen, IsFitAction, IsFitCommand, IsSeen, action_seen, request_seen, row_seen};
 
 use crate::guesses::{guess_asked, order_named};
 use crate::options::{
@@ -70,6 +71,7 @@ pub struct Bounds<'w> {
 pub enum Reading<'w> {
     Verify,
     List,
+    Get(Lookup<'w>),
     Dump(Selection<'w>),
 }
 
@@ -143,8 +145,6 @@ struct CommandRow {
 }
 
 /// The options of `get` and `range`.
-const LOOKUP: [OptionRow; 4] = [MAX_BYTES, NAME, HEX, PRINT];
-
 const COMMANDS: [CommandRow; 11] = [
     CommandRow {
         name: CommandName::Verify,
@@ -161,7 +161,7 @@ const COMMANDS: [CommandRow; 11] = [
     CommandRow {
         name: CommandName::Get,
         word: b"get",
-        options: &LOOKUP,
+        options: &[MAX_BYTES, NAME, HEX, PRINT, ANY_ORDER],
         operands: 1,
     },
     CommandRow {
@@ -191,7 +191,7 @@ const COMMANDS: [CommandRow; 11] = [
     CommandRow {
         name: CommandName::Range,
         word: b"range",
-        options: &LOOKUP,
+        options: &[MAX_BYTES, NAME, HEX, PRINT],
         operands: 2,
     },
     CommandRow {
@@ -297,6 +297,17 @@ fn rows_asked(read: &Arguments<'_>) -> Rows
     rows_by(read.has(ANY_ORDER))
 }
 
+// What `get` does with what it asks: it goes down a tree, but where any order is asked for.
+fn lookup_action(rows: Rows, lookup: Lookup<'_>) -> Action<'_>
+    ensures seen { action_seen result ≡ asking rows (request_seen (CodeGet lookup.entry)) }
+    ensures fit { IsFitAction result }
+{
+    match rows {
+        Rows::All => Action::Ask(Request::Get(lookup)),
+        Rows::AnyOrder => Action::Read(Rows::AnyOrder, Reading::Get(lookup)),
+    }
+}
+
 // What `get` does.
 fn get_action<'w>(read: &Arguments<'w>) -> Option<Action<'w>>
     ensures action { MatchOption result (action_of command.Get read.now ≡ None) (IsActionSeen (action_of command.Get read.now)) }
@@ -314,7 +325,7 @@ fn get_action<'w>(read: &Arguments<'w>) -> Option<Action<'w>>
         hex,
         print: read.has(PRINT),
     };
-    Some(Action::Ask(Request::Get(lookup)))
+    Some(lookup_action(rows_asked(read), lookup))
 }
 
 // What `dump` does.
