@@ -9,8 +9,10 @@ mod guess;
 mod kept;
 mod kept_pairs;
 mod kept_values;
+mod on_page;
 mod pairs;
 mod places;
+mod records;
 mod salvaged;
 mod sets;
 mod starts;
@@ -18,11 +20,14 @@ mod tables;
 mod thin;
 mod values;
 
-pub use bdb_survey::{Datum, Guess, KeyView, Meta, bytes_in, chain_of, compare_datum};
+pub use bdb_survey::{
+    Datum, Guess, KeyView, Meta, Pieces, WholePages, bytes_in, chain_of, compare_datum,
+};
 pub use bdb_text_format::{Bytes, FileKind, Order, Steps};
 pub use entries::{SalvageEntries, SalvageEntry};
 pub use error::SalvageError;
 pub use gathered::{loose_pairs, stored_pairs};
 pub use pairs::SalvagePairs;
+pub use records::SalvageRecords;
 pub use salvaged::{Salvaged, salvage};
 pub use values::SalvageValues;
