@@ -1,7 +1,6 @@
 -- The claims of all pages.
-use Rattle.std.proofs.Common.{◌≡◌, ℕ, ◌+◌, ◌≤◌, true, false, Bool, List, [], ◌∷◌, ◌++◌, length, map, flat_map, ap, ◌∙◌, arith, refl, sym, inl, inr}
-use Rattle.std.proofs.Common.{append-nil}
-use Rattle.std.specs.Prelude.{◌==◌, ◌&&◌, nat_lt, not, replicate, None}
+use Rattle.std.proofs.Common.{◌≡◌, ℕ, ◌+◌, ◌≤◌, true, false, Bool, List, [], ◌∷◌, ◌++◌, length, map, flat_map, ap, ◌∙◌, arith, refl, sym, inl, inr, append-nil}
+use Rattle.std.proofs.Common.{◌==◌, ◌&&◌, nat_lt, not, replicate, None}
 use Rattle.std.specs.List.{range_with_len}
 use Rattle.std.proofs.lemmas.Bool.{cases_Bool, cases_lt, eqb-true, and_parts}
 use Rattle.std.proofs.lemmas.List.{get_or_past, get_or-replicate, length-replicate}

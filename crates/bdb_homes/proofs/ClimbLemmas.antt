@@ -1,7 +1,6 @@
 -- The way up by claims.
-use Rattle.std.proofs.Common.{◌≡◌, ℕ, suc, ◌+◌, ◌-◌, ◌<◌, ◌≤◌, ◌^◌, true, false, List, Option, None, Some, ap, ◌∙◌, arith, refl, sym, inl, inr, get_or}
-use Rattle.std.specs.Prelude.{nat_lt}
-use Rattle.std.specs.Option.{option_and_then, option_map}
+use Rattle.std.proofs.Common.{◌≡◌, ℕ, suc, ◌+◌, ◌-◌, ◌<◌, ◌≤◌, ◌^◌, true, false, List, Option, None, Some, ap, ◌∙◌, arith, refl, sym, inl, inr, get_or, nat_lt}
+use Rattle.std.proofs.Common.{option_and_then, option_map}
 use Rattle.std.proofs.lemmas.Bool.{cases_Bool}
 use Rattle.bdb_survey.specs.of_format.Terms.{File, is_meta, page_at}
 use Rattle.bdb_homes.specs.Claims.{Claim, claim_of}

@@ -1,7 +1,5 @@
 -- Homes in their order: by claims, from before, from after.
-use Rattle.std.proofs.Common.{◌≡◌, ℕ, zero, suc, ◌<◌, List, ◌++◌, length, Option, None, Some, ap, ◌∙◌, arith, refl}
-use Rattle.std.proofs.Common.{get_or}
-use Rattle.std.specs.Option.{option_and_then}
+use Rattle.std.proofs.Common.{◌≡◌, ℕ, zero, suc, ◌<◌, List, ◌++◌, length, Option, None, Some, ap, ◌∙◌, arith, refl, get_or, option_and_then}
 use Rattle.bdb_survey.specs.of_format.Terms.{File}
 use Rattle.bdb_homes.specs.Faces.{AreFaces}
 use Rattle.bdb_homes.specs.Homes.{ahead, behind, from_side, home, led, or_else, own_home, page_after, page_before, spread}

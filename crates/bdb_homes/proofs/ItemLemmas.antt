@@ -1,9 +1,6 @@
 -- The claims of a page, one by one.
-use Rattle.std.proofs.Common.{◌≡◌, ℕ, zero, suc, ◌+◌, ◌-◌, ◌<◌, ◌≤◌, Bool, true, false, List, [], ◌∷◌, ◌++◌, length, map, take, None, Some, ap, ◌∙◌}
-use Rattle.std.proofs.Common.{arith, refl, sym, subst}
-use Rattle.std.proofs.Common.{append-nil, append_assoc, get_or}
-use Rattle.std.specs.Prelude.{◌==◌, if◌then◌else◌, slice_get}
-use Rattle.std.specs.Option.{option_map}
+use Rattle.std.proofs.Common.{◌≡◌, ℕ, zero, suc, ◌+◌, ◌-◌, ◌<◌, ◌≤◌, Bool, true, false, List, [], ◌∷◌, ◌++◌, length, map, take, None, Some, ap, ◌∙◌, arith}
+use Rattle.std.proofs.Common.{refl, sym, subst, append-nil, append_assoc, get_or, ◌==◌, if◌then◌else◌, slice_get, option_map}
 use Rattle.std.proofs.lemmas.Option.{slice_get-map}
 use Rattle.std.proofs.lemmas.List.{map-append}
 use Rattle.bdb_survey.specs.of_format.declared.pages.RecnoItem.{RecnoItem}

@@ -1,7 +1,6 @@
 -- Pages beside each other, as their faces tell.
-use Rattle.std.proofs.Common.{◌≡◌, ℕ, ◌<◌, ◌≤◌, Bool, true, false, List, length, get_or, None, Some, ap, ◌∙◌, refl, sym, subst, inl, inr}
-use Rattle.std.proofs.Common.{true≢false}
-use Rattle.std.specs.Prelude.{◌==◌, ◌&&◌, not, if◌then◌else◌}
+use Rattle.std.proofs.Common.{◌≡◌, ℕ, ◌<◌, ◌≤◌, Bool, true, false, List, length, get_or, None, Some, ap, ◌∙◌, refl, sym, subst, inl, inr, true≢false, ◌==◌}
+use Rattle.std.proofs.Common.{◌&&◌, not, if◌then◌else◌}
 use Rattle.std.proofs.lemmas.Option.{cond_some}
 use Rattle.std.proofs.lemmas.Bool.{cases_Bool, cases_lt, eqb-true, and_parts}
 use Rattle.bdb_survey.specs.of_format.Terms.{File, NoType, next_of, page_at}

@@ -1,8 +1,6 @@
 -- Claims to a run of pages: those that are closed, or aren't there, change nothing.
 use Rattle.std.proofs.Common.{◌≡◌, ◌⊎◌, ℕ, zero, suc, ◌+◌, ◌-◌, ◌^◌, ◌<◌, ◌≤◌, Bool, true, false, List, [], ◌∷◌, ◌++◌, length, set, map, ap, ◌∙◌, arith, refl}
-use Rattle.std.proofs.Common.{sym}
-use Rattle.std.proofs.Common.{subst, append-nil, append_assoc, get_or, zero-add, true≢false}
-use Rattle.std.specs.Prelude.{min, ◌||◌, not}
+use Rattle.std.proofs.Common.{sym, subst, append-nil, append_assoc, get_or, zero-add, true≢false, min, ◌||◌, not}
 use Rattle.std.specs.List.{range_with_len}
 use Rattle.std.proofs.lemmas.List.{map-append, length-set}
 use Rattle.std.proofs.lemmas.List.FromFn.{get_or-range_with_len, length-range_with_len}

@@ -1,7 +1,6 @@
 -- Homes that pages get from those beside them.
 use Rattle.std.proofs.Common.{◌≡◌, ◌⊎◌, ℕ, zero, suc, ◌+◌, ◌-◌, ◌<◌, ◌≤◌, List, [], ◌∷◌, length, set, Option, None, Some, ap, ◌∙◌, arith, refl, sym, subst, inl}
-use Rattle.std.proofs.Common.{inr}
-use Rattle.std.specs.Option.{option_and_then}
+use Rattle.std.proofs.Common.{inr, option_and_then}
 use Rattle.std.proofs.lemmas.Bool.{cases_eq, cases_lt}
 use Rattle.std.proofs.lemmas.List.{get_or-set_same, get_or-set_other, get_or_past, length-set}
 use Rattle.bdb_homes.specs.Homes.{from_side, or_else, spread}

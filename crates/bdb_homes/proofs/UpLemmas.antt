@@ -1,7 +1,6 @@
 -- One claim more.
-use Rattle.std.proofs.Common.{◌≡◌, ℕ, ◌<◌, true, false, List, [], ◌∷◌, ◌++◌, length, set, Option, None, Some, ap, ◌∙◌, arith, refl, sym, inl, inr}
-use Rattle.std.proofs.Common.{subst, get_or, true≢false}
-use Rattle.std.specs.Prelude.{◌==◌, ◌&&◌, if◌then◌else◌}
+use Rattle.std.proofs.Common.{◌≡◌, ℕ, ◌<◌, true, false, List, [], ◌∷◌, ◌++◌, length, set, Option, None, Some, ap, ◌∙◌, arith, refl, sym, inl, inr, subst}
+use Rattle.std.proofs.Common.{get_or, true≢false, ◌==◌, ◌&&◌, if◌then◌else◌}
 use Rattle.std.proofs.lemmas.Bool.{cases_Bool, cases_eq, eqb-true, and_parts}
 use Rattle.std.proofs.lemmas.List.{get_or-set_same, get_or-set_other, length-set}
 use Rattle.bdb_survey.specs.of_format.Terms.{File, is_meta, page_at}

@@ -1,6 +1,5 @@
 -- A walk along a row.
-use Rattle.std.proofs.Common.{◌≡◌, ◌⊎◌, ℕ, ◌<◌, ◌≤◌, true, false, List, length, set, Option, None, Some, ◌∙◌, arith, refl, sym, subst, inl, inr}
-use Rattle.std.specs.Option.{is_some}
+use Rattle.std.proofs.Common.{◌≡◌, ◌⊎◌, ℕ, ◌<◌, ◌≤◌, true, false, List, length, set, Option, None, Some, ◌∙◌, arith, refl, sym, subst, inl, inr, is_some}
 use Rattle.std.proofs.lemmas.Option.{same_Some}
 use Rattle.std.proofs.lemmas.List.{length-set}
 use Rattle.bdb_survey.specs.of_format.Terms.{File}

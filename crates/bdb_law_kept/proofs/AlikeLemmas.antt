@@ -1,8 +1,6 @@
 -- Settings that load alike.
-use Rattle.std.proofs.Common.{◌≡◌, ℕ, ◌+◌, ◌-◌, ◌*◌, ◌/◌, ◌≤◌, Bool, true, false, not, cond, List, [], length, arith, refl, sym, ◌∙◌, ap, subst, inl}
-use Rattle.std.proofs.Common.{inr}
-use Rattle.std.specs.Prelude.{◌&&◌, ◌||◌, nat_lt}
-use Rattle.std.specs.List.{Contains}
+use Rattle.std.proofs.Common.{◌≡◌, ℕ, ◌+◌, ◌-◌, ◌*◌, ◌/◌, ◌≤◌, Bool, true, false, not, cond, List, [], length, arith, refl, sym, ◌∙◌, ap, subst, inl, inr, ◌&&◌}
+use Rattle.std.proofs.Common.{◌||◌, nat_lt, Contains}
 use Rattle.std.proofs.lemmas.Bool.Decides.{nat_tests}
 use Rattle.std.proofs.Math.Nat.{div-mul-le_self, mul-le-mul_right}
 use Rattle.bdb_databases.specs.of_format.declared.kinds.Kind.{Kind}

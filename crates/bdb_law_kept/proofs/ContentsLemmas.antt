@@ -1,6 +1,5 @@
 -- The lists of a btree and of a hash of which no row of the contents holds are kept.
-use Rattle.std.proofs.Common.{◌≡◌, ℕ, ◌+◌, ◌≤◌, Bool, true, false, cond, List, [], arith, refl, sym, ◌∙◌, ap, subst}
-use Rattle.std.specs.Prelude.{◌&&◌, ◌==◌}
+use Rattle.std.proofs.Common.{◌≡◌, ℕ, ◌+◌, ◌≤◌, Bool, true, false, cond, List, [], arith, refl, sym, ◌∙◌, ap, subst, ◌&&◌, ◌==◌}
 use Rattle.std.specs.List.{Contains, flat_map, range_with_len}
 use Rattle.std.proofs.lemmas.Bool.{eq-eqb, true≢false}
 use Rattle.bdb_databases.specs.of_format.declared.kinds.Order.{Order}

@@ -1,7 +1,6 @@
 -- The dump of a sound image is read as sections that are kept.
-use Rattle.std.proofs.Common.{◌≡◌, ℕ, suc, Bool, true, false, not, cond, List, [], ◌∷◌, ◌++◌, length, map, Option, Some, None, refl, sym, ◌∙◌, ap, subst}
-use Rattle.std.specs.Prelude.{◌&&◌, ◌||◌, ◌==◌, is_some, unwrap_or}
-use Rattle.std.specs.List.{All, Contains, flat_map, fold}
+use Rattle.std.proofs.Common.{◌≡◌, ℕ, suc, Bool, true, false, not, cond, List, [], ◌∷◌, ◌++◌, length, map, Option, Some, None, refl, sym, ◌∙◌, ap, subst, ◌&&◌}
+use Rattle.std.proofs.Common.{◌||◌, ◌==◌, is_some, unwrap_or, All, Contains, flat_map, fold}
 use Rattle.std.proofs.lemmas.List.Elements.{All-head, All-tail}
 use Rattle.bdb_databases.specs.of_format.declared.kinds.Kind.{Kind}
 use Rattle.bdb_databases.specs.of_format.declared.kinds.Kind.TheVariants.{Btree, Recno, Hash, Queue}

@@ -1,7 +1,6 @@
 -- Settings that show in the same header lines load alike.
-use Rattle.std.proofs.Common.{◌≡◌, ℕ, ◌^◌, ◌<◌, Bool, true, false, not, cond, List, [], ◌∷◌, map, Option, Some, None, arith, codes, refl, sym, ◌∙◌}
-use Rattle.std.proofs.Common.{ap, subst, true≢false}
-use Rattle.std.specs.Prelude.{◌&&◌, ◌||◌, ◌==◌, decimal}
+use Rattle.std.proofs.Common.{◌≡◌, ℕ, ◌^◌, ◌<◌, Bool, true, false, not, cond, List, [], ◌∷◌, map, Option, Some, None, arith, codes, refl, sym, ◌∙◌, ap, subst}
+use Rattle.std.proofs.Common.{true≢false, ◌&&◌, ◌||◌, ◌==◌, decimal}
 use Rattle.std.proofs.lemmas.Bool.{and_parts}
 use Rattle.bdb_databases.specs.of_format.declared.kinds.Kind.{Kind}
 use Rattle.bdb_databases.specs.of_format.declared.kinds.Kind.TheVariants.{Btree, Recno, Hash, Queue}

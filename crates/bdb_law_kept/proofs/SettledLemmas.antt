@@ -1,8 +1,6 @@
 -- A list in its order is loaded as it is.
-use Rattle.std.proofs.Common.{◌≡◌, ℕ, ◌-◌, Bool, true, false, not, cond, List, [], ◌∷◌, ◌++◌, length, map, append-nil, append_assoc, arith, refl, sym}
-use Rattle.std.proofs.Common.{◌∙◌, ap, subst, inl, inr}
-use Rattle.std.specs.Prelude.{◌⊎◌, ◌&&◌, ◌||◌, ◌%◌, replicate}
-use Rattle.std.specs.List.{All, Contains, fold}
+use Rattle.std.proofs.Common.{◌≡◌, ℕ, ◌-◌, Bool, true, false, not, cond, List, [], ◌∷◌, ◌++◌, length, map, append-nil, append_assoc, arith, refl, sym, ◌∙◌, ap}
+use Rattle.std.proofs.Common.{subst, inl, inr, ◌⊎◌, ◌&&◌, ◌||◌, ◌%◌, replicate, All, Contains, fold}
 use Rattle.bdb_databases.specs.of_format.declared.settings.Settings.{Settings}
 use Rattle.bdb_databases.specs.of_format.Terms.{BytesKey, ListKey, NumberKey, less}
 use Rattle.bdb_databases.proofs.of_format.ListLemmas.{all_of, only_member}

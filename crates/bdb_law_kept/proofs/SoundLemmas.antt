@@ -1,6 +1,5 @@
 -- A sound image: no row of any stage holds, and the metadata of its databases is there.
-use Rattle.std.proofs.Common.{◌≡◌, ℕ, List, [], ◌∷◌, None, refl, sym, ◌∙◌, ap}
-use Rattle.std.specs.List.{Contains}
+use Rattle.std.proofs.Common.{◌≡◌, ℕ, List, [], ◌∷◌, None, refl, sym, ◌∙◌, ap, Contains}
 use Rattle.std.proofs.lemmas.List.{get_or_default}
 use Rattle.bdb_databases.specs.of_format.declared.kinds.Fault.{Fault}
 use Rattle.bdb_databases.specs.of_format.Terms.{Database, databases, faults_of, file_of, first_judgement, head_of, list_of}

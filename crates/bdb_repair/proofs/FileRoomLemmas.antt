@@ -1,7 +1,6 @@
 -- A file in which no pair replaces another has room for all data that it keeps.
 use Rattle.std.proofs.Common.{◌≡◌, ℕ, zero, suc, ◌+◌, ◌-◌, ◌*◌, ◌<◌, ◌≤◌, Bool, true, false, cond, List, [], ◌∷◌, ◌++◌, length, map, Option, Some, None}
-use Rattle.std.proofs.Common.{add-mul, arith, refl, sym, ap, subst, mul-le-mul_right}
-use Rattle.std.specs.Prelude.{◌||◌, is_some, nat_lt, replicate}
+use Rattle.std.proofs.Common.{add-mul, arith, refl, sym, ap, subst, mul-le-mul_right, ◌||◌, is_some, nat_lt, replicate}
 use Rattle.std.specs.List.{All, enumerate_from, fold, sum_by}
 use Rattle.std.specs.Str.{bytes_eq}
 use Rattle.std.proofs.lemmas.Bool.{le-ltb, lt-ltb}

@@ -1,10 +1,9 @@
 -- Pairs in the making, as more of them come.
-use Rattle.std.proofs.Common.{◌≡◌, ℕ, ◌+◌, ◌*◌, ◌^◌, ◌<◌, ◌≤◌, cond, not, List, [], ◌∷◌, ◌++◌, Some, arith, ap, append-nil, append_assoc, drop, false, inl, inr, length, length-append, length-drop}
-use Rattle.std.proofs.Common.{map, refl, subst, sym, take, ◌∙◌}
+use Rattle.std.proofs.Common.{◌≡◌, ℕ, ◌+◌, ◌*◌, ◌^◌, ◌<◌, ◌≤◌, cond, not, List, [], ◌∷◌, ◌++◌, Some, arith, ap, append-nil, append_assoc, drop, false, inl, inr}
+use Rattle.std.proofs.Common.{length, length-append, length-drop, map, refl, subst, sym, take, ◌∙◌, nat_cmp}
 use Rattle.std.specs.BTreeMap.{BTreeMap, Updates, get, is_at}
 use Rattle.std.specs.List.{enumerate_from, flat_map}
 use Rattle.std.specs.Map.{lookup}
-use Rattle.std.specs.Ordering.{nat_cmp}
 use Rattle.std.proofs.lemmas.Bool.{cases_eq}
 use Rattle.std.proofs.lemmas.List.{drop-append-le, length-map, map-append, take-append-le, take_all}
 use Rattle.std.proofs.Math.Seq.{drop-append_seam}

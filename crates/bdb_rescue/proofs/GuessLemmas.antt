@@ -1,6 +1,5 @@
 -- The guess that is chosen has a legal page size.
-use Rattle.std.proofs.Common.{◌≡◌, ℕ, Bool, true, false, cond, List, length, refl, subst}
-use Rattle.std.specs.Prelude.{◌&&◌, nat_lt, IfSome, IsTrue, Option, Some, None}
+use Rattle.std.proofs.Common.{◌≡◌, ℕ, Bool, true, false, cond, List, length, refl, subst, ◌&&◌, nat_lt, IfSome, IsTrue, Option, Some, None}
 use Rattle.std.specs.Option.{option_or}
 use Rattle.bdb_text_format.specs.of_format.declared.kinds.Order.{Order}
 use Rattle.bdb_text_format.specs.of_format.declared.kinds.Order.TheVariants.{Big, Little}

@@ -1,7 +1,5 @@
 -- What is left of a walk over kept places, one step on.
-use Rattle.std.proofs.Common.{◌≡◌, ℕ, ◌+◌, ◌*◌, Bool, true, false, cond, map, refl, List, [], ◌∷◌, ◌++◌, sym, ◌∙◌, ap, subst}
-use Rattle.std.specs.Prelude.{Option}
-use Rattle.std.specs.List.{All, flat_map}
+use Rattle.std.proofs.Common.{◌≡◌, ℕ, ◌+◌, ◌*◌, Bool, true, false, cond, map, refl, List, [], ◌∷◌, ◌++◌, sym, ◌∙◌, ap, subst, Option, All, flat_map}
 use Rattle.bdb_text_format.specs.of_format.Terms.{File, value_of}
 use Rattle.bdb_rescue.specs.declared.kept.KeptPair.{KeptPair}
 use Rattle.bdb_rescue.specs.declared.kept.KeptValue.{KeptValue}

@@ -1,7 +1,6 @@
 -- Marks on pages, and rows that are walked.
 use Rattle.std.proofs.Common.{◌≡◌, ℕ, ◌+◌, ◌*◌, ◌/◌, ◌<◌, ◌≤◌, Bool, true, false, cond, List, [], ◌∷◌, ◌++◌, map, length, drop, arith, refl, sym, ◌∙◌, ap}
-use Rattle.std.proofs.Common.{subst, inl, inr, eqb-true}
-use Rattle.std.specs.Prelude.{◌==◌, not, Option, Some, None, slice_index_or, take}
+use Rattle.std.proofs.Common.{subst, inl, inr, eqb-true, ◌==◌, not, Option, Some, None, slice_index_or, take}
 use Rattle.std.specs.List.{All, Contains, flat_map, range_with_len}
 use Rattle.std.proofs.lemmas.Bool.{and_parts, cases_lt, eq-eqb}
 use Rattle.std.proofs.lemmas.List.{get_or_default, take_more}

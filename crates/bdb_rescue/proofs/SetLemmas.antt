@@ -1,7 +1,5 @@
 -- The values of a set.
-use Rattle.std.proofs.Common.{◌≡◌, ℕ, cond, List, [], arith, refl, ap}
-use Rattle.std.specs.Prelude.{◌==◌}
-use Rattle.std.specs.List.{Contains, flat_map}
+use Rattle.std.proofs.Common.{◌≡◌, ℕ, cond, List, [], arith, refl, ap, ◌==◌, Contains, flat_map}
 use Rattle.std.proofs.lemmas.Bool.{eq-eqb}
 use Rattle.bdb_text_format.proofs.of_format.ListLemmas.{passes_here}
 use Rattle.bdb_text_format.specs.of_format.Terms.{File, chain}

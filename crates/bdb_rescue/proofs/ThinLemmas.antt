@@ -1,6 +1,5 @@
 -- The values of chains that have fewer bytes than pages.
-use Rattle.std.proofs.Common.{◌≡◌, ℕ, ◌<◌, Bool, true, false, cond, List, [], ◌∷◌, length, arith, refl, sym, ◌∙◌, ap, inl, inr, eqb-true}
-use Rattle.std.specs.Prelude.{Some, None}
+use Rattle.std.proofs.Common.{◌≡◌, ℕ, ◌<◌, Bool, true, false, cond, List, [], ◌∷◌, length, arith, refl, sym, ◌∙◌, ap, inl, inr, eqb-true, Some, None}
 use Rattle.std.proofs.lemmas.Bool.{and_parts, cases_lt}
 use Rattle.bdb_text_format.specs.of_format.Terms.{Chain, File, joined, pieces_of, value_of}
 use Rattle.bdb_rescue.specs.Kept.{bytes_in, thin_from}

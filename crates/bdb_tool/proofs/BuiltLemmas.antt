@@ -1,6 +1,5 @@
 -- Answers of the commands that build a file, and of `salvage`.
-use Rattle.std.proofs.Common.{◌≡◌, ℕ, Bool, true, false, List, sym, subst, arith}
-use Rattle.std.specs.Prelude.{Option, Some, None, Result, nat_lt, codes, string_bytes}
+use Rattle.std.proofs.Common.{◌≡◌, ℕ, Bool, true, false, List, sym, subst, arith, Option, Some, None, Result, nat_lt, codes, string_bytes}
 use Rattle.bdb_repair.specs.of_text_format.Terms.{line, text_fault}
 use Rattle.bdb_repair.specs.of_model.Answers.{Answer, done, fault_line, told, unsupported_line}
 use Rattle.bdb_repair.specs.of_model.Change.{Change}

@@ -1,6 +1,5 @@
 -- What `repair` answers.
-use Rattle.std.proofs.Common.{◌≡◌, ◌⊎◌, ℕ, Bool, true, false, List, Option, Some, None, Result, Ok, Err, inl, inr, refl, sym, subst, arith}
-use Rattle.std.specs.Prelude.{nat_lt}
+use Rattle.std.proofs.Common.{◌≡◌, ◌⊎◌, ℕ, Bool, true, false, List, Option, Some, None, Result, Ok, Err, inl, inr, refl, sym, subst, arith, nat_lt}
 use Rattle.bdb_repair.proofs.of_format.KnownLemmas.{keeps_itself}
 use Rattle.bdb_repair.specs.of_text_format.declared.sections.Section.{Section}
 use Rattle.bdb_tool_ask.specs.of_tool_lines.declared.cut.Cut.{Cut}

@@ -1,6 +1,5 @@
 -- From the words and the source to a task.
-use Rattle.std.proofs.Common.{◌≡◌, ℕ, ◌+◌, false, true, List, refl, subst, sym, ◌∙◌, ap}
-use Rattle.std.specs.Prelude.{Option, Some, None, IsTrue, is_some}
+use Rattle.std.proofs.Common.{◌≡◌, ℕ, ◌+◌, false, true, List, refl, subst, sym, ◌∙◌, ap, Option, Some, None, IsTrue, is_some}
 use Rattle.bdb_repair.specs.of_model.Change.{Change}
 use Rattle.bdb_tool_words.specs.Commands.{Action, Ask, Command, Load, Repair, Request, Salvage, asking, handed, reads_input, within}
 use Rattle.bdb_repair.specs.of_any_order.declared.rows.Rows.{Rows}

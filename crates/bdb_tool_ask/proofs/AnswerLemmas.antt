@@ -1,7 +1,6 @@
 -- Answers over a sound file.
-use Rattle.std.proofs.Common.{◌≡◌, ℕ, ◌<◌, Bool, true, false, List, [], ◌∷◌, ◌++◌, length, inl, inr, sym, subst, ◌∙◌, ap, arith, refl}
-use Rattle.std.specs.Prelude.{if◌then◌else◌, Option, Some, None, Result, not, option_copied}
-use Rattle.std.specs.Option.{option_map}
+use Rattle.std.proofs.Common.{◌≡◌, ℕ, ◌<◌, Bool, true, false, List, [], ◌∷◌, ◌++◌, length, inl, inr, sym, subst, ◌∙◌, ap, arith, refl, if◌then◌else◌, Option}
+use Rattle.std.proofs.Common.{Some, None, Result, not, option_copied, option_map}
 use Rattle.std.proofs.lemmas.Option.{slice_get-get_or}
 use Rattle.bdb_file.specs.of_format.declared.kinds.Order.{Order}
 use Rattle.bdb_file.specs.of_format.declared.kinds.Fault.{Fault}

@@ -1,6 +1,5 @@
 -- A file that is put into an order.
-use Rattle.std.proofs.Common.{◌≡◌, ◌⊎◌, ℕ, List, inl, inr, sym, subst, arith}
-use Rattle.std.specs.Prelude.{Option, Some, None, Result, Ok, Err}
+use Rattle.std.proofs.Common.{◌≡◌, ◌⊎◌, ℕ, List, inl, inr, sym, subst, arith, Option, Some, None, Result, Ok, Err}
 use Rattle.bdb_file.specs.of_format.declared.kinds.Order.{Order}
 use Rattle.bdb_tool_dump.specs.of_tool_lines.declared.cut.Cut.{Cut}
 use Rattle.bdb_tool_dump.specs.of_tool_lines.Printing.{Writes}

@@ -1,6 +1,5 @@
 -- Ranges of a sound file.
-use Rattle.std.proofs.Common.{◌≡◌, ◌∙◌, ℕ, ◌<◌, Bool, true, false, List, length, refl, sym, subst, ap, arith}
-use Rattle.std.specs.Prelude.{if◌then◌else◌, Option, Some, None, Result}
+use Rattle.std.proofs.Common.{◌≡◌, ◌∙◌, ℕ, ◌<◌, Bool, true, false, List, length, refl, sym, subst, ap, arith, if◌then◌else◌, Option, Some, None, Result}
 use Rattle.std.proofs.lemmas.Option.{slice_get-get_or}
 use Rattle.bdb_file.specs.of_format.declared.metadata.BtreeMeta.{BtreeMeta}
 use Rattle.bdb_file.specs.of_format.Terms.{BtreeFields, File, ListKey, Metadata, btree_list, databases, is_recno, kind_of, list_of, place_of}

@@ -1,6 +1,5 @@
 -- What `verify` tells.
-use Rattle.std.proofs.Common.{◌≡◌, ℕ, ◌<◌, List, [], ◌∷◌, length, inl, inr, sym, subst, arith, ◌⊎◌}
-use Rattle.std.specs.Prelude.{Option}
+use Rattle.std.proofs.Common.{◌≡◌, ℕ, ◌<◌, List, [], ◌∷◌, length, inl, inr, sym, subst, arith, ◌⊎◌, Option}
 use Rattle.bdb_file.specs.of_faults.Refusals.{IsAllOf}
 use Rattle.bdb_file.specs.of_faults.declared.refusals.AllError.{AllError}
 use Rattle.bdb_file.specs.of_faults.declared.refusals.AllError.TheVariants.{Faults}

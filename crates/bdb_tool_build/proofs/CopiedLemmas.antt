@@ -1,8 +1,6 @@
 -- Pairs of a base, put one behind the other.
-use Rattle.std.proofs.Common.{◌≡◌, ℕ, ◌+◌, ◌-◌, ◌<◌, Bool, true, List, [], ◌∷◌, ◌++◌, append-nil, append_assoc, arith, length}
-use Rattle.std.proofs.Common.{length-append, map, take}
-use Rattle.std.proofs.Common.{refl, sym, ◌∙◌, ap, Some, subst}
-use Rattle.std.specs.Prelude.{slice_get, IfOk, Result, Ok, Err}
+use Rattle.std.proofs.Common.{◌≡◌, ℕ, ◌+◌, ◌-◌, ◌<◌, Bool, true, List, [], ◌∷◌, ◌++◌, append-nil, append_assoc, arith, length, length-append, map, take, refl}
+use Rattle.std.proofs.Common.{sym, ◌∙◌, ap, Some, subst, slice_get, IfOk, Result, Ok, Err}
 use Rattle.std.proofs.lemmas.List.{take_all}
 use Rattle.std.proofs.lemmas.List.Elements.{All-head, All-tail}
 use Rattle.std.proofs.lemmas.List.Sums.{fold-append}

@@ -1,6 +1,5 @@
 -- From the sections of a text to its answer.
-use Rattle.std.proofs.Common.{◌≡◌, ℕ, true, List, ap, inl, inr, refl, subst, sym, ◌∙◌, ◌⊎◌}
-use Rattle.std.specs.Prelude.{Option, Some, None, Result, Ok, Err, MatchResult, is_none, is_some}
+use Rattle.std.proofs.Common.{◌≡◌, ℕ, true, List, ap, inl, inr, refl, subst, sym, ◌∙◌, ◌⊎◌, Option, Some, None, Result, Ok, Err, MatchResult, is_none, is_some}
 use Rattle.bdb_model.specs.of_text_format.declared.faults.TextFault.{TextFault}
 use Rattle.bdb_model.specs.of_text_format.declared.sections.Section.{Section}
 use Rattle.bdb_model.specs.Answers.{Answer, done, told}

@@ -1,6 +1,5 @@
 -- From the sections of a text to the answer on a base.
-use Rattle.std.proofs.Common.{◌≡◌, ◌⊎◌, ℕ, List, inl, inr, subst, sym, ap}
-use Rattle.std.specs.Prelude.{Option, Some, None, Result, Ok, Err, MatchResult}
+use Rattle.std.proofs.Common.{◌≡◌, ◌⊎◌, ℕ, List, inl, inr, subst, sym, ap, Option, Some, None, Result, Ok, Err, MatchResult}
 use Rattle.bdb_model.specs.of_text_format.declared.sections.Section.{Section}
 use Rattle.bdb_model.specs.of_text_format.Terms.{Reads}
 use Rattle.bdb_model.specs.Answers.{Answer, done}

@@ -1,6 +1,5 @@
 -- Refusals as answers.
-use Rattle.std.proofs.Common.{subst}
-use Rattle.std.specs.Prelude.{string_bytes}
+use Rattle.std.proofs.Common.{subst, string_bytes}
 use Rattle.bdb_model.specs.Answers.{Answer, told}
 use Rattle.bdb_tool_build.specs.declared.refusal.Refusal.{Refusal}
 use Rattle.bdb_tool_build.specs.declared.refusal.Refusal.TheVariants.{Faulty, TooLarge, Memory}

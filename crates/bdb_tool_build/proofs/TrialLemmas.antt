@@ -1,8 +1,6 @@
 -- The section of generated pairs can be loaded, and has no load error.
 use Rattle.std.proofs.Common.{◌≡◌, ◌⊎◌, ℕ, ◌+◌, ◌%◌, ◌==◌, ◌≤◌, ne_eqb, Bool, true, false, List, [], ◌∷◌, ◌++◌, length, length-append, arith, inl, inr, refl}
-use Rattle.std.proofs.Common.{subst, sym, ◌∙◌}
-use Rattle.std.specs.Prelude.{Some, None, if◌then◌else◌, map, nat_lt, replicate}
-use Rattle.std.specs.List.{All, flat_map}
+use Rattle.std.proofs.Common.{subst, sym, ◌∙◌, Some, None, if◌then◌else◌, map, nat_lt, replicate, All, flat_map}
 use Rattle.std.proofs.lemmas.List.{length-replicate}
 use Rattle.std.proofs.lemmas.List.Elements.{All-cons, All-head, All-map, All-nil, All-tail}
 use Rattle.bdb_model.specs.of_format.declared.kinds.Kind.{Kind}

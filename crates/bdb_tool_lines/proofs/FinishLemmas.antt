@@ -1,6 +1,5 @@
 -- How an answer is written.
-use Rattle.std.proofs.Common.{List, [], arith, inl, inr, length, refl, subst, sym, ℕ, ◌<◌, ◌∙◌, ◌≡◌, ◌≢◌, ◌≤◌}
-use Rattle.std.specs.Prelude.{Err, Ok, Option, Result}
+use Rattle.std.proofs.Common.{List, [], arith, inl, inr, length, refl, subst, sym, ℕ, ◌<◌, ◌∙◌, ◌≡◌, ◌≢◌, ◌≤◌, Err, Ok, Option, Result}
 use Rattle.std.proofs.Math.Seq.{take-length}
 use Rattle.bdb_model.specs.Answers.{Answer, done}
 use Rattle.bdb_model.specs.Change.{Change, Gains, GainsPart}

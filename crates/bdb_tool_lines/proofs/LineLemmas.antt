@@ -1,6 +1,5 @@
 -- Lines that are put together of parts.
-use Rattle.std.proofs.Common.{◌≡◌, ◌∙◌, ℕ, List, ◌++◌, ap, append_assoc, sym}
-use Rattle.std.specs.Prelude.{Option, Some, Result, codes}
+use Rattle.std.proofs.Common.{◌≡◌, ◌∙◌, ℕ, List, ◌++◌, ap, append_assoc, sym, Option, Some, Result, codes}
 use Rattle.std.specs.Fmt.{decimal}
 use Rattle.bdb_faults.specs.of_format.declared.kinds.Fault.{Fault}
 use Rattle.bdb_faults.specs.of_format.declared.kinds.Unsupported.{Unsupported}

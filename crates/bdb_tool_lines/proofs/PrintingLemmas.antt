@@ -1,6 +1,5 @@
 -- Texts that are printed one after another, and what is written of them.
-use Rattle.std.proofs.Common.{◌≡◌, ◌∙◌, ℕ, ◌+◌, ◌≤◌, List, [], ◌++◌, length, take, ap, sym, subst, arith, inl, inr, append-nil}
-use Rattle.std.specs.Prelude.{Option, Ok, Err, OnOk, Result}
+use Rattle.std.proofs.Common.{◌≡◌, ◌∙◌, ℕ, ◌+◌, ◌≤◌, List, [], ◌++◌, length, take, ap, sym, subst, arith, inl, inr, append-nil, Option, Ok, Err, OnOk, Result}
 use Rattle.std.specs.Io.KnownBytes.{Appends}
 use Rattle.std.proofs.KnownBytes.{Appends-nil, Appends-trans}
 use Rattle.std.proofs.Math.Seq.{take-append_seam, take-append-add}

@@ -1,6 +1,5 @@
 -- What holds at the pages of a file is told, with its status.
-use Rattle.std.proofs.Common.{◌≡◌, ◌∙◌, ℕ, ◌<◌, List, [], ◌∷◌, inl, inr, refl, sym, subst, arith, ◌⊎◌}
-use Rattle.std.specs.Prelude.{Ok, Err, Result}
+use Rattle.std.proofs.Common.{◌≡◌, ◌∙◌, ℕ, ◌<◌, List, [], ◌∷◌, inl, inr, refl, sym, subst, arith, ◌⊎◌, Ok, Err, Result}
 use Rattle.bdb_tool_lines.specs.Printing.{Writes}
 use Rattle.bdb_tool_lines.specs.Telling.{first_status, judgement_status}
 use Rattle.bdb_tool_lines.specs.declared.cut.Cut.{Cut}

@@ -1,7 +1,5 @@
 -- The text of a section, part by part.
-use Rattle.std.proofs.Common.{◌≡◌, ◌∙◌, ℕ, Bool, List, [], ◌∷◌, ◌++◌, refl, ap, append-nil}
-use Rattle.std.specs.Prelude.{Option}
-use Rattle.std.specs.List.{flat_map}
+use Rattle.std.proofs.Common.{◌≡◌, ◌∙◌, ℕ, Bool, List, [], ◌∷◌, ◌++◌, refl, ap, append-nil, Option, flat_map}
 use Rattle.std.proofs.lemmas.Grind.{flat_map-append}
 use Rattle.bdb_range.specs.of_format.declared.settings.Settings.{Settings}
 use Rattle.bdb_text.specs.of_text_format.Terms.{data_end, data_line, header_lines, header_text, key_bytes, line, pair_lines, section_text}

@@ -1,6 +1,5 @@
 -- The line of a database.
-use Rattle.std.proofs.Common.{◌≡◌, ◌∙◌, ℕ, Bool, true, false, List, ◌++◌, refl, ap}
-use Rattle.std.specs.Prelude.{Option, if◌then◌else◌}
+use Rattle.std.proofs.Common.{◌≡◌, ◌∙◌, ℕ, Bool, true, false, List, ◌++◌, refl, ap, Option, if◌then◌else◌}
 use Rattle.bdb_range.specs.of_format.declared.kinds.Kind.TheVariants.{Btree, Recno}
 use Rattle.bdb_range.specs.of_format.declared.kinds.Order.{Order}
 use Rattle.bdb_range.specs.of_format.declared.metadata.BtreeMeta.{BtreeMeta}

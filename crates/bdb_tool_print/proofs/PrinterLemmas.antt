@@ -1,10 +1,8 @@
 -- Texts that a printer prints one after another.
 use Rattle.std.proofs.Common.{◌≡◌, ◌∙◌, ℕ, suc, ◌+◌, ◌<◌, ◌≤◌, Bool, List, [], ◌∷◌, ◌++◌, length, drop, get_or, arith, refl, sym, ap, subst, append_assoc}
-use Rattle.std.proofs.Common.{append-nil}
-use Rattle.std.specs.List.{flat_map}
+use Rattle.std.proofs.Common.{append-nil, flat_map, Option, Ok, Err, OnOk, Result, IsErrAnd}
 use Rattle.std.proofs.Math.Seq.{drop-cons}
 use Rattle.std.proofs.lemmas.List.{drop_all}
-use Rattle.std.specs.Prelude.{Option, Ok, Err, OnOk, Result, IsErrAnd}
 use Rattle.bdb_range.specs.of_format.Terms.{joined}
 use Rattle.bdb_tool_lines.specs.of_model.Change.{change}
 use Rattle.bdb_text.specs.of_text_format.Terms.{spelling}

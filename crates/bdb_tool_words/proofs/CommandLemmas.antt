@@ -1,7 +1,5 @@
 -- The first word.
-use Rattle.std.proofs.Common.{◌≡◌, ℕ, List, [], ◌∷◌, drop, refl}
-use Rattle.std.specs.Prelude.{Option, Some, None, slice_get}
-use Rattle.std.specs.Option.{option_and_then}
+use Rattle.std.proofs.Common.{◌≡◌, ℕ, List, [], ◌∷◌, drop, refl, Option, Some, None, slice_get, option_and_then}
 use Rattle.bdb_tool_words.specs.Commands.{CommandRow, command_by, command_of, commands, row_named}
 
 pub no_word : (words : List (List ℕ)) → None ≡ slice_get words 0 → command_of words ≡ None

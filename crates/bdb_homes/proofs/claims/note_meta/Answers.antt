@@ -1,5 +1,4 @@
-use Rattle.std.proofs.Common.{◌≡◌, ◌++◌, ◌∙◌, ap, map, subst, sym}
-use Rattle.std.specs.Prelude.{true}
+use Rattle.std.proofs.Common.{◌≡◌, ◌++◌, ◌∙◌, ap, map, subst, sym, true}
 use Rattle.bdb_graph.specs.of_image.Metas.{meta_seen}
 use Rattle.bdb_survey.specs.of_format.Terms.{HashFields, Meta, Page, is_meta, page_at}
 use Rattle.bdb_homes.specs.Claims.{below_in, claim}

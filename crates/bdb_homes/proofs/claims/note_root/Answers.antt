@@ -1,5 +1,4 @@
-use Rattle.std.proofs.Common.{◌≡◌, ◌∙◌, ap, refl, sym}
-use Rattle.std.specs.Prelude.{if◌then◌else◌, false, None, [], ◌∷◌}
+use Rattle.std.proofs.Common.{◌≡◌, ◌∙◌, ap, refl, sym, if◌then◌else◌, false, None, [], ◌∷◌}
 use Rattle.bdb_survey.specs.of_format.declared.references.Sort.TheVariants.{Root}
 use Rattle.bdb_survey.specs.of_format.Terms.{Asked, BtreeFields, Meta, Page, asked_by}
 use Rattle.bdb_homes.specs.Claims.{Below, claim, is_fit}

@@ -1,5 +1,4 @@
-use Rattle.std.proofs.Common.{◌≡◌, ◌∷◌, ◌++◌, [], ◌∙◌, ap, subst, sym}
-use Rattle.std.specs.Prelude.{IfOk}
+use Rattle.std.proofs.Common.{◌≡◌, ◌∷◌, ◌++◌, [], ◌∙◌, ap, subst, sym, IfOk}
 use Rattle.std.specs.Vec.Iter.{into_iter_items}
 use Rattle.bdb_onto.specs.Joining.{IsJoinedTo, behind, taken_at}
 use Rattle.bdb_onto.proofs.JoiningLemmas.{at_end, nothing_left, one_more}

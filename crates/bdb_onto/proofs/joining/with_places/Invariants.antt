@@ -1,5 +1,4 @@
-use Rattle.std.proofs.Common.{◌≡◌, ◌++◌, length, map, reverse}
-use Rattle.std.specs.List.{All}
+use Rattle.std.proofs.Common.{◌≡◌, ◌++◌, length, map, reverse, All}
 use Rattle.bdb_onto.specs.Joining.{IsPlaced, placed_section}
 use Rattle.bdb_onto.proofs.joining.with_places.Given as goal
 

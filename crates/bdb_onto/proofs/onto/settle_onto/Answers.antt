@@ -1,5 +1,4 @@
-use Rattle.std.proofs.Common.{◌≡◌, ◌∙◌, None, ap, map, rules, subst, sym}
-use Rattle.std.specs.Prelude.{Err}
+use Rattle.std.proofs.Common.{◌≡◌, ◌∙◌, None, ap, map, rules, subst, sym, Err}
 use Rattle.bdb_mkfile.specs.of_settle.Loaded.{loaded_section}
 use Rattle.bdb_mkfile.specs.of_settle.LoadErrors.{IsSettleRefusal, load_error}
 use Rattle.bdb_onto.specs.Onto.{onto_error}

@@ -1,5 +1,4 @@
-use Rattle.std.proofs.Common.{◌≡◌, ◌++◌}
-use Rattle.std.specs.List.{flat_map}
+use Rattle.std.proofs.Common.{◌≡◌, ◌++◌, flat_map}
 use Rattle.bdb_rescue.specs.Kept.{pairs_under}
 use Rattle.bdb_repair.specs.Parts.{stored_pairs}
 use Rattle.bdb_repair.proofs.parts.stored_pairs.Given as goal

@@ -1,5 +1,4 @@
-use Rattle.std.proofs.Common.{sym, subst}
-use Rattle.std.specs.Prelude.{nat_lt}
+use Rattle.std.proofs.Common.{sym, subst, nat_lt}
 use Rattle.bdb_rescue.specs.Guesses.{chosen}
 use Rattle.bdb_rescue.specs.Kept.{file_in}
 use Rattle.bdb_rescue.proofs.GuessLemmas.{chosen_legal}

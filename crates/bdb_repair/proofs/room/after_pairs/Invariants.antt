@@ -1,5 +1,4 @@
-use Rattle.std.proofs.Common.{◌≡◌, ◌+◌}
-use Rattle.std.specs.List.{sum_by}
+use Rattle.std.proofs.Common.{◌≡◌, ◌+◌, sum_by}
 use Rattle.bdb_repair.specs.Room.{pair_room}
 use Rattle.bdb_repair.proofs.room.after_pairs.Given as goal
 

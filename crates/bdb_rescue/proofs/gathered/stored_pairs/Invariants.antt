@@ -1,5 +1,4 @@
-use Rattle.std.proofs.Common.{◌≡◌, ◌++◌, map}
-use Rattle.std.specs.List.{All, flat_map}
+use Rattle.std.proofs.Common.{◌≡◌, ◌++◌, map, All, flat_map}
 use Rattle.bdb_rescue.specs.Gathered.{stored_pair}
 use Rattle.bdb_rescue.specs.Kept.{IsKeptPair, file_in, given_live, kept_pairs}
 use Rattle.bdb_rescue.proofs.gathered.stored_pairs.Given as goal

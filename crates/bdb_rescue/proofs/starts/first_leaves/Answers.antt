@@ -1,5 +1,4 @@
-use Rattle.std.proofs.Common.{◌<◌, arith, sym, ◌∙◌, ap, subst}
-use Rattle.std.specs.List.{All}
+use Rattle.std.proofs.Common.{◌<◌, arith, sym, ◌∙◌, ap, subst, All}
 use Rattle.bdb_text_format.specs.of_format.Terms.{File}
 use Rattle.bdb_rescue.specs.Marks.{Marks, starts_of}
 use Rattle.bdb_survey.specs.Salvage.{set_starts}

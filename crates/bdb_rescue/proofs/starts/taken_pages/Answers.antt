@@ -1,5 +1,4 @@
-use Rattle.std.proofs.Common.{◌≡◌, ◌<◌, ◌+◌, ◌++◌, [], ℕ, List, Bool, true, false, cond, length, arith, sym, ◌∙◌, ap, subst}
-use Rattle.std.specs.Prelude.{slice_index_or}
+use Rattle.std.proofs.Common.{◌≡◌, ◌<◌, ◌+◌, ◌++◌, [], ℕ, List, Bool, true, false, cond, length, arith, sym, ◌∙◌, ap, subst, slice_index_or}
 use Rattle.std.specs.List.{All, flat_map, range_with_len}
 use Rattle.bdb_text_format.specs.of_format.Terms.{File, chain}
 use Rattle.bdb_rescue.specs.Marks.{Marks, row_of}

@@ -1,5 +1,4 @@
-use Rattle.std.proofs.Common.{ap}
-use Rattle.std.specs.Prelude.{Some}
+use Rattle.std.proofs.Common.{ap, Some}
 use Rattle.bdb_tool.proofs.RunLemmas.{never_rose, pure_status}
 use Rattle.bdb_tool.proofs.laws.run_pure.Goals as goal
 

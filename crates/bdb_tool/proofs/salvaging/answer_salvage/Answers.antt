@@ -1,5 +1,4 @@
-use Rattle.std.proofs.Common.{ap}
-use Rattle.std.specs.Prelude.{Err}
+use Rattle.std.proofs.Common.{ap, Err}
 use Rattle.bdb_tool.proofs.BuiltLemmas.{no_meta_finishes, salvage_finishes}
 use Rattle.bdb_tool.proofs.salvaging.answer_salvage.Goals as goal
 

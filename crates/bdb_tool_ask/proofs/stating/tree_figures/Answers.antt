@@ -1,5 +1,4 @@
-use Rattle.std.proofs.Common.{◌≡◌, ◌∙◌, string_bytes}
-use Rattle.std.specs.Prelude.{codes}
+use Rattle.std.proofs.Common.{◌≡◌, ◌∙◌, string_bytes, codes}
 use Rattle.std.proofs.lemmas.Result.{IfOk-weaker}
 use Rattle.bdb_tool_ask.specs.Figures.{tree_figures}
 use Rattle.bdb_tool_ask.proofs.FigureLemmas.{four_lines, four_written}

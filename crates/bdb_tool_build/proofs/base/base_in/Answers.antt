@@ -1,5 +1,4 @@
-use Rattle.std.proofs.Common.{◌≡◌, ◌∙◌, ap}
-use Rattle.std.specs.Prelude.{None}
+use Rattle.std.proofs.Common.{◌≡◌, ◌∙◌, ap, None}
 use Rattle.bdb_model.specs.of_format.Terms.{first_judgement, verdict_of}
 use Rattle.bdb_onto.specs.of_text.WrittenLaw.{AreBytes}
 use Rattle.bdb_onto.specs.Bases.{base_of}

@@ -1,5 +1,4 @@
-use Rattle.std.proofs.Common.{◌≡◌, ◌∙◌, ℕ, List, ap, subst}
-use Rattle.std.specs.Prelude.{IfOk, map}
+use Rattle.std.proofs.Common.{◌≡◌, ◌∙◌, ℕ, List, ap, subst, IfOk, map}
 use Rattle.bdb_file.specs.of_databases.Named.{database_at}
 use Rattle.bdb_model.specs.of_format.Terms.{btree_list, file_of, list_of}
 use Rattle.bdb_file.specs.of_image.Linked.{HasMetadata}

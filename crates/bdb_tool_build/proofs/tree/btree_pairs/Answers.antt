@@ -1,5 +1,4 @@
-use Rattle.std.proofs.Common.{◌≡◌, ℕ, List, inl, map, subst, sym}
-use Rattle.std.specs.List.{flat_map}
+use Rattle.std.proofs.Common.{◌≡◌, ℕ, List, inl, map, subst, sym, flat_map}
 use Rattle.bdb_model.specs.of_format.Terms.{btree_list, file_of, leaves, pairs_of}
 use Rattle.bdb_file.specs.of_image.Linked.{FitsTreeRoot}
 use Rattle.bdb_file.specs.of_btree.Pairs.{AreLeaves}

@@ -1,5 +1,4 @@
-use Rattle.std.proofs.Common.{List, ◌++◌, ap, map, subst, sym, true≢false}
-use Rattle.std.specs.List.{flat_map}
+use Rattle.std.proofs.Common.{List, ◌++◌, ap, map, subst, sym, true≢false, flat_map}
 use Rattle.bdb_model.specs.of_format.Terms.{StoredPair, file_of, listed_pair}
 use Rattle.bdb_file.specs.of_btree.Pairs.{AreFit}
 use Rattle.bdb_onto.specs.Bases.{text_pair}

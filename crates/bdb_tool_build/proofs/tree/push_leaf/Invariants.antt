@@ -1,5 +1,4 @@
-use Rattle.std.proofs.Common.{◌≡◌, ◌++◌, ℕ, List, length, map, true}
-use Rattle.std.specs.List.{flat_map}
+use Rattle.std.proofs.Common.{◌≡◌, ◌++◌, ℕ, List, length, map, true, flat_map}
 use Rattle.bdb_model.specs.of_format.Terms.{file_of, listed_pair, pairs_of}
 use Rattle.bdb_file.specs.of_btree.Pairs.{AreFit}
 use Rattle.bdb_model.specs.of_text_format.declared.pairs.Key.TheVariants.{Bytes}

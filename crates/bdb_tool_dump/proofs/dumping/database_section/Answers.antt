@@ -1,5 +1,4 @@
-use Rattle.std.proofs.Common.{List, ℕ, ◌++◌, sym, subst}
-use Rattle.std.specs.List.{flat_map}
+use Rattle.std.proofs.Common.{List, ℕ, ◌++◌, sym, subst, flat_map}
 use Rattle.bdb_databases.specs.Named.{database_at}
 use Rattle.bdb_databases.specs.of_format.Terms.{file_of, head_of, list_of, settings_of}
 use Rattle.bdb_tool_print.specs.of_text_format.Terms.{data_end, header_text, line}

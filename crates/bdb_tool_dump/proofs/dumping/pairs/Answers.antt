@@ -1,5 +1,4 @@
-use Rattle.std.proofs.Common.{ap}
-use Rattle.std.specs.List.{flat_map}
+use Rattle.std.proofs.Common.{ap, flat_map}
 use Rattle.bdb_tool_print.specs.Printers.{pair_text}
 use Rattle.bdb_tool_print.proofs.PrinterLemmas.{begins, cut_up, item_added, item_cut, items_added}
 use Rattle.bdb_tool_dump.proofs.dumping.pairs.Goals as goal

@@ -1,5 +1,4 @@
-use Rattle.std.proofs.Common.{drop}
-use Rattle.std.specs.List.{flat_map}
+use Rattle.std.proofs.Common.{drop, flat_map}
 use Rattle.bdb_databases.specs.of_format.Terms.{databases, file_of}
 use Rattle.bdb_tool_print.specs.of_text_format.Terms.{database_text, dump_text}
 use Rattle.bdb_tool_print.specs.Printers.{HasAdded}

@@ -1,6 +1,4 @@
-use Rattle.std.proofs.Common.{take}
-use Rattle.std.specs.Prelude.{Ok}
-use Rattle.std.specs.List.{flat_map}
+use Rattle.std.proofs.Common.{take, Ok, flat_map}
 use Rattle.bdb_tool_lines.specs.Passing.{Passes}
 use Rattle.bdb_tool_lines.specs.Telling.{fault_told}
 use Rattle.bdb_tool_lines.proofs.telling.print_all.Given as goal

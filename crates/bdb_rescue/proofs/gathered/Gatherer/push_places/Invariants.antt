@@ -1,5 +1,4 @@
-use Rattle.std.proofs.Common.{map}
-use Rattle.std.specs.List.{All}
+use Rattle.std.proofs.Common.{map, All}
 use Rattle.bdb_rescue.specs.Kept.{IsKeptValue, file_in, value_at}
 use Rattle.bdb_rescue.proofs.GatheredLemmas.{AddsSoFar}
 use Rattle.bdb_rescue.proofs.gathered.Gatherer.push_places.Given as goal

@@ -1,5 +1,4 @@
-use Rattle.std.proofs.Common.{subst}
-use Rattle.std.specs.List.{All}
+use Rattle.std.proofs.Common.{subst, All}
 use Rattle.bdb_rescue.specs.Gathered.{InHand}
 use Rattle.bdb_rescue.specs.Kept.{IsKeptValue, file_in}
 use Rattle.bdb_rescue.proofs.KeptLemmas.{all_in_set}

@@ -1,5 +1,4 @@
-use Rattle.std.proofs.Common.{ap, subst, sym, ◌∙◌}
-use Rattle.std.specs.Prelude.{option_copied}
+use Rattle.std.proofs.Common.{ap, subst, sym, ◌∙◌, option_copied}
 use Rattle.bdb_rescue.specs.Gathered.{InHand, StandFrom, set_data}
 use Rattle.bdb_rescue.specs.Kept.{file_in}
 use Rattle.bdb_rescue.proofs.gathered.Gatherer.set_from.Goals as goal

@@ -1,5 +1,4 @@
-use Rattle.std.proofs.Common.{◌≡◌, length}
-use Rattle.std.specs.List.{All}
+use Rattle.std.proofs.Common.{◌≡◌, length, All}
 use Rattle.bdb_rescue.specs.Kept.{IsKeptPair, file_in, pairs_left}
 use Rattle.bdb_rescue.proofs.pairs.SalvagePairsIterator.next.Given as goal
 

@@ -1,5 +1,4 @@
-use Rattle.std.proofs.Common.{◌∙◌, ap}
-use Rattle.std.specs.List.{flat_map}
+use Rattle.std.proofs.Common.{◌∙◌, ap, flat_map}
 use Rattle.bdb_rescue.specs.Kept.{file_in, given_live}
 use Rattle.bdb_rescue.proofs.KeptLemmas.{pairs_on}
 use Rattle.bdb_rescue.proofs.StoredLemmas.{stored_on_is}

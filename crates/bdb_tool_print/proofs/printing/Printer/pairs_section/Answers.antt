@@ -1,5 +1,4 @@
-use Rattle.std.proofs.Common.{List, ℕ, ◌++◌, Some, codes, map, sym, subst}
-use Rattle.std.specs.List.{flat_map}
+use Rattle.std.proofs.Common.{List, ℕ, ◌++◌, Some, codes, map, sym, subst, flat_map}
 use Rattle.bdb_text.specs.of_text_format.Terms.{data_end, header_text, line}
 use Rattle.bdb_tool_print.specs.Printers.{Adds, pair_text}
 use Rattle.bdb_rescue.specs.Text.{bytes_pair, stored_settings}

@@ -1,5 +1,4 @@
-use Rattle.std.proofs.Common.{ap, map}
-use Rattle.std.specs.List.{flat_map}
+use Rattle.std.proofs.Common.{ap, map, flat_map}
 use Rattle.bdb_tool_print.specs.Printers.{pair_text}
 use Rattle.bdb_rescue.specs.Text.{bytes_pair}
 use Rattle.bdb_tool_print.proofs.PrinterLemmas.{begins, cut_up, item_added, item_cut, items_added}

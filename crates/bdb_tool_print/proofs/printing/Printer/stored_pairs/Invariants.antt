@@ -1,5 +1,4 @@
-use Rattle.std.proofs.Common.{map}
-use Rattle.std.specs.List.{flat_map}
+use Rattle.std.proofs.Common.{map, flat_map}
 use Rattle.bdb_tool_print.specs.Printers.{HasAdded, pair_text}
 use Rattle.bdb_rescue.specs.Text.{bytes_pair}
 use Rattle.bdb_tool_print.proofs.printing.Printer.stored_pairs.Given as goal

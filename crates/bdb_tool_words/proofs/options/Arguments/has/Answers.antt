@@ -1,5 +1,4 @@
-use Rattle.std.proofs.Common.{ap, ◌∙◌}
-use Rattle.std.specs.Prelude.{is_some}
+use Rattle.std.proofs.Common.{ap, ◌∙◌, is_some}
 use Rattle.bdb_tool_words.proofs.ReadLemmas.{is_some-copied}
 use Rattle.bdb_tool_words.proofs.options.Arguments.has.Goals as goal
 

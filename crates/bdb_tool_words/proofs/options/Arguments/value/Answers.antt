@@ -1,5 +1,4 @@
-use Rattle.std.proofs.Common.{ap, ◌∙◌}
-use Rattle.std.specs.Prelude.{Some}
+use Rattle.std.proofs.Common.{ap, ◌∙◌, Some}
 use Rattle.bdb_tool_words.specs.ArgumentsSeen.{option_seen}
 use Rattle.bdb_tool_words.proofs.ReadLemmas.{value_read}
 use Rattle.bdb_tool_words.proofs.options.Arguments.value.Goals as goal
