@@ -1,7 +1,7 @@
 # shellcheck shell=sh
 # What ./bdbtool and the installed launcher share: the help, whether words are a command, and the start of the program.
 # Both read this file by `.`, having set `called`, the launcher's name, and have two functions: `show_version`, and
-# `show_more`, which ends the help. The rules of words stand in README.md, "Use", and their definition in
+# `show_more`, which ends the help. The rules of words stand in man/bdbtool.1, and their definition in
 # crates/bdb_tool_words/specs/Commands.antt; tools/check_launcher.py compares.
 
 # The program's own line for words that are no command.

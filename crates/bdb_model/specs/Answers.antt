@@ -1,4 +1,4 @@
--- The lines and texts of the program's answers. Source: README.md, "Use".
+-- The lines and texts of the program's answers. Source: man/bdbtool.1.
 use Rattle.std.specs.Prelude.{ℕ, Bool, true, List, [], ◌++◌, Option, Some, None, codes, decimal}
 use Rattle.std.specs.List.{flat_map}
 use Rattle.bdb_text_format.specs.of_format.declared.kinds.Fault.{Fault}

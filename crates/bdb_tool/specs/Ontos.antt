@@ -1,4 +1,4 @@
--- What `load --onto` answers to a text that is within the limit, and the image of a base. Source: README.md, "Use", and docs/FORMAT.md, "Loading onto a file".
+-- What `load --onto` answers to a text that is within the limit, and the image of a base. Source: man/bdbtool.1, and docs/FORMAT.md, "Loading onto a file".
 use Rattle.std.specs.Prelude.{◌≡◌, ℕ, nat_lt, ◌++◌, Bool, true, false, List, length, Option, Some, None, codes, decimal}
 use Rattle.bdb_repair.specs.of_format.Terms.{Judgement, verdict_of}
 use Rattle.bdb_repair.specs.of_text_format.Terms.{line}

@@ -1,4 +1,4 @@
--- The answers to words, an input and a base: a status, and what is written to the output and to the error sink. Source: README.md, "Use".
+-- The answers to words, an input and a base: a status, and what is written to the output and to the error sink. Source: man/bdbtool.1.
 use Rattle.std.specs.Prelude.{◌≡◌, ◌⊎◌, ℕ, nat_lt, ◌&&◌, Bool, true, false, List, [], length, Option, Some, None, codes, ⊤}
 use Rattle.bdb_tool_words.specs.Commands.{Action, Ask, Command, Load, LoadOnto, Repair, Salvage, Trial, command_on, reads_input, usage}
 use Rattle.bdb_repair.specs.of_model.Answers.{Answer, done, told, too_large_line}

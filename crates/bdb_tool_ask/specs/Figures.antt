@@ -1,4 +1,4 @@
--- The lines of `stat`. Source: README.md, "Use".
+-- The lines of `stat`. Source: man/bdbtool.1.
 use Rattle.std.specs.Prelude.{ℕ, List, ◌++◌, codes}
 use Rattle.bdb_tool_ask.specs.FileAnswers.{figure_line}
 use Rattle.bdb_stat.specs.declared.figures.Stat.{Stat}

@@ -1,4 +1,4 @@
--- What is answered over a file, by its verdict and what is asked. Source: README.md, "Use".
+-- What is answered over a file, by its verdict and what is asked. Source: man/bdbtool.1.
 use Rattle.std.specs.Prelude.{Bool, List, None, Option, Some, [], codes, decimal, if◌then◌else◌, slice_get, ℕ, ◌++◌, ◌∷◌}
 use Rattle.bdb_file.specs.of_format.declared.kinds.Order.{Order}
 use Rattle.bdb_file.specs.of_format.Terms.{Database, Faulty, File, Judgement, LeftOut, data_under, databases, file_of, head_of, kind_of, list_of, place_of}

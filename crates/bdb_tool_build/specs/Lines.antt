@@ -1,4 +1,4 @@
--- The lines that say why a text isn't loaded, and those of a trial. Source: README.md, "Use", and docs/FORMAT.md, "Reasons".
+-- The lines that say why a text isn't loaded, and those of a trial. Source: man/bdbtool.1, and docs/FORMAT.md, "Reasons".
 use Rattle.std.specs.Prelude.{ℕ, List, ◌++◌, codes, decimal}
 use Rattle.bdb_model.specs.of_format.declared.kinds.Kind.{Kind}
 use Rattle.bdb_model.specs.of_text_format.declared.faults.TextFault.{TextFault}

@@ -1,4 +1,4 @@
--- What `load` answers to a text that is within the limit. Source: README.md, "Use".
+-- What `load` answers to a text that is within the limit. Source: man/bdbtool.1.
 use Rattle.std.specs.Prelude.{◌≡◌, ℕ, List, Option, Some, None}
 use Rattle.bdb_model.specs.of_text_format.declared.faults.TextFault.{TextFault}
 use Rattle.bdb_model.specs.of_text_format.declared.sections.Section.{Section}

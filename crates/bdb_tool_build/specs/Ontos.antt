@@ -1,4 +1,4 @@
--- What `load --onto` answers to a text and a base. Source: README.md, "Use", and docs/FORMAT.md, "Loading onto a file".
+-- What `load --onto` answers to a text and a base. Source: man/bdbtool.1, and docs/FORMAT.md, "Loading onto a file".
 use Rattle.std.specs.Prelude.{◌≡◌, ℕ, List, Option, Some, None}
 use Rattle.bdb_model.specs.of_format.Terms.{BytesKey, ListKey, NumberKey}
 use Rattle.bdb_model.specs.of_text_format.declared.faults.TextFault.{TextFault}

@@ -1,4 +1,4 @@
--- What `trial` answers. Source: README.md, "Use", and docs/FORMAT.md, "Generated pairs".
+-- What `trial` answers. Source: man/bdbtool.1, and docs/FORMAT.md, "Generated pairs".
 use Rattle.std.specs.Prelude.{◌≡◌, ℕ, nat_lt, if◌then◌else◌, Bool, true, false, List, [], ◌∷◌, map, None}
 use Rattle.bdb_model.specs.of_format.declared.kinds.Kind.{Kind}
 use Rattle.bdb_model.specs.of_format.declared.kinds.Order.TheVariants.{Little}

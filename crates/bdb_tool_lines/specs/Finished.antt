@@ -1,4 +1,4 @@
--- How an answer is written: to the output, or to the error sink. Source: README.md, "Use".
+-- How an answer is written: to the output, or to the error sink. Source: man/bdbtool.1.
 use Rattle.std.specs.Prelude.{◌≡◌, ◌≢◌, ◌⊎◌, ℕ, List, [], Result, Ok, Err}
 use Rattle.bdb_faults.specs.of_format.Terms.{judgement_seen}
 use Rattle.bdb_faults.specs.declared.refusals.FirstError.{FirstError}

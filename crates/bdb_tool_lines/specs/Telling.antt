@@ -1,4 +1,4 @@
--- The lines by which it's told what holds at the pages of a file that isn't sound. Source: README.md, "Use".
+-- The lines by which it's told what holds at the pages of a file that isn't sound. Source: man/bdbtool.1.
 use Rattle.std.specs.Prelude.{ℕ, List, [], ◌∷◌, ◌++◌, codes}
 use Rattle.std.specs.Fmt.{decimal}
 use Rattle.std.specs.List.{flat_map}

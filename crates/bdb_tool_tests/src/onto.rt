@@ -1,4 +1,4 @@
-//! How a base is read, and what is told where that fails. The rules: README.md, "Use".
+//! How a base is read, and what is told where that fails. The rules: man/bdbtool.1.
 
 use std::alloc::{AllocError, Global};
 use std::fs;

@@ -1,4 +1,4 @@
-//! What `trial` writes: the figures, and the hash of the image. The rules: README.md, "Use".
+//! What `trial` writes: the figures, and the hash of the image. The rules: man/bdbtool.1.
 
 use std::test::Fail;
 use test_runs::files::ONE_PAIR;

@@ -1,4 +1,4 @@
--- The words after a command: its options and its operands. Source: README.md, "Use".
+-- The words after a command: its options and its operands. Source: man/bdbtool.1.
 use Rattle.std.specs.Prelude.{ℕ, if◌then◌else◌, Bool, true, false, List, [], ◌∷◌, take, Option, Some, None, codes, is_some}
 use Rattle.std.specs.List.{find}
 use Rattle.std.specs.Str.{bytes_eq}

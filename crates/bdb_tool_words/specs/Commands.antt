@@ -1,4 +1,4 @@
--- The options and the commands, and what each command does. Source: README.md, "Use".
+-- The options and the commands, and what each command does. Source: man/bdbtool.1.
 use Rattle.std.specs.Prelude.{ℕ, ◌^◌, nat_le, ◌==◌, ◌&&◌, not, if◌then◌else◌, Bool, true, false, List, [], ◌∷◌, length, Option, Some, None, codes, option_map}
 use Rattle.std.specs.Prelude.{slice_get}
 use Rattle.std.specs.List.{find}
