@@ -9,7 +9,7 @@ use Rattle.bdb_io.specs.of_format.declared.kinds.Kind.{Kind}
 use Rattle.bdb_io.specs.of_format.declared.kinds.Kind.TheVariants.{Btree, Recno, Hash, Queue}
 use Rattle.bdb_io.specs.of_format.declared.kinds.Order.{Order}
 use Rattle.bdb_io.specs.of_format.declared.settings.Settings.{Settings}
-use Rattle.bdb_io.specs.of_format.Terms.{Database, databases, file_of}
+use Rattle.bdb_io.specs.of_format.Terms.{Database, HashFields, Metadata, QueueFields, databases, file_of, head_of, list_of, settings_of, verdict_of}
 use Rattle.bdb_text_format.specs.declared.pairs.Pair.{Pair}
 use Rattle.bdb_text_format.specs.declared.sections.Section.{Section}
 use Rattle.bdb_text_format.specs.Terms.{header_lines, listed}
@@ -18,7 +18,8 @@ use Rattle.bdb_need.specs.of_settle.declared.load_error.LoadError.TheVariants.{T
 use Rattle.bdb_need.specs.of_settle.LoadErrors.{load_error, page_size_in}
 use Rattle.bdb_need.specs.of_settle.Loaded.{loaded, loaded_section}
 use Rattle.bdb_need.specs.of_law_buckets.Tables.{HasBuiltTable}
-use Rattle.bdb_need.specs.TreePages.{unlined_pairs}
+use Rattle.bdb_need.specs.of_mkqueue.Layout.{queue_meta}
+use Rattle.bdb_need.specs.TreePages.{tree_pages, unlined_pairs}
 use Rattle.bdb_need.specs.Need.{list_pages, master_pages, need_of, section_pages}
 use Rattle.bdb_mkfile.specs.FileSettings.{file_settings, own_settings}
 use Rattle.bdb_mkfile.proofs.SettingsLemmas.{own_size, settings_shown}
@@ -26,7 +27,9 @@ use Rattle.bdb_mkfile.specs.NamedImages.{AreNamed, HasBuiltTables, IsDatabaseOf,
 use Rattle.bdb_mkfile.specs.Builds.{Builds, IsLoadedAs, image_size, in_file_of, in_name_order}
 use Rattle.bdb_mkfile.specs.Loading.{IsLoadRefusal, IsLoadRefusalBy, loading_error, or_else, size_error}
 use Rattle.bdb_mkfile.specs.Order.{with_named}
-use Rattle.bdb_mkfile.specs.Settled.{AreBuildable, AreNamedApart, IsAloneImage, IsBuildable, IsImageOfSections}
+use Rattle.bdb_mkfile.specs.LoneImages.{IsLoneImage, queue_first, queue_pages, table_fields, table_first, table_pages}
+use Rattle.bdb_mkfile.specs.Settled.{AreBuildable, AreNamedApart, IsBuildable, IsImageBy, IsImageOfSections, IsLaidOut, IsListImage, IsSectionImage}
+use Rattle.bdb_mkfile.specs.Trees.{IsTreeImage}
 use Rattle.bdb_mkfile.proofs.AlikeLemmas.{pages_own}
 use Rattle.bdb_mkfile.proofs.ApartLemmas.{fold_is_order, order_all, order_map, order_sum}
 use Rattle.bdb_mkfile.proofs.MasterLemmas.{master_same, names_ascend}
@@ -34,10 +37,58 @@ use Rattle.bdb_need.proofs.NeedLemmas.{listed_again}
 
 -- One section alone.
 
+-- what is so of the image of one database, of whatever kind
+record IsAloneImage (settings : Settings) (pairs : List Pair) (image : List ℕ) : Type 0 where
+  sound : verdict_of image ≡ None
+  size : length image ≡ (1 + list_pages settings.kind settings pairs) * settings.page_size
+  fields : Metadata
+  alone : databases (file_of image) ≡ record { name = None; fields = fields } ∷ []
+  settings_are : settings_of (head_of image).page_size (head_of image).order fields ≡ settings
+  list : list_of (file_of image) fields ≡ listed pairs
+  buckets : HasBuiltTable (file_of image) fields
+
+tree_alone : (settings : Settings) (pairs : List Pair) (image : List ℕ) → list_pages settings.kind settings pairs ≡ tree_pages settings pairs
+    → IsTreeImage settings pairs image → IsAloneImage settings pairs image
+tree_alone settings pairs image pages is = record {
+  sound = is.sound;
+  size = is.size ∙ ap (λ n. (1 + n) * settings.page_size) (sym pages);
+  fields = is.fields;
+  alone = is.alone;
+  settings_are = is.settings_are;
+  list = is.list;
+  buckets = subst (HasBuiltTable (file_of image)) (sym is.fields_are) tt;
+}
+
+lone_alone : (settings : Settings) (pairs : List Pair) (pages : ℕ) (first : List ℕ) (fields : Metadata) (image : List ℕ)
+    → list_pages settings.kind settings pairs ≡ pages → HasBuiltTable (file_of image) fields → IsLoneImage settings pairs (1 + pages) first fields image
+    → IsAloneImage settings pairs image
+lone_alone settings pairs pages first fields image pages_are buckets is = record {
+  sound = is.sound;
+  size = is.size ∙ ap (λ n. (1 + n) * settings.page_size) (sym pages_are);
+  fields = fields;
+  alone = is.alone;
+  settings_are = is.settings_are;
+  list = is.list;
+  buckets = buckets;
+}
+
+image_alone : (k : Kind) (settings : Settings) (pairs : List Pair) (image : List ℕ) → settings.kind ≡ k → IsListImage k settings pairs image
+    → IsAloneImage settings pairs image
+image_alone Btree settings pairs image same is = tree_alone settings pairs image (ap (λ k. list_pages k settings pairs) same) is
+image_alone Recno settings pairs image same is = tree_alone settings pairs image (ap (λ k. list_pages k settings pairs) same) is
+image_alone Hash settings pairs image same is =
+    lone_alone settings pairs (table_pages settings pairs) (table_first settings pairs) (HashFields (table_fields settings pairs)) image
+    (ap (λ k. list_pages k settings pairs) same) is.buckets is.is
+image_alone Queue settings pairs image same is =
+    lone_alone settings pairs (queue_pages settings pairs) (queue_first settings pairs) (QueueFields (queue_meta settings pairs)) image
+    (ap (λ k. list_pages k settings pairs) same) tt is
+
 pub alone_built : (section : Section) (image : List ℕ) → is_some section.name ≡ false
-    → IsBuildable section.settings.kind section.settings (unlined_pairs section.pairs)
-    → IsAloneImage (file_settings section.settings) (unlined_pairs section.pairs) image → IsImageOfSections (section ∷ []) image
-alone_built section image unnamed buildable is =
+    → IsBuildable section.settings.kind section.settings (unlined_pairs section.pairs) → IsSectionImage section image
+    → IsImageOfSections (section ∷ []) image
+alone_built section image unnamed buildable laid_out =
+    let is : IsAloneImage (file_settings section.settings) (unlined_pairs section.pairs) image =
+    image_alone (file_settings section.settings).kind (file_settings section.settings) (unlined_pairs section.pairs) image refl laid_out in
     let settings : Settings = section.settings in
     let list : List Pair = unlined_pairs section.pairs in
     let none : section.name ≡ None = no_name section.name unnamed in
@@ -58,6 +109,7 @@ alone_built section image unnamed buildable is =
           let of : Database → Type 0 = λ database. HasBuiltTable (file_of image) database.fields in
           subst (All of) (sym is.alone)
           (All-cons of (record { name = None; fields = is.fields }) [] is.buckets (All-nil of));
+      laid_out = subst (λ b. IsImageBy b section (section ∷ []) image) (sym unnamed) laid_out;
     }
   where
     no_name : (name : Option (List ℕ)) → is_some name ≡ false → name ≡ None
@@ -88,7 +140,13 @@ named_built first rest sorted image has named are is =
     ap (λ b. cond b (1 + master_pages size sections) 0) has in
     let master = master_same size sections named.apart in
     let others = order_sum (section_pages size) sections in omega (arith, test, master, others) in
-    record { sound = there.sound; size = there.long ∙ ap (λ n. n * size) pages; databases = there.databases; tables = there.tables }
+    record {
+      sound = there.sound;
+      size = there.long ∙ ap (λ n. n * size) pages;
+      databases = there.databases;
+      tables = there.tables;
+      laid_out = subst (λ b. IsImageBy b first sections image) (sym has) there;
+    }
 
 -- The first section is found, and the only one is taken off.
 
@@ -138,7 +196,7 @@ taken_only sections found section built at none last =
 
 pub alone_image : (sections : List Section) (found section : Section) (result : Result (List ℕ) AllocError) → AreBuildable sections
     → Some found ≡ slice_get sections 0 → is_some found.name ≡ false → Some section ≡ slice_get sections (length sections - 1)
-    → IfOk result (λ image. IsAloneImage (file_settings section.settings) (unlined_pairs section.pairs) image)
+    → IfOk result (λ image. IsSectionImage section image)
     → IfOk result (λ image. IsImageOfSections sections image)
 alone_image sections found section (Err error) built at none last is = tt
 alone_image sections found section (Ok image) built at none last is =
@@ -193,6 +251,15 @@ builds sections settled image lists is = builds_loaded sections image (subst (λ
 pub built_tables : (settled : List Section) (image : List ℕ) → IsImageOfSections settled image → HasBuiltTables image
 built_tables [] image never = absurd never
 built_tables (section ∷ sections) image is = is.tables
+
+-- and it says all that its parts say
+laid_out_settled : (settled : List Section) (image : List ℕ) → IsImageOfSections settled image → IsLaidOut settled image
+laid_out_settled [] image never = absurd never
+laid_out_settled (section ∷ sections) image is = is.laid_out
+
+pub laid_out_as : (sections settled : List Section) (image : List ℕ) → settled ≡ map loaded_section sections → IsImageOfSections settled image
+    → IsLaidOut (map loaded_section sections) image
+laid_out_as sections settled image lists is = subst (λ ss. IsLaidOut ss image) lists (laid_out_settled settled image is)
 
 -- Errors.
 

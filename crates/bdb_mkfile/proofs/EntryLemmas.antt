@@ -25,7 +25,8 @@ use Rattle.bdb_need.specs.of_mkleaves.declared.leaf_type.LeafType.TheVariants.{P
 use Rattle.bdb_need.specs.of_mkleaves.Inner.{first_cost}
 use Rattle.bdb_need.specs.of_mkleaves.Laid.{inner_of}
 use Rattle.bdb_need.specs.of_mkleaves.Runs.{IsShort}
-use Rattle.bdb_need.specs.of_mkleaves.Spread.{inner_cost, leaf_key, leaves_and_levels, own_pages, pages_over, set_pages, set_type, spread_on, spread_units, tree_size}
+use Rattle.bdb_need.specs.of_mkleaves.Spread.{inner_cost, leaf_key, leaves_and_levels, own_pages, pages_over, set_pages, set_type, spread_on, spread_units}
+use Rattle.bdb_need.specs.of_mkleaves.Spread.{tree_size}
 use Rattle.bdb_need.specs.of_mkleaves.Units.{EntryUnit, KeyedUnit, TreeUnit, chain_pages, has_own_tree, page_room, set_cost, unit_cost, value_cost}
 use Rattle.bdb_need.proofs.of_mkleaves.SpreadLemmas.{spread_map}
 use Rattle.bdb_need.specs.of_mktree.Lists.{IsPairFor, bytes_in, is_in_order, keyed_units, onto_units}

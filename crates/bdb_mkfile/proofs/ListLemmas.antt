@@ -20,7 +20,8 @@ use Rattle.bdb_text_format.specs.declared.sections.Section.{Section}
 use Rattle.bdb_text_format.specs.Terms.{AscendFrom, holds_records, is_queue, number_of}
 use Rattle.bdb_need.specs.of_mktree.Lists.{HasNumber, IsTreeList as IsTreeListFor}
 use Rattle.bdb_need.specs.of_settle.ListLaw.{HasShortBytes, IsFit, IsKeyOf}
-use Rattle.bdb_need.specs.of_settle.LoadErrors.{header_errors, is_among_names, is_too_wide, is_zero, load_error, page_size_in, pair_errors, section_errors, where_so}
+use Rattle.bdb_need.specs.of_settle.LoadErrors.{header_errors, is_among_names, is_too_wide, is_zero, load_error, page_size_in, pair_errors, section_errors}
+use Rattle.bdb_need.specs.of_settle.LoadErrors.{where_so}
 use Rattle.bdb_need.specs.of_settle.declared.load_error.LoadError.TheVariants.{QueueAmongNames, RecordTooLong, RecordZero}
 use Rattle.bdb_need.specs.of_settle.Loaded.{loaded_pair, keeps_data, loaded, sorts_data, stands_before}
 use Rattle.bdb_need.proofs.of_settle.ErrorLemmas.{IsSound, sound_pairs, both_empty, each_empty, no_errors as none_hold, not_so}

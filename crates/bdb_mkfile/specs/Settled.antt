@@ -1,21 +1,21 @@
 -- Sections with their lists, and the image that is built of them. Source: docs/FORMAT.md, "Loading", "Settings" and "Pages of a loaded file".
-use Rattle.std.specs.Prelude.{◌≡◌, ℕ, ◌+◌, ◌-◌, ◌*◌, ◌≤◌, IsTrue, true, false, List, [], ◌∷◌, length, None, is_some}
+use Rattle.std.specs.Prelude.{◌≡◌, ℕ, ◌+◌, ◌-◌, ◌*◌, ◌≤◌, Bool, IsTrue, true, false, List, [], ◌∷◌, length, None, is_some}
 use Rattle.std.specs.List.{All, AllZip}
 use Rattle.bdb_io.specs.of_format.declared.kinds.Kind.{Kind}
 use Rattle.bdb_io.specs.of_format.declared.kinds.Kind.TheVariants.{Btree, Recno, Hash, Queue}
 use Rattle.bdb_io.specs.of_format.declared.settings.Settings.{Settings}
-use Rattle.bdb_io.specs.of_format.Terms.{Metadata, databases, file_of, head_of, is_page_size, list_of, pad4, settings_of, verdict_of}
+use Rattle.bdb_io.specs.of_format.Terms.{databases, file_of, is_page_size, pad4, verdict_of}
 use Rattle.bdb_text_format.specs.declared.pairs.Pair.{Pair}
 use Rattle.bdb_text_format.specs.declared.sections.Section.{Section}
-use Rattle.bdb_text_format.specs.Terms.{listed}
 use Rattle.bdb_need.specs.of_mktree.Lists.{IsTreeList}
 use Rattle.bdb_need.specs.of_mkhash.Table.{IsTableList}
 use Rattle.bdb_need.specs.of_mkqueue.Lists.{IsQueueList}
-use Rattle.bdb_need.specs.of_law_buckets.Tables.{HasBuiltTable}
 use Rattle.bdb_need.specs.TreePages.{unlined_pairs}
-use Rattle.bdb_need.specs.Need.{list_pages, need_of}
-use Rattle.bdb_mkfile.specs.Trees.{IsTreeSettings}
-use Rattle.bdb_mkfile.specs.NamedImages.{HasBuiltTables, IsDatabaseOf, IsNamed}
+use Rattle.bdb_need.specs.Need.{need_of}
+use Rattle.bdb_mkfile.specs.FileSettings.{file_settings}
+use Rattle.bdb_mkfile.specs.LoneImages.{IsQueueImage, IsTableImage}
+use Rattle.bdb_mkfile.specs.Trees.{IsTreeImage, IsTreeSettings}
+use Rattle.bdb_mkfile.specs.NamedImages.{HasBuiltTables, IsDatabaseOf, IsNamed, IsNamedImage}
 use Rattle.bdb_mkfile.specs.Builds.{in_name_order}
 use Rattle.bdb_mkfile.specs.Order.{AreApart}
 
@@ -30,15 +30,17 @@ IsBuildable Hash settings list =
 IsBuildable Queue settings list =
     IsTrue (is_page_size settings.page_size) × (pad4 (settings.re_len + 1) ≤ settings.page_size - 28) × IsQueueList settings list
 
--- a sound image of one database, without a name: it has these settings and this list, and as many pages as the list takes. Buckets are as built.
-pub record IsAloneImage (settings : Settings) (pairs : List Pair) (image : List ℕ) : Type 0 where
-  pub sound : verdict_of image ≡ None
-  pub size : length image ≡ (1 + list_pages settings.kind settings pairs) * settings.page_size
-  pub fields : Metadata
-  pub alone : databases (file_of image) ≡ record { name = None; fields = fields } ∷ []
-  pub settings_are : settings_of (head_of image).page_size (head_of image).order fields ≡ settings
-  pub list : list_of (file_of image) fields ≡ listed pairs
-  pub buckets : HasBuiltTable (file_of image) fields
+-- the image of one database without a name, as it is built of a list: all that is said of the image of its kind
+abbrev pub IsListImage : Kind → Settings → List Pair → List ℕ → Type 0
+IsListImage Btree settings list image = IsTreeImage settings list image
+IsListImage Recno settings list image = IsTreeImage settings list image
+IsListImage Hash settings list image = IsTableImage settings list image
+IsListImage Queue settings list image = IsQueueImage settings list image
+
+-- the image of a section alone, whose settings are those of its own file
+abbrev pub IsSectionImage : Section → List ℕ → Type 0
+IsSectionImage section image =
+    IsListImage (file_settings section.settings).kind (file_settings section.settings) (unlined_pairs section.pairs) image
 
 -- All sections.
 
@@ -61,14 +63,25 @@ pub record AreBuildable (sections : List Section) : Type 0 where
   pub unnamed : is_some first.name ≡ false → IsUnnamedAlone first rest
   pub named : is_some first.name ≡ true → AreNamedApart first.settings.page_size sections
 
+-- the image of sections with their lists, as it is built: all that is said of the image of databases under names where the first section has one, and else
+-- of that of the only one
+abbrev pub IsImageBy : Bool → Section → List Section → List ℕ → Type 0
+IsImageBy true first sections image = IsNamedImage first.settings.page_size first.settings.order (in_name_order sections) image
+IsImageBy false first sections image = IsSectionImage first image
+
+-- the page size and the order are those of the first section
+abbrev pub IsLaidOut : List Section → List ℕ → Type 0
+IsLaidOut [] image = ⊥
+IsLaidOut (section ∷ sections) image = IsImageBy (is_some section.name) section (section ∷ sections) image
+
 -- a sound image of sections with their lists, of as many pages as they need. Buckets are as built.
 pub record AreBuilt (first : Settings) (sections : List Section) (image : List ℕ) : Type 0 where
   pub sound : verdict_of image ≡ None
   pub size : length image ≡ need_of sections * first.page_size
   pub databases : AllZip (IsDatabaseOf first.page_size first.order image) (in_name_order sections) (databases (file_of image))
   pub tables : HasBuiltTables image
+  pub laid_out : IsLaidOut sections image
 
--- the page size and the order are those of the first section
 abbrev pub IsImageOfSections : List Section → List ℕ → Type 0
 IsImageOfSections [] image = ⊥
 IsImageOfSections (section ∷ sections) image = AreBuilt section.settings (section ∷ sections) image

@@ -2,7 +2,7 @@ ghost use Rattle.std.specs.Prelude.{◌≡◌, IfOk};
 ghost use Rattle.bdb_text_format.specs.Terms.{pairs_of};
 ghost use Rattle.bdb_mkfile.specs.FileSettings.{file_settings};
 ghost use Rattle.bdb_need.specs.TreePages.{unlined_pairs};
-ghost use Rattle.bdb_mkfile.specs.Settled.{IsAloneImage, IsBuildable};
+ghost use Rattle.bdb_mkfile.specs.Settled.{IsBuildable, IsListImage, IsSectionImage};
 
 use crate::metadata::file_settings;
 use crate::queue::queue_image;
@@ -21,7 +21,7 @@ fn list_image(
 ) -> Result<Image, AllocError>
     requires own { settings.now ≡ file_settings settings.now }
     requires built { IsBuildable settings.now.kind settings.now (pairs_of list) }
-    ensures { IfOk result (λ image. IsAloneImage settings.now (pairs_of list.entry) image) }
+    ensures { IfOk result (λ image. IsListImage settings.now.kind settings.now (pairs_of list.entry) image) }
 {
     match settings.kind {
         Kind::Btree | Kind::Recno => tree_image(alloc, settings, list, room),
@@ -37,7 +37,7 @@ pub(crate) fn section_image(
     room: usize,
 ) -> Result<Image, AllocError>
     requires { IsBuildable section.settings.kind section.settings (unlined_pairs section.pairs) }
-    ensures { IfOk result (λ image. IsAloneImage (file_settings section.settings) (unlined_pairs section.pairs) image) }
+    ensures { IfOk result (λ image. IsSectionImage section image) }
 {
     let settings = file_settings(&section.settings);
     list_image(alloc, &settings, section.pairs.as_slice(), room)

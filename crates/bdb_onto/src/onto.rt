@@ -3,14 +3,15 @@ ghost use Rattle.bdb_mkfile.specs.NamedImages.{HasBuiltTables};
 ghost use Rattle.bdb_mkfile.specs.of_settle.LoadErrors.{IsSettleRefusal};
 ghost use Rattle.bdb_mkfile.specs.Builds.{in_name_order};
 ghost use Rattle.bdb_mkfile.specs.Loading.{AreLoadable};
+ghost use Rattle.bdb_mkfile.specs.Settled.{IsLaidOut};
 ghost use Rattle.bdb_onto.specs.Bases.{IsBase};
 ghost use Rattle.bdb_onto.specs.Onto.{BuildsOnto, IsOntoRefusal, loading_error_onto, onto_error, result_of};
 
 use crate::Base;
-use crate::errors::onto_error;
+use crate::errors::partner_places;
 use crate::joining::joined;
 use bdb_io::Image;
-use bdb_mkfile::{LoadError, Sections, in_name_order, load, settle};
+use bdb_mkfile::{LoadError, Sections, filled, in_name_order, load_sound, ordered};
 use std::alloc::Global;
 
 /// What loading sections onto a base gives: its databases in the order of their names, with their lists, and without lines. An error is the
@@ -22,16 +23,16 @@ pub fn settle_onto(alloc: Global, base: Base, sections: Sections) -> Result<Sect
     ensures sound { OnOk result (onto_error base sections ≡ None) }
     ensures refused { IfErr result (IsSettleRefusal (onto_error base sections)) }
 {
-    if let Some(error) = onto_error(&base, &sections) {
-        return Err(error);
-    }
-    let settled = settle(alloc, joined(alloc, base, sections)?)?;
+    let places = partner_places(alloc, &base, &sections)?;
+    let joined = joined(alloc, base, sections, places)?;
+    let ordered = ordered(alloc, joined)?;
+    let settled = filled(alloc, ordered)?;
     Ok(in_name_order(alloc, settled)?)
 }
 
 /// The image of sections that are loaded onto a base: a sound file with the databases of both, of at most `max` bytes, in the page size and
-/// the order of the base. Pages of buckets have type 2, and the root of a tree of data says how many there are. An error is the first of the
-/// sections on the base; where there is none, that the image would have more than `max` bytes, or want of memory.
+/// the order of the base. Pages of buckets have type 2, and the root of a tree of data says how many there are. Metadata and pages are as `load` lays them
+/// out. An error is the first of the sections on the base; where there is none, that the image would have more than `max` bytes, or want of memory.
 pub fn load_onto(
     alloc: Global,
     base: Base,
@@ -43,11 +44,11 @@ pub fn load_onto(
     requires fit { AreLoadable sections }
     ensures built { IfOk result (λ image. BuildsOnto base sections image) }
     ensures tables { IfOk result (λ image. HasBuiltTables image) }
+    ensures laid_out { IfOk result (λ image. IsLaidOut (result_of base sections) image) }
     ensures sound { OnOk result (loading_error_onto max base sections ≡ None) }
     ensures refused { IfErr result (IsOntoRefusal max base sections) }
 {
-    if let Some(error) = onto_error(&base, &sections) {
-        return Err(error);
-    }
-    load(alloc, joined(alloc, base, sections)?, max)
+    let places = partner_places(alloc, &base, &sections)?;
+    let joined = joined(alloc, base, sections, places)?;
+    load_sound(alloc, joined, max)
 }

@@ -5,7 +5,7 @@ use Rattle.bdb_text_format.specs.Terms.{pairs_of}
 use Rattle.bdb_text_format.specs.declared.pairs.TextPair.{TextPair}
 use Rattle.bdb_need.specs.TreePages.{unlined_pairs}
 use Rattle.bdb_mkfile.specs.FileSettings.{file_settings}
-use Rattle.bdb_mkfile.specs.Settled.{IsAloneImage, IsBuildable}
+use Rattle.bdb_mkfile.specs.Settled.{IsBuildable, IsListImage}
 use Rattle.bdb_mkfile.proofs.AlikeLemmas.{buildable_own}
 use Rattle.bdb_mkfile.proofs.alone.section_image.Goals as goal
 
@@ -19,8 +19,7 @@ list_image-requires-clause-built c =
 
 pub returns : goal.returns
 returns c =
-    let section = c.args.section in
-    subst (λ (ps : List TextPair). IfOk c.list_image.result (λ image. IsAloneImage (file_settings section.settings) (unlined_pairs ps) image))
-    c.as_slice.ensures
-    (subst (λ (s : Settings). IfOk c.list_image.result (λ image. IsAloneImage s (pairs_of c.as_slice.result) image)) c.file_settings-settings.ensures
+    let own : Settings = file_settings c.args.section.settings in
+    subst (λ (ps : List TextPair). IfOk c.list_image.result (λ image. IsListImage own.kind own (unlined_pairs ps) image)) c.as_slice.ensures
+    (subst (λ (s : Settings). IfOk c.list_image.result (λ image. IsListImage s.kind s (pairs_of c.as_slice.result) image)) c.file_settings-settings.ensures
     c.list_image.ensures)

@@ -1,8 +1,35 @@
-use Rattle.std.proofs.Common.{◌≡◌, ◌∷◌, ◌++◌, [], ◌∙◌, ap, subst, sym, IfOk}
+use Rattle.std.proofs.Common.{◌≡◌, ◌∷◌, ◌++◌, [], ◌∙◌, ap, map, subst, sym}
+use Rattle.std.specs.Prelude.{IfOk}
 use Rattle.std.specs.Vec.Iter.{into_iter_items}
-use Rattle.bdb_onto.specs.Joining.{IsJoinedTo, behind, taken_at}
-use Rattle.bdb_onto.proofs.JoiningLemmas.{at_end, nothing_left, one_more}
+use Rattle.std.specs.List.{AllZip}
+use Rattle.bdb_onto.specs.Joining.{IsJoinedTo, behind, place_placed, placed_section, taken_at}
+use Rattle.bdb_onto.specs.Search.{IsPartnerAt}
+use Rattle.bdb_onto.proofs.JoiningLemmas.{all_placed, at_end, at_first, nothing_left, one_more, place_within, zip_long}
 use Rattle.bdb_onto.proofs.joining.joined.Goals as goal
+
+pub with_places-requires : goal.with_places-requires
+with_places-requires c = zip_long c.args.base c.args.sections c.args.places.items c.requires.places
+
+-- At first all databases stand in their places.
+pub loop-placed-init : goal.loop-placed-init
+loop-placed-init c =
+    let base = c.args.base in
+    let items = c.in_ok-sections.sections.items in
+    let zip : AllZip (IsPartnerAt base) (map placed_section items) (map place_placed items) =
+    subst (AllZip (IsPartnerAt base) (map placed_section items)) (sym c.in_ok-sections.ensures.places)
+    (subst (λ ss. AllZip (IsPartnerAt base) ss c.args.places.items) (sym c.in_ok-sections.ensures.sections) c.requires.places) in
+    let gives : into_iter_items c.into_iter-placed-iterator.result ≡ items = cc in
+    subst (IsJoinedTo base c.args.sections c.in_ok-places.places.items c.new-all.result) (sym gives)
+    (subst (λ all. IsJoinedTo base c.args.sections c.in_ok-places.places.items all items) (sym c.new-all.ensures)
+    (subst (λ places. IsJoinedTo base c.args.sections places [] items) (sym c.in_ok-places.ensures)
+    (at_first base c.args.sections items c.in_ok-sections.ensures.sections (all_placed base items zip))))
+
+pub take_at-partner-requires : goal.take_at-partner-requires
+take_at-partner-requires c =
+    let places = c.loop-placed.places.items in
+    let rest = into_iter_items c.next.new.self in
+    place_within c.args.base c.args.sections places c.loop-placed.all c.in-Some.placed rest
+    (subst (IsJoinedTo c.args.base c.args.sections places c.loop-placed.all) c.in-Some.ensures.steps.0 c.loop-placed.invariant)
 
 pub loop-placed-preserved : goal.loop-placed-preserved
 loop-placed-preserved c =
