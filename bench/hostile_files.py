@@ -371,6 +371,13 @@ def set_of_data(data, kind, flags):
     return make
 
 
+def megabyte_chain_btree(count):
+    """The chain counts as many references as one may, however many there are."""
+    image = Image()
+    datum = long_item(image.chain([b"x" * ROOM] * (2**20 // ROOM), min(count, MOST_REFERENCES)))
+    return image.btree(image.tree((inline(key_of(at)), datum) for at in range(count)))
+
+
 full_chain_btree, chain_btree = map(btree_of_data, (full, blank))
 full_chain_set, chain_set = (set_of_data(data, RECORD_LEAF, DUPLICATES) for data in (full, blank))
 chain_sorted_set = set_of_data(blank, SORTED_LEAF, SORTED)

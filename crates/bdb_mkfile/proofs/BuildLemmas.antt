@@ -1,7 +1,6 @@
 -- The image of sections with their lists is one that is built of the sections.
-use Rattle.std.proofs.Common.{◌≡◌, ℕ, ◌+◌, ◌-◌, ◌*◌, Result, Ok, Err, Bool, true, false, cond, List, [], ◌∷◌, length, map, Option, Some}
-use Rattle.std.proofs.Common.{◌⊎◌, None, refl, sym, ◌∙◌, ap, subst, arith, inr}
-use Rattle.std.specs.Prelude.{is_some, nat_lt, slice_get, if◌then◌else◌, IfOk}
+use Rattle.std.proofs.Common.{◌≡◌, ℕ, ◌+◌, ◌-◌, ◌*◌, Result, Ok, Err, Bool, true, false, cond, List, [], ◌∷◌, length, map, Option, Some, ◌⊎◌, None, refl, sym}
+use Rattle.std.proofs.Common.{◌∙◌, ap, subst, arith, inr, is_some, nat_lt, slice_get, if◌then◌else◌, IfOk}
 use Rattle.std.specs.declared.alloc.AllocError.{AllocError}
 use Rattle.std.specs.List.{All, AllZip, fold, sum_by}
 use Rattle.std.proofs.lemmas.List.Elements.{All-cons, All-nil}

@@ -1,8 +1,6 @@
 -- Sections that are fit, short and without errors: an image can be built of their lists.
-use Rattle.std.proofs.Common.{◌≡◌, ℕ, ◌+◌, ◌-◌, ◌*◌, ◌≤◌, ◌^◌, true, false, List, [], ◌∷◌, length, map, get_or, Option, Some, None, refl}
-use Rattle.std.proofs.Common.{sym, ◌∙◌, ap, subst, arith, inl, inr, true≢false}
-use Rattle.std.specs.Prelude.{◌==◌, IsTrue, is_some, nat_lt}
-use Rattle.std.specs.List.{All}
+use Rattle.std.proofs.Common.{◌≡◌, ℕ, ◌+◌, ◌-◌, ◌*◌, ◌≤◌, ◌^◌, true, false, List, [], ◌∷◌, length, map, get_or, Option, Some, None, refl, sym, ◌∙◌, ap, subst}
+use Rattle.std.proofs.Common.{arith, inl, inr, true≢false, ◌==◌, IsTrue, is_some, nat_lt, All}
 use Rattle.std.proofs.Math.Nat.{mul-le-mul_right}
 use Rattle.std.proofs.lemmas.Bool.Decides.{nat_tests}
 use Rattle.std.proofs.lemmas.List.Elements.{All-head, All-map}

@@ -1,8 +1,7 @@
 -- Where the pages of an image have few bytes, so have the keys and data of its lists.
 use Rattle.std.proofs.Common.{◌≡◌, ◌⊎◌, ℕ, ◌+◌, ◌-◌, ◌*◌, ◌<◌, ◌≤◌, ◌^◌, Bool, true, false, cond, List, [], ◌∷◌, length, map, arith, refl, ap, subst, inl, inr}
-use Rattle.std.specs.Prelude.{◌/◌, nat_le, replicate}
+use Rattle.std.proofs.Common.{◌/◌, nat_le, replicate, All, sum_by}
 use Rattle.std.specs.Str.{bytes_eq}
-use Rattle.std.specs.List.{All, sum_by}
 use Rattle.std.proofs.Math.Nat.{lt-div-mul-add, mul-le-mul_left, mul-le-mul_right}
 use Rattle.std.proofs.lemmas.Bool.Decides.{nat_tests}
 use Rattle.std.proofs.lemmas.Bool.{cases_Bool, le-leb}

@@ -1,7 +1,6 @@
 -- The pairs of the master, in the order of the sections or of their names.
-use Rattle.std.proofs.Common.{◌≡◌, ℕ, Bool, true, false, cond, not, List, [], ◌∷◌, map, get_or, Option, None, Some, refl, sym, ◌∙◌, ap}
-use Rattle.std.specs.Prelude.{◌&&◌, ◌||◌, unwrap_or}
-use Rattle.std.specs.List.{All, fold}
+use Rattle.std.proofs.Common.{◌≡◌, ℕ, Bool, true, false, cond, not, List, [], ◌∷◌, map, get_or, Option, None, Some, refl, sym, ◌∙◌, ap, ◌&&◌, ◌||◌, unwrap_or}
+use Rattle.std.proofs.Common.{All, fold}
 use Rattle.std.proofs.lemmas.List.Elements.{All-head, All-nil, All-tail}
 use Rattle.bdb_io.specs.of_format.Terms.{ascends, less}
 use Rattle.bdb_text_format.specs.declared.sections.Section.{Section}

@@ -1,12 +1,11 @@
 -- The metadata of a table that was built, and the page that says it.
-use Rattle.std.proofs.Common.{◌≡◌, ℕ, zero, suc, ◌+◌, ◌-◌, ◌≤◌, ◌^◌, ◌||◌, ◌&&◌, ◌%◌, Bool, true, false, cond, List, [], ◌∷◌, ◌++◌, length}
-use Rattle.std.proofs.Common.{None, Some, get_or, replicate, append_assoc, pow-suc, arith, refl, sym, ◌∙◌, ap, length-append}
+use Rattle.std.proofs.Common.{◌≡◌, ℕ, zero, suc, ◌+◌, ◌-◌, ◌≤◌, ◌^◌, ◌||◌, ◌&&◌, ◌%◌, Bool, true, false, cond, List, [], ◌∷◌, ◌++◌, length, None, Some, get_or}
+use Rattle.std.proofs.Common.{replicate, append_assoc, pow-suc, arith, refl, sym, ◌∙◌, ap, length-append, count_ones, ◌*◌, ◌/◌, ◌==◌, not, nat_le, nat_lt}
+use Rattle.std.proofs.Common.{unwrap_or}
 use lib.Count.{ones_step}
 use Rattle.std.specs.Cmp.Derive.{both_true}
 use Rattle.std.specs.Int.{is_power_of_two}
-use Rattle.std.specs.Prelude.{count_ones, ◌*◌, ◌/◌, ◌==◌, not, nat_le, nat_lt}
 use Rattle.std.specs.List.{find, flat_map, range_with_len, sum_by}
-use Rattle.std.specs.Option.{unwrap_or}
 use Rattle.std.proofs.lemmas.Bool.{and_right, eq-eqb, le-leb, le-ltb, ne_eqb, or_right}
 use Rattle.std.proofs.lemmas.Nat.{ones_le_self, pow_pos}
 use Rattle.std.proofs.lemmas.List.{get_or_append_left, get_or-replicate, length-replicate}

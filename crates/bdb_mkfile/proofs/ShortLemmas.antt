@@ -1,7 +1,6 @@
 -- Lengths of names, keys and data: what a test of them says, and that a long one makes the image too large.
-use Rattle.std.proofs.Common.{◌≡◌, ℕ, ◌+◌, ◌-◌, ◌*◌, ◌<◌, ◌≤◌, ◌^◌, Bool, true, false, cond, List, [], ◌∷◌, ◌++◌, length, map, arith, refl, sym, ◌∙◌, ap}
-use Rattle.std.proofs.Common.{subst, inl, inr, Option, Some, None, get_or, length-append, true≢false}
-use Rattle.std.specs.Prelude.{◌%◌, ◌&&◌, if◌then◌else◌, is_some, nat_lt, replicate}
+use Rattle.std.proofs.Common.{◌≡◌, ℕ, ◌+◌, ◌-◌, ◌*◌, ◌<◌, ◌≤◌, ◌^◌, Bool, true, false, cond, List, [], ◌∷◌, ◌++◌, length, map, arith, refl, sym, ◌∙◌, ap, subst}
+use Rattle.std.proofs.Common.{inl, inr, Option, Some, None, get_or, length-append, true≢false, ◌%◌, ◌&&◌, if◌then◌else◌, is_some, nat_lt, replicate}
 use Rattle.std.specs.Cmp.Derive.{both_true}
 use Rattle.std.specs.List.{All, list_all, sum_by}
 use Rattle.std.proofs.lemmas.Bool.{and_parts, lt-ltb}

@@ -1,6 +1,5 @@
 -- The metadata of tables under names.
-use Rattle.std.proofs.Common.{◌≡◌, ℕ, ◌+◌, ◌-◌, ◌<◌, ◌*◌, Bool, true, false, List, ◌++◌, length, arith, refl, sym, ◌∙◌, ap, subst}
-use Rattle.std.specs.List.{flat_map}
+use Rattle.std.proofs.Common.{◌≡◌, ℕ, ◌+◌, ◌-◌, ◌<◌, ◌*◌, Bool, true, false, List, ◌++◌, length, arith, refl, sym, ◌∙◌, ap, subst, flat_map}
 use Rattle.std.proofs.lemmas.List.FromFn.{length-map-range_with_len}
 use Rattle.bdb_io.specs.of_format.declared.kinds.Kind.TheVariants.{Hash as HashKind}
 use Rattle.bdb_io.specs.of_format.declared.kinds.Order.{Order}

@@ -1,5 +1,5 @@
 -- A table under metadata that is written over page 0.
-use Rattle.std.proofs.Common.{◌≡◌, ℕ, zero, suc, ◌+◌, ◌-◌, ◌<◌, ◌≤◌, true, List, [], ◌++◌, length, None, arith, refl, sym, ◌∙◌, ap, subst}
+use Rattle.std.proofs.Common.{◌≡◌, ℕ, zero, suc, ◌+◌, ◌-◌, ◌<◌, ◌≤◌, true, List, [], ◌++◌, length, None, arith, refl, sym, ◌∙◌, ap, subst, flat_map, ◌*◌}
 use Rattle.std.proofs.lemmas.List.{get_or-set_other, get_or-set_same, length-set}
 use Rattle.std.proofs.lemmas.List.FromFn.{length-map-range_with_len}
 use Rattle.bdb_io.specs.of_format.declared.metadata.FileKind.TheVariants.{Hash}
@@ -10,8 +10,6 @@ use Rattle.bdb_io.specs.of_format.Terms.{spelled, table_bytes, zeros}
 use Rattle.bdb_io.proofs.of_format.FileLemmas.{last_page, page_is}
 use Rattle.bdb_io.proofs.of_format.TypeLemmas.{byte_as}
 use Rattle.bdb_io.proofs.of_format.SizeLemmas.{size_bounds}
-use Rattle.std.specs.List.{flat_map}
-use Rattle.std.specs.Prelude.{◌*◌}
 use Rattle.bdb_need.proofs.of_image.CodeLemmas.{tree_passed}
 use Rattle.bdb_need.proofs.of_image.HeldLemmas.{table_page, tree_page}
 use Rattle.bdb_need.specs.of_law_grove.Growing.{IsLater, IsSamePage}

@@ -1,8 +1,6 @@
 -- Sections whose records are filled up, and what is counted of those that aren't yet.
-use Rattle.std.proofs.Common.{arith}
-use Rattle.std.proofs.Common.{◌≡◌, Bool, ℕ, ◌+◌, ◌-◌, List, [], ◌∷◌, map, Some, refl, sym, ◌∙◌, ap, subst, inl, inr}
-use Rattle.std.specs.Prelude.{◌&&◌, if◌then◌else◌, is_some, slice_get}
-use Rattle.std.specs.List.{All, sum_by}
+use Rattle.std.proofs.Common.{arith, ◌≡◌, Bool, ℕ, ◌+◌, ◌-◌, List, [], ◌∷◌, map, Some, refl, sym, ◌∙◌, ap, subst, inl, inr, ◌&&◌, if◌then◌else◌, is_some}
+use Rattle.std.proofs.Common.{slice_get, All, sum_by}
 use Rattle.std.proofs.Math.Bool.{and-false}
 use Rattle.std.proofs.lemmas.List.Elements.{All-cons, All-head, All-nil, All-tail}
 use Rattle.std.proofs.lemmas.List.Sums.{sum_by-cons}

@@ -1,8 +1,6 @@
 -- The sections of a file, and its master.
-use Rattle.std.proofs.Common.{◌≡◌, ℕ, ◌+◌, Bool, true, false, cond, List, ◌++◌, [], ◌∷◌, map, Some, None, arith, refl, sym, ◌∙◌, ap, subst}
-use Rattle.std.proofs.Common.{inl}
-use Rattle.std.specs.Prelude.{is_some, slice_get}
-use Rattle.std.specs.List.{All, sum_by}
+use Rattle.std.proofs.Common.{◌≡◌, ℕ, ◌+◌, Bool, true, false, cond, List, ◌++◌, [], ◌∷◌, map, Some, None, arith, refl, sym, ◌∙◌, ap, subst, inl, is_some}
+use Rattle.std.proofs.Common.{slice_get, All, sum_by}
 use Rattle.std.proofs.lemmas.List.Elements.{All-cons, All-head, All-nil, All-tail}
 use Rattle.bdb_mkhash.specs.of_format.declared.kinds.Kind.TheVariants.{Btree}
 use Rattle.bdb_mkhash.specs.of_format.declared.settings.Settings.{Settings}

@@ -1,7 +1,6 @@
 -- Pages on which things are put, and how many they are.
 use Rattle.std.proofs.Common.{◌≡◌, ℕ, zero, suc, ◌+◌, ◌-◌, ◌*◌, ◌<◌, ◌≤◌, List, [], ◌∷◌, ◌++◌, length, replicate, arith, refl, sym, ◌∙◌, ap, subst}
-use Rattle.std.proofs.Common.{length-append}
-use Rattle.std.specs.Prelude.{◌/◌, ◌%◌}
+use Rattle.std.proofs.Common.{length-append, ◌/◌, ◌%◌}
 use Rattle.std.proofs.lemmas.List.{append_assoc, length-replicate, replicate-append-replicate}
 use Rattle.std.proofs.lemmas.Nat.{mul-le}
 use Rattle.bdb_need.specs.Counting.{ArePut, pages_on}

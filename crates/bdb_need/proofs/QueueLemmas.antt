@@ -1,7 +1,5 @@
 -- The greatest record of a queue.
-use Rattle.std.proofs.Common.{◌≡◌, ℕ, ◌+◌, ◌-◌, ◌≤◌, List, [], ◌∷◌, length, get_or, Option, Some, arith, refl, sym, ◌∙◌, ap, subst}
-use Rattle.std.specs.Prelude.{slice_get, ◌/◌}
-use Rattle.std.specs.Option.{option_map}
+use Rattle.std.proofs.Common.{◌≡◌, ℕ, ◌+◌, ◌-◌, ◌≤◌, List, [], ◌∷◌, length, get_or, Option, Some, arith, refl, sym, ◌∙◌, ap, subst, slice_get, ◌/◌, option_map}
 use Rattle.std.proofs.lemmas.Option.{get_or_from_slice_get, slice_get_within}
 use Rattle.bdb_mkhash.specs.of_text_format.declared.pairs.TextPair.{TextPair}
 use Rattle.bdb_mkhash.specs.of_text_format.declared.lent.PairRef.{PairRef}

@@ -1,8 +1,6 @@
 -- The units of a recno: what is counted of those that were passed.
 use Rattle.std.proofs.Common.{◌≡◌, ℕ, zero, suc, ◌+◌, ◌-◌, ◌*◌, ◌<◌, ◌≤◌, ◌^◌, Bool, false, List, [], ◌∷◌, length, map, replicate, get_or, slice_get, Some}
-use Rattle.std.proofs.Common.{drop, arith, refl, sym, ◌∙◌, ap, subst}
-use Rattle.std.specs.Prelude.{◌/◌}
-use Rattle.std.specs.List.{sum_by}
+use Rattle.std.proofs.Common.{drop, arith, refl, sym, ◌∙◌, ap, subst, ◌/◌, sum_by}
 use Rattle.std.proofs.Math.ListN.{drop_of_length-le}
 use Rattle.std.proofs.lemmas.Bool.{le-leb}
 use Rattle.std.proofs.lemmas.List.{drop_more, get_or-map, length-map, length-replicate}

@@ -1,9 +1,7 @@
 -- What lists in their order give to the calls that count.
-use Rattle.std.proofs.Common.{◌≡◌, ℕ, Bool, true, false, List, [], ◌∷◌, length, refl, ◌∙◌, ap, subst, arith, inl, inr}
-use Rattle.std.specs.Prelude.{◌&&◌}
+use Rattle.std.proofs.Common.{◌≡◌, ℕ, Bool, true, false, List, [], ◌∷◌, length, refl, ◌∙◌, ap, subst, arith, inl, inr, ◌&&◌, All}
 use Rattle.std.proofs.lemmas.List.{append-nil}
 use Rattle.std.proofs.Math.Bool.{and-false}
-use Rattle.std.specs.List.{All}
 use Rattle.std.proofs.lemmas.List.Elements.{All-cons, All-head, All-nil, All-tail}
 use Rattle.bdb_mkhash.specs.of_format.declared.kinds.Kind.TheVariants.{Btree, Recno}
 use Rattle.bdb_mkhash.specs.of_format.declared.settings.Settings.{Settings}

@@ -1,7 +1,6 @@
 -- Where no error holds for sections on a base, none holds for the joined sections.
-use Rattle.std.proofs.Common.{◌≡◌, ℕ, Bool, true, false, not, List, [], ◌∷◌, ◌++◌, length, map, Option, Some, None, refl, sym, ◌∙◌, ap, subst, true≢false}
-use Rattle.std.specs.Prelude.{◌&&◌, ◌||◌, ◌==◌, is_some}
-use Rattle.std.specs.List.{All, Contains, filter, flat_map, fold}
+use Rattle.std.proofs.Common.{◌≡◌, ℕ, Bool, true, false, not, List, [], ◌∷◌, ◌++◌, length, map, Option, Some, None, refl, sym, ◌∙◌, ap, subst, true≢false, ◌&&◌}
+use Rattle.std.proofs.Common.{◌||◌, ◌==◌, is_some, All, Contains, filter, flat_map, fold}
 use Rattle.std.proofs.lemmas.Grind.{flat_map-append}
 use Rattle.std.proofs.lemmas.List.Elements.{All-head, All-tail}
 use Rattle.bdb_format.specs.declared.kinds.Kind.{Kind}

@@ -1,9 +1,6 @@
 -- Sections take their partners out of places, and what is left there is no section's partner.
 use Rattle.std.proofs.Common.{◌≡◌, ℕ, zero, suc, ◌+◌, ◌<◌, Bool, true, false, cond, not, List, [], ◌∷◌, ◌++◌, length, map, set, get_or, take, drop, Option}
-use Rattle.std.proofs.Common.{Some, None, refl}
-use Rattle.std.proofs.Common.{sym, ◌∙◌, ap, subst}
-use Rattle.std.proofs.Common.{arith, inl, inr, append-nil, append_assoc, true≢false}
-use Rattle.std.specs.Prelude.{◌||◌, option_to_list, slice_get}
+use Rattle.std.proofs.Common.{Some, None, refl, sym, ◌∙◌, ap, subst, arith, inl, inr, append-nil, append_assoc, true≢false, ◌||◌, option_to_list, slice_get}
 use Rattle.std.specs.List.{All, AllZip, Contains, filter, find, flat_map, fold, list_any}
 use Rattle.std.specs.Str.{bytes_eq}
 use Rattle.std.proofs.lemmas.Bool.{false_from_ne_true}

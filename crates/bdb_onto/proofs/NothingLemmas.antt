@@ -1,7 +1,5 @@
 -- Onto a base without databases a section is loaded as by itself; and where no error is the first, none holds.
-use Rattle.std.proofs.Common.{◌≡◌, Bool, List, [], ◌++◌, length, map, Option, ap}
-use Rattle.std.specs.Prelude.{◌==◌}
-use Rattle.std.specs.List.{find, flat_map}
+use Rattle.std.proofs.Common.{◌≡◌, Bool, List, [], ◌++◌, length, map, Option, ap, ◌==◌, find, flat_map}
 use Rattle.std.proofs.lemmas.List.Elements.{All-weaker}
 use Rattle.bdb_mkfile.specs.of_text_format.declared.sections.Section.{Section}
 use Rattle.bdb_mkfile.specs.of_settle.Loaded.{unlined_pairs, unnumbered}

@@ -1,10 +1,7 @@
 -- A search by halving among databases in the order of their names finds the one of a name; and which database a section is loaded onto.
 use Rattle.std.proofs.Common.{◌≡◌, ℕ, zero, suc, ◌<◌, ◌≤◌, Bool, true, false, cond, List, [], ◌∷◌, length, map, get_or, Option, Some, None, arith, refl, sym}
-use Rattle.std.proofs.Common.{◌∙◌}
-use Rattle.std.proofs.Common.{ap, subst}
-use Rattle.std.specs.Prelude.{Result, Ok, Err, is_some, nat_lt, slice_get, unwrap_or}
+use Rattle.std.proofs.Common.{◌∙◌, ap, subst, Result, Ok, Err, is_some, nat_lt, slice_get, unwrap_or, Contains, HoldsAt, find}
 use Rattle.std.specs.Result.{result_ok}
-use Rattle.std.specs.List.{Contains, HoldsAt, find}
 use Rattle.std.specs.List.Sorted.{IsBinarySearchResult, IsNonDecreasingBy, IsSearchInRange}
 use Rattle.std.specs.Ordering.{ordering_index}
 use Rattle.std.specs.Str.{bytes_eq}

@@ -1,7 +1,6 @@
 -- Where there is no first error, none holds.
-use Rattle.std.proofs.Common.{arith}
-use Rattle.std.proofs.Common.{◌≡◌, ◌∙◌, ◌+◌, ℕ, Option, ap, slice_get, sym, take, Bool, true, false, List, [], ◌∷◌, ◌++◌, refl, Some, None}
-use Rattle.std.specs.List.{All, flat_map, fold}
+use Rattle.std.proofs.Common.{arith, ◌≡◌, ◌∙◌, ◌+◌, ℕ, Option, ap, slice_get, sym, take, Bool, true, false, List, [], ◌∷◌, ◌++◌, refl, Some, None, All}
+use Rattle.std.proofs.Common.{flat_map, fold}
 use Rattle.std.proofs.lemmas.List.{append-nil}
 use Rattle.std.proofs.lemmas.List.Elements.{All-cons, All-nil, All-weaker}
 use Rattle.std.proofs.lemmas.Grind.{flat_map-append}

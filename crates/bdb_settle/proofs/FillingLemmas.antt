@@ -1,7 +1,5 @@
 -- Filling records up before their list is made, or after it, is the same.
-use Rattle.std.proofs.Common.{arith}
-use Rattle.std.proofs.Common.{◌≡◌, ℕ, ◌+◌, Bool, false, List, [], ◌∷◌, ◌++◌, Some, map, refl, slice_get, sym, take, ◌∙◌, ap}
-use Rattle.std.specs.List.{fold}
+use Rattle.std.proofs.Common.{arith, ◌≡◌, ℕ, ◌+◌, Bool, false, List, [], ◌∷◌, ◌++◌, Some, map, refl, slice_get, sym, take, ◌∙◌, ap, fold}
 use Rattle.std.proofs.Math.Bool.{and-false}
 use Rattle.std.proofs.lemmas.List.{map-append}
 use Rattle.bdb_mktree.specs.of_format.declared.settings.Settings.{Settings}

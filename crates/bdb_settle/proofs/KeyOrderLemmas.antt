@@ -1,6 +1,5 @@
 -- The order of pairs is a weak order.
-use Rattle.std.proofs.Common.{◌≡◌, ℕ, Bool, true, false, not, List, refl, sym, ◌∙◌, ap, arith, true≢false}
-use Rattle.std.specs.Prelude.{◌&&◌, ◌||◌}
+use Rattle.std.proofs.Common.{◌≡◌, ℕ, Bool, true, false, not, List, refl, sym, ◌∙◌, ap, arith, true≢false, ◌&&◌, ◌||◌, is_lt}
 use Rattle.std.specs.Cmp.{IsStrictWeakOrder}
 use Rattle.std.proofs.lemmas.Bool.{false_from_ne_true}
 use Rattle.std.proofs.lemmas.Bool.Decides.{nat_tests}
@@ -13,7 +12,6 @@ use Rattle.bdb_mktree.specs.of_text_format.declared.pairs.Key.TheVariants.{Bytes
 use Rattle.bdb_mktree.specs.of_layout.Seen.{OrderingIs}
 use Rattle.bdb_mktree.proofs.of_layout.KeyLemmas.{by_bytes}
 use Rattle.std.specs.declared.cmp.Ordering.{Ordering}
-use Rattle.std.specs.Ordering.{is_lt}
 use Rattle.bdb_settle.specs.Loaded.{key_less, sorts_data, stands_before}
 
 less_chain : (x y z : List ℕ) → less x y ≡ false → less y z ≡ false → less x z ≡ false

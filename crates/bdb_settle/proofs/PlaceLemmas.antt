@@ -1,9 +1,7 @@
 -- The list of pairs is made where their places lie.
 use Rattle.std.proofs.Common.{◌≡◌, ℕ, ◌+◌, ◌<◌, ◌≤◌, true, false, List, [], ◌∷◌, ◌++◌, drop, drop_of_length-le, get_or, length, map, refl, sym, ◌∙◌, ap, set}
-use Rattle.std.proofs.Common.{subst, take, arith}
-use Rattle.std.specs.Prelude.{◌||◌}
+use Rattle.std.proofs.Common.{subst, take, arith, ◌||◌, fold}
 use Rattle.std.specs.Cmp.{IsStrictWeakOrder}
-use Rattle.std.specs.List.{fold}
 use Rattle.std.specs.List.Sorted.{IsPermutation, IsSortedBy, IsStableBy}
 use Rattle.std.proofs.lemmas.List.{drop-set-lt, drop_more, get_or-map, length-map, length-set, map-append, take_more_set}
 use Rattle.std.proofs.lemmas.List.Elements.{All-set}

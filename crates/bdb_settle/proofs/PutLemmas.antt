@@ -1,8 +1,6 @@
 -- What becomes of a list that a pair is put into.
-use Rattle.std.proofs.Common.{◌≡◌, Bool, true, false, cond, not, List, [], ◌∷◌, ◌++◌, refl, sym, ◌∙◌, ap, true≢false}
-use Rattle.std.specs.Prelude.{◌&&◌, ◌||◌}
+use Rattle.std.proofs.Common.{◌≡◌, Bool, true, false, cond, not, List, [], ◌∷◌, ◌++◌, refl, sym, ◌∙◌, ap, true≢false, ◌&&◌, ◌||◌, All}
 use Rattle.std.specs.Cmp.{IsStrictWeakOrder}
-use Rattle.std.specs.List.{All}
 use Rattle.std.proofs.lemmas.Bool.{or_parts, true_from_ne_false}
 use Rattle.std.proofs.lemmas.List.Elements.{All-head, All-tail}
 use Rattle.bdb_mktree.specs.of_text_format.declared.pairs.Pair.{Pair}

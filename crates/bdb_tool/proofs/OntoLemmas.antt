@@ -96,8 +96,15 @@ on_base words limit are = ap (handed true) are.command_is
 reading_base : (words : List (List ℕ)) (limit : ℕ) → AreOnto words limit → AreReading (command_on words true)
 reading_base words limit are = record { command = onto_command limit are.file; command_is = on_base words limit are; reads = refl }
 
-reads_it : (words : List (List ℕ)) (limit : ℕ) → AreOnto words limit → ReadsBase (command_on words true)
-reads_it words limit are = record { command = onto_command limit are.file; command_is = on_base words limit are; reads = refl }
+reads_it : (words : List (List ℕ)) (limit : ℕ) (source : Change) (text : List ℕ) → AreOnto words limit → IsInputWithin limit source text
+    → ReadsBase (command_on words true) source
+reads_it words limit source text are read = record {
+  command = onto_command limit are.file;
+  command_is = on_base words limit are;
+  reads = refl;
+  input = text;
+  input_is = read;
+}
 
 same_limit : (words : List (List ℕ)) (limit : ℕ) → AreOnto words limit → (command : Command) → command_on words true ≡ Some command → limit ≡ command.limit
 same_limit words limit are command is =
@@ -217,7 +224,7 @@ onto_runs words limit text source base out err status are read (BaseRead image w
             (onto_own limit text image answer allows).no_read_fault,
           ))
           (λ unread. absurd (true≢false unread)) (calls_read asked source command status (on_base words limit are) refl read.end) ends;
-      base_called = inr (reads_it words limit are, read.end);
+      base_called = inr (reads_it words limit source text are read);
       base_whole = λ other is reads answered. inl (inl within.end);
     }
 onto_runs words limit text source base out err status are read (BaseTooLong took finishes) =
@@ -233,7 +240,7 @@ onto_runs words limit text source base out err status are read (BaseTooLong took
           (within_answers asked text command answer (on_base words limit are) read.within (beyond_base limit text image.0 image.2)) (λ four. omega arith)
           finishes
           (calls_read asked source command status (on_base words limit are) refl read.end);
-      base_called = inr (reads_it words limit are, read.end);
+      base_called = inr (reads_it words limit source text are read);
       base_whole = λ other is reads answered.
           inl (inr (
             own_status answer out err status finishes answered,
@@ -247,7 +254,7 @@ onto_runs words limit text source base out err status are read (BaseFailed faile
       image = image.0;
       image_is = image.1;
       runs = read_fault_runs (asked_on words (Some base) image.0) source out err status (reading_base words limit are) (inr failed) stays tells;
-      base_called = inr (reads_it words limit are, read.end);
+      base_called = inr (reads_it words limit source text are read);
       base_whole = λ other is reads answered. absurd (elim tells.status_is [ inl four ↦ answered.0 four | inr five ↦ answered.1 five ]);
     }
 onto_runs words limit text source base out err status are read (BaseUnread stays tells) =
@@ -258,6 +265,6 @@ onto_runs words limit text source base out err status are read (BaseUnread stays
       runs =
           unanswered_runs (asked_on words (Some base) image.0) source out err status (onto_command limit are.file) (on_base words limit are)
           (λ unread. absurd (true≢false unread)) stays tells;
-      base_called = inr (reads_it words limit are, read.end);
+      base_called = inr (reads_it words limit source text are read);
       base_whole = λ other is reads answered. absurd (elim tells.status_is [ inl seven ↦ answered.2 seven | inr five ↦ answered.1 five ]);
     }

@@ -6,6 +6,7 @@ use Rattle.bdb_tool_ask.specs.of_tool_lines.declared.cut.Cut.{Cut}
 use Rattle.bdb_tool_ask.specs.of_tool_lines.Printing.{Writes}
 use Rattle.bdb_tool_ask.proofs.of_tool_lines.PrintingLemmas.{moved}
 use Rattle.bdb_repair.specs.of_mkfile.Builds.{image_size}
+use Rattle.bdb_repair.specs.of_mkfile.NamedImages.{HasBuiltTables}
 use Rattle.bdb_repair.specs.of_model.Answers.{Answer, done, told}
 use Rattle.bdb_repair.specs.of_model.Change.{Change}
 use Rattle.bdb_repair.specs.of_model.Lines.{memory_line}
@@ -25,11 +26,11 @@ use Rattle.bdb_tool_build.specs.Lines.{image_too_large_line}
 -- What is repaired is an answer.
 
 built_by : (limit : ℕ) (shape : Option Shape) (found : Option Guess) (image built : List ℕ) → IsRepaired limit shape found image (Ok built)
-    → IsRepairBy limit shape found image (done built)
-built_by limit shape None image built is = absurd is
-built_by limit shape (Some guess) image built is =
+    → HasBuiltTables built → IsRepairBy limit shape found image (done built)
+built_by limit shape None image built is tables = absurd is
+built_by limit shape (Some guess) image built is tables =
     subst (λ large. IsImageBy large limit (repair_sections shape guess image) (done built)) (sym is.1)
-    (record { image = built; built = is.0; answer_is = refl })
+    (record { image = built; built = is.0; tables = tables; answer_is = refl })
 
 no_guess_by : (limit : ℕ) (shape : Option Shape) (found : Option Guess) (image : List ℕ) → IsRepaired limit shape found image (Err NoMeta)
     → IsRepairBy limit shape found image no_metadata
@@ -52,10 +53,10 @@ refused_within max limit shape found image error told_error same is refused =
 -- The answer is written, or told.
 
 pub built_ends : (limit : ℕ) (shape : Option Shape) (given : Option Guess) (image built : List ℕ) (out err : Change) (written : Result Unit Cut) (status : ℕ)
-    → IsRepaired limit shape (chosen given image) image (Ok built) → Writes built out written → Reports written err status
+    → IsRepaired limit shape (chosen given image) image (Ok built) → HasBuiltTables built → Writes built out written → Reports written err status
     → Ends (IsRepairAnswer limit shape given image) out err status
-built_ends limit shape given image built out err written status is writes reports =
-    Answered (done built) (built_by limit shape (chosen given image) image built is) (written_finishes built out err written status writes reports)
+built_ends limit shape given image built out err written status is tables writes reports =
+    Answered (done built) (built_by limit shape (chosen given image) image built is tables) (written_finishes built out err written status writes reports)
 
 pub no_guess_ends : (limit : ℕ) (shape : Option Shape) (given : Option Guess) (image : List ℕ) (written : Option (List ℕ)) (faults : ℕ) (err : Change)
     (status : ℕ)

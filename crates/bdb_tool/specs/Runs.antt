@@ -8,6 +8,7 @@ use Rattle.bdb_repair.specs.of_format.Terms.{Took}
 use Rattle.bdb_tool_words.specs.Commands.{Command, command_on, reads_base, reads_input}
 use Rattle.bdb_repair.specs.of_model.Lines.{memory_line, read_fault_line, write_fault_line}
 use Rattle.bdb_tool.specs.Outputs.{Answers, AnswersInPart, Asked, IsBaseInput, IsInput, Output}
+use Rattle.bdb_tool.specs.Tasks.{IsInputWithin}
 
 -- neither the outside nor memory failed
 abbrev pub IsAnswered : ℕ → Type 0
@@ -70,19 +71,21 @@ IsBaseRead limit (Some base) status = IsAtEnd base.now ⊎ ((status ≡ 6) × To
 abbrev pub asked_on : List (List ℕ) → Option Change → List ℕ → Asked
 asked_on words base image = record { command = command_on words (is_some base); base = base; image = image }
 
--- a command reads a base
-pub record ReadsBase (asked : Option Command) : Type 0 where
+-- a command reads a base, and the source was read to its end, within the limit of that command
+pub record ReadsBase (asked : Option Command) (source : Change) : Type 0 where
   pub command : Command
   pub command_is : asked ≡ Some command
   pub reads : reads_base command.action ≡ true
+  pub input : List ℕ
+  pub input_is : IsInputWithin command.limit source input
 
 -- the whole promise of a run on these words, with a base that is handed in or without one
 pub record RunsOn (words : List (List ℕ)) (source : Change) (base : Option Change) (out err : Change) (status : ℕ) : Type 0 where
   pub image : List ℕ
   pub image_is : IsBaseInput base image
   pub runs : RunsAs (asked_on words base image) source out err status
-  -- the base isn't called, or a command reads it and the source was read to its end before
-  pub base_called : IsUncalledIf base ⊎ (ReadsBase (command_on words (is_some base)) × IsAtEnd source.now)
+  -- the base isn't called, or a command reads it and the source was read to its end before, within the limit of that command
+  pub base_called : IsUncalledIf base ⊎ ReadsBase (command_on words (is_some base)) source
   -- an answer to such a command comes after the base was read to its end, or one byte beyond the limit, or after the source was read one byte beyond the limit
   pub base_whole : (command : Command) → command_on words (is_some base) ≡ Some command → reads_base command.action ≡ true → IsAnswered status
       → IsBaseRead command.limit base status ⊎ ((status ≡ 6) × Took (command.limit + 1) source.before source.now)

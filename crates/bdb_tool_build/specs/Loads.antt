@@ -8,6 +8,7 @@ use Rattle.bdb_onto.specs.of_settle.declared.load_error.LoadError.{LoadError}
 use Rattle.bdb_onto.specs.of_settle.declared.load_error.LoadError.TheVariants.{TooLarge, Memory}
 use Rattle.bdb_onto.specs.of_mkfile.Builds.{Builds}
 use Rattle.bdb_onto.specs.of_mkfile.Loading.{loading_error}
+use Rattle.bdb_onto.specs.of_mkfile.NamedImages.{HasBuiltTables}
 use Rattle.bdb_tool_build.specs.Lines.{error_line, image_too_large_line, reason_line}
 
 -- the answer to sections that have a load error; want of memory is none
@@ -16,10 +17,11 @@ IsErrorAnswer limit TooLarge answer = answer ≡ told 6 (image_too_large_line li
 IsErrorAnswer limit Memory answer = ⊥
 IsErrorAnswer limit error answer = answer ≡ told 8 (error_line error)
 
--- the answer is some image that is built of sections
+-- the answer is some image that is built of sections, whose hashes have their buckets as built
 pub record IsImageAnswer (sections : List Section) (answer : Answer) : Type 0 where
   pub image : List ℕ
   pub built : Builds sections image
+  pub tables : HasBuiltTables image
   pub answer_is : answer ≡ done image
 
 -- an answer to sections, by the first of their load errors

@@ -10,6 +10,7 @@ use Rattle.bdb_model.specs.Answers.{Answer, done, told}
 use Rattle.bdb_onto.specs.of_settle.declared.load_error.LoadError.{LoadError}
 use Rattle.bdb_onto.specs.declared.base.Base.{Base}
 use Rattle.bdb_onto.specs.Onto.{BuildsOnto, loading_error_onto}
+use Rattle.bdb_onto.specs.of_mkfile.NamedImages.{HasBuiltTables}
 use Rattle.bdb_tool_build.specs.Lines.{reason_line}
 use Rattle.bdb_tool_build.specs.Loads.{IsErrorAnswer}
 
@@ -18,10 +19,11 @@ abbrev pub list_key : ListKey → Key
 list_key (BytesKey bytes) = Bytes bytes
 list_key (NumberKey number) = Number number
 
--- the answer is some image that is built of sections on a base
+-- the answer is some image that is built of sections on a base, whose hashes have their buckets as built
 pub record IsImageOnto (base : Base) (sections : List Section) (answer : Answer) : Type 0 where
   pub image : List ℕ
   pub built : BuildsOnto base sections image
+  pub tables : HasBuiltTables image
   pub answer_is : answer ≡ done image
 
 -- an answer to sections on a base, by the first of their load errors

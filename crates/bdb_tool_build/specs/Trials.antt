@@ -10,6 +10,7 @@ use Rattle.bdb_model.specs.of_text_format.Terms.{is_queue}
 use Rattle.bdb_onto.specs.of_settle.Loaded.{loaded_section, unnumbered}
 use Rattle.bdb_onto.specs.of_need.Need.{need_of}
 use Rattle.bdb_onto.specs.of_mkfile.Builds.{Builds, image_size}
+use Rattle.bdb_onto.specs.of_mkfile.NamedImages.{HasBuiltTables}
 use Rattle.bdb_gen.specs.Generated.{generated}
 use Rattle.bdb_tool_build.specs.Lines.{image_too_large_line, trial_text}
 
@@ -42,10 +43,11 @@ trial_section kind seed count = record {
 abbrev pub trial_sections : Kind → ℕ → ℕ → List Section
 trial_sections kind seed count = trial_section kind seed count ∷ []
 
--- the answer is the two lines of some image that is built of generated pairs
+-- the answer is the two lines of some image that is built of generated pairs, whose hash has its buckets as built
 pub record IsTrialOf (kind : Kind) (seed count : ℕ) (answer : Answer) : Type 0 where
   pub image : List ℕ
   pub built : Builds (trial_sections kind seed count) image
+  pub tables : HasBuiltTables image
   pub answer_is : answer ≡ done (trial_text kind count (need_of (map loaded_section (trial_sections kind seed count))) (hash5 image))
 
 -- an answer to a trial, by whether its image would be too large

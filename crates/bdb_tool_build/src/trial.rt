@@ -3,6 +3,7 @@ ghost use Rattle.std.specs.Prelude.{◌≡◌, ◌<◌, ◌≤◌, ◌^◌, ◌/
 ghost use Rattle.bdb_model.specs.of_format.Terms.{hash5, verdict_of};
 ghost use Rattle.bdb_model.specs.Answers.{done};
 ghost use Rattle.bdb_onto.specs.of_mkfile.Builds.{Builds, image_size};
+ghost use Rattle.bdb_onto.specs.of_mkfile.NamedImages.{HasBuiltTables};
 ghost use Rattle.bdb_tool_build.specs.Lines.{trial_text};
 ghost use Rattle.bdb_tool_build.specs.Refusals.{IsRefusedAnswer};
 ghost use Rattle.bdb_tool_build.specs.Trials.{IsTrialAnswer, trial_sections, trial_settings};
@@ -71,6 +72,7 @@ fn trial_image(
     requires limit { limit ≤ 2 ^ 30 }
     ensures built { IfOk result (λ image. Builds (trial_sections kind seed count) image) }
     ensures within { OnOk result (nat_lt limit (image_size (trial_sections kind seed count)) ≡ false) }
+    ensures tables { IfOk result (λ image. HasBuiltTables image) }
     ensures refused { IfErr result (IsRefusedAnswer (IsTrialAnswer limit kind seed count)) }
 {
     let Ok(sections) = trial_sections(alloc, kind, seed, count) else {

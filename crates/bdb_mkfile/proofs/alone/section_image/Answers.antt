@@ -1,5 +1,4 @@
-use Rattle.std.proofs.Common.{List, sym, subst}
-use Rattle.std.specs.Prelude.{IfOk}
+use Rattle.std.proofs.Common.{List, sym, subst, IfOk}
 use Rattle.bdb_io.specs.of_format.declared.settings.Settings.{Settings}
 use Rattle.bdb_text_format.specs.Terms.{pairs_of}
 use Rattle.bdb_text_format.specs.declared.pairs.TextPair.{TextPair}

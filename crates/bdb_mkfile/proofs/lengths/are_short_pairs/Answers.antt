@@ -1,5 +1,4 @@
-use Rattle.std.proofs.Common.{◌+◌, ◌∙◌, ap, arith, drop, sym}
-use Rattle.std.specs.Prelude.{◌&&◌}
+use Rattle.std.proofs.Common.{◌+◌, ◌∙◌, ap, arith, drop, sym, ◌&&◌}
 use Rattle.std.specs.List.{list_all}
 use Rattle.bdb_text_format.specs.Terms.{slice_seen}
 use Rattle.bdb_mkfile.specs.Lengths.{is_short_pair}

@@ -1,5 +1,4 @@
-use Rattle.std.proofs.Common.{◌≡◌, ◌*◌, true, false, inr, map, sym, ◌∙◌, ap}
-use Rattle.std.specs.Prelude.{nat_lt}
+use Rattle.std.proofs.Common.{◌≡◌, ◌*◌, true, false, inr, map, sym, ◌∙◌, ap, nat_lt}
 use Rattle.std.specs.List.{list_all}
 use Rattle.bdb_need.specs.of_settle.declared.load_error.LoadError.TheVariants.{TooLarge}
 use Rattle.bdb_need.specs.of_settle.LoadErrors.{page_size_in}

@@ -1,6 +1,4 @@
-use Rattle.std.proofs.Common.{◌≡◌, [], ◌∙◌, ap, subst}
-use Rattle.std.specs.Prelude.{IfOk}
-use Rattle.std.specs.List.{fold}
+use Rattle.std.proofs.Common.{◌≡◌, [], ◌∙◌, ap, subst, IfOk, fold}
 use Rattle.bdb_mkfile.specs.Order.{with_named}
 use Rattle.bdb_mkfile.proofs.NameLemmas.{sorted_is}
 use Rattle.bdb_mkfile.proofs.order.in_name_order.Goals as goal

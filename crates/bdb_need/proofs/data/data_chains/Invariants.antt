@@ -1,5 +1,4 @@
-use Rattle.std.proofs.Common.{◌≡◌, ◌≤◌, ◌*◌, ◌^◌, take}
-use Rattle.std.specs.List.{sum_by}
+use Rattle.std.proofs.Common.{◌≡◌, ◌≤◌, ◌*◌, ◌^◌, take, sum_by}
 use Rattle.bdb_mkhash.specs.of_places.Places.{values_seen}
 use Rattle.bdb_mkhash.specs.of_mkleaves.Units.{chain_pages}
 use Rattle.bdb_need.proofs.data.data_chains.Given as goal

@@ -1,5 +1,4 @@
-use Rattle.std.proofs.Common.{arith}
-use Rattle.std.specs.Prelude.{◌/◌}
+use Rattle.std.proofs.Common.{arith, ◌/◌}
 use Rattle.bdb_need.proofs.LevelLemmas.{counts_end, counts_few, counts_next, fewer}
 use Rattle.bdb_need.proofs.levels.levels_over_counts.Goals as goal
 

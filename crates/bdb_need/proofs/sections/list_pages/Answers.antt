@@ -1,5 +1,4 @@
-use Rattle.std.proofs.Common.{◌≡◌, ◌∙◌, ap, subst, sym}
-use Rattle.std.specs.Prelude.{IfOk}
+use Rattle.std.proofs.Common.{◌≡◌, ◌∙◌, ap, subst, sym, IfOk}
 use Rattle.bdb_mkhash.specs.of_format.Terms.{records_per_page}
 use Rattle.bdb_mkhash.specs.Buckets.{table_size, table_units}
 use Rattle.bdb_mkhash.specs.Table.{IsTableList}

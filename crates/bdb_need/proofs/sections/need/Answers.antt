@@ -1,5 +1,4 @@
-use Rattle.std.proofs.Common.{◌≡◌, subst}
-use Rattle.std.specs.Prelude.{IfOk}
+use Rattle.std.proofs.Common.{◌≡◌, subst, IfOk}
 use Rattle.bdb_need.proofs.FilledLemmas.{need_before, settled_filled}
 use Rattle.bdb_need.proofs.sections.need.Goals as goal
 

@@ -1,5 +1,4 @@
-use Rattle.std.proofs.Common.{◌≡◌, take}
-use Rattle.std.specs.List.{sum_by}
+use Rattle.std.proofs.Common.{◌≡◌, take, sum_by}
 use Rattle.bdb_need.specs.Need.{section_pages}
 use Rattle.bdb_settle.specs.Loaded.{filled_section}
 use Rattle.bdb_need.proofs.sections.sections_pages.Given as goal

@@ -1,5 +1,4 @@
-use Rattle.std.proofs.Common.{refl, subst, sym}
-use Rattle.std.specs.List.{All}
+use Rattle.std.proofs.Common.{refl, subst, sym, All}
 use Rattle.bdb_mkhash.specs.of_format.declared.kinds.Kind.TheVariants.{Btree}
 use Rattle.bdb_mkhash.specs.of_mktree.Lists.{keyed_units}
 use Rattle.bdb_mkhash.specs.of_mktree.Units.{IsShortUnit}

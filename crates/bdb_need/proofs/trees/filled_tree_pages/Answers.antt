@@ -1,6 +1,4 @@
-use Rattle.std.proofs.Common.{◌≡◌, ◌∙◌, ap, subst, sym}
-use Rattle.std.specs.Prelude.{IfOk}
-use Rattle.std.specs.List.{All}
+use Rattle.std.proofs.Common.{◌≡◌, ◌∙◌, ap, subst, sym, IfOk, All}
 use Rattle.bdb_mkhash.specs.of_mkleaves.Runs.{IsShort}
 use Rattle.bdb_mkhash.specs.of_mkleaves.Spread.{tree_size}
 use Rattle.bdb_mkhash.specs.of_mkleaves.declared.leaf_type.LeafType.TheVariants.{Pairs, Records}

@@ -1,5 +1,4 @@
-use Rattle.std.proofs.Common.{◌≡◌, subst, sym}
-use Rattle.std.specs.Prelude.{IfOk}
+use Rattle.std.proofs.Common.{◌≡◌, subst, sym, IfOk}
 use Rattle.bdb_mkhash.specs.of_mktree.Lists.{IsTreeList}
 use Rattle.bdb_need.specs.TreePages.{unlined_pairs, tree_pages}
 use Rattle.bdb_need.proofs.SectionLemmas.{filled_before}

@@ -1,5 +1,4 @@
-use Rattle.std.proofs.Common.{ℕ, ◌≡◌, [], sym, ◌∙◌, ap, subst}
-use Rattle.std.specs.Prelude.{IfOk}
+use Rattle.std.proofs.Common.{ℕ, ◌≡◌, [], sym, ◌∙◌, ap, subst, IfOk}
 use Rattle.bdb_mkhash.specs.of_places.Places.{values_seen}
 use Rattle.bdb_mkhash.specs.of_mkleaves.Units.{chain_pages}
 use Rattle.bdb_mkhash.specs.Costs.{pages_in}

@@ -1,5 +1,4 @@
-use Rattle.std.proofs.Common.{◌≡◌, take}
-use Rattle.std.specs.Prelude.{false, None}
+use Rattle.std.proofs.Common.{◌≡◌, take, false, None}
 use Rattle.std.specs.List.{AllZip, flat_map, fold}
 use Rattle.bdb_mkfile.specs.of_settle.LoadErrors.{sooner}
 use Rattle.bdb_onto.specs.Onto.{onto_errors}

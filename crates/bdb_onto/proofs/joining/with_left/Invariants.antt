@@ -1,6 +1,4 @@
-use Rattle.std.proofs.Common.{◌≡◌, ◌++◌}
-use Rattle.std.specs.Prelude.{option_to_list}
-use Rattle.std.specs.List.{flat_map}
+use Rattle.std.proofs.Common.{◌≡◌, ◌++◌, option_to_list, flat_map}
 use Rattle.std.specs.Vec.Iter.{into_iter_items}
 use Rattle.bdb_onto.proofs.joining.with_left.Given as goal
 

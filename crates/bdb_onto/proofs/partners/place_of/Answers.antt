@@ -1,5 +1,4 @@
-use Rattle.std.proofs.Common.{arith, ◌∙◌, ap, sym}
-use Rattle.std.specs.Prelude.{is_some}
+use Rattle.std.proofs.Common.{arith, ◌∙◌, ap, sym, is_some}
 use Rattle.std.proofs.lemmas.Bool.Decides.{nat_tests}
 use Rattle.bdb_onto.proofs.ErrorLemmas.{same_of}
 use Rattle.bdb_onto.proofs.SearchLemmas.{all_named, first_place, names_rise, no_place}

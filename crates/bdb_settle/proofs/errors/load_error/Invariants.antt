@@ -1,6 +1,4 @@
-use Rattle.std.proofs.Common.{◌≡◌, take}
-use Rattle.std.specs.Prelude.{None}
-use Rattle.std.specs.List.{flat_map, fold}
+use Rattle.std.proofs.Common.{◌≡◌, take, None, flat_map, fold}
 use Rattle.bdb_settle.specs.LoadErrors.{section_errors, sooner}
 use Rattle.bdb_settle.proofs.errors.load_error.Given as goal
 

@@ -8,16 +8,16 @@ pub returns-in-Ok : goal.returns-in-Ok
 returns-in-Ok g c =
     let is =
     subst (λ (n : ℕ). IsRepaired n c.args.asked.shape (chosen c.args.asked.guess c.args.image.now) c.args.image.now (Ok c.in-Ok.built))
-    c.from-max.ensures c.in-Ok.ensures in
-    built_ends c.args.limit c.args.asked.shape c.args.asked.guess c.args.image.now c.in-Ok.built _ _ _ _ is (rw c.bytes.ensures at c.put.ensures)
-    c.report.ensures
+    c.from-max.ensures c.in-Ok.ensures.repaired in
+    built_ends c.args.limit c.args.asked.shape c.args.asked.guess c.args.image.now c.in-Ok.built _ _ _ _ is c.in-Ok.ensures.tables
+    (rw c.bytes.ensures at c.put.ensures) c.report.ensures
 
 pub returns-in-Err-NoMeta : goal.returns-in-Err-NoMeta
 returns-in-Err-NoMeta g c =
     no_guess_ends c.args.limit c.args.asked.shape c.args.asked.guess c.args.image.now _ _ _ _
-    (refused_within _ _ _ _ _ _ _ c.from-max.ensures c.in-Err-NoMeta.field-0-is c.in-Err-NoMeta.ensures) c.tell.ensures
+    (refused_within _ _ _ _ _ _ _ c.from-max.ensures c.in-Err-NoMeta.field-0-is c.in-Err-NoMeta.ensures.repaired) c.tell.ensures
 
 pub returns-in-Err-TooLarge : goal.returns-in-Err-TooLarge
 returns-in-Err-TooLarge g c =
     large_ends c.args.limit c.args.asked.shape c.args.asked.guess c.args.image.now _ _ _ _
-    (refused_within _ _ _ _ _ _ _ c.from-max.ensures c.in-Err-TooLarge.field-0-is c.in-Err-TooLarge.ensures) c.tell_too_large.ensures
+    (refused_within _ _ _ _ _ _ _ c.from-max.ensures c.in-Err-TooLarge.field-0-is c.in-Err-TooLarge.ensures.repaired) c.tell_too_large.ensures

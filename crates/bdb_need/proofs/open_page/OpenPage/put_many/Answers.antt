@@ -1,5 +1,4 @@
-use Rattle.std.proofs.Common.{◌+◌, ◌-◌, ◌*◌, refl, subst, sym, replicate}
-use Rattle.std.specs.Prelude.{◌/◌, ◌%◌}
+use Rattle.std.proofs.Common.{◌+◌, ◌-◌, ◌*◌, refl, subst, sym, replicate, ◌/◌, ◌%◌}
 use Rattle.bdb_need.specs.Counting.{ArePut}
 use Rattle.bdb_need.proofs.OpenLemmas.{many_new, many_open}
 use Rattle.bdb_need.proofs.open_page.OpenPage.put_many.Goals as goal
