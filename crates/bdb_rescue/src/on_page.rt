@@ -1,7 +1,7 @@
 //! Which bytes of a page stand in a run of bytes. Items of a page may overlap, so together they may have many more bytes than it has: where they do, the page is
 //! put there once, and what is left of them is found in it.
 use bdb_survey::u16_at;
-use bdb_text_format::Order;
+use bdb_text_format::{Order, PageType};
 
 /// Where an item stands: on a page of pairs, or on one of values by themselves.
 #[derive(Clone, Copy, Debug)]
@@ -56,8 +56,8 @@ impl OnPage {
 
 // How many bytes come before those of an item of a page of this type: of a hash the kind of the item alone, else a length, too.
 fn head_of(page_type: u8) -> usize {
-    match page_type {
-        2 | 13 => 1,
+    match PageType::of(page_type) {
+        PageType::Hash => 1,
         _ => 3,
     }
 }
