@@ -83,6 +83,8 @@ KEPT_ONCE = tuple(Run(("repair", "--as", kind, "--max-bytes", "1000000"), 0) for
 ONTO = (Run(("load",), 0, onto=True),)
 # What is salvaged has no room within the limit that there is without a word.
 MEGABYTES = (Run(("repair",), 6), Run(("repair", "--as", "btree"), 6), Run(("repair", "--as", "hash"), 6))
+# The base itself is within the limit.
+ONTO_MEGABYTES = (Run(("load", "--max-bytes", "4000000"), 6, onto=True), Run(("repair", "--max-bytes", "4000000"), 6))
 BY_HAND = tuple(Run(("salvage", "--order", "little", "--page-size", size), 0) for size in ("512", "32768"))
 
 # At the largest size a run whose time grows as its input takes some hundredths of a second, up to a few tenths.
@@ -120,7 +122,7 @@ CLASSES = (
     Class("chain-full-btree", "data of a btree share a chain", files.full_chain_btree, 8_000, "", SOUND + (get("00000000"),) + CUT_OFF + ONTO_CUT_OFF),
     Class("chain-full-set", "data of one key share a chain", files.full_chain_set, 8_000, "", SOUND + (get("key"),) + CUT_OFF + KEPT_ONCE),
     Class("chain-megabyte", "a million pairs name one chain of a megabyte", files.megabyte_chain_btree, 1_000_000, "bytes", MEGABYTES),
-    Class("chain-megabyte-base", "data of a sound base are one chain of a megabyte", files.megabyte_chain_btree, 5_000, "bytes", ONTO_CUT_OFF + CUT_OFF),
+    Class("chain-megabyte-base", "data of a sound base are one chain of a megabyte", files.megabyte_chain_btree, 5_000, "bytes", ONTO_MEGABYTES),
     # Chains of full pages that aren't written: those of the outputs would be too long to write.
     Class("chain-full-order", "sorted data, two chains that begin alike under each key", files.full_chains_order, 16_000, "", JUDGED + (get("x", status=9),)),
     Class("chain-full-grid", "sorted data, each two of many such chains under a key", files.full_chains_grid, 32_000, "", JUDGED + (get("x", status=9),)),

@@ -73,7 +73,7 @@ def parsed(file):
         if found and not line.startswith(("use ", "pub use ", "#")):
             found[-1].text.append(line)
             inner = re.match(rf"  (?:pub )?({NAME}) :", line)
-            if inner and found[-1].name:
+            if inner and found[-1].name and inner[1][0].isupper():
                 constructors[inner[1]] = found[-1].name
     says = found.pop(0).words if found and not found[0].name else ""
     return says, found, imports(file), constructors
