@@ -356,7 +356,7 @@ def check_recipes(checks, prefix, env, program):
         checks.check(f"{name} is that of the page", os.access(place, os.X_OK) and read(place) == text)
     if program:
         answer = ran([f"{folder}/report.sh", f"{TOP}/samples"], env=env)
-        line = f"sound    {TOP}/samples/one-pair-little.db: 2 pages"
+        line = f"sound       {TOP}/samples/one-pair-little.db: 2 pages"
         checks.check("report.sh runs", line.encode() in answer[1].splitlines(), answer)
     else:
         answer = ran([f"{folder}/lookup.sh", "a b"], env=env)
