@@ -43,12 +43,11 @@ COLUMNS = ("Class", "Bytes", *(f"`{command}`" for command in COMMANDS))
 
 
 class Run(typing.NamedTuple):
-    """A command to run: its words, the status that it must end with, and whether it reads a text without pairs and the input is the base that
-    this is loaded onto."""
+    """A command to run: its words, the status that it must end with, and the text that it reads where the input is the base that this is loaded onto."""
 
     words: tuple
     status: int
-    onto: bool = False
+    onto: bytes = b""
 
 
 class Class(typing.NamedTuple):
@@ -68,6 +67,7 @@ def get(*words, status=0):
 
 
 NO_PAIRS = b"VERSION=3\nformat=bytevalue\ntype=btree\nduplicates=1\nHEADER=END\nDATA=END\n"
+NO_DUPLICATES = NO_PAIRS.replace(b"duplicates=1\n", b"")
 LOADED, REFUSED, TOO_LARGE = (Run(("load",), 0),), (Run(("load",), 8),), (Run(("load", "--max-bytes", "100000"), 6),)
 SOUND = (Run(("verify",), 0), Run(("dump",), 0), Run(("salvage",), 0))
 FAULTY = (Run(("verify",), 1), Run(("dump",), 1), Run(("salvage",), 0))
@@ -77,14 +77,14 @@ CUT_OFF = (Run(("repair", "--max-bytes", "1000000"), 6),)
 # The sections of such a file would be too long to write as a text.
 REPAIRED = (Run(("repair",), 0),)
 # The data of such a base are far longer than it, too.
-ONTO_CUT_OFF = (Run(("load", "--max-bytes", "1000000"), 6, onto=True),)
+ONTO_CUT_OFF = (Run(("load", "--max-bytes", "1000000"), 6, onto=NO_PAIRS),)
 # A key has one datum there, though many are salvaged, all of them one chain.
 KEPT_ONCE = tuple(Run(("repair", "--as", kind, "--max-bytes", "1000000"), 0) for kind in ("btree", "hash"))
-ONTO = (Run(("load",), 0, onto=True),)
+ONTO = (Run(("load",), 0, onto=NO_PAIRS),)
 # What is salvaged has no room within the limit that there is without a word.
 MEGABYTES = (Run(("repair",), 6), Run(("repair", "--as", "btree"), 6), Run(("repair", "--as", "hash"), 6))
 # The base itself is within the limit.
-ONTO_MEGABYTES = (Run(("load", "--max-bytes", "4000000"), 6, onto=True), Run(("repair", "--max-bytes", "4000000"), 6))
+ONTO_MEGABYTES = (Run(("load", "--max-bytes", "4000000"), 6, onto=NO_DUPLICATES), Run(("repair", "--max-bytes", "4000000"), 6))
 BY_HAND = tuple(Run(("salvage", "--order", "little", "--page-size", size), 0) for size in ("512", "32768"))
 
 # At the largest size a run whose time grows as its input takes some hundredths of a second, up to a few tenths.
@@ -119,8 +119,8 @@ CLASSES = (
     Class("bucket-chain", "one bucket of pages, each of which is the next one of the page behind it", files.bucket_down, 48_000, "", SOUND + (get("a"),)),
     Class("bucket-ring", "a ring of pages of a bucket", files.bucket_ring, 131_072, "Unreached", FAULTY),
     # Items that share one chain of full pages: the texts of these are longer than their files.
-    Class("chain-full-btree", "data of a btree share a chain", files.full_chain_btree, 8_000, "", SOUND + (get("00000000"),) + CUT_OFF + ONTO_CUT_OFF),
-    Class("chain-full-set", "data of one key share a chain", files.full_chain_set, 8_000, "", SOUND + (get("key"),) + CUT_OFF + KEPT_ONCE),
+    Class("chain-full-btree", "data of a btree share a chain", files.full_chain_btree, 8_000, "", SOUND + (get("00000000"),) + CUT_OFF),
+    Class("chain-full-set", "data of one key share a chain", files.full_chain_set, 8_000, "", SOUND + (get("key"),) + CUT_OFF + KEPT_ONCE + ONTO_CUT_OFF),
     Class("chain-megabyte", "a million pairs name one chain of a megabyte", files.megabyte_chain_btree, 1_000_000, "bytes", MEGABYTES),
     Class("chain-megabyte-base", "data of a sound base are one chain of a megabyte", files.megabyte_chain_btree, 5_000, "bytes", ONTO_MEGABYTES),
     # Chains of full pages that aren't written: those of the outputs would be too long to write.
@@ -230,7 +230,7 @@ def started(program, run, path, told):
     words, read = run.words, path
     if run.onto:
         words, read = (*run.words, "--onto", path), path.with_name("no-pairs")
-        read.write_bytes(NO_PAIRS)
+        read.write_bytes(run.onto)
     with read.open("rb") as given:
         process = subprocess.Popen([program, *words], stdin=given, stdout=subprocess.DEVNULL, stderr=told)
     resource.prlimit(process.pid, resource.RLIMIT_AS, (MEMORY, MEMORY))
