@@ -1,5 +1,5 @@
 //! Pairs that share bytes of their run.
-ghost use Rattle.std.specs.Prelude.{◌≡◌, ◌-◌, ◌+◌, ◌^◌, ◌<◌, ◌≤◌, [], ℕ, List, IfOk, IfSome, OnErr, OnOk, drop, get_or, length, take};
+ghost use Rattle.std.specs.Prelude.{◌≡◌, ◌-◌, ◌+◌, ◌^◌, ◌<◌, ◌≤◌, [], ℕ, List, IfOk, IfSome, IsSome, OnErr, OnOk, drop, get_or, length, slice_range, take};
 ghost use Rattle.bdb_places.specs.Places.{span_in};
 ghost use Rattle.bdb_text_format.specs.Gathered.{Extends, HasChains, IsSpanOf, with_again, with_pair};
 ghost use Rattle.bdb_text_format.specs.Placed.{IsKeyPlaced, IsPiecePut, Keeps, pair_with, placed_key};
@@ -66,7 +66,8 @@ impl Gathered {
 
     /// Where bytes stand, if they do from one place of the run on.
     pub fn find(&self, from: usize, piece: &[u8]) -> Option<Span>
-        ensures { IfSome result (IsPiecePut self.now.bytes piece.now) }
+        ensures some { IfSome result (IsPiecePut self.now.bytes piece.now) }
+        ensures told { length self.now.bytes < 2 ^ 32 → from + length piece.now ≤ length self.now.bytes → slice_range self.now.bytes from (from + length piece.now) ≡ piece.now → IsSome result }
     {
         found(self.bytes.as_slice(), from, piece)
     }

@@ -1,4 +1,4 @@
-ghost use Rattle.std.specs.Prelude.{◌≡◌, ◌==◌, ◌<◌, ◌∷◌, ◌++◌, [], OnOk, OnErr, IfOk, IfSome, true, ◌-◌, ◌+◌, ◌^◌, get_or, length, slice_get, take, vec_capacity};
+ghost use Rattle.std.specs.Prelude.{◌≡◌, ◌==◌, ◌<◌, ◌∷◌, ◌++◌, [], OnOk, OnErr, IfOk, IfSome, IsSome, true, ◌≤◌, ◌-◌, ◌+◌, ◌^◌, get_or, length, slice_get, slice_range, take, vec_capacity};
 ghost use Rattle.std.specs.Option.{option_map};
 ghost use Rattle.std.specs.List.{All};
 ghost use Rattle.bdb_text_format.specs.Pairs.{last_key};
@@ -86,7 +86,8 @@ pub(crate) fn put(bytes: &mut Vec<u8>, piece: &[u8]) -> Result<Span, AllocError>
 
 // Where bytes stand in a run, if they do from one place on.
 pub(crate) fn found(bytes: &[u8], from: usize, piece: &[u8]) -> Option<Span>
-    ensures { IfSome result (IsPiecePut bytes.now piece.now) }
+    ensures some { IfSome result (IsPiecePut bytes.now piece.now) }
+    ensures told { length bytes.now < 2 ^ 32 → from + length piece.now ≤ length bytes.now → slice_range bytes.now from (from + length piece.now) ≡ piece.now → IsSome result }
 {
     let to = from.checked_add(piece.len())?;
     if to > bytes.len() || &bytes[from..to] != piece {
