@@ -80,7 +80,7 @@ fn base_pairs(
     ensures { IfOk result (λ pairs. pairs ≡ map text_pair (list_of (file_of sound.now) (database_at (file_of sound.now) db).fields)) }
 {
     match btree_meta(sound.meta(db)) {
-        Some(meta) => btree_pairs(alloc, sound.linked(), meta, rooms),
+        Some(meta) => btree_pairs(alloc, sound.linked(), meta),
         None => scanned_pairs(alloc, sound, db, rooms),
     }
 }
