@@ -3,15 +3,16 @@ use Rattle.std.proofs.Common.{◌≡◌, ℕ, Bool, true, false, cond, List, [],
 use Rattle.std.proofs.lemmas.Grind.{flat_map-append}
 use Rattle.std.proofs.lemmas.List.{map-append}
 use Rattle.std.proofs.lemmas.List.Elements.{All-cons, All-nil}
-use Rattle.bdb_model.specs.of_format.Terms.{BytesKey, File, ListKey, StoredPair, btree_list, data_of, file_of, leaves, listed_pair, pairs_of}
+use Rattle.bdb_model.specs.of_format.Terms.{BytesKey, File, Item, ListKey, StoredPair, btree_list, data_of, file_of, leaves, listed_pair, pairs_of}
 use Rattle.bdb_file.specs.of_image.Linked.{FitsLeafPage, IsForest}
-use Rattle.bdb_file.specs.of_btree.Pairs.{AreFit, FitsPair}
+use Rattle.bdb_file.specs.of_btree.Pairs.{AreFit, FitsPair, stored_pair}
 use Rattle.bdb_file.proofs.of_btree.FallLemmas.{ShareKeys as HaveKeys, tree_keys}
 use Rattle.bdb_file.proofs.of_btree.PairLemmas.{pair_of_page}
 use Rattle.bdb_file.proofs.of_btree.WalkLemmas.{each_of, pairs_of_tree}
 use Rattle.bdb_model.specs.of_text_format.declared.pairs.Key.TheVariants.{Bytes}
 use Rattle.bdb_model.specs.of_text_format.declared.pairs.TextPair.{TextPair}
 use Rattle.bdb_onto.specs.Bases.{text_pair}
+use Rattle.bdb_ranks.specs.of_form.Pairs.{PairOf}
 use Rattle.bdb_tool_build.specs.Ontos.{list_key}
 use Rattle.bdb_tool_build.specs.Copied.{AreOf, Follow, ShareKeys}
 
@@ -33,6 +34,23 @@ pub leaf_fit : (image : List ℕ) (p : ℕ) → IsForest image → FitsLeafPage 
 leaf_fit image p forest fits = each_of (FitsPair (file_of image)) (pairs_of (file_of image) p) (λ pair at. (pair_of_page image p pair forest fits at).fits)
 
 -- Lists, one more at a time.
+
+-- one more pair of a leaf, of an image that is known by another name
+pub pair_more : (image same : List ℕ) (all now new : List TextPair) (p : ℕ) (left rest : List (PairOf Item)) (pair : PairOf Item) → same ≡ image
+    → left ≡ pair ∷ rest → all ≡ now ++ map text_pair (flat_map (listed_pair (file_of image)) (map (stored_pair (file_of image) p) left))
+    → new ≡ now ++ map text_pair (listed_pair (file_of same) (stored_pair (file_of same) 0 pair))
+    → all ≡ new ++ map text_pair (flat_map (listed_pair (file_of image)) (map (stored_pair (file_of image) p) rest))
+pair_more image same all now new p left rest pair is are so_far pushed =
+    let file : File = file_of image in
+    let stored : List (PairOf Item) → List StoredPair = map (stored_pair file p) in
+    let here : List TextPair = map text_pair (listed_pair file (stored_pair file p pair)) in
+    let others : List TextPair = map text_pair (flat_map (listed_pair file) (stored rest)) in
+    so_far
+    ∙ (ap (λ (ps : List (PairOf Item)). now ++ map text_pair (flat_map (listed_pair file) (stored ps))) are
+    ∙ (ap (λ pairs. now ++ pairs) (map-append text_pair (listed_pair file (stored_pair file p pair)) (flat_map (listed_pair file) (stored rest)))
+    ∙ (sym (append_assoc now here others)
+    ∙ sym (ap (λ pairs. pairs ++ others)
+    (pushed ∙ ap (λ (i : List ℕ). now ++ map text_pair (listed_pair (file_of i) (stored_pair (file_of i) 0 pair))) is)))))
 
 -- Pairs that share their key.
 

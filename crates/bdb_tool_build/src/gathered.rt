@@ -153,8 +153,7 @@ impl<'a> Gatherer<'a> {
         requires key { IsKeyPlaced self.old.gathered.bytes key }
         ensures { OnOk result (Adds self.old self.new key (data_of (file_of self.old.image) (Tree root))) }
     {
-        let mut entries = tree_entries(&self.forest, root);
-        while let Some(entry) = entries.next() {
+        for entry in tree_entries(&self.forest, root) {
             self.push_entry(key, &entry)?;
         }
         Ok(())
