@@ -3,7 +3,7 @@ use Rattle.std.proofs.Common.{◌≡◌, ℕ, Bool, true, false, cond, not, List
 use Rattle.std.proofs.lemmas.List.{map-append}
 use Rattle.std.proofs.lemmas.List.Elements.{All-head}
 use Rattle.bdb_file.specs.of_btree.Pairs.{stored_pair}
-use Rattle.bdb_model.specs.of_format.Terms.{BytesKey, File, Item, ListKey, data_of, file_of, listed_pair, value_of}
+use Rattle.bdb_model.specs.of_format.Terms.{BytesKey, File, Item, ListKey, data_of, file_of, listed_entry, listed_pair, value_of}
 use Rattle.bdb_onto.specs.Bases.{text_pair}
 use Rattle.bdb_ranks.specs.of_form.Pairs.{PairOf}
 use Rattle.bdb_ranks.specs.of_overflow.Datum.{FitsContent}
@@ -13,7 +13,7 @@ use Rattle.bdb_text_format.specs.of_places.declared.place.PlacedKey.{PlacedKey}
 use Rattle.bdb_text_format.specs.of_places.declared.span.Span.{Span}
 use Rattle.bdb_text_format.specs.of_places.Places.{span_in}
 use Rattle.bdb_text_format.specs.declared.pairs.Key.{Key}
-use Rattle.bdb_text_format.specs.declared.pairs.Key.TheVariants.{Bytes}
+use Rattle.bdb_text_format.specs.declared.pairs.Key.TheVariants.{Bytes, Number}
 use Rattle.bdb_text_format.specs.declared.pairs.TextPair.{TextPair}
 use Rattle.bdb_text_format.specs.Terms.{Extends, Gathering, HasChains, IsKeyPlaced, IsPiecePut, pair_with, placed_key}
 use Rattle.bdb_text_format.proofs.GatheredLemmas.{chains_same}
@@ -135,3 +135,11 @@ pair_given old mid new key pair live grows has adds =
     ∙ (ap (λ (image : List ℕ). old.gathered.pairs ++ with_key (Bytes bytes) (values image)) grows.image
     ∙ (ap (λ more. old.gathered.pairs ++ more) (listed_keyed bytes (values old.image))
     ∙ ap (λ b. old.gathered.pairs ++ map text_pair (cond (not b) listed [])) (sym live)))))
+
+-- a record with its number, unless it's deleted
+pub record_given : (file : File) (number : ℕ) (entry : Item) → with_key (Number number) (values_of file (entry ∷ [])) ≡ map text_pair (listed_entry file (number, entry))
+record_given file number entry = by_test entry.deleted refl
+  where
+    by_test : (b : Bool) → entry.deleted ≡ b → with_key (Number number) (values_of file (entry ∷ [])) ≡ map text_pair (listed_entry file (number, entry))
+    by_test true is = rw (is) refl
+    by_test false is = rw (is) refl

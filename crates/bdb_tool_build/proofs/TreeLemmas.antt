@@ -1,9 +1,10 @@
 -- The pairs of a tree, leaf by leaf.
-use Rattle.std.proofs.Common.{◌≡◌, ℕ, Bool, true, false, cond, List, [], ◌∷◌, ◌++◌, append_assoc, map, refl, sym, ◌∙◌, ap, subst, flat_map}
+use Rattle.std.proofs.Common.{◌≡◌, ℕ, ◌+◌, Bool, true, false, cond, List, [], ◌∷◌, ◌++◌, append_assoc, map, refl, sym, ◌∙◌, ap, subst, flat_map}
+use Rattle.std.specs.List.{enumerate_from}
 use Rattle.std.proofs.lemmas.Grind.{flat_map-append}
 use Rattle.std.proofs.lemmas.List.{map-append}
 use Rattle.std.proofs.lemmas.List.Elements.{All-cons, All-nil}
-use Rattle.bdb_model.specs.of_format.Terms.{BytesKey, File, Item, ListKey, StoredPair, btree_list, data_of, file_of, leaves, listed_pair, pairs_of}
+use Rattle.bdb_model.specs.of_format.Terms.{BytesKey, File, Item, ListKey, StoredPair, btree_list, data_of, file_of, leaves, listed_entry, listed_pair, pairs_of, recno_list, tree_entries}
 use Rattle.bdb_file.specs.of_image.Linked.{FitsLeafPage, IsForest}
 use Rattle.bdb_file.specs.of_btree.Pairs.{AreFit, FitsPair, stored_pair}
 use Rattle.bdb_file.proofs.of_btree.FallLemmas.{ShareKeys as HaveKeys, tree_keys}
@@ -35,6 +36,15 @@ leaf_fit image p forest fits = each_of (FitsPair (file_of image)) (pairs_of (fil
 
 -- Lists, one more at a time.
 
+-- some more of what is listed
+listed_more : (all now new : List TextPair) (here rest both : List (ListKey × List ℕ)) → both ≡ here ++ rest → all ≡ now ++ map text_pair both
+    → new ≡ now ++ map text_pair here → all ≡ new ++ map text_pair rest
+listed_more all now new here rest both are so_far pushed =
+    so_far
+    ∙ (ap (λ entries. now ++ map text_pair entries) are
+    ∙ (ap (λ pairs. now ++ pairs) (map-append text_pair here rest)
+    ∙ (sym (append_assoc now (map text_pair here) (map text_pair rest)) ∙ sym (ap (λ pairs. pairs ++ map text_pair rest) pushed))))
+
 -- one more pair of a leaf, of an image that is known by another name
 pub pair_more : (image same : List ℕ) (all now new : List TextPair) (p : ℕ) (left rest : List (PairOf Item)) (pair : PairOf Item) → same ≡ image
     → left ≡ pair ∷ rest → all ≡ now ++ map text_pair (flat_map (listed_pair (file_of image)) (map (stored_pair (file_of image) p) left))
@@ -42,15 +52,28 @@ pub pair_more : (image same : List ℕ) (all now new : List TextPair) (p : ℕ) 
     → all ≡ new ++ map text_pair (flat_map (listed_pair (file_of image)) (map (stored_pair (file_of image) p) rest))
 pair_more image same all now new p left rest pair is are so_far pushed =
     let file : File = file_of image in
-    let stored : List (PairOf Item) → List StoredPair = map (stored_pair file p) in
-    let here : List TextPair = map text_pair (listed_pair file (stored_pair file p pair)) in
-    let others : List TextPair = map text_pair (flat_map (listed_pair file) (stored rest)) in
-    so_far
-    ∙ (ap (λ (ps : List (PairOf Item)). now ++ map text_pair (flat_map (listed_pair file) (stored ps))) are
-    ∙ (ap (λ pairs. now ++ pairs) (map-append text_pair (listed_pair file (stored_pair file p pair)) (flat_map (listed_pair file) (stored rest)))
-    ∙ (sym (append_assoc now here others)
-    ∙ sym (ap (λ pairs. pairs ++ others)
-    (pushed ∙ ap (λ (i : List ℕ). now ++ map text_pair (listed_pair (file_of i) (stored_pair (file_of i) 0 pair))) is)))))
+    let listed : List (PairOf Item) → List (ListKey × List ℕ) = λ ps. flat_map (listed_pair file) (map (stored_pair file p) ps) in
+    listed_more all now new (listed_pair file (stored_pair file p pair)) (listed rest) (listed left) (ap listed are) so_far
+    (pushed ∙ ap (λ (i : List ℕ). now ++ map text_pair (listed_pair (file_of i) (stored_pair (file_of i) 0 pair))) is)
+
+-- one more record
+pub record_more : (image same : List ℕ) (all now new : List TextPair) (number : ℕ) (left rest : List Item) (entry : Item) → same ≡ image
+    → left ≡ entry ∷ rest → all ≡ now ++ map text_pair (flat_map (listed_entry (file_of image)) (enumerate_from number left))
+    → new ≡ now ++ map text_pair (listed_entry (file_of same) (number, entry))
+    → all ≡ new ++ map text_pair (flat_map (listed_entry (file_of image)) (enumerate_from (number + 1) rest))
+record_more image same all now new number left rest entry is are so_far pushed =
+    let file : File = file_of image in
+    let listed : List Item → List (ListKey × List ℕ) = λ entries. flat_map (listed_entry file) (enumerate_from number entries) in
+    listed_more all now new (listed_entry file (number, entry)) (flat_map (listed_entry file) (enumerate_from (number + 1) rest)) (listed left)
+    (ap listed are) so_far (pushed ∙ ap (λ (i : List ℕ). now ++ map text_pair (listed_entry (file_of i) (number, entry))) is)
+
+-- of records none of which has been passed
+pub records_begin : (file : File) (root : ℕ) (pairs : List TextPair) (found : List Item) → found ≡ tree_entries file root → pairs ≡ []
+    → map text_pair (recno_list file root) ≡ pairs ++ map text_pair (flat_map (listed_entry file) (enumerate_from 1 found))
+unfolding recno_list
+records_begin file root pairs found are none =
+    let list : List Item → List TextPair = λ entries. map text_pair (flat_map (listed_entry file) (enumerate_from 1 entries)) in
+    sym (ap list are) ∙ ap (λ (old : List TextPair). old ++ list found) (sym none)
 
 -- Pairs that share their key.
 

@@ -1,8 +1,7 @@
 -- Pairs of a base as they are copied. Source: docs/FORMAT.md, "Loading onto a file".
-use Rattle.std.specs.Prelude.{◌≡◌, ◌<◌, ℕ, true, false, List, [], ◌∷◌, length}
+use Rattle.std.specs.Prelude.{◌≡◌, ◌<◌, ℕ, true, List, [], ◌∷◌, length}
 use Rattle.std.specs.List.{All}
-use Rattle.bdb_model.specs.of_format.declared.metadata.BtreeMeta.{BtreeMeta}
-use Rattle.bdb_model.specs.of_format.Terms.{BtreeFields, ListKey, Metadata, StoredPair, is_recno}
+use Rattle.bdb_model.specs.of_format.Terms.{ListKey, StoredPair}
 use Rattle.bdb_model.specs.of_text_format.declared.pairs.Key.{Key}
 use Rattle.bdb_model.specs.of_text_format.declared.pairs.TextPair.{TextPair}
 use Rattle.bdb_model.specs.of_text_format.Terms.{last_key}
@@ -31,8 +30,3 @@ ShareKeys key (pair ∷ pairs) = (pair.shares ≡ true → key ≡ pair.key) × 
 pub record Follow (pairs : List StoredPair) : Type 0 where
   pub key : List ℕ
   pub shares : ShareKeys key pairs
-
--- metadata are those of a btree, and of no recno
-pub record IsBtree (fields : Metadata) (meta : BtreeMeta) : Type 0 where
-  pub are : fields ≡ BtreeFields meta
-  pub keyed : is_recno meta ≡ false

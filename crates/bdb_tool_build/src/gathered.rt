@@ -1,7 +1,7 @@
 //! Pairs of a btree in the making. The value of a chain stands in their run once, however many items name it.
 ghost use Rattle.std.specs.Prelude.{◌≡◌, ◌∷◌, ◌++◌, [], IfOk, IfSome, OnOk, true, map};
 ghost use Rattle.bdb_file.specs.of_btree.Pairs.{FitsSet, stored_pair};
-ghost use Rattle.bdb_model.specs.of_format.Terms.{Tree, data_of, file_of, listed_pair, structure_faults, value_of};
+ghost use Rattle.bdb_model.specs.of_format.Terms.{Tree, data_of, file_of, listed_entry, listed_pair, structure_faults, value_of};
 ghost use Rattle.bdb_onto.specs.Bases.{text_pair};
 ghost use Rattle.bdb_ranks.specs.of_form.Pairs.{pair_seen as view_seen};
 ghost use Rattle.bdb_ranks.specs.of_image.Linked.{FitsChain, FitsDupRoot};
@@ -172,6 +172,21 @@ impl<'a> Gatherer<'a> {
             LeafItem::Duplicates { root, .. } => self.push_set(key, *root),
             LeafItem::Inline { .. } | LeafItem::Overflow { .. } => self.push(key, item),
         }
+    }
+
+    /// Adds a record with its number, unless it's deleted.
+    pub(crate) fn push_record(
+        &mut self,
+        number: u32,
+        entry: &LeafItem<'a>,
+    ) -> Result<(), AllocError>
+        requires { FitsContent (file_of self.old.image) (leaf_item_seen entry.now).content }
+        ensures image { OnOk result (self.new.image ≡ self.old.image) }
+        ensures pairs { OnOk result (self.new.gathered.pairs
+            ≡ self.old.gathered.pairs ++ map text_pair (listed_entry (file_of self.old.image) (number, leaf_item_seen entry.now))) }
+    {
+        self.push_entry(PlacedKey::Number(number), entry)?;
+        Ok(())
     }
 
     // Where the key of a pair stands: where that of the pair before does, if they share it.

@@ -1,7 +1,7 @@
-//! The pairs of a btree, leaf by leaf: a key with its data.
-ghost use Rattle.std.specs.Prelude.{◌≡◌, ◌++◌, [], IfOk, OnOk, map};
+//! The pairs of a btree or a recno, leaf by leaf: a key with its data, or records with their numbers.
+ghost use Rattle.std.specs.Prelude.{◌≡◌, ◌+◌, ◌++◌, [], IfOk, OnOk, map};
 ghost use Rattle.std.specs.List.{flat_map};
-ghost use Rattle.bdb_model.specs.of_format.Terms.{BtreeFields, btree_list, file_of, listed_pair, pairs_of, structure_faults};
+ghost use Rattle.bdb_model.specs.of_format.Terms.{BtreeFields, btree_list, file_of, list_of, listed_pair, pairs_of, recno_list, structure_faults};
 ghost use Rattle.bdb_file.specs.of_image.Linked.{FitsLeafPage, HasMetadata, IsForest};
 ghost use Rattle.bdb_onto.specs.Bases.{text_pair};
 ghost use Rattle.bdb_tool_build.specs.Copied.{Follow};
@@ -9,7 +9,7 @@ ghost use Rattle.bdb_tool_build.specs.Copied.{Follow};
 use crate::gathered::Gatherer;
 use bdb_file::{Linked, tree_leaves};
 use bdb_model::{BtreeMeta, TextPairs};
-use bdb_ranks::PageView;
+use bdb_ranks::{PageView, tree_entries};
 use std::alloc::{AllocError, Global};
 
 // Adds the pairs of a leaf.
@@ -35,8 +35,8 @@ fn push_leaf(page: u32, all: &mut Gatherer<'_>) -> Result<(), AllocError>
     Ok(())
 }
 
-/// The pairs of a btree, as if they stood in a text without numbers of lines.
-pub(crate) fn btree_pairs(
+// The pairs of a btree, as if they stood in a text without numbers of lines.
+fn btree_pairs(
     alloc: Global,
     linked: &Linked<'_>,
     meta: &BtreeMeta,
@@ -52,4 +52,49 @@ pub(crate) fn btree_pairs(
         push_leaf(leaf.number(), &mut all)?;
     }
     Ok(all.into_pairs())
+}
+
+// The number after another; there is one for each record of a file.
+fn number_after(number: u32) -> Result<u32, AllocError>
+    ensures { IfOk result (λ next. next ≡ number + 1) }
+{
+    number.checked_add(1).ok_or(AllocError)
+}
+
+// The records of a recno, as if they stood so.
+fn recno_pairs(
+    alloc: Global,
+    linked: &Linked<'_>,
+    meta: &BtreeMeta,
+) -> Result<TextPairs, AllocError>
+    requires meta { HasMetadata (file_of linked.now) (BtreeFields meta.now) }
+    requires stage { structure_faults (file_of linked.now) ≡ [] }
+    ensures { IfOk result (λ pairs. pairs ≡ map text_pair (recno_list (file_of linked.now) meta.now.root)) }
+{
+    let forest = linked.forest();
+    let mut entries = tree_entries(&forest, linked.root(meta).number());
+    let mut all = Gatherer::new(alloc, forest)?;
+    let mut number: u32 = 0;
+    while let Some(entry) = entries.next() {
+        number = number_after(number)?;
+        all.push_record(number, &entry)?;
+    }
+    Ok(all.into_pairs())
+}
+
+/// The pairs of a tree with this metadata, as if they stood in a text without numbers of lines.
+pub(crate) fn tree_pairs(
+    alloc: Global,
+    linked: &Linked<'_>,
+    meta: &BtreeMeta,
+) -> Result<TextPairs, AllocError>
+    requires meta { HasMetadata (file_of linked.now) (BtreeFields meta.now) }
+    requires stage { structure_faults (file_of linked.now) ≡ [] }
+    ensures { IfOk result (λ pairs. pairs ≡ map text_pair (list_of (file_of linked.now) (BtreeFields meta.now))) }
+{
+    if meta.is_recno() {
+        recno_pairs(alloc, linked, meta)
+    } else {
+        btree_pairs(alloc, linked, meta)
+    }
 }
