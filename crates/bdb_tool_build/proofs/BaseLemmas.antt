@@ -4,7 +4,7 @@ use Rattle.std.proofs.Common.{refl, sym, ◌∙◌, ap, is_some}
 use Rattle.std.proofs.lemmas.List.{map_more}
 use Rattle.std.proofs.lemmas.List.Elements.{All-cons, All-nil}
 use Rattle.bdb_model.specs.of_format.declared.metadata.BtreeMeta.{BtreeMeta}
-use Rattle.bdb_model.specs.of_format.Terms.{BtreeFields, DupLeaf, File, Free, Hash, HashFields, Internal, Leaf, Meta, Metadata, NoType, Overflow, Page, Queue}
+use Rattle.bdb_model.specs.of_format.Terms.{BtreeFields, DupLeaf, Free, Hash, HashFields, Internal, Leaf, Meta, Metadata, NoType, Overflow, Page, Queue}
 use Rattle.bdb_model.specs.of_format.Terms.{QueueFields, RecnoInternal, RecnoLeaf, Zero, databases, file_of, master_in, names_databases}
 use Rattle.bdb_model.specs.of_format.Terms.{verdict_of}
 use Rattle.bdb_model.specs.of_text_format.declared.sections.Section.{Section}

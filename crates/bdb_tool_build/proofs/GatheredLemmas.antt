@@ -14,10 +14,9 @@ use Rattle.bdb_text_format.specs.of_places.declared.span.Span.{Span}
 use Rattle.bdb_text_format.specs.of_places.Places.{span_in}
 use Rattle.bdb_text_format.specs.declared.pairs.Key.{Key}
 use Rattle.bdb_text_format.specs.declared.pairs.Key.TheVariants.{Bytes, Number}
-use Rattle.bdb_text_format.specs.declared.pairs.TextPair.{TextPair}
 use Rattle.bdb_text_format.specs.Terms.{Extends, Gathering, HasChains, IsKeyPlaced, IsPiecePut, pair_with, placed_key}
 use Rattle.bdb_text_format.proofs.GatheredLemmas.{chains_same}
-use Rattle.bdb_text_format.proofs.PlacedLemmas.{kept_on, key_stays, key_within}
+use Rattle.bdb_text_format.proofs.PlacedLemmas.{key_stays, key_within}
 use Rattle.bdb_tool_build.specs.Gathered.{Adds, Grows, HasKey, InHand, with_key}
 
 -- The same pairs with a run that grew, and then more of them.

@@ -1,7 +1,7 @@
 use Rattle.std.proofs.Common.{◌≡◌, ◌++◌, ◌∙◌, ◌≤◌, ap, append-nil, List, ℕ, map, refl, subst, sym, flat_map}
 use Rattle.bdb_file.proofs.of_btree.WalkLemmas.{keys_fit, no_pairs, view_pairs}
 use Rattle.bdb_file.specs.of_btree.Pairs.{AreFit, KeysFit, stored_pair}
-use Rattle.bdb_model.specs.of_format.Terms.{File, Leaf, Page, StoredPair, file_of, listed_pair, page_at, pairs_of, value_of}
+use Rattle.bdb_model.specs.of_format.Terms.{File, Leaf, StoredPair, file_of, listed_pair, page_at, pairs_of, value_of}
 use Rattle.bdb_onto.specs.Bases.{text_pair}
 use Rattle.bdb_ranks.proofs.of_tree.TreeLemmas.{leaf_inside}
 use Rattle.bdb_ranks.specs.of_form.Pairs.{pair_seen as view_seen}

@@ -1,4 +1,4 @@
-use Rattle.std.proofs.Common.{ap, refl, subst, List, ℕ}
+use Rattle.std.proofs.Common.{ap, refl, subst, List}
 use Rattle.bdb_model.specs.of_format.Terms.{File, file_of, tree_entries}
 use Rattle.bdb_ranks.specs.of_layout.Seen.{leaf_item_seen}
 use Rattle.bdb_ranks.specs.of_tree.Entries.{values_of}

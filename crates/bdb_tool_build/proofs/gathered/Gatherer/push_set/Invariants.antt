@@ -1,5 +1,5 @@
-use Rattle.std.proofs.Common.{◌≡◌, length, [], List, ℕ}
-use Rattle.bdb_model.specs.of_format.Terms.{file_of, structure_faults, tree_entries}
+use Rattle.std.proofs.Common.{◌≡◌, [], List}
+use Rattle.bdb_model.specs.of_format.Terms.{file_of, tree_entries}
 use Rattle.bdb_ranks.specs.of_tree.Entries.{AreFit, values_of}
 use Rattle.bdb_tool_build.proofs.GatheredLemmas.{AddsSoFar}
 use Rattle.bdb_tool_build.proofs.gathered.Gatherer.push_set.Given as goal
