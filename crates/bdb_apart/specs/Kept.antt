@@ -1,9 +1,9 @@
 -- What is kept of the databases that are found, and of the pages of each.
-use Rattle.std.specs.Prelude.{◌≡◌, ◌^◌, ℕ, ◌<◌, nat_lt, ◌==◌, ◌&&◌, ◌||◌, if◌then◌else◌, Bool, true, false, List, length, map, get_or, Option, Some, None}
+use Rattle.std.specs.Prelude.{◌≡◌, ◌^◌, ℕ, ◌<◌, nat_lt, ◌==◌, ◌&&◌, ◌||◌, not, if◌then◌else◌, Bool, true, false, List, length, map, get_or, Option, Some, None}
 use Rattle.std.specs.List.{All, range_with_len}
 use Rattle.std.specs.Option.{option_map}
 use Rattle.bdb_rescue.specs.of_format.declared.metadata.QueueMeta.{QueueMeta}
-use Rattle.bdb_rescue.specs.of_format.Terms.{BtreeFields, File, Hash, HashFields, Leaf, Metadata, Page, QueueFields, RecnoLeaf, is_fixed, is_recno}
+use Rattle.bdb_rescue.specs.of_format.Terms.{BtreeFields, File, Hash, HashFields, Leaf, Metadata, Page, QueueFields, RecnoLeaf, is_fixed, is_recno, names_databases}
 use Rattle.bdb_rescue.specs.of_image.Metas.{meta_seen}
 use Rattle.bdb_rescue.specs.Kept.{Reading, file_in}
 use Rattle.bdb_apart.specs.Found.{Found, found}
@@ -31,6 +31,12 @@ holds_of (QueueFields meta) = Slots
 
 abbrev pub holds_in : Found → Holds
 holds_in db = holds_of db.fields
+
+-- metadata on page 0 are those of the only database
+abbrev pub alone_in : Option Metadata → Bool
+alone_in (Some (BtreeFields meta)) = not (names_databases meta)
+alone_in (Some (HashFields meta)) = true
+alone_in fields = false
 
 -- the kind of a page
 abbrev pub kind_in : Page → PageKind
