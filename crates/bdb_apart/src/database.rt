@@ -120,8 +120,7 @@ impl<'t, 's, 'a> Iterator for Databases<'t, 's, 'a> {
     ghost remaining = { item_count (λ left. left) };
 
     fn next(&mut self) -> Option<Database<'t, 's, 'a>> {
-        let left = self.left;
-        let (place, rest) = left.split_first()?;
+        let (place, rest) = self.left.split_first()?;
         self.left = rest;
         Some(Database {
             apart: self.apart,

@@ -6,8 +6,8 @@ use Rattle.bdb_apart.proofs.LeftLemmas.{next_page, pages_rest}
 use Rattle.bdb_apart.proofs.pairs.PairsIterator.next.Goals as goal
 
 -- The next page.
-pub walk-preserved : goal.walk-preserved
-walk-preserved c =
+pub walk-preserved-in_ok-page : goal.walk-preserved-in_ok-page
+walk-preserved-in_ok-page c =
     let file : File = file_in c.walk.self-inside.salvaged.now in
     let none : left_of c.walk.self-inside.here ≡ [] = c.in-None.ensures.0 in
     record {
