@@ -1,19 +1,18 @@
 -- The slots of a queue's pages, and what its metadata keeps.
-use Rattle.std.proofs.Common.{◌≡◌, ℕ, suc, ◌+◌, ◌-◌, ◌*◌, ◌<◌, ◌≤◌, Bool, true, false, cond, List, [], ◌∷◌, ◌++◌, length, take, drop, arith, refl, sym, ◌∙◌, ap, subst}
-use Rattle.std.proofs.Common.{length-drop, inl, inr}
+use Rattle.std.proofs.Common.{◌≡◌, ℕ, zero, suc, ◌+◌, ◌-◌, ◌*◌, ◌<◌, ◌≤◌, Bool, true, false, cond, List, [], ◌∷◌, ◌++◌, length, take, drop, arith, refl, sym, ◌∙◌, ap, subst}
 use Rattle.std.specs.Prelude.{◌==◌, ◌&&◌, ◌||◌, not, nat_lt, Option, Some, None, is_none}
 use Rattle.std.specs.List.{flat_map, range_with_len}
 use Rattle.std.specs.Option.{is_some}
 use Rattle.std.proofs.Math.Nat.{div-mul-le_self, mul-le-mul_right}
-use Rattle.std.proofs.lemmas.Bool.{cases_lt, eqb-true, not-false, or_parts}
+use Rattle.std.proofs.lemmas.Bool.{eq-eqb, eqb-true, not-false, or_parts}
 use Rattle.std.proofs.lemmas.List.{length-take}
 use Rattle.bdb_rescue.specs.of_format.declared.kinds.Order.{Order}
 use Rattle.bdb_rescue.specs.of_format.declared.metadata.FileKind.TheVariants.{Queue}
 use Rattle.bdb_rescue.specs.of_format.declared.metadata.QueueMeta.{QueueMeta}
-use Rattle.bdb_rescue.specs.of_format.Terms.{Row, byte_at, field_rows, first_row, pad4, queue_fields, records_per_page, type_of}
+use Rattle.bdb_rescue.specs.of_format.Terms.{Row, byte_at, field_rows, first_row, four_at, pad4, queue_fields, records_per_page, type_of}
 use Rattle.bdb_rescue.proofs.of_format.VerdictLemmas.{AllFail, none_is_first_row}
 use Rattle.bdb_rescue.specs.Kept.{Reading, file_in}
-use Rattle.bdb_apart.specs.Queues.{bytes_at, is_queue_meta, queue_from, queue_in, queue_on, queue_records_on, queue_slot, slots_from}
+use Rattle.bdb_apart.specs.Queues.{bytes_at, is_queue_meta, is_queue_page, queue_from, queue_in, queue_on, queue_records_on, queue_slot, slots_from}
 use Rattle.bdb_apart.specs.Slots.{HasSlots}
 
 -- The slots of a page.
@@ -53,6 +52,20 @@ queue_more reading meta p there =
 pub queue_none : (reading : Reading) (meta : QueueMeta) (p : ℕ) → (file_in reading).count ≤ p → queue_from reading meta p ≡ []
 queue_none reading meta p past =
     ap (λ n. flat_map (queue_records_on reading meta) (range_with_len p n)) (let none : (file_in reading).count - p ≡ 0 = omega (arith, past) in none)
+
+-- a page that has its number, and the type of pages of a queue, has records
+pub on_queue_page : (reading : Reading) (meta : QueueMeta) (p : ℕ) (page records : List ℕ) → page ≡ bytes_at reading p → records ≡ drop 28 page
+    → byte_at page 25 ≡ 11 → four_at reading.guess.order page 8 ≡ p
+    → slots_from meta p records 0 ≡ queue_records_on reading meta p
+on_queue_page reading meta p page records is behind kind number =
+    ap (λ rest. slots_from meta p rest 0) behind
+    ∙ (sym (ap (λ b. cond b (slots_from meta p (drop 28 page) 0) []) (both (byte_at page 25 == 11) (four_at reading.guess.order page 8 == p) (eq-eqb (byte_at page 25) 11 kind) (eq-eqb (four_at reading.guess.order page 8) p number)))
+    ∙ ap (λ bytes. cond (is_queue_page reading.guess.order p bytes) (slots_from meta p (drop 28 bytes) 0) []) is)
+  where
+    both : (a b : Bool) → a ≡ true → b ≡ true → (a && b) ≡ true
+    both true true isa isb = refl
+    both true false isa isb = absurd cc
+    both false b isa isb = absurd cc
 
 -- Its metadata.
 

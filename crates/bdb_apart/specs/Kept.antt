@@ -1,5 +1,5 @@
 -- What is kept of the databases that are found, and of the pages of each.
-use Rattle.std.specs.Prelude.{◌≡◌, ◌^◌, ℕ, ◌<◌, nat_lt, ◌==◌, ◌&&◌, ◌||◌, not, if◌then◌else◌, Bool, true, false, List, length, map, get_or, Option, Some, None}
+use Rattle.std.specs.Prelude.{◌≡◌, ◌^◌, ℕ, ◌<◌, nat_lt, ◌==◌, ◌&&◌, ◌||◌, not, if◌then◌else◌, Bool, true, false, List, drop, length, map, get_or, Option, Some, None}
 use Rattle.std.specs.List.{All, range_with_len}
 use Rattle.std.specs.Option.{option_map}
 use Rattle.bdb_rescue.specs.of_format.declared.metadata.QueueMeta.{QueueMeta}
@@ -88,6 +88,10 @@ pub record IsApart (reading : Reading) (pages : File) (aboves : List (Option ℕ
   pub rows : aboves ≡ map (above (file_in reading)) (range_with_len 0 (file_in reading).count)
   pub holds : AreHeld (found reading) (file_in reading).count held
   pub places_are : map found_seen places ≡ found reading
+
+-- the databases from one on
+abbrev pub found_from : Reading → ℕ → List FoundIn
+found_from reading at = map (in_image reading) (drop at (found reading))
 
 -- the pages that may belong to the database of a metadata page
 abbrev pub row_in : Reading → ℕ → List ℕ

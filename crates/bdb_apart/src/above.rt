@@ -75,6 +75,7 @@ fn above(salvaged: &Salvaged<'_>, homes: &PageHomes<'_>, one: bool, page: u32) -
 }
 
 /// The same of all pages.
+#[tactic(auto, using(crate::proofs::KindLemmas::above_more))]
 pub(crate) fn aboves(
     alloc: Global,
     salvaged: &Salvaged<'_>,

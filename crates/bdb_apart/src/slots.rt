@@ -1,4 +1,4 @@
-ghost use Rattle.std.specs.Prelude.{◌≡◌, ◌<◌, ◌≤◌, ◌+◌, ◌*◌, Some, length, slice_index, slice_range};
+ghost use Rattle.std.specs.Prelude.{◌≡◌, ◌<◌, ◌≤◌, ◌+◌, ◌*◌, Some, drop, length, slice_index, slice_range};
 ghost use Rattle.std.specs.Iterator.{YieldsFirstBy, item_count};
 ghost use Rattle.bdb_rescue.specs.Entries.{record_read};
 ghost use Rattle.bdb_rescue.specs.Kept.{file_in};
@@ -145,6 +145,14 @@ impl<'s, 'a> QueueRecords<'s, 'a> {
     }
 }
 
+/// The bytes of a page behind its header.
+fn behind_header(page: &[u8]) -> &[u8]
+    requires { 28 ≤ length page.now }
+    ensures { result.now ≡ drop 28 page.now }
+{
+    &page[28..]
+}
+
 /// The records of a page of a queue.
 fn slots_on<'a>(salvaged: &Salvaged<'a>, meta: &QueueMeta, page: u32) -> Option<PageSlots<'a>>
     requires low { 1 ≤ page }
@@ -157,7 +165,7 @@ fn slots_on<'a>(salvaged: &Salvaged<'a>, meta: &QueueMeta, page: u32) -> Option<
         return None;
     }
     Some(PageSlots {
-        bytes: &bytes[28..],
+        bytes: behind_header(bytes),
         meta: *meta,
         page,
         slot: 0,
