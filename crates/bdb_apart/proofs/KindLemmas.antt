@@ -1,28 +1,20 @@
 -- Kinds of pages and of databases, as they are kept.
-use Rattle.std.proofs.Common.{◌≡◌, ◌^◌, ℕ, ◌+◌, ◌<◌, Bool, true, false, cond, List, [], ◌∷◌, ◌++◌, map, length, arith, refl, ap, sym, ◌∙◌}
-use Rattle.std.specs.List.{range_with_len}
+use Rattle.std.proofs.Common.{◌≡◌, ◌^◌, ℕ, ◌<◌, Bool, true, false, cond, List, length, refl, ap, sym, ◌∙◌}
 use Rattle.std.specs.Option.{is_some}
-use Rattle.std.proofs.lemmas.List.FromFn.{map-range_with_len_more}
-use Rattle.std.specs.Prelude.{not, nat_lt, ◌==◌, ◌&&◌, ◌||◌, Option, Some, None}
+use Rattle.std.specs.Prelude.{not, nat_lt, ◌==◌, ◌&&◌, ◌||◌, Some, None}
 use Rattle.bdb_rescue.specs.of_format.declared.metadata.BtreeMeta.{BtreeMeta}
-use Rattle.bdb_rescue.specs.of_format.Terms.{BtreeFields, File, Hash, HashFields, Leaf, Meta, Metadata, Page, QueueFields, RecnoLeaf, is_fixed, is_recno, master_in}
+use Rattle.bdb_rescue.specs.of_format.Terms.{BtreeFields, Hash, HashFields, Leaf, Meta, Metadata, Page, QueueFields, RecnoLeaf, is_fixed, is_recno, master_in}
 use Rattle.bdb_rescue.specs.of_format.Terms.{names_databases}
 use Rattle.bdb_rescue.specs.of_image.Metas.{meta_in}
-use Rattle.bdb_apart.specs.Found.{is_alone, is_leaf}
-use Rattle.bdb_apart.specs.Given.{above, fits_record, holds_pairs, is_pair_page, is_record_page, is_recno_db}
-use Rattle.bdb_apart.specs.Kept.{alone_in, fits_in, holds_of, is_leaf_kind, is_pair_kind, kind_in, names_in, pairs_in}
+use Rattle.bdb_apart.specs.Found.{is_leaf}
+use Rattle.bdb_apart.specs.Given.{fits_record, holds_pairs, is_pair_page, is_record_page, is_recno_db}
+use Rattle.bdb_apart.specs.Kept.{fits_in, holds_of, is_leaf_kind, is_pair_kind, kind_in, names_in, pairs_in}
 use Rattle.bdb_apart.specs.declared.holds.Holds.{Holds}
 use Rattle.bdb_apart.specs.declared.holds.Holds.TheVariants.{Leaves, Records}
 use Rattle.bdb_apart.specs.declared.holds.PageKind.{PageKind}
 use Rattle.bdb_apart.specs.declared.holds.PageKind.TheVariants.{Records as RecordsKind}
 
 -- metadata on page 0
-pub alone_page : (page : Page) → alone_in (meta_in page) ≡ is_alone page
-alone_page (Meta (BtreeFields meta)) = refl
-alone_page (Meta (HashFields meta)) = refl
-alone_page (Meta (QueueFields meta)) = refl
-alone_page page = refl
-
 pub master_page : (page : Page) → names_in (meta_in page) ≡ is_some (master_in page)
 master_page (Meta (BtreeFields meta)) = by_flag (names_databases meta)
   where
@@ -90,8 +82,3 @@ takes_those (BtreeFields meta) placed is =
     ∙ by_length (is_fixed meta) (nat_lt placed.0 (2 ^ 32)) meta.re_len (length placed.1)
 takes_those (HashFields meta) placed is = absurd cc
 takes_those (QueueFields meta) placed is = absurd cc
-
--- where pages belong, with one page more
-pub above_more : (file : File) (p : ℕ) (aboves : List (Option ℕ)) (here : Option ℕ) → aboves ≡ map (above file) (range_with_len 0 p) → here ≡ above file p
-    → aboves ++ here ∷ [] ≡ map (above file) (range_with_len 0 (p + 1))
-above_more file p aboves here are is = rw (map-range_with_len_more (above file) 0 p p (omega arith), are, is) refl

@@ -1,4 +1,5 @@
 mod Below
+pub mod EntryLemmas
 pub mod RowLemmas
 pub mod FoundLemmas
 pub mod NameLemmas

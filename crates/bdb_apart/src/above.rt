@@ -35,7 +35,6 @@ fn is_master(meta: &Option<Meta>) -> bool
 }
 
 /// Whether page 0 is the metadata of the only database.
-#[tactic(auto, using(crate::proofs::KindLemmas::alone_page))]
 pub(crate) fn has_one(salvaged: &Salvaged<'_>) -> bool
     ensures { result ≡ is_alone (page_at (file_in salvaged.now) 0) }
 {
@@ -75,7 +74,6 @@ fn above(salvaged: &Salvaged<'_>, homes: &PageHomes<'_>, one: bool, page: u32) -
 }
 
 /// The same of all pages.
-#[tactic(auto, using(crate::proofs::KindLemmas::above_more))]
 pub(crate) fn aboves(
     alloc: Global,
     salvaged: &Salvaged<'_>,
