@@ -8,3 +8,5 @@ pub mod KindLemmas
 pub mod GivenLemmas
 pub mod HeldLemmas
 pub mod LeftLemmas
+pub mod KnownLemmas
+pub mod SlotLemmas

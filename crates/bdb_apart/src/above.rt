@@ -6,7 +6,7 @@ ghost use Rattle.bdb_rescue.specs.of_format.Terms.{master_in, page_at};
 ghost use Rattle.bdb_rescue.specs.of_image.Metas.{meta_seen};
 ghost use Rattle.bdb_apart.specs.Found.{is_alone};
 ghost use Rattle.bdb_apart.specs.Given.{above, meta_at};
-ghost use Rattle.bdb_apart.specs.Kept.{alone_in};
+ghost use Rattle.bdb_apart.specs.Kept.{alone_in, names_in};
 
 use crate::holds::{is_pair_kind, kind_of};
 use bdb_homes::{Home, Meta, PageHomes};
@@ -24,6 +24,16 @@ fn is_alone(meta: &Option<Meta>) -> bool
     }
 }
 
+/// Whether metadata on page 0 are those of a master.
+fn is_master(meta: &Option<Meta>) -> bool
+    ensures { result ≡ names_in (option_map meta_seen meta.now) }
+{
+    match meta {
+        Some(Meta::Btree(meta)) => meta.names_databases(),
+        _ => false,
+    }
+}
+
 /// Whether page 0 is the metadata of the only database.
 pub(crate) fn has_one(salvaged: &Salvaged<'_>) -> bool
     ensures { result ≡ is_alone (page_at (file_in salvaged.now) 0) }
@@ -32,13 +42,11 @@ pub(crate) fn has_one(salvaged: &Salvaged<'_>) -> bool
 }
 
 /// Whether page 0 is the metadata of a master.
+#[tactic(auto, using(crate::proofs::KindLemmas::master_page))]
 pub(crate) fn has_master(salvaged: &Salvaged<'_>) -> bool
     ensures { result ≡ is_some (master_in (page_at (file_in salvaged.now) 0)) }
 {
-    match salvaged.pages().meta(0) {
-        Some(Meta::Btree(meta)) => meta.names_databases(),
-        _ => false,
-    }
+    is_master(&salvaged.pages().meta(0))
 }
 
 /// The metadata page of a home.
