@@ -46,12 +46,6 @@ holds_of (QueueFields meta) = Slots
 abbrev pub holds_in : Found → Holds
 holds_in db = holds_of db.fields
 
--- metadata on page 0 are those of the only database
-abbrev pub alone_in : Option Metadata → Bool
-alone_in (Some (BtreeFields meta)) = not (names_databases meta)
-alone_in (Some (HashFields meta)) = true
-alone_in fields = false
-
 -- the kind of a page
 abbrev pub kind_in : Page → PageKind
 kind_in (Leaf page) = LeafKind

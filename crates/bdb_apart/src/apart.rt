@@ -106,10 +106,11 @@ pub fn apart_of<'s, 'a, L: Ledger>(
     ensures apart { IfOk result (λ apart. apart ≡ salvaged.now) }
     ensures cost { steps.new ≤ steps.old + (file_in salvaged.now).count }
 {
+    let count = salvaged.pages().count();
     let homes = PageHomes::of(alloc, salvaged.pages(), steps)?;
     let rows = Rows::of(alloc, aboves(alloc, salvaged, &homes)?)?;
     let places = databases(alloc, salvaged, &homes)?;
-    let held = held_of(alloc, salvaged.pages().count(), &places)?;
+    let held = held_of(alloc, count, &places)?;
     Ok(Apart {
         salvaged,
         homes,
