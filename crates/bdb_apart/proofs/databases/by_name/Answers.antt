@@ -13,5 +13,5 @@ returns c =
     let none : map entry_found c.new-dbs.result.entries ≡ [] = ap (map entry_found) c.new-dbs.ensures.entries in
     c.in_ok-put_all_unnamed.ensures
     ∙ (ap (λ dbs. fold with_found dbs (unnamed_above file))
-        (c.in_ok-put_all_named.ensures ∙ ap (λ dbs. fold with_found dbs (named_above file)) none)
+    (c.in_ok-put_all_named.ensures ∙ ap (λ dbs. fold with_found dbs (named_above file)) none)
     ∙ sym (fold-append with_found [] (named_above file) (unnamed_above file)))
