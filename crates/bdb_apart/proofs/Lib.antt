@@ -1,6 +1,7 @@
 mod Below
 pub mod EntryLemmas
 pub mod RowLemmas
+pub mod MetaLemmas
 pub mod FoundLemmas
 pub mod NameLemmas
 pub mod KindLemmas

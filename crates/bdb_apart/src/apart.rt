@@ -77,6 +77,13 @@ fn note_places(held: &mut [Option<Holds>], places: &[Place<'_>])
     }
 }
 
+/// Nothing held, by so many pages.
+fn none_held(alloc: Global, count: u32) -> Result<Vec<Option<Holds>>, AllocError>
+    ensures { IfOk result (λ held. AreHeld [] count held.items) }
+{
+    vec![in alloc; None; count as usize]
+}
+
 /// What databases hold, by their metadata pages.
 fn held_of(
     alloc: Global,
@@ -85,7 +92,7 @@ fn held_of(
 ) -> Result<Vec<Option<Holds>>, AllocError>
     ensures { IfOk result (λ held. AreHeld (map found_seen places.now) count held.items) }
 {
-    let mut held = vec![in alloc; None; count as usize]?;
+    let mut held = none_held(alloc, count)?;
     note_places(&mut held, places);
     Ok(held)
 }
