@@ -1,6 +1,6 @@
 -- What is kept of the databases that are found, and of the pages of each.
 use Rattle.std.specs.Prelude.{◌≡◌, ◌^◌, ℕ, ◌<◌, nat_lt, ◌==◌, ◌&&◌, ◌||◌, not, if◌then◌else◌, Bool, true, false, List, drop, length, map, get_or, Option, Some, None}
-use Rattle.std.specs.List.{All, range_with_len}
+use Rattle.std.specs.List.{range_with_len}
 use Rattle.std.specs.Option.{option_map}
 use Rattle.bdb_rescue.specs.of_format.declared.metadata.QueueMeta.{QueueMeta}
 use Rattle.bdb_rescue.specs.of_format.Terms.{BtreeFields, File, Hash, HashFields, Leaf, Metadata, Page, QueueFields, RecnoLeaf, is_fixed, is_recno}
@@ -24,13 +24,7 @@ found_seen place = record { name = place.name; meta = place.meta; fields = meta_
 abbrev pub found_of : Reading → Place → FoundIn
 found_of reading place = in_image reading (found_seen place)
 
--- metadata on page 0 are those of the only database, or those of a master
-abbrev pub alone_in : Option Metadata → Bool
-alone_in None = false
-alone_in (Some (BtreeFields meta)) = not (names_databases meta)
-alone_in (Some (HashFields meta)) = true
-alone_in (Some (QueueFields meta)) = false
-
+-- metadata on page 0 are those of a master
 abbrev pub names_in : Option Metadata → Bool
 names_in None = false
 names_in (Some (BtreeFields meta)) = names_databases meta
@@ -100,6 +94,3 @@ row_in reading m = row_from (map (above (file_in reading)) (range_with_len 0 (fi
 -- the metadata of a queue are those on page 0
 abbrev pub IsKnown : Reading → Found → Type 0
 IsKnown reading db = (meta : QueueMeta) → db.fields ≡ QueueFields meta → queue_in reading ≡ Some meta
-
-abbrev pub AreKnown : Reading → List Place → Type 0
-AreKnown reading places = All (λ place. IsKnown reading (found_seen place)) places
