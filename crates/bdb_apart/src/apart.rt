@@ -147,6 +147,7 @@ impl<'s, 'a> Apart<'s, 'a> {
         ensures records { result ≡ records_left self.now }
         ensures few { length result < 2 ^ 32 }
     {
+        let _pages = self.salvaged.pages();
         RecordsLeft::over(self)
     }
 
