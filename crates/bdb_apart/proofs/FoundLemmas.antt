@@ -17,11 +17,11 @@ use Rattle.bdb_rescue.proofs.of_format.LessLemmas.{eq_self, less_not_back}
 use Rattle.bdb_rescue.proofs.of_format.ListLemmas.{range_more, range_zero_more}
 use Rattle.bdb_rescue.proofs.of_format.MemberLemmas.{first_member, later_member, none_pass, none_passes}
 use Rattle.bdb_rescue.specs.of_format.Terms.{BtreeFields, DupLeaf, File, Free, Hash, HashFields, Internal, Leaf, Meta, Metadata, NoType, Overflow, Page}
-use Rattle.bdb_rescue.specs.of_format.Terms.{Queue, QueueFields, RecnoInternal, RecnoLeaf, Zero, less, page_at}
+use Rattle.bdb_rescue.specs.of_format.Terms.{Queue, QueueFields, RecnoInternal, RecnoLeaf, Zero, page_at}
 use Rattle.bdb_rescue.specs.of_image.Metas.{meta_in}
 use Rattle.bdb_rescue.specs.of_layout.Seen.{OrderingIs}
 use Rattle.bdb_rescue.proofs.of_layout.KeyLemmas.{slice_cmp-is}
-use Rattle.bdb_apart.specs.Found.{Found, found_on, has_name, is_alone, name_in, named_meta, put_found, tree_fields, unnamed_meta, with_found}
+use Rattle.bdb_apart.specs.Found.{Found, found_on, has_name, is_alone, name_in, named_meta, put_found, tree_fields, with_found}
 use Rattle.bdb_apart.specs.Kept.{alone_in, found_seen}
 use Rattle.bdb_apart.specs.Names.{entry_found}
 use Rattle.bdb_apart.specs.declared.place.At.{At}

@@ -10,15 +10,15 @@ use Rattle.bdb_rescue.proofs.of_format.MemberLemmas.{first_member, later_member,
 use Rattle.bdb_rescue.specs.of_format.declared.metadata.QueueMeta.{QueueMeta}
 use Rattle.bdb_rescue.specs.of_format.Terms.{BtreeFields, File, HashFields, Item, Metadata, Page, QueueFields, RecnoLeaf, entries_in, no_item, page_at, value_of}
 use Rattle.bdb_rescue.specs.of_survey.Items.{is_valued, slot_at, slots_in}
-use Rattle.bdb_rescue.specs.of_survey.Salvage.{is_taken, stored_on, whole_values}
-use Rattle.bdb_rescue.specs.Kept.{Reading, file_in, kept_value, numbered_at, value_at, values_in, values_on}
+use Rattle.bdb_rescue.specs.of_survey.Salvage.{is_taken, stored_on}
+use Rattle.bdb_rescue.specs.Kept.{Reading, file_in, kept_value, numbered_at, values_in, values_on}
 use Rattle.bdb_rescue.proofs.StoredLemmas.{AreOn, values_are}
 use Rattle.bdb_homes.specs.Homes.{home}
 use Rattle.bdb_homes.specs.declared.home.Home.{Home}
 use Rattle.bdb_apart.specs.Found.{Found, is_alone}
 use Rattle.bdb_apart.specs.Given.{above, fits_record, gives_pairs, holds_pairs, is_pair_page, is_record_page, is_recno_db, meta_at, numbered_entry, numbered_on}
 use Rattle.bdb_apart.specs.Given.{in_image, pairs_given, records_by, records_from, records_given, records_on, start_at, start_in}
-use Rattle.bdb_apart.specs.Kept.{fits_in, holds_of, kind_in, pairs_in, row_in}
+use Rattle.bdb_apart.specs.Kept.{fits_in, holds_of, row_in}
 use Rattle.bdb_apart.specs.Left.{fit_left, fit_on, numbered_from, pairs_on, start_of, start_on}
 use Rattle.bdb_apart.specs.Queues.{queue_records}
 use Rattle.bdb_apart.specs.Rows.{is_below, is_some_of, row_from}

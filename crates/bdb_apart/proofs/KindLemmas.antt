@@ -1,5 +1,5 @@
 -- Kinds of pages and of databases, as they are kept.
-use Rattle.std.proofs.Common.{◌≡◌, ◌^◌, ℕ, ◌<◌, Bool, true, false, cond, List, length, refl, ap, sym, ◌∙◌}
+use Rattle.std.proofs.Common.{◌≡◌, ◌^◌, ℕ, Bool, true, false, cond, List, length, refl, ap, sym, ◌∙◌}
 use Rattle.std.specs.Option.{is_some}
 use Rattle.std.specs.Prelude.{not, nat_lt, ◌==◌, ◌&&◌, ◌||◌, Some, None}
 use Rattle.bdb_rescue.specs.of_format.declared.metadata.BtreeMeta.{BtreeMeta}
@@ -12,7 +12,6 @@ use Rattle.bdb_rescue.specs.of_image.declared.meta.Meta.TheVariants.{Btree as Bt
 use Rattle.bdb_apart.specs.Found.{is_leaf}
 use Rattle.bdb_apart.specs.Given.{fits_record, holds_pairs, is_pair_page, is_record_page, is_recno_db}
 use Rattle.bdb_apart.specs.Kept.{fits_in, holds_of, is_leaf_kind, is_pair_kind, kind_in, names_in, pairs_in}
-use Rattle.bdb_apart.specs.declared.holds.Holds.{Holds}
 use Rattle.bdb_apart.specs.declared.holds.Holds.TheVariants.{Leaves, Records}
 use Rattle.bdb_apart.specs.declared.holds.PageKind.{PageKind}
 use Rattle.bdb_apart.specs.declared.holds.PageKind.TheVariants.{Records as RecordsKind}

@@ -1,7 +1,7 @@
 -- The databases that are found beside each other are no queues.
 use Rattle.std.proofs.Common.{◌≡◌, ◌⊎◌, ℕ, zero, suc, ◌+◌, ◌<◌, Bool, true, false, cond, List, [], ◌∷◌, ◌++◌, map, length, drop, refl, sym, ◌∙◌, ap, subst, inl, inr, arith, add-one}
 use Rattle.std.specs.Prelude.{Option, Some, None, codes, decimal, slice_index_or}
-use Rattle.std.specs.List.{Contains, flat_map, fold, list_any}
+use Rattle.std.specs.List.{Contains, fold, list_any}
 use Rattle.std.specs.Option.{is_some, option_to_list}
 use Rattle.std.proofs.lemmas.List.Elements.{Contains-append_cases}
 use Rattle.bdb_rescue.proofs.of_format.ListLemmas.{only_member}

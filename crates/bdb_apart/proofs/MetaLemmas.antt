@@ -1,6 +1,6 @@
 -- Metadata pages of homes, and of the databases that are found, are there.
-use Rattle.std.proofs.Common.{◌≡◌, ◌⊎◌, ℕ, zero, suc, ◌+◌, ◌-◌, ◌<◌, ◌≤◌, Bool, true, false, cond, List, [], ◌∷◌, ◌++◌, map, length, get_or, arith, refl, sym, ◌∙◌, ap, subst, inl, inr}
-use Rattle.std.specs.Prelude.{Option, Some, None, ◌==◌, ◌||◌, ◌&&◌, ◌^◌, ◌/◌, codes, decimal, if◌then◌else◌, nat_le, nat_lt}
+use Rattle.std.proofs.Common.{◌≡◌, ℕ, zero, suc, ◌+◌, ◌-◌, ◌<◌, ◌≤◌, Bool, true, false, cond, List, [], ◌∷◌, ◌++◌, map, length, get_or, arith, refl, sym, ◌∙◌, ap, subst, inl, inr}
+use Rattle.std.specs.Prelude.{Option, Some, None, ◌==◌, ◌||◌, ◌&&◌, ◌^◌, ◌/◌, codes, decimal, nat_le, nat_lt}
 use Rattle.std.specs.List.{All, find, flat_map, fold, list_any, range_with_len}
 use Rattle.std.specs.Option.{is_some, option_and_then, option_map, option_to_list}
 use Rattle.std.proofs.lemmas.Bool.{cases_lt, ltb-true, ne_eqb, true≢false}
@@ -9,15 +9,15 @@ use Rattle.std.proofs.lemmas.List.Folds.{list_any-append}
 use Rattle.std.proofs.lemmas.List.FromFn.{get_or-map-range_with_len, length-map-range_with_len}
 use Rattle.std.proofs.lemmas.Option.{none-some, same_Some}
 use Rattle.bdb_rescue.specs.of_format.declared.metadata.QueueMeta.{QueueMeta}
-use Rattle.bdb_rescue.specs.of_format.Terms.{BtreeFields, DupLeaf, File, Free, Hash, HashFields, Internal, Leaf, Meta, Metadata, NoType, Overflow, Page}
-use Rattle.bdb_rescue.specs.of_format.Terms.{Queue, QueueFields, RecnoInternal, RecnoLeaf, Zero, is_meta, less, page_at}
+use Rattle.bdb_rescue.specs.of_format.Terms.{File, Metadata, NoType, Page}
+use Rattle.bdb_rescue.specs.of_format.Terms.{QueueFields, is_meta, less, page_at}
 use Rattle.bdb_rescue.specs.Kept.{Reading, file_in}
 use Rattle.bdb_rescue.proofs.of_survey.StoredPageLemmas.{count_is, page_past}
 use Rattle.bdb_homes.specs.Claims.{Claim, claim_of}
 use Rattle.bdb_homes.specs.Homes.{ahead, behind, by_claim, claimed_in, from_side, home, later, led, numbered, or_else, own_home, page_after, page_before}
 use Rattle.bdb_homes.specs.Homes.{records_on, spread}
 use Rattle.bdb_homes.specs.declared.home.Home.{Home}
-use Rattle.bdb_apart.specs.Found.{Found, entries, found, found_beside, found_on, found_under, is_alone, name_in, named_above, named_meta, only_found, pages_above}
+use Rattle.bdb_apart.specs.Found.{Found, entries, found, found_beside, found_on, is_alone, name_in, named_above, named_meta, only_found, pages_above}
 use Rattle.bdb_apart.specs.Found.{put_found, has_name, name_of, tree_fields, unnamed_above, unnamed_meta, with_found}
 use Rattle.bdb_apart.specs.Given.{above, db_at, is_pair_page, meta_at}
 use Rattle.bdb_apart.specs.Queues.{bytes_at, queue_in, queue_on}

@@ -1,5 +1,5 @@
 -- The names that entries give to pages, one entry after the other.
-use Rattle.std.proofs.Common.{◌≡◌, ◌⊎◌, ℕ, zero, suc, ◌+◌, ◌<◌, ◌≤◌, Bool, true, false, cond, List, [], ◌∷◌, ◌++◌, map, length, set, get_or, arith, refl, sym, ◌∙◌, ap, subst, inl, inr}
+use Rattle.std.proofs.Common.{◌≡◌, ℕ, zero, suc, ◌+◌, ◌<◌, ◌≤◌, Bool, true, false, cond, List, [], ◌∷◌, ◌++◌, length, set, get_or, arith, refl, sym, ◌∙◌, ap, subst, inl, inr}
 use Rattle.std.specs.Prelude.{Option, Some, None, ◌==◌, if◌then◌else◌, is_none, is_some, not}
 use Rattle.std.specs.List.{filter, flat_map, range_with_len}
 use Rattle.std.proofs.lemmas.Bool.{cases_eq, eq-eqb, ne_eqb}
@@ -10,7 +10,7 @@ use Rattle.bdb_rescue.specs.of_overflow.Datum.{datum_seen}
 use Rattle.bdb_rescue.specs.of_overflow.declared.datum.Datum.{Datum}
 use Rattle.bdb_rescue.proofs.of_format.ListLemmas.{range_zero_more}
 use Rattle.bdb_rescue.specs.of_format.Terms.{File}
-use Rattle.bdb_apart.specs.Found.{entries_on, entry_of, is_master_leaf, name_in}
+use Rattle.bdb_apart.specs.Found.{entries_on, is_master_leaf, name_in}
 use Rattle.bdb_apart.specs.Names.{AreNames, AreNoted, IsNoting, named_seen, then_name}
 
 abbrev Entries : Type 0

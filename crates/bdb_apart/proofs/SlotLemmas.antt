@@ -1,5 +1,5 @@
 -- The slots of a queue's pages, and what its metadata keeps.
-use Rattle.std.proofs.Common.{◌≡◌, ℕ, zero, suc, ◌+◌, ◌-◌, ◌*◌, ◌<◌, ◌≤◌, Bool, true, false, cond, List, [], ◌∷◌, ◌++◌, length, take, drop, arith, refl, sym, ◌∙◌, ap, subst}
+use Rattle.std.proofs.Common.{◌≡◌, ℕ, zero, suc, ◌+◌, ◌-◌, ◌*◌, ◌<◌, ◌≤◌, Bool, true, false, cond, List, [], ◌∷◌, ◌++◌, length, drop, arith, refl, sym, ◌∙◌, ap, subst}
 use Rattle.std.specs.Prelude.{◌==◌, ◌&&◌, ◌||◌, not, nat_lt, Option, Some, None, is_none}
 use Rattle.std.specs.List.{flat_map, range_with_len}
 use Rattle.std.specs.Option.{is_some}
@@ -10,7 +10,7 @@ use Rattle.bdb_rescue.specs.of_format.declared.kinds.Order.{Order}
 use Rattle.bdb_rescue.specs.of_format.declared.metadata.FileKind.TheVariants.{Queue}
 use Rattle.bdb_rescue.specs.of_format.declared.metadata.QueueMeta.{QueueMeta}
 use Rattle.bdb_rescue.specs.of_format.Terms.{Row, byte_at, field_rows, first_row, four_at, pad4, queue_fields, records_per_page, type_of}
-use Rattle.bdb_rescue.proofs.of_format.VerdictLemmas.{AllFail, none_is_first_row}
+use Rattle.bdb_rescue.proofs.of_format.VerdictLemmas.{none_is_first_row}
 use Rattle.bdb_rescue.specs.Kept.{Reading, file_in}
 use Rattle.bdb_apart.specs.Queues.{bytes_at, is_queue_meta, is_queue_page, queue_from, queue_in, queue_on, queue_records_on, queue_slot, slots_from}
 use Rattle.bdb_apart.specs.Slots.{HasSlots}

@@ -1,4 +1,4 @@
-use Rattle.std.proofs.Common.{◌≡◌, length, arith, ap, ◌∙◌}
+use Rattle.std.proofs.Common.{◌≡◌, length, arith, ap}
 use Rattle.bdb_rescue.specs.Kept.{file_in}
 use Rattle.bdb_apart.proofs.MetaLemmas.{are_below, aboves_len}
 use Rattle.bdb_apart.proofs.apart.apart_of.Goals as goal

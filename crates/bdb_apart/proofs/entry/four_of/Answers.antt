@@ -1,4 +1,3 @@
-use Rattle.std.proofs.Common.{◌≡◌}
 use Rattle.bdb_apart.proofs.EntryLemmas.{piece_fits, piece_more, pieces_end}
 use Rattle.bdb_apart.proofs.entry.four_of.Goals as goal
 

@@ -1,4 +1,4 @@
-use Rattle.std.proofs.Common.{◌≡◌, length, arith, sym, ◌∙◌, ap, subst}
+use Rattle.std.proofs.Common.{◌≡◌, length, arith, sym, ◌∙◌, ap}
 use Rattle.bdb_rescue.specs.Kept.{file_in}
 use Rattle.bdb_rescue.specs.of_format.Terms.{page_at}
 use Rattle.bdb_apart.specs.Found.{found}
