@@ -7,6 +7,7 @@ pub mod NameLemmas
 pub mod KindLemmas
 pub mod GivenLemmas
 pub mod HeldLemmas
+pub mod CountLemmas
 pub mod LeftLemmas
 pub mod KnownLemmas
 pub mod SlotLemmas

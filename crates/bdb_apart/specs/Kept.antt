@@ -24,6 +24,13 @@ found_seen place = record { name = place.name; meta = place.meta; fields = meta_
 abbrev pub found_of : Reading → Place → FoundIn
 found_of reading place = in_image reading (found_seen place)
 
+-- metadata on page 0 are those of the only database
+abbrev pub alone_in : Option Metadata → Bool
+alone_in None = false
+alone_in (Some (BtreeFields meta)) = not (names_databases meta)
+alone_in (Some (HashFields meta)) = true
+alone_in (Some (QueueFields meta)) = false
+
 -- metadata on page 0 are those of a master
 abbrev pub names_in : Option Metadata → Bool
 names_in None = false
@@ -39,12 +46,6 @@ holds_of (QueueFields meta) = Slots
 
 abbrev pub holds_in : Found → Holds
 holds_in db = holds_of db.fields
-
--- metadata on page 0 are those of the only database
-abbrev pub alone_in : Option Metadata → Bool
-alone_in (Some (BtreeFields meta)) = not (names_databases meta)
-alone_in (Some (HashFields meta)) = true
-alone_in fields = false
 
 -- the kind of a page
 abbrev pub kind_in : Page → PageKind

@@ -106,10 +106,11 @@ pub fn apart_of<'s, 'a, L: Ledger>(
     ensures apart { IfOk result (λ apart. apart ≡ salvaged.now) }
     ensures cost { steps.new ≤ steps.old + (file_in salvaged.now).count }
 {
+    let count = salvaged.pages().count();
     let homes = PageHomes::of(alloc, salvaged.pages(), steps)?;
     let rows = Rows::of(alloc, aboves(alloc, salvaged, &homes)?)?;
     let places = databases(alloc, salvaged, &homes)?;
-    let held = held_of(alloc, salvaged.pages().count(), &places)?;
+    let held = held_of(alloc, count, &places)?;
     Ok(Apart {
         salvaged,
         homes,
@@ -146,6 +147,7 @@ impl<'s, 'a> Apart<'s, 'a> {
         ensures records { result ≡ records_left self.now }
         ensures few { length result < 2 ^ 32 }
     {
+        let _pages = self.salvaged.pages();
         RecordsLeft::over(self)
     }
 
