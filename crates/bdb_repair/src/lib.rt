@@ -17,6 +17,6 @@ pub use bdb_mkfile::{Linked, LoadError, Meta, hash5, load, settle};
 pub use bdb_model::{
     BtreeMeta, Bytes, Duplicates, KeyRef, Kind, Order, PairSlice, Shape, Steps, TextPairs, Words,
 };
-pub use bdb_rescue::{SalvageError, salvage};
+pub use bdb_rescue::{Guess, SalvageError, is_queue_or_master, salvage, unsupported_case};
 pub use error::RepairError;
 pub use repairing::{repair, repair_as};

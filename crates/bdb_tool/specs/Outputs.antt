@@ -1,15 +1,16 @@
 -- The answers to words, an input and a base: a status, and what is written to the output and to the error sink. Source: man/bdbtool.1.
 use Rattle.std.specs.Prelude.{◌≡◌, ◌⊎◌, ℕ, nat_lt, ◌&&◌, Bool, true, false, List, [], length, Option, Some, None, codes, is_some, unwrap_or, ⊤}
 use Rattle.bdb_tool_words.specs.Commands.{Action, Ask, Command, Load, LoadOnto, Repair, Salvage, Trial, command_on, reads_input, usage}
-use Rattle.bdb_repair.specs.of_model.Answers.{Answer, done, told, too_large_line}
+use Rattle.bdb_repair.specs.of_model.Answers.{Answer, done, told, too_large_line, unsupported_line}
 use Rattle.bdb_repair.specs.of_model.Change.{Change, Gains, GainsPart, Stays}
 use Rattle.bdb_repair.specs.of_text_format.Terms.{line}
 use Rattle.bdb_repair.specs.of_rescue.Text.{salvage_text}
 use Rattle.bdb_repair.specs.of_mkfile.Builds.{image_size}
 use Rattle.bdb_repair.specs.Parts.{repair_sections}
 use Rattle.bdb_repair.specs.of_model.declared.shape.Shape.{Shape}
-use Rattle.bdb_repair.specs.of_rescue.Guesses.{chosen}
+use Rattle.bdb_repair.specs.of_rescue.Guesses.{chosen, is_queue_or_master, unsupported_case}
 use Rattle.bdb_repair.specs.of_survey.declared.guess.Guess.{Guess}
+use Rattle.bdb_repair.specs.of_format.declared.kinds.Unsupported.{Unsupported}
 use Rattle.bdb_repair.specs.of_text_format.declared.sections.Section.{Section}
 use Rattle.bdb_tool.specs.Ontos.{IsOntoAnswer}
 use Rattle.bdb_tool_build.specs.Lines.{image_too_large_line}
@@ -40,9 +41,24 @@ IsRepairBy limit shape None image answer = answer ≡ no_metadata
 IsRepairBy limit shape (Some guess) image answer =
     IsImageBy (nat_lt limit (image_size (repair_sections shape guess image))) limit (repair_sections shape guess image) answer
 
--- the guess is that of `salvage`
+-- why no one database is made of a file: page 0 names a case that isn't supported, or is of a queue or a master
+abbrev pub not_one : Option Unsupported → Bool → Option Answer
+not_one (Some name) other = Some (told 3 (unsupported_line name 0))
+not_one None true = Some (told 14 (line (codes "not one btree, hash or recno")))
+not_one None false = None
+
+-- only a repair that is asked for one database is refused so
+abbrev pub shape_refusal : Option Shape → Option Guess → List ℕ → Option Answer
+shape_refusal None guess image = None
+shape_refusal (Some shape) guess image = not_one (unsupported_case guess image) (is_queue_or_master guess image)
+
+-- the refusal, if there is one; the guess is that of `salvage`
+abbrev pub IsRepairUnless : Option Answer → ℕ → Option Shape → Option Guess → List ℕ → Answer → Type 0
+IsRepairUnless (Some refusal) limit shape guess image answer = answer ≡ refusal
+IsRepairUnless None limit shape guess image answer = IsRepairBy limit shape (chosen guess image) image answer
+
 abbrev pub IsRepairAnswer : ℕ → Option Shape → Option Guess → List ℕ → Answer → Type 0
-IsRepairAnswer limit shape guess image answer = IsRepairBy limit shape (chosen guess image) image answer
+IsRepairAnswer limit shape guess image answer = IsRepairUnless (shape_refusal shape guess image) limit shape guess image answer
 
 -- an answer to an input that isn't too long, and a base, whose bytes are none where none is read; `load`, `repair` and `trial` may have several
 abbrev pub IsActionAnswer : Action → ℕ → List ℕ → List ℕ → Answer → Type 0
