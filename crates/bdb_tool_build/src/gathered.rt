@@ -26,6 +26,8 @@ pub(crate) struct Gatherer<'a> {
     forest: Forest<'a>,
     pairs: Gathered,
     room: Vec<u8>,
+    // Where the last datum begins that stands on a page.
+    last: usize,
 }
 
 impl<'a> Model for Gatherer<'a> {
@@ -70,6 +72,7 @@ impl<'a> Gatherer<'a> {
             forest,
             pairs: Gathered::new(alloc, 0)?,
             room: Vec::new(alloc),
+            last: 0,
         })
     }
 
@@ -104,14 +107,40 @@ impl<'a> Gatherer<'a> {
         }
     }
 
-    // Where the value of an item stands.
-    fn item_span(&mut self, item: &LeafItem<'a>) -> Result<Span, AllocError>
+    // Where the value of a key stands.
+    fn key_span(&mut self, item: &LeafItem<'a>) -> Result<Span, AllocError>
         requires { FitsContent (file_of self.old.image) (leaf_item_seen item.now).content }
         ensures grows { Grows self.old self.new }
         ensures ok { IfOk result (IsPiecePut self.new.gathered.bytes (value_of (file_of self.old.image) (leaf_item_seen item.now).content)) }
     {
         let held = leaf_held(item);
         self.span(held)
+    }
+
+    // Where a datum on a page stands: where the last one does, if its bytes are the same, as they are where many entries name one item.
+    fn near_span(&mut self, bytes: &[u8]) -> Result<Span, AllocError>
+        ensures grows { Grows self.old self.new }
+        ensures ok { IfOk result (IsPiecePut self.new.gathered.bytes bytes.now) }
+    {
+        if let Some(span) = self.pairs.find(self.last, bytes) {
+            return Ok(span);
+        }
+        let span = self.pairs.put(bytes)?;
+        self.last = span.start as usize;
+        Ok(span)
+    }
+
+    // Where the datum of an item stands.
+    fn datum_span(&mut self, item: &LeafItem<'a>) -> Result<Span, AllocError>
+        requires { FitsContent (file_of self.old.image) (leaf_item_seen item.now).content }
+        ensures grows { Grows self.old self.new }
+        ensures ok { IfOk result (IsPiecePut self.new.gathered.bytes (value_of (file_of self.old.image) (leaf_item_seen item.now).content)) }
+    {
+        let held = leaf_held(item);
+        match held {
+            Held::Inline(bytes) => self.near_span(bytes),
+            Held::Chained(head) => self.chain_span(head),
+        }
     }
 
     // Adds a key with a datum that stands there.
@@ -129,7 +158,7 @@ impl<'a> Gatherer<'a> {
         requires key { IsKeyPlaced self.old.gathered.bytes key }
         ensures { OnOk result (Adds self.old self.new key (value_of (file_of self.old.image) (leaf_item_seen item.now).content ∷ [])) }
     {
-        let value = self.item_span(item)?;
+        let value = self.datum_span(item)?;
         self.push_span(key, value)
     }
 
@@ -202,7 +231,7 @@ impl<'a> Gatherer<'a> {
     {
         match last {
             Some(key) if pair.shares => Ok(key),
-            _ => Ok(PlacedKey::Bytes(self.item_span(&pair.key)?)),
+            _ => Ok(PlacedKey::Bytes(self.key_span(&pair.key)?)),
         }
     }
 
