@@ -8,7 +8,8 @@ use Rattle.std.proofs.lemmas.List.Folds.{flat_map-map}
 use Rattle.bdb_rescue.proofs.of_format.ListLemmas.{flat_map_same, map_joined}
 use Rattle.bdb_rescue.proofs.of_format.MemberLemmas.{first_member, later_member, of_range}
 use Rattle.bdb_rescue.specs.of_format.declared.metadata.QueueMeta.{QueueMeta}
-use Rattle.bdb_rescue.specs.of_format.Terms.{BtreeFields, File, HashFields, Item, Metadata, Page, QueueFields, RecnoLeaf, entries_in, no_item, page_at, value_of}
+use Rattle.bdb_rescue.specs.of_format.Terms.{BtreeFields, File, HashFields, Item, Metadata, Page, QueueFields, RecnoLeaf, entries_in, no_item, page_at}
+use Rattle.bdb_rescue.specs.of_format.Terms.{value_of}
 use Rattle.bdb_rescue.specs.of_survey.Items.{is_valued, slot_at, slots_in}
 use Rattle.bdb_rescue.specs.of_survey.Salvage.{is_taken, stored_on}
 use Rattle.bdb_rescue.specs.Kept.{Reading, file_in, kept_value, numbered_at, values_in, values_on}
@@ -149,7 +150,8 @@ page_numbered file p start (RecnoLeaf page) is so = values_numbered file p start
 page_numbered file p start page is so = absurd cc
 
 -- the values that are kept of a leaf of records are its records
-pub numbered_is : (file : File) (p start : ℕ) → is_record_page (page_at file p) ≡ true → map (numbered_at file start) (values_on file p) ≡ numbered_on file p start
+pub numbered_is : (file : File) (p start : ℕ) → is_record_page (page_at file p) ≡ true
+    → map (numbered_at file start) (values_on file p) ≡ numbered_on file p start
 unfolding values_on
 numbered_is file p start so = page_numbered file p start (page_at file p) refl so
 
@@ -194,7 +196,8 @@ page_by file fields m p (Some home) alone pairs true taken apart same =
     records : List (ℕ × List ℕ)
     records = map (numbered_at file home.start) (cond taken [] (values_on file p))
 
-    by_alone : (alone pairs : Bool) → pairs ≡ false → cond (is_some_of m (cond (alone && pairs) (Some 0) (Some home.meta))) (filter (fits_in (holds_of fields)) records) []
+    by_alone : (alone pairs : Bool) → pairs ≡ false
+        → cond (is_some_of m (cond (alone && pairs) (Some 0) (Some home.meta))) (filter (fits_in (holds_of fields)) records) []
         ≡ cond (home.meta == m) (filter (fits_in (holds_of fields)) records) []
     by_alone true true is = absurd cc
     by_alone true false is = refl
@@ -228,9 +231,10 @@ numbered_are file p (Some start) = refl
 
 page_row : (file : File) (db : Found) (p : ℕ) → cond (is_some_of db.meta (above file p)) (fit_on file (holds_of db.fields) p) [] ≡ records_on file db p
 page_row file db p =
-    ap (λ records. cond (is_some_of db.meta (above file p)) (filter (fits_in (holds_of db.fields)) (fit_left records)) []) (numbered_are file p (start_on file p))
-    ∙ (page_by file db.fields db.meta p (home file p) (is_alone (page_at file 0)) (is_pair_page (page_at file p)) (is_record_page (page_at file p)) (is_taken file p)
-    (no_pairs (page_at file p)) (λ leaf start. numbered_is file p start leaf)
+    ap (λ records. cond (is_some_of db.meta (above file p)) (filter (fits_in (holds_of db.fields)) (fit_left records)) [])
+    (numbered_are file p (start_on file p))
+    ∙ (page_by file db.fields db.meta p (home file p) (is_alone (page_at file 0)) (is_pair_page (page_at file p)) (is_record_page (page_at file p))
+    (is_taken file p) (no_pairs (page_at file p)) (λ leaf start. numbered_is file p start leaf)
     ∙ (ap (records_by_start file db.fields p) (start_is file db p (home file p)) ∙ records_are file db p (start_in file db p)))
 
 pub records_row : (file : File) (db : Found) → flat_map (records_on file db) (range_with_len 0 file.count)

@@ -1,5 +1,6 @@
 -- The databases that are found beside each other are no queues.
-use Rattle.std.proofs.Common.{◌≡◌, ◌⊎◌, ℕ, zero, suc, ◌+◌, ◌<◌, Bool, true, false, cond, List, [], ◌∷◌, ◌++◌, map, length, drop, refl, sym, ◌∙◌, ap, subst, inl, inr, arith, add-one}
+use Rattle.std.proofs.Common.{◌≡◌, ◌⊎◌, ℕ, zero, suc, ◌+◌, ◌<◌, Bool, true, false, cond, List, [], ◌∷◌, ◌++◌, map, length, drop, refl, sym, ◌∙◌, ap}
+use Rattle.std.proofs.Common.{subst, inl, inr, arith, add-one}
 use Rattle.std.specs.Prelude.{Option, Some, None, codes, decimal, slice_index_or}
 use Rattle.std.specs.List.{Contains, fold, list_any}
 use Rattle.std.specs.Option.{is_some, option_to_list}
@@ -51,7 +52,8 @@ of_put : (dbs : List Found) (db x : Found) → Contains (put_found dbs db) x →
 of_put [] db x at = inl (only_member db x at)
 of_put (other ∷ others) db x at = by_order (less (name_of db) (name_of other)) at (of_put others db x)
   where
-    by_order : (b : Bool) → Contains (cond b (db ∷ other ∷ others) (other ∷ put_found others db)) x → (Contains (put_found others db) x → (db ≡ x) ⊎ Contains others x)
+    by_order : (b : Bool) → Contains (cond b (db ∷ other ∷ others) (other ∷ put_found others db)) x
+        → (Contains (put_found others db) x → (db ≡ x) ⊎ Contains others x)
         → (db ≡ x) ⊎ Contains (other ∷ others) x
     by_order true here rest = member_cases db (other ∷ others) x here
     by_order false here rest = elim (member_cases other (put_found others db) x here) [
@@ -82,7 +84,8 @@ of_fold dbs (db ∷ more) x at = elim (of_fold (with_found dbs db) more x at) [
 of_under : (file : File) (page : Page) (db : Found) → Contains (found_under file page) db → IsTree db.fields
 of_under file page db at = by_one (is_alone page) at
   where
-    by_one : (b : Bool) → Contains (cond b (map only_found (tree_fields page)) (fold with_found [] (named_above file ++ unnamed_above file))) db → IsTree db.fields
+    by_one : (b : Bool) → Contains (cond b (map only_found (tree_fields page)) (fold with_found [] (named_above file ++ unnamed_above file))) db
+        → IsTree db.fields
     by_one true here =
         let of = of_map only_found (tree_fields page) db here in
         subst IsTree (ap (λ (db : Found). db.fields) of.2) (tree_page page of.0 of.1)
@@ -115,7 +118,8 @@ pub next_found : (reading : Reading) (places : List Place) (at : ℕ) (place : P
     → place ≡ slice_index_or places at place → found_from reading at ≡ found_of reading place ∷ found_from reading (at + 1)
 next_found reading places at place same there is =
     rw add-one
-    (subst (λ dbs. map (in_image reading) (drop at dbs) ≡ found_of reading place ∷ map (in_image reading) (drop (suc at) dbs)) same (from_place places at there is))
+    (subst (λ dbs. map (in_image reading) (drop at dbs) ≡ found_of reading place ∷ map (in_image reading) (drop (suc at) dbs)) same
+    (from_place places at there is))
   where
     from_place : (places : List Place) (at : ℕ) → at < length places → place ≡ slice_index_or places at place
         → map (in_image reading) (drop at (map found_seen places)) ≡ found_of reading place ∷ map (in_image reading) (drop (suc at) (map found_seen places))

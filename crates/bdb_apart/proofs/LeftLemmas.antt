@@ -130,7 +130,8 @@ at_page (other ∷ others) m db is = by_test (other.meta == m) refl is (at_page 
     by_test false at later rest = rest later
 
 -- the same by the definitions
-beside_is : (file : File) (p : ℕ) (db : Option Found) → beside file p db (is_record_page (page_at file p)) (is_taken file p) (home file p) ≡ records_beside file p db
+beside_is : (file : File) (p : ℕ) (db : Option Found)
+    → beside file p db (is_record_page (page_at file p)) (is_taken file p) (home file p) ≡ records_beside file p db
 beside_is file p None = refl
 beside_is file p (Some db) = ap (records_without file db p) (start_is file db p (home file p))
 

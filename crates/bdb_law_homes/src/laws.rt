@@ -1,5 +1,5 @@
 //! In a sound file the home of a page is the metadata to which its owners lead.
-ghost use Rattle.bdb_law_homes.specs.Led.{BucketsAreOfTables, HomesAreOwners, LeavesAreUnder, NextIsLed, OwnersLeadToOne, SoundFilesAreOwned};
+ghost use Rattle.bdb_law_homes.specs.Led.{BucketsAreOfTables, HomesAreOwners, LeavesAreUnder, NextIsLed, OwnersLeadToOne, SoundFilesAreOwned, StartsAreCounts};
 
 /// The home of a page by claims is the metadata to which its first owners lead.
 pub fn homes_are_owners()
@@ -29,4 +29,9 @@ pub fn next_is_led()
 /// The pages of the buckets of a table have that table as their home.
 pub fn buckets_are_of_tables()
     ensures { BucketsAreOfTables }
+{}
+
+/// A leaf of a recno has it as its home, behind as many records as the leaves before it have entries.
+pub fn starts_are_counts()
+    ensures { StartsAreCounts }
 {}
