@@ -55,7 +55,6 @@ asked_fits file p b is inside at =
           (subst (λ n. AllFail (fit_rows file (asked_by p (page_at file p) by.reference.sort) n)) by.target fail);
     }
 
-
 -- a home of a page's own is its home
 pub own_stays : (file : File) (p : ℕ) (h : Home) → own_home file p ≡ Some h → home file p ≡ Some h
 unfolding home led

@@ -97,7 +97,7 @@ at_item file n s [] others item counts =
 at_item file n s (one ∷ firsts) others item counts =
     let here : one.count ≡ entries_on file (leaves_at n file one) = counts one (first_member one (firsts ++ item ∷ others)) in
     let joined : entries_on file (leaves_at n file one ++ flat_map (leaves_at n file) firsts)
-        ≡ entries_on file (leaves_at n file one) + entries_on file (flat_map (leaves_at n file) firsts) =
+    ≡ entries_on file (leaves_at n file one) + entries_on file (flat_map (leaves_at n file) firsts) =
     entries_joined file (leaves_at n file one) (flat_map (leaves_at n file) firsts) in
     let sum : s + one.count + entries_on file (flat_map (leaves_at n file) firsts) ≡ s + entries_on file (leaves_at n file one ++ flat_map (leaves_at n file) firsts) =
     omega (arith, here, joined) in
@@ -142,13 +142,13 @@ wider : (t : Option ℕ) (two : Bool) → has_type (cond two (6 ∷ []) (4 ∷ [
 wider None two is = is
 wider (Some t) true is = or_later (4 == t) (6 == t) is
   where
-    or_later : (a b : Bool) → (b || false) ≡ true → (a || b || false) ≡ true
+    or_later : (a b : Bool) → (b || false) ≡ true → (a || (b || false)) ≡ true
     or_later true true is = refl
     or_later false true is = refl
     or_later a false is = absurd cc
 wider (Some t) false is = or_first (4 == t) (6 == t) is
   where
-    or_first : (a b : Bool) → (a || false) ≡ true → (a || b || false) ≡ true
+    or_first : (a b : Bool) → (a || false) ≡ true → (a || (b || false)) ≡ true
     or_first true true is = refl
     or_first true false is = refl
     or_first false b is = absurd cc
@@ -286,6 +286,12 @@ claimed_child file k h meta s sum page item is at among claimed (suc turns) few 
     ap (by_claim file (claimed_in turns file)) found.1
     ∙ (rw here (ap (option_map (later found.0.below.before)) above) ∙ ap (λ m. Some (record { meta = meta; start = m + s })) before)
 
+-- what is left to show of a child
+abbrev Rest : ℕ → ℕ → ℕ → ℕ → ℕ → File → List ℕ → Type 0
+Rest n k p meta s file ps =
+    (child sum : ℕ) (start rest : List ℕ) → IsAbove file n (suc k) child (below_all file ps) meta (sum + s) → leaves_in n file child ≡ start ++ p ∷ rest
+    → IsStart file meta p (sum + s + entries_on file start)
+
 down : (n k h p meta s : ℕ) (file : File) (ps before after : List ℕ) (view : Listed Item) → IsKnown file → IsAbove file n k h ps meta s
     → leaves_in n file h ≡ before ++ p ∷ after → page_at file p ≡ RecnoLeaf view → IsStart file meta p (s + entries_on file before)
 down zero k h p meta s file ps before after view is above leaves leaf =
@@ -294,11 +300,7 @@ down (suc n) k h p meta s file ps before after view is above leaves leaf =
     by_page (page_at file h) refl above.types
     (λ child sum start rest under here. down n (suc k) child p meta (sum + s) file (below_all file ps) start rest view is under here leaf)
   where
-    abbrev Rest : Type 0
-    Rest = (child sum : ℕ) (start rest : List ℕ) → IsAbove file n (suc k) child (below_all file ps) meta (sum + s) → leaves_in n file child ≡ start ++ p ∷ rest
-        → IsStart file meta p (sum + s + entries_on file start)
-
-    through : (page : Listed RecnoItem) → page_at file h ≡ RecnoInternal page → Rest → IsStart file meta p (s + entries_on file before)
+    through : (page : Listed RecnoItem) → page_at file h ≡ RecnoInternal page → Rest n k p meta s file ps → IsStart file meta p (s + entries_on file before)
     through page at further =
         let children : children_in (page_at file h) ≡ Some (map child_of page.items) = ap children_in at in
         let all : flat_map (leaves_at n file) page.items ≡ before ++ p ∷ after =
@@ -340,7 +342,7 @@ down (suc n) k h p meta s file ps before after view is above leaves leaf =
         only file (suc n) k h p meta s ps before after view above
         (sym (turn n file h ∙ ap (leaves_under (leaves_in n file) h) (ap children_in at ∙ none)) ∙ leaves) leaf
 
-    by_page : (pg : Page) → page_at file h ≡ pg → has_type recno_types (type_in pg) ≡ true → Rest → IsStart file meta p (s + entries_on file before)
+    by_page : (pg : Page) → page_at file h ≡ pg → has_type recno_types (type_in pg) ≡ true → Rest n k p meta s file ps → IsStart file meta p (s + entries_on file before)
     by_page (RecnoInternal page) at types further = through page at further
     by_page (Internal page) at types further = absurd cc
     by_page pg at types further = single pg at refl
