@@ -23,6 +23,7 @@ use Rattle.bdb_homes.specs.Homes.{by_claim, claimed_in, home, later, numbered, o
 use Rattle.bdb_homes.specs.declared.home.Home.{Home}
 use Rattle.bdb_law_homes.specs.Led.{IsCounted, IsOwned, StartsAreCounts, entries_on}
 use Rattle.bdb_law_homes.proofs.AskedLemmas.{IsAsked, asked_fits, claimed_top, only_types, own_stays}
+use Rattle.bdb_law_homes.proofs.ClaimedLemmas.{IsClaimed, IsStart, no_turn, own_start, turn}
 use Rattle.bdb_law_homes.proofs.BelowLemmas.{below_target, of_counted}
 use Rattle.bdb_law_homes.proofs.LedLemmas.{IsOf, below_claimed, claim_is, named_inside}
 use Rattle.bdb_law_homes.proofs.SoundLemmas.{sound_files_are_owned}
@@ -210,15 +211,6 @@ record IsKnown (file : File) : Type 0 where
   owned : IsOwned file
   once : (h : ℕ) → h ≤ file.last → AllDistinct (leaves_in 1 file h)
 
--- a page has this home by claims, in so many turns and in more
-abbrev IsClaimed : File → ℕ → ℕ → ℕ → ℕ → Type 0
-IsClaimed file k h meta s = (turns : ℕ) → k ≤ turns → claimed_in turns file h ≡ Some (record { meta = meta; start = s })
-
-record IsStart (file : File) (meta p s : ℕ) : Type 0 where
-  turns : ℕ
-  few : turns ≤ 255
-  claimed : IsClaimed file turns p meta s
-
 abbrev below_all : File → List ℕ → List ℕ
 below_all file ps = flat_map (λ p. unwrap_or (children_in (page_at file p)) []) ps
 
@@ -246,14 +238,6 @@ only file n k h p meta s ps [] after view above is leaf =
     (subst (IsStart file meta h) none
     (record { turns = k; few = above.leaf view (ap (page_at file) same ∙ leaf); claimed = above.claimed }))
 only file n k h p meta s ps (b ∷ before) after view above is leaf = absurd (nothing before after p (let rest : [] ≡ before ++ p ∷ after = cc in rest))
-
-turn : (n : ℕ) (file : File) (h : ℕ) → leaves_in (suc n) file h ≡ leaves_under (leaves_in n file) h (children_in (page_at file h))
-unfolding leaves_in
-turn n file h = refl
-
-no_turn : (file : File) (h : ℕ) → leaves_in zero file h ≡ h ∷ []
-unfolding leaves_in
-no_turn file h = refl
 
 -- children as they are
 alone : (file : File) (cs : List ℕ) → flat_map (leaves_in zero file) cs ≡ cs
@@ -361,14 +345,6 @@ all_right file root q is at =
 inner_are : (file : File) (root : ℕ) → inner_pages file root ≡ inner_in (header_in (page_at file root)).level file (root ∷ [])
 unfolding inner_pages
 inner_are file root = refl
-
-low_start : (h : Home) → h.start < 2 ^ 32 → numbered h ≡ Some h
-low_start h low = let is : nat_lt h.start (2 ^ 32) ≡ true = grind (arith, low) in rw is refl
-
-own_start : (file : File) (meta p s : ℕ) → IsStart file meta p s → s < 2 ^ 32 → own_home file p ≡ Some (record { meta = meta; start = s })
-unfolding own_home
-own_start file meta p s is low =
-    ap (option_and_then numbered) (is.claimed 255 is.few) ∙ low_start (record { meta = meta; start = s }) low
 
 root_above : (file : File) (meta : ℕ) (tree : BtreeMeta) → IsOwned file → page_at file meta ≡ Meta (BtreeFields tree) → is_recno tree ≡ true
     → IsCounted file tree.root → IsAbove file (header_in (page_at file tree.root)).level 1 tree.root (tree.root ∷ []) meta 0

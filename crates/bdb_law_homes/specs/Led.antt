@@ -6,8 +6,8 @@ use Rattle.bdb_graph.specs.of_format.declared.metadata.FileKind.TheVariants.{Que
 use Rattle.bdb_graph.specs.of_format.declared.metadata.HashMeta.{HashMeta}
 use Rattle.bdb_graph.specs.of_format.declared.references.Reference.{Reference}
 use Rattle.bdb_graph.specs.of_format.Terms.{BtreeFields, File, Hash, HashFields, Item, Listed, Meta, NoType, RecnoLeaf, bucket_pages, entries_in, file_of}
-use Rattle.bdb_graph.specs.of_format.Terms.{first_holder, has_wrong_count, header_in, inner_pages, is_head_reference, is_meta, is_recno, is_wrong_at, leaves}
-use Rattle.bdb_graph.specs.of_format.Terms.{leaves_in, owners, page_at, reference_faults, refs}
+use Rattle.bdb_graph.specs.of_format.Terms.{first_holder, has_type, has_wrong_count, header_in, inner_pages, is_head_reference, is_meta, is_recno, is_wrong_at, leaves}
+use Rattle.bdb_graph.specs.of_format.Terms.{leaves_in, owners, page_at, reference_faults, refs, type_in}
 use Rattle.bdb_graph.specs.of_image.Linked.{IsForest}
 use Rattle.bdb_homes.specs.Claims.{Below, below_in}
 use Rattle.bdb_homes.specs.Homes.{adjoins, behind, claimed_in, home, own_home, page_before, spread}
@@ -92,3 +92,10 @@ StartsAreCounts =
     → page_at (file_of image) meta ≡ Meta (BtreeFields tree) → is_recno tree ≡ true → IsCounted (file_of image) tree.root
     → leaves (file_of image) tree.root ≡ before ++ p ∷ after → page_at (file_of image) p ≡ RecnoLeaf view → entries_on (file_of image) before < 2 ^ 32
     → home (file_of image) p ≡ Some (record { meta = meta; start = entries_on (file_of image) before })
+
+-- a leaf of a btree has it as its home, behind no record
+abbrev pub LeavesAreOfBtrees : Type 0
+LeavesAreOfBtrees =
+    (file : File) (meta p : ℕ) (tree : BtreeMeta) → IsOwned file → page_at file meta ≡ Meta (BtreeFields tree) → is_recno tree ≡ false
+    → (header_in (page_at file tree.root)).level ≤ 255 → Contains (leaves file tree.root) p → has_type (5 ∷ 12 ∷ []) (type_in (page_at file p)) ≡ true
+    → home file p ≡ Some (record { meta = meta; start = 0 })

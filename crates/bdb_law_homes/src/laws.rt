@@ -1,5 +1,5 @@
 //! In a sound file the home of a page is the metadata to which its owners lead.
-ghost use Rattle.bdb_law_homes.specs.Led.{BucketsAreOfTables, HomesAreOwners, LeavesAreUnder, NextIsLed, OwnersLeadToOne, SoundFilesAreOwned, StartsAreCounts};
+ghost use Rattle.bdb_law_homes.specs.Led.{BucketsAreOfTables, HomesAreOwners, LeavesAreOfBtrees, LeavesAreUnder, NextIsLed, OwnersLeadToOne, SoundFilesAreOwned, StartsAreCounts};
 
 /// The home of a page by claims is the metadata to which its first owners lead.
 pub fn homes_are_owners()
@@ -34,4 +34,9 @@ pub fn buckets_are_of_tables()
 /// A leaf of a recno has it as its home, behind as many records as the leaves before it have entries.
 pub fn starts_are_counts()
     ensures { StartsAreCounts }
+{}
+
+/// A leaf of a btree has it as its home, behind no record.
+pub fn leaves_are_of_btrees()
+    ensures { LeavesAreOfBtrees }
 {}
