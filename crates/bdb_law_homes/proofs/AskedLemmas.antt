@@ -1,5 +1,5 @@
 -- What references ask of their targets, and the homes of pages that metadata name.
-use Rattle.std.proofs.Common.{◌≡◌, ℕ, zero, suc, ◌<◌, ◌≤◌, Bool, true, false, refl, ap, ◌∙◌, arith, subst}
+use Rattle.std.proofs.Common.{◌≡◌, ℕ, zero, suc, ◌≤◌, Bool, true, false, refl, ap, ◌∙◌, arith, subst}
 use Rattle.std.specs.Prelude.{◌&&◌, ◌||◌, not, nat_lt, Option, Some, None, option_and_then}
 use Rattle.std.specs.List.{Contains}
 use Rattle.bdb_graph.specs.of_format.declared.references.Sort.{Sort}
@@ -15,7 +15,8 @@ use Rattle.bdb_law_homes.proofs.BelowLemmas.{IsReferred, target_referred}
 use Rattle.bdb_law_homes.proofs.LedLemmas.{below_claimed}
 
 -- a page that metadata name below them has those as its own home
-pub claimed_top : (turns : ℕ) (file : File) (meta : ℕ) (b : Below) → IsOwned file → is_meta (page_at file meta) ≡ true → Contains (below_in (page_at file meta)) b
+pub claimed_top : (turns : ℕ) (file : File) (meta : ℕ) (b : Below) → IsOwned file → is_meta (page_at file meta) ≡ true
+    → Contains (below_in (page_at file meta)) b
     → claimed_in (suc turns) file b.page ≡ Some (record { meta = meta; start = 0 })
 unfolding claimed_in
 claimed_top turns file meta b is top at =

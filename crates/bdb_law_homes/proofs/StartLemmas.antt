@@ -1,26 +1,25 @@
 -- How many records come before the leaves of a recno.
-use Rattle.std.proofs.Common.{◌≡◌, ◌⊎◌, ℕ, zero, suc, ◌+◌, ◌-◌, ◌<◌, ◌≤◌, ◌^◌, Bool, true, false, cond, List, [], ◌∷◌, ◌++◌, map, length, ap, ◌∙◌}
+use Rattle.std.proofs.Common.{◌≡◌, ◌⊎◌, ℕ, zero, suc, ◌+◌, ◌-◌, ◌≤◌, Bool, true, false, cond, List, [], ◌∷◌, ◌++◌, map, length, ap, ◌∙◌}
 use Rattle.std.proofs.Common.{arith, refl, sym, subst, inl, inr, append_assoc, length-append}
-use Rattle.std.specs.Prelude.{◌==◌, ◌&&◌, ◌||◌, not, nat_lt, Option, Some, None, option_and_then}
+use Rattle.std.specs.Prelude.{◌==◌, ◌&&◌, ◌||◌, not, Option, Some, None}
 use Rattle.std.specs.List.{Contains, filter, flat_map, list_any}
 use Rattle.std.specs.Option.{is_some, option_map, unwrap_or}
 use Rattle.std.proofs.lemmas.Grind.{flat_map-append}
 use Rattle.std.proofs.lemmas.List.Elements.{Contains-append_left, Contains-append_right}
 use Rattle.std.proofs.lemmas.List.Folds.{flat_map-map}
-use Rattle.std.proofs.lemmas.Bool.{and_parts, cases_lt, eq-eqb, eqb-true, not-false}
+use Rattle.std.proofs.lemmas.Bool.{cases_lt, eq-eqb, eqb-true, not-false}
 use Rattle.bdb_graph.specs.Forest.{AllDistinct, NotIn}
 use Rattle.bdb_graph.specs.of_format.declared.metadata.BtreeMeta.{BtreeMeta}
 use Rattle.bdb_graph.specs.of_format.declared.pages.RecnoItem.{RecnoItem}
-use Rattle.bdb_graph.specs.of_format.declared.references.Sort.{Sort}
 use Rattle.bdb_graph.specs.of_format.declared.references.Sort.TheVariants.{Child, Root}
-use Rattle.bdb_graph.specs.of_format.Terms.{BtreeFields, File, Internal, Item, Listed, Meta, NoType, Page, RecnoInternal, RecnoLeaf, asked_by, child_types, children_in}
-use Rattle.bdb_graph.specs.of_format.Terms.{entries_in, file_of, has_type, has_wrong_count, header_in, inner_in, inner_pages, is_asked, is_meta, is_recno}
-use Rattle.bdb_graph.specs.of_format.Terms.{is_wrong_at, is_zero_page, leaves, leaves_in, leaves_under, page_at, root_types, targets_in, tree_entries, type_in}
+use Rattle.bdb_graph.specs.of_format.Terms.{BtreeFields, File, Internal, Item, Listed, Meta, NoType, Page, RecnoInternal, RecnoLeaf, asked_by}
+use Rattle.bdb_graph.specs.of_format.Terms.{child_types, children_in}
+use Rattle.bdb_graph.specs.of_format.Terms.{entries_in, file_of, has_type, has_wrong_count, header_in, inner_in, inner_pages, is_meta, is_recno}
+use Rattle.bdb_graph.specs.of_format.Terms.{is_zero_page, leaves, leaves_in, leaves_under, page_at, root_types, targets_in, tree_entries, type_in}
 use Rattle.bdb_graph.proofs.LeavesLemmas.{no_leaf_twice}
 use Rattle.bdb_graph.proofs.of_format.MemberLemmas.{first_member, in_filter, in_flat_map, in_map, later_member, member_cases, no_member, none_passes}
-use Rattle.bdb_homes.specs.Claims.{Below, Claim, below_in, claim_of, counted}
-use Rattle.bdb_homes.specs.Homes.{by_claim, claimed_in, home, later, numbered, own_home}
-use Rattle.bdb_homes.specs.declared.home.Home.{Home}
+use Rattle.bdb_homes.specs.Claims.{Below, below_in, counted}
+use Rattle.bdb_homes.specs.Homes.{by_claim, claimed_in, later}
 use Rattle.bdb_law_homes.specs.Led.{IsCounted, IsOwned, StartsAreCounts, entries_on}
 use Rattle.bdb_law_homes.proofs.AskedLemmas.{IsAsked, asked_fits, claimed_top, only_types, own_stays}
 use Rattle.bdb_law_homes.proofs.ClaimedLemmas.{IsClaimed, IsStart, no_turn, own_start, turn}
@@ -100,10 +99,12 @@ at_item file n s (one ∷ firsts) others item counts =
     let joined : entries_on file (leaves_at n file one ++ flat_map (leaves_at n file) firsts)
     ≡ entries_on file (leaves_at n file one) + entries_on file (flat_map (leaves_at n file) firsts) =
     entries_joined file (leaves_at n file one) (flat_map (leaves_at n file) firsts) in
-    let sum : s + one.count + entries_on file (flat_map (leaves_at n file) firsts) ≡ s + entries_on file (leaves_at n file one ++ flat_map (leaves_at n file) firsts) =
+    let sum : s + one.count + entries_on file (flat_map (leaves_at n file) firsts)
+    ≡ s + entries_on file (leaves_at n file one ++ flat_map (leaves_at n file) firsts) =
     omega (arith, here, joined) in
     subst (λ before. Contains (counted s (one ∷ firsts ++ item ∷ others)) (placed item before)) sum
-    (later_member (placed one s) (counted (s + one.count) (firsts ++ item ∷ others)) (placed item (s + one.count + entries_on file (flat_map (leaves_at n file) firsts)))
+    (later_member (placed one s) (counted (s + one.count) (firsts ++ item ∷ others))
+    (placed item (s + one.count + entries_on file (flat_map (leaves_at n file) firsts)))
     (at_item file n (s + one.count) firsts others item (λ i at. counts i (later_member one (firsts ++ item ∷ others) i at))))
 
 -- children that are distinct are named once
@@ -192,7 +193,9 @@ item_is file n h page item is at level counts among =
     record {
       level = down;
       types = wider (type_in (page_at file item.child)) (page.header.level == 2) typed;
-      leaf = λ view leaf. by_level (page.header.level == 2) refl (ap (λ pg. has_type (cond (page.header.level == 2) (6 ∷ []) (4 ∷ [])) (type_in pg)) (sym leaf) ∙ typed);
+      leaf = λ view leaf.
+          by_level (page.header.level == 2) refl
+          (ap (λ pg. has_type (cond (page.header.level == 2) (6 ∷ []) (4 ∷ [])) (type_in pg)) (sym leaf) ∙ typed);
       count =
           eqb-true item.count (length (tree_entries file item.child)) (not-false (item.count == length (tree_entries file item.child)) one)
           ∙ (entries_are file item.child ∙ ap (λ m. entries_on file (leaves_in m file item.child)) down);
@@ -298,7 +301,8 @@ down (suc n) k h p meta s file ps before after view is above leaves leaf =
         let each : (i : RecnoItem) → Contains page.items i → IsItemOf file n i =
         λ i among. item_is file n h page i is.owned at above.level inner among in
         let item : Contains page.items part.one =
-        subst (λ items. Contains items part.one) (sym part.all) (Contains-append_right part.firsts (part.one ∷ part.others) part.one (first_member part.one part.others)) in
+        subst (λ items. Contains items part.one) (sym part.all)
+        (Contains-append_right part.firsts (part.one ∷ part.others) part.one (first_member part.one part.others)) in
         let of : IsItemOf file n part.one = each part.one item in
         let named : Contains (counted 0 (part.firsts ++ part.one ∷ part.others)) (placed part.one (0 + sum)) =
         at_item file n 0 part.firsts part.others part.one (λ i among. (each i (subst (λ items. Contains items i) (sym part.all) among)).count) in
@@ -326,7 +330,8 @@ down (suc n) k h p meta s file ps before after view is above leaves leaf =
         only file (suc n) k h p meta s ps before after view above
         (sym (turn n file h ∙ ap (leaves_under (leaves_in n file) h) (ap children_in at ∙ none)) ∙ leaves) leaf
 
-    by_page : (pg : Page) → page_at file h ≡ pg → has_type recno_types (type_in pg) ≡ true → Rest n k p meta s file ps → IsStart file meta p (s + entries_on file before)
+    by_page : (pg : Page) → page_at file h ≡ pg → has_type recno_types (type_in pg) ≡ true → Rest n k p meta s file ps
+        → IsStart file meta p (s + entries_on file before)
     by_page (RecnoInternal page) at types further = through page at further
     by_page (Internal page) at types further = absurd cc
     by_page pg at types further = single pg at refl

@@ -6,7 +6,8 @@ use Rattle.bdb_graph.specs.of_format.declared.metadata.FileKind.TheVariants.{Que
 use Rattle.bdb_graph.specs.of_format.declared.metadata.HashMeta.{HashMeta}
 use Rattle.bdb_graph.specs.of_format.declared.references.Reference.{Reference}
 use Rattle.bdb_graph.specs.of_format.Terms.{BtreeFields, File, Hash, HashFields, Item, Listed, Meta, NoType, RecnoLeaf, bucket_pages, entries_in, file_of}
-use Rattle.bdb_graph.specs.of_format.Terms.{first_holder, has_type, has_wrong_count, header_in, inner_pages, is_head_reference, is_meta, is_recno, is_wrong_at, leaves}
+use Rattle.bdb_graph.specs.of_format.Terms.{first_holder, has_type, has_wrong_count, header_in, inner_pages, is_head_reference, is_meta, is_recno}
+use Rattle.bdb_graph.specs.of_format.Terms.{is_wrong_at, leaves}
 use Rattle.bdb_graph.specs.of_format.Terms.{leaves_in, owners, page_at, reference_faults, refs, type_in}
 use Rattle.bdb_graph.specs.of_image.Linked.{IsForest}
 use Rattle.bdb_homes.specs.Claims.{Below, below_in}
