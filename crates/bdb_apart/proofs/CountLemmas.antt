@@ -8,7 +8,8 @@ use Rattle.bdb_rescue.specs.of_survey.Salvage.{is_taken, live_value, live_whole,
 use Rattle.bdb_rescue.specs.Kept.{Reading, file_in}
 use Rattle.bdb_homes.specs.Homes.{home}
 use Rattle.bdb_apart.specs.Found.{Found, found}
-use Rattle.bdb_apart.specs.Given.{db_at, fits_record, meta_at, numbered_entry, numbered_on, records_beside, records_left, records_left_on, records_without, start_in}
+use Rattle.bdb_apart.specs.Given.{db_at, fits_record, meta_at, numbered_entry, numbered_on, records_beside, records_left, records_left_on, records_without}
+use Rattle.bdb_apart.specs.Given.{start_in}
 
 filter_few : {X : Type 0} (test : X → Bool) (xs : List X) → length (filter test xs) ≤ length xs
 filter_few test [] = omega arith
@@ -18,11 +19,13 @@ filter_few test (x ∷ xs) = by_test (test x) (filter_few test xs)
     by_test true rest = omega (arith, rest)
     by_test false rest = omega (arith, rest)
 
-joined_few : {X Y Z : Type 0} (f : X → List Y) (g : X → List Z) (xs : List X) → ((x : X) → length (f x) ≤ length (g x)) → length (flat_map f xs) ≤ length (flat_map g xs)
+joined_few : {X Y Z : Type 0} (f : X → List Y) (g : X → List Z) (xs : List X) → ((x : X) → length (f x) ≤ length (g x))
+    → length (flat_map f xs) ≤ length (flat_map g xs)
 joined_few f g [] few = omega arith
 joined_few f g (x ∷ xs) few = omega (arith, length-append (f x) (flat_map f xs), length-append (g x) (flat_map g xs), few x, joined_few f g xs few)
 
-numbered_few : (file : File) (n : ℕ) (items : List Item) → length (flat_map (numbered_entry file) (enumerate_from n items)) ≤ length (flat_map (live_value file) items)
+numbered_few : (file : File) (n : ℕ) (items : List Item)
+    → length (flat_map (numbered_entry file) (enumerate_from n items)) ≤ length (flat_map (live_value file) items)
 numbered_few file n [] = omega arith
 numbered_few file n (item ∷ items) =
     omega (

@@ -233,8 +233,9 @@ page_row : (file : File) (db : Found) (p : ℕ) → cond (is_some_of db.meta (ab
 page_row file db p =
     ap (λ records. cond (is_some_of db.meta (above file p)) (filter (fits_in (holds_of db.fields)) (fit_left records)) [])
     (numbered_are file p (start_on file p))
-    ∙ (page_by file db.fields db.meta p (home file p) (is_alone (page_at file 0)) (is_pair_page (page_at file p)) (is_record_page (page_at file p))
-    (is_taken file p) (no_pairs (page_at file p)) (λ leaf start. numbered_is file p start leaf)
+    ∙ (page_by file db.fields db.meta p (home file p) (is_alone (page_at file 0)) (is_pair_page (page_at file p))
+    (is_record_page (page_at file p)) (is_taken file p)
+    (no_pairs (page_at file p)) (λ leaf start. numbered_is file p start leaf)
     ∙ (ap (records_by_start file db.fields p) (start_is file db p (home file p)) ∙ records_are file db p (start_in file db p)))
 
 pub records_row : (file : File) (db : Found) → flat_map (records_on file db) (range_with_len 0 file.count)

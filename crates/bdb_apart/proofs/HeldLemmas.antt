@@ -1,5 +1,6 @@
 -- What databases hold, by their metadata pages.
-use Rattle.std.proofs.Common.{◌≡◌, ℕ, ◌+◌, ◌<◌, ◌≤◌, Bool, true, false, cond, List, [], ◌∷◌, ◌++◌, map, length, set, take, get_or, arith, refl, sym, ◌∙◌, ap, subst, inl, inr}
+use Rattle.std.proofs.Common.{◌≡◌, ℕ, ◌+◌, ◌<◌, ◌≤◌, Bool, true, false, cond, List, [], ◌∷◌, ◌++◌, map, length, set, take, get_or, arith, refl, sym, ◌∙◌}
+use Rattle.std.proofs.Common.{ap, subst, inl, inr}
 use Rattle.std.specs.Prelude.{Option, Some, None, ◌==◌, is_none}
 use Rattle.std.specs.List.{find}
 use Rattle.std.specs.Option.{option_map}
@@ -24,7 +25,8 @@ db_more m [] db = refl
 db_more m (other ∷ others) db = by_test (other.meta == m) (db_more m others db)
   where
     by_test : (b : Bool) → db_at (others ++ db ∷ []) (Some m) ≡ or_last (db_at others (Some m)) (db.meta == m) db
-        → cond b (Some other) (find (λ (d : Found). d.meta == m) (others ++ db ∷ [])) ≡ or_last (cond b (Some other) (find (λ (d : Found). d.meta == m) others)) (db.meta == m) db
+       
+            → cond b (Some other) (find (λ (d : Found). d.meta == m) (others ++ db ∷ [])) ≡ or_last (cond b (Some other) (find (λ (d : Found). d.meta == m) others)) (db.meta == m) db
     by_test true rest = refl
     by_test false rest = rest
 

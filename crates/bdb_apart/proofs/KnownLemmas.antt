@@ -1,6 +1,6 @@
 -- The databases that are found beside each other are no queues.
-use Rattle.std.proofs.Common.{◌≡◌, ◌⊎◌, ℕ, zero, suc, ◌+◌, ◌<◌, Bool, true, false, cond, List, [], ◌∷◌, ◌++◌, map, length, drop, refl, sym, ◌∙◌, ap}
-use Rattle.std.proofs.Common.{subst, inl, inr, arith, add-one}
+use Rattle.std.proofs.Common.{◌≡◌, ◌⊎◌, ℕ, zero, suc, ◌+◌, ◌<◌, Bool, true, false, cond, List, [], ◌∷◌, ◌++◌, map, length, drop, refl, sym, ◌∙◌, ap, subst}
+use Rattle.std.proofs.Common.{inl, inr, arith, add-one}
 use Rattle.std.specs.Prelude.{Option, Some, None, codes, decimal, slice_index_or}
 use Rattle.std.specs.List.{Contains, fold, list_any}
 use Rattle.std.specs.Option.{is_some, option_to_list}
@@ -52,8 +52,8 @@ of_put : (dbs : List Found) (db x : Found) → Contains (put_found dbs db) x →
 of_put [] db x at = inl (only_member db x at)
 of_put (other ∷ others) db x at = by_order (less (name_of db) (name_of other)) at (of_put others db x)
   where
-    by_order : (b : Bool) → Contains (cond b (db ∷ other ∷ others) (other ∷ put_found others db)) x
-        → (Contains (put_found others db) x → (db ≡ x) ⊎ Contains others x)
+    by_order : (b : Bool) → Contains (cond b (db ∷ other ∷ others) (other ∷ put_found others db)) x → (Contains (put_found others db) x
+        → (db ≡ x) ⊎ Contains others x)
         → (db ≡ x) ⊎ Contains (other ∷ others) x
     by_order true here rest = member_cases db (other ∷ others) x here
     by_order false here rest = elim (member_cases other (put_found others db) x here) [
@@ -118,8 +118,8 @@ pub next_found : (reading : Reading) (places : List Place) (at : ℕ) (place : P
     → place ≡ slice_index_or places at place → found_from reading at ≡ found_of reading place ∷ found_from reading (at + 1)
 next_found reading places at place same there is =
     rw add-one
-    (subst (λ dbs. map (in_image reading) (drop at dbs) ≡ found_of reading place ∷ map (in_image reading) (drop (suc at) dbs)) same
-    (from_place places at there is))
+    (subst (λ dbs. map (in_image reading) (drop at dbs) ≡ found_of reading place ∷ map (in_image reading) (drop (suc at) dbs))
+    same (from_place places at there is))
   where
     from_place : (places : List Place) (at : ℕ) → at < length places → place ≡ slice_index_or places at place
         → map (in_image reading) (drop at (map found_seen places)) ≡ found_of reading place ∷ map (in_image reading) (drop (suc at) (map found_seen places))

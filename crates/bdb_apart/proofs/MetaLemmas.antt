@@ -1,5 +1,6 @@
 -- Metadata pages of homes, and of the databases that are found, are there.
-use Rattle.std.proofs.Common.{◌≡◌, ℕ, zero, suc, ◌+◌, ◌-◌, ◌<◌, ◌≤◌, Bool, true, false, cond, List, [], ◌∷◌, ◌++◌, map, length, get_or, arith, refl, sym, ◌∙◌, ap, subst, inl, inr}
+use Rattle.std.proofs.Common.{◌≡◌, ℕ, zero, suc, ◌+◌, ◌-◌, ◌<◌, ◌≤◌, Bool, true, false, cond, List, [], ◌∷◌, ◌++◌, map, length, get_or, arith, refl, sym}
+use Rattle.std.proofs.Common.{◌∙◌, ap, subst, inl, inr}
 use Rattle.std.specs.Prelude.{Option, Some, None, ◌==◌, ◌||◌, ◌&&◌, ◌^◌, ◌/◌, codes, decimal, nat_le, nat_lt}
 use Rattle.std.specs.List.{All, find, flat_map, fold, list_any, range_with_len}
 use Rattle.std.specs.Option.{is_some, option_and_then, option_map, option_to_list}
@@ -111,7 +112,8 @@ pub there_by : (reading : Reading) (test : Page → Bool) (p : ℕ) → test NoT
 there_by reading test p none is = elim (cases_lt p (file_in reading).count) [
   | inl low ↦ low
   | inr past ↦
-      let same : (file_in reading).count ≡ length reading.image / reading.guess.page_size = count_is reading.guess.order reading.guess.page_size reading.image in
+      let same : (file_in reading).count ≡ length reading.image / reading.guess.page_size =
+      count_is reading.guess.order reading.guess.page_size reading.image in
       absurd
       (true≢false
       (sym is
@@ -149,7 +151,8 @@ pub row_pages : (file : File) (aboves : List (Option ℕ)) (m : ℕ) → aboves 
 row_pages file aboves m are = subst (λ n. All (λ q. q < n) (row_from aboves m 0)) (aboves_len file aboves are) (row_there aboves m)
 
 -- pages are below pages that are there
-pub are_below : (reading : Reading) (aboves : List (Option ℕ)) → aboves ≡ map (above (file_in reading)) (range_with_len 0 (file_in reading).count) → AreBelow aboves
+pub are_below : (reading : Reading) (aboves : List (Option ℕ)) → aboves ≡ map (above (file_in reading)) (range_with_len 0 (file_in reading).count)
+    → AreBelow aboves
 are_below reading aboves are p m is = elim (cases_lt p n) [
   | inl low ↦ subst (λ k. m < k) (sym len) (above_there reading p m (sym (above_at (file_in reading) aboves p are low) ∙ is))
   | inr past ↦ absurd (none-some m (sym (get_or_past aboves p None (subst (λ k. k ≤ p) (sym len) past)) ∙ is))
@@ -227,7 +230,8 @@ none_pages m a (suc n) f none =
     none_both m (f a) (flat_map f (range_with_len (a + 1) n)) (none a (omega arith) (omega arith))
     (none_pages m (a + 1) n f (λ p from to. none p (omega (arith, from)) (omega (arith, to))))
 
-none_above : (m : ℕ) (file : File) (f : ℕ → List Found) → file.count ≤ m → ((p : ℕ) → (p == m) ≡ false → HasNone m (f p)) → HasNone m (flat_map f (pages_above file))
+none_above : (m : ℕ) (file : File) (f : ℕ → List Found) → file.count ≤ m → ((p : ℕ) → (p == m) ≡ false → HasNone m (f p))
+    → HasNone m (flat_map f (pages_above file))
 none_above m file f past none =
     none_pages m 1 (file.count - 1) f (λ p from to. none p (ne_eqb p m (λ same. omega (arith, past, from, to, same))))
 
