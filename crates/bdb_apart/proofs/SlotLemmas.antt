@@ -62,7 +62,7 @@ on_queue_page reading meta p page records is behind kind number =
     ap (λ rest. slots_from meta p rest 0) behind
     ∙ (sym (ap (λ b. cond b (slots_from meta p (drop 28 page) 0) [])
     (both (byte_at page 25 == 11) (four_at reading.guess.order page 8 == p)
-            (eq-eqb (byte_at page 25) 11 kind) (eq-eqb (four_at reading.guess.order page 8) p number)))
+    (eq-eqb (byte_at page 25) 11 kind) (eq-eqb (four_at reading.guess.order page 8) p number)))
     ∙ ap (λ bytes. cond (is_queue_page reading.guess.order p bytes) (slots_from meta p (drop 28 bytes) 0) []) is)
   where
     both : (a b : Bool) → a ≡ true → b ≡ true → (a && b) ≡ true
