@@ -14,7 +14,7 @@ use Rattle.bdb_graph.proofs.of_format.ReferenceLemmas.{forest_names}
 use Rattle.bdb_homes.specs.Claims.{Below, below_in, counted}
 
 -- a child with the records before it is that of an item
-of_counted : (before : ℕ) (items : List RecnoItem) (b : Below) → Contains (counted before items) b
+pub of_counted : (before : ℕ) (items : List RecnoItem) (b : Below) → Contains (counted before items) b
     → (item : RecnoItem) × Contains items item × (b.sort ≡ Child) × (b.page ≡ item.child)
 of_counted before [] b at = absurd (no_member [] b refl at)
 of_counted before (item ∷ items) b at = elim (member_cases (record { sort = Child; page = item.child; before = before }) (counted (before + item.count) items) b
@@ -65,7 +65,8 @@ pub record IsReferred (file : File) (h : ℕ) (b : Below) : Type 0 where
   pub sort : reference.sort ≡ b.sort
   pub target : reference.target ≡ b.page
 
-pub target_referred : (file : File) (h : ℕ) (b : Below) → (file.kind ≡ Queue → ⊥) → Contains (targets_in h (page_at file h)) (b.sort, b.page) → IsReferred file h b
+pub target_referred : (file : File) (h : ℕ) (b : Below) → (file.kind ≡ Queue → ⊥) → Contains (targets_in h (page_at file h)) (b.sort, b.page)
+    → IsReferred file h b
 unfolding refs
 target_referred file h b kind at =
     let named : Contains (targets_of file.kind h (page_at file h)) (b.sort, b.page) =

@@ -1,49 +1,27 @@
 -- The pages of the buckets of a table.
-use Rattle.std.proofs.Common.{◌≡◌, ◌⊎◌, ℕ, zero, suc, ◌+◌, ◌<◌, ◌≤◌, Bool, true, false, cond, List, [], ◌∷◌, map, ap, ◌∙◌, arith, refl, sym, subst, inl, inr}
-use Rattle.std.specs.Prelude.{◌==◌, ◌&&◌, ◌||◌, not, nat_lt, Option, Some, None, option_and_then}
+use Rattle.std.proofs.Common.{◌≡◌, ◌⊎◌, ℕ, zero, suc, ◌+◌, ◌<◌, ◌≤◌, Bool, true, false, cond, [], ◌∷◌, ap, ◌∙◌, arith, refl, sym, subst, inl, inr}
+use Rattle.std.specs.Prelude.{◌==◌, ◌&&◌, ◌||◌, not, nat_lt, Some}
 use Rattle.std.specs.List.{Contains, flat_map, range_with_len}
 use Rattle.std.proofs.lemmas.List.Elements.{Contains-append_right}
 use Rattle.std.proofs.lemmas.Bool.{eq-eqb, eqb-true, not-false, or_parts}
 use Rattle.bdb_graph.specs.of_format.declared.metadata.HashMeta.{HashMeta}
 use Rattle.bdb_graph.specs.of_format.declared.references.Sort.{Sort}
 use Rattle.bdb_graph.specs.of_format.declared.references.Sort.TheVariants.{Bucket, HashNext}
-use Rattle.bdb_graph.specs.of_format.declared.references.Reference.{Reference}
-use Rattle.bdb_graph.specs.of_format.Terms.{Asked, File, Hash, HashFields, Item, Listed, Meta, Page, Zero, asked_by, bucket_pages, chain_in, content_targets}
-use Rattle.bdb_graph.specs.of_format.Terms.{BtreeFields, QueueFields, contents_in, first_holder, first_page, fit_code, fit_rows, has_type, header_in, is_meta}
-use Rattle.bdb_graph.specs.of_format.Terms.{is_head_reference, is_zero_page, next_of, owners, page_at, refs, targets_in, type_in, unless_zero}
-use Rattle.bdb_graph.proofs.of_format.GraphLemmas.{each_fits}
+use Rattle.bdb_graph.specs.of_format.Terms.{File, Hash, HashFields, Item, Listed, Meta, Page, Zero, asked_by, chain_in, content_targets}
+use Rattle.bdb_graph.specs.of_format.Terms.{BtreeFields, QueueFields, contents_in, first_holder, first_page, has_type, header_in, is_meta}
+use Rattle.bdb_graph.specs.of_format.Terms.{is_head_reference, is_zero_page, next_of, owners, page_at, targets_in, type_in, unless_zero}
 use Rattle.bdb_graph.proofs.of_format.MemberLemmas.{first_member, in_map, in_range, member_cases, no_member}
-use Rattle.bdb_graph.proofs.of_format.VerdictLemmas.{AllFail, none_is_first_row}
 use Rattle.bdb_homes.specs.Claims.{Below, below_in}
-use Rattle.bdb_homes.specs.Homes.{adjoins, ahead, behind, by_claim, claimed_in, from_side, home, is_alike, led, numbered, or_else, own_home, page_after, page_before, previous_of}
+use Rattle.bdb_homes.specs.Homes.{adjoins, ahead, behind, home, is_alike, led, own_home, page_after}
+use Rattle.bdb_homes.specs.Homes.{page_before, previous_of}
 use Rattle.bdb_homes.specs.Homes.{spread}
 use Rattle.bdb_homes.specs.declared.home.Home.{Home}
 use Rattle.bdb_law_sums.proofs.HashLemmas.{no_turn, turn_is}
 use Rattle.bdb_law_homes.specs.Led.{BucketsAreOfTables, IsLed, IsOwned}
 use Rattle.bdb_law_homes.proofs.BelowLemmas.{IsReferred, below_target, target_referred}
-use Rattle.bdb_law_homes.proofs.LedLemmas.{below_claimed, named_inside}
+use Rattle.bdb_law_homes.proofs.AskedLemmas.{IsAsked, asked_fits, had_first, low, only_types, own_top}
+use Rattle.bdb_law_homes.proofs.LedLemmas.{named_inside}
 use Rattle.bdb_law_homes.proofs.NextLemmas.{next_is_led}
-
--- a page that metadata name below them has those as its own home
-claimed_top : (turns : ℕ) (file : File) (meta : ℕ) (b : Below) → IsOwned file → is_meta (page_at file meta) ≡ true → Contains (below_in (page_at file meta)) b
-    → claimed_in (suc turns) file b.page ≡ Some (record { meta = meta; start = 0 })
-unfolding claimed_in
-claimed_top turns file meta b is top at =
-    let found = below_claimed file meta b is at in
-    let here : is_meta (page_at file found.0.holder) ≡ true = ap (λ n. is_meta (page_at file n)) found.2 ∙ top in
-    ap (by_claim file (claimed_in turns file)) found.1 ∙ rw here (ap (λ h. Some (record { meta = h; start = 0 })) found.2)
-
-pub own_top : (file : File) (meta : ℕ) (b : Below) → IsOwned file → is_meta (page_at file meta) ≡ true → Contains (below_in (page_at file meta)) b
-    → own_home file b.page ≡ Some (record { meta = meta; start = 0 })
-unfolding own_home
-own_top file meta b is top at = ap (option_and_then numbered) (claimed_top 254 file meta b is top at)
-
--- a home that a page has stays
-pub had_first : (had : ℕ → Option Home) (side : ℕ → Option ℕ) (moved : ℕ → ℕ → Home → Option Home) (turns p : ℕ) (h : Home) → had p ≡ Some h
-    → spread had side moved turns p ≡ Some h
-unfolding spread
-had_first had side moved zero p h is = is
-had_first had side moved (suc turns) p h is = ap (λ o. or_else o (from_side moved (spread had side moved turns) p (side p))) is
 
 -- What a table and the pages of a bucket ask of a page.
 
@@ -60,26 +38,6 @@ hash_or_zero (Meta (BtreeFields meta)) is = absurd cc
 hash_or_zero (Meta (HashFields meta)) is = absurd cc
 hash_or_zero (Meta (QueueFields meta)) is = absurd cc
 hash_or_zero page is = absurd cc
-
-low : (last q : ℕ) → nat_lt last q ≡ false → q ≤ last
-low last q is = grind arith
-
--- a reference of one of the two sorts, and what it asks
-record IsAsked (file : File) (p q : ℕ) (asked : Asked) : Type 0 where
-  fail : AllFail (fit_rows file asked q)
-
-asked_fits : (file : File) (p : ℕ) (b : Below) → IsOwned file → p ≤ file.last → Contains (targets_in p (page_at file p)) (b.sort, b.page)
-    → IsAsked file p b.page (asked_by p (page_at file p) b.sort)
-unfolding fit_code
-asked_fits file p b is inside at =
-    let by : IsReferred file p b = target_referred file p b is.kind at in
-    let fits : fit_code file p by.reference ≡ None = each_fits file p by.reference is.references inside by.held in
-    let fail : AllFail (fit_rows file (asked_by p (page_at file p) by.reference.sort) by.reference.target) =
-    none_is_first_row (fit_rows file (asked_by p (page_at file p) by.reference.sort) by.reference.target) fits in
-    record {
-      fail = subst (λ (s : Sort). AllFail (fit_rows file (asked_by p (page_at file p) s) b.page)) by.sort
-          (subst (λ n. AllFail (fit_rows file (asked_by p (page_at file p) by.reference.sort) n)) by.target fail);
-    }
 
 of_zero : (a c : Bool) → not (a || (true && c)) ≡ false → (a || c) ≡ true
 of_zero true c is = refl
@@ -152,17 +110,13 @@ next_is file p view is of page more =
     let range = or_parts (q == 0) (nat_lt file.last q) asked.fail.0 in
     let hash : (has_type (2 ∷ 13 ∷ []) (type_in (page_at file q)) || is_zero_page (page_at file q)) ≡ true =
     of_types (has_type (2 ∷ 13 ∷ []) (type_in (page_at file q))) (is_zero_page (page_at file q)) asked.fail.1.0 in
-    let next = is_hash (page_at file q) (only (has_type (2 ∷ 13 ∷ []) (type_in (page_at file q))) (is_zero_page (page_at file q)) asked.fail.1.0) in
+    let next = is_hash (page_at file q) (only_types (has_type (2 ∷ 13 ∷ []) (type_in (page_at file q))) (is_zero_page (page_at file q)) asked.fail.1.0) in
     let previous : previous_of file q ≡ p = sym (eqb-true p (previous_of file q) (not-false (p == previous_of file q) asked.fail.1.1.1.0)) in
     record {
       adjoins = beside file p q view next.0 of.above more page next.1 refl previous;
       held = is.alone p q by.reference of.inside by.held by.target (ap is_head_reference by.sort);
       of_bucket = record { above = more; inside = low file.last q range.1; page = hash_or_zero (page_at file q) hash };
     }
-  where
-    only : (a c : Bool) → not (a || (false && c)) ≡ false → a ≡ true
-    only true c is = refl
-    only false c is = absurd cc
 
 -- Along a bucket.
 

@@ -1,5 +1,5 @@
 -- The pages of a bucket behind its first.
-use Rattle.std.proofs.Common.{◌≡◌, ℕ, zero, suc, ◌+◌, ◌^◌, true, ap, ◌∙◌, arith, refl, sym, subst, nat_lt, if◌then◌else◌, Option, Some, None, option_and_then}
+use Rattle.std.proofs.Common.{◌≡◌, ℕ, zero, suc, ◌+◌, ◌^◌, true, ap, ◌∙◌, arith, refl, sym, subst, nat_lt, Option, Some, None, option_and_then}
 use Rattle.bdb_graph.specs.of_format.Terms.{File, Hash, Item, Listed, first_holder, owners, page_at}
 use Rattle.bdb_graph.proofs.of_format.MemberLemmas.{no_member}
 use Rattle.bdb_homes.specs.Claims.{Claim, below_in, claim_of}

@@ -1,11 +1,14 @@
 -- Where the first owners of a page lead, and which home it has by claims. Source: docs/FORMAT.md, "Salvage".
-use Rattle.std.specs.Prelude.{◌≡◌, ◌≢◌, ℕ, suc, ◌+◌, ◌<◌, ◌≤◌, false, true, List, [], ◌∷◌, Some}
-use Rattle.std.specs.List.{Contains}
+use Rattle.std.specs.Prelude.{◌≡◌, ◌≢◌, ◌^◌, ℕ, suc, ◌+◌, ◌<◌, ◌≤◌, false, true, List, [], ◌∷◌, ◌++◌, length, Some}
+use Rattle.std.specs.List.{Contains, flat_map}
+use Rattle.bdb_graph.specs.of_format.declared.metadata.BtreeMeta.{BtreeMeta}
 use Rattle.bdb_graph.specs.of_format.declared.metadata.FileKind.TheVariants.{Queue}
 use Rattle.bdb_graph.specs.of_format.declared.metadata.HashMeta.{HashMeta}
 use Rattle.bdb_graph.specs.of_format.declared.references.Reference.{Reference}
-use Rattle.bdb_graph.specs.of_format.Terms.{File, Hash, HashFields, Item, Listed, Meta, NoType, bucket_pages, file_of, first_holder, is_head_reference, is_meta, leaves_in, owners, page_at}
-use Rattle.bdb_graph.specs.of_format.Terms.{reference_faults, refs}
+use Rattle.bdb_graph.specs.of_format.Terms.{BtreeFields, File, Hash, HashFields, Item, Listed, Meta, NoType, RecnoLeaf, bucket_pages, entries_in, file_of}
+use Rattle.bdb_graph.specs.of_format.Terms.{first_holder, has_type, has_wrong_count, header_in, inner_pages, is_head_reference, is_meta, is_recno}
+use Rattle.bdb_graph.specs.of_format.Terms.{is_wrong_at, leaves}
+use Rattle.bdb_graph.specs.of_format.Terms.{leaves_in, owners, page_at, reference_faults, refs, type_in}
 use Rattle.bdb_graph.specs.of_image.Linked.{IsForest}
 use Rattle.bdb_homes.specs.Claims.{Below, below_in}
 use Rattle.bdb_homes.specs.Homes.{adjoins, behind, claimed_in, home, own_home, page_before, spread}
@@ -73,3 +76,27 @@ abbrev pub BucketsAreOfTables : Type 0
 BucketsAreOfTables =
     (file : File) (meta b p : ℕ) (table : HashMeta) → IsOwned file → page_at file meta ≡ Meta (HashFields table) → b ≤ table.max_bucket
     → Contains (bucket_pages file table b) p → home file p ≡ Some (record { meta = meta; start = 0 })
+
+-- how many entries these pages have
+abbrev pub entries_on : File → List ℕ → ℕ
+entries_on file ps = length (flat_map (λ p. entries_in (page_at file p)) ps)
+
+-- the root of a tree of records: no item of an internal page below it counts wrong, and its level is a byte
+pub record IsCounted (file : File) (root : ℕ) : Type 0 where
+  pub counts : (p : ℕ) → is_wrong_at file (has_wrong_count file) (inner_pages file root) p ≡ false
+  pub level : (header_in (page_at file root)).level ≤ 255
+
+-- a leaf of a recno has it as its home, behind as many records as the leaves before it have entries
+abbrev pub StartsAreCounts : Type 0
+StartsAreCounts =
+    (image : List ℕ) (meta p : ℕ) (tree : BtreeMeta) (view : Listed Item) (before after : List ℕ) → IsForest image → (file_of image).kind ≢ Queue
+    → page_at (file_of image) meta ≡ Meta (BtreeFields tree) → is_recno tree ≡ true → IsCounted (file_of image) tree.root
+    → leaves (file_of image) tree.root ≡ before ++ p ∷ after → page_at (file_of image) p ≡ RecnoLeaf view → entries_on (file_of image) before < 2 ^ 32
+    → home (file_of image) p ≡ Some (record { meta = meta; start = entries_on (file_of image) before })
+
+-- a leaf of a btree has it as its home, behind no record
+abbrev pub LeavesAreOfBtrees : Type 0
+LeavesAreOfBtrees =
+    (file : File) (meta p : ℕ) (tree : BtreeMeta) → IsOwned file → page_at file meta ≡ Meta (BtreeFields tree) → is_recno tree ≡ false
+    → (header_in (page_at file tree.root)).level ≤ 255 → Contains (leaves file tree.root) p → has_type (5 ∷ 12 ∷ []) (type_in (page_at file p)) ≡ true
+    → home file p ≡ Some (record { meta = meta; start = 0 })

@@ -1,5 +1,7 @@
 //! In a sound file the home of a page is the metadata to which its owners lead.
-ghost use Rattle.bdb_law_homes.specs.Led.{BucketsAreOfTables, HomesAreOwners, LeavesAreUnder, NextIsLed, OwnersLeadToOne, SoundFilesAreOwned};
+ghost use Rattle.bdb_law_homes.specs.Led.{BucketsAreOfTables, HomesAreOwners, LeavesAreOfBtrees, LeavesAreUnder, NextIsLed, OwnersLeadToOne};
+ghost use Rattle.bdb_law_homes.specs.Led.{SoundFilesAreOwned, StartsAreCounts};
+ghost use Rattle.bdb_law_homes.specs.Owned.{HashPagesAreOfOne, LeavesAreOfOne};
 
 /// The home of a page by claims is the metadata to which its first owners lead.
 pub fn homes_are_owners()
@@ -29,4 +31,24 @@ pub fn next_is_led()
 /// The pages of the buckets of a table have that table as their home.
 pub fn buckets_are_of_tables()
     ensures { BucketsAreOfTables }
+{}
+
+/// A leaf of a recno has it as its home, behind as many records as the leaves before it have entries.
+pub fn starts_are_counts()
+    ensures { StartsAreCounts }
+{}
+
+/// A leaf of a btree has it as its home, behind no record.
+pub fn leaves_are_of_btrees()
+    ensures { LeavesAreOfBtrees }
+{}
+
+/// Each leaf is one of a tree that metadata names, or of a set off the page.
+pub fn leaves_are_of_one()
+    ensures { LeavesAreOfOne }
+{}
+
+/// Each hash page that isn't empty by itself is one of a bucket of a table.
+pub fn hash_pages_are_of_one()
+    ensures { HashPagesAreOfOne }
 {}
