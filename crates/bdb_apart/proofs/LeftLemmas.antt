@@ -119,7 +119,7 @@ loose_by file p (Some db) (Some home) true false none same numbered = by_recno (
     by_recno false true is so = all_loose file p home.start (Some (holds_of db.fields)) (λ placed. takes_none db.fields placed is)
 
 -- the first with a metadata page has that page
-at_page : (dbs : List Found) (m : ℕ) (db : Found) → find (λ (db : Found). db.meta == m) dbs ≡ Some db → (db.meta == m) ≡ true
+pub at_page : (dbs : List Found) (m : ℕ) (db : Found) → find (λ (db : Found). db.meta == m) dbs ≡ Some db → (db.meta == m) ≡ true
 at_page [] m db is = absurd cc
 at_page (other ∷ others) m db is = by_test (other.meta == m) refl is (at_page others m db)
   where

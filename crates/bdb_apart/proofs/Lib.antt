@@ -11,3 +11,5 @@ pub mod CountLemmas
 pub mod LeftLemmas
 pub mod KnownLemmas
 pub mod SlotLemmas
+pub mod SumLemmas
+pub mod PartLemmas

@@ -1,6 +1,7 @@
 pub mod Found
 pub mod Given
 pub mod Kept
+pub mod Laws
 pub mod Left
 pub mod Names
 pub mod Numbered

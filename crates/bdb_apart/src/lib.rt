@@ -7,6 +7,7 @@ mod database;
 mod databases;
 mod entry;
 mod holds;
+pub mod laws;
 mod leaf_records;
 mod left;
 mod name;
