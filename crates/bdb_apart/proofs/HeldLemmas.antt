@@ -25,7 +25,8 @@ db_more m [] db = refl
 db_more m (other ∷ others) db = by_test (other.meta == m) (db_more m others db)
   where
     by_test : (b : Bool) → db_at (others ++ db ∷ []) (Some m) ≡ or_last (db_at others (Some m)) (db.meta == m) db
-        → cond b (Some other) (find (λ (d : Found). d.meta == m) (others ++ db ∷ [])) ≡ or_last (cond b (Some other) (find (λ (d : Found). d.meta == m) others)) (db.meta == m) db
+        → cond b (Some other) (find (λ (d : Found). d.meta == m) (others ++ db ∷ []))
+        ≡ or_last (cond b (Some other) (find (λ (d : Found). d.meta == m) others)) (db.meta == m) db
     by_test true rest = refl
     by_test false rest = rest
 

@@ -39,7 +39,8 @@ pub fn alone()
 /// A recno, and one with two leaves, whole and without the page above them.
 pub fn numbered()
     ensures one { numbered_of first_and_third ≡ ((1, codes "a") ∷ (3, codes "c") ∷ []) ∷ [] }
-    ensures two { numbered_of (counted_records 2 0 1 2 (text "a" ∷ []) (text "b" ∷ text "c" ∷ [])) ≡ ((1, codes "a") ∷ (2, codes "b") ∷ (3, codes "c") ∷ []) ∷ [] }
+    ensures two { numbered_of (counted_records 2 0 1 2 (text "a" ∷ []) (text "b" ∷ text "c" ∷ [])) ≡ ((1, codes "a") ∷ (2, codes "b")
+        ∷ (3, codes "c") ∷ []) ∷ [] }
     ensures lost { numbered_of (overwritten (counted_records 2 0 1 2 (text "a" ∷ []) (text "b" ∷ text "c" ∷ [])) 537 (1 ∷ [])) ≡ [] ∷ [] }
     ensures left { records_left (read (overwritten (counted_records 2 0 1 2 (text "a" ∷ []) (text "b" ∷ text "c" ∷ [])) 537 (1 ∷ []))) ≡ codes "a"
         ∷ codes "b" ∷ codes "c" ∷ [] }
