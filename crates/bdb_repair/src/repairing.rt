@@ -5,7 +5,7 @@ ghost use Rattle.bdb_rescue.specs.Guesses.{chosen};
 ghost use Rattle.bdb_repair.specs.Repairs.{IsRepaired, may_come, repair_answer, repair_refusal};
 
 use crate::parts::repair_sections;
-use crate::room::{Fit, Room, fit_of};
+use crate::room::is_past;
 use crate::{RepairError, Shape};
 use bdb_io::Image;
 use bdb_mkfile::{LoadError, load};
@@ -13,10 +13,6 @@ use bdb_model::Steps;
 use bdb_rescue::{Guess, salvage};
 use std::alloc::Global;
 use std::sync::ledger::Ledger;
-
-/// How many times the bytes of the limit and the image together the copies of what is salvaged may want, where a key counts for each of its data: it is copied
-/// once, but compared for each. Many items of a hostile file may name one chain or one set, and the file that is built may hold it once.
-const COPIES: u64 = 4;
 
 // Why what is salvaged isn't loaded.
 fn repair_refusal(error: LoadError) -> RepairError
@@ -47,8 +43,9 @@ fn answer_of(loaded: Result<Image, LoadError>) -> Result<Image, RepairError>
 }
 
 /// The image of what is salvaged of an image by the given guess, or the one that page 0 tells: a sound file of at most `max` bytes, with one database
-/// of a shape where one is given, and else with those that `salvage` names. Nothing is copied where keys and data, a key for each of its data, have more than
-/// four times the bytes of `max` and the image together: that is want of memory.
+/// of a shape where one is given, and else with those that `salvage` names. Where the data that it keeps have more bytes, nothing is copied. What is copied has
+/// no more bytes than the image, where no items of a page overlap: a chain is copied once, however many items name it, and so is a set. Beside it each pair
+/// takes a place of 32 bytes.
 pub fn repair_as<L: Ledger>(
     alloc: Global,
     image: &[u8],
@@ -63,14 +60,8 @@ pub fn repair_as<L: Ledger>(
     ensures { IsRepaired max shape (chosen guess image.now) image.now result }
 {
     let salvaged = salvage(alloc, image, guess, steps)?;
-    let room = Room {
-        file: max,
-        memory: COPIES * (max + image.len() as u64),
-    };
-    match fit_of(&salvaged, shape, room) {
-        Fit::Fits => {}
-        Fit::Past => return Err(RepairError::TooLarge),
-        Fit::Scarce => return Err(RepairError::Memory),
+    if is_past(&salvaged, shape, max) {
+        return Err(RepairError::TooLarge);
     }
     let sections = repair_sections(alloc, shape, &salvaged)?;
     answer_of(load(alloc, sections, max))

@@ -7,7 +7,9 @@ ghost use Rattle.bdb_settle.specs.Settling.{IsSortedOf, pair_on, place_before};
 
 use crate::leads::{are_sorted, sort_places};
 use crate::order::{keeps_data, stands_before};
-use bdb_mktree::{PairSlice, Place, PlacedPairs, Settings, TextPairs};
+use bdb_mktree::{
+    PairSlice, Place, PlacedKey, PlacedPairs, Settings, Span, TextPairs, are_one,
+};
 use std::alloc::{AllocError, Global};
 
 /// Whether a pair stays where the next one in their order comes.
@@ -48,8 +50,49 @@ fn settle_sorted(settings: &Settings, bytes: &[u8], places: &mut Vec<Place>)
     places.truncate(kept + 1);
 }
 
-/// Pairs in their order; those of which neither stands before the other keep theirs. Where they have another order, their bytes are moved too: so
-/// what goes through them after this finds them one behind the other.
+/// How many bytes stand there.
+fn span_len(span: Span) -> usize {
+    span.end.saturating_sub(span.start) as usize
+}
+
+/// How many bytes a key has; none where it's a number.
+fn key_len(key: PlacedKey) -> usize {
+    match key {
+        PlacedKey::Bytes(span) => span_len(span),
+        PlacedKey::Number(_) => 0,
+    }
+}
+
+/// Whether pairs have more bytes than the run in which they stand. A key that several of them have one behind the other counts once.
+fn share_bytes(bytes: &[u8], places: &[Place]) -> bool {
+    let mut left = bytes.len();
+    for i in 0..places.len() {
+        let is_new = i == 0 || !are_one(places[i - 1].key, places[i].key);
+        let key = if is_new { key_len(places[i].key) } else { 0 };
+        let value = span_len(places[i].value);
+        if left < key || left - key < value {
+            return true;
+        }
+        left -= key + value;
+    }
+    false
+}
+
+/// The pairs at places of a run, whose bytes are moved to where the pairs are: so what goes through them after this finds them one behind the other. Where they
+/// share bytes, these stay where they are.
+fn moved(alloc: Global, bytes: Vec<u8>, places: Vec<Place>) -> Result<TextPairs, AllocError>
+    requires { ArePlaced bytes.items places.items }
+    ensures { IfOk result (λ pairs. pairs ≡ placed_pairs bytes.items places.items) }
+{
+    if share_bytes(bytes.as_slice(), places.as_slice()) {
+        return Ok(TextPairs::from_placed(PlacedPairs { bytes, places }));
+    }
+    let mut pairs = TextPairs::new(alloc);
+    pairs.push_all(PairSlice::at_places(bytes.as_slice(), places.as_slice()))?;
+    Ok(pairs)
+}
+
+/// Pairs in their order; those of which neither stands before the other keep theirs.
 fn sorted_pairs(
     alloc: Global,
     settings: &Settings,
@@ -62,9 +105,7 @@ fn sorted_pairs(
         return Ok(TextPairs::from_placed(PlacedPairs { bytes, places }));
     }
     sort_places(alloc, settings, bytes.as_slice(), &mut places)?;
-    let mut sorted = TextPairs::new(alloc);
-    sorted.push_all(PairSlice::at_places(bytes.as_slice(), places.as_slice()))?;
-    Ok(sorted)
+    moved(alloc, bytes, places)
 }
 
 /// The list of the pairs of a section, whose records aren't filled up.

@@ -12,44 +12,19 @@ use bdb_file::{Datum, KeyView, bytes_in, is_same};
 use bdb_model::{KeyRef, PairRef, TextPairs};
 use std::alloc::{AllocError, Global};
 
-/// Rooms in which the bytes of chains are joined, for all keys and data of a base, and how many bytes may still be copied.
+/// Rooms in which the bytes of chains are joined, for all keys and data of a base.
 #[derive(Drop)]
 pub(crate) struct Rooms {
     key: Vec<u8>,
     value: Vec<u8>,
-    left: u64,
-}
-
-// Bytes that are to be copied, which are counted; an error where too many are.
-fn counted<'r>(bytes: &'r [u8], left: &mut u64) -> Result<&'r [u8], AllocError>
-    ensures { IfOk result (λ lent. lent.now ≡ bytes.now) }
-{
-    *left = left.checked_sub(bytes.len() as u64).ok_or(AllocError)?;
-    Ok(bytes)
-}
-
-// The bytes of a value, to be copied: those of its page, or of its chain, which then lie in a room.
-fn bytes_of<'r>(
-    value: Datum<'r>,
-    room: &'r mut Vec<u8>,
-    left: &mut u64,
-) -> Result<&'r [u8], AllocError>
-    ensures { IfOk result (λ bytes. bytes.now ≡ datum_seen value.entry) }
-{
-    let bytes = bytes_in(value, room)?;
-    counted(bytes, left)
 }
 
 // The key of a list, to be copied.
-fn key_of<'r>(
-    key: KeyView<'r>,
-    room: &'r mut Vec<u8>,
-    left: &mut u64,
-) -> Result<KeyRef<'r>, AllocError>
+fn key_of<'r>(key: KeyView<'r>, room: &'r mut Vec<u8>) -> Result<KeyRef<'r>, AllocError>
     ensures { IfOk result (λ lent. key_seen lent ≡ list_key (key_view_seen key.entry)) }
 {
     match key {
-        KeyView::Bytes(value) => match bytes_of(value, room, left) {
+        KeyView::Bytes(value) => match bytes_in(value, room) {
             Ok(bytes) => Ok(KeyRef::Bytes(bytes)),
             Err(error) => Err(error),
         },
@@ -82,12 +57,11 @@ fn has_last_key(pairs: &TextPairs, key: &KeyView<'_>) -> bool
 }
 
 impl Rooms {
-    /// Rooms without bytes, where so many bytes may be copied.
-    pub(crate) fn new(alloc: Global, most: u64) -> Rooms {
+    /// Rooms without bytes.
+    pub(crate) fn new(alloc: Global) -> Rooms {
         Rooms {
             key: Vec::new(alloc),
             value: Vec::new(alloc),
-            left: most,
         }
     }
 
@@ -101,8 +75,8 @@ impl Rooms {
         ensures { OnOk result (pairs.new ≡ pairs.old ++ text_pair (key_view_seen key.entry, datum_seen value.entry) ∷ []) }
     {
         pairs.push(PairRef {
-            key: key_of(key, &mut self.key, &mut self.left)?,
-            value: bytes_of(value, &mut self.value, &mut self.left)?,
+            key: key_of(key, &mut self.key)?,
+            value: bytes_in(value, &mut self.value)?,
             line: 0,
         })
     }
@@ -116,7 +90,7 @@ impl Rooms {
         requires { 0 < length pairs.old }
         ensures { OnOk result (pairs.new ≡ pairs.old ++ pair_with (last_key pairs.old) (datum_seen value.entry) 0 ∷ []) }
     {
-        pairs.push_with_last_key(bytes_of(value, &mut self.value, &mut self.left)?, 0)
+        pairs.push_with_last_key(bytes_in(value, &mut self.value)?, 0)
     }
 }
 

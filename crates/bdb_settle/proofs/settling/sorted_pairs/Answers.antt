@@ -1,6 +1,5 @@
-use Rattle.std.proofs.Common.{List, ◌++◌, ◌∙◌, ap}
-use Rattle.bdb_mktree.specs.of_text_format.Placed.{slice_seen}
-use Rattle.bdb_mktree.specs.of_text_format.declared.pairs.TextPair.{TextPair}
+use Rattle.std.proofs.lemmas.List.Sorted.{All-permutation}
+use Rattle.bdb_mktree.specs.of_text_format.Placed.{IsPlaced}
 use Rattle.bdb_settle.proofs.PlaceLemmas.{sorted_of, sorted_still}
 use Rattle.bdb_settle.proofs.settling.sorted_pairs.Goals as goal
 
@@ -11,11 +10,11 @@ returns-then-are_sorted c =
     c.as_slice-2.result.now c.args.pairs c.from_placed.result c.as_slice.ensures.value c.as_slice-2.ensures.value
     (c.are_sorted.ensures c.if-are_sorted.true) c.into_placed-bytes.ensures.pairs c.from_placed.ensures
 
--- They are copied as their places lie.
+-- They stand as their places lie.
+pub moved-requires : goal.moved-requires
+moved-requires c =
+    All-permutation (IsPlaced c.into_placed-bytes.result.bytes.items) c.into_placed-bytes.result.places.items c.sort_places.new.places.items
+    c.sort_places.ensures.moved c.into_placed-bytes.ensures.placed
+
 pub returns : goal.returns
-returns c =
-    sorted_of c.args.settings.now c.into_placed-bytes.result.bytes.items c.as_slice-3.result.now c.as_slice-4.result.now
-    c.into_placed-bytes.result.places.items c.sort_places.new.places.items c.as_slice-5.result.now c.args.pairs c.push_all.new.self
-    c.as_slice-3.ensures.value c.as_slice-4.ensures.value c.as_slice-5.ensures.value c.sort_places.ensures.moved c.in_ok-sort_places.ensures.sorted
-    c.sort_places.ensures.stable c.into_placed-bytes.ensures.pairs
-    (c.in_ok-push_all.ensures ∙ (ap (λ (ps : List TextPair). ps ++ slice_seen c.at_places.result) c.new-sorted.ensures ∙ c.at_places.ensures))
+returns c = ?
