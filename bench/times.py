@@ -10,8 +10,9 @@ how pages and seconds grew from the row above. A kind ends where a run takes a m
 longest input. `kinds` has `verify` beside `db5.3_verify` and `md5sum` on files of each kind of about 100 MB, seconds of user time, and
 beside `cat`, seconds of system time; and `chains` has it on chains of pages that grow longer, one by one: seconds of user time. `dump`
 stands beside `db5.3_dump -k`, on a file of each kind: seconds of user time, and peak memory. `range` stands beside `verify`, `get` and
-`dump`, on a btree of a million pairs: of ten pairs, of a thousand and of all. `load` stands beside `db5.3_load`, on the texts that `dump`
-gives of such files and of files with a quarter of the items, and on those of a btree and a hash with their pairs in no order. `convert`
+`dump`, on a btree of a million pairs: of ten pairs, of a thousand and of all. `load` stands beside `db5.3_load` and `md5sum`, on the texts that `dump`
+and `dump --print` give of such files, of files whose data are lines of 40 to 90 bytes, and of files with a quarter of the items, and on
+those of a btree and a hash with their pairs in no order. `convert`
 stands beside `verify` and a copy by `cat`, on a file of each kind, and `stat` beside `verify` and `db5.3_stat -f`: seconds of user time,
 and of user and system time, of runs by turns. `salvage` stands beside `db5.3_dump -r`, on the files of `kinds`, and on each of them with
 every hundredth page overwritten by other bytes: seconds of user time, peak memory, and how many pairs or records each gives. `repair`
@@ -78,10 +79,12 @@ RANGE_COLUMNS = ("Command", "Pairs", "`bdbtool`", "Above `verify`", "Peak of `bd
 
 # `load`
 LOAD_COLUMNS = (
-    *("Text", "Items", "Bytes of the text", "Bytes of the file", "`bdbtool`", "`db5.3_load`", "Ratio"),
+    *("Text", "Spelling", "Items", "Bytes of the text", "Bytes of the file", "`bdbtool`", "`db5.3_load`", "Ratio", "`md5sum`", "Ratio"),
     *("`bdbtool` grew", "Peak of `bdbtool`, bytes", "Bytes an item above the text and the file"),
 )
-SCATTERED = ("btree", "hash")
+SPELLINGS = {"bytevalue": [], "print": ["--print"]}
+LETTERS, LEAST_LINE, LINE_LENGTHS = 100_003, 40, 51
+SCATTERED = ("btree", "hash", "btree, lines", "hash, lines")
 
 # `salvage`
 DAMAGED, SEED = 100, 20261128
@@ -157,6 +160,19 @@ def records(count):
 def long_pairs(count, length):
     """Keys of eight digits, and data of so many letters."""
     return (f" {i:08x}\n {'z' * length}\n" for i in range(count))
+
+
+def lines_of_text(count):
+    """Lines of 40 to 90 bytes, from space to tilde, always the same."""
+    letters = "".join(random.Random(SEED).choices([chr(byte) for byte in range(32, 127) if byte != 92], k=LETTERS))
+    for i in range(count):
+        start = i * 7919 % (LETTERS - 2 * LEAST_LINE - LINE_LENGTHS)
+        yield letters[start : start + LEAST_LINE + i * 31 % LINE_LENGTHS]
+
+
+def pairs_of_lines(count):
+    """Keys of eight digits in ascending order, and a line each."""
+    return (f" {i:08x}\n {line}\n" for i, line in enumerate(lines_of_text(count)))
 
 
 def repeated_keys(count, data):
@@ -300,6 +316,16 @@ def samples(share=1):
     ]
 
 
+def load_samples(share=1):
+    """The files to load the texts of: those to dump, and such whose data are lines."""
+    many = MILLION // share
+    return samples(share) + [
+        Sample("btree, lines", "btree", many, pairs_of_lines(many)),
+        Sample("hash, lines", "hash", many, pairs_of_lines(many)),
+        Sample("recno, lines", "recno", many, (f" {line}\n" for line in lines_of_text(many))),
+    ]
+
+
 def print_dump(program, sample, folder):
     """A row of the table of `dump`."""
     image = make(sample.name, sample.kind, sample.lines, folder)
@@ -362,40 +388,47 @@ def shuffle(text):
         shuffled.write(lines[-1])
 
 
-def print_load(program, name, sample, folder, before):
+def print_load(program, name, spelling, sample, folder, before):
     """A row of the table of `load`, on a text that is already there, and what the program took."""
     text, built = folder / "text", folder / "built.db"
     with text.open("rb") as standard_input, built.open("wb") as standard_output:
         subprocess.run([program, "load"], stdin=standard_input, stdout=standard_output, check=True)
     size = built.stat().st_size
-    commands = ([program, "load"], ["db5.3_load", "-h", folder, built])
-    own, original = map(least_of, turns(commands, text, RUNS, lambda: built.unlink(missing_ok=True)))
+    commands = ([program, "load"], ["db5.3_load", "-h", folder, built], ["md5sum"])
+    own, original, sums = map(least_of, turns(commands, text, RUNS, lambda: built.unlink(missing_ok=True)))
     long = text.stat().st_size
     grew = "–" if before is None else f"× {own.user / before.user:.1f}"
     above = max(0, own.peak - long - size) / sample.items
-    times = [f"{own.user:.3g}", f"{original.user:.3g}", f"{own.user / original.user:.3g}"]
-    print_row([name, f"{sample.items:,}", f"{long:,}", f"{size:,}", *times, grew, f"{own.peak:,}", f"{above:.1f}"])
+    ratios = [f"{own.user:.3g}", f"{original.user:.3g}", f"{own.user / original.user:.3g}", f"{sums.user:.3g}", f"{own.user / sums.user:.3g}"]
+    print_row([name, spelling, f"{sample.items:,}", f"{long:,}", f"{size:,}", *ratios, grew, f"{own.peak:,}", f"{above:.1f}"])
     return own
 
 
-def load_both(program, sample, folder, before):
-    """The rows of the text that `dump` gives of a file, and of the same text with its pairs in no order where the kind has keys."""
-    image, text = make(sample.name, sample.kind, sample.lines, folder), folder / "text"
+def load_spelling(program, sample, spelling, image, folder, before):
+    """The rows of the text that `dump` gives of a file in a spelling, and of the same text with its pairs in no order where the kind has keys."""
+    text = folder / "text"
     with image.open("rb") as standard_input, text.open("wb") as standard_output:
-        subprocess.run([program, "dump"], stdin=standard_input, stdout=standard_output, check=True)
-    image.unlink()
-    spent = [print_load(program, sample.name, sample, folder, before[0])]
+        subprocess.run([program, "dump", *SPELLINGS[spelling]], stdin=standard_input, stdout=standard_output, check=True)
+    rows = [print_load(program, sample.name, spelling, sample, folder, before[0])]
     if sample.name in SCATTERED:
         scatter(text)
-        spent.append(print_load(program, f"{sample.name}, in no order", sample, folder, before[-1]))
-    return spent
+        rows.append(print_load(program, f"{sample.name}, in no order", spelling, sample, folder, before[-1]))
+    return rows
+
+
+def load_both(program, sample, folder, before):
+    """The rows of a file's texts in both spellings. `before` has what the rows of a smaller one took, by spelling."""
+    image = make(sample.name, sample.kind, sample.lines, folder)
+    rows = {spelling: load_spelling(program, sample, spelling, image, folder, before.get(spelling, [None])) for spelling in SPELLINGS}
+    image.unlink()
+    return rows
 
 
 def time_load(program, folder):
     """The table of `load`."""
     print_head(LOAD_COLUMNS)
-    for quarter, whole in zip(samples(4), samples()):
-        load_both(program, whole, folder, load_both(program, quarter, folder, [None, None]))
+    for quarter, whole in zip(load_samples(4), load_samples()):
+        load_both(program, whole, folder, load_both(program, quarter, folder, {}))
 
 
 def free_list(pages, folder):

@@ -10,7 +10,8 @@ ghost use Rattle.bdb_tree.specs.of_format.Chains.{value_of};
 ghost use Rattle.bdb_tree.specs.of_format.ContentRows.{is_duplicate, is_wrong_set};
 ghost use Rattle.bdb_tree.specs.of_format.Contents.{data_of};
 ghost use Rattle.bdb_tree.specs.of_format.File.{file_of};
-ghost use Rattle.bdb_tree.specs.of_format.Page.{Inline, Tree};
+ghost use Rattle.bdb_tree.specs.of_format.Page.{Inline};
+ghost use Rattle.bdb_tree.specs.Noted.{set_root};
 
 use crate::Data;
 use crate::place::PairPlace;
@@ -188,9 +189,9 @@ impl<'a> Pair<'a> {
         matches!(self.item, HashItem::Set(_) | HashItem::OffPage { .. })
     }
 
-    /// The root of its data, if they are a set off the page.
+    /// The root of its data; `None` exactly where they aren't a set off the page.
     pub fn set_root(&self) -> Option<u32>
-        ensures set { IfSome result (λ root. self.now.pair.data_item ≡ Tree root) }
+        ensures set { result ≡ set_root self.now.pair.data_item }
         ensures pair { IsPair self.now.image self.now.pair.data_item }
     {
         match self.item {

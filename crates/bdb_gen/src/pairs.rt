@@ -1,12 +1,11 @@
-ghost use Rattle.std.specs.Prelude.{◌≡◌, ◌<◌, ◌≤◌, ◌^◌, ◌++◌, ◌∷◌, [], IfOk, OnOk, map};
+ghost use Rattle.std.specs.Prelude.{◌≡◌, ◌<◌, ◌≤◌, ◌^◌, ◌++◌, ◌∷◌, [], IfOk, OnOk};
 ghost use Rattle.std.specs.Int.{to_be_bytes};
 ghost use Rattle.bdb_text_format.specs.of_format.declared.kinds.Order.TheVariants.{Big};
 ghost use Rattle.bdb_text_format.specs.of_format.Numbers.{spelled};
-ghost use Rattle.bdb_text_format.specs.Pairs.{unnumbered};
 ghost use Rattle.bdb_text_format.specs.Placed.{key_seen};
 ghost use Rattle.bdb_gen.specs.Generated.{generated, next_number, pair_key, pair_of, value_length};
 
-use bdb_text_format::{KeyRef, Kind, PairRef, TextPairs};
+use bdb_text_format::{KeyRef, Kind, PairList};
 use std::alloc::{AllocError, Global};
 
 /// More bytes than a datum has.
@@ -69,28 +68,24 @@ fn push_pair(
     x: u32,
     i: u32,
     room: &mut Vec<u8>,
-    list: &mut TextPairs,
+    list: &mut PairList,
 ) -> Result<(), AllocError>
     requires { i < 200000 }
-    ensures { OnOk result (list.new ≡ list.old ++ unnumbered (pair_of kind x i) ∷ []) }
+    ensures { OnOk result (list.new ≡ list.old ++ pair_of kind x i ∷ []) }
 {
     let data = [(i % 256) as u8; MOST];
-    list.push(PairRef {
-        key: pair_key(kind, x, i, room)?,
-        value: &data[..value_length(kind, x)],
-        line: 0,
-    })
+    list.push_lent(pair_key(kind, x, i, room)?, &data[..value_length(kind, x)])
 }
 
-/// So many pairs for a database of this kind, which follow from the seed. None has a line.
+/// So many pairs for a database of this kind, which follow from the seed.
 #[tactic(auto, using(crate::proofs::PairLemmas::number_next, crate::proofs::PairLemmas::pairs_none, crate::proofs::PairLemmas::pairs_next))]
-pub fn generate(alloc: Global, kind: Kind, seed: u32, count: u32) -> Result<TextPairs, AllocError>
+pub fn generate(alloc: Global, kind: Kind, seed: u32, count: u32) -> Result<PairList, AllocError>
     requires seed { seed < 2 ^ 31 }
     requires count { count ≤ 200000 }
-    ensures { IfOk result (λ list. list ≡ map unnumbered (generated kind seed count)) }
+    ensures { IfOk result (λ list. list ≡ generated kind seed count) }
 {
     let mut room = Vec::new(alloc);
-    let mut list = TextPairs::new(alloc);
+    let mut list = PairList::new(alloc);
     let mut x = seed;
     for i in 0..count {
         push_pair(kind, x, i, &mut room, &mut list)?;

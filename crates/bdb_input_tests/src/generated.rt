@@ -1,6 +1,6 @@
 // The first and the last pair of generated lists, worked out by hand from docs/FORMAT.md, "Generated pairs".
 use bdb_gen::generate;
-use bdb_model::{KeyRef, Kind, TextPairs};
+use bdb_model::{KeyRef, Kind, PairList};
 use std::alloc::{AllocError, Global};
 use std::test::Fail;
 
@@ -81,7 +81,7 @@ fn pairs_of(
     kind: Kind,
     seed: u32,
     count: u32,
-) -> Result<Option<TextPairs>, AllocError> {
+) -> Result<Option<PairList>, AllocError> {
     if seed > 2147483647 || count > 200000 {
         return Ok(None);
     }
@@ -99,7 +99,7 @@ fn is_key(kind: Kind, key: KeyRef<'_>, bytes: &[u8], place: usize) -> bool {
 }
 
 // Whether the pair at a place has a key, and data of a length whose bytes all say the place.
-fn is_pair_at(kind: Kind, list: &TextPairs, place: usize, key: &[u8], long: usize) -> bool {
+fn is_pair_at(kind: Kind, list: &PairList, place: usize, key: &[u8], long: usize) -> bool {
     if place >= list.len() {
         return false;
     }
@@ -110,7 +110,7 @@ fn is_pair_at(kind: Kind, list: &TextPairs, place: usize, key: &[u8], long: usiz
 }
 
 // Whether a list has as many pairs as its row says, and the first and the last one of it.
-fn is_row(kind: Kind, list: &TextPairs, row: Row) -> bool {
+fn is_row(kind: Kind, list: &PairList, row: Row) -> bool {
     let (_, count, first, first_long, last, last_long) = row;
     let last_place = list.len().saturating_sub(1);
     list.len() == count as usize

@@ -1,5 +1,5 @@
 // Dump texts that are read, field by field.
-use bdb_model::{Bytes, Kind, Order, Settings};
+use bdb_model::{Bytes, Key, Kind, Order, Pair, PairList, Settings};
 use bdb_text::{KeyRef, PairRef, PairSlice, Section, Sections, TextPairs, read_dump};
 use std::alloc::{AllocError, Global};
 use std::test::Fail;
@@ -407,6 +407,45 @@ const PUSHED: [Wanted; 4] = [
 fn pairs_are_a_list(rt: HostRuntime) -> Result<(), Fail> {
     let mut pairs = TextPairs::new(rt.alloc());
     assert!(rt; pairs.is_empty() && are_pushed(&mut pairs)?);
+    Ok(())
+}
+
+// Whether pairs give the one at a place, none behind them, and the last as it is taken off, until there is none.
+fn are_given(alloc: Global, pairs: &mut TextPairs) -> Result<bool, AllocError> {
+    pairs.push(PairRef {
+        key: KeyRef::Bytes(b"k"),
+        value: b"one",
+        line: 9,
+    })?;
+    let stands = pairs.get(0).map(|pair| pair.line) == Some(9) && pairs.get(1).is_none();
+    let line = pairs.pop(alloc)?.map(|pair| pair.line);
+    Ok(stands && line == Some(9) && pairs.is_empty() && pairs.pop(alloc)?.is_none())
+}
+
+#[test]
+fn pairs_are_given(rt: HostRuntime) -> Result<(), Fail> {
+    let mut pairs = TextPairs::new(rt.alloc());
+    assert!(rt; are_given(rt.alloc(), &mut pairs)?);
+    Ok(())
+}
+
+// Whether a list has its pair, without a line, and gives it to a section.
+fn is_listed(alloc: Global) -> Result<bool, AllocError> {
+    let mut list = PairList::new(alloc);
+    let mut value = Bytes::new(alloc);
+    value.push_all(b"one")?;
+    list.push(Pair {
+        key: Key::Number(7),
+        value,
+    })?;
+    let stands = !list.is_empty() && list.len() == 1 && list.as_slice().len() == 1;
+    let line = list.get(0).map(|pair| pair.line);
+    Ok(stands && line == Some(0) && list.into_pairs().len() == 1)
+}
+
+#[test]
+fn lists_have_pairs(rt: HostRuntime) -> Result<(), Fail> {
+    assert!(rt; is_listed(rt.alloc())?);
     Ok(())
 }
 

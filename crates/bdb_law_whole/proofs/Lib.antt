@@ -2,6 +2,7 @@ pub mod AlikeLemmas
 pub mod ChainLemmas
 pub mod ItemLemmas
 pub mod KeptLemmas
+pub mod MetaLemmas
 pub mod PageLemmas
 pub mod PairLemmas
 pub mod SetLemmas

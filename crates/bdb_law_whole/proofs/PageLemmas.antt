@@ -6,11 +6,11 @@ use Rattle.bdb_survey.specs.of_format.declared.kinds.Order.{Order}
 use Rattle.bdb_survey.specs.of_format.declared.metadata.FileKind.TheVariants.{Queue}
 use Rattle.bdb_survey.specs.of_format.declared.metadata.Head.{Head}
 use Rattle.bdb_survey.specs.of_format.File.{file_of, page_at, page_bytes}
-use Rattle.bdb_survey.specs.of_format.HeadOf.{head_of}
+use Rattle.bdb_survey.specs.of_format.HeadOf.{head_of, is_page_size}
 use Rattle.bdb_survey.specs.of_format.Numbers.{byte_at, four_at}
 use Rattle.bdb_survey.specs.of_format.Page.{Page, Zero, NoType}
-use Rattle.bdb_survey.specs.of_format.Reading.{abstract_page, is_zero, page_type}
-use Rattle.bdb_survey.specs.of_format.Rows.{body_code, identity_rows, is_tree_type, page_code}
+use Rattle.bdb_survey.specs.of_format.Reading.{is_zero, page_type}
+use Rattle.bdb_survey.specs.of_format.Rows.{body_code, form_code, identity_rows, is_tree_type, page_code}
 use Rattle.bdb_survey.specs.of_format.Table.{first_row}
 use Rattle.bdb_survey.specs.of_format.Verdict.{head_faults, holding, tail_faults, tail_rows}
 use Rattle.bdb_survey.proofs.of_format.VerdictLemmas.{all_fail, no_codes_at, none_is_first_row, none_within, or_else_none}
@@ -21,8 +21,12 @@ use Rattle.bdb_survey.proofs.of_image.CodeLemmas.{code_by}
 use Rattle.bdb_survey.proofs.of_image.FirstLemmas.{formed_last, formed_page}
 use Rattle.bdb_survey.proofs.of_image.HeldLemmas.{identity_none}
 use Rattle.bdb_survey.proofs.of_graph.LinkedLemmas.{forest_code}
-use Rattle.bdb_survey.proofs.of_overflow.LinkedLemmas.{count_is}
-use Rattle.bdb_survey.specs.Salvage.{salvaged_page, unless_code}
+use Rattle.bdb_survey.proofs.of_overflow.LinkedLemmas.{count_is, legal_size}
+use Rattle.bdb_survey.specs.Salvage.{meta_code, salvaged_page}
+use Rattle.bdb_survey.proofs.MetaLemmas.{both_none}
+use Rattle.bdb_survey.proofs.of_format.SizeLemmas.{size_bounds}
+use Rattle.bdb_survey.proofs.of_overflow.WholeLemmas.{page_length}
+use Rattle.bdb_law_whole.proofs.MetaLemmas.{meta_none, zero_none}
 use Rattle.bdb_survey.proofs.StoredPageLemmas.{page_is, page_past}
 use Rattle.bdb_survey.proofs.StoredPageLemmas.{count_is as salvaged_count}
 use Rattle.bdb_law_whole.specs.Guessed.{guessed}
@@ -53,10 +57,15 @@ own_code order p page none =
       | inr some ↦ ap (λ n. page_code order n page) (own_number order p page some none) ∙ none
     ]
 
-salvaged_same : (order : Order) (page : List ℕ) → page_code order (four_at order page 8) page ≡ None
-    → salvaged_page order page ≡ abstract_page order page
-unfolding salvaged_page
-salvaged_same order page none = ap (λ code. unless_code code (abstract_page order page)) none
+-- nor one of metadata
+own_meta : (head : Head) (p more : ℕ) (page : List ℕ) → is_page_size (length page) ≡ true → form_code head p page ≡ None
+    → page_code head.order p page ≡ None → head.last ≤ more
+    → meta_code head.order more page (page_type (byte_at page 25)) ≡ None
+own_meta head p more page legal form none later =
+    elim (cases_Bool (is_zero page)) [
+      | inl zeros ↦ zero_none head.order more page zeros
+      | inr some ↦ meta_none head p more page legal form (own_number head.order p page some none) later
+    ]
 
 -- the last page is one of the whole pages of the image
 pub last_there : (image : List ℕ) → IsForest image → (file_of image).last < length image / (head_of image).page_size
@@ -69,11 +78,16 @@ same_page image p forest kind low =
     let head : Head = head_of image in
     let inside : p ≤ head.last = omega (arith, low, last_page image) in
     let there : p < length image / head.page_size = omega (arith, low, last_there image forest) in
-    let code : page_code head.order p (page_bytes head image p) ≡ None =
-    forest_code head p (page_bytes head image p) kind (formed_page image p forest.formed.form inside) in
+    let page : List ℕ = page_bytes head image p in
+    let form : form_code head p page ≡ None = formed_page image p forest.formed.form inside in
+    let code : page_code head.order p page ≡ None = forest_code head p page kind form in
+    let legal : is_page_size head.page_size ≡ true = legal_size image forest in
+    let size : length page ≡ head.page_size = page_length head.page_size image p (omega (arith, (size_bounds head.page_size legal).0)) there in
+    let last : ℕ = length image / head.page_size - 1 in
+    let meta : meta_code head.order last page (page_type (byte_at page 25)) ≡ None =
+    own_meta head p last page (ap is_page_size size ∙ legal) form code (omega (arith, last_there image forest, last_page image)) in
     page_is head.order head.page_size image p there
-    ∙ (salvaged_same head.order (page_bytes head image p) (own_code head.order p (page_bytes head image p) code)
-    ∙ sym (file_page image p inside))
+    ∙ (both_none head.order last page (own_code head.order p page code) meta ∙ sym (file_page image p inside))
 
 -- The pages above the last.
 
@@ -89,9 +103,9 @@ tail_zero image p forest past there =
     no_codes_at 1 (head.last + 1) (head.pages - (head.last + 1)) p (λ q. holding (tail_rows head image q)) none (omega arith) (omega arith) in
     not-false (is_zero (page_bytes head image p)) (all_fail (tail_rows head image p) codes).0
 
-salvaged_zero : (order : Order) (page : List ℕ) → is_zero page ≡ true → salvaged_page order page ≡ Zero
-salvaged_zero order page zeros =
-    salvaged_same order page (zero_code order (four_at order page 8) page zeros) ∙ zero_page order page zeros
+salvaged_zero : (order : Order) (last : ℕ) (page : List ℕ) → is_zero page ≡ true → salvaged_page order last page ≡ Zero
+salvaged_zero order last page zeros =
+    both_none order last page (zero_code order (four_at order page 8) page zeros) (zero_none order last page zeros) ∙ zero_page order page zeros
 
 above : (image : List ℕ) (p : ℕ) → IsForest image → (file_of image).last < p
     → (page_at (guessed image) p ≡ Zero) ⊎ (page_at (guessed image) p ≡ NoType)
@@ -101,7 +115,7 @@ above image p forest past =
       | inr outside ↦ inr (page_past head.order head.page_size image p outside)
       | inl there ↦
           inl (page_is head.order head.page_size image p there
-          ∙ salvaged_zero head.order (page_bytes head image p)
+          ∙ salvaged_zero head.order (length image / head.page_size - 1) (page_bytes head image p)
           (tail_zero image p forest (omega (arith, past, last_page image)) (omega (arith, there, pages_are image, count_is image))))
     ]
 

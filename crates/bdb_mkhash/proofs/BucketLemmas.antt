@@ -18,7 +18,7 @@ use Rattle.bdb_mkhash.specs.Buckets.{bits_for, buckets_of, keyed_of, table_units
 -- How many buckets.
 
 -- the first number that passes
-pub found_at : (test : ℕ → Bool) (a n d k : ℕ) → a ≤ k → k < a + n → test k ≡ true → ((j : ℕ) → a ≤ j → j < k → test j ≡ false)
+found_at : (test : ℕ → Bool) (a n d k : ℕ) → a ≤ k → k < a + n → test k ≡ true → ((j : ℕ) → a ≤ j → j < k → test j ≡ false)
     → unwrap_or (find test (range_with_len a n)) d ≡ k
 found_at test a zero d k low high passes none = absurd (omega (arith, low, high))
 found_at test a (suc n) d k low high passes none =
@@ -32,7 +32,7 @@ found_at test a (suc n) d k low high passes none =
           grind (arith, here, rest)
     ]
 
-pub bits_found : (size cost bits : ℕ) → 1 ≤ bits → bits ≤ 21 → cost ≤ 2 ^ bits * (page_room size / 2)
+pub bits_found : (size cost bits : ℕ) → 1 ≤ bits → bits ≤ 31 → cost ≤ 2 ^ bits * (page_room size / 2)
     → ((k : ℕ) → 1 ≤ k → k < bits → 2 ^ k * (page_room size / 2) < cost) → bits ≡ bits_for size cost
 bits_found size cost bits some few enough more =
     sym (found_at (λ k. nat_le cost (2 ^ k * (page_room size / 2))) 1 31 32 bits some (omega (arith, few))

@@ -1,6 +1,6 @@
 -- What data take of a page of a table.
 use Rattle.std.proofs.Common.{◌≡◌, ℕ, ◌+◌, ◌-◌, ◌<◌, ◌≤◌, Bool, true, false, cond, List, [], ◌∷◌, length, get_or, take, arith, refl, sym, ◌∙◌, ap, inl, inr}
-use Rattle.std.specs.Prelude.{◌/◌, ◌&&◌, nat_le}
+use Rattle.std.specs.Prelude.{◌/◌, ◌&&◌, nat_le, Option, Some, None}
 use Rattle.std.specs.List.{All, list_all, sum_by}
 use Rattle.std.proofs.lemmas.Bool.{and_left, and_parts, and_right, cases_lt, le-leb, leb-true, lt-leb}
 use Rattle.std.proofs.lemmas.List.Elements.{All-cons, All-nil}
@@ -8,7 +8,8 @@ use Rattle.std.proofs.lemmas.List.Folds.{list_all_at, list_all_more}
 use Rattle.std.proofs.lemmas.List.Sums.{sum_by-take-le, sum_by_more, sum_by_more_le}
 use Rattle.bdb_mktree.specs.of_format.HeadOf.{is_page_size}
 use Rattle.bdb_mktree.proofs.of_format.SizeLemmas.{size_bounds}
-use Rattle.bdb_mkhash.specs.Costs.{cost_in, data_cost, data_form, first_value, is_inline, hash_item_cost, blocks_cost, stand_together}
+use Rattle.bdb_mktree.specs.of_mkleaves.Units.{page_room}
+use Rattle.bdb_mkhash.specs.Costs.{cost_in, data_cost, data_form, first_value, is_inline, hash_item_cost, blocks_cost, set_or_none, stand_together}
 use Rattle.bdb_mkhash.specs.declared.form.DataForm.{DataForm}
 use Rattle.bdb_mkhash.specs.declared.form.DataForm.TheVariants.{One, Set, Tree}
 
@@ -114,3 +115,57 @@ data_few size values legal = by_form (data_form size values) refl
     by_form One is = let few = item_few size (first_value values) legal in let bounds = size_bounds size legal in omega (arith, few, bounds.0)
     by_form Set is = let few = together_few size values (set_together size values (sym is)) in omega (arith, few)
     by_form Tree is = let bounds = size_bounds size legal in omega (arith, bounds.0)
+
+-- A set, datum by datum.
+
+-- The data before a place stand in their items, and take so much, which is not too much.
+pub record SetSoFar (size : ℕ) (values : List (List ℕ)) (i cost : ℕ) : Type 0 where
+  pub sum : cost ≡ 3 + sum_by (λ value. 4 + length value) (take i values)
+  pub inline : list_all (is_inline size) (take i values) ≡ true
+  pub few : cost ≤ (size - 26) / 4
+
+pub set_begun : (size : ℕ) (values : List (List ℕ)) → is_page_size size ≡ true → SetSoFar size values 0 3
+set_begun size values legal =
+    let bounds = size_bounds size legal in record { sum = refl; inline = refl; few = omega (arith, bounds) }
+
+pub set_long : (size : ℕ) (values : List (List ℕ)) (i : ℕ) (value : List ℕ) (len : ℕ) → i < length values → value ≡ get_or values i [] → len ≡ length value
+    → size / 8 < len → None ≡ set_or_none size values
+set_long size values i value len within is long much = grind (arith, Some, None, long_apart)
+
+pub set_more : (size : ℕ) (values : List (List ℕ)) (i cost : ℕ) (value : List ℕ) (len : ℕ) → SetSoFar size values i cost → i < length values
+    → value ≡ get_or values i [] → len ≡ length value → len ≤ size / 8 → cost + (4 + len) ≤ (size - 26) / 4
+    → SetSoFar size values (i + 1) (cost + (4 + len))
+set_more size values i cost value len was within is long short few = grind (arith, cost_more, inline_more)
+
+pub set_much : (size : ℕ) (values : List (List ℕ)) (i cost : ℕ) (value : List ℕ) (len : ℕ) → SetSoFar size values i cost → i < length values
+    → value ≡ get_or values i [] → len ≡ length value → (size - 26) / 4 < cost + (4 + len) → None ≡ set_or_none size values
+set_much size values i cost value len was within is long much =
+    let one = long ∙ ap length is in
+    let step = cost_more values i within in
+    let before = was.sum in
+    sym (ap (λ b. cond b (Some (blocks_cost values)) None)
+    (much_apart size (cost + (4 + len)) values (i + 1) (omega (arith, one, step, before)) much))
+
+-- they stand together, or not
+pub set_form : (size : ℕ) (values : List (List ℕ)) (cost : ℕ) → 0 < length values → (length values ≡ 1 → ⊥) → Some cost ≡ set_or_none size values
+    → (Set ≡ data_form size values) × (cost ≡ data_cost size values)
+set_form size values cost some many is = by_test (stand_together size values) (form_more size values many (λ none. omega (arith, some, none))) is
+  where
+    by_test : (b : Bool) → data_form size values ≡ cond b Set Tree → Some cost ≡ cond b (Some (blocks_cost values)) None
+        → (Set ≡ data_form size values) × (cost ≡ data_cost size values)
+    by_test true form one = (sym form, cc one ∙ ap (λ f. cost_in f size values) (sym form))
+    by_test false form one = absurd (cc one)
+
+pub tree_form : (size : ℕ) (values : List (List ℕ)) → 0 < length values → (length values ≡ 1 → ⊥) → None ≡ set_or_none size values
+    → (Tree ≡ data_form size values) × (10 ≡ data_cost size values)
+tree_form size values some many is = by_test (stand_together size values) (form_more size values many (λ none. omega (arith, some, none))) is
+  where
+    by_test : (b : Bool) → data_form size values ≡ cond b Set Tree → None ≡ cond b (Some (blocks_cost values)) None
+        → (Tree ≡ data_form size values) × (10 ≡ data_cost size values)
+    by_test true form one = absurd (cc one)
+    by_test false form one = (sym form, ap (λ f. cost_in f size values) (sym form))
+
+-- a key with its data fits a page
+pub unit_fits : (size : ℕ) (key : List ℕ) (values : List (List ℕ)) → is_page_size size ≡ true
+    → hash_item_cost size key + data_cost size values ≤ page_room size
+unit_fits size key values legal = grind (arith, size_bounds, item_few, data_few)

@@ -8,11 +8,11 @@ use Rattle.bdb_mktree.specs.of_mkleaves.Spread.{spread_on}
 use Rattle.bdb_mktree.specs.of_mkleaves.Units.{TreeUnit, key_of, page_room}
 use Rattle.bdb_mktree.specs.Lists.{keyed_units}
 use Rattle.bdb_law_buckets.specs.Tables.{Keyed, dealt}
-use Rattle.bdb_mkhash.specs.Costs.{keyed_own_pages, keyed_cost}
+use Rattle.bdb_mkhash.specs.Costs.{keyed, keyed_own_pages, keyed_cost}
 
 -- a key with all its data, as the list of a btree has it
 abbrev pub keyed_of : TreeUnit → Keyed
-keyed_of unit = record { key = key_of unit; values = values_in unit }
+keyed_of unit = keyed (key_of unit) (values_in unit)
 
 -- the keys of a list, each with all its data
 abbrev pub table_units : List Pair → List Keyed

@@ -1,5 +1,5 @@
 -- What a key and its data take of a page of a table, and the pages of their own. Source: docs/FORMAT.md, "Built tables".
-use Rattle.std.specs.Prelude.{ℕ, ◌+◌, ◌-◌, ◌/◌, nat_le, ◌&&◌, if◌then◌else◌, Bool, List, [], ◌∷◌, length}
+use Rattle.std.specs.Prelude.{ℕ, ◌+◌, ◌-◌, ◌/◌, nat_le, ◌&&◌, if◌then◌else◌, Bool, List, [], ◌∷◌, length, Option, Some, None}
 use Rattle.std.specs.List.{list_all, sum_by}
 use Rattle.bdb_mktree.specs.of_mkleaves.Spread.{set_pages}
 use Rattle.bdb_mktree.specs.of_mkleaves.Units.{chain_pages}
@@ -23,6 +23,10 @@ blocks_cost values = 3 + sum_by (λ value. 4 + length value) values
 abbrev pub stand_together : ℕ → List (List ℕ) → Bool
 stand_together size values = list_all (is_inline size) values && nat_le (blocks_cost values) ((size - 26) / 4)
 
+-- what they take as a set on the page, where they stand together
+abbrev pub set_or_none : ℕ → List (List ℕ) → Option ℕ
+set_or_none size values = if stand_together size values then Some (blocks_cost values) else None
+
 -- how the data of a key stand: one alone, a set on the page, or a tree of their own
 abbrev pub data_form : ℕ → List (List ℕ) → DataForm
 data_form size [] = Tree
@@ -43,6 +47,9 @@ abbrev pub data_cost : ℕ → List (List ℕ) → ℕ
 data_cost size values = cost_in (data_form size values) size values
 
 -- a key with all its data
+abbrev pub keyed : List ℕ → List (List ℕ) → Keyed
+keyed key values = record { key = key; values = values }
+
 abbrev pub keyed_cost : ℕ → Keyed → ℕ
 keyed_cost size unit = hash_item_cost size unit.key + data_cost size unit.values
 

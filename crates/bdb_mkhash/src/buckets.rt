@@ -5,7 +5,7 @@ ghost use Rattle.bdb_mktree.specs.of_places.Places.{values_seen};
 ghost use Rattle.bdb_mktree.specs.of_text_format.Placed.{pairs_of};
 ghost use Rattle.bdb_law_buckets.specs.Tables.{Keyed, bucket_among};
 ghost use Rattle.bdb_mktree.specs.Lists.{HasBytes};
-ghost use Rattle.bdb_mkhash.specs.Buckets.{bits_for, buckets_of, table_cost, table_units};
+ghost use Rattle.bdb_mkhash.specs.Buckets.{bits_for, buckets_of, table_bits, table_cost, table_units};
 ghost use Rattle.bdb_mkhash.specs.Units.{units_seen};
 
 use crate::unit::{Unit, keyed_cost};
@@ -23,8 +23,8 @@ fn unit_of<'a>(run: &KeyGroup<'a>) -> Unit<'a>
     }
 }
 
-/// What all keys of a list take of pages of so many bytes.
-pub(crate) fn table_cost(size: usize, list: PairSlice<'_>) -> Result<u64, AllocError>
+// What all keys of a list take of pages of so many bytes.
+fn table_cost(size: usize, list: PairSlice<'_>) -> Result<u64, AllocError>
     requires legal { IsTrue (is_page_size size) }
     requires keys { All (λ pair. HasBytes pair.key) (pairs_of list) }
     ensures { IfOk result (λ cost. cost ≡ table_cost size (table_units (pairs_of list.entry))) }
@@ -33,25 +33,24 @@ pub(crate) fn table_cost(size: usize, list: PairSlice<'_>) -> Result<u64, AllocE
     let mut start = 0;
     while start < list.len() {
         let run = run_at(list, start);
-        let unit = unit_of(&run);
         cost = cost
-            .checked_add(keyed_cost(size, &unit) as u64)
+            .checked_add(keyed_cost(size, run.key, run.values) as u64)
             .ok_or(AllocError)?;
         start = run.end;
     }
     Ok(cost)
 }
 
-/// How many bits the number of a bucket has: half the room of a page for each bucket is enough for a cost. It is refused
-/// where there would be more than 2^21 buckets.
-pub(crate) fn bits_for(size: usize, cost: u64) -> Result<u32, AllocError>
+// How many bits the number of a bucket has: half the room of a page for each bucket is enough for a cost. There is no memory for more
+// than 2^31 buckets.
+fn bits_for(size: usize, cost: u64) -> Result<u32, AllocError>
     requires { IsTrue (is_page_size size) }
     ensures bits { IfOk result (λ bits. bits ≡ bits_for size cost) }
     ensures some { IfOk result (λ bits. 1 ≤ bits) }
-    ensures few { IfOk result (λ bits. bits ≤ 21) }
+    ensures few { IfOk result (λ bits. bits ≤ 31) }
 {
     let half = ((size - 26) / 2) as u64;
-    for bits in 1..22 {
+    for bits in 1..32 {
         if cost <= (1 << bits) * half {
             return Ok(bits);
         }
@@ -59,19 +58,30 @@ pub(crate) fn bits_for(size: usize, cost: u64) -> Result<u32, AllocError>
     Err(AllocError)
 }
 
+/// How many bits the number of a bucket has in the table of a list, by what its keys take.
+pub fn table_bits(size: usize, list: PairSlice<'_>) -> Result<u32, AllocError>
+    requires legal { IsTrue (is_page_size size) }
+    requires keys { All (λ pair. HasBytes pair.key) (pairs_of list) }
+    ensures bits { IfOk result (λ bits. bits ≡ table_bits size (table_units (pairs_of list.entry))) }
+    ensures some { IfOk result (λ bits. 1 ≤ bits) }
+    ensures few { IfOk result (λ bits. bits ≤ 31) }
+{
+    bits_for(size, table_cost(size, list)?)
+}
+
 /// How many buckets have a number of so many bits.
-pub(crate) fn bucket_count(bits: u32) -> u32
-    requires { bits ≤ 21 }
+pub fn bucket_count(bits: u32) -> u32
+    requires { bits ≤ 31 }
     ensures count { result ≡ 2 ^ bits }
-    ensures few { result ≤ 2 ^ 21 }
+    ensures few { result ≤ 2 ^ 31 }
 {
     1 << bits
 }
 
-// The bucket of a key among so many.
-fn bucket_among(bits: u32, key: &[u8]) -> u32
+/// The bucket of a key where its number has so many bits.
+pub fn bucket_among(bits: u32, key: &[u8]) -> u32
     requires some { 1 ≤ bits }
-    requires few { bits ≤ 21 }
+    requires few { bits ≤ 31 }
     ensures bucket { result ≡ bucket_among bits key.now }
     ensures low { result < 2 ^ bits }
 {

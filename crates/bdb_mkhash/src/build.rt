@@ -6,10 +6,13 @@ ghost use Rattle.bdb_law_buckets.specs.Tables.{table_meta};
 ghost use Rattle.bdb_mkhash.specs.Buckets.{table_units};
 ghost use Rattle.bdb_mkhash.specs.Table.{IsTableBuilt, IsTableList};
 
-use crate::buckets::{bits_for, bucket_count, deal, table_cost};
+use crate::buckets::{bucket_count, deal, table_bits};
 use crate::fill::{add_buckets, fill_buckets};
 use bdb_mktree::{HashMeta, Pages, PairSlice, Settings};
 use std::alloc::{AllocError, Global};
+
+// The most bits of the number of a bucket: the longest file that is read has no more pages.
+const MAX_BITS: u32 = 21;
 
 // The spares of a table with so many bits to the number of a bucket, whose first page this is.
 fn spares_of(first: u32, bits: u32) -> [u32; 32]
@@ -62,7 +65,10 @@ pub fn build_table(
     requires list { IsTableList settings.now (pairs_of list) }
     ensures { IfOk result (λ meta. IsTableBuilt settings.now pages.old pages.new (table_units (pairs_of list.entry)) (listed (pairs_of list.entry)) meta) }
 {
-    let bits = bits_for(pages.size(), table_cost(pages.size(), list)?)?;
+    let bits = table_bits(pages.size(), list)?;
+    if bits > MAX_BITS {
+        return Err(AllocError);
+    }
     let buckets = deal(alloc, list, bits)?;
     let first = pages.count();
     add_buckets(pages, bucket_count(bits))?;

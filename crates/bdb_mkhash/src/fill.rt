@@ -28,7 +28,7 @@ fn fill_page(
     let size = pages.size();
     let mut n = 0;
     for unit in units {
-        if keyed_cost(size, unit) > pages.room(page) as usize {
+        if keyed_cost(size, unit.key, unit.values) > pages.room(page) as usize {
             return Ok(n);
         }
         put_unit(alloc, pages, page, sorted, unit)?;

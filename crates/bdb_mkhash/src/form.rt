@@ -1,6 +1,6 @@
 /// How the data of a key stand on a page of a table.
 #[derive(Clone, Copy)]
-pub(crate) enum DataForm {
+pub enum DataForm {
     /// One datum alone.
     One,
     /// Several, as a set on the page.

@@ -6,7 +6,7 @@ use Rattle.std.proofs.lemmas.List.{get_or-set_other, get_or_append_left}
 use Rattle.bdb_places.proofs.of_format.MemberLemmas.{first_member, later_member, member_cases, no_member}
 use Rattle.bdb_pack.specs.Built.{Built, bytes_of, with_page, with_zeros}
 use Rattle.bdb_mkleaves.specs.LeafEntries.{Entry, HoldsEntries, HoldsEntriesOn, with_field, with_leaf}
-use Rattle.bdb_mkleaves.specs.Leaves.{AreSomeLeaves, HasRoomNow, IsOpened, KeepsOthers, LeavesFrom, first_of, last_of}
+use Rattle.bdb_mkleaves.specs.Leaves.{AreSomeLeaves, IsOpened, KeepsOthers, LeavesFrom, first_of, last_of}
 use Rattle.bdb_mkleaves.specs.Puts.{IsGrown}
 use Rattle.bdb_mkleaves.specs.declared.leaf_type.LeafType.{LeafType}
 use Rattle.bdb_mkleaves.specs.declared.leaves.Leaves.{Leaves}
@@ -116,10 +116,6 @@ opened leaves next old one new follow add type numbers end closes fresh long som
             there = omega (arith, end, more);
           };
     }
-
-pub room_now : (b : Bool) (leaves next : Leaves) (old new : Built) → b ≡ false → IsOpened leaves next old new → HasRoomNow b leaves next old new
-room_now false leaves next old new is opened = opened
-room_now true leaves next old new is opened = absurd (true≢false is)
 
 -- the last leaf with one entry more, while no other page changes
 pub grown : (leaves : Leaves) (old new : Built) (entry : List Entry → Entry) → KeepsOthers leaves.last old new

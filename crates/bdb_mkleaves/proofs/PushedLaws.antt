@@ -1,25 +1,22 @@
 -- Units that are pushed are spread over their leaves.
 use Rattle.std.proofs.Common.{◌≡◌, ℕ, ◌+◌, ◌<◌, ◌≤◌, Bool, true, false, List, [], ◌∷◌, ◌++◌, map, arith, refl, sym, ◌∙◌, ap}
 use Rattle.std.specs.List.{All, flat_map, sum_by}
-use Rattle.std.proofs.lemmas.Bool.{cases_Bool, leb-false, leb-true}
+use Rattle.std.proofs.lemmas.Bool.{leb-false, leb-true}
 use Rattle.std.proofs.lemmas.List.{append_assoc, map-append}
 use Rattle.std.proofs.lemmas.List.Elements.{All-head, All-tail}
 use Rattle.std.proofs.lemmas.List.Sums.{sum_by-append, sum_by-cons}
 use Rattle.bdb_places.specs.of_format.declared.kinds.Order.{Order}
-use Rattle.bdb_places.proofs.of_format.SizeLemmas.{size_bounds}
 use Rattle.bdb_law_levels.proofs.NodeLemmas.{all_right}
 use Rattle.bdb_pack.specs.Built.{AreWhole, Built, bytes_of}
-use Rattle.bdb_mkleaves.specs.Filled.{AreFilled, PushedUnitsSpread, SpreadNow, UnitsFit}
+use Rattle.bdb_mkleaves.specs.Filled.{AreFilled, PushedUnitsSpread, SpreadNow}
 use Rattle.bdb_mkleaves.specs.LeafEntries.{entry_cost, room_of}
 use Rattle.bdb_mkleaves.specs.Leaves.{has_room}
 use Rattle.bdb_mkleaves.specs.Placed.{IsPlacedBySize, Placed, entries_of, unit_of}
 use Rattle.bdb_mkleaves.specs.Spread.{spread_units}
-use Rattle.bdb_mkleaves.specs.Units.{EntryUnit, KeyedUnit, TreeUnit, page_room, unit_cost}
+use Rattle.bdb_mkleaves.specs.Units.{TreeUnit, page_room, unit_cost}
 use Rattle.bdb_mkleaves.specs.declared.leaves.Leaves.{Leaves}
 use Rattle.bdb_mkleaves.proofs.NodesLemmas.{all_units}
 use Rattle.bdb_mkleaves.proofs.PlacedCostLemmas.{units_cost}
-use Rattle.bdb_mkleaves.proofs.PushLemmas.{cost_few, entry_fits, pairs_fit}
-use Rattle.bdb_mkleaves.proofs.SetPutLemmas.{tree_fits}
 use Rattle.bdb_mkleaves.proofs.SpreadLemmas.{IsSpreadOn, spread_more}
 
 -- what the entries of some units take
@@ -79,8 +76,3 @@ pushed_units_spread leaves next old new before closed units unit filled spread p
         ∙ (ap (λ u. map (map unit_of) closed ++ (map unit_of units ∷ (u ∷ []) ∷ [])) (sym put.is)
         ∙ (sym (map-append (map unit_of) closed (units ∷ (put.placed ∷ []) ∷ []))
         ∙ ap (map (map unit_of)) (sym (append_assoc closed (units ∷ []) ((put.placed ∷ []) ∷ [])))))))
-
-pub units_fit : UnitsFit
-units_fit size (EntryUnit value deleted) legal = entry_fits size value legal
-units_fit size (KeyedUnit key []) legal = grind (arith, size_bounds, cost_few)
-units_fit size (KeyedUnit key (first ∷ more)) legal = grind (arith, cases_Bool, tree_fits, pairs_fit)

@@ -8,11 +8,9 @@ use Rattle.std.proofs.lemmas.Grind.{flat_map-append}
 use Rattle.std.proofs.lemmas.List.{append_assoc}
 use Rattle.std.proofs.lemmas.List.Elements.{All-append, All-cons, All-head, All-nil}
 use Rattle.std.proofs.lemmas.List.Sums.{sum_by-cons}
-use Rattle.bdb_places.specs.of_format.HeadOf.{is_page_size}
 use Rattle.bdb_places.specs.of_format.Page.{Content, Tree}
 use Rattle.bdb_places.specs.of_format.File.{File}
 use Rattle.bdb_places.specs.of_format.Rows.{page_code}
-use Rattle.bdb_places.proofs.of_format.SizeLemmas.{size_bounds}
 use Rattle.bdb_pack.specs.of_law_grove.Growing.{IsCounted, IsLater}
 use Rattle.bdb_pack.specs.of_law_grove.Leaves.{AscendIn, ContentFits, content_pages}
 use Rattle.bdb_pack.specs.of_law_grove.Part.{IsBranch, between}
@@ -20,9 +18,9 @@ use Rattle.bdb_pack.proofs.of_law_grove.BranchLemmas.{branches_follow}
 use Rattle.bdb_pack.proofs.of_law_grove.ChainLemmas.{between_is, is_between}
 use Rattle.bdb_pack.proofs.of_law_grove.AscendLemmas.{ascend_bounds, ascend_follow}
 use Rattle.bdb_law_levels.specs.Roots.{key_heads, pages_of as level_pages}
-use Rattle.bdb_pack.specs.Built.{AreWhole, Built, bytes_of, file_so_far}
+use Rattle.bdb_pack.specs.Built.{Built, bytes_of, file_so_far}
 use Rattle.bdb_pack.proofs.ImageLemmas.{counted_so_far}
-use Rattle.bdb_mkleaves.specs.Filled.{AreSomeFilled, IsPushed, StandOn, leaves_added, unit_contents, FilledNow, rest_of}
+use Rattle.bdb_mkleaves.specs.Filled.{AreSomeFilled, IsPushed, IsReady, StandOn, unit_contents, FilledNow, rest_of}
 use Rattle.bdb_mkleaves.specs.Layout.{IsTreeOn, TreeParts, leaf_heads, live_entry}
 use Rattle.bdb_mkleaves.specs.LeafEntries.{CanTakeEntry, Entry, HoldsEntriesOn, entry_cost, own_entry, room_of}
 use Rattle.bdb_mkleaves.specs.Leaves.{AreLeaves, AreSomeLeaves, HasRoomNow, has_room, last_of}
@@ -32,7 +30,7 @@ use Rattle.bdb_mkleaves.specs.Puts.{CountsOneFrom, IsGrown, IsPut}
 use Rattle.bdb_mkleaves.specs.Runs.{HasWholePairs, IsRunPut, ValuesStand}
 use Rattle.bdb_mkleaves.specs.Sets.{IsSetBuilt, IsTreePut, SetStands, IsKeyedPushed}
 use Rattle.bdb_mkleaves.specs.Spread.{own_pages, set_pages, set_type}
-use Rattle.bdb_mkleaves.specs.Units.{KeyedUnit, chain_pages, has_own_tree, unit_cost, value_cost}
+use Rattle.bdb_mkleaves.specs.Units.{KeyedUnit, chain_pages, has_own_tree, set_cost, unit_cost, value_cost}
 use Rattle.bdb_law_levels.specs.Roots.{is_of}
 use Rattle.bdb_law_levels.proofs.NodeLemmas.{all_right}
 use Rattle.bdb_mkleaves.proofs.RestLemmas.{is_rest, leaves_low}
@@ -42,7 +40,7 @@ use Rattle.bdb_mkleaves.specs.declared.leaves.Leaves.{Leaves}
 use Rattle.bdb_mkleaves.proofs.FilledLemmas.{by_size, later_self, value_read}
 use Rattle.bdb_mkleaves.proofs.LastingLemmas.{heads_one, tree_stays}
 use Rattle.bdb_mkleaves.proofs.PairsLemmas.{live_put, some_of}
-use Rattle.bdb_mkleaves.proofs.PushLemmas.{IsReady, cost_few, pushed, ready, room_count, whole_now}
+use Rattle.bdb_mkleaves.proofs.PushLemmas.{pushed, room_count}
 use Rattle.bdb_mkleaves.proofs.PutLemmas.{pages_stay}
 use Rattle.bdb_mkleaves.proofs.RunLemmas.{one_kept, later_before, put_is_run}
 use Rattle.bdb_mkleaves.proofs.StandLemmas.{values_stand_on}
@@ -60,9 +58,10 @@ tree_contents SortedData unit root values = refl
 pub takes_tree : (leaves : Leaves) (old one two : Built) (key : List ℕ) (values : List (List ℕ)) (sorted : Bool) (root : ℕ)
     → HasWholePairs leaves old
     → IsPut leaves old one key false → IsSetBuilt one two sorted values root → root < 2 ^ 32
-    → value_cost old.size key + 16 ≤ room_of old.order (bytes_of old leaves.last)
+    → has_own_tree old.size key values ≡ true → unit_cost old.size (KeyedUnit key values) ≤ room_of old.order (bytes_of old leaves.last)
     → AreSomeLeaves leaves two × CanTakeEntry two leaves.last (tree_item root)
-takes_tree leaves old one two key values sorted root has put set small room =
+takes_tree leaves old one two key values sorted root has put set small many room =
+    let takes = ap (λ b. if b then value_cost old.size key + 16 else set_cost old.size key values) many in
     let some = some_of leaves old has in
     let run = put_is_run leaves old one key false has.hold.there put some in
     let entries : List Entry = has.entries ++ (own_entry put.item ∷ []) in
@@ -85,7 +84,7 @@ takes_tree leaves old one two key values sorted root has put set small room =
         holds = subst (λ t. HoldsEntriesOn t two leaves.last (last_of 0 leaves.closed.items) 0 entries) has.type now.last_holds;
         fits = small;
         place = (refl, omega (arith, even, length-append has.entries (own_entry put.item ∷ [])));
-        room = omega (arith, room, same, left, cost, tree_cost two.order root, sum_by-cons (entry_cost old.order) (own_entry put.item) []);
+        room = omega (arith, room, takes, same, left, cost, tree_cost two.order root, sum_by-cons (entry_cost old.order) (own_entry put.item) []);
       },
     )
 
@@ -276,28 +275,6 @@ tree_put leaves old one two new key values sorted root has put set grown count m
 
 -- The unit is pushed.
 
--- it has room on an empty leaf, and takes what its key does and 16 bytes
-pub tree_fits : (size : ℕ) (key : List ℕ) (values : List (List ℕ)) → is_page_size size ≡ true → has_own_tree size key values ≡ true
-    → (value_cost size key + 16 ≤ size - 26) × (unit_cost size (KeyedUnit key values) ≡ value_cost size key + 16)
-tree_fits size key values legal many = grind (arith, size_bounds, cost_few)
-
-pub tree_made : (leaves next : Leaves) (old one : Built) (key : List ℕ) (size cost : ℕ) → cost ≡ value_cost size key → size ≡ old.size
-    → HasRoomNow (has_room leaves old (cost + 16)) leaves next old one
-    → HasRoomNow (has_room leaves old (value_cost old.size key + 16)) leaves next old one
-tree_made leaves next old one key size cost is same made =
-    subst (λ n. HasRoomNow (has_room leaves old (n + 16)) leaves next old one) (is ∙ ap (λ n. value_cost n key) same) made
-
-pub tree_ready : (leaves next : Leaves) (old one : Built) (key : List ℕ) (values : List (List ℕ)) → AreSomeFilled leaves old
-    → is_page_size old.size ≡ true
-    → AreWhole old → leaves.leaf_type ≡ Pairs → has_own_tree old.size key values ≡ true
-    → HasRoomNow (has_room leaves old (value_cost old.size key + 16)) leaves next old one
-    → IsReady leaves next old one (value_cost old.size key + 16) × HasWholePairs next one
-tree_ready leaves next old one key values some legal whole type many made =
-    let fit = (tree_fits old.size key values legal many).0 in (
-      ready _ leaves next old one (value_cost old.size key + 16) some refl made fit whole,
-      whole_now _ leaves next old one (value_cost old.size key + 16) some type whole refl fit made,
-    )
-
 -- pages stay, or one more is there
 room_grows : (b : Bool) (leaves next : Leaves) (old one : Built) → HasRoomNow b leaves next old one → length old.pages ≤ length one.pages
 room_grows true leaves next old one (same, kept) = omega (arith, ap (λ (b : Built). length b.pages) kept)
@@ -315,32 +292,25 @@ added_rest next one new before some low p at =
     ])
 
 pub tree_pushed : (leaves next : Leaves) (old one new : Built) (sorted : Bool) (key : List ℕ) (values : List (List ℕ)) → AreSomeFilled leaves old
-    → is_page_size old.size ≡ true → AreWhole old → leaves.leaf_type ≡ Pairs → has_own_tree old.size key values ≡ true
-    → HasRoomNow (has_room leaves old (value_cost old.size key + 16)) leaves next old one → IsTreePut next one new sorted key values
+    → IsReady leaves next old one (unit_cost old.size (KeyedUnit key values)) → IsTreePut next one new sorted key values
     → IsKeyedPushed leaves next old new sorted (KeyedUnit key values)
 unfolding pushed
-tree_pushed leaves next old one new sorted key values some legal whole type many made tree =
-    let fit = tree_fits old.size key values legal many in
-    let is = (tree_ready leaves next old one key values some legal whole type many made).0 in
+tree_pushed leaves next old one new sorted key values some ready tree =
     record {
       pushed =
           pushed leaves next old one new (KeyedUnit key values)
-          (PlacedTree (record { item = tree.key_item; value = key }) tree.root values) some refl
-          is.type (subst (λ n. HasRoomNow (has_room leaves old n) leaves next old one) (sym fit.1) made)
-          (omega (arith, fit.0, fit.1)) whole tree.put;
+          (PlacedTree (record { item = tree.key_item; value = key }) tree.root values) some refl ready tree.put;
       right = λ before closed units filled g counted later.
           let first = ascend_bounds before (length old.pages) _ filled.ascend in
-          let more = room_grows _ leaves next old one made in
+          let more = room_grows _ leaves next old one ready.made in
           tree.right g counted
           (later_before new new (between (length one.pages) (length new.pages)) (rest_of before next new) g refl (omega arith)
-          (λ p at. added_rest next one new before is.some (omega (arith, first, more)) p at)
+          (λ p at. added_rest next one new before ready.some (omega (arith, first, more)) p at)
           (λ p at. ((between_is (length one.pages) (length new.pages) p at).1, refl)) later);
       count =
-          let (leaf, size) = room_count _ leaves next old one made in
+          let (leaf, size) = room_count _ leaves next old one ready.made in
           let own = tree.count in
-          let same : leaves_added leaves old (KeyedUnit key values) ≡ (if has_room leaves old (value_cost old.size key + 16) then 0 else 1) =
-          ap (λ n. if has_room leaves old n then 0 else 1) fit.1 in
-          omega (arith, leaf, own, same, ap (λ n. own_pages n sorted (KeyedUnit key values)) size);
+          omega (arith, leaf, own, ap (λ n. own_pages n sorted (KeyedUnit key values)) size);
     }
 
 -- data that stand on the leaf have no root

@@ -11,14 +11,16 @@ use Rattle.bdb_pack.specs.of_law_grove.Part.{IsBranch, between}
 use Rattle.bdb_law_levels.specs.Roots.{is_of}
 use Rattle.bdb_pack.specs.Built.{AreWhole, Built, bytes_of, file_so_far}
 use Rattle.bdb_mkleaves.specs.Layout.{HasTreeOn}
-use Rattle.bdb_mkleaves.specs.LeafEntries.{Entry, contents_of}
-use Rattle.bdb_mkleaves.specs.Leaves.{AreLeaves, KeepsOthers, has_room}
+use Rattle.bdb_mkleaves.specs.LeafEntries.{Entry, contents_of, room_of}
+use Rattle.bdb_mkleaves.specs.Leaves.{AreLeaves, AreSomeLeaves, HasRoomNow, KeepsOthers, has_room}
 use Rattle.bdb_mkleaves.specs.Moved.{first_leaf}
 use Rattle.bdb_mkleaves.specs.Puts.{CountsOneFrom}
 use Rattle.bdb_mkleaves.specs.Placed.{IsPlacedBySize, Placed, StandsPlaced, entries_of, unit_of}
+use Rattle.bdb_mkleaves.specs.Runs.{HasWholePairs}
 use Rattle.bdb_mkleaves.specs.Spread.{own_pages, spread_units}
 use Rattle.bdb_mkleaves.specs.Units.{TreeUnit, page_room, unit_cost, unit_has_tree}
 use Rattle.bdb_mkleaves.specs.declared.leaf_type.LeafType.{LeafType}
+use Rattle.bdb_mkleaves.specs.declared.leaf_type.LeafType.TheVariants.{Pairs}
 use Rattle.bdb_mkleaves.specs.declared.leaves.Leaves.{Leaves}
 
 -- in a file these pages are what contents name: a branch that is entered by the pages that they name, in their order
@@ -92,6 +94,18 @@ pub record AreSomeFilled (leaves : Leaves) (built : Built) : Type 0 where
 abbrev pub FilledNow : Bool → Leaves → Built → ℕ → List (List Placed) → List Placed → Placed → Type 0
 FilledNow true leaves built before closed units unit = AreFilled leaves built before closed (units ++ (unit ∷ []))
 FilledNow false leaves built before closed units unit = AreFilled leaves built before (closed ++ (units ∷ [])) (unit ∷ [])
+
+-- The last leaf, that of before or a new one, has room for so many bytes, which an empty one has.
+pub record IsReady (leaves next : Leaves) (old one : Built) (cost : ℕ) : Type 0 where
+  pub made : HasRoomNow (has_room leaves old cost) leaves next old one
+  pub whole : AreWhole old
+  pub fits : cost ≤ page_room old.size
+  pub type : next.leaf_type ≡ leaves.leaf_type
+  pub size : one.size ≡ old.size
+  pub some : AreSomeLeaves next one
+  pub there : next.last < length one.pages
+  pub room : cost ≤ room_of one.order (bytes_of one next.last)
+  pub pairs : leaves.leaf_type ≡ Pairs → HasWholePairs next one
 
 -- how many leaves a unit adds: one where the last has no room for what it takes
 abbrev pub leaves_added : Leaves → Built → TreeUnit → ℕ

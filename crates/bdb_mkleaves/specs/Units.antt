@@ -61,16 +61,26 @@ list_of_units Queue units = []
 -- What a unit takes of a leaf of a page size.
 
 -- the bytes of a value's item: it stands in it where it's at most an eighth of a page long, and else in a chain
+abbrev pub length_cost : ℕ → ℕ → ℕ
+length_cost size n = if nat_le n (size / 8) then pad4 (3 + n) else 12
+
 abbrev pub value_cost : ℕ → List ℕ → ℕ
-value_cost size value = if nat_le (length value) (size / 8) then pad4 (3 + length value) else 12
+value_cost size value = length_cost size (length value)
 
 -- the bytes of a page behind its header
 abbrev pub page_room : ℕ → ℕ
 page_room size = size - 26
 
 -- how many pages the chain of a value has: none where it stands on the leaf
+abbrev pub length_chain : ℕ → ℕ → ℕ
+length_chain size n = if nat_le n (size / 8) then 0 else (n + page_room size - 1) / page_room size
+
 abbrev pub chain_pages : ℕ → List ℕ → ℕ
-chain_pages size value = if nat_le (length value) (size / 8) then 0 else (length value + page_room size - 1) / page_room size
+chain_pages size value = length_chain size (length value)
+
+-- what a record takes, or a datum of a set, by the length of its value: an entry and its item
+abbrev pub record_cost : ℕ → ℕ → ℕ
+record_cost size n = 2 + length_cost size n
 
 -- a key and its data on the leaf: each datum has two entries and its item
 abbrev pub set_cost : ℕ → List ℕ → List (List ℕ) → ℕ
@@ -86,7 +96,7 @@ unit_has_tree size (EntryUnit value deleted) = false
 
 abbrev pub unit_cost : ℕ → TreeUnit → ℕ
 unit_cost size (KeyedUnit key values) = if has_own_tree size key values then value_cost size key + 16 else set_cost size key values
-unit_cost size (EntryUnit value deleted) = 2 + value_cost size value
+unit_cost size (EntryUnit value deleted) = record_cost size (length value)
 
 -- Units are spread over leaves from left to right: each leaf has room for its units, and the first unit of a leaf had none on the leaf before it.
 abbrev pub AreSpread : ℕ → ℕ → List (List TreeUnit) → Type 0

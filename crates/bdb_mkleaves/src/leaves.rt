@@ -3,10 +3,10 @@ ghost use Rattle.bdb_places.specs.of_format.HeadOf.{is_page_size};
 ghost use Rattle.bdb_pack.specs.of_layout.Seen.{leaf_item_seen};
 ghost use Rattle.bdb_pack.specs.Built.{AreWhole, bytes_of};
 ghost use Rattle.bdb_mkleaves.specs.LeafEntries.{CanShareKey, CanTakeEntry, own_entry, room_of, shared_key};
-ghost use Rattle.bdb_mkleaves.specs.Filled.{AreFilled, AreSomeFilled};
-ghost use Rattle.bdb_mkleaves.specs.Leaves.{AreSomeLeaves, HasRoomNow, KeepsOthers, has_room};
+ghost use Rattle.bdb_mkleaves.specs.Filled.{AreFilled, AreSomeFilled, IsReady};
+ghost use Rattle.bdb_mkleaves.specs.Leaves.{AreSomeLeaves, KeepsOthers};
 ghost use Rattle.bdb_mkleaves.specs.Puts.{IsGrown, IsItemOf, IsPut};
-ghost use Rattle.bdb_mkleaves.specs.Units.{value_cost};
+ghost use Rattle.bdb_mkleaves.specs.Units.{page_room, value_cost};
 ghost use Rattle.bdb_mkleaves.specs.declared.leaf_type.LeafType.TheVariants.{Pairs};
 
 use crate::LeafType;
@@ -61,8 +61,9 @@ impl Leaves {
     pub(crate) fn make_room(&mut self, pages: &mut Pages, cost: usize) -> Result<(), AllocError>
         requires legal { IsTrue (is_page_size pages.old.size) }
         requires whole { AreWhole pages.old }
-        requires leaves { AreSomeLeaves self.old pages.old }
-        ensures { IfOk result (λ _. HasRoomNow (has_room self.old pages.old cost) self.old self.new pages.old pages.new) }
+        requires fits { cost ≤ page_room pages.old.size }
+        requires filled { AreSomeFilled self.old pages.old }
+        ensures { IfOk result (λ _. IsReady self.old self.new pages.old pages.new cost) }
     {
         if cost <= pages.room(self.last) as usize {
             return Ok(());

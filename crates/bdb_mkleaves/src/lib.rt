@@ -2,6 +2,7 @@
 #![tactic(auto)]
 
 mod children;
+mod costs;
 mod entries;
 mod finish;
 mod inner;
@@ -17,8 +18,11 @@ mod tower;
 mod units;
 
 pub use bdb_pack::{
-    DupBlocks, HashItem, Pages, Stored, bucket_of, compare, hash5, pad4, push_value, put_u16,
-    put_u32, records_per_page, slot_size, u32_at,
+    DupBlocks, HashItem, Pages, Stored, bucket_of, compare, hash5, push_value, put_u16, put_u32,
+    records_per_page, slot_size, u32_at,
+};
+pub use costs::{
+    LeafCost, chain_pages, key_item_cost, leaf_cost, length_chain, page_room, record_cost,
 };
 pub use leaf_type::LeafType;
 pub use leaves::Leaves;

@@ -86,7 +86,7 @@ fn push_record(
 {
     let pair = list.at(place);
     let number = number_of(pair.key);
-    let page = page_of_record(meta, number);
+    let page = page_of_record(meta.per_page, number);
     reach_page(pages, page)?;
     let slot = slot_of(meta, number);
     write_record(pages, meta, page, slot, pair.value);

@@ -10,13 +10,13 @@ const VALID: u8 = 0x01;
 
 const SET: u8 = 0x02;
 
-/// The page of a record.
-pub(crate) fn page_of_record(meta: &QueueMeta, number: u32) -> u32
+/// The page of a record, where a page has so many.
+pub fn page_of_record(per_page: u32, number: u32) -> u32
     requires number { 1 ≤ number }
-    requires some { 1 ≤ meta.now.per_page }
-    ensures { result ≡ page_of_record meta.now.per_page number }
+    requires some { 1 ≤ per_page }
+    ensures { result ≡ page_of_record per_page number }
 {
-    1 + (number - 1) / meta.per_page
+    1 + (number - 1) / per_page
 }
 
 /// The slot of a record on its page.

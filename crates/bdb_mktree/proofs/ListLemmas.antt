@@ -5,7 +5,7 @@ use Rattle.std.proofs.Common.{arith, refl, sym, ◌∙◌, ap, inl, inr, true≢
 use Rattle.std.specs.List.{All, enumerate_from, flat_map, prefix_len}
 use Rattle.std.specs.Str.{bytes_eq}
 use Rattle.std.proofs.lemmas.Bool.{cases_Bool}
-use Rattle.std.proofs.lemmas.List.{drop-drop, drop-map, drop_all, drop_more, get_or-map, length-drop, length-map, take-map}
+use Rattle.std.proofs.lemmas.List.{drop-drop, drop-map, drop_all, drop_more, get_or-map, length-drop, length-map, length-take-le, take-map}
 use Rattle.std.proofs.lemmas.Option.{get_or_from_slice_get, none-some, same_Some, slice_get_within}
 use Rattle.std.proofs.lemmas.List.Elements.{All-drop, All-head, All-tail}
 use Rattle.std.proofs.lemmas.List.Sums.{prefix_len-le-length}
@@ -183,6 +183,9 @@ is_run pairs start n key pair all at is long =
     record {
       ahead = omega (arith, some);
       within = omega (arith, most, size, inside, length-map pairs unlined);
+      many =
+          ap (λ k. start + k)
+          (sym (length-map (take n (drop start pairs)) (λ (pair : TextPair). pair.value) ∙ length-take-le n (drop start pairs) most));
       units =
           run_is_unit key (drop start (unlined_pairs pairs)) n (All-drop (λ (pair : Pair). HasBytes pair.key) start (unlined_pairs pairs) all)
           (ap (λ ps. prefix_len (has_key key) (keys_of ps)) from ∙ sym long) some

@@ -12,6 +12,7 @@ use Rattle.bdb_text_format.specs.declared.pairs.Key.{Key}
 use Rattle.bdb_text_format.specs.declared.pairs.Key.TheVariants.{Bytes, Number}
 use Rattle.bdb_text_format.specs.declared.pairs.TextPair.{TextPair}
 use Rattle.bdb_text_format.specs.Pairs.{AscendFrom, number_of}
+use Rattle.bdb_mkleaves.specs.Placed.{values_in}
 use Rattle.bdb_mkleaves.specs.Runs.{IsShort}
 use Rattle.bdb_mkleaves.specs.Units.{TreeUnit, KeyedUnit, EntryUnit}
 
@@ -120,6 +121,7 @@ pub record IsTreeList (settings : Settings) (pairs : List Pair) : Type 0 where
 pub record IsRunAt (pairs : List Pair) (start : ℕ) (unit : TreeUnit) (end : ℕ) : Type 0 where
   pub ahead : start < end
   pub within : end ≤ length pairs
+  pub many : end ≡ start + length (values_in unit)
   pub units : keyed_units (drop start pairs) ≡ unit ∷ keyed_units (drop end pairs)
 
 -- the record with a number is this unit: that of the pair at a place, or a missing one before it

@@ -7,8 +7,9 @@ mod runs;
 mod unit;
 
 pub use bdb_mkleaves::{
-    DupBlocks, HashItem, Pages, Stored, bucket_of, build_set, compare, hash5, pad4, push_value,
-    put_u16, put_u32, records_per_page, slot_size, u32_at,
+    DupBlocks, HashItem, LeafCost, Pages, Stored, bucket_of, build_set, chain_pages, compare,
+    hash5, key_item_cost, leaf_cost, length_chain, page_room, push_value, put_u16, put_u32,
+    record_cost, records_per_page, slot_size, u32_at,
 };
 pub use bdb_text_format::{
     BtreeMeta, Bytes, HashMeta, Header, KeyRef, Kind, Order, PageType, PairRef, PairSlice, Place,

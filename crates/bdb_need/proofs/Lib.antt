@@ -10,7 +10,6 @@ pub mod TreeLemmas
 pub mod NeedLemmas
 pub mod QueueLemmas
 pub mod TableLemmas
-pub mod UnitLemmas
 pub mod FilledLemmas
 pub use Rattle.bdb_mkqueue.proofs.of_graph as of_graph
 pub use Rattle.bdb_mkqueue.proofs.of_image as of_image

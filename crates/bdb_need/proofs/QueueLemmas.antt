@@ -1,8 +1,11 @@
 -- The greatest record of a queue.
-use Rattle.std.proofs.Common.{◌≡◌, ℕ, ◌+◌, ◌-◌, ◌≤◌, List, [], ◌∷◌, length, get_or, Some, arith, refl, sym, ◌∙◌, ap}
+use Rattle.std.proofs.Common.{◌≡◌, ℕ, ◌+◌, ◌-◌, ◌≤◌, List, [], ◌∷◌, length, get_or, Option, Some, arith, refl, sym, ◌∙◌, ap, subst}
 use Rattle.std.specs.Prelude.{slice_get, ◌/◌}
+use Rattle.std.specs.Option.{option_map}
 use Rattle.std.proofs.lemmas.Option.{get_or_from_slice_get, slice_get_within}
 use Rattle.bdb_mkhash.specs.of_text_format.declared.pairs.TextPair.{TextPair}
+use Rattle.bdb_mkhash.specs.of_text_format.declared.lent.PairRef.{PairRef}
+use Rattle.bdb_mkhash.specs.of_text_format.Placed.{key_seen, pair_seen}
 use Rattle.bdb_mkhash.specs.of_text_format.Pairs.{AscendFrom, number_of}
 use Rattle.bdb_mkqueue.specs.Layout.{queue_size}
 use Rattle.bdb_mkqueue.specs.Lists.{next_number}
@@ -20,7 +23,7 @@ pub record IsGreatest (pairs : List TextPair) (number : ℕ) : Type 0 where
   pub low : 1 ≤ number
   pub size : (per_page : ℕ) → queue_size per_page (unlined_pairs pairs) ≡ 1 + (number - 1) / per_page
 
-pub last_greatest : (pairs : List TextPair) (pair : TextPair) (number : ℕ) → Some pair ≡ slice_get pairs (length pairs - 1) → number ≡ number_of pair.key
+last_greatest : (pairs : List TextPair) (pair : TextPair) (number : ℕ) → Some pair ≡ slice_get pairs (length pairs - 1) → number ≡ number_of pair.key
     → AscendFrom 1 (unlined_pairs pairs) → IsGreatest pairs number
 last_greatest [] pair number at is ascend = absurd (omega (arith, slice_get_within [] (length {A = TextPair} [] - 1) pair (sym at)))
 last_greatest (x ∷ xs) pair number at is ascend =
@@ -36,3 +39,11 @@ last_greatest (x ∷ xs) pair number at is ascend =
       low = omega (arith, low, first, next);
       size = λ per_page. ap (λ n. 1 + (n - 1) / per_page) same;
     }
+
+-- the same of a lent pair
+pub greatest : (list seen : List TextPair) (got : Option PairRef) (pair : PairRef) (number : ℕ) → seen ≡ list
+    → option_map pair_seen got ≡ slice_get seen (length seen - 1) → got ≡ Some pair → number ≡ number_of (key_seen pair.key)
+    → AscendFrom 1 (unlined_pairs list) → IsGreatest list number
+greatest list seen got pair number seen_is last is number_is ascend =
+    last_greatest list (pair_seen pair) number
+    (subst (λ ps. Some (pair_seen pair) ≡ slice_get ps (length ps - 1)) seen_is (sym (ap (option_map pair_seen) is) ∙ last)) number_is ascend

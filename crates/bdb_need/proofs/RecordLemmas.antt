@@ -14,7 +14,7 @@ use Rattle.bdb_mkhash.specs.of_text_format.declared.pairs.Pair.{Pair}
 use Rattle.bdb_mkhash.specs.of_text_format.declared.pairs.TextPair.{TextPair}
 use Rattle.bdb_mkhash.specs.of_text_format.Pairs.{AscendFrom, number_of}
 use Rattle.bdb_mkhash.specs.of_mkleaves.Spread.{own_pages, pages_over, tree_size}
-use Rattle.bdb_mkhash.specs.of_mkleaves.Units.{EntryUnit, TreeUnit, chain_pages, unit_cost, value_cost}
+use Rattle.bdb_mkhash.specs.of_mkleaves.Units.{EntryUnit, TreeUnit, chain_pages, unit_cost}
 use Rattle.bdb_mkhash.specs.of_mkleaves.declared.leaf_type.LeafType.TheVariants.{Records}
 use Rattle.bdb_mkhash.specs.of_mktree.Lists.{missing, record_units}
 use Rattle.bdb_settle.specs.Loaded.{filled_pair, filled_pairs}
@@ -25,16 +25,12 @@ use Rattle.bdb_need.proofs.TreeLemmas.{CountedTo, counted_end, counted_next}
 
 -- A missing record.
 
-missing_cost : (size : ℕ) → unit_cost size missing ≡ 6
-missing_cost size = rw (le-leb 0 (size / 8) (omega arith)) refl
-
 missing_pages : (size : ℕ) (sorted : Bool) → own_pages size sorted missing ≡ 0
 missing_pages size sorted = rw (le-leb 0 (size / 8) (omega arith)) refl
 
-missing_costs : (size n : ℕ) → replicate n 6 ≡ map (unit_cost size) (replicate n missing)
+missing_costs : (size n : ℕ) → replicate n (unit_cost size missing) ≡ map (unit_cost size) (replicate n missing)
 missing_costs size zero = refl
-missing_costs size (suc n) =
-    ap (λ c. c ∷ replicate n 6) (sym (missing_cost size)) ∙ ap (λ (cs : List ℕ). unit_cost size missing ∷ cs) (missing_costs size n)
+missing_costs size (suc n) = ap (λ (cs : List ℕ). unit_cost size missing ∷ cs) (missing_costs size n)
 
 -- records have chains alone
 own_records : (size : ℕ) (sorted : Bool) (next : ℕ) (pairs : List TextPair)
@@ -88,11 +84,11 @@ number_after size pairs i next number pair open_page passed within is number_is 
     let low = (subst (AscendFrom next) (here pairs i pair within is) passed.ascend).0 in
     omega (arith, low, number_is)
 
-pub records_next : (size : ℕ) (pairs : List TextPair) (i next number cost : ℕ) (value : List ℕ) (pair : TextPair) (old middle new : OpenPage)
+pub records_next : (size : ℕ) (pairs : List TextPair) (i next number none cost : ℕ) (pair : TextPair) (old middle new : OpenPage)
     → RecordsPassed size pairs i next old → i < length pairs → pair ≡ get_or pairs i pair → number ≡ number_of pair.key → number < 2 ^ 32
-    → value ≡ pair.value → cost ≡ value_cost size value → ArePut old middle (replicate (number - next) 6) → ArePut middle new ((2 + cost) ∷ [])
-    → RecordsPassed size pairs (i + 1) (number + 1) new
-records_next size pairs i next number cost value pair old middle new passed within is number_is few value_is cost_is gap_put put =
+    → none ≡ unit_cost size missing → cost ≡ unit_cost size (EntryUnit pair.value false) → ArePut old middle (replicate (number - next) none)
+    → ArePut middle new (cost ∷ []) → RecordsPassed size pairs (i + 1) (number + 1) new
+records_next size pairs i next number none cost pair old middle new passed within is number_is few none_is cost_is gap_put put =
     let all : List TreeUnit = record_units 1 (unlined_pairs pairs) in
     let split = here pairs i pair within is in
     let parts = subst (AscendFrom next) split passed.ascend in
@@ -101,14 +97,13 @@ records_next size pairs i next number cost value pair old middle new passed with
     let unit : TreeUnit = EntryUnit pair.value false in
     let gap : number - next ≡ number_of pair.key - next = ap (λ n. n - next) number_is in
     let start = subst (λ (ps : List Pair). CountedTo size all (record_units next ps) old) split passed.counted in
-    let after_gap = counted_next size all (replicate (number_of pair.key - next) missing) (unit ∷ rest) (replicate (number - next) 6) old middle start
-    gap_put (ap (λ n. replicate n 6) gap ∙ missing_costs size (number_of pair.key - next)) in
-    let after = counted_next size all (unit ∷ []) rest ((2 + cost) ∷ []) middle new after_gap put
-    (ap (λ n. (2 + n) ∷ []) (cost_is ∙ ap (value_cost size) value_is)) in
+    let after_gap = counted_next size all (replicate (number_of pair.key - next) missing) (unit ∷ rest) (replicate (number - next) none) old middle start
+    gap_put (ap (λ n. replicate n none) gap ∙ (ap (replicate (number_of pair.key - next)) none_is ∙ missing_costs size (number_of pair.key - next))) in
+    let after = counted_next size all (unit ∷ []) rest (cost ∷ []) middle new after_gap put (ap (λ n. n ∷ []) cost_is) in
     let before = passed.closed in
     let one = gap_put.few in
     let two = put.few in
-    let long = length-replicate {A = ℕ} (number - next) 6 in
+    let long = length-replicate {A = ℕ} (number - next) none in
     record {
       ascend = subst (λ n. AscendFrom (n + 1) (drop (i + 1) (unlined_pairs pairs))) (sym number_is) parts.1;
       counted = subst (λ n. CountedTo size all (record_units (n + 1) (drop (i + 1) (unlined_pairs pairs))) new) (sym number_is) after;

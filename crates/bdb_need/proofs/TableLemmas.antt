@@ -1,35 +1,23 @@
 -- The buckets of a table: how many they are, and their pages, counted as keys are put on them one after the other.
 use Rattle.std.proofs.Common.{◌≡◌, ℕ, zero, suc, ◌+◌, ◌-◌, ◌*◌, ◌<◌, ◌≤◌, ◌^◌, Bool, cond, List, [], ◌∷◌, length, map, replicate, get_or, set, drop, arith}
 use Rattle.std.proofs.Common.{refl, sym, ◌∙◌, ap, subst, inl, inr}
-use Rattle.std.specs.Prelude.{◌/◌, nat_le}
-use Rattle.std.specs.List.{All, range_with_len, sum_by}
+use Rattle.std.specs.Prelude.{◌/◌}
+use Rattle.std.specs.List.{range_with_len, sum_by}
 use Rattle.std.proofs.Math.ListN.{drop_of_length-le}
-use Rattle.std.proofs.lemmas.Bool.{cases_eq, eq-eqb, le-leb, lt-leb, ne_eqb}
+use Rattle.std.proofs.lemmas.Bool.{cases_eq, eq-eqb, ne_eqb}
 use Rattle.std.proofs.lemmas.List.{get_or-set_other, get_or-set_same, get_or_default, length-replicate, length-set}
-use Rattle.std.proofs.lemmas.List.Elements.{All-head, All-tail}
 use Rattle.std.proofs.lemmas.List.Sums.{sum_by-cons}
 use Rattle.bdb_mkhash.specs.of_text_format.declared.pairs.Pair.{Pair}
 use Rattle.bdb_mkhash.specs.of_text_format.declared.pairs.TextPair.{TextPair}
 use Rattle.bdb_mkhash.specs.of_mkleaves.Units.{KeyedUnit, TreeUnit, page_room}
-use Rattle.bdb_mkhash.specs.of_mktree.Lists.{IsRunAt, keyed_units}
-use Rattle.bdb_mkhash.specs.of_mktree.Units.{IsShortUnit}
+use Rattle.bdb_mkhash.specs.of_mktree.Lists.{IsRunAt}
 use Rattle.bdb_mkhash.specs.of_law_buckets.Tables.{Keyed, bucket_among, dealt}
-use Rattle.bdb_mkhash.specs.Buckets.{bits_for, buckets_of, spread_bucket, table_cost, table_units}
-use Rattle.bdb_mkhash.specs.Costs.{keyed_own_pages, keyed_cost}
-use Rattle.bdb_mkhash.proofs.BucketLemmas.{run_unit, found_at}
+use Rattle.bdb_mkhash.specs.Buckets.{buckets_of, keyed_of, spread_bucket, table_units}
+use Rattle.bdb_mkhash.specs.Costs.{keyed, keyed_cost, keyed_own_pages}
+use Rattle.bdb_mkhash.proofs.BucketLemmas.{run_unit}
 use Rattle.bdb_need.specs.TreePages.{unlined_pairs}
 use Rattle.bdb_need.proofs.BehindLemmas.{behind, behind_new, behind_open, length-spread}
-use Rattle.bdb_need.proofs.KeyLemmas.{length-pairs, run_many}
-use Rattle.bdb_need.specs.Counts.{keyed}
-
--- How many buckets.
-
-pub bits_found : (size cost bits : ℕ) → 1 ≤ bits → bits ≤ 31 → cost ≤ 2 ^ bits * (page_room size / 2)
-    → ((k : ℕ) → 1 ≤ k → k < bits → 2 ^ k * (page_room size / 2) < cost) → bits ≡ bits_for size cost
-bits_found size cost bits some few enough more =
-    sym (found_at (λ k. nat_le cost (2 ^ k * (page_room size / 2))) 1 31 32 bits some (omega (arith, few))
-    (le-leb cost (2 ^ bits * (page_room size / 2)) enough)
-    (λ j from under. lt-leb cost (2 ^ j * (page_room size / 2)) (more j from under)))
+use Rattle.bdb_need.proofs.KeyLemmas.{length-pairs}
 
 -- Sums over a range.
 
@@ -183,10 +171,6 @@ keys_begun size bits room pages pairs left room_is pages_are left_is = record {
   few = omega (arith, pages_are);
 }
 
--- a run has a datum
-pub run_some : (pairs : List Pair) (start end : ℕ) (key : List ℕ) (values : List (List ℕ)) → IsRunAt pairs start (KeyedUnit key values) end → 0 < length values
-run_some pairs start end key values at = let ahead = at.ahead in omega (arith, ahead, run_many pairs start end key values at)
-
 -- a run of pairs is put
 keys_next : (size bits start end pages pages_now : ℕ) (pairs : List TextPair) (key : List ℕ) (values : List (List ℕ)) (left left_now : List ℕ)
     → KeysPlaced size bits pairs start pages left → IsRunAt (unlined_pairs pairs) start (KeyedUnit key values) end
@@ -237,53 +221,17 @@ keys_end size bits start pages pairs left done past =
     all_placed size bits pages (table_units (unlined_pairs pairs)) left
     (subst (λ (ps : List Pair). ArePlaced size bits (table_units (unlined_pairs pairs)) (table_units ps) pages left) none done.placed)
 
--- What is counted of keys before a place.
+-- what they have of their own
+abbrev pub own_in_table : ℕ → Bool → TreeUnit → ℕ
+own_in_table size sorted unit = keyed_own_pages size sorted (keyed_of unit)
 
-pub record KeysCounted (size : ℕ) (sorted : Bool) (pairs : List TextPair) (start cost own : ℕ) : Type 0 where
-  pub low : start ≤ length pairs
-  pub short : All IsShortUnit (keyed_units (drop start (unlined_pairs pairs)))
-  pub cost_sum : cost + table_cost size (table_units (drop start (unlined_pairs pairs))) ≡ table_cost size (table_units (unlined_pairs pairs))
-  pub own_sum : own + sum_by (keyed_own_pages size sorted) (table_units (drop start (unlined_pairs pairs)))
-      ≡ sum_by (keyed_own_pages size sorted) (table_units (unlined_pairs pairs))
-  pub cost_few : cost ≤ start * 2 ^ 16
-  pub own_few : own ≤ start * 2 ^ 34
-
-pub none_counted : (size : ℕ) (sorted : Bool) (pairs : List TextPair) → All IsShortUnit (keyed_units (unlined_pairs pairs))
-    → KeysCounted size sorted pairs 0 0 0
-none_counted size sorted pairs short = grind arith
-
-pub unit_short : (size : ℕ) (sorted : Bool) (pairs : List TextPair) (start end cost own : ℕ) (unit : TreeUnit)
-    → KeysCounted size sorted pairs start cost own → IsRunAt (unlined_pairs pairs) start unit end → IsShortUnit unit
-unit_short size sorted pairs start end cost own unit counted run =
-    All-head IsShortUnit unit (keyed_units (drop end (unlined_pairs pairs))) (subst (All IsShortUnit) run.units counted.short)
-
-pub next_counted : (size : ℕ) (sorted : Bool) (pairs : List TextPair) (start end cost own cost_more own_more : ℕ) (key : List ℕ) (values : List (List ℕ))
-    → KeysCounted size sorted pairs start cost own → IsRunAt (unlined_pairs pairs) start (KeyedUnit key values) end
-    → cost_more ≡ keyed_cost size (keyed key values) → cost_more ≤ 2 ^ 16 → own_more ≡ keyed_own_pages size sorted (keyed key values)
-    → own_more ≤ (length values + 1) * 2 ^ 33 → KeysCounted size sorted pairs end (cost + cost_more) (own + own_more)
-next_counted size sorted pairs start end cost own cost_more own_more key values was at cost_is cost_low own_is own_low =
-    let rest : List Keyed = table_units (drop end (unlined_pairs pairs)) in
-    let long = length-pairs pairs in
-    let ahead = at.ahead in
-    let within = at.within in
-    let units = run_unit (unlined_pairs pairs) start end key values at in
-    let cost_split = ap (table_cost size) units ∙ sum_by-cons (keyed_cost size) (keyed key values) rest in
-    let own_split = ap (sum_by (keyed_own_pages size sorted)) units ∙ sum_by-cons (keyed_own_pages size sorted) (keyed key values) rest in
-    let cost_sum = was.cost_sum in
-    let own_sum = was.own_sum in
-    let cost_before = was.cost_few in
-    let own_before = was.own_few in
-    record {
-      low = omega (arith, within, long);
-      short = All-tail IsShortUnit (KeyedUnit key values) (keyed_units (drop end (unlined_pairs pairs)))
-          (subst (All IsShortUnit) at.units was.short);
-      cost_sum = omega (arith, cost_split, cost_sum, cost_is);
-      own_sum = omega (arith, own_split, own_sum, own_is);
-      cost_few = omega (arith, cost_before, cost_low, ahead);
-      own_few = omega (arith, own_before, own_low, ahead, run_many (unlined_pairs pairs) start end key values at);
-    }
-
-pub all_counted : (size : ℕ) (sorted : Bool) (pairs : List TextPair) (start cost own : ℕ) → length pairs ≤ start
-    → KeysCounted size sorted pairs start cost own
-    → (cost ≡ table_cost size (table_units (unlined_pairs pairs))) × (own ≡ sum_by (keyed_own_pages size sorted) (table_units (unlined_pairs pairs)))
-all_counted size sorted pairs start cost own past done = grind (arith, length-pairs, drop_of_length-le)
+pub own_units : (size : ℕ) (sorted : Bool) (units : List TreeUnit)
+    → sum_by (own_in_table size sorted) units ≡ sum_by (keyed_own_pages size sorted) (map keyed_of units)
+own_units size sorted [] = refl
+own_units size sorted (unit ∷ units) =
+    omega (
+      arith,
+      sum_by-cons (own_in_table size sorted) unit units,
+      sum_by-cons (keyed_own_pages size sorted) (keyed_of unit) (map keyed_of units),
+      own_units size sorted units,
+    )

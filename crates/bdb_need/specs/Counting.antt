@@ -1,8 +1,7 @@
 -- Pages that are counted while things are put on them. Source: docs/FORMAT.md, "Built trees".
-use Rattle.std.specs.Prelude.{◌≡◌, ℕ, ◌+◌, ◌-◌, ◌/◌, ◌≤◌, nat_le, if◌then◌else◌, false, List, [], ◌++◌, length, map}
-use Rattle.bdb_mkhash.specs.of_format.Numbers.{pad4}
+use Rattle.std.specs.Prelude.{◌≡◌, ℕ, ◌+◌, ◌≤◌, false, List, [], ◌++◌, length, map}
 use Rattle.bdb_mkhash.specs.of_mkleaves.Spread.{spread_on}
-use Rattle.bdb_mkhash.specs.of_mkleaves.Units.{EntryUnit, TreeUnit, page_room}
+use Rattle.bdb_mkhash.specs.of_mkleaves.Units.{EntryUnit, TreeUnit}
 use Rattle.bdb_mkhash.specs.of_text_format.declared.pairs.TextPair.{TextPair}
 use Rattle.bdb_need.specs.declared.open_page.OpenPage.{OpenPage}
 
@@ -23,13 +22,3 @@ values_in pairs = map (λ (pair : TextPair). pair.value) pairs
 -- the units of the tree of a key's data
 abbrev pub data_units : List (List ℕ) → List TreeUnit
 data_units values = map (λ value. EntryUnit value false) values
-
--- What a value takes, by its length alone.
-
--- the bytes of its item on a leaf
-abbrev pub length_cost : ℕ → ℕ → ℕ
-length_cost size n = if nat_le n (size / 8) then pad4 (3 + n) else 12
-
--- the pages of its chain
-abbrev pub length_chain : ℕ → ℕ → ℕ
-length_chain size n = if nat_le n (size / 8) then 0 else (n + page_room size - 1) / page_room size

@@ -1,6 +1,5 @@
 pub mod Counting
 pub mod TreePages
-pub mod Counts
 pub mod Need
 pub use Rattle.bdb_mkqueue.specs.of_faults as of_faults
 pub use Rattle.bdb_mkhash.specs.of_format as of_format

@@ -2,16 +2,15 @@ ghost use Rattle.std.specs.Prelude.{◌≡◌, ◌+◌, ◌≤◌, ◌*◌, ◌^
 ghost use Rattle.std.specs.List.{All, sum_by};
 ghost use Rattle.bdb_mkhash.specs.of_format.HeadOf.{is_page_size};
 ghost use Rattle.bdb_mkhash.specs.of_places.Places.{values_seen};
-ghost use Rattle.bdb_mkhash.specs.of_mkleaves.Runs.{IsShort, more_cost};
-ghost use Rattle.bdb_mkhash.specs.of_mkleaves.Spread.{leaves_and_levels, set_type};
+ghost use Rattle.bdb_mkhash.specs.of_mkleaves.Runs.{IsShort};
+ghost use Rattle.bdb_mkhash.specs.of_mkleaves.Spread.{leaves_and_levels, set_pages, set_type};
 ghost use Rattle.bdb_mkhash.specs.of_mkleaves.Units.{chain_pages};
 ghost use Rattle.bdb_mkhash.specs.of_mkleaves.declared.leaf_type.LeafType.TheVariants.{Records, SortedData};
 ghost use Rattle.bdb_need.specs.Counting.{data_units};
 
-use crate::costs::{chain_pages, key_item_cost, page_room, value_cost};
 use crate::keyed_leaves::KeyedLeaves;
 use crate::open_page::OpenPage;
-use bdb_mkhash::Values;
+use bdb_mkhash::{Values, chain_pages, key_item_cost, page_room, record_cost};
 use std::alloc::{AllocError, Global};
 
 /// The pages of the chains of data.
@@ -29,20 +28,6 @@ pub fn data_chains(size: usize, values: Values<'_>) -> u128
     pages
 }
 
-/// What data take of a leaf, each with its two entries.
-pub(crate) fn data_cost(size: usize, values: Values<'_>) -> u128
-    requires { IsTrue (is_page_size size) }
-    ensures cost { result ≡ more_cost size (values_seen values.entry) }
-    ensures few { result ≤ length (values_seen values.entry) * 2 ^ 13 }
-    ensures small { result ≤ 2 ^ 77 }
-{
-    let mut cost: u128 = 0;
-    for i in 0..values.len() {
-        cost += (4 + value_cost(size, values.at(i))) as u128;
-    }
-    cost
-}
-
 // The leaves of sorted data, with the levels over them.
 fn sorted_pages(alloc: Global, size: usize, values: Values<'_>) -> Result<u128, AllocError>
     requires { IsTrue (is_page_size size) }
@@ -53,7 +38,7 @@ fn sorted_pages(alloc: Global, size: usize, values: Values<'_>) -> Result<u128, 
     let mut leaves = KeyedLeaves::new(alloc, page_room(size));
     for i in 0..values.len() {
         let value = values.at(i);
-        leaves.put(2 + value_cost(size, value), key_item_cost(size, value))?;
+        leaves.put(record_cost(size, value.len()), key_item_cost(size, value))?;
     }
     Ok(leaves.tree_pages())
 }
@@ -67,7 +52,7 @@ fn unsorted_pages(size: usize, values: Values<'_>) -> u128
 {
     let mut open = OpenPage::new(page_room(size));
     for i in 0..values.len() {
-        open.put(2 + value_cost(size, values.at(i)));
+        open.put(record_cost(size, values.at(i).len()));
     }
     open.tree_pages()
 }
@@ -89,4 +74,22 @@ pub fn data_pages(
     } else {
         Ok(unsorted_pages(size, values))
     }
+}
+
+/// The pages of the tree of a key's data, with their chains.
+pub(crate) fn set_pages(
+    alloc: Global,
+    size: usize,
+    sorted: bool,
+    values: Values<'_>,
+) -> Result<u128, AllocError>
+    requires legal { IsTrue (is_page_size size) }
+    requires short { All IsShort (values_seen values) }
+    ensures pages { IfOk result (λ pages. pages ≡ set_pages size sorted (values_seen values.entry)) }
+    ensures few { IfOk result (λ pages. pages ≤ length (values_seen values.entry) * 2 ^ 32 + 3 * (length (values_seen values.entry) + 1)) }
+    ensures small { IfOk result (λ pages. pages ≤ 2 ^ 97) }
+{
+    let chains = data_chains(size, values);
+    let tree = data_pages(alloc, size, sorted, values)?;
+    Ok(chains + tree)
 }

@@ -5,46 +5,15 @@ ghost use Rattle.bdb_mkhash.specs.of_places.Places.{values_seen};
 ghost use Rattle.bdb_mkhash.specs.of_text_format.Placed.{pairs_of};
 ghost use Rattle.bdb_mkhash.specs.of_mkleaves.Runs.{IsShort};
 ghost use Rattle.bdb_mkhash.specs.of_mkleaves.Spread.{own_pages, tree_size};
-ghost use Rattle.bdb_mkhash.specs.of_mkleaves.Units.{KeyedUnit, has_own_tree, page_room, unit_cost};
+ghost use Rattle.bdb_mkhash.specs.of_mkleaves.Units.{KeyedUnit, has_own_tree};
 ghost use Rattle.bdb_mkhash.specs.of_mkleaves.declared.leaf_type.LeafType.TheVariants.{Pairs};
 ghost use Rattle.bdb_mkhash.specs.of_mktree.Lists.{HasBytes, keyed_units};
 ghost use Rattle.bdb_mkhash.specs.of_mktree.Units.{IsShortUnit};
 
-use crate::costs::{chain_pages, key_item_cost, page_room, value_cost};
-use crate::data::{data_chains, data_cost, data_pages};
+use crate::data::{data_chains, set_pages};
 use crate::keyed_leaves::KeyedLeaves;
-use bdb_mkhash::{KeyGroup, PairSlice, run_at};
+use bdb_mkhash::{KeyGroup, PairSlice, chain_pages, key_item_cost, leaf_cost, page_room, run_at};
 use std::alloc::{AllocError, Global};
-
-/// What a key with its data takes of its leaf.
-#[derive(Clone, Copy)]
-struct Taken {
-    cost: usize,
-    /// Whether the data have a tree of their own.
-    has_tree: bool,
-}
-
-// What a key takes of its leaf: with all its data, or with the root of their tree where they would take too much.
-fn taken_by(run: &KeyGroup<'_>, size: usize) -> Taken
-    requires { IsTrue (is_page_size size) }
-    ensures cost { result.cost ≡ unit_cost size (KeyedUnit run.now.key.now (values_seen run.now.values)) }
-    ensures tree { result.has_tree ≡ has_own_tree size run.now.key.now (values_seen run.now.values) }
-    ensures fits { result.cost ≤ page_room size }
-{
-    let key = value_cost(size, run.key);
-    let cost = key as u128 + data_cost(size, run.values);
-    let most = (page_room(size) / 4) as u128;
-    if run.values.len() > 1 && cost > most {
-        return Taken {
-            cost: key + 16,
-            has_tree: true,
-        };
-    }
-    Taken {
-        cost: cost as usize,
-        has_tree: false,
-    }
-}
 
 // The pages of its own: the chains of the key and its data, and the tree of the data where there is one.
 fn own_pages(
@@ -60,12 +29,11 @@ fn own_pages(
     ensures pages { IfOk result (λ pages. pages ≡ own_pages size sorted (KeyedUnit run.now.key.now (values_seen run.now.values))) }
     ensures few { IfOk result (λ pages. pages ≤ (length (values_seen run.now.values) + 1) * 2 ^ 33) }
 {
-    let chains = chain_pages(size, run.key) + data_chains(size, run.values);
-    if !has_tree {
-        return Ok(chains);
+    let key = chain_pages(size, run.key);
+    if has_tree {
+        return Ok(key + set_pages(alloc, size, sorted, run.values)?);
     }
-    let tree = data_pages(alloc, size, sorted, run.values)?;
-    Ok(chains + tree)
+    Ok(key + data_chains(size, run.values))
 }
 
 /// The pages of a btree with these pairs.
@@ -86,7 +54,7 @@ pub(crate) fn keyed_pages(
     let mut start = 0;
     while start < pairs.len() {
         let run = run_at(pairs, start);
-        let taken = taken_by(&run, size);
+        let taken = leaf_cost(size, run.key, run.values);
         leaves.put(taken.cost, key_item_cost(size, run.key))?;
         own += own_pages(alloc, &run, size, sorted, taken.has_tree)?;
         start = run.end;

@@ -1,7 +1,6 @@
 //! How many pages loading needs, for every list of sections, before any page is built.
 #![tactic(auto)]
 
-mod costs;
 mod data;
 mod keyed_leaves;
 mod keys;
@@ -17,14 +16,13 @@ mod units;
 
 pub use bdb_mkhash::{
     BtreeMeta, Bytes, HashMeta, KeyRef, Kind, Order, Pages, PairRef, PairSlice, Place, PlacedKey,
-    Section, Settings, Span, TextPairs, Values, build_table, build_tree, compare, hash5,
-    plain_settings, u32_at,
+    Section, Settings, Span, TextPairs, Values, build_table, build_tree, chain_pages, compare,
+    hash5, plain_settings, u32_at,
 };
 pub use bdb_mkqueue::{Linked, Meta, build_queue, put_btree_meta, put_hash_meta, put_queue_meta};
 pub use bdb_settle::{
     LoadError, filled, is_among_names, is_too_wide, ordered, settle, sooner_where, with_pairs,
 };
-pub use costs::chain_pages;
 pub use data::{data_chains, data_pages};
 pub use queue::queue_pages;
 pub use sections::{filled_need, need};

@@ -4,31 +4,16 @@ ghost use Rattle.bdb_mkhash.specs.of_format.HeadOf.{is_page_size};
 ghost use Rattle.bdb_mkhash.specs.of_mkleaves.Runs.{IsShort};
 ghost use Rattle.bdb_mkhash.specs.of_mkleaves.Spread.{tree_size};
 ghost use Rattle.bdb_mkhash.specs.of_mkleaves.declared.leaf_type.LeafType.TheVariants.{Records};
-ghost use Rattle.bdb_mkhash.specs.of_text_format.Pairs.{AscendFrom, number_of};
-ghost use Rattle.bdb_mkhash.specs.of_text_format.Placed.{key_seen, slice_seen};
+ghost use Rattle.bdb_mkhash.specs.of_text_format.Pairs.{AscendFrom};
+ghost use Rattle.bdb_mkhash.specs.of_text_format.Placed.{slice_seen};
 ghost use Rattle.bdb_mkhash.specs.of_mktree.Lists.{record_units};
 ghost use Rattle.bdb_need.specs.Counting.{values_in};
 ghost use Rattle.bdb_need.specs.TreePages.{unlined_pairs};
 ghost use Rattle.bdb_settle.specs.Loaded.{filled_pairs};
 
-use crate::costs::{length_chain, length_cost, page_room};
 use crate::open_page::OpenPage;
-use bdb_mkhash::{KeyRef, PairSlice, Settings};
+use bdb_mkhash::{PairSlice, Settings, length_chain, number_of, page_room, record_cost};
 use bdb_settle::filled_len;
-
-// What a missing record takes of a leaf: an entry, and a deleted item without bytes.
-const MISSING_COST: usize = 6;
-
-/// The number of a record; 0 of a key that is bytes.
-pub(crate) fn number_of(key: KeyRef<'_>) -> u64
-    ensures number { result ≡ number_of (key_seen key.entry) }
-    ensures few { result < 2 ^ 32 }
-{
-    match key {
-        KeyRef::Bytes(_) => 0,
-        KeyRef::Number(number) => u64::from(number),
-    }
-}
 
 /// The pages of a recno with these records, once they are filled up. Those that are missing before one are counted at once.
 pub(crate) fn record_pages(size: usize, settings: &Settings, pairs: PairSlice<'_>) -> u128
@@ -39,15 +24,16 @@ pub(crate) fn record_pages(size: usize, settings: &Settings, pairs: PairSlice<'_
         (record_units 1 (unlined_pairs (filled_pairs settings.now (slice_seen pairs.entry)))) }
     ensures few { result < 2 ^ 100 }
 {
+    let missing = record_cost(size, 0);
     let mut open = OpenPage::new(page_room(size));
     let mut chains: u128 = 0;
     let mut next: u64 = 1;
     for i in 0..pairs.len() {
         let pair = pairs.at(i);
-        let number = number_of(pair.key);
+        let number = u64::from(number_of(pair.key));
         let len = filled_len(settings, pair.value);
-        open.put_many(number - next, MISSING_COST);
-        open.put(2 + length_cost(size, len));
+        open.put_many(number - next, missing);
+        open.put(record_cost(size, len));
         chains += length_chain(size, len);
         next = number + 1;
     }

@@ -1,27 +1,28 @@
 -- What is salvaged of an image of bytes is of bytes.
-use Rattle.std.proofs.Common.{ℕ, ◌+◌, ◌*◌, ◌/◌, ◌<◌, Bool, true, false, List, [], ◌∷◌, length, map, take, drop, Option, Some, None, arith, refl, sym, subst}
+use Rattle.std.proofs.Common.{ℕ, ◌+◌, ◌-◌, ◌*◌, ◌/◌, ◌<◌, Bool, true, false, List, [], ◌∷◌, length, map, take, drop, Option, Some, None}
+use Rattle.std.proofs.Common.{arith, refl, sym, subst}
 use Rattle.std.proofs.Common.{inl, inr, get_or}
 use Rattle.std.specs.Prelude.{if◌then◌else◌}
 use Rattle.std.specs.List.{Contains, flat_map, range_with_len}
 use Rattle.std.proofs.lemmas.Bool.{cases_lt}
 use Rattle.std.proofs.lemmas.List.{get_or_past}
 use Rattle.std.proofs.lemmas.List.Elements.{All-contains, All-drop, All-take, Contains-get_or}
-use Rattle.std.proofs.lemmas.List.FromFn.{get_or-map-range_with_len, length-map-range_with_len}
 use Rattle.bdb_model.specs.of_format.declared.kinds.Order.{Order}
 use Rattle.bdb_model.specs.of_format.Chains.{joined, pieces_of, value_of}
 use Rattle.bdb_model.specs.of_format.Contents.{entries_in}
 use Rattle.bdb_model.specs.of_format.File.{File, page_at}
-use Rattle.bdb_model.specs.of_format.Numbers.{four_at}
-use Rattle.bdb_model.specs.of_format.Page.{Content, Chain, Inline, Item, Set, Tree, Unknown, Page, Hash, Leaf, NoType}
-use Rattle.bdb_model.specs.of_format.Reading.{abstract_page}
+use Rattle.bdb_model.specs.of_format.Numbers.{byte_at, four_at}
+use Rattle.bdb_model.specs.of_format.Page.{Content, Chain, Inline, Item, Set, Tree, Unknown, Page, Hash, Leaf}
+use Rattle.bdb_model.specs.of_format.Reading.{abstract_page, page_type}
 use Rattle.bdb_model.specs.of_format.References.{no_item}
 use Rattle.bdb_model.specs.of_format.Rows.{page_code}
 use Rattle.bdb_model.proofs.of_format.MemberLemmas.{no_member, of_flat_map, of_map}
 use Rattle.bdb_model.proofs.of_format.ListLemmas.{only_member}
 use Rattle.bdb_law_kept.specs.of_text.WrittenLaw.{AreBytes}
 use Rattle.bdb_law_kept.proofs.BytesLemmas.{FileHoldsBytes, HoldsBytes, PageHoldsBytes, entry_holds, page_holds, value_holds}
-use Rattle.bdb_rescue.specs.of_survey.Salvage.{ItemPair, is_taken, is_whole, item_pairs, live_value, live_whole, loose, loose_on, pair_in, paired_items, salvaged_file}
-use Rattle.bdb_rescue.specs.of_survey.Salvage.{salvaged_page}
+use Rattle.bdb_rescue.specs.of_survey.Salvage.{ItemPair, is_taken, is_whole, item_pairs, live_value, live_whole, loose, loose_on, meta_code, pair_in}
+use Rattle.bdb_rescue.specs.of_survey.Salvage.{paired_items, salvaged_file, salvaged_page}
+use Rattle.bdb_rescue.proofs.of_survey.StoredPageLemmas.{page_is, page_past}
 use Rattle.bdb_rescue.specs.of_survey.Salvage.{stored, stored_on, stored_pair, unless_code, whole_data, whole_set, whole_values}
 
 abbrev IsByte : ℕ → Type 0
@@ -33,24 +34,20 @@ unless_holds : (code : Option ℕ) (page : Page) → PageHoldsBytes page → Pag
 unless_holds None page all = all
 unless_holds (Some code) page all = tt
 
-page_salvaged : (order : Order) (page : List ℕ) → AreBytes page → PageHoldsBytes (salvaged_page order page)
+page_salvaged : (order : Order) (last : ℕ) (page : List ℕ) → AreBytes page → PageHoldsBytes (salvaged_page order last page)
 unfolding salvaged_page
-page_salvaged order page all =
-    unless_holds (page_code order (four_at order page 8) page) (abstract_page order page) (page_holds order page all)
+page_salvaged order last page all =
+    unless_holds (page_code order (four_at order page 8) page) _
+    (unless_holds (meta_code order last page (page_type (byte_at page 25))) (abstract_page order page) (page_holds order page all))
 
 pub salvaged_holds : (order : Order) (size : ℕ) (image : List ℕ) → AreBytes image → FileHoldsBytes (salvaged_file order size image)
-unfolding salvaged_file
 salvaged_holds order size image all p =
     elim (cases_lt p (length image / size)) [
       | inl there ↦
-          subst PageHoldsBytes
-          (sym (get_or-map-range_with_len (λ q. salvaged_page order (take size (drop (q * size) image))) 0 (length image / size) p p NoType there
-          (omega arith)))
-          (page_salvaged order (take size (drop (p * size) image)) (All-take IsByte size (drop (p * size) image) (All-drop IsByte (p * size) image all)))
-      | inr past ↦
-          subst PageHoldsBytes
-          (sym (get_or_past (map (λ q. salvaged_page order (take size (drop (q * size) image))) (range_with_len 0 (length image / size))) p NoType
-          (omega (arith, length-map-range_with_len (λ q. salvaged_page order (take size (drop (q * size) image))) 0 (length image / size))))) tt
+          subst PageHoldsBytes (sym (page_is order size image p there))
+          (page_salvaged order (length image / size - 1) (take size (drop (p * size) image))
+          (All-take IsByte size (drop (p * size) image) (All-drop IsByte (p * size) image all)))
+      | inr past ↦ subst PageHoldsBytes (sym (page_past order size image p past)) tt
     ]
 
 -- Values.

@@ -1,18 +1,17 @@
 -- How many loose records there are: an index takes two bytes for each.
-use Rattle.std.proofs.Common.{◌≡◌, ℕ, ◌*◌, ◌/◌, ◌≤◌, Bool, true, false, List, [], ◌∷◌, length, map, take, drop, arith, refl, sym, ◌∙◌, ap, subst, inl, inr}
+use Rattle.std.proofs.Common.{◌≡◌, ℕ, ◌-◌, ◌*◌, ◌/◌, ◌≤◌, Bool, true, false, List, [], ◌∷◌, length, take, drop, arith, refl, sym, ◌∙◌, ap, subst, inl, inr}
 use Rattle.std.proofs.Common.{length-append, length-take, ltb-false}
 use Rattle.std.specs.Prelude.{Option, Some, None, if◌then◌else◌}
 use Rattle.std.specs.List.{flat_map, range_with_len}
 use Rattle.std.proofs.Math.Nat.{mul_comm}
 use Rattle.std.proofs.lemmas.Bool.{cases_lt}
-use Rattle.std.proofs.lemmas.List.{get_or_past}
-use Rattle.std.proofs.lemmas.List.FromFn.{get_or-map-range_with_len, length-map-range_with_len, length-range_with_len}
+use Rattle.std.proofs.lemmas.List.FromFn.{length-range_with_len}
 use Rattle.bdb_text_format.specs.of_format.declared.kinds.Order.{Order}
 use Rattle.bdb_text_format.specs.of_format.Chains.{joined, pieces_of}
 use Rattle.bdb_text_format.specs.of_format.Contents.{entries_in}
 use Rattle.bdb_text_format.specs.of_format.File.{File, page_at}
 use Rattle.bdb_text_format.specs.of_format.Numbers.{byte_at, four_at}
-use Rattle.bdb_text_format.specs.of_format.Page.{Content, Inline, Set, Chain, Tree, Unknown, Item, Zero, NoType}
+use Rattle.bdb_text_format.specs.of_format.Page.{Content, Inline, Set, Chain, Tree, Unknown, Item, Zero}
 use Rattle.bdb_text_format.specs.of_format.declared.pages.PageType.{PageType}
 use Rattle.bdb_text_format.specs.of_format.declared.pages.PageType.TheVariants.{RecnoLeaf as RecnoLeafPage, DupLeaf as DupLeafPage}
 use Rattle.bdb_text_format.specs.of_format.Reading.{abstract_page, index_end, is_zero, leaf_item_at, page_as, page_type}
@@ -20,7 +19,9 @@ use Rattle.bdb_text_format.specs.of_format.Rows.{body_code, identity_rows, is_tr
 use Rattle.bdb_text_format.specs.of_format.Table.{first_row}
 use Rattle.bdb_text_format.proofs.of_format.ItemLemmas.{index_passes, no_index_row}
 use Rattle.bdb_text_format.proofs.of_format.PageLemmas.{length_items}
-use Rattle.bdb_survey.specs.Salvage.{is_taken, is_whole, live_value, live_whole, loose, loose_on, salvaged_file, salvaged_page, unless_code, whole_values}
+use Rattle.bdb_survey.specs.Salvage.{is_taken, is_whole, live_value, live_whole, loose, loose_on, meta_code, salvaged_file, salvaged_page}
+use Rattle.bdb_survey.specs.Salvage.{unless_code, whole_values}
+use Rattle.bdb_survey.proofs.StoredPageLemmas.{page_is, page_past}
 use Rattle.bdb_survey.proofs.StoredPageLemmas.{count_is as whole_pages}
 
 -- lists that are at most so long, joined
@@ -41,39 +42,35 @@ room_by order page DupLeafPage none =
     omega (arith, length_items order page (leaf_item_at order page))
 room_by order page t none = omega arith
 
-room_coded : (order : Order) (page : List ℕ) (t : PageType) (code : Option ℕ) → body_code order page t ≡ code
-    → 2 * length (entries_in (unless_code code (page_as order page t))) ≤ length page
-room_coded order page t None is = room_by order page t is
-room_coded order page t (Some code) is = omega arith
+room_coded : (order : Order) (page : List ℕ) (t : PageType) (meta code : Option ℕ) → body_code order page t ≡ code
+    → 2 * length (entries_in (unless_code code (unless_code meta (page_as order page t)))) ≤ length page
+room_coded order page t None None is = room_by order page t is
+room_coded order page t (Some row) None is = omega arith
+room_coded order page t meta (Some code) is = omega arith
 
-room_of : (order : Order) (page : List ℕ) (t : PageType) (zero : Bool) (identity : Option ℕ)
+room_of : (order : Order) (page : List ℕ) (t : PageType) (meta : Option ℕ) (zero : Bool) (identity : Option ℕ)
     → 2 * length (entries_in (unless_code
     (elim zero as (λ _. Option ℕ) [ true ↦ None | false ↦ elim identity as (λ _. Option ℕ) [ Some code ↦ Some code | None ↦ body_code order page t ] ])
-    (elim zero [ true ↦ Zero | false ↦ page_as order page t ]))) ≤ length page
-room_of order page t true identity = omega arith
-room_of order page t false (Some code) = omega arith
-room_of order page t false None = room_coded order page t (body_code order page t) refl
+    (unless_code meta (elim zero [ true ↦ Zero | false ↦ page_as order page t ])))) ≤ length page
+room_of order page t None true identity = omega arith
+room_of order page t (Some row) true identity = omega arith
+room_of order page t meta false (Some code) = omega arith
+room_of order page t meta false None = room_coded order page t meta (body_code order page t) refl
 
 -- the entries of a page that is looked at take two bytes each in its index
-page_room : (order : Order) (page : List ℕ) → 2 * length (entries_in (salvaged_page order page)) ≤ length page
+page_room : (order : Order) (last : ℕ) (page : List ℕ) → 2 * length (entries_in (salvaged_page order last page)) ≤ length page
 unfolding salvaged_page page_code abstract_page
-page_room order page =
-    room_of order page (page_type (byte_at page 25)) (is_zero page) (first_row (identity_rows order page (four_at order page 8) is_tree_type))
+page_room order last page =
+    room_of order page (page_type (byte_at page 25)) (meta_code order last page (page_type (byte_at page 25))) (is_zero page)
+    (first_row (identity_rows order page (four_at order page 8) is_tree_type))
 
 entries_short : (order : Order) (size : ℕ) (image : List ℕ) (p : ℕ) → 2 * length (entries_in (page_at (salvaged_file order size image) p)) ≤ size
-unfolding salvaged_file
 entries_short order size image p =
     elim (cases_lt p (length image / size)) [
       | inl there ↦
-          subst (λ page. 2 * length (entries_in page) ≤ size)
-          (sym (get_or-map-range_with_len (λ q. salvaged_page order (take size (drop (q * size) image))) 0 (length image / size) p p NoType there
-          (omega arith)))
-          (omega (arith, page_room order (take size (drop (p * size) image)), length-take size (drop (p * size) image)))
-      | inr past ↦
-          subst (λ page. 2 * length (entries_in page) ≤ size)
-          (sym (get_or_past (map (λ q. salvaged_page order (take size (drop (q * size) image))) (range_with_len 0 (length image / size))) p NoType
-          (omega (arith, length-map-range_with_len (λ q. salvaged_page order (take size (drop (q * size) image))) 0 (length image / size)))))
-          (omega arith)
+          subst (λ page. 2 * length (entries_in page) ≤ size) (sym (page_is order size image p there))
+          (omega (arith, page_room order (length image / size - 1) (take size (drop (p * size) image)), length-take size (drop (p * size) image)))
+      | inr past ↦ subst (λ page. 2 * length (entries_in page) ≤ size) (sym (page_past order size image p past)) (omega arith)
     ]
 
 -- The records of a page.

@@ -1,4 +1,5 @@
 pub mod DigitLemmas
+pub mod DigitTableLemmas
 pub mod ReadingLemmas
 pub mod RunLemmas
 pub mod SpellingLemmas

@@ -1,17 +1,15 @@
 -- Reading a spelling a run at a time.
-use Rattle.std.proofs.Common.{min, length-take, length-drop, drop_of_length-le, nat_le, eq-eqb, ◌≡◌, ◌≢◌, ℕ, zero, suc, ◌+◌, ◌-◌, ◌*◌, ◌/◌, ◌%◌, ◌<◌, ◌≤◌, ◌==◌}
-use Rattle.std.proofs.Common.{if◌then◌else◌, Bool, true, false, List, [], ◌∷◌, ◌++◌, length, take, drop, slice_index, Option, Some, None, Result, Ok, Err, refl}
+use Rattle.std.proofs.Common.{min, length-take, length-drop, drop_of_length-le, nat_le, ◌≡◌, ◌≢◌, ℕ, zero, suc, ◌+◌, ◌-◌, ◌*◌, ◌<◌, ◌≤◌, ◌==◌}
+use Rattle.std.proofs.Common.{Bool, true, false, List, [], ◌∷◌, ◌++◌, length, take, drop, slice_index, slice_set, Option, Some, None, refl}
 use Rattle.std.proofs.Common.{sym, ap, ◌∙◌, arith, append_assoc}
-use Rattle.std.specs.Prelude.{MatchResult, is_ok, is_some, ◌⊎◌}
+use Rattle.std.specs.Prelude.{is_some, ◌⊎◌}
 use Rattle.std.proofs.Common.{inl, inr}
-use Rattle.std.proofs.lemmas.List.{append-nil, take_all, take-append-drop}
-use Rattle.std.proofs.lemmas.Bool.{eqb-true, false_from_ne_true, leb-true, leb-false, or_from, or_parts}
-use Rattle.hex.specs.declared.error.FromHexError.{FromHexError}
-use Rattle.hex.specs.Hex.{decode_pairs, decode_sized, digit_or_error, hex_digit_value, ◌>>=◌}
+use Rattle.std.proofs.lemmas.List.{append-nil, drop_all, drop_more, take_all, take-append-drop, take_more_set}
+use Rattle.std.proofs.lemmas.Bool.{false_from_ne_true, leb-true, leb-false, or_from, or_parts}
 use Rattle.bdb_text_format.specs.TextSpelling.{before, byte_before, byte_of_digits, bytes_spelled, digit_value, next_unit}
 use Rattle.bdb_text_format.proofs.UnitLemmas.{read_empty, read_no_unit, read_unit}
 use Rattle.bdb_spelling.specs.Runs.{has_backslash, joined}
-use Rattle.bdb_spelling.proofs.ReadingLemmas.{digit_value-hex}
+use Rattle.bdb_spelling.proofs.ReadingLemmas.{spelled_empty}
 
 -- Digits.
 
@@ -62,31 +60,7 @@ spelled-append (suc k) (high ∷ low ∷ run) rest size =
     ∙ both_before (byte_of_digits (digit_value high) (digit_value low)) (bytes_spelled false run) (bytes_spelled false rest)
     ∙ ap (λ bytes. both bytes (bytes_spelled false rest)) (sym (spelled-pair high low run))
 
--- What `hex` decodes.
-
-abbrev bytes_of : Result (List ℕ) FromHexError → Option (List ℕ)
-bytes_of (Ok bytes) = Some bytes
-bytes_of (Err error) = None
-
-pair_decoded : (high low i : ℕ) (a b : Option ℕ) (bytes : Result (List ℕ) FromHexError)
-    → before_where (byte_of_digits a b) (bytes_of bytes)
-    ≡ bytes_of ((digit_or_error high i a >>= (λ (x : ℕ). digit_or_error low (i + 1) b >>= (λ (y : ℕ). Ok (x * 16 + y))))
-    >>= (λ (byte : ℕ). bytes >>= (λ (behind : List ℕ). Ok (byte ∷ behind))))
-pair_decoded high low i None b bytes = refl
-pair_decoded high low i (Some x) None bytes = refl
-pair_decoded high low i (Some x) (Some y) (Ok bytes) = let same : 16 * x + y ≡ x * 16 + y = omega arith in ap (λ (byte : ℕ). Some (byte ∷ bytes)) same
-pair_decoded high low i (Some x) (Some y) (Err error) = refl
-
-spelled-decoded : (i : ℕ) (run : List ℕ) → bytes_spelled false run ≡ bytes_of (decode_pairs i run)
-unfolding decode_pairs
-spelled-decoded i [] = read_empty false
-spelled-decoded i (digit ∷ []) = spelled-lone digit
-spelled-decoded i (high ∷ low ∷ run) =
-    spelled-pair high low run
-    ∙ ap (before_where (byte_of_digits (digit_value high) (digit_value low))) (spelled-decoded (i + 2) run)
-    ∙ rw (digit_value-hex high, digit_value-hex low) (pair_decoded high low i (hex_digit_value high) (hex_digit_value low) (decode_pairs (i + 2) run))
-
-spelled-odd : (run : List ℕ) (k : ℕ) → length run ≡ 2 * k + 1 → bytes_spelled false run ≡ None
+pub spelled-odd : (run : List ℕ) (k : ℕ) → length run ≡ 2 * k + 1 → bytes_spelled false run ≡ None
 spelled-odd [] k size = absurd (omega arith)
 spelled-odd (digit ∷ []) k size = spelled-lone digit
 spelled-odd (high ∷ low ∷ run) zero size = absurd (omega arith)
@@ -98,23 +72,60 @@ spelled-odd (high ∷ low ∷ run) (suc k) size =
     none_before None = refl
     none_before (Some byte) = refl
 
-sized_by : (run : List ℕ) (n : ℕ) (odd : Bool) → (length run % 2 == 1) ≡ odd → n ≡ length run / 2 → bytes_of (decode_sized run n) ≡ bytes_spelled false run
-sized_by run n true is size =
-    let parity : length run % 2 ≡ 1 = eqb-true (length run % 2) 1 is in
-    rw is (sym (spelled-odd run (length run / 2) (omega arith)))
-sized_by run n false is size = let same = eq-eqb (length run / 2) n (sym size) in rw (is, same) (sym (spelled-decoded 0 run))
+-- Digits decoded pair by pair.
 
-decoded_by : (sized : Result (List ℕ) FromHexError) (out : List ℕ) (result : Result Unit FromHexError)
-    → MatchResult sized (λ (bytes : List ℕ). (result ≡ Ok tt) × (out ≡ bytes)) (λ (error : FromHexError). result ≡ Err error)
-    → bytes_of sized ≡ (if is_ok result then Some out else None)
-decoded_by (Ok bytes) out result h = rw (h.0, ← h.1) refl
-decoded_by (Err error) out result h = rw h refl
+-- what is left of a run, at a whole pair
+drop_pair : (run : List ℕ) (i : ℕ) → 2 * i + 1 < length run
+    → drop (2 * i) run ≡ slice_index run (2 * i) ∷ slice_index run (2 * i + 1) ∷ drop (2 * (i + 1)) run
+drop_pair run i within =
+    let first = drop_more run (2 * i) 0 (omega arith) in
+    let second = drop_more run (2 * i + 1) 0 (omega arith) in
+    let two : 2 * i + 1 + 1 ≡ 2 * (i + 1) = omega arith in
+    rw (first, second, two) refl
 
--- what decoding a run into room for its bytes answers
-pub decoded : (run out : List ℕ) (n : ℕ) (result : Result Unit FromHexError) → n ≡ length run / 2
-    → MatchResult (decode_sized run n) (λ (bytes : List ℕ). (result ≡ Ok tt) × (out ≡ bytes)) (λ (error : FromHexError). result ≡ Err error)
-    → bytes_spelled false run ≡ (if is_ok result then Some out else None)
-decoded run out n result size h = sym (sized_by run n (length run % 2 == 1) refl size) ∙ decoded_by (decode_sized run n) out result h
+pair_at : (run : List ℕ) (i : ℕ) (byte : Option ℕ) → 2 * i + 1 < length run
+    → byte ≡ byte_of_digits (digit_value (slice_index run (2 * i))) (digit_value (slice_index run (2 * i + 1)))
+    → bytes_spelled false (drop (2 * i) run) ≡ before_where byte (bytes_spelled false (drop (2 * (i + 1)) run))
+pair_at run i byte within is =
+    ap (bytes_spelled false) (drop_pair run i within)
+    ∙ spelled-pair (slice_index run (2 * i)) (slice_index run (2 * i + 1)) (drop (2 * (i + 1)) run)
+    ∙ ap (λ b. before_where b (bytes_spelled false (drop (2 * (i + 1)) run))) (sym is)
+
+joined_push : (front : List ℕ) (byte : ℕ) (behind : Option (List ℕ)) → joined front (before byte behind) ≡ joined (front ++ byte ∷ []) behind
+joined_push front byte None = refl
+joined_push front byte (Some behind) = ap Some (sym (append_assoc front (byte ∷ []) behind))
+
+-- no pair is decoded yet
+pub decode_start : (run out : List ℕ) → bytes_spelled false run ≡ joined (take 0 out) (bytes_spelled false (drop (2 * 0) run))
+decode_start run out = joined_nil (bytes_spelled false run)
+  where
+    joined_nil : (bytes : Option (List ℕ)) → bytes ≡ joined [] bytes
+    joined_nil None = refl
+    joined_nil (Some bytes) = refl
+
+-- one pair more
+pub decode_step : (run out : List ℕ) (i byte : ℕ) → 2 * i + 1 < length run → i < length out
+    → Some byte ≡ byte_of_digits (digit_value (slice_index run (2 * i))) (digit_value (slice_index run (2 * i + 1)))
+    → bytes_spelled false run ≡ joined (take i out) (bytes_spelled false (drop (2 * i) run))
+    → bytes_spelled false run ≡ joined (take (i + 1) (slice_set out i byte)) (bytes_spelled false (drop (2 * (i + 1)) run))
+decode_step run out i byte within room is so_far =
+    so_far ∙ ap (joined (take i out)) (pair_at run i (Some byte) within is)
+    ∙ joined_push (take i out) byte (bytes_spelled false (drop (2 * (i + 1)) run))
+    ∙ ap (λ front. joined front (bytes_spelled false (drop (2 * (i + 1)) run))) (sym (take_more_set out i byte room))
+
+-- a pair that has no byte
+pub decode_refused : (run out : List ℕ) (i : ℕ) → 2 * i + 1 < length run
+    → None ≡ byte_of_digits (digit_value (slice_index run (2 * i))) (digit_value (slice_index run (2 * i + 1)))
+    → bytes_spelled false run ≡ joined (take i out) (bytes_spelled false (drop (2 * i) run)) → bytes_spelled false run ≡ None
+decode_refused run out i within none so_far = so_far ∙ ap (joined (take i out)) (pair_at run i None within none)
+
+-- all pairs
+pub decode_done : (run out : List ℕ) (i : ℕ) → length out ≤ i → length run ≤ 2 * i
+    → bytes_spelled false run ≡ joined (take i out) (bytes_spelled false (drop (2 * i) run)) → bytes_spelled false run ≡ Some out
+decode_done run out i full all so_far =
+    so_far ∙ ap (λ rest. joined (take i out) (bytes_spelled false rest)) (drop_all (2 * i) run all)
+    ∙ ap (joined (take i out)) (read_empty false)
+    ∙ ap Some (append-nil (take i out) ∙ take_all i out full)
 
 -- A run of digits.
 
@@ -210,14 +221,6 @@ joined_joined : (bytes more : List ℕ) (behind : Option (List ℕ)) → joined 
 joined_joined bytes more None = refl
 joined_joined bytes more (Some behind) = ap Some (sym (append_assoc bytes more behind))
 
-pub run_more : (print : Bool) (text bytes rest more behind : List ℕ) → bytes_spelled print text ≡ joined bytes (bytes_spelled print rest)
-    → bytes_spelled print rest ≡ joined more (bytes_spelled print behind) → bytes_spelled print text ≡ joined (bytes ++ more) (bytes_spelled print behind)
-run_more print text bytes rest more behind so_far run = so_far ∙ ap (joined bytes) run ∙ joined_joined bytes more (bytes_spelled print behind)
-
-pub run_refused : (print : Bool) (text bytes rest : List ℕ) → bytes_spelled print text ≡ joined bytes (bytes_spelled print rest)
-    → bytes_spelled print rest ≡ None → bytes_spelled print text ≡ None
-run_refused print text bytes rest so_far none = so_far ∙ ap (joined bytes) none
-
 -- a text is a spelling where what stands behind its first run is one
 pub is_some-behind : (print : Bool) (text rest more behind : List ℕ) → is_some (bytes_spelled print text) ≡ is_some (bytes_spelled print rest)
     → bytes_spelled print rest ≡ joined more (bytes_spelled print behind) → is_some (bytes_spelled print text) ≡ is_some (bytes_spelled print behind)
@@ -226,3 +229,31 @@ is_some-behind print text rest more behind so_far run = so_far ∙ ap is_some ru
     kept : (bytes : Option (List ℕ)) → is_some (joined more bytes) ≡ is_some bytes
     kept None = refl
     kept (Some bytes) = refl
+
+-- Behind other bytes.
+
+-- a text was read whole
+pub read_whole : (print : Bool) (text old bytes rest : List ℕ)
+    → joined old (bytes_spelled print text) ≡ joined bytes (bytes_spelled print rest) → length rest ≡ 0
+    → joined old (bytes_spelled print text) ≡ Some bytes
+read_whole print text old bytes rest is none = is ∙ ap (joined bytes) (spelled_empty print rest none) ∙ ap Some (append-nil bytes)
+
+-- one run more
+pub run_behind : (print : Bool) (text old bytes rest more behind : List ℕ)
+    → joined old (bytes_spelled print text) ≡ joined bytes (bytes_spelled print rest)
+    → bytes_spelled print rest ≡ joined more (bytes_spelled print behind)
+    → joined old (bytes_spelled print text) ≡ joined (bytes ++ more) (bytes_spelled print behind)
+run_behind print text old bytes rest more behind so_far run = so_far ∙ ap (joined bytes) run ∙ joined_joined bytes more (bytes_spelled print behind)
+
+none_from : (old : List ℕ) (bytes : Option (List ℕ)) → joined old bytes ≡ None → bytes ≡ None
+none_from old None none = refl
+none_from old (Some bytes) none = none-absurd none
+  where
+    none-absurd : Some (old ++ bytes) ≡ None → Some bytes ≡ None
+    none-absurd e = cc
+
+-- a run that is refused
+pub refused_behind : (print : Bool) (text old bytes rest : List ℕ)
+    → joined old (bytes_spelled print text) ≡ joined bytes (bytes_spelled print rest)
+    → bytes_spelled print rest ≡ None → bytes_spelled print text ≡ None
+refused_behind print text old bytes rest so_far none = none_from old (bytes_spelled print text) (so_far ∙ ap (joined bytes) none)

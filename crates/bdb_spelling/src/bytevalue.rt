@@ -1,10 +1,11 @@
 // Bytes as two hexadecimal digits each.
 ghost use Rattle.std.specs.Prelude.{◌≡◌, ◌≤◌, ◌+◌, ◌*◌, ◌++◌, length, OnOk, OnErr, take, true, false};
 ghost use Rattle.bdb_text_format.specs.LineEnd.{line};
-ghost use Rattle.bdb_text_format.specs.TextSpelling.{byte_of_digits, digit_value, digits_unit, spelling, two_digits};
+ghost use Rattle.bdb_text_format.specs.TextSpelling.{digits_unit, spelling, two_digits};
 ghost use Rattle.bdb_text_format.specs.Written.{data_line};
 ghost use Rattle.bdb_spelling.specs.Spellings.{AddsPart, first_seen};
 
+use crate::digit_tables::byte_of;
 use crate::spellings::First;
 use bdb_text_format::Bytes;
 use std::alloc::AllocError;
@@ -79,17 +80,6 @@ pub fn push_short_line(text: &mut Bytes, value: &[u8]) -> Result<(), AllocError>
     let whole = &mut room[..2 * value.len() + 2];
     fill_line(whole, value);
     text.push_all(whole)
-}
-
-/// The byte of two digits, in either case.
-pub fn byte_of(high: u8, low: u8) -> Option<u8>
-    ensures { result ≡ byte_of_digits (digit_value high) (digit_value low) }
-{
-    let mut byte = [0u8; 1];
-    match hex::decode_to_slice([high, low], &mut byte) {
-        Ok(()) => Some(byte[0]),
-        Err(_) => None,
-    }
 }
 
 /// The first byte that a text of digits spells, and the text behind it.

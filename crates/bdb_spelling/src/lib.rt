@@ -2,6 +2,7 @@
 #![tactic(auto)]
 
 mod bytevalue;
+mod digit_tables;
 mod digits;
 mod lines;
 mod numbers;
@@ -10,8 +11,9 @@ mod runs;
 mod spellings;
 
 pub use bdb_text_format::{
-    Bytes, Judged, Key, KeyRef, Kind, Order, PairRef, PairSlice, Section, Sections, Settings,
-    TextFault, TextPair, TextPairs, TextReason, number_in, plain_settings,
+    Bytes, Judged, Key, KeyRef, Kind, Order, PairRef, PairSlice, Place, PlacedKey, PlacedPairs,
+    Section, Sections, Settings, Span, TextFault, TextPair, TextPairs, TextReason, number_in,
+    plain_settings,
 };
 pub use bytevalue::{SHORT_VALUE, push_short_line};
 pub use digits::number_read;

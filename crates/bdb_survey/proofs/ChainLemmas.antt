@@ -1,5 +1,6 @@
 -- A whole chain of the pages that a guess reads is one of the image.
-use Rattle.std.proofs.Common.{◌≡◌, ℕ, zero, suc, ◌+◌, ◌/◌, ◌<◌, ◌≤◌, Bool, true, false, cond, List, [], ◌∷◌, map, length, arith, refl, sym, ◌∙◌, ap, inl, inr}
+use Rattle.std.proofs.Common.{◌≡◌, ℕ, zero, suc, ◌+◌, ◌-◌, ◌/◌, ◌<◌, ◌≤◌, Bool, true, false, cond, List, [], ◌∷◌, map, length, arith, refl, sym, ◌∙◌, ap, inl}
+use Rattle.std.proofs.Common.{inr}
 use Rattle.std.proofs.Common.{eqb-true}
 use Rattle.std.specs.Prelude.{◌==◌, ◌&&◌, not, nat_lt, Option, Some, None}
 use Rattle.std.proofs.Common.{ltb-false}
@@ -20,7 +21,8 @@ use Rattle.bdb_law_sums.specs.of_form.Formed.{HoldsData}
 use Rattle.bdb_law_sums.proofs.of_form.FormedLemmas.{holds_data, tree_body}
 use Rattle.bdb_law_sums.specs.of_overflow.Whole.{EndsIn, IsLink, IsWholeChain, bytes_of, next_at}
 use Rattle.bdb_law_sums.proofs.of_overflow.WholeLemmas.{page_as_is, page_length}
-use Rattle.bdb_survey.specs.Salvage.{follows, is_link, is_overflow, is_row, salvaged_file, salvaged_page, unless_code}
+use Rattle.bdb_survey.specs.Salvage.{follows, is_link, is_overflow, is_row, meta_code, salvaged_file, salvaged_page, unless_code}
+use Rattle.bdb_survey.proofs.MetaLemmas.{both_none}
 use Rattle.bdb_survey.proofs.StoredPageLemmas.{count_is, page_is, page_past}
 use Rattle.bdb_law_sums.proofs.HashLemmas.{no_turn, turn_is}
 
@@ -31,10 +33,10 @@ overflow_type order page OverflowPage is = refl
 overflow_type order page t is = absurd cc
 
 -- a page of a chain has type 7, and its data lie on it
-record IsChainPage (order : Order) (page : List ℕ) : Type 0 where
+record IsChainPage (order : Order) (last : ℕ) (page : List ℕ) : Type 0 where
   kind : byte_at page 25 ≡ 7
   room : 26 + two_at order page 22 ≤ length page
-  same : salvaged_page order page ≡ abstract_page order page
+  same : salvaged_page order last page ≡ abstract_page order page
 
 by_zero : (order : Order) (page : List ℕ) → 26 ≤ length page → length page ≤ 32768 → page_code order (four_at order page 8) page ≡ None
     → (zeros : Bool) → is_zero page ≡ zeros → is_overflow (elim zeros [ true ↦ Zero | false ↦ page_as order page (page_type (byte_at page 25)) ]) ≡ true
@@ -44,18 +46,22 @@ by_zero order page header size none false zeros is =
     let type : page_type (byte_at page 25) ≡ OverflowPage = overflow_type order page (page_type (byte_at page 25)) is in
     (holds_data order page size header (tree_body order (four_at order page 8) page none zeros) type, byte_as (byte_at page 25) OverflowPage type)
 
-by_code : (order : Order) (page : List ℕ) → 26 ≤ length page → length page ≤ 32768
-    → (code : Option ℕ) → page_code order (four_at order page 8) page ≡ code → is_overflow (unless_code code (abstract_page order page)) ≡ true
-    → IsChainPage order page
+by_code : (order : Order) (last : ℕ) (page : List ℕ) → 26 ≤ length page → length page ≤ 32768
+    → (code meta : Option ℕ) → page_code order (four_at order page 8) page ≡ code → meta_code order last page (page_type (byte_at page 25)) ≡ meta
+    → is_overflow (unless_code code (unless_code meta (abstract_page order page))) ≡ true
+    → IsChainPage order last page
 unfolding abstract_page salvaged_page
-by_code order page header size (Some code) some is = absurd cc
-by_code order page header size None none is =
+by_code order last page header size (Some code) meta some held is = absurd cc
+by_code order last page header size None (Some code) none some is = absurd cc
+by_code order last page header size None None none held is =
     let both : HoldsData order page × (byte_at page 25 ≡ 7) = by_zero order page header size none (is_zero page) refl is in
-    record { kind = both.1; room = both.0.room; same = ap (λ code. unless_code code (abstract_page order page)) none }
+    record { kind = both.1; room = both.0.room; same = both_none order last page none held }
 
-chain_page : (order : Order) (page : List ℕ) → 26 ≤ length page → length page ≤ 32768 → is_overflow (salvaged_page order page) ≡ true → IsChainPage order page
+chain_page : (order : Order) (last : ℕ) (page : List ℕ) → 26 ≤ length page → length page ≤ 32768 → is_overflow (salvaged_page order last page) ≡ true
+    → IsChainPage order last page
 unfolding salvaged_page
-chain_page order page header size is = by_code order page header size (page_code order (four_at order page 8) page) refl is
+chain_page order last page header size is =
+    by_code order last page header size (page_code order (four_at order page 8) page) (meta_code order last page (page_type (byte_at page 25))) refl refl is
 
 -- The same by its number.
 
@@ -84,7 +90,8 @@ same_link order size image before p legal is =
     let short : size ≤ 32768 = (size_bounds size legal).1 in
     let page : List ℕ = bytes_of size image p in
     let all : length page ≡ size = page_length size image p (omega (arith, long)) there in
-    let of_page : IsChainPage order page = chain_page order page (omega (arith, all, long)) (omega (arith, all, short))
+    let of_page : IsChainPage order (length image / size - 1) page = chain_page order (length image / size - 1) page (omega (arith, all, long))
+    (omega (arith, all, short))
     (sym (ap is_overflow (page_is order size image p there)) ∙ chain) in
     let same : page_at file p ≡ page_at (file_as order size image) p = page_is order size image p there
     ∙ (of_page.same ∙ sym (page_as_is order size image p there)) in

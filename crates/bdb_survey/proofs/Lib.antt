@@ -1,4 +1,5 @@
 mod Below
+pub mod MetaLemmas
 pub mod StoredPageLemmas
 pub mod StoredRowLemmas
 pub mod PageLemmas

@@ -17,13 +17,14 @@ unfolding salvaged_file Rattle.bdb_law_sums.specs.of_format.File.file_as
 last_is order size image = refl
 
 pub page_is : (order : Order) (size : ℕ) (image : List ℕ) (p : ℕ) → p < length image / size
-    → page_at (salvaged_file order size image) p ≡ salvaged_page order (take size (drop (p * size) image))
+    → page_at (salvaged_file order size image) p ≡ salvaged_page order (length image / size - 1) (take size (drop (p * size) image))
 unfolding salvaged_file
 page_is order size image p there =
-    get_or-map-range_with_len (λ q. salvaged_page order (take size (drop (q * size) image))) 0 (length image / size) p p NoType there (omega arith)
+    get_or-map-range_with_len (λ q. salvaged_page order (length image / size - 1) (take size (drop (q * size) image))) 0 (length image / size) p p NoType there
+    (omega arith)
 
 pub page_past : (order : Order) (size : ℕ) (image : List ℕ) (p : ℕ) → length image / size ≤ p → page_at (salvaged_file order size image) p ≡ NoType
 unfolding salvaged_file
 page_past order size image p past =
-    get_or_past (map (λ q. salvaged_page order (take size (drop (q * size) image))) (range_with_len 0 (length image / size))) p NoType
-    (omega (arith, length-map-range_with_len (λ q. salvaged_page order (take size (drop (q * size) image))) 0 (length image / size)))
+    get_or_past (map (λ q. salvaged_page order (length image / size - 1) (take size (drop (q * size) image))) (range_with_len 0 (length image / size))) p NoType
+    (omega (arith, length-map-range_with_len (λ q. salvaged_page order (length image / size - 1) (take size (drop (q * size) image))) 0 (length image / size)))

@@ -1,13 +1,18 @@
 -- What salvage gives from the whole pages of an image, read in an order and with a page size that are guessed. Source: docs/FORMAT.md, "Salvage".
-use Rattle.std.specs.Prelude.{ℕ, zero, suc, ◌+◌, ◌*◌, ◌/◌, ◌==◌, ◌&&◌, not, if◌then◌else◌, Bool, true, false, List, [], ◌∷◌, map, length, take, drop, get_or}
+use Rattle.std.specs.Prelude.{ℕ, zero, suc, ◌+◌, ◌-◌, ◌*◌, ◌/◌, ◌==◌, ◌&&◌, not, if◌then◌else◌, Bool, true, false, List, [], ◌∷◌, map, length, take, drop}
+use Rattle.std.specs.Prelude.{get_or}
 use Rattle.std.specs.Prelude.{Option, Some, None, is_none}
 use Rattle.std.specs.List.{flat_map, list_any, range_with_len}
 use Rattle.bdb_law_sums.specs.of_format.declared.kinds.Order.{Order}
 use Rattle.bdb_law_sums.specs.of_format.declared.references.Sort.TheVariants.{Child}
-use Rattle.bdb_law_sums.specs.of_format.Numbers.{four_at}
+use Rattle.bdb_law_sums.specs.of_format.declared.metadata.FileKind.TheVariants.{Btree, Hash as HashFile}
+use Rattle.bdb_law_sums.specs.of_format.declared.pages.PageType.{PageType}
+use Rattle.bdb_law_sums.specs.of_format.declared.pages.PageType.TheVariants.{HashMeta, BtreeMeta}
+use Rattle.bdb_law_sums.specs.of_format.Numbers.{byte_at, four_at}
 use Rattle.bdb_law_sums.specs.of_format.Page.{Content, Inline, Set, Chain, Tree, Unknown, Item, Page, Hash, Leaf, RecnoLeaf, DupLeaf, Overflow, NoType}
-use Rattle.bdb_law_sums.specs.of_format.Reading.{abstract_page}
-use Rattle.bdb_law_sums.specs.of_format.Rows.{page_code}
+use Rattle.bdb_law_sums.specs.of_format.Reading.{abstract_page, page_type}
+use Rattle.bdb_law_sums.specs.of_format.Rows.{metadata_rows, page_code}
+use Rattle.bdb_law_sums.specs.of_format.Table.{first_row}
 use Rattle.bdb_law_sums.specs.of_format.File.{File, file_as, header_in, page_at}
 use Rattle.bdb_law_sums.specs.of_format.References.{fit_code, no_item}
 use Rattle.bdb_law_sums.specs.of_format.Chains.{chain, joined, next_of, pieces_of}
@@ -21,15 +26,23 @@ abbrev pub unless_code : Option ℕ → Page → Page
 unless_code None page = page
 unless_code (Some code) page = NoType
 
--- the page that bytes stand for where no row of form holds, whatever number it has: it's held against itself
-unfoldable pub salvaged_page : Order → List ℕ → Page
-salvaged_page order page = unless_code (page_code order (four_at order page 8) page) (abstract_page order page)
+-- the first row of metadata that holds, by the number that the page carries and the last page
+abbrev pub meta_code : Order → ℕ → List ℕ → PageType → Option ℕ
+meta_code order last page HashMeta = first_row (metadata_rows order page (four_at order page 8) last HashFile)
+meta_code order last page BtreeMeta = first_row (metadata_rows order page (four_at order page 8) 0 Btree)
+meta_code order last page t = None
+
+-- the page that bytes stand for where no row of form holds, nor one of metadata, whatever number it has: it's held against itself
+unfoldable pub salvaged_page : Order → ℕ → List ℕ → Page
+salvaged_page order last page =
+    unless_code (page_code order (four_at order page 8) page)
+    (unless_code (meta_code order last page (page_type (byte_at page 25))) (abstract_page order page))
 
 -- the whole pages of an image, those without a type on which a row holds
 unfoldable pub salvaged_file : Order → ℕ → List ℕ → File
 salvaged_file order size image =
     record (file_as order size image) {
-      pages = map (λ p. salvaged_page order (take size (drop (p * size) image))) (range_with_len 0 (length image / size));
+      pages = map (λ p. salvaged_page order (length image / size - 1) (take size (drop (p * size) image))) (range_with_len 0 (length image / size));
     }
 
 -- Pages that follow each other.

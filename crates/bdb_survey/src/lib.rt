@@ -6,13 +6,14 @@ mod down;
 mod guess;
 pub mod laws;
 mod links;
+mod metadata;
 mod row_leaves;
 mod slots;
 mod survey;
 mod whole_pages;
 
 pub use bdb_law_sums::{Datum, KeyView, Meta, Pieces, bytes_in, compare_datum};
-pub use bdb_layout::{Content, DupBlocks, u32_at};
+pub use bdb_meta::{Content, DupBlocks, u32_at};
 pub use chain::chain_of;
 pub use guess::Guess;
 pub use row_leaves::RowPages;

@@ -2,14 +2,14 @@ ghost use Rattle.std.specs.Prelude.{◌≡◌, ◌<◌, get_or, length};
 ghost use Rattle.bdb_law_sums.specs.of_form.Seen.{page_seen};
 ghost use Rattle.bdb_law_sums.specs.of_format.Contents.{entries_in};
 ghost use Rattle.bdb_law_sums.specs.of_format.References.{no_item};
-ghost use Rattle.bdb_layout.specs.Seen.{content_seen, hash_item_seen};
+ghost use Rattle.bdb_meta.specs.of_layout.Seen.{content_seen, hash_item_seen};
 ghost use Rattle.bdb_survey.specs.Items.{slot_at, slots_in};
 ghost use Rattle.bdb_survey.specs.Links.{view_page};
 ghost use Rattle.bdb_survey.specs.Slots.{opt_slots, slots_seen};
 ghost use Rattle.bdb_survey.specs.Salvage.{paired_items};
 
 use bdb_law_sums::{DupLeafView, HashView, LeafView, PageView, RecnoLeafView};
-use bdb_layout::{Content, HashItem};
+use bdb_meta::{Content, HashItem};
 
 /// The items of a page, in the order of its index.
 #[derive(Drop)]

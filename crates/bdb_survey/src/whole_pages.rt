@@ -1,18 +1,22 @@
-ghost use Rattle.std.specs.Prelude.{◌≡◌, ◌^◌, ◌<◌, ◌≤◌, IsTrue, length, ℕ};
+ghost use Rattle.std.specs.Prelude.{◌≡◌, ◌-◌, ◌^◌, ◌<◌, ◌≤◌, IfSome, IsTrue, length, ℕ};
+ghost use Rattle.std.specs.Option.{option_map};
 ghost use Rattle.bdb_law_sums.specs.of_format.Page.{NoType};
 ghost use Rattle.bdb_law_sums.specs.of_form.Seen.{page_seen};
 ghost use Rattle.bdb_law_sums.specs.of_format.Chains.{piece_in, pieces_of};
-ghost use Rattle.bdb_layout.specs.Seen.{content_seen};
+ghost use Rattle.bdb_meta.specs.of_layout.Seen.{content_seen};
 ghost use Rattle.bdb_survey.specs.Items.{slot_at, slots_in};
 ghost use Rattle.bdb_law_sums.specs.of_format.File.{page_at};
 ghost use Rattle.bdb_law_sums.specs.of_format.HeadOf.{is_page_size};
+ghost use Rattle.bdb_law_sums.specs.of_image.Metas.{meta_in, meta_seen};
 ghost use Rattle.bdb_survey.specs.Links.{view_page};
+ghost use Rattle.bdb_survey.specs.Metas.{HasFewBuckets};
 ghost use Rattle.bdb_survey.specs.Salvage.{is_overflow, is_row, salvaged_file};
 
 use crate::Guess;
+use crate::metadata::{has_meta_row, meta_on};
 use crate::slots::slots_of;
-use bdb_law_sums::{PageView, Pieces, form, known_form, page_bytes, pieces_at};
-use bdb_layout::{Content, u32_at};
+use bdb_law_sums::{Meta, PageView, Pieces, form, known_form, page_bytes, pieces_at};
+use bdb_meta::{Content, u32_at};
 use std::marker::Model;
 
 /// The whole pages of an image, as a guess reads them.
@@ -56,9 +60,11 @@ impl<'a> WholePages<'a> {
     }
 
     /// How many there are.
+    #[tactic(auto, using(crate::proofs::StoredPageLemmas::count_is, crate::proofs::StoredPageLemmas::last_is, crate::proofs::PageLemmas::few))]
     pub fn count(&self) -> u32
         ensures count { result ≡ self.now.count }
         ensures few { result ≤ 2 ^ 21 }
+        ensures last { self.now.last ≡ result - 1 }
         ensures past { (p : ℕ) → result ≤ p → page_at self.now p ≡ NoType }
     {
         (self.image.len() / self.guess.page_size as usize) as u32
@@ -74,22 +80,44 @@ impl<'a> WholePages<'a> {
         self.count().saturating_sub(1)
     }
 
-    /// A page by its number; none where there's no such page, or a row of form holds for it. Its own number
-    /// isn't looked at.
+    /// A page by its number; none where there's no such page, or a row of form holds for it, or one of metadata by
+    /// the number that the page carries and the last page.
     #[tactic(auto, using(crate::proofs::StoredPageLemmas::page_past, crate::proofs::Below::long_page))]
     pub fn page(&self, number: u32) -> Option<PageView<'a>>
         ensures page { view_page result ≡ page_at self.now number }
         ensures short { length (piece_in (view_page result)) ≤ 32768 }
     {
-        if number as usize >= self.image.len() / self.guess.page_size as usize {
+        let pages = self.count();
+        if number >= pages {
             return None;
         }
         let page = page_bytes(self.image, self.guess.page_size, number);
         let number = u32_at(page, 8, self.guess.order);
+        if has_meta_row(page, self.guess.order, number, pages - 1) {
+            return None;
+        }
         match form(page, number, self.guess.order) {
             Ok(view) => Some(view),
             Err(_) => None,
         }
+    }
+
+    /// The fields of a page, if it's metadata.
+    #[tactic(auto, using(crate::proofs::Below::long_page))]
+    pub fn meta(&self, number: u32) -> Option<Meta>
+        ensures meta { option_map meta_seen result ≡ meta_in (page_at self.now number) }
+        ensures few { IfSome result HasFewBuckets }
+    {
+        let pages = self.count();
+        if number >= pages {
+            return None;
+        }
+        let page = page_bytes(self.image, self.guess.page_size, number);
+        let number = u32_at(page, 8, self.guess.order);
+        if form(page, number, self.guess.order).is_err() {
+            return None;
+        }
+        meta_on(page, self.guess.order, number, pages - 1)
     }
 
     /// The pieces of a whole chain.

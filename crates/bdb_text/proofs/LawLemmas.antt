@@ -4,14 +4,12 @@ use Rattle.std.proofs.Common.{None, refl, sym, ap, ◌∙◌, arith}
 use Rattle.std.proofs.lemmas.Bool.{eqb-true}
 use Rattle.std.proofs.lemmas.List.Elements.{All-head, All-tail}
 use Rattle.std.specs.List.{All, flat_map}
-use Rattle.hex.specs.Hex.{hex_digit_value}
-use Rattle.hex.proofs.HexLemmas.{IsDigits-lower_digits}
+use Rattle.std.proofs.lemmas.Bool.Decides.{nat_tests}
 use Rattle.bdb_spelling.specs.of_text_format.TextSpelling.{before, byte_before, byte_of_digits, bytes_spelled, digit_value, hex_digit, next_unit, printed, printed_unit}
 use Rattle.bdb_spelling.specs.of_text_format.TextSpelling.{spelling, two_digits}
 use Rattle.bdb_spelling.proofs.of_text_format.UnitLemmas.{read_empty, read_unit}
 use Rattle.bdb_text.specs.Laws.{SpelledIsRead}
-use Rattle.bdb_spelling.proofs.SpellingLemmas.{lower_digit}
-use Rattle.bdb_spelling.proofs.ReadingLemmas.{digit_value-hex, escaped_digits}
+use Rattle.bdb_spelling.proofs.ReadingLemmas.{escaped_digits}
 
 -- the unit that spells a byte
 abbrev unit : Bool → ℕ → List ℕ
@@ -23,7 +21,7 @@ abbrev IsByte : ℕ → Type 0
 IsByte b = b < 256
 
 digit_value-hex_digit : (d : ℕ) → d < 16 → digit_value (hex_digit d) ≡ Some d
-digit_value-hex_digit d h = digit_value-hex (hex_digit d) ∙ ap hex_digit_value (sym (lower_digit d h)) ∙ IsDigits-lower_digits d h
+digit_value-hex_digit d h = grind (arith, nat_tests)
 
 -- no digit is a backslash
 no_backslash : (d : ℕ) → d < 16 → hex_digit d ≢ 92

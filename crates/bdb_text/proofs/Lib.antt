@@ -14,6 +14,7 @@ pub mod CutLemmas
 pub mod FieldLemmas
 pub mod HeaderReadLemmas
 pub mod PairLemmas
+pub mod PlacingLemmas
 pub mod SectionLemmas
 pub mod EarlierLemmas
 pub use Rattle.bdb_spelling.proofs as of_spelling

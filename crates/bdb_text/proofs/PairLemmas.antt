@@ -16,14 +16,13 @@ use Rattle.bdb_spelling.specs.of_text_format.Sections.{counted_pairs, data_read,
 use Rattle.bdb_text.specs.declared.data_lines.LineError.{LineError}
 use Rattle.bdb_text.specs.declared.data_lines.LineError.TheVariants.{Memory, Reason}
 use Rattle.bdb_text.specs.declared.data_pairs.Data.{Data}
-use Rattle.bdb_text.specs.declared.text_errors.TextError.{TextError}
-use Rattle.bdb_text.specs.declared.text_errors.TextError.TheVariants.{Fault, Memory as Want}
 use Rattle.bdb_text.specs.ReadTo.{OnFault, error_at}
 use Rattle.bdb_text.specs.DataLines.{IsLineError, line_reason}
 use Rattle.bdb_text.specs.DataTo.{IsCountedTo, IsDataFault, IsDataRead, IsDataTo, IsDatumFault, IsKeyedTo, data_clean, data_reason, datum_reason}
 use Rattle.std.proofs.Math.Bool.{and-true, and_assoc}
 use Rattle.bdb_text.proofs.PartLemmas.{list_any-append_one}
 use Rattle.bdb_text.proofs.DataLemmas.{even_more, none-key, none-value, odd_more}
+use Rattle.bdb_spelling.specs.of_text_format.declared.faults.TextFault.{TextFault}
 use Rattle.bdb_spelling.specs.of_text_format.declared.faults.TextReason.TheVariants.{NoEnd}
 
 -- A line more.
@@ -147,17 +146,15 @@ data_ended header text start before [] number to none = record {
 }
 data_ended header text start before (byte ∷ rest) number to none = absurd (omega arith)
 
-pub key_error : (header : Values) (text : List ℕ) (start : ℕ) (pairs : List TextPair) (key : List ℕ) (rest : List (List ℕ)) (number : ℕ) (error : LineError)
+pub key_fault : (header : Values) (text : List ℕ) (start : ℕ) (pairs : List TextPair) (key : List ℕ) (rest : List (List ℕ)) (number : ℕ) (fault : TextFault)
     → IsKeyedTo header (text_lines text) start pairs (key ∷ rest) number → has_keys header ≡ true → is_data_end key ≡ false
-    → IsLineError (prints header) (has_record_type header) key error
-    → OnFault (IsDataFault header text start) (error_at number error)
-key_error header text start pairs key rest number (Reason reason) to keys other is = record {
+    → fault.line ≡ number → line_reason (prints header) (has_record_type header) key ≡ Some fault.reason → IsDataFault header text start fault
+key_fault header text start pairs key rest number fault to keys other line is = record {
   before = to.before;
   rest = key ∷ rest;
-  to = to.to;
+  to = rw (← line) at to.to;
   reason_is = rw other (data_line_reason-place header to.before key true (key_place header to.before keys to.even) ∙ is);
 }
-key_error header text start pairs key rest number Memory to keys other is = tt
 
 -- behind a key
 datum_reason-data : (header : Values) (before rest : List (List ℕ)) → has_keys header ≡ true → has_odd_length before ≡ true
@@ -167,11 +164,11 @@ datum_reason-data header before (line ∷ rest) keys odd =
     let place = value_place header before keys odd in
     rw (data_line_reason-place header before line false place, keys, odd) refl
 
-pub behind_key_error : (header : Values) (text : List ℕ) (start : ℕ) (pairs : List TextPair) (key behind : List ℕ) (number : ℕ) (k : Key) (error : TextError)
+pub behind_key_fault : (header : Values) (text : List ℕ) (start : ℕ) (pairs : List TextPair) (key behind : List ℕ) (number : ℕ) (k : Key) (fault : TextFault)
     → IsKeyedTo header (text_lines text) start pairs (key ∷ text_lines behind) number → has_keys header ≡ true → is_data_end key ≡ false
-    → key_read (has_record_type header) (data_read (prints header) key) ≡ Some k → OnFault (IsDatumFault (prints header) behind (number + 1)) error
-    → OnFault (IsDataFault header text start) error
-behind_key_error header text start pairs key behind number k (Fault fault) to keys other read is =
+    → key_read (has_record_type header) (data_read (prints header) key) ≡ Some k → IsDatumFault (prints header) behind (number + 1) fault
+    → IsDataFault header text start fault
+behind_key_fault header text start pairs key behind number k fault to keys other read is =
     let first = key_more header (text_lines text) start pairs key (text_lines behind) number k to keys other read in
     record {
       before = to.before ++ key ∷ [];
@@ -179,7 +176,6 @@ behind_key_error header text start pairs key behind number k (Fault fault) to ke
       to = rw (← is.line_is) at first;
       reason_is = datum_reason-data header (to.before ++ key ∷ []) (text_lines behind) keys (odd_more to.before key to.even) ∙ is.reason_is;
     }
-behind_key_error header text start pairs key behind number k Want to keys other read is = tt
 
 -- The section ends.
 
@@ -246,18 +242,16 @@ counted_more header lines start pairs value rest number record_number v to keys 
   record_is = let size = length-append to.before (value ∷ []) in omega (arith, size, to.record_is);
 }
 
-pub counted_error : (header : Values) (text : List ℕ) (start : ℕ) (pairs : List TextPair) (value : List ℕ) (rest : List (List ℕ)) (number record_number : ℕ)
-    (error : LineError)
+pub counted_fault : (header : Values) (text : List ℕ) (start : ℕ) (pairs : List TextPair) (value : List ℕ) (rest : List (List ℕ)) (number record_number : ℕ)
+    (fault : TextFault)
     → IsCountedTo header (text_lines text) start pairs (value ∷ rest) number record_number → has_keys header ≡ false → is_data_end value ≡ false
-    → IsLineError (prints header) false value error
-    → OnFault (IsDataFault header text start) (error_at number error)
-counted_error header text start pairs value rest number record_number (Reason reason) to keys other is = record {
+    → fault.line ≡ number → line_reason (prints header) false value ≡ Some fault.reason → IsDataFault header text start fault
+counted_fault header text start pairs value rest number record_number fault to keys other line is = record {
   before = to.before;
   rest = value ∷ rest;
-  to = to.to;
+  to = rw (← line) at to.to;
   reason_is = rw other (data_line_reason-place header to.before value false (no_key_place header to.before keys) ∙ is);
 }
-counted_error header text start pairs value rest number record_number Memory to keys other is = tt
 
 pub counted_end : (header : Values) (text : List ℕ) (start : ℕ) (pairs : List TextPair) (line rest : List ℕ) (number record_number : ℕ) (read : Data)
     → IsCountedTo header (text_lines text) start pairs (text_lines rest) number record_number → has_keys header ≡ false

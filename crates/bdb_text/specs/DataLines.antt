@@ -1,5 +1,10 @@
 -- What a data line says, and its reasons.
-use Rattle.std.specs.Prelude.{◌≡◌, ℕ, ◌&&◌, if◌then◌else◌, Bool, true, false, not, List, [], ◌∷◌, Option, Some, None, is_none, ⊤}
+use Rattle.std.specs.Prelude.{◌≡◌, ℕ, ◌&&◌, if◌then◌else◌, Bool, true, false, not, List, [], ◌∷◌, length, Option, Some, None, is_none, ⊤}
+use Rattle.bdb_spelling.specs.Runs.{joined}
+use Rattle.bdb_spelling.specs.of_text_format.Placed.{IsKeyPlaced, Keeps, placed_key}
+use Rattle.bdb_spelling.specs.of_text_format.declared.pairs.Key.{Key}
+use Rattle.bdb_spelling.specs.of_places.declared.place.PlacedKey.{PlacedKey}
+use Rattle.bdb_spelling.specs.of_places.declared.span.Span.{Span}
 use Rattle.bdb_spelling.specs.of_format.Digits.{digits_value}
 use Rattle.bdb_spelling.specs.of_format.Table.{◌:?◌, first_row}
 use Rattle.bdb_spelling.specs.of_text_format.Reasons.{begins_with_space, is_record_number, spelled_in}
@@ -25,3 +30,15 @@ IsLineError print numbered line Memory = ⊤
 -- the number of a record that bytes say
 abbrev pub record_number : List ℕ → Option ℕ
 record_number bytes = if is_record_number (Some bytes) then Some (digits_value bytes) else None
+
+-- what a line spells was added to a run, and stands there
+pub record IsDataAdded (old new : List ℕ) (read : Option (List ℕ)) (span : Span) : Type 0 where
+  pub added : joined old read ≡ Some new
+  pub start : span.start ≡ length old
+  pub end : span.end ≡ length new
+
+-- a key stands in a run that has what it had
+pub record IsKeyAdded (old new : List ℕ) (read : Option Key) (key : PlacedKey) : Type 0 where
+  pub kept : Keeps old new
+  pub placed : IsKeyPlaced new key
+  pub same : read ≡ Some (placed_key new key)

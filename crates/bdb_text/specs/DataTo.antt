@@ -1,15 +1,21 @@
 -- How far the reader of a section's data lines has come.
-use Rattle.std.specs.Prelude.{◌≡◌, ℕ, ◌+◌, ◌&&◌, if◌then◌else◌, Bool, true, false, List, [], ◌∷◌, ◌++◌, length, Option, Some, is_none}
+use Rattle.std.specs.Prelude.{◌≡◌, ◌⊎◌, ℕ, ◌+◌, ◌&&◌, if◌then◌else◌, Bool, true, false, List, [], ◌∷◌, ◌++◌, length, Option, Some, is_none}
 use Rattle.std.specs.List.{list_any}
 use Rattle.bdb_spelling.specs.of_text_format.declared.faults.TextFault.{TextFault}
 use Rattle.bdb_spelling.specs.of_text_format.declared.pairs.TextPair.{TextPair}
 use Rattle.bdb_spelling.specs.of_text_format.Written.{data_end}
 use Rattle.bdb_spelling.specs.of_text_format.TextLines.{is_data_end, text_lines}
-use Rattle.bdb_spelling.specs.of_text_format.Header.{Values, has_record_type, prints}
+use Rattle.bdb_spelling.specs.of_text_format.Header.{Values, has_keys, has_record_type, prints}
 use Rattle.bdb_spelling.specs.of_text_format.Reasons.{data_end_reason, data_line_reason, has_odd_length}
-use Rattle.bdb_spelling.specs.of_text_format.Sections.{counted_pairs, data_read, keyed_pairs, pairs_read}
-use Rattle.bdb_text.specs.DataLines.{line_reason}
+use Rattle.bdb_spelling.specs.of_text_format.Sections.{counted_pairs, data_read, key_read, keyed_pairs, pairs_read}
+use Rattle.bdb_spelling.specs.of_text_format.declared.pairs.Key.{Key}
+use Rattle.bdb_spelling.specs.of_text_format.declared.pairs.Key.TheVariants.{Number}
+use Rattle.bdb_spelling.specs.of_text_format.Placed.{IsPairPut, Keeps, pair_with}
+use Rattle.bdb_text.specs.DataLines.{IsDataAdded, line_reason}
 use Rattle.bdb_text.specs.declared.data_pairs.Data.{Data}
+use Rattle.bdb_text.specs.declared.data_pairs.Datum.{Datum}
+use Rattle.bdb_text.specs.declared.data_pairs.PairAt.{PairAt}
+use Rattle.bdb_text.specs.declared.data_pairs.Way.{Way}
 use Rattle.bdb_spelling.specs.of_text_format.declared.faults.TextReason.{TextReason}
 use Rattle.bdb_spelling.specs.of_text_format.declared.faults.TextReason.TheVariants.{KeyWithoutData, NoEnd}
 
@@ -54,12 +60,25 @@ pub record IsKeyedTo (header : Values) (lines : List (List ℕ)) (start : ℕ) (
   pub even : has_odd_length before ≡ false
   pub pairs_are : keyed_pairs (prints header) (has_record_type header) start before ≡ Some pairs
 
--- a text begins with the line of a datum, behind which the rest stands
-pub record IsDatum (print : Bool) (text value rest : List ℕ) : Type 0 where
+-- a text begins with the line of a datum, which was added to a run
+pub record IsDatum (print : Bool) (text old new : List ℕ) (datum : Datum) : Type 0 where
   pub line : List ℕ
-  pub lines_are : text_lines text ≡ line ∷ text_lines rest
+  pub lines_are : text_lines text ≡ line ∷ text_lines datum.rest.now
   pub other : is_data_end line ≡ false
-  pub value_is : data_read print line ≡ Some value
+  pub added : IsDataAdded old new (data_read print line) datum.span
+
+-- a line is that of a key, and the text behind it begins with its datum's: both are in a run, as a pair
+pub record IsKeyedRead (print numbered : Bool) (line behind : List ℕ) (number : ℕ) (old new : List ℕ) (read : PairAt) : Type 0 where
+  pub key : Key
+  pub value : List ℕ
+  pub value_line : List ℕ
+  pub key_is : key_read numbered (data_read print line) ≡ Some key
+  pub lines_are : text_lines behind ≡ value_line ∷ text_lines read.rest.now
+  pub other : is_data_end value_line ≡ false
+  pub value_is : data_read print value_line ≡ Some value
+  pub kept : Keeps old new
+  pub put : IsPairPut new (pair_with key value number) read.place
+  pub number_is : read.number ≡ number + 2
 
 -- the reason of the line behind a key
 abbrev pub datum_reason : Bool → List (List ℕ) → Option TextReason
@@ -71,6 +90,12 @@ pub record IsDatumFault (print : Bool) (text : List ℕ) (number : ℕ) (fault :
   pub line_is : fault.line ≡ number
   pub reason_is : datum_reason print (text_lines text) ≡ Some fault.reason
 
+-- the first fault of a key's line and its datum's
+abbrev pub IsKeyedFault : Bool → Bool → List ℕ → List ℕ → ℕ → TextFault → Type 0
+IsKeyedFault print numbered line behind number fault =
+    ((fault.line ≡ number) × (line_reason print numbered line ≡ Some fault.reason))
+    ⊎ ((key : Key) × ((key_read numbered (data_read print line) ≡ Some key) × IsDatumFault print behind (number + 1) fault))
+
 -- Data alone.
 
 -- data lines without a reason give these pairs, whose records are numbered from 1
@@ -80,3 +105,42 @@ pub record IsCountedTo (header : Values) (lines : List (List ℕ)) (start : ℕ)
     pub to : IsDataTo header lines start before rest number
     pub pairs_are : counted_pairs (prints header) 1 start before ≡ Some pairs
     pub record_is : record_number ≡ 1 + length before
+
+-- a line is that of a datum, which is in a run, as that of a record with this number
+pub record IsCountedRead (print : Bool) (line behind : List ℕ) (number record_number : ℕ) (old new : List ℕ) (read : PairAt) : Type 0 where
+  pub value : List ℕ
+  pub value_is : data_read print line ≡ Some value
+  pub rest_is : read.rest.now ≡ behind
+  pub kept : Keeps old new
+  pub put : IsPairPut new (pair_with (Number record_number) value number) read.place
+  pub number_is : read.number ≡ number + 1
+
+-- the fault of a datum's line
+abbrev pub IsCountedFault : Bool → List ℕ → ℕ → TextFault → Type 0
+IsCountedFault print line number fault = (fault.line ≡ number) × (line_reason print false line ≡ Some fault.reason)
+
+-- Both.
+
+abbrev pub IsReadBy : Bool → Bool → Bool → List ℕ → List ℕ → ℕ → ℕ → List ℕ → List ℕ → PairAt → Type 0
+IsReadBy true numbered print line behind number record_number old new read = IsKeyedRead print numbered line behind number old new read
+IsReadBy false numbered print line behind number record_number old new read = IsCountedRead print line behind number record_number old new read
+
+-- a line is the first of a pair, which is in a run
+abbrev pub IsPairRead : Way → List ℕ → List ℕ → ℕ → ℕ → List ℕ → List ℕ → PairAt → Type 0
+IsPairRead way line behind number record_number old new read = IsReadBy way.keyed way.numbered way.print line behind number record_number old new read
+
+abbrev pub IsFaultBy : Bool → Bool → Bool → List ℕ → List ℕ → ℕ → TextFault → Type 0
+IsFaultBy true numbered print line behind number fault = IsKeyedFault print numbered line behind number fault
+IsFaultBy false numbered print line behind number fault = IsCountedFault print line number fault
+
+-- the first fault of the lines of a pair
+abbrev pub IsPairFault : Way → List ℕ → List ℕ → ℕ → TextFault → Type 0
+IsPairFault way line behind number fault = IsFaultBy way.keyed way.numbered way.print line behind number fault
+
+abbrev pub IsToBy : Bool → Values → List (List ℕ) → ℕ → List TextPair → List (List ℕ) → ℕ → Type 0
+IsToBy true header lines start pairs rest number = IsKeyedTo header lines start pairs rest number
+IsToBy false header lines start pairs rest number = IsCountedTo header lines start pairs rest number (length pairs + 1)
+
+-- the data lines so far give these pairs, and are whole pairs
+abbrev pub IsPairsTo : Values → List (List ℕ) → ℕ → List TextPair → List (List ℕ) → ℕ → Type 0
+IsPairsTo header lines start pairs rest number = IsToBy (has_keys header) header lines start pairs rest number

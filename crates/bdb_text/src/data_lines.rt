@@ -1,11 +1,11 @@
-// The lines behind a header: a space and a spelling.
+// The lines behind a header: a space and a spelling. What they spell is added to the run that the pairs of the section stand in.
 ghost use Rattle.bdb_spelling.specs.of_text_format.declared.faults.TextReason.TheVariants.{BadDigit, BadEscape};
 ghost use Rattle.bdb_spelling.specs.of_text_format.Sections.{data_read, key_read};
-ghost use Rattle.bdb_spelling.specs.of_text_format.Placed.{key_seen};
-ghost use Rattle.bdb_text.specs.DataLines.{IsLineError, record_number};
-ghost use Rattle.std.specs.Prelude.{◌≡◌, if◌then◌else◌, Bool, IfOk, IfErr, OnOk, Some};
+ghost use Rattle.bdb_text.specs.DataLines.{IsDataAdded, IsKeyAdded, IsLineError, record_number};
+ghost use Rattle.bdb_text.specs.declared.data_lines.LineError.TheVariants.{Memory};
+ghost use Rattle.std.specs.Prelude.{◌≡◌, ◌≤◌, if◌then◌else◌, Bool, IfOk, IfErr, length};
 
-use bdb_spelling::{KeyRef, SpellError, TextReason, number_in, read_run};
+use bdb_spelling::{PlacedKey, Span, SpellError, TextReason, number_in, read_run};
 
 /// Why a data line isn't read.
 #[derive(Clone, Copy, Debug, PartialEq, Eq)]
@@ -16,9 +16,24 @@ pub enum LineError {
     Memory,
 }
 
-/// Puts the bytes that a data line spells into a room, in the place of what it has.
-pub fn read_data(line: &[u8], print: bool, room: &mut Vec<u8>) -> Result<(), LineError>
-    ensures ok { OnOk result (data_read print line.now ≡ Some room.new.items) }
+// Where the bytes of a run from `start` on stand.
+fn span_from(start: usize, bytes: &[u8]) -> Result<Span, LineError>
+    requires { start ≤ length bytes.now }
+    ensures ok { IfOk result (λ span. (span.start ≡ start) × (span.end ≡ length bytes.now)) }
+    ensures err { IfErr result (λ error. error ≡ Memory) }
+{
+    let Ok(end) = u32::try_from(bytes.len()) else {
+        return Err(LineError::Memory);
+    };
+    Ok(Span {
+        start: start as u32,
+        end,
+    })
+}
+
+/// Adds the bytes that a data line spells to a run, and answers where they stand.
+pub fn read_data(line: &[u8], print: bool, bytes: &mut Vec<u8>) -> Result<Span, LineError>
+    ensures ok { IfOk result (λ span. IsDataAdded bytes.old.items bytes.new.items (data_read print line.now) span) }
     ensures err { (numbered : Bool) → IfErr result (IsLineError print numbered line.now) }
 {
     let Some((&first, text)) = line.split_first() else {
@@ -27,8 +42,9 @@ pub fn read_data(line: &[u8], print: bool, room: &mut Vec<u8>) -> Result<(), Lin
     if first != b' ' {
         return Err(LineError::Reason(TextReason::NoSpace));
     }
-    match read_run(text, print, room) {
-        Ok(()) => Ok(()),
+    let start = bytes.len();
+    match read_run(text, print, bytes) {
+        Ok(()) => span_from(start, bytes.as_slice()),
         Err(SpellError::Memory) => Err(LineError::Memory),
         Err(SpellError::Bad) => Err(LineError::Reason(bad_spelling(print))),
     }
@@ -45,22 +61,25 @@ fn bad_spelling(print: bool) -> TextReason
     }
 }
 
-/// The key that a data line says: bytes, which then lie in a room, or the number of a record.
-pub fn read_key<'a>(
+/// The key that a data line says: bytes, which are added to a run, or the number of a record.
+pub fn read_key(
     line: &[u8],
     print: bool,
     numbered: bool,
-    room: &'a mut Vec<u8>,
-) -> Result<KeyRef<'a>, LineError>
-    ensures ok { IfOk result (λ key. key_read numbered (data_read print line.now) ≡ Some (key_seen key)) }
+    bytes: &mut Vec<u8>,
+) -> Result<PlacedKey, LineError>
+    ensures ok { IfOk result (λ key. IsKeyAdded bytes.old.items bytes.new.items (key_read numbered (data_read print line.now)) key) }
     ensures err { IfErr result (IsLineError print numbered line.now) }
 {
-    read_data(line, print, room)?;
+    let span = read_data(line, print, bytes)?;
     if !numbered {
-        return Ok(KeyRef::Bytes(room.as_slice()));
+        return Ok(PlacedKey::Bytes(span));
     }
-    match record_number(room.as_slice()) {
-        Some(number) => Ok(KeyRef::Number(number)),
+    match record_number(&bytes[span.start as usize..]) {
+        Some(number) => {
+            bytes.truncate(span.start as usize);
+            Ok(PlacedKey::Number(number))
+        }
         None => Err(LineError::Reason(TextReason::BadNumber)),
     }
 }

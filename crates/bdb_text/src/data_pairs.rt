@@ -1,16 +1,17 @@
 // The data lines of a section, read as pairs.
-ghost use Rattle.bdb_spelling.specs.of_text_format.Header.{has_keys};
-ghost use Rattle.bdb_text.specs.DataTo.{IsDataFault, IsDataRead, IsDatum, IsDatumFault};
+ghost use Rattle.bdb_text.specs.DataTo.{IsCountedFault, IsCountedRead, IsDataFault, IsDataRead, IsDatum, IsDatumFault};
+ghost use Rattle.bdb_text.specs.DataTo.{IsKeyedFault, IsKeyedRead, IsPairFault, IsPairRead};
 ghost use Rattle.bdb_text.specs.Fields.{values_in};
 ghost use Rattle.bdb_text.specs.ReadTo.{OnFault, error_at};
-ghost use Rattle.std.specs.Prelude.{◌≡◌, ◌+◌, ◌<◌, ◌≤◌, ◌^◌, IfOk, IfErr, length, true, false};
+ghost use Rattle.bdb_spelling.specs.of_text_format.Header.{has_keys, has_record_type, prints};
+ghost use Rattle.std.specs.Prelude.{◌≡◌, ◌+◌, ◌<◌, ◌≤◌, ◌^◌, IfOk, IfErr, length};
 
 use crate::data_lines::{LineError, read_data, read_key};
 use crate::fields::Field;
 use crate::meant::{has_keys, has_record_type, prints};
 use crate::text_errors::TextError;
 use crate::text_lines::cut_line;
-use bdb_spelling::{KeyRef, PairRef, TextFault, TextPairs, TextReason};
+use bdb_spelling::{Place, PlacedKey, PlacedPairs, Span, TextFault, TextPairs, TextReason};
 use std::alloc::Global;
 
 const DATA_END: [u8; 8] = *b"DATA=END";
@@ -19,6 +20,29 @@ const DATA_END: [u8; 8] = *b"DATA=END";
 #[derive(Drop)]
 pub struct Data<'a> {
     pub pairs: TextPairs,
+    pub rest: &'a [u8],
+    pub number: u64,
+}
+
+/// How data lines are read: whether keys stand between data, whether these are numbers of records, and how bytes are spelled.
+#[derive(Clone, Copy)]
+pub struct Way {
+    pub keyed: bool,
+    pub numbered: bool,
+    pub print: bool,
+}
+
+/// A datum that was added to a run, and the text behind its line.
+#[derive(Clone, Copy)]
+pub struct Datum<'a> {
+    pub span: Span,
+    pub rest: &'a [u8],
+}
+
+/// Where a pair stands, the text behind its lines, and the number of the next line.
+#[derive(Clone, Copy)]
+pub struct PairAt<'a> {
+    pub place: Place,
     pub rest: &'a [u8],
     pub number: u64,
 }
@@ -36,82 +60,15 @@ fn error_at(number: u64, error: LineError) -> TextError
     }
 }
 
-/// The pairs of a section with this header. The number is that of the text's first line, which stands behind the header's end.
-pub fn read_pairs<'a>(
-    alloc: Global,
-    text: &'a [u8],
-    start: u64,
-    fields: &[Field<'_>],
-) -> Result<Data<'a>, TextError>
-    requires { start + length text.now ≤ 2 ^ 31 }
-    ensures ok { IfOk result (λ read. IsDataRead (values_in fields.now) text.now start read) }
-    ensures shorter { IfOk result (λ read. read.number + length read.rest.now ≤ start + length text.now) }
-    ensures err { IfErr result (OnFault (IsDataFault (values_in fields.now) text.now start)) }
-{
-    if has_keys(fields) {
-        read_keyed(alloc, text, start, fields)
-    } else {
-        read_counted(alloc, text, start, fields)
-    }
-}
-
-// The pairs of a section with keys. Each key and datum is decoded in a room of its own, which serves all of the section.
-fn read_keyed<'a>(
-    alloc: Global,
-    text: &'a [u8],
-    start: u64,
-    fields: &[Field<'_>],
-) -> Result<Data<'a>, TextError>
-    requires keys { has_keys (values_in fields.now) ≡ true }
-    requires room { start + length text.now ≤ 2 ^ 31 }
-    ensures ok { IfOk result (λ read. IsDataRead (values_in fields.now) text.now start read) }
-    ensures shorter { IfOk result (λ read. read.number + length read.rest.now ≤ start + length text.now) }
-    ensures err { IfErr result (OnFault (IsDataFault (values_in fields.now) text.now start)) }
-{
-    let print = prints(fields);
-    let numbered = has_record_type(fields);
-    let mut pairs = TextPairs::new(alloc);
-    let mut key_room = Vec::new(alloc);
-    let mut room = Vec::new(alloc);
-    let mut number = start;
-    let mut rest = text;
-    while !rest.is_empty() {
-        let cut = cut_line(rest);
-        if cut.line == DATA_END.as_slice() {
-            return Ok(Data {
-                pairs,
-                rest: cut.rest,
-                number: number + 1,
-            });
-        }
-        let key = match read_key(cut.line, print, numbered, &mut key_room) {
-            Ok(key) => key,
-            Err(error) => return Err(error_at(number, error)),
-        };
-        let behind = read_datum(cut.rest, number + 1, print, &mut room)?;
-        pairs.push(PairRef {
-            key,
-            value: room.as_slice(),
-            line: number,
-        })?;
-        number += 2;
-        rest = behind;
-    }
-    Err(TextError::Fault(TextFault {
-        line: number,
-        reason: TextReason::NoEnd,
-    }))
-}
-
-// Puts the datum behind a key into a room, and answers the text behind its line.
+// Adds the datum behind a key to a run.
 fn read_datum<'a>(
     text: &'a [u8],
     number: u64,
     print: bool,
-    room: &mut Vec<u8>,
-) -> Result<&'a [u8], TextError>
-    ensures ok { IfOk result (λ rest. IsDatum print text.now room.new.items rest.now) }
-    ensures shorter { IfOk result (λ rest. length rest.now < length text.now) }
+    bytes: &mut Vec<u8>,
+) -> Result<Datum<'a>, TextError>
+    ensures ok { IfOk result (IsDatum print text.now bytes.old.items bytes.new.items) }
+    ensures shorter { IfOk result (λ datum. length datum.rest.now < length text.now) }
     ensures err { IfErr result (OnFault (IsDatumFault print text.now number)) }
 {
     if text.is_empty() {
@@ -127,52 +84,142 @@ fn read_datum<'a>(
             reason: TextReason::KeyWithoutData,
         }));
     }
-    match read_data(cut.line, print, room) {
-        Ok(()) => Ok(cut.rest),
+    match read_data(cut.line, print, bytes) {
+        Ok(span) => Ok(Datum {
+            span,
+            rest: cut.rest,
+        }),
         Err(error) => Err(error_at(number, error)),
     }
 }
 
-// The pairs of a section without keys: its records are numbered from 1.
+// Adds a key and its datum to a run: `line` is the key's, of this number, and the datum's begins the text behind it.
+fn read_keyed<'a>(
+    line: &[u8],
+    behind: &'a [u8],
+    number: u64,
+    way: Way,
+    bytes: &mut Vec<u8>,
+) -> Result<PairAt<'a>, TextError>
+    requires { number + length behind.now < 2 ^ 32 }
+    ensures ok { IfOk result (IsKeyedRead way.print way.numbered line.now behind.now number bytes.old.items bytes.new.items) }
+    ensures later { IfOk result (λ read. number < read.number) }
+    ensures shorter { IfOk result (λ read. read.number + length read.rest.now ≤ number + 1 + length behind.now) }
+    ensures err { IfErr result (OnFault (IsKeyedFault way.print way.numbered line.now behind.now number)) }
+{
+    let key = match read_key(line, way.print, way.numbered, bytes) {
+        Ok(key) => key,
+        Err(error) => return Err(error_at(number, error)),
+    };
+    let datum = read_datum(behind, number + 1, way.print, bytes)?;
+    Ok(PairAt {
+        place: Place {
+            key,
+            value: datum.span,
+            line: number,
+        },
+        rest: datum.rest,
+        number: number + 2,
+    })
+}
+
+// Adds a datum to a run, as that of a record with this number.
 fn read_counted<'a>(
+    line: &[u8],
+    behind: &'a [u8],
+    number: u64,
+    way: Way,
+    record_number: u32,
+    bytes: &mut Vec<u8>,
+) -> Result<PairAt<'a>, TextError>
+    requires { number < 2 ^ 32 }
+    ensures later { IfOk result (λ read. number < read.number) }
+    ensures ok { IfOk result (IsCountedRead way.print line.now behind.now number record_number bytes.old.items bytes.new.items) }
+    ensures err { IfErr result (OnFault (IsCountedFault way.print line.now number)) }
+{
+    match read_data(line, way.print, bytes) {
+        Ok(value) => Ok(PairAt {
+            place: Place {
+                key: PlacedKey::Number(record_number),
+                value,
+                line: number,
+            },
+            rest: behind,
+            number: number + 1,
+        }),
+        Err(error) => Err(error_at(number, error)),
+    }
+}
+
+// Adds the pair whose first line this is to a run. `record_number` is that of a record that has no key.
+fn read_pair<'a>(
+    line: &[u8],
+    behind: &'a [u8],
+    number: u64,
+    way: Way,
+    record_number: u32,
+    bytes: &mut Vec<u8>,
+) -> Result<PairAt<'a>, TextError>
+    requires { number + length behind.now < 2 ^ 32 }
+    ensures ok { IfOk result (IsPairRead way line.now behind.now number record_number bytes.old.items bytes.new.items) }
+    ensures later { IfOk result (λ read. number < read.number) }
+    ensures shorter { IfOk result (λ read. read.number + length read.rest.now ≤ number + 1 + length behind.now) }
+    ensures err { IfErr result (OnFault (IsPairFault way line.now behind.now number)) }
+{
+    if way.keyed {
+        read_keyed(line, behind, number, way, bytes)
+    } else {
+        read_counted(line, behind, number, way, record_number, bytes)
+    }
+}
+
+/// How the data lines behind a header are read.
+fn way_of(fields: &[Field<'_>]) -> Way
+    ensures keyed { result.keyed ≡ has_keys (values_in fields.now) }
+    ensures numbered { result.numbered ≡ has_record_type (values_in fields.now) }
+    ensures print { result.print ≡ prints (values_in fields.now) }
+{
+    Way {
+        keyed: has_keys(fields),
+        numbered: has_record_type(fields),
+        print: prints(fields),
+    }
+}
+
+/// The pairs of a section with this header, whose bytes are decoded where they stand then. The number is that of the text's first line, which stands behind the
+/// header's end.
+pub fn read_pairs<'a>(
     alloc: Global,
     text: &'a [u8],
     start: u64,
     fields: &[Field<'_>],
 ) -> Result<Data<'a>, TextError>
-    requires keys { has_keys (values_in fields.now) ≡ false }
-    requires room { start + length text.now ≤ 2 ^ 31 }
+    requires { start + length text.now ≤ 2 ^ 31 }
     ensures ok { IfOk result (λ read. IsDataRead (values_in fields.now) text.now start read) }
     ensures shorter { IfOk result (λ read. read.number + length read.rest.now ≤ start + length text.now) }
     ensures err { IfErr result (OnFault (IsDataFault (values_in fields.now) text.now start)) }
 {
-    let print = prints(fields);
-    let mut pairs = TextPairs::new(alloc);
-    let mut room = Vec::new(alloc);
+    let way = way_of(fields);
+    let mut bytes: Vec<u8> = Vec::new(alloc);
+    let mut places: Vec<Place> = Vec::new(alloc);
     let mut number = start;
-    let mut record_number: u32 = 1;
     let mut rest = text;
     while !rest.is_empty() {
         let cut = cut_line(rest);
         if cut.line == DATA_END.as_slice() {
             return Ok(Data {
-                pairs,
+                pairs: TextPairs::from_placed(PlacedPairs { bytes, places }),
                 rest: cut.rest,
                 number: number + 1,
             });
         }
-        match read_data(cut.line, print, &mut room) {
-            Ok(()) => {}
-            Err(error) => return Err(error_at(number, error)),
+        let record_number = places.len() as u32 + 1;
+        let read = read_pair(cut.line, cut.rest, number, way, record_number, &mut bytes)?;
+        if places.push(read.place).is_err() {
+            return Err(TextError::Memory);
         }
-        pairs.push(PairRef {
-            key: KeyRef::Number(record_number),
-            value: room.as_slice(),
-            line: number,
-        })?;
-        number += 1;
-        record_number += 1;
-        rest = cut.rest;
+        number = read.number;
+        rest = read.rest;
     }
     Err(TextError::Fault(TextFault {
         line: number,

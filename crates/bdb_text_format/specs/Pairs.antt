@@ -14,9 +14,16 @@ unlined pair = record { key = pair.key; value = pair.value }
 abbrev pub unlined_pairs : List TextPair → List Pair
 unlined_pairs pairs = map unlined pairs
 
+-- the pair of a key and a datum
+abbrev pub listed_as : Key → List ℕ → Pair
+listed_as key value = record { key = key; value = value }
+
 -- a pair of a list in a section, without a line
 abbrev pub unnumbered : Pair → TextPair
 unnumbered pair = record { key = pair.key; value = pair.value; line = 0 }
+
+abbrev pub unnumbered_pairs : List Pair → List TextPair
+unnumbered_pairs pairs = map unnumbered pairs
 
 -- the key of the last pair; 0 where there is none
 abbrev pub last_key : List TextPair → Key

@@ -96,6 +96,14 @@ impl<'a> PairSlice<'a> {
         pair_at(self.bytes, self.places[i])
     }
 
+    /// The pair at a place, or `None` exactly where there are no more than so many pairs.
+    pub fn get(&self, i: usize) -> Option<PairRef<'a>>
+        ensures { option_map pair_seen result ≡ slice_get (slice_seen self.now) i }
+    {
+        let place = self.places.get(i)?;
+        Some(pair_at(self.bytes, *place))
+    }
+
     /// The first pair, or `None` exactly where there is none.
     pub fn first(&self) -> Option<PairRef<'a>>
         ensures { option_map pair_seen result ≡ slice_get (slice_seen self.now) 0 }

@@ -5,6 +5,7 @@ mod faults;
 mod gathered;
 mod keywords;
 mod lent;
+mod list;
 mod pairs;
 mod sections;
 
@@ -17,5 +18,6 @@ pub use faults::{TextFault, TextReason};
 pub use gathered::Gathered;
 pub use keywords::Judged;
 pub use lent::{KeyRef, PairRef, PairSlice, are_one, key_at, number_of, pair_at};
+pub use list::{PairList, lent_key};
 pub use pairs::{Key, Pair, PlacedPairs, TextPair, TextPairs};
 pub use sections::{Section, Sections};

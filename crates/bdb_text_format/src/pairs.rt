@@ -1,4 +1,5 @@
-ghost use Rattle.std.specs.Prelude.{◌≡◌, ◌==◌, ◌<◌, ◌∷◌, ◌++◌, [], OnOk, OnErr, IfOk, true, ◌-◌, get_or, length};
+ghost use Rattle.std.specs.Prelude.{◌≡◌, ◌==◌, ◌<◌, ◌∷◌, ◌++◌, [], OnOk, OnErr, IfOk, true, ◌-◌, get_or, length, slice_get, take};
+ghost use Rattle.std.specs.Option.{option_map};
 ghost use Rattle.std.specs.List.{All};
 ghost use Rattle.bdb_text_format.specs.Pairs.{last_key};
 ghost use Rattle.bdb_text_format.specs.Placed.{ArePlaced, IsKeyPlaced, IsKeyPut, IsPairPut, IsPiecePut, Keeps, key_seen, pair_seen, pair_with, placed_key};
@@ -121,6 +122,38 @@ fn last_place(places: &[Place]) -> Place
     places[places.len() - 1]
 }
 
+// A copy of bytes.
+fn owned_bytes(alloc: Global, bytes: &[u8]) -> Result<Bytes, AllocError>
+    ensures { IfOk result (λ copy. copy ≡ bytes.now) }
+{
+    let mut copy = Bytes::new(alloc);
+    copy.push_all(bytes)?;
+    Ok(copy)
+}
+
+// A copy of a key.
+fn owned_key(alloc: Global, key: KeyRef<'_>) -> Result<Key, AllocError>
+    ensures { IfOk result (λ copy. copy ≡ key_seen key.entry) }
+{
+    match key {
+        KeyRef::Bytes(bytes) => Ok(Key::Bytes(owned_bytes(alloc, bytes)?)),
+        KeyRef::Number(number) => Ok(Key::Number(number)),
+    }
+}
+
+// A copy of a pair that is lent.
+fn owned_pair(alloc: Global, pair: PairRef<'_>) -> Result<TextPair, AllocError>
+    ensures { IfOk result (λ copy. copy ≡ pair_seen pair.entry) }
+{
+    let key = owned_key(alloc, pair.key)?;
+    let value = owned_bytes(alloc, pair.value)?;
+    Ok(TextPair {
+        key,
+        value,
+        line: pair.line,
+    })
+}
+
 impl TextPairs {
     pub fn new(alloc: Global) -> TextPairs
         ensures { result ≡ [] }
@@ -159,7 +192,8 @@ impl TextPairs {
     fn push_beside(&mut self, shares_key: bool, pair: PairRef<'_>) -> Result<(), AllocError>
         requires some { shares_key ≡ true → 0 < length self.old }
         requires same { shares_key ≡ true → last_key self.old ≡ key_seen pair.key }
-        ensures { OnOk result (self.new ≡ self.old ++ pair_seen pair.entry ∷ []) }
+        ensures ok { OnOk result (self.new ≡ self.old ++ pair_seen pair.entry ∷ []) }
+        ensures err { OnErr result (self.new ≡ self.old) }
     {
         if shares_key {
             self.push_with_last_key(pair.value, pair.line)
@@ -168,15 +202,37 @@ impl TextPairs {
         }
     }
 
-    /// Adds copies of pairs at the end. A key that several of them have one behind the other, and that is one for them, is copied once.
-    pub fn push_all(&mut self, pairs: PairSlice<'_>) -> Result<(), AllocError>
-        ensures { OnOk result (self.new ≡ self.old ++ slice_seen pairs.entry) }
+    // Keeps the first pairs, so many.
+    fn keep_first(&mut self, count: usize)
+        ensures { self.new ≡ take count self.old }
+    {
+        self.places.truncate(count);
+    }
+
+    // Adds copies of pairs at the end, or of the first of them.
+    fn push_each(&mut self, pairs: PairSlice<'_>) -> Result<(), AllocError>
+        ensures ok { OnOk result (self.new ≡ self.old ++ slice_seen pairs.entry) }
+        ensures err { OnErr result (take (length self.old) self.new ≡ self.old) }
     {
         for i in 0..pairs.len() {
             let shares_key = i > 0 && pairs.share_key(i - 1, i);
             self.push_beside(shares_key, pairs.at(i))?;
         }
         Ok(())
+    }
+
+    /// Adds copies of pairs at the end; on a refusal the pairs are as before. A key that several of them have one behind the other, and that is
+    /// one for them, is copied once.
+    pub fn push_all(&mut self, pairs: PairSlice<'_>) -> Result<(), AllocError>
+        ensures ok { OnOk result (self.new ≡ self.old ++ slice_seen pairs.entry) }
+        ensures err { OnErr result (self.new ≡ self.old) }
+    {
+        let before = self.len();
+        let pushed = self.push_each(pairs);
+        if pushed.is_err() {
+            self.keep_first(before);
+        }
+        pushed
     }
 
     pub fn len(&self) -> usize
@@ -189,6 +245,27 @@ impl TextPairs {
         ensures { result ≡ (length self.now == 0) }
     {
         self.places.is_empty()
+    }
+
+    /// The pair at a place, lent; `None` exactly where there are no more than so many pairs.
+    pub fn get(&self, i: usize) -> Option<PairRef<'_>>
+        ensures { option_map pair_seen result ≡ slice_get self.now i }
+    {
+        self.as_slice().get(i)
+    }
+
+    /// Takes the last pair away, and answers a copy of it; `None` exactly where there is none. On a refusal the pairs are as before.
+    pub fn pop(&mut self, alloc: Global) -> Result<Option<TextPair>, AllocError>
+        ensures ok { IfOk result (λ pair. pair ≡ slice_get self.old (length self.old - 1)) }
+        ensures rest { OnOk result (self.new ≡ take (length self.old - 1) self.old) }
+        ensures err { OnErr result (self.new ≡ self.old) }
+    {
+        let Some(last) = self.as_slice().last() else {
+            return Ok(None);
+        };
+        let pair = owned_pair(alloc, last)?;
+        self.places.pop();
+        Ok(Some(pair))
     }
 
     pub fn as_slice(&self) -> PairSlice<'_>

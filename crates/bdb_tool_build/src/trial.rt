@@ -54,7 +54,7 @@ fn trial_sections(alloc: Global, kind: Kind, seed: u32, count: u32) -> Result<Se
         name: None,
         settings: trial_settings(kind),
         header_line: 0,
-        pairs: generate(alloc, kind, seed, count)?,
+        pairs: generate(alloc, kind, seed, count)?.into_pairs(),
     })?;
     Ok(sections)
 }

@@ -3,7 +3,7 @@ use Rattle.std.proofs.Math.Pow.{pow_mono}
 use Rattle.bdb_mkhash.proofs.buckets.bucket_count.Goals as goal
 
 pub returns-clause-count : goal.returns-clause-count
-returns-clause-count c = let p : 2 ^ c.args.bits ≤ 2 ^ 21 = pow_mono c.requires in omega (arith, p)
+returns-clause-count c = let p : 2 ^ c.args.bits ≤ 2 ^ 31 = pow_mono c.requires in omega (arith, p)
 
 pub returns-clause-few : goal.returns-clause-few
-returns-clause-few c = let p : 2 ^ c.args.bits ≤ 2 ^ 21 = pow_mono c.requires in omega (arith, p)
+returns-clause-few c = let p : 2 ^ c.args.bits ≤ 2 ^ 31 = pow_mono c.requires in omega (arith, p)

@@ -5,15 +5,15 @@ use Rattle.std.specs.Prelude.{◌+◌, ◌^◌, ◌≡◌}
 use Rattle.std.specs.List.{All}
 use Rattle.bdb_mktree.specs.of_text_format.Placed.{pairs_of}
 use Rattle.bdb_law_buckets.specs.Tables.{dealt, table_meta}
-use Rattle.bdb_mkhash.specs.Buckets.{bits_for, table_cost, table_units}
+use Rattle.bdb_mkhash.specs.Buckets.{table_bits, table_units}
 use Rattle.bdb_mkhash.specs.Filling.{AreEmptyPages, AreFilled}
 use Rattle.bdb_mkhash.specs.Units.{IsShortUnit, units_seen}
 use Rattle.bdb_mkhash.proofs.BuildLemmas.{all_seen, all_short, buckets_short, keys_are, table_built}
 use Rattle.bdb_mkhash.proofs.BucketLemmas.{two_at_least}
 use Rattle.bdb_mkhash.proofs.build.build_table.Goals as goal
 
-pub table_cost-requires-clause-keys : goal.table_cost-requires-clause-keys
-table_cost-requires-clause-keys c = keys_are c.args.settings.now (pairs_of c.args.list) c.requires.list
+pub table_bits-requires-clause-keys : goal.table_bits-requires-clause-keys
+table_bits-requires-clause-keys c = keys_are c.args.settings.now (pairs_of c.args.list) c.requires.list
 
 pub deal-requires-clause-keys : goal.deal-requires-clause-keys
 deal-requires-clause-keys c = keys_are c.args.settings.now (pairs_of c.args.list) c.requires.list
@@ -51,12 +51,10 @@ pub returns : goal.returns
 returns c =
     let units = table_units (pairs_of c.args.list) in
     let are = ap (map (λ bucket. units_seen bucket.items)) c.as_slice.ensures.value ∙ c.in_ok-buckets.ensures in
-    let cost = c.in_ok-table_cost.ensures ∙ ap (λ s. table_cost s units) c.size-2.ensures.size in
-    let bits = c.in_ok-bits.ensures.bits ∙ (ap (λ s. bits_for s c.in_ok-table_cost.field-0) c.size.ensures.size ∙ ap
-    (bits_for c.args.pages.now.size) cost) in
+    let bits = c.in_ok-bits.ensures.bits ∙ ap (λ s. table_bits s units) c.size.ensures.size in
     table_built c.args.settings.now c.args.pages.now c.add_buckets.new.pages c.fill_buckets.new.pages (pairs_of c.args.list) c.in_ok-bits.bits
     (map (λ bucket. units_seen bucket.items) c.as_slice.result.now) c.table_meta.result c.requires.list c.requires.some bits c.in_ok-bits.ensures.some
-    c.in_ok-bits.ensures.few are c.in_ok-add_buckets.ensures.kept
+    (omega arith) are c.in_ok-add_buckets.ensures.kept
     (c.in_ok-add_buckets.ensures.count ∙ ap (λ n. length c.args.pages.now.pages + n) c.bucket_count.ensures.count)
     (subst (λ p. AreFilled p c.add_buckets.new.pages c.fill_buckets.new.pages c.args.settings.now.sorted
     (map (λ bucket. units_seen bucket.items) c.as_slice.result.now))

@@ -7,6 +7,11 @@ use Rattle.bdb_mkhash.proofs.fill.fill_page.Goals as goal
 pub loop-unit-init : goal.loop-unit-init
 loop-unit-init c = (refl, none_put c.args.page c.args.pages.now c.args.sorted c.size-size.ensures.whole c.requires.empty)
 
+pub keyed_cost-requires-clause-some : goal.keyed_cost-requires-clause-some
+keyed_cost-requires-clause-some c =
+    (subst IsShortUnit (sym (seen_any c.args.units.now c.loop-unit.unit-index _ c.loop-unit-test.true))
+    (c.requires.short c.loop-unit.unit-index no_unit (omega (arith, seen_long c.args.units.now, c.loop-unit-test.true)))).some
+
 pub room-requires-clause-begun : goal.room-requires-clause-begun
 room-requires-clause-begun c =
     (page_whole c.args.page c.args.pages.now c.loop-unit.pages c.args.sorted _ c.requires.empty c.loop-unit.invariant.1).holds.begun

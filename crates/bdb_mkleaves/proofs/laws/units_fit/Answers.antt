@@ -1,4 +1,4 @@
-use Rattle.bdb_mkleaves.proofs.PushedLaws.{units_fit}
+use Rattle.bdb_mkleaves.proofs.PushLemmas.{units_fit}
 use Rattle.bdb_mkleaves.proofs.laws.units_fit.Goals as goal
 
 pub returns : goal.returns

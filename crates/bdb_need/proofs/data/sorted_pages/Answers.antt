@@ -13,11 +13,11 @@ loop-i-preserved c =
     let value = c.at-value.result.now in
     let all = data_units values in
     let put = c.in_ok-put.ensures in (
-      keyed_next c.args.size c.loop-i.leaves.left c.put.new.self.left c.loop-i.leaves.room (2 + c.value_cost.result) c.key_item_cost.result all
+      keyed_next c.args.size c.loop-i.leaves.left c.put.new.self.left c.loop-i.leaves.room c.record_cost.result c.key_item_cost.result all
           (data_units (drop (i + 1) values)) (EntryUnit value false) c.loop-i.leaves.items.items c.put.new.self.items.items
           (subst (λ us. KeyedTo c.args.size all us c.loop-i.leaves.left c.loop-i.leaves.items.items)
           (data_here values i value (omega arith) c.at-value.ensures) c.loop-i.invariant.0)
-          c.loop-i.invariant.1 (ap (λ n. 2 + n) c.value_cost.ensures.cost) c.key_item_cost.ensures.cost c.key_item_cost.ensures.fits put.left put.same
+          c.loop-i.invariant.1 c.record_cost.ensures.cost c.key_item_cost.ensures.cost c.key_item_cost.ensures.fits put.left put.same
           put.begun put.more,
       put.room ∙ c.loop-i.invariant.1,
       (let few = put.few in omega (arith, few, c.loop-i.invariant.2)),

@@ -14,7 +14,7 @@ loop-i-preserved c =
       counted_next c.args.size (data_units values) (EntryUnit value false ∷ []) rest _ c.loop-i.open c.put.new.self
           (subst (λ us. CountedTo c.args.size (data_units values) us c.loop-i.open) (data_here values i value (omega arith) c.at.ensures)
           c.loop-i.invariant.0)
-          c.put.ensures (ap (λ n. (2 + n) ∷ []) c.value_cost.ensures.cost),
+          c.put.ensures (ap (λ n. n ∷ []) c.record_cost.ensures.cost),
       (let few = c.put.ensures.few in omega (arith, few, c.loop-i.invariant.1)),
     )
 

@@ -1,8 +1,8 @@
 use Rattle.std.proofs.Common.{◌^◌, refl, ◌∙◌, ap, arith}
-use Rattle.bdb_mkhash.specs.of_mkleaves.Units.{chain_pages}
+use Rattle.bdb_mkhash.specs.of_mkleaves.Units.{chain_pages, length_chain, record_cost}
 use Rattle.bdb_mkhash.specs.of_text_format.Placed.{pair_seen, slice_seen}
 use Rattle.bdb_settle.specs.Loaded.{filled_pair, filled_pairs, filled_value}
-use Rattle.bdb_need.specs.Counting.{length_chain, length_cost, values_in}
+use Rattle.bdb_need.specs.Counting.{values_in}
 use Rattle.bdb_need.proofs.DataLemmas.{short_here, sum_end, sum_more, value_here, values_past, values_within}
 use Rattle.bdb_need.proofs.RecordLemmas.{filled_here, filled_past, filled_within, number_after, pair_here, records_end, records_next}
 use Rattle.bdb_need.proofs.records.record_pages.Goals as goal
@@ -13,10 +13,10 @@ overflow_sub-number c =
     let pairs = slice_seen c.args.pairs in
     let pair = pair_seen c.at-pair.result in
     let at = pair_here pairs c.loop-i.i pair c.at-pair.ensures in
-    number_after c.args.size (filled_pairs settings pairs) c.loop-i.i c.loop-i.next c.number_of-number.result
+    number_after c.args.size (filled_pairs settings pairs) c.loop-i.i c.loop-i.next c.from-number.result
     (filled_pair settings pair) c.loop-i.open c.loop-i.invariant.0
     (filled_within settings pairs c.loop-i.i at.0)
-    (filled_here settings pairs c.loop-i.i pair at.0 at.1) c.number_of-number.ensures.number
+    (filled_here settings pairs c.loop-i.i pair at.0 at.1) (c.from-number.ensures ∙ c.number_of.ensures)
 
 pub length_chain-chains-requires-clause-short : goal.length_chain-chains-requires-clause-short
 length_chain-chains-requires-clause-short c =
@@ -42,10 +42,10 @@ loop-i-preserved c =
     let at = pair_here pairs i (pair_seen c.at-pair.result) c.at-pair.ensures in
     let within = filled_within settings pairs i at.0 in
     let here = filled_here settings pairs i (pair_seen c.at-pair.result) at.0 at.1 in (
-      records_next c.args.size filled i c.loop-i.next c.number_of-number.result c.length_cost.result pair.value pair
+      records_next c.args.size filled i c.loop-i.next c.from-number.result c.record_cost-missing.result c.record_cost.result pair
           c.loop-i.open c.put_many.new.self c.put.new.self c.loop-i.invariant.0 within here
-          c.number_of-number.ensures.number c.number_of-number.ensures.few refl
-          (c.length_cost.ensures.cost ∙ ap (length_cost c.args.size) c.filled_len-len.ensures) c.put_many.ensures
+          (c.from-number.ensures ∙ c.number_of.ensures) (omega (arith, c.from-number.ensures, c.number_of.type_inv)) c.record_cost-missing.ensures.cost
+          (c.record_cost.ensures.cost ∙ ap (record_cost c.args.size) c.filled_len-len.ensures) c.put_many.ensures
           c.put.ensures,
       sum_more (chain_pages c.args.size) (values_in filled) i pair.value c.loop-i.chains c.length_chain-chains.result (2 ^ 32)
           (values_within filled i within) (value_here filled i pair _ within here refl)

@@ -4,7 +4,7 @@ use Rattle.bdb_law_sums.specs.of_format.declared.pages.Header.{Header}
 use Rattle.bdb_law_sums.specs.of_format.Page.{Internal, InternalItem, RecnoInternal}
 use Rattle.bdb_law_sums.specs.of_format.File.{page_at}
 use Rattle.bdb_law_sums.specs.of_format.declared.pages.RecnoItem.{RecnoItem}
-use Rattle.bdb_layout.specs.Seen.{internal_item_seen}
+use Rattle.bdb_meta.specs.of_layout.Seen.{internal_item_seen}
 use Rattle.bdb_law_sums.specs.of_form.Seen.{page_seen}
 use Rattle.bdb_survey.proofs.WayLemmas.{first_child, way_internal}
 use Rattle.bdb_survey.proofs.down.way_from.Goals as goal

@@ -2,8 +2,8 @@ use Rattle.std.proofs.Common.{◌≡◌, rules}
 use Rattle.std.specs.Prelude.{Err}
 use Rattle.bdb_text.proofs.data_lines.read_key.Goals as goal
 
-pub returns-in_err-read_data-clause-err : goal.returns-in_err-read_data-clause-err
-returns-in_err-read_data-clause-err c =
-    let error = c.in_err-read_data.field-0.0 in
+pub returns-in_err-span-clause-err : goal.returns-in_err-span-clause-err
+returns-in_err-span-clause-err c =
+    let error = c.in_err-span.field-0.0 in
     let is : c.from_residual.result ≡ Err error = search rules in
-    rw is (c.in_err-read_data.ensures.err c.args.numbered)
+    rw is (c.in_err-span.ensures.err c.args.numbered)

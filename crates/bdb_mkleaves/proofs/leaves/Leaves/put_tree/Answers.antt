@@ -7,13 +7,13 @@ pub append-requires-clause-leaves : goal.append-requires-clause-leaves
 append-requires-clause-leaves c =
     (takes_tree c.args.self.now c.args.pages.now c.put.new.pages c.build_set.new.pages c.args.key.now (values_seen c.args.values) c.args.sorted
     c.in_ok-root.root
-    c.requires.leaves c.in_ok-put.ensures c.in_ok-root.ensures (omega arith) c.requires.room).0
+    c.requires.leaves c.in_ok-put.ensures c.in_ok-root.ensures (omega arith) c.requires.many c.requires.room).0
 
 pub append-requires-clause-takes : goal.append-requires-clause-takes
 append-requires-clause-takes c =
     (takes_tree c.args.self.now c.args.pages.now c.put.new.pages c.build_set.new.pages c.args.key.now (values_seen c.args.values) c.args.sorted
     c.in_ok-root.root
-    c.requires.leaves c.in_ok-put.ensures c.in_ok-root.ensures (omega arith) c.requires.room).1
+    c.requires.leaves c.in_ok-put.ensures c.in_ok-root.ensures (omega arith) c.requires.many c.requires.room).1
 
 pub returns : goal.returns
 returns c =

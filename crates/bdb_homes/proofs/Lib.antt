@@ -1,0 +1,12 @@
+pub mod UpLemmas
+pub mod SpreadLemmas
+pub mod RowLemmas
+pub mod ClimbLemmas
+pub mod WalkLemmas
+pub mod FitLemmas
+pub mod RunLemmas
+pub mod HomeLemmas
+pub mod ClaimLemmas
+pub mod ItemLemmas
+pub mod TableLemmas
+pub mod JudgedLemmas

@@ -1,0 +1,20 @@
+//! Which database each page of a damaged image belongs to.
+#![tactic(auto)]
+
+mod asked;
+mod claims;
+mod climb;
+mod face;
+mod faces;
+mod home;
+mod homes;
+mod items;
+mod judged;
+mod rows;
+mod runs;
+mod table;
+mod up;
+
+pub use bdb_survey::{Guess, Meta, WholePages};
+pub use home::Home;
+pub use homes::PageHomes;

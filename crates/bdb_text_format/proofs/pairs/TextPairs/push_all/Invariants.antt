@@ -1,7 +1,0 @@
-use Rattle.std.proofs.Common.{◌≡◌, ◌++◌, take}
-use Rattle.bdb_text_format.specs.Placed.{slice_seen}
-use Rattle.bdb_text_format.proofs.pairs.TextPairs.push_all.Given as goal
-
--- The pairs passed are there.
-abbrev pub invariant-loop-i : goal.invariant-loop-i
-invariant-loop-i l = l.self ≡ l.fn.self ++ take l.i (slice_seen l.fn.pairs)
