@@ -9,14 +9,25 @@ ghost use Rattle.bdb_tool_build.specs.Ontos.{list_key};
 ghost use Rattle.bdb_tool_build.specs.Copied.{EndsWith};
 
 use bdb_file::{Datum, KeyView, bytes_in, is_same};
-use bdb_model::{KeyRef, PairRef, TextPairs};
+use bdb_model::{KeyRef, Near, PairRef, Span, TextPairs};
 use std::alloc::{AllocError, Global};
+use std::collections::BTreeMap;
 
-/// Rooms in which the bytes of chains are joined, for all keys and data of a base.
+/// Rooms in which the bytes of chains are joined, for all keys and data of a base, and by its mark where a chain was put that was copied last: so each is copied
+/// once for a database, however many items name it.
 #[derive(Drop)]
 pub(crate) struct Rooms {
     key: Vec<u8>,
     value: Vec<u8>,
+    chains: BTreeMap<u32, Span>,
+}
+
+// The mark of a key's chain, if it's in one.
+fn mark_of(key: &KeyView<'_>) -> Option<u32> {
+    match key {
+        KeyView::Bytes(value) => value.mark(),
+        KeyView::Number(_) => None,
+    }
 }
 
 // The key of a list, to be copied.
@@ -62,7 +73,24 @@ impl Rooms {
         Rooms {
             key: Vec::new(alloc),
             value: Vec::new(alloc),
+            chains: BTreeMap::new(alloc),
         }
+    }
+
+    // Where a chain may stand, by its mark.
+    fn near(&self, mark: Option<u32>) -> Option<Span> {
+        match self.chains.get(&mark?) {
+            Some(span) => Some(*span),
+            None => None,
+        }
+    }
+
+    // Notes where a chain stands, by its mark.
+    fn note(&mut self, mark: Option<u32>, span: Option<Span>) -> Result<(), AllocError> {
+        if let (Some(mark), Some(span)) = (mark, span) {
+            self.chains.insert(mark, span)?;
+        }
+        Ok(())
     }
 
     /// Adds a pair of a list, as if it stood in a text without numbers of lines.
@@ -74,11 +102,20 @@ impl Rooms {
     ) -> Result<(), AllocError>
         ensures { OnOk result (pairs.new ≡ pairs.old ++ text_pair (key_view_seen key.entry, datum_seen value.entry) ∷ []) }
     {
-        pairs.push(PairRef {
+        let of_key = mark_of(&key);
+        let of_value = value.mark();
+        let near = Near {
+            key: self.near(of_key),
+            value: self.near(of_value),
+        };
+        let pair = PairRef {
             key: key_of(key, &mut self.key)?,
             value: bytes_in(value, &mut self.value)?,
             line: 0,
-        })
+        };
+        let put = pairs.push_near(pair, near)?;
+        self.note(of_key, put.key)?;
+        self.note(of_value, put.value)
     }
 
     /// Adds a datum with the key of the last pair, which isn't copied again.
@@ -90,7 +127,10 @@ impl Rooms {
         requires { 0 < length pairs.old }
         ensures { OnOk result (pairs.new ≡ pairs.old ++ pair_with (last_key pairs.old) (datum_seen value.entry) 0 ∷ []) }
     {
-        pairs.push_with_last_key(bytes_in(value, &mut self.value)?, 0)
+        let mark = value.mark();
+        let near = self.near(mark);
+        let put = pairs.push_value_near(bytes_in(value, &mut self.value)?, 0, near)?;
+        self.note(mark, Some(put))
     }
 }
 
