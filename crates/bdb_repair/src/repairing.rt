@@ -1,5 +1,6 @@
 //! `repair`: a sound file of what is salvaged.
-ghost use Rattle.std.specs.Prelude.{◌≡◌, ◌≤◌, ◌^◌, IfErr, IfSome, IsTrue, None, length};
+ghost use Rattle.std.specs.Prelude.{◌≡◌, ◌≤◌, ◌^◌, IfErr, IfOk, IfSome, IsTrue, None, length};
+ghost use Rattle.bdb_mkfile.specs.NamedImages.{HasBuiltTables};
 ghost use Rattle.bdb_model.specs.of_format.HeadOf.{is_page_size};
 ghost use Rattle.bdb_rescue.specs.Guesses.{chosen};
 ghost use Rattle.bdb_repair.specs.Repairs.{IsRepaired, may_come, repair_answer, repair_refusal};
@@ -33,8 +34,10 @@ fn repair_refusal(error: LoadError) -> RepairError
 
 // What was loaded, or why nothing was.
 fn answer_of(loaded: Result<Image, LoadError>) -> Result<Image, RepairError>
-    requires { IfErr loaded (λ error. IsTrue (may_come error)) }
-    ensures { result ≡ repair_answer loaded }
+    requires causes { IfErr loaded (λ error. IsTrue (may_come error)) }
+    requires tables { IfOk loaded (λ image. HasBuiltTables image) }
+    ensures answer { result ≡ repair_answer loaded }
+    ensures tables { IfOk result (λ image. HasBuiltTables image) }
 {
     match loaded {
         Ok(image) => Ok(image),
@@ -57,7 +60,8 @@ pub fn repair_as<L: Ledger>(
     requires size { IfSome guess (λ guess. IsTrue (is_page_size guess.page_size)) }
     requires small { length image.now ≤ 2 ^ 30 }
     requires max { max ≤ 2 ^ 30 }
-    ensures { IsRepaired max shape (chosen guess image.now) image.now result }
+    ensures repaired { IsRepaired max shape (chosen guess image.now) image.now result }
+    ensures tables { IfOk result (λ image. HasBuiltTables image) }
 {
     let salvaged = salvage(alloc, image, guess, steps)?;
     if is_past(&salvaged, shape, max) {
@@ -78,7 +82,8 @@ pub fn repair<L: Ledger>(
     requires size { IfSome guess (λ guess. IsTrue (is_page_size guess.page_size)) }
     requires small { length image.now ≤ 2 ^ 30 }
     requires max { max ≤ 2 ^ 30 }
-    ensures { IsRepaired max None (chosen guess image.now) image.now result }
+    ensures repaired { IsRepaired max None (chosen guess image.now) image.now result }
+    ensures tables { IfOk result (λ image. HasBuiltTables image) }
 {
     repair_as(alloc, image, None, guess, max, steps)
 }

@@ -6,8 +6,8 @@ use Rattle.bdb_repair.proofs.RepairLemmas.{can_be_loaded, loaded_so, refusals_ma
 use Rattle.bdb_repair.proofs.repairing.repair_as.Goals as goal
 
 -- The data alone have too many bytes.
-pub returns-then-is_past : goal.returns-then-is_past
-returns-then-is_past g c =
+pub returns-then-is_past-clause-repaired : goal.returns-then-is_past-clause-repaired
+returns-then-is_past-clause-repaired g c =
     too_much c.args.max c.args.shape (chosen c.args.guess c.args.image.now) c.args.image.now c.in_ok-salvaged.salvaged
     (record {
       guess = c.in_ok-salvaged.ensures.guess;
@@ -26,15 +26,15 @@ load-requires-clause-fit g c =
     }) c.in_ok-sections.ensures
 
 -- No error of their pairs comes.
-pub answer_of-requires : goal.answer_of-requires
-answer_of-requires g c =
+pub answer_of-requires-clause-causes : goal.answer_of-requires-clause-causes
+answer_of-requires-clause-causes g c =
     refusals_may_come c.args.max c.args.shape c.in_ok-salvaged.salvaged c.in_ok-sections.sections c.load.result c.in_ok-sections.ensures
     c.load.ensures.refused
 
 -- What loading them answers.
-pub returns : goal.returns
-returns g c =
-    subst (IsRepaired c.args.max c.args.shape (chosen c.args.guess c.args.image.now) c.args.image.now) (sym c.answer_of.ensures)
+pub returns-clause-repaired : goal.returns-clause-repaired
+returns-clause-repaired g c =
+    subst (IsRepaired c.args.max c.args.shape (chosen c.args.guess c.args.image.now) c.args.image.now) (sym c.answer_of.ensures.answer)
     (loaded_so c.args.max c.args.shape (chosen c.args.guess c.args.image.now) c.args.image.now c.in_ok-salvaged.salvaged c.in_ok-sections.sections
     c.load.result
     (record {
