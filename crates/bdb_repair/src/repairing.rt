@@ -47,8 +47,8 @@ fn answer_of(loaded: Result<Image, LoadError>) -> Result<Image, RepairError>
 
 /// The image of what is salvaged of an image by the given guess, or the one that page 0 tells: a sound file of at most `max` bytes, with one database
 /// of a shape where one is given, and else with those that `salvage` names. Where the data that it keeps have more bytes, nothing is copied. What is copied has
-/// no more bytes than the image, where no items of a page overlap: a chain is copied once, however many items name it, and so is a set. Beside it each pair
-/// takes a place of 32 bytes.
+/// at most three times the bytes of the image: a chain is copied once, however many items name it, and so is a set. Beside it each pair takes a place of
+/// 32 bytes.
 pub fn repair_as<L: Ledger>(
     alloc: Global,
     image: &[u8],
