@@ -7,9 +7,7 @@ ghost use Rattle.bdb_settle.specs.Settling.{IsSortedOf, pair_on, place_before};
 
 use crate::leads::{are_sorted, sort_places};
 use crate::order::{keeps_data, stands_before};
-use bdb_mktree::{
-    PairSlice, Place, PlacedKey, PlacedPairs, Settings, Span, TextPairs, are_one,
-};
+use bdb_mktree::{PairSlice, Place, PlacedKey, PlacedPairs, Settings, Span, TextPairs, are_one};
 use std::alloc::{AllocError, Global};
 
 /// Whether a pair stays where the next one in their order comes.

@@ -1,4 +1,6 @@
+use Rattle.std.proofs.Common.{refl}
 use Rattle.std.proofs.lemmas.List.Sorted.{All-permutation}
+use Rattle.std.proofs.lemmas.Result.{IfOk-weaker}
 use Rattle.bdb_mktree.specs.of_text_format.Placed.{IsPlaced}
 use Rattle.bdb_settle.proofs.PlaceLemmas.{sorted_of, sorted_still}
 use Rattle.bdb_settle.proofs.settling.sorted_pairs.Goals as goal
@@ -17,4 +19,9 @@ moved-requires c =
     c.sort_places.ensures.moved c.into_placed-bytes.ensures.placed
 
 pub returns : goal.returns
-returns c = ?
+returns c =
+    IfOk-weaker c.moved.result _ _
+    (λ sorted is. sorted_of c.args.settings.now c.into_placed-bytes.result.bytes.items c.as_slice-3.result.now c.into_placed-bytes.result.bytes.items
+    c.into_placed-bytes.result.places.items c.sort_places.new.places.items c.sort_places.new.places.items c.args.pairs sorted c.as_slice-3.ensures.value
+    refl refl c.sort_places.ensures.moved c.in_ok-sort_places.ensures.sorted c.sort_places.ensures.stable c.into_placed-bytes.ensures.pairs is)
+    c.moved.ensures
