@@ -76,6 +76,10 @@ JUDGED, REFUTED = SOUND[:1], FAULTY[:2]
 CUT_OFF = (Run(("repair", "--max-bytes", "1000000"), 6),)
 # The sections of such a file would be too long to write as a text.
 REPAIRED = (Run(("repair",), 0),)
+# The data of such a base are far longer than it, too.
+ONTO_CUT_OFF = (Run(("load", "--max-bytes", "1000000"), 6, onto=True),)
+# A key has one datum there, though many are salvaged, all of them one chain.
+KEPT_ONCE = tuple(Run(("repair", "--as", kind, "--max-bytes", "1000000"), 0) for kind in ("btree", "hash"))
 ONTO = (Run(("load",), 0, onto=True),)
 BY_HAND = tuple(Run(("salvage", "--order", "little", "--page-size", size), 0) for size in ("512", "32768"))
 
@@ -111,8 +115,8 @@ CLASSES = (
     Class("bucket-chain", "one bucket of pages, each of which is the next one of the page behind it", files.bucket_down, 48_000, "", SOUND + (get("a"),)),
     Class("bucket-ring", "a ring of pages of a bucket", files.bucket_ring, 131_072, "Unreached", FAULTY),
     # Items that share one chain of full pages: the texts of these are longer than their files.
-    Class("chain-full-btree", "data of a btree share a chain", files.full_chain_btree, 8_000, "", SOUND + (get("00000000"),) + CUT_OFF),
-    Class("chain-full-set", "data of one key share a chain", files.full_chain_set, 8_000, "", SOUND + (get("key"),) + CUT_OFF),
+    Class("chain-full-btree", "data of a btree share a chain", files.full_chain_btree, 8_000, "", SOUND + (get("00000000"),) + CUT_OFF + ONTO_CUT_OFF),
+    Class("chain-full-set", "data of one key share a chain", files.full_chain_set, 8_000, "", SOUND + (get("key"),) + CUT_OFF + KEPT_ONCE),
     # Chains of full pages that aren't written: those of the outputs would be too long to write.
     Class("chain-full-order", "sorted data, two chains that begin alike under each key", files.full_chains_order, 16_000, "", JUDGED + (get("x", status=9),)),
     Class("chain-full-grid", "sorted data, each two of many such chains under a key", files.full_chains_grid, 32_000, "", JUDGED + (get("x", status=9),)),

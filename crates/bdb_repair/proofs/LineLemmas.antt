@@ -39,7 +39,7 @@ sections_alike (section ∷ sections) =
     ap (λ (one : Section). one ∷ map loaded_section (map without_lines sections)) (section_alike section)
     ∙ ap (λ (rest : List Section). loaded_section section ∷ rest) (sections_alike sections)
 
-size_alike : (sections : List Section) → image_size (map without_lines sections) ≡ image_size sections
+pub size_alike : (sections : List Section) → image_size (map without_lines sections) ≡ image_size sections
 size_alike [] = refl
 size_alike (section ∷ sections) =
     ap (λ (all : List Section). need_of all * section.settings.page_size) (sections_alike (section ∷ sections))

@@ -1,6 +1,7 @@
 -- The text that salvage writes reads as the sections of what is salvaged.
 use Rattle.std.proofs.Common.{◌≡◌, ℕ, ◌<◌, ◌^◌, Bool, true, false, List, [], ◌∷◌, ◌++◌, length, map, Option, Some, None, arith, codes, refl, ◌∙◌, ap, subst}
-use Rattle.std.proofs.Common.{append-nil}
+use Rattle.std.proofs.Common.{append-nil, sym}
+use Rattle.bdb_mkfile.specs.Builds.{image_size}
 use Rattle.std.specs.Prelude.{◌-◌, ◌&&◌, nat_lt}
 use Rattle.std.specs.List.{All, enumerate_from}
 use Rattle.std.proofs.lemmas.Bool.{and_parts, ltb-true}
@@ -34,7 +35,7 @@ use Rattle.bdb_rescue.specs.of_survey.Salvage.{loose, salvaged_file, stored}
 use Rattle.bdb_repair.specs.Parts.{loose_pair, loose_part, loose_section, stored_pair, stored_pairs, stored_section}
 use Rattle.bdb_repair.specs.Reads.{SalvageIsRead, unlined, without_lines}
 use Rattle.bdb_repair.proofs.HeldLemmas.{loose_hold, salvaged_holds, stored_hold}
-use Rattle.bdb_repair.proofs.LineLemmas.{no_errors_with_lines}
+use Rattle.bdb_repair.proofs.LineLemmas.{no_errors_with_lines, size_alike}
 use Rattle.bdb_repair.proofs.PartLemmas.{parts_have_no_errors}
 use Rattle.bdb_law_kept.proofs.WrittenLemmas.{legal}
 
@@ -237,4 +238,5 @@ salvage_is_read print guess image few bytes size =
       reads = found.reads;
       no_error = no_errors_with_lines found.sections (ap load_error found.are ∙ parts_have_no_errors None guess image);
       are = found.are;
+      size = sym (size_alike found.sections) ∙ ap image_size found.are;
     }

@@ -13,9 +13,7 @@ use Rattle.bdb_rescue.specs.of_survey.declared.guess.Guess.{Guess}
 use Rattle.bdb_rescue.specs.Kept.{Reading, file_in}
 use Rattle.bdb_repair.specs.declared.error.RepairError.TheVariants.{TooLarge}
 use Rattle.bdb_model.specs.declared.shape.Shape.{Shape}
-use Rattle.bdb_repair.specs.declared.room.Fit.{Fit}
-use Rattle.bdb_repair.specs.declared.room.Fit.TheVariants.{Past}
-use Rattle.bdb_repair.specs.Room.{IsFit, least_room}
+use Rattle.bdb_repair.specs.Room.{least_room}
 use Rattle.bdb_repair.specs.Parts.{repair_sections}
 use Rattle.bdb_repair.specs.Repairs.{IsRepaired, may_come, repair_answer, repair_refusal}
 use Rattle.bdb_repair.proofs.FileRoomLemmas.{pairs_take_room}
@@ -37,11 +35,6 @@ too_large_so : (max : ℕ) (shape : Option Shape) (found : Option Guess) (image 
 too_large_so max shape found image reading read large =
     subst (λ f. IsRepaired max shape f image (Err TooLarge)) (sym read.guess)
     (subst (λ bytes. nat_lt max (image_size (repair_sections shape reading.guess bytes)) ≡ true) read.image_is large)
-
--- they are told to have too many bytes only where they have
-pub past_so : (past : Bool) (fit : Fit) → fit ≡ Past → IsFit past fit → past ≡ true
-past_so true fit is told = refl
-past_so false fit is told = absurd (subst (IsFit false) is told)
 
 -- where the data that the file keeps have more bytes, it has too
 pub too_much : (max : ℕ) (shape : Option Shape) (found : Option Guess) (image : List ℕ) (reading : Reading) → IsReadBy found image reading

@@ -1,10 +1,9 @@
 -- What is salvaged of an image, as sections that can be loaded. Source: docs/FORMAT.md, "Salvage" and "Repair".
 use Rattle.std.specs.Prelude.{ℕ, List, [], ◌∷◌, map, Option, Some, None, codes}
-use Rattle.std.specs.List.{enumerate_from}
 use Rattle.bdb_model.specs.of_format.File.{File}
-use Rattle.bdb_model.specs.of_text_format.declared.pairs.Key.TheVariants.{Bytes, Number}
 use Rattle.bdb_model.specs.of_text_format.declared.pairs.TextPair.{TextPair}
 use Rattle.bdb_model.specs.of_text_format.declared.sections.Section.{Section}
+pub use Rattle.bdb_rescue.specs.Gathered.{loose_pair, loose_pairs, stored_pair}
 use Rattle.bdb_rescue.specs.Text.{loose_settings, stored_settings}
 use Rattle.bdb_model.specs.declared.shape.Shape.{Shape}
 use Rattle.bdb_model.specs.declared.shape.Shape.TheVariants.{Btree as BtreeShape, Hash as HashShape, Recno as RecnoShape}
@@ -12,20 +11,8 @@ use Rattle.bdb_repair.specs.Shapes.{shaped_settings}
 use Rattle.bdb_rescue.specs.of_survey.declared.guess.Guess.{Guess}
 use Rattle.bdb_rescue.specs.of_survey.Salvage.{loose, salvaged_file, stored}
 
--- a stored pair in a section, without a line
-abbrev pub stored_pair : (List ℕ × List ℕ) → TextPair
-stored_pair pair = record { key = Bytes pair.0; value = pair.1; line = 0 }
-
 abbrev pub stored_pairs : List (List ℕ × List ℕ) → List TextPair
 stored_pairs pairs = map stored_pair pairs
-
--- a record with its number
-abbrev pub loose_pair : (ℕ × List ℕ) → TextPair
-loose_pair placed = record { key = Number placed.0; value = placed.1; line = 0 }
-
--- records, numbered from 1
-abbrev pub loose_pairs : List (List ℕ) → List TextPair
-loose_pairs records = map loose_pair (enumerate_from 1 records)
 
 -- Sections with the names that salvage writes.
 

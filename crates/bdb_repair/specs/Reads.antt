@@ -6,7 +6,7 @@ use Rattle.bdb_model.specs.of_text_format.declared.sections.Section.{Section}
 use Rattle.bdb_model.specs.of_text_format.Sections.{Reads}
 use Rattle.bdb_law_kept.specs.of_text.WrittenLaw.{AreBytes}
 use Rattle.bdb_mkfile.specs.of_settle.LoadErrors.{load_error}
-use Rattle.bdb_mkfile.specs.Builds.{Builds}
+use Rattle.bdb_mkfile.specs.Builds.{Builds, image_size}
 use Rattle.bdb_rescue.specs.Text.{salvage_text}
 use Rattle.bdb_repair.specs.Parts.{repair_sections}
 use Rattle.bdb_rescue.specs.of_survey.declared.guess.Guess.{Guess}
@@ -19,12 +19,13 @@ unlined pair = record pair { line = 0 }
 abbrev pub without_lines : Section → Section
 without_lines section = record section { header_line = 0; pairs = map unlined section.pairs }
 
--- The text reads as sections that have no load error, and are those of what is salvaged but for the numbers of their lines.
+-- The text reads as sections that have no load error, are those of what is salvaged but for the numbers of their lines, and make an image of as many bytes.
 pub record ReadsAsSalvaged (print : Bool) (guess : Guess) (image : List ℕ) : Type 0 where
   pub sections : List Section
   pub reads : Reads (salvage_text print guess image) sections
   pub no_error : load_error sections ≡ None
   pub are : map without_lines sections ≡ repair_sections None guess image
+  pub size : image_size sections ≡ image_size (repair_sections None guess image)
 
 abbrev pub SalvageIsRead : Type 0
 SalvageIsRead =

@@ -47,12 +47,12 @@ IsRepairedBy max shape guess image (Err NoMeta) = ⊥
 IsRepairedBy max shape guess image (Err TooLarge) = nat_lt max (image_size (repair_sections shape guess image)) ≡ true
 IsRepairedBy max shape guess image (Err Memory) = ⊤
 
--- without a guess nothing is repaired
+-- without a guess nothing is repaired, and no memory is asked for
 abbrev pub IsNotRepaired : Result (List ℕ) RepairError → Type 0
 IsNotRepaired (Ok built) = ⊥
 IsNotRepaired (Err NoMeta) = ⊤
 IsNotRepaired (Err TooLarge) = ⊥
-IsNotRepaired (Err Memory) = ⊤
+IsNotRepaired (Err Memory) = ⊥
 
 -- the answer, by the guess that is given or told by page 0, where there is one
 abbrev pub IsRepaired : ℕ → Option Shape → Option Guess → List ℕ → Result (List ℕ) RepairError → Type 0

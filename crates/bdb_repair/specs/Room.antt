@@ -1,9 +1,7 @@
 -- The bytes that a file of what is salvaged has at least. Source: docs/FORMAT.md, "Repair".
-use Rattle.std.specs.Prelude.{⊤, ℕ, ◌+◌, Bool, true, false, List, length, Option, Some, None}
+use Rattle.std.specs.Prelude.{ℕ, ◌+◌, List, length, Option, Some, None}
 use Rattle.std.specs.List.{sum_by}
 use Rattle.bdb_model.specs.of_format.File.{File}
-use Rattle.bdb_repair.specs.declared.room.Fit.{Fit}
-use Rattle.bdb_repair.specs.declared.room.Fit.TheVariants.{Fits, Past, Scarce}
 use Rattle.bdb_model.specs.declared.shape.Duplicates.TheVariants.{No, Unsorted, Sorted}
 use Rattle.bdb_model.specs.declared.shape.Shape.{Shape}
 use Rattle.bdb_model.specs.declared.shape.Shape.TheVariants.{Btree as BtreeShape, Hash as HashShape, Recno as RecnoShape}
@@ -38,12 +36,3 @@ room_as RecnoShape file = loose_room file
 abbrev pub least_room : Option Shape → File → ℕ
 least_room None file = stored_room file + loose_room file
 least_room (Some shape) file = room_as shape file
-
--- whether the data have room is told, by whether they have more bytes than the file may have
-abbrev pub IsFit : Bool → Fit → Type 0
-IsFit true Fits = ⊥
-IsFit true Past = ⊤
-IsFit true Scarce = ⊥
-IsFit false Fits = ⊤
-IsFit false Past = ⊥
-IsFit false Scarce = ⊤

@@ -16,6 +16,7 @@ ghost use Rattle.bdb_text_format.specs.of_format.Page.{Chain};
 
 use crate::Salvaged;
 use crate::kept::{DataPlace, KeptPair, KeptValue};
+use crate::on_page::{ItemAt, OnPage, begin_of};
 use crate::places::Places;
 use bdb_survey::{Content, Datum, DupBlocks, bytes_in};
 use bdb_text_format::{Gathered, PlacedKey, Span, TextPairs};
@@ -31,6 +32,9 @@ struct Gatherer<'s, 'a> {
     // At which pair the data of a set begin, by its first leaf.
     sets: BTreeMap<u32, usize>,
     room: Vec<u8>,
+    // The pages whose items are put there: of pairs, and of values.
+    paired: OnPage,
+    placed: OnPage,
 }
 
 impl<'s, 'a> Model for Gatherer<'s, 'a> {
@@ -76,25 +80,96 @@ impl<'s, 'a> Gatherer<'s, 'a> {
         put_chain(head, value, &mut self.room, &mut self.pairs)
     }
 
-    // Where bytes stand that are added.
-    fn bytes_span(&mut self, bytes: &[u8]) -> Result<Span, AllocError>
+    // Whether so many bytes of an item are put there by themselves.
+    fn takes(&mut self, item: ItemAt, bytes: usize) -> bool
+        ensures { self.new ≡ self.old }
+    {
+        let size = self.salvaged.guess().page_size;
+        if item.paired {
+            self.paired.takes(item.page, size, bytes)
+        } else {
+            self.placed.takes(item.page, size, bytes)
+        }
+    }
+
+    // From where on the page of an item stands there, if it does.
+    fn copy_of(&self, item: ItemAt) -> Option<u32> {
+        if item.paired {
+            self.paired.copy()
+        } else {
+            self.placed.copy()
+        }
+    }
+
+    // Notes from where on the page of an item stands there.
+    fn note_copy(&mut self, item: ItemAt, start: u32)
+        ensures { self.new ≡ self.old }
+    {
+        if item.paired {
+            self.paired.note(start);
+        } else {
+            self.placed.note(start);
+        }
+    }
+
+    // From where on the page of an item stands there, which is put there if it doesn't yet.
+    fn page_start(&mut self, item: ItemAt, page: &[u8]) -> Result<u32, AllocError>
+        ensures { Grows self.old self.new }
+    {
+        if let Some(start) = self.copy_of(item) {
+            return Ok(start);
+        }
+        let span = self.pairs.put(page)?;
+        self.note_copy(item, span.start);
+        Ok(span.start)
+    }
+
+    // Where bytes stand that are put there, if they don't from one place on.
+    fn found_span(&mut self, bytes: &[u8], from: usize) -> Result<Span, AllocError>
         ensures grows { Grows self.old self.new }
         ensures ok { IfOk result (IsPiecePut self.new.gathered.bytes bytes.now) }
     {
-        self.pairs.put(bytes)
+        match self.pairs.find(from, bytes) {
+            Some(span) => Ok(span),
+            None => self.pairs.put(bytes),
+        }
+    }
+
+    // Where bytes of an item stand, so many behind where it begins, in the whole page.
+    #[tactic(auto, using(crate::proofs::GatheredLemmas::in_hand, crate::proofs::GatheredLemmas::grows_on))]
+    fn paged_span(&mut self, bytes: &[u8], item: ItemAt, skip: usize) -> Result<Span, AllocError>
+        ensures grows { Grows self.old self.new }
+        ensures ok { IfOk result (IsPiecePut self.new.gathered.bytes bytes.now) }
+    {
+        let page = self.salvaged.page_bytes(item.page);
+        let start = self.page_start(item, page)?;
+        let begin = begin_of(page, self.salvaged.guess().order, item.index);
+        let from = (start as usize).saturating_add(begin).saturating_add(skip);
+        self.found_span(bytes, from)
+    }
+
+    // Where bytes of an item stand, so many behind where it begins.
+    fn bytes_span(&mut self, bytes: &[u8], item: ItemAt, skip: usize) -> Result<Span, AllocError>
+        ensures grows { Grows self.old self.new }
+        ensures ok { IfOk result (IsPiecePut self.new.gathered.bytes bytes.now) }
+    {
+        if self.takes(item, bytes.len()) {
+            return self.pairs.put(bytes);
+        }
+        self.paged_span(bytes, item, skip)
     }
 
     // Where the value of an item stands that has one by itself.
     #[tactic(auto, unfolding(crate::specs::Below::value_of))]
-    fn span(&mut self, content: Content<'a>) -> Result<Span, AllocError>
+    fn span(&mut self, content: Content<'a>, item: ItemAt) -> Result<Span, AllocError>
         requires { IsTrue (is_valued (file_in self.old.reading) (content_seen content)) }
         ensures grows { Grows self.old self.new }
         ensures ok { IfOk result (IsPiecePut self.new.gathered.bytes (value_of (file_in self.old.reading) (content_seen content.entry))) }
     {
         match content {
-            Content::Inline(bytes) => self.bytes_span(bytes),
+            Content::Inline(bytes) => self.bytes_span(bytes, item, 0),
             Content::Overflow { head, total } => self.chain_span(head, total),
-            Content::Set(_) | Content::OffPage { .. } => self.bytes_span(&[]),
+            Content::Set(_) | Content::OffPage { .. } => self.bytes_span(&[], item, 0),
         }
     }
 
@@ -108,32 +183,45 @@ impl<'s, 'a> Gatherer<'s, 'a> {
     }
 
     // Adds a key with the value of an item.
-    fn push(&mut self, key: PlacedKey, content: Content<'a>) -> Result<(), AllocError>
+    fn push(&mut self, key: PlacedKey, content: Content<'a>, item: ItemAt) -> Result<(), AllocError>
         requires valued { IsTrue (is_valued (file_in self.old.reading) (content_seen content)) }
         requires key { IsKeyPlaced self.old.gathered.bytes key }
         ensures { OnOk result (Adds self.old self.new key (value_of (file_in self.old.reading) (content_seen content.entry) ∷ [])) }
     {
-        let value = self.span(content)?;
+        let value = self.span(content, item)?;
         self.push_span(key, value)
     }
 
-    // Adds a key with some bytes.
-    fn push_bytes(&mut self, key: PlacedKey, bytes: &[u8]) -> Result<(), AllocError>
+    // Adds a key with some bytes of an item.
+    fn push_bytes(
+        &mut self,
+        key: PlacedKey,
+        bytes: &[u8],
+        item: ItemAt,
+        skip: usize,
+    ) -> Result<(), AllocError>
         requires { IsKeyPlaced self.old.gathered.bytes key }
         ensures { OnOk result (Adds self.old self.new key (bytes.now ∷ [])) }
     {
-        let value = self.bytes_span(bytes)?;
+        let value = self.bytes_span(bytes, item, skip)?;
         self.push_span(key, value)
     }
 
-    // Adds a key with each datum of a set on its page.
+    // Adds a key with each datum of a set on its page, each between two lengths of two bytes.
     #[tactic(auto, using(crate::proofs::GatheredLemmas::so_far_adds))]
-    fn push_blocks(&mut self, key: PlacedKey, blocks: DupBlocks<'a>) -> Result<(), AllocError>
+    fn push_blocks(
+        &mut self,
+        key: PlacedKey,
+        blocks: DupBlocks<'a>,
+        item: ItemAt,
+    ) -> Result<(), AllocError>
         requires { IsKeyPlaced self.old.gathered.bytes key }
         ensures { OnOk result (Adds self.old self.new key blocks.entry.blocks) }
     {
+        let mut skip: usize = 2;
         for block in blocks {
-            self.push_bytes(key, block)?;
+            self.push_bytes(key, block, item, skip)?;
+            skip = skip.saturating_add(block.len()).saturating_add(4);
         }
         Ok(())
     }
@@ -144,11 +232,13 @@ impl<'s, 'a> Gatherer<'s, 'a> {
         requires key { IsKeyPlaced self.old.gathered.bytes key }
         ensures { OnOk result (Adds self.old self.new key (value_at (file_in self.old.reading) place ∷ [])) }
     {
-        let content = self
-            .salvaged
-            .pages()
-            .content(place.page, u32::from(place.index));
-        self.push(key, content)
+        let item = ItemAt {
+            page: place.page,
+            index: u32::from(place.index),
+            paired: false,
+        };
+        let content = self.salvaged.pages().content(item.page, item.index);
+        self.push(key, content, item)
     }
 
     // Adds a key with the value at each of some places.
@@ -218,15 +308,22 @@ impl<'s, 'a> Gatherer<'s, 'a> {
 
     // Adds a key with the data in a data item.
     #[tactic(auto, unfolding(crate::specs::Below::value_of))]
-    fn push_here(&mut self, key: PlacedKey, content: Content<'a>) -> Result<(), AllocError>
+    fn push_here(
+        &mut self,
+        key: PlacedKey,
+        content: Content<'a>,
+        item: ItemAt,
+    ) -> Result<(), AllocError>
         requires held { IsTrue (is_held (file_in self.old.reading) (content_seen content)) }
         requires key { IsKeyPlaced self.old.gathered.bytes key }
         ensures { OnOk result (Adds self.old self.new key (data_here (file_in self.old.reading) (content_seen content.entry))) }
     {
         match content {
-            Content::Inline(bytes) => self.push_bytes(key, bytes),
-            Content::Set(blocks) => self.push_blocks(key, blocks),
-            Content::Overflow { head, total } => self.push(key, Content::Overflow { head, total }),
+            Content::Inline(bytes) => self.push_bytes(key, bytes, item, 0),
+            Content::Set(blocks) => self.push_blocks(key, blocks, item),
+            Content::Overflow { head, total } => {
+                self.push(key, Content::Overflow { head, total }, item)
+            }
             Content::OffPage { .. } => Ok(()),
         }
     }
@@ -241,9 +338,13 @@ impl<'s, 'a> Gatherer<'s, 'a> {
     {
         match pair.place {
             DataPlace::Here => {
-                let index = 2 * u32::from(pair.index) + 1;
-                let content = self.salvaged.pages().content(pair.page, index);
-                self.push_here(key, content)
+                let item = ItemAt {
+                    page: pair.page,
+                    index: 2 * u32::from(pair.index) + 1,
+                    paired: true,
+                };
+                let content = self.salvaged.pages().content(item.page, item.index);
+                self.push_here(key, content, item)
             }
             DataPlace::Set { leaf } => self.push_set(key, leaf),
         }
@@ -256,9 +357,13 @@ impl<'s, 'a> Gatherer<'s, 'a> {
         ensures ok { IfOk result (IsPiecePut self.new.gathered.bytes
             (value_of (file_in self.old.reading) (item_of (file_in self.old.reading) pair.page (2 * pair.index)).content)) }
     {
-        let index = 2 * u32::from(pair.index);
-        let content = self.salvaged.pages().content(pair.page, index);
-        self.span(content)
+        let item = ItemAt {
+            page: pair.page,
+            index: 2 * u32::from(pair.index),
+            paired: true,
+        };
+        let content = self.salvaged.pages().content(item.page, item.index);
+        self.span(content, item)
     }
 
     // Adds what a kept pair gives. Its key stands there once for all its data.
@@ -297,6 +402,8 @@ fn nothing_yet<'s, 'a>(
         pairs: Gathered::new(alloc, pairs)?,
         sets: BTreeMap::new(alloc),
         room: Vec::new(alloc),
+        paired: OnPage::none(),
+        placed: OnPage::none(),
     })
 }
 

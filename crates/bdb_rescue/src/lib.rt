@@ -9,6 +9,7 @@ mod guess;
 mod kept;
 mod kept_pairs;
 mod kept_values;
+mod on_page;
 mod pairs;
 mod places;
 mod salvaged;

@@ -197,6 +197,16 @@ impl<'a> Salvaged<'a> {
         WholePages::over(self.image, self.guess)
     }
 
+    /// The bytes of a page; none where there's no such page.
+    pub(crate) fn page_bytes(&self, number: u32) -> &'a [u8] {
+        let size = self.guess.page_size as usize;
+        let from = number as usize * size;
+        if self.image.len() < from + size {
+            return &[];
+        }
+        &self.image[from..from + size]
+    }
+
     /// The places of the pairs.
     pub(crate) fn kept_pairs(&self) -> &[KeptPair]
         ensures { result.now ≡ kept_pairs (file_in self.now) }

@@ -13,7 +13,7 @@ mod survey;
 mod whole_pages;
 
 pub use bdb_law_sums::{Datum, KeyView, Meta, Pieces, bytes_in, compare_datum};
-pub use bdb_meta::{Content, DupBlocks, u32_at};
+pub use bdb_meta::{Content, DupBlocks, u16_at, u32_at};
 pub use chain::chain_of;
 pub use guess::Guess;
 pub use row_leaves::RowPages;

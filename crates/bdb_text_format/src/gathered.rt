@@ -5,7 +5,7 @@ ghost use Rattle.bdb_text_format.specs.Gathered.{Extends, HasChains, IsSpanOf, w
 ghost use Rattle.bdb_text_format.specs.Placed.{IsKeyPlaced, IsPiecePut, Keeps, pair_with, placed_key};
 ghost use Rattle.bdb_text_format.specs.declared.pairs.TextPair.{TextPair};
 
-use crate::pairs::{PlacedPairs, TextPairs, put};
+use crate::pairs::{PlacedPairs, TextPairs, found, put};
 use bdb_places::{Place, PlacedKey, Span};
 use std::alloc::{AllocError, Global};
 use std::collections::BTreeMap;
@@ -60,6 +60,13 @@ impl Gathered {
         ensures ok { IfOk result (IsPiecePut self.new.bytes piece.now) }
     {
         put(&mut self.bytes, piece)
+    }
+
+    /// Where bytes stand, if they do from one place of the run on.
+    pub fn find(&self, from: usize, piece: &[u8]) -> Option<Span>
+        ensures { IfSome result (IsPiecePut self.now.bytes piece.now) }
+    {
+        found(self.bytes.as_slice(), from, piece)
     }
 
     /// Where the value of the chain with this head stands, if it's there.

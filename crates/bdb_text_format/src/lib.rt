@@ -19,5 +19,5 @@ pub use gathered::Gathered;
 pub use keywords::Judged;
 pub use lent::{KeyRef, PairRef, PairSlice, are_one, key_at, number_of, pair_at};
 pub use list::{PairList, lent_key};
-pub use pairs::{Key, Pair, PlacedPairs, TextPair, TextPairs};
+pub use pairs::{Key, Near, Pair, PlacedPairs, TextPair, TextPairs};
 pub use sections::{Section, Sections};

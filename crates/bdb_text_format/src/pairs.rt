@@ -1,4 +1,4 @@
-ghost use Rattle.std.specs.Prelude.{◌≡◌, ◌==◌, ◌<◌, ◌∷◌, ◌++◌, [], OnOk, OnErr, IfOk, true, ◌-◌, get_or, length, slice_get, take};
+ghost use Rattle.std.specs.Prelude.{◌≡◌, ◌==◌, ◌<◌, ◌∷◌, ◌++◌, [], OnOk, OnErr, IfOk, IfSome, true, ◌-◌, get_or, length, slice_get, take};
 ghost use Rattle.std.specs.Option.{option_map};
 ghost use Rattle.std.specs.List.{All};
 ghost use Rattle.bdb_text_format.specs.Pairs.{last_key};
@@ -59,6 +59,13 @@ impl Model for TextPairs {
     ghost invariant = { λ pairs. ArePlaced pairs.bytes.items pairs.places.items };
 }
 
+/// Where a key and a datum may stand in the run of pairs, as far as that's told.
+#[derive(Clone, Copy, Debug, PartialEq, Eq)]
+pub struct Near {
+    pub key: Option<Span>,
+    pub value: Option<Span>,
+}
+
 // Adds bytes at the end of a run, where it stays below 2^32, and answers where they stand.
 #[tactic(auto, using(crate::proofs::PlacedLemmas::kept_all, crate::proofs::PlacedLemmas::kept_more, crate::proofs::PlacedLemmas::piece_put))]
 pub(crate) fn put(bytes: &mut Vec<u8>, piece: &[u8]) -> Result<Span, AllocError>
@@ -74,6 +81,93 @@ pub(crate) fn put(bytes: &mut Vec<u8>, piece: &[u8]) -> Result<Span, AllocError>
     let end = start.checked_add(len).ok_or(AllocError)?;
     bytes.extend_from_slice(piece)?;
     Ok(Span { start, end })
+}
+
+// Where bytes stand in a run, if they do from one place on.
+pub(crate) fn found(bytes: &[u8], from: usize, piece: &[u8]) -> Option<Span>
+    ensures { IfSome result (IsPiecePut bytes.now piece.now) }
+{
+    let to = from.checked_add(piece.len())?;
+    if to > bytes.len() || &bytes[from..to] != piece {
+        return None;
+    }
+    let start = u32::try_from(from).ok()?;
+    let end = u32::try_from(to).ok()?;
+    Some(Span { start, end })
+}
+
+// Where bytes stand in a run, if they do at a place that is told.
+fn standing(bytes: &[u8], piece: &[u8], near: Option<Span>) -> Option<Span>
+    ensures { IfSome result (IsPiecePut bytes.now piece.now) }
+{
+    found(bytes, near?.start as usize, piece)
+}
+
+// Adds bytes at the end of a run, but where they stand from a place on that is told.
+#[tactic(auto, using(crate::proofs::PlacedLemmas::kept_all))]
+fn put_near(bytes: &mut Vec<u8>, piece: &[u8], near: Option<Span>) -> Result<Span, AllocError>
+    ensures kept { Keeps bytes.old.items bytes.new.items }
+    ensures ok { IfOk result (IsPiecePut bytes.new.items piece.now) }
+{
+    match standing(bytes.as_slice(), piece, near) {
+        Some(span) => Ok(span),
+        None => put(bytes, piece),
+    }
+}
+
+// The same of a key.
+#[tactic(auto, using(crate::proofs::PlacedLemmas::kept_all))]
+fn put_key_near(
+    bytes: &mut Vec<u8>,
+    key: KeyRef<'_>,
+    near: Option<Span>,
+) -> Result<PlacedKey, AllocError>
+    ensures kept { Keeps bytes.old.items bytes.new.items }
+    ensures ok { IfOk result (IsKeyPut bytes.new.items key.entry) }
+{
+    match key {
+        KeyRef::Bytes(key) => Ok(PlacedKey::Bytes(put_near(bytes, key, near)?)),
+        KeyRef::Number(number) => Ok(PlacedKey::Number(number)),
+    }
+}
+
+// The same of a datum, as that of a key which is there.
+#[tactic(auto, using(crate::proofs::PlacedLemmas::pair_put))]
+fn put_value_near(
+    bytes: &mut Vec<u8>,
+    key: PlacedKey,
+    value: &[u8],
+    line: u64,
+    near: Option<Span>,
+) -> Result<Place, AllocError>
+    requires { IsKeyPlaced bytes.old.items key }
+    ensures kept { Keeps bytes.old.items bytes.new.items }
+    ensures ok { IfOk result (IsPairPut bytes.new.items (pair_with (placed_key bytes.old.items key) value.now line)) }
+{
+    let value = put_near(bytes, value, near)?;
+    Ok(Place { key, value, line })
+}
+
+// The same of a pair.
+#[tactic(auto, using(crate::proofs::PlacedLemmas::kept_on))]
+fn put_pair_near(bytes: &mut Vec<u8>, pair: PairRef<'_>, near: Near) -> Result<Place, AllocError>
+    ensures kept { Keeps bytes.old.items bytes.new.items }
+    ensures ok { IfOk result (IsPairPut bytes.new.items (pair_seen pair.entry)) }
+{
+    let key = put_key_near(bytes, pair.key, near.key)?;
+    put_value_near(bytes, key, pair.value, pair.line, near.value)
+}
+
+// Where the key and the datum of a pair stand.
+fn near_of(place: Place) -> Near {
+    let key = match place.key {
+        PlacedKey::Bytes(span) => Some(span),
+        PlacedKey::Number(_) => None,
+    };
+    Near {
+        key,
+        value: Some(place.value),
+    }
 }
 
 // Adds a key at the end of a run, where that has bytes.
@@ -186,6 +280,36 @@ impl TextPairs {
         let place = put_value(&mut self.bytes, key, value, line)?;
         self.places.push(place)?;
         Ok(())
+    }
+
+    /// Adds a pair at the end, and answers where its key and datum stand. They are copied, but where they stand at the places that are told, as
+    /// they may by an answer before. On a refusal the pairs are as before.
+    #[tactic(auto, using(crate::proofs::PlacedLemmas::pairs_placed))]
+    pub fn push_near(&mut self, pair: PairRef<'_>, near: Near) -> Result<Near, AllocError>
+        ensures ok { OnOk result (self.new ≡ self.old ++ pair_seen pair.entry ∷ []) }
+        ensures err { OnErr result (self.new ≡ self.old) }
+    {
+        let place = put_pair_near(&mut self.bytes, pair, near)?;
+        self.places.push(place)?;
+        Ok(near_of(place))
+    }
+
+    /// The same of a datum with the key of the last pair, which isn't copied.
+    #[tactic(auto, using(crate::proofs::PlacedLemmas::pairs_placed))]
+    pub fn push_value_near(
+        &mut self,
+        value: &[u8],
+        line: u64,
+        near: Option<Span>,
+    ) -> Result<Span, AllocError>
+        requires { 0 < length self.old }
+        ensures ok { OnOk result (self.new ≡ self.old ++ pair_with (last_key self.old) value.now line ∷ []) }
+        ensures err { OnErr result (self.new ≡ self.old) }
+    {
+        let key = last_place(self.places.as_slice()).key;
+        let place = put_value_near(&mut self.bytes, key, value, line, near)?;
+        self.places.push(place)?;
+        Ok(place.value)
     }
 
     // Adds a copy of a pair at the end, but not of its key where that is the last one.

@@ -85,7 +85,7 @@ pub(crate) fn answer_onto<K: Sink, E: Sink, L: Ledger>(
     ensures { Ends (IsOntoBy limit (verdict_of image) text image) (change K.written K.faults out.old out.new)
         (change E.written E.faults err.old err.new) result }
 {
-    match base_of(alloc, image, u64::from(limit), steps) {
+    match base_of(alloc, image, steps) {
         Ok(base) => answer_on_base(alloc, text, base, limit, out, err),
         Err(error) => refuse(alloc, error, err),
     }

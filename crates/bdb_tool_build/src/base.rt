@@ -20,10 +20,6 @@ use bdb_onto::Base;
 use std::alloc::{AllocError, Global};
 use std::sync::ledger::Ledger;
 
-/// How many times the bytes of the limit and the image together the copies of a base's keys and data may have. Items of a sound file may share a chain, and
-/// each has a copy of its own.
-const COPIES: u64 = 4;
-
 // The same name once more.
 fn copied_name(alloc: Global, name: Option<&[u8]>) -> Result<Option<Bytes>, AllocError>
     ensures { IfOk result (λ copy. copy ≡ option_copied name.entry) }
@@ -138,11 +134,11 @@ fn has_master(sound: &Sound<'_>) -> bool
     }
 }
 
-// The base that a sound file is, where its keys and data have so many bytes at most.
-fn sound_base(alloc: Global, sound: &Sound<'_>, most: u64) -> Result<Base, AllocError>
+// The base that a sound file is.
+fn sound_base(alloc: Global, sound: &Sound<'_>) -> Result<Base, AllocError>
     ensures { IfOk result (λ base. base ≡ base_of sound.now) }
 {
-    let mut rooms = Rooms::new(alloc, most);
+    let mut rooms = Rooms::new(alloc);
     let databases = base_sections(alloc, sound, &mut rooms)?;
     let head = sound.head();
     Ok(Base {
@@ -154,46 +150,37 @@ fn sound_base(alloc: Global, sound: &Sound<'_>, most: u64) -> Result<Base, Alloc
 }
 
 // The base that a sound file is, which is given up.
-fn base_within(alloc: Global, sound: Sound<'_>, most: u64) -> Result<Base, AllocError>
+fn taken_base(alloc: Global, sound: Sound<'_>) -> Result<Base, AllocError>
     ensures { IfOk result (λ base. base ≡ base_of sound.entry) }
 {
-    sound_base(alloc, &sound, most)
+    sound_base(alloc, &sound)
 }
 
 // The base that these bytes are.
-fn base_in<L: Ledger>(
-    alloc: Global,
-    image: &[u8],
-    max: u64,
-    steps: &mut Steps<L>,
-) -> Result<Base, FirstError>
+fn base_in<L: Ledger>(alloc: Global, image: &[u8], steps: &mut Steps<L>) -> Result<Base, FirstError>
     requires small { length image.now ≤ 2 ^ 30 }
-    requires max { max ≤ 2 ^ 30 }
     ensures base { IfOk result (λ base. IsBaseOf image.now base) }
     ensures sound { OnOk result (verdict_of image.now ≡ None) }
     ensures refused { IfErr result (IsFirstRefusal (faults_of image.now)) }
 {
     let sound = sound_by::<First, L>(alloc, image, steps)?;
-    match base_within(alloc, sound, COPIES * (max + image.len() as u64)) {
+    match taken_base(alloc, sound) {
         Ok(base) => Ok(base),
         Err(_) => Err(FirstError::Memory),
     }
 }
 
-/// The base that an image is, where it is sound, for a file of at most `max` bytes; else the first fault, or want of memory. A key is copied once for all its
-/// data, each datum once, and the image is given up. Where the copies have more than four times the bytes of `max` and the image together, that is want of
-/// memory.
+/// The base that an image is, where it is sound; else the first fault, or want of memory. A key is copied once for all its data, each datum once, and the image
+/// is given up.
 pub fn base_of<L: Ledger>(
     alloc: Global,
     image: Image,
-    max: u64,
     steps: &mut Steps<L>,
 ) -> Result<Base, FirstError>
     requires small { length image ≤ 2 ^ 30 }
-    requires max { max ≤ 2 ^ 30 }
     ensures base { IfOk result (λ base. IsBaseOf image base) }
     ensures sound { OnOk result (verdict_of image ≡ None) }
     ensures refused { IfErr result (IsFirstRefusal (faults_of image)) }
 {
-    base_in(alloc, image.bytes(), max, steps)
+    base_in(alloc, image.bytes(), steps)
 }

@@ -9,47 +9,33 @@ ghost use Rattle.bdb_tool_build.specs.Ontos.{list_key};
 ghost use Rattle.bdb_tool_build.specs.Copied.{EndsWith};
 
 use bdb_file::{Datum, KeyView, bytes_in, is_same};
-use bdb_model::{KeyRef, PairRef, TextPairs};
+use bdb_model::{KeyRef, Near, PairRef, Span, TextPairs};
 use std::alloc::{AllocError, Global};
+use std::collections::BTreeMap;
 
-/// Rooms in which the bytes of chains are joined, for all keys and data of a base, and how many bytes may still be copied.
+/// Rooms in which the bytes of chains are joined, for all keys and data of a base, and by its mark where a chain was put that was copied last: so each is copied
+/// once for a database, however many items name it.
 #[derive(Drop)]
 pub(crate) struct Rooms {
     key: Vec<u8>,
     value: Vec<u8>,
-    left: u64,
+    chains: BTreeMap<u32, Span>,
 }
 
-// Bytes that are to be copied, which are counted; an error where too many are.
-fn counted<'r>(bytes: &'r [u8], left: &mut u64) -> Result<&'r [u8], AllocError>
-    ensures { IfOk result (λ lent. lent.now ≡ bytes.now) }
-{
-    *left = left.checked_sub(bytes.len() as u64).ok_or(AllocError)?;
-    Ok(bytes)
-}
-
-// The bytes of a value, to be copied: those of its page, or of its chain, which then lie in a room.
-fn bytes_of<'r>(
-    value: Datum<'r>,
-    room: &'r mut Vec<u8>,
-    left: &mut u64,
-) -> Result<&'r [u8], AllocError>
-    ensures { IfOk result (λ bytes. bytes.now ≡ datum_seen value.entry) }
-{
-    let bytes = bytes_in(value, room)?;
-    counted(bytes, left)
+// The mark of a key's chain, if it's in one.
+fn mark_of(key: &KeyView<'_>) -> Option<u32> {
+    match key {
+        KeyView::Bytes(value) => value.mark(),
+        KeyView::Number(_) => None,
+    }
 }
 
 // The key of a list, to be copied.
-fn key_of<'r>(
-    key: KeyView<'r>,
-    room: &'r mut Vec<u8>,
-    left: &mut u64,
-) -> Result<KeyRef<'r>, AllocError>
+fn key_of<'r>(key: KeyView<'r>, room: &'r mut Vec<u8>) -> Result<KeyRef<'r>, AllocError>
     ensures { IfOk result (λ lent. key_seen lent ≡ list_key (key_view_seen key.entry)) }
 {
     match key {
-        KeyView::Bytes(value) => match bytes_of(value, room, left) {
+        KeyView::Bytes(value) => match bytes_in(value, room) {
             Ok(bytes) => Ok(KeyRef::Bytes(bytes)),
             Err(error) => Err(error),
         },
@@ -82,13 +68,29 @@ fn has_last_key(pairs: &TextPairs, key: &KeyView<'_>) -> bool
 }
 
 impl Rooms {
-    /// Rooms without bytes, where so many bytes may be copied.
-    pub(crate) fn new(alloc: Global, most: u64) -> Rooms {
+    /// Rooms without bytes.
+    pub(crate) fn new(alloc: Global) -> Rooms {
         Rooms {
             key: Vec::new(alloc),
             value: Vec::new(alloc),
-            left: most,
+            chains: BTreeMap::new(alloc),
         }
+    }
+
+    // Where a chain may stand, by its mark.
+    fn near(&self, mark: Option<u32>) -> Option<Span> {
+        match self.chains.get(&mark?) {
+            Some(span) => Some(*span),
+            None => None,
+        }
+    }
+
+    // Notes where a chain stands, by its mark.
+    fn note(&mut self, mark: Option<u32>, span: Option<Span>) -> Result<(), AllocError> {
+        if let (Some(mark), Some(span)) = (mark, span) {
+            self.chains.insert(mark, span)?;
+        }
+        Ok(())
     }
 
     /// Adds a pair of a list, as if it stood in a text without numbers of lines.
@@ -100,11 +102,20 @@ impl Rooms {
     ) -> Result<(), AllocError>
         ensures { OnOk result (pairs.new ≡ pairs.old ++ text_pair (key_view_seen key.entry, datum_seen value.entry) ∷ []) }
     {
-        pairs.push(PairRef {
-            key: key_of(key, &mut self.key, &mut self.left)?,
-            value: bytes_of(value, &mut self.value, &mut self.left)?,
+        let of_key = mark_of(&key);
+        let of_value = value.mark();
+        let near = Near {
+            key: self.near(of_key),
+            value: self.near(of_value),
+        };
+        let pair = PairRef {
+            key: key_of(key, &mut self.key)?,
+            value: bytes_in(value, &mut self.value)?,
             line: 0,
-        })
+        };
+        let put = pairs.push_near(pair, near)?;
+        self.note(of_key, put.key)?;
+        self.note(of_value, put.value)
     }
 
     /// Adds a datum with the key of the last pair, which isn't copied again.
@@ -116,7 +127,10 @@ impl Rooms {
         requires { 0 < length pairs.old }
         ensures { OnOk result (pairs.new ≡ pairs.old ++ pair_with (last_key pairs.old) (datum_seen value.entry) 0 ∷ []) }
     {
-        pairs.push_with_last_key(bytes_of(value, &mut self.value, &mut self.left)?, 0)
+        let mark = value.mark();
+        let near = self.near(mark);
+        let put = pairs.push_value_near(bytes_in(value, &mut self.value)?, 0, near)?;
+        self.note(mark, Some(put))
     }
 }
 

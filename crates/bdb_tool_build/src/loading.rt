@@ -3,6 +3,7 @@ ghost use Rattle.std.specs.Prelude.{◌≡◌, ◌≤◌, ◌^◌, IfErr, IfOk, 
 ghost use Rattle.bdb_model.specs.Answers.{done, told};
 ghost use Rattle.bdb_model.specs.of_text_format.Sections.{Reads};
 ghost use Rattle.bdb_onto.specs.of_mkfile.Loading.{AreLoadable, loading_error};
+ghost use Rattle.bdb_onto.specs.of_mkfile.NamedImages.{HasBuiltTables};
 ghost use Rattle.bdb_tool_build.specs.Lines.{image_too_large_line};
 ghost use Rattle.bdb_model.specs.of_text_format.Reasons.{text_fault};
 ghost use Rattle.bdb_onto.specs.Bases.{IsBase};
@@ -70,8 +71,9 @@ fn sections_of(alloc: Global, text: Image) -> Result<Sections, Refusal>
 fn load_sections(alloc: Global, sections: Sections, limit: u32) -> Result<Image, Refusal>
     requires limit { limit ≤ 2 ^ 30 }
     requires fit { AreLoadable sections }
-    ensures { MatchResult result (λ image. IsLoadAnswer limit (loading_error limit sections) sections (done image))
+    ensures answer { MatchResult result (λ image. IsLoadAnswer limit (loading_error limit sections) sections (done image))
         (IsRefusedAnswer (IsLoadAnswer limit (loading_error limit sections) sections)) }
+    ensures tables { IfOk result (λ image. HasBuiltTables image) }
 {
     match load(alloc, sections, u64::from(limit)) {
         Ok(image) => Ok(image),
@@ -89,8 +91,9 @@ fn load_sections_onto(
     requires limit { limit ≤ 2 ^ 30 }
     requires base { IsBase base }
     requires fit { AreLoadable sections }
-    ensures { MatchResult result (λ image. IsLoadOnto limit (loading_error_onto limit base sections) base sections (done image))
+    ensures answer { MatchResult result (λ image. IsLoadOnto limit (loading_error_onto limit base sections) base sections (done image))
         (IsRefusedAnswer (IsLoadOnto limit (loading_error_onto limit base sections) base sections)) }
+    ensures tables { IfOk result (λ image. HasBuiltTables image) }
 {
     match load_onto(alloc, base, sections, u64::from(limit)) {
         Ok(image) => Ok(image),
@@ -102,7 +105,8 @@ fn load_sections_onto(
 pub fn load_text(alloc: Global, text: Image, limit: u32) -> Result<Image, Refusal>
     requires text { length text ≤ 2 ^ 30 }
     requires limit { limit ≤ 2 ^ 30 }
-    ensures { MatchResult result (λ image. IsTextAnswer limit text (done image)) (IsRefusedAnswer (IsTextAnswer limit text)) }
+    ensures answer { MatchResult result (λ image. IsTextAnswer limit text (done image)) (IsRefusedAnswer (IsTextAnswer limit text)) }
+    ensures tables { IfOk result (λ image. HasBuiltTables image) }
 {
     let sections = sections_of(alloc, text)?;
     load_sections(alloc, sections, limit)
@@ -113,7 +117,8 @@ pub fn load_text_onto(alloc: Global, text: Image, base: Base, limit: u32) -> Res
     requires text { length text ≤ 2 ^ 30 }
     requires limit { limit ≤ 2 ^ 30 }
     requires base { IsBase base }
-    ensures { MatchResult result (λ image. IsTextOnto limit base text (done image)) (IsRefusedAnswer (IsTextOnto limit base text)) }
+    ensures answer { MatchResult result (λ image. IsTextOnto limit base text (done image)) (IsRefusedAnswer (IsTextOnto limit base text)) }
+    ensures tables { IfOk result (λ image. HasBuiltTables image) }
 {
     let sections = sections_of(alloc, text)?;
     load_sections_onto(alloc, base, sections, limit)

@@ -5,7 +5,7 @@ use Rattle.bdb_tool_build.proofs.loading.load_text_onto.Goals as goal
 pub load_sections_onto-requires-clause-fit : goal.load_sections_onto-requires-clause-fit
 load_sections_onto-requires-clause-fit c = read_sections_are_loadable c.args.text c.in_ok-sections.sections c.in_ok-sections.ensures.read
 
-pub returns : goal.returns
-returns c =
+pub returns-clause-answer : goal.returns-clause-answer
+returns-clause-answer c =
     text_loaded_onto c.args.limit c.args.base c.args.text c.in_ok-sections.sections c.load_sections_onto.result c.in_ok-sections.ensures.read
-    c.load_sections_onto.ensures
+    c.load_sections_onto.ensures.answer

@@ -1,8 +1,0 @@
-use Rattle.std.proofs.Common.{◌≡◌, ◌+◌}
-use Rattle.std.specs.List.{sum_by}
-use Rattle.bdb_repair.specs.Room.{pair_room}
-use Rattle.bdb_repair.proofs.room.after_pairs.Given as goal
-
--- What is left of the file lacks what the pairs before took.
-abbrev pub invariant-loop-pair : goal.invariant-loop-pair
-invariant-loop-pair l = l.left + sum_by pair_room l.fn.found ≡ l.fn.room + sum_by pair_room l.pair-iterator
