@@ -1,0 +1,5 @@
+pub mod Found
+pub mod Given
+pub use Rattle.bdb_rescue.specs.of_format as of_format
+pub use Rattle.bdb_rescue.specs as of_rescue
+pub use Rattle.bdb_rescue.specs.of_survey as of_survey
