@@ -15,9 +15,18 @@ use std::alloc::{AllocError, Global};
 
 /// Rooms in which the bytes of chains are joined, for all keys and data of a section.
 #[derive(Drop)]
-struct Rooms {
-    key: Vec<u8>,
-    value: Vec<u8>,
+pub(crate) struct Rooms {
+    pub(crate) key: Vec<u8>,
+    pub(crate) value: Vec<u8>,
+}
+
+impl Rooms {
+    pub(crate) fn empty(alloc: Global) -> Rooms {
+        Rooms {
+            key: Vec::new(alloc),
+            value: Vec::new(alloc),
+        }
+    }
 }
 
 // A name of its own.
@@ -30,7 +39,7 @@ fn named(alloc: Global, name: &[u8]) -> Result<Option<Bytes>, AllocError>
 }
 
 // Adds a stored pair.
-fn push_pair(
+pub(crate) fn push_pair(
     key: Datum<'_>,
     value: Datum<'_>,
     rooms: &mut Rooms,

@@ -16,7 +16,7 @@ use std::sync::ledger::Ledger;
 
 /// How many times the bytes of the limit and the image together the copies of what is salvaged may want, where a key counts for each of its data: it is copied
 /// once, but compared for each. Many items of a hostile file may name one chain or one set, and the file that is built may hold it once.
-const COPIES: u64 = 4;
+pub(crate) const COPIES: u64 = 4;
 
 // Why what is salvaged isn't loaded.
 fn repair_refusal(error: LoadError) -> RepairError
@@ -36,7 +36,7 @@ fn repair_refusal(error: LoadError) -> RepairError
 }
 
 // What was loaded, or why nothing was.
-fn answer_of(loaded: Result<Image, LoadError>) -> Result<Image, RepairError>
+pub(crate) fn answer_of(loaded: Result<Image, LoadError>) -> Result<Image, RepairError>
     requires { IfErr loaded (λ error. IsTrue (may_come error)) }
     ensures { result ≡ repair_answer loaded }
 {

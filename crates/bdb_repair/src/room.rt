@@ -84,7 +84,7 @@ fn after_all(room: u64, salvaged: &Salvaged<'_>, shape: Option<Shape>) -> Option
 }
 
 // What is left of memory after a copy of so many bytes, which takes more than a datum does in a file.
-fn after_copy(memory: u64, bytes: u64) -> Option<u64>
+pub(crate) fn after_copy(memory: u64, bytes: u64) -> Option<u64>
     ensures { IfSome result (λ left. left + (4 + bytes) ≤ memory) }
 {
     memory.checked_sub(COPY)?.checked_sub(bytes)
