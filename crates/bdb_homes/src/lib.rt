@@ -15,6 +15,9 @@ mod runs;
 mod table;
 mod up;
 
+pub use bdb_graph::{
+    BtreeMeta, HashMeta, Kind, Order, PageView, QueueMeta, Settings, Steps, plain_settings, u32_at,
+};
 pub use bdb_survey::{Guess, Meta, WholePages};
 pub use home::Home;
 pub use homes::PageHomes;

@@ -1,6 +1,7 @@
 //! From a damaged image to a sound file with what is salvaged of it.
 #![tactic(auto)]
 
+mod apart;
 mod error;
 pub mod laws;
 mod parts;
@@ -8,6 +9,8 @@ mod repairing;
 mod room;
 mod shape;
 
+pub use apart::repair_apart;
+pub use bdb_apart::{Apart, apart_of};
 pub use bdb_io::{
     BaseSource, Failed, Image, MemSink, MemSource, PureSink, PureSource, ReadError, Sink, Source,
     StdSink, StdSource, put_all, read_image,
@@ -17,6 +20,6 @@ pub use bdb_mkfile::{Linked, LoadError, Meta, hash5, load, settle};
 pub use bdb_model::{
     BtreeMeta, Bytes, Duplicates, KeyRef, Kind, Order, PairSlice, Shape, Steps, TextPairs, Words,
 };
-pub use bdb_rescue::{SalvageError, salvage};
+pub use bdb_rescue::{SalvageError, Salvaged, salvage};
 pub use error::RepairError;
 pub use repairing::{repair, repair_as};

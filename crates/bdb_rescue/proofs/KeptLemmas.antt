@@ -11,7 +11,7 @@ use Rattle.bdb_rescue.specs.declared.kept.DataPlace.{DataPlace}
 use Rattle.bdb_rescue.specs.declared.kept.DataPlace.TheVariants.{Here, Set as OnLeaves}
 use Rattle.bdb_rescue.specs.declared.kept.KeptPair.{KeptPair}
 use Rattle.bdb_rescue.specs.declared.kept.KeptValue.{KeptValue}
-use Rattle.bdb_rescue.specs.Kept.{IsKeptPair, IsKeptValue, data_places, is_held, item_of, kept_in, kept_on, kept_pair, kept_pairs, kept_value, loose_values}
+use Rattle.bdb_rescue.specs.Kept.{IsKeptPair, IsKeptValue, IsTable, data_places, is_held, item_of, kept_in, kept_on, kept_pair, kept_pairs, kept_value, loose_values}
 use Rattle.bdb_rescue.specs.Kept.{untaken_on, values_in, values_on}
 use Rattle.bdb_survey.specs.Items.{is_valued, slot_at, slots_in}
 use Rattle.bdb_survey.specs.Salvage.{is_taken, is_whole, paired_items, set_starts}
@@ -115,6 +115,20 @@ all_pairs file =
       starts = λ leaf is. starts_here file kept leaf inside is;
     })
 
+pub pairs_on : (file : File) (p : ℕ) (places : List KeptPair) → places ≡ kept_on file p → p < file.count → All (IsKeptPair file) places
+unfolding kept_pairs
+pairs_on file p places are there =
+    subst (All (IsKeptPair file)) (sym are)
+    (all_of (IsKeptPair file) (kept_on file p)
+    (λ kept inside.
+    All-contains (IsKeptPair file) (kept_pairs file) kept (all_pairs file)
+    (in_flat_map (kept_on file) (range_with_len 0 file.count) p kept (in_range 0 file.count p (omega arith) (omega (arith, there))) inside)))
+
+-- all pairs, by pages
+pub pairs_table : (file : File) (bounds : List ℕ) (pairs : List KeptPair) → IsTable (kept_on file) file.count bounds pairs → pairs ≡ kept_pairs file
+unfolding kept_pairs
+pairs_table file bounds pairs table = table.all_are
+
 -- Values.
 
 value_known : (file : File) (p i : ℕ) (items : List Item) → AreAll file p items → i < length items → All (IsKeptValue file) (kept_value file p items i)
@@ -164,3 +178,11 @@ unfolding loose_values
 all_loose file places are =
     subst (All (IsKeptValue file)) (sym are)
     (all_pieces (IsKeptValue file) (untaken_on file) (range_with_len 0 file.count) (λ p inside. untaken file p (is_taken file p)))
+
+pub untaken_known : (file : File) (p : ℕ) (places : List KeptValue) → places ≡ untaken_on file p → All (IsKeptValue file) places
+untaken_known file p places are = subst (All (IsKeptValue file)) (sym are) (untaken file p (is_taken file p))
+
+-- all loose ones, by pages
+pub loose_table : (file : File) (bounds : List ℕ) (values : List KeptValue) → IsTable (untaken_on file) file.count bounds values → values ≡ loose_values file
+unfolding loose_values
+loose_table file bounds values table = table.all_are

@@ -125,9 +125,13 @@ page_gives file p (Overflow header piece) is = refl
 page_gives file p (Queue number records) is = refl
 page_gives file p NoType is = refl
 
+-- the pairs that are kept of a page give those that it stores
+pub stored_on_is : (file : File) (p : ℕ) → flat_map (given_live file) (kept_on file p) ≡ stored_on file p
+stored_on_is file p = page_gives file p (page_at file p) refl
+
 pub stored_is : (file : File) → flat_map (given_live file) (kept_pairs file) ≡ stored file
 unfolding kept_pairs stored
 stored_is file =
     let pages : List ℕ = range_with_len 0 file.count in
     flat_map_twice (given_live file) (kept_on file) pages
-    ∙ flat_map_alike (λ p. flat_map (given_live file) (kept_on file p)) (stored_on file) pages (λ p. page_gives file p (page_at file p) refl)
+    ∙ flat_map_alike (λ p. flat_map (given_live file) (kept_on file p)) (stored_on file) pages (stored_on_is file)

@@ -12,6 +12,10 @@ data_left (One datum) = datum_seen datum ∷ []
 data_left (Blocks blocks) = blocks.blocks
 data_left (Set values) = values
 
+-- a record without where its bytes lie
+abbrev pub record_read : (ℕ × Datum) → (ℕ × List ℕ)
+record_read record_at = (record_at.0, datum_seen record_at.1)
+
 -- a pair without where its bytes lie
 abbrev pub pair_read : (Datum × Datum) → (List ℕ × List ℕ)
 pair_read pair = (datum_seen pair.0, datum_seen pair.1)

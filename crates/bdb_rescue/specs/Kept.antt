@@ -118,6 +118,10 @@ thin_from file p = bytes_in (thin_pieces file p)
 abbrev pub value_at : File → KeptValue → List ℕ
 value_at file kept = value_of file (item_of file kept.page kept.index).content
 
+-- the value at a place of a page, with its number where so many records come before the page
+abbrev pub numbered_at : File → ℕ → KeptValue → (ℕ × List ℕ)
+numbered_at file start kept = (start + kept.index + 1, value_at file kept)
+
 -- the data in a data item
 abbrev pub data_here : File → Content → List (List ℕ)
 data_here file (Inline bytes) = bytes ∷ []
@@ -188,11 +192,11 @@ pub record IsKeptPair (file : File) (kept : KeptPair) : Type 0 where
   pub starts : (leaf : ℕ) → kept.place ≡ OnLeaves leaf → Contains (set_starts file) leaf
 
 -- what is kept of an image
-pub record IsSalvaged (guess : Guess) (image : List ℕ) (pairs : List KeptPair) (values : List KeptValue) (bounds : List ℕ) (sets : List KeptValue)
-    (thin_bounds thin : List ℕ) : Type 0 where
+pub record IsSalvaged (guess : Guess) (image : List ℕ) (pair_bounds : List ℕ) (pairs : List KeptPair) (value_bounds : List ℕ)
+    (values : List KeptValue) (bounds : List ℕ) (sets : List KeptValue) (thin_bounds thin : List ℕ) : Type 0 where
   pub legal : is_page_size guess.page_size ≡ true
   pub small : length image ≤ 2 ^ 30
-  pub pairs_are : pairs ≡ kept_pairs (salvaged_file guess.order guess.page_size image)
-  pub values_are : values ≡ loose_values (salvaged_file guess.order guess.page_size image)
+  pub pairs_are : IsTable (kept_on (salvaged_file guess.order guess.page_size image)) (salvaged_file guess.order guess.page_size image).count pair_bounds pairs
+  pub values_are : IsTable (untaken_on (salvaged_file guess.order guess.page_size image)) (salvaged_file guess.order guess.page_size image).count value_bounds values
   pub sets_are : IsTable (set_from (salvaged_file guess.order guess.page_size image)) (salvaged_file guess.order guess.page_size image).count bounds sets
   pub thin_are : IsTable (thin_from (salvaged_file guess.order guess.page_size image)) (salvaged_file guess.order guess.page_size image).count thin_bounds thin

@@ -1,10 +1,11 @@
 ghost use Rattle.std.specs.Prelude.{◌≡◌, ◌++◌, ◌+◌, ◌*◌, ◌^◌, ◌<◌, IfOk, OnOk, length};
 ghost use Rattle.bdb_survey.specs.of_layout.Seen.{content_seen};
 ghost use Rattle.std.specs.Option.{option_to_list};
-ghost use Rattle.bdb_rescue.specs.Kept.{data_places, kept_in, kept_on, kept_pair, kept_pairs};
+ghost use Rattle.bdb_rescue.specs.Kept.{IsTable, data_places, kept_in, kept_on, kept_pair, kept_pairs};
 ghost use Rattle.bdb_survey.specs.Slots.{slots_seen};
 
 use crate::kept::{DataPlace, KeptPair};
+use crate::tables::Table;
 use bdb_survey::{Content, Slots, Survey, paired_slots};
 use std::alloc::{AllocError, Global};
 
@@ -83,12 +84,16 @@ fn keep_page(kept: &mut Vec<KeptPair>, survey: &Survey<'_>, page: u32) -> Result
 }
 
 /// The pairs of all pages whose key and data are whole, live or deleted, in the order of page and slot.
-pub(crate) fn kept_pairs(alloc: Global, survey: &Survey<'_>) -> Result<Vec<KeptPair>, AllocError>
-    ensures { IfOk result (λ kept. kept.items ≡ kept_pairs survey.now) }
+pub(crate) fn kept_pairs(alloc: Global, survey: &Survey<'_>) -> Result<Table<KeptPair>, AllocError>
+    ensures pages { IfOk result (λ kept. IsTable (kept_on survey.now) survey.now.count kept.bounds.items kept.all.items) }
+    ensures all { IfOk result (λ kept. kept.all.items ≡ kept_pairs survey.now) }
 {
-    let mut kept = Vec::new(alloc);
+    let mut bounds = Vec::new(alloc);
+    let mut all: Vec<KeptPair> = Vec::new(alloc);
+    bounds.push(0)?;
     for page in 0..survey.pages().count() {
-        keep_page(&mut kept, survey, page)?;
+        keep_page(&mut all, survey, page)?;
+        bounds.push(all.len())?;
     }
-    Ok(kept)
+    Ok(Table { bounds, all })
 }

@@ -2,13 +2,14 @@ ghost use Rattle.std.specs.Prelude.{◌≡◌, ◌++◌, ◌<◌, IfOk, OnOk, if
 ghost use Rattle.bdb_text_format.specs.of_format.Chains.{chain};
 ghost use Rattle.std.specs.List.{flat_map};
 ghost use Rattle.std.specs.Option.{option_to_list};
-ghost use Rattle.bdb_rescue.specs.Kept.{kept_value, loose_values, values_in, values_on};
+ghost use Rattle.bdb_rescue.specs.Kept.{IsTable, kept_value, loose_values, untaken_on, values_in, values_on};
 ghost use Rattle.bdb_rescue.specs.Marks.{Marks};
 ghost use Rattle.bdb_survey.specs.Salvage.{set_starts};
 ghost use Rattle.bdb_survey.specs.Slots.{slots_seen};
 
 use crate::kept::KeptValue;
 use crate::starts::is_marked;
+use crate::tables::Table;
 use bdb_survey::{Slots, Survey, entry_slots};
 use std::alloc::{AllocError, Global};
 
@@ -89,13 +90,17 @@ pub(crate) fn loose_values(
     alloc: Global,
     survey: &Survey<'_>,
     taken: &[bool],
-) -> Result<Vec<KeptValue>, AllocError>
+) -> Result<Table<KeptValue>, AllocError>
     requires { Marks survey.now.count taken.now (flat_map (chain survey.now) (set_starts survey.now)) }
-    ensures { IfOk result (λ kept. kept.items ≡ loose_values survey.now) }
+    ensures pages { IfOk result (λ kept. IsTable (untaken_on survey.now) survey.now.count kept.bounds.items kept.all.items) }
+    ensures all { IfOk result (λ kept. kept.all.items ≡ loose_values survey.now) }
 {
-    let mut kept = Vec::new(alloc);
+    let mut bounds = Vec::new(alloc);
+    let mut all: Vec<KeptValue> = Vec::new(alloc);
+    bounds.push(0)?;
     for page in 0..survey.pages().count() {
-        keep_loose(&mut kept, survey, page, is_marked(taken, page))?;
+        keep_loose(&mut all, survey, page, is_marked(taken, page))?;
+        bounds.push(all.len())?;
     }
-    Ok(kept)
+    Ok(Table { bounds, all })
 }

@@ -1,6 +1,6 @@
 ghost use Rattle.std.specs.Prelude.{◌≡◌, if◌then◌else◌, []};
 ghost use Rattle.std.specs.Iterator.{YieldsFirstBy, item_count};
-ghost use Rattle.std.specs.List.{flat_map};
+ghost use Rattle.std.specs.List.{All, flat_map};
 ghost use Rattle.bdb_rescue.specs.Entries.{pair_read};
 ghost use Rattle.bdb_rescue.specs.Kept.{IsKeptPair, file_in, given_live, kept_pairs, left_of};
 
@@ -41,16 +41,24 @@ impl<'s, 'a> Model for SalvagePairs<'s, 'a> {
 }
 
 impl<'s, 'a> SalvagePairs<'s, 'a> {
+    /// The pairs at some places.
+    pub(crate) fn among(salvaged: &'s Salvaged<'a>, pairs: &'s [KeptPair]) -> SalvagePairs<'s, 'a>
+        requires { All (IsKeptPair (file_in salvaged.now)) pairs.now }
+        ensures { result ≡ flat_map (given_live (file_in salvaged.now)) pairs.now }
+    {
+        SalvagePairs {
+            salvaged,
+            here: None,
+            pairs: Places::over(pairs),
+        }
+    }
+
     /// All pairs.
     #[tactic(auto, using(crate::proofs::KeptLemmas::all_pairs))]
     pub(crate) fn over(salvaged: &'s Salvaged<'a>) -> SalvagePairs<'s, 'a>
         ensures { result ≡ flat_map (given_live (file_in salvaged.now)) (kept_pairs (file_in salvaged.now)) }
     {
-        SalvagePairs {
-            salvaged,
-            here: None,
-            pairs: Places::over(salvaged.kept_pairs()),
-        }
+        SalvagePairs::among(salvaged, salvaged.kept_pairs())
     }
 }
 

@@ -1,17 +1,17 @@
-ghost use Rattle.std.specs.Prelude.{◌≡◌, ◌≢◌, ◌^◌, ◌≤◌, ◌<◌, IfOk, IfSome, IsTrue, Err, None, Some, length};
+ghost use Rattle.std.specs.Prelude.{◌≡◌, ◌≢◌, ◌^◌, ◌≤◌, ◌<◌, IfOk, IfSome, IsTrue, Err, None, Some, length, map};
 ghost use Rattle.std.specs.List.{Contains, flat_map};
 ghost use Rattle.bdb_text_format.specs.of_format.Chains.{chain, value_of};
 ghost use Rattle.bdb_text_format.specs.of_format.File.{page_at};
 ghost use Rattle.bdb_text_format.specs.of_format.Page.{Chain};
 ghost use Rattle.bdb_text_format.specs.of_format.HeadOf.{is_page_size};
 ghost use Rattle.bdb_rescue.specs.Guesses.{chosen};
-ghost use Rattle.bdb_rescue.specs.Kept.{IsKeptValue, IsTable, file_in, item_of, kept_pairs, loose_values, pairs_under, set_from, thin_from, value_at};
-ghost use Rattle.bdb_rescue.specs.Kept.{values_on};
+ghost use Rattle.bdb_rescue.specs.Kept.{IsKeptValue, IsTable, file_in, item_of, kept_on, kept_pairs, numbered_at, pairs_under, set_from, thin_from, value_at};
+ghost use Rattle.bdb_rescue.specs.Kept.{untaken_on, values_on};
 ghost use Rattle.bdb_rescue.specs.Marks.{Marks};
 ghost use Rattle.bdb_survey.specs.of_layout.Seen.{content_seen};
 ghost use Rattle.bdb_survey.specs.Items.{is_valued, slots_in};
 ghost use Rattle.bdb_survey.specs.of_overflow.Datum.{datum_seen};
-ghost use Rattle.bdb_survey.specs.Salvage.{is_overflow, is_row, is_whole, live_whole, loose, salvaged_file, set_starts, stored};
+ghost use Rattle.bdb_survey.specs.Salvage.{is_overflow, is_row, is_whole, live_whole, loose, salvaged_file, set_starts, stored, stored_on};
 ghost use Rattle.bdb_rescue.specs.declared.error.SalvageError.TheVariants.{Memory, NoMeta};
 
 use crate::guess::chosen;
@@ -20,9 +20,9 @@ use crate::kept_pairs::kept_pairs;
 use crate::kept_values::loose_values;
 use crate::sets::{SetTable, set_table};
 use crate::starts::{first_leaves, taken_pages};
-use crate::tables::part;
+use crate::tables::{Table, part};
 use crate::thin::{ThinTable, thin_table};
-use crate::{Guess, SalvageEntries, SalvageError, SalvagePairs, SalvageValues};
+use crate::{Guess, SalvageEntries, SalvageError, SalvagePairs, SalvageRecords, SalvageValues};
 use bdb_survey::{Content, Datum, Survey, WholePages};
 use bdb_text_format::Steps;
 use std::alloc::{AllocError, Global};
@@ -30,13 +30,13 @@ use std::marker::Model;
 use std::sync::ledger::Ledger;
 
 /// What can be had from an image: places of the pairs, of the loose records and of the data of sets that are
-/// whole, at most one for each slot, of at most 16 bytes, and 17 bytes for each page. Values are read where they
+/// whole, at most one for each slot, of at most 16 bytes, and 33 bytes for each page. Values are read where they
 /// lie, but for those of whole chains that have fewer bytes than pages, which are kept.
 pub struct Salvaged<'a> {
     image: &'a [u8],
     guess: Guess,
-    pairs: Vec<KeptPair>,
-    values: Vec<KeptValue>,
+    pairs: Table<KeptPair>,
+    values: Table<KeptValue>,
     sets: SetTable,
     thin: ThinTable,
 }
@@ -61,8 +61,8 @@ impl<'a> Model for Salvaged<'a> {
 
     ghost view = { λ v. record { guess = v.guess; image = v.image.now } };
 
-    ghost invariant = { λ v. IsSalvaged v.guess v.image.now v.pairs.items v.values.items v.sets.bounds.items v.sets.values.items v.thin.bounds.items
-        v.thin.bytes.items };
+    ghost invariant = { λ v. IsSalvaged v.guess v.image.now v.pairs.bounds.items v.pairs.all.items v.values.bounds.items v.values.all.items
+        v.sets.bounds.items v.sets.values.items v.thin.bounds.items v.thin.bytes.items };
 }
 
 /// Finds what an image still has, by the given guess or the one that page 0 tells. Where there is neither, no memory is asked for.
@@ -94,9 +94,9 @@ fn loose_beside(
     alloc: Global,
     survey: &Survey<'_>,
     starts: &[bool],
-) -> Result<Vec<KeptValue>, AllocError>
+) -> Result<Table<KeptValue>, AllocError>
     requires { Marks survey.now.count starts.now (set_starts survey.now) }
-    ensures { IfOk result (λ kept. kept.items ≡ loose_values survey.now) }
+    ensures { IfOk result (λ kept. IsTable (untaken_on survey.now) survey.now.count kept.bounds.items kept.all.items) }
 {
     let taken = taken_pages(alloc, survey.pages(), starts)?;
     loose_values(alloc, survey, &taken)
@@ -107,9 +107,9 @@ fn values_beside(
     alloc: Global,
     survey: &Survey<'_>,
     pairs: &[KeptPair],
-) -> Result<(Vec<KeptValue>, SetTable), AllocError>
+) -> Result<(Table<KeptValue>, SetTable), AllocError>
     requires { pairs.now ≡ kept_pairs survey.now }
-    ensures loose { IfOk result (λ kept. kept.0.items ≡ loose_values survey.now) }
+    ensures loose { IfOk result (λ kept. IsTable (untaken_on survey.now) survey.now.count kept.0.bounds.items kept.0.all.items) }
     ensures sets { IfOk result (λ kept. IsTable (set_from survey.now) survey.now.count kept.1.bounds.items kept.1.values.items) }
 {
     let starts = first_leaves(alloc, survey.pages(), pairs)?;
@@ -131,7 +131,7 @@ fn salvaged_in<'a>(
     ensures { IfOk result (λ salvaged. salvaged ≡ record { guess = guess; image = image.now }) }
 {
     let pairs = kept_pairs(alloc, survey)?;
-    let (values, sets) = values_beside(alloc, survey, &pairs)?;
+    let (values, sets) = values_beside(alloc, survey, &pairs.all)?;
     let thin = thin_table(alloc, survey)?;
     Ok(Salvaged {
         image,
@@ -187,11 +187,29 @@ impl<'a> Salvaged<'a> {
     pub fn loose<'s>(&'s self) -> SalvageValues<'s, 'a>
         ensures { result ≡ loose (file_in self.now) }
     {
-        SalvageValues::over(self, &self.values)
+        SalvageValues::over(self, &self.values.all)
+    }
+
+    /// The stored pairs of a page, in the order of slot and place in a set.
+    #[tactic(auto, using(crate::proofs::StoredLemmas::stored_on_is, crate::proofs::KeptLemmas::pairs_on))]
+    pub fn pairs_on<'s>(&'s self, page: u32) -> SalvagePairs<'s, 'a>
+        requires { page < (file_in self.now).count }
+        ensures { result ≡ stored_on (file_in self.now) page }
+    {
+        SalvagePairs::among(self, self.pairs_at(page))
+    }
+
+    /// The loose records of a page, in the order of slot, each with its number where so many come before the page.
+    #[tactic(auto, using(crate::proofs::KeptLemmas::untaken_known))]
+    pub fn records_on<'s>(&'s self, page: u32, start: u32) -> SalvageRecords<'s, 'a>
+        requires { page < (file_in self.now).count }
+        ensures { result ≡ map (numbered_at (file_in self.now) start) (untaken_on (file_in self.now) page) }
+    {
+        SalvageRecords::over(self, start, self.records_at(page))
     }
 
     /// The pages of the image.
-    pub(crate) fn pages(&self) -> WholePages<'a>
+    pub fn pages(&self) -> WholePages<'a>
         ensures { result ≡ file_in self.now }
     {
         WholePages::over(self.image, self.guess)
@@ -211,7 +229,23 @@ impl<'a> Salvaged<'a> {
     pub(crate) fn kept_pairs(&self) -> &[KeptPair]
         ensures { result.now ≡ kept_pairs (file_in self.now) }
     {
-        &self.pairs
+        &self.pairs.all
+    }
+
+    /// The places of the pairs of a page.
+    fn pairs_at(&self, page: u32) -> &[KeptPair]
+        requires { page < (file_in self.now).count }
+        ensures { result.now ≡ kept_on (file_in self.now) page }
+    {
+        part(&self.pairs.bounds, &self.pairs.all, page)
+    }
+
+    /// The places of the loose records of a page.
+    fn records_at(&self, page: u32) -> &[KeptValue]
+        requires { page < (file_in self.now).count }
+        ensures { result.now ≡ untaken_on (file_in self.now) page }
+    {
+        part(&self.values.bounds, &self.values.all, page)
     }
 
     /// The places of the loose records.

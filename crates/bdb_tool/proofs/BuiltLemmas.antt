@@ -23,9 +23,9 @@ use Rattle.bdb_repair.specs.of_mkfile.Loading.{loading_error}
 use Rattle.bdb_tool_build.specs.declared.refusal.Refusal.{Refusal}
 use Rattle.bdb_tool_build.specs.declared.refusal.Refusal.TheVariants.{Faulty as FaultyText, TooLarge as TooLargeImage, Memory as MemoryRefusal}
 use Rattle.bdb_tool_build.specs.Loads.{IsLoadAnswerBy, IsErrorAnswer, IsLoadAnswer, IsTextAnswer}
-use Rattle.bdb_onto.specs.declared.base.Base.{Base}
-use Rattle.bdb_onto.specs.Bases.{base_of}
-use Rattle.bdb_onto.specs.Onto.{loading_error_onto}
+use Rattle.bdb_tool_build.specs.of_onto.declared.base.Base.{Base}
+use Rattle.bdb_tool_build.specs.of_onto.Bases.{base_of}
+use Rattle.bdb_tool_build.specs.of_onto.Onto.{loading_error_onto}
 use Rattle.bdb_tool_build.specs.Ontos.{IsLoadOnto, IsTextOntoBy}
 use Rattle.bdb_tool.specs.Ontos.{IsOntoBy}
 use Rattle.bdb_tool_build.specs.Refusals.{IsRefusedAnswer}

@@ -9,7 +9,7 @@ use Rattle.bdb_repair.specs.of_format.Faults.{Took}
 use Rattle.bdb_repair.specs.of_format.Verdict.{verdict_of}
 use Rattle.bdb_tool.specs.Ontos.{IsOntoBy, base_too_large_line}
 use Rattle.bdb_tool_ask.specs.FileAnswers.{asked_answer}
-use Rattle.bdb_tool.specs.Outputs.{IsRepairAnswer, salvage_answer}
+use Rattle.bdb_tool.specs.Outputs.{IsRepairAnswer, parts_answer}
 use Rattle.bdb_tool.specs.Tasks.{IsInputWithin}
 use Rattle.bdb_tool_words.specs.WordsSeen.{reading_seen, request_seen}
 use Rattle.bdb_tool.specs.declared.task.Task.{Task}
@@ -63,6 +63,6 @@ IsTaskAnswered (ReadTask rows reading image) out err status =
 IsTaskAnswered (AskTask request image) out err status =
     (asked : Request) → request_seen request ≡ Some asked → Finishes (asked_answer All asked image) out err status
 IsTaskAnswered (LoadTask text limit) out err status = Ends (IsTextAnswer limit text) out err status
-IsTaskAnswered (SalvageTask asked image) out err status = Finishes (salvage_answer asked.guess asked.print image) out err status
-IsTaskAnswered (RepairTask asked image limit) out err status = Ends (IsRepairAnswer limit asked.shape asked.guess image) out err status
+IsTaskAnswered (SalvageTask asked image) out err status = Finishes (parts_answer asked.parts asked.guess asked.print image) out err status
+IsTaskAnswered (RepairTask asked image limit) out err status = Ends (IsRepairAnswer limit asked.built asked.guess image) out err status
 IsTaskAnswered (TrialTask trial limit) out err status = Ends (IsTrialAnswer limit trial.kind trial.seed trial.count) out err status

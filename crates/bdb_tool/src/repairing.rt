@@ -8,11 +8,11 @@ ghost use Rattle.bdb_tool.specs.Parts.{Ends};
 ghost use Rattle.bdb_tool_words.specs.WordsSeen.{IsFitRepair};
 ghost use Rattle.bdb_tool_build.specs.Lines.{image_too_large_line};
 
-use bdb_repair::{RepairError, Sink, Steps, repair_as};
+use bdb_repair::{Image, RepairError, Sink, Steps, repair_apart, repair_as};
 use bdb_tool_ask::status::{NO_META, TOO_LARGE};
 use bdb_tool_ask::{put, report, tell, tell_memory};
 use bdb_tool_build::image_too_large_line;
-use bdb_tool_words::Repair;
+use bdb_tool_words::{Built, Repair};
 use std::alloc::Global;
 use std::sync::ledger::Ledger;
 
@@ -24,6 +24,20 @@ fn tell_too_large<E: Sink>(alloc: Global, limit: u32, err: &mut E) -> u8
     match image_too_large_line(alloc, limit) {
         Ok(line) => tell(err, line.as_bytes(), TOO_LARGE),
         Err(_) => tell_memory(err),
+    }
+}
+
+// The image that is built.
+fn repaired<L: Ledger>(
+    alloc: Global,
+    image: &[u8],
+    asked: Repair,
+    max: u64,
+    steps: &mut Steps<L>,
+) -> Result<Image, RepairError> {
+    match asked.built {
+        Built::Each => repair_apart(alloc, image, asked.guess, max, steps),
+        Built::Shaped(shape) => repair_as(alloc, image, shape, asked.guess, max, steps),
     }
 }
 
@@ -40,11 +54,11 @@ pub(crate) fn answer_repair<K: Sink, E: Sink, L: Ledger>(
     requires size { length image.now ≤ 2 ^ 30 }
     requires guess { IsFitRepair asked }
     requires limit { limit ≤ 2 ^ 30 }
-    ensures { Ends (IsRepairAnswer limit asked.shape asked.guess image.now)
+    ensures { Ends (IsRepairAnswer limit asked.built asked.guess image.now)
         (change K.written K.faults out.old out.new) (change E.written E.faults err.old err.new) result }
 {
     let max = u64::from(limit);
-    match repair_as(alloc, image, asked.shape, asked.guess, max, steps) {
+    match repaired(alloc, image, asked, max, steps) {
         Ok(built) => report(put(out, built.bytes()), err),
         Err(RepairError::NoMeta) => tell(err, b"no metadata page\n", NO_META),
         Err(RepairError::TooLarge) => tell_too_large(alloc, limit, err),

@@ -1,0 +1,7 @@
+pub mod Found
+pub mod Given
+pub mod Rows
+pub mod Text
+pub use Rattle.bdb_rescue.specs.of_format as of_format
+pub use Rattle.bdb_rescue.specs as of_rescue
+pub use Rattle.bdb_rescue.specs.of_survey as of_survey
