@@ -18,4 +18,4 @@ returns c =
     c.into_placed-bytes.result.places.items c.sort_places.new.places.items c.as_slice-5.result.now c.args.pairs c.push_all.new.self
     c.as_slice-3.ensures.value c.as_slice-4.ensures.value c.as_slice-5.ensures.value c.sort_places.ensures.moved c.in_ok-sort_places.ensures.sorted
     c.sort_places.ensures.stable c.into_placed-bytes.ensures.pairs
-    (c.in_ok-push_all.ensures ∙ (ap (λ (ps : List TextPair). ps ++ slice_seen c.at_places.result) c.new-sorted.ensures ∙ c.at_places.ensures))
+    (c.in_ok-push_all.ensures.ok ∙ (ap (λ (ps : List TextPair). ps ++ slice_seen c.at_places.result) c.new-sorted.ensures ∙ c.at_places.ensures))
