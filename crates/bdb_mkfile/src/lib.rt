@@ -17,12 +17,12 @@ mod trees;
 
 pub use bdb_io::Bytes;
 pub use bdb_need::{
-    Linked, LoadError, Meta, hash5, is_among_names, is_too_wide, need, settle, sooner_where,
-    with_pairs,
+    Linked, LoadError, Meta, filled, hash5, is_among_names, is_too_wide, need, ordered, settle,
+    sooner_where, with_pairs,
 };
-pub use bdb_text_format::{PairSlice, Section, Sections, TextPairs};
+pub use bdb_text_format::{PairSlice, PlacedPairs, Section, Sections, TextPairs};
 pub use image::named_image;
-pub use loading::load;
+pub use loading::{load, load_sound};
 pub use metadata::{file_settings, tree_meta};
 pub use order::in_name_order;
 pub use queue::queue_image;

@@ -3,14 +3,14 @@ ghost use Rattle.bdb_mkfile.specs.NamedImages.{HasBuiltTables};
 ghost use Rattle.bdb_mkfile.specs.Builds.{Builds};
 ghost use Rattle.bdb_mkfile.specs.Loading.{AreLoadable, IsLoadRefusal, loading_error};
 ghost use Rattle.bdb_mkfile.specs.Settled.{AreBuildable, IsImageOfSections};
-ghost use Rattle.bdb_need.specs.of_settle.LoadErrors.{page_size_in};
+ghost use Rattle.bdb_need.specs.of_settle.LoadErrors.{load_error, page_size_in};
 
 use crate::alone::section_image;
 use crate::image::named_image;
 use crate::lengths::are_short;
 use crate::order::in_name_order;
 use bdb_io::Image;
-use bdb_need::{LoadError, filled, filled_need, ordered};
+use bdb_need::{LoadError, filled, filled_need, first_load_error, ordered};
 use bdb_text_format::Sections;
 use std::alloc::{AllocError, Global};
 
@@ -24,10 +24,10 @@ fn are_too_many(pages: u128, page_size: u32, max: u64) -> bool
     }
 }
 
-// How many bytes so many pages have, as far as a `usize` holds them.
+// Room for so many pages, as far as a `usize` holds it: their bytes and one more, as a list grows where it gets full.
 fn room_for(pages: u128, page_size: u32) -> usize {
     match usize::try_from(pages) {
-        Ok(pages) => pages.saturating_mul(page_size as usize),
+        Ok(pages) => pages.saturating_mul(page_size as usize).saturating_add(1),
         Err(_) => usize::MAX,
     }
 }
@@ -62,12 +62,11 @@ fn settled_image(alloc: Global, settled: Sections, room: usize) -> Result<Image,
     section_image(alloc, section, room)
 }
 
-/// The image of sections: a sound file with their databases, of at most `max` bytes, in the page size and the order of the first. Pages of
-/// buckets have type 2, and the root of a tree of data says how many there are. An error is the first of the sections; where there is none,
-/// that the image would have more than `max` bytes, or want of memory.
-pub fn load(alloc: Global, sections: Sections, max: u64) -> Result<Image, LoadError>
+/// What `load` answers to sections for which no error holds; none is looked for.
+pub fn load_sound(alloc: Global, sections: Sections, max: u64) -> Result<Image, LoadError>
     requires max { max ≤ 2 ^ 30 }
     requires fit { AreLoadable sections }
+    requires none { load_error sections ≡ None }
     ensures built { IfOk result (λ image. Builds sections image) }
     ensures tables { IfOk result (λ image. HasBuiltTables image) }
     ensures sound { OnOk result (loading_error max sections ≡ None) }
@@ -84,4 +83,21 @@ pub fn load(alloc: Global, sections: Sections, max: u64) -> Result<Image, LoadEr
     }
     let settled = filled(alloc, ordered)?;
     Ok(settled_image(alloc, settled, room_for(pages, size))?)
+}
+
+/// The image of sections: a sound file with their databases, of at most `max` bytes, in the page size and the order of the first. Pages of
+/// buckets have type 2, and the root of a tree of data says how many there are. An error is the first of the sections; where there is none,
+/// that the image would have more than `max` bytes, or want of memory.
+pub fn load(alloc: Global, sections: Sections, max: u64) -> Result<Image, LoadError>
+    requires max { max ≤ 2 ^ 30 }
+    requires fit { AreLoadable sections }
+    ensures built { IfOk result (λ image. Builds sections image) }
+    ensures tables { IfOk result (λ image. HasBuiltTables image) }
+    ensures sound { OnOk result (loading_error max sections ≡ None) }
+    ensures refused { IfErr result (IsLoadRefusal max sections) }
+{
+    if let Some(error) = first_load_error(&sections) {
+        return Err(error);
+    }
+    load_sound(alloc, sections, max)
 }

@@ -21,7 +21,8 @@ pub use bdb_mkhash::{
 };
 pub use bdb_mkqueue::{Linked, Meta, build_queue, put_btree_meta, put_hash_meta, put_queue_meta};
 pub use bdb_settle::{
-    LoadError, filled, is_among_names, is_too_wide, ordered, settle, sooner_where, with_pairs,
+    LoadError, filled, first_load_error, is_among_names, is_too_wide, ordered, settle,
+    sooner_where, with_pairs,
 };
 pub use data::{data_chains, data_pages};
 pub use queue::queue_pages;

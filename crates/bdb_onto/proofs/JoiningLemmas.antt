@@ -1,27 +1,30 @@
 -- Sections take their partners out of places, and what is left there is no section's partner.
-use Rattle.std.proofs.Common.{◌≡◌, ℕ, zero, suc, ◌<◌, Bool, true, false, cond, not, List, [], ◌∷◌, ◌++◌, length, map, set, get_or, Option, Some, None, refl}
+use Rattle.std.proofs.Common.{◌≡◌, ℕ, zero, suc, ◌<◌, Bool, true, false, cond, not, List, [], ◌∷◌, ◌++◌, length, map, set, get_or, take, drop, Option, Some, None, refl}
 use Rattle.std.proofs.Common.{sym, ◌∙◌, ap, subst}
 use Rattle.std.proofs.Common.{arith, inl, inr, append-nil, append_assoc, true≢false}
 use Rattle.std.specs.Prelude.{◌||◌, option_to_list, slice_get}
-use Rattle.std.specs.List.{All, Contains, filter, find, flat_map, list_any}
+use Rattle.std.specs.List.{All, AllZip, Contains, filter, find, flat_map, list_any}
 use Rattle.std.specs.Str.{bytes_eq}
 use Rattle.std.proofs.lemmas.Bool.{false_from_ne_true}
-use Rattle.std.proofs.lemmas.List.{map-append}
-use Rattle.std.proofs.lemmas.List.Elements.{All-head, All-tail}
+use Rattle.std.proofs.lemmas.List.{drop-map, map-append, take-map}
+use Rattle.std.proofs.lemmas.List.Elements.{All-append, All-cons, All-drop, All-head, All-nil, All-tail, All-take}
+use Rattle.std.proofs.Math.Seq.{drop-append_seam, take-append_seam}
 use Rattle.std.proofs.lemmas.List.Folds.{list_any-append}
 use Rattle.bdb_format.specs.Databases.{is_name}
 use Rattle.bdb_format.proofs.LessLemmas.{eq_same, eq_self}
 use Rattle.bdb_format.proofs.ListLemmas.{member_of}
 use Rattle.bdb_format.proofs.MemberLemmas.{first_member, later_member, member_cases, no_member, none_pass, none_passes}
 use Rattle.bdb_mkfile.specs.of_text_format.declared.sections.Section.{Section}
+use Rattle.bdb_mkfile.specs.of_text_format.Placed.{ArePlaced, IsPlaced as IsPlacedIn, placed_pair, placed_pairs}
+use Rattle.bdb_mkfile.specs.of_text_format.of_places.declared.place.Place.{Place}
 use Rattle.bdb_mkfile.specs.of_law_sections.Fit.{AreNamedBehind}
 use Rattle.bdb_law_kept.specs.Later.{AllLater}
 use Rattle.bdb_onto.specs.declared.base.Base.{Base}
 use Rattle.bdb_onto.specs.declared.joining.Placed.{Placed}
 use Rattle.bdb_onto.specs.Bases.{IsBase}
-use Rattle.bdb_onto.specs.Joining.{IsJoinedTo, IsPlaced, behind, emptied, placed_section, still, taken_at}
+use Rattle.bdb_onto.specs.Joining.{IsJoinedTo, IsPlaced, behind, emptied, place_placed, placed_section, still, taken_at}
 use Rattle.bdb_onto.specs.Onto.{is_left, is_partner, joined, joined_section, partner_of}
-use Rattle.bdb_onto.specs.Search.{IsPlaceOf}
+use Rattle.bdb_onto.specs.Search.{IsPartnerAt, IsPlaceOf}
 use Rattle.bdb_onto.proofs.FitLemmas.{Differs, base_differs}
 use Rattle.bdb_onto.proofs.JoinLemmas.{found_in}
 
@@ -203,6 +206,39 @@ one_more base sections places all placed rest is named to =
           ∙ ap (λ p. map (joined_section base) to.done ++ (behind base.page_size base.order p section ∷ [])) taken
           ∙ sym (map-append (joined_section base) to.done (section ∷ []));
     }
+
+-- Sections with the places of their partners, and pairs before others.
+
+pub no_places : (places : List (Option ℕ)) → length places ≡ 0 → places ≡ []
+no_places [] none = refl
+no_places (place ∷ places) none = absurd (omega (arith, none))
+
+pub all_placed : (base : Base) (placed : List Placed) → AllZip (IsPartnerAt base) (map placed_section placed) (map place_placed placed)
+    → All (IsPlaced base) placed
+all_placed base [] zip = All-nil (IsPlaced base)
+all_placed base (x ∷ xs) zip = All-cons (IsPlaced base) x xs zip.0 (all_placed base xs zip.1)
+
+pub zip_push : (base : Base) (sections : List Section) (places : List (Option ℕ)) (section : Section) (place : Option ℕ)
+    → AllZip (IsPartnerAt base) sections places → IsPartnerAt base section place
+    → AllZip (IsPartnerAt base) (sections ++ section ∷ []) (places ++ place ∷ [])
+zip_push base [] [] section place zip is = (is, tt)
+zip_push base [] (y ∷ ys) section place zip is = absurd zip
+zip_push base (x ∷ xs) [] section place zip is = absurd zip
+zip_push base (x ∷ xs) (y ∷ ys) section place zip is = (zip.0, zip_push base xs ys section place zip.1 is)
+
+pub turned_placed : (bytes : List ℕ) (places : List Place) (n : ℕ) → ArePlaced bytes places → ArePlaced bytes (drop n places ++ take n places)
+turned_placed bytes places n are =
+    All-append (IsPlacedIn bytes) (drop n places) (take n places) (All-drop (IsPlacedIn bytes) n places are) (All-take (IsPlacedIn bytes) n places are)
+
+pub turned_pairs : (bytes : List ℕ) (places : List Place) (n : ℕ)
+    → placed_pairs bytes (drop n places ++ take n places) ≡ drop n (placed_pairs bytes places) ++ take n (placed_pairs bytes places)
+turned_pairs bytes places n =
+    map-append (placed_pair bytes) (drop n places) (take n places)
+    ∙ (ap (λ ps. ps ++ map (placed_pair bytes) (take n places)) (sym (drop-map (placed_pair bytes) n places))
+    ∙ ap (λ ps. drop n (placed_pairs bytes places) ++ ps) (sym (take-map (placed_pair bytes) n places)))
+
+pub turned_again : {X : Type 0} (xs ys : List X) → drop (length xs) (xs ++ ys) ++ take (length xs) (xs ++ ys) ≡ ys ++ xs
+turned_again xs ys = ap (λ zs. zs ++ take (length xs) (xs ++ ys)) (drop-append_seam xs ys) ∙ ap (λ zs. ys ++ zs) (take-append_seam xs ys)
 
 -- at first all databases stand in their places
 pub at_first : (base : Base) (sections : List Section) (placed : List Placed) → map placed_section placed ≡ sections → All (IsPlaced base) placed

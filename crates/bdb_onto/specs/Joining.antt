@@ -6,7 +6,7 @@ use Rattle.bdb_mkfile.specs.of_text_format.declared.sections.Section.{Section}
 use Rattle.bdb_onto.specs.declared.base.Base.{Base}
 use Rattle.bdb_onto.specs.declared.joining.Placed.{Placed}
 use Rattle.bdb_onto.specs.Onto.{is_left, joined_section, pairs_from, partner_of, settings_from}
-use Rattle.bdb_onto.specs.Search.{IsPlaceOf}
+use Rattle.bdb_onto.specs.Search.{IsPartnerAt}
 
 -- a section behind its partner, where it has one, in a file of this page size and order
 abbrev pub behind : ℕ → Order → Option Section → Section → Section
@@ -18,9 +18,12 @@ behind size order partner section = record section {
 abbrev pub placed_section : Placed → Section
 placed_section placed = placed.section
 
+abbrev pub place_placed : Placed → Option ℕ
+place_placed placed = placed.place
+
 -- the place is that of the section's partner
 abbrev pub IsPlaced : Base → Placed → Type 0
-IsPlaced base placed = IsPlaceOf base.databases (partner_of base placed.section) placed.place
+IsPlaced base placed = IsPartnerAt base placed.section placed.place
 
 abbrev pub taken_at : List (Option Section) → Option ℕ → Option Section
 taken_at places None = None

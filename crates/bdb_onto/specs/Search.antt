@@ -9,6 +9,8 @@ use Rattle.bdb_format.specs.Less.{Less}
 use Rattle.bdb_mkfile.specs.of_text_format.declared.sections.Section.{Section}
 use Rattle.bdb_law_kept.specs.Later.{AllLater}
 use Rattle.bdb_mkfile.specs.Builds.{name_of}
+use Rattle.bdb_onto.specs.declared.base.Base.{Base}
+use Rattle.bdb_onto.specs.Onto.{partner_of}
 
 -- the order of a database's name and a name
 abbrev pub order_of : List ℕ → Section → Ordering
@@ -43,3 +45,7 @@ at_place all (Some i) = slice_get all i
 pub record IsPlaceOf (all : List Section) (found : Option Section) (place : Option ℕ) : Type 0 where
   pub within : IsWithin (length all) place
   pub there : at_place all place ≡ found
+
+-- the place of a section's partner in a base
+abbrev pub IsPartnerAt : Base → Section → Option ℕ → Type 0
+IsPartnerAt base section place = IsPlaceOf base.databases (partner_of base section) place

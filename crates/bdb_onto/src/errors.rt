@@ -1,15 +1,17 @@
-ghost use Rattle.std.specs.Prelude.{◌≡◌, option_copied};
-ghost use Rattle.std.specs.List.{fold};
-ghost use Rattle.bdb_mkfile.specs.of_settle.LoadErrors.{sooner};
+ghost use Rattle.std.specs.Prelude.{◌≡◌, false, None, IfErr, IfOk, OnOk, option_copied};
+ghost use Rattle.std.specs.List.{AllZip, fold};
+ghost use Rattle.bdb_mkfile.specs.of_settle.LoadErrors.{IsSettleRefusal, sooner};
 ghost use Rattle.bdb_onto.specs.Bases.{IsBase};
-ghost use Rattle.bdb_onto.specs.Onto.{is_other, is_unlike, onto_error, onto_errors, same_kind};
+ghost use Rattle.bdb_onto.specs.Onto.{is_other, is_unlike, onto_error, onto_errors, partner_of, same_kind};
+ghost use Rattle.bdb_onto.specs.Search.{IsPartnerAt};
 
 use crate::Base;
-use crate::partners::{is_misnamed, partner_of, settings_onto};
+use crate::partners::{at_place, is_misnamed, place_of, settings_onto};
 use bdb_format::{Kind, Settings};
 use bdb_mkfile::{
     LoadError, Section, Sections, is_among_names, is_too_wide, sooner_where, with_pairs,
 };
+use std::alloc::Global;
 
 // Whether two kinds are the same.
 fn same_kind(a: Kind, b: Kind) -> bool
@@ -43,19 +45,20 @@ fn is_other(settings: &Settings, partner: Option<&Section>) -> bool
     }
 }
 
-// The first error, with those of a section on a base.
+// The first error, with those of a section on a base, where this is its partner.
 fn with_section(
     first: Option<LoadError>,
     base: &Base,
     alone: bool,
     section: &Section,
+    partner: Option<&Section>,
 ) -> Option<LoadError>
-    requires { IsBase base.now }
+    requires { option_copied partner ≡ partner_of base.now section.now }
     ensures { result ≡ fold sooner first (onto_errors base.now alone section.now) }
 {
     let line = section.header_line;
-    let settings = settings_onto(base, section);
-    let other = is_other(&section.settings, partner_of(base, section));
+    let settings = settings_onto(base, section, partner);
+    let other = is_other(&section.settings, partner);
     let first = sooner_where(
         first,
         is_too_wide(base.page_size, &settings),
@@ -75,15 +78,45 @@ fn with_section(
     with_pairs(first, &settings, section.pairs.as_slice())
 }
 
-/// The first error of sections on a base.
-pub fn onto_error(base: &Base, sections: &Sections) -> Option<LoadError>
+// The places of partners, where memory isn't wanting: an error of any section comes before that.
+fn placed(
+    first: Option<LoadError>,
+    places: Vec<Option<usize>>,
+    wanting: bool,
+) -> Result<Vec<Option<usize>>, LoadError>
+    ensures places { IfOk result (λ found. (found ≡ places) × (wanting ≡ false)) }
+    ensures sound { OnOk result (first ≡ None) }
+    ensures refused { IfErr result (IsSettleRefusal first) }
+{
+    match first {
+        Some(error) => Err(error),
+        None if wanting => Err(LoadError::Memory),
+        None => Ok(places),
+    }
+}
+
+/// The places in a base of the partners of sections, each of which is sought once. An error is the first of the sections on the base; where there is none,
+/// memory may be wanting.
+pub(crate) fn partner_places(
+    alloc: Global,
+    base: &Base,
+    sections: &Sections,
+) -> Result<Vec<Option<usize>>, LoadError>
     requires { IsBase base.now }
-    ensures { result ≡ onto_error base.now sections.now }
+    ensures places { IfOk result (λ places. AllZip (IsPartnerAt base.now) sections.now places.items) }
+    ensures sound { OnOk result (onto_error base.now sections.now ≡ None) }
+    ensures refused { IfErr result (IsSettleRefusal (onto_error base.now sections.now)) }
 {
     let alone = sections.len() == 1;
     let mut first = None;
+    let mut places = Vec::new(alloc);
+    let mut wanting = false;
     for section in sections.as_slice() {
-        first = with_section(first, base, alone, section);
+        let place = place_of(base, section);
+        first = with_section(first, base, alone, section, at_place(base, place));
+        if places.push(place).is_err() {
+            wanting = true;
+        }
     }
-    first
+    placed(first, places, wanting)
 }

@@ -1,17 +1,16 @@
 //! The pairs of sections behind those of their partners, as if one text had both.
-ghost use Rattle.std.specs.Prelude.{◌≡◌, [], ◌++◌, IfOk, List, Some, length, map, option_to_list};
-ghost use Rattle.std.specs.List.{All, flat_map};
+ghost use Rattle.std.specs.Prelude.{◌≡◌, ◌≤◌, [], ◌++◌, IfOk, List, Some, drop, length, map, option_to_list, take};
+ghost use Rattle.std.specs.List.{AllZip, flat_map};
 ghost use Rattle.bdb_mkfile.specs.of_text_format.Placed.{slice_seen};
 ghost use Rattle.bdb_mkfile.specs.of_law_sections.Fit.{AreNamedBehind};
 ghost use Rattle.bdb_onto.specs.Bases.{IsBase};
-ghost use Rattle.bdb_onto.specs.Joining.{IsPlaced, behind, emptied, placed_section, taken_at};
+ghost use Rattle.bdb_onto.specs.Joining.{behind, emptied, place_placed, placed_section, taken_at};
 ghost use Rattle.bdb_onto.specs.Onto.{joined};
-ghost use Rattle.bdb_onto.specs.Search.{IsWithin};
+ghost use Rattle.bdb_onto.specs.Search.{IsPartnerAt, IsWithin};
 
 use crate::Base;
-use crate::partners::place_of;
 use bdb_format::{Order, Settings};
-use bdb_mkfile::{PairSlice, Section, Sections, TextPairs};
+use bdb_mkfile::{PairSlice, PlacedPairs, Section, Sections, TextPairs};
 use std::alloc::{AllocError, Global};
 
 /// A section, and the place of its partner in the base, where it has one.
@@ -21,13 +20,43 @@ struct Placed {
     place: Option<usize>,
 }
 
-// Pairs behind others.
+// Pairs behind others, in the run of these.
 fn pairs_behind(before: TextPairs, pairs: PairSlice<'_>) -> Result<TextPairs, AllocError>
     ensures { IfOk result (λ all. all ≡ before ++ slice_seen pairs.entry) }
 {
     let mut all = before;
     all.push_all(pairs)?;
     Ok(all)
+}
+
+// The pairs at the end of a run before the others: places are moved, and no bytes.
+fn turned(pairs: TextPairs, count: usize) -> TextPairs
+    requires { count ≤ length pairs }
+    ensures { result ≡ drop count pairs ++ take count pairs }
+{
+    let PlacedPairs { bytes, mut places } = pairs.into_placed();
+    places.rotate_left(count);
+    TextPairs::from_placed(PlacedPairs { bytes, places })
+}
+
+// Pairs before others, in the run of these.
+fn pairs_before(before: PairSlice<'_>, pairs: TextPairs) -> Result<TextPairs, AllocError>
+    ensures { IfOk result (λ all. all ≡ slice_seen before.entry ++ pairs) }
+{
+    let count = pairs.len();
+    let all = pairs_behind(pairs, before)?;
+    Ok(turned(all, count))
+}
+
+// Pairs and others behind them, in the run of those that are more: so the fewer are copied.
+fn pairs_of_both(before: TextPairs, pairs: TextPairs) -> Result<TextPairs, AllocError>
+    ensures { IfOk result (λ all. all ≡ before ++ pairs) }
+{
+    if before.len() < pairs.len() {
+        pairs_before(before.as_slice(), pairs)
+    } else {
+        pairs_behind(before, pairs.as_slice())
+    }
 }
 
 // A section behind its partner, where it has one, in a file of this page size and order.
@@ -46,10 +75,7 @@ fn behind(
         pairs,
     } = section;
     let (settings, pairs) = match partner {
-        Some(partner) => (
-            partner.settings,
-            pairs_behind(partner.pairs, pairs.as_slice())?,
-        ),
+        Some(partner) => (partner.settings, pairs_of_both(partner.pairs, pairs)?),
         None => (settings, pairs),
     };
     Ok(Section {
@@ -64,16 +90,21 @@ fn behind(
     })
 }
 
-// Sections with the places of their partners.
-fn with_places(alloc: Global, base: &Base, sections: Sections) -> Result<Vec<Placed>, AllocError>
-    requires { IsBase base.now }
+// Sections with the places of their partners, of which there is one for each.
+fn with_places(
+    alloc: Global,
+    sections: Sections,
+    places: Vec<Option<usize>>,
+) -> Result<Vec<Placed>, AllocError>
+    requires { length places.items ≡ length sections }
     ensures sections { IfOk result (λ all. map placed_section all.items ≡ sections) }
-    ensures places { IfOk result (λ all. All (IsPlaced base.now) all.items) }
+    ensures places { IfOk result (λ all. map place_placed all.items ≡ places.items) }
 {
     let mut sections = sections;
+    let mut places = places;
     let mut all = Vec::with_capacity(alloc, sections.len())?;
     while let Some(section) = sections.pop() {
-        let place = place_of(base, &section);
+        let place = places.take_last();
         all.push(Placed { section, place })?;
     }
     all.reverse();
@@ -115,14 +146,20 @@ fn with_left(all: Sections, places: Vec<Option<Section>>) -> Result<Sections, Al
     Ok(all)
 }
 
-/// Sections behind their partners, and the databases of the base that are left. The pairs of a partner and of a section without one are moved, and the others
-/// copied once.
-pub(crate) fn joined(alloc: Global, base: Base, sections: Sections) -> Result<Sections, AllocError>
+/// Sections behind their partners, which stand at these places in the base, and the databases of the base that are left. Pairs are moved, but where a section
+/// has a partner the fewer of both are copied, behind the others in their run.
+pub(crate) fn joined(
+    alloc: Global,
+    base: Base,
+    sections: Sections,
+    places: Vec<Option<usize>>,
+) -> Result<Sections, AllocError>
     requires base { IsBase base }
     requires apart { AreNamedBehind [] sections }
+    requires places { AllZip (IsPartnerAt base) sections places.items }
     ensures { IfOk result (λ all. all ≡ joined base sections) }
 {
-    let sections = with_places(alloc, &base, sections)?;
+    let sections = with_places(alloc, sections, places)?;
     let Base {
         page_size,
         order,

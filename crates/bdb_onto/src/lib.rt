@@ -11,5 +11,4 @@ mod partners;
 pub use base::Base;
 pub use bdb_law_kept::{TextError, read_dump};
 pub use bdb_mkfile::{LoadError, load};
-pub use errors::onto_error;
 pub use onto::{load_onto, settle_onto};

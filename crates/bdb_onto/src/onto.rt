@@ -7,10 +7,10 @@ ghost use Rattle.bdb_onto.specs.Bases.{IsBase};
 ghost use Rattle.bdb_onto.specs.Onto.{BuildsOnto, IsOntoRefusal, loading_error_onto, onto_error, result_of};
 
 use crate::Base;
-use crate::errors::onto_error;
+use crate::errors::partner_places;
 use crate::joining::joined;
 use bdb_io::Image;
-use bdb_mkfile::{LoadError, Sections, in_name_order, load, settle};
+use bdb_mkfile::{LoadError, Sections, filled, in_name_order, load_sound, ordered};
 use std::alloc::Global;
 
 /// What loading sections onto a base gives: its databases in the order of their names, with their lists, and without lines. An error is the
@@ -22,10 +22,10 @@ pub fn settle_onto(alloc: Global, base: Base, sections: Sections) -> Result<Sect
     ensures sound { OnOk result (onto_error base sections ≡ None) }
     ensures refused { IfErr result (IsSettleRefusal (onto_error base sections)) }
 {
-    if let Some(error) = onto_error(&base, &sections) {
-        return Err(error);
-    }
-    let settled = settle(alloc, joined(alloc, base, sections)?)?;
+    let places = partner_places(alloc, &base, &sections)?;
+    let joined = joined(alloc, base, sections, places)?;
+    let ordered = ordered(alloc, joined)?;
+    let settled = filled(alloc, ordered)?;
     Ok(in_name_order(alloc, settled)?)
 }
 
@@ -46,8 +46,7 @@ pub fn load_onto(
     ensures sound { OnOk result (loading_error_onto max base sections ≡ None) }
     ensures refused { IfErr result (IsOntoRefusal max base sections) }
 {
-    if let Some(error) = onto_error(&base, &sections) {
-        return Err(error);
-    }
-    load(alloc, joined(alloc, base, sections)?, max)
+    let places = partner_places(alloc, &base, &sections)?;
+    let joined = joined(alloc, base, sections, places)?;
+    load_sound(alloc, joined, max)
 }

@@ -3,7 +3,7 @@ ghost use Rattle.std.specs.List.{find};
 ghost use Rattle.bdb_mkfile.specs.Builds.{name_of};
 ghost use Rattle.bdb_onto.specs.Bases.{IsBase};
 ghost use Rattle.bdb_onto.specs.Onto.{is_misnamed, partner_of, settings_onto};
-ghost use Rattle.bdb_onto.specs.Search.{AllNamed, IsPlaceOf, NamesRise, has_name, order_of};
+ghost use Rattle.bdb_onto.specs.Search.{AllNamed, IsPlaceOf, NamesRise, at_place, has_name, order_of};
 
 use crate::Base;
 use bdb_format::Settings;
@@ -61,21 +61,19 @@ pub(crate) fn place_of(base: &Base, section: &Section) -> Option<usize>
     }
 }
 
-/// The database that a section is loaded onto, where there is one.
-pub(crate) fn partner_of<'b>(base: &'b Base, section: &Section) -> Option<&'b Section>
-    requires { IsBase base.now }
-    ensures { option_copied result ≡ partner_of base.now section.now }
+/// The database that stands at a place, where there is one.
+pub(crate) fn at_place(base: &Base, place: Option<usize>) -> Option<&Section>
+    ensures { option_copied result ≡ at_place base.now.databases place }
 {
-    let place = place_of(base, section)?;
-    base.databases.get(place)
+    base.databases.get(place?)
 }
 
-/// The settings of a section on a base.
-pub(crate) fn settings_onto(base: &Base, section: &Section) -> Settings
-    requires { IsBase base.now }
+/// The settings of a section on a base, where this is its partner.
+pub(crate) fn settings_onto(base: &Base, section: &Section, partner: Option<&Section>) -> Settings
+    requires { option_copied partner ≡ partner_of base.now section.now }
     ensures { result ≡ settings_onto base.now section.now }
 {
-    let settings = match partner_of(base, section) {
+    let settings = match partner {
         Some(partner) => partner.settings,
         None => section.settings,
     };

@@ -146,8 +146,8 @@ fn page_size_in(sections: &Sections) -> u32
     }
 }
 
-/// The first error of sections.
-pub(crate) fn load_error(sections: &Sections) -> Option<LoadError>
+/// The first error of sections, which `settle` answers.
+pub fn load_error(sections: &Sections) -> Option<LoadError>
     ensures { result ≡ load_error sections.now }
 {
     let size = page_size_in(sections);

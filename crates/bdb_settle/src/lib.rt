@@ -11,7 +11,9 @@ mod sections;
 mod settling;
 mod turning;
 
-pub use errors::{is_among_names, is_too_wide, sooner_where, with_pairs};
+pub use errors::{
+    is_among_names, is_too_wide, load_error as first_load_error, sooner_where, with_pairs,
+};
 pub use filling::{filled, filled_len};
 pub use load_error::LoadError;
 pub use sections::{ordered, settle};

@@ -36,23 +36,11 @@ fn order_backward(alloc: Global, sections: Sections) -> Result<Vec<Section>, All
     Ok(all)
 }
 
-/// The sections in their order, each with its list.
-fn order_all(alloc: Global, sections: Sections) -> Result<Sections, AllocError>
+/// What `settle` answers where no error holds, but for the short records, which aren't filled up: `filled` does that. Errors aren't looked for.
+pub fn ordered(alloc: Global, sections: Sections) -> Result<Sections, AllocError>
     ensures { IfOk result (λ all. all ≡ map ordered_section sections) }
 {
     turned(alloc, order_backward(alloc, sections)?)
-}
-
-/// What `settle` answers, but for the short records, which aren't filled up: `filled` does that.
-pub fn ordered(alloc: Global, sections: Sections) -> Result<Sections, LoadError>
-    ensures lists { IfOk result (λ all. all ≡ map ordered_section sections) }
-    ensures sound { OnOk result (load_error sections ≡ None) }
-    ensures refused { IfErr result (IsSettleRefusal (load_error sections)) }
-{
-    if let Some(error) = load_error(&sections) {
-        return Err(error);
-    }
-    Ok(order_all(alloc, sections)?)
 }
 
 /// What loading makes of the pairs of each section: the sections in the order given, with the same names and settings, and without
@@ -62,6 +50,9 @@ pub fn settle(alloc: Global, sections: Sections) -> Result<Sections, LoadError>
     ensures sound { OnOk result (load_error sections ≡ None) }
     ensures refused { IfErr result (IsSettleRefusal (load_error sections)) }
 {
+    if let Some(error) = load_error(&sections) {
+        return Err(error);
+    }
     let ordered = ordered(alloc, sections)?;
     Ok(filled(alloc, ordered)?)
 }

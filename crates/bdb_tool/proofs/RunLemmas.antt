@@ -12,7 +12,7 @@ use Rattle.bdb_repair.specs.of_model.Lines.{memory_line, read_fault_line, write_
 use Rattle.bdb_repair.proofs.of_format.KnownLemmas.{keeps_itself}
 use Rattle.bdb_tool_build.specs.Loads.{IsTextAnswer}
 use Rattle.bdb_tool_build.specs.Trials.{IsTrialAnswer}
-use Rattle.bdb_tool.specs.Outputs.{AnswersInPart, Asked, IsActionAnswer, IsAnswerBySize, IsAnswerTo, IsCommandAnswer, IsInput, IsRepairAnswer, Output, StatusIs, asked_alone, salvage_answer}
+use Rattle.bdb_tool.specs.Outputs.{AnswersInPart, Asked, IsActionAnswer, IsAnswerBySize, IsAnswerTo, IsCommandAnswer, IsInput, IsRepairAnswer, Output, StatusIs, asked_alone, asked_with, salvage_answer}
 use Rattle.bdb_tool_ask.specs.FileAnswers.{asked_answer}
 use Rattle.bdb_tool_ask.specs.of_tool_lines.Finished.{Finishes, Tells}
 use Rattle.bdb_tool.specs.Parts.{Answered, Ends, IsTaskAnswered, IsToldStop, Unanswered}
@@ -372,7 +372,7 @@ never_rose rose = elim rose [ inl more ↦ omega arith | inr last ↦ omega arit
 -- what has no faults tells an answer, but for want of memory
 pub pure_status : (words : List (List ℕ)) (bytes : List ℕ) (source out err : Change) (status : ℕ) → RunsOn words source None out err status
     → source.before ≡ Some bytes → (HasFailed source → ⊥) → (HasFailed out → ⊥) → (HasFailed err → ⊥) → status ≢ 7
-    → StatusIs words bytes status
+    → StatusIs words None bytes status
 pure_status words bytes source out err status run before no_source no_out no_err no_memory =
     let runs : RunsAs (asked_alone words) source out err status = subst (λ image. RunsAs (asked_on words None image) source out err status) run.image_is
     run.runs in
@@ -386,4 +386,37 @@ pure_status words bytes source out err status run before no_source no_out no_err
       written = found.2;
       told = found.4;
       answer = subst (λ input. Output (asked_alone words) input found.2 found.4 status) (subst (λ left. IsInput left found.0) before found.1) found.6;
+    }
+
+-- the change of a base has no part in an answer
+with_base : (words : List (List ℕ)) (base : Change) (image input written told : List ℕ) (status : ℕ)
+    → Output (asked_on words (Some base) image) input written told status → Output (asked_with words (Some image)) input written told status
+with_base words base image input written told status output = record {
+  answer = output.answer;
+  answers = output.answers;
+  out_is = output.out_is;
+  err_is = output.err_is;
+  status_is = output.status_is;
+}
+
+-- nor does it with a base that has none
+pub pure_status_onto : (words : List (List ℕ)) (bytes image : List ℕ) (source base out err : Change) (status : ℕ)
+    → RunsOn words source (Some base) out err status → source.before ≡ Some bytes → base.before ≡ Some image → (HasFailed source → ⊥)
+    → (HasFailed base → ⊥) → (HasFailed out → ⊥) → (HasFailed err → ⊥) → status ≢ 7
+    → StatusIs words (Some image) bytes status
+pure_status_onto words bytes image source base out err status run before base_before no_source no_base no_out no_err no_memory =
+    let image_is : run.image ≡ image = subst (λ left. IsInput left run.image) base_before run.image_is in
+    let runs : RunsAs (asked_on words (Some base) image) source out err status =
+    subst (λ is. RunsAs (asked_on words (Some base) is) source out err status) image_is run.runs in
+    let found = runs.answers (
+      λ four. elim (runs.read_fault four).0 [ inl failed ↦ no_source failed | inr failed ↦ no_base failed ],
+      λ five. elim (runs.write_fault five)
+          [ inl failed ↦ no_out failed | inr failed ↦ no_err failed ],
+      no_memory,
+    ) in
+    record {
+      written = found.2;
+      told = found.4;
+      answer = with_base words base image bytes found.2 found.4 status
+          (subst (λ input. Output (asked_on words (Some base) image) input found.2 found.4 status) (subst (λ left. IsInput left found.0) before found.1) found.6);
     }

@@ -1,5 +1,5 @@
 -- The answers to words, an input and a base: a status, and what is written to the output and to the error sink. Source: README.md, "Use".
-use Rattle.std.specs.Prelude.{◌≡◌, ◌⊎◌, ℕ, nat_lt, ◌&&◌, Bool, true, false, List, [], ◌∷◌, length, Option, Some, None, codes, ⊤}
+use Rattle.std.specs.Prelude.{◌≡◌, ◌⊎◌, ℕ, nat_lt, ◌&&◌, Bool, true, false, List, [], ◌∷◌, length, Option, Some, None, codes, is_some, unwrap_or, ⊤}
 use Rattle.bdb_tool_words.specs.Commands.{Action, Ask, Command, Load, LoadOnto, Repair, Salvage, Trial, command_on, reads_input, usage}
 use Rattle.bdb_repair.specs.of_model.Answers.{Answer, done, told, too_large_line}
 use Rattle.bdb_repair.specs.of_model.Change.{Change, Gains, GainsPart, Stays}
@@ -143,8 +143,12 @@ AnswersInPart asked source out =
 abbrev pub asked_alone : List (List ℕ) → Asked
 asked_alone words = record { command = command_on words false; base = None; image = [] }
 
--- the status of an answer to these words and this input without a base, whatever is written
-pub record StatusIs (words : List (List ℕ)) (input : List ℕ) (status : ℕ) : Type 0 where
+-- what is asked by words with a base of these bytes, or without one
+abbrev pub asked_with : List (List ℕ) → Option (List ℕ) → Asked
+asked_with words base = record { command = command_on words (is_some base); base = None; image = unwrap_or base [] }
+
+-- the status of an answer to these words and this input, with a base of these bytes or without one, whatever is written
+pub record StatusIs (words : List (List ℕ)) (base : Option (List ℕ)) (input : List ℕ) (status : ℕ) : Type 0 where
   pub written : List ℕ
   pub told : List ℕ
-  pub answer : Output (asked_alone words) input written told status
+  pub answer : Output (asked_with words base) input written told status

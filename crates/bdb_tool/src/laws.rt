@@ -1,5 +1,5 @@
 //! What follows from the promise of `run`.
-ghost use Rattle.std.specs.Prelude.{◌≢◌};
+ghost use Rattle.std.specs.Prelude.{◌≢◌, None, Some};
 ghost use Rattle.bdb_tool.specs.Laws.{SameAnswersWithoutOrder};
 ghost use Rattle.bdb_tool.specs.Outputs.{StatusIs};
 
@@ -8,12 +8,11 @@ use bdb_repair::{Bytes, PureSink, PureSource, Steps, Words};
 use std::alloc::Global;
 use std::sync::ledger::Ledger;
 
-/// Over a source and sinks that never fail, a run is neither a read fault nor a write fault, and but for want of
-/// memory it is the answer to the words and these bytes.
-pub fn run_pure<L: Ledger>(alloc: Global, words: &Words, bytes: Bytes, steps: &mut Steps<L>) -> u8
+// A run without a base.
+fn run_pure_alone<L: Ledger>(alloc: Global, words: &Words, bytes: Bytes, steps: &mut Steps<L>) -> u8
     ensures no_read_fault { result ≢ 4 }
     ensures no_write_fault { result ≢ 5 }
-    ensures answers { result ≢ 7 → StatusIs words.now bytes result }
+    ensures answers { result ≢ 7 → StatusIs words.now None bytes result }
 {
     let mut source = PureSource::new(bytes);
     let mut out = PureSink::new();
@@ -27,6 +26,52 @@ pub fn run_pure<L: Ledger>(alloc: Global, words: &Words, bytes: Bytes, steps: &m
         &mut err,
         steps,
     )
+}
+
+// A run with a base.
+fn run_pure_onto<L: Ledger>(
+    alloc: Global,
+    words: &Words,
+    bytes: Bytes,
+    image: Bytes,
+    steps: &mut Steps<L>,
+) -> u8
+    ensures no_read_fault { result ≢ 4 }
+    ensures no_write_fault { result ≢ 5 }
+    ensures answers { result ≢ 7 → StatusIs words.now (Some image) bytes result }
+{
+    let mut source = PureSource::new(bytes);
+    let mut base = PureSource::new(image);
+    let mut out = PureSink::new();
+    let mut err = PureSink::new();
+    run::<PureSource, PureSource, PureSink, PureSink, L>(
+        alloc,
+        words,
+        &mut source,
+        Some(&mut base),
+        &mut out,
+        &mut err,
+        steps,
+    )
+}
+
+/// Over a source, a base, where one is handed in, and sinks that never fail, a run is neither a read fault nor a write fault, and but for want of
+/// memory it is the answer to the words, these bytes and those of the base.
+pub fn run_pure<L: Ledger>(
+    alloc: Global,
+    words: &Words,
+    bytes: Bytes,
+    base: Option<Bytes>,
+    steps: &mut Steps<L>,
+) -> u8
+    ensures no_read_fault { result ≢ 4 }
+    ensures no_write_fault { result ≢ 5 }
+    ensures answers { result ≢ 7 → StatusIs words.now base bytes result }
+{
+    match base {
+        Some(image) => run_pure_onto(alloc, words, bytes, image, steps),
+        None => run_pure_alone(alloc, words, bytes, steps),
+    }
 }
 
 /// On a file on which no row of order holds, what is asked is answered in any order as by all rows.

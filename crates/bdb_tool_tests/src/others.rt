@@ -10,7 +10,7 @@ use test_runs::images::bytes_of;
 use test_runs::laws::run_pure;
 use test_runs::outside::Dripping;
 use test_runs::running::{source_over, words_of};
-use test_runs::{MemSink, MemSource, Source, Steps, run};
+use test_runs::{Bytes, MemSink, MemSource, Source, Steps, run};
 
 fn status_beside<L: Ledger, B: Source>(
     alloc: Global,
@@ -49,25 +49,41 @@ fn leaves_its_base_alone(rt: HostRuntime) -> Result<(), Fail> {
     Ok(())
 }
 
-fn pure_status<L: Ledger>(alloc: Global, given: &[&str], blank: Blank) -> Result<u8, AllocError>
+fn pure_status<L: Ledger>(
+    alloc: Global,
+    given: &[&str],
+    base: Option<Bytes>,
+    blank: Blank,
+) -> Result<u8, AllocError>
     requires name { blank.name ≡ L.name }
     requires parts { blank.parts ≡ L.parts }
     requires one { L.parts ≡ 1 }
 {
     let words = words_of(alloc, given)?;
     let mut steps = Steps::<L>::new(blank);
-    Ok(run_pure::<L>(alloc, &words, bytes_of(alloc, &ONE_PAIR)?, &mut steps))
+    let bytes = bytes_of(alloc, &ONE_PAIR)?;
+    Ok(run_pure::<L>(alloc, &words, bytes, base, &mut steps))
 }
 
 #[test]
 fn answers_over_pure_objects(rt: HostRuntime) -> Result<(), Fail> {
     assert_eq!(rt;
-        pure_status::<Brand>(rt.alloc(), &["verify"], Blank::new(1))?,
+        pure_status::<Brand>(rt.alloc(), &["verify"], None, Blank::new(1))?,
         0
     );
     assert_eq!(rt;
-        pure_status::<Brand>(rt.alloc(), &["get", "b"], Blank::new(1))?,
+        pure_status::<Brand>(rt.alloc(), &["get", "b"], None, Blank::new(1))?,
         9
+    );
+    let base = bytes_of(rt.alloc(), &ONE_PAIR)?;
+    assert_eq!(rt;
+        pure_status::<Brand>(
+            rt.alloc(),
+            &["load", "--onto", "base"],
+            Some(base),
+            Blank::new(1)
+        )?,
+        8
     );
     Ok(())
 }

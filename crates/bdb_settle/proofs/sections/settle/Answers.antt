@@ -6,4 +6,4 @@ use Rattle.bdb_settle.proofs.sections.settle.Goals as goal
 
 pub returns-clause-lists : goal.returns-clause-lists
 returns-clause-lists c =
-    c.in_ok-filled.ensures ∙ ap (map filled_section) c.in_ok-ordered.ensures.lists ∙ sections_filled c.args.sections
+    c.in_ok-filled.ensures ∙ ap (map filled_section) c.in_ok-ordered.ensures ∙ sections_filled c.args.sections

@@ -9,14 +9,14 @@ use Rattle.bdb_mkfile.specs.Lengths.{is_short_section}
 use Rattle.bdb_mkfile.proofs.BuildLemmas.{builds, no_error, refused_late, too_large, built_tables}
 use Rattle.bdb_mkfile.proofs.FitLemmas.{are_buildable, are_settled, filled_size, lists_filled}
 use Rattle.bdb_mkfile.proofs.ShortLemmas.{all_short, too_long}
-use Rattle.bdb_mkfile.proofs.loading.load.Goals as goal
+use Rattle.bdb_mkfile.proofs.loading.load_sound.Goals as goal
 
 -- A name, a key or a datum that is too long makes the image too large.
 pub returns-then-not-are_short-clause-refused : goal.returns-then-not-are_short-clause-refused
 returns-then-not-are_short-clause-refused c =
-    refused_late c.args.max c.args.sections TooLarge c.in_ok-ordered.ensures.sound
-    (inr (too_long c.args.max c.requires.fit.most c.args.sections c.requires.max c.requires.fit.fit c.in_ok-ordered.ensures.sound
-    (ap (list_all is_short_section) (sym c.in_ok-ordered.ensures.lists) ∙ sym c.are_short.ensures ∙ c.if-not-are_short.true)))
+    refused_late c.args.max c.args.sections TooLarge c.requires.none
+    (inr (too_long c.args.max c.requires.fit.most c.args.sections c.requires.max c.requires.fit.fit c.requires.none
+    (ap (list_all is_short_section) (sym c.in_ok-ordered.ensures) ∙ sym c.are_short.ensures ∙ c.if-not-are_short.true)))
 
 -- What is counted is that of the sections once their records are filled up.
 pub filled_need-requires : goal.filled_need-requires
@@ -25,9 +25,9 @@ filled_need-requires c =
       most = c.requires.fit.most;
       fit = c.requires.fit.fit;
       short = all_short c.args.sections
-          (ap (list_all is_short_section) (sym c.in_ok-ordered.ensures.lists) ∙ sym c.are_short.ensures ∙ c.if-not-are_short.false);
-      none = c.in_ok-ordered.ensures.sound;
-      lists = lists_filled c.args.sections c.in_ok-ordered.ordered c.in_ok-ordered.ensures.lists;
+          (ap (list_all is_short_section) (sym c.in_ok-ordered.ensures) ∙ sym c.are_short.ensures ∙ c.if-not-are_short.false);
+      none = c.requires.none;
+      lists = lists_filled c.args.sections c.in_ok-ordered.ordered c.in_ok-ordered.ensures;
     })
 
 pub returns-then-are_too_many-clause-refused : goal.returns-then-are_too_many-clause-refused
@@ -35,9 +35,9 @@ returns-then-are_too_many-clause-refused c =
     let above : nat_lt c.args.max (c.in_ok-pages.pages * page_size_in (map filled_section c.in_ok-ordered.ordered)) ≡ true =
     ap (λ n. nat_lt c.args.max (c.in_ok-pages.pages * n)) (filled_size c.in_ok-ordered.ordered ∙ sym c.page_size-size.ensures) ∙ sym c.are_too_many.ensures
     ∙ c.if-are_too_many.true in
-    refused_late c.args.max c.args.sections TooLarge c.in_ok-ordered.ensures.sound
+    refused_late c.args.max c.args.sections TooLarge c.requires.none
     (inr (too_large c.args.max c.in_ok-pages.pages c.args.sections (map filled_section c.in_ok-ordered.ordered)
-    (lists_filled c.args.sections c.in_ok-ordered.ordered c.in_ok-ordered.ensures.lists) c.in_ok-pages.ensures above))
+    (lists_filled c.args.sections c.in_ok-ordered.ordered c.in_ok-ordered.ensures) c.in_ok-pages.ensures above))
 
 pub settled_image-requires : goal.settled_image-requires
 settled_image-requires c =
@@ -49,15 +49,15 @@ settled_image-requires c =
       most = c.requires.fit.most;
       fit = c.requires.fit.fit;
       short = all_short c.args.sections
-          (ap (list_all is_short_section) (sym c.in_ok-ordered.ensures.lists) ∙ sym c.are_short.ensures ∙ c.if-not-are_short.false);
-      none = c.in_ok-ordered.ensures.sound;
-      lists = c.in_ok-settled.ensures ∙ lists_filled c.args.sections c.in_ok-ordered.ordered c.in_ok-ordered.ensures.lists;
+          (ap (list_all is_short_section) (sym c.in_ok-ordered.ensures) ∙ sym c.are_short.ensures ∙ c.if-not-are_short.false);
+      none = c.requires.none;
+      lists = c.in_ok-settled.ensures ∙ lists_filled c.args.sections c.in_ok-ordered.ordered c.in_ok-ordered.ensures;
     }) (record { max_low = c.requires.max; pages_are = c.in_ok-pages.ensures ∙ ap need_of (sym c.in_ok-settled.ensures); within = within })
 
 pub returns-clause-built : goal.returns-clause-built
 returns-clause-built c =
     builds c.args.sections c.in_ok-settled.settled c.in_ok-settled_image.field-0
-    (c.in_ok-settled.ensures ∙ lists_filled c.args.sections c.in_ok-ordered.ordered c.in_ok-ordered.ensures.lists) c.in_ok-settled_image.ensures
+    (c.in_ok-settled.ensures ∙ lists_filled c.args.sections c.in_ok-ordered.ordered c.in_ok-ordered.ensures) c.in_ok-settled_image.ensures
 
 pub returns-clause-tables : goal.returns-clause-tables
 returns-clause-tables c = built_tables c.in_ok-settled.settled c.in_ok-settled_image.field-0 c.in_ok-settled_image.ensures
@@ -67,5 +67,5 @@ returns-clause-sound c =
     let within : nat_lt c.args.max (c.in_ok-pages.pages * page_size_in (map filled_section c.in_ok-ordered.ordered)) ≡ false =
     ap (λ n. nat_lt c.args.max (c.in_ok-pages.pages * n)) (filled_size c.in_ok-ordered.ordered ∙ sym c.page_size-size.ensures) ∙ sym c.are_too_many.ensures
     ∙ c.if-are_too_many.false in
-    no_error c.args.max c.in_ok-pages.pages c.args.sections (map filled_section c.in_ok-ordered.ordered) c.in_ok-ordered.ensures.sound
-    (lists_filled c.args.sections c.in_ok-ordered.ordered c.in_ok-ordered.ensures.lists) c.in_ok-pages.ensures within
+    no_error c.args.max c.in_ok-pages.pages c.args.sections (map filled_section c.in_ok-ordered.ordered) c.requires.none
+    (lists_filled c.args.sections c.in_ok-ordered.ordered c.in_ok-ordered.ensures) c.in_ok-pages.ensures within
