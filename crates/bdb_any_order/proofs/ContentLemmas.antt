@@ -5,16 +5,12 @@ use Rattle.std.proofs.Common.{inr}
 use Rattle.std.specs.List.{Contains, flat_map, range_with_len}
 use Rattle.std.proofs.lemmas.Bool.{cases_eq}
 use Rattle.bdb_btree.specs.of_format.declared.kinds.Fault.{Fault}
-use Rattle.bdb_btree.specs.of_format.File.{File}
-use Rattle.bdb_btree.specs.of_format.Page.{Metadata, BtreeFields, HashFields, QueueFields}
-use Rattle.bdb_btree.specs.of_format.Table.{Row, ◌:?◌}
-use Rattle.bdb_btree.specs.of_format.Verdict.{holding, contents_faults}
-use Rattle.bdb_btree.specs.of_format.ContentRows.{fields_of, contents_rows, holds_code, holds_somewhere, btree_contents, database_faults, database_rows}
-use Rattle.bdb_btree.specs.of_format.ContentRows.{recno_contents}
+use Rattle.bdb_btree.specs.of_format.Terms.{BtreeFields, File, HashFields, Metadata, QueueFields, Row, btree_contents, contents_faults, contents_rows}
+use Rattle.bdb_btree.specs.of_format.Terms.{database_faults, database_rows, fields_of, holds_code, holds_somewhere, is_recno, recno_contents, ◌:?◌}
+use Rattle.bdb_btree.specs.of_format.Verdict.{holding}
 use Rattle.bdb_btree.proofs.of_format.MemberLemmas.{filter_step, first_member, no_member, of_flat_map, in_flat_map}
 use Rattle.bdb_btree.proofs.of_format.VerdictLemmas.{IsOfStage, of_by_page}
 use Rattle.bdb_any_order.proofs.MergeLemmas.{at_page}
-use Rattle.bdb_btree.specs.of_format.Flags.{is_recno}
 use Rattle.bdb_btree.proofs.CheckLemmas.{code_later, is_code as code_holding, of_code as holding_code}
 
 -- The codes of a table.

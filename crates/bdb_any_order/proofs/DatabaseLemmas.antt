@@ -2,17 +2,12 @@
 use Rattle.std.proofs.Common.{◌≡◌, ℕ, ◌+◌, ◌≤◌, true, false, cond, List, [], append-nil, Some, arith, refl, sym, ◌∙◌, ap, subst}
 use Rattle.std.specs.Prelude.{◌==◌, ◌&&◌, take}
 use Rattle.std.specs.Option.{is_some}
-use Rattle.bdb_btree.specs.of_format.Master.{master_in}
+use Rattle.bdb_btree.specs.of_format.Terms.{File, Meta, Metadata, QueueFields, abstract_page, contents_faults, database_faults, database_rows, fields_in}
+use Rattle.bdb_btree.specs.of_format.Terms.{fields_of, file_of, head_of, is_meta, master_in, page_at, page_bytes}
 use Rattle.std.specs.List.{Contains, flat_map, range_with_len, slice_get}
 use Rattle.bdb_btree.specs.of_format.declared.kinds.Fault.{Fault}
 use Rattle.bdb_btree.specs.of_format.declared.metadata.QueueMeta.{QueueMeta}
-use Rattle.bdb_btree.specs.of_format.ContentRows.{database_faults, database_rows, fields_in, fields_of}
-use Rattle.bdb_btree.specs.of_format.File.{File, file_of, page_at, page_bytes}
-use Rattle.bdb_btree.specs.of_format.Graph.{is_meta}
-use Rattle.bdb_btree.specs.of_format.HeadOf.{head_of}
-use Rattle.bdb_btree.specs.of_format.Page.{Metadata, QueueFields, Meta}
-use Rattle.bdb_btree.specs.of_format.Reading.{abstract_page}
-use Rattle.bdb_btree.specs.of_format.Verdict.{holding, contents_faults}
+use Rattle.bdb_btree.specs.of_format.Verdict.{holding}
 use Rattle.bdb_btree.proofs.of_format.MemberLemmas.{in_flat_map, in_map, is_empty, no_member, of_filter, of_flat_map, of_map, of_range, in_filter}
 use Rattle.bdb_btree.proofs.of_format.VerdictLemmas.{IsOfStage, of_by_page}
 use Rattle.bdb_btree.proofs.of_format.FileLemmas.{page_is}

@@ -3,11 +3,8 @@ use Rattle.std.proofs.Common.{◌≡◌, ◌⊎◌, ℕ, ◌+◌, List, [], ◌�
 use Rattle.std.specs.List.{Contains}
 use Rattle.std.proofs.lemmas.List.Elements.{Contains-append_cases, Contains-append_left, Contains-append_right}
 use Rattle.bdb_btree.specs.of_format.declared.kinds.Fault.{Fault}
-use Rattle.bdb_btree.specs.of_format.Verdict.{by_page, holding, structure_faults, chain_faults, tree_faults, structure_rows}
-use Rattle.bdb_btree.specs.of_format.Chains.{chain_rows}
-use Rattle.bdb_btree.specs.of_format.Leaves.{tree_rows}
-use Rattle.bdb_btree.specs.of_format.File.{File}
-use Rattle.bdb_btree.specs.of_format.Table.{Row}
+use Rattle.bdb_btree.specs.of_format.Terms.{File, Row, by_page, chain_faults, chain_rows, structure_faults, structure_rows, tree_faults, tree_rows}
+use Rattle.bdb_btree.specs.of_format.Verdict.{holding}
 use Rattle.bdb_btree.proofs.of_format.VerdictLemmas.{IsOfStage, in_by_page, of_by_page}
 use Rattle.bdb_btree.specs.of_faults.Notes.{AreSame, NotesAll}
 use Rattle.bdb_btree.proofs.of_faults.SinkLemmas.{notes_both, notes_same}

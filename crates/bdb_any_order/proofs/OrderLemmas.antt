@@ -11,13 +11,9 @@ use Rattle.bdb_btree.proofs.of_faults.AscendLemmas.{faults_ascend, stage_ascends
 use Rattle.bdb_btree.proofs.of_faults.SinkLemmas.{noted_all}
 use Rattle.bdb_btree.specs.of_format.declared.kinds.Fault.{Fault}
 use Rattle.bdb_btree.specs.of_format.declared.metadata.BtreeMeta.{BtreeMeta}
-use Rattle.bdb_btree.specs.of_format.ContentRows.{contents_rows, database_faults, database_rows, fields_in, holds_code}
-use Rattle.bdb_btree.specs.of_format.File.{File, file_of, page_at}
-use Rattle.bdb_btree.specs.of_format.Flags.{names_databases}
-use Rattle.bdb_btree.specs.of_format.Graph.{is_meta}
-use Rattle.bdb_btree.specs.of_format.Master.{master_in}
-use Rattle.bdb_btree.specs.of_format.Page.{BtreeFields, Page, Meta}
-use Rattle.bdb_btree.specs.of_format.Verdict.{contents_faults, faults_in, holding}
+use Rattle.bdb_btree.specs.of_format.Terms.{BtreeFields, File, Meta, Page, contents_faults, contents_rows, database_faults, database_rows, faults_in}
+use Rattle.bdb_btree.specs.of_format.Terms.{fields_in, file_of, holds_code, is_meta, master_in, names_databases, page_at}
+use Rattle.bdb_btree.specs.of_format.Verdict.{holding}
 use Rattle.bdb_btree.proofs.of_format.MemberLemmas.{in_filter, in_flat_map, no_member, of_filter, of_flat_map}
 use Rattle.bdb_btree.proofs.of_format.VerdictLemmas.{IsOfStage, of_by_page, or_else_both}
 use Rattle.bdb_btree.proofs.CheckLemmas.{is_code as code_holding, of_code as holding_code}

@@ -3,9 +3,8 @@ use Rattle.std.proofs.Common.{◌≡◌, ℕ, ◌<◌, ◌≤◌, Bool, true, fa
 use Rattle.std.specs.Prelude.{◌||◌, not}
 use Rattle.std.specs.List.{Contains, filter, range_with_len}
 use Rattle.bdb_btree.specs.of_format.declared.kinds.Fault.{Fault}
-use Rattle.bdb_btree.specs.of_format.File.{File, file_of, page_at}
-use Rattle.bdb_btree.specs.of_format.Master.{master_in}
-use Rattle.bdb_btree.specs.of_format.Verdict.{contents_faults, faults_in, faults_of, first_judgement, master_faults, or_else, stage_faults, structure_faults}
+use Rattle.bdb_btree.specs.of_format.Terms.{File, contents_faults, faults_in, faults_of, file_of, first_judgement, master_faults, master_in, or_else, page_at}
+use Rattle.bdb_btree.specs.of_format.Terms.{stage_faults, structure_faults}
 use Rattle.bdb_btree.proofs.of_format.MemberLemmas.{first_member, later_member}
 use Rattle.bdb_btree.proofs.of_format.VerdictLemmas.{none_within, or_else_none, or_else_nothing}
 use Rattle.bdb_any_order.specs.AnyOrder.{contents_by, counts, faults_by_rows, holds_under, is_of_order, stages_by, verdict_by}

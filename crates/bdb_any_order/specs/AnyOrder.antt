@@ -4,17 +4,13 @@ use Rattle.std.specs.Prelude.{ℕ, ◌==◌, ◌&&◌, ◌||◌, not, Bool, fals
 use Rattle.std.specs.List.{filter, range_with_len}
 use Rattle.bdb_any_order.specs.declared.rows.Rows.{Rows}
 use Rattle.bdb_any_order.specs.declared.rows.Rows.TheVariants.{All, AnyOrder}
-use Rattle.bdb_btree.specs.of_format.FaultTable.{row_code, row_stage}
+use Rattle.bdb_btree.specs.of_format.Terms.{BtreeFields, File, Judgement, contents_faults, database_rows, faults_in, file_of, first_judgement, holds_code}
+use Rattle.bdb_btree.specs.of_format.Terms.{master_in, or_else, page_at, row_code, row_stage}
 use Rattle.bdb_btree.specs.of_format.declared.rows.ContentsRow.{ContentsRow}
 use Rattle.bdb_btree.specs.of_format.declared.rows.ContentsRow.TheVariants.{KeyOrder, Separator, DuplicateOrder}
 use Rattle.bdb_btree.specs.of_format.declared.rows.Row.TheVariants.{Contents}
 use Rattle.bdb_btree.specs.of_format.declared.kinds.Fault.{Fault}
 use Rattle.bdb_btree.specs.of_format.declared.metadata.BtreeMeta.{BtreeMeta}
-use Rattle.bdb_btree.specs.of_format.ContentRows.{database_rows, holds_code}
-use Rattle.bdb_btree.specs.of_format.File.{File, file_of, page_at}
-use Rattle.bdb_btree.specs.of_format.Master.{master_in}
-use Rattle.bdb_btree.specs.of_format.Page.{BtreeFields}
-use Rattle.bdb_btree.specs.of_format.Verdict.{Judgement, contents_faults, faults_in, first_judgement, or_else}
 
 -- a fault is of this row of stage 8
 abbrev pub is_row : Fault → ContentsRow → Bool

@@ -2,8 +2,7 @@
 use Rattle.std.specs.Prelude.{ℕ, List}
 use Rattle.std.specs.List.{flat_map}
 use Rattle.bdb_btree.specs.of_format.declared.kinds.Fault.{Fault}
-use Rattle.bdb_btree.specs.of_format.ContentRows.{database_faults, fields_in}
-use Rattle.bdb_btree.specs.of_format.File.{File, page_at}
+use Rattle.bdb_btree.specs.of_format.Terms.{File, database_faults, fields_in, page_at}
 
 -- those of the database with the metadata on a page
 abbrev pub faults_on : File → ℕ → List Fault

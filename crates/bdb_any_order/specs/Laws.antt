@@ -5,11 +5,7 @@ use Rattle.bdb_any_order.specs.AnyOrder.{contents_by, faults_by_rows, is_of_orde
 use Rattle.bdb_any_order.specs.declared.rows.Rows.TheVariants.{All, AnyOrder}
 use Rattle.bdb_btree.specs.of_format.declared.kinds.Fault.{Fault}
 use Rattle.bdb_btree.specs.of_format.declared.metadata.BtreeMeta.{BtreeMeta}
-use Rattle.bdb_btree.specs.of_format.ContentRows.{database_faults}
-use Rattle.bdb_btree.specs.of_format.File.{file_of, page_at}
-use Rattle.bdb_btree.specs.of_format.Master.{master_in}
-use Rattle.bdb_btree.specs.of_format.Page.{BtreeFields}
-use Rattle.bdb_btree.specs.of_format.Verdict.{contents_faults, faults_of, verdict_of}
+use Rattle.bdb_btree.specs.of_format.Terms.{BtreeFields, contents_faults, database_faults, faults_of, file_of, master_in, page_at, verdict_of}
 
 -- where all rows count, the faults are those of the file, and so is the verdict
 abbrev pub AllAreOfAll : Type 0

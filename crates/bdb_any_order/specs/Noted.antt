@@ -7,8 +7,7 @@ use Rattle.bdb_any_order.specs.declared.rows.Which.TheVariants.{Each, Master, Ot
 use Rattle.bdb_any_order.specs.AnyOrder.{is_of_order}
 use Rattle.bdb_any_order.specs.Contents.{faults_on}
 use Rattle.bdb_btree.specs.of_format.declared.kinds.Fault.{Fault}
-use Rattle.bdb_btree.specs.of_format.File.{File, page_at}
-use Rattle.bdb_btree.specs.of_format.Master.{master_in}
+use Rattle.bdb_btree.specs.of_format.Terms.{File, master_in, page_at}
 use Rattle.bdb_btree.specs.of_image.Linked.{meta_pages}
 
 -- a fault that isn't of order

@@ -3,13 +3,8 @@ use Rattle.std.specs.Prelude.{ℕ, nat_lt, ◌==◌, ◌&&◌, if◌then◌else�
 use Rattle.std.specs.List.{filter, flat_map, fold, range_with_len}
 use Rattle.std.specs.Option.{is_some, option_to_list, unwrap_or}
 use Rattle.std.specs.Str.{bytes_eq}
-use Rattle.bdb_rescue.specs.of_format.Less.{less}
-use Rattle.bdb_rescue.specs.of_format.Page.{Metadata, BtreeFields, HashFields, Page, Leaf, Meta}
-use Rattle.bdb_rescue.specs.of_format.Flags.{names_databases}
-use Rattle.bdb_rescue.specs.of_format.File.{File, page_at}
-use Rattle.bdb_rescue.specs.of_format.Graph.{is_meta}
-use Rattle.bdb_rescue.specs.of_format.ContentRows.{fields_in}
-use Rattle.bdb_rescue.specs.of_format.Master.{master_in, page_named}
+use Rattle.bdb_rescue.specs.of_format.Terms.{BtreeFields, File, HashFields, Leaf, Meta, Metadata, Page, fields_in, is_meta, less, master_in, names_databases}
+use Rattle.bdb_rescue.specs.of_format.Terms.{page_at, page_named}
 use Rattle.bdb_rescue.specs.of_survey.Salvage.{stored_on}
 use Rattle.bdb_homes.specs.Homes.{home}
 use Rattle.bdb_homes.specs.declared.home.Home.{Home}

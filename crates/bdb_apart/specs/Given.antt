@@ -1,10 +1,8 @@
 -- What is given of each database that is found, and what is left. Source: docs/FORMAT.md, "Salvage".
 use Rattle.std.specs.Prelude.{ℕ, ◌+◌, ◌^◌, nat_lt, ◌==◌, ◌&&◌, ◌||◌, not, if◌then◌else◌, Bool, true, false, List, [], ◌∷◌, map, length, Option, Some, None}
 use Rattle.std.specs.List.{enumerate_from, filter, flat_map, list_any, range_with_len}
-use Rattle.bdb_rescue.specs.of_format.Contents.{entries_in}
-use Rattle.bdb_rescue.specs.of_format.Flags.{is_fixed, is_recno}
-use Rattle.bdb_rescue.specs.of_format.Page.{Item, Metadata, BtreeFields, HashFields, Page, Hash, Leaf, RecnoLeaf}
-use Rattle.bdb_rescue.specs.of_format.File.{File, page_at}
+use Rattle.bdb_rescue.specs.of_format.Terms.{BtreeFields, File, Hash, HashFields, Item, Leaf, Metadata, Page, RecnoLeaf, entries_in, is_fixed, is_recno}
+use Rattle.bdb_rescue.specs.of_format.Terms.{page_at}
 use Rattle.bdb_rescue.specs.of_survey.Salvage.{is_taken, live_value, live_whole, stored_on}
 use Rattle.bdb_homes.specs.Homes.{home}
 use Rattle.bdb_homes.specs.declared.home.Home.{Home}

@@ -1,10 +1,8 @@
 -- The text of what is salvaged, database by database, and of what is left. Source: docs/FORMAT.md, "Salvage".
 use Rattle.std.specs.Prelude.{ℕ, Bool, true, false, if◌then◌else◌, List, ◌++◌, map}
 use Rattle.std.specs.List.{flat_map}
-use Rattle.bdb_rescue.specs.of_format.Databases.{settings_of}
-use Rattle.bdb_rescue.specs.of_format.File.{File}
-use Rattle.bdb_rescue.specs.of_format.Lists.{ListKey}
-use Rattle.bdb_rescue.specs.of_text_format.Written.{section_text}
+use Rattle.bdb_rescue.specs.of_format.Terms.{File, ListKey, settings_of}
+use Rattle.bdb_rescue.specs.of_text_format.Terms.{section_text}
 use Rattle.bdb_rescue.specs.of_survey.declared.guess.Guess.{Guess}
 use Rattle.bdb_rescue.specs.of_survey.Salvage.{salvaged_file}
 use Rattle.bdb_rescue.specs.Text.{bytes_pair, loose_section, numbered_record, stored_section}

@@ -1,6 +1,6 @@
 ghost use Rattle.std.specs.Prelude.{◌≡◌};
 ghost use Rattle.bdb_rescue.specs.of_image.Metas.{meta_seen};
-ghost use Rattle.bdb_rescue.specs.of_format.Databases.{btree_settings, hash_settings, queue_settings, recno_settings, settings_of};
+ghost use Rattle.bdb_rescue.specs.of_format.Terms.{btree_settings, hash_settings, queue_settings, recno_settings, settings_of};
 
 use bdb_homes::{BtreeMeta, Guess, HashMeta, Kind, Meta, QueueMeta, Settings, plain_settings};
 

@@ -9,17 +9,12 @@ use Rattle.bdb_faults.specs.Notes.{AreSame, Notes, NotesAll}
 use Rattle.bdb_faults.proofs.SinkLemmas.{notes_both, notes_one, notes_same}
 use Rattle.bdb_ranks.specs.of_format.declared.kinds.Fault.{Fault}
 use Rattle.bdb_ranks.specs.of_format.declared.metadata.BtreeMeta.{BtreeMeta}
-use Rattle.bdb_ranks.specs.of_format.ContentRows.{btree_contents, database_faults, groups, has_duplicate, has_unsorted, has_wrong_count, has_wrong_separator}
-use Rattle.bdb_ranks.specs.of_format.ContentRows.{has_wrong_set, holds_code, inner_pages, is_wrong_at, neighbours, recno_contents}
-use Rattle.bdb_ranks.specs.of_format.Contents.{StoredPair, tree_pairs}
-use Rattle.bdb_ranks.specs.of_format.File.{File, file_of, page_at}
-use Rattle.bdb_ranks.specs.of_format.Numbers.{has_bit}
-use Rattle.bdb_ranks.specs.of_format.Page.{BtreeFields}
-use Rattle.bdb_ranks.specs.of_format.Table.{Row}
-use Rattle.bdb_ranks.specs.of_format.Verdict.{by_page, holding}
+use Rattle.bdb_ranks.specs.of_format.Terms.{BtreeFields, File, Row, StoredPair, btree_contents, by_page, counts_records, database_faults, file_of, groups}
+use Rattle.bdb_ranks.specs.of_format.Terms.{has_bit, has_duplicate, has_duplicates, has_unsorted, has_wrong_count, has_wrong_separator, has_wrong_set}
+use Rattle.bdb_ranks.specs.of_format.Terms.{holds_code, inner_pages, is_sorted, is_wrong_at, neighbours, page_at, recno_contents, tree_pairs}
+use Rattle.bdb_ranks.specs.of_format.Verdict.{holding}
 use Rattle.bdb_ranks.proofs.of_format.MemberLemmas.{filter_step, first_member, later_member, member_cases, no_member}
 use Rattle.bdb_ranks.proofs.of_format.VerdictLemmas.{IsOfStage, in_by_page, of_by_page}
-use Rattle.bdb_ranks.specs.of_format.Flags.{counts_records, has_duplicates, is_sorted}
 use Rattle.bdb_ranks.specs.of_image.Linked.{FitsTreeRoot, IsForest}
 use Rattle.bdb_btree.specs.Counts.{IsKeyed}
 use Rattle.bdb_btree.specs.Noted.{faults_at}

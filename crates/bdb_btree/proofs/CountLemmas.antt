@@ -8,15 +8,11 @@ use Rattle.std.proofs.Math.Bool.{or-false, or_assoc}
 use Rattle.std.proofs.lemmas.List.Elements.{filter-append}
 use Rattle.bdb_faults.specs.Notes.{Notes, NotesAll}
 use Rattle.bdb_faults.proofs.SinkLemmas.{notes_both, notes_none, notes_one}
-use Rattle.bdb_ranks.specs.of_format.FaultTable.{fault_if}
+use Rattle.bdb_ranks.specs.of_format.Terms.{File, Internal, InternalItem, Listed, StoredPair, children_in, fault_if, file_of, has_wrong_count, inner_pages}
+use Rattle.bdb_ranks.specs.of_format.Terms.{is_wrong_count, page_at, tree_pairs}
 use Rattle.bdb_ranks.specs.of_format.declared.rows.ContentsRow.TheVariants.{Count}
 use Rattle.bdb_ranks.specs.of_format.declared.rows.Row.TheVariants.{Contents}
 use Rattle.bdb_ranks.specs.of_format.declared.kinds.Fault.{Fault}
-use Rattle.bdb_ranks.specs.of_format.ContentRows.{has_wrong_count, inner_pages, is_wrong_count}
-use Rattle.bdb_ranks.specs.of_format.Contents.{StoredPair, tree_pairs}
-use Rattle.bdb_ranks.specs.of_format.File.{File, file_of, page_at}
-use Rattle.bdb_ranks.specs.of_format.Leaves.{children_in}
-use Rattle.bdb_ranks.specs.of_format.Page.{InternalItem, Listed, Internal}
 use Rattle.bdb_ranks.proofs.of_format.MemberLemmas.{later_member}
 use Rattle.bdb_ranks.specs.of_image.Linked.{IsForest}
 use Rattle.bdb_btree.specs.Counts.{IsKeyed, added, count_pair, counted, counts_of}

@@ -6,12 +6,7 @@ use Rattle.std.specs.List.{fold, range_with_len}
 use Rattle.std.proofs.lemmas.Bool.Decides.{nat_tests}
 use Rattle.std.proofs.lemmas.List.Sums.{fold-append}
 use Rattle.std.proofs.Math.Bool.{or-false, or_assoc}
-use Rattle.bdb_ranks.specs.of_format.Chains.{value_of}
-use Rattle.bdb_ranks.specs.of_format.Contents.{StoredPair, pair_at, pairs_of}
-use Rattle.bdb_ranks.specs.of_format.File.{File, page_at}
-use Rattle.bdb_ranks.specs.of_format.Less.{less}
-use Rattle.bdb_ranks.specs.of_format.Page.{Item, Listed, Leaf}
-use Rattle.bdb_ranks.specs.of_format.References.{is_shared_key, item_at}
+use Rattle.bdb_ranks.specs.of_format.Terms.{File, Item, Leaf, Listed, StoredPair, is_shared_key, item_at, less, page_at, pair_at, pairs_of, value_of}
 use Rattle.bdb_ranks.proofs.of_format.LessLemmas.{less_above, less_self, less_trans, same_unless_less}
 use Rattle.bdb_ranks.proofs.of_format.MemberLemmas.{first_member, later_member}
 use Rattle.bdb_btree.specs.Bounds.{Bounds, DontFall, Ends, NoneBelow, ends_of, greater_of, greatest_of, is_any_below, is_below, joined, least_of, lesser_of}

@@ -6,19 +6,13 @@ use Rattle.std.specs.List.{flat_map, fold, Contains}
 use Rattle.std.proofs.lemmas.Bool.{cases_lt, eqb-true, false_from_ne_true}
 use Rattle.std.proofs.lemmas.List.{get_or_past}
 use Rattle.bdb_ranks.specs.of_format.declared.kinds.Order.{Order}
-use Rattle.bdb_ranks.specs.of_format.Contents.{StoredPair, pairs_of, tree_pairs}
-use Rattle.bdb_ranks.specs.of_format.File.{File, file_of, page_at}
-use Rattle.bdb_ranks.specs.of_format.Leaves.{leaves, children_in}
-use Rattle.bdb_ranks.specs.of_format.Page.{Item, Listed, Page, Leaf}
+use Rattle.bdb_ranks.specs.of_format.Terms.{File, Item, Leaf, Listed, Page, StoredPair, abstract_page, children_in, file_of, is_out_of_order, leaf_item_at}
+use Rattle.bdb_ranks.specs.of_format.Terms.{leaves, less, listed, neighbours, neighbours_from, no_item, page_as, page_at, pairs_of, tree_pairs}
 use Rattle.bdb_ranks.specs.of_format.declared.pages.PageType.{PageType}
 use Rattle.bdb_ranks.specs.of_format.declared.pages.PageType.TheVariants.{Leaf as LeafPage}
-use Rattle.bdb_ranks.specs.of_format.Reading.{abstract_page, leaf_item_at, listed, page_as}
-use Rattle.bdb_ranks.specs.of_format.References.{no_item}
 use Rattle.bdb_ranks.proofs.of_format.PageLemmas.{index_offset, length_items}
 use Rattle.bdb_ranks.proofs.of_format.LeafLemmas.{leaf_item_is, one_offset}
 use Rattle.std.proofs.lemmas.List.Elements.{Contains-append_left}
-use Rattle.bdb_ranks.specs.of_format.ContentRows.{is_out_of_order, neighbours, neighbours_from}
-use Rattle.bdb_ranks.specs.of_format.Less.{less}
 use Rattle.bdb_ranks.proofs.of_format.LessLemmas.{less_above, less_not_back, less_self}
 use Rattle.bdb_ranks.proofs.of_format.ListLemmas.{flat_map_twice}
 use Rattle.bdb_ranks.proofs.of_format.MemberLemmas.{first_member, later_member, member_cases, no_member}

@@ -12,21 +12,13 @@ use Rattle.std.proofs.lemmas.List.Elements.{Contains-get_or}
 use Rattle.std.proofs.lemmas.Option.{slice_get-get_or}
 use Rattle.std.proofs.lemmas.Slice.Eq.{bytes_eq-Decides}
 use Rattle.bdb_ranks.specs.of_format.declared.metadata.BtreeMeta.{BtreeMeta}
-use Rattle.bdb_ranks.specs.of_format.Chains.{value_of}
-use Rattle.bdb_ranks.specs.of_format.ContentRows.{Separated, breaks, btree_contents, database_faults, database_rows, has_wrong_separator, inner_pages}
-use Rattle.bdb_ranks.specs.of_format.ContentRows.{no_separator, separated}
-use Rattle.bdb_ranks.specs.of_format.Contents.{StoredPair, data_of, pairs_of, tree_pairs}
-use Rattle.bdb_ranks.specs.of_format.File.{File, file_of, header_in, page_at, type_in}
-use Rattle.bdb_ranks.specs.of_format.HeadOf.{head_of}
-use Rattle.bdb_ranks.specs.of_format.Leaves.{children_in, leaves}
-use Rattle.bdb_ranks.specs.of_format.Less.{less}
-use Rattle.bdb_ranks.specs.of_format.Lists.{BytesKey, btree_list, get, listed_pair}
-use Rattle.bdb_ranks.specs.of_format.Page.{BtreeFields, InternalItem, Internal, Listed, Page, RecnoInternal}
-use Rattle.bdb_ranks.specs.of_format.References.{has_type}
-use Rattle.bdb_ranks.specs.of_format.Verdict.{holding, structure_faults}
+use Rattle.bdb_ranks.specs.of_format.Terms.{BtreeFields, BytesKey, File, Internal, InternalItem, Listed, Page, RecnoInternal, Separated, StoredPair, breaks}
+use Rattle.bdb_ranks.specs.of_format.Terms.{btree_contents, btree_list, children_in, data_of, database_faults, database_rows, file_of, get, has_type}
+use Rattle.bdb_ranks.specs.of_format.Terms.{has_wrong_separator, head_of, header_in, inner_pages, is_recno, leaves, less, listed_pair, no_separator, page_at}
+use Rattle.bdb_ranks.specs.of_format.Terms.{pairs_of, separated, structure_faults, tree_pairs, type_in, value_of}
+use Rattle.bdb_ranks.specs.of_format.Verdict.{holding}
 use Rattle.bdb_ranks.proofs.of_format.MemberLemmas.{first_member, in_flat_map, in_map, in_range, later_member, none_passes}
 use Rattle.bdb_ranks.proofs.of_format.VerdictLemmas.{AllFail, all_fail, no_codes_at}
-use Rattle.bdb_ranks.specs.of_format.Flags.{is_recno}
 use Rattle.bdb_ranks.specs.of_image.Linked.{FitsLeafPage, HasMetadata, IsForest}
 use Rattle.bdb_ranks.specs.of_slots.Slots.{no_internal_item}
 use Rattle.bdb_ranks.proofs.of_graph.LinkedLemmas.{root_fits}

@@ -6,12 +6,8 @@ use Rattle.std.proofs.lemmas.List.Elements.{All-head}
 use Rattle.std.proofs.lemmas.Simd.{map-map}
 use Rattle.bdb_faults.specs.Notes.{Notes}
 use Rattle.bdb_ranks.specs.of_format.declared.kinds.Fault.{Fault}
-use Rattle.bdb_ranks.specs.of_format.Chains.{value_of}
-use Rattle.bdb_ranks.specs.of_format.Contents.{StoredPair, pair_at, pairs_in, pairs_of, tree_pairs}
-use Rattle.bdb_ranks.specs.of_format.File.{File, file_of, page_at}
-use Rattle.bdb_ranks.specs.of_format.Leaves.{leaves}
-use Rattle.bdb_ranks.specs.of_format.Page.{Item, Listed, Leaf, Page}
-use Rattle.bdb_ranks.specs.of_format.References.{is_shared_key, no_item}
+use Rattle.bdb_ranks.specs.of_format.Terms.{File, Item, Leaf, Listed, Page, StoredPair, file_of, is_shared_key, leaves, no_item, page_at, pair_at, pairs_in}
+use Rattle.bdb_ranks.specs.of_format.Terms.{pairs_of, tree_pairs, value_of}
 use Rattle.bdb_ranks.specs.of_form.Pairs.{pair_of, pairs_from}
 use Rattle.bdb_ranks.specs.of_form.Seen.{page_seen}
 use Rattle.bdb_ranks.specs.of_form.declared.view.PageView.{PageView}

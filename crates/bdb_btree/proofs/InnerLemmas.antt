@@ -4,10 +4,7 @@ use Rattle.std.proofs.Common.{inl, inr, Option, Some, None}
 use Rattle.std.specs.List.{Contains, filter, flat_map}
 use Rattle.std.specs.Option.{is_some, unwrap_or}
 use Rattle.std.proofs.lemmas.List.Elements.{Contains-append_cases}
-use Rattle.bdb_ranks.specs.of_format.ContentRows.{inner_in, inner_pages}
-use Rattle.bdb_ranks.specs.of_format.File.{File, file_of, header_in, page_at, type_in}
-use Rattle.bdb_ranks.specs.of_format.Leaves.{children_in}
-use Rattle.bdb_ranks.specs.of_format.References.{child_types, has_type}
+use Rattle.bdb_ranks.specs.of_format.Terms.{File, child_types, children_in, file_of, has_type, header_in, inner_in, inner_pages, page_at, type_in}
 use Rattle.bdb_ranks.proofs.of_format.ListLemmas.{only_member}
 use Rattle.bdb_ranks.proofs.of_format.MemberLemmas.{no_member, of_filter, of_flat_map}
 use Rattle.bdb_ranks.specs.of_image.Linked.{IsForest}

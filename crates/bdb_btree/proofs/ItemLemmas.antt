@@ -9,12 +9,8 @@ use Rattle.bdb_ranks.specs.of_form.declared.view.PageView.{PageView}
 use Rattle.bdb_ranks.specs.of_form.declared.view.PageView.TheVariants.{Internal as InternalSeen}
 use Rattle.bdb_ranks.specs.of_form.Seen.{page_seen}
 use Rattle.bdb_ranks.specs.of_format.declared.kinds.Fault.{Fault}
-use Rattle.bdb_ranks.specs.of_format.ContentRows.{inner_pages}
-use Rattle.bdb_ranks.specs.of_format.Contents.{pairs_of, tree_pairs}
-use Rattle.bdb_ranks.specs.of_format.File.{File, file_of, header_in, page_at, type_in}
-use Rattle.bdb_ranks.specs.of_format.Leaves.{children_in, leaves}
-use Rattle.bdb_ranks.specs.of_format.Page.{InternalItem, Listed, Internal}
-use Rattle.bdb_ranks.specs.of_format.References.{has_type}
+use Rattle.bdb_ranks.specs.of_format.Terms.{File, Internal, InternalItem, Listed, children_in, file_of, has_type, header_in, inner_pages, leaves, page_at}
+use Rattle.bdb_ranks.specs.of_format.Terms.{pairs_of, tree_pairs, type_in}
 use Rattle.bdb_ranks.proofs.of_format.ListLemmas.{flat_map_twice, member_of}
 use Rattle.bdb_ranks.proofs.of_format.MemberLemmas.{in_map}
 use Rattle.bdb_ranks.proofs.of_format.TypeLemmas.{of_type}

@@ -5,7 +5,7 @@ use Rattle.std.specs.List.{Contains, flat_map, list_any}
 use Rattle.std.proofs.lemmas.Bool.{and_parts, eqb-true, eq-eqb}
 use Rattle.std.proofs.lemmas.Bool.Decides.{nat_tests}
 use Rattle.std.proofs.lemmas.List.Folds.{list_any-append}
-use Rattle.bdb_ranks.specs.of_format.FaultTable.{contents_row_code, fault_if}
+use Rattle.bdb_ranks.specs.of_format.Terms.{contents_row_code, fault_if}
 use Rattle.bdb_ranks.specs.of_format.declared.rows.ContentsRow.{ContentsRow}
 use Rattle.bdb_ranks.specs.of_format.declared.rows.Row.TheVariants.{Contents}
 use Rattle.bdb_ranks.proofs.of_format.FaultLemmas.{same_parts}

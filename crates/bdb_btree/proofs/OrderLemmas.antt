@@ -7,9 +7,8 @@ use Rattle.std.proofs.lemmas.Bool.{true≢false}
 use Rattle.std.proofs.lemmas.Bool.Decides.{nat_tests}
 use Rattle.std.proofs.lemmas.List.Sums.{fold-append, take_while-cons}
 use Rattle.std.proofs.Math.Bool.{or-true}
-use Rattle.bdb_ranks.specs.of_format.File.{File}
-use Rattle.bdb_ranks.specs.of_format.Contents.{StoredPair}
-use Rattle.bdb_ranks.specs.of_format.ContentRows.{ascends, ascends_from, has_unsorted, is_out_of_order, is_unsorted, live_data, neighbours, neighbours_from}
+use Rattle.bdb_ranks.specs.of_format.Terms.{File, StoredPair, ascends, ascends_from, has_unsorted, is_out_of_order, is_unsorted, live_data, neighbours}
+use Rattle.bdb_ranks.specs.of_format.Terms.{neighbours_from}
 use Rattle.bdb_ranks.proofs.of_format.MemberLemmas.{member_cases, no_member}
 use Rattle.bdb_btree.specs.Rows.{Passed, has_wrong_order, next_pair, no_pairs_passed, passes}
 use Rattle.bdb_btree.specs.Runs.{KeyOrder, Ascent, follow, is_not_above, is_wrong_key, next_key}

@@ -3,11 +3,8 @@ use Rattle.std.proofs.Common.{◌≡◌, ℕ, zero, suc, ◌+◌, ◌*◌, ◌/�
 use Rattle.std.proofs.Common.{subst, inl, inr, add-one, true, true≢false}
 use Rattle.std.specs.List.{Contains, flat_map, range_with_len}
 use Rattle.std.proofs.lemmas.Option.{slice_get-get_or}
-use Rattle.bdb_ranks.specs.of_format.Contents.{StoredPair, pair_at, pairs_in, pairs_of, tree_pairs}
-use Rattle.bdb_ranks.specs.of_format.File.{File, file_of, page_at}
-use Rattle.bdb_ranks.specs.of_format.Leaves.{leaves}
-use Rattle.bdb_ranks.specs.of_format.Page.{Content, Inline, Set, Chain, Tree, Unknown, Item, Listed, Page, Hash, Leaf}
-use Rattle.bdb_ranks.specs.of_format.References.{is_shared_key, item_at, no_item}
+use Rattle.bdb_ranks.specs.of_format.Terms.{Chain, Content, File, Hash, Inline, Item, Leaf, Listed, Page, Set, StoredPair, Tree, Unknown, file_of}
+use Rattle.bdb_ranks.specs.of_format.Terms.{is_shared_key, item_at, leaves, no_item, page_at, pair_at, pairs_in, pairs_of, tree_pairs}
 use Rattle.bdb_ranks.proofs.of_format.MemberLemmas.{no_member, of_flat_map, of_map, of_range}
 use Rattle.bdb_ranks.specs.of_image.Linked.{FitsLeafPage, IsForest}
 use Rattle.bdb_btree.specs.Pairs.{FitsPair, FitsSet}

@@ -1,10 +1,7 @@
 -- The root of a btree by its metadata.
 use Rattle.std.proofs.Common.{◌≡◌, ℕ, true, false, cond, List, [], ◌∷◌, refl, subst}
 use Rattle.bdb_ranks.specs.of_format.declared.metadata.BtreeMeta.{BtreeMeta}
-use Rattle.bdb_ranks.specs.of_format.File.{File, file_of, page_at, type_in}
-use Rattle.bdb_ranks.specs.of_format.Numbers.{has_bit}
-use Rattle.bdb_ranks.specs.of_format.Page.{BtreeFields}
-use Rattle.bdb_ranks.specs.of_format.References.{has_type}
+use Rattle.bdb_ranks.specs.of_format.Terms.{BtreeFields, File, file_of, has_bit, has_type, page_at, type_in}
 use Rattle.bdb_ranks.proofs.of_format.TypeLemmas.{of_type}
 use Rattle.bdb_ranks.specs.of_image.Linked.{HasMetadata, IsForest}
 use Rattle.bdb_ranks.proofs.of_tree.TreeLemmas.{meta_root_type}

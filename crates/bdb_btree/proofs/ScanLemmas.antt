@@ -2,10 +2,7 @@
 use Rattle.std.proofs.Common.{arith}
 use Rattle.std.proofs.Common.{◌≡◌, ℕ, List, [], ◌∷◌, Option, sym, ap, subst}
 use Rattle.std.specs.List.{flat_map}
-use Rattle.bdb_ranks.specs.of_format.Contents.{StoredPair, tree_pairs}
-use Rattle.bdb_ranks.specs.of_format.File.{File, file_of}
-use Rattle.bdb_ranks.specs.of_format.Lists.{ListKey, btree_list, listed_pair}
-use Rattle.bdb_ranks.specs.of_format.Verdict.{structure_faults}
+use Rattle.bdb_ranks.specs.of_format.Terms.{File, ListKey, StoredPair, btree_list, file_of, listed_pair, structure_faults, tree_pairs}
 use Rattle.bdb_ranks.specs.of_image.Linked.{FitsTreeRoot, IsForest}
 use Rattle.bdb_btree.specs.Pairs.{AreFit, left_of}
 use Rattle.bdb_btree.specs.Search.{AreOpen, entries_left}

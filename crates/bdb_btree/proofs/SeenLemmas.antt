@@ -9,16 +9,11 @@ use Rattle.std.proofs.lemmas.List.Sums.{fold-append}
 use Rattle.std.proofs.lemmas.Grind.{flat_map-append}
 use Rattle.bdb_faults.specs.Notes.{Notes, NotesAll}
 use Rattle.bdb_faults.proofs.SinkLemmas.{notes_both, notes_none, notes_one}
-use Rattle.bdb_ranks.specs.of_format.FaultTable.{fault_if}
+use Rattle.bdb_ranks.specs.of_format.Terms.{File, Internal, InternalItem, Listed, StoredPair, children_in, fault_if, file_of, has_wrong_separator, inner_pages}
+use Rattle.bdb_ranks.specs.of_format.Terms.{page_at, separated, tree_pairs, value_of}
 use Rattle.bdb_ranks.specs.of_format.declared.rows.ContentsRow.TheVariants.{Separator}
 use Rattle.bdb_ranks.specs.of_format.declared.rows.Row.TheVariants.{Contents}
 use Rattle.bdb_ranks.specs.of_format.declared.kinds.Fault.{Fault}
-use Rattle.bdb_ranks.specs.of_format.Chains.{value_of}
-use Rattle.bdb_ranks.specs.of_format.ContentRows.{has_wrong_separator, inner_pages, separated}
-use Rattle.bdb_ranks.specs.of_format.Contents.{StoredPair, tree_pairs}
-use Rattle.bdb_ranks.specs.of_format.File.{File, file_of, page_at}
-use Rattle.bdb_ranks.specs.of_format.Leaves.{children_in}
-use Rattle.bdb_ranks.specs.of_format.Page.{InternalItem, Listed, Internal}
 use Rattle.bdb_ranks.specs.of_image.Linked.{IsForest}
 use Rattle.bdb_ranks.proofs.of_overflow.ContentLemmas.{got}
 use Rattle.bdb_btree.specs.Bounds.{Bounds, beyond, bounds_of, ends_of, joined, no_bounds, no_ends, past, see_item, see_items, under, under_ends, under_pair}

@@ -10,8 +10,7 @@ use Rattle.std.proofs.lemmas.List.Sums.{fold-append}
 use Rattle.std.proofs.lemmas.Grind.{flat_map-append}
 use Rattle.std.proofs.lemmas.Bool.Decides.{nat_tests}
 use Rattle.std.proofs.Math.Bool.{or-false, or_assoc}
-use Rattle.bdb_ranks.specs.of_format.Less.{less}
-use Rattle.bdb_ranks.specs.of_format.ContentRows.{Separated, breaks, no_separator}
+use Rattle.bdb_ranks.specs.of_format.Terms.{Separated, breaks, less, no_separator}
 use Rattle.bdb_ranks.proofs.of_format.MemberLemmas.{in_range, none_pass, none_passes, of_range}
 use Rattle.bdb_btree.specs.Bounds.{Bounds, bounds_of, greater_of, is_below, no_bounds, past, under}
 use Rattle.bdb_btree.specs.Runs.{is_not_above}

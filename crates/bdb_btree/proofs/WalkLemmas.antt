@@ -5,11 +5,8 @@ use Rattle.std.proofs.Common.{ap}
 use Rattle.std.specs.List.{Contains, flat_map, range_with_len}
 use Rattle.std.proofs.lemmas.Option.{slice_get-get_or}
 use Rattle.std.proofs.lemmas.Simd.{map-map}
-use Rattle.bdb_ranks.specs.of_format.Contents.{pair_at, pairs_in, pairs_of, tree_pairs, StoredPair}
-use Rattle.bdb_ranks.specs.of_format.File.{File, file_of, page_at}
-use Rattle.bdb_ranks.specs.of_format.Leaves.{leaves}
-use Rattle.bdb_ranks.specs.of_format.Page.{Item, Listed, Leaf}
-use Rattle.bdb_ranks.specs.of_format.References.{is_shared_key, item_at, no_item}
+use Rattle.bdb_ranks.specs.of_format.Terms.{File, Item, Leaf, Listed, StoredPair, file_of, is_shared_key, item_at, leaves, no_item, page_at, pair_at, pairs_in}
+use Rattle.bdb_ranks.specs.of_format.Terms.{pairs_of, tree_pairs}
 use Rattle.bdb_ranks.proofs.of_format.MemberLemmas.{first_member, later_member}
 use Rattle.bdb_ranks.specs.of_form.Pairs.{pair_of, pairs_from}
 use Rattle.bdb_ranks.specs.of_form.Seen.{page_seen}

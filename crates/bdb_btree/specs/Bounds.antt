@@ -1,14 +1,9 @@
 -- What is kept of an internal page while its items are gone through: enough to decide its separators.
 use Rattle.std.specs.Prelude.{◌≡◌, ℕ, ◌||◌, if◌then◌else◌, Bool, true, false, List, [], ◌∷◌, Option, Some, None}
 use Rattle.std.specs.List.{Contains, fold, slice_get}
-use Rattle.bdb_ranks.specs.of_format.Chains.{value_of}
-use Rattle.bdb_ranks.specs.of_format.Page.{InternalItem}
+use Rattle.bdb_ranks.specs.of_format.Terms.{File, InternalItem, Separated, StoredPair, less, tree_pairs, value_of}
 use Rattle.bdb_ranks.specs.of_overflow.Datum.{FitsContent}
 use Rattle.bdb_ranks.specs.of_tree.Trees.{IsTreePage}
-use Rattle.bdb_ranks.specs.of_format.Less.{less}
-use Rattle.bdb_ranks.specs.of_format.ContentRows.{Separated}
-use Rattle.bdb_ranks.specs.of_format.Contents.{StoredPair, tree_pairs}
-use Rattle.bdb_ranks.specs.of_format.File.{File}
 use Rattle.bdb_btree.specs.Runs.{is_not_above}
 
 -- the key of the last item above index 0, the greatest of the keys below the items so far, and whether a condition failed

@@ -1,9 +1,7 @@
 -- How many pairs are below an item, live ones and all, counted up to the greatest number of 64 bits.
 use Rattle.std.specs.Prelude.{ℕ, ◌+◌, ◌-◌, ◌^◌, min, if◌then◌else◌, IsTrue, List, [], ◌∷◌, length}
 use Rattle.std.specs.List.{filter}
-use Rattle.bdb_ranks.specs.of_format.Contents.{StoredPair}
-use Rattle.bdb_ranks.specs.of_format.File.{File, page_at, type_in}
-use Rattle.bdb_ranks.specs.of_format.References.{has_type}
+use Rattle.bdb_ranks.specs.of_format.Terms.{File, StoredPair, has_type, page_at, type_in}
 use Rattle.bdb_btree.specs.declared.counts.Counts.{Counts}
 
 abbrev pub counted : ℕ → ℕ

@@ -2,12 +2,7 @@
 use Rattle.std.specs.Prelude.{ℕ, not, Bool, true, List, [], ◌++◌, map, Option}
 use Rattle.std.specs.List.{flat_map}
 use Rattle.std.specs.Option.{option_map}
-use Rattle.bdb_ranks.specs.of_format.Chains.{value_of}
-use Rattle.bdb_ranks.specs.of_format.Contents.{StoredPair}
-use Rattle.bdb_ranks.specs.of_format.File.{File, page_at}
-use Rattle.bdb_ranks.specs.of_format.Leaves.{leaves}
-use Rattle.bdb_ranks.specs.of_format.Page.{Item, Page, Leaf}
-use Rattle.bdb_ranks.specs.of_format.References.{no_item}
+use Rattle.bdb_ranks.specs.of_format.Terms.{File, Item, Leaf, Page, StoredPair, leaves, no_item, page_at, value_of}
 use Rattle.bdb_ranks.specs.of_form.Pairs.{PairOf, pairs_from}
 use Rattle.bdb_ranks.specs.of_layout.Seen.{leaf_item_seen}
 use Rattle.bdb_ranks.specs.of_overflow.Datum.{FitsContent}

@@ -1,10 +1,7 @@
 -- Pairs as the code has them, and what is left of a walk over them. Source: docs/FORMAT.md, "Items".
 use Rattle.std.specs.Prelude.{ℕ, not, List, [], ◌∷◌, ◌++◌, Option, Some, None}
 use Rattle.std.specs.List.{flat_map}
-use Rattle.bdb_ranks.specs.of_format.Chains.{value_of}
-use Rattle.bdb_ranks.specs.of_format.File.{File}
-use Rattle.bdb_ranks.specs.of_format.Page.{Content, Inline, Set, Chain, Tree, Unknown, Item}
-use Rattle.bdb_ranks.specs.of_format.Contents.{StoredPair, pairs_of}
+use Rattle.bdb_ranks.specs.of_format.Terms.{Chain, Content, File, Inline, Item, Set, StoredPair, Tree, Unknown, pairs_of, value_of}
 use Rattle.bdb_ranks.specs.of_form.Pairs.{PairOf}
 use Rattle.bdb_ranks.specs.of_layout.Seen.{leaf_item_seen}
 use Rattle.bdb_ranks.specs.of_image.Linked.{FitsDupRoot, FitsLeafPage}

@@ -1,13 +1,10 @@
 -- The rows on the pairs of a btree, pair after pair.
 use Rattle.std.specs.Prelude.{ℕ, ◌==◌, ◌&&◌, ◌++◌, not, if◌then◌else◌, Bool, false, true, List, [], ◌∷◌, None}
 use Rattle.std.specs.List.{flat_map, list_any}
-use Rattle.bdb_ranks.specs.of_format.FaultTable.{fault_if}
+use Rattle.bdb_ranks.specs.of_format.Terms.{File, StoredPair, fault_if, is_duplicate, is_out_of_order, is_wrong_set, neighbours}
 use Rattle.bdb_ranks.specs.of_format.declared.rows.ContentsRow.TheVariants.{Duplicates, DuplicateKind, KeyOrder, DuplicateOrder}
 use Rattle.bdb_ranks.specs.of_format.declared.rows.Row.TheVariants.{Contents}
 use Rattle.bdb_ranks.specs.of_format.declared.kinds.Fault.{Fault}
-use Rattle.bdb_ranks.specs.of_format.ContentRows.{is_duplicate, is_out_of_order, is_wrong_set, neighbours}
-use Rattle.bdb_ranks.specs.of_format.Contents.{StoredPair}
-use Rattle.bdb_ranks.specs.of_format.File.{File}
 use Rattle.bdb_btree.specs.Runs.{KeyOrder as KeysPassed, Ascent, next_data, next_key}
 use Rattle.bdb_btree.specs.declared.pair_rows.Rules.{Rules}
 

@@ -1,10 +1,7 @@
 -- Values that ought to ascend, one after another: keys of pairs, and the live data of pairs that share a key.
 use Rattle.std.specs.Prelude.{ℕ, ◌&&◌, ◌||◌, not, if◌then◌else◌, Bool, false, List, Option, Some, None}
 use Rattle.std.specs.List.{fold}
-use Rattle.bdb_ranks.specs.of_format.Less.{less}
-use Rattle.bdb_ranks.specs.of_format.File.{File}
-use Rattle.bdb_ranks.specs.of_format.Contents.{StoredPair}
-use Rattle.bdb_ranks.specs.of_format.ContentRows.{live_data}
+use Rattle.bdb_ranks.specs.of_format.Terms.{File, StoredPair, less, live_data}
 
 -- a value isn't above the one before it, where there is one
 abbrev pub is_not_above : Option (List ℕ) → List ℕ → Bool

@@ -3,13 +3,7 @@ use Rattle.std.specs.Prelude.{◌≡◌, ℕ, if◌then◌else◌, Bool, List, [
 use Rattle.std.specs.List.{flat_map}
 use Rattle.std.specs.Option.{option_to_list}
 use Rattle.std.specs.Str.{bytes_eq}
-use Rattle.bdb_ranks.specs.of_format.Chains.{value_of}
-use Rattle.bdb_ranks.specs.of_format.Contents.{StoredPair, data_of}
-use Rattle.bdb_ranks.specs.of_format.File.{File}
-use Rattle.bdb_ranks.specs.of_format.Less.{less}
-use Rattle.bdb_ranks.specs.of_format.Lists.{ListKey, BytesKey, listed_pair}
-use Rattle.bdb_ranks.specs.of_format.Page.{InternalItem}
-use Rattle.bdb_ranks.specs.of_format.Verdict.{structure_faults}
+use Rattle.bdb_ranks.specs.of_format.Terms.{BytesKey, File, InternalItem, ListKey, StoredPair, data_of, less, listed_pair, structure_faults, value_of}
 use Rattle.bdb_ranks.specs.of_overflow.Datum.{datum_seen, key_view_seen}
 use Rattle.bdb_ranks.specs.of_overflow.declared.datum.Datum.{Datum}
 use Rattle.bdb_ranks.specs.of_overflow.declared.datum.KeyView.{KeyView}

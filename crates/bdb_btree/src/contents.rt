@@ -2,11 +2,8 @@ ghost use Rattle.std.specs.Prelude.{◌≡◌, [], false, IfErr, OnOk, if◌then
 ghost use Rattle.bdb_ranks.specs.of_image.Linked.{FitsTreeRoot, HasMetadata, IsForest};
 ghost use Rattle.bdb_faults.specs.Notes.{HasNoted};
 ghost use Rattle.bdb_faults.specs.Notes.{NotesAll};
-ghost use Rattle.bdb_ranks.specs.of_format.ContentRows.{database_faults, has_wrong_count, inner_pages};
-ghost use Rattle.bdb_ranks.specs.of_format.File.{file_of, page_at};
-ghost use Rattle.bdb_ranks.specs.of_format.Page.{BtreeFields};
-ghost use Rattle.bdb_ranks.specs.of_format.Verdict.{structure_faults, IsFirstOf};
-ghost use Rattle.bdb_ranks.specs.of_format.Flags.{is_recno};
+ghost use Rattle.bdb_ranks.specs.of_format.Terms.{BtreeFields, IsFirstOf, database_faults, file_of, has_wrong_count, inner_pages, is_recno, page_at};
+ghost use Rattle.bdb_ranks.specs.of_format.Terms.{structure_faults};
 ghost use Rattle.bdb_btree.specs.Counts.{IsKeyed};
 ghost use Rattle.bdb_btree.specs.Noted.{faults_at};
 ghost use Rattle.bdb_ranks.specs.of_format.declared.rows.ContentsRow.TheVariants.{Count};

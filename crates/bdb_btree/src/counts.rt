@@ -1,9 +1,7 @@
 ghost use Rattle.std.specs.Prelude.{◌≡◌, ◌||◌, nat_lt, IfOk, OnOk};
 ghost use Rattle.std.specs.List.{fold};
 ghost use Rattle.bdb_ranks.specs.of_image.Linked.{FitsLeafPage};
-ghost use Rattle.bdb_ranks.specs.of_format.ContentRows.{has_wrong_count, inner_pages};
-ghost use Rattle.bdb_ranks.specs.of_format.Contents.{pairs_of, tree_pairs};
-ghost use Rattle.bdb_ranks.specs.of_format.File.{file_of, page_at};
+ghost use Rattle.bdb_ranks.specs.of_format.Terms.{file_of, has_wrong_count, inner_pages, page_at, pairs_of, tree_pairs};
 ghost use Rattle.bdb_btree.specs.Counts.{IsKeyed, added, count_pair, counts_of};
 ghost use Rattle.bdb_btree.specs.Noted.{faults_at};
 ghost use Rattle.bdb_ranks.specs.of_format.declared.rows.ContentsRow.TheVariants.{Count};

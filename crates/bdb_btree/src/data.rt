@@ -1,9 +1,7 @@
 ghost use Rattle.std.specs.Prelude.{◌≡◌, []};
 ghost use Rattle.std.specs.Iterator.{YieldsFirstBy, item_count};
 ghost use Rattle.bdb_ranks.specs.of_layout.Seen.{leaf_item_seen};
-ghost use Rattle.bdb_ranks.specs.of_format.Contents.{data_of};
-ghost use Rattle.bdb_ranks.specs.of_format.File.{file_of};
-ghost use Rattle.bdb_ranks.specs.of_format.Verdict.{structure_faults};
+ghost use Rattle.bdb_ranks.specs.of_format.Terms.{data_of, file_of, structure_faults};
 ghost use Rattle.bdb_ranks.specs.of_overflow.Datum.{FitsContent, datum_seen};
 ghost use Rattle.bdb_btree.specs.Pairs.{FitsSet, left_of};
 

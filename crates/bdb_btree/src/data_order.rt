@@ -6,10 +6,7 @@ ghost use Rattle.bdb_btree.specs.Runs.{follow, next_data};
 ghost use Rattle.bdb_ranks.specs.of_overflow.Datum.{FitsContent};
 ghost use Rattle.bdb_ranks.specs.of_overflow.Held.{FitsAny, FitsHeld, value_held};
 ghost use Rattle.bdb_ranks.specs.of_layout.Seen.{leaf_item_seen};
-ghost use Rattle.bdb_ranks.specs.of_format.Contents.{data_of};
-ghost use Rattle.bdb_ranks.specs.of_format.File.{file_of};
-ghost use Rattle.bdb_ranks.specs.of_format.Page.{Tree};
-ghost use Rattle.bdb_ranks.specs.of_format.Verdict.{structure_faults};
+ghost use Rattle.bdb_ranks.specs.of_format.Terms.{Tree, data_of, file_of, structure_faults};
 ghost use Rattle.bdb_ranks.specs.of_image.Linked.{FitsDupRoot};
 
 use crate::held::HeldPair;

@@ -2,8 +2,7 @@ ghost use Rattle.std.specs.Prelude.{◌≡◌};
 ghost use Rattle.bdb_btree.specs.Held.{pair_held, without_key};
 ghost use Rattle.bdb_btree.specs.Pairs.{FitsSet};
 ghost use Rattle.bdb_ranks.specs.of_layout.Seen.{leaf_item_seen};
-ghost use Rattle.bdb_ranks.specs.of_format.ContentRows.{is_duplicate, is_wrong_set};
-ghost use Rattle.bdb_ranks.specs.of_format.File.{file_of};
+ghost use Rattle.bdb_ranks.specs.of_format.Terms.{file_of, is_duplicate, is_wrong_set};
 
 use crate::held::HeldPair;
 use bdb_ranks::{Forest, LeafItem, is_wrong_root};

@@ -1,7 +1,6 @@
 ghost use Rattle.std.specs.Prelude.{◌≡◌, IfOk, OnOk, Some};
 ghost use Rattle.std.specs.Option.{option_map};
-ghost use Rattle.bdb_ranks.specs.of_format.Contents.{tree_pairs};
-ghost use Rattle.bdb_ranks.specs.of_format.File.{File, file_of};
+ghost use Rattle.bdb_ranks.specs.of_format.Terms.{File, file_of, tree_pairs};
 ghost use Rattle.bdb_ranks.specs.of_image.Linked.{FitsLeafPage};
 ghost use Rattle.bdb_ranks.specs.of_overflow.Held.{FitsAny, FitsHeld, value_held};
 ghost use Rattle.bdb_btree.specs.Bounds.{DontFall, OrderedIf, ends_of, greater_of, joined, lesser_of, no_ends, widen};

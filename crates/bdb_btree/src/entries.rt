@@ -1,9 +1,7 @@
 ghost use Rattle.std.specs.Prelude.{◌≡◌, [], ◌∷◌, IfSome};
 ghost use Rattle.std.specs.List.{flat_map};
 ghost use Rattle.std.specs.Iterator.{YieldsFirstBy, item_count};
-ghost use Rattle.bdb_ranks.specs.of_format.File.{File, file_of};
-ghost use Rattle.bdb_ranks.specs.of_format.Lists.{listed_pair};
-ghost use Rattle.bdb_ranks.specs.of_format.Verdict.{structure_faults};
+ghost use Rattle.bdb_ranks.specs.of_format.Terms.{File, file_of, listed_pair, structure_faults};
 ghost use Rattle.bdb_btree.specs.Pairs.{FitsPair, left_of, pair_seen};
 ghost use Rattle.bdb_btree.specs.Search.{AreOpen, entry_seen};
 
@@ -31,7 +29,7 @@ impl Drop for Entries<'_> {
 
 impl<'a> Model for Entries<'a> {
     ghost use Rattle.std.specs.Prelude.{List, ℕ};
-    ghost use Rattle.bdb_ranks.specs.of_format.Lists.{ListKey};
+    ghost use Rattle.bdb_ranks.specs.of_format.Terms.{ListKey};
 
     ghost Value = { List (ListKey × List ℕ) };
 
@@ -114,8 +112,7 @@ impl Drop for Scan<'_> {
 
 impl<'a> Model for Scan<'a> {
     ghost use Rattle.std.specs.Prelude.{List, ℕ};
-    ghost use Rattle.bdb_ranks.specs.of_format.File.{file_of};
-    ghost use Rattle.bdb_ranks.specs.of_format.Lists.{ListKey};
+    ghost use Rattle.bdb_ranks.specs.of_format.Terms.{ListKey, file_of};
 
     ghost Value = { List (ListKey × List ℕ) };
 

@@ -2,9 +2,7 @@ ghost use Rattle.std.specs.Prelude.{◌≡◌, ◌∷◌, [], MatchOption};
 ghost use Rattle.std.specs.Iterator.{YieldsFirstBy, item_count};
 ghost use Rattle.std.specs.List.{flat_map};
 ghost use Rattle.bdb_ranks.specs.of_image.Linked.{FitsLeafPage};
-ghost use Rattle.bdb_ranks.specs.of_format.Contents.{pairs_of};
-ghost use Rattle.bdb_ranks.specs.of_format.File.{file_of};
-ghost use Rattle.bdb_ranks.specs.of_format.Verdict.{structure_faults};
+ghost use Rattle.bdb_ranks.specs.of_format.Terms.{file_of, pairs_of, structure_faults};
 ghost use Rattle.bdb_ranks.specs.of_overflow.Datum.{datum_seen};
 ghost use Rattle.bdb_btree.specs.Pairs.{FitsPair, left_of, pair_seen};
 ghost use Rattle.bdb_btree.specs.Search.{AreOpen, data_under, from_key};
@@ -71,7 +69,7 @@ impl Drop for Found<'_> {
 
 impl<'a> Model for Found<'a> {
     ghost use Rattle.std.specs.Prelude.{List, ℕ};
-    ghost use Rattle.bdb_ranks.specs.of_format.File.{file_of};
+    ghost use Rattle.bdb_ranks.specs.of_format.Terms.{file_of};
 
     ghost Value = { List (List ℕ) };
 

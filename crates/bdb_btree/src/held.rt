@@ -1,7 +1,6 @@
 ghost use Rattle.std.specs.Prelude.{◌≡◌, []};
 ghost use Rattle.std.specs.Iterator.{YieldsFirstBy, item_count};
-ghost use Rattle.bdb_ranks.specs.of_format.File.{file_of};
-ghost use Rattle.bdb_ranks.specs.of_format.Verdict.{structure_faults};
+ghost use Rattle.bdb_ranks.specs.of_format.Terms.{file_of, structure_faults};
 ghost use Rattle.bdb_ranks.specs.of_image.Linked.{FitsLeafPage, IsForest};
 ghost use Rattle.bdb_btree.specs.Held.{items_of, pair_held, tree_items};
 ghost use Rattle.bdb_btree.specs.Pairs.{AreLeaves, left_of};
@@ -102,7 +101,7 @@ impl Drop for HeldPairs<'_> {
 
 impl<'a> Model for HeldPairs<'a> {
     ghost use Rattle.std.specs.Prelude.{List};
-    ghost use Rattle.bdb_ranks.specs.of_format.File.{file_of};
+    ghost use Rattle.bdb_ranks.specs.of_format.Terms.{file_of};
     ghost use Rattle.bdb_btree.specs.Held.{ItemPair, items_left};
     ghost use Rattle.bdb_btree.specs.Pairs.{AreLeaves};
 

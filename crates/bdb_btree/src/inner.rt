@@ -1,6 +1,5 @@
 ghost use Rattle.std.specs.Prelude.{◌≡◌, IfSome, None};
-ghost use Rattle.bdb_ranks.specs.of_format.File.{file_of, page_at};
-ghost use Rattle.bdb_ranks.specs.of_format.Page.{Internal};
+ghost use Rattle.bdb_ranks.specs.of_format.Terms.{Internal, file_of, page_at};
 ghost use Rattle.bdb_ranks.specs.of_image.Linked.{FitsLeafPage, IsForest};
 ghost use Rattle.bdb_btree.specs.Counts.{IsKeyed};
 

@@ -1,9 +1,6 @@
 ghost use Rattle.std.specs.Prelude.{◌≡◌, [], map};
 ghost use Rattle.bdb_ranks.specs.of_image.Linked.{HasMetadata};
-ghost use Rattle.bdb_ranks.specs.of_format.Contents.{tree_pairs};
-ghost use Rattle.bdb_ranks.specs.of_format.File.{file_of};
-ghost use Rattle.bdb_ranks.specs.of_format.Page.{BtreeFields};
-ghost use Rattle.bdb_ranks.specs.of_format.Verdict.{structure_faults};
+ghost use Rattle.bdb_ranks.specs.of_format.Terms.{BtreeFields, file_of, structure_faults, tree_pairs};
 ghost use Rattle.bdb_btree.specs.Held.{AreKeyed, stored_as};
 ghost use Rattle.bdb_btree.specs.Pairs.{AreFit};
 ghost use Rattle.bdb_ranks.specs.of_image.Linked.{IsForest};

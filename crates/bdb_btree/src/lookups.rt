@@ -1,11 +1,7 @@
 ghost use Rattle.std.specs.Prelude.{◌≡◌, ◌+◌, [], false};
 ghost use Rattle.bdb_ranks.specs.of_image.Linked.{HasMetadata};
-ghost use Rattle.bdb_ranks.specs.of_format.ContentRows.{database_faults};
-ghost use Rattle.bdb_ranks.specs.of_format.File.{file_of, header_in, page_at};
-ghost use Rattle.bdb_ranks.specs.of_format.Lists.{BytesKey, btree_list, get};
-ghost use Rattle.bdb_ranks.specs.of_format.Page.{BtreeFields};
-ghost use Rattle.bdb_ranks.specs.of_format.Verdict.{structure_faults};
-ghost use Rattle.bdb_ranks.specs.of_format.Flags.{is_recno};
+ghost use Rattle.bdb_ranks.specs.of_format.Terms.{BtreeFields, BytesKey, btree_list, database_faults, file_of, get, header_in, is_recno, page_at};
+ghost use Rattle.bdb_ranks.specs.of_format.Terms.{structure_faults};
 
 use crate::entries::Scan;
 use crate::found::{Found, found_on};

@@ -1,7 +1,6 @@
 ghost use Rattle.std.specs.Prelude.{◌≡◌, IfOk, None, OnOk, false, true};
 ghost use Rattle.std.specs.Option.{option_map};
-ghost use Rattle.bdb_ranks.specs.of_format.File.{file_of};
-ghost use Rattle.bdb_ranks.specs.of_format.Less.{less};
+ghost use Rattle.bdb_ranks.specs.of_format.Terms.{file_of, less};
 ghost use Rattle.bdb_btree.specs.Held.{keys_seen, pair_held, stored_as};
 ghost use Rattle.bdb_btree.specs.Runs.{is_not_above, next_key};
 ghost use Rattle.bdb_ranks.specs.of_overflow.Datum.{FitsContent};

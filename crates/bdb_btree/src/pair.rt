@@ -1,8 +1,5 @@
 ghost use Rattle.std.specs.Prelude.{◌≡◌, ◌*◌, ◌<◌, ◌≤◌, length};
-ghost use Rattle.bdb_ranks.specs.of_format.Chains.{value_of};
-ghost use Rattle.bdb_ranks.specs.of_format.File.{file_of, page_at};
-ghost use Rattle.bdb_ranks.specs.of_format.Page.{Leaf};
-ghost use Rattle.bdb_ranks.specs.of_format.References.{item_at};
+ghost use Rattle.bdb_ranks.specs.of_format.Terms.{Leaf, file_of, item_at, page_at, value_of};
 ghost use Rattle.bdb_ranks.specs.of_form.Pairs.{pair_seen as view_seen};
 ghost use Rattle.bdb_ranks.specs.of_image.Linked.{IsForest};
 ghost use Rattle.bdb_btree.specs.Pairs.{pair_seen, stored_pair};

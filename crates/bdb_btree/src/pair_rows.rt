@@ -1,10 +1,7 @@
 ghost use Rattle.std.specs.Prelude.{◌≡◌, ◌&&◌, [], IfOk, OnOk, not};
 ghost use Rattle.bdb_ranks.specs.of_image.Linked.{FitsTreeRoot};
 ghost use Rattle.bdb_faults.specs.Notes.{Notes};
-ghost use Rattle.bdb_ranks.specs.of_format.ContentRows.{is_duplicate};
-ghost use Rattle.bdb_ranks.specs.of_format.Contents.{tree_pairs};
-ghost use Rattle.bdb_ranks.specs.of_format.File.{File, file_of};
-ghost use Rattle.bdb_ranks.specs.of_format.Verdict.{structure_faults};
+ghost use Rattle.bdb_ranks.specs.of_format.Terms.{File, file_of, is_duplicate, structure_faults, tree_pairs};
 ghost use Rattle.bdb_ranks.specs.of_overflow.Datum.{FitsContent};
 ghost use Rattle.bdb_btree.specs.Bounds.{OrderedIf};
 ghost use Rattle.bdb_btree.specs.Held.{FitsPassed, pair_held, passed_seen, stored_as, without_key};

@@ -1,9 +1,6 @@
 ghost use Rattle.std.specs.Prelude.{◌≡◌, IfOk, OnOk, if◌then◌else◌};
 ghost use Rattle.std.specs.Option.{option_map};
-ghost use Rattle.bdb_ranks.specs.of_format.Chains.{value_of};
-ghost use Rattle.bdb_ranks.specs.of_format.ContentRows.{has_wrong_separator, inner_pages};
-ghost use Rattle.bdb_ranks.specs.of_format.Contents.{tree_pairs};
-ghost use Rattle.bdb_ranks.specs.of_format.File.{File, file_of, page_at};
+ghost use Rattle.bdb_ranks.specs.of_format.Terms.{File, file_of, has_wrong_separator, inner_pages, page_at, tree_pairs, value_of};
 ghost use Rattle.bdb_ranks.specs.of_overflow.Datum.{FitsContent};
 ghost use Rattle.bdb_ranks.specs.of_overflow.Held.{FitsAny, FitsHeld, value_held};
 ghost use Rattle.bdb_ranks.specs.of_layout.Seen.{internal_item_seen, key_seen};

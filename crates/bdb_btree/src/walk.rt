@@ -1,9 +1,7 @@
 ghost use Rattle.std.specs.Prelude.{◌≡◌, []};
 ghost use Rattle.std.specs.List.{flat_map};
 ghost use Rattle.std.specs.Iterator.{YieldsFirstBy, item_count};
-ghost use Rattle.bdb_ranks.specs.of_format.Contents.{pairs_of, tree_pairs};
-ghost use Rattle.bdb_ranks.specs.of_format.Verdict.{structure_faults};
-ghost use Rattle.bdb_ranks.specs.of_format.File.{file_of};
+ghost use Rattle.bdb_ranks.specs.of_format.Terms.{file_of, pairs_of, structure_faults, tree_pairs};
 ghost use Rattle.bdb_ranks.specs.of_image.Linked.{FitsLeafPage, IsForest};
 ghost use Rattle.bdb_btree.specs.Pairs.{AreLeaves, left_of, pair_seen};
 ghost use Rattle.bdb_ranks.specs.of_tree.Trees.{IsRoot};
@@ -32,8 +30,7 @@ impl Drop for PagePairs<'_> {
 
 impl<'a> Model for PagePairs<'a> {
     ghost use Rattle.std.specs.Prelude.{List, map};
-    ghost use Rattle.bdb_ranks.specs.of_format.Contents.{StoredPair};
-    ghost use Rattle.bdb_ranks.specs.of_format.File.{file_of};
+    ghost use Rattle.bdb_ranks.specs.of_format.Terms.{StoredPair, file_of};
 
     ghost Value = { List StoredPair };
 
@@ -102,8 +99,7 @@ impl Drop for Pairs<'_> {
 
 impl<'a> Model for Pairs<'a> {
     ghost use Rattle.std.specs.Prelude.{List};
-    ghost use Rattle.bdb_ranks.specs.of_format.Contents.{StoredPair};
-    ghost use Rattle.bdb_ranks.specs.of_format.File.{file_of};
+    ghost use Rattle.bdb_ranks.specs.of_format.Terms.{StoredPair, file_of};
 
     ghost Value = { List StoredPair };
 

@@ -1,9 +1,6 @@
 ghost use Rattle.std.specs.Prelude.{◌≡◌, ◌+◌, [], false};
 ghost use Rattle.bdb_ranks.specs.of_image.Linked.{FitsLeafPage, HasMetadata, IsForest};
-ghost use Rattle.bdb_ranks.specs.of_format.ContentRows.{database_faults};
-ghost use Rattle.bdb_ranks.specs.of_format.File.{file_of, header_in, page_at};
-ghost use Rattle.bdb_ranks.specs.of_format.Flags.{is_recno};
-ghost use Rattle.bdb_ranks.specs.of_format.Page.{BtreeFields};
+ghost use Rattle.bdb_ranks.specs.of_format.Terms.{BtreeFields, database_faults, file_of, header_in, is_recno, page_at};
 ghost use Rattle.bdb_ranks.specs.of_overflow.Datum.{FitsContent};
 ghost use Rattle.bdb_ranks.specs.of_tree.Descent.{descent};
 ghost use Rattle.bdb_btree.specs.Search.{is_below};

@@ -11,15 +11,9 @@ use Rattle.bdb_tree.specs.of_format.declared.metadata.Head.{Head}
 use Rattle.bdb_tree.specs.of_format.declared.metadata.HashMeta.{HashMeta}
 use Rattle.bdb_tree.specs.of_format.declared.references.Sort.{Sort}
 use Rattle.bdb_tree.specs.of_format.declared.references.Sort.TheVariants.{Bucket, HashNext}
-use Rattle.bdb_tree.specs.of_format.Chains.{chain_in, next_of}
-use Rattle.bdb_tree.specs.of_format.Contents.{bucket_pages, pairs_of}
-use Rattle.bdb_tree.specs.of_format.File.{File, file_of, header_in, page_at, type_in}
-use Rattle.bdb_tree.specs.of_format.Graph.{Owner}
-use Rattle.bdb_tree.specs.of_format.Hashing.{first_page}
-use Rattle.bdb_tree.specs.of_format.HeadOf.{head_of}
-use Rattle.bdb_tree.specs.of_format.Page.{BtreeFields, HashFields, QueueFields, Item, Listed, Page, Zero, Meta, Hash}
-use Rattle.bdb_tree.specs.of_format.References.{asked_by, fit_code, fit_rows, has_type, is_zero_page, no_item, unless_zero, content_targets, contents_in}
-use Rattle.bdb_tree.specs.of_format.Verdict.{structure_faults, faults_in}
+use Rattle.bdb_tree.specs.of_format.Terms.{BtreeFields, File, Hash, HashFields, Item, Listed, Meta, Owner, Page, QueueFields, Zero, asked_by, bucket_pages}
+use Rattle.bdb_tree.specs.of_format.Terms.{chain_in, content_targets, contents_in, faults_in, file_of, first_page, fit_code, fit_rows, has_type, head_of}
+use Rattle.bdb_tree.specs.of_format.Terms.{header_in, is_zero_page, next_of, no_item, page_at, pairs_of, structure_faults, type_in, unless_zero}
 use Rattle.bdb_tree.proofs.of_format.GraphLemmas.{each_fits}
 use Rattle.bdb_tree.proofs.of_format.MemberLemmas.{first_member}
 use Rattle.bdb_tree.proofs.of_format.VerdictLemmas.{AllFail, none_is_first_row}

@@ -4,10 +4,8 @@ use Rattle.std.specs.List.{Contains}
 use Rattle.bdb_tree.specs.of_image.Linked.{HasMetadata}
 use Rattle.bdb_tree.specs.of_format.declared.kinds.Fault.{Fault}
 use Rattle.bdb_tree.specs.of_format.declared.metadata.HashMeta.{HashMeta}
-use Rattle.bdb_tree.specs.of_format.ContentRows.{database_faults, database_rows, hash_contents, repeated}
-use Rattle.bdb_tree.specs.of_format.Contents.{StoredPair, bucket_pairs, table_pairs}
-use Rattle.bdb_tree.specs.of_format.File.{File, file_of}
-use Rattle.bdb_tree.specs.of_format.Page.{HashFields}
+use Rattle.bdb_tree.specs.of_format.Terms.{File, HashFields, StoredPair, bucket_pairs, database_faults, database_rows, file_of, hash_contents, repeated}
+use Rattle.bdb_tree.specs.of_format.Terms.{table_pairs}
 use Rattle.bdb_tree.specs.of_format.Verdict.{holding}
 use Rattle.bdb_tree.proofs.of_format.MemberLemmas.{of_flat_map, of_range}
 use Rattle.bdb_tree.proofs.of_format.VerdictLemmas.{in_by_page}

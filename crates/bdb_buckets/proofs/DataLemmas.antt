@@ -1,9 +1,7 @@
 -- The data of a pair that is one value.
 use Rattle.std.proofs.Common.{◌≡◌, ℕ, List, [], ◌∷◌, refl}
 use Rattle.std.specs.Prelude.{Option, Some, None}
-use Rattle.bdb_tree.specs.of_format.Contents.{data_of}
-use Rattle.bdb_tree.specs.of_format.File.{File}
-use Rattle.bdb_tree.specs.of_format.Page.{Chain}
+use Rattle.bdb_tree.specs.of_format.Terms.{Chain, File, data_of}
 use Rattle.bdb_tree.specs.of_overflow.Datum.{single_value}
 
 -- what is left where an item has this one value

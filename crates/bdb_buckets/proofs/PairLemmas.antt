@@ -9,10 +9,8 @@ use Rattle.std.proofs.lemmas.List.FromFn.{get_or-map-range_with_len, length-map-
 use Rattle.bdb_tree.specs.of_form.Pairs.{PairOf, pair_of, pairs_from}
 use Rattle.bdb_tree.specs.of_format.declared.references.Sort.{Sort}
 use Rattle.bdb_tree.specs.of_format.declared.references.Sort.TheVariants.{OverflowHead, DuplicateRoot}
-use Rattle.bdb_tree.specs.of_format.Chains.{value_of}
-use Rattle.bdb_tree.specs.of_format.File.{File, file_of, page_at}
-use Rattle.bdb_tree.specs.of_format.Page.{Content, Inline, Set, Chain, Tree, Unknown, Item, Listed, Page, Hash}
-use Rattle.bdb_tree.specs.of_format.References.{content_targets, no_item, targets_in}
+use Rattle.bdb_tree.specs.of_format.Terms.{Chain, Content, File, Hash, Inline, Item, Listed, Page, Set, Tree, Unknown, content_targets, file_of, no_item}
+use Rattle.bdb_tree.specs.of_format.Terms.{page_at, targets_in, value_of}
 use Rattle.bdb_tree.proofs.of_format.MemberLemmas.{first_member, in_map}
 use Rattle.bdb_tree.proofs.of_format.TargetLemmas.{held_named}
 use Rattle.bdb_tree.specs.of_image.Linked.{IsTarget}

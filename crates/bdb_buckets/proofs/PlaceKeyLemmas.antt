@@ -4,9 +4,7 @@ use Rattle.std.specs.Prelude.{Some}
 use Rattle.std.specs.List.{slice_get}
 use Rattle.std.proofs.lemmas.Bool.{le-ltb, lt-ltb}
 use Rattle.std.proofs.lemmas.Option.{get_or_from_slice_get}
-use Rattle.bdb_tree.specs.of_format.Chains.{value_of}
-use Rattle.bdb_tree.specs.of_format.File.{file_of, page_at}
-use Rattle.bdb_tree.specs.of_format.Page.{Hash, Item, Listed}
+use Rattle.bdb_tree.specs.of_format.Terms.{Hash, Item, Listed, file_of, page_at, value_of}
 use Rattle.bdb_tree.specs.of_layout.declared.items.HashItem.{HashItem}
 use Rattle.bdb_tree.specs.of_layout.Seen.{hash_content_seen, hash_item_seen}
 use Rattle.bdb_buckets.specs.declared.place.PairPlace.{PairPlace}

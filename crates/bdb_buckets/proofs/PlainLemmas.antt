@@ -8,16 +8,10 @@ use Rattle.std.proofs.lemmas.List.FromFn.{get_or-map-range_with_len, length-map-
 use Rattle.bdb_tree.specs.of_format.declared.kinds.Order.{Order}
 use Rattle.bdb_tree.specs.of_format.declared.metadata.HashMeta.{HashMeta}
 use Rattle.bdb_tree.specs.of_format.declared.references.Sort.TheVariants.{Bucket}
-use Rattle.bdb_tree.specs.of_format.Chains.{chain_in, next_of}
-use Rattle.bdb_tree.specs.of_format.Contents.{StoredPair, bucket_pages, bucket_pairs, pair_at, pairs_in, pairs_of}
-use Rattle.bdb_tree.specs.of_format.File.{File, file_of, page_at}
-use Rattle.bdb_tree.specs.of_format.Hashing.{first_page}
-use Rattle.bdb_tree.specs.of_format.HeadOf.{head_of}
-use Rattle.bdb_tree.specs.of_format.Page.{HashFields, Item, Listed, Page, Zero, Hash}
+use Rattle.bdb_tree.specs.of_format.Terms.{File, Hash, HashFields, Item, Listed, Page, StoredPair, Zero, abstract_page, bucket_pages, bucket_pairs, chain_in}
+use Rattle.bdb_tree.specs.of_format.Terms.{file_of, first_page, hash_item_at, head_of, item_at, listed, next_of, page_as, page_at, pair_at, pairs_in, pairs_of}
 use Rattle.bdb_tree.specs.of_format.declared.pages.PageType.{PageType}
 use Rattle.bdb_tree.specs.of_format.declared.pages.PageType.TheVariants.{Hash as HashPage}
-use Rattle.bdb_tree.specs.of_format.Reading.{abstract_page, hash_item_at, listed, page_as}
-use Rattle.bdb_tree.specs.of_format.References.{item_at}
 use Rattle.bdb_tree.proofs.of_format.MemberLemmas.{member_cases, no_member, of_flat_map, of_map}
 use Rattle.bdb_tree.proofs.of_format.FileLemmas.{last_page, page_is}
 use Rattle.bdb_tree.specs.of_image.Linked.{HasMetadata}

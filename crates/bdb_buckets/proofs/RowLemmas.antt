@@ -9,14 +9,10 @@ use Rattle.std.proofs.lemmas.List.{append-nil}
 use Rattle.std.proofs.lemmas.List.Elements.{Contains-append_cases, Contains-append_left, Contains-append_right}
 use Rattle.std.proofs.lemmas.List.Sums.{take_while-cons}
 use Rattle.bdb_tree.specs.of_format.declared.metadata.HashMeta.{HashMeta}
-use Rattle.bdb_tree.specs.of_format.ContentRows.{ascends, bucket_of_key, groups, hash_contents, is_duplicate, is_unsorted, is_wrong_set, live_data, repeated}
-use Rattle.bdb_tree.specs.of_format.Contents.{StoredPair, bucket_pairs, data_of, table_pairs}
-use Rattle.bdb_tree.specs.of_format.File.{File}
-use Rattle.bdb_tree.specs.of_format.Table.{Row, ◌:?◌}
+use Rattle.bdb_tree.specs.of_format.Terms.{File, HashFields, Row, StoredPair, ascends, bucket_of_key, bucket_pairs, data_of, groups, has_duplicates}
+use Rattle.bdb_tree.specs.of_format.Terms.{hash_contents, is_duplicate, is_sorted, is_unsorted, is_wrong_set, live_data, repeated, table_pairs, ◌:?◌}
 use Rattle.bdb_tree.specs.of_format.Verdict.{holding}
 use Rattle.bdb_tree.proofs.of_format.MemberLemmas.{filter_step, first_member, in_map, later_member, member_cases, no_member, of_map}
-use Rattle.bdb_tree.specs.of_format.Flags.{has_duplicates, is_sorted}
-use Rattle.bdb_tree.specs.of_format.Page.{HashFields}
 use Rattle.bdb_buckets.proofs.PlainLemmas.{IsPlain}
 use Rattle.bdb_tree.proofs.of_format.ListLemmas.{any_member, only_member, passes_here}
 use Rattle.bdb_tree.proofs.of_overflow.LengthLemmas.{any_of_all}

@@ -1,7 +1,8 @@
 -- The pairs of a table, bucket by bucket.
 use Rattle.std.proofs.Common.{◌∷◌, map, refl, ◌∙◌, ap, ◌≡◌, ℕ, ◌+◌, List, [], ◌++◌, arith}
 use Rattle.std.proofs.lemmas.List.{map-append, append-nil}
-use Rattle.bdb_tree.specs.of_format.Contents.{StoredPair, bucket_pages, bucket_pairs, pairs_of, table_pairs}
+use Rattle.bdb_tree.specs.of_format.Terms.{HashFields, StoredPair, bucket_pages, bucket_pairs, file_of, first_page, head_of, pairs_of, structure_faults}
+use Rattle.bdb_tree.specs.of_format.Terms.{table_pairs}
 use Rattle.bdb_buckets.specs.Told.{joined_pages, page_told, stored, table_told, told, bucket_told}
 use Rattle.bdb_buckets.proofs.RowLemmas.{buckets_of}
 use Rattle.std.specs.List.{flat_map, range_with_len}
@@ -10,12 +11,7 @@ use Rattle.bdb_tree.specs.of_image.Linked.{HasMetadata, IsForest}
 use Rattle.bdb_tree.proofs.of_graph.LinkedLemmas.{bucket_fits}
 use Rattle.bdb_buckets.specs.Views.{IsTable}
 use Rattle.bdb_tree.specs.of_format.declared.references.Sort.TheVariants.{Bucket}
-use Rattle.bdb_tree.specs.of_format.Hashing.{first_page}
-use Rattle.bdb_tree.specs.of_format.HeadOf.{head_of}
-use Rattle.bdb_tree.specs.of_format.Page.{HashFields}
-use Rattle.bdb_tree.specs.of_format.Verdict.{structure_faults}
 use Rattle.bdb_tree.specs.of_format.declared.metadata.HashMeta.{HashMeta}
-use Rattle.bdb_tree.specs.of_format.File.{file_of}
 use Rattle.bdb_tree.proofs.of_graph.TargetLemmas.{is_no_queue}
 use Rattle.bdb_tree.proofs.of_format.ListLemmas.{range_zero_more}
 

@@ -4,10 +4,7 @@ use Rattle.std.specs.BTreeMap.{BTreeMap, get}
 use Rattle.std.specs.BTreeSet.{BTreeSet, contains}
 use Rattle.std.specs.Ordering.{nat_cmp}
 use Rattle.bdb_tree.specs.of_overflow.Keys.{has_key}
-use Rattle.bdb_tree.specs.of_format.Chains.{joined, pieces_of}
-use Rattle.bdb_tree.specs.of_format.File.{file_of, page_at}
-use Rattle.bdb_tree.specs.of_format.Hashing.{hash5}
-use Rattle.bdb_tree.specs.of_format.Page.{Content, Inline, Set, Chain, Tree, Unknown}
+use Rattle.bdb_tree.specs.of_format.Terms.{Chain, Content, Inline, Set, Tree, Unknown, file_of, hash5, joined, page_at, pieces_of}
 use Rattle.bdb_buckets.specs.Places.{IsRead, StandsOn, key_content}
 use Rattle.bdb_buckets.specs.Told.{Told}
 

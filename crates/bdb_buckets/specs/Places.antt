@@ -10,11 +10,7 @@ use Rattle.bdb_tree.specs.of_overflow.Prefix.{AreBytes, prefix_of}
 use Rattle.bdb_buckets.specs.declared.place.PairPlace.{PairPlace}
 use Rattle.bdb_buckets.specs.Told.{Told, told, told_pair}
 use Rattle.bdb_buckets.specs.Views.{IsPair, IsTable}
-use Rattle.bdb_tree.specs.of_format.Chains.{value_of}
-use Rattle.bdb_tree.specs.of_format.Contents.{StoredPair, pair_at}
-use Rattle.bdb_tree.specs.of_format.File.{File, file_of, page_at}
-use Rattle.bdb_tree.specs.of_format.Page.{Content, Item, Page, Hash, Unknown}
-use Rattle.bdb_tree.specs.of_format.References.{item_at}
+use Rattle.bdb_tree.specs.of_format.Terms.{Content, File, Hash, Item, Page, StoredPair, Unknown, file_of, item_at, page_at, pair_at, value_of}
 
 -- the pair with this index is on the page
 abbrev pub has_pair : Page → ℕ → Bool

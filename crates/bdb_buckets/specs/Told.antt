@@ -2,12 +2,9 @@
 use Rattle.std.specs.Prelude.{◌≡◌, ◌≤◌, ℕ, ◌+◌, ◌==◌, not, if◌then◌else◌, Bool, true, false, List, [], map, length, Option, Some, None}
 use Rattle.std.specs.List.{find, flat_map, range_with_len}
 use Rattle.bdb_tree.specs.of_form.Pairs.{PairOf}
-use Rattle.bdb_tree.specs.of_format.Chains.{chain_in, value_of}
-use Rattle.bdb_tree.specs.of_format.Contents.{StoredPair, bucket_pages, pairs_of}
+use Rattle.bdb_tree.specs.of_format.Terms.{BytesKey, Content, File, Hash, Item, ListKey, Page, StoredPair, Zero, bucket_pages, chain_in, file_of, listed_pair}
+use Rattle.bdb_tree.specs.of_format.Terms.{pairs_of, value_of}
 use Rattle.bdb_tree.specs.of_format.declared.metadata.HashMeta.{HashMeta}
-use Rattle.bdb_tree.specs.of_format.File.{File, file_of}
-use Rattle.bdb_tree.specs.of_format.Page.{Content, Item, Page, Zero, Hash}
-use Rattle.bdb_tree.specs.of_format.Lists.{ListKey, BytesKey, listed_pair}
 use Rattle.std.specs.declared.cmp.Ordering.{Ordering}
 use Rattle.std.specs.Cmp.Lexicographic.{slice_cmp}
 use Rattle.std.specs.Ordering.{nat_cmp}

@@ -4,9 +4,7 @@ use Rattle.bdb_tree.specs.of_image.Linked.{FitsDupRoot, IsForest}
 use Rattle.bdb_tree.specs.of_overflow.Datum.{FitsContent}
 use Rattle.bdb_buckets.specs.Told.{is_of_bucket}
 use Rattle.bdb_tree.specs.of_format.declared.metadata.FileKind.TheVariants.{Queue}
-use Rattle.bdb_tree.specs.of_format.File.{File, file_of, page_at}
-use Rattle.bdb_tree.specs.of_format.Page.{Content, Inline, Set, Chain, Tree, Unknown}
-use Rattle.bdb_tree.specs.of_format.Verdict.{structure_faults}
+use Rattle.bdb_tree.specs.of_format.Terms.{Chain, Content, File, Inline, Set, Tree, Unknown, file_of, page_at, structure_faults}
 
 -- a file with references on which no row of stages 1 to 6 holds
 pub record IsTable (image : List ℕ) : Type 0 where

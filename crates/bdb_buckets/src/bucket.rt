@@ -2,10 +2,7 @@ ghost use Rattle.std.specs.Prelude.{◌≡◌, ◌≤◌, [], length, map};
 ghost use Rattle.std.specs.Iterator.{YieldsFirstBy, item_count};
 ghost use Rattle.bdb_tree.specs.of_image.Linked.{HasMetadata};
 ghost use Rattle.bdb_buckets.specs.Told.{page_told};
-ghost use Rattle.bdb_tree.specs.of_format.Contents.{bucket_pages};
-ghost use Rattle.bdb_tree.specs.of_format.File.{file_of};
-ghost use Rattle.bdb_tree.specs.of_format.Page.{HashFields};
-ghost use Rattle.bdb_tree.specs.of_format.Verdict.{structure_faults};
+ghost use Rattle.bdb_tree.specs.of_format.Terms.{HashFields, bucket_pages, file_of, structure_faults};
 
 use crate::PagePairs;
 use crate::pairs::page_pairs;
@@ -24,7 +21,7 @@ impl<'a> Model for BucketPages<'a> {
     ghost use Rattle.std.specs.Prelude.{List, map};
     ghost use Rattle.bdb_buckets.specs.Told.{Told, page_told, pages_from};
     ghost use Rattle.bdb_buckets.specs.Views.{IsOnWay};
-    ghost use Rattle.bdb_tree.specs.of_format.File.{file_of};
+    ghost use Rattle.bdb_tree.specs.of_format.Terms.{file_of};
 
     ghost Value = { List (List Told) };
 

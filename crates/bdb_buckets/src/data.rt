@@ -4,8 +4,7 @@ ghost use Rattle.bdb_buckets.specs.Rest.{rest_shown};
 ghost use Rattle.bdb_tree.specs.of_overflow.Datum.{FitsContent, datum_seen};
 ghost use Rattle.bdb_buckets.specs.Views.{FitsRoot, IsTable};
 ghost use Rattle.bdb_tree.specs.of_layout.Seen.{hash_content_seen};
-ghost use Rattle.bdb_tree.specs.of_format.Contents.{data_of};
-ghost use Rattle.bdb_tree.specs.of_format.File.{file_of};
+ghost use Rattle.bdb_tree.specs.of_format.Terms.{data_of, file_of};
 
 use bdb_tree::{Datum, DupBlocks, Forest, HashItem, SetValues, hash_datum, set_values};
 use std::marker::Model;

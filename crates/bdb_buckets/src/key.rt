@@ -1,6 +1,6 @@
 ghost use Rattle.std.specs.Prelude.{◌≡◌};
 ghost use Rattle.bdb_tree.specs.of_overflow.Datum.{datum_seen};
-ghost use Rattle.bdb_tree.specs.of_format.Hashing.{hash5};
+ghost use Rattle.bdb_tree.specs.of_format.Terms.{hash5};
 
 use bdb_tree::{Datum, hash5, hash5_after};
 

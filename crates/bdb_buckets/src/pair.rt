@@ -6,11 +6,7 @@ ghost use Rattle.bdb_buckets.specs.Places.{IsAt, IsGiven};
 ghost use Rattle.bdb_buckets.specs.Told.{entry_list, has_key, listed_told, told_pair};
 ghost use Rattle.bdb_buckets.specs.Views.{IsPair, value_on_page};
 ghost use Rattle.bdb_tree.specs.of_layout.Seen.{hash_content_seen, hash_item_seen};
-ghost use Rattle.bdb_tree.specs.of_format.Chains.{value_of};
-ghost use Rattle.bdb_tree.specs.of_format.ContentRows.{is_duplicate, is_wrong_set};
-ghost use Rattle.bdb_tree.specs.of_format.Contents.{data_of};
-ghost use Rattle.bdb_tree.specs.of_format.File.{file_of};
-ghost use Rattle.bdb_tree.specs.of_format.Page.{Inline};
+ghost use Rattle.bdb_tree.specs.of_format.Terms.{Inline, data_of, file_of, is_duplicate, is_wrong_set, value_of};
 ghost use Rattle.bdb_tree.specs.Noted.{set_root};
 
 use crate::Data;

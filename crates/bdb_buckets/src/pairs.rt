@@ -3,8 +3,7 @@ ghost use Rattle.std.specs.Iterator.{YieldsFirstBy, item_count};
 ghost use Rattle.bdb_buckets.specs.Places.{AreGiven};
 ghost use Rattle.bdb_buckets.specs.Told.{left_on, page_told};
 ghost use Rattle.bdb_buckets.specs.Views.{IsOfBucket, IsOnWay, IsTable};
-ghost use Rattle.bdb_tree.specs.of_format.Chains.{next_of};
-ghost use Rattle.bdb_tree.specs.of_format.File.{file_of};
+ghost use Rattle.bdb_tree.specs.of_format.Terms.{file_of, next_of};
 
 use crate::Pair;
 use bdb_tree::{Forest, HashKind, PageView};

@@ -1,9 +1,7 @@
 ghost use Rattle.std.specs.Prelude.{◌≡◌, ◌≤◌, ◌+◌, []};
 ghost use Rattle.bdb_tree.specs.of_image.Linked.{HasMetadata};
 ghost use Rattle.bdb_buckets.specs.Views.{IsTable};
-ghost use Rattle.bdb_tree.specs.of_format.File.{file_of};
-ghost use Rattle.bdb_tree.specs.of_format.Page.{HashFields};
-ghost use Rattle.bdb_tree.specs.of_format.Verdict.{structure_faults};
+ghost use Rattle.bdb_tree.specs.of_format.Terms.{HashFields, file_of, structure_faults};
 
 use bdb_tree::{HashMeta, Linked};
 

@@ -5,7 +5,7 @@ use Rattle.std.proofs.lemmas.Option.{get_or_from_slice_get, slice_get_within}
 use Rattle.bdb_need.specs.of_places.Places.{value_at}
 use Rattle.bdb_need.specs.of_places.declared.place.Place.{Place}
 use Rattle.bdb_need.specs.of_text_format.declared.pairs.TextPair.{TextPair}
-use Rattle.bdb_need.specs.of_text_format.Pairs.{unlined, unlined_pairs}
+use Rattle.bdb_need.specs.of_text_format.Terms.{unlined, unlined_pairs}
 use Rattle.bdb_building_tests.specs.Trees.{no_pair}
 
 pub one_at : (pairs : List TextPair) (i : ℕ) (pair : TextPair) → slice_get pairs i ≡ Some pair → unlined pair ≡ get_or (unlined_pairs pairs) i no_pair

@@ -3,8 +3,7 @@ use Rattle.std.proofs.Common.{◌≡◌, ℕ, true, List, [], ◌∷◌, ◌++�
 use Rattle.std.specs.Cmp.Derive.{both_true}
 use Rattle.std.proofs.lemmas.Bool.{and_parts}
 use Rattle.std.proofs.lemmas.List.{map-append}
-use Rattle.bdb_need.specs.of_format.ContentRows.{ascends, ascends_from}
-use Rattle.bdb_need.specs.of_format.Less.{less}
+use Rattle.bdb_need.specs.of_format.Terms.{ascends, ascends_from, less}
 use Rattle.bdb_need.specs.of_pack.Built.{Built}
 use Rattle.bdb_need.specs.of_mkleaves.Units.{KeyedUnit, TreeUnit, key_of}
 use Rattle.bdb_mktree.specs.Building.{Building, units_of}

@@ -6,7 +6,7 @@ use Rattle.std.proofs.lemmas.List.{drop_all}
 use Rattle.std.proofs.lemmas.List.Elements.{All-cons}
 use Rattle.bdb_need.specs.of_format.declared.settings.Settings.{Settings}
 use Rattle.bdb_need.specs.of_text_format.declared.pairs.Pair.{Pair}
-use Rattle.bdb_need.specs.of_text_format.Pairs.{AscendFrom, number_of}
+use Rattle.bdb_need.specs.of_text_format.Terms.{AscendFrom, number_of}
 use Rattle.bdb_need.specs.of_mkqueue.Lists.{HasLength, HasNext, IsQueueList}
 use Rattle.bdb_need.proofs.of_mkqueue.StepLemmas.{no_pair, pair_at}
 use Rattle.bdb_building_tests.specs.Queues.{MayStandFrom}

@@ -3,7 +3,7 @@ use Rattle.std.specs.Prelude.{ℕ, ◌≤◌, ◌<◌, ◌^◌, List, drop, leng
 use Rattle.std.specs.List.{All}
 use Rattle.bdb_need.specs.of_format.declared.settings.Settings.{Settings}
 use Rattle.bdb_need.specs.of_text_format.declared.pairs.Pair.{Pair}
-use Rattle.bdb_need.specs.of_text_format.Pairs.{AscendFrom}
+use Rattle.bdb_need.specs.of_text_format.Terms.{AscendFrom}
 use Rattle.bdb_need.specs.of_mkqueue.Lists.{HasLength, HasNext}
 
 -- the records from a place on may stand in a queue, behind those below a number

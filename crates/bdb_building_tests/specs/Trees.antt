@@ -1,7 +1,6 @@
 -- Lists of pairs that are tested when a test runs, and trees that take a pair more.
 use Rattle.std.specs.Prelude.{◌≡◌, ℕ, Bool, true, List, [], ◌∷◌, ◌++◌, map, Option, None, Some}
-use Rattle.bdb_need.specs.of_format.ContentRows.{ascends}
-use Rattle.bdb_need.specs.of_format.Less.{less}
+use Rattle.bdb_need.specs.of_format.Terms.{ascends, less}
 use Rattle.bdb_need.specs.of_format.declared.kinds.Kind.TheVariants.{Btree}
 use Rattle.bdb_need.specs.of_text_format.declared.pairs.Pair.{Pair}
 use Rattle.bdb_need.specs.of_text_format.declared.pairs.Key.TheVariants.{Number}
@@ -10,8 +9,7 @@ use Rattle.bdb_need.specs.of_mkleaves.Units.{key_of}
 use Rattle.bdb_mktree.specs.Building.{Building, units_of}
 use Rattle.bdb_mktree.specs.declared.builder.TreeBuilder.{TreeBuilder}
 use Rattle.bdb_need.specs.of_text_format.declared.lent.PairRef.{PairRef}
-use Rattle.bdb_need.specs.of_text_format.Pairs.{unlined}
-use Rattle.bdb_need.specs.of_text_format.Placed.{pair_seen}
+use Rattle.bdb_need.specs.of_text_format.Terms.{pair_seen, unlined}
 
 -- a pair without where it lies in memory
 abbrev pub one_seen : PairRef → Pair

@@ -1,7 +1,7 @@
 //! A btree that takes pairs one by one.
 
 ghost use Rattle.std.specs.Prelude.{◌≡◌, ◌<◌, ◌^◌, ◌∷◌, [], IsTrue, length, map};
-ghost use Rattle.bdb_need.specs.of_format.HeadOf.{is_page_size};
+ghost use Rattle.bdb_need.specs.of_format.Terms.{is_page_size};
 ghost use Rattle.bdb_need.specs.of_format.declared.kinds.Kind.TheVariants.{Btree};
 ghost use Rattle.bdb_need.specs.of_places.Places.{value_at};
 ghost use Rattle.bdb_need.specs.of_mkleaves.Units.{KeyedUnit};

@@ -1,7 +1,7 @@
 //! What settings must say for anything to be built by them.
 
 ghost use Rattle.std.specs.Prelude.{◌≡◌, IsTrue};
-ghost use Rattle.bdb_need.specs.of_format.HeadOf.{is_page_size};
+ghost use Rattle.bdb_need.specs.of_format.Terms.{is_page_size};
 ghost use Rattle.bdb_mktree.specs.Units.{IsTreeKind};
 
 use bdb_need::Kind;

@@ -1,7 +1,7 @@
 //! Whether a queue can be built of a list, found by one pass from its end.
 
 ghost use Rattle.std.specs.Prelude.{◌≡◌, IsTrue};
-ghost use Rattle.bdb_need.specs.of_text_format.Placed.{pairs_of};
+ghost use Rattle.bdb_need.specs.of_text_format.Terms.{pairs_of};
 ghost use Rattle.bdb_need.specs.of_mkqueue.Lists.{IsQueueList};
 
 use bdb_mktree::number_of;

@@ -1,9 +1,8 @@
 //! A queue under its metadata: the bytes of a whole file.
 
 ghost use Rattle.std.specs.Prelude.{◌≤◌, ◌+◌, ◌-◌, IfOk, IsTrue};
-ghost use Rattle.bdb_need.specs.of_format.HeadOf.{is_page_size};
-ghost use Rattle.bdb_need.specs.of_format.Numbers.{pad4};
-ghost use Rattle.bdb_need.specs.of_text_format.Placed.{pairs_of};
+ghost use Rattle.bdb_need.specs.of_format.Terms.{is_page_size, pad4};
+ghost use Rattle.bdb_need.specs.of_text_format.Terms.{pairs_of};
 ghost use Rattle.bdb_need.specs.of_mkqueue.Layout.{queue_meta};
 ghost use Rattle.bdb_need.specs.of_mkqueue.Lists.{IsQueueList};
 ghost use Rattle.bdb_need.specs.of_mkqueue.Written.{IsSoundQueueOf};

@@ -1,7 +1,7 @@
 //! Whether a tree can be built of a list, found by one pass from its end.
 
 ghost use Rattle.std.specs.Prelude.{◌≡◌, ◌+◌, ◌<◌, IsTrue, drop, get_or, length};
-ghost use Rattle.bdb_need.specs.of_text_format.Placed.{key_seen, pairs_of};
+ghost use Rattle.bdb_need.specs.of_text_format.Terms.{key_seen, pairs_of};
 ghost use Rattle.bdb_mktree.specs.Lists.{IsKeyFor, IsTreeList, IsPairFor, bytes_in, keyed_follow, may_follow};
 ghost use Rattle.bdb_building_tests.specs.Trees.{no_pair, one_seen};
 

@@ -1,7 +1,7 @@
 //! A tree behind a page of metadata: the bytes of a whole file.
 
 ghost use Rattle.std.specs.Prelude.{IsTrue};
-ghost use Rattle.bdb_need.specs.of_format.HeadOf.{is_page_size};
+ghost use Rattle.bdb_need.specs.of_format.Terms.{is_page_size};
 
 use crate::legal::{is_page_size, is_tree_kind};
 use crate::tree_lists::is_list_for;

@@ -2,8 +2,7 @@
 use Rattle.std.proofs.Common.{◌≡◌, ℕ, Bool, true, false, List, [], ◌∷◌, ◌++◌, length, arith, refl, sym, ◌∙◌, ap, subst}
 use Rattle.std.specs.Prelude.{◌==◌}
 use Rattle.bdb_recno.specs.of_format.declared.kinds.Fault.{Fault}
-use Rattle.bdb_recno.specs.of_format.File.{file_of}
-use Rattle.bdb_recno.specs.of_format.Verdict.{faults_in, master_faults, or_else, structure_faults}
+use Rattle.bdb_recno.specs.of_format.Terms.{faults_in, file_of, master_faults, or_else, structure_faults}
 use Rattle.bdb_recno.proofs.of_format.MemberLemmas.{is_empty, no_member}
 use Rattle.bdb_recno.proofs.of_format.VerdictLemmas.{none_within, or_else_none, skip_stage}
 use Rattle.bdb_recno.specs.of_faults.Notes.{HasJust, NotesAll}

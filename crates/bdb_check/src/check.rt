@@ -2,7 +2,7 @@ ghost use Rattle.std.specs.Prelude.{◌≡◌, [], ◌∷◌, IfErr, IfOk, OnOk}
 ghost use Rattle.bdb_any_order.specs.AnyOrder.{stages_by};
 ghost use Rattle.bdb_recno.specs.of_faults.Notes.{HasJust};
 ghost use Rattle.bdb_master.specs.Entries.{master_entries};
-ghost use Rattle.bdb_recno.specs.of_format.File.{file_of};
+ghost use Rattle.bdb_recno.specs.of_format.Terms.{file_of};
 
 use crate::contents::note_contents;
 use crate::structure::note_structure;

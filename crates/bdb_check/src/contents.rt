@@ -3,13 +3,9 @@ ghost use Rattle.bdb_recno.specs.of_faults.Notes.{NotesAll, HasJust};
 ghost use Rattle.bdb_any_order.specs.declared.rows.Rows.TheVariants.{All, AnyOrder};
 ghost use Rattle.bdb_any_order.specs.AnyOrder.{contents_by};
 ghost use Rattle.bdb_any_order.specs.Noted.{by_asked, is_asked};
-ghost use Rattle.bdb_recno.specs.of_format.ContentRows.{database_faults};
-ghost use Rattle.bdb_recno.specs.of_format.Master.{master_in};
-ghost use Rattle.bdb_recno.specs.of_format.Page.{Meta as MetaPage};
-ghost use Rattle.bdb_recno.specs.of_format.Verdict.{structure_faults};
+ghost use Rattle.bdb_recno.specs.of_format.Terms.{Meta as MetaPage, database_faults, file_of, master_in, structure_faults};
 ghost use Rattle.bdb_recno.specs.of_image.Linked.{HasMetadata};
 ghost use Rattle.bdb_recno.specs.of_image.Metas.{meta_seen};
-ghost use Rattle.bdb_recno.specs.of_format.File.{file_of};
 
 use crate::unordered::Unordered;
 use bdb_any_order::{Rows, Which};

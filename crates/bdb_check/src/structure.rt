@@ -1,7 +1,6 @@
 ghost use Rattle.std.specs.Prelude.{OnOk};
 ghost use Rattle.bdb_recno.specs.of_faults.Notes.{NotesAll};
-ghost use Rattle.bdb_recno.specs.of_format.File.{file_of};
-ghost use Rattle.bdb_recno.specs.of_format.Verdict.{structure_faults};
+ghost use Rattle.bdb_recno.specs.of_format.Terms.{file_of, structure_faults};
 
 use bdb_recno::{FaultSink, Linked, note_chains, note_trees};
 use std::alloc::{AllocError, Global};

@@ -1,7 +1,7 @@
 ghost use Rattle.std.specs.Prelude.{◌≡◌, [], ℕ};
 ghost use Rattle.bdb_any_order.specs.AnyOrder.{is_of_order, is_row};
 ghost use Rattle.bdb_any_order.specs.Noted.{HasNotedOthers};
-ghost use Rattle.bdb_recno.specs.of_format.FaultTable.{fault_at};
+ghost use Rattle.bdb_recno.specs.of_format.Terms.{fault_at};
 ghost use Rattle.bdb_recno.specs.of_format.declared.rows.Row.TheVariants.{Contents};
 
 use bdb_recno::{ContentsRow, FaultSink, Row};

@@ -2,10 +2,7 @@
 
 ghost use Rattle.std.specs.Prelude.{◌≡◌, [], IsTrue, false};
 ghost use Rattle.bdb_range.specs.of_image.Linked.{HasMetadata};
-ghost use Rattle.bdb_format.specs.File.{file_of};
-ghost use Rattle.bdb_format.specs.Flags.{is_recno};
-ghost use Rattle.bdb_format.specs.Page.{BtreeFields, HashFields};
-ghost use Rattle.bdb_format.specs.Verdict.{structure_faults};
+ghost use Rattle.bdb_format.specs.Terms.{BtreeFields, HashFields, file_of, is_recno, structure_faults};
 
 use crate::btrees::COUNTED;
 use crate::hashes::THREE_BUCKETS;

@@ -2,8 +2,7 @@
 
 ghost use Rattle.std.specs.Prelude.{◌≡◌};
 ghost use Rattle.bdb_range.specs.of_image.Linked.{HasMetadata};
-ghost use Rattle.bdb_format.specs.File.{file_of};
-ghost use Rattle.bdb_format.specs.Page.{QueueFields};
+ghost use Rattle.bdb_format.specs.Terms.{QueueFields, file_of};
 
 use bdb_format::{Order, QueueMeta, Steps};
 use bdb_overflow::{Datum, KeyView};

@@ -2,11 +2,7 @@
 
 ghost use Rattle.std.specs.Prelude.{◌≡◌, [], false};
 ghost use Rattle.bdb_range.specs.of_image.Linked.{HasMetadata};
-ghost use Rattle.bdb_format.specs.ContentRows.{database_faults};
-ghost use Rattle.bdb_format.specs.File.{file_of};
-ghost use Rattle.bdb_format.specs.Page.{BtreeFields};
-ghost use Rattle.bdb_format.specs.Verdict.{structure_faults};
-ghost use Rattle.bdb_format.specs.Flags.{is_recno};
+ghost use Rattle.bdb_format.specs.Terms.{BtreeFields, database_faults, file_of, is_recno, structure_faults};
 
 use crate::lookup_cases::{Entry, Part};
 use crate::lookups::{is_next_entry, write_part};

@@ -7,14 +7,8 @@ use Rattle.std.proofs.lemmas.Bool.{and_parts, cases_Bool, eq-eqb, eqb-true, fals
 use Rattle.std.proofs.lemmas.List.{length-map}
 use Rattle.std.proofs.lemmas.Map.Steps.{length-le_from_distinct_below}
 use Rattle.bdb_recno.specs.of_format.declared.metadata.BtreeMeta.{BtreeMeta}
-use Rattle.bdb_recno.specs.of_format.ContentRows.{fields_in}
-use Rattle.bdb_recno.specs.of_format.Databases.{database_on, databases}
-use Rattle.bdb_recno.specs.of_format.File.{File, file_of, page_at}
-use Rattle.bdb_recno.specs.of_format.Graph.{is_meta}
-use Rattle.bdb_recno.specs.of_format.HeadOf.{head_of}
-use Rattle.bdb_recno.specs.of_format.Master.{is_named_kind, is_page, master_in}
-use Rattle.bdb_recno.specs.of_format.Page.{Page, Meta}
-use Rattle.bdb_recno.specs.of_format.Verdict.{master_faults}
+use Rattle.bdb_recno.specs.of_format.Terms.{File, Meta, Page, database_on, databases, fields_in, file_of, head_of, is_meta, is_named_kind, is_page}
+use Rattle.bdb_recno.specs.of_format.Terms.{master_faults, master_in, page_at}
 use Rattle.bdb_recno.proofs.of_format.MemberLemmas.{first_member, in_filter, later_member, no_member, of_map}
 use Rattle.bdb_recno.specs.of_image.Linked.{IsForest}
 use Rattle.bdb_any_order.specs.AnyOrder.{faults_by_rows}

@@ -7,21 +7,14 @@ use Rattle.std.specs.Str.{bytes_eq}
 use Rattle.std.proofs.lemmas.Bool.{and_from, and_parts, eq-eqb, or_parts}
 use Rattle.std.proofs.lemmas.List.{map-append}
 use Rattle.bdb_recno.specs.of_format.declared.metadata.BtreeMeta.{BtreeMeta}
-use Rattle.bdb_recno.specs.of_format.ContentRows.{ascends, ascends_from, btree_contents, database_faults, database_rows, fields_in, is_out_of_order}
-use Rattle.bdb_recno.specs.of_format.ContentRows.{neighbours, repeated}
-use Rattle.bdb_recno.specs.of_format.Contents.{StoredPair, tree_pairs}
-use Rattle.bdb_recno.specs.of_format.Databases.{database_on, databases, databases_under, named_database}
-use Rattle.bdb_recno.specs.of_format.File.{File, file_of, page_at}
-use Rattle.bdb_recno.specs.of_format.Graph.{is_meta}
-use Rattle.bdb_recno.specs.of_format.HeadOf.{head_of}
-use Rattle.bdb_recno.specs.of_format.Less.{less}
-use Rattle.bdb_recno.specs.of_format.Master.{master_in, master_pairs, named_by, pairs_under}
-use Rattle.bdb_recno.specs.of_format.Page.{BtreeFields, Page, Meta}
-use Rattle.bdb_recno.specs.of_format.Verdict.{holding, master_faults, stage_faults}
+use Rattle.bdb_recno.specs.of_format.Terms.{BtreeFields, File, Meta, Page, StoredPair, ascends, ascends_from, btree_contents, database_faults, database_on}
+use Rattle.bdb_recno.specs.of_format.Terms.{database_rows, databases, databases_under, fields_in, file_of, head_of, is_meta, is_out_of_order, is_recno, less}
+use Rattle.bdb_recno.specs.of_format.Terms.{master_faults, master_in, master_pairs, named_by, named_database, neighbours, page_at, pairs_under, repeated}
+use Rattle.bdb_recno.specs.of_format.Terms.{stage_faults, tree_pairs}
+use Rattle.bdb_recno.specs.of_format.Verdict.{holding}
 use Rattle.bdb_recno.proofs.of_format.MemberLemmas.{first_member, in_map, is_empty, later_member, no_member, none_passes, of_filter}
 use Rattle.bdb_recno.proofs.of_format.VerdictLemmas.{AllFail, all_fail, no_codes_at, none_in}
 use Rattle.bdb_recno.proofs.of_format.RepeatLemmas.{repeated_after, repeated_is}
-use Rattle.bdb_recno.specs.of_format.Flags.{is_recno}
 use Rattle.bdb_recno.specs.of_image.Linked.{HasMetadata, IsForest}
 use Rattle.bdb_recno.proofs.of_graph.LinkedLemmas.{root_fits}
 use Rattle.bdb_recno.proofs.of_graph.ReadLemmas.{master_is, master_keys}

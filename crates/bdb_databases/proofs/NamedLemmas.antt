@@ -7,13 +7,8 @@ use Rattle.std.proofs.lemmas.Bool.{true≢false, cases_lt}
 use Rattle.std.proofs.lemmas.List.Folds.{flat_map-map}
 use Rattle.bdb_recno.specs.of_format.declared.metadata.BtreeMeta.{BtreeMeta}
 use Rattle.bdb_recno.specs.of_format.declared.kinds.Fault.{Fault}
-use Rattle.bdb_recno.specs.of_format.ContentRows.{fields_in}
-use Rattle.bdb_recno.specs.of_format.Databases.{Database, database_on, databases, databases_under}
-use Rattle.bdb_recno.specs.of_format.File.{File, file_of, page_at}
-use Rattle.bdb_recno.specs.of_format.HeadOf.{head_of}
-use Rattle.bdb_recno.specs.of_format.Master.{is_named_kind, master_in, master_pairs}
-use Rattle.bdb_recno.specs.of_format.Page.{Metadata, Page, Meta}
-use Rattle.bdb_recno.specs.of_format.Verdict.{master_faults}
+use Rattle.bdb_recno.specs.of_format.Terms.{Database, File, Meta, Metadata, Page, database_on, databases, databases_under, fields_in, file_of, head_of}
+use Rattle.bdb_recno.specs.of_format.Terms.{is_named_kind, master_faults, master_in, master_pairs, page_at}
 use Rattle.bdb_recno.proofs.of_format.MemberLemmas.{no_member}
 use Rattle.bdb_recno.proofs.of_format.FileLemmas.{last_page}
 use Rattle.bdb_recno.specs.of_image.Linked.{IsForest}

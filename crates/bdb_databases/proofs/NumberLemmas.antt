@@ -8,15 +8,8 @@ use Rattle.bdb_recno.specs.of_image.Linked.{HasMetadata, IsForest}
 use Rattle.bdb_recno.proofs.of_graph.LinkedLemmas.{root_fits}
 use Rattle.bdb_recno.specs.of_format.declared.metadata.BtreeMeta.{BtreeMeta}
 use Rattle.bdb_recno.specs.of_format.declared.metadata.QueueMeta.{QueueMeta}
-use Rattle.bdb_recno.specs.of_format.Contents.{tree_entries}
-use Rattle.bdb_recno.specs.of_format.Databases.{data_under, get_number}
-use Rattle.bdb_recno.specs.of_format.Digits.{number_in}
-use Rattle.bdb_recno.specs.of_format.File.{File, file_of, page_at}
-use Rattle.bdb_recno.specs.of_format.HeadOf.{head_of}
-use Rattle.bdb_recno.specs.of_format.Lists.{ListKey, NumberKey, get, listed_slot, page_records, queue_list, recno_list}
-use Rattle.bdb_recno.specs.of_format.Page.{BtreeFields, Page, Queue, QueueFields}
-use Rattle.bdb_recno.specs.of_format.Verdict.{structure_faults}
-use Rattle.bdb_recno.specs.of_format.Flags.{is_recno}
+use Rattle.bdb_recno.specs.of_format.Terms.{BtreeFields, File, ListKey, NumberKey, Page, Queue, QueueFields, data_under, file_of, get, get_number, head_of}
+use Rattle.bdb_recno.specs.of_format.Terms.{is_recno, listed_slot, number_in, page_at, page_records, queue_list, recno_list, structure_faults, tree_entries}
 use Rattle.bdb_recno.specs.of_tree.Trees.{IsRoot}
 use Rattle.bdb_recno.proofs.ListLemmas.{none_there}
 use Rattle.bdb_recno.proofs.PageLemmas.{root_recno}

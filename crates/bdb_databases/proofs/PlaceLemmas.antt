@@ -2,8 +2,7 @@
 use Rattle.std.proofs.Common.{◌≡◌, ℕ, suc, ◌+◌, ◌<◌, ◌≤◌, true, false, List, ◌∷◌, length, drop, Option, Some, None, arith, refl, sym, ◌∙◌, ap}
 use Rattle.std.proofs.Common.{drop-cons}
 use Rattle.std.proofs.lemmas.List.{drop_all}
-use Rattle.bdb_recno.specs.of_format.Databases.{databases, is_name, place_from}
-use Rattle.bdb_recno.specs.of_format.File.{File}
+use Rattle.bdb_recno.specs.of_format.Terms.{File, databases, is_name, place_from}
 use Rattle.bdb_databases.specs.Named.{database_at, no_database}
 
 one_left : (file : File) (i : ℕ) → i < length (databases file) → drop i (databases file) ≡ database_at file i ∷ drop (i + 1) (databases file)

@@ -1,15 +1,11 @@
 -- In a table of a file on which no row counts in any order no key comes twice.
 use Rattle.std.proofs.Common.{◌≡◌, ℕ, List, [], refl, sym, ap, subst}
 use Rattle.std.specs.List.{Contains}
-use Rattle.bdb_recno.specs.of_format.FaultTable.{fault_at}
+use Rattle.bdb_recno.specs.of_format.Terms.{BtreeFields, Database, File, HashFields, Metadata, QueueFields, contents_faults, database_faults, databases}
+use Rattle.bdb_recno.specs.of_format.Terms.{fault_at, fields_in, file_of, is_meta, page_at}
 use Rattle.bdb_recno.specs.of_format.declared.rows.ContentsRow.TheVariants.{KeyTwice}
 use Rattle.bdb_recno.specs.of_format.declared.rows.Row.TheVariants.{Contents}
 use Rattle.bdb_recno.specs.of_format.declared.metadata.HashMeta.{HashMeta}
-use Rattle.bdb_recno.specs.of_format.ContentRows.{database_faults, fields_in}
-use Rattle.bdb_recno.specs.of_format.File.{File, file_of, page_at}
-use Rattle.bdb_recno.specs.of_format.Graph.{is_meta}
-use Rattle.bdb_recno.specs.of_format.Page.{Metadata, BtreeFields, HashFields, QueueFields}
-use Rattle.bdb_recno.specs.of_format.Verdict.{contents_faults}
 use Rattle.bdb_recno.proofs.of_format.MemberLemmas.{first_member, in_filter, in_flat_map, no_member}
 use Rattle.bdb_recno.specs.of_image.Linked.{HasMetadata, meta_pages}
 use Rattle.bdb_hash_list.specs.Scanned.{KeysDiffer}
@@ -20,7 +16,6 @@ use Rattle.bdb_any_order.specs.declared.rows.Rows.TheVariants.{AnyOrder, All}
 use Rattle.bdb_any_order.proofs.DatabaseLemmas.{of_pages}
 use Rattle.bdb_recno.proofs.of_tree.ListedLemmas.{at_meta}
 use Rattle.bdb_any_order.proofs.RowsLemmas.{contents_kept, fewer}
-use Rattle.bdb_recno.specs.of_format.Databases.{Database, databases}
 use Rattle.bdb_databases.specs.Named.{IsReadable}
 use Rattle.bdb_any_order.specs.declared.rows.Rows.{Rows}
 

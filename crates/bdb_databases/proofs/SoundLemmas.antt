@@ -5,13 +5,9 @@ use Rattle.std.proofs.lemmas.Bool.{cases_lt}
 use Rattle.std.proofs.lemmas.List.{get_or_default}
 use Rattle.bdb_recno.specs.of_format.declared.kinds.Fault.{Fault}
 use Rattle.bdb_recno.specs.of_format.declared.metadata.BtreeMeta.{BtreeMeta}
-use Rattle.bdb_recno.specs.of_format.ContentRows.{database_faults, fields_in, fields_of}
-use Rattle.bdb_recno.specs.of_format.Databases.{Database, database_on, databases, databases_under, named_database}
-use Rattle.bdb_recno.specs.of_format.File.{File, file_of, page_at}
-use Rattle.bdb_recno.specs.of_format.Graph.{is_meta}
-use Rattle.bdb_recno.specs.of_format.Master.{master_in, master_pairs, named_by}
-use Rattle.bdb_recno.specs.of_format.Page.{Metadata, NoType, Meta}
-use Rattle.bdb_recno.specs.of_format.Verdict.{contents_faults, faults_of, structure_faults}
+use Rattle.bdb_recno.specs.of_format.Terms.{Database, File, Meta, Metadata, NoType, contents_faults, database_faults, database_on, databases, databases_under}
+use Rattle.bdb_recno.specs.of_format.Terms.{faults_of, fields_in, fields_of, file_of, is_meta, master_in, master_pairs, named_by, named_database, page_at}
+use Rattle.bdb_recno.specs.of_format.Terms.{structure_faults}
 use Rattle.bdb_recno.proofs.of_format.MemberLemmas.{first_member, in_flat_map, is_empty, no_member, of_flat_map, of_map}
 use Rattle.bdb_recno.proofs.of_format.VerdictLemmas.{no_stage}
 use Rattle.bdb_recno.proofs.of_format.FileLemmas.{past_last}

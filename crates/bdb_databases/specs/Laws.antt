@@ -3,11 +3,7 @@ use Rattle.std.specs.Prelude.{◌≡◌, ◌≤◌, ◌^◌, ℕ, IsTrue, List, 
 use Rattle.bdb_any_order.specs.AnyOrder.{faults_by_rows}
 use Rattle.bdb_any_order.specs.declared.rows.Rows.TheVariants.{AnyOrder}
 use Rattle.bdb_recno.specs.of_format.declared.metadata.BtreeMeta.{BtreeMeta}
-use Rattle.bdb_recno.specs.of_format.ContentRows.{ascends}
-use Rattle.bdb_recno.specs.of_format.Databases.{Database, databases}
-use Rattle.bdb_recno.specs.of_format.File.{file_of, page_at}
-use Rattle.bdb_recno.specs.of_format.Master.{master_in}
-use Rattle.bdb_recno.specs.of_format.Verdict.{faults_of}
+use Rattle.bdb_recno.specs.of_format.Terms.{Database, ascends, databases, faults_of, file_of, master_in, page_at}
 
 -- the bytes of a name
 abbrev pub name_bytes : Database → List ℕ

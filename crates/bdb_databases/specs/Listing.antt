@@ -2,9 +2,7 @@
 use Rattle.std.specs.Prelude.{ℕ, List}
 use Rattle.bdb_databases.specs.declared.listing.Entries.{Entries}
 use Rattle.bdb_databases.specs.declared.listing.Entries.TheVariants.{Btree, Recno, Hash, Queue}
-use Rattle.bdb_recno.specs.of_format.File.{File}
-use Rattle.bdb_recno.specs.of_format.Lists.{ListKey}
-use Rattle.bdb_recno.specs.of_format.Page.{Metadata, BtreeFields, HashFields, QueueFields}
+use Rattle.bdb_recno.specs.of_format.Terms.{BtreeFields, File, HashFields, ListKey, Metadata, QueueFields}
 use Rattle.bdb_hash_list.specs.Scanned.{KeysDiffer}
 use Rattle.bdb_recno.specs.of_overflow.Datum.{datum_seen, key_view_seen}
 use Rattle.bdb_recno.specs.of_overflow.declared.datum.Datum.{Datum}

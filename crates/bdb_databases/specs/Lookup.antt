@@ -2,8 +2,7 @@
 use Rattle.std.specs.Prelude.{ℕ, List, []}
 use Rattle.bdb_databases.specs.declared.lookup.Data.{Data}
 use Rattle.bdb_databases.specs.declared.lookup.Data.TheVariants.{Btree, Recno, Hash, Queue, Nothing}
-use Rattle.bdb_recno.specs.of_format.File.{File, header_in, page_at}
-use Rattle.bdb_recno.specs.of_format.Page.{Metadata, BtreeFields, HashFields, QueueFields}
+use Rattle.bdb_recno.specs.of_format.Terms.{BtreeFields, File, HashFields, Metadata, QueueFields, header_in, page_at}
 
 abbrev pub data_left : Data → List (List ℕ)
 data_left (Btree found) = found

@@ -1,8 +1,6 @@
 -- The databases of a file that can be read, by their places, and how the code finds them. Source: docs/FORMAT.md, "Databases of a file".
 use Rattle.std.specs.Prelude.{◌≡◌, ℕ, List, [], get_or, Some, None}
-use Rattle.bdb_recno.specs.of_format.Databases.{Database, database_on, databases}
-use Rattle.bdb_recno.specs.of_format.File.{File, file_of}
-use Rattle.bdb_recno.specs.of_format.Page.{QueueFields}
+use Rattle.bdb_recno.specs.of_format.Terms.{Database, File, QueueFields, database_on, databases, file_of}
 use Rattle.bdb_any_order.specs.AnyOrder.{faults_by_rows}
 use Rattle.bdb_master.specs.Entries.{NamedPair}
 use Rattle.bdb_any_order.specs.declared.rows.Rows.TheVariants.{AnyOrder}

@@ -3,10 +3,7 @@ ghost use Rattle.std.specs.Iterator.{YieldsFirstBy, item_count};
 ghost use Rattle.bdb_recno.specs.of_image.Linked.{HasMetadata};
 ghost use Rattle.bdb_recno.specs.of_image.Metas.{meta_seen};
 ghost use Rattle.bdb_databases.specs.Listing.{HasNewKeys, entries_left, entry_seen};
-ghost use Rattle.bdb_recno.specs.of_format.File.{file_of};
-ghost use Rattle.bdb_recno.specs.of_format.Lists.{list_of};
-ghost use Rattle.bdb_recno.specs.of_format.Page.{BtreeFields};
-ghost use Rattle.bdb_recno.specs.of_format.Verdict.{structure_faults};
+ghost use Rattle.bdb_recno.specs.of_format.Terms.{BtreeFields, file_of, list_of, structure_faults};
 
 use bdb_recno::{BtreeMeta, Datum, KeyView, Linked, Meta};
 use std::alloc::{AllocError, Global};
@@ -48,7 +45,7 @@ impl Drop for Scan<'_> {
 
 impl<'a> Model for Scan<'a> {
     ghost use Rattle.std.specs.Prelude.{List, ℕ};
-    ghost use Rattle.bdb_recno.specs.of_format.Lists.{ListKey};
+    ghost use Rattle.bdb_recno.specs.of_format.Terms.{ListKey};
     ghost use Rattle.bdb_databases.specs.Listing.{entries_left};
 
     ghost Value = { List (ListKey × List ℕ) };

@@ -3,12 +3,7 @@ ghost use Rattle.std.specs.Iterator.{YieldsFirstBy, item_count};
 ghost use Rattle.bdb_recno.specs.of_image.Linked.{HasMetadata};
 ghost use Rattle.bdb_recno.specs.of_image.Metas.{meta_seen};
 ghost use Rattle.bdb_databases.specs.Lookup.{data_left, most_steps};
-ghost use Rattle.bdb_recno.specs.of_format.ContentRows.{database_faults};
-ghost use Rattle.bdb_recno.specs.of_format.Databases.{data_under};
-ghost use Rattle.bdb_recno.specs.of_format.File.{file_of};
-ghost use Rattle.bdb_recno.specs.of_format.Page.{BtreeFields, QueueFields};
-ghost use Rattle.bdb_recno.specs.of_format.Verdict.{structure_faults};
-ghost use Rattle.bdb_recno.specs.of_format.Flags.{is_recno};
+ghost use Rattle.bdb_recno.specs.of_format.Terms.{BtreeFields, QueueFields, data_under, database_faults, file_of, is_recno, structure_faults};
 ghost use Rattle.bdb_recno.specs.of_overflow.Datum.{datum_seen};
 
 use bdb_recno::{BtreeMeta, Datum, Linked, Meta, QueueMeta, Steps, number_in};

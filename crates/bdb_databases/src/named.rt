@@ -3,10 +3,8 @@ ghost use Rattle.std.specs.Option.{ForSome};
 ghost use Rattle.bdb_master.specs.Entries.{master_entries};
 ghost use Rattle.bdb_databases.specs.Named.{entry_database};
 ghost use Rattle.bdb_recno.specs.of_image.Metas.{meta_seen};
-ghost use Rattle.bdb_recno.specs.of_format.Databases.{database_on, databases, is_name};
+ghost use Rattle.bdb_recno.specs.of_format.Terms.{database_on, databases, file_of, is_name, master_faults, structure_faults};
 ghost use Rattle.std.specs.List.{flat_map};
-ghost use Rattle.bdb_recno.specs.of_format.File.{file_of};
-ghost use Rattle.bdb_recno.specs.of_format.Verdict.{master_faults, structure_faults};
 
 use bdb_master::{MasterEntry, master_of};
 use bdb_recno::{Bytes, Linked, Meta};
@@ -22,7 +20,7 @@ pub struct NamedMeta {
 
 impl Model for NamedMeta {
     ghost use Rattle.bdb_recno.specs.of_image.Metas.{meta_seen};
-    ghost use Rattle.bdb_recno.specs.of_format.Databases.{Database};
+    ghost use Rattle.bdb_recno.specs.of_format.Terms.{Database};
 
     ghost Value = { Database };
 

@@ -4,10 +4,7 @@ ghost use Rattle.bdb_any_order.specs.AnyOrder.{faults_by_rows};
 ghost use Rattle.bdb_databases.specs.Named.{IsReadable, database_at};
 ghost use Rattle.bdb_recno.specs.of_image.Linked.{HasMetadata};
 ghost use Rattle.bdb_recno.specs.of_image.Metas.{meta_seen};
-ghost use Rattle.bdb_recno.specs.of_format.Databases.{databases, place_of, settings_of};
-ghost use Rattle.bdb_recno.specs.of_format.File.{file_of};
-ghost use Rattle.bdb_recno.specs.of_format.HeadOf.{head_of};
-ghost use Rattle.bdb_recno.specs.of_format.Verdict.{structure_faults};
+ghost use Rattle.bdb_recno.specs.of_format.Terms.{databases, file_of, head_of, place_of, settings_of, structure_faults};
 
 use crate::Db;
 use crate::named::NamedMeta;

@@ -1,8 +1,6 @@
 ghost use Rattle.std.specs.Prelude.{◌≡◌, ◌<◌, IfOk, length};
 ghost use Rattle.bdb_databases.specs.Named.{database_at};
-ghost use Rattle.bdb_recno.specs.of_format.Databases.{databases};
-ghost use Rattle.bdb_recno.specs.of_format.File.{file_of};
-ghost use Rattle.bdb_recno.specs.of_format.Lists.{list_of};
+ghost use Rattle.bdb_recno.specs.of_format.Terms.{databases, file_of, list_of};
 
 use crate::listing::scan_of;
 use crate::{Db, Readable, Scan};

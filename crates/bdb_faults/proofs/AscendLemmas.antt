@@ -5,22 +5,14 @@ use Rattle.std.specs.Prelude.{◌==◌, if◌then◌else◌, Option, Some, None}
 use Rattle.std.specs.List.{Contains, range_with_len}
 use Rattle.std.specs.Option.{option_to_list}
 use Rattle.std.proofs.lemmas.List.Elements.{Contains-append_cases}
-use Rattle.bdb_format.specs.Table.{Row, ◌:?◌, first_row}
+use Rattle.bdb_format.specs.Terms.{BtreeFields, File, HashFields, Metadata, QueueFields, Row, btree_contents, by_page, chain_faults, chain_rows}
+use Rattle.bdb_format.specs.Terms.{contents_faults, contents_rows, database_faults, database_rows, faults_in, file_of, first_row, form_code, form_faults}
+use Rattle.bdb_format.specs.Terms.{head_faults, head_of, head_rows, holds_somewhere, is_recno, master_faults, master_rows, or_else, ownership_faults}
+use Rattle.bdb_format.specs.Terms.{ownership_rows, page_bytes, reach_faults, reach_rows, recno_contents, reference_faults, reference_rows, stage_faults}
+use Rattle.bdb_format.specs.Terms.{structure_faults, structure_rows, tail_faults, tail_rows, tree_faults, tree_rows, ◌:?◌}
 use Rattle.bdb_format.specs.declared.kinds.Fault.{Fault}
-use Rattle.bdb_format.specs.File.{File, file_of, page_bytes}
-use Rattle.bdb_format.specs.HeadOf.{head_of, head_rows}
-use Rattle.bdb_format.specs.Rows.{form_code}
 use Rattle.bdb_format.specs.declared.metadata.Head.{Head}
-use Rattle.bdb_format.specs.Master.{master_rows}
-use Rattle.bdb_format.specs.Chains.{chain_rows}
-use Rattle.bdb_format.specs.ContentRows.{btree_contents, contents_rows, database_faults, database_rows, holds_somewhere, recno_contents}
-use Rattle.bdb_format.specs.Flags.{is_recno}
-use Rattle.bdb_format.specs.Leaves.{tree_rows}
-use Rattle.bdb_format.specs.Page.{Metadata, BtreeFields, HashFields, QueueFields}
-use Rattle.bdb_format.specs.Verdict.{chain_faults, holding, by_page, or_else, stage_faults, faults_in, head_faults, tail_faults}
-use Rattle.bdb_format.specs.Verdict.{form_faults, tree_faults, reference_faults, ownership_faults, reach_faults}
-use Rattle.bdb_format.specs.Verdict.{structure_faults, master_faults, contents_faults}
-use Rattle.bdb_format.specs.Verdict.{reference_rows, ownership_rows, reach_rows, structure_rows, tail_rows}
+use Rattle.bdb_format.specs.Verdict.{holding}
 use Rattle.bdb_format.proofs.MemberLemmas.{first_member, later_member, member_cases, no_member, of_map}
 use Rattle.bdb_format.proofs.VerdictLemmas.{IsOfStage, of_by_page}
 use Rattle.bdb_faults.specs.Notes.{Ascends, ComesBefore}

@@ -9,8 +9,7 @@ use Rattle.std.proofs.lemmas.List.Kept.{Any-dedup, Contains-from_dedup}
 use Rattle.std.proofs.lemmas.List.Sorted.{Contains-permutation, IsPermutation-sym}
 use Rattle.bdb_format.proofs.MemberLemmas.{member_cases, no_member, of_map, in_map}
 use Rattle.bdb_format.specs.declared.kinds.Fault.{Fault}
-use Rattle.bdb_format.specs.Cases.{fault_seen}
-use Rattle.bdb_format.specs.FaultTable.{row_code}
+use Rattle.bdb_format.specs.Terms.{fault_seen, row_code}
 use Rattle.bdb_format.specs.declared.named.Named.{Named}
 use Rattle.bdb_faults.specs.Members.{is_before, is_same}
 use Rattle.bdb_faults.specs.Notes.{AreOne, Ascends, ComesBefore}

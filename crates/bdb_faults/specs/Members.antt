@@ -1,6 +1,6 @@
 -- The order of what a list keeps: by page and then by code.
 use Rattle.std.specs.Prelude.{◌==◌, ◌&&◌, ◌||◌, nat_lt, Bool}
-use Rattle.bdb_format.specs.FaultTable.{row_code}
+use Rattle.bdb_format.specs.Terms.{row_code}
 use Rattle.bdb_format.specs.declared.named.Named.{Named}
 
 abbrev pub is_before : Named → Named → Bool

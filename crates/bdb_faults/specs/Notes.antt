@@ -1,7 +1,7 @@
 -- What is noted of the faults of a stage. Source: docs/FORMAT.md, "Faults".
 use Rattle.std.specs.Prelude.{◌≡◌, ◌⊎◌, ◌↔◌, ◌<◌, List, [], ◌∷◌, ◌++◌, Option, Some, None}
 use Rattle.std.specs.List.{Contains}
-use Rattle.bdb_format.specs.ByPage.{ComesFirst}
+use Rattle.bdb_format.specs.Terms.{ComesFirst}
 use Rattle.bdb_format.specs.declared.kinds.Fault.{Fault}
 
 -- a sink that had noted some faults has noted these too, after them

@@ -6,8 +6,7 @@ use Rattle.bdb_format.specs.declared.kinds.CheckError.TheVariants.{Fault as Chec
 use Rattle.bdb_format.specs.declared.kinds.Fault.{Fault}
 use Rattle.bdb_format.specs.declared.kinds.Verdict.{Verdict}
 use Rattle.bdb_format.specs.declared.kinds.Verdict.TheVariants.{Memory as VerdictMemory}
-use Rattle.bdb_format.specs.Verdict.{IsFirstOf, as_verdict, first_fault}
-use Rattle.bdb_format.specs.Cases.{fault_seen, judgement_seen}
+use Rattle.bdb_format.specs.Terms.{IsFirstOf, as_verdict, fault_seen, first_fault, judgement_seen}
 use Rattle.bdb_faults.specs.declared.refusals.AllError.{AllError}
 use Rattle.bdb_faults.specs.declared.refusals.AllError.TheVariants.{Faults, Memory as AllMemory}
 use Rattle.bdb_faults.specs.declared.refusals.FirstError.{FirstError}

@@ -2,9 +2,7 @@ ghost use Rattle.std.specs.Prelude.{◌≡◌, ◌∷◌, [], IfErr, List, Match
 ghost use Rattle.std.specs.Option.{option_map};
 ghost use Rattle.bdb_faults.specs.Notes.{Ascends, HasJust, IsFirst, Notes};
 ghost use Rattle.bdb_faults.specs.Refusals.{IsFirstRefusal, first_alike, is_first_memory};
-ghost use Rattle.bdb_format.specs.ByPage.{ComesFirst};
-ghost use Rattle.bdb_format.specs.Cases.{fault_seen};
-ghost use Rattle.bdb_format.specs.Verdict.{IsFirstOf};
+ghost use Rattle.bdb_format.specs.Terms.{ComesFirst, IsFirstOf, fault_seen};
 ghost use Rattle.bdb_format.specs.declared.kinds.Fault.{Fault as FaultSeen};
 
 use crate::{FaultSink, FirstError, Judge, check_error, judged};
@@ -22,7 +20,7 @@ impl Model for First {
     ghost use Rattle.std.specs.Prelude.{Option};
     ghost use Rattle.std.specs.Option.{option_map};
     ghost use Rattle.bdb_format.specs.declared.kinds.Fault.{Fault as FaultSeen};
-    ghost use Rattle.bdb_format.specs.Cases.{fault_seen};
+    ghost use Rattle.bdb_format.specs.Terms.{fault_seen};
 
     ghost Value = { Option FaultSeen };
 

@@ -7,7 +7,7 @@ ghost use Rattle.bdb_faults.specs.Members.{is_before, is_same};
 ghost use Rattle.bdb_faults.specs.Notes.{AreOne, Ascends, HasNoted, Notes};
 ghost use Rattle.bdb_faults.specs.Refusals.{IsAllOf, all_alike, is_all_memory};
 ghost use Rattle.bdb_format.specs.declared.kinds.Fault.{Fault as FaultSeen};
-ghost use Rattle.bdb_format.specs.Cases.{fault_seen};
+ghost use Rattle.bdb_format.specs.Terms.{fault_seen};
 
 use crate::{AllError, FaultSink, Judge};
 use bdb_format::{Named, Row};
@@ -24,7 +24,7 @@ pub struct NamedList {
 impl Model for NamedList {
     ghost use Rattle.std.specs.Prelude.{List, map};
     ghost use Rattle.bdb_format.specs.declared.kinds.Fault.{Fault as FaultSeen};
-    ghost use Rattle.bdb_format.specs.Cases.{fault_seen};
+    ghost use Rattle.bdb_format.specs.Terms.{fault_seen};
 
     ghost Value = { List FaultSeen };
 

@@ -1,6 +1,6 @@
 ghost use Rattle.std.specs.Prelude.{IsTrue, OnErr, OnOk};
 ghost use Rattle.bdb_faults.specs.Notes.{Notes};
-ghost use Rattle.bdb_format.specs.FaultTable.{fault_if};
+ghost use Rattle.bdb_format.specs.Terms.{fault_if};
 
 use crate::FaultSink;
 use bdb_format::Row;

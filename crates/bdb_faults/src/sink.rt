@@ -1,7 +1,7 @@
 ghost use Rattle.std.specs.Prelude.{◌≡◌, ◌==◌, ◌∷◌, [], Bool, IsTrue, List, OnErr, OnOk, length};
 ghost use Rattle.bdb_faults.specs.Notes.{Notes};
 ghost use Rattle.bdb_format.specs.declared.kinds.Fault.{Fault as FaultSeen};
-ghost use Rattle.bdb_format.specs.FaultTable.{fault_at};
+ghost use Rattle.bdb_format.specs.Terms.{fault_at};
 
 use bdb_format::Row;
 use std::alloc::AllocError;

@@ -2,11 +2,10 @@
 use Rattle.std.proofs.Common.{◌≡◌, ℕ, List, [], Some, None, sym, ◌∙◌, ap, subst}
 use Rattle.std.specs.Option.{option_map}
 use Rattle.bdb_check.specs.of_faults.Refusals.{IsFirstRefusal, first_verdict}
-use Rattle.bdb_check.specs.of_format.Cases.{judgement_seen}
+use Rattle.bdb_check.specs.of_format.Terms.{Faulty, Judgement, LeftOut, as_verdict, faults_of, first_judgement, judgement_of, judgement_seen, verdict_of}
 use Rattle.bdb_check.specs.of_faults.declared.refusals.FirstError.{FirstError}
 use Rattle.bdb_check.specs.of_faults.declared.refusals.FirstError.TheVariants.{Fault as FirstFault, Memory as FirstMemory}
 use Rattle.bdb_check.specs.of_format.declared.kinds.Verdict.{Verdict}
-use Rattle.bdb_check.specs.of_format.Verdict.{Faulty, Judgement, LeftOut, as_verdict, faults_of, first_judgement, judgement_of, verdict_of}
 use Rattle.bdb_check.specs.of_any_order.AnyOrder.{faults_by_rows}
 use Rattle.bdb_file.specs.Whole.{IsVerdictOf}
 use Rattle.bdb_check.specs.of_any_order.declared.rows.Rows.TheVariants.{All}

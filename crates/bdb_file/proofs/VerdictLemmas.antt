@@ -2,11 +2,9 @@
 use Rattle.std.proofs.Common.{◌≡◌, ℕ, ◌+◌, ◌^◌, ◌<◌, ◌≤◌, ◌++◌, length, List, [], ◌∷◌, arith, refl, sym, ◌∙◌, ap, subst}
 use Rattle.std.specs.Prelude.{Err, IfErr, IsErrAnd, Ok, Result}
 use Rattle.std.specs.List.{range_with_len}
-use Rattle.bdb_check.specs.of_format.Verdict.{faults_in, or_else, stage_faults}
+use Rattle.bdb_check.specs.of_format.Terms.{faults_in, file_of, head_of, or_else, stage_faults}
 use Rattle.bdb_check.proofs.of_format.VerdictLemmas.{skip_stage, skip_stages}
 use Rattle.bdb_check.specs.of_format.declared.kinds.Fault.{Fault}
-use Rattle.bdb_check.specs.of_format.File.{file_of}
-use Rattle.bdb_check.specs.of_format.HeadOf.{head_of}
 use Rattle.bdb_check.proofs.of_format.FileLemmas.{count_is, last_page}
 use Rattle.bdb_check.specs.of_image.Formed.{IsFormed}
 use Rattle.bdb_check.proofs.of_image.FirstLemmas.{formed_last}

@@ -4,7 +4,7 @@ use Rattle.bdb_check.specs.of_any_order.AnyOrder.{verdict_by}
 use Rattle.bdb_check.specs.of_any_order.declared.rows.Rows.{Rows}
 use Rattle.bdb_check.specs.of_format.declared.kinds.Verdict.{Verdict}
 use Rattle.bdb_check.specs.of_format.declared.kinds.Verdict.TheVariants.{Fault as FaultVerdict, Unsupported, Memory}
-use Rattle.bdb_check.specs.of_format.Verdict.{Faulty, LeftOut, verdict_of}
+use Rattle.bdb_check.specs.of_format.Terms.{Faulty, LeftOut, verdict_of}
 
 -- a refusal tells the verdict, or is want of memory
 abbrev pub IsVerdictOf : List ℕ → Verdict → Type 0

@@ -1,9 +1,7 @@
 ghost use Rattle.std.specs.Prelude.{◌≡◌, ◌<◌, ◌≤◌, ◌+◌, IfOk, length};
 ghost use Rattle.bdb_databases.specs.Lookup.{most_steps};
 ghost use Rattle.bdb_databases.specs.Named.{database_at};
-ghost use Rattle.bdb_check.specs.of_format.Databases.{data_under, databases};
-ghost use Rattle.bdb_check.specs.of_format.File.{file_of};
-ghost use Rattle.bdb_check.specs.of_format.Lists.{list_of};
+ghost use Rattle.bdb_check.specs.of_format.Terms.{data_under, databases, file_of, list_of};
 
 use crate::{Db, Found, Scan, Sound};
 use bdb_check::Steps;

@@ -2,11 +2,7 @@ ghost use Rattle.std.specs.Prelude.{◌≡◌, ◌<◌, [], IfSome, length, opti
 ghost use Rattle.bdb_databases.specs.Named.{database_at};
 ghost use Rattle.bdb_check.specs.of_image.Linked.{HasMetadata};
 ghost use Rattle.bdb_check.specs.of_image.Metas.{meta_seen};
-ghost use Rattle.bdb_check.specs.of_format.ContentRows.{database_faults};
-ghost use Rattle.bdb_check.specs.of_format.Databases.{databases, place_of, settings_of};
-ghost use Rattle.bdb_check.specs.of_format.File.{file_of};
-ghost use Rattle.bdb_check.specs.of_format.HeadOf.{head_of};
-ghost use Rattle.bdb_check.specs.of_format.Verdict.{faults_of, structure_faults};
+ghost use Rattle.bdb_check.specs.of_format.Terms.{database_faults, databases, faults_of, file_of, head_of, place_of, settings_of, structure_faults};
 
 use crate::{Db, Readable};
 use bdb_check::{Head, Linked, Meta, Settings};
@@ -21,7 +17,7 @@ pub struct Sound<'a> {
 
 impl<'a> Model for Sound<'a> {
     ghost use Rattle.std.specs.Prelude.{◌≡◌, [], List, ℕ};
-    ghost use Rattle.bdb_check.specs.of_format.Verdict.{faults_of};
+    ghost use Rattle.bdb_check.specs.of_format.Terms.{faults_of};
 
     ghost Value = { List ℕ };
 

@@ -2,8 +2,7 @@ ghost use Rattle.std.specs.Prelude.{◌≡◌, ◌≤◌, ◌+◌, ◌^◌, [], 
 ghost use Rattle.bdb_check.specs.of_any_order.AnyOrder.{faults_by_rows};
 ghost use Rattle.bdb_file.specs.Whole.{IsVerdictOf};
 ghost use Rattle.bdb_check.specs.of_faults.Refusals.{IsAllOf};
-ghost use Rattle.bdb_check.specs.of_format.File.{file_of};
-ghost use Rattle.bdb_check.specs.of_format.Verdict.{faults_in, faults_of, verdict_of};
+ghost use Rattle.bdb_check.specs.of_format.Terms.{faults_in, faults_of, file_of, verdict_of};
 
 use crate::{Readable, Rows, Sound};
 use bdb_check::{

@@ -1,8 +1,7 @@
 //! What a sound file tells: its databases, their settings, their lists, and what they have under a key.
 
 ghost use Rattle.std.specs.Prelude.{◌≡◌, ◌<◌, ◌≤◌, ◌^◌, length};
-ghost use Rattle.bdb_format.specs.Databases.{databases};
-ghost use Rattle.bdb_format.specs.File.{file_of};
+ghost use Rattle.bdb_format.specs.Terms.{databases, file_of};
 
 use crate::files::TWO_DATABASES;
 use crate::judging::SIZE;

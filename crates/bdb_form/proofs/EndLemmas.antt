@@ -6,11 +6,9 @@ use Rattle.std.proofs.lemmas.Bool.Decides.{nat_tests}
 use Rattle.bdb_layout.specs.of_format.declared.kinds.Order.{Order}
 use Rattle.bdb_layout.specs.of_format.declared.pages.PageType.{PageType}
 use Rattle.bdb_layout.specs.of_format.declared.pages.PageType.TheVariants.{Internal as InternalPage, RecnoInternal as RecnoInternalPage}
-use Rattle.bdb_layout.specs.of_format.Numbers.{four_at, two_at}
-use Rattle.bdb_layout.specs.of_format.Page.{Content, Inline, Chain, Tree}
-use Rattle.bdb_layout.specs.of_format.Reading.{entries_of, index_end, internal_item_at, internal_key, kind_at, leaf_content, leaf_item_at, offset_of}
-use Rattle.bdb_layout.specs.of_format.Rows.{internal_end, internal_rows, item_rows, leaf_end, leaf_rows, listed_code, recno_end, recno_rows}
-use Rattle.bdb_layout.specs.of_format.Table.{first_row}
+use Rattle.bdb_layout.specs.of_format.Terms.{Chain, Content, Inline, Tree, entries_of, first_row, four_at, index_end, internal_end, internal_item_at}
+use Rattle.bdb_layout.specs.of_format.Terms.{internal_key, internal_rows, item_rows, kind_at, leaf_content, leaf_end, leaf_item_at, leaf_rows, listed_code}
+use Rattle.bdb_layout.specs.of_format.Terms.{offset_of, recno_end, recno_rows, two_at}
 use Rattle.bdb_layout.proofs.of_format.ItemLemmas.{no_index_row, no_item_row}
 use Rattle.bdb_layout.proofs.of_format.TurnLemmas.{length-slice_range}
 use Rattle.bdb_layout.specs.Fits.{FitsInternal, FitsLeaf}

@@ -4,20 +4,15 @@ use Rattle.std.proofs.Common.{le-leb, ne_eqb}
 use Rattle.std.specs.Prelude.{slice_index, not, ◌==◌, IsTrue, Bool, true, false, Option, Some, None, slice_get}
 use Rattle.bdb_layout.specs.of_format.declared.kinds.Order.{Order}
 use Rattle.bdb_layout.specs.of_format.declared.kinds.Order.TheVariants.{Big}
-use Rattle.bdb_layout.specs.of_format.Numbers.{byte_at, four_at}
-use Rattle.bdb_layout.specs.of_format.Page.{Queue}
+use Rattle.bdb_layout.specs.of_format.Terms.{Queue, body_code, byte_at, code_of, entries_of, first_row, form_row_code, four_at, index_end, index_rows}
+use Rattle.bdb_layout.specs.of_format.Terms.{is_queue_type, is_shared_key, is_tree_type, is_wrong_entry_count, is_zero, item_code, item_rows, listed, page_as}
+use Rattle.bdb_layout.specs.of_format.Terms.{page_code, page_type, queue_code, ◌:?◌}
 use Rattle.bdb_layout.specs.of_format.declared.pages.PageType.{PageType}
 use Rattle.bdb_layout.specs.of_format.declared.pages.PageType.TheVariants.{Free as FreePage, Overflow as OverflowPage}
-use Rattle.bdb_layout.specs.of_format.Reading.{entries_of, index_end, is_zero, page_as, page_type, listed}
-use Rattle.bdb_layout.specs.of_format.References.{is_shared_key}
 use Rattle.std.specs.Option.{option_map}
 use Rattle.bdb_layout.specs.of_format.declared.pages.ItemFault.{ItemFault}
 use Rattle.bdb_layout.specs.of_format.declared.pages.ItemFault.TheVariants.{Offset, Kind, Extent}
 use Rattle.bdb_layout.specs.ItemRows.{item_form}
-use Rattle.bdb_layout.specs.of_format.FaultTable.{form_row_code}
-use Rattle.bdb_layout.specs.of_format.Rows.{code_of, is_queue_type, body_code, is_tree_type, page_code, queue_code, index_rows, item_code, item_rows}
-use Rattle.bdb_layout.specs.of_format.Rows.{is_wrong_entry_count}
-use Rattle.bdb_layout.specs.of_format.Table.{◌:?◌, first_row}
 use Rattle.bdb_layout.proofs.of_format.ItemLemmas.{index_passes, no_index_row, no_item_row}
 use Rattle.bdb_layout.specs.of_format.declared.pages.Header.{Header}
 use Rattle.bdb_layout.proofs.of_format.PageLemmas.{zero_header, length_items, get_item, header_listed, index_offset}

@@ -2,7 +2,7 @@
 use Rattle.std.proofs.Common.{◌≡◌, ℕ, ◌+◌, ◌*◌, ◌-◌, ◌≤◌, List, length, take, drop, arith, sym, ap, length-drop}
 use Rattle.std.specs.Prelude.{slice_range, slice_index}
 use Rattle.std.proofs.lemmas.List.{get_or-drop, drop-drop}
-use Rattle.bdb_layout.specs.of_format.Numbers.{pad4}
+use Rattle.bdb_layout.specs.of_format.Terms.{pad4}
 
 -- the record of a slot ends within the page
 pub record_ends : (page bytes : List ℕ) (i re_len size : ℕ) → drop 28 page ≡ bytes → (i + 1) * pad4 (re_len + 1) ≤ length bytes

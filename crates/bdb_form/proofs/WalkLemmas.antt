@@ -5,7 +5,7 @@ use Rattle.std.specs.Prelude.{Some, slice_get}
 use Rattle.std.proofs.lemmas.List.{drop_all}
 use Rattle.std.proofs.lemmas.List.FromFn.{length-map-range_with_len}
 use Rattle.std.proofs.lemmas.Option.{slice_get-get_or}
-use Rattle.bdb_layout.specs.of_format.Page.{Listed}
+use Rattle.bdb_layout.specs.of_format.Terms.{Listed}
 use Rattle.bdb_form.specs.Pairs.{pair_of, pairs_from}
 
 pub read_item : {I : Type 0} (items : List I) (i : ℕ) (none item : I) → i < length items → slice_get items i ≡ Some item → get_or items i none ≡ item

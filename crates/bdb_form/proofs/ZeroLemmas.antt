@@ -5,7 +5,7 @@ use Rattle.std.specs.Prelude.{◌==◌, ◌&&◌}
 use Rattle.std.specs.Str.{bytes_eq}
 use Rattle.std.proofs.Math.Seq.{take-length}
 use Rattle.std.proofs.lemmas.Bool.{cases_Bool, cases_eq, eq-eqb, ne_eqb}
-use Rattle.bdb_layout.specs.of_format.Reading.{is_zero}
+use Rattle.bdb_layout.specs.of_format.Terms.{is_zero}
 use Rattle.bdb_layout.proofs.of_format.LessLemmas.{eq_self, eq_same}
 
 pub no_bytes : (bytes : List ℕ) → length bytes ≡ 0 → true ≡ is_zero bytes

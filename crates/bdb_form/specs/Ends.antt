@@ -1,8 +1,7 @@
 -- Items of pages by the places where they begin. Source: docs/FORMAT.md, "Items".
 use Rattle.std.specs.Prelude.{◌<◌, ◌≤◌, ℕ, ◌+◌, List, length}
 use Rattle.bdb_layout.specs.of_format.declared.kinds.Order.{Order}
-use Rattle.bdb_layout.specs.of_format.Page.{Content, Inline, Set, Chain, Tree, Unknown}
-use Rattle.bdb_layout.specs.of_format.Reading.{entries_of, index_end, offset_of}
+use Rattle.bdb_layout.specs.of_format.Terms.{Chain, Content, Inline, Set, Tree, Unknown, entries_of, index_end, offset_of}
 
 -- an item lies behind the index and within the page, and so many bytes of it are there
 pub record IsPlaced (low size least begin end : ℕ) : Type 0 where

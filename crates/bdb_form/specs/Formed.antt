@@ -2,12 +2,9 @@
 use Rattle.std.specs.Prelude.{◌≡◌, ◌≤◌, ◌+◌, ℕ, List, length, Option, Some, None, Result, Ok, Err}
 use Rattle.bdb_layout.specs.of_format.declared.kinds.Order.{Order}
 use Rattle.bdb_layout.specs.of_format.declared.pages.Header.{Header}
-use Rattle.bdb_layout.specs.of_format.Numbers.{two_at}
-use Rattle.bdb_layout.specs.of_format.Page.{Metadata, BtreeFields, HashFields, QueueFields}
+use Rattle.bdb_layout.specs.of_format.Terms.{BtreeFields, HashFields, Metadata, QueueFields, btree_fields, hash_fields, listed_code, queue_fields, two_at}
 use Rattle.bdb_layout.specs.of_format.declared.pages.PageType.{PageType}
 use Rattle.bdb_layout.specs.of_format.declared.pages.PageType.TheVariants.{HashMeta as HashMetaPage, QueueMeta as QueueMetaPage}
-use Rattle.bdb_layout.specs.of_format.Reading.{hash_fields, btree_fields, queue_fields}
-use Rattle.bdb_layout.specs.of_format.Rows.{listed_code}
 
 -- a page with an index has the type and no fault of form
 pub record IsListed (t : PageType) (order : Order) (page : List ℕ) : Type 0 where

@@ -2,8 +2,7 @@
 use Rattle.std.specs.Prelude.{ℕ, ◌+◌, ◌*◌, ◌/◌, ◌-◌, ◌&&◌, Bool, List, length, map, get_or}
 use Rattle.std.specs.List.{range_with_len}
 use Rattle.bdb_form.specs.declared.page_pairs.Pair.{Pair}
-use Rattle.bdb_layout.specs.of_format.Page.{Listed}
-use Rattle.bdb_layout.specs.of_format.References.{is_shared_key}
+use Rattle.bdb_layout.specs.of_format.Terms.{Listed, is_shared_key}
 
 -- a pair by its place
 pub record PairOf (I : Type 0) : Type 0 where

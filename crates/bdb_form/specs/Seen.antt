@@ -3,10 +3,9 @@ use Rattle.std.specs.Prelude.{ℕ, Result, Ok, Err}
 use Rattle.bdb_form.specs.declared.view.PageView.{PageView}
 use Rattle.bdb_form.specs.declared.view.PageView.TheVariants.{Zero, Free, Meta, Leaf, Internal, RecnoLeaf, RecnoInternal, DupLeaf, Hash, Overflow, Queue}
 use Rattle.bdb_layout.specs.of_format.declared.pages.Header.{Header}
-use Rattle.bdb_layout.specs.of_format.File.{no_header}
-use Rattle.bdb_layout.specs.of_format.Page.{Page, Zero as ZeroPage, Free as FreePage, Meta as AnyMeta, Leaf as AnyLeaf, Internal as AnyInternal}
-use Rattle.bdb_layout.specs.of_format.Page.{RecnoLeaf as AnyRecnoLeaf, RecnoInternal as AnyRecnoInternal, DupLeaf as AnyDupLeaf, Hash as AnyHash, Overflow as AnyOverflow}
-use Rattle.bdb_layout.specs.of_format.Page.{Queue as AnyQueue}
+use Rattle.bdb_layout.specs.of_format.Terms.{DupLeaf as AnyDupLeaf, Free as FreePage, Hash as AnyHash, Internal as AnyInternal, Leaf as AnyLeaf}
+use Rattle.bdb_layout.specs.of_format.Terms.{Meta as AnyMeta, Overflow as AnyOverflow, Page, Queue as AnyQueue, RecnoInternal as AnyRecnoInternal}
+use Rattle.bdb_layout.specs.of_format.Terms.{RecnoLeaf as AnyRecnoLeaf, Zero as ZeroPage, no_header}
 
 abbrev pub page_seen : PageView → Page
 page_seen (Zero view) = ZeroPage

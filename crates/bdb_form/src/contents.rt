@@ -1,5 +1,5 @@
 ghost use Rattle.std.specs.Prelude.{◌≡◌};
-ghost use Rattle.bdb_layout.specs.of_format.Page.{Content as AnyContent};
+ghost use Rattle.bdb_layout.specs.of_format.Terms.{Content as AnyContent};
 ghost use Rattle.bdb_layout.specs.Seen.{content_seen};
 
 use crate::ItemKind;

@@ -2,8 +2,7 @@ ghost use Rattle.std.specs.Prelude.{◌≡◌, ◌==◌, ℕ, List, not, false};
 ghost use Rattle.bdb_layout.specs.of_format.declared.kinds.Order.{Order as AnyOrder};
 ghost use Rattle.bdb_layout.specs.of_format.declared.pages.PageType.{PageType};
 ghost use Rattle.bdb_layout.specs.of_format.declared.pages.PageType.TheVariants.{DupLeaf as DupLeafPage, RecnoLeaf as RecnoLeafPage};
-ghost use Rattle.bdb_layout.specs.of_format.Reading.{leaf_item_at};
-ghost use Rattle.bdb_layout.specs.of_format.Rows.{is_wrong_entry_count, is_wrong_level, item_rows, leaf_end, leaf_rows};
+ghost use Rattle.bdb_layout.specs.of_format.Terms.{is_wrong_entry_count, is_wrong_level, item_rows, leaf_end, leaf_item_at, leaf_rows};
 ghost use Rattle.bdb_layout.specs.Seen.{leaf_item_seen};
 
 use crate::{ContentKind, EndKind, IndexedView, ItemKind, PageKind};
@@ -64,8 +63,7 @@ pub struct EntryLeafKind<E: Entries> {
 }
 
 impl<E: Entries> Model for EntryLeafKind<E> {
-    ghost use Rattle.bdb_layout.specs.of_format.Page.{Item};
-    ghost use Rattle.bdb_layout.specs.of_format.References.{no_item};
+    ghost use Rattle.bdb_layout.specs.of_format.Terms.{Item, no_item};
 
     ghost Value = { Item };
 
@@ -74,7 +72,7 @@ impl<E: Entries> Model for EntryLeafKind<E> {
 
 impl<E: Entries> PageKind for EntryLeafKind<E> {
     ghost use Rattle.std.specs.Prelude.{false};
-    ghost use Rattle.bdb_layout.specs.of_format.References.{no_item};
+    ghost use Rattle.bdb_layout.specs.of_format.Terms.{no_item};
 
     ghost page_type = { E.page_type };
 

@@ -1,14 +1,10 @@
 ghost use Rattle.std.specs.Prelude.{◌≡◌, ◌≤◌, None, IfOk, IsTrue, false, length};
 ghost use Rattle.std.specs.Option.{option_map};
-ghost use Rattle.bdb_layout.specs.of_format.FaultTable.{form_row_code};
+ghost use Rattle.bdb_layout.specs.of_format.Terms.{abstract_page, body_code, byte_at, first_row, form_row_code, four_at, header_of, identity_rows};
+ghost use Rattle.bdb_layout.specs.of_format.Terms.{is_page_size, is_queue_type, is_tree_type, is_zero, page_as, page_code, page_type, queue_code};
 ghost use Rattle.bdb_form.specs.Formed.{unless};
 ghost use Rattle.bdb_form.specs.Seen.{form_seen, header_seen, page_seen};
-ghost use Rattle.bdb_layout.specs.of_format.HeadOf.{is_page_size};
-ghost use Rattle.bdb_layout.specs.of_format.Numbers.{byte_at, four_at};
 ghost use Rattle.bdb_layout.specs.of_format.declared.pages.PageType.TheVariants.{Overflow as OverflowPage};
-ghost use Rattle.bdb_layout.specs.of_format.Reading.{abstract_page, header_of, is_zero, page_as, page_type};
-ghost use Rattle.bdb_layout.specs.of_format.Rows.{body_code, identity_rows, is_queue_type, is_tree_type, page_code, queue_code};
-ghost use Rattle.bdb_layout.specs.of_format.Table.{first_row};
 
 use crate::rows::listed_row;
 use crate::zeros::is_zero;

@@ -1,5 +1,5 @@
 ghost use Rattle.std.specs.Prelude.{◌≡◌, ◌≤◌, length};
-ghost use Rattle.bdb_layout.specs.of_format.Reading.{header_of};
+ghost use Rattle.bdb_layout.specs.of_format.Terms.{header_of};
 
 use bdb_layout::{Header, Order, header, u32_at};
 use std::marker::Model;
@@ -13,7 +13,7 @@ pub struct FreeView<'a> {
 
 impl<'a> Model for FreeView<'a> {
     ghost use Rattle.bdb_form.specs.Formed.{HasHeader};
-    ghost use Rattle.bdb_layout.specs.of_format.Reading.{header_of};
+    ghost use Rattle.bdb_layout.specs.of_format.Terms.{header_of};
     ghost use Rattle.bdb_layout.specs.of_format.declared.pages.Header.{Header};
 
     ghost Value = { Header };

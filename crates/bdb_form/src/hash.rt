@@ -1,5 +1,5 @@
 ghost use Rattle.bdb_layout.specs.of_format.declared.pages.PageType.TheVariants.{Hash as HashPage};
-ghost use Rattle.bdb_layout.specs.of_format.Reading.{hash_item_at};
+ghost use Rattle.bdb_layout.specs.of_format.Terms.{hash_item_at};
 ghost use Rattle.bdb_layout.specs.Seen.{hash_item_seen};
 
 use crate::{ContentKind, IndexedView, ItemKind, PageKind, PairKind};
@@ -14,8 +14,7 @@ pub type HashView<'a> = IndexedView<'a, HashKind>;
 pub struct HashKind;
 
 impl Model for HashKind {
-    ghost use Rattle.bdb_layout.specs.of_format.Page.{Item};
-    ghost use Rattle.bdb_layout.specs.of_format.References.{no_item};
+    ghost use Rattle.bdb_layout.specs.of_format.Terms.{Item, no_item};
 
     ghost Value = { Item };
 
@@ -24,7 +23,7 @@ impl Model for HashKind {
 
 impl PageKind for HashKind {
     ghost use Rattle.std.specs.Prelude.{false};
-    ghost use Rattle.bdb_layout.specs.of_format.References.{no_item};
+    ghost use Rattle.bdb_layout.specs.of_format.Terms.{no_item};
 
     ghost page_type = { HashPage };
 

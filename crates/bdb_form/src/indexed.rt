@@ -2,10 +2,8 @@ ghost use Rattle.std.specs.Prelude.{◌≡◌, ◌<◌, ◌≤◌, ℕ, List, le
 ghost use Rattle.std.specs.Option.{option_map};
 ghost use Rattle.bdb_layout.specs.of_format.declared.kinds.Order.{Order as AnyOrder};
 ghost use Rattle.bdb_layout.specs.of_format.declared.pages.PageType.{PageType};
-ghost use Rattle.bdb_layout.specs.of_format.Reading.{entries_of, header_of, index_end, listed};
-ghost use Rattle.bdb_layout.specs.of_format.References.{is_shared_key};
-ghost use Rattle.bdb_layout.specs.of_format.Rows.{is_wrong_entry_count, is_wrong_level, item_rows, listed_code};
-ghost use Rattle.bdb_layout.specs.of_format.Table.{first_row};
+ghost use Rattle.bdb_layout.specs.of_format.Terms.{entries_of, first_row, header_of, index_end, is_shared_key, is_wrong_entry_count, is_wrong_level, item_rows};
+ghost use Rattle.bdb_layout.specs.of_format.Terms.{listed, listed_code};
 ghost use Rattle.bdb_layout.specs.ItemRows.{item_form};
 
 use bdb_layout::{FormRow, Header, Order, header, u16_at};
@@ -66,8 +64,7 @@ pub struct IndexedView<'a, K: PageKind> {
 
 impl<'a, K: PageKind> Model for IndexedView<'a, K> {
     ghost use Rattle.bdb_form.specs.Formed.{IsListed};
-    ghost use Rattle.bdb_layout.specs.of_format.Page.{Listed};
-    ghost use Rattle.bdb_layout.specs.of_format.Reading.{listed};
+    ghost use Rattle.bdb_layout.specs.of_format.Terms.{Listed, listed};
 
     ghost Value = { Listed K };
 

@@ -1,6 +1,5 @@
 ghost use Rattle.bdb_layout.specs.of_format.declared.pages.PageType.TheVariants.{Internal as InternalPage};
-ghost use Rattle.bdb_layout.specs.of_format.Reading.{internal_item_at};
-ghost use Rattle.bdb_layout.specs.of_format.Rows.{internal_end};
+ghost use Rattle.bdb_layout.specs.of_format.Terms.{internal_end, internal_item_at};
 ghost use Rattle.bdb_layout.specs.Seen.{internal_item_seen};
 
 use crate::{ContentKind, EndKind, IndexedView, ItemKind, PageKind};
@@ -17,7 +16,7 @@ pub type InternalView<'a> = IndexedView<'a, InternalKind>;
 pub struct InternalKind;
 
 impl Model for InternalKind {
-    ghost use Rattle.bdb_layout.specs.of_format.Page.{InternalItem, Unknown};
+    ghost use Rattle.bdb_layout.specs.of_format.Terms.{InternalItem, Unknown};
 
     ghost Value = { InternalItem };
 
@@ -26,7 +25,7 @@ impl Model for InternalKind {
 
 impl PageKind for InternalKind {
     ghost use Rattle.std.specs.Prelude.{false};
-    ghost use Rattle.bdb_layout.specs.of_format.Page.{Unknown};
+    ghost use Rattle.bdb_layout.specs.of_format.Terms.{Unknown};
 
     ghost page_type = { InternalPage };
 

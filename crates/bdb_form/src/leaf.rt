@@ -1,7 +1,5 @@
 ghost use Rattle.bdb_layout.specs.of_format.declared.pages.PageType.TheVariants.{Leaf as LeafPage};
-ghost use Rattle.bdb_layout.specs.of_format.Reading.{leaf_item_at};
-ghost use Rattle.bdb_layout.specs.of_format.References.{no_item};
-ghost use Rattle.bdb_layout.specs.of_format.Rows.{leaf_end};
+ghost use Rattle.bdb_layout.specs.of_format.Terms.{leaf_end, leaf_item_at, no_item};
 ghost use Rattle.bdb_layout.specs.Seen.{leaf_item_seen};
 
 use crate::{ContentKind, EndKind, IndexedView, ItemKind, PageKind, PairKind};
@@ -16,8 +14,7 @@ pub type LeafView<'a> = IndexedView<'a, LeafKind>;
 pub struct LeafKind;
 
 impl Model for LeafKind {
-    ghost use Rattle.bdb_layout.specs.of_format.Page.{Item};
-    ghost use Rattle.bdb_layout.specs.of_format.References.{no_item};
+    ghost use Rattle.bdb_layout.specs.of_format.Terms.{Item, no_item};
 
     ghost Value = { Item };
 

@@ -1,7 +1,6 @@
 ghost use Rattle.std.specs.Prelude.{◌≡◌, ◌≤◌, length};
 ghost use Rattle.bdb_form.specs.Formed.{fields_as};
-ghost use Rattle.bdb_layout.specs.of_format.Numbers.{byte_at};
-ghost use Rattle.bdb_layout.specs.of_format.Reading.{header_of, page_type};
+ghost use Rattle.bdb_layout.specs.of_format.Terms.{byte_at, header_of, page_type};
 
 use bdb_layout::{Header, Order, header};
 use std::marker::Model;
@@ -15,8 +14,7 @@ pub struct MetaView<'a> {
 
 impl<'a> Model for MetaView<'a> {
     ghost use Rattle.bdb_form.specs.Formed.{HasHeader, MetaPage, fields_as};
-    ghost use Rattle.bdb_layout.specs.of_format.Numbers.{byte_at};
-    ghost use Rattle.bdb_layout.specs.of_format.Reading.{header_of, page_type};
+    ghost use Rattle.bdb_layout.specs.of_format.Terms.{byte_at, header_of, page_type};
 
     ghost Value = { MetaPage };
 

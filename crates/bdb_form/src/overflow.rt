@@ -1,9 +1,7 @@
 ghost use Rattle.std.specs.Prelude.{◌≡◌, ◌≤◌, length, take, drop};
 ghost use Rattle.bdb_form.specs.Formed.{HoldsData, unless};
-ghost use Rattle.bdb_layout.specs.of_format.Numbers.{two_at};
+ghost use Rattle.bdb_layout.specs.of_format.Terms.{body_code, header_of, two_at};
 ghost use Rattle.bdb_layout.specs.of_format.declared.pages.PageType.TheVariants.{Overflow as OverflowPage};
-ghost use Rattle.bdb_layout.specs.of_format.Reading.{header_of};
-ghost use Rattle.bdb_layout.specs.of_format.Rows.{body_code};
 
 use bdb_layout::{Header, Order, header, u16_at, u32_at};
 use std::marker::Model;
@@ -18,8 +16,7 @@ pub struct OverflowView<'a> {
 impl<'a> Model for OverflowView<'a> {
     ghost use Rattle.std.specs.Prelude.{take, drop};
     ghost use Rattle.bdb_form.specs.Formed.{HoldsData, OverflowPage};
-    ghost use Rattle.bdb_layout.specs.of_format.Numbers.{two_at};
-    ghost use Rattle.bdb_layout.specs.of_format.Reading.{header_of};
+    ghost use Rattle.bdb_layout.specs.of_format.Terms.{header_of, two_at};
 
     ghost Value = { OverflowPage };
 

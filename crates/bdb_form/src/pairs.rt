@@ -1,6 +1,5 @@
 ghost use Rattle.std.specs.Prelude.{◌≡◌, ◌+◌, ◌*◌, ◌<◌, ◌%◌, ◌==◌, ◌&&◌, ℕ, length, slice_get, Some};
-ghost use Rattle.bdb_layout.specs.of_format.References.{is_shared_key};
-ghost use Rattle.bdb_layout.specs.of_format.Rows.{is_wrong_entry_count};
+ghost use Rattle.bdb_layout.specs.of_format.Terms.{is_shared_key, is_wrong_entry_count};
 
 use crate::{IndexedView, ItemKind, PageKind};
 use bdb_layout::u16_at;

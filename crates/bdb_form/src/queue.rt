@@ -1,6 +1,5 @@
 ghost use Rattle.std.specs.Prelude.{◌≡◌, ◌≤◌, ◌+◌, ◌*◌, length, drop, slice_index, slice_range};
-ghost use Rattle.bdb_layout.specs.of_format.Numbers.{four_at, has_bit, pad4};
-ghost use Rattle.bdb_layout.specs.of_format.Reading.{header_of};
+ghost use Rattle.bdb_layout.specs.of_format.Terms.{four_at, has_bit, header_of, pad4};
 
 use bdb_layout::{Header, Order, header, slot_size};
 use std::marker::Model;
@@ -15,8 +14,7 @@ pub struct QueueView<'a> {
 impl<'a> Model for QueueView<'a> {
     ghost use Rattle.std.specs.Prelude.{drop};
     ghost use Rattle.bdb_form.specs.Formed.{HasHeader, QueuePage};
-    ghost use Rattle.bdb_layout.specs.of_format.Numbers.{four_at};
-    ghost use Rattle.bdb_layout.specs.of_format.Reading.{header_of};
+    ghost use Rattle.bdb_layout.specs.of_format.Terms.{four_at, header_of};
 
     ghost Value = { QueuePage };
 

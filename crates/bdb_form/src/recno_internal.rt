@@ -1,6 +1,5 @@
 ghost use Rattle.bdb_layout.specs.of_format.declared.pages.PageType.TheVariants.{RecnoInternal as RecnoInternalPage};
-ghost use Rattle.bdb_layout.specs.of_format.Reading.{recno_item_at};
-ghost use Rattle.bdb_layout.specs.of_format.Rows.{recno_end};
+ghost use Rattle.bdb_layout.specs.of_format.Terms.{recno_end, recno_item_at};
 
 use crate::{EndKind, IndexedView, ItemKind, PageKind};
 use bdb_layout::{FormRow, Order, RecnoItem, known_recno_item, recno_end, recno_row};

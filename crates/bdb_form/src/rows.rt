@@ -1,9 +1,6 @@
 ghost use Rattle.std.specs.Prelude.{◌≡◌, ◌≤◌, ◌<◌, length, min};
 ghost use Rattle.std.specs.Option.{option_map};
-ghost use Rattle.bdb_layout.specs.of_format.Reading.{entries_of, index_end};
-ghost use Rattle.bdb_layout.specs.of_format.Rows.{all_item_rows, index_rows, item_row, listed_code};
-ghost use Rattle.bdb_layout.specs.of_format.Table.{first_row, lesser};
-ghost use Rattle.bdb_layout.specs.of_format.FaultTable.{form_row_code};
+ghost use Rattle.bdb_layout.specs.of_format.Terms.{all_item_rows, entries_of, first_row, form_row_code, index_end, index_rows, item_row, lesser, listed_code};
 
 use crate::PageKind;
 use bdb_layout::{FormRow, Order, u16_at};

@@ -1,6 +1,6 @@
 ghost use Rattle.std.specs.Prelude.{◌≡◌};
 ghost use Rattle.bdb_form.specs.Seen.{header_seen};
-ghost use Rattle.bdb_layout.specs.of_format.File.{no_header};
+ghost use Rattle.bdb_layout.specs.of_format.Terms.{no_header};
 
 use crate::{
     DupLeafView, FreeView, HashView, InternalView, LeafView, MetaView, OverflowView, QueueView,

@@ -1,5 +1,5 @@
 ghost use Rattle.std.specs.Prelude.{◌≡◌, ◌≤◌, length};
-ghost use Rattle.bdb_layout.specs.of_format.Reading.{is_zero};
+ghost use Rattle.bdb_layout.specs.of_format.Terms.{is_zero};
 
 use bdb_layout::{PageType, page_type};
 

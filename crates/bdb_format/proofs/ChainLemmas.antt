@@ -1,7 +1,6 @@
 -- Laws that several crates use.
 use Rattle.std.proofs.Common.{ℕ, zero, suc, ◌≤◌, length, arith}
-use Rattle.bdb_format.specs.Chains.{chain_in, next_of}
-use Rattle.bdb_format.specs.File.{File}
+use Rattle.bdb_format.specs.Terms.{File, chain_in, next_of}
 
 -- a chain has no more pages than turns
 pub chain_few : (turns : ℕ) (file : File) (p : ℕ) → length (chain_in turns file p) ≤ turns

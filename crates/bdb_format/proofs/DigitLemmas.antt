@@ -7,7 +7,7 @@ use Rattle.std.proofs.lemmas.List.{take_all}
 use Rattle.std.proofs.lemmas.List.Folds.{list_all_at, list_all_more}
 use Rattle.std.proofs.lemmas.List.Sums.{fold_more}
 use Rattle.std.proofs.Math.Nat.{pow-le-pow_right, pow-suc}
-use Rattle.bdb_format.specs.Digits.{digits_value, is_digit, is_number, number_in}
+use Rattle.bdb_format.specs.Terms.{digits_value, is_digit, is_number, number_in}
 
 -- Texts that are no numbers.
 

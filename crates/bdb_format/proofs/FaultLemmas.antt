@@ -1,12 +1,8 @@
 -- Laws that several crates use.
 use Rattle.std.proofs.Common.{◌≡◌, ℕ, arith, inl, inr, ◌∙◌, refl, ◌+◌, List, [], ap}
-use Rattle.bdb_format.specs.ByPage.{ComesFirst}
+use Rattle.bdb_format.specs.Terms.{ComesFirst, File, chain_faults, chain_rows, or_else, tree_faults, tree_rows}
 use Rattle.bdb_format.specs.declared.kinds.Fault.{Fault}
 use Rattle.bdb_format.proofs.VerdictLemmas.{InOrder, table_in_order}
-use Rattle.bdb_format.specs.File.{File}
-use Rattle.bdb_format.specs.Chains.{chain_rows}
-use Rattle.bdb_format.specs.Leaves.{tree_rows}
-use Rattle.bdb_format.specs.Verdict.{chain_faults, tree_faults, or_else}
 
 -- faults of one stage, page and code are one
 pub same_parts : (s t p q c d : ℕ) → s ≡ t → p ≡ q → c ≡ d

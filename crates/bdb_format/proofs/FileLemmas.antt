@@ -2,10 +2,7 @@
 use Rattle.std.proofs.Common.{◌≡◌, ℕ, ◌+◌, ◌<◌, ◌≤◌, List, length, arith, refl}
 use Rattle.std.proofs.lemmas.List.{get_or_past}
 use Rattle.std.proofs.lemmas.List.FromFn.{get_or-map-range_with_len, length-map-range_with_len}
-use Rattle.bdb_format.specs.File.{file_of, page_at, page_bytes}
-use Rattle.bdb_format.specs.HeadOf.{head_of}
-use Rattle.bdb_format.specs.Page.{NoType}
-use Rattle.bdb_format.specs.Reading.{abstract_page}
+use Rattle.bdb_format.specs.Terms.{NoType, abstract_page, file_of, head_of, page_at, page_bytes}
 
 pub kind_is : (image : List ℕ) → (file_of image).kind ≡ (head_of image).kind
 unfolding file_of

@@ -12,19 +12,14 @@ use Rattle.bdb_format.specs.declared.metadata.FileKind.TheVariants.{Btree, Hash 
 use Rattle.bdb_format.specs.declared.references.Sort.{Sort}
 use Rattle.bdb_format.specs.declared.references.Sort.TheVariants.{Root, Child}
 use Rattle.bdb_format.specs.declared.references.Reference.{Reference}
-use Rattle.bdb_format.specs.Numbers.{byte_at}
-use Rattle.bdb_format.specs.Table.{Row, ◌:?◌, first_row}
-use Rattle.bdb_format.specs.Page.{Metadata, BtreeFields, HashFields, QueueFields, Page, Zero, Meta, Internal, RecnoInternal}
+use Rattle.bdb_format.specs.Terms.{Asked, BtreeFields, EachPageHasOneRole, File, HasRole, HashFields, Internal, Meta, Metadata, Owner, Page, QueueFields}
+use Rattle.bdb_format.specs.Terms.{RecnoInternal, RolesExclude, RolesExcludeEachOther, Row, Zero, abstract_page, all_references, asked_by, byte_at}
+use Rattle.bdb_format.specs.Terms.{child_types, code_of, fails_as, file_of, first_row, fit_code, form_code, form_faults, has_heads_alone, has_type, head_of}
+use Rattle.bdb_format.specs.Terms.{header_in, identity_rows, is_anchor, is_anchor_in, is_hash_meta, is_meta, is_reserve, is_spare, is_zero, is_zero_page}
+use Rattle.bdb_format.specs.Terms.{may_have_type, owners, ownership_faults, ownership_rows, page_as, page_at, page_bytes, page_type, reach_faults, reach_rows}
+use Rattle.bdb_format.specs.Terms.{reaches, reference_faults, reference_rows, refs, root_types, some_fails, type_in, typed_code, ◌:?◌}
 use Rattle.bdb_format.specs.declared.pages.PageType.{PageType}
-use Rattle.bdb_format.specs.Reading.{is_zero, page_type, page_as, abstract_page}
-use Rattle.bdb_format.specs.Rows.{code_of, identity_rows, may_have_type, typed_code, form_code}
-use Rattle.bdb_format.specs.HeadOf.{head_of}
-use Rattle.bdb_format.specs.File.{File, file_of, page_bytes, page_at, header_in, type_in}
-use Rattle.bdb_format.specs.References.{refs, Asked, asked_by, root_types, child_types, is_zero_page, has_type, fit_code}
-use Rattle.bdb_format.specs.Graph.{Owner, all_references, owners, is_meta, is_hash_meta, is_anchor_in, is_anchor, is_spare, is_reserve}
-use Rattle.bdb_format.specs.Graph.{has_heads_alone, reaches, HasRole}
-use Rattle.bdb_format.specs.Verdict.{holding, fails_as, some_fails, reference_rows, reference_faults, ownership_rows, ownership_faults, reach_rows}
-use Rattle.bdb_format.specs.Verdict.{reach_faults, form_faults, RolesExclude, RolesExcludeEachOther, EachPageHasOneRole}
+use Rattle.bdb_format.specs.Verdict.{holding}
 use Rattle.bdb_format.proofs.PageLemmas.{later_type}
 use Rattle.bdb_format.proofs.ReferenceLemmas.{no_refs, of_all}
 use Rattle.std.proofs.lemmas.Bool.Decides.{nat_tests}

@@ -7,11 +7,9 @@ use Rattle.std.proofs.lemmas.Bool.{cases_order}
 use Rattle.bdb_format.specs.declared.kinds.Order.{Order}
 use Rattle.bdb_format.specs.declared.pages.ItemFault.{ItemFault}
 use Rattle.bdb_format.specs.declared.pages.ItemFault.TheVariants.{Offset, Kind, Extent}
-use Rattle.bdb_format.specs.Numbers.{byte_at}
+use Rattle.bdb_format.specs.Terms.{Row, all_item_rows, byte_at, entries_of, first_row, index_end, index_rows, is_code, is_wrong_entry_count, is_wrong_level}
+use Rattle.bdb_format.specs.Terms.{item_code, item_row, item_rows, lesser, listed_code, ◌:?◌}
 use Rattle.bdb_format.specs.declared.pages.PageType.{PageType}
-use Rattle.bdb_format.specs.Reading.{entries_of, index_end}
-use Rattle.bdb_format.specs.Rows.{all_item_rows, index_rows, is_code, is_wrong_entry_count, is_wrong_level, item_code, item_row, item_rows, listed_code}
-use Rattle.bdb_format.specs.Table.{Row, ◌:?◌, first_row, lesser}
 use Rattle.bdb_format.proofs.PageLemmas.{map_none}
 use Rattle.bdb_format.proofs.VerdictLemmas.{none_is_first_row}
 

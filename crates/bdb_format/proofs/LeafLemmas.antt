@@ -2,8 +2,7 @@
 use Rattle.std.proofs.Common.{◌≡◌, ℕ, ◌<◌, List, get_or, arith, ap}
 use Rattle.std.proofs.lemmas.List.FromFn.{get_or-map-range_with_len}
 use Rattle.bdb_format.specs.declared.kinds.Order.{Order}
-use Rattle.bdb_format.specs.Reading.{entries_of, leaf_item_at, listed, is_deleted, kind_at, leaf_content, offset_of}
-use Rattle.bdb_format.specs.References.{no_item}
+use Rattle.bdb_format.specs.Terms.{entries_of, is_deleted, kind_at, leaf_content, leaf_item_at, listed, no_item, offset_of}
 
 -- an item of a leaf is what stands at its offset
 pub leaf_item_is : (order : Order) (page : List ℕ) (i : ℕ) → i < entries_of order page → get_or (listed order page (leaf_item_at order page)).items i no_item

@@ -5,7 +5,7 @@ use Rattle.std.proofs.lemmas.Slice.Eq.{bytes_eq-Decides}
 use Rattle.std.proofs.Common.{◌≡◌, ℕ, List, [], ◌∷◌, refl, arith, le-ltb, eq-eqb}
 use Rattle.std.specs.Prelude.{false, true}
 use Rattle.std.specs.Str.{bytes_eq}
-use Rattle.bdb_format.specs.Less.{less, Less}
+use Rattle.bdb_format.specs.Terms.{Less, less}
 
 pub less_self : (xs : List ℕ) → less xs xs ≡ false
 less_self [] = refl

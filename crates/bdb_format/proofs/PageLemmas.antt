@@ -10,11 +10,8 @@ use Rattle.std.proofs.lemmas.Option.{slice_get-get_or}
 use Rattle.bdb_format.specs.declared.kinds.Order.{Order}
 use Rattle.bdb_format.specs.declared.kinds.Order.TheVariants.{Big, Little}
 use Rattle.bdb_format.specs.declared.metadata.FileKind.{FileKind}
-use Rattle.bdb_format.specs.File.{no_header}
-use Rattle.bdb_format.specs.Numbers.{byte_at, four_at, number, number_at, two_at}
-use Rattle.bdb_format.specs.Reading.{listed, entries_of, offset_of, header_of, is_zero}
-use Rattle.bdb_format.specs.Rows.{field_rows, identity_rows, metadata_rows, is_queue, is_queue_type, is_tree_type, may_have_type, type_of}
-use Rattle.bdb_format.specs.Table.{Row, first_row, answer}
+use Rattle.bdb_format.specs.Terms.{Row, answer, byte_at, entries_of, field_rows, first_row, four_at, header_of, identity_rows, is_queue, is_queue_type}
+use Rattle.bdb_format.specs.Terms.{is_tree_type, is_zero, listed, may_have_type, metadata_rows, no_header, number, number_at, offset_of, two_at, type_of}
 use Rattle.std.proofs.lemmas.Bool.{and_parts, eqb-true}
 use Rattle.bdb_format.specs.declared.metadata.FileKind.TheVariants.{Btree, Hash, Queue}
 

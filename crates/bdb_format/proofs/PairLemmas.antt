@@ -2,14 +2,11 @@
 use Rattle.std.proofs.Common.{arith}
 use Rattle.std.proofs.Common.{List, [], ◌∷◌, refl, subst, inl, inr, ◌≡◌, ℕ, ◌++◌, Bool, true, false, cond}
 use Rattle.std.specs.List.{Contains}
-use Rattle.bdb_format.specs.ContentRows.{neighbours_from, neighbours, btree_contents, recno_contents}
-use Rattle.bdb_format.specs.Contents.{StoredPair}
+use Rattle.bdb_format.specs.Terms.{File, ListKey, StoredPair, btree_contents, get, neighbours, neighbours_from, recno_contents}
 use Rattle.bdb_format.proofs.MemberLemmas.{first_member, later_member, member_cases, no_member}
 use Rattle.std.proofs.lemmas.List.{map-append}
 use Rattle.std.proofs.lemmas.List.Elements.{filter-append}
-use Rattle.bdb_format.specs.Lists.{ListKey, get}
 use Rattle.bdb_format.specs.declared.metadata.BtreeMeta.{BtreeMeta}
-use Rattle.bdb_format.specs.File.{File}
 use Rattle.bdb_format.specs.Verdict.{holding}
 
 -- the second of two neighbours is one of the pairs

@@ -2,12 +2,9 @@
 use Rattle.std.proofs.Common.{◌≡◌, ℕ, refl, [], ap, ◌+◌, ◌≤◌, arith, subst}
 use Rattle.bdb_format.specs.declared.metadata.FileKind.{FileKind}
 use Rattle.bdb_format.specs.declared.metadata.FileKind.TheVariants.{Btree, Hash as HashFile, Queue as QueueFile, Queue}
-use Rattle.bdb_format.specs.Page.{Page}
-use Rattle.bdb_format.specs.References.{targets_in, targets_of, refs}
-use Rattle.bdb_format.specs.File.{File, page_at}
+use Rattle.bdb_format.specs.Terms.{File, Owner, Page, all_references, held_by, page_at, refs, targets_in, targets_of}
 use Rattle.std.specs.List.{Contains, range_with_len}
 use Rattle.bdb_format.specs.declared.references.Reference.{Reference}
-use Rattle.bdb_format.specs.Graph.{all_references, held_by, Owner}
 use Rattle.bdb_format.proofs.MemberLemmas.{in_flat_map, in_map, in_range, of_flat_map, of_map, of_range}
 
 -- in a file that is no queue the names of a page are those that it holds

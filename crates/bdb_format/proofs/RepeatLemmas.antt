@@ -6,8 +6,7 @@ use Rattle.std.specs.List.{Contains, enumerate_from, filter, list_any}
 use Rattle.std.specs.Str.{bytes_eq}
 use Rattle.std.proofs.Math.Seq.{take-append_seam}
 use Rattle.std.proofs.lemmas.List.Folds.{list_any-append}
-use Rattle.bdb_format.specs.ContentRows.{repeated, repeats}
-use Rattle.bdb_format.specs.Contents.{StoredPair}
+use Rattle.bdb_format.specs.Terms.{StoredPair, repeated, repeats}
 use Rattle.bdb_format.proofs.MemberLemmas.{first_member, later_member, no_member, filter_step}
 
 -- one of these has this key

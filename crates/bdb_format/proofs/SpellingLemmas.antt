@@ -9,7 +9,7 @@ use Rattle.std.specs.Int.{byte_at as byte_of, bytes_low_first, bytes_high_first}
 use Rattle.bdb_format.specs.declared.kinds.Order.{Order}
 use Rattle.bdb_format.specs.declared.kinds.Order.TheVariants.{Big, Little}
 use Rattle.std.specs.Prelude.{slice_range}
-use Rattle.bdb_format.specs.Numbers.{from_low_end, number, number_at, byte_at, spelled, overwritten}
+use Rattle.bdb_format.specs.Terms.{byte_at, from_low_end, number, number_at, overwritten, spelled}
 
 -- Numbers.
 

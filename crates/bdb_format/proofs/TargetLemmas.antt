@@ -6,8 +6,8 @@ use Rattle.std.proofs.lemmas.List.Elements.{Contains-append_left}
 use Rattle.std.proofs.lemmas.List.Folds.{flat_map-map}
 use Rattle.bdb_format.specs.declared.references.Sort.{Sort}
 use Rattle.bdb_format.specs.declared.references.Sort.TheVariants.{HashNext, Child}
-use Rattle.bdb_format.specs.Page.{Content, Item, InternalItem, Listed, Page, Hash, Internal, Leaf, RecnoLeaf, DupLeaf}
-use Rattle.bdb_format.specs.References.{contents_in, content_targets, internal_targets, is_shared_key, item_at, own_entries, targets_in, unless_zero}
+use Rattle.bdb_format.specs.Terms.{Content, DupLeaf, Hash, Internal, InternalItem, Item, Leaf, Listed, Page, RecnoLeaf, content_targets, contents_in}
+use Rattle.bdb_format.specs.Terms.{internal_targets, is_shared_key, item_at, own_entries, targets_in, unless_zero}
 use Rattle.bdb_format.proofs.MemberLemmas.{in_filter, in_flat_map, in_map, in_range, later_member, no_member, of_map}
 
 -- what is taken from the contents of items is taken item by item

@@ -5,9 +5,7 @@ use Rattle.std.proofs.Math.Seq.{drop-append-add, take-append_seam}
 use Rattle.std.proofs.lemmas.List.{length-take-le, length-reverse, reverse-reverse, get_or-append-add, get_or-drop}
 use Rattle.bdb_format.specs.declared.kinds.Order.{Order}
 use Rattle.bdb_format.specs.declared.kinds.Order.TheVariants.{Big, Little}
-use Rattle.bdb_format.specs.Numbers.{number, number_at, byte_at, turned}
-use Rattle.bdb_format.specs.Reading.{header_of}
-use Rattle.bdb_format.specs.PageOf.{turned_header}
+use Rattle.bdb_format.specs.Terms.{byte_at, header_of, number, number_at, turned, turned_header}
 
 -- what stands at a place past a piece
 pub drop_past : (piece rest : List ℕ) (size at k : ℕ) → length piece ≡ size → at ≡ size + k → drop at (piece ++ rest) ≡ drop k rest

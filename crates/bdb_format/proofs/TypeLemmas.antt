@@ -3,16 +3,12 @@ use Rattle.std.proofs.Common.{ℕ, List, [], ◌∷◌, ◌≡◌, ◌⊎◌, in
 use Rattle.std.specs.Prelude.{Option, Some, ◌==◌, ◌||◌, None}
 use Rattle.std.specs.List.{list_any}
 use Rattle.std.proofs.lemmas.Bool.{eqb-true}
-use Rattle.bdb_format.specs.References.{has_type, child_types}
-use Rattle.bdb_format.specs.File.{type_in}
-use Rattle.bdb_format.specs.Leaves.{children_in}
-use Rattle.bdb_format.specs.Page.{Page, Internal}
+use Rattle.bdb_format.specs.Terms.{Internal, Page, child_types, children_in, has_type, page_type, type_in}
 use Rattle.bdb_format.specs.declared.pages.PageType.{PageType}
 use Rattle.bdb_format.specs.declared.pages.PageType.TheVariants.{Free as FreePage, Hash as HashPage, Internal as InternalPage}
 use Rattle.bdb_format.specs.declared.pages.PageType.TheVariants.{RecnoInternal as RecnoInternalPage, Leaf as LeafPage, RecnoLeaf as RecnoLeafPage}
 use Rattle.bdb_format.specs.declared.pages.PageType.TheVariants.{Overflow as OverflowPage, HashMeta as HashMetaPage, BtreeMeta as BtreeMetaPage}
 use Rattle.bdb_format.specs.declared.pages.PageType.TheVariants.{QueueMeta as QueueMetaPage, Queue as QueuePage, DupLeaf as DupLeafPage, Other as OtherPage}
-use Rattle.bdb_format.specs.Reading.{page_type}
 
 -- what holds of each of these types
 abbrev pub AllTypes : (Option ℕ → Type 0) → List ℕ → Type 0

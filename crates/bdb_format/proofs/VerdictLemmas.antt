@@ -7,19 +7,14 @@ use Rattle.std.specs.Option.{option_map, option_to_list}
 use Rattle.std.proofs.lemmas.Bool.{cases_order, eqb-true, ne_eqb}
 use Rattle.std.proofs.lemmas.List.Elements.{Contains-append_cases}
 use borrow.Author.Count.{below_none, below_more}
-use Rattle.bdb_format.specs.ByPage.{ComesFirst}
+use Rattle.bdb_format.specs.Terms.{ComesFirst, Faulty, File, FirstIsLeast, Holds, Judgement, Row, SoundWhereNoRowHolds, by_page, contents_faults}
+use Rattle.bdb_format.specs.Terms.{contents_rows, faults_by, faults_in, faults_of, file_faults, file_of, first_fault, first_row, form_code, form_faults}
+use Rattle.bdb_format.specs.Terms.{head_faults, head_of, head_rows, holds_somewhere, judgement_of, master_faults, master_rows, or_else, ownership_faults}
+use Rattle.bdb_format.specs.Terms.{ownership_rows, page_bytes, reach_faults, reach_rows, reference_faults, reference_rows, stage_faults, structure_faults}
+use Rattle.bdb_format.specs.Terms.{structure_rows, tail_faults, tail_rows, verdict_in, within_file, ◌:?◌}
 use Rattle.bdb_format.specs.declared.kinds.Fault.{Fault}
-use Rattle.bdb_format.specs.Table.{Row, ◌:?◌, first_row}
-use Rattle.bdb_format.specs.Verdict.{holding, by_page, head_faults, tail_faults, form_faults, reference_faults, ownership_faults, reach_faults}
-use Rattle.bdb_format.specs.Verdict.{structure_faults, master_faults, contents_faults, or_else, file_faults, within_file, faults_by, stage_faults, Holds}
-use Rattle.bdb_format.specs.Verdict.{faults_in, faults_of, first_fault, judgement_of, verdict_in, Judgement, Faulty, tail_rows, reference_rows, ownership_rows}
-use Rattle.bdb_format.specs.Verdict.{reach_rows, structure_rows, SoundWhereNoRowHolds, FirstIsLeast}
+use Rattle.bdb_format.specs.Verdict.{holding}
 use Rattle.bdb_format.specs.declared.metadata.Head.{Head}
-use Rattle.bdb_format.specs.HeadOf.{head_of, head_rows}
-use Rattle.bdb_format.specs.Rows.{form_code}
-use Rattle.bdb_format.specs.Master.{master_rows}
-use Rattle.bdb_format.specs.ContentRows.{contents_rows, holds_somewhere}
-use Rattle.bdb_format.specs.File.{File, file_of, page_bytes}
 use Rattle.bdb_format.proofs.ListLemmas.{only_member}
 use Rattle.bdb_format.proofs.MemberLemmas.{first_member, member_cases, no_member, is_empty, first_of_parts, of_map, in_map, of_flat_map, in_flat_map, of_range}
 use Rattle.bdb_format.proofs.MemberLemmas.{in_range}

@@ -25,3 +25,4 @@ pub mod PageOf
 pub mod Faults
 pub mod FaultTable
 pub mod Cases
+pub mod Terms

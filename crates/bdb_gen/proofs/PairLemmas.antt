@@ -5,7 +5,7 @@ use Rattle.std.proofs.lemmas.List.{take-replicate}
 use Rattle.std.proofs.lemmas.List.FromFn.{map-range_with_len_more}
 use Rattle.bdb_text_format.specs.of_format.declared.kinds.Kind.{Kind}
 use Rattle.bdb_text_format.specs.declared.pairs.Key.{Key}
-use Rattle.bdb_text_format.specs.Pairs.{listed_as}
+use Rattle.bdb_text_format.specs.Terms.{listed_as}
 use Rattle.bdb_gen.specs.Generated.{generated, next_number, number_from, pair_key, pair_of, value_length}
 
 pub number_next : (seed i : ℕ) → number_from seed (i + 1) ≡ next_number (number_from seed i)

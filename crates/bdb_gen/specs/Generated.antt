@@ -4,7 +4,7 @@ use Rattle.std.specs.List.{range_with_len}
 use Rattle.bdb_text_format.specs.of_format.declared.kinds.Kind.{Kind}
 use Rattle.bdb_text_format.specs.of_format.declared.kinds.Kind.TheVariants.{Btree, Recno, Hash, Queue}
 use Rattle.bdb_text_format.specs.of_format.declared.kinds.Order.TheVariants.{Big}
-use Rattle.bdb_text_format.specs.of_format.Numbers.{spelled}
+use Rattle.bdb_text_format.specs.of_format.Terms.{spelled}
 use Rattle.bdb_text_format.specs.declared.pairs.Key.{Key}
 use Rattle.bdb_text_format.specs.declared.pairs.Key.TheVariants.{Bytes, Number}
 use Rattle.bdb_text_format.specs.declared.pairs.Pair.{Pair}

@@ -1,8 +1,8 @@
 ghost use Rattle.std.specs.Prelude.{◌≡◌, ◌<◌, ◌≤◌, ◌^◌, ◌++◌, ◌∷◌, [], IfOk, OnOk};
 ghost use Rattle.std.specs.Int.{to_be_bytes};
 ghost use Rattle.bdb_text_format.specs.of_format.declared.kinds.Order.TheVariants.{Big};
-ghost use Rattle.bdb_text_format.specs.of_format.Numbers.{spelled};
-ghost use Rattle.bdb_text_format.specs.Placed.{key_seen};
+ghost use Rattle.bdb_text_format.specs.of_format.Terms.{spelled};
+ghost use Rattle.bdb_text_format.specs.Terms.{key_seen};
 ghost use Rattle.bdb_gen.specs.Generated.{generated, next_number, pair_key, pair_of, value_length};
 
 use bdb_text_format::{KeyRef, Kind, PairList};

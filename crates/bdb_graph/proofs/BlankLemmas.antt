@@ -5,8 +5,7 @@ use Rattle.std.specs.List.{range_with_len}
 use Rattle.std.proofs.lemmas.Bool.{cases_eq, cases_lt}
 use Rattle.std.proofs.lemmas.List.{get_or-set_same, get_or_past}
 use Rattle.std.proofs.lemmas.List.FromFn.{get_or-range_with_len, length-range_with_len}
-use Rattle.bdb_image.specs.of_format.Chains.{next_of, piece_in}
-use Rattle.bdb_image.specs.of_format.File.{File, page_at}
+use Rattle.bdb_image.specs.of_format.Terms.{File, next_of, page_at, piece_in}
 use Rattle.bdb_graph.specs.Blanks.{ArePassed, ComesAfter, IsAfter, IsBlank}
 
 -- a page comes after itself

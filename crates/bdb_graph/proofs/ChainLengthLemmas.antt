@@ -9,12 +9,8 @@ use Rattle.std.proofs.lemmas.List.FromFn.{get_or-map-range_with_len, map-range_w
 use Rattle.bdb_image.specs.of_format.declared.metadata.Head.{Head}
 use Rattle.bdb_image.specs.of_format.declared.references.Sort.{Sort}
 use Rattle.bdb_image.specs.of_format.declared.references.Sort.TheVariants.{OverflowHead}
-use Rattle.bdb_image.specs.of_format.Chains.{chain_in, next_of, piece_in, pieces_of}
-use Rattle.bdb_image.specs.of_format.File.{File, file_of, header_in, page_at, type_in}
-use Rattle.bdb_image.specs.of_format.Graph.{all_references, is_head_reference}
-use Rattle.bdb_image.specs.of_format.HeadOf.{head_of}
-use Rattle.bdb_image.specs.of_format.Page.{Page}
-use Rattle.bdb_image.specs.of_format.References.{asked_by, fit_code, fit_rows, has_type}
+use Rattle.bdb_image.specs.of_format.Terms.{File, Page, all_references, asked_by, chain_in, file_of, fit_code, fit_rows, has_type, head_of, header_in}
+use Rattle.bdb_image.specs.of_format.Terms.{is_head_reference, next_of, page_at, piece_in, pieces_of, type_in}
 use Rattle.bdb_image.proofs.of_format.FileLemmas.{page_is}
 use Rattle.bdb_image.proofs.of_format.GraphLemmas.{each_fits}
 use Rattle.bdb_image.proofs.of_format.MemberLemmas.{none_passes}

@@ -9,14 +9,9 @@ use Rattle.bdb_image.specs.of_format.declared.pages.RecnoItem.{RecnoItem}
 use Rattle.bdb_image.specs.of_format.declared.references.Reference.{Reference}
 use Rattle.bdb_image.specs.of_format.declared.references.Sort.{Sort}
 use Rattle.bdb_image.specs.of_format.declared.references.Sort.TheVariants.{Child}
-use Rattle.bdb_image.specs.of_format.File.{File, file_of, page_at, page_bytes}
-use Rattle.bdb_image.specs.of_format.HeadOf.{head_of}
-use Rattle.bdb_image.specs.of_format.Leaves.{children_in}
-use Rattle.bdb_image.specs.of_format.Numbers.{byte_at}
-use Rattle.bdb_image.specs.of_format.Page.{Content, Inline, Set, Chain, Tree, Unknown, InternalItem, Page, Zero, Meta, Internal, RecnoInternal, Queue}
-use Rattle.bdb_image.specs.of_format.Reading.{abstract_page, is_zero, page_as, page_type}
-use Rattle.bdb_image.specs.of_format.References.{content_targets, internal_targets, targets_in, targets_of, refs}
-use Rattle.bdb_image.specs.of_format.Rows.{form_code, may_have_type}
+use Rattle.bdb_image.specs.of_format.Terms.{Chain, Content, File, Inline, Internal, InternalItem, Meta, Page, Queue, RecnoInternal, Set, Tree, Unknown, Zero}
+use Rattle.bdb_image.specs.of_format.Terms.{abstract_page, byte_at, children_in, content_targets, file_of, form_code, head_of, internal_targets, is_zero}
+use Rattle.bdb_image.specs.of_format.Terms.{may_have_type, page_as, page_at, page_bytes, page_type, refs, targets_in, targets_of}
 use Rattle.bdb_image.proofs.of_format.GraphLemmas.{type_fits, queue_types}
 use Rattle.bdb_image.proofs.of_format.MemberLemmas.{of_filter, of_map}
 use Rattle.bdb_image.specs.Formed.{IsFormed}

@@ -4,11 +4,10 @@ use Rattle.std.proofs.Common.{sym, ◌∙◌, ap, inl, inr, true≢false}
 use Rattle.std.specs.Prelude.{nat_lt, ◌==◌}
 use Rattle.std.specs.List.{Contains, list_all, range_with_len}
 use Rattle.std.proofs.lemmas.Bool.{cases_Bool, eqb-false, eq-eqb, ltb-false, or_parts, or_from}
-use Rattle.bdb_image.specs.of_format.File.{File, file_of, page_at}
-use Rattle.bdb_image.specs.of_format.References.{refs, asked_by, fit_rows, fit_code}
-use Rattle.bdb_image.specs.of_format.Graph.{Owner, all_references, first_holder, has_heads_alone, held_by, if_some, is_head_reference, owners}
-use Rattle.bdb_image.specs.of_format.Graph.{reaches_in}
-use Rattle.bdb_image.specs.of_format.Verdict.{holding, stage_faults, ownership_faults, ownership_rows, reach_faults, reference_faults, faults_in}
+use Rattle.bdb_image.specs.of_format.Terms.{File, Owner, all_references, asked_by, faults_in, file_of, first_holder, fit_code, fit_rows, has_heads_alone}
+use Rattle.bdb_image.specs.of_format.Terms.{held_by, if_some, is_head_reference, owners, ownership_faults, ownership_rows, page_at, reach_faults, reaches_in}
+use Rattle.bdb_image.specs.of_format.Terms.{reference_faults, refs, stage_faults}
+use Rattle.bdb_image.specs.of_format.Verdict.{holding}
 use Rattle.bdb_image.proofs.of_format.GraphLemmas.{IsOwner, anchor_unowned, is_owner, owner_fits, reserve_is, reached_of}
 use Rattle.bdb_image.proofs.of_format.MemberLemmas.{first_member, in_flat_map, in_map, in_range, member_cases, no_member, in_filter}
 use Rattle.bdb_image.proofs.of_format.VerdictLemmas.{AllFail, all_fail, no_codes_at, none_is_first_row, none_within}

@@ -9,11 +9,10 @@ use Rattle.std.proofs.lemmas.List.Folds.{list_all_at}
 use Rattle.bdb_image.specs.of_format.declared.references.Reference.{Reference}
 use Rattle.bdb_image.specs.of_format.declared.references.Sort.{Sort}
 use Rattle.bdb_image.specs.of_format.declared.references.Sort.TheVariants.{Child}
-use Rattle.bdb_image.specs.of_format.File.{File, file_of, page_at}
-use Rattle.bdb_image.specs.of_format.References.{refs, asked_by, fit_rows, fit_code}
-use Rattle.bdb_image.specs.of_format.Graph.{Owner, all_references, has_heads_alone, held_by, is_head_reference, owners}
-use Rattle.bdb_image.specs.of_format.Leaves.{children_in, leaves_in, leaves_under}
-use Rattle.bdb_image.specs.of_format.Verdict.{holding, ownership_faults, ownership_rows, reference_faults, faults_in}
+use Rattle.bdb_image.specs.of_format.Terms.{File, Owner, all_references, asked_by, children_in, faults_in, file_of, fit_code, fit_rows, has_heads_alone}
+use Rattle.bdb_image.specs.of_format.Terms.{held_by, is_head_reference, leaves_in, leaves_under, owners, ownership_faults, ownership_rows, page_at}
+use Rattle.bdb_image.specs.of_format.Terms.{reference_faults, refs}
+use Rattle.bdb_image.specs.of_format.Verdict.{holding}
 use Rattle.bdb_image.proofs.of_format.GraphLemmas.{each_fits}
 use Rattle.bdb_image.proofs.of_format.MemberLemmas.{first_member, in_filter, in_range, later_member, member_cases, no_member, of_filter, of_flat_map, of_map}
 use Rattle.bdb_image.proofs.of_format.VerdictLemmas.{AllFail, all_fail, no_codes_at, none_is_first_row}

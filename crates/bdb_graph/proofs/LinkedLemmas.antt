@@ -16,23 +16,16 @@ use Rattle.bdb_image.specs.of_format.declared.metadata.Head.{Head}
 use Rattle.bdb_image.specs.of_format.declared.references.Reference.{Reference}
 use Rattle.bdb_image.specs.of_format.declared.references.Sort.{Sort}
 use Rattle.bdb_image.specs.of_format.declared.references.Sort.TheVariants.{Root, Bucket}
-use Rattle.bdb_image.specs.of_format.File.{File, file_of, page_at, page_bytes}
-use Rattle.bdb_image.specs.of_format.Graph.{Owner, is_meta}
-use Rattle.bdb_image.specs.of_format.Hashing.{first_page}
-use Rattle.bdb_image.specs.of_format.HeadOf.{head_of}
-use Rattle.bdb_image.specs.of_format.Numbers.{byte_at}
-use Rattle.bdb_image.specs.of_format.Page.{Page, Zero, Meta, BtreeFields, HashFields}
-use Rattle.bdb_image.specs.of_format.Reading.{abstract_page, is_zero, page_as, page_type}
-use Rattle.bdb_image.specs.of_format.References.{asked_by, first_free, fit_code, fit_rows, targets_in, targets_of, refs}
-use Rattle.bdb_image.specs.of_format.HeadOf.{is_page_size}
-use Rattle.bdb_image.specs.of_format.Rows.{body_code, form_code, is_tree_type, may_have_type, page_code, queue_code, type_of}
+use Rattle.bdb_image.specs.of_format.Terms.{BtreeFields, File, HashFields, Meta, Owner, Page, Zero, abstract_page, asked_by, body_code, byte_at, faults_in}
+use Rattle.bdb_image.specs.of_format.Terms.{file_of, first_free, first_page, fit_code, fit_rows, form_code, head_of, is_meta, is_page_size, is_tree_type}
+use Rattle.bdb_image.specs.of_format.Terms.{is_zero, may_have_type, page_as, page_at, page_bytes, page_code, page_type, queue_code, refs, targets_in}
+use Rattle.bdb_image.specs.of_format.Terms.{targets_of, type_of}
 use Rattle.bdb_image.proofs.of_format.GraphLemmas.{each_fits, type_fits}
 use Rattle.bdb_image.proofs.of_format.MemberLemmas.{first_member, in_map, in_range, of_filter, of_range}
 use Rattle.bdb_image.proofs.of_format.PageLemmas.{later_type}
 use Rattle.bdb_image.proofs.of_format.VerdictLemmas.{AllFail, none_is_first_row}
 use Rattle.bdb_image.specs.Formed.{IsFormed}
 use Rattle.bdb_image.specs.Linked.{HasMetadata, IsTarget, meta_pages}
-use Rattle.bdb_image.specs.of_format.Verdict.{faults_in}
 use Rattle.bdb_image.specs.of_form.Formed.{fields_as}
 use Rattle.bdb_image.proofs.CodeLemmas.{code_by, form_queue, is_same, not_zero, tree_refused, two_none}
 use Rattle.bdb_image.proofs.FirstLemmas.{formed_page}

@@ -5,8 +5,7 @@ use Rattle.std.proofs.lemmas.Bool.{cases_eq, cases_order}
 use Rattle.std.proofs.lemmas.List.{get_or-replicate, get_or_past, length-replicate, length-set, get_or-set_same, get_or-set_other}
 use Rattle.bdb_graph.specs.declared.reach.Mark.{Mark}
 use Rattle.bdb_graph.specs.declared.reach.Mark.TheVariants.{Open, Way, Known}
-use Rattle.bdb_image.specs.of_format.File.{File}
-use Rattle.bdb_image.specs.of_format.Graph.{first_holder, owners, reaches}
+use Rattle.bdb_image.specs.of_format.Terms.{File, first_holder, owners, reaches}
 use Rattle.bdb_graph.specs.Forest.{is_top}
 use Rattle.bdb_graph.specs.Marks.{AreMarks, AreSettled, HasWay, IsAbove, IsFit, IsHeldBy, IsKnown, IsUp, mark_at}
 use Rattle.bdb_graph.proofs.ForestLemmas.{no_top}

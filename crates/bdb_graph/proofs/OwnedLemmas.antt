@@ -3,9 +3,7 @@ use Rattle.std.proofs.Common.{◌≡◌, ◌∙◌, ℕ, ◌+◌, ◌^◌, ◌<�
 use Rattle.std.specs.Prelude.{get_or, min}
 use Rattle.std.proofs.lemmas.List.{get_or-map}
 use Rattle.std.proofs.lemmas.Bool.{cases_eq}
-use Rattle.bdb_image.specs.of_format.File.{File}
-use Rattle.bdb_image.specs.of_format.Graph.{has_heads_alone, owners}
-use Rattle.bdb_image.specs.of_format.Verdict.{ownership_faults, ownership_rows}
+use Rattle.bdb_image.specs.of_format.Terms.{File, has_heads_alone, owners, ownership_faults, ownership_rows}
 use Rattle.bdb_image.proofs.of_format.VerdictLemmas.{AllFail, no_rows_at}
 use Rattle.bdb_graph.proofs.ForestLemmas.{few_owners}
 use Rattle.bdb_graph.specs.Owned.{AreCounts, AreFew, AreOwned, IsCounted, IsFew}

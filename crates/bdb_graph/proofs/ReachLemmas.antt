@@ -3,8 +3,7 @@ use Rattle.std.proofs.Common.{◌≡◌, ℕ, zero, suc, ◌≤◌, true, false,
 use Rattle.std.proofs.Common.{inl, inr, arith}
 use Rattle.std.specs.Prelude.{Some, None, ◌||◌, ◌==◌}
 use Rattle.std.specs.List.{Contains, AllByRecursion, IsDistinct, list_any}
-use Rattle.bdb_image.specs.of_format.File.{File, file_of}
-use Rattle.bdb_image.specs.of_format.Graph.{Owner, first_holder, if_some, owners, reaches_in, reaches}
+use Rattle.bdb_image.specs.of_format.Terms.{File, Owner, file_of, first_holder, if_some, owners, reaches, reaches_in, reference_faults}
 use Rattle.bdb_graph.specs.Forest.{is_top, AllDistinct, IsWayUp, NotIn}
 use Rattle.bdb_image.proofs.of_format.GraphLemmas.{is_owner}
 use Rattle.bdb_image.proofs.of_format.MemberLemmas.{first_member}
@@ -13,7 +12,6 @@ use Rattle.std.proofs.Math.Nat.{suc-add, zero-add}
 use Rattle.std.proofs.lemmas.Bool.{cases_Bool, eqb-true, ne_eqb}
 use Rattle.std.proofs.lemmas.Map.Steps.{length-le_from_distinct_below}
 use Rattle.bdb_image.specs.of_format.declared.metadata.Head.{Head}
-use Rattle.bdb_image.specs.of_format.Verdict.{reference_faults}
 use Rattle.bdb_image.specs.Formed.{IsFormed}
 use Rattle.bdb_graph.specs.Marks.{IsFit, IsHeldBy, IsUp}
 use Rattle.bdb_image.proofs.FirstLemmas.{formed_last}

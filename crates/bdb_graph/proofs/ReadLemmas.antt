@@ -6,15 +6,9 @@ use Rattle.std.proofs.lemmas.Bool.{cases_eq}
 use Rattle.bdb_image.specs.of_format.declared.kinds.Order.{Order}
 use Rattle.bdb_image.specs.of_format.declared.metadata.BtreeMeta.{BtreeMeta}
 use Rattle.bdb_image.specs.of_format.declared.metadata.FileKind.TheVariants.{Btree}
-use Rattle.bdb_image.specs.of_format.ContentRows.{fields_in}
-use Rattle.bdb_image.specs.of_format.File.{file_of, page_at, page_bytes}
-use Rattle.bdb_image.specs.of_format.Flags.{is_recno, names_databases}
-use Rattle.bdb_image.specs.of_format.HeadOf.{head_of, is_page_size}
-use Rattle.bdb_image.specs.of_format.Master.{master_in}
-use Rattle.bdb_image.specs.of_format.Numbers.{byte_at, four_at, has_bit}
-use Rattle.bdb_image.specs.of_format.Page.{Metadata, BtreeFields, HashFields, QueueFields, Page, Meta}
-use Rattle.bdb_image.specs.of_format.Reading.{abstract_page, btree_fields, hash_fields, queue_fields}
-use Rattle.bdb_image.specs.of_format.Rows.{are_wrong_flags, form_code, metadata_rows}
+use Rattle.bdb_image.specs.of_format.Terms.{BtreeFields, HashFields, Meta, Metadata, Page, QueueFields, abstract_page, are_wrong_flags, btree_fields, byte_at}
+use Rattle.bdb_image.specs.of_format.Terms.{fields_in, file_of, form_code, four_at, has_bit, hash_fields, head_of, is_page_size, is_recno, master_in}
+use Rattle.bdb_image.specs.of_format.Terms.{metadata_rows, names_databases, page_at, page_bytes, queue_fields}
 use Rattle.bdb_image.proofs.of_format.ListLemmas.{only_member}
 use Rattle.bdb_image.proofs.of_format.MemberLemmas.{no_member}
 use Rattle.bdb_image.proofs.of_format.VerdictLemmas.{AllFail, none_is_first_row}

@@ -9,9 +9,7 @@ use Rattle.std.proofs.Math.Bool.{or-false}
 use Rattle.std.specs.Prelude.{min, nat_lt, ◌||◌, not, Option, None, Some}
 use Rattle.std.specs.List.{filter, list_all, list_any, range_with_len}
 use Rattle.bdb_image.specs.of_format.declared.references.Sort.TheVariants.{Bucket}
-use Rattle.bdb_image.specs.of_format.Hashing.{first_page}
-use Rattle.bdb_image.specs.of_format.Graph.{Owner, first_holder, is_head_reference}
-use Rattle.bdb_image.specs.of_format.File.{File}
+use Rattle.bdb_image.specs.of_format.Terms.{File, Owner, first_holder, first_page, is_head_reference}
 use Rattle.bdb_graph.specs.declared.table.BucketPages.{BucketPages}
 use Rattle.bdb_graph.specs.declared.tally.Kinds.{Kinds}
 use Rattle.bdb_graph.specs.declared.tally.Tally.{Tally}

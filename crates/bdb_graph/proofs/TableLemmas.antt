@@ -4,10 +4,7 @@ use Rattle.std.proofs.lemmas.List.{map-append}
 use Rattle.std.proofs.lemmas.List.Folds.{list_any-append}
 use Rattle.std.specs.Prelude.{Option}
 use Rattle.bdb_image.specs.of_format.declared.references.Reference.{Reference}
-use Rattle.bdb_image.specs.of_format.File.{File}
-use Rattle.bdb_image.specs.of_format.Graph.{Owner}
-use Rattle.bdb_image.specs.of_format.References.{fit_code}
-use Rattle.bdb_image.specs.of_format.Verdict.{fails_as}
+use Rattle.bdb_image.specs.of_format.Terms.{File, Owner, fails_as, fit_code}
 use Rattle.bdb_image.specs.declared.buckets.Buckets.{Buckets}
 use Rattle.bdb_image.specs.declared.fits.Misfits.{Misfits}
 use Rattle.bdb_graph.specs.declared.table.BucketPages.{BucketPages}

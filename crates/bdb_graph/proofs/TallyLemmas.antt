@@ -7,9 +7,7 @@ use Rattle.bdb_graph.specs.declared.tally.Tally.{Tally}
 use Rattle.bdb_graph.specs.Tallies.{AreTallies, AreTalliesOf, owner}
 use Rattle.bdb_graph.specs.Walked.{AreKinds}
 use Rattle.bdb_graph.specs.declared.tally.Kinds.{Kinds}
-use Rattle.bdb_image.specs.of_format.File.{File}
-use Rattle.bdb_image.specs.of_format.Graph.{Owner, all_references, held_by, owners}
-use Rattle.bdb_image.specs.of_format.References.{refs}
+use Rattle.bdb_image.specs.of_format.Terms.{File, Owner, all_references, held_by, owners, refs}
 use Rattle.bdb_image.proofs.of_format.ListLemmas.{range_zero_more}
 
 -- the references of the pages below a number

@@ -3,8 +3,7 @@ use Rattle.bdb_image.proofs.of_format.ReferenceLemmas.{no_refs, of_all}
 use Rattle.std.proofs.Common.{◌≡◌, ℕ}
 use Rattle.bdb_image.specs.of_format.declared.metadata.FileKind.TheVariants.{Queue}
 use Rattle.bdb_image.specs.of_format.declared.references.Sort.{Sort}
-use Rattle.bdb_image.specs.of_format.File.{File}
-use Rattle.bdb_image.specs.of_format.References.{refs}
+use Rattle.bdb_image.specs.of_format.Terms.{File, refs}
 use Rattle.bdb_image.proofs.of_format.MemberLemmas.{no_member}
 use Rattle.bdb_image.specs.Linked.{IsTarget}
 

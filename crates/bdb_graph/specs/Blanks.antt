@@ -1,7 +1,6 @@
 -- Pages of chains without data, and the pages that come after them. Source: docs/FORMAT.md, "Other pages".
 use Rattle.std.specs.Prelude.{◌≡◌, ℕ, zero, suc, ◌≤◌, List, [], get_or, Option, Some, None}
-use Rattle.bdb_image.specs.of_format.Chains.{next_of, piece_in}
-use Rattle.bdb_image.specs.of_format.File.{File, file_of, page_at}
+use Rattle.bdb_image.specs.of_format.Terms.{File, file_of, next_of, page_at, piece_in}
 use Rattle.bdb_graph.specs.declared.tally.Kinds.{Kinds}
 use Rattle.bdb_graph.specs.Walked.{IsWalked}
 

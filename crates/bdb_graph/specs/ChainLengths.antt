@@ -1,9 +1,6 @@
 -- The length of each chain, as it's kept at its head. Source: docs/FORMAT.md, "Other pages" and "Stage 6, chains and trees".
 use Rattle.std.specs.Prelude.{◌≡◌, ℕ, ◌==◌, ◌&&◌, if◌then◌else◌, Bool, List, [], ◌∷◌, map, length, get_or}
-use Rattle.bdb_image.specs.of_format.Chains.{chain_in, joined, piece_in, pieces_of}
-use Rattle.bdb_image.specs.of_format.File.{File, header_in, page_at, type_in}
-use Rattle.bdb_image.specs.of_format.Page.{Page}
-use Rattle.bdb_image.specs.of_format.References.{has_type}
+use Rattle.bdb_image.specs.of_format.Terms.{File, Page, chain_in, has_type, header_in, joined, page_at, piece_in, pieces_of, type_in}
 use Rattle.bdb_image.specs.Linked.{FitsChain, meta_pages}
 use Rattle.bdb_graph.specs.Owned.{AreOwned}
 

@@ -2,12 +2,8 @@
 use Rattle.std.specs.Prelude.{◌≡◌, ◌≢◌, ℕ, ◌≤◌, ◌||◌, Bool, false, IsTrue, List, [], ◌∷◌, length, Some}
 use Rattle.std.specs.List.{Contains}
 use Rattle.bdb_image.specs.of_format.declared.references.Reference.{Reference}
-use Rattle.bdb_image.specs.of_format.File.{File, file_of}
-use Rattle.bdb_image.specs.of_format.Graph.{first_holder, is_anchor, is_head_reference, is_reserve, owners}
-use Rattle.bdb_image.specs.of_format.Leaves.{leaves_in}
-use Rattle.bdb_image.specs.of_format.References.{refs}
+use Rattle.bdb_image.specs.of_format.Terms.{File, faults_in, file_of, first_holder, is_anchor, is_head_reference, is_reserve, leaves_in, owners, refs}
 use Rattle.bdb_image.specs.Linked.{IsForest}
-use Rattle.bdb_image.specs.of_format.Verdict.{faults_in}
 
 abbrev pub NotIn : ℕ → List ℕ → Type 0
 NotIn x [] = Unit {0}

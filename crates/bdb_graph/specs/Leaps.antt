@@ -1,6 +1,6 @@
 -- Leaps over pages of which nothing more is counted.
 use Rattle.std.specs.Prelude.{◌≡◌, ℕ, ◌+◌, ◌^◌, ◌<◌, ◌≤◌, nat_lt, ◌&&◌, not, Bool, true, List, length, get_or, Option, Some, None}
-use Rattle.bdb_image.specs.of_format.File.{File}
+use Rattle.bdb_image.specs.of_format.Terms.{File}
 use Rattle.bdb_image.specs.Buckets.{AreFits}
 use Rattle.bdb_graph.specs.Tallies.{no_tally}
 use Rattle.bdb_graph.specs.declared.table.BucketPages.{BucketPages}

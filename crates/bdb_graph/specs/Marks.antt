@@ -2,9 +2,7 @@
 use Rattle.std.specs.Prelude.{◌≡◌, ◌⊎◌, ℕ, zero, suc, ◌<◌, Bool, List, [], get_or, Some}
 use Rattle.bdb_graph.specs.declared.reach.Mark.{Mark}
 use Rattle.bdb_graph.specs.declared.reach.Mark.TheVariants.{Open, Way, Known}
-use Rattle.bdb_image.specs.of_format.File.{File}
-use Rattle.bdb_image.specs.of_format.Graph.{first_holder, owners, reaches}
-use Rattle.bdb_image.specs.of_format.Verdict.{reference_faults}
+use Rattle.bdb_image.specs.of_format.Terms.{File, first_holder, owners, reaches, reference_faults}
 
 -- each reference fits, and the pages up to the last are there
 pub record IsFit (file : File) : Type 0 where

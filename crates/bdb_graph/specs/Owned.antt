@@ -1,7 +1,6 @@
 -- How many owners each page has, as it's kept. Source: docs/FORMAT.md, "Stage 4, ownership".
 use Rattle.std.specs.Prelude.{◌≡◌, ℕ, ◌^◌, ◌<◌, ◌≤◌, ◌||◌, min, false, List, length, get_or}
-use Rattle.bdb_image.specs.of_format.File.{File}
-use Rattle.bdb_image.specs.of_format.Graph.{has_heads_alone, is_owned_twice, is_shared_too_often, owners}
+use Rattle.bdb_image.specs.of_format.Terms.{File, has_heads_alone, is_owned_twice, is_shared_too_often, owners}
 use Rattle.bdb_graph.specs.Tallies.{counted_to}
 
 -- these have the number of owners of each page from 1 on

@@ -3,8 +3,7 @@ use Rattle.std.specs.Prelude.{◌≡◌, ℕ, ◌+◌, ◌-◌, ◌^◌, ◌<◌
 use Rattle.std.specs.List.{filter, list_all, list_any}
 use Rattle.bdb_graph.specs.declared.tally.Tally.{Tally}
 use Rattle.bdb_image.specs.of_format.declared.references.Reference.{Reference}
-use Rattle.bdb_image.specs.of_format.File.{File}
-use Rattle.bdb_image.specs.of_format.Graph.{Owner, first_holder, is_hash_meta, is_head_reference, owners}
+use Rattle.bdb_image.specs.of_format.Terms.{File, Owner, first_holder, is_hash_meta, is_head_reference, owners}
 
 abbrev pub owner : ℕ → Reference → Owner
 owner holder reference = record { holder = holder; reference = reference }

@@ -4,8 +4,7 @@ use Rattle.std.specs.List.{list_any}
 use Rattle.bdb_graph.specs.declared.tally.Kinds.{Kinds}
 use Rattle.bdb_image.specs.of_format.declared.references.Sort.{Sort}
 use Rattle.bdb_image.specs.of_format.declared.references.Sort.TheVariants.{DuplicateRoot}
-use Rattle.bdb_image.specs.of_format.File.{file_of}
-use Rattle.bdb_image.specs.of_format.Graph.{Owner, all_references, is_head_reference}
+use Rattle.bdb_image.specs.of_format.Terms.{Owner, all_references, file_of, is_head_reference}
 use Rattle.bdb_image.specs.Linked.{IsForest}
 
 abbrev pub is_set_reference : Sort → Bool

@@ -1,6 +1,6 @@
 ghost use Rattle.std.specs.Prelude.{◌≡◌, ◌∷◌, IfOk, IfSome};
 ghost use Rattle.bdb_graph.specs.Blanks.{ArePassed, IsAfter, page_past};
-ghost use Rattle.bdb_image.specs.of_format.File.{File, file_of};
+ghost use Rattle.bdb_image.specs.of_format.Terms.{File, file_of};
 
 use crate::Formed;
 use crate::chain_lengths::{link_at, may_head};

@@ -1,7 +1,6 @@
 ghost use Rattle.std.specs.Prelude.{◌≡◌, ◌+◌, ◌≤◌, IfOk, length, map};
 ghost use Rattle.std.specs.List.{range_with_len};
-ghost use Rattle.bdb_image.specs.of_format.Chains.{next_of, piece_in};
-ghost use Rattle.bdb_image.specs.of_format.File.{file_of, page_at};
+ghost use Rattle.bdb_image.specs.of_format.Terms.{file_of, next_of, page_at, piece_in};
 ghost use Rattle.bdb_graph.specs.ChainLengths.{AreLengths, chain_length, kept_length, may_head};
 ghost use Rattle.bdb_graph.specs.Walked.{IsWalked};
 

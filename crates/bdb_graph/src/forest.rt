@@ -3,14 +3,10 @@ ghost use Rattle.bdb_image.specs.of_form.Seen.{header_seen, page_seen};
 ghost use Rattle.bdb_graph.specs.Blanks.{ArePassedIfAny, IsLent};
 ghost use Rattle.bdb_image.specs.Linked.{IsForest};
 ghost use Rattle.std.specs.List.{list_any};
-ghost use Rattle.bdb_image.specs.of_format.Graph.{all_references};
+ghost use Rattle.bdb_image.specs.of_format.Terms.{abstract_page, all_references, file_of, form_code, head_of, header_of, is_page_size, page_at, page_bytes};
 ghost use Rattle.bdb_graph.specs.Walked.{names_head, names_set};
 ghost use Rattle.bdb_image.specs.Metas.{meta_in, meta_seen};
 ghost use Rattle.std.specs.Option.{option_map};
-ghost use Rattle.bdb_image.specs.of_format.File.{file_of, page_at, page_bytes};
-ghost use Rattle.bdb_image.specs.of_format.HeadOf.{head_of, is_page_size};
-ghost use Rattle.bdb_image.specs.of_format.Reading.{abstract_page, header_of};
-ghost use Rattle.bdb_image.specs.of_format.Rows.{form_code};
 ghost use Rattle.bdb_image.specs.of_format.declared.metadata.FileKind.TheVariants.{Queue};
 
 use crate::tally::Kinds;

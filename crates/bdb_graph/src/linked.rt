@@ -4,12 +4,8 @@ ghost use Rattle.bdb_image.specs.of_form.Seen.{header_seen, page_seen};
 ghost use Rattle.bdb_image.specs.Linked.{IsForest, FitsBucket, FitsChain, FitsDupRoot, FitsTreeRoot, HasMetadata, meta_pages};
 ghost use Rattle.bdb_graph.specs.ChainLengths.{IsKept, chain_length};
 ghost use Rattle.bdb_image.specs.Metas.{meta_seen};
-ghost use Rattle.bdb_image.specs.of_format.File.{file_of, page_at, page_bytes};
-ghost use Rattle.bdb_image.specs.of_format.Hashing.{first_page};
-ghost use Rattle.bdb_image.specs.of_format.Graph.{owners};
-ghost use Rattle.bdb_image.specs.of_format.HeadOf.{head_of};
-ghost use Rattle.bdb_image.specs.of_format.Page.{BtreeFields, HashFields, Meta as MetaPage};
-ghost use Rattle.bdb_image.specs.of_format.Reading.{header_of};
+ghost use Rattle.bdb_image.specs.of_format.Terms.{BtreeFields, HashFields, Meta as MetaPage, file_of, first_page, head_of, header_of, owners, page_at};
+ghost use Rattle.bdb_image.specs.of_format.Terms.{page_bytes};
 
 use crate::{Bucket, Chain, DupRoot, Forest, Meta, Ref, TreeRoot};
 use bdb_image::{BtreeMeta, HashMeta, Head, PageView, page_of};
@@ -40,7 +36,7 @@ impl Drop for Linked<'_> {
 impl<'a> Model for Linked<'a> {
     ghost use Rattle.std.specs.Prelude.{List, ℕ};
     ghost use Rattle.bdb_graph.specs.ChainLengths.{IsKept};
-    ghost use Rattle.bdb_image.specs.of_format.File.{file_of};
+    ghost use Rattle.bdb_image.specs.of_format.Terms.{file_of};
 
     ghost Value = { List ℕ };
 

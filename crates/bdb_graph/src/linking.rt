@@ -1,8 +1,7 @@
 ghost use Rattle.std.specs.Prelude.{◌≡◌, ◌≤◌, ◌+◌, [], ◌∷◌, IfErr, IfOk, OnOk};
 ghost use Rattle.bdb_image.specs.of_faults.Refusals.{IsAllOf};
 ghost use Rattle.bdb_image.specs.of_faults.Notes.{NotesAll};
-ghost use Rattle.bdb_image.specs.of_format.File.{file_of};
-ghost use Rattle.bdb_image.specs.of_format.Verdict.{faults_in, reference_faults, IsFirstOf};
+ghost use Rattle.bdb_image.specs.of_format.Terms.{IsFirstOf, faults_in, file_of, reference_faults};
 ghost use Rattle.bdb_graph.specs.Owned.{AreFew, AreOwned};
 ghost use Rattle.bdb_graph.specs.Walked.{IsWalked};
 

@@ -1,8 +1,7 @@
 ghost use Rattle.std.specs.Prelude.{◌≡◌, ◌≤◌, ◌+◌, ◌&&◌, ◌||◌, not, IsTrue, OnErr, OnOk};
 ghost use Rattle.bdb_image.specs.of_faults.Notes.{NotesAll};
-ghost use Rattle.bdb_image.specs.of_format.File.{file_of};
-ghost use Rattle.bdb_image.specs.of_format.Graph.{is_anchor, is_owned_twice, is_reserve, is_shared_too_often, is_unowned};
-ghost use Rattle.bdb_image.specs.of_format.Verdict.{ownership_faults, ownership_rows};
+ghost use Rattle.bdb_image.specs.of_format.Terms.{file_of, is_anchor, is_owned_twice, is_reserve, is_shared_too_often, is_unowned, ownership_faults};
+ghost use Rattle.bdb_image.specs.of_format.Terms.{ownership_rows};
 ghost use Rattle.bdb_image.specs.of_format.ByPage.{holding};
 ghost use Rattle.bdb_image.specs.Noted.{page_faults};
 ghost use Rattle.bdb_graph.specs.Owned.{AreFew, IsFew};

@@ -1,9 +1,7 @@
 ghost use Rattle.std.specs.Prelude.{◌≡◌, ◌≤◌, ◌+◌, OnOk, [], length};
 ghost use Rattle.bdb_image.specs.of_faults.Notes.{NotesAll};
 ghost use Rattle.bdb_graph.specs.Marks.{AreSettled, HasWay, IsFit};
-ghost use Rattle.bdb_image.specs.of_format.File.{file_of};
-ghost use Rattle.bdb_image.specs.of_format.Graph.{reaches};
-ghost use Rattle.bdb_image.specs.of_format.Verdict.{reach_faults, reference_faults};
+ghost use Rattle.bdb_image.specs.of_format.Terms.{file_of, reach_faults, reaches, reference_faults};
 
 use crate::roles::Roles;
 use bdb_image::{FaultSink, ReachRow, Row, note_if};

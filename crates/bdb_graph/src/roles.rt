@@ -4,9 +4,7 @@ ghost use Rattle.bdb_image.specs.Formed.{IsFormed};
 ghost use Rattle.bdb_graph.specs.Tallies.{AreTalliesOf, IsTally};
 ghost use Rattle.bdb_graph.specs.Forest.{is_top};
 ghost use Rattle.bdb_graph.specs.Owned.{AreCounts};
-ghost use Rattle.bdb_image.specs.of_format.File.{file_of, page_at};
-ghost use Rattle.bdb_image.specs.of_format.HeadOf.{head_of};
-ghost use Rattle.bdb_image.specs.of_format.Graph.{first_holder, is_anchor, is_hash_meta, is_reserve, owners};
+ghost use Rattle.bdb_image.specs.of_format.Terms.{file_of, first_holder, head_of, is_anchor, is_hash_meta, is_reserve, owners, page_at};
 
 use crate::Formed;
 use crate::tally::Tally;
@@ -25,7 +23,7 @@ pub(crate) struct Roles<'a> {
 impl<'a> Model for Roles<'a> {
     ghost use Rattle.std.specs.Prelude.{List, ℕ};
     ghost use Rattle.bdb_graph.specs.Tallies.{AreCounted};
-    ghost use Rattle.bdb_image.specs.of_format.File.{file_of};
+    ghost use Rattle.bdb_image.specs.of_format.Terms.{file_of};
 
     ghost Value = { List ℕ };
 

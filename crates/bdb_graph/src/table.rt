@@ -3,9 +3,7 @@ ghost use Rattle.bdb_image.specs.Buckets.{HasFew, refs_if_table, run_refs, table
 ghost use Rattle.bdb_graph.specs.Leaps.{AreKnown, AreKnownIfAny, HasLeaps};
 ghost use Rattle.bdb_image.specs.Noted.{misfits_of};
 ghost use Rattle.bdb_graph.specs.Tallies.{AreTallies, owner};
-ghost use Rattle.bdb_image.specs.of_format.File.{file_of};
-ghost use Rattle.bdb_image.specs.of_format.Graph.{Owner};
-ghost use Rattle.bdb_image.specs.of_format.References.{fit_code};
+ghost use Rattle.bdb_image.specs.of_format.Terms.{Owner, file_of, fit_code};
 
 use crate::Formed;
 use crate::leaps::{first_open, no_leaps};

@@ -3,11 +3,8 @@ ghost use Rattle.bdb_image.specs.of_faults.Notes.{NotesAll};
 ghost use Rattle.bdb_graph.specs.Leaps.{AreKnownIfAny, full_at, is_full};
 ghost use Rattle.bdb_image.specs.Noted.{misfits_of};
 ghost use Rattle.bdb_graph.specs.Tallies.{AreTallies, AreTalliesOf, IsTally, first_of, owner};
-ghost use Rattle.bdb_image.specs.of_format.File.{file_of};
-ghost use Rattle.bdb_image.specs.of_format.Graph.{Owner, all_references, is_head_reference};
+ghost use Rattle.bdb_image.specs.of_format.Terms.{Owner, all_references, file_of, fit_code, is_head_reference, reference_faults, refs};
 ghost use Rattle.bdb_graph.specs.Walked.{AreKinds, is_set_reference};
-ghost use Rattle.bdb_image.specs.of_format.References.{fit_code, refs};
-ghost use Rattle.bdb_image.specs.of_format.Verdict.{reference_faults};
 
 use crate::table::{BucketPages, tally_table};
 use crate::{Formed, references};

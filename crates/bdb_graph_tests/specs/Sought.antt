@@ -1,9 +1,7 @@
 -- What the test of a descent says of an item: an inline key is above the sought one.
 use Rattle.std.specs.Prelude.{ℕ, ◌<◌, Bool, false, List}
-use Rattle.bdb_format.specs.File.{File, page_at}
+use Rattle.bdb_format.specs.Terms.{Content, File, Inline, Internal, InternalItem, Page, less, page_at}
 use Rattle.test_images.specs.of_tree.Descent.{IsMonotone}
-use Rattle.bdb_format.specs.Less.{less}
-use Rattle.bdb_format.specs.Page.{InternalItem, Page, Internal, Content, Inline}
 
 abbrev pub is_above : List ℕ → Content → Bool
 is_above key (Inline bytes) = less key bytes

@@ -2,7 +2,7 @@
 
 ghost use Rattle.std.specs.Prelude.{◌≡◌, IfSome};
 ghost use Rattle.test_images.specs.of_image.Linked.{FitsChain};
-ghost use Rattle.bdb_format.specs.File.{file_of};
+ghost use Rattle.bdb_format.specs.Terms.{file_of};
 
 use crate::fields::BTREE;
 use bdb_format::{Fault, Order, Steps};

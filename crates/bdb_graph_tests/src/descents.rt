@@ -5,9 +5,7 @@ ghost use Rattle.std.specs.Bool.{OnTrue};
 ghost use Rattle.test_images.specs.of_form.Seen.{page_seen};
 ghost use Rattle.test_images.specs.of_image.Linked.{FitsTreeRoot};
 ghost use Rattle.bdb_graph_tests.specs.Sought.{AllFit, IsFit, is_above};
-ghost use Rattle.bdb_format.specs.File.{file_of, page_at, type_in};
-ghost use Rattle.bdb_format.specs.Less.{less};
-ghost use Rattle.bdb_format.specs.References.{has_type};
+ghost use Rattle.bdb_format.specs.Terms.{file_of, has_type, less, page_at, type_in};
 ghost use Rattle.test_images.specs.of_tree.Descent.{IsMonotone};
 
 use bdb_format::{Order, Steps};

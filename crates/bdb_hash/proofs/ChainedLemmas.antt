@@ -6,8 +6,7 @@ use Rattle.std.specs.Str.{bytes_eq}
 use Rattle.std.proofs.lemmas.Bool.{cases_Bool}
 use Rattle.bdb_faults.specs.Notes.{Notes}
 use Rattle.bdb_ranks.specs.of_format.declared.kinds.Fault.{Fault}
-use Rattle.bdb_ranks.specs.of_format.Contents.{StoredPair, pairs_of}
-use Rattle.bdb_ranks.specs.of_format.File.{file_of}
+use Rattle.bdb_ranks.specs.of_format.Terms.{StoredPair, file_of, pairs_of}
 use Rattle.bdb_ranks.proofs.of_format.LessLemmas.{eq_same}
 use Rattle.bdb_ranks.specs.of_overflow.Keys.{has_item, has_key}
 use Rattle.bdb_buckets.specs.Chained.{AreAllOf, AreOf}

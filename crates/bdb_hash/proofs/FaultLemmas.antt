@@ -8,10 +8,7 @@ use Rattle.bdb_faults.proofs.SinkLemmas.{notes_then}
 use Rattle.bdb_ranks.proofs.of_format.FaultLemmas.{same_parts}
 use Rattle.bdb_ranks.specs.of_format.declared.kinds.Fault.{Fault}
 use Rattle.bdb_ranks.specs.of_format.declared.metadata.HashMeta.{HashMeta}
-use Rattle.bdb_ranks.specs.of_format.ContentRows.{database_faults, database_rows, repeated}
-use Rattle.bdb_ranks.specs.of_format.Contents.{StoredPair, bucket_pairs, table_pairs}
-use Rattle.bdb_ranks.specs.of_format.File.{File, file_of}
-use Rattle.bdb_ranks.specs.of_format.Page.{HashFields}
+use Rattle.bdb_ranks.specs.of_format.Terms.{File, HashFields, StoredPair, bucket_pairs, database_faults, database_rows, file_of, repeated, table_pairs}
 use Rattle.bdb_ranks.specs.of_format.Verdict.{holding}
 use Rattle.bdb_ranks.proofs.of_format.MemberLemmas.{in_flat_map, in_map, no_member, of_flat_map, of_map}
 use Rattle.bdb_ranks.proofs.of_format.VerdictLemmas.{of_by_page}

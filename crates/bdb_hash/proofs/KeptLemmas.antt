@@ -9,9 +9,7 @@ use Rattle.std.proofs.lemmas.List.Elements.{All-contains, All-from_recursion, fi
 use Rattle.bdb_faults.specs.Notes.{Notes}
 use Rattle.bdb_ranks.specs.of_format.declared.kinds.Fault.{Fault}
 use Rattle.bdb_ranks.specs.of_format.declared.metadata.HashMeta.{HashMeta}
-use Rattle.bdb_ranks.specs.of_format.Contents.{StoredPair, bucket_pages}
-use Rattle.bdb_ranks.specs.of_format.File.{file_of}
-use Rattle.bdb_ranks.specs.of_format.Hashing.{hash5}
+use Rattle.bdb_ranks.specs.of_format.Terms.{StoredPair, bucket_pages, file_of, hash5}
 use Rattle.bdb_ranks.proofs.of_format.MemberLemmas.{first_member, in_map, later_member}
 use Rattle.bdb_ranks.proofs.of_format.RepeatLemmas.{has_key as has_this, repeated_after, repeated_is}
 use Rattle.bdb_ranks.proofs.of_format.LessLemmas.{eq_same}

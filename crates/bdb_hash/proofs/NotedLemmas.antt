@@ -1,14 +1,12 @@
 -- What is noted, one fault after another.
 use Rattle.bdb_ranks.specs.of_format.declared.metadata.HashMeta.{HashMeta}
-use Rattle.bdb_ranks.specs.of_format.File.{file_of}
+use Rattle.bdb_ranks.specs.of_format.Terms.{fault_if, file_of, ◌:?◌}
 use Rattle.bdb_buckets.specs.Told.{Told}
 use Rattle.bdb_buckets.proofs.ContentsLemmas.{contents_fault}
 use Rattle.bdb_buckets.proofs.RowLemmas.{pair_table, tests_of}
 use Rattle.bdb_hash.specs.Noted.{pair_faults}
 use Rattle.std.proofs.Common.{◌≡◌, ℕ, Bool, true, false, [], ◌∷◌, ◌++◌, map, refl}
-use Rattle.bdb_ranks.specs.of_format.FaultTable.{fault_if}
 use Rattle.bdb_ranks.specs.of_format.declared.rows.Row.TheVariants.{Contents}
-use Rattle.bdb_ranks.specs.of_format.Table.{◌:?◌}
 use Rattle.bdb_ranks.specs.of_format.Verdict.{holding}
 use Rattle.bdb_ranks.specs.of_format.declared.rows.ContentsRow.TheVariants.{Duplicates, DuplicateKind, DuplicateOrder, Bucket}
 

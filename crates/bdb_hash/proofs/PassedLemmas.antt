@@ -8,8 +8,7 @@ use Rattle.std.proofs.lemmas.List.Folds.{list_any-append}
 use Rattle.bdb_faults.specs.Notes.{Notes}
 use Rattle.bdb_ranks.specs.of_format.declared.kinds.Fault.{Fault}
 use Rattle.bdb_ranks.specs.of_format.declared.metadata.HashMeta.{HashMeta}
-use Rattle.bdb_ranks.specs.of_format.Contents.{bucket_pages}
-use Rattle.bdb_ranks.specs.of_format.File.{file_of}
+use Rattle.bdb_ranks.specs.of_format.Terms.{bucket_pages, file_of}
 use Rattle.bdb_hash.specs.Noted.{bucket_faults, has_stray_in, is_stray, pair_faults, repeat_faults}
 use Rattle.bdb_hash.specs.Passed.{IsPassing, Passes, key_hash}
 use Rattle.bdb_buckets.specs.Told.{Told, bucket_told, joined_pages, page_told}

@@ -15,14 +15,12 @@ use Rattle.std.proofs.lemmas.List.Folds.{list_any-append}
 use Rattle.std.proofs.lemmas.List.Sums.{fold-append}
 use Rattle.std.proofs.lemmas.Map.Text.{is_eq-slice_cmp}
 use Rattle.bdb_faults.specs.Notes.{Notes}
-use Rattle.bdb_ranks.specs.of_format.FaultTable.{fault_if}
+use Rattle.bdb_ranks.specs.of_format.Terms.{StoredPair, bucket_of_key, fault_if, repeated}
 use Rattle.bdb_ranks.specs.of_format.declared.rows.Row.TheVariants.{Contents}
 use Rattle.bdb_ranks.proofs.of_format.BoolLemmas.{cond_or}
 use Rattle.bdb_ranks.specs.of_overflow.Keys.{has_item, has_key, repeated_by}
 use Rattle.bdb_ranks.specs.of_format.declared.kinds.Fault.{Fault}
 use Rattle.bdb_ranks.specs.of_format.declared.metadata.HashMeta.{HashMeta}
-use Rattle.bdb_ranks.specs.of_format.ContentRows.{bucket_of_key, repeated}
-use Rattle.bdb_ranks.specs.of_format.Contents.{StoredPair}
 use Rattle.bdb_ranks.proofs.of_format.MemberLemmas.{filter_step, first_member, later_member, member_cases, no_member, none_passes, of_flat_map, of_map, of_range}
 use Rattle.bdb_ranks.proofs.of_format.RepeatLemmas.{has_key as has_this, repeated_after, repeated_is}
 use Rattle.bdb_ranks.proofs.of_format.LessLemmas.{eq_same}

@@ -2,10 +2,7 @@
 use Rattle.std.proofs.Common.{arith}
 use Rattle.std.proofs.Common.{◌≡◌, ℕ, Bool, true, false, ◌&&◌, List, ◌∷◌, Option, Some, None, refl, sym, ◌∙◌, ap, subst}
 use Rattle.std.proofs.lemmas.List.Elements.{All-head}
-use Rattle.bdb_ranks.specs.of_format.Chains.{value_of}
-use Rattle.bdb_ranks.specs.of_format.ContentRows.{ascends_from}
-use Rattle.bdb_ranks.specs.of_format.File.{File}
-use Rattle.bdb_ranks.specs.of_format.Page.{Item}
+use Rattle.bdb_ranks.specs.of_format.Terms.{File, Item, ascends_from, value_of}
 use Rattle.bdb_ranks.specs.of_overflow.Datum.{FitsContent}
 use Rattle.bdb_ranks.specs.of_tree.Entries.{AreFit, values_of}
 use Rattle.bdb_ranks.proofs.of_tree.EntryLemmas.{deleted_value}

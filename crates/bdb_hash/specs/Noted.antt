@@ -1,16 +1,12 @@
 -- The faults of a table's contents in the order in which they are noted, bucket by bucket. Source: docs/FORMAT.md, "Stage 8, contents".
 use Rattle.std.specs.Prelude.{ℕ, ◌==◌, ◌&&◌, not, if◌then◌else◌, Bool, List, [], map, ◌+◌, ◌++◌}
 use Rattle.std.specs.List.{flat_map, list_any, range_with_len}
-use Rattle.bdb_ranks.specs.of_format.FaultTable.{fault_at, fault_if}
+use Rattle.bdb_ranks.specs.of_format.Terms.{HashFields, ascends, bucket_of_key, data_of, fault_at, fault_if, file_of, has_duplicates, is_duplicate, is_sorted}
+use Rattle.bdb_ranks.specs.of_format.Terms.{is_wrong_set, repeated}
 use Rattle.bdb_ranks.specs.of_format.declared.rows.ContentsRow.TheVariants.{Duplicates, DuplicateKind, DuplicateOrder, Bucket, KeyTwice}
 use Rattle.bdb_ranks.specs.of_format.declared.rows.Row.TheVariants.{Contents}
 use Rattle.bdb_ranks.specs.of_format.declared.kinds.Fault.{Fault}
 use Rattle.bdb_ranks.specs.of_format.declared.metadata.HashMeta.{HashMeta}
-use Rattle.bdb_ranks.specs.of_format.ContentRows.{ascends, bucket_of_key, is_duplicate, is_wrong_set, repeated}
-use Rattle.bdb_ranks.specs.of_format.Contents.{data_of}
-use Rattle.bdb_ranks.specs.of_format.File.{file_of}
-use Rattle.bdb_ranks.specs.of_format.Flags.{has_duplicates, is_sorted}
-use Rattle.bdb_ranks.specs.of_format.Page.{HashFields}
 use Rattle.bdb_buckets.specs.Repeat.{repeat_fault}
 use Rattle.bdb_buckets.specs.Told.{stored, Told, bucket_told, table_told}
 

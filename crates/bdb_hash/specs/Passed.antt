@@ -7,8 +7,7 @@ use Rattle.bdb_faults.specs.Notes.{Notes}
 use Rattle.bdb_ranks.specs.of_overflow.Keys.{has_item, has_key, repeated_by}
 use Rattle.bdb_ranks.specs.of_format.declared.kinds.Fault.{Fault}
 use Rattle.bdb_ranks.specs.of_format.declared.metadata.HashMeta.{HashMeta}
-use Rattle.bdb_ranks.specs.of_format.Contents.{StoredPair}
-use Rattle.bdb_ranks.specs.of_format.Hashing.{hash5}
+use Rattle.bdb_ranks.specs.of_format.Terms.{StoredPair, hash5}
 use Rattle.bdb_hash.specs.Noted.{is_stray, pair_faults}
 use Rattle.bdb_buckets.specs.Repeat.{repeat_fault}
 use Rattle.bdb_buckets.specs.Told.{stored, key_of, Told}

@@ -1,7 +1,6 @@
 -- Data of a set that ought to ascend, one after another. Source: docs/FORMAT.md, "Stage 8, contents".
 use Rattle.std.specs.Prelude.{ℕ, Bool, true, List, Option, Some, None}
-use Rattle.bdb_ranks.specs.of_format.ContentRows.{ascends, ascends_from}
-use Rattle.bdb_ranks.specs.of_format.Less.{less}
+use Rattle.bdb_ranks.specs.of_format.Terms.{ascends, ascends_from, less}
 
 -- a value is above the last one, where there is one
 abbrev pub follows : Option (List ℕ) → List ℕ → Bool

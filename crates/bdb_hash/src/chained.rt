@@ -1,9 +1,5 @@
 ghost use Rattle.std.specs.Prelude.{◌≡◌, [], IfOk};
-ghost use Rattle.bdb_ranks.specs.of_format.ContentRows.{ascends};
-ghost use Rattle.bdb_ranks.specs.of_format.Contents.{data_of};
-ghost use Rattle.bdb_ranks.specs.of_format.File.{file_of};
-ghost use Rattle.bdb_ranks.specs.of_format.Page.{Tree};
-ghost use Rattle.bdb_ranks.specs.of_format.Verdict.{structure_faults};
+ghost use Rattle.bdb_ranks.specs.of_format.Terms.{Tree, ascends, data_of, file_of, structure_faults};
 ghost use Rattle.bdb_ranks.specs.of_image.Linked.{FitsDupRoot};
 ghost use Rattle.bdb_buckets.specs.Chained.{chain_value};
 ghost use Rattle.bdb_hash.specs.Passed.{key_hash};

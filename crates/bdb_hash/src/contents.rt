@@ -5,10 +5,7 @@ ghost use Rattle.bdb_faults.specs.Notes.{Notes, NotesAll};
 ghost use Rattle.bdb_ranks.specs.of_image.Linked.{HasMetadata};
 ghost use Rattle.bdb_hash.specs.Noted.{bucket_faults, has_stray};
 ghost use Rattle.bdb_buckets.specs.Views.{IsTable};
-ghost use Rattle.bdb_ranks.specs.of_format.ContentRows.{database_faults};
-ghost use Rattle.bdb_ranks.specs.of_format.File.{file_of};
-ghost use Rattle.bdb_ranks.specs.of_format.Page.{HashFields};
-ghost use Rattle.bdb_ranks.specs.of_format.Verdict.{structure_faults, IsFirstOf};
+ghost use Rattle.bdb_ranks.specs.of_format.Terms.{HashFields, IsFirstOf, database_faults, file_of, structure_faults};
 
 use crate::Chains;
 use crate::passed::{Passed, note_bucket};

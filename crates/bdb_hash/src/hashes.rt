@@ -5,9 +5,7 @@ ghost use Rattle.bdb_ranks.specs.of_image.Linked.{HasMetadata};
 ghost use Rattle.bdb_buckets.specs.Chained.{AreAllOf, AreOf};
 ghost use Rattle.bdb_hash.specs.Passed.{is_among, is_missed, key_hash};
 ghost use Rattle.bdb_buckets.specs.Told.{joined_pages, table_told};
-ghost use Rattle.bdb_ranks.specs.of_format.File.{file_of};
-ghost use Rattle.bdb_ranks.specs.of_format.Page.{HashFields};
-ghost use Rattle.bdb_ranks.specs.of_format.Verdict.{structure_faults};
+ghost use Rattle.bdb_ranks.specs.of_format.Terms.{HashFields, file_of, structure_faults};
 
 use crate::Chains;
 use bdb_buckets::{BucketPages, PagePairs, bucket_pages, buckets};

@@ -1,12 +1,7 @@
 ghost use Rattle.std.specs.Prelude.{◌≡◌, ◌&&◌, IfOk, OnOk, not};
 ghost use Rattle.bdb_faults.specs.Notes.{Notes};
 ghost use Rattle.bdb_hash.specs.Noted.{told_faults};
-ghost use Rattle.bdb_ranks.specs.of_format.ContentRows.{ascends, is_duplicate};
-ghost use Rattle.bdb_ranks.specs.of_format.Contents.{data_of};
-ghost use Rattle.bdb_ranks.specs.of_format.File.{file_of};
-ghost use Rattle.bdb_ranks.specs.of_format.Flags.{has_duplicates, is_sorted};
-ghost use Rattle.bdb_ranks.specs.of_format.Hashing.{bucket};
-ghost use Rattle.bdb_ranks.specs.of_format.Page.{HashFields};
+ghost use Rattle.bdb_ranks.specs.of_format.Terms.{HashFields, ascends, bucket, data_of, file_of, has_duplicates, is_duplicate, is_sorted};
 
 use crate::Chains;
 use bdb_buckets::{Data, Pair};

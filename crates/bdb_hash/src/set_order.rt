@@ -1,10 +1,6 @@
 ghost use Rattle.std.specs.Prelude.{◌≡◌, [], IfOk};
 ghost use Rattle.std.specs.Option.{option_map};
-ghost use Rattle.bdb_ranks.specs.of_format.ContentRows.{ascends};
-ghost use Rattle.bdb_ranks.specs.of_format.Contents.{data_of};
-ghost use Rattle.bdb_ranks.specs.of_format.File.{file_of};
-ghost use Rattle.bdb_ranks.specs.of_format.Page.{Tree};
-ghost use Rattle.bdb_ranks.specs.of_format.Verdict.{structure_faults};
+ghost use Rattle.bdb_ranks.specs.of_format.Terms.{Tree, ascends, data_of, file_of, structure_faults};
 ghost use Rattle.bdb_ranks.specs.of_image.Linked.{FitsDupRoot};
 ghost use Rattle.bdb_hash.specs.SetOrder.{follows};
 ghost use Rattle.bdb_ranks.specs.of_overflow.Held.{FitsAny, FitsHeld, value_held};

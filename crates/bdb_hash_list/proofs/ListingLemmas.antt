@@ -1,7 +1,7 @@
 -- A list that is gone through from entry to entry.
 use Rattle.std.proofs.Common.{◌≡◌, ℕ, List, [], ◌∷◌, ◌++◌, arith}
 use Rattle.std.specs.List.{flat_map}
-use Rattle.bdb_buckets.specs.of_format.Lists.{BytesKey}
+use Rattle.bdb_buckets.specs.of_format.Terms.{BytesKey}
 use Rattle.bdb_buckets.specs.Told.{Told, entry_list, listed_told}
 
 -- a pair whose only datum stands on its page is listed at once

@@ -9,12 +9,9 @@ use Rattle.std.proofs.lemmas.List.{append-nil}
 use Rattle.std.proofs.lemmas.List.Elements.{Contains-append_left}
 use Rattle.std.proofs.lemmas.List.Folds.{find-append}
 use Rattle.bdb_buckets.specs.of_format.declared.metadata.HashMeta.{HashMeta}
-use Rattle.bdb_buckets.specs.of_format.ContentRows.{bucket_of_key, database_faults, database_rows, hash_contents, repeated}
-use Rattle.bdb_buckets.specs.of_format.Contents.{StoredPair, bucket_pairs, data_of, table_pairs}
-use Rattle.bdb_buckets.specs.of_format.File.{File, file_of}
-use Rattle.bdb_buckets.specs.of_format.Less.{less, Less}
-use Rattle.bdb_buckets.specs.of_format.Lists.{ListKey, BytesKey, by_key, get, hash_list, insert_pair, listed_pair}
-use Rattle.bdb_buckets.specs.of_format.Page.{HashFields}
+use Rattle.bdb_buckets.specs.of_format.Terms.{BytesKey, File, HashFields, Less, ListKey, StoredPair, bucket_of_key, bucket_pairs, by_key, data_of}
+use Rattle.bdb_buckets.specs.of_format.Terms.{database_faults, database_rows, fault_at, file_of, get, hash_contents, hash_list, insert_pair, less, listed_pair}
+use Rattle.bdb_buckets.specs.of_format.Terms.{repeated, table_pairs}
 use Rattle.bdb_buckets.proofs.of_format.LessLemmas.{eq_same, not_less_same}
 use Rattle.bdb_buckets.proofs.of_format.MemberLemmas.{first_member, in_range, is_empty, later_member, member_cases, no_member, none_passes, of_range}
 use Rattle.bdb_buckets.proofs.of_format.VerdictLemmas.{AllFail, no_rows_at}
@@ -22,7 +19,6 @@ use Rattle.bdb_buckets.proofs.of_format.PairLemmas.{get_append}
 use Rattle.bdb_buckets.proofs.of_format.RepeatLemmas.{has_key as key_among, repeated_after, repeated_is}
 use Rattle.bdb_buckets.specs.of_image.Linked.{HasMetadata}
 use Rattle.bdb_hash_list.specs.Scanned.{KeysDiffer}
-use Rattle.bdb_buckets.specs.of_format.FaultTable.{fault_at}
 use Rattle.bdb_buckets.specs.of_format.declared.rows.ContentsRow.TheVariants.{KeyTwice}
 use Rattle.bdb_buckets.specs.of_format.declared.rows.Row.TheVariants.{Contents}
 use Rattle.bdb_buckets.specs.Told.{IsSought, Told, bucket_told, has_key, joined_pages, told}

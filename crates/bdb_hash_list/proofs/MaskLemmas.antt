@@ -7,15 +7,10 @@ use Rattle.std.proofs.lemmas.Nat.{and_le_r}
 use Rattle.bdb_buckets.proofs.of_format.GraphLemmas.{typed_none}
 use Rattle.bdb_buckets.specs.of_format.declared.metadata.HashMeta.{HashMeta}
 use Rattle.bdb_buckets.specs.of_format.declared.metadata.Head.{Head}
-use Rattle.bdb_buckets.specs.of_format.File.{file_of, page_bytes}
-use Rattle.bdb_buckets.specs.of_format.Hashing.{bucket}
-use Rattle.bdb_buckets.specs.of_format.HeadOf.{head_of}
-use Rattle.bdb_buckets.specs.of_format.Numbers.{byte_at}
-use Rattle.bdb_buckets.specs.of_format.Page.{HashFields, Meta, Page, Zero}
+use Rattle.bdb_buckets.specs.of_format.Terms.{HashFields, Meta, Page, Zero, abstract_page, are_masks, bucket, byte_at, file_of, form_code, head_of, is_zero}
+use Rattle.bdb_buckets.specs.of_format.Terms.{page_as, page_bytes, page_type, typed_code}
 use Rattle.bdb_buckets.specs.of_format.declared.pages.PageType.{PageType}
 use Rattle.bdb_buckets.specs.of_format.declared.pages.PageType.TheVariants.{HashMeta as HashMetaPage}
-use Rattle.bdb_buckets.specs.of_format.Reading.{abstract_page, is_zero, page_as, page_type}
-use Rattle.bdb_buckets.specs.of_format.Rows.{are_masks, form_code, typed_code}
 use Rattle.bdb_buckets.proofs.of_format.VerdictLemmas.{none_is_first_row}
 use Rattle.bdb_buckets.proofs.of_format.FileLemmas.{last_page, page_is}
 use Rattle.bdb_buckets.specs.of_image.Linked.{HasMetadata, IsForest}

@@ -13,11 +13,7 @@ use Rattle.std.proofs.lemmas.Fn.{always_returns_same}
 use Rattle.std.proofs.lemmas.List.Elements.{Contains-get_or}
 use Rattle.std.proofs.lemmas.List.Sorted.{Contains-permutation, IsPermutation-map, IsPermutation-sym, ranks_by}
 use Rattle.bdb_buckets.specs.of_format.declared.metadata.HashMeta.{HashMeta}
-use Rattle.bdb_buckets.specs.of_format.Chains.{value_of}
-use Rattle.bdb_buckets.specs.of_format.Contents.{StoredPair, bucket_pages, table_pairs}
-use Rattle.bdb_buckets.specs.of_format.File.{File, file_of, page_at}
-use Rattle.bdb_buckets.specs.of_format.Page.{Hash, HashFields, Page}
-use Rattle.bdb_buckets.specs.of_format.References.{item_at}
+use Rattle.bdb_buckets.specs.of_format.Terms.{File, Hash, HashFields, Page, StoredPair, bucket_pages, file_of, item_at, page_at, table_pairs, value_of}
 use Rattle.bdb_buckets.proofs.of_format.MemberLemmas.{later_member, member_cases, no_member}
 use Rattle.bdb_buckets.specs.of_image.Linked.{HasMetadata}
 use Rattle.bdb_buckets.proofs.of_overflow.PrefixLemmas.{prefix_order}

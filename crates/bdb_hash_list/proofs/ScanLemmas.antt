@@ -16,11 +16,7 @@ use Rattle.std.proofs.lemmas.Map.Keys.{IsDistinct-IsPermutation}
 use Rattle.bdb_buckets.specs.of_layout.Seen.{OrderingIs}
 use Rattle.bdb_buckets.proofs.of_layout.KeyLemmas.{slice_cmp-is}
 use Rattle.bdb_buckets.specs.of_format.declared.metadata.HashMeta.{HashMeta}
-use Rattle.bdb_buckets.specs.of_format.Contents.{StoredPair, table_pairs}
-use Rattle.bdb_buckets.specs.of_format.File.{file_of}
-use Rattle.bdb_buckets.specs.of_format.Less.{less, Less}
-use Rattle.bdb_buckets.specs.of_format.Lists.{by_key, hash_list, insert_pair}
-use Rattle.bdb_buckets.specs.of_format.Page.{HashFields}
+use Rattle.bdb_buckets.specs.of_format.Terms.{HashFields, Less, StoredPair, by_key, file_of, hash_list, insert_pair, less, table_pairs}
 use Rattle.bdb_buckets.proofs.of_format.ListLemmas.{all_of}
 use Rattle.bdb_buckets.proofs.of_format.LessLemmas.{eq_same, eq_self, less_trans, not_less_both, not_less_same}
 use Rattle.bdb_buckets.proofs.of_format.MemberLemmas.{first_member, in_map, later_member, member_cases, no_member, of_map}

@@ -1,7 +1,7 @@
 -- The list of a table as the code gives it.
 use Rattle.std.specs.Prelude.{◌≡◌, ℕ, ◌++◌, List, map}
 use Rattle.std.specs.List.{Contains, flat_map}
-use Rattle.bdb_buckets.specs.of_format.FaultTable.{fault_at}
+use Rattle.bdb_buckets.specs.of_format.Terms.{File, HashFields, ListKey, by_key, database_faults, fault_at, file_of, table_pairs}
 use Rattle.bdb_buckets.specs.of_format.declared.rows.ContentsRow.TheVariants.{KeyTwice}
 use Rattle.bdb_buckets.specs.of_format.declared.rows.Row.TheVariants.{Contents}
 use Rattle.bdb_buckets.specs.of_overflow.declared.datum.Datum.{Datum}
@@ -9,11 +9,6 @@ use Rattle.bdb_buckets.specs.of_overflow.declared.datum.KeyView.{KeyView}
 use Rattle.bdb_buckets.specs.of_overflow.Datum.{datum_seen, key_view_seen}
 use Rattle.bdb_buckets.specs.Told.{Told, entry_list, listed_told, told}
 use Rattle.bdb_buckets.specs.of_format.declared.metadata.HashMeta.{HashMeta}
-use Rattle.bdb_buckets.specs.of_format.ContentRows.{database_faults}
-use Rattle.bdb_buckets.specs.of_format.Contents.{table_pairs}
-use Rattle.bdb_buckets.specs.of_format.File.{File, file_of}
-use Rattle.bdb_buckets.specs.of_format.Lists.{ListKey, by_key}
-use Rattle.bdb_buckets.specs.of_format.Page.{HashFields}
 
 -- a pair of a list
 abbrev pub entry_seen : (KeyView × Datum) → ListKey × List ℕ

@@ -4,7 +4,7 @@ ghost use Rattle.std.specs.List.{flat_map};
 ghost use Rattle.bdb_hash_list.specs.Scanned.{entry_seen};
 ghost use Rattle.bdb_buckets.specs.of_overflow.Datum.{datum_seen};
 ghost use Rattle.bdb_buckets.specs.Told.{entry_list, listed_told};
-ghost use Rattle.bdb_buckets.specs.of_format.Lists.{ListKey};
+ghost use Rattle.bdb_buckets.specs.of_format.Terms.{ListKey};
 
 use crate::ranked::Ranked;
 use bdb_buckets::{Data, Datum, KeyView};
@@ -32,7 +32,7 @@ impl<'a> Model for Scan<'a> {
     ghost use Rattle.std.specs.List.{flat_map};
     ghost use Rattle.bdb_buckets.specs.of_overflow.Datum.{datum_seen};
     ghost use Rattle.bdb_buckets.specs.Told.{entry_list, listed_told};
-    ghost use Rattle.bdb_buckets.specs.of_format.Lists.{ListKey};
+    ghost use Rattle.bdb_buckets.specs.of_format.Terms.{ListKey};
 
     ghost Value = { List (ListKey × List ℕ) };
 

@@ -3,11 +3,7 @@ ghost use Rattle.std.specs.List.{find};
 ghost use Rattle.bdb_buckets.specs.of_image.Linked.{HasMetadata};
 ghost use Rattle.bdb_buckets.specs.Told.{bucket_told, has_key};
 ghost use Rattle.bdb_buckets.specs.Views.{IsTable};
-ghost use Rattle.bdb_buckets.specs.of_format.ContentRows.{bucket_of_key, database_faults};
-ghost use Rattle.bdb_buckets.specs.of_format.File.{file_of};
-ghost use Rattle.bdb_buckets.specs.of_format.Lists.{BytesKey, get, hash_list};
-ghost use Rattle.bdb_buckets.specs.of_format.Page.{HashFields};
-ghost use Rattle.bdb_buckets.specs.of_format.Verdict.{structure_faults};
+ghost use Rattle.bdb_buckets.specs.of_format.Terms.{BytesKey, HashFields, bucket_of_key, database_faults, file_of, get, hash_list, structure_faults};
 
 use bdb_buckets::{
     Data, HashMeta, Linked, PagePairs, Pair, Steps, bucket_of, bucket_pages, buckets, hash5,

@@ -2,7 +2,7 @@ ghost use Rattle.std.specs.Prelude.{◌≡◌, ◌≤◌, IfOk, true, map};
 ghost use Rattle.std.specs.Iterator.{YieldsFirstBy, item_count};
 ghost use Rattle.bdb_buckets.specs.Places.{ArePlaces, has_pair, told_at, told_on};
 ghost use Rattle.bdb_buckets.specs.Views.{IsTable};
-ghost use Rattle.bdb_buckets.specs.of_format.File.{file_of, page_at};
+ghost use Rattle.bdb_buckets.specs.of_format.Terms.{file_of, page_at};
 
 use crate::near::Near;
 use bdb_buckets::{Forest, PageView, Pair, PairPlace};

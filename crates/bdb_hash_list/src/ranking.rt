@@ -5,10 +5,7 @@ ghost use Rattle.bdb_buckets.specs.Places.{Adds, AreAt, place_less};
 ghost use Rattle.bdb_hash_list.specs.Scanned.{KeysDiffer, ranked};
 ghost use Rattle.bdb_buckets.specs.Told.{joined_pages, table_told};
 ghost use Rattle.bdb_buckets.specs.Views.{IsTable};
-ghost use Rattle.bdb_buckets.specs.of_format.File.{file_of};
-ghost use Rattle.bdb_buckets.specs.of_format.Lists.{hash_list};
-ghost use Rattle.bdb_buckets.specs.of_format.Page.{HashFields};
-ghost use Rattle.bdb_buckets.specs.of_format.Verdict.{structure_faults};
+ghost use Rattle.bdb_buckets.specs.of_format.Terms.{HashFields, file_of, hash_list, structure_faults};
 
 use crate::Scan;
 use crate::ranked::Ranked;

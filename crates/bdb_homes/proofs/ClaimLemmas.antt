@@ -7,10 +7,7 @@ use Rattle.std.proofs.lemmas.Bool.{cases_Bool, cases_lt, eqb-true, and_parts}
 use Rattle.std.proofs.lemmas.List.{get_or_past, get_or-replicate, length-replicate}
 use Rattle.std.proofs.lemmas.List.Concat.{flat_map-append}
 use Rattle.bdb_survey.proofs.of_format.ListLemmas.{range_zero_more}
-use Rattle.bdb_survey.specs.of_format.File.{File, page_at}
-use Rattle.bdb_survey.specs.of_format.Graph.{is_meta}
-use Rattle.bdb_survey.specs.of_format.Page.{Page}
-use Rattle.bdb_survey.specs.of_format.References.{asked_by, fit_code}
+use Rattle.bdb_survey.specs.of_format.Terms.{File, Page, asked_by, fit_code, is_meta, page_at}
 use Rattle.bdb_homes.specs.Claims.{Below, Claim, all_claims, below_in, claim, claim_of, first_claim, is_claim, is_fit}
 use Rattle.bdb_homes.specs.Faces.{AreFaces}
 use Rattle.bdb_homes.specs.Fits.{fits_by}

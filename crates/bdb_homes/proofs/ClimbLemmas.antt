@@ -3,8 +3,7 @@ use Rattle.std.proofs.Common.{◌≡◌, ℕ, suc, ◌+◌, ◌-◌, ◌<◌, �
 use Rattle.std.specs.Prelude.{nat_lt}
 use Rattle.std.specs.Option.{option_and_then, option_map}
 use Rattle.std.proofs.lemmas.Bool.{cases_Bool}
-use Rattle.bdb_survey.specs.of_format.File.{File, page_at}
-use Rattle.bdb_survey.specs.of_format.Graph.{is_meta}
+use Rattle.bdb_survey.specs.of_format.Terms.{File, is_meta, page_at}
 use Rattle.bdb_homes.specs.Claims.{Claim, claim_of}
 use Rattle.bdb_homes.specs.Homes.{by_claim, claimed_in, later, numbered, own_home}
 use Rattle.bdb_homes.specs.Ups.{AreUpsOf, up_of}

@@ -5,9 +5,7 @@ use Rattle.std.specs.Prelude.{nat_lt, ◌==◌, ◌&&◌, ◌||◌, not, is_none
 use Rattle.std.proofs.lemmas.Bool.{cases_lt}
 use Rattle.std.proofs.lemmas.List.{get_or_past}
 use Rattle.std.proofs.lemmas.Bool.Decides.{nat_tests}
-use Rattle.bdb_survey.specs.of_format.Table.{◌:?◌, first_row}
-use Rattle.bdb_survey.specs.of_format.File.{File, page_at}
-use Rattle.bdb_survey.specs.of_format.References.{Asked}
+use Rattle.bdb_survey.specs.of_format.Terms.{Asked, File, first_row, page_at, ◌:?◌}
 use Rattle.bdb_homes.specs.Faces.{AreFaces, face_of, no_face}
 use Rattle.bdb_homes.specs.Fits.{fits_as, fits_by, meets}
 use Rattle.bdb_homes.specs.declared.face.Face.{Face}

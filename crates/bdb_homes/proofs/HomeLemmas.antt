@@ -3,7 +3,7 @@ use Rattle.std.proofs.Common.{◌≡◌, ℕ, zero, suc, ◌<◌, List, ◌++◌
 use Rattle.std.proofs.Common.{get_or, take, drop}
 use Rattle.std.proofs.lemmas.Grind.{common_steps}
 use Rattle.std.specs.Option.{option_and_then}
-use Rattle.bdb_survey.specs.of_format.File.{File}
+use Rattle.bdb_survey.specs.of_format.Terms.{File}
 use Rattle.bdb_homes.specs.Faces.{AreFaces}
 use Rattle.bdb_homes.specs.Homes.{ahead, behind, from_side, home, led, or_else, own_home, page_after, page_before, spread}
 use Rattle.bdb_homes.specs.Spreading.{home_at, moved_by, side_of}

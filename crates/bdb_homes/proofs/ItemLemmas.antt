@@ -8,10 +8,7 @@ use Rattle.std.proofs.lemmas.Option.{slice_get-map}
 use Rattle.std.proofs.lemmas.List.{map-append}
 use Rattle.bdb_survey.specs.of_format.declared.pages.RecnoItem.{RecnoItem}
 use Rattle.bdb_survey.specs.of_format.declared.references.Sort.TheVariants.{Child}
-use Rattle.bdb_survey.specs.of_format.File.{File, page_at}
-use Rattle.bdb_survey.specs.of_format.Graph.{is_meta}
-use Rattle.bdb_survey.specs.of_format.Page.{InternalItem, Internal, Listed, Page, RecnoInternal}
-use Rattle.bdb_survey.specs.of_format.References.{Asked, asked_by}
+use Rattle.bdb_survey.specs.of_format.Terms.{Asked, File, Internal, InternalItem, Listed, Page, RecnoInternal, asked_by, is_meta, page_at}
 use Rattle.bdb_homes.specs.Claims.{Below, Claim, below_in, claim, counted, is_fit}
 use Rattle.bdb_homes.specs.Faces.{AreFaces}
 use Rattle.bdb_homes.specs.Fits.{fits_by}

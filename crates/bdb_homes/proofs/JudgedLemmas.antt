@@ -8,8 +8,7 @@ use Rattle.bdb_graph.specs.of_form.declared.view.PageView.TheVariants.{Overflow,
 use Rattle.bdb_graph.specs.of_image.Metas.{meta_in, meta_seen}
 use Rattle.bdb_graph.specs.of_image.declared.meta.Meta.{Meta as Fields}
 use Rattle.bdb_graph.specs.of_slots.Slots.{IsNoMetadata}
-use Rattle.bdb_survey.specs.of_format.Graph.{is_meta}
-use Rattle.bdb_survey.specs.of_format.Page.{Page, Meta as MetaPage, NoType}
+use Rattle.bdb_survey.specs.of_format.Terms.{Meta as MetaPage, NoType, Page, is_meta}
 
 -- the fields of a metadata page are the page
 pub fields_are : (page : Page) (meta : Fields) → is_meta page ≡ true → Some (meta_seen meta) ≡ meta_in page → MetaPage (meta_seen meta) ≡ page

@@ -4,9 +4,7 @@ use Rattle.std.proofs.Common.{true≢false}
 use Rattle.std.specs.Prelude.{◌==◌, ◌&&◌, not, if◌then◌else◌}
 use Rattle.std.proofs.lemmas.Option.{cond_some}
 use Rattle.std.proofs.lemmas.Bool.{cases_Bool, cases_lt, eqb-true, and_parts}
-use Rattle.bdb_survey.specs.of_format.File.{File, page_at}
-use Rattle.bdb_survey.specs.of_format.Chains.{next_of}
-use Rattle.bdb_survey.specs.of_format.Page.{NoType}
+use Rattle.bdb_survey.specs.of_format.Terms.{File, NoType, next_of, page_at}
 use Rattle.bdb_homes.specs.Faces.{AreFaces, face_of, no_face}
 use Rattle.bdb_homes.specs.Homes.{adjoins, is_alike, is_same, previous_of, row_of}
 use Rattle.bdb_homes.specs.Spreading.{opposite, side_of}

@@ -6,8 +6,7 @@ use Rattle.std.specs.Prelude.{min, ◌||◌, not}
 use Rattle.std.specs.List.{range_with_len}
 use Rattle.std.proofs.lemmas.List.{map-append, length-set}
 use Rattle.std.proofs.lemmas.List.FromFn.{get_or-range_with_len, length-range_with_len}
-use Rattle.bdb_survey.specs.of_format.File.{File, page_at}
-use Rattle.bdb_survey.specs.of_format.Graph.{is_meta}
+use Rattle.bdb_survey.specs.of_format.Terms.{File, is_meta, page_at}
 use Rattle.bdb_homes.specs.Claims.{Claim, is_fit}
 use Rattle.bdb_homes.specs.Faces.{AreFaces}
 use Rattle.bdb_homes.specs.Fits.{bucket_asked, fits_by}

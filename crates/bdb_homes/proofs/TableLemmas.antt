@@ -3,13 +3,10 @@ use Rattle.std.proofs.Common.{◌≡◌, ℕ, ◌+◌, ◌<◌, ◌≤◌, true,
 use Rattle.std.proofs.lemmas.List.{map-append}
 use Rattle.std.specs.List.{range_with_len}
 use Rattle.bdb_survey.specs.of_format.declared.references.Sort.{Sort}
-use Rattle.bdb_survey.specs.of_format.Hashing.{first_page}
-use Rattle.bdb_survey.specs.of_format.File.{File, page_at}
-use Rattle.bdb_survey.specs.of_format.Graph.{is_meta}
+use Rattle.bdb_survey.specs.of_format.Terms.{File, HashFields, Meta, first_page, is_meta, page_at}
 use Rattle.bdb_survey.proofs.of_format.ListLemmas.{range_parts}
 use Rattle.bdb_graph.specs.of_image.Buckets.{bucket_names, run_names}
 use Rattle.bdb_survey.specs.of_format.declared.metadata.HashMeta.{HashMeta}
-use Rattle.bdb_survey.specs.of_format.Page.{HashFields, Meta}
 use Rattle.bdb_homes.specs.Claims.{Claim, below_in, claim}
 use Rattle.bdb_homes.specs.Faces.{AreFaces}
 use Rattle.bdb_homes.specs.Leaps.{HasLeaps}

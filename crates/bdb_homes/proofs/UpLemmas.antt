@@ -4,8 +4,7 @@ use Rattle.std.proofs.Common.{subst, get_or, true≢false}
 use Rattle.std.specs.Prelude.{◌==◌, ◌&&◌, if◌then◌else◌}
 use Rattle.std.proofs.lemmas.Bool.{cases_Bool, cases_eq, eqb-true, and_parts}
 use Rattle.std.proofs.lemmas.List.{get_or-set_same, get_or-set_other, length-set}
-use Rattle.bdb_survey.specs.of_format.File.{File, page_at}
-use Rattle.bdb_survey.specs.of_format.Graph.{is_meta}
+use Rattle.bdb_survey.specs.of_format.Terms.{File, is_meta, page_at}
 use Rattle.bdb_homes.specs.Claims.{Claim, first_claim, is_claim, is_fit}
 use Rattle.bdb_homes.specs.Ups.{AreUps, is_claimed, up_by, up_of}
 use Rattle.bdb_homes.specs.declared.up.Up.{Up}

@@ -4,10 +4,7 @@ use Rattle.std.specs.List.{flat_map, range_with_len}
 use Rattle.bdb_survey.specs.of_format.declared.pages.RecnoItem.{RecnoItem}
 use Rattle.bdb_survey.specs.of_format.declared.references.Sort.{Sort}
 use Rattle.bdb_survey.specs.of_format.declared.references.Sort.TheVariants.{Root, Bucket, Child}
-use Rattle.bdb_survey.specs.of_format.Hashing.{first_page}
-use Rattle.bdb_survey.specs.of_format.Page.{InternalItem, BtreeFields, HashFields, Page, Meta, Internal, RecnoInternal}
-use Rattle.bdb_survey.specs.of_format.File.{File, page_at}
-use Rattle.bdb_survey.specs.of_format.References.{fit_code}
+use Rattle.bdb_survey.specs.of_format.Terms.{BtreeFields, File, HashFields, Internal, InternalItem, Meta, Page, RecnoInternal, first_page, fit_code, page_at}
 
 -- a page that another names below it, and how many records that one counts before it
 pub record Below : Type 0 where

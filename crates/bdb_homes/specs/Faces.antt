@@ -1,9 +1,6 @@
 -- What other pages ask of a page.
 use Rattle.std.specs.Prelude.{◌≡◌, ℕ, ◌-◌, ◌<◌, ◌≤◌, List, length, get_or}
-use Rattle.bdb_survey.specs.of_format.Page.{Page, NoType}
-use Rattle.bdb_survey.specs.of_format.File.{File, page_at, header_in, type_in}
-use Rattle.bdb_survey.specs.of_format.Graph.{is_meta}
-use Rattle.bdb_survey.specs.of_format.References.{is_zero_page}
+use Rattle.bdb_survey.specs.of_format.Terms.{File, NoType, Page, header_in, is_meta, is_zero_page, page_at, type_in}
 use Rattle.bdb_homes.specs.Homes.{records_on, row_of}
 use Rattle.bdb_homes.specs.declared.face.Face.{Face}
 

@@ -1,8 +1,6 @@
 -- Whether a page has what a reference asks, as its face tells.
 use Rattle.std.specs.Prelude.{ℕ, nat_lt, ◌==◌, ◌&&◌, ◌||◌, not, Bool, true, List, [], ◌∷◌, length, get_or, Some, None, is_none}
-use Rattle.bdb_survey.specs.of_format.File.{File}
-use Rattle.bdb_survey.specs.of_format.Table.{first_row}
-use Rattle.bdb_survey.specs.of_format.References.{Asked, fit_rows, has_type, is_asked}
+use Rattle.bdb_survey.specs.of_format.Terms.{Asked, File, first_row, fit_rows, has_type, is_asked}
 use Rattle.bdb_homes.specs.Faces.{no_face}
 use Rattle.bdb_homes.specs.declared.face.Face.{Face}
 

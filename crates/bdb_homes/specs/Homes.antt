@@ -1,10 +1,7 @@
 -- Which database a page of a damaged file belongs to, and how many records come before it there. Source: docs/FORMAT.md, "Salvage".
 use Rattle.std.specs.Prelude.{ℕ, zero, suc, ◌+◌, ◌-◌, ◌^◌, nat_le, nat_lt, ◌==◌, ◌&&◌, not, if◌then◌else◌, Bool, true, false, length, Option, Some, None}
 use Rattle.std.specs.Option.{option_map, option_and_then}
-use Rattle.bdb_survey.specs.of_format.Page.{Page, Hash, Leaf, RecnoLeaf}
-use Rattle.bdb_survey.specs.of_format.File.{File, page_at, header_in}
-use Rattle.bdb_survey.specs.of_format.Graph.{is_meta}
-use Rattle.bdb_survey.specs.of_format.Chains.{next_of}
+use Rattle.bdb_survey.specs.of_format.Terms.{File, Hash, Leaf, Page, RecnoLeaf, header_in, is_meta, next_of, page_at}
 use Rattle.bdb_homes.specs.Claims.{Claim, claim_of}
 use Rattle.bdb_homes.specs.declared.face.Row.{Row}
 use Rattle.bdb_homes.specs.declared.face.Row.TheVariants.{Alone, Bucket, Pairs, Records}

@@ -4,7 +4,7 @@ use Rattle.bdb_graph.specs.of_form.Seen.{page_seen}
 use Rattle.bdb_graph.specs.of_image.Metas.{meta_seen}
 use Rattle.bdb_graph.specs.of_slots.Slots.{IsNoMetadata}
 use Rattle.bdb_survey.specs.Metas.{HasFewBuckets}
-use Rattle.bdb_survey.specs.of_format.Page.{Page, Meta as MetaPage, NoType}
+use Rattle.bdb_survey.specs.of_format.Terms.{Meta as MetaPage, NoType, Page}
 use Rattle.bdb_homes.specs.declared.judged.Judged.{Judged}
 use Rattle.bdb_homes.specs.declared.judged.Judged.TheVariants.{Meta, Other}
 

@@ -1,6 +1,6 @@
 -- The homes that are kept.
 use Rattle.std.specs.Prelude.{◌≡◌, ℕ, ◌<◌, List, length, get_or, Option, None}
-use Rattle.bdb_survey.specs.of_format.File.{File}
+use Rattle.bdb_survey.specs.of_format.Terms.{File}
 use Rattle.bdb_homes.specs.Homes.{home}
 use Rattle.bdb_homes.specs.declared.home.Home.{Home}
 

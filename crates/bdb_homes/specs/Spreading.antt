@@ -1,6 +1,6 @@
 -- Homes while they are given from page to page.
 use Rattle.std.specs.Prelude.{◌≡◌, ◌⊎◌, ℕ, suc, ◌+◌, ◌<◌, ◌≤◌, List, [], ◌∷◌, length, get_or, Option, Some, None}
-use Rattle.bdb_survey.specs.of_format.File.{File}
+use Rattle.bdb_survey.specs.of_format.Terms.{File}
 use Rattle.bdb_homes.specs.Homes.{ahead, behind, page_after, page_before, spread}
 use Rattle.bdb_homes.specs.declared.home.Home.{Home}
 use Rattle.bdb_homes.specs.declared.rows.Side.{Side}

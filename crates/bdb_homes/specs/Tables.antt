@@ -1,7 +1,7 @@
 -- The claims of a table to its buckets.
 use Rattle.std.specs.Prelude.{ℕ, List, map}
 use Rattle.std.specs.List.{range_with_len}
-use Rattle.bdb_survey.specs.of_format.Hashing.{first_page}
+use Rattle.bdb_survey.specs.of_format.Terms.{first_page}
 use Rattle.bdb_homes.specs.Claims.{Claim}
 use Rattle.bdb_homes.specs.Runs.{bucket_claim}
 

@@ -1,7 +1,6 @@
 -- What is kept of the claims of pages.
 use Rattle.std.specs.Prelude.{◌≡◌, ℕ, ◌<◌, if◌then◌else◌, Bool, true, false, List, length, get_or, Option, Some, None}
-use Rattle.bdb_survey.specs.of_format.File.{File, page_at}
-use Rattle.bdb_survey.specs.of_format.Graph.{is_meta}
+use Rattle.bdb_survey.specs.of_format.Terms.{File, is_meta, page_at}
 use Rattle.bdb_homes.specs.Claims.{Claim, claim_of, first_claim}
 use Rattle.bdb_homes.specs.declared.up.Up.{Up}
 use Rattle.bdb_homes.specs.declared.up.Up.TheVariants.{Nowhere, Metadata, Holder}

@@ -1,5 +1,5 @@
 ghost use Rattle.std.specs.Prelude.{◌≡◌};
-ghost use Rattle.bdb_survey.specs.of_format.References.{is_asked};
+ghost use Rattle.bdb_survey.specs.of_format.Terms.{is_asked};
 ghost use Rattle.bdb_homes.specs.Fits.{bucket_asked, fits_by, meets};
 
 use crate::face::Face;
@@ -16,7 +16,7 @@ pub(crate) struct Asked {
 }
 
 impl Model for Asked {
-    ghost use Rattle.bdb_survey.specs.of_format.References.{Asked as AnyAsked};
+    ghost use Rattle.bdb_survey.specs.of_format.Terms.{Asked as AnyAsked};
 
     ghost Value = { AnyAsked };
 

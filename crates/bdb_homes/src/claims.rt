@@ -1,8 +1,7 @@
 ghost use Rattle.std.specs.Prelude.{◌≡◌, ◌<◌, ◌≤◌, ◌+◌, ◌^◌, ◌++◌, ◌∷◌, [], if◌then◌else◌, false, None, ℕ, List, IfOk, length, map};
 ghost use Rattle.bdb_graph.specs.of_form.Seen.{page_seen};
 ghost use Rattle.bdb_graph.specs.of_slots.Slots.{IsNoMetadata};
-ghost use Rattle.bdb_survey.specs.of_format.File.{File, page_at};
-ghost use Rattle.bdb_survey.specs.of_format.Page.{BtreeFields, Meta as MetaPage};
+ghost use Rattle.bdb_survey.specs.of_format.Terms.{BtreeFields, File, Meta as MetaPage, page_at};
 ghost use Rattle.bdb_graph.specs.of_image.Metas.{meta_seen};
 ghost use Rattle.bdb_survey.specs.Metas.{HasFewBuckets};
 ghost use Rattle.bdb_homes.specs.Claims.{Claim, below_in, claim};

@@ -1,5 +1,5 @@
 ghost use Rattle.std.specs.Prelude.{◌≡◌, ◌<◌, ◌≤◌, ℕ, length, get_or};
-ghost use Rattle.bdb_survey.specs.of_format.File.{File};
+ghost use Rattle.bdb_survey.specs.of_format.Terms.{File};
 ghost use Rattle.bdb_homes.specs.Homes.{own_home};
 ghost use Rattle.bdb_homes.specs.Ups.{AreUpsOf};
 ghost use Rattle.bdb_homes.specs.declared.up.Up.TheVariants.{Nowhere};

@@ -1,9 +1,8 @@
 ghost use Rattle.std.specs.Prelude.{◌≡◌, ◌<◌, ◌≤◌, ◌^◌, ℕ, IfOk, IfSome, Some, false, length, get_or};
 ghost use Rattle.bdb_graph.specs.of_form.Seen.{page_seen};
 ghost use Rattle.bdb_graph.specs.of_slots.Slots.{IsNoMetadata};
-ghost use Rattle.bdb_survey.specs.of_format.File.{page_at};
+ghost use Rattle.bdb_survey.specs.of_format.Terms.{Meta as MetaPage, page_at};
 ghost use Rattle.bdb_graph.specs.of_image.Metas.{meta_seen};
-ghost use Rattle.bdb_survey.specs.of_format.Page.{Meta as MetaPage};
 ghost use Rattle.bdb_homes.specs.Faces.{AreFaces, face_of, no_face};
 ghost use Rattle.bdb_homes.specs.Judged.{IsJudged, judged_in, judged_seen};
 

@@ -1,5 +1,5 @@
 ghost use Rattle.std.specs.Prelude.{◌≡◌, ◌<◌, ◌≤◌, ◌+◌, ◌^◌, ℕ, length, get_or, IfOk, None};
-ghost use Rattle.bdb_survey.specs.of_format.File.{File};
+ghost use Rattle.bdb_survey.specs.of_format.Terms.{File};
 ghost use Rattle.bdb_homes.specs.Faces.{AreFaces};
 ghost use Rattle.bdb_homes.specs.Homes.{home, own_home};
 ghost use Rattle.bdb_homes.specs.Ups.{AreUpsOf};
@@ -64,7 +64,7 @@ pub struct PageHomes<'a> {
 }
 
 impl<'a> Model for PageHomes<'a> {
-    ghost use Rattle.bdb_survey.specs.of_format.File.{File};
+    ghost use Rattle.bdb_survey.specs.of_format.Terms.{File};
     ghost use Rattle.bdb_homes.specs.Kept.{AreHomes};
 
     ghost Value = { File };

@@ -1,6 +1,5 @@
 ghost use Rattle.std.specs.Prelude.{◌≡◌, ◌-◌, ◌∷◌, ◌++◌, [], ℕ, List, Some, None, false, true, map, get_or};
-ghost use Rattle.bdb_survey.specs.of_format.File.{File, page_at};
-ghost use Rattle.bdb_survey.specs.of_format.Page.{Internal, RecnoInternal};
+ghost use Rattle.bdb_survey.specs.of_format.Terms.{File, Internal, RecnoInternal, page_at};
 ghost use Rattle.bdb_homes.specs.Claims.{Claim, below_in, claim};
 ghost use Rattle.bdb_homes.specs.Faces.{AreFaces};
 ghost use Rattle.bdb_homes.specs.Ups.{AreUps, is_claimed};

@@ -1,6 +1,5 @@
 ghost use Rattle.std.specs.Prelude.{◌≡◌, IfSome, IsTrue};
-ghost use Rattle.bdb_survey.specs.of_format.File.{page_at};
-ghost use Rattle.bdb_survey.specs.of_format.Graph.{is_meta};
+ghost use Rattle.bdb_survey.specs.of_format.Terms.{is_meta, page_at};
 ghost use Rattle.bdb_homes.specs.Judged.{IsJudged, judged_in};
 
 use bdb_graph::{Meta, PageView};

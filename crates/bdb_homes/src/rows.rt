@@ -1,5 +1,5 @@
 ghost use Rattle.std.specs.Prelude.{◌≡◌, IfSome, true, ◌<◌, ◌≤◌, ◌^◌, ◌-◌, ℕ, Option, None, Some, if◌then◌else◌, nat_le, length, get_or};
-ghost use Rattle.bdb_survey.specs.of_format.File.{File};
+ghost use Rattle.bdb_survey.specs.of_format.Terms.{File};
 ghost use Rattle.bdb_homes.specs.Faces.{AreFaces};
 ghost use Rattle.bdb_homes.specs.Homes.{adjoins, later, numbered, spread};
 ghost use Rattle.bdb_homes.specs.Spreading.{IsSpreading, home_at, moved_by, opposite, side_of};

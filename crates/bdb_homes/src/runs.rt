@@ -1,6 +1,5 @@
 ghost use Rattle.std.specs.Prelude.{◌≡◌, ◌<◌, ◌≤◌, ◌+◌, ◌^◌, ◌++◌, ◌∷◌, [], ℕ, List, length, true};
-ghost use Rattle.bdb_survey.specs.of_format.File.{File, page_at};
-ghost use Rattle.bdb_survey.specs.of_format.Graph.{is_meta};
+ghost use Rattle.bdb_survey.specs.of_format.Terms.{File, is_meta, page_at};
 ghost use Rattle.bdb_homes.specs.Claims.{Claim};
 ghost use Rattle.bdb_homes.specs.Faces.{AreFaces};
 ghost use Rattle.bdb_homes.specs.Leaps.{HasLeaps};

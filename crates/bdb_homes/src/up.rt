@@ -1,5 +1,5 @@
 ghost use Rattle.std.specs.Prelude.{◌≡◌, ◌≢◌, ◌<◌, ◌++◌, ◌∷◌, [], ℕ, List, length, get_or, true};
-ghost use Rattle.bdb_survey.specs.of_format.File.{File};
+ghost use Rattle.bdb_survey.specs.of_format.Terms.{File};
 ghost use Rattle.bdb_homes.specs.Claims.{Claim, is_fit};
 ghost use Rattle.bdb_homes.specs.Ups.{AreUps, is_claimed, up_by};
 ghost use Rattle.bdb_homes.specs.declared.up.Up.TheVariants.{Nowhere};

@@ -6,7 +6,7 @@ use Rattle.std.specs.Prelude.{None, Some}
 use Rattle.bdb_faults.specs.of_format.declared.references.Reference.{Reference}
 use Rattle.bdb_faults.specs.of_format.declared.references.Sort.{Sort}
 use Rattle.bdb_faults.specs.of_format.declared.references.Sort.TheVariants.{Free as FreeRef}
-use Rattle.bdb_faults.specs.of_format.References.{unless_zero}
+use Rattle.bdb_faults.specs.of_format.Terms.{unless_zero}
 use Rattle.bdb_faults.proofs.of_format.ListLemmas.{range_parts}
 use Rattle.bdb_slots.specs.declared.source.Source.{Source}
 use Rattle.bdb_slots.specs.declared.source.Source.TheVariants.{Next, Table}

@@ -14,20 +14,12 @@ use Rattle.std.specs.List.{list_any, range_with_len}
 use Rattle.bdb_faults.specs.of_format.declared.references.Reference.{Reference}
 use Rattle.bdb_faults.specs.of_format.declared.references.Sort.TheVariants.{Bucket}
 use Rattle.bdb_faults.specs.of_format.declared.metadata.Head.{Head}
-use Rattle.bdb_faults.specs.of_format.File.{File, file_of, page_at, page_bytes}
-use Rattle.bdb_faults.specs.of_format.HeadOf.{head_of}
-use Rattle.bdb_faults.specs.of_format.Numbers.{byte_at, four_at}
-use Rattle.bdb_faults.specs.of_format.Reading.{is_zero, page_type}
-use Rattle.bdb_faults.specs.of_format.Rows.{form_code, identity_rows, may_have_type, typed_code}
-use Rattle.bdb_faults.specs.of_format.Page.{Zero}
+use Rattle.bdb_faults.specs.of_format.Terms.{Asked, File, Zero, asked_by, byte_at, fails_as, file_of, first_page, first_row, fit_code, form_code, four_at}
+use Rattle.bdb_faults.specs.of_format.Terms.{group, head_of, identity_rows, is_zero, may_have_type, page_at, page_bytes, page_type, typed_code, ◌:?◌}
 use Rattle.bdb_faults.proofs.of_format.FileLemmas.{last_page, page_is}
 use Rattle.bdb_faults.proofs.of_format.GraphLemmas.{zero_page}
 use Rattle.bdb_faults.proofs.of_format.SizeLemmas.{long_page}
 use Rattle.bdb_image.proofs.CodeLemmas.{identity_fails}
-use Rattle.bdb_faults.specs.of_format.Hashing.{first_page, group}
-use Rattle.bdb_faults.specs.of_format.References.{Asked, asked_by, fit_code}
-use Rattle.bdb_faults.specs.of_format.Table.{◌:?◌, first_row}
-use Rattle.bdb_faults.specs.of_format.Verdict.{fails_as}
 use Rattle.bdb_faults.proofs.of_format.ListLemmas.{range_more, range_parts}
 use Rattle.bdb_meta.proofs.of_layout.HashingLemmas.{below_group, group-le}
 use Rattle.bdb_image.specs.declared.fits.Misfits.{Misfits}

@@ -9,18 +9,14 @@ use Rattle.bdb_faults.specs.of_format.declared.kinds.Order.{Order}
 use Rattle.bdb_faults.specs.of_format.declared.metadata.FileKind.{FileKind}
 use Rattle.bdb_faults.specs.of_format.declared.metadata.FileKind.TheVariants.{Btree, Hash, Queue}
 use Rattle.bdb_faults.specs.of_format.declared.metadata.Head.{Head}
-use Rattle.bdb_faults.specs.of_format.FaultTable.{coded}
-use Rattle.bdb_faults.specs.of_format.Numbers.{byte_at}
+use Rattle.bdb_faults.specs.of_format.Terms.{Row, answer, body_code, byte_at, coded, field_rows, first_row, form_code, identity_rows, is_page_size}
+use Rattle.bdb_faults.specs.of_format.Terms.{is_queue_type, is_tree_type, is_zero, may_have_type, metadata_rows, page_code, page_type, queue_code, type_of}
+use Rattle.bdb_faults.specs.of_format.Terms.{typed_code}
 use Rattle.bdb_faults.specs.of_format.declared.pages.PageType.{PageType}
 use Rattle.bdb_faults.specs.of_format.declared.pages.PageType.TheVariants.{BtreeMeta as BtreeMetaPage, HashMeta as HashMetaPage, QueueMeta as QueueMetaPage}
-use Rattle.bdb_faults.specs.of_format.Reading.{is_zero, page_type}
-use Rattle.bdb_faults.specs.of_format.Rows.{body_code, form_code, identity_rows, is_queue_type, is_tree_type, field_rows}
-use Rattle.bdb_faults.specs.of_format.Rows.{may_have_type, metadata_rows, page_code, queue_code, type_of, typed_code}
-use Rattle.bdb_faults.specs.of_format.Table.{Row, answer, first_row}
 use Rattle.bdb_faults.proofs.of_format.PageLemmas.{later_type, metadata_code}
 use Rattle.bdb_faults.proofs.of_format.SizeLemmas.{size_bounds}
 use Rattle.bdb_faults.proofs.of_format.TypeLemmas.{HasByte, byte_as, byte_of}
-use Rattle.bdb_faults.specs.of_format.HeadOf.{is_page_size}
 
 -- What the calls answer.
 

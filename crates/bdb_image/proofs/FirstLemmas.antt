@@ -3,11 +3,8 @@ use Rattle.std.proofs.Common.{◌≡◌, ℕ, ◌+◌, ◌^◌, ◌<◌, ◌≤�
 use Rattle.std.specs.Prelude.{Some, None, Result, Ok, Err}
 use Rattle.std.specs.Option.{option_to_list}
 use Rattle.bdb_faults.specs.of_format.declared.metadata.Head.{Head}
-use Rattle.bdb_faults.specs.of_format.File.{page_bytes}
-use Rattle.bdb_faults.specs.of_format.HeadOf.{head_of, head_rows}
-use Rattle.bdb_faults.specs.of_format.Rows.{form_code}
-use Rattle.bdb_faults.specs.of_format.Table.{Row, answer, first_row}
-use Rattle.bdb_faults.specs.of_format.Verdict.{faults_in, form_faults, head_faults, tail_faults}
+use Rattle.bdb_faults.specs.of_format.Terms.{Row, answer, faults_in, first_row, form_code, form_faults, head_faults, head_of, head_rows, page_bytes}
+use Rattle.bdb_faults.specs.of_format.Terms.{tail_faults}
 use Rattle.bdb_faults.proofs.of_format.VerdictLemmas.{no_code, no_codes_at, none_within, or_else_none}
 use Rattle.bdb_faults.proofs.of_format.FileLemmas.{last_page}
 use Rattle.bdb_image.proofs.FormedLemmas.{IsPaged, accepted_paged}

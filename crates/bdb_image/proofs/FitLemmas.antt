@@ -13,12 +13,9 @@ use Rattle.bdb_faults.specs.of_format.declared.pages.PageType.TheVariants.{Queue
 use Rattle.bdb_faults.specs.of_format.declared.pages.PageType.TheVariants.{Leaf as LeafPage, RecnoLeaf as RecnoLeafPage, DupLeaf as DupLeafPage}
 use Rattle.bdb_faults.specs.of_format.declared.pages.PageType.TheVariants.{Overflow as OverflowPage}
 use Rattle.bdb_faults.specs.of_format.declared.references.Reference.{Reference}
-use Rattle.bdb_faults.specs.of_format.File.{File, header_in, no_header, page_at, type_in}
-use Rattle.bdb_faults.specs.of_format.Numbers.{byte_at, four_at, has_bit, two_at}
-use Rattle.bdb_faults.specs.of_format.Page.{Page}
-use Rattle.bdb_faults.specs.of_format.Reading.{abstract_page, header_of, is_zero, listed, page_as, page_type}
-use Rattle.bdb_faults.specs.of_format.References.{Asked, asked_by, child_types, fit_code, has_type, is_zero_page, root_types}
-use Rattle.bdb_faults.specs.of_format.Table.{Row, first_row}
+use Rattle.bdb_faults.specs.of_format.Terms.{Asked, File, Page, Row, abstract_page, asked_by, byte_at, child_types, first_row, fit_code, four_at, has_bit}
+use Rattle.bdb_faults.specs.of_format.Terms.{has_type, header_in, header_of, is_zero, is_zero_page, listed, no_header, page_as, page_at, page_type, root_types}
+use Rattle.bdb_faults.specs.of_format.Terms.{two_at, type_in}
 use Rattle.bdb_image.specs.Fits.{page_rows}
 use Rattle.bdb_image.specs.Told.{is_chain, is_headed, page_told, told_byte, told_type, type_unless}
 use Rattle.bdb_faults.proofs.of_format.GraphLemmas.{zero_page, typed_page}

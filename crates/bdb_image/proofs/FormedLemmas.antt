@@ -8,12 +8,8 @@ use Rattle.std.proofs.lemmas.List.{length-take-le, length-drop}
 use Rattle.bdb_faults.specs.of_format.declared.metadata.FileKind.{FileKind}
 use Rattle.bdb_faults.specs.of_format.declared.metadata.FileKind.TheVariants.{Btree, Hash, Queue}
 use Rattle.bdb_faults.specs.of_format.declared.metadata.Head.{Head}
-use Rattle.bdb_faults.specs.of_format.File.{page_bytes}
-use Rattle.bdb_faults.specs.of_format.HeadOf.{file_kind, head_of, head_rows, is_page_size, is_past, last_page, magic_at, order_of, pages_of}
-use Rattle.bdb_faults.specs.of_format.Numbers.{four_at}
-use Rattle.bdb_faults.specs.of_format.Reading.{is_zero}
-use Rattle.bdb_faults.specs.of_format.Rows.{form_code}
-use Rattle.bdb_faults.specs.of_format.Table.{first_row}
+use Rattle.bdb_faults.specs.of_format.Terms.{file_kind, first_row, form_code, four_at, head_of, head_rows, is_page_size, is_past, is_zero, last_page, magic_at}
+use Rattle.bdb_faults.specs.of_format.Terms.{order_of, page_bytes, pages_of}
 use Rattle.bdb_faults.proofs.of_format.VerdictLemmas.{AllFail, none_is_first_row}
 use Rattle.bdb_faults.proofs.of_format.SizeLemmas.{size_bounds}
 use Rattle.bdb_slots.proofs.of_form.FormedLemmas.{numbered}

@@ -11,17 +11,11 @@ use Rattle.bdb_faults.specs.of_format.declared.kinds.Order.{Order}
 use Rattle.bdb_faults.specs.of_format.declared.metadata.FileKind.{FileKind}
 use Rattle.bdb_faults.specs.of_format.declared.metadata.FileKind.TheVariants.{Btree, Hash, Queue}
 use Rattle.bdb_faults.specs.of_format.declared.metadata.Head.{Head}
-use Rattle.bdb_faults.specs.of_format.File.{file_of, page_bytes}
-use Rattle.bdb_faults.specs.of_format.HeadOf.{head_of, is_page_size}
-use Rattle.bdb_faults.specs.of_format.Numbers.{byte_at}
-use Rattle.bdb_faults.specs.of_format.Page.{Meta, BtreeFields, HashFields}
+use Rattle.bdb_faults.specs.of_format.Terms.{BtreeFields, HashFields, Meta, abstract_page, body_code, btree_fields, byte_at, file_of, first_row, form_code}
+use Rattle.bdb_faults.specs.of_format.Terms.{hash_fields, head_of, identity_rows, is_meta, is_page_size, is_tree_type, is_zero, may_have_type, metadata_rows}
+use Rattle.bdb_faults.specs.of_format.Terms.{page_as, page_bytes, page_code, page_type, refs, targets_of, type_of, typed_code}
 use Rattle.bdb_faults.specs.of_format.declared.pages.PageType.{PageType}
 use Rattle.bdb_faults.specs.of_format.declared.pages.PageType.TheVariants.{HashMeta as HashMetaPage, BtreeMeta as BtreeMetaPage, QueueMeta as QueueMetaPage}
-use Rattle.bdb_faults.specs.of_format.Reading.{abstract_page, btree_fields, hash_fields, is_zero, page_as, page_type}
-use Rattle.bdb_faults.specs.of_format.References.{targets_of, refs}
-use Rattle.bdb_faults.specs.of_format.Rows.{body_code, form_code, identity_rows, is_tree_type, may_have_type, metadata_rows, page_code, type_of, typed_code}
-use Rattle.bdb_faults.specs.of_format.Table.{first_row}
-use Rattle.bdb_faults.specs.of_format.Graph.{is_meta}
 use Rattle.bdb_faults.proofs.of_format.GraphLemmas.{typed_page, zero_page}
 use Rattle.bdb_faults.proofs.of_format.PageLemmas.{metadata_code}
 use Rattle.bdb_faults.proofs.of_format.TypeLemmas.{byte_as}

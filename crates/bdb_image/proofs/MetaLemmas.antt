@@ -8,15 +8,10 @@ use Rattle.bdb_faults.specs.of_format.declared.kinds.Order.{Order}
 use Rattle.bdb_faults.specs.of_format.declared.metadata.FileKind.{FileKind}
 use Rattle.bdb_faults.specs.of_format.declared.metadata.FileKind.TheVariants.{Btree, Hash, Queue}
 use Rattle.bdb_faults.specs.of_format.declared.metadata.Head.{Head}
-use Rattle.bdb_faults.specs.of_format.File.{File, file_of, page_at, page_bytes}
-use Rattle.bdb_faults.specs.of_format.Graph.{is_meta}
-use Rattle.bdb_faults.specs.of_format.HeadOf.{head_of, is_page_size}
-use Rattle.bdb_faults.specs.of_format.Numbers.{byte_at}
-use Rattle.bdb_faults.specs.of_format.Page.{Metadata, Page, Zero, Meta, BtreeFields, HashFields, QueueFields}
+use Rattle.bdb_faults.specs.of_format.Terms.{BtreeFields, File, HashFields, Meta, Metadata, Page, QueueFields, Zero, abstract_page, btree_fields, byte_at}
+use Rattle.bdb_faults.specs.of_format.Terms.{file_of, first_row, form_code, hash_fields, head_of, is_meta, is_page_size, is_zero, may_have_type, metadata_rows}
+use Rattle.bdb_faults.specs.of_format.Terms.{page_as, page_at, page_bytes, page_type, queue_fields}
 use Rattle.bdb_faults.specs.of_format.declared.pages.PageType.TheVariants.{HashMeta as HashMetaPage, BtreeMeta as BtreeMetaPage, QueueMeta as QueueMetaPage}
-use Rattle.bdb_faults.specs.of_format.Reading.{abstract_page, btree_fields, hash_fields, is_zero, page_as, page_type, queue_fields}
-use Rattle.bdb_faults.specs.of_format.Rows.{form_code, may_have_type, metadata_rows}
-use Rattle.bdb_faults.specs.of_format.Table.{first_row}
 use Rattle.bdb_faults.proofs.of_format.GraphLemmas.{type_fits, typed_page, zero_page}
 use Rattle.bdb_faults.proofs.of_format.TypeLemmas.{byte_as}
 use Rattle.bdb_faults.proofs.of_format.PageLemmas.{later_type}

@@ -9,7 +9,11 @@ use Rattle.std.proofs.lemmas.Bool.{eqb-true, ne_eqb}
 use Rattle.std.proofs.lemmas.List.Folds.{list_any-append}
 use Rattle.std.proofs.Math.Bool.{or-false}
 use Rattle.bdb_faults.specs.Notes.{AreSame, Notes, NotesAll}
-use Rattle.bdb_faults.specs.of_format.FaultTable.{fault_at, fault_if, file_row_code, form_row_code}
+use Rattle.bdb_faults.specs.of_format.Terms.{File, Row, answer, by_page, fails_as, fault_at, fault_if, faults_in, file_row_code, first_row, fit_code}
+use Rattle.bdb_faults.specs.of_format.Terms.{form_code as row_of_form, form_faults, form_row_code, head_faults, head_of, head_rows, is_anchor, is_owned_twice}
+use Rattle.bdb_faults.specs.of_format.Terms.{is_reserve, is_shared_too_often, is_unowned, is_zero, or_else, ownership_faults, ownership_rows, page_bytes}
+use Rattle.bdb_faults.specs.of_format.Terms.{reach_faults, reach_rows, reaches, reference_faults, reference_rows, refs, some_fails, stage_faults, tail_faults}
+use Rattle.bdb_faults.specs.of_format.Terms.{tail_rows, ◌:?◌}
 use Rattle.bdb_faults.specs.of_format.declared.rows.FileRow.{FileRow as FileRows}
 use Rattle.bdb_faults.specs.of_format.declared.rows.FileRow.TheVariants.{Tail}
 use Rattle.bdb_faults.specs.of_format.declared.rows.FormRow.{FormRow}
@@ -22,15 +26,7 @@ use Rattle.bdb_faults.proofs.SinkLemmas.{noted_all, notes_both, notes_more, note
 use Rattle.bdb_faults.specs.of_format.declared.kinds.Fault.{Fault}
 use Rattle.bdb_faults.specs.of_format.declared.metadata.Head.{Head}
 use Rattle.bdb_faults.specs.of_format.declared.references.Reference.{Reference}
-use Rattle.bdb_faults.specs.of_format.File.{File, page_bytes}
-use Rattle.bdb_faults.specs.of_format.HeadOf.{head_of, head_rows}
-use Rattle.bdb_faults.specs.of_format.Reading.{is_zero}
-use Rattle.bdb_faults.specs.of_format.References.{fit_code, refs}
-use Rattle.bdb_faults.specs.of_format.Rows.{form_code as row_of_form}
-use Rattle.bdb_faults.specs.of_format.Table.{Row, ◌:?◌, answer, first_row}
-use Rattle.bdb_faults.specs.of_format.Verdict.{by_page, fails_as, faults_in, form_faults, head_faults, holding, or_else, ownership_faults, ownership_rows}
-use Rattle.bdb_faults.specs.of_format.Verdict.{reach_faults, reach_rows, reference_faults, reference_rows, some_fails, stage_faults, tail_faults, tail_rows}
-use Rattle.bdb_faults.specs.of_format.Graph.{is_anchor, is_owned_twice, is_reserve, is_shared_too_often, is_unowned, reaches}
+use Rattle.bdb_faults.specs.of_format.Verdict.{holding}
 use Rattle.bdb_faults.proofs.of_format.MemberLemmas.{first_member, no_member}
 use Rattle.bdb_faults.proofs.of_format.VerdictLemmas.{or_else_none, or_else_nothing}
 use Rattle.bdb_image.proofs.CodeLemmas.{code_of_answer}

@@ -4,10 +4,7 @@ use Rattle.std.specs.Prelude.{min, Option, Some, None}
 use Rattle.bdb_faults.specs.of_format.declared.kinds.Order.{Order}
 use Rattle.bdb_faults.specs.of_format.declared.pages.PageType.{PageType}
 use Rattle.bdb_faults.specs.of_format.declared.pages.PageType.TheVariants.{Overflow as OverflowPage}
-use Rattle.bdb_faults.specs.of_format.Chains.{piece_in}
-use Rattle.bdb_faults.specs.of_format.Numbers.{two_at}
-use Rattle.bdb_faults.specs.of_format.Page.{Page}
-use Rattle.bdb_faults.specs.of_format.Reading.{abstract_page}
+use Rattle.bdb_faults.specs.of_format.Terms.{Page, abstract_page, piece_in, two_at}
 use Rattle.bdb_image.specs.Told.{page_told, told_type}
 use Rattle.bdb_image.proofs.FitLemmas.{as_told}
 

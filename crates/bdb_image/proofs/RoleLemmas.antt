@@ -8,11 +8,7 @@ use Rattle.bdb_faults.specs.of_format.declared.kinds.Order.{Order}
 use Rattle.bdb_faults.specs.of_format.declared.pages.PageType.{PageType}
 use Rattle.bdb_faults.specs.of_format.declared.pages.PageType.TheVariants.{Free as FreePage, Hash as HashPage, HashMeta as HashMetaPage, BtreeMeta as BtreeMetaPage}
 use Rattle.bdb_faults.specs.of_format.declared.pages.PageType.TheVariants.{QueueMeta as QueueMetaPage}
-use Rattle.bdb_faults.specs.of_format.File.{File, file_of, page_at}
-use Rattle.bdb_faults.specs.of_format.Graph.{is_hash_meta, is_meta, is_spare}
-use Rattle.bdb_faults.specs.of_format.Numbers.{four_at}
-use Rattle.bdb_faults.specs.of_format.Page.{NoType}
-use Rattle.bdb_faults.specs.of_format.Reading.{abstract_page, header_of, listed}
+use Rattle.bdb_faults.specs.of_format.Terms.{File, NoType, abstract_page, file_of, four_at, header_of, is_hash_meta, is_meta, is_spare, listed, page_at}
 use Rattle.bdb_image.specs.Told.{is_metadata, page_told, told_type}
 use Rattle.bdb_image.proofs.FitLemmas.{as_told}
 use Rattle.bdb_faults.proofs.of_format.ListLemmas.{none_of_list}

@@ -4,10 +4,7 @@ use Rattle.std.specs.List.{list_any, range_with_len}
 use Rattle.bdb_faults.specs.of_format.declared.references.Reference.{Reference}
 use Rattle.bdb_faults.specs.of_format.declared.references.Sort.{Sort}
 use Rattle.bdb_faults.specs.of_format.declared.references.Sort.TheVariants.{Bucket}
-use Rattle.bdb_faults.specs.of_format.File.{File}
-use Rattle.bdb_faults.specs.of_format.Hashing.{first_page}
-use Rattle.bdb_faults.specs.of_format.References.{fit_code}
-use Rattle.bdb_faults.specs.of_format.Verdict.{fails_as}
+use Rattle.bdb_faults.specs.of_format.Terms.{File, fails_as, first_page, fit_code}
 use Rattle.bdb_slots.specs.Slots.{placed}
 use Rattle.bdb_image.specs.declared.bucket_fits.BucketFits.{BucketFits}
 use Rattle.bdb_image.specs.declared.buckets.Buckets.{Buckets}

@@ -1,9 +1,6 @@
 -- With which code a reference fails, as the code asks for it. Source: docs/FORMAT.md, "Stage 3, references".
 use Rattle.std.specs.Prelude.{ℕ, ◌&&◌, ◌||◌, not, Bool, false, List, [], ◌∷◌, Some, None}
-use Rattle.bdb_faults.specs.of_format.File.{header_in, type_in}
-use Rattle.bdb_faults.specs.of_format.Page.{Page}
-use Rattle.bdb_faults.specs.of_format.References.{Asked, has_type, is_asked, is_zero_page}
-use Rattle.bdb_faults.specs.of_format.Table.{Row, ◌:?◌}
+use Rattle.bdb_faults.specs.of_format.Terms.{Asked, Page, Row, has_type, header_in, is_asked, is_zero_page, type_in, ◌:?◌}
 
 -- one of these types, with this previous page
 abbrev pub asks_previous : List ℕ → ℕ → Asked

@@ -1,9 +1,7 @@
 -- What is known of an image once its page 0, and then all its pages, have no fault of form.
 use Rattle.std.specs.Prelude.{◌≡◌, ◌≤◌, ◌^◌, ℕ, List, [], ◌∷◌, length, Option, Some, None, true}
 use Rattle.bdb_faults.specs.of_format.declared.metadata.Head.{Head}
-use Rattle.bdb_faults.specs.of_format.HeadOf.{head_of, head_rows}
-use Rattle.bdb_faults.specs.of_format.Table.{first_row}
-use Rattle.bdb_faults.specs.of_format.Verdict.{faults_in}
+use Rattle.bdb_faults.specs.of_format.Terms.{faults_in, first_row, head_of, head_rows}
 use Rattle.bdb_slots.specs.Plain.{ArePlain}
 use Rattle.bdb_image.specs.declared.open.Read.{Read}
 

@@ -3,13 +3,8 @@ use Rattle.std.specs.Prelude.{◌≡◌, ◌≤◌, ℕ, ◌+◌, IsTrue, List, 
 use Rattle.std.specs.List.{Contains, filter, range_with_len}
 use Rattle.bdb_faults.specs.of_format.declared.references.Sort.{Sort}
 use Rattle.bdb_faults.specs.of_format.declared.references.Sort.TheVariants.{Root, Bucket, OverflowHead, DuplicateRoot}
-use Rattle.bdb_faults.specs.of_format.File.{File, page_at, type_in}
-use Rattle.bdb_faults.specs.of_format.Graph.{Owner, all_references, is_meta}
-use Rattle.bdb_faults.specs.of_format.Page.{Metadata, Meta}
-use Rattle.bdb_faults.specs.of_format.References.{has_type}
-use Rattle.bdb_faults.specs.of_format.HeadOf.{head_of}
+use Rattle.bdb_faults.specs.of_format.Terms.{File, Meta, Metadata, Owner, all_references, faults_in, has_type, head_of, is_meta, page_at, type_in}
 use Rattle.bdb_image.specs.Formed.{IsFormed}
-use Rattle.bdb_faults.specs.of_format.Verdict.{faults_in}
 
 -- no row of the first five stages holds
 pub record IsForest (image : List ℕ) : Type 0 where

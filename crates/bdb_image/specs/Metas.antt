@@ -2,7 +2,7 @@
 use Rattle.std.specs.Prelude.{Option, Some, None}
 use Rattle.bdb_image.specs.declared.meta.Meta.{Meta}
 use Rattle.bdb_image.specs.declared.meta.Meta.TheVariants.{Btree, Hash, Queue}
-use Rattle.bdb_faults.specs.of_format.Page.{Metadata, BtreeFields, HashFields, QueueFields, Page, Meta as MetaPage}
+use Rattle.bdb_faults.specs.of_format.Terms.{BtreeFields, HashFields, Meta as MetaPage, Metadata, Page, QueueFields}
 
 abbrev pub meta_seen : Meta → Metadata
 meta_seen (Btree meta) = BtreeFields meta

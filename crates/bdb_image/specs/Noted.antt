@@ -3,8 +3,7 @@ use Rattle.std.specs.Prelude.{ℕ, ◌++◌, ◌||◌, false, List, map, Option}
 use Rattle.std.specs.List.{list_any}
 use Rattle.bdb_faults.specs.of_format.declared.kinds.Fault.{Fault}
 use Rattle.bdb_faults.specs.of_format.declared.references.Reference.{Reference}
-use Rattle.bdb_faults.specs.of_format.Verdict.{fails_as}
-use Rattle.bdb_faults.specs.of_format.FaultTable.{fault_if}
+use Rattle.bdb_faults.specs.of_format.Terms.{fails_as, fault_if}
 use Rattle.bdb_faults.specs.of_format.declared.rows.ReferenceRow.TheVariants.{OutOfRange, WrongKind, WrongLevel, WrongBack}
 use Rattle.bdb_faults.specs.of_format.declared.rows.Row.TheVariants.{Reference as ReferenceRow}
 use Rattle.bdb_image.specs.declared.fits.Misfits.{Misfits}

@@ -3,9 +3,7 @@ use Rattle.std.specs.Prelude.{◌≡◌, ◌≤◌, ℕ, Bool, true, false, List
 use Rattle.bdb_faults.specs.of_format.declared.kinds.Order.{Order}
 use Rattle.bdb_faults.specs.of_format.declared.pages.PageType.{PageType}
 use Rattle.bdb_faults.specs.of_format.declared.pages.PageType.TheVariants.{Overflow, HashMeta, BtreeMeta, QueueMeta, Queue, Other}
-use Rattle.bdb_faults.specs.of_format.Numbers.{byte_at}
-use Rattle.bdb_faults.specs.of_format.Page.{Page, Zero}
-use Rattle.bdb_faults.specs.of_format.Reading.{is_zero, page_as, page_type}
+use Rattle.bdb_faults.specs.of_format.Terms.{Page, Zero, byte_at, is_zero, page_as, page_type}
 
 -- a zero page tells no type
 abbrev pub type_unless : Bool → PageType → Option PageType

@@ -1,11 +1,9 @@
 ghost use Rattle.std.specs.Prelude.{◌≡◌, ◌≢◌, ◌<◌, ◌≤◌, ◌+◌, ◌^◌, if◌then◌else◌, ℕ, IfOk, OnOk, length};
 ghost use Rattle.std.specs.List.{list_any, range_with_len};
 ghost use Rattle.std.specs.Option.{option_map};
-ghost use Rattle.bdb_faults.specs.of_format.FaultTable.{reference_row_code};
+ghost use Rattle.bdb_faults.specs.of_format.Terms.{File, file_of, fit_code, reference_row_code};
 ghost use Rattle.bdb_image.specs.Buckets.{AreFits, AreLasts, fails_as_bucket, run_refs};
 ghost use Rattle.bdb_image.specs.Noted.{misfits_of};
-ghost use Rattle.bdb_faults.specs.of_format.File.{File, file_of};
-ghost use Rattle.bdb_faults.specs.of_format.References.{fit_code};
 
 use crate::Formed;
 use crate::buckets::BucketRun;

@@ -1,12 +1,9 @@
 ghost use Rattle.std.specs.Prelude.{◌≡◌, ◌≤◌, IsTrue, OnErr, OnOk, false};
 ghost use Rattle.std.specs.Option.{option_map};
 ghost use Rattle.bdb_faults.specs.Notes.{Notes};
-ghost use Rattle.bdb_faults.specs.of_format.FaultTable.{reference_row_code};
+ghost use Rattle.bdb_faults.specs.of_format.Terms.{asked_by, asks_type, file_of, first_row, fit_code, header_in, is_asked, reference_row_code};
 ghost use Rattle.bdb_image.specs.Fits.{asks_previous, is_of_type, page_rows};
 ghost use Rattle.bdb_image.specs.Noted.{both_misfits, misfit_faults, more_misfits, no_misfits};
-ghost use Rattle.bdb_faults.specs.of_format.File.{file_of, header_in};
-ghost use Rattle.bdb_faults.specs.of_format.References.{asked_by, asks_type, fit_code, is_asked};
-ghost use Rattle.bdb_faults.specs.of_format.Table.{first_row};
 
 use crate::Formed;
 use crate::formed_page::{FormedPage, page_at};
@@ -24,7 +21,7 @@ struct Demand {
 }
 
 impl Model for Demand {
-    ghost use Rattle.bdb_faults.specs.of_format.References.{Asked};
+    ghost use Rattle.bdb_faults.specs.of_format.Terms.{Asked};
 
     ghost Value = { Asked };
 

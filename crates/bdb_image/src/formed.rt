@@ -1,9 +1,7 @@
 ghost use Rattle.std.specs.Prelude.{◌≡◌, ◌^◌, ◌<◌, ◌≤◌, IsTrue, length, None, true};
 ghost use Rattle.bdb_image.specs.Formed.{IsAccepted, IsFormed};
 ghost use Rattle.bdb_slots.specs.Plain.{ArePlain};
-ghost use Rattle.bdb_faults.specs.of_format.File.{file_of, page_bytes};
-ghost use Rattle.bdb_faults.specs.of_format.HeadOf.{head_of, is_page_size};
-ghost use Rattle.bdb_faults.specs.of_format.Rows.{form_code};
+ghost use Rattle.bdb_faults.specs.of_format.Terms.{file_of, form_code, head_of, is_page_size, page_bytes};
 
 use bdb_faults::Head;
 use bdb_meta::page_slice;

@@ -1,11 +1,7 @@
 ghost use Rattle.std.specs.Prelude.{◌≡◌, ◌==◌, ◌&&◌, ◌≤◌, ◌∷◌, [], if◌then◌else◌, false, length};
 ghost use Rattle.bdb_image.specs.Told.{is_headed, is_metadata, told_type};
-ghost use Rattle.bdb_faults.specs.of_format.Chains.{piece_in};
-ghost use Rattle.bdb_faults.specs.of_format.File.{file_of, header_in, page_at, type_in};
-ghost use Rattle.bdb_faults.specs.of_format.Graph.{is_hash_meta, is_meta, is_spare};
-ghost use Rattle.bdb_faults.specs.of_format.Numbers.{four_at, has_bit};
-ghost use Rattle.bdb_faults.specs.of_format.Reading.{is_zero};
-ghost use Rattle.bdb_faults.specs.of_format.References.{child_types, has_type, is_zero_page, root_types};
+ghost use Rattle.bdb_faults.specs.of_format.Terms.{child_types, file_of, four_at, has_bit, has_type, header_in, is_hash_meta, is_meta, is_spare, is_zero};
+ghost use Rattle.bdb_faults.specs.of_format.Terms.{is_zero_page, page_at, piece_in, root_types, type_in};
 
 use crate::Formed;
 use bdb_faults::{BtreeMeta, Header, Order, PageType, keyed_types, record_types};
@@ -23,8 +19,7 @@ pub struct FormedPage<'a> {
 }
 
 impl<'a> Model for FormedPage<'a> {
-    ghost use Rattle.bdb_faults.specs.of_format.Page.{Page};
-    ghost use Rattle.bdb_faults.specs.of_format.Reading.{abstract_page};
+    ghost use Rattle.bdb_faults.specs.of_format.Terms.{Page, abstract_page};
     ghost use Rattle.bdb_image.specs.Told.{IsLooked};
 
     ghost Value = { Page };

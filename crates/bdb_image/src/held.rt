@@ -1,12 +1,7 @@
 ghost use Rattle.std.specs.Prelude.{◌≡◌, ◌≢◌, ◌+◌, ◌^◌, ◌<◌, ◌≤◌, IsTrue, None, length, true};
 ghost use Rattle.bdb_slots.specs.Plain.{IsPlain, IsPlainIn};
 ghost use Rattle.bdb_slots.specs.Slots.{placed};
-ghost use Rattle.bdb_faults.specs.of_format.File.{file_of};
-ghost use Rattle.bdb_faults.specs.of_format.HeadOf.{is_page_size};
-ghost use Rattle.bdb_faults.specs.of_format.Numbers.{byte_at};
-ghost use Rattle.bdb_faults.specs.of_format.Reading.{abstract_page};
-ghost use Rattle.bdb_faults.specs.of_format.References.{targets_in, targets_of, refs};
-ghost use Rattle.bdb_faults.specs.of_format.Rows.{form_code, page_code};
+ghost use Rattle.bdb_faults.specs.of_format.Terms.{abstract_page, byte_at, file_of, form_code, is_page_size, page_code, refs, targets_in, targets_of};
 ghost use Rattle.bdb_faults.specs.of_format.declared.metadata.FileKind.TheVariants.{Queue};
 
 use crate::meta::meta_on;

@@ -4,8 +4,7 @@ ghost use Rattle.bdb_slots.specs.of_form.Seen.{page_seen};
 ghost use Rattle.bdb_image.specs.Buckets.{IsApart};
 ghost use Rattle.bdb_slots.specs.Plain.{IsPlain};
 ghost use Rattle.bdb_slots.specs.Slots.{HasRoom, IsNoMetadata, names_from, placed};
-ghost use Rattle.bdb_faults.specs.of_format.Page.{BtreeFields, HashFields, Meta};
-ghost use Rattle.bdb_faults.specs.of_format.References.{first_free, targets_in, unless_zero};
+ghost use Rattle.bdb_faults.specs.of_format.Terms.{BtreeFields, HashFields, Meta, first_free, targets_in, unless_zero};
 ghost use Rattle.bdb_faults.specs.of_format.declared.references.Sort.TheVariants.{Free};
 
 use crate::buckets::Buckets;

@@ -2,9 +2,7 @@ ghost use Rattle.std.specs.Prelude.{◌≡◌, ◌≤◌, IfOk, IsTrue, length};
 ghost use Rattle.std.specs.Option.{option_map};
 ghost use Rattle.bdb_image.specs.Linked.{meta_pages};
 ghost use Rattle.bdb_image.specs.Metas.{meta_in, meta_seen};
-ghost use Rattle.bdb_faults.specs.of_format.File.{file_of, page_at};
-ghost use Rattle.bdb_faults.specs.of_format.HeadOf.{is_page_size};
-ghost use Rattle.bdb_faults.specs.of_format.Reading.{abstract_page};
+ghost use Rattle.bdb_faults.specs.of_format.Terms.{abstract_page, file_of, is_page_size, page_at};
 
 use crate::Formed;
 use crate::formed_page::{is_metadata, page_at};

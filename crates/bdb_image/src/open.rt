@@ -5,9 +5,7 @@ ghost use Rattle.bdb_faults.specs.Refusals.{IsAllOf};
 ghost use Rattle.bdb_image.specs.Formed.{IsAccepted, IsRead};
 ghost use Rattle.bdb_image.specs.Noted.{page_faults};
 ghost use Rattle.bdb_slots.specs.Plain.{ArePlain, IsPlainIn};
-ghost use Rattle.bdb_faults.specs.of_format.HeadOf.{is_page_size};
-ghost use Rattle.bdb_faults.specs.of_format.Rows.{form_code};
-ghost use Rattle.bdb_faults.specs.of_format.Verdict.{as_verdict, faults_in, form_faults, tail_faults, verdict_in};
+ghost use Rattle.bdb_faults.specs.of_format.Terms.{as_verdict, faults_in, form_code, form_faults, is_page_size, tail_faults, verdict_in};
 
 use crate::Formed;
 use crate::formed::page_bytes;

@@ -1,9 +1,6 @@
 ghost use Rattle.std.specs.Prelude.{◌≡◌, ◌≢◌, ◌<◌, ◌^◌, IsTrue, length};
 ghost use Rattle.std.specs.Option.{option_map};
-ghost use Rattle.bdb_faults.specs.of_format.FaultTable.{form_row_code};
-ghost use Rattle.bdb_faults.specs.of_format.HeadOf.{is_page_size};
-ghost use Rattle.bdb_faults.specs.of_format.Rows.{form_code, metadata_rows};
-ghost use Rattle.bdb_faults.specs.of_format.Table.{first_row};
+ghost use Rattle.bdb_faults.specs.of_format.Terms.{first_row, form_code, form_row_code, is_page_size, metadata_rows};
 ghost use Rattle.bdb_faults.specs.of_format.declared.metadata.FileKind.TheVariants.{Queue};
 
 use bdb_faults::{FileKind, FormRow, Head, PageType};

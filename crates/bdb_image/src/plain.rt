@@ -2,10 +2,7 @@ ghost use Rattle.std.specs.Prelude.{◌≡◌, ◌≢◌, ◌^◌, ◌<◌, [], 
 ghost use Rattle.std.specs.List.{All};
 ghost use Rattle.bdb_slots.specs.of_form.Seen.{page_seen};
 ghost use Rattle.bdb_slots.specs.Plain.{IsPlain, IsPlainIn};
-ghost use Rattle.bdb_faults.specs.of_format.HeadOf.{is_page_size};
-ghost use Rattle.bdb_faults.specs.of_format.Reading.{abstract_page};
-ghost use Rattle.bdb_faults.specs.of_format.References.{content_targets};
-ghost use Rattle.bdb_faults.specs.of_format.Rows.{form_code};
+ghost use Rattle.bdb_faults.specs.of_format.Terms.{abstract_page, content_targets, form_code, is_page_size};
 ghost use Rattle.bdb_faults.specs.of_format.declared.metadata.FileKind.TheVariants.{Queue};
 
 use crate::meta::meta_on;

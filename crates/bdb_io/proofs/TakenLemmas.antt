@@ -2,7 +2,7 @@
 use Rattle.std.proofs.Common.{◌≡◌, ℕ, ◌+◌, ◌≤◌, List, length, take, arith, length-append, length-take}
 use Rattle.std.specs.Prelude.{Option}
 use Rattle.std.specs.Io.KnownBytes.{Consumes}
-use Rattle.bdb_format.specs.Faults.{Took, TookAtMost}
+use Rattle.bdb_format.specs.Terms.{Took, TookAtMost}
 use Rattle.bdb_format.proofs.KnownLemmas.{consumes_next}
 
 -- the bytes held came, and then a piece of the buffer

@@ -1,5 +1,5 @@
 ghost use Rattle.std.specs.Prelude.{None};
-ghost use Rattle.bdb_format.specs.Faults.{HasCause, ReadsInto};
+ghost use Rattle.bdb_format.specs.Terms.{HasCause, ReadsInto};
 ghost use Rattle.bdb_io.specs.Base.{FailsWhereShut, faults_of};
 
 use crate::{Failed, Source, StdSource};

@@ -1,5 +1,5 @@
 ghost use Rattle.std.specs.Prelude.{◌≡◌, ◌≤◌, ◌++◌, ◌∷◌, ◌↔◌, [], IsErr, OnOk, OnErr};
-ghost use Rattle.bdb_format.specs.Faults.{HasCause};
+ghost use Rattle.bdb_format.specs.Terms.{HasCause};
 ghost use Rattle.bdb_io.specs.Memory.{IsToFail, one_more};
 
 use crate::Failed;
@@ -15,7 +15,7 @@ pub struct Calls {
 }
 
 impl Model for Calls {
-    ghost use Rattle.bdb_format.specs.Faults.{HasCause};
+    ghost use Rattle.bdb_format.specs.Terms.{HasCause};
     ghost use Rattle.bdb_io.specs.Memory.{CallCount};
 
     ghost Value = { CallCount };

@@ -1,6 +1,6 @@
 ghost use Rattle.std.specs.Prelude.{◌≡◌, ◌≢◌, [], ◌+◌, ◌^◌, ◌≤◌, ◌<◌, List, ℕ, length, Err, IfOk, IsErrOf, IsOk, ◌⊎◌};
 ghost use Rattle.std.specs.Io.KnownBytes.{Consumes, IsAtEnd};
-ghost use Rattle.bdb_format.specs.Faults.{Rose, Took, TookAtMost};
+ghost use Rattle.bdb_format.specs.Terms.{Rose, Took, TookAtMost};
 
 use crate::Source;
 use bdb_format::Bytes;

@@ -1,5 +1,5 @@
 ghost use Rattle.std.specs.Prelude.{◌≡◌, ◌<◌, ◌++◌, ◌∷◌, ◌↔◌, [], length, min, Some, IsErr, OnOk, OnErr, IfOk};
-ghost use Rattle.bdb_format.specs.Faults.{HasCause, ReadsInto, WritesFrom};
+ghost use Rattle.bdb_format.specs.Terms.{HasCause, ReadsInto, WritesFrom};
 ghost use Rattle.bdb_io.specs.Memory.{IsToFail, one_more};
 
 use crate::calls::Calls;

@@ -1,7 +1,7 @@
 ghost use Rattle.std.specs.Prelude.{◌≡◌, ◌<◌, None, IfOk, OnOk};
 ghost use Rattle.std.specs.Io.{ReadsAtMost, WritesAtMost};
 ghost use Rattle.std.specs.Io.KnownBytes.{ReadConsumes, WriteAppends};
-ghost use Rattle.bdb_format.specs.Faults.{HasCause};
+ghost use Rattle.bdb_format.specs.Terms.{HasCause};
 
 use crate::{Failed, Sink, Source};
 use std::io::{Read, Write};

@@ -1,5 +1,5 @@
 ghost use Rattle.std.specs.Prelude.{◌≡◌, ◌<◌, Ok, Some, None, length, min, take};
-ghost use Rattle.bdb_format.specs.Faults.{ReadsInto};
+ghost use Rattle.bdb_format.specs.Terms.{ReadsInto};
 
 use crate::{Failed, Sink, Source};
 use bdb_format::Bytes;

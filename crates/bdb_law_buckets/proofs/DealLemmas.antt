@@ -4,8 +4,7 @@ use Rattle.std.proofs.Common.{subst, inl, inr}
 use Rattle.std.specs.Prelude.{◌==◌}
 use Rattle.std.specs.List.{filter, flat_map, range_with_len}
 use Rattle.std.proofs.lemmas.Bool.{and_parts, cases_eq, eq-eqb, ne_eqb}
-use Rattle.bdb_law_grove.specs.of_format.ContentRows.{ascends, ascends_from}
-use Rattle.bdb_law_grove.specs.of_format.Less.{Less, less}
+use Rattle.bdb_law_grove.specs.of_format.Terms.{Less, ascends, ascends_from, less}
 use Rattle.bdb_law_grove.proofs.of_format.LessLemmas.{less_not_back, less_trans, not_less_same}
 use Rattle.bdb_law_buckets.specs.Tables.{Keyed, key_of}
 

@@ -8,10 +8,7 @@ use Rattle.std.proofs.lemmas.List.{append-nil}
 use Rattle.std.proofs.lemmas.List.Elements.{All-head, All-tail}
 use Rattle.std.proofs.lemmas.List.Sums.{take_while-cons}
 use Rattle.std.proofs.lemmas.Slice.Eq.{bytes_eq-Decides}
-use Rattle.bdb_law_grove.specs.of_format.Contents.{StoredPair, data_of}
-use Rattle.bdb_law_grove.specs.of_format.ContentRows.{ascends, groups, is_unsorted, live_data, repeated}
-use Rattle.bdb_law_grove.specs.of_format.File.{File}
-use Rattle.bdb_law_grove.specs.of_format.Lists.{by_key, insert_pair, listed_pair}
+use Rattle.bdb_law_grove.specs.of_format.Terms.{File, StoredPair, ascends, by_key, data_of, groups, insert_pair, is_unsorted, listed_pair, live_data, repeated}
 use Rattle.bdb_law_grove.proofs.of_format.MemberLemmas.{first_member, later_member, member_cases, no_member, none_pass}
 use Rattle.bdb_law_grove.proofs.of_format.RepeatLemmas.{has_key, repeated_after, repeated_is}
 use Rattle.bdb_law_buckets.specs.Tables.{Keyed, listed_unit}

@@ -7,9 +7,7 @@ use Rattle.std.proofs.lemmas.Grind.{flat_map-append}
 use Rattle.std.proofs.lemmas.List.{append-nil}
 use Rattle.std.proofs.lemmas.List.Elements.{All-append, All-nil}
 use Rattle.bdb_law_grove.specs.of_format.declared.references.Reference.{Reference}
-use Rattle.bdb_law_grove.specs.of_format.Page.{Content}
-use Rattle.bdb_law_grove.specs.of_format.File.{File}
-use Rattle.bdb_law_grove.specs.of_format.References.{refs}
+use Rattle.bdb_law_grove.specs.of_format.Terms.{Content, File, refs}
 use Rattle.bdb_law_grove.proofs.of_format.ListLemmas.{only_member, passes_here}
 use Rattle.bdb_law_grove.proofs.of_format.MemberLemmas.{first_member, in_flat_map, in_map, in_range, member_cases, no_member, of_range}
 use Rattle.bdb_law_grove.specs.Growing.{IsCounted}

@@ -10,12 +10,8 @@ use Rattle.bdb_law_grove.specs.of_format.declared.metadata.FileKind.TheVariants.
 use Rattle.bdb_law_grove.specs.of_format.declared.references.Reference.{Reference}
 use Rattle.bdb_law_grove.specs.of_format.declared.references.Sort.{Sort}
 use Rattle.bdb_law_grove.specs.of_format.declared.references.Sort.TheVariants.{OverflowHead, DuplicateRoot, HashNext}
-use Rattle.bdb_law_grove.specs.of_format.Page.{Content, Item}
-use Rattle.bdb_law_grove.specs.of_format.File.{File, header_in, page_at, type_in}
-use Rattle.bdb_law_grove.specs.of_format.References.{content_targets, contents_in, fit_code, refs, targets_in, unless_zero}
-use Rattle.bdb_law_grove.specs.of_format.Graph.{is_head_reference}
-use Rattle.bdb_law_grove.specs.of_format.Chains.{chains_in, content_chains, is_wrong_length}
-use Rattle.bdb_law_grove.specs.of_format.Leaves.{is_root_reference}
+use Rattle.bdb_law_grove.specs.of_format.Terms.{Content, File, Item, chains_in, content_chains, content_targets, contents_in, fit_code, header_in}
+use Rattle.bdb_law_grove.specs.of_format.Terms.{is_head_reference, is_root_reference, is_wrong_length, page_at, refs, targets_in, type_in, unless_zero}
 use Rattle.bdb_law_grove.proofs.of_format.ListLemmas.{only_member}
 use Rattle.bdb_law_grove.proofs.of_format.MemberLemmas.{no_member, none_pass, of_flat_map}
 use Rattle.bdb_law_grove.specs.Part.{has_wrong_place}

@@ -6,12 +6,8 @@ use Rattle.std.specs.List.{flat_map, range_with_len}
 use Rattle.std.proofs.lemmas.Bool.{ne_eqb}
 use Rattle.std.proofs.lemmas.List.{append-nil, get_or-map, length-map, map-append, same_lists}
 use Rattle.std.proofs.lemmas.List.FromFn.{get_or-map-range_with_len, length-map-range_with_len}
-use Rattle.bdb_law_grove.specs.of_format.Chains.{chain_in, next_of, value_of}
-use Rattle.bdb_law_grove.specs.of_format.Contents.{StoredPair, data_of, pair_at, pairs_in, pairs_of}
-use Rattle.bdb_law_grove.specs.of_format.ContentRows.{is_set, is_wrong_set}
-use Rattle.bdb_law_grove.specs.of_format.File.{File, header_in}
-use Rattle.bdb_law_grove.specs.of_format.Page.{Item}
-use Rattle.bdb_law_grove.specs.of_format.References.{no_item}
+use Rattle.bdb_law_grove.specs.of_format.Terms.{File, Item, StoredPair, chain_in, data_of, header_in, is_set, is_wrong_set, next_of, no_item, pair_at}
+use Rattle.bdb_law_grove.specs.of_format.Terms.{pairs_in, pairs_of, value_of}
 use Rattle.bdb_law_buckets.specs.Pages.{IsHashIn, hash_item}
 use Rattle.bdb_law_buckets.specs.Tables.{BucketStands, HasSum, Keyed, PlacedUnit, TableStands, UnitsStand, contents_on, unit_of, units_on}
 use Rattle.bdb_law_grove.proofs.AscendLemmas.{ascend_bounds}

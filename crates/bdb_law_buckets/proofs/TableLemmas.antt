@@ -11,18 +11,9 @@ use Rattle.std.proofs.lemmas.Nat.{and_le_r, pow_pos}
 use Rattle.bdb_law_grove.specs.of_format.declared.metadata.HashMeta.{HashMeta}
 use Rattle.bdb_law_grove.specs.of_format.declared.settings.Settings.{Settings}
 use Rattle.bdb_law_grove.specs.of_format.ByPage.{holding}
-use Rattle.bdb_law_grove.specs.of_format.Chains.{chain_in}
-use Rattle.bdb_law_grove.specs.of_format.Contents.{StoredPair, bucket_pairs, pairs_of, table_pairs}
-use Rattle.bdb_law_grove.specs.of_format.ContentRows.{ascends, bucket_of_key, database_rows, has_duplicate, has_unsorted, has_wrong_bucket, has_wrong_set, is_duplicate}
-use Rattle.bdb_law_grove.specs.of_format.ContentRows.{is_set, is_wrong_set, repeated}
-use Rattle.bdb_law_grove.specs.of_format.Flags.{has_duplicates, is_sorted}
-use Rattle.bdb_law_grove.specs.of_format.File.{File}
-use Rattle.bdb_law_grove.specs.of_format.Hashing.{first_page, group}
-use Rattle.bdb_law_grove.specs.of_format.Lists.{hash_list}
-use Rattle.bdb_law_grove.specs.of_format.Numbers.{has_bit}
-use Rattle.bdb_law_grove.specs.of_format.Page.{HashFields}
-use Rattle.bdb_law_grove.specs.of_format.References.{fit_rows}
-use Rattle.bdb_law_grove.specs.of_format.Table.{first_row}
+use Rattle.bdb_law_grove.specs.of_format.Terms.{File, HashFields, StoredPair, ascends, bucket_of_key, bucket_pairs, chain_in, database_rows, first_page}
+use Rattle.bdb_law_grove.specs.of_format.Terms.{first_row, fit_rows, group, has_bit, has_duplicate, has_duplicates, has_unsorted, has_wrong_bucket}
+use Rattle.bdb_law_grove.specs.of_format.Terms.{has_wrong_set, hash_list, is_duplicate, is_set, is_sorted, is_wrong_set, pairs_of, repeated, table_pairs}
 use Rattle.bdb_law_grove.proofs.of_format.GroupLemmas.{least_passing}
 use Rattle.bdb_law_grove.proofs.of_format.ListLemmas.{all_of}
 use Rattle.bdb_law_grove.proofs.of_format.MemberLemmas.{no_member, none_pass, of_filter, of_flat_map, of_range}

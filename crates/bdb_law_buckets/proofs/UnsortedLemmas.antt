@@ -4,10 +4,7 @@ use Rattle.std.specs.Prelude.{◌^◌}
 use Rattle.std.specs.List.{All, Contains, flat_map}
 use Rattle.std.proofs.lemmas.List.Elements.{All-cons, All-nil}
 use Rattle.std.proofs.lemmas.Nat.{pow_pos}
-use Rattle.bdb_law_grove.specs.of_format.Chains.{chain_in}
-use Rattle.bdb_law_grove.specs.of_format.Contents.{StoredPair, pairs_of}
-use Rattle.bdb_law_grove.specs.of_format.File.{File, page_at, type_in}
-use Rattle.bdb_law_grove.specs.of_format.Page.{Content}
+use Rattle.bdb_law_grove.specs.of_format.Terms.{Content, File, StoredPair, chain_in, page_at, pairs_of, type_in}
 use Rattle.bdb_law_grove.proofs.of_format.ListLemmas.{only_member}
 use Rattle.bdb_law_grove.proofs.of_format.MemberLemmas.{member_cases}
 use Rattle.bdb_law_grove.proofs.AscendLemmas.{ascend_bounds}

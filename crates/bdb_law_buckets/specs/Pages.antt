@@ -1,7 +1,6 @@
 -- Pages of a table in a file. Source: docs/FORMAT.md, "Hash items".
 use Rattle.std.specs.Prelude.{◌≡◌, ℕ, false, List, map}
-use Rattle.bdb_law_grove.specs.of_format.Page.{Content, Hash, Item, Listed}
-use Rattle.bdb_law_grove.specs.of_format.File.{File, page_at}
+use Rattle.bdb_law_grove.specs.of_format.Terms.{Content, File, Hash, Item, Listed, page_at}
 
 -- an item of a hash page is never deleted
 abbrev pub hash_item : Content → Item

@@ -5,14 +5,9 @@ use Rattle.std.specs.Prelude.{is_some}
 use Rattle.std.specs.List.{All, Contains, filter, flat_map, range_with_len}
 use Rattle.bdb_law_grove.specs.of_format.declared.metadata.HashMeta.{HashMeta}
 use Rattle.bdb_law_grove.specs.of_format.declared.settings.Settings.{Settings}
-use Rattle.bdb_law_grove.specs.of_format.Chains.{value_of}
-use Rattle.bdb_law_grove.specs.of_format.Contents.{StoredPair, bucket_pages, bucket_pairs, data_of}
-use Rattle.bdb_law_grove.specs.of_format.ContentRows.{ascends, is_set, is_wrong_set}
-use Rattle.bdb_law_grove.specs.of_format.File.{File, header_in, page_at, type_in}
-use Rattle.bdb_law_grove.specs.of_format.Hashing.{bucket, hash5}
-use Rattle.bdb_law_grove.specs.of_format.Leaves.{children_in}
-use Rattle.bdb_law_grove.specs.of_format.Lists.{BytesKey, ListKey}
-use Rattle.bdb_law_grove.specs.of_format.Page.{BtreeFields, Chain, Content, HashFields, Inline, Metadata, QueueFields, Set, Tree, Unknown}
+use Rattle.bdb_law_grove.specs.of_format.Terms.{BtreeFields, BytesKey, Chain, Content, File, HashFields, Inline, ListKey, Metadata, QueueFields, Set}
+use Rattle.bdb_law_grove.specs.of_format.Terms.{StoredPair, Tree, Unknown, ascends, bucket, bucket_pages, bucket_pairs, children_in, data_of, hash5, header_in}
+use Rattle.bdb_law_grove.specs.of_format.Terms.{is_set, is_wrong_set, page_at, type_in, value_of}
 use Rattle.bdb_law_grove.specs.Growing.{IsCounted}
 use Rattle.bdb_law_grove.specs.Leaves.{AscendIn, ContentFits, content_pages}
 use Rattle.bdb_law_grove.specs.Part.{IsBranch, IsPart, between}

@@ -5,8 +5,7 @@ use Rattle.std.specs.List.{Contains, filter, flat_map, range_with_len}
 use Rattle.std.proofs.Math.Path.{fun_ext}
 use Rattle.std.proofs.lemmas.Bool.{cases_Bool, eqb-true, eq-eqb, or_left, or_right, or_cases}
 use Rattle.std.proofs.lemmas.List.Elements.{Contains-append_cases, Contains-append_left, Contains-append_right}
-use Rattle.bdb_format.specs.File.{File, page_at, header_in}
-use Rattle.bdb_format.specs.Graph.{Owner, first_holder, held_by}
+use Rattle.bdb_format.specs.Terms.{File, Owner, first_holder, header_in, held_by, page_at}
 use Rattle.bdb_format.proofs.MemberLemmas.{first_member, no_member, of_filter}
 use Rattle.bdb_law_grove.specs.Part.{IsGrove, IsOwnedBy, IsWayIn, owners_among}
 use Rattle.bdb_law_grove.specs.Growing.{GrovesStandTogether, PageAlone}

@@ -7,11 +7,7 @@ use Rattle.std.proofs.lemmas.Bool.{cases_eq, eqb-true, or_cases}
 use Rattle.bdb_format.specs.declared.pages.Header.{Header}
 use Rattle.bdb_format.specs.declared.references.Sort.{Sort}
 use Rattle.bdb_format.specs.declared.references.Sort.TheVariants.{OverflowNext}
-use Rattle.bdb_format.specs.Page.{Overflow}
-use Rattle.bdb_format.specs.File.{File, page_at}
-use Rattle.bdb_format.specs.References.{unless_zero}
-use Rattle.bdb_format.specs.Chains.{chains_in, is_wrong_length}
-use Rattle.bdb_format.specs.Leaves.{is_root_reference}
+use Rattle.bdb_format.specs.Terms.{File, Overflow, chains_in, is_root_reference, is_wrong_length, page_at, unless_zero}
 use Rattle.bdb_format.proofs.ListLemmas.{any_member, only_member}
 use Rattle.bdb_format.proofs.MemberLemmas.{no_member}
 use Rattle.bdb_law_grove.specs.Part.{HaveLengths, HaveSets, IsBranch, IsGrove, between}

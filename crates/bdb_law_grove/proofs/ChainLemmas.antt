@@ -8,10 +8,7 @@ use Rattle.bdb_format.specs.declared.references.Reference.{Reference}
 use Rattle.bdb_format.specs.declared.references.Sort.TheVariants.{OverflowNext}
 use Rattle.bdb_format.specs.declared.pages.Header.{Header}
 use Rattle.bdb_format.specs.declared.metadata.FileKind.TheVariants.{Queue as QueueFile}
-use Rattle.bdb_format.specs.Page.{Overflow, Page}
-use Rattle.bdb_format.specs.File.{File, page_at}
-use Rattle.bdb_format.specs.References.{fit_code, refs, unless_zero}
-use Rattle.bdb_format.specs.Chains.{chain_in, piece_in, pieces_of, value_of}
+use Rattle.bdb_format.specs.Terms.{File, Overflow, Page, chain_in, fit_code, page_at, piece_in, pieces_of, refs, unless_zero, value_of}
 use Rattle.bdb_law_grove.specs.Part.{IsGrove, between}
 use Rattle.bdb_law_grove.specs.Growing.{ChainsStand, IsCounted, IsLink, IsRun, chain_header}
 use Rattle.bdb_law_grove.proofs.SeveralLemmas.{page_over_one}

@@ -10,13 +10,10 @@ use Rattle.bdb_format.specs.declared.metadata.FileKind.{FileKind}
 use Rattle.bdb_format.specs.declared.metadata.FileKind.TheVariants.{Btree, Hash as HashFile, Queue as QueueFile}
 use Rattle.bdb_format.specs.declared.references.Reference.{Reference}
 use Rattle.bdb_format.specs.declared.references.Sort.{Sort}
-use Rattle.bdb_format.specs.Table.{◌:?◌, first_row}
+use Rattle.bdb_format.specs.Terms.{Asked, File, Overflow, Owner, Page, asked_by, first_holder, first_row, fit_code, fit_rows, has_type, header_in, held_by}
+use Rattle.bdb_format.specs.Terms.{is_asked, page_at, refs, targets_in, targets_of, type_in, ◌:?◌}
 use Rattle.bdb_format.specs.declared.pages.Header.{Header}
 use Rattle.bdb_format.specs.declared.references.Sort.TheVariants.{Free as FreeRef, Root, Bucket, HashNext, Child, OverflowHead, OverflowNext, DuplicateRoot}
-use Rattle.bdb_format.specs.Page.{Overflow, Page}
-use Rattle.bdb_format.specs.File.{File, page_at, header_in, type_in}
-use Rattle.bdb_format.specs.References.{Asked, asked_by, fit_code, fit_rows, has_type, is_asked, targets_in, targets_of, refs}
-use Rattle.bdb_format.specs.Graph.{Owner, first_holder, held_by}
 use Rattle.bdb_format.proofs.MemberLemmas.{first_member, later_member, member_cases, no_member, of_filter, of_range}
 use Rattle.bdb_format.proofs.VerdictLemmas.{AllFail, none_is_first_row}
 use Rattle.bdb_format.proofs.ReferenceLemmas.{forest_names}

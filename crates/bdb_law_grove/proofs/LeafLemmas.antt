@@ -10,12 +10,8 @@ use Rattle.bdb_format.specs.declared.metadata.FileKind.TheVariants.{Queue}
 use Rattle.bdb_format.specs.declared.references.Reference.{Reference}
 use Rattle.bdb_format.specs.declared.references.Sort.{Sort}
 use Rattle.bdb_format.specs.declared.references.Sort.TheVariants.{OverflowHead, DuplicateRoot}
-use Rattle.bdb_format.specs.Page.{Content, Inline, Set, Chain, Tree, Unknown}
-use Rattle.bdb_format.specs.File.{File, header_in, page_at}
-use Rattle.bdb_format.specs.References.{content_targets, fit_code, refs}
-use Rattle.bdb_format.specs.Graph.{is_head_reference}
-use Rattle.bdb_format.specs.Chains.{chains_in, content_chains, is_wrong_length}
-use Rattle.bdb_format.specs.Leaves.{is_root_reference}
+use Rattle.bdb_format.specs.Terms.{Chain, Content, File, Inline, Set, Tree, Unknown, chains_in, content_chains, content_targets, fit_code, header_in}
+use Rattle.bdb_format.specs.Terms.{is_head_reference, is_root_reference, is_wrong_length, page_at, refs}
 use Rattle.bdb_format.proofs.MemberLemmas.{in_flat_map, in_map, member_cases, no_member, none_pass, of_flat_map, of_map}
 use Rattle.bdb_law_grove.specs.Part.{IsBranch, has_wrong_place}
 use Rattle.bdb_law_grove.specs.Standing.{StandOver, names}

@@ -5,9 +5,7 @@ use Rattle.std.specs.List.{Contains, filter, flat_map, range_with_len}
 use Rattle.std.proofs.lemmas.Bool.{cases_Bool, eqb-true, eqb-false}
 use Rattle.std.proofs.lemmas.List.Elements.{filter-append}
 use Rattle.bdb_format.specs.declared.references.Reference.{Reference}
-use Rattle.bdb_format.specs.File.{File}
-use Rattle.bdb_format.specs.References.{refs}
-use Rattle.bdb_format.specs.Graph.{Owner, held_by}
+use Rattle.bdb_format.specs.Terms.{File, Owner, held_by, refs}
 use Rattle.bdb_format.proofs.MemberLemmas.{first_member, later_member, is_empty, of_map, of_filter, of_flat_map, of_range}
 use Rattle.bdb_law_grove.specs.Part.{IsGrove, owners_among}
 

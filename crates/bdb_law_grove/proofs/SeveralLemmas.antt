@@ -9,9 +9,7 @@ use Rattle.std.proofs.lemmas.Bool.{and_parts, eqb-true, eq-eqb, ne_eqb, or_from}
 use Rattle.std.proofs.lemmas.List.{append_assoc}
 use Rattle.std.proofs.lemmas.List.Elements.{filter-append, Contains-append_cases, Contains-append_left, Contains-append_right}
 use Rattle.bdb_format.specs.declared.references.Reference.{Reference}
-use Rattle.bdb_format.specs.File.{File, page_at, header_in}
-use Rattle.bdb_format.specs.References.{refs}
-use Rattle.bdb_format.specs.Graph.{Owner, held_by, is_head_reference}
+use Rattle.bdb_format.specs.Terms.{File, Owner, header_in, held_by, is_head_reference, page_at, refs}
 use Rattle.bdb_format.proofs.MemberLemmas.{first_member, later_member, in_filter, in_map, is_empty, no_member, of_filter, of_map}
 use Rattle.bdb_law_grove.specs.Part.{IsGrove, IsOwnedBy, are_heads_alone, owners_among}
 use Rattle.bdb_law_grove.specs.Standing.{IsNewPage, PagesStandOver, StandOver, StandsOver, named_by, names}

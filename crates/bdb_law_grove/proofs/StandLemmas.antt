@@ -10,9 +10,7 @@ use Rattle.std.proofs.lemmas.List.Elements.{filter-append}
 use Rattle.std.proofs.lemmas.List.Folds.{list_all-append}
 use Rattle.std.proofs.lemmas.Grind.{flat_map-append}
 use Rattle.bdb_format.specs.declared.references.Reference.{Reference}
-use Rattle.bdb_format.specs.File.{File, page_at, header_in}
-use Rattle.bdb_format.specs.References.{fit_code, refs}
-use Rattle.bdb_format.specs.Graph.{Owner, first_holder, held_by}
+use Rattle.bdb_format.specs.Terms.{File, Owner, first_holder, fit_code, header_in, held_by, page_at, refs}
 use Rattle.bdb_format.proofs.MemberLemmas.{first_member, later_member, in_filter, in_map, no_member, of_filter, of_map, of_range}
 use Rattle.bdb_format.proofs.ListLemmas.{range_parts}
 use Rattle.bdb_law_grove.specs.Part.{IsOwnedBy, IsWayIn, are_heads_alone, owners_among}

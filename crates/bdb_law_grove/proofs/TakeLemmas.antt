@@ -6,9 +6,7 @@ use Rattle.std.proofs.lemmas.Bool.{cases_Bool, cases_eq, eqb-false, eq-eqb, ne_e
 use Rattle.std.proofs.lemmas.List.{map-append, append-nil}
 use Rattle.std.proofs.lemmas.List.Elements.{filter-append, Contains-append_cases}
 use Rattle.bdb_format.specs.declared.references.Reference.{Reference}
-use Rattle.bdb_format.specs.File.{File, page_at, header_in}
-use Rattle.bdb_format.specs.References.{fit_code, refs}
-use Rattle.bdb_format.specs.Graph.{Owner, first_holder, held_by, is_head_reference}
+use Rattle.bdb_format.specs.Terms.{File, Owner, first_holder, fit_code, header_in, held_by, is_head_reference, page_at, refs}
 use Rattle.bdb_format.proofs.MemberLemmas.{of_filter}
 use Rattle.bdb_law_grove.specs.Part.{IsOwnedBy, IsWayIn, are_heads_alone, owners_among}
 use Rattle.bdb_law_grove.specs.Growing.{KeepsFace, GroveTakesIn}

@@ -2,7 +2,7 @@
 -- leaves of their kinds and links. Source: docs/FORMAT.md, "References" and "Stage 3, references" to "Stage 6, chains and trees".
 use Rattle.std.specs.Prelude.{◌≡◌, ℕ, ◌+◌, ◌≤◌, ◌==◌, ◌||◌, length, Bool, true, List, [], ◌∷◌, ◌++◌}
 use Rattle.std.specs.List.{Contains, flat_map, list_any}
-use Rattle.bdb_format.specs.File.{File}
+use Rattle.bdb_format.specs.Terms.{File}
 use Rattle.bdb_law_grove.specs.Part.{HaveLengths, HaveSets, IsBranch, between}
 use Rattle.bdb_law_grove.specs.Growing.{IsCounted, IsRun}
 use Rattle.bdb_law_grove.specs.Standing.{StandOver, names}

@@ -8,11 +8,8 @@ use Rattle.bdb_format.specs.declared.metadata.FileKind.TheVariants.{Queue}
 use Rattle.bdb_format.specs.declared.references.Reference.{Reference}
 use Rattle.bdb_format.specs.declared.references.Sort.{Sort}
 use Rattle.bdb_format.specs.declared.pages.Header.{Header}
-use Rattle.bdb_format.specs.Page.{Chain, Overflow, Page}
-use Rattle.bdb_format.specs.Chains.{joined, value_of}
-use Rattle.bdb_format.specs.File.{File, page_at, header_in, type_in}
-use Rattle.bdb_format.specs.References.{asked_by, fit_code, is_zero_page, targets_in, refs}
-use Rattle.bdb_format.specs.Graph.{is_head_reference}
+use Rattle.bdb_format.specs.Terms.{Chain, File, Overflow, Page, asked_by, fit_code, header_in, is_head_reference, is_zero_page, joined, page_at, refs}
+use Rattle.bdb_format.specs.Terms.{targets_in, type_in, value_of}
 use Rattle.bdb_law_grove.specs.Part.{IsGrove, IsWayIn, are_heads_alone, between, owners_among}
 
 -- A page stays as it was, but that a page of a chain may count more references.

@@ -5,10 +5,8 @@ use Rattle.std.specs.List.{All, filter, flat_map, list_any}
 use Rattle.bdb_format.specs.declared.metadata.FileKind.TheVariants.{Queue}
 use Rattle.bdb_format.specs.declared.references.Sort.{Sort}
 use Rattle.bdb_format.specs.declared.references.Sort.TheVariants.{DuplicateRoot}
-use Rattle.bdb_format.specs.Page.{Content, Inline, Set, Chain, Tree, Unknown}
-use Rattle.bdb_format.specs.File.{File, header_in, page_at, type_in}
-use Rattle.bdb_format.specs.References.{content_targets, contents_in, has_type, targets_in}
-use Rattle.bdb_format.specs.Chains.{is_wrong_length}
+use Rattle.bdb_format.specs.Terms.{Chain, Content, File, Inline, Set, Tree, Unknown, content_targets, contents_in, has_type, header_in, is_wrong_length}
+use Rattle.bdb_format.specs.Terms.{page_at, targets_in, type_in}
 use Rattle.bdb_law_grove.specs.Part.{IsBranch, has_wrong_place}
 
 -- a leaf, and what its items hold, in the order of its index

@@ -7,16 +7,9 @@ use Rattle.std.specs.List.{Contains, filter, flat_map, list_all, list_any, range
 use Rattle.bdb_format.specs.declared.references.Reference.{Reference}
 use Rattle.bdb_format.specs.declared.references.Sort.{Sort}
 use Rattle.bdb_format.specs.declared.references.Sort.TheVariants.{Root, Bucket}
-use Rattle.bdb_format.specs.Hashing.{first_page}
-use Rattle.bdb_format.specs.Table.{first_row}
-use Rattle.bdb_format.specs.Page.{Metadata, BtreeFields, HashFields, QueueFields, Meta}
-use Rattle.bdb_format.specs.File.{File, page_at, header_in}
-use Rattle.bdb_format.specs.References.{refs, Asked, asked_by, fit_rows, fit_code}
-use Rattle.bdb_format.specs.Graph.{Owner, held_by, first_holder, is_head_reference}
-use Rattle.bdb_format.specs.Chains.{chains_in, is_wrong_length}
-use Rattle.bdb_format.specs.Leaves.{LeafPlace, is_root_reference, is_wrong_leaf, is_wrong_link, leaves, places_from}
-use Rattle.bdb_format.specs.Lists.{ListKey, list_of}
-use Rattle.bdb_format.specs.ContentRows.{database_rows}
+use Rattle.bdb_format.specs.Terms.{Asked, BtreeFields, File, HashFields, LeafPlace, ListKey, Meta, Metadata, Owner, QueueFields, asked_by, chains_in}
+use Rattle.bdb_format.specs.Terms.{database_rows, first_holder, first_page, first_row, fit_code, fit_rows, header_in, held_by, is_head_reference}
+use Rattle.bdb_format.specs.Terms.{is_root_reference, is_wrong_leaf, is_wrong_length, is_wrong_link, leaves, list_of, page_at, places_from, refs}
 use Rattle.bdb_format.specs.ByPage.{holding}
 
 -- the pages of a part, the metadata that is to name them, and the list that they hold

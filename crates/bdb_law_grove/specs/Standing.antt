@@ -3,9 +3,7 @@
 use Rattle.std.specs.Prelude.{◌≡◌, ◌⊎◌, ℕ, ◌<◌, ◌≤◌, ◌==◌, ◌||◌, length, map, Bool, true, false, List, [], ◌++◌, None}
 use Rattle.std.specs.List.{Contains, filter, flat_map, list_any}
 use Rattle.bdb_format.specs.declared.references.Reference.{Reference}
-use Rattle.bdb_format.specs.File.{File, page_at, header_in}
-use Rattle.bdb_format.specs.References.{fit_code, refs}
-use Rattle.bdb_format.specs.Graph.{Owner, held_by, is_head_reference}
+use Rattle.bdb_format.specs.Terms.{File, Owner, fit_code, header_in, held_by, is_head_reference, page_at, refs}
 use Rattle.bdb_law_grove.specs.Part.{IsGrove, IsOwnedBy, between, owners_among}
 
 -- the pages that a page names, in the order of its references

@@ -7,10 +7,8 @@ use Rattle.bdb_graph.specs.of_format.declared.metadata.FileKind.TheVariants.{Que
 use Rattle.bdb_graph.specs.of_format.declared.references.Sort.{Sort}
 use Rattle.bdb_graph.specs.of_format.declared.references.Sort.TheVariants.{Root, Bucket, Child}
 use Rattle.bdb_graph.specs.of_format.declared.references.Reference.{Reference}
-use Rattle.bdb_graph.specs.of_format.Hashing.{first_page}
-use Rattle.bdb_graph.specs.of_format.File.{File, page_at}
-use Rattle.bdb_graph.specs.of_format.Page.{InternalItem, BtreeFields, HashFields, QueueFields, Page, Meta, Internal, RecnoInternal}
-use Rattle.bdb_graph.specs.of_format.References.{content_targets, first_free, internal_targets, refs, targets_in, targets_of}
+use Rattle.bdb_graph.specs.of_format.Terms.{BtreeFields, File, HashFields, Internal, InternalItem, Meta, Page, QueueFields, RecnoInternal, content_targets}
+use Rattle.bdb_graph.specs.of_format.Terms.{first_free, first_page, internal_targets, page_at, refs, targets_in, targets_of}
 use Rattle.bdb_graph.proofs.of_format.MemberLemmas.{first_member, in_flat_map, in_map, later_member, member_cases, no_member, of_map}
 use Rattle.bdb_graph.proofs.of_format.ReferenceLemmas.{forest_names}
 use Rattle.bdb_homes.specs.Claims.{Below, below_in, counted}

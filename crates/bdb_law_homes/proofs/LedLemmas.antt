@@ -11,11 +11,8 @@ use Rattle.bdb_graph.specs.of_format.declared.metadata.FileKind.{FileKind}
 use Rattle.bdb_graph.specs.of_format.declared.metadata.FileKind.TheVariants.{Btree, Hash as HashFile, Queue as QueueFile}
 use Rattle.bdb_graph.specs.of_format.declared.references.Sort.{Sort}
 use Rattle.bdb_graph.specs.of_format.declared.references.Sort.TheVariants.{Root, Bucket, Child}
-use Rattle.bdb_graph.specs.of_format.File.{File, page_at}
-use Rattle.bdb_graph.specs.of_format.Graph.{first_holder, is_anchor, is_anchor_in, is_head_reference, is_meta, owners}
-use Rattle.bdb_graph.specs.of_format.Leaves.{children_in, leaves_in, leaves_under}
-use Rattle.bdb_graph.specs.of_format.Page.{InternalItem, Page, Internal, RecnoInternal}
-use Rattle.bdb_graph.specs.of_format.References.{fit_code}
+use Rattle.bdb_graph.specs.of_format.Terms.{File, Internal, InternalItem, Page, RecnoInternal, children_in, first_holder, fit_code, is_anchor, is_anchor_in}
+use Rattle.bdb_graph.specs.of_format.Terms.{is_head_reference, is_meta, leaves_in, leaves_under, owners, page_at}
 use Rattle.bdb_graph.proofs.of_format.GraphLemmas.{anchor_unowned, each_fits}
 use Rattle.bdb_graph.proofs.of_format.MemberLemmas.{first_member, in_flat_map, in_map, in_range, later_member, member_cases, no_member, of_flat_map, of_map}
 use Rattle.bdb_graph.proofs.of_format.MemberLemmas.{of_range}

@@ -2,9 +2,7 @@
 use Rattle.std.proofs.Common.{◌≡◌, ℕ, zero, suc, ◌+◌, ◌^◌, Bool, true, ap, ◌∙◌, arith, refl, sym, subst}
 use Rattle.std.specs.Prelude.{nat_lt, if◌then◌else◌, Option, Some, None}
 use Rattle.std.specs.Option.{option_and_then}
-use Rattle.bdb_graph.specs.of_format.File.{File, page_at}
-use Rattle.bdb_graph.specs.of_format.Graph.{first_holder, owners}
-use Rattle.bdb_graph.specs.of_format.Page.{Hash, Item, Listed}
+use Rattle.bdb_graph.specs.of_format.Terms.{File, Hash, Item, Listed, first_holder, owners, page_at}
 use Rattle.bdb_graph.proofs.of_format.MemberLemmas.{no_member}
 use Rattle.bdb_homes.specs.Claims.{Claim, below_in, claim_of}
 use Rattle.bdb_homes.specs.Homes.{adjoins, behind, by_claim, claimed_in, from_side, later, numbered, or_else, own_home, page_before, previous_of, records_on}

@@ -1,6 +1,5 @@
 -- Sound files are owned.
-use Rattle.bdb_graph.specs.of_format.File.{file_of}
-use Rattle.bdb_graph.specs.of_format.HeadOf.{head_of}
+use Rattle.bdb_graph.specs.of_format.Terms.{file_of, head_of}
 use Rattle.bdb_graph.proofs.of_format.FileLemmas.{past_last}
 use Rattle.bdb_graph.proofs.ForestLemmas.{IsSoundGraph, first_names, sound_graph}
 use Rattle.bdb_graph.proofs.ReachLemmas.{fit_file}

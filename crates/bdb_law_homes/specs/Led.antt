@@ -3,13 +3,9 @@ use Rattle.std.specs.Prelude.{◌≡◌, ◌≢◌, ℕ, suc, ◌+◌, ◌<◌, 
 use Rattle.std.specs.List.{Contains}
 use Rattle.bdb_graph.specs.of_format.declared.metadata.FileKind.TheVariants.{Queue}
 use Rattle.bdb_graph.specs.of_format.declared.references.Reference.{Reference}
-use Rattle.bdb_graph.specs.of_format.File.{File, file_of, page_at}
-use Rattle.bdb_graph.specs.of_format.Graph.{first_holder, is_head_reference, is_meta, owners}
+use Rattle.bdb_graph.specs.of_format.Terms.{File, Hash, Item, Listed, NoType, file_of, first_holder, is_head_reference, is_meta, leaves_in, owners, page_at}
+use Rattle.bdb_graph.specs.of_format.Terms.{reference_faults, refs}
 use Rattle.bdb_graph.specs.of_image.Linked.{IsForest}
-use Rattle.bdb_graph.specs.of_format.Leaves.{leaves_in}
-use Rattle.bdb_graph.specs.of_format.Page.{Hash, Item, Listed, NoType}
-use Rattle.bdb_graph.specs.of_format.References.{refs}
-use Rattle.bdb_graph.specs.of_format.Verdict.{reference_faults}
 use Rattle.bdb_homes.specs.Claims.{Below, below_in}
 use Rattle.bdb_homes.specs.Homes.{adjoins, behind, claimed_in, own_home, page_before, spread}
 use Rattle.bdb_homes.specs.declared.home.Home.{Home}

@@ -3,12 +3,9 @@ use Rattle.std.proofs.Common.{◌≡◌, ◌⊎◌, ℕ, zero, suc, ◌+◌, ◌
 use Rattle.std.proofs.Common.{◌∷◌, None, arith, refl, sym, ◌∙◌, ap, subst, inl, inr}
 use Rattle.std.specs.List.{Contains}
 use Rattle.std.proofs.lemmas.Bool.{cases_Bool, and_left, and_right}
-use Rattle.bdb_graph.specs.of_format.Page.{Metadata, Meta}
-use Rattle.bdb_graph.specs.of_format.File.{File, file_of, page_at}
-use Rattle.bdb_graph.specs.of_format.Graph.{is_meta}
-use Rattle.bdb_graph.specs.of_format.Master.{is_named_kind, master_in, master_pairs, master_rows, pairs_under}
-use Rattle.bdb_graph.specs.of_format.Databases.{databases}
-use Rattle.bdb_graph.specs.of_format.Verdict.{first_judgement, holding, master_faults}
+use Rattle.bdb_graph.specs.of_format.Terms.{File, Meta, Metadata, databases, file_of, first_judgement, is_meta, is_named_kind, master_faults, master_in}
+use Rattle.bdb_graph.specs.of_format.Terms.{master_pairs, master_rows, page_at, pairs_under}
+use Rattle.bdb_graph.specs.of_format.Verdict.{holding}
 use Rattle.bdb_graph.proofs.of_format.ListLemmas.{only_member}
 use Rattle.bdb_graph.proofs.of_format.MemberLemmas.{first_member}
 use Rattle.bdb_graph.proofs.of_format.VerdictLemmas.{AllFail, no_faults, none_holds}

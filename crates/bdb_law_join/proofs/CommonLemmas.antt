@@ -7,10 +7,8 @@ use Rattle.bdb_graph.specs.of_format.declared.kinds.Order.TheVariants.{Big, Litt
 use Rattle.bdb_graph.specs.of_format.declared.metadata.FileKind.{FileKind}
 use Rattle.bdb_graph.specs.of_format.declared.metadata.FileKind.TheVariants.{Btree, Hash, Queue}
 use Rattle.bdb_graph.specs.of_format.declared.metadata.Head.{Head}
-use Rattle.bdb_graph.specs.of_format.HeadOf.{is_magic, order_of}
-use Rattle.bdb_graph.specs.of_format.Numbers.{byte_at, four_at, number, number_at, spelled}
-use Rattle.bdb_graph.specs.of_format.Rows.{magic_of, type_of, version_of}
-use Rattle.bdb_graph.specs.of_format.Spelling.{common_bytes, last_field, lsn_bytes, zeros}
+use Rattle.bdb_graph.specs.of_format.Terms.{byte_at, common_bytes, four_at, is_magic, last_field, lsn_bytes, magic_of, number, number_at, order_of, spelled}
+use Rattle.bdb_graph.specs.of_format.Terms.{type_of, version_of, zeros}
 use Rattle.bdb_graph.proofs.of_format.SpellingLemmas.{byte_at-in, drop-behind, length-spelled, number_at-in}
 use Rattle.bdb_graph.proofs.of_meta.FilledLemmas.{zeros-spelled}
 

@@ -10,14 +10,8 @@ use Rattle.bdb_graph.specs.of_format.declared.kinds.Order.{Order}
 use Rattle.bdb_graph.specs.of_format.declared.metadata.BtreeMeta.{BtreeMeta}
 use Rattle.bdb_graph.specs.of_format.declared.metadata.FileKind.TheVariants.{Btree}
 use Rattle.bdb_graph.specs.of_format.declared.metadata.Head.{Head}
-use Rattle.bdb_graph.specs.of_format.Spelling.{btree_bytes, common_bytes, last_field, zeros}
-use Rattle.bdb_graph.specs.of_format.Numbers.{spelled}
-use Rattle.bdb_graph.specs.of_format.Page.{BtreeFields, Meta, NoType}
-use Rattle.bdb_graph.specs.of_format.Reading.{abstract_page}
-use Rattle.bdb_graph.specs.of_format.HeadOf.{head_of, is_page_size}
-use Rattle.bdb_graph.specs.of_format.Rows.{form_code, page_code}
-use Rattle.bdb_graph.specs.of_format.File.{file_of, page_at}
-use Rattle.bdb_graph.specs.of_format.Graph.{is_meta}
+use Rattle.bdb_graph.specs.of_format.Terms.{BtreeFields, Meta, NoType, abstract_page, btree_bytes, common_bytes, file_of, form_code, head_of, is_meta}
+use Rattle.bdb_graph.specs.of_format.Terms.{is_page_size, last_field, page_at, page_code, spelled, zeros}
 use Rattle.bdb_graph.proofs.of_format.SpellingLemmas.{length-spelled}
 use Rattle.bdb_graph.proofs.of_format.SizeLemmas.{size_bounds}
 use Rattle.bdb_graph.proofs.of_image.CodeLemmas.{tree_passed}

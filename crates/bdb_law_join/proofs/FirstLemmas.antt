@@ -6,11 +6,8 @@ use Rattle.bdb_graph.specs.of_format.declared.metadata.BtreeMeta.{BtreeMeta}
 use Rattle.bdb_graph.specs.of_format.declared.metadata.FileKind.{FileKind}
 use Rattle.bdb_graph.specs.of_format.declared.metadata.FileKind.TheVariants.{Btree, Hash, Queue}
 use Rattle.bdb_graph.specs.of_format.declared.metadata.Head.{Head}
-use Rattle.bdb_graph.specs.of_format.Flags.{is_recno, names_databases}
-use Rattle.bdb_graph.specs.of_format.Numbers.{byte_at, has_bit}
-use Rattle.bdb_graph.specs.of_format.Page.{BtreeFields, Meta}
-use Rattle.bdb_graph.specs.of_format.Reading.{abstract_page, btree_fields, is_zero, page_as, page_type}
-use Rattle.bdb_graph.specs.of_format.Rows.{are_wrong_flags, form_code, metadata_rows, type_of}
+use Rattle.bdb_graph.specs.of_format.Terms.{BtreeFields, Meta, abstract_page, are_wrong_flags, btree_fields, byte_at, form_code, has_bit, is_recno, is_zero}
+use Rattle.bdb_graph.specs.of_format.Terms.{metadata_rows, names_databases, page_as, page_type, type_of}
 use Rattle.bdb_graph.proofs.of_format.GraphLemmas.{typed_page}
 use Rattle.bdb_graph.proofs.of_format.VerdictLemmas.{AllFail, none_is_first_row}
 use Rattle.bdb_graph.proofs.of_image.CodeLemmas.{first_page_code, is_same}

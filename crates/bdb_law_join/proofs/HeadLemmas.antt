@@ -8,12 +8,9 @@ use Rattle.bdb_graph.specs.of_format.declared.kinds.Order.{Order}
 use Rattle.bdb_graph.specs.of_format.declared.metadata.FileKind.{FileKind}
 use Rattle.bdb_graph.specs.of_format.declared.metadata.FileKind.TheVariants.{Btree, Hash, Queue}
 use Rattle.bdb_graph.specs.of_format.declared.metadata.Head.{Head}
-use Rattle.bdb_graph.specs.of_format.HeadOf.{file_kind, head_of, head_rows, heap_magic, is_magic}
-use Rattle.bdb_graph.specs.of_format.HeadOf.{is_page_size, is_past, last_page, magic_at, order_of, pages_of}
-use Rattle.bdb_graph.specs.of_format.Numbers.{byte_at, four_at, has_bit}
-use Rattle.bdb_graph.specs.of_format.Rows.{form_code, is_queue}
-use Rattle.bdb_graph.specs.of_format.Rows.{magic_of, metadata_rows, page_code, type_of, version_of}
-use Rattle.bdb_graph.specs.of_format.Table.{Row, first_row}
+use Rattle.bdb_graph.specs.of_format.Terms.{Row, byte_at, file_kind, first_row, form_code, four_at, has_bit, head_of, head_rows, heap_magic, is_magic}
+use Rattle.bdb_graph.specs.of_format.Terms.{is_page_size, is_past, is_queue, last_page, magic_at, magic_of, metadata_rows, order_of, page_code, pages_of}
+use Rattle.bdb_graph.specs.of_format.Terms.{type_of, version_of}
 use Rattle.bdb_graph.proofs.of_format.VerdictLemmas.{AllFail, none_is_first_row}
 use Rattle.bdb_graph.proofs.of_format.SizeLemmas.{size_bounds}
 use Rattle.bdb_graph.proofs.of_image.CodeLemmas.{code_by, first_page_code, tree_metadata}

@@ -1,7 +1,6 @@
 -- Joined parts have no fault of any stage but that of a master.
 use Rattle.std.proofs.Common.{◌≡◌, ◌<◌, List, [], ◌∷◌, arith}
-use Rattle.bdb_graph.specs.of_format.File.{File, file_of}
-use Rattle.bdb_graph.specs.of_format.Verdict.{faults_of, ownership_faults, reach_faults, head_faults, tail_faults}
+use Rattle.bdb_graph.specs.of_format.Terms.{File, faults_of, file_of, head_faults, ownership_faults, reach_faults, tail_faults}
 use Rattle.bdb_graph.proofs.of_format.GraphLemmas.{each_page_has_one_role}
 use Rattle.bdb_graph.proofs.of_format.VerdictLemmas.{none_in}
 use Rattle.bdb_graph.proofs.of_format.FileLemmas.{count_is, last_page}

@@ -7,16 +7,11 @@ use Rattle.std.proofs.lemmas.Bool.{cases_Bool, not-false}
 use Rattle.std.proofs.lemmas.List.FromFn.{get_or-map-range_with_len, length-map-range_with_len}
 use Rattle.bdb_graph.specs.of_format.declared.kinds.Order.{Order}
 use Rattle.bdb_graph.specs.of_format.declared.metadata.Head.{Head}
-use Rattle.bdb_graph.specs.of_format.Contents.{StoredPair, pair_at, pairs_in}
-use Rattle.bdb_graph.specs.of_format.File.{File}
-use Rattle.bdb_graph.specs.of_format.Numbers.{byte_at}
-use Rattle.bdb_graph.specs.of_format.Page.{Chain, Content, Inline, Item, Listed, Set, Tree, Unknown}
+use Rattle.bdb_graph.specs.of_format.Terms.{Chain, Content, File, Inline, Item, Listed, Set, StoredPair, Tree, Unknown, abstract_page, byte_at, first_row}
+use Rattle.bdb_graph.specs.of_format.Terms.{form_code, hash_item_at, hash_rows, is_shared_key, is_zero, item_rows, leaf_item_at, leaf_rows, listed}
+use Rattle.bdb_graph.specs.of_format.Terms.{listed_code, page_as, page_type, pair_at, pairs_in, typed_code}
 use Rattle.bdb_graph.specs.of_format.declared.pages.PageType.{PageType}
 use Rattle.bdb_graph.specs.of_format.declared.pages.PageType.TheVariants.{Hash as HashPage, Leaf as LeafPage}
-use Rattle.bdb_graph.specs.of_format.Reading.{abstract_page, hash_item_at, is_zero, leaf_item_at, listed, page_as, page_type}
-use Rattle.bdb_graph.specs.of_format.References.{is_shared_key}
-use Rattle.bdb_graph.specs.of_format.Rows.{form_code, hash_rows, item_rows, leaf_rows, listed_code, typed_code}
-use Rattle.bdb_graph.specs.of_format.Table.{first_row}
 use Rattle.bdb_graph.proofs.of_format.GraphLemmas.{typed_none, typed_page, zero_page}
 use Rattle.bdb_graph.proofs.of_format.ItemLemmas.{no_item_row}
 use Rattle.bdb_graph.proofs.of_format.MemberLemmas.{no_member, of_map, of_range}

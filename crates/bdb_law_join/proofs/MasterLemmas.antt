@@ -7,20 +7,12 @@ use Rattle.std.specs.Str.{bytes_eq}
 use Rattle.std.proofs.lemmas.Bool.{cases_Bool, cases_lt, and_left, and_right, and_parts, eq-eqb, lt-ltb, or_parts, and_from}
 use Rattle.std.proofs.lemmas.List.{get_or_past}
 use Rattle.bdb_graph.specs.of_format.declared.metadata.BtreeMeta.{BtreeMeta}
-use Rattle.bdb_graph.specs.of_format.Page.{BtreeFields, Chain, Content, Inline, Meta, NoType, Set, Tree, Unknown}
-use Rattle.bdb_graph.specs.of_format.Flags.{has_duplicates, is_recno, names_databases}
-use Rattle.bdb_graph.specs.of_format.File.{File, file_of, page_at, page_bytes}
-use Rattle.bdb_graph.specs.of_format.Graph.{is_meta}
-use Rattle.bdb_graph.specs.of_format.HeadOf.{head_of}
-use Rattle.bdb_graph.specs.of_format.Chains.{value_of}
-use Rattle.bdb_graph.specs.of_format.Contents.{StoredPair, data_of, pairs_in, pairs_of, tree_pairs}
-use Rattle.bdb_graph.specs.of_format.ContentRows.{btree_contents, database_rows, has_duplicate, is_duplicate, is_set, recno_contents, repeated}
-use Rattle.bdb_graph.specs.of_format.Leaves.{leaves}
-use Rattle.bdb_graph.specs.of_format.Lists.{BytesKey, btree_list, is_key, listed_pair}
-use Rattle.bdb_graph.specs.of_format.Master.{is_named_kind, is_none, is_page, master_in, master_pairs}
-use Rattle.bdb_graph.specs.of_format.Master.{master_rows, misses_target, named_by, naming, page_named}
-use Rattle.bdb_graph.specs.of_format.Master.{pairs_under}
-use Rattle.bdb_graph.specs.of_format.Verdict.{holding, master_faults}
+use Rattle.bdb_graph.specs.of_format.Terms.{BtreeFields, BytesKey, Chain, Content, File, Inline, Meta, NoType, Set, StoredPair, Tree, Unknown, btree_contents}
+use Rattle.bdb_graph.specs.of_format.Terms.{btree_list, data_of, database_rows, file_of, has_duplicate, has_duplicates, head_of, is_duplicate, is_key, is_meta}
+use Rattle.bdb_graph.specs.of_format.Terms.{is_named_kind, is_none, is_page, is_recno, is_set, leaves, listed_pair, master_faults, master_in, master_pairs}
+use Rattle.bdb_graph.specs.of_format.Terms.{master_rows, misses_target, named_by, names_databases, naming, page_at, page_bytes, page_named, pairs_in, pairs_of}
+use Rattle.bdb_graph.specs.of_format.Terms.{pairs_under, recno_contents, repeated, tree_pairs, value_of}
+use Rattle.bdb_graph.specs.of_format.Verdict.{holding}
 use Rattle.bdb_graph.proofs.of_format.MemberLemmas.{first_member, in_filter, in_map, later_member, member_cases, no_member, none_pass, none_passes}
 use Rattle.bdb_graph.proofs.of_format.MemberLemmas.{of_filter, of_flat_map}
 use Rattle.bdb_graph.proofs.of_format.RepeatLemmas.{repeated_after, repeated_is}

@@ -9,10 +9,8 @@ use Rattle.bdb_graph.specs.of_format.declared.metadata.FileKind.TheVariants.{Que
 use Rattle.bdb_graph.specs.of_format.declared.references.Reference.{Reference}
 use Rattle.bdb_graph.specs.of_format.declared.references.Sort.{Sort}
 use Rattle.bdb_graph.specs.of_format.declared.references.Sort.TheVariants.{Root}
-use Rattle.bdb_graph.specs.of_format.Page.{Metadata, BtreeFields, HashFields, QueueFields, Meta}
-use Rattle.bdb_graph.specs.of_format.File.{File, page_at}
-use Rattle.bdb_graph.specs.of_format.References.{first_free, targets_in, refs, asked_by}
-use Rattle.bdb_graph.specs.of_format.Graph.{held_by}
+use Rattle.bdb_graph.specs.of_format.Terms.{BtreeFields, File, HashFields, Meta, Metadata, QueueFields, asked_by, first_free, held_by, page_at, refs}
+use Rattle.bdb_graph.specs.of_format.Terms.{targets_in}
 use Rattle.bdb_graph.proofs.of_format.MemberLemmas.{of_map}
 use Rattle.bdb_pack.specs.of_law_grove.Part.{entrances, entrance_sort, entrance_asks}
 use Rattle.bdb_pack.proofs.of_law_grove.OwnerLemmas.{names_page}

@@ -2,11 +2,8 @@
 use Rattle.std.proofs.Common.{◌≡◌, List, [], ◌∷◌, ◌++◌, map, Some, refl, sym, ◌∙◌, ap, subst}
 use Rattle.std.specs.List.{AllZip, Contains, flat_map}
 use Rattle.bdb_graph.specs.of_format.declared.metadata.BtreeMeta.{BtreeMeta}
-use Rattle.bdb_graph.specs.of_format.File.{File, file_of, page_at}
-use Rattle.bdb_graph.specs.of_format.Contents.{StoredPair}
-use Rattle.bdb_graph.specs.of_format.ContentRows.{fields_in}
-use Rattle.bdb_graph.specs.of_format.Master.{master_in, master_pairs}
-use Rattle.bdb_graph.specs.of_format.Databases.{Database, database_on, databases, databases_under, named_database}
+use Rattle.bdb_graph.specs.of_format.Terms.{Database, File, StoredPair, database_on, databases, databases_under, fields_in, file_of, master_in, master_pairs}
+use Rattle.bdb_graph.specs.of_format.Terms.{named_database, page_at}
 use Rattle.bdb_graph.proofs.of_format.MemberLemmas.{first_member, later_member}
 use Rattle.bdb_law_join.specs.Joining.{AreJoined, Joint}
 use Rattle.bdb_law_join.specs.Masters.{IsDatabase, JoinsAll}

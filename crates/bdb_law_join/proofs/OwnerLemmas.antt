@@ -3,8 +3,7 @@ use Rattle.std.proofs.Common.{◌≡◌, ℕ, ◌+◌, ◌<◌, ◌≤◌, Bool,
 use Rattle.std.specs.Prelude.{◌==◌}
 use Rattle.std.specs.List.{filter, range_with_len}
 use Rattle.std.proofs.lemmas.List.{append-nil}
-use Rattle.bdb_graph.specs.of_format.File.{File}
-use Rattle.bdb_graph.specs.of_format.Graph.{held_by, all_references, owners}
+use Rattle.bdb_graph.specs.of_format.Terms.{File, all_references, held_by, owners}
 use Rattle.bdb_graph.proofs.of_format.MemberLemmas.{of_range}
 use Rattle.bdb_pack.specs.of_law_grove.Part.{owners_among}
 use Rattle.bdb_pack.proofs.of_law_grove.OwnerLemmas.{NamesNot, filter_first, held_none, names_page, one_of_range}

@@ -8,20 +8,13 @@ use Rattle.bdb_graph.specs.of_format.declared.metadata.FileKind.TheVariants.{Que
 use Rattle.bdb_graph.specs.of_format.declared.metadata.Head.{Head}
 use Rattle.bdb_graph.specs.of_format.declared.metadata.QueueMeta.{QueueMeta}
 use Rattle.bdb_graph.specs.of_format.declared.references.Reference.{Reference}
-use Rattle.bdb_graph.specs.of_format.HeadOf.{head_of}
-use Rattle.bdb_graph.specs.of_format.Numbers.{byte_at}
-use Rattle.bdb_graph.specs.of_format.Page.{Metadata, QueueFields, Page, Zero, Free, Meta, Hash, Internal, RecnoInternal}
-use Rattle.bdb_graph.specs.of_format.Page.{Leaf, RecnoLeaf, DupLeaf, Overflow, Queue, NoType}
-use Rattle.bdb_graph.specs.of_format.Reading.{abstract_page, is_zero, page_as, page_type, queue_fields}
-use Rattle.bdb_graph.specs.of_format.Rows.{form_code, may_have_type}
-use Rattle.bdb_graph.specs.of_format.File.{File, file_of, page_at, page_bytes}
-use Rattle.bdb_graph.specs.of_format.References.{refs}
-use Rattle.bdb_graph.specs.of_format.Graph.{Owner, all_references, held_by, is_anchor, is_anchor_in, is_meta, is_reserve}
-use Rattle.bdb_graph.specs.of_format.Chains.{chains_in}
-use Rattle.bdb_graph.specs.of_format.Leaves.{leaf_places, root_references}
-use Rattle.bdb_graph.specs.of_format.ContentRows.{contents_rows, database_rows, fields_in, fields_of, holds_code, holds_somewhere}
-use Rattle.bdb_graph.specs.of_format.Verdict.{contents_faults, faults_of, first_judgement, form_faults, holding, master_faults}
-use Rattle.bdb_graph.specs.of_format.Verdict.{ownership_faults, reach_faults, reference_faults, structure_faults}
+use Rattle.bdb_graph.specs.of_format.Terms.{DupLeaf, File, Free, Hash, Internal, Leaf, Meta, Metadata, NoType, Overflow, Owner, Page, Queue, QueueFields}
+use Rattle.bdb_graph.specs.of_format.Terms.{RecnoInternal, RecnoLeaf, Zero, abstract_page, all_references, byte_at, chains_in, contents_faults, contents_rows}
+use Rattle.bdb_graph.specs.of_format.Terms.{database_rows, faults_of, fields_in, fields_of, file_of, first_judgement, form_code, form_faults, head_of, held_by}
+use Rattle.bdb_graph.specs.of_format.Terms.{holds_code, holds_somewhere, is_anchor, is_anchor_in, is_meta, is_reserve, is_zero, leaf_places, master_faults}
+use Rattle.bdb_graph.specs.of_format.Terms.{may_have_type, ownership_faults, page_as, page_at, page_bytes, page_type, queue_fields, reach_faults}
+use Rattle.bdb_graph.specs.of_format.Terms.{reference_faults, refs, root_references, structure_faults}
+use Rattle.bdb_graph.specs.of_format.Verdict.{holding}
 use Rattle.bdb_graph.proofs.of_format.GraphLemmas.{each_page_has_one_role, type_fits, typed_page, zero_page}
 use Rattle.bdb_graph.proofs.of_format.ListLemmas.{only_member}
 use Rattle.bdb_graph.proofs.of_format.MemberLemmas.{is_empty, no_member, none_pass, of_flat_map, of_map}

@@ -2,8 +2,7 @@
 use Rattle.std.proofs.Common.{◌≡◌, ℕ, ◌<◌, ◌≤◌, true, List, [], ◌∷◌, length, Some, arith, refl, sym, ◌∙◌, ap, subst, inl, inr}
 use Rattle.std.specs.List.{Contains}
 use Rattle.std.proofs.lemmas.Bool.{or_left}
-use Rattle.bdb_graph.specs.of_format.File.{File}
-use Rattle.bdb_graph.specs.of_format.Graph.{Owner, owners, first_holder, is_anchor, is_reserve, reaches}
+use Rattle.bdb_graph.specs.of_format.Terms.{File, Owner, first_holder, is_anchor, is_reserve, owners, reaches}
 use Rattle.bdb_graph.proofs.of_format.GraphLemmas.{IsOwner, is_owner}
 use Rattle.bdb_graph.proofs.of_format.MemberLemmas.{first_member, member_or_not}
 use Rattle.bdb_graph.specs.Marks.{IsFit}

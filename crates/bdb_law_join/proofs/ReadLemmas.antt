@@ -5,10 +5,7 @@ use Rattle.std.proofs.lemmas.List.{ext_get_or, get_or-map, length-map}
 use Rattle.std.proofs.lemmas.List.FromFn.{get_or-map-range_with_len, length-map-range_with_len}
 use Rattle.bdb_graph.specs.of_format.declared.metadata.FileKind.{FileKind}
 use Rattle.bdb_graph.specs.of_format.declared.metadata.Head.{Head}
-use Rattle.bdb_graph.specs.of_format.Page.{Page, NoType}
-use Rattle.bdb_graph.specs.of_format.Reading.{abstract_page}
-use Rattle.bdb_graph.specs.of_format.HeadOf.{head_of}
-use Rattle.bdb_graph.specs.of_format.File.{File, file_of, page_bytes}
+use Rattle.bdb_graph.specs.of_format.Terms.{File, NoType, Page, abstract_page, file_of, head_of, page_bytes}
 use Rattle.bdb_pack.specs.Built.{AreWhole, Built, bytes_of, file_so_far, joined_pages}
 use Rattle.bdb_pack.specs.Stored.{TellsPages}
 use Rattle.bdb_pack.proofs.CutLemmas.{all_size, page_of_cut}

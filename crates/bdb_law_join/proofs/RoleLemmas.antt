@@ -5,10 +5,8 @@ use Rattle.std.specs.List.{Contains}
 use Rattle.std.proofs.lemmas.Bool.{eqb-false}
 use Rattle.bdb_graph.specs.of_format.declared.metadata.FileKind.{FileKind}
 use Rattle.bdb_graph.specs.of_format.declared.metadata.FileKind.TheVariants.{Btree, Hash as HashFile, Queue as QueueFile}
-use Rattle.bdb_graph.specs.of_format.Page.{Metadata, BtreeFields, HashFields, QueueFields, Page}
-use Rattle.bdb_graph.specs.of_format.File.{File, page_at, header_in}
-use Rattle.bdb_graph.specs.of_format.Graph.{Owner, owners, is_anchor, is_anchor_in, is_meta}
-use Rattle.bdb_graph.specs.of_format.Graph.{is_head_reference, has_heads_alone, HasRole, IsOwnedOnce, IsSharedHead}
+use Rattle.bdb_graph.specs.of_format.Terms.{BtreeFields, File, HasRole, HashFields, IsOwnedOnce, IsSharedHead, Metadata, Owner, Page, QueueFields}
+use Rattle.bdb_graph.specs.of_format.Terms.{has_heads_alone, header_in, is_anchor, is_anchor_in, is_head_reference, is_meta, owners, page_at}
 use Rattle.bdb_graph.proofs.of_format.GraphLemmas.{IsOwner, is_owner, anchor_unowned}
 use Rattle.bdb_graph.proofs.of_format.MemberLemmas.{first_member, member_or_not}
 use Rattle.bdb_pack.specs.of_law_grove.Part.{IsOwnedBy, are_heads_alone, entrances, entrance_sort, owners_among}

@@ -2,11 +2,9 @@
 use Rattle.std.proofs.Common.{◌≡◌, ◌⊎◌, ℕ, ◌+◌, ◌≤◌, true, false, List, [], Option, Some, None, arith, refl, ◌∙◌, subst, inl, inr}
 use Rattle.std.specs.List.{Contains}
 use Rattle.bdb_graph.specs.of_format.declared.references.Reference.{Reference}
-use Rattle.bdb_graph.specs.of_format.Table.{first_row}
-use Rattle.bdb_graph.specs.of_format.Page.{Metadata, Meta}
-use Rattle.bdb_graph.specs.of_format.File.{File, page_at}
-use Rattle.bdb_graph.specs.of_format.References.{refs, fit_rows, fit_code}
-use Rattle.bdb_graph.specs.of_format.Verdict.{fails_as, some_fails, reference_rows, reference_faults, holding}
+use Rattle.bdb_graph.specs.of_format.Terms.{File, Meta, Metadata, fails_as, first_row, fit_code, fit_rows, page_at, reference_faults, reference_rows, refs}
+use Rattle.bdb_graph.specs.of_format.Terms.{some_fails}
+use Rattle.bdb_graph.specs.of_format.Verdict.{holding}
 use Rattle.bdb_graph.proofs.of_format.MemberLemmas.{none_pass}
 use Rattle.bdb_graph.proofs.of_format.VerdictLemmas.{no_faults, none_holds}
 use Rattle.bdb_pack.specs.of_law_grove.Part.{entrance_sort, entrance_asks}

@@ -8,19 +8,12 @@ use Rattle.std.proofs.lemmas.Bool.{and_right, or_parts, or_from}
 use Rattle.bdb_graph.specs.of_format.declared.metadata.Head.{Head}
 use Rattle.bdb_graph.specs.of_format.declared.references.Reference.{Reference}
 use Rattle.bdb_graph.specs.of_format.declared.references.Sort.TheVariants.{Root}
-use Rattle.bdb_graph.specs.of_format.Table.{Row, ◌:?◌, first_row}
-use Rattle.bdb_graph.specs.of_format.Page.{Metadata, BtreeFields, HashFields, QueueFields, Page, Meta}
-use Rattle.bdb_graph.specs.of_format.Reading.{abstract_page}
-use Rattle.bdb_graph.specs.of_format.HeadOf.{head_of, head_rows}
-use Rattle.bdb_graph.specs.of_format.Rows.{form_code}
-use Rattle.bdb_graph.specs.of_format.File.{File, file_of, page_at, page_bytes}
-use Rattle.bdb_graph.specs.of_format.References.{refs}
-use Rattle.bdb_graph.specs.of_format.Graph.{Owner, all_references, held_by, is_meta}
-use Rattle.bdb_graph.specs.of_format.Chains.{chains_in, is_wrong_length}
-use Rattle.bdb_graph.specs.of_format.Leaves.{LeafPlace, is_root_reference, is_wrong_leaf, is_wrong_link, leaf_places, leaves, places_from, root_references}
-use Rattle.bdb_graph.specs.of_format.ContentRows.{contents_rows, database_rows, fields_in, fields_of, holds_code, holds_somewhere}
-use Rattle.bdb_graph.specs.of_format.Verdict.{holding, by_page, head_faults}
-use Rattle.bdb_graph.specs.of_format.Verdict.{tail_faults, form_faults, structure_rows, structure_faults, contents_faults}
+use Rattle.bdb_graph.specs.of_format.Terms.{BtreeFields, File, HashFields, LeafPlace, Meta, Metadata, Owner, Page, QueueFields, Row, abstract_page}
+use Rattle.bdb_graph.specs.of_format.Terms.{all_references, by_page, chains_in, contents_faults, contents_rows, database_rows, fields_in, fields_of, file_of}
+use Rattle.bdb_graph.specs.of_format.Terms.{first_row, form_code, form_faults, head_faults, head_of, head_rows, held_by, holds_code, holds_somewhere, is_meta}
+use Rattle.bdb_graph.specs.of_format.Terms.{is_root_reference, is_wrong_leaf, is_wrong_length, is_wrong_link, leaf_places, leaves, page_at, page_bytes}
+use Rattle.bdb_graph.specs.of_format.Terms.{places_from, refs, root_references, structure_faults, structure_rows, tail_faults, ◌:?◌}
+use Rattle.bdb_graph.specs.of_format.Verdict.{holding}
 use Rattle.bdb_graph.proofs.of_format.ListLemmas.{only_member}
 use Rattle.bdb_graph.proofs.of_format.MemberLemmas.{no_member, none_passes, none_pass, of_map, of_flat_map, of_filter, of_range}
 use Rattle.bdb_graph.proofs.of_format.VerdictLemmas.{AllFail, all_fail, no_faults, none_holds}

@@ -4,10 +4,7 @@ use Rattle.std.proofs.Common.{arith, refl, sym, ◌∙◌}
 use Rattle.std.specs.List.{Contains}
 use Rattle.std.proofs.lemmas.List.{get_or-set_other, get_or-set_same, length-set}
 use Rattle.bdb_graph.specs.of_format.declared.metadata.BtreeMeta.{BtreeMeta}
-use Rattle.bdb_graph.specs.of_format.Rows.{page_code}
-use Rattle.bdb_graph.specs.of_format.File.{File}
-use Rattle.bdb_graph.specs.of_format.HeadOf.{head_of}
-use Rattle.bdb_graph.specs.of_format.Lists.{ListKey}
+use Rattle.bdb_graph.specs.of_format.Terms.{File, ListKey, head_of, page_code}
 use Rattle.bdb_graph.proofs.of_format.MemberLemmas.{first_member}
 use Rattle.bdb_graph.proofs.of_format.FileLemmas.{last_page}
 use Rattle.bdb_pack.specs.of_law_grove.Growing.{IsCounted, IsLater}

@@ -1,12 +1,7 @@
 -- One part under page 0, which is no master. Source: docs/FORMAT.md, "Faults" and "Databases of a file".
 use Rattle.std.specs.Prelude.{◌≡◌, ℕ, ◌≤◌, true, List, [], ◌∷◌, None}
 use Rattle.bdb_graph.specs.of_format.declared.metadata.FileKind.TheVariants.{Queue}
-use Rattle.bdb_graph.specs.of_format.Page.{Meta}
-use Rattle.bdb_graph.specs.of_format.File.{File, file_of, page_at}
-use Rattle.bdb_graph.specs.of_format.Lists.{list_of}
-use Rattle.bdb_graph.specs.of_format.Master.{master_in}
-use Rattle.bdb_graph.specs.of_format.Databases.{databases}
-use Rattle.bdb_graph.specs.of_format.Verdict.{faults_of, verdict_of}
+use Rattle.bdb_graph.specs.of_format.Terms.{File, Meta, databases, faults_of, file_of, list_of, master_in, page_at, verdict_of}
 use Rattle.bdb_pack.specs.of_law_grove.Part.{Part, IsPart}
 use Rattle.bdb_law_join.specs.Joining.{HasForm, free_of}
 

@@ -5,10 +5,7 @@ use Rattle.std.specs.List.{Contains}
 use Rattle.bdb_graph.specs.of_format.declared.metadata.BtreeMeta.{BtreeMeta}
 use Rattle.bdb_graph.specs.of_format.declared.metadata.FileKind.TheVariants.{Btree}
 use Rattle.bdb_graph.specs.of_format.declared.metadata.Head.{Head}
-use Rattle.bdb_graph.specs.of_format.Page.{BtreeFields, Meta}
-use Rattle.bdb_graph.specs.of_format.Reading.{abstract_page}
-use Rattle.bdb_graph.specs.of_format.Rows.{form_code, page_code}
-use Rattle.bdb_graph.specs.of_format.File.{File}
+use Rattle.bdb_graph.specs.of_format.Terms.{BtreeFields, File, Meta, abstract_page, form_code, page_code}
 use Rattle.bdb_pack.specs.of_law_grove.Growing.{IsCounted, IsLater}
 use Rattle.bdb_pack.specs.of_law_grove.Part.{IsPart}
 use Rattle.bdb_pack.specs.Built.{Built, bytes_of, file_so_far, joined_pages}

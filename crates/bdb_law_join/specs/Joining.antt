@@ -3,13 +3,8 @@
 use Rattle.std.specs.Prelude.{◌≡◌, ◌⊎◌, ℕ, ◌+◌, ◌≤◌, true, List, [], None}
 use Rattle.std.specs.List.{Contains}
 use Rattle.bdb_graph.specs.of_format.declared.metadata.FileKind.TheVariants.{Queue}
-use Rattle.bdb_graph.specs.of_format.Table.{first_row}
-use Rattle.bdb_graph.specs.of_format.Page.{Metadata, BtreeFields, HashFields, QueueFields, Meta}
-use Rattle.bdb_graph.specs.of_format.HeadOf.{head_of, head_rows}
-use Rattle.bdb_graph.specs.of_format.Rows.{form_code}
-use Rattle.bdb_graph.specs.of_format.File.{File, file_of, page_at, page_bytes}
-use Rattle.bdb_graph.specs.of_format.Lists.{list_of}
-use Rattle.bdb_graph.specs.of_format.Verdict.{faults_of, master_faults}
+use Rattle.bdb_graph.specs.of_format.Terms.{BtreeFields, File, HashFields, Meta, Metadata, QueueFields, faults_of, file_of, first_row, form_code, head_of}
+use Rattle.bdb_graph.specs.of_format.Terms.{head_rows, list_of, master_faults, page_at, page_bytes}
 use Rattle.bdb_pack.specs.of_law_grove.Part.{Part, IsPart}
 
 -- a metadata page, and the part that it names

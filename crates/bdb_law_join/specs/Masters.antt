@@ -2,12 +2,8 @@
 use Rattle.std.specs.Prelude.{◌≡◌, ℕ, ◌≤◌, true, false, List, [], ◌∷◌, length, Some}
 use Rattle.std.specs.List.{AllZip, Contains, filter}
 use Rattle.bdb_graph.specs.of_format.declared.metadata.BtreeMeta.{BtreeMeta}
-use Rattle.bdb_graph.specs.of_format.Page.{BtreeFields, Meta}
-use Rattle.bdb_graph.specs.of_format.Flags.{has_duplicates, names_databases}
-use Rattle.bdb_graph.specs.of_format.File.{File, file_of, page_at}
-use Rattle.bdb_graph.specs.of_format.Lists.{BytesKey, ListKey, is_key, list_of}
-use Rattle.bdb_graph.specs.of_format.Master.{is_page, page_named}
-use Rattle.bdb_graph.specs.of_format.Databases.{Database, databases}
+use Rattle.bdb_graph.specs.of_format.Terms.{BtreeFields, BytesKey, Database, File, ListKey, Meta, databases, file_of, has_duplicates, is_key, is_page, list_of}
+use Rattle.bdb_graph.specs.of_format.Terms.{names_databases, page_at, page_named}
 use Rattle.bdb_law_join.specs.Joining.{HoldsLists, IsJoined, IsMetaOf, Joint}
 
 -- an entry of the list of a master: a name, and the bytes that name a page

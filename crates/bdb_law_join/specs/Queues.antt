@@ -2,10 +2,7 @@
 use Rattle.std.specs.Prelude.{◌≡◌, ℕ, List, [], ◌∷◌, None}
 use Rattle.bdb_graph.specs.of_format.declared.metadata.FileKind.TheVariants.{Queue}
 use Rattle.bdb_graph.specs.of_format.declared.metadata.QueueMeta.{QueueMeta}
-use Rattle.bdb_graph.specs.of_format.Page.{Meta, QueueFields}
-use Rattle.bdb_graph.specs.of_format.File.{file_of, page_at}
-use Rattle.bdb_graph.specs.of_format.Databases.{databases}
-use Rattle.bdb_graph.specs.of_format.Verdict.{faults_in, faults_of, verdict_of}
+use Rattle.bdb_graph.specs.of_format.Terms.{Meta, QueueFields, databases, faults_in, faults_of, file_of, page_at, verdict_of}
 
 -- the file is sound, and has one database, a queue without a name
 pub record IsSoundQueue (image : List ℕ) : Type 0 where

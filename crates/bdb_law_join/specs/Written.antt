@@ -3,15 +3,8 @@
 use Rattle.std.specs.Prelude.{◌≡◌, ℕ, ◌-◌, ◌<◌, ◌≤◌, ◌^◌, IsTrue, false, List, length, None}
 use Rattle.bdb_graph.specs.of_format.declared.metadata.BtreeMeta.{BtreeMeta}
 use Rattle.bdb_graph.specs.of_format.declared.metadata.FileKind.TheVariants.{Btree}
-use Rattle.bdb_graph.specs.of_format.Table.{first_row}
-use Rattle.bdb_graph.specs.of_format.Page.{BtreeFields}
-use Rattle.bdb_graph.specs.of_format.Reading.{btree_fields}
-use Rattle.bdb_graph.specs.of_format.Rows.{page_code}
-use Rattle.bdb_graph.specs.of_format.Spelling.{btree_bytes}
-use Rattle.bdb_graph.specs.of_format.Flags.{names_databases}
-use Rattle.bdb_graph.specs.of_format.HeadOf.{head_of, head_rows, is_page_size}
-use Rattle.bdb_graph.specs.of_format.File.{File, file_of}
-use Rattle.bdb_graph.specs.of_format.Lists.{ListKey}
+use Rattle.bdb_graph.specs.of_format.Terms.{BtreeFields, File, ListKey, btree_bytes, btree_fields, file_of, first_row, head_of, head_rows, is_page_size}
+use Rattle.bdb_graph.specs.of_format.Terms.{names_databases, page_code}
 use Rattle.bdb_pack.specs.of_law_grove.Part.{IsPart, Part, between}
 use Rattle.bdb_pack.specs.of_law_grove.Growing.{IsCounted, IsLater}
 use Rattle.bdb_graph.specs.of_meta.RowGroups.{flag_rows}

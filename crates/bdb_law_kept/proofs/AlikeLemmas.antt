@@ -8,21 +8,15 @@ use Rattle.std.proofs.Math.Nat.{div-mul-le_self, mul-le-mul_right}
 use Rattle.bdb_databases.specs.of_format.declared.kinds.Kind.{Kind}
 use Rattle.bdb_databases.specs.of_format.declared.kinds.Kind.TheVariants.{Btree, Recno, Hash, Queue}
 use Rattle.bdb_databases.specs.of_format.declared.settings.Settings.{Settings}
-use Rattle.bdb_databases.specs.of_format.Databases.{btree_settings, recno_settings}
-use Rattle.bdb_databases.specs.of_format.File.{file_of}
-use Rattle.bdb_databases.specs.of_format.Flags.{is_recno}
-use Rattle.bdb_databases.specs.of_format.HeadOf.{head_of}
-use Rattle.bdb_databases.specs.of_format.Lists.{ListKey, list_of}
-use Rattle.bdb_databases.specs.of_format.Numbers.{pad4}
-use Rattle.bdb_databases.specs.of_format.Page.{BtreeFields, HashFields, Metadata, QueueFields}
-use Rattle.bdb_databases.specs.of_format.Rows.{records_per_page}
+use Rattle.bdb_databases.specs.of_format.Terms.{BtreeFields, HashFields, ListKey, Metadata, QueueFields, btree_settings, file_of, head_of, is_recno, list_of}
+use Rattle.bdb_databases.specs.of_format.Terms.{pad4, recno_settings, records_per_page}
 use Rattle.bdb_databases.proofs.of_format.ListLemmas.{all_of}
 use Rattle.bdb_databases.proofs.of_format.MemberLemmas.{in_map}
 use Rattle.bdb_databases.specs.of_image.Linked.{HasMetadata, IsForest}
 use Rattle.bdb_settle.specs.of_text_format.declared.pairs.Key.{Key}
 use Rattle.bdb_settle.specs.of_text_format.declared.pairs.Key.TheVariants.{Bytes, Number}
 use Rattle.bdb_settle.specs.of_text_format.declared.pairs.TextPair.{TextPair}
-use Rattle.bdb_settle.specs.of_text_format.Written.{has_sets, holds_records, is_queue}
+use Rattle.bdb_settle.specs.of_text_format.Terms.{has_sets, holds_records, is_queue}
 use Rattle.bdb_databases.proofs.of_queue.QueueLemmas.{IsQueue, queue_is}
 use Rattle.bdb_settle.specs.Loaded.{has_length, keeps_data, sorts_data}
 use Rattle.bdb_settle.specs.LoadErrors.{is_too_wide, is_zero, pair_errors}

@@ -11,22 +11,15 @@ use Rattle.std.proofs.lemmas.List.Elements.{All-append, All-cons, All-contains, 
 use Rattle.bdb_databases.specs.of_format.declared.kinds.Order.{Order}
 use Rattle.bdb_databases.specs.of_format.declared.kinds.Order.TheVariants.{Big, Little}
 use Rattle.bdb_databases.specs.of_format.declared.metadata.HashMeta.{HashMeta}
-use Rattle.bdb_databases.specs.of_format.Chains.{chain, joined, piece_in, pieces_of, value_of}
-use Rattle.bdb_databases.specs.of_format.Contents.{StoredPair, bucket_pages, bucket_pairs, data_of, entries_in, live_values, pair_at, pairs_in, pairs_of}
-use Rattle.bdb_databases.specs.of_format.Contents.{table_pairs, tree_entries, tree_pairs}
-use Rattle.bdb_databases.specs.of_format.ContentRows.{live_data}
-use Rattle.bdb_databases.specs.of_format.File.{File, file_of, page_at, page_bytes}
-use Rattle.bdb_databases.specs.of_format.HeadOf.{head_of}
-use Rattle.bdb_databases.specs.of_format.Leaves.{leaves}
-use Rattle.bdb_databases.specs.of_format.Numbers.{byte_at, four_at, from_low_end, number, number_at, two_at}
-use Rattle.bdb_databases.specs.of_format.Page.{Content, Chain, Inline, Item, Listed, Set, Tree, Unknown, Page}
-use Rattle.bdb_databases.specs.of_format.Page.{Hash, Leaf, RecnoLeaf, DupLeaf, Overflow, Queue, Zero}
+use Rattle.bdb_databases.specs.of_format.Terms.{Chain, Content, DupLeaf, File, Hash, Inline, Item, Leaf, Listed, Overflow, Page, Queue, RecnoLeaf, Set}
+use Rattle.bdb_databases.specs.of_format.Terms.{StoredPair, Tree, Unknown, Zero, abstract_page, blocks_in, blocks_of, bucket_pages, bucket_pairs, byte_at}
+use Rattle.bdb_databases.specs.of_format.Terms.{chain, data_of, entries_in, file_of, four_at, from_low_end, hash_end, hash_item_at, head_of, is_shared_key}
+use Rattle.bdb_databases.specs.of_format.Terms.{is_zero, item_at, joined, kind_at, leaf_item_at, leaves, listed, live_data, live_values, no_item, number}
+use Rattle.bdb_databases.specs.of_format.Terms.{number_at, offset_of, page_as, page_at, page_bytes, page_type, pair_at, pairs_in, pairs_of, piece_in}
+use Rattle.bdb_databases.specs.of_format.Terms.{pieces_of, table_pairs, tree_entries, tree_pairs, two_at, value_of}
 use Rattle.bdb_databases.specs.of_format.declared.pages.PageType.{PageType}
 use Rattle.bdb_databases.specs.of_format.declared.pages.PageType.TheVariants.{Hash as HashPage, Leaf as LeafPage, RecnoLeaf as RecnoLeafPage}
 use Rattle.bdb_databases.specs.of_format.declared.pages.PageType.TheVariants.{DupLeaf as DupLeafPage, Overflow as OverflowPage, Queue as QueuePage}
-use Rattle.bdb_databases.specs.of_format.Reading.{abstract_page, blocks_in, blocks_of, hash_end, hash_item_at, is_zero, kind_at, leaf_item_at, listed, offset_of}
-use Rattle.bdb_databases.specs.of_format.Reading.{page_as, page_type}
-use Rattle.bdb_databases.specs.of_format.References.{is_shared_key, item_at, no_item}
 use Rattle.bdb_databases.proofs.of_format.ListLemmas.{all_of, only_member}
 use Rattle.bdb_databases.proofs.of_format.MemberLemmas.{no_member, of_filter, of_flat_map, of_map}
 use Rattle.bdb_databases.proofs.of_format.FileLemmas.{last_page, page_is, past_last}

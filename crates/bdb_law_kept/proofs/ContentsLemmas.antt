@@ -7,14 +7,11 @@ use Rattle.bdb_databases.specs.of_format.declared.kinds.Order.{Order}
 use Rattle.bdb_databases.specs.of_format.declared.metadata.BtreeMeta.{BtreeMeta}
 use Rattle.bdb_databases.specs.of_format.declared.metadata.HashMeta.{HashMeta}
 use Rattle.bdb_databases.specs.of_format.declared.settings.Settings.{Settings}
-use Rattle.bdb_databases.specs.of_format.ContentRows.{btree_contents, database_faults, database_rows, repeated}
-use Rattle.bdb_databases.specs.of_format.Contents.{StoredPair, bucket_pairs, table_pairs, tree_pairs}
-use Rattle.bdb_databases.specs.of_format.Databases.{btree_settings, hash_settings, recno_settings, settings_of}
-use Rattle.bdb_databases.specs.of_format.File.{File, file_of}
-use Rattle.bdb_databases.specs.of_format.Flags.{is_recno}
-use Rattle.bdb_databases.specs.of_format.Lists.{ListKey, btree_list, by_key, hash_list, list_of, listed_pair, recno_list}
-use Rattle.bdb_databases.specs.of_format.Page.{BtreeFields, HashFields, Metadata, QueueFields}
-use Rattle.bdb_databases.specs.of_format.Verdict.{holding, structure_faults}
+use Rattle.bdb_databases.specs.of_format.Terms.{BtreeFields, File, HashFields, ListKey, Metadata, QueueFields, StoredPair, btree_contents, btree_list}
+use Rattle.bdb_databases.specs.of_format.Terms.{btree_settings, bucket_pairs, by_key, database_faults, database_rows, file_of, hash_list, hash_settings}
+use Rattle.bdb_databases.specs.of_format.Terms.{is_recno, list_of, listed_pair, recno_list, recno_settings, repeated, settings_of, structure_faults}
+use Rattle.bdb_databases.specs.of_format.Terms.{table_pairs, tree_pairs}
+use Rattle.bdb_databases.specs.of_format.Verdict.{holding}
 use Rattle.bdb_databases.proofs.of_format.MemberLemmas.{is_empty, none_passes, of_flat_map, of_range}
 use Rattle.bdb_databases.proofs.of_format.PairLemmas.{keyed_rows}
 use Rattle.bdb_databases.proofs.of_format.RepeatLemmas.{of_repeated, repeated_is}
@@ -24,7 +21,7 @@ use Rattle.bdb_databases.proofs.of_btree.FallLemmas.{tree_keys}
 use Rattle.bdb_databases.proofs.of_tree.PairLemmas.{tree_pair_inside}
 use Rattle.bdb_databases.proofs.of_buckets.PlainLemmas.{IsPlain, bucket_plain}
 use Rattle.bdb_databases.proofs.of_buckets.TableLemmas.{table_is}
-use Rattle.bdb_settle.specs.of_text_format.Written.{holds_records}
+use Rattle.bdb_settle.specs.of_text_format.Terms.{holds_records}
 use Rattle.bdb_law_kept.proofs.KeyedLemmas.{GoesBefore, HasFitData, NoRowHolds, fit_data, in_order, of_by_key, of_listed, pairs_go, pairs_ordered}
 use Rattle.bdb_law_kept.proofs.KeyedLemmas.{table_goes}
 use Rattle.bdb_law_kept.specs.Later.{AllLater}

@@ -8,21 +8,15 @@ use Rattle.bdb_databases.specs.of_format.declared.kinds.Kind.TheVariants.{Btree,
 use Rattle.bdb_databases.specs.of_format.declared.kinds.Order.{Order}
 use Rattle.bdb_databases.specs.of_format.declared.metadata.BtreeMeta.{BtreeMeta}
 use Rattle.bdb_databases.specs.of_format.declared.settings.Settings.{Settings}
-use Rattle.bdb_databases.specs.of_format.ContentRows.{ascends, fields_in}
-use Rattle.bdb_databases.specs.of_format.Master.{master_in}
+use Rattle.bdb_databases.specs.of_format.Terms.{BtreeFields, Database, File, HashFields, Meta, Metadata, Page, QueueFields, ascends, btree_settings, databases}
+use Rattle.bdb_databases.specs.of_format.Terms.{databases_under, fields_in, file_of, head_of, is_recno, list_of, master_in, page_at, recno_settings}
+use Rattle.bdb_databases.specs.of_format.Terms.{settings_of}
 use Rattle.bdb_databases.proofs.NamedLemmas.{with_name}
-use Rattle.bdb_databases.specs.of_format.Databases.{Database, btree_settings, databases, databases_under, recno_settings, settings_of}
-use Rattle.bdb_databases.specs.of_format.File.{File, file_of, page_at}
-use Rattle.bdb_databases.specs.of_format.Flags.{is_recno}
-use Rattle.bdb_databases.specs.of_format.HeadOf.{head_of}
-use Rattle.bdb_databases.specs.of_format.Lists.{list_of}
-use Rattle.bdb_databases.specs.of_format.Page.{BtreeFields, HashFields, Meta, Metadata, Page, QueueFields}
 use Rattle.bdb_databases.proofs.of_format.ListLemmas.{all_of}
 use Rattle.bdb_databases.proofs.of_format.MemberLemmas.{first_member, later_member, of_map}
 use Rattle.bdb_settle.specs.of_text_format.declared.pairs.TextPair.{TextPair}
 use Rattle.bdb_settle.specs.of_text_format.declared.sections.Section.{Section}
-use Rattle.bdb_settle.specs.of_text_format.LineEnd.{line}
-use Rattle.bdb_settle.specs.of_text_format.Written.{data_end, database_text, dump_text, header_lines, is_queue, pair_lines, section_lines, section_text}
+use Rattle.bdb_settle.specs.of_text_format.Terms.{data_end, database_text, dump_text, header_lines, is_queue, line, pair_lines, section_lines, section_text}
 use Rattle.bdb_settle.specs.declared.load_error.LoadError.{LoadError}
 use Rattle.bdb_settle.specs.LoadErrors.{is_among_names, is_too_wide, page_size_in, pair_errors, section_errors, sooner, where_so}
 use Rattle.bdb_text.specs.WrittenLaw.{AreSectionsOf, CanBeWritten, IsSectionOf, IsWritable, written_of}

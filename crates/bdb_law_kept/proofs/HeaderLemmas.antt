@@ -10,9 +10,8 @@ use Rattle.bdb_databases.specs.of_format.declared.kinds.Order.TheVariants.{Big, 
 use Rattle.bdb_databases.specs.of_format.declared.settings.Settings.{Settings}
 use Rattle.std.proofs.lemmas.List.{append_cancel_right}
 use Rattle.std.proofs.Math.Bool.{and-false}
-use Rattle.bdb_settle.specs.of_text_format.Header.{entries, given, is_value}
-use Rattle.bdb_settle.specs.of_text_format.Keywords.{number_read}
-use Rattle.bdb_settle.specs.of_text_format.Written.{entry_line, header_end, header_lines, header_table, kind_text, order_text, written}
+use Rattle.bdb_settle.specs.of_text_format.Terms.{entries, entry_line, given, header_end, header_lines, header_table, is_value, kind_text, number_read}
+use Rattle.bdb_settle.specs.of_text_format.Terms.{order_text, written}
 use Rattle.bdb_text.proofs.LineLemmas.{entries-written, given-written}
 use Rattle.bdb_text.proofs.LookedLemmas.{looked, made}
 use Rattle.bdb_text.proofs.ValueLemmas.{number_read-decimal}

@@ -9,20 +9,16 @@ use Rattle.std.proofs.lemmas.List.Elements.{Contains-append_left, Contains-appen
 use Rattle.std.proofs.lemmas.List.Sums.{take_while-cons}
 use Rattle.bdb_databases.proofs.of_btree.CheckLemmas.{group_in}
 use Rattle.bdb_databases.specs.of_format.declared.settings.Settings.{Settings}
-use Rattle.bdb_databases.specs.of_format.ContentRows.{ascends, ascends_from, groups, has_duplicate, has_unsorted, is_duplicate, is_out_of_order, is_set}
-use Rattle.bdb_databases.specs.of_format.ContentRows.{is_unsorted, live_data, neighbours, neighbours_from}
-use Rattle.bdb_databases.specs.of_format.Contents.{StoredPair, data_of}
-use Rattle.bdb_databases.specs.of_format.File.{File}
-use Rattle.bdb_databases.specs.of_format.Less.{less}
-use Rattle.bdb_databases.specs.of_format.Lists.{ListKey, BytesKey, by_key, insert_pair, listed_pair}
-use Rattle.bdb_databases.specs.of_format.Page.{Content, Chain, Inline, Set, Tree, Unknown}
+use Rattle.bdb_databases.specs.of_format.Terms.{BytesKey, Chain, Content, File, Inline, ListKey, Set, StoredPair, Tree, Unknown, ascends, ascends_from, by_key}
+use Rattle.bdb_databases.specs.of_format.Terms.{data_of, groups, has_duplicate, has_unsorted, insert_pair, is_duplicate, is_out_of_order, is_set, is_unsorted}
+use Rattle.bdb_databases.specs.of_format.Terms.{less, listed_pair, live_data, neighbours, neighbours_from}
 use Rattle.bdb_databases.proofs.of_format.BoolLemmas.{second_false}
 use Rattle.bdb_databases.proofs.of_format.ListLemmas.{only_member}
 use Rattle.bdb_databases.proofs.of_format.MemberLemmas.{first_member, in_flat_map, later_member, member_cases, no_member, none_passes, of_map}
 use Rattle.bdb_databases.proofs.of_format.RepeatLemmas.{has_key, repeated_after}
 use Rattle.bdb_databases.proofs.of_format.LessLemmas.{eq_self, less_trans, same_unless_less}
 use Rattle.bdb_databases.proofs.of_btree.FallLemmas.{ShareKeys}
-use Rattle.bdb_settle.specs.of_text_format.Written.{holds_records}
+use Rattle.bdb_settle.specs.of_text_format.Terms.{holds_records}
 use Rattle.bdb_settle.specs.Loaded.{keeps_data, sorts_data}
 use Rattle.bdb_law_kept.specs.Later.{AllLater}
 use Rattle.bdb_law_kept.proofs.LaterLemmas.{later_flat, later_map, later_one, later_other}

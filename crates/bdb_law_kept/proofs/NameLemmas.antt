@@ -8,15 +8,9 @@ use Rattle.bdb_databases.specs.of_format.declared.kinds.Kind.TheVariants.{Queue}
 use Rattle.bdb_databases.specs.of_format.declared.metadata.BtreeMeta.{BtreeMeta}
 use Rattle.bdb_databases.specs.of_format.declared.metadata.QueueMeta.{QueueMeta}
 use Rattle.bdb_databases.specs.of_format.declared.metadata.FileKind.TheVariants.{Queue as QueueFile}
-use Rattle.bdb_databases.specs.of_format.ContentRows.{fields_in}
-use Rattle.bdb_databases.specs.of_format.Databases.{Database, btree_settings, database_on, databases, databases_under, is_name, named_database, recno_settings}
-use Rattle.bdb_databases.specs.of_format.File.{File, file_of, page_at, page_bytes}
-use Rattle.bdb_databases.specs.of_format.Flags.{is_recno}
-use Rattle.bdb_databases.specs.of_format.HeadOf.{head_of}
-use Rattle.bdb_databases.specs.of_format.Less.{less}
-use Rattle.bdb_databases.specs.of_format.Master.{master_in, master_pairs, named_by}
-use Rattle.bdb_databases.specs.of_format.Numbers.{byte_at}
-use Rattle.bdb_databases.specs.of_format.Page.{BtreeFields, HashFields, Meta, Metadata, Page, QueueFields}
+use Rattle.bdb_databases.specs.of_format.Terms.{BtreeFields, Database, File, HashFields, Meta, Metadata, Page, QueueFields, btree_settings, byte_at}
+use Rattle.bdb_databases.specs.of_format.Terms.{database_on, databases, databases_under, fields_in, file_of, head_of, is_name, is_recno, less, master_in}
+use Rattle.bdb_databases.specs.of_format.Terms.{master_pairs, named_by, named_database, page_at, page_bytes, recno_settings}
 use Rattle.bdb_databases.proofs.of_format.GraphLemmas.{type_fits}
 use Rattle.bdb_databases.proofs.of_format.ListLemmas.{only_member}
 use Rattle.bdb_databases.proofs.of_format.LessLemmas.{eq_same, less_self}

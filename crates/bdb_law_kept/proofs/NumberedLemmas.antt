@@ -10,18 +10,11 @@ use Rattle.bdb_databases.specs.of_format.declared.metadata.BtreeMeta.{BtreeMeta}
 use Rattle.bdb_databases.specs.of_format.declared.metadata.QueueMeta.{QueueMeta}
 use Rattle.bdb_databases.specs.of_format.declared.kinds.Order.{Order}
 use Rattle.bdb_databases.specs.of_format.declared.settings.Settings.{Settings}
-use Rattle.bdb_databases.specs.of_format.ContentRows.{btree_contents, database_faults, database_rows, has_wrong_record, is_wrong_at, is_wrong_record}
-use Rattle.bdb_databases.specs.of_format.ContentRows.{recno_contents}
-use Rattle.bdb_databases.specs.of_format.Chains.{value_of}
-use Rattle.bdb_databases.specs.of_format.Contents.{entries_in, tree_entries}
-use Rattle.bdb_databases.specs.of_format.Databases.{queue_settings, recno_settings}
-use Rattle.bdb_databases.specs.of_format.File.{File, file_of, no_header, page_at}
-use Rattle.bdb_databases.specs.of_format.Flags.{is_fixed, is_recno}
-use Rattle.bdb_databases.specs.of_format.Leaves.{leaves}
-use Rattle.bdb_databases.specs.of_format.Lists.{ListKey, BytesKey, NumberKey, is_record, listed_entry, listed_slot, page_records, queue_list, recno_list}
-use Rattle.bdb_databases.specs.of_format.Lists.{record_number, slot_at}
-use Rattle.bdb_databases.specs.of_format.Numbers.{pad4}
-use Rattle.bdb_databases.specs.of_format.Page.{BtreeFields, Item, Page, Queue, QueueFields}
+use Rattle.bdb_databases.specs.of_format.Terms.{BtreeFields, BytesKey, File, Item, ListKey, NumberKey, Page, Queue, QueueFields, btree_contents}
+use Rattle.bdb_databases.specs.of_format.Terms.{database_faults, database_rows, entries_in, file_of, has_wrong_record, is_fixed, is_recno, is_record}
+use Rattle.bdb_databases.specs.of_format.Terms.{is_wrong_at, is_wrong_record, leaves, listed_entry, listed_slot, no_header, pad4, page_at, page_records}
+use Rattle.bdb_databases.specs.of_format.Terms.{queue_list, queue_settings, recno_contents, recno_list, recno_settings, record_number, slot_at, tree_entries}
+use Rattle.bdb_databases.specs.of_format.Terms.{value_of}
 use Rattle.bdb_databases.specs.of_format.Verdict.{holding}
 use Rattle.bdb_databases.proofs.of_format.BoolLemmas.{second_false}
 use Rattle.bdb_databases.proofs.of_format.ListLemmas.{only_member}

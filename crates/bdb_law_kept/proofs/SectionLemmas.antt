@@ -9,12 +9,9 @@ use Rattle.bdb_databases.specs.of_format.declared.settings.Settings.{Settings}
 use Rattle.bdb_databases.proofs.of_format.SizeLemmas.{size_bounds}
 use Rattle.bdb_settle.specs.of_text_format.declared.pairs.TextPair.{TextPair}
 use Rattle.bdb_settle.specs.of_text_format.declared.sections.Section.{Section}
-use Rattle.bdb_settle.specs.of_text_format.Header.{Values, has_type, name_in, number_or, settings_in, values}
-use Rattle.bdb_settle.specs.of_text_format.Reasons.{Parts, lines_with, names_with, parts_of}
-use Rattle.bdb_settle.specs.of_text_format.Sections.{Reads, begin_with, header_fits, nothing_left, pairs_read, parts_read, section_read, sections_from, sections_in}
-use Rattle.bdb_settle.specs.of_text_format.Sections.{text_sections, with_pairs, with_section}
-use Rattle.bdb_settle.specs.of_text_format.TextLines.{is_data_end, text_lines}
-use Rattle.bdb_settle.specs.of_text_format.Written.{version_line}
+use Rattle.bdb_settle.specs.of_text_format.Terms.{Parts, Reads, Values, begin_with, has_type, header_fits, is_data_end, lines_with, name_in, names_with}
+use Rattle.bdb_settle.specs.of_text_format.Terms.{nothing_left, number_or, pairs_read, parts_of, parts_read, section_read, sections_from, sections_in}
+use Rattle.bdb_settle.specs.of_text_format.Terms.{settings_in, text_lines, text_sections, values, version_line, with_pairs, with_section}
 use Rattle.bdb_law_sections.specs.Fit.{AreFitSettings, IsFitSection}
 use Rattle.bdb_law_sections.proofs.SectionLemmas.{read_sections_are_fit}
 use Rattle.bdb_law_kept.proofs.HeaderLemmas.{TellsLength}

@@ -4,8 +4,7 @@ use Rattle.std.proofs.Common.{◌∙◌, ap, subst, inl, inr}
 use Rattle.std.specs.Prelude.{◌⊎◌, ◌&&◌, ◌||◌, ◌%◌, replicate}
 use Rattle.std.specs.List.{All, Contains, fold}
 use Rattle.bdb_databases.specs.of_format.declared.settings.Settings.{Settings}
-use Rattle.bdb_databases.specs.of_format.Less.{less}
-use Rattle.bdb_databases.specs.of_format.Lists.{ListKey, BytesKey, NumberKey}
+use Rattle.bdb_databases.specs.of_format.Terms.{BytesKey, ListKey, NumberKey, less}
 use Rattle.bdb_databases.proofs.of_format.ListLemmas.{all_of, only_member}
 use Rattle.bdb_databases.proofs.of_format.MemberLemmas.{first_member, later_member, no_member}
 use Rattle.bdb_databases.proofs.of_format.LessLemmas.{less_not_back}
@@ -14,7 +13,7 @@ use Rattle.bdb_settle.specs.of_text_format.declared.pairs.Pair.{Pair}
 use Rattle.bdb_settle.specs.of_text_format.declared.pairs.Key.{Key}
 use Rattle.bdb_settle.specs.of_text_format.declared.pairs.Key.TheVariants.{Bytes, Number}
 use Rattle.bdb_settle.specs.of_text_format.declared.pairs.TextPair.{TextPair}
-use Rattle.bdb_settle.specs.of_text_format.Pairs.{listed, listed_key}
+use Rattle.bdb_settle.specs.of_text_format.Terms.{listed, listed_key}
 use Rattle.bdb_settle.specs.Loaded.{loaded_pair, has_length, keeps_data, key_less, loaded, put, sorts_data, stands_before, with_loaded}
 use Rattle.bdb_settle.specs.Settling.{stays}
 use Rattle.bdb_settle.proofs.KeyOrderLemmas.{key_less_self, key_one_way, pairs_weakly}

@@ -3,11 +3,7 @@ use Rattle.std.proofs.Common.{◌≡◌, ℕ, List, [], ◌∷◌, None, refl, s
 use Rattle.std.specs.List.{Contains}
 use Rattle.std.proofs.lemmas.List.{get_or_default}
 use Rattle.bdb_databases.specs.of_format.declared.kinds.Fault.{Fault}
-use Rattle.bdb_databases.specs.of_format.Databases.{Database, databases}
-use Rattle.bdb_databases.specs.of_format.File.{file_of}
-use Rattle.bdb_databases.specs.of_format.HeadOf.{head_of}
-use Rattle.bdb_databases.specs.of_format.Lists.{list_of}
-use Rattle.bdb_databases.specs.of_format.Verdict.{faults_of, first_judgement}
+use Rattle.bdb_databases.specs.of_format.Terms.{Database, databases, faults_of, file_of, first_judgement, head_of, list_of}
 use Rattle.bdb_databases.proofs.of_format.VerdictLemmas.{no_stage, none_in}
 use Rattle.bdb_databases.specs.of_image.Linked.{HasMetadata, IsForest}
 use Rattle.bdb_databases.specs.Named.{no_database}

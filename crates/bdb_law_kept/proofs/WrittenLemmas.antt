@@ -10,26 +10,18 @@ use Rattle.bdb_databases.specs.of_format.declared.kinds.Order.{Order}
 use Rattle.bdb_databases.specs.of_format.declared.metadata.BtreeMeta.{BtreeMeta}
 use Rattle.bdb_databases.specs.of_format.declared.metadata.HashMeta.{HashMeta}
 use Rattle.bdb_databases.specs.of_format.declared.metadata.QueueMeta.{QueueMeta}
-use Rattle.bdb_databases.specs.of_format.ContentRows.{fields_in}
-use Rattle.bdb_databases.specs.of_format.Contents.{StoredPair, table_pairs, tree_entries, tree_pairs}
-use Rattle.bdb_databases.specs.of_format.Databases.{Database, btree_settings, database_on, databases, databases_under, hash_settings, named_database}
-use Rattle.bdb_databases.specs.of_format.Databases.{queue_settings, recno_settings}
-use Rattle.bdb_databases.specs.of_format.File.{File, file_of, page_at, page_bytes}
-use Rattle.bdb_databases.specs.of_format.Flags.{is_recno}
-use Rattle.bdb_databases.specs.of_format.HeadOf.{head_of, is_page_size}
-use Rattle.bdb_databases.specs.of_format.Lists.{ListKey, BytesKey, NumberKey, btree_list, by_key, hash_list, is_record, list_of, listed_pair, queue_list}
-use Rattle.bdb_databases.specs.of_format.Lists.{recno_list, record_number, slot_at}
-use Rattle.bdb_databases.specs.of_format.Master.{master_in, master_pairs, named_by, pairs_under}
-use Rattle.bdb_databases.specs.of_format.Numbers.{has_bit}
-use Rattle.bdb_databases.specs.of_format.Page.{BtreeFields, HashFields, Metadata, Page, Queue, QueueFields}
-use Rattle.bdb_databases.specs.of_format.Rows.{are_wrong_flags}
+use Rattle.bdb_databases.specs.of_format.Terms.{BtreeFields, BytesKey, Database, File, HashFields, ListKey, Metadata, NumberKey, Page, Queue, QueueFields}
+use Rattle.bdb_databases.specs.of_format.Terms.{StoredPair, are_wrong_flags, btree_list, btree_settings, by_key, database_on, databases, databases_under}
+use Rattle.bdb_databases.specs.of_format.Terms.{fields_in, file_of, has_bit, hash_list, hash_settings, head_of, is_page_size, is_recno, is_record, list_of}
+use Rattle.bdb_databases.specs.of_format.Terms.{listed_pair, master_in, master_pairs, named_by, named_database, page_at, page_bytes, pairs_under, queue_list}
+use Rattle.bdb_databases.specs.of_format.Terms.{queue_settings, recno_list, recno_settings, record_number, slot_at, table_pairs, tree_entries, tree_pairs}
 use Rattle.bdb_databases.proofs.of_format.ListLemmas.{all_of}
 use Rattle.bdb_databases.proofs.of_format.MemberLemmas.{in_range, no_member, none_passes, of_filter, of_flat_map, of_map}
 use Rattle.bdb_databases.proofs.NamedLemmas.{with_name}
 use Rattle.bdb_databases.specs.of_image.Linked.{HasMetadata, IsForest}
 use Rattle.bdb_databases.proofs.of_graph.LinkedLemmas.{root_fits}
 use Rattle.bdb_databases.proofs.of_graph.ReadLemmas.{IsMetaPage, IsReadAs, flags_fit, page_of_meta}
-use Rattle.bdb_settle.specs.of_text_format.Keywords.{legal_size}
+use Rattle.bdb_settle.specs.of_text_format.Terms.{legal_size}
 use Rattle.bdb_databases.proofs.of_recno.PageLemmas.{root_recno}
 use Rattle.bdb_databases.proofs.of_recno.ScanLemmas.{few_records}
 use Rattle.bdb_text.specs.WrittenLaw.{AreBytes, CanBeWritten, IsPairOf}

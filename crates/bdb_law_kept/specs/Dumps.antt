@@ -2,15 +2,9 @@
 use Rattle.std.specs.Prelude.{◌≡◌, ℕ, ◌==◌, Bool, true, false, List, [], map, None, unwrap_or}
 use Rattle.std.specs.List.{AllZip, Contains}
 use Rattle.bdb_databases.specs.of_format.declared.kinds.Kind.TheVariants.{Queue}
-use Rattle.bdb_databases.specs.of_format.ContentRows.{ascends}
-use Rattle.bdb_databases.specs.of_format.Databases.{Database, databases}
-use Rattle.bdb_databases.specs.of_format.File.{file_of}
-use Rattle.bdb_databases.specs.of_format.HeadOf.{head_of}
-use Rattle.bdb_databases.specs.of_format.Lists.{list_of}
+use Rattle.bdb_databases.specs.of_format.Terms.{Database, ascends, databases, file_of, head_of, list_of}
 use Rattle.bdb_settle.specs.of_text_format.declared.sections.Section.{Section}
-use Rattle.bdb_settle.specs.of_text_format.Pairs.{listed}
-use Rattle.bdb_settle.specs.of_text_format.Sections.{Reads}
-use Rattle.bdb_settle.specs.of_text_format.Written.{dump_text, header_lines}
+use Rattle.bdb_settle.specs.of_text_format.Terms.{Reads, dump_text, header_lines, listed}
 use Rattle.bdb_settle.specs.Loaded.{loaded}
 use Rattle.bdb_settle.specs.LoadErrors.{load_error}
 use Rattle.bdb_text.specs.WrittenLaw.{AreBytes}

@@ -4,17 +4,9 @@ use Rattle.std.specs.List.{All, Contains}
 use Rattle.bdb_databases.specs.of_format.declared.kinds.Kind.TheVariants.{Queue}
 use Rattle.bdb_databases.specs.of_format.declared.metadata.BtreeMeta.{BtreeMeta}
 use Rattle.bdb_databases.specs.of_format.declared.settings.Settings.{Settings}
-use Rattle.bdb_databases.specs.of_format.ContentRows.{ascends}
-use Rattle.bdb_databases.specs.of_format.Databases.{Database, databases, settings_of}
-use Rattle.bdb_databases.specs.of_format.File.{file_of, page_at}
-use Rattle.bdb_databases.specs.of_format.HeadOf.{head_of}
-use Rattle.bdb_databases.specs.of_format.Lists.{list_of}
-use Rattle.bdb_databases.specs.of_format.Master.{master_in}
-use Rattle.bdb_databases.specs.of_format.Page.{Metadata}
-use Rattle.bdb_databases.specs.of_format.Verdict.{verdict_of}
+use Rattle.bdb_databases.specs.of_format.Terms.{Database, Metadata, ascends, databases, file_of, head_of, list_of, master_in, page_at, settings_of, verdict_of}
 use Rattle.bdb_settle.specs.of_text_format.declared.pairs.TextPair.{TextPair}
-use Rattle.bdb_settle.specs.of_text_format.Pairs.{listed}
-use Rattle.bdb_settle.specs.of_text_format.Written.{has_sets, is_queue}
+use Rattle.bdb_settle.specs.of_text_format.Terms.{has_sets, is_queue, listed}
 use Rattle.bdb_settle.specs.Loaded.{has_length, loaded}
 use Rattle.bdb_settle.specs.LoadErrors.{is_too_wide, pair_errors}
 use Rattle.bdb_text.specs.WrittenLaw.{AreBytes, CanBeWritten, CanStandTogether, pair_in}

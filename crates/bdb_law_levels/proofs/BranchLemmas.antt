@@ -6,11 +6,7 @@ use Rattle.std.proofs.lemmas.List.Elements.{All-contains, All-head, All-tail, Co
 use Rattle.std.proofs.lemmas.List.Folds.{list_any-append}
 use Rattle.bdb_law_grove.specs.of_format.declared.metadata.FileKind.TheVariants.{Queue}
 use Rattle.bdb_law_grove.specs.of_format.declared.references.Reference.{Reference}
-use Rattle.bdb_law_grove.specs.of_format.Page.{Content, InternalItem}
-use Rattle.bdb_law_grove.specs.of_format.File.{File, page_at}
-use Rattle.bdb_law_grove.specs.of_format.References.{refs}
-use Rattle.bdb_law_grove.specs.of_format.Chains.{chains_in, content_chains, is_wrong_length}
-use Rattle.bdb_law_grove.specs.of_format.Leaves.{is_root_reference}
+use Rattle.bdb_law_grove.specs.of_format.Terms.{Content, File, InternalItem, chains_in, content_chains, is_root_reference, is_wrong_length, page_at, refs}
 use Rattle.bdb_law_grove.proofs.of_format.MemberLemmas.{no_member, of_map}
 use Rattle.bdb_law_grove.proofs.BranchLemmas.{branch_with, of_list}
 use Rattle.bdb_law_levels.specs.Branches.{KeyHasLength, TowersAreBranches}

@@ -10,13 +10,9 @@ use Rattle.std.proofs.lemmas.List.Concat.{length-flat_map}
 use Rattle.std.proofs.lemmas.List.Elements.{All-contains, All-head, All-tail}
 use Rattle.std.proofs.lemmas.List.Sums.{count_by-le-length, length-filter, sum_by-cons}
 use Rattle.bdb_law_grove.specs.of_format.declared.pages.RecnoItem.{RecnoItem}
-use Rattle.bdb_law_grove.specs.of_format.Less.{less}
-use Rattle.bdb_law_grove.specs.of_format.Page.{Content, Inline, InternalItem, Item, Page}
-use Rattle.bdb_law_grove.specs.of_format.File.{File, page_at}
-use Rattle.bdb_law_grove.specs.of_format.Chains.{value_of}
-use Rattle.bdb_law_grove.specs.of_format.Leaves.{leaves_in}
-use Rattle.bdb_law_grove.specs.of_format.Contents.{StoredPair, entries_in, pairs_of, tree_entries, tree_pairs}
-use Rattle.bdb_law_grove.specs.of_format.ContentRows.{Separated, has_wrong_count, has_wrong_separator, is_wrong_count, no_separator, separated}
+use Rattle.bdb_law_grove.specs.of_format.Terms.{Content, File, Inline, InternalItem, Item, Page, Separated, StoredPair, entries_in, has_wrong_count}
+use Rattle.bdb_law_grove.specs.of_format.Terms.{has_wrong_separator, is_wrong_count, leaves_in, less, no_separator, page_at, pairs_of, separated, tree_entries}
+use Rattle.bdb_law_grove.specs.of_format.Terms.{tree_pairs, value_of}
 use Rattle.bdb_law_grove.proofs.of_format.ListLemmas.{flat_map_twice}
 use Rattle.bdb_law_grove.proofs.of_format.MemberLemmas.{first_member, in_map, of_map}
 use Rattle.bdb_law_levels.specs.Contents.{BeginsWith, CountsOfRecords, CountsOfTowers, Follow, SeparatorsOfTowers, entries_below, pairs_below}

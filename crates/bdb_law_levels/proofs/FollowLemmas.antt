@@ -3,8 +3,7 @@ use Rattle.std.proofs.Common.{arith}
 use Rattle.std.proofs.Common.{◌≡◌, ℕ, true, false, List, [], ◌∷◌, ◌++◌, refl, sym, ◌∙◌, ap, subst, inl, inr, true≢false}
 use Rattle.std.specs.List.{Contains, flat_map}
 use Rattle.std.proofs.lemmas.Bool.{cases_Bool}
-use Rattle.bdb_law_grove.specs.of_format.Less.{less}
-use Rattle.bdb_law_grove.specs.of_format.Contents.{StoredPair}
+use Rattle.bdb_law_grove.specs.of_format.Terms.{StoredPair, less}
 use Rattle.bdb_law_grove.proofs.of_format.LessLemmas.{less_self, less_trans}
 use Rattle.bdb_law_grove.proofs.of_format.ListLemmas.{only_member}
 use Rattle.bdb_law_grove.proofs.of_format.MemberLemmas.{first_member, member_cases, no_member}

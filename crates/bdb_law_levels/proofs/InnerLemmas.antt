@@ -8,10 +8,7 @@ use Rattle.std.proofs.lemmas.Bool.{and_right, or_from}
 use Rattle.std.proofs.lemmas.List.Elements.{All-head, All-nil, All-tail, All-cons}
 use Rattle.std.proofs.lemmas.List.{map-append}
 use Rattle.std.proofs.lemmas.List.Folds.{list_any-append}
-use Rattle.bdb_law_grove.specs.of_format.Page.{Page}
-use Rattle.bdb_law_grove.specs.of_format.File.{File, page_at}
-use Rattle.bdb_law_grove.specs.of_format.Leaves.{children_in}
-use Rattle.bdb_law_grove.specs.of_format.ContentRows.{inner_in, inner_pages, is_wrong_at}
+use Rattle.bdb_law_grove.specs.of_format.Terms.{File, Page, children_in, inner_in, inner_pages, is_wrong_at, page_at}
 use Rattle.bdb_law_levels.specs.Contents.{AreLeaves}
 use Rattle.bdb_law_levels.specs.Nodes.{AreOver, IsOver, IsTower, Node}
 use Rattle.bdb_law_levels.specs.declared.inner_type.InnerType.{InnerType}

@@ -7,9 +7,8 @@ use Rattle.bdb_law_grove.specs.of_format.declared.pages.RecnoItem.{RecnoItem}
 use Rattle.bdb_law_grove.specs.of_format.declared.references.Reference.{Reference}
 use Rattle.bdb_law_grove.specs.of_format.declared.references.Sort.{Sort}
 use Rattle.bdb_law_grove.specs.of_format.declared.references.Sort.TheVariants.{Child, OverflowHead}
-use Rattle.bdb_law_grove.specs.of_format.Page.{Content, Inline, Set, Chain, Tree, Unknown, Page}
-use Rattle.bdb_law_grove.specs.of_format.File.{File, page_at, header_in, type_in}
-use Rattle.bdb_law_grove.specs.of_format.References.{child_types, content_targets, fit_code, has_type, internal_targets, refs, targets_in}
+use Rattle.bdb_law_grove.specs.of_format.Terms.{Chain, Content, File, Inline, Page, Set, Tree, Unknown, child_types, content_targets, fit_code, has_type}
+use Rattle.bdb_law_grove.specs.of_format.Terms.{header_in, internal_targets, page_at, refs, targets_in, type_in}
 use Rattle.bdb_law_grove.proofs.of_format.MemberLemmas.{first_member, later_member, member_cases, no_member}
 use Rattle.bdb_law_grove.proofs.GroveLemmas.{enumerated_names, fits_asked, of_references, reference_of, refs_of}
 use Rattle.bdb_law_grove.proofs.SeveralLemmas.{count, count-append}

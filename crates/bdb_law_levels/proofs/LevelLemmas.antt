@@ -3,8 +3,7 @@ use Rattle.std.proofs.Common.{arith}
 use Rattle.std.proofs.Common.{◌≡◌, ℕ, suc, List, [], ◌∷◌, Some, sym, ap}
 use Rattle.std.specs.List.{flat_map}
 use Rattle.std.proofs.lemmas.Grind.{flat_map-append}
-use Rattle.bdb_law_grove.specs.of_format.File.{File, page_at}
-use Rattle.bdb_law_grove.specs.of_format.Leaves.{children_in, leaves_in, leaves_under}
+use Rattle.bdb_law_grove.specs.of_format.Terms.{File, children_in, leaves_in, leaves_under, page_at}
 use Rattle.bdb_law_levels.specs.SameLeaves.{LevelsHaveTheSameLeaves}
 
 pub leaves_of_children : (file : File) (level q : ℕ) (children : List ℕ) → children_in (page_at file q) ≡ Some children

@@ -6,9 +6,7 @@ use Rattle.std.proofs.lemmas.Bool.{and_from, or_from}
 use Rattle.std.proofs.lemmas.List.Elements.{All-head, All-tail}
 use Rattle.bdb_law_grove.specs.of_format.declared.references.Sort.{Sort}
 use Rattle.bdb_law_grove.specs.of_format.declared.references.Sort.TheVariants.{Root, DuplicateRoot}
-use Rattle.bdb_law_grove.specs.of_format.File.{File, page_at, type_in}
-use Rattle.bdb_law_grove.specs.of_format.Leaves.{places_from, wrong_leaf_types}
-use Rattle.bdb_law_grove.specs.of_format.References.{has_type}
+use Rattle.bdb_law_grove.specs.of_format.Terms.{File, has_type, page_at, places_from, type_in, wrong_leaf_types}
 use Rattle.bdb_law_grove.proofs.of_format.TypeLemmas.{AllTypes, of_type}
 use Rattle.bdb_law_grove.specs.Part.{is_wrong_place}
 use Rattle.bdb_law_levels.specs.Links.{AreLinked, LinksOfTowers, LinksStand, leaf_types}

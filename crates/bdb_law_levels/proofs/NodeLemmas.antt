@@ -5,9 +5,7 @@ use Rattle.std.proofs.lemmas.Grind.{flat_map-append}
 use Rattle.std.proofs.lemmas.List.Elements.{All-nil, All-cons, All-head, All-tail, All-contains, Contains-append_left, Contains-append_right}
 use Rattle.std.proofs.lemmas.List.Sums.{sum_by-cons, sum_by-append}
 use Rattle.bdb_law_grove.specs.of_format.declared.pages.RecnoItem.{RecnoItem}
-use Rattle.bdb_law_grove.specs.of_format.Page.{InternalItem}
-use Rattle.bdb_law_grove.specs.of_format.File.{File, header_in, page_at}
-use Rattle.bdb_law_grove.specs.of_format.Leaves.{children_in, leaves_in}
+use Rattle.bdb_law_grove.specs.of_format.Terms.{File, InternalItem, children_in, header_in, leaves_in, page_at}
 use Rattle.bdb_law_grove.proofs.of_format.ListLemmas.{all_of}
 use Rattle.bdb_law_levels.specs.Nodes.{AreOver, HasItems, HasLeaves, IsOver, Node, TowersHaveLeaves, keyed_item, keyed_items, numbered_item}
 use Rattle.bdb_law_levels.specs.declared.inner_type.InnerType.{InnerType}

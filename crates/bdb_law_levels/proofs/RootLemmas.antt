@@ -12,9 +12,8 @@ use Rattle.bdb_law_grove.specs.of_format.declared.metadata.FileKind.TheVariants.
 use Rattle.bdb_law_grove.specs.of_format.declared.pages.RecnoItem.{RecnoItem}
 use Rattle.bdb_law_grove.specs.of_format.declared.references.Reference.{Reference}
 use Rattle.bdb_law_grove.specs.of_format.declared.references.Sort.TheVariants.{Child, OverflowHead}
-use Rattle.bdb_law_grove.specs.of_format.Page.{Content, Inline, Set, Chain, Tree, Unknown, Internal, Page, RecnoInternal}
-use Rattle.bdb_law_grove.specs.of_format.File.{File, page_at, header_in, type_in}
-use Rattle.bdb_law_grove.specs.of_format.References.{internal_targets, fit_code, has_type, refs}
+use Rattle.bdb_law_grove.specs.of_format.Terms.{Chain, Content, File, Inline, Internal, Page, RecnoInternal, Set, Tree, Unknown, fit_code, has_type, header_in}
+use Rattle.bdb_law_grove.specs.of_format.Terms.{internal_targets, page_at, refs, type_in}
 use Rattle.bdb_law_grove.proofs.of_format.ListLemmas.{only_member}
 use Rattle.bdb_law_grove.proofs.of_format.MemberLemmas.{first_member, in_map, later_member, member_cases, no_member, of_flat_map, of_map}
 use Rattle.bdb_law_grove.specs.Part.{IsGrove}

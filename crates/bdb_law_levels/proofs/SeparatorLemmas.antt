@@ -5,8 +5,7 @@ use Rattle.std.specs.Prelude.{◌&&◌, nat_le}
 use Rattle.std.specs.List.{Contains, flat_map, list_any, range_with_len}
 use Rattle.std.proofs.lemmas.Bool.{cases_Bool, and_right, or_from}
 use Rattle.std.proofs.lemmas.List.{drop_more}
-use Rattle.bdb_law_grove.specs.of_format.Less.{less}
-use Rattle.bdb_law_grove.specs.of_format.ContentRows.{Separated, breaks, no_separator}
+use Rattle.bdb_law_grove.specs.of_format.Terms.{Separated, breaks, less, no_separator}
 use Rattle.bdb_law_grove.proofs.of_format.MemberLemmas.{later_member, member_cases, no_member, none_pass, of_flat_map, of_range}
 use Rattle.bdb_law_grove.proofs.of_format.LessLemmas.{less_trans}
 use Rattle.bdb_law_levels.specs.Separators.{AreInOrder, KeysRise, NoneLess, SeparatorsStand}

@@ -11,9 +11,7 @@ use Rattle.bdb_law_grove.proofs.of_format.ListLemmas.{all_of, only_member}
 use Rattle.bdb_law_grove.specs.of_format.declared.references.Reference.{Reference}
 use Rattle.bdb_law_grove.specs.of_format.declared.references.Sort.{Sort}
 use Rattle.bdb_law_grove.specs.of_format.declared.references.Sort.TheVariants.{Free, Root, Bucket, HashNext, Child, OverflowHead, OverflowNext, DuplicateRoot}
-use Rattle.bdb_law_grove.specs.of_format.File.{File, page_at, header_in}
-use Rattle.bdb_law_grove.specs.of_format.References.{fit_code, refs}
-use Rattle.bdb_law_grove.specs.of_format.Graph.{Owner, is_head_reference}
+use Rattle.bdb_law_grove.specs.of_format.Terms.{File, Owner, fit_code, header_in, is_head_reference, page_at, refs}
 use Rattle.bdb_law_grove.proofs.of_format.MemberLemmas.{first_member, in_map, later_member}
 use Rattle.bdb_law_grove.specs.Part.{IsGrove, IsOwnedBy, are_heads_alone, owners_among}
 use Rattle.bdb_law_grove.specs.Standing.{StandsOver, named_by, names}

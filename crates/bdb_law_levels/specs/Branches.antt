@@ -2,8 +2,7 @@
 -- "Stage 6, chains and trees".
 use Rattle.std.specs.Prelude.{◌≡◌, ℕ, ◌||◌, Bool, false, List, [], ◌∷◌, map}
 use Rattle.std.specs.List.{All, list_any}
-use Rattle.bdb_law_grove.specs.of_format.File.{File}
-use Rattle.bdb_law_grove.specs.of_format.Chains.{content_chains, is_wrong_length}
+use Rattle.bdb_law_grove.specs.of_format.Terms.{File, content_chains, is_wrong_length}
 use Rattle.bdb_law_grove.specs.Part.{IsBranch}
 use Rattle.bdb_law_levels.specs.Nodes.{Node}
 use Rattle.bdb_law_levels.specs.declared.inner_type.InnerType.{InnerType}

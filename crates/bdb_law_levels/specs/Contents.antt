@@ -1,13 +1,8 @@
 -- What the internal pages of a tower say of the pairs or entries below them is right. Source: docs/FORMAT.md, "Stage 8, contents".
 use Rattle.std.specs.Prelude.{◌≡◌, ◌⊎◌, ℕ, true, false, List, [], ◌∷◌, length, None}
 use Rattle.std.specs.List.{All, flat_map}
-use Rattle.bdb_law_grove.specs.of_format.Less.{less}
-use Rattle.bdb_law_grove.specs.of_format.Page.{Item}
-use Rattle.bdb_law_grove.specs.of_format.File.{File, page_at}
-use Rattle.bdb_law_grove.specs.of_format.Chains.{value_of}
-use Rattle.bdb_law_grove.specs.of_format.Leaves.{children_in}
-use Rattle.bdb_law_grove.specs.of_format.Contents.{StoredPair, entries_in, pairs_of}
-use Rattle.bdb_law_grove.specs.of_format.ContentRows.{has_wrong_count, has_wrong_separator, inner_pages, is_wrong_at}
+use Rattle.bdb_law_grove.specs.of_format.Terms.{File, Item, StoredPair, children_in, entries_in, has_wrong_count, has_wrong_separator, inner_pages}
+use Rattle.bdb_law_grove.specs.of_format.Terms.{is_wrong_at, less, page_at, pairs_of, value_of}
 use Rattle.bdb_law_levels.specs.Nodes.{HasLeaves, IsTower, Node}
 use Rattle.bdb_law_levels.specs.declared.inner_type.InnerType.TheVariants.{Keyed, Numbered}
 

@@ -3,9 +3,7 @@ use Rattle.std.specs.Prelude.{◌≡◌, ℕ, true, false, List, [], ◌∷◌}
 use Rattle.std.specs.List.{All, flat_map, list_any}
 use Rattle.bdb_law_grove.specs.of_format.declared.references.Sort.{Sort}
 use Rattle.bdb_law_grove.specs.of_format.declared.references.Sort.TheVariants.{Root, DuplicateRoot}
-use Rattle.bdb_law_grove.specs.of_format.File.{File, header_in, page_at, type_in}
-use Rattle.bdb_law_grove.specs.of_format.Leaves.{first_or_zero, places_from}
-use Rattle.bdb_law_grove.specs.of_format.References.{has_type}
+use Rattle.bdb_law_grove.specs.of_format.Terms.{File, first_or_zero, has_type, header_in, page_at, places_from, type_in}
 use Rattle.bdb_law_grove.specs.Part.{has_wrong_place, is_wrong_place}
 use Rattle.bdb_law_levels.specs.Nodes.{HasLeaves, IsTower, Node}
 use Rattle.bdb_law_levels.specs.declared.inner_type.InnerType.{InnerType}

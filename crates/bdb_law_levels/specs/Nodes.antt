@@ -2,9 +2,8 @@
 use Rattle.std.specs.Prelude.{◌≡◌, ℕ, ◌+◌, ◌<◌, ◌≤◌, List, [], ◌∷◌, ◌++◌, length, map, get_or}
 use Rattle.std.specs.List.{All, flat_map, sum_by}
 use Rattle.bdb_law_grove.specs.of_format.declared.pages.RecnoItem.{RecnoItem}
-use Rattle.bdb_law_grove.specs.of_format.Page.{Content, Inline, Set, Chain, Tree, Unknown, Internal, InternalItem, Listed, RecnoInternal}
-use Rattle.bdb_law_grove.specs.of_format.File.{File, header_in, page_at}
-use Rattle.bdb_law_grove.specs.of_format.Leaves.{leaves_in}
+use Rattle.bdb_law_grove.specs.of_format.Terms.{Chain, Content, File, Inline, Internal, InternalItem, Listed, RecnoInternal, Set, Tree, Unknown, header_in}
+use Rattle.bdb_law_grove.specs.of_format.Terms.{leaves_in, page_at}
 use Rattle.bdb_law_levels.specs.declared.inner_type.InnerType.{InnerType}
 use Rattle.bdb_law_levels.specs.declared.inner_type.InnerType.TheVariants.{Keyed, Numbered}
 

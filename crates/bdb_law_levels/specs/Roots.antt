@@ -2,9 +2,7 @@
 use Rattle.std.specs.Prelude.{◌≡◌, ℕ, ◌+◌, ◌≤◌, ◌==◌, ◌||◌, if◌then◌else◌, Bool, true, false, List, [], ◌∷◌, length, map}
 use Rattle.std.specs.List.{All, Contains, filter, flat_map, list_any}
 use Rattle.bdb_law_grove.specs.of_format.declared.metadata.FileKind.TheVariants.{Queue}
-use Rattle.bdb_law_grove.specs.of_format.Page.{Content, Inline, Set, Chain, Tree, Unknown}
-use Rattle.bdb_law_grove.specs.of_format.File.{File, header_in, page_at, type_in}
-use Rattle.bdb_law_grove.specs.of_format.References.{has_type}
+use Rattle.bdb_law_grove.specs.of_format.Terms.{Chain, Content, File, Inline, Set, Tree, Unknown, has_type, header_in, page_at, type_in}
 use Rattle.bdb_law_grove.specs.Part.{IsGrove, are_heads_alone, owners_among}
 use Rattle.bdb_law_levels.specs.Nodes.{IsTower, Node}
 use Rattle.bdb_law_levels.specs.declared.inner_type.InnerType.{InnerType}

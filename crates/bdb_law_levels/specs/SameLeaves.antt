@@ -1,8 +1,7 @@
 -- A level of a tree over the level below it. Source: docs/FORMAT.md, "Internal items".
 use Rattle.std.specs.Prelude.{◌≡◌, ℕ, suc, List, [], ◌∷◌, ◌++◌, Some}
 use Rattle.std.specs.List.{flat_map}
-use Rattle.bdb_law_grove.specs.of_format.File.{File, page_at}
-use Rattle.bdb_law_grove.specs.of_format.Leaves.{children_in, leaves_in}
+use Rattle.bdb_law_grove.specs.of_format.Terms.{File, children_in, leaves_in, page_at}
 
 -- pages whose children, joined in order, are the pages of the level below
 abbrev pub AreOver : File → List ℕ → List ℕ → Type 0

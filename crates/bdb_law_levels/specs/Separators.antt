@@ -1,10 +1,7 @@
 -- An internal page whose keys stand between those below its children. Source: docs/FORMAT.md, "Stage 8, contents".
 use Rattle.std.specs.Prelude.{◌≡◌, ℕ, ◌<◌, true, false, List, [], ◌∷◌, length, map, take, get_or}
 use Rattle.std.specs.List.{Contains, flat_map}
-use Rattle.bdb_law_grove.specs.of_format.Less.{less}
-use Rattle.bdb_law_grove.specs.of_format.Page.{Internal, InternalItem, Listed}
-use Rattle.bdb_law_grove.specs.of_format.File.{File}
-use Rattle.bdb_law_grove.specs.of_format.ContentRows.{Separated, has_wrong_separator, no_separator, separated}
+use Rattle.bdb_law_grove.specs.of_format.Terms.{File, Internal, InternalItem, Listed, Separated, has_wrong_separator, less, no_separator, separated}
 
 -- each key is less than this one
 abbrev pub EachLess : List (List ℕ) → List ℕ → Type 0

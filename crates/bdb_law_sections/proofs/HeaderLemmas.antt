@@ -7,20 +7,15 @@ use Rattle.std.proofs.lemmas.Bool.Decides.{nat_tests}
 use Rattle.std.proofs.lemmas.Slice.Eq.{bytes_eq-Decides}
 use Rattle.std.specs.Str.{bytes_eq}
 use Rattle.bdb_text_format.specs.of_format.declared.kinds.Kind.TheVariants.{Queue}
-use Rattle.bdb_text_format.specs.of_format.HeadOf.{is_page_size}
+use Rattle.bdb_text_format.specs.of_format.Terms.{digits_value, is_name, is_number, is_page_size}
 use Rattle.bdb_text_format.specs.declared.keywords.Judged.TheVariants.{Fits, Bad, LeftOut}
-use Rattle.bdb_text_format.specs.Header.{Values, conflicts, entries, entry_of, given, gives, has_record_type, has_type, is_on, name_in, number_or, repeats}
-use Rattle.bdb_text_format.specs.Header.{settings_in, values}
-use Rattle.bdb_text_format.specs.Keywords.{fitting, hex_value, is_hex, judged_number, legal_size, number_read, or_zero}
-use Rattle.bdb_text_format.specs.of_format.Digits.{digits_value, is_number}
-use Rattle.bdb_text_format.specs.TextSpelling.{digit_value}
+use Rattle.bdb_text_format.specs.Terms.{HeaderLine, Values, conflicts, digit_value, entries, entry_fits, entry_of, fits, fitting, given, gives}
+use Rattle.bdb_text_format.specs.Terms.{has_record_type, has_type, header_fits, hex_value, holds_records, is_hex, is_on, judged_number, keyword_fits}
+use Rattle.bdb_text_format.specs.Terms.{keyword_named, legal_size, lines_fit, name_in, name_missing, number_or, number_read, or_zero, repeats, settings_in}
+use Rattle.bdb_text_format.specs.Terms.{values}
 use Rattle.std.proofs.Math.Pow.{pow_mono}
 use Rattle.std.proofs.lemmas.Nat.{pow-add}
 use Rattle.std.proofs.lemmas.Bool.{and_parts, not-true, or_cases, or_parts, or_right}
-use Rattle.bdb_text_format.specs.of_format.Databases.{is_name}
-use Rattle.bdb_text_format.specs.Reasons.{keyword_named, name_missing}
-use Rattle.bdb_text_format.specs.Sections.{entry_fits, fits, header_fits, keyword_fits, lines_fit}
-use Rattle.bdb_text_format.specs.Written.{HeaderLine, holds_records}
 use Rattle.bdb_law_sections.specs.Fit.{AreFitSettings}
 
 -- A value that a header gives fits its keyword.

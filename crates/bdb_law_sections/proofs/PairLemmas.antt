@@ -3,14 +3,12 @@ use Rattle.std.proofs.Common.{◌≡◌, ℕ, zero, suc, ◌+◌, ◌==◌, if�
 use Rattle.std.proofs.Common.{ap, subst, arith}
 use Rattle.std.specs.List.{All}
 use Rattle.std.proofs.lemmas.List.Elements.{All-cons, All-head, All-tail, All-weaker}
-use Rattle.bdb_text_format.specs.of_format.Digits.{digits_value}
+use Rattle.bdb_text_format.specs.of_format.Terms.{digits_value}
 use Rattle.bdb_text_format.specs.declared.pairs.Key.{Key}
 use Rattle.bdb_text_format.specs.declared.pairs.Key.TheVariants.{Bytes, Number}
 use Rattle.bdb_text_format.specs.declared.pairs.TextPair.{TextPair}
-use Rattle.bdb_text_format.specs.Reasons.{is_record_number}
-use Rattle.bdb_text_format.specs.Sections.{counted_pairs, data_read, key_read, keyed_pairs, with_text_pair}
-use Rattle.bdb_text_format.specs.TextLines.{onto_first, text_lines}
-use Rattle.bdb_text_format.specs.TextSpelling.{before, bytes_spelled, next_unit, units_read}
+use Rattle.bdb_text_format.specs.Terms.{before, bytes_spelled, counted_pairs, data_read, is_record_number, key_read, keyed_pairs, next_unit, onto_first}
+use Rattle.bdb_text_format.specs.Terms.{text_lines, units_read, with_text_pair}
 use Rattle.bdb_law_sections.specs.Fit.{IsFitPair, is_number, key_length}
 
 -- Lines.

@@ -6,15 +6,13 @@ use Rattle.std.specs.List.{All, list_any}
 use Rattle.std.specs.Str.{bytes_eq}
 use Rattle.std.proofs.lemmas.Bool.Decides.{nat_tests}
 use Rattle.std.proofs.lemmas.List.Elements.{All-cons, All-head, All-push, All-tail}
-use Rattle.bdb_text_format.specs.of_format.Databases.{is_name}
+use Rattle.bdb_text_format.specs.of_format.Terms.{is_name}
 use Rattle.bdb_text_format.specs.declared.pairs.TextPair.{TextPair}
 use Rattle.bdb_text_format.specs.declared.sections.Section.{Section}
-use Rattle.bdb_text_format.specs.Header.{Values, has_keys, has_record_type, is_on, name_in, prints, settings_in, values}
-use Rattle.bdb_text_format.specs.Reasons.{Parts, lines_with, name_missing, name_of, name_of_parts, names_with, parts_of, with_line}
-use Rattle.bdb_text_format.specs.Sections.{begin_with, counted_pairs, header_fits, keyed_pairs, nothing_left, pairs_read, parts_read, section_read}
-use Rattle.bdb_text_format.specs.Sections.{sections_from, sections_in, text_sections, with_pairs, with_section}
-use Rattle.bdb_text_format.specs.TextLines.{is_data_end, is_header_end, text_lines}
-use Rattle.bdb_text_format.specs.Written.{holds_records, version_line}
+use Rattle.bdb_text_format.specs.Terms.{Parts, Values, begin_with, counted_pairs, has_keys, has_record_type, header_fits, holds_records, is_data_end}
+use Rattle.bdb_text_format.specs.Terms.{is_header_end, is_on, keyed_pairs, lines_with, name_in, name_missing, name_of, name_of_parts, names_with, nothing_left}
+use Rattle.bdb_text_format.specs.Terms.{pairs_read, parts_of, parts_read, prints, section_read, sections_from, sections_in, settings_in, text_lines}
+use Rattle.bdb_text_format.specs.Terms.{text_sections, values, version_line, with_line, with_pairs, with_section}
 use Rattle.bdb_law_sections.specs.Fit.{AreFit, AreNamedBehind, HasBytes, IsFitPair, IsFitSection, ReadSectionsAreFit, ReadQueuesHaveBytes}
 use Rattle.bdb_law_sections.proofs.HeaderLemmas.{IsFitHeader, fit_header, records_have_bytes, records_held, settings_fit}
 use Rattle.bdb_law_sections.proofs.PairLemmas.{AreShort, IsShort, counted_fit, keyed_fit, lines_short}

@@ -3,15 +3,12 @@ use Rattle.std.specs.Prelude.{◌≡◌, ℕ, ◌≤◌, ◌<◌, ◌^◌, ◌==
 use Rattle.std.specs.List.{All, list_any}
 use Rattle.bdb_text_format.specs.of_format.declared.kinds.Kind.TheVariants.{Queue}
 use Rattle.bdb_text_format.specs.of_format.declared.settings.Settings.{Settings}
-use Rattle.bdb_text_format.specs.of_format.Databases.{is_name}
-use Rattle.bdb_text_format.specs.of_format.HeadOf.{is_page_size}
+use Rattle.bdb_text_format.specs.of_format.Terms.{is_name, is_page_size}
 use Rattle.bdb_text_format.specs.declared.pairs.Key.{Key}
 use Rattle.bdb_text_format.specs.declared.pairs.Key.TheVariants.{Bytes, Number}
 use Rattle.bdb_text_format.specs.declared.pairs.TextPair.{TextPair}
 use Rattle.bdb_text_format.specs.declared.sections.Section.{Section}
-use Rattle.bdb_text_format.specs.Reasons.{name_missing}
-use Rattle.bdb_text_format.specs.Sections.{Reads}
-use Rattle.bdb_text_format.specs.Written.{holds_records}
+use Rattle.bdb_text_format.specs.Terms.{Reads, holds_records, name_missing}
 
 -- whether a key is the number of a record
 abbrev pub is_number : Key → Bool

@@ -6,14 +6,8 @@ use Rattle.std.proofs.lemmas.Bool.{cases_Bool, cases_lt}
 use Rattle.std.proofs.lemmas.List.{get_or_past}
 use Rattle.bdb_tree.specs.of_format.declared.references.Sort.{Sort}
 use Rattle.bdb_tree.specs.of_format.declared.references.Sort.TheVariants.{Root, Bucket, DuplicateRoot}
-use Rattle.bdb_tree.specs.of_format.Chains.{chain}
-use Rattle.bdb_tree.specs.of_format.ContentRows.{fields_in, fields_of}
-use Rattle.bdb_tree.specs.of_format.Contents.{bucket_pages}
-use Rattle.bdb_tree.specs.of_format.File.{File, file_of, page_at}
-use Rattle.bdb_tree.specs.of_format.Graph.{Owner, all_references, is_spare}
-use Rattle.bdb_tree.specs.of_format.Leaves.{is_root_reference, leaves, root_references}
-use Rattle.bdb_tree.specs.of_format.Page.{Metadata, BtreeFields, HashFields, QueueFields, Page, Zero, NoType}
-use Rattle.bdb_tree.specs.of_format.References.{is_zero_page}
+use Rattle.bdb_tree.specs.of_format.Terms.{BtreeFields, File, HashFields, Metadata, NoType, Owner, Page, QueueFields, Zero, all_references, bucket_pages}
+use Rattle.bdb_tree.specs.of_format.Terms.{chain, fields_in, fields_of, file_of, is_root_reference, is_spare, is_zero_page, leaves, page_at, root_references}
 use Rattle.bdb_tree.proofs.of_format.MemberLemmas.{of_range}
 use Rattle.bdb_tree.proofs.of_format.FileLemmas.{pages_counted}
 use Rattle.bdb_tree.specs.of_image.Linked.{HasMetadata}

@@ -6,12 +6,8 @@ use Rattle.bdb_tree.specs.of_format.declared.metadata.FileKind.TheVariants.{Queu
 use Rattle.bdb_tree.specs.of_format.declared.pages.RecnoItem.{RecnoItem}
 use Rattle.bdb_tree.specs.of_format.declared.references.Sort.{Sort}
 use Rattle.bdb_tree.specs.of_format.declared.references.Sort.TheVariants.{Root, Bucket, HashNext, Child}
-use Rattle.bdb_tree.specs.of_format.ContentRows.{fields_in, fields_of}
-use Rattle.bdb_tree.specs.of_format.File.{File, file_of, page_at}
-use Rattle.bdb_tree.specs.of_format.Graph.{Owner, all_references, held_by}
-use Rattle.bdb_tree.specs.of_format.Hashing.{first_page}
-use Rattle.bdb_tree.specs.of_format.Page.{InternalItem, Metadata, BtreeFields, HashFields, QueueFields, Page, Meta, Hash, Internal, RecnoInternal}
-use Rattle.bdb_tree.specs.of_format.References.{refs}
+use Rattle.bdb_tree.specs.of_format.Terms.{BtreeFields, File, Hash, HashFields, Internal, InternalItem, Meta, Metadata, Owner, Page, QueueFields}
+use Rattle.bdb_tree.specs.of_format.Terms.{RecnoInternal, all_references, fields_in, fields_of, file_of, first_page, held_by, page_at, refs}
 use Rattle.bdb_tree.proofs.of_format.ReferenceLemmas.{forest_names}
 use Rattle.bdb_law_sums.proofs.CountLemmas.{sum_none, sum_parts, sum_same}
 use Rattle.bdb_law_sums.proofs.MetaLemmas.{fields_by_page}

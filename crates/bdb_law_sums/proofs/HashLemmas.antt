@@ -12,22 +12,15 @@ use Rattle.bdb_tree.specs.of_format.declared.references.Reference.{Reference}
 use Rattle.bdb_tree.specs.of_format.declared.references.Sort.{Sort}
 use Rattle.bdb_tree.specs.of_format.declared.references.Sort.TheVariants.{Free as FreeRef, Root, Bucket, HashNext, Child, OverflowHead, OverflowNext}
 use Rattle.bdb_tree.specs.of_format.declared.references.Sort.TheVariants.{DuplicateRoot}
-use Rattle.bdb_tree.specs.of_format.Chains.{chain, chain_in, next_of}
-use Rattle.bdb_tree.specs.of_format.File.{File, file_of, header_in, page_at, type_in}
-use Rattle.bdb_tree.specs.of_format.Graph.{OneRole, Owner, all_references, held_by, is_anchor, is_head_reference, is_meta, is_spare, owners}
+use Rattle.bdb_tree.specs.of_format.Terms.{Asked, BtreeFields, File, Hash, HashFields, Internal, InternalItem, Item, Listed, Meta, OneRole, Owner, Page}
+use Rattle.bdb_tree.specs.of_format.Terms.{QueueFields, RecnoInternal, Zero, abstract_page, all_references, asked_by, byte_at, chain, chain_in, child_types}
+use Rattle.bdb_tree.specs.of_format.Terms.{content_targets, contents_in, file_of, fit_code, fit_rows, has_bit, has_type, hash_item_at, head_of, header_in}
+use Rattle.bdb_tree.specs.of_format.Terms.{held_by, is_anchor, is_head_reference, is_meta, is_spare, is_zero, is_zero_page, listed, next_of, owners, page_as}
+use Rattle.bdb_tree.specs.of_format.Terms.{page_at, page_bytes, page_type, refs, root_types, targets_in, targets_of, type_in, unless_zero}
 use Rattle.bdb_tree.specs.of_format.declared.pages.RecnoItem.{RecnoItem}
-use Rattle.bdb_tree.specs.of_format.HeadOf.{head_of}
-use Rattle.bdb_tree.specs.of_format.Numbers.{has_bit}
-use Rattle.bdb_tree.specs.of_format.Page.{Item, InternalItem, Listed, BtreeFields, HashFields, QueueFields}
-use Rattle.bdb_tree.specs.of_format.Page.{Page, Zero, Meta, Hash, Internal, RecnoInternal}
 use Rattle.bdb_tree.specs.of_format.declared.pages.PageType.{PageType}
 use Rattle.bdb_tree.specs.of_format.declared.pages.PageType.TheVariants.{Hash as HashPage}
 use Rattle.bdb_tree.specs.of_format.declared.kinds.Order.{Order}
-use Rattle.bdb_tree.specs.of_format.Numbers.{byte_at}
-use Rattle.bdb_tree.specs.of_format.Reading.{abstract_page, hash_item_at, is_zero, listed, page_as, page_type}
-use Rattle.bdb_tree.specs.of_format.File.{page_bytes}
-use Rattle.bdb_tree.specs.of_format.References.{Asked, asked_by, child_types, contents_in, content_targets, fit_code, fit_rows, has_type, is_zero_page}
-use Rattle.bdb_tree.specs.of_format.References.{targets_in, targets_of, refs, root_types, unless_zero}
 use Rattle.bdb_tree.proofs.of_format.GraphLemmas.{each_fits, each_page_has_one_role, is_owner, owner_fits, reserve_is}
 use Rattle.bdb_tree.proofs.of_format.MemberLemmas.{first_member, in_map, member_cases, no_member, of_map}
 use Rattle.bdb_tree.proofs.of_format.VerdictLemmas.{AllFail, none_is_first_row}

@@ -7,14 +7,9 @@ use Rattle.std.proofs.lemmas.Bool.{eq-eqb}
 use Rattle.bdb_tree.specs.of_format.declared.metadata.BtreeMeta.{BtreeMeta}
 use Rattle.bdb_tree.specs.of_format.declared.references.Sort.{Sort}
 use Rattle.bdb_tree.specs.of_format.declared.references.Sort.TheVariants.{Root, DuplicateRoot}
-use Rattle.bdb_tree.specs.of_format.Contents.{entries_in, pairs_in, pairs_of}
-use Rattle.bdb_tree.specs.of_format.File.{File, file_of, page_at, type_in}
-use Rattle.bdb_tree.specs.of_format.Flags.{is_recno}
-use Rattle.bdb_tree.specs.of_format.HeadOf.{head_of}
-use Rattle.bdb_tree.specs.of_format.Leaves.{LeafPlace, is_root_reference, is_wrong_leaf, leaf_places, leaves, places_from, wrong_leaf_types}
-use Rattle.bdb_tree.specs.of_format.Page.{BtreeFields, Page, Hash, Leaf, RecnoLeaf, DupLeaf}
-use Rattle.bdb_tree.specs.of_format.References.{child_types, has_type}
-use Rattle.bdb_tree.specs.of_format.Verdict.{structure_faults, structure_rows}
+use Rattle.bdb_tree.specs.of_format.Terms.{BtreeFields, DupLeaf, File, Hash, Leaf, LeafPlace, Page, RecnoLeaf, child_types, entries_in, file_of, has_type}
+use Rattle.bdb_tree.specs.of_format.Terms.{head_of, is_recno, is_root_reference, is_wrong_leaf, leaf_places, leaves, page_at, pairs_in, pairs_of, places_from}
+use Rattle.bdb_tree.specs.of_format.Terms.{structure_faults, structure_rows, type_in, wrong_leaf_types}
 use Rattle.bdb_tree.proofs.of_format.BoolLemmas.{second_false}
 use Rattle.bdb_tree.proofs.of_format.ListLemmas.{only_member}
 use Rattle.bdb_tree.proofs.of_format.MemberLemmas.{first_member, later_member, member_cases, no_member, none_passes, of_flat_map}

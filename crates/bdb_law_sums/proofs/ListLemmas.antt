@@ -2,9 +2,7 @@
 use Rattle.std.proofs.Common.{◌≡◌, ℕ, ◌+◌, true, false, cond, List, [], ◌∷◌, arith, refl}
 use Rattle.std.specs.List.{sum_by}
 use Rattle.std.proofs.lemmas.List.Sums.{sum_by-cons}
-use Rattle.bdb_tree.specs.of_format.Contents.{StoredPair}
-use Rattle.bdb_tree.specs.of_format.Less.{less}
-use Rattle.bdb_tree.specs.of_format.Lists.{by_key, insert_pair}
+use Rattle.bdb_tree.specs.of_format.Terms.{StoredPair, by_key, insert_pair, less}
 
 insert_sum : (f : StoredPair → ℕ) (pair : StoredPair) (pairs : List StoredPair) → sum_by f (insert_pair pair pairs) ≡ f pair + sum_by f pairs
 insert_sum f pair [] = sum_by-cons f pair []

@@ -8,17 +8,10 @@ use Rattle.std.proofs.lemmas.Bool.{and_from, and_parts, cases_Bool, eq-eqb, eqb-
 use Rattle.std.proofs.lemmas.List.Sums.{length-filter, sum_by-cons}
 use Rattle.bdb_tree.specs.of_format.declared.metadata.Head.{Head}
 use Rattle.bdb_tree.specs.of_format.declared.metadata.FileKind.TheVariants.{Queue as QueueFile}
-use Rattle.bdb_tree.specs.of_format.ContentRows.{fields_in, fields_of}
-use Rattle.bdb_tree.specs.of_format.Contents.{StoredPair}
-use Rattle.bdb_tree.specs.of_format.Databases.{Database, database_on, databases, databases_under, named_database}
-use Rattle.bdb_tree.specs.of_format.File.{File, file_of, page_at, page_bytes, type_in}
-use Rattle.bdb_tree.specs.of_format.Graph.{is_meta}
-use Rattle.bdb_tree.specs.of_format.HeadOf.{head_of}
-use Rattle.bdb_tree.specs.of_format.Master.{is_named_kind, is_page, master_in, master_pairs, master_rows, misses_target, named_by, naming, pairs_under}
-use Rattle.bdb_tree.specs.of_format.Page.{Metadata, BtreeFields, HashFields, QueueFields, Page, Meta}
-use Rattle.bdb_tree.specs.of_format.Reading.{abstract_page}
-use Rattle.bdb_tree.specs.of_format.References.{has_type}
-use Rattle.bdb_tree.specs.of_format.Verdict.{faults_of, master_faults}
+use Rattle.bdb_tree.specs.of_format.Terms.{BtreeFields, Database, File, HashFields, Meta, Metadata, Page, QueueFields, StoredPair, abstract_page, database_on}
+use Rattle.bdb_tree.specs.of_format.Terms.{databases, databases_under, faults_of, fields_in, fields_of, file_of, has_type, head_of, is_meta, is_named_kind}
+use Rattle.bdb_tree.specs.of_format.Terms.{is_page, master_faults, master_in, master_pairs, master_rows, misses_target, named_by, named_database, naming}
+use Rattle.bdb_tree.specs.of_format.Terms.{page_at, page_bytes, pairs_under, type_in}
 use Rattle.bdb_tree.proofs.of_format.BoolLemmas.{second_false}
 use Rattle.bdb_tree.proofs.of_format.ListLemmas.{only_member}
 use Rattle.bdb_tree.proofs.of_format.MemberLemmas.{none_passes, no_member, of_flat_map, of_range}

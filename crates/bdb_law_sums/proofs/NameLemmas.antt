@@ -9,12 +9,10 @@ use Rattle.bdb_tree.specs.of_format.declared.references.Reference.{Reference}
 use Rattle.bdb_tree.specs.of_format.declared.references.Sort.{Sort}
 use Rattle.bdb_tree.specs.of_format.declared.references.Sort.TheVariants.{Free as FreeRef, Root, Bucket, HashNext, Child, OverflowHead, OverflowNext}
 use Rattle.bdb_tree.specs.of_format.declared.references.Sort.TheVariants.{DuplicateRoot}
-use Rattle.bdb_tree.specs.of_format.File.{File, page_at}
-use Rattle.bdb_tree.specs.of_format.Hashing.{first_page}
-use Rattle.bdb_tree.specs.of_format.Leaves.{children_in}
-use Rattle.bdb_tree.specs.of_format.Page.{Content, Inline, Set, Chain, Tree, Unknown, InternalItem, BtreeFields, HashFields, QueueFields, Page, Zero, Free}
-use Rattle.bdb_tree.specs.of_format.Page.{Meta, Hash, Internal, RecnoInternal, Leaf, RecnoLeaf, DupLeaf, Overflow, Queue, NoType}
-use Rattle.bdb_tree.specs.of_format.References.{content_targets, contents_in, first_free, internal_targets, refs, targets_in, targets_of, unless_zero}
+use Rattle.bdb_tree.specs.of_format.Terms.{BtreeFields, Chain, Content, DupLeaf, File, Free, Hash, HashFields, Inline, Internal, InternalItem, Leaf, Meta}
+use Rattle.bdb_tree.specs.of_format.Terms.{NoType, Overflow, Page, Queue, QueueFields, RecnoInternal, RecnoLeaf, Set, Tree, Unknown, Zero, children_in}
+use Rattle.bdb_tree.specs.of_format.Terms.{content_targets, contents_in, first_free, first_page, internal_targets, page_at, refs, targets_in, targets_of}
+use Rattle.bdb_tree.specs.of_format.Terms.{unless_zero}
 use Rattle.bdb_law_sums.proofs.CountLemmas.{sum_none, sum_parts, sum_same}
 
 pub sum_map : {X Y : Type 0} (f : Y → ℕ) (g : X → Y) (xs : List X) → sum_by f (map g xs) ≡ sum_by (λ x. f (g x)) xs

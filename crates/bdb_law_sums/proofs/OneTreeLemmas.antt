@@ -3,8 +3,7 @@ use Rattle.std.proofs.Common.{◌≡◌, ℕ, ◌+◌, Bool, true, false, cond, 
 use Rattle.std.specs.Prelude.{◌==◌}
 use Rattle.std.specs.List.{range_with_len, sum_by}
 use Rattle.std.proofs.lemmas.Bool.{cases_Bool, eqb-true, eqb-false, eq-eqb, ne_eqb}
-use Rattle.bdb_tree.specs.of_format.File.{File, file_of, page_at, type_in}
-use Rattle.bdb_tree.specs.of_format.References.{has_type}
+use Rattle.bdb_tree.specs.of_format.Terms.{File, file_of, has_type, page_at, type_in}
 use Rattle.bdb_law_sums.specs.TreeSums.{EachLeafIsInOneTree, leaf_weight}
 use Rattle.bdb_law_sums.proofs.CountLemmas.{one_of_range, sum_same}
 use Rattle.bdb_law_sums.proofs.TreeLemmas.{leaves_are_of_trees}

@@ -7,25 +7,13 @@ use Rattle.std.proofs.lemmas.Bool.{and_parts, eqb-true}
 use Rattle.std.proofs.lemmas.List.Sums.{sum_by-append, sum_by-cons}
 use Rattle.bdb_tree.specs.of_format.declared.kinds.Order.{Order}
 use Rattle.bdb_tree.specs.of_format.declared.metadata.HashMeta.{HashMeta}
-use Rattle.bdb_tree.specs.of_format.Chains.{value_of}
-use Rattle.bdb_tree.specs.of_format.ContentRows.{fields_of}
-use Rattle.bdb_tree.specs.of_format.Contents.{StoredPair, bucket_pages, bucket_pairs, data_of, pair_at, pairs_in, pairs_of, table_pairs, tree_entries}
-use Rattle.bdb_tree.specs.of_format.Contents.{tree_pairs}
-use Rattle.bdb_tree.specs.of_format.Databases.{Database, databases}
-use Rattle.bdb_tree.specs.of_format.File.{File, file_of, page_at, page_bytes, type_in}
-use Rattle.bdb_tree.specs.of_format.Flags.{is_recno}
-use Rattle.bdb_tree.specs.of_format.Graph.{is_spare}
-use Rattle.bdb_tree.specs.of_format.HeadOf.{head_of}
-use Rattle.bdb_tree.specs.of_format.Leaves.{leaves}
-use Rattle.bdb_tree.specs.of_format.Lists.{ListKey, BytesKey, NumberKey, btree_list, by_key, hash_list, list_of, listed_entry, listed_pair, recno_list}
-use Rattle.bdb_tree.specs.of_format.Master.{master_in}
-use Rattle.bdb_tree.specs.of_format.Page.{Item, Listed, Metadata, BtreeFields, HashFields, QueueFields, Page, Zero}
+use Rattle.bdb_tree.specs.of_format.Terms.{BtreeFields, BytesKey, Database, File, Hash, HashFields, Item, Leaf, ListKey, Listed, Metadata, NumberKey, Page}
+use Rattle.bdb_tree.specs.of_format.Terms.{QueueFields, StoredPair, Zero, abstract_page, btree_list, bucket_pages, bucket_pairs, by_key, byte_at, data_of}
+use Rattle.bdb_tree.specs.of_format.Terms.{databases, fields_of, file_of, has_type, hash_item_at, hash_list, head_of, is_recno, is_spare, is_zero, leaves}
+use Rattle.bdb_tree.specs.of_format.Terms.{list_of, listed, listed_entry, listed_pair, master_in, page_as, page_at, page_bytes, page_type, pair_at, pairs_in}
+use Rattle.bdb_tree.specs.of_format.Terms.{pairs_of, recno_list, table_pairs, tree_entries, tree_pairs, type_in, value_of}
 use Rattle.bdb_tree.specs.of_format.declared.pages.PageType.{PageType}
 use Rattle.bdb_tree.specs.of_format.declared.pages.PageType.TheVariants.{Hash as HashPage}
-use Rattle.bdb_tree.specs.of_format.Page.{Hash, Leaf}
-use Rattle.bdb_tree.specs.of_format.Reading.{abstract_page, hash_item_at, is_zero, listed, page_as, page_type}
-use Rattle.bdb_tree.specs.of_format.Numbers.{byte_at}
-use Rattle.bdb_tree.specs.of_format.References.{has_type}
 use Rattle.bdb_tree.proofs.of_format.MemberLemmas.{of_range}
 use Rattle.bdb_tree.proofs.of_format.PageLemmas.{length_items}
 use Rattle.bdb_tree.proofs.of_format.TypeLemmas.{of_type}

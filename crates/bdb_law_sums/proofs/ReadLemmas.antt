@@ -3,10 +3,7 @@ use Rattle.std.proofs.Common.{◌≡◌, ◌≢◌, ℕ, zero, suc, true, List, 
 use Rattle.bdb_tree.specs.of_format.declared.metadata.FileKind.{FileKind}
 use Rattle.bdb_tree.specs.of_format.declared.metadata.FileKind.TheVariants.{Btree as BtreeFile, Hash as HashFile, Queue as QueueFile}
 use Rattle.bdb_tree.specs.of_format.declared.metadata.QueueMeta.{QueueMeta}
-use Rattle.bdb_tree.specs.of_format.File.{file_of, page_bytes}
-use Rattle.bdb_tree.specs.of_format.HeadOf.{head_of}
-use Rattle.bdb_tree.specs.of_format.Page.{QueueFields}
-use Rattle.bdb_tree.specs.of_format.Rows.{may_have_type}
+use Rattle.bdb_tree.specs.of_format.Terms.{QueueFields, file_of, head_of, may_have_type, page_bytes}
 use Rattle.bdb_tree.proofs.of_format.GraphLemmas.{type_fits}
 use Rattle.bdb_tree.proofs.of_format.PageLemmas.{later_type}
 use Rattle.bdb_tree.proofs.of_format.FileLemmas.{kind_is}

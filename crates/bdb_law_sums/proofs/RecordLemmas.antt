@@ -7,16 +7,10 @@ use Rattle.std.proofs.lemmas.List.Sums.{sum_by-cons}
 use Rattle.bdb_tree.specs.of_format.declared.metadata.HashMeta.{HashMeta}
 use Rattle.bdb_tree.specs.of_format.declared.references.Sort.{Sort}
 use Rattle.bdb_tree.specs.of_format.declared.references.Sort.TheVariants.{Root, DuplicateRoot}
-use Rattle.bdb_tree.specs.of_format.Chains.{value_of}
-use Rattle.bdb_tree.specs.of_format.Contents.{StoredPair, data_of, entries_in, live_values, table_pairs, tree_entries, tree_pairs}
-use Rattle.bdb_tree.specs.of_format.File.{File, file_of, page_at, type_in}
-use Rattle.bdb_tree.specs.of_format.Flags.{is_recno}
-use Rattle.bdb_tree.specs.of_format.Graph.{Owner, all_references}
-use Rattle.bdb_tree.specs.of_format.HeadOf.{head_of}
-use Rattle.bdb_tree.specs.of_format.Leaves.{is_root_reference, leaves, root_references}
-use Rattle.bdb_tree.specs.of_format.Lists.{ListKey, BytesKey, NumberKey, btree_list, by_key, hash_list, list_of, listed_entry, listed_pair, recno_list}
-use Rattle.bdb_tree.specs.of_format.Page.{Item, Metadata, BtreeFields, HashFields, QueueFields, Page, RecnoLeaf, DupLeaf}
-use Rattle.bdb_tree.specs.of_format.References.{has_type}
+use Rattle.bdb_tree.specs.of_format.Terms.{BtreeFields, BytesKey, DupLeaf, File, HashFields, Item, ListKey, Metadata, NumberKey, Owner, Page, QueueFields}
+use Rattle.bdb_tree.specs.of_format.Terms.{RecnoLeaf, StoredPair, all_references, btree_list, by_key, data_of, entries_in, file_of, has_type, hash_list}
+use Rattle.bdb_tree.specs.of_format.Terms.{head_of, is_recno, is_root_reference, leaves, list_of, listed_entry, listed_pair, live_values, page_at, recno_list}
+use Rattle.bdb_tree.specs.of_format.Terms.{root_references, table_pairs, tree_entries, tree_pairs, type_in, value_of}
 use Rattle.bdb_tree.proofs.of_format.MemberLemmas.{in_filter, member_cases, no_member}
 use Rattle.bdb_tree.specs.of_image.Linked.{FitsTreeRoot, HasMetadata, IsTarget}
 use Rattle.bdb_tree.proofs.of_graph.LinkedLemmas.{root_fits}

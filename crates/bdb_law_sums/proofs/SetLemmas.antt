@@ -2,10 +2,7 @@
 use Rattle.std.proofs.Common.{◌≡◌, ◌+◌, ◌*◌, sym, ◌∙◌, ap, inl, inr}
 use Rattle.std.specs.Prelude.{get_or, Some}
 use Rattle.bdb_tree.specs.of_format.declared.references.Sort.TheVariants.{DuplicateRoot, Root}
-use Rattle.bdb_tree.specs.of_format.File.{File, file_of, page_at}
-use Rattle.bdb_tree.specs.of_format.Leaves.{is_root_reference}
-use Rattle.bdb_tree.specs.of_format.Page.{Page}
-use Rattle.bdb_tree.specs.of_format.References.{no_item}
+use Rattle.bdb_tree.specs.of_format.Terms.{File, Page, file_of, is_root_reference, no_item, page_at}
 use Rattle.bdb_tree.proofs.of_format.ReferenceLemmas.{of_all}
 use Rattle.bdb_tree.specs.Noted.{paired}
 use Rattle.bdb_tree.proofs.RootLemmas.{reference_root, tree_of}

@@ -13,21 +13,15 @@ use Rattle.bdb_tree.specs.of_format.declared.references.Reference.{Reference}
 use Rattle.bdb_tree.specs.of_format.declared.references.Sort.{Sort}
 use Rattle.bdb_tree.specs.of_format.declared.references.Sort.TheVariants.{Free as FreeRef, Root, Bucket, HashNext, Child, OverflowHead, OverflowNext}
 use Rattle.bdb_tree.specs.of_format.declared.references.Sort.TheVariants.{DuplicateRoot}
-use Rattle.bdb_tree.specs.of_format.File.{File, file_of, page_at, page_bytes, type_in}
-use Rattle.bdb_tree.specs.of_format.Graph.{OneRole, Owner, all_references, held_by, is_anchor, is_anchor_in, is_head_reference, is_meta, is_spare, owners}
-use Rattle.bdb_tree.specs.of_format.HeadOf.{head_of}
-use Rattle.bdb_tree.specs.of_format.Leaves.{children_in, is_root_reference, leaves, root_references}
-use Rattle.bdb_tree.specs.of_format.Numbers.{byte_at}
-use Rattle.bdb_tree.specs.of_format.Reading.{abstract_page, is_zero, page_as, page_type}
-use Rattle.bdb_tree.specs.of_format.Rows.{form_code, metadata_rows, type_of}
-use Rattle.bdb_tree.specs.of_format.Table.{first_row}
+use Rattle.bdb_tree.specs.of_format.Terms.{Asked, BtreeFields, DupLeaf, File, Free, Hash, HashFields, Internal, Leaf, Meta, NoType, OneRole, Overflow, Owner}
+use Rattle.bdb_tree.specs.of_format.Terms.{Page, Queue, QueueFields, RecnoInternal, RecnoLeaf, Zero, abstract_page, all_references, asked_by, byte_at}
+use Rattle.bdb_tree.specs.of_format.Terms.{children_in, file_of, first_row, fit_code, fit_rows, form_code, has_type, head_of, held_by, is_anchor, is_anchor_in}
+use Rattle.bdb_tree.specs.of_format.Terms.{is_head_reference, is_meta, is_root_reference, is_spare, is_zero, is_zero_page, leaves, metadata_rows, owners}
+use Rattle.bdb_tree.specs.of_format.Terms.{page_as, page_at, page_bytes, page_type, refs, root_references, targets_of, type_in, type_of}
 use Rattle.bdb_tree.specs.of_format.declared.kinds.Order.{Order}
 use Rattle.bdb_tree.proofs.of_graph.ChildLemmas.{is_queue_page}
 use Rattle.bdb_tree.proofs.of_image.CodeLemmas.{first_page_code}
 use Rattle.bdb_tree.proofs.of_image.FirstLemmas.{formed_page}
-use Rattle.bdb_tree.specs.of_format.Page.{BtreeFields, HashFields, QueueFields, Page, Zero, Free, Meta, Hash, Internal, RecnoInternal, Leaf, RecnoLeaf}
-use Rattle.bdb_tree.specs.of_format.Page.{DupLeaf, Overflow, Queue, NoType}
-use Rattle.bdb_tree.specs.of_format.References.{Asked, asked_by, fit_code, fit_rows, has_type, is_zero_page, targets_of, refs}
 use Rattle.bdb_tree.proofs.of_format.GraphLemmas.{each_fits, each_page_has_one_role, is_owner, owner_fits, reserve_is}
 use Rattle.bdb_tree.proofs.of_format.MemberLemmas.{first_member, member_cases, no_member, of_map}
 use Rattle.bdb_tree.proofs.of_format.VerdictLemmas.{AllFail, none_is_first_row}

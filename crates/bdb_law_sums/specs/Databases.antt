@@ -5,17 +5,9 @@ use Rattle.std.specs.Prelude.{Option, Some, None}
 use Rattle.std.specs.List.{Contains, flat_map, range_with_len, sum_by}
 use Rattle.bdb_tree.specs.of_format.declared.metadata.BtreeMeta.{BtreeMeta}
 use Rattle.bdb_tree.specs.of_format.declared.metadata.FileKind.TheVariants.{Queue}
-use Rattle.bdb_tree.specs.of_format.ContentRows.{fields_of}
-use Rattle.bdb_tree.specs.of_format.Contents.{StoredPair, bucket_pages, data_of, live_values, pairs_of}
-use Rattle.bdb_tree.specs.of_format.Databases.{Database, databases}
-use Rattle.bdb_tree.specs.of_format.File.{File, file_of, page_at}
-use Rattle.bdb_tree.specs.of_format.Graph.{is_spare}
-use Rattle.bdb_tree.specs.of_format.Leaves.{leaves}
-use Rattle.bdb_tree.specs.of_format.Lists.{ListKey, BytesKey, NumberKey, btree_list, list_of}
-use Rattle.bdb_tree.specs.of_format.Master.{master_in}
-use Rattle.bdb_tree.specs.of_format.Page.{Metadata, BtreeFields, HashFields, QueueFields, Tree}
-use Rattle.bdb_tree.specs.of_format.References.{no_item}
-use Rattle.bdb_tree.specs.of_format.Verdict.{master_faults, structure_faults}
+use Rattle.bdb_tree.specs.of_format.Terms.{BtreeFields, BytesKey, Database, File, HashFields, ListKey, Metadata, NumberKey, QueueFields, StoredPair, Tree}
+use Rattle.bdb_tree.specs.of_format.Terms.{btree_list, bucket_pages, data_of, databases, fields_of, file_of, is_spare, leaves, list_of, live_values}
+use Rattle.bdb_tree.specs.of_format.Terms.{master_faults, master_in, no_item, page_at, pairs_of, structure_faults}
 use Rattle.bdb_tree.specs.of_image.Linked.{FitsDupRoot, FitsTreeRoot, IsForest}
 use Rattle.bdb_tree.specs.Noted.{paired}
 use Rattle.bdb_law_sums.specs.HashSums.{is_hash_page}

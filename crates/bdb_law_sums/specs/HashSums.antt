@@ -3,12 +3,7 @@ use Rattle.std.specs.Prelude.{◌≡◌, ℕ, ◌+◌, Bool, true, false, List, 
 use Rattle.std.specs.List.{filter, range_with_len, sum_by}
 use Rattle.bdb_tree.specs.of_format.declared.references.Sort.{Sort}
 use Rattle.bdb_tree.specs.of_format.declared.references.Sort.TheVariants.{Bucket}
-use Rattle.bdb_tree.specs.of_format.Chains.{chain}
-use Rattle.bdb_tree.specs.of_format.Contents.{StoredPair}
-use Rattle.bdb_tree.specs.of_format.Lists.{by_key}
-use Rattle.bdb_tree.specs.of_format.File.{File, file_of, page_at, type_in}
-use Rattle.bdb_tree.specs.of_format.Graph.{Owner, all_references, is_spare}
-use Rattle.bdb_tree.specs.of_format.References.{has_type}
+use Rattle.bdb_tree.specs.of_format.Terms.{File, Owner, StoredPair, all_references, by_key, chain, file_of, has_type, is_spare, page_at, type_in}
 use Rattle.bdb_tree.specs.of_image.Linked.{IsForest}
 
 abbrev pub is_hash_page : File → ℕ → Bool

@@ -1,10 +1,7 @@
 -- Sums over leaves: over all pages, and over the trees that hold them. Source: docs/FORMAT.md, "References".
 use Rattle.std.specs.Prelude.{◌≡◌, ◌≤◌, IsTrue, ℕ, ◌+◌, if◌then◌else◌, List, [], ◌∷◌}
 use Rattle.std.specs.List.{range_with_len, sum_by}
-use Rattle.bdb_tree.specs.of_format.File.{File, file_of, page_at, type_in}
-use Rattle.bdb_tree.specs.of_format.Graph.{Owner}
-use Rattle.bdb_tree.specs.of_format.Leaves.{leaves, root_references}
-use Rattle.bdb_tree.specs.of_format.References.{has_type}
+use Rattle.bdb_tree.specs.of_format.Terms.{File, Owner, file_of, has_type, leaves, page_at, root_references, type_in}
 use Rattle.bdb_tree.specs.of_image.Linked.{IsForest}
 use Rattle.bdb_law_sums.specs.Counting.{times}
 

@@ -17,15 +17,12 @@ use Rattle.bdb_graph.specs.of_format.declared.kinds.Order.TheVariants.{Big, Litt
 use Rattle.bdb_graph.specs.of_format.declared.kinds.Fault.{Fault}
 use Rattle.bdb_graph.specs.of_format.declared.metadata.FileKind.{FileKind}
 use Rattle.bdb_graph.specs.of_format.declared.metadata.Head.{Head}
-use Rattle.bdb_graph.specs.of_format.File.{File, file_of, page_at, page_bytes}
-use Rattle.bdb_graph.specs.of_format.HeadOf.{file_kind, head_of, head_rows, heap_magic, is_magic, is_page_size, is_past, last_page, magic_at, order_of, pages_of}
-use Rattle.bdb_graph.specs.of_format.Numbers.{byte_at, four_at, from_low_end, has_bit, number_at, turned}
-use Rattle.bdb_graph.specs.of_format.Page.{Page}
-use Rattle.bdb_graph.specs.of_format.Reading.{abstract_page, is_zero}
-use Rattle.bdb_graph.specs.of_format.Rows.{form_code, is_queue, version_of}
-use Rattle.bdb_graph.specs.of_format.Table.{Row, ◌:?◌, first_row}
-use Rattle.bdb_graph.specs.of_format.Verdict.{reference_faults, ownership_faults, reach_faults, structure_faults, master_faults, contents_faults, by_page, faults_in}
-use Rattle.bdb_graph.specs.of_format.Verdict.{faults_of, file_faults, form_faults, head_faults, holding, stage_faults, tail_faults, tail_rows}
+use Rattle.bdb_graph.specs.of_format.Terms.{File, Page, Row, abstract_page, by_page, byte_at, contents_faults, faults_in, faults_of, file_faults, file_kind}
+use Rattle.bdb_graph.specs.of_format.Terms.{file_of, first_row, form_code, form_faults, four_at, from_low_end, has_bit, head_faults, head_of, head_rows}
+use Rattle.bdb_graph.specs.of_format.Terms.{heap_magic, is_magic, is_page_size, is_past, is_queue, is_zero, last_page, magic_at, master_faults, number_at}
+use Rattle.bdb_graph.specs.of_format.Terms.{order_of, ownership_faults, page_at, page_bytes, pages_of, reach_faults, reference_faults, stage_faults}
+use Rattle.bdb_graph.specs.of_format.Terms.{structure_faults, tail_faults, tail_rows, turned, version_of, ◌:?◌}
+use Rattle.bdb_graph.specs.of_format.Verdict.{holding}
 use Rattle.bdb_graph.specs.of_image.Formed.{IsAccepted}
 use Rattle.bdb_law_turned.specs.Flipped.{first_overlap, flipped}
 use Rattle.bdb_law_turned.specs.Laws.{TurnsRound, turned_head}

@@ -9,11 +9,8 @@ use Rattle.bdb_graph.proofs.of_format.MemberLemmas.{first_member, later_member, 
 use Rattle.bdb_graph.proofs.of_layout.RowLemmas.{hash_fits}
 use Rattle.bdb_graph.specs.of_layout.Fits.{FitsHash}
 use Rattle.bdb_graph.specs.of_format.declared.kinds.Order.{Order}
-use Rattle.bdb_graph.specs.of_format.Numbers.{byte_at, four_at, turned}
-use Rattle.bdb_graph.specs.of_format.Page.{Content, Inline, Set, Chain, Tree, Item}
-use Rattle.bdb_graph.specs.of_format.Reading.{blocks_of, entries_of, hash_content, hash_end, hash_item_at, offset_of}
-use Rattle.bdb_graph.specs.of_format.Rows.{does_not_fall, hash_rows, misses_extent}
-use Rattle.bdb_graph.specs.of_format.Table.{first_row}
+use Rattle.bdb_graph.specs.of_format.Terms.{Chain, Content, Inline, Item, Set, Tree, blocks_of, byte_at, does_not_fall, entries_of, first_row, four_at}
+use Rattle.bdb_graph.specs.of_format.Terms.{hash_content, hash_end, hash_item_at, hash_rows, misses_extent, offset_of, turned}
 use Rattle.bdb_law_turned.specs.Fields.{Field, block_fields, field, hash_fields}
 use Rattle.bdb_law_turned.specs.Apart.{IsUntouched, run_length}
 pub use Rattle.bdb_law_turned.specs.Parts.{hash_part}

@@ -8,11 +8,8 @@ use Rattle.bdb_graph.proofs.of_format.TurnLemmas.{length-slice_range}
 use Rattle.bdb_graph.proofs.of_layout.RowLemmas.{recno_fits}
 use Rattle.bdb_graph.specs.of_format.declared.kinds.Order.{Order}
 use Rattle.bdb_graph.specs.of_format.declared.pages.RecnoItem.{RecnoItem}
-use Rattle.bdb_graph.specs.of_format.Numbers.{byte_at, four_at, two_at, turned}
-use Rattle.bdb_graph.specs.of_format.Page.{Content, Inline, InternalItem}
-use Rattle.bdb_graph.specs.of_format.Reading.{entries_of, internal_item_at, internal_key, kind_at, listed, offset_of, recno_item_at}
-use Rattle.bdb_graph.specs.of_format.Rows.{internal_rows, recno_rows}
-use Rattle.bdb_graph.specs.of_format.Table.{first_row}
+use Rattle.bdb_graph.specs.of_format.Terms.{Content, Inline, InternalItem, byte_at, entries_of, first_row, four_at, internal_item_at, internal_key}
+use Rattle.bdb_graph.specs.of_format.Terms.{internal_rows, kind_at, listed, offset_of, recno_item_at, recno_rows, turned, two_at}
 use Rattle.bdb_law_turned.specs.Fields.{Field, field, internal_fields, key_fields, no_internal, no_recno, recno_fields}
 use Rattle.bdb_graph.specs.of_form.Ends.{internal_item_end}
 use Rattle.bdb_graph.proofs.of_form.EndLemmas.{KeyInline as IsInline, KeyChain as IsChain, KeyCase, key_case}

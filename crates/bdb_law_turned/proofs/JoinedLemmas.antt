@@ -4,7 +4,7 @@ use Rattle.std.specs.List.{flat_map, range_with_len}
 use Rattle.std.proofs.Math.Seq.{drop-append-add}
 use Rattle.std.proofs.lemmas.List.{drop-drop, drop-take, length-append, take-take, take_all, take_at}
 use Rattle.bdb_graph.specs.of_format.declared.kinds.Order.{Order}
-use Rattle.bdb_graph.specs.of_format.Numbers.{number, number_at}
+use Rattle.bdb_graph.specs.of_format.Terms.{number, number_at}
 
 pub page_of_joined : (f : ℕ → List ℕ) (size a n p : ℕ) → ((q : ℕ) → a ≤ q → q < a + n → length (f q) ≡ size) → p < n
     → take size (drop (p * size) (flat_map f (range_with_len a n))) ≡ f (a + p)

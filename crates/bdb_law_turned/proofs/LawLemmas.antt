@@ -4,16 +4,8 @@ use Rattle.std.specs.Prelude.{cond, true, false, None}
 use Rattle.bdb_graph.specs.of_format.declared.kinds.Order.{Order}
 use Rattle.bdb_graph.specs.of_format.declared.kinds.Order.TheVariants.{Big, Little}
 use Rattle.bdb_graph.specs.of_format.declared.metadata.Head.{Head}
-use Rattle.bdb_graph.specs.of_format.Databases.{btree_settings, databases, recno_settings, settings_of}
-use Rattle.bdb_graph.specs.of_format.Flags.{is_recno}
-use Rattle.bdb_graph.specs.of_format.File.{File, file_of}
-use Rattle.bdb_graph.specs.of_format.Graph.{is_anchor, is_reserve, owners}
-use Rattle.bdb_graph.specs.of_format.HeadOf.{head_of}
-use Rattle.bdb_graph.specs.of_format.Lists.{list_of}
-use Rattle.bdb_graph.specs.of_format.Numbers.{turned}
-use Rattle.bdb_graph.specs.of_format.Page.{Metadata, BtreeFields, HashFields, QueueFields}
-use Rattle.bdb_graph.specs.of_format.References.{refs}
-use Rattle.bdb_graph.specs.of_format.Verdict.{faults_of}
+use Rattle.bdb_graph.specs.of_format.Terms.{BtreeFields, File, HashFields, Metadata, QueueFields, btree_settings, databases, faults_of, file_of, head_of}
+use Rattle.bdb_graph.specs.of_format.Terms.{is_anchor, is_recno, is_reserve, list_of, owners, recno_settings, refs, settings_of, turned}
 use Rattle.bdb_law_turned.specs.Flipped.{first_overlap, flip_of, flipped, has_order, overlap_in, same_order}
 use Rattle.bdb_law_turned.specs.Laws.{FilesFlip, Flips, FlippedFilesKeepDatabases}
 use Rattle.bdb_law_turned.proofs.FlipLemmas.{TurnsWhole, image_turns}

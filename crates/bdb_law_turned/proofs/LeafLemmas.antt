@@ -6,13 +6,9 @@ use Rattle.std.proofs.lemmas.Bool.Decides.{nat_tests}
 use Rattle.bdb_graph.proofs.of_format.MemberLemmas.{first_member, later_member, member_cases, no_member}
 use Rattle.bdb_graph.proofs.of_format.TurnLemmas.{length-slice_range}
 use Rattle.bdb_graph.specs.of_format.declared.kinds.Order.{Order}
-use Rattle.bdb_graph.specs.of_format.Numbers.{byte_at, four_at, two_at, turned}
-use Rattle.bdb_graph.specs.of_format.Page.{Content, Inline, Set, Chain, Tree, Unknown, Item}
+use Rattle.bdb_graph.specs.of_format.Terms.{Chain, Content, Inline, Item, Set, Tree, Unknown, byte_at, entries_of, first_row, four_at, header_of, item_rows}
+use Rattle.bdb_graph.specs.of_format.Terms.{kind_at, leaf_content, leaf_end, leaf_item_at, leaf_rows, listed, listed_code, no_item, offset_of, turned, two_at}
 use Rattle.bdb_graph.specs.of_format.declared.pages.PageType.{PageType}
-use Rattle.bdb_graph.specs.of_format.References.{no_item}
-use Rattle.bdb_graph.specs.of_format.Reading.{entries_of, header_of, kind_at, leaf_content, leaf_item_at, listed, offset_of}
-use Rattle.bdb_graph.specs.of_format.Rows.{item_rows, leaf_end, leaf_rows, listed_code}
-use Rattle.bdb_graph.specs.of_format.Table.{first_row}
 use Rattle.bdb_law_turned.specs.Fields.{Field, field, leaf_fields}
 use Rattle.bdb_graph.specs.of_form.Ends.{leaf_item_end}
 use Rattle.bdb_graph.proofs.of_form.EndLemmas.{IsInline, IsTree, IsChain, kind_case}

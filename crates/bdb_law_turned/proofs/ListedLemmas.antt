@@ -12,11 +12,9 @@ use Rattle.std.proofs.lemmas.Bool.Decides.{nat_tests}
 use Rattle.bdb_law_turned.specs.Overlaps.{listed_overlap, share_bytes}
 use Rattle.bdb_graph.specs.of_format.declared.kinds.Order.{Order}
 use Rattle.bdb_graph.specs.of_format.declared.pages.ItemFault.{ItemFault}
-use Rattle.bdb_graph.specs.of_format.Numbers.{byte_at, turned, four_at, two_at}
+use Rattle.bdb_graph.specs.of_format.Terms.{Row, byte_at, entries_of, first_row, four_at, header_of, index_rows, is_code, item_code, item_row, item_rows}
+use Rattle.bdb_graph.specs.of_format.Terms.{listed, listed_code, offset_of, turned, two_at}
 use Rattle.bdb_graph.specs.of_format.declared.pages.PageType.{PageType}
-use Rattle.bdb_graph.specs.of_format.Reading.{entries_of, header_of, listed, offset_of}
-use Rattle.bdb_graph.specs.of_format.Rows.{index_rows, item_row, item_rows, is_code, item_code, listed_code}
-use Rattle.bdb_graph.specs.of_format.Table.{Row, first_row}
 use Rattle.bdb_law_turned.specs.Fields.{Field, field, header_fields, index_fields, listed_fields}
 pub use Rattle.bdb_law_turned.specs.Parts.{all_fields}
 use Rattle.bdb_law_turned.specs.Apart.{AreApart, IsUntouched, LieWithin}

@@ -12,22 +12,18 @@ use Rattle.bdb_graph.specs.of_format.declared.metadata.FileKind.{FileKind}
 use Rattle.bdb_graph.specs.of_format.declared.metadata.FileKind.TheVariants.{Btree, Hash as HashFile, Queue as QueueFile}
 use Rattle.bdb_graph.specs.of_format.declared.pages.Header.{Header}
 use Rattle.bdb_graph.specs.of_format.declared.pages.RecnoItem.{RecnoItem}
-use Rattle.bdb_graph.specs.of_format.HeadOf.{is_page_size}
-use Rattle.bdb_graph.specs.of_format.Numbers.{byte_at, four_at, two_at, turned}
-use Rattle.bdb_graph.specs.of_format.Page.{Item, InternalItem, Metadata, BtreeFields, HashFields, QueueFields, Page, Zero, Free, Meta, Hash, Internal, RecnoInternal}
-use Rattle.bdb_graph.specs.of_format.Page.{Leaf, RecnoLeaf, DupLeaf, Overflow, Queue}
+use Rattle.bdb_graph.specs.of_format.Terms.{BtreeFields, DupLeaf, Free, Hash, HashFields, Internal, InternalItem, Item, Leaf, Meta, Metadata, Overflow, Page}
+use Rattle.bdb_graph.specs.of_format.Terms.{Queue, QueueFields, RecnoInternal, RecnoLeaf, Row, Zero, abstract_page, body_code, btree_fields, byte_at}
+use Rattle.bdb_graph.specs.of_format.Terms.{entries_of, first_row, form_code, four_at, hash_fields as table_fields, hash_item_at, header_of, internal_item_at}
+use Rattle.bdb_graph.specs.of_format.Terms.{is_page_size, is_queue, is_queue_type, is_tree_type, is_zero, item_rows, kind_rows, leaf_item_at, listed}
+use Rattle.bdb_graph.specs.of_format.Terms.{listed_code, may_have_type, meta_rows, no_item, page_as, page_type, queue_fields, recno_item_at, turned, two_at}
+use Rattle.bdb_graph.specs.of_format.Terms.{type_of, typed_code, ◌:?◌}
 use Rattle.bdb_graph.specs.of_format.declared.pages.PageType.{PageType}
 use Rattle.bdb_graph.specs.of_format.declared.pages.PageType.TheVariants.{Free as FreePage, Hash as HashPage, Internal as InternalPage}
 use Rattle.bdb_graph.specs.of_format.declared.pages.PageType.TheVariants.{RecnoInternal as RecnoInternalPage, Leaf as LeafPage, RecnoLeaf as RecnoLeafPage}
 use Rattle.bdb_graph.specs.of_format.declared.pages.PageType.TheVariants.{Overflow as OverflowPage, HashMeta as HashMetaPage, BtreeMeta as BtreeMetaPage}
 use Rattle.bdb_graph.specs.of_format.declared.pages.PageType.TheVariants.{QueueMeta as QueueMetaPage, Queue as QueuePage, DupLeaf as DupLeafPage}
 use Rattle.bdb_graph.specs.of_format.declared.pages.PageType.TheVariants.{Other as OtherPage}
-use Rattle.bdb_graph.specs.of_format.References.{no_item}
-use Rattle.bdb_graph.specs.of_format.Reading.{abstract_page, btree_fields, entries_of, hash_fields as table_fields, hash_item_at, header_of, internal_item_at, is_zero}
-use Rattle.bdb_graph.specs.of_format.Reading.{leaf_item_at, listed, page_as, page_type, queue_fields, recno_item_at}
-use Rattle.bdb_graph.specs.of_format.Rows.{body_code, form_code, is_queue, is_queue_type, is_tree_type, item_rows, listed_code, may_have_type, meta_rows, kind_rows}
-use Rattle.bdb_graph.specs.of_format.Rows.{typed_code, type_of}
-use Rattle.bdb_graph.specs.of_format.Table.{Row, ◌:?◌, first_row}
 use Rattle.bdb_graph.proofs.of_image.CodeLemmas.{code_by, not_zero}
 use Rattle.bdb_graph.proofs.of_format.TypeLemmas.{one_type}
 use Rattle.bdb_graph.proofs.of_format.PageLemmas.{later_type}

@@ -5,7 +5,7 @@ use Rattle.std.specs.List.{Contains, find}
 use Rattle.std.proofs.lemmas.List.FromFn.{get_or-map-range_with_len, length-map-range_with_len}
 use Rattle.std.proofs.lemmas.Bool.Decides.{nat_tests}
 use Rattle.bdb_graph.proofs.of_format.MemberLemmas.{first_member, later_member, member_cases, no_member}
-use Rattle.bdb_graph.specs.of_format.Numbers.{byte_at}
+use Rattle.bdb_graph.specs.of_format.Terms.{byte_at}
 use Rattle.bdb_law_turned.specs.Fields.{Field}
 use Rattle.bdb_law_turned.specs.Turning.{is_in, mirror, turned_round}
 use Rattle.bdb_law_turned.specs.Apart.{AreApart, IsUntouched, LieWithin}

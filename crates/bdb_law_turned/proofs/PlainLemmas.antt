@@ -9,11 +9,9 @@ use Rattle.bdb_graph.specs.of_format.declared.metadata.FileKind.{FileKind}
 use Rattle.bdb_graph.specs.of_format.declared.metadata.BtreeMeta.{BtreeMeta}
 use Rattle.bdb_graph.specs.of_format.declared.metadata.HashMeta.{HashMeta}
 use Rattle.bdb_graph.specs.of_format.declared.metadata.QueueMeta.{QueueMeta}
-use Rattle.bdb_graph.specs.of_format.Numbers.{byte_at, four_at, turned}
-use Rattle.bdb_graph.specs.of_format.Page.{Metadata, BtreeFields, HashFields, QueueFields}
-use Rattle.bdb_graph.specs.of_format.Reading.{btree_fields, hash_fields as table_fields, queue_fields}
-use Rattle.bdb_graph.specs.of_format.Rows.{are_masks, lacks_spare, records_per_page, btree_rows, meta_rows, queue_rows, table_rows}
-use Rattle.bdb_graph.specs.of_format.Table.{Row, ◌:?◌}
+use Rattle.bdb_graph.specs.of_format.Terms.{BtreeFields, HashFields, Metadata, QueueFields, Row, are_masks, btree_fields, btree_rows, byte_at, four_at}
+use Rattle.bdb_graph.specs.of_format.Terms.{hash_fields as table_fields, lacks_spare, meta_rows, queue_fields, queue_rows, records_per_page, table_rows}
+use Rattle.bdb_graph.specs.of_format.Terms.{turned, ◌:?◌}
 use Rattle.bdb_law_turned.specs.Fields.{Field, common_fields, field, fours, kind_fields}
 use Rattle.bdb_law_turned.specs.Apart.{IsUntouched}
 use Rattle.bdb_law_turned.proofs.ReadLemmas.{IsTurned, number_same}

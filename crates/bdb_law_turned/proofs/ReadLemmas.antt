@@ -4,11 +4,10 @@ use Rattle.std.proofs.Common.{length-drop}
 use Rattle.std.specs.Prelude.{slice_range, true, false, map}
 use Rattle.std.specs.List.{Contains, range_with_len}
 use Rattle.std.proofs.lemmas.Bool.Decides.{nat_tests}
-use Rattle.bdb_graph.specs.of_format.Reading.{is_zero}
+use Rattle.bdb_graph.specs.of_format.Terms.{byte_at, is_zero, number, number_at, turned}
 use Rattle.std.proofs.lemmas.List.{ext_get_or, length-take-le, length-reverse, get_or-take, get_or-drop, get_or-reverse, get_or_past}
 use Rattle.bdb_graph.proofs.of_format.TurnLemmas.{number-turned}
 use Rattle.bdb_graph.specs.of_format.declared.kinds.Order.{Order}
-use Rattle.bdb_graph.specs.of_format.Numbers.{byte_at, number, number_at, turned}
 use Rattle.bdb_law_turned.specs.Fields.{Field, field}
 use Rattle.bdb_law_turned.specs.Turning.{mirror, turned_round}
 use Rattle.bdb_law_turned.specs.Apart.{AreApart, IsUntouched, LieWithin}

@@ -9,8 +9,7 @@ use Rattle.bdb_graph.proofs.of_format.MemberLemmas.{first_member, later_member, 
 use Rattle.bdb_graph.proofs.of_format.TurnLemmas.{length-slice_range}
 use Rattle.bdb_graph.proofs.of_layout.BlockLemmas.{after_first, blocks_of-cons, lacks_block, with_first, whole_block}
 use Rattle.bdb_graph.specs.of_format.declared.kinds.Order.{Order}
-use Rattle.bdb_graph.specs.of_format.Numbers.{number, number_at, two_at, turned}
-use Rattle.bdb_graph.specs.of_format.Reading.{blocks_of}
+use Rattle.bdb_graph.specs.of_format.Terms.{blocks_of, number, number_at, turned, two_at}
 use Rattle.bdb_law_turned.specs.Fields.{Field, block_fields, field}
 use Rattle.bdb_law_turned.specs.Apart.{IsUntouched}
 use Rattle.bdb_law_turned.proofs.ReadLemmas.{IsTurned, number_same, slice_same}

@@ -2,9 +2,9 @@
 use Rattle.std.specs.Prelude.{ℕ, zero, suc, ◌+◌, ◌*◌, List, [], ◌∷◌, ◌++◌, map, length, slice_index, get_or}
 use Rattle.std.specs.List.{flat_map, range_with_len}
 use Rattle.bdb_graph.specs.of_format.declared.pages.RecnoItem.{RecnoItem}
-use Rattle.bdb_graph.specs.of_format.Page.{Content, Inline, Set, Chain, Tree, Unknown, Item, InternalItem, Listed, Metadata, BtreeFields, HashFields, QueueFields, Page}
-use Rattle.bdb_graph.specs.of_format.Page.{Zero, Free, Meta, Hash, Internal, RecnoInternal, Leaf, RecnoLeaf, DupLeaf, Overflow, Queue, NoType}
-use Rattle.bdb_graph.specs.of_format.References.{no_item}
+use Rattle.bdb_graph.specs.of_format.Terms.{BtreeFields, Chain, Content, DupLeaf, Free, Hash, HashFields, Inline, Internal, InternalItem, Item, Leaf, Listed}
+use Rattle.bdb_graph.specs.of_format.Terms.{Meta, Metadata, NoType, Overflow, Page, Queue, QueueFields, RecnoInternal, RecnoLeaf, Set, Tree, Unknown, Zero}
+use Rattle.bdb_graph.specs.of_format.Terms.{no_item}
 
 -- a number on a page: where it begins, and how many bytes it has
 pub record Field : Type 0 where

@@ -4,8 +4,7 @@ use Rattle.std.specs.List.{find, flat_map, range_with_len}
 use Rattle.bdb_graph.specs.of_format.declared.kinds.Order.{Order}
 use Rattle.bdb_graph.specs.of_format.declared.kinds.Order.TheVariants.{Big, Little}
 use Rattle.bdb_graph.specs.of_format.declared.metadata.Head.{Head}
-use Rattle.bdb_graph.specs.of_format.File.{File, file_of, page_at, page_bytes}
-use Rattle.bdb_graph.specs.of_format.HeadOf.{head_of}
+use Rattle.bdb_graph.specs.of_format.Terms.{File, file_of, head_of, page_at, page_bytes}
 use Rattle.bdb_law_turned.specs.Overlaps.{overlaps}
 use Rattle.bdb_law_turned.specs.Turning.{turned_page}
 

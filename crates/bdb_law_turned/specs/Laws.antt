@@ -2,17 +2,8 @@
 use Rattle.std.specs.Prelude.{◌≡◌, ◌≤◌, ◌^◌, ℕ, List, [], length, true, false, None}
 use Rattle.bdb_graph.specs.of_format.declared.kinds.Order.{Order}
 use Rattle.bdb_graph.specs.of_format.declared.metadata.Head.{Head}
-use Rattle.bdb_graph.specs.of_format.Databases.{databases, settings_of}
-use Rattle.bdb_graph.specs.of_format.File.{file_of}
-use Rattle.bdb_graph.specs.of_format.Graph.{is_anchor, is_reserve, owners}
-use Rattle.bdb_graph.specs.of_format.HeadOf.{head_of, is_page_size}
-use Rattle.bdb_graph.specs.of_format.Lists.{list_of}
-use Rattle.bdb_graph.specs.of_format.Numbers.{turned}
-use Rattle.bdb_graph.specs.of_format.Page.{Metadata}
-use Rattle.bdb_graph.specs.of_format.Reading.{abstract_page}
-use Rattle.bdb_graph.specs.of_format.References.{refs}
-use Rattle.bdb_graph.specs.of_format.Rows.{form_code}
-use Rattle.bdb_graph.specs.of_format.Verdict.{faults_of}
+use Rattle.bdb_graph.specs.of_format.Terms.{Metadata, abstract_page, databases, faults_of, file_of, form_code, head_of, is_anchor, is_page_size, is_reserve}
+use Rattle.bdb_graph.specs.of_format.Terms.{list_of, owners, refs, settings_of, turned}
 use Rattle.bdb_law_turned.specs.Flipped.{flip_of, overlap_in}
 use Rattle.bdb_law_turned.specs.Overlaps.{overlaps}
 use Rattle.bdb_law_turned.specs.Turning.{turned_page}

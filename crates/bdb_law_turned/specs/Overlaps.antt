@@ -2,9 +2,8 @@
 use Rattle.std.specs.Prelude.{ℕ, ◌+◌, nat_lt, ◌==◌, ◌&&◌, not, Bool, false, length, slice_index, get_or}
 use Rattle.std.specs.List.{list_any, range_with_len}
 use Rattle.bdb_graph.specs.of_format.declared.pages.RecnoItem.{RecnoItem}
-use Rattle.bdb_graph.specs.of_format.Page.{Item, InternalItem, Listed, Page, Zero, Free, Meta, Hash, Internal, RecnoInternal}
-use Rattle.bdb_graph.specs.of_format.Page.{Leaf, RecnoLeaf, DupLeaf, Overflow, Queue, NoType}
-use Rattle.bdb_graph.specs.of_format.References.{no_item}
+use Rattle.bdb_graph.specs.of_format.Terms.{DupLeaf, Free, Hash, Internal, InternalItem, Item, Leaf, Listed, Meta, NoType, Overflow, Page, Queue}
+use Rattle.bdb_graph.specs.of_format.Terms.{RecnoInternal, RecnoLeaf, Zero, no_item}
 use Rattle.bdb_graph.specs.of_form.Ends.{internal_item_end, leaf_item_end}
 use Rattle.bdb_law_turned.specs.Fields.{no_internal, no_recno}
 

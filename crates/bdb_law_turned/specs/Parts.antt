@@ -2,8 +2,7 @@
 use Rattle.std.specs.Prelude.{ℕ, ◌+◌, List, ◌++◌}
 use Rattle.std.specs.List.{flat_map, range_with_len}
 use Rattle.bdb_graph.specs.of_format.declared.kinds.Order.{Order}
-use Rattle.bdb_graph.specs.of_format.Page.{Content, Inline, Set, Chain, Tree, Unknown}
-use Rattle.bdb_graph.specs.of_format.Reading.{hash_item_at, internal_item_at, leaf_item_at, offset_of}
+use Rattle.bdb_graph.specs.of_format.Terms.{Chain, Content, Inline, Set, Tree, Unknown, hash_item_at, internal_item_at, leaf_item_at, offset_of}
 use Rattle.bdb_law_turned.specs.Fields.{Field, hash_fields, header_fields, index_fields, internal_fields, leaf_fields, recno_fields}
 use Rattle.bdb_graph.specs.of_form.Ends.{internal_item_end, leaf_item_end}
 use Rattle.bdb_law_turned.specs.Apart.{run_length}

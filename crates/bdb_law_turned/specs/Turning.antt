@@ -2,8 +2,7 @@
 use Rattle.std.specs.Prelude.{ℕ, ◌+◌, ◌-◌, ◌*◌, nat_le, nat_lt, ◌&&◌, Bool, List, map, length, Option, Some, None}
 use Rattle.std.specs.List.{find, range_with_len}
 use Rattle.bdb_graph.specs.of_format.declared.kinds.Order.{Order}
-use Rattle.bdb_graph.specs.of_format.Numbers.{byte_at}
-use Rattle.bdb_graph.specs.of_format.Reading.{abstract_page}
+use Rattle.bdb_graph.specs.of_format.Terms.{abstract_page, byte_at}
 use Rattle.bdb_law_turned.specs.Fields.{Field, fields_of}
 
 -- a place lies in a number

@@ -1,8 +1,7 @@
 //! Where the items of pages lie.
 ghost use Rattle.std.specs.Prelude.{◌≡◌, ◌+◌, ◌<◌, ℕ, None};
 ghost use Rattle.bdb_graph.specs.of_form.Ends.{ArePlaced, internal_item_end, leaf_item_end};
-ghost use Rattle.bdb_graph.specs.of_format.Reading.{entries_of, offset_of};
-ghost use Rattle.bdb_graph.specs.of_format.Rows.{listed_code};
+ghost use Rattle.bdb_graph.specs.of_format.Terms.{entries_of, listed_code, offset_of};
 
 use bdb_graph::{
     EndKind, Entries, EntryLeafKind, InternalKind, LeafKind, Order, RecnoInternalKind,

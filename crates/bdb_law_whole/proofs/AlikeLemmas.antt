@@ -2,10 +2,8 @@
 use Rattle.std.proofs.Common.{◌≡◌, ℕ, zero, suc, Bool, true, false, List, [], ◌∷◌, length, map, refl, ◌∙◌, ap}
 use Rattle.std.specs.Prelude.{◌==◌, ◌&&◌, not, if◌then◌else◌}
 use Rattle.std.specs.List.{flat_map}
-use Rattle.bdb_survey.specs.of_format.Chains.{chain, chain_in, joined, next_of, piece_in, pieces_of}
-use Rattle.bdb_survey.specs.of_format.Contents.{entries_in}
-use Rattle.bdb_survey.specs.of_format.File.{file_of, header_in, page_at}
-use Rattle.bdb_survey.specs.of_format.Page.{Content, Inline, Set, Chain, Tree, Unknown, Item, Page, Zero, NoType}
+use Rattle.bdb_survey.specs.of_format.Terms.{Chain, Content, Inline, Item, NoType, Page, Set, Tree, Unknown, Zero, chain, chain_in, entries_in, file_of}
+use Rattle.bdb_survey.specs.of_format.Terms.{header_in, joined, next_of, page_at, piece_in, pieces_of}
 use Rattle.bdb_survey.proofs.of_format.ListLemmas.{flat_map_same}
 use Rattle.bdb_survey.specs.Salvage.{follows, is_link, is_overflow, is_row, is_whole, live_value, live_whole, whole_values}
 use Rattle.bdb_law_whole.specs.Guessed.{guessed}

@@ -6,20 +6,16 @@ use Rattle.std.proofs.lemmas.Bool.{and_from, cases_Bool, cases_eq, eq-eqb, eqb-f
 use Rattle.bdb_survey.specs.of_format.declared.kinds.Order.{Order}
 use Rattle.bdb_survey.specs.of_format.declared.references.Reference.{Reference}
 use Rattle.bdb_survey.specs.of_format.declared.references.Sort.TheVariants.{OverflowNext}
-use Rattle.bdb_survey.specs.of_format.Chains.{chain_in, chains_in, content_chains, is_wrong_length, joined, next_of, pieces_of}
-use Rattle.bdb_survey.specs.of_format.File.{File, file_of, header_in, page_at, page_bytes, type_in}
-use Rattle.bdb_survey.specs.of_format.HeadOf.{head_of}
-use Rattle.bdb_survey.specs.of_format.Numbers.{byte_at}
-use Rattle.bdb_survey.specs.of_format.Page.{Chain, Page, Overflow}
+use Rattle.bdb_survey.specs.of_format.Terms.{Chain, File, Overflow, Page, abstract_page, asked_by, byte_at, chain_in, chains_in, content_chains, contents_in}
+use Rattle.bdb_survey.specs.of_format.Terms.{file_of, fit_code, fit_rows, has_type, head_of, header_in, is_wrong_length, is_zero, is_zero_page, joined, listed}
+use Rattle.bdb_survey.specs.of_format.Terms.{next_of, page_as, page_at, page_bytes, page_type, pieces_of, reference_faults, refs, structure_faults}
+use Rattle.bdb_survey.specs.of_format.Terms.{structure_rows, targets_in, type_in}
 use Rattle.bdb_survey.specs.of_format.declared.pages.PageType.{PageType}
 use Rattle.bdb_survey.specs.of_format.declared.pages.PageType.TheVariants.{Free as FreePage, Hash as HashPage, Internal as InternalPage}
 use Rattle.bdb_survey.specs.of_format.declared.pages.PageType.TheVariants.{RecnoInternal as RecnoInternalPage, Leaf as LeafPage, RecnoLeaf as RecnoLeafPage}
 use Rattle.bdb_survey.specs.of_format.declared.pages.PageType.TheVariants.{Overflow as OverflowPage, HashMeta as HashMetaPage, BtreeMeta as BtreeMetaPage}
 use Rattle.bdb_survey.specs.of_format.declared.pages.PageType.TheVariants.{QueueMeta as QueueMetaPage, Queue as QueuePage, DupLeaf as DupLeafPage}
 use Rattle.bdb_survey.specs.of_format.declared.pages.PageType.TheVariants.{Other as OtherPage}
-use Rattle.bdb_survey.specs.of_format.Reading.{abstract_page, is_zero, listed, page_as, page_type}
-use Rattle.bdb_survey.specs.of_format.References.{asked_by, contents_in, fit_code, fit_rows, is_zero_page, has_type, refs, targets_in}
-use Rattle.bdb_survey.specs.of_format.Verdict.{reference_faults, structure_faults, structure_rows}
 use Rattle.bdb_survey.proofs.of_format.BoolLemmas.{first_or_none}
 use Rattle.bdb_survey.proofs.of_format.GraphLemmas.{each_fits, typed_page}
 use Rattle.bdb_survey.proofs.of_format.MemberLemmas.{first_member, in_flat_map, none_passes}

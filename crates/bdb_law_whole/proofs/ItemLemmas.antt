@@ -4,12 +4,8 @@ use Rattle.std.specs.Prelude.{◌==◌, ◌&&◌, ◌%◌, nat_le, slice_index, 
 use Rattle.std.specs.List.{Contains}
 use Rattle.std.proofs.lemmas.Bool.{and_parts, cases_Bool, eqb-true, leb-true}
 use Rattle.bdb_survey.specs.of_format.declared.kinds.Order.{Order}
-use Rattle.bdb_survey.specs.of_format.Chains.{joined, pieces_of, value_of}
-use Rattle.bdb_survey.specs.of_format.File.{File, file_of, page_at, page_bytes}
-use Rattle.bdb_survey.specs.of_format.HeadOf.{head_of}
-use Rattle.bdb_survey.specs.of_format.Page.{Content, Inline, Set, Chain, Tree, Unknown, Item, Listed, Page, Leaf}
-use Rattle.bdb_survey.specs.of_format.Reading.{entries_of, leaf_item_at, listed}
-use Rattle.bdb_survey.specs.of_format.References.{contents_in, is_shared_key, item_at}
+use Rattle.bdb_survey.specs.of_format.Terms.{Chain, Content, File, Inline, Item, Leaf, Listed, Page, Set, Tree, Unknown, contents_in, entries_of, file_of}
+use Rattle.bdb_survey.specs.of_format.Terms.{head_of, is_shared_key, item_at, joined, leaf_item_at, listed, page_at, page_bytes, pieces_of, value_of}
 use Rattle.bdb_survey.proofs.of_format.LeafLemmas.{leaf_item_is, one_offset}
 use Rattle.bdb_survey.proofs.of_format.PageLemmas.{index_offset, length_items}
 use Rattle.bdb_survey.proofs.of_format.TargetLemmas.{own_held}

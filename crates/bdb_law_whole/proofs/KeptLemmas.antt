@@ -3,10 +3,7 @@ use Rattle.std.proofs.Common.{◌≡◌, ℕ, zero, suc, ◌+◌, ◌-◌, ◌<�
 use Rattle.std.specs.Prelude.{if◌then◌else◌}
 use Rattle.std.specs.List.{count_by, flat_map, range_with_len, sum_by}
 use Rattle.std.proofs.lemmas.List.Sums.{sum_by-append, sum_by-cons}
-use Rattle.bdb_survey.specs.of_format.Contents.{entries_in}
-use Rattle.bdb_survey.specs.of_format.File.{File, file_of}
-use Rattle.bdb_survey.specs.of_format.HeadOf.{head_of}
-use Rattle.bdb_survey.specs.of_format.Lists.{ListKey, BytesKey, NumberKey}
+use Rattle.bdb_survey.specs.of_format.Terms.{BytesKey, File, ListKey, NumberKey, entries_in, file_of, head_of}
 use Rattle.bdb_survey.proofs.of_format.ListLemmas.{range_zero_more}
 use Rattle.bdb_survey.proofs.of_format.MemberLemmas.{of_range}
 use Rattle.bdb_survey.proofs.of_format.FileLemmas.{kind_is, past_last}

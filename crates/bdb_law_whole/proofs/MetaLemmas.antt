@@ -7,11 +7,8 @@ use Rattle.bdb_survey.specs.of_format.declared.metadata.FileKind.TheVariants.{Bt
 use Rattle.bdb_survey.specs.of_format.declared.metadata.Head.{Head}
 use Rattle.bdb_survey.specs.of_format.declared.pages.PageType.{PageType}
 use Rattle.bdb_survey.specs.of_format.declared.pages.PageType.TheVariants.{HashMeta as HashMetaPage, BtreeMeta as BtreeMetaPage}
-use Rattle.bdb_survey.specs.of_format.HeadOf.{is_page_size}
-use Rattle.bdb_survey.specs.of_format.Numbers.{byte_at, four_at}
-use Rattle.bdb_survey.specs.of_format.Reading.{is_zero, page_type}
-use Rattle.bdb_survey.specs.of_format.Rows.{form_code, identity_rows, meta_rows, metadata_rows, table_rows, type_of}
-use Rattle.bdb_survey.specs.of_format.Table.{Row, ◌:?◌, first_row}
+use Rattle.bdb_survey.specs.of_format.Terms.{Row, byte_at, first_row, form_code, four_at, identity_rows, is_page_size, is_zero, meta_rows, metadata_rows}
+use Rattle.bdb_survey.specs.of_format.Terms.{page_type, table_rows, type_of, ◌:?◌}
 use Rattle.bdb_survey.proofs.of_format.PageLemmas.{zero_byte}
 use Rattle.bdb_survey.proofs.of_format.TypeLemmas.{byte_as}
 use Rattle.bdb_survey.proofs.of_image.HeldLemmas.{table_formed, tree_formed}

@@ -5,14 +5,10 @@ use Rattle.std.proofs.lemmas.Bool.{cases_Bool, cases_lt, eqb-true, not-false}
 use Rattle.bdb_survey.specs.of_format.declared.kinds.Order.{Order}
 use Rattle.bdb_survey.specs.of_format.declared.metadata.FileKind.TheVariants.{Queue}
 use Rattle.bdb_survey.specs.of_format.declared.metadata.Head.{Head}
-use Rattle.bdb_survey.specs.of_format.File.{file_of, page_at, page_bytes}
-use Rattle.bdb_survey.specs.of_format.HeadOf.{head_of, is_page_size}
-use Rattle.bdb_survey.specs.of_format.Numbers.{byte_at, four_at}
-use Rattle.bdb_survey.specs.of_format.Page.{Page, Zero, NoType}
-use Rattle.bdb_survey.specs.of_format.Reading.{is_zero, page_type}
-use Rattle.bdb_survey.specs.of_format.Rows.{body_code, form_code, identity_rows, is_tree_type, page_code}
-use Rattle.bdb_survey.specs.of_format.Table.{first_row}
-use Rattle.bdb_survey.specs.of_format.Verdict.{head_faults, holding, tail_faults, tail_rows}
+use Rattle.bdb_survey.specs.of_format.Terms.{NoType, Page, Zero, body_code, byte_at, file_of, first_row, form_code, four_at, head_faults, head_of}
+use Rattle.bdb_survey.specs.of_format.Terms.{identity_rows, is_page_size, is_tree_type, is_zero, page_at, page_bytes, page_code, page_type, tail_faults}
+use Rattle.bdb_survey.specs.of_format.Terms.{tail_rows}
+use Rattle.bdb_survey.specs.of_format.Verdict.{holding}
 use Rattle.bdb_survey.proofs.of_format.VerdictLemmas.{all_fail, no_codes_at, none_is_first_row, none_within, or_else_none}
 use Rattle.bdb_survey.proofs.of_format.GraphLemmas.{zero_page}
 use Rattle.bdb_survey.proofs.of_format.FileLemmas.{past_last, count_is as pages_are, last_page, page_is as file_page}

@@ -5,12 +5,9 @@ use Rattle.std.specs.Prelude.{not, if◌then◌else◌}
 use Rattle.std.specs.List.{Contains, filter, flat_map, range_with_len}
 use Rattle.std.proofs.lemmas.List.Elements.{Contains-get_or}
 use Rattle.std.proofs.lemmas.List.Folds.{flat_map-map}
-use Rattle.bdb_survey.specs.of_format.Chains.{value_of}
-use Rattle.bdb_survey.specs.of_format.Contents.{data_of, entries_in, live_values, pair_at, pairs_in, pairs_of}
-use Rattle.bdb_survey.specs.of_format.File.{File, file_of, page_at}
-use Rattle.bdb_survey.specs.of_format.Leaves.{leaves}
-use Rattle.bdb_survey.specs.of_format.Page.{Content, Inline, Set, Chain, Tree, Unknown, Item, Listed, Page, Hash, Leaf, RecnoLeaf, DupLeaf}
-use Rattle.bdb_survey.specs.of_format.References.{is_shared_key, item_at, no_item}
+use Rattle.bdb_survey.specs.of_format.Terms.{Chain, Content, DupLeaf, File, Hash, Inline, Item, Leaf, Listed, Page, RecnoLeaf, Set, Tree, Unknown, data_of}
+use Rattle.bdb_survey.specs.of_format.Terms.{entries_in, file_of, is_shared_key, item_at, leaves, live_values, no_item, page_at, pair_at, pairs_in, pairs_of}
+use Rattle.bdb_survey.specs.of_format.Terms.{value_of}
 use Rattle.bdb_survey.proofs.of_format.MemberLemmas.{first_member, in_map, later_member, member_cases, no_member, of_range}
 use Rattle.bdb_survey.proofs.of_format.ListLemmas.{flat_map_same}
 use Rattle.bdb_survey.specs.of_image.Linked.{FitsDupRoot}

@@ -10,21 +10,16 @@ use Rattle.std.proofs.lemmas.List.Elements.{All-drop, All-get_or, All-take}
 use Rattle.bdb_survey.specs.of_format.declared.kinds.Order.{Order}
 use Rattle.bdb_survey.specs.of_format.declared.references.Sort.{Sort}
 use Rattle.bdb_survey.specs.of_format.declared.references.Sort.TheVariants.{DuplicateRoot}
-use Rattle.bdb_survey.specs.of_format.Chains.{chain, next_of}
-use Rattle.bdb_survey.specs.of_format.File.{File, file_of, header_in, page_at, page_bytes, type_in}
-use Rattle.bdb_survey.specs.of_format.HeadOf.{head_of}
-use Rattle.bdb_survey.specs.of_format.Leaves.{LeafPlace, children_in, is_wrong_leaf, is_wrong_link, leaf_places, leaves, places_from, wrong_leaf_types}
-use Rattle.bdb_survey.specs.of_format.Numbers.{byte_at}
-use Rattle.bdb_survey.specs.of_format.Page.{Page, Zero, NoType, RecnoLeaf, DupLeaf}
+use Rattle.bdb_survey.specs.of_format.Terms.{DupLeaf, File, LeafPlace, NoType, Page, RecnoLeaf, Zero, abstract_page, byte_at, chain, child_types, children_in}
+use Rattle.bdb_survey.specs.of_format.Terms.{file_of, fit_code, has_type, head_of, header_in, is_wrong_leaf, is_wrong_link, is_zero, leaf_places, leaves}
+use Rattle.bdb_survey.specs.of_format.Terms.{listed, next_of, page_as, page_at, page_bytes, page_type, places_from, structure_faults, structure_rows, type_in}
+use Rattle.bdb_survey.specs.of_format.Terms.{wrong_leaf_types}
 use Rattle.bdb_survey.specs.of_format.declared.pages.PageType.{PageType}
 use Rattle.bdb_survey.specs.of_format.declared.pages.PageType.TheVariants.{Free as FreePage, Hash as HashPage, Internal as InternalPage}
 use Rattle.bdb_survey.specs.of_format.declared.pages.PageType.TheVariants.{RecnoInternal as RecnoInternalPage, Leaf as LeafPage, RecnoLeaf as RecnoLeafPage}
 use Rattle.bdb_survey.specs.of_format.declared.pages.PageType.TheVariants.{Overflow as OverflowPage, HashMeta as HashMetaPage, BtreeMeta as BtreeMetaPage}
 use Rattle.bdb_survey.specs.of_format.declared.pages.PageType.TheVariants.{QueueMeta as QueueMetaPage, Queue as QueuePage, DupLeaf as DupLeafPage}
 use Rattle.bdb_survey.specs.of_format.declared.pages.PageType.TheVariants.{Other as OtherPage}
-use Rattle.bdb_survey.specs.of_format.Reading.{abstract_page, is_zero, listed, page_as, page_type}
-use Rattle.bdb_survey.specs.of_format.References.{child_types, fit_code, has_type}
-use Rattle.bdb_survey.specs.of_format.Verdict.{structure_faults, structure_rows}
 use Rattle.bdb_survey.proofs.of_format.BoolLemmas.{second_false}
 use Rattle.bdb_survey.proofs.of_format.MemberLemmas.{first_member, later_member, member_cases, no_member, none_passes}
 use Rattle.bdb_survey.proofs.of_format.TypeLemmas.{of_type}

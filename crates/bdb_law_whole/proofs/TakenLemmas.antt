@@ -3,12 +3,7 @@ use Rattle.std.proofs.Common.{◌≡◌, ℕ, ◌+◌, ◌*◌, ◌/◌, ◌<◌
 use Rattle.std.specs.Prelude.{◌==◌}
 use Rattle.std.specs.List.{Contains, flat_map, range_with_len}
 use Rattle.std.proofs.lemmas.Bool.{cases_lt, eq-eqb, eqb-true}
-use Rattle.bdb_survey.specs.of_format.Chains.{chain}
-use Rattle.bdb_survey.specs.of_format.File.{file_of, page_at}
-use Rattle.bdb_survey.specs.of_format.HeadOf.{head_of}
-use Rattle.bdb_survey.specs.of_format.Leaves.{leaves}
-use Rattle.bdb_survey.specs.of_format.Page.{Content, Tree, Item, Page, Leaf, Hash}
-use Rattle.bdb_survey.specs.of_format.References.{no_item}
+use Rattle.bdb_survey.specs.of_format.Terms.{Content, Hash, Item, Leaf, Page, Tree, chain, file_of, head_of, leaves, no_item, page_at}
 use Rattle.bdb_survey.proofs.of_format.ListLemmas.{any_member, only_member, passes_here}
 use Rattle.bdb_survey.proofs.of_format.MemberLemmas.{first_member, in_flat_map, in_map, in_range, no_member, of_flat_map, of_map, of_range}
 use Rattle.bdb_survey.proofs.of_format.FileLemmas.{past_last}

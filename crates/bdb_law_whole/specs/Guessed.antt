@@ -1,7 +1,6 @@
 -- The file that salvage reads where page 0 tells the guess. Source: docs/FORMAT.md, "Salvage".
 use Rattle.std.specs.Prelude.{ℕ, List}
-use Rattle.bdb_survey.specs.of_format.File.{File}
-use Rattle.bdb_survey.specs.of_format.HeadOf.{head_of}
+use Rattle.bdb_survey.specs.of_format.Terms.{File, head_of}
 use Rattle.bdb_survey.specs.Salvage.{salvaged_file}
 
 -- the whole pages of an image, in the order and with the page size of page 0

@@ -2,9 +2,7 @@
 use Rattle.std.specs.Prelude.{◌≡◌, ◌≢◌, ◌^◌, ◌≤◌, ℕ, Bool, false, List, [], length}
 use Rattle.std.specs.List.{count_by}
 use Rattle.bdb_survey.specs.of_format.declared.metadata.FileKind.TheVariants.{Queue}
-use Rattle.bdb_survey.specs.of_format.File.{File, file_of}
-use Rattle.bdb_survey.specs.of_format.Lists.{ListKey, BytesKey, NumberKey}
-use Rattle.bdb_survey.specs.of_format.Verdict.{faults_of}
+use Rattle.bdb_survey.specs.of_format.Terms.{BytesKey, File, ListKey, NumberKey, faults_of, file_of}
 use Rattle.bdb_survey.specs.Salvage.{loose, stored}
 use Rattle.bdb_survey.specs.of_law_sums.Databases.{all_lists}
 use Rattle.bdb_law_whole.specs.Guessed.{guessed}

@@ -2,10 +2,7 @@
 use Rattle.std.specs.Prelude.{◌≡◌, ◌<◌, ◌≤◌, ℕ, List, []}
 use Rattle.std.specs.List.{All}
 use Rattle.bdb_survey.specs.of_format.declared.metadata.FileKind.TheVariants.{Queue}
-use Rattle.bdb_survey.specs.of_format.File.{file_of, page_at}
-use Rattle.bdb_survey.specs.of_format.HeadOf.{head_of}
-use Rattle.bdb_survey.specs.of_format.Leaves.{leaves}
-use Rattle.bdb_survey.specs.of_format.Verdict.{structure_faults}
+use Rattle.bdb_survey.specs.of_format.Terms.{file_of, head_of, leaves, page_at, structure_faults}
 use Rattle.bdb_survey.specs.of_image.Linked.{FitsDupRoot, IsForest}
 use Rattle.bdb_survey.specs.Salvage.{stored_on, whole_set}
 use Rattle.bdb_survey.specs.of_law_sums.Databases.{given_on}

@@ -9,9 +9,7 @@ use Rattle.std.proofs.lemmas.Bool.Decides.{nat_tests}
 use Rattle.std.proofs.lemmas.List.{drop-drop, get_or-drop, take-append-drop}
 use Rattle.bdb_format.specs.declared.kinds.Order.{Order}
 use Rattle.bdb_format.specs.declared.kinds.Order.TheVariants.{Big, Little}
-use Rattle.bdb_format.specs.Numbers.{number, number_at, two_at, spelled}
-use Rattle.bdb_format.specs.Reading.{blocks_in, blocks_of}
-use Rattle.bdb_format.specs.Spelling.{block_bytes}
+use Rattle.bdb_format.specs.Terms.{block_bytes, blocks_in, blocks_of, number, number_at, spelled, two_at}
 use Rattle.bdb_layout.specs.Blocks.{BeginsNoBlock, GoesOn}
 
 -- no block stands at the front

@@ -7,7 +7,7 @@ use Rattle.std.specs.Prelude.{nat_lt}
 use Rattle.std.proofs.Math.Nat.{le_antisymm, pow-succ'}
 use Rattle.std.proofs.Math.Pow.{pow_mono}
 use Rattle.std.proofs.lemmas.Bool.Decides.{nat_tests}
-use Rattle.bdb_format.specs.Hashing.{group}
+use Rattle.bdb_format.specs.Terms.{group}
 
 pub group-le : (bucket g : ℕ) → g < 33 → bucket < 2 ^ g → group bucket ≤ g
 unfolding group

@@ -5,7 +5,7 @@ use Rattle.std.specs.declared.cmp.Ordering.TheVariants.{Less as Below, Equal, Gr
 use Rattle.std.specs.Cmp.Lexicographic.{slice_cmp}
 use Rattle.std.specs.Ordering.{MatchOrdering, is_lt, nat_cmp, ordering_then}
 use Rattle.std.specs.Cmp.{ranks}
-use Rattle.bdb_format.specs.Less.{less}
+use Rattle.bdb_format.specs.Terms.{less}
 use Rattle.bdb_format.proofs.LessLemmas.{less_not_back, less_self}
 use Rattle.bdb_layout.specs.Seen.{OrderingIs}
 use Rattle.std.proofs.lemmas.Bool.Decides.{nat_tests}

@@ -8,7 +8,7 @@ use Rattle.std.proofs.Math.Nat.{add-sub_cancel_left, pow-succ'}
 use Rattle.byteorder.specs.Endian.{little_from, big_from, little_number, big_number}
 pub use Rattle.bdb_format.proofs.SpellingLemmas.{length-spelled}
 use borrow.Rule.Slice.PartMut.{put_mid}
-use Rattle.bdb_format.specs.Numbers.{from_low_end, number_at, overwritten, spelled}
+use Rattle.bdb_format.specs.Terms.{from_low_end, number_at, overwritten, spelled}
 use Rattle.bdb_format.specs.declared.kinds.Order.TheVariants.{Big, Little}
 
 pub little_from-is : (i n : ℕ) (xs : List ℕ) → i + n ≤ length xs → little_from i n xs ≡ from_low_end (take n (drop i xs))

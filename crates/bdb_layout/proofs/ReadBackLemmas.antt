@@ -7,12 +7,10 @@ use Rattle.std.specs.List.{All, flat_map}
 use Rattle.std.proofs.Math.Seq.{drop-append_seam}
 use Rattle.std.proofs.lemmas.List.{take_at}
 use Rattle.bdb_format.specs.declared.kinds.Order.{Order}
-use Rattle.bdb_format.specs.Numbers.{byte_at, spelled, two_at, four_at}
-use Rattle.bdb_format.specs.Page.{Content, Inline, Set, Chain, Tree, Unknown}
-use Rattle.bdb_format.specs.Reading.{offset_of, leaf_item_at, leaf_content, internal_item_at, internal_key, recno_item_at, blocks_of, hash_end, hash_content}
-use Rattle.bdb_format.specs.Reading.{hash_item_at}
-use Rattle.bdb_format.specs.Spelling.{leaf_bytes, leaf_content_bytes, kind_byte, IsLeafContent, LeafItemsReadBack, internal_bytes, internal_content_bytes}
-use Rattle.bdb_format.specs.Spelling.{IsKey, InternalItemsReadBack, recno_bytes, RecnoItemsReadBack, block_bytes, hash_bytes, IsHashContent, HashItemsReadBack}
+use Rattle.bdb_format.specs.Terms.{Chain, Content, HashItemsReadBack, Inline, InternalItemsReadBack, IsHashContent, IsKey, IsLeafContent, LeafItemsReadBack}
+use Rattle.bdb_format.specs.Terms.{RecnoItemsReadBack, Set, Tree, Unknown, block_bytes, blocks_of, byte_at, four_at, hash_bytes, hash_content, hash_end}
+use Rattle.bdb_format.specs.Terms.{hash_item_at, internal_bytes, internal_content_bytes, internal_item_at, internal_key, kind_byte, leaf_bytes, leaf_content}
+use Rattle.bdb_format.specs.Terms.{leaf_content_bytes, leaf_item_at, offset_of, recno_bytes, recno_item_at, spelled, two_at}
 use Rattle.bdb_layout.proofs.BlockLemmas.{blocks_of-cons}
 use Rattle.bdb_format.proofs.SpellingLemmas.{length-spelled, drop-behind, number_at-in, byte_at-in, slice_range-in}
 

@@ -3,9 +3,7 @@ use Rattle.std.proofs.Common.{◌≡◌, ℕ, ◌+◌, ◌≤◌, List, [], ◌�
 use Rattle.std.specs.Prelude.{cond, Bool, true, false, Option, Some, None, Result, Err}
 use Rattle.std.proofs.lemmas.Bool.Decides.{nat_tests}
 use Rattle.bdb_format.specs.declared.kinds.Order.{Order}
-use Rattle.bdb_format.specs.Reading.{offset_of, hash_end}
-use Rattle.bdb_format.specs.Rows.{leaf_rows, internal_rows, recno_rows, hash_rows}
-use Rattle.bdb_format.specs.Table.{Row, ◌:?◌, first_row, answer}
+use Rattle.bdb_format.specs.Terms.{Row, answer, first_row, hash_end, hash_rows, internal_rows, leaf_rows, offset_of, recno_rows, ◌:?◌}
 use Rattle.std.specs.Option.{option_map}
 use Rattle.bdb_format.specs.declared.pages.ItemFault.{ItemFault}
 use Rattle.bdb_format.specs.declared.pages.ItemFault.TheVariants.{Offset, Kind, Extent}

@@ -5,11 +5,8 @@ use Rattle.std.proofs.lemmas.Bool.{cases_lt}
 use Rattle.std.proofs.lemmas.List.{drop_at, get_or_append_left, get_or_past}
 use Rattle.bdb_format.specs.declared.kinds.Order.{Order}
 use Rattle.bdb_format.specs.declared.kinds.Order.TheVariants.{Big, Little}
-use Rattle.bdb_format.specs.Numbers.{spelled, overwritten}
-use Rattle.bdb_format.specs.Page.{Inline, Set, Chain, Tree}
-use Rattle.bdb_format.specs.Reading.{blocks_of}
+use Rattle.bdb_format.specs.Terms.{Chain, Inline, Set, Tree, blocks_of, hash_bytes, internal_bytes, kind_byte, leaf_bytes, overwritten, spelled}
 use Rattle.bdb_layout.proofs.BlockLemmas.{blocks_spelled}
-use Rattle.bdb_format.specs.Spelling.{leaf_bytes, internal_bytes, hash_bytes, kind_byte}
 use Rattle.bdb_format.proofs.SpellingLemmas.{byte_at-from, length-spelled, length-pair, wrote, wrote_as, wrote_next}
 
 pub length-leaf_inline : (order : Order) (bytes : List ℕ) (deleted : Bool) → length (leaf_bytes order (record { content = Inline bytes; deleted = deleted }))

@@ -2,7 +2,7 @@
 use Rattle.std.specs.Prelude.{◌≡◌, ℕ, List, [], ◌∷◌, ◌⊎◌, None}
 use Rattle.std.specs.Option.{option_map}
 use Rattle.bdb_format.specs.declared.kinds.Order.{Order}
-use Rattle.bdb_format.specs.Reading.{blocks_of}
+use Rattle.bdb_format.specs.Terms.{blocks_of}
 
 -- blocks, and the order in which their lengths are spelled
 pub record BlockRun : Type 0 where

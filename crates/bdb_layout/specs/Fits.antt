@@ -1,8 +1,7 @@
 -- An item that lies on its page, where no row of it holds.
 use Rattle.std.specs.Prelude.{◌≡◌, ◌+◌, ◌<◌, ◌≤◌, ◌⊎◌, ℕ, List, length, slice_range, IsSome}
 use Rattle.bdb_format.specs.declared.kinds.Order.{Order}
-use Rattle.bdb_format.specs.Numbers.{byte_at, two_at}
-use Rattle.bdb_format.specs.Reading.{blocks_of, kind_at}
+use Rattle.bdb_format.specs.Terms.{blocks_of, byte_at, kind_at, two_at}
 
 -- an item of a leaf, from its offset
 pub record FitsLeaf (order : Order) (page : List ℕ) (at : ℕ) : Type 0 where

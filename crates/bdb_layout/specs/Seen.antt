@@ -4,8 +4,7 @@ use Rattle.std.specs.declared.cmp.Ordering.{Ordering}
 use Rattle.std.specs.declared.cmp.Ordering.TheVariants.{Less as Below, Equal, Greater}
 use Rattle.bdb_format.specs.declared.kinds.Order.{Order}
 use Rattle.bdb_format.specs.declared.pages.ItemFault.{ItemFault}
-use Rattle.bdb_format.specs.Less.{Less}
-use Rattle.bdb_format.specs.Page.{Content, Inline, Set, Chain, Tree, Item, InternalItem}
+use Rattle.bdb_format.specs.Terms.{Chain, Content, Inline, InternalItem, Item, Less, Set, Tree}
 use Rattle.bdb_layout.specs.declared.items.Content.{Content as CodeContent}
 use Rattle.bdb_layout.specs.declared.items.Content.TheVariants.{Inline as OnPage, Set as SetOnPage, Overflow as OnChain, OffPage as OnTree}
 use Rattle.bdb_layout.specs.declared.items.LeafItem.{LeafItem}

@@ -1,7 +1,7 @@
 ghost use Rattle.std.specs.Prelude.{Some, IsSome, is_some, [], ◌≡◌, ◌<◌, IfSome, MatchOption, length};
 ghost use Rattle.std.specs.Iterator.{YieldsFirstBy, item_count};
 ghost use Rattle.std.specs.Option.{option_map, unwrap_or};
-ghost use Rattle.bdb_format.specs.Reading.{blocks_of};
+ghost use Rattle.bdb_format.specs.Terms.{blocks_of};
 ghost use Rattle.bdb_layout.specs.Blocks.{BeginsNoBlock, GoesOn, run_in};
 
 use crate::u16_at;
@@ -18,7 +18,7 @@ pub struct DupBlocks<'a> {
 impl<'a> Model for DupBlocks<'a> {
     ghost use Rattle.std.specs.Prelude.{[], IsSome};
     ghost use Rattle.std.specs.Option.{unwrap_or};
-    ghost use Rattle.bdb_format.specs.Reading.{blocks_of};
+    ghost use Rattle.bdb_format.specs.Terms.{blocks_of};
     ghost use Rattle.bdb_layout.specs.Blocks.{BlockRun, run_in};
 
     ghost Value = { BlockRun };

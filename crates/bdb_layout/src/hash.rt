@@ -1,9 +1,7 @@
 ghost use Rattle.std.specs.Prelude.{◌≡◌, ◌+◌, ◌<◌, ◌≤◌, [], ◌∷◌, IfOk, false, length, None};
 ghost use Rattle.std.specs.Option.{option_map};
-ghost use Rattle.bdb_format.specs.Numbers.{byte_at};
-ghost use Rattle.bdb_format.specs.Reading.{entries_of, hash_content, hash_end, hash_item_at, index_end};
-ghost use Rattle.bdb_format.specs.Rows.{does_not_fall, hash_rows, is_hash_kind, misses_extent};
-ghost use Rattle.bdb_format.specs.Table.{answer, first_row};
+ghost use Rattle.bdb_format.specs.Terms.{answer, byte_at, does_not_fall, entries_of, first_row, hash_content, hash_end, hash_item_at, hash_rows, index_end};
+ghost use Rattle.bdb_format.specs.Terms.{is_hash_kind, misses_extent};
 ghost use Rattle.bdb_layout.specs.Fits.{FitsHash};
 ghost use Rattle.bdb_layout.specs.Seen.{HasOrder, hash_content_seen, answer_seen, hash_item_seen};
 ghost use Rattle.bdb_layout.specs.ItemRows.{item_form};

@@ -1,6 +1,6 @@
 ghost use Rattle.std.specs.Prelude.{◌≡◌, ◌<◌, ◌^◌};
 ghost use Rattle.std.specs.List.{fold};
-ghost use Rattle.bdb_format.specs.Hashing.{bucket, first_page, group, hash5, hash_step};
+ghost use Rattle.bdb_format.specs.Terms.{bucket, first_page, group, hash5, hash_step};
 
 /// The hash of a key.
 pub fn hash5(bytes: &[u8]) -> u32

@@ -1,5 +1,5 @@
 ghost use Rattle.std.specs.Prelude.{◌≡◌, ◌+◌, ◌*◌, ◌<◌, ◌≤◌, length};
-ghost use Rattle.bdb_format.specs.Reading.{entries_of, index_end, offset_of};
+ghost use Rattle.bdb_format.specs.Terms.{entries_of, index_end, offset_of};
 
 use crate::u16_at;
 use bdb_format::Order;

@@ -1,9 +1,6 @@
 ghost use Rattle.std.specs.Prelude.{◌≡◌, ◌+◌, ◌<◌, ◌≤◌, ◌⊎◌, length, None};
 ghost use Rattle.std.specs.Option.{option_map};
-ghost use Rattle.bdb_format.specs.Reading.{entries_of, index_end, internal_item_at, internal_key, kind_at};
-ghost use Rattle.bdb_format.specs.Rows.{internal_rows};
-ghost use Rattle.bdb_format.specs.Numbers.{four_at};
-ghost use Rattle.bdb_format.specs.Table.{answer, first_row};
+ghost use Rattle.bdb_format.specs.Terms.{answer, entries_of, first_row, four_at, index_end, internal_item_at, internal_key, internal_rows, kind_at};
 ghost use Rattle.bdb_layout.specs.Fits.{FitsInternal};
 ghost use Rattle.bdb_layout.specs.Seen.{answer_seen, internal_item_seen, key_seen};
 ghost use Rattle.bdb_layout.specs.ItemRows.{item_form};

@@ -1,5 +1,5 @@
 // Laws over the definitions alone.
-ghost use Rattle.bdb_format.specs.Spelling.{HashItemsReadBack, InternalItemsReadBack, LeafItemsReadBack, RecnoItemsReadBack};
+ghost use Rattle.bdb_format.specs.Terms.{HashItemsReadBack, InternalItemsReadBack, LeafItemsReadBack, RecnoItemsReadBack};
 
 /// An item that is written on a page, at the offset that its entry of the index names, is read from
 /// there: that item, in either order of bytes.

@@ -1,9 +1,7 @@
 ghost use Rattle.std.specs.Prelude.{◌≡◌, ◌+◌, ◌<◌, ◌≤◌, length, None};
 ghost use Rattle.std.specs.Option.{option_map};
-ghost use Rattle.bdb_format.specs.Numbers.{byte_at};
-ghost use Rattle.bdb_format.specs.Reading.{entries_of, index_end, is_deleted, kind_at, leaf_content, leaf_item_at};
-ghost use Rattle.bdb_format.specs.Rows.{is_leaf_kind, leaf_rows};
-ghost use Rattle.bdb_format.specs.Table.{answer, first_row};
+ghost use Rattle.bdb_format.specs.Terms.{answer, byte_at, entries_of, first_row, index_end, is_deleted, is_leaf_kind, kind_at, leaf_content, leaf_item_at};
+ghost use Rattle.bdb_format.specs.Terms.{leaf_rows};
 ghost use Rattle.bdb_layout.specs.Fits.{FitsLeaf};
 ghost use Rattle.bdb_layout.specs.Seen.{answer_seen, leaf_item_seen};
 ghost use Rattle.bdb_layout.specs.ItemRows.{item_form};

@@ -1,8 +1,6 @@
 //! How long things are: items, pages, slots of a queue page, and what is padded.
 ghost use Rattle.std.specs.Prelude.{◌≡◌, ◌+◌, ◌*◌, ◌<◌, ◌≤◌, ◌^◌, drop, length, take};
-ghost use Rattle.bdb_format.specs.Numbers.{pad4};
-ghost use Rattle.bdb_format.specs.Reading.{entries_of, hash_end, index_end};
-ghost use Rattle.bdb_format.specs.Rows.{internal_end, leaf_end, records_per_page};
+ghost use Rattle.bdb_format.specs.Terms.{entries_of, hash_end, index_end, internal_end, leaf_end, pad4, records_per_page};
 
 use crate::{offset_at, u16_at};
 use bdb_format::Order;

@@ -1,5 +1,5 @@
 ghost use Rattle.std.specs.Prelude.{◌≡◌, ◌+◌, ◌≤◌, length};
-ghost use Rattle.bdb_format.specs.Numbers.{four_at, overwritten, spelled, two_at};
+ghost use Rattle.bdb_format.specs.Terms.{four_at, overwritten, spelled, two_at};
 
 use bdb_format::Order;
 use byteorder::{BigEndian, ByteOrder, LittleEndian};

@@ -1,6 +1,5 @@
 ghost use Rattle.std.specs.Prelude.{◌≡◌, ◌≤◌, length};
-ghost use Rattle.bdb_format.specs.Numbers.{byte_at};
-ghost use Rattle.bdb_format.specs.Reading.{header_of, page_type};
+ghost use Rattle.bdb_format.specs.Terms.{byte_at, header_of, page_type};
 
 use crate::{u16_at, u32_at};
 use bdb_format::{Header, Order, PageType};

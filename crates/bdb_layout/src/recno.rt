@@ -1,8 +1,6 @@
 ghost use Rattle.std.specs.Prelude.{◌≡◌, ◌<◌, ◌≤◌, length, None};
 ghost use Rattle.std.specs.Option.{option_map};
-ghost use Rattle.bdb_format.specs.Reading.{entries_of, index_end, recno_item_at};
-ghost use Rattle.bdb_format.specs.Rows.{recno_rows};
-ghost use Rattle.bdb_format.specs.Table.{answer, first_row};
+ghost use Rattle.bdb_format.specs.Terms.{answer, entries_of, first_row, index_end, recno_item_at, recno_rows};
 ghost use Rattle.bdb_layout.specs.ItemRows.{item_form};
 
 use crate::item_rows::item_fault;

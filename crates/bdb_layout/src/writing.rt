@@ -1,6 +1,6 @@
 ghost use Rattle.std.specs.Prelude.{◌≡◌, ◌+◌, ◌<◌, ◌≤◌, ◌^◌, ◌∷◌, ◌++◌, [], length};
-ghost use Rattle.bdb_format.specs.Numbers.{overwritten, spelled};
-ghost use Rattle.bdb_format.specs.Spelling.{hash_bytes, header_bytes, internal_bytes, kind_byte, leaf_bytes, recno_bytes, IsKey, IsLeafContent};
+ghost use Rattle.bdb_format.specs.Terms.{IsKey, IsLeafContent, hash_bytes, header_bytes, internal_bytes, kind_byte, leaf_bytes, overwritten, recno_bytes};
+ghost use Rattle.bdb_format.specs.Terms.{spelled};
 ghost use Rattle.bdb_layout.specs.Seen.{HasOrder, hash_content_seen, internal_item_seen, leaf_item_seen};
 
 use crate::items::{HashItem, InternalItem, InternalKey, LeafItem};

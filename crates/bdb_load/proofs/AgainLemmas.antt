@@ -4,13 +4,9 @@ use Rattle.std.specs.List.{AllZip}
 use Rattle.std.proofs.lemmas.Bool.{and_parts}
 use Rattle.bdb_mkfile.specs.of_format.declared.kinds.Order.{Order}
 use Rattle.bdb_mkfile.specs.of_format.declared.settings.Settings.{Settings}
-use Rattle.bdb_mkfile.specs.of_format.ContentRows.{ascends, ascends_from}
-use Rattle.bdb_mkfile.specs.of_format.Databases.{Database, databases}
-use Rattle.bdb_mkfile.specs.of_format.File.{file_of}
-use Rattle.bdb_mkfile.specs.of_format.HeadOf.{head_of}
-use Rattle.bdb_mkfile.specs.of_format.Less.{less}
+use Rattle.bdb_mkfile.specs.of_format.Terms.{Database, ascends, ascends_from, databases, file_of, head_of, less}
 use Rattle.bdb_mkfile.specs.of_text_format.declared.sections.Section.{Section}
-use Rattle.bdb_mkfile.specs.of_text_format.Written.{header_lines}
+use Rattle.bdb_mkfile.specs.of_text_format.Terms.{header_lines}
 use Rattle.bdb_mkfile.proofs.of_mkleaves.UnitLemmas.{ascends_later}
 use Rattle.bdb_law_kept.specs.Dumps.{AreKept, AreKeptAs, IsLoadedOf, bytes_of_section}
 use Rattle.bdb_law_kept.proofs.DumpLemmas.{dumps_are_kept, loaded_dumps_are_the_same}

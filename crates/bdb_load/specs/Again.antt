@@ -1,10 +1,8 @@
 -- A dump of a sound file, loaded and dumped, is the same text. Source: docs/FORMAT.md, "Dump text" and "Loading".
 use Rattle.std.specs.Prelude.{◌≡◌, ℕ, Bool, List, [], None}
-use Rattle.bdb_mkfile.specs.of_format.Databases.{databases}
-use Rattle.bdb_mkfile.specs.of_format.File.{file_of}
+use Rattle.bdb_mkfile.specs.of_format.Terms.{databases, file_of}
 use Rattle.bdb_mkfile.specs.of_text_format.declared.sections.Section.{Section}
-use Rattle.bdb_mkfile.specs.of_text_format.Sections.{Reads}
-use Rattle.bdb_mkfile.specs.of_text_format.Written.{dump_text}
+use Rattle.bdb_mkfile.specs.of_text_format.Terms.{Reads, dump_text}
 use Rattle.bdb_mkfile.specs.of_settle.LoadErrors.{load_error}
 use Rattle.bdb_law_kept.specs.of_text.WrittenLaw.{AreBytes}
 use Rattle.bdb_law_kept.specs.Dumps.{HasNoEmptyRecords}

@@ -1,12 +1,7 @@
 // A thousand ranges of a file of 200,000 pairs: scanning the file for each of them wouldn't end in time.
 ghost use Rattle.std.specs.Prelude.{◌≡◌, ◌<◌, [], false, length};
 ghost use Rattle.bdb_tool.specs.of_image.Linked.{HasMetadata};
-ghost use Rattle.bdb_tool.specs.of_format.ContentRows.{database_faults};
-ghost use Rattle.bdb_tool.specs.of_format.Databases.{databases};
-ghost use Rattle.bdb_tool.specs.of_format.File.{file_of};
-ghost use Rattle.bdb_tool.specs.of_format.Flags.{is_recno};
-ghost use Rattle.bdb_tool.specs.of_format.Page.{BtreeFields};
-ghost use Rattle.bdb_tool.specs.of_format.Verdict.{structure_faults};
+ghost use Rattle.bdb_tool.specs.of_format.Terms.{BtreeFields, database_faults, databases, file_of, is_recno, structure_faults};
 
 use crate::generated::text_of;
 use crate::loaded::image_of;

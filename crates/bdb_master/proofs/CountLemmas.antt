@@ -8,8 +8,7 @@ use Rattle.std.proofs.lemmas.List.Filters.{length-filter_more}
 use Rattle.bdb_format.specs.declared.kinds.Fault.{Fault}
 use Rattle.std.specs.Option.{option_to_list}
 use Rattle.bdb_master.specs.Entries.{AreCounts, NamedPair, count_fault, entries_naming, naming_fault, one_more as one_counted_more}
-use Rattle.bdb_format.specs.Master.{is_page}
-use Rattle.bdb_format.specs.File.{File}
+use Rattle.bdb_format.specs.Terms.{File, is_page}
 use Rattle.bdb_btree.specs.of_faults.Notes.{Notes, NotesAll}
 use Rattle.bdb_btree.proofs.of_faults.SinkLemmas.{notes_one}
 use Rattle.bdb_btree.specs.of_image.Linked.{meta_pages}

@@ -6,17 +6,13 @@ use Rattle.std.proofs.lemmas.Bool.{ne_eqb, true≢false}
 use Rattle.std.proofs.lemmas.List.{take_all}
 use Rattle.bdb_format.specs.declared.kinds.Order.TheVariants.{Big}
 use Rattle.bdb_format.specs.declared.metadata.BtreeMeta.{BtreeMeta}
-use Rattle.bdb_format.specs.Contents.{StoredPair, tree_pairs}
-use Rattle.bdb_format.specs.File.{File, page_at}
-use Rattle.bdb_format.specs.Graph.{is_meta}
-use Rattle.bdb_format.specs.Numbers.{four_at, number, number_at}
-use Rattle.bdb_format.specs.Page.{Page, Meta}
+use Rattle.bdb_format.specs.Terms.{File, Meta, Page, StoredPair, four_at, is_meta, master_in, master_pairs, named_by, number, number_at, page_at, page_named}
+use Rattle.bdb_format.specs.Terms.{pairs_under, tree_pairs}
 use Rattle.bdb_btree.specs.of_image.Linked.{meta_pages}
 use Rattle.bdb_overflow.specs.Datum.{FitsContent}
 use Rattle.bdb_btree.specs.Held.{ItemPair, stored_as}
 use Rattle.bdb_btree.specs.Pairs.{AreFit}
 use Rattle.bdb_master.specs.Entries.{NamedPair, entry_of, live_entries, master_entries, named}
-use Rattle.bdb_format.specs.Master.{master_in, master_pairs, named_by, page_named, pairs_under}
 use Rattle.bdb_btree.proofs.HeldLemmas.{first_keyed, rest_keyed}
 
 -- Values that name pages.

@@ -9,12 +9,9 @@ use Rattle.std.specs.Str.{bytes_eq}
 use Rattle.std.proofs.lemmas.Bool.{and_from, and_parts, eq-eqb, eqb-true}
 use Rattle.std.proofs.lemmas.List.Elements.{Contains-append_cases, Contains-append_left, Contains-append_right}
 use Rattle.bdb_format.specs.declared.kinds.Fault.{Fault}
-use Rattle.bdb_format.specs.ContentRows.{holds_code, repeated}
-use Rattle.bdb_format.specs.Contents.{StoredPair}
-use Rattle.bdb_format.specs.File.{File, file_of, page_at}
-use Rattle.bdb_format.specs.Graph.{is_meta}
-use Rattle.bdb_format.specs.Table.{Row, ◌:?◌}
-use Rattle.bdb_format.specs.Verdict.{holding, master_faults}
+use Rattle.bdb_format.specs.Terms.{File, Row, StoredPair, file_of, holds_code, is_meta, is_named_kind, is_none, is_page, master_faults, master_pairs}
+use Rattle.bdb_format.specs.Terms.{master_rows, misses_target, named_by, naming, page_at, repeated, ◌:?◌}
+use Rattle.bdb_format.specs.Verdict.{holding}
 use Rattle.bdb_format.proofs.MemberLemmas.{first_member, in_flat_map, in_map, no_member, of_flat_map, of_map}
 use Rattle.bdb_format.proofs.VerdictLemmas.{IsOfStage, in_by_page, of_by_page}
 use Rattle.bdb_btree.specs.of_image.Linked.{IsForest, meta_pages}
@@ -24,7 +21,6 @@ use Rattle.bdb_master.specs.Entries.{NamedPair, count_fault, entries_naming, ent
 use Rattle.std.specs.Option.{option_to_list}
 use Rattle.bdb_master.specs.Entries.{all_noted, by_naming, by_repeat, by_target, key_of, target_fault}
 use Rattle.bdb_overflow.specs.Keys.{repeated_by}
-use Rattle.bdb_format.specs.Master.{is_named_kind, is_none, is_page, master_pairs, master_rows, misses_target, named_by, naming}
 use Rattle.bdb_format.proofs.RepeatLemmas.{of_repeated, repeated_after, repeated_is}
 use Rattle.bdb_btree.specs.of_faults.Notes.{AreSame, NotesAll}
 use Rattle.bdb_btree.proofs.of_faults.SinkLemmas.{notes_both, notes_same}

@@ -17,9 +17,7 @@ use Rattle.bdb_btree.specs.Held.{ItemPair}
 use Rattle.bdb_master.specs.Entries.{NamedPair, by_repeat, entry_of, fault_at, key_of, live_entries, repeat_fault, repeat_of}
 use Rattle.bdb_master.specs.Names.{HasAdded}
 use Rattle.bdb_master.proofs.EntryLemmas.{live_first}
-use Rattle.bdb_format.specs.Chains.{value_of}
-use Rattle.bdb_format.specs.File.{File}
-use Rattle.bdb_format.specs.Master.{named_by}
+use Rattle.bdb_format.specs.Terms.{File, named_by, value_of}
 use Rattle.bdb_format.proofs.BoolLemmas.{cond_or}
 use Rattle.bdb_format.proofs.LessLemmas.{eq_same}
 use Rattle.bdb_buckets.proofs.ChainedLemmas.{among_after, among_unchanged}

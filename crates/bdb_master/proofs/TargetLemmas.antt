@@ -7,10 +7,7 @@ use Rattle.bdb_btree.specs.of_faults.Notes.{Notes, NotesAll}
 use Rattle.bdb_btree.proofs.of_faults.SinkLemmas.{notes_next, notes_one}
 use Rattle.std.specs.Option.{option_to_list}
 use Rattle.bdb_master.specs.Entries.{NamedPair, by_target, entry_fault, target_fault}
-use Rattle.bdb_format.specs.File.{File, file_of}
-use Rattle.bdb_format.specs.Graph.{is_meta}
-use Rattle.bdb_format.specs.HeadOf.{head_of}
-use Rattle.bdb_format.specs.Master.{is_named_kind}
+use Rattle.bdb_format.specs.Terms.{File, file_of, head_of, is_meta, is_named_kind}
 use Rattle.bdb_format.proofs.FileLemmas.{last_page, past_last}
 use Rattle.std.proofs.Math.Bool.{and-false}
 

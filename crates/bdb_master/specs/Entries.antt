@@ -5,14 +5,11 @@ use Rattle.std.specs.BTreeMap.{BTreeMap, get}
 use Rattle.std.specs.List.{filter, flat_map}
 use Rattle.std.specs.Ordering.{nat_cmp}
 use Rattle.bdb_format.specs.declared.kinds.Fault.{Fault}
-use Rattle.bdb_format.specs.Contents.{StoredPair}
-use Rattle.bdb_format.specs.Chains.{value_of}
-use Rattle.bdb_format.specs.File.{File, file_of}
+use Rattle.bdb_format.specs.Terms.{File, StoredPair, file_of, is_named_kind, is_page, master_pairs, named_by, page_named, value_of}
 use Rattle.bdb_btree.specs.Held.{ItemPair}
 use Rattle.bdb_btree.specs.of_image.Linked.{meta_pages}
 use Rattle.bdb_overflow.specs.Held.{chain_value}
 use Rattle.bdb_overflow.specs.Keys.{repeated_by}
-use Rattle.bdb_format.specs.Master.{is_named_kind, is_page, master_pairs, named_by, page_named}
 
 -- a live pair: its leaf, its key, and the page that it names
 pub record NamedPair : Type 0 where

@@ -1,11 +1,9 @@
 ghost use Rattle.std.specs.Prelude.{◌≡◌, ◌<◌, ℕ, IfOk, OnOk, if◌then◌else◌, get_or, length};
 ghost use Rattle.std.specs.Option.{option_map};
 ghost use Rattle.bdb_btree.specs.of_faults.Notes.{NotesAll};
-ghost use Rattle.bdb_format.specs.Cases.{fault_seen};
+ghost use Rattle.bdb_format.specs.Terms.{fault_seen, file_of, is_page};
 ghost use Rattle.bdb_master.specs.Entries.{AreCounts, by_naming, count_fault, one_more};
-ghost use Rattle.bdb_format.specs.Master.{is_page};
 ghost use Rattle.bdb_btree.specs.of_image.Linked.{IsForest};
-ghost use Rattle.bdb_format.specs.File.{file_of};
 
 use crate::entry::MasterEntry;
 use crate::noting::note_given;

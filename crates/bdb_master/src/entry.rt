@@ -2,11 +2,8 @@ ghost use Rattle.std.specs.Prelude.{◌≡◌, ◌++◌, [], IfOk, OnOk, map};
 ghost use Rattle.bdb_btree.specs.Held.{AreKeyed, pair_held, stored_as};
 ghost use Rattle.bdb_btree.specs.Pairs.{AreFit};
 ghost use Rattle.bdb_master.specs.Entries.{entry_of, live_entries, master_entries};
-ghost use Rattle.bdb_format.specs.Master.{master_in};
+ghost use Rattle.bdb_format.specs.Terms.{Meta as MetaPage, file_of, master_in, page_at, structure_faults};
 ghost use Rattle.bdb_btree.specs.of_image.Metas.{meta_seen};
-ghost use Rattle.bdb_format.specs.File.{file_of, page_at};
-ghost use Rattle.bdb_format.specs.Page.{Meta as MetaPage};
-ghost use Rattle.bdb_format.specs.Verdict.{structure_faults};
 ghost use Rattle.bdb_overflow.specs.Datum.{FitsContent};
 
 use crate::named_pages::NamedPages;

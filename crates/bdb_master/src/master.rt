@@ -1,8 +1,7 @@
 ghost use Rattle.std.specs.Prelude.{◌≡◌, [], OnOk};
 ghost use Rattle.bdb_btree.specs.of_faults.Notes.{NotesAll};
 ghost use Rattle.bdb_master.specs.Entries.{master_entries};
-ghost use Rattle.bdb_format.specs.File.{file_of};
-ghost use Rattle.bdb_format.specs.Verdict.{master_faults, structure_faults};
+ghost use Rattle.bdb_format.specs.Terms.{file_of, master_faults, structure_faults};
 
 use crate::counts::note_naming;
 use crate::entry::MasterEntry;

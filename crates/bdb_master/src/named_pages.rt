@@ -1,6 +1,5 @@
 ghost use Rattle.std.specs.Prelude.{◌≡◌, IfOk};
-ghost use Rattle.bdb_format.specs.File.{file_of};
-ghost use Rattle.bdb_format.specs.Master.{named_by, page_named};
+ghost use Rattle.bdb_format.specs.Terms.{file_of, named_by, page_named};
 ghost use Rattle.bdb_btree.specs.of_image.Linked.{FitsChain};
 ghost use Rattle.bdb_btree.specs.of_layout.Seen.{leaf_item_seen};
 ghost use Rattle.bdb_overflow.specs.Datum.{FitsContent};

@@ -1,6 +1,6 @@
 ghost use Rattle.std.specs.Prelude.{OnOk};
 ghost use Rattle.bdb_btree.specs.of_faults.Notes.{Notes};
-ghost use Rattle.bdb_format.specs.Cases.{fault_seen};
+ghost use Rattle.bdb_format.specs.Terms.{fault_seen};
 ghost use Rattle.std.specs.Option.{option_map, option_to_list};
 
 use bdb_btree::FaultSink;

@@ -2,10 +2,8 @@ ghost use Rattle.std.specs.Prelude.{◌≡◌, [], None, OnOk, Some, if◌then�
 ghost use Rattle.bdb_btree.specs.Held.{AreKeyed};
 ghost use Rattle.std.specs.Option.{option_map};
 ghost use Rattle.bdb_btree.specs.of_faults.Notes.{NotesAll};
-ghost use Rattle.bdb_format.specs.Cases.{fault_seen};
+ghost use Rattle.bdb_format.specs.Terms.{fault_seen, file_of, structure_faults};
 ghost use Rattle.bdb_master.specs.Entries.{by_repeat, fault_at, live_entries, master_entries};
-ghost use Rattle.bdb_format.specs.File.{file_of};
-ghost use Rattle.bdb_format.specs.Verdict.{structure_faults};
 
 use crate::entry::master_of;
 use crate::noting::note_given;

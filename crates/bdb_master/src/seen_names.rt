@@ -1,7 +1,7 @@
 ghost use Rattle.std.specs.Prelude.{◌≡◌, IfOk, OnOk, not};
 ghost use Rattle.std.specs.BTreeSet.{IsEmpty};
 ghost use Rattle.bdb_master.specs.Names.{HasAdded};
-ghost use Rattle.bdb_format.specs.File.{file_of};
+ghost use Rattle.bdb_format.specs.Terms.{file_of};
 ghost use Rattle.bdb_btree.specs.of_image.Linked.{FitsChain};
 ghost use Rattle.bdb_overflow.specs.Datum.{datum_seen};
 ghost use Rattle.bdb_overflow.specs.Held.{FitsHeld, chain_value, value_held};

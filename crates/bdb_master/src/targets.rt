@@ -1,12 +1,9 @@
 ghost use Rattle.std.specs.Prelude.{◌≡◌, OnOk};
 ghost use Rattle.std.specs.Option.{option_map};
 ghost use Rattle.bdb_btree.specs.of_faults.Notes.{NotesAll};
-ghost use Rattle.bdb_format.specs.Cases.{fault_seen};
+ghost use Rattle.bdb_format.specs.Terms.{fault_seen, file_of, is_meta, is_named_kind};
 ghost use Rattle.bdb_master.specs.Entries.{by_target, target_fault};
-ghost use Rattle.bdb_format.specs.Master.{is_named_kind};
 ghost use Rattle.bdb_btree.specs.of_form.Seen.{page_seen};
-ghost use Rattle.bdb_format.specs.File.{file_of};
-ghost use Rattle.bdb_format.specs.Graph.{is_meta};
 
 use crate::entry::MasterEntry;
 use crate::noting::note_given;

@@ -4,10 +4,7 @@ use Rattle.std.proofs.lemmas.Bool.Decides.{nat_tests}
 use Rattle.std.proofs.lemmas.List.{length-replicate}
 use Rattle.bdb_layout.specs.of_format.declared.kinds.Order.{Order}
 use Rattle.bdb_layout.specs.of_format.declared.metadata.FileKind.{FileKind}
-use Rattle.bdb_layout.specs.of_format.HeadOf.{is_page_size}
-use Rattle.bdb_layout.specs.of_format.Numbers.{spelled, four_at}
-use Rattle.bdb_layout.specs.of_format.Rows.{magic_of, version_of, type_of}
-use Rattle.bdb_layout.specs.of_format.Spelling.{common_bytes, zeros, lsn_bytes}
+use Rattle.bdb_layout.specs.of_format.Terms.{common_bytes, four_at, is_page_size, lsn_bytes, magic_of, spelled, type_of, version_of, zeros}
 use Rattle.bdb_layout.proofs.of_format.SpellingLemmas.{length-spelled, number_at-in, number_at-behind}
 use Rattle.bdb_meta.proofs.FilledLemmas.{Filled, zeros-spelled}
 

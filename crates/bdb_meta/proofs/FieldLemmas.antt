@@ -5,9 +5,8 @@ use Rattle.bdb_layout.specs.of_format.declared.metadata.BtreeMeta.{BtreeMeta}
 use Rattle.bdb_layout.specs.of_format.declared.metadata.HashMeta.{HashMeta}
 use Rattle.bdb_layout.specs.of_format.declared.metadata.QueueMeta.{QueueMeta}
 use Rattle.bdb_layout.specs.of_format.declared.metadata.FileKind.TheVariants.{Btree, Hash, Queue}
-use Rattle.bdb_layout.specs.of_format.Numbers.{spelled, four_at}
-use Rattle.bdb_layout.specs.of_format.Reading.{btree_fields, hash_fields, queue_fields}
-use Rattle.bdb_layout.specs.of_format.Spelling.{btree_bytes, common_bytes, last_field, queue_bytes, table_bytes, zeros}
+use Rattle.bdb_layout.specs.of_format.Terms.{btree_bytes, btree_fields, common_bytes, four_at, hash_fields, last_field, queue_bytes, queue_fields, spelled}
+use Rattle.bdb_layout.specs.of_format.Terms.{table_bytes, zeros}
 use Rattle.bdb_layout.proofs.of_format.SpellingLemmas.{length-spelled, number_at-behind, number_at-first}
 use Rattle.bdb_meta.specs.ReadBack.{BtreeFits, QueueFits, SparesFit, TableFits}
 use Rattle.bdb_meta.proofs.CommonLemmas.{behind-common, behind-number, flags-common, free-common, length-common}

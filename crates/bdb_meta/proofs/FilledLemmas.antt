@@ -6,9 +6,7 @@ use Rattle.std.proofs.Math.Seq.{drop-append-add}
 use Rattle.std.proofs.lemmas.List.{take_at, set_at, drop-replicate, length-replicate, replicate-append-replicate}
 use Rattle.bdb_layout.specs.of_format.declared.kinds.Order.{Order}
 use Rattle.bdb_layout.specs.of_format.declared.kinds.Order.TheVariants.{Big, Little}
-use Rattle.bdb_layout.specs.of_format.Numbers.{spelled, overwritten}
-use Rattle.bdb_layout.specs.of_format.Reading.{is_zero}
-use Rattle.bdb_layout.specs.of_format.Spelling.{zeros}
+use Rattle.bdb_layout.specs.of_format.Terms.{is_zero, overwritten, spelled, zeros}
 use Rattle.bdb_layout.proofs.of_format.SpellingLemmas.{length-spelled}
 
 -- the page has `front` before `at`, and zeros from there on

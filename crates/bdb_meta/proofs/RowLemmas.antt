@@ -5,9 +5,7 @@ use Rattle.std.specs.Prelude.{None, Ok, Err}
 use Rattle.bdb_layout.specs.of_format.declared.metadata.MetaFault.{MetaFault}
 use Rattle.bdb_layout.specs.of_format.declared.kinds.Order.{Order}
 use Rattle.bdb_layout.specs.of_format.declared.metadata.FileKind.{FileKind}
-use Rattle.bdb_layout.specs.of_format.Rows.{kind_rows, metadata_rows}
-use Rattle.bdb_layout.specs.of_format.Table.{Row, answer, first_row}
-use Rattle.bdb_layout.specs.of_format.HeadOf.{faulted, head_rows}
+use Rattle.bdb_layout.specs.of_format.Terms.{Row, answer, faulted, first_row, head_rows, kind_rows, metadata_rows}
 use Rattle.bdb_meta.specs.RowGroups.{common_rows, length_rows, page_rows, version_rows}
 
 -- rows that hold nowhere are passed

@@ -6,8 +6,7 @@ use Rattle.std.proofs.lemmas.Grind.{flat_map-append}
 use Rattle.std.proofs.lemmas.List.{take_more}
 use Rattle.std.proofs.lemmas.List.FromFn.{fill_by_all}
 use Rattle.bdb_layout.specs.of_format.declared.kinds.Order.{Order}
-use Rattle.bdb_layout.specs.of_format.Numbers.{spelled, overwritten, four_at}
-use Rattle.bdb_layout.specs.of_format.Reading.{hash_fields}
+use Rattle.bdb_layout.specs.of_format.Terms.{four_at, hash_fields, overwritten, spelled}
 use Rattle.bdb_layout.proofs.of_format.SpellingLemmas.{length-spelled, number_at-behind, number_at-first, overwritten_next}
 use Rattle.bdb_meta.proofs.CommonLemmas.{behind-number}
 

@@ -6,11 +6,8 @@ use Rattle.bdb_layout.specs.of_format.declared.metadata.BtreeMeta.{BtreeMeta}
 use Rattle.bdb_layout.specs.of_format.declared.metadata.HashMeta.{HashMeta}
 use Rattle.bdb_layout.specs.of_format.declared.metadata.QueueMeta.{QueueMeta}
 use Rattle.bdb_layout.specs.of_format.declared.metadata.FileKind.TheVariants.{Btree, Hash, Queue}
-use Rattle.bdb_layout.specs.of_format.HeadOf.{faulted, form_fault}
-use Rattle.bdb_layout.specs.of_format.Reading.{btree_fields, hash_fields, queue_fields}
-use Rattle.bdb_layout.specs.of_format.Rows.{metadata_rows}
-use Rattle.bdb_layout.specs.of_format.Spelling.{btree_bytes, queue_bytes, table_bytes}
-use Rattle.bdb_layout.specs.of_format.Table.{answer, first_row}
+use Rattle.bdb_layout.specs.of_format.Terms.{answer, btree_bytes, btree_fields, faulted, first_row, form_fault, hash_fields, metadata_rows, queue_bytes}
+use Rattle.bdb_layout.specs.of_format.Terms.{queue_fields, table_bytes}
 
 -- each field fits four bytes
 pub record BtreeFits (meta : BtreeMeta) : Type 0 where

@@ -2,10 +2,8 @@
 use Rattle.std.specs.Prelude.{ℕ, ◌%◌, ◌==◌, ◌||◌, not, List, [], ◌∷◌, ◌++◌, length}
 use Rattle.bdb_layout.specs.of_format.declared.kinds.Order.{Order}
 use Rattle.bdb_layout.specs.of_format.declared.metadata.FileKind.{FileKind}
-use Rattle.bdb_layout.specs.of_format.Numbers.{byte_at, four_at, has_bit}
-use Rattle.bdb_layout.specs.of_format.Table.{Row, ◌:?◌}
-use Rattle.bdb_layout.specs.of_format.Rows.{are_wrong_flags, identity_rows, meta_rows, type_of, version_of}
-use Rattle.bdb_layout.specs.of_format.HeadOf.{order_of, magic_at, file_kind, is_magic, heap_magic, is_page_size, is_past}
+use Rattle.bdb_layout.specs.of_format.Terms.{Row, are_wrong_flags, byte_at, file_kind, four_at, has_bit, heap_magic, identity_rows, is_magic, is_page_size}
+use Rattle.bdb_layout.specs.of_format.Terms.{is_past, magic_at, meta_rows, order_of, type_of, version_of, ◌:?◌}
 
 -- Of page 0, as it speaks of the file.
 

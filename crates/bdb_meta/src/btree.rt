@@ -1,10 +1,6 @@
 ghost use Rattle.std.specs.Prelude.{◌≡◌, ◌≤◌, length, IsTrue};
-ghost use Rattle.bdb_layout.specs.of_format.HeadOf.{faulted, form_fault, is_page_size};
-ghost use Rattle.bdb_layout.specs.of_format.Reading.{btree_fields, is_zero};
-ghost use Rattle.bdb_layout.specs.of_format.Rows.{are_wrong_flags, metadata_rows};
-ghost use Rattle.bdb_layout.specs.of_format.Spelling.{btree_bytes};
-ghost use Rattle.bdb_layout.specs.of_format.Table.{answer};
-ghost use Rattle.bdb_layout.specs.of_format.FaultTable.{coded, form_row_code};
+ghost use Rattle.bdb_layout.specs.of_format.Terms.{answer, are_wrong_flags, btree_bytes, btree_fields, coded, faulted, form_fault, form_row_code, is_page_size};
+ghost use Rattle.bdb_layout.specs.of_format.Terms.{is_zero, metadata_rows};
 ghost use Rattle.bdb_meta.specs.RowGroups.{flag_rows};
 ghost use Rattle.bdb_layout.specs.of_format.declared.metadata.FileKind.TheVariants.{Btree};
 

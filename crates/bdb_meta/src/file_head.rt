@@ -1,9 +1,7 @@
 ghost use Rattle.std.specs.Prelude.{◌≡◌, ◌^◌, ◌≤◌, ◌/◌, length, IsTrue, OnOk};
-ghost use Rattle.bdb_layout.specs.of_format.HeadOf.{faulted, file_kind, head_fault, head_of, head_rows, is_past, is_magic, is_page_size, last_page, order_of, pages_of};
-ghost use Rattle.bdb_layout.specs.of_format.Numbers.{four_at};
+ghost use Rattle.bdb_layout.specs.of_format.Terms.{answer, coded, faulted, file_kind, file_row_code, four_at, head_fault, head_of, head_rows, is_magic};
+ghost use Rattle.bdb_layout.specs.of_format.Terms.{is_page_size, is_past, last_page, order_of, pages_of};
 ghost use Rattle.bdb_meta.specs.RowGroups.{length_rows, page_rows, version_rows};
-ghost use Rattle.bdb_layout.specs.of_format.Table.{answer};
-ghost use Rattle.bdb_layout.specs.of_format.FaultTable.{coded, file_row_code};
 
 use crate::generic::{CHECKSUM, has_bit, is_partitioned, version_of};
 use bdb_layout::{FileKind, FileRow, Head, MetaFault, Order, is_page_size, magic_of, u32_at};

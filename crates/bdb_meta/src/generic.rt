@@ -1,10 +1,6 @@
 ghost use Rattle.std.specs.Prelude.{◌≡◌, ◌==◌, ◌≤◌, ◌<◌, ◌^◌, ◌-◌, ◌++◌, ◌||◌, length, not, IsTrue};
-ghost use Rattle.bdb_layout.specs.of_format.Numbers.{byte_at, four_at, has_bit};
-ghost use Rattle.bdb_layout.specs.of_format.Reading.{is_zero};
-ghost use Rattle.bdb_layout.specs.of_format.Rows.{identity_rows, magic_of, meta_rows, type_of, version_of};
-ghost use Rattle.bdb_layout.specs.of_format.Spelling.{common_bytes, last_field, zeros};
-ghost use Rattle.bdb_layout.specs.of_format.Table.{answer};
-ghost use Rattle.bdb_layout.specs.of_format.FaultTable.{coded, form_row_code};
+ghost use Rattle.bdb_layout.specs.of_format.Terms.{answer, byte_at, coded, common_bytes, form_row_code, four_at, has_bit, identity_rows, is_zero, last_field};
+ghost use Rattle.bdb_layout.specs.of_format.Terms.{magic_of, meta_rows, type_of, version_of, zeros};
 ghost use Rattle.bdb_meta.specs.RowGroups.{common_rows};
 
 use bdb_layout::{FileKind, FormRow, Order, PageType, magic_of, put_u32, u32_at};

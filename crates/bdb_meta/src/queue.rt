@@ -1,10 +1,6 @@
 ghost use Rattle.std.specs.Prelude.{◌≡◌, ◌<◌, ◌≤◌, ◌^◌, length, IsTrue};
-ghost use Rattle.bdb_layout.specs.of_format.HeadOf.{faulted, form_fault, is_page_size};
-ghost use Rattle.bdb_layout.specs.of_format.Reading.{is_zero, queue_fields};
-ghost use Rattle.bdb_layout.specs.of_format.Rows.{queue_rows, metadata_rows};
-ghost use Rattle.bdb_layout.specs.of_format.Spelling.{queue_bytes};
-ghost use Rattle.bdb_layout.specs.of_format.Table.{answer};
-ghost use Rattle.bdb_layout.specs.of_format.FaultTable.{coded, form_row_code};
+ghost use Rattle.bdb_layout.specs.of_format.Terms.{answer, coded, faulted, form_fault, form_row_code, is_page_size, is_zero, metadata_rows, queue_bytes};
+ghost use Rattle.bdb_layout.specs.of_format.Terms.{queue_fields, queue_rows};
 ghost use Rattle.bdb_layout.specs.of_format.declared.metadata.FileKind.TheVariants.{Queue};
 
 use crate::generic::{Generic, check_common, put_generic};

@@ -1,13 +1,7 @@
 ghost use Rattle.std.specs.Prelude.{◌≡◌, ◌+◌, ◌^◌, ◌<◌, ◌≤◌, length, IsTrue};
-ghost use Rattle.bdb_layout.specs.of_format.Hashing.{group};
+ghost use Rattle.bdb_layout.specs.of_format.Terms.{answer, are_masks, coded, faulted, form_fault, form_row_code, group, hash_fields, is_page_size, is_zero};
+ghost use Rattle.bdb_layout.specs.of_format.Terms.{lacks_spare, metadata_rows, overwritten, spelled, table_bytes, table_rows};
 ghost use Rattle.std.specs.List.{flat_map};
-ghost use Rattle.bdb_layout.specs.of_format.HeadOf.{faulted, form_fault, is_page_size};
-ghost use Rattle.bdb_layout.specs.of_format.Numbers.{overwritten, spelled};
-ghost use Rattle.bdb_layout.specs.of_format.Reading.{hash_fields, is_zero};
-ghost use Rattle.bdb_layout.specs.of_format.Rows.{are_masks, lacks_spare, metadata_rows, table_rows};
-ghost use Rattle.bdb_layout.specs.of_format.Spelling.{table_bytes};
-ghost use Rattle.bdb_layout.specs.of_format.Table.{answer};
-ghost use Rattle.bdb_layout.specs.of_format.FaultTable.{coded, form_row_code};
 ghost use Rattle.bdb_layout.specs.of_format.declared.metadata.FileKind.TheVariants.{Hash};
 
 use crate::generic::{Generic, check_common, put_generic};

@@ -9,9 +9,7 @@ use Rattle.std.proofs.lemmas.List.Elements.{All-cons, All-head, All-nil, All-tai
 use Rattle.std.proofs.lemmas.List.Folds.{list_any-append}
 use Rattle.std.proofs.lemmas.List.Sums.{sum_by-cons}
 use Rattle.std.proofs.lemmas.Bool.{and_parts, or_parts}
-use Rattle.bdb_io.specs.of_format.ContentRows.{ascends, ascends_from}
-use Rattle.bdb_io.specs.of_format.Databases.{is_name}
-use Rattle.bdb_io.specs.of_format.Less.{less}
+use Rattle.bdb_io.specs.of_format.Terms.{ascends, ascends_from, is_name, less}
 use Rattle.bdb_io.proofs.of_format.LessLemmas.{eq_self, same_unless_less}
 use Rattle.bdb_text_format.specs.declared.sections.Section.{Section}
 use Rattle.bdb_law_sections.specs.Fit.{AreNamedBehind}

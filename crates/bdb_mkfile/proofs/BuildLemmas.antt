@@ -9,12 +9,10 @@ use Rattle.bdb_io.specs.of_format.declared.kinds.Kind.{Kind}
 use Rattle.bdb_io.specs.of_format.declared.kinds.Kind.TheVariants.{Btree, Recno, Hash, Queue}
 use Rattle.bdb_io.specs.of_format.declared.kinds.Order.{Order}
 use Rattle.bdb_io.specs.of_format.declared.settings.Settings.{Settings}
-use Rattle.bdb_io.specs.of_format.Databases.{Database, databases}
-use Rattle.bdb_io.specs.of_format.File.{file_of}
+use Rattle.bdb_io.specs.of_format.Terms.{Database, databases, file_of}
 use Rattle.bdb_text_format.specs.declared.pairs.Pair.{Pair}
 use Rattle.bdb_text_format.specs.declared.sections.Section.{Section}
-use Rattle.bdb_text_format.specs.Pairs.{listed}
-use Rattle.bdb_text_format.specs.Written.{header_lines}
+use Rattle.bdb_text_format.specs.Terms.{header_lines, listed}
 use Rattle.bdb_need.specs.of_settle.declared.load_error.LoadError.{LoadError}
 use Rattle.bdb_need.specs.of_settle.declared.load_error.LoadError.TheVariants.{TooLarge, Memory}
 use Rattle.bdb_need.specs.of_settle.LoadErrors.{load_error, page_size_in}

@@ -13,9 +13,7 @@ use Rattle.std.proofs.lemmas.List.Sums.{sum_by-cons}
 use Rattle.std.proofs.lemmas.Simd.{map-map}
 use Rattle.bdb_io.specs.of_format.declared.kinds.Order.{Order}
 use Rattle.bdb_io.specs.of_format.declared.kinds.Order.TheVariants.{Big}
-use Rattle.bdb_io.specs.of_format.ContentRows.{ascends, ascends_from}
-use Rattle.bdb_io.specs.of_format.Less.{less}
-use Rattle.bdb_io.specs.of_format.Numbers.{pad4}
+use Rattle.bdb_io.specs.of_format.Terms.{ascends, ascends_from, less, pad4}
 use Rattle.bdb_io.proofs.of_format.SpellingLemmas.{length-spelled}
 use Rattle.bdb_need.specs.of_law_levels.declared.inner_type.InnerType.{InnerType}
 use Rattle.bdb_need.specs.of_law_levels.declared.inner_type.InnerType.TheVariants.{Keyed, Numbered}

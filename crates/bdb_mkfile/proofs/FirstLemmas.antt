@@ -3,8 +3,7 @@ use Rattle.std.proofs.Common.{◌≡◌, ℕ, ◌-◌, ◌*◌, List, [], ◌++�
 use Rattle.std.proofs.lemmas.List.{append-nil, length-set, take_at}
 use Rattle.bdb_io.specs.of_format.declared.metadata.FileKind.{FileKind}
 use Rattle.bdb_io.specs.of_format.declared.metadata.Head.{Head}
-use Rattle.bdb_io.specs.of_format.HeadOf.{head_of}
-use Rattle.bdb_io.specs.of_format.Spelling.{common_bytes}
+use Rattle.bdb_io.specs.of_format.Terms.{common_bytes, head_of}
 use Rattle.bdb_io.proofs.of_format.SizeLemmas.{size_bounds}
 use Rattle.bdb_need.specs.of_pack.Built.{AreWhole, Built, joined_pages, with_page}
 use Rattle.bdb_need.proofs.of_pack.CutLemmas.{all_size, page_whole}

@@ -9,13 +9,12 @@ use Rattle.std.proofs.lemmas.List.Elements.{All-head, All-map}
 use Rattle.bdb_io.specs.of_format.declared.kinds.Kind.{Kind}
 use Rattle.bdb_io.specs.of_format.declared.kinds.Kind.TheVariants.{Btree, Recno, Hash, Queue}
 use Rattle.bdb_io.specs.of_format.declared.settings.Settings.{Settings}
-use Rattle.bdb_io.specs.of_format.HeadOf.{is_page_size}
-use Rattle.bdb_io.specs.of_format.Numbers.{pad4}
+use Rattle.bdb_io.specs.of_format.Terms.{is_page_size, pad4}
 use Rattle.bdb_text_format.specs.declared.pairs.Pair.{Pair}
 use Rattle.bdb_text_format.specs.declared.pairs.Key.{Key}
 use Rattle.bdb_text_format.specs.declared.pairs.Key.TheVariants.{Bytes, Number}
 use Rattle.bdb_text_format.specs.declared.sections.Section.{Section}
-use Rattle.bdb_text_format.specs.Written.{holds_records}
+use Rattle.bdb_text_format.specs.Terms.{holds_records}
 use Rattle.bdb_law_sections.specs.Fit.{AreFit, AreFitSettings, AreNamedBehind, IsFitSection, is_number}
 use Rattle.bdb_need.specs.of_mkleaves.Runs.{IsShort}
 use Rattle.bdb_need.specs.of_mktree.Lists.{IsTreeList}

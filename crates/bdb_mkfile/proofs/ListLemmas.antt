@@ -11,19 +11,17 @@ use Rattle.std.proofs.lemmas.List.Elements.{All-cons, All-head, All-nil, All-tai
 use Rattle.std.proofs.Math.Bool.{and-false}
 use Rattle.bdb_io.specs.of_format.declared.kinds.Kind.TheVariants.{Btree, Hash, Queue}
 use Rattle.bdb_io.specs.of_format.declared.settings.Settings.{Settings}
-use Rattle.bdb_io.specs.of_format.Less.{less}
-use Rattle.bdb_io.specs.of_format.Numbers.{pad4}
+use Rattle.bdb_io.specs.of_format.Terms.{less, pad4}
 use Rattle.bdb_text_format.specs.declared.pairs.Pair.{Pair}
 use Rattle.bdb_text_format.specs.declared.pairs.Key.{Key}
 use Rattle.bdb_text_format.specs.declared.pairs.Key.TheVariants.{Bytes, Number}
 use Rattle.bdb_text_format.specs.declared.pairs.TextPair.{TextPair}
 use Rattle.bdb_text_format.specs.declared.sections.Section.{Section}
-use Rattle.bdb_text_format.specs.Pairs.{AscendFrom, number_of}
+use Rattle.bdb_text_format.specs.Terms.{AscendFrom, holds_records, is_queue, number_of}
 use Rattle.bdb_need.specs.of_mktree.Lists.{HasNumber, IsTreeList as IsTreeListFor}
 use Rattle.bdb_need.specs.of_settle.ListLaw.{HasShortBytes, IsFit, IsKeyOf}
 use Rattle.bdb_need.specs.of_settle.LoadErrors.{header_errors, is_among_names, is_too_wide, is_zero, load_error, page_size_in, pair_errors, section_errors, where_so}
 use Rattle.bdb_need.specs.of_settle.declared.load_error.LoadError.TheVariants.{QueueAmongNames, RecordTooLong, RecordZero}
-use Rattle.bdb_text_format.specs.Written.{holds_records, is_queue}
 use Rattle.bdb_need.specs.of_settle.Loaded.{loaded_pair, keeps_data, loaded, sorts_data, stands_before}
 use Rattle.bdb_need.proofs.of_settle.ErrorLemmas.{IsSound, sound_pairs, both_empty, each_empty, no_errors as none_hold, not_so}
 use Rattle.bdb_need.proofs.of_settle.ListLawLemmas.{load_into_lists, by_numbers, filled_length, positive as positive_of}

@@ -11,7 +11,7 @@ use Rattle.std.proofs.lemmas.List.Folds.{fold-map}
 use Rattle.std.proofs.lemmas.List.Sums.{sum_by-append, sum_by-cons}
 use Rattle.bdb_io.specs.of_format.declared.kinds.Kind.TheVariants.{Btree, Recno, Hash}
 use Rattle.bdb_io.specs.of_format.declared.settings.Settings.{Settings}
-use Rattle.bdb_io.specs.of_format.HeadOf.{is_page_size}
+use Rattle.bdb_io.specs.of_format.Terms.{is_page_size}
 use Rattle.bdb_io.proofs.of_format.LessLemmas.{eq_same}
 use Rattle.bdb_io.proofs.of_format.SizeLemmas.{size_bounds}
 use Rattle.bdb_text_format.specs.declared.pairs.Pair.{Pair}
@@ -21,7 +21,7 @@ use Rattle.bdb_need.specs.of_mkleaves.Placed.{values_in}
 use Rattle.bdb_need.specs.of_mkleaves.Spread.{leaves_and_levels, own_pages, set_pages, set_type}
 use Rattle.bdb_need.specs.of_mkleaves.Units.{EntryUnit, KeyedUnit, TreeUnit, chain_pages, has_own_tree, key_of}
 use Rattle.bdb_need.specs.of_mktree.Lists.{HasNumber, bytes_in, keyed_units, missing, onto_units, record_units}
-use Rattle.bdb_text_format.specs.Pairs.{number_of}
+use Rattle.bdb_text_format.specs.Terms.{number_of}
 use Rattle.bdb_need.specs.of_mkhash.Buckets.{keyed_of, table_units}
 use Rattle.bdb_need.specs.of_mkhash.Costs.{data_form, keyed_own_pages, pages_in, stand_together}
 use Rattle.bdb_need.proofs.of_mkhash.CostLemmas.{together_inline}

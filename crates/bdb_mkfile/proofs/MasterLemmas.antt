@@ -3,8 +3,7 @@ use Rattle.std.proofs.Common.{◌≡◌, ℕ, Bool, true, false, cond, not, List
 use Rattle.std.specs.Prelude.{◌&&◌, ◌||◌, unwrap_or}
 use Rattle.std.specs.List.{All, fold}
 use Rattle.std.proofs.lemmas.List.Elements.{All-head, All-nil, All-tail}
-use Rattle.bdb_io.specs.of_format.Less.{less}
-use Rattle.bdb_io.specs.of_format.ContentRows.{ascends}
+use Rattle.bdb_io.specs.of_format.Terms.{ascends, less}
 use Rattle.bdb_text_format.specs.declared.sections.Section.{Section}
 use Rattle.bdb_need.specs.of_settle.Loaded.{loaded_pair, with_loaded}
 use Rattle.bdb_need.specs.TreePages.{tree_pages}

@@ -17,13 +17,9 @@ use Rattle.bdb_io.specs.of_format.declared.metadata.FileKind.TheVariants.{Hash, 
 use Rattle.bdb_io.specs.of_format.declared.metadata.Head.{Head}
 use Rattle.bdb_io.specs.of_format.declared.metadata.HashMeta.{HashMeta}
 use Rattle.bdb_io.specs.of_format.declared.settings.Settings.{Settings}
-use Rattle.bdb_io.specs.of_format.Hashing.{group}
-use Rattle.bdb_io.specs.of_format.HeadOf.{is_page_size}
-use Rattle.bdb_io.specs.of_format.Numbers.{byte_at, four_at, has_bit, spelled}
-use Rattle.bdb_io.specs.of_format.Reading.{hash_fields, is_zero, page_type}
-use Rattle.bdb_io.specs.of_format.Rows.{are_masks, body_code, form_code, identity_rows, is_tree_type, lacks_spare, magic_of, metadata_rows, page_code, version_of}
-use Rattle.bdb_io.specs.of_format.Spelling.{common_bytes, last_field, table_bytes, zeros}
-use Rattle.bdb_io.specs.of_format.Table.{first_row}
+use Rattle.bdb_io.specs.of_format.Terms.{are_masks, body_code, byte_at, common_bytes, first_row, form_code, four_at, group, has_bit, hash_fields}
+use Rattle.bdb_io.specs.of_format.Terms.{identity_rows, is_page_size, is_tree_type, is_zero, lacks_spare, last_field, magic_of, metadata_rows, page_code}
+use Rattle.bdb_io.specs.of_format.Terms.{page_type, spelled, table_bytes, version_of, zeros}
 use Rattle.bdb_io.proofs.of_format.MemberLemmas.{none_pass, of_range}
 use Rattle.bdb_io.proofs.of_format.SpellingLemmas.{length-spelled, number_at-in}
 use Rattle.bdb_need.proofs.of_image.CodeLemmas.{first_page_code, tree_metadata}

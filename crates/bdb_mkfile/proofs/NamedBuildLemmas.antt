@@ -6,15 +6,12 @@ use Rattle.bdb_io.specs.of_format.declared.kinds.Order.{Order}
 use Rattle.bdb_io.specs.of_format.declared.metadata.BtreeMeta.{BtreeMeta}
 use Rattle.bdb_io.specs.of_format.declared.metadata.HashMeta.{HashMeta}
 use Rattle.bdb_io.specs.of_format.declared.settings.Settings.{Settings}
-use Rattle.bdb_io.specs.of_format.Databases.{settings_of}
-use Rattle.bdb_io.specs.of_format.Page.{BtreeFields, HashFields}
-use Rattle.bdb_io.specs.of_format.Spelling.{table_bytes}
-use Rattle.bdb_io.specs.of_format.Table.{first_row}
+use Rattle.bdb_io.specs.of_format.Terms.{BtreeFields, HashFields, first_row, settings_of, table_bytes}
 use Rattle.bdb_need.specs.of_meta.RowGroups.{flag_rows}
 use Rattle.bdb_need.specs.of_law_grove.Part.{IsPart, between}
 use Rattle.bdb_text_format.specs.declared.pairs.Pair.{Pair}
 use Rattle.bdb_text_format.specs.declared.sections.Section.{Section}
-use Rattle.bdb_text_format.specs.Pairs.{listed}
+use Rattle.bdb_text_format.specs.Terms.{listed}
 use Rattle.bdb_need.specs.of_pack.Built.{Built}
 use Rattle.bdb_need.proofs.of_law_join.FiledLemmas.{btrees_are_spelled}
 use Rattle.bdb_need.specs.of_mkleaves.Layout.{AreTreesIn}

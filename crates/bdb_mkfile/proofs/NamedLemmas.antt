@@ -7,25 +7,16 @@ use Rattle.std.proofs.lemmas.List.{length-map, length-reverse}
 use Rattle.std.proofs.lemmas.List.Elements.{All-cons, All-nil}
 use Rattle.bdb_io.specs.of_format.declared.kinds.Order.{Order}
 use Rattle.bdb_io.specs.of_format.declared.metadata.BtreeMeta.{BtreeMeta}
-use Rattle.bdb_io.specs.of_format.Databases.{Database, databases}
+use Rattle.bdb_io.specs.of_format.Terms.{BtreeFields, Database, File, ListKey, btree_bytes, databases, file_of, first_judgement, first_row, has_duplicates}
+use Rattle.bdb_io.specs.of_format.Terms.{head_of, is_zero, names_databases, page_bytes, page_code}
 use Rattle.bdb_io.specs.of_format.declared.kinds.Kind.TheVariants.{Btree}
-use Rattle.bdb_io.specs.of_format.File.{File, file_of, page_bytes}
-use Rattle.bdb_io.specs.of_format.HeadOf.{head_of}
-use Rattle.bdb_io.specs.of_format.Spelling.{btree_bytes}
-use Rattle.bdb_io.specs.of_format.Flags.{has_duplicates, names_databases}
-use Rattle.bdb_io.specs.of_format.Lists.{ListKey}
-use Rattle.bdb_io.specs.of_format.Page.{BtreeFields}
-use Rattle.bdb_io.specs.of_format.Reading.{is_zero}
-use Rattle.bdb_io.specs.of_format.Rows.{page_code}
-use Rattle.bdb_io.specs.of_format.Table.{first_row}
-use Rattle.bdb_io.specs.of_format.Verdict.{first_judgement}
 use Rattle.bdb_io.proofs.of_format.MemberLemmas.{first_member, later_member, member_cases}
 use Rattle.bdb_need.specs.of_meta.RowGroups.{flag_rows}
 use Rattle.bdb_need.specs.of_law_grove.Growing.{IsCounted, IsLater}
 use Rattle.bdb_need.specs.of_law_grove.Part.{IsPart, between}
 use Rattle.bdb_need.proofs.of_law_grove.ChainLemmas.{between_is, is_between}
 use Rattle.bdb_text_format.specs.declared.sections.Section.{Section}
-use Rattle.bdb_text_format.specs.Pairs.{listed}
+use Rattle.bdb_text_format.specs.Terms.{listed}
 use Rattle.bdb_need.specs.of_pack.Built.{Built, bytes_of, file_so_far, joined_pages, with_zeros}
 use Rattle.bdb_need.proofs.of_pack.CutLemmas.{all_size}
 use Rattle.bdb_need.proofs.of_pack.ImageLemmas.{counted_so_far}

@@ -4,11 +4,10 @@ use Rattle.std.proofs.lemmas.List.{length-take-le, take_more}
 use Rattle.bdb_io.specs.of_format.declared.kinds.Kind.TheVariants.{Btree}
 use Rattle.bdb_io.specs.of_format.declared.metadata.BtreeMeta.{BtreeMeta}
 use Rattle.bdb_io.specs.of_format.declared.settings.Settings.{Settings}
-use Rattle.bdb_io.specs.of_format.Databases.{settings_of}
-use Rattle.bdb_io.specs.of_format.Page.{BtreeFields}
+use Rattle.bdb_io.specs.of_format.Terms.{BtreeFields, settings_of}
 use Rattle.bdb_text_format.specs.declared.pairs.Pair.{Pair}
 use Rattle.bdb_text_format.specs.declared.sections.Section.{Section}
-use Rattle.bdb_text_format.specs.Pairs.{listed}
+use Rattle.bdb_text_format.specs.Terms.{listed}
 use Rattle.bdb_need.specs.of_law_grove.Part.{between}
 use Rattle.bdb_need.specs.of_pack.Built.{Built}
 use Rattle.bdb_need.specs.of_mkleaves.Layout.{AreTreesIn}

@@ -8,19 +8,13 @@ use Rattle.std.proofs.lemmas.Bool.{and_parts, cases_eq, false_from_ne_true, ne_e
 use Rattle.std.proofs.lemmas.List.Elements.{All-head, All-tail}
 use Rattle.bdb_io.specs.of_format.declared.kinds.Order.{Order}
 use Rattle.bdb_io.specs.of_format.declared.kinds.Order.TheVariants.{Big}
-use Rattle.bdb_io.specs.of_format.ContentRows.{ascends, ascends_from}
-use Rattle.bdb_io.specs.of_format.Databases.{Database, databases, settings_of}
-use Rattle.bdb_io.specs.of_format.File.{file_of}
-use Rattle.bdb_io.specs.of_format.HeadOf.{head_of}
-use Rattle.bdb_io.specs.of_format.Less.{Less, less}
-use Rattle.bdb_io.specs.of_format.Lists.{BytesKey, is_key, list_of}
-use Rattle.bdb_io.specs.of_format.Master.{is_page, page_named}
-use Rattle.bdb_io.specs.of_format.Numbers.{number as number_of, spelled}
+use Rattle.bdb_io.specs.of_format.Terms.{BytesKey, Database, Less, ascends, ascends_from, databases, file_of, head_of, is_key, is_page, less, list_of}
+use Rattle.bdb_io.specs.of_format.Terms.{number as number_of, page_named, settings_of, spelled}
 use Rattle.bdb_io.proofs.of_format.LessLemmas.{eq_same, less_trans, not_less_same}
 use Rattle.bdb_io.proofs.of_format.MemberLemmas.{first_member, later_member, member_cases, no_member}
 use Rattle.bdb_io.proofs.of_format.SpellingLemmas.{length-spelled, number-spelled}
 use Rattle.bdb_text_format.specs.declared.sections.Section.{Section}
-use Rattle.bdb_text_format.specs.Pairs.{listed}
+use Rattle.bdb_text_format.specs.Terms.{listed}
 use Rattle.bdb_need.specs.of_law_join.Joining.{HoldsLists, IsMetaOf, Joint}
 use Rattle.bdb_need.specs.of_law_join.Masters.{AreNamesApart, MasterPair, IsDatabase}
 use Rattle.bdb_need.proofs.of_mkleaves.UnitLemmas.{ascends_later}

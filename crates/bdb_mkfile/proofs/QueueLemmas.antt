@@ -5,14 +5,7 @@ use Rattle.bdb_io.specs.of_format.declared.metadata.FileKind.TheVariants.{Queue}
 use Rattle.bdb_io.specs.of_format.declared.metadata.Head.{Head}
 use Rattle.bdb_io.specs.of_format.declared.metadata.QueueMeta.{QueueMeta}
 use Rattle.bdb_io.specs.of_format.declared.settings.Settings.{Settings}
-use Rattle.bdb_io.specs.of_format.Databases.{settings_of}
-use Rattle.bdb_io.specs.of_format.File.{file_of}
-use Rattle.bdb_io.specs.of_format.Lists.{list_of}
-use Rattle.bdb_io.specs.of_format.HeadOf.{is_page_size}
-use Rattle.bdb_io.specs.of_format.Numbers.{spelled}
-use Rattle.bdb_io.specs.of_format.Page.{QueueFields}
-use Rattle.bdb_io.specs.of_format.Reading.{queue_fields}
-use Rattle.bdb_io.specs.of_format.Spelling.{queue_bytes, zeros}
+use Rattle.bdb_io.specs.of_format.Terms.{QueueFields, file_of, is_page_size, list_of, queue_bytes, queue_fields, settings_of, spelled, zeros}
 use Rattle.bdb_io.proofs.of_format.SizeLemmas.{size_bounds}
 use Rattle.bdb_text_format.specs.declared.pairs.Pair.{Pair}
 use Rattle.bdb_need.specs.of_pack.Built.{AreWhole, Built, bytes_of, joined_pages, with_page, with_zeros, written_over}

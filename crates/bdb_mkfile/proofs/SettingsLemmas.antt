@@ -5,13 +5,9 @@ use Rattle.bdb_io.specs.of_format.declared.kinds.Kind.TheVariants.{Btree, Recno,
 use Rattle.bdb_io.specs.of_format.declared.kinds.Order.{Order}
 use Rattle.bdb_io.specs.of_format.declared.metadata.BtreeMeta.{BtreeMeta}
 use Rattle.bdb_io.specs.of_format.declared.settings.Settings.{Settings}
-use Rattle.bdb_io.specs.of_format.Databases.{plain_settings, settings_of}
-use Rattle.bdb_io.specs.of_format.HeadOf.{is_page_size}
-use Rattle.bdb_io.specs.of_format.Flags.{names_databases}
-use Rattle.bdb_io.specs.of_format.Page.{BtreeFields}
-use Rattle.bdb_io.specs.of_format.Table.{first_row}
+use Rattle.bdb_io.specs.of_format.Terms.{BtreeFields, first_row, is_page_size, names_databases, plain_settings, settings_of}
 use Rattle.bdb_need.specs.of_meta.RowGroups.{flag_rows}
-use Rattle.bdb_text_format.specs.Written.{header_lines}
+use Rattle.bdb_text_format.specs.Terms.{header_lines}
 use Rattle.bdb_text_format.specs.declared.pairs.Pair.{Pair}
 use Rattle.bdb_need.proofs.of_mkleaves.RunLemmas.{all_map}
 use Rattle.bdb_need.specs.of_mktree.Lists.{IsKeyFor, IsTreeList, IsPairFor, is_in_order, may_follow}

@@ -3,17 +3,12 @@ use Rattle.std.proofs.Common.{◌≡◌, ℕ, ◌+◌, ◌<◌, ◌≤◌, true,
 use Rattle.std.proofs.lemmas.Bool.{cases_lt}
 use Rattle.std.proofs.lemmas.List.{get_or_append_left, reverse-append}
 use Rattle.bdb_need.proofs.of_pack.ImageLemmas.{page_so_far}
-use Rattle.bdb_io.specs.of_format.Databases.{settings_of}
-use Rattle.bdb_io.specs.of_format.File.{File, file_of, page_at}
-use Rattle.bdb_io.specs.of_format.Lists.{ListKey}
-use Rattle.bdb_io.specs.of_format.Page.{Metadata}
-use Rattle.bdb_io.specs.of_format.Reading.{abstract_page, is_zero}
-use Rattle.bdb_io.specs.of_format.Rows.{page_code}
+use Rattle.bdb_io.specs.of_format.Terms.{File, ListKey, Metadata, abstract_page, file_of, is_zero, page_at, page_code, settings_of}
 use Rattle.bdb_need.specs.of_law_grove.Growing.{IsLater, IsSamePage}
 use Rattle.bdb_need.specs.of_law_grove.Part.{between}
 use Rattle.bdb_need.proofs.of_law_grove.ChainLemmas.{between_is}
 use Rattle.bdb_text_format.specs.declared.sections.Section.{Section}
-use Rattle.bdb_text_format.specs.Pairs.{listed}
+use Rattle.bdb_text_format.specs.Terms.{listed}
 use Rattle.bdb_need.specs.of_pack.Built.{Built, bytes_of, file_so_far, with_zeros}
 use Rattle.bdb_need.proofs.of_pack.AddedLemmas.{added_zero}
 use Rattle.bdb_need.specs.of_mkleaves.Layout.{HasPagesOf}

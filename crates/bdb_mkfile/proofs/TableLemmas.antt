@@ -7,18 +7,12 @@ use Rattle.bdb_io.specs.of_format.declared.metadata.FileKind.TheVariants.{Hash}
 use Rattle.bdb_io.specs.of_format.declared.metadata.Head.{Head}
 use Rattle.bdb_io.specs.of_format.declared.metadata.HashMeta.{HashMeta}
 use Rattle.bdb_io.specs.of_format.declared.settings.Settings.{Settings}
-use Rattle.bdb_io.specs.of_format.Databases.{hash_settings, plain_settings, settings_of}
-use Rattle.bdb_io.specs.of_format.File.{file_of}
-use Rattle.bdb_io.specs.of_format.HeadOf.{is_page_size}
-use Rattle.bdb_io.specs.of_format.Lists.{list_of}
-use Rattle.bdb_io.specs.of_format.Numbers.{four_at, has_bit}
-use Rattle.bdb_io.specs.of_format.Page.{HashFields}
-use Rattle.bdb_io.specs.of_format.Reading.{hash_fields}
-use Rattle.bdb_io.specs.of_format.Spelling.{table_bytes}
+use Rattle.bdb_io.specs.of_format.Terms.{HashFields, file_of, four_at, has_bit, hash_fields, hash_settings, is_page_size, list_of, plain_settings, settings_of}
+use Rattle.bdb_io.specs.of_format.Terms.{table_bytes}
 use Rattle.bdb_io.proofs.of_format.SizeLemmas.{size_bounds}
 use Rattle.std.proofs.lemmas.List.FromFn.{length-map-range_with_len}
 use Rattle.bdb_text_format.specs.declared.pairs.Pair.{Pair}
-use Rattle.bdb_text_format.specs.Pairs.{listed}
+use Rattle.bdb_text_format.specs.Terms.{listed}
 use Rattle.bdb_need.specs.of_pack.Built.{AreWhole, Built, bytes_of, joined_pages, with_zeros, written_over}
 use Rattle.bdb_need.proofs.of_pack.CutLemmas.{written_whole}
 use Rattle.bdb_need.specs.of_law_join.Alone.{IsSoundAlone}

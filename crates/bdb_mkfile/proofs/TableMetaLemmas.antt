@@ -9,16 +9,8 @@ use Rattle.bdb_io.specs.of_format.declared.metadata.Head.{Head}
 use Rattle.bdb_io.specs.of_format.declared.metadata.HashMeta.{HashMeta}
 use Rattle.bdb_io.specs.of_format.declared.settings.Settings.{Settings}
 use Rattle.bdb_io.specs.of_format.ByPage.{holding}
-use Rattle.bdb_io.specs.of_format.Contents.{table_pairs}
-use Rattle.bdb_io.specs.of_format.ContentRows.{database_rows}
-use Rattle.bdb_io.specs.of_format.Databases.{settings_of}
-use Rattle.bdb_io.specs.of_format.File.{File}
-use Rattle.bdb_io.specs.of_format.HeadOf.{is_page_size}
-use Rattle.bdb_io.specs.of_format.Lists.{hash_list}
-use Rattle.bdb_io.specs.of_format.Numbers.{four_at, spelled}
-use Rattle.bdb_io.specs.of_format.Page.{HashFields, Meta}
-use Rattle.bdb_io.specs.of_format.Reading.{hash_fields}
-use Rattle.bdb_io.specs.of_format.Spelling.{table_bytes, zeros}
+use Rattle.bdb_io.specs.of_format.Terms.{File, HashFields, Meta, database_rows, four_at, hash_fields, hash_list, is_page_size, settings_of, spelled}
+use Rattle.bdb_io.specs.of_format.Terms.{table_bytes, table_pairs, zeros}
 use Rattle.bdb_io.proofs.of_format.SizeLemmas.{size_bounds}
 use Rattle.bdb_need.proofs.of_image.HeldLemmas.{table_page}
 use Rattle.bdb_need.specs.of_pack.Built.{Built, bytes_of}

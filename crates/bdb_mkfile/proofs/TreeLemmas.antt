@@ -5,15 +5,10 @@ use Rattle.std.proofs.lemmas.List.{length-set, take_at}
 use Rattle.bdb_io.specs.of_format.declared.kinds.Order.{Order}
 use Rattle.bdb_io.specs.of_format.declared.metadata.BtreeMeta.{BtreeMeta}
 use Rattle.bdb_io.specs.of_format.declared.settings.Settings.{Settings}
-use Rattle.bdb_io.specs.of_format.Databases.{settings_of}
-use Rattle.bdb_io.specs.of_format.File.{file_of}
-use Rattle.bdb_io.specs.of_format.HeadOf.{head_of, is_page_size}
-use Rattle.bdb_io.specs.of_format.Page.{BtreeFields}
-use Rattle.bdb_io.specs.of_format.Reading.{btree_fields, is_zero}
-use Rattle.bdb_io.specs.of_format.Spelling.{btree_bytes}
+use Rattle.bdb_io.specs.of_format.Terms.{BtreeFields, btree_bytes, btree_fields, file_of, head_of, is_page_size, is_zero, settings_of}
 use Rattle.bdb_io.proofs.of_format.SizeLemmas.{size_bounds}
 use Rattle.bdb_text_format.specs.declared.pairs.Pair.{Pair}
-use Rattle.bdb_text_format.specs.Pairs.{listed}
+use Rattle.bdb_text_format.specs.Terms.{listed}
 use Rattle.bdb_need.specs.of_law_grove.Growing.{IsCounted, IsLater}
 use Rattle.bdb_need.specs.of_law_grove.Part.{between}
 use Rattle.bdb_need.proofs.of_law_grove.ChainLemmas.{between_is}

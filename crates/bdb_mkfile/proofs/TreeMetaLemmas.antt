@@ -6,10 +6,7 @@ use Rattle.bdb_io.specs.of_format.declared.kinds.Kind.{Kind}
 use Rattle.bdb_io.specs.of_format.declared.kinds.Kind.TheVariants.{Btree, Recno}
 use Rattle.bdb_io.specs.of_format.declared.kinds.Order.{Order}
 use Rattle.bdb_io.specs.of_format.declared.settings.Settings.{Settings}
-use Rattle.bdb_io.specs.of_format.Databases.{plain_settings, settings_of}
-use Rattle.bdb_io.specs.of_format.Flags.{has_duplicates, names_databases}
-use Rattle.bdb_io.specs.of_format.Page.{BtreeFields}
-use Rattle.bdb_io.specs.of_format.Table.{first_row}
+use Rattle.bdb_io.specs.of_format.Terms.{BtreeFields, first_row, has_duplicates, names_databases, plain_settings, settings_of}
 use Rattle.bdb_need.specs.of_meta.RowGroups.{flag_rows}
 use Rattle.bdb_mkfile.specs.FileSettings.{own_settings}
 use Rattle.bdb_mkfile.specs.Trees.{IsTreeSettings}

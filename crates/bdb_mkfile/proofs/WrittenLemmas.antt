@@ -5,14 +5,8 @@ use Rattle.std.proofs.lemmas.List.FromFn.{length-map-range_with_len}
 use Rattle.bdb_io.specs.of_format.declared.metadata.FileKind.TheVariants.{Hash}
 use Rattle.bdb_io.specs.of_format.declared.metadata.Head.{Head}
 use Rattle.bdb_io.specs.of_format.declared.metadata.HashMeta.{HashMeta}
-use Rattle.bdb_io.specs.of_format.File.{file_of, page_at, page_bytes}
-use Rattle.bdb_io.specs.of_format.Graph.{is_meta}
-use Rattle.bdb_io.specs.of_format.HeadOf.{head_of, is_page_size}
-use Rattle.bdb_io.specs.of_format.Numbers.{four_at, spelled}
-use Rattle.bdb_io.specs.of_format.Page.{HashFields, Meta}
-use Rattle.bdb_io.specs.of_format.Reading.{abstract_page}
-use Rattle.bdb_io.specs.of_format.Rows.{form_code}
-use Rattle.bdb_io.specs.of_format.Spelling.{table_bytes, zeros}
+use Rattle.bdb_io.specs.of_format.Terms.{HashFields, Meta, abstract_page, file_of, form_code, four_at, head_of, is_meta, is_page_size, page_at, page_bytes}
+use Rattle.bdb_io.specs.of_format.Terms.{spelled, table_bytes, zeros}
 use Rattle.bdb_io.proofs.of_format.FileLemmas.{last_page, page_is}
 use Rattle.bdb_io.proofs.of_format.TypeLemmas.{byte_as}
 use Rattle.bdb_io.proofs.of_format.SizeLemmas.{size_bounds}

@@ -2,15 +2,9 @@
 use Rattle.std.specs.Prelude.{◌≡◌, ℕ, ◌*◌, if◌then◌else◌, Bool, List, [], ◌∷◌, length, map, Option, None, unwrap_or}
 use Rattle.std.specs.List.{AllZip}
 use Rattle.bdb_io.specs.of_format.declared.settings.Settings.{Settings}
-use Rattle.bdb_io.specs.of_format.Less.{less}
-use Rattle.bdb_io.specs.of_format.HeadOf.{head_of}
-use Rattle.bdb_io.specs.of_format.File.{file_of}
-use Rattle.bdb_io.specs.of_format.Lists.{list_of}
-use Rattle.bdb_io.specs.of_format.Databases.{Database, databases, settings_of}
-use Rattle.bdb_io.specs.of_format.Verdict.{verdict_of}
+use Rattle.bdb_io.specs.of_format.Terms.{Database, databases, file_of, head_of, less, list_of, settings_of, verdict_of}
 use Rattle.bdb_text_format.specs.declared.sections.Section.{Section}
-use Rattle.bdb_text_format.specs.Pairs.{listed}
-use Rattle.bdb_text_format.specs.Written.{header_lines}
+use Rattle.bdb_text_format.specs.Terms.{header_lines, listed}
 use Rattle.bdb_need.specs.of_settle.Loaded.{loaded, loaded_section}
 use Rattle.bdb_need.specs.Need.{need_of}
 

@@ -5,8 +5,7 @@ use Rattle.bdb_io.specs.of_format.declared.kinds.Kind.TheVariants.{Btree, Recno,
 use Rattle.bdb_io.specs.of_format.declared.kinds.Order.{Order}
 use Rattle.bdb_io.specs.of_format.declared.metadata.BtreeMeta.{BtreeMeta}
 use Rattle.bdb_io.specs.of_format.declared.settings.Settings.{Settings}
-use Rattle.bdb_io.specs.of_format.Spelling.{btree_bytes}
-use Rattle.bdb_io.specs.of_format.Databases.{plain_settings}
+use Rattle.bdb_io.specs.of_format.Terms.{btree_bytes, plain_settings}
 use Rattle.bdb_need.specs.of_pack.Built.{Built}
 
 -- what settings say of a kind, in a file of a page size and an order: what belongs to other kinds is as a header without its keyword says

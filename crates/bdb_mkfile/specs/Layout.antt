@@ -6,12 +6,11 @@ use Rattle.bdb_io.specs.of_format.declared.kinds.Order.TheVariants.{Big}
 use Rattle.bdb_io.specs.of_format.declared.metadata.BtreeMeta.{BtreeMeta}
 use Rattle.bdb_io.specs.of_format.declared.metadata.HashMeta.{HashMeta}
 use Rattle.bdb_io.specs.of_format.declared.settings.Settings.{Settings}
-use Rattle.bdb_io.specs.of_format.Databases.{settings_of}
-use Rattle.bdb_io.specs.of_format.Numbers.{spelled}
+use Rattle.bdb_io.specs.of_format.Terms.{settings_of, spelled}
 use Rattle.bdb_text_format.specs.declared.pairs.Pair.{Pair}
 use Rattle.bdb_text_format.specs.declared.pairs.Key.TheVariants.{Bytes}
 use Rattle.bdb_text_format.specs.declared.sections.Section.{Section}
-use Rattle.bdb_text_format.specs.Pairs.{listed}
+use Rattle.bdb_text_format.specs.Terms.{listed}
 use Rattle.bdb_need.specs.of_law_join.Joining.{Joint}
 use Rattle.bdb_need.specs.TreePages.{unlined_pairs}
 use Rattle.bdb_need.specs.Need.{master_settings, name_in}

@@ -4,12 +4,11 @@ use Rattle.std.specs.Prelude.{◌≡◌, ◌+◌, ◌-◌, ◌*◌, ◌≤◌, �
 use Rattle.std.specs.List.{All}
 use Rattle.bdb_io.specs.of_format.declared.kinds.Kind.TheVariants.{Hash, Queue}
 use Rattle.bdb_io.specs.of_format.declared.settings.Settings.{Settings}
-use Rattle.bdb_io.specs.of_format.HeadOf.{is_page_size}
-use Rattle.bdb_io.specs.of_format.Numbers.{pad4}
+use Rattle.bdb_io.specs.of_format.Terms.{is_page_size, pad4}
 use Rattle.bdb_text_format.specs.declared.pairs.Pair.{Pair}
 use Rattle.bdb_text_format.specs.declared.pairs.TextPair.{TextPair}
 use Rattle.bdb_text_format.specs.declared.sections.Section.{Section}
-use Rattle.bdb_text_format.specs.Pairs.{AscendFrom}
+use Rattle.bdb_text_format.specs.Terms.{AscendFrom}
 use Rattle.bdb_need.specs.of_settle.ListLaw.{HasShortBytes, IsFit}
 use Rattle.bdb_need.specs.of_settle.LoadErrors.{load_error}
 use Rattle.bdb_need.specs.of_settle.Loaded.{loaded}

@@ -1,7 +1,7 @@
 -- What can be loaded, and why it isn't. Source: docs/FORMAT.md, "Loading".
 use Rattle.std.specs.Prelude.{◌≡◌, ◌⊎◌, ℕ, nat_lt, if◌then◌else◌, List, Option, Some, None}
 use Rattle.bdb_text_format.specs.declared.sections.Section.{Section}
-use Rattle.bdb_text_format.specs.Sections.{Reads}
+use Rattle.bdb_text_format.specs.Terms.{Reads}
 use Rattle.bdb_law_sections.specs.Fit.{AreFit}
 use Rattle.bdb_need.specs.of_settle.declared.load_error.LoadError.{LoadError}
 use Rattle.bdb_need.specs.of_settle.declared.load_error.LoadError.TheVariants.{TooLarge, Memory}

@@ -3,16 +3,10 @@
 use Rattle.std.specs.Prelude.{◌≡◌, ℕ, ◌+◌, ◌*◌, List, [], ◌∷◌, length, take, None}
 use Rattle.bdb_io.specs.of_format.declared.metadata.HashMeta.{HashMeta}
 use Rattle.bdb_io.specs.of_format.declared.settings.Settings.{Settings}
-use Rattle.bdb_io.specs.of_format.HeadOf.{head_of}
-use Rattle.bdb_io.specs.of_format.File.{file_of}
-use Rattle.bdb_io.specs.of_format.Lists.{list_of}
-use Rattle.bdb_io.specs.of_format.Page.{HashFields, Metadata, QueueFields}
-use Rattle.bdb_io.specs.of_format.Rows.{records_per_page}
-use Rattle.bdb_io.specs.of_format.Spelling.{queue_bytes, table_bytes}
-use Rattle.bdb_io.specs.of_format.Databases.{databases, settings_of}
-use Rattle.bdb_io.specs.of_format.Verdict.{verdict_of}
+use Rattle.bdb_io.specs.of_format.Terms.{HashFields, Metadata, QueueFields, databases, file_of, head_of, list_of, queue_bytes, records_per_page, settings_of}
+use Rattle.bdb_io.specs.of_format.Terms.{table_bytes, verdict_of}
 use Rattle.bdb_text_format.specs.declared.pairs.Pair.{Pair}
-use Rattle.bdb_text_format.specs.Pairs.{listed}
+use Rattle.bdb_text_format.specs.Terms.{listed}
 use Rattle.bdb_need.specs.of_law_buckets.Tables.{HasBuiltBuckets, table_meta}
 use Rattle.bdb_need.specs.of_mkhash.Buckets.{table_bits, table_size, table_units}
 use Rattle.bdb_need.specs.of_mkqueue.Layout.{queue_meta, queue_size}

@@ -5,8 +5,7 @@ use Rattle.bdb_io.specs.of_format.declared.kinds.Kind.{Kind}
 use Rattle.bdb_io.specs.of_format.declared.kinds.Kind.TheVariants.{Btree, Recno, Hash, Queue}
 use Rattle.bdb_io.specs.of_format.declared.kinds.Order.{Order}
 use Rattle.bdb_io.specs.of_format.declared.settings.Settings.{Settings}
-use Rattle.bdb_io.specs.of_format.File.{page_bytes}
-use Rattle.bdb_io.specs.of_format.HeadOf.{head_of}
+use Rattle.bdb_io.specs.of_format.Terms.{head_of, page_bytes}
 use Rattle.bdb_text_format.specs.declared.pairs.Pair.{Pair}
 use Rattle.bdb_text_format.specs.declared.sections.Section.{Section}
 use Rattle.bdb_need.specs.of_mkleaves.Layout.{AreTreesIn}

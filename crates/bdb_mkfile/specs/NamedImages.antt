@@ -5,17 +5,11 @@ use Rattle.std.specs.List.{All, AllZip, sum_by}
 use Rattle.bdb_io.specs.of_format.declared.kinds.Kind.TheVariants.{Btree, Hash}
 use Rattle.bdb_io.specs.of_format.declared.kinds.Order.{Order}
 use Rattle.bdb_io.specs.of_format.declared.settings.Settings.{Settings}
-use Rattle.bdb_io.specs.of_format.ContentRows.{ascends}
-use Rattle.bdb_io.specs.of_format.Databases.{Database, databases, settings_of}
-use Rattle.bdb_io.specs.of_format.File.{file_of, page_bytes}
-use Rattle.bdb_io.specs.of_format.HeadOf.{head_of}
-use Rattle.bdb_io.specs.of_format.Lists.{list_of}
-use Rattle.bdb_io.specs.of_format.Spelling.{btree_bytes}
-use Rattle.bdb_io.specs.of_format.Verdict.{verdict_of}
+use Rattle.bdb_io.specs.of_format.Terms.{Database, ascends, btree_bytes, databases, file_of, head_of, list_of, page_bytes, settings_of, verdict_of}
 use Rattle.bdb_text_format.specs.declared.pairs.Pair.{Pair}
 use Rattle.bdb_text_format.specs.declared.pairs.Key.TheVariants.{Bytes}
 use Rattle.bdb_text_format.specs.declared.sections.Section.{Section}
-use Rattle.bdb_text_format.specs.Pairs.{listed}
+use Rattle.bdb_text_format.specs.Terms.{listed}
 use Rattle.bdb_need.specs.of_mkleaves.Runs.{IsShort}
 use Rattle.bdb_need.specs.of_law_buckets.Tables.{HasBuiltTable}
 use Rattle.bdb_need.specs.TreePages.{unlined_pairs, tree_pages}

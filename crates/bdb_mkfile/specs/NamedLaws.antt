@@ -5,16 +5,9 @@ use Rattle.std.specs.List.{AllZip}
 use Rattle.bdb_io.specs.of_format.declared.kinds.Order.{Order}
 use Rattle.bdb_io.specs.of_format.declared.metadata.HashMeta.{HashMeta}
 use Rattle.bdb_io.specs.of_format.declared.settings.Settings.{Settings}
-use Rattle.bdb_io.specs.of_format.Databases.{databases, settings_of}
-use Rattle.bdb_io.specs.of_format.File.{File, file_of}
-use Rattle.bdb_io.specs.of_format.HeadOf.{head_of}
-use Rattle.bdb_io.specs.of_format.Lists.{ListKey}
-use Rattle.bdb_io.specs.of_format.Page.{BtreeFields, HashFields}
-use Rattle.bdb_io.specs.of_format.Reading.{hash_fields}
-use Rattle.bdb_io.specs.of_format.Spelling.{table_bytes}
-use Rattle.bdb_io.specs.of_format.Table.{first_row}
+use Rattle.bdb_io.specs.of_format.Terms.{BtreeFields, File, HashFields, ListKey, databases, file_of, first_row, hash_fields, head_of, settings_of, table_bytes}
 use Rattle.bdb_text_format.specs.declared.sections.Section.{Section}
-use Rattle.bdb_text_format.specs.Pairs.{listed}
+use Rattle.bdb_text_format.specs.Terms.{listed}
 use Rattle.bdb_need.specs.of_meta.RowGroups.{flag_rows}
 use Rattle.bdb_need.specs.of_law_grove.Part.{IsPart}
 use Rattle.bdb_need.specs.of_pack.Built.{Built, bytes_of}

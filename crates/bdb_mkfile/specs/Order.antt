@@ -2,7 +2,7 @@
 use Rattle.std.specs.Prelude.{◌≡◌, Bool, false, List, [], ◌∷◌}
 use Rattle.std.specs.List.{All}
 use Rattle.std.specs.List.Sorted.{ties}
-use Rattle.bdb_io.specs.of_format.Less.{less}
+use Rattle.bdb_io.specs.of_format.Terms.{less}
 use Rattle.bdb_text_format.specs.declared.sections.Section.{Section}
 use Rattle.bdb_mkfile.specs.Builds.{name_of, put_named}
 

@@ -4,16 +4,10 @@ use Rattle.std.specs.List.{All, AllZip}
 use Rattle.bdb_io.specs.of_format.declared.kinds.Kind.{Kind}
 use Rattle.bdb_io.specs.of_format.declared.kinds.Kind.TheVariants.{Btree, Recno, Hash, Queue}
 use Rattle.bdb_io.specs.of_format.declared.settings.Settings.{Settings}
-use Rattle.bdb_io.specs.of_format.Databases.{databases, settings_of}
-use Rattle.bdb_io.specs.of_format.File.{file_of}
-use Rattle.bdb_io.specs.of_format.HeadOf.{head_of, is_page_size}
-use Rattle.bdb_io.specs.of_format.Lists.{list_of}
-use Rattle.bdb_io.specs.of_format.Numbers.{pad4}
-use Rattle.bdb_io.specs.of_format.Page.{Metadata}
-use Rattle.bdb_io.specs.of_format.Verdict.{verdict_of}
+use Rattle.bdb_io.specs.of_format.Terms.{Metadata, databases, file_of, head_of, is_page_size, list_of, pad4, settings_of, verdict_of}
 use Rattle.bdb_text_format.specs.declared.pairs.Pair.{Pair}
 use Rattle.bdb_text_format.specs.declared.sections.Section.{Section}
-use Rattle.bdb_text_format.specs.Pairs.{listed}
+use Rattle.bdb_text_format.specs.Terms.{listed}
 use Rattle.bdb_need.specs.of_mktree.Lists.{IsTreeList}
 use Rattle.bdb_need.specs.of_mkhash.Table.{IsTableList}
 use Rattle.bdb_need.specs.of_mkqueue.Lists.{IsQueueList}

@@ -3,17 +3,12 @@ use Rattle.std.specs.Prelude.{◌≡◌, ℕ, ◌+◌, ◌<◌, ◌≤◌, IsTru
 use Rattle.bdb_io.specs.of_format.declared.kinds.Kind.TheVariants.{Btree}
 use Rattle.bdb_io.specs.of_format.declared.metadata.BtreeMeta.{BtreeMeta}
 use Rattle.bdb_io.specs.of_format.declared.settings.Settings.{Settings}
-use Rattle.bdb_io.specs.of_format.Databases.{settings_of}
-use Rattle.bdb_io.specs.of_format.File.{File}
-use Rattle.bdb_io.specs.of_format.Lists.{ListKey}
-use Rattle.bdb_io.specs.of_format.Page.{BtreeFields, Metadata}
-use Rattle.bdb_io.specs.of_format.Reading.{is_zero}
-use Rattle.bdb_io.specs.of_format.Rows.{page_code}
+use Rattle.bdb_io.specs.of_format.Terms.{BtreeFields, File, ListKey, Metadata, is_zero, page_code, settings_of}
 use Rattle.bdb_need.specs.of_law_grove.Growing.{IsCounted, IsLater}
 use Rattle.bdb_need.specs.of_law_grove.Part.{IsPart, Part, between}
 use Rattle.bdb_text_format.specs.declared.pairs.Pair.{Pair}
 use Rattle.bdb_text_format.specs.declared.sections.Section.{Section}
-use Rattle.bdb_text_format.specs.Pairs.{listed}
+use Rattle.bdb_text_format.specs.Terms.{listed}
 use Rattle.bdb_need.specs.of_pack.Built.{Built, bytes_of, file_so_far}
 use Rattle.bdb_need.specs.of_law_join.Filed.{IsSpelled}
 use Rattle.bdb_need.specs.of_law_join.Written.{AreLegal}

@@ -2,15 +2,9 @@
 use Rattle.std.specs.Prelude.{◌≡◌, ℕ, ◌+◌, ◌*◌, IsTrue, true, false, List, [], ◌∷◌, length, take, None}
 use Rattle.bdb_io.specs.of_format.declared.kinds.Kind.TheVariants.{Recno}
 use Rattle.bdb_io.specs.of_format.declared.settings.Settings.{Settings}
-use Rattle.bdb_io.specs.of_format.HeadOf.{head_of, is_page_size}
-use Rattle.bdb_io.specs.of_format.File.{file_of}
-use Rattle.bdb_io.specs.of_format.Page.{BtreeFields, Metadata}
-use Rattle.bdb_io.specs.of_format.Lists.{list_of}
-use Rattle.bdb_io.specs.of_format.Spelling.{btree_bytes}
-use Rattle.bdb_io.specs.of_format.Databases.{databases, settings_of}
-use Rattle.bdb_io.specs.of_format.Verdict.{verdict_of}
+use Rattle.bdb_io.specs.of_format.Terms.{BtreeFields, Metadata, btree_bytes, databases, file_of, head_of, is_page_size, list_of, settings_of, verdict_of}
 use Rattle.bdb_text_format.specs.declared.pairs.Pair.{Pair}
-use Rattle.bdb_text_format.specs.Pairs.{listed}
+use Rattle.bdb_text_format.specs.Terms.{listed}
 use Rattle.bdb_need.specs.of_mkleaves.Layout.{AreTreesIn}
 use Rattle.bdb_need.specs.of_mkleaves.Spread.{tree_size}
 use Rattle.bdb_need.specs.of_mktree.Lists.{units_in}

@@ -1,9 +1,7 @@
 -- Metadata that is written over zero pages. Source: docs/FORMAT.md, "Metadata pages" and "What the writing calls spell".
 use Rattle.std.specs.Prelude.{◌≡◌, ℕ, ◌+◌, ◌-◌, ◌<◌, ◌≤◌, ◌⊎◌, List, [], ◌∷◌, length, reverse}
 use Rattle.bdb_io.specs.of_format.declared.kinds.Order.{Order}
-use Rattle.bdb_io.specs.of_format.Page.{BtreeFields, HashFields, Metadata}
-use Rattle.bdb_io.specs.of_format.Reading.{btree_fields, hash_fields}
-use Rattle.bdb_io.specs.of_format.Spelling.{btree_bytes, table_bytes}
+use Rattle.bdb_io.specs.of_format.Terms.{BtreeFields, HashFields, Metadata, btree_bytes, btree_fields, hash_fields, table_bytes}
 use Rattle.bdb_need.specs.of_pack.Built.{Built, bytes_of}
 use Rattle.bdb_need.specs.of_law_join.Written.{AreLegal}
 use Rattle.bdb_mkfile.specs.declared.named_metadata.DatabaseMeta.{DatabaseMeta}

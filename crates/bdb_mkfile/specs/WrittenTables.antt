@@ -3,11 +3,7 @@
 use Rattle.std.specs.Prelude.{◌≡◌, ℕ, ◌-◌, List, length}
 use Rattle.bdb_io.specs.of_format.declared.metadata.HashMeta.{HashMeta}
 use Rattle.bdb_io.specs.of_format.declared.settings.Settings.{Settings}
-use Rattle.bdb_io.specs.of_format.File.{file_of}
-use Rattle.bdb_io.specs.of_format.Lists.{ListKey}
-use Rattle.bdb_io.specs.of_format.Page.{HashFields}
-use Rattle.bdb_io.specs.of_format.Reading.{hash_fields}
-use Rattle.bdb_io.specs.of_format.Spelling.{table_bytes}
+use Rattle.bdb_io.specs.of_format.Terms.{HashFields, ListKey, file_of, hash_fields, table_bytes}
 use Rattle.bdb_need.specs.of_law_grove.Part.{Part, between}
 use Rattle.bdb_need.specs.of_pack.Built.{Built, joined_pages, with_page}
 use Rattle.bdb_need.specs.of_law_join.Alone.{IsSoundAlone}

@@ -1,8 +1,8 @@
 ghost use Rattle.std.specs.Prelude.{◌≡◌, ◌+◌, ◌≤◌, ◌<◌, ◌^◌, IfOk, IsTrue, length, true};
 ghost use Rattle.std.specs.List.{All};
 ghost use Rattle.bdb_io.specs.of_format.declared.kinds.Kind.TheVariants.{Hash as HashKind};
-ghost use Rattle.bdb_io.specs.of_format.HeadOf.{is_page_size};
-ghost use Rattle.bdb_text_format.specs.Placed.{pairs_of};
+ghost use Rattle.bdb_io.specs.of_format.Terms.{is_page_size};
+ghost use Rattle.bdb_text_format.specs.Terms.{pairs_of};
 ghost use Rattle.bdb_need.specs.of_mktree.Lists.{IsTreeList};
 ghost use Rattle.bdb_need.specs.of_mkhash.Table.{IsTableList};
 ghost use Rattle.bdb_mkfile.specs.FileSettings.{file_settings, own_settings};

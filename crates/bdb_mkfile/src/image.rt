@@ -1,5 +1,5 @@
 ghost use Rattle.std.specs.Prelude.{IfOk, IsTrue};
-ghost use Rattle.bdb_io.specs.of_format.HeadOf.{is_page_size};
+ghost use Rattle.bdb_io.specs.of_format.Terms.{is_page_size};
 ghost use Rattle.bdb_mkfile.specs.NamedImages.{AreNamed, IsNamedImage};
 
 use crate::databases::{add_zeros, build_databases};

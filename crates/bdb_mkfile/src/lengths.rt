@@ -1,6 +1,6 @@
 ghost use Rattle.std.specs.Prelude.{◌≡◌};
 ghost use Rattle.std.specs.List.{list_all};
-ghost use Rattle.bdb_text_format.specs.Placed.{key_seen, pair_seen, slice_seen};
+ghost use Rattle.bdb_text_format.specs.Terms.{key_seen, pair_seen, slice_seen};
 ghost use Rattle.bdb_need.specs.Need.{name_in};
 ghost use Rattle.bdb_need.specs.of_mktree.Lists.{bytes_in};
 ghost use Rattle.bdb_mkfile.specs.Lengths.{is_short, is_short_pair, is_short_section};

@@ -1,7 +1,6 @@
 ghost use Rattle.std.specs.Prelude.{◌≡◌, ◌+◌, ◌≤◌, ◌<◌, ◌^◌, ◌∷◌, ◌++◌, [], IfOk, IsTrue, OnOk, length};
 ghost use Rattle.bdb_io.specs.of_format.declared.kinds.Order.TheVariants.{Big};
-ghost use Rattle.bdb_io.specs.of_format.HeadOf.{is_page_size};
-ghost use Rattle.bdb_io.specs.of_format.Numbers.{spelled};
+ghost use Rattle.bdb_io.specs.of_format.Terms.{is_page_size, spelled};
 ghost use Rattle.bdb_need.specs.Need.{name_in};
 ghost use Rattle.bdb_need.specs.TreePages.{unlined_pairs};
 ghost use Rattle.bdb_mkfile.specs.NamedImages.{AreNamed, names_pages};

@@ -1,6 +1,5 @@
 ghost use Rattle.std.specs.Prelude.{◌≡◌, ℕ, ◌+◌, ◌-◌, ◌<◌, ◌≤◌, IsTrue, length};
-ghost use Rattle.bdb_io.specs.of_format.HeadOf.{is_page_size};
-ghost use Rattle.bdb_io.specs.of_format.Reading.{is_zero};
+ghost use Rattle.bdb_io.specs.of_format.Terms.{is_page_size, is_zero};
 ghost use Rattle.bdb_need.specs.of_pack.Built.{bytes_of};
 ghost use Rattle.bdb_mkfile.specs.Layout.{named_table_meta, named_tree_meta};
 ghost use Rattle.bdb_mkfile.specs.WrittenMetadata.{ArePut, IsPut, ReadsBack, meta_bytes};

@@ -1,8 +1,7 @@
 ghost use Rattle.std.specs.Prelude.{◌≡◌, ◌+◌, ◌-◌, ◌≤◌, IfOk, IsTrue};
 ghost use Rattle.bdb_io.specs.of_format.declared.kinds.Kind.TheVariants.{Queue as QueueKind};
-ghost use Rattle.bdb_io.specs.of_format.HeadOf.{is_page_size};
-ghost use Rattle.bdb_io.specs.of_format.Numbers.{pad4};
-ghost use Rattle.bdb_text_format.specs.Placed.{pairs_of};
+ghost use Rattle.bdb_io.specs.of_format.Terms.{is_page_size, pad4};
+ghost use Rattle.bdb_text_format.specs.Terms.{pairs_of};
 ghost use Rattle.bdb_need.specs.of_mkqueue.Lists.{IsQueueList};
 ghost use Rattle.bdb_mkfile.specs.FileSettings.{file_settings};
 ghost use Rattle.bdb_mkfile.specs.LoneImages.{IsQueueImage};

@@ -1,7 +1,6 @@
 ghost use Rattle.std.specs.Prelude.{◌≡◌, ◌≤◌, ◌^◌, IfOk, IsTrue, length};
-ghost use Rattle.bdb_io.specs.of_format.HeadOf.{is_page_size};
-ghost use Rattle.bdb_io.specs.of_format.Reading.{btree_fields, is_zero};
-ghost use Rattle.bdb_text_format.specs.Placed.{pairs_of};
+ghost use Rattle.bdb_io.specs.of_format.Terms.{btree_fields, is_page_size, is_zero};
+ghost use Rattle.bdb_text_format.specs.Terms.{pairs_of};
 ghost use Rattle.bdb_need.specs.of_pack.Built.{AreWhole, bytes_of, with_page};
 ghost use Rattle.bdb_need.specs.of_mktree.Lists.{IsTreeList};
 ghost use Rattle.bdb_mkfile.specs.Trees.{IsTreeImage, IsTreeSettings};

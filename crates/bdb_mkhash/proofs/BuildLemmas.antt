@@ -11,16 +11,13 @@ use Rattle.std.proofs.lemmas.List.Sums.{sum_by-append, sum_by-cons}
 use Rattle.bdb_mktree.specs.of_format.declared.kinds.Kind.TheVariants.{Btree}
 use Rattle.bdb_mktree.specs.of_format.declared.metadata.HashMeta.{HashMeta}
 use Rattle.bdb_mktree.specs.of_format.declared.settings.Settings.{Settings}
-use Rattle.bdb_mktree.specs.of_format.ContentRows.{ascends}
-use Rattle.bdb_mktree.specs.of_format.File.{File}
-use Rattle.bdb_mktree.specs.of_format.Less.{less}
-use Rattle.bdb_mktree.specs.of_format.Page.{HashFields}
+use Rattle.bdb_mktree.specs.of_format.Terms.{File, HashFields, ascends, less}
 use Rattle.bdb_mktree.proofs.of_format.ListLemmas.{all_of}
 use Rattle.bdb_mktree.proofs.of_format.MemberLemmas.{of_filter}
 use Rattle.bdb_mktree.specs.of_law_grove.Growing.{IsLater}
 use Rattle.bdb_mktree.specs.of_law_grove.Part.{IsPart, between}
 use Rattle.bdb_mktree.proofs.of_law_grove.ChainLemmas.{between_is, is_between}
-use Rattle.bdb_mktree.specs.of_text_format.Pairs.{listed}
+use Rattle.bdb_mktree.specs.of_text_format.Terms.{listed}
 use Rattle.bdb_mktree.specs.of_text_format.declared.pairs.Pair.{Pair}
 use Rattle.bdb_mktree.specs.of_pack.Built.{Built, file_so_far}
 use Rattle.bdb_mktree.specs.of_mkleaves.Leaves.{KeepsAll}

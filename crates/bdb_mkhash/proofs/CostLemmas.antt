@@ -6,7 +6,7 @@ use Rattle.std.proofs.lemmas.Bool.{and_left, and_parts, and_right, cases_lt, le-
 use Rattle.std.proofs.lemmas.List.Elements.{All-cons, All-nil}
 use Rattle.std.proofs.lemmas.List.Folds.{list_all_at, list_all_more}
 use Rattle.std.proofs.lemmas.List.Sums.{sum_by-take-le, sum_by_more, sum_by_more_le}
-use Rattle.bdb_mktree.specs.of_format.HeadOf.{is_page_size}
+use Rattle.bdb_mktree.specs.of_format.Terms.{is_page_size}
 use Rattle.bdb_mktree.proofs.of_format.SizeLemmas.{size_bounds}
 use Rattle.bdb_mktree.specs.of_mkleaves.Units.{page_room}
 use Rattle.bdb_mkhash.specs.Costs.{cost_in, data_cost, data_form, first_value, is_inline, hash_item_cost, blocks_cost, set_or_none, stand_together}

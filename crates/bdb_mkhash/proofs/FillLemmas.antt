@@ -8,10 +8,7 @@ use Rattle.std.proofs.lemmas.Grind.{flat_map-append}
 use Rattle.std.proofs.lemmas.List.{append-nil, drop-map, get_or-map, get_or-set_other, length-map, length-set, map-append, take_all, take_more}
 use Rattle.std.proofs.lemmas.List.Elements.{All-drop}
 use Rattle.std.proofs.lemmas.List.Sums.{sum_by-append, sum_by_push}
-use Rattle.bdb_mktree.specs.of_format.HeadOf.{is_page_size}
-use Rattle.bdb_mktree.specs.of_format.File.{File}
-use Rattle.bdb_mktree.specs.of_format.Page.{Content}
-use Rattle.bdb_mktree.specs.of_format.Rows.{page_code}
+use Rattle.bdb_mktree.specs.of_format.Terms.{Content, File, is_page_size, page_code}
 use Rattle.bdb_mktree.proofs.of_format.SizeLemmas.{size_bounds}
 use Rattle.bdb_mktree.specs.of_law_grove.Growing.{IsLater}
 use Rattle.bdb_mktree.specs.of_law_grove.Part.{between}

@@ -7,11 +7,7 @@ use Rattle.std.specs.List.{sum_by}
 use Rattle.std.proofs.lemmas.Bool.{and_parts, cases_eq, cases_lt, eq-eqb, eqb-true, ne_eqb, or_cases, or_left, or_right}
 use Rattle.std.proofs.lemmas.List.{drop_all, drop-drop, drop_more, get_or-drop, get_or-map, map-append, take_all}
 use Rattle.std.proofs.lemmas.List.Sums.{sum_by-append}
-use Rattle.bdb_mktree.specs.of_format.HeadOf.{is_page_size}
-use Rattle.bdb_mktree.specs.of_format.File.{File, page_at}
-use Rattle.bdb_mktree.specs.of_format.Page.{Content, Hash, Item, Listed, NoType, Overflow, Page}
-use Rattle.bdb_mktree.specs.of_format.Reading.{abstract_page}
-use Rattle.bdb_mktree.specs.of_format.Rows.{page_code}
+use Rattle.bdb_mktree.specs.of_format.Terms.{Content, File, Hash, Item, Listed, NoType, Overflow, Page, abstract_page, is_page_size, page_at, page_code}
 use Rattle.bdb_mktree.specs.of_law_grove.Growing.{IsCounted, IsLater, IsSamePage}
 use Rattle.bdb_mktree.specs.of_law_grove.Part.{between}
 use Rattle.bdb_mktree.proofs.of_law_grove.ChainLemmas.{between_is, is_between}

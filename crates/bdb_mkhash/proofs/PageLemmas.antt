@@ -7,12 +7,8 @@ use Rattle.std.proofs.lemmas.List.{get_or-set_other, get_or_append_left, get_or_
 use Rattle.std.proofs.lemmas.List.Sums.{sum_by_push}
 use Rattle.bdb_mktree.specs.of_format.declared.kinds.Order.{Order}
 use Rattle.bdb_mktree.specs.of_format.declared.pages.Header.{Header}
-use Rattle.bdb_mktree.specs.of_format.HeadOf.{is_page_size}
-use Rattle.bdb_mktree.specs.of_format.Numbers.{byte_at, four_at, spelled}
-use Rattle.bdb_mktree.specs.of_format.Page.{Content, Hash, Item, Listed}
-use Rattle.bdb_mktree.specs.of_format.Reading.{entries_of, hash_item_at, header_of, index_end, listed, offset_of, page_type}
-use Rattle.bdb_mktree.specs.of_format.Rows.{is_wrong_entry_count, is_wrong_level}
-use Rattle.bdb_mktree.specs.of_format.Spelling.{hash_bytes, header_bytes}
+use Rattle.bdb_mktree.specs.of_format.Terms.{Content, Hash, Item, Listed, byte_at, entries_of, four_at, hash_bytes, hash_item_at, header_bytes, header_of}
+use Rattle.bdb_mktree.specs.of_format.Terms.{index_end, is_page_size, is_wrong_entry_count, is_wrong_level, listed, offset_of, page_type, spelled}
 use Rattle.bdb_mktree.proofs.of_format.PageLemmas.{header_listed, length_items}
 use Rattle.bdb_mktree.proofs.of_format.SpellingLemmas.{length-overwritten, length-spelled}
 use Rattle.bdb_mktree.proofs.of_format.SizeLemmas.{size_bounds}

@@ -5,9 +5,7 @@ use Rattle.std.specs.Option.{option_map}
 use Rattle.std.specs.List.{All, flat_map}
 use Rattle.std.proofs.lemmas.List.{append-nil, drop_all}
 use Rattle.bdb_mktree.specs.of_format.declared.kinds.Order.{Order}
-use Rattle.bdb_mktree.specs.of_format.Numbers.{overwritten, spelled}
-use Rattle.bdb_mktree.specs.of_format.Reading.{blocks_of}
-use Rattle.bdb_mktree.specs.of_format.Spelling.{block_bytes}
+use Rattle.bdb_mktree.specs.of_format.Terms.{block_bytes, blocks_of, overwritten, spelled}
 use Rattle.bdb_mktree.proofs.of_format.SpellingLemmas.{length-spelled}
 use Rattle.bdb_mktree.specs.of_layout.Blocks.{run_in}
 use Rattle.bdb_mktree.proofs.of_layout.ReadBackLemmas.{blocks_of-back}

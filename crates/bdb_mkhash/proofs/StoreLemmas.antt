@@ -9,16 +9,8 @@ use Rattle.std.proofs.lemmas.List.{append_assoc}
 use Rattle.std.proofs.lemmas.List.Sums.{sum_by-cons, sum_by_push}
 use Rattle.std.proofs.lemmas.List.Elements.{All-cons, All-nil}
 use Rattle.bdb_mktree.specs.of_format.declared.kinds.Order.{Order}
-use Rattle.bdb_mktree.specs.of_format.HeadOf.{is_page_size}
-use Rattle.bdb_mktree.specs.of_format.Chains.{value_of}
-use Rattle.bdb_mktree.specs.of_format.Contents.{data_of}
-use Rattle.bdb_mktree.specs.of_format.ContentRows.{is_set, is_wrong_set}
-use Rattle.bdb_mktree.specs.of_format.Numbers.{spelled}
-use Rattle.bdb_mktree.specs.of_format.Page.{Content, Inline, Set, Chain, Tree, Unknown}
-use Rattle.bdb_mktree.specs.of_format.File.{File}
-use Rattle.bdb_mktree.specs.of_format.Reading.{blocks_of}
-use Rattle.bdb_mktree.specs.of_format.Rows.{page_code}
-use Rattle.bdb_mktree.specs.of_format.Spelling.{block_bytes, hash_bytes}
+use Rattle.bdb_mktree.specs.of_format.Terms.{Chain, Content, File, Inline, Set, Tree, Unknown, block_bytes, blocks_of, data_of, hash_bytes, is_page_size}
+use Rattle.bdb_mktree.specs.of_format.Terms.{is_set, is_wrong_set, page_code, spelled, value_of}
 use Rattle.bdb_mktree.specs.of_layout.Blocks.{BlockRun, run_in}
 use Rattle.bdb_mktree.proofs.of_layout.WritingLemmas.{length-hash_chain, length-hash_inline, length-hash_tree}
 use Rattle.bdb_mktree.proofs.of_format.SpellingLemmas.{length-spelled}

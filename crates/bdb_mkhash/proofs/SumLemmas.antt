@@ -6,10 +6,7 @@ use Rattle.std.specs.List.{AllZip, flat_map, sum_by}
 use Rattle.std.proofs.lemmas.Grind.{flat_map-append}
 use Rattle.std.proofs.lemmas.List.{length-map, map-append}
 use Rattle.std.proofs.lemmas.List.Sums.{sum_by-cons}
-use Rattle.bdb_mktree.specs.of_format.Contents.{data_of}
-use Rattle.bdb_mktree.specs.of_format.File.{File, header_in, page_at}
-use Rattle.bdb_mktree.specs.of_format.Leaves.{children_in}
-use Rattle.bdb_mktree.specs.of_format.Page.{Item, Listed, Tree}
+use Rattle.bdb_mktree.specs.of_format.Terms.{File, Item, Listed, Tree, children_in, data_of, header_in, page_at}
 use Rattle.bdb_mktree.specs.of_law_grove.Growing.{IsCounted, IsLater}
 use Rattle.bdb_mktree.specs.of_law_levels.Nodes.{IsTower, Node}
 use Rattle.bdb_mktree.specs.of_pack.Built.{Built, file_so_far}

@@ -6,8 +6,7 @@ use Rattle.std.specs.List.{sum_by}
 use Rattle.std.proofs.lemmas.Bool.{cases_eq, cases_lt, or_cases, or_right}
 use Rattle.std.proofs.lemmas.List.{length-map, map-append, take_more}
 use Rattle.std.proofs.lemmas.List.Sums.{sum_by_push}
-use Rattle.bdb_mktree.specs.of_format.File.{File}
-use Rattle.bdb_mktree.specs.of_format.Rows.{page_code}
+use Rattle.bdb_mktree.specs.of_format.Terms.{File, page_code}
 use Rattle.bdb_mktree.specs.of_law_grove.Growing.{IsLater}
 use Rattle.bdb_mktree.specs.of_law_grove.Part.{between}
 use Rattle.bdb_mktree.proofs.of_law_grove.ChainLemmas.{between_is, is_between}

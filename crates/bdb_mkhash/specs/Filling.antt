@@ -4,11 +4,7 @@ use Rattle.std.specs.Prelude.{◌≡◌, ◌⊎◌, ℕ, ◌+◌, ◌%◌, ◌<�
 use Rattle.std.specs.Prelude.{None}
 use Rattle.std.specs.List.{sum_by}
 use Rattle.bdb_mktree.specs.of_format.declared.kinds.Order.{Order}
-use Rattle.bdb_mktree.specs.of_format.Page.{Content}
-use Rattle.bdb_mktree.specs.of_format.File.{File}
-use Rattle.bdb_mktree.specs.of_format.Contents.{data_of}
-use Rattle.bdb_mktree.specs.of_format.ContentRows.{is_set, is_wrong_set}
-use Rattle.bdb_mktree.specs.of_format.Rows.{page_code}
+use Rattle.bdb_mktree.specs.of_format.Terms.{Content, File, data_of, is_set, is_wrong_set, page_code}
 use Rattle.bdb_mktree.specs.of_law_grove.Growing.{IsCounted, IsLater}
 use Rattle.bdb_mktree.specs.of_law_grove.Part.{between}
 use Rattle.bdb_mktree.specs.of_pack.Built.{Built, bytes_of, file_so_far}

@@ -3,12 +3,8 @@ use Rattle.std.specs.Prelude.{◌≡◌, ℕ, ◌+◌, ◌-◌, ◌%◌, ◌≤�
 use Rattle.std.specs.List.{sum_by}
 use Rattle.bdb_mktree.specs.of_format.declared.kinds.Order.{Order}
 use Rattle.bdb_mktree.specs.of_format.declared.pages.Header.{Header}
-use Rattle.bdb_mktree.specs.of_format.Numbers.{byte_at, four_at, overwritten, spelled}
-use Rattle.bdb_mktree.specs.of_format.Page.{Content, Hash, Item, Listed}
-use Rattle.bdb_mktree.specs.of_format.File.{File, page_at}
-use Rattle.bdb_mktree.specs.of_format.Reading.{abstract_page, index_end}
-use Rattle.bdb_mktree.specs.of_format.Rows.{page_code}
-use Rattle.bdb_mktree.specs.of_format.Spelling.{hash_bytes}
+use Rattle.bdb_mktree.specs.of_format.Terms.{Content, File, Hash, Item, Listed, abstract_page, byte_at, four_at, hash_bytes, index_end, overwritten, page_at}
+use Rattle.bdb_mktree.specs.of_format.Terms.{page_code, spelled}
 use Rattle.bdb_mktree.specs.of_pack.Built.{Built, bytes_of, with_page, with_zeros}
 use Rattle.bdb_mktree.specs.of_pack.Items.{HasPlace, IsWritable, OnHash}
 use Rattle.bdb_mktree.specs.of_pack.Placing.{IsBegun, begun_page, high_free_of}

@@ -3,10 +3,7 @@ use Rattle.std.specs.Prelude.{◌≡◌, ℕ, ◌+◌, ◌<◌, ◌≤◌, List,
 use Rattle.bdb_mktree.specs.of_format.declared.kinds.Kind.TheVariants.{Btree}
 use Rattle.bdb_mktree.specs.of_format.declared.metadata.HashMeta.{HashMeta}
 use Rattle.bdb_mktree.specs.of_format.declared.settings.Settings.{Settings}
-use Rattle.bdb_mktree.specs.of_format.File.{File}
-use Rattle.bdb_mktree.specs.of_format.Lists.{ListKey}
-use Rattle.bdb_mktree.specs.of_format.Page.{HashFields}
-use Rattle.bdb_mktree.specs.of_format.Rows.{page_code}
+use Rattle.bdb_mktree.specs.of_format.Terms.{File, HashFields, ListKey, page_code}
 use Rattle.bdb_mktree.specs.of_law_grove.Growing.{IsCounted, IsLater}
 use Rattle.bdb_mktree.specs.of_law_grove.Part.{IsPart, between}
 use Rattle.bdb_mktree.specs.of_text_format.declared.pairs.Pair.{Pair}

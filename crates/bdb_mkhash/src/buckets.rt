@@ -1,8 +1,8 @@
 ghost use Rattle.std.specs.Prelude.{◌≡◌, ℕ, ◌+◌, ◌<◌, ◌≤◌, ◌^◌, List, IfOk, IsTrue, length, map, replicate, []};
 ghost use Rattle.std.specs.List.{All};
-ghost use Rattle.bdb_mktree.specs.of_format.HeadOf.{is_page_size};
+ghost use Rattle.bdb_mktree.specs.of_format.Terms.{is_page_size};
 ghost use Rattle.bdb_mktree.specs.of_places.Places.{values_seen};
-ghost use Rattle.bdb_mktree.specs.of_text_format.Placed.{pairs_of};
+ghost use Rattle.bdb_mktree.specs.of_text_format.Terms.{pairs_of};
 ghost use Rattle.bdb_law_buckets.specs.Tables.{Keyed, bucket_among};
 ghost use Rattle.bdb_mktree.specs.Lists.{HasBytes};
 ghost use Rattle.bdb_mkhash.specs.Buckets.{bits_for, buckets_of, table_bits, table_cost, table_units};

@@ -1,7 +1,6 @@
 ghost use Rattle.std.specs.Prelude.{◌≡◌, ◌≤◌, ◌+◌, ◌-◌, ◌++◌, IfOk, length, replicate};
 ghost use Rattle.bdb_mktree.specs.of_format.declared.kinds.Kind.TheVariants.{Hash as HashKind};
-ghost use Rattle.bdb_mktree.specs.of_text_format.Pairs.{listed};
-ghost use Rattle.bdb_mktree.specs.of_text_format.Placed.{pairs_of};
+ghost use Rattle.bdb_mktree.specs.of_text_format.Terms.{listed, pairs_of};
 ghost use Rattle.bdb_law_buckets.specs.Tables.{table_meta};
 ghost use Rattle.bdb_mkhash.specs.Buckets.{table_units};
 ghost use Rattle.bdb_mkhash.specs.Table.{IsTableBuilt, IsTableList};

@@ -1,6 +1,6 @@
 ghost use Rattle.std.specs.Prelude.{◌≡◌, ◌+◌, ◌<◌, ◌≤◌, ◌^◌, [], IfOk, IsTrue, length, map};
 ghost use Rattle.std.specs.List.{All};
-ghost use Rattle.bdb_mktree.specs.of_format.HeadOf.{is_page_size};
+ghost use Rattle.bdb_mktree.specs.of_format.Terms.{is_page_size};
 ghost use Rattle.bdb_mktree.specs.of_mkleaves.Leaves.{KeepsAll};
 ghost use Rattle.bdb_mkhash.specs.Filling.{AreEmptyPages, AreFilled, IsBucketFilled, IsEmptyPage, IsFollowed, IsOpenPage, IsPageFilled};
 ghost use Rattle.bdb_mkhash.specs.Pages.{HoldsContentsOn};

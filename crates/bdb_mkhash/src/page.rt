@@ -1,6 +1,5 @@
 ghost use Rattle.std.specs.Prelude.{◌≡◌, ◌+◌, ◌<◌, ◌≤◌, ◌^◌, ◌∷◌, ◌++◌, [], ℕ, List, IfOk, IsTrue, length};
-ghost use Rattle.bdb_mktree.specs.of_format.HeadOf.{is_page_size};
-ghost use Rattle.bdb_mktree.specs.of_format.Page.{Content as PageContent};
+ghost use Rattle.bdb_mktree.specs.of_format.Terms.{Content as PageContent, is_page_size};
 ghost use Rattle.bdb_mktree.specs.of_layout.Seen.{HasOrder, hash_content_seen};
 ghost use Rattle.bdb_mktree.specs.of_pack.Built.{AreWhole, bytes_of, with_page};
 ghost use Rattle.bdb_mktree.specs.of_pack.OnPages.{IsBegunOn};

@@ -1,7 +1,6 @@
 ghost use Rattle.std.specs.Prelude.{◌≡◌, ◌<◌, ◌^◌, IfOk, length};
 ghost use Rattle.std.specs.List.{All, flat_map};
-ghost use Rattle.bdb_mktree.specs.of_format.Numbers.{spelled};
-ghost use Rattle.bdb_mktree.specs.of_format.Spelling.{block_bytes};
+ghost use Rattle.bdb_mktree.specs.of_format.Terms.{block_bytes, spelled};
 ghost use Rattle.bdb_mktree.specs.of_places.Places.{values_seen};
 
 use bdb_mktree::{Bytes, Order, Values, put_u16};

@@ -1,5 +1,5 @@
 ghost use Rattle.std.specs.Prelude.{◌≡◌, ◌-◌, ◌*◌, ◌<◌, ◌≤◌, ◌^◌, IfOk, IsTrue, length};
-ghost use Rattle.bdb_mktree.specs.of_format.HeadOf.{is_page_size};
+ghost use Rattle.bdb_mktree.specs.of_format.Terms.{is_page_size};
 ghost use Rattle.bdb_mktree.specs.of_layout.Seen.{HasOrder, hash_content_seen};
 ghost use Rattle.bdb_mktree.specs.of_mkleaves.Runs.{IsShort};
 ghost use Rattle.bdb_mkhash.specs.Filling.{IsHashItem};

@@ -1,5 +1,5 @@
 ghost use Rattle.std.specs.Prelude.{◌≡◌, ◌<◌, ◌≤◌, IsTrue, length};
-ghost use Rattle.bdb_mktree.specs.of_format.HeadOf.{is_page_size};
+ghost use Rattle.bdb_mktree.specs.of_format.Terms.{is_page_size};
 ghost use Rattle.bdb_mktree.specs.of_places.Places.{values_seen};
 ghost use Rattle.bdb_mktree.specs.of_mkleaves.Units.{page_room};
 ghost use Rattle.bdb_mkhash.specs.Costs.{data_cost, data_form, hash_item_cost, keyed, keyed_cost, set_or_none};

@@ -8,13 +8,10 @@ use Rattle.std.proofs.lemmas.List.{get_or-set_same, get_or_append_left, get_or_p
 use Rattle.std.proofs.lemmas.List.{get_or-map}
 use Rattle.std.proofs.lemmas.List.Sums.{sum_by_push}
 use Rattle.bdb_places.specs.of_format.declared.kinds.Order.{Order}
-use Rattle.bdb_places.specs.of_format.Numbers.{byte_at, four_at, pad4}
-use Rattle.bdb_places.specs.of_format.Page.{Content, Inline, Set, Chain, Tree, Unknown, Item, Leaf, Listed}
+use Rattle.bdb_places.specs.of_format.Terms.{Chain, Content, Inline, IsLeafContent, Item, Leaf, Listed, Set, Tree, Unknown, abstract_page, byte_at, entries_of}
+use Rattle.bdb_places.specs.of_format.Terms.{four_at, index_end, is_shared_key, item_row, leaf_bytes, leaf_item_at, listed, no_item, offset_of, pad4, page_as}
+use Rattle.bdb_places.specs.of_format.Terms.{page_type}
 use Rattle.bdb_places.specs.of_format.declared.pages.PageType.TheVariants.{Leaf as LeafPage}
-use Rattle.bdb_places.specs.of_format.Reading.{abstract_page, entries_of, index_end, leaf_item_at, listed, offset_of, page_as, page_type}
-use Rattle.bdb_places.specs.of_format.References.{is_shared_key, no_item}
-use Rattle.bdb_places.specs.of_format.Rows.{item_row}
-use Rattle.bdb_places.specs.of_format.Spelling.{IsLeafContent, leaf_bytes}
 use Rattle.bdb_places.proofs.of_format.PageLemmas.{index_offset, length_items}
 use Rattle.bdb_places.proofs.of_format.LeafLemmas.{leaf_item_is}
 use Rattle.bdb_pack.proofs.of_layout.WritingLemmas.{length-leaf_chain, length-leaf_inline, length-leaf_tree}

@@ -4,9 +4,7 @@ use Rattle.std.specs.List.{All, flat_map, sum_by}
 use Rattle.std.proofs.lemmas.Simd.{map-map}
 use Rattle.std.proofs.lemmas.List.Elements.{All-cons, All-nil}
 use Rattle.std.proofs.lemmas.List.Sums.{sum_by-cons}
-use Rattle.bdb_places.specs.of_format.Page.{Content, Inline, Set, Chain, Tree, Unknown}
-use Rattle.bdb_places.specs.of_format.File.{File}
-use Rattle.bdb_places.specs.of_format.Chains.{value_of}
+use Rattle.bdb_places.specs.of_format.Terms.{Chain, Content, File, Inline, Set, Tree, Unknown, value_of}
 use Rattle.bdb_pack.specs.of_law_grove.Growing.{IsLater}
 use Rattle.bdb_pack.specs.of_law_grove.Leaves.{AscendIn, content_pages}
 use Rattle.bdb_pack.specs.of_law_grove.Part.{between}

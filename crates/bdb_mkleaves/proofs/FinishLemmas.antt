@@ -7,10 +7,7 @@ use Rattle.std.proofs.lemmas.List.{get_or-take}
 use Rattle.std.proofs.lemmas.List.Sums.{sum_by-cons}
 use Rattle.std.proofs.Math.Dec.{eqb}
 use Rattle.bdb_pack.proofs.ImageLemmas.{page_so_far}
-use Rattle.bdb_places.specs.of_format.File.{page_at}
-use Rattle.bdb_places.specs.of_format.Numbers.{byte_at}
-use Rattle.bdb_places.specs.of_format.Reading.{abstract_page, entries_of}
-use Rattle.bdb_places.specs.of_format.Rows.{page_code}
+use Rattle.bdb_places.specs.of_format.Terms.{abstract_page, byte_at, entries_of, page_at, page_code}
 use Rattle.bdb_places.proofs.of_format.MemberLemmas.{of_flat_map}
 use Rattle.bdb_pack.specs.of_law_grove.Growing.{IsLater, IsSamePage}
 use Rattle.bdb_law_levels.specs.declared.inner_type.InnerType.{InnerType}

@@ -7,8 +7,7 @@ use Rattle.std.proofs.lemmas.Bool.{cases_Bool, cases_eq, cases_lt, false_from_ne
 use Rattle.std.proofs.lemmas.Grind.{flat_map-append}
 use Rattle.std.proofs.lemmas.List.Elements.{Contains-append_cases, Contains-append_left, Contains-append_right}
 use Rattle.bdb_pack.proofs.ImageLemmas.{page_so_far}
-use Rattle.bdb_places.specs.of_format.File.{header_in, page_at}
-use Rattle.bdb_places.specs.of_format.Rows.{page_code}
+use Rattle.bdb_places.specs.of_format.Terms.{header_in, page_at, page_code}
 use Rattle.bdb_places.proofs.of_format.MemberLemmas.{first_member, in_range, later_member, member_cases, of_range}
 use Rattle.bdb_places.proofs.of_format.ListLemmas.{only_member}
 use Rattle.bdb_pack.specs.of_law_grove.Growing.{IsLater, IsSamePage}

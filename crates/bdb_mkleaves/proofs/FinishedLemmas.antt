@@ -4,9 +4,7 @@ use Rattle.std.proofs.Common.{subst, inl, inr, length-append, length-set}
 use Rattle.std.specs.List.{All, Contains, flat_map}
 use Rattle.std.proofs.lemmas.List.{map-append}
 use Rattle.std.proofs.lemmas.List.Elements.{All-push}
-use Rattle.bdb_places.specs.of_format.HeadOf.{is_page_size}
-use Rattle.bdb_places.specs.of_format.Numbers.{byte_at}
-use Rattle.bdb_places.specs.of_format.Page.{Content, Inline, Set, Chain, Tree, Unknown}
+use Rattle.bdb_places.specs.of_format.Terms.{Chain, Content, Inline, Set, Tree, Unknown, byte_at, is_page_size}
 use Rattle.bdb_places.proofs.of_format.MemberLemmas.{first_member, later_member, member_cases, no_member}
 use Rattle.bdb_law_levels.specs.Nodes.{Node}
 use Rattle.bdb_law_levels.specs.declared.inner_type.InnerType.{InnerType}

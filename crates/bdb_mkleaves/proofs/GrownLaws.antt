@@ -3,9 +3,7 @@ use Rattle.std.proofs.Common.{◌≡◌, ℕ, Bool, List, [], ◌∷◌, ◌++�
 use Rattle.std.specs.List.{AllZip, Contains, flat_map}
 use Rattle.std.proofs.lemmas.List.Elements.{All-cons, All-nil}
 use Rattle.std.proofs.lemmas.List.Folds.{flat_map-map}
-use Rattle.bdb_places.specs.of_format.Page.{Tree}
-use Rattle.bdb_places.specs.of_format.Contents.{data_of}
-use Rattle.bdb_places.specs.of_format.ContentRows.{is_wrong_set}
+use Rattle.bdb_places.specs.of_format.Terms.{Tree, data_of, is_wrong_set}
 use Rattle.bdb_places.proofs.of_format.ListLemmas.{map_joined}
 use Rattle.bdb_pack.specs.of_law_grove.Growing.{IsLater}
 use Rattle.bdb_pack.specs.of_law_grove.Leaves.{ContentFits, SetFits}

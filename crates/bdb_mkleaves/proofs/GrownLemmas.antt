@@ -4,10 +4,7 @@ use Rattle.std.specs.List.{All, AllZip, Contains, flat_map, range_with_len}
 use Rattle.std.proofs.lemmas.Grind.{flat_map-append}
 use Rattle.std.proofs.lemmas.List.Elements.{All-contains, All-head, All-tail}
 use Rattle.std.proofs.lemmas.List.Folds.{flat_map-map}
-use Rattle.bdb_places.specs.of_format.Page.{Item, Listed, Page}
-use Rattle.bdb_places.specs.of_format.File.{File, page_at}
-use Rattle.bdb_places.specs.of_format.Leaves.{first_or_zero}
-use Rattle.bdb_places.specs.of_format.Reading.{abstract_page}
+use Rattle.bdb_places.specs.of_format.Terms.{File, Item, Listed, Page, abstract_page, first_or_zero, page_at}
 use Rattle.bdb_places.proofs.of_format.ListLemmas.{all_of, flat_map_same, flat_map_twice, map_joined}
 use Rattle.bdb_places.proofs.of_format.MemberLemmas.{first_member, in_flat_map, later_member, no_member, of_flat_map}
 use Rattle.bdb_pack.specs.of_law_grove.Growing.{IsSamePage}

@@ -8,13 +8,8 @@ use Rattle.std.proofs.lemmas.Simd.{map-map}
 use Rattle.std.proofs.lemmas.List.FromFn.{get_or-map-range_with_len, length-map-range_with_len}
 use Rattle.std.proofs.lemmas.List.Folds.{flat_map-map}
 use Rattle.bdb_places.specs.of_format.declared.pages.Header.{Header}
-use Rattle.bdb_places.specs.of_format.Numbers.{byte_at}
-use Rattle.bdb_places.specs.of_format.Page.{Content, Item, Leaf, Listed}
-use Rattle.bdb_places.specs.of_format.File.{File}
-use Rattle.bdb_places.specs.of_format.Reading.{entries_of, header_of, leaf_item_at, page_type}
-use Rattle.bdb_places.specs.of_format.References.{contents_in, is_shared_key, item_at, no_item}
-use Rattle.bdb_places.specs.of_format.Contents.{StoredPair, pair_at, pairs_in}
-use Rattle.bdb_places.specs.of_format.Rows.{is_wrong_entry_count, is_wrong_level}
+use Rattle.bdb_places.specs.of_format.Terms.{Content, File, Item, Leaf, Listed, StoredPair, byte_at, contents_in, entries_of, header_of, is_shared_key}
+use Rattle.bdb_places.specs.of_format.Terms.{is_wrong_entry_count, is_wrong_level, item_at, leaf_item_at, no_item, page_type, pair_at, pairs_in}
 use Rattle.bdb_places.proofs.of_format.MemberLemmas.{of_range}
 use Rattle.bdb_places.proofs.of_format.PageLemmas.{header_listed}
 use Rattle.bdb_places.proofs.of_format.TargetLemmas.{each_own}

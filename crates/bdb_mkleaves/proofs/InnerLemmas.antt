@@ -8,13 +8,10 @@ use Rattle.std.proofs.lemmas.List.Sums.{sum_by_push}
 use Rattle.bdb_places.specs.of_format.declared.kinds.Order.{Order}
 use Rattle.bdb_places.specs.of_format.declared.pages.Header.{Header}
 use Rattle.bdb_places.specs.of_format.declared.pages.RecnoItem.{RecnoItem}
-use Rattle.bdb_places.specs.of_format.HeadOf.{is_page_size}
-use Rattle.bdb_places.specs.of_format.Numbers.{byte_at, four_at, number_at, overwritten, pad4, spelled, two_at}
-use Rattle.bdb_places.specs.of_format.Page.{Content, Inline, Set, Chain, Tree, Unknown, Internal, InternalItem, Listed, Overflow, Page, RecnoInternal}
-use Rattle.bdb_places.specs.of_format.Reading.{abstract_page, entries_of, header_of, index_end, internal_item_at, listed, page_type, recno_item_at}
-use Rattle.bdb_places.specs.of_format.Rows.{is_tree_type, is_wrong_entry_count, is_wrong_level, page_code}
-use Rattle.bdb_places.specs.of_format.Spelling.{IsKey, header_bytes, internal_bytes}
-use Rattle.bdb_places.specs.of_format.Table.{◌:?◌, first_row}
+use Rattle.bdb_places.specs.of_format.Terms.{Chain, Content, Inline, Internal, InternalItem, IsKey, Listed, Overflow, Page, RecnoInternal, Set, Tree, Unknown}
+use Rattle.bdb_places.specs.of_format.Terms.{abstract_page, byte_at, entries_of, first_row, four_at, header_bytes, header_of, index_end, internal_bytes}
+use Rattle.bdb_places.specs.of_format.Terms.{internal_item_at, is_page_size, is_tree_type, is_wrong_entry_count, is_wrong_level, listed, number_at}
+use Rattle.bdb_places.specs.of_format.Terms.{overwritten, pad4, page_code, page_type, recno_item_at, spelled, two_at, ◌:?◌}
 use Rattle.bdb_places.proofs.of_format.PageLemmas.{header_listed, length_items}
 use Rattle.bdb_places.proofs.of_format.SpellingLemmas.{length-overwritten, length-spelled}
 use Rattle.bdb_places.proofs.of_format.SizeLemmas.{size_bounds}

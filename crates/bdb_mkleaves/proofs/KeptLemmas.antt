@@ -4,8 +4,7 @@ use Rattle.std.proofs.Common.{arith, refl, sym, ◌∙◌, ap, subst, inl, inr, 
 use Rattle.std.specs.List.{All, AllZip, Contains, flat_map}
 use Rattle.std.proofs.lemmas.Bool.{cases_Bool, cases_eq, cases_lt}
 use Rattle.std.proofs.lemmas.List.Elements.{All-head, All-tail}
-use Rattle.bdb_places.specs.of_format.File.{File}
-use Rattle.bdb_places.specs.of_format.Rows.{page_code}
+use Rattle.bdb_places.specs.of_format.Terms.{File, page_code}
 use Rattle.bdb_places.proofs.of_format.MemberLemmas.{first_member, later_member, member_cases, no_member}
 use Rattle.bdb_pack.specs.of_law_grove.Leaves.{content_pages}
 use Rattle.bdb_pack.proofs.of_law_grove.BranchLemmas.{of_list}

@@ -7,11 +7,8 @@ use Rattle.std.proofs.lemmas.Bool.{eqb-false, false_from_ne_true, or_from, or_le
 use Rattle.std.proofs.lemmas.Simd.{map-map}
 use Rattle.std.proofs.lemmas.List.Elements.{All-head, All-map, Contains-append_left, Contains-append_right, Contains-get_or}
 use Rattle.bdb_places.specs.of_format.declared.references.Reference.{Reference}
-use Rattle.bdb_places.specs.of_format.Page.{Content, Inline, Set, Chain, Tree, Unknown, Item, Listed}
-use Rattle.bdb_places.specs.of_format.File.{File, page_at, type_in}
-use Rattle.bdb_places.specs.of_format.References.{content_targets, contents_in, has_type, refs, targets_in}
-use Rattle.bdb_places.specs.of_format.Graph.{held_by, is_head_reference}
-use Rattle.bdb_places.specs.of_format.Chains.{content_chains, is_wrong_length}
+use Rattle.bdb_places.specs.of_format.Terms.{Chain, Content, File, Inline, Item, Listed, Set, Tree, Unknown, content_chains, content_targets, contents_in}
+use Rattle.bdb_places.specs.of_format.Terms.{has_type, held_by, is_head_reference, is_wrong_length, page_at, refs, targets_in, type_in}
 use Rattle.bdb_places.proofs.of_format.MemberLemmas.{first_member, in_flat_map, in_map, member_cases, no_member, none_pass, of_filter, of_map}
 use Rattle.bdb_pack.specs.of_law_grove.Part.{IsBranch, are_heads_alone, owners_among}
 use Rattle.bdb_pack.specs.of_law_grove.Leaves.{ChainFits, ContentFits, FilledLeaf, IsFilled, content_pages, pages_held}

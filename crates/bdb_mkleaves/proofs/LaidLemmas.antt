@@ -3,9 +3,7 @@ use Rattle.std.proofs.Common.{arith}
 use Rattle.std.proofs.Common.{◌≡◌, ◌⊎◌, ℕ, ◌+◌, Option, inl, inr, Bool, true, get_or, List, [], ◌∷◌, map, Some, None, refl, ◌∙◌, ap, subst}
 use Rattle.std.specs.List.{All, AllZip, flat_map, list_any}
 use Rattle.std.proofs.lemmas.List.Elements.{All-cons, All-head, All-map, All-nil, All-tail}
-use Rattle.bdb_places.specs.of_format.File.{File, header_in, page_at, type_in}
-use Rattle.bdb_places.specs.of_format.References.{has_type}
-use Rattle.bdb_places.specs.of_format.Leaves.{children_in, leaves_in, places_from}
+use Rattle.bdb_places.specs.of_format.Terms.{File, children_in, has_type, header_in, leaves_in, page_at, places_from, type_in}
 use Rattle.bdb_pack.specs.of_law_grove.Part.{is_wrong_place}
 use Rattle.bdb_law_levels.specs.Links.{AreLinked, leaf_types}
 use Rattle.bdb_law_levels.specs.Nodes.{HasLeaves, IsOver, IsTower, Node}

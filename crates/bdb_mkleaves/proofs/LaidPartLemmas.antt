@@ -8,18 +8,11 @@ use Rattle.std.proofs.lemmas.List.{length-map}
 use Rattle.std.proofs.lemmas.List.Elements.{All-contains, All-head}
 use Rattle.bdb_places.specs.of_format.declared.metadata.BtreeMeta.{BtreeMeta}
 use Rattle.bdb_places.specs.of_format.declared.references.Sort.TheVariants.{Root}
-use Rattle.bdb_places.specs.of_format.Table.{first_row}
-use Rattle.bdb_places.specs.of_format.Page.{BtreeFields, Meta}
-use Rattle.bdb_places.specs.of_format.Flags.{btree_kind, counts_records, has_duplicates, is_fixed, is_sorted}
-use Rattle.bdb_places.specs.of_format.File.{File, page_at, type_in}
-use Rattle.bdb_places.specs.of_format.References.{fit_rows, has_type, root_types}
-use Rattle.bdb_places.specs.of_format.Chains.{value_of}
-use Rattle.bdb_places.specs.of_format.Leaves.{children_in, leaves}
-use Rattle.bdb_places.specs.of_format.Contents.{StoredPair, entries_in, pairs_of, tree_pairs}
-use Rattle.bdb_places.specs.of_format.ContentRows.{ascends, btree_contents, database_rows, has_wrong_count, has_wrong_record, has_wrong_separator, inner_in}
-use Rattle.bdb_places.specs.of_format.ContentRows.{inner_pages, is_out_of_order, is_wrong_at, neighbours, has_duplicate, has_unsorted, has_wrong_set}
-use Rattle.bdb_places.specs.of_format.ContentRows.{recno_contents}
-use Rattle.bdb_places.specs.of_format.Lists.{ListKey, list_of}
+use Rattle.bdb_places.specs.of_format.Terms.{BtreeFields, File, ListKey, Meta, StoredPair, ascends, btree_contents, btree_kind, children_in, counts_records}
+use Rattle.bdb_places.specs.of_format.Terms.{database_rows, entries_in, first_row, fit_rows, has_duplicate, has_duplicates, has_type, has_unsorted}
+use Rattle.bdb_places.specs.of_format.Terms.{has_wrong_count, has_wrong_record, has_wrong_separator, has_wrong_set, inner_in, inner_pages, is_fixed}
+use Rattle.bdb_places.specs.of_format.Terms.{is_out_of_order, is_sorted, is_wrong_at, leaves, list_of, neighbours, page_at, pairs_of, recno_contents}
+use Rattle.bdb_places.specs.of_format.Terms.{root_types, tree_pairs, type_in, value_of}
 use Rattle.bdb_places.specs.of_format.declared.kinds.Kind.TheVariants.{Btree, Recno}
 use Rattle.bdb_places.specs.of_format.ByPage.{holding}
 use Rattle.bdb_places.proofs.of_format.ListLemmas.{flat_map_twice, only_member}

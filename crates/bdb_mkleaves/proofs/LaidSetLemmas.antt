@@ -5,12 +5,7 @@ use Rattle.std.specs.List.{All, filter, flat_map}
 use Rattle.std.proofs.lemmas.Grind.{flat_map-append}
 use Rattle.std.proofs.lemmas.List.Elements.{All-head, All-tail, All-weaker}
 use Rattle.bdb_places.specs.of_format.declared.references.Sort.TheVariants.{DuplicateRoot}
-use Rattle.bdb_places.specs.of_format.Page.{Item}
-use Rattle.bdb_places.specs.of_format.File.{File, page_at}
-use Rattle.bdb_places.specs.of_format.References.{has_type}
-use Rattle.bdb_places.specs.of_format.Chains.{value_of}
-use Rattle.bdb_places.specs.of_format.Contents.{data_of, entries_in, live_values}
-use Rattle.bdb_places.specs.of_format.ContentRows.{wrong_set_types}
+use Rattle.bdb_places.specs.of_format.Terms.{File, Item, data_of, entries_in, has_type, live_values, page_at, value_of, wrong_set_types}
 use Rattle.bdb_law_levels.specs.Links.{leaf_types}
 use Rattle.bdb_mkleaves.specs.Inner.{inner_number}
 use Rattle.bdb_mkleaves.specs.LeafEntries.{Entry, IsLeafIn, type_number}

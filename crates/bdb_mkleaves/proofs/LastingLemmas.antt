@@ -2,9 +2,7 @@
 use Rattle.std.proofs.Common.{◌≡◌, ℕ, ◌<◌, ◌≤◌, Bool, true, List, [], length, map, refl, sym, ◌∙◌, ap, subst}
 use Rattle.std.specs.List.{All, Contains, flat_map}
 use Rattle.std.proofs.lemmas.List.Elements.{All-contains}
-use Rattle.bdb_places.specs.of_format.File.{File}
-use Rattle.bdb_places.specs.of_format.Page.{Content, Inline, Set, Chain, Tree, Unknown}
-use Rattle.bdb_places.specs.of_format.Reading.{entries_of as count_on}
+use Rattle.bdb_places.specs.of_format.Terms.{Chain, Content, File, Inline, Set, Tree, Unknown, entries_of as count_on}
 use Rattle.bdb_places.proofs.of_format.ListLemmas.{only_member}
 use Rattle.bdb_places.proofs.of_format.MemberLemmas.{no_member, of_flat_map}
 use Rattle.bdb_pack.specs.of_law_grove.Growing.{IsLater}

@@ -1,7 +1,6 @@
 -- A later file of a later file.
 use Rattle.std.proofs.Common.{◌≡◌, ℕ, Bool, true, arith, sym, subst, inl, inr}
-use Rattle.bdb_places.specs.of_format.Page.{Page}
-use Rattle.bdb_places.specs.of_format.File.{File}
+use Rattle.bdb_places.specs.of_format.Terms.{File, Page}
 use Rattle.bdb_pack.specs.of_law_grove.Growing.{IsLater, IsSamePage}
 
 -- what a page keeps twice, it keeps

@@ -5,13 +5,7 @@ use Rattle.std.specs.List.{All, AllZip, Contains, flat_map, range_with_len}
 use Rattle.std.proofs.lemmas.Grind.{flat_map-append}
 use Rattle.std.proofs.lemmas.List.Elements.{All-contains, Contains-append_cases, Contains-append_left, Contains-append_right}
 use Rattle.std.proofs.lemmas.Simd.{map-map}
-use Rattle.bdb_places.specs.of_format.File.{File, file_of, page_bytes}
-use Rattle.bdb_places.specs.of_format.HeadOf.{head_of}
-use Rattle.bdb_places.specs.of_format.Numbers.{byte_at}
-use Rattle.bdb_places.specs.of_format.Page.{Content, Tree}
-use Rattle.bdb_places.specs.of_format.ContentRows.{is_wrong_set}
-use Rattle.bdb_places.specs.of_format.References.{has_type}
-use Rattle.bdb_places.specs.of_format.Reading.{entries_of as count_on}
+use Rattle.bdb_places.specs.of_format.Terms.{Content, File, Tree, byte_at, entries_of as count_on, file_of, has_type, head_of, is_wrong_set, page_bytes}
 use Rattle.bdb_places.proofs.of_format.ListLemmas.{only_member}
 use Rattle.bdb_places.proofs.of_format.MemberLemmas.{no_member, of_flat_map, of_range}
 use Rattle.bdb_pack.specs.of_law_grove.Growing.{IsCounted, IsLater}

@@ -6,12 +6,8 @@ use Rattle.std.proofs.lemmas.List.{get_or_push, length-replicate, same_lists}
 use Rattle.std.proofs.lemmas.List.FromFn.{get_or-map-range_with_len, length-map-range_with_len}
 use Rattle.bdb_places.specs.of_format.declared.kinds.Order.{Order}
 use Rattle.bdb_places.specs.of_format.declared.pages.Header.{Header}
-use Rattle.bdb_places.specs.of_format.HeadOf.{is_page_size}
-use Rattle.bdb_places.specs.of_format.Numbers.{byte_at, four_at, overwritten, spelled, two_at}
-use Rattle.bdb_places.specs.of_format.Page.{Listed}
-use Rattle.bdb_places.specs.of_format.Reading.{abstract_page, entries_of, header_of, index_end, leaf_item_at, listed, offset_of, page_type}
-use Rattle.bdb_places.specs.of_format.Rows.{item_row}
-use Rattle.bdb_places.specs.of_format.Spelling.{header_bytes}
+use Rattle.bdb_places.specs.of_format.Terms.{Listed, abstract_page, byte_at, entries_of, four_at, header_bytes, header_of, index_end, is_page_size, item_row}
+use Rattle.bdb_places.specs.of_format.Terms.{leaf_item_at, listed, offset_of, overwritten, page_type, spelled, two_at}
 use Rattle.bdb_places.proofs.of_format.SpellingLemmas.{length-overwritten, length-spelled}
 use Rattle.bdb_places.proofs.of_format.SizeLemmas.{size_bounds}
 use Rattle.bdb_pack.proofs.of_law_grove.GroveLemmas.{above}

@@ -5,10 +5,8 @@ use Rattle.std.specs.List.{All, Contains, flat_map, range_with_len}
 use Rattle.std.proofs.lemmas.Bool.{cases_lt}
 use Rattle.bdb_pack.proofs.ImageLemmas.{page_so_far}
 use Rattle.bdb_places.specs.of_format.declared.pages.Header.{Header}
-use Rattle.bdb_places.specs.of_format.Page.{Content, Inline, Set, Chain, Tree, Unknown, Internal, Overflow, Page, RecnoInternal}
-use Rattle.bdb_places.specs.of_format.File.{File, header_in, page_at}
-use Rattle.bdb_places.specs.of_format.Reading.{abstract_page, header_of}
-use Rattle.bdb_places.specs.of_format.Rows.{page_code}
+use Rattle.bdb_places.specs.of_format.Terms.{Chain, Content, File, Inline, Internal, Overflow, Page, RecnoInternal, Set, Tree, Unknown, abstract_page}
+use Rattle.bdb_places.specs.of_format.Terms.{header_in, header_of, page_at, page_code}
 use Rattle.bdb_places.proofs.of_format.MemberLemmas.{first_member, in_flat_map, later_member, member_cases, member_or_not, no_member}
 use Rattle.bdb_pack.specs.of_law_grove.Growing.{IsSamePage}
 use Rattle.bdb_law_levels.specs.declared.inner_type.InnerType.{InnerType}

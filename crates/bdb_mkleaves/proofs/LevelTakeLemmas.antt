@@ -8,14 +8,8 @@ use Rattle.std.proofs.lemmas.List.{get_or-set_other, get_or_append_left, get_or_
 use Rattle.bdb_places.specs.of_format.declared.kinds.Order.{Order}
 use Rattle.bdb_places.specs.of_format.declared.pages.ItemFault.{ItemFault}
 use Rattle.bdb_places.specs.of_format.declared.pages.RecnoItem.{RecnoItem}
-use Rattle.bdb_places.specs.of_format.HeadOf.{is_page_size}
-use Rattle.bdb_places.specs.of_format.Numbers.{byte_at, pad4}
-use Rattle.bdb_places.specs.of_format.Page.{Content, Inline, Set, Chain, Tree, Unknown, InternalItem, Item, Listed}
-use Rattle.bdb_places.specs.of_format.Reading.{entries_of, index_end, leaf_item_at, page_type}
-use Rattle.bdb_places.specs.of_format.References.{no_item}
-use Rattle.bdb_places.specs.of_format.Rows.{item_code, item_row, leaf_rows}
-use Rattle.bdb_places.specs.of_format.Spelling.{header_bytes}
-use Rattle.bdb_places.specs.of_format.Table.{first_row}
+use Rattle.bdb_places.specs.of_format.Terms.{Chain, Content, Inline, InternalItem, Item, Listed, Set, Tree, Unknown, byte_at, entries_of, first_row}
+use Rattle.bdb_places.specs.of_format.Terms.{header_bytes, index_end, is_page_size, item_code, item_row, leaf_item_at, leaf_rows, no_item, pad4, page_type}
 use Rattle.bdb_places.proofs.of_format.MemberLemmas.{first_member, member_cases, no_member}
 use Rattle.bdb_places.proofs.of_format.SpellingLemmas.{length-overwritten}
 use Rattle.bdb_places.proofs.of_format.LeafLemmas.{leaf_item_is}

@@ -4,8 +4,7 @@ use Rattle.std.proofs.Common.{◌≡◌, ℕ, false, List, [], ◌∷◌, map, r
 use Rattle.std.specs.List.{All, flat_map, list_any}
 use Rattle.std.proofs.lemmas.List.Elements.{All-append, All-cons, All-head, All-map, All-nil, All-tail}
 use Rattle.std.proofs.lemmas.List.Folds.{list_any_none}
-use Rattle.bdb_places.specs.of_format.File.{File, page_at}
-use Rattle.bdb_places.specs.of_format.Page.{Item, Listed}
+use Rattle.bdb_places.specs.of_format.Terms.{File, Item, Listed, page_at}
 use Rattle.bdb_mkleaves.specs.Laid.{AreLaid, IsLiveUnit, LaidTreesAreLive, has_deleted}
 use Rattle.bdb_mkleaves.specs.LeafEntries.{Entry, IsLeafIn, leaf_of, own_entry}
 use Rattle.bdb_mkleaves.specs.Placed.{IsDatum, LeafUnits, Placed, PlacedEntry, PlacedPairs, PlacedTree, StandsPlaced, ValueItem, entries_of}

@@ -3,10 +3,7 @@ use Rattle.std.proofs.Common.{◌≡◌, ℕ, ◌<◌, ◌≤◌, false, List, �
 use Rattle.std.proofs.lemmas.Bool.{cases_lt}
 use Rattle.std.proofs.lemmas.List.{append_assoc}
 use Rattle.bdb_places.specs.of_format.declared.kinds.Order.{Order}
-use Rattle.bdb_places.specs.of_format.Numbers.{byte_at}
-use Rattle.bdb_places.specs.of_format.Page.{Content, Inline, Set, Chain, Tree, Unknown}
-use Rattle.bdb_places.specs.of_format.Reading.{entries_of, is_deleted, offset_of}
-use Rattle.bdb_places.specs.of_format.Spelling.{IsKey, internal_bytes}
+use Rattle.bdb_places.specs.of_format.Terms.{Chain, Content, Inline, IsKey, Set, Tree, Unknown, byte_at, entries_of, internal_bytes, is_deleted, offset_of}
 use Rattle.bdb_places.proofs.of_format.SpellingLemmas.{byte_at-in, length-spelled}
 use Rattle.bdb_law_levels.specs.declared.inner_type.InnerType.{InnerType}
 use Rattle.bdb_law_levels.specs.declared.inner_type.InnerType.TheVariants.{Keyed, Numbered}

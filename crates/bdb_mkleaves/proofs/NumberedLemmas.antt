@@ -6,7 +6,7 @@ use Rattle.std.specs.List.{All, AllZip, Contains, flat_map}
 use Rattle.std.proofs.lemmas.Bool.{cases_Bool, false_from_ne_true, or_left, or_right, or_cases}
 use Rattle.std.proofs.lemmas.List.{map-append}
 use Rattle.bdb_pack.proofs.ImageLemmas.{page_so_far}
-use Rattle.bdb_places.specs.of_format.File.{File, page_at}
+use Rattle.bdb_places.specs.of_format.Terms.{File, page_at}
 use Rattle.bdb_places.proofs.of_format.MemberLemmas.{no_member}
 use Rattle.bdb_pack.specs.of_law_grove.Growing.{IsCounted, IsLater, IsSamePage}
 use Rattle.bdb_pack.specs.of_law_grove.Leaves.{Ascend, ContentFits, content_pages}

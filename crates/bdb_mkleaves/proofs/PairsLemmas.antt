@@ -8,8 +8,7 @@ use Rattle.std.proofs.lemmas.List.Elements.{All-push}
 use Rattle.std.proofs.lemmas.List.Sums.{sum_by-append, sum_by-cons, sum_by-take-le, sum_by_push}
 use Rattle.std.proofs.lemmas.Grind.{flat_map-append}
 use Rattle.bdb_places.specs.of_format.declared.kinds.Order.{Order}
-use Rattle.bdb_places.specs.of_format.Page.{Content, Item}
-use Rattle.bdb_places.specs.of_format.Rows.{page_code}
+use Rattle.bdb_places.specs.of_format.Terms.{Content, Item, page_code}
 use Rattle.bdb_pack.specs.of_law_grove.Part.{between}
 use Rattle.bdb_pack.proofs.of_law_grove.ChainLemmas.{between_is, is_between}
 use Rattle.bdb_pack.specs.Built.{Built, bytes_of}

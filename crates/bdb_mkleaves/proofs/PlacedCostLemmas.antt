@@ -5,8 +5,7 @@ use Rattle.std.proofs.lemmas.Bool.{le-leb, lt-leb}
 use Rattle.std.proofs.lemmas.List.Elements.{All-head, All-tail}
 use Rattle.std.proofs.lemmas.List.Sums.{sum_by-cons}
 use Rattle.bdb_places.specs.of_format.declared.kinds.Order.{Order}
-use Rattle.bdb_places.specs.of_format.Numbers.{pad4}
-use Rattle.bdb_places.specs.of_format.Page.{Content, Inline, Set, Chain, Tree, Unknown}
+use Rattle.bdb_places.specs.of_format.Terms.{Chain, Content, Inline, Set, Tree, Unknown, pad4}
 use Rattle.bdb_pack.proofs.of_layout.WritingLemmas.{length-leaf_chain, length-leaf_inline, length-leaf_tree}
 use Rattle.bdb_mkleaves.specs.LeafEntries.{Entry, entry_cost, item_cost, own_entry, shared_entry}
 use Rattle.bdb_mkleaves.specs.Units.{value_cost}

@@ -8,12 +8,9 @@ use Rattle.std.proofs.lemmas.List.{append-nil, map-append}
 use Rattle.std.proofs.lemmas.Simd.{map-map}
 use Rattle.std.proofs.lemmas.List.Elements.{All-cons, All-head, All-map, All-nil, All-tail}
 use Rattle.bdb_places.specs.of_format.declared.metadata.BtreeMeta.{BtreeMeta}
-use Rattle.bdb_places.specs.of_format.Page.{Content, Inline, Set, Chain, Tree, Unknown}
-use Rattle.bdb_places.specs.of_format.File.{File, page_at}
-use Rattle.bdb_places.specs.of_format.Leaves.{leaves}
-use Rattle.bdb_places.specs.of_format.Contents.{StoredPair, entries_in, pairs_of, tree_entries, tree_pairs}
-use Rattle.bdb_places.specs.of_format.ContentRows.{ascends, has_duplicate, has_unsorted, is_duplicate, is_set, is_wrong_record, is_wrong_set}
-use Rattle.bdb_places.specs.of_format.Lists.{btree_list, recno_list}
+use Rattle.bdb_places.specs.of_format.Terms.{Chain, Content, File, Inline, Set, StoredPair, Tree, Unknown, ascends, btree_list, entries_in, has_duplicate}
+use Rattle.bdb_places.specs.of_format.Terms.{has_unsorted, is_duplicate, is_set, is_wrong_record, is_wrong_set, leaves, page_at, pairs_of, recno_list}
+use Rattle.bdb_places.specs.of_format.Terms.{tree_entries, tree_pairs}
 use Rattle.bdb_law_levels.specs.Contents.{BeginsWith, Follow}
 use Rattle.bdb_mkleaves.specs.LeafEntries.{Entry}
 use Rattle.bdb_mkleaves.specs.Units.{entry_unit, group_unit, key_of, keyed_units, listed_keyed, listed_record}

@@ -6,10 +6,7 @@ use Rattle.std.proofs.lemmas.List.{append-nil, map-append}
 use Rattle.std.proofs.lemmas.Simd.{map-map}
 use Rattle.std.proofs.lemmas.Grind.{flat_map-append}
 use Rattle.std.proofs.lemmas.List.Elements.{All-append, All-cons, All-head, All-map, All-nil, All-tail}
-use Rattle.bdb_places.specs.of_format.Page.{Content, Inline, Set, Chain, Tree, Unknown}
-use Rattle.bdb_places.specs.of_format.File.{File}
-use Rattle.bdb_places.specs.of_format.Chains.{value_of}
-use Rattle.bdb_places.specs.of_format.Contents.{StoredPair, data_of, pairs_in, pairs_of}
+use Rattle.bdb_places.specs.of_format.Terms.{Chain, Content, File, Inline, Set, StoredPair, Tree, Unknown, data_of, pairs_in, pairs_of, value_of}
 use Rattle.bdb_mkleaves.specs.LeafEntries.{Entry, own_entry, pair_in, pairs_from, shared_entry}
 use Rattle.bdb_mkleaves.specs.Units.{group_unit}
 use Rattle.bdb_mkleaves.specs.Placed.{HoldsUnits, IsDatum, IsOneValue, LeafUnits, Placed, PlacedEntry, PlacedPairs, PlacedTree, StandsPlaced, ValueItem}

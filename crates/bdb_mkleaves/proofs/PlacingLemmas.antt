@@ -3,10 +3,8 @@ use Rattle.std.proofs.Common.{◌≡◌, ℕ, ◌+◌, ◌-◌, ◌<◌, ◌≤�
 use Rattle.std.proofs.lemmas.List.{get_or-set_other, get_or-take}
 use Rattle.bdb_places.specs.of_format.declared.kinds.Order.{Order}
 use Rattle.bdb_places.specs.of_format.declared.pages.RecnoItem.{RecnoItem}
-use Rattle.bdb_places.specs.of_format.HeadOf.{is_page_size}
-use Rattle.bdb_places.specs.of_format.Numbers.{byte_at, four_at}
-use Rattle.bdb_places.specs.of_format.Page.{Internal, InternalItem, Listed, RecnoInternal}
-use Rattle.bdb_places.specs.of_format.Reading.{abstract_page, entries_of, internal_item_at, listed, recno_item_at}
+use Rattle.bdb_places.specs.of_format.Terms.{Internal, InternalItem, Listed, RecnoInternal, abstract_page, byte_at, entries_of, four_at, internal_item_at}
+use Rattle.bdb_places.specs.of_format.Terms.{is_page_size, listed, recno_item_at}
 use Rattle.bdb_places.proofs.of_format.SizeLemmas.{size_bounds}
 use Rattle.bdb_law_levels.specs.declared.inner_type.InnerType.{InnerType}
 use Rattle.bdb_law_levels.specs.declared.inner_type.InnerType.TheVariants.{Keyed, Numbered}

@@ -7,9 +7,7 @@ use Rattle.std.proofs.lemmas.Bool.{cases_lt, le-leb, lt-leb}
 use Rattle.std.proofs.lemmas.List.{get_or-append-add, get_or_append_left}
 use Rattle.std.proofs.lemmas.Nat.{div-mul-add}
 use Rattle.bdb_places.specs.of_format.declared.kinds.Order.{Order}
-use Rattle.bdb_places.specs.of_format.HeadOf.{is_page_size}
-use Rattle.bdb_places.specs.of_format.Page.{Chain, Inline, Item}
-use Rattle.bdb_places.specs.of_format.Rows.{page_code}
+use Rattle.bdb_places.specs.of_format.Terms.{Chain, Inline, Item, is_page_size, page_code}
 use Rattle.bdb_places.proofs.of_format.SizeLemmas.{size_bounds}
 use Rattle.bdb_pack.proofs.of_layout.WritingLemmas.{length-leaf_chain, length-leaf_inline}
 use Rattle.bdb_pack.specs.Built.{Built, bytes_of}

@@ -8,9 +8,7 @@ use Rattle.std.proofs.lemmas.List.{append-nil, append_assoc, map-append}
 use Rattle.std.proofs.lemmas.List.Elements.{All-append, All-cons, All-nil, All-push, Contains-append_cases, Contains-append_left}
 use Rattle.std.proofs.lemmas.List.Elements.{Contains-append_right}
 use Rattle.std.proofs.lemmas.Grind.{flat_map-append}
-use Rattle.bdb_places.specs.of_format.Page.{Content}
-use Rattle.bdb_places.specs.of_format.File.{File}
-use Rattle.bdb_places.specs.of_format.Rows.{page_code}
+use Rattle.bdb_places.specs.of_format.Terms.{Content, File, page_code}
 use Rattle.bdb_places.proofs.of_format.ListLemmas.{only_member}
 use Rattle.bdb_places.proofs.of_format.MemberLemmas.{first_member, none_pass, none_passes}
 use Rattle.bdb_pack.specs.of_law_grove.Growing.{IsLater}

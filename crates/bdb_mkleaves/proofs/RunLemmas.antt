@@ -4,9 +4,7 @@ use Rattle.std.specs.List.{All, sum_by}
 use Rattle.std.proofs.lemmas.Bool.{cases_lt}
 use Rattle.std.proofs.lemmas.List.{append_assoc}
 use Rattle.std.proofs.lemmas.List.Sums.{sum_by-append, sum_by-cons}
-use Rattle.bdb_places.specs.of_format.Page.{Content, Inline, Set, Chain, Tree, Unknown}
-use Rattle.bdb_places.specs.of_format.File.{File}
-use Rattle.bdb_places.specs.of_format.Rows.{page_code}
+use Rattle.bdb_places.specs.of_format.Terms.{Chain, Content, File, Inline, Set, Tree, Unknown, page_code}
 use Rattle.bdb_pack.specs.of_law_grove.Growing.{IsLater}
 use Rattle.bdb_pack.specs.of_law_grove.Part.{between}
 use Rattle.bdb_pack.proofs.of_law_grove.ChainLemmas.{between_is, is_between}

@@ -5,9 +5,7 @@ use Rattle.std.specs.List.{flat_map, sum_by}
 use Rattle.std.proofs.lemmas.List.{append_assoc, map-append}
 use Rattle.std.proofs.lemmas.List.Elements.{Contains-append_right}
 use Rattle.std.proofs.lemmas.List.Sums.{sum_by_push}
-use Rattle.bdb_places.specs.of_format.Page.{Tree}
-use Rattle.bdb_places.specs.of_format.File.{File}
-use Rattle.bdb_places.specs.of_format.ContentRows.{is_wrong_set}
+use Rattle.bdb_places.specs.of_format.Terms.{File, Tree, is_wrong_set}
 use Rattle.bdb_places.proofs.of_format.MemberLemmas.{first_member}
 use Rattle.bdb_pack.specs.of_law_grove.Growing.{IsCounted, IsLater}
 use Rattle.bdb_pack.specs.of_law_grove.Part.{between}

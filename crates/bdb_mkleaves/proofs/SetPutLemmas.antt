@@ -8,9 +8,7 @@ use Rattle.std.proofs.lemmas.Grind.{flat_map-append}
 use Rattle.std.proofs.lemmas.List.{append_assoc}
 use Rattle.std.proofs.lemmas.List.Elements.{All-append, All-cons, All-head, All-nil}
 use Rattle.std.proofs.lemmas.List.Sums.{sum_by-cons}
-use Rattle.bdb_places.specs.of_format.Page.{Content, Tree}
-use Rattle.bdb_places.specs.of_format.File.{File}
-use Rattle.bdb_places.specs.of_format.Rows.{page_code}
+use Rattle.bdb_places.specs.of_format.Terms.{Content, File, Tree, page_code}
 use Rattle.bdb_pack.specs.of_law_grove.Growing.{IsCounted, IsLater}
 use Rattle.bdb_pack.specs.of_law_grove.Leaves.{AscendIn, ContentFits, content_pages}
 use Rattle.bdb_pack.specs.of_law_grove.Part.{IsBranch, between}

@@ -3,9 +3,7 @@ use Rattle.std.proofs.Common.{◌≡◌, ℕ, ◌+◌, ◌-◌, ◌<◌, ◌≤�
 use Rattle.std.specs.List.{flat_map}
 use Rattle.std.proofs.lemmas.Bool.{eq-eqb}
 use Rattle.std.proofs.lemmas.List.Elements.{All-cons, All-nil}
-use Rattle.bdb_places.specs.of_format.Page.{Content, Inline, Set, Chain, Tree, Unknown}
-use Rattle.bdb_places.specs.of_format.File.{File, header_in, page_at, type_in}
-use Rattle.bdb_places.specs.of_format.Chains.{joined, pieces_of, value_of}
+use Rattle.bdb_places.specs.of_format.Terms.{Chain, Content, File, Inline, Set, Tree, Unknown, header_in, joined, page_at, pieces_of, type_in, value_of}
 use Rattle.bdb_pack.specs.of_law_grove.Growing.{IsCounted, IsRun}
 use Rattle.bdb_pack.specs.of_law_grove.Leaves.{AscendIn, ChainFits, ContentFits, content_pages}
 use Rattle.bdb_pack.specs.of_law_grove.Part.{IsBranch, between}

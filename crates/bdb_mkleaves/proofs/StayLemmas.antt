@@ -1,7 +1,7 @@
 -- What a pushed unit leaves as it was: the number of the first leaf, and the pages that are no leaves.
 use Rattle.std.proofs.Common.{Bool, ◌≡◌, ℕ, ◌+◌, ◌<◌, ◌≤◌, true, false, List, [], ◌∷◌, ◌++◌, length, arith, refl, sym, ◌∙◌, ap}
 use Rattle.std.proofs.lemmas.List.Elements.{Contains-append_right}
-use Rattle.bdb_places.specs.of_format.File.{File}
+use Rattle.bdb_places.specs.of_format.Terms.{File}
 use Rattle.bdb_places.proofs.of_format.MemberLemmas.{first_member}
 use Rattle.bdb_pack.specs.of_law_grove.Growing.{IsLater}
 use Rattle.bdb_pack.proofs.of_law_grove.AscendLemmas.{ascend_bounds}

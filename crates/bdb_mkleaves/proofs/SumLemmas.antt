@@ -4,10 +4,7 @@ use Rattle.std.proofs.lemmas.Bool.{cases_lt}
 use Rattle.std.proofs.lemmas.List.{get_or_past}
 use Rattle.bdb_places.specs.of_format.declared.kinds.Order.{Order}
 use Rattle.bdb_places.specs.of_format.declared.pages.Header.{Header}
-use Rattle.bdb_places.specs.of_format.Numbers.{byte_at, four_at}
-use Rattle.bdb_places.specs.of_format.Page.{Page}
-use Rattle.bdb_places.specs.of_format.File.{File, header_in, page_at}
-use Rattle.bdb_places.specs.of_format.Reading.{abstract_page, internal_item_at, recno_item_at}
+use Rattle.bdb_places.specs.of_format.Terms.{File, Page, abstract_page, byte_at, four_at, header_in, internal_item_at, page_at, recno_item_at}
 use Rattle.bdb_places.proofs.of_format.PageLemmas.{header_listed}
 use Rattle.bdb_pack.specs.of_law_grove.Growing.{IsSamePage}
 use Rattle.bdb_law_levels.specs.declared.inner_type.InnerType.{InnerType}

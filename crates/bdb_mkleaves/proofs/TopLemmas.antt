@@ -4,8 +4,7 @@ use Rattle.std.proofs.Common.{arith, refl, sym, ◌∙◌, ap, subst, inl, inr, 
 use Rattle.std.specs.List.{AllZip, Contains, flat_map, range_with_len}
 use Rattle.std.proofs.lemmas.List.{append-nil, get_or-take}
 use Rattle.bdb_pack.proofs.ImageLemmas.{page_so_far}
-use Rattle.bdb_places.specs.of_format.File.{header_in, page_at}
-use Rattle.bdb_places.specs.of_format.Reading.{abstract_page}
+use Rattle.bdb_places.specs.of_format.Terms.{abstract_page, header_in, page_at}
 use Rattle.bdb_places.proofs.of_format.MemberLemmas.{in_flat_map}
 use Rattle.bdb_pack.specs.of_law_grove.Growing.{IsLater, IsSamePage}
 use Rattle.bdb_law_levels.specs.declared.inner_type.InnerType.{InnerType}

@@ -7,9 +7,7 @@ use Rattle.std.proofs.lemmas.Grind.{flat_map-append}
 use Rattle.std.proofs.lemmas.List.{append-nil, append_assoc, get_or_default, length-map}
 use Rattle.std.proofs.lemmas.List.Elements.{Contains-append_cases, Contains-append_left, Contains-append_right}
 use Rattle.std.proofs.Math.Dec.{ltb}
-use Rattle.bdb_places.specs.of_format.File.{File}
-use Rattle.bdb_places.specs.of_format.Reading.{entries_of}
-use Rattle.bdb_places.specs.of_format.Rows.{page_code}
+use Rattle.bdb_places.specs.of_format.Terms.{File, entries_of, page_code}
 use Rattle.bdb_places.proofs.of_format.MemberLemmas.{first_member, in_flat_map, later_member, member_cases, member_or_not, no_member, of_flat_map}
 use Rattle.bdb_places.proofs.of_format.ListLemmas.{range_parts}
 use Rattle.bdb_pack.specs.of_law_grove.Growing.{IsLater}

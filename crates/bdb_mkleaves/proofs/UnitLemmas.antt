@@ -9,13 +9,8 @@ use Rattle.std.proofs.lemmas.Grind.{flat_map-append}
 use Rattle.std.proofs.lemmas.List.Elements.{All-append, All-head, All-nil, All-tail}
 use Rattle.std.proofs.lemmas.List.Folds.{list_any_none}
 use Rattle.std.proofs.lemmas.List.Sums.{take_while-cons}
-use Rattle.bdb_places.specs.of_format.Less.{less}
-use Rattle.bdb_places.specs.of_format.Page.{Item}
-use Rattle.bdb_places.specs.of_format.File.{File}
-use Rattle.bdb_places.specs.of_format.Contents.{StoredPair, data_of}
-use Rattle.bdb_places.specs.of_format.ContentRows.{ascends, ascends_from, groups, has_unsorted, is_out_of_order, is_unsorted, live_data, neighbours}
-use Rattle.bdb_places.specs.of_format.ContentRows.{neighbours_from}
-use Rattle.bdb_places.specs.of_format.Lists.{BytesKey, listed_entry, listed_pair}
+use Rattle.bdb_places.specs.of_format.Terms.{BytesKey, File, Item, StoredPair, ascends, ascends_from, data_of, groups, has_unsorted, is_out_of_order}
+use Rattle.bdb_places.specs.of_format.Terms.{is_unsorted, less, listed_entry, listed_pair, live_data, neighbours, neighbours_from}
 use Rattle.bdb_law_levels.specs.Contents.{Follow, FollowFrom, Follows}
 use Rattle.bdb_mkleaves.specs.Units.{entry_unit, group_unit, keyed_units, listed_keyed, listed_record}
 

@@ -1,10 +1,7 @@
 -- What a unit that is put on a leaf leaves behind: its entries there, and pages of its own behind all others. Source: docs/FORMAT.md, "Built trees".
 use Rattle.std.specs.Prelude.{◌≡◌, ◌⊎◌, ℕ, ◌+◌, ◌<◌, ◌≤◌, ◌&&◌, not, if◌then◌else◌, Bool, true, false, List, [], ◌∷◌, ◌++◌, length, map, None}
 use Rattle.std.specs.List.{All, flat_map}
-use Rattle.bdb_places.specs.of_format.HeadOf.{is_page_size}
-use Rattle.bdb_places.specs.of_format.Page.{Content}
-use Rattle.bdb_places.specs.of_format.File.{File}
-use Rattle.bdb_places.specs.of_format.Rows.{page_code}
+use Rattle.bdb_places.specs.of_format.Terms.{Content, File, is_page_size, page_code}
 use Rattle.bdb_pack.specs.of_law_grove.Growing.{IsCounted, IsLater}
 use Rattle.bdb_pack.specs.of_law_grove.Leaves.{AscendIn, ContentFits, content_pages}
 use Rattle.bdb_pack.specs.of_law_grove.Part.{IsBranch, between}

@@ -1,9 +1,7 @@
 -- Trees whose root stands on their first page. Source: docs/FORMAT.md, "Built trees".
 use Rattle.std.specs.Prelude.{◌≡◌, ◌⊎◌, ℕ, ◌+◌, ◌-◌, ◌<◌, ◌≤◌, Bool, true, false, List, [], ◌∷◌, ◌++◌, length, map, None}
 use Rattle.std.specs.List.{All, AllZip, Contains, flat_map, range_with_len, sum_by}
-use Rattle.bdb_places.specs.of_format.File.{File}
-use Rattle.bdb_places.specs.of_format.Numbers.{byte_at, four_at}
-use Rattle.bdb_places.specs.of_format.Rows.{page_code}
+use Rattle.bdb_places.specs.of_format.Terms.{File, byte_at, four_at, page_code}
 use Rattle.bdb_pack.specs.of_law_grove.Growing.{IsCounted, IsLater}
 use Rattle.bdb_pack.specs.of_law_grove.Part.{between}
 use Rattle.bdb_law_levels.specs.declared.inner_type.InnerType.{InnerType}

@@ -5,11 +5,9 @@ use Rattle.std.specs.List.{All, sum_by}
 use Rattle.bdb_places.specs.of_format.declared.kinds.Order.{Order}
 use Rattle.bdb_places.specs.of_format.declared.pages.Header.{Header}
 use Rattle.bdb_places.specs.of_format.declared.pages.RecnoItem.{RecnoItem}
-use Rattle.bdb_places.specs.of_format.Numbers.{byte_at, four_at, overwritten, pad4, spelled}
-use Rattle.bdb_places.specs.of_format.Page.{Content, Inline, Set, Chain, Tree, Unknown, Internal, InternalItem, Listed, Page, RecnoInternal}
-use Rattle.bdb_places.specs.of_format.File.{File, page_at}
-use Rattle.bdb_places.specs.of_format.Reading.{abstract_page, entries_of, is_deleted, offset_of}
-use Rattle.bdb_places.specs.of_format.Rows.{page_code}
+use Rattle.bdb_places.specs.of_format.Terms.{Chain, Content, File, Inline, Internal, InternalItem, Listed, Page, RecnoInternal, Set, Tree, Unknown}
+use Rattle.bdb_places.specs.of_format.Terms.{abstract_page, byte_at, entries_of, four_at, is_deleted, offset_of, overwritten, pad4, page_at, page_code}
+use Rattle.bdb_places.specs.of_format.Terms.{spelled}
 use Rattle.bdb_pack.specs.of_law_grove.Growing.{IsSamePage}
 use Rattle.bdb_law_levels.specs.declared.inner_type.InnerType.{InnerType}
 use Rattle.bdb_law_levels.specs.declared.inner_type.InnerType.TheVariants.{Keyed, Numbered}

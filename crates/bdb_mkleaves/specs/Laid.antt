@@ -5,13 +5,9 @@ use Rattle.std.specs.List.{All, AllZip, Contains, filter, flat_map, list_any, su
 use Rattle.bdb_places.specs.of_format.declared.metadata.BtreeMeta.{BtreeMeta}
 use Rattle.bdb_places.specs.of_format.declared.metadata.FileKind.TheVariants.{Queue}
 use Rattle.bdb_places.specs.of_format.declared.references.Sort.{Sort}
-use Rattle.bdb_places.specs.of_format.Page.{BtreeFields, Content, DupLeaf, Inline, Item, Leaf, Page, RecnoLeaf, Tree}
-use Rattle.bdb_places.specs.of_format.Flags.{btree_kind, counts_records, has_duplicates, is_fixed, is_recno, is_sorted}
-use Rattle.bdb_places.specs.of_format.File.{File, header_in, page_at}
-use Rattle.bdb_places.specs.of_format.References.{has_type}
-use Rattle.bdb_places.specs.of_format.Leaves.{first_or_zero, leaves}
-use Rattle.bdb_places.specs.of_format.Contents.{data_of}
-use Rattle.bdb_places.specs.of_format.ContentRows.{ascends, is_wrong_set}
+use Rattle.bdb_places.specs.of_format.Terms.{BtreeFields, Content, DupLeaf, File, Inline, Item, Leaf, Page, RecnoLeaf, Tree, ascends, btree_kind}
+use Rattle.bdb_places.specs.of_format.Terms.{counts_records, data_of, first_or_zero, has_duplicates, has_type, header_in, is_fixed, is_recno, is_sorted}
+use Rattle.bdb_places.specs.of_format.Terms.{is_wrong_set, leaves, page_at}
 use Rattle.bdb_pack.specs.of_law_grove.Part.{IsBranch, IsPart, has_wrong_place}
 use Rattle.bdb_pack.specs.of_law_grove.Leaves.{Ascend, ContentFits, FilledLeaf, SetFits, pages_held}
 use Rattle.bdb_law_levels.specs.Links.{leaf_types}

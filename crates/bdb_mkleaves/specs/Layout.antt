@@ -1,11 +1,7 @@
 -- How the units of a tree are laid out on its pages, and that a tree stands so. Source: docs/FORMAT.md, "Built trees" and "Stored values".
 use Rattle.std.specs.Prelude.{◌≡◌, ℕ, ◌<◌, Bool, true, false, List, length, map}
 use Rattle.std.specs.List.{All, Contains, flat_map}
-use Rattle.bdb_places.specs.of_format.File.{File, file_of, page_bytes}
-use Rattle.bdb_places.specs.of_format.HeadOf.{head_of}
-use Rattle.bdb_places.specs.of_format.Page.{Content, Tree}
-use Rattle.bdb_places.specs.of_format.ContentRows.{is_wrong_set}
-use Rattle.bdb_places.specs.of_format.Reading.{entries_of as count_on}
+use Rattle.bdb_places.specs.of_format.Terms.{Content, File, Tree, entries_of as count_on, file_of, head_of, is_wrong_set, page_bytes}
 use Rattle.bdb_pack.specs.of_law_grove.Growing.{IsCounted, IsLater}
 use Rattle.bdb_pack.specs.of_law_grove.Part.{between}
 use Rattle.bdb_law_levels.specs.Nodes.{Node}

@@ -1,7 +1,7 @@
 -- The leaves of a tree as pages of its lowest level, over which others are laid. Source: docs/FORMAT.md, "Built trees".
 use Rattle.std.specs.Prelude.{ℕ, ◌<◌, if◌then◌else◌, Bool, List, [], ◌∷◌, length}
 use Rattle.std.specs.List.{Contains}
-use Rattle.bdb_places.specs.of_format.Page.{Content, Inline}
+use Rattle.bdb_places.specs.of_format.Terms.{Content, Inline}
 use Rattle.bdb_law_levels.specs.Nodes.{Node}
 use Rattle.bdb_pack.specs.Built.{Built}
 use Rattle.bdb_mkleaves.specs.LeafEntries.{Entry, count_of}

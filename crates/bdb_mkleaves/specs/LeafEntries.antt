@@ -3,15 +3,9 @@ use Rattle.std.specs.Prelude.{◌≡◌, ℕ, ◌+◌, ◌-◌, ◌%◌, ◌/◌
 use Rattle.std.specs.List.{flat_map, sum_by}
 use Rattle.bdb_places.specs.of_format.declared.kinds.Order.{Order}
 use Rattle.bdb_places.specs.of_format.declared.pages.Header.{Header}
-use Rattle.bdb_places.specs.of_format.Numbers.{byte_at, four_at, overwritten, pad4, spelled}
-use Rattle.bdb_places.specs.of_format.Page.{Content, Item, Leaf, RecnoLeaf, DupLeaf, Listed, Page}
-use Rattle.bdb_places.specs.of_format.File.{File, page_at}
-use Rattle.bdb_places.specs.of_format.Reading.{abstract_page, index_end}
-use Rattle.bdb_places.specs.of_format.References.{contents_in, is_shared_key, no_item}
-use Rattle.bdb_places.specs.of_format.Chains.{value_of}
-use Rattle.bdb_places.specs.of_format.Contents.{StoredPair, entries_in, pairs_in}
-use Rattle.bdb_places.specs.of_format.Rows.{page_code}
-use Rattle.bdb_places.specs.of_format.Spelling.{leaf_bytes}
+use Rattle.bdb_places.specs.of_format.Terms.{Content, DupLeaf, File, Item, Leaf, Listed, Page, RecnoLeaf, StoredPair, abstract_page, byte_at, contents_in}
+use Rattle.bdb_places.specs.of_format.Terms.{entries_in, four_at, index_end, is_shared_key, leaf_bytes, no_item, overwritten, pad4, page_at, page_code}
+use Rattle.bdb_places.specs.of_format.Terms.{pairs_in, spelled, value_of}
 use Rattle.bdb_pack.specs.Built.{Built, bytes_of, with_page, with_zeros}
 use Rattle.bdb_pack.specs.Items.{HasPlace, IsWritable, OnLeaf}
 use Rattle.bdb_pack.specs.Placing.{IsBegun, begun_page, high_free_of}

@@ -1,10 +1,7 @@
 -- A level of internal pages that is laid over the pages of a level, one item for each. Source: docs/FORMAT.md, "Internal items" and "Built trees".
 use Rattle.std.specs.Prelude.{◌≡◌, ℕ, ◌+◌, ◌-◌, ◌<◌, ◌≤◌, Bool, true, false, List, [], ◌∷◌, ◌++◌, length, map, get_or, None}
 use Rattle.std.specs.List.{Contains, flat_map, range_with_len, sum_by}
-use Rattle.bdb_places.specs.of_format.Page.{Content, Inline, Set, Chain, Tree, Unknown}
-use Rattle.bdb_places.specs.of_format.File.{File}
-use Rattle.bdb_places.specs.of_format.Reading.{abstract_page, entries_of}
-use Rattle.bdb_places.specs.of_format.Rows.{page_code}
+use Rattle.bdb_places.specs.of_format.Terms.{Chain, Content, File, Inline, Set, Tree, Unknown, abstract_page, entries_of, page_code}
 use Rattle.bdb_pack.specs.of_law_grove.Growing.{IsLater, IsSamePage}
 use Rattle.bdb_law_levels.specs.declared.inner_type.InnerType.{InnerType}
 use Rattle.bdb_law_levels.specs.declared.inner_type.InnerType.TheVariants.{Keyed, Numbered}

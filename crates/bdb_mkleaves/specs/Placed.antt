@@ -4,15 +4,9 @@ use Rattle.std.specs.List.{All, flat_map, list_any, sum_by}
 use Rattle.bdb_places.specs.of_format.declared.kinds.Kind.TheVariants.{Btree, Recno}
 use Rattle.bdb_places.specs.of_format.declared.kinds.Order.{Order}
 use Rattle.bdb_places.specs.of_format.declared.metadata.BtreeMeta.{BtreeMeta}
-use Rattle.bdb_places.specs.of_format.Page.{BtreeFields, Content, Inline, Set, Chain, Tree, Unknown, Item}
-use Rattle.bdb_places.specs.of_format.Flags.{is_recno}
-use Rattle.bdb_places.specs.of_format.File.{File, page_at}
-use Rattle.bdb_places.specs.of_format.Chains.{value_of}
-use Rattle.bdb_places.specs.of_format.Leaves.{leaves}
-use Rattle.bdb_places.specs.of_format.Contents.{StoredPair, data_of, pairs_of}
-use Rattle.bdb_places.specs.of_format.ContentRows.{ascends, has_duplicate, has_unsorted, has_wrong_record, has_wrong_set, is_out_of_order, is_wrong_set}
-use Rattle.bdb_places.specs.of_format.ContentRows.{neighbours}
-use Rattle.bdb_places.specs.of_format.Lists.{list_of}
+use Rattle.bdb_places.specs.of_format.Terms.{BtreeFields, Chain, Content, File, Inline, Item, Set, StoredPair, Tree, Unknown, ascends, data_of, has_duplicate}
+use Rattle.bdb_places.specs.of_format.Terms.{has_unsorted, has_wrong_record, has_wrong_set, is_out_of_order, is_recno, is_wrong_set, leaves, list_of}
+use Rattle.bdb_places.specs.of_format.Terms.{neighbours, page_at, pairs_of, value_of}
 use Rattle.bdb_law_levels.specs.Contents.{BeginsWith, Follow, pairs_below}
 use Rattle.bdb_law_levels.specs.Nodes.{Node}
 use Rattle.bdb_mkleaves.specs.LeafEntries.{Entry, IsLeafIn, entry_cost, own_entry, shared_entry}

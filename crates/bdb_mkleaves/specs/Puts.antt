@@ -1,9 +1,7 @@
 -- A value that is put on the last leaf: in its item, or in a chain behind all pages. Source: docs/FORMAT.md, "Stored values".
 use Rattle.std.specs.Prelude.{◌≡◌, ℕ, ◌+◌, ◌/◌, ◌<◌, ◌≤◌, Bool, List, [], ◌∷◌, ◌++◌, length, None}
 use Rattle.bdb_places.specs.of_format.declared.kinds.Order.{Order}
-use Rattle.bdb_places.specs.of_format.Page.{Item, Content, Inline, Set, Chain, Tree, Unknown}
-use Rattle.bdb_places.specs.of_format.File.{File}
-use Rattle.bdb_places.specs.of_format.Rows.{page_code}
+use Rattle.bdb_places.specs.of_format.Terms.{Chain, Content, File, Inline, Item, Set, Tree, Unknown, page_code}
 use Rattle.bdb_pack.specs.of_law_grove.Growing.{IsCounted, IsLater}
 use Rattle.bdb_pack.specs.of_law_grove.Part.{between}
 use Rattle.bdb_pack.specs.Built.{Built, bytes_of, file_so_far}

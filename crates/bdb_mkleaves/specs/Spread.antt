@@ -2,7 +2,7 @@
 -- Source: docs/FORMAT.md, "Built trees" and "Stored values".
 use Rattle.std.specs.Prelude.{◌≡◌, ℕ, zero, suc, ◌+◌, ◌-◌, ◌/◌, ◌<◌, nat_le, if◌then◌else◌, Bool, true, false, List, [], ◌∷◌, ◌++◌, length, map}
 use Rattle.std.specs.List.{AllZip, sum_by}
-use Rattle.bdb_places.specs.of_format.Numbers.{pad4}
+use Rattle.bdb_places.specs.of_format.Terms.{pad4}
 use Rattle.bdb_law_levels.specs.declared.inner_type.InnerType.{InnerType}
 use Rattle.bdb_law_levels.specs.declared.inner_type.InnerType.TheVariants.{Keyed, Numbered}
 use Rattle.bdb_law_levels.specs.Nodes.{Node}

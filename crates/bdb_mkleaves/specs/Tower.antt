@@ -1,9 +1,7 @@
 -- Levels that are laid over pages of a tree up to one with a single page, its root. Source: docs/FORMAT.md, "Built trees".
 use Rattle.std.specs.Prelude.{◌≡◌, ℕ, ◌+◌, ◌-◌, ◌<◌, ◌≤◌, Bool, true, List, [], ◌∷◌, ◌++◌, length, map, None}
 use Rattle.std.specs.List.{Contains, flat_map, range_with_len}
-use Rattle.bdb_places.specs.of_format.File.{File, page_at}
-use Rattle.bdb_places.specs.of_format.Reading.{entries_of}
-use Rattle.bdb_places.specs.of_format.Rows.{page_code}
+use Rattle.bdb_places.specs.of_format.Terms.{File, entries_of, page_at, page_code}
 use Rattle.bdb_pack.specs.of_law_grove.Growing.{IsLater, IsSamePage}
 use Rattle.bdb_law_levels.specs.declared.inner_type.InnerType.{InnerType}
 use Rattle.bdb_law_levels.specs.Nodes.{IsTower, Node}

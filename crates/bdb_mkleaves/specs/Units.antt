@@ -3,13 +3,8 @@ use Rattle.std.specs.Prelude.{ℕ, ◌+◌, ◌-◌, ◌/◌, ◌<◌, ◌≤◌
 use Rattle.std.specs.List.{enumerate_from, filter, flat_map, sum_by}
 use Rattle.bdb_places.specs.of_format.declared.kinds.Kind.{Kind}
 use Rattle.bdb_places.specs.of_format.declared.kinds.Kind.TheVariants.{Btree, Recno, Hash, Queue}
-use Rattle.bdb_places.specs.of_format.Numbers.{pad4}
-use Rattle.bdb_places.specs.of_format.Page.{Item}
-use Rattle.bdb_places.specs.of_format.File.{File, page_at}
-use Rattle.bdb_places.specs.of_format.Chains.{value_of}
-use Rattle.bdb_places.specs.of_format.Contents.{StoredPair, data_of, entries_in, pairs_of}
-use Rattle.bdb_places.specs.of_format.ContentRows.{groups}
-use Rattle.bdb_places.specs.of_format.Lists.{BytesKey, ListKey, NumberKey}
+use Rattle.bdb_places.specs.of_format.Terms.{BytesKey, File, Item, ListKey, NumberKey, StoredPair, data_of, entries_in, groups, pad4, page_at, pairs_of}
+use Rattle.bdb_places.specs.of_format.Terms.{value_of}
 
 -- a key with all its data, or a record and whether it's deleted
 pub data TreeUnit : Type 0 where

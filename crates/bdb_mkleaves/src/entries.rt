@@ -1,6 +1,5 @@
 ghost use Rattle.std.specs.Prelude.{ℕ, ◌≡◌, ◌<◌, ◌^◌, ◌++◌, ◌∷◌, [], IfOk, IsTrue, List, length};
-ghost use Rattle.bdb_places.specs.of_format.HeadOf.{is_page_size};
-ghost use Rattle.bdb_places.specs.of_format.Spelling.{leaf_bytes};
+ghost use Rattle.bdb_places.specs.of_format.Terms.{is_page_size, leaf_bytes};
 ghost use Rattle.bdb_pack.specs.of_layout.Seen.{leaf_item_seen};
 ghost use Rattle.bdb_pack.specs.Built.{AreWhole, bytes_of, with_page};
 ghost use Rattle.bdb_pack.specs.OnPages.{IsBegunOn, with_item_on};

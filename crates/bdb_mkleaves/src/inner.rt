@@ -1,6 +1,5 @@
 ghost use Rattle.std.specs.Prelude.{ℕ, ◌≡◌, ◌<◌, ◌++◌, ◌∷◌, [], IfOk, IsTrue, List, length};
-ghost use Rattle.bdb_places.specs.of_format.HeadOf.{is_page_size};
-ghost use Rattle.bdb_places.specs.of_format.Spelling.{internal_bytes, recno_bytes};
+ghost use Rattle.bdb_places.specs.of_format.Terms.{internal_bytes, is_page_size, recno_bytes};
 ghost use Rattle.bdb_pack.specs.of_layout.Seen.{internal_item_seen};
 ghost use Rattle.bdb_law_levels.specs.Nodes.{Node, keyed_item, numbered_item};
 ghost use Rattle.bdb_law_levels.specs.declared.inner_type.InnerType.TheVariants.{Keyed, Numbered};

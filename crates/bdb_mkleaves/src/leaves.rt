@@ -1,5 +1,5 @@
 ghost use Rattle.std.specs.Prelude.{◌≡◌, ◌+◌, ◌-◌, ◌*◌, ◌/◌, ◌≤◌, ◌<◌, ◌^◌, [], IfOk, IsTrue, length};
-ghost use Rattle.bdb_places.specs.of_format.HeadOf.{is_page_size};
+ghost use Rattle.bdb_places.specs.of_format.Terms.{is_page_size};
 ghost use Rattle.bdb_pack.specs.of_layout.Seen.{leaf_item_seen};
 ghost use Rattle.bdb_pack.specs.Built.{AreWhole, bytes_of};
 ghost use Rattle.bdb_mkleaves.specs.LeafEntries.{CanShareKey, CanTakeEntry, own_entry, room_of, shared_key};

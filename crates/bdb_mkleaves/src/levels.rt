@@ -1,6 +1,5 @@
 ghost use Rattle.std.specs.Prelude.{ℕ, ◌≡◌, ◌<◌, ◌∷◌, [], IfOk, IsTrue, List, length};
-ghost use Rattle.bdb_places.specs.of_format.HeadOf.{is_page_size};
-ghost use Rattle.bdb_places.specs.of_format.Page.{Content};
+ghost use Rattle.bdb_places.specs.of_format.Terms.{Content, is_page_size};
 ghost use Rattle.bdb_pack.specs.of_layout.Seen.{key_seen};
 ghost use Rattle.bdb_law_levels.specs.Nodes.{Node};
 ghost use Rattle.bdb_law_levels.specs.declared.inner_type.InnerType.TheVariants.{Keyed, Numbered};

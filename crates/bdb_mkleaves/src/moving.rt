@@ -1,5 +1,5 @@
 ghost use Rattle.std.specs.Prelude.{◌≡◌, ◌<◌, ◌≤◌, IfOk, IsTrue, length, replicate};
-ghost use Rattle.bdb_places.specs.of_format.HeadOf.{is_page_size};
+ghost use Rattle.bdb_places.specs.of_format.Terms.{is_page_size};
 ghost use Rattle.bdb_pack.specs.Built.{AreWhole, bytes_of, with_page};
 ghost use Rattle.bdb_mkleaves.specs.LeafEntries.{with_field};
 ghost use Rattle.bdb_mkleaves.specs.Leaves.{AreSomeLeaves};

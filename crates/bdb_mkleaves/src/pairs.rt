@@ -1,6 +1,6 @@
 ghost use Rattle.std.specs.Prelude.{◌≡◌, ◌∷◌, ◌≤◌, ◌<◌, ◌^◌, IfOk, IsTrue, List, length};
 ghost use Rattle.std.specs.List.{All};
-ghost use Rattle.bdb_places.specs.of_format.HeadOf.{is_page_size};
+ghost use Rattle.bdb_places.specs.of_format.Terms.{is_page_size};
 ghost use Rattle.bdb_pack.specs.Built.{bytes_of};
 ghost use Rattle.bdb_places.specs.Places.{values_seen};
 ghost use Rattle.bdb_mkleaves.specs.LeafEntries.{room_of};

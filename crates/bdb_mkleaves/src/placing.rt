@@ -1,7 +1,7 @@
 ghost use Rattle.std.specs.Prelude.{◌≡◌, ◌+◌, ◌<◌, ◌≤◌, IfOk, IsTrue, List, length, replicate};
 ghost use Rattle.std.specs.List.{Contains, sum_by};
 ghost use Rattle.bdb_mkleaves.specs.declared.levels.Child.{Child as Below};
-ghost use Rattle.bdb_places.specs.of_format.HeadOf.{is_page_size};
+ghost use Rattle.bdb_places.specs.of_format.Terms.{is_page_size};
 ghost use Rattle.bdb_law_levels.specs.Nodes.{Node};
 ghost use Rattle.bdb_pack.specs.Built.{AreWhole, bytes_of};
 ghost use Rattle.bdb_mkleaves.specs.Finished.{HasTowerOn, IsRootPlaced};

@@ -1,6 +1,6 @@
 ghost use Rattle.std.specs.Prelude.{◌+◌, ◌≤◌, ◌<◌, IfOk, IsTrue, List, length};
 ghost use Rattle.std.specs.List.{Contains};
-ghost use Rattle.bdb_places.specs.of_format.HeadOf.{is_page_size};
+ghost use Rattle.bdb_places.specs.of_format.Terms.{is_page_size};
 ghost use Rattle.bdb_law_levels.specs.Nodes.{Node};
 ghost use Rattle.bdb_pack.specs.Built.{AreWhole};
 ghost use Rattle.bdb_mkleaves.specs.Inner.{child_cost};

@@ -1,5 +1,5 @@
 ghost use Rattle.std.specs.Prelude.{◌≡◌, ◌≢◌, IfOk, IsTrue};
-ghost use Rattle.bdb_places.specs.of_format.HeadOf.{is_page_size};
+ghost use Rattle.bdb_places.specs.of_format.Terms.{is_page_size};
 ghost use Rattle.bdb_mkleaves.specs.Filled.{AreSomeFilled, IsPushed};
 ghost use Rattle.bdb_mkleaves.specs.Runs.{IsShort};
 ghost use Rattle.bdb_mkleaves.specs.Units.{EntryUnit};

@@ -7,10 +7,9 @@ use Rattle.std.proofs.Math.Nat.{div-le_self}
 use Rattle.std.proofs.lemmas.Bool.{eq-eqb, le-ltb, ne_eqb}
 use Rattle.bdb_text_format.specs.of_format.declared.metadata.QueueMeta.{QueueMeta}
 use Rattle.bdb_text_format.specs.of_format.declared.settings.Settings.{Settings}
-use Rattle.bdb_text_format.specs.of_format.Rows.{queue_code, queue_rows}
-use Rattle.bdb_text_format.specs.of_format.Table.{first_row}
+use Rattle.bdb_text_format.specs.of_format.Terms.{first_row, queue_code, queue_rows}
 use Rattle.bdb_text_format.specs.declared.pairs.Pair.{Pair}
-use Rattle.bdb_text_format.specs.Pairs.{AscendFrom}
+use Rattle.bdb_text_format.specs.Terms.{AscendFrom}
 use Rattle.bdb_law_join.specs.of_pack.Built.{Built}
 use Rattle.bdb_mkqueue.specs.Building.{HasRoom, IsQueueBuilt, IsQueueOn, KeepsFirst, SaysQueue}
 use Rattle.bdb_mkqueue.specs.Layout.{queue_meta, queue_size, slots_of}

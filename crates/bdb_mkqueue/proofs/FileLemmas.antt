@@ -3,9 +3,7 @@ use Rattle.std.proofs.Common.{◌≡◌, ℕ, ◌-◌, ◌^◌, ◌<◌, ◌≤�
 use Rattle.std.proofs.Common.{arith, sym, ◌∙◌, ap, subst}
 use Rattle.bdb_text_format.specs.of_format.declared.metadata.QueueMeta.{QueueMeta}
 use Rattle.bdb_text_format.specs.of_format.declared.settings.Settings.{Settings}
-use Rattle.bdb_text_format.specs.of_format.HeadOf.{is_page_size}
-use Rattle.bdb_text_format.specs.of_format.Reading.{is_zero, queue_fields}
-use Rattle.bdb_text_format.specs.of_format.Spelling.{queue_bytes}
+use Rattle.bdb_text_format.specs.of_format.Terms.{is_page_size, is_zero, queue_bytes, queue_fields}
 use Rattle.bdb_text_format.proofs.of_format.SizeLemmas.{size_bounds}
 use Rattle.bdb_text_format.specs.declared.pairs.Pair.{Pair}
 use Rattle.bdb_law_join.specs.of_pack.Built.{AreWhole, Built, bytes_of, joined_pages, with_zeros, written_over}

@@ -10,15 +10,11 @@ use Rattle.std.proofs.lemmas.List.{append-nil}
 use Rattle.std.proofs.lemmas.List.FromFn.{get_or-map-range_with_len, length-map-range_with_len}
 use Rattle.bdb_text_format.specs.of_format.declared.kinds.Order.{Order}
 use Rattle.bdb_text_format.specs.of_format.declared.metadata.QueueMeta.{QueueMeta}
-use Rattle.bdb_text_format.specs.of_format.Numbers.{has_bit, pad4}
-use Rattle.bdb_text_format.specs.of_format.Page.{QueueFields}
-use Rattle.bdb_text_format.specs.of_format.Reading.{abstract_page}
-use Rattle.bdb_text_format.specs.of_format.File.{File, page_at}
-use Rattle.bdb_text_format.specs.of_format.Lists.{ListKey, NumberKey, is_record, list_of, listed_slot, page_records, queue_list, record_number, slot_at}
-use Rattle.bdb_text_format.specs.of_format.Spelling.{zeros}
+use Rattle.bdb_text_format.specs.of_format.Terms.{File, ListKey, NumberKey, QueueFields, abstract_page, has_bit, is_record, list_of, listed_slot, pad4}
+use Rattle.bdb_text_format.specs.of_format.Terms.{page_at, page_records, queue_list, record_number, slot_at, zeros}
 use Rattle.bdb_text_format.proofs.of_format.ListLemmas.{range_more, range_parts}
 use Rattle.bdb_text_format.proofs.of_format.SpellingLemmas.{byte_at-in, slice_range-in}
-use Rattle.bdb_text_format.specs.Pairs.{AscendFrom, listed, listed_key, number_of}
+use Rattle.bdb_text_format.specs.Terms.{AscendFrom, listed, listed_key, number_of}
 use Rattle.bdb_text_format.specs.declared.pairs.Pair.{Pair}
 use Rattle.bdb_text_format.specs.declared.pairs.Key.{Key}
 use Rattle.bdb_text_format.specs.declared.pairs.Key.TheVariants.{Bytes, Number}

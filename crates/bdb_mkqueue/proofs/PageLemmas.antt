@@ -10,12 +10,8 @@ use Rattle.std.proofs.lemmas.List.{length-replicate, length-set, replicate-appen
 use Rattle.std.proofs.lemmas.List.Folds.{list_all_at}
 use Rattle.bdb_text_format.specs.of_format.declared.kinds.Order.{Order}
 use Rattle.bdb_text_format.specs.of_format.declared.pages.Header.{Header}
-use Rattle.bdb_text_format.specs.of_format.Numbers.{byte_at, four_at, overwritten, pad4}
-use Rattle.bdb_text_format.specs.of_format.Page.{Queue, Zero}
-use Rattle.bdb_text_format.specs.of_format.Reading.{abstract_page, header_of, is_zero, page_type}
-use Rattle.bdb_text_format.specs.of_format.Rows.{identity_rows, is_queue_type, queue_code}
-use Rattle.bdb_text_format.specs.of_format.Spelling.{header_bytes, zeros}
-use Rattle.bdb_text_format.specs.of_format.Table.{first_row}
+use Rattle.bdb_text_format.specs.of_format.Terms.{Queue, Zero, abstract_page, byte_at, first_row, four_at, header_bytes, header_of, identity_rows}
+use Rattle.bdb_text_format.specs.of_format.Terms.{is_queue_type, is_zero, overwritten, pad4, page_type, queue_code, zeros}
 use Rattle.bdb_text_format.proofs.of_format.GraphLemmas.{typed_page, zero_page}
 use Rattle.bdb_law_join.proofs.of_image.CodeLemmas.{code_by}
 use Rattle.bdb_law_join.proofs.of_pack.AddedLemmas.{zeros_are}

@@ -4,7 +4,7 @@ use Rattle.std.proofs.Common.{arith, refl, sym, ◌∙◌, ap, inl, inr}
 use Rattle.std.specs.Prelude.{◌==◌, is_some}
 use Rattle.std.proofs.lemmas.Bool.{cases_Bool, eq-eqb, ne_eqb}
 use Rattle.bdb_text_format.specs.declared.pairs.Pair.{Pair}
-use Rattle.bdb_text_format.specs.Pairs.{AscendFrom, number_of}
+use Rattle.bdb_text_format.specs.Terms.{AscendFrom, number_of}
 use Rattle.bdb_mkqueue.specs.Layout.{record_of}
 use Rattle.bdb_mkqueue.specs.Lists.{next_number}
 

@@ -7,7 +7,7 @@ use Rattle.std.proofs.lemmas.Bool.{cases_lt}
 use Rattle.bdb_text_format.proofs.of_format.ListLemmas.{passes_here}
 use Rattle.bdb_text_format.proofs.of_format.MemberLemmas.{in_map, in_range, none_pass, of_map, of_range}
 use Rattle.bdb_text_format.specs.declared.pairs.Pair.{Pair}
-use Rattle.bdb_text_format.specs.Pairs.{AscendFrom, number_of}
+use Rattle.bdb_text_format.specs.Terms.{AscendFrom, number_of}
 use Rattle.bdb_law_join.proofs.of_pack.StandingLemmas.{map_same}
 use Rattle.bdb_mkqueue.specs.Layout.{page_of_record, queue_size, record_of, slot_of, slots_of}
 use Rattle.bdb_mkqueue.specs.Lists.{next_number}

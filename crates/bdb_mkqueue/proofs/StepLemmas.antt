@@ -12,12 +12,11 @@ use Rattle.std.proofs.lemmas.List.Elements.{All-tail, All-take}
 use Rattle.std.proofs.lemmas.List.FromFn.{get_or-map-range_with_len, length-map-range_with_len}
 use Rattle.bdb_text_format.specs.of_format.declared.kinds.Order.{Order}
 use Rattle.bdb_text_format.specs.of_format.declared.metadata.QueueMeta.{QueueMeta}
-use Rattle.bdb_text_format.specs.of_format.Numbers.{overwritten, pad4}
-use Rattle.bdb_text_format.specs.of_format.Spelling.{header_bytes, zeros}
+use Rattle.bdb_text_format.specs.of_format.Terms.{header_bytes, overwritten, pad4, zeros}
 use Rattle.bdb_text_format.proofs.of_format.SpellingLemmas.{length-overwritten}
 use Rattle.bdb_text_format.specs.declared.pairs.Pair.{Pair}
 use Rattle.bdb_text_format.specs.declared.pairs.Key.TheVariants.{Number}
-use Rattle.bdb_text_format.specs.Pairs.{AscendFrom, number_of}
+use Rattle.bdb_text_format.specs.Terms.{AscendFrom, number_of}
 use Rattle.bdb_law_join.specs.of_pack.Built.{AreWhole, Built, bytes_of, with_page, written_over}
 use Rattle.bdb_law_join.proofs.of_pack.CutLemmas.{suc-times, written_whole}
 use Rattle.bdb_law_join.proofs.of_pack.HeaderLemmas.{length-header}

@@ -7,16 +7,9 @@ use Rattle.bdb_text_format.specs.of_format.declared.kinds.Order.{Order}
 use Rattle.bdb_text_format.specs.of_format.declared.metadata.FileKind.TheVariants.{Queue}
 use Rattle.bdb_text_format.specs.of_format.declared.metadata.Head.{Head}
 use Rattle.bdb_text_format.specs.of_format.declared.metadata.QueueMeta.{QueueMeta}
-use Rattle.bdb_text_format.specs.of_format.Table.{first_row}
-use Rattle.bdb_text_format.specs.of_format.Page.{Meta, QueueFields}
-use Rattle.bdb_text_format.specs.of_format.Numbers.{four_at, spelled}
-use Rattle.bdb_text_format.specs.of_format.Reading.{abstract_page}
-use Rattle.bdb_text_format.specs.of_format.Rows.{form_code, metadata_rows, queue_rows}
-use Rattle.bdb_text_format.specs.of_format.Spelling.{common_bytes, queue_bytes, zeros}
-use Rattle.bdb_text_format.specs.of_format.HeadOf.{head_of, head_rows, is_page_size}
-use Rattle.bdb_text_format.specs.of_format.File.{file_of, page_at, page_bytes}
-use Rattle.bdb_text_format.specs.of_format.Databases.{Database}
-use Rattle.bdb_text_format.specs.of_format.Verdict.{faults_in, or_else, tail_faults}
+use Rattle.bdb_text_format.specs.of_format.Terms.{Database, Meta, QueueFields, abstract_page, common_bytes, faults_in, file_of, first_row, form_code, four_at}
+use Rattle.bdb_text_format.specs.of_format.Terms.{head_of, head_rows, is_page_size, metadata_rows, or_else, page_at, page_bytes, queue_bytes, queue_rows}
+use Rattle.bdb_text_format.specs.of_format.Terms.{spelled, tail_faults, zeros}
 use Rattle.bdb_text_format.proofs.of_format.SpellingLemmas.{length-spelled, number_at-in}
 use Rattle.bdb_text_format.proofs.of_format.VerdictLemmas.{none_in, none_is_first_row}
 use Rattle.bdb_text_format.proofs.of_format.FileLemmas.{kind_is, last_page, page_is}

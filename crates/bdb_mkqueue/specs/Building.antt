@@ -2,16 +2,10 @@
 use Rattle.std.specs.Prelude.{◌≡◌, ℕ, ◌+◌, ◌-◌, ◌*◌, ◌<◌, ◌≤◌, nat_lt, if◌then◌else◌, List, ◌∷◌, ◌++◌, length, replicate, None}
 use Rattle.bdb_text_format.specs.of_format.declared.metadata.QueueMeta.{QueueMeta}
 use Rattle.bdb_text_format.specs.of_format.declared.settings.Settings.{Settings}
-use Rattle.bdb_text_format.specs.of_format.Numbers.{four_at, overwritten, pad4}
-use Rattle.bdb_text_format.specs.of_format.Page.{QueueFields}
-use Rattle.bdb_text_format.specs.of_format.Reading.{abstract_page, queue_fields}
-use Rattle.bdb_text_format.specs.of_format.Rows.{queue_code, queue_rows}
-use Rattle.bdb_text_format.specs.of_format.Spelling.{header_bytes, zeros}
-use Rattle.bdb_text_format.specs.of_format.Table.{first_row}
-use Rattle.bdb_text_format.specs.of_format.File.{File, page_at}
-use Rattle.bdb_text_format.specs.of_format.Lists.{list_of}
+use Rattle.bdb_text_format.specs.of_format.Terms.{File, QueueFields, abstract_page, first_row, four_at, header_bytes, list_of, overwritten, pad4, page_at}
+use Rattle.bdb_text_format.specs.of_format.Terms.{queue_code, queue_fields, queue_rows, zeros}
 use Rattle.bdb_text_format.specs.declared.pairs.Pair.{Pair}
-use Rattle.bdb_text_format.specs.Pairs.{listed}
+use Rattle.bdb_text_format.specs.Terms.{listed}
 use Rattle.bdb_law_join.specs.of_pack.Built.{Built, bytes_of, with_page}
 use Rattle.bdb_mkqueue.specs.Layout.{queue_meta, queue_page, queue_size, records_header, slots_of}
 

@@ -5,11 +5,9 @@ use Rattle.bdb_text_format.specs.of_format.declared.kinds.Order.{Order}
 use Rattle.bdb_text_format.specs.of_format.declared.metadata.QueueMeta.{QueueMeta}
 use Rattle.bdb_text_format.specs.of_format.declared.pages.Header.{Header}
 use Rattle.bdb_text_format.specs.of_format.declared.settings.Settings.{Settings}
-use Rattle.bdb_text_format.specs.of_format.Numbers.{pad4}
-use Rattle.bdb_text_format.specs.of_format.Rows.{records_per_page}
-use Rattle.bdb_text_format.specs.of_format.Spelling.{header_bytes, zeros}
+use Rattle.bdb_text_format.specs.of_format.Terms.{header_bytes, pad4, records_per_page, zeros}
 use Rattle.bdb_text_format.specs.declared.pairs.Pair.{Pair}
-use Rattle.bdb_text_format.specs.Pairs.{number_of}
+use Rattle.bdb_text_format.specs.Terms.{number_of}
 use Rattle.bdb_mkqueue.specs.Lists.{first_number, next_number}
 
 -- the metadata of a queue

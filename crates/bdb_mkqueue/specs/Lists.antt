@@ -3,7 +3,7 @@ use Rattle.std.specs.Prelude.{◌≡◌, ℕ, ◌+◌, ◌<◌, ◌^◌, List, [
 use Rattle.std.specs.List.{All}
 use Rattle.bdb_text_format.specs.of_format.declared.settings.Settings.{Settings}
 use Rattle.bdb_text_format.specs.declared.pairs.Pair.{Pair}
-use Rattle.bdb_text_format.specs.Pairs.{AscendFrom, number_of}
+use Rattle.bdb_text_format.specs.Terms.{AscendFrom, number_of}
 
 -- the number after that of a record fits its field
 abbrev pub HasNext : Pair → Type 0

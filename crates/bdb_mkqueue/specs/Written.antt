@@ -3,15 +3,9 @@
 use Rattle.std.specs.Prelude.{◌≡◌, ℕ, ◌-◌, List, [], ◌∷◌, length, None}
 use Rattle.bdb_text_format.specs.of_format.declared.metadata.QueueMeta.{QueueMeta}
 use Rattle.bdb_text_format.specs.of_format.declared.settings.Settings.{Settings}
-use Rattle.bdb_text_format.specs.of_format.Page.{QueueFields}
-use Rattle.bdb_text_format.specs.of_format.Reading.{queue_fields}
-use Rattle.bdb_text_format.specs.of_format.Spelling.{queue_bytes}
-use Rattle.bdb_text_format.specs.of_format.File.{file_of}
-use Rattle.bdb_text_format.specs.of_format.Lists.{list_of}
-use Rattle.bdb_text_format.specs.of_format.Databases.{databases}
-use Rattle.bdb_text_format.specs.of_format.Verdict.{faults_of, verdict_of}
+use Rattle.bdb_text_format.specs.of_format.Terms.{QueueFields, databases, faults_of, file_of, list_of, queue_bytes, queue_fields, verdict_of}
 use Rattle.bdb_text_format.specs.declared.pairs.Pair.{Pair}
-use Rattle.bdb_text_format.specs.Pairs.{listed}
+use Rattle.bdb_text_format.specs.Terms.{listed}
 use Rattle.bdb_law_join.specs.of_pack.Built.{Built, joined_pages, with_page}
 use Rattle.bdb_law_join.specs.Written.{AreLegal}
 use Rattle.bdb_mkqueue.specs.Building.{IsQueueBuilt}

@@ -1,10 +1,9 @@
 ghost use Rattle.std.specs.Prelude.{◌≡◌, ◌+◌, ◌-◌, ◌*◌, ◌<◌, ◌≤◌, ◌^◌, ◌∷◌, IfOk, length, take};
 ghost use Rattle.std.specs.List.{All};
-ghost use Rattle.bdb_text_format.specs.of_format.Numbers.{pad4};
+ghost use Rattle.bdb_text_format.specs.of_format.Terms.{pad4};
 ghost use Rattle.bdb_mkqueue.specs.Building.{HasRoom, IsQueueBuilt, IsQueueOn, KeepsFirst, reached, with_header, with_more, with_record};
 ghost use Rattle.bdb_mkqueue.specs.Layout.{queue_meta};
-ghost use Rattle.bdb_text_format.specs.Pairs.{AscendFrom};
-ghost use Rattle.bdb_text_format.specs.Placed.{pairs_of, slice_seen};
+ghost use Rattle.bdb_text_format.specs.Terms.{AscendFrom, pairs_of, slice_seen};
 ghost use Rattle.bdb_mkqueue.specs.Lists.{HasLength, HasNext, IsQueueList, first_number, next_number};
 
 use crate::records::{page_of_record, put_record, slot_of};

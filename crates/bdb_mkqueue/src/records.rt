@@ -1,5 +1,5 @@
 ghost use Rattle.std.specs.Prelude.{◌≡◌, ◌+◌, ◌*◌, ◌<◌, ◌≤◌, ◌^◌, ◌∷◌, length};
-ghost use Rattle.bdb_text_format.specs.of_format.Numbers.{overwritten, pad4};
+ghost use Rattle.bdb_text_format.specs.of_format.Terms.{overwritten, pad4};
 ghost use Rattle.bdb_mkqueue.specs.Layout.{page_of_record, slot_of};
 
 use bdb_law_join::slot_size;

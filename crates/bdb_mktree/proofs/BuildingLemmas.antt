@@ -8,8 +8,7 @@ use Rattle.std.proofs.lemmas.List.Elements.{All-head, All-nil, All-push, All-tai
 use Rattle.bdb_mkleaves.proofs.of_pack.ImageLemmas.{counted_so_far, page_so_far}
 use Rattle.bdb_text_format.specs.of_format.declared.kinds.Kind.{Kind}
 use Rattle.bdb_text_format.specs.of_format.declared.settings.Settings.{Settings}
-use Rattle.bdb_text_format.specs.of_format.File.{File}
-use Rattle.bdb_text_format.specs.of_format.HeadOf.{is_page_size}
+use Rattle.bdb_text_format.specs.of_format.Terms.{File, is_page_size}
 use Rattle.bdb_text_format.proofs.of_format.MemberLemmas.{first_member}
 use Rattle.bdb_text_format.proofs.of_format.ListLemmas.{map_joined}
 use Rattle.bdb_mkleaves.specs.of_law_grove.Growing.{IsLater}

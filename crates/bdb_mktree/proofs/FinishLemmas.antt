@@ -9,11 +9,8 @@ use Rattle.bdb_text_format.specs.of_format.declared.kinds.Kind.TheVariants.{Btre
 use Rattle.bdb_text_format.specs.of_format.declared.kinds.Order.{Order}
 use Rattle.bdb_text_format.specs.of_format.declared.metadata.BtreeMeta.{BtreeMeta}
 use Rattle.bdb_text_format.specs.of_format.declared.settings.Settings.{Settings}
-use Rattle.bdb_text_format.specs.of_format.Page.{BtreeFields}
-use Rattle.bdb_text_format.specs.of_format.File.{File}
-use Rattle.bdb_text_format.specs.of_format.Flags.{btree_kind, counts_records, has_duplicates, is_fixed, is_recno, is_sorted}
-use Rattle.bdb_text_format.specs.of_format.ContentRows.{ascends}
-use Rattle.bdb_text_format.specs.of_format.Databases.{settings_of}
+use Rattle.bdb_text_format.specs.of_format.Terms.{BtreeFields, File, ascends, btree_kind, counts_records, has_duplicates, is_fixed, is_recno, is_sorted}
+use Rattle.bdb_text_format.specs.of_format.Terms.{settings_of}
 use Rattle.bdb_text_format.proofs.of_format.ListLemmas.{map_joined}
 use Rattle.bdb_mkleaves.specs.of_law_grove.Growing.{IsCounted, IsLater}
 use Rattle.bdb_mkleaves.specs.of_law_grove.Part.{IsPart, between}

@@ -10,9 +10,9 @@ use Rattle.std.proofs.lemmas.Option.{get_or_from_slice_get, none-some, same_Some
 use Rattle.std.proofs.lemmas.List.Elements.{All-drop, All-head, All-tail}
 use Rattle.std.proofs.lemmas.List.Sums.{prefix_len-le-length}
 use Rattle.bdb_text_format.specs.of_format.declared.kinds.Kind.{Kind}
-use Rattle.bdb_text_format.specs.of_format.Lists.{BytesKey, NumberKey}
+use Rattle.bdb_text_format.specs.of_format.Terms.{BytesKey, NumberKey}
 use Rattle.bdb_text_format.proofs.of_format.LessLemmas.{eq_same, eq_self}
-use Rattle.bdb_text_format.specs.Pairs.{AscendFrom, keys_of, listed, listed_key, number_of, unlined, unlined_pairs, values_of}
+use Rattle.bdb_text_format.specs.Terms.{AscendFrom, keys_of, listed, listed_key, number_of, unlined, unlined_pairs, values_of}
 use Rattle.bdb_text_format.specs.declared.pairs.Pair.{Pair}
 use Rattle.bdb_text_format.specs.declared.pairs.TextPair.{TextPair}
 use Rattle.bdb_text_format.specs.declared.pairs.Key.{Key}

@@ -9,11 +9,10 @@ use Rattle.std.proofs.lemmas.Bool.{and_parts, ltb-true, or_cases}
 use Rattle.std.proofs.lemmas.List.Elements.{All-append, All-cons, All-head, All-nil, All-tail}
 use Rattle.bdb_text_format.specs.of_format.declared.kinds.Kind.TheVariants.{Btree, Recno}
 use Rattle.bdb_text_format.specs.of_format.declared.settings.Settings.{Settings}
-use Rattle.bdb_text_format.specs.of_format.ContentRows.{ascends}
-use Rattle.bdb_text_format.specs.of_format.Less.{less}
+use Rattle.bdb_text_format.specs.of_format.Terms.{ascends, less}
 use Rattle.bdb_text_format.proofs.of_format.LessLemmas.{eq_same, less_self}
 use Rattle.bdb_text_format.specs.declared.pairs.Pair.{Pair}
-use Rattle.bdb_text_format.specs.Pairs.{AscendFrom, number_of}
+use Rattle.bdb_text_format.specs.Terms.{AscendFrom, number_of}
 use Rattle.bdb_mkleaves.specs.Runs.{IsShort}
 use Rattle.bdb_mkleaves.specs.Units.{EntryUnit, KeyedUnit, TreeUnit, key_of}
 use Rattle.bdb_mktree.specs.Lists.{AreKeysOf, HasBytes, IsKeyFor, IsTreeList, IsPairFor, bytes_in, is_further, is_in_order, keyed_units, may_follow, missing}

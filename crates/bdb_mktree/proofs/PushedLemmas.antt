@@ -5,9 +5,7 @@ use Rattle.std.proofs.lemmas.Bool.{and_parts}
 use Rattle.std.proofs.lemmas.List.{append-nil, append_assoc, map-append}
 use Rattle.std.proofs.lemmas.List.Elements.{All-head, All-tail}
 use Rattle.bdb_text_format.specs.of_format.declared.settings.Settings.{Settings}
-use Rattle.bdb_text_format.specs.of_format.ContentRows.{ascends, ascends_from}
-use Rattle.bdb_text_format.specs.of_format.Less.{less}
-use Rattle.bdb_text_format.specs.of_format.Lists.{ListKey}
+use Rattle.bdb_text_format.specs.of_format.Terms.{ListKey, ascends, ascends_from, less}
 use Rattle.bdb_mkleaves.specs.of_pack.Built.{Built}
 use Rattle.bdb_mkleaves.specs.Leaves.{KeepsBefore}
 use Rattle.bdb_mkleaves.specs.Moved.{first_leaf}

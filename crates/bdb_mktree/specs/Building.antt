@@ -3,12 +3,7 @@ use Rattle.std.specs.Prelude.{◌≡◌, ◌⊎◌, ℕ, ◌+◌, ◌<◌, ◌�
 use Rattle.std.specs.List.{All, flat_map}
 use Rattle.bdb_text_format.specs.of_format.declared.metadata.BtreeMeta.{BtreeMeta}
 use Rattle.bdb_text_format.specs.of_format.declared.settings.Settings.{Settings}
-use Rattle.bdb_text_format.specs.of_format.Page.{BtreeFields}
-use Rattle.bdb_text_format.specs.of_format.Rows.{page_code}
-use Rattle.bdb_text_format.specs.of_format.File.{File}
-use Rattle.bdb_text_format.specs.of_format.HeadOf.{is_page_size}
-use Rattle.bdb_text_format.specs.of_format.Lists.{ListKey}
-use Rattle.bdb_text_format.specs.of_format.Databases.{settings_of}
+use Rattle.bdb_text_format.specs.of_format.Terms.{BtreeFields, File, ListKey, is_page_size, page_code, settings_of}
 use Rattle.bdb_mkleaves.specs.of_law_grove.Growing.{IsCounted, IsLater}
 use Rattle.bdb_mkleaves.specs.of_law_grove.Part.{IsPart, between}
 use Rattle.bdb_mkleaves.specs.of_pack.Built.{Built, bytes_of, file_so_far}

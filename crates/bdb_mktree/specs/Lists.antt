@@ -6,12 +6,12 @@ use Rattle.std.specs.Str.{bytes_eq}
 use Rattle.bdb_text_format.specs.of_format.declared.kinds.Kind.{Kind}
 use Rattle.bdb_text_format.specs.of_format.declared.kinds.Kind.TheVariants.{Btree, Recno, Hash, Queue}
 use Rattle.bdb_text_format.specs.of_format.declared.settings.Settings.{Settings}
-use Rattle.bdb_text_format.specs.of_format.Less.{less}
+use Rattle.bdb_text_format.specs.of_format.Terms.{less}
 use Rattle.bdb_text_format.specs.declared.pairs.Pair.{Pair}
 use Rattle.bdb_text_format.specs.declared.pairs.Key.{Key}
 use Rattle.bdb_text_format.specs.declared.pairs.Key.TheVariants.{Bytes, Number}
 use Rattle.bdb_text_format.specs.declared.pairs.TextPair.{TextPair}
-use Rattle.bdb_text_format.specs.Pairs.{AscendFrom, number_of}
+use Rattle.bdb_text_format.specs.Terms.{AscendFrom, number_of}
 use Rattle.bdb_mkleaves.specs.Placed.{values_in}
 use Rattle.bdb_mkleaves.specs.Runs.{IsShort}
 use Rattle.bdb_mkleaves.specs.Units.{TreeUnit, KeyedUnit, EntryUnit}

@@ -5,7 +5,7 @@ use Rattle.bdb_text_format.specs.of_places.Places.{values_seen}
 use Rattle.bdb_text_format.specs.of_format.declared.kinds.Kind.{Kind}
 use Rattle.bdb_text_format.specs.of_format.declared.kinds.Kind.TheVariants.{Btree, Recno, Hash, Queue}
 use Rattle.bdb_text_format.specs.of_format.declared.settings.Settings.{Settings}
-use Rattle.bdb_text_format.specs.of_format.ContentRows.{ascends}
+use Rattle.bdb_text_format.specs.of_format.Terms.{ascends}
 use Rattle.bdb_mkleaves.specs.Runs.{IsShort}
 use Rattle.bdb_mkleaves.specs.Units.{TreeUnit, KeyedUnit, EntryUnit, key_of}
 use Rattle.bdb_mkleaves.specs.declared.leaf_type.LeafType.{LeafType}

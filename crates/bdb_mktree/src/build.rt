@@ -1,7 +1,6 @@
 ghost use Rattle.std.specs.Prelude.{◌≡◌, ◌≤◌, ◌<◌, [], IfOk, drop, length};
 ghost use Rattle.std.specs.List.{All};
-ghost use Rattle.bdb_text_format.specs.Pairs.{AscendFrom, listed};
-ghost use Rattle.bdb_text_format.specs.Placed.{pairs_of, slice_seen};
+ghost use Rattle.bdb_text_format.specs.Terms.{AscendFrom, listed, pairs_of, slice_seen};
 ghost use Rattle.bdb_mktree.specs.Building.{ArePushed, CanBePushed, IsTreeBuilt};
 ghost use Rattle.bdb_mktree.specs.Lists.{AreKeysOf, HasBytes, IsTreeList, IsRecordAt, keyed_units, record_units, units_in};
 ghost use Rattle.bdb_mktree.specs.Units.{IsTreeKind, unit_seen};

@@ -1,8 +1,7 @@
 ghost use Rattle.std.specs.Prelude.{◌≡◌, ◌≤◌, ◌<◌, ◌-◌, Some, length, true};
 ghost use Rattle.std.specs.List.{All, prefix_len};
 ghost use Rattle.bdb_text_format.specs.of_places.Places.{values_seen};
-ghost use Rattle.bdb_text_format.specs.Pairs.{keys_of};
-ghost use Rattle.bdb_text_format.specs.Placed.{key_seen, pairs_of, slice_seen};
+ghost use Rattle.bdb_text_format.specs.Terms.{key_seen, keys_of, pairs_of, slice_seen};
 ghost use Rattle.bdb_mkleaves.specs.Units.{KeyedUnit};
 ghost use Rattle.bdb_mktree.specs.Lists.{HasBytes, IsRunAt, has_key, has_key_at};
 

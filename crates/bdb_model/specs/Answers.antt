@@ -3,13 +3,8 @@ use Rattle.std.specs.Prelude.{ℕ, Bool, true, List, [], ◌++◌, Option, Some,
 use Rattle.std.specs.List.{flat_map}
 use Rattle.bdb_text_format.specs.of_format.declared.kinds.Fault.{Fault}
 use Rattle.bdb_text_format.specs.of_format.declared.kinds.Unsupported.{Unsupported}
-use Rattle.bdb_text_format.specs.of_format.Flags.{kind_of}
-use Rattle.bdb_text_format.specs.of_format.Databases.{Database}
-use Rattle.bdb_text_format.specs.of_format.Lists.{ListKey}
-use Rattle.bdb_text_format.specs.TextSpelling.{spelling}
-use Rattle.bdb_text_format.specs.LineEnd.{line}
-use Rattle.bdb_text_format.specs.Written.{key_bytes, kind_text}
-use Rattle.bdb_text_format.specs.of_format.FaultTable.{fault_name, unsupported_name}
+use Rattle.bdb_text_format.specs.of_format.Terms.{Database, ListKey, fault_name, kind_of, unsupported_name}
+use Rattle.bdb_text_format.specs.Terms.{key_bytes, kind_text, line, spelling}
 
 -- a status, and what is written to the output and to the error sink
 pub record Answer : Type 0 where

@@ -3,7 +3,7 @@ use Rattle.std.specs.Prelude.{◌≡◌, ◌⊎◌, ℕ, List, Option, None, Som
 use Rattle.std.specs.Borrow.{MutBor}
 use Rattle.std.proofs.Common.{inl, inr}
 use Rattle.std.specs.Io.KnownBytes.{Appends, Keeps}
-use Rattle.bdb_text_format.specs.of_format.Faults.{AppendsPrefix, Rose}
+use Rattle.bdb_text_format.specs.of_format.Terms.{AppendsPrefix, Rose}
 
 -- the bytes that are left or were written, where they are told, and the count of faults, before the call and after it
 pub record Change : Type 0 where

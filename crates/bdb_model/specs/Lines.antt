@@ -1,6 +1,6 @@
 -- The lines of the error sink that don't come from an answer.
 use Rattle.std.specs.Prelude.{ℕ, List, codes}
-use Rattle.bdb_text_format.specs.LineEnd.{line}
+use Rattle.bdb_text_format.specs.Terms.{line}
 
 abbrev pub read_fault_line : List ℕ
 read_fault_line = line (codes "read fault")

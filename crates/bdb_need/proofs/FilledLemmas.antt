@@ -16,8 +16,7 @@ use Rattle.bdb_need.proofs.SectionLemmas.{filled_before}
 use Rattle.bdb_need.specs.TreePages.{unlined_pairs, tree_pages}
 use Rattle.bdb_mkhash.specs.of_text_format.declared.pairs.TextPair.{TextPair}
 use Rattle.bdb_mkhash.specs.of_text_format.declared.sections.Section.{Section}
-use Rattle.bdb_mkhash.specs.of_text_format.Pairs.{AscendFrom, number_of}
-use Rattle.bdb_mkhash.specs.of_text_format.Written.{holds_records}
+use Rattle.bdb_mkhash.specs.of_text_format.Terms.{AscendFrom, holds_records, number_of}
 use Rattle.bdb_settle.specs.Loaded.{filled_pairs, filled_section, loaded}
 use Rattle.bdb_settle.proofs.FillingLemmas.{as_they_are}
 use Rattle.bdb_need.specs.Need.{AreSettled, IsListOf, IsSettled, master_pages, master_settings, name_in, name_pair, need_of, section_pages, sized}

@@ -5,8 +5,7 @@ use Rattle.std.specs.Option.{option_map}
 use Rattle.std.proofs.lemmas.Option.{get_or_from_slice_get, slice_get_within}
 use Rattle.bdb_mkhash.specs.of_text_format.declared.pairs.TextPair.{TextPair}
 use Rattle.bdb_mkhash.specs.of_text_format.declared.lent.PairRef.{PairRef}
-use Rattle.bdb_mkhash.specs.of_text_format.Placed.{key_seen, pair_seen}
-use Rattle.bdb_mkhash.specs.of_text_format.Pairs.{AscendFrom, number_of}
+use Rattle.bdb_mkhash.specs.of_text_format.Terms.{AscendFrom, key_seen, number_of, pair_seen}
 use Rattle.bdb_mkqueue.specs.Layout.{queue_size}
 use Rattle.bdb_mkqueue.specs.Lists.{next_number}
 use Rattle.bdb_mkqueue.proofs.RecordLemmas.{next_low}

@@ -12,7 +12,7 @@ use Rattle.std.proofs.lemmas.Option.{get_or_from_slice_get, slice_get_within}
 use Rattle.bdb_mkhash.specs.of_format.declared.settings.Settings.{Settings}
 use Rattle.bdb_mkhash.specs.of_text_format.declared.pairs.Pair.{Pair}
 use Rattle.bdb_mkhash.specs.of_text_format.declared.pairs.TextPair.{TextPair}
-use Rattle.bdb_mkhash.specs.of_text_format.Pairs.{AscendFrom, number_of}
+use Rattle.bdb_mkhash.specs.of_text_format.Terms.{AscendFrom, number_of}
 use Rattle.bdb_mkhash.specs.of_mkleaves.Spread.{own_pages, pages_over, tree_size}
 use Rattle.bdb_mkhash.specs.of_mkleaves.Units.{EntryUnit, TreeUnit, chain_pages, unit_cost}
 use Rattle.bdb_mkhash.specs.of_mkleaves.declared.leaf_type.LeafType.TheVariants.{Records}

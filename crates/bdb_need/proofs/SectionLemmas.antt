@@ -9,11 +9,10 @@ use Rattle.bdb_mkhash.specs.of_format.declared.kinds.Kind.TheVariants.{Btree, Re
 use Rattle.bdb_mkhash.specs.of_format.declared.settings.Settings.{Settings}
 use Rattle.bdb_mkhash.specs.of_text_format.declared.pairs.Pair.{Pair}
 use Rattle.bdb_mkhash.specs.of_text_format.declared.pairs.TextPair.{TextPair}
-use Rattle.bdb_mkhash.specs.of_text_format.Pairs.{AscendFrom}
+use Rattle.bdb_mkhash.specs.of_text_format.Terms.{AscendFrom, holds_records}
 use Rattle.bdb_mkhash.specs.of_mkleaves.Runs.{IsShort}
 use Rattle.bdb_mkhash.specs.of_mktree.Lists.{AreKeysOf, HasBytes, IsTreeList, IsPairFor, keyed_units, units_in}
 use Rattle.bdb_mkhash.specs.of_mktree.Units.{IsShortUnit, IsTreeKind}
-use Rattle.bdb_mkhash.specs.of_text_format.Written.{holds_records}
 use Rattle.bdb_settle.specs.Loaded.{filled_pair, filled_pairs, filled_value, has_length}
 use Rattle.bdb_settle.proofs.FillingLemmas.{as_they_are, value_as_is}
 use Rattle.bdb_mkhash.proofs.of_mktree.OrderLemmas.{keys_fit, units_fit}

@@ -6,15 +6,12 @@ use Rattle.bdb_mkhash.specs.of_format.declared.kinds.Kind.{Kind}
 use Rattle.bdb_mkhash.specs.of_format.declared.kinds.Kind.TheVariants.{Btree, Recno, Hash, Queue}
 use Rattle.bdb_mkhash.specs.of_format.declared.kinds.Order.TheVariants.{Little}
 use Rattle.bdb_mkhash.specs.of_format.declared.settings.Settings.{Settings}
-use Rattle.bdb_mkhash.specs.of_format.Databases.{plain_settings}
-use Rattle.bdb_mkhash.specs.of_format.HeadOf.{is_page_size}
-use Rattle.bdb_mkhash.specs.of_format.Numbers.{pad4}
-use Rattle.bdb_mkhash.specs.of_format.Rows.{records_per_page}
+use Rattle.bdb_mkhash.specs.of_format.Terms.{is_page_size, pad4, plain_settings, records_per_page}
 use Rattle.bdb_mkhash.specs.of_text_format.declared.pairs.Pair.{Pair}
 use Rattle.bdb_mkhash.specs.of_text_format.declared.pairs.Key.TheVariants.{Bytes}
 use Rattle.bdb_mkhash.specs.of_text_format.declared.pairs.TextPair.{TextPair}
 use Rattle.bdb_mkhash.specs.of_text_format.declared.sections.Section.{Section}
-use Rattle.bdb_mkhash.specs.of_text_format.Pairs.{AscendFrom}
+use Rattle.bdb_mkhash.specs.of_text_format.Terms.{AscendFrom}
 use Rattle.bdb_mkhash.specs.of_mkleaves.Runs.{IsShort}
 use Rattle.bdb_mkhash.specs.of_mktree.Lists.{IsTreeList}
 use Rattle.bdb_mkhash.specs.Buckets.{table_size, table_units}

@@ -1,6 +1,6 @@
 ghost use Rattle.std.specs.Prelude.{◌≡◌, ◌+◌, ◌≤◌, ◌*◌, ◌^◌, IfOk, IsTrue, length};
 ghost use Rattle.std.specs.List.{All, sum_by};
-ghost use Rattle.bdb_mkhash.specs.of_format.HeadOf.{is_page_size};
+ghost use Rattle.bdb_mkhash.specs.of_format.Terms.{is_page_size};
 ghost use Rattle.bdb_mkhash.specs.of_places.Places.{values_seen};
 ghost use Rattle.bdb_mkhash.specs.of_mkleaves.Runs.{IsShort};
 ghost use Rattle.bdb_mkhash.specs.of_mkleaves.Spread.{leaves_and_levels, set_pages, set_type};

@@ -1,8 +1,8 @@
 ghost use Rattle.std.specs.Prelude.{◌≡◌, ◌+◌, ◌≤◌, ◌<◌, ◌*◌, ◌^◌, IfOk, IsTrue, drop, length};
 ghost use Rattle.std.specs.List.{All};
-ghost use Rattle.bdb_mkhash.specs.of_format.HeadOf.{is_page_size};
+ghost use Rattle.bdb_mkhash.specs.of_format.Terms.{is_page_size};
 ghost use Rattle.bdb_mkhash.specs.of_places.Places.{values_seen};
-ghost use Rattle.bdb_mkhash.specs.of_text_format.Placed.{pairs_of};
+ghost use Rattle.bdb_mkhash.specs.of_text_format.Terms.{pairs_of};
 ghost use Rattle.bdb_mkhash.specs.of_mkleaves.Runs.{IsShort};
 ghost use Rattle.bdb_mkhash.specs.of_mkleaves.Spread.{own_pages, tree_size};
 ghost use Rattle.bdb_mkhash.specs.of_mkleaves.Units.{KeyedUnit, has_own_tree};

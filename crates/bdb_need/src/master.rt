@@ -1,7 +1,7 @@
 ghost use Rattle.std.specs.Prelude.{◌≡◌, ◌<◌, ◌^◌, IfOk, IsTrue, map};
 ghost use Rattle.std.specs.List.{All};
-ghost use Rattle.bdb_mkhash.specs.of_format.HeadOf.{is_page_size};
-ghost use Rattle.bdb_mkhash.specs.of_text_format.Placed.{pair_seen};
+ghost use Rattle.bdb_mkhash.specs.of_format.Terms.{is_page_size};
+ghost use Rattle.bdb_mkhash.specs.of_text_format.Terms.{pair_seen};
 ghost use Rattle.bdb_mkhash.specs.of_mkleaves.Runs.{IsShort};
 ghost use Rattle.bdb_need.specs.Need.{master_pages, master_settings, name_in, name_pair};
 

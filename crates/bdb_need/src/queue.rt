@@ -1,9 +1,7 @@
 ghost use Rattle.std.specs.Prelude.{◌≡◌, ◌+◌, ◌-◌, ◌≤◌, ◌<◌, ◌^◌, IsTrue};
-ghost use Rattle.bdb_mkhash.specs.of_format.HeadOf.{is_page_size};
-ghost use Rattle.bdb_mkhash.specs.of_format.Numbers.{pad4};
-ghost use Rattle.bdb_mkhash.specs.of_format.Rows.{records_per_page};
+ghost use Rattle.bdb_mkhash.specs.of_format.Terms.{is_page_size, pad4, records_per_page};
 ghost use Rattle.bdb_mkqueue.specs.Layout.{queue_size};
-ghost use Rattle.bdb_mkhash.specs.of_text_format.Pairs.{AscendFrom};
+ghost use Rattle.bdb_mkhash.specs.of_text_format.Terms.{AscendFrom};
 ghost use Rattle.bdb_need.specs.TreePages.{unlined_pairs};
 
 use bdb_mkhash::{Settings, TextPairs, number_of, records_per_page};

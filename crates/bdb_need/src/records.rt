@@ -1,11 +1,10 @@
 ghost use Rattle.std.specs.Prelude.{◌≡◌, ◌<◌, ◌^◌, Bool, IsTrue};
 ghost use Rattle.std.specs.List.{All};
-ghost use Rattle.bdb_mkhash.specs.of_format.HeadOf.{is_page_size};
+ghost use Rattle.bdb_mkhash.specs.of_format.Terms.{is_page_size};
 ghost use Rattle.bdb_mkhash.specs.of_mkleaves.Runs.{IsShort};
 ghost use Rattle.bdb_mkhash.specs.of_mkleaves.Spread.{tree_size};
 ghost use Rattle.bdb_mkhash.specs.of_mkleaves.declared.leaf_type.LeafType.TheVariants.{Records};
-ghost use Rattle.bdb_mkhash.specs.of_text_format.Pairs.{AscendFrom};
-ghost use Rattle.bdb_mkhash.specs.of_text_format.Placed.{slice_seen};
+ghost use Rattle.bdb_mkhash.specs.of_text_format.Terms.{AscendFrom, slice_seen};
 ghost use Rattle.bdb_mkhash.specs.of_mktree.Lists.{record_units};
 ghost use Rattle.bdb_need.specs.Counting.{values_in};
 ghost use Rattle.bdb_need.specs.TreePages.{unlined_pairs};

@@ -1,6 +1,6 @@
 ghost use Rattle.std.specs.Prelude.{◌≡◌, ◌+◌, ◌<◌, ◌^◌, IfOk, IsTrue, map};
 ghost use Rattle.std.specs.List.{All, sum_by};
-ghost use Rattle.bdb_mkhash.specs.of_format.HeadOf.{is_page_size};
+ghost use Rattle.bdb_mkhash.specs.of_format.Terms.{is_page_size};
 ghost use Rattle.bdb_need.specs.Need.{AreSettled, IsListOf, IsSettled, list_pages, need_of, section_pages, sized};
 ghost use Rattle.bdb_need.specs.TreePages.{unlined_pairs};
 ghost use Rattle.bdb_settle.specs.Loaded.{filled_pairs, filled_section};

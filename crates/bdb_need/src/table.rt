@@ -1,7 +1,7 @@
 ghost use Rattle.std.specs.Prelude.{◌≡◌, ◌+◌, ◌<◌, ◌≤◌, ◌^◌, IfOk, IsTrue, length};
 ghost use Rattle.std.specs.List.{All, sum_by};
-ghost use Rattle.bdb_mkhash.specs.of_format.HeadOf.{is_page_size};
-ghost use Rattle.bdb_mkhash.specs.of_text_format.Placed.{pairs_of};
+ghost use Rattle.bdb_mkhash.specs.of_format.Terms.{is_page_size};
+ghost use Rattle.bdb_mkhash.specs.of_text_format.Terms.{pairs_of};
 ghost use Rattle.bdb_mkhash.specs.of_mktree.Lists.{HasBytes, keyed_units};
 ghost use Rattle.bdb_mkhash.specs.of_mktree.Units.{IsShortUnit};
 ghost use Rattle.bdb_mkhash.specs.Buckets.{buckets_of, spread_bucket, table_size, table_units};

@@ -1,5 +1,5 @@
 ghost use Rattle.std.specs.Prelude.{◌≡◌, ◌≤◌, ◌<◌, ◌^◌, IfOk, IsTrue};
-ghost use Rattle.bdb_mkhash.specs.of_format.HeadOf.{is_page_size};
+ghost use Rattle.bdb_mkhash.specs.of_format.Terms.{is_page_size};
 ghost use Rattle.bdb_mkhash.specs.of_mkleaves.Spread.{tree_size};
 ghost use Rattle.bdb_mkhash.specs.of_mktree.Lists.{IsTreeList, units_in};
 ghost use Rattle.bdb_mkhash.specs.of_mktree.Units.{IsTreeKind, leaf_type_of};

@@ -4,19 +4,15 @@ use Rattle.std.specs.List.{Contains}
 use Rattle.bdb_format.specs.declared.kinds.Kind.TheVariants.{Queue}
 use Rattle.bdb_format.specs.declared.kinds.Order.{Order}
 use Rattle.bdb_format.specs.declared.settings.Settings.{Settings}
-use Rattle.bdb_format.specs.Databases.{Database, btree_settings, databases, recno_settings, settings_of}
-use Rattle.bdb_format.specs.File.{file_of}
-use Rattle.bdb_format.specs.Flags.{is_recno}
-use Rattle.bdb_format.specs.HeadOf.{head_of}
-use Rattle.bdb_format.specs.Lists.{ListKey, BytesKey, NumberKey, list_of}
-use Rattle.bdb_format.specs.Page.{Metadata, BtreeFields, HashFields, QueueFields}
+use Rattle.bdb_format.specs.Terms.{BtreeFields, BytesKey, Database, HashFields, ListKey, Metadata, NumberKey, QueueFields, btree_settings, databases, file_of}
+use Rattle.bdb_format.specs.Terms.{head_of, is_recno, list_of, recno_settings, settings_of}
 use Rattle.bdb_format.proofs.MemberLemmas.{of_map}
 use Rattle.bdb_mkfile.specs.of_text_format.declared.pairs.Pair.{Pair}
 use Rattle.bdb_mkfile.specs.of_text_format.declared.pairs.Key.{Key}
 use Rattle.bdb_mkfile.specs.of_text_format.declared.pairs.Key.TheVariants.{Bytes, Number}
 use Rattle.bdb_mkfile.specs.of_text_format.declared.pairs.TextPair.{TextPair}
 use Rattle.bdb_mkfile.specs.of_text_format.declared.sections.Section.{Section}
-use Rattle.bdb_mkfile.specs.of_text_format.Pairs.{listed, listed_key}
+use Rattle.bdb_mkfile.specs.of_text_format.Terms.{listed, listed_key}
 use Rattle.bdb_mkfile.specs.of_settle.Loaded.{loaded, loaded_section, unnumbered}
 use Rattle.bdb_mkfile.specs.of_need.TreePages.{unlined_pairs}
 use Rattle.bdb_law_kept.specs.of_text.WrittenLaw.{pair_in}

@@ -3,13 +3,11 @@ use Rattle.std.proofs.Common.{◌≡◌, ℕ, ◌*◌, List, [], ◌∷◌, map,
 use Rattle.std.specs.List.{All, AllZip, filter}
 use Rattle.std.proofs.lemmas.List.Elements.{All-append, All-head, All-map, All-tail}
 use Rattle.bdb_format.specs.declared.settings.Settings.{Settings}
-use Rattle.bdb_format.specs.Databases.{Database, databases}
-use Rattle.bdb_format.specs.File.{file_of}
+use Rattle.bdb_format.specs.Terms.{Database, databases, file_of}
 use Rattle.bdb_format.proofs.ListLemmas.{all_of}
 use Rattle.bdb_format.proofs.MemberLemmas.{of_filter}
 use Rattle.bdb_mkfile.specs.of_text_format.declared.sections.Section.{Section}
-use Rattle.bdb_mkfile.specs.of_text_format.Pairs.{listed}
-use Rattle.bdb_mkfile.specs.of_text_format.Written.{header_lines}
+use Rattle.bdb_mkfile.specs.of_text_format.Terms.{header_lines, listed}
 use Rattle.bdb_mkfile.specs.of_settle.Loaded.{loaded, loaded_section}
 use Rattle.bdb_mkfile.specs.of_need.Need.{need_of}
 use Rattle.bdb_mkfile.proofs.of_need.NeedLemmas.{listed_again}

@@ -8,15 +8,13 @@ use Rattle.bdb_format.specs.declared.kinds.Kind.{Kind}
 use Rattle.bdb_format.specs.declared.kinds.Kind.TheVariants.{Btree, Recno, Hash, Queue}
 use Rattle.bdb_format.specs.declared.metadata.BtreeMeta.{BtreeMeta}
 use Rattle.bdb_format.specs.declared.settings.Settings.{Settings}
-use Rattle.bdb_format.specs.ContentRows.{fields_in}
-use Rattle.bdb_format.specs.Databases.{Database, databases, databases_under, is_name, named_database}
-use Rattle.bdb_format.specs.File.{File, file_of, page_at}
-use Rattle.bdb_format.specs.Master.{master_in, master_pairs, named_by}
+use Rattle.bdb_format.specs.Terms.{Database, File, databases, databases_under, fields_in, file_of, is_name, master_in, master_pairs, named_by, named_database}
+use Rattle.bdb_format.specs.Terms.{page_at}
 use Rattle.bdb_format.proofs.MemberLemmas.{first_member, is_empty, later_member, of_filter, of_flat_map, of_map}
 use Rattle.bdb_law_kept.proofs.of_databases.NamedLemmas.{with_name}
 use Rattle.bdb_mkfile.specs.of_text_format.declared.pairs.TextPair.{TextPair}
 use Rattle.bdb_mkfile.specs.of_text_format.declared.sections.Section.{Section}
-use Rattle.bdb_mkfile.specs.of_text_format.Written.{is_queue}
+use Rattle.bdb_mkfile.specs.of_text_format.Terms.{is_queue}
 use Rattle.bdb_mkfile.specs.of_settle.declared.load_error.LoadError.{LoadError}
 use Rattle.bdb_mkfile.specs.of_settle.declared.load_error.LoadError.TheVariants.{RecordTooLong, QueueAmongNames}
 use Rattle.bdb_mkfile.specs.of_settle.LoadErrors.{is_among_names, is_too_wide, load_error, pair_errors, section_errors, sooner, where_so}

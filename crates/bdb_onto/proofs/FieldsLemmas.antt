@@ -11,15 +11,9 @@ use Rattle.bdb_format.specs.declared.metadata.FileKind.TheVariants.{Hash as Hash
 use Rattle.bdb_format.specs.declared.metadata.HashMeta.{HashMeta}
 use Rattle.bdb_format.specs.declared.metadata.QueueMeta.{QueueMeta}
 use Rattle.bdb_format.specs.declared.settings.Settings.{Settings}
-use Rattle.bdb_format.specs.Databases.{Database, btree_settings, databases, hash_settings, queue_settings, recno_settings}
-use Rattle.bdb_format.specs.File.{file_of, page_bytes}
-use Rattle.bdb_format.specs.Flags.{is_recno}
-use Rattle.bdb_format.specs.HeadOf.{head_of, is_page_size}
-use Rattle.bdb_format.specs.Lists.{ListKey, BytesKey, NumberKey, btree_list, list_of, recno_list}
-use Rattle.bdb_format.specs.Numbers.{four_at, has_bit}
-use Rattle.bdb_format.specs.Page.{Metadata, BtreeFields, HashFields, QueueFields}
-use Rattle.bdb_format.specs.Rows.{are_wrong_flags, metadata_rows}
-use Rattle.bdb_format.specs.Table.{Row}
+use Rattle.bdb_format.specs.Terms.{BtreeFields, BytesKey, Database, HashFields, ListKey, Metadata, NumberKey, QueueFields, Row, are_wrong_flags, btree_list}
+use Rattle.bdb_format.specs.Terms.{btree_settings, databases, file_of, four_at, has_bit, hash_settings, head_of, is_page_size, is_recno, list_of}
+use Rattle.bdb_format.specs.Terms.{metadata_rows, page_bytes, queue_settings, recno_list, recno_settings}
 use Rattle.bdb_format.proofs.ListLemmas.{all_of}
 use Rattle.bdb_format.proofs.MemberLemmas.{in_range, none_passes}
 use Rattle.bdb_format.proofs.VerdictLemmas.{AllFail, none_is_first_row}
@@ -29,7 +23,7 @@ use Rattle.bdb_mkfile.proofs.of_image.FirstLemmas.{formed_accepted}
 use Rattle.bdb_mkfile.proofs.of_image.FormedLemmas.{accepted_paged}
 use Rattle.bdb_mkfile.proofs.of_image.HeldLemmas.{table_formed}
 use Rattle.bdb_mkfile.proofs.of_graph.ReadLemmas.{IsMetaPage, flags_fit, page_of_meta}
-use Rattle.bdb_mkfile.specs.of_text_format.Written.{holds_records}
+use Rattle.bdb_mkfile.specs.of_text_format.Terms.{holds_records}
 use Rattle.bdb_mkfile.specs.of_law_sections.Fit.{AreFitSettings, IsFitPair, IsFitSection}
 use Rattle.bdb_mkfile.proofs.of_law_sections.PairLemmas.{fit_longer}
 use Rattle.bdb_law_kept.specs.of_text.WrittenLaw.{AreBytes, IsPairOf}

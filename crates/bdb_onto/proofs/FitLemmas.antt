@@ -9,14 +9,11 @@ use Rattle.std.proofs.lemmas.List.Folds.{list_any-append}
 use Rattle.bdb_format.specs.declared.kinds.Kind.{Kind}
 use Rattle.bdb_format.specs.declared.kinds.Kind.TheVariants.{Btree, Recno, Hash, Queue}
 use Rattle.bdb_format.specs.declared.settings.Settings.{Settings}
-use Rattle.bdb_format.specs.HeadOf.{is_page_size}
-use Rattle.bdb_format.specs.Databases.{Database, databases, is_name}
-use Rattle.bdb_format.specs.File.{file_of}
+use Rattle.bdb_format.specs.Terms.{Database, databases, file_of, is_name, is_page_size}
 use Rattle.bdb_format.proofs.ListLemmas.{all_of}
 use Rattle.bdb_format.proofs.MemberLemmas.{first_member, in_map, later_member, none_pass, none_passes, of_filter, of_map}
 use Rattle.bdb_mkfile.specs.of_text_format.declared.sections.Section.{Section}
-use Rattle.bdb_mkfile.specs.of_text_format.Reasons.{is_first}
-use Rattle.bdb_mkfile.specs.of_text_format.Written.{holds_records}
+use Rattle.bdb_mkfile.specs.of_text_format.Terms.{holds_records, is_first}
 use Rattle.bdb_mkfile.specs.of_law_sections.Fit.{AreFitSettings, AreNamedBehind, IsFitPair, IsFitSection}
 use Rattle.bdb_mkfile.proofs.of_law_sections.PairLemmas.{fit_longer}
 use Rattle.bdb_law_kept.specs.of_text.WrittenLaw.{AreNamedApart, CanStandTogether}

@@ -10,12 +10,12 @@ use Rattle.std.proofs.lemmas.List.{drop-map, map-append, take-map}
 use Rattle.std.proofs.lemmas.List.Elements.{All-append, All-cons, All-drop, All-head, All-nil, All-tail, All-take}
 use Rattle.std.proofs.Math.Seq.{drop-append_seam, take-append_seam}
 use Rattle.std.proofs.lemmas.List.Folds.{list_any-append}
-use Rattle.bdb_format.specs.Databases.{is_name}
+use Rattle.bdb_format.specs.Terms.{is_name}
 use Rattle.bdb_format.proofs.LessLemmas.{eq_same, eq_self}
 use Rattle.bdb_format.proofs.ListLemmas.{member_of}
 use Rattle.bdb_format.proofs.MemberLemmas.{first_member, later_member, member_cases, no_member, none_pass, none_passes}
 use Rattle.bdb_mkfile.specs.of_text_format.declared.sections.Section.{Section}
-use Rattle.bdb_mkfile.specs.of_text_format.Placed.{ArePlaced, IsPlaced as IsPlacedIn, placed_pair, placed_pairs}
+use Rattle.bdb_mkfile.specs.of_text_format.Terms.{ArePlaced, IsPlaced as IsPlacedIn, placed_pair, placed_pairs}
 use Rattle.bdb_mkfile.specs.of_text_format.of_places.declared.place.Place.{Place}
 use Rattle.bdb_mkfile.specs.of_law_sections.Fit.{AreNamedBehind}
 use Rattle.bdb_law_kept.specs.Later.{AllLater}

@@ -4,15 +4,11 @@ use Rattle.std.specs.Prelude.{None, is_some}
 use Rattle.std.specs.List.{All, AllZip, filter, find, flat_map, fold, list_any}
 use Rattle.bdb_format.specs.declared.kinds.Kind.{Kind}
 use Rattle.bdb_format.specs.declared.settings.Settings.{Settings}
-use Rattle.bdb_format.specs.Databases.{Database, databases, is_name}
-use Rattle.bdb_format.specs.File.{file_of}
-use Rattle.bdb_format.specs.Lists.{list_of}
-use Rattle.bdb_format.specs.Verdict.{verdict_of}
+use Rattle.bdb_format.specs.Terms.{Database, databases, file_of, is_name, list_of, verdict_of}
 use Rattle.bdb_mkfile.specs.of_text_format.declared.pairs.Pair.{Pair}
 use Rattle.bdb_mkfile.specs.of_text_format.declared.pairs.TextPair.{TextPair}
 use Rattle.bdb_mkfile.specs.of_text_format.declared.sections.Section.{Section}
-use Rattle.bdb_mkfile.specs.of_text_format.Pairs.{listed}
-use Rattle.bdb_mkfile.specs.of_text_format.Written.{header_lines, is_btree, is_hash, is_queue, is_recno}
+use Rattle.bdb_mkfile.specs.of_text_format.Terms.{header_lines, is_btree, is_hash, is_queue, is_recno, listed}
 use Rattle.bdb_mkfile.specs.of_settle.Loaded.{loaded_pair, unnumbered, with_loaded}
 use Rattle.bdb_mkfile.specs.of_settle.declared.load_error.LoadError.{LoadError}
 use Rattle.bdb_mkfile.specs.of_settle.declared.load_error.LoadError.TheVariants.{RecordTooLong, TooLarge, QueueAmongNames, OntoKind, OntoNames}

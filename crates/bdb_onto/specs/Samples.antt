@@ -4,7 +4,7 @@ use Rattle.bdb_format.specs.declared.kinds.Kind.{Kind}
 use Rattle.bdb_format.specs.declared.kinds.Kind.TheVariants.{Btree, Recno, Hash, Queue}
 use Rattle.bdb_format.specs.declared.kinds.Order.TheVariants.{Little, Big}
 use Rattle.bdb_format.specs.declared.settings.Settings.{Settings}
-use Rattle.bdb_format.specs.Databases.{plain_settings}
+use Rattle.bdb_format.specs.Terms.{plain_settings}
 use Rattle.bdb_mkfile.specs.of_text_format.declared.pairs.Key.TheVariants.{Bytes, Number}
 use Rattle.bdb_mkfile.specs.of_text_format.declared.pairs.TextPair.{TextPair}
 use Rattle.bdb_mkfile.specs.of_text_format.declared.sections.Section.{Section}

@@ -4,8 +4,7 @@ use Rattle.std.specs.Cmp.Lexicographic.{slice_cmp}
 use Rattle.std.specs.List.{Contains}
 use Rattle.std.specs.Ordering.{nat_cmp}
 use Rattle.std.specs.declared.cmp.Ordering.{Ordering}
-use Rattle.bdb_format.specs.Databases.{is_name}
-use Rattle.bdb_format.specs.Less.{Less}
+use Rattle.bdb_format.specs.Terms.{Less, is_name}
 use Rattle.bdb_mkfile.specs.of_text_format.declared.sections.Section.{Section}
 use Rattle.bdb_law_kept.specs.Later.{AllLater}
 use Rattle.bdb_mkfile.specs.Builds.{name_of}

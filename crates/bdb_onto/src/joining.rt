@@ -1,7 +1,7 @@
 //! The pairs of sections behind those of their partners, as if one text had both.
 ghost use Rattle.std.specs.Prelude.{◌≡◌, ◌≤◌, [], ◌++◌, IfOk, List, Some, drop, length, map, option_to_list, take};
 ghost use Rattle.std.specs.List.{AllZip, flat_map};
-ghost use Rattle.bdb_mkfile.specs.of_text_format.Placed.{slice_seen};
+ghost use Rattle.bdb_mkfile.specs.of_text_format.Terms.{slice_seen};
 ghost use Rattle.bdb_mkfile.specs.of_law_sections.Fit.{AreNamedBehind};
 ghost use Rattle.bdb_onto.specs.Bases.{IsBase};
 ghost use Rattle.bdb_onto.specs.Joining.{behind, emptied, place_placed, placed_section, taken_at};

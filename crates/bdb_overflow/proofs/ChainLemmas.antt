@@ -4,8 +4,7 @@ use Rattle.std.specs.List.{flat_map, range_with_len}
 use Rattle.bdb_graph.specs.of_faults.Notes.{Notes, NotesAll}
 use Rattle.bdb_graph.proofs.of_faults.SinkLemmas.{notes_more, notes_none, notes_one}
 use Rattle.bdb_graph.specs.of_format.declared.kinds.Fault.{Fault}
-use Rattle.bdb_graph.specs.of_format.File.{File}
-use Rattle.bdb_graph.specs.of_format.Verdict.{chain_faults}
+use Rattle.bdb_graph.specs.of_format.Terms.{File, chain_faults}
 use Rattle.bdb_overflow.specs.Lengths.{faults_at}
 
 -- the faults of the pages below one are noted

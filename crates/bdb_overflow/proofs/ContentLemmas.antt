@@ -7,13 +7,11 @@ use Rattle.std.proofs.lemmas.Bool.{and_parts, cases_Bool, eqb-true, leb-true}
 use Rattle.bdb_graph.specs.of_format.declared.kinds.Order.{Order}
 use Rattle.bdb_graph.specs.of_format.declared.metadata.FileKind.TheVariants.{Queue as QueueFile}
 use Rattle.bdb_graph.specs.of_format.declared.references.Sort.TheVariants.{OverflowHead}
-use Rattle.bdb_graph.specs.of_format.File.{File, file_of, page_at, page_bytes}
-use Rattle.bdb_graph.specs.of_format.HeadOf.{head_of}
-use Rattle.bdb_graph.specs.of_format.Page.{Content, Inline, Set, Chain, Tree, Unknown, Item, InternalItem, Listed, Page, Hash, Internal, Leaf, RecnoLeaf, DupLeaf}
+use Rattle.bdb_graph.specs.of_format.Terms.{Chain, Content, DupLeaf, File, Hash, Inline, Internal, InternalItem, Item, Leaf, Listed, Page, RecnoLeaf, Set}
+use Rattle.bdb_graph.specs.of_format.Terms.{Tree, Unknown, abstract_page, content_targets, contents_in, entries_of, file_of, head_of, is_shared_key}
+use Rattle.bdb_graph.specs.of_format.Terms.{leaf_item_at, listed, no_item, page_as, page_at, page_bytes, targets_in, targets_of}
 use Rattle.bdb_graph.specs.of_format.declared.pages.PageType.{PageType}
 use Rattle.bdb_graph.specs.of_format.declared.pages.PageType.TheVariants.{Leaf as LeafPage}
-use Rattle.bdb_graph.specs.of_format.Reading.{abstract_page, entries_of, leaf_item_at, listed, page_as}
-use Rattle.bdb_graph.specs.of_format.References.{content_targets, is_shared_key, targets_in, targets_of, no_item, contents_in}
 use Rattle.bdb_graph.proofs.of_format.MemberLemmas.{first_member, in_map}
 use Rattle.bdb_graph.proofs.of_format.PageLemmas.{index_offset, length_items}
 use Rattle.bdb_graph.proofs.of_format.TargetLemmas.{held_named, own_held}

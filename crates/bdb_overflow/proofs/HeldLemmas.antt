@@ -7,8 +7,7 @@ use Rattle.std.specs.Ordering.{is_eq, nat_cmp, ordering_then}
 use Rattle.std.specs.declared.cmp.Ordering.{Ordering}
 use Rattle.std.specs.declared.cmp.Ordering.TheVariants.{Less as Below, Equal, Greater}
 use Rattle.std.proofs.lemmas.Bool.{cases_eq, cases_order}
-use Rattle.bdb_graph.specs.of_format.File.{file_of}
-use Rattle.bdb_graph.specs.of_format.Less.{less}
+use Rattle.bdb_graph.specs.of_format.Terms.{file_of, less}
 use Rattle.bdb_overflow.specs.Held.{AreFound, chain_value, two_cmp}
 use Rattle.bdb_graph.proofs.of_format.ListLemmas.{one_answer}
 

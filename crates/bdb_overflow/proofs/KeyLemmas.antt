@@ -8,7 +8,7 @@ use Rattle.std.specs.Str.{bytes_eq}
 use Rattle.std.proofs.lemmas.Bool.{false_from_ne_true}
 use Rattle.bdb_graph.specs.of_layout.Seen.{OrderingIs}
 use Rattle.bdb_graph.proofs.of_layout.KeyLemmas.{slice_cmp-is}
-use Rattle.bdb_graph.specs.of_format.Less.{less, Less}
+use Rattle.bdb_graph.specs.of_format.Terms.{Less, less}
 use Rattle.bdb_graph.proofs.of_format.LessLemmas.{eq_same, eq_self, not_less_both, not_less_same}
 
 not_less_here : (a b : List ℕ) → a ≡ b → less a b ≡ false

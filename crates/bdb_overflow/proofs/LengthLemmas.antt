@@ -9,11 +9,8 @@ use Rattle.std.specs.List.{filter, flat_map, list_any, range_with_len}
 use Rattle.std.proofs.lemmas.List.Folds.{flat_map-map, list_any-append, list_any_at}
 use Rattle.std.proofs.lemmas.List.FromFn.{get_or-range_with_len, length-range_with_len}
 use Rattle.bdb_graph.specs.of_slots.Slots.{no_internal_item}
-use Rattle.bdb_graph.specs.of_format.Chains.{content_chains, is_wrong_length}
-use Rattle.bdb_graph.specs.of_format.File.{File, page_at}
-use Rattle.bdb_graph.specs.of_format.Page.{Content, DupLeaf, Hash, Internal, Item, InternalItem, Leaf, Listed, RecnoLeaf}
-use Rattle.bdb_graph.specs.of_format.References.{no_item}
-use Rattle.bdb_graph.specs.of_format.Verdict.{chain_faults}
+use Rattle.bdb_graph.specs.of_format.Terms.{Content, DupLeaf, File, Hash, Internal, InternalItem, Item, Leaf, Listed, RecnoLeaf, chain_faults, content_chains}
+use Rattle.bdb_graph.specs.of_format.Terms.{is_wrong_length, no_item, page_at}
 use Rattle.bdb_graph.proofs.of_format.MemberLemmas.{none_pass, of_range}
 use Rattle.bdb_graph.proofs.of_format.VerdictLemmas.{no_faults, none_holds}
 use Rattle.bdb_overflow.specs.Lengths.{has_wrong, is_wrong, some_wrong}

@@ -11,16 +11,10 @@ use Rattle.bdb_graph.specs.of_format.declared.metadata.Head.{Head}
 use Rattle.bdb_graph.specs.of_format.declared.references.Reference.{Reference}
 use Rattle.bdb_graph.specs.of_format.declared.references.Sort.{Sort}
 use Rattle.bdb_graph.specs.of_format.declared.references.Sort.TheVariants.{OverflowHead, OverflowNext}
-use Rattle.bdb_graph.specs.of_format.Chains.{chain_in, next_of, piece_in, pieces_of}
-use Rattle.bdb_graph.specs.of_format.File.{File, file_as, file_of, header_in, page_at, page_bytes, type_in}
-use Rattle.bdb_graph.specs.of_format.Graph.{Owner, all_references, owners}
-use Rattle.bdb_graph.specs.of_format.HeadOf.{head_of, is_page_size}
-use Rattle.bdb_graph.specs.of_format.Numbers.{byte_at, two_at}
-use Rattle.bdb_graph.specs.of_format.Page.{Overflow, Page}
-use Rattle.bdb_graph.specs.of_format.Reading.{abstract_page, header_of, is_zero, page_type}
-use Rattle.bdb_graph.specs.of_format.References.{asked_by, fit_code, fit_rows, has_type, is_zero_page, targets_in, targets_of, refs}
-use Rattle.bdb_graph.specs.of_format.Rows.{body_code, form_code, identity_rows, is_tree_type, may_have_type, page_code}
-use Rattle.bdb_graph.specs.of_format.Table.{first_row}
+use Rattle.bdb_graph.specs.of_format.Terms.{File, Overflow, Owner, Page, abstract_page, all_references, asked_by, body_code, byte_at, chain_in, file_as}
+use Rattle.bdb_graph.specs.of_format.Terms.{file_of, first_row, fit_code, fit_rows, form_code, has_type, head_of, header_in, header_of, identity_rows}
+use Rattle.bdb_graph.specs.of_format.Terms.{is_page_size, is_tree_type, is_zero, is_zero_page, may_have_type, next_of, owners, page_at, page_bytes, page_code}
+use Rattle.bdb_graph.specs.of_format.Terms.{page_type, piece_in, pieces_of, refs, targets_in, targets_of, two_at, type_in}
 use Rattle.bdb_graph.proofs.of_format.GraphLemmas.{IsOwner, each_fits, is_owner, type_fits}
 use Rattle.bdb_graph.proofs.of_format.MemberLemmas.{first_member, in_filter}
 use Rattle.bdb_graph.proofs.of_format.PageLemmas.{later_type}

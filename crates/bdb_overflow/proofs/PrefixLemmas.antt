@@ -10,7 +10,7 @@ use Rattle.std.proofs.lemmas.Bool.{cases_order, lt-ltb}
 use Rattle.std.proofs.lemmas.List.{get_or_append_left, get_or-append_right}
 use Rattle.std.proofs.lemmas.Nat.{mul-le}
 use Rattle.std.specs.Cmp.{nat_cmp_is}
-use Rattle.bdb_graph.specs.of_format.Less.{less, Less}
+use Rattle.bdb_graph.specs.of_format.Terms.{Less, less}
 use Rattle.bdb_overflow.specs.Prefix.{AreBytes, prefix_of}
 use Rattle.bdb_overflow.proofs.KeyLemmas.{is_order}
 

@@ -4,8 +4,7 @@ use Rattle.std.specs.Prelude.{Some}
 use Rattle.bdb_graph.specs.of_faults.Refusals.{IsFirstRefusal}
 use Rattle.bdb_graph.specs.of_faults.declared.refusals.FirstError.{FirstError}
 use Rattle.bdb_graph.specs.of_faults.declared.refusals.FirstError.TheVariants.{Fault as FirstFault}
-use Rattle.bdb_graph.specs.of_format.Cases.{fault_seen}
-use Rattle.bdb_graph.specs.of_format.Verdict.{first_fault}
+use Rattle.bdb_graph.specs.of_format.Terms.{fault_seen, first_fault}
 use Rattle.bdb_graph.specs.of_format.declared.kinds.Fault.{Fault}
 use Rattle.bdb_graph.specs.of_format.declared.named.Named.{Named}
 

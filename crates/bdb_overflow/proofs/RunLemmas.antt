@@ -6,7 +6,7 @@ use Rattle.std.specs.Prelude.{◌==◌, ◌&&◌, ◌||◌, nat_lt}
 use Rattle.std.specs.declared.cmp.Ordering.{Ordering}
 use Rattle.std.specs.declared.cmp.Ordering.TheVariants.{Less as Below, Equal, Greater}
 use Rattle.bdb_graph.specs.of_layout.Seen.{OrderingIs}
-use Rattle.bdb_graph.specs.of_format.Less.{less}
+use Rattle.bdb_graph.specs.of_format.Terms.{less}
 use Rattle.bdb_overflow.specs.Runs.{HaveOrderOf}
 
 -- a first difference stays the first

@@ -2,11 +2,8 @@
 use Rattle.std.proofs.Common.{◌≡◌, ℕ, zero, suc, ◌/◌, ◌≤◌, true, List, [], ◌∷◌, ◌++◌, length, arith, refl, sym, ◌∙◌, ap, subst}
 use Rattle.std.specs.Prelude.{Option, Some, None}
 use Rattle.bdb_graph.specs.of_format.declared.kinds.Order.{Order}
-use Rattle.bdb_graph.specs.of_format.Chains.{joined, next_of, piece_in, pieces_of}
-use Rattle.bdb_graph.specs.of_format.File.{file_as, file_of, header_in, page_at}
-use Rattle.bdb_graph.specs.of_format.HeadOf.{head_of, is_page_size}
-use Rattle.bdb_graph.specs.of_format.Page.{Overflow}
-use Rattle.bdb_graph.specs.of_format.Reading.{header_of}
+use Rattle.bdb_graph.specs.of_format.Terms.{Overflow, file_as, file_of, head_of, header_in, header_of, is_page_size, joined, next_of, page_at, piece_in}
+use Rattle.bdb_graph.specs.of_format.Terms.{pieces_of}
 use Rattle.bdb_graph.proofs.of_format.FileLemmas.{last_page, page_is}
 use Rattle.bdb_graph.proofs.of_format.SizeLemmas.{size_bounds}
 use Rattle.bdb_graph.specs.Blanks.{ArePassedIfAny as AreKnownPassed, ComesAfter}

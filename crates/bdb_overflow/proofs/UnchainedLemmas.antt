@@ -5,12 +5,8 @@ use Rattle.std.proofs.lemmas.Bool.{cases_Bool}
 use Rattle.bdb_graph.specs.of_faults.Notes.{NotesAll}
 use Rattle.bdb_graph.proofs.of_faults.SinkLemmas.{notes_none}
 use Rattle.bdb_graph.specs.of_format.declared.kinds.Fault.{Fault}
-use Rattle.bdb_graph.specs.of_format.Chains.{content_chains, is_wrong_length}
-use Rattle.bdb_graph.specs.of_format.File.{File, file_of, page_at}
-use Rattle.bdb_graph.specs.of_format.Graph.{all_references, is_head_reference}
-use Rattle.bdb_graph.specs.of_format.Page.{Chain, Content, Inline, Meta, Page, Queue, Set, Tree, Unknown, Zero}
-use Rattle.bdb_graph.specs.of_format.References.{contents_in}
-use Rattle.bdb_graph.specs.of_format.Verdict.{chain_faults}
+use Rattle.bdb_graph.specs.of_format.Terms.{Chain, Content, File, Inline, Meta, Page, Queue, Set, Tree, Unknown, Zero, all_references, chain_faults}
+use Rattle.bdb_graph.specs.of_format.Terms.{content_chains, contents_in, file_of, is_head_reference, is_wrong_length, page_at}
 use Rattle.bdb_graph.proofs.of_format.MemberLemmas.{none_pass, none_passes}
 use Rattle.bdb_graph.proofs.ChildLemmas.{is_queue_page}
 use Rattle.bdb_graph.specs.of_image.Linked.{IsForest}

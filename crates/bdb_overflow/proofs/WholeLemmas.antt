@@ -8,12 +8,8 @@ use Rattle.std.proofs.lemmas.List.Folds.{list_all_at}
 use Rattle.std.proofs.lemmas.List.FromFn.{get_or-map-range_with_len}
 use Rattle.std.proofs.Math.Nat.{mul-le-mul_right}
 use Rattle.bdb_graph.specs.of_format.declared.kinds.Order.{Order}
-use Rattle.bdb_graph.specs.of_format.Chains.{chain_in, joined, next_of, piece_in, pieces_of}
-use Rattle.bdb_graph.specs.of_format.File.{File, file_as, header_in, page_at}
-use Rattle.bdb_graph.specs.of_format.HeadOf.{is_page_size}
-use Rattle.bdb_graph.specs.of_format.Numbers.{byte_at, two_at}
-use Rattle.bdb_graph.specs.of_format.Page.{NoType, Overflow}
-use Rattle.bdb_graph.specs.of_format.Reading.{abstract_page, header_of, is_zero, page_as, page_type}
+use Rattle.bdb_graph.specs.of_format.Terms.{File, NoType, Overflow, abstract_page, byte_at, chain_in, file_as, header_in, header_of, is_page_size, is_zero}
+use Rattle.bdb_graph.specs.of_format.Terms.{joined, next_of, page_as, page_at, page_type, piece_in, pieces_of, two_at}
 use Rattle.bdb_overflow.specs.Whole.{EndsIn, IsLeft, IsLink, IsWholeChain, bytes_of, next_at, pieces_from}
 use Rattle.bdb_graph.proofs.of_format.GraphLemmas.{typed_page}
 use Rattle.bdb_graph.proofs.of_format.ChainLemmas.{chain_few}

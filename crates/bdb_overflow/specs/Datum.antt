@@ -1,9 +1,6 @@
 -- Values as callers have them: bytes of a page, or the pieces of a chain. Source: docs/FORMAT.md, "Items".
 use Rattle.std.specs.Prelude.{ℕ, List, Option, Some, None}
-use Rattle.bdb_graph.specs.of_format.Chains.{joined, value_of}
-use Rattle.bdb_graph.specs.of_format.File.{File}
-use Rattle.bdb_graph.specs.of_format.Lists.{ListKey, BytesKey, NumberKey}
-use Rattle.bdb_graph.specs.of_format.Page.{Content, Inline, Set, Chain, Tree, Unknown}
+use Rattle.bdb_graph.specs.of_format.Terms.{BytesKey, Chain, Content, File, Inline, ListKey, NumberKey, Set, Tree, Unknown, joined, value_of}
 use Rattle.bdb_graph.specs.of_image.Linked.{FitsChain}
 use Rattle.bdb_overflow.specs.declared.datum.Datum.{Datum}
 use Rattle.bdb_overflow.specs.declared.datum.Datum.TheVariants.{Inline as InlineDatum, Chained}

@@ -3,9 +3,7 @@ use Rattle.std.specs.Prelude.{◌≡◌, ℕ, Bool, List, Option, Some, None}
 use Rattle.std.specs.BTreeMap.{BTreeMap, get}
 use Rattle.std.specs.Ordering.{nat_cmp, ordering_then}
 use Rattle.std.specs.declared.cmp.Ordering.{Ordering}
-use Rattle.bdb_graph.specs.of_format.Chains.{joined, pieces_of}
-use Rattle.bdb_graph.specs.of_format.File.{File, file_of}
-use Rattle.bdb_graph.specs.of_format.Less.{less}
+use Rattle.bdb_graph.specs.of_format.Terms.{File, file_of, joined, less, pieces_of}
 use Rattle.bdb_graph.specs.of_image.Linked.{FitsChain}
 use Rattle.bdb_overflow.specs.declared.held.Held.{Held}
 use Rattle.bdb_overflow.specs.declared.held.Held.TheVariants.{Inline, Chained}

@@ -1,12 +1,9 @@
 -- Which items name a chain whose length isn't the one that they tell. Source: docs/FORMAT.md, "Stage 6, chains and trees".
 use Rattle.std.specs.Prelude.{◌≡◌, ℕ, ◌&&◌, Bool, List, get_or, length, map, not, slice_get, Some}
 use Rattle.std.specs.List.{list_any, range_with_len}
-use Rattle.bdb_graph.specs.of_format.Chains.{chain_rows, chains_in, content_chains, is_wrong_length}
-use Rattle.bdb_graph.specs.of_format.File.{File}
+use Rattle.bdb_graph.specs.of_format.Terms.{Content, File, Listed, Page, chain_rows, chains_in, content_chains, is_shared_key, is_wrong_length}
 use Rattle.bdb_graph.specs.of_format.ByPage.{holding}
 use Rattle.bdb_graph.specs.of_format.declared.kinds.Fault.{Fault}
-use Rattle.bdb_graph.specs.of_format.Page.{Content, Listed, Page}
-use Rattle.bdb_graph.specs.of_format.References.{is_shared_key}
 use Rattle.bdb_overflow.specs.Datum.{FitsContent}
 
 abbrev pub is_wrong : File → Content → Bool

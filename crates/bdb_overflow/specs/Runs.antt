@@ -2,7 +2,7 @@
 use Rattle.std.specs.Prelude.{ℕ, List, ◌++◌}
 use Rattle.std.specs.declared.cmp.Ordering.{Ordering}
 use Rattle.bdb_graph.specs.of_layout.Seen.{OrderingIs}
-use Rattle.bdb_graph.specs.of_format.Chains.{joined}
+use Rattle.bdb_graph.specs.of_format.Terms.{joined}
 use Rattle.bdb_overflow.specs.declared.run.Remainder.{Remainder}
 
 -- the bytes that are left

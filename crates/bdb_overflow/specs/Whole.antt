@@ -1,10 +1,7 @@
 -- A chain that is whole, by the bytes of its pages, and what is left of it. Source: docs/FORMAT.md, "Other pages".
 use Rattle.std.specs.Prelude.{◌≡◌, ◌⊎◌, ℕ, zero, suc, ◌+◌, ◌*◌, ◌/◌, ◌<◌, ◌≤◌, ◌==◌, if◌then◌else◌, true, List, [], length, take, drop}
 use Rattle.bdb_graph.specs.of_format.declared.kinds.Order.{Order}
-use Rattle.bdb_graph.specs.of_format.Chains.{pieces_of}
-use Rattle.bdb_graph.specs.of_format.File.{file_as}
-use Rattle.bdb_graph.specs.of_format.HeadOf.{is_page_size}
-use Rattle.bdb_graph.specs.of_format.Numbers.{byte_at, four_at, two_at}
+use Rattle.bdb_graph.specs.of_format.Terms.{byte_at, file_as, four_at, is_page_size, pieces_of, two_at}
 
 -- the bytes of a page of an image
 abbrev pub bytes_of : ℕ → List ℕ → ℕ → List ℕ

@@ -1,7 +1,6 @@
 ghost use Rattle.std.specs.Prelude.{◌≡◌, ◌≤◌, length};
 ghost use Rattle.bdb_graph.specs.of_image.Linked.{FitsChain};
-ghost use Rattle.bdb_graph.specs.of_format.Chains.{joined, pieces_of};
-ghost use Rattle.bdb_graph.specs.of_format.File.{file_of};
+ghost use Rattle.bdb_graph.specs.of_format.Terms.{file_of, joined, pieces_of};
 ghost use Rattle.bdb_overflow.specs.Taken.{full_pieces};
 
 use crate::piece::full_pieces_at;

@@ -1,8 +1,7 @@
 ghost use Rattle.std.specs.Prelude.{◌≡◌, ◌≤◌, [], IfErr, IsTrue, OnErr, OnOk, Some};
 ghost use Rattle.bdb_graph.specs.of_faults.Notes.{HasNoted};
 ghost use Rattle.bdb_graph.specs.of_faults.Notes.{Notes, NotesAll};
-ghost use Rattle.bdb_graph.specs.of_format.File.{file_of};
-ghost use Rattle.bdb_graph.specs.of_format.Verdict.{chain_faults, first_fault};
+ghost use Rattle.bdb_graph.specs.of_format.Terms.{chain_faults, file_of, first_fault};
 ghost use Rattle.bdb_graph.specs.of_image.Linked.{IsForest};
 ghost use Rattle.bdb_overflow.specs.Lengths.{faults_at};
 

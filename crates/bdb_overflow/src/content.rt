@@ -1,8 +1,7 @@
 ghost use Rattle.std.specs.Prelude.{◌≡◌};
 ghost use Rattle.std.specs.Option.{option_map};
 ghost use Rattle.bdb_graph.specs.of_layout.Seen.{content_seen, hash_content_seen, key_seen, leaf_item_seen};
-ghost use Rattle.bdb_graph.specs.of_format.Chains.{value_of};
-ghost use Rattle.bdb_graph.specs.of_format.File.{file_of};
+ghost use Rattle.bdb_graph.specs.of_format.Terms.{file_of, value_of};
 ghost use Rattle.bdb_overflow.specs.Datum.{FitsContent, datum_seen, single_value};
 
 use crate::{Datum, chain_pieces};

@@ -1,5 +1,5 @@
 ghost use Rattle.std.specs.Prelude.{◌≡◌, ◌++◌, ◌==◌, IfOk, OnOk, length};
-ghost use Rattle.bdb_graph.specs.of_format.Chains.{joined};
+ghost use Rattle.bdb_graph.specs.of_format.Terms.{joined};
 ghost use Rattle.bdb_overflow.specs.Datum.{datum_seen};
 
 use crate::Pieces;

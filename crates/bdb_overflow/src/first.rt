@@ -1,5 +1,5 @@
 ghost use Rattle.std.specs.Prelude.{◌≡◌, ◌<◌, get_or};
-ghost use Rattle.bdb_graph.specs.of_format.Chains.{joined};
+ghost use Rattle.bdb_graph.specs.of_format.Terms.{joined};
 ghost use Rattle.bdb_overflow.specs.Datum.{datum_seen};
 ghost use Rattle.bdb_overflow.specs.Prefix.{AreBytes, prefix_of};
 

@@ -1,6 +1,5 @@
 ghost use Rattle.std.specs.Prelude.{◌≡◌};
-ghost use Rattle.bdb_graph.specs.of_format.Chains.{value_of};
-ghost use Rattle.bdb_graph.specs.of_format.File.{File, file_of};
+ghost use Rattle.bdb_graph.specs.of_format.Terms.{File, file_of, value_of};
 ghost use Rattle.bdb_graph.specs.of_layout.Seen.{key_seen, leaf_item_seen};
 ghost use Rattle.bdb_overflow.specs.Datum.{FitsContent, datum_seen};
 ghost use Rattle.bdb_overflow.specs.Held.{FitsHeld, value_held};

@@ -1,6 +1,6 @@
 ghost use Rattle.std.specs.Prelude.{◌≡◌};
 ghost use Rattle.bdb_overflow.specs.Datum.{datum_seen};
-ghost use Rattle.bdb_graph.specs.of_format.Less.{less};
+ghost use Rattle.bdb_graph.specs.of_format.Terms.{less};
 ghost use Rattle.std.specs.Str.{bytes_eq};
 
 use crate::{Datum, compare_datum};

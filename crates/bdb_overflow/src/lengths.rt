@@ -1,8 +1,7 @@
 ghost use Rattle.std.specs.Prelude.{◌≡◌, ◌<◌, ◌≤◌, length};
 ghost use Rattle.bdb_graph.specs.of_image.Linked.{FitsChain, IsForest};
 ghost use Rattle.bdb_graph.specs.of_layout.Seen.{content_seen};
-ghost use Rattle.bdb_graph.specs.of_format.Chains.{is_wrong_length};
-ghost use Rattle.bdb_graph.specs.of_format.File.{file_of, page_at};
+ghost use Rattle.bdb_graph.specs.of_format.Terms.{file_of, is_wrong_length, page_at};
 ghost use Rattle.bdb_overflow.specs.Datum.{FitsContent};
 ghost use Rattle.bdb_overflow.specs.Lengths.{AreFit, has_wrong, is_wrong, is_wrong_entry, some_wrong};
 

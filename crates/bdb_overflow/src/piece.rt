@@ -1,9 +1,6 @@
 ghost use Rattle.std.specs.Prelude.{◌≡◌, ◌+◌, ◌/◌, ◌^◌, ◌<◌, ◌≤◌, ◌∷◌, ◌==◌, [], ℕ, List, IsTrue, length, take, drop};
 ghost use Rattle.std.specs.Iterator.{YieldsFirstBy, item_count};
-ghost use Rattle.bdb_graph.specs.of_format.Chains.{joined, pieces_of};
-ghost use Rattle.bdb_graph.specs.of_format.File.{file_as};
-ghost use Rattle.bdb_graph.specs.of_format.HeadOf.{is_page_size};
-ghost use Rattle.bdb_graph.specs.of_format.Numbers.{two_at};
+ghost use Rattle.bdb_graph.specs.of_format.Terms.{file_as, is_page_size, joined, pieces_of, two_at};
 ghost use Rattle.bdb_overflow.specs.Taken.{ArePassedBy, ArePassedIfAny, IsOnWay, full_pieces, taken_pieces};
 ghost use Rattle.bdb_overflow.specs.Whole.{IsLeft, IsWholeChain, bytes_of, pieces_from};
 

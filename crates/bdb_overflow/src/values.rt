@@ -1,6 +1,5 @@
 ghost use Rattle.std.specs.Prelude.{◌≡◌, IfOk};
-ghost use Rattle.bdb_graph.specs.of_format.File.{file_of};
-ghost use Rattle.bdb_graph.specs.of_format.Less.{less};
+ghost use Rattle.bdb_graph.specs.of_format.Terms.{file_of, less};
 ghost use Rattle.bdb_graph.specs.of_image.Linked.{FitsChain};
 ghost use Rattle.bdb_overflow.specs.Held.{FitsHeld, chain_value, value_held};
 

@@ -2,10 +2,7 @@
 use Rattle.std.proofs.Common.{◌≡◌, ◌⊎◌, ℕ, ◌+◌, ◌-◌, ◌<◌, ◌≤◌, true, cond, List, [], length, drop, None, arith, sym, ◌∙◌, ap, subst, inl, inr}
 use Rattle.std.proofs.lemmas.Bool.{cases_order, eqb-true}
 use Rattle.bdb_layout.specs.of_format.declared.kinds.Order.{Order}
-use Rattle.bdb_layout.specs.of_format.HeadOf.{is_page_size}
-use Rattle.bdb_layout.specs.of_format.Numbers.{byte_at, pad4}
-use Rattle.bdb_layout.specs.of_format.Reading.{entries_of, hash_end, index_end, offset_of, page_type}
-use Rattle.bdb_layout.specs.of_format.Rows.{item_row}
+use Rattle.bdb_layout.specs.of_format.Terms.{byte_at, entries_of, hash_end, index_end, is_page_size, item_row, offset_of, pad4, page_type}
 use Rattle.std.proofs.lemmas.List.{get_or-set_same}
 use Rattle.bdb_law_grove.proofs.GroveLemmas.{above}
 use Rattle.bdb_pack.specs.Built.{Built, bytes_of, with_page}

@@ -7,13 +7,11 @@ use Rattle.std.proofs.lemmas.Bool.Decides.{nat_tests}
 use Rattle.bdb_layout.specs.of_format.declared.kinds.Order.{Order}
 use Rattle.bdb_layout.specs.of_format.declared.pages.ItemFault.{ItemFault}
 use Rattle.bdb_layout.specs.of_format.declared.pages.ItemFault.TheVariants.{Offset}
-use Rattle.bdb_layout.specs.of_format.Numbers.{byte_at}
+use Rattle.bdb_layout.specs.of_format.Terms.{byte_at, entries_of, first_row, hash_rows, index_end, internal_rows, item_code, item_row, leaf_rows, offset_of}
+use Rattle.bdb_layout.specs.of_format.Terms.{page_type, recno_rows, ◌:?◌}
 use Rattle.bdb_layout.specs.of_format.declared.pages.PageType.{PageType}
 use Rattle.bdb_layout.specs.of_format.declared.pages.PageType.TheVariants.{Hash as HashPage, Internal as InternalPage, Leaf as LeafPage}
 use Rattle.bdb_layout.specs.of_format.declared.pages.PageType.TheVariants.{RecnoInternal as RecnoInternalPage}
-use Rattle.bdb_layout.specs.of_format.Reading.{entries_of, index_end, offset_of, page_type}
-use Rattle.bdb_layout.specs.of_format.Rows.{hash_rows, internal_rows, item_code, item_row, leaf_rows, recno_rows}
-use Rattle.bdb_layout.specs.of_format.Table.{◌:?◌, first_row}
 use Rattle.bdb_layout.proofs.of_format.SizeLemmas.{size_bounds}
 use Rattle.bdb_pack.specs.Placing.{RowsBegin, high_free_of}
 use Rattle.bdb_pack.proofs.RowsLemmas.{none_of_three}

@@ -8,7 +8,7 @@ use Rattle.std.specs.List.{copy_within}
 use Rattle.std.proofs.Math.Seq.{paste}
 use Rattle.std.proofs.Math.Nat.{mul-le-mul_right}
 use Rattle.std.proofs.lemmas.Bool.{cases_eq, cases_lt}
-use Rattle.bdb_layout.specs.of_format.Numbers.{overwritten}
+use Rattle.bdb_layout.specs.of_format.Terms.{overwritten}
 use Rattle.bdb_layout.specs.of_format.declared.kinds.Order.{Order}
 use Rattle.bdb_pack.specs.Built.{AreWhole, Built, built_of, bytes_of, cut, joined_pages, with_page, with_zeros, written_over}
 

@@ -3,11 +3,9 @@ use Rattle.std.proofs.Common.{◌≡◌, ℕ, zero, suc, ◌<◌, ◌≤◌, fal
 use Rattle.std.specs.Prelude.{◌==◌}
 use Rattle.std.proofs.lemmas.Bool.{eq-eqb}
 use Rattle.bdb_layout.specs.of_format.declared.kinds.Order.{Order}
-use Rattle.bdb_layout.specs.of_format.Numbers.{byte_at, four_at}
+use Rattle.bdb_layout.specs.of_format.Terms.{body_code, byte_at, entries_of, first_row, four_at, identity_rows, index_end, index_rows, is_tree_type}
+use Rattle.bdb_layout.specs.of_format.Terms.{is_wrong_entry_count, is_wrong_level, is_zero, item_row, lesser, page_code, page_type}
 use Rattle.bdb_layout.specs.of_format.declared.pages.PageType.{PageType}
-use Rattle.bdb_layout.specs.of_format.Reading.{entries_of, index_end, is_zero, page_type}
-use Rattle.bdb_layout.specs.of_format.Rows.{body_code, identity_rows, index_rows, is_tree_type, is_wrong_entry_count, is_wrong_level, item_row, page_code}
-use Rattle.bdb_layout.specs.of_format.Table.{first_row, lesser}
 use Rattle.bdb_layout.proofs.of_format.ItemLemmas.{items_next, least_below, least_items}
 use Rattle.bdb_law_grove.proofs.GroveLemmas.{above}
 use Rattle.bdb_pack.specs.Placing.{BegunIsFormed}

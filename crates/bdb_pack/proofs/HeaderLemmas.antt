@@ -3,11 +3,8 @@ use Rattle.std.proofs.Common.{◌≡◌, ℕ, ◌+◌, ◌^◌, ◌<◌, List, [
 use Rattle.std.proofs.lemmas.List.{append_assoc}
 use Rattle.bdb_layout.specs.of_format.declared.kinds.Order.{Order}
 use Rattle.bdb_layout.specs.of_format.declared.pages.Header.{Header}
-use Rattle.bdb_layout.specs.of_format.HeadOf.{is_page_size}
-use Rattle.bdb_layout.specs.of_format.Numbers.{byte_at, number_at, spelled, two_at}
-use Rattle.bdb_layout.specs.of_format.Page.{DupLeaf, Hash, Internal, Leaf, RecnoInternal, RecnoLeaf}
-use Rattle.bdb_layout.specs.of_format.Reading.{entries_of, header_of, listed, page_as, page_type}
-use Rattle.bdb_layout.specs.of_format.Spelling.{header_bytes, lsn_bytes}
+use Rattle.bdb_layout.specs.of_format.Terms.{DupLeaf, Hash, Internal, Leaf, RecnoInternal, RecnoLeaf, byte_at, entries_of, header_bytes, header_of}
+use Rattle.bdb_layout.specs.of_format.Terms.{is_page_size, listed, lsn_bytes, number_at, page_as, page_type, spelled, two_at}
 use Rattle.bdb_layout.proofs.of_format.SpellingLemmas.{length-overwritten, length-spelled, number_at-first}
 use Rattle.bdb_layout.proofs.of_format.TurnLemmas.{byte_at_past, number_at_past}
 use Rattle.bdb_layout.proofs.of_format.SizeLemmas.{size_bounds}

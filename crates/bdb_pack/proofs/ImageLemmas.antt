@@ -3,10 +3,7 @@ use Rattle.std.proofs.Common.{◌≡◌, ℕ, ◌*◌, ◌<◌, ◌≤◌, List,
 use Rattle.std.proofs.lemmas.List.{get_or-map, length-map}
 use Rattle.std.proofs.lemmas.List.FromFn.{length-range_with_len}
 use Rattle.bdb_layout.specs.of_format.declared.metadata.FileKind.TheVariants.{Queue}
-use Rattle.bdb_layout.specs.of_format.Page.{NoType}
-use Rattle.bdb_layout.specs.of_format.File.{file_of, page_at}
-use Rattle.bdb_layout.specs.of_format.HeadOf.{head_of}
-use Rattle.bdb_layout.specs.of_format.Reading.{abstract_page}
+use Rattle.bdb_layout.specs.of_format.Terms.{NoType, abstract_page, file_of, head_of, page_at}
 use Rattle.bdb_layout.proofs.of_format.FileLemmas.{last_page, page_is}
 use Rattle.bdb_law_grove.specs.Growing.{IsCounted}
 use Rattle.bdb_pack.specs.Built.{AreWhole, Built, bytes_of, file_so_far, joined_pages}

@@ -2,10 +2,8 @@
 use Rattle.std.proofs.Common.{◌≡◌, ℕ, ◌+◌, ◌-◌, ◌≤◌, false, cond, List, length, drop, arith, refl, ◌∙◌, ap}
 use Rattle.std.specs.Prelude.{◌==◌, nat_lt, slice_range}
 use Rattle.bdb_layout.specs.of_format.declared.kinds.Order.{Order}
-use Rattle.bdb_layout.specs.of_format.Numbers.{byte_at}
+use Rattle.bdb_layout.specs.of_format.Terms.{byte_at, hash_end, hash_rows, index_end, internal_rows, item_row, leaf_rows, offset_of, recno_rows}
 use Rattle.bdb_layout.specs.of_format.declared.pages.PageType.{PageType}
-use Rattle.bdb_layout.specs.of_format.Reading.{hash_end, index_end, offset_of}
-use Rattle.bdb_layout.specs.of_format.Rows.{hash_rows, internal_rows, item_row, leaf_rows, recno_rows}
 use Rattle.bdb_pack.proofs.PlaceLemmas.{byte_same, number_same}
 use Rattle.bdb_pack.proofs.StandingLemmas.{slice_same}
 

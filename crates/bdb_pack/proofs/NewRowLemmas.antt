@@ -8,13 +8,12 @@ use Rattle.std.proofs.lemmas.Bool.{and_right, eq-eqb, or_from}
 use Rattle.std.proofs.lemmas.List.{append_assoc}
 use Rattle.bdb_layout.specs.of_format.declared.kinds.Order.{Order}
 use Rattle.bdb_layout.specs.of_format.declared.pages.RecnoItem.{RecnoItem}
-use Rattle.bdb_layout.specs.of_format.Numbers.{byte_at, spelled, two_at}
-use Rattle.bdb_layout.specs.of_format.Page.{Chain, Content, Inline, Item, Set, Tree, Unknown}
+use Rattle.bdb_layout.specs.of_format.Terms.{Chain, Content, Inline, IsHashContent, IsKey, IsLeafContent, Item, Set, Tree, Unknown, block_bytes, blocks_of}
+use Rattle.bdb_layout.specs.of_format.Terms.{byte_at, hash_bytes, hash_end, hash_item_at, hash_rows, index_end, internal_bytes, internal_rows, is_hash_kind}
+use Rattle.bdb_layout.specs.of_format.Terms.{is_leaf_kind, item_row, kind_at, kind_byte, leaf_bytes, leaf_end, leaf_rows, offset_of, recno_bytes, recno_rows}
+use Rattle.bdb_layout.specs.of_format.Terms.{spelled, two_at, zeros}
 use Rattle.bdb_layout.specs.of_format.declared.pages.PageType.TheVariants.{Hash as HashPage, Internal as InternalPage, Leaf as LeafPage}
 use Rattle.bdb_layout.specs.of_format.declared.pages.PageType.TheVariants.{RecnoInternal as RecnoInternalPage}
-use Rattle.bdb_layout.specs.of_format.Reading.{blocks_of, hash_end, hash_item_at, index_end, kind_at, offset_of}
-use Rattle.bdb_layout.specs.of_format.Rows.{hash_rows, internal_rows, is_hash_kind, is_leaf_kind, item_row, leaf_end, leaf_rows, recno_rows}
-use Rattle.bdb_layout.specs.of_format.Spelling.{IsHashContent, IsKey, IsLeafContent, block_bytes, hash_bytes, internal_bytes, kind_byte, leaf_bytes, recno_bytes, zeros}
 use Rattle.bdb_layout.proofs.of_format.SpellingLemmas.{byte_at-in, length-spelled, number_at-in, slice_range-in}
 use Rattle.bdb_layout.proofs.WritingLemmas.{length-hash_chain, length-hash_tree, length-internal_chain, length-internal_inline, length-leaf_chain}
 use Rattle.bdb_layout.proofs.WritingLemmas.{length-leaf_tree}

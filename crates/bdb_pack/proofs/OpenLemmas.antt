@@ -2,8 +2,7 @@
 use Rattle.std.proofs.Common.{◌≡◌, ℕ, ◌*◌, ◌<◌, ◌≤◌, true, List, length, arith, ◌∙◌, ap, subst}
 use Rattle.bdb_layout.specs.of_format.declared.kinds.Order.{Order}
 use Rattle.bdb_layout.specs.of_format.declared.pages.RecnoItem.{RecnoItem}
-use Rattle.bdb_layout.specs.of_format.HeadOf.{is_page_size}
-use Rattle.bdb_layout.specs.of_format.Spelling.{recno_bytes}
+use Rattle.bdb_layout.specs.of_format.Terms.{is_page_size, recno_bytes}
 use Rattle.bdb_layout.proofs.of_format.SpellingLemmas.{length-pair}
 use Rattle.bdb_layout.proofs.of_format.SizeLemmas.{size_bounds}
 use Rattle.bdb_pack.specs.Placing.{IsBegun, IsOpen}

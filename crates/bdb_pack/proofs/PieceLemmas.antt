@@ -5,11 +5,7 @@ use Rattle.std.proofs.lemmas.Bool.{eq-eqb}
 use Rattle.std.proofs.lemmas.List.{drop_at, length-take-le, take_at}
 use Rattle.bdb_layout.specs.of_format.declared.kinds.Order.{Order}
 use Rattle.bdb_layout.specs.of_format.declared.pages.Header.{Header}
-use Rattle.bdb_layout.specs.of_format.Numbers.{byte_at, four_at, overwritten, two_at}
-use Rattle.bdb_layout.specs.of_format.Page.{Overflow}
-use Rattle.bdb_layout.specs.of_format.Reading.{header_of, page_type}
-use Rattle.bdb_layout.specs.of_format.Rows.{body_code}
-use Rattle.bdb_layout.specs.of_format.Spelling.{header_bytes}
+use Rattle.bdb_layout.specs.of_format.Terms.{Overflow, body_code, byte_at, four_at, header_bytes, header_of, overwritten, page_type, two_at}
 use Rattle.bdb_layout.proofs.of_format.SizeLemmas.{size_bounds}
 use Rattle.bdb_law_grove.proofs.GroveLemmas.{above}
 use Rattle.bdb_pack.specs.Values.{ChainPagesAreFormed, chain_page, piece_header, piece_length, piece_next}

@@ -4,11 +4,8 @@ use Rattle.std.specs.Prelude.{◌==◌}
 use Rattle.std.proofs.lemmas.Bool.{eqb-true}
 use Rattle.bdb_layout.specs.of_format.declared.kinds.Order.{Order}
 use Rattle.bdb_layout.specs.of_format.declared.pages.RecnoItem.{RecnoItem}
-use Rattle.bdb_layout.specs.of_format.Spelling.{IsHashContent, IsLeafContent}
-use Rattle.bdb_layout.specs.of_format.Numbers.{byte_at}
-use Rattle.bdb_layout.specs.of_format.Page.{Content, InternalItem, Item}
-use Rattle.bdb_layout.specs.of_format.Reading.{abstract_page, entries_of, hash_end, hash_item_at, internal_item_at, leaf_item_at, listed, page_as, page_type}
-use Rattle.bdb_layout.specs.of_format.Reading.{recno_item_at}
+use Rattle.bdb_layout.specs.of_format.Terms.{Content, InternalItem, IsHashContent, IsLeafContent, Item, abstract_page, byte_at, entries_of, hash_end}
+use Rattle.bdb_layout.specs.of_format.Terms.{hash_item_at, internal_item_at, leaf_item_at, listed, page_as, page_type, recno_item_at}
 use Rattle.bdb_pack.specs.Items.{IsWritable, OnHash, OnInternal, OnLeaf, OnRecno, PageItem, holds_item, is_hash_type, is_leaf_type, item_bytes}
 use Rattle.bdb_pack.specs.Placing.{IsBegun, ItemsArePlaced, high_free_of, page_with, with_item}
 use Rattle.bdb_pack.proofs.OpenLemmas.{open_is}

@@ -7,11 +7,8 @@ use Rattle.std.proofs.lemmas.Bool.Decides.{nat_tests}
 use Rattle.bdb_layout.specs.of_format.declared.kinds.Order.{Order}
 use Rattle.bdb_layout.specs.of_format.declared.pages.ItemFault.{ItemFault}
 use Rattle.bdb_layout.specs.of_format.declared.pages.ItemFault.TheVariants.{Extent, Kind, Offset}
-use Rattle.bdb_layout.specs.of_format.Numbers.{byte_at}
+use Rattle.bdb_layout.specs.of_format.Terms.{byte_at, entries_of, first_row, hash_end, hash_rows, item_code, item_row, offset_of, page_type, ◌:?◌}
 use Rattle.bdb_layout.specs.of_format.declared.pages.PageType.TheVariants.{Hash as HashPage}
-use Rattle.bdb_layout.specs.of_format.Reading.{entries_of, hash_end, offset_of, page_type}
-use Rattle.bdb_layout.specs.of_format.Rows.{hash_rows, item_code, item_row}
-use Rattle.bdb_layout.specs.of_format.Table.{◌:?◌, first_row}
 use Rattle.bdb_layout.proofs.of_format.BoolLemmas.{second_false}
 use Rattle.bdb_pack.specs.Placing.{IsBegun, high_free_of}
 

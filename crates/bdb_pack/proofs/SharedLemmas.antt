@@ -3,12 +3,9 @@ use Rattle.std.proofs.Common.{◌≡◌, ℕ, ◌+◌, ◌-◌, ◌≤◌, List,
 use Rattle.std.specs.Prelude.{◌%◌}
 use Rattle.std.proofs.lemmas.Bool.{ltb-false, or_parts}
 use Rattle.bdb_layout.specs.of_format.declared.kinds.Order.{Order}
-use Rattle.bdb_layout.specs.of_format.Numbers.{byte_at}
-use Rattle.bdb_layout.specs.of_format.Page.{Leaf}
+use Rattle.bdb_layout.specs.of_format.Terms.{Leaf, byte_at, entries_of, first_row, index_end, item_code, item_row, leaf_item_at, leaf_rows, listed, offset_of}
+use Rattle.bdb_layout.specs.of_format.Terms.{page_type}
 use Rattle.bdb_layout.specs.of_format.declared.pages.PageType.TheVariants.{Leaf as LeafPage}
-use Rattle.bdb_layout.specs.of_format.Reading.{entries_of, index_end, leaf_item_at, listed, offset_of, page_type}
-use Rattle.bdb_layout.specs.of_format.Rows.{item_row, leaf_rows, item_code}
-use Rattle.bdb_layout.specs.of_format.Table.{first_row}
 use Rattle.bdb_layout.proofs.of_format.LeafLemmas.{one_offset}
 use Rattle.std.specs.Option.{option_map}
 use Rattle.bdb_pack.specs.Placing.{EntriesAreShared, high_free_of, page_again, page_and_shared, with_item}

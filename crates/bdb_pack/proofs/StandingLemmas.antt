@@ -8,11 +8,10 @@ use Rattle.std.proofs.lemmas.List.Folds.{list_all_at}
 use Rattle.bdb_layout.specs.of_format.declared.kinds.Order.{Order}
 use Rattle.bdb_layout.specs.of_format.declared.pages.Header.{Header}
 use Rattle.bdb_layout.specs.of_format.declared.pages.RecnoItem.{RecnoItem}
-use Rattle.bdb_layout.specs.of_format.Numbers.{byte_at, four_at, two_at}
-use Rattle.bdb_layout.specs.of_format.Page.{Chain, Content, Inline, InternalItem, Item, Listed}
-use Rattle.bdb_layout.specs.of_format.Reading.{abstract_page, entries_of, hash_content, hash_end, hash_item_at, internal_item_at, internal_key, is_deleted}
-use Rattle.bdb_layout.specs.of_format.Reading.{is_zero, kind_at, leaf_content, leaf_item_at, listed, offset_of, page_as, page_type, recno_item_at}
-use Rattle.bdb_layout.specs.of_format.Spelling.{IsHashContent, IsKey, IsLeafContent, hash_bytes, internal_bytes, leaf_bytes, recno_bytes}
+use Rattle.bdb_layout.specs.of_format.Terms.{Chain, Content, Inline, InternalItem, IsHashContent, IsKey, IsLeafContent, Item, Listed, abstract_page, byte_at}
+use Rattle.bdb_layout.specs.of_format.Terms.{entries_of, four_at, hash_bytes, hash_content, hash_end, hash_item_at, internal_bytes, internal_item_at}
+use Rattle.bdb_layout.specs.of_format.Terms.{internal_key, is_deleted, is_zero, kind_at, leaf_bytes, leaf_content, leaf_item_at, listed, offset_of, page_as}
+use Rattle.bdb_layout.specs.of_format.Terms.{page_type, recno_bytes, recno_item_at, two_at}
 use Rattle.bdb_layout.proofs.of_format.ListLemmas.{range_more}
 use Rattle.bdb_layout.proofs.ReadBackLemmas.{hash_items_read_back, internal_items_read_back, leaf_items_read_back, recno_items_read_back}
 use Rattle.bdb_pack.specs.Placing.{with_item}

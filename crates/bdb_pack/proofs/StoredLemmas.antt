@@ -5,11 +5,7 @@ use Rattle.std.specs.Prelude.{nat_lt}
 use Rattle.std.proofs.lemmas.Bool.{lt-ltb}
 use Rattle.std.proofs.lemmas.List.{append-nil, get_or-append-add, get_or-map, length-take-le, take-append-drop}
 use Rattle.bdb_layout.specs.of_format.declared.kinds.Order.{Order}
-use Rattle.bdb_layout.specs.of_format.HeadOf.{is_page_size}
-use Rattle.bdb_layout.specs.of_format.Page.{NoType, Overflow, Page}
-use Rattle.bdb_layout.specs.of_format.File.{File, page_at}
-use Rattle.bdb_layout.specs.of_format.Reading.{abstract_page}
-use Rattle.bdb_layout.specs.of_format.Chains.{joined}
+use Rattle.bdb_layout.specs.of_format.Terms.{File, NoType, Overflow, Page, abstract_page, is_page_size, joined, page_at}
 use Rattle.bdb_law_grove.specs.Growing.{IsLink, IsRun, IsSamePage, chain_header}
 use Rattle.bdb_law_grove.proofs.ChainLemmas.{chains_stand, is_between}
 use Rattle.bdb_pack.specs.Built.{bytes_of, file_so_far}

@@ -6,8 +6,7 @@ use Rattle.std.specs.List.{list_any}
 use Rattle.std.proofs.lemmas.Bool.{cases_Bool, eqb-true}
 use Rattle.bdb_layout.specs.of_format.declared.pages.PageType.TheVariants.{Hash as HashPage}
 use Rattle.bdb_layout.specs.of_format.declared.kinds.Order.{Order}
-use Rattle.bdb_layout.specs.of_format.Reading.{page_type}
-use Rattle.bdb_layout.specs.of_format.Rows.{body_code, is_tree_type, listed_code}
+use Rattle.bdb_layout.specs.of_format.Terms.{body_code, is_tree_type, listed_code, page_type}
 use Rattle.bdb_pack.specs.Items.{is_hash_type, is_leaf_type, takes_items}
 
 -- the first of a list of types, or one of the others

@@ -3,8 +3,7 @@ use Rattle.std.proofs.Common.{◌≡◌, ℕ, suc, min, ◌+◌, ◌-◌, ◌*�
 use Rattle.std.proofs.Common.{ap, subst, length-append, length-drop}
 use Rattle.std.proofs.lemmas.List.{append_assoc, append-nil, get_or_push, length-replicate, length-take-le, set_at}
 use Rattle.bdb_layout.specs.of_format.declared.kinds.Order.{Order}
-use Rattle.bdb_layout.specs.of_format.Numbers.{overwritten}
-use Rattle.bdb_layout.specs.of_format.Spelling.{header_bytes}
+use Rattle.bdb_layout.specs.of_format.Terms.{header_bytes, overwritten}
 use Rattle.bdb_layout.proofs.of_format.SpellingLemmas.{length-overwritten}
 use Rattle.bdb_pack.specs.Built.{AreWhole, Built, bytes_of, with_zeros, written_over}
 use Rattle.bdb_pack.specs.Values.{AreChainPages, HasChain, chain_page, piece_header, piece_length, piece_next, with_piece}

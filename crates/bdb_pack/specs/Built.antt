@@ -2,11 +2,8 @@
 use Rattle.std.specs.Prelude.{◌≡◌, ℕ, ◌-◌, ◌*◌, ◌<◌, ◌≤◌, ◌^◌, IsTrue, zero, suc, List, [], ◌∷◌, ◌++◌, length, map, take, drop, get_or, set, replicate}
 use Rattle.bdb_layout.specs.of_format.declared.kinds.Order.{Order}
 use Rattle.bdb_layout.specs.of_format.declared.metadata.FileKind.TheVariants.{Btree}
-use Rattle.bdb_layout.specs.of_format.File.{File}
+use Rattle.bdb_layout.specs.of_format.Terms.{File, abstract_page, is_page_size, overwritten}
 use Rattle.std.specs.List.{flat_map}
-use Rattle.bdb_layout.specs.of_format.Numbers.{overwritten}
-use Rattle.bdb_layout.specs.of_format.Reading.{abstract_page}
-use Rattle.bdb_layout.specs.of_format.HeadOf.{is_page_size}
 
 pub record Built : Type 0 where
   pub size : ℕ

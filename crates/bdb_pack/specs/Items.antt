@@ -3,9 +3,8 @@ use Rattle.std.specs.Prelude.{◌≡◌, ℕ, ◌^◌, ◌%◌, ◌<◌, ◌==�
 use Rattle.std.specs.List.{list_any}
 use Rattle.bdb_layout.specs.of_format.declared.kinds.Order.{Order}
 use Rattle.bdb_layout.specs.of_format.declared.pages.RecnoItem.{RecnoItem}
-use Rattle.bdb_layout.specs.of_format.Numbers.{pad4}
-use Rattle.bdb_layout.specs.of_format.Page.{Content, Inline, Set, Chain, Tree, Unknown, Item, InternalItem}
-use Rattle.bdb_layout.specs.of_format.Spelling.{IsHashContent, IsKey, IsLeafContent, hash_bytes, internal_bytes, leaf_bytes, recno_bytes}
+use Rattle.bdb_layout.specs.of_format.Terms.{Chain, Content, Inline, InternalItem, IsHashContent, IsKey, IsLeafContent, Item, Set, Tree, Unknown, hash_bytes}
+use Rattle.bdb_layout.specs.of_format.Terms.{internal_bytes, leaf_bytes, pad4, recno_bytes}
 
 -- an item of a leaf, of an internal page, of an internal page of a recno tree, or of a hash page
 pub data PageItem : Type 0 where

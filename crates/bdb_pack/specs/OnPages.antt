@@ -1,7 +1,6 @@
 -- What is asked of a page among pages that are being built, and what an item makes of them.
 use Rattle.std.specs.Prelude.{ℕ, Bool, List, length}
-use Rattle.bdb_layout.specs.of_format.Numbers.{byte_at}
-use Rattle.bdb_layout.specs.of_format.Reading.{entries_of}
+use Rattle.bdb_layout.specs.of_format.Terms.{byte_at, entries_of}
 use Rattle.bdb_pack.specs.Built.{Built, bytes_of, with_page}
 use Rattle.bdb_pack.specs.Items.{HasPlace, PageItem, holds_item}
 use Rattle.bdb_pack.specs.Placing.{HasRoom, IsBegun, has_room, page_and_item}

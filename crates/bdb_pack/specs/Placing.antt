@@ -2,16 +2,12 @@
 use Rattle.std.specs.Prelude.{◌≡◌, ℕ, ◌+◌, ◌-◌, ◌%◌, ◌≤◌, ◌<◌, ◌^◌, nat_le, Bool, true, false, List, [], ◌∷◌, ◌++◌, length, None}
 use Rattle.bdb_layout.specs.of_format.declared.kinds.Order.{Order}
 use Rattle.bdb_layout.specs.of_format.declared.pages.Header.{Header}
-use Rattle.bdb_layout.specs.of_format.HeadOf.{is_page_size}
-use Rattle.bdb_layout.specs.of_format.Numbers.{byte_at, four_at, overwritten, spelled, two_at}
-use Rattle.bdb_layout.specs.of_format.Page.{DupLeaf, Hash, Internal, Item, Leaf, Listed, NoType, Page}
-use Rattle.bdb_layout.specs.of_format.Page.{RecnoInternal, RecnoLeaf}
+use Rattle.bdb_layout.specs.of_format.Terms.{DupLeaf, Hash, Internal, Item, Leaf, Listed, NoType, Page, RecnoInternal, RecnoLeaf, abstract_page, byte_at}
+use Rattle.bdb_layout.specs.of_format.Terms.{entries_of, four_at, header_bytes, index_end, is_page_size, is_wrong_entry_count, is_wrong_level, item_row}
+use Rattle.bdb_layout.specs.of_format.Terms.{leaf_item_at, offset_of, overwritten, page_code, page_type, spelled, two_at}
 use Rattle.bdb_layout.specs.of_format.declared.pages.PageType.{PageType}
 use Rattle.bdb_layout.specs.of_format.declared.pages.PageType.TheVariants.{DupLeaf as DupLeafPage, Hash as HashPage, Internal as InternalPage}
 use Rattle.bdb_layout.specs.of_format.declared.pages.PageType.TheVariants.{Leaf as LeafPage, RecnoInternal as RecnoInternalPage, RecnoLeaf as RecnoLeafPage}
-use Rattle.bdb_layout.specs.of_format.Reading.{abstract_page, entries_of, index_end, leaf_item_at, offset_of, page_type}
-use Rattle.bdb_layout.specs.of_format.Rows.{is_wrong_entry_count, is_wrong_level, item_row, page_code}
-use Rattle.bdb_layout.specs.of_format.Spelling.{header_bytes}
 use Rattle.bdb_pack.specs.Items.{HasPlace, IsWritable, OnHash, OnInternal, OnLeaf, OnRecno, PageItem, extent, holds_item, item_bytes, takes_items}
 
 abbrev pub high_free_of : Order → List ℕ → ℕ

@@ -1,9 +1,7 @@
 -- A stored value stands in each later file: a grove of its own, with the value. Source: docs/FORMAT.md, "Stored values".
 use Rattle.std.specs.Prelude.{◌≡◌, ℕ, ◌+◌, ◌-◌, ◌<◌, ◌≤◌, ◌^◌, Bool, List, [], ◌∷◌, length, true}
 use Rattle.bdb_layout.specs.of_format.declared.metadata.FileKind.TheVariants.{Queue}
-use Rattle.bdb_layout.specs.of_format.Chains.{joined}
-use Rattle.bdb_layout.specs.of_format.File.{File, file_of}
-use Rattle.bdb_layout.specs.of_format.HeadOf.{head_of, is_page_size}
+use Rattle.bdb_layout.specs.of_format.Terms.{File, file_of, head_of, is_page_size, joined}
 use Rattle.bdb_law_grove.specs.Growing.{IsChainOf, IsCounted, IsLater, IsRun}
 use Rattle.bdb_law_grove.specs.Part.{between}
 use Rattle.bdb_pack.specs.Built.{AreWhole, Built, file_so_far, joined_pages}

@@ -3,12 +3,7 @@ use Rattle.std.specs.Prelude.{◌≡◌, ℕ, true, None, ◌+◌, ◌-◌, ◌*
 use Rattle.std.specs.Prelude.{replicate}
 use Rattle.bdb_layout.specs.of_format.declared.kinds.Order.{Order}
 use Rattle.bdb_layout.specs.of_format.declared.pages.Header.{Header}
-use Rattle.bdb_layout.specs.of_format.HeadOf.{is_page_size}
-use Rattle.bdb_layout.specs.of_format.Numbers.{byte_at, overwritten}
-use Rattle.bdb_layout.specs.of_format.Page.{Overflow}
-use Rattle.bdb_layout.specs.of_format.Reading.{abstract_page, entries_of}
-use Rattle.bdb_layout.specs.of_format.Rows.{page_code}
-use Rattle.bdb_layout.specs.of_format.Spelling.{header_bytes}
+use Rattle.bdb_layout.specs.of_format.Terms.{Overflow, abstract_page, byte_at, entries_of, header_bytes, is_page_size, overwritten, page_code}
 use Rattle.bdb_pack.specs.Built.{Built}
 use Rattle.bdb_pack.specs.declared.values.Stored.{Stored}
 use Rattle.bdb_pack.specs.declared.values.Stored.TheVariants.{Inline, Chain}

@@ -1,10 +1,8 @@
 ghost use Rattle.std.specs.Prelude.{◌≡◌, ℕ, ◌+◌, ◌-◌, ◌*◌, ◌<◌, ◌≤◌, ◌^◌, ◌∷◌, ◌++◌, [], IsTrue, OnErr, OnOk, IfOk, length, replicate, take, drop};
 ghost use Rattle.std.specs.Borrow.{sem};
 ghost use Rattle.std.specs.Bool.{OnTrue};
-ghost use Rattle.bdb_layout.specs.of_format.HeadOf.{is_page_size};
-ghost use Rattle.bdb_layout.specs.of_format.Numbers.{byte_at};
-ghost use Rattle.bdb_layout.specs.of_format.Reading.{entries_of, index_end, is_zero};
-ghost use Rattle.bdb_layout.specs.of_format.Spelling.{IsHashContent, IsKey, IsLeafContent, hash_bytes, internal_bytes, leaf_bytes, recno_bytes};
+ghost use Rattle.bdb_layout.specs.of_format.Terms.{IsHashContent, IsKey, IsLeafContent, byte_at, entries_of, hash_bytes, index_end, internal_bytes};
+ghost use Rattle.bdb_layout.specs.of_format.Terms.{is_page_size, is_zero, leaf_bytes, recno_bytes};
 ghost use Rattle.bdb_layout.specs.of_format.declared.kinds.Order.{Order as ByteOrder};
 ghost use Rattle.bdb_layout.specs.Seen.{HasOrder, hash_content_seen, internal_item_seen, leaf_item_seen};
 ghost use Rattle.bdb_pack.specs.Items.{IsWritable, OnHash, OnInternal, OnLeaf, OnRecno, extent, takes_items};

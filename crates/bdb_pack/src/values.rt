@@ -1,7 +1,5 @@
 ghost use Rattle.std.specs.Prelude.{◌≡◌, ◌+◌, ◌-◌, ◌*◌, ◌/◌, ◌<◌, ◌≤◌, ◌^◌, IfOk, IsTrue, length, min, take, replicate};
-ghost use Rattle.bdb_layout.specs.of_format.HeadOf.{is_page_size};
-ghost use Rattle.bdb_layout.specs.of_format.Numbers.{overwritten};
-ghost use Rattle.bdb_layout.specs.of_format.Spelling.{header_bytes};
+ghost use Rattle.bdb_layout.specs.of_format.Terms.{header_bytes, is_page_size, overwritten};
 ghost use Rattle.bdb_pack.specs.Built.{with_page};
 ghost use Rattle.bdb_pack.specs.Values.{IsStored, chain_page, piece_length, piece_next, with_piece};
 

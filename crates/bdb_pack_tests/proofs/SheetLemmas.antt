@@ -1,11 +1,10 @@
 -- A sheet stays one.
 use Rattle.std.proofs.Common.{◌≡◌, ℕ, ◌+◌, ◌-◌, ◌≤◌, true, List, [], ◌∷◌, length, replicate, refl, ap, subst, arith, ◌∙◌, length-append}
 use Rattle.bdb_form.specs.of_format.declared.pages.Header.{Header}
-use Rattle.bdb_form.specs.of_format.HeadOf.{is_page_size}
+use Rattle.bdb_form.specs.of_format.Terms.{index_end, is_page_size}
 use Rattle.std.proofs.lemmas.Bool.Decides.{nat_tests}
 use Rattle.std.proofs.lemmas.List.{length-set}
 use Rattle.bdb_form.specs.of_format.declared.kinds.Order.{Order}
-use Rattle.bdb_form.specs.of_format.Reading.{index_end}
 use Rattle.bdb_pack.specs.Built.{Built, bytes_of, with_page, with_zeros}
 use Rattle.bdb_pack.specs.Items.{IsWritable, PageItem, item_bytes, takes_items}
 use Rattle.bdb_pack.specs.OnPages.{HasRoomOn, IsBegunOn, has_room_on, with_item_on}

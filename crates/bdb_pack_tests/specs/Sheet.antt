@@ -1,8 +1,7 @@
 -- What a sheet keeps: two pages, of which the second takes items.
 use Rattle.std.specs.Prelude.{◌≡◌, ℕ, ◌%◌, ◌≤◌, true, List, length}
 use Rattle.bdb_form.specs.of_format.declared.kinds.Order.{Order}
-use Rattle.bdb_form.specs.of_format.Numbers.{byte_at}
-use Rattle.bdb_form.specs.of_format.Reading.{entries_of}
+use Rattle.bdb_form.specs.of_format.Terms.{byte_at, entries_of}
 use Rattle.bdb_pack.specs.Built.{Built}
 use Rattle.bdb_pack.specs.Items.{HasPlace, PageItem, holds_item}
 use Rattle.bdb_pack.specs.OnPages.{IsBegunOn}

@@ -1,7 +1,6 @@
 ghost use Rattle.std.specs.Prelude.{◌≡◌, ◌==◌, ◌≤◌, IfOk, IsTrue, length};
 ghost use Rattle.std.specs.Bool.{OnTrue};
-ghost use Rattle.bdb_form.specs.of_format.HeadOf.{is_page_size};
-ghost use Rattle.bdb_form.specs.of_format.Numbers.{byte_at};
+ghost use Rattle.bdb_form.specs.of_format.Terms.{byte_at, is_page_size};
 ghost use Rattle.bdb_form.specs.of_layout.Seen.{HasOrder, hash_content_seen, internal_item_seen, leaf_item_seen};
 ghost use Rattle.bdb_pack.specs.Items.{OnHash, OnInternal, OnLeaf, OnRecno, takes_items};
 ghost use Rattle.bdb_pack.specs.Placing.{CanShare};

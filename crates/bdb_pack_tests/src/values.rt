@@ -2,7 +2,7 @@
 //! Values: docs/FORMAT.md, "The header".
 
 ghost use Rattle.std.specs.Prelude.{◌≤◌, IsTrue, length};
-ghost use Rattle.bdb_form.specs.of_format.HeadOf.{is_page_size};
+ghost use Rattle.bdb_form.specs.of_format.Terms.{is_page_size};
 
 use bdb_form::{Bytes, Header, Order, PageView, form};
 use bdb_pack::{Pages, Stored, push_value};

@@ -6,9 +6,8 @@ use Rattle.std.proofs.lemmas.Bool.{cases_eq, cases_lt}
 use Rattle.std.proofs.lemmas.List.Elements.{filter-append}
 use Rattle.std.proofs.lemmas.Nat.{div-add-mod', div-mul-add, mod-mul-add, mod_below}
 use Rattle.bdb_overflow.specs.of_format.declared.metadata.QueueMeta.{QueueMeta}
-use Rattle.bdb_overflow.specs.of_format.File.{File, file_of, page_at}
-use Rattle.bdb_overflow.specs.of_format.Lists.{ListKey, NumberKey, get, is_key, listed_slot, page_records, queue_list, record_number}
-use Rattle.bdb_overflow.specs.of_format.Page.{Page, Queue}
+use Rattle.bdb_overflow.specs.of_format.Terms.{File, ListKey, NumberKey, Page, Queue, file_of, get, is_key, listed_slot, page_at, page_records, queue_list}
+use Rattle.bdb_overflow.specs.of_format.Terms.{record_number}
 use Rattle.bdb_overflow.proofs.of_format.FileLemmas.{past_last}
 use Rattle.bdb_queue.specs.Records.{data_in, record_in_slot, record_of}
 

@@ -9,13 +9,8 @@ use Rattle.bdb_overflow.specs.of_format.declared.kinds.Order.{Order}
 use Rattle.bdb_overflow.specs.of_format.declared.metadata.FileKind.TheVariants.{Queue as QueueKind}
 use Rattle.bdb_overflow.specs.of_format.declared.metadata.Head.{Head}
 use Rattle.bdb_overflow.specs.of_format.declared.metadata.QueueMeta.{QueueMeta}
-use Rattle.bdb_overflow.specs.of_format.File.{file_of, page_at, page_bytes, type_in}
-use Rattle.bdb_overflow.specs.of_format.HeadOf.{head_of, is_page_size}
-use Rattle.bdb_overflow.specs.of_format.Numbers.{byte_at, four_at, pad4}
-use Rattle.bdb_overflow.specs.of_format.Page.{QueueFields, Meta, Queue}
-use Rattle.bdb_overflow.specs.of_format.Reading.{abstract_page, is_zero, page_as, page_type, queue_fields}
-use Rattle.bdb_overflow.specs.of_format.Rows.{form_code, metadata_rows, records_per_page}
-use Rattle.bdb_overflow.specs.of_format.Table.{first_row}
+use Rattle.bdb_overflow.specs.of_format.Terms.{Meta, Queue, QueueFields, abstract_page, byte_at, file_of, first_row, form_code, four_at, head_of, is_page_size}
+use Rattle.bdb_overflow.specs.of_format.Terms.{is_zero, metadata_rows, pad4, page_as, page_at, page_bytes, page_type, queue_fields, records_per_page, type_in}
 use Rattle.bdb_overflow.proofs.of_format.VerdictLemmas.{AllFail, none_is_first_row}
 use Rattle.bdb_overflow.specs.of_image.Linked.{HasMetadata, IsForest}
 use Rattle.bdb_overflow.proofs.of_image.FirstLemmas.{formed_accepted, formed_last, formed_page}

@@ -3,11 +3,8 @@ use Rattle.std.proofs.Common.{◌≡◌, ℕ, suc, ◌+◌, ◌-◌, ◌*◌, �
 use Rattle.std.specs.List.{flat_map, range_with_len}
 use Rattle.std.proofs.Math.Nat.{mul-le-mul_right}
 use Rattle.bdb_overflow.specs.of_format.declared.metadata.QueueMeta.{QueueMeta}
-use Rattle.bdb_overflow.specs.of_format.File.{File, file_of, page_at}
-use Rattle.bdb_overflow.specs.of_format.Lists.{ListKey, listed_slot, page_records, queue_list}
-use Rattle.bdb_overflow.specs.of_format.Page.{Page, Queue, NoType}
+use Rattle.bdb_overflow.specs.of_format.Terms.{File, ListKey, NoType, Page, Queue, file_of, listed_slot, pad4, page_at, page_records, queue_list}
 use Rattle.std.proofs.lemmas.Bool.{cases_lt}
-use Rattle.bdb_overflow.specs.of_format.Numbers.{pad4}
 use Rattle.bdb_overflow.proofs.of_format.FileLemmas.{past_last, last_page}
 use Rattle.bdb_queue.specs.Records.{HasSlots, left_from, records_from, slots_from}
 

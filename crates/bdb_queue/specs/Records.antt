@@ -4,10 +4,7 @@ use Rattle.std.specs.List.{flat_map, range_with_len}
 use Rattle.std.specs.Option.{option_to_list}
 use Rattle.bdb_overflow.specs.of_image.Linked.{HasMetadata}
 use Rattle.bdb_overflow.specs.of_format.declared.metadata.QueueMeta.{QueueMeta}
-use Rattle.bdb_overflow.specs.of_format.File.{File, page_at}
-use Rattle.bdb_overflow.specs.of_format.Lists.{ListKey, NumberKey, listed_slot, page_records}
-use Rattle.bdb_overflow.specs.of_format.Numbers.{pad4}
-use Rattle.bdb_overflow.specs.of_format.Page.{Page, Queue, QueueFields}
+use Rattle.bdb_overflow.specs.of_format.Terms.{File, ListKey, NumberKey, Page, Queue, QueueFields, listed_slot, pad4, page_at, page_records}
 use Rattle.bdb_queue.specs.declared.record.Record.{Record}
 
 -- a record with its number as its key

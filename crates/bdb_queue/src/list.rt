@@ -1,8 +1,6 @@
 ghost use Rattle.std.specs.Prelude.{◌≡◌};
 ghost use Rattle.bdb_overflow.specs.of_image.Linked.{HasMetadata};
-ghost use Rattle.bdb_overflow.specs.of_format.File.{file_of};
-ghost use Rattle.bdb_overflow.specs.of_format.Lists.{queue_list};
-ghost use Rattle.bdb_overflow.specs.of_format.Page.{QueueFields};
+ghost use Rattle.bdb_overflow.specs.of_format.Terms.{QueueFields, file_of, queue_list};
 
 use crate::Scan;
 use bdb_overflow::{Linked, QueueMeta};

@@ -1,9 +1,7 @@
 ghost use Rattle.std.specs.Prelude.{◌≡◌, ◌+◌, ◌<◌, ◌≤◌, length};
 ghost use Rattle.std.specs.Iterator.{YieldsFirstBy, item_count};
 ghost use Rattle.bdb_overflow.specs.of_image.Linked.{HasMetadata, IsForest};
-ghost use Rattle.bdb_overflow.specs.of_format.File.{file_of, page_at};
-ghost use Rattle.bdb_overflow.specs.of_format.Lists.{NumberKey, get, queue_list};
-ghost use Rattle.bdb_overflow.specs.of_format.Page.{QueueFields};
+ghost use Rattle.bdb_overflow.specs.of_format.Terms.{NumberKey, QueueFields, file_of, get, page_at, queue_list};
 ghost use Rattle.bdb_overflow.specs.Datum.{datum_seen};
 ghost use Rattle.bdb_queue.specs.Records.{data_in, record_in_slot, records_seen};
 

@@ -1,6 +1,5 @@
 ghost use Rattle.std.specs.Prelude.{◌≡◌, ◌+◌, ◌*◌, ◌≤◌, length};
-ghost use Rattle.bdb_overflow.specs.of_format.Lists.{listed_slot, record_number};
-ghost use Rattle.bdb_overflow.specs.of_format.Numbers.{pad4};
+ghost use Rattle.bdb_overflow.specs.of_format.Terms.{listed_slot, pad4, record_number};
 ghost use Rattle.bdb_queue.specs.Records.{records_seen};
 
 use bdb_overflow::{QueueMeta, QueueView};

@@ -1,9 +1,7 @@
 ghost use Rattle.std.specs.Prelude.{◌≡◌};
 ghost use Rattle.std.specs.Iterator.{YieldsFirstBy, item_count};
 ghost use Rattle.bdb_overflow.specs.of_image.Linked.{HasMetadata};
-ghost use Rattle.bdb_overflow.specs.of_format.File.{file_of};
-ghost use Rattle.bdb_overflow.specs.of_format.Lists.{queue_list};
-ghost use Rattle.bdb_overflow.specs.of_format.Page.{QueueFields};
+ghost use Rattle.bdb_overflow.specs.of_format.Terms.{QueueFields, file_of, queue_list};
 ghost use Rattle.bdb_overflow.specs.Datum.{datum_seen, key_view_seen};
 
 use crate::walk::{SlotPlace, first_from};
@@ -29,8 +27,7 @@ impl Drop for Scan<'_> {
 
 impl<'a> Model for Scan<'a> {
     ghost use Rattle.std.specs.Prelude.{List, ℕ};
-    ghost use Rattle.bdb_overflow.specs.of_format.File.{file_of};
-    ghost use Rattle.bdb_overflow.specs.of_format.Lists.{ListKey};
+    ghost use Rattle.bdb_overflow.specs.of_format.Terms.{ListKey, file_of};
     ghost use Rattle.bdb_queue.specs.Records.{IsPlace, left_from};
 
     ghost Value = { List (ListKey × List ℕ) };

@@ -1,7 +1,6 @@
 ghost use Rattle.std.specs.Prelude.{◌≡◌, ◌<◌, ◌≤◌, ◌∷◌, [], IfSome, MatchOption};
 ghost use Rattle.bdb_overflow.specs.of_image.Linked.{HasMetadata, IsForest};
-ghost use Rattle.bdb_overflow.specs.of_format.File.{file_of, page_at};
-ghost use Rattle.bdb_overflow.specs.of_format.Page.{QueueFields};
+ghost use Rattle.bdb_overflow.specs.of_format.Terms.{QueueFields, file_of, page_at};
 ghost use Rattle.bdb_queue.specs.Records.{HasSlots, left_from, record_seen, records_from, slots_from};
 
 use crate::record::{Record, record_in};

@@ -4,12 +4,7 @@ use Rattle.std.specs.Prelude.{Option, Some, None, MatchOption}
 use Rattle.std.specs.List.{prefix_len}
 use Rattle.std.proofs.lemmas.List.{length-append}
 use Rattle.bdb_btree.specs.of_format.declared.metadata.BtreeMeta.{BtreeMeta}
-use Rattle.bdb_btree.specs.of_format.ContentRows.{database_faults}
-use Rattle.bdb_btree.specs.of_format.File.{File, file_of, header_in, page_at}
-use Rattle.bdb_btree.specs.of_format.Flags.{is_recno}
-use Rattle.bdb_btree.specs.of_format.HeadOf.{head_of}
-use Rattle.bdb_btree.specs.of_format.Leaves.{leaves}
-use Rattle.bdb_btree.specs.of_format.Page.{BtreeFields}
+use Rattle.bdb_btree.specs.of_format.Terms.{BtreeFields, File, database_faults, file_of, head_of, header_in, is_recno, leaves, page_at}
 use Rattle.bdb_btree.proofs.of_format.FileLemmas.{count_is}
 use Rattle.bdb_btree.specs.of_image.Linked.{HasMetadata, IsForest}
 use Rattle.bdb_btree.proofs.of_image.FirstLemmas.{formed_accepted}

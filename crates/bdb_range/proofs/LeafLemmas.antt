@@ -1,9 +1,7 @@
 -- The leaves of a btree's root.
 use Rattle.std.proofs.Common.{inl, ℕ, List, [], ◌∷◌, ◌++◌}
 use Rattle.bdb_btree.specs.of_format.declared.metadata.BtreeMeta.{BtreeMeta}
-use Rattle.bdb_btree.specs.of_format.File.{File, file_of}
-use Rattle.bdb_btree.specs.of_format.HeadOf.{head_of}
-use Rattle.bdb_btree.specs.of_format.Page.{BtreeFields}
+use Rattle.bdb_btree.specs.of_format.Terms.{BtreeFields, File, file_of, head_of}
 use Rattle.bdb_btree.specs.of_image.Linked.{HasMetadata, IsForest}
 use Rattle.bdb_btree.proofs.of_graph.LinkedLemmas.{root_fits}
 use Rattle.bdb_tree.specs.Trees.{IsRoot}

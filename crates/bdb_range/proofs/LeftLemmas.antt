@@ -3,9 +3,7 @@ use Rattle.std.proofs.Common.{◌≡◌, ◌∙◌, ℕ, zero, suc, ◌-◌, ◌
 use Rattle.std.proofs.Common.{sym, ap, arith}
 use Rattle.std.specs.Prelude.{Option}
 use Rattle.std.specs.List.{flat_map}
-use Rattle.bdb_btree.specs.of_format.Contents.{StoredPair, pairs_of}
-use Rattle.bdb_btree.specs.of_format.File.{File}
-use Rattle.bdb_btree.specs.of_format.Lists.{ListKey, listed_pair}
+use Rattle.bdb_btree.specs.of_format.Terms.{File, ListKey, StoredPair, listed_pair, pairs_of}
 use Rattle.bdb_btree.specs.Pairs.{left_of, pairs_left}
 use Rattle.bdb_btree.specs.Search.{entries_left}
 use Rattle.bdb_range.specs.Ranges.{lies_between}

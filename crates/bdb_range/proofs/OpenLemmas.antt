@@ -4,14 +4,8 @@ use Rattle.std.specs.List.{Contains, flat_map}
 use Rattle.std.proofs.lemmas.List.{take-append-drop}
 use Rattle.std.proofs.lemmas.List.Elements.{Contains-append_left, Contains-append_right}
 use Rattle.bdb_btree.specs.of_format.declared.metadata.BtreeMeta.{BtreeMeta}
-use Rattle.bdb_btree.specs.of_format.Contents.{pairs_of, tree_pairs}
-use Rattle.bdb_btree.specs.of_format.File.{File, file_of}
+use Rattle.bdb_btree.specs.of_format.Terms.{BtreeFields, File, btree_list, file_of, head_of, leaves, listed_pair, pairs_of, structure_faults, tree_pairs}
 use Rattle.bdb_btree.specs.of_format.declared.metadata.Head.{Head}
-use Rattle.bdb_btree.specs.of_format.HeadOf.{head_of}
-use Rattle.bdb_btree.specs.of_format.Leaves.{leaves}
-use Rattle.bdb_btree.specs.of_format.Lists.{btree_list, listed_pair}
-use Rattle.bdb_btree.specs.of_format.Page.{BtreeFields}
-use Rattle.bdb_btree.specs.of_format.Verdict.{structure_faults}
 use Rattle.bdb_btree.proofs.of_format.MemberLemmas.{first_member, in_flat_map, member_cases, no_member, of_flat_map}
 use Rattle.bdb_btree.specs.of_image.Linked.{FitsLeafPage, HasMetadata, IsForest}
 use Rattle.bdb_btree.proofs.of_graph.LinkedLemmas.{root_fits}

@@ -6,10 +6,8 @@ use Rattle.std.specs.List.{Contains, flat_map}
 use Rattle.std.proofs.lemmas.List.{take-append-drop}
 use Rattle.std.proofs.lemmas.List.Concat.{flat_map-append}
 use Rattle.std.proofs.lemmas.List.Elements.{Contains-append_left, Contains-append_right, filter-append}
-use Rattle.bdb_btree.specs.of_format.Contents.{StoredPair, data_of, pairs_of, tree_pairs}
-use Rattle.bdb_btree.specs.of_format.File.{File, file_of, header_in, page_at}
-use Rattle.bdb_btree.specs.of_format.Leaves.{leaves}
-use Rattle.bdb_btree.specs.of_format.Lists.{ListKey, BytesKey, btree_list, listed_pair}
+use Rattle.bdb_btree.specs.of_format.Terms.{BytesKey, File, ListKey, StoredPair, btree_list, data_of, file_of, header_in, leaves, listed_pair, page_at}
+use Rattle.bdb_btree.specs.of_format.Terms.{pairs_of, tree_pairs}
 use Rattle.bdb_btree.proofs.of_format.MemberLemmas.{first_member, later_member, member_cases, no_member}
 use Rattle.bdb_btree.specs.of_graph.Forest.{AllDistinct, NotIn}
 use Rattle.bdb_btree.proofs.of_graph.LeavesLemmas.{no_leaf_twice}

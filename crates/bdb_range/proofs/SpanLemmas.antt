@@ -8,13 +8,8 @@ use Rattle.std.proofs.lemmas.List.Concat.{flat_map-append}
 use Rattle.std.proofs.lemmas.List.Elements.{Contains-append_cases, filter-append}
 use Rattle.std.proofs.lemmas.Bool.{eq-eqb}
 use Rattle.bdb_btree.specs.of_format.declared.metadata.BtreeMeta.{BtreeMeta}
-use Rattle.bdb_btree.specs.of_format.Contents.{StoredPair, pairs_of, tree_pairs}
-use Rattle.bdb_btree.specs.of_format.ContentRows.{btree_contents, database_faults, database_rows, is_out_of_order, neighbours}
-use Rattle.bdb_btree.specs.of_format.File.{File, file_of}
-use Rattle.bdb_btree.specs.of_format.Flags.{is_recno}
-use Rattle.bdb_btree.specs.of_format.Leaves.{leaves}
-use Rattle.bdb_btree.specs.of_format.Less.{less}
-use Rattle.bdb_btree.specs.of_format.Page.{BtreeFields}
+use Rattle.bdb_btree.specs.of_format.Terms.{BtreeFields, File, StoredPair, btree_contents, database_faults, database_rows, file_of, is_out_of_order, is_recno}
+use Rattle.bdb_btree.specs.of_format.Terms.{leaves, less, neighbours, pairs_of, tree_pairs}
 use Rattle.bdb_btree.proofs.of_format.LessLemmas.{less_above, less_self}
 use Rattle.bdb_btree.proofs.of_format.MemberLemmas.{first_member, in_flat_map, later_member, member_cases, no_member, none_passes}
 use Rattle.bdb_btree.proofs.of_format.ListLemmas.{passes_here}

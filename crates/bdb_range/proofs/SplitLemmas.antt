@@ -7,12 +7,8 @@ use Rattle.std.proofs.lemmas.List.{drop_more, get_or-drop, get_or-take, length-d
 use Rattle.std.proofs.lemmas.List.Elements.{Contains-append_cases}
 use Rattle.std.proofs.lemmas.List.Folds.{flat_map-map}
 use Rattle.std.proofs.lemmas.List.Concat.{flat_map-append}
-use Rattle.bdb_btree.specs.of_format.Chains.{value_of}
-use Rattle.bdb_btree.specs.of_format.Contents.{StoredPair, pairs_of, tree_pairs}
-use Rattle.bdb_btree.specs.of_format.File.{File, file_of, page_at, type_in}
-use Rattle.bdb_btree.specs.of_format.Leaves.{children_in, leaves}
-use Rattle.bdb_btree.specs.of_format.Less.{less}
-use Rattle.bdb_btree.specs.of_format.Page.{InternalItem, Internal, Listed}
+use Rattle.bdb_btree.specs.of_format.Terms.{File, Internal, InternalItem, Listed, StoredPair, children_in, file_of, leaves, less, page_at, pairs_of}
+use Rattle.bdb_btree.specs.of_format.Terms.{tree_pairs, type_in, value_of}
 use Rattle.bdb_btree.proofs.of_format.LessLemmas.{less_above, less_trans}
 use Rattle.bdb_btree.proofs.of_format.MemberLemmas.{in_flat_map, in_map, no_member, of_flat_map}
 use Rattle.bdb_btree.proofs.of_format.TypeLemmas.{tree_keyed}

@@ -1,9 +1,7 @@
 -- The pairs of a tree between two keys, and the leaves that hold them. Source: docs/FORMAT.md, "Ranges".
 use Rattle.std.specs.Prelude.{ℕ, ◌==◌, Bool, List, length}
 use Rattle.std.specs.List.{filter, list_any}
-use Rattle.bdb_btree.specs.of_format.Contents.{StoredPair, pairs_of}
-use Rattle.bdb_btree.specs.of_format.File.{File}
-use Rattle.bdb_btree.specs.of_format.Leaves.{leaves}
+use Rattle.bdb_btree.specs.of_format.Terms.{File, StoredPair, leaves, pairs_of}
 use Rattle.bdb_range.specs.Ranges.{lies_between}
 
 -- the pairs with a key in the range, deleted ones too

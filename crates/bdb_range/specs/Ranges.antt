@@ -1,8 +1,7 @@
 -- The pairs of a list between two keys. Source: docs/FORMAT.md, "Ranges".
 use Rattle.std.specs.Prelude.{ℕ, ◌&&◌, not, Bool, false, List}
 use Rattle.std.specs.List.{filter}
-use Rattle.bdb_btree.specs.of_format.Less.{less}
-use Rattle.bdb_btree.specs.of_format.Lists.{ListKey, BytesKey, NumberKey}
+use Rattle.bdb_btree.specs.of_format.Terms.{BytesKey, ListKey, NumberKey, less}
 
 -- a key isn't less than the first bound, and is less than the second
 abbrev pub lies_between : List ℕ → List ℕ → List ℕ → Bool

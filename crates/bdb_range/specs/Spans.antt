@@ -2,14 +2,8 @@
 use Rattle.std.specs.Prelude.{◌≡◌, ◌≤◌, ℕ, ◌+◌, Bool, true, false, List, ◌∷◌, ◌++◌, [], length, take}
 use Rattle.std.specs.List.{Contains, flat_map, prefix_len}
 use Rattle.bdb_btree.specs.of_format.declared.metadata.BtreeMeta.{BtreeMeta}
-use Rattle.bdb_btree.specs.of_format.ContentRows.{database_faults}
-use Rattle.bdb_btree.specs.of_format.Contents.{StoredPair, pairs_of, tree_pairs}
-use Rattle.bdb_btree.specs.of_format.File.{File, file_of, header_in, page_at}
-use Rattle.bdb_btree.specs.of_format.Flags.{is_recno}
-use Rattle.bdb_btree.specs.of_format.Leaves.{leaves}
-use Rattle.bdb_btree.specs.of_format.Less.{less}
-use Rattle.bdb_btree.specs.of_format.Lists.{btree_list, listed_pair}
-use Rattle.bdb_btree.specs.of_format.Page.{BtreeFields}
+use Rattle.bdb_btree.specs.of_format.Terms.{BtreeFields, File, StoredPair, btree_list, database_faults, file_of, header_in, is_recno, leaves, less}
+use Rattle.bdb_btree.specs.of_format.Terms.{listed_pair, page_at, pairs_of, tree_pairs}
 use Rattle.bdb_btree.specs.of_image.Linked.{HasMetadata, IsForest}
 use Rattle.bdb_tree.specs.Descent.{descent}
 use Rattle.bdb_btree.specs.Search.{is_below}

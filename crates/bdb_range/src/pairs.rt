@@ -1,10 +1,7 @@
 ghost use Rattle.std.specs.Prelude.{◌≡◌, []};
 ghost use Rattle.std.specs.Iterator.{YieldsFirstBy, item_count};
 ghost use Rattle.bdb_btree.specs.of_image.Linked.{HasMetadata};
-ghost use Rattle.bdb_btree.specs.of_format.File.{file_of};
-ghost use Rattle.bdb_btree.specs.of_format.Lists.{btree_list};
-ghost use Rattle.bdb_btree.specs.of_format.Page.{BtreeFields};
-ghost use Rattle.bdb_btree.specs.of_format.Verdict.{structure_faults};
+ghost use Rattle.bdb_btree.specs.of_format.Terms.{BtreeFields, btree_list, file_of, structure_faults};
 ghost use Rattle.bdb_btree.specs.of_overflow.Datum.{datum_seen};
 ghost use Rattle.bdb_btree.specs.Pairs.{pair_seen};
 ghost use Rattle.bdb_btree.specs.Search.{entry_seen};
@@ -40,8 +37,7 @@ impl Drop for SpanPairs<'_> {
 
 impl<'a> Model for SpanPairs<'a> {
     ghost use Rattle.std.specs.Prelude.{List, take};
-    ghost use Rattle.bdb_btree.specs.of_format.Contents.{StoredPair};
-    ghost use Rattle.bdb_btree.specs.of_format.File.{file_of};
+    ghost use Rattle.bdb_btree.specs.of_format.Terms.{StoredPair, file_of};
 
     ghost Value = { List StoredPair };
 
@@ -105,8 +101,7 @@ impl Drop for RangePairs<'_, '_> {
 
 impl<'a, 'k> Model for RangePairs<'a, 'k> {
     ghost use Rattle.std.specs.Prelude.{List, ℕ};
-    ghost use Rattle.bdb_btree.specs.of_format.File.{file_of};
-    ghost use Rattle.bdb_btree.specs.of_format.Lists.{ListKey};
+    ghost use Rattle.bdb_btree.specs.of_format.Terms.{ListKey, file_of};
 
     ghost Value = { List (ListKey × List ℕ) };
 

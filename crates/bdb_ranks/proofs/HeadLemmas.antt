@@ -13,17 +13,11 @@ use Rattle.bdb_tree.specs.of_format.declared.pages.RecnoItem.{RecnoItem}
 use Rattle.bdb_tree.specs.of_format.declared.references.Reference.{Reference}
 use Rattle.bdb_tree.specs.of_format.declared.references.Sort.{Sort}
 use Rattle.bdb_tree.specs.of_format.declared.references.Sort.TheVariants.{Free as FreeRef, Root, Bucket, HashNext, Child, OverflowHead, OverflowNext, DuplicateRoot}
-use Rattle.bdb_tree.specs.of_format.File.{File, file_of, header_in, page_at, page_bytes, type_in}
-use Rattle.bdb_tree.specs.of_format.Graph.{Owner, all_references, first_holder, is_anchor, is_meta, is_reserve, is_spare, owners}
-use Rattle.bdb_tree.specs.of_format.Hashing.{first_page}
-use Rattle.bdb_tree.specs.of_format.HeadOf.{head_of}
-use Rattle.bdb_tree.specs.of_format.Numbers.{byte_at}
-use Rattle.bdb_tree.specs.of_format.Page.{BtreeFields, HashFields, Content, Chain, Tree, Page}
-use Rattle.bdb_tree.specs.of_format.Page.{Free, Meta, Hash, Internal, RecnoInternal, Leaf, RecnoLeaf, DupLeaf, Overflow}
-use Rattle.bdb_tree.specs.of_format.Reading.{is_zero, page_as, page_type}
-use Rattle.bdb_tree.specs.of_format.References.{asked_by, child_types, content_targets, contents_in, first_free, fit_code, fit_rows, has_type, internal_targets}
-use Rattle.bdb_tree.specs.of_format.References.{is_asked, is_zero_page, root_types, targets_in, unless_zero}
-use Rattle.bdb_tree.specs.of_format.Rows.{form_code, type_of}
+use Rattle.bdb_tree.specs.of_format.Terms.{BtreeFields, Chain, Content, DupLeaf, File, Free, Hash, HashFields, Internal, Leaf, Meta, Overflow, Owner, Page}
+use Rattle.bdb_tree.specs.of_format.Terms.{RecnoInternal, RecnoLeaf, Tree, all_references, asked_by, byte_at, child_types, content_targets, contents_in}
+use Rattle.bdb_tree.specs.of_format.Terms.{file_of, first_free, first_holder, first_page, fit_code, fit_rows, form_code, has_type, head_of, header_in}
+use Rattle.bdb_tree.specs.of_format.Terms.{internal_targets, is_anchor, is_asked, is_meta, is_reserve, is_spare, is_zero, is_zero_page, owners, page_as}
+use Rattle.bdb_tree.specs.of_format.Terms.{page_at, page_bytes, page_type, root_types, targets_in, type_in, type_of, unless_zero}
 use Rattle.bdb_tree.proofs.of_format.FileLemmas.{page_is}
 use Rattle.bdb_tree.proofs.of_format.GraphLemmas.{IsOwner, is_owner, owner_fits, reserve_is, typed_page, zero_page}
 use Rattle.bdb_tree.proofs.of_format.ListLemmas.{only_member}

@@ -12,8 +12,7 @@ use Rattle.std.proofs.lemmas.Bool.{cases_eq, false_from_ne_true, ltb-false}
 use Rattle.std.proofs.lemmas.Fn.{always_returns_same}
 use Rattle.std.proofs.lemmas.List.Elements.{Contains-get_or}
 use Rattle.std.proofs.lemmas.List.Sorted.{Contains-permutation, IsPermutation-sym}
-use Rattle.bdb_tree.specs.of_format.File.{file_of}
-use Rattle.bdb_tree.specs.of_format.Less.{less, Less}
+use Rattle.bdb_tree.specs.of_format.Terms.{Less, file_of, less}
 use Rattle.bdb_tree.proofs.of_format.LessLemmas.{below_less, less_above, less_not_back, less_self, same_unless_less}
 use Rattle.bdb_tree.specs.of_overflow.Held.{chain_value}
 use Rattle.bdb_ranks.specs.Ranks.{AreBelow, AreRanked, AreRanks, is_above, no_chain, value_at, value_less}

@@ -2,8 +2,7 @@
 use Rattle.std.specs.Prelude.{◌≡◌, ◌≤◌, ℕ, ◌+◌, ◌-◌, nat_lt, ◌&&◌, Bool, false, List, [], get_or, Some}
 use Rattle.std.specs.BTreeMap.{BTreeMap, get}
 use Rattle.std.specs.Ordering.{nat_cmp}
-use Rattle.bdb_tree.specs.of_format.File.{file_of}
-use Rattle.bdb_tree.specs.of_format.Less.{less}
+use Rattle.bdb_tree.specs.of_format.Terms.{file_of, less}
 use Rattle.bdb_tree.specs.of_overflow.Held.{chain_value}
 use Rattle.bdb_ranks.specs.Shared.{ChainValue}
 

@@ -1,7 +1,7 @@
 -- Chains of a file with their values. Source: docs/FORMAT.md, "Other pages" and "Items".
 use Rattle.std.specs.Prelude.{◌≡◌, ℕ, List}
 use Rattle.std.specs.List.{Contains}
-use Rattle.bdb_tree.specs.of_format.File.{file_of}
+use Rattle.bdb_tree.specs.of_format.Terms.{file_of}
 use Rattle.bdb_tree.specs.of_overflow.Held.{chain_value}
 
 -- a chain by its head

@@ -1,7 +1,7 @@
 ghost use Rattle.std.specs.Prelude.{◌≡◌, ◌<◌, List, ℕ, IfOk, length};
 ghost use Rattle.std.specs.List.Sorted.{IsPermutation, IsSortedBy};
 ghost use Rattle.std.specs.Ordering.{is_lt};
-ghost use Rattle.bdb_tree.specs.of_format.Less.{less};
+ghost use Rattle.bdb_tree.specs.of_format.Terms.{less};
 ghost use Rattle.bdb_ranks.specs.Ranks.{AreRanks, is_above, value_less};
 ghost use Rattle.bdb_ranks.specs.Shared.{AreShared};
 

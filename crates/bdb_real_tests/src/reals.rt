@@ -3,11 +3,7 @@
 ghost use Rattle.std.specs.Prelude.{◌≡◌, [], IsTrue, false};
 ghost use Rattle.std.specs.Iterator.{IsFinite};
 ghost use Rattle.bdb_btree.specs.of_image.Linked.{HasMetadata};
-ghost use Rattle.bdb_btree.specs.of_format.ContentRows.{database_faults};
-ghost use Rattle.bdb_btree.specs.of_format.File.{file_of};
-ghost use Rattle.bdb_btree.specs.of_format.Page.{BtreeFields, HashFields, QueueFields};
-ghost use Rattle.bdb_btree.specs.of_format.Verdict.{structure_faults};
-ghost use Rattle.bdb_btree.specs.of_format.Flags.{is_recno};
+ghost use Rattle.bdb_btree.specs.of_format.Terms.{BtreeFields, HashFields, QueueFields, database_faults, file_of, is_recno, structure_faults};
 
 use crate::real_images::{self, Image};
 use crate::{real_btree_lists, real_btrees, real_lists, real_set_lists};

@@ -1,6 +1,8 @@
 -- The faults that are noted of a recno are those of its contents.
 use Rattle.std.proofs.lemmas.Bool.{and_parts, and_from, false_from_ne_true}
-use Rattle.bdb_tree.specs.of_format.FaultTable.{contents_row_code}
+use Rattle.bdb_tree.specs.of_format.Terms.{BtreeFields, File, Page, Row, btree_contents, by_page, children_in, contents_row_code, database_faults}
+use Rattle.bdb_tree.specs.of_format.Terms.{database_rows, file_of, has_wrong_count, has_wrong_record, header_in, inner_in, inner_pages, is_fixed, is_recno}
+use Rattle.bdb_tree.specs.of_format.Terms.{is_wrong_at, leaves, page_at, recno_contents, ◌:?◌}
 use Rattle.bdb_tree.proofs.of_format.ListLemmas.{only_member}
 use Rattle.std.proofs.Common.{◌≡◌, ◌⊎◌, ℕ, zero, suc, ◌+◌, ◌≤◌, Bool, true, false, cond, List, [], ◌∷◌, ◌++◌, arith, refl, sym, ◌∙◌, ap}
 use Rattle.std.proofs.Common.{subst, inl, inr}
@@ -13,16 +15,9 @@ use Rattle.bdb_faults.proofs.SinkLemmas.{notes_both, notes_same}
 use Rattle.bdb_tree.specs.of_image.Linked.{HasMetadata, IsForest}
 use Rattle.bdb_tree.specs.of_format.declared.kinds.Fault.{Fault}
 use Rattle.bdb_tree.specs.of_format.declared.metadata.BtreeMeta.{BtreeMeta}
-use Rattle.bdb_tree.specs.of_format.ContentRows.{btree_contents, database_faults, database_rows, has_wrong_count, has_wrong_record, inner_in, inner_pages}
-use Rattle.bdb_tree.specs.of_format.ContentRows.{is_wrong_at, recno_contents}
-use Rattle.bdb_tree.specs.of_format.File.{File, file_of, header_in, page_at}
-use Rattle.bdb_tree.specs.of_format.Leaves.{children_in, leaves}
-use Rattle.bdb_tree.specs.of_format.Page.{BtreeFields, Page}
-use Rattle.bdb_tree.specs.of_format.Table.{Row, ◌:?◌}
-use Rattle.bdb_tree.specs.of_format.Verdict.{by_page, holding}
+use Rattle.bdb_tree.specs.of_format.Verdict.{holding}
 use Rattle.bdb_tree.proofs.of_format.MemberLemmas.{first_member, later_member, member_cases, no_member, of_filter}
 use Rattle.bdb_tree.proofs.of_format.VerdictLemmas.{in_by_page, of_by_page}
-use Rattle.bdb_tree.specs.of_format.Flags.{is_fixed, is_recno}
 use Rattle.bdb_recno.specs.Counts.{HasRightCounts}
 use Rattle.bdb_recno.specs.Noted.{count_faults, length_faults}
 use Rattle.bdb_tree.specs.of_format.declared.rows.ContentsRow.{ContentsRow}

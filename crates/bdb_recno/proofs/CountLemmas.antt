@@ -9,16 +9,12 @@ use Rattle.std.proofs.lemmas.List.Elements.{All-contains}
 use Rattle.std.proofs.Math.Bool.{or-false, or_assoc}
 use Rattle.bdb_faults.specs.Notes.{Notes, NotesAll}
 use Rattle.bdb_faults.proofs.SinkLemmas.{notes_both, notes_none, notes_one}
-use Rattle.bdb_tree.specs.of_format.FaultTable.{fault_if}
+use Rattle.bdb_tree.specs.of_format.Terms.{File, Item, Listed, RecnoInternal, RecnoLeaf, children_in, fault_if, file_of, has_wrong_count, header_in}
+use Rattle.bdb_tree.specs.of_format.Terms.{inner_pages, page_at, tree_entries}
 use Rattle.bdb_tree.specs.of_format.declared.rows.ContentsRow.TheVariants.{Count}
 use Rattle.bdb_tree.specs.of_format.declared.rows.Row.TheVariants.{Contents}
 use Rattle.bdb_tree.specs.of_format.declared.kinds.Fault.{Fault}
 use Rattle.bdb_tree.specs.of_format.declared.pages.RecnoItem.{RecnoItem}
-use Rattle.bdb_tree.specs.of_format.ContentRows.{has_wrong_count, inner_pages}
-use Rattle.bdb_tree.specs.of_format.Contents.{tree_entries}
-use Rattle.bdb_tree.specs.of_format.File.{File, file_of, header_in, page_at}
-use Rattle.bdb_tree.specs.of_format.Leaves.{children_in}
-use Rattle.bdb_tree.specs.of_format.Page.{Item, Listed, RecnoInternal, RecnoLeaf}
 use Rattle.bdb_tree.proofs.of_format.ListLemmas.{all_of, only_member}
 use Rattle.bdb_tree.proofs.of_format.MemberLemmas.{in_map, later_member, no_member, of_flat_map}
 use Rattle.bdb_tree.specs.of_image.Linked.{IsForest}

@@ -7,13 +7,10 @@ use Rattle.bdb_tree.proofs.of_image.FormedLemmas.{IsPaged, accepted_paged, page_
 use Rattle.bdb_tree.proofs.of_graph.LinkedLemmas.{forest_code}
 use Rattle.bdb_tree.specs.of_image.Linked.{IsForest}
 use Rattle.bdb_tree.specs.of_format.declared.kinds.Order.{Order}
-use Rattle.bdb_tree.specs.of_format.File.{file_of, page_at, page_bytes}
-use Rattle.bdb_tree.specs.of_format.HeadOf.{head_of}
-use Rattle.bdb_tree.specs.of_format.Page.{Item, Listed, RecnoLeaf}
+use Rattle.bdb_tree.specs.of_format.Terms.{Item, Listed, RecnoLeaf, abstract_page, file_of, head_of, leaf_item_at, listed, page_as, page_at, page_bytes}
+use Rattle.bdb_tree.specs.of_format.Terms.{page_code}
 use Rattle.bdb_tree.specs.of_format.declared.pages.PageType.{PageType}
 use Rattle.bdb_tree.specs.of_format.declared.pages.PageType.TheVariants.{RecnoLeaf as RecnoLeafPage}
-use Rattle.bdb_tree.specs.of_format.Reading.{abstract_page, leaf_item_at, listed, page_as}
-use Rattle.bdb_tree.specs.of_format.Rows.{page_code}
 use Rattle.bdb_tree.proofs.of_format.PageLemmas.{length_items}
 use Rattle.bdb_tree.proofs.of_format.FileLemmas.{kind_is, last_page, page_is}
 use Rattle.bdb_tree.proofs.of_format.SizeLemmas.{size_bounds}

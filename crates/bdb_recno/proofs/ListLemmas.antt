@@ -6,11 +6,7 @@ use Rattle.std.specs.List.{enumerate_from, flat_map}
 use Rattle.std.proofs.lemmas.Bool.{eq-eqb, ne_eqb}
 use Rattle.std.proofs.lemmas.Option.{get_or_from_slice_get, slice_get_within}
 use Rattle.bdb_tree.specs.of_image.Linked.{IsForest}
-use Rattle.bdb_tree.specs.of_format.Chains.{value_of}
-use Rattle.bdb_tree.specs.of_format.Contents.{tree_entries}
-use Rattle.bdb_tree.specs.of_format.File.{File, file_of}
-use Rattle.bdb_tree.specs.of_format.Lists.{NumberKey, get, listed_entry, recno_list}
-use Rattle.bdb_tree.specs.of_format.Page.{Item}
+use Rattle.bdb_tree.specs.of_format.Terms.{File, Item, NumberKey, file_of, get, listed_entry, recno_list, tree_entries, value_of}
 use Rattle.bdb_tree.proofs.EntryLemmas.{all_fit}
 use Rattle.bdb_tree.specs.of_overflow.Datum.{FitsContent}
 use Rattle.bdb_recno.specs.Pages.{IsRecnoPage}

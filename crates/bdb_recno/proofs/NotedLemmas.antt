@@ -6,12 +6,9 @@ use Rattle.std.proofs.lemmas.Bool.{and_parts, eqb-true, eq-eqb}
 use Rattle.std.proofs.lemmas.List.Folds.{list_any_at}
 use Rattle.bdb_faults.specs.Notes.{Notes, NotesAll}
 use Rattle.bdb_faults.proofs.SinkLemmas.{notes_next, notes_one, notes_push}
-use Rattle.bdb_tree.specs.of_format.FaultTable.{contents_row_code, fault_if}
+use Rattle.bdb_tree.specs.of_format.Terms.{File, Page, contents_row_code, fault_if, is_wrong_at, page_at}
 use Rattle.bdb_tree.specs.of_format.declared.rows.Row.TheVariants.{Contents}
 use Rattle.bdb_tree.specs.of_format.declared.kinds.Fault.{Fault}
-use Rattle.bdb_tree.specs.of_format.ContentRows.{is_wrong_at}
-use Rattle.bdb_tree.specs.of_format.File.{File, page_at}
-use Rattle.bdb_tree.specs.of_format.Page.{Page}
 use Rattle.bdb_tree.proofs.of_format.ListLemmas.{any_member, only_member}
 use Rattle.bdb_tree.proofs.of_format.MemberLemmas.{first_member, in_flat_map, no_member, of_flat_map}
 use Rattle.bdb_recno.specs.Noted.{fault_on, faults_on}

@@ -12,12 +12,8 @@ use Rattle.bdb_tree.specs.of_form.Seen.{page_seen}
 use Rattle.bdb_tree.specs.of_image.Linked.{HasMetadata, IsForest}
 use Rattle.bdb_tree.specs.of_format.declared.metadata.BtreeMeta.{BtreeMeta}
 use Rattle.bdb_tree.specs.of_format.declared.pages.RecnoItem.{RecnoItem}
-use Rattle.bdb_tree.specs.of_format.Contents.{tree_entries}
-use Rattle.bdb_tree.specs.of_format.File.{File, file_of, page_at, type_in}
-use Rattle.bdb_tree.specs.of_format.Leaves.{children_in, leaves}
-use Rattle.bdb_tree.specs.of_format.Page.{Item, Listed, BtreeFields, RecnoInternal, RecnoLeaf}
-use Rattle.bdb_tree.specs.of_format.References.{child_types, has_type}
-use Rattle.bdb_tree.specs.of_format.Flags.{is_recno}
+use Rattle.bdb_tree.specs.of_format.Terms.{BtreeFields, File, Item, Listed, RecnoInternal, RecnoLeaf, child_types, children_in, file_of, has_type, is_recno}
+use Rattle.bdb_tree.specs.of_format.Terms.{leaves, page_at, tree_entries, type_in}
 use Rattle.bdb_recno.specs.Pages.{IsRecnoPage, IsRecnoLeaf}
 use Rattle.bdb_tree.specs.Entries.{entries_on}
 use Rattle.bdb_tree.specs.Trees.{IsTreePage}

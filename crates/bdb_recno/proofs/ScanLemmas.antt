@@ -5,12 +5,7 @@ use Rattle.std.proofs.Math.Nat.{mul-le-mul_right}
 use Rattle.bdb_tree.specs.of_image.Linked.{IsForest}
 use Rattle.bdb_tree.proofs.of_image.FirstLemmas.{formed_accepted}
 use Rattle.bdb_tree.proofs.of_image.FormedLemmas.{IsPaged, accepted_paged}
-use Rattle.bdb_tree.specs.of_format.Contents.{entries_in, tree_entries}
-use Rattle.bdb_tree.specs.of_format.File.{File, file_of, page_at}
-use Rattle.bdb_tree.specs.of_format.HeadOf.{head_of}
-use Rattle.bdb_tree.specs.of_format.Leaves.{leaves}
-use Rattle.bdb_tree.specs.of_format.Lists.{recno_list}
-use Rattle.bdb_tree.specs.of_format.Page.{Item}
+use Rattle.bdb_tree.specs.of_format.Terms.{File, Item, entries_in, file_of, head_of, leaves, page_at, recno_list, tree_entries}
 use Rattle.bdb_tree.proofs.of_format.MemberLemmas.{first_member, later_member}
 use Rattle.bdb_tree.specs.Entries.{entries_on}
 use Rattle.bdb_tree.specs.Trees.{IsRoot}

@@ -8,11 +8,8 @@ use Rattle.std.proofs.lemmas.List.{drop_more}
 use Rattle.std.proofs.lemmas.Option.{get_or_from_slice_get, slice_get_within}
 use Rattle.bdb_tree.specs.of_image.Linked.{IsForest}
 use Rattle.bdb_tree.specs.of_format.declared.pages.RecnoItem.{RecnoItem}
-use Rattle.bdb_tree.specs.of_format.ContentRows.{has_wrong_count, inner_pages}
-use Rattle.bdb_tree.specs.of_format.Contents.{tree_entries}
-use Rattle.bdb_tree.specs.of_format.File.{File, file_of, header_in, page_at}
-use Rattle.bdb_tree.specs.of_format.Leaves.{children_in}
-use Rattle.bdb_tree.specs.of_format.Page.{Item, Listed, RecnoInternal, RecnoLeaf}
+use Rattle.bdb_tree.specs.of_format.Terms.{File, Item, Listed, RecnoInternal, RecnoLeaf, children_in, file_of, has_wrong_count, header_in, inner_pages}
+use Rattle.bdb_tree.specs.of_format.Terms.{page_at, tree_entries}
 use Rattle.bdb_tree.proofs.of_format.MemberLemmas.{first_member, later_member, of_map}
 use Rattle.bdb_tree.proofs.InnerLemmas.{LeadDown, child_inner, itself_inner, leads_down}
 use Rattle.bdb_tree.proofs.TreeLemmas.{tree_cases}

@@ -2,9 +2,7 @@
 use Rattle.std.specs.Prelude.{◌≡◌, ℕ, ◌-◌, ◌^◌, ◌==◌, min, nat_lt, not, if◌then◌else◌, Bool, false, List, [], ◌∷◌, length, Option, Some, None}
 use Rattle.std.specs.List.{Contains}
 use Rattle.bdb_tree.specs.of_format.declared.pages.RecnoItem.{RecnoItem}
-use Rattle.bdb_tree.specs.of_format.Contents.{tree_entries}
-use Rattle.bdb_tree.specs.of_format.ContentRows.{has_wrong_count, inner_pages}
-use Rattle.bdb_tree.specs.of_format.File.{File, page_at}
+use Rattle.bdb_tree.specs.of_format.Terms.{File, has_wrong_count, inner_pages, page_at, tree_entries}
 
 -- no internal page at or below this page has a wrong count
 pub record HasRightCounts (file : File) (p : ℕ) : Type 0 where

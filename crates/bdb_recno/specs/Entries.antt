@@ -1,9 +1,7 @@
 -- The records of a recno as a walk over its entries has them left. Source: docs/FORMAT.md, "Databases of a file".
 use Rattle.std.specs.Prelude.{ℕ, ◌+◌, ◌<◌, ◌^◌, List, length}
 use Rattle.std.specs.List.{enumerate_from, flat_map}
-use Rattle.bdb_tree.specs.of_format.File.{File}
-use Rattle.bdb_tree.specs.of_format.Lists.{ListKey, listed_entry}
-use Rattle.bdb_tree.specs.of_format.Page.{Item}
+use Rattle.bdb_tree.specs.of_format.Terms.{File, Item, ListKey, listed_entry}
 use Rattle.bdb_tree.specs.Entries.{AreFit}
 
 -- the live ones of these entries as pairs of the list, after so many entries

@@ -1,15 +1,12 @@
 -- The faults of stage 8 of a recno in the order in which they are noted. Source: docs/FORMAT.md, "Stage 8, contents".
 use Rattle.std.specs.Prelude.{ℕ, Bool, List}
 use Rattle.std.specs.List.{flat_map}
-use Rattle.bdb_tree.specs.of_format.FaultTable.{fault_if}
+use Rattle.bdb_tree.specs.of_format.Terms.{File, Page, fault_if, has_wrong_count, has_wrong_record, page_at}
 use Rattle.bdb_tree.specs.of_format.declared.rows.ContentsRow.{ContentsRow}
 use Rattle.bdb_tree.specs.of_format.declared.rows.ContentsRow.TheVariants.{Count, RecordLength}
 use Rattle.bdb_tree.specs.of_format.declared.rows.Row.TheVariants.{Contents}
 use Rattle.bdb_tree.specs.of_format.declared.kinds.Fault.{Fault}
 use Rattle.bdb_tree.specs.of_format.declared.metadata.BtreeMeta.{BtreeMeta}
-use Rattle.bdb_tree.specs.of_format.ContentRows.{has_wrong_count, has_wrong_record}
-use Rattle.bdb_tree.specs.of_format.File.{File, page_at}
-use Rattle.bdb_tree.specs.of_format.Page.{Page}
 
 -- the fault of a row at a page for which a test holds
 abbrev pub fault_on : File → ContentsRow → (Page → Bool) → ℕ → List Fault

@@ -1,7 +1,6 @@
 -- The pages of a tree of records. Source: docs/FORMAT.md, "Types" and "Items".
 use Rattle.std.specs.Prelude.{◌≡◌, ℕ, IsTrue, [], ◌∷◌, Some}
-use Rattle.bdb_tree.specs.of_format.File.{File, page_at, type_in}
-use Rattle.bdb_tree.specs.of_format.References.{has_type}
+use Rattle.bdb_tree.specs.of_format.Terms.{File, has_type, page_at, type_in}
 
 -- an internal page or a leaf of records
 abbrev pub IsRecnoPage : File → ℕ → Type 0

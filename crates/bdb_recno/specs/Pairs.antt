@@ -1,6 +1,6 @@
 -- What the iterator over records gives, as the definitions have it.
 use Rattle.std.specs.Prelude.{ℕ, List}
-use Rattle.bdb_tree.specs.of_format.Lists.{ListKey}
+use Rattle.bdb_tree.specs.of_format.Terms.{ListKey}
 use Rattle.bdb_tree.specs.of_overflow.Datum.{datum_seen, key_view_seen}
 use Rattle.bdb_tree.specs.of_overflow.declared.datum.Datum.{Datum}
 use Rattle.bdb_tree.specs.of_overflow.declared.datum.KeyView.{KeyView}

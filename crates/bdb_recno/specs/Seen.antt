@@ -1,5 +1,5 @@
 -- What a page of the code is in the definitions.
-use Rattle.bdb_tree.specs.of_format.Page.{Page, RecnoInternal, RecnoLeaf}
+use Rattle.bdb_tree.specs.of_format.Terms.{Page, RecnoInternal, RecnoLeaf}
 use Rattle.bdb_recno.specs.declared.page.RecnoPage.{RecnoPage}
 use Rattle.bdb_recno.specs.declared.page.RecnoPage.TheVariants.{Internal, Leaf}
 

@@ -2,12 +2,7 @@ ghost use Rattle.std.specs.Prelude.{◌≡◌, [], IfErr, IsTrue, OnOk, if◌the
 ghost use Rattle.bdb_faults.specs.Notes.{HasNoted};
 ghost use Rattle.bdb_faults.specs.Notes.{NotesAll};
 ghost use Rattle.bdb_tree.specs.of_image.Linked.{HasMetadata, IsForest};
-ghost use Rattle.bdb_tree.specs.of_format.ContentRows.{database_faults};
-ghost use Rattle.bdb_tree.specs.of_format.File.{file_of};
-ghost use Rattle.bdb_tree.specs.of_format.Flags.{is_fixed, is_recno};
-ghost use Rattle.bdb_tree.specs.of_format.Leaves.{leaves};
-ghost use Rattle.bdb_tree.specs.of_format.Page.{BtreeFields};
-ghost use Rattle.bdb_tree.specs.of_format.Verdict.{structure_faults, IsFirstOf};
+ghost use Rattle.bdb_tree.specs.of_format.Terms.{BtreeFields, IsFirstOf, database_faults, file_of, is_fixed, is_recno, leaves, structure_faults};
 ghost use Rattle.bdb_recno.specs.Noted.{length_faults};
 ghost use Rattle.bdb_recno.specs.Pages.{IsRecnoPage};
 ghost use Rattle.bdb_tree.specs.Trees.{IsRoot};

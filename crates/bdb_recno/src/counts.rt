@@ -1,9 +1,7 @@
 ghost use Rattle.std.specs.Prelude.{◌≡◌, IfOk, OnOk, length};
 ghost use Rattle.bdb_faults.specs.Notes.{NotesAll};
 ghost use Rattle.bdb_tree.specs.of_image.Linked.{IsForest};
-ghost use Rattle.bdb_tree.specs.of_format.ContentRows.{inner_pages};
-ghost use Rattle.bdb_tree.specs.of_format.Contents.{tree_entries};
-ghost use Rattle.bdb_tree.specs.of_format.File.{file_of};
+ghost use Rattle.bdb_tree.specs.of_format.Terms.{file_of, inner_pages, tree_entries};
 ghost use Rattle.bdb_recno.specs.Counts.{counted};
 ghost use Rattle.bdb_recno.specs.Noted.{count_faults};
 ghost use Rattle.bdb_recno.specs.Pages.{IsRecnoPage};

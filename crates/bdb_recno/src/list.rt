@@ -1,10 +1,6 @@
 ghost use Rattle.std.specs.Prelude.{◌≡◌, [], IsTrue};
 ghost use Rattle.bdb_tree.specs.of_image.Linked.{HasMetadata};
-ghost use Rattle.bdb_tree.specs.of_format.File.{file_of};
-ghost use Rattle.bdb_tree.specs.of_format.Flags.{is_recno};
-ghost use Rattle.bdb_tree.specs.of_format.Lists.{recno_list};
-ghost use Rattle.bdb_tree.specs.of_format.Page.{BtreeFields};
-ghost use Rattle.bdb_tree.specs.of_format.Verdict.{structure_faults};
+ghost use Rattle.bdb_tree.specs.of_format.Terms.{BtreeFields, file_of, is_recno, recno_list, structure_faults};
 
 use crate::Scan;
 use crate::page::pages_of;

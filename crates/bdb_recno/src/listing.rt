@@ -1,6 +1,6 @@
 ghost use Rattle.std.specs.Prelude.{◌≡◌};
 ghost use Rattle.std.specs.Iterator.{YieldsFirstBy, item_count};
-ghost use Rattle.bdb_tree.specs.of_format.File.{file_of};
+ghost use Rattle.bdb_tree.specs.of_format.Terms.{file_of};
 ghost use Rattle.bdb_recno.specs.Entries.{AreNumbered, listed_after};
 ghost use Rattle.bdb_recno.specs.Pairs.{pair_seen};
 
@@ -26,8 +26,7 @@ impl Drop for Scan<'_> {
 
 impl<'a> Model for Scan<'a> {
     ghost use Rattle.std.specs.Prelude.{List, ℕ};
-    ghost use Rattle.bdb_tree.specs.of_format.File.{file_of};
-    ghost use Rattle.bdb_tree.specs.of_format.Lists.{ListKey};
+    ghost use Rattle.bdb_tree.specs.of_format.Terms.{ListKey, file_of};
     ghost use Rattle.bdb_recno.specs.Entries.{AreNumbered, listed_after};
 
     ghost Value = { List (ListKey × List ℕ) };

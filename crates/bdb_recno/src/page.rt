@@ -1,8 +1,6 @@
 ghost use Rattle.std.specs.Prelude.{◌≡◌, IsTrue};
 ghost use Rattle.bdb_tree.specs.of_image.Linked.{FitsTreeRoot, HasMetadata, IsForest};
-ghost use Rattle.bdb_tree.specs.of_format.File.{file_of, page_at};
-ghost use Rattle.bdb_tree.specs.of_format.Page.{BtreeFields, RecnoLeaf};
-ghost use Rattle.bdb_tree.specs.of_format.Flags.{is_recno};
+ghost use Rattle.bdb_tree.specs.of_format.Terms.{BtreeFields, RecnoLeaf, file_of, is_recno, page_at};
 ghost use Rattle.bdb_recno.specs.Pages.{IsRecnoLeaf, IsRecnoPage};
 ghost use Rattle.bdb_recno.specs.Seen.{recno_page_seen};
 

@@ -3,8 +3,7 @@ ghost use Rattle.std.specs.List.{slice_get};
 ghost use Rattle.std.specs.Option.{option_map};
 ghost use Rattle.bdb_tree.specs.of_image.Linked.{IsForest};
 ghost use Rattle.bdb_tree.specs.of_layout.Seen.{leaf_item_seen};
-ghost use Rattle.bdb_tree.specs.of_format.Contents.{tree_entries};
-ghost use Rattle.bdb_tree.specs.of_format.File.{file_of, header_in, page_at};
+ghost use Rattle.bdb_tree.specs.of_format.Terms.{file_of, header_in, page_at, tree_entries};
 ghost use Rattle.bdb_recno.specs.Counts.{HasRightCounts, child_by_count};
 ghost use Rattle.bdb_recno.specs.Pages.{IsRecnoPage};
 

@@ -8,13 +8,12 @@ use Rattle.std.proofs.lemmas.Bool.{le-ltb, lt-ltb}
 use Rattle.std.proofs.lemmas.List.Elements.{All-append, All-cons, All-head, All-nil, All-tail, All-weaker}
 use Rattle.std.proofs.lemmas.List.Sums.{sum_by-append, sum_by-cons}
 use Rattle.bdb_model.specs.of_format.declared.kinds.Kind.TheVariants.{Btree, Recno}
-use Rattle.bdb_model.specs.of_format.File.{File}
-use Rattle.bdb_model.specs.of_format.HeadOf.{is_page_size}
+use Rattle.bdb_model.specs.of_format.Terms.{File, is_page_size}
 use Rattle.bdb_model.proofs.of_format.SizeLemmas.{long_page}
 use Rattle.bdb_model.specs.of_text_format.declared.pairs.Pair.{Pair}
 use Rattle.bdb_model.specs.of_text_format.declared.pairs.Key.TheVariants.{Number}
 use Rattle.bdb_model.specs.of_text_format.declared.sections.Section.{Section}
-use Rattle.bdb_model.specs.of_text_format.Pairs.{number_of}
+use Rattle.bdb_model.specs.of_text_format.Terms.{number_of}
 use Rattle.bdb_mkfile.specs.of_settle.Loaded.{loaded, loaded_pair, loaded_section, put, stands_before, unlined_pairs, unnumbered, with_loaded}
 use Rattle.bdb_mkfile.specs.of_mkleaves.Units.{TreeUnit, KeyedUnit, EntryUnit}
 use Rattle.bdb_mkfile.specs.of_mktree.Lists.{bytes_in, keyed_units, missing, onto_units, record_units}

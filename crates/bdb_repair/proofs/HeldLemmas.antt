@@ -8,14 +8,8 @@ use Rattle.std.proofs.lemmas.Bool.{cases_lt}
 use Rattle.std.proofs.lemmas.List.{get_or_past}
 use Rattle.std.proofs.lemmas.List.Elements.{All-contains, All-drop, All-take, Contains-get_or}
 use Rattle.bdb_model.specs.of_format.declared.kinds.Order.{Order}
-use Rattle.bdb_model.specs.of_format.Chains.{joined, pieces_of, value_of}
-use Rattle.bdb_model.specs.of_format.Contents.{entries_in}
-use Rattle.bdb_model.specs.of_format.File.{File, page_at}
-use Rattle.bdb_model.specs.of_format.Numbers.{byte_at, four_at}
-use Rattle.bdb_model.specs.of_format.Page.{Content, Chain, Inline, Item, Set, Tree, Unknown, Page, Hash, Leaf}
-use Rattle.bdb_model.specs.of_format.Reading.{abstract_page, page_type}
-use Rattle.bdb_model.specs.of_format.References.{no_item}
-use Rattle.bdb_model.specs.of_format.Rows.{page_code}
+use Rattle.bdb_model.specs.of_format.Terms.{Chain, Content, File, Hash, Inline, Item, Leaf, Page, Set, Tree, Unknown, abstract_page, byte_at, entries_in}
+use Rattle.bdb_model.specs.of_format.Terms.{four_at, joined, no_item, page_at, page_code, page_type, pieces_of, value_of}
 use Rattle.bdb_model.proofs.of_format.MemberLemmas.{no_member, of_flat_map, of_map}
 use Rattle.bdb_model.proofs.of_format.ListLemmas.{only_member}
 use Rattle.bdb_law_kept.specs.of_text.WrittenLaw.{AreBytes}

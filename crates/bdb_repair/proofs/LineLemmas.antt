@@ -4,13 +4,11 @@ use Rattle.std.proofs.lemmas.List.{length-map}
 use Rattle.std.specs.Prelude.{◌==◌, if◌then◌else◌}
 use Rattle.std.specs.List.{AllZip, flat_map, fold}
 use Rattle.bdb_model.specs.of_format.declared.settings.Settings.{Settings}
-use Rattle.bdb_model.specs.of_format.Databases.{Database, databases}
-use Rattle.bdb_model.specs.of_format.File.{file_of}
-use Rattle.bdb_model.specs.of_format.Less.{less}
+use Rattle.bdb_model.specs.of_format.Terms.{Database, databases, file_of, less}
 use Rattle.bdb_model.specs.of_text_format.declared.pairs.Pair.{Pair}
 use Rattle.bdb_model.specs.of_text_format.declared.pairs.TextPair.{TextPair}
 use Rattle.bdb_model.specs.of_text_format.declared.sections.Section.{Section}
-use Rattle.bdb_model.specs.of_text_format.Pairs.{listed}
+use Rattle.bdb_model.specs.of_text_format.Terms.{listed}
 use Rattle.bdb_mkfile.specs.of_settle.declared.load_error.LoadError.{LoadError}
 use Rattle.bdb_mkfile.specs.of_settle.declared.load_error.LoadError.TheVariants.{RecordTooLong, RecordZero, QueueAmongNames}
 use Rattle.bdb_mkfile.specs.of_settle.Loaded.{loaded, loaded_pair, loaded_section, unnumbered, with_loaded}

@@ -5,9 +5,8 @@ use Rattle.std.specs.List.{All, enumerate_from, flat_map, sum_by}
 use Rattle.std.proofs.lemmas.List.Elements.{All-cons, All-nil}
 use Rattle.std.proofs.lemmas.List.Sums.{sum_by-cons}
 use Rattle.bdb_model.specs.of_format.declared.kinds.Kind.TheVariants.{Queue}
-use Rattle.bdb_model.specs.of_format.HeadOf.{is_page_size}
-use Rattle.bdb_model.specs.of_format.File.{File}
-use Rattle.bdb_model.specs.of_text_format.Written.{holds_records}
+use Rattle.bdb_model.specs.of_format.Terms.{File, is_page_size}
+use Rattle.bdb_model.specs.of_text_format.Terms.{holds_records}
 use Rattle.bdb_mkfile.specs.of_law_sections.Fit.{AreFitSettings, IsFitPair, IsFitSection}
 use Rattle.bdb_mkfile.proofs.of_law_sections.PairLemmas.{fit_longer}
 use Rattle.bdb_mkfile.specs.of_settle.LoadErrors.{load_error, pair_errors}

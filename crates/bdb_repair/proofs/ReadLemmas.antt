@@ -9,17 +9,14 @@ use Rattle.std.proofs.lemmas.List.Elements.{All-cons, All-nil}
 use Rattle.bdb_model.specs.of_format.declared.kinds.Order.{Order}
 use Rattle.bdb_model.specs.of_format.declared.kinds.Order.TheVariants.{Big, Little}
 use Rattle.bdb_model.specs.of_format.declared.settings.Settings.{Settings}
-use Rattle.bdb_model.specs.of_format.File.{File}
-use Rattle.bdb_model.specs.of_format.HeadOf.{is_page_size}
-use Rattle.bdb_model.specs.of_format.Lists.{ListKey, BytesKey, NumberKey}
+use Rattle.bdb_model.specs.of_format.Terms.{BytesKey, File, ListKey, NumberKey, is_page_size}
 use Rattle.bdb_model.proofs.of_format.ListLemmas.{all_of}
 use Rattle.bdb_model.proofs.of_format.MemberLemmas.{of_map}
 use Rattle.bdb_model.specs.of_text_format.declared.pairs.Key.{Key}
 use Rattle.bdb_model.specs.of_text_format.declared.pairs.Key.TheVariants.{Bytes, Number}
 use Rattle.bdb_model.specs.of_text_format.declared.pairs.TextPair.{TextPair}
 use Rattle.bdb_model.specs.of_text_format.declared.sections.Section.{Section}
-use Rattle.bdb_model.specs.of_text_format.Header.{settings_in}
-use Rattle.bdb_model.specs.of_text_format.Sections.{Reads}
+use Rattle.bdb_model.specs.of_text_format.Terms.{Reads, settings_in}
 use Rattle.bdb_mkfile.specs.of_settle.LoadErrors.{load_error}
 use Rattle.bdb_law_kept.specs.of_text.WrittenLaw.{AreBytes, IsPairOf, IsWritable, Written, key_in, pair_in}
 use Rattle.bdb_law_kept.proofs.of_text.LookedLemmas.{legal_below, looked, name-looked}

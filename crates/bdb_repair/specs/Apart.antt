@@ -1,7 +1,6 @@
 -- What is salvaged of each database that is found, as sections that can be loaded. Source: docs/FORMAT.md, "Salvage" and "Repair".
 use Rattle.std.specs.Prelude.{ℕ, List, map, if◌then◌else◌}
-use Rattle.bdb_model.specs.of_format.Databases.{settings_of}
-use Rattle.bdb_model.specs.of_format.File.{File}
+use Rattle.bdb_model.specs.of_format.Terms.{File, settings_of}
 use Rattle.bdb_model.specs.of_text_format.declared.pairs.TextPair.{TextPair}
 use Rattle.bdb_model.specs.of_text_format.declared.sections.Section.{Section}
 use Rattle.bdb_apart.specs.Found.{Found, found}

@@ -1,6 +1,6 @@
 -- What holds of the sections that are loaded, whatever was salvaged. Source: docs/FORMAT.md, "Repair".
 use Rattle.std.specs.Prelude.{◌≡◌, ℕ, ◌/◌, ◌≤◌, ◌<◌, IsTrue, List, length, Option, None}
-use Rattle.bdb_model.specs.of_format.HeadOf.{is_page_size}
+use Rattle.bdb_model.specs.of_format.Terms.{is_page_size}
 use Rattle.bdb_mkfile.specs.of_settle.LoadErrors.{load_error}
 use Rattle.bdb_mkfile.specs.Builds.{image_size}
 use Rattle.bdb_mkfile.specs.Loading.{AreLoadable}

@@ -1,6 +1,6 @@
 -- What is salvaged of an image, as sections that can be loaded. Source: docs/FORMAT.md, "Salvage" and "Repair".
 use Rattle.std.specs.Prelude.{ℕ, List, [], ◌∷◌, map, Option, Some, None, codes}
-use Rattle.bdb_model.specs.of_format.File.{File}
+use Rattle.bdb_model.specs.of_format.Terms.{File}
 use Rattle.bdb_model.specs.of_text_format.declared.pairs.TextPair.{TextPair}
 use Rattle.bdb_model.specs.of_text_format.declared.sections.Section.{Section}
 pub use Rattle.bdb_rescue.specs.Gathered.{loose_pair, loose_pairs, stored_pair}

@@ -1,7 +1,7 @@
 //! `repair`: a sound file of what is salvaged.
 ghost use Rattle.std.specs.Prelude.{◌≡◌, ◌≤◌, ◌^◌, IfErr, IfOk, IfSome, IsTrue, None, length};
 ghost use Rattle.bdb_mkfile.specs.NamedImages.{HasBuiltTables};
-ghost use Rattle.bdb_model.specs.of_format.HeadOf.{is_page_size};
+ghost use Rattle.bdb_model.specs.of_format.Terms.{is_page_size};
 ghost use Rattle.bdb_rescue.specs.Guesses.{chosen};
 ghost use Rattle.bdb_repair.specs.Repairs.{IsRepaired, may_come, repair_answer, repair_refusal};
 

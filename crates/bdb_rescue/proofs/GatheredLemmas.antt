@@ -9,17 +9,15 @@ use Rattle.std.proofs.lemmas.Bool.{cases_eq, cases_order}
 use Rattle.std.proofs.lemmas.List.{drop-append-le, length-map, map-append, take-append-le, take_all}
 use Rattle.std.proofs.Math.Seq.{drop-append_seam}
 use Rattle.std.proofs.lemmas.Option.{same_Some}
-use Rattle.bdb_text_format.specs.of_format.File.{File}
+use Rattle.bdb_text_format.specs.of_format.Terms.{File, value_of}
 use Rattle.bdb_text_format.specs.of_places.declared.place.PlacedKey.{PlacedKey}
-use Rattle.bdb_text_format.specs.of_format.Chains.{value_of}
 use Rattle.bdb_text_format.specs.of_places.declared.place.PlacedKey.TheVariants.{Bytes as BytesAt}
 use Rattle.bdb_text_format.specs.declared.pairs.Key.{Key}
 use Rattle.bdb_text_format.specs.declared.pairs.Key.TheVariants.{Bytes, Number}
 use Rattle.bdb_text_format.specs.declared.pairs.TextPair.{TextPair}
 use Rattle.bdb_text_format.specs.of_places.Places.{span_in}
 use Rattle.bdb_text_format.specs.of_places.declared.span.Span.{Span}
-use Rattle.bdb_text_format.specs.Gathered.{Extends, Gathering, HasChains, key_again}
-use Rattle.bdb_text_format.specs.Placed.{IsKeyPlaced, IsPiecePut, pair_with, placed_key}
+use Rattle.bdb_text_format.specs.Terms.{Extends, Gathering, HasChains, IsKeyPlaced, IsPiecePut, key_again, pair_with, placed_key}
 use Rattle.bdb_text_format.proofs.GatheredLemmas.{chains_same}
 use Rattle.bdb_text_format.proofs.PlacedLemmas.{kept_on, key_stays, key_within}
 use Rattle.bdb_survey.specs.Salvage.{loose}

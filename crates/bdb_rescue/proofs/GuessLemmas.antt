@@ -4,8 +4,7 @@ use Rattle.std.specs.Prelude.{◌&&◌, nat_lt, IfSome, IsTrue, Option, Some, No
 use Rattle.std.specs.Option.{option_or}
 use Rattle.bdb_text_format.specs.of_format.declared.kinds.Order.{Order}
 use Rattle.bdb_text_format.specs.of_format.declared.kinds.Order.TheVariants.{Big, Little}
-use Rattle.bdb_text_format.specs.of_format.HeadOf.{is_page_size}
-use Rattle.bdb_text_format.specs.of_format.Numbers.{four_at}
+use Rattle.bdb_text_format.specs.of_format.Terms.{four_at, is_page_size}
 use Rattle.bdb_survey.specs.declared.guess.Guess.{Guess}
 use Rattle.bdb_rescue.specs.Guesses.{chosen, guess_in, guess_of, is_known_magic}
 

@@ -3,10 +3,8 @@ use Rattle.std.proofs.Common.{◌≡◌, ℕ, ◌+◌, ◌*◌, ◌/◌, ◌<◌
 use Rattle.std.specs.List.{All, Contains, flat_map, range_with_len}
 use Rattle.bdb_text_format.proofs.of_format.ListLemmas.{all_of}
 use Rattle.bdb_text_format.proofs.of_format.MemberLemmas.{first_member, in_flat_map, no_member, of_map, of_range}
-use Rattle.bdb_text_format.specs.of_format.Contents.{entries_in}
-use Rattle.bdb_text_format.specs.of_format.File.{File, page_at}
-use Rattle.bdb_text_format.specs.of_format.Page.{Content, Inline, Set, Chain, Tree, Unknown, Item, Page, Zero, Free, Meta, Hash, Internal, RecnoInternal, Leaf, RecnoLeaf}
-use Rattle.bdb_text_format.specs.of_format.Page.{DupLeaf, Overflow, Queue, NoType}
+use Rattle.bdb_text_format.specs.of_format.Terms.{Chain, Content, DupLeaf, File, Free, Hash, Inline, Internal, Item, Leaf, Meta, NoType, Overflow, Page, Queue}
+use Rattle.bdb_text_format.specs.of_format.Terms.{RecnoInternal, RecnoLeaf, Set, Tree, Unknown, Zero, chain, entries_in, page_at}
 use Rattle.bdb_rescue.specs.declared.kept.DataPlace.{DataPlace}
 use Rattle.bdb_rescue.specs.declared.kept.DataPlace.TheVariants.{Here, Set as OnLeaves}
 use Rattle.bdb_rescue.specs.declared.kept.KeptPair.{KeptPair}
@@ -17,7 +15,6 @@ use Rattle.bdb_survey.specs.Items.{is_valued, slot_at, slots_in}
 use Rattle.bdb_survey.specs.Salvage.{is_taken, is_whole, paired_items, set_starts}
 use Rattle.bdb_rescue.proofs.ListLemmas.{all_none, all_one, all_pieces}
 use Rattle.bdb_rescue.specs.Marks.{leaf_in, start_of}
-use Rattle.bdb_text_format.specs.of_format.Chains.{chain}
 use Rattle.std.proofs.lemmas.List.Elements.{All-contains}
 use Rattle.bdb_rescue.proofs.MarkLemmas.{starts_are}
 use Rattle.bdb_rescue.proofs.StoredLemmas.{AreOn, place_of}

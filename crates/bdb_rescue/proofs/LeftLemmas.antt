@@ -2,10 +2,9 @@
 use Rattle.std.proofs.Common.{◌≡◌, ℕ, ◌+◌, ◌*◌, Bool, true, false, cond, map, refl, List, [], ◌∷◌, ◌++◌, sym, ◌∙◌, ap, subst}
 use Rattle.std.specs.Prelude.{Option}
 use Rattle.std.specs.List.{All, flat_map}
-use Rattle.bdb_text_format.specs.of_format.File.{File}
+use Rattle.bdb_text_format.specs.of_format.Terms.{File, value_of}
 use Rattle.bdb_rescue.specs.declared.kept.KeptPair.{KeptPair}
 use Rattle.bdb_rescue.specs.declared.kept.KeptValue.{KeptValue}
-use Rattle.bdb_text_format.specs.of_format.Chains.{value_of}
 use Rattle.bdb_rescue.specs.Kept.{IsKeptPair, IsKeptValue, data_at, given, given_live, item_of, keyed, left_of, pairs_left, pairs_under, under}
 use Rattle.bdb_rescue.proofs.ListLemmas.{all_first, all_rest}
 

@@ -7,16 +7,11 @@ use Rattle.std.proofs.Math.Nat.{mul_comm}
 use Rattle.std.proofs.lemmas.Bool.{cases_lt}
 use Rattle.std.proofs.lemmas.List.FromFn.{length-range_with_len}
 use Rattle.bdb_text_format.specs.of_format.declared.kinds.Order.{Order}
-use Rattle.bdb_text_format.specs.of_format.Chains.{joined, pieces_of}
-use Rattle.bdb_text_format.specs.of_format.Contents.{entries_in}
-use Rattle.bdb_text_format.specs.of_format.File.{File, page_at}
-use Rattle.bdb_text_format.specs.of_format.Numbers.{byte_at, four_at}
-use Rattle.bdb_text_format.specs.of_format.Page.{Content, Inline, Set, Chain, Tree, Unknown, Item, Zero}
+use Rattle.bdb_text_format.specs.of_format.Terms.{Chain, Content, File, Inline, Item, Set, Tree, Unknown, Zero, abstract_page, body_code, byte_at, entries_in}
+use Rattle.bdb_text_format.specs.of_format.Terms.{first_row, four_at, identity_rows, index_end, is_tree_type, is_zero, joined, leaf_item_at, page_as, page_at}
+use Rattle.bdb_text_format.specs.of_format.Terms.{page_code, page_type, pieces_of}
 use Rattle.bdb_text_format.specs.of_format.declared.pages.PageType.{PageType}
 use Rattle.bdb_text_format.specs.of_format.declared.pages.PageType.TheVariants.{RecnoLeaf as RecnoLeafPage, DupLeaf as DupLeafPage}
-use Rattle.bdb_text_format.specs.of_format.Reading.{abstract_page, index_end, is_zero, leaf_item_at, page_as, page_type}
-use Rattle.bdb_text_format.specs.of_format.Rows.{body_code, identity_rows, is_tree_type, page_code}
-use Rattle.bdb_text_format.specs.of_format.Table.{first_row}
 use Rattle.bdb_text_format.proofs.of_format.ItemLemmas.{index_passes, no_index_row}
 use Rattle.bdb_text_format.proofs.of_format.PageLemmas.{length_items}
 use Rattle.bdb_survey.specs.Salvage.{is_taken, is_whole, live_value, live_whole, loose, loose_on, meta_code, salvaged_file, salvaged_page}

@@ -5,12 +5,9 @@ use Rattle.std.proofs.lemmas.List.{ext_get_or}
 use Rattle.std.proofs.lemmas.List.FromFn.{get_or-map-range_with_len, length-map-range_with_len}
 use Rattle.std.proofs.lemmas.List.Folds.{flat_map-map}
 use Rattle.bdb_text_format.proofs.of_format.ListLemmas.{map_joined}
-use Rattle.bdb_text_format.specs.of_format.Chains.{chain, value_of}
+use Rattle.bdb_text_format.specs.of_format.Terms.{DupLeaf, File, Free, Hash, Internal, Item, Leaf, Meta, NoType, Overflow, Page, Queue, RecnoInternal}
+use Rattle.bdb_text_format.specs.of_format.Terms.{RecnoLeaf, Zero, chain, entries_in, no_item, page_at, value_of}
 use Rattle.bdb_rescue.specs.declared.kept.KeptValue.{KeptValue}
-use Rattle.bdb_text_format.specs.of_format.Contents.{entries_in}
-use Rattle.bdb_text_format.specs.of_format.File.{File, page_at}
-use Rattle.bdb_text_format.specs.of_format.Page.{Item, Page, Zero, Free, Meta, Hash, Internal, RecnoInternal, Leaf, RecnoLeaf, DupLeaf, Overflow, Queue, NoType}
-use Rattle.bdb_text_format.specs.of_format.References.{no_item}
 use Rattle.bdb_survey.specs.Items.{is_valued, slot_at, slots_in}
 use Rattle.bdb_rescue.specs.Kept.{kept_value, loose_values, untaken_on, value_at, values_in, values_on}
 use Rattle.bdb_survey.specs.Salvage.{is_taken, live_value, live_whole, loose, loose_on}

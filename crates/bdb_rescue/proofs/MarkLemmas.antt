@@ -11,10 +11,8 @@ use Rattle.std.proofs.lemmas.List.Elements.{All-contains}
 use Rattle.std.proofs.lemmas.List.Folds.{flat_map-map}
 use Rattle.bdb_text_format.proofs.of_format.ListLemmas.{all_of, any_member, flat_map_twice, only_member, passes_here}
 use Rattle.bdb_text_format.proofs.of_format.MemberLemmas.{in_flat_map, in_range, member_cases, no_member, of_flat_map, of_range}
-use Rattle.bdb_text_format.specs.of_format.Chains.{chain, value_of}
-use Rattle.bdb_text_format.specs.of_format.File.{File, page_at}
-use Rattle.bdb_text_format.specs.of_format.Page.{Content, Inline, Set, Chain, Tree, Unknown, Item, Page, Zero, Free, Meta, Hash, Internal, RecnoInternal, Leaf, RecnoLeaf}
-use Rattle.bdb_text_format.specs.of_format.Page.{DupLeaf, Overflow, Queue, NoType}
+use Rattle.bdb_text_format.specs.of_format.Terms.{Chain, Content, DupLeaf, File, Free, Hash, Inline, Internal, Item, Leaf, Meta, NoType, Overflow, Page, Queue}
+use Rattle.bdb_text_format.specs.of_format.Terms.{RecnoInternal, RecnoLeaf, Set, Tree, Unknown, Zero, chain, page_at, value_of}
 use Rattle.bdb_rescue.specs.declared.kept.DataPlace.{DataPlace}
 use Rattle.bdb_rescue.specs.declared.kept.DataPlace.TheVariants.{Here, Set as OnLeaves}
 use Rattle.bdb_rescue.specs.declared.kept.KeptPair.{KeptPair}

@@ -4,8 +4,7 @@ use Rattle.std.specs.Prelude.{◌==◌}
 use Rattle.std.specs.List.{Contains, flat_map}
 use Rattle.std.proofs.lemmas.Bool.{eq-eqb}
 use Rattle.bdb_text_format.proofs.of_format.ListLemmas.{passes_here}
-use Rattle.bdb_text_format.specs.of_format.Chains.{chain}
-use Rattle.bdb_text_format.specs.of_format.File.{File}
+use Rattle.bdb_text_format.specs.of_format.Terms.{File, chain}
 use Rattle.bdb_text_format.specs.of_format.declared.kinds.Order.{Order}
 use Rattle.bdb_rescue.specs.Kept.{set_from, values_on}
 use Rattle.bdb_survey.specs.Salvage.{salvaged_file, set_starts}

@@ -4,10 +4,8 @@ use Rattle.std.specs.Prelude.{not}
 use Rattle.std.specs.List.{flat_map, range_with_len}
 use Rattle.std.proofs.lemmas.List.Folds.{flat_map-map}
 use Rattle.bdb_text_format.proofs.of_format.ListLemmas.{flat_map_twice, map_joined}
-use Rattle.bdb_text_format.specs.of_format.Chains.{chain, joined, pieces_of, value_of}
-use Rattle.bdb_text_format.specs.of_format.File.{File, page_at}
-use Rattle.bdb_text_format.specs.of_format.Page.{Content, Inline, Set, Chain, Tree, Unknown, Item, Page, Zero, Free, Meta, Hash, Internal, RecnoInternal, Leaf, RecnoLeaf}
-use Rattle.bdb_text_format.specs.of_format.Page.{DupLeaf, Overflow, Queue, NoType}
+use Rattle.bdb_text_format.specs.of_format.Terms.{Chain, Content, DupLeaf, File, Free, Hash, Inline, Internal, Item, Leaf, Meta, NoType, Overflow, Page, Queue}
+use Rattle.bdb_text_format.specs.of_format.Terms.{RecnoInternal, RecnoLeaf, Set, Tree, Unknown, Zero, chain, joined, page_at, pieces_of, value_of}
 use Rattle.bdb_rescue.specs.declared.kept.DataPlace.{DataPlace}
 use Rattle.bdb_rescue.specs.declared.kept.DataPlace.TheVariants.{Set as OnLeaves}
 use Rattle.bdb_rescue.specs.declared.kept.KeptPair.{KeptPair}

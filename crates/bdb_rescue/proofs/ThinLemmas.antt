@@ -2,9 +2,7 @@
 use Rattle.std.proofs.Common.{◌≡◌, ℕ, ◌<◌, Bool, true, false, cond, List, [], ◌∷◌, length, arith, refl, sym, ◌∙◌, ap, inl, inr, eqb-true}
 use Rattle.std.specs.Prelude.{Some, None}
 use Rattle.std.proofs.lemmas.Bool.{and_parts, cases_lt}
-use Rattle.bdb_text_format.specs.of_format.Chains.{joined, pieces_of, value_of}
-use Rattle.bdb_text_format.specs.of_format.File.{File}
-use Rattle.bdb_text_format.specs.of_format.Page.{Chain}
+use Rattle.bdb_text_format.specs.of_format.Terms.{Chain, File, joined, pieces_of, value_of}
 use Rattle.bdb_rescue.specs.Kept.{bytes_in, thin_from}
 use Rattle.bdb_survey.specs.Rows.{is_thin_row, row_at}
 use Rattle.bdb_survey.specs.Salvage.{is_overflow, is_row, is_whole}

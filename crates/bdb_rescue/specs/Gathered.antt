@@ -3,14 +3,12 @@ use Rattle.std.specs.Prelude.{◌≡◌, ◌≤◌, ℕ, ◌+◌, List, ◌++◌
 use Rattle.std.specs.BTreeMap.{BTreeMap, get}
 use Rattle.std.specs.List.{enumerate_from, flat_map}
 use Rattle.std.specs.Ordering.{nat_cmp}
-use Rattle.bdb_text_format.specs.of_format.Chains.{chain, joined, pieces_of}
-use Rattle.bdb_text_format.specs.of_format.File.{File}
+use Rattle.bdb_text_format.specs.of_format.Terms.{File, chain, joined, pieces_of}
 use Rattle.bdb_text_format.specs.of_places.declared.place.PlacedKey.{PlacedKey}
 use Rattle.bdb_text_format.specs.declared.pairs.Key.{Key}
 use Rattle.bdb_text_format.specs.declared.pairs.Key.TheVariants.{Bytes, Number}
 use Rattle.bdb_text_format.specs.declared.pairs.TextPair.{TextPair}
-use Rattle.bdb_text_format.specs.Gathered.{Gathering, HasChains}
-use Rattle.bdb_text_format.specs.Placed.{IsKeyPlaced, Keeps, pair_with, placed_key}
+use Rattle.bdb_text_format.specs.Terms.{Gathering, HasChains, IsKeyPlaced, Keeps, pair_with, placed_key}
 use Rattle.bdb_rescue.specs.Kept.{Reading, value_at, values_on}
 
 -- a stored pair, and a record with its number, as pairs of a section, without a line

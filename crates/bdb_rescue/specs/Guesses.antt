@@ -4,9 +4,7 @@ use Rattle.std.specs.Option.{option_or}
 use Rattle.bdb_text_format.specs.of_format.declared.kinds.Order.{Order}
 use Rattle.bdb_text_format.specs.of_format.declared.kinds.Order.TheVariants.{Big, Little}
 use Rattle.bdb_text_format.specs.of_format.declared.metadata.FileKind.TheVariants.{Btree, Hash, Queue}
-use Rattle.bdb_text_format.specs.of_format.HeadOf.{is_page_size}
-use Rattle.bdb_text_format.specs.of_format.Numbers.{four_at}
-use Rattle.bdb_text_format.specs.of_format.Rows.{magic_of}
+use Rattle.bdb_text_format.specs.of_format.Terms.{four_at, is_page_size, magic_of}
 use Rattle.bdb_survey.specs.declared.guess.Guess.{Guess}
 
 -- the magic number of a kind of file

@@ -2,11 +2,8 @@
 use Rattle.std.specs.Prelude.{◌≡◌, ◌<◌, ◌≤◌, ◌^◌, ◌++◌, ℕ, ◌+◌, ◌-◌, ◌*◌, ◌/◌, ◌==◌, not, if◌then◌else◌, Bool, true, false, List, [], ◌∷◌, map, length, take}
 use Rattle.std.specs.Prelude.{drop, slice_index_or, Option, Some, None}
 use Rattle.std.specs.List.{Contains, flat_map, list_any, range_with_len}
-use Rattle.bdb_text_format.specs.of_format.HeadOf.{is_page_size}
-use Rattle.bdb_text_format.specs.of_format.Chains.{chain, joined, value_of}
-use Rattle.bdb_text_format.specs.of_format.Contents.{entries_in}
-use Rattle.bdb_text_format.specs.of_format.File.{File, page_at}
-use Rattle.bdb_text_format.specs.of_format.Page.{Content, Inline, Set, Chain, Tree, Unknown, Item}
+use Rattle.bdb_text_format.specs.of_format.Terms.{Chain, Content, File, Inline, Item, Set, Tree, Unknown, chain, entries_in, is_page_size, joined, page_at}
+use Rattle.bdb_text_format.specs.of_format.Terms.{value_of}
 use Rattle.bdb_survey.specs.declared.guess.Guess.{Guess}
 use Rattle.bdb_rescue.specs.declared.kept.DataPlace.{DataPlace}
 use Rattle.bdb_rescue.specs.declared.kept.DataPlace.TheVariants.{Here, Set as OnLeaves}

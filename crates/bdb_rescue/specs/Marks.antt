@@ -1,8 +1,7 @@
 -- Which pages belong to sets, as they are marked.
 use Rattle.std.specs.Prelude.{◌≡◌, ℕ, ◌==◌, ◌<◌, if◌then◌else◌, Bool, false, List, [], ◌∷◌, length, slice_index_or}
 use Rattle.std.specs.List.{flat_map, list_any}
-use Rattle.bdb_text_format.specs.of_format.Chains.{chain}
-use Rattle.bdb_text_format.specs.of_format.File.{File}
+use Rattle.bdb_text_format.specs.of_format.Terms.{File, chain}
 use Rattle.bdb_rescue.specs.declared.kept.DataPlace.{DataPlace}
 use Rattle.bdb_rescue.specs.declared.kept.DataPlace.TheVariants.{Here, Set as OnLeaves}
 use Rattle.bdb_rescue.specs.declared.kept.KeptPair.{KeptPair}

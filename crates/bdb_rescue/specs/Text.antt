@@ -3,10 +3,8 @@ use Rattle.std.specs.Prelude.{ℕ, Bool, true, List, [], ◌∷◌, ◌++◌, ma
 use Rattle.std.specs.List.{enumerate_from}
 use Rattle.bdb_text_format.specs.of_format.declared.kinds.Kind.TheVariants.{Btree, Recno}
 use Rattle.bdb_text_format.specs.of_format.declared.settings.Settings.{Settings}
-use Rattle.bdb_text_format.specs.of_format.Databases.{plain_settings}
-use Rattle.bdb_text_format.specs.of_format.File.{File}
-use Rattle.bdb_text_format.specs.of_format.Lists.{ListKey, BytesKey, NumberKey}
-use Rattle.bdb_text_format.specs.Written.{section_text}
+use Rattle.bdb_text_format.specs.of_format.Terms.{BytesKey, File, ListKey, NumberKey, plain_settings}
+use Rattle.bdb_text_format.specs.Terms.{section_text}
 use Rattle.bdb_survey.specs.declared.guess.Guess.{Guess}
 use Rattle.bdb_survey.specs.Salvage.{loose, salvaged_file, stored}
 

@@ -9,10 +9,8 @@ ghost use Rattle.bdb_survey.specs.of_layout.Seen.{content_seen};
 ghost use Rattle.bdb_survey.specs.of_overflow.Datum.{datum_seen};
 ghost use Rattle.bdb_text_format.specs.declared.pairs.TextPair.{TextPair};
 ghost use Rattle.bdb_text_format.specs.of_places.Places.{span_in};
-ghost use Rattle.bdb_text_format.specs.Gathered.{HasChains, IsSpanOf};
-ghost use Rattle.bdb_text_format.specs.Placed.{IsKeyPlaced, IsPiecePut, Keeps};
-ghost use Rattle.bdb_text_format.specs.of_format.Chains.{value_of};
-ghost use Rattle.bdb_text_format.specs.of_format.Page.{Chain};
+ghost use Rattle.bdb_text_format.specs.Terms.{HasChains, IsKeyPlaced, IsPiecePut, IsSpanOf, Keeps};
+ghost use Rattle.bdb_text_format.specs.of_format.Terms.{Chain, value_of};
 
 use crate::Salvaged;
 use crate::kept::{DataPlace, KeptPair, KeptValue};

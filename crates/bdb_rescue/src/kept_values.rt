@@ -1,5 +1,5 @@
 ghost use Rattle.std.specs.Prelude.{◌≡◌, ◌++◌, ◌<◌, IfOk, OnOk, if◌then◌else◌, [], length};
-ghost use Rattle.bdb_text_format.specs.of_format.Chains.{chain};
+ghost use Rattle.bdb_text_format.specs.of_format.Terms.{chain};
 ghost use Rattle.std.specs.List.{flat_map};
 ghost use Rattle.std.specs.Option.{option_to_list};
 ghost use Rattle.bdb_rescue.specs.Kept.{IsTable, kept_value, loose_values, untaken_on, values_in, values_on};

@@ -1,9 +1,6 @@
 ghost use Rattle.std.specs.Prelude.{◌≡◌, ◌≢◌, ◌^◌, ◌≤◌, ◌<◌, IfOk, IfSome, IsTrue, Err, None, Some, length, map};
 ghost use Rattle.std.specs.List.{Contains, flat_map};
-ghost use Rattle.bdb_text_format.specs.of_format.Chains.{chain, value_of};
-ghost use Rattle.bdb_text_format.specs.of_format.File.{page_at};
-ghost use Rattle.bdb_text_format.specs.of_format.Page.{Chain};
-ghost use Rattle.bdb_text_format.specs.of_format.HeadOf.{is_page_size};
+ghost use Rattle.bdb_text_format.specs.of_format.Terms.{Chain, chain, is_page_size, page_at, value_of};
 ghost use Rattle.bdb_rescue.specs.Guesses.{chosen};
 ghost use Rattle.bdb_rescue.specs.Kept.{IsKeptValue, IsTable, file_in, item_of, kept_on, kept_pairs, numbered_at, pairs_under, set_from, thin_from, value_at};
 ghost use Rattle.bdb_rescue.specs.Kept.{untaken_on, values_on};

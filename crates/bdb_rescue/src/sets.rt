@@ -1,6 +1,6 @@
 ghost use Rattle.std.specs.Prelude.{◌≡◌, ◌+◌, ◌++◌, IfOk, OnOk, if◌then◌else◌, [], map};
 ghost use Rattle.std.specs.List.{flat_map, range_with_len};
-ghost use Rattle.bdb_text_format.specs.of_format.Chains.{chain};
+ghost use Rattle.bdb_text_format.specs.of_format.Terms.{chain};
 ghost use Rattle.bdb_rescue.specs.Kept.{IsTable, set_from, values_on};
 ghost use Rattle.bdb_rescue.specs.Marks.{Marks};
 ghost use Rattle.bdb_survey.specs.Salvage.{set_starts};

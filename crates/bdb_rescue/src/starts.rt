@@ -1,6 +1,6 @@
 ghost use Rattle.std.specs.Prelude.{◌≡◌, ◌++◌, ◌<◌, ◌∷◌, [], IfOk, IsTrue, false, slice_index_or, if◌then◌else◌, ℕ, List, length};
 ghost use Rattle.std.specs.List.{All, flat_map};
-ghost use Rattle.bdb_text_format.specs.of_format.Chains.{chain};
+ghost use Rattle.bdb_text_format.specs.of_format.Terms.{chain};
 ghost use Rattle.bdb_rescue.specs.Kept.{kept_pairs};
 ghost use Rattle.bdb_rescue.specs.Marks.{Marks, start_of, starts_of};
 ghost use Rattle.bdb_survey.specs.Salvage.{set_starts};

@@ -1,5 +1,5 @@
 ghost use Rattle.std.specs.Prelude.{◌≡◌, ◌++◌, IfOk, OnOk};
-ghost use Rattle.bdb_text_format.specs.of_format.Chains.{joined};
+ghost use Rattle.bdb_text_format.specs.of_format.Terms.{joined};
 ghost use Rattle.bdb_rescue.specs.Kept.{IsTable, bytes_in, thin_from};
 
 use bdb_survey::{Pieces, Survey};

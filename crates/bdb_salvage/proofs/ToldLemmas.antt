@@ -5,11 +5,9 @@ use Rattle.std.specs.Option.{option_or}
 use Rattle.std.proofs.lemmas.Bool.{cases_Bool, le-ltb, ltb-false, not-false, or_cases, or_parts}
 use Rattle.bdb_rescue.specs.of_format.declared.kinds.Order.{Order}
 use Rattle.bdb_rescue.specs.of_format.declared.kinds.Order.TheVariants.{Big, Little}
-use Rattle.bdb_rescue.specs.of_format.HeadOf.{head_of, head_rows, heap_magic, is_magic, is_page_size, magic_at, order_of}
-use Rattle.bdb_rescue.specs.of_format.Numbers.{four_at}
+use Rattle.bdb_rescue.specs.of_format.Terms.{first_row, four_at, head_of, head_rows, heap_magic, is_magic, is_page_size, magic_at, order_of}
 use Rattle.bdb_rescue.proofs.of_format.BoolLemmas.{first_or_none}
 use Rattle.bdb_rescue.proofs.of_format.VerdictLemmas.{none_is_first_row}
-use Rattle.bdb_rescue.specs.of_format.Table.{first_row}
 use Rattle.bdb_rescue.specs.of_image.Formed.{IsAccepted}
 use Rattle.bdb_rescue.proofs.of_image.FirstLemmas.{formed_accepted}
 use Rattle.bdb_rescue.specs.of_law_sums.Databases.{IsSoundForest}

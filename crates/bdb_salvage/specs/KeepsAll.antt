@@ -1,7 +1,6 @@
 -- What salvage keeps of a sound file by the guess of its page 0. Source: docs/FORMAT.md, "Salvage".
 use Rattle.std.specs.Prelude.{◌≡◌, ℕ, List, Some, None}
-use Rattle.bdb_rescue.specs.of_format.File.{file_of}
-use Rattle.bdb_rescue.specs.of_format.HeadOf.{head_of}
+use Rattle.bdb_rescue.specs.of_format.Terms.{file_of, head_of}
 use Rattle.bdb_law_whole.specs.Kept.{IsSoundFile, KeepsLists}
 use Rattle.bdb_rescue.specs.of_survey.declared.guess.Guess.{Guess}
 use Rattle.bdb_rescue.specs.Guesses.{chosen}

@@ -8,7 +8,7 @@ use Rattle.bdb_mktree.specs.of_format.declared.settings.Settings.{Settings}
 use Rattle.bdb_mktree.specs.of_text_format.declared.pairs.Pair.{Pair}
 use Rattle.bdb_mktree.specs.of_text_format.declared.pairs.TextPair.{TextPair}
 use Rattle.bdb_mktree.specs.of_text_format.declared.sections.Section.{Section}
-use Rattle.bdb_mktree.specs.of_text_format.Pairs.{unlined, unlined_pairs}
+use Rattle.bdb_mktree.specs.of_text_format.Terms.{unlined, unlined_pairs}
 use Rattle.bdb_mktree.proofs.of_text_format.PlacedLemmas.{taken_more}
 use Rattle.bdb_settle.specs.Loaded.{loaded_pair, filled_pair, filled_pairs, filled_section, filled_value, has_length, keeps_data, loaded, loaded_section}
 use Rattle.bdb_settle.specs.Loaded.{ordered, ordered_section, put, stands_before, unnumbered, with_loaded}

@@ -5,7 +5,7 @@ use Rattle.std.specs.Cmp.{IsStrictWeakOrder}
 use Rattle.std.proofs.lemmas.Bool.{false_from_ne_true}
 use Rattle.std.proofs.lemmas.Bool.Decides.{nat_tests}
 use Rattle.bdb_mktree.specs.of_format.declared.settings.Settings.{Settings}
-use Rattle.bdb_mktree.specs.of_format.Less.{less}
+use Rattle.bdb_mktree.specs.of_format.Terms.{less}
 use Rattle.bdb_mktree.proofs.of_format.LessLemmas.{below_less, less_not_back, less_self}
 use Rattle.bdb_mktree.specs.of_text_format.declared.pairs.Pair.{Pair}
 use Rattle.bdb_mktree.specs.of_text_format.declared.pairs.Key.{Key}

@@ -4,10 +4,10 @@ use Rattle.std.proofs.Common.{inr, arith}
 use Rattle.std.proofs.lemmas.Bool.{cases_lt}
 use Rattle.std.proofs.lemmas.Bool.Decides.{nat_tests}
 use Rattle.std.proofs.lemmas.List.{get_or-drop, length-take, take-take}
-use Rattle.bdb_mktree.specs.of_format.Less.{less}
+use Rattle.bdb_mktree.specs.of_format.Terms.{less}
 use Rattle.bdb_mktree.specs.of_places.declared.place.PlacedKey.{PlacedKey}
 use Rattle.bdb_mktree.specs.of_places.declared.place.PlacedKey.TheVariants.{Bytes as BytesAt, Number as NumberAt}
-use Rattle.bdb_mktree.specs.of_text_format.Placed.{placed_key}
+use Rattle.bdb_mktree.specs.of_text_format.Terms.{placed_key}
 use Rattle.bdb_mktree.specs.of_text_format.declared.pairs.Key.{Key}
 use Rattle.bdb_mktree.specs.of_text_format.declared.pairs.Key.TheVariants.{Bytes, Number}
 use Rattle.bdb_settle.specs.Loaded.{key_less}

@@ -13,7 +13,7 @@ use Rattle.std.proofs.lemmas.List.Sorted.{Contains-permutation, IsPermutation-ma
 use Rattle.bdb_mktree.specs.of_format.declared.settings.Settings.{Settings}
 use Rattle.bdb_mktree.proofs.of_format.MemberLemmas.{of_map}
 use Rattle.bdb_mktree.specs.of_places.declared.place.Place.{Place}
-use Rattle.bdb_mktree.specs.of_text_format.Placed.{placed_key}
+use Rattle.bdb_mktree.specs.of_text_format.Terms.{placed_key}
 use Rattle.bdb_settle.specs.declared.leads.Led.{Led}
 use Rattle.bdb_settle.specs.Loaded.{key_less}
 use Rattle.bdb_settle.specs.Leads.{Begins, Share, lead_of, led, led_before}

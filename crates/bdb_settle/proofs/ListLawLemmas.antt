@@ -12,7 +12,7 @@ use Rattle.std.proofs.Math.Bool.{and-false, and-true}
 use Rattle.bdb_mktree.specs.of_format.declared.kinds.Kind.{Kind}
 use Rattle.bdb_mktree.specs.of_format.declared.kinds.Kind.TheVariants.{Btree, Recno}
 use Rattle.bdb_mktree.specs.of_format.declared.settings.Settings.{Settings}
-use Rattle.bdb_mktree.specs.of_format.Less.{less}
+use Rattle.bdb_mktree.specs.of_format.Terms.{less}
 use Rattle.bdb_mktree.proofs.of_format.LessLemmas.{eq_self, same_unless_less}
 use Rattle.bdb_mktree.specs.of_mkleaves.Runs.{IsShort}
 use Rattle.bdb_mktree.specs.of_text_format.declared.pairs.Pair.{Pair}
@@ -20,12 +20,11 @@ use Rattle.bdb_mktree.specs.of_text_format.declared.pairs.Key.{Key}
 use Rattle.bdb_mktree.specs.of_text_format.declared.pairs.Key.TheVariants.{Bytes, Number}
 use Rattle.bdb_mktree.specs.of_text_format.declared.pairs.TextPair.{TextPair}
 use Rattle.bdb_mktree.specs.of_text_format.declared.sections.Section.{Section}
-use Rattle.bdb_mktree.specs.of_text_format.Pairs.{number_of}
+use Rattle.bdb_mktree.specs.of_text_format.Terms.{holds_records, number_of}
 use Rattle.bdb_mktree.specs.Lists.{HasBytes, HasNumber, IsKeyFor, IsTreeList, IsPairFor, bytes_in, is_in_order, may_follow}
 use Rattle.bdb_mktree.specs.Units.{IsTreeKind}
 use Rattle.bdb_settle.specs.ListLaw.{HasShortBytes, IsFit, IsKeyOf, LoadIntoLists}
 use Rattle.bdb_settle.specs.LoadErrors.{is_zero}
-use Rattle.bdb_mktree.specs.of_text_format.Written.{holds_records}
 use Rattle.bdb_settle.specs.Loaded.{loaded_pair, filled_value, has_length, keeps_data, loaded, sorts_data, stands_before}
 use Rattle.bdb_settle.proofs.ErrorLemmas.{IsSound, sound_pairs}
 use Rattle.bdb_settle.proofs.OrderedLemmas.{Ordered, OrderedFrom, fold_all, fold_ordered, follows}

@@ -10,8 +10,7 @@ use Rattle.std.proofs.lemmas.List.Elements.{All-set}
 use Rattle.std.proofs.lemmas.List.Folds.{fold-map}
 use Rattle.bdb_mktree.specs.of_format.declared.settings.Settings.{Settings}
 use Rattle.bdb_mktree.specs.of_places.declared.place.Place.{Place}
-use Rattle.bdb_mktree.specs.of_text_format.Pairs.{unlined, unlined_pairs}
-use Rattle.bdb_mktree.specs.of_text_format.Placed.{ArePlaced, IsPlaced, placed_pair, placed_pairs}
+use Rattle.bdb_mktree.specs.of_text_format.Terms.{ArePlaced, IsPlaced, placed_pair, placed_pairs, unlined, unlined_pairs}
 use Rattle.bdb_mktree.specs.of_text_format.declared.pairs.TextPair.{TextPair}
 use Rattle.bdb_settle.specs.Loaded.{keeps_data, ordered, stands_before, unnumbered, with_loaded}
 use Rattle.bdb_settle.specs.Settling.{IsSettledAt, IsSettledTo, IsSortedOf, pair_before, pair_on, place_before}

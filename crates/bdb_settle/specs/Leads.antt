@@ -3,7 +3,7 @@ use Rattle.std.specs.Prelude.{◌≡◌, ℕ, zero, suc, ◌+◌, ◌*◌, nat_l
 use Rattle.std.specs.List.{All}
 use Rattle.bdb_mktree.specs.of_format.declared.settings.Settings.{Settings}
 use Rattle.bdb_mktree.specs.of_places.declared.place.Place.{Place}
-use Rattle.bdb_mktree.specs.of_text_format.Placed.{placed_key}
+use Rattle.bdb_mktree.specs.of_text_format.Terms.{placed_key}
 use Rattle.bdb_mktree.specs.of_text_format.declared.pairs.Key.{Key}
 use Rattle.bdb_mktree.specs.of_text_format.declared.pairs.Key.TheVariants.{Bytes, Number}
 use Rattle.bdb_settle.specs.declared.leads.Led.{Led}

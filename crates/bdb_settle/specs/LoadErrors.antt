@@ -3,12 +3,12 @@ use Rattle.std.specs.Prelude.{◌≡◌, ℕ, ◌+◌, ◌-◌, nat_lt, ◌==◌
 use Rattle.std.specs.Prelude.{Bool, false, List, [], ◌∷◌, ◌++◌, length, Option, Some, None, is_some}
 use Rattle.std.specs.List.{flat_map, fold}
 use Rattle.bdb_mktree.specs.of_format.declared.settings.Settings.{Settings}
-use Rattle.bdb_mktree.specs.of_format.Numbers.{pad4}
+use Rattle.bdb_mktree.specs.of_format.Terms.{pad4}
 use Rattle.bdb_mktree.specs.of_text_format.declared.pairs.Key.{Key}
 use Rattle.bdb_mktree.specs.of_text_format.declared.pairs.Key.TheVariants.{Bytes, Number}
 use Rattle.bdb_mktree.specs.of_text_format.declared.pairs.TextPair.{TextPair}
 use Rattle.bdb_mktree.specs.of_text_format.declared.sections.Section.{Section}
-use Rattle.bdb_mktree.specs.of_text_format.Written.{is_queue}
+use Rattle.bdb_mktree.specs.of_text_format.Terms.{is_queue}
 use Rattle.bdb_settle.specs.declared.load_error.LoadError.{LoadError}
 use Rattle.bdb_settle.specs.declared.load_error.LoadError.TheVariants.{RecordTooLong, RecordZero, TooLarge, QueueAmongNames, Memory, OntoKind, OntoNames}
 use Rattle.bdb_settle.specs.Loaded.{has_length}

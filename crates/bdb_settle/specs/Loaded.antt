@@ -2,14 +2,14 @@
 use Rattle.std.specs.Prelude.{ℕ, ◌-◌, ◌%◌, nat_lt, ◌&&◌, ◌||◌, not, if◌then◌else◌, Bool, true, false, List, [], ◌∷◌, ◌++◌, length, map, replicate}
 use Rattle.std.specs.List.{fold}
 use Rattle.bdb_mktree.specs.of_format.declared.settings.Settings.{Settings}
-use Rattle.bdb_mktree.specs.of_format.Less.{less}
+use Rattle.bdb_mktree.specs.of_format.Terms.{less}
 use Rattle.bdb_mktree.specs.of_text_format.declared.pairs.Pair.{Pair}
 use Rattle.bdb_mktree.specs.of_text_format.declared.pairs.Key.{Key}
 use Rattle.bdb_mktree.specs.of_text_format.declared.pairs.Key.TheVariants.{Bytes, Number}
 use Rattle.bdb_mktree.specs.of_text_format.declared.pairs.TextPair.{TextPair}
 pub use Rattle.bdb_mktree.specs.of_text_format.Pairs.{unlined, unlined_pairs, unnumbered}
 use Rattle.bdb_mktree.specs.of_text_format.declared.sections.Section.{Section}
-use Rattle.bdb_mktree.specs.of_text_format.Written.{holds_records}
+use Rattle.bdb_mktree.specs.of_text_format.Terms.{holds_records}
 
 -- Order.
 

@@ -9,8 +9,7 @@ use Rattle.bdb_mktree.specs.of_text_format.declared.pairs.Key.{Key}
 use Rattle.bdb_mktree.specs.of_text_format.declared.pairs.TextPair.{TextPair}
 use Rattle.bdb_mktree.specs.of_format.declared.settings.Settings.{Settings}
 use Rattle.bdb_mktree.specs.of_places.declared.place.Place.{Place}
-use Rattle.bdb_mktree.specs.of_text_format.Pairs.{unlined}
-use Rattle.bdb_mktree.specs.of_text_format.Placed.{ArePlaced, IsPlaced, placed_pair, placed_pairs}
+use Rattle.bdb_mktree.specs.of_text_format.Terms.{ArePlaced, IsPlaced, placed_pair, placed_pairs, unlined}
 use Rattle.bdb_settle.specs.Loaded.{keeps_data, key_less, stands_before, unnumbered, with_loaded}
 
 -- the pair at a place of a run, without its line, and the order of places by their pairs

@@ -1,7 +1,6 @@
 ghost use Rattle.std.specs.Prelude.{◌≡◌, ◌+◌, ◌==◌, length};
 ghost use Rattle.std.specs.List.{flat_map, fold};
-ghost use Rattle.bdb_mktree.specs.of_text_format.Placed.{key_seen, pair_seen, slice_seen};
-ghost use Rattle.bdb_mktree.specs.of_text_format.Written.{is_queue};
+ghost use Rattle.bdb_mktree.specs.of_text_format.Terms.{is_queue, key_seen, pair_seen, slice_seen};
 ghost use Rattle.bdb_settle.specs.LoadErrors.{header_errors, is_among_names, is_sooner, is_too_long, is_too_wide, is_zero};
 ghost use Rattle.bdb_settle.specs.LoadErrors.{load_error, pair_errors, page_size_in, section_errors, sooner, where_so};
 

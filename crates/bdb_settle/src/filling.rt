@@ -1,5 +1,5 @@
 ghost use Rattle.std.specs.Prelude.{◌≡◌, ◌%◌, ◌++◌, ◌∷◌, [], length, map, reverse, IfOk, OnOk};
-ghost use Rattle.bdb_mktree.specs.of_text_format.Placed.{pair_seen, slice_seen};
+ghost use Rattle.bdb_mktree.specs.of_text_format.Terms.{pair_seen, slice_seen};
 ghost use Rattle.bdb_settle.specs.Loaded.{filled_pair, filled_pairs, filled_section, filled_value, has_length};
 
 use crate::order::holds_records;

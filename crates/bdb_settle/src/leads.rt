@@ -1,7 +1,7 @@
 ghost use Rattle.std.specs.Prelude.{◌≡◌, ◌≤◌, get_or, length, map, take, true, IfOk, OnOk};
 ghost use Rattle.std.specs.List.Sorted.{IsPermutation, IsSortedBy, IsStableBy};
 ghost use Rattle.std.specs.Ordering.{is_lt};
-ghost use Rattle.bdb_mktree.specs.of_text_format.Placed.{key_seen, placed_key};
+ghost use Rattle.bdb_mktree.specs.of_text_format.Terms.{key_seen, placed_key};
 ghost use Rattle.bdb_settle.specs.Leads.{Begins, Share, lead_of, led, led_before, leading_number};
 ghost use Rattle.bdb_settle.specs.Settling.{place_before};
 

@@ -1,9 +1,8 @@
 ghost use Rattle.std.specs.Prelude.{◌≡◌, ◌&&◌};
 ghost use Rattle.std.specs.Ordering.{is_lt};
-ghost use Rattle.bdb_mktree.specs.of_text_format.Placed.{key_seen, placed_key};
-ghost use Rattle.bdb_mktree.specs.of_text_format.Written.{holds_records};
+ghost use Rattle.bdb_mktree.specs.of_text_format.Terms.{holds_records, key_seen, placed_key};
 ghost use Rattle.bdb_settle.specs.Loaded.{keeps_data, sorts_data};
-ghost use Rattle.bdb_mktree.specs.of_format.Less.{less};
+ghost use Rattle.bdb_mktree.specs.of_format.Terms.{less};
 ghost use Rattle.bdb_settle.specs.Settling.{KeyOrderingIs, place_before};
 
 use bdb_mktree::{KeyRef, Kind, Place, PlacedKey, Settings, are_one, compare, key_at};

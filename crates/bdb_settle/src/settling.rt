@@ -1,7 +1,7 @@
 ghost use Rattle.std.specs.Prelude.{◌≡◌, ◌||◌, ◌<◌, [], length, map, IfOk};
 ghost use Rattle.std.specs.List.{fold};
 ghost use Rattle.std.specs.List.Sorted.{IsSortedBy};
-ghost use Rattle.bdb_mktree.specs.of_text_format.Placed.{ArePlaced, placed_pairs};
+ghost use Rattle.bdb_mktree.specs.of_text_format.Terms.{ArePlaced, placed_pairs};
 ghost use Rattle.bdb_settle.specs.Loaded.{keeps_data, ordered, unnumbered, with_loaded};
 ghost use Rattle.bdb_settle.specs.Settling.{IsSortedOf, pair_on, place_before};
 

@@ -8,9 +8,8 @@ use Rattle.std.specs.Prelude.{Option, Some, None, false, OnOk, Result, Ok, Err}
 use Rattle.bdb_form.specs.of_format.declared.references.Sort.{Sort}
 use Rattle.bdb_form.specs.of_format.declared.references.Sort.TheVariants.{HashNext}
 use Rattle.bdb_form.specs.of_format.declared.metadata.Head.{Head}
-use Rattle.bdb_form.specs.of_format.File.{page_bytes}
-use Rattle.bdb_form.specs.of_format.Page.{Content, Item, Listed, Leaf as AnyLeaf, RecnoLeaf as AnyRecnoLeaf, DupLeaf as AnyDupLeaf, Hash as AnyHash}
-use Rattle.bdb_form.specs.of_format.References.{content_targets, item_at, no_item, own_entries, targets_in, unless_zero}
+use Rattle.bdb_form.specs.of_format.Terms.{Content, DupLeaf as AnyDupLeaf, Hash as AnyHash, Item, Leaf as AnyLeaf, Listed, RecnoLeaf as AnyRecnoLeaf}
+use Rattle.bdb_form.specs.of_format.Terms.{content_targets, item_at, no_item, own_entries, page_bytes, targets_in, unless_zero}
 use Rattle.bdb_slots.specs.declared.source.Source.TheVariants.{Nothing, Next}
 use Rattle.bdb_slots.specs.Plain.{IsInline, IsPlainIn}
 use Rattle.bdb_slots.specs.Slots.{names_from}

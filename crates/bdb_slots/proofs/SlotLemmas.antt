@@ -6,9 +6,7 @@ use Rattle.std.specs.List.{flat_map, range_with_len}
 use Rattle.std.proofs.Math.Seq.{drop-cons}
 use Rattle.std.proofs.lemmas.List.{drop_all}
 use Rattle.bdb_form.specs.of_format.declared.references.Sort.TheVariants.{Bucket, HashNext, Child}
-use Rattle.bdb_form.specs.of_format.Hashing.{first_page}
-use Rattle.bdb_form.specs.of_format.Page.{Item, InternalItem, Listed}
-use Rattle.bdb_form.specs.of_format.References.{content_targets, no_item, unless_zero}
+use Rattle.bdb_form.specs.of_format.Terms.{InternalItem, Item, Listed, content_targets, first_page, no_item, unless_zero}
 use Rattle.bdb_slots.specs.declared.source.Source.{Source}
 use Rattle.bdb_slots.specs.declared.source.Source.TheVariants.{Table}
 use Rattle.bdb_slots.specs.Slots.{hash_names, internal_names, names_from, no_internal_item, slot_names, slots_of}

@@ -6,9 +6,9 @@ use Rattle.bdb_form.specs.of_format.declared.metadata.BtreeMeta.{BtreeMeta}
 use Rattle.bdb_form.specs.of_format.declared.metadata.HashMeta.{HashMeta}
 use Rattle.bdb_form.specs.of_format.declared.pages.RecnoItem.{RecnoItem}
 use Rattle.bdb_form.specs.of_format.declared.references.Sort.TheVariants.{Free as FreeRef, HashNext, Child}
-use Rattle.bdb_form.specs.of_format.Page.{Item, InternalItem, Listed, Meta, BtreeFields, HashFields, Leaf as AnyLeaf, RecnoLeaf as AnyRecnoLeaf, DupLeaf as AnyDupLeaf}
-use Rattle.bdb_form.specs.of_format.Page.{RecnoInternal as AnyRecnoInternal, Internal as AnyInternal, Hash as AnyHash}
-use Rattle.bdb_form.specs.of_format.References.{content_targets, first_free, targets_in, no_item, unless_zero}
+use Rattle.bdb_form.specs.of_format.Terms.{BtreeFields, DupLeaf as AnyDupLeaf, Hash as AnyHash, HashFields, Internal as AnyInternal, InternalItem, Item}
+use Rattle.bdb_form.specs.of_format.Terms.{Leaf as AnyLeaf, Listed, Meta, RecnoInternal as AnyRecnoInternal, RecnoLeaf as AnyRecnoLeaf, content_targets}
+use Rattle.bdb_form.specs.of_format.Terms.{first_free, no_item, targets_in, unless_zero}
 use Rattle.bdb_form.proofs.of_format.TargetLemmas.{each_content, each_own}
 use Rattle.bdb_slots.specs.declared.source.Source.TheVariants.{Nothing, Tree, Table, Leaf, RecnoLeaf, DupLeaf, RecnoInternal, Internal, Hash}
 use Rattle.bdb_slots.specs.Slots.{item_names, names_from, no_recno_item}

@@ -3,10 +3,8 @@ use Rattle.std.specs.Prelude.{◌≡◌, ◌≤◌, ℕ, List, []}
 use Rattle.std.specs.List.{All}
 use Rattle.bdb_form.specs.of_format.declared.metadata.FileKind.TheVariants.{Queue as QueueFile}
 use Rattle.bdb_form.specs.of_format.declared.metadata.Head.{Head}
-use Rattle.bdb_form.specs.of_format.File.{page_bytes}
-use Rattle.bdb_form.specs.of_format.Page.{Item, Page, Zero, Free, Meta, Hash, Internal, RecnoInternal, Leaf, RecnoLeaf, DupLeaf, Overflow, Queue, NoType}
-use Rattle.bdb_form.specs.of_format.Reading.{abstract_page}
-use Rattle.bdb_form.specs.of_format.References.{content_targets}
+use Rattle.bdb_form.specs.of_format.Terms.{DupLeaf, Free, Hash, Internal, Item, Leaf, Meta, NoType, Overflow, Page, Queue, RecnoInternal, RecnoLeaf, Zero}
+use Rattle.bdb_form.specs.of_format.Terms.{abstract_page, content_targets, page_bytes}
 
 -- an item names no page
 abbrev pub IsInline : Item → Type 0

@@ -10,9 +10,7 @@ use Rattle.bdb_form.specs.of_format.declared.pages.RecnoItem.{RecnoItem}
 use Rattle.bdb_form.specs.of_format.declared.references.Reference.{Reference}
 use Rattle.bdb_form.specs.of_format.declared.references.Sort.{Sort}
 use Rattle.bdb_form.specs.of_format.declared.references.Sort.TheVariants.{Free as FreeRef, Root, Bucket, HashNext, Child}
-use Rattle.bdb_form.specs.of_format.Hashing.{first_page}
-use Rattle.bdb_form.specs.of_format.Page.{Unknown, Item, InternalItem, Listed}
-use Rattle.bdb_form.specs.of_format.References.{content_targets, is_shared_key, no_item, unless_zero}
+use Rattle.bdb_form.specs.of_format.Terms.{InternalItem, Item, Listed, Unknown, content_targets, first_page, is_shared_key, no_item, unless_zero}
 
 abbrev pub no_internal_item : InternalItem
 no_internal_item = record { child = 0; count = 0; key = Unknown }

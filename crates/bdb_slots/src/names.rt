@@ -1,7 +1,7 @@
 ghost use Rattle.std.specs.Prelude.{◌≡◌, ◌+◌, ◌*◌, ◌<◌, ◌&&◌, [], get_or, if◌then◌else◌, length, option_to_list};
 ghost use Rattle.bdb_slots.specs.Slots.{child_names, hash_names, internal_names};
 ghost use Rattle.bdb_form.specs.of_layout.Seen.{content_seen};
-ghost use Rattle.bdb_form.specs.of_format.References.{content_targets, is_shared_key, unless_zero};
+ghost use Rattle.bdb_form.specs.of_format.Terms.{content_targets, is_shared_key, unless_zero};
 
 use bdb_form::{
     Content, ContentKind, HashView, IndexedView, InternalView, RecnoInternalView, Sort,

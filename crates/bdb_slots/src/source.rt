@@ -2,7 +2,7 @@ ghost use Rattle.std.specs.Prelude.{◌≡◌, ◌<◌, ◌≤◌, ◌∷◌, []
 ghost use Rattle.bdb_form.specs.Seen.{page_seen};
 ghost use Rattle.bdb_slots.specs.Plain.{IsPlain};
 ghost use Rattle.bdb_slots.specs.Slots.{HasRoom, IsNoMetadata, names_from, slot_names, slots_of};
-ghost use Rattle.bdb_form.specs.of_format.References.{targets_in};
+ghost use Rattle.bdb_form.specs.of_format.Terms.{targets_in};
 
 use crate::names::{Name, child_name, hash_name, internal_name, item_name, unless_zero};
 use bdb_form::{

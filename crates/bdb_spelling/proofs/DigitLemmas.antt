@@ -9,9 +9,8 @@ use Rattle.std.proofs.Math.Nat.{mul-le-mul_right, pow-le-pow_right, pow-suc}
 use Rattle.std.proofs.lemmas.Bool.{le-leb}
 use Rattle.std.proofs.lemmas.List.{take_all}
 use Rattle.std.proofs.lemmas.Bool.Decides.{nat_tests}
-use Rattle.bdb_text_format.specs.of_format.Digits.{digits_value, is_number, number_in}
-use Rattle.bdb_text_format.specs.TextSpelling.{digit_value}
-use Rattle.bdb_text_format.specs.Keywords.{hex_value, number_read, or_zero, is_hex}
+use Rattle.bdb_text_format.specs.of_format.Terms.{digits_value, is_number, number_in}
+use Rattle.bdb_text_format.specs.Terms.{digit_value, hex_value, is_hex, number_read, or_zero}
 use Rattle.bdb_spelling.specs.DigitsIn.{digits_from, digits_in, hexadecimal, is_digit_of}
 
 -- One digit more.

@@ -3,8 +3,7 @@ use Rattle.std.proofs.Common.{◌≡◌, ◌≢◌, ℕ, Bool, true, List, [], �
 use Rattle.std.proofs.Common.{refl, sym, ap, ◌∙◌}
 use Rattle.std.specs.Prelude.{is_some}
 use Rattle.std.proofs.lemmas.List.{nil_from_length}
-use Rattle.bdb_text_format.specs.TextSpelling.{byte_before, byte_of_digits, bytes_spelled, digit_value, digits_unit, escaped_unit}
-use Rattle.bdb_text_format.specs.TextSpelling.{printed_unit}
+use Rattle.bdb_text_format.specs.Terms.{byte_before, byte_of_digits, bytes_spelled, digit_value, digits_unit, escaped_unit, printed_unit}
 use Rattle.bdb_text_format.proofs.UnitLemmas.{read_empty}
 
 -- The first unit.

@@ -6,7 +6,7 @@ use Rattle.std.specs.Prelude.{is_some, ◌⊎◌}
 use Rattle.std.proofs.Common.{inl, inr}
 use Rattle.std.proofs.lemmas.List.{append-nil, drop_all, drop_more, take_all, take-append-drop, take_more_set}
 use Rattle.std.proofs.lemmas.Bool.{false_from_ne_true, leb-true, leb-false, or_from, or_parts}
-use Rattle.bdb_text_format.specs.TextSpelling.{before, byte_before, byte_of_digits, bytes_spelled, digit_value, next_unit}
+use Rattle.bdb_text_format.specs.Terms.{before, byte_before, byte_of_digits, bytes_spelled, digit_value, next_unit}
 use Rattle.bdb_text_format.proofs.UnitLemmas.{read_empty, read_no_unit, read_unit}
 use Rattle.bdb_spelling.specs.Runs.{has_backslash, joined}
 use Rattle.bdb_spelling.proofs.ReadingLemmas.{spelled_empty}

@@ -7,7 +7,7 @@ use Rattle.std.proofs.lemmas.Bool.{and_parts, cases_lt, eqb-true}
 use Rattle.std.proofs.lemmas.Grind.{flat_map-append}
 use Rattle.std.specs.List.{flat_map}
 use Rattle.hex.specs.Hex.{IsBytes, encode_lower, encode_with, lower_digits}
-use Rattle.bdb_text_format.specs.TextSpelling.{hex_digit, printed, spelling, two_digits}
+use Rattle.bdb_text_format.specs.Terms.{hex_digit, printed, spelling, two_digits}
 
 -- The digits of `hex`.
 

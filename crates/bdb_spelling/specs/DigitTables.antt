@@ -1,6 +1,6 @@
 -- What a digit adds to a byte, and 256 for a byte that is no digit: so a sum above 255 has one.
 use Rattle.std.specs.Prelude.{ℕ, ◌*◌, Option, Some, None}
-use Rattle.bdb_text_format.specs.TextSpelling.{digit_value}
+use Rattle.bdb_text_format.specs.Terms.{digit_value}
 
 abbrev pub times_or_256 : ℕ → Option ℕ → ℕ
 times_or_256 n None = 256

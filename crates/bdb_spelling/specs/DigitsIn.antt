@@ -1,8 +1,7 @@
 -- Digits in a base, read from the high end on.
 use Rattle.std.specs.Prelude.{ℕ, ◌+◌, ◌*◌, nat_lt, nat_le, ◌&&◌, if◌then◌else◌, Bool, false, List, [], ◌∷◌, drop, length, Option, Some, None, codes, take}
 use Rattle.std.specs.Str.{bytes_eq}
-use Rattle.bdb_text_format.specs.TextSpelling.{digit_value}
-use Rattle.bdb_text_format.specs.Keywords.{or_zero}
+use Rattle.bdb_text_format.specs.Terms.{digit_value, or_zero}
 
 -- whether a digit is one of the base
 abbrev pub is_below : ℕ → Option ℕ → Bool

@@ -1,7 +1,7 @@
 -- Reading a spelling a run at a time.
 use Rattle.std.specs.Prelude.{ℕ, ◌==◌, Bool, List, ◌++◌, Option, None, Some}
 use Rattle.std.specs.List.{list_any}
-use Rattle.bdb_text_format.specs.TextSpelling.{bytes_spelled}
+use Rattle.bdb_text_format.specs.Terms.{bytes_spelled}
 use Rattle.bdb_spelling.specs.declared.runs.Run.{Run}
 
 -- bytes before those that follow, where these are there

@@ -1,6 +1,6 @@
 -- When each error comes.
 use Rattle.std.specs.Prelude.{◌≡◌, ℕ, Bool, List, None, ⊤}
-use Rattle.bdb_text_format.specs.TextSpelling.{bytes_spelled}
+use Rattle.bdb_text_format.specs.Terms.{bytes_spelled}
 use Rattle.bdb_spelling.specs.declared.spellings.SpellError.{SpellError}
 use Rattle.bdb_spelling.specs.declared.spellings.SpellError.TheVariants.{Bad, Memory}
 

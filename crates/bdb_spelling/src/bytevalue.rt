@@ -1,8 +1,6 @@
 // Bytes as two hexadecimal digits each.
 ghost use Rattle.std.specs.Prelude.{◌≡◌, ◌≤◌, ◌+◌, ◌*◌, ◌++◌, length, OnOk, OnErr, take, true, false};
-ghost use Rattle.bdb_text_format.specs.LineEnd.{line};
-ghost use Rattle.bdb_text_format.specs.TextSpelling.{digits_unit, spelling, two_digits};
-ghost use Rattle.bdb_text_format.specs.Written.{data_line};
+ghost use Rattle.bdb_text_format.specs.Terms.{data_line, digits_unit, line, spelling, two_digits};
 ghost use Rattle.bdb_spelling.specs.Spellings.{AddsPart, first_seen};
 
 use crate::digit_tables::byte_of;

@@ -1,5 +1,5 @@
 // The byte of two digits, by a table for each of them: a look-up has no branch to mispredict, where a digit's three ranges have several.
-ghost use Rattle.bdb_text_format.specs.TextSpelling.{byte_of_digits, digit_value};
+ghost use Rattle.bdb_text_format.specs.Terms.{byte_of_digits, digit_value};
 ghost use Rattle.bdb_spelling.specs.DigitTables.{high_part, low_part};
 ghost use Rattle.std.specs.Prelude.{◌≡◌};
 

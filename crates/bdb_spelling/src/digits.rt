@@ -1,5 +1,4 @@
-ghost use Rattle.bdb_text_format.specs.Keywords.{number_read};
-ghost use Rattle.bdb_text_format.specs.TextSpelling.{digit_value};
+ghost use Rattle.bdb_text_format.specs.Terms.{digit_value, number_read};
 ghost use Rattle.bdb_spelling.specs.DigitsIn.{digits_in, hexadecimal};
 ghost use Rattle.std.specs.Prelude.{◌≡◌, ◌<◌, ◌≤◌, ◌^◌, IfSome, length};
 

@@ -1,5 +1,5 @@
 ghost use Rattle.std.specs.Prelude.{◌≡◌, ◌++◌, IfOk, OnOk, OnErr};
-ghost use Rattle.bdb_text_format.specs.TextSpelling.{spelling};
+ghost use Rattle.bdb_text_format.specs.Terms.{spelling};
 ghost use Rattle.bdb_spelling.specs.Spellings.{AddsPart};
 
 use crate::bytevalue::push_digits;

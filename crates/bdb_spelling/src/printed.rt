@@ -1,7 +1,7 @@
 // Bytes as they are printed: a byte from space to tilde stands for itself, a backslash is doubled, and another byte is a
 // backslash and its two digits.
 ghost use Rattle.std.specs.Prelude.{◌≡◌, ◌++◌, OnOk, OnErr, true};
-ghost use Rattle.bdb_text_format.specs.TextSpelling.{escaped_unit, printed, printed_unit, spelling};
+ghost use Rattle.bdb_text_format.specs.Terms.{escaped_unit, printed, printed_unit, spelling};
 ghost use Rattle.bdb_spelling.specs.Spellings.{AddsPart, first_seen};
 
 use crate::bytevalue::{first_of_digits, two_digits};

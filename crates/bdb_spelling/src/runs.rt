@@ -1,5 +1,5 @@
 // A spelling is read a run at a time: a thousand digits, the bytes before a backslash, or what a backslash begins.
-ghost use Rattle.bdb_text_format.specs.TextSpelling.{bytes_spelled};
+ghost use Rattle.bdb_text_format.specs.Terms.{bytes_spelled};
 ghost use Rattle.bdb_spelling.specs.Runs.{by_run, has_backslash, joined};
 ghost use Rattle.bdb_spelling.specs.SpellErrors.{IsSpellError};
 ghost use Rattle.std.specs.Prelude.{◌≡◌, ◌≢◌, ◌≤◌, ◌<◌, ◌/◌, if◌then◌else◌, None, IfErr, IfSome, OnOk, Some, false, length, take, true};

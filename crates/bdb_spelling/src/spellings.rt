@@ -1,5 +1,5 @@
 ghost use Rattle.std.specs.Prelude.{◌≡◌, is_some, IfOk, IfErr, None, Some};
-ghost use Rattle.bdb_text_format.specs.TextSpelling.{bytes_spelled};
+ghost use Rattle.bdb_text_format.specs.Terms.{bytes_spelled};
 ghost use Rattle.bdb_spelling.specs.SpellErrors.{IsSpellError};
 
 use crate::runs::{BYTES, next_run, read_run};

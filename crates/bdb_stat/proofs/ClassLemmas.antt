@@ -20,14 +20,9 @@ use Rattle.bdb_law_turned.proofs.of_format.GraphLemmas.{type_fits, typed_page, z
 use Rattle.bdb_law_turned.proofs.of_format.PageLemmas.{later_type, some_type, zero_byte}
 use Rattle.bdb_law_turned.proofs.of_format.TypeLemmas.{one_type}
 use Rattle.bdb_law_turned.proofs.of_format.VerdictLemmas.{no_rows_at, none_within}
-use Rattle.bdb_law_turned.specs.of_format.File.{File, file_of, header_in, page_at, page_bytes}
-use Rattle.bdb_law_turned.specs.of_format.Graph.{is_anchor, is_anchor_in, is_hash_meta, is_meta, is_reserve, is_spare, owners}
-use Rattle.bdb_law_turned.specs.of_format.HeadOf.{head_of}
-use Rattle.bdb_law_turned.specs.of_format.Numbers.{byte_at}
-use Rattle.bdb_law_turned.specs.of_format.Page.{Page}
-use Rattle.bdb_law_turned.specs.of_format.Reading.{abstract_page, is_zero, page_as, page_type}
-use Rattle.bdb_law_turned.specs.of_format.Rows.{form_code, is_queue, is_tree_type, may_have_type, type_of}
-use Rattle.bdb_law_turned.specs.of_format.Verdict.{ownership_faults, ownership_rows}
+use Rattle.bdb_law_turned.specs.of_format.Terms.{File, Page, abstract_page, byte_at, file_of, form_code, head_of, header_in, is_anchor, is_anchor_in}
+use Rattle.bdb_law_turned.specs.of_format.Terms.{is_hash_meta, is_meta, is_queue, is_reserve, is_spare, is_tree_type, is_zero, may_have_type, owners}
+use Rattle.bdb_law_turned.specs.of_format.Terms.{ownership_faults, ownership_rows, page_as, page_at, page_bytes, page_type, type_of}
 use Rattle.bdb_law_turned.proofs.of_image.FirstLemmas.{formed_page}
 use Rattle.bdb_law_turned.proofs.of_image.HeldLemmas.{own_type}
 use Rattle.bdb_law_turned.specs.of_image.Linked.{IsForest}

@@ -6,11 +6,9 @@ use Rattle.std.proofs.lemmas.Bool.Decides.{nat_tests}
 use Rattle.std.proofs.lemmas.List.FromFn.{length-map-range_with_len}
 use Rattle.bdb_law_turned.proofs.of_format.PageLemmas.{index_offset}
 use Rattle.bdb_law_turned.specs.of_format.declared.kinds.Order.{Order}
-use Rattle.bdb_law_turned.specs.of_format.Reading.{entries_of, hash_end, hash_item_at, index_end, listed, offset_of}
-use Rattle.bdb_law_turned.specs.of_format.Rows.{hash_rows, listed_code}
+use Rattle.bdb_law_turned.specs.of_format.Terms.{entries_of, first_row, hash_end, hash_item_at, hash_rows, index_end, listed, listed_code, offset_of}
 use Rattle.bdb_law_turned.specs.of_format.declared.pages.PageType.TheVariants.{Hash as HashPage}
 use Rattle.bdb_law_turned.proofs.of_form.EndLemmas.{has_rows, listed_index}
-use Rattle.bdb_law_turned.specs.of_format.Table.{first_row}
 use Rattle.bdb_law_turned.proofs.of_layout.RowLemmas.{hash_fits}
 use Rattle.bdb_law_turned.specs.of_layout.Fits.{FitsHash}
 use Rattle.bdb_stat.specs.Unused.{hash_unused, item_unused, listed_unused, places_outside}

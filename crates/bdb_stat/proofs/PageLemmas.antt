@@ -4,11 +4,8 @@ use Rattle.std.specs.Prelude.{None}
 use Rattle.bdb_law_turned.proofs.of_format.FileLemmas.{last_page, page_is, past_last}
 use Rattle.bdb_law_turned.proofs.of_format.GraphLemmas.{typed_page, zero_page}
 use Rattle.bdb_law_turned.specs.of_format.declared.metadata.Head.{Head}
-use Rattle.bdb_law_turned.specs.of_format.File.{file_of, page_at, page_bytes}
-use Rattle.bdb_law_turned.specs.of_format.HeadOf.{head_of}
-use Rattle.bdb_law_turned.specs.of_format.Numbers.{byte_at}
-use Rattle.bdb_law_turned.specs.of_format.Reading.{abstract_page, is_zero, page_as, page_type}
-use Rattle.bdb_law_turned.specs.of_format.Rows.{body_code, form_code}
+use Rattle.bdb_law_turned.specs.of_format.Terms.{abstract_page, body_code, byte_at, file_of, form_code, head_of, is_zero, page_as, page_at, page_bytes}
+use Rattle.bdb_law_turned.specs.of_format.Terms.{page_type}
 use Rattle.bdb_law_turned.proofs.of_graph.ChainLengthLemmas.{size_is}
 use Rattle.bdb_law_turned.proofs.of_image.FirstLemmas.{formed_accepted, formed_page}
 use Rattle.bdb_law_turned.specs.of_image.Formed.{IsAccepted}

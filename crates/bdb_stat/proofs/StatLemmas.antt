@@ -13,20 +13,15 @@ use Rattle.std.proofs.Math.Nat.{mul-le-mul_right}
 use Rattle.bdb_law_turned.proofs.of_format.FileLemmas.{count_is}
 use Rattle.bdb_law_turned.proofs.of_format.SizeLemmas.{size_bounds}
 use Rattle.bdb_law_turned.proofs.of_format.VerdictLemmas.{no_stage, none_in}
-use Rattle.bdb_law_turned.specs.of_format.File.{File, file_of, page_at}
-use Rattle.bdb_law_turned.specs.of_format.Graph.{is_meta, is_reserve}
+use Rattle.bdb_law_turned.specs.of_format.Terms.{DupLeaf, File, Free, Hash as HashPage, Internal as InternalPage, Leaf as LeafPage, Listed, Meta as MetaPage}
+use Rattle.bdb_law_turned.specs.of_format.Terms.{NoType, Overflow as OverflowPage, Page, Queue as QueuePage, RecnoInternal, RecnoLeaf, Zero, faults_of}
+use Rattle.bdb_law_turned.specs.of_format.Terms.{file_of, head_of, is_meta, is_page_size, is_queue, is_reserve, no_item, page_at}
 use Rattle.bdb_law_turned.specs.of_format.declared.metadata.Head.{Head}
-use Rattle.bdb_law_turned.specs.of_format.HeadOf.{head_of, is_page_size}
-use Rattle.bdb_law_turned.specs.of_format.Page.{Listed, Page, Zero, Free, Meta as MetaPage, Hash as HashPage, Internal as InternalPage, RecnoInternal, Leaf as LeafPage}
-use Rattle.bdb_law_turned.specs.of_format.Page.{RecnoLeaf, DupLeaf, Overflow as OverflowPage, Queue as QueuePage, NoType}
-use Rattle.bdb_law_turned.specs.of_format.Rows.{is_queue}
-use Rattle.bdb_law_turned.specs.of_format.Verdict.{faults_of}
 use Rattle.bdb_law_turned.proofs.of_image.FirstLemmas.{formed_accepted}
 use Rattle.bdb_law_turned.proofs.of_image.FormedLemmas.{IsPaged, accepted_paged}
 use Rattle.bdb_law_turned.specs.of_image.Formed.{IsAccepted}
 use Rattle.bdb_law_turned.specs.of_image.Linked.{IsForest}
 use Rattle.bdb_stat.specs.Classes.{class_by_type, class_of, is_class, levels_below, pages_below, same_class, tree_level}
-use Rattle.bdb_law_turned.specs.of_format.References.{no_item}
 use Rattle.bdb_law_turned.specs.Fields.{no_internal}
 use Rattle.bdb_law_turned.specs.of_form.Ends.{internal_item_end, leaf_item_end}
 use Rattle.bdb_stat.specs.Unused.{listed_unused, unused_below, unused_in}

@@ -7,9 +7,7 @@ use Rattle.bdb_law_turned.specs.of_format.declared.pages.PageType.{PageType}
 use Rattle.bdb_law_turned.specs.of_format.declared.pages.PageType.TheVariants.{Hash as HashPage, Internal as InternalPage, RecnoInternal as RecnoInternalPage}
 use Rattle.bdb_law_turned.specs.of_format.declared.pages.PageType.TheVariants.{Leaf as LeafPage, RecnoLeaf as RecnoLeafPage, DupLeaf as DupLeafPage}
 use Rattle.bdb_law_turned.specs.of_format.declared.pages.PageType.TheVariants.{Overflow as OverflowPage}
-use Rattle.bdb_law_turned.specs.of_format.Numbers.{two_at}
-use Rattle.bdb_law_turned.specs.of_format.Reading.{page_as}
-use Rattle.bdb_law_turned.specs.of_format.Rows.{body_code}
+use Rattle.bdb_law_turned.specs.of_format.Terms.{body_code, page_as, two_at}
 use Rattle.bdb_stat.specs.Unused.{unused_in}
 
 -- a page of a chain has the bytes behind its piece

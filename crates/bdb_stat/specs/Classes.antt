@@ -1,11 +1,9 @@
 -- What each page of a file is, and how many pages are so. Source: docs/FORMAT.md, "Statistics".
 use Rattle.std.specs.Prelude.{ℕ, ◌||◌, nat_lt, max, if◌then◌else◌, Bool, true, false, map, length, Option, Some, None}
 use Rattle.std.specs.List.{filter, fold, range_with_len}
-use Rattle.bdb_law_turned.specs.of_format.File.{File, header_in, page_at}
-use Rattle.bdb_law_turned.specs.of_format.Graph.{is_meta, is_reserve}
-use Rattle.bdb_law_turned.specs.of_format.Page.{Page, Zero, Free as FreePage, Meta as MetaPage, Hash as HashPage, Internal as InternalPage, RecnoInternal, Leaf as LeafPage}
-use Rattle.bdb_law_turned.specs.of_format.Page.{RecnoLeaf, DupLeaf, Overflow as OverflowPage, Queue as QueuePage, NoType}
-use Rattle.bdb_law_turned.specs.of_format.Rows.{is_queue}
+use Rattle.bdb_law_turned.specs.of_format.Terms.{DupLeaf, File, Free as FreePage, Hash as HashPage, Internal as InternalPage, Leaf as LeafPage}
+use Rattle.bdb_law_turned.specs.of_format.Terms.{Meta as MetaPage, NoType, Overflow as OverflowPage, Page, Queue as QueuePage, RecnoInternal, RecnoLeaf, Zero}
+use Rattle.bdb_law_turned.specs.of_format.Terms.{header_in, is_meta, is_queue, is_reserve, page_at}
 use Rattle.bdb_stat.specs.declared.class.Class.{Class}
 use Rattle.bdb_stat.specs.declared.class.Class.TheVariants.{Meta, Internal, Leaf, Hash, Overflow, Free, Reserve, Queue, Tail}
 

@@ -1,6 +1,6 @@
 -- The figures of a file. Source: docs/FORMAT.md, "Statistics".
 use Rattle.std.specs.Prelude.{◌≡◌, ℕ, ◌+◌, if◌then◌else◌}
-use Rattle.bdb_law_turned.specs.of_format.File.{File}
+use Rattle.bdb_law_turned.specs.of_format.Terms.{File}
 use Rattle.bdb_stat.specs.Classes.{levels, pages_of, same_class}
 use Rattle.bdb_stat.specs.Unused.{unused}
 use Rattle.bdb_stat.specs.declared.class.Class.{Class}

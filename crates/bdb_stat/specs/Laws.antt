@@ -1,7 +1,6 @@
 -- What the classes of pages keep. Source: docs/FORMAT.md, "Statistics".
 use Rattle.std.specs.Prelude.{◌≡◌, ◌≤◌, ◌^◌, ℕ, ◌+◌, List, [], length}
-use Rattle.bdb_law_turned.specs.of_format.File.{File, file_of}
-use Rattle.bdb_law_turned.specs.of_format.Verdict.{faults_of}
+use Rattle.bdb_law_turned.specs.of_format.Terms.{File, faults_of, file_of}
 use Rattle.bdb_stat.specs.Classes.{pages_of}
 use Rattle.bdb_stat.specs.declared.class.Class.TheVariants.{Meta, Internal, Leaf, Hash, Overflow, Free, Reserve, Queue, Tail}
 

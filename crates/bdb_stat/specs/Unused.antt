@@ -1,10 +1,8 @@
 -- Bytes of pages that hold nothing. Source: docs/FORMAT.md, "Statistics".
 use Rattle.std.specs.Prelude.{ℕ, ◌+◌, ◌-◌, ◌*◌, nat_le, nat_lt, ◌==◌, ◌&&◌, not, if◌then◌else◌, Bool, length, slice_index, get_or}
 use Rattle.std.specs.List.{filter, list_any, range_with_len, sum_by}
-use Rattle.bdb_law_turned.specs.of_format.File.{File, page_at}
-use Rattle.bdb_law_turned.specs.of_format.Page.{Item, InternalItem, Listed, Page, Zero, Free, Meta, Hash, Internal, RecnoInternal, Leaf, RecnoLeaf, DupLeaf}
-use Rattle.bdb_law_turned.specs.of_format.Page.{Overflow, Queue, NoType}
-use Rattle.bdb_law_turned.specs.of_format.References.{no_item}
+use Rattle.bdb_law_turned.specs.of_format.Terms.{DupLeaf, File, Free, Hash, Internal, InternalItem, Item, Leaf, Listed, Meta, NoType, Overflow, Page, Queue}
+use Rattle.bdb_law_turned.specs.of_format.Terms.{RecnoInternal, RecnoLeaf, Zero, no_item, page_at}
 use Rattle.bdb_law_turned.specs.of_format.declared.pages.RecnoItem.{RecnoItem}
 use Rattle.bdb_law_turned.specs.Fields.{no_internal, no_recno}
 use Rattle.bdb_law_turned.specs.of_form.Ends.{internal_item_end, leaf_item_end}

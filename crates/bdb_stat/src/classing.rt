@@ -1,9 +1,7 @@
 //! The class of a page.
 ghost use Rattle.std.specs.Prelude.{◌≡◌, ◌≢◌, ◌≤◌, None, Some, false};
 ghost use Rattle.bdb_law_turned.specs.of_form.Seen.{page_seen};
-ghost use Rattle.bdb_law_turned.specs.of_format.File.{file_of, page_at};
-ghost use Rattle.bdb_law_turned.specs.of_format.Graph.{is_meta, is_reserve, is_spare};
-ghost use Rattle.bdb_law_turned.specs.of_format.Rows.{is_queue};
+ghost use Rattle.bdb_law_turned.specs.of_format.Terms.{file_of, is_meta, is_queue, is_reserve, is_spare, page_at};
 ghost use Rattle.bdb_law_turned.specs.of_image.Linked.{IsForest};
 ghost use Rattle.bdb_stat.specs.Classes.{class_by_type, class_of};
 

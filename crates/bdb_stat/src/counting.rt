@@ -1,6 +1,6 @@
 //! The figures of a file, page by page.
 ghost use Rattle.std.specs.Prelude.{◌≡◌, IfOk, Some};
-ghost use Rattle.bdb_law_turned.specs.of_format.File.{file_of};
+ghost use Rattle.bdb_law_turned.specs.of_format.Terms.{file_of};
 ghost use Rattle.bdb_stat.specs.Classes.{class_of, tree_level};
 ghost use Rattle.bdb_stat.specs.Figures.{IsStat};
 

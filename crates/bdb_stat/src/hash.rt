@@ -1,6 +1,5 @@
 ghost use Rattle.std.specs.Prelude.{◌≡◌, ◌≤◌, None, length};
-ghost use Rattle.bdb_law_turned.specs.of_format.Reading.{entries_of, hash_item_at, index_end, listed, offset_of};
-ghost use Rattle.bdb_law_turned.specs.of_format.Rows.{listed_code};
+ghost use Rattle.bdb_law_turned.specs.of_format.Terms.{entries_of, hash_item_at, index_end, listed, listed_code, offset_of};
 ghost use Rattle.bdb_law_turned.specs.of_format.declared.pages.PageType.TheVariants.{Hash as HashPage};
 ghost use Rattle.bdb_stat.specs.Unused.{hash_unused};
 ghost use Rattle.bdb_stat.specs.Ends.{lowest};

@@ -1,7 +1,6 @@
 //! The bytes of a page that lie in no item, by the places where items begin.
 ghost use Rattle.std.specs.Prelude.{◌≡◌, ◌<◌, ◌≤◌, ◌↔◌, ◌-◌, ℕ, IfSome, None, length, true};
-ghost use Rattle.bdb_law_turned.specs.of_format.Reading.{entries_of, index_end, listed, offset_of};
-ghost use Rattle.bdb_law_turned.specs.of_format.Rows.{listed_code};
+ghost use Rattle.bdb_law_turned.specs.of_format.Terms.{entries_of, index_end, listed, listed_code, offset_of};
 ghost use Rattle.bdb_stat.specs.Unused.{item_unused, places_outside};
 ghost use Rattle.bdb_law_turned.specs.of_form.Ends.{ArePlaced};
 ghost use Rattle.bdb_stat.specs.Starts.{AreStarts};

@@ -1,9 +1,6 @@
 //! The bytes of a page that hold nothing.
 ghost use Rattle.std.specs.Prelude.{◌≡◌, ◌<◌, ◌≤◌, None, length};
-ghost use Rattle.bdb_law_turned.specs.of_format.File.{file_of, page_at};
-ghost use Rattle.bdb_law_turned.specs.of_format.HeadOf.{head_of};
-ghost use Rattle.bdb_law_turned.specs.of_format.Reading.{page_as};
-ghost use Rattle.bdb_law_turned.specs.of_format.Rows.{body_code};
+ghost use Rattle.bdb_law_turned.specs.of_format.Terms.{body_code, file_of, head_of, page_as, page_at};
 ghost use Rattle.bdb_law_turned.specs.of_image.Linked.{IsForest};
 ghost use Rattle.bdb_stat.specs.Unused.{unused_in};
 

@@ -6,15 +6,10 @@ use Rattle.std.specs.Prelude.{◌==◌, ◌&&◌, not, nat_lt, Option, Some, Non
 use Rattle.std.proofs.Common.{ltb-false}
 use Rattle.std.proofs.lemmas.Bool.{and_parts}
 use Rattle.bdb_law_sums.specs.of_format.declared.kinds.Order.{Order}
-use Rattle.bdb_law_sums.specs.of_format.Chains.{chain_in, next_of, piece_in, pieces_of}
-use Rattle.bdb_law_sums.specs.of_format.File.{File, file_as, header_in, page_at}
-use Rattle.bdb_law_sums.specs.of_format.HeadOf.{is_page_size}
-use Rattle.bdb_law_sums.specs.of_format.Numbers.{byte_at, four_at, two_at}
-use Rattle.bdb_law_sums.specs.of_format.Page.{Page, Zero}
+use Rattle.bdb_law_sums.specs.of_format.Terms.{File, Page, Zero, abstract_page, byte_at, chain_in, file_as, four_at, header_in, is_page_size, is_zero, next_of}
+use Rattle.bdb_law_sums.specs.of_format.Terms.{page_as, page_at, page_code, page_type, piece_in, pieces_of, two_at}
 use Rattle.bdb_law_sums.specs.of_format.declared.pages.PageType.{PageType}
 use Rattle.bdb_law_sums.specs.of_format.declared.pages.PageType.TheVariants.{Overflow as OverflowPage}
-use Rattle.bdb_law_sums.specs.of_format.Reading.{abstract_page, is_zero, page_as, page_type}
-use Rattle.bdb_law_sums.specs.of_format.Rows.{page_code}
 use Rattle.bdb_law_sums.proofs.of_format.SizeLemmas.{size_bounds}
 use Rattle.bdb_law_sums.proofs.of_format.TypeLemmas.{byte_as}
 use Rattle.bdb_law_sums.specs.of_form.Formed.{HoldsData}

@@ -9,13 +9,9 @@ use Rattle.bdb_law_sums.specs.of_format.declared.metadata.FileKind.TheVariants.{
 use Rattle.bdb_law_sums.specs.of_format.declared.metadata.HashMeta.{HashMeta}
 use Rattle.bdb_law_sums.specs.of_format.declared.pages.PageType.{PageType}
 use Rattle.bdb_law_sums.specs.of_format.declared.pages.PageType.TheVariants.{HashMeta as HashMetaPage, BtreeMeta as BtreeMetaPage, QueueMeta as QueueMetaPage}
-use Rattle.bdb_law_sums.specs.of_format.HeadOf.{is_page_size}
-use Rattle.bdb_law_sums.specs.of_format.Numbers.{byte_at, four_at}
-use Rattle.bdb_law_sums.specs.of_format.Page.{Page, BtreeFields, HashFields, Meta, NoType}
-use Rattle.bdb_law_sums.specs.of_format.Reading.{abstract_page, btree_fields, hash_fields, page_type}
-use Rattle.bdb_law_sums.specs.of_format.FaultTable.{coded}
-use Rattle.bdb_law_sums.specs.of_format.Rows.{body_code, identity_rows, is_tree_type, metadata_rows, page_code}
-use Rattle.bdb_law_sums.specs.of_format.Table.{Row, answer, first_row}
+use Rattle.bdb_law_sums.specs.of_format.Terms.{BtreeFields, HashFields, Meta, NoType, Page, Row, abstract_page, answer, body_code, btree_fields, byte_at}
+use Rattle.bdb_law_sums.specs.of_format.Terms.{coded, first_row, four_at, hash_fields, identity_rows, is_page_size, is_tree_type, metadata_rows, page_code}
+use Rattle.bdb_law_sums.specs.of_format.Terms.{page_type}
 use Rattle.bdb_law_sums.specs.of_form.declared.view.PageView.{PageView}
 use Rattle.bdb_law_sums.specs.of_form.Formed.{unless}
 use Rattle.bdb_law_sums.specs.of_form.Seen.{form_seen}

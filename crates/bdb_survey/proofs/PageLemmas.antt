@@ -14,13 +14,8 @@ use Rattle.bdb_law_sums.specs.of_format.declared.pages.Header.{Header}
 use Rattle.bdb_law_sums.specs.of_form.Formed.{unless}
 use Rattle.bdb_law_sums.specs.of_form.Seen.{form_seen, header_seen, page_seen}
 use Rattle.bdb_law_sums.specs.of_format.declared.kinds.Order.{Order}
-use Rattle.bdb_law_sums.specs.of_format.File.{File, header_in, page_at}
-use Rattle.bdb_law_sums.specs.of_format.HeadOf.{is_page_size}
-use Rattle.bdb_law_sums.specs.of_format.Chains.{piece_in}
-use Rattle.bdb_law_sums.specs.of_format.Numbers.{byte_at, four_at}
-use Rattle.bdb_law_sums.specs.of_format.Page.{Page, NoType}
-use Rattle.bdb_law_sums.specs.of_format.Reading.{abstract_page, page_type}
-use Rattle.bdb_law_sums.specs.of_format.Rows.{page_code}
+use Rattle.bdb_law_sums.specs.of_format.Terms.{File, NoType, Page, abstract_page, byte_at, four_at, header_in, is_page_size, page_at, page_code, page_type}
+use Rattle.bdb_law_sums.specs.of_format.Terms.{piece_in}
 use Rattle.bdb_law_sums.proofs.of_format.SizeLemmas.{size_bounds}
 use Rattle.bdb_law_sums.proofs.of_image.PieceLemmas.{piece_fits}
 use Rattle.bdb_law_sums.specs.of_overflow.Whole.{bytes_of}

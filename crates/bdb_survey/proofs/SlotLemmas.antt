@@ -2,8 +2,7 @@
 use Rattle.std.proofs.Common.{◌≡◌, ℕ, List, sym, ap}
 use Rattle.std.specs.Prelude.{slice_get, Some}
 use Rattle.std.proofs.lemmas.Option.{get_or_from_slice_get}
-use Rattle.bdb_law_sums.specs.of_format.Page.{Item}
-use Rattle.bdb_law_sums.specs.of_format.References.{no_item}
+use Rattle.bdb_law_sums.specs.of_format.Terms.{Item, no_item}
 use Rattle.bdb_survey.specs.Items.{slot_at}
 
 pub slot_is : (items : List Item) (i : ℕ) (item : Item) → slice_get items i ≡ Some item → slot_at items i ≡ item

@@ -4,8 +4,7 @@ use Rattle.std.specs.List.{range_with_len}
 use Rattle.std.proofs.lemmas.List.{get_or_past}
 use Rattle.std.proofs.lemmas.List.FromFn.{get_or-map-range_with_len, length-map-range_with_len}
 use Rattle.bdb_law_sums.specs.of_format.declared.kinds.Order.{Order}
-use Rattle.bdb_law_sums.specs.of_format.File.{page_at}
-use Rattle.bdb_law_sums.specs.of_format.Page.{NoType}
+use Rattle.bdb_law_sums.specs.of_format.Terms.{NoType, page_at}
 use Rattle.bdb_survey.specs.Salvage.{salvaged_file, salvaged_page}
 
 pub count_is : (order : Order) (size : ℕ) (image : List ℕ) → (salvaged_file order size image).count ≡ length image / size

@@ -3,9 +3,7 @@ use Rattle.std.proofs.Common.{◌≡◌, ℕ, ◌≤◌, Bool, true, List, [], �
 use Rattle.std.specs.Prelude.{◌==◌, ◌&&◌, not}
 use Rattle.std.specs.List.{Contains}
 use Rattle.std.proofs.lemmas.Bool.{and_parts, eqb-true, eqb-false, not-true}
-use Rattle.bdb_law_sums.specs.of_format.Chains.{next_of}
-use Rattle.bdb_law_sums.specs.of_format.File.{File, header_in, page_at}
-use Rattle.bdb_law_sums.specs.of_format.Page.{Page}
+use Rattle.bdb_law_sums.specs.of_format.Terms.{File, Page, header_in, next_of, page_at}
 use Rattle.bdb_law_sums.proofs.of_format.MemberLemmas.{first_member, later_member, member_cases, no_member}
 use Rattle.bdb_law_sums.specs.of_graph.Forest.{AllDistinct}
 use Rattle.bdb_law_sums.proofs.of_graph.LeavesLemmas.{not_in}

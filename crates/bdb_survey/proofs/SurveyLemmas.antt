@@ -4,9 +4,8 @@ use Rattle.std.specs.Prelude.{◌==◌, ◌&&◌, Option, Some, None, slice_inde
 use Rattle.std.specs.List.{range_with_len}
 use Rattle.std.proofs.lemmas.Bool.{eq-eqb}
 use Rattle.std.proofs.lemmas.List.FromFn.{get_or-map-range_with_len, length-map-range_with_len, map-range_with_len_more}
-use Rattle.bdb_law_sums.specs.of_format.Chains.{piece_in}
-use Rattle.bdb_law_sums.specs.of_format.File.{File, header_in, page_at}
-use Rattle.bdb_law_sums.specs.of_format.Page.{Page, Zero, Free, Meta, Hash, Internal, RecnoInternal, Leaf, RecnoLeaf, DupLeaf, Overflow, Queue, NoType}
+use Rattle.bdb_law_sums.specs.of_format.Terms.{DupLeaf, File, Free, Hash, Internal, Leaf, Meta, NoType, Overflow, Page, Queue, RecnoInternal, RecnoLeaf, Zero}
+use Rattle.bdb_law_sums.specs.of_format.Terms.{header_in, page_at, piece_in}
 use Rattle.bdb_survey.specs.declared.links.Extent.{Extent}
 use Rattle.bdb_survey.specs.declared.survey.Row.{Row}
 use Rattle.bdb_survey.specs.declared.survey.Row.TheVariants.{Nothing, Chain as ChainRow}

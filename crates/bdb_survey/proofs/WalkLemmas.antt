@@ -3,9 +3,7 @@ use Rattle.std.proofs.Common.{◌≡◌, ℕ, zero, suc, ◌+◌, ◌-◌, ◌*�
 use Rattle.std.proofs.Common.{length-append}
 use Rattle.std.specs.Prelude.{◌==◌, ◌&&◌, not, Option, Some, None}
 use Rattle.std.proofs.lemmas.Bool.{eq-eqb, ne_eqb}
-use Rattle.bdb_law_sums.specs.of_format.Chains.{chain_in, joined, next_of, piece_in, pieces_of}
-use Rattle.bdb_law_sums.specs.of_format.File.{File, page_at}
-use Rattle.bdb_law_sums.specs.of_format.Page.{Page}
+use Rattle.bdb_law_sums.specs.of_format.Terms.{File, Page, chain_in, joined, next_of, page_at, piece_in, pieces_of}
 use Rattle.bdb_survey.specs.declared.links.Extent.{Extent}
 use Rattle.bdb_survey.specs.declared.links.Link.{Link}
 use Rattle.bdb_survey.specs.Links.{link_in, link_of, rest_extent, extent_of}

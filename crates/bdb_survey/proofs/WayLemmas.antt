@@ -4,12 +4,9 @@ use Rattle.std.specs.Prelude.{◌==◌, ◌&&◌, ◌||◌, not, nat_lt, slice_g
 use Rattle.std.proofs.lemmas.Bool.{eq-eqb, ne_eqb}
 use Rattle.bdb_law_sums.specs.of_format.declared.pages.RecnoItem.{RecnoItem}
 use Rattle.bdb_law_sums.specs.of_format.declared.references.Sort.TheVariants.{Child}
-use Rattle.bdb_law_sums.specs.of_format.File.{File, header_in, page_at, type_in}
-use Rattle.bdb_law_sums.specs.of_format.Leaves.{children_in}
-use Rattle.bdb_law_sums.specs.of_format.Page.{InternalItem, Listed, Metadata, BtreeFields, HashFields, QueueFields, Page, Zero, Free, Meta, Hash, Internal, RecnoInternal}
-use Rattle.bdb_law_sums.specs.of_format.Page.{Leaf, RecnoLeaf, DupLeaf, Overflow, Queue, NoType}
-use Rattle.bdb_law_sums.specs.of_format.References.{asked_by, fit_code, has_type, is_zero_page}
-use Rattle.bdb_law_sums.specs.of_format.Table.{◌:?◌, first_row}
+use Rattle.bdb_law_sums.specs.of_format.Terms.{BtreeFields, DupLeaf, File, Free, Hash, HashFields, Internal, InternalItem, Leaf, Listed, Meta, Metadata}
+use Rattle.bdb_law_sums.specs.of_format.Terms.{NoType, Overflow, Page, Queue, QueueFields, RecnoInternal, RecnoLeaf, Zero, asked_by, children_in, first_row}
+use Rattle.bdb_law_sums.specs.of_format.Terms.{fit_code, has_type, header_in, is_zero_page, page_at, type_in, ◌:?◌}
 use Rattle.bdb_survey.specs.declared.down.Way.{Way}
 use Rattle.bdb_survey.specs.declared.down.Way.TheVariants.{Ends, Child as ChildWay, Broken}
 use Rattle.bdb_survey.specs.Salvage.{down, down_by, down_in, fits_below}

@@ -2,9 +2,7 @@
 use Rattle.std.proofs.Common.{◌≡◌, ℕ, Bool, true, false, cond, length, refl, ◌∙◌, ap}
 use Rattle.std.specs.Prelude.{◌==◌, ◌&&◌, Some, None}
 use Rattle.std.proofs.lemmas.Bool.{and_parts}
-use Rattle.bdb_law_sums.specs.of_format.Chains.{chain, joined, pieces_of}
-use Rattle.bdb_law_sums.specs.of_format.File.{File}
-use Rattle.bdb_law_sums.specs.of_format.Page.{Page}
+use Rattle.bdb_law_sums.specs.of_format.Terms.{File, Page, chain, joined, pieces_of}
 use Rattle.bdb_survey.specs.declared.links.Extent.{Extent}
 use Rattle.bdb_survey.specs.Links.{extent_of}
 use Rattle.bdb_survey.specs.Salvage.{is_overflow, is_row, is_whole}

@@ -1,8 +1,6 @@
 -- The items of pages that hold data, and whether their values are whole. Source: docs/FORMAT.md, "Salvage".
 use Rattle.std.specs.Prelude.{ℕ, Bool, true, false, List, [], get_or}
-use Rattle.bdb_law_sums.specs.of_format.File.{File}
-use Rattle.bdb_law_sums.specs.of_format.Page.{Content, Inline, Set, Chain, Tree, Unknown, Item, Page, Hash, Leaf, RecnoLeaf, DupLeaf}
-use Rattle.bdb_law_sums.specs.of_format.References.{no_item}
+use Rattle.bdb_law_sums.specs.of_format.Terms.{Chain, Content, DupLeaf, File, Hash, Inline, Item, Leaf, Page, RecnoLeaf, Set, Tree, Unknown, no_item}
 use Rattle.bdb_survey.specs.Salvage.{is_whole}
 
 -- the items of a page whose items stand alone or in pairs

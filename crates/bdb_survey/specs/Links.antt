@@ -2,9 +2,7 @@
 use Rattle.std.specs.Prelude.{ℕ, ◌+◌, ◌==◌, ◌&&◌, if◌then◌else◌, Bool, length, map, Option, Some, None}
 use Rattle.bdb_law_sums.specs.of_form.declared.view.PageView.{PageView}
 use Rattle.bdb_law_sums.specs.of_form.Seen.{page_seen}
-use Rattle.bdb_law_sums.specs.of_format.Chains.{chain, chain_in, joined, piece_in, pieces_of}
-use Rattle.bdb_law_sums.specs.of_format.File.{File, header_in, page_at}
-use Rattle.bdb_law_sums.specs.of_format.Page.{Page, NoType}
+use Rattle.bdb_law_sums.specs.of_format.Terms.{File, NoType, Page, chain, chain_in, header_in, joined, page_at, piece_in, pieces_of}
 use Rattle.bdb_survey.specs.declared.links.Extent.{Extent}
 use Rattle.bdb_survey.specs.declared.links.Link.{Link}
 use Rattle.bdb_survey.specs.declared.links.RowKind.{RowKind}

@@ -1,7 +1,6 @@
 -- Rows of pages that name the one before them: no page comes twice, so turns up to the number of pages are enough.
 use Rattle.std.specs.Prelude.{ℕ, Bool, List, IsTrue}
-use Rattle.bdb_law_sums.specs.of_format.File.{File}
-use Rattle.bdb_law_sums.specs.of_format.Page.{Page}
+use Rattle.bdb_law_sums.specs.of_format.Terms.{File, Page}
 use Rattle.bdb_law_sums.specs.of_graph.Forest.{AllDistinct}
 use Rattle.bdb_survey.specs.Salvage.{follows}
 

@@ -1,8 +1,6 @@
 -- What begins at a page, and the pages of a row that are left. Source: docs/FORMAT.md, "Salvage".
 use Rattle.std.specs.Prelude.{ℕ, nat_lt, ◌==◌, if◌then◌else◌, Bool, true, false, List, [], Option, Some, None}
-use Rattle.bdb_law_sums.specs.of_format.Chains.{chain_in, pieces_of}
-use Rattle.bdb_law_sums.specs.of_format.File.{File, page_at}
-use Rattle.bdb_law_sums.specs.of_format.Page.{Page, Internal, RecnoInternal, RecnoLeaf, DupLeaf, Overflow}
+use Rattle.bdb_law_sums.specs.of_format.Terms.{DupLeaf, File, Internal, Overflow, Page, RecnoInternal, RecnoLeaf, chain_in, page_at, pieces_of}
 use Rattle.bdb_survey.specs.declared.down.Way.{Way}
 use Rattle.bdb_survey.specs.declared.down.Way.TheVariants.{Ends, Child, Broken}
 use Rattle.bdb_survey.specs.declared.links.Extent.{Extent}

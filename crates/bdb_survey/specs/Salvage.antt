@@ -8,16 +8,9 @@ use Rattle.bdb_law_sums.specs.of_format.declared.references.Sort.TheVariants.{Ch
 use Rattle.bdb_law_sums.specs.of_format.declared.metadata.FileKind.TheVariants.{Btree, Hash as HashFile}
 use Rattle.bdb_law_sums.specs.of_format.declared.pages.PageType.{PageType}
 use Rattle.bdb_law_sums.specs.of_format.declared.pages.PageType.TheVariants.{HashMeta, BtreeMeta}
-use Rattle.bdb_law_sums.specs.of_format.Numbers.{byte_at, four_at}
-use Rattle.bdb_law_sums.specs.of_format.Page.{Content, Inline, Set, Chain, Tree, Unknown, Item, Page, Hash, Leaf, RecnoLeaf, DupLeaf, Overflow, NoType}
-use Rattle.bdb_law_sums.specs.of_format.Reading.{abstract_page, page_type}
-use Rattle.bdb_law_sums.specs.of_format.Rows.{metadata_rows, page_code}
-use Rattle.bdb_law_sums.specs.of_format.Table.{first_row}
-use Rattle.bdb_law_sums.specs.of_format.File.{File, file_as, header_in, page_at}
-use Rattle.bdb_law_sums.specs.of_format.References.{fit_code, no_item}
-use Rattle.bdb_law_sums.specs.of_format.Chains.{chain, joined, next_of, pieces_of}
-use Rattle.bdb_law_sums.specs.of_format.Leaves.{children_in}
-use Rattle.bdb_law_sums.specs.of_format.Contents.{entries_in}
+use Rattle.bdb_law_sums.specs.of_format.Terms.{Chain, Content, DupLeaf, File, Hash, Inline, Item, Leaf, NoType, Overflow, Page, RecnoLeaf, Set, Tree, Unknown}
+use Rattle.bdb_law_sums.specs.of_format.Terms.{abstract_page, byte_at, chain, children_in, entries_in, file_as, first_row, fit_code, four_at, header_in}
+use Rattle.bdb_law_sums.specs.of_format.Terms.{joined, metadata_rows, next_of, no_item, page_at, page_code, page_type, pieces_of}
 
 -- The pages.
 

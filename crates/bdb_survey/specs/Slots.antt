@@ -1,6 +1,6 @@
 -- The items of a page, as the code holds them.
 use Rattle.std.specs.Prelude.{List, [], Option, Some, None}
-use Rattle.bdb_law_sums.specs.of_format.Page.{Item}
+use Rattle.bdb_law_sums.specs.of_format.Terms.{Item}
 use Rattle.bdb_survey.specs.declared.slots.Slots.{Slots}
 use Rattle.bdb_survey.specs.declared.slots.Slots.TheVariants.{Leaf, Hash, Records, SortedData}
 

@@ -1,9 +1,6 @@
 -- The way down to a set's first leaf, page by page. Source: docs/FORMAT.md, "Salvage".
 use Rattle.std.specs.Prelude.{ℕ, nat_lt, ◌==◌, ◌&&◌, ◌||◌, not, if◌then◌else◌, Bool, List, [], ◌∷◌, Option, Some, None}
-use Rattle.bdb_law_sums.specs.of_format.File.{File, header_in, page_at, type_in}
-use Rattle.bdb_law_sums.specs.of_format.Leaves.{children_in}
-use Rattle.bdb_law_sums.specs.of_format.Page.{Page, Meta}
-use Rattle.bdb_law_sums.specs.of_format.References.{has_type}
+use Rattle.bdb_law_sums.specs.of_format.Terms.{File, Meta, Page, children_in, has_type, header_in, page_at, type_in}
 use Rattle.bdb_survey.specs.declared.down.Way.{Way}
 use Rattle.bdb_survey.specs.declared.down.Way.TheVariants.{Ends, Child, Broken}
 use Rattle.bdb_survey.specs.Salvage.{fits_below}

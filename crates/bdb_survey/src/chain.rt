@@ -1,6 +1,5 @@
 ghost use Rattle.std.specs.Prelude.{◌≡◌, ◌+◌, ◌/◌, ◌^◌, ◌≤◌, IsTrue, if◌then◌else◌, Some, None, length};
-ghost use Rattle.bdb_law_sums.specs.of_format.Chains.{pieces_of};
-ghost use Rattle.bdb_law_sums.specs.of_format.HeadOf.{is_page_size};
+ghost use Rattle.bdb_law_sums.specs.of_format.Terms.{is_page_size, pieces_of};
 ghost use Rattle.bdb_survey.specs.Salvage.{is_whole, salvaged_file};
 
 use crate::Guess;

@@ -1,8 +1,7 @@
 ghost use Rattle.std.specs.Prelude.{◌≡◌, if◌then◌else◌, ℕ};
-ghost use Rattle.bdb_law_sums.specs.of_format.Page.{Internal, InternalItem, Listed, RecnoInternal};
+ghost use Rattle.bdb_law_sums.specs.of_format.Terms.{Internal, InternalItem, Listed, RecnoInternal, header_in, page_at};
 ghost use Rattle.bdb_law_sums.specs.of_format.declared.pages.RecnoItem.{RecnoItem};
 ghost use Rattle.bdb_law_sums.specs.of_form.Seen.{page_seen};
-ghost use Rattle.bdb_law_sums.specs.of_format.File.{header_in, page_at};
 ghost use Rattle.bdb_survey.specs.Salvage.{down, fits_below, set_start};
 ghost use Rattle.bdb_survey.specs.Ways.{fits_as, plain_type, way_from};
 ghost use Rattle.bdb_survey.specs.declared.down.Way.TheVariants.{Broken, Child};

@@ -1,5 +1,5 @@
 ghost use Rattle.std.specs.Prelude.{◌≡◌, ◌+◌, ◌≤◌, ◌==◌, if◌then◌else◌, length, None, Some};
-ghost use Rattle.bdb_law_sums.specs.of_format.Chains.{piece_in};
+ghost use Rattle.bdb_law_sums.specs.of_format.Terms.{piece_in};
 ghost use Rattle.bdb_law_sums.specs.of_form.Seen.{page_seen};
 ghost use Rattle.bdb_survey.specs.Links.{extent_of, is_of_kind, link_in, link_of};
 

@@ -1,9 +1,6 @@
 ghost use Rattle.std.specs.Prelude.{◌≡◌, ◌<◌, ◌^◌, IfSome, IsTrue, None, length, ℕ};
 ghost use Rattle.std.specs.Option.{is_some, option_map};
-ghost use Rattle.bdb_law_sums.specs.of_format.HeadOf.{is_page_size};
-ghost use Rattle.bdb_law_sums.specs.of_format.Numbers.{byte_at, four_at};
-ghost use Rattle.bdb_law_sums.specs.of_format.Reading.{page_type};
-ghost use Rattle.bdb_law_sums.specs.of_format.Rows.{page_code};
+ghost use Rattle.bdb_law_sums.specs.of_format.Terms.{byte_at, four_at, is_page_size, page_code, page_type};
 ghost use Rattle.bdb_law_sums.specs.of_format.declared.pages.PageType.TheVariants.{BtreeMeta as BtreeMetaPage, HashMeta as HashMetaPage};
 ghost use Rattle.bdb_law_sums.specs.of_image.Metas.{meta_in, meta_seen};
 ghost use Rattle.bdb_survey.specs.Metas.{HasFewBuckets};

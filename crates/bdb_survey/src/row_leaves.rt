@@ -1,8 +1,7 @@
 ghost use Rattle.std.specs.Prelude.{◌≡◌};
 ghost use Rattle.std.specs.Iterator.{YieldsFirst, item_count};
 ghost use Rattle.bdb_law_sums.specs.of_form.Seen.{page_seen};
-ghost use Rattle.bdb_law_sums.specs.of_format.Chains.{chain, next_of};
-ghost use Rattle.bdb_law_sums.specs.of_format.File.{header_in};
+ghost use Rattle.bdb_law_sums.specs.of_format.Terms.{chain, header_in, next_of};
 ghost use Rattle.bdb_survey.specs.Rows.{unless_zero};
 
 use crate::whole_pages::WholePages;

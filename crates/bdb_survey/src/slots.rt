@@ -1,7 +1,6 @@
 ghost use Rattle.std.specs.Prelude.{◌≡◌, ◌<◌, get_or, length};
 ghost use Rattle.bdb_law_sums.specs.of_form.Seen.{page_seen};
-ghost use Rattle.bdb_law_sums.specs.of_format.Contents.{entries_in};
-ghost use Rattle.bdb_law_sums.specs.of_format.References.{no_item};
+ghost use Rattle.bdb_law_sums.specs.of_format.Terms.{entries_in, no_item};
 ghost use Rattle.bdb_meta.specs.of_layout.Seen.{content_seen, hash_item_seen};
 ghost use Rattle.bdb_survey.specs.Items.{slot_at, slots_in};
 ghost use Rattle.bdb_survey.specs.Links.{view_page};

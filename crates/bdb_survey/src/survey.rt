@@ -1,7 +1,7 @@
 ghost use Rattle.std.specs.Prelude.{◌≡◌, IfOk, map, IfSome};
 ghost use Rattle.std.specs.List.{range_with_len};
 ghost use Rattle.bdb_law_sums.specs.of_form.Seen.{page_seen};
-ghost use Rattle.bdb_law_sums.specs.of_format.File.{page_at};
+ghost use Rattle.bdb_law_sums.specs.of_format.Terms.{page_at};
 ghost use Rattle.bdb_meta.specs.of_layout.Seen.{content_seen};
 ghost use Rattle.std.specs.Option.{option_to_list};
 ghost use Rattle.bdb_survey.specs.Rows.{chain_row, is_chain_of, is_leaf_row, leaf_row, row_at, row_by, thin_pieces, way_row};
@@ -40,7 +40,7 @@ pub struct Survey<'a> {
 impl<'a> Model for Survey<'a> {
     ghost use Rattle.std.specs.Prelude.{◌≡◌, map};
     ghost use Rattle.std.specs.List.{range_with_len};
-    ghost use Rattle.bdb_law_sums.specs.of_format.File.{File};
+    ghost use Rattle.bdb_law_sums.specs.of_format.Terms.{File};
     ghost use Rattle.bdb_survey.specs.Rows.{row_at};
 
     ghost Value = { File };

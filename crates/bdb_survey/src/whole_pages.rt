@@ -1,12 +1,9 @@
 ghost use Rattle.std.specs.Prelude.{◌≡◌, ◌-◌, ◌^◌, ◌<◌, ◌≤◌, IfSome, IsTrue, length, ℕ};
 ghost use Rattle.std.specs.Option.{option_map};
-ghost use Rattle.bdb_law_sums.specs.of_format.Page.{NoType};
+ghost use Rattle.bdb_law_sums.specs.of_format.Terms.{NoType, is_page_size, page_at, piece_in, pieces_of};
 ghost use Rattle.bdb_law_sums.specs.of_form.Seen.{page_seen};
-ghost use Rattle.bdb_law_sums.specs.of_format.Chains.{piece_in, pieces_of};
 ghost use Rattle.bdb_meta.specs.of_layout.Seen.{content_seen};
 ghost use Rattle.bdb_survey.specs.Items.{slot_at, slots_in};
-ghost use Rattle.bdb_law_sums.specs.of_format.File.{page_at};
-ghost use Rattle.bdb_law_sums.specs.of_format.HeadOf.{is_page_size};
 ghost use Rattle.bdb_law_sums.specs.of_image.Metas.{meta_in, meta_seen};
 ghost use Rattle.bdb_survey.specs.Links.{view_page};
 ghost use Rattle.bdb_survey.specs.Metas.{HasFewBuckets};
@@ -27,7 +24,7 @@ pub struct WholePages<'a> {
 }
 
 impl<'a> Model for WholePages<'a> {
-    ghost use Rattle.bdb_law_sums.specs.of_format.File.{File};
+    ghost use Rattle.bdb_law_sums.specs.of_format.Terms.{File};
     ghost use Rattle.bdb_survey.specs.Reads.{IsRead};
     ghost use Rattle.bdb_survey.specs.Salvage.{salvaged_file};
 

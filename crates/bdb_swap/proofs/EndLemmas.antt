@@ -9,7 +9,7 @@ use Rattle.bdb_io.proofs.of_format.ListLemmas.{range_zero_more}
 use Rattle.bdb_io.proofs.of_format.MemberLemmas.{of_range}
 use Rattle.bdb_io.proofs.of_format.PageLemmas.{index_offset, length_items}
 use Rattle.bdb_io.specs.of_format.declared.kinds.Order.{Order}
-use Rattle.bdb_io.specs.of_format.Reading.{entries_of, listed, offset_of}
+use Rattle.bdb_io.specs.of_format.Terms.{entries_of, listed, offset_of}
 use Rattle.bdb_swap.specs.Crossing.{AreEnds, AreRanges, end_at, some_share}
 use Rattle.bdb_law_turned.specs.Overlaps.{listed_overlap, share_bytes}
 use Rattle.bdb_law_turned.specs.of_form.Ends.{ArePlaced}

@@ -11,10 +11,7 @@ use Rattle.bdb_io.proofs.of_format.SizeLemmas.{size_bounds}
 use Rattle.bdb_io.proofs.of_format.VerdictLemmas.{none_within, or_else_none}
 use Rattle.bdb_io.specs.of_format.declared.kinds.Order.{Order}
 use Rattle.bdb_io.specs.of_format.declared.metadata.Head.{Head}
-use Rattle.bdb_io.specs.of_format.File.{file_of, page_at, page_bytes}
-use Rattle.bdb_io.specs.of_format.HeadOf.{head_of}
-use Rattle.bdb_io.specs.of_format.Reading.{abstract_page, is_zero}
-use Rattle.bdb_io.specs.of_format.Verdict.{file_faults, head_faults, tail_faults}
+use Rattle.bdb_io.specs.of_format.Terms.{abstract_page, file_faults, file_of, head_faults, head_of, is_zero, page_at, page_bytes, tail_faults}
 use Rattle.bdb_law_turned.proofs.of_image.FirstLemmas.{formed_accepted, formed_page}
 use Rattle.bdb_law_turned.proofs.of_image.FormedLemmas.{accepted_paged}
 use Rattle.bdb_law_turned.specs.of_image.Formed.{IsAccepted}

@@ -8,7 +8,7 @@ use Rattle.std.proofs.lemmas.Bool.{cases_lt}
 use Rattle.std.proofs.lemmas.List.{get_or-drop, get_or-reverse, get_or-take, get_or_past, length-reverse, take_all}
 use borrow.Rule.Slice.PartMut.{put_mid}
 use Rattle.byteorder.specs.Endian.{big_number, little_bytes}
-use Rattle.bdb_io.specs.of_format.Numbers.{from_low_end, overwritten}
+use Rattle.bdb_io.specs.of_format.Terms.{from_low_end, overwritten}
 use Rattle.bdb_io.proofs.of_format.TurnLemmas.{length-slice_range}
 use Rattle.bdb_law_turned.proofs.of_layout.NumberLemmas.{big_from-is, put_piece}
 

@@ -4,7 +4,7 @@ use Rattle.std.specs.Prelude.{map, reverse, slice_range}
 use Rattle.std.specs.List.{flat_map, range_with_len}
 use Rattle.std.proofs.lemmas.List.Concat.{flat_map-append}
 use Rattle.bdb_io.proofs.of_format.ListLemmas.{range_zero_more}
-use Rattle.bdb_io.specs.of_format.Numbers.{overwritten}
+use Rattle.bdb_io.specs.of_format.Terms.{overwritten}
 use Rattle.bdb_law_turned.specs.Fields.{Field, field, fours, index_fields}
 use Rattle.bdb_swap.specs.Turns.{Turns}
 use Rattle.bdb_swap.proofs.WriteLemmas.{turns_both, turns_one}

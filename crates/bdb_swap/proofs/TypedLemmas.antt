@@ -6,10 +6,7 @@ use Rattle.bdb_io.specs.of_format.declared.metadata.Head.{Head}
 use Rattle.bdb_io.specs.of_format.declared.pages.PageType.{PageType}
 use Rattle.bdb_io.specs.of_format.declared.pages.PageType.TheVariants.{Internal as InternalPage, RecnoInternal as RecnoInternalPage}
 use Rattle.bdb_io.specs.of_format.declared.pages.PageType.TheVariants.{Leaf as LeafPage, RecnoLeaf as RecnoLeafPage, DupLeaf as DupLeafPage}
-use Rattle.bdb_io.specs.of_format.HeadOf.{is_page_size}
-use Rattle.bdb_io.specs.of_format.Numbers.{byte_at}
-use Rattle.bdb_io.specs.of_format.Reading.{abstract_page, is_zero, page_as, page_type}
-use Rattle.bdb_io.specs.of_format.Rows.{form_code}
+use Rattle.bdb_io.specs.of_format.Terms.{abstract_page, byte_at, form_code, is_page_size, is_zero, page_as, page_type}
 use Rattle.bdb_law_turned.specs.Fields.{fields_of}
 use Rattle.bdb_law_turned.specs.Overlaps.{overlaps}
 use Rattle.bdb_law_turned.specs.Turning.{turned_page}

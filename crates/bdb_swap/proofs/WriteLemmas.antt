@@ -8,7 +8,7 @@ use Rattle.std.proofs.lemmas.List.{length-take-le}
 use Rattle.std.proofs.lemmas.List.Elements.{Contains-append_left, Contains-append_right, Contains-append_cases}
 use Rattle.bdb_io.proofs.of_format.MemberLemmas.{first_member, member_cases, no_member}
 use Rattle.bdb_io.proofs.of_format.TurnLemmas.{length-slice_range}
-use Rattle.bdb_io.specs.of_format.Numbers.{byte_at, overwritten}
+use Rattle.bdb_io.specs.of_format.Terms.{byte_at, overwritten}
 use Rattle.bdb_law_turned.specs.Fields.{Field, block_fields, field}
 use Rattle.bdb_law_turned.specs.Apart.{run_length, AreApart, LieWithin}
 use Rattle.bdb_law_turned.specs.Turning.{mirror, turned_round}

@@ -1,7 +1,7 @@
 -- What `flip` answers. Source: docs/FORMAT.md, "The other byte order".
 use Rattle.std.specs.Prelude.{◌≡◌, ℕ, List, Result, Ok, Err, Some, None, ⊤}
 use Rattle.bdb_io.specs.of_format.declared.kinds.Order.{Order}
-use Rattle.bdb_io.specs.of_format.File.{file_of}
+use Rattle.bdb_io.specs.of_format.Terms.{file_of}
 use Rattle.bdb_law_turned.specs.Flipped.{first_overlap, flip_of, flipped, overlap_in}
 use Rattle.bdb_swap.specs.declared.flipping.FlipError.{FlipError}
 use Rattle.bdb_swap.specs.declared.flipping.FlipError.TheVariants.{Overlap, Memory}

@@ -1,9 +1,7 @@
 -- An image whose pages can be turned round.
 use Rattle.std.specs.Prelude.{◌≡◌, ◌<◌, ℕ, List, None, false, true}
 use Rattle.bdb_io.specs.of_format.declared.metadata.Head.{Head}
-use Rattle.bdb_io.specs.of_format.File.{page_bytes}
-use Rattle.bdb_io.specs.of_format.Reading.{is_zero}
-use Rattle.bdb_io.specs.of_format.Rows.{form_code}
+use Rattle.bdb_io.specs.of_format.Terms.{form_code, is_zero, page_bytes}
 use Rattle.bdb_law_turned.specs.of_image.Formed.{IsAccepted}
 
 -- page 0 is accepted, no row of form holds for a page that isn't zero, and those above the last page are zero

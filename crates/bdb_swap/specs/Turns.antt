@@ -2,7 +2,7 @@
 use Rattle.std.specs.Prelude.{◌≡◌, ℕ, List, ◌++◌, length}
 use Rattle.std.specs.List.{flat_map, range_with_len}
 use Rattle.bdb_io.specs.of_format.declared.metadata.Head.{Head}
-use Rattle.bdb_io.specs.of_format.File.{page_bytes}
+use Rattle.bdb_io.specs.of_format.Terms.{page_bytes}
 use Rattle.bdb_law_turned.specs.Fields.{Field}
 use Rattle.bdb_law_turned.specs.Turning.{turned_page, turned_round}
 use Rattle.bdb_law_turned.specs.Apart.{AreApart, LieWithin}

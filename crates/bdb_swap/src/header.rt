@@ -1,5 +1,5 @@
 ghost use Rattle.std.specs.Prelude.{◌≡◌, ◌≤◌, length};
-ghost use Rattle.bdb_io.specs.of_format.Reading.{entries_of, index_end};
+ghost use Rattle.bdb_io.specs.of_format.Terms.{entries_of, index_end};
 ghost use Rattle.bdb_law_turned.specs.Fields.{header_fields, index_fields};
 ghost use Rattle.bdb_swap.specs.Turns.{Turns};
 

@@ -1,7 +1,5 @@
 ghost use Rattle.std.specs.Prelude.{◌≡◌, ◌++◌, IfOk, OnOk, None, false, true, length};
-ghost use Rattle.bdb_io.specs.of_format.HeadOf.{is_page_size};
-ghost use Rattle.bdb_io.specs.of_format.Reading.{abstract_page, is_zero};
-ghost use Rattle.bdb_io.specs.of_format.Rows.{form_code};
+ghost use Rattle.bdb_io.specs.of_format.Terms.{abstract_page, form_code, is_page_size, is_zero};
 ghost use Rattle.bdb_law_turned.specs.Overlaps.{overlaps};
 ghost use Rattle.bdb_law_turned.specs.Turning.{turned_page};
 ghost use Rattle.bdb_swap.specs.Flip.{IsTurnedImage};

@@ -1,8 +1,6 @@
 ghost use Rattle.std.specs.Prelude.{◌≡◌, ◌<◌, ◌≤◌, None, ℕ, List, length};
 ghost use Rattle.std.specs.List.{flat_map, range_with_len};
-ghost use Rattle.bdb_io.specs.of_format.Reading.{entries_of, index_end, listed, offset_of};
-ghost use Rattle.bdb_io.specs.of_format.Rows.{item_rows, listed_code};
-ghost use Rattle.bdb_io.specs.of_format.Table.{first_row};
+ghost use Rattle.bdb_io.specs.of_format.Terms.{entries_of, first_row, index_end, item_rows, listed, listed_code, offset_of};
 ghost use Rattle.bdb_law_turned.specs.Fields.{Field, listed_fields};
 ghost use Rattle.bdb_swap.specs.Turns.{Turns};
 

@@ -1,5 +1,5 @@
 ghost use Rattle.std.specs.Prelude.{◌≡◌, ◌+◌, ◌*◌, ◌≤◌, length, reverse, slice_range};
-ghost use Rattle.bdb_io.specs.of_format.Numbers.{overwritten};
+ghost use Rattle.bdb_io.specs.of_format.Terms.{overwritten};
 ghost use Rattle.bdb_law_turned.specs.Fields.{fours};
 ghost use Rattle.bdb_swap.specs.Turns.{Turns};
 

@@ -1,7 +1,5 @@
 ghost use Rattle.std.specs.Prelude.{◌≡◌, ◌<◌, ◌≤◌, None, false, true, length};
-ghost use Rattle.bdb_io.specs.of_format.HeadOf.{is_page_size};
-ghost use Rattle.bdb_io.specs.of_format.Reading.{abstract_page, is_zero, page_as};
-ghost use Rattle.bdb_io.specs.of_format.Rows.{body_code, form_code};
+ghost use Rattle.bdb_io.specs.of_format.Terms.{abstract_page, body_code, form_code, is_page_size, is_zero, page_as};
 ghost use Rattle.bdb_law_turned.specs.Overlaps.{overlaps};
 
 use crate::ranged::items_overlap;

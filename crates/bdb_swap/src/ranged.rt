@@ -1,6 +1,5 @@
 ghost use Rattle.std.specs.Prelude.{◌≡◌, ◌<◌, ◌≤◌, ◌==◌, ℕ, None, get_or, length, set};
-ghost use Rattle.bdb_io.specs.of_format.Reading.{entries_of, index_end, listed, offset_of};
-ghost use Rattle.bdb_io.specs.of_format.Rows.{listed_code};
+ghost use Rattle.bdb_io.specs.of_format.Terms.{entries_of, index_end, listed, listed_code, offset_of};
 ghost use Rattle.bdb_law_turned.specs.Overlaps.{listed_overlap};
 ghost use Rattle.bdb_law_turned.specs.of_form.Ends.{ArePlaced};
 ghost use Rattle.bdb_swap.specs.Crossing.{AreEnds, AreNoted};

@@ -3,7 +3,7 @@ use Rattle.std.proofs.Common.{if◌then◌else◌, ◌≡◌, ℕ, zero, suc, �
 use Rattle.std.proofs.Common.{arith, slice_index, length-drop, drop_of_length-le}
 use Rattle.std.proofs.lemmas.Bool.{false_from_ne_true}
 use Rattle.std.proofs.lemmas.List.{take_all}
-use Rattle.bdb_spelling.specs.of_text_format.TextLines.{onto_first, text_lines}
+use Rattle.bdb_spelling.specs.of_text_format.Terms.{onto_first, text_lines}
 
 cut_at : (text : List ℕ) (k : ℕ) → k < length text → ((j : ℕ) → 0 ≤ j → j < k → (slice_index text j == 10) ≡ true → ⊥) → (slice_index text k == 10) ≡ true
     → text_lines text ≡ take k text ∷ text_lines (drop (suc k) text)

@@ -2,14 +2,13 @@
 use Rattle.std.proofs.Common.{◌≡◌, ℕ, ◌+◌, ◌%◌, ◌==◌, ◌&&◌, ◌||◌, Bool, true, false, not, if◌then◌else◌, List, [], ◌∷◌, ◌++◌, length, Option, Some, None}
 use Rattle.std.proofs.Common.{is_none, is_some, refl, sym, ap, ◌∙◌, append_assoc, arith, length-append, ◌≢◌, eq-eqb}
 use Rattle.std.proofs.lemmas.Bool.{eqb-true, eqb-false, ne_eqb}
-use Rattle.bdb_spelling.specs.of_format.Digits.{digits_value}
+use Rattle.bdb_spelling.specs.of_format.Terms.{digits_value}
 use Rattle.std.proofs.lemmas.List.{append-nil}
 use Rattle.bdb_spelling.specs.of_text_format.declared.pairs.Key.{Key}
 use Rattle.bdb_spelling.specs.of_text_format.declared.pairs.Key.TheVariants.{Number}
-use Rattle.bdb_spelling.specs.of_text_format.TextSpelling.{bytes_spelled}
-use Rattle.bdb_spelling.specs.of_text_format.Header.{Values, has_keys, has_record_type, prints}
-use Rattle.bdb_spelling.specs.of_text_format.Reasons.{begins_with_space, data_end_reason, data_line_reason, has_odd_length, is_key, is_record_number, spelled_in}
-use Rattle.bdb_spelling.specs.of_text_format.Sections.{counted_pairs, data_read, key_read, keyed_pairs, pairs_read, with_text_pair}
+use Rattle.bdb_spelling.specs.of_text_format.Terms.{Values, begins_with_space, bytes_spelled, counted_pairs, data_end_reason, data_line_reason, data_read}
+use Rattle.bdb_spelling.specs.of_text_format.Terms.{has_keys, has_odd_length, has_record_type, is_key, is_record_number, key_read, keyed_pairs, pairs_read}
+use Rattle.bdb_spelling.specs.of_text_format.Terms.{prints, spelled_in, with_text_pair}
 use Rattle.bdb_text.specs.DataTo.{data_clean}
 use Rattle.std.proofs.Math.Bool.{and-false, and-true}
 use Rattle.bdb_text.proofs.BoolLemmas.{none_row, some_if}

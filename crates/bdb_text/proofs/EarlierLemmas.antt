@@ -13,7 +13,7 @@ use Rattle.std.proofs.lemmas.List.{map-append}
 use Rattle.std.proofs.lemmas.List.Folds.{list_any-append}
 use Rattle.std.proofs.lemmas.Map.Lookups.{exact_bytes}
 use Rattle.std.proofs.lemmas.Map.Text.{is_eq-slice_cmp}
-use Rattle.bdb_spelling.specs.of_format.Databases.{is_name}
+use Rattle.bdb_spelling.specs.of_format.Terms.{is_name}
 use Rattle.bdb_spelling.specs.of_text_format.declared.sections.Section.{Section}
 use Rattle.bdb_text.specs.Earlier.{AreNames, keys_in}
 use Rattle.bdb_text.specs.SectionTo.{names_of}

@@ -3,7 +3,7 @@ use Rattle.std.proofs.Common.{◌≡◌, ℕ, zero, suc, ◌+◌, ◌-◌, ◌<�
 use Rattle.std.proofs.Common.{slice_index, length-drop}
 use Rattle.std.proofs.lemmas.Bool.{false_from_ne_true}
 use Rattle.std.proofs.lemmas.List.{take_all}
-use Rattle.bdb_spelling.specs.of_text_format.Header.{entry_of}
+use Rattle.bdb_spelling.specs.of_text_format.Terms.{entry_of}
 
 cut_at : (line : List ℕ) (k : ℕ) → k < length line → ((j : ℕ) → 0 ≤ j → j < k → (slice_index line j == 61) ≡ true → ⊥) → (slice_index line k == 61) ≡ true
     → entry_of line ≡ Some (record { name = take k line; value = drop (suc k) line })

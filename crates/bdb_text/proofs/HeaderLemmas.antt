@@ -5,9 +5,8 @@ use Rattle.std.specs.List.{flat_map}
 use Rattle.std.proofs.lemmas.List.{append-nil}
 use Rattle.std.proofs.lemmas.Grind.{flat_map-append}
 use Rattle.bdb_spelling.specs.of_format.declared.settings.Settings.{Settings}
-use Rattle.bdb_spelling.specs.of_format.Table.{Row}
-use Rattle.bdb_spelling.specs.of_text_format.LineEnd.{line}
-use Rattle.bdb_spelling.specs.of_text_format.Written.{HeaderLine, entry_line, header_end, header_table, header_text, version_line, written}
+use Rattle.bdb_spelling.specs.of_format.Terms.{Row}
+use Rattle.bdb_spelling.specs.of_text_format.Terms.{HeaderLine, entry_line, header_end, header_table, header_text, line, version_line, written}
 use Rattle.bdb_text.specs.Headers.{rows_text}
 
 -- the lines of the entries whose test holds are those of the rows

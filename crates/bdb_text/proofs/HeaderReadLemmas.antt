@@ -5,11 +5,7 @@ use Rattle.std.specs.Prelude.{is_ok, is_err, Result, Ok, Err}
 use Rattle.std.proofs.lemmas.Bool.{and_from, true≢false}
 use Rattle.std.proofs.lemmas.List.{map-append}
 use Rattle.std.proofs.lemmas.List.Elements.{filter_map-append}
-use Rattle.bdb_spelling.specs.of_text_format.Written.{HeaderLine}
-use Rattle.bdb_spelling.specs.of_text_format.TextLines.{is_header_end}
-use Rattle.bdb_spelling.specs.of_text_format.Header.{entries, entry_of}
-use Rattle.bdb_spelling.specs.of_text_format.Reasons.{entry_reason}
-use Rattle.bdb_spelling.specs.of_text_format.Sections.{entry_fits, lines_fit}
+use Rattle.bdb_spelling.specs.of_text_format.Terms.{HeaderLine, entries, entry_fits, entry_of, entry_reason, is_header_end, lines_fit}
 use Rattle.bdb_text.specs.declared.fields.Field.{Field}
 use Rattle.bdb_text.specs.Fields.{entries_in, entry_in}
 use Rattle.bdb_text.specs.ReadTo.{IsHeaderTo}

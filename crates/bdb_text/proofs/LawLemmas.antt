@@ -5,8 +5,8 @@ use Rattle.std.proofs.lemmas.Bool.{eqb-true}
 use Rattle.std.proofs.lemmas.List.Elements.{All-head, All-tail}
 use Rattle.std.specs.List.{All, flat_map}
 use Rattle.std.proofs.lemmas.Bool.Decides.{nat_tests}
-use Rattle.bdb_spelling.specs.of_text_format.TextSpelling.{before, byte_before, byte_of_digits, bytes_spelled, digit_value, hex_digit, next_unit, printed, printed_unit}
-use Rattle.bdb_spelling.specs.of_text_format.TextSpelling.{spelling, two_digits}
+use Rattle.bdb_spelling.specs.of_text_format.Terms.{before, byte_before, byte_of_digits, bytes_spelled, digit_value, hex_digit, next_unit, printed}
+use Rattle.bdb_spelling.specs.of_text_format.Terms.{printed_unit, spelling, two_digits}
 use Rattle.bdb_spelling.proofs.of_text_format.UnitLemmas.{read_empty, read_unit}
 use Rattle.bdb_text.specs.Laws.{SpelledIsRead}
 use Rattle.bdb_spelling.proofs.ReadingLemmas.{escaped_digits}

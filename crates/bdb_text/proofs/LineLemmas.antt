@@ -5,13 +5,9 @@ use Rattle.std.proofs.lemmas.List.{append-nil}
 use Rattle.std.proofs.lemmas.Bool.{or_parts}
 use Rattle.std.specs.List.{list_any, flat_map}
 use Rattle.std.specs.Str.{bytes_eq}
-use Rattle.bdb_spelling.specs.of_text_format.LineEnd.{line}
-use Rattle.bdb_spelling.specs.of_format.Table.{Row}
-use Rattle.bdb_spelling.specs.of_text_format.TextLines.{is_data_end, text_lines}
-use Rattle.bdb_spelling.specs.of_text_format.Header.{entries, entry_of, given}
-use Rattle.bdb_spelling.specs.of_text_format.Reasons.{keyword_named, name_of}
-use Rattle.bdb_spelling.specs.of_text_format.Sections.{keyword_fits, section_read, sections_from, with_section}
-use Rattle.bdb_spelling.specs.of_text_format.Written.{HeaderLine, data_end, entry_line, written}
+use Rattle.bdb_spelling.specs.of_text_format.Terms.{HeaderLine, data_end, entries, entry_line, entry_of, given, is_data_end, keyword_fits, keyword_named, line}
+use Rattle.bdb_spelling.specs.of_text_format.Terms.{name_of, section_read, sections_from, text_lines, with_section, written}
+use Rattle.bdb_spelling.specs.of_format.Terms.{Row}
 use Rattle.bdb_text.proofs.PartLemmas.{has_data_end}
 
 -- a line has no line feed

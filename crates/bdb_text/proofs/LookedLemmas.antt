@@ -9,16 +9,12 @@ use Rattle.bdb_spelling.specs.of_format.declared.kinds.Kind.TheVariants.{Btree, 
 use Rattle.bdb_spelling.specs.of_format.declared.kinds.Order.{Order}
 use Rattle.bdb_spelling.specs.of_format.declared.kinds.Order.TheVariants.{Big, Little}
 use Rattle.bdb_spelling.specs.of_format.declared.settings.Settings.{Settings}
-use Rattle.bdb_spelling.specs.of_format.Lists.{ListKey}
-use Rattle.bdb_spelling.specs.of_format.Table.{Row}
-use Rattle.bdb_spelling.specs.of_text_format.TextSpelling.{spelling}
+use Rattle.bdb_spelling.specs.of_format.Terms.{ListKey, Row}
+use Rattle.bdb_spelling.specs.of_text_format.Terms.{HeaderLine, Values, any_number, conflicts, entry_line, fits, format_text, has_keys, has_record_type}
+use Rattle.bdb_spelling.specs.of_text_format.Terms.{header_lines, header_table, holds_records, is_value, keyword_fits, keyword_named, kind_text, legal_size}
+use Rattle.bdb_spelling.specs.of_text_format.Terms.{name_in, number_or, or_zero, order_in, order_text, prints, settings_in, spelling, ◌=:◌}
 use Rattle.bdb_text.proofs.LawLemmas.{spelled_read}
 use Rattle.bdb_spelling.specs.of_text_format.declared.keywords.Judged.TheVariants.{Fits, Bad}
-use Rattle.bdb_spelling.specs.of_text_format.Keywords.{any_number, legal_size, or_zero}
-use Rattle.bdb_spelling.specs.of_text_format.Header.{Values, conflicts, has_keys, has_record_type, is_value, name_in, number_or, order_in, prints, settings_in}
-use Rattle.bdb_spelling.specs.of_text_format.Reasons.{keyword_named}
-use Rattle.bdb_spelling.specs.of_text_format.Sections.{fits, keyword_fits}
-use Rattle.bdb_spelling.specs.of_text_format.Written.{HeaderLine, entry_line, format_text, header_lines, header_table, holds_records, kind_text, order_text, ◌=:◌}
 use Rattle.bdb_text.specs.WrittenLaw.{AreBytes, CanBeWritten, in_conflict}
 use Rattle.bdb_text.proofs.LineLemmas.{has_feed, looked_up, table_fits}
 use Rattle.bdb_text.proofs.ValueLemmas.{decimal-no_feed, number_read-decimal, spelling-no_feed}

@@ -8,11 +8,8 @@ use Rattle.bdb_spelling.specs.of_text_format.declared.pairs.Key.TheVariants.{Num
 use Rattle.bdb_spelling.specs.of_text_format.declared.pairs.TextPair.{TextPair}
 use Rattle.std.specs.Str.{bytes_eq}
 use Rattle.std.proofs.lemmas.Slice.Eq.{bytes_eq-Decides}
-use Rattle.bdb_spelling.specs.of_text_format.Written.{data_end}
-use Rattle.bdb_spelling.specs.of_text_format.TextLines.{is_data_end, text_lines}
-use Rattle.bdb_spelling.specs.of_text_format.Header.{Values, has_keys, has_record_type, prints}
-use Rattle.bdb_spelling.specs.of_text_format.Reasons.{data_line_reason, has_odd_length, is_key}
-use Rattle.bdb_spelling.specs.of_text_format.Sections.{counted_pairs, data_read, key_read, keyed_pairs, pairs_read, with_text_pair}
+use Rattle.bdb_spelling.specs.of_text_format.Terms.{Values, counted_pairs, data_end, data_line_reason, data_read, has_keys, has_odd_length, has_record_type}
+use Rattle.bdb_spelling.specs.of_text_format.Terms.{is_data_end, is_key, key_read, keyed_pairs, pairs_read, prints, text_lines, with_text_pair}
 use Rattle.bdb_text.specs.declared.data_lines.LineError.{LineError}
 use Rattle.bdb_text.specs.declared.data_lines.LineError.TheVariants.{Memory, Reason}
 use Rattle.bdb_text.specs.declared.data_pairs.Data.{Data}

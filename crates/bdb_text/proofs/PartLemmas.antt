@@ -3,10 +3,7 @@ use Rattle.std.proofs.Common.{◌≡◌, ℕ, ◌&&◌, Bool, true, false, List,
 use Rattle.std.proofs.lemmas.List.{append-nil}
 use Rattle.std.proofs.lemmas.Bool.{or_parts}
 use Rattle.std.specs.List.{list_any}
-use Rattle.bdb_spelling.specs.of_text_format.TextLines.{is_header_end, is_data_end}
-use Rattle.bdb_spelling.specs.of_text_format.Header.{entries, entry_of}
-use Rattle.bdb_spelling.specs.of_text_format.Reasons.{parts_of, reason_of}
-use Rattle.bdb_spelling.specs.of_text_format.Sections.{entry_fits, lines_fit}
+use Rattle.bdb_spelling.specs.of_text_format.Terms.{entries, entry_fits, entry_of, is_data_end, is_header_end, lines_fit, parts_of, reason_of}
 use Rattle.std.proofs.Math.Bool.{and-true, and_assoc}
 
 -- none of the lines ends a header, or a section

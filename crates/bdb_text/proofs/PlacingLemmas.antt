@@ -10,11 +10,8 @@ use Rattle.bdb_spelling.specs.of_text_format.declared.faults.TextFault.{TextFaul
 use Rattle.bdb_spelling.specs.of_text_format.declared.faults.TextReason.TheVariants.{NoEnd}
 use Rattle.bdb_spelling.specs.of_text_format.declared.pairs.Key.TheVariants.{Number}
 use Rattle.bdb_spelling.specs.of_text_format.declared.pairs.TextPair.{TextPair}
-use Rattle.bdb_spelling.specs.of_text_format.Header.{Values, has_keys, has_record_type, prints}
-use Rattle.bdb_spelling.specs.of_text_format.Placed.{ArePlaced, IsPairPut, IsPiecePut, Keeps, pair_with, placed_key, placed_pair, placed_pairs}
-use Rattle.bdb_spelling.specs.of_text_format.Sections.{data_read, key_read}
-use Rattle.bdb_spelling.specs.of_text_format.TextLines.{is_data_end, text_lines}
-use Rattle.bdb_spelling.specs.of_text_format.Written.{data_end}
+use Rattle.bdb_spelling.specs.of_text_format.Terms.{ArePlaced, IsPairPut, IsPiecePut, Keeps, Values, data_end, data_read, has_keys, has_record_type}
+use Rattle.bdb_spelling.specs.of_text_format.Terms.{is_data_end, key_read, pair_with, placed_key, placed_pair, placed_pairs, prints, text_lines}
 use Rattle.bdb_spelling.proofs.of_text_format.PlacedLemmas.{kept_more, kept_on, pair_put, pairs_pushed, piece_put, places_pushed}
 use Rattle.bdb_text.specs.declared.data_lines.LineError.{LineError}
 use Rattle.bdb_text.specs.declared.data_lines.LineError.TheVariants.{Memory, Reason}

@@ -6,14 +6,13 @@ use Rattle.std.proofs.lemmas.Bool.{or_parts}
 use Rattle.std.specs.List.{list_any}
 use Rattle.std.specs.Str.{bytes_eq}
 use Rattle.std.proofs.lemmas.Slice.Eq.{bytes_eq-Decides}
-use Rattle.bdb_spelling.specs.of_format.Databases.{is_name}
+use Rattle.bdb_spelling.specs.of_format.Terms.{is_name}
 use Rattle.bdb_spelling.specs.of_text_format.declared.faults.TextFault.{TextFault}
-use Rattle.bdb_spelling.specs.of_text_format.TextLines.{is_data_end, is_header_end, text_lines}
-use Rattle.bdb_spelling.specs.of_text_format.Header.{Values, conflicts, entries, entry_of, name_in, values}
-use Rattle.bdb_spelling.specs.of_text_format.Reasons.{data_end_reason, data_line_reason, end_fault, entry_reason, fault_at, fault_from, fault_in, header_end_reason}
-use Rattle.bdb_spelling.specs.of_text_format.Reasons.{name_missing, name_of, or_fault, parts_of, reason_of, text_fault}
-use Rattle.bdb_spelling.specs.of_text_format.Sections.{entry_fits, header_fits, lines_fit, nothing_left, pairs_read, parts_read, section_read, sections_from, sections_in}
-use Rattle.bdb_spelling.specs.of_text_format.Sections.{text_sections, with_pairs, with_section}
+use Rattle.bdb_spelling.specs.of_text_format.Terms.{Values, conflicts, data_end, data_end_reason, data_line_reason, end_fault, entries, entry_fits, entry_of}
+use Rattle.bdb_spelling.specs.of_text_format.Terms.{entry_reason, fault_at, fault_from, fault_in, header_end_reason, header_fits, is_data_end, is_header_end}
+use Rattle.bdb_spelling.specs.of_text_format.Terms.{lines_fit, name_in, name_missing, name_of, nothing_left, or_fault, pairs_read, parts_of, parts_read}
+use Rattle.bdb_spelling.specs.of_text_format.Terms.{reason_of, section_read, sections_from, sections_in, text_fault, text_lines, text_sections, values}
+use Rattle.bdb_spelling.specs.of_text_format.Terms.{version_line, with_pairs, with_section}
 use Rattle.bdb_text.specs.Laws.{ReadsOrFaults}
 use Rattle.std.proofs.Math.Bool.{and-false, and_assoc}
 use Rattle.bdb_text.proofs.BoolLemmas.{some_if}
@@ -22,7 +21,6 @@ use Rattle.bdb_text.proofs.PartLemmas.{clean, clean-append_one, has_data_end, ha
 use Rattle.bdb_text.proofs.PartLemmas.{parts_of-open}
 use Rattle.bdb_text.specs.DataTo.{data_clean}
 use Rattle.bdb_text.proofs.DataLemmas.{data_iff}
-use Rattle.bdb_spelling.specs.of_text_format.Written.{data_end, version_line}
 use Rattle.bdb_spelling.specs.of_text_format.declared.sections.Section.{Section}
 use Rattle.bdb_spelling.specs.of_text_format.declared.pairs.TextPair.{TextPair}
 use Rattle.bdb_spelling.specs.of_text_format.declared.faults.TextReason.{TextReason}

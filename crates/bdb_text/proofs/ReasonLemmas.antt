@@ -3,17 +3,14 @@ use Rattle.std.proofs.Common.{◌≡◌, ℕ, ◌&&◌, Bool, true, false, not, 
 use Rattle.std.specs.List.{list_any}
 use Rattle.std.specs.Str.{bytes_eq}
 use Rattle.std.proofs.lemmas.Slice.Eq.{bytes_eq-Decides}
-use Rattle.bdb_spelling.specs.of_format.Databases.{is_name}
+use Rattle.bdb_spelling.specs.of_format.Terms.{is_name}
 use Rattle.bdb_spelling.specs.of_text_format.declared.keywords.Judged.{Judged}
 use Rattle.bdb_spelling.specs.of_text_format.declared.keywords.Judged.TheVariants.{Fits, Bad, LeftOut}
-use Rattle.bdb_spelling.specs.of_text_format.Keywords.{Keyword}
-use Rattle.bdb_spelling.specs.of_text_format.Header.{Values, given, name_in, conflicts}
-use Rattle.bdb_spelling.specs.of_text_format.Reasons.{begins_version, first_line_reason, keyword_named, keyword_reason, entry_reason, header_end_reason, is_bad}
-use Rattle.bdb_spelling.specs.of_text_format.Reasons.{is_left_out, name_missing}
-use Rattle.bdb_spelling.specs.of_text_format.Sections.{entry_fits, keyword_fits, fits}
+use Rattle.bdb_spelling.specs.of_text_format.Terms.{HeaderLine, Keyword, Values, begins_version, conflicts, entry_fits, entry_reason, first_line_reason, fits}
+use Rattle.bdb_spelling.specs.of_text_format.Terms.{given, header_end_reason, is_bad, is_left_out, keyword_fits, keyword_named, keyword_reason, name_in}
+use Rattle.bdb_spelling.specs.of_text_format.Terms.{name_missing, version_line}
 use Rattle.std.proofs.Math.Bool.{and-false}
 use Rattle.bdb_text.proofs.BoolLemmas.{not-none}
-use Rattle.bdb_spelling.specs.of_text_format.Written.{HeaderLine, version_line}
 use Rattle.bdb_spelling.specs.of_text_format.declared.faults.TextReason.{TextReason}
 use Rattle.bdb_spelling.specs.of_text_format.declared.faults.TextReason.TheVariants.{NoVersion, Version, BadValue, RepeatedKeyword, NoType, Unsupported, NameMissing}
 use Rattle.bdb_spelling.specs.of_text_format.declared.faults.TextReason.TheVariants.{NameTwice, Conflict}

@@ -7,13 +7,11 @@ use Rattle.std.proofs.lemmas.Slice.Eq.{bytes_eq-Decides}
 use Rattle.bdb_spelling.specs.of_text_format.declared.faults.TextFault.{TextFault}
 use Rattle.bdb_spelling.specs.of_text_format.declared.pairs.TextPair.{TextPair}
 use Rattle.bdb_spelling.specs.of_text_format.declared.sections.Section.{Section}
-use Rattle.bdb_spelling.specs.of_text_format.Written.{HeaderLine, data_end, header_end, version_line}
-use Rattle.bdb_spelling.specs.of_text_format.TextLines.{is_data_end, is_header_end, onto_first, text_lines}
-use Rattle.bdb_spelling.specs.of_text_format.Header.{Values, entries, entry_of, given, name_in, settings_in, values}
-use Rattle.bdb_spelling.specs.of_text_format.Reasons.{Parts, data_end_reason, data_line_reason, entry_reason, fault_from, fault_in, first_line_reason, header_end_reason}
-use Rattle.bdb_spelling.specs.of_text_format.Reasons.{name_of, name_of_parts, reason_of, text_fault}
-use Rattle.bdb_spelling.specs.of_text_format.Sections.{Reads, entry_fits, header_fits, lines_fit, pairs_read, parts_read, section_read, sections_from, sections_in}
-use Rattle.bdb_spelling.specs.of_text_format.Sections.{text_sections, with_section}
+use Rattle.bdb_spelling.specs.of_text_format.Terms.{HeaderLine, Parts, Reads, Values, data_end, data_end_reason, data_line_reason, entries, entry_fits}
+use Rattle.bdb_spelling.specs.of_text_format.Terms.{entry_of, entry_reason, fault_from, fault_in, first_line_reason, given, header_end, header_end_reason}
+use Rattle.bdb_spelling.specs.of_text_format.Terms.{header_fits, is_data_end, is_header_end, lines_fit, name_in, name_of, name_of_parts, onto_first}
+use Rattle.bdb_spelling.specs.of_text_format.Terms.{pairs_read, parts_read, reason_of, section_read, sections_from, sections_in, settings_in, text_fault}
+use Rattle.bdb_spelling.specs.of_text_format.Terms.{text_lines, text_sections, values, version_line, with_section}
 use Rattle.bdb_text.specs.declared.data_pairs.Data.{Data}
 use Rattle.bdb_text.specs.declared.dump.Read.{Read}
 use Rattle.bdb_text.specs.declared.fields.Field.{Field}

@@ -3,11 +3,8 @@ use Rattle.std.proofs.Common.{◌≡◌, ℕ, ◌&&◌, Bool, true, false, not, 
 use Rattle.std.proofs.lemmas.List.{append-nil}
 use Rattle.std.proofs.lemmas.Bool.{or_parts, and_parts, not-true}
 use Rattle.std.specs.List.{list_any}
-use Rattle.bdb_spelling.specs.of_format.Table.{Row}
-use Rattle.bdb_spelling.specs.of_text_format.Header.{given}
-use Rattle.bdb_spelling.specs.of_text_format.Reasons.{keyword_named}
-use Rattle.bdb_spelling.specs.of_text_format.Sections.{keyword_fits, lines_fit}
-use Rattle.bdb_spelling.specs.of_text_format.Written.{HeaderLine, entry_line, written}
+use Rattle.bdb_spelling.specs.of_format.Terms.{Row}
+use Rattle.bdb_spelling.specs.of_text_format.Terms.{HeaderLine, entry_line, given, keyword_fits, keyword_named, lines_fit, written}
 use Rattle.bdb_text.proofs.LineLemmas.{entries-written, entry_of-line, given-written, has_equals, is_named, looked_up-unnamed, names_have_equals, table_fits}
 
 pub list_any-append : (test : List ℕ → Bool) (a b : List (List ℕ)) → list_any test a ≡ false → list_any test b ≡ false → list_any test (a ++ b) ≡ false

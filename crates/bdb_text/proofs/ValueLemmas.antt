@@ -6,17 +6,14 @@ use Rattle.std.specs.List.{fold, list_all, flat_map}
 use Rattle.std.proofs.lemmas.Bool.{and_parts, and_from, le-leb, leb-true, or_from}
 use Rattle.std.proofs.lemmas.Str.Parse.{IsDigitsTest, IsNumeralModel, numerals_by_fold}
 use Rattle.std.proofs.lemmas.Fmt.{digits_decimal, digits_value-decimal, decimal_nonempty, length-decimal-le}
-use Rattle.bdb_spelling.specs.of_format.Digits.{digits_value, is_digit, is_number}
-use Rattle.bdb_spelling.specs.of_text_format.Keywords.{number_read}
+use Rattle.bdb_spelling.specs.of_format.Terms.{BytesKey, ListKey, NumberKey, digits_value, is_digit, is_number}
+use Rattle.bdb_spelling.specs.of_text_format.Terms.{data_line, data_read, hex_digit, key_bytes, key_read, keyed_pairs, number_read, pair_lines, printed}
+use Rattle.bdb_spelling.specs.of_text_format.Terms.{spelling, two_digits}
 use Rattle.std.proofs.lemmas.Bool.{ne_eqb}
 use Rattle.std.proofs.lemmas.Bool.Decides.{nat_tests}
 use Rattle.std.proofs.lemmas.List.Folds.{list_any-append}
 use Rattle.std.proofs.lemmas.List.Elements.{All-head, All-tail, All-nil, All-cons}
-use Rattle.bdb_spelling.specs.of_format.Lists.{ListKey, BytesKey, NumberKey}
-use Rattle.bdb_spelling.specs.of_text_format.TextSpelling.{hex_digit, printed, spelling, two_digits}
 use Rattle.bdb_text.proofs.LawLemmas.{spelled_read}
-use Rattle.bdb_spelling.specs.of_text_format.Sections.{data_read, key_read, keyed_pairs}
-use Rattle.bdb_spelling.specs.of_text_format.Written.{data_line, key_bytes, pair_lines}
 use Rattle.bdb_text.specs.WrittenLaw.{AreBytes, IsKeyOf, IsPairOf, key_in, pair_in}
 use Rattle.bdb_text.proofs.LineLemmas.{has_feed}
 use Rattle.bdb_spelling.specs.of_text_format.declared.pairs.TextPair.{TextPair}

@@ -8,19 +8,15 @@ use Rattle.std.proofs.lemmas.List.Elements.{All-cons, All-head, All-nil, All-tai
 use Rattle.std.proofs.lemmas.Grind.{flat_map-append}
 use Rattle.std.proofs.lemmas.Slice.Eq.{bytes_eq-Decides}
 use Rattle.std.specs.Str.{bytes_eq}
-use Rattle.bdb_spelling.specs.of_format.Databases.{is_name, Database}
-use Rattle.bdb_spelling.specs.of_text_format.LineEnd.{line}
+use Rattle.bdb_spelling.specs.of_format.Terms.{Database, ListKey, is_name}
+use Rattle.bdb_spelling.specs.of_text_format.Terms.{Parts, Reads, Values, conflicts, counted_pairs, data_end, data_line, dump_text, entry_line, given}
+use Rattle.bdb_spelling.specs.of_text_format.Terms.{has_keys, has_record_type, header_end, header_fits, header_lines, header_table, holds_records, is_data_end}
+use Rattle.bdb_spelling.specs.of_text_format.Terms.{is_header_end, key_bytes, keyed_pairs, line, name_in, name_missing, name_of, name_of_parts, pair_lines}
+use Rattle.bdb_spelling.specs.of_text_format.Terms.{pairs_read, parts_read, prints, section_lines, section_read, section_text, sections_from, sections_in}
+use Rattle.bdb_spelling.specs.of_text_format.Terms.{settings_in, text_lines, text_sections, values, version_line, with_pairs, with_section, written}
 use Rattle.std.proofs.lemmas.List.Folds.{list_any-append}
 use Rattle.std.specs.List.{list_any, flat_map}
 use Rattle.bdb_spelling.specs.of_format.declared.settings.Settings.{Settings}
-use Rattle.bdb_spelling.specs.of_format.Lists.{ListKey}
-use Rattle.bdb_spelling.specs.of_text_format.TextLines.{is_data_end, is_header_end, text_lines}
-use Rattle.bdb_spelling.specs.of_text_format.Header.{Values, conflicts, given, has_keys, has_record_type, name_in, prints, settings_in, values}
-use Rattle.bdb_spelling.specs.of_text_format.Reasons.{Parts, name_missing, name_of, name_of_parts}
-use Rattle.bdb_spelling.specs.of_text_format.Sections.{Reads, counted_pairs, header_fits, keyed_pairs, pairs_read, parts_read, section_read, sections_in, text_sections}
-use Rattle.bdb_spelling.specs.of_text_format.Sections.{with_pairs, with_section, sections_from}
-use Rattle.bdb_spelling.specs.of_text_format.Written.{data_end, data_line, entry_line, header_end, header_lines, header_table, holds_records, key_bytes, pair_lines}
-use Rattle.bdb_spelling.specs.of_text_format.Written.{section_lines, section_text, version_line, written, dump_text}
 use Rattle.bdb_text.specs.WrittenLaw.{CanBeWritten, WrittenIsRead, AreNamedApart, AreSectionsOf, CanStandTogether, IsSectionOf, IsWritable, Written}
 use Rattle.bdb_text.specs.WrittenLaw.{WrittenAreRead, written_text, DumpIsRead, written_of}
 use Rattle.bdb_text.proofs.PartLemmas.{has_data_end, parts_of-ended}

@@ -1,13 +1,11 @@
 -- What a data line says, and its reasons.
 use Rattle.std.specs.Prelude.{◌≡◌, ℕ, ◌&&◌, if◌then◌else◌, Bool, true, false, not, List, [], ◌∷◌, length, Option, Some, None, is_none, ⊤}
 use Rattle.bdb_spelling.specs.Runs.{joined}
-use Rattle.bdb_spelling.specs.of_text_format.Placed.{IsKeyPlaced, Keeps, placed_key}
+use Rattle.bdb_spelling.specs.of_text_format.Terms.{IsKeyPlaced, Keeps, begins_with_space, is_record_number, placed_key, spelled_in}
 use Rattle.bdb_spelling.specs.of_text_format.declared.pairs.Key.{Key}
 use Rattle.bdb_spelling.specs.of_places.declared.place.PlacedKey.{PlacedKey}
 use Rattle.bdb_spelling.specs.of_places.declared.span.Span.{Span}
-use Rattle.bdb_spelling.specs.of_format.Digits.{digits_value}
-use Rattle.bdb_spelling.specs.of_format.Table.{◌:?◌, first_row}
-use Rattle.bdb_spelling.specs.of_text_format.Reasons.{begins_with_space, is_record_number, spelled_in}
+use Rattle.bdb_spelling.specs.of_format.Terms.{digits_value, first_row, ◌:?◌}
 use Rattle.bdb_text.specs.declared.data_lines.LineError.{LineError}
 use Rattle.bdb_text.specs.declared.data_lines.LineError.TheVariants.{Memory, Reason}
 use Rattle.bdb_spelling.specs.of_text_format.declared.faults.TextReason.{TextReason}

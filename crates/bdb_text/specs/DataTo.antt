@@ -3,14 +3,11 @@ use Rattle.std.specs.Prelude.{◌≡◌, ◌⊎◌, ℕ, ◌+◌, ◌&&◌, if�
 use Rattle.std.specs.List.{list_any}
 use Rattle.bdb_spelling.specs.of_text_format.declared.faults.TextFault.{TextFault}
 use Rattle.bdb_spelling.specs.of_text_format.declared.pairs.TextPair.{TextPair}
-use Rattle.bdb_spelling.specs.of_text_format.Written.{data_end}
-use Rattle.bdb_spelling.specs.of_text_format.TextLines.{is_data_end, text_lines}
-use Rattle.bdb_spelling.specs.of_text_format.Header.{Values, has_keys, has_record_type, prints}
-use Rattle.bdb_spelling.specs.of_text_format.Reasons.{data_end_reason, data_line_reason, has_odd_length}
-use Rattle.bdb_spelling.specs.of_text_format.Sections.{counted_pairs, data_read, key_read, keyed_pairs, pairs_read}
+use Rattle.bdb_spelling.specs.of_text_format.Terms.{IsPairPut, Keeps, Values, counted_pairs, data_end, data_end_reason, data_line_reason, data_read, has_keys}
+use Rattle.bdb_spelling.specs.of_text_format.Terms.{has_odd_length, has_record_type, is_data_end, key_read, keyed_pairs, pair_with, pairs_read, prints}
+use Rattle.bdb_spelling.specs.of_text_format.Terms.{text_lines}
 use Rattle.bdb_spelling.specs.of_text_format.declared.pairs.Key.{Key}
 use Rattle.bdb_spelling.specs.of_text_format.declared.pairs.Key.TheVariants.{Number}
-use Rattle.bdb_spelling.specs.of_text_format.Placed.{IsPairPut, Keeps, pair_with}
 use Rattle.bdb_text.specs.DataLines.{IsDataAdded, line_reason}
 use Rattle.bdb_text.specs.declared.data_pairs.Data.{Data}
 use Rattle.bdb_text.specs.declared.data_pairs.Datum.{Datum}

@@ -3,7 +3,7 @@ use Rattle.std.specs.Prelude.{◌≡◌, ℕ, Bool, List, map, Option, Some, Vec
 use Rattle.std.specs.BTreeSet.{BTreeSet}
 use Rattle.std.specs.List.{list_any}
 use Rattle.std.specs.Str.{bytes_eq}
-use Rattle.bdb_spelling.specs.of_format.Databases.{is_name}
+use Rattle.bdb_spelling.specs.of_format.Terms.{is_name}
 
 -- the names in a set
 abbrev pub keys_in : {Z : Type 0} → BTreeSet (Vec ℕ Z) → List (List ℕ)

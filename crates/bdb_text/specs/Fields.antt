@@ -1,9 +1,7 @@
 -- What the reader of a dump text keeps of a header: its lines at their first equals sign.
 use Rattle.std.specs.Prelude.{ℕ, List, map, Option, Some, None}
 use Rattle.bdb_spelling.specs.of_text_format.declared.keywords.Judged.{Judged}
-use Rattle.bdb_spelling.specs.of_text_format.Written.{HeaderLine}
-use Rattle.bdb_spelling.specs.of_text_format.Keywords.{Keyword}
-use Rattle.bdb_spelling.specs.of_text_format.Header.{Values, given}
+use Rattle.bdb_spelling.specs.of_text_format.Terms.{HeaderLine, Keyword, Values, given}
 use Rattle.bdb_text.specs.declared.fields.Field.{Field}
 
 -- the entry of a field

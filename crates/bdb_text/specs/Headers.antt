@@ -1,10 +1,8 @@
 -- What the rows of the code are in the table of a header, and their text.
 use Rattle.std.specs.Prelude.{ℕ, if◌then◌else◌, true, List, [], decimal}
 use Rattle.std.specs.List.{flat_map}
-use Rattle.bdb_spelling.specs.of_format.Table.{Row, ◌:?◌}
-use Rattle.bdb_spelling.specs.of_text_format.LineEnd.{line}
-use Rattle.bdb_spelling.specs.of_text_format.TextSpelling.{spelling}
-use Rattle.bdb_spelling.specs.of_text_format.Written.{HeaderLine, ◌=:◌, entry_line}
+use Rattle.bdb_spelling.specs.of_format.Terms.{Row, ◌:?◌}
+use Rattle.bdb_spelling.specs.of_text_format.Terms.{HeaderLine, entry_line, line, spelling, ◌=:◌}
 use Rattle.bdb_text.specs.declared.header.HeaderRow.{HeaderRow}
 use Rattle.bdb_text.specs.declared.header.Value.{Value}
 use Rattle.bdb_text.specs.declared.header.Value.TheVariants.{Word, Number, Name}

@@ -1,8 +1,6 @@
 -- What holds of the definitions.
 use Rattle.std.specs.Prelude.{◌≡◌, ℕ, ◌<◌, Bool, List, Some, All, is_none, is_some}
-use Rattle.bdb_spelling.specs.of_text_format.TextSpelling.{bytes_spelled, spelling}
-use Rattle.bdb_spelling.specs.of_text_format.Reasons.{text_fault}
-use Rattle.bdb_spelling.specs.of_text_format.Sections.{text_sections}
+use Rattle.bdb_spelling.specs.of_text_format.Terms.{bytes_spelled, spelling, text_fault, text_sections}
 
 -- reading what was spelled gives the bytes back
 abbrev pub SpelledIsRead : Type 0

@@ -2,11 +2,7 @@
 use Rattle.std.specs.Prelude.{◌≡◌, ℕ, ◌+◌, if◌then◌else◌, true, false, List, [], ◌∷◌, ◌++◌, length, Option, Some, None, ⊤}
 use Rattle.std.specs.List.{list_any}
 use Rattle.bdb_spelling.specs.of_text_format.declared.faults.TextFault.{TextFault}
-use Rattle.bdb_spelling.specs.of_text_format.Written.{HeaderLine, header_end}
-use Rattle.bdb_spelling.specs.of_text_format.TextLines.{is_header_end, text_lines}
-use Rattle.bdb_spelling.specs.of_text_format.Header.{entries, entry_of}
-use Rattle.bdb_spelling.specs.of_text_format.Reasons.{entry_reason}
-use Rattle.bdb_spelling.specs.of_text_format.Sections.{lines_fit}
+use Rattle.bdb_spelling.specs.of_text_format.Terms.{HeaderLine, entries, entry_of, entry_reason, header_end, is_header_end, lines_fit, text_lines}
 use Rattle.bdb_text.specs.declared.headers.Header.{Header}
 use Rattle.bdb_text.specs.declared.text_errors.TextError.{TextError}
 use Rattle.bdb_text.specs.declared.text_errors.TextError.TheVariants.{Fault, Memory}

@@ -1,15 +1,11 @@
 -- How far the reader of a whole dump text has come.
 use Rattle.std.specs.Prelude.{◌≡◌, ℕ, ◌+◌, false, List, [], ◌∷◌, ◌++◌, length, map, Option, Some, None, codes, is_none}
 use Rattle.std.specs.List.{list_any}
-use Rattle.bdb_spelling.specs.of_format.Databases.{is_name}
-use Rattle.bdb_spelling.specs.of_format.Table.{◌:?◌, first_row}
+use Rattle.bdb_spelling.specs.of_format.Terms.{first_row, is_name, ◌:?◌}
 use Rattle.bdb_spelling.specs.of_text_format.declared.faults.TextFault.{TextFault}
 use Rattle.bdb_spelling.specs.of_text_format.declared.sections.Section.{Section}
-use Rattle.bdb_spelling.specs.of_text_format.Written.{data_end}
-use Rattle.bdb_spelling.specs.of_text_format.TextLines.{is_data_end, text_lines}
-use Rattle.bdb_spelling.specs.of_text_format.Header.{Values, conflicts}
-use Rattle.bdb_spelling.specs.of_text_format.Reasons.{fault_from, name_missing, name_of, text_fault}
-use Rattle.bdb_spelling.specs.of_text_format.Sections.{section_read, sections_from, text_sections}
+use Rattle.bdb_spelling.specs.of_text_format.Terms.{Values, conflicts, data_end, fault_from, is_data_end, name_missing, name_of, section_read, sections_from}
+use Rattle.bdb_spelling.specs.of_text_format.Terms.{text_fault, text_lines, text_sections}
 use Rattle.bdb_text.specs.declared.dump.Read.{Read}
 use Rattle.bdb_spelling.specs.of_text_format.declared.faults.TextReason.{TextReason}
 use Rattle.bdb_spelling.specs.of_text_format.declared.faults.TextReason.TheVariants.{NoType, NameMissing, NameTwice, Conflict}

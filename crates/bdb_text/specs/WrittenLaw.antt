@@ -1,18 +1,13 @@
 -- The text of a section is read as that section. Source: docs/FORMAT.md, "Dump text".
 use Rattle.std.specs.List.{flat_map, list_any}
-use Rattle.bdb_spelling.specs.of_format.Databases.{is_name, Database, settings_of}
+use Rattle.bdb_spelling.specs.of_format.Terms.{BytesKey, Database, ListKey, NumberKey, file_of, head_of, is_name, list_of, settings_of}
 use Rattle.std.specs.Prelude.{⊤, is_some, unwrap_or, ◌≡◌, ℕ, ◌<◌, ◌^◌, ◌==◌, ◌&&◌, ◌||◌, Bool, true, false, List, [], ◌∷◌, map, Option, All}
 use Rattle.bdb_spelling.specs.of_format.declared.settings.Settings.{Settings}
-use Rattle.bdb_spelling.specs.of_format.Lists.{ListKey, BytesKey, NumberKey, list_of}
-use Rattle.bdb_spelling.specs.of_text_format.Keywords.{legal_size}
+use Rattle.bdb_spelling.specs.of_text_format.Terms.{Reads, dump_text, header_lines, holds_records, is_btree, is_queue, legal_size, section_text}
 use Rattle.bdb_spelling.specs.of_text_format.declared.pairs.Key.{Key}
 use Rattle.bdb_spelling.specs.of_text_format.declared.pairs.Key.TheVariants.{Bytes, Number}
 use Rattle.bdb_spelling.specs.of_text_format.declared.pairs.TextPair.{TextPair}
 use Rattle.bdb_spelling.specs.of_text_format.declared.sections.Section.{Section}
-use Rattle.bdb_spelling.specs.of_text_format.Sections.{Reads}
-use Rattle.bdb_spelling.specs.of_text_format.Written.{header_lines, holds_records, is_btree, is_queue, section_text, dump_text}
-use Rattle.bdb_spelling.specs.of_format.HeadOf.{head_of}
-use Rattle.bdb_spelling.specs.of_format.File.{file_of}
 
 -- each is a byte
 abbrev pub AreBytes : List ℕ → Type 0

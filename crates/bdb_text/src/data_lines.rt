@@ -1,6 +1,6 @@
 // The lines behind a header: a space and a spelling. What they spell is added to the run that the pairs of the section stand in.
 ghost use Rattle.bdb_spelling.specs.of_text_format.declared.faults.TextReason.TheVariants.{BadDigit, BadEscape};
-ghost use Rattle.bdb_spelling.specs.of_text_format.Sections.{data_read, key_read};
+ghost use Rattle.bdb_spelling.specs.of_text_format.Terms.{data_read, key_read};
 ghost use Rattle.bdb_text.specs.DataLines.{IsDataAdded, IsKeyAdded, IsLineError, record_number};
 ghost use Rattle.bdb_text.specs.declared.data_lines.LineError.TheVariants.{Memory};
 ghost use Rattle.std.specs.Prelude.{◌≡◌, ◌≤◌, if◌then◌else◌, Bool, IfOk, IfErr, length};

@@ -3,8 +3,7 @@ ghost use Rattle.bdb_text.specs.DataTo.{IsCountedFault, IsCountedRead, IsDataFau
 ghost use Rattle.bdb_text.specs.DataTo.{IsKeyedFault, IsKeyedRead, IsPairFault, IsPairRead};
 ghost use Rattle.bdb_text.specs.Fields.{values_in};
 ghost use Rattle.bdb_text.specs.ReadTo.{OnFault, error_at};
-ghost use Rattle.bdb_spelling.specs.of_text_format.Header.{has_keys, has_record_type, prints};
-ghost use Rattle.bdb_spelling.specs.of_text_format.Placed.{ArePlaced, placed_pairs};
+ghost use Rattle.bdb_spelling.specs.of_text_format.Terms.{ArePlaced, has_keys, has_record_type, placed_pairs, prints};
 ghost use Rattle.std.specs.Prelude.{◌≡◌, ◌+◌, ◌<◌, ◌≤◌, ◌^◌, [], IfOk, IfErr, length};
 
 use crate::data_lines::{LineError, read_data, read_key};

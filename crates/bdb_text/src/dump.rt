@@ -1,7 +1,5 @@
 // A whole dump text, section by section.
-ghost use Rattle.bdb_spelling.specs.of_text_format.Header.{name_in};
-ghost use Rattle.bdb_spelling.specs.of_text_format.Reasons.{first_line_reason, name_missing};
-ghost use Rattle.bdb_spelling.specs.of_text_format.Sections.{Reads};
+ghost use Rattle.bdb_spelling.specs.of_text_format.Terms.{Reads, first_line_reason, name_in, name_missing};
 ghost use Rattle.bdb_text.specs.Fields.{values_in};
 ghost use Rattle.bdb_text.specs.ReadTo.{OnFault};
 ghost use Rattle.bdb_text.specs.SectionTo.{IsSectionFault, IsSectionRead, IsTextFault, named_end_reason, names_of};

@@ -1,5 +1,5 @@
 // The sections of a text that were read so far.
-ghost use Rattle.bdb_spelling.specs.of_format.Databases.{is_name};
+ghost use Rattle.bdb_spelling.specs.of_format.Terms.{is_name};
 ghost use Rattle.bdb_text.specs.SectionTo.{names_of};
 ghost use Rattle.std.specs.List.{list_any};
 ghost use Rattle.std.specs.Prelude.{◌≡◌, ◌==◌, [], ◌∷◌, ◌++◌, IfOk, is_none, length};

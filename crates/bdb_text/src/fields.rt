@@ -1,5 +1,5 @@
 // The lines of a header at their first equals sign.
-ghost use Rattle.bdb_spelling.specs.of_text_format.Header.{entry_of, gives, given, number_or};
+ghost use Rattle.bdb_spelling.specs.of_text_format.Terms.{entry_of, given, gives, number_or};
 ghost use Rattle.bdb_text.specs.Fields.{entries_in, entry_seen, values_in};
 ghost use Rattle.std.specs.Prelude.{◌≡◌, is_some, option_copied};
 

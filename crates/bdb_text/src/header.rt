@@ -1,7 +1,7 @@
 ghost use Rattle.std.specs.Prelude.{◌≡◌, ◌++◌, ◌==◌, ◌&&◌, ◌||◌, not, [], IfOk, OnOk, map, option_copied, unwrap_or};
-ghost use Rattle.bdb_spelling.specs.of_text_format.Written.{format_text, has_sets, header_table, header_text, holds_records, is_btree, is_hash, is_recno, kind_text};
-ghost use Rattle.bdb_spelling.specs.of_text_format.Written.{order_text, shows_length, ◌=:◌};
-ghost use Rattle.bdb_spelling.specs.of_format.Table.{◌:?◌};
+ghost use Rattle.bdb_spelling.specs.of_text_format.Terms.{format_text, has_sets, header_table, header_text, holds_records, is_btree, is_hash, is_recno};
+ghost use Rattle.bdb_spelling.specs.of_text_format.Terms.{kind_text, order_text, shows_length, ◌=:◌};
+ghost use Rattle.bdb_spelling.specs.of_format.Terms.{◌:?◌};
 ghost use Rattle.bdb_text.specs.Headers.{row_seen, row_text, rows_text, value_seen};
 
 use bdb_spelling::{Bytes, Kind, Order, Settings, number_text, push_line_text};

@@ -1,8 +1,6 @@
 // The keywords of a header, and which values they take.
-ghost use Rattle.bdb_spelling.specs.of_text_format.Header.{entry_of};
-ghost use Rattle.bdb_spelling.specs.of_text_format.Keywords.{a_spelling, any_number, find_named, is_order, later_keywords, legal_size, number_that, on_or_off, one_of};
-ghost use Rattle.bdb_spelling.specs.of_text_format.Keywords.{one_of_but};
-ghost use Rattle.bdb_spelling.specs.of_text_format.Reasons.{entry_reason, keyword_named};
+ghost use Rattle.bdb_spelling.specs.of_text_format.Terms.{a_spelling, any_number, entry_of, entry_reason, find_named, is_order, keyword_named, later_keywords};
+ghost use Rattle.bdb_spelling.specs.of_text_format.Terms.{legal_size, number_that, on_or_off, one_of, one_of_but};
 ghost use Rattle.bdb_text.specs.Fields.{entries_in, entry_in, judged_by};
 ghost use Rattle.std.specs.Prelude.{◌≡◌, ◌==◌, ◌∷◌, [], codes, false, not, IfOk, IfErr, Some, None};
 

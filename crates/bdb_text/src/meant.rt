@@ -1,6 +1,6 @@
 // What a header says in all: its type, its conflicts and its settings.
-ghost use Rattle.bdb_spelling.specs.of_text_format.Header.{number_or, conflicts, has_keys, has_record_type, has_type, is_on, order_in, plain_in, prints, repeats};
-ghost use Rattle.bdb_spelling.specs.of_text_format.Header.{settings_in};
+ghost use Rattle.bdb_spelling.specs.of_text_format.Terms.{conflicts, has_keys, has_record_type, has_type, is_on, number_or, order_in, plain_in, prints};
+ghost use Rattle.bdb_spelling.specs.of_text_format.Terms.{repeats, settings_in};
 ghost use Rattle.bdb_text.specs.Fields.{values_in};
 ghost use Rattle.std.specs.Prelude.{◌≡◌, codes};
 

@@ -1,5 +1,5 @@
 // The lines of a text.
-ghost use Rattle.bdb_spelling.specs.of_text_format.TextLines.{text_lines};
+ghost use Rattle.bdb_spelling.specs.of_text_format.Terms.{text_lines};
 ghost use Rattle.std.specs.Prelude.{◌≡◌, ◌<◌, ◌∷◌, length};
 
 use memchr::memchr;

@@ -11,8 +11,7 @@ use Rattle.bdb_places.specs.declared.span.Span.{Span}
 use Rattle.bdb_text_format.specs.declared.pairs.Key.{Key}
 use Rattle.bdb_text_format.specs.declared.pairs.Key.TheVariants.{Number}
 use Rattle.bdb_text_format.specs.declared.pairs.TextPair.{TextPair}
-use Rattle.bdb_text_format.specs.Gathered.{Extends, Gathering, HasChains, key_again, noted, with_again, with_pair}
-use Rattle.bdb_text_format.specs.Placed.{IsPiecePut, Keeps, pair_with}
+use Rattle.bdb_text_format.specs.Terms.{Extends, Gathering, HasChains, IsPiecePut, Keeps, key_again, noted, pair_with, with_again, with_pair}
 use Rattle.bdb_text_format.proofs.PlacedLemmas.{long, span_stays}
 
 pub piece_stays : (old new piece : List ℕ) (span : Span) → Keeps old new → IsPiecePut old piece span → IsPiecePut new piece span

@@ -6,7 +6,7 @@ use Rattle.std.proofs.lemmas.List.{map-append}
 use Rattle.std.proofs.lemmas.Option.{slice_get-map}
 use Rattle.bdb_text_format.specs.declared.pairs.Pair.{Pair}
 use Rattle.bdb_text_format.specs.declared.pairs.TextPair.{TextPair}
-use Rattle.bdb_text_format.specs.Pairs.{unlined, unlined_pairs, unnumbered, unnumbered_pairs}
+use Rattle.bdb_text_format.specs.Terms.{unlined, unlined_pairs, unnumbered, unnumbered_pairs}
 
 -- one more pair, without a line
 pub unlined_more : (pairs : List TextPair) (pair : TextPair) → unlined_pairs (pairs ++ pair ∷ []) ≡ unlined_pairs pairs ++ unlined pair ∷ []

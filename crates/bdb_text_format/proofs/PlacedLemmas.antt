@@ -16,9 +16,8 @@ use Rattle.bdb_places.specs.declared.place.PlacedKey.TheVariants.{Bytes as Bytes
 use Rattle.bdb_text_format.specs.declared.pairs.Key.{Key}
 use Rattle.bdb_text_format.specs.declared.pairs.Key.TheVariants.{Bytes, Number}
 use Rattle.bdb_text_format.specs.declared.pairs.TextPair.{TextPair}
-use Rattle.bdb_text_format.specs.Pairs.{last_key}
-use Rattle.bdb_text_format.specs.Placed.{ArePlaced, IsKeyPlaced, IsPairPut, IsPiecePut, IsPlaced, Keeps, pair_with, placed_key, placed_pair}
-use Rattle.bdb_text_format.specs.Placed.{placed_pairs}
+use Rattle.bdb_text_format.specs.Terms.{ArePlaced, IsKeyPlaced, IsPairPut, IsPiecePut, IsPlaced, Keeps, last_key, pair_with, placed_key, placed_pair}
+use Rattle.bdb_text_format.specs.Terms.{placed_pairs}
 
 -- what is behind an old run
 behind : (old new : List ℕ) → Keeps old new → new ≡ old ++ drop (length old) new

@@ -2,8 +2,7 @@
 use Rattle.std.proofs.Common.{◌≡◌, ℕ, zero, suc, ◌<◌, ◌≤◌, Bool, true, false, List, [], ◌∷◌, length, Option, Some, None, refl, ap, subst}
 use Rattle.std.proofs.Common.{◌∙◌, arith}
 use Rattle.std.specs.Prelude.{⊤}
-use Rattle.bdb_text_format.specs.TextSpelling.{before, bytes_spelled, digits_unit, escaped_unit, next_unit}
-use Rattle.bdb_text_format.specs.TextSpelling.{units_read}
+use Rattle.bdb_text_format.specs.Terms.{before, bytes_spelled, digits_unit, escaped_unit, next_unit, units_read}
 
 -- what stands behind a unit is shorter than the text
 IsBehind : Option (ℕ × List ℕ) → List ℕ → Type 0

@@ -7,7 +7,7 @@ use Rattle.bdb_places.specs.of_format.declared.kinds.Kind.TheVariants.{Btree, Re
 use Rattle.bdb_places.specs.of_format.declared.kinds.Order.{Order}
 use Rattle.bdb_places.specs.of_format.declared.kinds.Order.TheVariants.{Big, Little}
 use Rattle.bdb_places.specs.of_format.declared.settings.Settings.{Settings}
-use Rattle.bdb_places.specs.of_format.Databases.{plain_settings}
+use Rattle.bdb_places.specs.of_format.Terms.{plain_settings}
 use Rattle.bdb_text_format.specs.TextSpelling.{bytes_spelled}
 use Rattle.bdb_text_format.specs.Written.{HeaderLine}
 use Rattle.bdb_text_format.specs.Keywords.{or_zero, number_read}

@@ -5,7 +5,7 @@ use Rattle.std.specs.List.{find, fold, list_all, list_any}
 use Rattle.std.specs.Str.{bytes_eq}
 use Rattle.bdb_text_format.specs.declared.keywords.Judged.{Judged}
 use Rattle.bdb_text_format.specs.declared.keywords.Judged.TheVariants.{Fits, Bad, LeftOut}
-use Rattle.bdb_places.specs.of_format.Digits.{digits_value, is_number}
+use Rattle.bdb_places.specs.of_format.Terms.{digits_value, is_number}
 use Rattle.bdb_text_format.specs.TextSpelling.{bytes_spelled, digit_value}
 
 -- Numbers: one to ten decimal digits, or 0x and one to eight hexadecimal digits.

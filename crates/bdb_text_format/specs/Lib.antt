@@ -10,5 +10,6 @@ pub mod Pairs
 pub mod Placed
 pub mod Gathered
 pub mod Sections
+pub mod Terms
 pub use Rattle.bdb_places.specs.of_format as of_format
 pub use Rattle.bdb_places.specs as of_places

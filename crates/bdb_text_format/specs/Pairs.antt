@@ -1,7 +1,7 @@
 -- Lists of pairs, as loading makes them and a database gives them. Source: docs/FORMAT.md, "Lists of databases".
 use Rattle.std.specs.Prelude.{ℕ, ◌+◌, ◌≤◌, List, [], ◌∷◌, map}
 use Rattle.std.specs.List.{fold}
-use Rattle.bdb_places.specs.of_format.Lists.{ListKey, BytesKey, NumberKey}
+use Rattle.bdb_places.specs.of_format.Terms.{BytesKey, ListKey, NumberKey}
 use Rattle.bdb_text_format.specs.declared.pairs.Key.{Key}
 use Rattle.bdb_text_format.specs.declared.pairs.Key.TheVariants.{Bytes, Number}
 use Rattle.bdb_text_format.specs.declared.pairs.Pair.{Pair}

@@ -4,9 +4,7 @@ use Rattle.std.specs.Prelude.{ℕ, ◌+◌, ◌%◌, ◌==◌, nat_le, ◌&&◌,
 use Rattle.std.specs.Prelude.{codes, is_some, is_none}
 use Rattle.std.specs.List.{list_any, find, starts_with}
 use Rattle.std.specs.Str.{bytes_eq}
-use Rattle.bdb_places.specs.of_format.Databases.{is_name}
-use Rattle.bdb_places.specs.of_format.Digits.{digits_value, is_number}
-use Rattle.bdb_places.specs.of_format.Table.{◌:?◌, first_row}
+use Rattle.bdb_places.specs.of_format.Terms.{digits_value, first_row, is_name, is_number, ◌:?◌}
 use Rattle.bdb_text_format.specs.TextSpelling.{bytes_spelled}
 use Rattle.bdb_text_format.specs.declared.faults.TextFault.{TextFault}
 use Rattle.bdb_text_format.specs.TextLines.{text_lines, is_header_end, is_data_end}

@@ -7,8 +7,7 @@ use Rattle.bdb_text_format.specs.declared.pairs.Key.{Key}
 use Rattle.bdb_text_format.specs.declared.pairs.Key.TheVariants.{Bytes, Number}
 use Rattle.bdb_text_format.specs.declared.sections.Section.{Section}
 use Rattle.bdb_text_format.specs.declared.pairs.TextPair.{TextPair}
-use Rattle.bdb_places.specs.of_format.Databases.{is_name}
-use Rattle.bdb_places.specs.of_format.Digits.{digits_value}
+use Rattle.bdb_places.specs.of_format.Terms.{digits_value, is_name}
 use Rattle.bdb_text_format.specs.TextSpelling.{bytes_spelled}
 use Rattle.bdb_text_format.specs.TextLines.{text_lines, is_data_end}
 use Rattle.bdb_text_format.specs.Written.{HeaderLine, version_line}

@@ -6,11 +6,7 @@ use Rattle.bdb_places.specs.of_format.declared.kinds.Kind.TheVariants.{Btree, Re
 use Rattle.bdb_places.specs.of_format.declared.kinds.Order.{Order}
 use Rattle.bdb_places.specs.of_format.declared.kinds.Order.TheVariants.{Big, Little}
 use Rattle.bdb_places.specs.of_format.declared.settings.Settings.{Settings}
-use Rattle.bdb_places.specs.of_format.Table.{Row, ◌:?◌}
-use Rattle.bdb_places.specs.of_format.HeadOf.{head_of}
-use Rattle.bdb_places.specs.of_format.File.{file_of}
-use Rattle.bdb_places.specs.of_format.Lists.{ListKey, BytesKey, NumberKey, list_of}
-use Rattle.bdb_places.specs.of_format.Databases.{Database, settings_of}
+use Rattle.bdb_places.specs.of_format.Terms.{BytesKey, Database, ListKey, NumberKey, Row, file_of, head_of, list_of, settings_of, ◌:?◌}
 use Rattle.bdb_text_format.specs.LineEnd.{line}
 use Rattle.bdb_text_format.specs.TextSpelling.{spelling}
 

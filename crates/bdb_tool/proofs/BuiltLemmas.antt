@@ -1,10 +1,10 @@
 -- Answers of the commands that build a file, and of `salvage`.
 use Rattle.std.proofs.Common.{◌≡◌, ℕ, Bool, true, false, List, sym, subst, arith}
 use Rattle.std.specs.Prelude.{Option, Some, None, Result, nat_lt, codes, string_bytes}
-use Rattle.bdb_repair.specs.of_text_format.LineEnd.{line}
+use Rattle.bdb_repair.specs.of_text_format.Terms.{line, text_fault}
 use Rattle.bdb_repair.specs.of_model.Answers.{Answer, done, fault_line, told, unsupported_line}
 use Rattle.bdb_repair.specs.of_model.Change.{Change}
-use Rattle.bdb_repair.specs.of_format.Verdict.{Faulty, Judgement, LeftOut, verdict_of}
+use Rattle.bdb_repair.specs.of_format.Terms.{Faulty, Judgement, LeftOut, verdict_of}
 use Rattle.bdb_repair.specs.of_rescue.Text.{salvage_text}
 use Rattle.bdb_repair.specs.of_rescue.Guesses.{chosen}
 use Rattle.bdb_repair.specs.of_survey.declared.guess.Guess.{Guess}
@@ -15,7 +15,6 @@ use Rattle.bdb_repair.specs.of_format.declared.kinds.Kind.{Kind}
 use Rattle.bdb_repair.proofs.of_format.KnownLemmas.{keeps_itself}
 use Rattle.bdb_repair.specs.of_text_format.declared.faults.TextFault.{TextFault}
 use Rattle.bdb_repair.specs.of_text_format.declared.sections.Section.{Section}
-use Rattle.bdb_repair.specs.of_text_format.Reasons.{text_fault}
 use Rattle.bdb_repair.specs.of_settle.declared.load_error.LoadError.{LoadError}
 use Rattle.bdb_repair.specs.of_settle.declared.load_error.LoadError.TheVariants.{TooLarge, Memory as MemoryError}
 use Rattle.bdb_repair.specs.of_mkfile.Builds.{image_size}

@@ -3,11 +3,9 @@ use Rattle.std.proofs.Common.{Bool, List, [], ap, arith, false, if◌then◌else
 use Rattle.std.specs.Prelude.{Option, Some, None}
 use Rattle.std.specs.Option.{option_map}
 use Rattle.std.proofs.lemmas.Bool.{le-ltb, lt-ltb}
-use Rattle.bdb_repair.specs.of_format.Faults.{Took}
-use Rattle.bdb_repair.specs.of_format.Verdict.{Judgement, faults_of, judgement_of, verdict_of}
+use Rattle.bdb_repair.specs.of_format.Terms.{Judgement, Took, faults_of, judgement_of, judgement_seen, verdict_of}
 use Rattle.bdb_repair.specs.of_format.declared.kinds.Fault.{Fault}
 use Rattle.bdb_repair.specs.of_faults.Refusals.{IsFirstRefusal}
-use Rattle.bdb_repair.specs.of_format.Cases.{judgement_seen}
 use Rattle.bdb_repair.specs.of_faults.declared.refusals.FirstError.{FirstError}
 use Rattle.bdb_repair.specs.of_faults.declared.refusals.FirstError.TheVariants.{Fault as FirstFault, Memory as FirstMemory}
 use Rattle.bdb_tool_ask.specs.of_tool_lines.Telling.{judgement_line, judgement_status}

@@ -7,7 +7,7 @@ use Rattle.bdb_repair.specs.of_model.Answers.{Answer, told, too_large_line}
 use Rattle.bdb_tool_words.specs.Commands.{Ask, Command, Load, Repair, Salvage, Trial, reads_input, usage}
 use Rattle.bdb_repair.specs.of_model.Change.{Change, GainsPart, HasFailed, IsUncalled, Stays}
 use Rattle.bdb_repair.specs.of_any_order.declared.rows.Rows.TheVariants.{All}
-use Rattle.bdb_repair.specs.of_format.Faults.{Rose, Took}
+use Rattle.bdb_repair.specs.of_format.Terms.{Rose, Took}
 use Rattle.bdb_repair.specs.of_model.Lines.{memory_line, read_fault_line, write_fault_line}
 use Rattle.bdb_repair.proofs.of_format.KnownLemmas.{keeps_itself}
 use Rattle.bdb_tool_build.specs.Loads.{IsTextAnswer}

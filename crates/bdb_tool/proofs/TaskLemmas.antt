@@ -5,7 +5,7 @@ use Rattle.bdb_repair.specs.of_model.Change.{Change}
 use Rattle.bdb_tool_words.specs.Commands.{Action, Ask, Command, Load, Repair, Request, Salvage, asking, handed, reads_input, within}
 use Rattle.bdb_repair.specs.of_any_order.declared.rows.Rows.{Rows}
 use Rattle.bdb_repair.specs.of_any_order.declared.rows.Rows.TheVariants.{All}
-use Rattle.bdb_repair.specs.of_format.Faults.{Took}
+use Rattle.bdb_repair.specs.of_format.Terms.{Took}
 use Rattle.bdb_tool_words.specs.declared.command.Action.TheVariants.{Ask as AskWord, Load as LoadWord, Read as ReadWord, Repair as RepairWord, Salvage as SalvageWord}
 use Rattle.bdb_tool_words.specs.declared.command.Reading.{Reading}
 use Rattle.bdb_tool_words.specs.declared.command.Request.{Request as CodeRequest}

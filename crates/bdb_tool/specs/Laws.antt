@@ -4,8 +4,7 @@ use Rattle.std.specs.List.{Contains}
 use Rattle.bdb_repair.specs.of_any_order.AnyOrder.{is_of_order}
 use Rattle.bdb_repair.specs.of_any_order.declared.rows.Rows.TheVariants.{All, AnyOrder}
 use Rattle.bdb_repair.specs.of_format.declared.kinds.Fault.{Fault}
-use Rattle.bdb_repair.specs.of_format.File.{file_of}
-use Rattle.bdb_repair.specs.of_format.Verdict.{contents_faults}
+use Rattle.bdb_repair.specs.of_format.Terms.{contents_faults, file_of}
 use Rattle.bdb_tool_words.specs.Commands.{Request}
 use Rattle.bdb_tool_ask.specs.FileAnswers.{asked_answer}
 

@@ -1,7 +1,7 @@
 -- What `load --onto` answers to a text that is within the limit, and the image of a base. Source: README.md, "Use", and docs/FORMAT.md, "Loading onto a file".
 use Rattle.std.specs.Prelude.{◌≡◌, ℕ, nat_lt, ◌++◌, Bool, true, false, List, length, Option, Some, None, codes, decimal}
-use Rattle.bdb_repair.specs.of_format.Verdict.{Judgement, verdict_of}
-use Rattle.bdb_repair.specs.of_text_format.LineEnd.{line}
+use Rattle.bdb_repair.specs.of_format.Terms.{Judgement, verdict_of}
+use Rattle.bdb_repair.specs.of_text_format.Terms.{line}
 use Rattle.bdb_repair.specs.of_model.Answers.{Answer, told}
 use Rattle.bdb_tool_ask.specs.of_tool_lines.Telling.{judgement_line, judgement_status}
 use Rattle.bdb_tool_build.specs.of_onto.Bases.{base_of}

@@ -3,7 +3,7 @@ use Rattle.std.specs.Prelude.{◌≡◌, ◌⊎◌, ℕ, nat_lt, ◌&&◌, Bool,
 use Rattle.bdb_tool_words.specs.Commands.{Action, Ask, Command, Load, LoadOnto, Repair, Salvage, Trial, command_on, reads_input, usage}
 use Rattle.bdb_repair.specs.of_model.Answers.{Answer, done, told, too_large_line}
 use Rattle.bdb_repair.specs.of_model.Change.{Change, Gains, GainsPart, Stays}
-use Rattle.bdb_repair.specs.of_text_format.LineEnd.{line}
+use Rattle.bdb_repair.specs.of_text_format.Terms.{line}
 use Rattle.bdb_repair.specs.of_apart.Found.{Found, found}
 use Rattle.bdb_repair.specs.of_apart.Text.{apart_text, rest_text}
 use Rattle.bdb_repair.specs.of_rescue.Text.{salvage_text}

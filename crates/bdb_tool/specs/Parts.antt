@@ -5,8 +5,7 @@ use Rattle.bdb_repair.specs.of_model.Answers.{Answer, told, too_large_line}
 use Rattle.bdb_tool_words.specs.Commands.{Request, usage}
 use Rattle.bdb_repair.specs.of_model.Change.{Change, HasFailed, Stays}
 use Rattle.bdb_repair.specs.of_model.Lines.{memory_line, read_fault_line}
-use Rattle.bdb_repair.specs.of_format.Faults.{Took}
-use Rattle.bdb_repair.specs.of_format.Verdict.{verdict_of}
+use Rattle.bdb_repair.specs.of_format.Terms.{Took, verdict_of}
 use Rattle.bdb_tool.specs.Ontos.{IsOntoBy, base_too_large_line}
 use Rattle.bdb_tool_ask.specs.FileAnswers.{asked_answer}
 use Rattle.bdb_tool.specs.Outputs.{IsRepairAnswer, parts_answer}

@@ -4,7 +4,7 @@ use Rattle.std.specs.Io.KnownBytes.{IsAtEnd}
 use Rattle.std.specs.Borrow.{MutBor}
 use Rattle.std.proofs.Common.{inl, inr}
 use Rattle.bdb_repair.specs.of_model.Change.{Change, Gains, GainsPart, HasFailed, IsUncalled, Stays, change}
-use Rattle.bdb_repair.specs.of_format.Faults.{Took}
+use Rattle.bdb_repair.specs.of_format.Terms.{Took}
 use Rattle.bdb_tool_words.specs.Commands.{Command, command_on, reads_base, reads_input}
 use Rattle.bdb_repair.specs.of_model.Lines.{memory_line, read_fault_line, write_fault_line}
 use Rattle.bdb_tool.specs.Outputs.{Answers, AnswersInPart, Asked, IsBaseInput, IsInput, Output}

@@ -5,7 +5,7 @@ use Rattle.bdb_repair.specs.of_model.Change.{Change, HasFailed, IsUncalled}
 use Rattle.bdb_tool_words.specs.Commands.{Ask, Command, Load, Repair, Request, Salvage, Trial, reads_input}
 use Rattle.bdb_repair.specs.of_any_order.declared.rows.Rows.{Rows}
 use Rattle.bdb_repair.specs.of_any_order.declared.rows.Rows.TheVariants.{All}
-use Rattle.bdb_repair.specs.of_format.Faults.{Took}
+use Rattle.bdb_repair.specs.of_format.Terms.{Took}
 use Rattle.bdb_tool_words.specs.WordsSeen.{IsFitRepair, IsFitSalvage, IsFitTrial, reading_seen, request_seen}
 use Rattle.bdb_tool_words.specs.declared.command.Repair.{Repair as CodeRepair}
 use Rattle.bdb_tool_words.specs.declared.command.Salvage.{Salvage as CodeSalvage}

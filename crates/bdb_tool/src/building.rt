@@ -1,7 +1,7 @@
 //! The commands that build a file.
 ghost use Rattle.std.specs.Prelude.{◌≤◌, ◌^◌, length};
 ghost use Rattle.bdb_repair.specs.of_model.Change.{change};
-ghost use Rattle.bdb_repair.specs.of_format.Verdict.{verdict_of};
+ghost use Rattle.bdb_repair.specs.of_format.Terms.{verdict_of};
 ghost use Rattle.bdb_tool.specs.Ontos.{IsOntoBy};
 ghost use Rattle.bdb_tool.specs.Parts.{Ends, IsRefusalTold};
 ghost use Rattle.bdb_tool_words.specs.WordsSeen.{IsFitTrial};

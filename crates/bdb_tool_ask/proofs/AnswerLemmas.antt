@@ -6,29 +6,24 @@ use Rattle.std.proofs.lemmas.Option.{slice_get-get_or}
 use Rattle.bdb_file.specs.of_format.declared.kinds.Order.{Order}
 use Rattle.bdb_file.specs.of_format.declared.kinds.Fault.{Fault}
 use Rattle.bdb_file.specs.of_faults.Refusals.{IsFirstRefusal}
-use Rattle.bdb_file.specs.of_format.Cases.{judgement_seen}
+use Rattle.bdb_file.specs.of_format.Terms.{Database, Faulty, File, Judgement, LeftOut, ListKey, data_under, databases, file_of, first_judgement, judgement_of}
+use Rattle.bdb_file.specs.of_format.Terms.{judgement_seen, kind_of, list_of, place_of, verdict_of}
 use Rattle.bdb_file.specs.of_faults.declared.refusals.FirstError.{FirstError}
 use Rattle.bdb_file.specs.of_faults.declared.refusals.FirstError.TheVariants.{Fault as FirstFault, Memory as FirstMemory}
 use Rattle.bdb_tool_dump.specs.of_tool_lines.Telling.{judgement_line, judgement_status}
-use Rattle.bdb_tool_words.specs.of_text_format.Written.{database_text, dump_text, is_btree}
+use Rattle.bdb_tool_words.specs.of_text_format.Terms.{bytes_spelled, database_text, dump_text, is_btree}
 use Rattle.bdb_tool_words.specs.of_model.Answers.{Answer, done, fault_line, pairs_text, told, unsupported_line, value_line, values_text}
 use Rattle.bdb_tool_ask.specs.FileAnswers.{asked_answer, converted, data_at, data_named, data_of_database, database_in, dumped, found, judged_answer, not_btree, not_found, range_answer, ranged, section_answer, sound_answer}
 use Rattle.bdb_tool_words.specs.of_model.Change.{Change}
 use Rattle.bdb_tool_words.specs.Commands.{Request, Verify, Get, Dump, Range, Convert, bounds_request, key_request}
 use Rattle.bdb_tool_words.specs.Commands.{asked_name}
-use Rattle.bdb_file.specs.of_format.Databases.{Database, data_under, databases, place_of}
-use Rattle.bdb_file.specs.of_format.File.{File, file_of}
-use Rattle.bdb_file.specs.of_format.Flags.{kind_of}
-use Rattle.bdb_file.specs.of_format.Lists.{ListKey, list_of}
 use Rattle.bdb_stat.specs.of_law_turned.Flipped.{overlap_in}
 use Rattle.bdb_tool_dump.specs.of_range.Ranges.{in_range}
-use Rattle.bdb_file.specs.of_format.Verdict.{Faulty, Judgement, LeftOut, verdict_of, first_judgement, judgement_of}
 use Rattle.bdb_file.specs.of_databases.Named.{database_at, no_database}
 use Rattle.bdb_file.specs.of_any_order.AnyOrder.{faults_by_rows, verdict_by}
 use Rattle.bdb_file.specs.of_any_order.declared.rows.Rows.{Rows}
 use Rattle.bdb_file.specs.of_any_order.declared.rows.Rows.TheVariants.{All}
 use Rattle.bdb_file.proofs.of_any_order.RowsLemmas.{all_are_of_all, no_verdict}
-use Rattle.bdb_tool_words.specs.of_text_format.TextSpelling.{bytes_spelled}
 use Rattle.bdb_tool_words.specs.WordsSeen.{request_seen}
 use Rattle.bdb_tool_words.specs.declared.command.Request.{Request as CodeRequest}
 use Rattle.bdb_tool_words.specs.declared.command.Request.TheVariants.{Get as GetWord, Range as RangeWord}

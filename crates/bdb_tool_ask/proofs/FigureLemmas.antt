@@ -1,11 +1,11 @@
 -- The lines of `stat`.
 use Rattle.std.proofs.Common.{◌≡◌, ℕ, List, [], ◌∷◌, ◌++◌, append_assoc, refl, sym, subst, ◌∙◌, ap}
 use Rattle.std.specs.Prelude.{codes, decimal}
-use Rattle.bdb_file.specs.of_format.File.{File, file_of}
+use Rattle.bdb_file.specs.of_format.Terms.{File, file_of}
 use Rattle.bdb_stat.specs.Figures.{IsStat}
 use Rattle.bdb_stat.specs.declared.class.Class.TheVariants.{Meta, Internal, Leaf, Hash, Overflow, Free, Reserve, Queue, Tail}
 use Rattle.bdb_stat.specs.declared.figures.Stat.{Stat}
-use Rattle.bdb_tool_words.specs.of_text_format.LineEnd.{line}
+use Rattle.bdb_tool_words.specs.of_text_format.Terms.{line}
 use Rattle.bdb_tool_ask.specs.Figures.{figures_text, last_figures, other_figures}
 use Rattle.bdb_tool_ask.specs.FileAnswers.{figure_line, stat_text}
 

@@ -3,11 +3,7 @@ use Rattle.std.proofs.Common.{◌≡◌, ◌∙◌, ℕ, ◌<◌, Bool, true, fa
 use Rattle.std.specs.Prelude.{if◌then◌else◌, Option, Some, None, Result}
 use Rattle.std.proofs.lemmas.Option.{slice_get-get_or}
 use Rattle.bdb_file.specs.of_format.declared.metadata.BtreeMeta.{BtreeMeta}
-use Rattle.bdb_file.specs.of_format.Databases.{databases, place_of}
-use Rattle.bdb_file.specs.of_format.File.{File}
-use Rattle.bdb_file.specs.of_format.Flags.{is_recno, kind_of}
-use Rattle.bdb_file.specs.of_format.Lists.{ListKey, btree_list, list_of}
-use Rattle.bdb_file.specs.of_format.Page.{Metadata, BtreeFields}
+use Rattle.bdb_file.specs.of_format.Terms.{BtreeFields, File, ListKey, Metadata, btree_list, databases, is_recno, kind_of, list_of, place_of}
 use Rattle.bdb_file.specs.of_databases.Named.{database_at, no_database}
 use Rattle.bdb_tool_dump.specs.of_tool_lines.declared.cut.Cut.{Cut}
 use Rattle.bdb_tool_dump.specs.of_tool_lines.Printing.{Writes}
@@ -16,7 +12,7 @@ use Rattle.bdb_tool_ask.specs.FileAnswers.{database_in, not_btree, not_found, ra
 use Rattle.bdb_tool_words.specs.of_model.Answers.{done, pairs_text}
 use Rattle.bdb_tool_words.specs.of_model.Change.{Change}
 use Rattle.bdb_tool_dump.specs.of_range.Ranges.{in_range}
-use Rattle.bdb_tool_words.specs.of_text_format.Written.{is_btree}
+use Rattle.bdb_tool_words.specs.of_text_format.Terms.{is_btree}
 use Rattle.bdb_tool_dump.specs.of_tool_lines.Finished.{Finishes, Reports, Tells}
 use Rattle.bdb_tool_dump.proofs.of_tool_lines.FinishLemmas.{told_finishes, written_finishes}
 

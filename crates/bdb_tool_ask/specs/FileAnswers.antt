@@ -1,14 +1,8 @@
 -- What is answered over a file, by its verdict and what is asked. Source: README.md, "Use".
 use Rattle.std.specs.Prelude.{Bool, List, None, Option, Some, [], codes, decimal, if◌then◌else◌, slice_get, ℕ, ◌++◌, ◌∷◌}
 use Rattle.bdb_file.specs.of_format.declared.kinds.Order.{Order}
-use Rattle.bdb_file.specs.of_format.Databases.{Database, data_under, databases, place_of}
-use Rattle.bdb_file.specs.of_format.File.{File, file_of}
-use Rattle.bdb_file.specs.of_format.Flags.{kind_of}
-use Rattle.bdb_file.specs.of_format.HeadOf.{head_of}
-use Rattle.bdb_file.specs.of_format.Lists.{list_of}
-use Rattle.bdb_file.specs.of_format.Verdict.{Faulty, Judgement, LeftOut}
-use Rattle.bdb_tool_words.specs.of_text_format.LineEnd.{line}
-use Rattle.bdb_tool_words.specs.of_text_format.Written.{database_text, dump_text, is_btree}
+use Rattle.bdb_file.specs.of_format.Terms.{Database, Faulty, File, Judgement, LeftOut, data_under, databases, file_of, head_of, kind_of, list_of, place_of}
+use Rattle.bdb_tool_words.specs.of_text_format.Terms.{database_text, dump_text, is_btree, line}
 use Rattle.bdb_tool_words.specs.of_model.Answers.{Answer, done, fault_line, list_text, pairs_text, told, unsupported_line, values_text}
 use Rattle.bdb_tool_words.specs.Commands.{Convert, Dump, Get, ListAll, Range, Request, Stat, Verify}
 use Rattle.bdb_tool_dump.specs.of_range.Ranges.{in_range}

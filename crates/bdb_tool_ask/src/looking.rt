@@ -4,8 +4,8 @@ ghost use Rattle.bdb_tool_ask.specs.FileAnswers.{data_named, found};
 ghost use Rattle.bdb_tool_words.specs.of_model.Change.{change};
 ghost use Rattle.bdb_tool_words.specs.Commands.{asked_name};
 ghost use Rattle.bdb_tool_words.specs.Commands.{key_request};
-ghost use Rattle.bdb_file.specs.of_format.File.{file_of};
-ghost use Rattle.bdb_tool_words.specs.of_text_format.TextSpelling.{bytes_spelled};
+ghost use Rattle.bdb_file.specs.of_format.Terms.{file_of};
+ghost use Rattle.bdb_tool_words.specs.of_text_format.Terms.{bytes_spelled};
 ghost use Rattle.bdb_tool_dump.specs.of_tool_lines.Finished.{Finishes};
 
 use crate::spelled::{name_bytes, name_sought, spelled};

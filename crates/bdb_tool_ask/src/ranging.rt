@@ -2,20 +2,13 @@
 ghost use Rattle.std.specs.Prelude.{◌≡◌, ◌<◌, [], IsTrue, List, MatchOption, Option, Some, false, is_some, length, not, option_copied, true, ℕ};
 ghost use Rattle.bdb_file.specs.of_databases.Named.{database_at};
 ghost use Rattle.bdb_file.specs.of_image.Linked.{HasMetadata};
-ghost use Rattle.bdb_file.specs.of_format.ContentRows.{database_faults};
-ghost use Rattle.bdb_file.specs.of_format.Databases.{databases};
-ghost use Rattle.bdb_file.specs.of_format.File.{file_of};
-ghost use Rattle.bdb_file.specs.of_format.Flags.{is_recno, kind_of};
-ghost use Rattle.bdb_file.specs.of_format.Lists.{btree_list, list_of};
-ghost use Rattle.bdb_file.specs.of_format.Page.{BtreeFields};
-ghost use Rattle.bdb_file.specs.of_format.Verdict.{structure_faults};
+ghost use Rattle.bdb_file.specs.of_format.Terms.{BtreeFields, btree_list, database_faults, databases, file_of, is_recno, kind_of, list_of, structure_faults};
 ghost use Rattle.bdb_tool_ask.specs.FileAnswers.{ranged};
 ghost use Rattle.bdb_tool_words.specs.of_model.Change.{change};
 ghost use Rattle.bdb_tool_words.specs.Commands.{asked_name};
 ghost use Rattle.bdb_tool_words.specs.Commands.{bounds_request};
 ghost use Rattle.bdb_tool_dump.specs.of_range.Ranges.{in_range};
-ghost use Rattle.bdb_tool_words.specs.of_text_format.TextSpelling.{bytes_spelled};
-ghost use Rattle.bdb_tool_words.specs.of_text_format.Written.{is_btree};
+ghost use Rattle.bdb_tool_words.specs.of_text_format.Terms.{bytes_spelled, is_btree};
 ghost use Rattle.bdb_tool_dump.specs.of_tool_lines.Finished.{Finishes};
 
 use crate::spelled::{name_bytes, name_sought, spelled};

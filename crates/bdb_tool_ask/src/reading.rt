@@ -1,7 +1,7 @@
 //! The commands that read a file whose databases can be read, by the rows that count: `verify`, `list` and `dump`.
 ghost use Rattle.std.specs.Prelude.{◌≡◌, ◌≤◌, ◌^◌, IsTrue, List, Option, Some, is_some, length, option_copied, ℕ};
 ghost use Rattle.bdb_file.specs.of_any_order.AnyOrder.{faults_by_rows, verdict_by};
-ghost use Rattle.bdb_file.specs.of_format.HeadOf.{head_of};
+ghost use Rattle.bdb_file.specs.of_format.Terms.{head_of};
 ghost use Rattle.bdb_tool_dump.specs.of_tool_lines.Printing.{Writes};
 ghost use Rattle.bdb_tool_ask.specs.FileAnswers.{asked_answer, dumped, judged_answer, sound_line, verified};
 ghost use Rattle.bdb_tool_words.specs.of_model.Change.{change};

@@ -1,7 +1,7 @@
 //! The bytes that tested words spell.
 ghost use Rattle.std.specs.Prelude.{◌≡◌, IfOk, IsTrue, Some, is_some, option_copied};
 ghost use Rattle.bdb_tool_words.specs.Commands.{asked_name};
-ghost use Rattle.bdb_tool_words.specs.of_text_format.TextSpelling.{bytes_spelled};
+ghost use Rattle.bdb_tool_words.specs.of_text_format.Terms.{bytes_spelled};
 
 use bdb_file::Bytes;
 use bdb_tool_dump::{SpellError, read_spelling};

@@ -1,6 +1,6 @@
 //! The command that tells what the pages of a file are.
 ghost use Rattle.std.specs.Prelude.{◌≡◌, IfOk, string_bytes};
-ghost use Rattle.bdb_file.specs.of_format.File.{file_of};
+ghost use Rattle.bdb_file.specs.of_format.Terms.{file_of};
 ghost use Rattle.bdb_tool_dump.specs.of_tool_lines.Printing.{Writes};
 ghost use Rattle.bdb_tool_ask.specs.FileAnswers.{stat_text};
 ghost use Rattle.bdb_tool_words.specs.of_model.Answers.{done};

@@ -5,14 +5,9 @@ use Rattle.std.specs.Prelude.{is_some}
 use Rattle.std.proofs.lemmas.List.{map_more}
 use Rattle.std.proofs.lemmas.List.Elements.{All-cons, All-nil}
 use Rattle.bdb_model.specs.of_format.declared.metadata.BtreeMeta.{BtreeMeta}
-use Rattle.bdb_model.specs.of_format.Databases.{databases}
-use Rattle.bdb_model.specs.of_format.File.{File, file_of}
-use Rattle.bdb_model.specs.of_format.Lists.{btree_list, list_of, recno_list}
-use Rattle.bdb_model.specs.of_format.Flags.{names_databases}
-use Rattle.bdb_model.specs.of_format.Master.{master_in}
-use Rattle.bdb_model.specs.of_format.Page.{BtreeFields, HashFields, Metadata, Page, QueueFields, Zero, Free, Meta, Hash, Internal, RecnoInternal, Leaf, RecnoLeaf}
-use Rattle.bdb_model.specs.of_format.Page.{DupLeaf, Overflow, Queue, NoType}
-use Rattle.bdb_model.specs.of_format.Verdict.{verdict_of}
+use Rattle.bdb_model.specs.of_format.Terms.{BtreeFields, DupLeaf, File, Free, Hash, HashFields, Internal, Leaf, Meta, Metadata, NoType, Overflow, Page, Queue}
+use Rattle.bdb_model.specs.of_format.Terms.{QueueFields, RecnoInternal, RecnoLeaf, Zero, btree_list, databases, file_of, list_of, master_in, names_databases}
+use Rattle.bdb_model.specs.of_format.Terms.{recno_list, verdict_of}
 use Rattle.bdb_model.specs.of_text_format.declared.sections.Section.{Section}
 use Rattle.bdb_file.specs.of_image.Metas.{meta_in}
 use Rattle.bdb_file.specs.of_databases.Named.{database_at, no_database}

@@ -6,12 +6,11 @@ use Rattle.std.specs.Prelude.{not, slice_get, IfOk, Result, Ok, Err}
 use Rattle.std.proofs.lemmas.List.{take_all}
 use Rattle.std.proofs.lemmas.List.Elements.{All-head, All-tail}
 use Rattle.std.proofs.lemmas.List.Sums.{fold-append}
-use Rattle.bdb_model.specs.of_format.Lists.{ListKey, BytesKey, NumberKey}
+use Rattle.bdb_model.specs.of_format.Terms.{BytesKey, ListKey, NumberKey}
 use Rattle.bdb_model.specs.of_text_format.declared.pairs.Key.{Key}
 use Rattle.bdb_model.specs.of_text_format.declared.pairs.Key.TheVariants.{Number}
 use Rattle.bdb_model.specs.of_text_format.declared.pairs.TextPair.{TextPair}
-use Rattle.bdb_model.specs.of_text_format.Pairs.{last_key}
-use Rattle.bdb_model.specs.of_text_format.Placed.{pair_with}
+use Rattle.bdb_model.specs.of_text_format.Terms.{last_key, pair_with}
 use Rattle.bdb_model.proofs.of_text_format.PlacedLemmas.{taken_more}
 use Rattle.bdb_onto.specs.Bases.{text_pair}
 use Rattle.bdb_tool_build.specs.Ontos.{list_key}

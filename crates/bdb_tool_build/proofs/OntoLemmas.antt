@@ -2,7 +2,7 @@
 use Rattle.std.proofs.Common.{◌≡◌, ◌⊎◌, ℕ, List, inl, inr, subst, sym, ap}
 use Rattle.std.specs.Prelude.{Option, Some, None, Result, Ok, Err, MatchResult}
 use Rattle.bdb_model.specs.of_text_format.declared.sections.Section.{Section}
-use Rattle.bdb_model.specs.of_text_format.Sections.{Reads}
+use Rattle.bdb_model.specs.of_text_format.Terms.{Reads}
 use Rattle.bdb_model.specs.Answers.{Answer, done}
 use Rattle.bdb_onto.specs.of_settle.declared.load_error.LoadError.{LoadError}
 use Rattle.bdb_onto.specs.of_settle.declared.load_error.LoadError.TheVariants.{Memory}

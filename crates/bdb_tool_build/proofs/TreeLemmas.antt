@@ -4,10 +4,7 @@ use Rattle.std.specs.List.{flat_map}
 use Rattle.std.proofs.lemmas.Grind.{flat_map-append}
 use Rattle.std.proofs.lemmas.List.{map-append}
 use Rattle.std.proofs.lemmas.List.Elements.{All-cons, All-nil}
-use Rattle.bdb_model.specs.of_format.Contents.{StoredPair, data_of, pairs_of}
-use Rattle.bdb_model.specs.of_format.File.{File, file_of}
-use Rattle.bdb_model.specs.of_format.Leaves.{leaves}
-use Rattle.bdb_model.specs.of_format.Lists.{ListKey, BytesKey, btree_list, listed_pair}
+use Rattle.bdb_model.specs.of_format.Terms.{BytesKey, File, ListKey, StoredPair, btree_list, data_of, file_of, leaves, listed_pair, pairs_of}
 use Rattle.bdb_file.specs.of_image.Linked.{FitsLeafPage, IsForest}
 use Rattle.bdb_file.specs.of_btree.Pairs.{AreFit, FitsPair}
 use Rattle.bdb_file.proofs.of_btree.FallLemmas.{ShareKeys as HaveKeys, tree_keys}

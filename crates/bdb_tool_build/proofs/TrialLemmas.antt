@@ -8,11 +8,11 @@ use Rattle.std.proofs.lemmas.List.Elements.{All-cons, All-head, All-map, All-nil
 use Rattle.bdb_model.specs.of_format.declared.kinds.Kind.{Kind}
 use Rattle.bdb_model.specs.of_format.declared.kinds.Kind.TheVariants.{Btree, Recno, Hash, Queue}
 use Rattle.bdb_model.specs.of_format.declared.kinds.Order.TheVariants.{Big}
-use Rattle.bdb_model.specs.of_format.Numbers.{spelled}
+use Rattle.bdb_model.specs.of_format.Terms.{spelled}
 use Rattle.bdb_model.proofs.of_format.SpellingLemmas.{length-spelled}
 use Rattle.bdb_model.specs.of_text_format.declared.pairs.TextPair.{TextPair}
 use Rattle.bdb_model.specs.of_text_format.declared.sections.Section.{Section}
-use Rattle.bdb_model.specs.of_text_format.Written.{holds_records}
+use Rattle.bdb_model.specs.of_text_format.Terms.{holds_records}
 use Rattle.bdb_onto.specs.of_law_sections.Fit.{AreFitSettings, IsFitPair, IsFitSection}
 use Rattle.bdb_onto.specs.of_settle.declared.load_error.LoadError.{LoadError}
 use Rattle.bdb_onto.specs.of_settle.declared.load_error.LoadError.TheVariants.{Memory, TooLarge}

@@ -2,13 +2,10 @@
 use Rattle.std.specs.Prelude.{◌≡◌, ◌<◌, ℕ, true, false, List, [], ◌∷◌, length}
 use Rattle.std.specs.List.{All}
 use Rattle.bdb_model.specs.of_format.declared.metadata.BtreeMeta.{BtreeMeta}
-use Rattle.bdb_model.specs.of_format.Contents.{StoredPair}
-use Rattle.bdb_model.specs.of_format.Flags.{is_recno}
-use Rattle.bdb_model.specs.of_format.Lists.{ListKey}
-use Rattle.bdb_model.specs.of_format.Page.{BtreeFields, Metadata}
+use Rattle.bdb_model.specs.of_format.Terms.{BtreeFields, ListKey, Metadata, StoredPair, is_recno}
 use Rattle.bdb_model.specs.of_text_format.declared.pairs.Key.{Key}
 use Rattle.bdb_model.specs.of_text_format.declared.pairs.TextPair.{TextPair}
-use Rattle.bdb_model.specs.of_text_format.Pairs.{last_key}
+use Rattle.bdb_model.specs.of_text_format.Terms.{last_key}
 use Rattle.bdb_tool_build.specs.Ontos.{list_key}
 
 -- there is a last pair, and it has this key

@@ -2,9 +2,7 @@
 use Rattle.std.specs.Prelude.{ℕ, List, ◌++◌, codes, decimal}
 use Rattle.bdb_model.specs.of_format.declared.kinds.Kind.{Kind}
 use Rattle.bdb_model.specs.of_text_format.declared.faults.TextFault.{TextFault}
-use Rattle.bdb_model.specs.of_text_format.ReasonTable.{reason_code, reason_name}
-use Rattle.bdb_model.specs.of_text_format.LineEnd.{line}
-use Rattle.bdb_model.specs.of_text_format.Written.{kind_text}
+use Rattle.bdb_model.specs.of_text_format.Terms.{kind_text, line, reason_code, reason_name}
 use Rattle.bdb_onto.specs.of_settle.declared.load_error.LoadError.{LoadError}
 use Rattle.bdb_onto.specs.of_settle.LoadErrors.{code_of, line_of, name_of}
 

@@ -3,8 +3,7 @@ use Rattle.std.specs.Prelude.{◌≡◌, ℕ, List, Option, Some, None}
 use Rattle.bdb_model.specs.of_text_format.declared.faults.TextFault.{TextFault}
 use Rattle.bdb_model.specs.of_text_format.declared.sections.Section.{Section}
 use Rattle.bdb_model.specs.Answers.{Answer, done, told}
-use Rattle.bdb_model.specs.of_text_format.Reasons.{text_fault}
-use Rattle.bdb_model.specs.of_text_format.Sections.{Reads}
+use Rattle.bdb_model.specs.of_text_format.Terms.{Reads, text_fault}
 use Rattle.bdb_onto.specs.of_settle.declared.load_error.LoadError.{LoadError}
 use Rattle.bdb_onto.specs.of_settle.declared.load_error.LoadError.TheVariants.{TooLarge, Memory}
 use Rattle.bdb_onto.specs.of_mkfile.Builds.{Builds}

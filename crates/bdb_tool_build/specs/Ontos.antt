@@ -1,12 +1,11 @@
 -- What `load --onto` answers to a text and a base. Source: README.md, "Use", and docs/FORMAT.md, "Loading onto a file".
 use Rattle.std.specs.Prelude.{◌≡◌, ℕ, List, Option, Some, None}
-use Rattle.bdb_model.specs.of_format.Lists.{ListKey, BytesKey, NumberKey}
+use Rattle.bdb_model.specs.of_format.Terms.{BytesKey, ListKey, NumberKey}
 use Rattle.bdb_model.specs.of_text_format.declared.faults.TextFault.{TextFault}
 use Rattle.bdb_model.specs.of_text_format.declared.pairs.Key.{Key}
 use Rattle.bdb_model.specs.of_text_format.declared.pairs.Key.TheVariants.{Bytes, Number}
 use Rattle.bdb_model.specs.of_text_format.declared.sections.Section.{Section}
-use Rattle.bdb_model.specs.of_text_format.Reasons.{text_fault}
-use Rattle.bdb_model.specs.of_text_format.Sections.{Reads}
+use Rattle.bdb_model.specs.of_text_format.Terms.{Reads, text_fault}
 use Rattle.bdb_model.specs.Answers.{Answer, done, told}
 use Rattle.bdb_onto.specs.of_settle.declared.load_error.LoadError.{LoadError}
 use Rattle.bdb_onto.specs.declared.base.Base.{Base}

@@ -3,10 +3,10 @@ use Rattle.std.specs.Prelude.{◌≡◌, ℕ, nat_lt, if◌then◌else◌, Bool,
 use Rattle.bdb_model.specs.of_format.declared.kinds.Kind.{Kind}
 use Rattle.bdb_model.specs.of_format.declared.kinds.Order.TheVariants.{Little}
 use Rattle.bdb_model.specs.of_format.declared.settings.Settings.{Settings}
-use Rattle.bdb_model.specs.of_format.Hashing.{hash5}
+use Rattle.bdb_model.specs.of_format.Terms.{hash5}
 use Rattle.bdb_model.specs.of_text_format.declared.sections.Section.{Section}
 use Rattle.bdb_model.specs.Answers.{Answer, done, told}
-use Rattle.bdb_model.specs.of_text_format.Written.{is_queue}
+use Rattle.bdb_model.specs.of_text_format.Terms.{is_queue}
 use Rattle.bdb_onto.specs.of_settle.Loaded.{loaded_section, unnumbered}
 use Rattle.bdb_onto.specs.of_need.Need.{need_of}
 use Rattle.bdb_onto.specs.of_mkfile.Builds.{Builds, image_size}

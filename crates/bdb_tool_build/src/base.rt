@@ -2,11 +2,7 @@
 ghost use Rattle.std.specs.Prelude.{◌≡◌, ◌<◌, ◌≤◌, ◌^◌, IfErr, IfOk, IfSome, None, OnOk, is_some, length, map, option_copied};
 ghost use Rattle.bdb_file.specs.of_databases.Named.{database_at};
 ghost use Rattle.bdb_file.specs.of_faults.Refusals.{IsFirstRefusal};
-ghost use Rattle.bdb_model.specs.of_format.Databases.{databases};
-ghost use Rattle.bdb_model.specs.of_format.File.{file_of, page_at};
-ghost use Rattle.bdb_model.specs.of_format.Lists.{list_of};
-ghost use Rattle.bdb_model.specs.of_format.Master.{master_in};
-ghost use Rattle.bdb_model.specs.of_format.Verdict.{faults_of, verdict_of};
+ghost use Rattle.bdb_model.specs.of_format.Terms.{databases, faults_of, file_of, list_of, master_in, page_at, verdict_of};
 ghost use Rattle.bdb_file.specs.of_image.Metas.{meta_seen};
 ghost use Rattle.bdb_onto.specs.Bases.{IsBaseOf, base_of, base_section, text_pair};
 ghost use Rattle.bdb_tool_build.specs.Copied.{IsBtree};

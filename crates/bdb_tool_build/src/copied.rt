@@ -1,9 +1,8 @@
 //! Keys and data, copied out of a file.
 ghost use Rattle.std.specs.Prelude.{◌≡◌, ◌++◌, ◌∷◌, ◌<◌, [], true, IfOk, OnOk, length};
 ghost use Rattle.bdb_file.specs.of_overflow.Datum.{datum_seen, key_view_seen};
-ghost use Rattle.bdb_model.specs.of_text_format.Placed.{key_seen, pair_with};
+ghost use Rattle.bdb_model.specs.of_text_format.Terms.{key_seen, last_key, pair_with};
 ghost use Rattle.bdb_model.specs.of_text_format.declared.pairs.Key.TheVariants.{Bytes};
-ghost use Rattle.bdb_model.specs.of_text_format.Pairs.{last_key};
 ghost use Rattle.bdb_onto.specs.Bases.{text_pair};
 ghost use Rattle.bdb_tool_build.specs.Ontos.{list_key};
 ghost use Rattle.bdb_tool_build.specs.Copied.{EndsWith};

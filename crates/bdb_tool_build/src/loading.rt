@@ -1,11 +1,10 @@
 //! `load`: from a dump text to the image of its sections.
 ghost use Rattle.std.specs.Prelude.{◌≡◌, ◌≤◌, ◌^◌, IfErr, IfOk, List, MatchResult, length, string_bytes, ℕ};
 ghost use Rattle.bdb_model.specs.Answers.{done, told};
-ghost use Rattle.bdb_model.specs.of_text_format.Sections.{Reads};
+ghost use Rattle.bdb_model.specs.of_text_format.Terms.{Reads, text_fault};
 ghost use Rattle.bdb_onto.specs.of_mkfile.Loading.{AreLoadable, loading_error};
 ghost use Rattle.bdb_onto.specs.of_mkfile.NamedImages.{HasBuiltTables};
 ghost use Rattle.bdb_tool_build.specs.Lines.{image_too_large_line};
-ghost use Rattle.bdb_model.specs.of_text_format.Reasons.{text_fault};
 ghost use Rattle.bdb_onto.specs.Bases.{IsBase};
 ghost use Rattle.bdb_onto.specs.Onto.{loading_error_onto};
 ghost use Rattle.bdb_tool_build.specs.Ontos.{IsLoadOnto, IsTextOnto};

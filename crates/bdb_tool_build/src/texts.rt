@@ -1,6 +1,6 @@
 ghost use Rattle.std.specs.Prelude.{◌≡◌, IfOk, string_bytes};
 ghost use Rattle.bdb_tool_build.specs.Lines.{error_line, image_too_large_line, reason_line, trial_text};
-ghost use Rattle.bdb_model.specs.of_text_format.Written.{kind_text};
+ghost use Rattle.bdb_model.specs.of_text_format.Terms.{kind_text};
 
 use bdb_model::{Kind, TextFault};
 use bdb_onto::LoadError;

@@ -1,16 +1,12 @@
 //! The pairs of a btree, leaf by leaf: a key with its data.
 ghost use Rattle.std.specs.Prelude.{◌≡◌, ◌++◌, ◌∷◌, ◌<◌, [], true, IfOk, OnOk, length, map};
 ghost use Rattle.std.specs.List.{flat_map};
-ghost use Rattle.bdb_model.specs.of_format.Contents.{pairs_of};
-ghost use Rattle.bdb_model.specs.of_format.File.{file_of};
-ghost use Rattle.bdb_model.specs.of_format.Lists.{btree_list, listed_pair};
-ghost use Rattle.bdb_model.specs.of_format.Page.{BtreeFields};
-ghost use Rattle.bdb_model.specs.of_format.Verdict.{structure_faults};
+ghost use Rattle.bdb_model.specs.of_format.Terms.{BtreeFields, btree_list, file_of, listed_pair, pairs_of, structure_faults};
 ghost use Rattle.bdb_file.specs.of_image.Linked.{FitsLeafPage, HasMetadata, IsForest};
 ghost use Rattle.bdb_file.specs.of_btree.Pairs.{FitsPair, left_of, pair_seen};
 ghost use Rattle.bdb_model.specs.of_text_format.declared.pairs.Key.{Key};
 ghost use Rattle.bdb_model.specs.of_text_format.declared.pairs.Key.TheVariants.{Bytes};
-ghost use Rattle.bdb_model.specs.of_text_format.Pairs.{last_key};
+ghost use Rattle.bdb_model.specs.of_text_format.Terms.{last_key};
 ghost use Rattle.bdb_onto.specs.Bases.{text_pair};
 ghost use Rattle.bdb_tool_build.specs.Copied.{AreOf, EndsWith, Follow, HaveOneKey};
 

@@ -1,7 +1,6 @@
 //! `trial`: an image of generated pairs, and what is said of it.
 ghost use Rattle.std.specs.Prelude.{◌≡◌, ◌<◌, ◌≤◌, ◌^◌, ◌/◌, None, IfErr, IfOk, MatchResult, OnOk, false, length, nat_lt, string_bytes};
-ghost use Rattle.bdb_model.specs.of_format.Hashing.{hash5};
-ghost use Rattle.bdb_model.specs.of_format.Verdict.{verdict_of};
+ghost use Rattle.bdb_model.specs.of_format.Terms.{hash5, verdict_of};
 ghost use Rattle.bdb_model.specs.Answers.{done};
 ghost use Rattle.bdb_onto.specs.of_mkfile.Builds.{Builds, image_size};
 ghost use Rattle.bdb_tool_build.specs.Lines.{trial_text};

@@ -3,11 +3,8 @@ ghost use Rattle.std.specs.Prelude.{◌≡◌, ◌++◌, ◌<◌, length};
 ghost use Rattle.std.specs.List.{flat_map};
 ghost use Rattle.bdb_databases.specs.Named.{database_at};
 ghost use Rattle.bdb_tool_print.specs.of_model.Change.{change};
-ghost use Rattle.bdb_databases.specs.of_format.Databases.{databases};
-ghost use Rattle.bdb_databases.specs.of_format.File.{file_of};
-ghost use Rattle.bdb_tool_print.specs.of_text_format.LineEnd.{line};
-ghost use Rattle.bdb_databases.specs.of_format.Lists.{list_of};
-ghost use Rattle.bdb_tool_print.specs.of_text_format.Written.{data_end, database_text, dump_text};
+ghost use Rattle.bdb_databases.specs.of_format.Terms.{databases, file_of, list_of};
+ghost use Rattle.bdb_tool_print.specs.of_text_format.Terms.{data_end, database_text, dump_text, line};
 ghost use Rattle.bdb_tool_print.specs.Printers.{Adds, pair_text};
 ghost use Rattle.bdb_tool_print.specs.of_tool_lines.Printing.{Writes};
 

@@ -2,8 +2,7 @@
 ghost use Rattle.std.specs.Prelude.{◌≡◌, ◌++◌};
 ghost use Rattle.bdb_tool_print.specs.of_model.Answers.{list_text, value_line, values_text};
 ghost use Rattle.bdb_tool_print.specs.of_model.Change.{change};
-ghost use Rattle.bdb_databases.specs.of_format.Databases.{databases};
-ghost use Rattle.bdb_databases.specs.of_format.File.{file_of};
+ghost use Rattle.bdb_databases.specs.of_format.Terms.{databases, file_of};
 ghost use Rattle.bdb_databases.specs.of_overflow.Datum.{datum_seen};
 ghost use Rattle.bdb_tool_print.specs.Printers.{Adds};
 ghost use Rattle.bdb_tool_print.specs.of_tool_lines.Printing.{Writes};

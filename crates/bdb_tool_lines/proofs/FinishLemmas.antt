@@ -12,7 +12,7 @@ use Rattle.bdb_tool_lines.specs.Finished.{Finishes, HasOwnStatus, Reports, Tells
 use Rattle.bdb_tool_lines.specs.Printing.{Writes}
 use Rattle.bdb_tool_lines.proofs.PrintingLemmas.{moved, nothing_of}
 use Rattle.std.specs.Io.KnownBytes.{Appends}
-use Rattle.bdb_faults.specs.of_format.Faults.{AppendsPrefix, Rose}
+use Rattle.bdb_faults.specs.of_format.Terms.{AppendsPrefix, Rose}
 
 -- what was written whole was written in part
 whole_part : (text : List ℕ) (out : Change) → Gains out text → GainsPart out text

@@ -5,10 +5,8 @@ use Rattle.std.specs.Fmt.{decimal}
 use Rattle.bdb_faults.specs.of_format.declared.kinds.Fault.{Fault}
 use Rattle.bdb_faults.specs.of_format.declared.kinds.Unsupported.{Unsupported}
 use Rattle.bdb_model.specs.Answers.{fault_line, unsupported_line}
-use Rattle.bdb_faults.specs.of_format.Cases.{judged_as}
-use Rattle.bdb_faults.specs.of_format.Verdict.{judgement_of}
-use Rattle.bdb_faults.specs.of_format.FaultTable.{fault_name, unsupported_name}
-use Rattle.bdb_model.specs.of_text_format.LineEnd.{line}
+use Rattle.bdb_faults.specs.of_format.Terms.{fault_name, judged_as, judgement_of, unsupported_name}
+use Rattle.bdb_model.specs.of_text_format.Terms.{line}
 use Rattle.bdb_tool_lines.specs.Passing.{Passes}
 use Rattle.bdb_tool_lines.specs.Telling.{case_page_part, case_part, code_part, judgement_line, name_part, page_part, stage_part}
 use Rattle.bdb_tool_lines.specs.declared.cut.Cut.{Cut}

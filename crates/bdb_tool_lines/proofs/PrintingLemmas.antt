@@ -7,7 +7,7 @@ use Rattle.std.proofs.Math.Seq.{take-append_seam, take-append-add}
 use Rattle.std.proofs.lemmas.Bool.{cases_lt}
 use Rattle.std.proofs.lemmas.List.{append_assoc, take-append-le, take_all}
 use Rattle.bdb_model.specs.Change.{Change, GainsPart}
-use Rattle.bdb_faults.specs.of_format.Faults.{AppendsPrefix, Rose}
+use Rattle.bdb_faults.specs.of_format.Terms.{AppendsPrefix, Rose}
 use Rattle.bdb_tool_lines.specs.declared.cut.Cut.{Cut}
 use Rattle.bdb_tool_lines.specs.Printing.{IsCutOff, IsOnItsWay, Prints, Writes}
 

@@ -6,7 +6,7 @@ use Rattle.bdb_tool_lines.specs.Telling.{first_status, judgement_status}
 use Rattle.bdb_tool_lines.specs.declared.cut.Cut.{Cut}
 use Rattle.bdb_tool_lines.specs.declared.cut.Cut.TheVariants.{WriteFault}
 use Rattle.bdb_model.specs.Change.{Change}
-use Rattle.bdb_faults.specs.of_format.Verdict.{Faulty, Judgement, LeftOut, judgement_of}
+use Rattle.bdb_faults.specs.of_format.Terms.{Faulty, Judgement, LeftOut, judgement_of}
 use Rattle.bdb_faults.specs.of_format.declared.kinds.Fault.{Fault}
 use Rattle.bdb_tool_lines.specs.Finished.{Tells}
 

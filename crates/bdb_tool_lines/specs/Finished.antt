@@ -1,6 +1,6 @@
 -- How an answer is written: to the output, or to the error sink. Source: README.md, "Use".
 use Rattle.std.specs.Prelude.{◌≡◌, ◌≢◌, ◌⊎◌, ℕ, List, [], Result, Ok, Err}
-use Rattle.bdb_faults.specs.of_format.Cases.{judgement_seen}
+use Rattle.bdb_faults.specs.of_format.Terms.{judgement_seen}
 use Rattle.bdb_faults.specs.declared.refusals.FirstError.{FirstError}
 use Rattle.bdb_faults.specs.declared.refusals.FirstError.TheVariants.{Fault as FirstFault, Memory as FirstMemory}
 use Rattle.bdb_model.specs.Answers.{Answer}

@@ -2,10 +2,10 @@
 use Rattle.std.specs.Prelude.{ℕ, List, [], ◌∷◌, ◌++◌, codes}
 use Rattle.std.specs.Fmt.{decimal}
 use Rattle.std.specs.List.{flat_map}
-use Rattle.bdb_faults.specs.of_format.Verdict.{Judgement, Faulty, LeftOut, judgement_of}
+use Rattle.bdb_faults.specs.of_format.Terms.{Faulty, Judgement, LeftOut, judgement_of}
 use Rattle.bdb_faults.specs.of_format.declared.kinds.Fault.{Fault}
 use Rattle.bdb_model.specs.Answers.{fault_line, unsupported_line}
-use Rattle.bdb_model.specs.of_text_format.LineEnd.{line}
+use Rattle.bdb_model.specs.of_text_format.Terms.{line}
 
 abbrev pub judgement_line : Judgement → List ℕ
 judgement_line (Faulty fault) = fault_line fault

@@ -3,13 +3,12 @@ ghost use Rattle.std.specs.Prelude.{◌≡◌, ◌<◌, ◌++◌, IfErr, Some, l
 ghost use Rattle.bdb_faults.specs.of_format.declared.kinds.Fault.{Fault as FaultSeen};
 ghost use Rattle.bdb_faults.specs.of_format.declared.kinds.Unsupported.{Unsupported};
 ghost use Rattle.std.specs.Fmt.{decimal};
-ghost use Rattle.bdb_faults.specs.of_format.Cases.{fault_seen, judgement_seen};
+ghost use Rattle.bdb_faults.specs.of_format.Terms.{fault_name, fault_seen, judgement_seen, unsupported_name};
 ghost use Rattle.bdb_tool_lines.specs.Passing.{Passes};
 ghost use Rattle.bdb_tool_lines.specs.Telling.{case_page_part, case_part, code_part, fault_told, judgement_line, name_part, page_part, stage_part};
 ghost use Rattle.bdb_tool_lines.specs.declared.cut.Cut.TheVariants.{WriteFault};
 ghost use Rattle.bdb_model.specs.Answers.{fault_line, unsupported_line};
-ghost use Rattle.bdb_faults.specs.of_format.FaultTable.{fault_name, unsupported_name};
-ghost use Rattle.bdb_model.specs.of_text_format.LineEnd.{line};
+ghost use Rattle.bdb_model.specs.of_text_format.Terms.{line};
 
 use crate::Cut;
 use crate::digits::Digits;

@@ -4,7 +4,7 @@ ghost use Rattle.bdb_model.specs.Change.{change};
 ghost use Rattle.bdb_model.specs.Lines.{memory_line};
 ghost use Rattle.bdb_tool_lines.specs.Telling.{first_status, judgement_line, judgement_status, faults_text};
 ghost use Rattle.bdb_tool_lines.specs.Finished.{IsRefused, Tells};
-ghost use Rattle.bdb_faults.specs.of_format.Cases.{judgement_seen};
+ghost use Rattle.bdb_faults.specs.of_format.Terms.{judgement_seen};
 
 use crate::finish::tell_memory;
 use crate::room::Room;

@@ -1,5 +1,5 @@
 ghost use Rattle.std.specs.Prelude.{◌≡◌, [], IfErr};
-ghost use Rattle.bdb_faults.specs.of_format.Cases.{judgement_seen};
+ghost use Rattle.bdb_faults.specs.of_format.Terms.{judgement_seen};
 ghost use Rattle.bdb_tool_lines.specs.Passing.{Passes};
 ghost use Rattle.bdb_tool_lines.specs.Printing.{Writes};
 ghost use Rattle.bdb_tool_lines.specs.Telling.{faults_text, judgement_line};

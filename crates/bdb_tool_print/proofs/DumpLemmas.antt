@@ -4,9 +4,8 @@ use Rattle.std.specs.Prelude.{Option}
 use Rattle.std.specs.List.{flat_map}
 use Rattle.std.proofs.lemmas.Grind.{flat_map-append}
 use Rattle.bdb_range.specs.of_format.declared.settings.Settings.{Settings}
-use Rattle.bdb_text.specs.of_text_format.LineEnd.{line}
-use Rattle.bdb_range.specs.of_format.Lists.{ListKey}
-use Rattle.bdb_text.specs.of_text_format.Written.{data_end, data_line, header_lines, header_text, key_bytes, pair_lines, section_text}
+use Rattle.bdb_text.specs.of_text_format.Terms.{data_end, data_line, header_lines, header_text, key_bytes, line, pair_lines, section_text}
+use Rattle.bdb_range.specs.of_format.Terms.{ListKey}
 use Rattle.bdb_tool_print.specs.Printers.{pair_text}
 
 -- the lines of pairs are the texts of the pairs

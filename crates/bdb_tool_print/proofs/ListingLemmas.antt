@@ -6,12 +6,9 @@ use Rattle.bdb_range.specs.of_format.declared.kinds.Order.{Order}
 use Rattle.bdb_range.specs.of_format.declared.metadata.BtreeMeta.{BtreeMeta}
 use Rattle.bdb_range.specs.of_format.declared.settings.Settings.{Settings}
 use Rattle.bdb_tool_lines.specs.of_model.Answers.{database_line, name_text}
-use Rattle.bdb_range.specs.of_format.Databases.{Database, btree_settings, recno_settings, settings_of}
-use Rattle.bdb_range.specs.of_format.Flags.{kind_of}
-use Rattle.bdb_text.specs.of_text_format.LineEnd.{line}
-use Rattle.bdb_range.specs.of_format.Numbers.{has_bit}
-use Rattle.bdb_range.specs.of_format.Page.{Metadata, BtreeFields, HashFields, QueueFields}
-use Rattle.bdb_text.specs.of_text_format.Written.{kind_text}
+use Rattle.bdb_range.specs.of_format.Terms.{BtreeFields, Database, HashFields, Metadata, QueueFields, btree_settings, has_bit, kind_of, recno_settings}
+use Rattle.bdb_range.specs.of_format.Terms.{settings_of}
+use Rattle.bdb_text.specs.of_text_format.Terms.{kind_text, line}
 
 chosen_kind : (has : Bool) (size : ℕ) (order : Order) (meta : BtreeMeta) → (if has then recno_settings size order meta else btree_settings size order meta).kind
     ≡ (if has then Recno else Btree)

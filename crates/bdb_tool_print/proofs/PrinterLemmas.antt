@@ -5,9 +5,9 @@ use Rattle.std.specs.List.{flat_map}
 use Rattle.std.proofs.Math.Seq.{drop-cons}
 use Rattle.std.proofs.lemmas.List.{drop_all}
 use Rattle.std.specs.Prelude.{Option, Ok, Err, OnOk, Result, IsErrAnd}
-use Rattle.bdb_range.specs.of_format.Chains.{joined}
+use Rattle.bdb_range.specs.of_format.Terms.{joined}
 use Rattle.bdb_tool_lines.specs.of_model.Change.{change}
-use Rattle.bdb_text.specs.of_text_format.TextSpelling.{spelling}
+use Rattle.bdb_text.specs.of_text_format.Terms.{spelling}
 use Rattle.bdb_tool_lines.specs.Printing.{Prints, Writes}
 use Rattle.bdb_tool_print.specs.Printers.{Adds, HasAdded}
 use Rattle.bdb_tool_lines.specs.declared.cut.Cut.{Cut}

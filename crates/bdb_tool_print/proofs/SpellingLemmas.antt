@@ -1,6 +1,6 @@
 -- The spelling of no bytes.
 use Rattle.std.proofs.Common.{◌≡◌, Bool, true, false, [], refl}
-use Rattle.bdb_text.specs.of_text_format.TextSpelling.{spelling}
+use Rattle.bdb_text.specs.of_text_format.Terms.{spelling}
 
 pub spelling_none : (prints : Bool) → spelling prints [] ≡ []
 unfolding spelling

@@ -1,9 +1,8 @@
 -- What a printer does with a text: it is written to its sink, or pending.
 use Rattle.std.specs.Prelude.{◌≡◌, ℕ, Bool, List, ◌++◌, Option, Result, Ok}
 use Rattle.bdb_tool_lines.specs.of_model.Change.{change}
-use Rattle.bdb_text.specs.of_text_format.LineEnd.{line}
-use Rattle.bdb_range.specs.of_format.Lists.{ListKey}
-use Rattle.bdb_text.specs.of_text_format.Written.{data_line, key_bytes}
+use Rattle.bdb_text.specs.of_text_format.Terms.{data_line, key_bytes, line}
+use Rattle.bdb_range.specs.of_format.Terms.{ListKey}
 use Rattle.bdb_tool_lines.specs.Printing.{Prints}
 use Rattle.bdb_tool_lines.specs.declared.cut.Cut.{Cut}
 use Rattle.bdb_tool_print.specs.declared.printing.Printer.{Printer}

@@ -1,7 +1,6 @@
 // The lines of a dump text.
 ghost use Rattle.std.specs.Prelude.{◌≡◌, option_copied};
-ghost use Rattle.bdb_text.specs.of_text_format.LineEnd.{line};
-ghost use Rattle.bdb_text.specs.of_text_format.Written.{data_line, header_text, key_bytes};
+ghost use Rattle.bdb_text.specs.of_text_format.Terms.{data_line, header_text, key_bytes, line};
 ghost use Rattle.bdb_range.specs.of_overflow.Datum.{datum_seen, key_view_seen};
 ghost use Rattle.bdb_tool_print.specs.Printers.{Adds, pair_text};
 ghost use Rattle.std.specs.Fmt.{decimal};

@@ -1,9 +1,7 @@
 // The line of a database: its kind and its name.
 ghost use Rattle.std.specs.Prelude.{◌≡◌, ◌++◌, codes, option_copied, true};
 ghost use Rattle.bdb_tool_lines.specs.of_model.Answers.{name_text};
-ghost use Rattle.bdb_text.specs.of_text_format.LineEnd.{line};
-ghost use Rattle.bdb_text.specs.of_text_format.TextSpelling.{spelling};
-ghost use Rattle.bdb_text.specs.of_text_format.Written.{kind_text};
+ghost use Rattle.bdb_text.specs.of_text_format.Terms.{kind_text, line, spelling};
 ghost use Rattle.bdb_tool_print.specs.Printers.{Adds};
 
 use crate::printing::Printer;

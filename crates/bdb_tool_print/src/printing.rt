@@ -1,9 +1,7 @@
 ghost use Rattle.std.specs.Prelude.{◌≡◌, ◌≤◌, [], false, length, OnOk};
 ghost use Rattle.bdb_tool_lines.specs.of_model.Answers.{value_line};
-ghost use Rattle.bdb_range.specs.of_format.Chains.{joined};
-ghost use Rattle.bdb_text.specs.of_text_format.LineEnd.{line};
-ghost use Rattle.bdb_text.specs.of_text_format.TextSpelling.{spelling};
-ghost use Rattle.bdb_text.specs.of_text_format.Written.{data_line};
+ghost use Rattle.bdb_range.specs.of_format.Terms.{joined};
+ghost use Rattle.bdb_text.specs.of_text_format.Terms.{data_line, line, spelling};
 ghost use Rattle.bdb_range.specs.of_overflow.Datum.{datum_seen};
 ghost use Rattle.bdb_tool_print.specs.Printers.{Adds};
 

@@ -2,7 +2,7 @@
 ghost use Rattle.std.specs.Prelude.{◌≡◌};
 ghost use Rattle.bdb_tool_lines.specs.of_model.Answers.{pair_lines, pairs_text, value_line};
 ghost use Rattle.bdb_tool_lines.specs.of_model.Change.{change};
-ghost use Rattle.bdb_text.specs.of_text_format.Written.{key_bytes};
+ghost use Rattle.bdb_text.specs.of_text_format.Terms.{key_bytes};
 ghost use Rattle.bdb_range.specs.of_overflow.Datum.{datum_seen, key_view_seen};
 ghost use Rattle.bdb_tool_print.specs.Printers.{Adds};
 ghost use Rattle.bdb_tool_lines.specs.Printing.{Writes};

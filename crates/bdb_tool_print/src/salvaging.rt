@@ -2,8 +2,7 @@
 ghost use Rattle.std.specs.Prelude.{◌≡◌, ◌<◌, ◌≤◌, ◌^◌, ◌++◌, Some, codes, length, map};
 ghost use Rattle.std.specs.List.{enumerate_from, flat_map};
 ghost use Rattle.bdb_tool_lines.specs.of_model.Change.{change};
-ghost use Rattle.bdb_text.specs.of_text_format.LineEnd.{line};
-ghost use Rattle.bdb_text.specs.of_text_format.Written.{data_end, section_text};
+ghost use Rattle.bdb_text.specs.of_text_format.Terms.{data_end, line, section_text};
 ghost use Rattle.bdb_range.specs.of_overflow.Datum.{datum_seen};
 ghost use Rattle.bdb_tool_print.specs.Printers.{Adds, pair_text};
 ghost use Rattle.bdb_tool_lines.specs.Printing.{Writes};

@@ -10,15 +10,14 @@ use Rattle.bdb_model.specs.of_format.declared.kinds.Kind.{Kind}
 use Rattle.bdb_model.specs.of_format.declared.kinds.Kind.TheVariants as kind
 use Rattle.bdb_model.specs.of_format.declared.kinds.Order.{Order}
 use Rattle.bdb_model.specs.of_format.declared.kinds.Order.TheVariants.{Big, Little}
-use Rattle.bdb_model.specs.of_format.Digits.{number_in}
-use Rattle.bdb_model.specs.of_text_format.TextSpelling.{bytes_spelled}
+use Rattle.bdb_model.specs.of_format.Terms.{number_in}
+use Rattle.bdb_model.specs.of_text_format.Terms.{bytes_spelled, line}
 use Rattle.bdb_model.specs.Answers.{Answer, told}
 use Rattle.bdb_model.specs.declared.shape.Duplicates.{Duplicates}
 use Rattle.bdb_model.specs.declared.shape.Duplicates.TheVariants.{No, Unsorted, Sorted}
 use Rattle.bdb_model.specs.declared.shape.Shape.{Shape}
 use Rattle.bdb_model.specs.declared.shape.Shape.TheVariants as shape
 use Rattle.bdb_survey.specs.declared.guess.Guess.{Guess}
-use Rattle.bdb_model.specs.of_text_format.LineEnd.{line}
 use Rattle.bdb_tool_words.specs.Arguments.{Arguments, OptionRow, arguments, flag, has, once, value_of, valued}
 use Rattle.bdb_tool_words.specs.declared.command.CommandName.{CommandName}
 use Rattle.bdb_tool_words.specs.declared.command.CommandName.TheVariants as command

@@ -1,8 +1,8 @@
 -- What the values of the code are in the definitions of a command line's words.
 use Rattle.std.specs.Prelude.{ℕ, ◌≡◌, ◌<◌, ◌≤◌, ◌^◌, not, map, List, Option, Some, IfSome, IsTrue, is_some, option_copied, ⊤}
 use Rattle.bdb_any_order.specs.declared.rows.Rows.TheVariants.{All}
-use Rattle.bdb_model.specs.of_format.HeadOf.{is_page_size}
-use Rattle.bdb_model.specs.of_text_format.TextSpelling.{bytes_spelled}
+use Rattle.bdb_model.specs.of_format.Terms.{is_page_size}
+use Rattle.bdb_model.specs.of_text_format.Terms.{bytes_spelled}
 use Rattle.bdb_tool_words.specs.ArgumentsSeen.{option_seen}
 use Rattle.bdb_tool_words.specs.Commands.{Action, Command, CommandRow, Convert, ListAll, Load, LoadOnto, Repair, Request, Salvage, Stat, Trial, Verify}
 use Rattle.bdb_tool_words.specs.Commands.{asked_name, asking, bounds_request, command_of, key_request, text_request, within}

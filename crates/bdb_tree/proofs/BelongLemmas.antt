@@ -11,14 +11,10 @@ use Rattle.bdb_overflow.specs.of_format.declared.metadata.Head.{Head}
 use Rattle.bdb_overflow.specs.of_format.declared.references.Reference.{Reference}
 use Rattle.bdb_overflow.specs.of_format.declared.references.Sort.{Sort}
 use Rattle.bdb_overflow.specs.of_format.declared.references.Sort.TheVariants.{Root, Child, DuplicateRoot}
-use Rattle.bdb_overflow.specs.of_format.File.{File, file_of, page_at, page_bytes, type_in}
-use Rattle.bdb_overflow.specs.of_format.Graph.{Owner, all_references, first_holder, is_anchor, is_anchor_in, is_meta, is_reserve, is_spare, owners}
-use Rattle.bdb_overflow.specs.of_format.HeadOf.{head_of}
-use Rattle.bdb_overflow.specs.of_format.Leaves.{children_in, leaves}
-use Rattle.bdb_overflow.specs.of_format.Page.{Page, Internal, RecnoInternal}
-use Rattle.bdb_overflow.specs.of_format.Reading.{abstract_page, page_as, page_type}
-use Rattle.bdb_overflow.specs.of_format.References.{asked_by, child_types, fit_code, fit_rows, has_type, is_zero_page, refs}
-use Rattle.bdb_overflow.specs.of_format.Rows.{form_code, type_of}
+use Rattle.bdb_overflow.specs.of_format.Terms.{File, Internal, Owner, Page, RecnoInternal, abstract_page, all_references, asked_by, child_types, children_in}
+use Rattle.bdb_overflow.specs.of_format.Terms.{file_of, first_holder, fit_code, fit_rows, form_code, has_type, head_of, is_anchor, is_anchor_in, is_meta}
+use Rattle.bdb_overflow.specs.of_format.Terms.{is_reserve, is_spare, is_zero_page, leaves, owners, page_as, page_at, page_bytes, page_type, refs, type_in}
+use Rattle.bdb_overflow.specs.of_format.Terms.{type_of}
 use Rattle.bdb_overflow.proofs.of_format.GraphLemmas.{IsOwner, is_owner, owner_fits, reserve_is, typed_page, zero_page}
 use Rattle.bdb_overflow.proofs.of_format.MemberLemmas.{first_member, in_filter, in_flat_map, in_map, of_filter}
 use Rattle.bdb_overflow.proofs.of_format.VerdictLemmas.{AllFail, none_is_first_row}

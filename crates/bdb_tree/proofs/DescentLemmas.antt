@@ -8,14 +8,11 @@ use Rattle.std.specs.Option.{is_some, unwrap_or}
 use Rattle.std.proofs.lemmas.List.Elements.{Contains-append_cases, Contains-append_left, Contains-append_right}
 use Rattle.bdb_overflow.specs.of_image.Linked.{IsForest}
 use Rattle.bdb_overflow.specs.of_slots.Slots.{no_internal_item}
-use Rattle.bdb_overflow.specs.of_format.ContentRows.{inner_in, inner_pages}
-use Rattle.bdb_overflow.specs.of_format.File.{File, file_of, header_in, page_at, type_in}
-use Rattle.bdb_overflow.specs.of_format.Leaves.{children_in}
-use Rattle.bdb_overflow.specs.of_format.Page.{InternalItem, Internal, Listed}
+use Rattle.bdb_overflow.specs.of_format.Terms.{File, Internal, InternalItem, Listed, children_in, file_of, has_type, header_in, inner_in, inner_pages, page_at}
+use Rattle.bdb_overflow.specs.of_format.Terms.{type_in}
 use Rattle.bdb_overflow.proofs.of_format.ListLemmas.{only_member}
 use Rattle.bdb_overflow.proofs.of_format.MemberLemmas.{first_member, in_filter, in_flat_map, of_filter, of_flat_map}
 use Rattle.bdb_tree.specs.Trees.{children_at}
-use Rattle.bdb_overflow.specs.of_format.References.{has_type}
 use Rattle.bdb_tree.proofs.ShapeLemmas.{IsFormedPage, formed_at}
 use Rattle.bdb_tree.proofs.TreeLemmas.{IsChild, level, typed_inside}
 use Rattle.bdb_tree.specs.Descent.{IsLastFalse, IsMonotone, chosen}

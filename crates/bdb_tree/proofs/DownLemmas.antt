@@ -1,9 +1,7 @@
 -- The way down a tree by first children ends at its first leaf.
 use Rattle.std.proofs.Common.{◌≡◌, ℕ, ◌<◌, ◌≤◌, List, [], ◌∷◌, ◌++◌, map, length, Option, Some, None, arith, refl, sym, ◌∙◌, ap, subst, inl, inr}
 use Rattle.std.specs.List.{flat_map, slice_get}
-use Rattle.bdb_overflow.specs.of_format.File.{File, file_of, header_in, page_at}
-use Rattle.bdb_overflow.specs.of_format.Leaves.{children_in, leaves}
-use Rattle.bdb_overflow.specs.of_format.Page.{Page, Internal, RecnoInternal}
+use Rattle.bdb_overflow.specs.of_format.Terms.{File, Internal, Page, RecnoInternal, children_in, file_of, header_in, leaves, page_at}
 use Rattle.bdb_overflow.proofs.of_format.MemberLemmas.{first_member}
 use Rattle.bdb_overflow.specs.of_image.Linked.{FitsLeafPage, IsForest}
 use Rattle.bdb_tree.specs.Links.{HasItem, first_below}

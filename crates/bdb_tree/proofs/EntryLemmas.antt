@@ -5,10 +5,8 @@ use Rattle.std.proofs.lemmas.List.Elements.{All-append, All-head, All-nil, All-r
 use Rattle.std.proofs.lemmas.Option.{slice_get-get_or}
 use Rattle.std.specs.Prelude.{get_or}
 use Rattle.std.specs.List.{Contains, flat_map}
-use Rattle.bdb_overflow.specs.of_format.Contents.{data_of, entries_in, live_values, tree_entries}
-use Rattle.bdb_overflow.specs.of_format.File.{File, file_of, page_at}
-use Rattle.bdb_overflow.specs.of_format.Leaves.{leaves}
-use Rattle.bdb_overflow.specs.of_format.Page.{Item, Page, RecnoLeaf, DupLeaf, Tree}
+use Rattle.bdb_overflow.specs.of_format.Terms.{DupLeaf, File, Item, Page, RecnoLeaf, Tree, data_of, entries_in, file_of, leaves, live_values, page_at}
+use Rattle.bdb_overflow.specs.of_format.Terms.{tree_entries}
 use Rattle.bdb_overflow.specs.of_image.Linked.{IsForest}
 use Rattle.bdb_overflow.specs.Datum.{FitsContent}
 use Rattle.bdb_overflow.proofs.ContentLemmas.{dup_item_fits, recno_item_fits}

@@ -6,9 +6,7 @@ use Rattle.std.proofs.lemmas.List.Elements.{Contains-append_cases, Contains-appe
 use Rattle.bdb_faults.specs.Notes.{AreSame, NotesAll}
 use Rattle.bdb_faults.proofs.SinkLemmas.{notes_same}
 use Rattle.bdb_overflow.specs.of_format.declared.kinds.Fault.{Fault}
-use Rattle.bdb_overflow.specs.of_format.ContentRows.{inner_in, inner_pages}
-use Rattle.bdb_overflow.specs.of_format.File.{File, file_of, header_in, page_at}
-use Rattle.bdb_overflow.specs.of_format.Leaves.{children_in}
+use Rattle.bdb_overflow.specs.of_format.Terms.{File, children_in, file_of, header_in, inner_in, inner_pages, page_at}
 use Rattle.bdb_overflow.proofs.of_format.ListLemmas.{only_member}
 use Rattle.bdb_overflow.proofs.of_format.MemberLemmas.{first_member, in_filter, in_flat_map, in_map, no_member, of_filter, of_flat_map, of_map}
 use Rattle.bdb_overflow.specs.of_image.Linked.{IsForest}

@@ -7,8 +7,7 @@ use Rattle.std.specs.Option.{unwrap_or}
 use Rattle.std.proofs.lemmas.List.Elements.{All-contains}
 use Rattle.bdb_overflow.specs.of_form.declared.view.PageView.{PageView}
 use Rattle.bdb_overflow.specs.of_form.Seen.{header_seen, page_seen}
-use Rattle.bdb_overflow.specs.of_format.File.{File, file_of, header_in, page_at}
-use Rattle.bdb_overflow.specs.of_format.Leaves.{children_in, leaves}
+use Rattle.bdb_overflow.specs.of_format.Terms.{File, children_in, file_of, header_in, leaves, page_at}
 use Rattle.bdb_overflow.proofs.of_format.MemberLemmas.{first_member, later_member, no_member, of_flat_map}
 use Rattle.bdb_overflow.specs.of_image.Linked.{IsForest}
 use Rattle.bdb_tree.specs.Trees.{IsTreePage, children_at}

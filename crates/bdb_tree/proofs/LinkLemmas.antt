@@ -8,11 +8,8 @@ use Rattle.std.proofs.lemmas.List.Elements.{Contains-append_right}
 use Rattle.bdb_overflow.specs.of_format.declared.metadata.Head.{Head}
 use Rattle.bdb_overflow.specs.of_format.declared.references.Sort.{Sort}
 use Rattle.bdb_overflow.specs.of_format.declared.references.Sort.TheVariants.{DuplicateRoot, Root}
-use Rattle.bdb_overflow.specs.of_format.Chains.{chain, chain_in, next_of}
-use Rattle.bdb_overflow.specs.of_format.File.{File, file_of, header_in, page_at}
-use Rattle.bdb_overflow.specs.of_format.HeadOf.{head_of}
-use Rattle.bdb_overflow.specs.of_format.Leaves.{LeafPlace, first_or_zero, is_root_reference, leaf_places, leaves, places_from}
-use Rattle.bdb_overflow.specs.of_format.Verdict.{structure_faults}
+use Rattle.bdb_overflow.specs.of_format.Terms.{File, LeafPlace, chain, chain_in, file_of, first_or_zero, head_of, header_in, is_root_reference, leaf_places}
+use Rattle.bdb_overflow.specs.of_format.Terms.{leaves, next_of, page_at, places_from, structure_faults}
 use Rattle.bdb_overflow.proofs.of_format.MemberLemmas.{first_member, later_member, member_cases, no_member}
 use Rattle.bdb_overflow.specs.of_image.Linked.{FitsLeafPage, IsForest, IsTarget}
 use Rattle.bdb_overflow.proofs.of_image.FirstLemmas.{formed_last}

@@ -4,8 +4,7 @@ use Rattle.std.specs.List.{Contains, flat_map, range_with_len, slice_get}
 use Rattle.std.proofs.lemmas.List.{take_all}
 use Rattle.std.proofs.lemmas.Option.{slice_get-get_or, slice_get_within}
 use Rattle.bdb_overflow.specs.of_format.declared.kinds.Fault.{Fault}
-use Rattle.bdb_overflow.specs.of_format.File.{File, page_at}
-use Rattle.bdb_overflow.specs.of_format.Graph.{is_meta}
+use Rattle.bdb_overflow.specs.of_format.Terms.{File, is_meta, page_at}
 use Rattle.bdb_overflow.proofs.of_format.MemberLemmas.{in_filter, in_range, of_filter, of_range}
 use Rattle.bdb_faults.specs.Notes.{NotesAll}
 use Rattle.bdb_faults.proofs.SinkLemmas.{notes_next}

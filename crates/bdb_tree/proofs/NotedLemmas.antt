@@ -7,7 +7,9 @@ use Rattle.std.proofs.lemmas.Bool.{and_from, and_parts, eq-eqb, eqb-true, ne_eqb
 use Rattle.std.proofs.lemmas.List.{take_all}
 use Rattle.std.proofs.lemmas.List.Elements.{Contains-append_cases, Contains-append_left, Contains-append_right, Contains-get_or}
 use Rattle.bdb_faults.specs.Notes.{AreSame, Notes, NotesAll}
-use Rattle.bdb_overflow.specs.of_format.FaultTable.{fault_if, structure_row_code}
+use Rattle.bdb_overflow.specs.of_format.Terms.{File, LeafPlace, Meta, Owner, Page, all_references, fault_if, file_of, first_or_zero, is_meta}
+use Rattle.bdb_overflow.specs.of_format.Terms.{is_root_reference, is_wrong_leaf, is_wrong_link, leaf_places, leaves, page_at, places_from, refs}
+use Rattle.bdb_overflow.specs.of_format.Terms.{root_references, structure_row_code, tree_faults, tree_rows, ◌:?◌}
 use Rattle.bdb_overflow.specs.of_format.declared.rows.Row.TheVariants.{Structure}
 use Rattle.bdb_overflow.specs.of_format.declared.rows.StructureRow.{StructureRow}
 use Rattle.bdb_overflow.specs.of_format.declared.rows.StructureRow.TheVariants.{LeafKind, LeafLink}
@@ -16,14 +18,7 @@ use Rattle.bdb_overflow.specs.of_format.declared.kinds.Fault.{Fault}
 use Rattle.bdb_overflow.specs.of_format.declared.references.Reference.{Reference}
 use Rattle.bdb_overflow.specs.of_format.declared.references.Sort.{Sort}
 use Rattle.bdb_overflow.specs.of_format.declared.references.Sort.TheVariants.{DuplicateRoot, Root}
-use Rattle.bdb_overflow.specs.of_format.File.{File, file_of, page_at}
-use Rattle.bdb_overflow.specs.of_format.Graph.{Owner, all_references, is_meta}
-use Rattle.bdb_overflow.specs.of_format.Leaves.{LeafPlace, first_or_zero, is_root_reference, is_wrong_leaf, is_wrong_link, leaf_places, leaves, places_from}
-use Rattle.bdb_overflow.specs.of_format.Leaves.{root_references, tree_rows}
-use Rattle.bdb_overflow.specs.of_format.Page.{Meta, Page}
-use Rattle.bdb_overflow.specs.of_format.References.{refs}
-use Rattle.bdb_overflow.specs.of_format.Table.{◌:?◌}
-use Rattle.bdb_overflow.specs.of_format.Verdict.{holding, tree_faults}
+use Rattle.bdb_overflow.specs.of_format.Verdict.{holding}
 use Rattle.bdb_overflow.proofs.of_format.FaultLemmas.{same_parts}
 use Rattle.bdb_overflow.proofs.of_format.ListLemmas.{any_member, only_member, passes_here}
 use Rattle.bdb_overflow.proofs.of_format.MemberLemmas.{first_member, in_flat_map, in_range, is_empty, later_member, member_cases, no_member, of_filter}

@@ -2,12 +2,8 @@
 use Rattle.std.proofs.Common.{◌≡◌, ℕ, ◌≤◌, List, [], Some, None, arith, refl, sym, ap, inl}
 use Rattle.std.specs.List.{Contains}
 use Rattle.bdb_overflow.specs.of_format.declared.metadata.BtreeMeta.{BtreeMeta}
-use Rattle.bdb_overflow.specs.of_format.Contents.{StoredPair, pairs_in, pairs_of, tree_pairs}
-use Rattle.bdb_overflow.specs.of_format.File.{File, file_of, page_at}
-use Rattle.bdb_overflow.specs.of_format.HeadOf.{head_of}
-use Rattle.bdb_overflow.specs.of_format.Leaves.{leaves}
-use Rattle.bdb_overflow.specs.of_format.Master.{master_in, master_pairs, pairs_under}
-use Rattle.bdb_overflow.specs.of_format.Page.{BtreeFields, Page, Hash, Leaf}
+use Rattle.bdb_overflow.specs.of_format.Terms.{BtreeFields, File, Hash, Leaf, Page, StoredPair, file_of, head_of, leaves, master_in, master_pairs, page_at}
+use Rattle.bdb_overflow.specs.of_format.Terms.{pairs_in, pairs_of, pairs_under, tree_pairs}
 use Rattle.bdb_overflow.proofs.of_format.MemberLemmas.{no_member, of_filter, of_flat_map, of_map}
 use Rattle.bdb_overflow.specs.of_image.Linked.{HasMetadata, IsForest}
 use Rattle.bdb_overflow.proofs.of_graph.LinkedLemmas.{root_fits}

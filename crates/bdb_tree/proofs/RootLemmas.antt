@@ -12,20 +12,16 @@ use Rattle.bdb_overflow.specs.of_format.declared.references.Reference.{Reference
 use Rattle.bdb_overflow.specs.of_format.declared.references.Sort.{Sort}
 use Rattle.bdb_overflow.specs.of_format.declared.references.Sort.TheVariants.{Free as FreeRef, Root, Bucket, HashNext, Child, OverflowHead, OverflowNext}
 use Rattle.bdb_overflow.specs.of_format.declared.references.Sort.TheVariants.{DuplicateRoot}
-use Rattle.bdb_overflow.specs.of_format.File.{File, file_of, page_at}
-use Rattle.bdb_overflow.specs.of_format.Hashing.{first_page}
-use Rattle.bdb_overflow.specs.of_format.Leaves.{is_root_reference}
-use Rattle.bdb_overflow.specs.of_format.Page.{BtreeFields, HashFields, Content, Chain, Tree, Item, InternalItem, Page}
-use Rattle.bdb_overflow.specs.of_format.Page.{Free, Meta, Hash, Internal, RecnoInternal, Leaf, RecnoLeaf, DupLeaf, Overflow}
-use Rattle.bdb_overflow.specs.of_format.References.{content_targets, contents_in, first_free, internal_targets, is_shared_key, item_at, no_item, own_entries}
-use Rattle.bdb_overflow.specs.of_format.References.{refs, targets_in, targets_of, unless_zero}
+use Rattle.bdb_overflow.specs.of_format.Terms.{BtreeFields, Chain, Content, DupLeaf, File, Free, Hash, HashFields, Internal, InternalItem, Item, Leaf, Meta}
+use Rattle.bdb_overflow.specs.of_format.Terms.{Overflow, Page, RecnoInternal, RecnoLeaf, Tree, all_references, content_targets, contents_in, file_of}
+use Rattle.bdb_overflow.specs.of_format.Terms.{first_free, first_page, internal_targets, is_root_reference, is_shared_key, item_at, no_item, own_entries}
+use Rattle.bdb_overflow.specs.of_format.Terms.{page_at, refs, targets_in, targets_of, unless_zero}
 use Rattle.bdb_overflow.proofs.of_format.ListLemmas.{only_member}
 use Rattle.bdb_overflow.proofs.of_format.MemberLemmas.{first_member, in_map, is_empty, later_member, member_cases, no_member, none_passes, of_filter, of_flat_map}
 use Rattle.bdb_overflow.proofs.of_format.MemberLemmas.{of_map, of_range}
 use Rattle.bdb_overflow.specs.of_image.Linked.{FitsDupRoot, FitsTreeRoot, IsForest}
 use Rattle.bdb_overflow.proofs.of_graph.LinkedLemmas.{root_fits}
 use Rattle.bdb_overflow.specs.of_graph.Walked.{is_set_reference, names_set}
-use Rattle.bdb_overflow.specs.of_format.Graph.{all_references}
 use Rattle.bdb_tree.specs.Noted.{data_faults, data_root, meta_root, paired, root_faults, set_root}
 use Rattle.bdb_tree.specs.Trees.{IsTreePage}
 use Rattle.bdb_tree.proofs.ShapeLemmas.{IsFormedPage, SetsAreData, formed_at}

@@ -9,25 +9,19 @@ use Rattle.bdb_overflow.specs.of_form.declared.view.PageView.{PageView}
 use Rattle.bdb_overflow.specs.of_form.declared.view.PageView.TheVariants.{Meta as MetaView, Leaf as LeafView, DupLeaf as DupLeafView}
 use Rattle.bdb_overflow.specs.of_form.Seen.{header_seen, page_seen}
 use Rattle.bdb_overflow.specs.of_format.declared.kinds.Order.{Order}
-use Rattle.bdb_overflow.specs.of_format.File.{file_of, header_in, kind_in, page_at, page_bytes, type_in}
-use Rattle.bdb_overflow.specs.of_format.HeadOf.{head_of}
+use Rattle.bdb_overflow.specs.of_format.Terms.{BtreeFields, Chain, Content, DupLeaf, Hash, Inline, Internal, InternalItem, Item, Leaf, Listed, Meta, Metadata}
+use Rattle.bdb_overflow.specs.of_format.Terms.{Page, RecnoInternal, RecnoLeaf, Tree, Unknown, abstract_page, byte_at, children_in, entries_of, file_of}
+use Rattle.bdb_overflow.specs.of_format.Terms.{first_row, form_code, has_type, hash_item_at, hash_rows, head_of, header_in, internal_item_at, is_zero}
+use Rattle.bdb_overflow.specs.of_format.Terms.{item_rows, kind_in, leaf_item_at, leaf_rows, listed, listed_code, no_item, page_as, page_at, page_bytes}
+use Rattle.bdb_overflow.specs.of_format.Terms.{page_type, recno_item_at, type_in, type_of, typed_code, wrong_leaf_types}
 use Rattle.bdb_overflow.specs.of_format.declared.references.Sort.{Sort}
 use Rattle.bdb_overflow.specs.of_format.declared.references.Sort.TheVariants.{DuplicateRoot, Root}
-use Rattle.bdb_overflow.specs.of_format.Leaves.{children_in, wrong_leaf_types}
 use Rattle.std.proofs.lemmas.List.FromFn.{get_or-map-range_with_len, length-map-range_with_len}
-use Rattle.bdb_overflow.specs.of_format.Numbers.{byte_at}
-use Rattle.bdb_overflow.specs.of_format.Page.{Metadata, BtreeFields, Content, Inline, Chain, Tree, Unknown, Item, InternalItem, Listed}
-use Rattle.bdb_overflow.specs.of_format.Page.{Page, Meta, Hash, Internal, RecnoInternal, Leaf, RecnoLeaf, DupLeaf}
 use Rattle.bdb_overflow.specs.of_format.declared.pages.PageType.{PageType}
 use Rattle.bdb_overflow.specs.of_format.declared.pages.PageType.TheVariants.{Free as FreePage, Hash as HashPage, Internal as InternalPage}
 use Rattle.bdb_overflow.specs.of_format.declared.pages.PageType.TheVariants.{RecnoInternal as RecnoInternalPage, Leaf as LeafPage, RecnoLeaf as RecnoLeafPage}
 use Rattle.bdb_overflow.specs.of_format.declared.pages.PageType.TheVariants.{Overflow as OverflowPage, HashMeta as HashMetaPage, BtreeMeta as BtreeMetaPage}
 use Rattle.bdb_overflow.specs.of_format.declared.pages.PageType.TheVariants.{QueueMeta as QueueMetaPage, Queue as QueuePage, DupLeaf as DupLeafPage, Other as OtherPage}
-use Rattle.bdb_overflow.specs.of_format.Reading.{abstract_page, entries_of, internal_item_at, is_zero, leaf_item_at, listed, page_as}
-use Rattle.bdb_overflow.specs.of_format.Reading.{page_type, recno_item_at, hash_item_at}
-use Rattle.bdb_overflow.specs.of_format.References.{has_type, no_item}
-use Rattle.bdb_overflow.specs.of_format.Rows.{form_code, leaf_rows, listed_code, type_of, typed_code, hash_rows, item_rows}
-use Rattle.bdb_overflow.specs.of_format.Table.{first_row}
 use Rattle.bdb_overflow.proofs.of_format.GraphLemmas.{typed_none, typed_page, zero_page}
 use Rattle.bdb_overflow.proofs.of_format.ItemLemmas.{IsIndexed, index_passes, no_index_row, no_item_row}
 use Rattle.bdb_overflow.proofs.of_format.MemberLemmas.{of_map}

@@ -1,9 +1,7 @@
 -- Stage 6 in its two parts.
 use Rattle.std.proofs.Common.{◌≡◌, ◌+◌, []}
-use Rattle.bdb_overflow.specs.of_format.Chains.{chain_rows}
-use Rattle.bdb_overflow.specs.of_format.File.{File}
-use Rattle.bdb_overflow.specs.of_format.Leaves.{tree_rows}
-use Rattle.bdb_overflow.specs.of_format.Verdict.{chain_faults, holding, structure_faults, structure_rows, tree_faults}
+use Rattle.bdb_overflow.specs.of_format.Terms.{File, chain_faults, chain_rows, structure_faults, structure_rows, tree_faults, tree_rows}
+use Rattle.bdb_overflow.specs.of_format.Verdict.{holding}
 use Rattle.bdb_overflow.proofs.of_format.VerdictLemmas.{no_faults, no_rows_at, none_holds}
 
 -- where neither a chain nor a leaf has a fault, no row of the stage holds

@@ -11,16 +11,12 @@ use Rattle.bdb_overflow.specs.of_format.declared.pages.RecnoItem.{RecnoItem}
 use Rattle.bdb_overflow.specs.of_format.declared.references.Reference.{Reference}
 use Rattle.bdb_overflow.specs.of_format.declared.references.Sort.{Sort}
 use Rattle.bdb_overflow.specs.of_format.declared.references.Sort.TheVariants.{Child, DuplicateRoot, Root}
-use Rattle.bdb_overflow.specs.of_format.File.{File, file_of, header_in, page_at, type_in}
-use Rattle.bdb_overflow.specs.of_format.Graph.{Owner, all_references}
-use Rattle.bdb_overflow.specs.of_format.HeadOf.{head_of}
-use Rattle.bdb_overflow.specs.of_format.Leaves.{LeafPlace, children_in, is_root_reference, is_wrong_link, leaf_places, leaves, leaves_in}
-use Rattle.bdb_overflow.specs.of_format.Leaves.{leaves_under, places_from, root_references}
-use Rattle.bdb_overflow.specs.of_format.Page.{BtreeFields, Content, Tree, Item, Listed, Page, Meta, Hash, Internal, RecnoInternal, Leaf, RecnoLeaf}
-use Rattle.bdb_overflow.specs.of_format.Page.{DupLeaf}
-use Rattle.bdb_overflow.specs.of_format.References.{asked_by, child_types, content_targets, first_free, fit_code, fit_rows, has_type, is_asked, is_shared_key}
-use Rattle.bdb_overflow.specs.of_format.References.{is_zero_page, targets_in, no_item, refs, root_types, contents_in}
-use Rattle.bdb_overflow.specs.of_format.Verdict.{reference_faults, structure_faults, structure_rows}
+use Rattle.bdb_overflow.specs.of_format.Terms.{BtreeFields, Content, DupLeaf, File, Hash, Internal, Item, Leaf, LeafPlace, Listed, Meta, Owner, Page}
+use Rattle.bdb_overflow.specs.of_format.Terms.{RecnoInternal, RecnoLeaf, Tree, all_references, asked_by, child_types, children_in, content_targets}
+use Rattle.bdb_overflow.specs.of_format.Terms.{contents_in, file_of, first_free, fit_code, fit_rows, has_type, head_of, header_in, is_asked, is_root_reference}
+use Rattle.bdb_overflow.specs.of_format.Terms.{is_shared_key, is_wrong_link, is_zero_page, leaf_places, leaves, leaves_in, leaves_under, no_item, page_at}
+use Rattle.bdb_overflow.specs.of_format.Terms.{places_from, reference_faults, refs, root_references, root_types, structure_faults, structure_rows, targets_in}
+use Rattle.bdb_overflow.specs.of_format.Terms.{type_in}
 use Rattle.bdb_overflow.proofs.of_format.GraphLemmas.{each_fits}
 use Rattle.bdb_overflow.proofs.of_format.MemberLemmas.{first_member, in_filter, in_flat_map, in_map, none_passes, of_flat_map}
 use Rattle.bdb_overflow.proofs.of_format.VerdictLemmas.{AllFail, no_rows_at, none_is_first_row}

@@ -6,13 +6,10 @@ use Rattle.std.specs.List.{Contains, filter, last_or}
 use Rattle.std.specs.Option.{unwrap_or}
 use Rattle.bdb_overflow.specs.of_slots.Slots.{no_internal_item}
 use Rattle.bdb_overflow.specs.of_image.Linked.{FitsLeafPage, IsForest}
-use Rattle.bdb_overflow.specs.of_format.File.{File, file_of, page_at, type_in}
-use Rattle.bdb_overflow.specs.of_format.Page.{Page, InternalItem, Internal, Listed}
-use Rattle.bdb_overflow.specs.of_format.References.{child_types, has_type}
+use Rattle.bdb_overflow.specs.of_format.Terms.{File, Internal, InternalItem, Listed, Page, child_types, children_in, file_of, has_type, page_at, type_in}
 use Rattle.bdb_overflow.proofs.of_format.MemberLemmas.{first_member, in_map, later_member, member_cases, of_filter}
 use Rattle.bdb_tree.specs.Descent.{AllMonotone, AllReadable, chosen, descent, go_on, next_below, steps_at}
 use Rattle.bdb_tree.proofs.DescentLemmas.{internal_is, is_inner_below}
-use Rattle.bdb_overflow.specs.of_format.Leaves.{children_in}
 use Rattle.bdb_tree.proofs.ShapeLemmas.{IsLeafPage}
 use Rattle.bdb_tree.proofs.TreeLemmas.{HasTypeAt, IsChild, child_is, level, tree_cases, typed_inside}
 use Rattle.bdb_overflow.proofs.of_format.TypeLemmas.{of_type, tree_keyed}

@@ -2,10 +2,8 @@
 use Rattle.std.specs.Prelude.{◌≡◌, ◌≤◌, ◌<◌, ℕ, zero, suc, Bool, true, false, not, List, [], ◌∷◌, length, get_or, Option, Some, None}
 use Rattle.std.specs.List.{Contains, filter, last_or}
 use Rattle.std.specs.Option.{unwrap_or}
-use Rattle.bdb_overflow.specs.of_format.ContentRows.{inner_pages}
-use Rattle.bdb_overflow.specs.of_format.File.{File, page_at}
+use Rattle.bdb_overflow.specs.of_format.Terms.{File, Internal, InternalItem, Listed, Page, inner_pages, page_at}
 use Rattle.bdb_overflow.specs.of_slots.Slots.{no_internal_item}
-use Rattle.bdb_overflow.specs.of_format.Page.{InternalItem, Listed, Page, Internal}
 
 -- the items for which the test is false, the first item always counting so
 abbrev pub candidates : (InternalItem → Bool) → List InternalItem → List InternalItem

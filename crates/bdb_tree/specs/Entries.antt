@@ -1,10 +1,7 @@
 -- The entries of leaves as a walk over a tree has them left. What they are as a whole is `tree_entries` of bdb_format.
 use Rattle.std.specs.Prelude.{ℕ, ◌≤◌, not, List, [], ◌++◌, map}
 use Rattle.std.specs.List.{All, filter, flat_map}
-use Rattle.bdb_overflow.specs.of_format.Chains.{value_of}
-use Rattle.bdb_overflow.specs.of_format.Contents.{entries_in}
-use Rattle.bdb_overflow.specs.of_format.File.{File, page_at}
-use Rattle.bdb_overflow.specs.of_format.Page.{Item}
+use Rattle.bdb_overflow.specs.of_format.Terms.{File, Item, entries_in, page_at, value_of}
 use Rattle.bdb_overflow.specs.Datum.{FitsContent}
 use Rattle.bdb_tree.specs.declared.entries.LeafEntries.{LeafEntries}
 use Rattle.bdb_tree.specs.declared.entries.LeafEntries.TheVariants.{Empty, Records, Sorted}

@@ -1,9 +1,6 @@
 -- Leaves as their pages link them. Source: docs/FORMAT.md, "Stage 6, chains and trees".
 use Rattle.std.specs.Prelude.{◌≡◌, ◌⊎◌, ℕ, ◌<◌, ◌==◌, true, false, List, [], ◌∷◌, length, Option, Some, None}
-use Rattle.bdb_overflow.specs.of_format.Chains.{chain}
-use Rattle.bdb_overflow.specs.of_format.File.{File, file_of}
-use Rattle.bdb_overflow.specs.of_format.Page.{Page, Internal, RecnoInternal}
-use Rattle.bdb_overflow.specs.of_format.Verdict.{structure_faults}
+use Rattle.bdb_overflow.specs.of_format.Terms.{File, Internal, Page, RecnoInternal, chain, file_of, structure_faults}
 use Rattle.bdb_overflow.specs.of_image.Linked.{FitsLeafPage, IsForest}
 
 -- a page and those that follow it by their next pages, up to next 0; 0 stands for no page

@@ -5,12 +5,9 @@ use Rattle.std.specs.List.{flat_map, range_with_len}
 use Rattle.bdb_overflow.specs.of_format.declared.kinds.Fault.{Fault}
 use Rattle.bdb_overflow.specs.of_format.declared.references.Sort.{Sort}
 use Rattle.bdb_overflow.specs.of_format.declared.references.Sort.TheVariants.{DuplicateRoot, Root}
-use Rattle.bdb_overflow.specs.of_format.File.{File, page_at}
+use Rattle.bdb_overflow.specs.of_format.Terms.{BtreeFields, Content, DupLeaf, File, Hash, Item, Leaf, LeafPlace, Meta, Page, RecnoLeaf, Tree, fault_if}
+use Rattle.bdb_overflow.specs.of_format.Terms.{is_wrong_leaf, is_wrong_link, leaves, no_item, page_at, places_from}
 use Rattle.bdb_overflow.specs.of_image.Linked.{meta_pages}
-use Rattle.bdb_overflow.specs.of_format.Leaves.{LeafPlace, is_wrong_leaf, is_wrong_link, leaves, places_from}
-use Rattle.bdb_overflow.specs.of_format.Page.{Content, Tree, Item, BtreeFields, Page, Meta, Hash, Leaf, RecnoLeaf, DupLeaf}
-use Rattle.bdb_overflow.specs.of_format.References.{no_item}
-use Rattle.bdb_overflow.specs.of_format.FaultTable.{fault_if}
 use Rattle.bdb_overflow.specs.of_format.declared.rows.Row.TheVariants.{Structure}
 use Rattle.bdb_overflow.specs.of_format.declared.rows.StructureRow.TheVariants.{LeafKind, LeafLink}
 

@@ -1,9 +1,7 @@
 -- Pages of trees and their roots. Source: docs/FORMAT.md, "References".
 use Rattle.std.specs.Prelude.{◌⊎◌, ℕ, IsTrue, List, [], ◌∷◌}
 use Rattle.std.specs.Option.{unwrap_or}
-use Rattle.bdb_overflow.specs.of_format.File.{File, page_at, type_in}
-use Rattle.bdb_overflow.specs.of_format.Leaves.{children_in}
-use Rattle.bdb_overflow.specs.of_format.References.{has_type}
+use Rattle.bdb_overflow.specs.of_format.Terms.{File, children_in, has_type, page_at, type_in}
 use Rattle.bdb_overflow.specs.of_image.Linked.{FitsDupRoot, FitsTreeRoot}
 
 -- an internal page or a leaf

@@ -1,8 +1,7 @@
 ghost use Rattle.std.specs.Prelude.{◌≡◌, [], IfErr, OnOk};
 ghost use Rattle.bdb_faults.specs.Notes.{HasNoted};
 ghost use Rattle.bdb_faults.specs.Notes.{NotesAll};
-ghost use Rattle.bdb_overflow.specs.of_format.File.{file_of};
-ghost use Rattle.bdb_overflow.specs.of_format.Verdict.{tree_faults, IsFirstOf};
+ghost use Rattle.bdb_overflow.specs.of_format.Terms.{IsFirstOf, file_of, tree_faults};
 
 use crate::trees::{note_all_sets, note_metas};
 use bdb_faults::{FaultSink, First, NamedList, checked};

@@ -1,9 +1,7 @@
 ghost use Rattle.std.specs.Prelude.{◌≡◌, ◌+◌, ◌<◌, ◌≤◌, ◌∷◌, [], Bool, IsTrue, Some, length};
 ghost use Rattle.bdb_overflow.specs.of_layout.Seen.{internal_item_seen};
 ghost use Rattle.bdb_overflow.specs.of_image.Linked.{FitsLeafPage, FitsTreeRoot, IsForest};
-ghost use Rattle.bdb_overflow.specs.of_format.File.{file_of, header_in, page_at, type_in};
-ghost use Rattle.bdb_overflow.specs.of_format.Page.{InternalItem};
-ghost use Rattle.bdb_overflow.specs.of_format.References.{has_type};
+ghost use Rattle.bdb_overflow.specs.of_format.Terms.{InternalItem, file_of, has_type, header_in, page_at, type_in};
 ghost use Rattle.bdb_tree.specs.Descent.{AllMonotone, AllReadable, AreReadable, IsLastFalse, IsMonotone, chosen, descent, next_below, steps_at};
 
 use bdb_overflow::{Forest, InternalView, LeafPage, Linked, PageView, Ref, Steps, TreeRoot};

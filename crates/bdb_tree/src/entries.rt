@@ -2,9 +2,7 @@ ghost use Rattle.std.specs.Prelude.{◌≡◌, []};
 ghost use Rattle.std.specs.Iterator.{YieldsFirstBy, item_count};
 ghost use Rattle.bdb_overflow.specs.of_form.Seen.{page_seen};
 ghost use Rattle.bdb_overflow.specs.of_layout.Seen.{leaf_item_seen};
-ghost use Rattle.bdb_overflow.specs.of_format.Contents.{entries_in, tree_entries};
-ghost use Rattle.bdb_overflow.specs.of_format.File.{file_of};
-ghost use Rattle.bdb_overflow.specs.of_format.Verdict.{structure_faults};
+ghost use Rattle.bdb_overflow.specs.of_format.Terms.{entries_in, file_of, structure_faults, tree_entries};
 ghost use Rattle.bdb_tree.specs.Entries.{AreFit, leaf_entries_seen};
 ghost use Rattle.bdb_tree.specs.Trees.{IsRoot};
 
@@ -63,8 +61,7 @@ impl Drop for TreeEntries<'_> {
 
 impl<'a> Model for TreeEntries<'a> {
     ghost use Rattle.std.specs.Prelude.{List};
-    ghost use Rattle.bdb_overflow.specs.of_format.File.{file_of};
-    ghost use Rattle.bdb_overflow.specs.of_format.Page.{Item};
+    ghost use Rattle.bdb_overflow.specs.of_format.Terms.{Item, file_of};
     ghost use Rattle.bdb_tree.specs.Entries.{AreThere, entries_left, leaf_entries_seen};
 
     ghost Value = { List Item };

@@ -2,8 +2,7 @@ ghost use Rattle.std.specs.Prelude.{◌≡◌, Some};
 ghost use Rattle.std.specs.List.{slice_get};
 ghost use Rattle.bdb_overflow.specs.of_form.Seen.{page_seen};
 ghost use Rattle.bdb_overflow.specs.of_image.Linked.{FitsDupRoot, FitsLeafPage, FitsTreeRoot, IsForest};
-ghost use Rattle.bdb_overflow.specs.of_format.File.{file_of, page_at};
-ghost use Rattle.bdb_overflow.specs.of_format.Leaves.{children_in, leaves};
+ghost use Rattle.bdb_overflow.specs.of_format.Terms.{children_in, file_of, leaves, page_at};
 ghost use Rattle.bdb_tree.specs.Links.{HasItem, first_below};
 ghost use Rattle.bdb_tree.specs.Trees.{IsTreePage};
 

@@ -3,8 +3,7 @@ ghost use Rattle.std.specs.List.{All, flat_map};
 ghost use Rattle.std.specs.Option.{unwrap_or};
 ghost use Rattle.bdb_overflow.specs.of_form.Seen.{page_seen};
 ghost use Rattle.bdb_overflow.specs.of_image.Linked.{IsForest};
-ghost use Rattle.bdb_overflow.specs.of_format.File.{file_of, header_in, page_at};
-ghost use Rattle.bdb_overflow.specs.of_format.Leaves.{children_in, leaves};
+ghost use Rattle.bdb_overflow.specs.of_format.Terms.{children_in, file_of, header_in, leaves, page_at};
 ghost use Rattle.bdb_tree.specs.Trees.{IsTreePage, children_at};
 
 use bdb_overflow::{Forest, InternalView, PageView, RecnoInternalView};

@@ -1,8 +1,6 @@
 ghost use Rattle.std.specs.Prelude.{◌≡◌, ◌≤◌, ◌∷◌, ◌++◌, [], ℕ, List, length};
 ghost use Rattle.bdb_overflow.specs.of_image.Linked.{FitsLeafPage, IsForest};
-ghost use Rattle.bdb_overflow.specs.of_format.File.{file_of};
-ghost use Rattle.bdb_overflow.specs.of_format.Leaves.{leaves};
-ghost use Rattle.bdb_overflow.specs.of_format.Verdict.{structure_faults};
+ghost use Rattle.bdb_overflow.specs.of_format.Terms.{file_of, leaves, structure_faults};
 ghost use Rattle.bdb_tree.specs.Trees.{IsRoot};
 
 use crate::{Leaves, leftmost};

@@ -1,6 +1,6 @@
 ghost use Rattle.std.specs.Prelude.{◌≡◌, ◌<◌, ◌*◌, ◌+◌, length};
 ghost use Rattle.bdb_overflow.specs.of_form.Seen.{page_seen};
-ghost use Rattle.bdb_overflow.specs.of_format.Page.{Meta as MetaPage};
+ghost use Rattle.bdb_overflow.specs.of_format.Terms.{Meta as MetaPage};
 ghost use Rattle.bdb_overflow.specs.of_image.Metas.{meta_seen};
 ghost use Rattle.bdb_tree.specs.Noted.{data_root, meta_root, pair_count, paired};
 

@@ -3,9 +3,7 @@ ghost use Rattle.std.specs.List.{All, flat_map};
 ghost use Rattle.bdb_faults.specs.Notes.{Notes, NotesAll};
 ghost use Rattle.bdb_overflow.specs.of_form.Seen.{page_seen};
 ghost use Rattle.bdb_overflow.specs.of_image.Linked.{FitsLeafPage, IsForest};
-ghost use Rattle.bdb_overflow.specs.of_format.File.{file_of, header_in, type_in};
-ghost use Rattle.bdb_overflow.specs.of_format.Leaves.{places_from, wrong_leaf_types};
-ghost use Rattle.bdb_overflow.specs.of_format.References.{has_type};
+ghost use Rattle.bdb_overflow.specs.of_format.Terms.{file_of, has_type, header_in, places_from, type_in, wrong_leaf_types};
 ghost use Rattle.bdb_tree.specs.Noted.{is_leaf_page, place_faults, place_in};
 
 use bdb_faults::{FaultSink, note_if};

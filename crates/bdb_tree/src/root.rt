@@ -1,8 +1,6 @@
 ghost use Rattle.std.specs.Prelude.{◌≡◌, Some};
 ghost use Rattle.bdb_overflow.specs.of_form.Seen.{page_seen};
-ghost use Rattle.bdb_overflow.specs.of_format.ContentRows.{wrong_set_types};
-ghost use Rattle.bdb_overflow.specs.of_format.File.{type_in};
-ghost use Rattle.bdb_overflow.specs.of_format.References.{has_type};
+ghost use Rattle.bdb_overflow.specs.of_format.Terms.{has_type, type_in, wrong_set_types};
 
 use bdb_overflow::{PageType, PageView};
 

@@ -1,10 +1,7 @@
 ghost use Rattle.std.specs.Prelude.{◌≡◌, []};
 ghost use Rattle.std.specs.Iterator.{YieldsFirstBy, item_count};
 ghost use Rattle.bdb_overflow.specs.of_image.Linked.{FitsDupRoot};
-ghost use Rattle.bdb_overflow.specs.of_format.Contents.{data_of};
-ghost use Rattle.bdb_overflow.specs.of_format.File.{file_of};
-ghost use Rattle.bdb_overflow.specs.of_format.Page.{Tree};
-ghost use Rattle.bdb_overflow.specs.of_format.Verdict.{structure_faults};
+ghost use Rattle.bdb_overflow.specs.of_format.Terms.{Tree, data_of, file_of, structure_faults};
 ghost use Rattle.bdb_overflow.specs.Datum.{datum_seen};
 
 use crate::{TreeEntries, tree_entries};
@@ -30,7 +27,7 @@ impl Drop for SetValues<'_> {
 
 impl<'a> Model for SetValues<'a> {
     ghost use Rattle.std.specs.Prelude.{List, ℕ};
-    ghost use Rattle.bdb_overflow.specs.of_format.File.{file_of};
+    ghost use Rattle.bdb_overflow.specs.of_format.Terms.{file_of};
     ghost use Rattle.bdb_tree.specs.Entries.{AreFit, values_of};
 
     ghost Value = { List (List ℕ) };

@@ -2,7 +2,7 @@ ghost use Rattle.std.specs.Prelude.{◌≤◌, ◌+◌, IfSome, OnOk, Some};
 ghost use Rattle.std.specs.List.{flat_map, range_with_len};
 ghost use Rattle.bdb_faults.specs.Notes.{NotesAll};
 ghost use Rattle.bdb_overflow.specs.of_image.Linked.{IsForest, meta_pages};
-ghost use Rattle.bdb_overflow.specs.of_format.File.{file_of};
+ghost use Rattle.bdb_overflow.specs.of_format.Terms.{file_of};
 ghost use Rattle.bdb_tree.specs.Noted.{held_sets, meta_faults, root_faults};
 ghost use Rattle.bdb_tree.specs.Trees.{IsTreePage};
 

@@ -1,8 +1,7 @@
 ghost use Rattle.std.specs.Prelude.{◌≡◌};
 ghost use Rattle.std.specs.Iterator.{YieldsFirst, item_count};
 ghost use Rattle.bdb_overflow.specs.of_image.Linked.{FitsLeafPage};
-ghost use Rattle.bdb_overflow.specs.of_format.Chains.{next_of};
-ghost use Rattle.bdb_overflow.specs.of_format.File.{file_of};
+ghost use Rattle.bdb_overflow.specs.of_format.Terms.{file_of, next_of};
 ghost use Rattle.bdb_tree.specs.Links.{IsLeafWalk, pages_from};
 
 use bdb_overflow::{Forest, LeafPage, Ref};
@@ -26,7 +25,7 @@ impl Drop for Leaves<'_> {
 
 impl<'a> Model for Leaves<'a> {
     ghost use Rattle.std.specs.Prelude.{List, ℕ};
-    ghost use Rattle.bdb_overflow.specs.of_format.File.{file_of};
+    ghost use Rattle.bdb_overflow.specs.of_format.Terms.{file_of};
     ghost use Rattle.bdb_tree.specs.Links.{IsLeafWalk, pages_from};
 
     ghost Value = { List ℕ };

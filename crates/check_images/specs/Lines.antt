@@ -4,7 +4,7 @@ use Rattle.bdb_tool.specs.of_any_order.AnyOrder.{faults_by_rows}
 use Rattle.bdb_tool.specs.of_any_order.declared.rows.Rows.{Rows}
 use Rattle.bdb_tool.specs.of_any_order.declared.rows.Rows.TheVariants.{All, AnyOrder}
 use Rattle.bdb_tool.specs.of_model.Answers.{Answer, told, too_large_line}
-use Rattle.bdb_tool.specs.of_text_format.LineEnd.{line}
+use Rattle.bdb_tool.specs.of_text_format.Terms.{line}
 use Rattle.bdb_tool.specs.of_tool_ask.FileAnswers.{verified}
 
 -- the words that ask for the verdict by the rows that count

@@ -1,6 +1,6 @@
 ghost use Rattle.std.specs.Prelude.{◌≡◌, ◌++◌, IfOk};
 ghost use Rattle.check_images.specs.Lines.{lines_on, unreadable};
-ghost use Rattle.bdb_tool.specs.of_text_format.LineEnd.{line};
+ghost use Rattle.bdb_tool.specs.of_text_format.Terms.{line};
 
 use bdb_tool::Bytes;
 use std::alloc::{AllocError, Global};

@@ -1,8 +1,7 @@
 //! Both sides of a file, and what is told of them.
 
 ghost use Rattle.std.specs.Prelude.{◌≡◌, ◌<◌, ◌≤◌, ◌^◌, length};
-ghost use Rattle.bdb_salvage.specs.of_format.Databases.{databases};
-ghost use Rattle.bdb_salvage.specs.of_format.File.{file_of};
+ghost use Rattle.bdb_salvage.specs.of_format.Terms.{databases, file_of};
 
 use crate::held::Held;
 use bdb_salvage::{

@@ -7,10 +7,7 @@ use Rattle.bdb_homes.specs.Claims.{all_claims, claim_of}
 use Rattle.bdb_homes.specs.Homes.{claimed_in, home, led, own_home, spread}
 use Rattle.bdb_apart.specs.Found.{entries, found}
 use Rattle.bdb_apart.specs.Given.{pairs_given, pairs_left, records_given, records_left}
-use Rattle.bdb_apart.specs.of_format.Chains.{chain_in, pieces_of}
-use Rattle.bdb_apart.specs.of_format.File.{file_as}
-use Rattle.bdb_apart.specs.of_format.References.{fit_code}
-use Rattle.bdb_apart.specs.of_format.Rows.{metadata_rows}
+use Rattle.bdb_apart.specs.of_format.Terms.{chain_in, file_as, fit_code, metadata_rows, pieces_of}
 
 unfoldable pub stored_so : ⊤
 unfolding salvaged_page salvaged_file is_whole down_in down set_start whole_values live_whole whole_data stored_pair set_starts is_taken chain_in pieces_of

@@ -1,7 +1,7 @@
 -- A file of the samples as it is read, and what is found in it.
 use Rattle.std.specs.Prelude.{ℕ, List, map, Option}
 use Rattle.bdb_apart.specs.of_format.declared.kinds.Order.TheVariants.{Little}
-use Rattle.bdb_apart.specs.of_format.File.{File}
+use Rattle.bdb_apart.specs.of_format.Terms.{File}
 use Rattle.bdb_apart.specs.of_survey.Salvage.{salvaged_file}
 use Rattle.bdb_apart.specs.Found.{Found, found}
 use Rattle.bdb_apart.specs.Given.{pairs_given, records_given}

@@ -1,5 +1,5 @@
 ghost use Rattle.std.specs.Prelude.{◌≡◌, ◌∷◌, [], Some, None, codes};
-ghost use Rattle.bdb_apart.specs.of_format.Numbers.{overwritten};
+ghost use Rattle.bdb_apart.specs.of_format.Terms.{overwritten};
 ghost use Rattle.sample_contents.specs.Fields.{live, text};
 ghost use Rattle.sample_contents.specs.Named.{named_file, names, two_databases};
 ghost use Rattle.sample_contents.specs.Tables.{hash_live};

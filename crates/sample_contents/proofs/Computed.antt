@@ -1,9 +1,7 @@
 -- What is unfolded to compute what a file holds.
 use Rattle.std.specs.Prelude.{⊤}
 use Rattle.sample_graphs.proofs.Computed.{graphs}
-use Rattle.sample_graphs.specs.of_format.ContentRows.{database_faults}
-use Rattle.sample_graphs.specs.of_format.Lists.{btree_list, recno_list, queue_list, hash_list}
-use Rattle.sample_graphs.specs.of_format.Databases.{databases}
+use Rattle.sample_graphs.specs.of_format.Terms.{btree_list, database_faults, databases, hash_list, queue_list, recno_list}
 
 unfoldable pub contents : ⊤
 unfolding graphs database_faults btree_list recno_list queue_list hash_list databases

@@ -3,8 +3,7 @@ use Rattle.std.specs.Prelude.{ℕ, ◌+◌, ◌-◌, List, [], ◌∷◌, ◌++�
 use Prim.Native.String.{String}
 use Rattle.std.specs.List.{flat_map}
 use Rattle.sample_graphs.specs.of_format.declared.kinds.Order.TheVariants.{Little}
-use Rattle.sample_graphs.specs.of_format.Numbers.{spelled, byte_at, overwritten}
-use Rattle.sample_graphs.specs.of_format.Chains.{joined}
+use Rattle.sample_graphs.specs.of_format.Terms.{byte_at, joined, overwritten, spelled}
 
 abbrev pub two : ℕ → List ℕ
 two n = spelled 2 Little n

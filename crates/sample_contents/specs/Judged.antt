@@ -4,12 +4,8 @@ use Prim.Native.String.{String}
 use Rattle.std.specs.List.{flat_map}
 use Rattle.sample_graphs.specs.of_format.declared.kinds.Fault.{Fault}
 use Rattle.sample_graphs.specs.of_format.declared.settings.Settings.{Settings}
-use Rattle.sample_graphs.specs.of_format.HeadOf.{head_of}
-use Rattle.sample_graphs.specs.of_format.Page.{Metadata}
-use Rattle.sample_graphs.specs.of_format.File.{file_of, page_at}
-use Rattle.sample_graphs.specs.of_format.Lists.{ListKey, BytesKey, NumberKey, list_of}
-use Rattle.sample_graphs.specs.of_format.ContentRows.{database_faults, fields_in}
-use Rattle.sample_graphs.specs.of_format.Databases.{settings_of, data_under}
+use Rattle.sample_graphs.specs.of_format.Terms.{BytesKey, ListKey, Metadata, NumberKey, data_under, database_faults, fields_in, file_of, head_of, list_of}
+use Rattle.sample_graphs.specs.of_format.Terms.{page_at, settings_of}
 
 -- the metadata on a page of an image
 abbrev pub fields_at : List ℕ → ℕ → List Metadata

@@ -1,9 +1,7 @@
 -- Masters with pairs that are given, and the databases that come of them. Source: docs/FORMAT.md, "Databases of a file" and "Stage 7, the master".
 use Rattle.std.specs.Prelude.{ℕ, List, [], ◌∷◌, replicate, codes, Some, None}
 use Prim.Native.String.{String}
-use Rattle.sample_graphs.specs.of_format.Chains.{joined}
-use Rattle.sample_graphs.specs.of_format.Page.{Metadata, BtreeFields, HashFields, QueueFields}
-use Rattle.sample_graphs.specs.of_format.Databases.{Database}
+use Rattle.sample_graphs.specs.of_format.Terms.{BtreeFields, Database, HashFields, Metadata, QueueFields, joined}
 use Rattle.sample_contents.specs.Fields.{Entry, inline, text, deleted, child, pair, leaf, internal, hash_page, overflow, btree_meta, table}
 use Rattle.sample_contents.specs.Named.{named_file}
 

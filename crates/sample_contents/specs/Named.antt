@@ -1,7 +1,7 @@
 -- Files with two databases that a master names. Source: docs/FORMAT.md, "Databases of a file".
 use Rattle.std.specs.Prelude.{ℕ, ◌+◌, List, [], ◌∷◌, length}
 use Prim.Native.String.{String}
-use Rattle.sample_graphs.specs.of_format.Chains.{joined}
+use Rattle.sample_graphs.specs.of_format.Terms.{joined}
 use Rattle.sample_contents.specs.Fields.{Entry, inline, text, pair, leaf, hash_page, btree_meta, hash_meta}
 
 -- a pair of a master: a name, and the number of a page below 256 in four bytes, the high one first

@@ -1,6 +1,6 @@
 -- Settings of databases, and metadata with more of them than plain files have. Source: docs/FORMAT.md, "Metadata pages".
 use Rattle.std.specs.Prelude.{ℕ, Bool, true, false, List, [], ◌∷◌}
-use Rattle.sample_graphs.specs.of_format.Numbers.{overwritten}
+use Rattle.sample_graphs.specs.of_format.Terms.{overwritten}
 use Rattle.sample_graphs.specs.of_format.declared.kinds.Kind.TheVariants.{Btree, Recno, Hash, Queue}
 use Rattle.sample_graphs.specs.of_format.declared.kinds.Order.TheVariants.{Little}
 use Rattle.sample_graphs.specs.of_format.declared.settings.Settings.{Settings}

@@ -2,7 +2,7 @@
 -- The hash of a key of one byte is that byte; so of two buckets `a` and `c` have bucket 1, on page 2, and `b` and `d` have bucket 0, on page 1.
 use Rattle.std.specs.Prelude.{ℕ, List, [], ◌∷◌}
 use Prim.Native.String.{String}
-use Rattle.sample_graphs.specs.of_format.Chains.{joined}
+use Rattle.sample_graphs.specs.of_format.Terms.{joined}
 use Rattle.sample_contents.specs.Fields.{Entry, hash_text, hash_set, pair, hash_page, zero_page, hash_meta, table}
 
 abbrev pub hash_live : String → List Entry

@@ -2,10 +2,7 @@ ghost use Rattle.sample_contents.specs.Chains.{chain_in_a_set, chain_of_data, ch
 ghost use Rattle.sample_contents.specs.Chains.{chain_of_hash_key, chain_of_key, chain_of_shared_key, chain_of_two, chain_of_two_leaves, empty_chain};
 ghost use Rattle.sample_contents.specs.Chains.{long_value};
 ghost use Rattle.sample_graphs.specs.Named.{fault};
-ghost use Rattle.sample_graphs.specs.of_format.Chains.{chain, pieces_of, value_of};
-ghost use Rattle.sample_graphs.specs.of_format.File.{file_of};
-ghost use Rattle.sample_graphs.specs.of_format.Page.{Chain};
-ghost use Rattle.sample_graphs.specs.of_format.Verdict.{faults_of};
+ghost use Rattle.sample_graphs.specs.of_format.Terms.{Chain, chain, faults_of, file_of, pieces_of, value_of};
 ghost use Rattle.std.specs.Prelude.{◌≡◌, codes, [], ◌∷◌};
 
 /// A value of 5,000 bytes on eleven pages, and totals that are one off.

@@ -2,7 +2,7 @@ ghost use Rattle.sample_contents.specs.ContentFaults.{contents_bucket_many, cont
 ghost use Rattle.sample_contents.specs.ContentFaults.{contents_duplicates, contents_duplicates_many, contents_key_order, contents_key_order_many};
 ghost use Rattle.sample_contents.specs.ContentFaults.{contents_key_twice, contents_record_length, contents_separator_many};
 ghost use Rattle.sample_graphs.specs.Named.{fault};
-ghost use Rattle.sample_graphs.specs.of_format.Verdict.{faults_of};
+ghost use Rattle.sample_graphs.specs.of_format.Terms.{faults_of};
 ghost use Rattle.std.specs.Prelude.{◌≡◌, [], ◌∷◌};
 
 /// Rows of keys with several data.

@@ -1,6 +1,6 @@
 ghost use Rattle.sample_contents.specs.Separators.{counted, counted_twice, split_set};
 ghost use Rattle.sample_graphs.specs.Named.{fault};
-ghost use Rattle.sample_graphs.specs.of_format.Verdict.{faults_of};
+ghost use Rattle.sample_graphs.specs.of_format.Terms.{faults_of};
 ghost use Rattle.std.specs.Prelude.{◌≡◌, [], ◌∷◌};
 
 /// Below the first item are two live pairs and a deleted one: its count is 2 or 3. Below the second is one pair.

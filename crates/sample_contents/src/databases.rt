@@ -6,8 +6,7 @@ ghost use Rattle.sample_contents.specs.Named.{names, two_databases};
 ghost use Rattle.sample_contents.specs.Queues.{second_of_three};
 ghost use Rattle.sample_contents.specs.Records.{first_and_third};
 ghost use Rattle.sample_contents.specs.Tables.{buckets, hash_live, set_in_a_bucket};
-ghost use Rattle.sample_graphs.specs.of_format.Databases.{databases, place_of};
-ghost use Rattle.sample_graphs.specs.of_format.File.{file_of};
+ghost use Rattle.sample_graphs.specs.of_format.Terms.{databases, file_of, place_of};
 ghost use Rattle.sample_graphs.specs.of_sample_pages.OnePair.{one_pair};
 ghost use Rattle.std.specs.Prelude.{◌≡◌, codes, None, Some, [], ◌∷◌};
 

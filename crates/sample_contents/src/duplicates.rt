@@ -3,7 +3,7 @@ ghost use Rattle.sample_contents.specs.Duplicates.{set_and_pair, set_on_two_leav
 ghost use Rattle.sample_contents.specs.Duplicates.{with_item, with_set};
 ghost use Rattle.sample_contents.specs.Fields.{again, chain, deleted, dup_leaf, live, one_leaf, pair, set, text};
 ghost use Rattle.sample_graphs.specs.Named.{fault};
-ghost use Rattle.sample_graphs.specs.of_format.Verdict.{faults_of};
+ghost use Rattle.sample_graphs.specs.of_format.Terms.{faults_of};
 ghost use Rattle.std.specs.Prelude.{◌≡◌, [], ◌∷◌};
 
 /// Three pairs that share a key, with the flags of duplicates and without; the flag of sorted ones alone counts as duplicates.

@@ -2,8 +2,7 @@ ghost use Rattle.sample_contents.specs.Chains.{leaf_with_chain};
 ghost use Rattle.sample_contents.specs.Fields.{again, chain, gone, inline, live, one_leaf, pair, text};
 ghost use Rattle.sample_contents.specs.Separators.{split, split_in_three};
 ghost use Rattle.sample_graphs.specs.Named.{fault};
-ghost use Rattle.sample_graphs.specs.of_format.Numbers.{overwritten};
-ghost use Rattle.sample_graphs.specs.of_format.Verdict.{faults_of};
+ghost use Rattle.sample_graphs.specs.of_format.Terms.{faults_of, overwritten};
 ghost use Rattle.std.specs.Prelude.{◌≡◌, ◌+◌, [], ◌∷◌};
 
 /// The keys `61` and `6100`; one key twice; an order that is of unsigned bytes; a key without bytes.

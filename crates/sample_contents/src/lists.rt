@@ -6,8 +6,7 @@ ghost use Rattle.sample_contents.specs.Queues.{more_bits, over_two_pages, page_o
 ghost use Rattle.sample_contents.specs.Records.{counted_records, first_and_third, record_in_a_chain, records};
 ghost use Rattle.sample_contents.specs.Separators.{split};
 ghost use Rattle.sample_contents.specs.Tables.{empty_set_in_a_bucket, five_keys, hash_live, set_in_a_bucket, with_hash_item, zero_bucket};
-ghost use Rattle.sample_graphs.specs.of_format.Lists.{BytesKey, NumberKey, get};
-ghost use Rattle.sample_graphs.specs.of_format.Verdict.{faults_of};
+ghost use Rattle.sample_graphs.specs.of_format.Terms.{BytesKey, NumberKey, faults_of, get};
 ghost use Rattle.std.specs.Prelude.{◌≡◌, codes, [], ◌∷◌};
 
 /// A btree: its live pairs, leaf by leaf.

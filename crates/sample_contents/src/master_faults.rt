@@ -1,7 +1,7 @@
 ghost use Rattle.sample_contents.specs.MasterFaults.{master_entry_size, master_entry_target, master_name_twice_many, master_page_twice_many};
 ghost use Rattle.sample_contents.specs.MasterFaults.{master_unnamed_many};
 ghost use Rattle.sample_graphs.specs.Named.{fault};
-ghost use Rattle.sample_graphs.specs.of_format.Verdict.{faults_of};
+ghost use Rattle.sample_graphs.specs.of_format.Terms.{faults_of};
 ghost use Rattle.std.specs.Prelude.{◌≡◌, [], ◌∷◌};
 
 /// Rows of the metadata pages that a master names.

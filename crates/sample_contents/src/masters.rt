@@ -2,8 +2,7 @@ ghost use Rattle.sample_contents.specs.Fields.{again, chain, four, inline, one_l
 ghost use Rattle.sample_contents.specs.Masters.{btree_beside_a_hash, gone_name, holds, master, master_above, master_of_two_leaves, value_on_7};
 ghost use Rattle.sample_contents.specs.Named.{names};
 ghost use Rattle.sample_graphs.specs.Named.{fault};
-ghost use Rattle.sample_graphs.specs.of_format.Numbers.{overwritten};
-ghost use Rattle.sample_graphs.specs.of_format.Verdict.{faults_of};
+ghost use Rattle.sample_graphs.specs.of_format.Terms.{faults_of, overwritten};
 ghost use Rattle.std.specs.Prelude.{◌≡◌, ◌+◌, [], ◌∷◌};
 
 /// Each metadata page above page 0 is named once. A master without pairs is sound where there is no such page.

@@ -3,8 +3,7 @@ ghost use Rattle.sample_contents.specs.Judged.{contents_at, entry, list_at};
 ghost use Rattle.sample_contents.specs.Named.{two_databases};
 ghost use Rattle.sample_contents.specs.Tables.{hash_live};
 ghost use Rattle.sample_graphs.specs.Named.{fault};
-ghost use Rattle.sample_graphs.specs.of_format.Lists.{BytesKey};
-ghost use Rattle.sample_graphs.specs.of_format.Verdict.{faults_of};
+ghost use Rattle.sample_graphs.specs.of_format.Terms.{BytesKey, faults_of};
 ghost use Rattle.std.specs.Prelude.{◌≡◌, codes, [], ◌∷◌};
 
 /// No row holds on a file with a btree and a hash that have names.

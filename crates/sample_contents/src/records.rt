@@ -1,7 +1,7 @@
 ghost use Rattle.sample_contents.specs.Fields.{deleted, one_leaf, live, text};
 ghost use Rattle.sample_contents.specs.Records.{counted_records, counted_records_twice, record_in_a_chain, records};
 ghost use Rattle.sample_graphs.specs.Named.{fault};
-ghost use Rattle.sample_graphs.specs.of_format.Verdict.{faults_of};
+ghost use Rattle.sample_graphs.specs.of_format.Terms.{faults_of};
 ghost use Rattle.std.specs.Prelude.{◌≡◌, [], ◌∷◌};
 
 /// A count is the number of entries below, deleted ones among them.

@@ -1,7 +1,7 @@
 ghost use Rattle.sample_contents.specs.Fields.{gone, live};
 ghost use Rattle.sample_contents.specs.Separators.{split, split_by_chain, split_in_three, split_set, split_twice};
 ghost use Rattle.sample_graphs.specs.Named.{fault};
-ghost use Rattle.sample_graphs.specs.of_format.Verdict.{faults_of};
+ghost use Rattle.sample_graphs.specs.of_format.Terms.{faults_of};
 ghost use Rattle.std.specs.Prelude.{◌≡◌, [], ◌∷◌};
 
 /// Separators that are right: a key is the least below its child, or just above all before it; the first key is never compared.

@@ -1,6 +1,6 @@
 ghost use Rattle.sample_contents.specs.StructureFaults.{structure_chain_length, structure_leaf_kind, structure_leaf_link, structure_leaf_link_many};
 ghost use Rattle.sample_graphs.specs.Named.{fault};
-ghost use Rattle.sample_graphs.specs.of_format.Verdict.{faults_of};
+ghost use Rattle.sample_graphs.specs.of_format.Terms.{faults_of};
 ghost use Rattle.std.specs.Prelude.{◌≡◌, [], ◌∷◌};
 
 /// Rows of chains and trees.

@@ -1,7 +1,7 @@
 ghost use Rattle.sample_contents.specs.Fields.{deleted, dup_leaf, hash_set, hash_text, hash_tree, pair, recno_leaf, text};
 ghost use Rattle.sample_contents.specs.Tables.{buckets, hash_live, longer_bucket, one_bucket, three_buckets, with_hash_item, zero_bucket};
 ghost use Rattle.sample_graphs.specs.Named.{fault};
-ghost use Rattle.sample_graphs.specs.of_format.Verdict.{faults_of};
+ghost use Rattle.sample_graphs.specs.of_format.Terms.{faults_of};
 ghost use Rattle.std.specs.Prelude.{◌≡◌, [], ◌∷◌};
 
 /// Pairs in their buckets, in any order; and in another one.

@@ -2,8 +2,7 @@ ghost use Rattle.sample_contents.specs.Fields.{dup_leaf, leaf, live, text};
 ghost use Rattle.sample_contents.specs.Trees.{linked_leaf, mixed_leaves, record_leaves, set_above, set_in_a_table, three_levels, turned_leaves, two_leaves};
 ghost use Rattle.sample_contents.specs.Trees.{two_sets};
 ghost use Rattle.sample_graphs.specs.Named.{fault};
-ghost use Rattle.sample_graphs.specs.of_format.Numbers.{overwritten};
-ghost use Rattle.sample_graphs.specs.of_format.Verdict.{faults_of};
+ghost use Rattle.sample_graphs.specs.of_format.Terms.{faults_of, overwritten};
 ghost use Rattle.std.specs.Prelude.{◌≡◌, ◌+◌, [], ◌∷◌};
 
 /// A leaf that is alone has no neighbour.

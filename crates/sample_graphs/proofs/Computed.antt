@@ -1,16 +1,10 @@
 -- What is unfolded to compute the faults of a file.
 use Rattle.std.specs.Prelude.{⊤}
 use Rattle.sample_pages.proofs.Computed.{pages}
-use Rattle.sample_pages.specs.of_format.References.{refs, fit_code}
-use Rattle.sample_pages.specs.of_format.Graph.{all_references, owners, is_anchor, is_reserve, reaches_in}
-use Rattle.sample_pages.specs.of_format.Chains.{chain_in, pieces_of, value_of}
-use Rattle.sample_pages.specs.of_format.Leaves.{leaves_in, root_references, leaf_places}
-use Rattle.sample_pages.specs.of_format.Contents.{pairs_of, data_of, tree_pairs, tree_entries, table_pairs}
-use Rattle.sample_pages.specs.of_format.ContentRows.{inner_pages}
-use Rattle.sample_pages.specs.of_format.Master.{master_pairs}
-use Rattle.sample_pages.specs.of_format.File.{file_of}
-use Rattle.sample_pages.specs.of_format.Verdict.{head_faults, tail_faults, form_faults, reference_faults, ownership_faults, reach_faults}
-use Rattle.sample_pages.specs.of_format.Verdict.{structure_faults, master_faults, contents_faults, faults_in, faults_of}
+use Rattle.sample_pages.specs.of_format.Terms.{all_references, chain_in, contents_faults, data_of, faults_in, faults_of, file_of, fit_code, form_faults}
+use Rattle.sample_pages.specs.of_format.Terms.{head_faults, inner_pages, is_anchor, is_reserve, leaf_places, leaves_in, master_faults, master_pairs, owners}
+use Rattle.sample_pages.specs.of_format.Terms.{ownership_faults, pairs_of, pieces_of, reach_faults, reaches_in, reference_faults, refs, root_references}
+use Rattle.sample_pages.specs.of_format.Terms.{structure_faults, table_pairs, tail_faults, tree_entries, tree_pairs, value_of}
 
 unfoldable pub references : ⊤
 unfolding refs fit_code all_references owners is_anchor is_reserve reaches_in

@@ -1,6 +1,6 @@
 -- Files that are sound but for a few bytes, which a careless reader would follow. Source: docs/FORMAT.md, "References" to "Stage 5, reach".
 use Rattle.std.specs.Prelude.{ℕ, ◌+◌, ◌*◌, List, [], ◌∷◌, ◌++◌, replicate}
-use Rattle.sample_pages.specs.of_format.Numbers.{overwritten}
+use Rattle.sample_pages.specs.of_format.Terms.{overwritten}
 use Rattle.sample_pages.specs.OnePair.{one_pair}
 use Rattle.sample_graphs.specs.Worked.{chain_of_two_pairs, small_hash_table}
 

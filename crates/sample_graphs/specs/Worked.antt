@@ -1,6 +1,6 @@
 -- Small files with several pages, written by hand. Source: docs/FORMAT.md, "References" to "Stage 5, reach".
 use Rattle.std.specs.Prelude.{ℕ, ◌+◌, ◌*◌, List, [], ◌∷◌, ◌++◌, replicate}
-use Rattle.sample_pages.specs.of_format.Numbers.{overwritten}
+use Rattle.sample_pages.specs.of_format.Terms.{overwritten}
 
 -- samples/shared-chain.db: a chain that a key of an internal page and a key of a leaf share
 abbrev pub shared_chain : List ℕ

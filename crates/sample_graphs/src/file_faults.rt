@@ -1,4 +1,4 @@
-ghost use Rattle.sample_pages.specs.of_format.Verdict.{LeftOut, faults_of, verdict_of};
+ghost use Rattle.sample_pages.specs.of_format.Terms.{LeftOut, faults_of, verdict_of};
 ghost use Rattle.sample_pages.specs.of_format.declared.kinds.Unsupported.TheVariants.{Checksum, Encryption, Heap, LargePage, Partition, Version};
 ghost use Rattle.sample_graphs.specs.Named.{fault};
 ghost use Rattle.sample_graphs.specs.Tails.{file_tail, file_tail_many};

@@ -1,4 +1,4 @@
-ghost use Rattle.sample_pages.specs.of_format.Verdict.{faults_of};
+ghost use Rattle.sample_pages.specs.of_format.Terms.{faults_of};
 ghost use Rattle.sample_graphs.specs.Hostile.{bucket_without_a_page, chain_counted_once, free_page_in_a_ring, leaf_as_its_own_set, own_child};
 ghost use Rattle.sample_graphs.specs.Hostile.{own_next_hash_page, own_next_overflow_page, root_is_a_recno_leaf, root_of_zero};
 ghost use Rattle.sample_graphs.specs.Named.{fault};

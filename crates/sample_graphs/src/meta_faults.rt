@@ -1,4 +1,4 @@
-ghost use Rattle.sample_pages.specs.of_format.Verdict.{LeftOut, faults_of, verdict_of};
+ghost use Rattle.sample_pages.specs.of_format.Terms.{LeftOut, faults_of, verdict_of};
 ghost use Rattle.sample_pages.specs.of_format.declared.kinds.Unsupported.TheVariants.{Checksum, Compression, Encryption, Extent, OwnHash, Partition, Version, WrappedQueue};
 ghost use Rattle.sample_graphs.specs.MetaForms.{form_btree_flags_one, form_checksum_many, form_compression_one, form_encryption_many, form_extent_many};
 ghost use Rattle.sample_graphs.specs.MetaForms.{form_hash_buckets_many, form_hash_flags_many, form_hash_masks_many, form_meta_magic_one};

@@ -1,4 +1,4 @@
-ghost use Rattle.sample_pages.specs.of_format.Verdict.{faults_of};
+ghost use Rattle.sample_pages.specs.of_format.Terms.{faults_of};
 ghost use Rattle.sample_graphs.specs.Named.{fault};
 ghost use Rattle.sample_graphs.specs.Ownership.{owner_no_owner, owner_no_owner_many, owner_too_many, owner_too_many_many, reach_unreached};
 ghost use Rattle.sample_graphs.specs.Ownership.{reach_unreached_many};

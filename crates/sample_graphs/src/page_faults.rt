@@ -1,4 +1,4 @@
-ghost use Rattle.sample_pages.specs.of_format.Verdict.{faults_of};
+ghost use Rattle.sample_pages.specs.of_format.Terms.{faults_of};
 ghost use Rattle.sample_graphs.specs.Named.{fault};
 ghost use Rattle.sample_graphs.specs.PageForms.{form_entry_count_one, form_index_room_one, form_item_extent_many, form_item_offset_many, form_item_type_one};
 ghost use Rattle.sample_graphs.specs.PageForms.{form_level_many, form_overflow_room_many};

@@ -1,4 +1,4 @@
-ghost use Rattle.sample_pages.specs.of_format.Verdict.{Faulty, LeftOut, faults_of, verdict_of};
+ghost use Rattle.sample_pages.specs.of_format.Terms.{Faulty, LeftOut, faults_of, verdict_of};
 ghost use Rattle.sample_pages.specs.of_format.declared.kinds.Unsupported.TheVariants.{LargePage, Version};
 ghost use Rattle.sample_graphs.specs.Named.{fault};
 ghost use Rattle.sample_graphs.specs.Worked.{empty_queue_big};

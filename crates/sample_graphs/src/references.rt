@@ -1,4 +1,4 @@
-ghost use Rattle.sample_pages.specs.of_format.Verdict.{faults_of};
+ghost use Rattle.sample_pages.specs.of_format.Terms.{faults_of};
 ghost use Rattle.sample_graphs.specs.Named.{fault};
 ghost use Rattle.sample_graphs.specs.References.{reference_out_of_range, reference_out_of_range_many, reference_wrong_back, reference_wrong_back_many};
 ghost use Rattle.sample_graphs.specs.References.{reference_wrong_kind, reference_wrong_kind_many, reference_wrong_level_many};

@@ -1,4 +1,4 @@
-ghost use Rattle.sample_pages.specs.of_format.Verdict.{faults_of};
+ghost use Rattle.sample_pages.specs.of_format.Terms.{faults_of};
 ghost use Rattle.sample_graphs.specs.Named.{fault};
 ghost use Rattle.sample_graphs.specs.Worked.{child_named_twice, ring_of_overflow_pages, shared_chain, shared_chain_counted_once, small_hash_table};
 ghost use Rattle.std.specs.Prelude.{◌≡◌, [], ◌∷◌};

@@ -4,9 +4,7 @@ use Rattle.sample_graphs.proofs.of_sample_pages.Computed.{pages}
 use Rattle.bdb_homes.specs.Claims.{all_claims, claim_of}
 use Rattle.bdb_homes.specs.Homes.{claimed_in, home, led, own_home, spread}
 use Rattle.bdb_survey.specs.Salvage.{salvaged_file, salvaged_page}
-use Rattle.bdb_survey.specs.of_format.File.{file_as}
-use Rattle.bdb_survey.specs.of_format.References.{fit_code}
-use Rattle.bdb_survey.specs.of_format.Rows.{metadata_rows}
+use Rattle.bdb_survey.specs.of_format.Terms.{file_as, fit_code, metadata_rows}
 
 unfoldable pub homes_of : ⊤
 unfolding pages all_claims claim_of claimed_in home led own_home spread salvaged_file salvaged_page file_as fit_code metadata_rows

@@ -1,5 +1,5 @@
 ghost use Rattle.std.specs.Prelude.{◌≡◌, ◌∷◌, [], Some, None};
-ghost use Rattle.bdb_survey.specs.of_format.Numbers.{overwritten};
+ghost use Rattle.bdb_survey.specs.of_format.Terms.{overwritten};
 ghost use Rattle.bdb_survey.specs.of_format.declared.kinds.Order.TheVariants.{Little};
 ghost use Rattle.bdb_survey.specs.Salvage.{salvaged_file};
 ghost use Rattle.sample_graphs.specs.Worked.{child_named_twice, shared_chain, small_hash_table};

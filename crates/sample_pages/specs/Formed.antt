@@ -1,6 +1,6 @@
 -- Images on which no row of the file or of the form of a page holds. Source: docs/FORMAT.md, "Faults".
 use Rattle.std.specs.Prelude.{ℕ, false, List, [], ◌∷◌, ◌++◌, replicate}
-use Rattle.bdb_format.specs.Page.{Inline, Set, Chain, Tree, BtreeFields, Page, Meta, Hash, Internal, RecnoInternal, Leaf, DupLeaf, Overflow}
+use Rattle.bdb_format.specs.Terms.{BtreeFields, Chain, DupLeaf, Hash, Inline, Internal, Leaf, Meta, Overflow, Page, RecnoInternal, Set, Tree}
 
 -- samples/formed-btree-little.db: a btree with one leaf
 abbrev pub formed_btree_little : List ℕ

@@ -1,7 +1,6 @@
 -- A btree file with the one pair `a`, `b`, and files that differ from it in a few bytes. Source: docs/FORMAT.md, "The sample file".
 use Rattle.std.specs.Prelude.{ℕ, ◌+◌, Bool, false, List, [], ◌∷◌, ◌++◌, replicate}
-use Rattle.bdb_format.specs.Numbers.{overwritten}
-use Rattle.bdb_format.specs.Page.{Inline, Item, BtreeFields, Page, Meta, Leaf}
+use Rattle.bdb_format.specs.Terms.{BtreeFields, Inline, Item, Leaf, Meta, Page, overwritten}
 
 -- samples/one-pair-little.db
 abbrev pub one_pair : List ℕ

@@ -4,8 +4,8 @@ use Rattle.std.specs.List.{flat_map}
 use Rattle.bdb_format.specs.declared.kinds.Order.{Order}
 use Rattle.bdb_format.specs.declared.kinds.Order.TheVariants.{Big, Little}
 use Rattle.bdb_format.specs.declared.pages.Header.{Header}
-use Rattle.bdb_format.specs.Page.{Page, Inline, Set, Chain, Tree, Unknown, BtreeFields, HashFields, QueueFields, Free, Meta, Hash, Internal, RecnoInternal}
-use Rattle.bdb_format.specs.Page.{Leaf, RecnoLeaf, DupLeaf, Overflow, Queue}
+use Rattle.bdb_format.specs.Terms.{BtreeFields, Chain, DupLeaf, Free, Hash, HashFields, Inline, Internal, Leaf, Meta, Overflow, Page, Queue, QueueFields}
+use Rattle.bdb_format.specs.Terms.{RecnoInternal, RecnoLeaf, Set, Tree, Unknown}
 
 -- numbers of two and of four bytes, given from the low end
 abbrev pub two : Order → ℕ → ℕ → List ℕ

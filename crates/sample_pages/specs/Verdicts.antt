@@ -3,11 +3,7 @@ use Rattle.std.specs.Prelude.{ℕ, ◌+◌, ◌*◌, List, map, take, drop, Opti
 use Rattle.std.specs.List.{range_with_len}
 use Rattle.bdb_format.specs.declared.metadata.Head.{Head}
 use Rattle.bdb_format.specs.declared.metadata.MetaFault.{MetaFault}
-use Rattle.bdb_format.specs.Table.{answer}
-use Rattle.bdb_format.specs.Page.{Page}
-use Rattle.bdb_format.specs.Reading.{abstract_page}
-use Rattle.bdb_format.specs.HeadOf.{head_of, head_rows, head_fault, faulted}
-use Rattle.bdb_format.specs.Rows.{form_code, page_code, queue_code}
+use Rattle.bdb_format.specs.Terms.{Page, abstract_page, answer, faulted, form_code, head_fault, head_of, head_rows, page_code, queue_code}
 
 -- what page 0 says of the file, or the first row of the file that holds
 abbrev pub head_answer : List ℕ → Result Head MetaFault

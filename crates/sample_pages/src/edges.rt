@@ -1,8 +1,7 @@
-ghost use Rattle.bdb_format.specs.Numbers.{overwritten};
+ghost use Rattle.bdb_format.specs.Terms.{body_code, listed_code, overwritten};
 ghost use Rattle.bdb_format.specs.declared.pages.PageType.TheVariants.{DupLeaf as DupLeafPage, Hash as HashPage, Internal as InternalPage, Leaf as LeafPage};
 ghost use Rattle.bdb_format.specs.declared.pages.PageType.TheVariants.{Overflow as OverflowPage, RecnoInternal as RecnoInternalPage};
 ghost use Rattle.bdb_format.specs.declared.pages.PageType.TheVariants.{RecnoLeaf as RecnoLeafPage};
-ghost use Rattle.bdb_format.specs.Rows.{body_code, listed_code};
 ghost use Rattle.bdb_format.specs.declared.kinds.Order.TheVariants.{Big, Little};
 ghost use Rattle.sample_pages.specs.Edges.{chain_key_page, chain_leaf, hash_pair, key_page};
 ghost use Rattle.sample_pages.specs.Pages.{dup_leaf_page, hash_page, internal_page, leaf_page, overflow_page, recno_internal_page, recno_leaf_page, zeros};

@@ -1,4 +1,4 @@
-ghost use Rattle.bdb_format.specs.Reading.{abstract_page};
+ghost use Rattle.bdb_format.specs.Terms.{abstract_page};
 ghost use Rattle.bdb_format.specs.declared.kinds.Order.TheVariants.{Big, Little};
 ghost use Rattle.bdb_format.specs.declared.metadata.FileKind.TheVariants.{Btree, Hash, Queue};
 ghost use Rattle.sample_pages.specs.Formed.{btree_big_pages, formed_btree_big, formed_btree_little, formed_hash_big, formed_hash_free_big, formed_hash_little};

@@ -1,7 +1,4 @@
-ghost use Rattle.bdb_format.specs.Hashing.{bucket, first_page, group, hash5};
-ghost use Rattle.bdb_format.specs.Less.{less};
-ghost use Rattle.bdb_format.specs.Numbers.{number, pad4, spelled};
-ghost use Rattle.bdb_format.specs.Rows.{records_per_page};
+ghost use Rattle.bdb_format.specs.Terms.{bucket, first_page, group, hash5, less, number, pad4, records_per_page, spelled};
 ghost use Rattle.bdb_format.specs.declared.kinds.Order.TheVariants.{Big, Little};
 ghost use Rattle.std.specs.Prelude.{◌≡◌, ◌^◌, ◌-◌, true, false, [], ◌∷◌};
 

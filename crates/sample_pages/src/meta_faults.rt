@@ -1,4 +1,4 @@
-ghost use Rattle.bdb_format.specs.HeadOf.{form_fault, head_fault};
+ghost use Rattle.bdb_format.specs.Terms.{form_fault, head_fault};
 ghost use Rattle.bdb_format.specs.declared.kinds.Unsupported.TheVariants.{Checksum, Compression, Encryption, Extent, Heap, LargePage, OwnHash, Partition};
 ghost use Rattle.bdb_format.specs.declared.kinds.Unsupported.TheVariants.{Version, WrappedQueue};
 ghost use Rattle.bdb_format.specs.declared.metadata.MetaFault.TheVariants.{Fault, Unsupported as LeftOut};

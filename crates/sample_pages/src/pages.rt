@@ -1,5 +1,4 @@
-ghost use Rattle.bdb_format.specs.Page.{NoType, Zero};
-ghost use Rattle.bdb_format.specs.Reading.{abstract_page};
+ghost use Rattle.bdb_format.specs.Terms.{NoType, Zero, abstract_page};
 ghost use Rattle.bdb_format.specs.declared.kinds.Order.TheVariants.{Big, Little};
 ghost use Rattle.sample_pages.specs.Pages.{btree_page, btree_read, dup_leaf_page, dup_leaf_read, free_page, free_read, hash_page, hash_read, internal_page};
 ghost use Rattle.sample_pages.specs.Pages.{internal_read, leaf_page, leaf_read, overflow_page, overflow_read, page_without_type, queue_meta_page};

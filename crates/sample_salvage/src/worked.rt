@@ -3,7 +3,7 @@ ghost use Rattle.sample_contents.specs.of_sample_pages.Formed.{formed_hash_big, 
 ghost use Rattle.sample_contents.specs.Duplicates.{set_on_two_leaves};
 ghost use Rattle.sample_contents.specs.Fields.{text};
 ghost use Rattle.sample_contents.specs.of_sample_graphs.Worked.{child_named_twice, shared_chain};
-ghost use Rattle.bdb_survey.specs.of_format.Numbers.{overwritten};
+ghost use Rattle.bdb_survey.specs.of_format.Terms.{overwritten};
 ghost use Rattle.bdb_survey.specs.of_format.declared.kinds.Order.TheVariants.{Big, Little};
 ghost use Rattle.bdb_survey.specs.Salvage.{is_whole, loose, salvaged_file, stored, whole_set};
 ghost use Rattle.std.specs.Prelude.{◌≡◌, ◌+◌, ◌*◌, [], ◌∷◌, true, false, length, drop, take};

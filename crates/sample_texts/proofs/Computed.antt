@@ -1,10 +1,7 @@
 -- What is unfolded to compute the dump text of an image, and what a text is read as.
 use Rattle.std.specs.Prelude.{⊤}
 use Rattle.std.specs.Fmt.{digits}
-use Rattle.bdb_text_format.specs.TextSpelling.{bytes_spelled, spelling}
-use Rattle.bdb_text_format.specs.Written.{header_text, section_text, dump_text}
-use Rattle.bdb_text_format.specs.Reasons.{reason_of, text_fault}
-use Rattle.bdb_text_format.specs.Sections.{section_read, text_sections}
+use Rattle.bdb_text_format.specs.Terms.{bytes_spelled, dump_text, header_text, reason_of, section_read, section_text, spelling, text_fault, text_sections}
 use Rattle.sample_contents.proofs.Computed.{contents}
 
 unfoldable pub texts : ⊤

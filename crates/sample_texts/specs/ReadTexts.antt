@@ -2,8 +2,7 @@
 use Rattle.std.specs.Prelude.{◌≡◌, ℕ, List, ◌∷◌, Some, None}
 use Prim.Native.String.{String}
 use Rattle.bdb_text_format.specs.declared.sections.Section.{Section}
-use Rattle.bdb_text_format.specs.Reasons.{text_fault}
-use Rattle.bdb_text_format.specs.Sections.{text_sections}
+use Rattle.bdb_text_format.specs.Terms.{text_fault, text_sections}
 use Rattle.sample_texts.specs.Texts.{lines}
 use Rattle.bdb_text_format.specs.declared.faults.TextReason.{TextReason}
 

@@ -2,11 +2,8 @@
 use Rattle.std.specs.Prelude.{ℕ, Bool, List, [], ◌∷◌, ◌++◌, codes}
 use Prim.Native.String.{String}
 use Rattle.std.specs.List.{flat_map}
-use Rattle.bdb_text_format.specs.of_format.Databases.{databases}
-use Rattle.bdb_text_format.specs.of_format.File.{file_of}
-use Rattle.bdb_text_format.specs.of_format.Numbers.{overwritten}
-use Rattle.bdb_text_format.specs.LineEnd.{line}
-use Rattle.bdb_text_format.specs.Written.{dump_text}
+use Rattle.bdb_text_format.specs.of_format.Terms.{databases, file_of, overwritten}
+use Rattle.bdb_text_format.specs.Terms.{dump_text, line}
 use Rattle.sample_contents.specs.Fields.{inline, one_leaf, pair, text}
 
 -- the dump text of an image, with all its databases

@@ -1,4 +1,4 @@
-ghost use Rattle.bdb_text_format.specs.of_format.Databases.{plain_settings};
+ghost use Rattle.bdb_text_format.specs.of_format.Terms.{plain_settings};
 ghost use Rattle.bdb_text_format.specs.of_format.declared.kinds.Kind.TheVariants.{Btree, Hash, Queue, Recno};
 ghost use Rattle.bdb_text_format.specs.of_format.declared.kinds.Order.TheVariants.{Big, Little};
 ghost use Rattle.bdb_text_format.specs.declared.pairs.Key.TheVariants.{Bytes, Number};

@@ -1,6 +1,6 @@
 -- Pages in both byte orders, and a file whose items overlap. The other order is that of an independent reading.
 use Rattle.std.specs.Prelude.{ℕ, List, [], ◌∷◌, ◌++◌, replicate}
-use Rattle.bdb_law_turned.specs.of_format.Numbers.{overwritten}
+use Rattle.bdb_law_turned.specs.of_format.Terms.{overwritten}
 use Rattle.sample_pages.specs.OnePair.{one_pair}
 
 -- the file of one pair, whose first item has a length of 5, so that it goes into the second

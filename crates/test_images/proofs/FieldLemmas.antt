@@ -6,7 +6,7 @@ use Rattle.std.proofs.lemmas.List.Sums.{fold_more}
 use Rattle.test_images.specs.declared.field.Field.{Field}
 use Rattle.test_images.specs.Fields.{field_put}
 use Rattle.bdb_tree.specs.of_format.declared.kinds.Order.{Order}
-use Rattle.bdb_tree.specs.of_format.Numbers.{overwritten, spelled}
+use Rattle.bdb_tree.specs.of_format.Terms.{overwritten, spelled}
 use Rattle.bdb_tree.proofs.of_format.SpellingLemmas.{length-spelled}
 
 pub all_spelled : (n : ℕ) (order : Order) (x : ℕ) (bytes : List ℕ) → length bytes ≡ n → overwritten bytes 0 (spelled n order x) ≡ spelled n order x

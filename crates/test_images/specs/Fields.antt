@@ -1,7 +1,7 @@
 -- Fields that are written over bytes. Source: this project's tests.
 use Rattle.std.specs.Prelude.{ℕ, nat_le, ◌+◌, if◌then◌else◌, List, [], ◌∷◌, length}
 use Rattle.bdb_tree.specs.of_format.declared.kinds.Order.{Order}
-use Rattle.bdb_tree.specs.of_format.Numbers.{overwritten, spelled}
+use Rattle.bdb_tree.specs.of_format.Terms.{overwritten, spelled}
 use Rattle.test_images.specs.declared.field.Field.{Field}
 use Rattle.test_images.specs.declared.field.Field.TheVariants.{Byte, Two, Four, Bytes}
 

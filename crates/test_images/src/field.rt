@@ -1,7 +1,7 @@
 ghost use Rattle.std.specs.List.{fold};
 ghost use Rattle.std.specs.Prelude.{◌≡◌};
 ghost use Rattle.test_images.specs.Fields.{field_put, put_at};
-ghost use Rattle.bdb_tree.specs.of_format.Numbers.{spelled};
+ghost use Rattle.bdb_tree.specs.of_format.Terms.{spelled};
 
 use bdb_tree::{Order, put_u16, put_u32};
 

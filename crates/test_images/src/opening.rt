@@ -2,10 +2,7 @@
 
 ghost use Rattle.std.specs.Prelude.{◌≡◌, [], IfSome, IsTrue, false};
 ghost use Rattle.bdb_tree.specs.of_image.Linked.{HasMetadata};
-ghost use Rattle.bdb_tree.specs.of_format.File.{file_of};
-ghost use Rattle.bdb_tree.specs.of_format.Page.{BtreeFields};
-ghost use Rattle.bdb_tree.specs.of_format.Verdict.{structure_faults};
-ghost use Rattle.bdb_tree.specs.of_format.Flags.{is_recno};
+ghost use Rattle.bdb_tree.specs.of_format.Terms.{BtreeFields, file_of, is_recno, structure_faults};
 
 use bdb_tree::{BtreeMeta, Linked, Meta, check_chains, check_trees};
 use std::alloc::Global;

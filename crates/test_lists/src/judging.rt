@@ -1,9 +1,7 @@
 //! The verdict on a file that was built, and what is read of it.
 
 ghost use Rattle.std.specs.Prelude.{◌≡◌, ◌<◌, ◌≤◌, ◌^◌, IfOk, None, length, true};
-ghost use Rattle.bdb_text_format.specs.of_format.Databases.{databases};
-ghost use Rattle.bdb_text_format.specs.of_format.File.{file_of};
-ghost use Rattle.bdb_text_format.specs.of_format.Verdict.{verdict_of};
+ghost use Rattle.bdb_text_format.specs.of_format.Terms.{databases, file_of, verdict_of};
 
 use bdb_file::{Datum, Db, Found, KeyView, Scan, Sound, is_same, verify};
 use bdb_text_format::{Bytes, KeyRef, PairRef, PairSlice, Steps};

@@ -1,8 +1,6 @@
 use Rattle.std.proofs.Common.{List, ℕ, subst}
 use Rattle.bdb_faults.specs.Notes.{NotesAll}
-use Rattle.bdb_ranks.specs.of_format.ContentRows.{database_faults}
-use Rattle.bdb_ranks.specs.of_format.File.{file_of}
-use Rattle.bdb_ranks.specs.of_format.Page.{BtreeFields}
+use Rattle.bdb_ranks.specs.of_format.Terms.{BtreeFields, database_faults, file_of}
 use Rattle.bdb_btree.proofs.contents.note_contents.Goals as goal
 
 pub returns-clause-noted : goal.returns-clause-noted

@@ -1,8 +1,7 @@
 use Rattle.std.proofs.Common.{[], cond, subst, sym}
 use Rattle.bdb_faults.specs.Notes.{NotesAll}
 use Rattle.bdb_ranks.specs.of_format.declared.rows.ContentsRow.TheVariants.{Count}
-use Rattle.bdb_ranks.specs.of_format.ContentRows.{has_wrong_count, inner_pages}
-use Rattle.bdb_ranks.specs.of_format.File.{file_of, page_at}
+use Rattle.bdb_ranks.specs.of_format.Terms.{file_of, has_wrong_count, inner_pages, page_at}
 use Rattle.bdb_btree.specs.Noted.{faults_at}
 use Rattle.bdb_btree.proofs.contents.note_counted.Goals as goal
 

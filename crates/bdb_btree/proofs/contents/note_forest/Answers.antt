@@ -1,9 +1,7 @@
 use Rattle.std.proofs.Common.{◌∙◌, List, ℕ, subst, sym}
 use Rattle.bdb_faults.specs.Notes.{Notes, NotesAll}
 use Rattle.bdb_ranks.specs.of_format.declared.rows.ContentsRow.TheVariants.{Separator}
-use Rattle.bdb_ranks.specs.of_format.ContentRows.{has_wrong_separator, inner_pages}
-use Rattle.bdb_ranks.specs.of_format.Contents.{tree_pairs}
-use Rattle.bdb_ranks.specs.of_format.File.{file_of, page_at}
+use Rattle.bdb_ranks.specs.of_format.Terms.{file_of, has_wrong_separator, inner_pages, page_at, tree_pairs}
 use Rattle.bdb_btree.specs.Bounds.{OrderedIf}
 use Rattle.bdb_btree.specs.Counts.{IsKeyed}
 use Rattle.bdb_btree.specs.Noted.{faults_at}

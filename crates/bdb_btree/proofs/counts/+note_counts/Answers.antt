@@ -1,7 +1,6 @@
 use Rattle.std.proofs.Common.{◌∙◌, rules}
 use Rattle.bdb_ranks.specs.of_format.declared.rows.ContentsRow.TheVariants.{Count}
-use Rattle.bdb_ranks.specs.of_format.ContentRows.{has_wrong_count}
-use Rattle.bdb_ranks.specs.of_format.File.{file_of, page_at}
+use Rattle.bdb_ranks.specs.of_format.Terms.{file_of, has_wrong_count, page_at}
 use Rattle.bdb_ranks.specs.of_layout.Seen.{internal_item_seen}
 use Rattle.bdb_btree.proofs.CountLemmas.{all_counted, all_passed, more_passed, none_passed}
 use Rattle.bdb_btree.proofs.ItemLemmas.{leaf_noted}

@@ -1,4 +1,4 @@
-use Rattle.bdb_ranks.specs.of_format.File.{file_of}
+use Rattle.bdb_ranks.specs.of_format.Terms.{file_of}
 use Rattle.bdb_btree.proofs.CountLemmas.{IsPassed}
 use Rattle.bdb_btree.proofs.ItemLemmas.{level}
 use Rattle.bdb_btree.proofs.counts.+note_counts.Given as goal

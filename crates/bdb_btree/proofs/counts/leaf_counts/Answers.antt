@@ -1,7 +1,6 @@
 use Rattle.std.proofs.Common.{◌∙◌, ap, sym}
 use Rattle.std.specs.List.{fold}
-use Rattle.bdb_ranks.specs.of_format.Contents.{pairs_of}
-use Rattle.bdb_ranks.specs.of_format.File.{file_of}
+use Rattle.bdb_ranks.specs.of_format.Terms.{file_of, pairs_of}
 use Rattle.bdb_btree.specs.Counts.{count_pair, counts_of}
 use Rattle.bdb_btree.proofs.CountLemmas.{leaf_counted}
 use Rattle.bdb_btree.proofs.ItemLemmas.{leaf_tree}

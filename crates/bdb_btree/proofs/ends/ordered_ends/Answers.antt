@@ -1,5 +1,5 @@
 use Rattle.std.proofs.Common.{◌∙◌, ap, arith, subst, sym}
-use Rattle.bdb_ranks.specs.of_format.File.{file_of}
+use Rattle.bdb_ranks.specs.of_format.Terms.{file_of}
 use Rattle.bdb_btree.specs.Bounds.{DontFall, ends_of}
 use Rattle.bdb_ranks.specs.of_overflow.Held.{value_held}
 use Rattle.bdb_btree.proofs.EndLemmas.{leaf_ends, no_ends_there}

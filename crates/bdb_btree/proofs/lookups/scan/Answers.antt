@@ -1,4 +1,4 @@
-use Rattle.bdb_ranks.specs.of_format.File.{file_of}
+use Rattle.bdb_ranks.specs.of_format.Terms.{file_of}
 use Rattle.bdb_btree.proofs.ScanLemmas.{list_of_pairs, tree_open}
 use Rattle.bdb_btree.proofs.lookups.scan.Goals as goal
 

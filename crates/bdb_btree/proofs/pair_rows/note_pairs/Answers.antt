@@ -1,7 +1,6 @@
 use Rattle.std.proofs.Common.{◌≡◌, ◌∙◌, List, ℕ, ap, map, refl, subst, sym}
 use Rattle.bdb_faults.specs.Notes.{Notes}
-use Rattle.bdb_ranks.specs.of_format.Contents.{tree_pairs}
-use Rattle.bdb_ranks.specs.of_format.File.{File, file_of}
+use Rattle.bdb_ranks.specs.of_format.Terms.{File, file_of, tree_pairs}
 use Rattle.bdb_ranks.specs.of_image.Linked.{IsForest}
 use Rattle.bdb_btree.specs.Held.{FitsPassed, pair_held, passed_seen, stored_as, tree_items}
 use Rattle.bdb_btree.specs.Rows.{next_pair, pair_faults}

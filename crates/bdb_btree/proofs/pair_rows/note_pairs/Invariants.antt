@@ -1,6 +1,5 @@
 use Rattle.std.proofs.Common.{◌≡◌}
-use Rattle.bdb_ranks.specs.of_format.Contents.{tree_pairs}
-use Rattle.bdb_ranks.specs.of_format.File.{file_of}
+use Rattle.bdb_ranks.specs.of_format.Terms.{file_of, tree_pairs}
 use Rattle.bdb_btree.proofs.HeldLemmas.{HeldTo}
 use Rattle.bdb_btree.proofs.pair_rows.note_pairs.Given as goal
 

@@ -2,11 +2,7 @@ use Rattle.std.proofs.Common.{◌≡◌, ◌∙◌, ◌<◌, List, ℕ, arith, c
 use Rattle.std.specs.Prelude.{◌==◌}
 use Rattle.bdb_faults.specs.Notes.{NotesAll}
 use Rattle.bdb_ranks.specs.of_format.declared.rows.ContentsRow.TheVariants.{Separator}
-use Rattle.bdb_ranks.specs.of_format.Chains.{value_of}
-use Rattle.bdb_ranks.specs.of_format.ContentRows.{has_wrong_separator, inner_pages}
-use Rattle.bdb_ranks.specs.of_format.Contents.{tree_pairs}
-use Rattle.bdb_ranks.specs.of_format.File.{File, file_of, page_at}
-use Rattle.bdb_ranks.specs.of_format.Page.{Internal}
+use Rattle.bdb_ranks.specs.of_format.Terms.{File, Internal, file_of, has_wrong_separator, inner_pages, page_at, tree_pairs, value_of}
 use Rattle.bdb_ranks.specs.of_image.Linked.{FitsLeafPage, IsForest}
 use Rattle.bdb_ranks.specs.of_layout.Seen.{internal_item_seen, key_seen}
 use Rattle.bdb_ranks.specs.of_overflow.Datum.{FitsContent}

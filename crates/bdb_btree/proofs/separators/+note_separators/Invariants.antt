@@ -1,5 +1,5 @@
 use Rattle.std.proofs.Common.{◌≡◌, take}
-use Rattle.bdb_ranks.specs.of_format.File.{file_of}
+use Rattle.bdb_ranks.specs.of_format.Terms.{file_of}
 use Rattle.bdb_btree.proofs.ItemLemmas.{level}
 use Rattle.bdb_btree.proofs.SeenLemmas.{AreSeen}
 use Rattle.bdb_btree.proofs.separators.+note_separators.Given as goal

@@ -1,4 +1,4 @@
-use Rattle.bdb_ranks.specs.of_format.File.{file_of}
+use Rattle.bdb_ranks.specs.of_format.Terms.{file_of}
 use Rattle.bdb_ranks.proofs.of_tree.TreeLemmas.{leaf_inside}
 use Rattle.bdb_btree.proofs.WalkLemmas.{keys_fit, no_pairs, view_pairs}
 use Rattle.bdb_btree.proofs.walk.page_pairs.Goals as goal

@@ -1,4 +1,4 @@
-use Rattle.bdb_ranks.specs.of_format.File.{file_of}
+use Rattle.bdb_ranks.specs.of_format.Terms.{file_of}
 use Rattle.bdb_btree.proofs.FindLemmas.{all_separated, keys_monotone, keys_readable, root_typed}
 use Rattle.bdb_btree.proofs.way_down.leaf_for.Goals as goal
 

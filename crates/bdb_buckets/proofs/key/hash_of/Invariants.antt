@@ -1,8 +1,7 @@
 use Rattle.std.proofs.Common.{◌≡◌}
 use Rattle.std.specs.List.{fold}
 use Rattle.bdb_tree.specs.of_overflow.Datum.{datum_seen}
-use Rattle.bdb_tree.specs.of_format.Chains.{joined}
-use Rattle.bdb_tree.specs.of_format.Hashing.{hash5, hash_step}
+use Rattle.bdb_tree.specs.of_format.Terms.{hash5, hash_step, joined}
 use Rattle.bdb_buckets.proofs.key.hash_of.Given as goal
 
 -- The pieces that are left, after the hash of those passed.

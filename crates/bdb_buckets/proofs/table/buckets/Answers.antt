@@ -2,7 +2,7 @@ use Rattle.std.proofs.Common.{◌≡◌, ◌≤◌, ap, arith}
 use Rattle.bdb_tree.proofs.of_graph.LinkedLemmas.{bucket_few}
 use Rattle.bdb_buckets.proofs.TableLemmas.{table_is}
 use Rattle.bdb_tree.specs.of_format.declared.metadata.Head.{Head}
-use Rattle.bdb_tree.specs.of_format.HeadOf.{head_of}
+use Rattle.bdb_tree.specs.of_format.Terms.{head_of}
 use Rattle.bdb_buckets.proofs.table.buckets.Goals as goal
 
 -- The greatest bucket has a page, whose number isn't less.

@@ -1,8 +1,7 @@
 use Rattle.std.proofs.Common.{List, ℕ, ◌-◌, ◌<◌, ◌≡◌, length, ap, arith, sym, ◌∙◌, ◌+◌, subst}
 use Rattle.std.proofs.lemmas.Bool.{leb-true}
 use Rattle.std.proofs.lemmas.List.{length-map}
-use Rattle.bdb_need.specs.of_text_format.Pairs.{unlined}
-use Rattle.bdb_need.specs.of_text_format.Placed.{pair_seen, pairs_of, slice_seen}
+use Rattle.bdb_need.specs.of_text_format.Terms.{pair_seen, pairs_of, slice_seen, unlined}
 use Rattle.bdb_need.proofs.of_mkqueue.LastLemmas.{key_here, value_here}
 use Rattle.bdb_building_tests.specs.Queues.{MayStandFrom}
 use Rattle.bdb_building_tests.proofs.QueueLemmas.{all_looked_at, none_looked_at, one_looked_at}

@@ -1,4 +1,4 @@
-use Rattle.bdb_need.specs.of_text_format.Placed.{pairs_of}
+use Rattle.bdb_need.specs.of_text_format.Terms.{pairs_of}
 use Rattle.bdb_building_tests.specs.Queues.{MayStandFrom}
 use Rattle.bdb_building_tests.proofs.queue_lists.is_list_for.Given as goal
 

@@ -1,5 +1,5 @@
 use Rattle.std.proofs.Common.{arith}
-use Rattle.bdb_need.specs.of_text_format.Placed.{pairs_of}
+use Rattle.bdb_need.specs.of_text_format.Terms.{pairs_of}
 use Rattle.bdb_need.proofs.of_mkqueue.FileLemmas.{filed, zero_first}
 use Rattle.bdb_building_tests.proofs.queues.queue_file.Goals as goal
 

@@ -1,5 +1,5 @@
 use Rattle.std.proofs.Common.{◌≤◌, drop, length}
-use Rattle.bdb_need.specs.of_text_format.Placed.{pairs_of}
+use Rattle.bdb_need.specs.of_text_format.Terms.{pairs_of}
 use Rattle.bdb_mktree.specs.Lists.{IsTreeList}
 use Rattle.bdb_building_tests.proofs.tree_lists.is_list_for.Given as goal
 

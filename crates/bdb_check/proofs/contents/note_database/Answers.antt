@@ -1,4 +1,4 @@
-use Rattle.bdb_recno.specs.of_format.File.{file_of}
+use Rattle.bdb_recno.specs.of_format.Terms.{file_of}
 use Rattle.bdb_any_order.proofs.DatabaseLemmas.{no_queue_noted}
 use Rattle.bdb_check.proofs.contents.note_database.Goals as goal
 

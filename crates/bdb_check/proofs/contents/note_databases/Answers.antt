@@ -1,5 +1,5 @@
 use Rattle.std.proofs.Common.{◌≡◌, ap, arith, sym, ◌∙◌}
-use Rattle.bdb_recno.specs.of_format.File.{file_of}
+use Rattle.bdb_recno.specs.of_format.Terms.{file_of}
 use Rattle.bdb_recno.specs.of_image.Linked.{meta_pages}
 use Rattle.bdb_recno.specs.of_image.Metas.{meta_seen}
 use Rattle.bdb_recno.proofs.of_faults.SinkLemmas.{notes_none}

@@ -1,6 +1,6 @@
 use Rattle.std.specs.Prelude.{◌≡◌, take}
 use Rattle.std.specs.List.{flat_map}
-use Rattle.bdb_recno.specs.of_format.File.{file_of}
+use Rattle.bdb_recno.specs.of_format.Terms.{file_of}
 use Rattle.bdb_recno.specs.of_faults.Notes.{NotesAll}
 use Rattle.bdb_recno.specs.of_image.Linked.{meta_pages}
 use Rattle.bdb_any_order.specs.Noted.{asked_on}

@@ -2,7 +2,7 @@ use Rattle.std.proofs.Common.{subst}
 use Rattle.bdb_recno.specs.of_faults.Notes.{NotesAll}
 use Rattle.bdb_any_order.specs.Noted.{by_asked}
 use Rattle.bdb_any_order.specs.declared.rows.Which.TheVariants.{Master}
-use Rattle.bdb_recno.specs.of_format.File.{file_of}
+use Rattle.bdb_recno.specs.of_format.Terms.{file_of}
 use Rattle.bdb_any_order.proofs.OrderLemmas.{order_contents}
 use Rattle.bdb_check.proofs.contents.note_unordered.Goals as goal
 

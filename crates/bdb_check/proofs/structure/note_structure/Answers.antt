@@ -1,4 +1,4 @@
-use Rattle.bdb_recno.specs.of_format.File.{file_of}
+use Rattle.bdb_recno.specs.of_format.Terms.{file_of}
 use Rattle.bdb_any_order.proofs.MergeLemmas.{structure_noted}
 use Rattle.bdb_check.proofs.structure.note_structure.Goals as goal
 

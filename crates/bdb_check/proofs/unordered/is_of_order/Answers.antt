@@ -1,6 +1,6 @@
 use Rattle.std.proofs.Common.{ap, sym, ◌∙◌}
 use Rattle.bdb_any_order.specs.AnyOrder.{is_of_order}
-use Rattle.bdb_recno.specs.of_format.FaultTable.{fault_at}
+use Rattle.bdb_recno.specs.of_format.Terms.{fault_at}
 use Rattle.bdb_recno.specs.of_format.declared.rows.Row.{Row}
 use Rattle.bdb_check.proofs.unordered.is_of_order.Goals as goal
 

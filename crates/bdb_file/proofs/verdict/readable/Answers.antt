@@ -1,5 +1,5 @@
 use Rattle.std.proofs.Common.{List, [], ◌∷◌, subst, ℕ}
-use Rattle.bdb_check.specs.of_format.Verdict.{faults_in}
+use Rattle.bdb_check.specs.of_format.Terms.{faults_in}
 use Rattle.bdb_check.specs.of_any_order.AnyOrder.{faults_by_rows, stages_by}
 use Rattle.bdb_file.proofs.VerdictLemmas.{forest_skipped, graph_alike, handed_up}
 use Rattle.bdb_file.proofs.verdict.readable.Goals as goal

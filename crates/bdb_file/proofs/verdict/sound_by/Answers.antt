@@ -1,6 +1,6 @@
 use Rattle.std.proofs.Common.{List, ℕ, subst}
 use Rattle.bdb_check.specs.of_format.declared.kinds.Fault.{Fault}
-use Rattle.bdb_check.specs.of_format.Verdict.{faults_of}
+use Rattle.bdb_check.specs.of_format.Terms.{faults_of}
 use Rattle.bdb_check.proofs.of_any_order.RowsLemmas.{all_faults}
 use Rattle.bdb_file.proofs.VerdictLemmas.{handed_up}
 use Rattle.bdb_file.proofs.verdict.sound_by.Goals as goal

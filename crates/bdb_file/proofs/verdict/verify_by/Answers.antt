@@ -1,5 +1,5 @@
 use Rattle.std.proofs.Common.{[], ◌∷◌}
-use Rattle.bdb_check.specs.of_format.Verdict.{faults_in}
+use Rattle.bdb_check.specs.of_format.Terms.{faults_in}
 use Rattle.bdb_check.specs.of_any_order.AnyOrder.{faults_by_rows}
 use Rattle.bdb_file.proofs.VerdictLemmas.{form_alike, handed_up}
 use Rattle.bdb_file.proofs.verdict.verify_by.Goals as goal

@@ -1,6 +1,6 @@
 use Rattle.std.proofs.Common.{◌≡◌, ◌<◌, ◌^◌, true, take}
 use Rattle.std.specs.List.{list_all}
-use Rattle.bdb_format.specs.Digits.{digits_value, is_digit}
+use Rattle.bdb_format.specs.Terms.{digits_value, is_digit}
 use Rattle.bdb_format.proofs.digits.number_in.Given as goal
 
 abbrev pub invariant-loop-byte : goal.invariant-loop-byte

@@ -1,7 +1,7 @@
 use Rattle.std.proofs.Common.{refl, arith}
 use Rattle.std.specs.Prelude.{◌^◌, nat_lt}
 use Rattle.std.proofs.lemmas.Bool.{ltb-true, lt-ltb}
-use Rattle.bdb_format.specs.Hashing.{group}
+use Rattle.bdb_format.specs.Terms.{group}
 use Rattle.bdb_format.proofs.GroupLemmas.{least_passing, first_passes}
 use Rattle.bdb_format.proofs.laws.groups.Goals as goal
 

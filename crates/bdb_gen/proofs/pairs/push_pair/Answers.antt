@@ -1,7 +1,7 @@
 use Rattle.std.proofs.Common.{◌++◌, ◌∷◌, [], ◌%◌, ◌∙◌, ap, arith}
 use Rattle.std.proofs.lemmas.Result.{on_ok_weaker}
 use Rattle.bdb_text_format.specs.declared.pairs.Pair.{Pair}
-use Rattle.bdb_text_format.specs.Placed.{key_seen}
+use Rattle.bdb_text_format.specs.Terms.{key_seen}
 use Rattle.bdb_gen.proofs.PairLemmas.{pair_is, same_bytes}
 use Rattle.bdb_gen.proofs.pairs.push_pair.Goals as goal
 

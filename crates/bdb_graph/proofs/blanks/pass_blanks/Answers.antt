@@ -1,5 +1,5 @@
 use Rattle.std.proofs.Common.{◌≤◌, arith, subst, sym}
-use Rattle.bdb_image.specs.of_format.File.{file_of}
+use Rattle.bdb_image.specs.of_format.Terms.{file_of}
 use Rattle.bdb_graph.specs.Blanks.{ArePassed, IsAfter}
 use Rattle.bdb_graph.proofs.BlankLemmas.{next_after, same_page}
 use Rattle.bdb_graph.proofs.blanks.pass_blanks.Goals as goal

@@ -1,4 +1,4 @@
-use Rattle.bdb_image.specs.of_format.File.{file_of}
+use Rattle.bdb_image.specs.of_format.Terms.{file_of}
 use Rattle.bdb_graph.specs.Blanks.{ArePassed, IsAfter}
 use Rattle.bdb_graph.proofs.blanks.pass_blanks.Given as goal
 

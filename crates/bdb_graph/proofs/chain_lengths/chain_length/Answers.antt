@@ -1,6 +1,6 @@
 use Rattle.std.proofs.Common.{◌≡◌, ◌<◌, arith, ap, sym, ◌∙◌}
 use Rattle.bdb_image.specs.of_format.declared.metadata.Head.{Head}
-use Rattle.bdb_image.specs.of_format.File.{file_of}
+use Rattle.bdb_image.specs.of_format.Terms.{file_of}
 use Rattle.bdb_image.proofs.of_format.FileLemmas.{count_is}
 use Rattle.bdb_graph.proofs.ChainLengthLemmas.{at_end, at_last, at_next, at_start, sum_fits}
 use Rattle.bdb_graph.proofs.chain_lengths.chain_length.Goals as goal

@@ -1,4 +1,4 @@
-use Rattle.bdb_image.specs.of_format.File.{file_of}
+use Rattle.bdb_image.specs.of_format.Terms.{file_of}
 use Rattle.bdb_graph.proofs.ChainLengthLemmas.{IsAdded}
 use Rattle.bdb_graph.proofs.chain_lengths.chain_length.Given as goal
 

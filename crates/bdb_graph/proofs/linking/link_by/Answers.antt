@@ -2,8 +2,7 @@ use Rattle.std.proofs.Common.{◌≡◌, [], ◌∷◌, subst}
 use Rattle.std.specs.Prelude.{IfOk}
 use Rattle.bdb_image.proofs.of_faults.AscendLemmas.{faults_ascend}
 use Rattle.bdb_image.proofs.of_faults.SinkLemmas.{all_noted}
-use Rattle.bdb_image.specs.of_format.Verdict.{faults_in}
-use Rattle.bdb_image.specs.of_format.File.{file_of}
+use Rattle.bdb_image.specs.of_format.Terms.{faults_in, file_of}
 use Rattle.bdb_graph.specs.Owned.{AreOwned}
 use Rattle.bdb_graph.specs.Walked.{IsWalked}
 use Rattle.bdb_graph.specs.declared.linking.Walk.{Walk}

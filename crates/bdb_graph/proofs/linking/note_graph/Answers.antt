@@ -1,8 +1,7 @@
 use Rattle.std.proofs.Common.{◌≡◌, ◌∙◌, [], ◌∷◌, List, ℕ, ◌+◌, refl, subst, sym, rules}
 use Rattle.std.specs.Prelude.{true, false}
 use Rattle.bdb_image.specs.of_faults.Notes.{NotesAll}
-use Rattle.bdb_image.specs.of_format.File.{file_of}
-use Rattle.bdb_image.specs.of_format.Verdict.{faults_in, reference_faults}
+use Rattle.bdb_image.specs.of_format.Terms.{faults_in, file_of, reference_faults}
 use Rattle.bdb_graph.specs.Owned.{AreCounts, AreFew}
 use Rattle.bdb_graph.proofs.ForestLemmas.{sound_graph}
 use Rattle.bdb_image.proofs.NotedLemmas.{next_stage, none_there, stage_alone, stage_there}

@@ -1,7 +1,6 @@
 use Rattle.std.proofs.Common.{[], ◌∷◌, refl, subst, sym}
 use Rattle.bdb_image.specs.of_faults.Notes.{NotesAll}
-use Rattle.bdb_image.specs.of_format.File.{file_of}
-use Rattle.bdb_image.specs.of_format.Verdict.{ownership_faults}
+use Rattle.bdb_image.specs.of_format.Terms.{file_of, ownership_faults}
 use Rattle.bdb_image.proofs.NotedLemmas.{last_stage, next_stage, stage_alone}
 use Rattle.bdb_graph.proofs.linking.note_roles.Goals as goal
 

@@ -1,4 +1,4 @@
-use Rattle.bdb_image.specs.of_format.File.{file_of}
+use Rattle.bdb_image.specs.of_format.Terms.{file_of}
 use Rattle.bdb_image.proofs.NotedLemmas.{owned_noted}
 use Rattle.bdb_graph.proofs.owned.note_owned.Goals as goal
 

@@ -1,6 +1,6 @@
 use Rattle.std.proofs.Common.{◌≡◌, arith, refl, subst}
-use Rattle.bdb_image.specs.of_format.File.{file_of}
-use Rattle.bdb_image.specs.of_format.Verdict.{holding, ownership_rows}
+use Rattle.bdb_image.specs.of_format.Terms.{file_of, ownership_rows}
+use Rattle.bdb_image.specs.of_format.Verdict.{holding}
 use Rattle.bdb_image.proofs.NotedLemmas.{none_noted, owners_noted, page_noted}
 use Rattle.bdb_graph.specs.Owned.{AreFew}
 use Rattle.bdb_graph.proofs.OwnedLemmas.{none_few, one_more_few}

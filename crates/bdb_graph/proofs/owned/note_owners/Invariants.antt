@@ -1,7 +1,7 @@
 use Rattle.std.proofs.Common.{◌-◌}
 use Rattle.bdb_image.specs.of_faults.Notes.{NotesAll}
-use Rattle.bdb_image.specs.of_format.File.{file_of}
-use Rattle.bdb_image.specs.of_format.Verdict.{by_page, holding, ownership_rows}
+use Rattle.bdb_image.specs.of_format.Terms.{by_page, file_of, ownership_rows}
+use Rattle.bdb_image.specs.of_format.Verdict.{holding}
 use Rattle.bdb_graph.specs.Owned.{AreFew}
 use Rattle.bdb_graph.proofs.owned.note_owners.Given as goal
 

@@ -1,5 +1,5 @@
 use Rattle.std.proofs.Common.{◌∙◌, sym}
-use Rattle.bdb_image.specs.of_format.File.{file_of}
+use Rattle.bdb_image.specs.of_format.Terms.{file_of}
 use Rattle.bdb_graph.proofs.MarkLemmas.{comes_alone, comes_back, comes_to, moves_on}
 use Rattle.bdb_graph.proofs.reach.leads_up.Goals as goal
 

@@ -1,6 +1,6 @@
 use Rattle.std.proofs.Common.{sum_by}
 use Rattle.bdb_graph.proofs.MarkLemmas.{IsClimbing, openness}
-use Rattle.bdb_image.specs.of_format.File.{file_of}
+use Rattle.bdb_image.specs.of_format.Terms.{file_of}
 use Rattle.bdb_graph.proofs.reach.leads_up.Given as goal
 
 -- Each page below this one is on the way.

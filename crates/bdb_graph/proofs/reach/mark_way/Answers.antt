@@ -1,5 +1,5 @@
 use Rattle.std.proofs.Common.{◌∙◌, sym}
-use Rattle.bdb_image.specs.of_format.File.{file_of}
+use Rattle.bdb_image.specs.of_format.Terms.{file_of}
 use Rattle.bdb_graph.proofs.MarkLemmas.{begins, ends_alone, ends_marked, marks_on}
 use Rattle.bdb_graph.proofs.reach.mark_way.Goals as goal
 

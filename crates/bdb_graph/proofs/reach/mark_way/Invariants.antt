@@ -1,6 +1,6 @@
 use Rattle.std.proofs.Common.{sum_by}
 use Rattle.bdb_graph.proofs.MarkLemmas.{IsMarking, unmarked}
-use Rattle.bdb_image.specs.of_format.File.{file_of}
+use Rattle.bdb_image.specs.of_format.Terms.{file_of}
 use Rattle.bdb_graph.proofs.reach.mark_way.Given as goal
 
 -- The way from this page on is to be marked.

@@ -1,7 +1,7 @@
 use Rattle.std.proofs.Common.{◌≡◌, ◌∙◌, ap, arith, length, sym}
 use Rattle.bdb_image.proofs.of_faults.SinkLemmas.{notes_none}
-use Rattle.bdb_image.specs.of_format.File.{file_of}
-use Rattle.bdb_image.specs.of_format.Verdict.{holding, reach_rows}
+use Rattle.bdb_image.specs.of_format.Terms.{file_of, reach_rows}
+use Rattle.bdb_image.specs.of_format.Verdict.{holding}
 use Rattle.bdb_graph.proofs.MarkLemmas.{none_marked}
 use Rattle.bdb_image.proofs.NotedLemmas.{page_noted, reach_noted, reached_noted}
 use Rattle.bdb_graph.proofs.TallyLemmas.{written_back}

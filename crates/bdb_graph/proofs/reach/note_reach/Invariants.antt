@@ -1,8 +1,8 @@
 use Rattle.std.proofs.Common.{◌≡◌, ◌+◌, ◌-◌, length}
 use Rattle.bdb_image.specs.of_faults.Notes.{NotesAll}
 use Rattle.bdb_graph.specs.Marks.{AreSettled}
-use Rattle.bdb_image.specs.of_format.File.{file_of}
-use Rattle.bdb_image.specs.of_format.Verdict.{by_page, holding, reach_rows}
+use Rattle.bdb_image.specs.of_format.Terms.{by_page, file_of, reach_rows}
+use Rattle.bdb_image.specs.of_format.Verdict.{holding}
 use Rattle.bdb_graph.proofs.reach.note_reach.Given as goal
 
 -- The pages passed that don't reach are noted, and the marks are right.

@@ -1,5 +1,5 @@
 use Rattle.bdb_image.proofs.RoleLemmas.{NoTable}
-use Rattle.bdb_image.specs.of_format.File.{file_of}
+use Rattle.bdb_image.specs.of_format.Terms.{file_of}
 use Rattle.bdb_graph.proofs.roles.has_table.Given as goal
 
 -- No page passed is the metadata of a table.

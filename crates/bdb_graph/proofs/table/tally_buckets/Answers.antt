@@ -1,8 +1,7 @@
 use Rattle.std.proofs.Common.{◌≡◌, ◌∙◌, ◌+◌, ◌++◌, ap, arith, length, map, subst, sym}
 use Rattle.std.specs.Vec.{with_items}
 use Rattle.std.proofs.lemmas.List.{with_items_is}
-use Rattle.bdb_image.specs.of_format.File.{file_of}
-use Rattle.bdb_image.specs.of_format.References.{fit_code}
+use Rattle.bdb_image.specs.of_format.Terms.{file_of, fit_code}
 use Rattle.bdb_image.specs.Buckets.{bucket_names}
 use Rattle.bdb_graph.specs.Leaps.{HasLeaps}
 use Rattle.bdb_image.specs.Noted.{misfits_of}

@@ -1,5 +1,5 @@
 use Rattle.std.proofs.Common.{◌+◌, ◌-◌}
-use Rattle.bdb_image.specs.of_format.File.{file_of}
+use Rattle.bdb_image.specs.of_format.Terms.{file_of}
 use Rattle.bdb_graph.proofs.TableLemmas.{AreTallied}
 use Rattle.bdb_graph.proofs.table.tally_buckets.Given as goal
 

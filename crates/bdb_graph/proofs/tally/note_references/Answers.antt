@@ -2,8 +2,8 @@ use Rattle.std.proofs.Common.{◌≡◌, ◌+◌, ◌∙◌, length, arith, ap, 
 use Rattle.bdb_image.proofs.NotedLemmas.{misfits_noted, page_noted, references_noted}
 use Rattle.bdb_graph.proofs.TallyLemmas.{held_more, kinds_all, tallied_all, tallied_more, written_back}
 use Rattle.bdb_graph.specs.Walked.{AreKinds}
-use Rattle.bdb_image.specs.of_format.File.{file_of}
-use Rattle.bdb_image.specs.of_format.Verdict.{holding, reference_rows}
+use Rattle.bdb_image.specs.of_format.Terms.{file_of, reference_rows}
+use Rattle.bdb_image.specs.of_format.Verdict.{holding}
 use Rattle.bdb_graph.proofs.tally.note_references.Goals as goal
 
 -- The references of this page are added to those of the pages before it, and fit.

@@ -4,8 +4,8 @@ use Rattle.bdb_graph.specs.Tallies.{AreTallies}
 use Rattle.bdb_graph.specs.Walked.{AreKinds}
 use Rattle.bdb_image.specs.of_faults.Notes.{NotesAll}
 use Rattle.bdb_graph.proofs.TallyLemmas.{held_below}
-use Rattle.bdb_image.specs.of_format.File.{file_of}
-use Rattle.bdb_image.specs.of_format.Verdict.{by_page, holding, reference_rows}
+use Rattle.bdb_image.specs.of_format.Terms.{by_page, file_of, reference_rows}
+use Rattle.bdb_image.specs.of_format.Verdict.{holding}
 use Rattle.bdb_graph.proofs.tally.note_references.Given as goal
 
 -- The references of the pages passed are counted and those noted that don't fit, a step for each page.

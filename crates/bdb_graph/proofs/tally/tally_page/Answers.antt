@@ -1,7 +1,6 @@
 use Rattle.std.proofs.Common.{◌≡◌, ◌∙◌, [], ◌++◌, ap, arith, map, refl, subst}
 use Rattle.std.proofs.lemmas.Grind.{common_steps}
-use Rattle.bdb_image.specs.of_format.File.{file_of}
-use Rattle.bdb_image.specs.of_format.References.{fit_code, refs}
+use Rattle.bdb_image.specs.of_format.Terms.{file_of, fit_code, refs}
 use Rattle.bdb_image.specs.Noted.{more_misfits}
 use Rattle.bdb_graph.specs.Tallies.{AreTallies, owner}
 use Rattle.bdb_graph.specs.Walked.{AreKinds}

@@ -3,9 +3,7 @@ use Rattle.bdb_graph.specs.Leaps.{AreKnownIfAny}
 use Rattle.bdb_graph.specs.Tallies.{AreTallies, owner}
 use Rattle.bdb_graph.specs.Walked.{AreKinds}
 use Rattle.bdb_image.specs.Noted.{misfits_of}
-use Rattle.bdb_image.specs.of_format.File.{file_of}
-use Rattle.bdb_image.specs.of_format.Graph.{Owner}
-use Rattle.bdb_image.specs.of_format.References.{fit_code, refs}
+use Rattle.bdb_image.specs.of_format.Terms.{Owner, file_of, fit_code, refs}
 use Rattle.bdb_graph.proofs.TableLemmas.{IsRead}
 use Rattle.bdb_graph.proofs.tally.tally_page.Given as goal
 

@@ -1,4 +1,4 @@
-use Rattle.bdb_format.specs.File.{file_of}
+use Rattle.bdb_format.specs.Terms.{file_of}
 use Rattle.bdb_graph_tests.specs.Sought.{AllFit}
 use Rattle.bdb_graph_tests.proofs.descents.are_fit.Given as goal
 

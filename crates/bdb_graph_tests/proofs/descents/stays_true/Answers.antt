@@ -1,5 +1,5 @@
 use Rattle.std.proofs.Common.{arith}
-use Rattle.bdb_format.specs.Page.{InternalItem}
+use Rattle.bdb_format.specs.Terms.{InternalItem}
 use Rattle.bdb_graph_tests.specs.Sought.{is_above}
 use Rattle.test_images.proofs.of_tree.DescentLemmas.{monotone_by_neighbours}
 use Rattle.bdb_graph_tests.proofs.descents.stays_true.Goals as goal

@@ -1,14 +1,12 @@
 use Rattle.std.proofs.Common.{◌≡◌, ◌∙◌, List, ℕ, ap, refl, subst, sym}
 use Rattle.std.specs.Option.{option_map}
-use Rattle.bdb_ranks.specs.of_format.Contents.{tree_entries}
-use Rattle.bdb_ranks.specs.of_format.File.{File, file_of}
+use Rattle.bdb_ranks.specs.of_format.Terms.{File, ascends, file_of, tree_entries}
 use Rattle.bdb_ranks.specs.of_layout.Seen.{leaf_item_seen}
 use Rattle.bdb_ranks.specs.of_overflow.Held.{FitsHeld, value_held}
 use Rattle.bdb_ranks.specs.of_tree.Entries.{AreFit}
 use Rattle.bdb_ranks.proofs.of_tree.EntryLemmas.{all_values, rest_fit}
 use Rattle.bdb_hash.specs.SetOrder.{follows}
 use Rattle.bdb_hash.proofs.SetOrderLemmas.{first_fits, set_more, set_passed}
-use Rattle.bdb_ranks.specs.of_format.ContentRows.{ascends}
 use Rattle.bdb_hash.proofs.set_order.set_ascends.Goals as goal
 
 pub loop-entry-init : goal.loop-entry-init

@@ -1,9 +1,6 @@
 use Rattle.std.proofs.Common.{◌≡◌}
 use Rattle.std.specs.Option.{option_map}
-use Rattle.bdb_ranks.specs.of_format.ContentRows.{ascends}
-use Rattle.bdb_ranks.specs.of_format.Contents.{data_of}
-use Rattle.bdb_ranks.specs.of_format.File.{file_of}
-use Rattle.bdb_ranks.specs.of_format.Page.{Tree}
+use Rattle.bdb_ranks.specs.of_format.Terms.{Tree, ascends, data_of, file_of}
 use Rattle.bdb_ranks.specs.of_overflow.Held.{FitsAny, value_held}
 use Rattle.bdb_ranks.specs.of_tree.Entries.{AreFit, values_of}
 use Rattle.bdb_hash.specs.SetOrder.{ascends_after}

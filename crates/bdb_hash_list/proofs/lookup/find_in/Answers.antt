@@ -1,6 +1,6 @@
 use Rattle.std.proofs.Common.{◌+◌}
 use Rattle.bdb_buckets.specs.Told.{bucket_told}
-use Rattle.bdb_buckets.specs.of_format.File.{file_of}
+use Rattle.bdb_buckets.specs.of_format.Terms.{file_of}
 use Rattle.bdb_hash_list.proofs.LookupLemmas.{sought_found, sought_on}
 use Rattle.bdb_hash_list.proofs.lookup.find_in.Goals as goal
 

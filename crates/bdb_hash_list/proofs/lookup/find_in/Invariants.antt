@@ -1,6 +1,6 @@
 use Rattle.std.proofs.Common.{◌+◌}
 use Rattle.bdb_buckets.specs.Told.{IsSought, bucket_told}
-use Rattle.bdb_buckets.specs.of_format.File.{file_of}
+use Rattle.bdb_buckets.specs.of_format.Terms.{file_of}
 use Rattle.bdb_hash_list.proofs.lookup.find_in.Given as goal
 
 -- No page passed has a pair with the key, and each took a step.

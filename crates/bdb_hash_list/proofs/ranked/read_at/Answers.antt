@@ -1,6 +1,6 @@
 use Rattle.std.proofs.Common.{◌≡◌, ◌*◌, ◌+◌, length, true, sym, subst}
 use Rattle.std.proofs.lemmas.Bool.{ltb-true}
-use Rattle.bdb_buckets.specs.of_format.Page.{Hash}
+use Rattle.bdb_buckets.specs.of_format.Terms.{Hash}
 use Rattle.bdb_buckets.specs.Places.{IsGiven, has_pair}
 use Rattle.bdb_buckets.proofs.PairLemmas.{is_given}
 use Rattle.bdb_hash_list.proofs.ranked.read_at.Goals as goal

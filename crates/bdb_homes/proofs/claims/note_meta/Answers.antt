@@ -1,9 +1,7 @@
 use Rattle.std.proofs.Common.{◌≡◌, ◌++◌, ◌∙◌, ap, map, subst, sym}
 use Rattle.std.specs.Prelude.{true}
 use Rattle.bdb_graph.specs.of_image.Metas.{meta_seen}
-use Rattle.bdb_survey.specs.of_format.File.{page_at}
-use Rattle.bdb_survey.specs.of_format.Graph.{is_meta}
-use Rattle.bdb_survey.specs.of_format.Page.{HashFields, Meta, Page}
+use Rattle.bdb_survey.specs.of_format.Terms.{HashFields, Meta, Page, is_meta, page_at}
 use Rattle.bdb_homes.specs.Claims.{below_in, claim}
 use Rattle.bdb_homes.specs.Ups.{AreUps}
 use Rattle.bdb_homes.proofs.TableLemmas.{table_below}

@@ -1,8 +1,7 @@
 use Rattle.std.proofs.Common.{◌≡◌, ◌∙◌, ap, refl, sym}
 use Rattle.std.specs.Prelude.{if◌then◌else◌, false, None, [], ◌∷◌}
 use Rattle.bdb_survey.specs.of_format.declared.references.Sort.TheVariants.{Root}
-use Rattle.bdb_survey.specs.of_format.Page.{BtreeFields, Meta, Page}
-use Rattle.bdb_survey.specs.of_format.References.{Asked, asked_by}
+use Rattle.bdb_survey.specs.of_format.Terms.{Asked, BtreeFields, Meta, Page, asked_by}
 use Rattle.bdb_homes.specs.Claims.{Below, claim, is_fit}
 use Rattle.bdb_homes.specs.Fits.{fits_by}
 use Rattle.bdb_homes.proofs.ClaimLemmas.{claim_fits, meta_up}

@@ -1,5 +1,5 @@
 use Rattle.std.proofs.Common.{◌≡◌, ◌<◌, ℕ, get_or, length}
-use Rattle.bdb_survey.specs.of_format.File.{page_at}
+use Rattle.bdb_survey.specs.of_format.Terms.{page_at}
 use Rattle.bdb_homes.specs.Faces.{face_of, no_face}
 use Rattle.bdb_homes.proofs.faces.faces_of.Given as goal
 

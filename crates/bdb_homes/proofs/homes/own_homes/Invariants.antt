@@ -1,5 +1,5 @@
 use Rattle.std.proofs.Common.{◌≡◌, ℕ, ◌<◌, None, get_or, length}
-use Rattle.bdb_survey.specs.of_format.File.{File}
+use Rattle.bdb_survey.specs.of_format.Terms.{File}
 use Rattle.bdb_homes.specs.Homes.{own_home}
 use Rattle.bdb_homes.specs.Ups.{AreUpsOf}
 use Rattle.bdb_homes.proofs.homes.own_homes.Given as goal

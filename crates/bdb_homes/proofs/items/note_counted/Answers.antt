@@ -1,8 +1,7 @@
 use Rattle.std.proofs.Common.{◌∙◌, Some, ap, arith, refl}
 use Rattle.bdb_survey.specs.of_format.declared.pages.Header.{Header}
 use Rattle.bdb_survey.specs.of_format.declared.references.Sort.TheVariants.{Child}
-use Rattle.bdb_survey.specs.of_format.Page.{RecnoInternal}
-use Rattle.bdb_survey.specs.of_format.References.{asked_by}
+use Rattle.bdb_survey.specs.of_format.Terms.{RecnoInternal, asked_by}
 use Rattle.bdb_homes.proofs.ItemLemmas.{below_all, below_more, child_after, counted_at, counted_len, holder_up, record_asked, records_more}
 use Rattle.bdb_homes.specs.declared.up.Up.TheVariants.{Holder}
 use Rattle.bdb_homes.proofs.items.note_counted.Goals as goal

@@ -1,5 +1,5 @@
 use Rattle.std.proofs.Common.{◌≡◌, ◌*◌, ◌≤◌, ◌^◌, take}
-use Rattle.bdb_survey.specs.of_format.Page.{RecnoInternal}
+use Rattle.bdb_survey.specs.of_format.Terms.{RecnoInternal}
 use Rattle.bdb_homes.proofs.ItemLemmas.{AreBelow, records}
 use Rattle.bdb_homes.proofs.items.note_counted.Given as goal
 

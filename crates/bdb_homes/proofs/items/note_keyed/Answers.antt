@@ -1,8 +1,7 @@
 use Rattle.std.proofs.Common.{◌≡◌, ◌∙◌, ap, refl}
 use Rattle.bdb_survey.specs.of_format.declared.pages.Header.{Header}
 use Rattle.bdb_survey.specs.of_format.declared.references.Sort.TheVariants.{Child}
-use Rattle.bdb_survey.specs.of_format.Page.{Internal}
-use Rattle.bdb_survey.specs.of_format.References.{asked_by}
+use Rattle.bdb_survey.specs.of_format.Terms.{Internal, asked_by}
 use Rattle.bdb_graph.specs.of_layout.Seen.{internal_item_seen}
 use Rattle.bdb_homes.proofs.ItemLemmas.{below_more, holder_up, keyed, keyed_asked, keyed_at}
 use Rattle.bdb_homes.specs.declared.up.Up.TheVariants.{Holder}

@@ -1,4 +1,4 @@
-use Rattle.bdb_survey.specs.of_format.Page.{Internal}
+use Rattle.bdb_survey.specs.of_format.Terms.{Internal}
 use Rattle.bdb_homes.proofs.ItemLemmas.{AreBelow}
 use Rattle.bdb_homes.proofs.items.note_keyed.Given as goal
 

@@ -1,5 +1,5 @@
 use Rattle.std.proofs.Common.{◌≡◌, ◌≤◌, length}
-use Rattle.bdb_survey.specs.of_format.File.{File}
+use Rattle.bdb_survey.specs.of_format.Terms.{File}
 use Rattle.bdb_homes.proofs.WalkLemmas.{Spreads}
 use Rattle.bdb_homes.specs.Faces.{AreFaces}
 use Rattle.bdb_homes.specs.Spreading.{home_at}

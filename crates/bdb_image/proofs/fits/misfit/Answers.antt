@@ -1,7 +1,6 @@
 use Rattle.std.proofs.Common.{◌≡◌, arith}
-use Rattle.bdb_faults.specs.of_format.File.{file_of}
+use Rattle.bdb_faults.specs.of_format.Terms.{file_of, reference_row_code}
 use Rattle.std.specs.Option.{option_map}
-use Rattle.bdb_faults.specs.of_format.FaultTable.{reference_row_code}
 use Rattle.bdb_image.proofs.FitLemmas.{names_page}
 use Rattle.bdb_image.proofs.fits.misfit.Goals as goal
 

@@ -1,7 +1,6 @@
 use Rattle.std.proofs.Common.{◌∙◌, ap, arith, sym}
 use Rattle.bdb_faults.specs.of_format.declared.metadata.Head.{Head}
-use Rattle.bdb_faults.specs.of_format.File.{file_of}
-use Rattle.bdb_faults.specs.of_format.Graph.{is_meta}
+use Rattle.bdb_faults.specs.of_format.Terms.{file_of, is_meta}
 use Rattle.bdb_faults.proofs.of_format.FileLemmas.{last_page}
 use Rattle.bdb_image.proofs.MetaLemmas.{all_metas, no_more_meta, one_more_meta}
 use Rattle.bdb_image.proofs.meta.metas_of.Goals as goal

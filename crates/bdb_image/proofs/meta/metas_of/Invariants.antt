@@ -1,5 +1,5 @@
 use Rattle.std.proofs.Common.{◌≡◌}
-use Rattle.bdb_faults.specs.of_format.File.{file_of}
+use Rattle.bdb_faults.specs.of_format.Terms.{file_of}
 use Rattle.bdb_image.specs.Linked.{metas_below}
 use Rattle.bdb_image.proofs.meta.metas_of.Given as goal
 

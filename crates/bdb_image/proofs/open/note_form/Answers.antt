@@ -1,11 +1,9 @@
 use Rattle.std.proofs.Common.{◌≡◌, List, [], ◌∷◌, ap, length, subst, sym, ◌∙◌, arith}
 use Rattle.std.specs.Prelude.{None}
 use Rattle.bdb_faults.specs.Notes.{NotesAll}
-use Rattle.bdb_faults.specs.of_format.FaultTable.{fault_at}
+use Rattle.bdb_faults.specs.of_format.Terms.{fault_at, first_row, head_of, head_rows}
 use Rattle.bdb_faults.specs.of_format.declared.rows.Row.TheVariants.{File as FileRow}
 use Rattle.bdb_faults.proofs.SinkLemmas.{notes_one}
-use Rattle.bdb_faults.specs.of_format.HeadOf.{head_of, head_rows}
-use Rattle.bdb_faults.specs.of_format.Table.{first_row}
 use Rattle.bdb_faults.specs.of_format.declared.kinds.Fault.{Fault}
 use Rattle.bdb_image.proofs.FirstLemmas.{answer_is_value}
 use Rattle.bdb_image.proofs.NotedLemmas.{head_refused}

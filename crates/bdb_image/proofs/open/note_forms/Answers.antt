@@ -1,9 +1,8 @@
 use Rattle.std.proofs.Common.{ℕ, List, subst, arith}
 use Rattle.std.specs.Option.{option_to_list}
-use Rattle.bdb_faults.specs.of_format.File.{page_bytes}
+use Rattle.bdb_faults.specs.of_format.Terms.{form_code, page_bytes}
 use Rattle.bdb_faults.specs.Notes.{NotesAll}
 use Rattle.bdb_image.specs.Noted.{page_faults}
-use Rattle.bdb_faults.specs.of_format.Rows.{form_code}
 use Rattle.bdb_image.proofs.FormedLemmas.{IsPaged, accepted_paged}
 use Rattle.bdb_image.proofs.NotedLemmas.{forms_noted, none_noted, page_noted}
 use Rattle.bdb_slots.proofs.PlainLemmas.{plain_more}

@@ -1,9 +1,7 @@
 use Rattle.std.proofs.Common.{◌≡◌, ℕ, ◌-◌, ◌<◌, true}
 use Rattle.std.specs.Option.{option_to_list}
 use Rattle.bdb_faults.specs.Notes.{NotesAll}
-use Rattle.bdb_faults.specs.of_format.File.{page_bytes}
-use Rattle.bdb_faults.specs.of_format.Rows.{form_code}
-use Rattle.bdb_faults.specs.of_format.Verdict.{by_page}
+use Rattle.bdb_faults.specs.of_format.Terms.{by_page, form_code, page_bytes}
 use Rattle.bdb_slots.specs.Plain.{IsPlainIn}
 use Rattle.bdb_image.proofs.open.note_forms.Given as goal
 

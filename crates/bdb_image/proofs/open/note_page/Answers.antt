@@ -1,4 +1,4 @@
-use Rattle.bdb_faults.specs.of_format.Rows.{form_code}
+use Rattle.bdb_faults.specs.of_format.Terms.{form_code}
 use Rattle.bdb_image.proofs.NotedLemmas.{form_noted, form_passed}
 use Rattle.bdb_image.proofs.open.note_page.Goals as goal
 

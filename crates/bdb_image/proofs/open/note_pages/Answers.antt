@@ -1,6 +1,6 @@
 use Rattle.std.proofs.Common.{List, subst, sym}
 use Rattle.bdb_faults.specs.Notes.{NotesAll}
-use Rattle.bdb_faults.specs.of_format.Verdict.{form_faults, tail_faults}
+use Rattle.bdb_faults.specs.of_format.Terms.{form_faults, tail_faults}
 use Rattle.bdb_faults.specs.of_format.declared.kinds.Fault.{Fault}
 use Rattle.bdb_image.proofs.NotedLemmas.{alone_noted, head_passed, next_noted}
 use Rattle.bdb_slots.proofs.PlainLemmas.{on_value}

@@ -1,5 +1,6 @@
 use Rattle.std.proofs.Common.{◌+◌, arith}
-use Rattle.bdb_faults.specs.of_format.Verdict.{holding, tail_rows}
+use Rattle.bdb_faults.specs.of_format.Terms.{tail_rows}
+use Rattle.bdb_faults.specs.of_format.Verdict.{holding}
 use Rattle.bdb_image.proofs.FormedLemmas.{IsPaged, accepted_paged}
 use Rattle.bdb_image.proofs.NotedLemmas.{none_noted, page_noted, tail_noted, zero_noted}
 use Rattle.bdb_image.proofs.open.note_tail.Goals as goal

@@ -1,6 +1,7 @@
 use Rattle.std.proofs.Common.{◌+◌, ◌-◌}
 use Rattle.bdb_faults.specs.Notes.{NotesAll}
-use Rattle.bdb_faults.specs.of_format.Verdict.{by_page, holding, tail_rows}
+use Rattle.bdb_faults.specs.of_format.Terms.{by_page, tail_rows}
+use Rattle.bdb_faults.specs.of_format.Verdict.{holding}
 use Rattle.bdb_image.proofs.open.note_tail.Given as goal
 
 -- The pages passed that aren't zero pages are noted.

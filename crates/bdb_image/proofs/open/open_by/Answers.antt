@@ -1,7 +1,7 @@
 use Rattle.std.proofs.Common.{[], ◌∷◌}
 use Rattle.bdb_faults.proofs.AscendLemmas.{faults_ascend}
 use Rattle.bdb_faults.proofs.SinkLemmas.{all_noted}
-use Rattle.bdb_faults.specs.of_format.Verdict.{faults_in}
+use Rattle.bdb_faults.specs.of_format.Terms.{faults_in}
 use Rattle.bdb_image.proofs.open.open_by.Goals as goal
 
 -- Of a sink that had noted nothing.

@@ -1,5 +1,5 @@
 use Rattle.std.proofs.Common.{◌∙◌, ap, sym}
-use Rattle.bdb_faults.specs.of_format.References.{content_targets}
+use Rattle.bdb_faults.specs.of_format.Terms.{content_targets}
 use Rattle.bdb_slots.proofs.PlainLemmas.{one_more}
 use Rattle.bdb_image.proofs.plain.holds_none.Goals as goal
 

@@ -1,6 +1,6 @@
 use Rattle.std.proofs.Common.{◌≡◌, length}
 use Rattle.std.specs.Prelude.{is_some}
-use Rattle.bdb_format.specs.Reading.{blocks_of}
+use Rattle.bdb_format.specs.Terms.{blocks_of}
 use Rattle.bdb_layout.proofs.blocks.is_run.Given as goal
 
 -- What is left is a run exactly where all of it is.

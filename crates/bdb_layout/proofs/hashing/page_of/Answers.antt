@@ -1,5 +1,5 @@
 use Rattle.std.proofs.Common.{◌≤◌, arith}
-use Rattle.bdb_format.specs.Hashing.{group}
+use Rattle.bdb_format.specs.Terms.{group}
 use Rattle.bdb_layout.proofs.HashingLemmas.{group-le}
 use Rattle.bdb_layout.proofs.hashing.page_of.Goals as goal
 

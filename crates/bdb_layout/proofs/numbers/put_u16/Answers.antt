@@ -1,5 +1,5 @@
 use Rattle.bdb_layout.proofs.NumberLemmas.{put_big, put_little}
-use Rattle.bdb_format.specs.Numbers.{spelled}
+use Rattle.bdb_format.specs.Terms.{spelled}
 use Rattle.bdb_layout.proofs.numbers.put_u16.Goals as goal
 
 pub returns-in-Big : goal.returns-in-Big

@@ -1,6 +1,5 @@
 use Rattle.std.proofs.Common.{length, ap, ◌∙◌, arith}
-use Rattle.bdb_format.specs.Numbers.{overwritten}
-use Rattle.bdb_format.specs.Spelling.{hash_bytes}
+use Rattle.bdb_format.specs.Terms.{hash_bytes, overwritten}
 use Rattle.bdb_layout.proofs.WritingLemmas.{run_fits, hash_set-is, length-hash_inline, length-hash_chain, length-hash_tree}
 use Rattle.bdb_layout.proofs.writing.put_hash_item.Goals as goal
 

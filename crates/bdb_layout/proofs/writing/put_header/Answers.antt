@@ -1,5 +1,5 @@
 use Rattle.std.proofs.Common.{◌∷◌, [], arith, append_assoc}
-use Rattle.bdb_format.specs.Spelling.{header_bytes, lsn_bytes}
+use Rattle.bdb_format.specs.Terms.{header_bytes, lsn_bytes}
 use Rattle.bdb_format.proofs.SpellingLemmas.{length-pair, wrote, wrote_as, wrote_next, wrote_number}
 use Rattle.bdb_layout.proofs.writing.put_header.Goals as goal
 

@@ -1,5 +1,5 @@
 use Rattle.std.proofs.Common.{◌+◌, ◌++◌, ◌∷◌, [], arith, append_assoc}
-use Rattle.bdb_format.specs.Numbers.{spelled}
+use Rattle.bdb_format.specs.Terms.{spelled}
 use Rattle.bdb_format.proofs.SpellingLemmas.{length-spelled, length-pair, wrote, wrote_as, wrote_next}
 use Rattle.bdb_layout.proofs.writing.put_internal_start.Goals as goal
 

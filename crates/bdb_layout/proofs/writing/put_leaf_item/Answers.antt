@@ -1,6 +1,5 @@
 use Rattle.std.proofs.Common.{ap, ◌∙◌, arith}
-use Rattle.bdb_format.specs.Numbers.{overwritten}
-use Rattle.bdb_format.specs.Spelling.{leaf_bytes}
+use Rattle.bdb_format.specs.Terms.{leaf_bytes, overwritten}
 use Rattle.bdb_layout.proofs.WritingLemmas.{length-leaf_inline, length-leaf_tree, length-leaf_chain, leaf_tree-is}
 use Rattle.bdb_layout.proofs.writing.put_leaf_item.Goals as goal
 

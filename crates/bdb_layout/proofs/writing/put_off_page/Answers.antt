@@ -1,5 +1,5 @@
 use Rattle.std.proofs.Common.{◌+◌, ◌++◌, ◌∷◌, [], arith}
-use Rattle.bdb_format.specs.Numbers.{spelled}
+use Rattle.bdb_format.specs.Terms.{spelled}
 use Rattle.bdb_format.proofs.SpellingLemmas.{length-pair, wrote, wrote_next}
 use Rattle.bdb_layout.proofs.writing.put_off_page.Goals as goal
 

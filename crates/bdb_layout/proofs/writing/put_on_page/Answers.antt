@@ -1,5 +1,5 @@
 use Rattle.std.proofs.Common.{◌+◌, ◌++◌, ◌∷◌, [], length, arith, append_assoc}
-use Rattle.bdb_format.specs.Numbers.{spelled}
+use Rattle.bdb_format.specs.Terms.{spelled}
 use Rattle.bdb_format.proofs.SpellingLemmas.{length-spelled, wrote, wrote_as, wrote_next}
 use Rattle.bdb_layout.proofs.writing.put_on_page.Goals as goal
 

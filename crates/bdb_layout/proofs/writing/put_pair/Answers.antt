@@ -1,5 +1,5 @@
 use Rattle.std.proofs.Common.{◌+◌, arith}
-use Rattle.bdb_format.specs.Numbers.{spelled}
+use Rattle.bdb_format.specs.Terms.{spelled}
 use Rattle.bdb_format.proofs.SpellingLemmas.{length-spelled, wrote, wrote_number}
 use Rattle.bdb_layout.proofs.writing.put_pair.Goals as goal
 

@@ -1,5 +1,5 @@
 use Rattle.std.proofs.Common.{arith}
-use Rattle.bdb_format.specs.Spelling.{recno_bytes}
+use Rattle.bdb_format.specs.Terms.{recno_bytes}
 use Rattle.bdb_format.proofs.SpellingLemmas.{length-pair}
 use Rattle.bdb_layout.proofs.writing.put_recno_item.Goals as goal
 

@@ -1,7 +1,6 @@
 use Rattle.std.proofs.Common.{◌+◌, arith}
 use Rattle.std.specs.Option.{option_map}
-use Rattle.bdb_format.specs.Cases.{fault_seen}
-use Rattle.bdb_format.specs.File.{file_of}
+use Rattle.bdb_format.specs.Terms.{fault_seen, file_of}
 use Rattle.bdb_btree.specs.of_image.Linked.{meta_pages}
 use Rattle.bdb_btree.proofs.of_faults.SinkLemmas.{notes_none}
 use Rattle.std.specs.Option.{option_to_list}

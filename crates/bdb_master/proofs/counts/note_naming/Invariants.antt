@@ -1,6 +1,6 @@
 use Rattle.std.specs.Prelude.{take}
 use Rattle.std.specs.List.{flat_map}
-use Rattle.bdb_format.specs.File.{file_of}
+use Rattle.bdb_format.specs.Terms.{file_of}
 use Rattle.bdb_btree.specs.of_faults.Notes.{NotesAll}
 use Rattle.bdb_btree.specs.of_image.Linked.{meta_pages}
 use Rattle.std.specs.Option.{option_to_list}

@@ -2,7 +2,7 @@ use Rattle.std.proofs.Common.{◌≡◌, ◌++◌, map}
 use Rattle.bdb_btree.specs.Held.{AreKeyed, stored_as}
 use Rattle.bdb_btree.specs.Pairs.{AreFit}
 use Rattle.bdb_master.specs.Entries.{live_entries}
-use Rattle.bdb_format.specs.File.{file_of}
+use Rattle.bdb_format.specs.Terms.{file_of}
 use Rattle.bdb_master.proofs.entry.push_live.Given as goal
 
 -- The pairs so far, and those that are left behind them, whose items name what is there.

@@ -4,8 +4,7 @@ use Rattle.bdb_btree.specs.Held.{AreKeyed, pair_held}
 use Rattle.bdb_btree.proofs.HeldLemmas.{first_keyed, rest_keyed}
 use Rattle.bdb_btree.specs.of_faults.Notes.{Notes}
 use Rattle.bdb_master.proofs.RepeatLemmas.{IsNoted, begun, noted_on}
-use Rattle.bdb_format.specs.Chains.{value_of}
-use Rattle.bdb_format.specs.File.{File, file_of}
+use Rattle.bdb_format.specs.Terms.{File, file_of, value_of}
 use Rattle.bdb_overflow.specs.Held.{FitsHeld, value_held}
 use Rattle.bdb_master.proofs.repeats.note_repeated.Goals as goal
 

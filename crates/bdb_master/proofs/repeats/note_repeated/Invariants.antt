@@ -1,6 +1,6 @@
 use Rattle.std.proofs.Common.{◌≡◌}
 use Rattle.bdb_btree.specs.Held.{AreKeyed}
-use Rattle.bdb_format.specs.File.{file_of}
+use Rattle.bdb_format.specs.Terms.{file_of}
 use Rattle.bdb_master.proofs.RepeatLemmas.{IsNoted}
 use Rattle.bdb_master.proofs.repeats.note_repeated.Given as goal
 

@@ -3,7 +3,7 @@ use Rattle.bdb_btree.specs.of_faults.Notes.{NotesAll}
 use Rattle.bdb_btree.proofs.of_faults.SinkLemmas.{notes_none}
 use Rattle.bdb_master.specs.Entries.{by_repeat, live_entries}
 use Rattle.bdb_master.proofs.EntryLemmas.{entries_of_master, no_entries}
-use Rattle.bdb_format.specs.File.{file_of}
+use Rattle.bdb_format.specs.Terms.{file_of}
 use Rattle.bdb_master.proofs.repeats.note_repeats.Goals as goal
 
 pub returns-in_ok-note_repeated : goal.returns-in_ok-note_repeated

@@ -1,5 +1,5 @@
 use Rattle.std.specs.Prelude.{take}
-use Rattle.bdb_format.specs.File.{file_of}
+use Rattle.bdb_format.specs.Terms.{file_of}
 use Rattle.bdb_btree.specs.of_faults.Notes.{NotesAll}
 use Rattle.bdb_master.specs.Entries.{by_target}
 use Rattle.bdb_master.proofs.targets.note_targets.Given as goal

@@ -1,7 +1,6 @@
 use Rattle.std.proofs.Common.{◌≡◌, ◌≤◌, length, ap, ◌∙◌, refl, arith}
 use Rattle.bdb_layout.specs.of_format.declared.metadata.FileKind.TheVariants.{Btree}
-use Rattle.bdb_layout.specs.of_format.Reading.{btree_fields}
-use Rattle.bdb_layout.specs.of_format.Spelling.{btree_bytes, last_field}
+use Rattle.bdb_layout.specs.of_format.Terms.{btree_bytes, btree_fields, last_field}
 use Rattle.bdb_meta.specs.ReadBack.{BtreeFits}
 use Rattle.bdb_meta.proofs.CommonLemmas.{filled_common, page_size-least}
 use Rattle.bdb_meta.proofs.FieldLemmas.{btree_fields-bytes, btree_pieces}

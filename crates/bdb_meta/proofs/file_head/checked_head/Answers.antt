@@ -1,7 +1,6 @@
 use Rattle.std.proofs.Common.{◌≤◌, ◌∙◌, length, sym, arith, rules}
-use Rattle.bdb_layout.specs.of_format.HeadOf.{head_of}
+use Rattle.bdb_layout.specs.of_format.Terms.{file_row_code, head_of}
 use Rattle.bdb_meta.specs.RowGroups.{length_rows}
-use Rattle.bdb_layout.specs.of_format.FaultTable.{file_row_code}
 use Rattle.bdb_meta.proofs.RowLemmas.{answer-code, answer-value, head_rows-version, head_rows-pages, head_rows-length}
 use Rattle.bdb_meta.proofs.file_head.checked_head.Goals as goal
 

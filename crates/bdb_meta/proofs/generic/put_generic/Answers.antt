@@ -1,5 +1,5 @@
 use Rattle.std.proofs.Common.{◌-◌, ◌++◌, ℕ, List, length, slice_set, ap, ◌∙◌, refl, arith}
-use Rattle.bdb_layout.specs.of_format.Spelling.{zeros}
+use Rattle.bdb_layout.specs.of_format.Terms.{zeros}
 use Rattle.bdb_meta.proofs.CommonLemmas.{common_pieces}
 use Rattle.bdb_meta.proofs.FilledLemmas.{filled_none, filled_zeros, filled_number, filled_byte}
 use Rattle.bdb_meta.proofs.generic.put_generic.Goals as goal

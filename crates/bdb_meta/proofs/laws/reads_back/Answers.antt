@@ -1,10 +1,7 @@
 use Rattle.std.proofs.Common.{ap, ◌∙◌}
 use Rattle.std.specs.Prelude.{Ok}
 use Rattle.bdb_layout.specs.of_format.declared.metadata.FileKind.TheVariants.{Btree, Hash, Queue}
-use Rattle.bdb_layout.specs.of_format.HeadOf.{form_fault}
-use Rattle.bdb_layout.specs.of_format.Reading.{btree_fields, hash_fields, queue_fields}
-use Rattle.bdb_layout.specs.of_format.Rows.{metadata_rows}
-use Rattle.bdb_layout.specs.of_format.Spelling.{btree_bytes, queue_bytes, table_bytes}
+use Rattle.bdb_layout.specs.of_format.Terms.{btree_bytes, btree_fields, form_fault, hash_fields, metadata_rows, queue_bytes, queue_fields, table_bytes}
 use Rattle.bdb_meta.proofs.FieldLemmas.{btree_fields-bytes, hash_fields-bytes, queue_fields-bytes, spares-bytes}
 use Rattle.bdb_meta.proofs.RowLemmas.{faulted-none}
 use Rattle.bdb_meta.proofs.laws.reads_back.Goals as goal

@@ -1,7 +1,6 @@
 use Rattle.std.proofs.Common.{◌≡◌, ◌≤◌, length, ap, ◌∙◌, refl, arith}
 use Rattle.bdb_layout.specs.of_format.declared.metadata.FileKind.TheVariants.{Queue}
-use Rattle.bdb_layout.specs.of_format.Reading.{queue_fields}
-use Rattle.bdb_layout.specs.of_format.Spelling.{queue_bytes}
+use Rattle.bdb_layout.specs.of_format.Terms.{queue_bytes, queue_fields}
 use Rattle.bdb_meta.specs.ReadBack.{QueueFits}
 use Rattle.bdb_meta.proofs.CommonLemmas.{filled_common, page_size-least}
 use Rattle.bdb_meta.proofs.FieldLemmas.{queue_fields-bytes, queue_pieces}

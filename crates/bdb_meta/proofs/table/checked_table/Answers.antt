@@ -1,8 +1,6 @@
 use Rattle.std.proofs.Common.{sym, ◌∙◌, rules}
 use Rattle.bdb_layout.specs.of_format.declared.metadata.FileKind.TheVariants.{Hash}
-use Rattle.bdb_layout.specs.of_format.Reading.{hash_fields}
-use Rattle.bdb_layout.specs.of_format.Rows.{table_rows}
-use Rattle.bdb_layout.specs.of_format.FaultTable.{form_row_code}
+use Rattle.bdb_layout.specs.of_format.Terms.{form_row_code, hash_fields, table_rows}
 use Rattle.bdb_meta.proofs.RowLemmas.{answer-code, answer-value, metadata-common, metadata-kind}
 use Rattle.bdb_meta.proofs.table.checked_table.Goals as goal
 

@@ -1,7 +1,6 @@
 use Rattle.std.proofs.Common.{◌≡◌, ◌≤◌, ◌+◌, length, sym, ap, ◌∙◌, refl, arith}
 use Rattle.bdb_layout.specs.of_format.declared.metadata.FileKind.TheVariants.{Hash}
-use Rattle.bdb_layout.specs.of_format.Reading.{hash_fields}
-use Rattle.bdb_layout.specs.of_format.Spelling.{last_field, table_bytes}
+use Rattle.bdb_layout.specs.of_format.Terms.{hash_fields, last_field, table_bytes}
 use Rattle.bdb_meta.specs.ReadBack.{TableFits}
 use Rattle.bdb_meta.proofs.CommonLemmas.{filled_common, page_size-least}
 use Rattle.bdb_meta.proofs.FieldLemmas.{hash_fields-bytes, table_pieces}

@@ -1,6 +1,6 @@
 use Rattle.std.proofs.Common.{◌≡◌, take, sym, arith}
 use Rattle.std.proofs.lemmas.List.{take-append-drop, take_all}
-use Rattle.bdb_layout.specs.of_format.Numbers.{overwritten}
+use Rattle.bdb_layout.specs.of_format.Terms.{overwritten}
 use Rattle.bdb_meta.proofs.SparesLemmas.{spares_bytes, spares_next, spares-read}
 use Rattle.bdb_meta.proofs.table.put_spares.Goals as goal
 

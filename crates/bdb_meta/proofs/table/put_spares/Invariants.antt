@@ -1,6 +1,6 @@
 use Rattle.std.proofs.Common.{◌≡◌, take}
 use Rattle.std.specs.List.{flat_map}
-use Rattle.bdb_layout.specs.of_format.Numbers.{overwritten, spelled}
+use Rattle.bdb_layout.specs.of_format.Terms.{overwritten, spelled}
 use Rattle.bdb_meta.proofs.table.put_spares.Given as goal
 
 -- The spares so far are written, and nothing else.

@@ -1,6 +1,6 @@
 use Rattle.std.proofs.Common.{ℕ, ◌+◌, ◌*◌, arith, ◌<◌, ◌≡◌, get_or}
 use Rattle.std.proofs.lemmas.List.FromFn.{fill_by_all}
-use Rattle.bdb_layout.specs.of_format.Numbers.{four_at}
+use Rattle.bdb_layout.specs.of_format.Terms.{four_at}
 use Rattle.bdb_meta.proofs.table.spares.Goals as goal
 
 pub returns : goal.returns

@@ -1,5 +1,5 @@
 use Rattle.std.proofs.Common.{◌≡◌, ℕ, ◌+◌, ◌*◌, ◌<◌, get_or}
-use Rattle.bdb_layout.specs.of_format.Numbers.{four_at}
+use Rattle.bdb_layout.specs.of_format.Terms.{four_at}
 use Rattle.bdb_meta.proofs.table.spares.Given as goal
 
 -- The spares so far are those of the page.

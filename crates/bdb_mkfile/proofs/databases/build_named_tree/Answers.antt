@@ -1,4 +1,4 @@
-use Rattle.bdb_text_format.specs.Placed.{pairs_of}
+use Rattle.bdb_text_format.specs.Terms.{pairs_of}
 use Rattle.bdb_mkfile.proofs.NamedBuildLemmas.{tree_built}
 use Rattle.bdb_mkfile.proofs.databases.build_named_tree.Goals as goal
 

@@ -1,6 +1,5 @@
 use Rattle.std.proofs.Common.{◌≡◌, ◌+◌, ◌∙◌, ap, sym, arith, subst}
-use Rattle.bdb_text_format.specs.Pairs.{unlined_pairs}
-use Rattle.bdb_text_format.specs.Placed.{pairs_of}
+use Rattle.bdb_text_format.specs.Terms.{pairs_of, unlined_pairs}
 use Rattle.bdb_io.specs.of_format.declared.settings.Settings.{Settings}
 use Rattle.bdb_mkfile.specs.NamedImages.{AreNamed}
 use Rattle.bdb_mkfile.specs.Layout.{settings_of_master}

@@ -1,6 +1,6 @@
 use Rattle.std.proofs.Common.{◌≡◌, ◌++◌, ◌∷◌, [], ◌∙◌, ap, refl}
 use Rattle.std.proofs.lemmas.List.{map-append}
-use Rattle.bdb_text_format.specs.Pairs.{unlined, unlined_pairs}
+use Rattle.bdb_text_format.specs.Terms.{unlined, unlined_pairs}
 use Rattle.bdb_text_format.specs.declared.pairs.Key.TheVariants.{Bytes}
 use Rattle.bdb_text_format.specs.declared.pairs.TextPair.{TextPair}
 use Rattle.bdb_mkfile.specs.Layout.{entry_of}

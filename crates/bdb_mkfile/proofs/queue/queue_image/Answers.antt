@@ -1,5 +1,5 @@
 use Rattle.std.proofs.Common.{arith, ◌∙◌}
-use Rattle.bdb_text_format.specs.Placed.{pairs_of}
+use Rattle.bdb_text_format.specs.Terms.{pairs_of}
 use Rattle.bdb_need.proofs.of_mkqueue.FileLemmas.{zero_first}
 use Rattle.bdb_mkfile.proofs.QueueLemmas.{queue_filed}
 use Rattle.bdb_mkfile.proofs.queue.queue_image.Goals as goal

@@ -1,6 +1,5 @@
 use Rattle.std.proofs.Common.{ℕ, ◌∙◌, ap, subst, arith}
-use Rattle.bdb_text_format.specs.Placed.{pairs_of}
-use Rattle.bdb_text_format.specs.Pairs.{listed}
+use Rattle.bdb_text_format.specs.Terms.{listed, pairs_of}
 use Rattle.bdb_need.specs.of_pack.Built.{Built, joined_pages}
 use Rattle.bdb_need.specs.of_mktree.Building.{IsTreeBuilt}
 use Rattle.bdb_need.specs.of_mktree.Lists.{units_in}

@@ -1,7 +1,7 @@
 use Rattle.std.proofs.Common.{List, ℕ, [], ◌++◌, ◌∷◌, ◌∙◌, ap, arith, drop, get_or, map, set, subst, sym}
 use Rattle.std.proofs.lemmas.List.{length-map, map-append}
 use Rattle.bdb_mktree.specs.of_places.Places.{values_seen}
-use Rattle.bdb_mktree.specs.of_text_format.Placed.{pairs_of}
+use Rattle.bdb_mktree.specs.of_text_format.Terms.{pairs_of}
 use Rattle.bdb_law_buckets.specs.Tables.{Keyed}
 use Rattle.bdb_mkhash.specs.Units.{unit_seen, units_seen}
 use Rattle.bdb_mkhash.specs.Buckets.{table_units}

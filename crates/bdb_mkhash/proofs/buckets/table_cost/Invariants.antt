@@ -1,5 +1,5 @@
 use Rattle.std.proofs.Common.{◌≡◌, ◌+◌, ◌-◌, ◌≤◌, drop, length}
-use Rattle.bdb_mktree.specs.of_text_format.Placed.{pairs_of, slice_seen}
+use Rattle.bdb_mktree.specs.of_text_format.Terms.{pairs_of, slice_seen}
 use Rattle.bdb_mkhash.specs.Buckets.{table_cost, table_units}
 use Rattle.bdb_mkhash.proofs.buckets.table_cost.Given as goal
 

@@ -2,7 +2,7 @@ use Rattle.std.proofs.Common.{List, [], ℕ, suc, ◌+◌, ◌≡◌, take, get_
 use Rattle.std.specs.Prelude.{IsTrue}
 use Rattle.std.proofs.Math.Seq.{take-suc}
 use Rattle.std.proofs.lemmas.List.{take_all}
-use Rattle.bdb_places.specs.of_format.HeadOf.{is_page_size}
+use Rattle.bdb_places.specs.of_format.Terms.{is_page_size}
 use Rattle.bdb_law_levels.specs.Nodes.{Node, no_node}
 use Rattle.bdb_mkleaves.specs.Levels.{AreChildren, IsLevelLaid}
 use Rattle.bdb_mkleaves.specs.declared.levels.Child.{Child}

@@ -1,6 +1,6 @@
 use Rattle.std.proofs.Common.{List, take}
 use Rattle.std.specs.Prelude.{IsTrue}
-use Rattle.bdb_places.specs.of_format.HeadOf.{is_page_size}
+use Rattle.bdb_places.specs.of_format.Terms.{is_page_size}
 use Rattle.bdb_law_levels.specs.Nodes.{Node}
 use Rattle.bdb_mkleaves.specs.Levels.{AreChildren, IsLevelLaid}
 use Rattle.bdb_mkleaves.proofs.levels.lay_level.Given as goal

@@ -1,5 +1,5 @@
 use Rattle.std.proofs.Common.{[], sym, ◌∙◌, ap, subst, arith}
-use Rattle.bdb_places.specs.of_format.Page.{Inline, Unknown}
+use Rattle.bdb_places.specs.of_format.Terms.{Inline, Unknown}
 use Rattle.bdb_law_levels.specs.Nodes.{Node}
 use Rattle.bdb_law_levels.specs.declared.inner_type.InnerType.TheVariants.{Keyed, Numbered}
 use Rattle.bdb_mkleaves.specs.Inner.{HoldsChildrenOn, with_inner}

@@ -1,5 +1,5 @@
 use Rattle.std.proofs.Common.{◌≡◌, refl, sym, ◌∙◌, ap}
-use Rattle.bdb_places.specs.of_format.Spelling.{internal_bytes}
+use Rattle.bdb_places.specs.of_format.Terms.{internal_bytes}
 use Rattle.bdb_pack.specs.of_layout.Seen.{key_seen}
 use Rattle.bdb_law_levels.specs.Nodes.{keyed_item}
 use Rattle.bdb_law_levels.specs.declared.inner_type.InnerType.TheVariants.{Keyed}

@@ -1,6 +1,6 @@
 use Rattle.std.proofs.Common.{refl, sym, ◌∙◌, ap, subst}
 use Rattle.std.proofs.lemmas.Bool.{leb-true}
-use Rattle.bdb_places.specs.of_format.Spelling.{recno_bytes}
+use Rattle.bdb_places.specs.of_format.Terms.{recno_bytes}
 use Rattle.bdb_law_levels.specs.declared.inner_type.InnerType.TheVariants.{Numbered}
 use Rattle.bdb_pack.specs.Items.{OnRecno}
 use Rattle.bdb_pack.specs.OnPages.{has_room_on}

@@ -1,7 +1,6 @@
 use Rattle.std.proofs.Common.{◌≤◌, length, arith, subst}
 use Rattle.std.proofs.lemmas.List.{length-map, take_all}
-use Rattle.bdb_text_format.specs.Pairs.{unlined}
-use Rattle.bdb_text_format.specs.Placed.{pairs_of, slice_seen}
+use Rattle.bdb_text_format.specs.Terms.{pairs_of, slice_seen, unlined}
 use Rattle.bdb_mkqueue.specs.Building.{IsQueueOn}
 use Rattle.bdb_mkqueue.proofs.BuiltLemmas.{lengths_for, queue_built}
 use Rattle.bdb_mkqueue.proofs.build.build_queue.Goals as goal

@@ -1,7 +1,6 @@
 use Rattle.std.proofs.Common.{◌≤◌, drop, length}
-use Rattle.bdb_text_format.specs.Placed.{pairs_of}
+use Rattle.bdb_text_format.specs.Terms.{AscendFrom, pairs_of}
 use Rattle.bdb_mktree.specs.Building.{ArePushed}
-use Rattle.bdb_text_format.specs.Pairs.{AscendFrom}
 use Rattle.bdb_mktree.specs.Lists.{record_units}
 use Rattle.bdb_mktree.proofs.build.push_records.Given as goal
 

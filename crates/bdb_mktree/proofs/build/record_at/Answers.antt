@@ -1,8 +1,7 @@
 use Rattle.std.proofs.Common.{◌+◌, ◌∙◌, ap, arith, subst, sym, false}
 use Rattle.std.proofs.lemmas.List.{length-map}
 use Rattle.bdb_mkleaves.specs.Units.{EntryUnit}
-use Rattle.bdb_text_format.specs.Pairs.{number_of, unlined}
-use Rattle.bdb_text_format.specs.Placed.{pairs_of, slice_seen}
+use Rattle.bdb_text_format.specs.Terms.{number_of, pairs_of, slice_seen, unlined}
 use Rattle.bdb_text_format.specs.declared.pairs.Pair.{Pair}
 use Rattle.bdb_mktree.specs.Lists.{IsRecordAt}
 use Rattle.bdb_mktree.proofs.ListLemmas.{is_missing, is_there, pair_at}

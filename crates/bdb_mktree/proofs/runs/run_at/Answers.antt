@@ -2,8 +2,7 @@ use Rattle.std.proofs.Common.{◌+◌, ◌-◌, ◌≡◌, List, ◌∙◌, ap, 
 use Rattle.std.specs.List.{prefix_len}
 use Rattle.std.proofs.lemmas.List.{length-drop}
 use Rattle.bdb_text_format.specs.of_places.Places.{values_seen}
-use Rattle.bdb_text_format.specs.Pairs.{keys_of, unlined_pairs}
-use Rattle.bdb_text_format.specs.Placed.{key_seen, pairs_of, slice_seen}
+use Rattle.bdb_text_format.specs.Terms.{key_seen, keys_of, pairs_of, slice_seen, unlined_pairs}
 use Rattle.bdb_text_format.specs.declared.pairs.TextPair.{TextPair}
 use Rattle.bdb_mkleaves.specs.Units.{KeyedUnit}
 use Rattle.bdb_mktree.specs.Lists.{HasBytes, IsRunAt, has_key}

@@ -1,6 +1,6 @@
 use Rattle.std.proofs.Common.{◌∙◌, arith, drop}
 use Rattle.bdb_mkhash.specs.of_places.Places.{values_seen}
-use Rattle.bdb_mkhash.specs.of_text_format.Placed.{pairs_of, slice_seen}
+use Rattle.bdb_mkhash.specs.of_text_format.Terms.{pairs_of, slice_seen}
 use Rattle.bdb_mkhash.specs.of_mkleaves.Spread.{own_pages}
 use Rattle.bdb_mkhash.specs.of_mkleaves.Units.{KeyedUnit}
 use Rattle.bdb_mkhash.specs.of_mktree.Lists.{keyed_units}

@@ -1,5 +1,5 @@
 use Rattle.std.proofs.Common.{length, ◌-◌}
-use Rattle.bdb_mkhash.specs.of_text_format.Placed.{slice_seen}
+use Rattle.bdb_mkhash.specs.of_text_format.Terms.{slice_seen}
 use Rattle.bdb_need.proofs.KeyLemmas.{KeysPassed}
 use Rattle.bdb_need.proofs.keys.keyed_pages.Given as goal
 

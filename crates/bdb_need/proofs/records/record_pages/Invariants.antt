@@ -1,6 +1,6 @@
 use Rattle.std.proofs.Common.{◌≡◌, ◌≤◌, ◌*◌, ◌^◌, take}
 use Rattle.std.specs.List.{sum_by}
-use Rattle.bdb_mkhash.specs.of_text_format.Placed.{slice_seen}
+use Rattle.bdb_mkhash.specs.of_text_format.Terms.{slice_seen}
 use Rattle.bdb_mkhash.specs.of_mkleaves.Units.{chain_pages}
 use Rattle.bdb_need.specs.Counting.{values_in}
 use Rattle.bdb_need.proofs.RecordLemmas.{RecordsPassed}

@@ -1,7 +1,7 @@
 use Rattle.std.proofs.Common.{◌≡◌, ◌+◌, ◌∙◌, true, false, ap, arith, map, subst, sym}
 use Rattle.std.specs.Prelude.{IsTrue, is_some}
 use Rattle.std.specs.List.{All, sum_by}
-use Rattle.bdb_mkhash.specs.of_format.HeadOf.{is_page_size}
+use Rattle.bdb_mkhash.specs.of_format.Terms.{is_page_size}
 use Rattle.bdb_mkhash.specs.of_mkleaves.Runs.{IsShort}
 use Rattle.bdb_mkhash.specs.of_text_format.declared.sections.Section.{Section}
 use Rattle.bdb_settle.specs.Loaded.{filled_section}

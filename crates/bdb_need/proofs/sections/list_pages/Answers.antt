@@ -1,6 +1,6 @@
 use Rattle.std.proofs.Common.{◌≡◌, ◌∙◌, ap, subst, sym}
 use Rattle.std.specs.Prelude.{IfOk}
-use Rattle.bdb_mkhash.specs.of_format.Rows.{records_per_page}
+use Rattle.bdb_mkhash.specs.of_format.Terms.{records_per_page}
 use Rattle.bdb_mkhash.specs.Buckets.{table_size, table_units}
 use Rattle.bdb_mkhash.specs.Table.{IsTableList}
 use Rattle.bdb_need.specs.TreePages.{unlined_pairs}

@@ -1,6 +1,6 @@
 use Rattle.std.proofs.Common.{◌+◌, ◌<◌, ◌∙◌, ap, arith, length, refl}
 use Rattle.bdb_mkhash.specs.of_places.Places.{values_seen}
-use Rattle.bdb_mkhash.specs.of_text_format.Placed.{pairs_of, slice_seen}
+use Rattle.bdb_mkhash.specs.of_text_format.Terms.{pairs_of, slice_seen}
 use Rattle.bdb_mkhash.specs.of_mkleaves.Units.{KeyedUnit}
 use Rattle.bdb_mkhash.specs.of_mktree.Lists.{keyed_units}
 use Rattle.bdb_need.proofs.KeyLemmas.{own_begun, own_end, own_next, run_some, unit_short}

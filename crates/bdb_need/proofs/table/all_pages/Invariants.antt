@@ -1,5 +1,5 @@
 use Rattle.std.proofs.Common.{length, ◌-◌}
-use Rattle.bdb_mkhash.specs.of_text_format.Placed.{slice_seen}
+use Rattle.bdb_mkhash.specs.of_text_format.Terms.{slice_seen}
 use Rattle.bdb_need.proofs.KeyLemmas.{OwnPassed}
 use Rattle.bdb_need.proofs.TableLemmas.{KeysPlaced, own_in_table}
 use Rattle.bdb_need.proofs.table.all_pages.Given as goal

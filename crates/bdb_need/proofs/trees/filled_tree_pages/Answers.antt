@@ -4,8 +4,7 @@ use Rattle.std.specs.List.{All}
 use Rattle.bdb_mkhash.specs.of_mkleaves.Runs.{IsShort}
 use Rattle.bdb_mkhash.specs.of_mkleaves.Spread.{tree_size}
 use Rattle.bdb_mkhash.specs.of_mkleaves.declared.leaf_type.LeafType.TheVariants.{Pairs, Records}
-use Rattle.bdb_mkhash.specs.of_text_format.Pairs.{AscendFrom}
-use Rattle.bdb_mkhash.specs.of_text_format.Placed.{pairs_of}
+use Rattle.bdb_mkhash.specs.of_text_format.Terms.{AscendFrom, pairs_of}
 use Rattle.bdb_mkhash.specs.of_mktree.Lists.{HasBytes, IsTreeList, keyed_units, record_units, units_in}
 use Rattle.bdb_mkhash.specs.of_mktree.Units.{IsShortUnit, leaf_type_of}
 use Rattle.bdb_settle.specs.Loaded.{filled_pairs}

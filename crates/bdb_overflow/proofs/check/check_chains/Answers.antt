@@ -1,7 +1,6 @@
 use Rattle.bdb_graph.proofs.of_faults.AscendLemmas.{chains_ascend}
 use Rattle.bdb_graph.proofs.of_faults.FirstLemmas.{newly_noted}
-use Rattle.bdb_graph.specs.of_format.File.{file_of}
-use Rattle.bdb_graph.specs.of_format.Verdict.{chain_faults}
+use Rattle.bdb_graph.specs.of_format.Terms.{chain_faults, file_of}
 use Rattle.bdb_overflow.proofs.RefusalLemmas.{first_told}
 use Rattle.bdb_overflow.proofs.check.check_chains.Goals as goal
 

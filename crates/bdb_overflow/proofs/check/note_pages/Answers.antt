@@ -1,5 +1,5 @@
 use Rattle.std.proofs.Common.{◌≡◌, ◌+◌, arith}
-use Rattle.bdb_graph.specs.of_format.File.{file_of}
+use Rattle.bdb_graph.specs.of_format.Terms.{file_of}
 use Rattle.bdb_overflow.proofs.ChainLemmas.{all_below, one_below}
 use Rattle.bdb_overflow.proofs.check.note_pages.Goals as goal
 

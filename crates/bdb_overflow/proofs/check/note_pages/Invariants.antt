@@ -1,4 +1,4 @@
-use Rattle.bdb_graph.specs.of_format.File.{file_of}
+use Rattle.bdb_graph.specs.of_format.Terms.{file_of}
 use Rattle.bdb_overflow.proofs.ChainLemmas.{AreNotedBelow}
 use Rattle.bdb_overflow.proofs.check.note_pages.Given as goal
 

@@ -1,5 +1,5 @@
 use Rattle.std.proofs.Common.{◌≡◌, ◌++◌}
-use Rattle.bdb_graph.specs.of_format.Chains.{joined}
+use Rattle.bdb_graph.specs.of_format.Terms.{joined}
 use Rattle.bdb_overflow.proofs.datum.push_pieces.Given as goal
 
 -- What was added, and what is left, is all.

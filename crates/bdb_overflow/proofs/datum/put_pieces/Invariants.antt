@@ -1,5 +1,5 @@
 use Rattle.std.proofs.Common.{◌≡◌, ◌++◌}
-use Rattle.bdb_graph.specs.of_format.Chains.{joined}
+use Rattle.bdb_graph.specs.of_format.Terms.{joined}
 use Rattle.bdb_overflow.proofs.datum.put_pieces.Given as goal
 
 -- What is in the room, and what is left, is all.

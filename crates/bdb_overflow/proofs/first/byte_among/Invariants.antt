@@ -1,5 +1,5 @@
 use Rattle.std.proofs.Common.{◌≡◌, get_or}
-use Rattle.bdb_graph.specs.of_format.Chains.{joined}
+use Rattle.bdb_graph.specs.of_format.Terms.{joined}
 use Rattle.bdb_overflow.proofs.first.byte_among.Given as goal
 
 -- The byte is among those of the pieces that are left.

@@ -1,5 +1,5 @@
 use Rattle.std.proofs.Common.{ℕ, Bool, arith, length, sym}
-use Rattle.bdb_graph.specs.of_format.File.{file_of}
+use Rattle.bdb_graph.specs.of_format.Terms.{file_of}
 use Rattle.bdb_overflow.specs.Lengths.{is_wrong_entry}
 use Rattle.bdb_overflow.proofs.LengthLemmas.{entries_none, entries_some, one_more}
 use Rattle.bdb_overflow.proofs.lengths.some_wrong.Goals as goal

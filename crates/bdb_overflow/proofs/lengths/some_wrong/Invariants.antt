@@ -1,4 +1,4 @@
-use Rattle.bdb_graph.specs.of_format.File.{file_of}
+use Rattle.bdb_graph.specs.of_format.Terms.{file_of}
 use Rattle.bdb_overflow.specs.Lengths.{is_wrong_entry}
 use Rattle.bdb_overflow.proofs.LengthLemmas.{NoneBelow}
 use Rattle.bdb_overflow.proofs.lengths.some_wrong.Given as goal

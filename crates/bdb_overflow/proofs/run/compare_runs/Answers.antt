@@ -1,5 +1,5 @@
 use Rattle.std.proofs.Common.{arith, sym, ◌∙◌}
-use Rattle.bdb_graph.specs.of_format.Chains.{joined}
+use Rattle.bdb_graph.specs.of_format.Terms.{joined}
 use Rattle.bdb_overflow.specs.Runs.{run_seen}
 use Rattle.bdb_overflow.proofs.RunLemmas.{alike, ends_decide, fronts_agree, fronts_decide}
 use Rattle.bdb_overflow.proofs.run.compare_runs.Goals as goal

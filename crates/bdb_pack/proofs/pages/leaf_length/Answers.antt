@@ -1,5 +1,5 @@
 use Rattle.std.proofs.Common.{sym, ◌∙◌, ap, length}
-use Rattle.bdb_layout.specs.of_format.Spelling.{leaf_bytes}
+use Rattle.bdb_layout.specs.of_format.Terms.{leaf_bytes}
 use Rattle.bdb_layout.specs.Seen.{leaf_item_seen}
 use Rattle.bdb_layout.proofs.WritingLemmas.{length-leaf_chain, length-leaf_inline, length-leaf_tree}
 use Rattle.bdb_pack.proofs.pages.leaf_length.Goals as goal

@@ -1,6 +1,5 @@
 use Rattle.std.proofs.Common.{◌≡◌, arith, ap, sym, ◌∙◌}
-use Rattle.bdb_overflow.specs.of_format.File.{file_of}
-use Rattle.bdb_overflow.specs.of_format.Lists.{NumberKey, get, queue_list}
+use Rattle.bdb_overflow.specs.of_format.Terms.{NumberKey, file_of, get, queue_list}
 use Rattle.bdb_queue.proofs.FindLemmas.{none_under_zero}
 use Rattle.bdb_queue.proofs.lookup.find.Goals as goal
 

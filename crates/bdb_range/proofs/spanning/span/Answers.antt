@@ -1,6 +1,6 @@
 use Rattle.std.proofs.Common.{◌≡◌, ◌≤◌, length, arith}
 use Rattle.std.specs.List.{prefix_len}
-use Rattle.bdb_btree.specs.of_format.File.{file_of}
+use Rattle.bdb_btree.specs.of_format.Terms.{file_of}
 use Rattle.bdb_range.specs.Spans.{goes_on}
 use Rattle.bdb_range.proofs.AnswerLemmas.{AreBehind, IsSpan, are_behind, span_is}
 use Rattle.bdb_range.proofs.SpanLemmas.{walk_inside}

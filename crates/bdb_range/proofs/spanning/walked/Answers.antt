@@ -1,6 +1,6 @@
 use Rattle.std.proofs.Common.{◌∙◌, ◌+◌, ◌^◌, ◌<◌, arith, sym}
 use Rattle.std.specs.List.{prefix_len}
-use Rattle.bdb_btree.specs.of_format.File.{file_of}
+use Rattle.bdb_btree.specs.of_format.Terms.{file_of}
 use Rattle.bdb_range.specs.Spans.{goes_on}
 use Rattle.bdb_range.proofs.SpanLemmas.{count_fits, first_fits, rest_fits, walk_more}
 use Rattle.bdb_range.proofs.spanning.walked.Goals as goal

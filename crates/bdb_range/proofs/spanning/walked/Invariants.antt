@@ -1,6 +1,6 @@
 use Rattle.std.proofs.Common.{◌≡◌, ◌+◌}
 use Rattle.std.specs.List.{prefix_len}
-use Rattle.bdb_btree.specs.of_format.File.{file_of}
+use Rattle.bdb_btree.specs.of_format.Terms.{file_of}
 use Rattle.bdb_btree.specs.Pairs.{AreLeaves}
 use Rattle.bdb_range.specs.Spans.{goes_on}
 use Rattle.bdb_range.proofs.spanning.walked.Given as goal

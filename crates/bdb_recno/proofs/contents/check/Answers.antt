@@ -1,8 +1,6 @@
 use Rattle.std.proofs.Common.{List}
-use Rattle.bdb_tree.specs.of_format.ContentRows.{database_faults}
+use Rattle.bdb_tree.specs.of_format.Terms.{BtreeFields, File, database_faults, file_of}
 use Rattle.bdb_tree.specs.of_format.declared.kinds.Fault.{Fault}
-use Rattle.bdb_tree.specs.of_format.File.{File, file_of}
-use Rattle.bdb_tree.specs.of_format.Page.{BtreeFields}
 use Rattle.bdb_faults.proofs.AscendLemmas.{database_ascends}
 use Rattle.bdb_faults.proofs.FirstLemmas.{newly_noted}
 use Rattle.bdb_recno.proofs.contents.check.Goals as goal

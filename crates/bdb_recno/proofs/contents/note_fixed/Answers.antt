@@ -1,7 +1,5 @@
 use Rattle.std.proofs.Common.{◌∙◌, sym}
-use Rattle.bdb_tree.specs.of_format.File.{file_of}
-use Rattle.bdb_tree.specs.of_format.Flags.{is_fixed}
-use Rattle.bdb_tree.specs.of_format.Leaves.{leaves}
+use Rattle.bdb_tree.specs.of_format.Terms.{file_of, is_fixed, leaves}
 use Rattle.bdb_recno.specs.Noted.{length_faults}
 use Rattle.bdb_recno.proofs.ContentsLemmas.{lengths_noted}
 use Rattle.bdb_recno.proofs.contents.note_fixed.Goals as goal

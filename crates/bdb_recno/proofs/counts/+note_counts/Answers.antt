@@ -1,6 +1,6 @@
 use Rattle.std.proofs.Common.{◌∙◌, ◌<◌, arith, rules, subst, sym}
 use Rattle.std.specs.List.{Contains}
-use Rattle.bdb_tree.specs.of_format.File.{File, file_of}
+use Rattle.bdb_tree.specs.of_format.Terms.{File, file_of}
 use Rattle.bdb_tree.proofs.of_format.MemberLemmas.{first_member}
 use Rattle.bdb_recno.specs.Pages.{IsRecnoPage}
 use Rattle.bdb_recno.proofs.CountLemmas.{IsBelow, all_counted, all_passed, leaf_counted, leaf_noted, level, more_passed, none_passed}

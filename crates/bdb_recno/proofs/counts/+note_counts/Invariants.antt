@@ -1,4 +1,4 @@
-use Rattle.bdb_tree.specs.of_format.File.{file_of}
+use Rattle.bdb_tree.specs.of_format.Terms.{file_of}
 use Rattle.bdb_recno.proofs.CountLemmas.{IsPassed, level}
 use Rattle.bdb_recno.proofs.counts.+note_counts.Given as goal
 

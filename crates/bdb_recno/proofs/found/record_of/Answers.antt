@@ -2,7 +2,7 @@ use Rattle.std.proofs.Common.{◌∙◌, [], ap, arith}
 use Rattle.std.specs.List.{cons_option}
 use Rattle.std.specs.Option.{option_map}
 use Rattle.bdb_tree.specs.of_layout.Seen.{leaf_item_seen}
-use Rattle.bdb_tree.specs.of_format.File.{file_of}
+use Rattle.bdb_tree.specs.of_format.Terms.{file_of}
 use Rattle.bdb_tree.specs.of_overflow.Datum.{datum_seen}
 use Rattle.bdb_recno.proofs.ListLemmas.{deleted_there, get_zero, live_there, none_there, place_fits}
 use Rattle.bdb_recno.proofs.found.record_of.Goals as goal

@@ -2,9 +2,7 @@ use Rattle.std.proofs.Common.{◌≡◌, ◌∙◌, ap, subst, sym, Bool}
 use Rattle.std.specs.Prelude.{◌||◌}
 use Rattle.std.specs.List.{list_any}
 use Rattle.bdb_tree.specs.of_layout.Seen.{leaf_item_seen}
-use Rattle.bdb_tree.specs.of_format.ContentRows.{has_wrong_record, is_wrong_record}
-use Rattle.bdb_tree.specs.of_format.File.{File, file_of}
-use Rattle.bdb_tree.specs.of_format.Page.{Item, RecnoLeaf}
+use Rattle.bdb_tree.specs.of_format.Terms.{File, Item, RecnoLeaf, file_of, has_wrong_record, is_wrong_record}
 use Rattle.bdb_tree.specs.Entries.{AreFit}
 use Rattle.bdb_tree.proofs.EntryLemmas.{page_fits, rest_fit}
 use Rattle.bdb_recno.proofs.PageLemmas.{leaf_inside}

@@ -1,7 +1,6 @@
 use Rattle.std.proofs.Common.{◌≡◌}
 use Rattle.std.specs.List.{list_any}
-use Rattle.bdb_tree.specs.of_format.ContentRows.{has_wrong_record, is_wrong_record}
-use Rattle.bdb_tree.specs.of_format.File.{file_of, page_at}
+use Rattle.bdb_tree.specs.of_format.Terms.{file_of, has_wrong_record, is_wrong_record, page_at}
 use Rattle.bdb_tree.specs.Entries.{AreFit}
 use Rattle.bdb_recno.proofs.lengths.has_wrong_record.Given as goal
 

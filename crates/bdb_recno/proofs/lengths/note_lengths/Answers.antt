@@ -1,8 +1,7 @@
 use Rattle.std.proofs.Common.{◌∙◌, [], ◌∷◌, ◌++◌, List, ℕ, ap, append-nil, append_assoc, subst, sym}
 use Rattle.bdb_faults.specs.Notes.{NotesAll}
 use Rattle.bdb_faults.proofs.SinkLemmas.{notes_none}
-use Rattle.bdb_tree.specs.of_format.ContentRows.{has_wrong_record}
-use Rattle.bdb_tree.specs.of_format.File.{file_of}
+use Rattle.bdb_tree.specs.of_format.Terms.{file_of, has_wrong_record}
 use Rattle.bdb_recno.specs.Noted.{length_faults}
 use Rattle.bdb_tree.specs.of_format.declared.rows.ContentsRow.TheVariants.{RecordLength}
 use Rattle.bdb_recno.proofs.NotedLemmas.{page_noted}

@@ -1,7 +1,6 @@
 use Rattle.std.proofs.Common.{◌≡◌, ◌++◌, List, ℕ}
 use Rattle.bdb_faults.specs.Notes.{NotesAll}
-use Rattle.bdb_tree.specs.of_format.File.{file_of}
-use Rattle.bdb_tree.specs.of_format.Leaves.{leaves}
+use Rattle.bdb_tree.specs.of_format.Terms.{file_of, leaves}
 use Rattle.bdb_recno.specs.Noted.{length_faults}
 use Rattle.bdb_recno.proofs.lengths.note_lengths.Given as goal
 

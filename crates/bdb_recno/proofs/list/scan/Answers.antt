@@ -1,6 +1,5 @@
 use Rattle.std.proofs.Common.{◌≡◌, ◌∙◌, ap, arith, inl, length}
-use Rattle.bdb_tree.specs.of_format.Contents.{tree_entries}
-use Rattle.bdb_tree.specs.of_format.File.{file_of}
+use Rattle.bdb_tree.specs.of_format.Terms.{file_of, tree_entries}
 use Rattle.bdb_recno.proofs.ScanLemmas.{few_records}
 use Rattle.bdb_recno.proofs.list.scan.Goals as goal
 

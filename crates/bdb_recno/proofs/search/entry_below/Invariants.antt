@@ -1,5 +1,5 @@
 use Rattle.std.proofs.Common.{◌+◌, ◌≤◌}
-use Rattle.bdb_tree.specs.of_format.File.{file_of, header_in, page_at}
+use Rattle.bdb_tree.specs.of_format.Terms.{file_of, header_in, page_at}
 use Rattle.bdb_recno.proofs.SearchLemmas.{IsOnTheWay}
 use Rattle.bdb_recno.proofs.search.entry_below.Given as goal
 

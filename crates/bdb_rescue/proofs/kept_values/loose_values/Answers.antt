@@ -1,6 +1,6 @@
 use Rattle.std.proofs.Common.{◌≡◌, ◌+◌, ◌<◌, ◌++◌, ◌∷◌, [], cond, map, length, ◌∙◌, ap, arith}
 use Rattle.std.specs.List.{range_with_len}
-use Rattle.bdb_text_format.specs.of_format.File.{File}
+use Rattle.bdb_text_format.specs.of_format.Terms.{File}
 use Rattle.bdb_rescue.specs.Kept.{below, loose_values, untaken_on, values_on}
 use Rattle.bdb_survey.specs.Salvage.{is_taken}
 use Rattle.bdb_rescue.proofs.TableLemmas.{below_more, bounds_more}

@@ -1,6 +1,6 @@
 use Rattle.std.specs.Prelude.{◌≡◌, ◌++◌}
 use Rattle.std.specs.List.{flat_map}
-use Rattle.bdb_text_format.specs.of_format.Chains.{chain}
+use Rattle.bdb_text_format.specs.of_format.Terms.{chain}
 use Rattle.bdb_rescue.specs.Kept.{values_on}
 use Rattle.bdb_rescue.proofs.sets.keep_set.Given as goal
 

@@ -1,7 +1,6 @@
 use Rattle.std.proofs.Common.{◌≡◌, ◌+◌, ◌++◌, ◌<◌, ◌∷◌, [], cond, map, length, arith, ◌∙◌, ap}
 use Rattle.std.specs.List.{flat_map, range_with_len}
-use Rattle.bdb_text_format.specs.of_format.Chains.{chain}
-use Rattle.bdb_text_format.specs.of_format.File.{File}
+use Rattle.bdb_text_format.specs.of_format.Terms.{File, chain}
 use Rattle.bdb_rescue.specs.Kept.{below, set_from, values_on}
 use Rattle.bdb_rescue.proofs.TableLemmas.{below_more, bounds_more}
 use Rattle.bdb_rescue.proofs.sets.set_table.Goals as goal

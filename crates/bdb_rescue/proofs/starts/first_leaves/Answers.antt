@@ -1,6 +1,6 @@
 use Rattle.std.proofs.Common.{◌<◌, arith, sym, ◌∙◌, ap, subst}
 use Rattle.std.specs.List.{All}
-use Rattle.bdb_text_format.specs.of_format.File.{File}
+use Rattle.bdb_text_format.specs.of_format.Terms.{File}
 use Rattle.bdb_rescue.specs.Marks.{Marks, starts_of}
 use Rattle.bdb_survey.specs.Salvage.{set_starts}
 use Rattle.bdb_rescue.proofs.MarkLemmas.{IsPast, starts_are, starts_here}

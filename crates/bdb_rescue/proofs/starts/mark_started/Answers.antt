@@ -1,6 +1,5 @@
 use Rattle.std.proofs.Common.{◌++◌, [], cond, sym, ◌∙◌, ap, subst}
-use Rattle.bdb_text_format.specs.of_format.Chains.{chain}
-use Rattle.bdb_text_format.specs.of_format.File.{File}
+use Rattle.bdb_text_format.specs.of_format.Terms.{File, chain}
 use Rattle.bdb_rescue.specs.Marks.{Marks}
 use Rattle.bdb_rescue.proofs.starts.mark_started.Goals as goal
 

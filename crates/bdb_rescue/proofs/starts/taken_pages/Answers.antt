@@ -1,8 +1,7 @@
 use Rattle.std.proofs.Common.{◌≡◌, ◌<◌, ◌+◌, ◌++◌, [], ℕ, List, Bool, true, false, cond, length, arith, sym, ◌∙◌, ap, subst}
 use Rattle.std.specs.Prelude.{slice_index_or}
 use Rattle.std.specs.List.{All, flat_map, range_with_len}
-use Rattle.bdb_text_format.specs.of_format.Chains.{chain}
-use Rattle.bdb_text_format.specs.of_format.File.{File}
+use Rattle.bdb_text_format.specs.of_format.Terms.{File, chain}
 use Rattle.bdb_rescue.specs.Marks.{Marks, row_of}
 use Rattle.bdb_rescue.proofs.ListLemmas.{more_pieces}
 use Rattle.bdb_rescue.proofs.MarkLemmas.{IsPast, marked_here, marks_are, written}

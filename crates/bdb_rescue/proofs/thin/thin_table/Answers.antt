@@ -1,6 +1,6 @@
 use Rattle.std.proofs.Common.{◌≡◌, ◌+◌, ◌++◌, ◌∷◌, [], map, length, arith, ◌∙◌, ap}
 use Rattle.std.specs.List.{range_with_len}
-use Rattle.bdb_text_format.specs.of_format.File.{File}
+use Rattle.bdb_text_format.specs.of_format.Terms.{File}
 use Rattle.bdb_rescue.specs.Kept.{below, bytes_in, thin_from}
 use Rattle.bdb_rescue.proofs.TableLemmas.{below_more, bounds_more}
 use Rattle.bdb_rescue.proofs.thin.thin_table.Goals as goal

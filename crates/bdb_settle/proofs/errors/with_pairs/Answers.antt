@@ -1,4 +1,4 @@
-use Rattle.bdb_mktree.specs.of_text_format.Placed.{slice_seen}
+use Rattle.bdb_mktree.specs.of_text_format.Terms.{slice_seen}
 use Rattle.bdb_settle.proofs.ErrorLemmas.{errors_more}
 use Rattle.bdb_settle.proofs.errors.with_pairs.Goals as goal
 

@@ -1,6 +1,6 @@
 use Rattle.std.proofs.Common.{◌≡◌, take}
 use Rattle.std.specs.List.{flat_map, fold}
-use Rattle.bdb_mktree.specs.of_text_format.Placed.{slice_seen}
+use Rattle.bdb_mktree.specs.of_text_format.Terms.{slice_seen}
 use Rattle.bdb_settle.specs.LoadErrors.{pair_errors, sooner}
 use Rattle.bdb_settle.proofs.errors.with_pairs.Given as goal
 

@@ -1,5 +1,5 @@
 use Rattle.std.proofs.Common.{◌∙◌}
-use Rattle.bdb_mktree.specs.of_text_format.Placed.{slice_seen}
+use Rattle.bdb_mktree.specs.of_text_format.Terms.{slice_seen}
 use Rattle.bdb_settle.proofs.FillingLemmas.{filled_more}
 use Rattle.bdb_settle.proofs.filling.fill_pairs.Goals as goal
 

@@ -1,5 +1,5 @@
 use Rattle.std.proofs.Common.{◌≡◌, take}
-use Rattle.bdb_mktree.specs.of_text_format.Placed.{slice_seen}
+use Rattle.bdb_mktree.specs.of_text_format.Terms.{slice_seen}
 use Rattle.bdb_settle.specs.Loaded.{filled_pairs}
 use Rattle.bdb_settle.proofs.filling.fill_pairs.Given as goal
 

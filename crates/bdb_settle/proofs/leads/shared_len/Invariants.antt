@@ -1,7 +1,7 @@
 use Rattle.std.proofs.Common.{take}
 use Rattle.std.specs.List.{All}
 use Rattle.bdb_mktree.specs.of_places.declared.place.Place.{Place}
-use Rattle.bdb_mktree.specs.of_text_format.Placed.{placed_key}
+use Rattle.bdb_mktree.specs.of_text_format.Terms.{placed_key}
 use Rattle.bdb_settle.specs.Leads.{Begins}
 use Rattle.bdb_settle.proofs.leads.shared_len.Given as goal
 

@@ -1,6 +1,6 @@
 use Rattle.std.proofs.Common.{List, ℕ, ◌∙◌, subst, sym}
 use Rattle.std.specs.List.Sorted.{IsSortedBy}
-use Rattle.bdb_mktree.specs.of_text_format.Placed.{ArePlaced}
+use Rattle.bdb_mktree.specs.of_text_format.Terms.{ArePlaced}
 use Rattle.bdb_mktree.specs.of_text_format.declared.pairs.TextPair.{TextPair}
 use Rattle.bdb_settle.specs.Settling.{pair_before, place_before}
 use Rattle.bdb_settle.proofs.PlaceLemmas.{pairs_settled, sorted_places}

@@ -1,7 +1,7 @@
 use Rattle.std.proofs.Common.{refl}
 use Rattle.std.proofs.lemmas.List.Sorted.{All-permutation}
 use Rattle.std.proofs.lemmas.Result.{IfOk-weaker}
-use Rattle.bdb_mktree.specs.of_text_format.Placed.{IsPlaced}
+use Rattle.bdb_mktree.specs.of_text_format.Terms.{IsPlaced}
 use Rattle.bdb_settle.proofs.PlaceLemmas.{sorted_of, sorted_still}
 use Rattle.bdb_settle.proofs.settling.sorted_pairs.Goals as goal
 

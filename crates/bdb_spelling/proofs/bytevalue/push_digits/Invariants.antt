@@ -1,5 +1,5 @@
 use Rattle.std.proofs.Common.{◌≡◌, ◌≤◌, ◌-◌, ◌++◌, length, take, false}
-use Rattle.bdb_text_format.specs.TextSpelling.{spelling}
+use Rattle.bdb_text_format.specs.Terms.{spelling}
 use Rattle.bdb_spelling.proofs.bytevalue.push_digits.Given as goal
 
 -- the first bytes are spelled

@@ -1,5 +1,5 @@
 use Rattle.std.proofs.Common.{◌≡◌, ◌++◌, take, true}
-use Rattle.bdb_text_format.specs.TextSpelling.{spelling}
+use Rattle.bdb_text_format.specs.Terms.{spelling}
 use Rattle.bdb_spelling.proofs.printed.push_printed.Given as goal
 
 -- the first bytes are spelled

@@ -1,5 +1,5 @@
 use Rattle.std.proofs.Common.{◌≡◌, ◌*◌, drop, false, take}
-use Rattle.bdb_text_format.specs.TextSpelling.{bytes_spelled}
+use Rattle.bdb_text_format.specs.Terms.{bytes_spelled}
 use Rattle.bdb_spelling.specs.Runs.{joined}
 use Rattle.bdb_spelling.proofs.runs.is_decoded.Given as goal
 

@@ -1,5 +1,5 @@
 use Rattle.std.proofs.Common.{◌≡◌, length, is_some}
-use Rattle.bdb_text_format.specs.TextSpelling.{bytes_spelled}
+use Rattle.bdb_text_format.specs.Terms.{bytes_spelled}
 use Rattle.bdb_spelling.proofs.spellings.is_spelling.Given as goal
 
 -- the text is a spelling exactly where the rest of it is one

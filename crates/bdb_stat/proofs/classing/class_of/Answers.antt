@@ -1,9 +1,7 @@
 use Rattle.std.proofs.Common.{◌∙◌, ap, arith, sym}
 use Rattle.bdb_law_turned.proofs.of_format.FileLemmas.{kind_is}
 use Rattle.bdb_law_turned.specs.of_format.declared.metadata.Head.{Head}
-use Rattle.bdb_law_turned.specs.of_format.File.{file_of}
-use Rattle.bdb_law_turned.specs.of_format.Graph.{is_meta}
-use Rattle.bdb_law_turned.specs.of_format.Rows.{is_queue}
+use Rattle.bdb_law_turned.specs.of_format.Terms.{file_of, is_meta, is_queue}
 use Rattle.bdb_stat.specs.Classes.{class_by_type}
 use Rattle.bdb_stat.proofs.ClassLemmas.{by_meta, by_queue, by_reserve, by_type, has_class, past_last}
 use Rattle.bdb_stat.proofs.classing.class_of.Goals as goal

@@ -1,6 +1,5 @@
 use Rattle.std.proofs.Common.{◌∙◌, ◌==◌, ap, sym}
-use Rattle.bdb_law_turned.specs.of_format.File.{file_of}
-use Rattle.bdb_law_turned.specs.of_format.Graph.{is_meta, is_spare}
+use Rattle.bdb_law_turned.specs.of_format.Terms.{file_of, is_meta, is_spare}
 use Rattle.bdb_stat.proofs.ClassLemmas.{above_first, no_spare, reserve_is}
 use Rattle.bdb_stat.proofs.classing.is_reserve.Goals as goal
 

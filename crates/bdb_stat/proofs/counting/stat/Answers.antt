@@ -1,7 +1,7 @@
 use Rattle.std.proofs.Common.{◌∙◌, ◌<◌, ap, arith, sym}
 use Rattle.bdb_law_turned.proofs.of_format.FileLemmas.{count_is}
 use Rattle.bdb_law_turned.specs.of_format.declared.metadata.Head.{Head}
-use Rattle.bdb_law_turned.specs.of_format.File.{file_of, page_at}
+use Rattle.bdb_law_turned.specs.of_format.Terms.{file_of, page_at}
 use Rattle.bdb_stat.specs.Unused.{unused_in}
 use Rattle.bdb_stat.proofs.StatLemmas.{all_below, by_words, few_pages, is_small, none_below, one_below, unused_fits}
 use Rattle.bdb_stat.proofs.counting.stat.Goals as goal

@@ -1,5 +1,5 @@
 use Rattle.std.proofs.Common.{◌≡◌, length}
-use Rattle.bdb_law_turned.specs.of_format.File.{file_of}
+use Rattle.bdb_law_turned.specs.of_format.Terms.{file_of}
 use Rattle.bdb_stat.proofs.StatLemmas.{IsBelow}
 use Rattle.bdb_stat.proofs.counting.stat.Given as goal
 

@@ -1,6 +1,6 @@
 use Rattle.std.proofs.Common.{ap}
 use Rattle.bdb_law_turned.specs.of_format.declared.pages.Header.{Header}
-use Rattle.bdb_law_turned.specs.of_format.File.{file_of}
+use Rattle.bdb_law_turned.specs.of_format.Terms.{file_of}
 use Rattle.bdb_stat.proofs.ClassLemmas.{level_is, of_tree, tree_inside}
 use Rattle.bdb_stat.proofs.counting.tree_level.Goals as goal
 

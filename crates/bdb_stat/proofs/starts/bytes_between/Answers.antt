@@ -1,5 +1,5 @@
 use Rattle.std.proofs.Common.{◌≡◌, ◌≤◌, ◌<◌, ◌+◌, ◌-◌, ◌∙◌, ap, arith, length, subst}
-use Rattle.bdb_law_turned.specs.of_format.Reading.{entries_of, index_end, offset_of}
+use Rattle.bdb_law_turned.specs.of_format.Terms.{entries_of, index_end, offset_of}
 use Rattle.bdb_stat.specs.Unused.{places_outside}
 use Rattle.bdb_stat.proofs.GapLemmas.{few_above, falling_again, falling_end, falling_next}
 use Rattle.bdb_stat.proofs.starts.bytes_between.Goals as goal

@@ -1,5 +1,5 @@
 use Rattle.std.proofs.Common.{length}
-use Rattle.bdb_law_turned.specs.of_format.Reading.{index_end, offset_of}
+use Rattle.bdb_law_turned.specs.of_format.Terms.{index_end, offset_of}
 use Rattle.bdb_stat.proofs.GapLemmas.{IsFalling}
 use Rattle.bdb_stat.proofs.starts.bytes_between.Given as goal
 

@@ -1,5 +1,5 @@
 use Rattle.std.proofs.Common.{◌≡◌, ◌≤◌, ◌+◌, ◌-◌, arith, length, sym, subst}
-use Rattle.bdb_law_turned.specs.of_format.Reading.{entries_of, index_end, offset_of}
+use Rattle.bdb_law_turned.specs.of_format.Terms.{entries_of, index_end, offset_of}
 use Rattle.bdb_stat.specs.Unused.{places_outside}
 use Rattle.bdb_stat.proofs.SweepLemmas.{AreItems, at_end, at_next, few_so_far, room_at}
 use Rattle.bdb_stat.proofs.starts.bytes_outside.Goals as goal

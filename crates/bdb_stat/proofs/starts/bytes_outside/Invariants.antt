@@ -1,5 +1,5 @@
 use Rattle.std.proofs.Common.{◌-◌, length}
-use Rattle.bdb_law_turned.specs.of_format.Reading.{entries_of, index_end, offset_of}
+use Rattle.bdb_law_turned.specs.of_format.Terms.{entries_of, index_end, offset_of}
 use Rattle.bdb_stat.proofs.SweepLemmas.{IsSwept}
 use Rattle.bdb_stat.proofs.starts.bytes_outside.Given as goal
 

@@ -1,5 +1,5 @@
 use Rattle.std.proofs.Common.{◌≡◌, ◌∙◌, arith, subst}
-use Rattle.bdb_law_turned.specs.of_format.Reading.{entries_of, offset_of}
+use Rattle.bdb_law_turned.specs.of_format.Terms.{entries_of, offset_of}
 use Rattle.bdb_stat.specs.Starts.{AreStarts}
 use Rattle.bdb_stat.proofs.SweepLemmas.{marked_next}
 use Rattle.bdb_stat.proofs.starts.mark_starts.Goals as goal

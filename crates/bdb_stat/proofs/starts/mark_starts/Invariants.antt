@@ -1,5 +1,5 @@
 use Rattle.std.proofs.Common.{◌≡◌, length}
-use Rattle.bdb_law_turned.specs.of_format.Reading.{offset_of}
+use Rattle.bdb_law_turned.specs.of_format.Terms.{offset_of}
 use Rattle.bdb_stat.specs.Starts.{AreStarts}
 use Rattle.bdb_stat.proofs.starts.mark_starts.Given as goal
 

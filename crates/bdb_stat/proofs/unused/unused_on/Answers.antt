@@ -1,6 +1,5 @@
 use Rattle.std.proofs.Common.{◌∙◌, ◌<◌, ap, arith, length, sym}
-use Rattle.bdb_law_turned.specs.of_format.Reading.{page_as}
-use Rattle.bdb_law_turned.specs.of_format.Rows.{body_code}
+use Rattle.bdb_law_turned.specs.of_format.Terms.{body_code, page_as}
 use Rattle.bdb_stat.specs.Unused.{unused_in}
 use Rattle.bdb_law_turned.proofs.of_image.FormedLemmas.{accepted_paged}
 use Rattle.bdb_stat.proofs.PageLemmas.{accepted_as, formed_at, nothing_above, some_on, zero_on}

@@ -1,8 +1,7 @@
 use Rattle.std.proofs.Common.{◌≡◌, cond, sym, ◌∙◌, ap, arith, subst}
 use Rattle.std.specs.Prelude.{◌==◌, true, false, Some, None}
 use Rattle.std.proofs.lemmas.Bool.{eq-eqb, ne_eqb}
-use Rattle.bdb_law_sums.specs.of_format.Chains.{pieces_of}
-use Rattle.bdb_law_sums.specs.of_format.File.{File}
+use Rattle.bdb_law_sums.specs.of_format.Terms.{File, pieces_of}
 use Rattle.bdb_survey.specs.Links.{extent_of}
 use Rattle.bdb_survey.specs.Salvage.{is_overflow, salvaged_file}
 use Rattle.bdb_survey.proofs.StoredPageLemmas.{count_is}

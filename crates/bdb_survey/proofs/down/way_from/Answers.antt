@@ -1,8 +1,7 @@
 use Rattle.std.proofs.Common.{◌≡◌, map, drop, sym, ◌∙◌, ap}
 use Rattle.std.specs.Prelude.{Some}
 use Rattle.bdb_law_sums.specs.of_format.declared.pages.Header.{Header}
-use Rattle.bdb_law_sums.specs.of_format.Page.{Internal, InternalItem, RecnoInternal}
-use Rattle.bdb_law_sums.specs.of_format.File.{page_at}
+use Rattle.bdb_law_sums.specs.of_format.Terms.{Internal, InternalItem, RecnoInternal, page_at}
 use Rattle.bdb_law_sums.specs.of_format.declared.pages.RecnoItem.{RecnoItem}
 use Rattle.bdb_meta.specs.of_layout.Seen.{internal_item_seen}
 use Rattle.bdb_law_sums.specs.of_form.Seen.{page_seen}

@@ -1,5 +1,5 @@
 use Rattle.std.proofs.Common.{◌∙◌, sym}
-use Rattle.bdb_law_sums.specs.of_format.FaultTable.{form_row_code}
+use Rattle.bdb_law_sums.specs.of_format.Terms.{form_row_code}
 use Rattle.bdb_survey.proofs.MetaLemmas.{table_refused, tree_refused}
 use Rattle.bdb_survey.proofs.metadata.has_meta_row.Goals as goal
 

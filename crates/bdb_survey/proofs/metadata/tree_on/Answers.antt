@@ -1,6 +1,6 @@
 use Rattle.std.proofs.Common.{◌∙◌, ap, sym}
 use Rattle.std.specs.Prelude.{is_err}
-use Rattle.bdb_law_sums.specs.of_format.FaultTable.{form_row_code}
+use Rattle.bdb_law_sums.specs.of_format.Terms.{form_row_code}
 use Rattle.bdb_law_sums.specs.of_image.Metas.{meta_in}
 use Rattle.bdb_survey.proofs.MetaLemmas.{tree_given, tree_refused, with_meta}
 use Rattle.bdb_survey.proofs.metadata.tree_on.Goals as goal

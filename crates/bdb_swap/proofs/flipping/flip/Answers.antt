@@ -1,5 +1,5 @@
 use Rattle.std.proofs.Common.{◌∙◌, ap, subst, sym}
-use Rattle.bdb_io.specs.of_format.HeadOf.{head_of}
+use Rattle.bdb_io.specs.of_format.Terms.{head_of}
 use Rattle.bdb_law_turned.specs.of_image.Linked.{IsForest}
 use Rattle.bdb_swap.proofs.ImageLemmas.{forest_has_form}
 use Rattle.bdb_swap.proofs.flipping.flip.Goals as goal

@@ -1,5 +1,5 @@
 use Rattle.std.proofs.Common.{◌≡◌, ◌∙◌, ℕ, ◌+◌, ◌*◌, ◌++◌, ◌∷◌, [], ap, arith, subst, sym}
-use Rattle.bdb_io.specs.of_format.Reading.{entries_of}
+use Rattle.bdb_io.specs.of_format.Terms.{entries_of}
 use Rattle.bdb_law_turned.specs.Fields.{field, index_fields}
 use Rattle.bdb_swap.specs.Turns.{Turns}
 use Rattle.bdb_swap.proofs.PartLemmas.{index_more, turns_then}

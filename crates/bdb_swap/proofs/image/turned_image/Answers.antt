@@ -1,8 +1,6 @@
 use Rattle.std.proofs.Common.{◌≡◌, ◌∙◌, ◌≤◌, List, ℕ, ◌++◌, ap, arith, false, length, subst, sym}
 use Rattle.std.specs.Prelude.{None}
-use Rattle.bdb_io.specs.of_format.HeadOf.{is_page_size}
-use Rattle.bdb_io.specs.of_format.Reading.{is_zero}
-use Rattle.bdb_io.specs.of_format.Rows.{form_code}
+use Rattle.bdb_io.specs.of_format.Terms.{form_code, is_page_size, is_zero}
 use Rattle.bdb_law_turned.proofs.of_image.FormedLemmas.{accepted_paged}
 use Rattle.bdb_swap.proofs.ImageLemmas.{all_turned, joined_long, none_more, overlap_found, page_bounds, pages_more, taken_whole}
 use Rattle.bdb_swap.specs.Turns.{pages_turned}

@@ -1,6 +1,6 @@
 use Rattle.std.proofs.Common.{◌≡◌, ◌∙◌, ℕ, List, arith, subst}
 use Rattle.std.specs.List.{flat_map, range_with_len}
-use Rattle.bdb_io.specs.of_format.Reading.{entries_of, offset_of}
+use Rattle.bdb_io.specs.of_format.Terms.{entries_of, offset_of}
 use Rattle.bdb_law_turned.specs.Fields.{Field}
 use Rattle.bdb_swap.specs.Turns.{Turns}
 use Rattle.bdb_swap.proofs.PartLemmas.{turns_next}

@@ -1,6 +1,6 @@
 use Rattle.std.proofs.Common.{◌≡◌, length}
 use Rattle.std.specs.List.{flat_map, range_with_len}
-use Rattle.bdb_io.specs.of_format.Reading.{offset_of}
+use Rattle.bdb_io.specs.of_format.Terms.{offset_of}
 use Rattle.bdb_swap.specs.Turns.{Turns}
 use Rattle.bdb_swap.proofs.listed.turn_items.Given as goal
 

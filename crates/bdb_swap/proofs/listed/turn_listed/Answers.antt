@@ -1,7 +1,7 @@
 use Rattle.std.proofs.Common.{subst, sym}
 use Rattle.std.specs.List.{flat_map, range_with_len}
 use Rattle.bdb_law_turned.proofs.of_form.EndLemmas.{has_rows, listed_index}
-use Rattle.bdb_io.specs.of_format.Reading.{entries_of, offset_of}
+use Rattle.bdb_io.specs.of_format.Terms.{entries_of, offset_of}
 use Rattle.bdb_law_turned.specs.Fields.{header_fields, index_fields}
 use Rattle.bdb_law_turned.proofs.ListedLemmas.{listed_fields_are}
 use Rattle.bdb_swap.specs.Turns.{Turns}

@@ -1,6 +1,5 @@
 use Rattle.std.proofs.Common.{◌≡◌, ◌∙◌, ap, sym, true, false}
-use Rattle.bdb_io.specs.of_format.Reading.{is_zero, page_as}
-use Rattle.bdb_io.specs.of_format.Rows.{body_code}
+use Rattle.bdb_io.specs.of_format.Terms.{body_code, is_zero, page_as}
 use Rattle.bdb_law_turned.specs.Overlaps.{overlaps}
 use Rattle.bdb_law_turned.proofs.PageLemmas.{body_passed}
 use Rattle.bdb_swap.proofs.ImageLemmas.{no_overlap_on_zeros}

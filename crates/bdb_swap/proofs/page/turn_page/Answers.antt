@@ -1,7 +1,5 @@
 use Rattle.std.proofs.Common.{◌≡◌, ◌∙◌, ap, arith, subst, true, false, List, ℕ}
-use Rattle.bdb_io.specs.of_format.Rows.{body_code}
-use Rattle.bdb_io.specs.of_format.Numbers.{byte_at}
-use Rattle.bdb_io.specs.of_format.Reading.{is_zero, page_as, page_type}
+use Rattle.bdb_io.specs.of_format.Terms.{body_code, byte_at, is_zero, page_as, page_type}
 use Rattle.bdb_law_turned.specs.Fields.{fields_of}
 use Rattle.bdb_swap.specs.Turns.{Turns}
 use Rattle.bdb_law_turned.proofs.PageLemmas.{body_passed, zero_page_turns}

@@ -1,5 +1,5 @@
 use Rattle.std.proofs.Common.{subst, sym}
-use Rattle.bdb_io.specs.of_format.Reading.{page_as}
+use Rattle.bdb_io.specs.of_format.Terms.{page_as}
 use Rattle.bdb_law_turned.specs.Fields.{fields_of}
 use Rattle.bdb_swap.specs.Turns.{Turns}
 use Rattle.bdb_swap.proofs.page.turn_typed.Goals as goal

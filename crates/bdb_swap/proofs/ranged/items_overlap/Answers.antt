@@ -1,6 +1,6 @@
 use Rattle.std.proofs.Common.{◌≡◌, ◌∙◌, ℕ, arith, length, subst, sym}
 use Rattle.bdb_law_turned.proofs.of_form.EndLemmas.{listed_index}
-use Rattle.bdb_io.specs.of_format.Reading.{entries_of, offset_of}
+use Rattle.bdb_io.specs.of_format.Terms.{entries_of, offset_of}
 use Rattle.bdb_swap.specs.Crossing.{AreRanges}
 use Rattle.bdb_swap.proofs.CrossLemmas.{ranges_cross}
 use Rattle.bdb_swap.proofs.EndLemmas.{listed_shares, ranges_of}

@@ -1,7 +1,7 @@
 use Rattle.std.proofs.Common.{◌≡◌, ◌∙◌, ℕ, ◌+◌, ◌<◌, ap, arith, cond, length, refl, subst, sym}
 use Rattle.std.specs.Prelude.{min}
 use Rattle.std.proofs.lemmas.List.{length-set}
-use Rattle.bdb_io.specs.of_format.Reading.{entries_of, offset_of}
+use Rattle.bdb_io.specs.of_format.Terms.{entries_of, offset_of}
 use Rattle.bdb_swap.specs.Crossing.{AreEnds}
 use Rattle.bdb_swap.proofs.EndLemmas.{ends_next}
 use Rattle.bdb_swap.proofs.WalkLemmas.{none_noted, noted_next}

@@ -1,5 +1,5 @@
 use Rattle.std.proofs.Common.{◌≡◌, length}
-use Rattle.bdb_io.specs.of_format.Reading.{offset_of}
+use Rattle.bdb_io.specs.of_format.Terms.{offset_of}
 use Rattle.bdb_swap.specs.Crossing.{AreEnds, AreNoted}
 use Rattle.bdb_swap.proofs.ranged.note_ends.Given as goal
 

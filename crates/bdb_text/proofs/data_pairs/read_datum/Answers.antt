@@ -1,6 +1,6 @@
 use Rattle.std.proofs.Common.{List, ℕ, false, sym, ap, ◌∙◌, ◌≡◌}
 use Rattle.std.specs.Str.{bytes_eq}
-use Rattle.bdb_spelling.specs.of_text_format.TextLines.{is_data_end}
+use Rattle.bdb_spelling.specs.of_text_format.Terms.{is_data_end}
 use Rattle.bdb_text.proofs.PairLemmas.{datum_error}
 use Rattle.bdb_text.proofs.data_pairs.read_datum.Goals as goal
 

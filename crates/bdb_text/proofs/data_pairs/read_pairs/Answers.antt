@@ -2,8 +2,7 @@ use Rattle.std.proofs.Common.{rules, List, ℕ, ◌+◌, true, false, length, le
 use Rattle.std.specs.Prelude.{Err, is_ok}
 use Rattle.std.proofs.lemmas.Bool.{eqb-true}
 use Rattle.std.specs.Str.{bytes_eq}
-use Rattle.bdb_spelling.specs.of_text_format.Placed.{placed_pairs}
-use Rattle.bdb_spelling.specs.of_text_format.TextLines.{is_data_end, text_lines}
+use Rattle.bdb_spelling.specs.of_text_format.Terms.{is_data_end, placed_pairs, text_lines}
 use Rattle.bdb_text.specs.Fields.{values_in}
 use Rattle.bdb_text.proofs.PlacingLemmas.{pair_fault, pairs_ended, pairs_step, places_step}
 use Rattle.bdb_text.proofs.data_pairs.read_pairs.Goals as goal

@@ -1,6 +1,5 @@
 use Rattle.std.proofs.Common.{◌+◌, ◌≤◌, length}
-use Rattle.bdb_spelling.specs.of_text_format.Placed.{ArePlaced, placed_pairs}
-use Rattle.bdb_spelling.specs.of_text_format.TextLines.{text_lines}
+use Rattle.bdb_spelling.specs.of_text_format.Terms.{ArePlaced, placed_pairs, text_lines}
 use Rattle.bdb_text.specs.DataTo.{IsPairsTo}
 use Rattle.bdb_text.specs.Fields.{values_in}
 use Rattle.bdb_text.proofs.data_pairs.read_pairs.Given as goal

@@ -1,5 +1,5 @@
 use Rattle.std.proofs.Common.{◌≡◌, drop}
-use Rattle.bdb_spelling.specs.of_text_format.Header.{given}
+use Rattle.bdb_spelling.specs.of_text_format.Terms.{given}
 use Rattle.bdb_text.specs.Fields.{entries_in}
 use Rattle.bdb_text.proofs.fields.value_of.Given as goal
 

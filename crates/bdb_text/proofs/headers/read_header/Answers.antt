@@ -1,8 +1,6 @@
 use Rattle.std.proofs.Common.{◌≡◌, false, None, sym, ap, ◌∙◌, ℕ, List, arith}
 use Rattle.std.specs.Str.{bytes_eq}
-use Rattle.bdb_spelling.specs.of_text_format.TextLines.{is_header_end, text_lines}
-use Rattle.bdb_spelling.specs.of_text_format.Header.{entry_of}
-use Rattle.bdb_spelling.specs.of_text_format.Reasons.{entry_reason}
+use Rattle.bdb_spelling.specs.of_text_format.Terms.{entry_of, entry_reason, is_header_end, text_lines}
 use Rattle.bdb_text.specs.Fields.{entries_in, entry_in}
 use Rattle.bdb_text.specs.declared.fields.Field.{Field}
 use Rattle.bdb_text.proofs.HeaderReadLemmas.{header_more, pushed}

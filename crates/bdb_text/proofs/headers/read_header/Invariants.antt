@@ -1,5 +1,5 @@
 use Rattle.std.proofs.Common.{◌+◌, ◌≤◌, length}
-use Rattle.bdb_spelling.specs.of_text_format.TextLines.{text_lines}
+use Rattle.bdb_spelling.specs.of_text_format.Terms.{text_lines}
 use Rattle.bdb_text.specs.Fields.{entries_in}
 use Rattle.bdb_text.specs.ReadTo.{IsHeaderTo}
 use Rattle.bdb_text.proofs.headers.read_header.Given as goal

@@ -1,5 +1,5 @@
 use Rattle.std.proofs.Common.{ℕ, List, ap, ◌∙◌}
-use Rattle.bdb_spelling.specs.of_text_format.Header.{number_or}
+use Rattle.bdb_spelling.specs.of_text_format.Terms.{number_or}
 use Rattle.bdb_text.specs.Fields.{values_in}
 use Rattle.bdb_text.proofs.meant.page_size_in.Goals as goal
 

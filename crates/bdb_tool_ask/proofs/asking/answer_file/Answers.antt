@@ -1,5 +1,5 @@
 use Rattle.std.proofs.Common.{ap}
-use Rattle.bdb_file.specs.of_format.Verdict.{verdict_of, faults_of, first_judgement}
+use Rattle.bdb_file.specs.of_format.Terms.{faults_of, first_judgement, verdict_of}
 use Rattle.bdb_tool_ask.proofs.AnswerLemmas.{asked_finishes, refused_finishes, sound_finishes}
 use Rattle.bdb_tool_ask.proofs.asking.answer_file.Goals as goal
 

@@ -1,6 +1,6 @@
 use Rattle.std.proofs.Common.{◌≡◌, ◌∙◌, ap}
 use Rattle.std.specs.Prelude.{None}
-use Rattle.bdb_model.specs.of_format.Verdict.{first_judgement, verdict_of}
+use Rattle.bdb_model.specs.of_format.Terms.{first_judgement, verdict_of}
 use Rattle.bdb_onto.specs.of_text.WrittenLaw.{AreBytes}
 use Rattle.bdb_onto.specs.Bases.{base_of}
 use Rattle.bdb_tool_build.proofs.BaseLemmas.{all_bytes, is_base}

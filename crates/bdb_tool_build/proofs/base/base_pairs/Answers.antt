@@ -1,8 +1,7 @@
 use Rattle.std.proofs.Common.{◌≡◌, ◌∙◌, ℕ, List, ap, subst}
 use Rattle.std.specs.Prelude.{IfOk, map}
 use Rattle.bdb_file.specs.of_databases.Named.{database_at}
-use Rattle.bdb_model.specs.of_format.File.{file_of}
-use Rattle.bdb_model.specs.of_format.Lists.{btree_list, list_of}
+use Rattle.bdb_model.specs.of_format.Terms.{btree_list, file_of, list_of}
 use Rattle.bdb_file.specs.of_image.Linked.{HasMetadata}
 use Rattle.bdb_file.specs.of_image.Metas.{meta_seen}
 use Rattle.bdb_onto.specs.Bases.{text_pair}

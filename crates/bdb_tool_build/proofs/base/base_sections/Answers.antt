@@ -1,7 +1,6 @@
 use Rattle.std.proofs.Common.{arith, ◌∙◌, ap, map}
 use Rattle.std.proofs.lemmas.List.{take_all}
-use Rattle.bdb_model.specs.of_format.Databases.{databases}
-use Rattle.bdb_model.specs.of_format.File.{file_of}
+use Rattle.bdb_model.specs.of_format.Terms.{databases, file_of}
 use Rattle.bdb_file.specs.of_databases.Named.{database_at}
 use Rattle.bdb_onto.specs.Bases.{base_section}
 use Rattle.bdb_tool_build.proofs.BaseLemmas.{more_sections}

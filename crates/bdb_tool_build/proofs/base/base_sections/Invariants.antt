@@ -1,6 +1,5 @@
 use Rattle.std.proofs.Common.{◌≡◌, map, take}
-use Rattle.bdb_model.specs.of_format.Databases.{databases}
-use Rattle.bdb_model.specs.of_format.File.{file_of}
+use Rattle.bdb_model.specs.of_format.Terms.{databases, file_of}
 use Rattle.bdb_onto.specs.Bases.{base_section}
 use Rattle.bdb_tool_build.proofs.base.base_sections.Given as goal
 

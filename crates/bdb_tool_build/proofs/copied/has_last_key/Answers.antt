@@ -1,6 +1,6 @@
 use Rattle.std.proofs.Common.{ap, sym, ◌∙◌}
 use Rattle.bdb_file.specs.of_overflow.Datum.{key_view_seen}
-use Rattle.bdb_model.specs.of_text_format.Placed.{key_seen, pair_seen, slice_seen}
+use Rattle.bdb_model.specs.of_text_format.Terms.{key_seen, pair_seen, slice_seen}
 use Rattle.bdb_tool_build.specs.Ontos.{list_key}
 use Rattle.bdb_tool_build.proofs.CopiedLemmas.{ends_at}
 use Rattle.bdb_tool_build.proofs.copied.has_last_key.Goals as goal

@@ -1,9 +1,6 @@
 use Rattle.std.proofs.Common.{◌≡◌, ℕ, List, inl, map, subst, sym}
 use Rattle.std.specs.List.{flat_map}
-use Rattle.bdb_model.specs.of_format.Contents.{pairs_of}
-use Rattle.bdb_model.specs.of_format.File.{file_of}
-use Rattle.bdb_model.specs.of_format.Leaves.{leaves}
-use Rattle.bdb_model.specs.of_format.Lists.{btree_list}
+use Rattle.bdb_model.specs.of_format.Terms.{btree_list, file_of, leaves, pairs_of}
 use Rattle.bdb_file.specs.of_image.Linked.{FitsTreeRoot}
 use Rattle.bdb_file.specs.of_btree.Pairs.{AreLeaves}
 use Rattle.bdb_onto.specs.Bases.{text_pair}

@@ -1,8 +1,6 @@
 use Rattle.std.proofs.Common.{◌≡◌, ◌++◌, length, map}
 use Rattle.std.specs.List.{flat_map}
-use Rattle.bdb_model.specs.of_format.Contents.{pairs_of}
-use Rattle.bdb_model.specs.of_format.File.{file_of}
-use Rattle.bdb_model.specs.of_format.Lists.{btree_list, listed_pair}
+use Rattle.bdb_model.specs.of_format.Terms.{btree_list, file_of, listed_pair, pairs_of}
 use Rattle.bdb_file.specs.of_btree.Pairs.{AreLeaves}
 use Rattle.bdb_onto.specs.Bases.{text_pair}
 use Rattle.bdb_tool_build.specs.Copied.{Follow}

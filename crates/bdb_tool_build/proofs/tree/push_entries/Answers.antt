@@ -1,5 +1,5 @@
 use Rattle.std.proofs.Common.{ℕ, List}
-use Rattle.bdb_model.specs.of_format.Lists.{ListKey}
+use Rattle.bdb_model.specs.of_format.Terms.{ListKey}
 use Rattle.bdb_file.specs.of_overflow.Datum.{datum_seen, key_view_seen}
 use Rattle.bdb_file.specs.of_btree.Pairs.{left_of}
 use Rattle.bdb_tool_build.proofs.CopiedLemmas.{first_pushed, of_last}

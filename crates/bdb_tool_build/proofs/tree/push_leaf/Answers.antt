@@ -1,8 +1,6 @@
 use Rattle.std.proofs.Common.{List, ◌++◌, ap, map, subst, sym, true≢false}
 use Rattle.std.specs.List.{flat_map}
-use Rattle.bdb_model.specs.of_format.Contents.{StoredPair}
-use Rattle.bdb_model.specs.of_format.File.{file_of}
-use Rattle.bdb_model.specs.of_format.Lists.{listed_pair}
+use Rattle.bdb_model.specs.of_format.Terms.{StoredPair, file_of, listed_pair}
 use Rattle.bdb_file.specs.of_btree.Pairs.{AreFit}
 use Rattle.bdb_onto.specs.Bases.{text_pair}
 use Rattle.bdb_tool_build.specs.Copied.{ShareKeys}

@@ -1,8 +1,6 @@
 use Rattle.std.proofs.Common.{◌≡◌, ◌++◌, ℕ, List, length, map, true}
 use Rattle.std.specs.List.{flat_map}
-use Rattle.bdb_model.specs.of_format.Contents.{pairs_of}
-use Rattle.bdb_model.specs.of_format.File.{file_of}
-use Rattle.bdb_model.specs.of_format.Lists.{listed_pair}
+use Rattle.bdb_model.specs.of_format.Terms.{file_of, listed_pair, pairs_of}
 use Rattle.bdb_file.specs.of_btree.Pairs.{AreFit}
 use Rattle.bdb_model.specs.of_text_format.declared.pairs.Key.TheVariants.{Bytes}
 use Rattle.bdb_onto.specs.Bases.{text_pair}

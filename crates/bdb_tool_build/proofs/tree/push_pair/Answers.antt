@@ -1,5 +1,5 @@
 use Rattle.std.proofs.Common.{arith}
-use Rattle.bdb_model.specs.of_format.File.{file_of}
+use Rattle.bdb_model.specs.of_format.Terms.{file_of}
 use Rattle.bdb_file.specs.of_overflow.Datum.{datum_seen}
 use Rattle.bdb_file.specs.of_btree.Pairs.{left_of, pair_seen}
 use Rattle.bdb_model.specs.of_text_format.declared.pairs.Key.TheVariants.{Bytes}

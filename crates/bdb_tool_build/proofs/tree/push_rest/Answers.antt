@@ -1,8 +1,8 @@
 use Rattle.std.proofs.Common.{ℕ, List, refl, ◌∙◌}
-use Rattle.bdb_model.specs.of_format.Lists.{ListKey}
+use Rattle.bdb_model.specs.of_format.Terms.{ListKey}
 use Rattle.bdb_file.specs.of_overflow.Datum.{datum_seen, key_view_seen}
 use Rattle.bdb_file.specs.of_btree.Pairs.{left_of}
-use Rattle.bdb_model.specs.of_text_format.Pairs.{last_key}
+use Rattle.bdb_model.specs.of_text_format.Terms.{last_key}
 use Rattle.bdb_tool_build.proofs.CopiedLemmas.{beside_more, ends_more, rest_of}
 use Rattle.bdb_tool_build.proofs.tree.push_rest.Goals as goal
 

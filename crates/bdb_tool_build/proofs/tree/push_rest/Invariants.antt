@@ -1,6 +1,6 @@
 use Rattle.std.proofs.Common.{◌≡◌, ◌++◌, length, map}
 use Rattle.bdb_file.specs.of_btree.Pairs.{left_of}
-use Rattle.bdb_model.specs.of_text_format.Pairs.{last_key}
+use Rattle.bdb_model.specs.of_text_format.Terms.{last_key}
 use Rattle.bdb_onto.specs.Bases.{text_pair}
 use Rattle.bdb_tool_build.specs.Copied.{AreOf, EndsWith}
 use Rattle.bdb_tool_build.proofs.tree.push_rest.Given as goal

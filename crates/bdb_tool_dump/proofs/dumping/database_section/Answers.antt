@@ -1,12 +1,8 @@
 use Rattle.std.proofs.Common.{List, ℕ, ◌++◌, sym, subst}
 use Rattle.std.specs.List.{flat_map}
 use Rattle.bdb_databases.specs.Named.{database_at}
-use Rattle.bdb_databases.specs.of_format.Databases.{settings_of}
-use Rattle.bdb_databases.specs.of_format.File.{file_of}
-use Rattle.bdb_databases.specs.of_format.HeadOf.{head_of}
-use Rattle.bdb_databases.specs.of_format.Lists.{list_of}
-use Rattle.bdb_tool_print.specs.of_text_format.LineEnd.{line}
-use Rattle.bdb_tool_print.specs.of_text_format.Written.{data_end, header_text}
+use Rattle.bdb_databases.specs.of_format.Terms.{file_of, head_of, list_of, settings_of}
+use Rattle.bdb_tool_print.specs.of_text_format.Terms.{data_end, header_text, line}
 use Rattle.bdb_tool_print.specs.Printers.{Adds, pair_text}
 use Rattle.bdb_tool_print.proofs.DumpLemmas.{section_by_parts}
 use Rattle.bdb_tool_print.proofs.PrinterLemmas.{adds_cut, cut_up}

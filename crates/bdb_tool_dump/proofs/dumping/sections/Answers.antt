@@ -1,8 +1,7 @@
 use Rattle.std.proofs.Common.{◌<◌, ◌≤◌, ap, refl, arith, length}
 use Rattle.bdb_databases.specs.Named.{database_at, no_database}
-use Rattle.bdb_databases.specs.of_format.Databases.{databases}
-use Rattle.bdb_databases.specs.of_format.File.{file_of}
-use Rattle.bdb_tool_print.specs.of_text_format.Written.{database_text, dump_text}
+use Rattle.bdb_databases.specs.of_format.Terms.{databases, file_of}
+use Rattle.bdb_tool_print.specs.of_text_format.Terms.{database_text, dump_text}
 use Rattle.bdb_tool_print.proofs.PrinterLemmas.{begins, cut_up, place_added, place_cut, places_added}
 use Rattle.bdb_tool_dump.proofs.dumping.sections.Goals as goal
 

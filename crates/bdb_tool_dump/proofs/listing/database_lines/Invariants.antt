@@ -1,8 +1,7 @@
 use Rattle.std.proofs.Common.{drop}
 use Rattle.std.specs.List.{flat_map}
 use Rattle.bdb_tool_print.specs.of_model.Answers.{database_line, list_text}
-use Rattle.bdb_databases.specs.of_format.Databases.{databases}
-use Rattle.bdb_databases.specs.of_format.File.{file_of}
+use Rattle.bdb_databases.specs.of_format.Terms.{databases, file_of}
 use Rattle.bdb_tool_print.specs.Printers.{HasAdded}
 use Rattle.bdb_tool_dump.proofs.listing.database_lines.Given as goal
 

@@ -1,7 +1,6 @@
 use Rattle.std.proofs.Common.{List}
 use Rattle.bdb_overflow.specs.of_format.declared.kinds.Fault.{Fault}
-use Rattle.bdb_overflow.specs.of_format.File.{File, file_of}
-use Rattle.bdb_overflow.specs.of_format.Verdict.{tree_faults}
+use Rattle.bdb_overflow.specs.of_format.Terms.{File, file_of, tree_faults}
 use Rattle.bdb_faults.proofs.AscendLemmas.{leaves_ascend}
 use Rattle.bdb_faults.proofs.FirstLemmas.{newly_noted}
 use Rattle.bdb_tree.proofs.check.check_trees.Goals as goal

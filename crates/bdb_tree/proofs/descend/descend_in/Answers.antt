@@ -2,7 +2,7 @@ use Rattle.std.proofs.Common.{sym, ◌∙◌}
 use Rattle.bdb_tree.proofs.WayLemmas.{IsEnd, at_end, at_root, on_way}
 use Rattle.bdb_tree.proofs.descend.descend_in.Goals as goal
 use Rattle.bdb_tree.proofs.descend.descend_in.Goals.{After-at}
-use Rattle.bdb_overflow.specs.of_format.File.{file_of}
+use Rattle.bdb_overflow.specs.of_format.Terms.{file_of}
 
 pub loop-child-init : goal.loop-child-init
 loop-child-init g c = at_root c.args.forest.now _ _ _ _ c.requires.keyed c.requires.readable c.requires.monotone

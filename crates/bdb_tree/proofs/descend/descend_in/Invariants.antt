@@ -1,4 +1,4 @@
-use Rattle.bdb_overflow.specs.of_format.File.{file_of, header_in, page_at}
+use Rattle.bdb_overflow.specs.of_format.Terms.{file_of, header_in, page_at}
 use Rattle.bdb_tree.proofs.WayLemmas.{IsOnWay}
 use Rattle.bdb_tree.proofs.descend.descend_in.Given as goal
 

@@ -1,5 +1,5 @@
 use Rattle.std.proofs.Common.{◌∙◌, [], ap}
-use Rattle.bdb_overflow.specs.of_format.File.{file_of}
+use Rattle.bdb_overflow.specs.of_format.Terms.{file_of}
 use Rattle.bdb_tree.specs.Entries.{entries_left}
 use Rattle.bdb_tree.proofs.EntryLemmas.{all_entries, all_fit, leaves_there}
 use Rattle.bdb_tree.proofs.TreeLemmas.{root_is_tree}

@@ -1,5 +1,4 @@
-use Rattle.bdb_overflow.specs.of_format.File.{file_of}
-use Rattle.bdb_overflow.specs.of_format.Leaves.{leaves}
+use Rattle.bdb_overflow.specs.of_format.Terms.{file_of, leaves}
 use Rattle.bdb_tree.proofs.LevelLemmas.{IsLevel}
 use Rattle.bdb_tree.proofs.TreeLemmas.{level}
 use Rattle.bdb_tree.proofs.level.leaves_below.Given as goal

@@ -1,6 +1,6 @@
 use Rattle.std.proofs.Common.{ap, ◌∙◌, ◌++◌, map}
 use Rattle.bdb_overflow.specs.of_layout.Seen.{internal_item_seen}
-use Rattle.bdb_overflow.specs.of_format.Page.{InternalItem}
+use Rattle.bdb_overflow.specs.of_format.Terms.{InternalItem}
 use Rattle.bdb_tree.proofs.LevelLemmas.{children_more}
 use Rattle.bdb_tree.proofs.level.push_internal.Goals as goal
 

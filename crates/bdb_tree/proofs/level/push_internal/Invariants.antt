@@ -1,5 +1,5 @@
 use Rattle.std.proofs.Common.{◌≡◌, ◌++◌, map}
-use Rattle.bdb_overflow.specs.of_format.Page.{InternalItem}
+use Rattle.bdb_overflow.specs.of_format.Terms.{InternalItem}
 use Rattle.bdb_tree.proofs.level.push_internal.Given as goal
 
 -- The children added and those of the items that are left make up the whole.

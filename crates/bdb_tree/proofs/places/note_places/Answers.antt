@@ -1,6 +1,6 @@
 use Rattle.std.proofs.Common.{arith, subst}
 use Rattle.bdb_faults.specs.Notes.{NotesAll}
-use Rattle.bdb_overflow.specs.of_format.File.{file_of}
+use Rattle.bdb_overflow.specs.of_format.Terms.{file_of}
 use Rattle.bdb_tree.specs.Noted.{place_faults}
 use Rattle.bdb_tree.proofs.NotedLemmas.{all_places, place_more}
 use Rattle.bdb_tree.proofs.places.note_places.Goals as goal

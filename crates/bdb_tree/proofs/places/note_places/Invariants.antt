@@ -1,8 +1,7 @@
 use Rattle.std.proofs.Common.{take}
 use Rattle.std.specs.List.{flat_map}
 use Rattle.bdb_faults.specs.Notes.{NotesAll}
-use Rattle.bdb_overflow.specs.of_format.File.{file_of}
-use Rattle.bdb_overflow.specs.of_format.Leaves.{places_from}
+use Rattle.bdb_overflow.specs.of_format.Terms.{file_of, places_from}
 use Rattle.bdb_tree.specs.Noted.{place_faults}
 use Rattle.bdb_tree.proofs.places.note_places.Given as goal
 

@@ -2,7 +2,7 @@ use Rattle.std.proofs.Common.{◌≡◌, ◌∙◌, ◌+◌, arith, subst, sym}
 use Rattle.std.specs.List.{flat_map, range_with_len}
 use Rattle.bdb_faults.specs.Notes.{NotesAll}
 use Rattle.bdb_faults.proofs.SinkLemmas.{notes_more, notes_none}
-use Rattle.bdb_overflow.specs.of_format.File.{File, file_of}
+use Rattle.bdb_overflow.specs.of_format.Terms.{File, file_of}
 use Rattle.bdb_tree.specs.Noted.{held_sets}
 use Rattle.bdb_tree.proofs.NotedLemmas.{no_set_faults}
 use Rattle.bdb_tree.proofs.trees.note_all_sets.Goals as goal

@@ -1,6 +1,6 @@
 use Rattle.std.specs.List.{flat_map, range_with_len}
 use Rattle.bdb_faults.specs.Notes.{NotesAll}
-use Rattle.bdb_overflow.specs.of_format.File.{file_of}
+use Rattle.bdb_overflow.specs.of_format.Terms.{file_of}
 use Rattle.bdb_tree.specs.Noted.{held_sets}
 use Rattle.bdb_tree.proofs.trees.note_all_sets.Given as goal
 

@@ -1,5 +1,5 @@
 use Rattle.std.proofs.Common.{◌∙◌}
-use Rattle.bdb_overflow.specs.of_format.File.{file_of}
+use Rattle.bdb_overflow.specs.of_format.Terms.{file_of}
 use Rattle.bdb_tree.proofs.NotedLemmas.{tree_noted}
 use Rattle.bdb_tree.proofs.trees.note_leaves.Goals as goal
 

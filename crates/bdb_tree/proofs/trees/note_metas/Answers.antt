@@ -2,7 +2,7 @@ use Rattle.std.proofs.Common.{◌≡◌, ◌∙◌, List, ℕ, ap, arith, subst,
 use Rattle.std.specs.Prelude.{IfSome, Option}
 use Rattle.bdb_faults.specs.Notes.{NotesAll}
 use Rattle.bdb_overflow.specs.of_format.declared.references.Sort.TheVariants.{Root}
-use Rattle.bdb_overflow.specs.of_format.File.{File, file_of, page_at}
+use Rattle.bdb_overflow.specs.of_format.Terms.{File, file_of, page_at}
 use Rattle.bdb_overflow.specs.of_image.Linked.{meta_pages}
 use Rattle.bdb_tree.specs.Noted.{meta_faults, meta_root, root_faults}
 use Rattle.bdb_tree.specs.Trees.{IsTreePage}

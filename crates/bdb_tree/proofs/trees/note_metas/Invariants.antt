@@ -1,7 +1,7 @@
 use Rattle.std.specs.List.{flat_map}
 use Rattle.std.specs.Prelude.{take}
 use Rattle.bdb_faults.specs.Notes.{NotesAll}
-use Rattle.bdb_overflow.specs.of_format.File.{file_of}
+use Rattle.bdb_overflow.specs.of_format.Terms.{file_of}
 use Rattle.bdb_overflow.specs.of_image.Linked.{meta_pages}
 use Rattle.bdb_tree.specs.Noted.{meta_faults}
 use Rattle.bdb_tree.proofs.trees.note_metas.Given as goal

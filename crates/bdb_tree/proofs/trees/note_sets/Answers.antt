@@ -3,8 +3,7 @@ use Rattle.bdb_faults.specs.Notes.{NotesAll}
 use Rattle.bdb_faults.proofs.SinkLemmas.{notes_more}
 use Rattle.bdb_overflow.specs.of_form.Seen.{page_seen}
 use Rattle.bdb_overflow.specs.of_format.declared.references.Sort.TheVariants.{DuplicateRoot}
-use Rattle.bdb_overflow.specs.of_format.File.{File, file_of, page_at}
-use Rattle.bdb_overflow.specs.of_format.Page.{Page}
+use Rattle.bdb_overflow.specs.of_format.Terms.{File, Page, file_of, page_at}
 use Rattle.bdb_tree.specs.Noted.{data_faults, data_root, pair_count, root_faults, set_faults}
 use Rattle.bdb_tree.proofs.RootLemmas.{data_root_tree}
 use Rattle.bdb_tree.proofs.trees.note_sets.Goals as goal

@@ -1,5 +1,5 @@
 use Rattle.bdb_faults.specs.Notes.{NotesAll}
-use Rattle.bdb_overflow.specs.of_format.File.{file_of, page_at}
+use Rattle.bdb_overflow.specs.of_format.Terms.{file_of, page_at}
 use Rattle.bdb_tree.specs.Noted.{set_faults}
 use Rattle.bdb_tree.proofs.trees.note_sets.Given as goal
 

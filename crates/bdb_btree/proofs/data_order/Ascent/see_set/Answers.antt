@@ -1,7 +1,6 @@
 use Rattle.std.proofs.Common.{◌≡◌, ◌∙◌, List, ℕ, ap, refl, subst, sym}
 use Rattle.std.specs.List.{fold}
-use Rattle.bdb_ranks.specs.of_format.Contents.{tree_entries}
-use Rattle.bdb_ranks.specs.of_format.File.{File, file_of}
+use Rattle.bdb_ranks.specs.of_format.Terms.{File, file_of, tree_entries}
 use Rattle.bdb_ranks.specs.of_layout.Seen.{leaf_item_seen}
 use Rattle.bdb_ranks.specs.of_overflow.Held.{FitsAny, FitsHeld, value_held}
 use Rattle.bdb_ranks.specs.of_tree.Entries.{AreFit}

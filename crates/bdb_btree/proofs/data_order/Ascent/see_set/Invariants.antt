@@ -1,8 +1,6 @@
 use Rattle.std.proofs.Common.{◌≡◌}
 use Rattle.std.specs.List.{fold}
-use Rattle.bdb_ranks.specs.of_format.Contents.{data_of}
-use Rattle.bdb_ranks.specs.of_format.File.{file_of}
-use Rattle.bdb_ranks.specs.of_format.Page.{Tree}
+use Rattle.bdb_ranks.specs.of_format.Terms.{Tree, data_of, file_of}
 use Rattle.bdb_ranks.specs.of_overflow.Held.{FitsAny}
 use Rattle.bdb_ranks.specs.of_tree.Entries.{AreFit, values_of}
 use Rattle.bdb_btree.specs.Held.{run_seen}

@@ -1,5 +1,5 @@
 use Rattle.std.proofs.Common.{◌≡◌, length}
-use Rattle.bdb_ranks.specs.of_format.File.{file_of}
+use Rattle.bdb_ranks.specs.of_format.Terms.{file_of}
 use Rattle.bdb_btree.specs.Held.{items_left}
 use Rattle.bdb_btree.specs.Pairs.{AreLeaves}
 use Rattle.bdb_btree.proofs.held.HeldPairsIterator.next.Given as goal

@@ -1,4 +1,4 @@
-use Rattle.bdb_ranks.specs.of_format.File.{file_of}
+use Rattle.bdb_ranks.specs.of_format.Terms.{file_of}
 use Rattle.bdb_btree.proofs.order.KeyOrder.see.Goals as goal
 
 pub is_not_above-requires-clause-value : goal.is_not_above-requires-clause-value

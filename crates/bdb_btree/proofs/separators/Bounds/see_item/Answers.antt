@@ -1,4 +1,4 @@
-use Rattle.bdb_ranks.specs.of_format.File.{file_of}
+use Rattle.bdb_ranks.specs.of_format.Terms.{file_of}
 use Rattle.bdb_btree.proofs.separators.Bounds.see_item.Goals as goal
 
 pub see_separator-requires-clause-key : goal.see_separator-requires-clause-key

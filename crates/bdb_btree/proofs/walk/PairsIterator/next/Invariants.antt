@@ -1,5 +1,5 @@
 use Rattle.std.proofs.Common.{◌≡◌, length}
-use Rattle.bdb_ranks.specs.of_format.File.{file_of}
+use Rattle.bdb_ranks.specs.of_format.Terms.{file_of}
 use Rattle.bdb_btree.specs.Pairs.{AreLeaves, pairs_left}
 use Rattle.bdb_btree.proofs.walk.PairsIterator.next.Given as goal
 

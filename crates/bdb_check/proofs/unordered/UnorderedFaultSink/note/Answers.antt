@@ -1,7 +1,7 @@
 use Rattle.std.proofs.Common.{sym}
 use Rattle.bdb_any_order.proofs.OrderLemmas.{order_noted}
 use Rattle.bdb_check.proofs.UnorderedLemmas.{passed_on}
-use Rattle.bdb_recno.specs.of_format.FaultTable.{fault_at}
+use Rattle.bdb_recno.specs.of_format.Terms.{fault_at}
 use Rattle.bdb_check.proofs.unordered.UnorderedFaultSink.note.Goals as goal
 
 pub returns-then-is_of_order-clause-noted : goal.returns-then-is_of_order-clause-noted

@@ -1,6 +1,6 @@
 use Rattle.std.proofs.Common.{List, map, subst, sym}
 use Rattle.std.specs.List.{Contains}
-use Rattle.bdb_format.specs.Cases.{fault_seen}
+use Rattle.bdb_format.specs.Terms.{fault_seen}
 use Rattle.bdb_format.specs.declared.named.Named.{Named}
 use Rattle.bdb_faults.specs.Notes.{AreOne, Ascends}
 use Rattle.bdb_faults.proofs.MemberLemmas.{is_left, left_ascends, left_of}

@@ -1,6 +1,6 @@
 use Rattle.std.proofs.Common.{ap, arith, rules, length, ◌+◌, ◌*◌, ◌≤◌}
 use Rattle.bdb_form.specs.Formed.{QueuePage}
-use Rattle.bdb_layout.specs.of_format.Numbers.{has_bit}
+use Rattle.bdb_layout.specs.of_format.Terms.{has_bit}
 use Rattle.bdb_form.proofs.SlotLemmas.{record_ends, valid_byte, record_is}
 use Rattle.bdb_form.proofs.queue.QueueView.slot.Goals as goal
 

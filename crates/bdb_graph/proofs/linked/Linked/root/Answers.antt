@@ -1,8 +1,6 @@
 use Rattle.std.proofs.Common.{ap, arith, subst, sym}
 use Rattle.bdb_image.specs.of_format.declared.metadata.Head.{Head}
-use Rattle.bdb_image.specs.of_format.HeadOf.{head_of}
-use Rattle.bdb_image.specs.of_format.File.{file_of}
-use Rattle.bdb_image.specs.of_format.Page.{BtreeFields}
+use Rattle.bdb_image.specs.of_format.Terms.{BtreeFields, file_of, head_of}
 use Rattle.bdb_image.specs.Linked.{HasMetadata}
 use Rattle.bdb_graph.proofs.LinkedLemmas.{root_inside}
 use Rattle.bdb_graph.proofs.linked.Linked.root.Goals as goal

@@ -1,5 +1,5 @@
 use Rattle.std.proofs.Common.{◌≡◌, arith}
-use Rattle.bdb_image.specs.of_format.File.{file_of}
+use Rattle.bdb_image.specs.of_format.Terms.{file_of}
 use Rattle.bdb_graph.proofs.RunLemmas.{no_leap_yet}
 use Rattle.bdb_graph.proofs.table.BucketPages.of.Goals as goal
 

@@ -1,5 +1,5 @@
 use Rattle.std.proofs.Common.{◌≡◌, true, ap, subst, sym, ◌∙◌}
-use Rattle.bdb_ranks.specs.of_format.FaultTable.{fault_at}
+use Rattle.bdb_ranks.specs.of_format.Terms.{fault_at}
 use Rattle.bdb_ranks.specs.of_format.declared.rows.ContentsRow.TheVariants.{KeyTwice}
 use Rattle.bdb_ranks.specs.of_format.declared.rows.Row.TheVariants.{Contents}
 use Rattle.bdb_ranks.specs.of_overflow.Keys.{has_key}

@@ -1,5 +1,5 @@
 use Rattle.std.proofs.Common.{◌≡◌, arith}
-use Rattle.bdb_faults.specs.of_format.File.{file_of}
+use Rattle.bdb_faults.specs.of_format.Terms.{file_of}
 use Rattle.bdb_image.proofs.bucket_fits.BucketFits.of.Goals as goal
 
 -- The page is there.

@@ -1,5 +1,5 @@
 use Rattle.std.proofs.Common.{◌≡◌, ℕ, ◌+◌, List, length}
-use Rattle.bdb_faults.specs.of_format.File.{File, file_of}
+use Rattle.bdb_faults.specs.of_format.Terms.{File, file_of}
 use Rattle.bdb_image.specs.Buckets.{AreLasts}
 use Rattle.bdb_image.proofs.bucket_fits.BucketFits.of.Given as goal
 

@@ -1,6 +1,6 @@
 use Rattle.std.proofs.Common.{◌∙◌, ap, sym}
 use Rattle.bdb_graph.proofs.of_form.EndLemmas.{end_of_leaf_item, has_rows, leaves_placed}
-use Rattle.bdb_graph.specs.of_format.Table.{first_row}
+use Rattle.bdb_graph.specs.of_format.Terms.{first_row}
 use Rattle.bdb_law_turned.proofs.laid.EntryLeafKindLaidKind.are_laid.Goals as goal
 
 pub returns-clause-placed : goal.returns-clause-placed

@@ -1,7 +1,7 @@
 use Rattle.std.proofs.Common.{◌≡◌, true, not, ap, subst, sym, ◌∙◌}
 use Rattle.std.specs.Prelude.{◌||◌}
 use Rattle.bdb_master.proofs.RepeatLemmas.{added_again}
-use Rattle.bdb_format.specs.File.{file_of}
+use Rattle.bdb_format.specs.Terms.{file_of}
 use Rattle.bdb_format.proofs.LessLemmas.{eq_self}
 use Rattle.bdb_buckets.specs.Chained.{Seen}
 use Rattle.bdb_buckets.proofs.ChainedLemmas.{among_inserted}

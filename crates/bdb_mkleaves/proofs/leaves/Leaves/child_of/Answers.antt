@@ -1,5 +1,5 @@
 use Rattle.std.proofs.Common.{sym, ◌∙◌, ap}
-use Rattle.bdb_places.specs.of_format.Numbers.{two_at}
+use Rattle.bdb_places.specs.of_format.Terms.{two_at}
 use Rattle.bdb_pack.specs.Built.{bytes_of}
 use Rattle.bdb_mkleaves.specs.LeafChildren.{leaf_child}
 use Rattle.bdb_mkleaves.specs.LeafEntries.{count_of}

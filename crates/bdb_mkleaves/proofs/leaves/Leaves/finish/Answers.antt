@@ -2,7 +2,7 @@ use Rattle.std.proofs.Common.{IsTrue, subst, ◌≡◌, ◌≤◌, [], ◌∷◌
 use Rattle.std.specs.List.{flat_map}
 use Rattle.std.proofs.lemmas.Bool.{eqb-false, eqb-true}
 use Rattle.std.proofs.lemmas.List.{nil_from_length}
-use Rattle.bdb_places.specs.of_format.HeadOf.{is_page_size}
+use Rattle.bdb_places.specs.of_format.Terms.{is_page_size}
 use Rattle.bdb_mkleaves.specs.Leaves.{first_of}
 use Rattle.bdb_mkleaves.specs.Placed.{entries_of}
 use Rattle.bdb_mkleaves.proofs.FinishedLemmas.{leaves_rooted_on, moved_children, moved_linked, moved_there, several_children, some_of}

@@ -1,7 +1,7 @@
 use Rattle.std.proofs.Common.{arith, sym, ◌∙◌, ap, subst, ◌+◌, ◌≤◌}
 use Rattle.std.proofs.lemmas.List.{take_all}
 use Rattle.bdb_places.specs.Places.{values_seen}
-use Rattle.bdb_places.specs.of_format.HeadOf.{is_page_size}
+use Rattle.bdb_places.specs.of_format.Terms.{is_page_size}
 use Rattle.bdb_pack.specs.Built.{bytes_of}
 use Rattle.bdb_mkleaves.specs.LeafEntries.{room_of}
 use Rattle.bdb_mkleaves.specs.Puts.{IsPut}

@@ -1,7 +1,6 @@
 use Rattle.std.proofs.Common.{◌≡◌, ◌∙◌, List, ℕ, ap, subst, sym}
 use Rattle.std.specs.Prelude.{option_copied}
-use Rattle.bdb_graph.specs.of_format.File.{file_of}
-use Rattle.bdb_graph.specs.of_format.Less.{less}
+use Rattle.bdb_graph.specs.of_format.Terms.{file_of, less}
 use Rattle.bdb_overflow.specs.Held.{chain_value}
 use Rattle.bdb_overflow.proofs.HeldLemmas.{found_more}
 use Rattle.bdb_overflow.proofs.values.Values.is_less_once.Goals as goal

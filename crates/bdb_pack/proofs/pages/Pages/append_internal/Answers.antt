@@ -1,4 +1,4 @@
-use Rattle.bdb_layout.specs.of_format.Spelling.{internal_bytes}
+use Rattle.bdb_layout.specs.of_format.Terms.{internal_bytes}
 use Rattle.bdb_layout.specs.Seen.{internal_item_seen}
 use Rattle.bdb_pack.specs.Placing.{page_and_item}
 use Rattle.bdb_pack.proofs.OpenLemmas.{edited}

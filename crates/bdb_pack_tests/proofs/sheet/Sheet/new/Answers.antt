@@ -1,5 +1,5 @@
 use Rattle.std.proofs.Common.{◌≡◌, length, arith, refl, ap, ◌∙◌}
-use Rattle.bdb_form.specs.of_format.HeadOf.{is_page_size}
+use Rattle.bdb_form.specs.of_format.Terms.{is_page_size}
 use Rattle.bdb_pack.specs.Built.{Built}
 use Rattle.bdb_pack.proofs.AddedLemmas.{added_zero}
 use Rattle.bdb_pack_tests.proofs.SheetLemmas.{begun_sheet}

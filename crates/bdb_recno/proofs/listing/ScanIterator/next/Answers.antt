@@ -1,6 +1,6 @@
 use Rattle.std.proofs.Common.{◌∙◌, ap, sym}
 use Rattle.bdb_tree.specs.of_layout.Seen.{leaf_item_seen}
-use Rattle.bdb_tree.specs.of_format.File.{File, file_of}
+use Rattle.bdb_tree.specs.of_format.Terms.{File, file_of}
 use Rattle.bdb_recno.specs.Entries.{listed_after}
 use Rattle.bdb_recno.proofs.ScanLemmas.{numbered_on, skips_deleted}
 use Rattle.bdb_recno.proofs.listing.ScanIterator.next.Goals as goal

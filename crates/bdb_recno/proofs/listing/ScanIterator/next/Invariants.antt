@@ -1,5 +1,5 @@
 use Rattle.std.proofs.Common.{◌≡◌, length}
-use Rattle.bdb_tree.specs.of_format.File.{file_of}
+use Rattle.bdb_tree.specs.of_format.Terms.{file_of}
 use Rattle.bdb_recno.specs.Entries.{AreNumbered, listed_after}
 use Rattle.bdb_recno.proofs.listing.ScanIterator.next.Given as goal
 

@@ -1,5 +1,5 @@
 use Rattle.std.proofs.Common.{◌≡◌, [], ◌∙◌}
-use Rattle.bdb_text_format.specs.of_format.File.{File}
+use Rattle.bdb_text_format.specs.of_format.Terms.{File}
 use Rattle.bdb_rescue.specs.Kept.{file_in, left_of}
 use Rattle.bdb_rescue.proofs.LeftLemmas.{next_pairs, pairs_rest}
 use Rattle.bdb_rescue.proofs.pairs.SalvagePairsIterator.next.Goals as goal

@@ -1,5 +1,5 @@
 use Rattle.std.proofs.Common.{sym, ◌∙◌, ap, arith}
-use Rattle.bdb_law_sums.specs.of_format.File.{File, page_at}
+use Rattle.bdb_law_sums.specs.of_format.Terms.{File, page_at}
 use Rattle.bdb_survey.proofs.StoredPageLemmas.{page_past}
 use Rattle.bdb_survey.proofs.whole_pages.WholePages.count.Goals as goal
 

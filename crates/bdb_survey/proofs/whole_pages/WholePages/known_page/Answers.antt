@@ -1,8 +1,5 @@
 use Rattle.std.proofs.Common.{◌≤◌, sym, ◌∙◌, ap, subst, length, ℕ, List}
-use Rattle.bdb_law_sums.specs.of_format.File.{File, page_at}
-use Rattle.bdb_law_sums.specs.of_format.Reading.{abstract_page}
-use Rattle.bdb_law_sums.specs.of_format.Rows.{page_code}
-use Rattle.bdb_law_sums.specs.of_format.Numbers.{four_at}
+use Rattle.bdb_law_sums.specs.of_format.Terms.{File, abstract_page, four_at, page_at, page_code}
 use Rattle.bdb_survey.specs.Items.{slots_in}
 use Rattle.bdb_survey.proofs.PageLemmas.{known_code, known_same, known_there}
 use Rattle.bdb_survey.proofs.whole_pages.WholePages.known_page.Goals as goal

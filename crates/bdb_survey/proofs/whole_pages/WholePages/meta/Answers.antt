@@ -1,8 +1,7 @@
 use Rattle.std.specs.Prelude.{◌≡◌, ◌-◌, ◌/◌, ◌<◌, length}
 use Rattle.std.proofs.Common.{arith, sym, ◌∙◌, ap}
 use Rattle.std.specs.Option.{is_some}
-use Rattle.bdb_law_sums.specs.of_format.Reading.{abstract_page}
-use Rattle.bdb_law_sums.specs.of_format.Rows.{page_code}
+use Rattle.bdb_law_sums.specs.of_format.Terms.{abstract_page, page_code}
 use Rattle.bdb_law_sums.specs.of_image.Metas.{meta_in}
 use Rattle.bdb_survey.specs.Salvage.{salvaged_page}
 use Rattle.bdb_survey.proofs.MetaLemmas.{form_refused, no_code, unformed}

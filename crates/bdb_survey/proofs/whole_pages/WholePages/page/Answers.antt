@@ -2,10 +2,7 @@ use Rattle.std.specs.Prelude.{◌≡◌, ◌-◌, ◌/◌, ◌<◌, length}
 use Rattle.std.proofs.Common.{arith, sym, ◌∙◌, ap}
 use Rattle.std.specs.Option.{is_some}
 use Rattle.bdb_law_sums.specs.of_form.Seen.{page_seen}
-use Rattle.bdb_law_sums.specs.of_format.File.{page_at}
-use Rattle.bdb_law_sums.specs.of_format.Numbers.{byte_at}
-use Rattle.bdb_law_sums.specs.of_format.Page.{NoType}
-use Rattle.bdb_law_sums.specs.of_format.Reading.{page_type}
+use Rattle.bdb_law_sums.specs.of_format.Terms.{NoType, byte_at, page_at, page_type}
 use Rattle.bdb_survey.specs.Salvage.{meta_code}
 use Rattle.bdb_survey.proofs.MetaLemmas.{no_code}
 use Rattle.bdb_survey.proofs.PageLemmas.{answer_is, answer_page, answer_short, counted, refused_is}

@@ -1,6 +1,5 @@
 use Rattle.std.proofs.Common.{◌∙◌, ap, subst}
-use Rattle.bdb_io.specs.of_format.Page.{Item}
-use Rattle.bdb_io.specs.of_format.Reading.{offset_of}
+use Rattle.bdb_io.specs.of_format.Terms.{Item, offset_of}
 use Rattle.bdb_law_turned.specs.of_layout.Seen.{hash_item_seen}
 use Rattle.bdb_law_turned.specs.Fields.{hash_fields}
 use Rattle.bdb_swap.specs.Turns.{Turns}

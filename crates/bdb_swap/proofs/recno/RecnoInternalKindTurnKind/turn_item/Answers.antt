@@ -1,5 +1,5 @@
 use Rattle.std.proofs.Common.{◌∙◌, ◌+◌, ◌≤◌, ap, arith, length, subst}
-use Rattle.bdb_io.specs.of_format.Reading.{offset_of}
+use Rattle.bdb_io.specs.of_format.Terms.{offset_of}
 use Rattle.bdb_law_turned.proofs.of_layout.RowLemmas.{recno_fits}
 use Rattle.bdb_law_turned.specs.Fields.{recno_fields}
 use Rattle.bdb_swap.specs.Turns.{Turns}

@@ -1,7 +1,7 @@
 -- A search by the order of bytes finds the name exactly where it is one of the names.
 use Rattle.std.proofs.Common.{Some, sym, ◌∙◌, ap}
 use Rattle.std.specs.List.{list_any}
-use Rattle.bdb_spelling.specs.of_format.Databases.{is_name}
+use Rattle.bdb_spelling.specs.of_format.Terms.{is_name}
 use Rattle.bdb_text.specs.SectionTo.{names_of}
 use Rattle.bdb_text.proofs.EarlierLemmas.{found_by_order}
 use Rattle.bdb_text.proofs.earlier.Earlier.is_taken.Goals as goal

@@ -1,7 +1,6 @@
 use Rattle.std.proofs.Common.{arith, ap, ◌∙◌}
 use Rattle.bdb_places.specs.Places.{span_in}
-use Rattle.bdb_text_format.specs.Gathered.{Gathering, with_pair}
-use Rattle.bdb_text_format.specs.Placed.{pair_with, placed_key}
+use Rattle.bdb_text_format.specs.Terms.{Gathering, pair_with, placed_key, with_pair}
 use Rattle.bdb_text_format.proofs.GatheredLemmas.{again_more}
 use Rattle.bdb_text_format.proofs.gathered.Gathered.push_again.Goals as goal
 

@@ -1,6 +1,5 @@
 use Rattle.std.proofs.Common.{◌≡◌, ◌-◌, drop, take}
-use Rattle.bdb_text_format.specs.Gathered.{with_again}
-use Rattle.bdb_text_format.specs.Placed.{placed_key}
+use Rattle.bdb_text_format.specs.Terms.{placed_key, with_again}
 use Rattle.bdb_text_format.proofs.gathered.Gathered.push_again.Given as goal
 
 -- The key stands there with the data passed.

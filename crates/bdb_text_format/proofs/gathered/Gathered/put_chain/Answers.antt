@@ -1,6 +1,5 @@
 use Rattle.std.proofs.Common.{ap, refl, subst, sym, ◌∙◌}
-use Rattle.bdb_text_format.specs.Gathered.{Gathering}
-use Rattle.bdb_text_format.specs.Placed.{Keeps}
+use Rattle.bdb_text_format.specs.Terms.{Gathering, Keeps}
 use Rattle.bdb_text_format.proofs.GatheredLemmas.{chains_more, chains_stay}
 use Rattle.bdb_text_format.proofs.gathered.Gathered.put_chain.Goals as goal
 

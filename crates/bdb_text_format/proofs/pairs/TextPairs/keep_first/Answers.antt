@@ -1,6 +1,6 @@
 use Rattle.std.proofs.Common.{◌∙◌, ap, sym, take}
 use Rattle.std.proofs.lemmas.List.{take-map}
-use Rattle.bdb_text_format.specs.Placed.{placed_pair, placed_pairs}
+use Rattle.bdb_text_format.specs.Terms.{placed_pair, placed_pairs}
 use Rattle.bdb_text_format.proofs.pairs.TextPairs.keep_first.Goals as goal
 
 pub returns : goal.returns

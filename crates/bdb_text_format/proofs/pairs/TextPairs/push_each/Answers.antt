@@ -1,6 +1,6 @@
 use Rattle.std.proofs.Common.{arith, sym, ◌∙◌}
 use Rattle.std.proofs.lemmas.Bool.Decides.{nat_tests}
-use Rattle.bdb_text_format.specs.Placed.{slice_seen}
+use Rattle.bdb_text_format.specs.Terms.{slice_seen}
 use Rattle.bdb_text_format.proofs.PlacedLemmas.{joined_more, last_shared}
 use Rattle.bdb_text_format.proofs.pairs.TextPairs.push_each.Goals as goal
 use Rattle.bdb_text_format.proofs.pairs.TextPairs.push_each.Goals.{then-i-gt0, else-i-gt0}

@@ -1,5 +1,5 @@
 use Rattle.std.proofs.Common.{◌≡◌, ◌++◌, take}
-use Rattle.bdb_text_format.specs.Placed.{slice_seen}
+use Rattle.bdb_text_format.specs.Terms.{slice_seen}
 use Rattle.bdb_text_format.proofs.pairs.TextPairs.push_each.Given as goal
 
 -- The pairs passed are there.

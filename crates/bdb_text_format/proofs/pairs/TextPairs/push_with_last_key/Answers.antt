@@ -1,7 +1,6 @@
 use Rattle.std.proofs.Common.{◌≡◌, ◌-◌, List, ap, get_or, length, refl, ◌∙◌}
 use Rattle.bdb_places.specs.declared.place.Place.{Place}
-use Rattle.bdb_text_format.specs.Pairs.{last_key}
-use Rattle.bdb_text_format.specs.Placed.{placed_key, placed_pairs}
+use Rattle.bdb_text_format.specs.Terms.{last_key, placed_key, placed_pairs}
 use Rattle.bdb_text_format.proofs.PlacedLemmas.{last_at, pairs_pushed}
 use Rattle.bdb_text_format.proofs.pairs.TextPairs.push_with_last_key.Goals as goal
 

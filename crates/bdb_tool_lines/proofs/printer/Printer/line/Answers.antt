@@ -1,5 +1,5 @@
 use Rattle.std.proofs.Common.{◌∙◌}
-use Rattle.bdb_faults.specs.of_format.Cases.{fault_seen, judgement_seen}
+use Rattle.bdb_faults.specs.of_format.Terms.{fault_seen, judgement_seen}
 use Rattle.bdb_model.specs.Answers.{unsupported_line}
 use Rattle.bdb_tool_lines.specs.Telling.{judgement_line}
 use Rattle.bdb_tool_lines.proofs.LineLemmas.{case_told}

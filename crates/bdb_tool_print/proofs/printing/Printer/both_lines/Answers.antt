@@ -1,5 +1,4 @@
-use Rattle.bdb_text.specs.of_text_format.LineEnd.{line}
-use Rattle.bdb_text.specs.of_text_format.Written.{data_line, key_bytes}
+use Rattle.bdb_text.specs.of_text_format.Terms.{data_line, key_bytes, line}
 use Rattle.bdb_range.specs.of_overflow.Datum.{datum_seen, key_view_seen}
 use Rattle.bdb_tool_print.proofs.PrinterLemmas.{adds_cut, cut_up, then_adds}
 use Rattle.bdb_tool_print.proofs.printing.Printer.both_lines.Goals as goal

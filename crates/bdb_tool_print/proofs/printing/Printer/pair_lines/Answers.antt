@@ -1,5 +1,5 @@
 use Rattle.bdb_tool_lines.specs.of_model.Answers.{value_line}
-use Rattle.bdb_text.specs.of_text_format.Written.{key_bytes}
+use Rattle.bdb_text.specs.of_text_format.Terms.{key_bytes}
 use Rattle.bdb_range.specs.of_overflow.Datum.{datum_seen, key_view_seen}
 use Rattle.bdb_tool_print.proofs.PrinterLemmas.{adds_cut, cut_up, then_adds}
 use Rattle.bdb_tool_print.proofs.printing.Printer.pair_lines.Goals as goal

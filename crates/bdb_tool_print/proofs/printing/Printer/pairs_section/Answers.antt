@@ -1,7 +1,6 @@
 use Rattle.std.proofs.Common.{List, ℕ, ◌++◌, Some, codes, map, sym, subst}
 use Rattle.std.specs.List.{flat_map}
-use Rattle.bdb_text.specs.of_text_format.LineEnd.{line}
-use Rattle.bdb_text.specs.of_text_format.Written.{data_end, header_text}
+use Rattle.bdb_text.specs.of_text_format.Terms.{data_end, header_text, line}
 use Rattle.bdb_tool_print.specs.Printers.{Adds, pair_text}
 use Rattle.bdb_rescue.specs.Text.{bytes_pair, stored_settings}
 use Rattle.bdb_tool_print.proofs.DumpLemmas.{section_by_parts}

@@ -1,6 +1,6 @@
 use Rattle.std.proofs.Common.{◌∙◌, ap}
 use Rattle.std.specs.List.{flat_map}
-use Rattle.bdb_text.specs.of_text_format.TextSpelling.{spelling}
+use Rattle.bdb_text.specs.of_text_format.Terms.{spelling}
 use Rattle.bdb_tool_print.proofs.PrinterLemmas.{begins, cut_up, item_added, item_cut, items_added, spelling_joined}
 use Rattle.bdb_tool_print.proofs.printing.Printer.pieces.Goals as goal
 

@@ -1,6 +1,6 @@
 use Rattle.std.specs.List.{flat_map}
-use Rattle.bdb_range.specs.of_format.Chains.{joined}
-use Rattle.bdb_text.specs.of_text_format.TextSpelling.{spelling}
+use Rattle.bdb_range.specs.of_format.Terms.{joined}
+use Rattle.bdb_text.specs.of_text_format.Terms.{spelling}
 use Rattle.bdb_tool_print.specs.Printers.{HasAdded}
 use Rattle.bdb_tool_print.proofs.printing.Printer.pieces.Given as goal
 

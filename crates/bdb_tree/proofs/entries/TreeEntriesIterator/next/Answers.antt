@@ -1,7 +1,6 @@
 use Rattle.std.proofs.Common.{◌≡◌, ◌∙◌, ◌∷◌, ◌≤◌, ap, sym}
 use Rattle.std.proofs.lemmas.List.Elements.{All-rest}
-use Rattle.bdb_overflow.specs.of_format.Contents.{entries_in}
-use Rattle.bdb_overflow.specs.of_format.File.{File, file_of}
+use Rattle.bdb_overflow.specs.of_format.Terms.{File, entries_in, file_of}
 use Rattle.bdb_tree.specs.Entries.{leaf_entries_seen}
 use Rattle.bdb_tree.proofs.EntryLemmas.{next_leaf}
 use Rattle.bdb_tree.proofs.entries.TreeEntriesIterator.next.Goals as goal

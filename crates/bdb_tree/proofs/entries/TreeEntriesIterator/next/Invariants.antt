@@ -1,5 +1,5 @@
 use Rattle.std.proofs.Common.{◌≡◌, length}
-use Rattle.bdb_overflow.specs.of_format.File.{file_of}
+use Rattle.bdb_overflow.specs.of_format.Terms.{file_of}
 use Rattle.bdb_tree.specs.Entries.{AreThere, entries_left, leaf_entries_seen}
 use Rattle.bdb_tree.proofs.entries.TreeEntriesIterator.next.Given as goal
 

@@ -1,6 +1,6 @@
 use Rattle.std.proofs.Common.{◌∙◌, ap, sym}
 use Rattle.bdb_overflow.specs.of_layout.Seen.{leaf_item_seen}
-use Rattle.bdb_overflow.specs.of_format.File.{File, file_of}
+use Rattle.bdb_overflow.specs.of_format.Terms.{File, file_of}
 use Rattle.bdb_tree.specs.Entries.{values_of}
 use Rattle.bdb_tree.proofs.EntryLemmas.{deleted_value, rest_fit}
 use Rattle.bdb_tree.proofs.set.SetValuesIterator.next.Goals as goal

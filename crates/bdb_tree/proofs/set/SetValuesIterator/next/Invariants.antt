@@ -1,5 +1,5 @@
 use Rattle.std.proofs.Common.{◌≡◌, length}
-use Rattle.bdb_overflow.specs.of_format.File.{file_of}
+use Rattle.bdb_overflow.specs.of_format.Terms.{file_of}
 use Rattle.bdb_tree.specs.Entries.{AreFit, values_of}
 use Rattle.bdb_tree.proofs.set.SetValuesIterator.next.Given as goal
 
