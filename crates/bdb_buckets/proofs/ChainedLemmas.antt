@@ -6,7 +6,7 @@ use Rattle.std.specs.Cmp.Lexicographic.{slice_cmp}
 use Rattle.std.specs.Ordering.{nat_cmp}
 use Rattle.std.proofs.lemmas.Bool.{cases_eq}
 use Rattle.bdb_tree.specs.of_overflow.Keys.{has_key}
-use Rattle.bdb_tree.proofs.of_overflow.HeldLemmas.{apart}
+use Rattle.bdb_tree.proofs.of_format.LessLemmas.{other_number}
 use Rattle.bdb_buckets.specs.Chained.{AreAmong, Seen, chain_value}
 
 either : (a b : Bool) → b ≡ true → cond a true b ≡ true
@@ -32,7 +32,7 @@ among_unchanged image old new heads among same = grind arith
 -- and one head more, of a key that is
 pub among_more : (seen : Seen) (old new : BTreeSet ℕ) (head : ℕ) → AreAmong seen old → has_key seen.keys (chain_value seen.image head) ≡ true
     → Updates nat_cmp old new head true → AreAmong seen new
-among_more seen old new head among has updates = grind (arith, cases_eq, apart)
+among_more seen old new head among has updates = grind (arith, cases_eq, other_number)
 
 -- the same where the insertion may have failed
 pub among_inserted : {X E : Type 0} (result : Result X E) (seen : Seen) (old new : BTreeSet ℕ) (head : ℕ) → AreAmong seen old

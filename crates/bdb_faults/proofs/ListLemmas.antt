@@ -1,5 +1,5 @@
 -- The list of all that was noted, once it's settled.
-use Rattle.std.proofs.Common.{◌≡◌, ◌↔◌, ◌<◌, length, List, [], ◌∷◌, map, arith, refl, sym, ◌∙◌, ap, subst, inl, inr}
+use Rattle.std.proofs.Common.{◌≡◌, ◌↔◌, ◌<◌, length, List, [], ◌∷◌, arith, refl, sym, ◌∙◌, ap, subst, inl, inr}
 use Rattle.std.specs.Prelude.{◌==◌, Bool, true, false}
 use Rattle.std.specs.List.{Contains}
 use Rattle.bdb_format.specs.declared.kinds.Fault.{Fault}

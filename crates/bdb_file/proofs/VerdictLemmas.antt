@@ -8,9 +8,8 @@ use Rattle.bdb_check.specs.of_format.declared.kinds.Fault.{Fault}
 use Rattle.bdb_check.proofs.of_format.FileLemmas.{count_is, last_page}
 use Rattle.bdb_check.specs.of_image.Formed.{IsFormed}
 use Rattle.bdb_check.proofs.of_image.FirstLemmas.{formed_last}
-use Rattle.bdb_check.specs.of_any_order.AnyOrder.{contents_by, faults_by_rows, stages_by, verdict_by}
+use Rattle.bdb_check.specs.of_any_order.AnyOrder.{contents_by, faults_by_rows, stages_by}
 use Rattle.bdb_check.specs.of_any_order.declared.rows.Rows.{Rows}
-use Rattle.bdb_check.proofs.of_any_order.OrderLemmas.{of_counted}
 use Rattle.bdb_databases.proofs.ReadableLemmas.{read_in_any_order}
 use Rattle.bdb_check.proofs.WholeLemmas.{no_structure_fault, no_master_fault}
 

@@ -6,6 +6,10 @@ use Rattle.std.specs.Prelude.{◌||◌, not}
 pub second_false : (a b : Bool) → a ≡ true → (a && b) ≡ false → b ≡ false
 second_false a b is none = grind arith
 
+-- what isn't false
+pub true_from_not : (b : Bool) → not b ≡ false → b ≡ true
+true_from_not b is = grind arith
+
 -- where the second is false, the first is true
 pub first_or_none : (a b : Bool) → b ≡ false → not (a || b) ≡ false → a ≡ true
 first_or_none a b none passed = grind arith

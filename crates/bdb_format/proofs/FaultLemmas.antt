@@ -1,8 +1,7 @@
 -- Laws that several crates use.
 use Rattle.std.proofs.Common.{◌≡◌, ℕ, arith, inl, inr, ◌∙◌, refl, ◌+◌, List, [], ap}
-use Rattle.bdb_format.specs.Terms.{ComesFirst, File, chain_faults, chain_rows, or_else, tree_faults, tree_rows}
+use Rattle.bdb_format.specs.Terms.{ComesFirst, or_else}
 use Rattle.bdb_format.specs.declared.kinds.Fault.{Fault}
-use Rattle.bdb_format.proofs.VerdictLemmas.{InOrder, table_in_order}
 
 -- faults of one stage, page and code are one
 pub same_parts : (s t p q c d : ℕ) → s ≡ t → p ≡ q → c ≡ d
@@ -23,16 +22,6 @@ comes_through a b c (inr p) (inr q) = inr (p.0 ∙ q.0, omega (arith, p.1, q.1))
 -- a fault comes before itself
 pub comes_itself : (a : Fault) → ComesFirst a a
 comes_itself a = inr (refl, omega arith)
-
--- the faults of leaves are all of stage 6, and the first comes before all of them
-pub leaves_in_order : (file : File) → InOrder 6 (tree_faults file)
-unfolding tree_faults
-leaves_in_order file = table_in_order 6 0 (file.last + 1) (tree_rows file) (λ p. (omega arith, (omega arith, tt)))
-
--- and so are those of chains
-pub chains_in_order : (file : File) → InOrder 6 (chain_faults file)
-unfolding chain_faults
-chains_in_order file = table_in_order 6 0 (file.last + 1) (chain_rows file) (λ p. (omega arith, tt))
 
 -- two lists that are empty, joined
 pub or_none : (faults others : List Fault) → faults ≡ [] → others ≡ [] → or_else faults (λ _. others) ≡ []

@@ -1,11 +1,16 @@
--- The order of keys is strict and total, and a test tells equal keys.
-use Rattle.std.proofs.lemmas.Bool.{false_from_ne_true}
+-- The order of numbers and of keys is strict and total, and a test tells equal ones.
+use Rattle.std.specs.Ordering.{is_eq, nat_cmp}
+use Rattle.std.proofs.lemmas.Bool.{cases_order, false_from_ne_true}
 use Rattle.std.proofs.lemmas.Bool.Decides.{nat_tests}
 use Rattle.std.proofs.lemmas.Slice.Eq.{bytes_eq-Decides}
 use Rattle.std.proofs.Common.{◌≡◌, ℕ, List, [], ◌∷◌, refl, arith, le-ltb, eq-eqb}
 use Rattle.std.specs.Prelude.{false, true}
 use Rattle.std.specs.Str.{bytes_eq}
 use Rattle.bdb_format.specs.Terms.{Less, less}
+
+-- two numbers that differ
+pub other_number : (a b : ℕ) → (a ≡ b → ⊥) → is_eq (nat_cmp a b) ≡ false
+other_number a b differ = grind (arith, cases_order)
 
 pub less_self : (xs : List ℕ) → less xs xs ≡ false
 less_self [] = refl

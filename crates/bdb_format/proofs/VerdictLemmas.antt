@@ -3,15 +3,15 @@ use Rattle.std.proofs.Common.{◌≡◌, ◌⊎◌, ℕ, zero, suc, ◌+◌, ◌
 use Rattle.std.proofs.Common.{sym, ◌∙◌, ap, subst, inl, inr}
 use Rattle.std.specs.Prelude.{◌==◌, if◌then◌else◌}
 use Rattle.std.specs.List.{Contains, range_with_len}
-use Rattle.std.specs.Option.{option_map, option_to_list}
-use Rattle.std.proofs.lemmas.Bool.{cases_order, eqb-true, ne_eqb}
+use Rattle.std.specs.Option.{option_to_list}
+use Rattle.std.proofs.lemmas.Bool.{cases_order, eqb-true}
 use Rattle.std.proofs.lemmas.List.Elements.{Contains-append_cases}
 use borrow.Author.Count.{below_none, below_more}
-use Rattle.bdb_format.specs.Terms.{ComesFirst, Faulty, File, FirstIsLeast, Holds, Judgement, Row, SoundWhereNoRowHolds, by_page, contents_faults}
+use Rattle.bdb_format.specs.Terms.{ComesFirst, File, FirstIsLeast, Holds, Row, SoundWhereNoRowHolds, by_page, contents_faults}
 use Rattle.bdb_format.specs.Terms.{contents_rows, faults_by, faults_in, faults_of, file_faults, file_of, first_fault, first_row, form_code, form_faults}
-use Rattle.bdb_format.specs.Terms.{head_faults, head_of, head_rows, holds_somewhere, judgement_of, master_faults, master_rows, or_else, ownership_faults}
+use Rattle.bdb_format.specs.Terms.{head_faults, head_of, head_rows, holds_somewhere, master_faults, master_rows, or_else, ownership_faults}
 use Rattle.bdb_format.specs.Terms.{ownership_rows, page_bytes, reach_faults, reach_rows, reference_faults, reference_rows, stage_faults, structure_faults}
-use Rattle.bdb_format.specs.Terms.{structure_rows, tail_faults, tail_rows, verdict_in, within_file, ◌:?◌}
+use Rattle.bdb_format.specs.Terms.{structure_rows, tail_faults, tail_rows, within_file, ◌:?◌}
 use Rattle.bdb_format.specs.declared.kinds.Fault.{Fault}
 use Rattle.bdb_format.specs.Verdict.{holding}
 use Rattle.bdb_format.specs.declared.metadata.Head.{Head}
@@ -236,14 +236,6 @@ stage_in_order image =
     (table_in_order 8 0 (file.last + 1) (contents_rows file) (λ p. numbered_rise 1 9 1 (holds_somewhere file p) (omega arith)))
     nothing_in_order
 
--- and so are the faults of the first of some stages that has any
-pub stages_in_order : (image stages : List ℕ) → (stage : ℕ) × InOrder stage (faults_in stages image)
-unfolding faults_in
-stages_in_order image [] = (0, nothing_in_order 0)
-stages_in_order image (stage ∷ stages) =
-    or_else_both (λ faults. (s : ℕ) × InOrder s faults) (stage_faults image stage) (faults_in stages image) (stage, stage_in_order image stage)
-    (stages_in_order image stages)
-
 first_in : (faults : List Fault) (fault : Fault) → first_fault faults ≡ Some fault → Contains faults fault
 first_in [] fault is = absurd cc
 first_in (first ∷ faults) fault is = let same : first ≡ fault = cc in subst (Contains (first ∷ faults)) same (first_member first faults)
@@ -324,55 +316,7 @@ unfolding faults_in
 none_in image [] none = refl
 none_in image (stage ∷ stages) none = skip_stage image stage stages none.0 ∙ none_in image stages none.1
 
-first_here : (faults others : List Fault) (fault : Fault) → first_fault faults ≡ Some fault → first_fault (or_else faults (λ _. others)) ≡ Some fault
-first_here [] others fault is = absurd cc
-first_here (first ∷ faults) others fault is = is
-
-first_of_two : (faults others : List Fault) (fault : Fault) → first_fault (or_else faults (λ _. others)) ≡ Some fault
-    → (first_fault faults ≡ Some fault) ⊎ ((faults ≡ []) × (first_fault others ≡ Some fault))
-first_of_two [] others fault is = inr (refl, is)
-first_of_two (first ∷ faults) others fault is = inl is
-
--- more stages after those that have a fault don't count
-pub first_in_more : (image : List ℕ) (stages more : List ℕ) (fault : Fault) → first_fault (faults_in stages image) ≡ Some fault
-    → first_fault (faults_in (stages ++ more) image) ≡ Some fault
-unfolding faults_in
-first_in_more image [] more fault is = absurd cc
-first_in_more image (stage ∷ stages) more fault is =
-    elim (first_of_two (stage_faults image stage) (faults_in stages image) fault is) [
-      | inl here ↦ first_here (stage_faults image stage) (faults_in (stages ++ more) image) fault here
-      | inr (none, later) ↦ ap first_fault (skip_stage image stage (stages ++ more) none) ∙ first_in_more image stages more fault later
-    ]
-
 -- The verdict.
-
--- a verdict on some stages is the one on more stages after them
-pub verdict_in_more : (image : List ℕ) (stages more : List ℕ) (judgement : Judgement) → verdict_in stages image ≡ Some judgement
-    → verdict_in (stages ++ more) image ≡ Some judgement
-verdict_in_more image stages more judgement is = grind (arith, first_in_more image stages more)
-
--- the first fault of stages from one on is of such a stage
-first_from : (n from : ℕ) (image : List ℕ) (fault : Fault) → first_fault (faults_in (range_with_len from n) image) ≡ Some fault → from ≤ fault.stage
-unfolding faults_in
-first_from zero from image fault is = absurd cc
-first_from (suc n) from image fault is =
-    elim (first_of_two (stage_faults image from) (faults_in (range_with_len (from + 1) n) image) fault is) [
-      | inl here ↦ omega (arith, first_is_of image from fault here)
-      | inr (none, later) ↦ omega (arith, first_from n (from + 1) image fault later)
-    ]
-
--- from stage 3 on a fault is judged as it is
-pub late_fault : (fault : Fault) → 3 ≤ fault.stage → judgement_of fault ≡ Faulty fault
-late_fault fault late = grind (arith, ne_eqb fault.stage 1, ne_eqb fault.stage 2)
-
--- the verdict is the first fault of stages from 3 on, after stages without faults
-pub verdict_after : (image passed : List ℕ) (from n : ℕ) (more : List ℕ) (fault : Fault) → faults_in passed image ≡ [] → 3 ≤ from
-    → first_fault (faults_in (range_with_len from n) image) ≡ Some fault
-    → verdict_in (passed ++ (range_with_len from n ++ more)) image ≡ Some (Faulty fault)
-verdict_after image passed from n more fault none late is =
-    ap (λ faults. option_map judgement_of (first_fault faults)) (skip_stages image passed (range_with_len from n ++ more) none)
-    ∙ (ap (option_map judgement_of) (first_in_more image (range_with_len from n) more fault is)
-    ∙ ap (λ (j : Judgement). Some j) (late_fault fault (omega (arith, first_from n from image fault is))))
 
 -- The laws.
 

@@ -140,7 +140,7 @@ noted_more old tallies new leaps later holder first n at next is below note len 
       (subst (AreTallies new) (joined os holder place first (m + 1) k) over);
 }
 
-left_none : (first n at q m len : ℕ) → first ≤ at → (first + n ≤ at) ⊎ (len ≤ at) → m ≡ min (at - first) n → first + m ≤ q → q < first + n → q < len → ⊥
+pub left_none : (first n at q m len : ℕ) → first ≤ at → (first + n ≤ at) ⊎ (len ≤ at) → m ≡ min (at - first) n → first + m ≤ q → q < first + n → q < len → ⊥
 left_none first n at q m len on (inl whole) is from below low = omega arith
 left_none first n at q m len on (inr past) is from below low = omega arith
 

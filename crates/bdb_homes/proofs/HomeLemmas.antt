@@ -1,7 +1,6 @@
 -- Homes in their order: by claims, from before, from after.
 use Rattle.std.proofs.Common.{◌≡◌, ℕ, zero, suc, ◌<◌, List, ◌++◌, length, Option, None, Some, ap, ◌∙◌, arith, refl}
-use Rattle.std.proofs.Common.{get_or, take, drop}
-use Rattle.std.proofs.lemmas.Grind.{common_steps}
+use Rattle.std.proofs.Common.{get_or}
 use Rattle.std.specs.Option.{option_and_then}
 use Rattle.bdb_survey.specs.of_format.Terms.{File}
 use Rattle.bdb_homes.specs.Faces.{AreFaces}
@@ -47,7 +46,3 @@ home_is file faces led' homes are leads spreads p low =
     spreads p low
     ∙ spread_same (home_at led') (led file) (page_after file) (λ p q. ahead file p) file.count (λ q below. leads q (omega (arith, are.len, below)))
     (λ q r is. side_there After file q r are.past is) file.count p (omega (arith, are.len, low))
-
--- a slice that is lent and written is the whole list again
-pub written_back : {A : Type 0} (n : ℕ) (new old : List A) → length new ≡ n → length old ≡ n → take n (new ++ drop (length new) old) ≡ new
-written_back n new old first second = grind (arith, common_steps)

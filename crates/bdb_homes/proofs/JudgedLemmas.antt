@@ -1,6 +1,6 @@
 -- A page as it is looked at.
 use Rattle.std.proofs.Common.{◌≡◌, true, ◌∙◌, refl}
-use Rattle.std.specs.Prelude.{Option, Some, None}
+use Rattle.std.specs.Prelude.{Some, None}
 use Rattle.bdb_graph.specs.of_form.Formed.{MetaPage as MetaBytes}
 use Rattle.bdb_graph.specs.of_form.declared.view.PageView.{PageView}
 use Rattle.bdb_graph.specs.of_form.declared.view.PageView.TheVariants.{Zero, Free, Meta as MetaView, Leaf, Internal, RecnoLeaf, RecnoInternal, DupLeaf, Hash}

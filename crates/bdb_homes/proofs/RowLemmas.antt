@@ -56,7 +56,7 @@ second_there file p q none = elim (cases_Bool (adjoins file p q)) [
   | inr no' ↦ no'
 ]
 
-pick : (b : Bool) (x : ℕ) → b ≡ true → (if b then Some x else None) ≡ Some x
+pub pick : (b : Bool) (x : ℕ) → b ≡ true → (if b then Some x else None) ≡ Some x
 pick b x is = rw is refl
 
 -- the page on the other side of the page on a side

@@ -1,7 +1,7 @@
 -- Claims to a run of pages: those that are closed, or aren't there, change nothing.
 use Rattle.std.proofs.Common.{◌≡◌, ◌⊎◌, ℕ, zero, suc, ◌+◌, ◌-◌, ◌^◌, ◌<◌, ◌≤◌, Bool, true, false, List, [], ◌∷◌, ◌++◌, length, set, map, ap, ◌∙◌, arith, refl}
 use Rattle.std.proofs.Common.{sym}
-use Rattle.std.proofs.Common.{subst, inl, inr, append-nil, append_assoc, get_or, zero-add, true≢false}
+use Rattle.std.proofs.Common.{subst, append-nil, append_assoc, get_or, zero-add, true≢false}
 use Rattle.std.specs.Prelude.{min, ◌||◌, not}
 use Rattle.std.specs.List.{range_with_len}
 use Rattle.std.proofs.lemmas.List.{map-append, length-set}
@@ -20,6 +20,7 @@ use Rattle.bdb_homes.proofs.UpLemmas.{ups_same}
 use Rattle.bdb_homes.specs.declared.face.Face.{Face}
 use Rattle.bdb_homes.specs.declared.up.Up.{Up}
 use Rattle.bdb_homes.specs.declared.up.Up.TheVariants.{Nowhere, Metadata}
+use Rattle.bdb_graph.proofs.RunLemmas.{left_none}
 
 -- a bucket fits as its face tells
 pub bucket_fits : (file : File) (faces : List Face) (holder page : ℕ) → AreFaces file faces → fits_by faces bucket_asked page
@@ -125,10 +126,6 @@ noted_more faces old ups new leaps later holder first n at next is below note le
       (λ q from low there. closed q (omega (arith, is.on, from)) (omega (arith, is.on, low, on, below))) in
       subst (λ k. AreUps file new (claims ++ run_claims holder first k)) all (subst (AreUps file new) (joined claims holder first (m + 1) k) over);
 }
-
-left_none : (first n at q m len : ℕ) → first ≤ at → (first + n ≤ at) ⊎ (len ≤ at) → m ≡ min (at - first) n → first + m ≤ q → q < first + n → q < len → ⊥
-left_none first n at q m len on (inl whole) is from below low = omega arith
-left_none first n at q m len on (inr past) is from below low = omega arith
 
 -- the pages that are left aren't there
 pub noted_all : (faces : List Face) (old ups : List Up) (leaps : List ℕ) (holder first n at : ℕ) (file : File) (claims : List Claim)

@@ -1,5 +1,5 @@
 -- The claims of a table, group by group.
-use Rattle.std.proofs.Common.{◌≡◌, ℕ, ◌+◌, ◌<◌, ◌≤◌, true, List, [], ◌∷◌, ◌++◌, length, map, ap, ◌∙◌, arith, refl, sym, subst, append-nil, append_assoc}
+use Rattle.std.proofs.Common.{◌≡◌, ℕ, ◌+◌, ◌<◌, ◌≤◌, true, List, [], ◌∷◌, ◌++◌, length, map, ap, ◌∙◌, arith, refl, sym, subst, append_assoc}
 use Rattle.std.proofs.lemmas.List.{map-append}
 use Rattle.std.specs.List.{range_with_len}
 use Rattle.bdb_survey.specs.of_format.declared.references.Sort.{Sort}
@@ -43,15 +43,6 @@ pub record AreTabled (faces : List Face) (old ups : List Up) (leaps : List ℕ) 
   pub noted : (file : File) (claims : List Claim) → AreFaces file faces → is_meta (page_at file holder) ≡ true → AreUps file old claims
       → AreUps file ups (claims ++ table_claims holder spares 0 bucket)
 
-pub tabled_first : (faces : List Face) (ups : List Up) (leaps : List ℕ) (holder : ℕ) (spares : List ℕ) (max_bucket : ℕ) → HasLeaps faces ups leaps
-    → AreTabled faces ups ups leaps holder spares max_bucket 0
-tabled_first faces ups leaps holder spares max_bucket has = record {
-  low = omega arith;
-  len = refl;
-  has = has;
-  noted = λ file claims faced meta are. subst (AreUps file ups) (sym (append-nil claims)) are;
-}
-
 pub tabled_more : (faces : List Face) (old ups new : List Up) (leaps later : List ℕ) (holder : ℕ) (spares : List ℕ) (max_bucket bucket first n : ℕ)
     → AreTabled faces old ups leaps holder spares max_bucket bucket → run_names first n ≡ bucket_names spares bucket n → bucket + n ≤ max_bucket + 1
     → length new ≡ length ups → HasLeaps faces new later
@@ -69,13 +60,6 @@ tabled_more faces old ups new leaps later holder spares max_bucket bucket first 
       ∙ ap (λ more. claims ++ more) (ap (λ more. before ++ more) (run_is holder spares bucket first n names) ∙ sym (more_buckets holder spares bucket n)) in
       subst (AreUps file new) all (note file (claims ++ before) faced meta (is.noted file claims faced meta are));
 }
-
-pub tabled_all : (faces : List Face) (old ups : List Up) (leaps : List ℕ) (holder : ℕ) (spares : List ℕ) (max_bucket bucket : ℕ)
-    → AreTabled faces old ups leaps holder spares max_bucket bucket → max_bucket < bucket → (file : File) (claims : List Claim) → AreFaces file faces
-    → is_meta (page_at file holder) ≡ true → AreUps file old claims → AreUps file ups (claims ++ table_claims holder spares 0 (max_bucket + 1))
-tabled_all faces old ups leaps holder spares max_bucket bucket is past file claims faced meta are =
-    let all : bucket ≡ max_bucket + 1 = omega (arith, is.low, past) in
-    subst (λ n. AreUps file ups (claims ++ table_claims holder spares 0 n)) all (is.noted file claims faced meta are)
 
 -- the claims of a table are those of its metadata
 pub table_below : (holder : ℕ) (meta : HashMeta)

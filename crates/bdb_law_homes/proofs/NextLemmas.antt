@@ -1,5 +1,5 @@
 -- The pages of a bucket behind its first.
-use Rattle.std.proofs.Common.{◌≡◌, ℕ, zero, suc, ◌+◌, ◌^◌, Bool, true, ap, ◌∙◌, arith, refl, sym, subst}
+use Rattle.std.proofs.Common.{◌≡◌, ℕ, zero, suc, ◌+◌, ◌^◌, true, ap, ◌∙◌, arith, refl, sym, subst}
 use Rattle.std.specs.Prelude.{nat_lt, if◌then◌else◌, Option, Some, None}
 use Rattle.std.specs.Option.{option_and_then}
 use Rattle.bdb_graph.specs.of_format.Terms.{File, Hash, Item, Listed, first_holder, owners, page_at}
@@ -11,9 +11,7 @@ use Rattle.bdb_homes.specs.declared.home.Home.{Home}
 use Rattle.bdb_homes.proofs.RowLemmas.{adjoin_parts}
 use Rattle.bdb_law_homes.specs.Led.{IsOwned, NextIsLed}
 use Rattle.bdb_law_homes.proofs.LedLemmas.{claim_is, claim_owner}
-
-pick : (b : Bool) (x : ℕ) → b ≡ true → (if b then Some x else None) ≡ Some x
-pick b x is = rw is refl
+use Rattle.bdb_homes.proofs.RowLemmas.{pick}
 
 before_is : (file : File) (p q : ℕ) → adjoins file p q ≡ true → page_before file q ≡ Some p
 before_is file p q is =

@@ -1,6 +1,6 @@
 -- Metadata of a sound file has no row either where it's held against itself and the last page that the image has whole.
 use Rattle.std.proofs.Common.{◌≡◌, ℕ, ◌≤◌, ◌++◌, ◌∷◌, [], Bool, true, false, List, length, arith, sym, refl, ◌∙◌, ap, inl, inr, ltb-false}
-use Rattle.std.specs.Prelude.{nat_lt, ◌==◌, ◌||◌, Option, None, Some}
+use Rattle.std.specs.Prelude.{nat_lt, ◌==◌, ◌||◌, None, Some}
 use Rattle.std.proofs.lemmas.Bool.{cases_Bool, or_parts}
 use Rattle.bdb_survey.specs.of_format.declared.kinds.Order.{Order}
 use Rattle.bdb_survey.specs.of_format.declared.metadata.FileKind.TheVariants.{Btree, Hash}

@@ -18,7 +18,7 @@ use Rattle.bdb_mkleaves.proofs.of_law_grove.ChainLemmas.{is_between}
 use Rattle.bdb_mkleaves.specs.of_pack.Built.{Built, file_so_far}
 use Rattle.bdb_mkleaves.specs.Filled.{AreFilled, rest_of}
 use Rattle.bdb_mkleaves.specs.Finished.{HasFirstRoot, HasLaidTree}
-use Rattle.bdb_mkleaves.specs.Laid.{Counts, Suits as SuitsTree, is_laid}
+use Rattle.bdb_mkleaves.specs.Laid.{Counts, Suits as SuitsTree}
 use Rattle.bdb_mkleaves.specs.Layout.{HasTreeOn, HaveTreesOn, IsTreeOn, contents_below, placed_below}
 use Rattle.bdb_mkleaves.specs.Moved.{first_leaf, numbers_of}
 use Rattle.bdb_mkleaves.specs.Placed.{HasLength, IsAllowed, IsPlacedBySize, LeafUnits, Placed, PlacedEntry, PlacedPairs, PlacedTree, has_several}

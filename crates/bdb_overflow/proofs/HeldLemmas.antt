@@ -1,19 +1,15 @@
 -- What was found of two chains.
-use Rattle.std.proofs.Common.{arith}
 use Rattle.std.proofs.Common.{◌≡◌, ℕ, Bool, false, List, refl, sym, ◌∙◌, ap, inl, inr}
 use Rattle.std.specs.Prelude.{Some}
 use Rattle.std.specs.BTreeMap.{BTreeMap, Updates, get}
 use Rattle.std.specs.Ordering.{is_eq, nat_cmp, ordering_then}
 use Rattle.std.specs.declared.cmp.Ordering.{Ordering}
 use Rattle.std.specs.declared.cmp.Ordering.TheVariants.{Less as Below, Equal, Greater}
-use Rattle.std.proofs.lemmas.Bool.{cases_eq, cases_order}
+use Rattle.std.proofs.lemmas.Bool.{cases_eq}
 use Rattle.bdb_graph.specs.of_format.Terms.{file_of, less}
 use Rattle.bdb_overflow.specs.Held.{AreFound, chain_value, two_cmp}
 use Rattle.bdb_graph.proofs.of_format.ListLemmas.{one_answer}
-
--- two numbers that differ
-pub apart : (a b : ℕ) → (a ≡ b → ⊥) → is_eq (nat_cmp a b) ≡ false
-apart a b differ = grind (arith, cases_order)
+use Rattle.bdb_graph.proofs.of_format.LessLemmas.{other_number}
 
 first_apart : (p q : Ordering) → is_eq p ≡ false → is_eq (ordering_then p q) ≡ false
 first_apart Below q is = refl
@@ -34,9 +30,9 @@ found_more image old new a b is found holds updates = record {
         | inl first ↦
             elim (cases_eq b y) [
               | inl second ↦ the_same x y answer at first second
-              | inr differ ↦ found.each x y answer (sym (updates.2 (x, y) (second_apart (nat_cmp a x) (nat_cmp b y) (apart b y differ))) ∙ at)
+              | inr differ ↦ found.each x y answer (sym (updates.2 (x, y) (second_apart (nat_cmp a x) (nat_cmp b y) (other_number b y differ))) ∙ at)
             ]
-        | inr differ ↦ found.each x y answer (sym (updates.2 (x, y) (first_apart (nat_cmp a x) (nat_cmp b y) (apart a x differ))) ∙ at)
+        | inr differ ↦ found.each x y answer (sym (updates.2 (x, y) (first_apart (nat_cmp a x) (nat_cmp b y) (other_number a x differ))) ∙ at)
       ];
 }
   where

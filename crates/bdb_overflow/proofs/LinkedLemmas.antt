@@ -3,7 +3,7 @@ use Rattle.std.proofs.Common.{◌≡◌, ◌⊎◌, ℕ, zero, suc, ◌+◌, ◌
 use Rattle.std.proofs.Common.{sym, ◌∙◌, ap, subst, inl, inr}
 use Rattle.std.specs.Prelude.{◌==◌, ◌||◌, ◌&&◌, nat_lt}
 use Rattle.std.specs.List.{Contains}
-use Rattle.std.proofs.lemmas.Bool.{cases_Bool, cases_eq, eq-eqb, eqb-false, eqb-true, ltb-false, ne_eqb, or_parts}
+use Rattle.std.proofs.lemmas.Bool.{cases_eq, eq-eqb, eqb-false, eqb-true, ltb-false, ne_eqb, or_parts}
 use Rattle.bdb_graph.specs.of_format.declared.kinds.Order.{Order}
 use Rattle.bdb_graph.specs.of_format.declared.metadata.FileKind.{FileKind}
 use Rattle.bdb_graph.specs.of_format.declared.metadata.FileKind.TheVariants.{Btree, Hash, Queue}
@@ -11,7 +11,7 @@ use Rattle.bdb_graph.specs.of_format.declared.metadata.Head.{Head}
 use Rattle.bdb_graph.specs.of_format.declared.references.Reference.{Reference}
 use Rattle.bdb_graph.specs.of_format.declared.references.Sort.{Sort}
 use Rattle.bdb_graph.specs.of_format.declared.references.Sort.TheVariants.{OverflowHead, OverflowNext}
-use Rattle.bdb_graph.specs.of_format.Terms.{File, Overflow, Owner, Page, abstract_page, all_references, asked_by, body_code, byte_at, chain_in, file_as}
+use Rattle.bdb_graph.specs.of_format.Terms.{File, Overflow, Owner, Page, all_references, asked_by, body_code, byte_at, chain_in, file_as}
 use Rattle.bdb_graph.specs.of_format.Terms.{file_of, first_row, fit_code, fit_rows, form_code, has_type, head_of, header_in, header_of, identity_rows}
 use Rattle.bdb_graph.specs.of_format.Terms.{is_page_size, is_tree_type, is_zero, is_zero_page, may_have_type, next_of, owners, page_at, page_bytes, page_code}
 use Rattle.bdb_graph.specs.of_format.Terms.{page_type, piece_in, pieces_of, refs, targets_in, targets_of, two_at, type_in}

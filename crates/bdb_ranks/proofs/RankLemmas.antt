@@ -13,11 +13,10 @@ use Rattle.std.proofs.lemmas.Fn.{always_returns_same}
 use Rattle.std.proofs.lemmas.List.Elements.{Contains-get_or}
 use Rattle.std.proofs.lemmas.List.Sorted.{Contains-permutation, IsPermutation-sym}
 use Rattle.bdb_tree.specs.of_format.Terms.{Less, file_of, less}
-use Rattle.bdb_tree.proofs.of_format.LessLemmas.{below_less, less_above, less_not_back, less_self, same_unless_less}
+use Rattle.bdb_tree.proofs.of_format.LessLemmas.{below_less, less_above, less_not_back, less_self, other_number, same_unless_less}
 use Rattle.bdb_tree.specs.of_overflow.Held.{chain_value}
 use Rattle.bdb_ranks.specs.Ranks.{AreBelow, AreRanked, AreRanks, is_above, no_chain, value_at, value_less}
 use Rattle.bdb_ranks.specs.Shared.{AreShared, ChainValue, IsShared}
-use Rattle.bdb_tree.proofs.of_overflow.HeldLemmas.{apart}
 use Rattle.bdb_tree.proofs.of_format.ListLemmas.{one_answer}
 
 -- The sort.
@@ -43,7 +42,7 @@ shared_moved image old new are moved = record {
 
 after_insert : (old new : BTreeMap ℕ ℕ) (h rank a m : ℕ) → Updates nat_cmp old new h (Some rank) → get nat_cmp new a ≡ Some m
     → ((h ≡ a) × (m ≡ rank)) ⊎ (get nat_cmp old a ≡ Some m)
-after_insert old new h rank a m updates at = grind (arith, cases_eq, one_answer, apart)
+after_insert old new h rank a m updates at = grind (arith, cases_eq, one_answer, other_number)
 
 -- below what isn't below itself
 same_rank : (m n rank : ℕ) → m ≡ rank → n ≡ rank → nat_lt m n ≡ false

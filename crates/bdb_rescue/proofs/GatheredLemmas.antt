@@ -1,11 +1,11 @@
 -- Pairs in the making, as more of them come.
-use Rattle.std.proofs.Common.{◌≡◌, ℕ, ◌+◌, ◌*◌, ◌^◌, ◌<◌, ◌≤◌, Bool, cond, not, true, List, [], ◌∷◌, ◌++◌, Some, arith, ap, append-nil, append_assoc, drop, false, inl, inr, length, length-append, length-drop}
+use Rattle.std.proofs.Common.{◌≡◌, ℕ, ◌+◌, ◌*◌, ◌^◌, ◌<◌, ◌≤◌, cond, not, List, [], ◌∷◌, ◌++◌, Some, arith, ap, append-nil, append_assoc, drop, false, inl, inr, length, length-append, length-drop}
 use Rattle.std.proofs.Common.{map, refl, subst, sym, take, ◌∙◌}
 use Rattle.std.specs.BTreeMap.{BTreeMap, Updates, get, is_at}
 use Rattle.std.specs.List.{enumerate_from, flat_map}
 use Rattle.std.specs.Map.{lookup}
-use Rattle.std.specs.Ordering.{is_eq, nat_cmp}
-use Rattle.std.proofs.lemmas.Bool.{cases_eq, cases_order}
+use Rattle.std.specs.Ordering.{nat_cmp}
+use Rattle.std.proofs.lemmas.Bool.{cases_eq}
 use Rattle.std.proofs.lemmas.List.{drop-append-le, length-map, map-append, take-append-le, take_all}
 use Rattle.std.proofs.Math.Seq.{drop-append_seam}
 use Rattle.std.proofs.lemmas.Option.{same_Some}
@@ -17,9 +17,9 @@ use Rattle.bdb_text_format.specs.declared.pairs.Key.TheVariants.{Bytes, Number}
 use Rattle.bdb_text_format.specs.declared.pairs.TextPair.{TextPair}
 use Rattle.bdb_text_format.specs.of_places.Places.{span_in}
 use Rattle.bdb_text_format.specs.of_places.declared.span.Span.{Span}
-use Rattle.bdb_text_format.specs.Terms.{Extends, Gathering, HasChains, IsKeyPlaced, IsPiecePut, key_again, pair_with, placed_key}
+use Rattle.bdb_text_format.specs.Terms.{Extends, Gathering, IsKeyPlaced, IsPiecePut, key_again, pair_with, placed_key}
 use Rattle.bdb_text_format.proofs.GatheredLemmas.{chains_same}
-use Rattle.bdb_text_format.proofs.PlacedLemmas.{kept_on, key_stays, key_within}
+use Rattle.bdb_text_format.proofs.PlacedLemmas.{key_stays, key_within}
 use Rattle.bdb_survey.specs.Salvage.{loose}
 use Rattle.bdb_rescue.proofs.LooseCountLemmas.{loose_few}
 use Rattle.bdb_rescue.proofs.LooseLemmas.{loose_is}
@@ -27,6 +27,8 @@ use Rattle.bdb_rescue.specs.Kept.{Reading, data_at, file_in, given, given_live, 
 use Rattle.bdb_rescue.specs.declared.kept.KeptPair.{KeptPair}
 use Rattle.bdb_rescue.specs.declared.kept.KeptValue.{KeptValue}
 use Rattle.bdb_rescue.specs.Gathered.{Adds, Grows, HasSets, InHand, IsInHand, StandFrom, chain_value, loose_pair, set_data, stored_pair, with_key}
+use Rattle.bdb_text_format.proofs.of_format.BoolLemmas.{true_from_not}
+use Rattle.bdb_text_format.proofs.of_format.LessLemmas.{other_number}
 
 -- The same pairs with a run that grew, and then more of them.
 
@@ -67,13 +69,6 @@ adds_on old mid new key some more all first second are =
           (sym (map-append (λ value. pair_with k value 0) some more) ∙ ap (with_key k) (sym are)))));
     }
 
-pub grows_on : (old mid new : InHand) → Grows old mid → Grows mid new → Grows old new
-grows_on old mid new first second = record {
-  reading = second.reading ∙ first.reading;
-  bytes = kept_on old.gathered.bytes mid.gathered.bytes new.gathered.bytes first.bytes second.bytes;
-  pairs = second.pairs ∙ first.pairs;
-}
-
 pub grown_key : (old new : InHand) (key : PlacedKey) → Grows old new → IsKeyPlaced old.gathered.bytes key → IsKeyPlaced new.gathered.bytes key
 grown_key old new key grows placed = key_within old.gathered.bytes new.gathered.bytes key grows.bytes placed
 
@@ -97,9 +92,6 @@ sets_on file old new more sets are has =
     subst (λ pairs. HasSets file pairs sets) (sym are)
     (record { each = λ leaf from at. stand_on old more (set_data file leaf) from (has.each leaf from at) })
 
-apart : (a b : ℕ) → (a ≡ b → ⊥) → is_eq (nat_cmp a b) ≡ false
-apart a b differ = grind (arith, cases_order)
-
 -- and of one more
 sets_more : (file : File) (pairs : List TextPair) (before after : BTreeMap ℕ ℕ) (leaf from : ℕ) → HasSets file pairs before
     → StandFrom pairs (set_data file leaf) from → Updates nat_cmp before after leaf (Some from) → HasSets file pairs after
@@ -110,7 +102,7 @@ sets_more file pairs before after leaf from has stand updates = record {
             let here : Some from ≡ Some place = sym updates.1 ∙ (ap (λ n. get nat_cmp after n) same ∙ at) in
             subst (λ n. StandFrom pairs (set_data file n) place) same
             (subst (StandFrom pairs (set_data file leaf)) (same_Some from place here) stand)
-        | inr differ ↦ has.each other place (sym (updates.2 other (apart leaf other differ)) ∙ at)
+        | inr differ ↦ has.each other place (sym (updates.2 other (other_number leaf other differ)) ∙ at)
       ];
 }
 
@@ -210,10 +202,6 @@ given_keyed : (key : List ℕ) (values : List (List ℕ)) → with_key (Bytes ke
 given_keyed key [] = refl
 given_keyed key (value ∷ values) = ap (λ more. pair_with (Bytes key) value 0 ∷ more) (given_keyed key values)
 
-is_so : (b : Bool) → not b ≡ false → b ≡ true
-is_so true is = refl
-is_so false is = absurd cc
-
 pub pair_given : (old mid new : InHand) (pair : KeptPair) (span : Span) → not pair.live ≡ false → Grows old mid
     → IsPiecePut mid.gathered.bytes (value_of (file_in old.reading) (item_of (file_in old.reading) pair.page (2 * pair.index)).content) span
     → Adds mid new (BytesAt span)
@@ -230,7 +218,7 @@ pair_given old mid new pair span live grows put adds =
     ∙ ap (λ more. old.gathered.pairs ++ more)
     (ap (λ bytes. with_key (Bytes bytes) (values mid.reading)) put.same
     ∙ (ap (λ (reading : Reading). with_key (Bytes key) (values reading)) grows.reading
-    ∙ (given_keyed key (values old.reading) ∙ ap (λ b. map stored_pair (cond b (under key (values old.reading)) [])) (sym (is_so pair.live live))))))
+    ∙ (given_keyed key (values old.reading) ∙ ap (λ b. map stored_pair (cond b (under key (values old.reading)) [])) (sym (true_from_not pair.live live))))))
 
 -- what one more gives
 pub more_given : (file : File) (now new all : List TextPair) (left rest : List KeptPair) (pair : KeptPair) → left ≡ pair ∷ rest

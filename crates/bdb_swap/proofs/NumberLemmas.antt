@@ -13,8 +13,8 @@ use Rattle.bdb_io.proofs.of_format.TurnLemmas.{length-slice_range}
 use Rattle.bdb_law_turned.proofs.of_layout.NumberLemmas.{big_from-is, put_piece}
 
 -- each is a byte
-abbrev AreBytes : List ℕ → Type 0
-AreBytes bytes = (i : ℕ) → get_or bytes i 0 < 256
+abbrev EachIsByte : List ℕ → Type 0
+EachIsByte bytes = (i : ℕ) → get_or bytes i 0 < 256
 
 byte_at-pow : (k x : ℕ) → byte_at k x ≡ x / 256 ^ k % 256
 byte_at-pow zero x = ap (λ (y : ℕ). y % 256) (sym (div-one x))
@@ -33,27 +33,27 @@ bytes_above i zero low x fits = refl
 bytes_above i (suc n) low x fits = rw (byte_above i low x fits, bytes_above (suc i) n low x fits) refl
 
 -- bytes are those of the number that they spell
-bytes_of_number : (bytes : List ℕ) → AreBytes bytes → bytes_low_first 0 (length bytes) (from_low_end bytes) ≡ bytes
+bytes_of_number : (bytes : List ℕ) → EachIsByte bytes → bytes_low_first 0 (length bytes) (from_low_end bytes) ≡ bytes
 bytes_of_number [] fit = refl
 bytes_of_number (low ∷ bytes) fit =
     let first : low < 256 = fit 0 in
     let lowest : (low + 256 * from_low_end bytes) % 256 ≡ low = omega arith in
     rw (lowest, bytes_above 0 (length bytes) low (from_low_end bytes) first, bytes_of_number bytes (λ i. fit (suc i))) refl
 
-bytes_reversed : (bytes : List ℕ) → AreBytes bytes → AreBytes (reverse bytes)
+bytes_reversed : (bytes : List ℕ) → EachIsByte bytes → EachIsByte (reverse bytes)
 bytes_reversed bytes fit i = elim (cases_lt i (length bytes)) [
   | inl inside ↦ rw (get_or-reverse bytes i 0 inside) (fit (length bytes - 1 - i))
   | inr past ↦ rw (get_or_past (reverse bytes) i 0 (omega (arith, length-reverse bytes))) (omega arith)
 ]
 
-little_of_big : (bytes : List ℕ) → AreBytes bytes → little_bytes (length bytes) (big_number (length bytes) bytes) ≡ reverse bytes
+little_of_big : (bytes : List ℕ) → EachIsByte bytes → little_bytes (length bytes) (big_number (length bytes) bytes) ≡ reverse bytes
 little_of_big bytes fit =
     ap (bytes_low_first 0 (length bytes)) (big_from-is 0 (length bytes) bytes (omega arith)
     ∙ ap (λ bs. from_low_end (reverse bs)) (take_all (length bytes) bytes (omega arith)))
     ∙ ap (λ n. bytes_low_first 0 n (from_low_end (reverse bytes))) (sym (length-reverse bytes))
     ∙ bytes_of_number (reverse bytes) (bytes_reversed bytes fit)
 
-bytes_between : (bytes : List ℕ) (at n : ℕ) → AreBytes bytes → at + n ≤ length bytes → AreBytes (slice_range bytes at (at + n))
+bytes_between : (bytes : List ℕ) (at n : ℕ) → EachIsByte bytes → at + n ≤ length bytes → EachIsByte (slice_range bytes at (at + n))
 bytes_between bytes at n fit inside i =
     let long : length (slice_range bytes at (at + n)) ≡ at + n - at = length-slice_range bytes at (at + n) inside in
     elim (cases_lt i (at + n - at)) [

@@ -1,6 +1,5 @@
 -- What data lines spell, in the run of their section.
 use Rattle.std.proofs.Common.{◌≡◌, ℕ, ◌+◌, Bool, true, false, inl, inr, List, [], ◌∷◌, ◌++◌, length, Option, Some, None, refl, sym, ap, ◌∙◌, arith, length-append, subst}
-use Rattle.std.specs.Str.{bytes_eq}
 use Rattle.std.proofs.lemmas.List.{length-map}
 use Rattle.std.proofs.lemmas.Option.{same_Some}
 use Rattle.bdb_spelling.specs.of_places.declared.place.Place.{Place}
@@ -10,22 +9,21 @@ use Rattle.bdb_spelling.specs.of_text_format.declared.faults.TextFault.{TextFaul
 use Rattle.bdb_spelling.specs.of_text_format.declared.faults.TextReason.TheVariants.{NoEnd}
 use Rattle.bdb_spelling.specs.of_text_format.declared.pairs.Key.TheVariants.{Number}
 use Rattle.bdb_spelling.specs.of_text_format.declared.pairs.TextPair.{TextPair}
-use Rattle.bdb_spelling.specs.of_text_format.Terms.{ArePlaced, IsPairPut, IsPiecePut, Keeps, Values, data_end, data_read, has_keys, has_record_type}
+use Rattle.bdb_spelling.specs.of_text_format.Terms.{ArePlaced, IsPairPut, IsPiecePut, Keeps, Values, data_read, has_keys, has_record_type}
 use Rattle.bdb_spelling.specs.of_text_format.Terms.{is_data_end, key_read, pair_with, placed_key, placed_pair, placed_pairs, prints, text_lines}
 use Rattle.bdb_spelling.proofs.of_text_format.PlacedLemmas.{kept_more, kept_on, pair_put, pairs_pushed, piece_put, places_pushed}
 use Rattle.bdb_text.specs.declared.data_lines.LineError.{LineError}
 use Rattle.bdb_text.specs.declared.data_lines.LineError.TheVariants.{Memory, Reason}
-use Rattle.bdb_text.specs.declared.data_pairs.Data.{Data}
 use Rattle.bdb_text.specs.declared.data_pairs.Datum.{Datum}
 use Rattle.bdb_text.specs.declared.data_pairs.PairAt.{PairAt}
 use Rattle.bdb_text.specs.declared.data_pairs.Way.{Way}
 use Rattle.bdb_text.specs.declared.text_errors.TextError.{TextError}
 use Rattle.bdb_text.specs.declared.text_errors.TextError.TheVariants.{Fault, Memory as Want}
 use Rattle.bdb_text.specs.DataLines.{IsDataAdded, IsKeyAdded, IsLineError}
-use Rattle.bdb_text.specs.DataTo.{IsCountedFault, IsDataFault, IsDataRead, IsDatum, IsFaultBy, IsKeyedRead, IsPairFault}
+use Rattle.bdb_text.specs.DataTo.{IsCountedFault, IsDataFault, IsDatum, IsFaultBy, IsKeyedRead, IsPairFault}
 use Rattle.bdb_text.specs.DataTo.{IsPairRead, IsPairsTo, IsReadBy, IsToBy}
 use Rattle.bdb_text.specs.ReadTo.{OnFault, error_at}
-use Rattle.bdb_text.proofs.PairLemmas.{behind_key_fault, counted_end, counted_fault, counted_more, data_ended, key_fault, keyed_end, keyed_more}
+use Rattle.bdb_text.proofs.PairLemmas.{behind_key_fault, counted_fault, counted_more, data_ended, key_fault, keyed_more}
 
 -- what a line spells, behind what was there
 pub record Added (old new : List ℕ) (read : Option (List ℕ)) (span : Span) : Type 0 where
@@ -163,21 +161,6 @@ pub pair_fault : (header : Values) (text : List ℕ) (start : ℕ) (way : Way) (
 pair_fault header text start way pairs line behind number (Fault fault) keys numbers prints_is to other is =
     fault_by (has_keys header) header text start pairs line behind number fault refl to other (rw (keys, numbers, prints_is) at is)
 pair_fault header text start way pairs line behind number Want keys numbers prints_is to other is = tt
-
-end_by : (keys : Bool) (header : Values) (text : List ℕ) (start : ℕ) (pairs : List TextPair) (line rest : List ℕ) (number : ℕ) (read : Data)
-    → has_keys header ≡ keys → IsToBy keys header (text_lines text) start pairs (text_lines rest) number → text_lines rest ≡ line ∷ text_lines read.rest.now
-    → true ≡ bytes_eq line data_end → read.pairs ≡ pairs → read.number ≡ number + 1 → IsDataRead header text start read
-end_by true header text start pairs line rest number read keys to lines is same more =
-    keyed_end header text start pairs line rest number read to keys lines is same more
-end_by false header text start pairs line rest number read keys to lines is same more =
-    counted_end header text start pairs line rest number (length pairs + 1) read to keys lines is same more
-
--- the end of the data lines
-pub pairs_end : (header : Values) (text : List ℕ) (start : ℕ) (pairs : List TextPair) (line rest : List ℕ) (number : ℕ) (read : Data)
-    → IsPairsTo header (text_lines text) start pairs (text_lines rest) number → text_lines rest ≡ line ∷ text_lines read.rest.now
-    → true ≡ bytes_eq line data_end → read.pairs ≡ pairs → read.number ≡ number + 1 → IsDataRead header text start read
-pairs_end header text start pairs line rest number read to lines is same more =
-    end_by (has_keys header) header text start pairs line rest number read refl to lines is same more
 
 ended_by : (keys : Bool) (header : Values) (text : List ℕ) (start : ℕ) (pairs : List TextPair) (rest : List ℕ) (number : ℕ)
     → IsToBy keys header (text_lines text) start pairs (text_lines rest) number → length rest ≡ 0

@@ -1,18 +1,18 @@
 -- What stands in a run stays where the run grows.
-use Rattle.std.proofs.Common.{◌≡◌, ℕ, ◌+◌, ◌-◌, ◌<◌, ◌≤◌, List, [], ◌∷◌, ◌++◌, Some, arith, ap, append-nil, append_assoc, drop, false, get_or, get_or-drop, inl, inr, length, length-drop}
-use Rattle.std.proofs.Common.{refl, subst, sym, take, ◌∙◌}
+use Rattle.std.proofs.Common.{◌≡◌, ℕ, ◌+◌, ◌-◌, ◌<◌, ◌≤◌, List, [], ◌∷◌, ◌++◌, Some, arith, ap, append-nil, append_assoc, drop, get_or, get_or-drop, inl, inr, length, length-drop}
+use Rattle.std.proofs.Common.{subst, sym, take, ◌∙◌}
 use Rattle.std.specs.BTreeMap.{BTreeMap, Updates}
-use Rattle.std.specs.Ordering.{is_eq, nat_cmp}
-use Rattle.std.proofs.lemmas.Bool.{cases_eq, cases_order}
+use Rattle.std.specs.Ordering.{nat_cmp}
+use Rattle.std.proofs.lemmas.Bool.{cases_eq}
 use Rattle.std.proofs.lemmas.List.{get_or_append_left, map-append, take_more}
 use Rattle.std.proofs.lemmas.Option.{same_Some}
-use Rattle.bdb_places.specs.Places.{span_in}
 use Rattle.bdb_places.specs.declared.span.Span.{Span}
 use Rattle.bdb_text_format.specs.declared.pairs.Key.{Key}
 use Rattle.bdb_text_format.specs.declared.pairs.Key.TheVariants.{Number}
 use Rattle.bdb_text_format.specs.declared.pairs.TextPair.{TextPair}
 use Rattle.bdb_text_format.specs.Terms.{Extends, Gathering, HasChains, IsPiecePut, Keeps, key_again, noted, pair_with, with_again, with_pair}
 use Rattle.bdb_text_format.proofs.PlacedLemmas.{long, span_stays}
+use Rattle.bdb_places.proofs.of_format.LessLemmas.{other_number}
 
 pub piece_stays : (old new piece : List ℕ) (span : Span) → Keeps old new → IsPiecePut old piece span → IsPiecePut new piece span
 piece_stays old new piece span kept put = record {
@@ -34,9 +34,6 @@ chains_same value old new bytes chains has = record {
       subst (λ run. IsPiecePut run (value head) span) (sym bytes) (has.each head span (ap (λ notes. noted notes head) (sym chains) ∙ at));
 }
 
-apart : (a b : ℕ) → (a ≡ b → ⊥) → is_eq (nat_cmp a b) ≡ false
-apart a b differ = grind (arith, cases_order)
-
 -- and of one more
 pub chains_more : (value : ℕ → List ℕ) (old new : Gathering) (before after : BTreeMap ℕ Span) (head : ℕ) (span : Span) (piece : List ℕ)
     → Keeps old.bytes new.bytes → old.chains ≡ before.entries → new.chains ≡ after.entries → Updates nat_cmp before after head (Some span)
@@ -54,7 +51,7 @@ chains_more value old new before after head span piece kept first second updates
             piece_stays old.bytes new.bytes (value other) place kept
             (has.each other place
             (ap (λ chains. noted chains other) first
-            ∙ (sym (updates.2 other (apart head other differ)) ∙ (ap (λ chains. noted chains other) (sym second) ∙ at))))
+            ∙ (sym (updates.2 other (other_number head other differ)) ∙ (ap (λ chains. noted chains other) (sym second) ∙ at))))
       ];
 }
 
@@ -82,14 +79,6 @@ extends_again it now key pairs is = record {
   chains = ap (λ (g : Gathering). g.chains) is;
   more = key_again key pairs;
   pairs = ap (λ (g : Gathering). g.pairs) is;
-}
-
-pub extends_on : (it mid now : Gathering) → Extends it mid → Extends mid now → Extends it now
-extends_on it mid now first second = record {
-  bytes = second.bytes ∙ first.bytes;
-  chains = second.chains ∙ first.chains;
-  more = first.more ++ second.more;
-  pairs = second.pairs ∙ (ap (λ pairs. pairs ++ second.more) first.pairs ∙ append_assoc it.pairs first.more second.more);
 }
 
 -- what pairs more are

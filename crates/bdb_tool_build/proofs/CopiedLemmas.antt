@@ -1,8 +1,8 @@
 -- Pairs of a base, put one behind the other.
-use Rattle.std.proofs.Common.{◌≡◌, ℕ, ◌+◌, ◌-◌, ◌<◌, Bool, true, false, List, [], ◌∷◌, ◌++◌, append-nil, append_assoc, arith, length}
+use Rattle.std.proofs.Common.{◌≡◌, ℕ, ◌+◌, ◌-◌, ◌<◌, Bool, true, List, [], ◌∷◌, ◌++◌, append-nil, append_assoc, arith, length}
 use Rattle.std.proofs.Common.{length-append, map, take}
 use Rattle.std.proofs.Common.{refl, sym, ◌∙◌, ap, Some, subst}
-use Rattle.std.specs.Prelude.{not, slice_get, IfOk, Result, Ok, Err}
+use Rattle.std.specs.Prelude.{slice_get, IfOk, Result, Ok, Err}
 use Rattle.std.proofs.lemmas.List.{take_all}
 use Rattle.std.proofs.lemmas.List.Elements.{All-head, All-tail}
 use Rattle.std.proofs.lemmas.List.Sums.{fold-append}
@@ -89,7 +89,3 @@ pub known_key : {E : Type 0} (result : Result Bool E) (key : Key) (entries : Lis
     → IfOk result (λ some. some ≡ true → (k : Key) → AreOf k entries → EndsWith k pairs) → IfOk result (λ has. has ≡ true → EndsWith key pairs)
 known_key (Ok some) key entries pairs of ends = λ is. ends is key of
 known_key (Err error) key entries pairs of ends = ends
-
-pub not_false : (b : Bool) → not b ≡ false → b ≡ true
-not_false true is = refl
-not_false false is = sym is

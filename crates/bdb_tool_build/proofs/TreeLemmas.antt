@@ -35,13 +35,6 @@ leaf_fit image p forest fits = each_of (FitsPair (file_of image)) (pairs_of (fil
 
 -- Lists, one more at a time.
 
-on_more : {A B C : Type 0} (f : B → C) (g : A → List B) (now new : List C) (x : A) (left rest : List A) → left ≡ x ∷ rest → new ≡ now ++ map f (g x)
-    → now ++ map f (flat_map g left) ≡ new ++ map f (flat_map g rest)
-on_more f g now new x left rest are pushed =
-    ap (λ xs. now ++ map f (flat_map g xs)) are
-    ∙ (ap (λ ys. now ++ ys) (map-append f (g x) (flat_map g rest))
-    ∙ (sym (append_assoc now (map f (g x)) (map f (flat_map g rest))) ∙ sym (ap (λ ys. ys ++ map f (flat_map g rest)) pushed)))
-
 -- Pairs that share their key.
 
 shares_on : (key : List ℕ) (pairs : List StoredPair) → HaveKeys key pairs → ShareKeys key pairs
@@ -74,12 +67,6 @@ tree_follows image root = record {
 pub list_of_leaves : (file : File) (root : ℕ) → btree_list file root ≡ flat_map (listed_pair file) (flat_map (pairs_of file) (leaves file root))
 unfolding btree_list
 list_of_leaves file root = ap (flat_map (listed_pair file)) (sym (pairs_of_tree file root))
-
--- one more pair of those that are listed
-pub pair_more : (file : File) (old now new : List TextPair) (pair : StoredPair) (left rest : List StoredPair)
-    → left ≡ pair ∷ rest → old ≡ now ++ map text_pair (flat_map (listed_pair file) left) → new ≡ now ++ map text_pair (listed_pair file pair)
-    → old ≡ new ++ map text_pair (flat_map (listed_pair file) rest)
-pair_more file old now new pair left rest are so_far pushed = so_far ∙ on_more text_pair (listed_pair file) now new pair left rest are pushed
 
 -- one more leaf
 pub leaf_more : (file : File) (old now new : List TextPair) (p : ℕ) (left rest : List ℕ) → left ≡ p ∷ rest

@@ -2,7 +2,7 @@
 use Rattle.std.proofs.Common.{◌≡◌, ℕ, zero, suc, ◌+◌, Bool, true, false, Bor, List, [], ◌∷◌, drop, refl, subst, sym, ◌∙◌, ap, arith}
 use Rattle.std.specs.Prelude.{IfSome, IsSomeAnd, Option, Some, None, is_some, option_copied, option_map, slice_get}
 use Rattle.std.specs.Str.{bytes_eq}
-use Rattle.bdb_tool_words.specs.Arguments.{Arguments, has_repeated, once, only_operands, value_given, with_option}
+use Rattle.bdb_tool_words.specs.Arguments.{Arguments, has_repeated, once, value_given, with_option}
 use Rattle.bdb_tool_words.specs.ArgumentsSeen.{or_none}
 
 -- The value of an option.
@@ -10,10 +10,6 @@ use Rattle.bdb_tool_words.specs.ArgumentsSeen.{or_none}
 -- the value of an option is its value among those that are left
 abbrev pub IsLeft : List ℕ → Option Arguments → Option Arguments → Type 0
 IsLeft word all rest = IfSome all (λ it. IsSomeAnd rest (λ left. value_given word it.given ≡ value_given word left.given))
-
-pub left_all : (word : List ℕ) (all : Option Arguments) → IsLeft word all all
-left_all word None = _
-left_all word (Some it) = refl
 
 pub left_more : (word : List ℕ) (all rest : Option Arguments) (other value : List ℕ) → IsLeft word all (with_option other value rest)
     → bytes_eq other word ≡ false → IsLeft word all rest
@@ -27,11 +23,6 @@ left_found word None rest other value left same = _
 left_found word (Some it) None other value left same = absurd left
 left_found word (Some it) (Some more) other value left same = sym (left ∙ rw same refl)
 
-pub left_end : (word : List ℕ) (all : Option Arguments) (operands : List (List ℕ)) → IsLeft word all (only_operands operands)
-    → IfSome all (λ it. None ≡ value_given word it.given)
-left_end word None operands left = _
-left_end word (Some it) operands left = sym left
-
 pub left_none : (word : List ℕ) (all : Option Arguments) → IsLeft word all None → IfSome all (λ it. None ≡ value_given word it.given)
 left_none word None left = _
 left_none word (Some it) left = absurd left
@@ -40,22 +31,6 @@ left_none word (Some it) left = absurd left
 
 abbrev pub operands_in : Option Arguments → Option (List (List ℕ))
 operands_in all = option_map (λ (it : Arguments). it.operands) all
-
--- where those after an option repeat none, neither do all, unless they have it too
-new_first : (word value : List ℕ) (rest : Arguments) (repeated : Bool) → None ≡ value_given word rest.given → has_repeated rest.given ≡ repeated
-    → operands_in (once (with_option word value (Some rest))) ≡ operands_in (once (Some rest))
-new_first word value rest true new is = rw (sym new, is) refl
-new_first word value rest false new is = rw (sym new, is) refl
-
-pub once_new : (word value : List ℕ) (rest : Option Arguments) → IfSome rest (λ it. None ≡ value_given word it.given)
-    → operands_in (once (with_option word value rest)) ≡ operands_in (once rest)
-once_new word value None new = refl
-once_new word value (Some rest) new = new_first word value rest (has_repeated rest.given) new refl
-
-pub once_again : (word value again : List ℕ) (rest : Option Arguments) → IfSome rest (λ it. Some again ≡ value_given word it.given)
-    → operands_in (once (with_option word value rest)) ≡ None
-once_again word value again None given = refl
-once_again word value again (Some rest) given = rw (sym given) refl
 
 -- What was read.
 
@@ -70,10 +45,6 @@ once_is (Some all) it read = once_by all (has_repeated all.given) it refl read
 pub all_read : (all : Option Arguments) (operands : List (List ℕ)) → Some operands ≡ operands_in all → all ≡ Some (or_none all)
 all_read None operands is = cc
 all_read (Some all) operands is = refl
-
-pub operands_read : (all : Option Arguments) (operands : List (List ℕ)) → Some operands ≡ operands_in all → (or_none all).operands ≡ operands
-operands_read None operands is = cc
-operands_read (Some all) operands is = cc
 
 pub none_read : (all : Option Arguments) → None ≡ operands_in all → None ≡ all
 none_read None is = refl

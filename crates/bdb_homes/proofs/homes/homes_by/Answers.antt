@@ -1,5 +1,5 @@
 use Rattle.std.proofs.Common.{◌≡◌, ◌∙◌, None, ap, get_or, length, sym}
-use Rattle.bdb_homes.proofs.HomeLemmas.{written_back}
+use Rattle.bdb_graph.proofs.TallyLemmas.{written_back}
 use Rattle.bdb_homes.proofs.homes.homes_by.Goals as goal
 
 pub returns-clause-homes : goal.returns-clause-homes

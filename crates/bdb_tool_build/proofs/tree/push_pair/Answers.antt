@@ -3,7 +3,8 @@ use Rattle.bdb_model.specs.of_format.Terms.{file_of}
 use Rattle.bdb_file.specs.of_overflow.Datum.{datum_seen}
 use Rattle.bdb_file.specs.of_btree.Pairs.{left_of, pair_seen}
 use Rattle.bdb_model.specs.of_text_format.declared.pairs.Key.TheVariants.{Bytes}
-use Rattle.bdb_tool_build.proofs.CopiedLemmas.{known_key, not_false, of_ends}
+use Rattle.bdb_model.proofs.of_format.BoolLemmas.{true_from_not}
+use Rattle.bdb_tool_build.proofs.CopiedLemmas.{known_key, of_ends}
 use Rattle.bdb_tool_build.proofs.TreeLemmas.{pair_key}
 use Rattle.bdb_tool_build.proofs.tree.push_pair.Goals as goal
 
@@ -22,5 +23,5 @@ returns-then-not-has_key-clause-last c =
 pub push_rest-requires-clause-same : goal.push_rest-requires-clause-same
 push_rest-requires-clause-same c =
     of_ends c.args.pairs.now (Bytes (datum_seen c.args.pair.key)) (left_of c.pair_entries-entries.result)
-    (c.requires.key (grind (arith, not_false, c.if-not-has_key.false)))
+    (c.requires.key (grind (arith, true_from_not, c.if-not-has_key.false)))
     (pair_key (file_of c.args.forest.now) (pair_seen c.args.pair) (left_of c.pair_entries-entries.result) c.pair_entries-entries.ensures)
