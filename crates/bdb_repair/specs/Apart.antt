@@ -1,29 +1,53 @@
 -- What is salvaged of each database that is found, as sections that can be loaded. Source: docs/FORMAT.md, "Salvage" and "Repair".
-use Rattle.std.specs.Prelude.{ℕ, List, map, if◌then◌else◌}
-use Rattle.bdb_model.specs.of_format.Terms.{File, settings_of}
+use Rattle.std.specs.Prelude.{◌≡◌, ⊤, ℕ, nat_lt, true, false, List, [], ◌∷◌, map, if◌then◌else◌, Option, Some, None, Result, Ok, Err}
+use Rattle.bdb_model.specs.of_format.Flags.{has_records}
 use Rattle.bdb_model.specs.of_text_format.declared.pairs.TextPair.{TextPair}
 use Rattle.bdb_model.specs.of_text_format.declared.sections.Section.{Section}
-use Rattle.bdb_apart.specs.Found.{Found, found}
-use Rattle.bdb_apart.specs.Given.{is_recno_db, pairs_given, records_given}
+use Rattle.bdb_apart.specs.Given.{FoundIn, found_in, pairs_given, records_given}
+use Rattle.bdb_apart.specs.Text.{settings_in}
+use Rattle.bdb_mkfile.specs.Builds.{Builds, image_size}
 use Rattle.bdb_repair.specs.Parts.{loose_pair, stored_pairs}
+use Rattle.bdb_repair.specs.declared.error.RepairError.{RepairError}
+use Rattle.bdb_repair.specs.declared.error.RepairError.TheVariants.{NoMeta, TooLarge, Memory}
+use Rattle.bdb_rescue.specs.Kept.{Reading}
 use Rattle.bdb_rescue.specs.of_survey.declared.guess.Guess.{Guess}
-use Rattle.bdb_rescue.specs.of_survey.Salvage.{salvaged_file}
 
 -- the pairs of a database that is found
-abbrev pub db_pairs : File → Found → List TextPair
-db_pairs file db = if is_recno_db db.fields then map loose_pair (records_given file db) else stored_pairs (pairs_given file db)
+abbrev pub pairs_in : FoundIn → List TextPair
+pairs_in it = if has_records it.db.fields then map loose_pair (records_given it) else stored_pairs (pairs_given it)
 
 -- its section, with the page size and the order of the guess
-abbrev pub db_part : Guess → File → Found → Section
-db_part guess file db = record {
-  name = db.name;
-  settings = settings_of guess.page_size guess.order db.fields;
-  header_line = 0;
-  pairs = db_pairs file db;
-}
+abbrev pub section_in : FoundIn → Section
+section_in it = record { name = it.db.name; settings = settings_in it; header_line = 0; pairs = pairs_in it }
 
 -- the sections of all of them
+abbrev pub sections_in : Reading → List Section
+sections_in reading = map section_in (found_in reading)
+
 unfoldable pub apart_sections : Guess → List ℕ → List Section
-apart_sections guess image =
-    let file : File = salvaged_file guess.order guess.page_size image in
-    map (db_part guess file) (found file)
+apart_sections guess image = sections_in (record { guess = guess; image = image })
+
+-- What is answered.
+
+-- where there is a section: an image that is built of them; that it would be too large, exactly where it would; or want of memory
+abbrev pub IsBuiltOf : ℕ → List Section → Result (List ℕ) RepairError → Type 0
+IsBuiltOf max sections (Ok built) = Builds sections built × (nat_lt max (image_size sections) ≡ false)
+IsBuiltOf max sections (Err NoMeta) = ⊥
+IsBuiltOf max sections (Err TooLarge) = nat_lt max (image_size sections) ≡ true
+IsBuiltOf max sections (Err Memory) = ⊤
+
+-- where there is none, nothing is built
+abbrev pub IsNotBuilt : Result (List ℕ) RepairError → Type 0
+IsNotBuilt (Ok built) = ⊥
+IsNotBuilt (Err NoMeta) = ⊤
+IsNotBuilt (Err TooLarge) = ⊥
+IsNotBuilt (Err Memory) = ⊤
+
+abbrev pub AreBuilt : ℕ → List Section → Result (List ℕ) RepairError → Type 0
+AreBuilt max [] result = IsNotBuilt result
+AreBuilt max (first ∷ others) result = IsBuiltOf max (first ∷ others) result
+
+-- the answer, by the guess that is given or told by page 0, where there is one
+abbrev pub IsRepairedApart : ℕ → Option Guess → List ℕ → Result (List ℕ) RepairError → Type 0
+IsRepairedApart max None image result = IsNotBuilt result
+IsRepairedApart max (Some guess) image result = AreBuilt max (apart_sections guess image) result

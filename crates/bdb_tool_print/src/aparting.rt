@@ -1,263 +1,237 @@
 // What `salvage` prints database by database, and what belongs to none.
+ghost use Rattle.std.specs.Prelude.{◌≡◌, ◌<◌, ◌^◌, ◌++◌, Some, codes, length, map};
+ghost use Rattle.std.specs.List.{enumerate_from, flat_map};
+ghost use Rattle.bdb_tool_lines.specs.of_model.Change.{change};
+ghost use Rattle.bdb_text.specs.of_text_format.Terms.{data_end, header_text, line, section_text};
+ghost use Rattle.bdb_range.specs.of_overflow.Datum.{datum_seen};
+ghost use Rattle.bdb_tool_print.specs.Printers.{Adds, pair_text};
+ghost use Rattle.bdb_tool_lines.specs.Printing.{Writes};
+ghost use Rattle.bdb_rescue.specs.Text.{bytes_pair, loose_section, loose_settings, numbered_record, stored_section};
+ghost use Rattle.bdb_apart.specs.Given.{pairs_left, records_left};
+ghost use Rattle.bdb_apart.specs.Labels.{label_seen};
+ghost use Rattle.bdb_apart.specs.Text.{apart_text, db_section, list_given, rest_text};
+
 use crate::printing::Printer;
 use crate::salvaging::{loose_settings, stored_settings};
-use bdb_apart::{Apart, Database, Label, SalvagePairs, SalvageRecords, bytes_in};
-use bdb_range::{Bytes, Datum, KeyView, Kind, Settings};
+use bdb_apart::{
+    Apart, Database, Databases, Label, Pairs, PairsLeft, Records, RecordsLeft, bytes_in,
+};
+use bdb_range::{Bytes, Datum, KeyView, Settings};
 use bdb_tool_lines::{Cut, Sink};
 use std::alloc::Global;
 
 impl<'k, K: Sink> Printer<'k, K> {
-    /// Prints the header of the section of a database.
-    fn apart_header(
-        &mut self,
-        name: &Label<'_>,
-        settings: &Settings,
-        print: bool,
-    ) -> Result<(), Cut> {
-        match name {
-            Label::None => self.header(None, settings, print),
-            Label::Page(digits) => self.header(Some(digits.bytes()), settings, print),
-            Label::Key(key) => self.keyed_header(key.again(), settings, print),
-        }
-    }
-
-    /// The same of one that an entry names.
-    fn keyed_header(
-        &mut self,
-        key: Datum<'_>,
-        settings: &Settings,
-        print: bool,
-    ) -> Result<(), Cut> {
+    /// Prints the header of a section whose name is a key.
+    fn keyed_header(&mut self, key: &Datum<'_>, settings: &Settings, print: bool) -> Result<(), Cut>
+        ensures { Adds K.written K.faults self.old self.new (header_text print (Some (datum_seen key.now)) settings.now) result }
+    {
         let mut room = Vec::new(self.alloc);
-        match bytes_in(key, &mut room) {
+        match bytes_in(key.again(), &mut room) {
             Ok(name) => self.header(Some(name), settings, print),
             Err(_) => Err(Cut::Memory),
         }
     }
 
-    /// Prints the data lines of the pairs of a database.
-    fn apart_pairs(&mut self, apart: &Apart<'_, '_>, meta: u32, print: bool) -> Result<(), Cut> {
-        for page in apart.pages(meta) {
-            if apart.gives_pairs(page) {
-                self.stored_pairs(&mut apart.salvaged().pairs_on(page), print)?;
-            }
+    /// Prints the header of the section of a database with this name.
+    fn labelled_header(
+        &mut self,
+        name: &Label<'_>,
+        settings: &Settings,
+        print: bool,
+    ) -> Result<(), Cut>
+        ensures { Adds K.written K.faults self.old self.new (header_text print (label_seen name.now) settings.now) result }
+    {
+        match name {
+            Label::None => self.header(None, settings, print),
+            Label::Key(key) => self.keyed_header(key, settings, print),
+            Label::Page(digits) => self.header(Some(digits.bytes()), settings, print),
         }
-        Ok(())
     }
 
-    /// Prints the data lines of those records of a page that have a number, and the length that is fixed.
-    fn fit_records(
-        &mut self,
-        apart: &Apart<'_, '_>,
-        length: u32,
-        records: SalvageRecords<'_, '_>,
-        print: bool,
-    ) -> Result<(), Cut> {
-        for record in records {
-            if apart.fits(length, &record) {
-                self.pair(KeyView::Number(record.0 as u32), record.1, print)?;
-            }
+    /// Prints the data lines of the pairs of a database.
+    fn given_pairs(&mut self, pairs: &mut Pairs<'_, '_, '_>, print: bool) -> Result<(), Cut>
+        ensures { Adds K.written K.faults self.old self.new (flat_map (pair_text print) (map bytes_pair pairs.old)) result }
+    {
+        for (key, value) in pairs {
+            self.pair(KeyView::Bytes(key), value, print)?;
         }
         Ok(())
     }
 
     /// Prints the data lines of the records of a database.
-    fn apart_records(&mut self, apart: &Apart<'_, '_>, meta: u32, print: bool) -> Result<(), Cut> {
-        for page in apart.pages(meta) {
-            if let Some((start, length)) = apart.start(page) {
-                let records = apart.salvaged().records_on(page, start);
-                self.fit_records(apart, length, records, print)?;
-            }
+    fn given_records(&mut self, records: &mut Records<'_, '_, '_>, print: bool) -> Result<(), Cut>
+        ensures { Adds K.written K.faults self.old self.new (flat_map (pair_text print) (map numbered_record records.old)) result }
+    {
+        for (number, value) in records {
+            self.pair(KeyView::Number(number), value, print)?;
         }
         Ok(())
     }
 
     /// Prints the data lines of a database.
-    fn apart_lines(
-        &mut self,
-        apart: &Apart<'_, '_>,
-        meta: u32,
-        kind: Kind,
-        print: bool,
-    ) -> Result<(), Cut> {
-        match kind {
-            Kind::Recno => self.apart_records(apart, meta, print),
-            Kind::Btree | Kind::Hash | Kind::Queue => self.apart_pairs(apart, meta, print),
+    fn given_lines(&mut self, db: &Database<'_, '_, '_>, print: bool) -> Result<(), Cut>
+        ensures { Adds K.written K.faults self.old self.new (flat_map (pair_text print) (list_given db.now)) result }
+    {
+        if db.has_records() {
+            self.given_records(&mut db.records(), print)
+        } else {
+            self.given_pairs(&mut db.pairs(), print)
         }
+    }
+
+    /// Prints the data lines of a database, and the line that ends them.
+    #[tactic(auto, using(crate::proofs::PrinterLemmas::then_adds, crate::proofs::PrinterLemmas::adds_cut))]
+    fn given_data(&mut self, db: &Database<'_, '_, '_>, print: bool) -> Result<(), Cut>
+        ensures { Adds K.written K.faults self.old self.new (flat_map (pair_text print) (list_given db.now) ++ line data_end) result }
+    {
+        self.given_lines(db, print)?;
+        self.text(b"DATA=END\n")
     }
 
     /// Prints the section of a database.
-    fn apart_section(
-        &mut self,
-        apart: &Apart<'_, '_>,
-        db: &Database<'_>,
-        print: bool,
-    ) -> Result<(), Cut> {
-        let Some(settings) = apart.settings(db.meta) else {
-            return Ok(());
-        };
-        self.apart_header(&db.name, &settings, print)?;
-        self.apart_lines(apart, db.meta, settings.kind, print)?;
-        self.text(b"DATA=END\n")
+    #[tactic(auto, using(crate::proofs::DumpLemmas::section_by_parts, crate::proofs::PrinterLemmas::then_adds, crate::proofs::PrinterLemmas::adds_cut))]
+    fn given_section(&mut self, db: &Database<'_, '_, '_>, print: bool) -> Result<(), Cut>
+        ensures { Adds K.written K.faults self.old self.new (db_section print db.now) result }
+    {
+        self.labelled_header(db.name(), &db.settings(), print)?;
+        self.given_data(db, print)
     }
 
-    /// Prints the sections of all databases.
-    fn apart_sections(&mut self, apart: &Apart<'_, '_>, print: bool) -> Result<(), Cut> {
-        for db in apart.databases() {
-            self.apart_section(apart, db, print)?;
+    /// Prints the sections of databases.
+    fn given_sections(&mut self, dbs: &mut Databases<'_, '_, '_>, print: bool) -> Result<(), Cut>
+        ensures { Adds K.written K.faults self.old self.new (flat_map (db_section print) dbs.old) result }
+    {
+        for db in dbs {
+            self.given_section(&db, print)?;
         }
         Ok(())
     }
 
-    /// Prints the data lines of those pairs of a leaf below a master that name no database that is found.
-    fn other_pairs(
-        &mut self,
-        apart: &Apart<'_, '_>,
-        pairs: &mut SalvagePairs<'_, '_>,
-        room: &mut Vec<u8>,
-        print: bool,
-    ) -> Result<(), Cut> {
+    /// Prints what is salvaged of each database.
+    #[tactic(auto, unfolding(bdb_apart::specs::Text::apart_text))]
+    fn apart(&mut self, apart: &Apart<'_, '_>, print: bool) -> Result<(), Cut>
+        ensures { Adds K.written K.faults self.old self.new (apart_text print apart.now.guess apart.now.image) result }
+    {
+        self.given_sections(&mut apart.databases(), print)
+    }
+
+    /// Prints the data lines of the pairs that belong to no database.
+    fn pairs_left(&mut self, pairs: &mut PairsLeft<'_, '_, '_>, print: bool) -> Result<(), Cut>
+        ensures { Adds K.written K.faults self.old self.new (flat_map (pair_text print) (map bytes_pair pairs.old)) result }
+    {
         for (key, value) in pairs {
-            match apart.names_found(value.again(), room) {
-                Ok(true) => {}
-                Ok(false) => self.pair(KeyView::Bytes(key), value, print)?,
-                Err(_) => return Err(Cut::Memory),
-            }
+            self.pair(KeyView::Bytes(key), value, print)?;
         }
         Ok(())
     }
 
-    /// Prints the data lines of what is left of the pairs of a page.
-    fn pairs_left_on(
-        &mut self,
-        apart: &Apart<'_, '_>,
-        page: u32,
-        room: &mut Vec<u8>,
-        print: bool,
-    ) -> Result<(), Cut> {
-        if apart.gives_pairs(page) {
-            return Ok(());
-        }
-        let mut pairs = apart.salvaged().pairs_on(page);
-        if apart.is_master_leaf(page) {
-            self.other_pairs(apart, &mut pairs, room, print)
-        } else {
-            self.stored_pairs(&mut pairs, print)
-        }
-    }
-
-    /// Prints the section of the pairs that belong to none.
-    fn pairs_left(&mut self, apart: &Apart<'_, '_>, print: bool) -> Result<(), Cut> {
-        let guess = apart.salvaged().guess();
-        let mut room = Vec::new(self.alloc);
-        self.header(Some(b"salvaged"), &stored_settings(guess), print)?;
-        for page in 0..apart.count() {
-            self.pairs_left_on(apart, page, &mut room, print)?;
-        }
+    /// Prints them, and the line that ends them.
+    #[tactic(auto, using(crate::proofs::PrinterLemmas::then_adds, crate::proofs::PrinterLemmas::adds_cut))]
+    fn pairs_left_data(&mut self, pairs: &mut PairsLeft<'_, '_, '_>, print: bool) -> Result<(), Cut>
+        ensures { Adds K.written K.faults self.old self.new (flat_map (pair_text print) (map bytes_pair pairs.old) ++ line data_end) result }
+    {
+        self.pairs_left(pairs, print)?;
         self.text(b"DATA=END\n")
     }
 
-    /// Prints the data lines of what is left of the records of a page behind so many, and counts them.
-    fn records_left_on(
-        &mut self,
-        apart: &Apart<'_, '_>,
-        page: u32,
-        before: u32,
-        print: bool,
-    ) -> Result<u32, Cut> {
-        let start = apart.start(page);
-        let mut number = before;
-        for record in apart.salvaged().records_on(page, first_of(start)) {
-            if is_left(apart, start, &record) {
-                number += 1;
-                self.pair(KeyView::Number(number), record.1, print)?;
-            }
-        }
-        Ok(number)
+    /// Prints their section.
+    #[tactic(auto, using(crate::proofs::DumpLemmas::section_by_parts, crate::proofs::PrinterLemmas::then_adds, crate::proofs::PrinterLemmas::adds_cut))]
+    fn pairs_left_section(&mut self, apart: &Apart<'_, '_>, print: bool) -> Result<(), Cut>
+        ensures { Adds K.written K.faults self.old self.new (stored_section print apart.now.guess (pairs_left apart.now)) result }
+    {
+        self.header(Some(b"salvaged"), &stored_settings(apart.guess()), print)?;
+        self.pairs_left_data(&mut apart.pairs_left(), print)
     }
 
-    /// Prints the section of the records that belong to none, where there are some.
-    fn records_left(&mut self, apart: &Apart<'_, '_>, print: bool) -> Result<(), Cut> {
-        if !has_records_left(apart) {
-            return Ok(());
-        }
-        let guess = apart.salvaged().guess();
-        self.header(Some(b"loose"), &loose_settings(guess), print)?;
+    /// Prints the data lines of the records that belong to no database, which are numbered from 1.
+    fn records_left(&mut self, records: &mut RecordsLeft<'_, '_, '_>, print: bool) -> Result<(), Cut>
+        requires { length records.old < 2 ^ 32 }
+        ensures { Adds K.written K.faults self.old self.new
+            (flat_map (pair_text print) (map numbered_record (enumerate_from 1 records.old))) result }
+    {
         let mut number = 0;
-        for page in 0..apart.count() {
-            number = self.records_left_on(apart, page, number, print)?;
+        for record in records {
+            number += 1;
+            self.pair(KeyView::Number(number), record, print)?;
         }
+        Ok(())
+    }
+
+    /// Prints them, and the line that ends them.
+    #[tactic(auto, using(crate::proofs::PrinterLemmas::then_adds, crate::proofs::PrinterLemmas::adds_cut))]
+    fn records_left_data(
+        &mut self,
+        records: &mut RecordsLeft<'_, '_, '_>,
+        print: bool,
+    ) -> Result<(), Cut>
+        requires { length records.old < 2 ^ 32 }
+        ensures { Adds K.written K.faults self.old self.new
+            (flat_map (pair_text print) (map numbered_record (enumerate_from 1 records.old)) ++ line data_end) result }
+    {
+        self.records_left(records, print)?;
         self.text(b"DATA=END\n")
     }
 
-    /// Prints what belongs to none.
-    fn rest(&mut self, apart: &Apart<'_, '_>, print: bool) -> Result<(), Cut> {
-        self.pairs_left(apart, print)?;
-        self.records_left(apart, print)
+    /// Prints their section.
+    #[tactic(auto, using(crate::proofs::DumpLemmas::section_by_parts, crate::proofs::PrinterLemmas::then_adds, crate::proofs::PrinterLemmas::adds_cut))]
+    fn numbered_section(&mut self, apart: &Apart<'_, '_>, print: bool) -> Result<(), Cut>
+        ensures { Adds K.written K.faults self.old self.new (section_text print (Some (codes "loose")) (loose_settings apart.now.guess)
+            (map numbered_record (enumerate_from 1 (records_left apart.now)))) result }
+    {
+        self.header(Some(b"loose"), &loose_settings(apart.guess()), print)?;
+        self.records_left_data(&mut apart.records_left(), print)
     }
-}
 
-/// How many records come before a page, where it stands in a database.
-fn first_of(start: Option<(u32, u32)>) -> u32 {
-    match start {
-        Some((start, _)) => start,
-        None => 0,
-    }
-}
-
-/// Whether a record is left where its page stands.
-fn is_left(apart: &Apart<'_, '_>, start: Option<(u32, u32)>, record: &(u64, Datum<'_>)) -> bool {
-    match start {
-        Some((_, length)) => !apart.fits(length, record),
-        None => true,
-    }
-}
-
-/// Whether a record of a page is left.
-fn has_left_on(apart: &Apart<'_, '_>, page: u32) -> bool {
-    let start = apart.start(page);
-    for record in apart.salvaged().records_on(page, first_of(start)) {
-        if is_left(apart, start, &record) {
-            return true;
+    /// Prints their section, where there is one.
+    fn records_left_section(&mut self, apart: &Apart<'_, '_>, print: bool) -> Result<(), Cut>
+        ensures { Adds K.written K.faults self.old self.new (loose_section print apart.now.guess (records_left apart.now)) result }
+    {
+        match apart.records_left().next() {
+            Some(_) => self.numbered_section(apart, print),
+            None => Ok(()),
         }
     }
-    false
-}
 
-/// Whether a record belongs to none.
-fn has_records_left(apart: &Apart<'_, '_>) -> bool {
-    for page in 0..apart.count() {
-        if has_left_on(apart, page) {
-            return true;
-        }
+    /// Prints what belongs to no database.
+    #[tactic(auto, using(crate::proofs::PrinterLemmas::then_adds, crate::proofs::PrinterLemmas::adds_cut), unfolding(bdb_apart::specs::Text::rest_text))]
+    fn rest(&mut self, apart: &Apart<'_, '_>, print: bool) -> Result<(), Cut>
+        ensures { Adds K.written K.faults self.old self.new (rest_text print apart.now.guess apart.now.image) result }
+    {
+        self.pairs_left_section(apart, print)?;
+        self.records_left_section(apart, print)
     }
-    false
 }
 
-/// Writes what is salvaged of each database, a section for each.
+/// Writes what is salvaged of each database that is found, a section for each.
+#[tactic(auto, using(crate::proofs::PrinterLemmas::all_cut))]
 pub fn write_apart<K: Sink>(
     alloc: Global,
     out: &mut K,
     apart: &Apart<'_, '_>,
     print: bool,
-) -> Result<(), Cut> {
+) -> Result<(), Cut>
+    ensures { Writes (apart_text print apart.now.guess apart.now.image) (change K.written K.faults out.old out.new) result }
+{
     let mut pending = Bytes::new(alloc);
     let mut printer = Printer {
         alloc,
         out,
         pending: &mut pending,
     };
-    printer.apart_sections(apart, print)?;
+    printer.apart(apart, print)?;
     printer.flush()
 }
 
-/// Writes what is salvaged and belongs to none: the section of pairs, and that of records, where there is one.
+/// Writes what is salvaged and belongs to no database: the section of pairs, and that of records, where there is one.
+#[tactic(auto, using(crate::proofs::PrinterLemmas::all_cut))]
 pub fn write_rest<K: Sink>(
     alloc: Global,
     out: &mut K,
     apart: &Apart<'_, '_>,
     print: bool,
-) -> Result<(), Cut> {
+) -> Result<(), Cut>
+    ensures { Writes (rest_text print apart.now.guess apart.now.image) (change K.written K.faults out.old out.new) result }
+{
     let mut pending = Bytes::new(alloc);
     let mut printer = Printer {
         alloc,

@@ -11,7 +11,9 @@ mod salvaging;
 pub use aparting::{write_apart, write_rest};
 pub use bdb_range::{RangePairs, pairs_of, span};
 pub use bdb_text::{SpellError, read_spelling};
-pub use bdb_tool_lines::{Cut, Sink, put, refuse, report, status, tell, tell_list, tell_memory};
+pub use bdb_tool_lines::{
+    Cut, Sink, put, refuse, report, status, tell, tell_case, tell_list, tell_memory,
+};
 pub use printing::Printer;
 pub use ranging::write_pairs;
 pub use salvaging::write_salvaged;

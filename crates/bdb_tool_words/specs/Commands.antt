@@ -218,7 +218,7 @@ parts_asked true true = None
 
 -- what is built: each database that is found, or by a shape; both aren't asked for
 abbrev pub built_asked : Bool → Option (Option Shape) → Option Built
-built_asked apart None = None
+built_asked _ None = None
 built_asked true (Some None) = Some Each
 built_asked true (Some (Some shape)) = None
 built_asked false (Some shape) = Some (Shaped shape)
