@@ -144,7 +144,11 @@ impl<'k, K: Sink> Printer<'k, K> {
     }
 
     /// Prints the data lines of the records that belong to no database, which are numbered from 1.
-    fn records_left(&mut self, records: &mut RecordsLeft<'_, '_, '_>, print: bool) -> Result<(), Cut>
+    fn records_left(
+        &mut self,
+        records: &mut RecordsLeft<'_, '_, '_>,
+        print: bool,
+    ) -> Result<(), Cut>
         requires { length records.old < 2 ^ 32 }
         ensures { Adds K.written K.faults self.old self.new
             (flat_map (pair_text print) (map numbered_record (enumerate_from 1 records.old))) result }
