@@ -20,7 +20,9 @@ mod tables;
 mod thin;
 mod values;
 
-pub use bdb_survey::{Datum, Guess, KeyView, Meta, WholePages, bytes_in, chain_of, compare_datum};
+pub use bdb_survey::{
+    Datum, Guess, KeyView, Meta, Pieces, WholePages, bytes_in, chain_of, compare_datum,
+};
 pub use bdb_text_format::{Bytes, FileKind, Order, Steps};
 pub use entries::{SalvageEntries, SalvageEntry};
 pub use error::SalvageError;
