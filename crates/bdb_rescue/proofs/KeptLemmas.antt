@@ -2,7 +2,7 @@
 use Rattle.std.proofs.Common.{◌≡◌, ℕ, ◌+◌, ◌*◌, ◌/◌, ◌<◌, Bool, true, false, cond, List, [], ◌∷◌, map, length, arith, refl, sym, ◌∙◌, ap, subst}
 use Rattle.std.specs.List.{All, Contains, flat_map, range_with_len}
 use Rattle.bdb_text_format.proofs.of_format.ListLemmas.{all_of}
-use Rattle.bdb_text_format.proofs.of_format.MemberLemmas.{first_member, in_flat_map, no_member, of_map, of_range}
+use Rattle.bdb_text_format.proofs.of_format.MemberLemmas.{first_member, in_flat_map, in_range, no_member, of_map, of_range}
 use Rattle.bdb_text_format.specs.of_format.Terms.{Chain, Content, DupLeaf, File, Free, Hash, Inline, Internal, Item, Leaf, Meta, NoType, Overflow, Page, Queue}
 use Rattle.bdb_text_format.specs.of_format.Terms.{RecnoInternal, RecnoLeaf, Set, Tree, Unknown, Zero, chain, entries_in, page_at}
 use Rattle.bdb_rescue.specs.declared.kept.DataPlace.{DataPlace}

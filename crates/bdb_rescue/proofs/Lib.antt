@@ -6,6 +6,7 @@ pub mod ListLemmas
 pub mod LooseCountLemmas
 pub mod LooseLemmas
 pub mod MarkLemmas
+pub mod PageLemmas
 pub mod SetLemmas
 pub mod StoredLemmas
 pub mod TableLemmas

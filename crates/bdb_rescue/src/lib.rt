@@ -21,7 +21,7 @@ mod thin;
 mod values;
 
 pub use bdb_survey::{
-    Datum, Guess, KeyView, Meta, WholePages, bytes_in, chain_of, compare_datum, u32_at,
+    Datum, Guess, KeyView, Meta, Pieces, WholePages, bytes_in, chain_of, compare_datum, u32_at,
 };
 pub use bdb_text_format::{Bytes, FileKind, Order, Steps, magic_of};
 pub use entries::{SalvageEntries, SalvageEntry};

@@ -1,8 +1,8 @@
-ghost use Rattle.std.specs.Prelude.{◌≡◌, ◌≢◌, ◌^◌, ◌≤◌, ◌<◌, IfOk, IfSome, IsTrue, Err, None, Some, length, map};
+ghost use Rattle.std.specs.Prelude.{◌≡◌, ◌≢◌, ◌^◌, ◌≤◌, ◌<◌, ◌*◌, IfOk, IfSome, IsTrue, Err, None, Some, drop, length, map, take};
 ghost use Rattle.std.specs.List.{Contains, flat_map};
 ghost use Rattle.bdb_text_format.specs.of_format.Terms.{Chain, chain, is_page_size, page_at, value_of};
 ghost use Rattle.bdb_rescue.specs.Guesses.{chosen};
-ghost use Rattle.bdb_rescue.specs.Kept.{IsKeptValue, IsTable, file_in, item_of, kept_on, kept_pairs, numbered_at, pairs_under, set_from, thin_from, value_at};
+ghost use Rattle.bdb_rescue.specs.Kept.{IsKeptValue, IsTable, file_in, item_of, kept_on, kept_pairs, loose_values, numbered_at, pairs_under, set_from, thin_from, value_at};
 ghost use Rattle.bdb_rescue.specs.Kept.{untaken_on, values_on};
 ghost use Rattle.bdb_rescue.specs.Marks.{Marks};
 ghost use Rattle.bdb_survey.specs.of_layout.Seen.{content_seen};
@@ -180,7 +180,6 @@ impl<'a> Salvaged<'a> {
     }
 
     /// The loose records, in the order of page and slot.
-    #[tactic(auto, using(crate::proofs::LooseLemmas::loose_is, crate::proofs::KeptLemmas::all_loose))]
     pub fn loose<'s>(&'s self) -> SalvageValues<'s, 'a>
         ensures { result ≡ loose (file_in self.now) }
     {
@@ -188,7 +187,6 @@ impl<'a> Salvaged<'a> {
     }
 
     /// The stored pairs of a page, in the order of slot and place in a set.
-    #[tactic(auto, using(crate::proofs::StoredLemmas::stored_on_is, crate::proofs::KeptLemmas::pairs_on))]
     pub fn pairs_on<'s>(&'s self, page: u32) -> SalvagePairs<'s, 'a>
         requires { page < (file_in self.now).count }
         ensures { result ≡ stored_on (file_in self.now) page }
@@ -197,7 +195,6 @@ impl<'a> Salvaged<'a> {
     }
 
     /// The loose records of a page, in the order of slot, each with its number where so many come before the page.
-    #[tactic(auto, using(crate::proofs::KeptLemmas::untaken_known))]
     pub fn records_on<'s>(&'s self, page: u32, start: u32) -> SalvageRecords<'s, 'a>
         requires { page < (file_in self.now).count }
         ensures { result ≡ map (numbered_at (file_in self.now) start) (untaken_on (file_in self.now) page) }
@@ -210,6 +207,19 @@ impl<'a> Salvaged<'a> {
         ensures { result ≡ file_in self.now }
     {
         WholePages::over(self.image, self.guess)
+    }
+
+    /// The bytes of a page.
+    #[tactic(auto, using(crate::proofs::PageLemmas::page_ends))]
+    pub fn bytes_at(&self, number: u32) -> &'a [u8]
+        requires { number < (file_in self.now).count }
+        ensures bytes { result.now ≡ take self.now.guess.page_size (drop (number * self.now.guess.page_size) self.now.image) }
+        ensures whole { length result.now ≡ self.now.guess.page_size }
+        ensures legal { IsTrue (is_page_size self.now.guess.page_size) }
+    {
+        let size = self.guess.page_size as usize;
+        let from = number as usize * size;
+        &self.image[from..from + size]
     }
 
     /// The bytes of a page; none where there's no such page.
@@ -249,7 +259,7 @@ impl<'a> Salvaged<'a> {
     pub(crate) fn loose_places(&self) -> &[KeptValue]
         ensures { result.now ≡ loose_values (file_in self.now) }
     {
-        &self.values
+        &self.values.all
     }
 
     /// The bytes of a whole chain, where they are fewer than its pages; else none.
