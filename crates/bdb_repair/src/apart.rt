@@ -1,6 +1,5 @@
 //! `repair --apart`: a sound file of the databases that are found.
-ghost use Rattle.std.specs.Prelude.{◌≡◌, ◌++◌, ◌∷◌, ◌≤◌, ◌^◌, [], IfOk, IfSome, IsTrue, OnOk, Some, length, map};
-ghost use Rattle.bdb_apart.specs.Labels.{label_seen};
+ghost use Rattle.std.specs.Prelude.{◌≡◌, ◌++◌, ◌∷◌, ◌≤◌, ◌^◌, [], IfOk, IfSome, IsTrue, OnOk, Some, length, map, option_map};
 ghost use Rattle.bdb_mkfile.specs.NamedImages.{HasBuiltTables};
 ghost use Rattle.bdb_model.specs.of_format.Terms.{is_page_size};
 ghost use Rattle.bdb_repair.specs.Apart.{IsRepairedApart, section_in, sections_in};
@@ -10,7 +9,7 @@ ghost use Rattle.bdb_rescue.specs.of_overflow.Datum.{datum_seen};
 use crate::RepairError;
 use crate::copied::pairs_in;
 use crate::repairing::answer_of;
-use bdb_apart::{Apart, Database, Databases, Datum, Digits, Label, apart_of};
+use bdb_apart::{Apart, Database, Databases, Datum, apart_of};
 use bdb_io::Image;
 use bdb_mkfile::load;
 use bdb_model::{Bytes, Section, Sections, Steps};
@@ -18,30 +17,20 @@ use bdb_rescue::{Guess, salvage};
 use std::alloc::{AllocError, Global};
 use std::sync::ledger::Ledger;
 
-// A name of its own that is a number.
-fn numbered(alloc: Global, digits: &Digits) -> Result<Option<Bytes>, AllocError>
-    ensures { IfOk result (λ name. name ≡ Some digits.now) }
+// A name of its own.
+fn named(alloc: Global, name: &Datum<'_>) -> Result<Option<Bytes>, AllocError>
+    ensures { IfOk result (λ copy. copy ≡ Some (datum_seen name.now)) }
 {
-    let mut copy = Bytes::new(alloc);
-    copy.push_all(digits.bytes())?;
-    Ok(Some(copy))
+    Ok(Some(name.copy(alloc)?))
 }
 
-// A name of its own that is a key.
-fn keyed(alloc: Global, key: &Datum<'_>) -> Result<Option<Bytes>, AllocError>
-    ensures { IfOk result (λ name. name ≡ Some (datum_seen key.now)) }
-{
-    Ok(Some(key.copy(alloc)?))
-}
-
-// The name of a section.
-fn name_of(alloc: Global, name: &Label<'_>) -> Result<Option<Bytes>, AllocError>
-    ensures { IfOk result (λ copy. copy ≡ label_seen name.now) }
+// The name of a section, where there is one.
+fn name_of(alloc: Global, name: Option<Datum<'_>>) -> Result<Option<Bytes>, AllocError>
+    ensures { IfOk result (λ copy. copy ≡ option_map datum_seen name.entry) }
 {
     match name {
-        Label::None => Ok(None),
-        Label::Key(key) => keyed(alloc, key),
-        Label::Page(digits) => numbered(alloc, digits),
+        Some(name) => named(alloc, &name),
+        None => Ok(None),
     }
 }
 

@@ -1,5 +1,5 @@
 // What `salvage` prints database by database, and what belongs to none.
-ghost use Rattle.std.specs.Prelude.{◌≡◌, ◌<◌, ◌^◌, ◌++◌, Some, codes, length, map};
+ghost use Rattle.std.specs.Prelude.{◌≡◌, ◌<◌, ◌^◌, ◌++◌, Some, codes, length, map, option_map};
 ghost use Rattle.std.specs.List.{enumerate_from, flat_map};
 ghost use Rattle.bdb_tool_lines.specs.of_model.Change.{change};
 ghost use Rattle.bdb_text.specs.of_text_format.Terms.{data_end, header_text, line, section_text};
@@ -8,14 +8,11 @@ ghost use Rattle.bdb_tool_print.specs.Printers.{Adds, pair_text};
 ghost use Rattle.bdb_tool_lines.specs.Printing.{Writes};
 ghost use Rattle.bdb_rescue.specs.Text.{bytes_pair, loose_section, loose_settings, numbered_record, stored_section};
 ghost use Rattle.bdb_apart.specs.Given.{pairs_left, records_left};
-ghost use Rattle.bdb_apart.specs.Labels.{label_seen};
 ghost use Rattle.bdb_apart.specs.Text.{apart_text, db_section, list_given, rest_text};
 
 use crate::printing::Printer;
 use crate::salvaging::{loose_settings, stored_settings};
-use bdb_apart::{
-    Apart, Database, Databases, Label, Pairs, PairsLeft, Records, RecordsLeft, bytes_in,
-};
+use bdb_apart::{Apart, Database, Databases, Pairs, PairsLeft, Records, RecordsLeft, bytes_in};
 use bdb_range::{Bytes, Datum, KeyView, Settings};
 use bdb_tool_lines::{Cut, Sink};
 use std::alloc::Global;
@@ -32,19 +29,18 @@ impl<'k, K: Sink> Printer<'k, K> {
         }
     }
 
-    /// Prints the header of the section of a database with this name.
-    fn labelled_header(
+    /// Prints the header of the section of a database with this name, if it has one.
+    fn named_header(
         &mut self,
-        name: &Label<'_>,
+        name: Option<Datum<'_>>,
         settings: &Settings,
         print: bool,
     ) -> Result<(), Cut>
-        ensures { Adds K.written K.faults self.old self.new (header_text print (label_seen name.now) settings.now) result }
+        ensures { Adds K.written K.faults self.old self.new (header_text print (option_map datum_seen name.entry) settings.now) result }
     {
         match name {
-            Label::None => self.header(None, settings, print),
-            Label::Key(key) => self.keyed_header(key, settings, print),
-            Label::Page(digits) => self.header(Some(digits.bytes()), settings, print),
+            Some(name) => self.keyed_header(&name, settings, print),
+            None => self.header(None, settings, print),
         }
     }
 
@@ -93,7 +89,7 @@ impl<'k, K: Sink> Printer<'k, K> {
     fn given_section(&mut self, db: &Database<'_, '_, '_>, print: bool) -> Result<(), Cut>
         ensures { Adds K.written K.faults self.old self.new (db_section print db.now) result }
     {
-        self.labelled_header(db.name(), &db.settings(), print)?;
+        self.named_header(db.name(), &db.settings(), print)?;
         self.given_data(db, print)
     }
 
