@@ -1,6 +1,8 @@
 -- What is salvaged of each database that is found, as sections that can be loaded. Source: docs/FORMAT.md, "Salvage" and "Repair".
 use Rattle.std.specs.Prelude.{◌≡◌, ⊤, ℕ, nat_lt, true, false, List, [], ◌∷◌, map, if◌then◌else◌, Option, Some, None, Result, Ok, Err}
 use Rattle.bdb_model.specs.of_format.Flags.{has_records}
+use Rattle.bdb_model.specs.of_format.declared.settings.Settings.{Settings}
+use Rattle.bdb_model.specs.of_text_format.Written.{shows_length}
 use Rattle.bdb_model.specs.of_text_format.declared.pairs.TextPair.{TextPair}
 use Rattle.bdb_model.specs.of_text_format.declared.sections.Section.{Section}
 use Rattle.bdb_apart.specs.Given.{FoundIn, found_in, pairs_given, records_given}
@@ -16,9 +18,13 @@ use Rattle.bdb_rescue.specs.of_survey.declared.guess.Guess.{Guess}
 abbrev pub pairs_in : FoundIn → List TextPair
 pairs_in it = if has_records it.db.fields then map loose_pair (records_given it) else stored_pairs (pairs_given it)
 
--- its section, with the page size and the order of the guess
+-- the settings that the header of a text tells: a length of records that isn't fixed, or of 0 bytes, it doesn't tell
+abbrev pub told_settings : Settings → Settings
+told_settings settings = if shows_length settings then settings else record settings { fixed = false; re_len = 0; re_pad = 32 }
+
+-- its section, as its text is read
 abbrev pub section_in : FoundIn → Section
-section_in it = record { name = it.db.name; settings = settings_in it; header_line = 0; pairs = pairs_in it }
+section_in it = record { name = it.db.name; settings = told_settings (settings_in it); header_line = 0; pairs = pairs_in it }
 
 -- the sections of all of them
 abbrev pub sections_in : Reading → List Section

@@ -2,14 +2,15 @@
 ghost use Rattle.std.specs.Prelude.{◌≡◌, ◌++◌, ◌∷◌, ◌≤◌, ◌^◌, [], IfOk, IfSome, IsTrue, OnOk, Some, length, map, option_map};
 ghost use Rattle.bdb_mkfile.specs.NamedImages.{HasBuiltTables};
 ghost use Rattle.bdb_model.specs.of_format.Terms.{is_page_size};
-ghost use Rattle.bdb_repair.specs.Apart.{IsRepairedApart, section_in, sections_in};
+ghost use Rattle.bdb_repair.specs.Apart.{IsRepairedApart, section_in, sections_in, told_settings};
+ghost use Rattle.bdb_model.specs.of_text_format.Written.{shows_length};
 ghost use Rattle.bdb_rescue.specs.Guesses.{chosen};
 ghost use Rattle.bdb_rescue.specs.of_overflow.Datum.{datum_seen};
 
 use crate::RepairError;
 use crate::copied::pairs_in;
 use crate::repairing::answer_of;
-use bdb_apart::{Apart, Database, Databases, Datum, apart_of};
+use bdb_apart::{Apart, Database, Databases, Datum, Kind, Settings, apart_of};
 use bdb_io::Image;
 use bdb_mkfile::load;
 use bdb_model::{Bytes, Section, Sections, Steps};
@@ -34,13 +35,39 @@ fn name_of(alloc: Global, name: Option<Datum<'_>>) -> Result<Option<Bytes>, Allo
     }
 }
 
+// Whether the header of a text tells a length of records.
+fn shows_length(settings: &Settings) -> bool
+    ensures { result ≡ shows_length settings.now }
+{
+    match settings.kind {
+        Kind::Queue => true,
+        Kind::Recno => settings.fixed && settings.re_len != 0,
+        Kind::Btree | Kind::Hash => false,
+    }
+}
+
+// The settings that it tells.
+fn told_settings(settings: Settings) -> Settings
+    ensures { result ≡ told_settings settings.entry }
+{
+    if shows_length(&settings) {
+        return settings;
+    }
+    Settings {
+        fixed: false,
+        re_len: 0,
+        re_pad: 32,
+        ..settings
+    }
+}
+
 // The section of a database.
 fn section_in(alloc: Global, db: &Database<'_, '_, '_>) -> Result<Section, AllocError>
     ensures { IfOk result (λ section. section ≡ section_in db.now) }
 {
     Ok(Section {
         name: name_of(alloc, db.name())?,
-        settings: db.settings(),
+        settings: told_settings(db.settings()),
         header_line: 0,
         pairs: pairs_in(alloc, db)?,
     })
