@@ -32,11 +32,6 @@ use Rattle.bdb_repair.proofs.RepairLemmas.{IsReadBy, large_only, not_large, with
 
 -- Sections that are good.
 
--- sections can be loaded, and have no error
-record AreGood (size : ℕ) (alone : Bool) (sections : List Section) : Type 0 where
-  each : All (IsGoodSection size alone) sections
-  names : AreNamedBehind [] sections
-
 longer : (least most : ℕ) (section : Section) → least ≤ most → IsFitSection least section → IsFitSection most section
 longer least most section low fit = record {
   settings = fit.settings;
@@ -66,22 +61,18 @@ no_errors size alone (section ∷ sections) good =
     let here : IsGoodSection size alone section = All-head (IsGoodSection size alone) section sections good in
     rw (here.errors) (no_errors size alone sections (All-tail (IsGoodSection size alone) section sections good))
 
--- of any that are found
+-- sections that can be loaded, and have no error
 record AreFit (sections : List Section) : Type 0 where
-  size : ℕ
-  alone : Bool
-  good : AreGood size alone sections
-  size_is : page_size_in sections ≡ size
-  alone_is : (length sections == 1) ≡ alone
+  each : All (IsGoodSection (page_size_in sections) (length sections == 1)) sections
+  names : AreNamedBehind [] sections
 
 loadable : (sections : List Section) → (length sections == 0) ≡ false → AreFit sections → AreLoadable sections
 loadable sections some fit =
-    let all = all_fit fit.size fit.alone sections fit.good.each in
-    record { most = all.0; fit = record { some = some; each = all.1; names = fit.good.names } }
+    let all = all_fit (page_size_in sections) (length sections == 1) sections fit.each in
+    record { most = all.0; fit = record { some = some; each = all.1; names = fit.names } }
 
 without_errors : (sections : List Section) → AreFit sections → load_error sections ≡ None
-without_errors sections fit =
-    rw (fit.size_is, fit.alone_is) (ap (fold sooner None) (no_errors fit.size fit.alone sections fit.good.each))
+without_errors sections fit = ap (fold sooner None) (no_errors (page_size_in sections) (length sections == 1) sections fit.each)
 
 -- What is found.
 
@@ -102,42 +93,24 @@ named_found reading legal bytes =
     let all : All IsNamedFit dbs = all_found IsNamedFit [] more (All-nil IsNamedFit) (above_fit reading bytes) in
     let sections : List Section = map section_in (map (in_image reading) dbs) in
     record {
-      size = page_size_in sections;
-      alone = length sections == 1;
-      good = record {
-        each = trees_good reading (page_size_in sections) (length sections == 1) dbs legal all;
-        names = named_apart reading dbs all (found_apart [] more tt);
-      };
-      size_is = refl;
-      alone_is = refl;
+      each = trees_good reading (page_size_in sections) (length sections == 1) dbs legal all;
+      names = named_apart reading dbs all (found_apart [] more tt);
     }
 
 only_one : (reading : Reading) (fields : Metadata) → IsTrue (is_page_size reading.guess.page_size) → IsFitMeta fields
     → AreFit (section_in (in_image reading (only_found fields)) ∷ [])
 only_one reading fields legal fit =
     let section : Section = section_in (in_image reading (only_found fields)) in
+    let size : ℕ = page_size_in (section ∷ []) in
     record {
-      size = page_size_in (section ∷ []);
-      alone = true;
-      good = record {
-        each =
-            All-cons (IsGoodSection (page_size_in (section ∷ [])) true) section []
-            (section_good (page_size_in (section ∷ [])) true (in_image reading (only_found fields)) legal fit)
-            (All-nil (IsGoodSection (page_size_in (section ∷ [])) true));
-        names = (refl, refl, tt);
-      };
-      size_is = refl;
-      alone_is = refl;
+      each =
+          All-cons (IsGoodSection size true) section [] (section_good size true (in_image reading (only_found fields)) legal fit)
+          (All-nil (IsGoodSection size true));
+      names = (refl, refl, tt);
     }
 
 no_section : AreFit []
-no_section = record {
-  size = 0;
-  alone = false;
-  good = record { each = All-nil (IsGoodSection 0 false); names = tt };
-  size_is = refl;
-  alone_is = refl;
-}
+no_section = record { each = All-nil (IsGoodSection 0 false); names = tt }
 
 alone_found : (reading : Reading) (page : Page) → IsTrue (is_page_size reading.guess.page_size) → All IsFitMeta (tree_fields page)
     → AreFit (map section_in (map (in_image reading) (map only_found (tree_fields page))))
@@ -159,16 +132,10 @@ queue_found : (reading : Reading) (meta : QueueMeta) → IsTrue (is_page_size re
 queue_found reading meta legal bytes is =
     let section : Section = section_in (in_image reading (only_found (QueueFields meta))) in
     record {
-      size = reading.guess.page_size;
-      alone = true;
-      good = record {
-        each =
-            All-cons (IsGoodSection reading.guess.page_size true) section [] (queue_good reading meta legal (queue_fits reading meta bytes legal is))
-            (All-nil (IsGoodSection reading.guess.page_size true));
-        names = (refl, refl, tt);
-      };
-      size_is = refl;
-      alone_is = refl;
+      each =
+          All-cons (IsGoodSection reading.guess.page_size true) section [] (queue_good reading meta legal (queue_fits reading meta bytes legal is))
+          (All-nil (IsGoodSection reading.guess.page_size true));
+      names = (refl, refl, tt);
     }
 
 beside_fit : (reading : Reading) (queue : Option QueueMeta) → IsTrue (is_page_size reading.guess.page_size) → AreBytes reading.image → queue_in reading ≡ queue

@@ -2,7 +2,7 @@
 use Rattle.std.proofs.Common.{◌≡◌, ℕ, Bool, true, false, cond, List, [], ◌∷◌, ◌++◌, length, map, Option, Some, None, refl, sym, ap, subst, inl, inr, ◌∙◌}
 use Rattle.std.specs.Prelude.{◌==◌, ◌&&◌, ◌||◌, not, codes, decimal}
 use Rattle.std.specs.List.{All, flat_map, fold, list_any}
-use Rattle.std.specs.Option.{is_none, is_some, option_to_list}
+use Rattle.std.specs.Option.{is_none, is_some, option_to_list, unwrap_or}
 use Rattle.std.specs.Str.{bytes_eq}
 use Rattle.std.proofs.lemmas.List.Elements.{All-append, All-cons, All-head, All-nil, All-tail}
 use Rattle.std.proofs.lemmas.List.Folds.{list_any-append}
@@ -77,11 +77,12 @@ above_fit reading bytes =
 
 all_put : (P : Found → Type 0) (dbs : List Found) (db : Found) → P db → All P dbs → All P (put_found dbs db)
 all_put P [] db one all = All-cons P db [] one (All-nil P)
-all_put P (other ∷ others) db one all = by_test (less (name_of db) (name_of other))
+all_put P (other ∷ others) db one all =
+    by_test (less (name_of db) (name_of other)) (all_put P others db one (All-tail P other others all))
   where
-    by_test : (b : Bool) → All P (cond b (db ∷ other ∷ others) (other ∷ put_found others db))
-    by_test true = All-cons P db (other ∷ others) one all
-    by_test false = All-cons P other (put_found others db) (All-head P other others all) (all_put P others db one (All-tail P other others all))
+    by_test : (b : Bool) → All P (put_found others db) → All P (cond b (db ∷ other ∷ others) (other ∷ put_found others db))
+    by_test true rest = All-cons P db (other ∷ others) one all
+    by_test false rest = All-cons P other (put_found others db) (All-head P other others all) rest
 
 all_with : (P : Found → Type 0) (dbs : List Found) (db : Found) → P db → All P dbs → All P (with_found dbs db)
 all_with P dbs db one all = by_test (list_any (has_name (name_of db)) dbs)
@@ -96,7 +97,7 @@ all_found P dbs (db ∷ more) all rest =
     all_found P (with_found dbs db) more (all_with P dbs db (All-head P db more rest) all) (All-tail P db more rest)
 
 -- each has a name that none behind it has
-pub AreApart : List Found → Type 0
+abbrev pub AreApart : List Found → Type 0
 AreApart [] = Unit {0}
 AreApart (db ∷ dbs) = (list_any (has_name (name_of db)) dbs ≡ false) × AreApart dbs
 
@@ -113,30 +114,31 @@ other_way a b differ = by_test (bytes_eq b a) refl
         absurd (cc (sym differ ∙ (ap (bytes_eq a) same ∙ eq_self a)))
     by_test false is = refl
 
-any_put : (test : Found → Bool) (dbs : List Found) (db : Found) → test db ≡ false → list_any test dbs ≡ false → list_any test (put_found dbs db) ≡ false
-any_put test [] db one none = rw one refl
-any_put test (other ∷ others) db one none = by_test (less (name_of db) (name_of other))
-  where
-    parts : (test other ≡ false) × (list_any test others ≡ false)
-    parts = neither (test other) (list_any test others) none
+nor : (a b : Bool) → a ≡ false → b ≡ false → (a || b) ≡ false
+nor true b first second = first
+nor false b first second = second
 
-    by_test : (b : Bool) → list_any test (cond b (db ∷ other ∷ others) (other ∷ put_found others db)) ≡ false
-    by_test true = rw one none
-    by_test false = rw (parts.0) (any_put test others db one parts.1)
+any_put : (test : Found → Bool) (dbs : List Found) (db : Found) → test db ≡ false → list_any test dbs ≡ false → list_any test (put_found dbs db) ≡ false
+any_put test [] db one none = nor (test db) false one refl
+any_put test (other ∷ others) db one none =
+    let parts = neither (test other) (list_any test others) none in
+    by_test (less (name_of db) (name_of other)) parts.0 (any_put test others db one parts.1)
+  where
+    by_test : (b : Bool) → test other ≡ false → list_any test (put_found others db) ≡ false
+        → list_any test (cond b (db ∷ other ∷ others) (other ∷ put_found others db)) ≡ false
+    by_test true first rest = nor (test db) (list_any test (other ∷ others)) one none
+    by_test false first rest = nor (test other) (list_any test (put_found others db)) first rest
 
 put_apart : (dbs : List Found) (db : Found) → list_any (has_name (name_of db)) dbs ≡ false → AreApart dbs → AreApart (put_found dbs db)
 put_apart [] db new apart = (refl, tt)
-put_apart (other ∷ others) db new apart = by_test (less (name_of db) (name_of other))
+put_apart (other ∷ others) db new apart =
+    let parts = neither (bytes_eq (name_of db) (name_of other)) (list_any (has_name (name_of db)) others) new in
+    by_test (less (name_of db) (name_of other)) parts.0 (put_apart others db parts.1 apart.1)
   where
-    parts : (bytes_eq (name_of db) (name_of other) ≡ false) × (list_any (has_name (name_of db)) others ≡ false)
-    parts = neither (bytes_eq (name_of db) (name_of other)) (list_any (has_name (name_of db)) others) new
-
-    by_test : (b : Bool) → AreApart (cond b (db ∷ other ∷ others) (other ∷ put_found others db))
-    by_test true = (new, apart)
-    by_test false = (
-      any_put (has_name (name_of other)) others db (other_way (name_of db) (name_of other) parts.0) apart.0,
-      put_apart others db parts.1 apart.1,
-    )
+    by_test : (b : Bool) → bytes_eq (name_of db) (name_of other) ≡ false → AreApart (put_found others db)
+        → AreApart (cond b (db ∷ other ∷ others) (other ∷ put_found others db))
+    by_test true differ rest = (new, apart)
+    by_test false differ rest = (any_put (has_name (name_of other)) others db (other_way (name_of db) (name_of other) differ) apart.0, rest)
 
 with_apart : (dbs : List Found) (db : Found) → AreApart dbs → AreApart (with_found dbs db)
 with_apart dbs db apart = by_test (list_any (has_name (name_of db)) dbs) refl
@@ -155,6 +157,12 @@ found_apart dbs (db ∷ more) apart = found_apart (with_found dbs db) more (with
 abbrev AreNew : List (Option (List ℕ)) → List Found → Type 0
 AreNew names dbs = All (λ (db : Found). list_any (is_name db.name) names ≡ false) dbs
 
+differ_so : (one two : Option (List ℕ)) (n m : List ℕ) → one ≡ Some n → two ≡ Some m → bytes_eq (unwrap_or one []) (unwrap_or two []) ≡ false
+    → is_name two one ≡ false
+differ_so (Some one) (Some two) n m first second differ = other_way one two differ
+differ_so (Some one) None n m first second differ = absurd (cc second)
+differ_so None two n m first second differ = absurd (cc first)
+
 still_new : (names : List (Option (List ℕ))) (db : Found) (name : List ℕ) (dbs : List Found) → db.name ≡ Some name → All IsNamedFit dbs
     → list_any (has_name (name_of db)) dbs ≡ false → AreNew names dbs → AreNew (names ++ (db.name ∷ [])) dbs
 still_new names db name [] is named none new = All-nil (λ (it : Found). list_any (is_name it.name) (names ++ (db.name ∷ [])) ≡ false)
@@ -162,18 +170,11 @@ still_new names db name (other ∷ others) is named none new =
     let P : Found → Type 0 = λ (it : Found). list_any (is_name it.name) names ≡ false in
     let parts = neither (bytes_eq (name_of db) (name_of other)) (list_any (has_name (name_of db)) others) none in
     let here : IsNamedFit other = All-head IsNamedFit other others named in
-    let differ : is_name other.name db.name ≡ false =
-    rw (is, here.name_is) (other_way name here.name (subst (λ n. bytes_eq name n ≡ false) (named_so other here)
-    (subst (λ n. bytes_eq n (name_of other) ≡ false) (name_so db name is) parts.0))) in
+    let differ : is_name other.name db.name ≡ false = differ_so db.name other.name name here.name is here.name_is parts.0 in
     All-cons (λ (it : Found). list_any (is_name it.name) (names ++ (db.name ∷ [])) ≡ false) other others
-    (list_any-append (is_name other.name) names (db.name ∷ []) ∙ rw (All-head P other others new, differ) refl)
+    (list_any-append (is_name other.name) names (db.name ∷ [])
+    ∙ nor (list_any (is_name other.name) names) (is_name other.name db.name || false) (All-head P other others new) (nor (is_name other.name db.name) false differ refl))
     (still_new names db name others is (All-tail IsNamedFit other others named) parts.1 (All-tail P other others new))
-  where
-    name_so : (db : Found) (name : List ℕ) → db.name ≡ Some name → name_of db ≡ name
-    name_so db name is = rw is refl
-
-    named_so : (other : Found) (here : IsNamedFit other) → name_of other ≡ here.name
-    named_so other here = name_so other here.name here.name_is
 
 no_and : (b : Bool) → (b && false) ≡ false
 no_and true = refl

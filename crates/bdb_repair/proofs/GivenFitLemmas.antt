@@ -40,8 +40,13 @@ use Rattle.bdb_repair.proofs.PartLemmas.{fit_stored, pair_length}
 
 -- Settings.
 
+then_so : (a b : Bool) → (a && not b) ≡ false → a ≡ true → b ≡ true
+then_so true true none is = refl
+then_so true false none is = absurd (cc none)
+then_so false b none is = absurd (cc is)
+
 several : (flags : ℕ) → (has_bit flags 0x40 && not (has_bit flags 0x41)) ≡ false → has_bit flags 0x40 ≡ true → has_bit flags 0x41 ≡ true
-several flags none is = grind (none, is)
+several flags none is = then_so (has_bit flags 0x40) (has_bit flags 0x41) none is
 
 not_queue : (settings : Settings) → is_queue settings.kind ≡ false → settings.kind ≡ Queue → ⊥
 not_queue settings no is = absurd (cc (sym no ∙ ap is_queue is))
@@ -88,7 +93,7 @@ sorted_hash : (flags : ℕ) → flags < 8 → has_bit flags 0x04 ≡ true → ha
 sorted_hash flags low is =
     let none : (has_bit flags 0x04 && not (has_bit flags 0x05)) ≡ false =
     none_passes (λ (n : ℕ). has_bit n 0x04 && not (has_bit n 0x05)) (range_with_len 0 8) flags refl (in_range 0 8 flags (omega arith) (omega (arith, low))) in
-    grind (none, is)
+    then_so (has_bit flags 0x04) (has_bit flags 0x05) none is
 
 hash_fit : (size : ℕ) (order : Order) (meta : HashMeta) → IsTrue (is_page_size size) → meta.flags < 8 → AreFitSettings (hash_settings size order meta)
 hash_fit size order meta legal low = record {
@@ -166,6 +171,13 @@ tree_records reading db meta is =
     subst (λ (fields : Metadata). All (IsOf fields) (flat_map (records_on file db) pages)) is own in
     subst (λ (fields : Metadata). All (IsOf (BtreeFields meta)) (records_by reading db fields)) (sym is) of_meta
 
+last_so : (a b c d : Bool) → (a && (not b || c || d)) ≡ true → b ≡ true → c ≡ false → d ≡ true
+last_so true true false true is fixed zero = refl
+last_so true true false false is fixed zero = absurd (cc is)
+last_so a b true d is fixed zero = absurd (cc zero)
+last_so a false c d is fixed zero = absurd (cc fixed)
+last_so false b c d is fixed zero = absurd (cc is)
+
 -- in a recno whose header tells its length the records have it
 recno_record : (size : ℕ) (order : Order) (meta : BtreeMeta) (placed : ℕ × List ℕ) → IsOf (BtreeFields meta) placed
     → IsFitRecord (told_settings (recno_settings size order meta)) placed
@@ -177,8 +189,8 @@ recno_record size order meta placed of = record { number = of.number; short = by
     by_tests true true fixed zero = rw (fixed, zero) refl
     by_tests false zero fixed is = rw fixed refl
     by_tests true false fixed zero =
-        let fits = of.fits in
-        let short : nat_lt meta.re_len (length placed.1) ≡ false = grind (arith, nat_tests, fits, fixed, zero) in
+        let same : (length placed.1 == meta.re_len) ≡ true = last_so _ _ _ _ of.fits fixed zero in
+        let short : nat_lt meta.re_len (length placed.1) ≡ false = grind (arith, nat_tests, same) in
         rw (fixed, zero) short
 
 all_recno : (size : ℕ) (order : Order) (meta : BtreeMeta) (records : List (ℕ × List ℕ)) → All (IsOf (BtreeFields meta)) records

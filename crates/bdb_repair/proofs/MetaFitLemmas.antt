@@ -1,7 +1,8 @@
 -- The metadata of databases that are found in a damaged file.
 use Rattle.std.proofs.Common.{◌≡◌, ℕ, ◌+◌, ◌-◌, ◌*◌, ◌/◌, ◌<◌, ◌≤◌, ◌^◌, Bool, true, false, cond, List, [], ◌∷◌, ◌++◌, length, map, take, drop, Option, Some, None}
-use Rattle.std.proofs.Common.{arith, refl, sym, ap, subst, inl, inr}
-use Rattle.std.specs.Prelude.{◌==◌, ◌&&◌, nat_lt, is_none}
+use Rattle.std.proofs.Math.Nat.{div-mul-le_self, mul-le-mul_right}
+use Rattle.std.proofs.Common.{arith, refl, sym, ◌∙◌, ap, subst, inl, inr}
+use Rattle.std.specs.Prelude.{◌==◌, ◌&&◌, ◌||◌, nat_lt, is_none}
 use Rattle.std.specs.List.{All, flat_map, fold}
 use Rattle.std.proofs.lemmas.Bool.{cases_lt}
 use Rattle.std.proofs.lemmas.Bool.Decides.{nat_tests}
@@ -14,7 +15,7 @@ use Rattle.bdb_model.specs.of_format.declared.metadata.QueueMeta.{QueueMeta}
 use Rattle.bdb_model.specs.of_format.declared.pages.PageType.{PageType}
 use Rattle.bdb_model.specs.of_format.declared.pages.PageType.TheVariants.{HashMeta as HashMetaPage, BtreeMeta as BtreeMetaPage}
 use Rattle.bdb_model.specs.of_format.Terms.{BtreeFields, File, HashFields, Meta, Metadata, Page, QueueFields, Row, Zero, abstract_page, are_wrong_flags}
-use Rattle.bdb_model.specs.of_format.Terms.{btree_fields, byte_at, field_rows, first_row, four_at, hash_fields, is_zero, metadata_rows, page_as, page_at, page_type}
+use Rattle.bdb_model.specs.of_format.Terms.{btree_fields, byte_at, field_rows, first_row, four_at, hash_fields, is_zero, metadata_rows, page_as, page_at, page_code, page_type}
 use Rattle.bdb_model.specs.of_format.Terms.{queue_fields, records_per_page}
 use Rattle.bdb_model.specs.of_format.Numbers.{pad4}
 use Rattle.bdb_model.specs.of_format.Terms.{is_page_size}
@@ -51,7 +52,7 @@ unless_meta : (code : Option ℕ) (page : Page) (fields : Metadata) → unless_c
 unless_meta None page fields is = (refl, is)
 unless_meta (Some row) page fields is = absurd (cc is)
 
-not_zero : (b : Bool) (page : Page) (fields : Metadata) → cond b Zero page ≡ Meta fields → page ≡ Meta fields
+not_zero : (b : Bool) (page : Page) (fields : Metadata) → elim b [ true ↦ Zero | false ↦ page ] ≡ Meta fields → page ≡ Meta fields
 not_zero true page fields is = absurd (cc is)
 not_zero false page fields is = is
 
@@ -82,22 +83,27 @@ table_by order last page meta HashMetaPage is none =
     let rows : List (Row ℕ) = metadata_rows order page (four_at order page 8) last HashFile in
     let fail : AllFail rows = none_is_first_row rows none in
     let low : nat_lt 0x07 (four_at order page 48) ≡ false = fail.1.1.1.1.1.1.1.1.1.0 in
-    subst (λ (m : HashMeta). m.flags < 8) same (grind (arith, nat_tests, low))
+    let few : four_at order page 48 < 8 = grind (arith, nat_tests, low) in
+    subst (λ (m : HashMeta). m.flags < 8) same few
 table_by order last page meta t is none = absurd (cc is)
+
+on_page : (order : Order) (last : ℕ) (page : List ℕ) (fields : Metadata) → salvaged_page order last page ≡ Meta fields
+    → (meta_code order last page (page_type (byte_at page 25)) ≡ None) × (abstract_page order page ≡ Meta fields)
+unfolding salvaged_page
+on_page order last page fields is =
+    let inner : Page = unless_code (meta_code order last page (page_type (byte_at page 25))) (abstract_page order page) in
+    let form = unless_meta (page_code order (four_at order page 8) page) inner fields is in
+    unless_meta (meta_code order last page (page_type (byte_at page 25))) (abstract_page order page) fields form.1
 
 tree_on : (order : Order) (last : ℕ) (page : List ℕ) (meta : BtreeMeta) → AreBytes page → salvaged_page order last page ≡ Meta (BtreeFields meta)
     → IsFitTree meta
-unfolding salvaged_page
 tree_on order last page meta bytes is =
-    let form = unless_meta _ _ _ is in
-    let held = unless_meta _ _ _ form.1 in
+    let held = on_page order last page (BtreeFields meta) is in
     tree_by order last page meta (page_type (byte_at page 25)) bytes (read_as order page (BtreeFields meta) held.1) held.0
 
 table_on : (order : Order) (last : ℕ) (page : List ℕ) (meta : HashMeta) → salvaged_page order last page ≡ Meta (HashFields meta) → meta.flags < 8
-unfolding salvaged_page
 table_on order last page meta is =
-    let form = unless_meta _ _ _ is in
-    let held = unless_meta _ _ _ form.1 in
+    let held = on_page order last page (HashFields meta) is in
     table_by order last page meta (page_type (byte_at page 25)) (read_as order page (HashFields meta) held.1) held.0
 
 -- Pages of an image.
@@ -147,8 +153,18 @@ both true true c is = refl
 both true false c is = absurd (cc is)
 both false b c is = absurd (cc is)
 
-fits_page : (size wide : ℕ) → (size / wide == 0) ≡ false → 0 < wide → nat_lt size wide ≡ false
-fits_page size wide some there = grind (arith, nat_tests, some, there)
+first_of : (a b : Bool) → (a || b) ≡ false → a ≡ false
+first_of true b none = absurd (cc none)
+first_of false b none = refl
+
+-- room for one record at least
+has_room : (size wide : ℕ) → (size / wide == 0) ≡ false → nat_lt size wide ≡ false
+has_room size wide some =
+    let one : 1 ≤ size / wide = grind (arith, nat_tests, some) in
+    let fits : size / wide * wide ≤ size = div-mul-le_self size wide in
+    let more : 1 * wide ≤ size / wide * wide = mul-le-mul_right wide one in
+    let low : wide ≤ size = omega (arith, fits, more) in
+    grind (arith, nat_tests, low)
 
 queue_by : (order : Order) (page : List ℕ) (meta : QueueMeta) → AreBytes page → queue_on order page ≡ Some meta → IsFitQueue (length page) meta
 queue_by order page meta bytes is =
@@ -156,9 +172,9 @@ queue_by order page meta bytes is =
     let rows : List (Row ℕ) = field_rows order page 1 0 QueueFile in
     let fail : AllFail rows = none_is_first_row rows (is_nothing (first_row rows) (both _ _ _ fields.0)) in
     let len : ℕ = (queue_fields order page).re_len in
-    let room : (records_per_page (length page) len == 0) ≡ false = grind (fail.1.1.1.1.1.1.1.0) in
+    let room : (records_per_page (length page) len == 0) ≡ false = first_of _ _ fail.1.1.1.1.1.1.1.0 in
     subst (IsFitQueue (length page)) fields.1 (record {
-      wide = fits_page (length page - 28) (pad4 (len + 1)) room (omega arith);
+      wide = has_room (length page - 28) (pad4 (len + 1)) room;
       re_len = number_fits order page 80 bytes;
     })
 
