@@ -2,11 +2,12 @@
 use Rattle.std.proofs.Common.{◌≡◌, ◌⊎◌, ℕ, zero, suc, ◌+◌, ◌-◌, ◌<◌, ◌≤◌, Bool, true, false, cond, List, [], ◌∷◌, length, set, get_or, arith, refl, sym, ◌∙◌, ap, subst, inl, inr}
 use Rattle.std.proofs.Common.{Option, Some, None, true≢false}
 use Rattle.std.specs.Prelude.{◌==◌}
-use Rattle.std.specs.List.{filter, find, range_with_len}
+use Rattle.std.specs.List.{All, filter, find, range_with_len}
 use Rattle.std.proofs.lemmas.Bool.{cases_eq, eq-eqb, eqb-true, ne_eqb}
 use Rattle.std.proofs.lemmas.List.{get_or-set_same, get_or-set_other, length-set}
 use Rattle.std.proofs.lemmas.Option.{none-some, same_Some}
-use Rattle.bdb_apart.specs.Rows.{AreRows, IsAt, first_from, from_page, is_below, is_some_of, row_from, row_left}
+use Rattle.std.proofs.lemmas.List.Elements.{All-cons, All-nil}
+use Rattle.bdb_apart.specs.Rows.{AreBelow, AreRows, IsAt, first_from, from_page, is_below, is_some_of, row_from, row_left}
 
 -- the pages from one on are this one and those behind
 pages_from : (above : List (Option ℕ)) (p : ℕ) → p < length above → from_page above p ≡ p ∷ from_page above (p + 1)
@@ -166,3 +167,34 @@ put_nowhere above first next page is inside are = record {
     | inr other ↦ are.nexts p m (omega (arith, from, other)) here below
   ];
 }
+
+-- Rows that are gone over.
+
+none_by : (above : List (Option ℕ)) (m p n : ℕ) → AreBelow above → length above ≤ m → find (is_below above m) (range_with_len p n) ≡ None
+none_by above m p zero within past = refl
+none_by above m p (suc n) within past =
+    ap (λ b. cond b (Some p) (find (is_below above m) (range_with_len (suc p) n))) (by_above (get_or above p None) refl)
+    ∙ none_by above m (suc p) n within past
+  where
+    by_above : (at : Option ℕ) → get_or above p None ≡ at → is_some_of m at ≡ false
+    by_above None is = refl
+    by_above (Some k) is = ne_eqb k m (λ same. let low : k < length above = within p k is in omega (arith, low, past, same))
+
+-- no page is below one that isn't there
+pub first_past : (above : List (Option ℕ)) (m : ℕ) → AreBelow above → length above ≤ m → first_from above m 0 ≡ None
+first_past above m within past = none_by above m 0 (length above) within past
+
+there_by : (above : List (Option ℕ)) (m p n : ℕ) → p + n ≤ length above → All (λ q. q < length above) (filter (is_below above m) (range_with_len p n))
+there_by above m p zero all = All-nil (λ q. q < length above)
+there_by above m p (suc n) all = by_test (is_below above m p)
+  where
+    rest : All (λ q. q < length above) (filter (is_below above m) (range_with_len (suc p) n))
+    rest = there_by above m (suc p) n (omega (arith, all))
+
+    by_test : (b : Bool) → All (λ q. q < length above) (cond b (p ∷ filter (is_below above m) (range_with_len (suc p) n)) (filter (is_below above m) (range_with_len (suc p) n)))
+    by_test true = All-cons (λ q. q < length above) p (filter (is_below above m) (range_with_len (suc p) n)) (omega (arith, all)) rest
+    by_test false = rest
+
+-- the pages of a row are there
+pub row_there : (above : List (Option ℕ)) (m : ℕ) → All (λ q. q < length above) (row_from above m 0)
+row_there above m = there_by above m 0 (length above) (omega arith)

@@ -1,6 +1,6 @@
 ghost use Rattle.std.specs.Prelude.{◌≡◌, ◌<◌, ◌≤◌, ◌+◌, ◌^◌, IfOk, IfSome, List, None, Option, Some, get_or, length, ℕ};
 ghost use Rattle.std.specs.Iterator.{YieldsFirst};
-ghost use Rattle.bdb_apart.specs.Rows.{AreRows, row_from};
+ghost use Rattle.bdb_apart.specs.Rows.{AreBelow, AreRows, first_from, row_from};
 
 use std::alloc::{AllocError, Global};
 use std::marker::Model;
@@ -41,20 +41,20 @@ pub(crate) struct Rows {
 
 impl Model for Rows {
     ghost use Rattle.std.specs.Prelude.{List, Option, ℕ, zero};
-    ghost use Rattle.bdb_apart.specs.Rows.{AreRows};
+    ghost use Rattle.bdb_apart.specs.Rows.{IsRows};
 
     ghost Value = { List (Option ℕ) };
 
     ghost view = { λ v. v.above.items };
 
-    ghost invariant = { λ v. AreRows v.above.items v.first.items v.next.items 0 };
+    ghost invariant = { λ v. IsRows v.above.items v.first.items v.next.items };
 }
 
 impl Rows {
     /// The rows of pages that are below these, put from behind.
     pub(crate) fn of(alloc: Global, above: Vec<Option<u32>>) -> Result<Rows, AllocError>
         requires few { length above.items < 2 ^ 32 }
-        requires within { (p : ℕ) → p < length above.items → IfSome (get_or above.items p None) (λ m. m < length above.items) }
+        requires within { AreBelow above.items }
         ensures { IfOk result (λ rows. rows ≡ above.items) }
     {
         let count = above.len() as u32;
@@ -76,16 +76,26 @@ impl Rows {
         self.above[page as usize]
     }
 
+    /// The first page below one.
+    fn first(&self, meta: u32) -> Option<u32>
+        ensures { result ≡ first_from self.now meta 0 }
+    {
+        if (meta as usize) < self.first.len() {
+            self.first[meta as usize]
+        } else {
+            None
+        }
+    }
+
     /// The pages below one, in their order.
     pub(crate) fn row(&self, meta: u32) -> Pages<'_>
-        requires { meta < length self.now }
         ensures { result ≡ row_from self.now meta 0 }
     {
         Pages {
             above: &self.above,
             next: &self.next,
             meta,
-            at: self.first[meta as usize],
+            at: self.first(meta),
         }
     }
 }
