@@ -1,7 +1,6 @@
 -- The faults of stage 8 from those of each database.
 use Rattle.bdb_btree.proofs.of_format.ListLemmas.{any_member, passes_here}
-use Rattle.std.proofs.Common.{◌≡◌, ℕ, zero, suc, ◌+◌, ◌<◌, ◌≤◌, Bool, true, false, cond, List, [], ◌∷◌, map, arith, refl, ◌∙◌, ap, subst, inl}
-use Rattle.std.proofs.Common.{inr}
+use Rattle.std.proofs.Common.{◌≡◌, ℕ, zero, suc, ◌+◌, ◌<◌, ◌≤◌, Bool, true, false, cond, List, [], ◌∷◌, map, arith, refl, ◌∙◌, ap, subst, inl, inr}
 use Rattle.std.specs.List.{Contains, flat_map, range_with_len}
 use Rattle.std.proofs.lemmas.Bool.{cases_eq}
 use Rattle.bdb_btree.specs.of_format.declared.kinds.Fault.{Fault}

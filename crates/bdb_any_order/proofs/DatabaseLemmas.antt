@@ -1,7 +1,5 @@
 -- The faults of what the databases of a file hold, by its metadata pages.
-use Rattle.std.proofs.Common.{◌≡◌, ℕ, ◌+◌, ◌≤◌, true, false, cond, List, [], append-nil, Some, arith, refl, sym, ◌∙◌, ap, subst}
-use Rattle.std.specs.Prelude.{◌==◌, ◌&&◌, take}
-use Rattle.std.specs.Option.{is_some}
+use Rattle.std.proofs.Common.{◌≡◌, ℕ, ◌+◌, ◌≤◌, true, false, cond, List, [], append-nil, Some, arith, refl, sym, ◌∙◌, ap, subst, ◌==◌, ◌&&◌, take, is_some}
 use Rattle.bdb_btree.specs.of_format.Terms.{File, Meta, Metadata, QueueFields, abstract_page, contents_faults, database_faults, database_rows, fields_in}
 use Rattle.bdb_btree.specs.of_format.Terms.{fields_of, file_of, head_of, is_meta, master_in, page_at, page_bytes}
 use Rattle.std.specs.List.{Contains, flat_map, range_with_len, slice_get}

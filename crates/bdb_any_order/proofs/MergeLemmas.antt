@@ -1,6 +1,5 @@
 -- The faults of a stage from those of its parts.
-use Rattle.std.proofs.Common.{◌≡◌, ◌⊎◌, ℕ, ◌+◌, List, [], ◌∷◌, ◌++◌, arith, refl, sym, subst, inl, inr}
-use Rattle.std.specs.List.{Contains}
+use Rattle.std.proofs.Common.{◌≡◌, ◌⊎◌, ℕ, ◌+◌, List, [], ◌∷◌, ◌++◌, arith, refl, sym, subst, inl, inr, Contains}
 use Rattle.std.proofs.lemmas.List.Elements.{Contains-append_cases, Contains-append_left, Contains-append_right}
 use Rattle.bdb_btree.specs.of_format.declared.kinds.Fault.{Fault}
 use Rattle.bdb_btree.specs.of_format.Terms.{File, Row, by_page, chain_faults, chain_rows, structure_faults, structure_rows, tree_faults, tree_rows}

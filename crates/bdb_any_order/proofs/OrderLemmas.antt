@@ -1,9 +1,6 @@
 -- What is noted of the faults that count in any order, and how they stand.
-use Rattle.std.proofs.Common.{◌≡◌, ◌⊎◌, ℕ, ◌+◌, ◌≤◌, Bool, true, false, cond, List, [], ◌∷◌, ◌++◌, length, Option, Some, None, arith, refl, sym}
-use Rattle.std.proofs.Common.{ap, subst, inl, inr, append-nil, length-append, ne_eqb}
-use Rattle.std.specs.Prelude.{◌==◌, ◌||◌, not}
-use Rattle.std.specs.List.{Contains, filter, flat_map}
-use Rattle.std.specs.Option.{is_some}
+use Rattle.std.proofs.Common.{◌≡◌, ◌⊎◌, ℕ, ◌+◌, ◌≤◌, Bool, true, false, cond, List, [], ◌∷◌, ◌++◌, length, Option, Some, None, arith, refl, sym, ap, subst, inl}
+use Rattle.std.proofs.Common.{inr, append-nil, length-append, ne_eqb, ◌==◌, ◌||◌, not, Contains, filter, flat_map, is_some}
 use Rattle.std.proofs.lemmas.Bool.{and_parts, eqb-true, or_cases, or_right}
 use Rattle.std.proofs.lemmas.List.Elements.{Contains-append_cases, Contains-append_left, Contains-append_right}
 use Rattle.bdb_btree.specs.of_faults.Notes.{Ascends, HasJust, Notes, NotesAll}

@@ -1,6 +1,5 @@
 -- The faults that count, by those of all rows.
-use Rattle.std.proofs.Common.{◌≡◌, ℕ, ◌<◌, ◌≤◌, Bool, true, false, cond, List, [], ◌∷◌, ◌++◌, None, arith, refl, sym, ◌∙◌, ap}
-use Rattle.std.specs.Prelude.{◌||◌, not}
+use Rattle.std.proofs.Common.{◌≡◌, ℕ, ◌<◌, ◌≤◌, Bool, true, false, cond, List, [], ◌∷◌, ◌++◌, None, arith, refl, sym, ◌∙◌, ap, ◌||◌, not}
 use Rattle.std.specs.List.{Contains, filter, range_with_len}
 use Rattle.bdb_btree.specs.of_format.declared.kinds.Fault.{Fault}
 use Rattle.bdb_btree.specs.of_format.Terms.{File, contents_faults, faults_in, faults_of, file_of, first_judgement, master_faults, master_in, or_else, page_at}

@@ -1,8 +1,6 @@
 -- The internal pages of a tree, and their types.
-use Rattle.std.proofs.Common.{◌≡◌, ℕ, zero, suc, Bool, true, List, [], ◌∷◌, refl, subst}
-use Rattle.std.proofs.Common.{inl, inr, Option, Some, None}
-use Rattle.std.specs.List.{Contains, filter, flat_map}
-use Rattle.std.specs.Option.{is_some, unwrap_or}
+use Rattle.std.proofs.Common.{◌≡◌, ℕ, zero, suc, Bool, true, List, [], ◌∷◌, refl, subst, inl, inr, Option, Some, None, Contains, filter, flat_map, is_some}
+use Rattle.std.proofs.Common.{unwrap_or}
 use Rattle.std.proofs.lemmas.List.Elements.{Contains-append_cases}
 use Rattle.bdb_ranks.specs.of_format.Terms.{File, child_types, children_in, file_of, has_type, header_in, inner_in, inner_pages, page_at, type_in}
 use Rattle.bdb_ranks.proofs.of_format.ListLemmas.{only_member}

@@ -1,7 +1,6 @@
 -- Pages of a tree of pairs: the items of an internal page lead one level down, and another page is a leaf.
-use Rattle.std.proofs.Common.{arith}
-use Rattle.std.proofs.Common.{◌≡◌, ℕ, ◌+◌, ◌≤◌, Bool, true, List, map, refl, Some, ◌∷◌, ◌++◌, [], sym, ◌∙◌, ap, subst, inl, inr, append-nil}
-use Rattle.std.specs.List.{Contains, flat_map, slice_get}
+use Rattle.std.proofs.Common.{arith, ◌≡◌, ℕ, ◌+◌, ◌≤◌, Bool, true, List, map, refl, Some, ◌∷◌, ◌++◌, [], sym, ◌∙◌, ap, subst, inl, inr, append-nil, Contains}
+use Rattle.std.proofs.Common.{flat_map, slice_get}
 use Rattle.bdb_faults.specs.Notes.{NotesAll}
 use Rattle.bdb_ranks.specs.of_format.declared.rows.ContentsRow.{ContentsRow}
 use Rattle.bdb_faults.proofs.SinkLemmas.{notes_none}

@@ -1,6 +1,5 @@
 -- The rows on the pairs of a tree, once all pairs have been passed.
-use Rattle.std.proofs.Common.{◌≡◌, ℕ, Bool, true, false, not, List, [], ◌∷◌, ◌++◌, ◌&&◌, refl, sym, ◌∙◌, ap, subst, inl, append_assoc}
-use Rattle.std.specs.Prelude.{◌==◌, ◌||◌}
+use Rattle.std.proofs.Common.{◌≡◌, ℕ, Bool, true, false, not, List, [], ◌∷◌, ◌++◌, ◌&&◌, refl, sym, ◌∙◌, ap, subst, inl, append_assoc, ◌==◌, ◌||◌}
 use Rattle.std.specs.List.{flat_map, fold, list_any}
 use Rattle.bdb_ranks.specs.of_format.Terms.{File, StoredPair, fault_if, file_of, has_duplicate, has_unsorted, has_wrong_set, is_duplicate, is_wrong_set}
 use Rattle.bdb_ranks.specs.of_format.Terms.{tree_pairs}

@@ -1,7 +1,5 @@
 -- The pairs of a list, one after another.
-use Rattle.std.proofs.Common.{arith}
-use Rattle.std.proofs.Common.{◌≡◌, ℕ, List, [], ◌∷◌, Option, sym, ap, subst}
-use Rattle.std.specs.List.{flat_map}
+use Rattle.std.proofs.Common.{arith, ◌≡◌, ℕ, List, [], ◌∷◌, Option, sym, ap, subst, flat_map}
 use Rattle.bdb_ranks.specs.of_format.Terms.{File, ListKey, StoredPair, btree_list, file_of, listed_pair, structure_faults, tree_pairs}
 use Rattle.bdb_ranks.specs.of_image.Linked.{FitsTreeRoot, IsForest}
 use Rattle.bdb_btree.specs.Pairs.{AreFit, left_of}

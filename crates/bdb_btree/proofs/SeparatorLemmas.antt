@@ -1,7 +1,6 @@
 -- An internal page gone through once: what is kept decides its separators.
-use Rattle.std.proofs.Common.{◌≡◌, ℕ, zero, suc, ◌+◌, ◌-◌, ◌<◌, ◌≤◌, Bool, true, false, not, cond, List, [], ◌∷◌, ◌++◌, length, get_or}
-use Rattle.std.proofs.Common.{take, drop, Option, Some, None, arith, refl, sym, ◌∙◌, ap, append-nil}
-use Rattle.std.specs.Prelude.{◌&&◌, ◌||◌, nat_le}
+use Rattle.std.proofs.Common.{◌≡◌, ℕ, zero, suc, ◌+◌, ◌-◌, ◌<◌, ◌≤◌, Bool, true, false, not, cond, List, [], ◌∷◌, ◌++◌, length, get_or, take, drop, Option}
+use Rattle.std.proofs.Common.{Some, None, arith, refl, sym, ◌∙◌, ap, append-nil, ◌&&◌, ◌||◌, nat_le}
 use Rattle.std.specs.List.{flat_map, fold, list_any, range_with_len}
 use Rattle.std.proofs.lemmas.Bool.{le-leb, false_from_ne_true, not-false, or_parts}
 use Rattle.std.proofs.lemmas.List.{drop_all, drop_more, take_more}

@@ -1,9 +1,7 @@
 -- The heads of chains whose keys were seen, as more keys are.
-use Rattle.std.proofs.Common.{arith, ◌≡◌, ℕ, Bool, true, false, cond, List, refl, ◌∙◌}
-use Rattle.std.specs.Prelude.{Result, Ok, Err, OnOk, OnErr}
+use Rattle.std.proofs.Common.{arith, ◌≡◌, ℕ, Bool, true, false, cond, List, refl, ◌∙◌, Result, Ok, Err, OnOk, OnErr, nat_cmp}
 use Rattle.std.specs.BTreeSet.{BTreeSet, IsUnchanged, Updates}
 use Rattle.std.specs.Cmp.Lexicographic.{slice_cmp}
-use Rattle.std.specs.Ordering.{nat_cmp}
 use Rattle.std.proofs.lemmas.Bool.{cases_eq}
 use Rattle.bdb_tree.specs.of_overflow.Keys.{has_key}
 use Rattle.bdb_tree.proofs.of_format.LessLemmas.{other_number}

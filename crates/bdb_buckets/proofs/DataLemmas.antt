@@ -1,6 +1,5 @@
 -- The data of a pair that is one value.
-use Rattle.std.proofs.Common.{◌≡◌, ℕ, List, [], ◌∷◌, refl}
-use Rattle.std.specs.Prelude.{Option, Some, None}
+use Rattle.std.proofs.Common.{◌≡◌, ℕ, List, [], ◌∷◌, refl, Option, Some, None}
 use Rattle.bdb_tree.specs.of_format.Terms.{Chain, File, data_of}
 use Rattle.bdb_tree.specs.of_overflow.Datum.{single_value}
 

@@ -1,6 +1,5 @@
 -- The head of a key.
-use Rattle.std.proofs.Common.{◌≡◌, ℕ, ◌*◌, List, ◌∙◌, ap}
-use Rattle.std.specs.Prelude.{true, Option, Some}
+use Rattle.std.proofs.Common.{◌≡◌, ℕ, ◌*◌, List, ◌∙◌, ap, true, Option, Some}
 use Rattle.bdb_tree.specs.of_format.Terms.{Chain, Content, Hash, Page, file_of, item_at, page_at, value_of}
 use Rattle.bdb_buckets.specs.Chained.{IsHead, IsKeyed, chain_head, chain_value}
 use Rattle.bdb_buckets.specs.Places.{has_pair, key_content, pair_on}

@@ -1,6 +1,5 @@
 -- What a sink that takes no notice of rows of order has noted.
-use Rattle.std.proofs.Common.{◌≡◌, Bool, false, List, [], ◌∷◌}
-use Rattle.std.specs.Prelude.{Err, Ok, OnOk, Result}
+use Rattle.std.proofs.Common.{◌≡◌, Bool, false, List, [], ◌∷◌, Err, Ok, OnOk, Result}
 use Rattle.bdb_any_order.proofs.OrderLemmas.{other_noted}
 use Rattle.bdb_any_order.specs.AnyOrder.{is_of_order}
 use Rattle.bdb_any_order.specs.Noted.{HasNotedOthers}

@@ -1,6 +1,5 @@
 -- The faults of stages 6 to 8, by those of each.
-use Rattle.std.proofs.Common.{◌≡◌, ℕ, Bool, true, false, List, [], ◌∷◌, ◌++◌, length, arith, refl, sym, ◌∙◌, ap, subst}
-use Rattle.std.specs.Prelude.{◌==◌}
+use Rattle.std.proofs.Common.{◌≡◌, ℕ, Bool, true, false, List, [], ◌∷◌, ◌++◌, length, arith, refl, sym, ◌∙◌, ap, subst, ◌==◌}
 use Rattle.bdb_recno.specs.of_format.declared.kinds.Fault.{Fault}
 use Rattle.bdb_recno.specs.of_format.Terms.{faults_in, file_of, master_faults, or_else, structure_faults}
 use Rattle.bdb_recno.proofs.of_format.MemberLemmas.{is_empty, no_member}

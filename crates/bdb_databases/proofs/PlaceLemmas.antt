@@ -1,6 +1,5 @@
 -- The place of a database with a name, from a place on.
-use Rattle.std.proofs.Common.{◌≡◌, ℕ, suc, ◌+◌, ◌<◌, ◌≤◌, true, false, List, ◌∷◌, length, drop, Option, Some, None, arith, refl, sym, ◌∙◌, ap}
-use Rattle.std.proofs.Common.{drop-cons}
+use Rattle.std.proofs.Common.{◌≡◌, ℕ, suc, ◌+◌, ◌<◌, ◌≤◌, true, false, List, ◌∷◌, length, drop, Option, Some, None, arith, refl, sym, ◌∙◌, ap, drop-cons}
 use Rattle.std.proofs.lemmas.List.{drop_all}
 use Rattle.bdb_recno.specs.of_format.Terms.{File, databases, is_name, place_from}
 use Rattle.bdb_databases.specs.Named.{database_at, no_database}

@@ -1,6 +1,5 @@
 -- In a table of a file on which no row counts in any order no key comes twice.
-use Rattle.std.proofs.Common.{◌≡◌, ℕ, List, [], refl, sym, ap, subst}
-use Rattle.std.specs.List.{Contains}
+use Rattle.std.proofs.Common.{◌≡◌, ℕ, List, [], refl, sym, ap, subst, Contains}
 use Rattle.bdb_recno.specs.of_format.Terms.{BtreeFields, Database, File, HashFields, Metadata, QueueFields, contents_faults, database_faults, databases}
 use Rattle.bdb_recno.specs.of_format.Terms.{fault_at, fields_in, file_of, is_meta, page_at}
 use Rattle.bdb_recno.specs.of_format.declared.rows.ContentsRow.TheVariants.{KeyTwice}

@@ -1,6 +1,5 @@
 -- Where all rows count, what is said of the faults that count is said of the file.
-use Rattle.std.proofs.Common.{◌≡◌, ℕ, List, [], Some, None, sym, ◌∙◌, ap, subst}
-use Rattle.std.specs.Option.{option_map}
+use Rattle.std.proofs.Common.{◌≡◌, ℕ, List, [], Some, None, sym, ◌∙◌, ap, subst, option_map}
 use Rattle.bdb_check.specs.of_faults.Refusals.{IsFirstRefusal, first_verdict}
 use Rattle.bdb_check.specs.of_format.Terms.{Faulty, Judgement, LeftOut, as_verdict, faults_of, first_judgement, judgement_of, judgement_seen, verdict_of}
 use Rattle.bdb_check.specs.of_faults.declared.refusals.FirstError.{FirstError}

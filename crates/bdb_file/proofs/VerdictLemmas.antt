@@ -1,6 +1,5 @@
 -- The faults of a file that count, by those that opening, linking and the checks after them find.
-use Rattle.std.proofs.Common.{◌≡◌, ℕ, ◌+◌, ◌^◌, ◌<◌, ◌≤◌, ◌++◌, length, List, [], ◌∷◌, arith, refl, sym, ◌∙◌, ap, subst}
-use Rattle.std.specs.Prelude.{Err, IfErr, IsErrAnd, Ok, Result}
+use Rattle.std.proofs.Common.{◌≡◌, ℕ, ◌+◌, ◌^◌, ◌<◌, ◌≤◌, ◌++◌, length, List, [], ◌∷◌, arith, refl, sym, ◌∙◌, ap, subst, Err, IfErr, IsErrAnd, Ok, Result}
 use Rattle.std.specs.List.{range_with_len}
 use Rattle.bdb_check.specs.of_format.Terms.{faults_in, file_of, head_of, or_else, stage_faults}
 use Rattle.bdb_check.proofs.of_format.VerdictLemmas.{skip_stage, skip_stages}

@@ -1,6 +1,5 @@
 -- One more number, and one more pair.
-use Rattle.std.proofs.Common.{◌≡◌, ℕ, ◌+◌, ◌≤◌, ◌%◌, List, suc, [], ◌∷◌, ◌++◌, arith, ap, refl, take}
-use Rattle.std.specs.Prelude.{replicate}
+use Rattle.std.proofs.Common.{◌≡◌, ℕ, ◌+◌, ◌≤◌, ◌%◌, List, suc, [], ◌∷◌, ◌++◌, arith, ap, refl, take, replicate}
 use Rattle.std.proofs.lemmas.List.{take-replicate}
 use Rattle.std.proofs.lemmas.List.FromFn.{map-range_with_len_more}
 use Rattle.bdb_text_format.specs.of_format.declared.kinds.Kind.{Kind}

@@ -1,6 +1,5 @@
 -- The children of an internal page are the targets of its references to children, and a queue file has no such page.
-use Rattle.std.proofs.Common.{◌≡◌, ◌⊎◌, ℕ, ◌+◌, ◌≤◌, Bool, true, false, List, [], ◌∷◌, ◌++◌, map, Some, None, arith, refl, sym, ◌∙◌, ap}
-use Rattle.std.proofs.Common.{true≢false}
+use Rattle.std.proofs.Common.{◌≡◌, ◌⊎◌, ℕ, ◌+◌, ◌≤◌, Bool, true, false, List, [], ◌∷◌, ◌++◌, map, Some, None, arith, refl, sym, ◌∙◌, ap, true≢false}
 use Rattle.std.specs.List.{Contains, enumerate_from, filter, flat_map}
 use Rattle.bdb_image.specs.of_format.declared.kinds.Order.{Order}
 use Rattle.bdb_image.specs.of_format.declared.metadata.FileKind.TheVariants.{Queue as QueueFile}

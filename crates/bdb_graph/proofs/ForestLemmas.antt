@@ -1,7 +1,6 @@
 -- In a file that linking accepts each page leads up, and no way has a page twice: the turns that a page takes fall on the way up.
 use Rattle.std.proofs.Common.{◌≡◌, ◌⊎◌, ℕ, zero, suc, ◌+◌, ◌<◌, ◌≤◌, Bool, true, false, not, ◌&&◌, ◌||◌, List, [], ◌∷◌, length, Option, Some, None, arith, refl}
-use Rattle.std.proofs.Common.{sym, ◌∙◌, ap, inl, inr, true≢false}
-use Rattle.std.specs.Prelude.{nat_lt, ◌==◌}
+use Rattle.std.proofs.Common.{sym, ◌∙◌, ap, inl, inr, true≢false, nat_lt, ◌==◌}
 use Rattle.std.specs.List.{Contains, list_all, range_with_len}
 use Rattle.std.proofs.lemmas.Bool.{cases_Bool, eqb-false, eq-eqb, ltb-false, or_parts, or_from}
 use Rattle.bdb_image.specs.of_format.Terms.{File, Owner, all_references, asked_by, faults_in, file_of, first_holder, fit_code, fit_rows, has_heads_alone}

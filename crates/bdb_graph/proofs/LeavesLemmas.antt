@@ -1,7 +1,6 @@
 -- In a file that linking accepts the leaves below a page have no page twice: a child has one holder, so two ways up from a page are one.
 use Rattle.std.proofs.Common.{◌≡◌, ◌⊎◌, ℕ, zero, suc, ◌+◌, ◌≤◌, Bool, true, false, cond, List, [], ◌∷◌, ◌++◌, map, length, Option, Some, None, arith, refl, sym}
-use Rattle.std.proofs.Common.{◌∙◌, ap, subst, inl, inr, length-append}
-use Rattle.std.specs.Prelude.{nat_lt, ◌==◌}
+use Rattle.std.proofs.Common.{◌∙◌, ap, subst, inl, inr, length-append, nat_lt, ◌==◌}
 use Rattle.std.specs.List.{Contains, filter, flat_map, range_with_len}
 use Rattle.std.proofs.lemmas.Bool.{cases_Bool, eqb-false, eq-eqb, ltb-false, or_parts}
 use Rattle.std.proofs.lemmas.List.Elements.{Contains-append_cases, filter-append}

@@ -1,7 +1,6 @@
 -- What the pages of a linked image are, and which pages its metadata names.
 use Rattle.std.proofs.Common.{◌≡◌, ◌⊎◌, ℕ, zero, suc, ◌+◌, ◌<◌, ◌≤◌, Bool, true, false, not, cond, List, [], ◌∷◌, length, map, arith, refl, sym, ◌∙◌, ap, subst}
-use Rattle.std.proofs.Common.{inl, inr}
-use Rattle.std.specs.Prelude.{Option, Some, None, ◌==◌, get_or, nat_lt}
+use Rattle.std.proofs.Common.{inl, inr, Option, Some, None, ◌==◌, get_or, nat_lt}
 use Rattle.std.specs.List.{Contains, enumerate_from, range_with_len}
 use Rattle.std.proofs.lemmas.Bool.{eqb-true, ltb-false, or_parts, true≢false}
 use Rattle.std.proofs.lemmas.List.Elements.{Contains-append_right, Contains-get_or}

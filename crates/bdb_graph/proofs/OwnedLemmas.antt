@@ -1,6 +1,5 @@
 -- How many owners pages have, as they are counted.
-use Rattle.std.proofs.Common.{◌≡◌, ◌∙◌, ℕ, ◌+◌, ◌^◌, ◌<◌, ◌≤◌, Bool, true, false, List, [], length, map, ap, arith, refl, sym, subst, inl, inr}
-use Rattle.std.specs.Prelude.{get_or, min}
+use Rattle.std.proofs.Common.{◌≡◌, ◌∙◌, ℕ, ◌+◌, ◌^◌, ◌<◌, ◌≤◌, Bool, true, false, List, [], length, map, ap, arith, refl, sym, subst, inl, inr, get_or, min}
 use Rattle.std.proofs.lemmas.List.{get_or-map}
 use Rattle.std.proofs.lemmas.Bool.{cases_eq}
 use Rattle.bdb_image.specs.of_format.Terms.{File, has_heads_alone, owners, ownership_faults, ownership_rows}

@@ -1,7 +1,6 @@
 -- When a page reaches: following the holders of first references.
 use Rattle.std.proofs.Common.{◌≡◌, ℕ, zero, suc, ◌≤◌, true, false, List, [], ◌∷◌, refl, sym, ◌∙◌, ap, subst, ◌+◌, ◌-◌, ◌<◌, ◌||◌, length, Option, Some, None}
-use Rattle.std.proofs.Common.{inl, inr, arith}
-use Rattle.std.specs.Prelude.{Some, None, ◌||◌, ◌==◌}
+use Rattle.std.proofs.Common.{inl, inr, arith, ◌==◌}
 use Rattle.std.specs.List.{Contains, AllByRecursion, IsDistinct, list_any}
 use Rattle.bdb_image.specs.of_format.Terms.{File, Owner, file_of, first_holder, if_some, owners, reaches, reaches_in, reference_faults}
 use Rattle.bdb_graph.specs.Forest.{is_top, AllDistinct, IsWayUp, NotIn}

@@ -1,7 +1,5 @@
 -- Metadata as it's read from its page, and that a master is a btree.
-use Rattle.std.proofs.Common.{◌≡◌, ℕ, ◌<◌, ◌≤◌, true, false, List, [], length, Some, None, arith, refl}
-use Rattle.std.proofs.Common.{sym, ◌∙◌, ap, subst, inl, inr}
-use Rattle.std.specs.List.{Contains}
+use Rattle.std.proofs.Common.{◌≡◌, ℕ, ◌<◌, ◌≤◌, true, false, List, [], length, Some, None, arith, refl, sym, ◌∙◌, ap, subst, inl, inr, Contains}
 use Rattle.std.proofs.lemmas.Bool.{cases_eq}
 use Rattle.bdb_image.specs.of_format.declared.kinds.Order.{Order}
 use Rattle.bdb_image.specs.of_format.declared.metadata.BtreeMeta.{BtreeMeta}

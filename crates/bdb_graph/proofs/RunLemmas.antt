@@ -1,12 +1,11 @@
 -- References to a run of pages: those that are full, or aren't there, are counted no more.
-use Rattle.std.proofs.Common.{◌≡◌, ℕ, zero, suc, ◌+◌, ◌-◌, ◌^◌, ◌<◌, ◌≤◌, ◌⊎◌, true, false, List, [], ◌∷◌, ◌++◌, length, map, ap, ◌∙◌, arith, refl, sym}
-use Rattle.std.proofs.Common.{subst, inl, inr, append-nil, append_assoc, length-append, get_or, zero-add}
+use Rattle.std.proofs.Common.{◌≡◌, ℕ, zero, suc, ◌+◌, ◌-◌, ◌^◌, ◌<◌, ◌≤◌, ◌⊎◌, true, false, List, [], ◌∷◌, ◌++◌, length, map, ap, ◌∙◌, arith, refl, sym, subst}
+use Rattle.std.proofs.Common.{inl, inr, append-nil, append_assoc, length-append, get_or, zero-add, min, nat_lt, ◌||◌, not, Option, None, Some}
 use Rattle.std.proofs.lemmas.List.{map-append}
 use Rattle.std.proofs.lemmas.List.FromFn.{get_or-range_with_len, length-range_with_len}
 use Rattle.std.proofs.lemmas.Bool.{and_left, and_parts, cases_Bool, eqb-true, ltb-true, not-true}
 use Rattle.std.proofs.lemmas.List.Folds.{list_all-append, list_any-append}
 use Rattle.std.proofs.Math.Bool.{or-false}
-use Rattle.std.specs.Prelude.{min, nat_lt, ◌||◌, not, Option, None, Some}
 use Rattle.std.specs.List.{filter, list_all, list_any, range_with_len}
 use Rattle.bdb_image.specs.of_format.declared.references.Sort.TheVariants.{Bucket}
 use Rattle.bdb_image.specs.of_format.Terms.{File, Owner, first_holder, first_page, is_head_reference}

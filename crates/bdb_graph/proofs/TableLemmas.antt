@@ -1,8 +1,7 @@
 -- The references of a table, group by group, and those of a page with them.
-use Rattle.std.proofs.Common.{◌≡◌, ℕ, ◌+◌, ◌≤◌, List, [], ◌++◌, map, ap, ◌∙◌, sym, subst, append-nil, append_assoc}
+use Rattle.std.proofs.Common.{◌≡◌, ℕ, ◌+◌, ◌≤◌, List, [], ◌++◌, map, ap, ◌∙◌, sym, subst, append-nil, append_assoc, Option}
 use Rattle.std.proofs.lemmas.List.{map-append}
 use Rattle.std.proofs.lemmas.List.Folds.{list_any-append}
-use Rattle.std.specs.Prelude.{Option}
 use Rattle.bdb_image.specs.of_format.declared.references.Reference.{Reference}
 use Rattle.bdb_image.specs.of_format.Terms.{File, Owner, fails_as, fit_code}
 use Rattle.bdb_image.specs.declared.buckets.Buckets.{Buckets}

@@ -1,6 +1,5 @@
 -- Pairs whose hash no other pair has repeat no key, and need not be kept.
-use Rattle.std.proofs.Common.{arith, ◌≡◌, ℕ, ◌+◌, Bool, true, false, not, ◌&&◌, ◌||◌, cond, List, [], ◌∷◌, ◌++◌, map, refl, sym, ◌∙◌, ap, subst}
-use Rattle.std.specs.Prelude.{nat_eq}
+use Rattle.std.proofs.Common.{arith, ◌≡◌, ℕ, ◌+◌, Bool, true, false, not, ◌&&◌, ◌||◌, cond, List, [], ◌∷◌, ◌++◌, map, refl, sym, ◌∙◌, ap, subst, nat_eq}
 use Rattle.std.specs.BTreeSet.{BTreeSet, IsEmpty}
 use Rattle.std.specs.List.{Contains, IsDistinct, filter, flat_map, range_with_len}
 use Rattle.std.specs.Str.{bytes_eq}

@@ -1,6 +1,5 @@
 -- Going through the data of a set that ought to ascend.
-use Rattle.std.proofs.Common.{arith}
-use Rattle.std.proofs.Common.{◌≡◌, ℕ, Bool, true, false, ◌&&◌, List, ◌∷◌, Option, Some, None, refl, sym, ◌∙◌, ap, subst}
+use Rattle.std.proofs.Common.{arith, ◌≡◌, ℕ, Bool, true, false, ◌&&◌, List, ◌∷◌, Option, Some, None, refl, sym, ◌∙◌, ap, subst}
 use Rattle.std.proofs.lemmas.List.Elements.{All-head}
 use Rattle.bdb_ranks.specs.of_format.Terms.{File, Item, ascends_from, value_of}
 use Rattle.bdb_ranks.specs.of_overflow.Datum.{FitsContent}

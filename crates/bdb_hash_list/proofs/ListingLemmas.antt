@@ -1,6 +1,5 @@
 -- A list that is gone through from entry to entry.
-use Rattle.std.proofs.Common.{◌≡◌, ℕ, List, [], ◌∷◌, ◌++◌, arith}
-use Rattle.std.specs.List.{flat_map}
+use Rattle.std.proofs.Common.{◌≡◌, ℕ, List, [], ◌∷◌, ◌++◌, arith, flat_map}
 use Rattle.bdb_buckets.specs.of_format.Terms.{BytesKey}
 use Rattle.bdb_buckets.specs.Told.{Told, entry_list, listed_told}
 

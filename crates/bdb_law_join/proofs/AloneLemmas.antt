@@ -1,7 +1,5 @@
 -- One part alone, under page 0.
-use Rattle.std.proofs.Common.{◌≡◌, ◌⊎◌, ℕ, zero, suc, ◌+◌, ◌≤◌, true, false, []}
-use Rattle.std.proofs.Common.{◌∷◌, None, arith, refl, sym, ◌∙◌, ap, subst, inl, inr}
-use Rattle.std.specs.List.{Contains}
+use Rattle.std.proofs.Common.{◌≡◌, ◌⊎◌, ℕ, zero, suc, ◌+◌, ◌≤◌, true, false, [], ◌∷◌, None, arith, refl, sym, ◌∙◌, ap, subst, inl, inr, Contains}
 use Rattle.std.proofs.lemmas.Bool.{cases_Bool, and_left, and_right}
 use Rattle.bdb_graph.specs.of_format.Terms.{File, Meta, Metadata, databases, file_of, first_judgement, is_meta, is_named_kind, master_faults, master_in}
 use Rattle.bdb_graph.specs.of_format.Terms.{master_pairs, master_rows, page_at, pairs_under}

@@ -1,7 +1,6 @@
 -- Parts whose metadata is written on pages of their own.
-use Rattle.std.proofs.Common.{◌≡◌, ℕ, ◌-◌, ◌<◌, ◌≤◌, true, List, [], ◌∷◌, ◌++◌, length, map, None, get_or}
-use Rattle.std.proofs.Common.{arith, append_assoc, refl, sym, ◌∙◌, ap, subst, inl, inr, length-append}
-use Rattle.std.specs.List.{Contains}
+use Rattle.std.proofs.Common.{◌≡◌, ℕ, ◌-◌, ◌<◌, ◌≤◌, true, List, [], ◌∷◌, ◌++◌, length, map, None, get_or, arith, append_assoc, refl, sym, ◌∙◌, ap, subst, inl}
+use Rattle.std.proofs.Common.{inr, length-append, Contains}
 use Rattle.std.proofs.lemmas.Bool.{cases_lt}
 use Rattle.std.proofs.lemmas.List.{append-nil, get_or_past, length-map, length-replicate}
 use Rattle.bdb_pack.proofs.ImageLemmas.{counted_so_far, page_so_far}

@@ -1,6 +1,5 @@
 -- Page 0 of a file whose form is sound.
-use Rattle.std.proofs.Common.{◌≡◌, ℕ, Bool, true, false, List, None, arith, refl, sym, ◌∙◌, ap, inl, inr}
-use Rattle.std.specs.Prelude.{◌&&◌, ◌||◌}
+use Rattle.std.proofs.Common.{◌≡◌, ℕ, Bool, true, false, List, None, arith, refl, sym, ◌∙◌, ap, inl, inr, ◌&&◌, ◌||◌}
 use Rattle.std.proofs.lemmas.Bool.{cases_Bool}
 use Rattle.bdb_graph.specs.of_format.declared.metadata.BtreeMeta.{BtreeMeta}
 use Rattle.bdb_graph.specs.of_format.declared.metadata.FileKind.{FileKind}

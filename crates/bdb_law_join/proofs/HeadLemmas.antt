@@ -1,7 +1,6 @@
 -- The head of an image whose page 0 is metadata of a kind, and the rows of such a page.
-use Rattle.std.proofs.Common.{◌≡◌, ℕ, zero, suc, ◌+◌, ◌*◌, ◌%◌, ◌<◌, ◌≤◌, ◌||◌, ◌&&◌}
-use Rattle.std.proofs.Common.{Bool, true, false, List, [], ◌∷◌, length, Option, None, Some, arith, refl, ◌∙◌, ap}
-use Rattle.std.specs.Prelude.{◌==◌, nat_le, nat_lt, not}
+use Rattle.std.proofs.Common.{◌≡◌, ℕ, zero, suc, ◌+◌, ◌*◌, ◌%◌, ◌<◌, ◌≤◌, ◌||◌, ◌&&◌, Bool, true, false, List, [], ◌∷◌, length, Option, None, Some, arith, refl}
+use Rattle.std.proofs.Common.{◌∙◌, ap, ◌==◌, nat_le, nat_lt, not}
 use Rattle.std.proofs.Math.Nat.{mul-div_cancel, mul-mod_left}
 use Rattle.std.proofs.lemmas.Bool.{and_right, eq-eqb, le-ltb, lt-leb, ne_eqb}
 use Rattle.bdb_graph.specs.of_format.declared.kinds.Order.{Order}

@@ -1,6 +1,5 @@
 -- Each page of joined parts reaches: the way up to an entrance goes on to its metadata page.
-use Rattle.std.proofs.Common.{◌≡◌, ℕ, ◌<◌, ◌≤◌, true, List, [], ◌∷◌, length, Some, arith, refl, sym, ◌∙◌, ap, subst, inl, inr}
-use Rattle.std.specs.List.{Contains}
+use Rattle.std.proofs.Common.{◌≡◌, ℕ, ◌<◌, ◌≤◌, true, List, [], ◌∷◌, length, Some, arith, refl, sym, ◌∙◌, ap, subst, inl, inr, Contains}
 use Rattle.std.proofs.lemmas.Bool.{or_left}
 use Rattle.bdb_graph.specs.of_format.Terms.{File, Owner, first_holder, is_anchor, is_reserve, owners, reaches}
 use Rattle.bdb_graph.proofs.of_format.GraphLemmas.{IsOwner, is_owner}

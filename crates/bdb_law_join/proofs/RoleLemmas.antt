@@ -1,7 +1,6 @@
 -- The owners and the role of each page of joined parts.
-use Rattle.std.proofs.Common.{◌≡◌, ◌⊎◌, ℕ, ◌≤◌, true, false, List, [], ◌∷◌, length, arith, refl, sym, ◌∙◌, ap, subst, inl, inr, true≢false}
-use Rattle.std.specs.Prelude.{◌==◌, ◌&&◌}
-use Rattle.std.specs.List.{Contains}
+use Rattle.std.proofs.Common.{◌≡◌, ◌⊎◌, ℕ, ◌≤◌, true, false, List, [], ◌∷◌, length, arith, refl, sym, ◌∙◌, ap, subst, inl, inr, true≢false, ◌==◌, ◌&&◌}
+use Rattle.std.proofs.Common.{Contains}
 use Rattle.std.proofs.lemmas.Bool.{eqb-false}
 use Rattle.bdb_graph.specs.of_format.declared.metadata.FileKind.{FileKind}
 use Rattle.bdb_graph.specs.of_format.declared.metadata.FileKind.TheVariants.{Btree, Hash as HashFile, Queue as QueueFile}

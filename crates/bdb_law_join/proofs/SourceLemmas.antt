@@ -1,6 +1,5 @@
 -- Where a reference of joined parts comes from, and that it fits.
-use Rattle.std.proofs.Common.{◌≡◌, ◌⊎◌, ℕ, ◌+◌, ◌≤◌, true, false, List, [], Option, Some, None, arith, refl, ◌∙◌, subst, inl, inr}
-use Rattle.std.specs.List.{Contains}
+use Rattle.std.proofs.Common.{◌≡◌, ◌⊎◌, ℕ, ◌+◌, ◌≤◌, true, false, List, [], Option, Some, None, arith, refl, ◌∙◌, subst, inl, inr, Contains}
 use Rattle.bdb_graph.specs.of_format.declared.references.Reference.{Reference}
 use Rattle.bdb_graph.specs.of_format.Terms.{File, Meta, Metadata, fails_as, first_row, fit_code, fit_rows, page_at, reference_faults, reference_rows, refs}
 use Rattle.bdb_graph.specs.of_format.Terms.{some_fails}

@@ -1,9 +1,7 @@
 -- Stages 6 and 8 of joined parts, and stages 1 and 2 of their image.
-use Rattle.std.proofs.Common.{◌≡◌, ℕ, zero, suc, ◌+◌, ◌<◌, ◌≤◌, Bool, true, false, ◌&&◌, List}
-use Rattle.std.proofs.Common.{[], ◌∷◌, map, None, arith, refl, sym, ◌∙◌, ap, subst, inl, inr, true≢false}
-use Rattle.std.specs.Prelude.{◌==◌}
+use Rattle.std.proofs.Common.{◌≡◌, ℕ, zero, suc, ◌+◌, ◌<◌, ◌≤◌, Bool, true, false, ◌&&◌, List, [], ◌∷◌, map, None, arith, refl, sym, ◌∙◌, ap, subst, inl, inr}
+use Rattle.std.proofs.Common.{true≢false, ◌==◌, option_to_list}
 use Rattle.std.specs.List.{Contains, filter, list_any, range_with_len}
-use Rattle.std.specs.Option.{option_to_list}
 use Rattle.std.proofs.lemmas.Bool.{and_right, or_parts, or_from}
 use Rattle.bdb_graph.specs.of_format.declared.metadata.Head.{Head}
 use Rattle.bdb_graph.specs.of_format.declared.references.Reference.{Reference}

@@ -1,7 +1,6 @@
 -- What a header that fits says.
 use Rattle.std.proofs.Common.{◌≡◌, ◌⊎◌, ℕ, ◌==◌, ◌&&◌, ◌||◌, if◌then◌else◌, Bool, true, false, not, List, [], ◌∷◌, ◌++◌, Option, Some, None, refl, sym, ◌∙◌, ap}
-use Rattle.std.proofs.Common.{subst, arith, inl, inr, ◌-◌, ◌*◌, ◌^◌, ◌<◌, ◌≤◌, length, drop, take, length-drop, lit<, ◌+◌}
-use Rattle.std.specs.Prelude.{codes, is_none, is_some, nat_le}
+use Rattle.std.proofs.Common.{subst, arith, inl, inr, ◌-◌, ◌*◌, ◌^◌, ◌<◌, ◌≤◌, length, drop, take, length-drop, lit<, ◌+◌, codes, is_none, is_some, nat_le}
 use Rattle.std.specs.List.{cons_option, fold, list_all, list_any}
 use Rattle.std.proofs.lemmas.Bool.Decides.{nat_tests}
 use Rattle.std.proofs.lemmas.Slice.Eq.{bytes_eq-Decides}

@@ -1,6 +1,5 @@
 -- What the references to roots and to buckets weigh, metadata does.
-use Rattle.std.proofs.Common.{◌≡◌, ◌≢◌, ℕ, ◌+◌, true, false, cond, List, arith, refl, sym, ◌∙◌, ap}
-use Rattle.std.specs.Prelude.{◌==◌}
+use Rattle.std.proofs.Common.{◌≡◌, ◌≢◌, ℕ, ◌+◌, true, false, cond, List, arith, refl, sym, ◌∙◌, ap, ◌==◌}
 use Rattle.std.specs.List.{range_with_len, sum_by}
 use Rattle.bdb_tree.specs.of_format.declared.metadata.FileKind.TheVariants.{Queue as QueueFile}
 use Rattle.bdb_tree.specs.of_format.declared.pages.RecnoItem.{RecnoItem}

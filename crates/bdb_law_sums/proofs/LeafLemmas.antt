@@ -1,8 +1,5 @@
 -- The types of leaves of databases and of sets off the page.
-use Rattle.std.proofs.Common.{◌≡◌, ℕ, zero, suc, ◌+◌, ◌≤◌, Bool, true, false, cond, List, [], ◌∷◌, arith, refl, ap, subst, inl}
-use Rattle.std.proofs.Common.{inr}
-use Rattle.std.specs.Prelude.{◌==◌, ◌&&◌, Some}
-use Rattle.std.specs.List.{Contains}
+use Rattle.std.proofs.Common.{◌≡◌, ℕ, zero, suc, ◌+◌, ◌≤◌, Bool, true, false, cond, List, [], ◌∷◌, arith, refl, ap, subst, inl, inr, ◌==◌, ◌&&◌, Some, Contains}
 use Rattle.std.proofs.lemmas.Bool.{eq-eqb}
 use Rattle.bdb_tree.specs.of_format.declared.metadata.BtreeMeta.{BtreeMeta}
 use Rattle.bdb_tree.specs.of_format.declared.references.Sort.{Sort}

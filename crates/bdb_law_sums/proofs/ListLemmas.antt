@@ -1,6 +1,5 @@
 -- Lists in the order of their keys hold what they held; a file of salvage follows pages as the file itself.
-use Rattle.std.proofs.Common.{◌≡◌, ℕ, ◌+◌, true, false, cond, List, [], ◌∷◌, arith, refl}
-use Rattle.std.specs.List.{sum_by}
+use Rattle.std.proofs.Common.{◌≡◌, ℕ, ◌+◌, true, false, cond, List, [], ◌∷◌, arith, refl, sum_by}
 use Rattle.std.proofs.lemmas.List.Sums.{sum_by-cons}
 use Rattle.bdb_tree.specs.of_format.Terms.{StoredPair, by_key, insert_pair, less}
 

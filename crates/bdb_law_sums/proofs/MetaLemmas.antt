@@ -1,9 +1,7 @@
 -- The metadata pages of a file are page 0 and those that its master names, each once.
-use Rattle.std.proofs.Common.{◌≡◌, ◌≢◌, ℕ, ◌+◌, ◌*◌, ◌≤◌, ◌^◌, Bool, true, false, cond, List, [], ◌∷◌, ◌++◌, map, length}
-use Rattle.std.proofs.Common.{add-one, arith, refl, sym, ◌∙◌, ap, inl, inr}
-use Rattle.std.specs.Prelude.{◌==◌, ◌&&◌, nat_lt, not, Option, Some, None}
+use Rattle.std.proofs.Common.{◌≡◌, ◌≢◌, ℕ, ◌+◌, ◌*◌, ◌≤◌, ◌^◌, Bool, true, false, cond, List, [], ◌∷◌, ◌++◌, map, length, add-one, arith, refl, sym, ◌∙◌, ap}
+use Rattle.std.proofs.Common.{inl, inr, ◌==◌, ◌&&◌, nat_lt, not, Option, Some, None, option_to_list}
 use Rattle.std.specs.List.{Contains, filter, flat_map, range_with_len, sum_by}
-use Rattle.std.specs.Option.{option_to_list}
 use Rattle.std.proofs.lemmas.Bool.{and_from, and_parts, cases_Bool, eq-eqb, eqb-false, lt-ltb, ltb-false, ltb-true, ne_eqb, not-false}
 use Rattle.std.proofs.lemmas.List.Sums.{length-filter, sum_by-cons}
 use Rattle.bdb_tree.specs.of_format.declared.metadata.Head.{Head}

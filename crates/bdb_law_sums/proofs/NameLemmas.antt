@@ -1,8 +1,6 @@
 -- Sums over what a page names.
-use Rattle.std.proofs.Common.{◌≡◌, ℕ, ◌+◌, true, false, cond, List, [], ◌∷◌, map, arith, refl, sym, ◌∙◌}
-use Rattle.std.specs.Prelude.{◌==◌}
+use Rattle.std.proofs.Common.{◌≡◌, ℕ, ◌+◌, true, false, cond, List, [], ◌∷◌, map, arith, refl, sym, ◌∙◌, ◌==◌, unwrap_or}
 use Rattle.std.specs.List.{enumerate_from, flat_map, range_with_len, sum_by}
-use Rattle.std.specs.Option.{unwrap_or}
 use Rattle.std.proofs.lemmas.List.Sums.{sum_by-cons, sum_by-append}
 use Rattle.bdb_tree.specs.of_format.declared.pages.RecnoItem.{RecnoItem}
 use Rattle.bdb_tree.specs.of_format.declared.references.Reference.{Reference}

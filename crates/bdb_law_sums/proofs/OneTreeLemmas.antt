@@ -1,6 +1,5 @@
 -- A leaf stands in one tree alone, and once there: what leaves weigh, where this one alone weighs 1.
-use Rattle.std.proofs.Common.{◌≡◌, ℕ, ◌+◌, Bool, true, false, cond, [], ◌∷◌, arith, refl, sym, ◌∙◌, ap, inl, inr}
-use Rattle.std.specs.Prelude.{◌==◌}
+use Rattle.std.proofs.Common.{◌≡◌, ℕ, ◌+◌, Bool, true, false, cond, [], ◌∷◌, arith, refl, sym, ◌∙◌, ap, inl, inr, ◌==◌}
 use Rattle.std.specs.List.{range_with_len, sum_by}
 use Rattle.std.proofs.lemmas.Bool.{cases_Bool, eqb-true, eqb-false, eq-eqb, ne_eqb}
 use Rattle.bdb_tree.specs.of_format.Terms.{File, file_of, has_type, page_at, type_in}

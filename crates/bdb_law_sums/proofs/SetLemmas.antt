@@ -1,6 +1,5 @@
 -- A set off the page is named by the data item of a pair.
-use Rattle.std.proofs.Common.{◌≡◌, ◌+◌, ◌*◌, sym, ◌∙◌, ap, inl, inr}
-use Rattle.std.specs.Prelude.{get_or, Some}
+use Rattle.std.proofs.Common.{◌≡◌, ◌+◌, ◌*◌, sym, ◌∙◌, ap, inl, inr, get_or, Some}
 use Rattle.bdb_tree.specs.of_format.declared.references.Sort.TheVariants.{DuplicateRoot, Root}
 use Rattle.bdb_tree.specs.of_format.Terms.{File, Page, file_of, is_root_reference, no_item, page_at}
 use Rattle.bdb_tree.proofs.of_format.ReferenceLemmas.{of_all}

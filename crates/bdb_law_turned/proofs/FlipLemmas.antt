@@ -1,8 +1,7 @@
 -- A whole image in the other order.
 use Rattle.std.proofs.Common.{◌≡◌, ◌∙◌, ◌⊎◌, inl, inr, ℕ, ◌+◌, ◌-◌, ◌*◌, ◌/◌, ◌%◌, ◌^◌, ◌<◌, ◌≤◌, List, [], ◌∷◌, map, length, drop, take, refl, sym, ap, arith}
-use Rattle.std.proofs.Common.{length-drop, mul-le-mul_right}
-use Rattle.std.specs.Prelude.{cond, not, nat_lt, nat_le, ◌||◌, ◌&&◌, ◌==◌, reverse, Bool, true, false, Some, None}
-use Rattle.std.specs.Option.{option_to_list}
+use Rattle.std.proofs.Common.{length-drop, mul-le-mul_right, cond, not, nat_lt, nat_le, ◌||◌, ◌&&◌, ◌==◌, reverse, Bool, true, false, Some, None}
+use Rattle.std.proofs.Common.{option_to_list}
 use Rattle.std.specs.List.{Contains, find, flat_map, range_with_len}
 use Rattle.std.proofs.lemmas.Bool.{cases_lt, eqb-true, not-false}
 use Rattle.bdb_graph.proofs.of_format.MemberLemmas.{in_range, member_cases, no_member, of_range}

@@ -1,6 +1,5 @@
 -- What a file keeps in an order.
-use Rattle.std.proofs.Common.{◌≡◌, ◌∙◌, ℕ, List, [], length, refl, sym, ap}
-use Rattle.std.specs.Prelude.{cond, true, false, None}
+use Rattle.std.proofs.Common.{◌≡◌, ◌∙◌, ℕ, List, [], length, refl, sym, ap, cond, true, false, None}
 use Rattle.bdb_graph.specs.of_format.declared.kinds.Order.{Order}
 use Rattle.bdb_graph.specs.of_format.declared.kinds.Order.TheVariants.{Big, Little}
 use Rattle.bdb_graph.specs.of_format.declared.metadata.Head.{Head}

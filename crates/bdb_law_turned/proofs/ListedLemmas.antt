@@ -1,7 +1,6 @@
 -- Pages with an index whose numbers are turned round.
 use Rattle.std.proofs.Common.{◌≡◌, ◌∙◌, ◌⊎◌, inl, inr, ℕ, ◌+◌, ◌*◌, ◌<◌, ◌≤◌, List, [], ◌∷◌, ◌++◌, map, length, get_or, refl, sym, ap, subst, arith}
-use Rattle.std.specs.Prelude.{slice_index, Bool, false}
-use Rattle.std.specs.Option.{option_map}
+use Rattle.std.proofs.Common.{slice_index, Bool, false, option_map}
 use Rattle.std.specs.List.{Contains, flat_map, list_any, range_with_len}
 use Rattle.std.proofs.lemmas.List.Elements.{Contains-append_cases, Contains-append_left, Contains-append_right}
 use Rattle.std.proofs.lemmas.List.FromFn.{get_or-map-range_with_len, length-map-range_with_len}

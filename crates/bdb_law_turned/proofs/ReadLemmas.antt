@@ -1,7 +1,6 @@
 -- What is read of bytes whose numbers are turned round.
 use Rattle.std.proofs.Common.{◌≡◌, ◌∙◌, ◌⊎◌, inl, inr, ℕ, ◌+◌, ◌-◌, ◌*◌, ◌<◌, ◌≤◌, List, [], ◌∷◌, length, take, drop, reverse, refl, sym, ap, arith}
-use Rattle.std.proofs.Common.{length-drop}
-use Rattle.std.specs.Prelude.{slice_range, true, false, map}
+use Rattle.std.proofs.Common.{length-drop, slice_range, true, false, map}
 use Rattle.std.specs.List.{Contains, range_with_len}
 use Rattle.std.proofs.lemmas.Bool.Decides.{nat_tests}
 use Rattle.bdb_graph.specs.of_format.Terms.{byte_at, is_zero, number, number_at, turned}

@@ -1,7 +1,5 @@
 -- What salvage reads of a sound file by next pages, pieces and items is what the file has.
-use Rattle.std.proofs.Common.{◌≡◌, ℕ, zero, suc, Bool, true, false, List, [], ◌∷◌, length, map, refl, ◌∙◌, ap}
-use Rattle.std.specs.Prelude.{◌==◌, ◌&&◌, not, if◌then◌else◌}
-use Rattle.std.specs.List.{flat_map}
+use Rattle.std.proofs.Common.{◌≡◌, ℕ, zero, suc, Bool, true, false, List, [], ◌∷◌, length, map, refl, ◌∙◌, ap, ◌==◌, ◌&&◌, not, if◌then◌else◌, flat_map}
 use Rattle.bdb_survey.specs.of_format.Terms.{Chain, Content, Inline, Item, NoType, Page, Set, Tree, Unknown, Zero, chain, chain_in, entries_in, file_of}
 use Rattle.bdb_survey.specs.of_format.Terms.{header_in, joined, next_of, page_at, piece_in, pieces_of}
 use Rattle.bdb_survey.proofs.of_format.ListLemmas.{flat_map_same}

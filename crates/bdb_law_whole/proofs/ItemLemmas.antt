@@ -1,7 +1,6 @@
 -- What an item of a leaf or a hash page holds is among what the page holds, a shared key's too; so each chain that it names is whole.
-use Rattle.std.proofs.Common.{◌≡◌, ℕ, zero, suc, ◌-◌, ◌<◌, ◌≤◌, true, false, List, [], ◌∷◌, length, arith, refl, sym, ◌∙◌, ap, subst, inl, inr}
-use Rattle.std.specs.Prelude.{◌==◌, ◌&&◌, ◌%◌, nat_le, slice_index, if◌then◌else◌}
-use Rattle.std.specs.List.{Contains}
+use Rattle.std.proofs.Common.{◌≡◌, ℕ, zero, suc, ◌-◌, ◌<◌, ◌≤◌, true, false, List, [], ◌∷◌, length, arith, refl, sym, ◌∙◌, ap, subst, inl, inr, ◌==◌, ◌&&◌, ◌%◌}
+use Rattle.std.proofs.Common.{nat_le, slice_index, if◌then◌else◌, Contains}
 use Rattle.std.proofs.lemmas.Bool.{and_parts, cases_Bool, eqb-true, leb-true}
 use Rattle.bdb_survey.specs.of_format.declared.kinds.Order.{Order}
 use Rattle.bdb_survey.specs.of_format.Terms.{Chain, Content, File, Inline, Item, Leaf, Listed, Page, Set, Tree, Unknown, contents_in, entries_of, file_of}

@@ -1,6 +1,5 @@
 -- The pages of a sound file are those that salvage reads; above the last page it reads none that hold something.
-use Rattle.std.proofs.Common.{◌≡◌, ◌⊎◌, ℕ, ◌+◌, ◌-◌, ◌/◌, ◌<◌, ◌≤◌, true, false, List, [], length, arith, sym, ◌∙◌, ap, subst, inl, inr}
-use Rattle.std.specs.Prelude.{◌==◌, Option, None}
+use Rattle.std.proofs.Common.{◌≡◌, ◌⊎◌, ℕ, ◌+◌, ◌-◌, ◌/◌, ◌<◌, ◌≤◌, true, false, List, [], length, arith, sym, ◌∙◌, ap, subst, inl, inr, ◌==◌, Option, None}
 use Rattle.std.proofs.lemmas.Bool.{cases_Bool, cases_lt, eqb-true, not-false}
 use Rattle.bdb_survey.specs.of_format.declared.kinds.Order.{Order}
 use Rattle.bdb_survey.specs.of_format.declared.metadata.FileKind.TheVariants.{Queue}

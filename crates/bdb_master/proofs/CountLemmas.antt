@@ -1,12 +1,10 @@
 -- How many pairs of a master name each page.
 use Rattle.std.proofs.lemmas.Bool.Decides.{nat_tests}
-use Rattle.std.proofs.Common.{◌≡◌, ℕ, ◌+◌, ◌<◌, ◌≤◌, Bool, cond, List, length, Option, Some, arith, sym, ◌∙◌, ap, subst}
-use Rattle.std.specs.Prelude.{get_or, min, take}
-use Rattle.std.specs.List.{flat_map, slice_get}
+use Rattle.std.proofs.Common.{◌≡◌, ℕ, ◌+◌, ◌<◌, ◌≤◌, Bool, cond, List, length, Option, Some, arith, sym, ◌∙◌, ap, subst, get_or, min, take, flat_map, slice_get}
+use Rattle.std.proofs.Common.{option_to_list}
 use Rattle.std.proofs.lemmas.List.{get_or_default, take_all}
 use Rattle.std.proofs.lemmas.List.Filters.{length-filter_more}
 use Rattle.bdb_format.specs.declared.kinds.Fault.{Fault}
-use Rattle.std.specs.Option.{option_to_list}
 use Rattle.bdb_master.specs.Entries.{AreCounts, NamedPair, count_fault, entries_naming, naming_fault, one_more as one_counted_more}
 use Rattle.bdb_format.specs.Terms.{File, is_page}
 use Rattle.bdb_btree.specs.of_faults.Notes.{Notes, NotesAll}

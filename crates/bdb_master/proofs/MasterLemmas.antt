@@ -1,9 +1,8 @@
 -- The faults of a master are those of its pairs and of the pages that they name.
 use Rattle.bdb_format.proofs.ListLemmas.{any_member, only_member, passes_here}
 use Rattle.std.proofs.lemmas.Bool.Decides.{nat_tests}
-use Rattle.std.proofs.Common.{◌≡◌, ◌⊎◌, ℕ, ◌+◌, ◌≤◌, Bool, true, List, [], ◌∷◌, ◌++◌, length, map, Option, Some, None, arith, refl, sym, ◌∙◌, ap}
-use Rattle.std.proofs.Common.{subst, inl, inr}
-use Rattle.std.specs.Prelude.{◌==◌, ◌&&◌, ◌||◌, nat_lt}
+use Rattle.std.proofs.Common.{◌≡◌, ◌⊎◌, ℕ, ◌+◌, ◌≤◌, Bool, true, List, [], ◌∷◌, ◌++◌, length, map, Option, Some, None, arith, refl, sym, ◌∙◌, ap, subst, inl}
+use Rattle.std.proofs.Common.{inr, ◌==◌, ◌&&◌, ◌||◌, nat_lt, option_to_list}
 use Rattle.std.specs.List.{Contains, filter, list_any}
 use Rattle.std.specs.Str.{bytes_eq}
 use Rattle.std.proofs.lemmas.Bool.{and_from, and_parts, eq-eqb, eqb-true}
@@ -18,7 +17,6 @@ use Rattle.bdb_btree.specs.of_image.Linked.{IsForest, meta_pages}
 use Rattle.bdb_btree.proofs.of_tree.ListedLemmas.{at_meta, meta_at}
 use Rattle.bdb_btree.proofs.of_tree.PairLemmas.{master_pair_inside}
 use Rattle.bdb_master.specs.Entries.{NamedPair, count_fault, entries_naming, entry_fault, fault_at, master_entries, named, naming_fault, repeat_fault}
-use Rattle.std.specs.Option.{option_to_list}
 use Rattle.bdb_master.specs.Entries.{all_noted, by_naming, by_repeat, by_target, key_of, target_fault}
 use Rattle.bdb_overflow.specs.Keys.{repeated_by}
 use Rattle.bdb_format.proofs.RepeatLemmas.{of_repeated, repeated_after, repeated_is}

@@ -1,18 +1,14 @@
 -- The keys that came before a pair of a master, and the faults of the pairs that repeat one.
-use Rattle.std.proofs.Common.{arith}
-use Rattle.std.proofs.Common.{◌≡◌, ℕ, Bool, true, false, not, cond, List, [], ◌∷◌, ◌++◌, refl, sym, ◌∙◌, ap, append_assoc, append-nil}
-use Rattle.std.specs.Prelude.{Some, None, ◌||◌}
+use Rattle.std.proofs.Common.{arith, ◌≡◌, ℕ, Bool, true, false, not, cond, List, [], ◌∷◌, ◌++◌, refl, sym, ◌∙◌, ap, append_assoc, append-nil, Some, None, ◌||◌}
+use Rattle.std.proofs.Common.{flat_map, nat_cmp, option_to_list}
 use Rattle.std.specs.BTreeSet.{BTreeSet, IsEmpty, Updates}
 use Rattle.std.specs.Cmp.Lexicographic.{slice_cmp}
-use Rattle.std.specs.List.{flat_map}
-use Rattle.std.specs.Ordering.{nat_cmp}
 use Rattle.std.specs.Str.{bytes_eq}
 use Rattle.std.proofs.lemmas.Map.Text.{is_eq-slice_cmp}
 use Rattle.bdb_format.specs.declared.kinds.Fault.{Fault}
 use Rattle.bdb_overflow.specs.Keys.{has_item, has_key, repeated_by}
 use Rattle.bdb_btree.specs.of_faults.Notes.{Notes, NotesAll}
 use Rattle.bdb_btree.proofs.of_faults.SinkLemmas.{notes_nothing, notes_one, notes_then}
-use Rattle.std.specs.Option.{option_to_list}
 use Rattle.bdb_btree.specs.Held.{ItemPair}
 use Rattle.bdb_master.specs.Entries.{NamedPair, by_repeat, entry_of, fault_at, key_of, live_entries, repeat_fault, repeat_of}
 use Rattle.bdb_master.specs.Names.{HasAdded}

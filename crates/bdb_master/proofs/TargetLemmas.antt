@@ -1,11 +1,8 @@
 -- Pages that aren't there are no metadata pages.
-use Rattle.std.proofs.Common.{◌≡◌, ℕ, ◌+◌, ◌<◌, false, List, length, arith, sym, ◌∙◌, ap, subst}
-use Rattle.std.specs.Prelude.{◌&&◌, nat_lt}
-use Rattle.std.specs.Prelude.{Option, get_or, take}
+use Rattle.std.proofs.Common.{◌≡◌, ℕ, ◌+◌, ◌<◌, false, List, length, arith, sym, ◌∙◌, ap, subst, ◌&&◌, nat_lt, Option, get_or, take, option_to_list}
 use Rattle.bdb_format.specs.declared.kinds.Fault.{Fault}
 use Rattle.bdb_btree.specs.of_faults.Notes.{Notes, NotesAll}
 use Rattle.bdb_btree.proofs.of_faults.SinkLemmas.{notes_next, notes_one}
-use Rattle.std.specs.Option.{option_to_list}
 use Rattle.bdb_master.specs.Entries.{NamedPair, by_target, entry_fault, target_fault}
 use Rattle.bdb_format.specs.Terms.{File, file_of, head_of, is_meta, is_named_kind}
 use Rattle.bdb_format.proofs.FileLemmas.{last_page, past_last}

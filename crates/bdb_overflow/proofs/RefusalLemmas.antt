@@ -1,6 +1,5 @@
 -- A refusal by the first fault tells that fault.
-use Rattle.std.proofs.Common.{◌≡◌, ◌∙◌, List, ap, subst, sym}
-use Rattle.std.specs.Prelude.{Some}
+use Rattle.std.proofs.Common.{◌≡◌, ◌∙◌, List, ap, subst, sym, Some}
 use Rattle.bdb_graph.specs.of_faults.Refusals.{IsFirstRefusal}
 use Rattle.bdb_graph.specs.of_faults.declared.refusals.FirstError.{FirstError}
 use Rattle.bdb_graph.specs.of_faults.declared.refusals.FirstError.TheVariants.{Fault as FirstFault}

@@ -1,7 +1,6 @@
 -- A whole chain, page by page: enough turns are enough, and what comes after a page is whole.
 use Rattle.std.proofs.Common.{◌≡◌, ◌⊎◌, ℕ, zero, suc, ◌+◌, ◌*◌, ◌/◌, ◌<◌, ◌≤◌, Bool, true, false, cond, List, [], ◌∷◌, map, length, take, drop, arith, refl}
-use Rattle.std.proofs.Common.{sym, ◌∙◌, ap, inl, inr, length-append, length-drop, length-take}
-use Rattle.std.specs.Prelude.{◌==◌}
+use Rattle.std.proofs.Common.{sym, ◌∙◌, ap, inl, inr, length-append, length-drop, length-take, ◌==◌}
 use Rattle.std.proofs.lemmas.Bool.{eq-eqb, ne_eqb}
 use Rattle.std.proofs.lemmas.List.{length-map, length-take-le}
 use Rattle.std.proofs.lemmas.List.Folds.{list_all_at}

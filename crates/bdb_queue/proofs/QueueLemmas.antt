@@ -1,7 +1,6 @@
 -- What the metadata of a queue keeps, and that its pages have room for their slots.
 use Rattle.std.proofs.lemmas.Bool.Decides.{nat_tests}
-use Rattle.std.proofs.Common.{◌≡◌, ℕ, ◌+◌, ◌-◌, ◌*◌, ◌<◌, ◌≤◌, true, false, List, length, drop, arith, sym, ◌∙◌, ap, subst, length-drop}
-use Rattle.std.specs.Prelude.{Some, None, ◌==◌}
+use Rattle.std.proofs.Common.{◌≡◌, ℕ, ◌+◌, ◌-◌, ◌*◌, ◌<◌, ◌≤◌, true, false, List, length, drop, arith, sym, ◌∙◌, ap, subst, length-drop, Some, None, ◌==◌}
 use Rattle.std.proofs.lemmas.Bool.{eqb-true, not-false, or_parts}
 use Rattle.std.proofs.Math.Nat.{div-mul-le_self}
 use Rattle.bdb_overflow.specs.of_form.Formed.{QueuePage}

@@ -1,8 +1,5 @@
 -- What is left of the pairs of a span.
-use Rattle.std.proofs.Common.{◌≡◌, ◌∙◌, ℕ, zero, suc, ◌-◌, ◌<◌, true, false, cond, List, [], ◌∷◌, ◌++◌, take}
-use Rattle.std.proofs.Common.{sym, ap, arith}
-use Rattle.std.specs.Prelude.{Option}
-use Rattle.std.specs.List.{flat_map}
+use Rattle.std.proofs.Common.{◌≡◌, ◌∙◌, ℕ, zero, suc, ◌-◌, ◌<◌, true, false, cond, List, [], ◌∷◌, ◌++◌, take, sym, ap, arith, Option, flat_map}
 use Rattle.bdb_btree.specs.of_format.Terms.{File, ListKey, StoredPair, listed_pair, pairs_of}
 use Rattle.bdb_btree.specs.Pairs.{left_of, pairs_left}
 use Rattle.bdb_btree.specs.Search.{entries_left}

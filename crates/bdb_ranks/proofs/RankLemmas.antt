@@ -1,12 +1,10 @@
 -- The ranks of chains by their values.
-use Rattle.std.proofs.Common.{◌≡◌, ◌⊎◌, ℕ, zero, suc, ◌+◌, ◌<◌, ◌≤◌, Bool, false, cond, List, length, get_or, Some, arith, refl, sym}
-use Rattle.std.proofs.Common.{◌∙◌, subst, Bor, le-ltb, lt-ltb}
-use Rattle.std.specs.Prelude.{nat_lt}
+use Rattle.std.proofs.Common.{◌≡◌, ◌⊎◌, ℕ, zero, suc, ◌+◌, ◌<◌, ◌≤◌, Bool, false, cond, List, length, get_or, Some, arith, refl, sym, ◌∙◌, subst, Bor, le-ltb}
+use Rattle.std.proofs.Common.{lt-ltb, nat_lt, is_lt, nat_cmp}
 use Rattle.std.specs.BTreeMap.{BTreeMap, Updates, get}
 use Rattle.std.specs.Cmp.{IsStrictWeakOrder}
 use Rattle.std.specs.Fn.{Called, ComparesAs, Mut}
 use Rattle.std.specs.List.Sorted.{IsPermutation, IsSortedBy}
-use Rattle.std.specs.Ordering.{is_lt, nat_cmp}
 use Rattle.std.specs.declared.cmp.Ordering.{Ordering}
 use Rattle.std.proofs.lemmas.Bool.{cases_eq, false_from_ne_true, ltb-false}
 use Rattle.std.proofs.lemmas.Fn.{always_returns_same}

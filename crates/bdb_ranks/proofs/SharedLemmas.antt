@@ -1,6 +1,5 @@
 -- Chains that several items may name.
-use Rattle.std.proofs.Common.{◌≡◌, ℕ, List, [], ◌∷◌, ◌++◌, subst, inl, inr}
-use Rattle.std.specs.List.{Contains}
+use Rattle.std.proofs.Common.{◌≡◌, ℕ, List, [], ◌∷◌, ◌++◌, subst, inl, inr, Contains}
 use Rattle.std.proofs.lemmas.List.Elements.{Contains-append_cases}
 use Rattle.bdb_tree.proofs.of_format.ListLemmas.{only_member}
 use Rattle.bdb_tree.proofs.of_format.MemberLemmas.{no_member}

@@ -4,11 +4,8 @@ use Rattle.bdb_tree.specs.of_format.Terms.{BtreeFields, File, Page, Row, btree_c
 use Rattle.bdb_tree.specs.of_format.Terms.{database_rows, file_of, has_wrong_count, has_wrong_record, header_in, inner_in, inner_pages, is_fixed, is_recno}
 use Rattle.bdb_tree.specs.of_format.Terms.{is_wrong_at, leaves, page_at, recno_contents, ◌:?◌}
 use Rattle.bdb_tree.proofs.of_format.ListLemmas.{only_member}
-use Rattle.std.proofs.Common.{◌≡◌, ◌⊎◌, ℕ, zero, suc, ◌+◌, ◌≤◌, Bool, true, false, cond, List, [], ◌∷◌, ◌++◌, arith, refl, sym, ◌∙◌, ap}
-use Rattle.std.proofs.Common.{subst, inl, inr}
-use Rattle.std.specs.Prelude.{◌&&◌}
-use Rattle.std.specs.List.{All, Contains, filter}
-use Rattle.std.specs.Option.{is_some}
+use Rattle.std.proofs.Common.{◌≡◌, ◌⊎◌, ℕ, zero, suc, ◌+◌, ◌≤◌, Bool, true, false, cond, List, [], ◌∷◌, ◌++◌, arith, refl, sym, ◌∙◌, ap, subst, inl, inr, ◌&&◌}
+use Rattle.std.proofs.Common.{All, Contains, filter, is_some}
 use Rattle.std.proofs.lemmas.List.Elements.{All-contains, Contains-append_cases, Contains-append_left, Contains-append_right}
 use Rattle.bdb_faults.specs.Notes.{NotesAll}
 use Rattle.bdb_faults.proofs.SinkLemmas.{notes_both, notes_same}

@@ -1,10 +1,8 @@
 -- The entries below the items of an internal page counted, and the internal pages whose counts are wrong noted.
 use Rattle.std.proofs.lemmas.Bool.Decides.{nat_tests}
 use Rattle.std.proofs.Common.{◌≡◌, ℕ, ◌+◌, ◌-◌, ◌^◌, ◌<◌, ◌≤◌, Bool, false, List, [], ◌∷◌, ◌++◌, length, length-append, map, not, arith, refl, sym, ◌∙◌}
-use Rattle.std.proofs.Common.{append-nil, append_assoc, ap, subst, inl, inr}
-use Rattle.std.specs.Prelude.{◌==◌, ◌||◌}
+use Rattle.std.proofs.Common.{append-nil, append_assoc, ap, subst, inl, inr, ◌==◌, ◌||◌, unwrap_or}
 use Rattle.std.specs.List.{All, Contains, flat_map, list_any}
-use Rattle.std.specs.Option.{unwrap_or}
 use Rattle.std.proofs.lemmas.List.Elements.{All-contains}
 use Rattle.std.proofs.Math.Bool.{or-false, or_assoc}
 use Rattle.bdb_faults.specs.Notes.{Notes, NotesAll}

@@ -1,6 +1,5 @@
 -- How many entries a recno has, and the list that they give.
-use Rattle.std.proofs.Common.{◌≡◌, ℕ, ◌+◌, ◌*◌, ◌^◌, ◌≤◌, ◌<◌, true, List, [], ◌∷◌, length, arith, refl, ap, length-append}
-use Rattle.std.specs.List.{Contains}
+use Rattle.std.proofs.Common.{◌≡◌, ℕ, ◌+◌, ◌*◌, ◌^◌, ◌≤◌, ◌<◌, true, List, [], ◌∷◌, length, arith, refl, ap, length-append, Contains}
 use Rattle.std.proofs.Math.Nat.{mul-le-mul_right}
 use Rattle.bdb_tree.specs.of_image.Linked.{IsForest}
 use Rattle.bdb_tree.proofs.of_image.FirstLemmas.{formed_accepted}

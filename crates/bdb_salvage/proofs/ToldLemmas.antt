@@ -1,6 +1,5 @@
 -- Page 0 of a sound file tells the order and the page size of the file.
-use Rattle.std.proofs.Common.{◌≡◌, ℕ, ◌≤◌, true, false, List, length, arith, refl, sym, ◌∙◌, ap, inl, inr, true≢false}
-use Rattle.std.specs.Prelude.{◌==◌, if◌then◌else◌, Option, Some, None}
+use Rattle.std.proofs.Common.{◌≡◌, ℕ, ◌≤◌, true, false, List, length, arith, refl, sym, ◌∙◌, ap, inl, inr, true≢false, ◌==◌, if◌then◌else◌, Option, Some, None}
 use Rattle.std.specs.Option.{option_or}
 use Rattle.std.proofs.lemmas.Bool.{cases_Bool, le-ltb, ltb-false, not-false, or_cases, or_parts}
 use Rattle.bdb_rescue.specs.of_format.declared.kinds.Order.{Order}

@@ -1,7 +1,6 @@
 -- Digits in a base.
 use Rattle.std.proofs.Common.{◌≡◌, ℕ, suc, ◌+◌, ◌-◌, ◌*◌, ◌^◌, ◌<◌, ◌≤◌, ◌&&◌, nat_le, if◌then◌else◌, Bool, true, false, List, [], ◌∷◌, length, drop, take}
-use Rattle.std.proofs.Common.{codes, not, length-drop, get_or, Some, None, is_some, refl, sym, ap, ◌∙◌, arith}
-use Rattle.std.specs.Prelude.{nat_lt}
+use Rattle.std.proofs.Common.{codes, not, length-drop, get_or, Some, None, is_some, refl, sym, ap, ◌∙◌, arith, nat_lt}
 use Rattle.std.specs.Str.{bytes_eq}
 use Rattle.std.specs.List.{fold, list_all}
 use Rattle.std.proofs.Math.Seq.{drop-cons}

@@ -1,7 +1,5 @@
 -- What a text begins with.
-use Rattle.std.proofs.Common.{◌≡◌, ◌≢◌, ℕ, Bool, true, List, [], ◌∷◌, length, ne_eqb, Option, Some, None}
-use Rattle.std.proofs.Common.{refl, sym, ap, ◌∙◌}
-use Rattle.std.specs.Prelude.{is_some}
+use Rattle.std.proofs.Common.{◌≡◌, ◌≢◌, ℕ, Bool, true, List, [], ◌∷◌, length, ne_eqb, Option, Some, None, refl, sym, ap, ◌∙◌, is_some}
 use Rattle.std.proofs.lemmas.List.{nil_from_length}
 use Rattle.bdb_text_format.specs.Terms.{byte_before, byte_of_digits, bytes_spelled, digit_value, digits_unit, escaped_unit, printed_unit}
 use Rattle.bdb_text_format.proofs.UnitLemmas.{read_empty}

@@ -1,9 +1,7 @@
 -- Reading a spelling a run at a time.
-use Rattle.std.proofs.Common.{min, length-take, length-drop, drop_of_length-le, nat_le, ◌≡◌, ◌≢◌, ℕ, zero, suc, ◌+◌, ◌-◌, ◌*◌, ◌<◌, ◌≤◌, ◌==◌}
-use Rattle.std.proofs.Common.{Bool, true, false, List, [], ◌∷◌, ◌++◌, length, take, drop, slice_index, slice_set, Option, Some, None, refl}
-use Rattle.std.proofs.Common.{sym, ap, ◌∙◌, arith, append_assoc}
-use Rattle.std.specs.Prelude.{is_some, ◌⊎◌}
-use Rattle.std.proofs.Common.{inl, inr}
+use Rattle.std.proofs.Common.{min, length-take, length-drop, drop_of_length-le, nat_le, ◌≡◌, ◌≢◌, ℕ, zero, suc, ◌+◌, ◌-◌, ◌*◌, ◌<◌, ◌≤◌, ◌==◌, Bool, true}
+use Rattle.std.proofs.Common.{false, List, [], ◌∷◌, ◌++◌, length, take, drop, slice_index, slice_set, Option, Some, None, refl, sym, ap, ◌∙◌, arith}
+use Rattle.std.proofs.Common.{append_assoc, is_some, ◌⊎◌, inl, inr}
 use Rattle.std.proofs.lemmas.List.{append-nil, drop_all, drop_more, take_all, take-append-drop, take_more_set}
 use Rattle.std.proofs.lemmas.Bool.{false_from_ne_true, leb-true, leb-false, or_from, or_parts}
 use Rattle.bdb_text_format.specs.Terms.{before, byte_before, byte_of_digits, bytes_spelled, digit_value, next_unit}

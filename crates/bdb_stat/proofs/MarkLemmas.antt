@@ -1,7 +1,6 @@
 -- The marks of places, by the bits of words.
 use Rattle.std.proofs.Common.{◌≡◌, ◌∙◌, ◌≢◌, bit_and, min, inl, inr, ℕ, ◌+◌, ◌-◌, ◌*◌, ◌/◌, ◌%◌, ◌^◌, ◌<◌, ◌≤◌, Bool, true, false, List, cond, length, get_or}
-use Rattle.std.proofs.Common.{refl, sym, ap, arith}
-use Rattle.std.specs.Prelude.{◌==◌, MatchOption, None, Option, Some, slice_index}
+use Rattle.std.proofs.Common.{refl, sym, ap, arith, ◌==◌, MatchOption, None, Option, Some, slice_index}
 use Rattle.std.specs.Int.{bit_at}
 use Rattle.std.proofs.lemmas.Bool.{cases_lt, eq-eqb, eqb-true}
 use Rattle.std.proofs.lemmas.List.{get_or_default}

@@ -1,6 +1,5 @@
 -- The pages of an image and their bytes.
-use Rattle.std.proofs.Common.{◌≡◌, ◌∙◌, ℕ, ◌<◌, ◌≤◌, true, false, List, length, sym, ap, subst, arith}
-use Rattle.std.specs.Prelude.{None}
+use Rattle.std.proofs.Common.{◌≡◌, ◌∙◌, ℕ, ◌<◌, ◌≤◌, true, false, List, length, sym, ap, subst, arith, None}
 use Rattle.bdb_law_turned.proofs.of_format.FileLemmas.{last_page, page_is, past_last}
 use Rattle.bdb_law_turned.proofs.of_format.GraphLemmas.{typed_page, zero_page}
 use Rattle.bdb_law_turned.specs.of_format.declared.metadata.Head.{Head}

@@ -1,7 +1,6 @@
 -- Places that lie in none of some ranges.
 use Rattle.std.proofs.Common.{◌≡◌, ◌∙◌, inl, inr, ℕ, suc, ◌+◌, ◌-◌, ◌<◌, ◌≤◌, Bool, true, false, List, [], ◌∷◌, length, length-append, refl, sym, ap, subst}
-use Rattle.std.proofs.Common.{arith}
-use Rattle.std.specs.Prelude.{cond, ◌&&◌, nat_le, nat_lt, not}
+use Rattle.std.proofs.Common.{arith, cond, ◌&&◌, nat_le, nat_lt, not}
 use Rattle.std.specs.List.{Contains, filter, list_any, range_with_len}
 use Rattle.std.proofs.lemmas.Bool.{cases_Bool, cases_lt}
 use Rattle.std.proofs.lemmas.Bool.Decides.{nat_tests}

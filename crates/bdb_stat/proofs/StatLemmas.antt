@@ -1,7 +1,6 @@
 -- The figures of the pages below a number.
 use Rattle.std.proofs.Common.{◌≡◌, ◌≢◌, ◌∙◌, ℕ, zero, suc, ◌+◌, ◌-◌, ◌*◌, ◌/◌, ◌^◌, ◌<◌, ◌≤◌, true, false, List, [], ◌∷◌, length, length-append, refl, sym, ap}
-use Rattle.std.proofs.Common.{subst, arith}
-use Rattle.std.specs.Prelude.{◌==◌, ◌||◌, cond, get_or, Bool, Option, Some, None, max, map, nat_lt, slice_index}
+use Rattle.std.proofs.Common.{subst, arith, ◌==◌, ◌||◌, cond, get_or, Bool, Option, Some, None, max, map, nat_lt, slice_index}
 use Rattle.std.specs.List.{filter, fold, list_any, range_with_len, sum_by}
 use Rattle.std.proofs.lemmas.Bool.{eqb-true}
 use Rattle.std.proofs.lemmas.Bool.Decides.{nat_tests}

@@ -1,6 +1,5 @@
 -- A page by its type.
-use Rattle.std.proofs.Common.{◌≡◌, ◌∙◌, ℕ, ◌+◌, ◌-◌, ◌≤◌, List, drop, length, length-drop, length-take, take, ap, arith, refl}
-use Rattle.std.specs.Prelude.{None, min}
+use Rattle.std.proofs.Common.{◌≡◌, ◌∙◌, ℕ, ◌+◌, ◌-◌, ◌≤◌, List, drop, length, length-drop, length-take, take, ap, arith, refl, None, min}
 use Rattle.std.proofs.lemmas.Bool.Decides.{nat_tests}
 use Rattle.bdb_law_turned.specs.of_format.declared.kinds.Order.{Order}
 use Rattle.bdb_law_turned.specs.of_format.declared.pages.PageType.{PageType}

@@ -1,9 +1,6 @@
 -- A whole chain of the pages that a guess reads is one of the image.
 use Rattle.std.proofs.Common.{◌≡◌, ℕ, zero, suc, ◌+◌, ◌-◌, ◌/◌, ◌<◌, ◌≤◌, Bool, true, false, cond, List, [], ◌∷◌, map, length, arith, refl, sym, ◌∙◌, ap, inl}
-use Rattle.std.proofs.Common.{inr}
-use Rattle.std.proofs.Common.{eqb-true}
-use Rattle.std.specs.Prelude.{◌==◌, ◌&&◌, not, nat_lt, Option, Some, None}
-use Rattle.std.proofs.Common.{ltb-false}
+use Rattle.std.proofs.Common.{inr, eqb-true, ◌==◌, ◌&&◌, not, nat_lt, Option, Some, None, ltb-false}
 use Rattle.std.proofs.lemmas.Bool.{and_parts}
 use Rattle.bdb_law_sums.specs.of_format.declared.kinds.Order.{Order}
 use Rattle.bdb_law_sums.specs.of_format.Terms.{File, Page, Zero, abstract_page, byte_at, chain_in, file_as, four_at, header_in, is_page_size, is_zero, next_of}

@@ -1,6 +1,5 @@
 -- The way down to the first leaf of a set, by what begins at each page.
-use Rattle.std.proofs.Common.{◌≡◌, ℕ, ◌+◌, ◌<◌, ◌≤◌, Bool, true, false, cond, [], ◌∷◌, refl, sym, ◌∙◌, ap, subst, inl, inr, ◌⊎◌}
-use Rattle.std.specs.Prelude.{Option, Some, None}
+use Rattle.std.proofs.Common.{◌≡◌, ℕ, ◌+◌, ◌<◌, ◌≤◌, Bool, true, false, cond, [], ◌∷◌, refl, sym, ◌∙◌, ap, subst, inl, inr, ◌⊎◌, Option, Some, None}
 use Rattle.bdb_law_sums.specs.of_format.Terms.{DupLeaf, File, Free, Hash, Internal, Leaf, Meta, NoType, Overflow, Page, Queue, RecnoInternal, RecnoLeaf, Zero}
 use Rattle.bdb_law_sums.specs.of_format.Terms.{children_in, page_at}
 use Rattle.bdb_survey.specs.declared.down.Way.{Way}

@@ -1,7 +1,6 @@
 -- Pages by the rows of form and of metadata.
-use Rattle.std.proofs.Common.{◌≡◌, ℕ, ◌≤◌, true, false, List, [], ◌∷◌, length, Option, None, Some, refl, sym, ◌∙◌, ap, subst, inl, inr}
-use Rattle.std.specs.Prelude.{not, Result, Ok, Err, is_err}
-use Rattle.std.specs.Option.{is_some}
+use Rattle.std.proofs.Common.{◌≡◌, ℕ, ◌≤◌, true, false, List, [], ◌∷◌, length, Option, None, Some, refl, sym, ◌∙◌, ap, subst, inl, inr, not, Result, Ok, Err}
+use Rattle.std.proofs.Common.{is_err, is_some}
 use Rattle.std.proofs.lemmas.Bool.{cases_Bool}
 use Rattle.bdb_law_sums.specs.of_format.declared.kinds.Order.{Order}
 use Rattle.bdb_law_sums.specs.of_format.declared.metadata.BtreeMeta.{BtreeMeta}

@@ -1,9 +1,7 @@
 -- The pages that a guess reads.
-use Rattle.std.proofs.Common.{◌≡◌, ℕ, ◌-◌, ◌*◌, ◌/◌, ◌^◌, ◌<◌, ◌≤◌, true, List, length, arith, refl, sym, ◌∙◌, ap}
-use Rattle.std.proofs.Common.{inl, inr}
-use Rattle.std.specs.Option.{is_some}
+use Rattle.std.proofs.Common.{◌≡◌, ℕ, ◌-◌, ◌*◌, ◌/◌, ◌^◌, ◌<◌, ◌≤◌, true, List, length, arith, refl, sym, ◌∙◌, ap, inl, inr, is_some, Option, Some, None}
+use Rattle.std.proofs.Common.{Result, Ok, Err}
 use Rattle.std.proofs.lemmas.Bool.{cases_lt}
-use Rattle.std.specs.Prelude.{Option, Some, None, Result, Ok, Err}
 use Rattle.std.proofs.Math.Nat.{div-le_of_le-mul}
 use Rattle.bdb_law_sums.specs.of_form.declared.view.PageView.{PageView}
 use Rattle.bdb_law_sums.specs.of_form.declared.view.PageView.TheVariants.{Zero as ZeroView, Free, Meta, Leaf, Internal, RecnoLeaf, RecnoInternal, DupLeaf, Hash}

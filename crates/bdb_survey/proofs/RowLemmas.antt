@@ -1,6 +1,5 @@
 -- The pages of a row that are left, one turn on.
-use Rattle.std.proofs.Common.{◌≡◌, ℕ, zero, suc, ◌-◌, Bool, true, false, cond, [], ◌∷◌, arith, refl, sym, ◌∙◌, ap}
-use Rattle.std.specs.Prelude.{◌==◌, Option, Some, None}
+use Rattle.std.proofs.Common.{◌≡◌, ℕ, zero, suc, ◌-◌, Bool, true, false, cond, [], ◌∷◌, arith, refl, sym, ◌∙◌, ap, ◌==◌, Option, Some, None}
 use Rattle.bdb_law_sums.specs.of_format.Terms.{File, chain_in, next_of}
 use Rattle.bdb_survey.specs.Rows.{leaves_from, unless_zero}
 use Rattle.bdb_law_sums.proofs.HashLemmas.{no_turn, turn_is}

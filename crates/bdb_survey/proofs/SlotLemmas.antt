@@ -1,6 +1,5 @@
 -- The item at a place.
-use Rattle.std.proofs.Common.{◌≡◌, ℕ, List, sym, ap}
-use Rattle.std.specs.Prelude.{slice_get, Some}
+use Rattle.std.proofs.Common.{◌≡◌, ℕ, List, sym, ap, slice_get, Some}
 use Rattle.std.proofs.lemmas.Option.{get_or_from_slice_get}
 use Rattle.bdb_law_sums.specs.of_format.Terms.{Item, no_item}
 use Rattle.bdb_survey.specs.Items.{slot_at}

@@ -1,7 +1,5 @@
 -- A page that names the one before it, and so on back to one that names 0, comes only once: the way back from a page is one.
-use Rattle.std.proofs.Common.{◌≡◌, ℕ, ◌≤◌, Bool, true, List, [], ◌∷◌, length, arith, refl, sym, ◌∙◌, subst, inl, inr}
-use Rattle.std.specs.Prelude.{◌==◌, ◌&&◌, not}
-use Rattle.std.specs.List.{Contains}
+use Rattle.std.proofs.Common.{◌≡◌, ℕ, ◌≤◌, Bool, true, List, [], ◌∷◌, length, arith, refl, sym, ◌∙◌, subst, inl, inr, ◌==◌, ◌&&◌, not, Contains}
 use Rattle.std.proofs.lemmas.Bool.{and_parts, eqb-true, eqb-false, not-true}
 use Rattle.bdb_law_sums.specs.of_format.Terms.{File, Page, header_in, next_of, page_at}
 use Rattle.bdb_law_sums.proofs.of_format.MemberLemmas.{first_member, later_member, member_cases, no_member}

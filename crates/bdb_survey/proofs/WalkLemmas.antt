@@ -1,7 +1,6 @@
 -- A walk along a row: what is left is whole where the page is a link and what comes after it is whole.
 use Rattle.std.proofs.Common.{◌≡◌, ℕ, zero, suc, ◌+◌, ◌-◌, ◌*◌, ◌<◌, ◌≤◌, Bool, true, false, cond, List, [], ◌∷◌, map, length, arith, refl, sym, ◌∙◌, ap}
-use Rattle.std.proofs.Common.{length-append}
-use Rattle.std.specs.Prelude.{◌==◌, ◌&&◌, not, Option, Some, None}
+use Rattle.std.proofs.Common.{length-append, ◌==◌, ◌&&◌, not, Option, Some, None}
 use Rattle.std.proofs.lemmas.Bool.{eq-eqb, ne_eqb}
 use Rattle.bdb_law_sums.specs.of_format.Terms.{File, Page, chain_in, joined, next_of, page_at, piece_in, pieces_of}
 use Rattle.bdb_survey.specs.declared.links.Extent.{Extent}

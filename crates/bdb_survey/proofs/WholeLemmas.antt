@@ -1,6 +1,5 @@
 -- A row is whole where it has a length.
-use Rattle.std.proofs.Common.{◌≡◌, ℕ, Bool, true, false, cond, length, refl, ◌∙◌, ap}
-use Rattle.std.specs.Prelude.{◌==◌, ◌&&◌, Some, None}
+use Rattle.std.proofs.Common.{◌≡◌, ℕ, Bool, true, false, cond, length, refl, ◌∙◌, ap, ◌==◌, ◌&&◌, Some, None}
 use Rattle.std.proofs.lemmas.Bool.{and_parts}
 use Rattle.bdb_law_sums.specs.of_format.Terms.{File, Page, chain, joined, pieces_of}
 use Rattle.bdb_survey.specs.declared.links.Extent.{Extent}

@@ -1,9 +1,7 @@
 -- Ranges that begin within others.
 use Rattle.std.proofs.Common.{◌≡◌, ◌∙◌, ◌⊎◌, inl, inr, ℕ, zero, suc, ◌+◌, ◌<◌, ◌≤◌, Bool, true, false, cond, List, [], ◌∷◌, ◌++◌, length, take, get_or, refl}
-use Rattle.std.proofs.Common.{sym, ap, subst, arith}
-use Rattle.std.specs.Prelude.{max, not, nat_lt, ◌&&◌, ◌==◌, Option, Some, None}
+use Rattle.std.proofs.Common.{sym, ap, subst, arith, max, not, nat_lt, ◌&&◌, ◌==◌, Option, Some, None, option_map, unwrap_or}
 use Rattle.std.specs.Cmp.{both_ways}
-use Rattle.std.specs.Option.{option_map, unwrap_or}
 use Rattle.std.specs.List.{Contains, find, fold, list_any, range_with_len}
 use Rattle.std.proofs.lemmas.Bool.{eqb-true, eq-eqb}
 use Rattle.std.proofs.lemmas.Bool.Decides.{nat_tests}

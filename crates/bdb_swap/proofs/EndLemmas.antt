@@ -1,7 +1,6 @@
 -- The ends of ranges at their places.
-use Rattle.std.proofs.Common.{◌≡◌, ◌∙◌, ℕ, ◌+◌, ◌<◌, ◌≤◌, Bool, true, false, cond, List, [], ◌∷◌, ◌++◌, length, get_or, set, refl, sym, ap, arith}
-use Rattle.std.specs.Prelude.{◌==◌, slice_index, Option, Some, None}
-use Rattle.std.specs.Option.{option_map, unwrap_or}
+use Rattle.std.proofs.Common.{◌≡◌, ◌∙◌, ℕ, ◌+◌, ◌<◌, ◌≤◌, Bool, true, false, cond, List, [], ◌∷◌, ◌++◌, length, get_or, set, refl, sym, ap, arith, ◌==◌}
+use Rattle.std.proofs.Common.{slice_index, Option, Some, None, option_map, unwrap_or}
 use Rattle.std.specs.List.{Contains, find, list_any, range_with_len}
 use Rattle.std.proofs.lemmas.Bool.{eqb-false, eqb-true}
 use Rattle.std.proofs.lemmas.List.{get_or-set_other, get_or-set_same, length-set}

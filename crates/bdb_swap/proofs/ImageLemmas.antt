@@ -1,7 +1,6 @@
 -- The pages of an image, one after another.
 use Rattle.std.proofs.Common.{◌≡◌, ◌∙◌, ◌⊎◌, inl, inr, ℕ, zero, suc, ◌+◌, ◌<◌, ◌≤◌, List, [], ◌∷◌, ◌++◌, length, take, drop, refl, sym, ap, subst, arith}
-use Rattle.std.proofs.Common.{append-nil, length-append, length-drop, length-take-le}
-use Rattle.std.specs.Prelude.{Bool, true, false, Some, None}
+use Rattle.std.proofs.Common.{append-nil, length-append, length-drop, length-take-le, Bool, true, false, Some, None}
 use Rattle.std.specs.List.{find, flat_map, range_with_len}
 use Rattle.std.proofs.lemmas.Bool.{cases_lt}
 use Rattle.std.proofs.lemmas.List.Concat.{flat_map-append}

@@ -1,8 +1,6 @@
 -- Numbers turned round one after another.
-use Rattle.std.proofs.Common.{◌≡◌, ◌∙◌, ◌⊎◌, inl, inr, ℕ, suc, ◌+◌, ◌-◌, ◌*◌, ◌<◌, ◌≤◌, List, [], ◌∷◌, ◌++◌, length, drop, take, reverse, refl, sym, ap}
-use Rattle.std.proofs.Common.{subst, arith, append-nil, append_assoc}
-use Rattle.std.specs.Prelude.{slice_range}
-use Rattle.std.specs.List.{Contains}
+use Rattle.std.proofs.Common.{◌≡◌, ◌∙◌, ◌⊎◌, inl, inr, ℕ, suc, ◌+◌, ◌-◌, ◌*◌, ◌<◌, ◌≤◌, List, [], ◌∷◌, ◌++◌, length, drop, take, reverse, refl, sym, ap, subst}
+use Rattle.std.proofs.Common.{arith, append-nil, append_assoc, slice_range, Contains}
 use Rattle.std.proofs.lemmas.List.{ext_get_or, get_or-drop, get_or-reverse, get_or-take, get_or_append_left, get_or-append_right, length-reverse}
 use Rattle.std.proofs.lemmas.List.{length-take-le}
 use Rattle.std.proofs.lemmas.List.Elements.{Contains-append_left, Contains-append_right, Contains-append_cases}

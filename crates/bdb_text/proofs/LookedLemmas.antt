@@ -1,7 +1,6 @@
 -- What the header of a written section gives.
 use Rattle.std.proofs.Common.{◌≡◌, ℕ, ◌^◌, ◌<◌, ◌==◌, ◌&&◌, ◌||◌, Bool, true, false, not, if◌then◌else◌, List, [], length, Option, Some, None, is_some, refl}
-use Rattle.std.proofs.Common.{sym, ap, ◌∙◌, codes, arith}
-use Rattle.std.specs.Prelude.{decimal, unwrap_or, nat_le}
+use Rattle.std.proofs.Common.{sym, ap, ◌∙◌, codes, arith, decimal, unwrap_or, nat_le}
 use Rattle.std.specs.List.{list_any}
 use Rattle.std.proofs.lemmas.Bool.{true≢false, eqb-true, and_parts, leb-true, leb-false, ne_eqb}
 use Rattle.bdb_spelling.specs.of_format.declared.kinds.Kind.{Kind}

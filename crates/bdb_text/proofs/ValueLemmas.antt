@@ -1,7 +1,6 @@
 -- Values that are written are read.
 use Rattle.std.proofs.Common.{◌≡◌, ℕ, ◌+◌, ◌-◌, ◌*◌, ◌/◌, ◌%◌, ◌^◌, ◌<◌, ◌==◌, ◌&&◌, Bool, true, false, if◌then◌else◌, List, [], ◌∷◌, length, map, Some, refl}
-use Rattle.std.proofs.Common.{ap, ◌∙◌, arith, All}
-use Rattle.std.specs.Prelude.{decimal, nat_le}
+use Rattle.std.proofs.Common.{ap, ◌∙◌, arith, All, decimal, nat_le}
 use Rattle.std.specs.List.{fold, list_all, flat_map}
 use Rattle.std.proofs.lemmas.Bool.{and_parts, and_from, le-leb, leb-true, or_from}
 use Rattle.std.proofs.lemmas.Str.Parse.{IsDigitsTest, IsNumeralModel, numerals_by_fold}

@@ -1,8 +1,7 @@
 -- What stands in a run stays where the run grows.
-use Rattle.std.proofs.Common.{◌≡◌, ℕ, ◌+◌, ◌-◌, ◌<◌, ◌≤◌, List, [], ◌∷◌, ◌++◌, Some, arith, ap, append-nil, append_assoc, drop, get_or, get_or-drop, inl, inr, length, length-drop}
-use Rattle.std.proofs.Common.{subst, sym, take, ◌∙◌}
+use Rattle.std.proofs.Common.{◌≡◌, ℕ, ◌+◌, ◌-◌, ◌<◌, ◌≤◌, List, [], ◌∷◌, ◌++◌, Some, arith, ap, append-nil, append_assoc, drop, get_or, get_or-drop, inl, inr}
+use Rattle.std.proofs.Common.{length, length-drop, subst, sym, take, ◌∙◌, nat_cmp}
 use Rattle.std.specs.BTreeMap.{BTreeMap, Updates}
-use Rattle.std.specs.Ordering.{nat_cmp}
 use Rattle.std.proofs.lemmas.Bool.{cases_eq}
 use Rattle.std.proofs.lemmas.List.{get_or_append_left, map-append, take_more}
 use Rattle.std.proofs.lemmas.Option.{same_Some}

@@ -1,7 +1,6 @@
 -- Pairs at places of a run stay when the run grows.
 use Rattle.std.proofs.Common.{◌≡◌, ℕ, ◌≤◌, ◌<◌, ◌+◌, ◌-◌, List, Option, None, Some, option_map, slice_get, [], ◌∷◌, ◌++◌, get_or, length, take, drop, map}
-use Rattle.std.proofs.Common.{arith, refl, ap, sym, ◌∙◌, subst, length-append, length-drop, append_assoc}
-use Rattle.std.specs.List.{fold}
+use Rattle.std.proofs.Common.{arith, refl, ap, sym, ◌∙◌, subst, length-append, length-drop, append_assoc, fold}
 use Rattle.std.proofs.lemmas.List.{length-map, map-append, take-append-drop, take-append-le, drop-append-le, take_all, take_more}
 use Rattle.std.proofs.lemmas.List.Sums.{fold-append}
 use Rattle.std.proofs.lemmas.Option.{get_or_from_slice_get, none-some, same_Some, slice_get_within}

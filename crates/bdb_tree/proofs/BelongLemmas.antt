@@ -1,8 +1,6 @@
 -- Each leaf page of a linked file is a leaf of a tree: the holders of its first references lead up to a root.
-use Rattle.std.proofs.Common.{◌≡◌, ◌⊎◌, ℕ, zero, suc, ◌≤◌, Bool, true, false, ◌&&◌, ◌||◌, List, [], ◌∷◌, Option, Some, None, arith, refl, sym, ◌∙◌}
-use Rattle.std.proofs.Common.{ap, subst, inl, inr, true≢false}
-use Rattle.std.specs.Prelude.{◌==◌}
-use Rattle.std.specs.List.{Contains}
+use Rattle.std.proofs.Common.{◌≡◌, ◌⊎◌, ℕ, zero, suc, ◌≤◌, Bool, true, false, ◌&&◌, ◌||◌, List, [], ◌∷◌, Option, Some, None, arith, refl, sym, ◌∙◌, ap, subst}
+use Rattle.std.proofs.Common.{inl, inr, true≢false, ◌==◌, Contains}
 use Rattle.std.proofs.lemmas.Bool.{cases_Bool, not-false, or_from}
 use Rattle.bdb_overflow.specs.of_format.declared.kinds.Order.{Order}
 use Rattle.bdb_overflow.specs.of_format.declared.metadata.FileKind.{FileKind}

@@ -1,10 +1,8 @@
 -- Search by halves on an internal page, and the way from a page down to the child that is chosen.
-use Rattle.std.proofs.Common.{◌≡◌, ℕ, zero, suc, ◌+◌, ◌-◌, ◌<◌, ◌≤◌, Bool, true, false, cond, List, [], ◌∷◌, length, map, get_or, arith, refl, sym}
-use Rattle.std.proofs.Common.{◌∙◌, ap, subst, inl, inr}
-use Rattle.std.specs.Prelude.{Some, not, slice_get}
+use Rattle.std.proofs.Common.{◌≡◌, ℕ, zero, suc, ◌+◌, ◌-◌, ◌<◌, ◌≤◌, Bool, true, false, cond, List, [], ◌∷◌, length, map, get_or, arith, refl, sym, ◌∙◌, ap}
+use Rattle.std.proofs.Common.{subst, inl, inr, Some, not, slice_get, is_some, unwrap_or}
 use Rattle.std.specs.List.{Contains, filter, flat_map, last_or}
 use Rattle.std.proofs.lemmas.Option.{get_or_from_slice_get}
-use Rattle.std.specs.Option.{is_some, unwrap_or}
 use Rattle.std.proofs.lemmas.List.Elements.{Contains-append_cases, Contains-append_left, Contains-append_right}
 use Rattle.bdb_overflow.specs.of_image.Linked.{IsForest}
 use Rattle.bdb_overflow.specs.of_slots.Slots.{no_internal_item}

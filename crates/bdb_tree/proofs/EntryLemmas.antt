@@ -1,10 +1,8 @@
 -- The entries of leaves, leaf by leaf, and the data of a set off the page.
-use Rattle.std.proofs.Common.{◌≡◌, ℕ, ◌≤◌, true, List, [], ◌∷◌, ◌++◌, refl, sym, ◌∙◌, ap, subst, arith}
+use Rattle.std.proofs.Common.{◌≡◌, ℕ, ◌≤◌, true, List, [], ◌∷◌, ◌++◌, refl, sym, ◌∙◌, ap, subst, arith, get_or, Contains, flat_map}
 use Rattle.std.proofs.lemmas.List.{map-append}
 use Rattle.std.proofs.lemmas.List.Elements.{All-append, All-head, All-nil, All-rest, All-tail, Contains-get_or, filter-append}
 use Rattle.std.proofs.lemmas.Option.{slice_get-get_or}
-use Rattle.std.specs.Prelude.{get_or}
-use Rattle.std.specs.List.{Contains, flat_map}
 use Rattle.bdb_overflow.specs.of_format.Terms.{DupLeaf, File, Item, Page, RecnoLeaf, Tree, data_of, entries_in, file_of, leaves, live_values, page_at}
 use Rattle.bdb_overflow.specs.of_format.Terms.{tree_entries}
 use Rattle.bdb_overflow.specs.of_image.Linked.{IsForest}

@@ -1,7 +1,6 @@
 -- The internal pages at or below a page: the page itself and those at or below its children, and the faults of all of them.
 use Rattle.std.proofs.Common.{◌≡◌, ℕ, zero, suc, ◌+◌, ◌-◌, ◌≤◌, ◌⊎◌, Bool, List, [], ◌∷◌, ◌++◌, map, arith, refl, sym, ◌∙◌, ap, subst, inl, inr, Some, None}
-use Rattle.std.specs.List.{Contains, filter, flat_map}
-use Rattle.std.specs.Option.{is_some, unwrap_or}
+use Rattle.std.proofs.Common.{Contains, filter, flat_map, is_some, unwrap_or}
 use Rattle.std.proofs.lemmas.List.Elements.{Contains-append_cases, Contains-append_left, Contains-append_right}
 use Rattle.bdb_faults.specs.Notes.{AreSame, NotesAll}
 use Rattle.bdb_faults.proofs.SinkLemmas.{notes_same}

@@ -1,9 +1,6 @@
 -- The leaves of a tree, level by level: the pages of one level stand for the leaves below them, and so do their children.
-use Rattle.std.proofs.Common.{◌≡◌, ℕ, ◌+◌, ◌<◌, ◌≤◌, List, [], ◌∷◌, ◌++◌, map, arith, refl, sym, ◌∙◌, ap, subst, append_assoc}
-use Rattle.std.proofs.Common.{append-nil, inl, inr}
-use Rattle.std.specs.Prelude.{Option, Some, None}
-use Rattle.std.specs.List.{All, Contains, flat_map}
-use Rattle.std.specs.Option.{unwrap_or}
+use Rattle.std.proofs.Common.{◌≡◌, ℕ, ◌+◌, ◌<◌, ◌≤◌, List, [], ◌∷◌, ◌++◌, map, arith, refl, sym, ◌∙◌, ap, subst, append_assoc, append-nil, inl, inr, Option}
+use Rattle.std.proofs.Common.{Some, None, All, Contains, flat_map, unwrap_or}
 use Rattle.std.proofs.lemmas.List.Elements.{All-contains}
 use Rattle.bdb_overflow.specs.of_form.declared.view.PageView.{PageView}
 use Rattle.bdb_overflow.specs.of_form.Seen.{header_seen, page_seen}

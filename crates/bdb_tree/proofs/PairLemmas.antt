@@ -1,6 +1,5 @@
 -- The pairs of a tree, and of a master, stand on pages of the file.
-use Rattle.std.proofs.Common.{◌≡◌, ℕ, ◌≤◌, List, [], Some, None, arith, refl, sym, ap, inl}
-use Rattle.std.specs.List.{Contains}
+use Rattle.std.proofs.Common.{◌≡◌, ℕ, ◌≤◌, List, [], Some, None, arith, refl, sym, ap, inl, Contains}
 use Rattle.bdb_overflow.specs.of_format.declared.metadata.BtreeMeta.{BtreeMeta}
 use Rattle.bdb_overflow.specs.of_format.Terms.{BtreeFields, File, Hash, Leaf, Page, StoredPair, file_of, head_of, leaves, master_in, master_pairs, page_at}
 use Rattle.bdb_overflow.specs.of_format.Terms.{pairs_in, pairs_of, pairs_under, tree_pairs}

@@ -1,7 +1,6 @@
 -- The roots that a page names: by metadata, and by data of pairs that are sets off the page.
-use Rattle.std.proofs.Common.{◌≡◌, ◌⊎◌, ℕ, ◌+◌, ◌*◌, ◌/◌, ◌%◌, ◌<◌, ◌≤◌, true, false, List, [], ◌∷◌, length, map, get_or, arith, refl, sym, ◌∙◌}
-use Rattle.std.proofs.Common.{ap, subst, inl, inr, Contains, true≢false}
-use Rattle.std.specs.Prelude.{Option, Some, None, IfSome, not}
+use Rattle.std.proofs.Common.{◌≡◌, ◌⊎◌, ℕ, ◌+◌, ◌*◌, ◌/◌, ◌%◌, ◌<◌, ◌≤◌, true, false, List, [], ◌∷◌, length, map, get_or, arith, refl, sym, ◌∙◌, ap, subst, inl}
+use Rattle.std.proofs.Common.{inr, Contains, true≢false, Option, Some, None, IfSome, not}
 use Rattle.std.specs.List.{Contains, enumerate_from, flat_map, list_any, range_with_len}
 use Rattle.std.proofs.lemmas.List.{get_or-map, length-map}
 use Rattle.std.proofs.lemmas.List.Elements.{Contains-append_cases}

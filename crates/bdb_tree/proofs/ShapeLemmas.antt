@@ -1,7 +1,6 @@
 -- What a page of a formed image is, by its type: form has looked at its level and its items.
-use Rattle.std.proofs.Common.{◌≡◌, ◌⊎◌, ℕ, ◌<◌, ◌≤◌, Bool, true, false, cond, List, [], ◌∷◌, length, map, arith, refl, sym, ◌∙◌, ap, subst, inl, inr}
-use Rattle.std.proofs.Common.{Contains}
-use Rattle.std.specs.Prelude.{Some, None, ◌%◌, get_or, ◌==◌, ◌||◌, not}
+use Rattle.std.proofs.Common.{◌≡◌, ◌⊎◌, ℕ, ◌<◌, ◌≤◌, Bool, true, false, cond, List, [], ◌∷◌, length, map, arith, refl, sym, ◌∙◌, ap, subst, inl, inr, Contains}
+use Rattle.std.proofs.Common.{Some, None, ◌%◌, get_or, ◌==◌, ◌||◌, not}
 use Rattle.std.proofs.lemmas.Bool.{and_parts, cases_Bool, eqb-false, eqb-true, ltb-false, not-false, true≢false}
 use Rattle.bdb_overflow.specs.of_format.declared.metadata.FileKind.TheVariants.{Queue as QueueFile}
 use Rattle.bdb_overflow.specs.of_format.declared.metadata.Head.{Head}

@@ -1,9 +1,7 @@
 -- The way of a descent, page by page.
-use Rattle.std.proofs.Common.{◌≡◌, ℕ, zero, suc, ◌+◌, ◌<◌, ◌≤◌, Bool, true, List, [], ◌∷◌, length, map, arith, refl, sym, ◌∙◌, ap, subst}
-use Rattle.std.proofs.Common.{inl, inr}
-use Rattle.std.specs.Prelude.{Option, Some, None, not}
+use Rattle.std.proofs.Common.{◌≡◌, ℕ, zero, suc, ◌+◌, ◌<◌, ◌≤◌, Bool, true, List, [], ◌∷◌, length, map, arith, refl, sym, ◌∙◌, ap, subst, inl, inr, Option}
+use Rattle.std.proofs.Common.{Some, None, not, unwrap_or}
 use Rattle.std.specs.List.{Contains, filter, last_or}
-use Rattle.std.specs.Option.{unwrap_or}
 use Rattle.bdb_overflow.specs.of_slots.Slots.{no_internal_item}
 use Rattle.bdb_overflow.specs.of_image.Linked.{FitsLeafPage, IsForest}
 use Rattle.bdb_overflow.specs.of_format.Terms.{File, Internal, InternalItem, Listed, Page, child_types, children_in, file_of, has_type, page_at, type_in}

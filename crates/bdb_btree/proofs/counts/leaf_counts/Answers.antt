@@ -1,5 +1,4 @@
-use Rattle.std.proofs.Common.{◌∙◌, ap, sym}
-use Rattle.std.specs.List.{fold}
+use Rattle.std.proofs.Common.{◌∙◌, ap, sym, fold}
 use Rattle.bdb_ranks.specs.of_format.Terms.{file_of, pairs_of}
 use Rattle.bdb_btree.specs.Counts.{count_pair, counts_of}
 use Rattle.bdb_btree.proofs.CountLemmas.{leaf_counted}

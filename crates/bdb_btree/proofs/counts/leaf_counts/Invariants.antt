@@ -1,5 +1,4 @@
-use Rattle.std.proofs.Common.{◌≡◌}
-use Rattle.std.specs.List.{fold}
+use Rattle.std.proofs.Common.{◌≡◌, fold}
 use Rattle.bdb_ranks.specs.of_format.Terms.{file_of, tree_pairs}
 use Rattle.bdb_btree.specs.Counts.{count_pair, counts_of}
 use Rattle.bdb_btree.proofs.counts.leaf_counts.Given as goal

@@ -1,5 +1,4 @@
-use Rattle.std.proofs.Common.{◌≡◌, ◌∙◌, List, ℕ, ap, map, refl, subst, sym}
-use Rattle.std.specs.List.{fold}
+use Rattle.std.proofs.Common.{◌≡◌, ◌∙◌, List, ℕ, ap, map, refl, subst, sym, fold}
 use Rattle.bdb_ranks.specs.of_format.Terms.{File, file_of}
 use Rattle.bdb_ranks.specs.of_image.Linked.{IsForest}
 use Rattle.bdb_ranks.specs.of_overflow.Held.{FitsHeld}

@@ -1,5 +1,4 @@
-use Rattle.std.proofs.Common.{◌≡◌, map}
-use Rattle.std.specs.List.{fold}
+use Rattle.std.proofs.Common.{◌≡◌, map, fold}
 use Rattle.bdb_ranks.specs.of_format.Terms.{file_of, tree_pairs}
 use Rattle.bdb_btree.specs.Bounds.{ends_of, widen_by}
 use Rattle.bdb_btree.specs.Held.{AreKeyed, FitsEnds, ends_seen, stored_as}

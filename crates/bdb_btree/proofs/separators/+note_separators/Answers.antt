@@ -1,5 +1,4 @@
-use Rattle.std.proofs.Common.{◌≡◌, ◌∙◌, ◌<◌, List, ℕ, arith, cond, refl, rules, subst, sym}
-use Rattle.std.specs.Prelude.{◌==◌}
+use Rattle.std.proofs.Common.{◌≡◌, ◌∙◌, ◌<◌, List, ℕ, arith, cond, refl, rules, subst, sym, ◌==◌}
 use Rattle.bdb_faults.specs.Notes.{NotesAll}
 use Rattle.bdb_ranks.specs.of_format.declared.rows.ContentsRow.TheVariants.{Separator}
 use Rattle.bdb_ranks.specs.of_format.Terms.{File, Internal, file_of, has_wrong_separator, inner_pages, page_at, tree_pairs, value_of}

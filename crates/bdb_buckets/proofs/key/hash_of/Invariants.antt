@@ -1,5 +1,4 @@
-use Rattle.std.proofs.Common.{◌≡◌}
-use Rattle.std.specs.List.{fold}
+use Rattle.std.proofs.Common.{◌≡◌, fold}
 use Rattle.bdb_tree.specs.of_overflow.Datum.{datum_seen}
 use Rattle.bdb_tree.specs.of_format.Terms.{hash5, hash_step, joined}
 use Rattle.bdb_buckets.proofs.key.hash_of.Given as goal

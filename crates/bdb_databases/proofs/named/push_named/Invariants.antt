@@ -1,6 +1,4 @@
-use Rattle.std.proofs.Common.{◌≡◌, ◌++◌}
-use Rattle.std.specs.Prelude.{take}
-use Rattle.std.specs.List.{flat_map}
+use Rattle.std.proofs.Common.{◌≡◌, ◌++◌, take, flat_map}
 use Rattle.bdb_recno.specs.of_format.Terms.{file_of}
 use Rattle.bdb_databases.specs.Named.{entry_database}
 use Rattle.bdb_databases.proofs.named.push_named.Given as goal

@@ -1,5 +1,4 @@
-use Rattle.std.proofs.Common.{◌≡◌, [], ◌∷◌, subst}
-use Rattle.std.specs.Prelude.{IfOk}
+use Rattle.std.proofs.Common.{◌≡◌, [], ◌∷◌, subst, IfOk}
 use Rattle.bdb_image.proofs.of_faults.AscendLemmas.{faults_ascend}
 use Rattle.bdb_image.proofs.of_faults.SinkLemmas.{all_noted}
 use Rattle.bdb_image.specs.of_format.Terms.{faults_in, file_of}

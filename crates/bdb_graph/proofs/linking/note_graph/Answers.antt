@@ -1,5 +1,4 @@
-use Rattle.std.proofs.Common.{◌≡◌, ◌∙◌, [], ◌∷◌, List, ℕ, ◌+◌, refl, subst, sym, rules}
-use Rattle.std.specs.Prelude.{true, false}
+use Rattle.std.proofs.Common.{◌≡◌, ◌∙◌, [], ◌∷◌, List, ℕ, ◌+◌, refl, subst, sym, rules, true, false}
 use Rattle.bdb_image.specs.of_faults.Notes.{NotesAll}
 use Rattle.bdb_image.specs.of_format.Terms.{faults_in, file_of, reference_faults}
 use Rattle.bdb_graph.specs.Owned.{AreCounts, AreFew}

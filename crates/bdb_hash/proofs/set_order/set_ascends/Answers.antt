@@ -1,5 +1,4 @@
-use Rattle.std.proofs.Common.{◌≡◌, ◌∙◌, List, ℕ, ap, refl, subst, sym}
-use Rattle.std.specs.Option.{option_map}
+use Rattle.std.proofs.Common.{◌≡◌, ◌∙◌, List, ℕ, ap, refl, subst, sym, option_map}
 use Rattle.bdb_ranks.specs.of_format.Terms.{File, ascends, file_of, tree_entries}
 use Rattle.bdb_ranks.specs.of_layout.Seen.{leaf_item_seen}
 use Rattle.bdb_ranks.specs.of_overflow.Held.{FitsHeld, value_held}

@@ -1,5 +1,4 @@
-use Rattle.std.proofs.Common.{◌≡◌}
-use Rattle.std.specs.Option.{option_map}
+use Rattle.std.proofs.Common.{◌≡◌, option_map}
 use Rattle.bdb_ranks.specs.of_format.Terms.{Tree, ascends, data_of, file_of}
 use Rattle.bdb_ranks.specs.of_overflow.Held.{FitsAny, value_held}
 use Rattle.bdb_ranks.specs.of_tree.Entries.{AreFit, values_of}

@@ -1,5 +1,4 @@
-use Rattle.std.proofs.Common.{◌≡◌}
-use Rattle.std.specs.List.{filter}
+use Rattle.std.proofs.Common.{◌≡◌, filter}
 use Rattle.bdb_buckets.specs.Chained.{AreAllOf}
 use Rattle.bdb_hash.specs.Passed.{IsNoting, is_kept}
 use Rattle.bdb_buckets.specs.Told.{joined_pages}

@@ -1,5 +1,4 @@
-use Rattle.std.proofs.Common.{◌++◌, length}
-use Rattle.std.specs.List.{flat_map}
+use Rattle.std.proofs.Common.{◌++◌, length, flat_map}
 use Rattle.bdb_hash_list.specs.Scanned.{IsListedOn}
 use Rattle.bdb_buckets.specs.of_overflow.Datum.{datum_seen}
 use Rattle.bdb_buckets.specs.Told.{entry_list, listed_told}

@@ -1,5 +1,4 @@
-use Rattle.std.proofs.Common.{◌≡◌}
-use Rattle.std.specs.List.{find}
+use Rattle.std.proofs.Common.{◌≡◌, find}
 use Rattle.bdb_buckets.specs.Told.{has_key}
 use Rattle.bdb_hash_list.proofs.lookup.find_on.Given as goal
 

@@ -1,9 +1,7 @@
-use Rattle.std.proofs.Common.{◌+◌, arith}
-use Rattle.std.specs.Option.{option_map}
+use Rattle.std.proofs.Common.{◌+◌, arith, option_map, option_to_list}
 use Rattle.bdb_format.specs.Terms.{fault_seen, file_of}
 use Rattle.bdb_btree.specs.of_image.Linked.{meta_pages}
 use Rattle.bdb_btree.proofs.of_faults.SinkLemmas.{notes_none}
-use Rattle.std.specs.Option.{option_to_list}
 use Rattle.bdb_master.specs.Entries.{naming_fault}
 use Rattle.bdb_master.proofs.CountLemmas.{count_read, naming_more}
 use Rattle.bdb_btree.proofs.of_tree.ListedLemmas.{no_more}

@@ -1,5 +1,4 @@
-use Rattle.std.proofs.Common.{List, ℕ, sym, ◌∙◌, ap, subst}
-use Rattle.std.specs.Option.{option_to_list}
+use Rattle.std.proofs.Common.{List, ℕ, sym, ◌∙◌, ap, subst, option_to_list}
 use Rattle.bdb_btree.specs.Held.{AreKeyed, pair_held}
 use Rattle.bdb_btree.proofs.HeldLemmas.{first_keyed, rest_keyed}
 use Rattle.bdb_btree.specs.of_faults.Notes.{Notes}

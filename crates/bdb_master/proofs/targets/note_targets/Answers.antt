@@ -1,6 +1,5 @@
-use Rattle.std.proofs.Common.{arith, subst}
+use Rattle.std.proofs.Common.{arith, subst, option_map}
 use Rattle.std.proofs.lemmas.List.{take_all}
-use Rattle.std.specs.Option.{option_map}
 use Rattle.bdb_format.specs.Terms.{fault_seen, file_of}
 use Rattle.bdb_btree.specs.of_faults.Notes.{NotesAll}
 use Rattle.bdb_btree.proofs.of_faults.SinkLemmas.{notes_none}

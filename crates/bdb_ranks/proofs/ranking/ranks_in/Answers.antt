@@ -1,7 +1,5 @@
-use Rattle.std.proofs.Common.{◌≡◌, ◌<◌, cond, length, arith, sym, ◌∙◌, ap, subst}
-use Rattle.std.specs.Prelude.{Some}
+use Rattle.std.proofs.Common.{◌≡◌, ◌<◌, cond, length, arith, sym, ◌∙◌, ap, subst, Some, nat_cmp}
 use Rattle.std.specs.BTreeMap.{Updates}
-use Rattle.std.specs.Ordering.{nat_cmp}
 use Rattle.std.proofs.lemmas.List.{get_or_default}
 use Rattle.bdb_ranks.specs.Ranks.{is_above, no_chain}
 use Rattle.bdb_ranks.proofs.RankLemmas.{ranked_on}

@@ -1,5 +1,4 @@
-use Rattle.std.proofs.Common.{◌∙◌, ◌<◌, arith, rules, subst, sym}
-use Rattle.std.specs.List.{Contains}
+use Rattle.std.proofs.Common.{◌∙◌, ◌<◌, arith, rules, subst, sym, Contains}
 use Rattle.bdb_tree.specs.of_format.Terms.{File, file_of}
 use Rattle.bdb_tree.proofs.of_format.MemberLemmas.{first_member}
 use Rattle.bdb_recno.specs.Pages.{IsRecnoPage}

@@ -1,6 +1,5 @@
-use Rattle.std.proofs.Common.{◌∙◌, [], ap, arith}
+use Rattle.std.proofs.Common.{◌∙◌, [], ap, arith, option_map}
 use Rattle.std.specs.List.{cons_option}
-use Rattle.std.specs.Option.{option_map}
 use Rattle.bdb_tree.specs.of_layout.Seen.{leaf_item_seen}
 use Rattle.bdb_tree.specs.of_format.Terms.{file_of}
 use Rattle.bdb_tree.specs.of_overflow.Datum.{datum_seen}

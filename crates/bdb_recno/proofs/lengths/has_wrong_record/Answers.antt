@@ -1,5 +1,4 @@
-use Rattle.std.proofs.Common.{◌≡◌, ◌∙◌, ap, subst, sym, Bool}
-use Rattle.std.specs.Prelude.{◌||◌}
+use Rattle.std.proofs.Common.{◌≡◌, ◌∙◌, ap, subst, sym, Bool, ◌||◌}
 use Rattle.std.specs.List.{list_any}
 use Rattle.bdb_tree.specs.of_layout.Seen.{leaf_item_seen}
 use Rattle.bdb_tree.specs.of_format.Terms.{File, Item, RecnoLeaf, file_of, has_wrong_record, is_wrong_record}

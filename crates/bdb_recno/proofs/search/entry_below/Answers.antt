@@ -1,5 +1,4 @@
-use Rattle.std.proofs.Common.{◌∙◌, ap, arith}
-use Rattle.std.specs.Option.{option_map}
+use Rattle.std.proofs.Common.{◌∙◌, ap, arith, option_map}
 use Rattle.bdb_tree.specs.of_layout.Seen.{leaf_item_seen}
 use Rattle.bdb_recno.proofs.SearchLemmas.{way_down, way_ends}
 use Rattle.bdb_recno.proofs.search.entry_below.Goals as goal

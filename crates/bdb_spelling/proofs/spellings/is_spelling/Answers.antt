@@ -1,5 +1,4 @@
-use Rattle.std.proofs.Common.{sym, ap, ◌∙◌}
-use Rattle.std.specs.Prelude.{is_some}
+use Rattle.std.proofs.Common.{sym, ap, ◌∙◌, is_some}
 use Rattle.std.proofs.lemmas.Bool.{eqb-true}
 use Rattle.bdb_spelling.proofs.ReadingLemmas.{is_some-empty}
 use Rattle.bdb_spelling.proofs.RunLemmas.{is_some-behind}

@@ -1,5 +1,4 @@
-use Rattle.std.proofs.Common.{◌≡◌, cond, sym, ◌∙◌, ap, arith, subst}
-use Rattle.std.specs.Prelude.{◌==◌, true, false, Some, None}
+use Rattle.std.proofs.Common.{◌≡◌, cond, sym, ◌∙◌, ap, arith, subst, ◌==◌, true, false, Some, None}
 use Rattle.std.proofs.lemmas.Bool.{eq-eqb, ne_eqb}
 use Rattle.bdb_law_sums.specs.of_format.Terms.{File, pieces_of}
 use Rattle.bdb_survey.specs.Links.{extent_of}

@@ -1,5 +1,4 @@
-use Rattle.std.proofs.Common.{◌≡◌, map, drop, sym, ◌∙◌, ap}
-use Rattle.std.specs.Prelude.{Some}
+use Rattle.std.proofs.Common.{◌≡◌, map, drop, sym, ◌∙◌, ap, Some}
 use Rattle.bdb_law_sums.specs.of_format.declared.pages.Header.{Header}
 use Rattle.bdb_law_sums.specs.of_format.Terms.{Internal, InternalItem, RecnoInternal, page_at}
 use Rattle.bdb_law_sums.specs.of_format.declared.pages.RecnoItem.{RecnoItem}

@@ -1,5 +1,4 @@
-use Rattle.std.proofs.Common.{◌≡◌, ◌+◌, ◌<◌, sym, ◌∙◌, ap, arith, subst}
-use Rattle.std.specs.Prelude.{Some}
+use Rattle.std.proofs.Common.{◌≡◌, ◌+◌, ◌<◌, sym, ◌∙◌, ap, arith, subst, Some}
 use Rattle.bdb_survey.specs.Links.{is_of_kind}
 use Rattle.bdb_survey.proofs.WalkLemmas.{IsAt, at_end, at_first, at_last, at_next, at_none}
 use Rattle.bdb_survey.proofs.links.row_extent.Goals as goal

@@ -1,5 +1,4 @@
-use Rattle.std.proofs.Common.{◌∙◌, ap, sym}
-use Rattle.std.specs.Prelude.{is_err}
+use Rattle.std.proofs.Common.{◌∙◌, ap, sym, is_err}
 use Rattle.bdb_law_sums.specs.of_format.Terms.{form_row_code}
 use Rattle.bdb_law_sums.specs.of_image.Metas.{meta_in}
 use Rattle.bdb_survey.proofs.MetaLemmas.{tree_given, tree_refused, with_meta}

@@ -1,5 +1,4 @@
-use Rattle.std.proofs.Common.{◌≡◌, ◌∙◌, ◌≤◌, List, ℕ, ◌++◌, ap, arith, false, length, subst, sym}
-use Rattle.std.specs.Prelude.{None}
+use Rattle.std.proofs.Common.{◌≡◌, ◌∙◌, ◌≤◌, List, ℕ, ◌++◌, ap, arith, false, length, subst, sym, None}
 use Rattle.bdb_io.specs.of_format.Terms.{form_code, is_page_size, is_zero}
 use Rattle.bdb_law_turned.proofs.of_image.FormedLemmas.{accepted_paged}
 use Rattle.bdb_swap.proofs.ImageLemmas.{all_turned, joined_long, none_more, overlap_found, page_bounds, pages_more, taken_whole}

@@ -1,5 +1,4 @@
-use Rattle.std.proofs.Common.{◌≡◌, ◌∙◌, ℕ, ◌+◌, ◌<◌, ap, arith, cond, length, refl, subst, sym}
-use Rattle.std.specs.Prelude.{min}
+use Rattle.std.proofs.Common.{◌≡◌, ◌∙◌, ℕ, ◌+◌, ◌<◌, ap, arith, cond, length, refl, subst, sym, min}
 use Rattle.std.proofs.lemmas.List.{length-set}
 use Rattle.bdb_io.specs.of_format.Terms.{entries_of, offset_of}
 use Rattle.bdb_swap.specs.Crossing.{AreEnds}

@@ -1,5 +1,4 @@
-use Rattle.std.proofs.Common.{◌≡◌, rules}
-use Rattle.std.specs.Prelude.{Err}
+use Rattle.std.proofs.Common.{◌≡◌, rules, Err}
 use Rattle.bdb_text.proofs.data_lines.read_key.Goals as goal
 
 pub returns-in_err-span-clause-err : goal.returns-in_err-span-clause-err

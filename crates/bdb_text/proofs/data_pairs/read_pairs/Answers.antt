@@ -1,5 +1,4 @@
-use Rattle.std.proofs.Common.{rules, List, ℕ, ◌+◌, true, false, length, length-append, sym, ap, ◌∙◌, ◌≡◌, arith}
-use Rattle.std.specs.Prelude.{Err, is_ok}
+use Rattle.std.proofs.Common.{rules, List, ℕ, ◌+◌, true, false, length, length-append, sym, ap, ◌∙◌, ◌≡◌, arith, Err, is_ok}
 use Rattle.std.proofs.lemmas.Bool.{eqb-true}
 use Rattle.std.specs.Str.{bytes_eq}
 use Rattle.bdb_spelling.specs.of_text_format.Terms.{is_data_end, placed_pairs, text_lines}

@@ -1,5 +1,4 @@
-use Rattle.std.proofs.Common.{◌≡◌, ◌+◌, refl, rules}
-use Rattle.std.specs.Prelude.{Err}
+use Rattle.std.proofs.Common.{◌≡◌, ◌+◌, refl, rules, Err}
 use Rattle.bdb_text.specs.Fields.{values_in}
 use Rattle.bdb_text.specs.DataTo.{IsDataFault}
 use Rattle.bdb_text.specs.ReadTo.{IsHeaderFault}

@@ -1,5 +1,4 @@
-use Rattle.std.proofs.Common.{◌≡◌, ◌++◌, take}
-use Rattle.std.specs.Prelude.{map}
+use Rattle.std.proofs.Common.{◌≡◌, ◌++◌, take, map}
 use Rattle.bdb_text.specs.Headers.{row_seen, rows_text}
 use Rattle.bdb_text.proofs.header.push_rows.Given as goal
 

@@ -1,5 +1,4 @@
-use Rattle.std.proofs.Common.{◌∙◌, ap, arith}
-use Rattle.std.specs.List.{flat_map}
+use Rattle.std.proofs.Common.{◌∙◌, ap, arith, flat_map}
 use Rattle.bdb_overflow.specs.of_format.Terms.{file_of, leaves}
 use Rattle.bdb_tree.specs.Trees.{children_at}
 use Rattle.bdb_tree.proofs.LevelLemmas.{last_level, next_is_level}

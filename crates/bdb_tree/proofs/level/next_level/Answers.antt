@@ -1,6 +1,5 @@
-use Rattle.std.proofs.Common.{◌≡◌, ◌+◌, arith, take}
+use Rattle.std.proofs.Common.{◌≡◌, ◌+◌, arith, take, flat_map}
 use Rattle.std.proofs.lemmas.Grind.{common_steps}
-use Rattle.std.specs.List.{flat_map}
 use Rattle.bdb_overflow.specs.of_format.Terms.{file_of}
 use Rattle.bdb_tree.specs.Trees.{children_at}
 use Rattle.bdb_tree.proofs.LevelLemmas.{children_are_trees}

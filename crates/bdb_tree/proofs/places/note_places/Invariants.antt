@@ -1,5 +1,4 @@
-use Rattle.std.proofs.Common.{take}
-use Rattle.std.specs.List.{flat_map}
+use Rattle.std.proofs.Common.{take, flat_map}
 use Rattle.bdb_faults.specs.Notes.{NotesAll}
 use Rattle.bdb_overflow.specs.of_format.Terms.{file_of, places_from}
 use Rattle.bdb_tree.specs.Noted.{place_faults}

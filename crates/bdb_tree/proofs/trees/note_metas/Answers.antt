@@ -1,5 +1,4 @@
-use Rattle.std.proofs.Common.{◌≡◌, ◌∙◌, List, ℕ, ap, arith, subst, sym}
-use Rattle.std.specs.Prelude.{IfSome, Option}
+use Rattle.std.proofs.Common.{◌≡◌, ◌∙◌, List, ℕ, ap, arith, subst, sym, IfSome, Option}
 use Rattle.bdb_faults.specs.Notes.{NotesAll}
 use Rattle.bdb_overflow.specs.of_format.declared.references.Sort.TheVariants.{Root}
 use Rattle.bdb_overflow.specs.of_format.Terms.{File, file_of, page_at}

@@ -1,5 +1,4 @@
-use Rattle.std.proofs.Common.{subst, sym}
-use Rattle.std.specs.Prelude.{OnOk}
+use Rattle.std.proofs.Common.{subst, sym, OnOk}
 use Rattle.bdb_faults.specs.Notes.{NotesAll}
 use Rattle.bdb_overflow.specs.of_format.Terms.{file_of}
 use Rattle.bdb_tree.specs.Noted.{root_faults}

@@ -1,5 +1,4 @@
-use Rattle.std.proofs.Common.{◌≡◌}
-use Rattle.std.specs.List.{fold}
+use Rattle.std.proofs.Common.{◌≡◌, fold}
 use Rattle.bdb_ranks.specs.of_format.Terms.{Tree, data_of, file_of}
 use Rattle.bdb_ranks.specs.of_overflow.Held.{FitsAny}
 use Rattle.bdb_ranks.specs.of_tree.Entries.{AreFit, values_of}

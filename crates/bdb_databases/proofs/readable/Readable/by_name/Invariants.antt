@@ -1,5 +1,4 @@
-use Rattle.std.proofs.Common.{◌≡◌, drop}
-use Rattle.std.specs.Prelude.{option_copied}
+use Rattle.std.proofs.Common.{◌≡◌, drop, option_copied}
 use Rattle.bdb_recno.specs.of_format.Terms.{databases, file_of, place_from, place_of}
 use Rattle.bdb_databases.proofs.readable.Readable.by_name.Given as goal
 

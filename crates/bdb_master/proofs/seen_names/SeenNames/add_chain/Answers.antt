@@ -1,5 +1,4 @@
-use Rattle.std.proofs.Common.{◌≡◌, true, not, ap, subst, sym, ◌∙◌}
-use Rattle.std.specs.Prelude.{◌||◌}
+use Rattle.std.proofs.Common.{◌≡◌, true, not, ap, subst, sym, ◌∙◌, ◌||◌}
 use Rattle.bdb_master.proofs.RepeatLemmas.{added_again}
 use Rattle.bdb_format.specs.Terms.{file_of}
 use Rattle.bdb_format.proofs.LessLemmas.{eq_self}

@@ -1,5 +1,4 @@
-use Rattle.std.proofs.Common.{◌≡◌, ◌∙◌, List, ℕ, ap, subst, sym}
-use Rattle.std.specs.Prelude.{option_copied}
+use Rattle.std.proofs.Common.{◌≡◌, ◌∙◌, List, ℕ, ap, subst, sym, option_copied}
 use Rattle.bdb_graph.specs.of_format.Terms.{file_of, less}
 use Rattle.bdb_overflow.specs.Held.{chain_value}
 use Rattle.bdb_overflow.proofs.HeldLemmas.{found_more}

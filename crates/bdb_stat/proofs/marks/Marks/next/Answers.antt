@@ -1,5 +1,4 @@
-use Rattle.std.proofs.Common.{◌∙◌, ◌*◌, ◌+◌, ◌/◌, ap, arith, length, subst}
-use Rattle.std.specs.Prelude.{MatchOption}
+use Rattle.std.proofs.Common.{◌∙◌, ◌*◌, ◌+◌, ◌/◌, ap, arith, length, subst, MatchOption}
 use Rattle.bdb_stat.specs.Starts.{IsNext, NoStart}
 use Rattle.bdb_stat.specs.Marked.{marks_of}
 use Rattle.bdb_stat.proofs.MarkLemmas.{marks_long, next_behind, next_of_word, none_behind, none_of_word}

@@ -1,6 +1,4 @@
-use Rattle.std.specs.Prelude.{◌≡◌, ◌-◌, ◌/◌, ◌<◌, length}
-use Rattle.std.proofs.Common.{arith, sym, ◌∙◌, ap}
-use Rattle.std.specs.Option.{is_some}
+use Rattle.std.proofs.Common.{◌≡◌, ◌-◌, ◌/◌, ◌<◌, length, arith, sym, ◌∙◌, ap, is_some}
 use Rattle.bdb_law_sums.specs.of_format.Terms.{abstract_page, page_code}
 use Rattle.bdb_law_sums.specs.of_image.Metas.{meta_in}
 use Rattle.bdb_survey.specs.Salvage.{salvaged_page}

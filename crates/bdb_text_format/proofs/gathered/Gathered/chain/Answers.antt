@@ -1,5 +1,4 @@
-use Rattle.std.proofs.Common.{ap, sym, ◌∙◌}
-use Rattle.std.specs.Prelude.{option_copied}
+use Rattle.std.proofs.Common.{ap, sym, ◌∙◌, option_copied}
 use Rattle.bdb_text_format.specs.Terms.{Gathering, noted}
 use Rattle.bdb_text_format.proofs.gathered.Gathered.chain.Goals as goal
 
