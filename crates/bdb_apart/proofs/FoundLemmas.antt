@@ -26,7 +26,7 @@ Entries = List (List ℕ × At)
 put_absent : (entries : Entries) (k : List ℕ) (v : At) → list_any (has_name k) (map entry_found entries) ≡ false
     → map entry_found (insert_entry (slice_cmp nat_cmp) entries k v) ≡ put_found (map entry_found entries) (entry_found (k, v))
 put_absent [] k v none = refl
-put_absent (e ∷ es) k v none = by_order (slice_cmp nat_cmp k e.0) (slice_cmp-is k e.0) refl
+put_absent (e ∷ es) k v none = by_order (slice_cmp nat_cmp k e.0) (slice_cmp-is k e.0) refl (put_absent es k v tail)
   where
     head : bytes_eq k e.0 ≡ false
     head = none_passes (has_name k) (map entry_found (e ∷ es)) (entry_found e) none (first_member (entry_found e) (map entry_found es))
@@ -37,14 +37,15 @@ put_absent (e ∷ es) k v none = by_order (slice_cmp nat_cmp k e.0) (slice_cmp-i
         (λ x inside. none_passes (has_name k) (map entry_found (e ∷ es)) x none (later_member (entry_found e) (map entry_found es) x inside))
 
     by_order : (r : Ordering) → OrderingIs r k e.0 → slice_cmp nat_cmp k e.0 ≡ r
+        → map entry_found (insert_entry (slice_cmp nat_cmp) es k v) ≡ put_found (map entry_found es) (entry_found (k, v))
         → map entry_found (insert_entry (slice_cmp nat_cmp) (e ∷ es) k v) ≡ put_found (map entry_found (e ∷ es)) (entry_found (k, v))
-    by_order Before is so =
+    by_order Before is so rest =
         ap (λ r. map entry_found (match_ordering r ((k, v) ∷ e ∷ es) ((e.0, v) ∷ es) (e ∷ insert_entry (slice_cmp nat_cmp) es k v))) so
         ∙ sym (ap (λ b. cond b (entry_found (k, v) ∷ entry_found e ∷ map entry_found es) (entry_found e ∷ put_found (map entry_found es) (entry_found (k, v)))) is)
-    by_order Equal is so = absurd (true≢false (sym (eq_self k) ∙ (ap (bytes_eq k) is ∙ head)))
-    by_order Greater is so =
+    by_order Equal is so rest = absurd (true≢false (sym (eq_self k) ∙ (ap (bytes_eq k) is ∙ head)))
+    by_order Greater is so rest =
         ap (λ r. map entry_found (match_ordering r ((k, v) ∷ e ∷ es) ((e.0, v) ∷ es) (e ∷ insert_entry (slice_cmp nat_cmp) es k v))) so
-        ∙ (ap (λ dbs. entry_found e ∷ dbs) (put_absent es k v tail)
+        ∙ (ap (λ dbs. entry_found e ∷ dbs) rest
         ∙ sym (ap (λ b. cond b (entry_found (k, v) ∷ entry_found e ∷ map entry_found es) (entry_found e ∷ put_found (map entry_found es) (entry_found (k, v))))
         (less_not_back e.0 k is)))
 

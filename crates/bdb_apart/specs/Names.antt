@@ -1,5 +1,6 @@
 -- The names of databases while they are found.
 use Rattle.std.specs.Prelude.{◌≡◌, ◌<◌, ℕ, List, length, map, get_or, Option, Some, None}
+use Rattle.std.specs.List.{flat_map}
 use Rattle.std.specs.Option.{option_map}
 use Rattle.bdb_rescue.specs.of_image.Metas.{meta_seen}
 use Rattle.bdb_rescue.specs.of_overflow.Datum.{datum_seen}
@@ -20,6 +21,22 @@ named_seen name = option_map datum_seen name
 pub record AreNames (count : ℕ) (names : List (Option Datum)) (entries : List (List ℕ × ℕ)) : Type 0 where
   pub len : length names ≡ count
   pub each : (p : ℕ) → p < count → named_seen (get_or names p None) ≡ name_in p entries
+
+-- a name, or else another
+abbrev pub then_name : Option (List ℕ) → Option (List ℕ) → Option (List ℕ)
+then_name None other = other
+then_name (Some name) other = Some name
+
+-- names with those of more entries
+pub record AreNoted (old new : List (Option Datum)) (entries : List (List ℕ × ℕ)) : Type 0 where
+  pub len : length new ≡ length old
+  pub each : (p : ℕ) → p < length old → named_seen (get_or new p None) ≡ then_name (named_seen (get_or old p None)) (name_in p entries)
+
+-- those that were noted, and the entries that are left, are all
+pub record IsNoting {X : Type 0} (f : X → List (List ℕ × ℕ)) (initial now : List (Option Datum)) (all left : List X) : Type 0 where
+  pub len : length now ≡ length initial
+  pub each : (p : ℕ) → p < length initial
+      → then_name (named_seen (get_or now p None)) (name_in p (flat_map f left)) ≡ then_name (named_seen (get_or initial p None)) (name_in p (flat_map f all))
 
 -- a database by its name
 abbrev pub entry_found : (List ℕ × At) → Found

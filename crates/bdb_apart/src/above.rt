@@ -50,18 +50,19 @@ pub(crate) fn meta_of(home: Option<Home>) -> Option<u32>
 }
 
 /// The metadata page of the database to which a page may belong, where page 0 is that of the only one, or isn't.
+#[tactic(auto, using(crate::proofs::KindLemmas::pair_kind))]
 fn above(
     salvaged: &Salvaged<'_>,
     homes: &PageHomes<'_>,
-    is_alone: bool,
+    one: bool,
     page: u32,
 ) -> Option<u32>
     requires homes { homes.now ≡ file_in salvaged.now }
-    requires alone { is_alone ≡ is_alone (page_at (file_in salvaged.now) 0) }
+    requires alone { one ≡ is_alone (page_at (file_in salvaged.now) 0) }
     requires there { page < (file_in salvaged.now).count }
     ensures { result ≡ above (file_in salvaged.now) page }
 {
-    if is_alone && is_pair_kind(kind_of(&salvaged.pages().page(page))) {
+    if one && is_pair_kind(kind_of(&salvaged.pages().page(page))) {
         return Some(0);
     }
     meta_of(homes.home(page))

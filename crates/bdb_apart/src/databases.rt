@@ -26,11 +26,12 @@ fn put_db<'s>(
     fields: Meta,
 ) -> Result<(), AllocError>
     ensures { OnOk result (map entry_found dbs.new.entries ≡ with_found (map entry_found dbs.old.entries)
-        (entry_found (name.entry, record { meta = meta; fields = fields.entry }))) }
+        (entry_found (name.entry, record { meta = meta; fields = fields }))) }
 {
-    if !dbs.contains_key(&name) {
-        dbs.insert(name, At { meta, fields })?;
+    if dbs.contains_key(&name) {
+        return Ok(());
     }
+    dbs.insert(name, At { meta, fields })?;
     Ok(())
 }
 
@@ -145,7 +146,7 @@ fn listed<'s>(
 
 /// The only database, whose metadata stand on page 0.
 fn only<'s>(alloc: Global, fields: Meta) -> Result<Vec<Place<'s>>, AllocError>
-    ensures { IfOk result (λ places. map found_seen places.items ≡ only_found (meta_seen fields.entry) ∷ []) }
+    ensures { IfOk result (λ places. map found_seen places.items ≡ only_found (meta_seen fields) ∷ []) }
 {
     let mut places = Vec::new(alloc);
     places.push(Place {

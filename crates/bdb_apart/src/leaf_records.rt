@@ -34,7 +34,7 @@ impl<'s, 'a> Fitting<'s, 'a> {
     fn next(&mut self) -> Option<(u32, Datum<'s>)>
         ensures { YieldsFirstBy record_read (λ left. left) self.old result self.new }
     {
-        loop {
+        'walk: loop {
             let (number, value) = self.records.next()?;
             if fits_record(self.holds, number, &value) {
                 return Some((number as u32, value));
@@ -147,8 +147,9 @@ impl<'t, 's, 'a> Iterator for LeafRecords<'t, 's, 'a> {
 
     ghost remaining = { item_count (λ left. left) };
 
+    #[tactic(auto, using(crate::proofs::LeftLemmas::first_page))]
     fn next(&mut self) -> Option<(u32, Datum<'s>)> {
-        loop {
+        'walk: loop {
             match next_here(&mut self.here) {
                 Some(record) => return Some(record),
                 None => {}

@@ -45,7 +45,7 @@ impl<'t, 's, 'a> Others<'t, 's, 'a> {
     fn next(&mut self) -> Option<(Datum<'s>, Datum<'s>)>
         ensures { YieldsFirstBy pair_read (λ left. left) self.old result self.new }
     {
-        loop {
+        'walk: loop {
             let (key, value) = self.pairs.next()?;
             if !(self.names && self.apart.names_found(&value)) {
                 return Some((key, value));
@@ -126,7 +126,7 @@ impl<'t, 's, 'a> Iterator for PairsLeft<'t, 's, 'a> {
     ghost remaining = { item_count (λ left. left) };
 
     fn next(&mut self) -> Option<(Datum<'s>, Datum<'s>)> {
-        loop {
+        'walk: loop {
             match next_other(&mut self.here) {
                 Some(pair) => return Some(pair),
                 None => {}
@@ -171,7 +171,7 @@ impl<'s, 'a> Loose<'s, 'a> {
     fn next(&mut self) -> Option<Datum<'s>>
         ensures { YieldsFirstBy datum_seen (λ left. left) self.old result self.new }
     {
-        loop {
+        'walk: loop {
             let (number, value) = self.records.next()?;
             if !is_fit(self.holds, number, &value) {
                 return Some(value);
@@ -254,7 +254,7 @@ impl<'t, 's, 'a> Iterator for RecordsLeft<'t, 's, 'a> {
     ghost remaining = { item_count (λ left. left) };
 
     fn next(&mut self) -> Option<Datum<'s>> {
-        loop {
+        'walk: loop {
             match next_loose(&mut self.here) {
                 Some(value) => return Some(value),
                 None => {}

@@ -73,7 +73,7 @@ impl<'s> PartialEq for Name<'s> {
 
     ghost laws = { Cmp.partial_equiv_from_equiv nat_list_eq_equiv };
 
-    #[tactic(auto, using(crate::proofs::NameLemmas::is_same))]
+    #[tactic(auto, using(crate::proofs::Below::is_same))]
     fn eq(&self, other: &Self) -> bool {
         match compare_datum(&self.datum(), &other.datum()) {
             Ordering::Less => false,
@@ -116,7 +116,7 @@ impl<'s> Ord for Name<'s> {
 
     ghost matches_eq = { texts_ties };
 
-    #[tactic(auto, using(crate::proofs::NameLemmas::is_order))]
+    #[tactic(auto, using(crate::proofs::Below::is_order))]
     fn cmp(&self, other: &Self) -> Ordering {
         compare_datum(&self.datum(), &other.datum())
     }

@@ -1,11 +1,9 @@
-ghost use Rattle.std.specs.Prelude.{◌≡◌, ◌<◌, ◌++◌, ◌∷◌, [], IfOk, OnOk, ℕ, List};
-ghost use Rattle.std.specs.List.{filter, flat_map};
+ghost use Rattle.std.specs.Prelude.{◌≡◌, ◌<◌, ◌∷◌, [], IfOk, if◌then◌else◌};
+ghost use Rattle.std.specs.List.{filter, flat_map, range_with_len};
 ghost use Rattle.bdb_rescue.specs.Kept.{file_in};
 ghost use Rattle.bdb_rescue.specs.of_overflow.Datum.{datum_seen};
-ghost use Rattle.bdb_apart.specs.Found.{entries, entries_on, entry_of, is_leaf, is_master_leaf};
-ghost use Rattle.bdb_apart.specs.Names.{AreNames};
-ghost use Rattle.bdb_apart.specs.Kept.{is_leaf_kind, kind_in};
-ghost use Rattle.bdb_rescue.specs.of_format.Terms.{page_at};
+ghost use Rattle.bdb_apart.specs.Found.{entries, entries_on, entry_of, is_master_leaf};
+ghost use Rattle.bdb_apart.specs.Names.{AreNames, AreNoted};
 
 use crate::above::{has_master, meta_of};
 use crate::entry::page_named;
@@ -16,8 +14,7 @@ use std::alloc::{AllocError, Global};
 
 /// Keeps the key of an entry that names a page, where it's the first.
 fn note_name<'s>(names: &mut [Option<Datum<'s>>], page: u32, key: Datum<'s>)
-    ensures { (count : ℕ) (entries : List (List ℕ × ℕ)) → AreNames count names.old entries
-        → AreNames count names.new (entries ++ (datum_seen key.entry, page) ∷ []) }
+    ensures { AreNoted names.old names.new ((datum_seen key.entry, page) ∷ []) }
 {
     let at = page as usize;
     if at < names.len() && names[at].is_none() {
@@ -26,9 +23,9 @@ fn note_name<'s>(names: &mut [Option<Datum<'s>>], page: u32, key: Datum<'s>)
 }
 
 /// Keeps the name that a pair gives to a page, if it gives one.
+#[tactic(auto, using(crate::proofs::NameLemmas::none_noted))]
 fn note_pair<'s>(names: &mut [Option<Datum<'s>>], key: Datum<'s>, value: &Datum<'s>)
-    ensures { (count : ℕ) (entries : List (List ℕ × ℕ)) → AreNames count names.old entries
-        → AreNames count names.new (entries ++ entry_of (datum_seen key.entry, datum_seen value.now)) }
+    ensures { AreNoted names.old names.new (entry_of (datum_seen key.entry, datum_seen value.now)) }
 {
     match page_named(value) {
         Some(page) => note_name(names, page, key),
@@ -38,8 +35,7 @@ fn note_pair<'s>(names: &mut [Option<Datum<'s>>], key: Datum<'s>, value: &Datum<
 
 /// Keeps the names that pairs give to pages.
 fn note_pairs<'s>(names: &mut [Option<Datum<'s>>], pairs: SalvagePairs<'s, '_>)
-    ensures { (count : ℕ) (entries : List (List ℕ × ℕ)) → AreNames count names.old entries
-        → AreNames count names.new (entries ++ flat_map entry_of pairs.entry) }
+    ensures { AreNoted names.old names.new (flat_map entry_of pairs.entry) }
 {
     for (key, value) in pairs {
         note_pair(names, key, &value);
@@ -56,6 +52,23 @@ pub(crate) fn is_master_leaf(salvaged: &Salvaged<'_>, homes: &PageHomes<'_>, pag
         && meta_of(homes.home(page)) == Some(0)
 }
 
+/// Keeps the names that a page gives to pages, if it's a leaf of a master.
+#[tactic(auto, using(crate::proofs::NameLemmas::none_noted))]
+fn note_page<'s>(
+    names: &mut [Option<Datum<'s>>],
+    salvaged: &'s Salvaged<'_>,
+    homes: &PageHomes<'_>,
+    page: u32,
+)
+    requires homes { homes.now ≡ file_in salvaged.now }
+    requires there { page < (file_in salvaged.now).count }
+    ensures { AreNoted names.old names.new (if is_master_leaf (file_in salvaged.now) page then entries_on (file_in salvaged.now) page else []) }
+{
+    if is_master_leaf(salvaged, homes, page) {
+        note_pairs(names, salvaged.pairs_on(page));
+    }
+}
+
 /// Keeps the names that the leaves of a master give to pages.
 fn note_leaves<'s>(
     names: &mut [Option<Datum<'s>>],
@@ -63,14 +76,11 @@ fn note_leaves<'s>(
     homes: &PageHomes<'_>,
 )
     requires { homes.now ≡ file_in salvaged.now }
-    ensures { (count : ℕ) → AreNames count names.old []
-        → AreNames count names.new (flat_map (entries_on (file_in salvaged.now))
-        (filter (is_master_leaf (file_in salvaged.now)) (Rattle.std.specs.List.range_with_len 0 (file_in salvaged.now).count))) }
+    ensures { AreNoted names.old names.new (flat_map (entries_on (file_in salvaged.now))
+        (filter (is_master_leaf (file_in salvaged.now)) (range_with_len 0 (file_in salvaged.now).count))) }
 {
     for page in 0..salvaged.pages().count() {
-        if is_master_leaf(salvaged, homes, page) {
-            note_pairs(names, salvaged.pairs_on(page));
-        }
+        note_page(names, salvaged, homes, page);
     }
 }
 

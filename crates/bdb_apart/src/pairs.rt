@@ -96,7 +96,7 @@ impl<'t, 's, 'a> Iterator for Pairs<'t, 's, 'a> {
 
     #[tactic(auto, using(crate::proofs::LeftLemmas::pages_rest, crate::proofs::LeftLemmas::first_page))]
     fn next(&mut self) -> Option<(Datum<'s>, Datum<'s>)> {
-        loop {
+        'walk: loop {
             match next_here(&mut self.here) {
                 Some(pair) => return Some(pair),
                 None => {}

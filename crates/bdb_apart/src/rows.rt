@@ -1,4 +1,4 @@
-ghost use Rattle.std.specs.Prelude.{◌≡◌, ◌<◌, ◌≤◌, ◌+◌, ◌^◌, IfOk, IfSome, List, None, Option, Some, get_or, length, ℕ};
+ghost use Rattle.std.specs.Prelude.{◌≡◌, ◌<◌, ◌≤◌, ◌+◌, ◌^◌, IfOk, List, None, Option, Some, get_or, length, ℕ};
 ghost use Rattle.std.specs.Iterator.{YieldsFirst};
 ghost use Rattle.bdb_apart.specs.Rows.{AreBelow, AreRows, first_from, row_from};
 
@@ -19,9 +19,10 @@ fn put(first: &mut [Option<u32>], next: &mut [Option<u32>], above: u32, page: u3
 }
 
 /// Puts a page before those of its row, if it's below another.
+#[tactic(auto, using(crate::proofs::RowLemmas::put_nowhere, crate::proofs::RowLemmas::below_there))]
 fn put_below(first: &mut [Option<u32>], next: &mut [Option<u32>], above: &[Option<u32>], page: u32)
     requires page { page < length above.now }
-    requires within { IfSome (get_or above.now page None) (λ m. m < length above.now) }
+    requires within { AreBelow above.now }
     requires rows { AreRows above.now first.old next.old (page + 1) }
     ensures { AreRows above.now first.new next.new page }
 {
@@ -61,7 +62,7 @@ impl Rows {
         let mut first = vec![in alloc; None; count as usize]?;
         let mut next = vec![in alloc; None; count as usize]?;
         let mut left = count;
-        while left > 0 {
+        'pages: while left > 0 {
             left -= 1;
             put_below(&mut first, &mut next, &above, left);
         }

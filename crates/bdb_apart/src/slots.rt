@@ -61,7 +61,7 @@ impl<'a> PageSlots<'a> {
     fn next(&mut self) -> Option<(u32, Datum<'a>)>
         ensures { YieldsFirstBy record_read (λ left. left) self.old result self.new }
     {
-        while self.slot < self.meta.per_page {
+        'slots: while self.slot < self.meta.per_page {
             let slot = self.slot;
             self.slot += 1;
             match record_in(self.bytes, &self.meta, self.page, slot) {
@@ -157,7 +157,7 @@ impl<'s, 'a> Iterator for QueueRecords<'s, 'a> {
     ghost remaining = { item_count (λ left. left) };
 
     fn next(&mut self) -> Option<(u32, Datum<'s>)> {
-        loop {
+        'walk: loop {
             match next_here(&mut self.here) {
                 Some(record) => return Some(record),
                 None => {}
