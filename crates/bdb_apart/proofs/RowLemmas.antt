@@ -2,11 +2,12 @@
 use Rattle.std.proofs.Common.{◌≡◌, ◌⊎◌, ℕ, zero, suc, ◌+◌, ◌-◌, ◌<◌, ◌≤◌, Bool, true, false, cond, List, [], ◌∷◌, length, set, get_or, arith, refl, sym, ◌∙◌, ap, subst, inl, inr}
 use Rattle.std.proofs.Common.{Option, Some, None, true≢false}
 use Rattle.std.specs.Prelude.{◌==◌}
-use Rattle.std.specs.List.{filter, find, range_with_len}
+use Rattle.std.specs.List.{All, filter, find, range_with_len}
 use Rattle.std.proofs.lemmas.Bool.{cases_eq, eq-eqb, eqb-true, ne_eqb}
 use Rattle.std.proofs.lemmas.List.{get_or-set_same, get_or-set_other, length-set}
 use Rattle.std.proofs.lemmas.Option.{none-some, same_Some}
-use Rattle.bdb_apart.specs.Rows.{AreRows, IsAt, first_from, from_page, is_below, is_some_of, row_from, row_left}
+use Rattle.std.proofs.lemmas.List.Elements.{All-cons, All-nil}
+use Rattle.bdb_apart.specs.Rows.{AreBelow, AreRows, IsAt, first_from, from_page, is_below, is_some_of, row_from, row_left}
 
 -- the pages from one on are this one and those behind
 pages_from : (above : List (Option ℕ)) (p : ℕ) → p < length above → from_page above p ≡ p ∷ from_page above (p + 1)
@@ -41,16 +42,17 @@ row_by above m p zero all =
   where
     none : length above - p ≡ 0
     none = omega (arith, all)
-row_by above m p (suc n) all = by_here (is_below above m p) refl
+row_by above m p (suc n) all = by_here (is_below above m p) refl (row_by above m (p + 1) n (omega (arith, all)))
   where
     low : p < length above
     low = omega (arith, all)
 
-    by_here : (b : Bool) → is_below above m p ≡ b → row_left above m (first_from above m p) ≡ row_from above m p
-    by_here true is = ap (row_left above m) (first_here above m p low is)
-    by_here false is =
+    by_here : (b : Bool) → is_below above m p ≡ b → row_left above m (first_from above m (p + 1)) ≡ row_from above m (p + 1)
+        → row_left above m (first_from above m p) ≡ row_from above m p
+    by_here true is rest = ap (row_left above m) (first_here above m p low is)
+    by_here false is rest =
         ap (row_left above m) (first_later above m p low is)
-        ∙ (row_by above m (p + 1) n (omega (arith, all)) ∙ sym (row_later above m p low is))
+        ∙ (rest ∙ sym (row_later above m p low is))
 
 pub row_is : (above : List (Option ℕ)) (m p : ℕ) → p ≤ length above → row_left above m (first_from above m p) ≡ row_from above m p
 row_is above m p low = row_by above m p (length above - p) (omega (arith, low))
@@ -59,16 +61,17 @@ row_is above m p low = row_by above m p (length above - p) (omega (arith, low))
 found_by : (above : List (Option ℕ)) (m p n q : ℕ) → p + n ≡ length above → first_from above m p ≡ Some q → (q < length above) × (is_below above m q ≡ true)
 found_by above m p zero q all is =
     absurd (none-some q (sym (ap (λ k. find (is_below above m) (range_with_len p k)) (let none : length above - p ≡ 0 = omega (arith, all) in none)) ∙ is))
-found_by above m p (suc n) q all is = by_here (is_below above m p) refl
+found_by above m p (suc n) q all is = by_here (is_below above m p) refl (λ later. found_by above m (p + 1) n q (omega (arith, all)) later)
   where
     low : p < length above
     low = omega (arith, all)
 
-    by_here : (b : Bool) → is_below above m p ≡ b → (q < length above) × (is_below above m q ≡ true)
-    by_here true here =
+    by_here : (b : Bool) → is_below above m p ≡ b → (first_from above m (p + 1) ≡ Some q → (q < length above) × (is_below above m q ≡ true))
+        → (q < length above) × (is_below above m q ≡ true)
+    by_here true here rest =
         let same : p ≡ q = same_Some p q (sym (first_here above m p low here) ∙ is) in
         (subst (λ k. k < length above) same low, subst (λ k. is_below above m k ≡ true) same here)
-    by_here false here = found_by above m (p + 1) n q (omega (arith, all)) (sym (first_later above m p low here) ∙ is)
+    by_here false here rest = rest (sym (first_later above m p low here) ∙ is)
 
 some_of : (m : ℕ) (at : Option ℕ) → is_some_of m at ≡ true → at ≡ Some m
 some_of m None is = absurd (true≢false (sym is))
@@ -80,12 +83,12 @@ is_of m at is = ap (is_some_of m) is ∙ eq-eqb m m refl
 -- Going over a row.
 
 -- where a row begins
-pub at_first : (above first next : List (Option ℕ)) (m : ℕ) → AreRows above first next 0 → m < length above → IsAt above next m (get_or first m None)
-at_first above first next m are low = record {
-  nexts = λ p here is. are.nexts p m (omega arith) here is;
+pub row_at : (above first next : List (Option ℕ)) (m : ℕ) (at : Option ℕ) → AreRows above first next 0 → at ≡ first_from above m 0 → IsAt above next m at
+row_at above first next m at are is = record {
+  nexts = λ p here there. are.nexts p m (omega arith) here there;
   next_len = are.next_len;
-  there = λ p is. (found_by above m 0 (length above) p (omega arith) (sym (are.firsts m low) ∙ is)).0;
-  below = λ p is. some_of m (get_or above p None) (found_by above m 0 (length above) p (omega arith) (sym (are.firsts m low) ∙ is)).1;
+  there = λ p so. (found_by above m 0 (length above) p (omega arith) (sym is ∙ so)).0;
+  below = λ p so. some_of m (get_or above p None) (found_by above m 0 (length above) p (omega arith) (sym is ∙ so)).1;
 }
 
 -- the page behind one, and the row from there
@@ -166,3 +169,39 @@ put_nowhere above first next page is inside are = record {
     | inr other ↦ are.nexts p m (omega (arith, from, other)) here below
   ];
 }
+
+-- Rows that are gone over.
+
+none_by : (above : List (Option ℕ)) (m p n : ℕ) → AreBelow above → length above ≤ m → find (is_below above m) (range_with_len p n) ≡ None
+none_by above m p zero within past = refl
+none_by above m p (suc n) within past =
+    ap (λ b. cond b (Some p) (find (is_below above m) (range_with_len (p + 1) n))) (by_above (get_or above p None) refl)
+    ∙ none_by above m (p + 1) n within past
+  where
+    by_above : (at : Option ℕ) → get_or above p None ≡ at → is_some_of m at ≡ false
+    by_above None is = refl
+    by_above (Some k) is = ne_eqb k m (λ same. let low : k < length above = within p k is in omega (arith, low, past, same))
+
+-- no page is below one that isn't there
+pub first_past : (above : List (Option ℕ)) (m : ℕ) → AreBelow above → length above ≤ m → first_from above m 0 ≡ None
+first_past above m within past = none_by above m 0 (length above) within past
+
+there_by : (above : List (Option ℕ)) (m p n : ℕ) → p + n ≤ length above → All (λ q. q < length above) (filter (is_below above m) (range_with_len p n))
+there_by above m p zero all = All-nil (λ q. q < length above)
+there_by above m p (suc n) all = by_test (is_below above m p) (there_by above m (p + 1) n (omega (arith, all)))
+  where
+    others : List ℕ
+    others = filter (is_below above m) (range_with_len (p + 1) n)
+
+    by_test : (b : Bool) → All (λ q. q < length above) others → All (λ q. q < length above) (cond b (p ∷ others) others)
+    by_test true rest = All-cons (λ q. q < length above) p others (omega (arith, all)) rest
+    by_test false rest = rest
+
+-- the pages of a row are there
+pub row_there : (above : List (Option ℕ)) (m : ℕ) → All (λ q. q < length above) (row_from above m 0)
+row_there above m = there_by above m 0 (length above) (omega arith)
+
+-- a page that one is below has a row
+pub below_there : (above first next : List (Option ℕ)) (from p m : ℕ) → AreRows above first next from → AreBelow above → get_or above p None ≡ Some m
+    → m < length first
+below_there above first next from p m are within is = let low : m < length above = within p m is in omega (arith, low, are.first_len)

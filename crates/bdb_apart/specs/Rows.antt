@@ -41,3 +41,12 @@ pub record IsAt (above next : List (Option ℕ)) (m : ℕ) (at : Option ℕ) : T
   pub next_len : length next ≡ length above
   pub there : (p : ℕ) → at ≡ Some p → p < length above
   pub below : (p : ℕ) → at ≡ Some p → get_or above p None ≡ Some m
+
+-- pages are below pages that are there
+abbrev pub AreBelow : List (Option ℕ) → Type 0
+AreBelow above = (p m : ℕ) → get_or above p None ≡ Some m → m < length above
+
+-- all rows are kept
+pub record IsRows (above first next : List (Option ℕ)) : Type 0 where
+  pub rows : AreRows above first next 0
+  pub within : AreBelow above

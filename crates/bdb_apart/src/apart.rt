@@ -1,11 +1,27 @@
-use crate::database::Database;
-use crate::holds::{Holds, PageKind, fits_record, holds_of, holds_pairs, kind_of, meta_of};
-use crate::names::{Top, databases, page_named, top_of};
+ghost use Rattle.std.specs.Prelude.{◌≡◌, ◌≤◌, ◌<◌, ◌+◌, ◌^◌, ◌++◌, ◌∷◌, [], IfOk, List, length, map, ℕ};
+ghost use Rattle.std.specs.List.{All};
+ghost use Rattle.bdb_rescue.specs.of_format.Terms.{page_at};
+ghost use Rattle.bdb_rescue.specs.Kept.{file_in, numbered_at, untaken_on};
+ghost use Rattle.bdb_rescue.specs.of_overflow.Datum.{datum_seen};
+ghost use Rattle.bdb_rescue.specs.of_survey.Salvage.{stored_on};
+ghost use Rattle.bdb_apart.specs.Found.{Found, found, is_master_leaf};
+ghost use Rattle.bdb_apart.specs.Given.{are_given, found_in, names_by, pairs_left, records_left};
+ghost use Rattle.bdb_apart.specs.Kept.{AreHeld, found_seen, kind_in, row_in};
+ghost use Rattle.bdb_apart.specs.Left.{IsThere, held_at, start_by};
+
+use crate::above::{aboves, meta_of};
+use crate::database::Databases;
+use crate::databases::databases;
+use crate::entry::page_named;
+use crate::holds::{Holds, PageKind, holds_of, holds_pairs, kind_of};
+use crate::left::{PairsLeft, RecordsLeft};
+use crate::names::is_master_leaf;
+use crate::place::Place;
 use crate::rows::{Pages, Rows};
-use crate::settings::settings_of;
-use bdb_homes::{PageHomes, Settings};
-use bdb_rescue::{Datum, Salvaged, Steps};
+use bdb_homes::PageHomes;
+use bdb_rescue::{Datum, Guess, SalvagePairs, SalvageRecords, Salvaged, Steps};
 use std::alloc::{AllocError, Global};
+use std::marker::Model;
 use std::sync::ledger::Ledger;
 
 /// What is salvaged of an image, database by database: the home of each page, and the databases that are found. It keeps 48 bytes for each page.
@@ -14,8 +30,8 @@ pub struct Apart<'s, 'a> {
     homes: PageHomes<'a>,
     rows: Rows,
     /// What a database holds whose metadata stand on a page.
-    holds: Vec<Option<Holds>>,
-    dbs: Vec<Database<'s>>,
+    held: Vec<Option<Holds>>,
+    places: Vec<Place<'s>>,
 }
 
 impl Drop for Apart<'_, '_> {
@@ -24,51 +40,47 @@ impl Drop for Apart<'_, '_> {
             salvaged: _salvaged,
             homes: _homes,
             rows: _rows,
-            holds: _holds,
-            dbs: _dbs,
+            held: _held,
+            places: _places,
         } = self;
     }
 }
 
-/// The database whose row a page stands in: where page 0 is the only one, it has all pages of pairs.
-fn above(salvaged: &Salvaged<'_>, homes: &PageHomes<'_>, top: Top, page: u32) -> Option<u32> {
-    if top == Top::Alone {
-        match kind_of(&salvaged.pages().page(page)) {
-            PageKind::Leaf | PageKind::Bucket => return Some(0),
-            PageKind::Records | PageKind::Other => {}
-        }
-    }
-    meta_of(homes.home(page))
+impl<'s, 'a> Model for Apart<'s, 'a> {
+    ghost use Rattle.bdb_rescue.specs.Kept.{Reading};
+    ghost use Rattle.bdb_apart.specs.Kept.{IsApart};
+
+    ghost Value = { Reading };
+
+    ghost view = { λ v. v.salvaged.now };
+
+    ghost invariant = { λ v. IsApart v.salvaged.now v.homes v.rows v.held.items v.places.items };
 }
 
-/// The databases in whose rows the pages stand.
-fn aboves(
-    alloc: Global,
-    salvaged: &Salvaged<'_>,
-    homes: &PageHomes<'_>,
-    top: Top,
-) -> Result<Vec<Option<u32>>, AllocError> {
-    let count = salvaged.pages().count();
-    let mut aboves = Vec::with_capacity(alloc, count as usize)?;
-    for page in 0..count {
-        aboves.push(above(salvaged, homes, top, page))?;
+/// Keeps what a database holds, where it's the first with its metadata page.
+fn note_held(held: &mut [Option<Holds>], place: &Place<'_>)
+    ensures { (dbs : List Found) (count : ℕ) → AreHeld dbs count held.old
+        → AreHeld (dbs ++ found_seen place.now ∷ []) count held.new }
+{
+    let at = place.meta as usize;
+    if at < held.len() && held[at].is_none() {
+        held[at] = Some(holds_of(&place.fields));
     }
-    Ok(aboves)
 }
 
-/// What the databases hold, by page.
-fn held(
+/// What databases hold, by their metadata pages.
+fn held_of(
     alloc: Global,
-    salvaged: &Salvaged<'_>,
-    dbs: &[Database<'_>],
-) -> Result<Vec<Option<Holds>>, AllocError> {
-    let mut holds = vec![in alloc; None; salvaged.pages().count() as usize]?;
-    for db in dbs {
-        if let Some(meta) = salvaged.pages().meta(db.meta) {
-            holds[db.meta as usize] = holds_of(&meta);
-        }
+    count: u32,
+    places: &[Place<'_>],
+) -> Result<Vec<Option<Holds>>, AllocError>
+    ensures { IfOk result (λ held. AreHeld (map found_seen places.now) count held.items) }
+{
+    let mut held = vec![in alloc; None; count as usize]?;
+    for place in places {
+        note_held(&mut held, place);
     }
-    Ok(holds)
+    Ok(held)
 }
 
 /// Finds the databases of which something is salvaged, and the pages of each.
@@ -76,93 +88,160 @@ pub fn apart_of<'s, 'a, L: Ledger>(
     alloc: Global,
     salvaged: &'s Salvaged<'a>,
     steps: &mut Steps<L>,
-) -> Result<Apart<'s, 'a>, AllocError> {
+) -> Result<Apart<'s, 'a>, AllocError>
+    ensures apart { IfOk result (λ apart. apart ≡ salvaged.now) }
+    ensures cost { steps.new ≤ steps.old + (file_in salvaged.now).count }
+{
     let homes = PageHomes::of(alloc, salvaged.pages(), steps)?;
-    let top = top_of(&salvaged.pages().meta(0));
-    let rows = Rows::of(alloc, aboves(alloc, salvaged, &homes, top)?)?;
-    let dbs = databases(alloc, salvaged, top, &rows)?;
-    let holds = held(alloc, salvaged, &dbs)?;
+    let rows = Rows::of(alloc, aboves(alloc, salvaged, &homes)?)?;
+    let places = databases(alloc, salvaged, &homes)?;
+    let held = held_of(alloc, salvaged.pages().count(), &places)?;
     Ok(Apart {
         salvaged,
         homes,
         rows,
-        holds,
-        dbs,
+        held,
+        places,
     })
 }
 
 impl<'s, 'a> Apart<'s, 'a> {
-    /// What is salvaged.
-    pub fn salvaged(&self) -> &'s Salvaged<'a> {
-        self.salvaged
+    /// How the image is read.
+    pub fn guess(&self) -> Guess
+        ensures { result ≡ self.now.guess }
+    {
+        self.salvaged.guess()
     }
 
     /// The databases that are found, in the order of their names.
-    pub fn databases(&self) -> &[Database<'s>] {
-        self.dbs.as_slice()
+    pub fn databases<'t>(&'t self) -> Databases<'t, 's, 'a>
+        ensures { result ≡ found_in self.now }
+    {
+        Databases::over(self)
     }
 
-    /// The settings of a database.
-    pub fn settings(&self, meta: u32) -> Option<Settings> {
-        let fields = self.salvaged.pages().meta(meta)?;
-        Some(settings_of(self.salvaged.guess(), &fields))
+    /// The pairs that belong to no database, by page and slot: not those of a master that name a database that is found.
+    pub fn pairs_left<'t>(&'t self) -> PairsLeft<'t, 's, 'a>
+        ensures { result ≡ pairs_left self.now }
+    {
+        PairsLeft::over(self)
     }
 
-    /// The pages that may belong to a database, in their order.
-    pub fn pages(&self, meta: u32) -> Pages<'_> {
-        self.rows.row(meta)
+    /// The records that belong to no set and no database, by page and slot.
+    pub fn records_left<'t>(&'t self) -> RecordsLeft<'t, 's, 'a>
+        ensures records { result ≡ records_left self.now }
+        ensures few { length result < 2 ^ 32 }
+    {
+        RecordsLeft::over(self)
     }
 
     /// How many pages there are.
-    pub fn count(&self) -> u32 {
+    pub(crate) fn count(&self) -> u32
+        ensures { result ≡ (file_in self.now).count }
+    {
         self.salvaged.pages().count()
     }
 
-    /// What the database holds to which a page may belong, if one is found.
-    fn holds_above(&self, page: u32) -> Option<Holds> {
-        let meta = self.rows.above(page)?;
-        self.holds[meta as usize]
+    /// What is kept of the databases.
+    pub(crate) fn places(&self) -> &[Place<'s>]
+        ensures { map found_seen result.now ≡ found self.now }
+    {
+        &self.places
     }
 
-    fn kind(&self, page: u32) -> PageKind {
+    /// What is salvaged.
+    pub(crate) fn salvaged(&self) -> &'s Salvaged<'a>
+        ensures { result.now ≡ self.now }
+    {
+        self.salvaged
+    }
+
+    /// The homes of pages.
+    pub(crate) fn homes(&self) -> &PageHomes<'a>
+        ensures { result.now ≡ file_in self.now }
+    {
+        &self.homes
+    }
+
+    /// The pages that may belong to the database of a metadata page.
+    pub(crate) fn row(&self, meta: u32) -> Pages<'_>
+        ensures row { result ≡ row_in self.now meta }
+        ensures there { All (IsThere (file_in self.now)) result }
+    {
+        self.rows.row(meta)
+    }
+
+    /// The pairs of a page.
+    pub(crate) fn pairs_on(&self, page: u32) -> SalvagePairs<'s, 'a>
+        requires { page < (file_in self.now).count }
+        ensures { result ≡ stored_on (file_in self.now) page }
+    {
+        self.salvaged.pairs_on(page)
+    }
+
+    /// The loose records of a page, each with its number where so many come before the page.
+    pub(crate) fn records_on(&self, page: u32, start: u32) -> SalvageRecords<'s, 'a>
+        requires { page < (file_in self.now).count }
+        ensures { result ≡ map (numbered_at (file_in self.now) start) (untaken_on (file_in self.now) page) }
+    {
+        self.salvaged.records_on(page, start)
+    }
+
+    /// What the database holds that is found with a metadata page.
+    fn held_at(&self, meta: Option<u32>) -> Option<Holds>
+        ensures { result ≡ held_at (found self.now) meta }
+    {
+        let at = meta? as usize;
+        if at < self.held.len() {
+            self.held[at]
+        } else {
+            None
+        }
+    }
+
+    /// The kind of a page.
+    fn kind(&self, page: u32) -> PageKind
+        ensures { result ≡ kind_in (page_at (file_in self.now) page) }
+    {
         kind_of(&self.salvaged.pages().page(page))
     }
 
-    /// Whether the pairs of a page belong to a database that is found.
-    pub fn gives_pairs(&self, page: u32) -> bool {
-        match self.holds_above(page) {
+    /// Whether the pairs of a page are those of a database that is found.
+    pub(crate) fn are_given(&self, page: u32) -> bool
+        requires { page < (file_in self.now).count }
+        ensures { result ≡ are_given (file_in self.now) (found self.now) page }
+    {
+        match self.held_at(self.rows.above(page)) {
             Some(holds) => holds_pairs(holds, self.kind(page)),
             None => false,
         }
     }
 
-    /// Where the records of a page stand in a database that is found: how many come before, and how long each is, 0 for any length.
-    pub fn start(&self, page: u32) -> Option<(u32, u32)> {
-        let Some(Holds::Records { length }) = self.holds_above(page) else {
-            return None;
-        };
-        if self.kind(page) != PageKind::Records {
-            return None;
-        }
-        Some((self.homes.home(page)?.start, length))
-    }
-
-    /// Whether a record has a number and a length that a database takes.
-    pub fn fits(&self, length: u32, record: &(u64, Datum<'_>)) -> bool {
-        fits_record(length, record.0, record.1.len())
-    }
-
-    /// Whether a page is a leaf below a master: its pairs may name databases.
-    pub fn is_master_leaf(&self, page: u32) -> bool {
-        self.kind(page) == PageKind::Leaf && meta_of(self.homes.home(page)) == Some(0)
+    /// Whether a page is a leaf of a master: its pairs may name databases.
+    pub(crate) fn is_master_leaf(&self, page: u32) -> bool
+        requires { page < (file_in self.now).count }
+        ensures { result ≡ is_master_leaf (file_in self.now) page }
+    {
+        is_master_leaf(self.salvaged, &self.homes, page)
     }
 
     /// Whether data name a database that is found.
-    pub fn names_found(&self, value: Datum<'_>, room: &mut Vec<u8>) -> Result<bool, AllocError> {
-        let Some(page) = page_named(value, room)? else {
-            return Ok(false);
-        };
-        let at = page as usize;
-        Ok(at < self.holds.len() && self.holds[at].is_some())
+    pub(crate) fn names_found(&self, value: &Datum<'_>) -> bool
+        ensures { result ≡ names_by (found self.now) (datum_seen value.now) }
+    {
+        self.held_at(page_named(value)).is_some()
+    }
+
+    /// How many records come before a leaf of records, and what is held of the database that is found to which it belongs.
+    pub(crate) fn start(&self, page: u32) -> Option<(u32, Holds)>
+        requires { page < (file_in self.now).count }
+        ensures { result ≡ start_by (file_in self.now) (found self.now) page }
+    {
+        if self.kind(page) != PageKind::Records {
+            return None;
+        }
+        let home = self.homes.home(page)?;
+        let holds = self.held_at(Some(home.meta))?;
+        Some((home.start, holds))
     }
 }

@@ -1,6 +1,25 @@
-ghost use Rattle.std.specs.Prelude.{◌≡◌};
+ghost use Rattle.std.specs.Prelude.{◌≡◌, map};
+ghost use Rattle.std.specs.Option.{option_to_list};
+ghost use Rattle.bdb_rescue.specs.Kept.{file_in};
+ghost use Rattle.bdb_rescue.specs.of_format.Terms.{page_at};
+ghost use Rattle.bdb_rescue.specs.of_image.Metas.{meta_seen};
+ghost use Rattle.bdb_rescue.specs.of_overflow.Datum.{datum_seen};
+ghost use Rattle.bdb_rescue.specs.of_survey.Links.{view_page};
+ghost use Rattle.bdb_apart.specs.Found.{tree_fields};
+ghost use Rattle.bdb_apart.specs.Kept.{fits_in, holds_of, is_pair_kind, kind_in, pairs_in};
 
-use bdb_homes::{Home, Meta, PageView};
+use bdb_homes::{Meta, PageView};
+use bdb_rescue::{Datum, Salvaged};
+
+/// The fields of a page, if it's metadata of a btree or a hash.
+pub(crate) fn tree_meta(salvaged: &Salvaged<'_>, page: u32) -> Option<Meta>
+    ensures { map meta_seen (option_to_list result) ≡ tree_fields (page_at (file_in salvaged.now) page) }
+{
+    match salvaged.pages().meta(page) {
+        Some(Meta::Queue(_)) => None,
+        meta => meta,
+    }
+}
 
 /// What the pages of a database hold.
 #[derive(Clone, Copy, Debug, PartialEq, Eq)]
@@ -9,22 +28,26 @@ pub(crate) enum Holds {
     Leaves,
     /// Pairs, in buckets.
     Buckets,
-    /// Records, of so many bytes where that isn't 0.
+    /// Records on leaves, of so many bytes where that isn't 0.
     Records { length: u32 },
+    /// Records in the slots of a queue.
+    Slots,
 }
 
-/// What the pages of a database with this metadata hold; those of a queue have no homes.
-pub(crate) fn holds_of(meta: &Meta) -> Option<Holds> {
+/// What the pages of a database with this metadata hold.
+pub(crate) fn holds_of(meta: &Meta) -> Holds
+    ensures { result ≡ holds_of (meta_seen meta.now) }
+{
     match meta {
         Meta::Btree(meta) => {
             if !meta.is_recno() {
-                return Some(Holds::Leaves);
+                return Holds::Leaves;
             }
             let length = if meta.is_fixed() { meta.re_len } else { 0 };
-            Some(Holds::Records { length })
+            Holds::Records { length }
         }
-        Meta::Hash(_) => Some(Holds::Buckets),
-        Meta::Queue(_) => None,
+        Meta::Hash(_) => Holds::Buckets,
+        Meta::Queue(_) => Holds::Slots,
     }
 }
 
@@ -37,7 +60,9 @@ pub(crate) enum PageKind {
     Other,
 }
 
-pub(crate) fn kind_of(view: &Option<PageView<'_>>) -> PageKind {
+pub(crate) fn kind_of(view: &Option<PageView<'_>>) -> PageKind
+    ensures { result ≡ kind_in (view_page view.now) }
+{
     match view {
         Some(PageView::Leaf(_)) => PageKind::Leaf,
         Some(PageView::Hash(_)) => PageKind::Bucket,
@@ -46,24 +71,35 @@ pub(crate) fn kind_of(view: &Option<PageView<'_>>) -> PageKind {
     }
 }
 
+/// Whether pages of a kind hold pairs.
+pub(crate) fn is_pair_kind(kind: PageKind) -> bool
+    ensures { result ≡ is_pair_kind kind }
+{
+    match kind {
+        PageKind::Leaf | PageKind::Bucket => true,
+        PageKind::Records | PageKind::Other => false,
+    }
+}
+
 /// Whether a page of a kind holds pairs of a database.
-pub(crate) fn holds_pairs(holds: Holds, kind: PageKind) -> bool {
-    match holds {
-        Holds::Leaves => kind == PageKind::Leaf,
-        Holds::Buckets => kind == PageKind::Bucket,
-        Holds::Records { .. } => false,
+pub(crate) fn holds_pairs(holds: Holds, kind: PageKind) -> bool
+    ensures { result ≡ pairs_in holds kind }
+{
+    match (holds, kind) {
+        (Holds::Leaves, PageKind::Leaf) => true,
+        (Holds::Buckets, PageKind::Bucket) => true,
+        _ => false,
     }
 }
 
 /// Whether a record has a number, and the length that is fixed.
-pub(crate) fn fits_record(length: u32, number: u64, bytes: u64) -> bool {
-    number < 4294967296 && (length == 0 || bytes == u64::from(length))
-}
-
-/// The metadata page of a home.
-pub(crate) fn meta_of(home: Option<Home>) -> Option<u32> {
-    match home {
-        Some(home) => Some(home.meta),
-        None => None,
+pub(crate) fn fits_record(holds: Holds, number: u64, value: &Datum<'_>) -> bool
+    ensures { result ≡ fits_in holds (number, datum_seen value.now) }
+{
+    match holds {
+        Holds::Records { length } => {
+            number < 4294967296 && (length == 0 || value.has_len(u64::from(length)))
+        }
+        _ => false,
     }
 }

@@ -1,6 +1,6 @@
-ghost use Rattle.std.specs.Prelude.{◌≡◌, ◌<◌, ◌≤◌, ◌+◌, ◌^◌, IfOk, IfSome, List, None, Option, Some, get_or, length, ℕ};
+ghost use Rattle.std.specs.Prelude.{◌≡◌, ◌<◌, ◌≤◌, ◌+◌, ◌^◌, IfOk, List, None, Option, Some, get_or, length, ℕ};
 ghost use Rattle.std.specs.Iterator.{YieldsFirst};
-ghost use Rattle.bdb_apart.specs.Rows.{AreRows, row_from};
+ghost use Rattle.bdb_apart.specs.Rows.{AreBelow, AreRows, first_from, row_from};
 
 use std::alloc::{AllocError, Global};
 use std::marker::Model;
@@ -19,9 +19,10 @@ fn put(first: &mut [Option<u32>], next: &mut [Option<u32>], above: u32, page: u3
 }
 
 /// Puts a page before those of its row, if it's below another.
+#[tactic(auto, using(crate::proofs::RowLemmas::put_nowhere, crate::proofs::RowLemmas::below_there))]
 fn put_below(first: &mut [Option<u32>], next: &mut [Option<u32>], above: &[Option<u32>], page: u32)
     requires page { page < length above.now }
-    requires within { IfSome (get_or above.now page None) (λ m. m < length above.now) }
+    requires within { AreBelow above.now }
     requires rows { AreRows above.now first.old next.old (page + 1) }
     ensures { AreRows above.now first.new next.new page }
 {
@@ -41,27 +42,27 @@ pub(crate) struct Rows {
 
 impl Model for Rows {
     ghost use Rattle.std.specs.Prelude.{List, Option, ℕ, zero};
-    ghost use Rattle.bdb_apart.specs.Rows.{AreRows};
+    ghost use Rattle.bdb_apart.specs.Rows.{IsRows};
 
     ghost Value = { List (Option ℕ) };
 
     ghost view = { λ v. v.above.items };
 
-    ghost invariant = { λ v. AreRows v.above.items v.first.items v.next.items 0 };
+    ghost invariant = { λ v. IsRows v.above.items v.first.items v.next.items };
 }
 
 impl Rows {
     /// The rows of pages that are below these, put from behind.
     pub(crate) fn of(alloc: Global, above: Vec<Option<u32>>) -> Result<Rows, AllocError>
         requires few { length above.items < 2 ^ 32 }
-        requires within { (p : ℕ) → p < length above.items → IfSome (get_or above.items p None) (λ m. m < length above.items) }
+        requires within { AreBelow above.items }
         ensures { IfOk result (λ rows. rows ≡ above.items) }
     {
         let count = above.len() as u32;
         let mut first = vec![in alloc; None; count as usize]?;
         let mut next = vec![in alloc; None; count as usize]?;
         let mut left = count;
-        while left > 0 {
+        'pages: while left > 0 {
             left -= 1;
             put_below(&mut first, &mut next, &above, left);
         }
@@ -76,16 +77,26 @@ impl Rows {
         self.above[page as usize]
     }
 
+    /// The first page below one.
+    fn first(&self, meta: u32) -> Option<u32>
+        ensures { result ≡ first_from self.now meta 0 }
+    {
+        if (meta as usize) < self.first.len() {
+            self.first[meta as usize]
+        } else {
+            None
+        }
+    }
+
     /// The pages below one, in their order.
     pub(crate) fn row(&self, meta: u32) -> Pages<'_>
-        requires { meta < length self.now }
         ensures { result ≡ row_from self.now meta 0 }
     {
         Pages {
             above: &self.above,
             next: &self.next,
             meta,
-            at: self.first[meta as usize],
+            at: self.first(meta),
         }
     }
 }

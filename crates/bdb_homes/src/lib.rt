@@ -16,7 +16,8 @@ mod table;
 mod up;
 
 pub use bdb_graph::{
-    BtreeMeta, HashMeta, Kind, Order, PageView, QueueMeta, Settings, Steps, plain_settings, u32_at,
+    BtreeMeta, HashMeta, Kind, Order, PageView, QueueMeta, Settings, Steps, plain_settings,
+    records_per_page, u32_at,
 };
 pub use bdb_survey::{Guess, Meta, WholePages};
 pub use home::Home;
