@@ -16,7 +16,7 @@ pub(crate) fn chosen(guess: Option<Guess>, image: &[u8]) -> Option<Guess>
 
 /// What page 0 tells of the image.
 #[tactic(auto, unfolding(crate::specs::Guesses::guess_of))]
-fn guess_of(image: &[u8]) -> Option<Guess>
+pub fn guess_of(image: &[u8]) -> Option<Guess>
     ensures { result ≡ guess_of image.now }
 {
     if image.len() < 24 {

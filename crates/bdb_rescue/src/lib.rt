@@ -21,12 +21,13 @@ mod thin;
 mod values;
 
 pub use bdb_survey::{
-    Datum, Guess, KeyView, Meta, Pieces, WholePages, bytes_in, chain_of, compare_datum,
+    Datum, Guess, KeyView, Meta, Pieces, WholePages, bytes_in, chain_of, compare_datum, u32_at,
 };
-pub use bdb_text_format::{Bytes, FileKind, Order, Steps};
+pub use bdb_text_format::{Bytes, FileKind, Order, Steps, magic_of};
 pub use entries::{SalvageEntries, SalvageEntry};
 pub use error::SalvageError;
 pub use gathered::{loose_pairs, stored_pairs};
+pub use guess::guess_of;
 pub use pairs::SalvagePairs;
 pub use records::SalvageRecords;
 pub use salvaged::{Salvaged, salvage};

@@ -4,6 +4,7 @@
 mod answer;
 mod building;
 pub mod laws;
+mod left_out;
 mod program;
 mod repairing;
 mod salvaging;

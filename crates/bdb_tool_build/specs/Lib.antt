@@ -4,3 +4,4 @@ pub mod Loads
 pub mod Ontos
 pub mod Refusals
 pub mod Trials
+pub use Rattle.bdb_onto.specs as of_onto

@@ -1,0 +1,223 @@
+-- What is given of a database stands on the pages of its row.
+use Rattle.std.proofs.Common.{◌≡◌, ℕ, ◌+◌, ◌-◌, ◌<◌, Bool, true, false, cond, List, [], ◌∷◌, ◌++◌, map, length, get_or, arith, refl, sym, ◌∙◌, ap}
+use Rattle.std.specs.Prelude.{◌&&◌, ◌==◌, not, Option, Some, None}
+use Rattle.std.specs.List.{Contains, enumerate_from, filter, flat_map, range_with_len}
+use Rattle.std.proofs.lemmas.List.{ext_get_or}
+use Rattle.std.proofs.lemmas.List.FromFn.{get_or-enumerate_from, get_or-map-range_with_len, length-enumerate_from, length-map-range_with_len}
+use Rattle.std.proofs.lemmas.List.Folds.{flat_map-map}
+use Rattle.bdb_rescue.proofs.of_format.ListLemmas.{flat_map_same, map_joined}
+use Rattle.bdb_rescue.proofs.of_format.MemberLemmas.{first_member, later_member, of_range}
+use Rattle.bdb_rescue.specs.of_format.Terms.{BtreeFields, File, HashFields, Item, Metadata, Page, RecnoLeaf, no_item, page_at, value_of}
+use Rattle.bdb_rescue.specs.of_survey.Items.{is_valued, slot_at, slots_in}
+use Rattle.bdb_rescue.specs.of_survey.Salvage.{is_taken, stored_on, whole_values}
+use Rattle.bdb_rescue.specs.Kept.{kept_value, numbered_at, value_at, values_in, values_on}
+use Rattle.bdb_rescue.proofs.StoredLemmas.{AreOn, values_are}
+use Rattle.bdb_homes.specs.Homes.{home}
+use Rattle.bdb_homes.specs.declared.home.Home.{Home}
+use Rattle.bdb_apart.specs.Found.{Found, is_alone}
+use Rattle.bdb_apart.specs.Given.{above, fits_record, gives_pairs, holds_pairs, is_pair_page, is_record_page, is_recno_db, meta_at, numbered_entry, numbered_on}
+use Rattle.bdb_apart.specs.Given.{records_on}
+use Rattle.bdb_apart.specs.Kept.{fits_in, holds_of, kind_in, pairs_in}
+use Rattle.bdb_apart.specs.Left.{fit_left, fit_on, pairs_on, start_of}
+use Rattle.bdb_apart.specs.Rows.{is_below, is_some_of, row_from}
+use Rattle.bdb_apart.proofs.KindLemmas.{no_pairs, pairs_kind, takes_none, takes_those}
+
+abbrev pub aboves : File → List (Option ℕ)
+aboves file = map (above file) (range_with_len 0 file.count)
+
+pub above_at : (file : File) (p : ℕ) → p < file.count → get_or (aboves file) p None ≡ above file p
+above_at file p there = get_or-map-range_with_len (above file) 0 file.count p p None there (omega arith)
+
+-- Lists of pages.
+
+filter_same : {X : Type 0} (test other : X → Bool) (xs : List X) → ((x : X) → Contains xs x → test x ≡ other x) → filter test xs ≡ filter other xs
+filter_same test other [] same = refl
+filter_same test other (x ∷ xs) same =
+    ap (λ b. cond b (x ∷ filter test xs) (filter test xs)) (same x (first_member x xs))
+    ∙ ap (λ ys. cond (other x) (x ∷ ys) ys) (filter_same test other xs (λ y inside. same y (later_member x xs y inside)))
+
+filter_none : {X : Type 0} (test : X → Bool) (xs : List X) → ((x : X) → test x ≡ false) → filter test xs ≡ []
+filter_none test [] none = refl
+filter_none test (x ∷ xs) none = ap (λ b. cond b (x ∷ filter test xs) (filter test xs)) (none x) ∙ filter_none test xs none
+
+-- those of the pages that pass two tests
+by_both : {Y : Type 0} (f : ℕ → List Y) (here holds : ℕ → Bool) (ps : List ℕ)
+    → flat_map f (filter (λ p. here p && holds p) ps) ≡ flat_map (λ p. cond (holds p) (f p) []) (filter here ps)
+by_both f here holds [] = refl
+by_both {Y = Y} f here holds (p ∷ ps) = by_tests (here p) (holds p) refl refl (by_both f here holds ps)
+  where
+    both : List ℕ
+    both = filter (λ q. here q && holds q) ps
+
+    one : List ℕ
+    one = filter here ps
+
+    g : ℕ → List Y
+    g q = cond (holds q) (f q) []
+
+    by_tests : (a b : Bool) → here p ≡ a → holds p ≡ b → flat_map f both ≡ flat_map g one
+        → flat_map f (cond (here p && holds p) (p ∷ both) both) ≡ flat_map g (cond (here p) (p ∷ one) one)
+    by_tests true true isa isb rest =
+        ap (λ c. flat_map f (cond c (p ∷ both) both)) (ap (λ x. x && holds p) isa ∙ isb)
+        ∙ (ap (λ ys. f p ++ ys) rest
+        ∙ (ap (λ c. cond c (f p) [] ++ flat_map g one) (sym isb)
+        ∙ sym (ap (λ c. flat_map g (cond c (p ∷ one) one)) isa)))
+    by_tests true false isa isb rest =
+        ap (λ c. flat_map f (cond c (p ∷ both) both)) (ap (λ x. x && holds p) isa ∙ isb)
+        ∙ (rest
+        ∙ (ap (λ c. cond c (f p) [] ++ flat_map g one) (sym isb)
+        ∙ sym (ap (λ c. flat_map g (cond c (p ∷ one) one)) isa)))
+    by_tests false b isa isb rest =
+        ap (λ c. flat_map f (cond c (p ∷ both) both)) (ap (λ x. x && holds p) isa)
+        ∙ (rest ∙ sym (ap (λ c. flat_map g (cond c (p ∷ one) one)) isa))
+
+-- those of the pages that pass one
+by_one : {Y : Type 0} (f : ℕ → List Y) (here : ℕ → Bool) (ps : List ℕ) → flat_map f (filter here ps) ≡ flat_map (λ p. cond (here p) (f p) []) ps
+by_one f here [] = refl
+by_one {Y = Y} f here (p ∷ ps) = by_test (here p) (by_one f here ps)
+  where
+    by_test : (b : Bool) → flat_map f (filter here ps) ≡ flat_map (λ q. cond (here q) (f q) []) ps
+        → flat_map f (cond b (p ∷ filter here ps) (filter here ps)) ≡ cond b (f p) [] ++ flat_map (λ q. cond (here q) (f q) []) ps
+    by_test true rest = ap (λ ys. f p ++ ys) rest
+    by_test false rest = rest
+
+-- a row by what the pages are below
+row_by : (file : File) (m : ℕ) → filter (λ p. is_some_of m (above file p)) (range_with_len 0 file.count) ≡ row_from (aboves file) m 0
+row_by file m =
+    filter_same (λ p. is_some_of m (above file p)) (is_below (aboves file) m) (range_with_len 0 file.count)
+    (λ p inside. ap (is_some_of m) (sym (above_at file p (omega (arith, (of_range 0 file.count p inside).1)))))
+    ∙ ap (λ n. filter (is_below (aboves file) m) (range_with_len 0 n))
+    (let all : file.count ≡ length (aboves file) - 0 = omega (arith, length-map-range_with_len (above file) 0 file.count) in all)
+
+-- Pairs.
+
+pub pairs_row : (file : File) (db : Found) → flat_map (stored_on file) (filter (gives_pairs file db) (range_with_len 0 file.count))
+    ≡ flat_map (pairs_on file (holds_of db.fields)) (row_from (aboves file) db.meta 0)
+pairs_row file db =
+    by_both (stored_on file) (λ p. is_some_of db.meta (above file p)) (λ p. holds_pairs db.fields (page_at file p)) (range_with_len 0 file.count)
+    ∙ (flat_map_same (λ p. cond (holds_pairs db.fields (page_at file p)) (stored_on file p) []) (pairs_on file (holds_of db.fields))
+    (filter (λ p. is_some_of db.meta (above file p)) (range_with_len 0 file.count))
+    (λ p inside. ap (λ b. cond b (stored_on file p) []) (sym (pairs_kind db.fields (page_at file p))))
+    ∙ ap (flat_map (pairs_on file (holds_of db.fields))) (row_by file db.meta))
+
+-- Records.
+
+enumerated : (n : ℕ) (items : List Item) → enumerate_from n items ≡ map (λ i. (n + i, slot_at items i)) (range_with_len 0 (length items))
+enumerated n items =
+    ext_get_or (0, no_item) (enumerate_from n items) (map (λ i. (n + i, slot_at items i)) (range_with_len 0 (length items)))
+    (length-enumerate_from n items ∙ sym (length-map-range_with_len (λ i. (n + i, slot_at items i)) 0 (length items)))
+    (λ i inside.
+    let there : i < length items = omega (arith, inside, length-enumerate_from n items) in
+    get_or-enumerate_from n items i (0, no_item) there
+    ∙ sym (get_or-map-range_with_len (λ i. (n + i, slot_at items i)) 0 (length items) i i (0, no_item) there (omega arith)))
+
+value_numbered : (file : File) (p i start : ℕ) (items : List Item) → AreOn file p items → map (numbered_at file start) (kept_value file p items i)
+    ≡ numbered_entry file (start + 1 + i, slot_at items i)
+value_numbered file p i start items on =
+    let item : Item = slot_at items i in
+    by_deleted item.deleted (is_valued file item.content)
+    ∙ ap (λ values. map (λ value. (start + 1 + i, value)) (cond item.deleted [] values)) (sym (values_are file item.content))
+  where
+    at : numbered_at file start (record { page = p; index = i }) ≡ (start + 1 + i, value_of file (slot_at items i).content)
+    at =
+        ap (λ (item : Item). (start + i + 1, value_of file item.content)) (on i)
+        ∙ ap (λ n. (n, value_of file (slot_at items i).content)) (let same : start + i + 1 ≡ start + 1 + i = omega arith in same)
+
+    by_deleted : (deleted valued : Bool) → map (numbered_at file start) (cond deleted [] (cond valued (record { page = p; index = i } ∷ []) []))
+        ≡ map (λ value. (start + 1 + i, value)) (cond deleted [] (cond valued (value_of file (slot_at items i).content ∷ []) []))
+    by_deleted true valued = refl
+    by_deleted false true = ap (λ placed. placed ∷ []) at
+    by_deleted false false = refl
+
+values_numbered : (file : File) (p start : ℕ) (items : List Item) → AreOn file p items
+    → map (numbered_at file start) (values_in file p items) ≡ flat_map (numbered_entry file) (enumerate_from (start + 1) items)
+values_numbered file p start items on =
+    let indexes : List ℕ = range_with_len 0 (length items) in
+    map_joined (numbered_at file start) (kept_value file p items) indexes
+    ∙ (flat_map_same (λ i. map (numbered_at file start) (kept_value file p items i)) (λ i. numbered_entry file (start + 1 + i, slot_at items i)) indexes
+    (λ i inside. value_numbered file p i start items on)
+    ∙ (sym (flat_map-map (numbered_entry file) (λ i. (start + 1 + i, slot_at items i)) indexes)
+    ∙ ap (flat_map (numbered_entry file)) (sym (enumerated (start + 1) items))))
+
+page_numbered : (file : File) (p start : ℕ) (page : Page) → page_at file p ≡ page → is_record_page page ≡ true
+    → map (numbered_at file start) (values_in file p (Rattle.bdb_rescue.specs.of_format.Terms.entries_in page))
+    ≡ flat_map (numbered_entry file) (enumerate_from (start + 1) (Rattle.bdb_rescue.specs.of_format.Terms.entries_in page))
+page_numbered file p start (RecnoLeaf page) is so = values_numbered file p start page.items (λ j. ap (λ pg. slot_at (slots_in pg) j) is)
+page_numbered file p start page is so = absurd cc
+
+-- the values that are kept of a leaf of records are its records
+pub numbered_is : (file : File) (p start : ℕ) → is_record_page (page_at file p) ≡ true → map (numbered_at file start) (values_on file p) ≡ numbered_on file p start
+unfolding values_on
+numbered_is file p start so = page_numbered file p start (page_at file p) refl so
+
+none_either : {X : Type 0} (b : Bool) → cond b (([] : List X)) ([] : List X) ≡ []
+none_either true = refl
+none_either false = refl
+
+abbrev from_start : File → ℕ → Bool → Option ℕ → Option (List (ℕ × List ℕ))
+from_start file p taken None = None
+from_start file p taken (Some start) = Some (map (numbered_at file start) (cond taken [] (values_on file p)))
+
+abbrev records_by_start : File → Metadata → ℕ → Option ℕ → List (ℕ × List ℕ)
+records_by_start file fields p None = []
+records_by_start file fields p (Some start) = filter (fits_record fields) (numbered_on file p start)
+
+abbrev start_if : Bool → Bool → ℕ → Bool → Option Home → Option ℕ
+start_if recno leaf m taken None = None
+start_if recno leaf m taken (Some home) = cond (recno && leaf && home.meta == m && not taken) (Some home.start) None
+
+-- the records of a page in a row
+page_by : (file : File) (fields : Metadata) (m p : ℕ) (h : Option Home) (alone pairs leaf taken : Bool) → (leaf ≡ true → pairs ≡ false)
+    → (leaf ≡ true → (start : ℕ) → map (numbered_at file start) (values_on file p) ≡ numbered_on file p start)
+    → cond (is_some_of m (cond (alone && pairs) (Some 0) (meta_at h)))
+    (filter (fits_in (holds_of fields)) (fit_left (from_start file p taken (cond leaf (start_of h) None)))) []
+    ≡ records_by_start file fields p (start_if (is_recno_db fields) leaf m taken h)
+page_by file fields m p None alone pairs false taken apart same = none_either (is_some_of m (cond (alone && pairs) (Some 0) None))
+page_by file fields m p (Some home) alone pairs false taken apart same =
+    none_either (is_some_of m (cond (alone && pairs) (Some 0) (Some home.meta))) ∙ by_recno (is_recno_db fields)
+  where
+    by_recno : (recno : Bool) → [] ≡ records_by_start file fields p (cond (recno && false && home.meta == m && not taken) (Some home.start) None)
+    by_recno true = refl
+    by_recno false = refl
+page_by file fields m p None alone pairs true taken apart same = by_alone alone pairs (apart refl)
+  where
+    by_alone : (alone pairs : Bool) → pairs ≡ false → cond (is_some_of m (cond (alone && pairs) (Some 0) None)) (filter (fits_in (holds_of fields)) []) [] ≡ []
+    by_alone true true is = absurd cc
+    by_alone true false is = refl
+    by_alone false pairs is = refl
+page_by file fields m p (Some home) alone pairs true taken apart same =
+    by_alone alone pairs (apart refl) ∙ by_home (home.meta == m) (is_recno_db fields) taken refl
+  where
+    records : List (ℕ × List ℕ)
+    records = map (numbered_at file home.start) (cond taken [] (values_on file p))
+
+    by_alone : (alone pairs : Bool) → pairs ≡ false → cond (is_some_of m (cond (alone && pairs) (Some 0) (Some home.meta))) (filter (fits_in (holds_of fields)) records) []
+        ≡ cond (home.meta == m) (filter (fits_in (holds_of fields)) records) []
+    by_alone true true is = absurd cc
+    by_alone true false is = refl
+    by_alone false pairs is = refl
+
+    by_home : (at recno taken : Bool) → is_recno_db fields ≡ recno
+        → cond at (filter (fits_in (holds_of fields)) (map (numbered_at file home.start) (cond taken [] (values_on file p)))) []
+        ≡ records_by_start file fields p (cond (recno && true && at && not taken) (Some home.start) None)
+    by_home false true taken is = refl
+    by_home false false taken is = refl
+    by_home true false taken is =
+        filter_none (fits_in (holds_of fields)) (map (numbered_at file home.start) (cond taken [] (values_on file p))) (λ placed. takes_none fields placed is)
+    by_home true true true is = refl
+    by_home true true false is =
+        ap (filter (fits_in (holds_of fields))) (same refl home.start)
+        ∙ filter_same (fits_in (holds_of fields)) (fits_record fields) (numbered_on file p home.start) (λ placed inside. takes_those fields placed is)
+
+page_row : (file : File) (db : Found) (p : ℕ) → cond (is_some_of db.meta (above file p)) (fit_on file (holds_of db.fields) p) [] ≡ records_on file db p
+page_row file db p =
+    page_by file db.fields db.meta p (home file p) (is_alone (page_at file 0)) (is_pair_page (page_at file p)) (is_record_page (page_at file p)) (is_taken file p)
+    (no_pairs (page_at file p)) (λ leaf start. numbered_is file p start leaf)
+
+pub records_row : (file : File) (db : Found) → flat_map (records_on file db) (range_with_len 0 file.count)
+    ≡ flat_map (fit_on file (holds_of db.fields)) (row_from (aboves file) db.meta 0)
+records_row file db =
+    flat_map_same (records_on file db) (λ p. cond (is_some_of db.meta (above file p)) (fit_on file (holds_of db.fields) p) []) (range_with_len 0 file.count)
+    (λ p inside. sym (page_row file db p))
+    ∙ (sym (by_one (fit_on file (holds_of db.fields)) (λ p. is_some_of db.meta (above file p)) (range_with_len 0 file.count))
+    ∙ ap (flat_map (fit_on file (holds_of db.fields))) (row_by file db.meta))

@@ -1,0 +1,8 @@
+mod Below
+pub mod RowLemmas
+pub mod FoundLemmas
+pub mod NameLemmas
+pub mod KindLemmas
+pub mod GivenLemmas
+pub mod HeldLemmas
+pub mod LeftLemmas

@@ -1,0 +1,172 @@
+ghost use Rattle.std.specs.Prelude.{◌≡◌, ◌<◌, ◌≤◌, ◌+◌, ◌*◌, Some, drop, length};
+ghost use Rattle.std.specs.Iterator.{YieldsFirstBy, item_count};
+ghost use Rattle.bdb_rescue.specs.Entries.{record_read};
+ghost use Rattle.bdb_rescue.specs.Kept.{file_in};
+ghost use Rattle.bdb_rescue.specs.of_format.Terms.{pad4};
+ghost use Rattle.bdb_apart.specs.Left.{fit_left};
+ghost use Rattle.bdb_apart.specs.Queues.{queue_in, queue_records, queue_records_on, queue_slot};
+ghost use Rattle.bdb_apart.specs.Slots.{HasSlots, record_seen};
+
+use bdb_homes::{QueueMeta, u32_at};
+use bdb_rescue::{Datum, Salvaged};
+use std::marker::Model;
+
+/// The record in a slot of a page, if it's live: the bytes are those behind the page's header.
+fn record_in<'a>(
+    bytes: &'a [u8],
+    meta: &QueueMeta,
+    page: u32,
+    slot: u32,
+) -> Option<(u32, Datum<'a>)>
+    requires page { 1 ≤ page }
+    requires slot { (slot + 1) * pad4 (meta.now.re_len + 1) ≤ length bytes.now }
+    ensures { record_seen result ≡ queue_slot meta.now page bytes.now slot }
+{
+    let number = u64::from(page - 1) * u64::from(meta.per_page) + u64::from(slot) + 1;
+    let size = (u64::from(meta.re_len) + 4) / 4 * 4;
+    let at = (u64::from(slot) * size) as usize;
+    if number < u64::from(meta.first)
+        || number >= u64::from(meta.current)
+        || bytes[at] & 0x01 == 0
+    {
+        return None;
+    }
+    let end = at + 1 + meta.re_len as usize;
+    Some((number as u32, Datum::Inline(&bytes[at + 1..end])))
+}
+
+/// The records of a page of a queue that are left.
+#[derive(Drop)]
+pub(crate) struct PageSlots<'a> {
+    bytes: &'a [u8],
+    meta: QueueMeta,
+    page: u32,
+    slot: u32,
+}
+
+impl<'a> Model for PageSlots<'a> {
+    ghost use Rattle.std.specs.Prelude.{List, ℕ};
+    ghost use Rattle.bdb_apart.specs.Queues.{slots_from};
+    ghost use Rattle.bdb_apart.specs.Slots.{IsOnPage};
+
+    ghost Value = { List (ℕ × List ℕ) };
+
+    ghost view = { λ v. slots_from v.meta v.page v.bytes.now v.slot };
+
+    ghost invariant = { λ v. IsOnPage v.meta v.page v.bytes.now };
+}
+
+impl<'a> PageSlots<'a> {
+    /// The next one.
+    fn next(&mut self) -> Option<(u32, Datum<'a>)>
+        ensures { YieldsFirstBy record_read (λ left. left) self.old result self.new }
+    {
+        'slots: while self.slot < self.meta.per_page {
+            let slot = self.slot;
+            self.slot += 1;
+            match record_in(self.bytes, &self.meta, self.page, slot) {
+                Some(record) => return Some(record),
+                None => {}
+            }
+        }
+        None
+    }
+}
+
+/// The records of a queue that are left.
+pub(crate) struct QueueRecords<'s, 'a> {
+    salvaged: &'s Salvaged<'a>,
+    meta: QueueMeta,
+    here: Option<PageSlots<'a>>,
+    page: u32,
+}
+
+impl Drop for QueueRecords<'_, '_> {
+    fn drop(self) {
+        let QueueRecords {
+            salvaged: _salvaged,
+            meta: _meta,
+            here: _here,
+            page: _page,
+        } = self;
+    }
+}
+
+impl<'s, 'a> Model for QueueRecords<'s, 'a> {
+    ghost use Rattle.std.specs.Prelude.{List, ℕ, ◌++◌};
+    ghost use Rattle.bdb_apart.specs.Left.{fit_left};
+    ghost use Rattle.bdb_apart.specs.Queues.{queue_from};
+    ghost use Rattle.bdb_apart.specs.Slots.{IsInQueue};
+
+    ghost Value = { List (ℕ × List ℕ) };
+
+    ghost view = { λ v. fit_left v.here ++ queue_from v.salvaged.now v.meta v.page };
+
+    ghost invariant = { λ v. IsInQueue v.salvaged.now v.meta v.page };
+}
+
+impl<'s, 'a> QueueRecords<'s, 'a> {
+    /// All of them.
+    pub(crate) fn over(salvaged: &'s Salvaged<'a>, meta: QueueMeta) -> QueueRecords<'s, 'a>
+        requires { queue_in salvaged.now ≡ Some meta }
+        ensures { result ≡ queue_records salvaged.now meta }
+    {
+        QueueRecords {
+            salvaged,
+            meta,
+            here: None,
+            page: 1,
+        }
+    }
+}
+
+/// The records of a page of a queue.
+fn slots_on<'a>(salvaged: &Salvaged<'a>, meta: &QueueMeta, page: u32) -> Option<PageSlots<'a>>
+    requires low { 1 ≤ page }
+    requires there { page < (file_in salvaged.now).count }
+    requires slots { HasSlots salvaged.now.guess.page_size meta.now }
+    ensures { fit_left result ≡ queue_records_on salvaged.now meta.now page }
+{
+    let bytes = salvaged.bytes_at(page);
+    if bytes[25] != 11 || u32_at(bytes, 8, salvaged.guess().order) != page {
+        return None;
+    }
+    Some(PageSlots {
+        bytes: &bytes[28..],
+        meta: *meta,
+        page,
+        slot: 0,
+    })
+}
+
+/// The next record of a page, if there is one.
+fn next_here<'a>(here: &mut Option<PageSlots<'a>>) -> Option<(u32, Datum<'a>)>
+    ensures { YieldsFirstBy record_read fit_left here.old result here.new }
+{
+    match here {
+        Some(records) => records.next(),
+        None => None,
+    }
+}
+
+impl<'s, 'a> Iterator for QueueRecords<'s, 'a> {
+    type Item = (u32, Datum<'s>);
+
+    ghost next_gives = { YieldsFirstBy record_read (λ left. left) };
+
+    ghost remaining = { item_count (λ left. left) };
+
+    fn next(&mut self) -> Option<(u32, Datum<'s>)> {
+        'walk: loop {
+            match next_here(&mut self.here) {
+                Some(record) => return Some(record),
+                None => {}
+            }
+            if self.page >= self.salvaged.pages().count() {
+                return None;
+            }
+            self.here = slots_on(self.salvaged, &self.meta, self.page);
+            self.page += 1;
+        }
+    }
+}
