@@ -16,7 +16,7 @@ use bdb_ranks::{BtreeMeta, CheckError, Forest, Linked, Values};
 use std::alloc::{AllocError, Global};
 
 /// No row on what a btree holds holds. A refusal is the first fault: the least page, and there the least code;
-/// or want of memory, for chains that are shared.
+/// or lack of memory, for chains that are shared.
 pub fn check(alloc: Global, linked: &Linked<'_>, meta: &BtreeMeta) -> Result<(), CheckError>
     requires meta { HasMetadata (file_of linked.now) (BtreeFields meta.now) }
     requires keyed { is_recno meta.now ≡ false }
@@ -61,7 +61,7 @@ fn note_alone<F: FaultSink>(
 }
 
 /// Notes each row on what a btree holds at each page where it holds, in any order and repeats allowed. What is found of chains
-/// that are shared is kept for other databases of the file. An error is want of memory: the sink's, or that for these
+/// that are shared is kept for other databases of the file. An error means that memory ran out: the sink's, or that for these
 /// chains.
 pub fn note_contents<'a, F: FaultSink>(
     _alloc: Global,

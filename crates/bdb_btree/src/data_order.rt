@@ -22,7 +22,7 @@ pub(crate) struct Ascent<'a> {
 }
 
 impl<'a> Ascent<'a> {
-    /// The next value. An error is want of memory.
+    /// The next value. An error means that memory ran out.
     fn follow(&mut self, known: &mut Values<'a>, value: Held<'a>) -> Result<(), AllocError>
         requires last { FitsAny (file_of known.old) self.old.last }
         requires value { FitsHeld (file_of known.old) value }
@@ -100,7 +100,7 @@ impl<'a> Ascent<'a> {
 
 impl<'a> Ascent<'a> {
     /// The live data of the next pair: they have to ascend, and where it shares its key to follow those before. An error
-    /// is want of memory.
+    /// means that memory ran out.
     pub(crate) fn see(
         &mut self,
         known: &mut Values<'a>,

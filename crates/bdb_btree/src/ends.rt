@@ -12,7 +12,7 @@ use crate::pair::key_at;
 use bdb_ranks::{Forest, Held, PageView, Values, leaf_held};
 use std::alloc::AllocError;
 
-/// The lesser of two values, the first of which may be missing. An error is want of memory, for chains that are shared.
+/// The lesser of two values, the first of which may be missing. An error means that memory ran out, for chains that are shared.
 fn lesser_of<'a>(
     known: &mut Values<'a>,
     least: Option<Held<'a>>,
@@ -75,7 +75,7 @@ impl<'a> Ends<'a> {
         }
     }
 
-    /// One more key. An error is want of memory.
+    /// One more key. An error means that memory ran out.
     fn see_key(&mut self, known: &mut Values<'a>, key: Held<'a>) -> Result<(), AllocError>
         requires ends { FitsEnds (file_of known.old) self.old }
         requires key { FitsHeld (file_of known.old) key }
@@ -89,7 +89,7 @@ impl<'a> Ends<'a> {
         Ok(())
     }
 
-    /// More keys, by their ends. An error is want of memory.
+    /// More keys, by their ends. An error means that memory ran out.
     pub(crate) fn join(&mut self, known: &mut Values<'a>, more: Ends<'a>) -> Result<(), AllocError>
         requires ends { FitsEnds (file_of known.old) self.old }
         requires more { FitsEnds (file_of known.old) more }
@@ -129,7 +129,7 @@ fn ordered_ends<'a>(forest: &Forest<'a>, leaf: u32) -> Ends<'a>
     }
 }
 
-/// Those of all keys of a leaf, each of which is compared. An error is want of memory.
+/// Those of all keys of a leaf, each of which is compared. An error means that memory ran out.
 fn compared_ends<'a>(known: &mut Values<'a>, leaf: u32) -> Result<Ends<'a>, AllocError>
     requires leaf { FitsLeafPage (file_of known.old) leaf }
     ensures ends { IfOk result (λ ends. ends_seen (file_of known.old) ends ≡ ends_of (tree_pairs (file_of known.old) leaf)) }
@@ -150,7 +150,7 @@ fn compared_ends<'a>(known: &mut Values<'a>, leaf: u32) -> Result<Ends<'a>, Allo
     Ok(ends)
 }
 
-/// The least and the greatest key of a leaf. Where its keys are told not to fall, two of them are read. An error is want of memory.
+/// The least and the greatest key of a leaf. Where its keys are told not to fall, two of them are read. An error means that memory ran out.
 pub(crate) fn leaf_ends<'a>(
     known: &mut Values<'a>,
     leaf: u32,

@@ -25,7 +25,7 @@ fn is_less_bytes(a: &[u8], b: &[u8]) -> bool
 }
 
 /// Whether a value is less than another. Most lie on their pages, and are compared without a look at what is known. An error is
-/// want of memory, for chains that are shared.
+/// lack of memory, for chains that are shared.
 #[inline(always)]
 pub(crate) fn is_less(known: &mut Values<'_>, a: Held<'_>, b: Held<'_>) -> Result<bool, AllocError>
     requires first { FitsHeld (file_of known.old) a }
@@ -39,7 +39,7 @@ pub(crate) fn is_less(known: &mut Values<'_>, a: Held<'_>, b: Held<'_>) -> Resul
     }
 }
 
-/// Whether a value isn't above the one before it, where there is one. An error is want of memory, for chains that are
+/// Whether a value isn't above the one before it, where there is one. An error means that memory ran out, for chains that are
 /// shared.
 #[inline(always)]
 pub(crate) fn is_not_above(

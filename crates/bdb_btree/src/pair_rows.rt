@@ -51,7 +51,7 @@ impl<'a> Passed<'a> {
         }
     }
 
-    /// The next pair, in a database whose sets are sorted or not. An error is want of memory.
+    /// The next pair, in a database whose sets are sorted or not. An error means that memory ran out.
     #[inline(always)]
     fn see(
         &mut self,

@@ -18,7 +18,7 @@ use bdb_faults::{FaultSink, note_if};
 use bdb_ranks::{ContentsRow, Held, InternalItem, Row, Values, key_held};
 use std::alloc::AllocError;
 
-/// Whether a value is below a bound, where there is one. An error is want of memory, for chains that are shared.
+/// Whether a value is below a bound, where there is one. An error means that memory ran out, for chains that are shared.
 fn is_below(
     known: &mut Values<'_>,
     bound: Option<Held<'_>>,
@@ -58,7 +58,7 @@ impl<'a> Bounds<'a> {
         }
     }
 
-    /// The key of the next item. An error is want of memory.
+    /// The key of the next item. An error means that memory ran out.
     fn see_separator(&mut self, known: &mut Values<'_>, key: Held<'a>) -> Result<(), AllocError>
         requires bounds { FitsBounds (file_of known.old) self.old }
         requires key { FitsHeld (file_of known.old) key }
@@ -77,7 +77,7 @@ impl<'a> Bounds<'a> {
         Ok(())
     }
 
-    /// The keys below the last item, by their ends. An error is want of memory.
+    /// The keys below the last item, by their ends. An error means that memory ran out.
     fn see_below(&mut self, known: &mut Values<'a>, below: Ends<'a>) -> Result<(), AllocError>
         requires bounds { FitsBounds (file_of known.old) self.old }
         requires below { FitsEnds (file_of known.old) below }
@@ -125,7 +125,7 @@ impl<'a> Bounds<'a> {
 
 /// The least and the greatest key at or below a page of a tree of pairs, while the internal pages there that have a wrong
 /// separator are noted. Each page is gone over once, from the leaves up, by calls within each other, at most as many as a tree
-/// has levels. Where the keys are told not to fall, two of each leaf are read. An error is want of memory: the sink's, and that
+/// has levels. Where the keys are told not to fall, two of each leaf are read. An error means that memory ran out: the sink's, and that
 /// for chains that are shared.
 pub(crate) fn note_separators<'a, F: FaultSink>(
     known: &mut Values<'a>,

@@ -18,7 +18,7 @@ pub(crate) struct Checked<'a, F> {
     pub(crate) entries: Vec<MasterEntry<'a>>,
 }
 
-/// Notes the faults of the first of stages 6 to 8 that has any that count. An error is want of memory. While it runs it takes a byte
+/// Notes the faults of the first of stages 6 to 8 that has any that count. An error means that memory ran out. While it runs it takes a byte
 /// for each page, memory for each live pair of the master, and what the checks of trees and of each database take.
 pub(crate) fn note_file<'a, F: FaultSink + Drop>(
     alloc: Global,

@@ -14,7 +14,7 @@ use bdb_master::{master_among, note_contents as note_btree};
 use bdb_recno::{FaultSink, Linked, Meta, note_contents as note_recno};
 use std::alloc::{AllocError, Global};
 
-/// Notes the faults of what the database with this metadata holds. An error is want of memory.
+/// Notes the faults of what the database with this metadata holds. An error means that memory ran out.
 fn note_database<'a, F: FaultSink>(
     alloc: Global,
     linked: &Linked<'a>,
@@ -58,7 +58,7 @@ fn is_asked(which: Which, is_master: bool) -> bool
 }
 
 /// Notes the faults of those databases that are asked for. What is found of chains that are shared is kept for all of them. An
-/// error is want of memory.
+/// error means that memory ran out.
 #[tactic(auto, using(bdb_any_order::proofs::DatabaseLemmas::has_metadata))]
 fn note_databases<'a, F: FaultSink>(
     alloc: Global,
@@ -126,7 +126,7 @@ fn note_all<'a, F: FaultSink + Drop>(
 }
 
 /// Notes the faults of stage 8 that count: what the databases hold and breaks their rules. What is found of chains that are shared
-/// is kept for all databases. An error is want of memory.
+/// is kept for all databases. An error means that memory ran out.
 pub(crate) fn note_contents<F: FaultSink + Drop>(
     alloc: Global,
     linked: &Linked<'_>,

@@ -112,7 +112,7 @@ fn push_named(
 }
 
 /// The databases of a file without a fault of stages 6 and 7: those that its master names, in the order of its
-/// list, or the one on page 0, which has no name. An error is want of memory.
+/// list, or the one on page 0, which has no name. An error means that memory ran out.
 #[tactic(auto, using(crate::proofs::NamedLemmas::all_named, crate::proofs::NamedLemmas::one_unnamed))]
 pub fn databases_of(
     alloc: Global,

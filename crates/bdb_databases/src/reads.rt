@@ -19,7 +19,7 @@ impl<'a> Readable<'a> {
     }
 
     /// What a database has under a key, in order, whatever order its keys stand in: its list is gone over. Of records the key says the number, in one
-    /// to ten decimal digits. An error is want of memory.
+    /// to ten decimal digits. An error means that memory ran out.
     #[tactic(auto, using(crate::proofs::UnderLemmas::under_key))]
     pub fn find(&self, alloc: Global, db: Db, key: &[u8]) -> Result<Found<'a>, AllocError>
         requires { db < length (databases (file_of self.now)) }

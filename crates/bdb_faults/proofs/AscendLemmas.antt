@@ -1,9 +1,7 @@
 -- The faults of each stage ascend by page and code.
 use Rattle.std.proofs.Common.{◌≡◌, ℕ, zero, suc, ◌+◌, ◌-◌, ◌<◌, ◌≤◌, Bool, true, false, cond, List, [], ◌∷◌, ◌++◌, map, arith, refl, sym, ◌∙◌, ap, subst, inl}
-use Rattle.std.proofs.Common.{inr}
-use Rattle.std.specs.Prelude.{◌==◌, if◌then◌else◌, Option, Some, None}
+use Rattle.std.proofs.Common.{inr, ◌==◌, if◌then◌else◌, Option, Some, None, option_to_list}
 use Rattle.std.specs.List.{Contains, range_with_len}
-use Rattle.std.specs.Option.{option_to_list}
 use Rattle.std.proofs.lemmas.List.Elements.{Contains-append_cases}
 use Rattle.bdb_format.specs.Terms.{BtreeFields, File, HashFields, Metadata, QueueFields, Row, btree_contents, by_page, chain_faults, chain_rows}
 use Rattle.bdb_format.specs.Terms.{contents_faults, contents_rows, database_faults, database_rows, faults_in, file_of, first_row, form_code, form_faults}

@@ -1,15 +1,13 @@
 -- The first of some faults, and of one more.
-use Rattle.std.proofs.Common.{◌≡◌, ◌⊎◌, ◌++◌, List, [], ◌∷◌, length, arith, refl, sym, ◌∙◌, ap, subst, inl, inr}
+use Rattle.std.proofs.Common.{◌≡◌, ◌⊎◌, ◌++◌, List, [], ◌∷◌, length, arith, refl, sym, ◌∙◌, ap, subst, inl, inr, ◌==◌, true, Option, Some, None, is_none, OnOk}
+use Rattle.std.proofs.Common.{Result, Contains, option_map}
 use Rattle.std.proofs.lemmas.Bool.{ne_eqb}
-use Rattle.std.specs.Prelude.{◌==◌, true, Option, Some, None, is_none, OnOk, Result}
-use Rattle.std.specs.List.{Contains}
 use Rattle.std.proofs.lemmas.List.Elements.{Contains-append_cases, Contains-append_left, Contains-append_right}
 use Rattle.bdb_format.specs.Terms.{ComesFirst, as_verdict, first_fault, first_judgement, judgement_of}
 use Rattle.bdb_format.specs.declared.kinds.Fault.{Fault}
 use Rattle.bdb_format.proofs.MemberLemmas.{first_member, member_cases, no_member}
 use Rattle.bdb_format.proofs.ListLemmas.{only_member}
 use Rattle.bdb_format.proofs.FaultLemmas.{comes_itself, comes_through}
-use Rattle.std.specs.Option.{option_map}
 use Rattle.bdb_faults.specs.Refusals.{IsFirstRefusal, first_verdict, is_first_memory}
 use Rattle.bdb_faults.specs.declared.refusals.FirstError.{FirstError}
 use Rattle.bdb_faults.specs.declared.refusals.FirstError.TheVariants.{Fault as FirstFault, Memory as FirstMemory}

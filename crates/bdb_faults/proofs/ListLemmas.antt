@@ -1,7 +1,5 @@
 -- The list of all that was noted, once it's settled.
-use Rattle.std.proofs.Common.{◌≡◌, ◌↔◌, ◌<◌, length, List, [], ◌∷◌, arith, refl, sym, ◌∙◌, ap, subst, inl, inr}
-use Rattle.std.specs.Prelude.{◌==◌, Bool, true, false}
-use Rattle.std.specs.List.{Contains}
+use Rattle.std.proofs.Common.{◌≡◌, ◌↔◌, ◌<◌, length, List, [], ◌∷◌, arith, refl, sym, ◌∙◌, ap, subst, inl, inr, ◌==◌, Bool, true, false, Contains}
 use Rattle.bdb_format.specs.declared.kinds.Fault.{Fault}
 use Rattle.bdb_format.proofs.MemberLemmas.{first_member, later_member, member_cases, no_member}
 use Rattle.bdb_faults.specs.Notes.{AreOne, AreSame, Ascends, ComesBefore, HasJust, HasNoted}

@@ -21,7 +21,7 @@ abbrev pub first_verdict : FirstError → Verdict
 first_verdict (FirstFault named) = as_verdict (judgement_seen named)
 first_verdict FirstMemory = VerdictMemory
 
--- it is the first of these faults, or want of memory
+-- it is the first of these faults, or lack of memory
 abbrev pub IsFirstRefusal : List Fault → FirstError → Type 0
 IsFirstRefusal faults error = IsFirstOf faults (check_error error)
 
@@ -36,7 +36,7 @@ first_alike (x ∷ xs) ys (FirstFault named) same is =
     subst (λ (fs : List Fault). first_fault fs ≡ Some (fault_seen named)) (sym (same (λ none. absurd cc))) is
 first_alike xs ys FirstMemory same is = tt
 
--- a refusal has all of these faults, of which there is one at least; or it's want of memory
+-- a refusal has all of these faults, of which there is one at least; or memory ran out
 abbrev pub IsAllOf : List Fault → AllError → Type 0
 IsAllOf faults (Faults all) = (0 < length faults) × (all ≡ faults)
 IsAllOf faults AllMemory = Unit {0}

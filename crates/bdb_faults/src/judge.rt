@@ -7,20 +7,20 @@ use std::alloc::{AllocError, Global};
 
 /// A sink that refuses what it judges by what was noted in it.
 pub trait Judge: FaultSink {
-    /// Why it refuses: what was noted, or want of memory.
+    /// Why it refuses: what was noted, or lack of memory.
     type Refusal;
 
     /// Whether it refuses so where these faults hold.
     ghost refuses: { List FaultSeen → Self.Refusal → Type 0 };
 
-    /// Whether it refuses for want of memory.
+    /// Whether it refuses for lack of memory.
     ghost wants_memory: { Self.Refusal → Bool };
 
     /// Nothing is noted.
     fn begin(alloc: Global) -> Self
         ensures { Self.has_noted result [] };
 
-    /// The refusal for want of memory.
+    /// The refusal for lack of memory.
     fn memory() -> Self::Refusal
         ensures refused { (faults : List FaultSeen) → refuses faults result }
         ensures want { wants_memory result ≡ true };
@@ -36,7 +36,7 @@ pub trait Judge: FaultSink {
 }
 
 /// What a check answered, where it noted nothing. Else a refusal: with what it noted in a sink that had noted nothing, or for
-/// want of memory.
+/// lack of memory.
 pub fn judged<J: Judge + Drop, T: Drop>(
     found: J,
     answer: Result<T, AllocError>,

@@ -70,7 +70,7 @@ impl NamedList {
         }
     }
 
-    /// Adds one at the end. An error is want of memory.
+    /// Adds one at the end. An error means that memory ran out.
     pub fn push(&mut self, named: Named) -> Result<(), AllocError>
         ensures ok { OnOk result (self.new ≡ self.old ++ fault_seen named ∷ []) }
         ensures err { OnErr result (self.new ≡ self.old) }

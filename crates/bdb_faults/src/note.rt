@@ -6,7 +6,7 @@ use crate::FaultSink;
 use bdb_format::Row;
 use std::alloc::AllocError;
 
-/// Notes a row at a page, where it holds there. An error is want of memory.
+/// Notes a row at a page, where it holds there. An error means that memory ran out.
 #[tactic(auto, using(crate::proofs::SinkLemmas::notes_nothing))]
 pub fn note_if<F: FaultSink>(
     found: &mut F,

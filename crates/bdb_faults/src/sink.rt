@@ -14,7 +14,7 @@ pub trait FaultSink {
     /// Whether noting takes memory, so that it may be refused.
     ghost takes_memory: { Bool };
 
-    /// Notes a row at one more page. An error is want of memory; what was noted has no meaning then.
+    /// Notes a row at one more page. An error means that memory ran out; what was noted has no meaning then.
     fn note(&mut self, row: Row, page: u32) -> Result<(), AllocError>
         ensures noted { OnOk result (Notes (has_noted self.old) (has_noted self.new) (fault_at row page ∷ [])) }
         ensures refused { OnErr result (IsTrue takes_memory) };

@@ -36,7 +36,7 @@ fn readable<'a, J: Judge + Drop, L: Ledger>(
 }
 
 /// An image as a file whose databases can be read. A refusal has what holds, of the rows that count, of the first of the eight
-/// stages in which one holds; a case that is left out by name stands among them. It takes no more steps than the image has whole
+/// stages in which one holds; a case that isn't supported stands among them. It takes no more steps than the image has whole
 /// pages.
 #[tactic(auto, using(crate::proofs::VerdictLemmas::whole_pages))]
 pub fn verify_by<'a, J: Judge + Drop, L: Ledger>(
@@ -73,7 +73,7 @@ pub fn sound_by<'a, J: Judge + Drop, L: Ledger>(
 }
 
 /// The same, or else the verdict on the image: the least page, and there the least row, of the first stage in which a row holds, or
-/// the case that is left out by name. `Memory` is want of memory.
+/// the case that isn't supported. `Memory` means that memory ran out.
 #[tactic(auto, using(crate::proofs::RowsLemmas::none_judged, crate::proofs::RowsLemmas::first_told))]
 pub fn verify<'a, L: Ledger>(
     alloc: Global,
@@ -92,7 +92,7 @@ pub fn verify<'a, L: Ledger>(
     }
 }
 
-/// The same, or else all that holds, page by page and row by row, each once. `Memory` is want of memory; the list takes at most 24
+/// The same, or else all that holds, page by page and row by row, each once. `Memory` means that memory ran out; the list takes at most 24
 /// bytes for each fault.
 pub fn verify_all<'a, L: Ledger>(
     alloc: Global,

@@ -1,6 +1,5 @@
 -- Where the items of a page lie of which no row holds.
-use Rattle.std.proofs.Common.{◌≡◌, ◌∙◌, ◌⊎◌, inl, inr, ℕ, ◌+◌, ◌<◌, ◌≤◌, List, length, ap, arith, refl}
-use Rattle.std.specs.Prelude.{◌==◌, cond, slice_range, Bool, true, false, None}
+use Rattle.std.proofs.Common.{◌≡◌, ◌∙◌, ◌⊎◌, inl, inr, ℕ, ◌+◌, ◌<◌, ◌≤◌, List, length, ap, arith, refl, ◌==◌, cond, slice_range, Bool, true, false, None}
 use Rattle.std.proofs.lemmas.Bool.{eq-eqb, ne_eqb}
 use Rattle.std.proofs.lemmas.Bool.Decides.{nat_tests}
 use Rattle.bdb_layout.specs.of_format.declared.kinds.Order.{Order}

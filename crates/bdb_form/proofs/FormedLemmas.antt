@@ -1,7 +1,6 @@
 -- What it means for a page with an index that no row of form holds for it.
 use Rattle.std.proofs.Common.{[], ◌∷◌, ◌≡◌, ℕ, ◌%◌, ◌<◌, ◌≤◌, List, length, drop, arith, refl, sym, ap, ◌∙◌, ltb-false, nat_eq, eq-eqb, eqb-true, ◌*◌, ◌-◌}
-use Rattle.std.proofs.Common.{le-leb, ne_eqb}
-use Rattle.std.specs.Prelude.{slice_index, not, ◌==◌, IsTrue, Bool, true, false, Option, Some, None, slice_get}
+use Rattle.std.proofs.Common.{le-leb, ne_eqb, slice_index, not, ◌==◌, IsTrue, Bool, true, false, Option, Some, None, slice_get, option_map}
 use Rattle.bdb_layout.specs.of_format.declared.kinds.Order.{Order}
 use Rattle.bdb_layout.specs.of_format.declared.kinds.Order.TheVariants.{Big}
 use Rattle.bdb_layout.specs.of_format.Terms.{Queue, body_code, byte_at, code_of, entries_of, first_row, form_row_code, four_at, index_end, index_rows}
@@ -9,7 +8,6 @@ use Rattle.bdb_layout.specs.of_format.Terms.{is_queue_type, is_shared_key, is_tr
 use Rattle.bdb_layout.specs.of_format.Terms.{page_code, page_type, queue_code, ◌:?◌}
 use Rattle.bdb_layout.specs.of_format.declared.pages.PageType.{PageType}
 use Rattle.bdb_layout.specs.of_format.declared.pages.PageType.TheVariants.{Free as FreePage, Overflow as OverflowPage}
-use Rattle.std.specs.Option.{option_map}
 use Rattle.bdb_layout.specs.of_format.declared.pages.ItemFault.{ItemFault}
 use Rattle.bdb_layout.specs.of_format.declared.pages.ItemFault.TheVariants.{Offset, Kind, Extent}
 use Rattle.bdb_layout.specs.ItemRows.{item_form}

@@ -1,6 +1,5 @@
 -- The slots of a queue page, by the bytes behind its first 28.
-use Rattle.std.proofs.Common.{◌≡◌, ℕ, ◌+◌, ◌*◌, ◌-◌, ◌≤◌, List, length, take, drop, arith, sym, ap, length-drop}
-use Rattle.std.specs.Prelude.{slice_range, slice_index}
+use Rattle.std.proofs.Common.{◌≡◌, ℕ, ◌+◌, ◌*◌, ◌-◌, ◌≤◌, List, length, take, drop, arith, sym, ap, length-drop, slice_range, slice_index}
 use Rattle.std.proofs.lemmas.List.{get_or-drop, drop-drop}
 use Rattle.bdb_layout.specs.of_format.Terms.{pad4}
 

@@ -1,7 +1,5 @@
 -- Bytes that are all 0: the first is, and each other is the one before it.
-use Rattle.std.proofs.Common.{◌≡◌, ℕ, ◌-◌, true, false, true≢false, List, [], ◌∷◌, length, take, drop, get_or, arith, refl, sym, ◌∙◌, ap}
-use Rattle.std.proofs.Common.{inl, inr}
-use Rattle.std.specs.Prelude.{◌==◌, ◌&&◌}
+use Rattle.std.proofs.Common.{◌≡◌, ℕ, ◌-◌, true, false, true≢false, List, [], ◌∷◌, length, take, drop, get_or, arith, refl, sym, ◌∙◌, ap, inl, inr, ◌==◌, ◌&&◌}
 use Rattle.std.specs.Str.{bytes_eq}
 use Rattle.std.proofs.Math.Seq.{take-length}
 use Rattle.std.proofs.lemmas.Bool.{cases_Bool, cases_eq, eq-eqb, ne_eqb}

@@ -1,6 +1,5 @@
 -- Laws that several crates use.
-use Rattle.std.proofs.Common.{arith, ◌≡◌, Bool, true, false, ◌&&◌, cond, ◌||◌}
-use Rattle.std.specs.Prelude.{◌||◌, not}
+use Rattle.std.proofs.Common.{arith, ◌≡◌, Bool, true, false, ◌&&◌, cond, ◌||◌, not}
 
 -- where both are false together and the first is true, the second is false
 pub second_false : (a b : Bool) → a ≡ true → (a && b) ≡ false → b ≡ false

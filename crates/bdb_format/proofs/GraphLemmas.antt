@@ -1,9 +1,7 @@
 -- Laws of references that fit, owners and roles.
 use Rattle.std.proofs.Common.{◌≡◌, ◌⊎◌, ℕ, zero, suc, ◌+◌, ◌<◌, ◌≤◌, Bool, true, false, not, ◌&&◌, ◌||◌, List, [], ◌∷◌, map, length, Option, None, arith, refl}
-use Rattle.std.proofs.Common.{sym, ◌∙◌, ap, inl, inr, true≢false}
-use Rattle.std.specs.Prelude.{nat_lt, ◌==◌}
+use Rattle.std.proofs.Common.{sym, ◌∙◌, ap, inl, inr, true≢false, nat_lt, ◌==◌, option_to_list}
 use Rattle.std.specs.List.{Contains, list_any, range_with_len}
-use Rattle.std.specs.Option.{option_to_list}
 use Rattle.std.proofs.lemmas.Bool.{cases_Bool, not-false, eqb-true, and_parts, and_right}
 use Rattle.bdb_format.specs.declared.kinds.Order.{Order}
 use Rattle.bdb_format.specs.declared.metadata.Head.{Head}

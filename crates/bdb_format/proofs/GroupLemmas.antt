@@ -1,7 +1,6 @@
 -- The first of the numbers from a place on that passes a test.
 use Rattle.std.proofs.lemmas.Bool.{cases_eq}
-use Rattle.std.proofs.Common.{◌≡◌, ℕ, zero, suc, ◌+◌, ◌<◌, ◌≤◌, Bool, true, arith}
-use Rattle.std.specs.Option.{unwrap_or}
+use Rattle.std.proofs.Common.{◌≡◌, ℕ, zero, suc, ◌+◌, ◌<◌, ◌≤◌, Bool, true, arith, unwrap_or}
 use Rattle.std.specs.List.{find, range_with_len}
 
 -- the first of the n numbers from a on that passes, else d

@@ -1,10 +1,8 @@
 -- The order of numbers and of keys is strict and total, and a test tells equal ones.
-use Rattle.std.specs.Ordering.{is_eq, nat_cmp}
+use Rattle.std.proofs.Common.{is_eq, nat_cmp, ◌≡◌, ℕ, List, [], ◌∷◌, refl, arith, le-ltb, eq-eqb, false, true}
 use Rattle.std.proofs.lemmas.Bool.{cases_order, false_from_ne_true}
 use Rattle.std.proofs.lemmas.Bool.Decides.{nat_tests}
 use Rattle.std.proofs.lemmas.Slice.Eq.{bytes_eq-Decides}
-use Rattle.std.proofs.Common.{◌≡◌, ℕ, List, [], ◌∷◌, refl, arith, le-ltb, eq-eqb}
-use Rattle.std.specs.Prelude.{false, true}
 use Rattle.std.specs.Str.{bytes_eq}
 use Rattle.bdb_format.specs.Terms.{Less, less}
 

@@ -1,8 +1,7 @@
 -- Laws of a page with an index, and of the rows of its items.
 use Rattle.std.proofs.lemmas.Bool.Decides.{nat_tests}
-use Rattle.std.proofs.Common.{◌≡◌, ℕ, suc, ◌+◌, ◌<◌, ◌≤◌, List, [], ◌∷◌, length, arith, refl, sym, ◌∙◌, ap, eq-eqb, zero}
-use Rattle.std.specs.Prelude.{Bool, cond, slice_get, slice_index, replicate, ◌==◌, true, Option, Some, None, Ok}
-use Rattle.std.specs.Option.{option_map}
+use Rattle.std.proofs.Common.{◌≡◌, ℕ, suc, ◌+◌, ◌<◌, ◌≤◌, List, [], ◌∷◌, length, arith, refl, sym, ◌∙◌, ap, eq-eqb, zero, Bool, cond, slice_get, slice_index}
+use Rattle.std.proofs.Common.{replicate, ◌==◌, true, Option, Some, None, Ok, option_map}
 use Rattle.std.proofs.lemmas.List.{drop-replicate, get_or-replicate, take-replicate}
 use Rattle.std.proofs.Math.Dec.{eqb-suc-zero}
 use Rattle.std.proofs.lemmas.List.FromFn.{length-map-range_with_len, get_or-map-range_with_len}

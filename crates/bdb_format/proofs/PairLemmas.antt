@@ -1,7 +1,5 @@
 -- Laws that several crates use.
-use Rattle.std.proofs.Common.{arith}
-use Rattle.std.proofs.Common.{List, [], ◌∷◌, refl, subst, inl, inr, ◌≡◌, ℕ, ◌++◌, Bool, true, false, cond}
-use Rattle.std.specs.List.{Contains}
+use Rattle.std.proofs.Common.{arith, List, [], ◌∷◌, refl, subst, inl, inr, ◌≡◌, ℕ, ◌++◌, Bool, true, false, cond, Contains}
 use Rattle.bdb_format.specs.Terms.{File, ListKey, StoredPair, btree_contents, get, neighbours, neighbours_from, recno_contents}
 use Rattle.bdb_format.proofs.MemberLemmas.{first_member, later_member, member_cases, no_member}
 use Rattle.std.proofs.lemmas.List.{map-append}

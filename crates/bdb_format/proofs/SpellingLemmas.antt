@@ -1,6 +1,6 @@
 -- What is read from bytes that spell a value, wherever they stand.
 use Rattle.std.proofs.Common.{◌≡◌, ℕ, zero, suc, ◌+◌, ◌-◌, ◌*◌, ◌/◌, ◌%◌, ◌^◌, ◌<◌, ◌≤◌, List, [], ◌∷◌, ◌++◌, length, take, drop, reverse, refl, sym, ap, ◌∙◌}
-use Rattle.std.proofs.Common.{arith, append_assoc, length-append, length-take, length-drop}
+use Rattle.std.proofs.Common.{arith, append_assoc, length-append, length-take, length-drop, slice_range}
 use Rattle.std.proofs.Math.Nat.{add-mul, add_assoc, div-add-mod', div-div-eq-div-mul, div-one, mod-eq_of_lt, mod-lt, mul-add-mod_self_right, mul-le-mul_right}
 use Rattle.std.proofs.Math.Nat.{mul_assoc, one-le-pow, pow-suc}
 use Rattle.std.proofs.Math.Seq.{drop-append_seam}
@@ -8,7 +8,6 @@ use Rattle.std.proofs.lemmas.List.{reverse-append, take_at, drop_at, drop-drop, 
 use Rattle.std.specs.Int.{byte_at as byte_of, bytes_low_first, bytes_high_first}
 use Rattle.bdb_format.specs.declared.kinds.Order.{Order}
 use Rattle.bdb_format.specs.declared.kinds.Order.TheVariants.{Big, Little}
-use Rattle.std.specs.Prelude.{slice_range}
 use Rattle.bdb_format.specs.Terms.{byte_at, from_low_end, number, number_at, overwritten, spelled}
 
 -- Numbers.

@@ -1,6 +1,5 @@
 -- What the items of pages hold, item by item, and the pages that they name.
-use Rattle.std.proofs.Common.{◌≡◌, ℕ, ◌<◌, false, Bool, cond, List, [], ◌∷◌, map, length, arith, refl, sym, ◌∙◌, ap, subst}
-use Rattle.std.specs.Prelude.{not}
+use Rattle.std.proofs.Common.{◌≡◌, ℕ, ◌<◌, false, Bool, cond, List, [], ◌∷◌, map, length, arith, refl, sym, ◌∙◌, ap, subst, not}
 use Rattle.std.specs.List.{Contains, filter, flat_map, range_with_len}
 use Rattle.std.proofs.lemmas.List.Elements.{Contains-append_left}
 use Rattle.std.proofs.lemmas.List.Folds.{flat_map-map}

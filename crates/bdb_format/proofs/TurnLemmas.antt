@@ -1,6 +1,5 @@
--- Numbers and bytes that stand after other bytes, and pages whose numbers are turned round.
-use Rattle.std.proofs.Common.{◌≡◌, ◌∙◌, ℕ, ◌+◌, ◌-◌, ◌≤◌, List, ◌++◌, length, take, drop, reverse, refl, ap, arith, length-drop}
-use Rattle.std.specs.Prelude.{slice_range}
+-- Numbers and bytes that stand after other bytes, and pages whose numbers are byte-swapped.
+use Rattle.std.proofs.Common.{◌≡◌, ◌∙◌, ℕ, ◌+◌, ◌-◌, ◌≤◌, List, ◌++◌, length, take, drop, reverse, refl, ap, arith, length-drop, slice_range}
 use Rattle.std.proofs.Math.Seq.{drop-append-add, take-append_seam}
 use Rattle.std.proofs.lemmas.List.{length-take-le, length-reverse, reverse-reverse, get_or-append-add, get_or-drop}
 use Rattle.bdb_format.specs.declared.kinds.Order.{Order}
@@ -38,7 +37,7 @@ number_at_front_turned n order piece rest e =
 pub length-slice_range : (bytes : List ℕ) (from to : ℕ) → to ≤ length bytes → length (slice_range bytes from to) ≡ to - from
 length-slice_range bytes from to h = length-take-le (to - from) (drop from bytes) (omega (arith, length-drop from bytes))
 
--- the header of a page, of which the numbers are turned round, piece by piece
+-- the header of a page, of which the numbers are byte-swapped, piece by piece
 pub header-turned_pieces :
     (order : Order) (lsn own previous next entries high rest : List ℕ)
     → length lsn ≡ 8 → length own ≡ 4 → length previous ≡ 4 → length next ≡ 4 → length entries ≡ 2 → length high ≡ 2
@@ -84,7 +83,7 @@ header-turned_pieces order lsn own previous next entries high rest l0 l1 l2 l3 l
       past 1,
     ) refl
 
--- a page with each number of its header turned round has the same header in the other order
+-- a page with each number of its header byte-swapped has the same header in the other order
 pub header-turned : (order : Order) (page : List ℕ) → 26 ≤ length page → header_of (turned order) (turned_header page) ≡ header_of order page
 unfolding number_at
 header-turned order page h =

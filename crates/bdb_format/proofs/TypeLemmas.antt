@@ -1,6 +1,5 @@
 -- Laws that several crates use.
-use Rattle.std.proofs.Common.{ℕ, List, [], ◌∷◌, ◌≡◌, ◌⊎◌, inl, inr, true, false, refl, subst, Bool, cond, Option, Some}
-use Rattle.std.specs.Prelude.{Option, Some, ◌==◌, ◌||◌, None}
+use Rattle.std.proofs.Common.{ℕ, List, [], ◌∷◌, ◌≡◌, ◌⊎◌, inl, inr, true, false, refl, subst, Bool, cond, Option, Some, ◌==◌, ◌||◌, None}
 use Rattle.std.specs.List.{list_any}
 use Rattle.std.proofs.lemmas.Bool.{eqb-true}
 use Rattle.bdb_format.specs.Terms.{Internal, Page, child_types, children_in, has_type, page_type, type_in}

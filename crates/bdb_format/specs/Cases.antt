@@ -1,4 +1,4 @@
--- What a row is told as: a fault, or a case that is left out by name. Source: docs/FORMAT.md, "Unsupported cases".
+-- What a row is told as: a fault, or a case that isn't supported. Source: docs/FORMAT.md, "Unsupported cases".
 use Rattle.std.specs.Prelude.{ℕ, Option, Some, None}
 use Rattle.bdb_format.specs.declared.kinds.Fault.{Fault}
 use Rattle.bdb_format.specs.declared.kinds.Unsupported.{Unsupported}

@@ -16,11 +16,11 @@ pub record PageOf (head : Head) (at : ℕ) (bytes : List ℕ) (page : Page) : Ty
 abbrev pub StandsForOne : Type 0
 StandsForOne = (head : Head) (at : ℕ) (bytes : List ℕ) (page other : Page) → PageOf head at bytes page → PageOf head at bytes other → page ≡ other
 
--- a number whose bytes are turned round says the same in the other order
+-- a number whose bytes are byte-swapped says the same in the other order
 abbrev pub NumbersTurn : Type 0
 NumbersTurn = (order : Order) (bytes : List ℕ) → number (turned order) (reverse bytes) ≡ number order bytes
 
--- a page with each number of its header turned round
+-- a page with each number of its header byte-swapped
 abbrev pub turned_header : List ℕ → List ℕ
 turned_header page =
     take 8 page ++ (reverse (slice_range page 8 12) ++ (reverse (slice_range page 12 16) ++ (reverse (slice_range page 16 20)

@@ -188,7 +188,7 @@ abbrev pub as_verdict : Judgement → Verdict
 as_verdict (Faulty fault) = FaultVerdict fault
 as_verdict (LeftOut name page) = UnsupportedVerdict name page
 
--- a refusal is the first of these faults, or want of memory
+-- a refusal is the first of these faults, or lack of memory
 abbrev pub IsFirstOf : List Fault → CheckError → Type 0
 IsFirstOf faults (FaultError fault) = first_fault faults ≡ Some fault
 IsFirstOf faults MemoryError = Unit {0}

@@ -22,7 +22,7 @@ pub struct Fault {
     pub code: u8,
 }
 
-/// A file that is left out by name.
+/// A file that isn't supported.
 #[derive(Clone, Copy, Debug, PartialEq, Eq)]
 pub enum Unsupported {
     Version,

@@ -7,8 +7,8 @@ pub fn stands_for_one()
     ensures { StandsForOne }
 {}
 
-/// Numbers, and the numbers of a header, say the same in the other order where their bytes are turned
-/// round.
+/// Numbers, and the numbers of a header, say the same in the other order where their bytes are byte-swapped
+///.
 pub fn turns()
     ensures numbers { NumbersTurn }
     ensures headers { HeadersTurn }

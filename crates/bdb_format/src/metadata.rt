@@ -27,7 +27,7 @@ pub struct Head {
 pub enum MetaFault {
     /// The code of the row of the fault table that holds.
     Fault(u8),
-    /// A case that is left out by name.
+    /// A case that isn't supported.
     Unsupported(Unsupported),
 }
 

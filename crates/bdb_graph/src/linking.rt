@@ -45,7 +45,7 @@ pub fn link_by<'a, J: Judge + Drop, L: Ledger>(
     }
 }
 
-/// The same, or else the first fault. `Memory` is want of memory.
+/// The same, or else the first fault. `Memory` means that memory ran out.
 pub fn link<'a, L: Ledger>(
     alloc: Global,
     formed: Formed<'a>,
@@ -62,7 +62,7 @@ pub fn link<'a, L: Ledger>(
     }
 }
 
-/// The same, or else all that holds, page by page and row by row, each once. `Memory` is want of memory, that for the list of
+/// The same, or else all that holds, page by page and row by row, each once. `Memory` means that memory ran out, that for the list of
 /// them too.
 pub fn link_all<'a, L: Ledger>(
     alloc: Global,
@@ -106,7 +106,7 @@ fn walked<'a>(alloc: Global, formed: Formed<'a>, walk: Walk) -> Result<Linked<'a
 }
 
 /// Notes the faults of the first of stages 3 to 5 that has any, in one step for each page, and tells what the
-/// references tell. An error is want of memory. It takes 16 bytes for each page, 24 where the file has a table.
+/// references tell. An error means that memory ran out. It takes 16 bytes for each page, 24 where the file has a table.
 fn note_graph<L: Ledger, F: FaultSink>(
     alloc: Global,
     formed: &Formed<'_>,
@@ -132,7 +132,7 @@ fn note_graph<L: Ledger, F: FaultSink>(
     Ok(Walk { kinds, owned })
 }
 
-/// Notes the faults of stage 4, or else of stage 5. An error is want of memory.
+/// Notes the faults of stage 4, or else of stage 5. An error means that memory ran out.
 fn note_roles<F: FaultSink>(
     alloc: Global,
     roles: &Roles<'_>,

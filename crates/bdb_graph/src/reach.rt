@@ -16,7 +16,7 @@ pub(crate) enum Mark {
 }
 
 /// Notes the pages from 1 on that don't reach an anchor or a reserve by the holders of first references. An error is
-/// want of memory. It takes a byte for each page, and comes to each page twice at most, besides the end of each
+/// lack of memory. It takes a byte for each page, and comes to each page twice at most, besides the end of each
 /// way: once on the way up, and once to mark it, whether it reaches or not.
 #[tactic(auto, using(crate::proofs::ReachLemmas::fit_file))]
 pub(crate) fn note_reach<F: FaultSink>(

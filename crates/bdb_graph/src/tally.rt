@@ -87,7 +87,7 @@ impl Tally {
 }
 
 /// Notes the references that don't fit, and tells the tallies of pages 0 to the last: the one walk over the
-/// references of the file, with one step for each page. An error is want of memory. It takes 12 bytes for each page, and
+/// references of the file, with one step for each page. An error means that memory ran out. It takes 12 bytes for each page, and
 /// as many more while it runs over a file with a table.
 pub(crate) fn note_references<L: Ledger, F: FaultSink>(
     alloc: Global,

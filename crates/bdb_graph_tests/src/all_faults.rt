@@ -129,7 +129,7 @@ const CASES: [Case; 7] = [
             },
         ],
     },
-    // A case that is left out by name, beside a fault of form on page 1.
+    // A case that isn't supported, beside a fault of form on page 1.
     Case {
         base: &PAIR,
         fields: &[Field::Four(48, 0x80), Field::Four(520, 7)],

@@ -76,7 +76,7 @@ fn of_chains(linked: &Linked<'_>) -> Option<u32> {
     }
 }
 
-/// The page and the code of a fault of leaves; none for want of memory.
+/// The page and the code of a fault of leaves; none for lack of memory.
 fn of_leaves(alloc: Global, linked: &Linked<'_>) -> Option<(u32, u8)> {
     match check_trees(alloc, linked) {
         Err(CheckError::Fault(Fault { page, code, .. })) => Some((page, code)),

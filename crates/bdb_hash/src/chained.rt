@@ -41,7 +41,7 @@ impl<'a> Chains<'a> {
         }
     }
 
-    /// The hash of the key of a pair. An error is want of memory, for a chain that is shared.
+    /// The hash of the key of a pair. An error means that memory ran out, for a chain that is shared.
     #[tactic(auto, using(bdb_buckets::proofs::HeadLemmas::chain_key))]
     #[inline(always)]
     pub(crate) fn hash_of(&mut self, pair: &Pair<'_>) -> Result<u32, AllocError>
@@ -70,7 +70,7 @@ impl<'a> Chains<'a> {
         Ok(hash)
     }
 
-    /// Whether the data of a set off the page ascend strictly. An error is want of memory, for chains that are shared or begin
+    /// Whether the data of a set off the page ascend strictly. An error means that memory ran out, for chains that are shared or begin
     /// with a blank page.
     pub(crate) fn set_ascends(&mut self, root: u32) -> Result<bool, AllocError>
         requires root { FitsDupRoot (file_of self.old) root }

@@ -60,7 +60,7 @@ fn note_by_bucket<'a, F: FaultSink>(
 }
 
 /// Notes each row of contents at each page where it holds for the table of this metadata, in any order and repeats
-/// allowed. What is found of chains is kept for the other tables of the file. An error is want of memory: the sink's, or that for hashes and keys.
+/// allowed. What is found of chains is kept for the other tables of the file. An error means that memory ran out: the sink's, or that for hashes and keys.
 pub fn note_contents<'a, F: FaultSink>(
     alloc: Global,
     linked: &Linked<'a>,
@@ -95,7 +95,7 @@ fn note_alone<F: FaultSink>(
 }
 
 /// No row of contents holds for the table of this metadata. A refusal is the first fault: the least page,
-/// and there the least code; or want of memory. It takes four bytes for each pair of the largest bucket, and memory for
+/// and there the least code; or lack of memory. It takes four bytes for each pair of the largest bucket, and memory for
 /// the keys of a bucket where two of them have one hash. Where a pair isn't in the bucket of its key it takes these for
 /// the whole table: four bytes for each pair, and memory for the keys whose hash another key has.
 pub fn check(alloc: Global, linked: &Linked<'_>, meta: &HashMeta) -> Result<(), CheckError>

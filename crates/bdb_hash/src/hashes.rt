@@ -48,7 +48,7 @@ fn push_bucket(
     Ok(())
 }
 
-/// The hashes of the keys of a table, four bytes each. An error is want of memory.
+/// The hashes of the keys of a table, four bytes each. An error means that memory ran out.
 #[tactic(auto, using(crate::proofs::ChainedLemmas::bucket_of_file, crate::proofs::HashedLemmas::hashes_more))]
 fn table_hashes(
     alloc: Global,
@@ -80,7 +80,7 @@ fn push_same(twice: &mut BTreeSet<u32>, before: u32, number: u32) -> Result<(), 
     Ok(())
 }
 
-/// The numbers that are among these twice or more often. These are sorted for that; an error is want of memory for those.
+/// The numbers that are among these twice or more often. These are sorted for that; an error means that memory ran out for those.
 fn repeated_of(alloc: Global, numbers: &mut Vec<u32>) -> Result<BTreeSet<u32>, AllocError>
     ensures { IfOk result (λ twice. IsDistinct (is_missed twice) numbers.old.items) }
 {

@@ -29,7 +29,7 @@ impl Passed {
         }
     }
 
-    /// One more pair. An error is want of memory.
+    /// One more pair. An error means that memory ran out.
     fn see(&mut self, hash: u32, is_stray: bool) -> Result<(), AllocError>
         ensures hashes { OnOk result (self.new.hashes.items ≡ self.old.hashes.items ++ hash ∷ []) }
         ensures stray { OnOk result (self.new.has_stray ≡ (self.old.has_stray || is_stray)) }
@@ -40,7 +40,7 @@ impl Passed {
     }
 }
 
-/// Notes a pair of a bucket by itself. An error is want of memory.
+/// Notes a pair of a bucket by itself. An error means that memory ran out.
 fn note_next<F: FaultSink>(
     passed: &mut Passed,
     known: &mut Chains<'_>,

@@ -39,7 +39,7 @@ fn is_refused(meta: &HashMeta, pair: &Pair<'_>) -> bool
     !meta.has_duplicates() && pair.is_duplicate()
 }
 
-/// Whether the data of a pair are out of order. An error is want of memory, for chains in a set off the page.
+/// Whether the data of a pair are out of order. An error means that memory ran out, for chains in a set off the page.
 fn is_out_of_order(pair: Pair<'_>, known: &mut Chains<'_>) -> Result<bool, AllocError>
     requires { pair.image ≡ known.old }
     ensures order { IfOk result (λ is. is ≡ not (ascends (data_of (file_of pair.entry.image) pair.entry.pair.data_item))) }
@@ -52,7 +52,7 @@ fn is_out_of_order(pair: Pair<'_>, known: &mut Chains<'_>) -> Result<bool, Alloc
     Ok(!ascends)
 }
 
-/// Whether the data of a pair are out of order in a table where they ascend. An error is want of memory, as above.
+/// Whether the data of a pair are out of order in a table where they ascend. An error means that memory ran out, as above.
 #[inline(always)]
 fn is_unsorted(pair: Pair<'_>, meta: &HashMeta, known: &mut Chains<'_>) -> Result<bool, AllocError>
     requires { pair.image ≡ known.old }
@@ -65,7 +65,7 @@ fn is_unsorted(pair: Pair<'_>, meta: &HashMeta, known: &mut Chains<'_>) -> Resul
     is_out_of_order(pair, known)
 }
 
-/// Notes each row that holds for a pair by itself, which is a stray or isn't. An error is want of memory: the sink's, or that for
+/// Notes each row that holds for a pair by itself, which is a stray or isn't. An error means that memory ran out: the sink's, or that for
 /// chains in a set off the page.
 #[inline(always)]
 pub(crate) fn note_pair<F: FaultSink>(

@@ -51,7 +51,7 @@ impl<'a> SeenKeys<'a> {
         }
     }
 
-    /// Notes a pair whose key is among these, and adds its key. An error is want of memory.
+    /// Notes a pair whose key is among these, and adds its key. An error means that memory ran out.
     #[tactic(auto, using(bdb_buckets::proofs::HeadLemmas::chain_key))]
     pub(crate) fn note<F: FaultSink>(
         &mut self,

@@ -8,7 +8,7 @@ ghost use Rattle.bdb_ranks.specs.of_overflow.Held.{FitsAny, FitsHeld, value_held
 use bdb_ranks::{Held, Values, is_deleted, leaf_held, tree_entries};
 use std::alloc::AllocError;
 
-/// Whether a value is above the last one, where there is one. An error is want of memory.
+/// Whether a value is above the last one, where there is one. An error means that memory ran out.
 fn follows(
     known: &mut Values<'_>,
     last: Option<Held<'_>>,
@@ -26,7 +26,7 @@ fn follows(
 }
 
 /// Whether the data of a set off the page ascend strictly. A chain isn't read to be compared with itself, and two that are shared
-/// are compared by their ranks. An error is want of memory, for chains that are shared or begin with a blank page.
+/// are compared by their ranks. An error means that memory ran out, for chains that are shared or begin with a blank page.
 pub(crate) fn set_ascends(known: &mut Values<'_>, root: u32) -> Result<bool, AllocError>
     requires root { FitsDupRoot (file_of known.old) root }
     requires stage { structure_faults (file_of known.old) ≡ [] }

@@ -46,7 +46,7 @@ impl<'a> Model for Near<'a> {
 }
 
 impl<'a> Near<'a> {
-    /// These places of a file. It takes room for the few that are taken at once; an error is want of memory.
+    /// These places of a file. It takes room for the few that are taken at once; an error means that memory ran out.
     pub(crate) fn over(
         alloc: Global,
         forest: &Forest<'a>,

@@ -29,7 +29,7 @@ impl<'a> Model for Ranked<'a> {
 }
 
 impl<'a> Ranked<'a> {
-    /// The pairs at these places. An error is want of memory.
+    /// The pairs at these places. An error means that memory ran out.
     pub(crate) fn over(
         alloc: Global,
         forest: &Forest<'a>,

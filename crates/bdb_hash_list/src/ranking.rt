@@ -65,7 +65,7 @@ fn push_bucket(places: &mut Vec<PairPlace>, pages: BucketPages<'_>) -> Result<()
 }
 
 /// The places of all pairs of a table, in the order of buckets, chains and indexes. Room for all is taken at once; an
-/// error is want of memory.
+/// error means that memory ran out.
 #[tactic(auto, using(crate::proofs::PlaceLemmas::bucket_added))]
 fn table_places(
     alloc: Global,
@@ -93,7 +93,7 @@ fn sort_places(forest: &Forest<'_>, places: &mut Vec<PairPlace>)
     places.sort_unstable_by(|a, b| compare_places(forest, a, b));
 }
 
-/// All pairs of a table, in the order of their keys. An error is want of memory.
+/// All pairs of a table, in the order of their keys. An error means that memory ran out.
 #[tactic(auto, using(crate::proofs::PlaceLemmas::sorted_places))]
 fn ranked_pairs<'a>(
     alloc: Global,

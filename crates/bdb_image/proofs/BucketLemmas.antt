@@ -1,6 +1,6 @@
 -- The buckets of a group stand on consecutive pages, and a run of them is judged by the last pages that fail.
 use Rattle.std.proofs.Common.{◌≡◌, ◌≢◌, ℕ, zero, suc, ◌+◌, ◌-◌, ◌^◌, ◌<◌, ◌≤◌, Bool, true, false, cond, List, [], ◌∷◌, ◌++◌, length, map, ap, ◌∙◌, arith, refl}
-use Rattle.std.proofs.Common.{sym, subst, inl, inr, add-zero}
+use Rattle.std.proofs.Common.{sym, subst, inl, inr, add-zero, get_or, min, nat_lt, ◌==◌, ◌&&◌, ◌||◌, not, Option, None, Some}
 use Rattle.std.proofs.Math.Nat.{le_antisymm}
 use Rattle.std.proofs.Math.Pow.{pow_mono}
 use Rattle.std.proofs.Math.Bool.{or-false}
@@ -9,7 +9,6 @@ use Rattle.std.proofs.lemmas.Bool.Decides.{nat_tests}
 use Rattle.std.proofs.lemmas.Grind.{common_steps}
 use Rattle.std.proofs.lemmas.List.{get_or_append_left, get_or_push}
 use Rattle.std.proofs.lemmas.List.Folds.{list_any-append}
-use Rattle.std.specs.Prelude.{get_or, min, nat_lt, ◌==◌, ◌&&◌, ◌||◌, not, Option, None, Some}
 use Rattle.std.specs.List.{list_any, range_with_len}
 use Rattle.bdb_faults.specs.of_format.declared.references.Reference.{Reference}
 use Rattle.bdb_faults.specs.of_format.declared.references.Sort.TheVariants.{Bucket}

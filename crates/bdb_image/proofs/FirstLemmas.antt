@@ -1,7 +1,5 @@
 -- What a formed image says of its pages.
-use Rattle.std.proofs.Common.{◌≡◌, ℕ, ◌+◌, ◌^◌, ◌<◌, ◌≤◌, true, false, cond, List, [], ◌∷◌, arith, refl}
-use Rattle.std.specs.Prelude.{Some, None, Result, Ok, Err}
-use Rattle.std.specs.Option.{option_to_list}
+use Rattle.std.proofs.Common.{◌≡◌, ℕ, ◌+◌, ◌^◌, ◌<◌, ◌≤◌, true, false, cond, List, [], ◌∷◌, arith, refl, Some, None, Result, Ok, Err, option_to_list}
 use Rattle.bdb_faults.specs.of_format.declared.metadata.Head.{Head}
 use Rattle.bdb_faults.specs.of_format.Terms.{Row, answer, faults_in, first_row, form_code, form_faults, head_faults, head_of, head_rows, page_bytes}
 use Rattle.bdb_faults.specs.of_format.Terms.{tail_faults}

@@ -53,7 +53,7 @@ pub fn open_image<'a>(alloc: Global, image: &'a [u8]) -> Result<Formed<'a>, Verd
     }
 }
 
-/// The same, or else all that holds, page by page and row by row, each once. `Memory` is want of memory for the list of them.
+/// The same, or else all that holds, page by page and row by row, each once. `Memory` means that memory ran out for the list of them.
 pub fn open_all<'a>(alloc: Global, image: &'a [u8]) -> Result<Formed<'a>, AllError>
     requires { length image.now ≤ 2 ^ 30 }
     ensures formed { IfOk result (λ formed. formed ≡ image.now) }

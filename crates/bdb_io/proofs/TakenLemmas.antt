@@ -1,6 +1,5 @@
 -- How many known bytes were taken, after one more piece.
-use Rattle.std.proofs.Common.{◌≡◌, ℕ, ◌+◌, ◌≤◌, List, length, take, arith, length-append, length-take}
-use Rattle.std.specs.Prelude.{Option}
+use Rattle.std.proofs.Common.{◌≡◌, ℕ, ◌+◌, ◌≤◌, List, length, take, arith, length-append, length-take, Option}
 use Rattle.std.specs.Io.KnownBytes.{Consumes}
 use Rattle.bdb_format.specs.Terms.{Took, TookAtMost}
 use Rattle.bdb_format.proofs.KnownLemmas.{consumes_next}

@@ -1,7 +1,6 @@
 -- The pairs that are read from the pages of a table are the keys that stand there, with their data.
 use Rattle.std.proofs.Common.{◌≡◌, ℕ, zero, suc, ◌+◌, ◌*◌, ◌<◌, ◌≤◌, Bool, true, false, List, [], ◌∷◌, ◌++◌, get_or, map, length, arith, refl, sym, ◌∙◌, ap}
-use Rattle.std.proofs.Common.{subst}
-use Rattle.std.specs.Prelude.{◌/◌, ◌==◌, not}
+use Rattle.std.proofs.Common.{subst, ◌/◌, ◌==◌, not}
 use Rattle.std.specs.List.{flat_map, range_with_len}
 use Rattle.std.proofs.lemmas.Bool.{ne_eqb}
 use Rattle.std.proofs.lemmas.List.{append-nil, get_or-map, length-map, map-append, same_lists}

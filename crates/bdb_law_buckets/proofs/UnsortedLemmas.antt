@@ -1,7 +1,6 @@
 -- The pages of the buckets of a table have the type that says that their keys are in no order, and trees of data say how many these are.
-use Rattle.std.proofs.Common.{◌≡◌, ℕ, zero, suc, ◌+◌, ◌<◌, ◌≤◌, Bool, List, [], ◌∷◌, length, Some, arith, sym, ◌∙◌, ap, subst, inl, inr}
-use Rattle.std.specs.Prelude.{◌^◌}
-use Rattle.std.specs.List.{All, Contains, flat_map}
+use Rattle.std.proofs.Common.{◌≡◌, ℕ, zero, suc, ◌+◌, ◌<◌, ◌≤◌, Bool, List, [], ◌∷◌, length, Some, arith, sym, ◌∙◌, ap, subst, inl, inr, ◌^◌, All, Contains}
+use Rattle.std.proofs.Common.{flat_map}
 use Rattle.std.proofs.lemmas.List.Elements.{All-cons, All-nil}
 use Rattle.std.proofs.lemmas.Nat.{pow_pos}
 use Rattle.bdb_law_grove.specs.of_format.Terms.{Content, File, StoredPair, chain_in, page_at, pairs_of, type_in}

@@ -1,7 +1,5 @@
 -- Branches: groves with right chains and right sets.
-use Rattle.std.proofs.Common.{◌≡◌, ◌⊎◌, ℕ, ◌+◌, ◌<◌, ◌≤◌, Bool, true, List, [], ◌∷◌, length, arith, sym, ◌∙◌, ap, subst, inl, inr}
-use Rattle.std.proofs.Common.{true≢false}
-use Rattle.std.specs.Prelude.{◌==◌}
+use Rattle.std.proofs.Common.{◌≡◌, ◌⊎◌, ℕ, ◌+◌, ◌<◌, ◌≤◌, Bool, true, List, [], ◌∷◌, length, arith, sym, ◌∙◌, ap, subst, inl, inr, true≢false, ◌==◌}
 use Rattle.std.specs.List.{Contains, list_any}
 use Rattle.std.proofs.lemmas.Bool.{cases_eq, eqb-true, or_cases}
 use Rattle.bdb_format.specs.declared.pages.Header.{Header}

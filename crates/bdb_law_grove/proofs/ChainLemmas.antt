@@ -1,7 +1,6 @@
 -- The pages of a chain are a grove that is entered by its first page, and hold the value.
 use Rattle.std.proofs.Common.{◌≡◌, ℕ, zero, suc, ◌+◌, ◌<◌, ◌≤◌, Bool, true, false, cond, List, [], ◌∷◌, map, length, None, arith, refl, sym, ◌∙◌, ap, subst}
-use Rattle.std.specs.Prelude.{◌==◌, ◌||◌, ◌&&◌, nat_le, nat_lt}
-use Rattle.std.specs.List.{Contains}
+use Rattle.std.proofs.Common.{◌==◌, ◌||◌, ◌&&◌, nat_le, nat_lt, Contains}
 use Rattle.std.proofs.Math.Path.{fun_ext}
 use Rattle.std.proofs.lemmas.Bool.{cases_Bool, cases_eq, and_parts, eqb-true, eq-eqb, ne_eqb, leb-true, ltb-true, le-leb, lt-ltb, or_left, or_right, or_cases}
 use Rattle.bdb_format.specs.declared.references.Reference.{Reference}

@@ -1,7 +1,6 @@
 -- What owners, references and faces are in a file whose pages stay as they were.
-use Rattle.std.proofs.Common.{◌≡◌, ℕ, ◌+◌, ◌-◌, ◌≤◌, Bool, true, false, List, [], ◌∷◌, ◌++◌, map, length, None, arith, refl, sym, ◌∙◌, ap, subst, inl}
-use Rattle.std.proofs.Common.{inr}
-use Rattle.std.specs.Prelude.{◌==◌, ◌||◌, nat_lt}
+use Rattle.std.proofs.Common.{◌≡◌, ℕ, ◌+◌, ◌-◌, ◌≤◌, Bool, true, false, List, [], ◌∷◌, ◌++◌, map, length, None, arith, refl, sym, ◌∙◌, ap, subst, inl, inr}
+use Rattle.std.proofs.Common.{◌==◌, ◌||◌, nat_lt}
 use Rattle.std.specs.List.{Contains, filter, flat_map, range_with_len, enumerate_from}
 use Rattle.std.proofs.lemmas.Bool.{ltb-false, ne_eqb, or_parts, or_from}
 use Rattle.std.proofs.lemmas.List.{map-append, append-nil}

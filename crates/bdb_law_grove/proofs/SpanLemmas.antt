@@ -1,6 +1,5 @@
 -- Groves of pages that follow each other.
-use Rattle.std.proofs.Common.{◌≡◌, ℕ, ◌≤◌, true, arith}
-use Rattle.std.specs.Prelude.{◌||◌}
+use Rattle.std.proofs.Common.{◌≡◌, ℕ, ◌≤◌, true, arith, ◌||◌}
 use Rattle.std.proofs.lemmas.Bool.{cases_lt, or_left, or_right, or_cases}
 use Rattle.bdb_format.proofs.MemberLemmas.{no_member}
 use Rattle.bdb_law_grove.specs.Part.{between}

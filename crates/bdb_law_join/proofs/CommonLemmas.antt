@@ -25,7 +25,7 @@ pub record ReadsAs (head : Head) (number : ℕ) (bytes : List ℕ) : Type 0 wher
   pub last_is : four_at head.order bytes 32 ≡ last_field number head.last
   pub partitions : four_at head.order bytes 36 ≡ 0
 
--- from bytes in either order the magic number is told from itself turned round
+-- from bytes in either order the magic number is told from itself byte-swapped
 order_from : (order : Order) (kind : FileKind) → (if is_magic (number Little (spelled 4 order (magic_of kind))) then Little else Big) ≡ order
 unfolding spelled
 order_from Little Btree = refl

@@ -1,7 +1,6 @@
 -- Separators and counts of the internal pages of towers.
 use Rattle.std.proofs.Common.{◌≡◌, ℕ, zero, suc, ◌+◌, ◌<◌, eq-eqb, true, false, not, Bool, List, [], ◌∷◌, ◌++◌, map, length, take, get_or, append-nil}
-use Rattle.std.proofs.Common.{append_assoc, arith, refl, sym, ◌∙◌, ap, subst}
-use Rattle.std.specs.Prelude.{◌==◌}
+use Rattle.std.proofs.Common.{append_assoc, arith, refl, sym, ◌∙◌, ap, subst, ◌==◌}
 use Rattle.std.specs.List.{All, Contains, flat_map, list_any, sum_by}
 use Rattle.std.proofs.lemmas.Bool.{le-ltb, or_from}
 use Rattle.std.proofs.lemmas.Grind.{flat_map-append}

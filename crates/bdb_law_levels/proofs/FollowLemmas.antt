@@ -1,7 +1,5 @@
 -- Pairs whose keys never fall, and rise where a pair has its own.
-use Rattle.std.proofs.Common.{arith}
-use Rattle.std.proofs.Common.{◌≡◌, ℕ, true, false, List, [], ◌∷◌, ◌++◌, refl, sym, ◌∙◌, ap, subst, inl, inr, true≢false}
-use Rattle.std.specs.List.{Contains, flat_map}
+use Rattle.std.proofs.Common.{arith, ◌≡◌, ℕ, true, false, List, [], ◌∷◌, ◌++◌, refl, sym, ◌∙◌, ap, subst, inl, inr, true≢false, Contains, flat_map}
 use Rattle.std.proofs.lemmas.Bool.{cases_Bool}
 use Rattle.bdb_law_grove.specs.of_format.Terms.{StoredPair, less}
 use Rattle.bdb_law_grove.proofs.of_format.LessLemmas.{less_self, less_trans}

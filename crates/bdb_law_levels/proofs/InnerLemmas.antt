@@ -1,9 +1,6 @@
 -- The internal pages of a tower are those of its levels.
-use Rattle.std.proofs.Common.{arith}
-use Rattle.std.proofs.Common.{◌≡◌, ℕ, zero, suc, ◌+◌, Bool, true, false, cond, List, [], ◌∷◌, ◌++◌, map, None, refl, sym, ◌∙◌, ap, subst}
-use Rattle.std.specs.Prelude.{◌==◌}
-use Rattle.std.specs.List.{All, filter, flat_map}
-use Rattle.std.specs.Option.{is_some, unwrap_or}
+use Rattle.std.proofs.Common.{arith, ◌≡◌, ℕ, zero, suc, ◌+◌, Bool, true, false, cond, List, [], ◌∷◌, ◌++◌, map, None, refl, sym, ◌∙◌, ap, subst, ◌==◌, All}
+use Rattle.std.proofs.Common.{filter, flat_map, is_some, unwrap_or}
 use Rattle.std.proofs.lemmas.Bool.{and_right, or_from}
 use Rattle.std.proofs.lemmas.List.Elements.{All-head, All-nil, All-tail, All-cons}
 use Rattle.std.proofs.lemmas.List.{map-append}

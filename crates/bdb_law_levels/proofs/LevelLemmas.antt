@@ -1,7 +1,5 @@
 -- Levels.
-use Rattle.std.proofs.Common.{arith}
-use Rattle.std.proofs.Common.{◌≡◌, ℕ, suc, List, [], ◌∷◌, Some, sym, ap}
-use Rattle.std.specs.List.{flat_map}
+use Rattle.std.proofs.Common.{arith, ◌≡◌, ℕ, suc, List, [], ◌∷◌, Some, sym, ap, flat_map}
 use Rattle.std.proofs.lemmas.Grind.{flat_map-append}
 use Rattle.bdb_law_grove.specs.of_format.Terms.{File, children_in, leaves_in, leaves_under, page_at}
 use Rattle.bdb_law_levels.specs.SameLeaves.{LevelsHaveTheSameLeaves}

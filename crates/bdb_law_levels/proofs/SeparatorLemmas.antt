@@ -1,7 +1,6 @@
 -- Separators that stand between the keys below the children.
 use Rattle.std.proofs.Common.{◌≡◌, ℕ, zero, suc, ◌+◌, ◌-◌, ◌<◌, ◌≤◌, true, false, not, List, [], ◌∷◌, length, take, drop, get_or, arith, refl, sym, ◌∙◌, ap}
-use Rattle.std.proofs.Common.{subst, inl, inr, true≢false}
-use Rattle.std.specs.Prelude.{◌&&◌, nat_le}
+use Rattle.std.proofs.Common.{subst, inl, inr, true≢false, ◌&&◌, nat_le}
 use Rattle.std.specs.List.{Contains, flat_map, list_any, range_with_len}
 use Rattle.std.proofs.lemmas.Bool.{cases_Bool, and_right, or_from}
 use Rattle.std.proofs.lemmas.List.{drop_more}

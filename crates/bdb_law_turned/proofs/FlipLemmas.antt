@@ -479,7 +479,7 @@ flips_back image can =
     ap (turned_page (turned head.order)) (flipped_page image can p (omega arith)) ∙ back_at image can p (omega arith))
     ∙ joins_back image head.page_size head.pages can.paged.whole)
 
--- An image with all its pages turned round is the same file, and turns back to the first bytes.
+-- An image with all its pages byte-swapped is the same file, and turns back to the first bytes.
 pub record TurnsWhole (image : List ℕ) : Type 0 where
   pub head : head_of (flipped image) ≡ turned_head (head_of image)
   pub file : file_of (flipped image) ≡ file_of image

@@ -1,4 +1,4 @@
--- Hash pages whose numbers are turned round.
+-- Hash pages whose numbers are byte-swapped.
 use Rattle.std.proofs.Common.{◌≡◌, ◌∙◌, ◌⊎◌, inl, inr, ℕ, zero, suc, ◌+◌, ◌-◌, ◌*◌, ◌<◌, ◌≤◌, List, [], ◌∷◌, length, refl, sym, ap, subst, arith, slice_range}
 use Rattle.std.proofs.Common.{false, ◌==◌, Some, None, unwrap_or, Contains}
 use Rattle.std.proofs.Math.Dec.{eqb-suc-zero}

@@ -38,7 +38,7 @@ stays order image none same =
           (sym (same_is order (head_of image).order same)) ∙ same) refl;
     }
 
--- else all its pages are turned round
+-- else all its pages are byte-swapped
 turns : (order : Order) (image : List ℕ) → TurnsWhole image → has_order order image ≡ false → Flips order image
 turns order image whole other =
     let flip : flip_of order image ≡ flipped image = rw other refl in

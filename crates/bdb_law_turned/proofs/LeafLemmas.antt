@@ -1,4 +1,4 @@
--- Leaves whose numbers are turned round.
+-- Leaves whose numbers are byte-swapped.
 use Rattle.std.proofs.Common.{◌≡◌, ◌∙◌, inl, inr, ℕ, ◌+◌, ◌-◌, ◌*◌, ◌<◌, ◌≤◌, List, [], ◌∷◌, length, refl, sym, ap, subst, arith, slice_range, false, None}
 use Rattle.std.proofs.Common.{Contains}
 use Rattle.std.proofs.lemmas.Bool.Decides.{nat_tests}
@@ -108,7 +108,7 @@ inline_untouched at k bytes past f has =
       | inr later ↦ absurd (no_member [] f refl later)
     ]
 
--- what is known of an item of a page that is turned round
+-- what is known of an item of a page that is byte-swapped
 pub record ItemTurned (order : Order) (page other : List ℕ) (i : ℕ) : Type 0 where
   pub offset : offset_of (turned order) other i ≡ offset_of order page i
   pub kind : byte_at other (offset_of order page i + 2) ≡ byte_at page (offset_of order page i + 2)

@@ -1,4 +1,4 @@
--- Pages with an index whose numbers are turned round.
+-- Pages with an index whose numbers are byte-swapped.
 use Rattle.std.proofs.Common.{◌≡◌, ◌∙◌, ◌⊎◌, inl, inr, ℕ, ◌+◌, ◌*◌, ◌<◌, ◌≤◌, List, [], ◌∷◌, ◌++◌, map, length, get_or, refl, sym, ap, subst, arith}
 use Rattle.std.proofs.Common.{slice_index, Bool, false, option_map}
 use Rattle.std.specs.List.{Contains, flat_map, list_any, range_with_len}

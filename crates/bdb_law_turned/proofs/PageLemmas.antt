@@ -1,4 +1,4 @@
--- Each page, turned round, is the same page in the other order.
+-- Each page, byte-swapped, is the same page in the other order.
 use Rattle.std.proofs.Common.{◌≡◌, ◌∙◌, ℕ, zero, suc, ◌+◌, ◌*◌, ◌<◌, ◌≤◌, List, [], ◌∷◌, ◌++◌, length, drop, take, refl, sym, ap, subst, arith}
 use Rattle.std.specs.Prelude.{cond, not, nat_lt, ◌&&◌, ◌==◌, Bool, true, false, Option, Some, None}
 use Rattle.std.proofs.lemmas.Bool.Decides.{nat_tests}
@@ -58,7 +58,7 @@ pub record TypeTurned (head : Head) (p : ℕ) (page other : List ℕ) (t : PageT
   pub reads : page_as (turned head.order) other t ≡ page_as head.order page t
   pub rows : typed_code (turned_head head) p other t ≡ typed_code head p page t
 
--- the numbers of a page of a type, and that it can be turned round
+-- the numbers of a page of a type, and that it can be byte-swapped
 pub record CanTurn (head : Head) (p : ℕ) (page : List ℕ) (t : PageType) : Type 0 where
   pub apart : AreApart (fields_of (page_as head.order page t))
   pub within : LieWithin (fields_of (page_as head.order page t)) (length page)
@@ -573,7 +573,7 @@ pub body_passed : (head : Head) (p : ℕ) (page : List ℕ) → form_code head p
     → body_code head.order page (page_type (byte_at page 25)) ≡ None
 body_passed head p page none some = typed_body head p page (page_type (byte_at page 25)) (type_passed head p page none some).1
 
--- these are the numbers of a page: they are apart and on the page, which is turned round by them
+-- these are the numbers of a page: they are apart and on the page, which is byte-swapped by them
 pub record AreNumbersOf (order : Order) (page : List ℕ) (fields : List Field) : Type 0 where
   pub apart : AreApart fields
   pub within : LieWithin fields (length page)

@@ -108,7 +108,7 @@ places_turn_back fields k apart =
       | inr none ↦ ap (mirror fields) (mirror-outside fields k none) ∙ mirror-outside fields k none
     ]
 
--- Bytes with numbers turned round.
+-- Bytes with numbers byte-swapped.
 
 pub length-turned_round : (fields : List Field) (bytes : List ℕ) → length (turned_round fields bytes) ≡ length bytes
 unfolding turned_round

@@ -1,4 +1,4 @@
--- Metadata and pages without an index, whose numbers are turned round.
+-- Metadata and pages without an index, whose numbers are byte-swapped.
 use Rattle.std.proofs.Common.{◌≡◌, ◌∙◌, inl, inr, ℕ, zero, suc, ◌+◌, ◌*◌, ◌<◌, ◌≤◌, List, [], ◌∷◌, ◌++◌, map, length, refl, ap, subst, arith}
 use Rattle.std.specs.Prelude.{not, nat_lt, ◌||◌, ◌==◌}
 use Rattle.std.specs.List.{Contains, range_with_len}

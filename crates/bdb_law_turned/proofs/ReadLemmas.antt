@@ -1,4 +1,4 @@
--- What is read of bytes whose numbers are turned round.
+-- What is read of bytes whose numbers are byte-swapped.
 use Rattle.std.proofs.Common.{◌≡◌, ◌∙◌, ◌⊎◌, inl, inr, ℕ, ◌+◌, ◌-◌, ◌*◌, ◌<◌, ◌≤◌, List, [], ◌∷◌, length, take, drop, reverse, refl, sym, ap, arith}
 use Rattle.std.proofs.Common.{length-drop, slice_range, true, false, map}
 use Rattle.std.specs.List.{Contains, range_with_len}
@@ -13,7 +13,7 @@ use Rattle.bdb_law_turned.specs.Apart.{AreApart, IsUntouched, LieWithin}
 use Rattle.bdb_law_turned.proofs.PlaceLemmas.{mirror-inside, mirror-outside, mirror-within, length-turned_round, get_or-turned_round, places_turn_back}
 use Rattle.bdb_graph.proofs.of_format.PageLemmas.{zero_byte}
 
--- bytes that are others with these numbers turned round: all that is read of them
+-- bytes that are others with these numbers byte-swapped: all that is read of them
 pub record IsTurned (fields : List Field) (bytes other : List ℕ) : Type 0 where
   pub same_length : length other ≡ length bytes
   pub within : LieWithin fields (length bytes)
@@ -91,7 +91,7 @@ rest_same fields bytes other from is untouched =
     ext_get_or 0 (drop from other) (drop from bytes) (omega (arith, length-drop from other, length-drop from bytes))
     (λ k lt. get_or-drop from other k 0 ∙ (is.kept (from + k) (untouched (from + k) (omega arith)) ∙ sym (get_or-drop from bytes k 0)))
 
--- turned round twice, bytes are the first ones
+-- byte-swapped twice, bytes are the first ones
 pub turned_twice : (fields : List Field) (bytes : List ℕ) → AreApart fields → LieWithin fields (length bytes) → turned_round fields (turned_round fields bytes)
     ≡ bytes
 turned_twice fields bytes apart within =
@@ -115,7 +115,7 @@ unfolding turned_round
 zeros_turned fields bytes zeros =
     zeros_by (λ k. byte_at bytes (mirror fields k)) (range_with_len 0 (length bytes)) (λ k. zero_byte bytes (mirror fields k) zeros)
 
--- a page is zeros exactly where it is so turned round
+-- a page is zeros exactly where it is so byte-swapped
 pub zero_same : (fields : List Field) (bytes : List ℕ) → AreApart fields → LieWithin fields (length bytes) → is_zero bytes ≡ false
     → is_zero (turned_round fields bytes) ≡ false
 zero_same fields bytes apart within some =

@@ -1,4 +1,4 @@
--- Runs of blocks whose lengths are turned round.
+-- Runs of blocks whose lengths are byte-swapped.
 use Rattle.std.proofs.Common.{◌≡◌, ◌∙◌, inl, inr, ℕ, ◌+◌, ◌-◌, ◌<◌, ◌≤◌, List, [], ◌∷◌, length, take, drop, refl, sym, ap, subst, arith, length-drop, cond}
 use Rattle.std.proofs.Common.{slice_range, Bool, true, false, Option, Some, None, Contains, option_map}
 use Rattle.std.proofs.lemmas.Bool.Decides.{nat_tests}

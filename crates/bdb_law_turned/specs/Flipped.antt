@@ -18,7 +18,7 @@ same_order Big Little = false
 abbrev pub has_order : Order → List ℕ → Bool
 has_order order image = same_order order (head_of image).order
 
--- an image with all its pages turned round
+-- an image with all its pages byte-swapped
 unfoldable pub flipped : List ℕ → List ℕ
 flipped image =
     let head : Head = head_of image in

@@ -12,7 +12,7 @@ use Rattle.bdb_law_turned.specs.Turning.{turned_page}
 abbrev pub turned_head : Head → Head
 turned_head head = record head { order = turned head.order }
 
--- In the other order a page with its numbers turned round is the same page, has no fault of form, and turns back to the first bytes.
+-- In the other order a page with its numbers byte-swapped is the same page, has no fault of form, and turns back to the first bytes.
 pub record TurnsRound (head : Head) (p : ℕ) (page : List ℕ) : Type 0 where
   pub reads : abstract_page (turned head.order) (turned_page head.order page) ≡ abstract_page head.order page
   pub formed : form_code (turned_head head) p (turned_page head.order page) ≡ None

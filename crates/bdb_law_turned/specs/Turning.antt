@@ -1,4 +1,4 @@
--- Pages whose numbers are turned round. Source: docs/FORMAT.md, "The other byte order".
+-- Pages whose numbers are byte-swapped. Source: docs/FORMAT.md, "The other byte order".
 use Rattle.std.specs.Prelude.{ℕ, ◌+◌, ◌-◌, ◌*◌, nat_le, nat_lt, ◌&&◌, Bool, List, map, length, Option, Some, None}
 use Rattle.std.specs.List.{find, range_with_len}
 use Rattle.bdb_graph.specs.of_format.declared.kinds.Order.{Order}
@@ -18,10 +18,10 @@ mirrored k (Some f) = (2 * f.begin + f.width) - 1 - k
 unfoldable pub mirror : List Field → ℕ → ℕ
 mirror fields k = mirrored k (find (is_in k) fields)
 
--- bytes with these numbers turned round: the bytes of each stand in the reverse order, and all others stay
+-- bytes with these numbers byte-swapped: the bytes of each stand in the reverse order, and all others stay
 unfoldable pub turned_round : List Field → List ℕ → List ℕ
 turned_round fields bytes = map (λ k. byte_at bytes (mirror fields k)) (range_with_len 0 (length bytes))
 
--- a page with all its numbers turned round
+-- a page with all its numbers byte-swapped
 abbrev pub turned_page : Order → List ℕ → List ℕ
 turned_page order page = turned_round (fields_of (abstract_page order page)) page

@@ -1,8 +1,8 @@
-//! Laws of pages and files whose numbers are turned round into the other byte order.
+//! Laws of pages and files whose numbers are byte-swapped.
 ghost use Rattle.bdb_law_turned.specs.Laws.{FilesFlip, FlippedFilesKeepDatabases, PagesTurnRound};
 
-/// A page without a fault of form whose items don't overlap is the same page in the other order, where its numbers are turned
-/// round. It has no fault of form there, and turned round again it has its first bytes.
+/// A page without a fault of form whose items don't overlap is the same page in the other order, where its numbers are
+/// byte-swapped. It has no fault of form there, and byte-swapped again it has its first bytes.
 pub fn pages_turn_round()
     ensures { PagesTurnRound }
 {}

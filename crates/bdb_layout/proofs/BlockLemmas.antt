@@ -1,9 +1,7 @@
 -- A run goes on after its first block, in any number of turns that is enough; its blocks, spelled, are its bytes.
-use Rattle.std.proofs.Common.{◌≡◌, ℕ, ◌+◌, ◌<◌, ◌≤◌, zero, suc, List, [], ◌∷◌, ◌++◌, length, take, drop, get_or, refl, ap, inl, inr, arith, ◌∙◌}
-use Rattle.std.proofs.Common.{length-drop, length-take, drop-cons, append_assoc}
-use Rattle.std.specs.Prelude.{Bool, true, false, not, ◌||◌, nat_lt, ◌==◌, if◌then◌else◌, Option, Some, None, IsSome, is_some}
-use Rattle.std.specs.List.{flat_map}
-use Rattle.std.specs.Option.{option_map, unwrap_or}
+use Rattle.std.proofs.Common.{◌≡◌, ℕ, ◌+◌, ◌<◌, ◌≤◌, zero, suc, List, [], ◌∷◌, ◌++◌, length, take, drop, get_or, refl, ap, inl, inr, arith, ◌∙◌, length-drop}
+use Rattle.std.proofs.Common.{length-take, drop-cons, append_assoc, Bool, true, false, not, ◌||◌, nat_lt, ◌==◌, if◌then◌else◌, Option, Some, None, IsSome}
+use Rattle.std.proofs.Common.{is_some, flat_map, option_map, unwrap_or}
 use Rattle.std.proofs.Math.Dec.{eqb-suc-zero}
 use Rattle.std.proofs.lemmas.Bool.Decides.{nat_tests}
 use Rattle.std.proofs.lemmas.List.{drop-drop, get_or-drop, take-append-drop}

@@ -1,9 +1,8 @@
 -- The group of a bucket is the least that is enough.
 use Rattle.std.proofs.lemmas.Bool.{cases_lt}
 use Rattle.bdb_format.proofs.GroupLemmas.{least_passing, first_passes}
-use Rattle.std.proofs.Common.{◌≡◌, ℕ, ◌+◌, ◌*◌, ◌^◌, ◌<◌, ◌≤◌, suc, refl, arith, inl, inr}
+use Rattle.std.proofs.Common.{◌≡◌, ℕ, ◌+◌, ◌*◌, ◌^◌, ◌<◌, ◌≤◌, suc, refl, arith, inl, inr, nat_lt}
 use borrow.Author.Tests.{ltb-true}
-use Rattle.std.specs.Prelude.{nat_lt}
 use Rattle.std.proofs.Math.Nat.{le_antisymm, pow-succ'}
 use Rattle.std.proofs.Math.Pow.{pow_mono}
 use Rattle.std.proofs.lemmas.Bool.Decides.{nat_tests}

@@ -1,7 +1,6 @@
 -- What `byteorder` reads and writes is the number at a place.
-use Rattle.std.proofs.Common.{◌≡◌, ℕ, zero, suc, ◌+◌, ◌*◌, ◌^◌, ◌≤◌, ◌-◌, List, [], ◌∷◌, ◌++◌, length, take, drop, refl, ap, arith, drop-cons}
-use Rattle.std.proofs.Common.{length-drop, length-take, append-nil}
-use Rattle.std.specs.Prelude.{reverse}
+use Rattle.std.proofs.Common.{◌≡◌, ℕ, zero, suc, ◌+◌, ◌*◌, ◌^◌, ◌≤◌, ◌-◌, List, [], ◌∷◌, ◌++◌, length, take, drop, refl, ap, arith, drop-cons, length-drop}
+use Rattle.std.proofs.Common.{length-take, append-nil, reverse}
 use Rattle.std.proofs.lemmas.Grind.{reverse_onto}
 use Rattle.std.proofs.lemmas.List.{take_all, drop_all, drop-drop, length-reverse}
 use Rattle.std.proofs.Math.Nat.{add-sub_cancel_left, pow-succ'}

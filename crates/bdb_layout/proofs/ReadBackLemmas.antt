@@ -1,9 +1,6 @@
 -- An item that stands at its offset is read from there: each kind of item of a leaf, an internal page and a hash page.
 use Rattle.std.proofs.Common.{◌≡◌, ℕ, suc, ◌+◌, ◌%◌, ◌^◌, ◌<◌, ◌≤◌, Bool, true, false, List, [], ◌∷◌, ◌++◌, length, take, drop, replicate, refl, sym, ap, ◌∙◌}
-use Rattle.std.proofs.Common.{arith, append_assoc, length-append, le-ltb, eq-eqb}
-use Rattle.std.specs.Prelude.{slice_range, nat_le, Some}
-use Rattle.std.specs.Option.{option_map}
-use Rattle.std.specs.List.{All, flat_map}
+use Rattle.std.proofs.Common.{arith, append_assoc, length-append, le-ltb, eq-eqb, slice_range, nat_le, Some, option_map, All, flat_map}
 use Rattle.std.proofs.Math.Seq.{drop-append_seam}
 use Rattle.std.proofs.lemmas.List.{take_at}
 use Rattle.bdb_format.specs.declared.kinds.Order.{Order}

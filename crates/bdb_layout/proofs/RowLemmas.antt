@@ -1,10 +1,9 @@
 -- An item of which no row holds lies on its page, and is the answer.
-use Rattle.std.proofs.Common.{◌≡◌, ℕ, ◌+◌, ◌≤◌, List, [], ◌∷◌, length, arith, refl, sym, subst, ◌∙◌, ap}
-use Rattle.std.specs.Prelude.{cond, Bool, true, false, Option, Some, None, Result, Err}
+use Rattle.std.proofs.Common.{◌≡◌, ℕ, ◌+◌, ◌≤◌, List, [], ◌∷◌, length, arith, refl, sym, subst, ◌∙◌, ap, cond, Bool, true, false, Option, Some, None, Result}
+use Rattle.std.proofs.Common.{Err, option_map}
 use Rattle.std.proofs.lemmas.Bool.Decides.{nat_tests}
 use Rattle.bdb_format.specs.declared.kinds.Order.{Order}
 use Rattle.bdb_format.specs.Terms.{Row, answer, first_row, hash_end, hash_rows, internal_rows, leaf_rows, offset_of, recno_rows, ◌:?◌}
-use Rattle.std.specs.Option.{option_map}
 use Rattle.bdb_format.specs.declared.pages.ItemFault.{ItemFault}
 use Rattle.bdb_format.specs.declared.pages.ItemFault.TheVariants.{Offset, Kind, Extent}
 use Rattle.bdb_format.proofs.PageLemmas.{map_none}

@@ -32,7 +32,7 @@ fn count(counts: &mut Vec<u8>, names: Option<u32>)
     }
 }
 
-/// How many pairs of a master name each page below a number. An error is want of memory: a byte for each page.
+/// How many pairs of a master name each page below a number. An error means that memory ran out: a byte for each page.
 #[tactic(auto, using(crate::proofs::CountLemmas::none_counted, crate::proofs::CountLemmas::counted_more, crate::proofs::CountLemmas::all_counted))]
 fn counts_of(alloc: Global, pages: u32, entries: &[MasterEntry<'_>]) -> Result<Vec<u8>, AllocError>
     ensures { IfOk result (λ counts. AreCounts counts.items pages entries.now) }
@@ -56,7 +56,7 @@ fn count_fault(page: u32, count: u8) -> Option<Named>
     }
 }
 
-/// Notes the metadata pages that a master names not at all or twice. An error is want of memory.
+/// Notes the metadata pages that a master names not at all or twice. An error means that memory ran out.
 pub(crate) fn note_naming<F: FaultSink>(
     alloc: Global,
     linked: &Linked<'_>,

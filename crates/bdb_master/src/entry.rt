@@ -50,7 +50,7 @@ impl<'a> MasterEntry<'a> {
         self.page
     }
 
-    /// The bytes of the key in a list of their own. An error is want of memory.
+    /// The bytes of the key in a list of their own. An error means that memory ran out.
     pub fn name(&self, alloc: Global) -> Result<Bytes, AllocError>
         ensures { IfOk result (λ name. name ≡ self.now.key) }
     {
@@ -90,7 +90,7 @@ pub fn master_among(meta: Meta) -> Option<BtreeMeta>
     }
 }
 
-/// Adds the live ones of these pairs. An error is want of memory.
+/// Adds the live ones of these pairs. An error means that memory ran out.
 #[tactic(auto, using(crate::proofs::EntryLemmas::living_entries))]
 fn push_live<'a>(
     alloc: Global,
@@ -112,7 +112,7 @@ fn push_live<'a>(
     Ok(())
 }
 
-/// The live pairs of the master of a file, in order; none where it has no master. An error is want of memory.
+/// The live pairs of the master of a file, in order; none where it has no master. An error means that memory ran out.
 #[tactic(auto, using(crate::proofs::EntryLemmas::entries_of_master, crate::proofs::EntryLemmas::no_entries))]
 pub fn master_entries<'a>(
     alloc: Global,

@@ -10,7 +10,7 @@ use crate::targets::note_targets;
 use bdb_btree::{FaultSink, Linked};
 use std::alloc::{AllocError, Global};
 
-/// Notes the faults of stage 7, by the entries of the master. An error is want of memory: a byte for each page, and
+/// Notes the faults of stage 7, by the entries of the master. An error means that memory ran out: a byte for each page, and
 /// what the keys take.
 pub fn note_master<F: FaultSink>(
     alloc: Global,

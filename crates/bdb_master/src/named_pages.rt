@@ -49,7 +49,7 @@ fn page_in(bytes: &[u8]) -> Option<u32>
     Some(u32_at(bytes, 0, Order::Big))
 }
 
-/// The page that a chain names. An error is want of memory.
+/// The page that a chain names. An error means that memory ran out.
 #[tactic(auto, using(crate::proofs::EntryLemmas::names_none))]
 fn page_in_chain(alloc: Global, forest: &Forest<'_>, head: u32) -> Result<Option<u32>, AllocError>
     requires { FitsChain (file_of forest.now) head }
@@ -81,7 +81,7 @@ impl<'a> NamedPages<'a> {
         self.forest.again()
     }
 
-    /// The page that the data of a pair name; a set names none. An error is want of memory.
+    /// The page that the data of a pair name; a set names none. An error means that memory ran out.
     #[tactic(auto, unfolding(crate::specs::Below::value_of))]
     pub(crate) fn named_by(
         &mut self,

@@ -23,7 +23,7 @@ fn repeat_on(page: u32, is_new: bool) -> Option<Named>
     Some(Row::Master(MasterRow::NameTwice).at(page))
 }
 
-/// Notes those of these pairs that are live and have the key of an earlier one. An error is want of memory.
+/// Notes those of these pairs that are live and have the key of an earlier one. An error means that memory ran out.
 #[tactic(auto, using(bdb_btree::proofs::HeldLemmas::first_keyed, bdb_btree::proofs::HeldLemmas::rest_keyed))]
 fn note_repeated<'a, F: FaultSink>(
     alloc: Global,
@@ -44,7 +44,7 @@ fn note_repeated<'a, F: FaultSink>(
     Ok(())
 }
 
-/// Notes the master's pairs that have the key of an earlier one. An error is want of memory.
+/// Notes the master's pairs that have the key of an earlier one. An error means that memory ran out.
 pub(crate) fn note_repeats<F: FaultSink>(
     alloc: Global,
     linked: &Linked<'_>,

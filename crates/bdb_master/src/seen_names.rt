@@ -53,7 +53,7 @@ impl<'a> SeenNames<'a> {
         }
     }
 
-    /// Adds a name, and says whether it's new. An error is want of memory.
+    /// Adds a name, and says whether it's new. An error means that memory ran out.
     pub(crate) fn add(&mut self, name: Held<'a>) -> Result<bool, AllocError>
         requires { FitsHeld (file_of self.old.image) name }
         ensures added { IfOk result (λ is_new. is_new ≡ not (has_key self.old.keys (value_held (file_of self.old.image) name.entry))) }

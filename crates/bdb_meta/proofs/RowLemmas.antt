@@ -1,7 +1,6 @@
 -- Rows that follow one another, and the answer of a table with a value.
 use Rattle.bdb_layout.proofs.of_format.PageLemmas.{answer_value}
-use Rattle.std.proofs.Common.{◌≡◌, ℕ, List, [], ◌∷◌, ◌++◌, ◌∙◌, ◌<◌, ◌≤◌, length, refl, arith, append_assoc}
-use Rattle.std.specs.Prelude.{None, Ok, Err}
+use Rattle.std.proofs.Common.{◌≡◌, ℕ, List, [], ◌∷◌, ◌++◌, ◌∙◌, ◌<◌, ◌≤◌, length, refl, arith, append_assoc, None, Ok, Err}
 use Rattle.bdb_layout.specs.of_format.declared.metadata.MetaFault.{MetaFault}
 use Rattle.bdb_layout.specs.of_format.declared.kinds.Order.{Order}
 use Rattle.bdb_layout.specs.of_format.declared.metadata.FileKind.{FileKind}

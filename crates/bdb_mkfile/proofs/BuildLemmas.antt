@@ -288,12 +288,12 @@ too_large max pages sections settled lists pages_are above =
 
 -- Refusals.
 
--- others for want of memory, or by the size of their image
+-- others for lack of memory, or by the size of their image
 pub refused_late : (most : ℕ) (sections : List Section) (error : LoadError) → load_error sections ≡ None
     → (error ≡ Memory) ⊎ (size_error most sections ≡ Some error) → IsLoadRefusal most sections error
 refused_late most sections error none is = subst (λ first. IsLoadRefusalBy first (size_error most sections) error) (sym none) is
 
--- a refusal is for want of memory, or gives the error that there is
+-- a refusal is for lack of memory, or gives the error that there is
 pub refusal_found : (most : ℕ) (sections : List Section) (error : LoadError) → IsLoadRefusal most sections error
     → (error ≡ Memory) ⊎ (loading_error most sections ≡ Some error)
 refusal_found most sections error is = by_first (load_error sections) is

@@ -140,10 +140,8 @@ are_settled sections settled loading =
     let first : Section = parts.0 in
     let rest : List Section = parts.1 in
     let ready : All (IsReady sections) sections = are_ready loading.most sections loading.fit loading.short loading.none in
-    let each : All (λ s. IsSettled first.settings.page_size (loaded_section s)) sections = λ k d low. record {
-      list = settled_list sections rest first (get_or sections k d) parts.2 (ready k d low);
-      name = (ready k d low).name;
-    } in
+    let each : All (λ s. IsSettled first.settings.page_size (loaded_section s)) sections = λ k d low.
+    record { list = settled_list sections rest first (get_or sections k d) parts.2 (ready k d low) } in
     let one : IsReady sections first = All-head (IsReady sections) first rest (subst (All (IsReady sections)) parts.2 ready) in
     record {
       first = loaded_section first;

@@ -1,6 +1,5 @@
 -- The pairs of the master, in the order of the sections or of their names.
-use Rattle.std.proofs.Common.{◌≡◌, ℕ, Bool, true, false, cond, not, List, [], ◌∷◌, map, get_or, Option, None, Some, refl, sym, ◌∙◌, ap, ◌&&◌, ◌||◌, unwrap_or}
-use Rattle.std.proofs.Common.{All, fold}
+use Rattle.std.proofs.Common.{◌≡◌, ℕ, Bool, true, false, cond, not, List, [], ◌∷◌, map, get_or, Option, refl, sym, ◌∙◌, ap, ◌&&◌, ◌||◌, All, fold}
 use Rattle.std.proofs.lemmas.List.Elements.{All-head, All-nil, All-tail}
 use Rattle.bdb_io.specs.of_format.Terms.{ascends, less}
 use Rattle.bdb_text_format.specs.declared.sections.Section.{Section}
@@ -8,30 +7,17 @@ use Rattle.bdb_need.specs.of_settle.Loaded.{loaded_pair, with_loaded}
 use Rattle.bdb_need.specs.TreePages.{tree_pages}
 use Rattle.bdb_need.specs.Need.{master_pages, master_settings, name_in, name_pair}
 use Rattle.bdb_mkfile.specs.NamedImages.{name_entry, names_pages}
-use Rattle.bdb_mkfile.specs.Builds.{in_name_order, name_of, put_named}
+use Rattle.bdb_mkfile.specs.Builds.{in_name_order, put_named}
 use Rattle.bdb_mkfile.specs.Order.{AreApart, IsApart, named_before, with_named}
 use Rattle.bdb_mkfile.proofs.ApartLemmas.{fold_is_order, order_ascends, put_all}
-
--- a name is the same in either word
-same_name : (name : Option (List ℕ)) → unwrap_or name [] ≡ name_in name
-same_name None = refl
-same_name (Some name) = refl
-
-same_names : (sections : List Section) → map name_of sections ≡ map (λ (section : Section). name_in section.name) sections
-same_names [] = refl
-same_names (section ∷ sections) =
-    ap (λ n. n ∷ map name_of sections) (same_name section.name) ∙ ap (λ ns. name_in section.name ∷ ns) (same_names sections)
 
 -- the names of sections in their order ascend
 pub names_ascend : (sections : List Section) → AreApart sections
     → ascends (map (λ (section : Section). name_in section.name) (in_name_order sections)) ≡ true
-names_ascend sections apart = ap ascends (sym (same_names (in_name_order sections))) ∙ order_ascends sections apart
-
-same_test : (a b : Section) → less (name_in a.name) (name_in b.name) ≡ named_before a b
-same_test a b = ap (λ n. less n (name_in b.name)) (sym (same_name a.name)) ∙ ap (less (name_of a)) (sym (same_name b.name))
+names_ascend sections apart = order_ascends sections apart
 
 other_way : (a b : Section) → IsApart a b → less (name_in a.name) (name_in b.name) ≡ false → less (name_in b.name) (name_in a.name) ≡ true
-other_way a b apart is = same_test b a ∙ by_tests (named_before a b) (named_before b a) apart (sym (same_test a b) ∙ is)
+other_way a b apart is = by_tests (named_before a b) (named_before b a) apart is
   where
     by_tests : (x y : Bool) → (not x && not y) ≡ false → x ≡ false → y ≡ true
     by_tests x true apart is = refl
@@ -45,7 +31,6 @@ put_entry size section (other ∷ others) all =
     by_tests (less (name_in section.name) (name_in other.name)) (less (name_in other.name) (name_in section.name))
     (other_way section other (All-head (IsApart section) other others all))
     (put_entry size section others (All-tail (IsApart section) other others all))
-    ∙ ap (λ b. map name_entry (cond b (section ∷ other ∷ others) (other ∷ put_named section others))) (same_test section other)
   where
     by_tests : (x y : Bool) → (x ≡ false → y ≡ true)
         → with_loaded (master_settings size) (map name_entry others) (name_entry section) ≡ map name_entry (put_named section others)

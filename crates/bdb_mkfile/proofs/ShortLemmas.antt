@@ -23,16 +23,17 @@ use Rattle.bdb_need.specs.of_mktree.Lists.{HasNumber, bytes_in}
 use Rattle.bdb_need.specs.of_settle.declared.load_error.LoadError.TheVariants.{TooLarge}
 use Rattle.bdb_need.specs.of_settle.ListLaw.{HasShortBytes}
 use Rattle.bdb_need.specs.of_settle.LoadErrors.{load_error}
-use Rattle.bdb_need.specs.of_settle.Loaded.{filled_value, has_length, loaded, loaded_pair, loaded_section, ordered, ordered_section, unlined, unlined_pairs, unnumbered}
+use Rattle.bdb_need.specs.of_settle.Loaded.{filled_value, has_length, loaded, loaded_pair, loaded_section, ordered, ordered_section, unlined, unlined_pairs}
+use Rattle.bdb_need.specs.of_settle.Loaded.{unnumbered}
 use Rattle.bdb_need.proofs.of_settle.ErrorLemmas.{IsSound, sound_pairs}
 use Rattle.bdb_need.proofs.of_settle.FillingLemmas.{fill, fold_filled}
 use Rattle.bdb_need.proofs.of_settle.ListLawLemmas.{filled_short}
 use Rattle.bdb_need.proofs.of_settle.OrderedLemmas.{fold_all}
-use Rattle.bdb_need.specs.Need.{list_pages, master_pages, master_settings, name_in, need_of, section_pages, sized}
-use Rattle.bdb_need.proofs.NeedLemmas.{listed_again}
+use Rattle.bdb_need.specs.Need.{is_short, list_pages, master_pages, master_settings, name_in, need_of, section_pages, sized}
+use Rattle.bdb_need.proofs.NeedLemmas.{HasShortName, listed_again, short_bytes}
 use Rattle.bdb_mkfile.specs.NamedImages.{name_entry}
 use Rattle.bdb_mkfile.specs.Builds.{image_size, in_name_order, put_named}
-use Rattle.bdb_mkfile.specs.Lengths.{is_short, is_short_pair, is_short_section}
+use Rattle.bdb_mkfile.specs.Lengths.{is_short_pair, is_short_section}
 use Rattle.bdb_mkfile.specs.Loading.{size_error}
 use Rattle.bdb_mkfile.specs.Order.{AreApart, IsApart, named_before}
 use Rattle.bdb_mkfile.proofs.ApartLemmas.{all_named, alone_unnamed, named_apart}
@@ -43,9 +44,6 @@ use Rattle.bdb_mkfile.proofs.MasterLemmas.{master_same}
 
 passes : (bytes : List ℕ) → IsShort bytes → is_short bytes ≡ true
 passes bytes short = lt-ltb (length bytes) (2 ^ 32) short
-
-short_bytes : (bytes : List ℕ) → is_short bytes ≡ true → IsShort bytes
-short_bytes bytes is = grind (arith, nat_tests)
 
 list_passes : (list : List Pair) → All HasShortBytes list → list_all is_short_pair (map unnumbered list) ≡ true
 list_passes [] all = refl
@@ -211,9 +209,6 @@ back_order : (P : Section → Type 0) (sections : List Section) → All P (in_na
 back_order P [] all = All-nil P
 back_order P (section ∷ sections) all =
     let parts = back_put P section (in_name_order sections) all in All-cons P section sections parts.0 (back_order P sections parts.1)
-
-abbrev HasShortName : Section → Type 0
-HasShortName section = IsShort (name_in section.name)
 
 entries_short : (sections : List Section) → All HasShortBytes (map name_entry sections) → All HasShortName sections
 entries_short [] all = All-nil HasShortName

@@ -1,17 +1,17 @@
 -- When an image is one that is built of sections. Source: docs/FORMAT.md, "Loading".
-use Rattle.std.specs.Prelude.{◌≡◌, ℕ, ◌*◌, if◌then◌else◌, Bool, List, [], ◌∷◌, length, map, Option, None, unwrap_or}
+use Rattle.std.specs.Prelude.{◌≡◌, ℕ, ◌*◌, if◌then◌else◌, Bool, List, [], ◌∷◌, length, map, Option, None}
 use Rattle.std.specs.List.{AllZip}
 use Rattle.bdb_io.specs.of_format.declared.settings.Settings.{Settings}
 use Rattle.bdb_io.specs.of_format.Terms.{Database, databases, file_of, head_of, less, list_of, settings_of, verdict_of}
 use Rattle.bdb_text_format.specs.declared.sections.Section.{Section}
 use Rattle.bdb_text_format.specs.Terms.{header_lines, listed}
 use Rattle.bdb_need.specs.of_settle.Loaded.{loaded, loaded_section}
-use Rattle.bdb_need.specs.Need.{need_of}
+use Rattle.bdb_need.specs.Need.{name_in, need_of}
 
 -- Sections in the byte order of their names.
 
 abbrev pub name_of : Section → List ℕ
-name_of section = unwrap_or section.name []
+name_of section = name_in section.name
 
 abbrev pub put_named : Section → List Section → List Section
 put_named section [] = section ∷ []

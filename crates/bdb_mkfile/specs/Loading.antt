@@ -31,7 +31,7 @@ abbrev pub IsLoadRefusalBy : Option LoadError → Option LoadError → LoadError
 IsLoadRefusalBy (Some first) large error = error ≡ first
 IsLoadRefusalBy None large error = (error ≡ Memory) ⊎ (large ≡ Some error)
 
--- a refusal gives the first error of sections; where there is none, that their image would be too large, or want of memory
+-- a refusal gives the first error of sections; where there is none, that their image would be too large, or lack of memory
 abbrev pub IsLoadRefusal : ℕ → List Section → LoadError → Type 0
 IsLoadRefusal most sections error = IsLoadRefusalBy (load_error sections) (size_error most sections) error
 

@@ -23,7 +23,7 @@ pub(crate) fn add_zeros(pages: &mut Pages, count: usize) -> Result<(), AllocErro
     ensures { IfOk result (λ _. AreAdded pages.old pages.new count) }
 {
     for _page in 0..count {
-        if pages.count() >= 1 << 21 {
+        if pages.count() >= Pages::MAX {
             return Err(AllocError);
         }
         pages.add()?;

@@ -1,24 +1,14 @@
 ghost use Rattle.std.specs.Prelude.{◌≡◌};
 ghost use Rattle.std.specs.List.{list_all};
 ghost use Rattle.bdb_text_format.specs.Terms.{key_seen, pair_seen, slice_seen};
-ghost use Rattle.bdb_need.specs.Need.{name_in};
 ghost use Rattle.bdb_need.specs.of_mktree.Lists.{bytes_in};
-ghost use Rattle.bdb_mkfile.specs.Lengths.{is_short, is_short_pair, is_short_section};
+ghost use Rattle.bdb_need.specs.Need.{is_short};
+ghost use Rattle.bdb_mkfile.specs.Lengths.{is_short_pair, is_short_section};
 
-use bdb_io::Bytes;
+use bdb_need::{is_short, name_of};
 use bdb_text_format::{KeyRef, PairRef, PairSlice, Section, Sections};
 
-/// The most bytes that a field of four bytes can count.
-const MOST: usize = 4294967295;
-
-// Whether the number of bytes fits its field.
-fn is_short(bytes: &[u8]) -> bool
-    ensures { result ≡ is_short bytes.now }
-{
-    bytes.len() <= MOST
-}
-
-// Whether a key does, where it is bytes.
+// Whether the length of a key fits its field, where it is bytes.
 fn is_short_key(key: KeyRef<'_>) -> bool
     ensures { result ≡ is_short (bytes_in (key_seen key.entry)) }
 {
@@ -33,16 +23,6 @@ fn is_short_pair(pair: PairRef<'_>) -> bool
     ensures { result ≡ is_short_pair (pair_seen pair.entry) }
 {
     is_short_key(pair.key) && is_short(pair.value)
-}
-
-// Whether a name does, where there is one.
-fn is_short_name(name: &Option<Bytes>) -> bool
-    ensures { result ≡ is_short (name_in name.now) }
-{
-    match name {
-        Some(name) => is_short(name.as_slice()),
-        None => true,
-    }
 }
 
 // Whether all pairs do.
@@ -61,7 +41,7 @@ fn are_short_pairs(pairs: PairSlice<'_>) -> bool
 fn is_short_section(section: &Section) -> bool
     ensures { result ≡ is_short_section section.now }
 {
-    is_short_name(&section.name) && are_short_pairs(section.pairs.as_slice())
+    is_short(name_of(section)) && are_short_pairs(section.pairs.as_slice())
 }
 
 /// Whether all names, keys and data are so short that their lengths fit fields of four bytes.

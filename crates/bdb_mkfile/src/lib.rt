@@ -17,8 +17,8 @@ mod trees;
 
 pub use bdb_io::Bytes;
 pub use bdb_need::{
-    Linked, LoadError, Meta, filled, hash5, is_among_names, is_too_wide, need, ordered, settle,
-    sooner_where, with_pairs,
+    Linked, LoadError, Meta, filled, hash5, is_among_names, is_too_wide, name_of, need, ordered,
+    settle, sooner_where, with_pairs,
 };
 pub use bdb_text_format::{PairSlice, PlacedPairs, Section, Sections, TextPairs};
 pub use image::named_image;

@@ -4,14 +4,14 @@ ghost use Rattle.bdb_mkfile.specs.Builds.{Builds};
 ghost use Rattle.bdb_mkfile.specs.Loading.{AreLoadable, IsLoadRefusal, loading_error};
 ghost use Rattle.bdb_mkfile.specs.Settled.{AreBuildable, IsImageOfSections, IsLaidOut};
 ghost use Rattle.bdb_need.specs.of_settle.Loaded.{loaded_section};
-ghost use Rattle.bdb_need.specs.of_settle.LoadErrors.{load_error, page_size_in};
+ghost use Rattle.bdb_need.specs.of_settle.LoadErrors.{load_error};
 
 use crate::alone::section_image;
 use crate::image::named_image;
 use crate::lengths::are_short;
 use crate::order::in_name_order;
 use bdb_io::Image;
-use bdb_need::{LoadError, filled, filled_need, first_load_error, ordered};
+use bdb_need::{LoadError, filled, filled_need, first_load_error, ordered, page_size_in};
 use bdb_text_format::Sections;
 use std::alloc::{AllocError, Global};
 
@@ -30,16 +30,6 @@ fn room_for(pages: u128, page_size: u32) -> usize {
     match usize::try_from(pages) {
         Ok(pages) => pages.saturating_mul(page_size as usize).saturating_add(1),
         Err(_) => usize::MAX,
-    }
-}
-
-// The page size of the first section.
-fn page_size(sections: &Sections) -> u32
-    ensures { result ≡ page_size_in sections.now }
-{
-    match sections.get(0) {
-        Some(section) => section.settings.page_size,
-        None => 0,
     }
 }
 
@@ -79,7 +69,7 @@ pub fn load_sound(alloc: Global, sections: Sections, max: u64) -> Result<Image, 
         return Err(LoadError::TooLarge);
     }
     let pages = filled_need(alloc, &ordered)?;
-    let size = page_size(&ordered);
+    let size = page_size_in(&ordered);
     if are_too_many(pages, size, max) {
         return Err(LoadError::TooLarge);
     }
@@ -90,7 +80,7 @@ pub fn load_sound(alloc: Global, sections: Sections, max: u64) -> Result<Image, 
 /// The image of sections: a sound file with their databases, of at most `max` bytes, in the page size and the order of the first. Pages of
 /// buckets have type 2, and the root of a tree of data says how many there are. Metadata, its flags and the roots that it names, and the pages under these
 /// are those of `tree_image`, `table_image`, `queue_image` or `named_image`. An error is the first of the sections; where there is none, that the image
-/// would have more than `max` bytes, or want of memory.
+/// would have more than `max` bytes, or lack of memory.
 pub fn load(alloc: Global, sections: Sections, max: u64) -> Result<Image, LoadError>
     requires max { max ≤ 2 ^ 30 }
     requires fit { AreLoadable sections }

@@ -1,15 +1,14 @@
 ghost use Rattle.std.specs.Prelude.{◌≡◌, ◌+◌, ◌≤◌, ◌<◌, ◌^◌, ◌∷◌, ◌++◌, [], IfOk, IsTrue, OnOk, length};
 ghost use Rattle.bdb_io.specs.of_format.declared.kinds.Order.TheVariants.{Big};
 ghost use Rattle.bdb_io.specs.of_format.Terms.{is_page_size, spelled};
-ghost use Rattle.bdb_need.specs.Need.{name_in};
 ghost use Rattle.bdb_need.specs.TreePages.{unlined_pairs};
 ghost use Rattle.bdb_mkfile.specs.NamedImages.{AreNamed, names_pages};
 ghost use Rattle.bdb_mkfile.specs.Layout.{entries_from, entry_of, settings_of_master};
 ghost use Rattle.bdb_mkfile.specs.Standing.{IsMasterBuilt};
 
 use crate::named_metadata::named_tree_meta;
-use bdb_io::{BtreeMeta, Kind, Order, Settings, plain_settings};
-use bdb_need::{Pages, build_tree, tree_pages};
+use bdb_io::{BtreeMeta, Order, Settings};
+use bdb_need::{Pages, build_tree, master_settings, name_of, tree_pages};
 use bdb_text_format::{KeyRef, PairRef, Section, TextPairs};
 use std::alloc::{AllocError, Global};
 
@@ -17,7 +16,10 @@ use std::alloc::{AllocError, Global};
 fn settings_of_master(size: u32, order: Order) -> Settings
     ensures { result ≡ settings_of_master size order }
 {
-    plain_settings(Kind::Btree, size, order)
+    Settings {
+        order,
+        ..master_settings(size)
+    }
 }
 
 // A number as four bytes, the highest first.
@@ -25,16 +27,6 @@ fn high_first(number: u32) -> [u8; 4]
     ensures { result ≡ spelled 4 Big number }
 {
     number.to_be_bytes()
-}
-
-// The bytes of a section's name, none where it has none.
-fn name_of(section: &Section) -> &[u8]
-    ensures { result.now ≡ name_in section.now.name }
-{
-    match &section.name {
-        Some(name) => name.as_slice(),
-        None => &[],
-    }
 }
 
 // Adds the pair of a section in the master: its name, and the number of its metadata page.

@@ -2,23 +2,12 @@ ghost use Rattle.std.specs.Prelude.{◌≡◌, [], IfOk, OnOk};
 ghost use Rattle.std.specs.List.{fold};
 ghost use Rattle.std.specs.List.Sorted.{IsSortedBy, IsStableBy};
 ghost use Rattle.std.specs.Ordering.{is_lt};
-ghost use Rattle.bdb_mkfile.specs.Builds.{name_of};
 ghost use Rattle.bdb_mkfile.specs.Order.{named_before, with_named};
 
-use bdb_need::compare;
+use bdb_need::{compare, name_of};
 use bdb_text_format::{Section, Sections};
 use std::alloc::{AllocError, Global};
 use std::cmp::Ordering;
-
-// The bytes of a section's name, none where it has none.
-fn name_of(section: &Section) -> &[u8]
-    ensures { result.now ≡ name_of section.now }
-{
-    match &section.name {
-        Some(name) => name.as_slice(),
-        None => &[],
-    }
-}
 
 // The order of two sections: that of their names.
 fn compare_names(a: &Section, b: &Section) -> Ordering

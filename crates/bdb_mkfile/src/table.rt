@@ -1,4 +1,4 @@
-ghost use Rattle.std.specs.Prelude.{◌≡◌, IfOk, IsTrue, length, true};
+ghost use Rattle.std.specs.Prelude.{◌≡◌, ◌≤◌, ◌^◌, IfErr, IfOk, IsTrue, length, true};
 ghost use Rattle.bdb_io.specs.of_format.declared.kinds.Kind.TheVariants.{Hash as HashKind};
 ghost use Rattle.bdb_io.specs.of_format.Terms.{is_page_size};
 ghost use Rattle.bdb_text_format.specs.Terms.{pairs_of, slice_seen};
@@ -11,9 +11,10 @@ use bdb_need::{Pages, build_table, put_hash_meta};
 use bdb_text_format::PairSlice;
 use std::alloc::{AllocError, Global};
 
-/// How many pairs there are, where that fits the field of the metadata of a hash.
+/// How many pairs there are, where that fits the field of the metadata of a hash: from 2^32 on it is refused, and never before.
 pub fn element_count(list: PairSlice<'_>) -> Result<u32, AllocError>
-    ensures { IfOk result (λ count. count ≡ length (slice_seen list.entry)) }
+    ensures count { IfOk result (λ count. count ≡ length (slice_seen list.entry)) }
+    ensures refused { IfErr result (λ _. 2 ^ 32 ≤ length (slice_seen list.entry)) }
 {
     match u32::try_from(list.len()) {
         Ok(count) => Ok(count),

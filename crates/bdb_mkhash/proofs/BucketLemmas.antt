@@ -1,9 +1,7 @@
 -- The number of buckets, and keys that are dealt into them.
 use Rattle.std.proofs.Common.{◌≡◌, ℕ, zero, suc, ◌+◌, ◌-◌, ◌*◌, ◌<◌, ◌≤◌, Bool, true, false, cond, List, [], ◌∷◌, ◌++◌, get_or, set, drop, map, length}
-use Rattle.std.proofs.Common.{replicate, append_assoc, pow-suc, arith, refl, sym, ◌∙◌, ap, inl, inr}
-use Rattle.std.specs.Prelude.{◌^◌, ◌/◌, ◌==◌, nat_le}
+use Rattle.std.proofs.Common.{replicate, append_assoc, pow-suc, arith, refl, sym, ◌∙◌, ap, inl, inr, ◌^◌, ◌/◌, ◌==◌, nat_le, unwrap_or}
 use Rattle.std.specs.List.{find, range_with_len}
-use Rattle.std.specs.Option.{unwrap_or}
 use Rattle.std.proofs.lemmas.Bool.{cases_eq, eq-eqb, le-leb, lt-leb, ne_eqb}
 use Rattle.std.proofs.lemmas.List.{append-nil, get_or-map, get_or-set_other, get_or-set_same, length-set, map-set, same_lists}
 use Rattle.std.proofs.lemmas.List.Elements.{filter-append}

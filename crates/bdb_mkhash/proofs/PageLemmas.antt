@@ -1,8 +1,6 @@
 -- A page of a table that begins, takes an item, or gets a next page, and what it is in a file.
-use Rattle.std.proofs.Common.{◌≡◌, ℕ, ◌+◌, ◌-◌, ◌<◌, ◌≤◌, true, List, [], ◌∷◌, ◌++◌, length, drop, replicate, arith, refl, sym}
-use Rattle.std.proofs.Common.{◌∙◌, ap, subst, length-append}
-use Rattle.std.specs.Prelude.{◌^◌, ◌%◌, ◌==◌}
-use Rattle.std.specs.List.{sum_by}
+use Rattle.std.proofs.Common.{◌≡◌, ℕ, ◌+◌, ◌-◌, ◌<◌, ◌≤◌, true, List, [], ◌∷◌, ◌++◌, length, drop, replicate, arith, refl, sym, ◌∙◌, ap, subst, length-append}
+use Rattle.std.proofs.Common.{◌^◌, ◌%◌, ◌==◌, sum_by}
 use Rattle.std.proofs.lemmas.List.{get_or-set_other, get_or_append_left, get_or_push, length-map, length-replicate, length-set, map-append}
 use Rattle.std.proofs.lemmas.List.Sums.{sum_by_push}
 use Rattle.bdb_mktree.specs.of_format.declared.kinds.Order.{Order}

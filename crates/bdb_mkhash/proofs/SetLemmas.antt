@@ -1,8 +1,5 @@
 -- A set that is spelled is a run of its blocks.
-use Rattle.std.proofs.Common.{◌≡◌, ℕ, ◌<◌, List, [], ◌∷◌, length, ap, ◌∙◌, arith}
-use Rattle.std.specs.Prelude.{◌^◌, Some}
-use Rattle.std.specs.Option.{option_map}
-use Rattle.std.specs.List.{All, flat_map}
+use Rattle.std.proofs.Common.{◌≡◌, ℕ, ◌<◌, List, [], ◌∷◌, length, ap, ◌∙◌, arith, ◌^◌, Some, option_map, All, flat_map}
 use Rattle.std.proofs.lemmas.List.{append-nil, drop_all}
 use Rattle.bdb_mktree.specs.of_format.declared.kinds.Order.{Order}
 use Rattle.bdb_mktree.specs.of_format.Terms.{block_bytes, blocks_of, overwritten, spelled}

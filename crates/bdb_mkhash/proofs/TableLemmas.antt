@@ -1,8 +1,6 @@
 -- The keys of all buckets, and the table.
-use Rattle.std.proofs.Common.{◌≡◌, ◌⊎◌, ℕ, suc, ◌+◌, ◌<◌, ◌≤◌, Bool, true, false, List, [], ◌∷◌, ◌++◌, map, length, get_or, take, None, arith, refl, sym}
-use Rattle.std.proofs.Common.{◌∙◌, ap, subst, inl, inr, length-append, length-take, true≢false}
-use Rattle.std.specs.Prelude.{◌||◌}
-use Rattle.std.specs.List.{sum_by}
+use Rattle.std.proofs.Common.{◌≡◌, ◌⊎◌, ℕ, suc, ◌+◌, ◌<◌, ◌≤◌, Bool, true, false, List, [], ◌∷◌, ◌++◌, map, length, get_or, take, None, arith, refl, sym, ◌∙◌}
+use Rattle.std.proofs.Common.{ap, subst, inl, inr, length-append, length-take, true≢false, ◌||◌, sum_by}
 use Rattle.std.proofs.lemmas.Bool.{cases_eq, cases_lt, or_cases, or_right}
 use Rattle.std.proofs.lemmas.List.{length-map, map-append, take_more}
 use Rattle.std.proofs.lemmas.List.Sums.{sum_by_push}

@@ -9,9 +9,6 @@ ghost use Rattle.bdb_mkhash.specs.Pages.{CanTakeContent, HoldsContentsOn, with_h
 use bdb_mktree::{HashItem, Header, PageType, Pages, put_u32};
 use std::alloc::AllocError;
 
-/// How many pages a file may have.
-pub(crate) const MAX_PAGES: u32 = 1 << 21;
-
 /// Adds a page of a table without items behind all pages, where a number is left for it, and answers that. `previous` is
 /// the page before it in its bucket, 0 where it is the first.
 pub(crate) fn add_page(pages: &mut Pages, previous: u32) -> Result<u32, AllocError>
@@ -21,7 +18,7 @@ pub(crate) fn add_page(pages: &mut Pages, previous: u32) -> Result<u32, AllocErr
     ensures holds { IfOk result (λ number. HoldsContentsOn pages.new number previous 0 []) }
     ensures few { IfOk result (λ _. length pages.old.pages < 2 ^ 21) }
 {
-    if pages.count() >= MAX_PAGES {
+    if pages.count() >= Pages::MAX {
         return Err(AllocError);
     }
     let number = pages.add()?;

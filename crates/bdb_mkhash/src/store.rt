@@ -1,20 +1,11 @@
-ghost use Rattle.std.specs.Prelude.{◌≡◌, ◌-◌, ◌*◌, ◌<◌, ◌≤◌, ◌^◌, IfOk, IsTrue, length};
+ghost use Rattle.std.specs.Prelude.{◌≡◌, ◌≤◌, IfOk, IsTrue, length};
 ghost use Rattle.bdb_mktree.specs.of_format.Terms.{is_page_size};
 ghost use Rattle.bdb_mktree.specs.of_layout.Seen.{HasOrder, hash_content_seen};
 ghost use Rattle.bdb_mktree.specs.of_mkleaves.Runs.{IsShort};
 ghost use Rattle.bdb_mkhash.specs.Filling.{IsHashItem};
 
-use crate::page::MAX_PAGES;
 use bdb_mktree::{HashItem, Pages, Stored, push_value};
 use std::alloc::AllocError;
-
-// Whether there are numbers left for the pages of a value's chain.
-fn has_pages_for(pages: &Pages, value: &[u8]) -> bool
-    ensures { IsTrue result → length value.now ≤ (2 ^ 21 - length pages.now.pages) * (pages.now.size - 26) }
-{
-    let left = MAX_PAGES.saturating_sub(pages.count()) as usize;
-    value.len() <= left * (pages.size() - 26)
-}
 
 /// Stores a value, and answers its item: of a short one it has the bytes, of a longer one it names the chain.
 pub(crate) fn store<'a>(pages: &mut Pages, value: &'a [u8]) -> Result<HashItem<'a>, AllocError>
@@ -24,7 +15,7 @@ pub(crate) fn store<'a>(pages: &mut Pages, value: &'a [u8]) -> Result<HashItem<'
     ensures item { IfOk result (λ item. IsHashItem pages.old pages.new value.now (hash_content_seen item)) }
     ensures order { IfOk result (λ item. HasOrder pages.new.order item) }
 {
-    if !has_pages_for(pages, value) {
+    if !pages.has_pages_for(value) {
         return Err(AllocError);
     }
     match push_value(pages, value)? {

@@ -1,6 +1,5 @@
 -- The leaves of a tree as pages of its lowest level.
-use Rattle.std.proofs.Common.{Bool, ◌≡◌, ℕ, suc, zero, ◌+◌, ◌<◌, List, [], ◌∷◌, ◌++◌, length, get_or, take, arith, refl, sym, ◌∙◌, ap, subst}
-use Rattle.std.proofs.Common.{length-append}
+use Rattle.std.proofs.Common.{Bool, ◌≡◌, ℕ, suc, zero, ◌+◌, ◌<◌, List, [], ◌∷◌, ◌++◌, length, get_or, take, arith, refl, sym, ◌∙◌, ap, subst, length-append}
 use Rattle.std.proofs.lemmas.List.{get_or_append_left, get_or_push, take_all, take_more}
 use Rattle.bdb_pack.specs.Built.{Built}
 use Rattle.bdb_mkleaves.specs.LeafChildren.{leaf_child, leaf_children}

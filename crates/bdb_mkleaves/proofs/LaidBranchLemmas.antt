@@ -1,7 +1,6 @@
 -- A tree that is laid is a branch: its leaves stand over what they name, and the levels over them.
-use Rattle.std.proofs.Common.{◌≡◌, ◌⊎◌, ℕ, ◌+◌, ◌≤◌, Bool, true, false, List, [], ◌∷◌, ◌++◌, get_or, map, length, Some, append-nil, arith, refl}
-use Rattle.std.proofs.Common.{sym, ◌∙◌, ap, subst, inl, inr, true≢false}
-use Rattle.std.specs.Prelude.{◌==◌, ◌||◌}
+use Rattle.std.proofs.Common.{◌≡◌, ◌⊎◌, ℕ, ◌+◌, ◌≤◌, Bool, true, false, List, [], ◌∷◌, ◌++◌, get_or, map, length, Some, append-nil, arith, refl, sym, ◌∙◌, ap}
+use Rattle.std.proofs.Common.{subst, inl, inr, true≢false, ◌==◌, ◌||◌}
 use Rattle.std.specs.List.{All, AllZip, Contains, filter, flat_map, list_any, range_with_len}
 use Rattle.std.proofs.lemmas.Bool.{eqb-false, false_from_ne_true, or_from, or_left, or_cases}
 use Rattle.std.proofs.lemmas.Simd.{map-map}

@@ -1,6 +1,5 @@
 -- Leaves with their units, under the levels over them.
-use Rattle.std.proofs.Common.{arith}
-use Rattle.std.proofs.Common.{◌≡◌, ◌⊎◌, ℕ, ◌+◌, Option, inl, inr, Bool, true, get_or, List, [], ◌∷◌, map, Some, None, refl, ◌∙◌, ap, subst}
+use Rattle.std.proofs.Common.{arith, ◌≡◌, ◌⊎◌, ℕ, ◌+◌, Option, inl, inr, Bool, true, get_or, List, [], ◌∷◌, map, Some, None, refl, ◌∙◌, ap, subst}
 use Rattle.std.specs.List.{All, AllZip, flat_map, list_any}
 use Rattle.std.proofs.lemmas.List.Elements.{All-cons, All-head, All-map, All-nil, All-tail}
 use Rattle.bdb_places.specs.of_format.Terms.{File, children_in, has_type, header_in, leaves_in, page_at, places_from, type_in}

@@ -1,7 +1,5 @@
 -- What a set holds that is laid as a tree.
-use Rattle.std.proofs.Common.{arith}
-use Rattle.std.proofs.Common.{◌≡◌, ℕ, Some, Bool, true, false, not, cond, List, [], ◌∷◌, ◌++◌, map, refl, sym, ◌∙◌, ap}
-use Rattle.std.specs.List.{All, filter, flat_map}
+use Rattle.std.proofs.Common.{arith, ◌≡◌, ℕ, Some, Bool, true, false, not, cond, List, [], ◌∷◌, ◌++◌, map, refl, sym, ◌∙◌, ap, All, filter, flat_map}
 use Rattle.std.proofs.lemmas.Grind.{flat_map-append}
 use Rattle.std.proofs.lemmas.List.Elements.{All-head, All-tail, All-weaker}
 use Rattle.bdb_places.specs.of_format.declared.references.Sort.TheVariants.{DuplicateRoot}

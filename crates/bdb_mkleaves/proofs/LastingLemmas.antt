@@ -1,6 +1,5 @@
 -- Heads of chains, and trees that stay on later pages.
-use Rattle.std.proofs.Common.{◌≡◌, ℕ, ◌<◌, ◌≤◌, Bool, true, List, [], length, map, refl, sym, ◌∙◌, ap, subst}
-use Rattle.std.specs.List.{All, Contains, flat_map}
+use Rattle.std.proofs.Common.{◌≡◌, ℕ, ◌<◌, ◌≤◌, Bool, true, List, [], length, map, refl, sym, ◌∙◌, ap, subst, All, Contains, flat_map}
 use Rattle.std.proofs.lemmas.List.Elements.{All-contains}
 use Rattle.bdb_places.specs.of_format.Terms.{Chain, Content, File, Inline, Set, Tree, Unknown, entries_of as count_on}
 use Rattle.bdb_places.proofs.of_format.ListLemmas.{only_member}

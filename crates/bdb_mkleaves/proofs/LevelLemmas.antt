@@ -1,8 +1,6 @@
 -- A level of internal pages that takes a child: on its last page, or on a new one.
-use Rattle.std.proofs.Common.{◌≡◌, ℕ, zero, suc, ◌+◌, ◌-◌, ◌<◌, Bool, false, List, [], ◌∷◌, ◌++◌, length, get_or, set, Option, Some, arith, refl, sym}
-use Rattle.std.proofs.Common.{◌∙◌, ap, subst, inl, inr, length-append, length-set, append_assoc}
-use Rattle.std.specs.Prelude.{SomeIff}
-use Rattle.std.specs.List.{Contains, flat_map, sum_by}
+use Rattle.std.proofs.Common.{◌≡◌, ℕ, zero, suc, ◌+◌, ◌-◌, ◌<◌, Bool, false, List, [], ◌∷◌, ◌++◌, length, get_or, set, Option, Some, arith, refl, sym, ◌∙◌, ap}
+use Rattle.std.proofs.Common.{subst, inl, inr, length-append, length-set, append_assoc, SomeIff, Contains, flat_map, sum_by}
 use Rattle.std.proofs.lemmas.Bool.{cases_lt}
 use Rattle.std.proofs.lemmas.Grind.{flat_map-append}
 use Rattle.std.proofs.lemmas.List.{append-nil, get_or_default, get_or-set_other, get_or-set_same, get_or_append_left, get_or_push}

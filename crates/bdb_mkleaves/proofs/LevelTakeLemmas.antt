@@ -1,8 +1,6 @@
 -- Keys of leaves, and an internal page that takes a child or has no room for it, or is started with one.
-use Rattle.std.proofs.Common.{◌≡◌, ℕ, ◌+◌, ◌-◌, ◌<◌, ◌≤◌, true, false, List, [], ◌∷◌, ◌++◌, length, get_or, replicate, Option, Some, None, arith}
-use Rattle.std.proofs.Common.{refl, sym, ◌∙◌, ap, subst, inl, inr, length-set, length-append}
-use Rattle.std.specs.Option.{option_map}
-use Rattle.std.specs.List.{Contains}
+use Rattle.std.proofs.Common.{◌≡◌, ℕ, ◌+◌, ◌-◌, ◌<◌, ◌≤◌, true, false, List, [], ◌∷◌, ◌++◌, length, get_or, replicate, Option, Some, None, arith, refl, sym}
+use Rattle.std.proofs.Common.{◌∙◌, ap, subst, inl, inr, length-set, length-append, option_map, Contains}
 use Rattle.std.proofs.lemmas.Bool.{cases_eq, leb-false, leb-true}
 use Rattle.std.proofs.lemmas.List.{get_or-set_other, get_or_append_left, get_or_push, length-replicate}
 use Rattle.bdb_places.specs.of_format.declared.kinds.Order.{Order}

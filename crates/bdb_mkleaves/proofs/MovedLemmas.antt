@@ -1,7 +1,6 @@
 -- A leaf that is moved behind all pages.
-use Rattle.std.proofs.Common.{◌≡◌, ℕ, ◌+◌, ◌<◌, ◌≤◌, ◌^◌, true, List, [], ◌∷◌, ◌++◌, length, drop, get_or, replicate, set, arith, refl, sym, ◌∙◌, ap}
-use Rattle.std.proofs.Common.{subst, length-append, length-set}
-use Rattle.std.specs.List.{Contains}
+use Rattle.std.proofs.Common.{◌≡◌, ℕ, ◌+◌, ◌<◌, ◌≤◌, ◌^◌, true, List, [], ◌∷◌, ◌++◌, length, drop, get_or, replicate, set, arith, refl, sym, ◌∙◌, ap, subst}
+use Rattle.std.proofs.Common.{length-append, length-set, Contains}
 use Rattle.std.proofs.lemmas.List.{get_or-set_other, get_or_append_left, get_or_push, length-replicate}
 use Rattle.bdb_places.specs.of_format.Terms.{is_page_size}
 use Rattle.bdb_places.proofs.of_format.MemberLemmas.{first_member, later_member}

@@ -1,8 +1,6 @@
 -- A key with its data that is put on the last leaf.
-use Rattle.std.proofs.Common.{◌≡◌, ℕ, suc, ◌+◌, ◌-◌, ◌*◌, ◌<◌, ◌≤◌, false, List, [], ◌∷◌, ◌++◌, length, map, get_or, take, arith, refl, sym, ◌∙◌, ap}
-use Rattle.std.proofs.Common.{subst, length-append}
-use Rattle.std.specs.Prelude.{◌%◌}
-use Rattle.std.specs.List.{All, sum_by}
+use Rattle.std.proofs.Common.{◌≡◌, ℕ, suc, ◌+◌, ◌-◌, ◌*◌, ◌<◌, ◌≤◌, false, List, [], ◌∷◌, ◌++◌, length, map, get_or, take, arith, refl, sym, ◌∙◌, ap, subst}
+use Rattle.std.proofs.Common.{length-append, ◌%◌, All, sum_by}
 use Rattle.std.proofs.lemmas.List.{append_assoc, get_or-append-add, map-append, take_more}
 use Rattle.std.proofs.lemmas.List.Elements.{All-push}
 use Rattle.std.proofs.lemmas.List.Sums.{sum_by-append, sum_by-cons, sum_by-take-le, sum_by_push}

@@ -1,7 +1,6 @@
 -- What leaves hold by the units that were put on them.
-use Rattle.std.proofs.Common.{arith}
-use Rattle.std.proofs.Common.{◌≡◌, ℕ, Bool, true, false, not, List, [], ◌∷◌, length, map, get_or, refl, sym, ◌∙◌, ap, subst, eq-eqb, true≢false}
-use Rattle.std.specs.Prelude.{◌==◌, ◌&&◌}
+use Rattle.std.proofs.Common.{arith, ◌≡◌, ℕ, Bool, true, false, not, List, [], ◌∷◌, length, map, get_or, refl, sym, ◌∙◌, ap, subst, eq-eqb, true≢false, ◌==◌}
+use Rattle.std.proofs.Common.{◌&&◌}
 use Rattle.std.specs.List.{All, enumerate_from, flat_map, list_any}
 use Rattle.std.proofs.lemmas.Bool.{or_from}
 use Rattle.std.proofs.lemmas.List.{append-nil, map-append}

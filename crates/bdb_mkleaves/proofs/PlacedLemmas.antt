@@ -1,7 +1,5 @@
 -- The pairs of leaves are runs, one for each unit that was put on them.
-use Rattle.std.proofs.Common.{arith}
-use Rattle.std.proofs.Common.{◌≡◌, ℕ, not, List, [], ◌∷◌, ◌++◌, map, get_or, refl, sym, ◌∙◌, ap}
-use Rattle.std.specs.List.{All, flat_map}
+use Rattle.std.proofs.Common.{arith, ◌≡◌, ℕ, not, List, [], ◌∷◌, ◌++◌, map, get_or, refl, sym, ◌∙◌, ap, All, flat_map}
 use Rattle.std.proofs.lemmas.List.{append-nil, map-append}
 use Rattle.std.proofs.lemmas.Simd.{map-map}
 use Rattle.std.proofs.lemmas.Grind.{flat_map-append}

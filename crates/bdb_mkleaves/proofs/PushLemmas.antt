@@ -1,10 +1,8 @@
 -- A unit that is pushed: the last leaf has room for it, or a new one.
-use Rattle.std.proofs.Common.{Bool, ◌≡◌, ℕ, suc, ◌+◌, ◌-◌, ◌<◌, ◌≤◌, true, false, if◌then◌else◌, List, [], ◌∷◌, ◌++◌, length, map, arith, refl}
-use Rattle.std.proofs.Common.{sym, ◌∙◌, ap, subst, inl, inr, length-append, true≢false}
-use Rattle.std.specs.Prelude.{◌⊎◌, ◌/◌, ◌%◌, ◌&&◌, nat_lt, get_or, take}
+use Rattle.std.proofs.Common.{Bool, ◌≡◌, ℕ, suc, ◌+◌, ◌-◌, ◌<◌, ◌≤◌, true, false, if◌then◌else◌, List, [], ◌∷◌, ◌++◌, length, map, arith, refl, sym, ◌∙◌, ap}
+use Rattle.std.proofs.Common.{subst, inl, inr, length-append, true≢false, ◌⊎◌, ◌/◌, ◌%◌, ◌&&◌, nat_lt, get_or, take, All, flat_map}
 use Rattle.std.proofs.lemmas.List.{take_all}
 use Rattle.std.specs.Cmp.Derive.{both_true}
-use Rattle.std.specs.List.{All, flat_map}
 use Rattle.std.proofs.lemmas.List.Sums.{sum_by-cons}
 use Rattle.std.proofs.lemmas.Bool.{cases_lt, leb-false, le-ltb, leb-true, lt-ltb}
 use Rattle.bdb_places.specs.of_format.Terms.{File, is_page_size}

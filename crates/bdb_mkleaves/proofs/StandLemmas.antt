@@ -1,6 +1,5 @@
 -- Values that stand one after the other are a branch, and fit.
-use Rattle.std.proofs.Common.{◌≡◌, ℕ, ◌+◌, ◌-◌, ◌<◌, ◌≤◌, not, List, [], ◌∷◌, ◌++◌, length, map, Some, arith, refl, sym, ◌∙◌, ap, subst}
-use Rattle.std.specs.List.{flat_map}
+use Rattle.std.proofs.Common.{◌≡◌, ℕ, ◌+◌, ◌-◌, ◌<◌, ◌≤◌, not, List, [], ◌∷◌, ◌++◌, length, map, Some, arith, refl, sym, ◌∙◌, ap, subst, flat_map}
 use Rattle.std.proofs.lemmas.Bool.{eq-eqb}
 use Rattle.std.proofs.lemmas.List.Elements.{All-cons, All-nil}
 use Rattle.bdb_places.specs.of_format.Terms.{Chain, Content, File, Inline, Set, Tree, Unknown, header_in, joined, page_at, pieces_of, type_in, value_of}

@@ -1,7 +1,5 @@
 -- Pairs that are whole units: runs, each of a pair with its own key and of pairs that share it.
-use Rattle.std.proofs.Common.{arith}
-use Rattle.std.proofs.Common.{◌≡◌, ℕ, ◌+◌, Bool, true, false, not, cond, List, [], ◌∷◌, ◌++◌, map, get_or, refl, sym, ◌∙◌, ap, inl, inr}
-use Rattle.std.specs.Prelude.{◌==◌, ◌&&◌}
+use Rattle.std.proofs.Common.{arith, ◌≡◌, ℕ, ◌+◌, Bool, true, false, not, cond, List, [], ◌∷◌, ◌++◌, map, get_or, refl, sym, ◌∙◌, ap, inl, inr, ◌==◌, ◌&&◌}
 use Rattle.std.specs.List.{All, enumerate_from, filter, flat_map, list_any, take_while}
 use Rattle.std.proofs.lemmas.Bool.{and_parts, and_right, or_from}
 use Rattle.std.proofs.lemmas.List.{map-append}

@@ -9,7 +9,6 @@ ghost use Rattle.bdb_mkleaves.specs.declared.leaf_type.LeafType.{LeafType as Typ
 ghost use Rattle.bdb_mkleaves.specs.declared.leaf_type.LeafType.TheVariants.{Pairs};
 
 use crate::LeafType;
-use crate::leaves::MAX_PAGES;
 use bdb_pack::{LeafItem, Pages, put_u32};
 use bdb_places::Header;
 use std::alloc::AllocError;
@@ -27,7 +26,7 @@ pub(crate) fn add_leaf(
     ensures holds { IfOk result (λ number. HoldsEntriesOn leaf_type pages.new number previous 0 []) }
     ensures long { IfOk result (λ number. length (bytes_of pages.new number) ≡ pages.old.size) }
 {
-    if pages.count() >= MAX_PAGES {
+    if pages.count() >= Pages::MAX {
         return Err(AllocError);
     }
     let number = pages.add()?;

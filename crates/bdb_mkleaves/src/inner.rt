@@ -8,7 +8,6 @@ ghost use Rattle.bdb_pack.specs.Items.{OnInternal, OnRecno};
 ghost use Rattle.bdb_pack.specs.OnPages.{with_item_on};
 ghost use Rattle.bdb_mkleaves.specs.Inner.{CanTakeChild, HoldsChildrenOn, added_key, inner_number, raised, with_inner};
 
-use crate::leaves::MAX_PAGES;
 use bdb_law_levels::InnerType;
 use bdb_pack::{InternalItem, Pages, put_u16};
 use bdb_places::{Header, PageType, RecnoItem};
@@ -31,7 +30,7 @@ pub(crate) fn add_inner(pages: &mut Pages, inner: InnerType, level: u8) -> Resul
     ensures pages { IfOk result (λ _. pages.new ≡ with_inner inner pages.old level) }
     ensures holds { IfOk result (λ number. HoldsChildrenOn inner pages.new number level []) }
 {
-    if pages.count() >= MAX_PAGES {
+    if pages.count() >= Pages::MAX {
         return Err(AllocError);
     }
     let number = pages.add()?;

@@ -1,4 +1,4 @@
-ghost use Rattle.std.specs.Prelude.{◌≡◌, ◌+◌, ◌-◌, ◌*◌, ◌/◌, ◌≤◌, ◌<◌, ◌^◌, [], IfOk, IsTrue, length};
+ghost use Rattle.std.specs.Prelude.{◌≡◌, ◌+◌, ◌≤◌, ◌<◌, ◌^◌, [], IfOk, IsTrue, length};
 ghost use Rattle.bdb_places.specs.of_format.Terms.{is_page_size};
 ghost use Rattle.bdb_pack.specs.of_layout.Seen.{leaf_item_seen};
 ghost use Rattle.bdb_pack.specs.Built.{AreWhole, bytes_of};
@@ -13,9 +13,6 @@ use crate::LeafType;
 use crate::entries::{add_leaf, append_item, append_shared_key, set_next};
 use bdb_pack::{LeafItem, Pages, Stored, push_value};
 use std::alloc::{AllocError, Global};
-
-/// How many pages a file may have.
-pub(crate) const MAX_PAGES: u32 = 1 << 21;
 
 /// The leaves of a tree that is being built, in their order: the last one takes units. They stand among pages that each call is given; after a
 /// refusal neither leaves nor pages have a promise.
@@ -124,7 +121,7 @@ fn store<'a>(pages: &mut Pages, value: &'a [u8], deleted: bool) -> Result<LeafIt
     requires legal { IsTrue (is_page_size pages.old.size) }
     ensures { IfOk result (λ item. IsItemOf pages.old pages.new value.now deleted (leaf_item_seen item)) }
 {
-    if !has_pages_for(pages, value) {
+    if !pages.has_pages_for(value) {
         return Err(AllocError);
     }
     match push_value(pages, value)? {
@@ -138,12 +135,4 @@ fn store<'a>(pages: &mut Pages, value: &'a [u8], deleted: bool) -> Result<LeafIt
             deleted,
         }),
     }
-}
-
-// Whether there are numbers left for the pages of a value's chain.
-fn has_pages_for(pages: &Pages, value: &[u8]) -> bool
-    ensures { IsTrue result → length value.now ≤ (2 ^ 21 - length pages.now.pages) * (pages.now.size - 26) }
-{
-    let left = MAX_PAGES.saturating_sub(pages.count()) as usize;
-    value.len() <= left * (pages.size() - 26)
 }

@@ -6,7 +6,7 @@ ghost use Rattle.bdb_mkleaves.specs.Leaves.{AreSomeLeaves};
 ghost use Rattle.bdb_mkleaves.specs.Moved.{IsFirstMoved, IsMoved, first_leaf, second_leaf};
 
 use crate::entries::set_previous;
-use crate::leaves::{Leaves, MAX_PAGES};
+use crate::leaves::Leaves;
 use bdb_pack::{Pages, put_u32};
 use std::alloc::AllocError;
 
@@ -48,7 +48,7 @@ pub(crate) fn move_leaf(pages: &mut Pages, from: u32) -> Result<u32, AllocError>
     requires from { from < length pages.old.pages }
     ensures { IfOk result (λ number. IsMoved from number pages.old pages.new) }
 {
-    if pages.count() >= MAX_PAGES {
+    if pages.count() >= Pages::MAX {
         return Err(AllocError);
     }
     let number = pages.add_copy(from)?;

@@ -1,8 +1,6 @@
 -- What is promised of a queue that was built.
-use Rattle.std.proofs.Common.{◌≡◌, ℕ, ◌+◌, ◌-◌, ◌^◌, ◌<◌, ◌≤◌, Bool, false, cond, List, [], ◌∷◌, length, Option, Some, None}
-use Rattle.std.proofs.Common.{arith, refl, sym, ◌∙◌, ap, subst}
-use Rattle.std.specs.Prelude.{◌||◌}
-use Rattle.std.specs.List.{All}
+use Rattle.std.proofs.Common.{◌≡◌, ℕ, ◌+◌, ◌-◌, ◌^◌, ◌<◌, ◌≤◌, Bool, false, cond, List, [], ◌∷◌, length, Option, Some, None, arith, refl, sym, ◌∙◌, ap, subst}
+use Rattle.std.proofs.Common.{◌||◌, All}
 use Rattle.std.proofs.Math.Nat.{div-le_self}
 use Rattle.std.proofs.lemmas.Bool.{eq-eqb, le-ltb, ne_eqb}
 use Rattle.bdb_text_format.specs.of_format.declared.metadata.QueueMeta.{QueueMeta}

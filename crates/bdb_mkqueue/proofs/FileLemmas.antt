@@ -1,6 +1,5 @@
 -- The file of a queue, as a caller of `Pages` makes it: the queue is built behind a zero page, and its metadata written over that.
-use Rattle.std.proofs.Common.{◌≡◌, ℕ, ◌-◌, ◌^◌, ◌<◌, ◌≤◌, true, List, [], length}
-use Rattle.std.proofs.Common.{arith, sym, ◌∙◌, ap, subst}
+use Rattle.std.proofs.Common.{◌≡◌, ℕ, ◌-◌, ◌^◌, ◌<◌, ◌≤◌, true, List, [], length, arith, sym, ◌∙◌, ap, subst}
 use Rattle.bdb_text_format.specs.of_format.declared.metadata.QueueMeta.{QueueMeta}
 use Rattle.bdb_text_format.specs.of_format.declared.settings.Settings.{Settings}
 use Rattle.bdb_text_format.specs.of_format.Terms.{is_page_size, is_zero, queue_bytes, queue_fields}

@@ -1,8 +1,6 @@
 -- The list of a queue that was built.
-use Rattle.std.proofs.Common.{◌≡◌, ℕ, zero, suc, ◌+◌, ◌-◌, ◌*◌, ◌^◌, ◌<◌, ◌≤◌, Bool, true, false, cond, List, [], ◌∷◌, ◌++◌, length, map, drop}
-use Rattle.std.proofs.Common.{get_or}
-use Rattle.std.proofs.Common.{Option, Some, None, append_assoc, arith, refl, sym, ◌∙◌, ap, inl, inr}
-use Rattle.std.specs.Prelude.{◌&&◌, ◌||◌, is_some, nat_le, nat_lt, slice_range, slice_index}
+use Rattle.std.proofs.Common.{◌≡◌, ℕ, zero, suc, ◌+◌, ◌-◌, ◌*◌, ◌^◌, ◌<◌, ◌≤◌, Bool, true, false, cond, List, [], ◌∷◌, ◌++◌, length, map, drop, get_or, Option}
+use Rattle.std.proofs.Common.{Some, None, append_assoc, arith, refl, sym, ◌∙◌, ap, inl, inr, ◌&&◌, ◌||◌, is_some, nat_le, nat_lt, slice_range, slice_index}
 use Rattle.std.specs.List.{flat_map, list_any, range_with_len}
 use Rattle.std.proofs.lemmas.Bool.{cases_Bool, cases_eq, cases_lt, le-leb, lt-ltb}
 use Rattle.std.proofs.lemmas.Grind.{flat_map-append}

@@ -1,8 +1,6 @@
 -- The bytes of a page of records.
-use Rattle.std.proofs.Common.{◌≡◌, ℕ, zero, suc, ◌+◌, ◌-◌, ◌*◌, ◌^◌, ◌<◌, ◌≤◌, Bool, true, false, cond, List, [], ◌∷◌, ◌++◌, length, drop}
-use Rattle.std.proofs.Common.{set, get_or}
-use Rattle.std.proofs.Common.{Option, Some, None, arith, append_assoc, refl, sym, ◌∙◌, ap, length-append}
-use Rattle.std.specs.Prelude.{is_some}
+use Rattle.std.proofs.Common.{◌≡◌, ℕ, zero, suc, ◌+◌, ◌-◌, ◌*◌, ◌^◌, ◌<◌, ◌≤◌, Bool, true, false, cond, List, [], ◌∷◌, ◌++◌, length, drop, set, get_or, Option}
+use Rattle.std.proofs.Common.{Some, None, arith, append_assoc, refl, sym, ◌∙◌, ap, length-append, is_some}
 use Rattle.std.specs.List.{flat_map, list_any}
 use Rattle.std.proofs.Math.Seq.{drop-append-add, drop-append_seam, take-append-add}
 use Rattle.std.proofs.lemmas.Bool.{eq-eqb}

@@ -11,9 +11,6 @@ use bdb_law_join::{Pages, put_header, records_per_page};
 use bdb_text_format::{Header, PageType, PairSlice, QueueMeta, Settings, number_of};
 use std::alloc::AllocError;
 
-// The longest file that is read has no more pages.
-const MAX_PAGES: u32 = 1 << 21;
-
 // Adds so many zero pages behind all pages.
 fn add_pages(pages: &mut Pages, n: u32) -> Result<(), AllocError>
     requires { length pages.old.pages + n ≤ 2 ^ 21 }
@@ -51,7 +48,7 @@ fn reach_page(pages: &mut Pages, number: u32) -> Result<(), AllocError>
     if number < count {
         return Ok(());
     }
-    if number >= MAX_PAGES {
+    if number >= Pages::MAX {
         return Err(AllocError);
     }
     add_pages(pages, number + 1 - count)?;

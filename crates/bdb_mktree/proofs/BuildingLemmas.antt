@@ -1,8 +1,6 @@
 -- Trees that are being built: the units that are read from their leaves, and one more.
 use Rattle.std.proofs.Common.{Bool, ◌≡◌, ℕ, ◌+◌, ◌<◌, ◌≤◌, true, false, List, [], ◌∷◌, ◌++◌, length, map, arith, refl, sym, ◌∙◌, ap, subst, inl, inr}
-use Rattle.std.proofs.Common.{length-append}
-use Rattle.std.specs.Prelude.{◌⊎◌}
-use Rattle.std.specs.List.{All, flat_map}
+use Rattle.std.proofs.Common.{length-append, ◌⊎◌, All, flat_map}
 use Rattle.std.proofs.lemmas.List.{append_assoc, map-append}
 use Rattle.std.proofs.lemmas.List.Elements.{All-head, All-nil, All-push, All-tail, Contains-append_right}
 use Rattle.bdb_mkleaves.proofs.of_pack.ImageLemmas.{counted_so_far, page_so_far}

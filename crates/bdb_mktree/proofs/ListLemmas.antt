@@ -1,7 +1,6 @@
 -- Lists and their units: the run of a key, the record that comes next, and the list that units give back.
 use Rattle.std.proofs.Common.{Bool, ◌≡◌, ℕ, suc, zero, ◌+◌, ◌-◌, ◌<◌, ◌≤◌, ◌^◌, true, false, cond, get_or, slice_get, None, Option, Some, option_map, List, []}
-use Rattle.std.proofs.Common.{◌∷◌, ◌++◌, length, map, take, drop, replicate}
-use Rattle.std.proofs.Common.{arith, refl, sym, ◌∙◌, ap, inl, inr, true≢false}
+use Rattle.std.proofs.Common.{◌∷◌, ◌++◌, length, map, take, drop, replicate, arith, refl, sym, ◌∙◌, ap, inl, inr, true≢false}
 use Rattle.std.specs.List.{All, enumerate_from, flat_map, prefix_len}
 use Rattle.std.specs.Str.{bytes_eq}
 use Rattle.std.proofs.lemmas.Bool.{cases_Bool}

@@ -1,9 +1,7 @@
 -- Lists in their order, and the rules that their units keep.
 use Rattle.std.proofs.Common.{Bool, ◌≡◌, ℕ, suc, zero, ◌+◌, ◌-◌, ◌<◌, ◌≤◌, true, false, cond, not, List, [], ◌∷◌, map, replicate, arith, refl, sym, ◌∙◌, ap}
-use Rattle.std.proofs.Common.{subst, inl, inr, true≢false}
-use Rattle.std.specs.Prelude.{◌&&◌, ◌||◌}
+use Rattle.std.proofs.Common.{subst, inl, inr, true≢false, ◌&&◌, ◌||◌, All}
 use Rattle.std.specs.Cmp.Derive.{both_true}
-use Rattle.std.specs.List.{All}
 use Rattle.std.specs.Str.{bytes_eq}
 use Rattle.std.proofs.lemmas.Bool.{and_parts, ltb-true, or_cases}
 use Rattle.std.proofs.lemmas.List.Elements.{All-append, All-cons, All-head, All-nil, All-tail}

@@ -7,7 +7,6 @@ use Rattle.std.proofs.lemmas.List.Sums.{sum_by-cons}
 use Rattle.bdb_mkhash.specs.of_format.declared.kinds.Kind.{Kind}
 use Rattle.bdb_mkhash.specs.of_format.declared.kinds.Kind.TheVariants.{Btree, Recno, Hash, Queue}
 use Rattle.bdb_mkhash.specs.of_format.declared.settings.Settings.{Settings}
-use Rattle.bdb_mkhash.specs.of_mkleaves.Runs.{IsShort}
 use Rattle.bdb_mkqueue.specs.Layout.{page_of_record, queue_size}
 use Rattle.bdb_mkqueue.specs.Lists.{next_number}
 use Rattle.bdb_need.proofs.SectionLemmas.{filled_before}
@@ -17,7 +16,7 @@ use Rattle.bdb_mkhash.specs.of_text_format.declared.sections.Section.{Section}
 use Rattle.bdb_mkhash.specs.of_text_format.Terms.{AscendFrom, holds_records, number_of}
 use Rattle.bdb_settle.specs.Loaded.{filled_pairs, filled_section, loaded}
 use Rattle.bdb_settle.proofs.FillingLemmas.{as_they_are}
-use Rattle.bdb_need.specs.Need.{AreSettled, IsListOf, IsSettled, master_pages, master_settings, name_in, name_pair, need_of, section_pages, sized}
+use Rattle.bdb_need.specs.Need.{AreSettled, IsListOf, IsSettled, master_pages, master_settings, name_pair, need_of, section_pages, sized}
 
 -- Lists.
 
@@ -137,14 +136,6 @@ each_before size (section ∷ sections) all =
     All-cons (λ section. IsSettled size (filled_section section)) section sections
     (All-head (IsSettled size) (filled_section section) (map filled_section sections) all)
     (each_before size sections (All-tail (IsSettled size) (filled_section section) (map filled_section sections) all))
-
-pub names_before : (size : ℕ) (sections : List Section) → All (IsSettled size) (map filled_section sections)
-    → All (λ (section : Section). IsShort (name_in section.name)) sections
-names_before size [] all = All-nil (λ (section : Section). IsShort (name_in section.name))
-names_before size (section ∷ sections) all =
-    All-cons (λ (section : Section). IsShort (name_in section.name)) section sections
-    (All-head (IsSettled size) (filled_section section) (map filled_section sections) all).name
-    (names_before size sections (All-tail (IsSettled size) (filled_section section) (map filled_section sections) all))
 
 -- the first section
 pub first_filled : (sections : List Section) (found : Section) → Some found ≡ slice_get sections 0

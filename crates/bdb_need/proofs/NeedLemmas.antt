@@ -1,6 +1,9 @@
 -- The sections of a file, and its master.
 use Rattle.std.proofs.Common.{◌≡◌, ℕ, ◌+◌, Bool, true, false, cond, List, ◌++◌, [], ◌∷◌, map, Some, None, arith, refl, sym, ◌∙◌, ap, subst, inl, is_some}
-use Rattle.std.proofs.Common.{slice_get, All, sum_by}
+use Rattle.std.proofs.Common.{slice_get}
+use Rattle.std.specs.List.{All, list_all, sum_by}
+use Rattle.std.proofs.lemmas.Bool.{and_parts}
+use Rattle.std.proofs.lemmas.Bool.Decides.{nat_tests}
 use Rattle.std.proofs.lemmas.List.Elements.{All-cons, All-head, All-nil, All-tail}
 use Rattle.bdb_mkhash.specs.of_format.declared.kinds.Kind.TheVariants.{Btree}
 use Rattle.bdb_mkhash.specs.of_format.declared.settings.Settings.{Settings}
@@ -15,7 +18,7 @@ use Rattle.bdb_settle.specs.LoadErrors.{load_error}
 use Rattle.bdb_settle.specs.Loaded.{loaded, loaded_pair, loaded_section, unnumbered}
 use Rattle.bdb_settle.proofs.ListLawLemmas.{load_into_lists}
 use Rattle.bdb_settle.proofs.OrderedLemmas.{fold_all}
-use Rattle.bdb_need.specs.Need.{AreSettled, master_pages, master_settings, name_in, name_pair, need_of, section_pages}
+use Rattle.bdb_need.specs.Need.{AreSettled, is_short, master_pages, master_settings, name_in, name_pair, need_of, section_pages}
 
 pub listed_again : (pairs : List Pair) → unlined_pairs (map unnumbered pairs) ≡ pairs
 listed_again [] = refl
@@ -31,6 +34,19 @@ HasBtreeKey pair = IsKeyOf Btree pair.key
 names_fit : (sections : List Section) → All HasBtreeKey (map name_pair sections)
 names_fit [] = All-nil HasBtreeKey
 names_fit (section ∷ sections) = All-cons HasBtreeKey (name_pair section) (map name_pair sections) tt (names_fit sections)
+
+pub short_bytes : (bytes : List ℕ) → is_short bytes ≡ true → IsShort bytes
+short_bytes bytes is = grind (arith, nat_tests)
+
+abbrev pub HasShortName : Section → Type 0
+HasShortName section = IsShort (name_in section.name)
+
+-- names that pass the test are short
+pub names_pass : (sections : List Section) → list_all (λ (section : Section). is_short (name_in section.name)) sections ≡ true → All HasShortName sections
+names_pass [] is = All-nil HasShortName
+names_pass (section ∷ sections) is =
+    let parts = and_parts (is_short (name_in section.name)) (list_all (λ (s : Section). is_short (name_in s.name)) sections) is in
+    All-cons HasShortName section sections (short_bytes (name_in section.name) parts.0) (names_pass sections parts.1)
 
 names_short : (size : ℕ) (sections : List Section) → All (λ (section : Section). IsShort (name_in section.name)) sections
     → All HasShortBytes (map (loaded_pair (master_settings size)) (map name_pair sections))

@@ -1,6 +1,7 @@
 -- How many pages loading needs, for every list of sections. Source: docs/FORMAT.md, "Built trees", "Built tables", "Built queues" and
 -- "Pages of a loaded file".
-use Rattle.std.specs.Prelude.{◌≡◌, ℕ, ◌+◌, ◌-◌, ◌≤◌, if◌then◌else◌, IsTrue, List, [], ◌∷◌, map, replicate, Option, Some, None, is_some}
+use Rattle.std.specs.Prelude.{◌≡◌, ℕ, ◌+◌, ◌-◌, ◌≤◌, ◌^◌, nat_lt, if◌then◌else◌, Bool, IsTrue, List, [], ◌∷◌, length, map, replicate, Option, is_some}
+use Rattle.std.specs.Prelude.{unwrap_or}
 use Rattle.std.specs.List.{All, sum_by}
 use Rattle.bdb_mkhash.specs.of_format.declared.kinds.Kind.{Kind}
 use Rattle.bdb_mkhash.specs.of_format.declared.kinds.Kind.TheVariants.{Btree, Recno, Hash, Queue}
@@ -12,7 +13,6 @@ use Rattle.bdb_mkhash.specs.of_text_format.declared.pairs.Key.TheVariants.{Bytes
 use Rattle.bdb_mkhash.specs.of_text_format.declared.pairs.TextPair.{TextPair}
 use Rattle.bdb_mkhash.specs.of_text_format.declared.sections.Section.{Section}
 use Rattle.bdb_mkhash.specs.of_text_format.Terms.{AscendFrom}
-use Rattle.bdb_mkhash.specs.of_mkleaves.Runs.{IsShort}
 use Rattle.bdb_mkhash.specs.of_mktree.Lists.{IsTreeList}
 use Rattle.bdb_mkhash.specs.Buckets.{table_size, table_units}
 use Rattle.bdb_mkhash.specs.Table.{IsTableList}
@@ -41,8 +41,11 @@ abbrev pub master_settings : ℕ → Settings
 master_settings size = plain_settings Btree size Little
 
 abbrev pub name_in : Option (List ℕ) → List ℕ
-name_in None = []
-name_in (Some name) = name
+name_in name = unwrap_or name []
+
+-- whether bytes are few enough for a length of four bytes
+abbrev pub is_short : List ℕ → Bool
+is_short bytes = nat_lt (length bytes) (2 ^ 32)
 
 abbrev pub name_pair : Section → TextPair
 name_pair section = record { key = Bytes (name_in section.name); value = replicate 4 0; line = 0 }
@@ -65,10 +68,9 @@ IsListOf Recno settings list = IsTreeList settings list
 IsListOf Hash settings list = IsTableList settings list
 IsListOf Queue settings list = (pad4 (settings.re_len + 1) ≤ settings.page_size - 28) × AscendFrom 1 list
 
--- a section with its list, whose name fits its field
+-- a section with its list
 pub record IsSettled (size : ℕ) (section : Section) : Type 0 where
   pub list : IsListOf section.settings.kind (sized size section) (unlined_pairs section.pairs)
-  pub name : IsShort (name_in section.name)
 
 -- sections with their lists, of which there is one at least
 pub record AreSettled (sections : List Section) : Type 0 where

@@ -21,10 +21,11 @@ pub use bdb_mkhash::{
 };
 pub use bdb_mkqueue::{Linked, Meta, build_queue, put_btree_meta, put_hash_meta, put_queue_meta};
 pub use bdb_settle::{
-    LoadError, filled, first_load_error, is_among_names, is_too_wide, ordered, settle,
-    sooner_where, with_pairs,
+    LoadError, filled, first_load_error, is_among_names, is_too_wide, ordered, page_size_in,
+    settle, sooner_where, with_pairs,
 };
 pub use data::{data_chains, data_pages};
+pub use master::{is_short, master_settings, name_of};
 pub use queue::queue_pages;
 pub use sections::{filled_need, need};
 pub use table::table_pages;

@@ -142,7 +142,7 @@ size_error_onto most base sections = if nat_lt most (size_onto base sections) th
 abbrev pub loading_error_onto : ℕ → Base → List Section → Option LoadError
 loading_error_onto most base sections = or_else (onto_error base sections) (size_error_onto most base sections)
 
--- a refusal gives the first error of sections on a base; where there is none, that their image would be too large, or want of memory
+-- a refusal gives the first error of sections on a base; where there is none, that their image would be too large, or lack of memory
 abbrev pub IsOntoRefusal : ℕ → Base → List Section → LoadError → Type 0
 IsOntoRefusal most base sections error = IsLoadRefusalBy (onto_error base sections) (size_error_onto most base sections) error
 

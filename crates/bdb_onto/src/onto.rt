@@ -32,7 +32,7 @@ pub fn settle_onto(alloc: Global, base: Base, sections: Sections) -> Result<Sect
 
 /// The image of sections that are loaded onto a base: a sound file with the databases of both, of at most `max` bytes, in the page size and
 /// the order of the base. Pages of buckets have type 2, and the root of a tree of data says how many there are. Metadata and pages are as `load` lays them
-/// out. An error is the first of the sections on the base; where there is none, that the image would have more than `max` bytes, or want of memory.
+/// out. An error is the first of the sections on the base; where there is none, that the image would have more than `max` bytes, or lack of memory.
 pub fn load_onto(
     alloc: Global,
     base: Base,

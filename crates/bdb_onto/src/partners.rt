@@ -1,24 +1,13 @@
 ghost use Rattle.std.specs.Prelude.{◌≡◌, option_copied};
 ghost use Rattle.std.specs.List.{find};
-ghost use Rattle.bdb_mkfile.specs.Builds.{name_of};
 ghost use Rattle.bdb_onto.specs.Bases.{IsBase};
 ghost use Rattle.bdb_onto.specs.Onto.{is_misnamed, partner_of, settings_onto};
 ghost use Rattle.bdb_onto.specs.Search.{AllNamed, IsPlaceOf, NamesRise, at_place, has_name, order_of};
 
 use crate::Base;
 use bdb_format::Settings;
-use bdb_mkfile::{Section, Sections};
+use bdb_mkfile::{Section, Sections, name_of};
 use std::cmp::Ordering;
-
-// The bytes of a database's name, none where it has none.
-fn name_of(database: &Section) -> &[u8]
-    ensures { result.now ≡ name_of database.now }
-{
-    match &database.name {
-        Some(name) => name.as_slice(),
-        None => &[],
-    }
-}
 
 // The order of a database's name and a name.
 fn order_of(database: &Section, name: &[u8]) -> Ordering

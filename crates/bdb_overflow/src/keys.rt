@@ -35,7 +35,7 @@ impl<'a> Keys<'a> {
         }
     }
 
-    /// Adds a key, and says whether it's new. An error is want of memory.
+    /// Adds a key, and says whether it's new. An error means that memory ran out.
     pub fn add(&mut self, key: Datum<'a>) -> Result<bool, AllocError>
         ensures added { IfOk result (λ is_new. is_new ≡ not (has_key self.old (datum_seen key.entry))) }
         ensures updates { OnOk result (Updates (slice_cmp nat_cmp) self.old self.new (datum_seen key.entry) true) }

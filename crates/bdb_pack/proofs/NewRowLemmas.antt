@@ -1,9 +1,6 @@
 -- No row of an item holds that was just placed.
 use Rattle.std.proofs.Common.{◌≡◌, ℕ, zero, suc, ◌+◌, ◌-◌, ◌<◌, ◌≤◌, Bool, true, false, not, cond, List, [], ◌∷◌, ◌++◌, length, drop, Option, Some, None, arith}
-use Rattle.std.proofs.Common.{refl, ◌∙◌, ap, length-append}
-use Rattle.std.specs.Prelude.{◌==◌, ◌||◌, ◌&&◌, ◌%◌, is_none, nat_le, nat_lt, slice_range}
-use Rattle.std.specs.List.{flat_map}
-use Rattle.std.specs.Option.{unwrap_or}
+use Rattle.std.proofs.Common.{refl, ◌∙◌, ap, length-append, ◌==◌, ◌||◌, ◌&&◌, ◌%◌, is_none, nat_le, nat_lt, slice_range, flat_map, unwrap_or}
 use Rattle.std.proofs.lemmas.Bool.{and_right, eq-eqb, or_from}
 use Rattle.std.proofs.lemmas.List.{append_assoc}
 use Rattle.bdb_layout.specs.of_format.declared.kinds.Order.{Order}

@@ -1,7 +1,6 @@
 -- The rows of an item, as tests.
 use Rattle.std.proofs.Common.{◌≡◌, ℕ, zero, suc, ◌+◌, ◌-◌, ◌<◌, ◌≤◌, true, false, Bool, cond, List, [], ◌∷◌, length, arith, refl, sym, ◌∙◌, ap, subst, None}
-use Rattle.std.specs.Prelude.{nat_le, ◌||◌}
-use Rattle.std.specs.Option.{option_map}
+use Rattle.std.proofs.Common.{nat_le, ◌||◌, option_map}
 use Rattle.std.proofs.lemmas.Bool.{ne_eqb}
 use Rattle.std.proofs.lemmas.Bool.Decides.{nat_tests}
 use Rattle.bdb_layout.specs.of_format.declared.kinds.Order.{Order}

@@ -1,7 +1,6 @@
 -- The pages of a stored value, read back, are a chain of it.
 use Rattle.std.proofs.Common.{◌≡◌, ℕ, suc, ◌+◌, ◌-◌, ◌^◌, ◌<◌, ◌≤◌, true, false, cond, List, [], ◌∷◌, ◌++◌, length, take, drop, get_or, arith, refl, sym, ◌∙◌}
-use Rattle.std.proofs.Common.{inl, inr, subst, ap, length-append, length-drop}
-use Rattle.std.specs.Prelude.{nat_lt}
+use Rattle.std.proofs.Common.{inl, inr, subst, ap, length-append, length-drop, nat_lt}
 use Rattle.std.proofs.lemmas.Bool.{lt-ltb}
 use Rattle.std.proofs.lemmas.List.{append-nil, get_or-append-add, get_or-map, length-take-le, take-append-drop}
 use Rattle.bdb_layout.specs.of_format.declared.kinds.Order.{Order}

@@ -43,6 +43,9 @@ impl Model for Pages {
 impl Pages {
     ghost use Rattle.bdb_pack.specs.Lending.{LendsPage};
 
+    /// How many pages a file may have: the longest one that is read has no more.
+    pub const MAX: u32 = 1 << 21;
+
     /// No pages yet.
     pub fn new(alloc: Global, page_size: u32, order: Order) -> Pages
         requires legal { IsTrue (is_page_size page_size) }
@@ -110,6 +113,15 @@ impl Pages {
         ensures whole { AreWhole self.now }
     {
         self.order
+    }
+
+    /// Whether there are numbers left for the pages of a value's chain.
+    #[tactic(auto, using(crate::proofs::CutLemmas::length_cut, crate::proofs::CutLemmas::page_length))]
+    pub fn has_pages_for(&self, value: &[u8]) -> bool
+        ensures { IsTrue result → length value.now ≤ (2 ^ 21 - length self.now.pages) * (self.now.size - 26) }
+    {
+        let left = Pages::MAX.saturating_sub(self.count()) as usize;
+        value.len() <= left * (self.size() - 26)
     }
 
     /// A zero page at the end, and its number.

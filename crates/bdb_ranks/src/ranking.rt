@@ -36,7 +36,7 @@ fn is_above(chains: &[SharedChain<'_>], i: usize) -> bool
 }
 
 /// The ranks of chains in the order of their values, by their heads: the rank of each is the place of the first one that has its
-/// value. An error is want of memory.
+/// value. An error means that memory ran out.
 fn ranks_in(alloc: Global, chains: &[SharedChain<'_>]) -> Result<BTreeMap<u32, usize>, AllocError>
     requires { IsSortedBy value_less chains.now }
     ensures { IfOk result (λ ranks. (image : List ℕ) → AreShared image chains.now → AreRanks image ranks) }
@@ -52,7 +52,7 @@ fn ranks_in(alloc: Global, chains: &[SharedChain<'_>]) -> Result<BTreeMap<u32, u
     Ok(ranks)
 }
 
-/// The ranks of the chains of a file that several items may name. An error is want of memory.
+/// The ranks of the chains of a file that several items may name. An error means that memory ran out.
 #[tactic(auto, using(crate::proofs::RankLemmas::shared_moved))]
 pub(crate) fn ranks_of(
     alloc: Global,

@@ -58,7 +58,7 @@ fn shared_at<'a>(forest: &Forest<'a>, page: u32) -> Option<SharedChain<'a>>
     }
 }
 
-/// The chains of a file that several items may name. An error is want of memory.
+/// The chains of a file that several items may name. An error means that memory ran out.
 #[tactic(auto, using(crate::proofs::SharedLemmas::none_shared, crate::proofs::SharedLemmas::shared_more))]
 pub(crate) fn shared_chains<'a>(
     alloc: Global,

@@ -60,7 +60,7 @@ impl<'a> Values<'a> {
         self.values.forest()
     }
 
-    /// Whether a value is less than another. Chains that are shared are compared by their ranks. An error is want of memory, for these
+    /// Whether a value is less than another. Chains that are shared are compared by their ranks. An error means that memory ran out, for these
     /// and for chains that begin with a blank page.
     pub fn is_less(&mut self, a: Held<'_>, b: Held<'_>) -> Result<bool, AllocError>
         requires first { FitsHeld (file_of self.old) a }
@@ -101,7 +101,7 @@ impl<'a> Values<'a> {
         }
     }
 
-    /// Ranks the chains that are shared, unless they are ranked. An error is want of memory.
+    /// Ranks the chains that are shared, unless they are ranked. An error means that memory ran out.
     fn rank(&mut self) -> Result<(), AllocError>
         ensures { self.new ≡ self.old }
     {

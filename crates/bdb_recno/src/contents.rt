@@ -28,7 +28,7 @@ pub fn check(linked: &Linked<'_>, meta: &BtreeMeta) -> Result<(), CheckError>
     checked(first, answer)
 }
 
-/// Notes each row on what a recno holds at each page where it holds, in a list of all. An error is want of memory.
+/// Notes each row on what a recno holds at each page where it holds, in a list of all. An error means that memory ran out.
 pub fn all_faults(
     linked: &Linked<'_>,
     meta: &BtreeMeta,
@@ -43,7 +43,7 @@ pub fn all_faults(
 }
 
 /// Notes each row on what a recno holds at each page where it holds: the counts of its internal pages and, where records
-/// have a fixed length, the lengths of the live ones. An error is want of memory, the sink's: no other is taken.
+/// have a fixed length, the lengths of the live ones. An error means that memory ran out, the sink's: no other is taken.
 pub fn note_contents<F: FaultSink>(
     linked: &Linked<'_>,
     meta: &BtreeMeta,

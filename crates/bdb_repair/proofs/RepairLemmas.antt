@@ -52,7 +52,7 @@ can_be_loaded shape found image reading sections read are =
 
 -- Refusals.
 
--- a refusal of sections without an error is want of memory, or that their image would be too large
+-- a refusal of sections without an error means that memory ran out, or that their image would be too large
 pub without_error : (first large : Option LoadError) (error : LoadError) → first ≡ None → IsLoadRefusalBy first large error
     → (error ≡ MemoryForIt) ⊎ (large ≡ Some error)
 without_error first large error none = subst (λ f. IsLoadRefusalBy f large error → (error ≡ MemoryForIt) ⊎ (large ≡ Some error)) (sym none) (λ so. so)

@@ -39,7 +39,7 @@ abbrev pub repair_answer : Result (List ℕ) LoadError → Result (List ℕ) Rep
 repair_answer (Ok image) = Ok image
 repair_answer (Err error) = Err (repair_refusal error)
 
--- by a guess: an image that is built of what is salvaged; that it would be too large, exactly where it would; or want of memory
+-- by a guess: an image that is built of what is salvaged; that it would be too large, exactly where it would; or lack of memory
 abbrev pub IsRepairedBy : ℕ → Option Shape → Guess → List ℕ → Result (List ℕ) RepairError → Type 0
 IsRepairedBy max shape guess image (Ok built) =
     Builds (repair_sections shape guess image) built × (nat_lt max (image_size (repair_sections shape guess image)) ≡ false)

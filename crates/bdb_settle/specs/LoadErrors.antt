@@ -13,7 +13,7 @@ use Rattle.bdb_settle.specs.declared.load_error.LoadError.{LoadError}
 use Rattle.bdb_settle.specs.declared.load_error.LoadError.TheVariants.{RecordTooLong, RecordZero, TooLarge, QueueAmongNames, Memory, OntoKind, OntoNames}
 use Rattle.bdb_settle.specs.Loaded.{has_length}
 
--- The line, the code and the name of each error. Want of memory and a file that is too large are of no line.
+-- The line, the code and the name of each error. Lack of memory and a file that is too large are of no line.
 
 abbrev pub error_entry : LoadError → ℕ × (ℕ × List ℕ)
 error_entry (RecordTooLong line) = (line, (1, codes "RecordTooLong"))
@@ -84,7 +84,7 @@ page_size_in (section ∷ sections) = section.settings.page_size
 abbrev pub load_error : List Section → Option LoadError
 load_error sections = fold sooner None (flat_map (section_errors (page_size_in sections) (length sections == 1)) sections)
 
--- a refusal gives the first error, or want of memory where there is none
+-- a refusal gives the first error, or lack of memory where there is none
 abbrev pub IsSettleRefusal : Option LoadError → LoadError → Type 0
 IsSettleRefusal (Some first) error = error ≡ first
 IsSettleRefusal None error = error ≡ Memory

@@ -136,7 +136,7 @@ fn with_section(
 }
 
 /// The page size of the file that is made of sections: that of the first.
-fn page_size_in(sections: &Sections) -> u32
+pub fn page_size_in(sections: &Sections) -> u32
     ensures { result ≡ page_size_in sections.now }
 {
     match sections.get(0) {

@@ -12,7 +12,8 @@ mod settling;
 mod turning;
 
 pub use errors::{
-    is_among_names, is_too_wide, load_error as first_load_error, sooner_where, with_pairs,
+    is_among_names, is_too_wide, load_error as first_load_error, page_size_in, sooner_where,
+    with_pairs,
 };
 pub use filling::{filled, filled_len};
 pub use load_error::LoadError;

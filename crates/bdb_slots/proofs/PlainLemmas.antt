@@ -1,10 +1,8 @@
 -- A page whose items name no page names what its header does.
-use Rattle.std.proofs.Common.{◌≡◌, ℕ, zero, suc, ◌+◌, ◌<◌, Bool, true, List, [], ◌∷◌, ◌++◌, get_or, map, refl, sym, ◌∙◌, ap, append-nil, arith}
+use Rattle.std.proofs.Common.{◌≡◌, ℕ, zero, suc, ◌+◌, ◌<◌, Bool, true, List, [], ◌∷◌, ◌++◌, get_or, map, refl, sym, ◌∙◌, ap, append-nil, arith, All, flat_map}
+use Rattle.std.proofs.Common.{is_some, option_to_list, Option, Some, None, false, OnOk, Result, Ok, Err}
 use Rattle.std.proofs.lemmas.List.Elements.{All-cons, All-head, All-tail}
 use Rattle.std.proofs.lemmas.Bool.{cases_eq}
-use Rattle.std.specs.List.{All, flat_map}
-use Rattle.std.specs.Option.{is_some, option_to_list}
-use Rattle.std.specs.Prelude.{Option, Some, None, false, OnOk, Result, Ok, Err}
 use Rattle.bdb_form.specs.of_format.declared.references.Sort.{Sort}
 use Rattle.bdb_form.specs.of_format.declared.references.Sort.TheVariants.{HashNext}
 use Rattle.bdb_form.specs.of_format.declared.metadata.Head.{Head}

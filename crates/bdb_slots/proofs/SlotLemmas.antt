@@ -1,7 +1,6 @@
 -- The slots of a page, one after another, are what the page names.
-use Rattle.std.proofs.Common.{◌≡◌, ℕ, zero, suc, ◌+◌, ◌*◌, ◌<◌, ◌≤◌, true, List, [], ◌∷◌, ◌++◌, length, get_or, drop, map, arith, refl}
-use Rattle.std.proofs.Common.{append_assoc, append-nil, add-one, le-ltb, lt-ltb, nat_eq, eq-eqb, ne_eqb}
-use Rattle.std.specs.Prelude.{nat_lt}
+use Rattle.std.proofs.Common.{◌≡◌, ℕ, zero, suc, ◌+◌, ◌*◌, ◌<◌, ◌≤◌, true, List, [], ◌∷◌, ◌++◌, length, get_or, drop, map, arith, refl, append_assoc}
+use Rattle.std.proofs.Common.{append-nil, add-one, le-ltb, lt-ltb, nat_eq, eq-eqb, ne_eqb, nat_lt}
 use Rattle.std.specs.List.{flat_map, range_with_len}
 use Rattle.std.proofs.Math.Seq.{drop-cons}
 use Rattle.std.proofs.lemmas.List.{drop_all}

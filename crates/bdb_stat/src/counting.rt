@@ -30,7 +30,7 @@ fn tree_level(linked: &Linked<'_>, class: Class, number: u32) -> u8
     }
 }
 
-/// What the pages of a sound file are; or want of memory, an eighth of a page's size of which is taken. The image is the one that the file was
+/// What the pages of a sound file are; or lack of memory, an eighth of a page's size of which is taken. The image is the one that the file was
 /// linked from.
 pub fn stat(alloc: Global, linked: &Linked<'_>, image: &[u8]) -> Result<Stat, AllocError>
     requires { image.now ≡ linked.now }

@@ -134,7 +134,7 @@ taken_whole n xs room = sym (length-take-le n xs room)
 pub joined_long : (page buffer : List ℕ) (n : ℕ) → length page ≡ n → n ≤ length buffer → length (page ++ drop n buffer) ≡ length buffer
 joined_long page buffer n long room = omega (arith, length-append page (drop n buffer), length-drop n buffer)
 
--- The pages turned round.
+-- The pages byte-swapped.
 
 pub page_bounds : (image : List ℕ) (head : Head) → IsAccepted image head → (512 ≤ head.page_size) × (head.page_size ≤ 32768)
 page_bounds image head accepted = size_bounds head.page_size (accepted_paged image head accepted).legal

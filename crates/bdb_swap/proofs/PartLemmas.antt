@@ -1,4 +1,4 @@
--- Numbers of the parts of a page, turned round one after another.
+-- Numbers of the parts of a page, byte-swapped one after another.
 use Rattle.std.proofs.Common.{◌≡◌, ◌∙◌, ℕ, zero, suc, ◌+◌, ◌*◌, List, [], ◌∷◌, ◌++◌, refl, sym, ap, subst, append-nil, arith, map, reverse, slice_range}
 use Rattle.std.specs.List.{flat_map, range_with_len}
 use Rattle.std.proofs.lemmas.List.Concat.{flat_map-append}

@@ -1,4 +1,4 @@
--- Numbers turned round one after another.
+-- Numbers byte-swapped one after another.
 use Rattle.std.proofs.Common.{◌≡◌, ◌∙◌, ◌⊎◌, inl, inr, ℕ, suc, ◌+◌, ◌-◌, ◌*◌, ◌<◌, ◌≤◌, List, [], ◌∷◌, ◌++◌, length, drop, take, reverse, refl, sym, ap, subst}
 use Rattle.std.proofs.Common.{arith, append-nil, append_assoc, slice_range, Contains}
 use Rattle.std.proofs.lemmas.List.{ext_get_or, get_or-drop, get_or-reverse, get_or-take, get_or_append_left, get_or-append_right, length-reverse}
@@ -61,7 +61,7 @@ get_or-overwritten_past bytes at piece k inside past =
     ∙ (get_or-append_right piece (drop (at + length piece) bytes) (length piece) (k - at) 0 refl (omega arith)
     ∙ (get_or-drop (at + length piece) bytes (k - at - length piece) 0 ∙ ap (byte_at bytes) back))
 
--- Where the bytes of one more number are written in the reverse order, it is turned round too; a second time they stay.
+-- Where the bytes of one more number are written in the reverse order, it is byte-swapped too; a second time they stay.
 pub fields_are_written : (done : List Field) (f : Field) (bytes : List ℕ) → AreApart (done ++ f ∷ []) → LieWithin (done ++ f ∷ []) (length bytes)
     → overwritten (turned_round done bytes) f.begin (reverse (slice_range bytes f.begin (f.begin + f.width))) ≡ turned_round (done ++ f ∷ []) bytes
 fields_are_written done f bytes apart within =
@@ -101,7 +101,7 @@ fields_are_written done f bytes apart within =
           ∙ (get_or-drop b bytes (w - 1 - (k - b)) 0 ∙ (ap (byte_at bytes) (sums ∙ sym there) ∙ sym right)))))
     ])
 
--- Numbers turned round step by step.
+-- Numbers byte-swapped step by step.
 
 -- one number
 pub turns_one : (source old new : List ℕ) (at width : ℕ) → new ≡ overwritten old at (reverse (slice_range source at (at + width)))

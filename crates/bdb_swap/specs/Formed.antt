@@ -1,4 +1,4 @@
--- An image whose pages can be turned round.
+-- An image whose pages can be byte-swapped.
 use Rattle.std.specs.Prelude.{◌≡◌, ◌<◌, ℕ, List, None, false, true}
 use Rattle.bdb_io.specs.of_format.declared.metadata.Head.{Head}
 use Rattle.bdb_io.specs.of_format.Terms.{form_code, is_zero, page_bytes}

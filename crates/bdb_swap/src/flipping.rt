@@ -29,7 +29,7 @@ impl From<AllocError> for FlipError {
 }
 
 /// The image of a linked file in a byte order: a copy of it where it has that order, and else one with each number of each
-/// page turned round. It's refused exactly where the order is the other one and items of some page overlap, with the first
+/// page byte-swapped. It's refused exactly where the order is the other one and items of some page overlap, with the first
 /// such page.
 pub fn flip(
     alloc: Global,

@@ -34,7 +34,7 @@ fn add_turned(copy: &mut Vec<u8>, page: &[u8], head: &Head, number: u32) -> Resu
     Ok(())
 }
 
-/// An image with all its pages turned round, in a copy whose room is taken at once; or the first page whose items overlap.
+/// An image with all its pages byte-swapped, in a copy whose room is taken at once; or the first page whose items overlap.
 /// Each page is looked at and turned while it is at hand, so the image is gone through once.
 pub(crate) fn turned_image(alloc: Global, image: &[u8], head: &Head) -> Result<Bytes, FlipError>
     requires { HasForm head.now image.now }

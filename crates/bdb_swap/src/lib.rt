@@ -1,4 +1,4 @@
-//! Files in the other byte order: each number of each page turned round.
+//! Files in the other byte order: each number of each page byte-swapped.
 #![tactic(auto)]
 
 mod crossing;

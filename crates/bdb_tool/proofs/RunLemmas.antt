@@ -369,7 +369,7 @@ stopped_runs asks source err written faults MemoryStop status stopped told_line 
 pub never_rose : Rose 0 0 → ⊥
 never_rose rose = elim rose [ inl more ↦ omega arith | inr last ↦ omega arith ]
 
--- what has no faults tells an answer, but for want of memory
+-- what has no faults tells an answer, but for lack of memory
 pub pure_status : (words : List (List ℕ)) (bytes : List ℕ) (source out err : Change) (status : ℕ) → RunsOn words source None out err status
     → source.before ≡ Some bytes → (HasFailed source → ⊥) → (HasFailed out → ⊥) → (HasFailed err → ⊥) → status ≢ 7
     → StatusIs words None bytes status

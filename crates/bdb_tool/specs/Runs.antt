@@ -19,7 +19,7 @@ abbrev pub HasFailedReading : Change → Option Change → Type 0
 HasFailedReading source None = HasFailed source
 HasFailedReading source (Some base) = HasFailed source ⊎ HasFailed base
 
--- a line that a run may begin on an error sink that fails: that of a write fault, of want of memory, of a read fault
+-- a line that a run may begin on an error sink that fails: that of a write fault, of lack of memory, of a read fault
 -- where the source or the base failed, or of an answer to what is asked, and the input
 pub data ErrorLine (asked : Asked) (source : Change) (text : List ℕ) : Type 0 where
   OfWriteFault : text ≡ write_fault_line → ErrorLine asked source text

@@ -15,7 +15,7 @@ use Rattle.bdb_tool_build.specs.Refusals.{IsRefusedAnswer}
 use Rattle.bdb_tool_build.proofs.LoadLemmas.{read_without_fault}
 use Rattle.bdb_tool_build.proofs.RefusalLemmas.{still_refused}
 
--- a refusal is want of memory, or the first error
+-- a refusal means that memory ran out, or the first error
 error_found : (first large : Option LoadError) (error : LoadError) → IsLoadRefusalBy first large error → (error ≡ Memory) ⊎ (or_else first large ≡ Some error)
 error_found (Some first) large error is = inr (ap (λ e. Some e) (sym is))
 error_found None large error (inl memory) = inl memory

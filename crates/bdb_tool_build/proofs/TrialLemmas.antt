@@ -138,7 +138,7 @@ large_or_none : (beyond : Bool) (error : LoadError) → (if beyond then Some Too
 large_or_none true error is = let same : TooLarge ≡ error = cc in (sym same, refl)
 large_or_none false error is = absurd cc
 
--- a refusal of a trial is that its image would be too large, or want of memory
+-- a refusal of a trial is that its image would be too large, or lack of memory
 trial_refusal : (limit most : ℕ) (kind : Kind) (seed count : ℕ) (sections : List Section) (error : LoadError) → sections ≡ trial_sections kind seed count
     → most ≡ limit → IsLoadRefusal most sections error
     → (error ≡ Memory) ⊎ ((error ≡ TooLarge) × (nat_lt limit (image_size (trial_sections kind seed count)) ≡ true))

@@ -11,7 +11,7 @@ use Rattle.bdb_onto.specs.of_mkfile.Loading.{loading_error}
 use Rattle.bdb_onto.specs.of_mkfile.NamedImages.{HasBuiltTables}
 use Rattle.bdb_tool_build.specs.Lines.{error_line, image_too_large_line, reason_line}
 
--- the answer to sections that have a load error; want of memory is none
+-- the answer to sections that have a load error; lack of memory is none
 abbrev pub IsErrorAnswer : ℕ → LoadError → Answer → Type 0
 IsErrorAnswer limit TooLarge answer = answer ≡ told 6 (image_too_large_line limit)
 IsErrorAnswer limit Memory answer = ⊥

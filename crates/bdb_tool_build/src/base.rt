@@ -166,7 +166,7 @@ fn base_in<L: Ledger>(alloc: Global, image: &[u8], steps: &mut Steps<L>) -> Resu
     }
 }
 
-/// The base that an image is, where it is sound; else the first fault, or want of memory. A key is copied once for all its data, each datum once, and the image
+/// The base that an image is, where it is sound; else the first fault, or lack of memory. A key is copied once for all its data, each datum once, and the image
 /// is given up.
 pub fn base_of<L: Ledger>(
     alloc: Global,

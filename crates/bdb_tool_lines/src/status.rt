@@ -9,7 +9,7 @@ pub const FAULT: u8 = 1;
 /// The words are no command.
 pub const USAGE: u8 = 2;
 
-/// The file has something that is left out by name.
+/// The file has something that isn't supported.
 pub const UNSUPPORTED: u8 = 3;
 
 /// Reading failed.

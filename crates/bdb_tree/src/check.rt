@@ -9,7 +9,7 @@ use bdb_overflow::{CheckError, Linked};
 use std::alloc::{AllocError, Global};
 
 /// Notes each row on leaves of trees at each page where it holds, in any order and repeats allowed: a type that the
-/// tree hasn't, and a neighbour that isn't the one in the tree. An error is want of memory: the sink's, or that of
+/// tree hasn't, and a neighbour that isn't the one in the tree. An error means that memory ran out: the sink's, or that of
 /// the leaves of one tree at a time.
 pub fn note_trees<F: FaultSink>(
     alloc: Global,
@@ -23,7 +23,7 @@ pub fn note_trees<F: FaultSink>(
     Ok(())
 }
 
-/// Notes each row on leaves of trees at each page where it holds, in a list of all. An error is want of memory.
+/// Notes each row on leaves of trees at each page where it holds, in a list of all. An error means that memory ran out.
 pub fn tree_faults(
     alloc: Global,
     linked: &Linked<'_>,
@@ -36,7 +36,7 @@ pub fn tree_faults(
 
 /// Each leaf of a tree has a type that the tree may have, and names its neighbours in the tree. A refusal is
 /// the first fault: the least page, and there the least code. It keeps the leaves of one tree at a time;
-/// `Memory` is want of memory.
+/// `Memory` means that memory ran out.
 pub fn check_trees(alloc: Global, linked: &Linked<'_>) -> Result<(), CheckError>
     ensures accepted { OnOk result (tree_faults (file_of linked.now) ≡ []) }
     ensures refusal { IfErr result (IsFirstOf (tree_faults (file_of linked.now))) }

@@ -50,7 +50,7 @@ fn level_of(forest: &Forest<'_>, page: u32) -> u8
     forest.page(page).header().level
 }
 
-/// The pages right below these, in order, 4 bytes for each; a leaf has none. An error is want of memory.
+/// The pages right below these, in order, 4 bytes for each; a leaf has none. An error means that memory ran out.
 #[tactic(auto, using(crate::proofs::TreeLemmas::tree_inside, crate::proofs::LevelLemmas::children_are_trees))]
 pub fn next_level(alloc: Global, forest: &Forest<'_>, pages: &[u32]) -> Result<Vec<u32>, AllocError>
     requires { All (IsTreePage (file_of forest.now)) pages.now }
@@ -65,7 +65,7 @@ pub fn next_level(alloc: Global, forest: &Forest<'_>, pages: &[u32]) -> Result<V
 }
 
 /// The leaves at or below a page of a tree, from left to right. It keeps one level of the tree at a time and
-/// the next one, 4 bytes for each page. An error is want of memory.
+/// the next one, 4 bytes for each page. An error means that memory ran out.
 #[tactic(auto, using(crate::proofs::LevelLemmas::first_level))]
 pub fn leaves_below(alloc: Global, forest: &Forest<'_>, page: u32) -> Result<Vec<u32>, AllocError>
     requires { IsTreePage (file_of forest.now) page }

@@ -1,6 +1,5 @@
 -- The lines on a file.
-use Rattle.std.proofs.Common.{◌≡◌, ◌∙◌, ◌++◌, ℕ, List, ap, inl, inr}
-use Rattle.std.specs.Prelude.{Result, Ok, Err, IfOk}
+use Rattle.std.proofs.Common.{◌≡◌, ◌∙◌, ◌++◌, ℕ, List, ap, inl, inr, Result, Ok, Err, IfOk}
 use Rattle.bdb_tool.specs.of_text_format.Terms.{line}
 use Rattle.bdb_tool.specs.of_any_order.declared.rows.Rows.TheVariants.{All, AnyOrder}
 use Rattle.check_images.specs.Lines.{AreLinesOnFile, lines_on, unreadable, verdict_on}

@@ -5,12 +5,12 @@ ghost use Rattle.bdb_law_turned.specs.Turning.{turned_page};
 ghost use Rattle.sample_turned.specs.Samples.{chain_page, chain_page_big, inner_page, inner_page_big, queue_page, queue_page_big};
 ghost use Rattle.sample_turned.specs.Samples.{set_page, set_page_big, table_metadata, table_metadata_big};
 
-/// Both lengths of each block of a set are turned round, and the key behind it has none.
+/// Both lengths of each block of a set are byte-swapped, and the key behind it has none.
 pub fn set_pages()
     ensures { turned_page Little set_page ≡ set_page_big }
 {}
 
-/// All spares are turned round, and bytes 24 to 27 stay.
+/// All spares are byte-swapped, and bytes 24 to 27 stay.
 pub fn table_metadatas()
     ensures { turned_page Little table_metadata ≡ table_metadata_big }
 {}

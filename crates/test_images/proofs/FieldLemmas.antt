@@ -1,6 +1,5 @@
 -- A number that is written over as many bytes as it takes is all that is there then.
-use Rattle.std.proofs.Common.{◌≡◌, ◌∙◌, ap, sym, arith, ◌+◌, ◌++◌, ◌<◌, ◌≤◌, ℕ, List, [], length, get_or, take, drop}
-use Rattle.std.specs.List.{fold}
+use Rattle.std.proofs.Common.{◌≡◌, ◌∙◌, ap, sym, arith, ◌+◌, ◌++◌, ◌<◌, ◌≤◌, ℕ, List, [], length, get_or, take, drop, fold}
 use Rattle.std.proofs.lemmas.List.{append-nil, drop_all, take_all}
 use Rattle.std.proofs.lemmas.List.Sums.{fold_more}
 use Rattle.test_images.specs.declared.field.Field.{Field}

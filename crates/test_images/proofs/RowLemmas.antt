@@ -1,6 +1,5 @@
 -- Lists by their members.
-use Rattle.std.proofs.Common.{◌≡◌, ℕ, suc, ◌<◌, List, [], ◌∷◌, length, get_or, map, Some, slice_get, arith, refl, ◌∙◌, ap, subst}
-use Rattle.std.specs.List.{Contains}
+use Rattle.std.proofs.Common.{◌≡◌, ℕ, suc, ◌<◌, List, [], ◌∷◌, length, get_or, map, Some, slice_get, arith, refl, ◌∙◌, ap, subst, Contains}
 use Rattle.std.proofs.lemmas.Option.{slice_get-get_or}
 use Rattle.bdb_tree.proofs.of_format.MemberLemmas.{of_map}
 

@@ -15,7 +15,7 @@ pub struct Sample {
 }
 
 impl Sample {
-    /// The image. An error is want of memory.
+    /// The image. An error means that memory ran out.
     pub fn image(&self, alloc: Global) -> Result<Vec<u8>, AllocError>
         ensures { IfOk result (λ image. image.items ≡ fold (field_put Little) (replicate self.now.size 0) self.now.fields.now) }
     {

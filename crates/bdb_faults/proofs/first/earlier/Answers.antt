@@ -1,6 +1,4 @@
-use Rattle.std.proofs.Common.{subst}
-use Rattle.std.specs.Prelude.{Option}
-use Rattle.std.specs.Option.{option_map}
+use Rattle.std.proofs.Common.{subst, Option, option_map}
 use Rattle.bdb_format.specs.Terms.{fault_seen}
 use Rattle.bdb_format.specs.declared.named.Named.{Named}
 use Rattle.bdb_faults.specs.Notes.{IsFirst}

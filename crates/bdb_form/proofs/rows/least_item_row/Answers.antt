@@ -1,5 +1,4 @@
-use Rattle.std.proofs.Common.{ℕ, Option, ◌≡◌, ◌∙◌, rules}
-use Rattle.std.specs.Option.{option_map}
+use Rattle.std.proofs.Common.{ℕ, Option, ◌≡◌, ◌∙◌, rules, option_map}
 use Rattle.bdb_layout.specs.of_format.Terms.{entries_of, form_row_code, item_row}
 use Rattle.bdb_layout.proofs.of_format.ItemLemmas.{least_below, least_items}
 use Rattle.bdb_form.proofs.rows.least_item_row.Goals as goal

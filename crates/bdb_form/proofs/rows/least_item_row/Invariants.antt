@@ -1,5 +1,4 @@
-use Rattle.std.proofs.Common.{◌≡◌}
-use Rattle.std.specs.Option.{option_map}
+use Rattle.std.proofs.Common.{◌≡◌, option_map}
 use Rattle.bdb_layout.specs.of_format.Terms.{form_row_code, item_row}
 use Rattle.bdb_layout.proofs.of_format.ItemLemmas.{least_below}
 use Rattle.bdb_form.proofs.rows.least_item_row.Given as goal

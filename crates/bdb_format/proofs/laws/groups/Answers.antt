@@ -1,5 +1,4 @@
-use Rattle.std.proofs.Common.{refl, arith}
-use Rattle.std.specs.Prelude.{◌^◌, nat_lt}
+use Rattle.std.proofs.Common.{refl, arith, ◌^◌, nat_lt}
 use Rattle.std.proofs.lemmas.Bool.{ltb-true, lt-ltb}
 use Rattle.bdb_format.specs.Terms.{group}
 use Rattle.bdb_format.proofs.GroupLemmas.{least_passing, first_passes}

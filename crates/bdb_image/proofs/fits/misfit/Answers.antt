@@ -1,6 +1,5 @@
-use Rattle.std.proofs.Common.{◌≡◌, arith}
+use Rattle.std.proofs.Common.{◌≡◌, arith, option_map}
 use Rattle.bdb_faults.specs.of_format.Terms.{file_of, reference_row_code}
-use Rattle.std.specs.Option.{option_map}
 use Rattle.bdb_image.proofs.FitLemmas.{names_page}
 use Rattle.bdb_image.proofs.fits.misfit.Goals as goal
 

@@ -1,5 +1,4 @@
-use Rattle.std.proofs.Common.{sym, subst}
-use Rattle.std.specs.Prelude.{IsTrue}
+use Rattle.std.proofs.Common.{sym, subst, IsTrue}
 use Rattle.bdb_faults.specs.of_format.Terms.{is_page_size}
 use Rattle.bdb_image.proofs.FormedLemmas.{accepted_paged}
 use Rattle.bdb_image.proofs.formed.page_bytes.Goals as goal

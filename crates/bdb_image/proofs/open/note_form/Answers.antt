@@ -1,5 +1,4 @@
-use Rattle.std.proofs.Common.{◌≡◌, List, [], ◌∷◌, ap, length, subst, sym, ◌∙◌, arith}
-use Rattle.std.specs.Prelude.{None}
+use Rattle.std.proofs.Common.{◌≡◌, List, [], ◌∷◌, ap, length, subst, sym, ◌∙◌, arith, None}
 use Rattle.bdb_faults.specs.Notes.{NotesAll}
 use Rattle.bdb_faults.specs.of_format.Terms.{fault_at, first_row, head_of, head_rows}
 use Rattle.bdb_faults.specs.of_format.declared.rows.Row.TheVariants.{File as FileRow}

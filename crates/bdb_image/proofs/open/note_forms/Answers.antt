@@ -1,5 +1,4 @@
-use Rattle.std.proofs.Common.{ℕ, List, subst, arith}
-use Rattle.std.specs.Option.{option_to_list}
+use Rattle.std.proofs.Common.{ℕ, List, subst, arith, option_to_list}
 use Rattle.bdb_faults.specs.of_format.Terms.{form_code, page_bytes}
 use Rattle.bdb_faults.specs.Notes.{NotesAll}
 use Rattle.bdb_image.specs.Noted.{page_faults}

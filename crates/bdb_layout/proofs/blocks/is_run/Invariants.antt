@@ -1,5 +1,4 @@
-use Rattle.std.proofs.Common.{◌≡◌, length}
-use Rattle.std.specs.Prelude.{is_some}
+use Rattle.std.proofs.Common.{◌≡◌, length, is_some}
 use Rattle.bdb_format.specs.Terms.{blocks_of}
 use Rattle.bdb_layout.proofs.blocks.is_run.Given as goal
 

@@ -1,5 +1,4 @@
-use Rattle.std.proofs.Common.{ap, ◌∙◌}
-use Rattle.std.specs.Prelude.{Ok}
+use Rattle.std.proofs.Common.{ap, ◌∙◌, Ok}
 use Rattle.bdb_layout.specs.of_format.declared.metadata.FileKind.TheVariants.{Btree, Hash, Queue}
 use Rattle.bdb_layout.specs.of_format.Terms.{btree_bytes, btree_fields, form_fault, hash_fields, metadata_rows, queue_bytes, queue_fields, table_bytes}
 use Rattle.bdb_meta.proofs.FieldLemmas.{btree_fields-bytes, hash_fields-bytes, queue_fields-bytes, spares-bytes}

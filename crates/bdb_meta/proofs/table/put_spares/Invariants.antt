@@ -1,5 +1,4 @@
-use Rattle.std.proofs.Common.{◌≡◌, take}
-use Rattle.std.specs.List.{flat_map}
+use Rattle.std.proofs.Common.{◌≡◌, take, flat_map}
 use Rattle.bdb_layout.specs.of_format.Terms.{overwritten, spelled}
 use Rattle.bdb_meta.proofs.table.put_spares.Given as goal
 

@@ -17,5 +17,5 @@ returns c =
       some = c.requires.some;
       table = c.in_ok-meta.ensures;
       meta_is = c.named_table_meta.ensures;
-      counted = c.in_ok-elements.ensures ∙ sym (length-map (slice_seen c.args.list) unlined);
+      counted = c.in_ok-elements.ensures.count ∙ sym (length-map (slice_seen c.args.list) unlined);
     })

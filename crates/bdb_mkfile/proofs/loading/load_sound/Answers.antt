@@ -32,7 +32,7 @@ filled_need-requires c =
 pub returns-then-are_too_many-clause-refused : goal.returns-then-are_too_many-clause-refused
 returns-then-are_too_many-clause-refused c =
     let above : nat_lt c.args.max (c.in_ok-pages.pages * page_size_in (map filled_section c.in_ok-ordered.ordered)) ≡ true =
-    ap (λ n. nat_lt c.args.max (c.in_ok-pages.pages * n)) (filled_size c.in_ok-ordered.ordered ∙ sym c.page_size-size.ensures) ∙ sym c.are_too_many.ensures
+    ap (λ n. nat_lt c.args.max (c.in_ok-pages.pages * n)) (filled_size c.in_ok-ordered.ordered ∙ sym c.page_size_in-size.ensures) ∙ sym c.are_too_many.ensures
     ∙ c.if-are_too_many.true in
     refused_late c.args.max c.args.sections TooLarge c.requires.none
     (inr (too_large c.args.max c.in_ok-pages.pages c.args.sections (map filled_section c.in_ok-ordered.ordered)
@@ -42,7 +42,7 @@ pub settled_image-requires : goal.settled_image-requires
 settled_image-requires c =
     let within : nat_lt c.args.max (c.in_ok-pages.pages * page_size_in c.in_ok-settled.settled) ≡ false =
     ap (λ ss. nat_lt c.args.max (c.in_ok-pages.pages * page_size_in ss)) c.in_ok-settled.ensures
-    ∙ ap (λ n. nat_lt c.args.max (c.in_ok-pages.pages * n)) (filled_size c.in_ok-ordered.ordered ∙ sym c.page_size-size.ensures) ∙ sym c.are_too_many.ensures
+    ∙ ap (λ n. nat_lt c.args.max (c.in_ok-pages.pages * n)) (filled_size c.in_ok-ordered.ordered ∙ sym c.page_size_in-size.ensures) ∙ sym c.are_too_many.ensures
     ∙ c.if-are_too_many.false in
     are_buildable c.args.max c.in_ok-pages.pages c.args.sections c.in_ok-settled.settled (record {
       most = c.requires.fit.most;
@@ -69,7 +69,7 @@ returns-clause-laid_out c =
 pub returns-clause-sound : goal.returns-clause-sound
 returns-clause-sound c =
     let within : nat_lt c.args.max (c.in_ok-pages.pages * page_size_in (map filled_section c.in_ok-ordered.ordered)) ≡ false =
-    ap (λ n. nat_lt c.args.max (c.in_ok-pages.pages * n)) (filled_size c.in_ok-ordered.ordered ∙ sym c.page_size-size.ensures) ∙ sym c.are_too_many.ensures
+    ap (λ n. nat_lt c.args.max (c.in_ok-pages.pages * n)) (filled_size c.in_ok-ordered.ordered ∙ sym c.page_size_in-size.ensures) ∙ sym c.are_too_many.ensures
     ∙ c.if-are_too_many.false in
     no_error c.args.max c.in_ok-pages.pages c.args.sections (map filled_section c.in_ok-ordered.ordered) c.requires.none
     (lists_filled c.args.sections c.in_ok-ordered.ordered c.in_ok-ordered.ensures) c.in_ok-pages.ensures within

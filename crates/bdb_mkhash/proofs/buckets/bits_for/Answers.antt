@@ -1,5 +1,4 @@
-use Rattle.std.proofs.Common.{◌≡◌, ◌*◌, ◌-◌, ◌≤◌, arith, subst}
-use Rattle.std.specs.Prelude.{◌^◌, ◌%◌, ◌/◌}
+use Rattle.std.proofs.Common.{◌≡◌, ◌*◌, ◌-◌, ◌≤◌, arith, subst, ◌^◌, ◌%◌, ◌/◌}
 use Rattle.std.proofs.Math.Pow.{pow_mono}
 use Rattle.bdb_mkhash.proofs.BucketLemmas.{bits_found}
 use Rattle.bdb_mkhash.proofs.buckets.bits_for.Goals as goal

@@ -1,5 +1,4 @@
-use Rattle.std.proofs.Common.{◌*◌, ◌<◌, ◌≤◌, ℕ}
-use Rattle.std.specs.Prelude.{◌^◌}
+use Rattle.std.proofs.Common.{◌*◌, ◌<◌, ◌≤◌, ℕ, ◌^◌}
 use Rattle.bdb_mkhash.proofs.buckets.bits_for.Given as goal
 
 -- So few buckets are not enough.

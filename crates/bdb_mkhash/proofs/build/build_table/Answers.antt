@@ -1,8 +1,6 @@
-use Rattle.std.proofs.Common.{◌∙◌, ap, arith, length, map, subst, sym}
+use Rattle.std.proofs.Common.{◌∙◌, ap, arith, length, map, subst, sym, ◌+◌, ◌^◌, ◌≡◌, All}
 use Rattle.std.proofs.lemmas.List.{length-map}
 use Rattle.std.proofs.lemmas.List.FromFn.{length-map-range_with_len}
-use Rattle.std.specs.Prelude.{◌+◌, ◌^◌, ◌≡◌}
-use Rattle.std.specs.List.{All}
 use Rattle.bdb_mktree.specs.of_text_format.Terms.{pairs_of}
 use Rattle.bdb_law_buckets.specs.Tables.{dealt, table_meta}
 use Rattle.bdb_mkhash.specs.Buckets.{table_bits, table_units}

@@ -1,5 +1,4 @@
-use Rattle.std.proofs.Common.{◌≤◌, arith}
-use Rattle.std.specs.Prelude.{◌^◌}
+use Rattle.std.proofs.Common.{◌≤◌, arith, ◌^◌}
 use Rattle.bdb_mkhash.proofs.BucketLemmas.{two_at_least}
 use Rattle.bdb_mkhash.proofs.build.table_meta.Goals as goal
 

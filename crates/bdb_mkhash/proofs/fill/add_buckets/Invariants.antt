@@ -1,5 +1,4 @@
-use Rattle.std.proofs.Common.{◌≡◌, ◌+◌, ◌<◌, ◌≤◌, length}
-use Rattle.std.specs.Prelude.{◌^◌}
+use Rattle.std.proofs.Common.{◌≡◌, ◌+◌, ◌<◌, ◌≤◌, length, ◌^◌}
 use Rattle.bdb_mktree.specs.of_mkleaves.Leaves.{KeepsAll}
 use Rattle.bdb_mkhash.specs.Filling.{AreEmptyPages}
 use Rattle.bdb_mkhash.proofs.fill.add_buckets.Given as goal

@@ -1,5 +1,4 @@
-use Rattle.std.proofs.Common.{List, [], ℕ, suc, ◌+◌, ◌≡◌, take, get_or, arith, sym, subst, ap, ◌∙◌}
-use Rattle.std.specs.Prelude.{IsTrue}
+use Rattle.std.proofs.Common.{List, [], ℕ, suc, ◌+◌, ◌≡◌, take, get_or, arith, sym, subst, ap, ◌∙◌, IsTrue}
 use Rattle.std.proofs.Math.Seq.{take-suc}
 use Rattle.std.proofs.lemmas.List.{take_all}
 use Rattle.bdb_places.specs.of_format.Terms.{is_page_size}

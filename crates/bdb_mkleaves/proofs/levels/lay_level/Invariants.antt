@@ -1,5 +1,4 @@
-use Rattle.std.proofs.Common.{List, take}
-use Rattle.std.specs.Prelude.{IsTrue}
+use Rattle.std.proofs.Common.{List, take, IsTrue}
 use Rattle.bdb_places.specs.of_format.Terms.{is_page_size}
 use Rattle.bdb_law_levels.specs.Nodes.{Node}
 use Rattle.bdb_mkleaves.specs.Levels.{AreChildren, IsLevelLaid}

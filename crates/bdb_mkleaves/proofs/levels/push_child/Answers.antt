@@ -1,5 +1,4 @@
-use Rattle.std.proofs.Common.{List, [], ◌∷◌, ◌++◌, sym, subst, ap, ◌∙◌}
-use Rattle.std.specs.Prelude.{IsTrue}
+use Rattle.std.proofs.Common.{List, [], ◌∷◌, ◌++◌, sym, subst, ap, ◌∙◌, IsTrue}
 use Rattle.bdb_places.specs.of_format.Terms.{is_page_size}
 use Rattle.bdb_pack.specs.Built.{AreWhole, Built}
 use Rattle.bdb_mkleaves.specs.Levels.{IsLevelLaid, IsStarted, LaidNow}

@@ -13,6 +13,6 @@ blank-requires-clause-whole c =
 pub returns : goal.returns
 returns c =
     moved c.args.pages.now c.set_number.new.pages c.blank.new.pages c.args.from c.in_ok-number.number c.requires.whole
-    c.requires.legal c.requires.from (omega (arith, c.if-count-ge-MAX_PAGES.false, c.count.ensures.count)) c.in_ok-number.ensures.number
+    c.requires.legal c.requires.from (omega (arith, c.if-count-ge-MAX.false, c.count.ensures.count)) c.in_ok-number.ensures.number
     (numbered_is c.args.pages.now c.add_copy.new.self c.set_number.new.pages c.args.from c.in_ok-number.number c.in_ok-number.ensures.ok
     c.in_ok-number.ensures.number c.set_number.ensures) c.blank.ensures

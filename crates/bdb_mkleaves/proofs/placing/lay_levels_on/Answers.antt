@@ -1,5 +1,4 @@
-use Rattle.std.proofs.Common.{arith, ◌∙◌, ap}
-use Rattle.std.specs.List.{sum_by}
+use Rattle.std.proofs.Common.{arith, ◌∙◌, ap, sum_by}
 use Rattle.bdb_mkleaves.specs.declared.levels.Child.{Child}
 use Rattle.bdb_mkleaves.proofs.FinishLemmas.{ends_of, tower_on}
 use Rattle.bdb_mkleaves.proofs.placing.lay_levels_on.Goals as goal

@@ -1,5 +1,4 @@
-use Rattle.std.proofs.Common.{◌≡◌, take}
-use Rattle.std.specs.List.{sum_by}
+use Rattle.std.proofs.Common.{◌≡◌, take, sum_by}
 use Rattle.bdb_mkleaves.specs.declared.levels.Child.{Child}
 use Rattle.bdb_mkleaves.proofs.placing.sum_of.Given as goal
 

@@ -1,5 +1,4 @@
-use Rattle.std.proofs.Common.{sym, ◌∙◌, ap}
-use Rattle.std.specs.Option.{option_map}
+use Rattle.std.proofs.Common.{sym, ◌∙◌, ap, option_map}
 use Rattle.bdb_text_format.specs.Terms.{pair_seen, slice_seen}
 use Rattle.bdb_mkqueue.proofs.LastLemmas.{first_is, none_first}
 use Rattle.bdb_mkqueue.proofs.build.first_number.Goals as goal

@@ -1,5 +1,4 @@
-use Rattle.std.proofs.Common.{length, ◌-◌, arith, sym, ◌∙◌, ap, ◌+◌}
-use Rattle.std.specs.Option.{option_map}
+use Rattle.std.proofs.Common.{length, ◌-◌, arith, sym, ◌∙◌, ap, ◌+◌, option_map}
 use Rattle.bdb_text_format.specs.Terms.{key_seen, number_of, pair_seen, pairs_of, slice_seen}
 use Rattle.bdb_mkqueue.proofs.LastLemmas.{IsLastOf, last_key, next_last, none_last}
 use Rattle.bdb_mkqueue.proofs.StepLemmas.{no_pair}

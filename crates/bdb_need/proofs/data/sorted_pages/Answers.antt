@@ -1,4 +1,4 @@
-use Rattle.std.proofs.Common.{false, ◌+◌, ◌∙◌, ap, arith, drop, refl, subst}
+use Rattle.std.proofs.Common.{false, ◌+◌, ◌∙◌, arith, drop, refl, subst}
 use Rattle.bdb_mkhash.specs.of_places.Places.{values_seen}
 use Rattle.bdb_mkhash.specs.of_mkleaves.Units.{EntryUnit}
 use Rattle.bdb_mkhash.specs.of_mkleaves.declared.leaf_type.LeafType.TheVariants.{SortedData}

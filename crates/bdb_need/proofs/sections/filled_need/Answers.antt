@@ -1,10 +1,9 @@
 use Rattle.std.proofs.Common.{◌≡◌, ◌+◌, ◌∙◌, true, false, ap, arith, map, subst, sym, IsTrue, is_some, All, sum_by}
 use Rattle.bdb_mkhash.specs.of_format.Terms.{is_page_size}
-use Rattle.bdb_mkhash.specs.of_mkleaves.Runs.{IsShort}
 use Rattle.bdb_mkhash.specs.of_text_format.declared.sections.Section.{Section}
 use Rattle.bdb_settle.specs.Loaded.{filled_section}
-use Rattle.bdb_need.specs.Need.{IsSettled, master_pages, name_in, section_pages}
-use Rattle.bdb_need.proofs.FilledLemmas.{each_before, first_filled, names_before, same_master, sums_filled}
+use Rattle.bdb_need.specs.Need.{IsSettled, master_pages, section_pages}
+use Rattle.bdb_need.proofs.FilledLemmas.{each_before, first_filled, same_master, sums_filled}
 use Rattle.bdb_need.proofs.NeedLemmas.{first_is, need_named, need_unnamed}
 use Rattle.bdb_need.proofs.sections.filled_need.Goals as goal
 
@@ -27,20 +26,12 @@ returns-then-is_none c =
     (let unnamed : is_some first.name ≡ false = grind (arith, c.is_none.ensures, c.if-is_none.true) in unnamed)
     (c.in_ok-own.ensures ∙ ap (sum_by (λ section. section_pages size (filled_section section))) c.as_slice.ensures ∙ sums_filled size sections)
 
-pub master_pages-requires-clause-legal : goal.master_pages-requires-clause-legal
-master_pages-requires-clause-legal c =
+pub master_pages-requires : goal.master_pages-requires
+master_pages-requires c =
     let sections = c.args.sections.now in
     let first = c.in-Some.first.now in
     let one = first_is (map filled_section sections) c.requires (filled_section first) (first_filled sections first c.in-Some.ensures) in
     subst (λ (s : Section). IsTrue (is_page_size s.settings.page_size)) (sym one) c.requires.legal
-
-pub master_pages-requires-clause-short : goal.master_pages-requires-clause-short
-master_pages-requires-clause-short c =
-    let sections = c.args.sections.now in
-    let first = c.in-Some.first.now in
-    let one = first_is (map filled_section sections) c.requires (filled_section first) (first_filled sections first c.in-Some.ensures) in
-    let each = subst (λ (s : Section). All (IsSettled s.settings.page_size) (map filled_section sections)) (sym one) c.requires.each in
-    subst (All (λ (section : Section). IsShort (name_in section.name))) (sym c.as_slice-2.ensures) (names_before first.settings.page_size sections each)
 
 pub returns : goal.returns
 returns c =

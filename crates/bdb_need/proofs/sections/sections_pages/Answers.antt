@@ -1,11 +1,19 @@
-use Rattle.std.proofs.Common.{◌≡◌, ℕ, ◌+◌, ◌∙◌, ap, arith, sym, get_or}
+use Rattle.std.proofs.Common.{◌≡◌, ℕ, ◌+◌, ◌∙◌, ap, arith, sym, subst, get_or}
 use Rattle.std.proofs.lemmas.List.Sums.{sum_by_more}
 use Rattle.bdb_mkhash.specs.of_format.declared.settings.Settings.{Settings}
 use Rattle.bdb_need.specs.TreePages.{unlined_pairs}
 use Rattle.bdb_settle.specs.Loaded.{filled_pairs, filled_section}
 use Rattle.bdb_mkhash.specs.of_text_format.declared.sections.Section.{Section}
-use Rattle.bdb_need.specs.Need.{list_pages, section_pages}
+use Rattle.bdb_need.specs.Need.{IsListOf, IsSettled, list_pages, section_pages}
 use Rattle.bdb_need.proofs.sections.sections_pages.Goals as goal
+
+pub list_pages-requires-clause-list : goal.list_pages-requires-clause-list
+list_pages-requires-clause-list c =
+    let section : Section = c.section-item.result in
+    let settled : IsSettled c.args.size (filled_section section) =
+    subst (λ (s : Section). IsSettled c.args.size (filled_section s)) (sym c.section-item.is)
+    (c.requires.each c.loop-section.section-index section c.loop-section-test.true) in
+    subst (λ (s : Settings). IsListOf s.kind s (unlined_pairs (filled_pairs s section.pairs))) (sym c.sized.ensures) settled.list
 
 pub loop-section-preserved : goal.loop-section-preserved
 loop-section-preserved c =

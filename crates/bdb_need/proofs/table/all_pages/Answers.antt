@@ -1,4 +1,4 @@
-use Rattle.std.proofs.Common.{◌+◌, ◌<◌, ◌∙◌, ap, arith, length, refl}
+use Rattle.std.proofs.Common.{◌+◌, ◌<◌, ◌∙◌, arith, refl}
 use Rattle.bdb_mkhash.specs.of_places.Places.{values_seen}
 use Rattle.bdb_mkhash.specs.of_text_format.Terms.{pairs_of, slice_seen}
 use Rattle.bdb_mkhash.specs.of_mkleaves.Units.{KeyedUnit}

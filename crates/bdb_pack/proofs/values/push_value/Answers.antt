@@ -1,5 +1,4 @@
-use Rattle.std.proofs.Common.{◌≡◌, ℕ, ◌-◌, ◌^◌, ◌<◌, length, subst, drop, arith, refl, sym, ◌∙◌, ap, length-drop}
-use Rattle.std.specs.Prelude.{◌/◌}
+use Rattle.std.proofs.Common.{◌≡◌, ℕ, ◌-◌, ◌^◌, ◌<◌, length, subst, drop, arith, refl, sym, ◌∙◌, ap, length-drop, ◌/◌}
 use Rattle.std.proofs.lemmas.Bool.{eqb-false, eqb-true}
 use Rattle.std.proofs.lemmas.List.{nil_from_length, take_all}
 use Rattle.bdb_layout.proofs.of_format.SizeLemmas.{size_bounds}

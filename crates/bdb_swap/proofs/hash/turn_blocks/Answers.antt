@@ -36,7 +36,7 @@ loop-block-preserved c =
           ∙ c.loop-block.invariant.same;
     }
 
--- No block is left to be turned round.
+-- No block is left to be byte-swapped.
 pub returns-clause-turns : goal.returns-clause-turns
 returns-clause-turns c =
     c.loop-block.invariant.turns c.loop-block.page

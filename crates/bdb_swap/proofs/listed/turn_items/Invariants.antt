@@ -4,7 +4,7 @@ use Rattle.bdb_io.specs.of_format.Terms.{offset_of}
 use Rattle.bdb_swap.specs.Turns.{Turns}
 use Rattle.bdb_swap.proofs.listed.turn_items.Given as goal
 
--- The items so far are turned round.
+-- The items so far are byte-swapped.
 abbrev pub invariant-loop-i : goal.invariant-loop-i
 invariant-loop-i g l = record {
   turns : Turns l.source

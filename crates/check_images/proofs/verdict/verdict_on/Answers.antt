@@ -1,5 +1,4 @@
-use Rattle.std.proofs.Common.{◌∙◌, ap, arith, refl}
-use Rattle.std.specs.Prelude.{Some}
+use Rattle.std.proofs.Common.{◌∙◌, ap, arith, refl, Some}
 use Rattle.bdb_tool.specs.of_io.Memory.{Memory}
 use Rattle.check_images.proofs.VerdictLemmas.{bytes_told, verdict_line, verdict_printed}
 use Rattle.bdb_tool.proofs.RunLemmas.{never_rose}

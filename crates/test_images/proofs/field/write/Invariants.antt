@@ -1,5 +1,4 @@
-use Rattle.std.proofs.Common.{◌≡◌, take}
-use Rattle.std.specs.List.{fold}
+use Rattle.std.proofs.Common.{◌≡◌, take, fold}
 use Rattle.test_images.specs.Fields.{field_put}
 use Rattle.test_images.proofs.field.write.Given as goal
 

@@ -1,6 +1,5 @@
 -- Each row was passed.
-use Rattle.std.proofs.Common.{arith}
-use Rattle.std.specs.List.{Contains}
+use Rattle.std.proofs.Common.{arith, Contains}
 use Rattle.test_images.specs.Rows.{row_fault}
 use Rattle.test_images.proofs.RowLemmas.{each_told}
 use Rattle.test_images.proofs.naming.has_each_row.Goals as goal

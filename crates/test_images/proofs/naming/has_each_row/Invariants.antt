@@ -1,6 +1,5 @@
 -- The list has the faults of the rows that were passed.
-use Rattle.std.proofs.Common.{◌≡◌, ℕ, ◌<◌, Some, slice_get}
-use Rattle.std.specs.List.{Contains}
+use Rattle.std.proofs.Common.{◌≡◌, ℕ, ◌<◌, Some, slice_get, Contains}
 use Rattle.test_images.specs.Rows.{row_fault}
 use Rattle.test_images.proofs.naming.has_each_row.Given as goal
 

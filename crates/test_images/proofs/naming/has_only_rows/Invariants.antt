@@ -1,6 +1,5 @@
 -- The members that were passed are faults of the rows.
-use Rattle.std.proofs.Common.{◌≡◌, ℕ, ◌<◌, Some, map, slice_get}
-use Rattle.std.specs.List.{Contains}
+use Rattle.std.proofs.Common.{◌≡◌, ℕ, ◌<◌, Some, map, slice_get, Contains}
 use Rattle.bdb_tree.specs.of_format.declared.kinds.Fault.{Fault}
 use Rattle.test_images.specs.Rows.{row_fault}
 use Rattle.test_images.proofs.naming.has_only_rows.Given as goal

@@ -1,5 +1,4 @@
-use Rattle.std.proofs.Common.{rules, ◌≡◌}
-use Rattle.std.specs.Prelude.{Some, None}
+use Rattle.std.proofs.Common.{rules, ◌≡◌, Some, None}
 use Rattle.bdb_format.specs.Terms.{fault_seen}
 use Rattle.bdb_faults.proofs.FirstLemmas.{first_accepted, first_refused}
 use Rattle.bdb_faults.proofs.first.FirstJudge.judge.Goals as goal

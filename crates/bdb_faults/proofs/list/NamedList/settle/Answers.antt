@@ -1,5 +1,4 @@
-use Rattle.std.proofs.Common.{List, map, subst, sym}
-use Rattle.std.specs.List.{Contains}
+use Rattle.std.proofs.Common.{List, map, subst, sym, Contains}
 use Rattle.bdb_format.specs.Terms.{fault_seen}
 use Rattle.bdb_format.specs.declared.named.Named.{Named}
 use Rattle.bdb_faults.specs.Notes.{AreOne, Ascends}

@@ -1,5 +1,4 @@
-use Rattle.std.proofs.Common.{IsTrue, subst, ◌≡◌, ◌≤◌, [], ◌∷◌, ◌++◌, map, length, arith, sym, ap, inl, inr}
-use Rattle.std.specs.List.{flat_map}
+use Rattle.std.proofs.Common.{IsTrue, subst, ◌≡◌, ◌≤◌, [], ◌∷◌, ◌++◌, map, length, arith, sym, ap, inl, inr, flat_map}
 use Rattle.std.proofs.lemmas.Bool.{eqb-false, eqb-true}
 use Rattle.std.proofs.lemmas.List.{nil_from_length}
 use Rattle.bdb_places.specs.of_format.Terms.{is_page_size}
