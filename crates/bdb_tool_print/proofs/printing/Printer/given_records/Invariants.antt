@@ -8,4 +8,4 @@ use Rattle.bdb_tool_print.proofs.printing.Printer.given_records.Given as goal
 abbrev pub invariant-loop-number : goal.invariant-loop-number
 invariant-loop-number g l =
     HasAdded g.K.Sink.written g.K.Sink.faults l.initial.self l.self (flat_map (pair_text l.print) (map numbered_record l.number-iterator))
-    (flat_map (pair_text l.print) (map numbered_record l.fn.pairs))
+    (flat_map (pair_text l.print) (map numbered_record l.fn.records))
