@@ -1,4 +1,4 @@
-ghost use Rattle.std.specs.Prelude.{◌≡◌, ◌≤◌, ◌<◌, length, min};
+ghost use Rattle.std.specs.Prelude.{◌≡◌, ◌≤◌, ◌<◌, Some, length, min};
 ghost use Rattle.std.specs.Option.{option_map};
 ghost use Rattle.bdb_layout.specs.of_format.Terms.{all_item_rows, entries_of, first_row, form_row_code, index_end, index_rows, item_row, lesser, listed_code};
 
@@ -45,21 +45,20 @@ fn least_item_row<K: PageKind>(page: &[u8], order: Order) -> Option<FormRow>
 {
     let mut least = None;
     for index in 0..u16_at(page, 20, order) {
-        least = lesser(least, K::item_row(page, order, index));
+        if let Some(row) = K::item_row(page, order, index) {
+            least = Some(lesser(least, row));
+        }
     }
     least
 }
 
 // Most items have no row.
-fn lesser(a: Option<FormRow>, b: Option<FormRow>) -> Option<FormRow>
-    ensures { option_map form_row_code result ≡ lesser (option_map form_row_code a) (option_map form_row_code b) }
+fn lesser(a: Option<FormRow>, b: FormRow) -> FormRow
+    ensures { Some (form_row_code result) ≡ lesser (option_map form_row_code a) (Some (form_row_code b)) }
 {
-    let Some(b) = b else {
-        return a;
-    };
     match a {
-        None => Some(b),
-        Some(a) => Some(lesser_of(a, b)),
+        None => b,
+        Some(a) => lesser_of(a, b),
     }
 }
 

@@ -32,7 +32,8 @@ fn order_of(image: &[u8]) -> Order
     }
 }
 
-fn file_kind(magic: u32) -> FileKind
+/// The kind with a magic number.
+pub(crate) fn file_kind(magic: u32) -> FileKind
     ensures { result ≡ file_kind magic }
 {
     if magic == magic_of(FileKind::Btree) {

@@ -3,6 +3,7 @@
 
 mod btree;
 mod file_head;
+mod first_page;
 mod generic;
 pub mod laws;
 mod queue;
@@ -17,5 +18,6 @@ pub use bdb_layout::{
 };
 pub use btree::{btree_fields, btree_meta, checked_btree, put_btree_meta};
 pub use file_head::{checked_head, head};
+pub use first_page::{first_page_case, first_page_is_queue_or_master};
 pub use queue::{checked_queue, put_queue_meta, queue_fields, queue_meta};
 pub use table::{checked_table, hash_fields, hash_meta, put_hash_meta};

@@ -8,7 +8,7 @@ use crate::generic::{Generic, check_common, put_generic};
 use bdb_layout::{FileKind, FormRow, HashMeta, MetaFault, Order, group_of, put_u32, u32_at};
 
 /// The hash of a fixed text, by which a file tells its hash function.
-const CHARKEY: u32 = 0x5e688dd1;
+pub(crate) const CHARKEY: u32 = 0x5e688dd1;
 
 /// Whether there is one bucket alone, or the masks are one and the same power of two around the
 /// greatest bucket.

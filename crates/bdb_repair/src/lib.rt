@@ -19,9 +19,9 @@ pub use bdb_io::{
 pub use bdb_law_kept::{push_line_text, read_dump};
 pub use bdb_mkfile::{Linked, LoadError, Meta, hash5, load, settle};
 pub use bdb_model::{
-    BtreeMeta, Bytes, Duplicates, FileKind, KeyRef, Kind, Order, PairSlice, Shape, Steps,
-    TextPairs, Unsupported, Words,
+    BtreeMeta, Bytes, Duplicates, KeyRef, Kind, Order, PairSlice, Shape, Steps, TextPairs,
+    Unsupported, Words,
 };
-pub use bdb_rescue::{Guess, SalvageError, Salvaged, guess_of, magic_of, salvage, u32_at};
+pub use bdb_rescue::{Guess, SalvageError, Salvaged, salvage, unsupported_case};
 pub use error::RepairError;
 pub use repairing::{repair, repair_as};

@@ -1,7 +1,7 @@
 ghost use Rattle.std.specs.Prelude.{◌≡◌, ◌+◌, ◌≤◌, length};
-ghost use Rattle.bdb_rescue.specs.Guesses.{chosen, guess_in, guess_of, is_known_magic};
+ghost use Rattle.bdb_rescue.specs.Guesses.{chosen, guess_in, guess_of, is_known_magic, is_queue_or_master, unsupported_case};
 
-use bdb_survey::{Guess, u32_at};
+use bdb_survey::{Guess, Unsupported, first_page_case, first_page_is_queue_or_master, u32_at};
 use bdb_text_format::{FileKind, Order, is_page_size, magic_of};
 
 /// The guess that is given, or else the one that page 0 tells.
@@ -16,7 +16,7 @@ pub(crate) fn chosen(guess: Option<Guess>, image: &[u8]) -> Option<Guess>
 
 /// What page 0 tells of the image.
 #[tactic(auto, unfolding(crate::specs::Guesses::guess_of))]
-pub fn guess_of(image: &[u8]) -> Option<Guess>
+fn guess_of(image: &[u8]) -> Option<Guess>
     ensures { result ≡ guess_of image.now }
 {
     if image.len() < 24 {
@@ -45,4 +45,25 @@ fn is_known_magic(number: u32) -> bool
     number == magic_of(FileKind::Btree)
         || number == magic_of(FileKind::Hash)
         || number == magic_of(FileKind::Queue)
+}
+
+/// The first case that isn't supported which page 0 names; none where a guess is given, or page 0 tells none.
+pub fn unsupported_case(guess: Option<Guess>, image: &[u8]) -> Option<Unsupported>
+    ensures { result ≡ unsupported_case guess image.now }
+{
+    match guess {
+        Some(_) => None,
+        None => first_page_case(image, guess_of(image)?.order),
+    }
+}
+
+/// Whether page 0 is metadata of a queue, or of a btree whose pairs name databases; false where a guess is given, or page 0
+/// tells none.
+pub fn is_queue_or_master(guess: Option<Guess>, image: &[u8]) -> bool
+    ensures { result ≡ is_queue_or_master guess image.now }
+{
+    match (guess, guess_of(image)) {
+        (None, Some(told)) => first_page_is_queue_or_master(image, told.order),
+        _ => false,
+    }
 }

@@ -21,13 +21,13 @@ mod thin;
 mod values;
 
 pub use bdb_survey::{
-    Datum, Guess, KeyView, Meta, Pieces, WholePages, bytes_in, chain_of, compare_datum, u32_at,
+    Datum, Guess, KeyView, Meta, Pieces, Unsupported, WholePages, bytes_in, chain_of, compare_datum,
 };
-pub use bdb_text_format::{Bytes, FileKind, Order, Steps, magic_of};
+pub use bdb_text_format::{Bytes, FileKind, Order, Steps};
 pub use entries::{SalvageEntries, SalvageEntry};
 pub use error::SalvageError;
 pub use gathered::{loose_pairs, stored_pairs};
-pub use guess::guess_of;
+pub use guess::{is_queue_or_master, unsupported_case};
 pub use pairs::SalvagePairs;
 pub use records::SalvageRecords;
 pub use salvaged::{Salvaged, salvage};

@@ -8,10 +8,11 @@ use Rattle.bdb_text_format.specs.declared.pairs.Key.{Key}
 use Rattle.bdb_text_format.specs.declared.pairs.TextPair.{TextPair}
 use Rattle.bdb_text_format.specs.Placed.{IsPiecePut, pair_with}
 
--- a run, where the values of chains stand in it, by their heads, and the pairs
+-- a run, where the values of chains stand in it, by their heads, for how many bytes there is room, and the pairs
 pub record Gathering : Type 0 where
   pub bytes : List ℕ
   pub chains : List (ℕ × Span)
+  pub room : ℕ
   pub pairs : List TextPair
 
 -- where the chain with this head stands, if it's noted

@@ -1,5 +1,5 @@
 //! Pairs that share bytes of their run.
-ghost use Rattle.std.specs.Prelude.{◌≡◌, ◌-◌, ◌<◌, ◌≤◌, [], ℕ, List, IfOk, IfSome, OnErr, OnOk, drop, get_or, length, take};
+ghost use Rattle.std.specs.Prelude.{◌≡◌, ◌-◌, ◌+◌, ◌^◌, ◌<◌, ◌≤◌, [], ℕ, List, IfOk, IfSome, IsSome, OnErr, OnOk, drop, get_or, length, slice_range, take};
 ghost use Rattle.bdb_places.specs.Places.{span_in};
 ghost use Rattle.bdb_text_format.specs.Gathered.{Extends, HasChains, IsSpanOf, with_again, with_pair};
 ghost use Rattle.bdb_text_format.specs.Placed.{IsKeyPlaced, IsPiecePut, Keeps, pair_with, placed_key};
@@ -23,10 +23,11 @@ pub struct Gathered {
 impl Model for Gathered {
     ghost use Rattle.bdb_text_format.specs.Gathered.{Gathering};
     ghost use Rattle.bdb_text_format.specs.Placed.{ArePlaced, placed_pairs};
+    ghost use Rattle.std.specs.Prelude.{vec_capacity};
 
     ghost Value = { Gathering };
 
-    ghost view = { λ it. record { bytes = it.bytes.items; chains = it.chains.entries; pairs = placed_pairs it.bytes.items it.places.items } };
+    ghost view = { λ it. record { bytes = it.bytes.items; chains = it.chains.entries; room = vec_capacity it.bytes; pairs = placed_pairs it.bytes.items it.places.items } };
 
     ghost invariant = { λ it. ArePlaced it.bytes.items it.places.items };
 }
@@ -52,19 +53,21 @@ impl Gathered {
         self.places.len()
     }
 
-    /// Adds bytes at the end of the run, which stays below 2^32, and answers where they stand.
+    /// Adds bytes at the end of the run, and answers where they stand. Refused only where the run would have 2^32 bytes, or more than it has room for.
     pub fn put(&mut self, piece: &[u8]) -> Result<Span, AllocError>
         ensures kept { Keeps self.old.bytes self.new.bytes }
         ensures pairs { self.new.pairs ≡ self.old.pairs }
         ensures chains { (value : ℕ → List ℕ) → HasChains value self.old → HasChains value self.new }
         ensures ok { IfOk result (IsPiecePut self.new.bytes piece.now) }
+        ensures refused { OnErr result (length self.old.bytes + length piece.now < 2 ^ 32 → self.old.room < length self.old.bytes + length piece.now) }
     {
         put(&mut self.bytes, piece)
     }
 
     /// Where bytes stand, if they do from one place of the run on.
     pub fn find(&self, from: usize, piece: &[u8]) -> Option<Span>
-        ensures { IfSome result (IsPiecePut self.now.bytes piece.now) }
+        ensures some { IfSome result (IsPiecePut self.now.bytes piece.now) }
+        ensures told { length self.now.bytes < 2 ^ 32 → from + length piece.now ≤ length self.now.bytes → slice_range self.now.bytes from (from + length piece.now) ≡ piece.now → IsSome result }
     {
         found(self.bytes.as_slice(), from, piece)
     }

@@ -1,4 +1,4 @@
-ghost use Rattle.std.specs.Prelude.{◌≡◌, ◌==◌, ◌<◌, ◌∷◌, ◌++◌, [], OnOk, OnErr, IfOk, IfSome, true, ◌-◌, get_or, length, slice_get, take};
+ghost use Rattle.std.specs.Prelude.{◌≡◌, ◌==◌, ◌<◌, ◌∷◌, ◌++◌, [], OnOk, OnErr, IfOk, IfSome, IsSome, true, ◌≤◌, ◌-◌, ◌+◌, ◌^◌, get_or, length, slice_get, slice_range, take, vec_capacity};
 ghost use Rattle.std.specs.Option.{option_map};
 ghost use Rattle.std.specs.List.{All};
 ghost use Rattle.bdb_text_format.specs.Pairs.{last_key};
@@ -66,11 +66,12 @@ pub struct Near {
     pub value: Option<Span>,
 }
 
-// Adds bytes at the end of a run, where it stays below 2^32, and answers where they stand.
+// Adds bytes at the end of a run, and answers where they stand. Refused only where the run would have 2^32 bytes, or more than it has room for.
 #[tactic(auto, using(crate::proofs::PlacedLemmas::kept_all, crate::proofs::PlacedLemmas::kept_more, crate::proofs::PlacedLemmas::piece_put))]
 pub(crate) fn put(bytes: &mut Vec<u8>, piece: &[u8]) -> Result<Span, AllocError>
     ensures kept { Keeps bytes.old.items bytes.new.items }
     ensures ok { IfOk result (IsPiecePut bytes.new.items piece.now) }
+    ensures refused { OnErr result (length bytes.old.items + length piece.now < 2 ^ 32 → vec_capacity bytes.old < length bytes.old.items + length piece.now) }
 {
     let Ok(start) = u32::try_from(bytes.len()) else {
         return Err(AllocError);
@@ -85,7 +86,8 @@ pub(crate) fn put(bytes: &mut Vec<u8>, piece: &[u8]) -> Result<Span, AllocError>
 
 // Where bytes stand in a run, if they do from one place on.
 pub(crate) fn found(bytes: &[u8], from: usize, piece: &[u8]) -> Option<Span>
-    ensures { IfSome result (IsPiecePut bytes.now piece.now) }
+    ensures some { IfSome result (IsPiecePut bytes.now piece.now) }
+    ensures told { length bytes.now < 2 ^ 32 → from + length piece.now ≤ length bytes.now → slice_range bytes.now from (from + length piece.now) ≡ piece.now → IsSome result }
 {
     let to = from.checked_add(piece.len())?;
     if to > bytes.len() || &bytes[from..to] != piece {

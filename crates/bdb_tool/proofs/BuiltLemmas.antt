@@ -11,12 +11,11 @@ use Rattle.bdb_repair.specs.of_format.declared.kinds.Unsupported.{Unsupported}
 use Rattle.bdb_repair.specs.of_rescue.Kept.{Reading}
 use Rattle.bdb_tool_words.specs.declared.command.Parts.{Parts}
 use Rattle.bdb_tool_words.specs.declared.command.Parts.TheVariants.{Together, Apart, Rest}
-use Rattle.bdb_tool.specs.LeftOut.{left_out}
 use Rattle.bdb_repair.specs.of_format.Terms.{Faulty, Judgement, LeftOut, verdict_of}
 use Rattle.bdb_repair.specs.of_rescue.Text.{salvage_text}
-use Rattle.bdb_repair.specs.of_rescue.Guesses.{chosen}
+use Rattle.bdb_repair.specs.of_rescue.Guesses.{chosen, unsupported_case}
 use Rattle.bdb_repair.specs.of_survey.declared.guess.Guess.{Guess}
-use Rattle.bdb_tool.specs.Outputs.{apart_answer, found_answer, no_metadata, parts_answer, rest_answer, salvage_answer, salvaged_answer, unless_left_out}
+use Rattle.bdb_tool.specs.Outputs.{apart_answer, found_answer, no_metadata, parts_answer, rest_answer, salvage_answer, salvaged_answer, unless_unsupported}
 use Rattle.bdb_tool_ask.specs.of_tool_lines.Finished.{Finishes, HasOwnStatus, Reports, Tells}
 use Rattle.bdb_tool.specs.Parts.{Answered, Ends, IsRefusalTold, Unanswered}
 use Rattle.bdb_repair.specs.of_format.declared.kinds.Kind.{Kind}
@@ -136,16 +135,16 @@ rest_own : (found : Option Guess) (print : Bool) (image : List ℕ) → HasOwnSt
 rest_own None print image = low_own_ten
 rest_own (Some guess) print image = low_own (done (rest_text print guess image)) (omega arith)
 
-unless_own : (left : Option Unsupported) (answer : Answer) → HasOwnStatus answer → HasOwnStatus (unless_left_out left answer)
+unless_own : (left : Option Unsupported) (answer : Answer) → HasOwnStatus answer → HasOwnStatus (unless_unsupported left answer)
 unless_own None answer own = own
 unless_own (Some name) answer own = low_own (told 3 (unsupported_line name 0)) (omega arith)
 
 pub parts_own : (parts : Parts) (guess : Option Guess) (print : Bool) (image : List ℕ) → HasOwnStatus (parts_answer parts guess print image)
 parts_own Together guess print image = salvage_own guess print image
 parts_own Apart guess print image =
-    unless_own (left_out guess image) (found_answer (chosen guess image) print image) (found_own (chosen guess image) print image)
+    unless_own (unsupported_case guess image) (found_answer (chosen guess image) print image) (found_own (chosen guess image) print image)
 parts_own Rest guess print image =
-    unless_own (left_out guess image) (rest_answer (chosen guess image) print image) (rest_own (chosen guess image) print image)
+    unless_own (unsupported_case guess image) (rest_answer (chosen guess image) print image) (rest_own (chosen guess image) print image)
 
 -- what is salvaged by the guess that was chosen was written, or cut off, and that was told
 pub salvage_finishes : (given : Option Guess) (print : Bool) (image : List ℕ) (guess : Guess) (read : List ℕ) (out err : Change) (written : Result Unit Cut)
@@ -240,9 +239,9 @@ case_told name written faults err status tells =
 
 pub case_finishes : (left : Option Unsupported) (name : Unsupported) (answer : Answer) (written : Option (List ℕ)) (faults : ℕ) (err : Change) (status : ℕ)
     → Some name ≡ left → (Tells (unsupported_line name 0) 3 err status ⊎ Tells memory_line 7 err status)
-    → Finishes (unless_left_out left answer) (moved written written faults faults) err status
+    → Finishes (unless_unsupported left answer) (moved written written faults faults) err status
 case_finishes left name answer written faults err status is tells =
-    subst (λ it. Finishes (unless_left_out it answer) (moved written written faults faults) err status) is
+    subst (λ it. Finishes (unless_unsupported it answer) (moved written written faults faults) err status) is
     (elim tells [
       | inl case ↦ case_told name written faults err status case
       | inr memory ↦
@@ -250,5 +249,5 @@ case_finishes left name answer written faults err status is tells =
     ])
 
 pub no_case_finishes : (left : Option Unsupported) (answer : Answer) (out err : Change) (status : ℕ) → None ≡ left → Finishes answer out err status
-    → Finishes (unless_left_out left answer) out err status
-no_case_finishes left answer out err status none finishes = subst (λ it. Finishes (unless_left_out it answer) out err status) none finishes
+    → Finishes (unless_unsupported left answer) out err status
+no_case_finishes left answer out err status none finishes = subst (λ it. Finishes (unless_unsupported it answer) out err status) none finishes

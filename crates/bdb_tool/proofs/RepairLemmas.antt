@@ -18,10 +18,9 @@ use Rattle.bdb_repair.specs.of_model.declared.shape.Shape.{Shape}
 use Rattle.bdb_repair.specs.Apart.{AreBuilt, IsRepairedApart, apart_sections}
 use Rattle.bdb_repair.specs.Parts.{repair_sections}
 use Rattle.bdb_repair.specs.Repairs.{IsRepaired}
-use Rattle.bdb_repair.specs.of_rescue.Guesses.{chosen}
+use Rattle.bdb_repair.specs.of_rescue.Guesses.{chosen, unsupported_case}
 use Rattle.bdb_repair.specs.of_survey.declared.guess.Guess.{Guess}
-use Rattle.bdb_tool.specs.LeftOut.{left_out}
-use Rattle.bdb_tool.specs.Outputs.{AreBuiltBy, IsApartAnswer, IsImageBy, IsRepairAnswer, IsShapedAnswer, IsUnlessLeftOut, no_metadata}
+use Rattle.bdb_tool.specs.Outputs.{AreBuiltBy, IsApartAnswer, IsImageBy, IsRepairAnswer, IsShapedAnswer, IsUnlessUnsupported, no_metadata}
 use Rattle.bdb_tool_ask.specs.of_tool_lines.Finished.{Finishes, HasOwnStatus, Tells}
 use Rattle.bdb_tool.specs.Parts.{Answered, Ends, IsBuiltTold, Unanswered}
 use Rattle.bdb_tool_ask.proofs.of_tool_lines.FinishLemmas.{low_own, told_finishes}
@@ -101,17 +100,17 @@ found_ends limit max given image result out err status same is tables told_so =
     built_ends (IsApartAnswer limit (chosen given image) image) limit result out err status
     (apart_allowed limit (chosen given image) image result (subst (λ n. IsRepairedApart n (chosen given image) image result) same is) tables) told_so
 
-pub known_ends : (limit : ℕ) (given : Option Guess) (image : List ℕ) (out err : Change) (status : ℕ) → None ≡ left_out given image
+pub known_ends : (limit : ℕ) (given : Option Guess) (image : List ℕ) (out err : Change) (status : ℕ) → None ≡ unsupported_case given image
     → Ends (IsApartAnswer limit (chosen given image) image) out err status
-    → Ends (IsUnlessLeftOut (left_out given image) limit (chosen given image) image) out err status
+    → Ends (IsUnlessUnsupported (unsupported_case given image) limit (chosen given image) image) out err status
 known_ends limit given image out err status none ends =
-    subst (λ left. Ends (IsUnlessLeftOut left limit (chosen given image) image) out err status) none ends
+    subst (λ left. Ends (IsUnlessUnsupported left limit (chosen given image) image) out err status) none ends
 
 pub case_ends : (limit : ℕ) (given : Option Guess) (image : List ℕ) (name : Unsupported) (written : Option (List ℕ)) (faults : ℕ) (err : Change) (status : ℕ)
-    → Some name ≡ left_out given image → (Tells (unsupported_line name 0) 3 err status ⊎ Tells memory_line 7 err status)
-    → Ends (IsUnlessLeftOut (left_out given image) limit (chosen given image) image) (moved written written faults faults) err status
+    → Some name ≡ unsupported_case given image → (Tells (unsupported_line name 0) 3 err status ⊎ Tells memory_line 7 err status)
+    → Ends (IsUnlessUnsupported (unsupported_case given image) limit (chosen given image) image) (moved written written faults faults) err status
 case_ends limit given image name written faults err status is tells =
-    subst (λ left. Ends (IsUnlessLeftOut left limit (chosen given image) image) (moved written written faults faults) err status) is
+    subst (λ left. Ends (IsUnlessUnsupported left limit (chosen given image) image) (moved written written faults faults) err status) is
     (elim tells [
       | inl case ↦
           Answered (told 3 (unsupported_line name 0)) refl
@@ -162,12 +161,12 @@ apart_own : (limit : ℕ) (found : Option Guess) (image : List ℕ) (answer : An
 apart_own limit None image answer is = no_metadata_own answer is
 apart_own limit (Some guess) image answer is = sections_own limit (apart_sections guess image) answer is
 
-unless_own : (left : Option Unsupported) (limit : ℕ) (found : Option Guess) (image : List ℕ) (answer : Answer) → IsUnlessLeftOut left limit found image answer
+unless_own : (left : Option Unsupported) (limit : ℕ) (found : Option Guess) (image : List ℕ) (answer : Answer) → IsUnlessUnsupported left limit found image answer
     → HasOwnStatus answer
 unless_own None limit found image answer is = apart_own limit found image answer is
 unless_own (Some name) limit found image answer is = rw is (low_own (told 3 (unsupported_line name 0)) (omega arith))
 
 pub repair_own : (limit : ℕ) (built : Built) (given : Option Guess) (image : List ℕ) (answer : Answer) → IsRepairAnswer limit built given image answer
     → HasOwnStatus answer
-repair_own limit Each given image answer is = unless_own (left_out given image) limit (chosen given image) image answer is
+repair_own limit Each given image answer is = unless_own (unsupported_case given image) limit (chosen given image) image answer is
 repair_own limit (Shaped shape) given image answer is = shaped_own limit shape (chosen given image) image answer is

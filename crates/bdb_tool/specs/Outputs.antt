@@ -16,10 +16,9 @@ use Rattle.bdb_tool_words.specs.declared.command.Built.{Built}
 use Rattle.bdb_tool_words.specs.declared.command.Built.TheVariants.{Each, Shaped}
 use Rattle.bdb_tool_words.specs.declared.command.Parts.{Parts}
 use Rattle.bdb_tool_words.specs.declared.command.Parts.TheVariants.{Together, Apart, Rest}
-use Rattle.bdb_repair.specs.of_rescue.Guesses.{chosen}
+use Rattle.bdb_repair.specs.of_rescue.Guesses.{chosen, unsupported_case}
 use Rattle.bdb_repair.specs.of_survey.declared.guess.Guess.{Guess}
 use Rattle.bdb_repair.specs.of_text_format.declared.sections.Section.{Section}
-use Rattle.bdb_tool.specs.LeftOut.{left_out}
 use Rattle.bdb_tool.specs.Ontos.{IsOntoAnswer}
 use Rattle.bdb_tool_build.specs.Lines.{image_too_large_line}
 use Rattle.bdb_tool_build.specs.Loads.{IsImageAnswer, IsTextAnswer}
@@ -38,10 +37,10 @@ salvaged_answer (Some guess) print image = done (salvage_text print guess image)
 abbrev pub salvage_answer : Option Guess → Bool → List ℕ → Answer
 salvage_answer guess print image = salvaged_answer (chosen guess image) print image
 
--- where page 0 names a case that is left out, that is told
-abbrev pub unless_left_out : Option Unsupported → Answer → Answer
-unless_left_out None answer = answer
-unless_left_out (Some name) answer = told 3 (unsupported_line name 0)
+-- where page 0 names an unsupported case, that is told
+abbrev pub unless_unsupported : Option Unsupported → Answer → Answer
+unless_unsupported None answer = answer
+unless_unsupported (Some name) answer = told 3 (unsupported_line name 0)
 
 -- of the databases that are found, where there are some
 abbrev pub apart_answer : List Found → Bool → Guess → List ℕ → Answer
@@ -60,8 +59,8 @@ rest_answer (Some guess) print image = done (rest_text print guess image)
 -- by what is asked for
 abbrev pub parts_answer : Parts → Option Guess → Bool → List ℕ → Answer
 parts_answer Together guess print image = salvage_answer guess print image
-parts_answer Apart guess print image = unless_left_out (left_out guess image) (found_answer (chosen guess image) print image)
-parts_answer Rest guess print image = unless_left_out (left_out guess image) (rest_answer (chosen guess image) print image)
+parts_answer Apart guess print image = unless_unsupported (unsupported_case guess image) (found_answer (chosen guess image) print image)
+parts_answer Rest guess print image = unless_unsupported (unsupported_case guess image) (rest_answer (chosen guess image) print image)
 
 -- `repair`: some image that is built of what is salvaged, by whether it would be too large
 abbrev pub IsImageBy : Bool → ℕ → List Section → Answer → Type 0
@@ -83,14 +82,14 @@ abbrev pub IsApartAnswer : ℕ → Option Guess → List ℕ → Answer → Type
 IsApartAnswer limit None image answer = answer ≡ no_metadata
 IsApartAnswer limit (Some guess) image answer = AreBuiltBy limit (apart_sections guess image) answer
 
--- unless page 0 names a case that is left out
-abbrev pub IsUnlessLeftOut : Option Unsupported → ℕ → Option Guess → List ℕ → Answer → Type 0
-IsUnlessLeftOut None limit guess image answer = IsApartAnswer limit guess image answer
-IsUnlessLeftOut (Some name) limit guess image answer = answer ≡ told 3 (unsupported_line name 0)
+-- unless page 0 names an unsupported case
+abbrev pub IsUnlessUnsupported : Option Unsupported → ℕ → Option Guess → List ℕ → Answer → Type 0
+IsUnlessUnsupported None limit guess image answer = IsApartAnswer limit guess image answer
+IsUnlessUnsupported (Some name) limit guess image answer = answer ≡ told 3 (unsupported_line name 0)
 
 -- the guess is that of `salvage`
 abbrev pub IsRepairAnswer : ℕ → Built → Option Guess → List ℕ → Answer → Type 0
-IsRepairAnswer limit Each guess image answer = IsUnlessLeftOut (left_out guess image) limit (chosen guess image) image answer
+IsRepairAnswer limit Each guess image answer = IsUnlessUnsupported (unsupported_case guess image) limit (chosen guess image) image answer
 IsRepairAnswer limit (Shaped shape) guess image answer = IsShapedAnswer limit shape (chosen guess image) image answer
 
 -- an answer to an input that isn't too long, and a base, whose bytes are none where none is read; `load`, `repair` and `trial` may have several

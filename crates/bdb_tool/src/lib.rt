@@ -4,7 +4,6 @@
 mod answer;
 mod building;
 pub mod laws;
-mod left_out;
 mod program;
 mod repairing;
 mod salvaging;

@@ -3,16 +3,16 @@ ghost use Rattle.std.specs.Prelude.{◌⊎◌, ◌≤◌, ◌^◌, IfSome, IsTru
 ghost use Rattle.bdb_repair.specs.of_format.Terms.{is_page_size};
 ghost use Rattle.bdb_repair.specs.of_model.Change.{change};
 ghost use Rattle.bdb_repair.specs.of_model.Lines.{memory_line};
-ghost use Rattle.bdb_repair.specs.of_rescue.Guesses.{chosen};
-ghost use Rattle.bdb_tool.specs.LeftOut.{left_out};
-ghost use Rattle.bdb_tool.specs.Outputs.{IsApartAnswer, IsRepairAnswer, IsShapedAnswer, IsUnlessLeftOut};
+ghost use Rattle.bdb_repair.specs.of_rescue.Guesses.{chosen, unsupported_case};
+ghost use Rattle.bdb_tool.specs.Outputs.{IsApartAnswer, IsRepairAnswer, IsShapedAnswer, IsUnlessUnsupported};
 ghost use Rattle.bdb_tool_ask.specs.of_tool_lines.Finished.{Tells};
 ghost use Rattle.bdb_tool.specs.Parts.{Ends, IsBuiltTold};
 ghost use Rattle.bdb_tool_words.specs.WordsSeen.{IsFitRepair};
 ghost use Rattle.bdb_tool_build.specs.Lines.{image_too_large_line};
 
-use crate::left_out::left_out;
-use bdb_repair::{Guess, Image, RepairError, Shape, Sink, Steps, repair_apart, repair_as};
+use bdb_repair::{
+    Guess, Image, RepairError, Shape, Sink, Steps, repair_apart, repair_as, unsupported_case,
+};
 use bdb_tool_ask::status::{NO_META, TOO_LARGE};
 use bdb_tool_ask::{put, report, tell, tell_case, tell_memory};
 use bdb_tool_build::image_too_large_line;
@@ -92,7 +92,7 @@ fn repair_found<K: Sink, E: Sink, L: Ledger>(
     answer_built(alloc, built, limit, out, err)
 }
 
-// The same, unless page 0 names a case that is left out.
+// The same, unless page 0 names an unsupported case.
 fn repair_each<K: Sink, E: Sink, L: Ledger>(
     alloc: Global,
     image: &[u8],
@@ -105,10 +105,10 @@ fn repair_each<K: Sink, E: Sink, L: Ledger>(
     requires size { length image.now ≤ 2 ^ 30 }
     requires guess { IfSome guess (λ guess. IsTrue (is_page_size guess.page_size)) }
     requires limit { limit ≤ 2 ^ 30 }
-    ensures { Ends (IsUnlessLeftOut (left_out guess image.now) limit (chosen guess image.now) image.now)
+    ensures { Ends (IsUnlessUnsupported (unsupported_case guess image.now) limit (chosen guess image.now) image.now)
         (change K.written K.faults out.old out.new) (change E.written E.faults err.old err.new) result }
 {
-    match left_out(guess, image) {
+    match unsupported_case(guess, image) {
         Some(case) => tell_case(alloc, case, err),
         None => repair_found(alloc, image, guess, limit, out, err, steps),
     }

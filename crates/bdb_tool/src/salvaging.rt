@@ -4,14 +4,14 @@ ghost use Rattle.bdb_repair.specs.of_apart.Found.{found};
 ghost use Rattle.bdb_repair.specs.of_apart.Text.{rest_text};
 ghost use Rattle.bdb_repair.specs.of_model.Answers.{done};
 ghost use Rattle.bdb_repair.specs.of_model.Change.{change};
-ghost use Rattle.bdb_repair.specs.of_rescue.Guesses.{chosen};
-ghost use Rattle.bdb_tool.specs.LeftOut.{left_out};
-ghost use Rattle.bdb_tool.specs.Outputs.{apart_answer, found_answer, parts_answer, rest_answer, salvage_answer, unless_left_out};
+ghost use Rattle.bdb_repair.specs.of_rescue.Guesses.{chosen, unsupported_case};
+ghost use Rattle.bdb_tool.specs.Outputs.{apart_answer, found_answer, parts_answer, rest_answer, salvage_answer, unless_unsupported};
 ghost use Rattle.bdb_tool_ask.specs.of_tool_lines.Finished.{Finishes};
 ghost use Rattle.bdb_tool_words.specs.WordsSeen.{IsFitSalvage};
 
-use crate::left_out::left_out;
-use bdb_repair::{Apart, SalvageError, Salvaged, Sink, Steps, apart_of, salvage};
+use bdb_repair::{
+    Apart, SalvageError, Salvaged, Sink, Steps, apart_of, salvage, unsupported_case,
+};
 use bdb_tool_ask::status::NO_META;
 use bdb_tool_ask::{report, tell, tell_case, tell_memory, write_apart, write_rest, write_salvaged};
 use bdb_tool_words::{Parts, Salvage};
@@ -134,7 +134,7 @@ fn rest_of_image<K: Sink, E: Sink, L: Ledger>(
     }
 }
 
-// Answers with each database of an image, unless page 0 names a case that is left out.
+// Answers with each database of an image, unless page 0 names an unsupported case.
 fn salvage_apart<K: Sink, E: Sink, L: Ledger>(
     alloc: Global,
     image: &[u8],
@@ -145,16 +145,16 @@ fn salvage_apart<K: Sink, E: Sink, L: Ledger>(
 ) -> u8
     requires size { length image.now ≤ 2 ^ 30 }
     requires guess { IsFitSalvage asked }
-    ensures { Finishes (unless_left_out (left_out asked.guess image.now) (found_answer (chosen asked.guess image.now) asked.print image.now))
+    ensures { Finishes (unless_unsupported (unsupported_case asked.guess image.now) (found_answer (chosen asked.guess image.now) asked.print image.now))
         (change K.written K.faults out.old out.new) (change E.written E.faults err.old err.new) result }
 {
-    match left_out(asked.guess, image) {
+    match unsupported_case(asked.guess, image) {
         Some(case) => tell_case(alloc, case, err),
         None => apart_of_image(alloc, image, asked, out, err, steps),
     }
 }
 
-// Answers with what belongs to no database of an image, unless page 0 names a case that is left out.
+// Answers with what belongs to no database of an image, unless page 0 names an unsupported case.
 fn salvage_rest<K: Sink, E: Sink, L: Ledger>(
     alloc: Global,
     image: &[u8],
@@ -165,10 +165,10 @@ fn salvage_rest<K: Sink, E: Sink, L: Ledger>(
 ) -> u8
     requires size { length image.now ≤ 2 ^ 30 }
     requires guess { IsFitSalvage asked }
-    ensures { Finishes (unless_left_out (left_out asked.guess image.now) (rest_answer (chosen asked.guess image.now) asked.print image.now))
+    ensures { Finishes (unless_unsupported (unsupported_case asked.guess image.now) (rest_answer (chosen asked.guess image.now) asked.print image.now))
         (change K.written K.faults out.old out.new) (change E.written E.faults err.old err.new) result }
 {
-    match left_out(asked.guess, image) {
+    match unsupported_case(asked.guess, image) {
         Some(case) => tell_case(alloc, case, err),
         None => rest_of_image(alloc, image, asked, out, err, steps),
     }

@@ -78,7 +78,7 @@ pub fn refuse<E: Sink>(alloc: Global, error: FirstError, err: &mut E) -> u8
     }
 }
 
-/// The row of a case that is left out: of the file, or else of the form of a page.
+/// The row of an unsupported case: of the file, or else of the form of a page.
 fn case_row(case: Unsupported) -> Row
     ensures { (page : ℕ) → judgement_seen (record { row = result; page = page }) ≡ LeftOut case page }
 {
