@@ -1,5 +1,5 @@
 -- What is answered of the databases that are found.
-use Rattle.std.proofs.Common.{◌≡◌, ◌⊎◌, ℕ, ◌+◌, ◌≤◌, Bool, true, false, cond, List, [], ◌∷◌, ◌++◌, length, map, Option, Some, None, Result, Ok, Err, arith, refl, sym, ◌∙◌, ap, subst, inl, inr}
+use Rattle.std.proofs.Common.{◌≡◌, ◌⊎◌, ℕ, ◌+◌, ◌≤◌, Bool, true, false, cond, List, [], ◌∷◌, ◌++◌, length, map, Option, Some, None, Result, Ok, Err, arith, refl, sym, ◌∙◌, ap, subst, inl, inr, ne_eqb}
 use Rattle.std.specs.Prelude.{◌==◌, IfErr, IfOk, IsTrue, OnOk, nat_lt}
 use Rattle.std.specs.List.{All, flat_map, fold}
 use Rattle.std.proofs.lemmas.List.Elements.{All-cons, All-head, All-nil, All-tail}
@@ -218,7 +218,8 @@ found_built max given image reading sections loaded read bytes are some builds s
 -- where no database is found, nothing is built
 none_built : (max : ℕ) (sections : List Section) → (length sections == 0) ≡ true → AreBuilt max sections (Err NoMeta)
 none_built max [] none = tt
-none_built max (first ∷ others) none = absurd (cc none)
+none_built max (first ∷ others) none =
+    let some : (length (first ∷ others) == 0) ≡ false = ne_eqb (length (first ∷ others)) 0 (λ zero. omega (arith, zero)) in absurd (cc (sym none ∙ some))
 
 pub nothing_built : (max : ℕ) (given : Option Guess) (image : List ℕ) (reading : Reading) (sections : List Section) → IsReadBy given image reading
     → sections ≡ sections_in reading → (length sections == 0) ≡ true → IsRepairedApart max given image (Err NoMeta)

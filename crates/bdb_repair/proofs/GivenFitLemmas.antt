@@ -49,11 +49,11 @@ several : (flags : ℕ) → (has_bit flags 0x40 && not (has_bit flags 0x41)) ≡
 several flags none is = then_so (has_bit flags 0x40) (has_bit flags 0x41) none is
 
 not_queue : (settings : Settings) → is_queue settings.kind ≡ false → settings.kind ≡ Queue → ⊥
-not_queue settings no is = absurd (cc (sym no ∙ ap is_queue is))
+not_queue settings none is = absurd (cc (sym none ∙ ap is_queue is))
 
 -- what the header of a text tells of fit settings is fit
 told_fit : (settings : Settings) → is_queue settings.kind ≡ false → AreFitSettings settings → AreFitSettings (told_settings settings)
-told_fit settings no fit = by_test (shows_length settings)
+told_fit settings none fit = by_test (shows_length settings)
   where
     by_test : (b : Bool) → AreFitSettings (cond b settings (record settings { fixed = false; re_len = 0; re_pad = 32 }))
     by_test true = fit
@@ -63,7 +63,7 @@ told_fit settings no fit = by_test (shows_length settings)
       counted = fit.counted;
       records = fit.records;
       re_len = omega arith;
-      fixed = λ is. absurd (not_queue settings no is);
+      fixed = λ is. absurd (not_queue settings none is);
     }
 
 btree_fit : (size : ℕ) (order : Order) (meta : BtreeMeta) → IsTrue (is_page_size size) → IsFitTree meta → AreFitSettings (btree_settings size order meta)
@@ -142,17 +142,15 @@ all_numbers file n (item ∷ items) some =
 passing : (fields : Metadata) (records : List (ℕ × List ℕ)) → All (λ (placed : ℕ × List ℕ). 1 ≤ placed.0) records
     → All (IsOf fields) (filter (fits_record fields) records)
 passing fields [] all = All-nil (IsOf fields)
-passing fields (placed ∷ records) all = by_test (fits_record fields placed) refl
+passing fields (placed ∷ records) all =
+    by_test (fits_record fields placed) refl (passing fields records (All-tail (λ (it : ℕ × List ℕ). 1 ≤ it.0) placed records all))
   where
-    rest : All (IsOf fields) (filter (fits_record fields) records)
-    rest = passing fields records (All-tail (λ (it : ℕ × List ℕ). 1 ≤ it.0) placed records all)
-
-    by_test : (b : Bool) → fits_record fields placed ≡ b
+    by_test : (b : Bool) → fits_record fields placed ≡ b → All (IsOf fields) (filter (fits_record fields) records)
         → All (IsOf fields) (cond b (placed ∷ filter (fits_record fields) records) (filter (fits_record fields) records))
-    by_test true fits =
+    by_test true fits rest =
         All-cons (IsOf fields) placed (filter (fits_record fields) records)
         (record { number = All-head (λ (it : ℕ × List ℕ). 1 ≤ it.0) placed records all; fits = fits }) rest
-    by_test false fits = rest
+    by_test false fits rest = rest
 
 from_page : (file : File) (db : Found) (p : ℕ) (start : Option ℕ) → All (IsOf db.fields) (records_from file db p start)
 from_page file db p None = All-nil (IsOf db.fields)
@@ -279,14 +277,14 @@ neither_kind false b none = none
 of_pairs : (size : ℕ) (alone : Bool) (name : Option (List ℕ)) (settings : Settings) (pairs : List (List ℕ × List ℕ)) → AreFitSettings settings
     → holds_records settings.kind ≡ false
     → IsGoodSection size alone (record { name = name; settings = settings; header_line = 0; pairs = stored_pairs pairs })
-of_pairs size alone name settings pairs fit no =
-    let queue : is_queue settings.kind ≡ false = neither_kind _ _ no in
-    let free : has_length settings ≡ false = no_length settings.fixed (holds_records settings.kind) no in
+of_pairs size alone name settings pairs fit none =
+    let queue : is_queue settings.kind ≡ false = neither_kind _ _ none in
+    let free : has_length settings ≡ false = no_length settings.fixed (holds_records settings.kind) none in
     record {
       most = sum_by pair_length pairs;
       fit = record {
         settings = fit;
-        pairs = subst (λ b. All (IsFitPair b (sum_by pair_length pairs)) (stored_pairs pairs)) (sym no) (fit_stored pairs);
+        pairs = subst (λ b. All (IsFitPair b (sum_by pair_length pairs)) (stored_pairs pairs)) (sym none) (fit_stored pairs);
       };
       errors = rw (queue, no_pair_errors settings pairs free) refl;
     }
@@ -314,9 +312,18 @@ told_kind settings = by_test (shows_length settings)
     by_test true = refl
     by_test false = refl
 
--- the section of a btree, a recno or a hash
+-- the section of a database by what its metadata says
+abbrev section_by : FoundIn → Metadata → Section
+section_by it fields = record {
+  name = it.db.name;
+  settings = told_settings (settings_of it.reading.guess.page_size it.reading.guess.order fields);
+  header_line = 0;
+  pairs = cond (has_records fields) (map loose_pair (records_given it)) (stored_pairs (pairs_given it));
+}
+
+-- that of a btree, a recno or a hash
 tree_good : (size : ℕ) (alone : Bool) (it : FoundIn) (fields : Metadata) → it.db.fields ≡ fields → IsTrue (is_page_size it.reading.guess.page_size)
-    → IsFitMeta fields → IsGoodSection size alone (section_in it)
+    → IsFitMeta fields → IsGoodSection size alone (section_by it fields)
 tree_good size alone it (BtreeFields meta) is legal fit = by_kind (is_recno meta) refl
   where
     page_size : ℕ
@@ -325,21 +332,21 @@ tree_good size alone it (BtreeFields meta) is legal fit = by_kind (is_recno meta
     order : Order
     order = it.reading.guess.order
 
-    by_kind : (recno : Bool) → is_recno meta ≡ recno → IsGoodSection size alone (section_in it)
+    by_kind : (recno : Bool) → is_recno meta ≡ recno → IsGoodSection size alone (section_by it (BtreeFields meta))
     by_kind true recno =
-        rw (is, recno) (of_records size alone it.db.name (told_settings (recno_settings page_size order meta)) (records_given it)
+        rw recno (of_records size alone it.db.name (told_settings (recno_settings page_size order meta)) (records_given it)
         (told_fit (recno_settings page_size order meta) refl (recno_fit page_size order meta legal fit))
         (ap holds_records (told_kind (recno_settings page_size order meta))) (ap is_queue (told_kind (recno_settings page_size order meta)))
         (all_recno page_size order meta (records_given it) (tree_records it.reading it.db meta is)))
     by_kind false recno =
-        rw (is, recno) (of_pairs size alone it.db.name (told_settings (btree_settings page_size order meta)) (pairs_given it)
+        rw recno (of_pairs size alone it.db.name (told_settings (btree_settings page_size order meta)) (pairs_given it)
         (told_fit (btree_settings page_size order meta) refl (btree_fit page_size order meta legal fit))
         (ap holds_records (told_kind (btree_settings page_size order meta))))
 tree_good size alone it (HashFields meta) is legal fit =
     let page_size : ℕ = it.reading.guess.page_size in
     let order : Order = it.reading.guess.order in
-    rw is (of_pairs size alone it.db.name (told_settings (hash_settings page_size order meta)) (pairs_given it)
-    (told_fit (hash_settings page_size order meta) refl (hash_fit page_size order meta legal fit)) (ap holds_records (told_kind (hash_settings page_size order meta))))
+    of_pairs size alone it.db.name (told_settings (hash_settings page_size order meta)) (pairs_given it)
+    (told_fit (hash_settings page_size order meta) refl (hash_fit page_size order meta legal fit)) (ap holds_records (told_kind (hash_settings page_size order meta)))
 tree_good size alone it (QueueFields meta) is legal fit = absurd fit
 
 pub section_good : (size : ℕ) (alone : Bool) (it : FoundIn) → IsTrue (is_page_size it.reading.guess.page_size) → IsFitMeta it.db.fields

@@ -4,7 +4,7 @@ use Rattle.std.proofs.Math.Nat.{div-mul-le_self, mul-le-mul_right}
 use Rattle.std.proofs.Common.{arith, refl, sym, ◌∙◌, ap, subst, inl, inr}
 use Rattle.std.specs.Prelude.{◌==◌, ◌&&◌, ◌||◌, nat_lt, is_none}
 use Rattle.std.specs.List.{All, flat_map, fold}
-use Rattle.std.proofs.lemmas.Bool.{cases_lt}
+use Rattle.std.proofs.lemmas.Bool.{cases_lt, ltb-true}
 use Rattle.std.proofs.lemmas.Bool.Decides.{nat_tests}
 use Rattle.std.proofs.lemmas.List.Elements.{All-append, All-cons, All-drop, All-head, All-nil, All-tail, All-take}
 use Rattle.bdb_model.specs.of_format.declared.kinds.Order.{Order}
@@ -25,8 +25,8 @@ use Rattle.bdb_law_kept.specs.of_text.WrittenLaw.{AreBytes}
 use Rattle.bdb_law_kept.proofs.BytesLemmas.{number_fits}
 use Rattle.bdb_apart.specs.Queues.{bytes_at, is_queue_meta, queue_in, queue_on}
 use Rattle.bdb_rescue.specs.Kept.{Reading, file_in}
-use Rattle.bdb_rescue.specs.of_survey.Salvage.{meta_code, salvaged_file, salvaged_page, unless_code}
-use Rattle.bdb_rescue.proofs.of_survey.StoredPageLemmas.{page_is, page_past}
+use Rattle.bdb_rescue.specs.of_survey.Salvage.{meta_code, salvaged_page, unless_code}
+use Rattle.bdb_rescue.proofs.of_survey.StoredPageLemmas.{count_is, page_is, page_past}
 use Rattle.bdb_rescue.proofs.of_survey.of_overflow.WholeLemmas.{page_length}
 
 -- what is so of the metadata of a btree or a recno on which no row holds
@@ -184,10 +184,13 @@ some_page false found meta is = absurd (cc is)
 
 pub queue_fits : (reading : Reading) (meta : QueueMeta) → AreBytes reading.image → is_page_size reading.guess.page_size ≡ true → queue_in reading ≡ Some meta
     → IsFitQueue reading.guess.page_size meta
-unfolding queue_in salvaged_file
+unfolding queue_in
 queue_fits reading meta bytes legal is =
     let size : ℕ = reading.guess.page_size in
-    let page : nat_lt 0 (length reading.image / size) ≡ true = some_page _ _ meta is in
-    let there : 0 < length reading.image / size = grind (arith, nat_tests, page) in
+    let page : nat_lt 0 (file_in reading).count ≡ true =
+    some_page (nat_lt 0 (file_in reading).count) (queue_on reading.guess.order (bytes_at reading 0)) meta is in
+    let some : 0 < (file_in reading).count = ltb-true 0 (file_in reading).count page in
+    let there : 0 < length reading.image / size = omega (arith, some, count_is reading.guess.order size reading.image) in
     subst (λ n. IsFitQueue n meta) (page_length size reading.image 0 (omega (arith, long_page size legal)) there)
-    (queue_by reading.guess.order (bytes_at reading 0) meta (bytes_of_page size reading.image 0 bytes) (has_some _ _ meta is))
+    (queue_by reading.guess.order (bytes_at reading 0) meta (bytes_of_page size reading.image 0 bytes)
+    (has_some (nat_lt 0 (file_in reading).count) (queue_on reading.guess.order (bytes_at reading 0)) meta is))
