@@ -19,7 +19,7 @@ use std::alloc::{AllocError, Global};
 use std::sync::ledger::Ledger;
 
 // A name of its own.
-fn named(alloc: Global, name: &Datum<'_>) -> Result<Option<Bytes>, AllocError>
+fn own_name(alloc: Global, name: &Datum<'_>) -> Result<Option<Bytes>, AllocError>
     ensures { IfOk result (λ copy. copy ≡ Some (datum_seen name.now)) }
 {
     Ok(Some(name.copy(alloc)?))
@@ -30,7 +30,7 @@ fn name_of(alloc: Global, name: Option<Datum<'_>>) -> Result<Option<Bytes>, Allo
     ensures { IfOk result (λ copy. copy ≡ option_map datum_seen name.entry) }
 {
     match name {
-        Some(name) => named(alloc, &name),
+        Some(name) => own_name(alloc, &name),
         None => Ok(None),
     }
 }
@@ -48,7 +48,7 @@ fn shows_length(settings: &Settings) -> bool
 
 // The settings that it tells.
 fn told_settings(settings: Settings) -> Settings
-    ensures { result ≡ told_settings settings.entry }
+    ensures { result ≡ told_settings settings }
 {
     if shows_length(&settings) {
         return settings;

@@ -159,7 +159,7 @@ impl Copies {
 
     // The pairs.
     fn into_pairs(self) -> TextPairs
-        ensures { result ≡ self.entry }
+        ensures { result ≡ self }
     {
         self.pairs
     }
