@@ -7,18 +7,20 @@ use Rattle.std.proofs.lemmas.List.FromFn.{get_or-enumerate_from, get_or-map-rang
 use Rattle.std.proofs.lemmas.List.Folds.{flat_map-map}
 use Rattle.bdb_rescue.proofs.of_format.ListLemmas.{flat_map_same, map_joined}
 use Rattle.bdb_rescue.proofs.of_format.MemberLemmas.{first_member, later_member, of_range}
-use Rattle.bdb_rescue.specs.of_format.Terms.{BtreeFields, File, HashFields, Item, Metadata, Page, RecnoLeaf, no_item, page_at, value_of}
+use Rattle.bdb_rescue.specs.of_format.declared.metadata.QueueMeta.{QueueMeta}
+use Rattle.bdb_rescue.specs.of_format.Terms.{BtreeFields, File, HashFields, Item, Metadata, Page, QueueFields, RecnoLeaf, entries_in, no_item, page_at, value_of}
 use Rattle.bdb_rescue.specs.of_survey.Items.{is_valued, slot_at, slots_in}
 use Rattle.bdb_rescue.specs.of_survey.Salvage.{is_taken, stored_on, whole_values}
-use Rattle.bdb_rescue.specs.Kept.{kept_value, numbered_at, value_at, values_in, values_on}
+use Rattle.bdb_rescue.specs.Kept.{Reading, file_in, kept_value, numbered_at, value_at, values_in, values_on}
 use Rattle.bdb_rescue.proofs.StoredLemmas.{AreOn, values_are}
 use Rattle.bdb_homes.specs.Homes.{home}
 use Rattle.bdb_homes.specs.declared.home.Home.{Home}
 use Rattle.bdb_apart.specs.Found.{Found, is_alone}
 use Rattle.bdb_apart.specs.Given.{above, fits_record, gives_pairs, holds_pairs, is_pair_page, is_record_page, is_recno_db, meta_at, numbered_entry, numbered_on}
-use Rattle.bdb_apart.specs.Given.{records_on}
-use Rattle.bdb_apart.specs.Kept.{fits_in, holds_of, kind_in, pairs_in}
+use Rattle.bdb_apart.specs.Given.{in_image, pairs_given, records_by, records_given, records_on}
+use Rattle.bdb_apart.specs.Kept.{fits_in, holds_of, kind_in, pairs_in, row_in}
 use Rattle.bdb_apart.specs.Left.{fit_left, fit_on, pairs_on, start_of}
+use Rattle.bdb_apart.specs.Queues.{queue_records}
 use Rattle.bdb_apart.specs.Rows.{is_below, is_some_of, row_from}
 use Rattle.bdb_apart.proofs.KindLemmas.{no_pairs, pairs_kind, takes_none, takes_those}
 
@@ -30,7 +32,7 @@ above_at file p there = get_or-map-range_with_len (above file) 0 file.count p p 
 
 -- Lists of pages.
 
-filter_same : {X : Type 0} (test other : X → Bool) (xs : List X) → ((x : X) → Contains xs x → test x ≡ other x) → filter test xs ≡ filter other xs
+pub filter_same : {X : Type 0} (test other : X → Bool) (xs : List X) → ((x : X) → Contains xs x → test x ≡ other x) → filter test xs ≡ filter other xs
 filter_same test other [] same = refl
 filter_same test other (x ∷ xs) same =
     ap (λ b. cond b (x ∷ filter test xs) (filter test xs)) (same x (first_member x xs))
@@ -140,8 +142,8 @@ values_numbered file p start items on =
     ∙ ap (flat_map (numbered_entry file)) (sym (enumerated (start + 1) items))))
 
 page_numbered : (file : File) (p start : ℕ) (page : Page) → page_at file p ≡ page → is_record_page page ≡ true
-    → map (numbered_at file start) (values_in file p (Rattle.bdb_rescue.specs.of_format.Terms.entries_in page))
-    ≡ flat_map (numbered_entry file) (enumerate_from (start + 1) (Rattle.bdb_rescue.specs.of_format.Terms.entries_in page))
+    → map (numbered_at file start) (values_in file p (entries_in page))
+    ≡ flat_map (numbered_entry file) (enumerate_from (start + 1) (entries_in page))
 page_numbered file p start (RecnoLeaf page) is so = values_numbered file p start page.items (λ j. ap (λ pg. slot_at (slots_in pg) j) is)
 page_numbered file p start page is so = absurd cc
 
@@ -150,9 +152,9 @@ pub numbered_is : (file : File) (p start : ℕ) → is_record_page (page_at file
 unfolding values_on
 numbered_is file p start so = page_numbered file p start (page_at file p) refl so
 
-none_either : {X : Type 0} (b : Bool) → cond b (([] : List X)) ([] : List X) ≡ []
-none_either true = refl
-none_either false = refl
+either : {X : Type 0} (b : Bool) (xs : List X) → cond b xs xs ≡ xs
+either true xs = refl
+either false xs = refl
 
 abbrev from_start : File → ℕ → Bool → Option ℕ → Option (List (ℕ × List ℕ))
 from_start file p taken None = None
@@ -162,7 +164,7 @@ abbrev records_by_start : File → Metadata → ℕ → Option ℕ → List (ℕ
 records_by_start file fields p None = []
 records_by_start file fields p (Some start) = filter (fits_record fields) (numbered_on file p start)
 
-abbrev start_if : Bool → Bool → ℕ → Bool → Option Home → Option ℕ
+abbrev pub start_if : Bool → Bool → ℕ → Bool → Option Home → Option ℕ
 start_if recno leaf m taken None = None
 start_if recno leaf m taken (Some home) = cond (recno && leaf && home.meta == m && not taken) (Some home.start) None
 
@@ -172,9 +174,9 @@ page_by : (file : File) (fields : Metadata) (m p : ℕ) (h : Option Home) (alone
     → cond (is_some_of m (cond (alone && pairs) (Some 0) (meta_at h)))
     (filter (fits_in (holds_of fields)) (fit_left (from_start file p taken (cond leaf (start_of h) None)))) []
     ≡ records_by_start file fields p (start_if (is_recno_db fields) leaf m taken h)
-page_by file fields m p None alone pairs false taken apart same = none_either (is_some_of m (cond (alone && pairs) (Some 0) None))
+page_by file fields m p None alone pairs false taken apart same = either (is_some_of m (cond (alone && pairs) (Some 0) None)) []
 page_by file fields m p (Some home) alone pairs false taken apart same =
-    none_either (is_some_of m (cond (alone && pairs) (Some 0) (Some home.meta))) ∙ by_recno (is_recno_db fields)
+    either (is_some_of m (cond (alone && pairs) (Some 0) (Some home.meta))) [] ∙ by_recno (is_recno_db fields)
   where
     by_recno : (recno : Bool) → [] ≡ records_by_start file fields p (cond (recno && false && home.meta == m && not taken) (Some home.start) None)
     by_recno true = refl
@@ -221,3 +223,26 @@ records_row file db =
     (λ p inside. sym (page_row file db p))
     ∙ (sym (by_one (fit_on file (holds_of db.fields)) (λ p. is_some_of db.meta (above file p)) (range_with_len 0 file.count))
     ∙ ap (flat_map (fit_on file (holds_of db.fields))) (row_by file db.meta))
+
+-- a database that is no queue has its records on leaves
+pub given_on_leaves : (reading : Reading) (db : Found) → ((meta : QueueMeta) → db.fields ≡ QueueFields meta → ⊥)
+    → flat_map (fit_on (file_in reading) (holds_of db.fields)) (row_in reading db.meta) ≡ records_given (in_image reading db)
+unfolding records_given
+given_on_leaves reading db no = sym (by_fields db.fields no ∙ records_row (file_in reading) db)
+  where
+    by_fields : (fields : Metadata) → ((meta : QueueMeta) → fields ≡ QueueFields meta → ⊥)
+        → records_by reading db fields ≡ flat_map (records_on (file_in reading) db) (range_with_len 0 (file_in reading).count)
+    by_fields (BtreeFields meta) no = refl
+    by_fields (HashFields meta) no = refl
+    by_fields (QueueFields meta) no = absurd (no meta refl)
+
+-- and a queue has them in slots
+pub given_in_slots : (reading : Reading) (db : Found) (meta : QueueMeta) → db.fields ≡ QueueFields meta
+    → queue_records reading meta ≡ records_given (in_image reading db)
+unfolding records_given
+given_in_slots reading db meta is = sym (ap (records_by reading db) is)
+
+pub given_pairs : (reading : Reading) (db : Found) → flat_map (pairs_on (file_in reading) (holds_of db.fields)) (row_in reading db.meta)
+    ≡ pairs_given (in_image reading db)
+unfolding pairs_given
+given_pairs reading db = sym (pairs_row (file_in reading) db)

@@ -1,14 +1,15 @@
 -- What databases hold, by their metadata pages.
-use Rattle.std.proofs.Common.{◌≡◌, ◌⊎◌, ℕ, ◌+◌, ◌<◌, ◌≤◌, Bool, true, false, cond, List, [], ◌∷◌, ◌++◌, map, length, set, get_or, arith, refl, sym, ◌∙◌, ap, subst, inl, inr}
+use Rattle.std.proofs.Common.{◌≡◌, ◌⊎◌, ℕ, ◌+◌, ◌<◌, ◌≤◌, Bool, true, false, cond, List, [], ◌∷◌, ◌++◌, map, length, set, take, get_or, arith, refl, sym, ◌∙◌, ap, subst, inl, inr}
 use Rattle.std.specs.Prelude.{Option, Some, None, ◌==◌, is_none}
 use Rattle.std.specs.List.{find}
 use Rattle.std.specs.Option.{option_map}
 use Rattle.std.proofs.lemmas.Bool.{cases_eq, eq-eqb, ne_eqb}
-use Rattle.std.proofs.lemmas.List.{get_or-set_other, get_or-set_same, length-set}
+use Rattle.std.proofs.lemmas.List.{get_or-set_other, get_or-set_same, length-set, map-append, take_more}
 use Rattle.bdb_apart.specs.Found.{Found}
 use Rattle.bdb_apart.specs.Given.{db_at}
-use Rattle.bdb_apart.specs.Kept.{AreHeld, holds_at, holds_in}
+use Rattle.bdb_apart.specs.Kept.{AreHeld, found_seen, holds_at, holds_in}
 use Rattle.bdb_apart.specs.declared.holds.Holds.{Holds}
+use Rattle.bdb_apart.specs.declared.place.Place.{Place}
 
 -- the first with a metadata page among more databases
 abbrev or_last : Option Found → Bool → Found → Option Found
@@ -35,6 +36,14 @@ other_db m dbs db other =
 
 same_db : (dbs : List Found) (db : Found) → holds_at (dbs ++ db ∷ []) db.meta ≡ option_map holds_in (or_last (db_at dbs (Some db.meta)) true db)
 same_db dbs db = ap (option_map holds_in) (db_more db.meta dbs db ∙ ap (λ b. or_last (db_at dbs (Some db.meta)) b db) (eq-eqb db.meta db.meta refl))
+
+-- one database more
+pub place_more : (places : List Place) (i : ℕ) (place : Place) → i < length places → place ≡ get_or places i place
+    → map found_seen (take i places) ++ found_seen place ∷ [] ≡ map found_seen (take (i + 1) places)
+place_more places i place inside is =
+    sym
+    (ap (map found_seen) (take_more places i place inside ∙ ap (λ p. take i places ++ p ∷ []) (sym is))
+    ∙ map-append found_seen (take i places) (place ∷ []))
 
 -- nothing is held of no databases
 pub none_held : (count : ℕ) (held : List (Option Holds)) → length held ≡ count → ((m : ℕ) → m < count → get_or held m None ≡ None) → AreHeld [] count held

@@ -1,4 +1,5 @@
 mod Below
+pub mod EntryLemmas
 pub mod RowLemmas
 pub mod FoundLemmas
 pub mod NameLemmas
@@ -6,3 +7,5 @@ pub mod KindLemmas
 pub mod GivenLemmas
 pub mod HeldLemmas
 pub mod LeftLemmas
+pub mod KnownLemmas
+pub mod SlotLemmas

@@ -1,12 +1,16 @@
 -- The names that entries give to pages, one entry after the other.
-use Rattle.std.proofs.Common.{◌≡◌, ◌⊎◌, ℕ, ◌+◌, ◌<◌, ◌≤◌, Bool, true, false, cond, List, [], ◌∷◌, ◌++◌, map, length, set, get_or, arith, refl, sym, ◌∙◌, ap, subst, inl, inr}
-use Rattle.std.specs.Prelude.{Option, Some, None, ◌==◌, is_none}
-use Rattle.std.specs.List.{flat_map}
+use Rattle.std.proofs.Common.{◌≡◌, ◌⊎◌, ℕ, zero, suc, ◌+◌, ◌<◌, ◌≤◌, Bool, true, false, cond, List, [], ◌∷◌, ◌++◌, map, length, set, get_or, arith, refl, sym, ◌∙◌, ap, subst, inl, inr}
+use Rattle.std.specs.Prelude.{Option, Some, None, ◌==◌, if◌then◌else◌, is_none, is_some, not}
+use Rattle.std.specs.List.{filter, flat_map, range_with_len}
 use Rattle.std.proofs.lemmas.Bool.{cases_eq, eq-eqb, ne_eqb}
-use Rattle.std.proofs.lemmas.List.{get_or-set_other, get_or-set_same, length-set}
+use Rattle.std.proofs.lemmas.Grind.{flat_map-append}
+use Rattle.std.proofs.lemmas.List.Elements.{filter-append}
+use Rattle.std.proofs.lemmas.List.{append-nil, get_or_default, get_or-set_other, get_or-set_same, length-set}
 use Rattle.bdb_rescue.specs.of_overflow.Datum.{datum_seen}
 use Rattle.bdb_rescue.specs.of_overflow.declared.datum.Datum.{Datum}
-use Rattle.bdb_apart.specs.Found.{entry_of, name_in}
+use Rattle.bdb_rescue.proofs.of_format.ListLemmas.{range_zero_more}
+use Rattle.bdb_rescue.specs.of_format.Terms.{File}
+use Rattle.bdb_apart.specs.Found.{entries_on, entry_of, is_master_leaf, name_in}
 use Rattle.bdb_apart.specs.Names.{AreNames, AreNoted, IsNoting, named_seen, then_name}
 
 abbrev Entries : Type 0
@@ -42,6 +46,11 @@ past_noted names key q past = record {
       sym (ap (λ b. then_name (named_seen (get_or names p None)) (cond b (Some key) None)) (ne_eqb q p (λ same. omega (arith, past, there, same)))
       ∙ then_none (named_seen (get_or names p None)));
 }
+
+-- a page that has a name, as it's read
+pub had_by : (names : List (Option Datum)) (q : ℕ) (found : Option Datum) (none : Bool) → q < length names → is_some (get_or names q found) ≡ not none
+    → none ≡ false → is_none (get_or names q None) ≡ false
+had_by names q found none inside is has = ap not (ap is_some (get_or_default names q None found inside) ∙ (is ∙ ap not has))
 
 -- of one that has a name
 pub had_noted : (names : List (Option Datum)) (key : List ℕ) (q : ℕ) → is_none (get_or names q None) ≡ false → AreNoted names names ((key, q) ∷ [])
@@ -119,7 +128,35 @@ ends f initial now all left none are = record {
       ∙ are.each p there;
 }
 
+-- one page more
+pub page_noted : (file : File) (old now new : List (Option Datum)) (p : ℕ)
+    → AreNoted old now (flat_map (entries_on file) (filter (is_master_leaf file) (range_with_len 0 p)))
+    → AreNoted now new (if is_master_leaf file p then entries_on file p else [])
+    → AreNoted old new (flat_map (entries_on file) (filter (is_master_leaf file) (range_with_len 0 (p + 1))))
+page_noted file old now new p first second =
+    subst (AreNoted old new) (sym more) (then_noted old now new before (if is_master_leaf file p then entries_on file p else []) first second)
+  where
+    before : Entries
+    before = flat_map (entries_on file) (filter (is_master_leaf file) (range_with_len 0 p))
+
+    by_test : (is : Bool) → flat_map (entries_on file) (cond is (p ∷ []) []) ≡ cond is (entries_on file p) []
+    by_test true = append-nil (entries_on file p)
+    by_test false = refl
+
+    more : flat_map (entries_on file) (filter (is_master_leaf file) (range_with_len 0 (p + 1))) ≡ before ++ (if is_master_leaf file p then entries_on file p else [])
+    more =
+        ap (λ ps. flat_map (entries_on file) (filter (is_master_leaf file) ps)) (range_zero_more p)
+        ∙ (ap (flat_map (entries_on file)) (filter-append (is_master_leaf file) (range_with_len 0 p) (p ∷ []))
+        ∙ (flat_map-append (entries_on file) (filter (is_master_leaf file) (range_with_len 0 p)) (cond (is_master_leaf file p) (p ∷ []) [])
+        ∙ ap (λ es. before ++ es) (by_test (is_master_leaf file p))))
+
 -- The names of a file.
+
+pub none_more : (names : List (Option Datum)) (p : ℕ) → get_or (names ++ None ∷ []) p None ≡ get_or names p None
+none_more [] zero = refl
+none_more [] (suc p) = refl
+none_more (name ∷ names) zero = refl
+none_more (name ∷ names) (suc p) = none_more names p
 
 -- no names of no entries
 pub no_names : (count : ℕ) (names : List (Option Datum)) → length names ≡ count → ((p : ℕ) → p < count → get_or names p None ≡ None) → AreNames count names []

@@ -1,9 +1,10 @@
 -- What is kept of the databases that are found, and of the pages of each.
-use Rattle.std.specs.Prelude.{◌≡◌, ◌^◌, ℕ, ◌<◌, nat_lt, ◌==◌, ◌&&◌, ◌||◌, if◌then◌else◌, Bool, true, false, List, length, map, get_or, Option, Some, None}
-use Rattle.std.specs.List.{All, range_with_len}
+use Rattle.std.specs.Prelude.{◌≡◌, ◌^◌, ℕ, ◌<◌, nat_lt, ◌==◌, ◌&&◌, ◌||◌, not, if◌then◌else◌, Bool, true, false, List, drop, length, map, get_or, Option, Some, None}
+use Rattle.std.specs.List.{range_with_len}
 use Rattle.std.specs.Option.{option_map}
 use Rattle.bdb_rescue.specs.of_format.declared.metadata.QueueMeta.{QueueMeta}
 use Rattle.bdb_rescue.specs.of_format.Terms.{BtreeFields, File, Hash, HashFields, Leaf, Metadata, Page, QueueFields, RecnoLeaf, is_fixed, is_recno}
+use Rattle.bdb_rescue.specs.of_format.Terms.{names_databases}
 use Rattle.bdb_rescue.specs.of_image.Metas.{meta_seen}
 use Rattle.bdb_rescue.specs.Kept.{Reading, file_in}
 use Rattle.bdb_apart.specs.Found.{Found, found}
@@ -23,6 +24,13 @@ found_seen place = record { name = place.name; meta = place.meta; fields = meta_
 abbrev pub found_of : Reading → Place → FoundIn
 found_of reading place = in_image reading (found_seen place)
 
+-- metadata on page 0 are those of a master
+abbrev pub names_in : Option Metadata → Bool
+names_in None = false
+names_in (Some (BtreeFields meta)) = names_databases meta
+names_in (Some (HashFields meta)) = false
+names_in (Some (QueueFields meta)) = false
+
 -- what the pages of a database hold
 abbrev pub holds_of : Metadata → Holds
 holds_of (BtreeFields meta) = if is_recno meta then Records (if is_fixed meta then meta.re_len else 0) else Leaves
@@ -31,6 +39,12 @@ holds_of (QueueFields meta) = Slots
 
 abbrev pub holds_in : Found → Holds
 holds_in db = holds_of db.fields
+
+-- metadata on page 0 are those of the only database
+abbrev pub alone_in : Option Metadata → Bool
+alone_in (Some (BtreeFields meta)) = not (names_databases meta)
+alone_in (Some (HashFields meta)) = true
+alone_in fields = false
 
 -- the kind of a page
 abbrev pub kind_in : Page → PageKind
@@ -75,6 +89,10 @@ pub record IsApart (reading : Reading) (pages : File) (aboves : List (Option ℕ
   pub holds : AreHeld (found reading) (file_in reading).count held
   pub places_are : map found_seen places ≡ found reading
 
+-- the databases from one on
+abbrev pub found_from : Reading → ℕ → List FoundIn
+found_from reading at = map (in_image reading) (drop at (found reading))
+
 -- the pages that may belong to the database of a metadata page
 abbrev pub row_in : Reading → ℕ → List ℕ
 row_in reading m = row_from (map (above (file_in reading)) (range_with_len 0 (file_in reading).count)) m 0
@@ -82,6 +100,3 @@ row_in reading m = row_from (map (above (file_in reading)) (range_with_len 0 (fi
 -- the metadata of a queue are those on page 0
 abbrev pub IsKnown : Reading → Found → Type 0
 IsKnown reading db = (meta : QueueMeta) → db.fields ≡ QueueFields meta → queue_in reading ≡ Some meta
-
-abbrev pub AreKnown : Reading → List Place → Type 0
-AreKnown reading places = All (λ place. IsKnown reading (found_seen place)) places

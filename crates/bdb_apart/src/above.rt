@@ -1,12 +1,12 @@
 ghost use Rattle.std.specs.Prelude.{◌≡◌, ◌<◌, IfOk, map};
 ghost use Rattle.std.specs.List.{range_with_len};
-ghost use Rattle.std.specs.Option.{is_some};
+ghost use Rattle.std.specs.Option.{is_some, option_map};
 ghost use Rattle.bdb_rescue.specs.Kept.{file_in};
 ghost use Rattle.bdb_rescue.specs.of_format.Terms.{master_in, page_at};
-ghost use Rattle.bdb_rescue.specs.of_image.Metas.{meta_in, meta_seen};
+ghost use Rattle.bdb_rescue.specs.of_image.Metas.{meta_seen};
 ghost use Rattle.bdb_apart.specs.Found.{is_alone};
 ghost use Rattle.bdb_apart.specs.Given.{above, meta_at};
-ghost use Rattle.std.specs.Option.{option_map};
+ghost use Rattle.bdb_apart.specs.Kept.{alone_in, names_in};
 
 use crate::holds::{is_pair_kind, kind_of};
 use bdb_homes::{Home, Meta, PageHomes};
@@ -14,11 +14,23 @@ use bdb_rescue::Salvaged;
 use std::alloc::{AllocError, Global};
 
 /// Whether metadata on page 0 are those of the only database.
-fn is_alone(meta: &Option<Meta>) -> bool {
+fn is_alone(meta: &Option<Meta>) -> bool
+    ensures { result ≡ alone_in (option_map meta_seen meta.now) }
+{
     match meta {
         Some(Meta::Btree(meta)) => !meta.names_databases(),
         Some(Meta::Hash(_)) => true,
         Some(Meta::Queue(_)) | None => false,
+    }
+}
+
+/// Whether metadata on page 0 are those of a master.
+fn is_master(meta: &Option<Meta>) -> bool
+    ensures { result ≡ names_in (option_map meta_seen meta.now) }
+{
+    match meta {
+        Some(Meta::Btree(meta)) => meta.names_databases(),
+        _ => false,
     }
 }
 
@@ -30,13 +42,11 @@ pub(crate) fn has_one(salvaged: &Salvaged<'_>) -> bool
 }
 
 /// Whether page 0 is the metadata of a master.
+#[tactic(auto, using(crate::proofs::KindLemmas::master_page))]
 pub(crate) fn has_master(salvaged: &Salvaged<'_>) -> bool
     ensures { result ≡ is_some (master_in (page_at (file_in salvaged.now) 0)) }
 {
-    match salvaged.pages().meta(0) {
-        Some(Meta::Btree(meta)) => meta.names_databases(),
-        _ => false,
-    }
+    is_master(&salvaged.pages().meta(0))
 }
 
 /// The metadata page of a home.

@@ -68,6 +68,15 @@ fn note_held(held: &mut [Option<Holds>], place: &Place<'_>)
     }
 }
 
+/// Keeps what databases hold.
+fn note_places(held: &mut [Option<Holds>], places: &[Place<'_>])
+    ensures { (count : ℕ) → AreHeld [] count held.old → AreHeld (map found_seen places.now) count held.new }
+{
+    for place in places {
+        note_held(held, place);
+    }
+}
+
 /// What databases hold, by their metadata pages.
 fn held_of(
     alloc: Global,
@@ -77,9 +86,7 @@ fn held_of(
     ensures { IfOk result (λ held. AreHeld (map found_seen places.now) count held.items) }
 {
     let mut held = vec![in alloc; None; count as usize]?;
-    for place in places {
-        note_held(&mut held, place);
-    }
+    note_places(&mut held, places);
     Ok(held)
 }
 

@@ -63,6 +63,7 @@ impl<'t, 's, 'a> Database<'t, 's, 'a> {
     }
 
     /// Its pairs, by page and slot; none where it has records.
+    #[tactic(auto, using(crate::proofs::GivenLemmas::given_pairs))]
     pub fn pairs(&self) -> Pairs<'t, 's, 'a>
         ensures { result ≡ pairs_given self.now }
     {
@@ -85,19 +86,17 @@ impl<'t, 's, 'a> Database<'t, 's, 'a> {
 #[derive(Drop)]
 pub struct Databases<'t, 's, 'a> {
     apart: &'t Apart<'s, 'a>,
-    left: &'t [Place<'s>],
+    at: usize,
 }
 
 impl<'t, 's, 'a> Model for Databases<'t, 's, 'a> {
-    ghost use Rattle.std.specs.Prelude.{List, map};
+    ghost use Rattle.std.specs.Prelude.{List};
     ghost use Rattle.bdb_apart.specs.Given.{FoundIn};
-    ghost use Rattle.bdb_apart.specs.Kept.{AreKnown, found_of};
+    ghost use Rattle.bdb_apart.specs.Kept.{found_from};
 
     ghost Value = { List FoundIn };
 
-    ghost view = { λ v. map (found_of v.apart.now) v.left.now };
-
-    ghost invariant = { λ v. AreKnown v.apart.now v.left.now };
+    ghost view = { λ v. found_from v.apart.now v.at };
 }
 
 impl<'t, 's, 'a> Databases<'t, 's, 'a> {
@@ -105,10 +104,7 @@ impl<'t, 's, 'a> Databases<'t, 's, 'a> {
     pub(crate) fn over(apart: &'t Apart<'s, 'a>) -> Databases<'t, 's, 'a>
         ensures { result ≡ found_in apart.now }
     {
-        Databases {
-            apart,
-            left: apart.places(),
-        }
+        Databases { apart, at: 0 }
     }
 }
 
@@ -120,12 +116,9 @@ impl<'t, 's, 'a> Iterator for Databases<'t, 's, 'a> {
     ghost remaining = { item_count (λ left. left) };
 
     fn next(&mut self) -> Option<Database<'t, 's, 'a>> {
-        let left = self.left;
-        let (place, rest) = left.split_first()?;
-        self.left = rest;
-        Some(Database {
-            apart: self.apart,
-            place,
-        })
+        let apart = self.apart;
+        let place = apart.places().get(self.at)?;
+        self.at += 1;
+        Some(Database { apart, place })
     }
 }

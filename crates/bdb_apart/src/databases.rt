@@ -173,6 +173,7 @@ fn databases_under<'s>(
 }
 
 /// The databases that are found.
+#[tactic(auto, unfolding(crate::specs::Found::found))]
 pub(crate) fn databases<'s>(
     alloc: Global,
     salvaged: &'s Salvaged<'_>,

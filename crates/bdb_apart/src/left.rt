@@ -107,6 +107,7 @@ fn next_other<'s>(here: &mut Option<Others<'_, 's, '_>>) -> Option<(Datum<'s>, D
 
 impl<'t, 's, 'a> PairsLeft<'t, 's, 'a> {
     /// All of them.
+    #[tactic(auto, using(crate::proofs::LeftLemmas::all_pairs))]
     pub(crate) fn over(apart: &'t Apart<'s, 'a>) -> PairsLeft<'t, 's, 'a>
         ensures { result ≡ pairs_left apart.now }
     {
@@ -125,6 +126,7 @@ impl<'t, 's, 'a> Iterator for PairsLeft<'t, 's, 'a> {
 
     ghost remaining = { item_count (λ left. left) };
 
+    #[tactic(auto, using(crate::proofs::LeftLemmas::pages_more, crate::proofs::LeftLemmas::pages_none))]
     fn next(&mut self) -> Option<(Datum<'s>, Datum<'s>)> {
         'walk: loop {
             match next_other(&mut self.here) {
@@ -235,6 +237,7 @@ fn next_loose<'s>(here: &mut Option<Loose<'s, '_>>) -> Option<Datum<'s>>
 
 impl<'t, 's, 'a> RecordsLeft<'t, 's, 'a> {
     /// All of them.
+    #[tactic(auto, using(crate::proofs::LeftLemmas::all_records))]
     pub(crate) fn over(apart: &'t Apart<'s, 'a>) -> RecordsLeft<'t, 's, 'a>
         ensures { result ≡ records_left apart.now }
     {
@@ -253,6 +256,7 @@ impl<'t, 's, 'a> Iterator for RecordsLeft<'t, 's, 'a> {
 
     ghost remaining = { item_count (λ left. left) };
 
+    #[tactic(auto, using(crate::proofs::LeftLemmas::pages_more, crate::proofs::LeftLemmas::pages_none))]
     fn next(&mut self) -> Option<Datum<'s>> {
         'walk: loop {
             match next_loose(&mut self.here) {

@@ -95,6 +95,7 @@ fn no_names<'s>(alloc: Global, count: u32) -> Result<Vec<Option<Datum<'s>>>, All
 }
 
 /// The name that the first entry gives to each page, by page.
+#[tactic(auto, using(crate::proofs::NameLemmas::are_names), unfolding(crate::specs::Found::entries))]
 pub(crate) fn names_of<'s>(
     alloc: Global,
     salvaged: &'s Salvaged<'_>,

@@ -1,8 +1,8 @@
-ghost use Rattle.std.specs.Prelude.{◌≡◌, ◌<◌, ◌≤◌, ◌+◌, ◌*◌, Some, drop, length};
+ghost use Rattle.std.specs.Prelude.{◌≡◌, ◌<◌, ◌≤◌, ◌+◌, ◌*◌, Some, drop, length, slice_index, slice_range};
 ghost use Rattle.std.specs.Iterator.{YieldsFirstBy, item_count};
 ghost use Rattle.bdb_rescue.specs.Entries.{record_read};
 ghost use Rattle.bdb_rescue.specs.Kept.{file_in};
-ghost use Rattle.bdb_rescue.specs.of_format.Terms.{pad4};
+ghost use Rattle.bdb_rescue.specs.of_format.Terms.{has_bit, pad4, record_number};
 ghost use Rattle.bdb_apart.specs.Left.{fit_left};
 ghost use Rattle.bdb_apart.specs.Queues.{queue_in, queue_records, queue_records_on, queue_slot};
 ghost use Rattle.bdb_apart.specs.Slots.{HasSlots, record_seen};
@@ -10,6 +10,34 @@ ghost use Rattle.bdb_apart.specs.Slots.{HasSlots, record_seen};
 use bdb_homes::{QueueMeta, u32_at};
 use bdb_rescue::{Datum, Salvaged};
 use std::marker::Model;
+
+/// How many bytes a slot has for a record of a length: the one that says what it is, the record, and what pads them.
+fn slot_size(re_len: u32) -> usize
+    ensures size { result ≡ pad4 (re_len + 1) }
+    ensures room { re_len + 1 ≤ result }
+    ensures high { result ≤ re_len + 4 }
+{
+    (re_len as usize + 4) / 4 * 4
+}
+
+/// The number of the record in a slot.
+fn record_number(meta: &QueueMeta, page: u32, slot: u32) -> u64
+    requires { 1 ≤ page }
+    ensures { result ≡ record_number meta.now page slot }
+{
+    u64::from(page - 1) * u64::from(meta.per_page) + u64::from(slot) + 1
+}
+
+/// Whether a slot is valid, and its record: the bytes are those behind the page's header.
+fn slot_of(bytes: &[u8], slot: u32, re_len: u32) -> (bool, &[u8])
+    requires { (slot + 1) * pad4 (re_len + 1) ≤ length bytes.now }
+    ensures valid { result.0 ≡ has_bit (slice_index bytes.now (slot * pad4 (re_len + 1))) 1 }
+    ensures record { result.1.now ≡ slice_range bytes.now (slot * pad4 (re_len + 1) + 1) (slot * pad4 (re_len + 1) + 1 + re_len) }
+{
+    let start = slot as usize * slot_size(re_len);
+    let end = start + 1 + re_len as usize;
+    (bytes[start] & 1 != 0, &bytes[start + 1..end])
+}
 
 /// The record in a slot of a page, if it's live: the bytes are those behind the page's header.
 fn record_in<'a>(
@@ -22,17 +50,12 @@ fn record_in<'a>(
     requires slot { (slot + 1) * pad4 (meta.now.re_len + 1) ≤ length bytes.now }
     ensures { record_seen result ≡ queue_slot meta.now page bytes.now slot }
 {
-    let number = u64::from(page - 1) * u64::from(meta.per_page) + u64::from(slot) + 1;
-    let size = (u64::from(meta.re_len) + 4) / 4 * 4;
-    let at = (u64::from(slot) * size) as usize;
-    if number < u64::from(meta.first)
-        || number >= u64::from(meta.current)
-        || bytes[at] & 0x01 == 0
-    {
-        return None;
+    let number = record_number(meta, page, slot);
+    let (is_valid, record) = slot_of(bytes, slot, meta.re_len);
+    if is_valid && number >= u64::from(meta.first) && number < u64::from(meta.current) {
+        return Some((number as u32, Datum::Inline(record)));
     }
-    let end = at + 1 + meta.re_len as usize;
-    Some((number as u32, Datum::Inline(&bytes[at + 1..end])))
+    None
 }
 
 /// The records of a page of a queue that are left.
@@ -58,6 +81,7 @@ impl<'a> Model for PageSlots<'a> {
 
 impl<'a> PageSlots<'a> {
     /// The next one.
+    #[tactic(auto, using(crate::proofs::SlotLemmas::slots_none, crate::proofs::SlotLemmas::slots_more, crate::proofs::SlotLemmas::slot_room))]
     fn next(&mut self) -> Option<(u32, Datum<'a>)>
         ensures { YieldsFirstBy record_read (λ left. left) self.old result self.new }
     {
@@ -107,6 +131,7 @@ impl<'s, 'a> Model for QueueRecords<'s, 'a> {
 
 impl<'s, 'a> QueueRecords<'s, 'a> {
     /// All of them.
+    #[tactic(auto, unfolding(crate::specs::Queues::queue_records))]
     pub(crate) fn over(salvaged: &'s Salvaged<'a>, meta: QueueMeta) -> QueueRecords<'s, 'a>
         requires { queue_in salvaged.now ≡ Some meta }
         ensures { result ≡ queue_records salvaged.now meta }
@@ -118,6 +143,14 @@ impl<'s, 'a> QueueRecords<'s, 'a> {
             page: 1,
         }
     }
+}
+
+/// The bytes of a page behind its header.
+fn behind_header(page: &[u8]) -> &[u8]
+    requires { 28 ≤ length page.now }
+    ensures { result.now ≡ drop 28 page.now }
+{
+    &page[28..]
 }
 
 /// The records of a page of a queue.
@@ -132,7 +165,7 @@ fn slots_on<'a>(salvaged: &Salvaged<'a>, meta: &QueueMeta, page: u32) -> Option<
         return None;
     }
     Some(PageSlots {
-        bytes: &bytes[28..],
+        bytes: behind_header(bytes),
         meta: *meta,
         page,
         slot: 0,
@@ -156,6 +189,7 @@ impl<'s, 'a> Iterator for QueueRecords<'s, 'a> {
 
     ghost remaining = { item_count (λ left. left) };
 
+    #[tactic(auto, using(crate::proofs::SlotLemmas::queue_none, crate::proofs::SlotLemmas::queue_more, crate::proofs::SlotLemmas::has_slots))]
     fn next(&mut self) -> Option<(u32, Datum<'s>)> {
         'walk: loop {
             match next_here(&mut self.here) {
