@@ -54,8 +54,9 @@ show_help() {
 Each command takes --max-bytes N, the longest input and file. Options stand before the operands; -- ends them.
 `bdbtool COMMAND --help` tells what they say. The input comes by `< FILE`: no command takes its name.
 
-status: 0 done, 1 fault, 2 usage, 3 left out by name, 4 read fault, 5 write fault, 6 too long, 7 out of memory,
-8 fault of a text, 9 not found, 10 no metadata page, 12 not a btree, 13 items overlap
+status: 0 done, 1 fault, 2 usage, 3 not supported, 4 read fault, 5 write fault, 6 too long, 7 out of memory,
+8 fault of a text, 9 not found, 10 no metadata page, 12 not a btree, 13 items overlap,
+14 not one btree, hash or recno
 HELP
     show_more
 }

@@ -17,11 +17,11 @@ use Rattle.bdb_rescue.proofs.of_format.LessLemmas.{eq_self, less_not_back}
 use Rattle.bdb_rescue.proofs.of_format.ListLemmas.{range_more, range_zero_more}
 use Rattle.bdb_rescue.proofs.of_format.MemberLemmas.{first_member, later_member, none_pass, none_passes}
 use Rattle.bdb_rescue.specs.of_format.Terms.{BtreeFields, DupLeaf, File, Free, Hash, HashFields, Internal, Leaf, Meta, Metadata, NoType, Overflow, Page}
-use Rattle.bdb_rescue.specs.of_format.Terms.{Queue, QueueFields, RecnoInternal, RecnoLeaf, Zero, less, page_at}
+use Rattle.bdb_rescue.specs.of_format.Terms.{Queue, QueueFields, RecnoInternal, RecnoLeaf, Zero, page_at}
 use Rattle.bdb_rescue.specs.of_image.Metas.{meta_in}
 use Rattle.bdb_rescue.specs.of_layout.Seen.{OrderingIs}
 use Rattle.bdb_rescue.proofs.of_layout.KeyLemmas.{slice_cmp-is}
-use Rattle.bdb_apart.specs.Found.{Found, found_on, has_name, is_alone, name_in, named_meta, put_found, tree_fields, unnamed_meta, with_found}
+use Rattle.bdb_apart.specs.Found.{Found, found_on, has_name, is_alone, name_in, named_meta, put_found, tree_fields, with_found}
 use Rattle.bdb_apart.specs.Kept.{alone_in, found_seen}
 use Rattle.bdb_apart.specs.Names.{entry_found}
 use Rattle.bdb_apart.specs.declared.place.At.{At}
@@ -49,7 +49,8 @@ put_absent (e ∷ es) k v none = by_order (slice_cmp nat_cmp k e.0) (slice_cmp-i
         → map entry_found (insert_entry (slice_cmp nat_cmp) (e ∷ es) k v) ≡ put_found (map entry_found (e ∷ es)) (entry_found (k, v))
     by_order Before is so rest =
         ap (λ r. map entry_found (match_ordering r ((k, v) ∷ e ∷ es) ((e.0, v) ∷ es) (e ∷ insert_entry (slice_cmp nat_cmp) es k v))) so
-        ∙ sym (ap (λ b. cond b (entry_found (k, v) ∷ entry_found e ∷ map entry_found es) (entry_found e ∷ put_found (map entry_found es) (entry_found (k, v)))) is)
+        ∙ sym
+        (ap (λ b. cond b (entry_found (k, v) ∷ entry_found e ∷ map entry_found es) (entry_found e ∷ put_found (map entry_found es) (entry_found (k, v)))) is)
     by_order Equal is so rest = absurd (true≢false (sym (eq_self k) ∙ (ap (bytes_eq k) is ∙ head)))
     by_order Greater is so rest =
         ap (λ r. map entry_found (match_ordering r ((k, v) ∷ e ∷ es) ((e.0, v) ∷ es) (e ∷ insert_entry (slice_cmp nat_cmp) es k v))) so
@@ -85,7 +86,8 @@ is_put entries k v none =
 -- The databases as a list.
 
 -- one more
-pub put_listed : (places now : List Place) (place : Place) (old left : Entries) (all : List Found) (e : List ℕ × At) → old ≡ e ∷ left → now ≡ places ++ place ∷ []
+pub put_listed : (places now : List Place) (place : Place) (old left : Entries) (all : List Found) (e : List ℕ × At) → old ≡ e ∷ left
+    → now ≡ places ++ place ∷ []
     → found_seen place ≡ entry_found e → map found_seen places ++ map entry_found old ≡ all → map found_seen now ++ map entry_found left ≡ all
 put_listed places now place old left all e more put is parts =
     ap (λ ps. map found_seen ps ++ map entry_found left) put

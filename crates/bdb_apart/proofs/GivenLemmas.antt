@@ -8,20 +8,22 @@ use Rattle.std.proofs.lemmas.List.Folds.{flat_map-map}
 use Rattle.bdb_rescue.proofs.of_format.ListLemmas.{flat_map_same, map_joined}
 use Rattle.bdb_rescue.proofs.of_format.MemberLemmas.{first_member, later_member, of_range}
 use Rattle.bdb_rescue.specs.of_format.declared.metadata.QueueMeta.{QueueMeta}
-use Rattle.bdb_rescue.specs.of_format.Terms.{BtreeFields, File, HashFields, Item, Metadata, Page, QueueFields, RecnoLeaf, entries_in, no_item, page_at, value_of}
+use Rattle.bdb_rescue.specs.of_format.Terms.{BtreeFields, File, HashFields, Item, Metadata, Page, QueueFields, RecnoLeaf, entries_in, no_item, page_at}
+use Rattle.bdb_rescue.specs.of_format.Terms.{value_of}
 use Rattle.bdb_rescue.specs.of_survey.Items.{is_valued, slot_at, slots_in}
-use Rattle.bdb_rescue.specs.of_survey.Salvage.{is_taken, stored_on, whole_values}
-use Rattle.bdb_rescue.specs.Kept.{Reading, file_in, kept_value, numbered_at, value_at, values_in, values_on}
+use Rattle.bdb_rescue.specs.of_survey.Salvage.{is_taken, stored_on}
+use Rattle.bdb_rescue.specs.Kept.{Reading, file_in, kept_value, numbered_at, values_in, values_on}
 use Rattle.bdb_rescue.proofs.StoredLemmas.{AreOn, values_are}
 use Rattle.bdb_homes.specs.Homes.{home}
 use Rattle.bdb_homes.specs.declared.home.Home.{Home}
 use Rattle.bdb_apart.specs.Found.{Found, is_alone}
 use Rattle.bdb_apart.specs.Given.{above, fits_record, gives_pairs, holds_pairs, is_pair_page, is_record_page, is_recno_db, meta_at, numbered_entry, numbered_on}
-use Rattle.bdb_apart.specs.Given.{in_image, pairs_given, records_by, records_given, records_on}
-use Rattle.bdb_apart.specs.Kept.{fits_in, holds_of, kind_in, pairs_in, row_in}
-use Rattle.bdb_apart.specs.Left.{fit_left, fit_on, pairs_on, start_of}
+use Rattle.bdb_apart.specs.Given.{in_image, pairs_given, records_by, records_from, records_given, records_on, start_at, start_in}
+use Rattle.bdb_apart.specs.Kept.{fits_in, holds_of, row_in}
+use Rattle.bdb_apart.specs.Left.{fit_left, fit_on, numbered_from, pairs_on, start_of, start_on}
 use Rattle.bdb_apart.specs.Queues.{queue_records}
 use Rattle.bdb_apart.specs.Rows.{is_below, is_some_of, row_from}
+use Rattle.bdb_apart.specs.declared.holds.Holds.{Holds}
 use Rattle.bdb_apart.proofs.KindLemmas.{no_pairs, pairs_kind, takes_none, takes_those}
 
 abbrev pub aboves : File → List (Option ℕ)
@@ -148,7 +150,8 @@ page_numbered file p start (RecnoLeaf page) is so = values_numbered file p start
 page_numbered file p start page is so = absurd cc
 
 -- the values that are kept of a leaf of records are its records
-pub numbered_is : (file : File) (p start : ℕ) → is_record_page (page_at file p) ≡ true → map (numbered_at file start) (values_on file p) ≡ numbered_on file p start
+pub numbered_is : (file : File) (p start : ℕ) → is_record_page (page_at file p) ≡ true
+    → map (numbered_at file start) (values_on file p) ≡ numbered_on file p start
 unfolding values_on
 numbered_is file p start so = page_numbered file p start (page_at file p) refl so
 
@@ -193,7 +196,8 @@ page_by file fields m p (Some home) alone pairs true taken apart same =
     records : List (ℕ × List ℕ)
     records = map (numbered_at file home.start) (cond taken [] (values_on file p))
 
-    by_alone : (alone pairs : Bool) → pairs ≡ false → cond (is_some_of m (cond (alone && pairs) (Some 0) (Some home.meta))) (filter (fits_in (holds_of fields)) records) []
+    by_alone : (alone pairs : Bool) → pairs ≡ false
+        → cond (is_some_of m (cond (alone && pairs) (Some 0) (Some home.meta))) (filter (fits_in (holds_of fields)) records) []
         ≡ cond (home.meta == m) (filter (fits_in (holds_of fields)) records) []
     by_alone true true is = absurd cc
     by_alone true false is = refl
@@ -211,10 +215,28 @@ page_by file fields m p (Some home) alone pairs true taken apart same =
         ap (filter (fits_in (holds_of fields))) (same refl home.start)
         ∙ filter_same (fits_in (holds_of fields)) (fits_record fields) (numbered_on file p home.start) (λ placed inside. takes_those fields placed is)
 
+-- the same by the definitions
+pub start_is : (file : File) (db : Found) (p : ℕ) (h : Option Home)
+    → start_if (is_recno_db db.fields) (is_record_page (page_at file p)) db.meta (is_taken file p) h ≡ start_at file db p h
+start_is file db p None = refl
+start_is file db p (Some home) = refl
+
+records_are : (file : File) (db : Found) (p : ℕ) (start : Option ℕ) → records_by_start file db.fields p start ≡ records_from file db p start
+records_are file db p None = refl
+records_are file db p (Some start) = refl
+
+numbered_are : (file : File) (p : ℕ) (start : Option ℕ) → numbered_from file p start ≡ from_start file p (is_taken file p) start
+numbered_are file p None = refl
+numbered_are file p (Some start) = refl
+
 page_row : (file : File) (db : Found) (p : ℕ) → cond (is_some_of db.meta (above file p)) (fit_on file (holds_of db.fields) p) [] ≡ records_on file db p
 page_row file db p =
-    page_by file db.fields db.meta p (home file p) (is_alone (page_at file 0)) (is_pair_page (page_at file p)) (is_record_page (page_at file p)) (is_taken file p)
+    ap (λ records. cond (is_some_of db.meta (above file p)) (filter (fits_in (holds_of db.fields)) (fit_left records)) [])
+    (numbered_are file p (start_on file p))
+    ∙ (page_by file db.fields db.meta p (home file p) (is_alone (page_at file 0)) (is_pair_page (page_at file p))
+    (is_record_page (page_at file p)) (is_taken file p)
     (no_pairs (page_at file p)) (λ leaf start. numbered_is file p start leaf)
+    ∙ (ap (records_by_start file db.fields p) (start_is file db p (home file p)) ∙ records_are file db p (start_in file db p)))
 
 pub records_row : (file : File) (db : Found) → flat_map (records_on file db) (range_with_len 0 file.count)
     ≡ flat_map (fit_on file (holds_of db.fields)) (row_from (aboves file) db.meta 0)
@@ -225,24 +247,32 @@ records_row file db =
     ∙ ap (flat_map (fit_on file (holds_of db.fields))) (row_by file db.meta))
 
 -- a database that is no queue has its records on leaves
-pub given_on_leaves : (reading : Reading) (db : Found) → ((meta : QueueMeta) → db.fields ≡ QueueFields meta → ⊥)
-    → flat_map (fit_on (file_in reading) (holds_of db.fields)) (row_in reading db.meta) ≡ records_given (in_image reading db)
+pub given_on_leaves : (reading other : Reading) (db : Found) (holds : Holds) (pages : List ℕ) → ((meta : QueueMeta) → db.fields ≡ QueueFields meta → ⊥)
+    → other ≡ reading → holds ≡ holds_of db.fields → pages ≡ row_in reading db.meta
+    → flat_map (fit_on (file_in other) holds) pages ≡ records_given (in_image reading db)
 unfolding records_given
-given_on_leaves reading db no = sym (by_fields db.fields no ∙ records_row (file_in reading) db)
+given_on_leaves reading other db holds pages none same held row =
+    ap (λ r. flat_map (fit_on (file_in r) holds) pages) same
+    ∙ (ap (λ h. flat_map (fit_on (file_in reading) h) pages) held
+    ∙ (ap (flat_map (fit_on (file_in reading) (holds_of db.fields))) row ∙ sym (by_fields db.fields none ∙ records_row (file_in reading) db)))
   where
     by_fields : (fields : Metadata) → ((meta : QueueMeta) → fields ≡ QueueFields meta → ⊥)
         → records_by reading db fields ≡ flat_map (records_on (file_in reading) db) (range_with_len 0 (file_in reading).count)
-    by_fields (BtreeFields meta) no = refl
-    by_fields (HashFields meta) no = refl
-    by_fields (QueueFields meta) no = absurd (no meta refl)
+    by_fields (BtreeFields meta) none = refl
+    by_fields (HashFields meta) none = refl
+    by_fields (QueueFields meta) none = absurd (none meta refl)
 
 -- and a queue has them in slots
-pub given_in_slots : (reading : Reading) (db : Found) (meta : QueueMeta) → db.fields ≡ QueueFields meta
-    → queue_records reading meta ≡ records_given (in_image reading db)
+pub given_in_slots : (reading other : Reading) (db : Found) (meta : QueueMeta) → db.fields ≡ QueueFields meta → other ≡ reading
+    → queue_records other meta ≡ records_given (in_image reading db)
 unfolding records_given
-given_in_slots reading db meta is = sym (ap (records_by reading db) is)
+given_in_slots reading other db meta is same = ap (λ r. queue_records r meta) same ∙ sym (ap (records_by reading db) is)
 
-pub given_pairs : (reading : Reading) (db : Found) → flat_map (pairs_on (file_in reading) (holds_of db.fields)) (row_in reading db.meta)
-    ≡ pairs_given (in_image reading db)
+pub given_pairs : (reading other : Reading) (db : Found) (holds : Holds) (pages : List ℕ)
+    → other ≡ reading → holds ≡ holds_of db.fields → pages ≡ row_in reading db.meta
+    → flat_map (pairs_on (file_in other) holds) pages ≡ pairs_given (in_image reading db)
 unfolding pairs_given
-given_pairs reading db = sym (pairs_row (file_in reading) db)
+given_pairs reading other db holds pages same held row =
+    ap (λ r. flat_map (pairs_on (file_in r) holds) pages) same
+    ∙ (ap (λ h. flat_map (pairs_on (file_in reading) h) pages) held
+    ∙ (ap (flat_map (pairs_on (file_in reading) (holds_of db.fields))) row ∙ sym (pairs_row (file_in reading) db)))

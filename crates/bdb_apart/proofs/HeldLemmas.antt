@@ -1,13 +1,17 @@
 -- What databases hold, by their metadata pages.
-use Rattle.std.proofs.Common.{◌≡◌, ◌⊎◌, ℕ, ◌+◌, ◌<◌, ◌≤◌, Bool, true, false, cond, List, [], ◌∷◌, ◌++◌, map, length, set, take, get_or, arith, refl, sym, ◌∙◌, ap, subst, inl, inr}
+use Rattle.std.proofs.Common.{◌≡◌, ℕ, ◌+◌, ◌<◌, ◌≤◌, Bool, true, false, cond, List, [], ◌∷◌, ◌++◌, map, length, set, take, get_or, arith, refl, sym, ◌∙◌}
+use Rattle.std.proofs.Common.{ap, subst, inl, inr}
 use Rattle.std.specs.Prelude.{Option, Some, None, ◌==◌, is_none}
 use Rattle.std.specs.List.{find}
 use Rattle.std.specs.Option.{option_map}
 use Rattle.std.proofs.lemmas.Bool.{cases_eq, eq-eqb, ne_eqb}
 use Rattle.std.proofs.lemmas.List.{get_or-set_other, get_or-set_same, length-set, map-append, take_more}
+use Rattle.std.proofs.lemmas.Option.{none-some, same_Some}
+use Rattle.bdb_rescue.specs.of_format.Terms.{Page}
+use Rattle.bdb_apart.proofs.KindLemmas.{pairs_kind}
 use Rattle.bdb_apart.specs.Found.{Found}
-use Rattle.bdb_apart.specs.Given.{db_at}
-use Rattle.bdb_apart.specs.Kept.{AreHeld, found_seen, holds_at, holds_in}
+use Rattle.bdb_apart.specs.Given.{db_at, gives_on}
+use Rattle.bdb_apart.specs.Kept.{AreHeld, found_seen, holds_at, holds_in, kind_in, pairs_in}
 use Rattle.bdb_apart.specs.declared.holds.Holds.{Holds}
 use Rattle.bdb_apart.specs.declared.place.Place.{Place}
 
@@ -36,6 +40,18 @@ other_db m dbs db other =
 
 same_db : (dbs : List Found) (db : Found) → holds_at (dbs ++ db ∷ []) db.meta ≡ option_map holds_in (or_last (db_at dbs (Some db.meta)) true db)
 same_db dbs db = ap (option_map holds_in) (db_more db.meta dbs db ∙ ap (λ b. or_last (db_at dbs (Some db.meta)) b db) (eq-eqb db.meta db.meta refl))
+
+-- What is given of a page.
+
+pub given_some : (page : Page) (db : Option Found) (holds : Holds) → option_map holds_in db ≡ Some holds → pairs_in holds (kind_in page) ≡ gives_on page db
+given_some page None holds is = absurd (none-some holds is)
+given_some page (Some db) holds is = sym (ap (λ h. pairs_in h (kind_in page)) (same_Some (holds_in db) holds is)) ∙ pairs_kind db.fields page
+
+pub given_none : (page : Page) (db : Option Found) → option_map holds_in db ≡ None → false ≡ gives_on page db
+given_none page None is = refl
+given_none page (Some db) is = absurd (none-some (holds_in db) (sym is))
+
+-- What is held.
 
 -- one database more
 pub place_more : (places : List Place) (i : ℕ) (place : Place) → i < length places → place ≡ get_or places i place

@@ -1,15 +1,17 @@
 -- Kinds of pages and of databases, as they are kept.
-use Rattle.std.proofs.Common.{◌≡◌, ◌^◌, ℕ, ◌<◌, Bool, true, false, cond, List, length, refl, ap, sym, ◌∙◌}
+use Rattle.std.proofs.Common.{◌≡◌, ◌^◌, ℕ, Bool, true, false, cond, List, length, refl, ap, sym, ◌∙◌}
 use Rattle.std.specs.Option.{is_some}
 use Rattle.std.specs.Prelude.{not, nat_lt, ◌==◌, ◌&&◌, ◌||◌, Some, None}
 use Rattle.bdb_rescue.specs.of_format.declared.metadata.BtreeMeta.{BtreeMeta}
 use Rattle.bdb_rescue.specs.of_format.Terms.{BtreeFields, Hash, HashFields, Leaf, Meta, Metadata, Page, QueueFields, RecnoLeaf, is_fixed, is_recno, master_in}
 use Rattle.bdb_rescue.specs.of_format.Terms.{names_databases}
-use Rattle.bdb_rescue.specs.of_image.Metas.{meta_in}
+use Rattle.bdb_rescue.specs.of_format.declared.metadata.QueueMeta.{QueueMeta}
+use Rattle.bdb_rescue.specs.of_image.Metas.{meta_in, meta_seen}
+use Rattle.bdb_rescue.specs.of_image.declared.meta.Meta.{Meta as MetaFields}
+use Rattle.bdb_rescue.specs.of_image.declared.meta.Meta.TheVariants.{Btree as BtreeKind, Hash as HashKind, Queue as QueueKind}
 use Rattle.bdb_apart.specs.Found.{is_leaf}
 use Rattle.bdb_apart.specs.Given.{fits_record, holds_pairs, is_pair_page, is_record_page, is_recno_db}
 use Rattle.bdb_apart.specs.Kept.{fits_in, holds_of, is_leaf_kind, is_pair_kind, kind_in, names_in, pairs_in}
-use Rattle.bdb_apart.specs.declared.holds.Holds.{Holds}
 use Rattle.bdb_apart.specs.declared.holds.Holds.TheVariants.{Leaves, Records}
 use Rattle.bdb_apart.specs.declared.holds.PageKind.{PageKind}
 use Rattle.bdb_apart.specs.declared.holds.PageKind.TheVariants.{Records as RecordsKind}
@@ -82,3 +84,9 @@ takes_those (BtreeFields meta) placed is =
     ∙ by_length (is_fixed meta) (nat_lt placed.0 (2 ^ 32)) meta.re_len (length placed.1)
 takes_those (HashFields meta) placed is = absurd cc
 takes_those (QueueFields meta) placed is = absurd cc
+
+-- metadata that are those of a queue
+pub queue_seen : (fields : MetaFields) (meta : QueueMeta) → meta_seen fields ≡ QueueFields meta → fields ≡ QueueKind meta
+queue_seen (BtreeKind tree) meta is = absurd cc
+queue_seen (HashKind table) meta is = absurd cc
+queue_seen (QueueKind queue) meta is = cc

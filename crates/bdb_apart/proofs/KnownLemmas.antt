@@ -1,17 +1,19 @@
 -- The databases that are found beside each other are no queues.
-use Rattle.std.proofs.Common.{◌≡◌, ◌⊎◌, ℕ, Bool, true, false, cond, List, [], ◌∷◌, ◌++◌, map, refl, sym, ◌∙◌, ap, subst, inl, inr}
-use Rattle.std.specs.Prelude.{Option, Some, None}
-use Rattle.std.specs.List.{Contains, flat_map, fold, list_any}
+use Rattle.std.proofs.Common.{◌≡◌, ◌⊎◌, ℕ, zero, suc, ◌+◌, ◌<◌, Bool, true, false, cond, List, [], ◌∷◌, ◌++◌, map, length, drop, refl, sym, ◌∙◌, ap, subst}
+use Rattle.std.proofs.Common.{inl, inr, arith, add-one}
+use Rattle.std.specs.Prelude.{Option, Some, None, codes, decimal, slice_index_or}
+use Rattle.std.specs.List.{Contains, fold, list_any}
 use Rattle.std.specs.Option.{is_some, option_to_list}
 use Rattle.std.proofs.lemmas.List.Elements.{Contains-append_cases}
-use Rattle.bdb_rescue.proofs.of_format.ListLemmas.{all_of, only_member}
+use Rattle.bdb_rescue.proofs.of_format.ListLemmas.{only_member}
 use Rattle.bdb_rescue.proofs.of_format.MemberLemmas.{first_member, in_map, later_member, member_cases, no_member, of_flat_map, of_map}
 use Rattle.bdb_rescue.specs.of_format.declared.metadata.QueueMeta.{QueueMeta}
 use Rattle.bdb_rescue.specs.of_format.Terms.{BtreeFields, File, HashFields, Meta, Metadata, Page, QueueFields, less, page_at}
 use Rattle.bdb_rescue.specs.Kept.{Reading, file_in}
 use Rattle.bdb_apart.specs.Found.{Found, entries, found, found_beside, found_on, found_under, has_name, is_alone, name_in, name_of, named_above, named_meta}
 use Rattle.bdb_apart.specs.Found.{only_found, pages_above, put_found, tree_fields, unnamed_above, unnamed_meta, with_found}
-use Rattle.bdb_apart.specs.Kept.{AreKnown, IsKnown, found_seen}
+use Rattle.bdb_apart.specs.Given.{in_image}
+use Rattle.bdb_apart.specs.Kept.{IsKnown, found_from, found_of, found_seen}
 use Rattle.bdb_apart.specs.Queues.{queue_in}
 use Rattle.bdb_apart.specs.declared.place.Place.{Place}
 
@@ -41,16 +43,17 @@ of_unnamed file db at =
     let page = of_flat_map (unnamed_meta file (entries file)) (pages_above file) db at in
     by_name page.0 (is_some (name_in page.0 (entries file))) page.2
   where
-    by_name : (p : ℕ) (b : Bool) → Contains (cond b [] (found_on file (Rattle.std.specs.Prelude.codes "page " ++ Rattle.std.specs.Prelude.decimal p) p)) db → IsTree db.fields
+    by_name : (p : ℕ) (b : Bool) → Contains (cond b [] (found_on file (codes "page " ++ decimal p) p)) db → IsTree db.fields
     by_name p true none = absurd (no_member [] db refl none)
-    by_name p false there = on_page file (Rattle.std.specs.Prelude.codes "page " ++ Rattle.std.specs.Prelude.decimal p) p db there
+    by_name p false there = on_page file (codes "page " ++ decimal p) p db there
 
 -- one of the databases that are put
 of_put : (dbs : List Found) (db x : Found) → Contains (put_found dbs db) x → (db ≡ x) ⊎ Contains dbs x
 of_put [] db x at = inl (only_member db x at)
 of_put (other ∷ others) db x at = by_order (less (name_of db) (name_of other)) at (of_put others db x)
   where
-    by_order : (b : Bool) → Contains (cond b (db ∷ other ∷ others) (other ∷ put_found others db)) x → (Contains (put_found others db) x → (db ≡ x) ⊎ Contains others x)
+    by_order : (b : Bool) → Contains (cond b (db ∷ other ∷ others) (other ∷ put_found others db)) x → (Contains (put_found others db) x
+        → (db ≡ x) ⊎ Contains others x)
         → (db ≡ x) ⊎ Contains (other ∷ others) x
     by_order true here rest = member_cases db (other ∷ others) x here
     by_order false here rest = elim (member_cases other (put_found others db) x here) [
@@ -81,7 +84,8 @@ of_fold dbs (db ∷ more) x at = elim (of_fold (with_found dbs db) more x at) [
 of_under : (file : File) (page : Page) (db : Found) → Contains (found_under file page) db → IsTree db.fields
 of_under file page db at = by_one (is_alone page) at
   where
-    by_one : (b : Bool) → Contains (cond b (map only_found (tree_fields page)) (fold with_found [] (named_above file ++ unnamed_above file))) db → IsTree db.fields
+    by_one : (b : Bool) → Contains (cond b (map only_found (tree_fields page)) (fold with_found [] (named_above file ++ unnamed_above file))) db
+        → IsTree db.fields
     by_one true here =
         let of = of_map only_found (tree_fields page) db here in
         subst IsTree (ap (λ (db : Found). db.fields) of.2) (tree_page page of.0 of.1)
@@ -104,7 +108,21 @@ known reading db at meta is = by_queue (queue_in reading) at
         let fields : QueueFields queue ≡ QueueFields meta = ap (λ (db : Found). db.fields) only ∙ is in
         cc
 
-pub are_known : (reading : Reading) (places : List Place) → map found_seen places ≡ found reading → AreKnown reading places
-are_known reading places same =
-    all_of (λ place. IsKnown reading (found_seen place)) places
-    (λ place at. known reading (found_seen place) (subst (λ dbs. Contains dbs (found_seen place)) same (in_map found_seen places place at)))
+-- the database at a place is one that is found
+pub known_at : (reading : Reading) (places : List Place) (at : ℕ) (place : Place) → map found_seen places ≡ found reading → at < length places
+    → place ≡ slice_index_or places at place → IsKnown reading (found_seen place)
+known_at reading places at place same there is =
+    known reading (found_seen place) (subst (λ dbs. Contains dbs (found_seen place)) same (in_map found_seen places place (at, there, sym is)))
+
+pub next_found : (reading : Reading) (places : List Place) (at : ℕ) (place : Place) → map found_seen places ≡ found reading → at < length places
+    → place ≡ slice_index_or places at place → found_from reading at ≡ found_of reading place ∷ found_from reading (at + 1)
+next_found reading places at place same there is =
+    rw add-one
+    (subst (λ dbs. map (in_image reading) (drop at dbs) ≡ found_of reading place ∷ map (in_image reading) (drop (suc at) dbs))
+    same (from_place places at there is))
+  where
+    from_place : (places : List Place) (at : ℕ) → at < length places → place ≡ slice_index_or places at place
+        → map (in_image reading) (drop at (map found_seen places)) ≡ found_of reading place ∷ map (in_image reading) (drop (suc at) (map found_seen places))
+    from_place [] at there is = absurd (omega (arith, there))
+    from_place (other ∷ others) zero there is = ap (λ p. found_of reading p ∷ map (in_image reading) (map found_seen others)) (sym is)
+    from_place (other ∷ others) (suc at) there is = from_place others at (omega (arith, there)) is

@@ -1,5 +1,5 @@
 -- What is left of the walks over what is given, and of what is left.
-use Rattle.std.proofs.Common.{◌≡◌, ℕ, suc, ◌+◌, ◌-◌, ◌<◌, ◌≤◌, Bool, true, false, cond, List, [], ◌∷◌, ◌++◌, map, length, arith, refl, sym, ◌∙◌, ap, subst}
+use Rattle.std.proofs.Common.{◌≡◌, ℕ, suc, ◌+◌, ◌-◌, ◌<◌, ◌≤◌, Bool, true, false, cond, List, [], ◌∷◌, ◌++◌, map, arith, refl, sym, ◌∙◌, ap, subst}
 use Rattle.std.specs.Prelude.{Option, Some, None, not, ◌&&◌, ◌==◌}
 use Rattle.std.specs.List.{All, filter, find, flat_map, range_with_len}
 use Rattle.std.specs.Option.{option_map}
@@ -14,11 +14,11 @@ use Rattle.bdb_homes.specs.Homes.{home}
 use Rattle.bdb_homes.specs.declared.home.Home.{Home}
 use Rattle.bdb_apart.specs.Found.{Found, found}
 use Rattle.bdb_apart.specs.Given.{db_at, fits_record, is_record_page, is_recno_db, meta_at, numbered_on, pairs_left, pairs_left_on, records_left}
-use Rattle.bdb_apart.specs.Given.{records_left_on, records_without}
+use Rattle.bdb_apart.specs.Given.{records_beside, records_left_on, records_without}
 use Rattle.bdb_apart.specs.Kept.{fits_in, holds_in, holds_of}
 use Rattle.bdb_apart.specs.Left.{IsThere, is_fit, loose_from, loose_in, pages_from, pairs_from, start_by, start_held, start_of}
 use Rattle.bdb_apart.specs.declared.holds.Holds.{Holds}
-use Rattle.bdb_apart.proofs.GivenLemmas.{filter_same, numbered_is, start_if}
+use Rattle.bdb_apart.proofs.GivenLemmas.{filter_same, numbered_is, start_if, start_is}
 use Rattle.bdb_apart.proofs.KindLemmas.{takes_none, takes_those}
 
 -- the first page of some that are left, and the others
@@ -98,7 +98,7 @@ loose_by : (file : File) (p : ℕ) (db : Option Found) (h : Option Home) (leaf t
     → told_loose file p taken (start_held (option_map holds_in db) (cond leaf (start_of h) None)) ≡ cond taken [] (beside file p db leaf taken h)
 loose_by file p db h leaf true none same numbered = taken_none file p (start_held (option_map holds_in db) (cond leaf (start_of h) None))
 loose_by file p None h leaf false none same numbered = all_loose file p 0 None (λ placed. refl)
-loose_by file p (Some db) None leaf false none same numbered = let no : Some db ≡ None = none refl in absurd cc
+loose_by file p (Some db) None leaf false none same numbered = let gone : Some db ≡ None = none refl in absurd cc
 loose_by file p (Some db) (Some home) false false none same numbered =
     all_loose file p 0 None (λ placed. refl) ∙ by_recno (is_recno_db db.fields)
   where
@@ -110,7 +110,7 @@ loose_by file p (Some db) (Some home) true false none same numbered = by_recno (
     by_recno : (recno at : Bool) → is_recno_db db.fields ≡ recno → at ≡ true
         → loose_in (Some (holds_of db.fields)) (map (numbered_at file home.start) (values_on file p))
         ≡ records_without file db p (cond (recno && true && at && true) (Some home.start) None)
-    by_recno recno false is no = absurd cc
+    by_recno recno false is so = absurd cc
     by_recno true true is so =
         ap (loose_in (Some (holds_of db.fields))) (numbered refl home.start)
         ∙ ap (map value_of_placed)
@@ -121,11 +121,19 @@ loose_by file p (Some db) (Some home) true false none same numbered = by_recno (
 -- the first with a metadata page has that page
 at_page : (dbs : List Found) (m : ℕ) (db : Found) → find (λ (db : Found). db.meta == m) dbs ≡ Some db → (db.meta == m) ≡ true
 at_page [] m db is = absurd cc
-at_page (other ∷ others) m db is = by_test (other.meta == m) refl is
+at_page (other ∷ others) m db is = by_test (other.meta == m) refl is (at_page others m db)
   where
-    by_test : (b : Bool) → (other.meta == m) ≡ b → cond b (Some other) (find (λ (db : Found). db.meta == m) others) ≡ Some db → (db.meta == m) ≡ true
-    by_test true at first = let same : other ≡ db = cc in ap (λ (db : Found). db.meta == m) (sym same) ∙ at
-    by_test false at later = at_page others m db later
+    by_test : (b : Bool) → (other.meta == m) ≡ b → cond b (Some other) (find (λ (db : Found). db.meta == m) others) ≡ Some db
+        → (find (λ (db : Found). db.meta == m) others ≡ Some db → (db.meta == m) ≡ true)
+        → (db.meta == m) ≡ true
+    by_test true at first rest = let same : other ≡ db = cc in ap (λ (db : Found). db.meta == m) (sym same) ∙ at
+    by_test false at later rest = rest later
+
+-- the same by the definitions
+beside_is : (file : File) (p : ℕ) (db : Option Found)
+    → beside file p db (is_record_page (page_at file p)) (is_taken file p) (home file p) ≡ records_beside file p db
+beside_is file p None = refl
+beside_is file p (Some db) = ap (records_without file db p) (start_is file db p (home file p))
 
 loose_is : (file : File) (dbs : List Found) (p : ℕ) → told_loose file p (is_taken file p) (start_by file dbs p) ≡ records_left_on file dbs p
 loose_is file dbs p =
@@ -133,6 +141,7 @@ loose_is file dbs p =
     (λ none. ap (λ h. db_at dbs (meta_at h)) none)
     (λ db home at is. turned home.meta db.meta (at_page dbs home.meta db (sym (ap (λ h. db_at dbs (meta_at h)) is) ∙ at)))
     (λ leaf start. numbered_is file p start leaf)
+    ∙ ap (cond (is_taken file p) []) (beside_is file p (db_at dbs (meta_at (home file p))))
   where
     turned : (m n : ℕ) → (n == m) ≡ true → (m == n) ≡ true
     turned m n at = eq-eqb m n (sym (eqb-true n m at))

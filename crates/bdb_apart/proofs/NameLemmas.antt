@@ -1,5 +1,6 @@
 -- The names that entries give to pages, one entry after the other.
-use Rattle.std.proofs.Common.{◌≡◌, ◌⊎◌, ℕ, zero, suc, ◌+◌, ◌<◌, ◌≤◌, Bool, true, false, cond, List, [], ◌∷◌, ◌++◌, map, length, set, get_or, arith, refl, sym, ◌∙◌, ap, subst, inl, inr}
+use Rattle.std.proofs.Common.{◌≡◌, ℕ, zero, suc, ◌+◌, ◌<◌, ◌≤◌, Bool, true, false, cond, List, [], ◌∷◌, ◌++◌, length, set, get_or, arith, refl, sym, ◌∙◌}
+use Rattle.std.proofs.Common.{ap, subst, inl, inr}
 use Rattle.std.specs.Prelude.{Option, Some, None, ◌==◌, if◌then◌else◌, is_none, is_some, not}
 use Rattle.std.specs.List.{filter, flat_map, range_with_len}
 use Rattle.std.proofs.lemmas.Bool.{cases_eq, eq-eqb, ne_eqb}
@@ -10,7 +11,7 @@ use Rattle.bdb_rescue.specs.of_overflow.Datum.{datum_seen}
 use Rattle.bdb_rescue.specs.of_overflow.declared.datum.Datum.{Datum}
 use Rattle.bdb_rescue.proofs.of_format.ListLemmas.{range_zero_more}
 use Rattle.bdb_rescue.specs.of_format.Terms.{File}
-use Rattle.bdb_apart.specs.Found.{entries_on, entry_of, is_master_leaf, name_in}
+use Rattle.bdb_apart.specs.Found.{entries_on, is_master_leaf, name_in}
 use Rattle.bdb_apart.specs.Names.{AreNames, AreNoted, IsNoting, named_seen, then_name}
 
 abbrev Entries : Type 0
@@ -143,7 +144,8 @@ page_noted file old now new p first second =
     by_test true = append-nil (entries_on file p)
     by_test false = refl
 
-    more : flat_map (entries_on file) (filter (is_master_leaf file) (range_with_len 0 (p + 1))) ≡ before ++ (if is_master_leaf file p then entries_on file p else [])
+    more : flat_map (entries_on file) (filter (is_master_leaf file) (range_with_len 0 (p + 1)))
+        ≡ before ++ (if is_master_leaf file p then entries_on file p else [])
     more =
         ap (λ ps. flat_map (entries_on file) (filter (is_master_leaf file) ps)) (range_zero_more p)
         ∙ (ap (flat_map (entries_on file)) (filter-append (is_master_leaf file) (range_with_len 0 p) (p ∷ []))

@@ -1,7 +1,7 @@
 -- Rows of pages, put from behind, and gone over.
-use Rattle.std.proofs.Common.{◌≡◌, ◌⊎◌, ℕ, zero, suc, ◌+◌, ◌-◌, ◌<◌, ◌≤◌, Bool, true, false, cond, List, [], ◌∷◌, length, set, get_or, arith, refl, sym, ◌∙◌, ap, subst, inl, inr}
+use Rattle.std.proofs.Common.{◌≡◌, ℕ, zero, suc, ◌+◌, ◌-◌, ◌<◌, ◌≤◌, Bool, true, false, cond, List, ◌∷◌, length, set, get_or, arith, refl, sym, ◌∙◌, ap}
+use Rattle.std.proofs.Common.{subst, inl, inr}
 use Rattle.std.proofs.Common.{Option, Some, None, true≢false}
-use Rattle.std.specs.Prelude.{◌==◌}
 use Rattle.std.specs.List.{All, filter, find, range_with_len}
 use Rattle.std.proofs.lemmas.Bool.{cases_eq, eq-eqb, eqb-true, ne_eqb}
 use Rattle.std.proofs.lemmas.List.{get_or-set_same, get_or-set_other, length-set}
@@ -120,7 +120,8 @@ none_put above first next first_len next_len none = record {
   first_len = first_len;
   next_len = next_len;
   within = omega arith;
-  firsts = λ m low. none m low ∙ sym (ap (λ k. find (is_below above m) (range_with_len (length above) k)) (let past : length above - length above ≡ 0 = omega arith in past));
+  firsts = λ m low. none m low
+      ∙ sym (ap (λ k. find (is_below above m) (range_with_len (length above) k)) (let past : length above - length above ≡ 0 = omega arith in past));
   nexts = λ p m from low is. absurd (omega (arith, from, low));
 }
 

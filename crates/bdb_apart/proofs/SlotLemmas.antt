@@ -1,5 +1,6 @@
 -- The slots of a queue's pages, and what its metadata keeps.
-use Rattle.std.proofs.Common.{◌≡◌, ℕ, zero, suc, ◌+◌, ◌-◌, ◌*◌, ◌<◌, ◌≤◌, Bool, true, false, cond, List, [], ◌∷◌, ◌++◌, length, take, drop, arith, refl, sym, ◌∙◌, ap, subst}
+use Rattle.std.proofs.Common.{◌≡◌, ℕ, zero, suc, ◌+◌, ◌-◌, ◌*◌, ◌<◌, ◌≤◌, Bool, true, false, cond, List, [], ◌∷◌, ◌++◌, length, drop, arith, refl, sym, ◌∙◌}
+use Rattle.std.proofs.Common.{ap, subst}
 use Rattle.std.specs.Prelude.{◌==◌, ◌&&◌, ◌||◌, not, nat_lt, Option, Some, None, is_none}
 use Rattle.std.specs.List.{flat_map, range_with_len}
 use Rattle.std.specs.Option.{is_some}
@@ -10,7 +11,7 @@ use Rattle.bdb_rescue.specs.of_format.declared.kinds.Order.{Order}
 use Rattle.bdb_rescue.specs.of_format.declared.metadata.FileKind.TheVariants.{Queue}
 use Rattle.bdb_rescue.specs.of_format.declared.metadata.QueueMeta.{QueueMeta}
 use Rattle.bdb_rescue.specs.of_format.Terms.{Row, byte_at, field_rows, first_row, four_at, pad4, queue_fields, records_per_page, type_of}
-use Rattle.bdb_rescue.proofs.of_format.VerdictLemmas.{AllFail, none_is_first_row}
+use Rattle.bdb_rescue.proofs.of_format.VerdictLemmas.{none_is_first_row}
 use Rattle.bdb_rescue.specs.Kept.{Reading, file_in}
 use Rattle.bdb_apart.specs.Queues.{bytes_at, is_queue_meta, is_queue_page, queue_from, queue_in, queue_on, queue_records_on, queue_slot, slots_from}
 use Rattle.bdb_apart.specs.Slots.{HasSlots}
@@ -59,7 +60,9 @@ pub on_queue_page : (reading : Reading) (meta : QueueMeta) (p : ℕ) (page recor
     → slots_from meta p records 0 ≡ queue_records_on reading meta p
 on_queue_page reading meta p page records is behind kind number =
     ap (λ rest. slots_from meta p rest 0) behind
-    ∙ (sym (ap (λ b. cond b (slots_from meta p (drop 28 page) 0) []) (both (byte_at page 25 == 11) (four_at reading.guess.order page 8 == p) (eq-eqb (byte_at page 25) 11 kind) (eq-eqb (four_at reading.guess.order page 8) p number)))
+    ∙ (sym (ap (λ b. cond b (slots_from meta p (drop 28 page) 0) [])
+    (both (byte_at page 25 == 11) (four_at reading.guess.order page 8 == p)
+    (eq-eqb (byte_at page 25) 11 kind) (eq-eqb (four_at reading.guess.order page 8) p number)))
     ∙ ap (λ bytes. cond (is_queue_page reading.guess.order p bytes) (slots_from meta p (drop 28 bytes) 0) []) is)
   where
     both : (a b : Bool) → a ≡ true → b ≡ true → (a && b) ≡ true
@@ -79,7 +82,8 @@ none_of_both [] more a b isa isb = by_first (first_row more) ∙ sym (ap (λ c. 
     by_first (Some code) = refl
 none_of_both (row ∷ rows) more a b isa isb = by_row row.holds isa (λ rest. none_of_both rows more a b rest isb)
   where
-    by_row : (holds : Bool) → a ≡ is_some (cond holds (Some row.code) (first_row rows)) → (a ≡ is_some (first_row rows) → is_none (first_row (rows ++ more)) ≡ not (a || b))
+    by_row : (holds : Bool) → a ≡ is_some (cond holds (Some row.code) (first_row rows)) → (a ≡ is_some (first_row rows)
+        → is_none (first_row (rows ++ more)) ≡ not (a || b))
         → is_none (cond holds (Some row.code) (first_row (rows ++ more))) ≡ not (a || b)
     by_row true is rest = sym (ap (λ c. not (c || b)) is)
     by_row false is rest = rest is
@@ -102,8 +106,13 @@ fields_kept : (order : Order) (page : List ℕ) → first_row (field_rows order 
 fields_kept order page none =
     let meta : QueueMeta = queue_fields order page in
     let fail = none_is_first_row (field_rows order page 1 0 Queue) none in
-    let parts = or_parts (records_per_page (length page) meta.re_len == 0) (not (meta.per_page == records_per_page (length page) meta.re_len)) fail.1.1.1.1.1.1.1.0 in
-    record { per_page = eqb-true meta.per_page (records_per_page (length page) meta.re_len) (not-false (meta.per_page == records_per_page (length page) meta.re_len) parts.1); some = parts.0 }
+    let parts = or_parts (records_per_page (length page) meta.re_len == 0) (not (meta.per_page == records_per_page (length page) meta.re_len))
+    fail.1.1.1.1.1.1.1.0 in
+    record {
+      per_page = eqb-true meta.per_page (records_per_page (length page) meta.re_len)
+          (not-false (meta.per_page == records_per_page (length page) meta.re_len) parts.1);
+      some = parts.0;
+    }
 
 kept_slots : (size : ℕ) (meta : QueueMeta) → IsKept size meta → HasSlots size meta
 kept_slots size meta kept =
@@ -117,7 +126,8 @@ kept_slots size meta kept =
     positive zero is = absurd cc
     positive (suc n) is = omega arith
 
-on_page : (order : Order) (page : List ℕ) (meta : QueueMeta) (b : Bool) → is_queue_meta order page ≡ b → cond b (Some (queue_fields order page)) None ≡ Some meta
+on_page : (order : Order) (page : List ℕ) (meta : QueueMeta) (b : Bool) → is_queue_meta order page ≡ b
+    → cond b (Some (queue_fields order page)) None ≡ Some meta
     → HasSlots (length page) meta
 on_page order page meta true is so =
     let none : first_row (field_rows order page 1 0 Queue) ≡ None =

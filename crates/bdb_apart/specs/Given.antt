@@ -1,5 +1,5 @@
 -- What is given of each database that is found, and what is left. Source: docs/FORMAT.md, "Salvage".
-use Rattle.std.specs.Prelude.{ℕ, ◌+◌, ◌^◌, nat_lt, ◌==◌, ◌&&◌, ◌||◌, not, if◌then◌else◌, Bool, true, false, List, [], ◌∷◌, map, length, Option, Some, None}
+use Rattle.std.specs.Prelude.{ℕ, ◌+◌, ◌^◌, nat_lt, ◌==◌, ◌&&◌, ◌||◌, not, if◌then◌else◌, Bool, true, false, List, [], map, length, Option, Some, None}
 use Rattle.std.specs.List.{enumerate_from, filter, find, flat_map, range_with_len}
 use Rattle.std.specs.Option.{is_some}
 use Rattle.bdb_rescue.specs.of_format.Terms.{BtreeFields, File, Hash, HashFields, Item, Leaf, Metadata, Page, QueueFields, RecnoLeaf, entries_in}

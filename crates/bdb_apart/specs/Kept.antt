@@ -1,5 +1,6 @@
 -- What is kept of the databases that are found, and of the pages of each.
-use Rattle.std.specs.Prelude.{◌≡◌, ◌^◌, ℕ, ◌<◌, nat_lt, ◌==◌, ◌&&◌, ◌||◌, not, if◌then◌else◌, Bool, true, false, List, drop, length, map, get_or, Option, Some, None}
+use Rattle.std.specs.Prelude.{◌≡◌, ◌^◌, ℕ, ◌<◌, nat_lt, ◌==◌, ◌&&◌, ◌||◌, not, if◌then◌else◌, Bool, true, false, List, drop, length, map, get_or, Option}
+use Rattle.std.specs.Prelude.{Some, None}
 use Rattle.std.specs.List.{range_with_len}
 use Rattle.std.specs.Option.{option_map}
 use Rattle.bdb_rescue.specs.of_format.declared.metadata.QueueMeta.{QueueMeta}
@@ -24,6 +25,13 @@ found_seen place = record { name = place.name; meta = place.meta; fields = meta_
 abbrev pub found_of : Reading → Place → FoundIn
 found_of reading place = in_image reading (found_seen place)
 
+-- metadata on page 0 are those of the only database
+abbrev pub alone_in : Option Metadata → Bool
+alone_in None = false
+alone_in (Some (BtreeFields meta)) = not (names_databases meta)
+alone_in (Some (HashFields meta)) = true
+alone_in (Some (QueueFields meta)) = false
+
 -- metadata on page 0 are those of a master
 abbrev pub names_in : Option Metadata → Bool
 names_in None = false
@@ -39,12 +47,6 @@ holds_of (QueueFields meta) = Slots
 
 abbrev pub holds_in : Found → Holds
 holds_in db = holds_of db.fields
-
--- metadata on page 0 are those of the only database
-abbrev pub alone_in : Option Metadata → Bool
-alone_in (Some (BtreeFields meta)) = not (names_databases meta)
-alone_in (Some (HashFields meta)) = true
-alone_in fields = false
 
 -- the kind of a page
 abbrev pub kind_in : Page → PageKind

@@ -1,5 +1,5 @@
 -- The pages below each metadata page, in their order: of each page the next one below the same.
-use Rattle.std.specs.Prelude.{◌≡◌, ℕ, ◌+◌, ◌-◌, ◌<◌, ◌≤◌, ◌==◌, Bool, true, false, List, [], length, get_or, Option, Some, None}
+use Rattle.std.specs.Prelude.{◌≡◌, ℕ, ◌+◌, ◌-◌, ◌<◌, ◌≤◌, ◌==◌, Bool, false, List, [], length, get_or, Option, Some, None}
 use Rattle.std.specs.List.{filter, find, range_with_len}
 
 -- a value is there, and is this one

@@ -77,6 +77,13 @@ fn note_places(held: &mut [Option<Holds>], places: &[Place<'_>])
     }
 }
 
+/// Nothing held, by so many pages.
+fn none_held(alloc: Global, count: u32) -> Result<Vec<Option<Holds>>, AllocError>
+    ensures { IfOk result (λ held. AreHeld [] count held.items) }
+{
+    vec![in alloc; None; count as usize]
+}
+
 /// What databases hold, by their metadata pages.
 fn held_of(
     alloc: Global,
@@ -85,7 +92,7 @@ fn held_of(
 ) -> Result<Vec<Option<Holds>>, AllocError>
     ensures { IfOk result (λ held. AreHeld (map found_seen places.now) count held.items) }
 {
-    let mut held = vec![in alloc; None; count as usize]?;
+    let mut held = none_held(alloc, count)?;
     note_places(&mut held, places);
     Ok(held)
 }
@@ -99,10 +106,11 @@ pub fn apart_of<'s, 'a, L: Ledger>(
     ensures apart { IfOk result (λ apart. apart ≡ salvaged.now) }
     ensures cost { steps.new ≤ steps.old + (file_in salvaged.now).count }
 {
+    let count = salvaged.pages().count();
     let homes = PageHomes::of(alloc, salvaged.pages(), steps)?;
     let rows = Rows::of(alloc, aboves(alloc, salvaged, &homes)?)?;
     let places = databases(alloc, salvaged, &homes)?;
-    let held = held_of(alloc, salvaged.pages().count(), &places)?;
+    let held = held_of(alloc, count, &places)?;
     Ok(Apart {
         salvaged,
         homes,
@@ -139,6 +147,7 @@ impl<'s, 'a> Apart<'s, 'a> {
         ensures records { result ≡ records_left self.now }
         ensures few { length result < 2 ^ 32 }
     {
+        let _pages = self.salvaged.pages();
         RecordsLeft::over(self)
     }
 

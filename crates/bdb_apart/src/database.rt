@@ -63,7 +63,6 @@ impl<'t, 's, 'a> Database<'t, 's, 'a> {
     }
 
     /// Its pairs, by page and slot; none where it has records.
-    #[tactic(auto, using(crate::proofs::GivenLemmas::given_pairs))]
     pub fn pairs(&self) -> Pairs<'t, 's, 'a>
         ensures { result ≡ pairs_given self.now }
     {

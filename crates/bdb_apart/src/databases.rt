@@ -117,7 +117,8 @@ fn by_name<'s>(
     homes: &PageHomes<'_>,
 ) -> Result<BTreeMap<Name<'s>, At>, AllocError>
     requires { homes.now ≡ file_in salvaged.now }
-    ensures { IfOk result (λ dbs. map entry_found dbs.entries ≡ fold with_found [] (named_above (file_in salvaged.now) ++ unnamed_above (file_in salvaged.now))) }
+    ensures { IfOk result (λ dbs. map entry_found dbs.entries
+        ≡ fold with_found [] (named_above (file_in salvaged.now) ++ unnamed_above (file_in salvaged.now))) }
 {
     let names = names_of(alloc, salvaged, homes)?;
     let mut dbs = BTreeMap::new(alloc);

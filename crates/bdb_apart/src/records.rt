@@ -37,7 +37,6 @@ impl<'t, 's, 'a> Model for Records<'t, 's, 'a> {
 
 impl<'t, 's, 'a> Records<'t, 's, 'a> {
     /// All of them.
-    #[tactic(auto, using(crate::proofs::GivenLemmas::given_on_leaves, crate::proofs::GivenLemmas::given_in_slots))]
     pub(crate) fn of(apart: &'t Apart<'s, 'a>, place: &Place<'s>) -> Records<'t, 's, 'a>
         requires { IsKnown apart.now (found_seen place.now) }
         ensures { result ≡ records_given (found_of apart.now place.now) }

@@ -65,11 +65,11 @@ pub record IsReferred (file : File) (h : ℕ) (b : Below) : Type 0 where
   pub sort : reference.sort ≡ b.sort
   pub target : reference.target ≡ b.page
 
-pub below_referred : (file : File) (h : ℕ) (b : Below) → (file.kind ≡ Queue → ⊥) → Contains (below_in (page_at file h)) b → IsReferred file h b
+pub target_referred : (file : File) (h : ℕ) (b : Below) → (file.kind ≡ Queue → ⊥) → Contains (targets_in h (page_at file h)) (b.sort, b.page) → IsReferred file h b
 unfolding refs
-below_referred file h b kind at =
+target_referred file h b kind at =
     let named : Contains (targets_of file.kind h (page_at file h)) (b.sort, b.page) =
-    subst (λ names. Contains names (b.sort, b.page)) (sym (forest_names file.kind h (page_at file h) kind)) (below_target h (page_at file h) b at) in
+    subst (λ names. Contains names (b.sort, b.page)) (sym (forest_names file.kind h (page_at file h) kind)) at in
     let placed = at_place 0 (targets_of file.kind h (page_at file h)) (b.sort, b.page) named in
     record {
       reference = record { place = placed.0; sort = b.sort; target = b.page };
@@ -78,6 +78,9 @@ below_referred file h b kind at =
       sort = refl;
       target = refl;
     }
+
+pub below_referred : (file : File) (h : ℕ) (b : Below) → (file.kind ≡ Queue → ⊥) → Contains (below_in (page_at file h)) b → IsReferred file h b
+below_referred file h b kind at = target_referred file h b kind (below_target h (page_at file h) b at)
 
 -- no such reference is to the head of a chain
 pub below_sort : (page : Page) (b : Below) → Contains (below_in page) b → (b.sort ≡ Root) ⊎ ((b.sort ≡ Bucket) ⊎ (b.sort ≡ Child))

@@ -69,7 +69,7 @@ no_head sort (inr (inl bucket)) = ap is_head_reference bucket
 no_head sort (inr (inr child)) = ap is_head_reference child
 
 -- a page that names another below it is there
-named_inside : (file : File) (h : ℕ) (b : Below) → IsOwned file → Contains (below_in (page_at file h)) b → h ≤ file.last
+pub named_inside : (file : File) (h : ℕ) (b : Below) → IsOwned file → Contains (below_in (page_at file h)) b → h ≤ file.last
 named_inside file h b is at = elim (cases_lt file.last h) [
   | inl past ↦ absurd (no_member (below_in (page_at file h)) b (ap below_in (is.past h past)) at)
   | inr low ↦ low
@@ -97,7 +97,7 @@ below_fits file h b is at =
     ap is_none (ap (λ s. fit_code file h (record { place = 0; sort = s; target = b.page })) (sym by.sort)
     ∙ (ap (λ n. fit_code file h (record { place = 0; sort = by.reference.sort; target = n })) (sym by.target) ∙ same))
 
-below_claimed : (file : File) (h : ℕ) (b : Below) → IsOwned file → Contains (below_in (page_at file h)) b
+pub below_claimed : (file : File) (h : ℕ) (b : Below) → IsOwned file → Contains (below_in (page_at file h)) b
     → (c : Claim) × (claim_of file b.page ≡ Some c) × (c.holder ≡ h)
 unfolding claim_of all_claims
 below_claimed file h b is at =

@@ -2,12 +2,13 @@
 use Rattle.std.specs.Prelude.{◌≡◌, ◌≢◌, ℕ, suc, ◌+◌, ◌<◌, ◌≤◌, false, true, List, [], ◌∷◌, Some}
 use Rattle.std.specs.List.{Contains}
 use Rattle.bdb_graph.specs.of_format.declared.metadata.FileKind.TheVariants.{Queue}
+use Rattle.bdb_graph.specs.of_format.declared.metadata.HashMeta.{HashMeta}
 use Rattle.bdb_graph.specs.of_format.declared.references.Reference.{Reference}
-use Rattle.bdb_graph.specs.of_format.Terms.{File, Hash, Item, Listed, NoType, file_of, first_holder, is_head_reference, is_meta, leaves_in, owners, page_at}
+use Rattle.bdb_graph.specs.of_format.Terms.{File, Hash, HashFields, Item, Listed, Meta, NoType, bucket_pages, file_of, first_holder, is_head_reference, is_meta, leaves_in, owners, page_at}
 use Rattle.bdb_graph.specs.of_format.Terms.{reference_faults, refs}
 use Rattle.bdb_graph.specs.of_image.Linked.{IsForest}
 use Rattle.bdb_homes.specs.Claims.{Below, below_in}
-use Rattle.bdb_homes.specs.Homes.{adjoins, behind, claimed_in, own_home, page_before, spread}
+use Rattle.bdb_homes.specs.Homes.{adjoins, behind, claimed_in, home, own_home, page_before, spread}
 use Rattle.bdb_homes.specs.declared.home.Home.{Home}
 
 -- a btree or hash file whose references fit, each but that to the head of a chain the only one to its page
@@ -66,3 +67,9 @@ abbrev pub NextIsLed : Type 0
 NextIsLed =
     (file : File) (p q turns meta : ℕ) (view : Listed Item) → IsOwned file → page_at file p ≡ Hash view → adjoins file p q ≡ true
     → first_holder (owners file q) ≡ Some p → IsLed file turns p meta → IsLed file (suc turns) q meta
+
+-- the pages of the buckets of a table have it as their home, behind no record
+abbrev pub BucketsAreOfTables : Type 0
+BucketsAreOfTables =
+    (file : File) (meta b p : ℕ) (table : HashMeta) → IsOwned file → page_at file meta ≡ Meta (HashFields table) → b ≤ table.max_bucket
+    → Contains (bucket_pages file table b) p → home file p ≡ Some (record { meta = meta; start = 0 })

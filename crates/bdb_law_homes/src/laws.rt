@@ -1,5 +1,5 @@
 //! In a sound file the home of a page is the metadata to which its owners lead.
-ghost use Rattle.bdb_law_homes.specs.Led.{HomesAreOwners, LeavesAreUnder, NextIsLed, OwnersLeadToOne, SoundFilesAreOwned};
+ghost use Rattle.bdb_law_homes.specs.Led.{BucketsAreOfTables, HomesAreOwners, LeavesAreUnder, NextIsLed, OwnersLeadToOne, SoundFilesAreOwned};
 
 /// The home of a page by claims is the metadata to which its first owners lead.
 pub fn homes_are_owners()
@@ -24,4 +24,9 @@ pub fn sound_files_are_owned()
 /// The next page of a page of a bucket has that one's home.
 pub fn next_is_led()
     ensures { NextIsLed }
+{}
+
+/// The pages of the buckets of a table have that table as their home.
+pub fn buckets_are_of_tables()
+    ensures { BucketsAreOfTables }
 {}

@@ -22,6 +22,8 @@ pub use bdb_model::{
     BtreeMeta, Bytes, Duplicates, KeyRef, Kind, Order, PairSlice, Shape, Steps, TextPairs,
     Unsupported, Words,
 };
-pub use bdb_rescue::{Guess, SalvageError, Salvaged, salvage, unsupported_case};
+pub use bdb_rescue::{
+    Guess, SalvageError, Salvaged, is_queue_or_master, salvage, unsupported_case,
+};
 pub use error::RepairError;
 pub use repairing::{repair, repair_as};

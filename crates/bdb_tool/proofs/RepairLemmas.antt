@@ -1,11 +1,11 @@
 -- What `repair` answers.
-use Rattle.std.proofs.Common.{◌≡◌, ◌⊎◌, ⊤, ℕ, Bool, true, false, List, [], ◌∷◌, Option, Some, None, Result, Ok, Err, inl, inr, refl, sym, subst, arith}
-use Rattle.std.specs.Prelude.{IfOk, nat_lt}
+use Rattle.std.proofs.Common.{◌≡◌, ◌∙◌, ◌⊎◌, ⊤, ℕ, Bool, true, false, List, [], ◌∷◌, Option, Some, None, Result, Ok, Err, IfOk, ap, arith, codes, inl, inr}
+use Rattle.std.proofs.Common.{is_some, nat_lt, refl, sym, subst}
 use Rattle.bdb_repair.proofs.of_format.KnownLemmas.{keeps_itself}
+use Rattle.bdb_repair.proofs.of_format.ListLemmas.{one_answer}
+use Rattle.bdb_repair.specs.of_text_format.Terms.{line}
 use Rattle.bdb_repair.specs.of_format.declared.kinds.Unsupported.{Unsupported}
 use Rattle.bdb_repair.specs.of_text_format.declared.sections.Section.{Section}
-use Rattle.bdb_tool_ask.specs.of_tool_lines.declared.cut.Cut.{Cut}
-use Rattle.bdb_tool_ask.specs.of_tool_lines.Printing.{Writes}
 use Rattle.bdb_tool_ask.proofs.of_tool_lines.PrintingLemmas.{moved}
 use Rattle.bdb_repair.specs.of_mkfile.Builds.{image_size}
 use Rattle.bdb_repair.specs.of_mkfile.NamedImages.{HasBuiltTables}
@@ -18,10 +18,11 @@ use Rattle.bdb_repair.specs.of_model.declared.shape.Shape.{Shape}
 use Rattle.bdb_repair.specs.Apart.{AreBuilt, IsRepairedApart, apart_sections}
 use Rattle.bdb_repair.specs.Parts.{repair_sections}
 use Rattle.bdb_repair.specs.Repairs.{IsRepaired}
-use Rattle.bdb_repair.specs.of_rescue.Guesses.{chosen, unsupported_case}
+use Rattle.bdb_repair.specs.of_rescue.Guesses.{chosen, is_queue_or_master, unsupported_case}
 use Rattle.bdb_repair.specs.of_survey.declared.guess.Guess.{Guess}
-use Rattle.bdb_tool.specs.Outputs.{AreBuiltBy, IsApartAnswer, IsImageBy, IsRepairAnswer, IsShapedAnswer, IsUnlessUnsupported, no_metadata}
-use Rattle.bdb_tool_ask.specs.of_tool_lines.Finished.{Finishes, HasOwnStatus, Tells}
+use Rattle.bdb_tool.specs.Outputs.{AreBuiltBy, IsApartAnswer, IsImageBy, IsRepairAnswer, IsRepairBy, IsRepairUnless, IsShapedAnswer}
+use Rattle.bdb_tool.specs.Outputs.{IsUnlessUnsupported, no_metadata, not_one, shape_refusal}
+use Rattle.bdb_tool_ask.specs.of_tool_lines.Finished.{HasOwnStatus, Tells}
 use Rattle.bdb_tool.specs.Parts.{Answered, Ends, IsBuiltTold, Unanswered}
 use Rattle.bdb_tool_ask.proofs.of_tool_lines.FinishLemmas.{low_own, told_finishes}
 use Rattle.bdb_tool_build.specs.Lines.{image_too_large_line}
@@ -38,7 +39,7 @@ Allows allowed limit (Err TooLarge) = allowed (told 6 (image_too_large_line limi
 Allows allowed limit (Err Memory) = ⊤
 
 pub shaped_allowed : (limit : ℕ) (shape : Option Shape) (found : Option Guess) (image : List ℕ) (result : Result (List ℕ) RepairError)
-    → IsRepaired limit shape found image result → IfOk result (λ built. HasBuiltTables built) → Allows (IsShapedAnswer limit shape found image) limit result
+    → IsRepaired limit shape found image result → IfOk result (λ built. HasBuiltTables built) → Allows (IsRepairBy limit shape found image) limit result
 shaped_allowed limit shape None image (Ok built) is tables = absurd is
 shaped_allowed limit shape None image (Err NoMeta) is tables = refl
 shaped_allowed limit shape None image (Err TooLarge) is tables = absurd is
@@ -88,9 +89,9 @@ built_ends allowed limit (Err Memory) out err status is memory = Unanswered memo
 -- what was built within a number of bytes that is the limit
 pub shaped_ends : (limit max : ℕ) (shape : Option Shape) (given : Option Guess) (image : List ℕ) (result : Result (List ℕ) RepairError) (out err : Change)
     (status : ℕ) → max ≡ limit → IsRepaired max shape (chosen given image) image result → IfOk result (λ built. HasBuiltTables built)
-    → IsBuiltTold limit result out err status → Ends (IsShapedAnswer limit shape (chosen given image) image) out err status
+    → IsBuiltTold limit result out err status → Ends (IsRepairBy limit shape (chosen given image) image) out err status
 shaped_ends limit max shape given image result out err status same is tables told_so =
-    built_ends (IsShapedAnswer limit shape (chosen given image) image) limit result out err status
+    built_ends (IsRepairBy limit shape (chosen given image) image) limit result out err status
     (shaped_allowed limit shape (chosen given image) image result (subst (λ n. IsRepaired n shape (chosen given image) image result) same is) tables) told_so
 
 pub found_ends : (limit max : ℕ) (given : Option Guess) (image : List ℕ) (result : Result (List ℕ) RepairError) (out err : Change) (status : ℕ)
@@ -106,10 +107,10 @@ pub known_ends : (limit : ℕ) (given : Option Guess) (image : List ℕ) (out er
 known_ends limit given image out err status none ends =
     subst (λ left. Ends (IsUnlessUnsupported left limit (chosen given image) image) out err status) none ends
 
-pub case_ends : (limit : ℕ) (given : Option Guess) (image : List ℕ) (name : Unsupported) (written : Option (List ℕ)) (faults : ℕ) (err : Change) (status : ℕ)
+pub each_case_ends : (limit : ℕ) (given : Option Guess) (image : List ℕ) (name : Unsupported) (written : Option (List ℕ)) (faults : ℕ) (err : Change) (status : ℕ)
     → Some name ≡ unsupported_case given image → (Tells (unsupported_line name 0) 3 err status ⊎ Tells memory_line 7 err status)
     → Ends (IsUnlessUnsupported (unsupported_case given image) limit (chosen given image) image) (moved written written faults faults) err status
-case_ends limit given image name written faults err status is tells =
+each_case_ends limit given image name written faults err status is tells =
     subst (λ left. Ends (IsUnlessUnsupported left limit (chosen given image) image) (moved written written faults faults) err status) is
     (elim tells [
       | inl case ↦
@@ -135,6 +136,69 @@ pub memory_told : (limit : ℕ) (written : Option (List ℕ)) (faults : ℕ) (er
     → IsBuiltTold limit (Err Memory) (moved written written faults faults) err status
 memory_told limit written faults err status tells = (keeps_itself written, tells)
 
+-- One database is asked for, and page 0 says that the file isn't one.
+
+refused_by : (refusal : Option Answer) (status limit : ℕ) (text : List ℕ) (shape : Option Shape) (given : Option Guess) (image : List ℕ)
+    → refusal ≡ Some (told status text) → IsRepairUnless refusal limit shape given image (told status text)
+refused_by refusal status limit text shape given image is =
+    subst (λ (it : Option Answer). IsRepairUnless it limit shape given image (told status text)) (sym is) refl
+
+refused_ends : (own limit : ℕ) (text : List ℕ) (shape : Option Shape) (given : Option Guess) (image : List ℕ) (written : Option (List ℕ)) (faults : ℕ)
+    (err : Change) (status : ℕ) → (own ≡ 5 → ⊥) → (own ≡ 7 → ⊥) → shape_refusal shape given image ≡ Some (told own text) → Tells text own err status
+    → Ends (IsShapedAnswer limit shape given image) (moved written written faults faults) err status
+refused_ends own limit text shape given image written faults err status five seven is tells =
+    Answered (told own text) (refused_by (shape_refusal shape given image) own limit text shape given image is)
+    (told_finishes own text written faults err status five seven tells)
+
+-- a shape is asked for, and this is why it's refused
+refusal_is : (shape : Option Shape) (given : Option Guess) (image : List ℕ) → is_some shape ≡ true
+    → shape_refusal shape given image ≡ not_one (unsupported_case given image) (is_queue_or_master given image)
+refusal_is None given image asked = absurd (let no : false ≡ true = asked in cc)
+refusal_is (Some shape) given image asked = refl
+
+pub case_ends : (limit : ℕ) (name : Unsupported) (shape : Option Shape) (given : Option Guess) (image : List ℕ) (written : Option (List ℕ)) (faults : ℕ)
+    (err : Change) (status : ℕ) → is_some shape ≡ true → unsupported_case given image ≡ Some name
+    → (Tells (unsupported_line name 0) 3 err status ⊎ Tells memory_line 7 err status)
+    → Ends (IsShapedAnswer limit shape given image) (moved written written faults faults) err status
+case_ends limit name shape given image written faults err status asked is (inl tells) =
+    refused_ends 3 limit (unsupported_line name 0) shape given image written faults err status (λ five. omega arith) (λ seven. omega arith)
+    (refusal_is shape given image asked ∙ ap (λ (it : Option Unsupported). not_one it (is_queue_or_master given image)) is) tells
+case_ends limit name shape given image written faults err status asked is (inr tells) = Unanswered (keeps_itself written) tells
+
+pub other_ends : (limit : ℕ) (shape : Option Shape) (given : Option Guess) (image : List ℕ) (written : Option (List ℕ)) (faults : ℕ)
+    (err : Change) (status : ℕ) → is_some shape ≡ true → unsupported_case given image ≡ None → is_queue_or_master given image ≡ true
+    → Tells (line (codes "not one btree, hash or recno")) 14 err status
+    → Ends (IsShapedAnswer limit shape given image) (moved written written faults faults) err status
+other_ends limit shape given image written faults err status asked none other tells =
+    refused_ends 14 limit (line (codes "not one btree, hash or recno")) shape given image written faults err status (λ five. omega arith) (λ seven. omega arith)
+    (refusal_is shape given image asked ∙ ap (λ (it : Option Unsupported). not_one it (is_queue_or_master given image)) none ∙ ap (not_one None) other) tells
+
+-- Else the file is built.
+
+unless_by : (refusal : Option Answer) (limit : ℕ) (shape : Option Shape) (given : Option Guess) (image : List ℕ) (answer : Answer) → refusal ≡ None
+    → IsRepairBy limit shape (chosen given image) image answer → IsRepairUnless refusal limit shape given image answer
+unless_by refusal limit shape given image answer none is =
+    subst (λ (it : Option Answer). IsRepairUnless it limit shape given image answer) (sym none) is
+
+build_ends : (limit : ℕ) (shape : Option Shape) (given : Option Guess) (image : List ℕ) (out err : Change) (status : ℕ)
+    → shape_refusal shape given image ≡ None → Ends (IsRepairBy limit shape (chosen given image) image) out err status
+    → Ends (IsShapedAnswer limit shape given image) out err status
+build_ends limit shape given image out err status none (Answered answer is finishes) =
+    Answered answer (unless_by (shape_refusal shape given image) limit shape given image answer none is) finishes
+build_ends limit shape given image out err status none (Unanswered stays tells) = Unanswered stays tells
+
+pub all_ends : (limit : ℕ) (shape : Option Shape) (given : Option Guess) (image : List ℕ) (out err : Change) (status : ℕ) → is_some shape ≡ false
+    → Ends (IsRepairBy limit shape (chosen given image) image) out err status → Ends (IsShapedAnswer limit shape given image) out err status
+all_ends limit None given image out err status none ends = build_ends limit None given image out err status refl ends
+all_ends limit (Some shape) given image out err status none ends = absurd (let no : true ≡ false = none in cc)
+
+pub one_ends : (limit : ℕ) (shape : Option Shape) (given : Option Guess) (image : List ℕ) (out err : Change) (status : ℕ) → is_some shape ≡ true
+    → unsupported_case given image ≡ None → is_queue_or_master given image ≡ false
+    → Ends (IsRepairBy limit shape (chosen given image) image) out err status → Ends (IsShapedAnswer limit shape given image) out err status
+one_ends limit shape given image out err status asked none one ends =
+    build_ends limit shape given image out err status
+    (refusal_is shape given image asked ∙ ap (λ (it : Option Unsupported). not_one it (is_queue_or_master given image)) none ∙ ap (not_one None) one) ends
+
 -- The status of an answer is one of its own.
 
 image_own : (large : Bool) (limit : ℕ) (sections : List Section) (answer : Answer) → IsImageBy large limit sections answer → HasOwnStatus answer
@@ -147,10 +211,10 @@ no_metadata_own : (answer : Answer) → answer ≡ no_metadata → HasOwnStatus 
 no_metadata_own answer is =
     rw is (record { no_read_fault = λ four. omega arith; no_write_fault = λ five. omega arith; no_memory = λ seven. omega arith })
 
-shaped_own : (limit : ℕ) (shape : Option Shape) (found : Option Guess) (image : List ℕ) (answer : Answer) → IsShapedAnswer limit shape found image answer
+own_by : (limit : ℕ) (shape : Option Shape) (found : Option Guess) (image : List ℕ) (answer : Answer) → IsRepairBy limit shape found image answer
     → HasOwnStatus answer
-shaped_own limit shape None image answer is = no_metadata_own answer is
-shaped_own limit shape (Some guess) image answer is =
+own_by limit shape None image answer is = no_metadata_own answer is
+own_by limit shape (Some guess) image answer is =
     image_own (nat_lt limit (image_size (repair_sections shape guess image))) limit (repair_sections shape guess image) answer is
 
 sections_own : (limit : ℕ) (sections : List Section) (answer : Answer) → AreBuiltBy limit sections answer → HasOwnStatus answer
@@ -166,7 +230,25 @@ unless_own : (left : Option Unsupported) (limit : ℕ) (found : Option Guess) (i
 unless_own None limit found image answer is = apart_own limit found image answer is
 unless_own (Some name) limit found image answer is = rw is (low_own (told 3 (unsupported_line name 0)) (omega arith))
 
+refusal_own : (name : Option Unsupported) (other : Bool) (refusal : Answer) → not_one name other ≡ Some refusal → HasOwnStatus refusal
+refusal_own (Some name) other refusal is =
+    rw (sym (one_answer _ _ is)) (record { no_read_fault = λ four. omega arith; no_write_fault = λ five. omega arith; no_memory = λ seven. omega arith })
+refusal_own None true refusal is =
+    rw (sym (one_answer _ _ is)) (record { no_read_fault = λ four. omega arith; no_write_fault = λ five. omega arith; no_memory = λ seven. omega arith })
+refusal_own None false refusal is = absurd (let no : None ≡ Some refusal = is in cc)
+
+shape_own : (shape : Option Shape) (given : Option Guess) (image : List ℕ) (refusal : Answer) → shape_refusal shape given image ≡ Some refusal
+    → HasOwnStatus refusal
+shape_own None given image refusal is = absurd (let no : None ≡ Some refusal = is in cc)
+shape_own (Some shape) given image refusal is = refusal_own (unsupported_case given image) (is_queue_or_master given image) refusal is
+
+shaped_unless_own : (refusal : Option Answer) (limit : ℕ) (shape : Option Shape) (given : Option Guess) (image : List ℕ) (answer : Answer)
+    → shape_refusal shape given image ≡ refusal → IsRepairUnless refusal limit shape given image answer → HasOwnStatus answer
+shaped_unless_own (Some refusal) limit shape given image answer same is = rw is (shape_own shape given image refusal same)
+shaped_unless_own None limit shape given image answer same is = own_by limit shape (chosen given image) image answer is
+
 pub repair_own : (limit : ℕ) (built : Built) (given : Option Guess) (image : List ℕ) (answer : Answer) → IsRepairAnswer limit built given image answer
     → HasOwnStatus answer
 repair_own limit Each given image answer is = unless_own (unsupported_case given image) limit (chosen given image) image answer is
-repair_own limit (Shaped shape) given image answer is = shaped_own limit shape (chosen given image) image answer is
+repair_own limit (Shaped shape) given image answer is =
+    shaped_unless_own (shape_refusal shape given image) limit shape given image answer refl is

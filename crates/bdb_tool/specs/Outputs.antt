@@ -16,8 +16,9 @@ use Rattle.bdb_tool_words.specs.declared.command.Built.{Built}
 use Rattle.bdb_tool_words.specs.declared.command.Built.TheVariants.{Each, Shaped}
 use Rattle.bdb_tool_words.specs.declared.command.Parts.{Parts}
 use Rattle.bdb_tool_words.specs.declared.command.Parts.TheVariants.{Together, Apart, Rest}
-use Rattle.bdb_repair.specs.of_rescue.Guesses.{chosen, unsupported_case}
+use Rattle.bdb_repair.specs.of_rescue.Guesses.{chosen, is_queue_or_master, unsupported_case}
 use Rattle.bdb_repair.specs.of_survey.declared.guess.Guess.{Guess}
+use Rattle.bdb_repair.specs.of_format.declared.kinds.Unsupported.{Unsupported}
 use Rattle.bdb_repair.specs.of_text_format.declared.sections.Section.{Section}
 use Rattle.bdb_tool.specs.Ontos.{IsOntoAnswer}
 use Rattle.bdb_tool_build.specs.Lines.{image_too_large_line}
@@ -68,10 +69,29 @@ IsImageBy true limit sections answer = answer ≡ told 6 (image_too_large_line l
 IsImageBy false limit sections answer = IsImageAnswer sections answer
 
 -- of the stored pairs and the loose records, by a guess, if there is one
-abbrev pub IsShapedAnswer : ℕ → Option Shape → Option Guess → List ℕ → Answer → Type 0
-IsShapedAnswer limit shape None image answer = answer ≡ no_metadata
-IsShapedAnswer limit shape (Some guess) image answer =
+abbrev pub IsRepairBy : ℕ → Option Shape → Option Guess → List ℕ → Answer → Type 0
+IsRepairBy limit shape None image answer = answer ≡ no_metadata
+IsRepairBy limit shape (Some guess) image answer =
     IsImageBy (nat_lt limit (image_size (repair_sections shape guess image))) limit (repair_sections shape guess image) answer
+
+-- why no one database is made of a file: page 0 names a case that isn't supported, or is of a queue or a master
+abbrev pub not_one : Option Unsupported → Bool → Option Answer
+not_one (Some name) other = Some (told 3 (unsupported_line name 0))
+not_one None true = Some (told 14 (line (codes "not one btree, hash or recno")))
+not_one None false = None
+
+-- only a repair that is asked for one database is refused so
+abbrev pub shape_refusal : Option Shape → Option Guess → List ℕ → Option Answer
+shape_refusal None guess image = None
+shape_refusal (Some shape) guess image = not_one (unsupported_case guess image) (is_queue_or_master guess image)
+
+-- the refusal, if there is one; the guess is that of `salvage`
+abbrev pub IsRepairUnless : Option Answer → ℕ → Option Shape → Option Guess → List ℕ → Answer → Type 0
+IsRepairUnless (Some refusal) limit shape guess image answer = answer ≡ refusal
+IsRepairUnless None limit shape guess image answer = IsRepairBy limit shape (chosen guess image) image answer
+
+abbrev pub IsShapedAnswer : ℕ → Option Shape → Option Guess → List ℕ → Answer → Type 0
+IsShapedAnswer limit shape guess image answer = IsRepairUnless (shape_refusal shape guess image) limit shape guess image answer
 
 -- of the databases that are found, where there are some
 abbrev pub AreBuiltBy : ℕ → List Section → Answer → Type 0
@@ -87,10 +107,10 @@ abbrev pub IsUnlessUnsupported : Option Unsupported → ℕ → Option Guess →
 IsUnlessUnsupported None limit guess image answer = IsApartAnswer limit guess image answer
 IsUnlessUnsupported (Some name) limit guess image answer = answer ≡ told 3 (unsupported_line name 0)
 
--- the guess is that of `salvage`
+-- by what the new file has
 abbrev pub IsRepairAnswer : ℕ → Built → Option Guess → List ℕ → Answer → Type 0
 IsRepairAnswer limit Each guess image answer = IsUnlessUnsupported (unsupported_case guess image) limit (chosen guess image) image answer
-IsRepairAnswer limit (Shaped shape) guess image answer = IsShapedAnswer limit shape (chosen guess image) image answer
+IsRepairAnswer limit (Shaped shape) guess image answer = IsShapedAnswer limit shape guess image answer
 
 -- an answer to an input that isn't too long, and a base, whose bytes are none where none is read; `load`, `repair` and `trial` may have several
 abbrev pub IsActionAnswer : Action → ℕ → List ℕ → List ℕ → Answer → Type 0

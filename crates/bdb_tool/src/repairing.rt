@@ -4,16 +4,17 @@ ghost use Rattle.bdb_repair.specs.of_format.Terms.{is_page_size};
 ghost use Rattle.bdb_repair.specs.of_model.Change.{change};
 ghost use Rattle.bdb_repair.specs.of_model.Lines.{memory_line};
 ghost use Rattle.bdb_repair.specs.of_rescue.Guesses.{chosen, unsupported_case};
-ghost use Rattle.bdb_tool.specs.Outputs.{IsApartAnswer, IsRepairAnswer, IsShapedAnswer, IsUnlessUnsupported};
+ghost use Rattle.bdb_tool.specs.Outputs.{IsApartAnswer, IsRepairAnswer, IsRepairBy, IsShapedAnswer, IsUnlessUnsupported};
 ghost use Rattle.bdb_tool_ask.specs.of_tool_lines.Finished.{Tells};
 ghost use Rattle.bdb_tool.specs.Parts.{Ends, IsBuiltTold};
 ghost use Rattle.bdb_tool_words.specs.WordsSeen.{IsFitRepair};
 ghost use Rattle.bdb_tool_build.specs.Lines.{image_too_large_line};
 
 use bdb_repair::{
-    Guess, Image, RepairError, Shape, Sink, Steps, repair_apart, repair_as, unsupported_case,
+    Guess, Image, RepairError, Shape, Sink, Steps, is_queue_or_master, repair_apart, repair_as,
+    unsupported_case,
 };
-use bdb_tool_ask::status::{NO_META, TOO_LARGE};
+use bdb_tool_ask::status::{NO_META, NOT_ONE, TOO_LARGE};
 use bdb_tool_ask::{put, report, tell, tell_case, tell_memory};
 use bdb_tool_build::image_too_large_line;
 use bdb_tool_words::{Built, Repair};
@@ -63,12 +64,41 @@ fn repair_shaped<K: Sink, E: Sink, L: Ledger>(
     requires size { length image.now ≤ 2 ^ 30 }
     requires guess { IfSome guess (λ guess. IsTrue (is_page_size guess.page_size)) }
     requires limit { limit ≤ 2 ^ 30 }
-    ensures { Ends (IsShapedAnswer limit shape (chosen guess image.now) image.now)
+    ensures { Ends (IsRepairBy limit shape (chosen guess image.now) image.now)
         (change K.written K.faults out.old out.new) (change E.written E.faults err.old err.new) result }
 {
     let max = u64::from(limit);
     let built = repair_as(alloc, image, shape, guess, max, steps);
     answer_built(alloc, built, limit, out, err)
+}
+
+// The same, unless one database is asked for, and page 0 tells that the file is another's.
+fn repair_one<K: Sink, E: Sink, L: Ledger>(
+    alloc: Global,
+    image: &[u8],
+    shape: Option<Shape>,
+    guess: Option<Guess>,
+    limit: u32,
+    out: &mut K,
+    err: &mut E,
+    steps: &mut Steps<L>,
+) -> u8
+    requires size { length image.now ≤ 2 ^ 30 }
+    requires guess { IfSome guess (λ guess. IsTrue (is_page_size guess.page_size)) }
+    requires limit { limit ≤ 2 ^ 30 }
+    ensures { Ends (IsShapedAnswer limit shape guess image.now)
+        (change K.written K.faults out.old out.new) (change E.written E.faults err.old err.new) result }
+{
+    if shape.is_none() {
+        return repair_shaped(alloc, image, shape, guess, limit, out, err, steps);
+    }
+    if let Some(case) = unsupported_case(guess, image) {
+        return tell_case(alloc, case, err);
+    }
+    if is_queue_or_master(guess, image) {
+        return tell(err, b"not one btree, hash or recno\n", NOT_ONE);
+    }
+    repair_shaped(alloc, image, shape, guess, limit, out, err, steps)
 }
 
 // Answers with a file of each database that is found.
@@ -133,7 +163,7 @@ pub(crate) fn answer_repair<K: Sink, E: Sink, L: Ledger>(
     match asked.built {
         Built::Each => repair_each(alloc, image, asked.guess, limit, out, err, steps),
         Built::Shaped(shape) => {
-            repair_shaped(alloc, image, shape, asked.guess, limit, out, err, steps)
+            repair_one(alloc, image, shape, asked.guess, limit, out, err, steps)
         }
     }
 }

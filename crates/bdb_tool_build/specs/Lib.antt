@@ -1,4 +1,6 @@
+pub mod Below
 pub mod Copied
+pub mod Gathered
 pub mod Lines
 pub mod Loads
 pub mod Ontos

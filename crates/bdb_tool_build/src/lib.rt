@@ -3,6 +3,7 @@
 
 mod base;
 mod copied;
+mod gathered;
 mod loading;
 mod refusal;
 mod texts;

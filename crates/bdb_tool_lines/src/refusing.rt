@@ -78,7 +78,7 @@ pub fn refuse<E: Sink>(alloc: Global, error: FirstError, err: &mut E) -> u8
     }
 }
 
-/// The row of an unsupported case: of the file, or else of the form of a page.
+/// The row of a case that isn't supported: of the file, or else of the form of a page.
 fn case_row(case: Unsupported) -> Row
     ensures { (page : ℕ) → judgement_seen (record { row = result; page = page }) ≡ LeftOut case page }
 {
@@ -96,7 +96,7 @@ fn case_row(case: Unsupported) -> Row
     }
 }
 
-/// Tells the case that page 0 names.
+/// Tells a case that isn't supported, which page 0 names, with status 3.
 pub fn tell_case<E: Sink>(alloc: Global, case: Unsupported, err: &mut E) -> u8
     ensures { Tells (unsupported_line case 0) 3 (change E.written E.faults err.old err.new) result
         ⊎ Tells memory_line 7 (change E.written E.faults err.old err.new) result }

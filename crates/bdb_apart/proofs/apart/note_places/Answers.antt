@@ -1,4 +1,4 @@
-use Rattle.std.proofs.Common.{map, take, arith, subst, ap}
+use Rattle.std.proofs.Common.{map, take, subst}
 use Rattle.std.proofs.lemmas.List.{take_all}
 use Rattle.bdb_apart.specs.Kept.{AreHeld, found_seen}
 use Rattle.bdb_apart.proofs.HeldLemmas.{place_more}

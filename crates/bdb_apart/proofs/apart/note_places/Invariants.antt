@@ -1,4 +1,4 @@
-use Rattle.std.specs.Prelude.{ℕ, List, [], map, take}
+use Rattle.std.specs.Prelude.{ℕ, [], map, take}
 use Rattle.bdb_apart.specs.Kept.{AreHeld, found_seen}
 use Rattle.bdb_apart.proofs.apart.note_places.Given as goal
 

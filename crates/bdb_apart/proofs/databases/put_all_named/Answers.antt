@@ -19,6 +19,6 @@ returns c =
     let file = file_in c.args.salvaged.now in
     let count : c.count-page-end.result ≡ file.count = c.count-page-end.ensures.count ∙ ap (λ f. f.count) c.pages.ensures in
     let all : c.loop-page.page - 1 ≡ file.count - 1 =
-        omega (arith, count, c.loop-page.invariant.within, c.loop-page-test.false, c.loop-page.auto.page) in
+    omega (arith, count, c.loop-page.invariant.within, c.loop-page-test.false, c.loop-page.auto.page) in
     folded_all (named_meta file (entries file)) (map entry_found c.args.dbs.now.entries) _ c.loop-page.page file.count c.loop-page.auto.page all
     c.loop-page.invariant.put

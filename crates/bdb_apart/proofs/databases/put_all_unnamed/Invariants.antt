@@ -11,5 +11,5 @@ invariant-loop-page l = record {
   within : l.page - 1 ≤ l.page-end - 1;
   put : map entry_found l.dbs.entries
       ≡ fold with_found (map entry_found l.fn.dbs.entries)
-          (flat_map (unnamed_meta (file_in l.salvaged) (entries (file_in l.salvaged))) (range_with_len 1 (l.page - 1)));
+      (flat_map (unnamed_meta (file_in l.salvaged) (entries (file_in l.salvaged))) (range_with_len 1 (l.page - 1)));
 }

@@ -1,10 +1,10 @@
-use Rattle.std.proofs.Common.{◌≡◌}
 use Rattle.bdb_apart.proofs.EntryLemmas.{piece_fits, piece_more, pieces_end}
 use Rattle.bdb_apart.proofs.entry.four_of.Goals as goal
 
 pub put_piece-at-requires : goal.put_piece-at-requires
 put_piece-at-requires c =
-    piece_fits c.loop-piece.four c.loop-piece.at _ _ _ _ c.loop-piece.invariant.len c.loop-piece.invariant.within c.loop-piece.invariant.parts c.requires c.in-Some.ensures.steps
+    piece_fits c.loop-piece.four c.loop-piece.at _ _ _ _ c.loop-piece.invariant.len c.loop-piece.invariant.within c.loop-piece.invariant.parts
+    c.requires c.in-Some.ensures.steps
 
 pub loop-piece-preserved : goal.loop-piece-preserved
 loop-piece-preserved c = record {
@@ -15,4 +15,5 @@ loop-piece-preserved c = record {
 
 pub returns : goal.returns
 returns c =
-    pieces_end c.loop-piece.four c.loop-piece.at _ _ c.loop-piece.invariant.len c.loop-piece.invariant.within c.loop-piece.invariant.parts c.requires c.in-None.ensures.steps.0
+    pieces_end c.loop-piece.four c.loop-piece.at _ _ c.loop-piece.invariant.len c.loop-piece.invariant.within c.loop-piece.invariant.parts
+    c.requires c.in-None.ensures.steps.0

@@ -1,4 +1,4 @@
-use Rattle.std.proofs.Common.{◌≡◌, None, get_or, length, ◌+◌, arith, refl, ◌∙◌, ap}
+use Rattle.std.proofs.Common.{◌≡◌, None, get_or, length, ◌+◌, arith, ◌∙◌, ap}
 use Rattle.std.proofs.lemmas.List.{length_push}
 use Rattle.bdb_apart.proofs.NameLemmas.{no_names, none_more}
 use Rattle.bdb_apart.proofs.names.no_names.Goals as goal

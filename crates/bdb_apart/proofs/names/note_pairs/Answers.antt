@@ -1,5 +1,5 @@
 use Rattle.bdb_apart.specs.Found.{entry_of}
-use Rattle.bdb_apart.proofs.NameLemmas.{begins, ends, steps}
+use Rattle.bdb_apart.proofs.NameLemmas.{ends, steps}
 use Rattle.bdb_apart.proofs.names.note_pairs.Goals as goal
 
 pub loop-key-preserved : goal.loop-key-preserved

@@ -9,7 +9,7 @@ returns c =
     let same : c.u32_at.result ≡ c.args.page = omega (arith, c.if-u32_at-page.false) in
     let number : four_at c.args.salvaged.now.guess.order c.bytes_at-bytes.result.now 8 ≡ c.args.page = cc in
     on_queue_page c.args.salvaged.now c.args.meta.now c.args.page c.bytes_at-bytes.result.now c.behind_header.result.now
-        c.bytes_at-bytes.ensures.bytes c.behind_header.ensures kind number
+    c.bytes_at-bytes.ensures.bytes c.behind_header.ensures kind number
 
 pub invariant_of-result : goal.invariant_of-result
 invariant_of-result c = record {

@@ -1,4 +1,4 @@
-use Rattle.std.proofs.Common.{◌≡◌, ℕ, ◌≤◌, None, List, Option, arith, length, sym, subst}
+use Rattle.std.proofs.Common.{◌≡◌, ◌≤◌, None, arith, length, sym, subst}
 use Rattle.bdb_apart.specs.Rows.{first_from}
 use Rattle.bdb_apart.proofs.RowLemmas.{first_past}
 use Rattle.bdb_apart.proofs.rows.Rows.first.Goals as goal

@@ -1,4 +1,4 @@
-use Rattle.std.proofs.Common.{◌≡◌, arith, sym, ◌∙◌, ap, subst}
+use Rattle.std.proofs.Common.{arith, sym, ◌∙◌, ap, subst}
 use Rattle.bdb_apart.specs.Rows.{IsAt, first_from, row_left}
 use Rattle.bdb_apart.proofs.RowLemmas.{row_at, row_is}
 use Rattle.bdb_apart.proofs.rows.Rows.row.Goals as goal
