@@ -40,7 +40,7 @@ fn answer_built<K: Sink, E: Sink>(
     out: &mut K,
     err: &mut E,
 ) -> u8
-    ensures { IsBuiltTold limit built.entry (change K.written K.faults out.old out.new) (change E.written E.faults err.old err.new) result }
+    ensures { IsBuiltTold limit built (change K.written K.faults out.old out.new) (change E.written E.faults err.old err.new) result }
 {
     match built {
         Ok(built) => report(put(out, built.bytes()), err),
