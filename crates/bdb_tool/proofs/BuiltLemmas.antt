@@ -192,6 +192,14 @@ apart_finishes reading print first others out err written status some writes rep
     by_list [] none = absurd (cc none)
     by_list (db ∷ dbs) some = written_finishes (apart_text print reading.guess reading.image) out err written status writes reports
 
+-- the text of what belongs to none was written, or cut off, and that was told
+pub rest_written : (reading now : Reading) (print : Bool) (out err : Change) (written : Result Unit Cut) (status : ℕ) → reading ≡ now
+    → Writes (rest_text print reading.guess reading.image) out written → Reports written err status
+    → Finishes (done (rest_text print now.guess now.image)) out err status
+rest_written reading now print out err written status same writes reports =
+    written_finishes (rest_text print now.guess now.image) out err written status
+    (subst (λ it. Writes (rest_text print it.guess it.image) out written) same writes) reports
+
 pub apart_memory : (reading : Reading) (print : Bool) (written : Option (List ℕ)) (faults : ℕ) (err : Change) (status : ℕ) → Tells memory_line 7 err status
     → Finishes (apart_answer (found reading) print reading.guess reading.image) (moved written written faults faults) err status
 apart_memory reading print written faults err status tells =

@@ -1,6 +1,7 @@
 -- What `repair` answers.
-use Rattle.std.proofs.Common.{◌≡◌, ◌∙◌, ◌⊎◌, ⊤, ℕ, Bool, true, false, List, [], ◌∷◌, Option, Some, None, Result, Ok, Err, IfOk, ap, arith, codes, inl, inr}
+use Rattle.std.proofs.Common.{◌≡◌, ◌∙◌, ◌⊎◌, ℕ, Bool, true, false, List, [], ◌∷◌, Option, Some, None, Result, Ok, Err, IfOk, ap, arith, codes, inl, inr}
 use Rattle.std.proofs.Common.{is_some, nat_lt, refl, sym, subst}
+use Rattle.std.specs.Prelude.{⊤}
 use Rattle.bdb_repair.proofs.of_format.KnownLemmas.{keeps_itself}
 use Rattle.bdb_repair.proofs.of_format.ListLemmas.{one_answer}
 use Rattle.bdb_repair.specs.of_text_format.Terms.{line}
@@ -118,6 +119,16 @@ each_case_ends limit given image name written faults err status is tells =
           (told_finishes 3 (unsupported_line name 0) written faults err status (λ five. omega arith) (λ seven. omega arith) case)
       | inr memory ↦ Unanswered (keeps_itself written) memory
     ])
+
+-- what was told of a result was told of the same
+pub told_as : (limit : ℕ) (result other : Result (List ℕ) RepairError) (out err : Change) (status : ℕ) → result ≡ other
+    → IsBuiltTold limit other out err status → IsBuiltTold limit result out err status
+told_as limit result other out err status is told_so = subst (λ r. IsBuiltTold limit r out err status) (sym is) told_so
+
+-- by what the new file has
+pub asked_ends : (limit : ℕ) (built asked : Built) (given : Option Guess) (image : List ℕ) (out err : Change) (status : ℕ) → asked ≡ built
+    → Ends (IsRepairAnswer limit built given image) out err status → Ends (IsRepairAnswer limit asked given image) out err status
+asked_ends limit built asked given image out err status is ends = subst (λ b. Ends (IsRepairAnswer limit b given image) out err status) (sym is) ends
 
 -- that an image would be too large was told
 pub large_told : (limit : ℕ) (written : Option (List ℕ)) (faults : ℕ) (err : Change) (status : ℕ)

@@ -1,5 +1,4 @@
-use Rattle.bdb_repair.specs.of_rescue.Guesses.{chosen}
-use Rattle.bdb_repair.specs.of_rescue.Guesses.{unsupported_case}
+use Rattle.bdb_repair.specs.of_rescue.Guesses.{chosen, unsupported_case}
 use Rattle.bdb_tool.specs.Outputs.{found_answer}
 use Rattle.bdb_tool.proofs.BuiltLemmas.{case_finishes, no_case_finishes}
 use Rattle.bdb_tool.proofs.salvaging.salvage_apart.Goals as goal
