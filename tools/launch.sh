@@ -22,11 +22,12 @@ look_up() {
     dump) set -- 0 'dump [--name NAME] [--print] [--any-order]' 'the dump text of the databases, or of one' ;;
     load) set -- 0 'load [--onto BASE]' 'a file of a dump text, or of BASE with its pairs added' ;;
     salvage)
-        set -- 0 'salvage [--print] [--order ORDER --page-size SIZE]' 'the dump text of what a damaged file still has'
+        set -- 0 'salvage [--print] [--apart] [--rest] [--order ORDER --page-size SIZE]' \
+            'the text of what a damaged file still has'
         ;;
     repair)
-        set -- 0 'repair [--as KIND [--duplicates] [--dupsort]] [--order ORDER --page-size SIZE]' \
-            'a new file of what a damaged one has, with --as of one database'
+        set -- 0 'repair [--apart] [--as KIND [--duplicates] [--dupsort]] [--order ORDER --page-size SIZE]' \
+            'a new file of what a damaged one still has'
         ;;
     convert) set -- 1 'convert ORDER' 'the same file in a byte order' ;;
     stat) set -- 0 'stat' 'what the pages are, and how much of them holds nothing' ;;
@@ -87,6 +88,8 @@ show_command() {
     show_option '--hex' 'the operands are spelled by hexadecimal digits, two for each byte'
     show_option '--print' 'keys and data are written in the print spelling; without it by hexadecimal digits'
     show_option '--onto BASE' 'the sound file whose databases the pairs are added to: it is read, and stays as it is'
+    show_option '--apart' 'each database that is found, with its name, kind and settings; not with --rest or --as'
+    show_option '--rest' 'what belongs to no database that is found'
     show_option '--as KIND' 'the new file has one database without a name: btree, hash or recno'
     show_option '--duplicates' 'a key of it has all its data, as they come; not with recno'
     show_option '--dupsort' 'a key of it has all its data, sorted, each once; not with recno'
@@ -214,6 +217,10 @@ go_together() {
     *' --as=recno'*' --dup'* | *' --dup'*' --as=recno'*) return 1 ;;
     *' --as='*) ;;
     *' --dup'*) return 1 ;;
+    esac
+    case "$given " in
+    *' --apart'*' --rest '* | *' --rest'*' --apart '*) return 1 ;;
+    *' --apart'*' --as='* | *' --as='*' --apart '*) return 1 ;;
     esac
 }
 
