@@ -31,6 +31,8 @@ TOP = pathlib.Path(__file__).resolve().parent.parent
 SECONDS_A_RUN = 120
 TOOLS = ("db5.3_verify", "db5.3_dump", "db5.3_load")
 REFUSED = 8
+# Of a queue in extents, which isn't supported, and of other queues and of masters.
+NOT_ONE = (3, 14)
 # The magic numbers of a queue and a btree, and the flag of a btree whose pairs name databases.
 QUEUE_MAGIC, BTREE_MAGIC, NAMES = 0x042253, 0x053162, 0x20
 # How copies are damaged: pages of other bytes, as many as this fraction of all and one at least; whether page 0 is among them; and how
@@ -268,7 +270,7 @@ def repaired_wrong(program, folder, image, guess, words, kind, which):
     text = run(program, "salvage", *guess, given=image)
     ran = run(program, "repair", *words, *guess, given=image)
     if words and not guess and is_of_others(image):
-        return None if ran.returncode == 14 else f"repair of one database ended with {ran.returncode}"
+        return None if ran.returncode in NOT_ONE else f"repair of one database ended with {ran.returncode}"
     if (ran.returncode, ran.stderr) != (text.returncode, text.stderr):
         return f"repair ended with {ran.returncode}, salvage with {text.returncode}: {ran.stderr.decode(errors='replace')}"
     if ran.returncode:
