@@ -30,9 +30,9 @@ import tempfile
 TOP = pathlib.Path(__file__).resolve().parent.parent
 SECONDS_A_RUN = 120
 TOOLS = ("db5.3_verify", "db5.3_dump", "db5.3_load")
-REFUSED = 8
+UNSUPPORTED, REFUSED = 3, 8
 # Of a queue in extents, which isn't supported, and of other queues and of masters.
-NOT_ONE = (3, 14)
+NOT_ONE = (UNSUPPORTED, 14)
 # The magic numbers of a queue and a btree, and the flag of a btree whose pairs name databases.
 QUEUE_MAGIC, BTREE_MAGIC, NAMES = 0x042253, 0x053162, 0x20
 # How copies are damaged: pages of other bytes, as many as this fraction of all and one at least; whether page 0 is among them; and how
@@ -271,6 +271,8 @@ def repaired_wrong(program, folder, image, guess, words, kind, which):
     ran = run(program, "repair", *words, *guess, given=image)
     if words and not guess and is_of_others(image):
         return None if ran.returncode in NOT_ONE else f"repair of one database ended with {ran.returncode}"
+    if words and not guess and ran.returncode == UNSUPPORTED and text.returncode == 0:
+        return None if run(program, "verify", given=image).stderr.startswith(b"unsupported: ") else "repair tells a case that verify doesn't"
     if (ran.returncode, ran.stderr) != (text.returncode, text.stderr):
         return f"repair ended with {ran.returncode}, salvage with {text.returncode}: {ran.stderr.decode(errors='replace')}"
     if ran.returncode:
