@@ -24,7 +24,7 @@ use Rattle.bdb_repair.specs.of_survey.declared.guess.Guess.{Guess}
 use Rattle.bdb_tool.specs.Outputs.{AreBuiltBy, IsApartAnswer, IsImageBy, IsRepairAnswer, IsRepairBy, IsRepairUnless, IsShapedAnswer}
 use Rattle.bdb_tool.specs.Outputs.{IsUnlessUnsupported, no_metadata, not_one, shape_refusal}
 use Rattle.bdb_tool_ask.specs.of_tool_lines.Finished.{HasOwnStatus, Tells}
-use Rattle.bdb_tool.specs.Parts.{Answered, Ends, IsBuiltTold, Unanswered}
+use Rattle.bdb_tool.specs.Parts.{Answered, Ends, IsBuiltTold, TellsWhy, Unanswered}
 use Rattle.bdb_tool_ask.proofs.of_tool_lines.FinishLemmas.{low_own, told_finishes}
 use Rattle.bdb_tool_build.specs.Lines.{image_too_large_line}
 use Rattle.bdb_tool_words.specs.declared.command.Built.{Built}
@@ -125,32 +125,38 @@ pub told_as : (limit : ℕ) (result other : Result (List ℕ) RepairError) (out 
     → IsBuiltTold limit other out err status → IsBuiltTold limit result out err status
 told_as limit result other out err status is told_so = subst (λ r. IsBuiltTold limit r out err status) (sym is) told_so
 
-pub told_err : (limit : ℕ) (result : Result (List ℕ) RepairError) (given error : RepairError) (out err : Change) (status : ℕ) → result ≡ Err given
-    → given ≡ error → IsBuiltTold limit (Err error) out err status → IsBuiltTold limit result out err status
-told_err limit result given error out err status is same told_so =
-    told_as limit result (Err given) out err status is (subst (λ e. IsBuiltTold limit (Err e) out err status) (sym same) told_so)
-
 -- by what the new file has
 pub asked_ends : (limit : ℕ) (built asked : Built) (given : Option Guess) (image : List ℕ) (out err : Change) (status : ℕ) → asked ≡ built
     → Ends (IsRepairAnswer limit built given image) out err status → Ends (IsRepairAnswer limit asked given image) out err status
 asked_ends limit built asked given image out err status is ends = subst (λ b. Ends (IsRepairAnswer limit b given image) out err status) (sym is) ends
 
 -- that an image would be too large was told
-pub large_told : (limit : ℕ) (written : Option (List ℕ)) (faults : ℕ) (err : Change) (status : ℕ)
+large_told : (limit : ℕ) (written : Option (List ℕ)) (faults : ℕ) (err : Change) (status : ℕ)
     → (Tells (image_too_large_line limit) 6 err status ⊎ Tells memory_line 7 err status)
     → IsBuiltTold limit (Err TooLarge) (moved written written faults faults) err status
 large_told limit written faults err status (inl tells) =
     inl (told_finishes 6 (image_too_large_line limit) written faults err status (λ five. omega arith) (λ seven. omega arith) tells)
 large_told limit written faults err status (inr tells) = inr (keeps_itself written, tells)
 
-pub no_meta_told : (limit : ℕ) (written : Option (List ℕ)) (faults : ℕ) (err : Change) (status : ℕ) → Tells no_metadata.err 10 err status
+no_meta_told : (limit : ℕ) (written : Option (List ℕ)) (faults : ℕ) (err : Change) (status : ℕ) → Tells no_metadata.err 10 err status
     → IsBuiltTold limit (Err NoMeta) (moved written written faults faults) err status
 no_meta_told limit written faults err status tells =
     told_finishes 10 no_metadata.err written faults err status (λ five. omega arith) (λ seven. omega arith) tells
 
-pub memory_told : (limit : ℕ) (written : Option (List ℕ)) (faults : ℕ) (err : Change) (status : ℕ) → Tells memory_line 7 err status
+memory_told : (limit : ℕ) (written : Option (List ℕ)) (faults : ℕ) (err : Change) (status : ℕ) → Tells memory_line 7 err status
     → IsBuiltTold limit (Err Memory) (moved written written faults faults) err status
 memory_told limit written faults err status tells = (keeps_itself written, tells)
+
+-- why nothing was built was told
+pub why_as : (limit : ℕ) (error other : RepairError) (err : Change) (status : ℕ) → error ≡ other → TellsWhy limit other err status
+    → TellsWhy limit error err status
+why_as limit error other err status is tells = subst (λ e. TellsWhy limit e err status) (sym is) tells
+
+pub why_told : (limit : ℕ) (error : RepairError) (written : Option (List ℕ)) (faults : ℕ) (err : Change) (status : ℕ) → TellsWhy limit error err status
+    → IsBuiltTold limit (Err error) (moved written written faults faults) err status
+why_told limit NoMeta written faults err status tells = no_meta_told limit written faults err status tells
+why_told limit TooLarge written faults err status tells = large_told limit written faults err status tells
+why_told limit Memory written faults err status tells = memory_told limit written faults err status tells
 
 -- One database is asked for, and page 0 says that the file isn't one.
 

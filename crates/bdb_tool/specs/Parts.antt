@@ -44,6 +44,12 @@ IsRefusalTold (FaultyText line) err status = Tells (string_bytes line) 8 err sta
 IsRefusalTold (TooLargeImage line) err status = Tells (string_bytes line) 6 err status
 IsRefusalTold MemoryRefusal err status = Tells memory_line 7 err status
 
+-- why nothing was built was told, or that memory ran out
+abbrev pub TellsWhy : ℕ → RepairError → Change → ℕ → Type 0
+TellsWhy limit NoMeta err status = Tells no_metadata.err 10 err status
+TellsWhy limit TooLargeFile err status = Tells (image_too_large_line limit) 6 err status ⊎ Tells memory_line 7 err status
+TellsWhy limit WantOfMemory err status = Tells memory_line 7 err status
+
 -- an image that was built was written, or it was told why there is none, or that memory was wanting
 abbrev pub IsBuiltTold : ℕ → Result (List ℕ) RepairError → Change → Change → ℕ → Type 0
 IsBuiltTold limit (Ok built) out err status = Finishes (done built) out err status

@@ -6,7 +6,7 @@ ghost use Rattle.bdb_repair.specs.of_model.Lines.{memory_line};
 ghost use Rattle.bdb_repair.specs.of_rescue.Guesses.{chosen, unsupported_case};
 ghost use Rattle.bdb_tool.specs.Outputs.{IsApartAnswer, IsRepairAnswer, IsRepairBy, IsShapedAnswer, IsUnlessUnsupported};
 ghost use Rattle.bdb_tool_ask.specs.of_tool_lines.Finished.{Tells};
-ghost use Rattle.bdb_tool.specs.Parts.{Ends, IsBuiltTold};
+ghost use Rattle.bdb_tool.specs.Parts.{Ends, IsBuiltTold, TellsWhy};
 ghost use Rattle.bdb_tool_words.specs.WordsSeen.{IsFitRepair};
 ghost use Rattle.bdb_tool_build.specs.Lines.{image_too_large_line};
 
@@ -32,6 +32,17 @@ fn tell_too_large<E: Sink>(alloc: Global, limit: u32, err: &mut E) -> u8
     }
 }
 
+// Tells why nothing was built.
+fn tell_unbuilt<E: Sink>(alloc: Global, error: RepairError, limit: u32, err: &mut E) -> u8
+    ensures { TellsWhy limit error (change E.written E.faults err.old err.new) result }
+{
+    match error {
+        RepairError::NoMeta => tell(err, b"no metadata page\n", NO_META),
+        RepairError::TooLarge => tell_too_large(alloc, limit, err),
+        RepairError::Memory => tell_memory(err),
+    }
+}
+
 // Writes an image that was built, or tells why there is none.
 fn answer_built<K: Sink, E: Sink>(
     alloc: Global,
@@ -44,9 +55,7 @@ fn answer_built<K: Sink, E: Sink>(
 {
     match built {
         Ok(built) => report(put(out, built.bytes()), err),
-        Err(RepairError::NoMeta) => tell(err, b"no metadata page\n", NO_META),
-        Err(RepairError::TooLarge) => tell_too_large(alloc, limit, err),
-        Err(RepairError::Memory) => tell_memory(err),
+        Err(error) => tell_unbuilt(alloc, error, limit, err),
     }
 }
 
