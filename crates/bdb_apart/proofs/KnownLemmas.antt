@@ -98,7 +98,7 @@ of_under file page db at = by_one (is_alone page) at
     ]
 
 -- a queue is found only by the metadata on page 0
-known : (reading : Reading) (db : Found) → Contains (found reading) db → IsKnown reading db
+pub known : (reading : Reading) (db : Found) → Contains (found reading) db → IsKnown reading db
 unfolding found
 known reading db at meta is = by_queue (queue_in reading) at
   where

@@ -66,10 +66,10 @@ all_pass : {X : Type 0} (test : X → Bool) (xs : List X) → ((x : X) → test 
 all_pass test [] pass = refl
 all_pass test (x ∷ xs) pass = ap (λ b. cond b (x ∷ filter test xs) (filter test xs)) (pass x) ∙ ap (λ ys. x ∷ ys) (all_pass test xs pass)
 
-abbrev value_of_placed : (ℕ × List ℕ) → List ℕ
+abbrev pub value_of_placed : (ℕ × List ℕ) → List ℕ
 value_of_placed placed = placed.1
 
-all_values : (file : File) (start : ℕ) (places : List KeptValue) → map value_of_placed (map (numbered_at file start) places) ≡ map (value_at file) places
+pub all_values : (file : File) (start : ℕ) (places : List KeptValue) → map value_of_placed (map (numbered_at file start) places) ≡ map (value_at file) places
 all_values file start [] = refl
 all_values file start (place ∷ places) = ap (λ values. value_at file place ∷ values) (all_values file start places)
 

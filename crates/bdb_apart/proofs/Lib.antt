@@ -10,4 +10,6 @@ pub mod HeldLemmas
 pub mod CountLemmas
 pub mod LeftLemmas
 pub mod KnownLemmas
+pub mod DistinctLemmas
+pub mod OnceLemmas
 pub mod SlotLemmas

@@ -4,6 +4,7 @@ pub mod Kept
 pub mod Left
 pub mod Names
 pub mod Numbered
+pub mod Once
 pub mod Queues
 pub mod Rows
 pub mod Slots
