@@ -88,7 +88,7 @@ taken_none : (file : File) (p : ℕ) (told : Option (ℕ × Holds)) → told_loo
 taken_none file p None = refl
 taken_none file p (Some (start, holds)) = refl
 
-abbrev beside : File → ℕ → Option Found → Bool → Bool → Option Home → List (List ℕ)
+abbrev pub beside : File → ℕ → Option Found → Bool → Bool → Option Home → List (List ℕ)
 beside file p None leaf taken h = live_whole file p
 beside file p (Some db) leaf taken h = records_without file db p (start_if (is_recno_db db.fields) leaf db.meta taken h)
 
@@ -119,7 +119,7 @@ loose_by file p (Some db) (Some home) true false none same numbered = by_recno (
     by_recno false true is so = all_loose file p home.start (Some (holds_of db.fields)) (λ placed. takes_none db.fields placed is)
 
 -- the first with a metadata page has that page
-at_page : (dbs : List Found) (m : ℕ) (db : Found) → find (λ (db : Found). db.meta == m) dbs ≡ Some db → (db.meta == m) ≡ true
+pub at_page : (dbs : List Found) (m : ℕ) (db : Found) → find (λ (db : Found). db.meta == m) dbs ≡ Some db → (db.meta == m) ≡ true
 at_page [] m db is = absurd cc
 at_page (other ∷ others) m db is = by_test (other.meta == m) refl is (at_page others m db)
   where
@@ -130,7 +130,7 @@ at_page (other ∷ others) m db is = by_test (other.meta == m) refl is (at_page 
     by_test false at later rest = rest later
 
 -- the same by the definitions
-beside_is : (file : File) (p : ℕ) (db : Option Found)
+pub beside_is : (file : File) (p : ℕ) (db : Option Found)
     → beside file p db (is_record_page (page_at file p)) (is_taken file p) (home file p) ≡ records_beside file p db
 beside_is file p None = refl
 beside_is file p (Some db) = ap (records_without file db p) (start_is file db p (home file p))

@@ -21,9 +21,9 @@ use Rattle.bdb_apart.specs.Once.{PairsAreGivenOnce, RecordsAreGivenOnce, naming,
 use Rattle.bdb_apart.specs.Queues.{queue_in}
 use Rattle.bdb_apart.specs.Rows.{is_some_of}
 use Rattle.bdb_apart.proofs.DistinctLemmas.{at_meta, each_once}
-use Rattle.bdb_apart.proofs.GivenLemmas.{numbered_is}
+use Rattle.bdb_apart.proofs.GivenLemmas.{numbered_is, start_if, start_is}
 use Rattle.bdb_apart.proofs.KnownLemmas.{known}
-use Rattle.bdb_apart.proofs.LeftLemmas.{all_values, value_of_placed}
+use Rattle.bdb_apart.proofs.LeftLemmas.{all_values, at_page, beside, beside_is, value_of_placed}
 
 -- Sums.
 
@@ -165,3 +165,145 @@ pairs_are_given_once reading w =
     ∙ (ap (λ n. n + sum_by named pages) (sym (sum_parts w (pairs_left_on file dbs) pages))
     ∙ ap (λ n. sum_by w (flat_map (pairs_left_on file dbs) pages) + n) (sym (sum_parts w (naming_on file dbs) pages))))
     ∙ ap (λ n. n + (sum_by w (flat_map (pairs_left_on file dbs) pages) + sum_by w (flat_map (naming_on file dbs) pages))) (sym (of_databases reading w)))))
+
+-- The records of a page.
+
+abbrev by_value : (List ℕ → ℕ) → (ℕ × List ℕ) → ℕ
+by_value w placed = w placed.1
+
+-- what the records of a leaf weigh with their numbers
+numbered_weigh : (file : File) (p start : ℕ) (w : List ℕ → ℕ) → map (numbered_at file start) (values_on file p) ≡ numbered_on file p start
+    → sum_by (by_value w) (numbered_on file p start) ≡ sum_by w (live_whole file p)
+numbered_weigh file p start w are =
+    ap (sum_by (by_value w)) (sym are)
+    ∙ (sym (of_map w value_of_placed (map (numbered_at file start) (values_on file p)))
+    ∙ (ap (sum_by w) (all_values file start (values_on file p)) ∙ ap (sum_by w) (leaf_values file p)))
+
+-- what a database gives of a page that has this home
+abbrev given_of : File → ℕ → (List ℕ → ℕ) → Bool → ℕ → Found → ℕ
+given_of file p w leaf start db = cond (is_recno_db db.fields && leaf) (sum_by (by_value w) (filter (fits_record db.fields) (numbered_on file p start))) 0
+
+abbrev AreNumbered : File → ℕ → Bool → Type 0
+AreNumbered file p leaf = leaf ≡ true → (start : ℕ) → map (numbered_at file start) (values_on file p) ≡ numbered_on file p start
+
+given_if : (file : File) (p start : ℕ) (w : List ℕ → ℕ) (db : Found) (recno leaf at : Bool)
+    → sum_by (by_value w) (records_from file db p (cond (recno && leaf && at && true) (Some start) None))
+    ≡ cond at (cond (recno && leaf) (sum_by (by_value w) (filter (fits_record db.fields) (numbered_on file p start))) 0) 0
+given_if file p start w db true true true = refl
+given_if file p start w db true true false = refl
+given_if file p start w db true false true = refl
+given_if file p start w db true false false = refl
+given_if file p start w db false leaf true = refl
+given_if file p start w db false leaf false = refl
+
+taken_gives : (file : File) (p : ℕ) (w : List ℕ → ℕ) (db : Found) (recno leaf : Bool) (m : ℕ) (h : Option Home)
+    → sum_by (by_value w) (records_from file db p (start_if recno leaf m true h)) ≡ 0
+taken_gives file p w db recno leaf m None = refl
+taken_gives file p w db recno leaf m (Some home) = by_tests recno leaf (home.meta == m)
+  where
+    by_tests : (recno leaf at : Bool) → sum_by (by_value w) (records_from file db p (cond (recno && leaf && at && false) (Some home.start) None)) ≡ 0
+    by_tests true true true = refl
+    by_tests true true false = refl
+    by_tests true false at = refl
+    by_tests false leaf at = refl
+
+-- the database of a home gives some, and the others are left
+first_gives : (file : File) (p : ℕ) (w : List ℕ → ℕ) (leaf : Bool) (home : Home) (first : Option Found) → AreNumbered file p leaf
+    → ((db : Found) → first ≡ Some db → (home.meta == db.meta) ≡ true)
+    → sum_by w (live_whole file p) ≡ by_found (given_of file p w leaf home.start) first + sum_by w (beside file p first leaf false (Some home))
+first_gives file p w leaf home None numbered at = omega arith
+first_gives file p w leaf home (Some db) numbered at = by_tests (is_recno_db db.fields) leaf (home.meta == db.meta) (at db refl) numbered
+  where
+    by_tests : (recno leaf at : Bool) → at ≡ true → AreNumbered file p leaf → sum_by w (live_whole file p)
+        ≡ cond (recno && leaf) (sum_by (by_value w) (filter (fits_record db.fields) (numbered_on file p home.start))) 0
+        + sum_by w (records_without file db p (cond (recno && leaf && at && true) (Some home.start) None))
+    by_tests recno leaf false is numbered' = absurd cc
+    by_tests true true true is numbered' =
+        let all : List (ℕ × List ℕ) = numbered_on file p home.start in
+        omega (
+          arith,
+          numbered_weigh file p home.start w (numbered' refl home.start),
+          in_two (by_value w) (fits_record db.fields) all,
+          of_map w value_of_placed (filter (λ placed. not (fits_record db.fields placed)) all),
+        )
+    by_tests true false true is numbered' = omega arith
+    by_tests false leaf true is numbered' = omega arith
+
+records_by_tests : (file : File) (dbs : List Found) (w : List ℕ → ℕ) (p : ℕ) (leaf taken : Bool) (h : Option Home) → Few dbs → AreNumbered file p leaf
+    → sum_by w (cond taken [] (live_whole file p))
+    ≡ sum_by (λ (db : Found). sum_by (by_value w) (records_from file db p (start_if (is_recno_db db.fields) leaf db.meta taken h))) dbs
+    + sum_by w (cond taken [] (beside file p (db_at dbs (meta_at h)) leaf taken h))
+records_by_tests file dbs w p leaf true h few numbered =
+    let none : sum_by (λ (db : Found). sum_by (by_value w) (records_from file db p (start_if (is_recno_db db.fields) leaf db.meta true h))) dbs ≡ 0 =
+    sum_none (λ (db : Found). sum_by (by_value w) (records_from file db p (start_if (is_recno_db db.fields) leaf db.meta true h))) dbs
+    (λ db at. taken_gives file p w db (is_recno_db db.fields) leaf db.meta h) in
+    omega (arith, none)
+records_by_tests file dbs w p leaf false None few numbered =
+    let none : sum_by (λ (db : Found). 0) dbs ≡ 0 = sum_none (λ (db : Found). 0) dbs (λ db at. refl) in
+    omega (arith, none)
+records_by_tests file dbs w p leaf false (Some home) few numbered =
+    let g : Found → ℕ = given_of file p w leaf home.start in
+    let each : sum_by (λ (db : Found). sum_by (by_value w) (records_from file db p (start_if (is_recno_db db.fields) leaf db.meta false (Some home)))) dbs
+    ≡ sum_by (λ (db : Found). cond (db.meta == home.meta) (g db) 0) dbs =
+    sum_same (λ (db : Found). sum_by (by_value w) (records_from file db p (start_if (is_recno_db db.fields) leaf db.meta false (Some home))))
+    (λ (db : Found). cond (db.meta == home.meta) (g db) 0) dbs
+    (λ db at. given_if file p home.start w db (is_recno_db db.fields) leaf (home.meta == db.meta) ∙ ap (λ b. cond b (g db) 0) (same_test home.meta db.meta)) in
+    omega (
+      arith,
+      each,
+      one_at home.meta g dbs (few home.meta),
+      first_gives file p w leaf home (find (λ (db : Found). db.meta == home.meta) dbs) numbered
+          (λ db is. same_test home.meta db.meta ∙ at_page dbs home.meta db is),
+    )
+
+records_at : (file : File) (dbs : List Found) (w : List ℕ → ℕ) (p : ℕ) → Few dbs
+    → sum_by w (loose_on file p) ≡ sum_by (λ db. sum_by (by_value w) (records_on file db p)) dbs + sum_by w (records_left_on file dbs p)
+records_at file dbs w p few =
+    let leaf : Bool = is_record_page (page_at file p) in
+    records_by_tests file dbs w p leaf (is_taken file p) (home file p) few (λ is start. numbered_is file p start is)
+    ∙ (ap (λ n. n + sum_by w (cond (is_taken file p) [] (beside file p (db_at dbs (meta_at (home file p))) leaf (is_taken file p) (home file p))))
+    (sum_same (λ (db : Found). sum_by (by_value w) (records_from file db p (start_if (is_recno_db db.fields) leaf db.meta (is_taken file p) (home file p))))
+    (λ db. sum_by (by_value w) (records_on file db p)) dbs
+    (λ db at. ap (λ o. sum_by (by_value w) (records_from file db p o)) (start_is file db p (home file p))))
+    ∙ ap (λ records. sum_by (λ db. sum_by (by_value w) (records_on file db p)) dbs + sum_by w (cond (is_taken file p) [] records))
+    (beside_is file p (db_at dbs (meta_at (home file p)))))
+
+-- a database that is no queue has its records on leaves
+on_leaves : (reading : Reading) (db : Found) → ((meta : QueueMeta) → db.fields ≡ QueueFields meta → ⊥)
+    → records_given (in_image reading db) ≡ flat_map (records_on (file_in reading) db) (range_with_len 0 (file_in reading).count)
+unfolding records_given
+on_leaves reading db none = by_fields db.fields none
+  where
+    by_fields : (fields : Metadata) → ((meta : QueueMeta) → fields ≡ QueueFields meta → ⊥)
+        → records_by reading db fields ≡ flat_map (records_on (file_in reading) db) (range_with_len 0 (file_in reading).count)
+    by_fields (BtreeFields meta) none = refl
+    by_fields (HashFields meta) none = refl
+    by_fields (QueueFields meta) none = absurd (none meta refl)
+
+records_of_databases : (reading : Reading) (w : List ℕ → ℕ) → queue_in reading ≡ None
+    → sum_by (λ it. sum_by (by_value w) (records_given it)) (found_in reading)
+    ≡ sum_by (λ p. sum_by (λ db. sum_by (by_value w) (records_on (file_in reading) db p)) (found reading)) (range_with_len 0 (file_in reading).count)
+records_of_databases reading w no-queue =
+    let file : File = file_in reading in
+    let pages : List ℕ = range_with_len 0 file.count in
+    of_map (λ it. sum_by (by_value w) (records_given it)) (in_image reading) (found reading)
+    ∙ (sum_same (λ db. sum_by (by_value w) (records_given (in_image reading db))) (λ db. sum_by (λ p. sum_by (by_value w) (records_on file db p)) pages)
+    (found reading)
+    (λ db at.
+    ap (sum_by (by_value w)) (on_leaves reading db (λ meta is. (let some : queue_in reading ≡ Some meta = known reading db at meta is in cc)))
+    ∙ sum_parts (by_value w) (records_on file db) pages)
+    ∙ turned (λ db p. sum_by (by_value w) (records_on file db p)) (found reading) pages)
+
+pub records_are_given_once : RecordsAreGivenOnce
+unfolding loose records_left
+records_are_given_once reading w no-queue =
+    let file : File = file_in reading in
+    let dbs : List Found = found reading in
+    let pages : List ℕ = range_with_len 0 file.count in
+    let given : ℕ → ℕ = λ p. sum_by (λ db. sum_by (by_value w) (records_on file db p)) dbs in
+    let left : ℕ → ℕ = λ p. sum_by w (records_left_on file dbs p) in
+    sum_parts w (loose_on file) pages
+    ∙ (sum_same (λ p. sum_by w (loose_on file p)) (λ p. given p + left p) pages (λ p at. records_at file dbs w p (λ m. each_once m reading))
+    ∙ (sum_plus given left pages
+    ∙ (ap (λ n. sum_by given pages + n) (sym (sum_parts w (records_left_on file dbs) pages))
+    ∙ ap (λ n. n + sum_by w (flat_map (records_left_on file dbs) pages)) (sym (records_of_databases reading w no-queue)))))
