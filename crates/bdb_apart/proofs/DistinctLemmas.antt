@@ -1,8 +1,8 @@
 -- No two databases that are found have one metadata page.
-use Rattle.std.proofs.Common.{◌≡◌, ◌⊎◌, ℕ, zero, suc, ◌+◌, ◌-◌, ◌<◌, ◌≤◌, Bool, true, false, cond, List, [], ◌∷◌, ◌++◌, map, refl, sym, ◌∙◌, ap, subst}
-use Rattle.std.proofs.Common.{inl, inr, arith}
+use Rattle.std.proofs.Common.{◌≡◌, ℕ, zero, suc, ◌+◌, ◌-◌, ◌<◌, ◌≤◌, Bool, true, false, cond, List, [], ◌∷◌, ◌++◌, map, refl, ap}
+use Rattle.std.proofs.Common.{arith}
 use Rattle.std.specs.Prelude.{◌==◌, Option, Some, None, codes, decimal}
-use Rattle.std.specs.List.{Contains, flat_map, fold, list_any, range_with_len, sum_by}
+use Rattle.std.specs.List.{flat_map, fold, list_any, range_with_len, sum_by}
 use Rattle.std.specs.Option.{is_some, option_to_list}
 use Rattle.std.proofs.lemmas.Bool.{eqb-true}
 use Rattle.std.proofs.lemmas.List.Sums.{sum_by-append, sum_by-cons}
@@ -10,7 +10,7 @@ use Rattle.bdb_rescue.specs.of_format.declared.metadata.QueueMeta.{QueueMeta}
 use Rattle.bdb_rescue.specs.of_format.Terms.{BtreeFields, File, HashFields, Meta, Metadata, Page, QueueFields, less, page_at}
 use Rattle.bdb_rescue.specs.Kept.{Reading, file_in}
 use Rattle.bdb_rescue.proofs.of_law_sums.CountLemmas.{sum_parts, sum_plus}
-use Rattle.bdb_apart.specs.Found.{Found, entries, found, found_beside, found_on, found_under, has_name, is_alone, name_in, name_of, named_above, named_meta}
+use Rattle.bdb_apart.specs.Found.{Found, entries, found, found_beside, found_on, has_name, is_alone, name_in, name_of, named_above, named_meta}
 use Rattle.bdb_apart.specs.Found.{only_found, pages_above, put_found, tree_fields, unnamed_above, unnamed_meta, with_found}
 use Rattle.bdb_apart.specs.Queues.{queue_in}
 

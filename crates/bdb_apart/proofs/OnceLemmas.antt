@@ -1,13 +1,13 @@
 -- What is salvaged is given once.
-use Rattle.std.proofs.Common.{◌≡◌, ℕ, ◌+◌, ◌<◌, ◌≤◌, Bool, true, false, cond, List, [], ◌∷◌, map, refl, sym, ◌∙◌, ap, subst, inl, inr, arith}
+use Rattle.std.proofs.Common.{◌≡◌, ℕ, ◌+◌, ◌≤◌, Bool, true, false, cond, List, [], ◌∷◌, map, refl, sym, ◌∙◌, ap, inl, inr, arith}
 use Rattle.std.specs.Prelude.{◌==◌, ◌&&◌, not, Option, Some, None}
-use Rattle.std.specs.List.{Contains, filter, find, flat_map, range_with_len, sum_by}
+use Rattle.std.specs.List.{filter, find, flat_map, range_with_len, sum_by}
 use Rattle.std.proofs.lemmas.Bool.{cases_eq, eq-eqb, ne_eqb}
 use Rattle.std.proofs.lemmas.List.Sums.{sum_by-cons}
 use Rattle.bdb_rescue.specs.of_format.declared.metadata.QueueMeta.{QueueMeta}
 use Rattle.bdb_rescue.specs.of_format.Terms.{BtreeFields, File, HashFields, Metadata, Page, QueueFields, page_at}
 use Rattle.bdb_rescue.specs.of_survey.Salvage.{is_taken, live_whole, loose, loose_on, stored, stored_on}
-use Rattle.bdb_rescue.specs.Kept.{Reading, file_in, numbered_at, value_at, values_on}
+use Rattle.bdb_rescue.specs.Kept.{Reading, file_in, numbered_at, values_on}
 use Rattle.bdb_rescue.proofs.LooseLemmas.{leaf_values}
 use Rattle.bdb_rescue.proofs.of_law_sums.CountLemmas.{sum_none, sum_parts, sum_plus, sum_same}
 use Rattle.bdb_rescue.proofs.of_law_sums.TreeLemmas.{sum_filter}
@@ -15,9 +15,9 @@ use Rattle.bdb_homes.specs.Homes.{home}
 use Rattle.bdb_homes.specs.declared.home.Home.{Home}
 use Rattle.bdb_apart.specs.Found.{Found, found, is_master_leaf}
 use Rattle.bdb_apart.specs.Given.{above, are_given, db_at, fits_record, found_in, gives_on, gives_pairs, holds_pairs, in_image, is_record_page, is_recno_db}
-use Rattle.bdb_apart.specs.Given.{meta_at, names_found, numbered_on, pairs_given, pairs_left, pairs_left_on, records_beside, records_by, records_from}
-use Rattle.bdb_apart.specs.Given.{records_given, records_left, records_left_on, records_on, records_without, start_at, start_in}
-use Rattle.bdb_apart.specs.Once.{PairsAreGivenOnce, RecordsAreGivenOnce, naming, naming_on}
+use Rattle.bdb_apart.specs.Given.{meta_at, names_found, numbered_on, pairs_given, pairs_left, pairs_left_on, records_by, records_from}
+use Rattle.bdb_apart.specs.Given.{records_given, records_left, records_left_on, records_on, records_without}
+use Rattle.bdb_apart.specs.Once.{PairsAreGivenOnce, RecordsAreGivenOnce, naming_on}
 use Rattle.bdb_apart.specs.Queues.{queue_in}
 use Rattle.bdb_apart.specs.Rows.{is_some_of}
 use Rattle.bdb_apart.proofs.DistinctLemmas.{at_meta, each_once}
@@ -123,7 +123,8 @@ pairs_at : (file : File) (dbs : List Found) (w : List ℕ × List ℕ → ℕ) (
     + (sum_by w (pairs_left_on file dbs p) + sum_by w (naming_on file dbs p))
 pairs_at file dbs w p few =
     let n : ℕ = sum_by w (stored_on file p) in
-    let given : sum_by (λ db. cond (gives_pairs file db p) n 0) dbs ≡ cond (are_given file dbs p) n 0 = given_at file dbs (page_at file p) n (above file p) few in
+    let given : sum_by (λ db. cond (gives_pairs file db p) n 0) dbs ≡ cond (are_given file dbs p) n 0 =
+    given_at file dbs (page_at file p) n (above file p) few in
     by_given (are_given file dbs p) (sum_by (λ db. cond (gives_pairs file db p) n 0) dbs) given
   where
     test : List ℕ × List ℕ → Bool
