@@ -66,10 +66,10 @@ all_pass : {X : Type 0} (test : X → Bool) (xs : List X) → ((x : X) → test 
 all_pass test [] pass = refl
 all_pass test (x ∷ xs) pass = ap (λ b. cond b (x ∷ filter test xs) (filter test xs)) (pass x) ∙ ap (λ ys. x ∷ ys) (all_pass test xs pass)
 
-abbrev pub value_of_placed : (ℕ × List ℕ) → List ℕ
+abbrev value_of_placed : (ℕ × List ℕ) → List ℕ
 value_of_placed placed = placed.1
 
-pub all_values : (file : File) (start : ℕ) (places : List KeptValue) → map value_of_placed (map (numbered_at file start) places) ≡ map (value_at file) places
+all_values : (file : File) (start : ℕ) (places : List KeptValue) → map value_of_placed (map (numbered_at file start) places) ≡ map (value_at file) places
 all_values file start [] = refl
 all_values file start (place ∷ places) = ap (λ values. value_at file place ∷ values) (all_values file start places)
 
@@ -88,7 +88,7 @@ taken_none : (file : File) (p : ℕ) (told : Option (ℕ × Holds)) → told_loo
 taken_none file p None = refl
 taken_none file p (Some (start, holds)) = refl
 
-abbrev pub beside : File → ℕ → Option Found → Bool → Bool → Option Home → List (List ℕ)
+abbrev beside : File → ℕ → Option Found → Bool → Bool → Option Home → List (List ℕ)
 beside file p None leaf taken h = live_whole file p
 beside file p (Some db) leaf taken h = records_without file db p (start_if (is_recno_db db.fields) leaf db.meta taken h)
 
@@ -130,7 +130,7 @@ at_page (other ∷ others) m db is = by_test (other.meta == m) refl is (at_page 
     by_test false at later rest = rest later
 
 -- the same by the definitions
-pub beside_is : (file : File) (p : ℕ) (db : Option Found)
+beside_is : (file : File) (p : ℕ) (db : Option Found)
     → beside file p db (is_record_page (page_at file p)) (is_taken file p) (home file p) ≡ records_beside file p db
 beside_is file p None = refl
 beside_is file p (Some db) = ap (records_without file db p) (start_is file db p (home file p))

@@ -10,6 +10,6 @@ pub mod HeldLemmas
 pub mod CountLemmas
 pub mod LeftLemmas
 pub mod KnownLemmas
-pub mod DistinctLemmas
-pub mod OnceLemmas
 pub mod SlotLemmas
+pub mod SumLemmas
+pub mod PartLemmas

@@ -1,10 +1,10 @@
 pub mod Found
 pub mod Given
 pub mod Kept
+pub mod Laws
 pub mod Left
 pub mod Names
 pub mod Numbered
-pub mod Once
 pub mod Queues
 pub mod Rows
 pub mod Slots

@@ -1,12 +1,12 @@
-//! What is salvaged is given once.
-ghost use Rattle.bdb_apart.specs.Once.{PairsAreGivenOnce, RecordsAreGivenOnce};
+//! Each pair and each loose record that is salvaged stands in just one part.
+ghost use Rattle.bdb_apart.specs.Laws.{EachPairIsInOnePart, EachRecordIsInOnePart};
 
-/// Each pair that is salvaged is given by one database, or names one, or is left.
-pub fn pairs_are_given_once()
-    ensures { PairsAreGivenOnce }
+/// Each pair stands in the section of just one database, or in the rest, or it's an entry that names a database.
+pub fn each_pair_is_in_one_part()
+    ensures { EachPairIsInOnePart }
 {}
 
-/// Each loose record of an image that isn't a queue is given by one database or left.
-pub fn records_are_given_once()
-    ensures { RecordsAreGivenOnce }
+/// Each loose record of an image that isn't a queue stands in the section of just one database, or in the rest.
+pub fn each_record_is_in_one_part()
+    ensures { EachRecordIsInOnePart }
 {}

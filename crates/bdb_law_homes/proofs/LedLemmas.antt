@@ -47,7 +47,7 @@ pub record IsOf (file : File) (p : ℕ) (c : Claim) : Type 0 where
   pub below : Contains (below_in (page_at file c.holder)) c.below
   pub page : c.below.page ≡ p
 
-claims_of : (file : File) (c : Claim) → Contains (all_claims file) c → (c.holder < file.count) × Contains (below_in (page_at file c.holder)) c.below
+pub claims_of : (file : File) (c : Claim) → Contains (all_claims file) c → (c.holder < file.count) × Contains (below_in (page_at file c.holder)) c.below
 unfolding all_claims
 claims_of file c at =
     let page = of_flat_map (λ h. map (claim h) (below_in (page_at file h))) (range_with_len 0 file.count) c at in
@@ -88,7 +88,7 @@ claim_owner file p c is some =
     subst (λ n. first_holder (owners file n) ≡ Some c.holder) of.page (below_owned file c.holder c.below is of.below)
 
 -- a page that is named below another has a claim, and that one holds it
-below_fits : (file : File) (h : ℕ) (b : Below) → IsOwned file → Contains (below_in (page_at file h)) b → is_fit file (claim h b) ≡ true
+pub below_fits : (file : File) (h : ℕ) (b : Below) → IsOwned file → Contains (below_in (page_at file h)) b → is_fit file (claim h b) ≡ true
 unfolding fit_code
 below_fits file h b is at =
     let by : IsReferred file h b = below_referred file h b is.kind at in

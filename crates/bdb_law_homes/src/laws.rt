@@ -2,6 +2,7 @@
 ghost use Rattle.bdb_law_homes.specs.Led.{BucketsAreOfTables, HomesAreOwners, LeavesAreOfBtrees, LeavesAreUnder, NextIsLed, OwnersLeadToOne};
 ghost use Rattle.bdb_law_homes.specs.Led.{SoundFilesAreOwned, StartsAreCounts};
 ghost use Rattle.bdb_law_homes.specs.Owned.{HashPagesAreOfOne, LeavesAreOfOne};
+ghost use Rattle.bdb_law_homes.specs.Salvaged.{SalvagedHomesAreThose};
 
 /// The home of a page by claims is the metadata to which its first owners lead.
 pub fn homes_are_owners()
@@ -51,4 +52,9 @@ pub fn leaves_are_of_one()
 /// Each hash page that isn't empty by itself is one of a bucket of a table.
 pub fn hash_pages_are_of_one()
     ensures { HashPagesAreOfOne }
+{}
+
+/// The homes of the file that salvage reads of a sound image are those of the file.
+pub fn salvaged_homes_are_those()
+    ensures { SalvagedHomesAreThose }
 {}
