@@ -68,6 +68,7 @@ def get(*words, status=0):
 
 NO_PAIRS = b"VERSION=3\nformat=bytevalue\ntype=btree\nduplicates=1\nHEADER=END\nDATA=END\n"
 NO_DUPLICATES = NO_PAIRS.replace(b"duplicates=1\n", b"")
+NO_RECORDS = NO_DUPLICATES.replace(b"btree", b"recno")
 LOADED, REFUSED, TOO_LARGE = (Run(("load",), 0),), (Run(("load",), 8),), (Run(("load", "--max-bytes", "100000"), 6),)
 SOUND = (Run(("verify",), 0), Run(("dump",), 0), Run(("salvage",), 0))
 FAULTY = (Run(("verify",), 1), Run(("dump",), 1), Run(("salvage",), 0))
@@ -78,6 +79,9 @@ CUT_OFF = (Run(("repair", "--max-bytes", "1000000"), 6),)
 REPAIRED = (Run(("repair",), 0),)
 # The data of such a base are far longer than it, too.
 ONTO_CUT_OFF = (Run(("load", "--max-bytes", "1000000"), 6, onto=NO_PAIRS),)
+SINGLE_CUT_OFF = (Run(("load", "--max-bytes", "1000000"), 6, onto=NO_DUPLICATES),)
+RECORDS_CUT_OFF = (Run(("load", "--max-bytes", "1000000"), 6, onto=NO_RECORDS),)
+LONG_CUT_OFF = (Run(("load", "--max-bytes", "4000000"), 6, onto=NO_RECORDS), Run(("repair", "--max-bytes", "4000000"), 6))
 # A key has one datum there, though many are salvaged, all of them one chain.
 KEPT_ONCE = tuple(Run(("repair", "--as", kind, "--max-bytes", "1000000"), 0) for kind in ("btree", "hash"))
 ONTO = (Run(("load",), 0, onto=NO_PAIRS),)
@@ -119,7 +123,8 @@ CLASSES = (
     Class("bucket-chain", "one bucket of pages, each of which is the next one of the page behind it", files.bucket_down, 48_000, "", SOUND + (get("a"),)),
     Class("bucket-ring", "a ring of pages of a bucket", files.bucket_ring, 131_072, "Unreached", FAULTY),
     # Items that share one chain of full pages: the texts of these are longer than their files.
-    Class("chain-full-btree", "data of a btree share a chain", files.full_chain_btree, 8_000, "", SOUND + (get("00000000"),) + CUT_OFF),
+    Class("chain-full-btree", "data of a btree share a chain", files.full_chain_btree, 8_000, "", SOUND + (get("00000000"),) + CUT_OFF + SINGLE_CUT_OFF),
+    Class("chain-full-recno", "records share a chain", files.full_chain_recno, 8_000, "", JUDGED + CUT_OFF + RECORDS_CUT_OFF),
     Class("chain-full-set", "data of one key share a chain", files.full_chain_set, 8_000, "", SOUND + (get("key"),) + CUT_OFF + KEPT_ONCE + ONTO_CUT_OFF),
     Class("chain-megabyte", "a million pairs name one chain of a megabyte", files.megabyte_chain_btree, 1_000_000, "bytes", MEGABYTES),
     Class("chain-megabyte-base", "data of a sound base are one chain of a megabyte", files.megabyte_chain_btree, 5_000, "bytes", ONTO_MEGABYTES),
@@ -173,6 +178,7 @@ CLASSES = (
     Class("deep-counts", "such levels of a btree with counts", files.deep_counts, 4_000, "", SOUND + (get("00000000"),)),
     Class("deep-recno", "such levels of a recno", files.deep_recno, 40_000, "", SOUND + (get("1"),)),
     Class("leaf-empty-recno", "leaves full of entries without bytes, of a recno", files.empty_entries, 256, "", SOUND + (get("1"),)),
+    Class("leaf-long-recno", "leaves full of entries that are one long item", files.long_entries, 64, "", JUDGED + LONG_CUT_OFF),
     Class("leaf-empty-duplicates", "leaves full of data without bytes", files.empty_duplicates, 256, "", SOUND + (get("00000000"),)),
     Class("leaf-empty-sorted", "leaves full of sorted data without bytes", files.empty_sorted_duplicates, 256, "DuplicateOrder", FAULTY),
     Class("leaf-empty-keys", "leaves full of keys without bytes", files.empty_keys, 256, "KeyOrder", FAULTY),

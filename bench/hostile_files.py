@@ -773,6 +773,17 @@ def recno_of(image, numbers, counts):
     return image.btree(image.above(items, RECORD_INTERNAL)[0], RECNO)
 
 
+def full_chain_recno(count):
+    image = Image()
+    rows, kind = rows_of_one(long_item(image.chain(full(counted(count)))), count)
+    return recno_of(image, image.linked(kind, rows, level=1), [len(index) for _, index in rows])
+
+
+def long_entries(count):
+    """The entries of a leaf are one item of half a page."""
+    return recno_of(*full_leaves(LARGE, count, (RECORD_LEAF, lambda at: [inline(key_of(at) * 2_000)]), [0]))
+
+
 def empty_entries(count):
     return recno_of(*full_leaves(LARGE, count, (RECORD_LEAF, lambda _: [inline(b"")]), [0]))
 

@@ -44,6 +44,7 @@ LINES = {
     10: rb"no metadata page\n",
     12: rb"not a btree\n",
     13: rb"items overlap, page \d+\n",
+    14: rb"not one btree, hash or recno\n",
 }
 ALLOWED = {
     "verify": {0, 1, 3},
@@ -55,7 +56,7 @@ ALLOWED = {
     "dump": {0, 1, 3, 9},
     "load": {0, 6, 8},
     "salvage": {0, 10},
-    "repair": {0, 6, 10},
+    "repair": {0, 3, 6, 10, 14},
 }
 
 

@@ -44,7 +44,7 @@ VALUES_OFFERED = {
     "--page-size": "512 1024 2048 4096 8192 16384 32768".split(),
     "--as": ["btree", "hash", "recno"],
 }
-FLAGS = ["--hex", "--print", "--any-order", "--duplicates", "--dupsort"]
+FLAGS = ["--hex", "--print", "--any-order", "--duplicates", "--dupsort", "--apart", "--rest"]
 # Words that no table of check_runs has: odd ones, and those that the shell could take for its own.
 NO_COMMANDS = [
     [b"verify", b"foo.db"],
@@ -83,6 +83,13 @@ NO_COMMANDS = [
     [b"get", b"a b", b"c"],
     [b"range", b"--help", b"x"],
     [b"load", b"--onto", b"k\xe4se"],
+    [b"salvage", b"--apart", b"--rest"],
+    [b"salvage", b"--rest", b"--print", b"--apart"],
+    [b"salvage", b"--apart", b"--apart"],
+    [b"repair", b"--apart", b"--as", b"btree"],
+    [b"repair", b"--as", b"hash", b"--dupsort", b"--apart"],
+    [b"repair", b"--rest"],
+    [b"dump", b"--apart"],
     [b"convert", b"Big"],
     [b"trial", b"btree", b"2147483648", b"1"],
     [b"trial", b"btree", b"1", b"200001"],

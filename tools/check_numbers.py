@@ -21,7 +21,7 @@ SIGNS = {
     ],
     "a flag": [
         rf"\b\w*flags *(?:&|\||\+=|==|!=|<|>) *(?!0\b){NUMBER}",
-        rf"\bhas_bit\([^,]+, *{NUMBER}",
+        rf"\bhas_bit\((?:[^(),]|\([^()]*\))+, *{NUMBER}",
         rf"\bflag\([^,]+, *{NUMBER}",
     ],
     "a row": [

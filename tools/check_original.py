@@ -31,6 +31,8 @@ TOP = pathlib.Path(__file__).resolve().parent.parent
 SECONDS_A_RUN = 120
 TOOLS = ("db5.3_verify", "db5.3_dump", "db5.3_load")
 REFUSED = 8
+# The magic numbers of a queue and a btree, and the flag of a btree whose pairs name databases.
+QUEUE_MAGIC, BTREE_MAGIC, NAMES = 0x042253, 0x053162, 0x20
 # How copies are damaged: pages of other bytes, as many as this fraction of all and one at least; whether page 0 is among them; and how
 # much of the file is left.
 DAMAGES = ((0.01, False, 1), (0.25, False, 1), (0.1, True, 1), (0.05, False, 0.7))
@@ -254,10 +256,19 @@ def asked_of(text, kind, which):
     return [(None, found.get(b"loose", []) if which == "records" else kept(found[b"salvaged"], which))]
 
 
+def is_of_others(image):
+    """Whether page 0 is that of a queue, or of a btree whose pairs name databases."""
+    order = order_words(image)[0]
+    magic, flags = (int.from_bytes(image[at : at + 4], order) for at in (12, 48))
+    return magic == QUEUE_MAGIC or magic == BTREE_MAGIC and flags & NAMES != 0
+
+
 def repaired_wrong(program, folder, image, guess, words, kind, which):
     """What is wrong with what `repair` builds of an image; None where nothing is."""
     text = run(program, "salvage", *guess, given=image)
     ran = run(program, "repair", *words, *guess, given=image)
+    if words and not guess and is_of_others(image):
+        return None if ran.returncode == 14 else f"repair of one database ended with {ran.returncode}"
     if (ran.returncode, ran.stderr) != (text.returncode, text.stderr):
         return f"repair ended with {ran.returncode}, salvage with {text.returncode}: {ran.stderr.decode(errors='replace')}"
     if ran.returncode:

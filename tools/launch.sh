@@ -22,11 +22,12 @@ look_up() {
     dump) set -- 0 'dump [--name NAME] [--print] [--any-order]' 'the dump text of the databases, or of one' ;;
     load) set -- 0 'load [--onto BASE]' 'a file of a dump text, or of BASE with its pairs added' ;;
     salvage)
-        set -- 0 'salvage [--print] [--order ORDER --page-size SIZE]' 'the dump text of what a damaged file still has'
+        set -- 0 'salvage [--print] [--apart] [--rest] [--order ORDER --page-size SIZE]' \
+            'the text of what a damaged file still has'
         ;;
     repair)
-        set -- 0 'repair [--as KIND [--duplicates] [--dupsort]] [--order ORDER --page-size SIZE]' \
-            'a new file of what a damaged one has, with --as of one database'
+        set -- 0 'repair [--apart] [--as KIND [--duplicates] [--dupsort]] [--order ORDER --page-size SIZE]' \
+            'a new file of what a damaged one still has'
         ;;
     convert) set -- 1 'convert ORDER' 'the same file in a byte order' ;;
     stat) set -- 0 'stat' 'what the pages are, and how much of them holds nothing' ;;
@@ -53,8 +54,9 @@ show_help() {
 Each command takes --max-bytes N, the longest input and file. Options stand before the operands; -- ends them.
 `bdbtool COMMAND --help` tells what they say. The input comes by `< FILE`: no command takes its name.
 
-status: 0 done, 1 fault, 2 usage, 3 left out by name, 4 read fault, 5 write fault, 6 too long, 7 out of memory,
-8 fault of a text, 9 not found, 10 no metadata page, 12 not a btree, 13 items overlap
+status: 0 done, 1 fault, 2 usage, 3 not supported, 4 read fault, 5 write fault, 6 too long, 7 out of memory,
+8 fault of a text, 9 not found, 10 no metadata page, 12 not a btree, 13 items overlap,
+14 not one btree, hash or recno
 HELP
     show_more
 }
@@ -86,6 +88,8 @@ show_command() {
     show_option '--hex' 'the operands are spelled by hexadecimal digits, two for each byte'
     show_option '--print' 'keys and data are written in the print spelling; without it by hexadecimal digits'
     show_option '--onto BASE' 'the sound file whose databases the pairs are added to: it is read, and stays as it is'
+    show_option '--apart' 'each database that is found, with its name, kind and settings; not with --rest or --as'
+    show_option '--rest' 'what belongs to no database that is found'
     show_option '--as KIND' 'the new file has one database without a name: btree, hash or recno'
     show_option '--duplicates' 'a key of it has all its data, as they come; not with recno'
     show_option '--dupsort' 'a key of it has all its data, sorted, each once; not with recno'
@@ -213,6 +217,10 @@ go_together() {
     *' --as=recno'*' --dup'* | *' --dup'*' --as=recno'*) return 1 ;;
     *' --as='*) ;;
     *' --dup'*) return 1 ;;
+    esac
+    case "$given " in
+    *' --apart'*' --rest '* | *' --rest'*' --apart '*) return 1 ;;
+    *' --apart'*' --as='* | *' --as='*' --apart '*) return 1 ;;
     esac
 }
 

@@ -6,6 +6,10 @@ pub mod LineLemmas
 pub mod HeldLemmas
 pub mod ReadLemmas
 pub mod KeyedLemmas
+pub mod MetaFitLemmas
+pub mod FoundNameLemmas
+pub mod GivenFitLemmas
+pub mod ApartLemmas
 pub use Rattle.bdb_law_kept.proofs.of_any_order as of_any_order
 pub use Rattle.bdb_law_kept.proofs.of_databases as of_databases
 pub use Rattle.bdb_model.proofs.of_format as of_format

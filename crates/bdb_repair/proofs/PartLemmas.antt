@@ -59,13 +59,13 @@ parts_have_no_errors shape guess image = have_no_errors shape guess (salvaged_fi
 -- Fit pairs.
 
 -- what bounds each key and each datum
-abbrev pair_length : (List ℕ × List ℕ) → ℕ
+abbrev pub pair_length : (List ℕ × List ℕ) → ℕ
 pair_length pair = length pair.0 + length pair.1
 
 abbrev total_length : List (List ℕ) → ℕ
 total_length values = sum_by (λ (value : List ℕ). length value) values
 
-fit_stored : (pairs : List (List ℕ × List ℕ)) → All (IsFitPair false (sum_by pair_length pairs)) (stored_pairs pairs)
+pub fit_stored : (pairs : List (List ℕ × List ℕ)) → All (IsFitPair false (sum_by pair_length pairs)) (stored_pairs pairs)
 fit_stored [] = All-nil (IsFitPair false 0)
 fit_stored (pair ∷ pairs) =
     let sum = sum_by-cons pair_length pair pairs in

@@ -53,14 +53,14 @@ can_be_loaded shape found image reading sections read are =
 -- Refusals.
 
 -- a refusal of sections without an error means that memory ran out, or that their image would be too large
-without_error : (first large : Option LoadError) (error : LoadError) → first ≡ None → IsLoadRefusalBy first large error
+pub without_error : (first large : Option LoadError) (error : LoadError) → first ≡ None → IsLoadRefusalBy first large error
     → (error ≡ MemoryForIt) ⊎ (large ≡ Some error)
 without_error first large error none = subst (λ f. IsLoadRefusalBy f large error → (error ≡ MemoryForIt) ⊎ (large ≡ Some error)) (sym none) (λ so. so)
 
 no_error : (shape : Option Shape) (reading : Reading) (sections : List Section) → sections ≡ sections_read shape reading → load_error sections ≡ None
 no_error shape reading sections are = ap load_error are ∙ parts_have_no_errors shape reading.guess reading.image
 
-large_only : (b : Bool) (error : LoadError) → (if b then Some TooLargeImage else None) ≡ Some error → (b ≡ true) × (error ≡ TooLargeImage)
+pub large_only : (b : Bool) (error : LoadError) → (if b then Some TooLargeImage else None) ≡ Some error → (b ≡ true) × (error ≡ TooLargeImage)
 large_only true error is = let same : TooLargeImage ≡ error = cc is in (refl, sym same)
 large_only false error is = absurd (cc is)
 
@@ -102,7 +102,7 @@ refused_so max shape found image reading sections error read are refused =
           (too_large_so max shape found image reading read large.0)
     ]
 
-not_large : (b : Bool) → (if b then Some TooLargeImage else None) ≡ None → b ≡ false
+pub not_large : (b : Bool) → (if b then Some TooLargeImage else None) ≡ None → b ≡ false
 not_large true none = absurd (cc none)
 not_large false none = refl
 

@@ -33,7 +33,7 @@ fn repair_refusal(error: LoadError) -> RepairError
 }
 
 // What was loaded, or why nothing was.
-fn answer_of(loaded: Result<Image, LoadError>) -> Result<Image, RepairError>
+pub(crate) fn answer_of(loaded: Result<Image, LoadError>) -> Result<Image, RepairError>
     requires causes { IfErr loaded (λ error. IsTrue (may_come error)) }
     requires tables { IfOk loaded (λ image. HasBuiltTables image) }
     ensures answer { result ≡ repair_answer loaded }

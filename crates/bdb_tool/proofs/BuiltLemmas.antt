@@ -1,13 +1,21 @@
 -- Answers of the commands that build a file, and of `salvage`.
-use Rattle.std.proofs.Common.{◌≡◌, ℕ, Bool, true, false, List, sym, subst, arith, Option, Some, None, Result, nat_lt, codes, string_bytes}
+use Rattle.std.proofs.Common.{◌≡◌, ◌⊎◌, ℕ, Bool, true, false, List, [], ◌∷◌, map, ap, refl, sym, subst, arith, inl, inr, Option, Some, None, Result, nat_lt, codes, string_bytes}
 use Rattle.bdb_repair.specs.of_text_format.Terms.{line, text_fault}
 use Rattle.bdb_repair.specs.of_model.Answers.{Answer, done, fault_line, told, unsupported_line}
 use Rattle.bdb_repair.specs.of_model.Change.{Change}
+use Rattle.bdb_repair.specs.of_model.Lines.{memory_line}
+use Rattle.bdb_repair.specs.of_apart.Found.{Found, found}
+use Rattle.bdb_repair.specs.of_apart.Given.{FoundIn, found_in}
+use Rattle.bdb_repair.specs.of_apart.Text.{apart_text, rest_text}
+use Rattle.bdb_repair.specs.of_format.declared.kinds.Unsupported.{Unsupported}
+use Rattle.bdb_repair.specs.of_rescue.Kept.{Reading}
+use Rattle.bdb_tool_words.specs.declared.command.Parts.{Parts}
+use Rattle.bdb_tool_words.specs.declared.command.Parts.TheVariants.{Together, Apart, Rest}
 use Rattle.bdb_repair.specs.of_format.Terms.{Faulty, Judgement, LeftOut, verdict_of}
 use Rattle.bdb_repair.specs.of_rescue.Text.{salvage_text}
-use Rattle.bdb_repair.specs.of_rescue.Guesses.{chosen}
+use Rattle.bdb_repair.specs.of_rescue.Guesses.{chosen, unsupported_case}
 use Rattle.bdb_repair.specs.of_survey.declared.guess.Guess.{Guess}
-use Rattle.bdb_tool.specs.Outputs.{salvage_answer, salvaged_answer}
+use Rattle.bdb_tool.specs.Outputs.{apart_answer, found_answer, no_metadata, parts_answer, rest_answer, salvage_answer, salvaged_answer, unless_unsupported}
 use Rattle.bdb_tool_ask.specs.of_tool_lines.Finished.{Finishes, HasOwnStatus, Reports, Tells}
 use Rattle.bdb_tool.specs.Parts.{Answered, Ends, IsRefusalTold, Unanswered}
 use Rattle.bdb_repair.specs.of_format.declared.kinds.Kind.{Kind}
@@ -21,14 +29,14 @@ use Rattle.bdb_repair.specs.of_mkfile.Loading.{loading_error}
 use Rattle.bdb_tool_build.specs.declared.refusal.Refusal.{Refusal}
 use Rattle.bdb_tool_build.specs.declared.refusal.Refusal.TheVariants.{Faulty as FaultyText, TooLarge as TooLargeImage, Memory as MemoryRefusal}
 use Rattle.bdb_tool_build.specs.Loads.{IsLoadAnswerBy, IsErrorAnswer, IsLoadAnswer, IsTextAnswer}
-use Rattle.bdb_onto.specs.declared.base.Base.{Base}
-use Rattle.bdb_onto.specs.Bases.{base_of}
-use Rattle.bdb_onto.specs.Onto.{loading_error_onto}
+use Rattle.bdb_tool_build.specs.of_onto.declared.base.Base.{Base}
+use Rattle.bdb_tool_build.specs.of_onto.Bases.{base_of}
+use Rattle.bdb_tool_build.specs.of_onto.Onto.{loading_error_onto}
 use Rattle.bdb_tool_build.specs.Ontos.{IsLoadOnto, IsTextOntoBy}
 use Rattle.bdb_tool.specs.Ontos.{IsOntoBy}
 use Rattle.bdb_tool_build.specs.Refusals.{IsRefusedAnswer}
 use Rattle.bdb_tool_build.specs.Trials.{IsTrialAnswer, IsTrialBy, trial_sections}
-use Rattle.bdb_tool_ask.proofs.of_tool_lines.FinishLemmas.{low_own, told_finishes, written_finishes}
+use Rattle.bdb_tool_ask.proofs.of_tool_lines.FinishLemmas.{low_own, memory_finishes, told_finishes, written_finishes}
 use Rattle.bdb_tool_ask.specs.of_tool_lines.declared.cut.Cut.{Cut}
 use Rattle.bdb_tool_ask.specs.of_tool_lines.Printing.{Writes}
 use Rattle.bdb_tool_ask.proofs.of_tool_lines.PrintingLemmas.{moved}
@@ -103,12 +111,40 @@ refusal_ends allowed MemoryRefusal written faults err status is tells = Unanswer
 
 -- `salvage`.
 
+low_own_ten : HasOwnStatus no_metadata
+low_own_ten = record { no_read_fault = λ four. omega arith; no_write_fault = λ five. omega arith; no_memory = λ seven. omega arith }
+
 salvaged_own : (guess : Option Guess) (print : Bool) (image : List ℕ) → HasOwnStatus (salvaged_answer guess print image)
-salvaged_own None print image = record { no_read_fault = λ is. omega arith; no_write_fault = λ is. omega arith; no_memory = λ is. omega arith }
-salvaged_own (Some guess) print image = record { no_read_fault = λ is. omega arith; no_write_fault = λ is. omega arith; no_memory = λ is. omega arith }
+salvaged_own None print image = low_own_ten
+salvaged_own (Some guess) print image = low_own (done (salvage_text print guess image)) (omega arith)
 
 pub salvage_own : (guess : Option Guess) (print : Bool) (image : List ℕ) → HasOwnStatus (salvage_answer guess print image)
 salvage_own guess print image = salvaged_own (chosen guess image) print image
+
+-- What is salvaged database by database.
+
+apart_own : (dbs : List Found) (print : Bool) (guess : Guess) (image : List ℕ) → HasOwnStatus (apart_answer dbs print guess image)
+apart_own [] print guess image = low_own_ten
+apart_own (first ∷ others) print guess image = low_own (done (apart_text print guess image)) (omega arith)
+
+found_own : (found : Option Guess) (print : Bool) (image : List ℕ) → HasOwnStatus (found_answer found print image)
+found_own None print image = low_own_ten
+found_own (Some guess) print image = apart_own (found (record { guess = guess; image = image })) print guess image
+
+rest_own : (found : Option Guess) (print : Bool) (image : List ℕ) → HasOwnStatus (rest_answer found print image)
+rest_own None print image = low_own_ten
+rest_own (Some guess) print image = low_own (done (rest_text print guess image)) (omega arith)
+
+unless_own : (left : Option Unsupported) (answer : Answer) → HasOwnStatus answer → HasOwnStatus (unless_unsupported left answer)
+unless_own None answer own = own
+unless_own (Some name) answer own = low_own (told 3 (unsupported_line name 0)) (omega arith)
+
+pub parts_own : (parts : Parts) (guess : Option Guess) (print : Bool) (image : List ℕ) → HasOwnStatus (parts_answer parts guess print image)
+parts_own Together guess print image = salvage_own guess print image
+parts_own Apart guess print image =
+    unless_own (unsupported_case guess image) (found_answer (chosen guess image) print image) (found_own (chosen guess image) print image)
+parts_own Rest guess print image =
+    unless_own (unsupported_case guess image) (rest_answer (chosen guess image) print image) (rest_own (chosen guess image) print image)
 
 -- what is salvaged by the guess that was chosen was written, or cut off, and that was told
 pub salvage_finishes : (given : Option Guess) (print : Bool) (image : List ℕ) (guess : Guess) (read : List ℕ) (out err : Change) (written : Result Unit Cut)
@@ -119,10 +155,107 @@ salvage_finishes given print image guess read out err written status is same wri
     (written_finishes (salvage_text print guess image) out err written status (subst (λ bytes. Writes (salvage_text print guess bytes) out written) same writes)
     reports)
 
--- it was told that no guess is known
-pub no_meta_finishes : (given : Option Guess) (print : Bool) (image : List ℕ) (written : Option (List ℕ)) (faults : ℕ) (err : Change) (status : ℕ)
-    → chosen given image ≡ None → Tells (line (codes "no metadata page")) 10 err status
-    → Finishes (salvage_answer given print image) (moved written written faults faults) err status
-no_meta_finishes given print image written faults err status none tells =
-    subst (λ it. Finishes (salvaged_answer it print image) (moved written written faults faults) err status) (sym none)
+-- it was told that there is no metadata page
+pub no_meta_finishes : (answer : Answer) (written : Option (List ℕ)) (faults : ℕ) (err : Change) (status : ℕ) → answer ≡ no_metadata
+    → Tells (line (codes "no metadata page")) 10 err status → Finishes answer (moved written written faults faults) err status
+no_meta_finishes answer written faults err status is tells =
+    subst (λ it. Finishes it (moved written written faults faults) err status) (sym is)
     (told_finishes 10 (line (codes "no metadata page")) written faults err status (λ five. omega arith) (λ seven. omega arith) tells)
+
+-- without a guess there is none
+pub no_salvage : (given : Option Guess) (print : Bool) (image : List ℕ) → chosen given image ≡ None → salvage_answer given print image ≡ no_metadata
+no_salvage given print image none = ap (λ it. salvaged_answer it print image) none
+
+pub no_found : (given : Option Guess) (print : Bool) (image : List ℕ) → chosen given image ≡ None → found_answer (chosen given image) print image ≡ no_metadata
+no_found given print image none = ap (λ it. found_answer it print image) none
+
+pub no_rest : (given : Option Guess) (print : Bool) (image : List ℕ) → chosen given image ≡ None → rest_answer (chosen given image) print image ≡ no_metadata
+no_rest given print image none = ap (λ it. rest_answer it print image) none
+
+-- nor where no database is found
+pub no_database : (reading : Reading) (print : Bool) → found_in reading ≡ [] → apart_answer (found reading) print reading.guess reading.image ≡ no_metadata
+no_database reading print none = by_list (found reading) none
+  where
+    by_list : (dbs : List Found) → ◌≡◌ {A = List FoundIn} (map (λ db. record { reading = reading; db = db }) dbs) [] → apart_answer dbs print reading.guess reading.image
+        ≡ no_metadata
+    by_list [] none = refl
+    by_list (db ∷ dbs) none = absurd (cc none)
+
+-- where one is found the text of all was written, or cut off, and that was told
+pub apart_finishes : (reading : Reading) (print : Bool) (first : FoundIn) (others : List FoundIn) (out err : Change) (written : Result Unit Cut) (status : ℕ)
+    → found_in reading ≡ first ∷ others → Writes (apart_text print reading.guess reading.image) out written → Reports written err status
+    → Finishes (apart_answer (found reading) print reading.guess reading.image) out err status
+apart_finishes reading print first others out err written status some writes reports = by_list (found reading) some
+  where
+    by_list : (dbs : List Found) → map (λ db. record { reading = reading; db = db }) dbs ≡ first ∷ others
+        → Finishes (apart_answer dbs print reading.guess reading.image) out err status
+    by_list [] none = absurd (cc none)
+    by_list (db ∷ dbs) some = written_finishes (apart_text print reading.guess reading.image) out err written status writes reports
+
+-- the text of what belongs to none was written, or cut off, and that was told
+pub rest_written : (reading now : Reading) (print : Bool) (out err : Change) (written : Result Unit Cut) (status : ℕ) → reading ≡ now
+    → Writes (rest_text print reading.guess reading.image) out written → Reports written err status
+    → Finishes (done (rest_text print now.guess now.image)) out err status
+rest_written reading now print out err written status same writes reports =
+    written_finishes (rest_text print now.guess now.image) out err written status
+    (subst (λ it. Writes (rest_text print it.guess it.image) out written) same writes) reports
+
+pub apart_memory : (reading : Reading) (print : Bool) (written : Option (List ℕ)) (faults : ℕ) (err : Change) (status : ℕ) → Tells memory_line 7 err status
+    → Finishes (apart_answer (found reading) print reading.guess reading.image) (moved written written faults faults) err status
+apart_memory reading print written faults err status tells =
+    memory_finishes (apart_answer (found reading) print reading.guess reading.image) written faults err status
+    (apart_own (found reading) print reading.guess reading.image) tells
+
+-- what is answered of an image that was read by the guess that was chosen
+pub found_finishes : (given : Option Guess) (print : Bool) (image : List ℕ) (reading : Reading) (out err : Change) (status : ℕ)
+    → chosen given image ≡ Some reading.guess → reading.image ≡ image
+    → Finishes (apart_answer (found reading) print reading.guess reading.image) out err status
+    → Finishes (found_answer (chosen given image) print image) out err status
+found_finishes given print image reading out err status is same finishes =
+    subst (λ it. Finishes (found_answer it print image) out err status) (sym is)
+    (subst (λ bytes. Finishes (apart_answer (found (record { guess = reading.guess; image = bytes })) print reading.guess bytes) out err status) same finishes)
+
+pub rest_finishes : (given : Option Guess) (print : Bool) (image : List ℕ) (reading : Reading) (out err : Change) (status : ℕ)
+    → chosen given image ≡ Some reading.guess → reading.image ≡ image
+    → Finishes (done (rest_text print reading.guess reading.image)) out err status → Finishes (rest_answer (chosen given image) print image) out err status
+rest_finishes given print image reading out err status is same finishes =
+    subst (λ it. Finishes (rest_answer it print image) out err status) (sym is)
+    (subst (λ bytes. Finishes (done (rest_text print reading.guess bytes)) out err status) same finishes)
+
+-- memory was wanting
+pub salvage_memory : (given : Option Guess) (print : Bool) (image : List ℕ) (written : Option (List ℕ)) (faults : ℕ) (err : Change) (status : ℕ)
+    → Tells memory_line 7 err status → Finishes (salvage_answer given print image) (moved written written faults faults) err status
+salvage_memory given print image written faults err status tells =
+    memory_finishes (salvage_answer given print image) written faults err status (salvage_own given print image) tells
+
+pub found_memory : (given : Option Guess) (print : Bool) (image : List ℕ) (written : Option (List ℕ)) (faults : ℕ) (err : Change) (status : ℕ)
+    → Tells memory_line 7 err status → Finishes (found_answer (chosen given image) print image) (moved written written faults faults) err status
+found_memory given print image written faults err status tells =
+    memory_finishes (found_answer (chosen given image) print image) written faults err status (found_own (chosen given image) print image) tells
+
+pub rest_memory : (given : Option Guess) (print : Bool) (image : List ℕ) (written : Option (List ℕ)) (faults : ℕ) (err : Change) (status : ℕ)
+    → Tells memory_line 7 err status → Finishes (rest_answer (chosen given image) print image) (moved written written faults faults) err status
+rest_memory given print image written faults err status tells =
+    memory_finishes (rest_answer (chosen given image) print image) written faults err status (rest_own (chosen given image) print image) tells
+
+-- A case that page 0 names.
+
+pub case_told : (name : Unsupported) (written : Option (List ℕ)) (faults : ℕ) (err : Change) (status : ℕ) → Tells (unsupported_line name 0) 3 err status
+    → Finishes (told 3 (unsupported_line name 0)) (moved written written faults faults) err status
+case_told name written faults err status tells =
+    told_finishes 3 (unsupported_line name 0) written faults err status (λ five. omega arith) (λ seven. omega arith) tells
+
+pub case_finishes : (left : Option Unsupported) (name : Unsupported) (answer : Answer) (written : Option (List ℕ)) (faults : ℕ) (err : Change) (status : ℕ)
+    → Some name ≡ left → (Tells (unsupported_line name 0) 3 err status ⊎ Tells memory_line 7 err status)
+    → Finishes (unless_unsupported left answer) (moved written written faults faults) err status
+case_finishes left name answer written faults err status is tells =
+    subst (λ it. Finishes (unless_unsupported it answer) (moved written written faults faults) err status) is
+    (elim tells [
+      | inl case ↦ case_told name written faults err status case
+      | inr memory ↦
+          memory_finishes (told 3 (unsupported_line name 0)) written faults err status (low_own (told 3 (unsupported_line name 0)) (omega arith)) memory
+    ])
+
+pub no_case_finishes : (left : Option Unsupported) (answer : Answer) (out err : Change) (status : ℕ) → None ≡ left → Finishes answer out err status
+    → Finishes (unless_unsupported left answer) out err status
+no_case_finishes left answer out err status none finishes = subst (λ it. Finishes (unless_unsupported it answer) out err status) none finishes

@@ -13,8 +13,8 @@ use Rattle.bdb_repair.specs.of_model.Answers.{Answer, told}
 use Rattle.bdb_repair.specs.of_model.Change.{Change}
 use Rattle.bdb_repair.specs.of_model.Lines.{memory_line}
 use Rattle.bdb_tool_ask.proofs.of_tool_lines.PrintingLemmas.{moved}
-use Rattle.bdb_onto.specs.declared.base.Base.{Base}
-use Rattle.bdb_onto.specs.Bases.{IsBaseOf}
+use Rattle.bdb_tool_build.specs.of_onto.declared.base.Base.{Base}
+use Rattle.bdb_tool_build.specs.of_onto.Bases.{IsBaseOf}
 use Rattle.bdb_tool_build.specs.Ontos.{IsTextOnto}
 use Rattle.bdb_tool_words.specs.Commands.{Command, LoadOnto, command_of, command_on, handed, reads_base}
 use Rattle.bdb_tool.specs.Ontos.{IsOntoAnswer, IsOntoBy, IsOntoBySize, base_too_large_line}

@@ -1,79 +1,214 @@
 -- What `repair` answers.
-use Rattle.std.proofs.Common.{◌≡◌, ◌⊎◌, ℕ, Bool, true, false, List, Option, Some, None, Result, Ok, Err, inl, inr, refl, sym, subst, arith, nat_lt}
+use Rattle.std.proofs.Common.{◌≡◌, ◌∙◌, ◌⊎◌, ℕ, Bool, true, false, List, [], ◌∷◌, Option, Some, None, Result, Ok, Err, IfOk, ap, arith, codes, inl, inr}
+use Rattle.std.proofs.Common.{is_some, nat_lt, refl, sym, subst}
+use Rattle.std.specs.Prelude.{⊤}
 use Rattle.bdb_repair.proofs.of_format.KnownLemmas.{keeps_itself}
+use Rattle.bdb_repair.proofs.of_format.ListLemmas.{one_answer}
+use Rattle.bdb_repair.specs.of_text_format.Terms.{line}
+use Rattle.bdb_repair.specs.of_format.declared.kinds.Unsupported.{Unsupported}
 use Rattle.bdb_repair.specs.of_text_format.declared.sections.Section.{Section}
-use Rattle.bdb_tool_ask.specs.of_tool_lines.declared.cut.Cut.{Cut}
-use Rattle.bdb_tool_ask.specs.of_tool_lines.Printing.{Writes}
 use Rattle.bdb_tool_ask.proofs.of_tool_lines.PrintingLemmas.{moved}
 use Rattle.bdb_repair.specs.of_mkfile.Builds.{image_size}
 use Rattle.bdb_repair.specs.of_mkfile.NamedImages.{HasBuiltTables}
-use Rattle.bdb_repair.specs.of_model.Answers.{Answer, done, told}
+use Rattle.bdb_repair.specs.of_model.Answers.{Answer, done, told, unsupported_line}
 use Rattle.bdb_repair.specs.of_model.Change.{Change}
 use Rattle.bdb_repair.specs.of_model.Lines.{memory_line}
 use Rattle.bdb_repair.specs.declared.error.RepairError.{RepairError}
-use Rattle.bdb_repair.specs.declared.error.RepairError.TheVariants.{NoMeta, TooLarge}
+use Rattle.bdb_repair.specs.declared.error.RepairError.TheVariants.{NoMeta, TooLarge, Memory}
 use Rattle.bdb_repair.specs.of_model.declared.shape.Shape.{Shape}
+use Rattle.bdb_repair.specs.Apart.{AreBuilt, IsRepairedApart, apart_sections}
 use Rattle.bdb_repair.specs.Parts.{repair_sections}
 use Rattle.bdb_repair.specs.Repairs.{IsRepaired}
-use Rattle.bdb_repair.specs.of_rescue.Guesses.{chosen}
+use Rattle.bdb_repair.specs.of_rescue.Guesses.{chosen, is_queue_or_master, unsupported_case}
 use Rattle.bdb_repair.specs.of_survey.declared.guess.Guess.{Guess}
-use Rattle.bdb_tool.specs.Outputs.{IsImageBy, IsRepairAnswer, IsRepairBy, no_metadata}
-use Rattle.bdb_tool_ask.specs.of_tool_lines.Finished.{HasOwnStatus, Reports, Tells}
-use Rattle.bdb_tool.specs.Parts.{Answered, Ends, Unanswered}
-use Rattle.bdb_tool_ask.proofs.of_tool_lines.FinishLemmas.{told_finishes, written_finishes}
+use Rattle.bdb_tool.specs.Outputs.{AreBuiltBy, IsApartAnswer, IsImageBy, IsRepairAnswer, IsRepairBy, IsRepairUnless, IsShapedAnswer}
+use Rattle.bdb_tool.specs.Outputs.{IsUnlessUnsupported, no_metadata, not_one, shape_refusal}
+use Rattle.bdb_tool_ask.specs.of_tool_lines.Finished.{HasOwnStatus, Tells}
+use Rattle.bdb_tool.specs.Parts.{Answered, Ends, IsBuiltTold, Unanswered}
+use Rattle.bdb_tool_ask.proofs.of_tool_lines.FinishLemmas.{low_own, told_finishes}
 use Rattle.bdb_tool_build.specs.Lines.{image_too_large_line}
+use Rattle.bdb_tool_words.specs.declared.command.Built.{Built}
+use Rattle.bdb_tool_words.specs.declared.command.Built.TheVariants.{Each, Shaped}
 
--- What is repaired is an answer.
+-- What is built is an answer.
 
-built_by : (limit : ℕ) (shape : Option Shape) (found : Option Guess) (image built : List ℕ) → IsRepaired limit shape found image (Ok built)
-    → HasBuiltTables built → IsRepairBy limit shape found image (done built)
-built_by limit shape None image built is tables = absurd is
-built_by limit shape (Some guess) image built is tables =
+-- the answer to a result is allowed; memory may be wanting
+abbrev pub Allows : (Answer → Type 0) → ℕ → Result (List ℕ) RepairError → Type 0
+Allows allowed limit (Ok built) = allowed (done built)
+Allows allowed limit (Err NoMeta) = allowed no_metadata
+Allows allowed limit (Err TooLarge) = allowed (told 6 (image_too_large_line limit))
+Allows allowed limit (Err Memory) = ⊤
+
+pub shaped_allowed : (limit : ℕ) (shape : Option Shape) (found : Option Guess) (image : List ℕ) (result : Result (List ℕ) RepairError)
+    → IsRepaired limit shape found image result → IfOk result (λ built. HasBuiltTables built) → Allows (IsRepairBy limit shape found image) limit result
+shaped_allowed limit shape None image (Ok built) is tables = absurd is
+shaped_allowed limit shape None image (Err NoMeta) is tables = refl
+shaped_allowed limit shape None image (Err TooLarge) is tables = absurd is
+shaped_allowed limit shape None image (Err Memory) is tables = absurd is
+shaped_allowed limit shape (Some guess) image (Ok built) is tables =
     subst (λ large. IsImageBy large limit (repair_sections shape guess image) (done built)) (sym is.1)
     (record { image = built; built = is.0; tables = tables; answer_is = refl })
-
-no_guess_by : (limit : ℕ) (shape : Option Shape) (found : Option Guess) (image : List ℕ) → IsRepaired limit shape found image (Err NoMeta)
-    → IsRepairBy limit shape found image no_metadata
-no_guess_by limit shape None image is = refl
-no_guess_by limit shape (Some guess) image is = absurd is
-
-large_by : (limit : ℕ) (shape : Option Shape) (found : Option Guess) (image : List ℕ) → IsRepaired limit shape found image (Err TooLarge)
-    → IsRepairBy limit shape found image (told 6 (image_too_large_line limit))
-large_by limit shape None image is = absurd is
-large_by limit shape (Some guess) image is =
+shaped_allowed limit shape (Some guess) image (Err NoMeta) is tables = absurd is
+shaped_allowed limit shape (Some guess) image (Err TooLarge) is tables =
     subst (λ large. IsImageBy large limit (repair_sections shape guess image) (told 6 (image_too_large_line limit))) (sym is) refl
+shaped_allowed limit shape (Some guess) image (Err Memory) is tables = tt
 
--- what was refused within a number of bytes that is the limit
-pub refused_within : (max limit : ℕ) (shape : Option Shape) (found : Option Guess) (image : List ℕ) (error told_error : RepairError) → max ≡ limit
-    → error ≡ told_error → IsRepaired max shape found image (Err error) → IsRepaired limit shape found image (Err told_error)
-refused_within max limit shape found image error told_error same is refused =
-    subst (λ (n : ℕ). IsRepaired n shape found image (Err told_error)) same
-    (subst (λ (it : RepairError). IsRepaired max shape found image (Err it)) is refused)
+sections_allowed : (limit : ℕ) (sections : List Section) (result : Result (List ℕ) RepairError) → AreBuilt limit sections result
+    → IfOk result (λ built. HasBuiltTables built) → Allows (AreBuiltBy limit sections) limit result
+sections_allowed limit [] (Ok built) is tables = absurd is
+sections_allowed limit [] (Err NoMeta) is tables = refl
+sections_allowed limit [] (Err TooLarge) is tables = absurd is
+sections_allowed limit [] (Err Memory) is tables = tt
+sections_allowed limit (first ∷ others) (Ok built) is tables =
+    subst (λ large. IsImageBy large limit (first ∷ others) (done built)) (sym is.1) (record { image = built; built = is.0; tables = tables; answer_is = refl })
+sections_allowed limit (first ∷ others) (Err NoMeta) is tables = absurd is
+sections_allowed limit (first ∷ others) (Err TooLarge) is tables =
+    subst (λ large. IsImageBy large limit (first ∷ others) (told 6 (image_too_large_line limit))) (sym is) refl
+sections_allowed limit (first ∷ others) (Err Memory) is tables = tt
+
+pub apart_allowed : (limit : ℕ) (found : Option Guess) (image : List ℕ) (result : Result (List ℕ) RepairError) → IsRepairedApart limit found image result
+    → IfOk result (λ built. HasBuiltTables built) → Allows (IsApartAnswer limit found image) limit result
+apart_allowed limit None image (Ok built) is tables = absurd is
+apart_allowed limit None image (Err NoMeta) is tables = refl
+apart_allowed limit None image (Err TooLarge) is tables = absurd is
+apart_allowed limit None image (Err Memory) is tables = tt
+apart_allowed limit (Some guess) image (Ok built) is tables = sections_allowed limit (apart_sections guess image) (Ok built) is tables
+apart_allowed limit (Some guess) image (Err NoMeta) is tables = sections_allowed limit (apart_sections guess image) (Err NoMeta) is tables
+apart_allowed limit (Some guess) image (Err TooLarge) is tables = sections_allowed limit (apart_sections guess image) (Err TooLarge) is tables
+apart_allowed limit (Some guess) image (Err Memory) is tables = tt
 
 -- The answer is written, or told.
 
-pub built_ends : (limit : ℕ) (shape : Option Shape) (given : Option Guess) (image built : List ℕ) (out err : Change) (written : Result Unit Cut) (status : ℕ)
-    → IsRepaired limit shape (chosen given image) image (Ok built) → HasBuiltTables built → Writes built out written → Reports written err status
-    → Ends (IsRepairAnswer limit shape given image) out err status
-built_ends limit shape given image built out err written status is tables writes reports =
-    Answered (done built) (built_by limit shape (chosen given image) image built is tables) (written_finishes built out err written status writes reports)
+pub built_ends : (allowed : Answer → Type 0) (limit : ℕ) (result : Result (List ℕ) RepairError) (out err : Change) (status : ℕ) → Allows allowed limit result
+    → IsBuiltTold limit result out err status → Ends allowed out err status
+built_ends allowed limit (Ok built) out err status is finishes = Answered (done built) is finishes
+built_ends allowed limit (Err NoMeta) out err status is finishes = Answered no_metadata is finishes
+built_ends allowed limit (Err TooLarge) out err status is (inl finishes) = Answered (told 6 (image_too_large_line limit)) is finishes
+built_ends allowed limit (Err TooLarge) out err status is (inr memory) = Unanswered memory.0 memory.1
+built_ends allowed limit (Err Memory) out err status is memory = Unanswered memory.0 memory.1
 
-pub no_guess_ends : (limit : ℕ) (shape : Option Shape) (given : Option Guess) (image : List ℕ) (written : Option (List ℕ)) (faults : ℕ) (err : Change)
-    (status : ℕ)
-    → IsRepaired limit shape (chosen given image) image (Err NoMeta) → Tells no_metadata.err 10 err status
-    → Ends (IsRepairAnswer limit shape given image) (moved written written faults faults) err status
-no_guess_ends limit shape given image written faults err status is tells =
-    Answered no_metadata (no_guess_by limit shape (chosen given image) image is)
-    (told_finishes 10 no_metadata.err written faults err status (λ five. omega arith) (λ seven. omega arith) tells)
+-- what was built within a number of bytes that is the limit
+pub shaped_ends : (limit max : ℕ) (shape : Option Shape) (given : Option Guess) (image : List ℕ) (result : Result (List ℕ) RepairError) (out err : Change)
+    (status : ℕ) → max ≡ limit → IsRepaired max shape (chosen given image) image result → IfOk result (λ built. HasBuiltTables built)
+    → IsBuiltTold limit result out err status → Ends (IsRepairBy limit shape (chosen given image) image) out err status
+shaped_ends limit max shape given image result out err status same is tables told_so =
+    built_ends (IsRepairBy limit shape (chosen given image) image) limit result out err status
+    (shaped_allowed limit shape (chosen given image) image result (subst (λ n. IsRepaired n shape (chosen given image) image result) same is) tables) told_so
 
-pub large_ends : (limit : ℕ) (shape : Option Shape) (given : Option Guess) (image : List ℕ) (written : Option (List ℕ)) (faults : ℕ) (err : Change) (status : ℕ)
-    → IsRepaired limit shape (chosen given image) image (Err TooLarge)
+pub found_ends : (limit max : ℕ) (given : Option Guess) (image : List ℕ) (result : Result (List ℕ) RepairError) (out err : Change) (status : ℕ)
+    → max ≡ limit → IsRepairedApart max (chosen given image) image result → IfOk result (λ built. HasBuiltTables built)
+    → IsBuiltTold limit result out err status → Ends (IsApartAnswer limit (chosen given image) image) out err status
+found_ends limit max given image result out err status same is tables told_so =
+    built_ends (IsApartAnswer limit (chosen given image) image) limit result out err status
+    (apart_allowed limit (chosen given image) image result (subst (λ n. IsRepairedApart n (chosen given image) image result) same is) tables) told_so
+
+pub known_ends : (limit : ℕ) (given : Option Guess) (image : List ℕ) (out err : Change) (status : ℕ) → None ≡ unsupported_case given image
+    → Ends (IsApartAnswer limit (chosen given image) image) out err status
+    → Ends (IsUnlessUnsupported (unsupported_case given image) limit (chosen given image) image) out err status
+known_ends limit given image out err status none ends =
+    subst (λ left. Ends (IsUnlessUnsupported left limit (chosen given image) image) out err status) none ends
+
+pub each_case_ends : (limit : ℕ) (given : Option Guess) (image : List ℕ) (name : Unsupported) (written : Option (List ℕ)) (faults : ℕ) (err : Change) (status : ℕ)
+    → Some name ≡ unsupported_case given image → (Tells (unsupported_line name 0) 3 err status ⊎ Tells memory_line 7 err status)
+    → Ends (IsUnlessUnsupported (unsupported_case given image) limit (chosen given image) image) (moved written written faults faults) err status
+each_case_ends limit given image name written faults err status is tells =
+    subst (λ left. Ends (IsUnlessUnsupported left limit (chosen given image) image) (moved written written faults faults) err status) is
+    (elim tells [
+      | inl case ↦
+          Answered (told 3 (unsupported_line name 0)) refl
+          (told_finishes 3 (unsupported_line name 0) written faults err status (λ five. omega arith) (λ seven. omega arith) case)
+      | inr memory ↦ Unanswered (keeps_itself written) memory
+    ])
+
+-- what was told of a result was told of the same
+pub told_as : (limit : ℕ) (result other : Result (List ℕ) RepairError) (out err : Change) (status : ℕ) → result ≡ other
+    → IsBuiltTold limit other out err status → IsBuiltTold limit result out err status
+told_as limit result other out err status is told_so = subst (λ r. IsBuiltTold limit r out err status) (sym is) told_so
+
+-- by what the new file has
+pub asked_ends : (limit : ℕ) (built asked : Built) (given : Option Guess) (image : List ℕ) (out err : Change) (status : ℕ) → asked ≡ built
+    → Ends (IsRepairAnswer limit built given image) out err status → Ends (IsRepairAnswer limit asked given image) out err status
+asked_ends limit built asked given image out err status is ends = subst (λ b. Ends (IsRepairAnswer limit b given image) out err status) (sym is) ends
+
+-- that an image would be too large was told
+pub large_told : (limit : ℕ) (written : Option (List ℕ)) (faults : ℕ) (err : Change) (status : ℕ)
     → (Tells (image_too_large_line limit) 6 err status ⊎ Tells memory_line 7 err status)
-    → Ends (IsRepairAnswer limit shape given image) (moved written written faults faults) err status
-large_ends limit shape given image written faults err status is (inl tells) =
-    Answered (told 6 (image_too_large_line limit)) (large_by limit shape (chosen given image) image is)
-    (told_finishes 6 (image_too_large_line limit) written faults err status (λ five. omega arith) (λ seven. omega arith) tells)
-large_ends limit shape given image written faults err status is (inr tells) = Unanswered (keeps_itself written) tells
+    → IsBuiltTold limit (Err TooLarge) (moved written written faults faults) err status
+large_told limit written faults err status (inl tells) =
+    inl (told_finishes 6 (image_too_large_line limit) written faults err status (λ five. omega arith) (λ seven. omega arith) tells)
+large_told limit written faults err status (inr tells) = inr (keeps_itself written, tells)
+
+pub no_meta_told : (limit : ℕ) (written : Option (List ℕ)) (faults : ℕ) (err : Change) (status : ℕ) → Tells no_metadata.err 10 err status
+    → IsBuiltTold limit (Err NoMeta) (moved written written faults faults) err status
+no_meta_told limit written faults err status tells =
+    told_finishes 10 no_metadata.err written faults err status (λ five. omega arith) (λ seven. omega arith) tells
+
+pub memory_told : (limit : ℕ) (written : Option (List ℕ)) (faults : ℕ) (err : Change) (status : ℕ) → Tells memory_line 7 err status
+    → IsBuiltTold limit (Err Memory) (moved written written faults faults) err status
+memory_told limit written faults err status tells = (keeps_itself written, tells)
+
+-- One database is asked for, and page 0 says that the file isn't one.
+
+refused_by : (refusal : Option Answer) (status limit : ℕ) (text : List ℕ) (shape : Option Shape) (given : Option Guess) (image : List ℕ)
+    → refusal ≡ Some (told status text) → IsRepairUnless refusal limit shape given image (told status text)
+refused_by refusal status limit text shape given image is =
+    subst (λ (it : Option Answer). IsRepairUnless it limit shape given image (told status text)) (sym is) refl
+
+refused_ends : (own limit : ℕ) (text : List ℕ) (shape : Option Shape) (given : Option Guess) (image : List ℕ) (written : Option (List ℕ)) (faults : ℕ)
+    (err : Change) (status : ℕ) → (own ≡ 5 → ⊥) → (own ≡ 7 → ⊥) → shape_refusal shape given image ≡ Some (told own text) → Tells text own err status
+    → Ends (IsShapedAnswer limit shape given image) (moved written written faults faults) err status
+refused_ends own limit text shape given image written faults err status five seven is tells =
+    Answered (told own text) (refused_by (shape_refusal shape given image) own limit text shape given image is)
+    (told_finishes own text written faults err status five seven tells)
+
+-- a shape is asked for, and this is why it's refused
+refusal_is : (shape : Option Shape) (given : Option Guess) (image : List ℕ) → is_some shape ≡ true
+    → shape_refusal shape given image ≡ not_one (unsupported_case given image) (is_queue_or_master given image)
+refusal_is None given image asked = absurd (let no : false ≡ true = asked in cc)
+refusal_is (Some shape) given image asked = refl
+
+pub case_ends : (limit : ℕ) (name : Unsupported) (shape : Option Shape) (given : Option Guess) (image : List ℕ) (written : Option (List ℕ)) (faults : ℕ)
+    (err : Change) (status : ℕ) → is_some shape ≡ true → unsupported_case given image ≡ Some name
+    → (Tells (unsupported_line name 0) 3 err status ⊎ Tells memory_line 7 err status)
+    → Ends (IsShapedAnswer limit shape given image) (moved written written faults faults) err status
+case_ends limit name shape given image written faults err status asked is (inl tells) =
+    refused_ends 3 limit (unsupported_line name 0) shape given image written faults err status (λ five. omega arith) (λ seven. omega arith)
+    (refusal_is shape given image asked ∙ ap (λ (it : Option Unsupported). not_one it (is_queue_or_master given image)) is) tells
+case_ends limit name shape given image written faults err status asked is (inr tells) = Unanswered (keeps_itself written) tells
+
+pub other_ends : (limit : ℕ) (shape : Option Shape) (given : Option Guess) (image : List ℕ) (written : Option (List ℕ)) (faults : ℕ)
+    (err : Change) (status : ℕ) → is_some shape ≡ true → unsupported_case given image ≡ None → is_queue_or_master given image ≡ true
+    → Tells (line (codes "not one btree, hash or recno")) 14 err status
+    → Ends (IsShapedAnswer limit shape given image) (moved written written faults faults) err status
+other_ends limit shape given image written faults err status asked none other tells =
+    refused_ends 14 limit (line (codes "not one btree, hash or recno")) shape given image written faults err status (λ five. omega arith) (λ seven. omega arith)
+    (refusal_is shape given image asked ∙ ap (λ (it : Option Unsupported). not_one it (is_queue_or_master given image)) none ∙ ap (not_one None) other) tells
+
+-- Else the file is built.
+
+unless_by : (refusal : Option Answer) (limit : ℕ) (shape : Option Shape) (given : Option Guess) (image : List ℕ) (answer : Answer) → refusal ≡ None
+    → IsRepairBy limit shape (chosen given image) image answer → IsRepairUnless refusal limit shape given image answer
+unless_by refusal limit shape given image answer none is =
+    subst (λ (it : Option Answer). IsRepairUnless it limit shape given image answer) (sym none) is
+
+build_ends : (limit : ℕ) (shape : Option Shape) (given : Option Guess) (image : List ℕ) (out err : Change) (status : ℕ)
+    → shape_refusal shape given image ≡ None → Ends (IsRepairBy limit shape (chosen given image) image) out err status
+    → Ends (IsShapedAnswer limit shape given image) out err status
+build_ends limit shape given image out err status none (Answered answer is finishes) =
+    Answered answer (unless_by (shape_refusal shape given image) limit shape given image answer none is) finishes
+build_ends limit shape given image out err status none (Unanswered stays tells) = Unanswered stays tells
+
+pub all_ends : (limit : ℕ) (shape : Option Shape) (given : Option Guess) (image : List ℕ) (out err : Change) (status : ℕ) → is_some shape ≡ false
+    → Ends (IsRepairBy limit shape (chosen given image) image) out err status → Ends (IsShapedAnswer limit shape given image) out err status
+all_ends limit None given image out err status none ends = build_ends limit None given image out err status refl ends
+all_ends limit (Some shape) given image out err status none ends = absurd (let no : true ≡ false = none in cc)
+
+pub one_ends : (limit : ℕ) (shape : Option Shape) (given : Option Guess) (image : List ℕ) (out err : Change) (status : ℕ) → is_some shape ≡ true
+    → unsupported_case given image ≡ None → is_queue_or_master given image ≡ false
+    → Ends (IsRepairBy limit shape (chosen given image) image) out err status → Ends (IsShapedAnswer limit shape given image) out err status
+one_ends limit shape given image out err status asked none one ends =
+    build_ends limit shape given image out err status
+    (refusal_is shape given image asked ∙ ap (λ (it : Option Unsupported). not_one it (is_queue_or_master given image)) none ∙ ap (not_one None) one) ends
 
 -- The status of an answer is one of its own.
 
@@ -83,13 +218,48 @@ image_own true limit sections answer is =
 image_own false limit sections answer is =
     rw is.answer_is (record { no_read_fault = λ four. omega arith; no_write_fault = λ five. omega arith; no_memory = λ seven. omega arith })
 
+no_metadata_own : (answer : Answer) → answer ≡ no_metadata → HasOwnStatus answer
+no_metadata_own answer is =
+    rw is (record { no_read_fault = λ four. omega arith; no_write_fault = λ five. omega arith; no_memory = λ seven. omega arith })
+
 own_by : (limit : ℕ) (shape : Option Shape) (found : Option Guess) (image : List ℕ) (answer : Answer) → IsRepairBy limit shape found image answer
     → HasOwnStatus answer
-own_by limit shape None image answer is =
-    rw is (record { no_read_fault = λ four. omega arith; no_write_fault = λ five. omega arith; no_memory = λ seven. omega arith })
+own_by limit shape None image answer is = no_metadata_own answer is
 own_by limit shape (Some guess) image answer is =
     image_own (nat_lt limit (image_size (repair_sections shape guess image))) limit (repair_sections shape guess image) answer is
 
-pub repair_own : (limit : ℕ) (shape : Option Shape) (given : Option Guess) (image : List ℕ) (answer : Answer) → IsRepairAnswer limit shape given image answer
+sections_own : (limit : ℕ) (sections : List Section) (answer : Answer) → AreBuiltBy limit sections answer → HasOwnStatus answer
+sections_own limit [] answer is = no_metadata_own answer is
+sections_own limit (first ∷ others) answer is = image_own (nat_lt limit (image_size (first ∷ others))) limit (first ∷ others) answer is
+
+apart_own : (limit : ℕ) (found : Option Guess) (image : List ℕ) (answer : Answer) → IsApartAnswer limit found image answer → HasOwnStatus answer
+apart_own limit None image answer is = no_metadata_own answer is
+apart_own limit (Some guess) image answer is = sections_own limit (apart_sections guess image) answer is
+
+unless_own : (left : Option Unsupported) (limit : ℕ) (found : Option Guess) (image : List ℕ) (answer : Answer) → IsUnlessUnsupported left limit found image answer
     → HasOwnStatus answer
-repair_own limit shape given image answer is = own_by limit shape (chosen given image) image answer is
+unless_own None limit found image answer is = apart_own limit found image answer is
+unless_own (Some name) limit found image answer is = rw is (low_own (told 3 (unsupported_line name 0)) (omega arith))
+
+refusal_own : (name : Option Unsupported) (other : Bool) (refusal : Answer) → not_one name other ≡ Some refusal → HasOwnStatus refusal
+refusal_own (Some name) other refusal is =
+    rw (sym (one_answer _ _ is)) (record { no_read_fault = λ four. omega arith; no_write_fault = λ five. omega arith; no_memory = λ seven. omega arith })
+refusal_own None true refusal is =
+    rw (sym (one_answer _ _ is)) (record { no_read_fault = λ four. omega arith; no_write_fault = λ five. omega arith; no_memory = λ seven. omega arith })
+refusal_own None false refusal is = absurd (let no : None ≡ Some refusal = is in cc)
+
+shape_own : (shape : Option Shape) (given : Option Guess) (image : List ℕ) (refusal : Answer) → shape_refusal shape given image ≡ Some refusal
+    → HasOwnStatus refusal
+shape_own None given image refusal is = absurd (let no : None ≡ Some refusal = is in cc)
+shape_own (Some shape) given image refusal is = refusal_own (unsupported_case given image) (is_queue_or_master given image) refusal is
+
+shaped_unless_own : (refusal : Option Answer) (limit : ℕ) (shape : Option Shape) (given : Option Guess) (image : List ℕ) (answer : Answer)
+    → shape_refusal shape given image ≡ refusal → IsRepairUnless refusal limit shape given image answer → HasOwnStatus answer
+shaped_unless_own (Some refusal) limit shape given image answer same is = rw is (shape_own shape given image refusal same)
+shaped_unless_own None limit shape given image answer same is = own_by limit shape (chosen given image) image answer is
+
+pub repair_own : (limit : ℕ) (built : Built) (given : Option Guess) (image : List ℕ) (answer : Answer) → IsRepairAnswer limit built given image answer
+    → HasOwnStatus answer
+repair_own limit Each given image answer is = unless_own (unsupported_case given image) limit (chosen given image) image answer is
+repair_own limit (Shaped shape) given image answer is =
+    shaped_unless_own (shape_refusal shape given image) limit shape given image answer refl is

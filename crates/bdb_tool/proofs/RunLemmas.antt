@@ -12,7 +12,7 @@ use Rattle.bdb_repair.specs.of_model.Lines.{memory_line, read_fault_line, write_
 use Rattle.bdb_repair.proofs.of_format.KnownLemmas.{keeps_itself}
 use Rattle.bdb_tool_build.specs.Loads.{IsTextAnswer}
 use Rattle.bdb_tool_build.specs.Trials.{IsTrialAnswer}
-use Rattle.bdb_tool.specs.Outputs.{AnswersInPart, Asked, IsActionAnswer, IsAnswerBySize, IsAnswerTo, IsCommandAnswer, IsInput, IsRepairAnswer, Output, StatusIs, asked_alone, asked_with, salvage_answer}
+use Rattle.bdb_tool.specs.Outputs.{AnswersInPart, Asked, IsActionAnswer, IsAnswerBySize, IsAnswerTo, IsCommandAnswer, IsInput, IsRepairAnswer, Output, StatusIs, asked_alone, asked_with, parts_answer}
 use Rattle.bdb_tool_ask.specs.FileAnswers.{asked_answer}
 use Rattle.bdb_tool_ask.specs.of_tool_lines.Finished.{Finishes, Tells}
 use Rattle.bdb_tool.specs.Parts.{Answered, Ends, IsTaskAnswered, IsToldStop, Unanswered}
@@ -25,7 +25,7 @@ use Rattle.bdb_tool.specs.declared.task.Stop.TheVariants.{Usage, TooLarge, ReadF
 use Rattle.bdb_tool.specs.declared.task.Task.{Task}
 use Rattle.bdb_tool.specs.declared.task.Task.TheVariants.{Ask as AskTask, Load as LoadTask, Read as ReadTask, Repair as RepairTask, Salvage as SalvageTask, Trial as TrialTask}
 use Rattle.bdb_tool_ask.proofs.TellingLemmas.{asked_own}
-use Rattle.bdb_tool.proofs.BuiltLemmas.{salvage_own, text_own, trial_own}
+use Rattle.bdb_tool.proofs.BuiltLemmas.{parts_own, text_own, trial_own}
 use Rattle.bdb_tool_ask.proofs.of_tool_lines.FinishLemmas.{memory_finishes, told_finishes}
 use Rattle.bdb_tool.proofs.RepairLemmas.{repair_own}
 use Rattle.bdb_tool_ask.proofs.of_tool_lines.PrintingLemmas.{moved}
@@ -237,15 +237,15 @@ loaded_runs asks source out err limit text status read ends =
 -- an image that is repaired
 repaired_runs : (asks : Asked) (source out err : Change) (limit : ℕ) (asked : CodeRepair) (image : List ℕ) (status : ℕ)
     → IsRead asks.command source (record { limit = limit; action = Repair asked }) image
-    → Ends (IsRepairAnswer limit asked.shape asked.guess image) out err status
+    → Ends (IsRepairAnswer limit asked.built asked.guess image) out err status
     → RunsAs asks source out err status
 repaired_runs asks source out err limit asked image status read ends =
     let command : Command = record { limit = limit; action = Repair asked } in
-    ended_runs asks source out err image command (IsRepairAnswer limit asked.shape asked.guess image) status
+    ended_runs asks source out err image command (IsRepairAnswer limit asked.built asked.guess image) status
     (whole_input source.before source.now image read.input_is.bytes read.input_is.end) read.command_is
     (λ answer allows. (
       within_answers asks image command answer read.command_is read.input_is.within allows,
-      (repair_own limit asked.shape asked.guess image answer allows).no_read_fault,
+      (repair_own limit asked.built asked.guess image answer allows).no_read_fault,
     )) (λ unread. absurd (both_ways true refl unread)) (calls_read asks source command status read.command_is read.reads read.input_is.end) ends
 
 -- a trial
@@ -275,8 +275,8 @@ taken_runs asks source out err (AskTask request image) status taken answered =
 taken_runs asks source out err (LoadTask text limit) status taken answered = loaded_runs asks source out err limit text status taken.read answered
 taken_runs asks source out err (SalvageTask asked image) status taken answered =
     let command : Command = record { limit = taken.limit; action = Salvage asked } in
-    asked_runs asks source out err command image (salvage_answer asked.guess asked.print image) status taken.read refl
-    (salvage_own asked.guess asked.print image).no_read_fault answered
+    asked_runs asks source out err command image (parts_answer asked.parts asked.guess asked.print image) status taken.read refl
+    (parts_own asked.parts asked.guess asked.print image).no_read_fault answered
 taken_runs asks source out err (RepairTask asked image limit) status taken answered = repaired_runs asks source out err limit asked image status taken.read
     answered
 taken_runs asks source out err (TrialTask trial limit) status taken answered = tried_runs asks source out err limit trial status taken.command_is taken.uncalled

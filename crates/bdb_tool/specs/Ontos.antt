@@ -4,7 +4,7 @@ use Rattle.bdb_repair.specs.of_format.Terms.{Judgement, verdict_of}
 use Rattle.bdb_repair.specs.of_text_format.Terms.{line}
 use Rattle.bdb_repair.specs.of_model.Answers.{Answer, told}
 use Rattle.bdb_tool_ask.specs.of_tool_lines.Telling.{judgement_line, judgement_status}
-use Rattle.bdb_onto.specs.Bases.{base_of}
+use Rattle.bdb_tool_build.specs.of_onto.Bases.{base_of}
 use Rattle.bdb_tool_build.specs.Ontos.{IsTextOnto}
 
 -- an answer to a text and the image of a base, by the verdict on that image

@@ -1,15 +1,24 @@
 -- The answers to words, an input and a base: a status, and what is written to the output and to the error sink. Source: man/bdbtool.1.
-use Rattle.std.specs.Prelude.{◌≡◌, ◌⊎◌, ℕ, nat_lt, ◌&&◌, Bool, true, false, List, [], length, Option, Some, None, codes, is_some, unwrap_or, ⊤}
+use Rattle.std.specs.Prelude.{◌≡◌, ◌⊎◌, ℕ, nat_lt, ◌&&◌, Bool, true, false, List, [], ◌∷◌, length, Option, Some, None, codes, is_some, unwrap_or, ⊤}
 use Rattle.bdb_tool_words.specs.Commands.{Action, Ask, Command, Load, LoadOnto, Repair, Salvage, Trial, command_on, reads_input, usage}
-use Rattle.bdb_repair.specs.of_model.Answers.{Answer, done, told, too_large_line}
+use Rattle.bdb_repair.specs.of_model.Answers.{Answer, done, told, too_large_line, unsupported_line}
+use Rattle.bdb_repair.specs.of_model.declared.shape.Shape.{Shape}
 use Rattle.bdb_repair.specs.of_model.Change.{Change, Gains, GainsPart, Stays}
+use Rattle.bdb_repair.specs.of_format.declared.kinds.Unsupported.{Unsupported}
 use Rattle.bdb_repair.specs.of_text_format.Terms.{line}
+use Rattle.bdb_repair.specs.of_apart.Found.{Found, found}
+use Rattle.bdb_repair.specs.of_apart.Text.{apart_text, rest_text}
 use Rattle.bdb_repair.specs.of_rescue.Text.{salvage_text}
 use Rattle.bdb_repair.specs.of_mkfile.Builds.{image_size}
+use Rattle.bdb_repair.specs.Apart.{apart_sections}
 use Rattle.bdb_repair.specs.Parts.{repair_sections}
-use Rattle.bdb_repair.specs.of_model.declared.shape.Shape.{Shape}
-use Rattle.bdb_repair.specs.of_rescue.Guesses.{chosen}
+use Rattle.bdb_tool_words.specs.declared.command.Built.{Built}
+use Rattle.bdb_tool_words.specs.declared.command.Built.TheVariants.{Each, Shaped}
+use Rattle.bdb_tool_words.specs.declared.command.Parts.{Parts}
+use Rattle.bdb_tool_words.specs.declared.command.Parts.TheVariants.{Together, Apart, Rest}
+use Rattle.bdb_repair.specs.of_rescue.Guesses.{chosen, is_queue_or_master, unsupported_case}
 use Rattle.bdb_repair.specs.of_survey.declared.guess.Guess.{Guess}
+use Rattle.bdb_repair.specs.of_format.declared.kinds.Unsupported.{Unsupported}
 use Rattle.bdb_repair.specs.of_text_format.declared.sections.Section.{Section}
 use Rattle.bdb_tool.specs.Ontos.{IsOntoAnswer}
 use Rattle.bdb_tool_build.specs.Lines.{image_too_large_line}
@@ -29,28 +38,87 @@ salvaged_answer (Some guess) print image = done (salvage_text print guess image)
 abbrev pub salvage_answer : Option Guess → Bool → List ℕ → Answer
 salvage_answer guess print image = salvaged_answer (chosen guess image) print image
 
+-- where page 0 names an unsupported case, that is told
+abbrev pub unless_unsupported : Option Unsupported → Answer → Answer
+unless_unsupported None answer = answer
+unless_unsupported (Some name) answer = told 3 (unsupported_line name 0)
+
+-- of the databases that are found, where there are some
+abbrev pub apart_answer : List Found → Bool → Guess → List ℕ → Answer
+apart_answer [] print guess image = no_metadata
+apart_answer (first ∷ others) print guess image = done (apart_text print guess image)
+
+abbrev pub found_answer : Option Guess → Bool → List ℕ → Answer
+found_answer None print image = no_metadata
+found_answer (Some guess) print image = apart_answer (found (record { guess = guess; image = image })) print guess image
+
+-- what belongs to none
+abbrev pub rest_answer : Option Guess → Bool → List ℕ → Answer
+rest_answer None print image = no_metadata
+rest_answer (Some guess) print image = done (rest_text print guess image)
+
+-- by what is asked for
+abbrev pub parts_answer : Parts → Option Guess → Bool → List ℕ → Answer
+parts_answer Together guess print image = salvage_answer guess print image
+parts_answer Apart guess print image = unless_unsupported (unsupported_case guess image) (found_answer (chosen guess image) print image)
+parts_answer Rest guess print image = unless_unsupported (unsupported_case guess image) (rest_answer (chosen guess image) print image)
+
 -- `repair`: some image that is built of what is salvaged, by whether it would be too large
 abbrev pub IsImageBy : Bool → ℕ → List Section → Answer → Type 0
 IsImageBy true limit sections answer = answer ≡ told 6 (image_too_large_line limit)
 IsImageBy false limit sections answer = IsImageAnswer sections answer
 
--- by a guess, if there is one
+-- of the stored pairs and the loose records, by a guess, if there is one
 abbrev pub IsRepairBy : ℕ → Option Shape → Option Guess → List ℕ → Answer → Type 0
 IsRepairBy limit shape None image answer = answer ≡ no_metadata
 IsRepairBy limit shape (Some guess) image answer =
     IsImageBy (nat_lt limit (image_size (repair_sections shape guess image))) limit (repair_sections shape guess image) answer
 
--- the guess is that of `salvage`
-abbrev pub IsRepairAnswer : ℕ → Option Shape → Option Guess → List ℕ → Answer → Type 0
-IsRepairAnswer limit shape guess image answer = IsRepairBy limit shape (chosen guess image) image answer
+-- why no one database is made of a file: page 0 names a case that isn't supported, or is of a queue or a master
+abbrev pub not_one : Option Unsupported → Bool → Option Answer
+not_one (Some name) other = Some (told 3 (unsupported_line name 0))
+not_one None true = Some (told 14 (line (codes "not one btree, hash or recno")))
+not_one None false = None
+
+-- only a repair that is asked for one database is refused so
+abbrev pub shape_refusal : Option Shape → Option Guess → List ℕ → Option Answer
+shape_refusal None guess image = None
+shape_refusal (Some shape) guess image = not_one (unsupported_case guess image) (is_queue_or_master guess image)
+
+-- the refusal, if there is one; the guess is that of `salvage`
+abbrev pub IsRepairUnless : Option Answer → ℕ → Option Shape → Option Guess → List ℕ → Answer → Type 0
+IsRepairUnless (Some refusal) limit shape guess image answer = answer ≡ refusal
+IsRepairUnless None limit shape guess image answer = IsRepairBy limit shape (chosen guess image) image answer
+
+abbrev pub IsShapedAnswer : ℕ → Option Shape → Option Guess → List ℕ → Answer → Type 0
+IsShapedAnswer limit shape guess image answer = IsRepairUnless (shape_refusal shape guess image) limit shape guess image answer
+
+-- of the databases that are found, where there are some
+abbrev pub AreBuiltBy : ℕ → List Section → Answer → Type 0
+AreBuiltBy limit [] answer = answer ≡ no_metadata
+AreBuiltBy limit (first ∷ others) answer = IsImageBy (nat_lt limit (image_size (first ∷ others))) limit (first ∷ others) answer
+
+abbrev pub IsApartAnswer : ℕ → Option Guess → List ℕ → Answer → Type 0
+IsApartAnswer limit None image answer = answer ≡ no_metadata
+IsApartAnswer limit (Some guess) image answer = AreBuiltBy limit (apart_sections guess image) answer
+
+-- unless page 0 names an unsupported case
+abbrev pub IsUnlessUnsupported : Option Unsupported → ℕ → Option Guess → List ℕ → Answer → Type 0
+IsUnlessUnsupported None limit guess image answer = IsApartAnswer limit guess image answer
+IsUnlessUnsupported (Some name) limit guess image answer = answer ≡ told 3 (unsupported_line name 0)
+
+-- by what the new file has
+abbrev pub IsRepairAnswer : ℕ → Built → Option Guess → List ℕ → Answer → Type 0
+IsRepairAnswer limit Each guess image answer = IsUnlessUnsupported (unsupported_case guess image) limit (chosen guess image) image answer
+IsRepairAnswer limit (Shaped shape) guess image answer = IsShapedAnswer limit shape guess image answer
 
 -- an answer to an input that isn't too long, and a base, whose bytes are none where none is read; `load`, `repair` and `trial` may have several
 abbrev pub IsActionAnswer : Action → ℕ → List ℕ → List ℕ → Answer → Type 0
 IsActionAnswer (Ask rows request) limit input base answer = answer ≡ asked_answer rows request input
 IsActionAnswer Load limit input base answer = IsTextAnswer limit input answer
 IsActionAnswer (LoadOnto file) limit input base answer = IsOntoAnswer limit input base answer
-IsActionAnswer (Salvage asked) limit input base answer = answer ≡ salvage_answer asked.guess asked.print input
-IsActionAnswer (Repair asked) limit input base answer = IsRepairAnswer limit asked.shape asked.guess input answer
+IsActionAnswer (Salvage asked) limit input base answer = answer ≡ parts_answer asked.parts asked.guess asked.print input
+IsActionAnswer (Repair asked) limit input base answer = IsRepairAnswer limit asked.built asked.guess input answer
 IsActionAnswer (Trial asked) limit input base answer = IsTrialAnswer limit asked.kind asked.seed asked.count answer
 
 -- an answer to an input, by whether it is too long

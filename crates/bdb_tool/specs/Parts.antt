@@ -1,14 +1,17 @@
 -- The two halves of a run: what it takes from the words and the source, and how it writes the answer.
-use Rattle.std.specs.Prelude.{◌≡◌, ◌⊎◌, ℕ, ◌+◌, List, Some, string_bytes}
+use Rattle.std.specs.Prelude.{◌≡◌, ◌⊎◌, ℕ, ◌+◌, List, Some, Result, Ok, Err, string_bytes}
 use Rattle.bdb_repair.specs.of_any_order.declared.rows.Rows.TheVariants.{All}
-use Rattle.bdb_repair.specs.of_model.Answers.{Answer, told, too_large_line}
+use Rattle.bdb_repair.specs.of_model.Answers.{Answer, done, told, too_large_line}
 use Rattle.bdb_tool_words.specs.Commands.{Request, usage}
 use Rattle.bdb_repair.specs.of_model.Change.{Change, HasFailed, Stays}
 use Rattle.bdb_repair.specs.of_model.Lines.{memory_line, read_fault_line}
 use Rattle.bdb_repair.specs.of_format.Terms.{Took, verdict_of}
 use Rattle.bdb_tool.specs.Ontos.{IsOntoBy, base_too_large_line}
 use Rattle.bdb_tool_ask.specs.FileAnswers.{asked_answer}
-use Rattle.bdb_tool.specs.Outputs.{IsRepairAnswer, salvage_answer}
+use Rattle.bdb_repair.specs.declared.error.RepairError.{RepairError}
+use Rattle.bdb_repair.specs.declared.error.RepairError.TheVariants.{NoMeta, TooLarge as TooLargeFile, Memory as WantOfMemory}
+use Rattle.bdb_tool_build.specs.Lines.{image_too_large_line}
+use Rattle.bdb_tool.specs.Outputs.{IsRepairAnswer, no_metadata, parts_answer}
 use Rattle.bdb_tool.specs.Tasks.{IsInputWithin}
 use Rattle.bdb_tool_words.specs.WordsSeen.{reading_seen, request_seen}
 use Rattle.bdb_tool.specs.declared.task.Task.{Task}
@@ -41,6 +44,14 @@ IsRefusalTold (FaultyText line) err status = Tells (string_bytes line) 8 err sta
 IsRefusalTold (TooLargeImage line) err status = Tells (string_bytes line) 6 err status
 IsRefusalTold MemoryRefusal err status = Tells memory_line 7 err status
 
+-- an image that was built was written, or it was told why there is none, or that memory was wanting
+abbrev pub IsBuiltTold : ℕ → Result (List ℕ) RepairError → Change → Change → ℕ → Type 0
+IsBuiltTold limit (Ok built) out err status = Finishes (done built) out err status
+IsBuiltTold limit (Err NoMeta) out err status = Finishes no_metadata out err status
+IsBuiltTold limit (Err TooLargeFile) out err status =
+    Finishes (told 6 (image_too_large_line limit)) out err status ⊎ (Stays out × Tells memory_line 7 err status)
+IsBuiltTold limit (Err WantOfMemory) out err status = Stays out × Tells memory_line 7 err status
+
 -- one of the answers that are allowed was written, or memory was wanting before one was known
 pub data Ends (allowed : Answer → Type 0) (out err : Change) (status : ℕ) : Type 0 where
   Answered : (answer : Answer) → allowed answer → Finishes answer out err status → Ends allowed out err status
@@ -62,6 +73,6 @@ IsTaskAnswered (ReadTask rows reading image) out err status =
 IsTaskAnswered (AskTask request image) out err status =
     (asked : Request) → request_seen request ≡ Some asked → Finishes (asked_answer All asked image) out err status
 IsTaskAnswered (LoadTask text limit) out err status = Ends (IsTextAnswer limit text) out err status
-IsTaskAnswered (SalvageTask asked image) out err status = Finishes (salvage_answer asked.guess asked.print image) out err status
-IsTaskAnswered (RepairTask asked image limit) out err status = Ends (IsRepairAnswer limit asked.shape asked.guess image) out err status
+IsTaskAnswered (SalvageTask asked image) out err status = Finishes (parts_answer asked.parts asked.guess asked.print image) out err status
+IsTaskAnswered (RepairTask asked image limit) out err status = Ends (IsRepairAnswer limit asked.built asked.guess image) out err status
 IsTaskAnswered (TrialTask trial limit) out err status = Ends (IsTrialAnswer limit trial.kind trial.seed trial.count) out err status

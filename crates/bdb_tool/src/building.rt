@@ -5,16 +5,15 @@ ghost use Rattle.bdb_repair.specs.of_format.Terms.{verdict_of};
 ghost use Rattle.bdb_tool.specs.Ontos.{IsOntoBy};
 ghost use Rattle.bdb_tool.specs.Parts.{Ends, IsRefusalTold};
 ghost use Rattle.bdb_tool_words.specs.WordsSeen.{IsFitTrial};
-ghost use Rattle.bdb_onto.specs.Bases.{IsBase};
+ghost use Rattle.bdb_tool_build.specs.of_onto.Bases.{IsBase};
 ghost use Rattle.bdb_tool_build.specs.Loads.{IsTextAnswer};
 ghost use Rattle.bdb_tool_build.specs.Ontos.{IsTextOnto};
 ghost use Rattle.bdb_tool_build.specs.Trials.{IsTrialAnswer};
 
-use bdb_onto::Base;
 use bdb_repair::{Image, Sink, Steps};
 use bdb_tool_ask::status::{BAD_TEXT, TOO_LARGE};
 use bdb_tool_ask::{put, refuse, report, tell, tell_memory};
-use bdb_tool_build::{Refusal, base_of, load_text, load_text_onto, trial_text};
+use bdb_tool_build::{Base, Refusal, base_of, load_text, load_text_onto, trial_text};
 use bdb_tool_words::Trial;
 use std::alloc::Global;
 use std::sync::ledger::Ledger;

@@ -4,16 +4,15 @@ use Rattle.std.proofs.Common.{refl, sym, ◌∙◌, ap, is_some}
 use Rattle.std.proofs.lemmas.List.{map_more}
 use Rattle.std.proofs.lemmas.List.Elements.{All-cons, All-nil}
 use Rattle.bdb_model.specs.of_format.declared.metadata.BtreeMeta.{BtreeMeta}
-use Rattle.bdb_model.specs.of_format.Terms.{BtreeFields, DupLeaf, File, Free, Hash, HashFields, Internal, Leaf, Meta, Metadata, NoType, Overflow, Page, Queue}
-use Rattle.bdb_model.specs.of_format.Terms.{QueueFields, RecnoInternal, RecnoLeaf, Zero, btree_list, databases, file_of, list_of, master_in, names_databases}
-use Rattle.bdb_model.specs.of_format.Terms.{recno_list, verdict_of}
+use Rattle.bdb_model.specs.of_format.Terms.{BtreeFields, DupLeaf, Free, Hash, HashFields, Internal, Leaf, Meta, Metadata, NoType, Overflow, Page, Queue}
+use Rattle.bdb_model.specs.of_format.Terms.{QueueFields, RecnoInternal, RecnoLeaf, Zero, databases, file_of, master_in, names_databases}
+use Rattle.bdb_model.specs.of_format.Terms.{verdict_of}
 use Rattle.bdb_model.specs.of_text_format.declared.sections.Section.{Section}
 use Rattle.bdb_file.specs.of_image.Metas.{meta_in}
 use Rattle.bdb_file.specs.of_databases.Named.{database_at, no_database}
 use Rattle.bdb_onto.specs.of_text.WrittenLaw.{AreBytes}
 use Rattle.bdb_onto.specs.declared.base.Base.{Base}
 use Rattle.bdb_onto.specs.Bases.{IsBaseOf, base_of, base_section}
-use Rattle.bdb_tool_build.specs.Copied.{IsBtree}
 
 abbrev pub is_master : Option Metadata → Bool
 is_master (Some (BtreeFields meta)) = names_databases meta
@@ -58,8 +57,3 @@ all_bytes (byte ∷ bytes) fits = All-cons (λ (b : ℕ). b < 256) byte bytes (f
 -- the base that an image is, which is sound
 pub is_base : (image : List ℕ) (base : Base) → length image ≤ 2 ^ 30 → verdict_of image ≡ None → AreBytes image → base ≡ base_of image → IsBaseOf image base
 is_base image base size sound bytes are = (record { image = image; sound = record { size = size; sound = sound }; bytes = bytes; are = are }, are)
-
--- the list of a btree
-pub btree_listed : (file : File) (fields : Metadata) (meta : BtreeMeta) → IsBtree fields meta → btree_list file meta.root ≡ list_of file fields
-btree_listed file fields meta is =
-    sym (ap (list_of file) is.are ∙ ap (λ b. cond b (recno_list file meta.root) (btree_list file meta.root)) is.keyed)

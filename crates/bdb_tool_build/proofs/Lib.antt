@@ -1,6 +1,7 @@
 pub mod BaseLemmas
 mod Below
 pub mod CopiedLemmas
+pub mod GatheredLemmas
 pub mod LoadLemmas
 pub mod OntoLemmas
 pub mod RefusalLemmas

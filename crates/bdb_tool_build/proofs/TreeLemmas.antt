@@ -1,38 +1,63 @@
 -- The pairs of a tree, leaf by leaf.
-use Rattle.std.proofs.Common.{◌≡◌, ℕ, Bool, true, false, cond, List, [], ◌∷◌, ◌++◌, append_assoc, map, refl, sym, ◌∙◌, ap, subst, flat_map}
+use Rattle.std.proofs.Common.{◌≡◌, ℕ, ◌+◌, Bool, true, false, List, [], ◌∷◌, ◌++◌, append_assoc, map, refl, sym, ◌∙◌, ap, subst, flat_map}
+use Rattle.std.specs.List.{enumerate_from}
 use Rattle.std.proofs.lemmas.Grind.{flat_map-append}
 use Rattle.std.proofs.lemmas.List.{map-append}
-use Rattle.std.proofs.lemmas.List.Elements.{All-cons, All-nil}
-use Rattle.bdb_model.specs.of_format.Terms.{BytesKey, File, ListKey, StoredPair, btree_list, data_of, file_of, leaves, listed_pair, pairs_of}
+use Rattle.bdb_model.specs.of_format.Terms.{File, Item, ListKey, StoredPair, btree_list, file_of, leaves, listed_entry, listed_pair, pairs_of, recno_list, tree_entries}
 use Rattle.bdb_file.specs.of_image.Linked.{FitsLeafPage, IsForest}
-use Rattle.bdb_file.specs.of_btree.Pairs.{AreFit, FitsPair}
+use Rattle.bdb_file.specs.of_btree.Pairs.{AreFit, FitsPair, stored_pair}
 use Rattle.bdb_file.proofs.of_btree.FallLemmas.{ShareKeys as HaveKeys, tree_keys}
 use Rattle.bdb_file.proofs.of_btree.PairLemmas.{pair_of_page}
 use Rattle.bdb_file.proofs.of_btree.WalkLemmas.{each_of, pairs_of_tree}
-use Rattle.bdb_model.specs.of_text_format.declared.pairs.Key.TheVariants.{Bytes}
 use Rattle.bdb_model.specs.of_text_format.declared.pairs.TextPair.{TextPair}
 use Rattle.bdb_onto.specs.Bases.{text_pair}
-use Rattle.bdb_tool_build.specs.Ontos.{list_key}
-use Rattle.bdb_tool_build.specs.Copied.{AreOf, Follow, ShareKeys}
-
--- the entries of a pair have its key
-under_key : (key : List ℕ) (values : List (List ℕ)) → AreOf (Bytes key) (map (λ value. (BytesKey key, value)) values)
-under_key key [] = All-nil (λ (e : ListKey × List ℕ). list_key e.0 ≡ Bytes key)
-under_key key (value ∷ values) =
-    All-cons (λ (e : ListKey × List ℕ). list_key e.0 ≡ Bytes key) (BytesKey key, value) (map (λ v. (BytesKey key, v)) values) refl (under_key key values)
-
-pub pair_key : (file : File) (pair : StoredPair) (entries : List (ListKey × List ℕ)) → entries ≡ listed_pair file pair → AreOf (Bytes pair.key) entries
-pair_key file pair entries are = subst (AreOf (Bytes pair.key)) (sym are) (by_live pair.live)
-  where
-    by_live : (live : Bool) → AreOf (Bytes pair.key) (cond live (map (λ value. (BytesKey pair.key, value)) (data_of file pair.data_item)) [])
-    by_live true = under_key pair.key (data_of file pair.data_item)
-    by_live false = All-nil (λ (e : ListKey × List ℕ). list_key e.0 ≡ Bytes pair.key)
+use Rattle.bdb_ranks.specs.of_form.Pairs.{PairOf}
+use Rattle.bdb_tool_build.specs.Copied.{Follow, ShareKeys}
 
 -- what the pairs of a leaf name is there
 pub leaf_fit : (image : List ℕ) (p : ℕ) → IsForest image → FitsLeafPage (file_of image) p → AreFit (file_of image) (pairs_of (file_of image) p)
 leaf_fit image p forest fits = each_of (FitsPair (file_of image)) (pairs_of (file_of image) p) (λ pair at. (pair_of_page image p pair forest fits at).fits)
 
 -- Lists, one more at a time.
+
+-- some more of what is listed
+listed_more : (all now new : List TextPair) (here rest both : List (ListKey × List ℕ)) → both ≡ here ++ rest → all ≡ now ++ map text_pair both
+    → new ≡ now ++ map text_pair here → all ≡ new ++ map text_pair rest
+listed_more all now new here rest both are so_far pushed =
+    so_far
+    ∙ (ap (λ entries. now ++ map text_pair entries) are
+    ∙ (ap (λ pairs. now ++ pairs) (map-append text_pair here rest)
+    ∙ (sym (append_assoc now (map text_pair here) (map text_pair rest)) ∙ sym (ap (λ pairs. pairs ++ map text_pair rest) pushed))))
+
+-- one more pair of a leaf, of an image that is known by another name
+pub pair_more : (image same : List ℕ) (all now new : List TextPair) (p : ℕ) (left rest : List (PairOf Item)) (pair : PairOf Item) → same ≡ image
+    → left ≡ pair ∷ rest → all ≡ now ++ map text_pair (flat_map (listed_pair (file_of image)) (map (stored_pair (file_of image) p) left))
+    → new ≡ now ++ map text_pair (listed_pair (file_of same) (stored_pair (file_of same) 0 pair))
+    → all ≡ new ++ map text_pair (flat_map (listed_pair (file_of image)) (map (stored_pair (file_of image) p) rest))
+pair_more image same all now new p left rest pair is are so_far pushed =
+    let file : File = file_of image in
+    let listed : List (PairOf Item) → List (ListKey × List ℕ) = λ ps. flat_map (listed_pair file) (map (stored_pair file p) ps) in
+    listed_more all now new (listed_pair file (stored_pair file p pair)) (listed rest) (listed left) (ap listed are) so_far
+    (pushed ∙ ap (λ (i : List ℕ). now ++ map text_pair (listed_pair (file_of i) (stored_pair (file_of i) 0 pair))) is)
+
+-- one more record
+pub record_more : (image same : List ℕ) (all now new : List TextPair) (number : ℕ) (left rest : List Item) (entry : Item) → same ≡ image
+    → left ≡ entry ∷ rest → all ≡ now ++ map text_pair (flat_map (listed_entry (file_of image)) (enumerate_from number left))
+    → new ≡ now ++ map text_pair (listed_entry (file_of same) (number, entry))
+    → all ≡ new ++ map text_pair (flat_map (listed_entry (file_of image)) (enumerate_from (number + 1) rest))
+record_more image same all now new number left rest entry is are so_far pushed =
+    let file : File = file_of image in
+    let listed : List Item → List (ListKey × List ℕ) = λ entries. flat_map (listed_entry file) (enumerate_from number entries) in
+    listed_more all now new (listed_entry file (number, entry)) (flat_map (listed_entry file) (enumerate_from (number + 1) rest)) (listed left)
+    (ap listed are) so_far (pushed ∙ ap (λ (i : List ℕ). now ++ map text_pair (listed_entry (file_of i) (number, entry))) is)
+
+-- of records none of which has been passed
+pub records_begin : (file : File) (root : ℕ) (pairs : List TextPair) (found : List Item) → found ≡ tree_entries file root → pairs ≡ []
+    → map text_pair (recno_list file root) ≡ pairs ++ map text_pair (flat_map (listed_entry file) (enumerate_from 1 found))
+unfolding recno_list
+records_begin file root pairs found are none =
+    let list : List Item → List TextPair = λ entries. map text_pair (flat_map (listed_entry file) (enumerate_from 1 entries)) in
+    sym (ap list are) ∙ ap (λ (old : List TextPair). old ++ list found) (sym none)
 
 -- Pairs that share their key.
 
@@ -73,14 +98,9 @@ pub leaf_more : (file : File) (old now new : List TextPair) (p : ℕ) (left rest
     → new ≡ now ++ map text_pair (flat_map (listed_pair file) (pairs_of file p))
     → old ≡ new ++ map text_pair (flat_map (listed_pair file) (flat_map (pairs_of file) rest))
 leaf_more file old now new p left rest are so_far pushed =
-    let list : List StoredPair → List TextPair = λ pairs. map text_pair (flat_map (listed_pair file) pairs) in
-    so_far
-    ∙ (ap (λ (ps : List ℕ). now ++ list (flat_map (pairs_of file) ps)) are
-    ∙ (ap (λ entries. now ++ map text_pair entries) (flat_map-append (listed_pair file) (pairs_of file p) (flat_map (pairs_of file) rest))
-    ∙ (ap (λ pairs. now ++ pairs)
-    (map-append text_pair (flat_map (listed_pair file) (pairs_of file p)) (flat_map (listed_pair file) (flat_map (pairs_of file) rest)))
-    ∙ (sym (append_assoc now (list (pairs_of file p)) (list (flat_map (pairs_of file) rest)))
-    ∙ sym (ap (λ pairs. pairs ++ list (flat_map (pairs_of file) rest)) pushed)))))
+    let listed : List ℕ → List (ListKey × List ℕ) = λ ps. flat_map (listed_pair file) (flat_map (pairs_of file) ps) in
+    listed_more old now new (flat_map (listed_pair file) (pairs_of file p)) (listed rest) (listed left)
+    (ap listed are ∙ flat_map-append (listed_pair file) (pairs_of file p) (flat_map (pairs_of file) rest)) so_far pushed
 
 -- of a walk that hasn't begun
 pub list_begins : (file : File) (root : ℕ) (pairs : List TextPair) (found : List ℕ) → found ≡ leaves file root → pairs ≡ []

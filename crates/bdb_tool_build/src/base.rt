@@ -2,13 +2,12 @@
 ghost use Rattle.std.specs.Prelude.{◌≡◌, ◌<◌, ◌≤◌, ◌^◌, IfErr, IfOk, IfSome, None, OnOk, is_some, length, map, option_copied};
 ghost use Rattle.bdb_file.specs.of_databases.Named.{database_at};
 ghost use Rattle.bdb_file.specs.of_faults.Refusals.{IsFirstRefusal};
-ghost use Rattle.bdb_model.specs.of_format.Terms.{databases, faults_of, file_of, list_of, master_in, page_at, verdict_of};
+ghost use Rattle.bdb_model.specs.of_format.Terms.{BtreeFields, databases, faults_of, file_of, list_of, master_in, page_at, verdict_of};
 ghost use Rattle.bdb_file.specs.of_image.Metas.{meta_seen};
 ghost use Rattle.bdb_onto.specs.Bases.{IsBaseOf, base_of, base_section, text_pair};
-ghost use Rattle.bdb_tool_build.specs.Copied.{IsBtree};
 
 use crate::copied::{Rooms, push_listed};
-use crate::tree::btree_pairs;
+use crate::tree::tree_pairs;
 use bdb_file::{Db, First, FirstError, Meta, Scan, Sound, sound_by};
 use bdb_io::Image;
 use bdb_model::{BtreeMeta, Bytes, Section, Sections, Steps, TextPairs};
@@ -59,17 +58,17 @@ fn scanned_pairs(
     }
 }
 
-// The metadata of a btree; `None` of another kind.
+// The metadata of a btree or a recno; `None` of another kind.
 fn btree_meta(meta: &Meta) -> Option<&BtreeMeta>
-    ensures { IfSome result (λ btree. IsBtree (meta_seen meta.now) btree.now) }
+    ensures { IfSome result (λ btree. meta_seen meta.now ≡ BtreeFields btree.now) }
 {
     match meta {
-        Meta::Btree(meta) if !meta.is_recno() => Some(meta),
+        Meta::Btree(meta) => Some(meta),
         _ => None,
     }
 }
 
-// The pairs of a database: of a btree key by key, so that none is copied twice or compared with itself.
+// The pairs of a database: of a btree and a recno leaf by leaf, so that no key and no chain is copied twice or compared with itself.
 fn base_pairs(
     alloc: Global,
     sound: &Sound<'_>,
@@ -80,7 +79,7 @@ fn base_pairs(
     ensures { IfOk result (λ pairs. pairs ≡ map text_pair (list_of (file_of sound.now) (database_at (file_of sound.now) db).fields)) }
 {
     match btree_meta(sound.meta(db)) {
-        Some(meta) => btree_pairs(alloc, sound.linked(), meta, rooms),
+        Some(meta) => tree_pairs(alloc, sound.linked(), meta),
         None => scanned_pairs(alloc, sound, db, rooms),
     }
 }

@@ -3,6 +3,7 @@
 
 mod base;
 mod copied;
+mod gathered;
 mod loading;
 mod refusal;
 mod texts;
@@ -12,6 +13,7 @@ mod trial;
 pub use base::base_of;
 pub use bdb_file::{Db, Rows, Scan, Sound, verify};
 pub use bdb_gen::generate;
+pub use bdb_onto::Base;
 pub use loading::{load_text, load_text_onto};
 pub use refusal::Refusal;
 pub use texts::image_too_large_line;

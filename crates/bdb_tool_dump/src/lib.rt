@@ -6,7 +6,7 @@ mod listing;
 
 pub use bdb_tool_print::{
     Cut, RangePairs, SpellError, pairs_of, put, read_spelling, refuse, report, span, status, tell,
-    tell_list, tell_memory,
+    tell_case, tell_list, tell_memory,
 };
 pub use dumping::{write_section, write_sections};
 pub use listing::{write_found, write_list};

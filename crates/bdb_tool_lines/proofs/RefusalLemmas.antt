@@ -1,10 +1,13 @@
 -- What holds at the pages of a file is told, with its status.
 use Rattle.std.proofs.Common.{◌≡◌, ◌∙◌, ℕ, ◌<◌, List, [], ◌∷◌, inl, inr, refl, sym, subst, arith, ◌⊎◌, Ok, Err, Result}
 use Rattle.bdb_tool_lines.specs.Printing.{Writes}
-use Rattle.bdb_tool_lines.specs.Telling.{first_status, judgement_status}
+use Rattle.bdb_tool_lines.specs.Telling.{first_status, judgement_line, judgement_status}
 use Rattle.bdb_tool_lines.specs.declared.cut.Cut.{Cut}
 use Rattle.bdb_tool_lines.specs.declared.cut.Cut.TheVariants.{WriteFault}
+use Rattle.bdb_faults.specs.of_format.declared.kinds.Unsupported.{Unsupported}
+use Rattle.bdb_model.specs.Answers.{unsupported_line}
 use Rattle.bdb_model.specs.Change.{Change}
+use Rattle.bdb_model.specs.Lines.{memory_line}
 use Rattle.bdb_faults.specs.of_format.Terms.{Faulty, Judgement, LeftOut, judgement_of}
 use Rattle.bdb_faults.specs.of_format.declared.kinds.Fault.{Fault}
 use Rattle.bdb_tool_lines.specs.Finished.{Tells}
@@ -54,3 +57,10 @@ told_in_part text wanted err result cut was cause own writes =
       failed = λ _. writes_cut.written.cause cause;
       part = λ _. writes_cut.written.part;
     }
+
+-- a judgement that is a case of page 0 is told as one
+pub case_told : (told : Judgement) (name : Unsupported) (err : Change) (status : ℕ) → told ≡ LeftOut name 0
+    → (Tells (judgement_line told) (judgement_status told) err status ⊎ Tells memory_line 7 err status)
+    → (Tells (unsupported_line name 0) 3 err status ⊎ Tells memory_line 7 err status)
+case_told told name err status is tells =
+    subst (λ (it : Judgement). Tells (judgement_line it) (judgement_status it) err status ⊎ Tells memory_line 7 err status) is tells

@@ -1,17 +1,19 @@
 //! What holds at the pages of a file is told, with its status.
-ghost use Rattle.std.specs.Prelude.{◌≡◌, ◌⊎◌, ◌<◌, length};
+ghost use Rattle.std.specs.Prelude.{◌≡◌, ◌⊎◌, ◌<◌, length, ℕ};
 ghost use Rattle.bdb_model.specs.Change.{change};
 ghost use Rattle.bdb_model.specs.Lines.{memory_line};
 ghost use Rattle.bdb_tool_lines.specs.Telling.{first_status, judgement_line, judgement_status, faults_text};
 ghost use Rattle.bdb_tool_lines.specs.Finished.{IsRefused, Tells};
-ghost use Rattle.bdb_faults.specs.of_format.Terms.{judgement_seen};
+ghost use Rattle.bdb_faults.specs.of_format.Terms.{LeftOut, judgement_seen};
+ghost use Rattle.bdb_model.specs.Answers.{unsupported_line};
 
 use crate::finish::tell_memory;
 use crate::room::Room;
 use crate::status::{FAULT, UNSUPPORTED, WRITE_FAULT};
 use crate::telling::{tell_all, tell_one};
-use bdb_faults::{FirstError, Named, NamedList};
+use bdb_faults::{FileRow, FirstError, FormRow, Named, NamedList, Row};
 use bdb_io::Sink;
+use bdb_model::Unsupported;
 use std::alloc::Global;
 
 /// The status that the first of what is told gives.
@@ -74,4 +76,30 @@ pub fn refuse<E: Sink>(alloc: Global, error: FirstError, err: &mut E) -> u8
         FirstError::Fault(named) => tell_named(alloc, named, err),
         FirstError::Memory => tell_memory(err),
     }
+}
+
+/// The row of a case that isn't supported: of the file, or else of the form of a page.
+fn case_row(case: Unsupported) -> Row
+    ensures { (page : ℕ) → judgement_seen (record { row = result; page = page }) ≡ LeftOut case page }
+{
+    match case {
+        Unsupported::Version => Row::File(FileRow::Version),
+        Unsupported::Heap => Row::File(FileRow::Heap),
+        Unsupported::LargePage => Row::File(FileRow::LargePage),
+        Unsupported::Encryption => Row::File(FileRow::Encryption),
+        Unsupported::Checksum => Row::File(FileRow::Checksum),
+        Unsupported::Partition => Row::File(FileRow::Partition),
+        Unsupported::Extent => Row::Form(FormRow::Extent),
+        Unsupported::Compression => Row::Form(FormRow::Compression),
+        Unsupported::OwnHash => Row::Form(FormRow::OwnHash),
+        Unsupported::WrappedQueue => Row::Form(FormRow::WrappedQueue),
+    }
+}
+
+/// Tells a case that isn't supported, which page 0 names, with status 3.
+pub fn tell_case<E: Sink>(alloc: Global, case: Unsupported, err: &mut E) -> u8
+    ensures { Tells (unsupported_line case 0) 3 (change E.written E.faults err.old err.new) result
+        ⊎ Tells memory_line 7 (change E.written E.faults err.old err.new) result }
+{
+    tell_named(alloc, case_row(case).at(0), err)
 }

@@ -38,3 +38,6 @@ pub const NOT_BTREE: u8 = 12;
 
 /// Items of a page overlap, so the file isn't put into the other byte order.
 pub const OVERLAP: u8 = 13;
+
+/// The file isn't of one btree, hash or recno.
+pub const NOT_ONE: u8 = 14;

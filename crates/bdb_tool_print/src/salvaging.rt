@@ -18,14 +18,14 @@ use bdb_tool_lines::{Cut, Sink};
 use std::alloc::Global;
 
 // The settings of the section of the loose records.
-fn loose_settings(guess: Guess) -> Settings
+pub(crate) fn loose_settings(guess: Guess) -> Settings
     ensures { result ≡ loose_settings guess }
 {
     plain_settings(Kind::Recno, guess.page_size, guess.order)
 }
 
 // The settings of the section of the stored pairs.
-fn stored_settings(guess: Guess) -> Settings
+pub(crate) fn stored_settings(guess: Guess) -> Settings
     ensures { result ≡ stored_settings guess }
 {
     Settings {
@@ -37,7 +37,11 @@ fn stored_settings(guess: Guess) -> Settings
 
 impl<'k, K: Sink> Printer<'k, K> {
     /// Prints the data lines of stored pairs.
-    fn stored_pairs(&mut self, pairs: &mut SalvagePairs<'_, '_>, print: bool) -> Result<(), Cut>
+    pub(crate) fn stored_pairs(
+        &mut self,
+        pairs: &mut SalvagePairs<'_, '_>,
+        print: bool,
+    ) -> Result<(), Cut>
         ensures { Adds K.written K.faults self.old self.new (flat_map (pair_text print) (map bytes_pair pairs.old)) result }
     {
         for (key, value) in pairs {

@@ -21,6 +21,10 @@ use Rattle.bdb_survey.specs.declared.guess.Guess.{Guess}
 use Rattle.bdb_tool_words.specs.Arguments.{Arguments, OptionRow, arguments, flag, has, once, value_of, valued}
 use Rattle.bdb_tool_words.specs.declared.command.CommandName.{CommandName}
 use Rattle.bdb_tool_words.specs.declared.command.CommandName.TheVariants as command
+use Rattle.bdb_tool_words.specs.declared.command.Built.{Built}
+use Rattle.bdb_tool_words.specs.declared.command.Built.TheVariants.{Each, Shaped}
+use Rattle.bdb_tool_words.specs.declared.command.Parts.{Parts}
+use Rattle.bdb_tool_words.specs.declared.command.Parts.TheVariants.{Together, Apart, Rest}
 use Rattle.bdb_tool_words.specs.declared.command.Salvage.{Salvage as SalvageAsked}
 use Rattle.bdb_tool_words.specs.declared.command.Repair.{Repair as RepairAsked}
 use Rattle.bdb_tool_words.specs.declared.command.Trial.{Trial as TrialAsked}
@@ -102,6 +106,12 @@ dupsort = flag (codes "--dupsort")
 abbrev pub any_order : OptionRow
 any_order = flag (codes "--any-order")
 
+abbrev pub apart : OptionRow
+apart = flag (codes "--apart")
+
+abbrev pub rest : OptionRow
+rest = flag (codes "--rest")
+
 -- The commands.
 
 -- a command of the table: its name and its word, the options that it has, and how many operands
@@ -122,12 +132,12 @@ commands =
     ∷ row command.Get (codes "get") (max_bytes ∷ name ∷ hex ∷ print ∷ any_order ∷ []) 1
     ∷ row command.Dump (codes "dump") (max_bytes ∷ name ∷ print ∷ any_order ∷ []) 0
     ∷ row command.Load (codes "load") (max_bytes ∷ onto ∷ []) 0
-    ∷ row command.Salvage (codes "salvage") (max_bytes ∷ order ∷ page_size ∷ print ∷ []) 0
+    ∷ row command.Salvage (codes "salvage") (max_bytes ∷ order ∷ page_size ∷ print ∷ apart ∷ rest ∷ []) 0
     ∷ row command.Trial (codes "trial") (max_bytes ∷ []) 3
     ∷ row command.Range (codes "range") (max_bytes ∷ name ∷ hex ∷ print ∷ []) 2
     ∷ row command.Convert (codes "convert") (max_bytes ∷ []) 1
     ∷ row command.Stat (codes "stat") (max_bytes ∷ []) 0
-    ∷ row command.Repair (codes "repair") (max_bytes ∷ order ∷ page_size ∷ as_kind ∷ duplicates ∷ dupsort ∷ []) 0
+    ∷ row command.Repair (codes "repair") (max_bytes ∷ order ∷ page_size ∷ as_kind ∷ duplicates ∷ dupsort ∷ apart ∷ []) 0
     ∷ []
 
 -- words that are none of these
@@ -199,6 +209,20 @@ shape_asked None No = Some None
 shape_asked None _ = None
 shape_asked (Some word) duplicates = option_map Some (shape_named word duplicates)
 
+-- what is salvaged by the two flags: each database apart, what belongs to none, or all together
+abbrev pub parts_asked : Bool → Bool → Option Parts
+parts_asked false false = Some Together
+parts_asked true false = Some Apart
+parts_asked false true = Some Rest
+parts_asked true true = None
+
+-- what is built: each database that is found, or by a shape; both aren't asked for
+abbrev pub built_asked : Bool → Option (Option Shape) → Option Built
+built_asked _ None = None
+built_asked true (Some None) = Some Each
+built_asked true (Some (Some shape)) = None
+built_asked false (Some shape) = Some (Shaped shape)
+
 -- the rows that count, by whether any order is asked for
 abbrev pub rows_by : Bool → Rows
 rows_by true = AnyOrder
@@ -255,11 +279,12 @@ abbrev pub guess_of : Arguments → Option (Option Guess)
 guess_of all = guess_asked (value_of order all) (value_of page_size all)
 
 -- what `salvage`, `repair`, `trial` and `load` do, where what they ask is there
-abbrev pub salvaging : Bool → Option (Option Guess) → Option Action
-salvaging prints guess = option_map (λ guess. Salvage (record { guess = guess; print = prints })) guess
+abbrev pub salvaging : Bool → Option Parts → Option (Option Guess) → Option Action
+salvaging prints (Some parts) (Some guess) = Some (Salvage (record { guess = guess; print = prints; parts = parts }))
+salvaging prints _ _ = None
 
-abbrev pub repairing : Option (Option Shape) → Option (Option Guess) → Option Action
-repairing (Some shape) (Some guess) = Some (Repair (record { shape = shape; guess = guess }))
+abbrev pub repairing : Option Built → Option (Option Guess) → Option Action
+repairing (Some built) (Some guess) = Some (Repair (record { built = built; guess = guess }))
 repairing _ _ = None
 
 abbrev pub trying : Option Kind → Option ℕ → Option ℕ → Option Action
@@ -277,7 +302,7 @@ action_of command.List all = Some (Ask (rows_asked all) ListAll)
 action_of command.Get all = asking (rows_asked all) (key_request (name_asked all) (operand_spelled 0 all) (has print all))
 action_of command.Dump all = asking (rows_asked all) (text_request (name_asked all) (has print all))
 action_of command.Load all = Some (loading (value_of onto all))
-action_of command.Salvage all = salvaging (has print all) (guess_of all)
+action_of command.Salvage all = salvaging (has print all) (parts_asked (has apart all) (has rest all)) (guess_of all)
 action_of command.Trial all =
     trying (option_and_then kind_named (operand 0 all)) (option_and_then (number_to 2147483647) (operand 1 all))
     (option_and_then (number_to 200000) (operand 2 all))
@@ -285,7 +310,7 @@ action_of command.Range all = asking All (bounds_request (name_asked all) (opera
 action_of command.Convert all = option_map (λ order. Ask All (Convert order)) (option_and_then order_named (operand 0 all))
 action_of command.Stat all = Some (Ask All Stat)
 action_of command.Repair all =
-    repairing (shape_asked (value_of as_kind all) (duplicates_named (has duplicates all) (has dupsort all))) (guess_of all)
+    repairing (built_asked (has apart all) (shape_asked (value_of as_kind all) (duplicates_named (has duplicates all) (has dupsort all)))) (guess_of all)
 
 -- The command that words are.
 

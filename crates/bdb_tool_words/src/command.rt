@@ -1,14 +1,14 @@
 //! The command that the words of a command line are. Nothing here allocates.
 ghost use Rattle.std.specs.Prelude.{◌≡◌, IfSome, MatchOption, None, Some, false, drop, option_copied, option_map, true};
-ghost use Rattle.bdb_tool_words.specs.Commands.{action_of, asking, command_by, command_of, command_on, commands, loading, onto_file, row_named, rows_asked};
+ghost use Rattle.bdb_tool_words.specs.Commands.{action_of, built_asked, command_by, command_of, command_on, commands, loading, onto_file, parts_asked, row_named, rows_asked};
 ghost use Rattle.bdb_tool_words.specs.declared.command.CommandName.TheVariants as command;
 ghost use Rattle.bdb_tool_words.specs.declared.command.Request.TheVariants.{Get as CodeGet};
 ghost use Rattle.bdb_tool_words.specs.WordsSeen.{AreOnto, IsActionSeen, IsFitAction, IsFitCommand, IsSeen, action_seen, request_seen, row_seen};
 
 use crate::guesses::{guess_asked, order_named};
 use crate::options::{
-    ANY_ORDER, AS_KIND, Arguments, DUPLICATES, DUPSORT, HEX, MAX_BYTES, NAME, ONTO, ORDER,
-    OptionRow, PAGE_SIZE, PRINT, read_arguments,
+    ANY_ORDER, APART, AS_KIND, Arguments, DUPLICATES, DUPSORT, HEX, MAX_BYTES, NAME, ONTO, ORDER,
+    OptionRow, PAGE_SIZE, PRINT, REST, read_arguments,
 };
 use crate::shapes::{duplicates_named, shape_asked};
 use crate::values::{is_name, kind_named, limit_of, number_to, rows_by};
@@ -86,17 +86,33 @@ pub enum Request<'w> {
     Stat,
 }
 
-/// What `salvage` asks: the guess that is given, and whether data are printed.
+/// What is salvaged: all together, each database that is found, or what belongs to none.
+#[derive(Clone, Copy)]
+pub enum Parts {
+    Together,
+    Apart,
+    Rest,
+}
+
+/// What `salvage` asks: the guess that is given, whether data are printed, and what is salvaged.
 #[derive(Clone, Copy)]
 pub struct Salvage {
     pub guess: Option<Guess>,
     pub print: bool,
+    pub parts: Parts,
 }
 
-/// What `repair` asks: the shape of the one database that the new file has, where one is given, and the guess that is given.
+/// What a repaired file has: each database that is found, or one of a shape, where one is given.
+#[derive(Clone, Copy)]
+pub enum Built {
+    Each,
+    Shaped(Option<Shape>),
+}
+
+/// What `repair` asks: what the new file has, and the guess that is given.
 #[derive(Clone, Copy)]
 pub struct Repair {
-    pub shape: Option<Shape>,
+    pub built: Built,
     pub guess: Option<Guess>,
 }
 
@@ -179,7 +195,7 @@ const COMMANDS: [CommandRow; 11] = [
     CommandRow {
         name: CommandName::Salvage,
         word: b"salvage",
-        options: &[MAX_BYTES, ORDER, PAGE_SIZE, PRINT],
+        options: &[MAX_BYTES, ORDER, PAGE_SIZE, PRINT, APART, REST],
         operands: 0,
     },
     CommandRow {
@@ -209,7 +225,9 @@ const COMMANDS: [CommandRow; 11] = [
     CommandRow {
         name: CommandName::Repair,
         word: b"repair",
-        options: &[MAX_BYTES, ORDER, PAGE_SIZE, AS_KIND, DUPLICATES, DUPSORT],
+        options: &[
+            MAX_BYTES, ORDER, PAGE_SIZE, AS_KIND, DUPLICATES, DUPSORT, APART,
+        ],
         operands: 0,
     },
 ];
@@ -363,8 +381,32 @@ fn salvage_action<'w>(read: &Arguments<'w>) -> Option<Action<'w>>
     let asked = Salvage {
         guess: guess_asked(read.value(ORDER), read.value(PAGE_SIZE))?,
         print: read.has(PRINT),
+        parts: parts_asked(read.has(APART), read.has(REST))?,
     };
     Some(Action::Salvage(asked))
+}
+
+// What is salvaged by the two flags, which exclude each other.
+fn parts_asked(apart: bool, rest: bool) -> Option<Parts>
+    ensures { result ≡ parts_asked apart rest }
+{
+    match (apart, rest) {
+        (false, false) => Some(Parts::Together),
+        (true, false) => Some(Parts::Apart),
+        (false, true) => Some(Parts::Rest),
+        (true, true) => None,
+    }
+}
+
+// What is built: each database that is found excludes a shape.
+fn built_asked(apart: bool, shape: Option<Shape>) -> Option<Built>
+    ensures { result ≡ built_asked apart (Some shape) }
+{
+    match (apart, shape) {
+        (true, None) => Some(Built::Each),
+        (true, Some(_)) => None,
+        (false, _) => Some(Built::Shaped(shape)),
+    }
 }
 
 // What `repair` does.
@@ -374,7 +416,10 @@ fn repair_action<'w>(read: &Arguments<'w>) -> Option<Action<'w>>
 {
     let duplicates = duplicates_named(read.has(DUPLICATES), read.has(DUPSORT));
     let asked = Repair {
-        shape: shape_asked(read.value(AS_KIND), duplicates)?,
+        built: built_asked(
+            read.has(APART),
+            shape_asked(read.value(AS_KIND), duplicates)?,
+        )?,
         guess: guess_asked(read.value(ORDER), read.value(PAGE_SIZE))?,
     };
     Some(Action::Repair(asked))

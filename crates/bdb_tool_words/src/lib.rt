@@ -8,6 +8,6 @@ mod shapes;
 mod values;
 
 pub use command::{
-    Action, Bounds, Command, Lookup, Reading, Repair, Request, Salvage, Selection, Trial,
-    base_limit, command_of, onto_file,
+    Action, Bounds, Built, Command, Lookup, Parts, Reading, Repair, Request, Salvage, Selection,
+    Trial, base_limit, command_of, onto_file,
 };

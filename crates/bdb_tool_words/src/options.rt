@@ -37,6 +37,10 @@ pub const DUPSORT: OptionRow = OptionRow::Flag(b"--dupsort");
 
 pub const ANY_ORDER: OptionRow = OptionRow::Flag(b"--any-order");
 
+pub const APART: OptionRow = OptionRow::Flag(b"--apart");
+
+pub const REST: OptionRow = OptionRow::Flag(b"--rest");
+
 /// An option that is given, with its value, which is empty where it takes none.
 #[derive(Clone, Copy)]
 struct Given<'w> {

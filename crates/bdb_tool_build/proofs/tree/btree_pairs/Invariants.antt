@@ -8,8 +8,9 @@ use Rattle.bdb_tool_build.proofs.tree.btree_pairs.Given as goal
 -- The pairs so far, and those of the leaves that are left, are those of the tree.
 abbrev pub invariant-loop-leaf : goal.invariant-loop-leaf
 invariant-loop-leaf l = record {
+  image : l.all.image ≡ l.fn.linked;
   pairs : map text_pair (btree_list (file_of l.fn.linked) l.fn.meta.root)
-      ≡ l.pairs ++ map text_pair (flat_map (listed_pair (file_of l.fn.linked)) (flat_map (pairs_of (file_of l.fn.linked)) l.leaves));
+      ≡ l.all.gathered.pairs ++ map text_pair (flat_map (listed_pair (file_of l.fn.linked)) (flat_map (pairs_of (file_of l.fn.linked)) l.leaves));
   leaves : AreLeaves (file_of l.fn.linked) l.leaves;
   follow : Follow (flat_map (pairs_of (file_of l.fn.linked)) l.leaves);
 }

@@ -1,0 +1,267 @@
+//! Pairs of a btree in the making. The value of a chain stands in their run once, however many items name it.
+ghost use Rattle.std.specs.Prelude.{◌≡◌, ◌∷◌, ◌++◌, [], IfOk, IfSome, OnOk, true, map};
+ghost use Rattle.bdb_file.specs.of_btree.Pairs.{FitsSet, stored_pair};
+ghost use Rattle.bdb_model.specs.of_format.Terms.{Tree, data_of, file_of, listed_entry, listed_pair, structure_faults, value_of};
+ghost use Rattle.bdb_onto.specs.Bases.{text_pair};
+ghost use Rattle.bdb_ranks.specs.of_form.Pairs.{pair_seen as view_seen};
+ghost use Rattle.bdb_ranks.specs.of_image.Linked.{FitsChain, FitsDupRoot};
+ghost use Rattle.bdb_ranks.specs.of_layout.Seen.{leaf_item_seen};
+ghost use Rattle.bdb_ranks.specs.of_overflow.Datum.{FitsContent};
+ghost use Rattle.bdb_ranks.specs.of_overflow.Held.{FitsHeld, chain_value, value_held};
+ghost use Rattle.bdb_ranks.specs.of_tree.Entries.{values_of};
+ghost use Rattle.bdb_text_format.specs.of_places.Places.{span_in};
+ghost use Rattle.bdb_text_format.specs.Terms.{HasChains, IsKeyPlaced, IsPiecePut, IsSpanOf, Keeps};
+ghost use Rattle.bdb_tool_build.specs.Gathered.{Adds, Grows, HasKey};
+
+use bdb_file::bytes_in;
+use bdb_model::TextPairs;
+use bdb_ranks::{Forest, Held, LeafItem, Pair, is_deleted, leaf_held, tree_entries};
+use bdb_text_format::{Gathered, PlacedKey, Span};
+use std::alloc::{AllocError, Global};
+use std::marker::Model;
+
+/// Pairs of the btrees of an image, in the making.
+#[derive(Drop)]
+pub(crate) struct Gatherer<'a> {
+    forest: Forest<'a>,
+    pairs: Gathered,
+    room: Vec<u8>,
+    // Where the last datum begins that stands on a page.
+    last: usize,
+}
+
+impl<'a> Model for Gatherer<'a> {
+    ghost use Rattle.bdb_model.specs.of_format.Terms.{file_of};
+    ghost use Rattle.bdb_ranks.specs.of_overflow.Held.{chain_value};
+    ghost use Rattle.bdb_text_format.specs.Terms.{HasChains};
+    ghost use Rattle.bdb_tool_build.specs.Gathered.{InHand};
+
+    ghost Value = { InHand };
+
+    ghost view = { λ it. record { image = it.forest; gathered = it.pairs } };
+
+    ghost invariant = { λ it. HasChains (chain_value (file_of it.forest)) it.pairs };
+}
+
+// Adds the value of the chain with this head, whose pieces are joined in a room.
+fn put_chain(
+    forest: &Forest<'_>,
+    head: u32,
+    room: &mut Vec<u8>,
+    pairs: &mut Gathered,
+) -> Result<Span, AllocError>
+    requires { FitsChain (file_of forest.now) head }
+    ensures kept { Keeps pairs.old.bytes pairs.new.bytes }
+    ensures pairs { pairs.new.pairs ≡ pairs.old.pairs }
+    ensures chains { HasChains (chain_value (file_of forest.now)) pairs.old → HasChains (chain_value (file_of forest.now)) pairs.new }
+    ensures ok { IfOk result (IsPiecePut pairs.new.bytes (chain_value (file_of forest.now) head)) }
+{
+    let value = Held::Chained(head).datum(forest);
+    let bytes = bytes_in(value, room)?;
+    pairs.put_chain(head, bytes)
+}
+
+#[tactic(auto, using(crate::proofs::GatheredLemmas::in_hand))]
+impl<'a> Gatherer<'a> {
+    /// No pairs yet.
+    pub(crate) fn new(alloc: Global, forest: Forest<'a>) -> Result<Gatherer<'a>, AllocError>
+        ensures image { IfOk result (λ it. it.image ≡ forest.entry) }
+        ensures pairs { IfOk result (λ it. it.gathered.pairs ≡ []) }
+    {
+        Ok(Gatherer {
+            forest,
+            pairs: Gathered::new(alloc, 0)?,
+            room: Vec::new(alloc),
+            last: 0,
+        })
+    }
+
+    /// A handle to their image.
+    pub(crate) fn forest(&self) -> Forest<'a>
+        ensures { result ≡ self.now.image }
+    {
+        self.forest.again()
+    }
+
+    // Where the value of a chain stands.
+    fn chain_span(&mut self, head: u32) -> Result<Span, AllocError>
+        requires { FitsChain (file_of self.old.image) head }
+        ensures grows { Grows self.old self.new }
+        ensures ok { IfOk result (IsPiecePut self.new.gathered.bytes (chain_value (file_of self.old.image) head)) }
+    {
+        if let Some(span) = self.pairs.chain(head) {
+            return Ok(span);
+        }
+        put_chain(&self.forest, head, &mut self.room, &mut self.pairs)
+    }
+
+    // Where a value stands.
+    fn span(&mut self, held: Held<'a>) -> Result<Span, AllocError>
+        requires { FitsHeld (file_of self.old.image) held }
+        ensures grows { Grows self.old self.new }
+        ensures ok { IfOk result (IsPiecePut self.new.gathered.bytes (value_held (file_of self.old.image) held.entry)) }
+    {
+        match held {
+            Held::Inline(bytes) => self.pairs.put(bytes),
+            Held::Chained(head) => self.chain_span(head),
+        }
+    }
+
+    // Where the value of a key stands.
+    fn key_span(&mut self, item: &LeafItem<'a>) -> Result<Span, AllocError>
+        requires { FitsContent (file_of self.old.image) (leaf_item_seen item.now).content }
+        ensures grows { Grows self.old self.new }
+        ensures ok { IfOk result (IsPiecePut self.new.gathered.bytes (value_of (file_of self.old.image) (leaf_item_seen item.now).content)) }
+    {
+        let held = leaf_held(item);
+        self.span(held)
+    }
+
+    // Where a datum on a page stands: where the last one does, if its bytes are the same, as they are where many entries name one item.
+    fn near_span(&mut self, bytes: &[u8]) -> Result<Span, AllocError>
+        ensures grows { Grows self.old self.new }
+        ensures ok { IfOk result (IsPiecePut self.new.gathered.bytes bytes.now) }
+    {
+        if let Some(span) = self.pairs.find(self.last, bytes) {
+            return Ok(span);
+        }
+        let span = self.pairs.put(bytes)?;
+        self.last = span.start as usize;
+        Ok(span)
+    }
+
+    // Where the datum of an item stands.
+    fn datum_span(&mut self, item: &LeafItem<'a>) -> Result<Span, AllocError>
+        requires { FitsContent (file_of self.old.image) (leaf_item_seen item.now).content }
+        ensures grows { Grows self.old self.new }
+        ensures ok { IfOk result (IsPiecePut self.new.gathered.bytes (value_of (file_of self.old.image) (leaf_item_seen item.now).content)) }
+    {
+        let held = leaf_held(item);
+        match held {
+            Held::Inline(bytes) => self.near_span(bytes),
+            Held::Chained(head) => self.chain_span(head),
+        }
+    }
+
+    // Adds a key with a datum that stands there.
+    fn push_span(&mut self, key: PlacedKey, value: Span) -> Result<(), AllocError>
+        requires key { IsKeyPlaced self.old.gathered.bytes key }
+        requires value { IsSpanOf self.old.gathered.bytes value }
+        ensures { OnOk result (Adds self.old self.new key (span_in self.old.gathered.bytes value ∷ [])) }
+    {
+        self.pairs.push(key, value)
+    }
+
+    // Adds a key with the value of an item.
+    fn push(&mut self, key: PlacedKey, item: &LeafItem<'a>) -> Result<(), AllocError>
+        requires fits { FitsContent (file_of self.old.image) (leaf_item_seen item.now).content }
+        requires key { IsKeyPlaced self.old.gathered.bytes key }
+        ensures { OnOk result (Adds self.old self.new key (value_of (file_of self.old.image) (leaf_item_seen item.now).content ∷ [])) }
+    {
+        let value = self.datum_span(item)?;
+        self.push_span(key, value)
+    }
+
+    // Adds a key with the value of an entry, unless that is deleted.
+    fn push_entry(&mut self, key: PlacedKey, entry: &LeafItem<'a>) -> Result<(), AllocError>
+        requires fits { FitsContent (file_of self.old.image) (leaf_item_seen entry.now).content }
+        requires key { IsKeyPlaced self.old.gathered.bytes key }
+        ensures { OnOk result (Adds self.old self.new key (values_of (file_of self.old.image) (leaf_item_seen entry.now ∷ []))) }
+    {
+        if is_deleted(entry) {
+            return Ok(());
+        }
+        self.push(key, entry)
+    }
+
+    // Adds a key with the data of the set with this root.
+    #[tactic(auto, using(crate::proofs::GatheredLemmas::so_far_adds))]
+    fn push_set(&mut self, key: PlacedKey, root: u32) -> Result<(), AllocError>
+        requires root { FitsDupRoot (file_of self.old.image) root }
+        requires stage { structure_faults (file_of self.old.image) ≡ [] }
+        requires key { IsKeyPlaced self.old.gathered.bytes key }
+        ensures { OnOk result (Adds self.old self.new key (data_of (file_of self.old.image) (Tree root))) }
+    {
+        for entry in tree_entries(&self.forest, root) {
+            self.push_entry(key, &entry)?;
+        }
+        Ok(())
+    }
+
+    // Adds a key with the data of a data item.
+    #[tactic(auto, unfolding(crate::specs::Below::data_of, crate::specs::Below::value_of))]
+    fn push_data(&mut self, key: PlacedKey, item: &LeafItem<'a>) -> Result<(), AllocError>
+        requires content { FitsContent (file_of self.old.image) (leaf_item_seen item.now).content }
+        requires set { FitsSet (file_of self.old.image) (leaf_item_seen item.now).content }
+        requires stage { structure_faults (file_of self.old.image) ≡ [] }
+        requires key { IsKeyPlaced self.old.gathered.bytes key }
+        ensures { OnOk result (Adds self.old self.new key (data_of (file_of self.old.image) (leaf_item_seen item.now).content)) }
+    {
+        match item {
+            LeafItem::Duplicates { root, .. } => self.push_set(key, *root),
+            LeafItem::Inline { .. } | LeafItem::Overflow { .. } => self.push(key, item),
+        }
+    }
+
+    /// Adds a record with its number, unless it's deleted.
+    pub(crate) fn push_record(
+        &mut self,
+        number: u32,
+        entry: &LeafItem<'a>,
+    ) -> Result<(), AllocError>
+        requires { FitsContent (file_of self.old.image) (leaf_item_seen entry.now).content }
+        ensures image { OnOk result (self.new.image ≡ self.old.image) }
+        ensures pairs { OnOk result (self.new.gathered.pairs
+            ≡ self.old.gathered.pairs ++ map text_pair (listed_entry (file_of self.old.image) (number, leaf_item_seen entry.now))) }
+    {
+        self.push_entry(PlacedKey::Number(number), entry)?;
+        Ok(())
+    }
+
+    // Where the key of a pair stands: where that of the pair before does, if they share it.
+    fn key_of(
+        &mut self,
+        last: Option<PlacedKey>,
+        pair: &Pair<LeafItem<'a>>,
+    ) -> Result<PlacedKey, AllocError>
+        requires fits { FitsContent (file_of self.old.image) (leaf_item_seen pair.now.key).content }
+        requires last { pair.now.shares ≡ true → IfSome last (HasKey self.old (value_of (file_of self.old.image) (leaf_item_seen pair.now.key).content)) }
+        ensures grows { Grows self.old self.new }
+        ensures ok { IfOk result (HasKey self.new (value_of (file_of self.old.image) (leaf_item_seen pair.now.key).content)) }
+    {
+        match last {
+            Some(key) if pair.shares => Ok(key),
+            _ => Ok(PlacedKey::Bytes(self.key_span(&pair.key)?)),
+        }
+    }
+
+    /// Adds a stored pair: its key with each of its data. Answers where the key stands.
+    pub(crate) fn push_pair(
+        &mut self,
+        last: Option<PlacedKey>,
+        pair: &Pair<LeafItem<'a>>,
+    ) -> Result<PlacedKey, AllocError>
+        requires fits { FitsContent (file_of self.old.image) (leaf_item_seen pair.now.key).content }
+        requires content { FitsContent (file_of self.old.image) (leaf_item_seen pair.now.value).content }
+        requires set { FitsSet (file_of self.old.image) (leaf_item_seen pair.now.value).content }
+        requires stage { structure_faults (file_of self.old.image) ≡ [] }
+        requires last { pair.now.shares ≡ true → IfSome last (HasKey self.old (value_of (file_of self.old.image) (leaf_item_seen pair.now.key).content)) }
+        ensures image { OnOk result (self.new.image ≡ self.old.image) }
+        ensures pairs { OnOk result (self.new.gathered.pairs
+            ≡ self.old.gathered.pairs ++ map text_pair (listed_pair (file_of self.old.image) (stored_pair (file_of self.old.image) 0 (view_seen leaf_item_seen pair.now)))) }
+        ensures key { IfOk result (HasKey self.new (value_of (file_of self.old.image) (leaf_item_seen pair.now.key).content)) }
+    {
+        let key = self.key_of(last, pair)?;
+        if !is_deleted(&pair.value) {
+            self.push_data(key, &pair.value)?;
+        }
+        Ok(key)
+    }
+
+    /// The pairs.
+    pub(crate) fn into_pairs(self) -> TextPairs
+        ensures { result ≡ self.entry.gathered.pairs }
+    {
+        self.pairs.into_pairs()
+    }
+}
