@@ -26,24 +26,27 @@ tree_page (Meta (HashFields table)) fields at meta is = let only : HashFields ta
 tree_page (Meta (QueueFields queue)) fields at meta is = no_member [] fields refl at
 tree_page page fields at meta is = no_member [] fields refl at
 
--- a database on a page
-on_page : (file : File) (name : List ℕ) (p : ℕ) (db : Found) → Contains (found_on file name p) db → IsTree db.fields
+-- a database is that of its metadata page
+abbrev pub StandsOn : File → Found → Type 0
+StandsOn file db = Contains (tree_fields (page_at file db.meta)) db.fields
+
+on_page : (file : File) (name : List ℕ) (p : ℕ) (db : Found) → Contains (found_on file name p) db → StandsOn file db
 on_page file name p db at =
     let of = of_map (λ fields. record { name = Some name; meta = p; fields = fields }) (tree_fields (page_at file p)) db at in
-    subst IsTree (ap (λ (db : Found). db.fields) of.2) (tree_page (page_at file p) of.0 of.1)
+    subst (StandsOn file) of.2 of.1
 
-of_named : (file : File) (db : Found) → Contains (named_above file) db → IsTree db.fields
+of_named : (file : File) (db : Found) → Contains (named_above file) db → StandsOn file db
 of_named file db at =
     let page = of_flat_map (named_meta file (entries file)) (pages_above file) db at in
     let name = of_flat_map (λ name. found_on file name page.0) (option_to_list (name_in page.0 (entries file))) db page.2 in
     on_page file name.0 page.0 db name.2
 
-of_unnamed : (file : File) (db : Found) → Contains (unnamed_above file) db → IsTree db.fields
+of_unnamed : (file : File) (db : Found) → Contains (unnamed_above file) db → StandsOn file db
 of_unnamed file db at =
     let page = of_flat_map (unnamed_meta file (entries file)) (pages_above file) db at in
     by_name page.0 (is_some (name_in page.0 (entries file))) page.2
   where
-    by_name : (p : ℕ) (b : Bool) → Contains (cond b [] (found_on file (codes "page " ++ decimal p) p)) db → IsTree db.fields
+    by_name : (p : ℕ) (b : Bool) → Contains (cond b [] (found_on file (codes "page " ++ decimal p) p)) db → StandsOn file db
     by_name p true none = absurd (no_member [] db refl none)
     by_name p false there = on_page file (codes "page " ++ decimal p) p db there
 
@@ -81,14 +84,12 @@ of_fold dbs (db ∷ more) x at = elim (of_fold (with_found dbs db) more x at) [
   ]
 ]
 
-of_under : (file : File) (page : Page) (db : Found) → Contains (found_under file page) db → IsTree db.fields
-of_under file page db at = by_one (is_alone page) at
+of_under : (file : File) (db : Found) → Contains (found_under file (page_at file 0)) db → StandsOn file db
+of_under file db at = by_one (is_alone (page_at file 0)) at
   where
-    by_one : (b : Bool) → Contains (cond b (map only_found (tree_fields page)) (fold with_found [] (named_above file ++ unnamed_above file))) db
-        → IsTree db.fields
-    by_one true here =
-        let of = of_map only_found (tree_fields page) db here in
-        subst IsTree (ap (λ (db : Found). db.fields) of.2) (tree_page page of.0 of.1)
+    by_one : (b : Bool) → Contains (cond b (map only_found (tree_fields (page_at file 0))) (fold with_found [] (named_above file ++ unnamed_above file))) db
+        → StandsOn file db
+    by_one true here = let of = of_map only_found (tree_fields (page_at file 0)) db here in subst (StandsOn file) of.2 of.1
     by_one false here = elim (of_fold [] (named_above file ++ unnamed_above file) db here) [
       | inl put ↦ elim (Contains-append_cases (named_above file) (unnamed_above file) db put) [
         | inl named ↦ of_named file db named
@@ -97,16 +98,30 @@ of_under file page db at = by_one (is_alone page) at
       | inr none ↦ absurd (no_member [] db refl none)
     ]
 
+-- a database that is found is a queue by the metadata on page 0, or stands on its metadata page
+pub record IsQueueOn (reading : Reading) (db : Found) : Type 0 where
+  pub meta : QueueMeta
+  pub queue : queue_in reading ≡ Some meta
+  pub same : only_found (QueueFields meta) ≡ db
+
+pub stands : (reading : Reading) (db : Found) → Contains (found reading) db → IsQueueOn reading db ⊎ StandsOn (file_in reading) db
+unfolding found
+stands reading db at = by_queue (queue_in reading) refl at
+  where
+    by_queue : (queue : Option QueueMeta) → queue_in reading ≡ queue → Contains (found_beside (file_in reading) queue) db
+        → IsQueueOn reading db ⊎ StandsOn (file_in reading) db
+    by_queue None is here = inr (of_under (file_in reading) db here)
+    by_queue (Some queue) is here = inl (record { meta = queue; queue = is; same = only_member (only_found (QueueFields queue)) db here })
+
 -- a queue is found only by the metadata on page 0
 pub known : (reading : Reading) (db : Found) → Contains (found reading) db → IsKnown reading db
-unfolding found
-known reading db at meta is = by_queue (queue_in reading) at
-  where
-    by_queue : (queue : Option QueueMeta) → Contains (found_beside (file_in reading) queue) db → queue ≡ Some meta
-    by_queue None here = absurd (of_under (file_in reading) (page_at (file_in reading) 0) db here meta is)
-    by_queue (Some queue) here = let only : only_found (QueueFields queue) ≡ db = only_member (only_found (QueueFields queue)) db here in
-        let fields : QueueFields queue ≡ QueueFields meta = ap (λ (db : Found). db.fields) only ∙ is in
-        cc
+known reading db at meta is = elim (stands reading db at) [
+  | inl queue ↦
+      let fields : QueueFields queue.meta ≡ QueueFields meta = ap (λ (db : Found). db.fields) queue.same ∙ is in
+      let same : queue.meta ≡ meta = cc in
+      queue.queue ∙ ap Some same
+  | inr there ↦ absurd (tree_page (page_at (file_in reading) db.meta) db.fields there meta is)
+]
 
 -- the database at a place is one that is found
 pub known_at : (reading : Reading) (places : List Place) (at : ℕ) (place : Place) → map found_seen places ≡ found reading → at < length places

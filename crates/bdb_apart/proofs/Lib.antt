@@ -13,3 +13,4 @@ pub mod KnownLemmas
 pub mod SlotLemmas
 pub mod SumLemmas
 pub mod PartLemmas
+pub mod OrderLemmas

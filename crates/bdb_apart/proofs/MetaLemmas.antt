@@ -1,29 +1,31 @@
 -- Metadata pages of homes, and of the databases that are found, are there.
-use Rattle.std.proofs.Common.{◌≡◌, ℕ, zero, suc, ◌+◌, ◌-◌, ◌<◌, ◌≤◌, Bool, true, false, cond, List, [], ◌∷◌, ◌++◌, map, length, get_or, arith, refl, sym}
+use Rattle.std.proofs.Common.{◌≡◌, ℕ, zero, suc, ◌-◌, ◌<◌, ◌≤◌, Bool, true, false, cond, List, [], ◌∷◌, map, length, get_or, arith, refl, sym}
 use Rattle.std.proofs.Common.{◌∙◌, ap, subst, inl, inr}
-use Rattle.std.specs.Prelude.{Option, Some, None, ◌==◌, ◌||◌, ◌&&◌, ◌^◌, ◌/◌, codes, decimal, nat_le, nat_lt}
-use Rattle.std.specs.List.{All, find, flat_map, fold, list_any, range_with_len}
-use Rattle.std.specs.Option.{is_some, option_and_then, option_map, option_to_list}
-use Rattle.std.proofs.lemmas.Bool.{cases_lt, ltb-true, ne_eqb, true≢false}
+use Rattle.std.specs.Prelude.{Option, Some, None, ◌==◌, ◌&&◌, ◌^◌, ◌/◌, nat_le, nat_lt}
+use Rattle.std.specs.List.{All, Contains, range_with_len}
+use Rattle.std.specs.Option.{option_and_then, option_map}
+use Rattle.std.proofs.lemmas.Bool.{cases_lt, eqb-true, lt-ltb, ltb-true, true≢false}
 use Rattle.std.proofs.lemmas.List.{get_or_past}
-use Rattle.std.proofs.lemmas.List.Folds.{list_any-append}
 use Rattle.std.proofs.lemmas.List.FromFn.{get_or-map-range_with_len, length-map-range_with_len}
 use Rattle.std.proofs.lemmas.Option.{none-some, same_Some}
 use Rattle.bdb_rescue.specs.of_format.declared.metadata.QueueMeta.{QueueMeta}
 use Rattle.bdb_rescue.specs.of_format.Terms.{File, Metadata, NoType, Page}
-use Rattle.bdb_rescue.specs.of_format.Terms.{QueueFields, is_meta, less, page_at}
+use Rattle.bdb_rescue.specs.of_format.Terms.{is_meta, page_at}
 use Rattle.bdb_rescue.specs.Kept.{Reading, file_in}
+use Rattle.bdb_rescue.proofs.of_format.MemberLemmas.{first_member, later_member, no_member}
 use Rattle.bdb_rescue.proofs.of_survey.StoredPageLemmas.{count_is, page_past}
 use Rattle.bdb_homes.specs.Claims.{Claim, claim_of}
 use Rattle.bdb_homes.specs.Homes.{ahead, behind, by_claim, claimed_in, from_side, home, later, led, numbered, or_else, own_home, page_after, page_before}
 use Rattle.bdb_homes.specs.Homes.{records_on, spread}
 use Rattle.bdb_homes.specs.declared.home.Home.{Home}
-use Rattle.bdb_apart.specs.Found.{Found, entries, found, found_beside, found_on, is_alone, name_in, named_above, named_meta, only_found, pages_above}
-use Rattle.bdb_apart.specs.Found.{put_found, has_name, name_of, tree_fields, unnamed_above, unnamed_meta, with_found}
+use Rattle.bdb_apart.specs.Found.{Found, found, is_alone}
+use Rattle.bdb_apart.specs.Found.{tree_fields}
 use Rattle.bdb_apart.specs.Given.{above, db_at, is_pair_page, meta_at}
 use Rattle.bdb_apart.specs.Queues.{bytes_at, queue_in, queue_on}
 use Rattle.bdb_apart.specs.Left.{IsThere}
 use Rattle.bdb_apart.specs.Rows.{AreBelow, row_from}
+use Rattle.bdb_apart.proofs.KnownLemmas.{stands}
+use Rattle.bdb_apart.proofs.LeftLemmas.{at_page}
 use Rattle.bdb_apart.proofs.RowLemmas.{row_there}
 
 -- Homes lead to metadata.
@@ -166,92 +168,25 @@ are_below reading aboves are p m is = elim (cases_lt p n) [
 
 -- Databases that are found.
 
--- no database of a metadata page
-abbrev HasNone : ℕ → List Found → Type 0
-HasNone m dbs = list_any (λ (db : Found). db.meta == m) dbs ≡ false
+abbrev has_fields : Page → Bool
+has_fields page = nat_lt 0 (length (tree_fields page))
 
-none_of : (m : ℕ) (dbs : List Found) → HasNone m dbs → db_at dbs (Some m) ≡ None
-none_of m [] none = refl
-none_of m (db ∷ dbs) none = by_test (db.meta == m) none (none_of m dbs)
+some_fields : (page : Page) (fields : Metadata) → Contains (tree_fields page) fields → has_fields page ≡ true
+some_fields page fields at = by_list (tree_fields page) at
   where
-    by_test : (b : Bool) → (b || list_any (λ (db : Found). db.meta == m) dbs) ≡ false → (HasNone m dbs → db_at dbs (Some m) ≡ None)
-        → cond b (Some db) (find (λ (db : Found). db.meta == m) dbs) ≡ None
-    by_test true is rest = absurd (true≢false is)
-    by_test false is rest = rest is
+    by_list : (all : List Metadata) → Contains all fields → nat_lt 0 (length all) ≡ true
+    by_list [] none = absurd (no_member [] fields refl none)
+    by_list (first ∷ others) some = lt-ltb 0 (length (first ∷ others)) (omega arith)
 
-none_more : (m : ℕ) (db : Found) (dbs : List Found) → (db.meta == m) ≡ false → HasNone m dbs → HasNone m (db ∷ dbs)
-none_more m db dbs other none = ap (λ b. b || list_any (λ (db : Found). db.meta == m) dbs) other ∙ none
-
-none_first : (m : ℕ) (db : Found) (dbs : List Found) → HasNone m (db ∷ dbs) → (db.meta == m) ≡ false
-none_first m db dbs none = by_test (db.meta == m) none
+-- the first with a metadata page is one of them
+found_member : (dbs : List Found) (m : ℕ) (db : Found) → db_at dbs (Some m) ≡ Some db → Contains dbs db
+found_member [] m db is = absurd (none-some db is)
+found_member (first ∷ others) m db is = by_test (first.meta == m) is (found_member others m db)
   where
-    by_test : (b : Bool) → (b || list_any (λ (db : Found). db.meta == m) dbs) ≡ false → b ≡ false
-    by_test true is = absurd (true≢false is)
-    by_test false is = refl
-
-none_rest : (m : ℕ) (db : Found) (dbs : List Found) → HasNone m (db ∷ dbs) → HasNone m dbs
-none_rest m db dbs none = ap (λ b. b || list_any (λ (db : Found). db.meta == m) dbs) (sym (none_first m db dbs none)) ∙ none
-
-none_put : (m : ℕ) (dbs : List Found) (db : Found) → HasNone m dbs → (db.meta == m) ≡ false → HasNone m (put_found dbs db)
-none_put m [] db none other = none_more m db [] other refl
-none_put m (first ∷ dbs) db none other =
-    by_test (less (name_of db) (name_of first)) (none_put m dbs db (none_rest m first dbs none) other)
-  where
-    by_test : (before : Bool) → HasNone m (put_found dbs db) → HasNone m (cond before (db ∷ first ∷ dbs) (first ∷ put_found dbs db))
-    by_test true rest = none_more m db (first ∷ dbs) other none
-    by_test false rest = none_more m first (put_found dbs db) (none_first m first dbs none) rest
-
-none_with : (m : ℕ) (dbs : List Found) (db : Found) → HasNone m dbs → (db.meta == m) ≡ false → HasNone m (with_found dbs db)
-none_with m dbs db none other = by_test (list_any (has_name (name_of db)) dbs)
-  where
-    by_test : (b : Bool) → HasNone m (cond b dbs (put_found dbs db))
-    by_test true = none
-    by_test false = none_put m dbs db none other
-
-none_folded : (m : ℕ) (old dbs : List Found) → HasNone m old → HasNone m dbs → HasNone m (fold with_found old dbs)
-none_folded m old [] first none = first
-none_folded m old (db ∷ dbs) first none =
-    none_folded m (with_found old db) dbs (none_with m old db first (none_first m db dbs none)) (none_rest m db dbs none)
-
-none_both : (m : ℕ) (dbs others : List Found) → HasNone m dbs → HasNone m others → HasNone m (dbs ++ others)
-none_both m dbs others one other =
-    list_any-append (λ (db : Found). db.meta == m) dbs others ∙ (ap (λ b. b || list_any (λ (db : Found). db.meta == m) others) one ∙ other)
-
-none_on : (m p : ℕ) (name : List ℕ) (fields : List Metadata) → (p == m) ≡ false
-    → HasNone m (map (λ (f : Metadata). record { name = Some name; meta = p; fields = f }) fields)
-none_on m p name [] other = refl
-none_on m p name (f ∷ fields) other =
-    none_more m (record { name = Some name; meta = p; fields = f }) (map (λ (f : Metadata). record { name = Some name; meta = p; fields = f }) fields) other
-    (none_on m p name fields other)
-
-none_pages : (m a n : ℕ) (f : ℕ → List Found) → ((p : ℕ) → a ≤ p → p < a + n → HasNone m (f p)) → HasNone m (flat_map f (range_with_len a n))
-none_pages m a zero f none = refl
-none_pages m a (suc n) f none =
-    none_both m (f a) (flat_map f (range_with_len (a + 1) n)) (none a (omega arith) (omega arith))
-    (none_pages m (a + 1) n f (λ p from to. none p (omega (arith, from)) (omega (arith, to))))
-
-none_above : (m : ℕ) (file : File) (f : ℕ → List Found) → file.count ≤ m → ((p : ℕ) → (p == m) ≡ false → HasNone m (f p))
-    → HasNone m (flat_map f (pages_above file))
-none_above m file f past none =
-    none_pages m 1 (file.count - 1) f (λ p from to. none p (ne_eqb p m (λ same. omega (arith, past, from, to, same))))
-
-none_named : (m : ℕ) (file : File) (names : List (List ℕ × ℕ)) (p : ℕ) → (p == m) ≡ false → HasNone m (named_meta file names p)
-none_named m file names p other = by_name (name_in p names)
-  where
-    by_name : (name : Option (List ℕ)) → HasNone m (flat_map (λ name. found_on file name p) (option_to_list name))
-    by_name None = refl
-    by_name (Some name) = none_both m (found_on file name p) [] (none_on m p name (tree_fields (page_at file p)) other) refl
-
-none_unnamed : (m : ℕ) (file : File) (names : List (List ℕ × ℕ)) (p : ℕ) → (p == m) ≡ false → HasNone m (unnamed_meta file names p)
-none_unnamed m file names p other = by_name (name_in p names)
-  where
-    by_name : (name : Option (List ℕ)) → HasNone m (cond (is_some name) [] (found_on file (codes "page " ++ decimal p) p))
-    by_name None = none_on m p (codes "page " ++ decimal p) (tree_fields (page_at file p)) other
-    by_name (Some name) = refl
-
-none_only : (m : ℕ) (fields : List Metadata) → (0 == m) ≡ false → HasNone m (map only_found fields)
-none_only m [] other = refl
-none_only m (f ∷ fields) other = none_more m (only_found f) (map only_found fields) other (none_only m fields other)
+    by_test : (b : Bool) → cond b (Some first) (db_at others (Some m)) ≡ Some db → (db_at others (Some m) ≡ Some db → Contains others db)
+        → Contains (first ∷ others) db
+    by_test true same rest = subst (Contains (first ∷ others)) (same_Some first db same) (first_member first others)
+    by_test false same rest = later_member first others db (rest same)
 
 queue_low : (reading : Reading) (meta : QueueMeta) → queue_in reading ≡ Some meta → 0 < (file_in reading).count
 unfolding queue_in
@@ -262,27 +197,21 @@ queue_low reading meta = by_test (nat_lt 0 (file_in reading).count) refl
     by_test true low is = ltb-true 0 (file_in reading).count low
     by_test false low is = absurd (none-some meta is)
 
+-- the metadata page of a database that is found is there
+meta_there : (reading : Reading) (db : Found) → Contains (found reading) db → db.meta < (file_in reading).count
+meta_there reading db at = elim (stands reading db at) [
+  | inl queue ↦ subst (λ m. m < (file_in reading).count) (ap (λ (x : Found). x.meta) queue.same) (queue_low reading queue.meta queue.queue)
+  | inr there ↦ there_by reading has_fields db.meta refl (some_fields (page_at (file_in reading) db.meta) db.fields there)
+]
+
 -- no database is found with a metadata page that isn't there
 pub none_past : (reading : Reading) (m : ℕ) → (file_in reading).count ≤ m → db_at (found reading) (Some m) ≡ None
-unfolding found
-none_past reading m past = none_of m (found_beside file (queue_in reading)) (by_queue (queue_in reading) refl)
+none_past reading m past = by_db (db_at (found reading) (Some m)) refl
   where
-    file : File
-    file = file_in reading
-
-    not_here : 0 < file.count → (0 == m) ≡ false
-    not_here some = ne_eqb 0 m (λ same. omega (arith, some, past, same))
-
-    by_alone : (b : Bool) → is_alone (page_at file 0) ≡ b
-        → HasNone m (cond b (map only_found (tree_fields (page_at file 0))) (fold with_found [] (named_above file ++ unnamed_above file)))
-    by_alone true is = none_only m (tree_fields (page_at file 0)) (not_here (there_by reading is_alone 0 refl is))
-    by_alone false is =
-        none_folded m [] (named_above file ++ unnamed_above file) refl
-        (none_both m (named_above file) (unnamed_above file)
-        (none_above m file (named_meta file (entries file)) past (none_named m file (entries file)))
-        (none_above m file (unnamed_meta file (entries file)) past (none_unnamed m file (entries file))))
-
-    by_queue : (queue : Option QueueMeta) → queue_in reading ≡ queue → HasNone m (found_beside file queue)
-    by_queue (Some meta) is =
-        none_only m (QueueFields meta ∷ []) (not_here (queue_low reading meta is))
-    by_queue None is = by_alone (is_alone (page_at file 0)) refl
+    by_db : (db : Option Found) → db_at (found reading) (Some m) ≡ db → db ≡ None
+    by_db None is = refl
+    by_db (Some db) is =
+        absurd
+        (let low : db.meta < (file_in reading).count = meta_there reading db (found_member (found reading) m db is) in
+        let same : db.meta ≡ m = eqb-true db.meta m (at_page (found reading) m db is) in
+        omega (arith, low, same, past))

@@ -58,7 +58,7 @@ of_folded m old [] = omega arith
 of_folded m old (db ∷ dbs) =
     omega (arith, of_folded m (with_found old db) dbs, of_with m old db, sum_by-cons (λ db. cond (is_of m db) 1 0) db dbs)
 
-one_field : (page : Page) → length (tree_fields page) ≤ 1
+pub one_field : (page : Page) → length (tree_fields page) ≤ 1
 one_field (Meta (BtreeFields meta)) = omega arith
 one_field (Meta (HashFields meta)) = omega arith
 one_field page = omega arith

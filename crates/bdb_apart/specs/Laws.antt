@@ -1,10 +1,10 @@
 -- Each pair and each loose record that is salvaged stands in just one part. Source: docs/FORMAT.md, "Salvage".
-use Rattle.std.specs.Prelude.{◌≡◌, ℕ, ◌+◌, ◌&&◌, if◌then◌else◌, Bool, List, [], None}
+use Rattle.std.specs.Prelude.{◌≡◌, ℕ, ◌+◌, ◌&&◌, if◌then◌else◌, Bool, List, [], None, true, map}
 use Rattle.std.specs.List.{count_by, filter, flat_map, range_with_len, sum_by}
-use Rattle.bdb_rescue.specs.of_format.Terms.{File}
+use Rattle.bdb_rescue.specs.of_format.Terms.{File, ascends}
 use Rattle.bdb_rescue.specs.of_survey.Salvage.{loose, stored, stored_on}
 use Rattle.bdb_rescue.specs.Kept.{Reading, file_in}
-use Rattle.bdb_apart.specs.Found.{Found, found, is_master_leaf}
+use Rattle.bdb_apart.specs.Found.{Found, found, is_master_leaf, name_of}
 use Rattle.bdb_apart.specs.Given.{are_given, found_in, names_found, pairs_given, pairs_left, records_given, records_left}
 use Rattle.bdb_apart.specs.Queues.{queue_in}
 
@@ -27,3 +27,7 @@ abbrev pub EachRecordIsInOnePart : Type 0
 EachRecordIsInOnePart = (reading : Reading) (test : List ℕ → Bool) → queue_in reading ≡ None
     → count_by test (loose (file_in reading))
     ≡ sum_by (λ it. count_by (λ (placed : ℕ × List ℕ). test placed.1) (records_given it)) (found_in reading) + count_by test (records_left reading)
+
+-- the names of the databases that are found ascend, so no two have one name
+abbrev pub NamesAscend : Type 0
+NamesAscend = (reading : Reading) → ascends (map name_of (found reading)) ≡ true
