@@ -48,8 +48,7 @@ all_fit : (size : ℕ) (alone : Bool) (sections : List Section) → All (IsGoodS
 all_fit size alone [] good = (0, All-nil (IsFitSection 0))
 all_fit size alone (section ∷ sections) good =
     let here : IsGoodSection size alone section = All-head (IsGoodSection size alone) section sections good in
-    let rest = all_fit size alone sections (All-tail (IsGoodSection size alone) section sections good) in
-    (
+    let rest = all_fit size alone sections (All-tail (IsGoodSection size alone) section sections good) in (
       here.most + rest.0,
       All-cons (IsFitSection (here.most + rest.0)) section sections (longer here.most (here.most + rest.0) section (omega arith) here.fit)
           (all_longer rest.0 (here.most + rest.0) sections (omega arith) rest.1),

@@ -125,6 +125,11 @@ pub told_as : (limit : ℕ) (result other : Result (List ℕ) RepairError) (out 
     → IsBuiltTold limit other out err status → IsBuiltTold limit result out err status
 told_as limit result other out err status is told_so = subst (λ r. IsBuiltTold limit r out err status) (sym is) told_so
 
+pub told_err : (limit : ℕ) (result : Result (List ℕ) RepairError) (given error : RepairError) (out err : Change) (status : ℕ) → result ≡ Err given
+    → given ≡ error → IsBuiltTold limit (Err error) out err status → IsBuiltTold limit result out err status
+told_err limit result given error out err status is same told_so =
+    told_as limit result (Err given) out err status is (subst (λ e. IsBuiltTold limit (Err e) out err status) (sym same) told_so)
+
 -- by what the new file has
 pub asked_ends : (limit : ℕ) (built asked : Built) (given : Option Guess) (image : List ℕ) (out err : Change) (status : ℕ) → asked ≡ built
     → Ends (IsRepairAnswer limit built given image) out err status → Ends (IsRepairAnswer limit asked given image) out err status

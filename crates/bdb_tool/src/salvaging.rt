@@ -9,9 +9,7 @@ ghost use Rattle.bdb_tool.specs.Outputs.{apart_answer, found_answer, parts_answe
 ghost use Rattle.bdb_tool_ask.specs.of_tool_lines.Finished.{Finishes};
 ghost use Rattle.bdb_tool_words.specs.WordsSeen.{IsFitSalvage};
 
-use bdb_repair::{
-    Apart, SalvageError, Salvaged, Sink, Steps, apart_of, salvage, unsupported_case,
-};
+use bdb_repair::{Apart, SalvageError, Salvaged, Sink, Steps, apart_of, salvage, unsupported_case};
 use bdb_tool_ask::status::NO_META;
 use bdb_tool_ask::{report, tell, tell_case, tell_memory, write_apart, write_rest, write_salvaged};
 use bdb_tool_words::{Parts, Salvage};

@@ -1,6 +1,7 @@
 //! The command that the words of a command line are. Nothing here allocates.
 ghost use Rattle.std.specs.Prelude.{◌≡◌, IfSome, MatchOption, None, Some, false, drop, option_copied, option_map, true};
-ghost use Rattle.bdb_tool_words.specs.Commands.{action_of, built_asked, command_by, command_of, command_on, commands, loading, onto_file, parts_asked, row_named, rows_asked};
+ghost use Rattle.bdb_tool_words.specs.Commands.{action_of, asking, built_asked, command_by, command_of, command_on, commands, loading, onto_file};
+ghost use Rattle.bdb_tool_words.specs.Commands.{parts_asked, row_named, rows_asked};
 ghost use Rattle.bdb_tool_words.specs.declared.command.CommandName.TheVariants as command;
 ghost use Rattle.bdb_tool_words.specs.declared.command.Request.TheVariants.{Get as CodeGet};
 ghost use Rattle.bdb_tool_words.specs.WordsSeen.{AreOnto, IsActionSeen, IsFitAction, IsFitCommand, IsSeen, action_seen, request_seen, row_seen};
