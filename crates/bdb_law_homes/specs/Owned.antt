@@ -1,12 +1,14 @@
 -- Of what each leaf and each hash page of a sound file is. Source: docs/FORMAT.md, "Stage 4, ownership".
-use Rattle.std.specs.Prelude.{◌≡◌, ◌≢◌, ◌⊎◌, ℕ, ◌≤◌, false, true, List, [], ◌∷◌}
+use Rattle.std.specs.Prelude.{◌≡◌, ◌≢◌, ◌⊎◌, ℕ, ◌≤◌, false, true, List, [], ◌∷◌, Some}
 use Rattle.std.specs.List.{Contains}
 use Rattle.bdb_graph.specs.of_format.declared.metadata.BtreeMeta.{BtreeMeta}
 use Rattle.bdb_graph.specs.of_format.declared.metadata.FileKind.TheVariants.{Queue}
 use Rattle.bdb_graph.specs.of_format.declared.metadata.HashMeta.{HashMeta}
-use Rattle.bdb_graph.specs.of_format.Terms.{BtreeFields, File, HashFields, Meta, bucket_pages, file_of, has_type, is_spare, leaves, page_at, type_in}
+use Rattle.bdb_graph.specs.of_format.Terms.{BtreeFields, File, HashFields, Item, Leaf, Listed, Meta, bucket_pages, file_of, has_type, header_in, is_recno}
+use Rattle.bdb_graph.specs.of_format.Terms.{is_spare, leaves, page_at, pairs_of, type_in}
 use Rattle.bdb_graph.specs.of_image.Linked.{IsForest}
-use Rattle.bdb_law_sums.specs.Databases.{IsOfSet}
+use Rattle.bdb_homes.specs.Homes.{home}
+use Rattle.bdb_law_sums.specs.Databases.{IsOfSet, IsSoundForest}
 use Rattle.bdb_law_sums.specs.HashSums.{is_hash_page}
 
 -- a page is a leaf of the tree of metadata
@@ -36,3 +38,30 @@ abbrev pub HashPagesAreOfOne : Type 0
 HashPagesAreOfOne =
     (image : List ℕ) (p : ℕ) → IsForest image → (file_of image).kind ≢ Queue → p ≤ (file_of image).last → is_hash_page (file_of image) p ≡ true
     → is_spare (page_at (file_of image) p) ≡ false → IsPageOf (file_of image) p
+
+-- a page has the database as its home whose leaf it is
+pub record HasTree (file : File) (p : ℕ) : Type 0 where
+  pub of : IsLeafOf file p
+  pub recno : is_recno of.tree ≡ false
+  pub is : home file p ≡ Some (record { meta = of.meta; start = 0 })
+
+-- the levels of pages are bytes
+abbrev pub HasByteLevels : File → Type 0
+HasByteLevels file = (p : ℕ) → (header_in (page_at file p)).level ≤ 255
+
+-- each leaf with pairs is one of a btree, which is its home
+abbrev pub PairLeavesHaveHomes : Type 0
+PairLeavesHaveHomes =
+    (image : List ℕ) (p : ℕ) (view : Listed Item) → IsSoundForest image → HasByteLevels (file_of image) → p ≤ (file_of image).last
+    → page_at (file_of image) p ≡ Leaf view → pairs_of (file_of image) p ≢ [] → HasTree (file_of image) p
+
+-- a page has the table as its home in whose bucket it stands
+pub record HasTable (file : File) (p : ℕ) : Type 0 where
+  pub of : IsPageOf file p
+  pub is : home file p ≡ Some (record { meta = of.meta; start = 0 })
+
+-- and so has each hash page that isn't empty by itself
+abbrev pub HashPagesHaveHomes : Type 0
+HashPagesHaveHomes =
+    (image : List ℕ) (p : ℕ) → IsForest image → (file_of image).kind ≢ Queue → p ≤ (file_of image).last → is_hash_page (file_of image) p ≡ true
+    → is_spare (page_at (file_of image) p) ≡ false → HasTable (file_of image) p

@@ -1,7 +1,7 @@
 //! In a sound file the home of a page is the metadata to which its owners lead.
 ghost use Rattle.bdb_law_homes.specs.Led.{BucketsAreOfTables, HomesAreOwners, LeavesAreOfBtrees, LeavesAreUnder, NextIsLed, OwnersLeadToOne};
 ghost use Rattle.bdb_law_homes.specs.Led.{SoundFilesAreOwned, StartsAreCounts};
-ghost use Rattle.bdb_law_homes.specs.Owned.{HashPagesAreOfOne, LeavesAreOfOne};
+ghost use Rattle.bdb_law_homes.specs.Owned.{HashPagesAreOfOne, HashPagesHaveHomes, LeavesAreOfOne, PairLeavesHaveHomes};
 ghost use Rattle.bdb_law_homes.specs.Salvaged.{SalvagedHomesAreThose};
 
 /// The home of a page by claims is the metadata to which its first owners lead.
@@ -57,4 +57,14 @@ pub fn hash_pages_are_of_one()
 /// The homes of the file that salvage reads of a sound image are those of the file.
 pub fn salvaged_homes_are_those()
     ensures { SalvagedHomesAreThose }
+{}
+
+/// Each leaf with pairs is one of a btree, which is its home.
+pub fn pair_leaves_have_homes()
+    ensures { PairLeavesHaveHomes }
+{}
+
+/// Each hash page that isn't empty by itself has the table as its home in whose bucket it stands.
+pub fn hash_pages_have_homes()
+    ensures { HashPagesHaveHomes }
 {}
