@@ -272,7 +272,7 @@ def repaired_wrong(program, folder, image, guess, words, kind, which):
     if words and not guess and is_of_others(image):
         return None if ran.returncode in NOT_ONE else f"repair of one database ended with {ran.returncode}"
     if words and not guess and ran.returncode == UNSUPPORTED and text.returncode == 0:
-        return None if run(program, "verify", given=image).stderr.startswith(b"unsupported: ") else "repair tells a case that verify doesn't"
+        return None if re.fullmatch(rb"unsupported: \w+, page 0\n", ran.stderr) else f"repair of one database tells {ran.stderr!r}"
     if (ran.returncode, ran.stderr) != (text.returncode, text.stderr):
         return f"repair ended with {ran.returncode}, salvage with {text.returncode}: {ran.stderr.decode(errors='replace')}"
     if ran.returncode:

@@ -145,4 +145,5 @@ def main():
     sys.exit(not all(right for _, right in told))
 
 
-main()
+if __name__ == "__main__":
+    main()

@@ -1,5 +1,6 @@
 #!/bin/sh
-# Makes the files on which apart is tried, and damages them: the databases of an archive of reprepro, those of onak, a wallet with the database `main`, and a map of postfix.
+# Makes the files on which apart is tried, and damages each with a page of zeros: the databases of an archive of reprepro, a wallet with the database `main`, and a
+# map of postfix.
 mkdir -p etc lib archive/conf
 echo 'compatibility_level = 3.6' >etc/main.cf
 seq 1 2000 | sed 's/.*/user&@example.org\tuser&/' >lib/virtual
@@ -27,5 +28,5 @@ overwrite() {
 }
 overwrite lib/virtual.db 4096 5
 overwrite lib/wallet.dat 4096 6
-overwrite archive/db/packages.db 4096 4
-overwrite archive/db/checksums.db 4096 3
+overwrite archive/db/packages.db 4096 7
+overwrite archive/db/checksums.db 4096 5
