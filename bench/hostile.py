@@ -89,6 +89,8 @@ ONTO = (Run(("load",), 0, onto=NO_PAIRS),)
 MEGABYTES = (Run(("repair",), 6), Run(("repair", "--as", "btree"), 6), Run(("repair", "--as", "hash"), 6))
 # The base itself is within the limit.
 ONTO_MEGABYTES = (Run(("load", "--max-bytes", "4000000"), 6, onto=NO_DUPLICATES), Run(("repair", "--max-bytes", "4000000"), 6))
+# Database by database.
+APART = (Run(("salvage", "--apart"), 0), Run(("salvage", "--rest"), 0), Run(("repair", "--apart"), 0))
 BY_HAND = tuple(Run(("salvage", "--order", "little", "--page-size", size), 0) for size in ("512", "32768"))
 
 # At the largest size a run whose time grows as its input takes some hundredths of a second, up to a few tenths.
@@ -115,13 +117,13 @@ CLASSES = (
     Class("text-keys-mixed", "keys of a btree, of which each stands again and again, shuffled", texts.keys_mixed, 100_000, "", LOADED),
     Class("text-one-hash", "keys of a hash that have one hash", texts.keys_of_one_hash, 25_000, "", LOADED),
     # Hash metadata pages that name the same buckets.
-    Class("bucket-master", "hashes under a master that name the same buckets", files.shared_buckets, 32_768, "TooMany", FAULTY),
-    Class("bucket-zero", "hashes under a master that name the same zero pages as buckets", files.shared_zero_buckets, 32_768, "TooMany", FAULTY),
-    Class("bucket-overlap", "hashes under a master that each name the buckets from one page further on", files.buckets_that_overlap, 32_768, "TooMany", FAULTY),
+    Class("bucket-master", "hashes under a master that name the same buckets", files.shared_buckets, 32_768, "TooMany", FAULTY + APART),
+    Class("bucket-zero", "hashes under a master that name the same zero pages as buckets", files.shared_zero_buckets, 32_768, "TooMany", FAULTY + APART),
+    Class("bucket-overlap", "hashes under a master that each name the buckets from one page further on", files.buckets_that_overlap, 32_768, "TooMany", FAULTY + APART),
     Class("bucket-wrong", "hashes that name the same pages, the last of which is no bucket", files.buckets_of_wrong_kind, 32_768, "WrongKind", FAULTY),
-    Class("bucket-groups", "one hash whose groups all begin at one page", files.groups_on_one_page, 65_536, "TooMany", FAULTY),
-    Class("bucket-chain", "one bucket of pages, each of which is the next one of the page behind it", files.bucket_down, 48_000, "", SOUND + (get("a"),)),
-    Class("bucket-ring", "a ring of pages of a bucket", files.bucket_ring, 131_072, "Unreached", FAULTY),
+    Class("bucket-groups", "one hash whose groups all begin at one page", files.groups_on_one_page, 65_536, "TooMany", FAULTY + APART),
+    Class("bucket-chain", "one bucket of pages, each of which is the next one of the page behind it", files.bucket_down, 48_000, "", SOUND + (get("a"),) + APART),
+    Class("bucket-ring", "a ring of pages of a bucket", files.bucket_ring, 131_072, "Unreached", FAULTY + APART),
     # Items that share one chain of full pages: the texts of these are longer than their files.
     Class("chain-full-btree", "data of a btree share a chain", files.full_chain_btree, 8_000, "", SOUND + (get("00000000"),) + CUT_OFF + SINGLE_CUT_OFF),
     Class("chain-full-recno", "records share a chain", files.full_chain_recno, 8_000, "", JUDGED + CUT_OFF + RECORDS_CUT_OFF),
@@ -157,7 +159,7 @@ CLASSES = (
     Class("chain-length", "data share a blank chain that has another length than they tell", files.chain_length, 60_000, "ChainLength", FAULTY),
     Class("chain-pivot", "keys of a hash that begin alike, one in a blank chain", files.chain_pivot, 16_000, "", SOUND + (get("a-key-of-00000000"),)),
     # Sets off the page.
-    Class("set-own", "each key has a set of its own", files.own_sets, 32_000, "", SOUND + (get("00000000"),)),
+    Class("set-own", "each key has a set of its own", files.own_sets, 32_000, "", SOUND + (get("00000000"),) + APART),
     Class("set-shared", "keys share a set", files.shared_set, 8_000, "TooMany", FAULTY),
     Class("set-long-key", "one key in a long chain, with a set of many short data", files.set_of_long_key, 60_000, "", JUDGED + REPAIRED + ONTO),
     Class("set-shared-blank", "keys share a set of leaves without entries", files.shared_blank_set, 16_000, "TooMany", FAULTY),
@@ -168,10 +170,10 @@ CLASSES = (
     Class("set-shared-deep", "keys share a set below a growing row of full pages", files.shared_deep_set, 1_000, "TooMany", FAULTY),
     # Free pages.
     Class("free-list", "free pages that each name the page before them", files.free_down, 131_072, "", SOUND + (get("a"),)),
-    Class("free-ring", "a ring of free pages", files.free_ring, 131_072, "Unreached", FAULTY),
+    Class("free-ring", "a ring of free pages", files.free_ring, 131_072, "Unreached", FAULTY + APART),
     Class("free-join", "free pages that all name one", files.free_join, 131_072, "TooMany", FAULTY),
     # Trees.
-    Class("deep-many", "named btrees of 254 levels with one child a page", files.deep_trees, 256, "", SOUND + (get("--name", "00000000", "a"),)),
+    Class("deep-many", "named btrees of 254 levels with one child a page", files.deep_trees, 256, "", SOUND + (get("--name", "00000000", "a"),) + APART),
     Class("deep-join", "a btree over rows of 250 pages with one child each", files.deep_rows, 64, "", SOUND + (get("00000000"),)),
     Class("deep-wide", "one child a page for 250 levels above many leaves", files.deep_wide, 10_000, "", SOUND + (get("00000000"),)),
     Class("deep-disorder", "such levels, and keys out of order", files.deep_disorder, 1_000, "KeyOrder", FAULTY),
@@ -188,9 +190,9 @@ CLASSES = (
     Class("zero-pages-btree", "zero pages in a btree", files.zero_pages_btree, 131_072, "NoOwner", FAULTY),
     Class("zero-pages-tail", "zero pages behind the last one", files.zero_pages_tail, 131_072, "", SOUND + (get("a"),)),
     # Names, and queues.
-    Class("name-many", "names of one length and beginning", files.many_names, 16_000, "", SOUND + (get("--name", "zzzz", "key"),)),
-    Class("name-none", "metadata pages without a name", files.metadata_without_names, 24_000, "Unnamed", FAULTY),
-    Class("name-one-page", "names of one metadata page", files.names_of_one_page, 131_072, "MetaTwice", FAULTY),
+    Class("name-many", "names of one length and beginning", files.many_names, 16_000, "", SOUND + (get("--name", "zzzz", "key"),) + APART),
+    Class("name-none", "metadata pages without a name", files.metadata_without_names, 24_000, "Unnamed", FAULTY + APART),
+    Class("name-one-page", "names of one metadata page", files.names_of_one_page, 131_072, "MetaTwice", FAULTY + APART),
     Class("queue-range", "a queue of all numbers, with few full pages", files.queue_range, 16_384, "", SOUND + (get("1"), get("4294967294", status=9))),
     Class("queue-range-zero", "such a queue of zero pages but for the last", files.queue_range_zero, 131_072, "", SOUND + (get("4294967294", status=9),)),
 )

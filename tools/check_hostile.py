@@ -85,7 +85,7 @@ def fault_rows():
             heading = re.match(r"## Stage (\d)", line)
             stage = int(heading[1]) if heading else 0
         elif stage and (row := re.match(r"\| (\d+) \| (\w+) \|(.*)", line)):
-            yield Row(stage, int(row[1]), row[2], "left out: " in row[3])
+            yield Row(stage, int(row[1]), row[2], "not supported: " in row[3])
 
 
 ROWS = frozenset(fault_rows())

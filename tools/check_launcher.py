@@ -318,7 +318,7 @@ def check_installed(checks, room, unbuilt, program):
     env = dict(os.environ, PATH=f"{prefix}/bin:{os.environ['PATH']}")
     for words in (["--help"], ["-h"], ["help"], ["--version"], *([command, "--help"] for command in COMMANDS)):
         answer, here = ran(["bdbtool", *words], cwd="/", env=env), ran([f"{TOP}/bdbtool", *words])
-        same = [re.sub(rb"(?s)(items overlap\n).*", rb"\1", text[1]) for text in (answer, here)]
+        same = [re.sub(rb"(?s)(not one btree, hash or recno\n).*", rb"\1", text[1]) for text in (answer, here)]
         checks.check(f"installed: {words}", answer[0] == 0 and answer[2] == b"" and same[0] == same[1] != b"", answer)
     os.makedirs(f"{room}/links")
     os.symlink(f"{prefix}/bin/bdbtool", f"{room}/links/linked")

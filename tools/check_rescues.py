@@ -5,8 +5,8 @@ usage: check_rescues.py [--write] [PROGRAM [WORD..]]
 
 PROGRAM is the built program bdbtool; without it, crates/bdbtool/out/bdbtool. With WORDs only those programs are asked in whose names one of them stands.
 A program of tools/clients/programs.py makes a file of 600 records. A copy of it is damaged: a page of zeros, a page that is written over another one, a
-sector of other bytes, and the last third cut off, never page 0. `repair --as` makes a new file of it, with the kind and the duplicates that the header of
-`db5.3_dump` tells of the sound one. It has to be sound for `verify` and for `db5.3_verify`; then the program is asked for each record, and for its list.
+sector of other bytes, and the last third cut off, never page 0. `repair --apart` makes a new file of it. It has to be sound for `verify` and for
+`db5.3_verify`; then the program is asked for each record, and for its list.
 
 Prints a table: how many records the program has as they were, how many it hasn't, and how many it has otherwise. With --write the table stands in
 docs/ORIGINAL.md, below "Rescues". The exit status is 1 where a record is otherwise than it was, or a new file isn't sound. A program that isn't installed
@@ -29,8 +29,8 @@ RECORDS = 600
 SECONDS_A_RUN = 120
 SECTOR = 512
 SUCCEEDED = re.compile(rb"BDB5105 Verification of .* succeeded\.\n")
-COLUMNS = ("Program", "File", "Damage", "Command", "As they were", "Lost", "Otherwise")
-INTRODUCTION = """Each program made a file of 600 records. A copy of it was damaged, `bdbtool repair` made a new file of that, and the program was asked for every
+COLUMNS = ("Program", "File", "Damage", "As they were", "Lost", "Otherwise")
+INTRODUCTION = """Each program made a file of 600 records. A copy of it was damaged, `bdbtool repair --apart` made a new file of that, and the program was asked for every
 record. The new file was sound for `verify` and for `db5.3_verify`. A record that is *lost* stood on a page that the damage took, or in a chain or a set
 that has such a page."""
 
@@ -70,11 +70,10 @@ def cut(image, size, chance):
 DAMAGES = (("a page of zeros", zeros), ("a page over another", page_over_page), ("a sector of other bytes", sector), ("the last third cut off", cut))
 
 
-def shape(path):
-    """The words of `repair` for the one database of a sound file."""
-    header = dict(line.split("=", 1) for line in run("db5.3_dump", str(path)).stdout.decode(errors="replace").split("HEADER=END")[0].split() if "=" in line)
-    order = ("--dupsort",) if header.get("dupsort") == "1" else ("--duplicates",) if header.get("duplicates") == "1" else ()
-    return ("--as", header["type"], *order)
+def kind_of(path):
+    """The kind of the one database of a sound file, as db5.3_dump tells it."""
+    header = run("db5.3_dump", str(path)).stdout.decode(errors="replace").split("HEADER=END")[0].split()
+    return next(word.removeprefix("type=") for word in header if word.startswith("type="))
 
 
 def unsound(program, path):
@@ -97,19 +96,17 @@ def rescued(program, user, folder):
     """A row for each damage, and whether all is as it should be."""
     path = user.write(folder, user.entries(0, RECORDS))
     held, image = dict(user.entries(0, RECORDS)), path.read_bytes()
-    words = shape(path)
-    file = f"{words[1]}, {len(image):,} bytes"
+    file = f"{kind_of(path)}, {len(image):,} bytes"
     for name, damage in DAMAGES:
         chance = random.Random(f"{user.name} {name}")
-        new = run(program, "repair", *words, given=damage(image, page_size(image), chance))
-        command = f"`repair {' '.join(words)}`"
+        new = run(program, "repair", "--apart", given=damage(image, page_size(image), chance))
         if new.returncode:
-            yield (user.name, file, name, command, "", "", new.stderr.decode().strip()), False
+            yield (user.name, file, name, "", "", new.stderr.decode().strip()), False
             continue
         path.write_bytes(new.stdout)
         told = unsound(program, path)
         same, lost, otherwise = asked(user, path, held)
-        yield (user.name, file, name, command, same, lost, told or otherwise), not told and not otherwise
+        yield (user.name, file, name, same, lost, told or otherwise), not told and not otherwise
 
 
 def rows(program, words):
@@ -119,7 +116,7 @@ def rows(program, words):
             continue
         package = user.lacking()
         if package:
-            yield (user.name, f"not installed: {package}", "", "", "", "", ""), True
+            yield (user.name, f"not installed: {package}", "", "", "", ""), True
             continue
         with tempfile.TemporaryDirectory() as folder:
             yield from rescued(program, user, pathlib.Path(folder))
@@ -127,7 +124,7 @@ def rows(program, words):
 
 def table(lines):
     """A table in Markdown."""
-    marks = ["---"] * 4 + ["---:"] * 3
+    marks = ["---"] * 3 + ["---:"] * 3
     return "".join("| " + " | ".join(map(str, line)) + " |\n" for line in (COLUMNS, marks, *lines))
 
 

@@ -15,7 +15,7 @@ PAGE = f"{TOP}/docs/RECIPES.md"
 PROGRAM = f"{TOP}/crates/bdbtool/out/bdbtool"
 NAMES = [
     "report", "lookup", "range", "move", "order", "pad", "edit", "onto",
-    "recover", "rescue", "apart", "restore", "guess", "records", "mend", "status",
+    "recover", "rescue", "restore", "guess", "records", "mend", "status",
 ]
 # What the recipes run, and the Debian package that has it.
 NEEDED = {

@@ -1,11 +1,7 @@
 #!/bin/sh
-# Makes the files on which apart is tried, and damages each with a page of zeros: the databases of an archive of reprepro, a wallet with the database `main`, and a
-# map of postfix.
-mkdir -p etc lib archive/conf
-echo 'compatibility_level = 3.6' >etc/main.cf
-seq 1 2000 | sed 's/.*/user&@example.org\tuser&/' >lib/virtual
-postmap hash:lib/virtual
-cut -f 1 lib/virtual >virtual.keys
+# Makes files with named databases on which restore is tried, and damages each with a page of zeros: those of an archive of reprepro, and a wallet with the
+# database `main`.
+mkdir -p lib archive/conf
 # An archive of 60 packages, in two architectures.
 printf 'Codename: stable\nArchitectures: amd64 arm64\nComponents: main\n' >archive/conf/distributions
 for number in $(seq 1 60); do
@@ -26,7 +22,6 @@ reprepro -s -b archive includedeb stable made/*.deb
 overwrite() {
     dd if=/dev/zero of="$1" bs="$2" count=1 seek="$3" conv=notrunc 2>/dev/null
 }
-overwrite lib/virtual.db 4096 5
 overwrite lib/wallet.dat 4096 6
 overwrite archive/db/packages.db 4096 7
 overwrite archive/db/checksums.db 4096 5

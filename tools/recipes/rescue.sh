@@ -1,17 +1,18 @@
 #!/bin/sh
-# rescue.sh GOOD < DAMAGED > NEW: a new file of what a damaged one still has, and on standard error what it lacks and has beside the last good dump.
+# rescue.sh GOOD < DAMAGED > NEW: a new file with the databases of a damaged one and what they still have, and on standard error what it lacks and has beside
+# the last good dump.
+# Each pair of a dump text on a line, behind the name of its database.
 pairs() {
-    sed -n 's/^ //p' "$1" | paste - - | LC_ALL=C sort
+    awk '/^VERSION=/ { name = "" } /^database=/ { name = $0 } /^ / { if (key == "") key = $0; else { print name "\t" key "\t" $0; key = "" } }' "$1" | LC_ALL=C sort
 }
 folder=$(mktemp -d)
 trap 'rm -rf "$folder"' EXIT
-bdbtool salvage >"$folder/text" || exit
-# The section of the pairs; behind it may stand one of records that have no key.
-sed '/^DATA=END$/q' "$folder/text" >"$folder/salvaged"
-pairs "$folder/salvaged" >"$folder/have"
+cat >"$folder/file"
+bdbtool salvage --apart <"$folder/file" >"$folder/text" || exit
+pairs "$folder/text" >"$folder/have"
 pairs "$1" >"$folder/want"
 echo "lost $(comm -13 "$folder/have" "$folder/want" | wc -l), kept $(comm -12 "$folder/have" "$folder/want" | wc -l)," \
-    "new or changed $(comm -23 "$folder/have" "$folder/want" | wc -l) pairs; $(grep -c '^database=loose' "$folder/text") section of loose records" >&2
+    "new or changed $(comm -23 "$folder/have" "$folder/want" | wc -l) pairs;" \
+    "$(($(bdbtool salvage --rest <"$folder/file" | grep -c '^ ') / 2)) of no database" >&2
 comm -13 "$folder/have" "$folder/want" | head -n 3 >&2
-# The one section without its name, and with the settings of the good dump's header.
-{ sed '/^HEADER=END$/q' "$1"; sed -n '/^ /p;/^DATA=END$/p' "$folder/salvaged"; } | bdbtool load
+bdbtool load <"$folder/text"

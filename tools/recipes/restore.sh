@@ -1,18 +1,22 @@
 #!/bin/sh
-# restore.sh KIND FILE [OPTION..]: puts in the place of a damaged file of one database a sound one with what it still has, of KIND hash or btree, with its
-# owner and mode. The damaged one stays beside it as FILE.damaged. The options are those of repair.
-kind=$1
-file=$(realpath -- "$2") || exit
-shift 2
+# restore.sh FILE [OPTION..]: puts in the place of a damaged file a sound one with its databases and what they still have, with its owner and mode. The damaged
+# one stays beside it as FILE.damaged. The options are those of repair; without --as each database keeps its name, its kind and its flags.
+file=$(realpath -- "$1") || exit
+shift
 if bdbtool verify --any-order <"$file" >/dev/null 2>&1; then
     echo "$file is sound, at least in an order of its program's own: nothing is replaced" >&2
     exit 1
 fi
+case " $*" in *" --as"*) how= ;; *) how=--apart ;; esac
 umask 077
 new=$(mktemp "$file.XXXXXX") || exit
 trap 'rm -f "$new"' EXIT
-bdbtool repair --as "$kind" "$@" <"$file" >"$new" || exit
-lines=$(bdbtool dump <"$new" | grep -c '^ ')
-[ "$lines" -gt 0 ] || { echo "no pairs, nothing is replaced" >&2; exit 1; }
+bdbtool repair $how "$@" <"$file" >"$new" || exit
+[ "$(bdbtool dump <"$new" | grep -c '^ ')" -gt 0 ] || { echo "no pairs, nothing is replaced" >&2; exit 1; }
 chown --reference="$file" "$new" && chmod --reference="$file" "$new" || exit
-ln "$file" "$file.damaged" && mv -f "$new" "$file" && echo "put back: $((lines / 2)) pairs"
+ln "$file" "$file.damaged" && mv -f "$new" "$file" || exit
+bdbtool list <"$file" | while read -r kind name; do
+    lines=$(bdbtool dump ${name:+--name "$name"} <"$file" | grep -c '^ ')
+    echo "put back: $kind${name:+ $name}, $((lines / 2)) pairs or records"
+done
+[ -z "$how" ] || echo "of no database: $(($(bdbtool salvage --rest "$@" <"$file.damaged" | grep -c '^ ') / 2))"
