@@ -8,9 +8,12 @@ import functools
 import pathlib
 import re
 import sys
+import textwrap
 
 TOP = pathlib.Path(__file__).resolve().parent.parent
 PAGE = TOP / "docs/DEFINITIONS.md"
+# The columns of a line of text; a row of a table is one line.
+WIDTH = 120
 MARKER = "<!-- From here on the page is written by tools/definitions.py. -->\n"
 # The calls whose clauses are the promise, and the file that they stand in.
 ROOTS = TOP / "crates/bdb_tool/src/program.rt", ("run", "run_counted", "run_onto")
@@ -171,7 +174,8 @@ def rested_on():
 def table(file, names):
     """The rows of a file: its definitions that are rested on, and a heading where one of those that stand below it is."""
     says, definitions, _, _ = parsed(file)
-    lines = [f"### {file.parent.parent.name}: {file.name}", "", *([says.rstrip(".") + ".", ""] if says else [])]
+    about = textwrap.wrap(says.rstrip(".") + ".", WIDTH, break_long_words=False, break_on_hyphens=False) if says else []
+    lines = [f"### {file.parent.parent.name}: {file.name}", "", *about, *([""] if about else [])]
     lines += ["| Definition | What it says |", "|---|---|"]
     heading = None
     for it in definitions:
