@@ -38,7 +38,7 @@ SIZES, LEAST = (1 / 8, 1 / 4, 1 / 2, 1), 4
 MOST, FLOOR = 2.3, 0.05
 ROUNDS, CLEAR = 11, 20
 LONGEST, MEMORY = 60, 3 << 30
-COMMANDS = ("verify", "dump", "salvage", "get", "load", "repair")
+COMMANDS = ("verify", "dump", "survey", "salvage", "get", "load", "repair")
 COLUMNS = ("Class", "Bytes", *(f"`{command}`" for command in COMMANDS))
 
 
@@ -70,23 +70,26 @@ NO_PAIRS = b"VERSION=3\nformat=bytevalue\ntype=btree\nduplicates=1\nHEADER=END\n
 NO_DUPLICATES = NO_PAIRS.replace(b"duplicates=1\n", b"")
 NO_RECORDS = NO_DUPLICATES.replace(b"btree", b"recno")
 LOADED, REFUSED, TOO_LARGE = (Run(("load",), 0),), (Run(("load",), 8),), (Run(("load", "--max-bytes", "100000"), 6),)
-SOUND = (Run(("verify",), 0), Run(("dump",), 0), Run(("salvage",), 0))
-FAULTY = (Run(("verify",), 1), Run(("dump",), 1), Run(("salvage",), 0))
-JUDGED, REFUTED = SOUND[:1], FAULTY[:2]
+SURVEYED = (Run(("survey",), 0),)
+SOUND = (Run(("verify",), 0), Run(("dump",), 0), *SURVEYED, Run(("salvage",), 0))
+FAULTY = (Run(("verify",), 1), Run(("dump",), 1), *SURVEYED, Run(("salvage",), 0))
+JUDGED, REFUTED = SOUND[:1] + SURVEYED, FAULTY[:3]
 # What is salvaged is far longer than the input, and the limit above all inputs of the class.
-CUT_OFF = (Run(("repair", "--max-bytes", "1000000"), 6),)
+CUT_OFF = tuple(Run(("repair", *apart, "--max-bytes", "1000000"), 6) for apart in ((), ("--apart",)))
+SHAPED_CUT_OFF = tuple(Run(("repair", "--as", kind, "--duplicates", "--max-bytes", "1000000"), 6) for kind in ("btree", "hash"))
 # The sections of such a file would be too long to write as a text.
 REPAIRED = (Run(("repair",), 0),)
 # The data of such a base are far longer than it, too.
 ONTO_CUT_OFF = (Run(("load", "--max-bytes", "1000000"), 6, onto=NO_PAIRS),)
 SINGLE_CUT_OFF = (Run(("load", "--max-bytes", "1000000"), 6, onto=NO_DUPLICATES),)
 RECORDS_CUT_OFF = (Run(("load", "--max-bytes", "1000000"), 6, onto=NO_RECORDS),)
-LONG_CUT_OFF = (Run(("load", "--max-bytes", "4000000"), 6, onto=NO_RECORDS), Run(("repair", "--max-bytes", "4000000"), 6))
+LONG_CUT_OFF = (Run(("load", "--max-bytes", "4000000"), 6, onto=NO_RECORDS), Run(("repair", "--max-bytes", "4000000"), 6), Run(("repair", "--apart", "--max-bytes", "4000000"), 6))
+OVERLAP_CUT_OFF = (Run(("load", "--max-bytes", "4000000"), 6, onto=NO_PAIRS), *LONG_CUT_OFF[1:])
 # A key has one datum there, though many are salvaged, all of them one chain.
 KEPT_ONCE = tuple(Run(("repair", "--as", kind, "--max-bytes", "1000000"), 0) for kind in ("btree", "hash"))
 ONTO = (Run(("load",), 0, onto=NO_PAIRS),)
 # What is salvaged has no room within the limit that there is without a word.
-MEGABYTES = (Run(("repair",), 6), Run(("repair", "--as", "btree"), 6), Run(("repair", "--as", "hash"), 6))
+MEGABYTES = tuple(Run(("repair", *words), 6) for words in ((), ("--as", "btree"), ("--as", "hash"), ("--apart",)))
 # The base itself is within the limit.
 ONTO_MEGABYTES = (Run(("load", "--max-bytes", "4000000"), 6, onto=NO_DUPLICATES), Run(("repair", "--max-bytes", "4000000"), 6))
 # Database by database.
@@ -162,6 +165,8 @@ CLASSES = (
     Class("set-own", "each key has a set of its own", files.own_sets, 32_000, "", SOUND + (get("00000000"),) + APART),
     Class("set-shared", "keys share a set", files.shared_set, 8_000, "TooMany", FAULTY),
     Class("set-long-key", "one key in a long chain, with a set of many short data", files.set_of_long_key, 60_000, "", JUDGED + REPAIRED + ONTO),
+    Class("set-shared-long", "keys share a set of many data", files.shared_long_set, 16_000, "TooMany", REFUTED + CUT_OFF + SHAPED_CUT_OFF),
+    Class("set-shared-long-hash", "keys of a hash share a set of many data", files.shared_long_set_hash, 16_000, "TooMany", REFUTED + CUT_OFF + SHAPED_CUT_OFF),
     Class("set-shared-blank", "keys share a set of leaves without entries", files.shared_blank_set, 16_000, "TooMany", FAULTY),
     Class("set-shared-sparse", "keys share a set of leaves of which the last alone has an entry", files.shared_sparse_set, 16_000, "TooMany", FAULTY),
     Class("set-joined", "keys have sets of their own, whose roots share leaves without entries", files.joined_sets, 16_000, "TooMany", FAULTY),
@@ -181,6 +186,8 @@ CLASSES = (
     Class("deep-recno", "such levels of a recno", files.deep_recno, 40_000, "", SOUND + (get("1"),)),
     Class("leaf-empty-recno", "leaves full of entries without bytes, of a recno", files.empty_entries, 256, "", SOUND + (get("1"),)),
     Class("leaf-long-recno", "leaves full of entries that are one long item", files.long_entries, 64, "", JUDGED + LONG_CUT_OFF),
+    Class("leaf-overlap-recno", "leaves full of entries that are long items, which overlap", files.overlapping_entries, 64, "", JUDGED + LONG_CUT_OFF),
+    Class("leaf-overlap-btree", "leaves full of data of a key that are such items", files.overlapping_data, 64, "", JUDGED + OVERLAP_CUT_OFF),
     Class("leaf-empty-duplicates", "leaves full of data without bytes", files.empty_duplicates, 256, "", SOUND + (get("00000000"),)),
     Class("leaf-empty-sorted", "leaves full of sorted data without bytes", files.empty_sorted_duplicates, 256, "DuplicateOrder", FAULTY),
     Class("leaf-empty-keys", "leaves full of keys without bytes", files.empty_keys, 256, "KeyOrder", FAULTY),

@@ -620,6 +620,23 @@ def shared_set(count):
     return keys_of_one_set(image, set_of(image, rows, kind), count)
 
 
+def long_set(image, count):
+    """A set of a quarter as many data as there are keys."""
+    rows, kind = rows_of_one(inline(b"datum"), max(1, count // 4))
+    return set_of(image, rows, kind)
+
+
+def shared_long_set(count):
+    image = Image()
+    return keys_of_one_set(image, long_set(image, count), count)
+
+
+def shared_long_set_hash(count):
+    image = Image()
+    item = hash_set_item(long_set(image, count))
+    return image.hash([image.bucket((hash_inline(key_of(at)), item) for at in range(count))], flags=HASH_DUPLICATES)
+
+
 def blank_set(image, count):
     return set_of(image, [([], [])] * count, RECORD_LEAF)
 
@@ -782,6 +799,27 @@ def full_chain_recno(count):
 def long_entries(count):
     """The entries of a leaf are one item of half a page."""
     return recno_of(*full_leaves(LARGE, count, (RECORD_LEAF, lambda at: [inline(key_of(at) * 2_000)]), [0]))
+
+
+def long_items(at, room):
+    """An item of half a page, and before it the beginnings of as many others of its length as have room with so many bytes of an index each. They overlap."""
+    item = inline(key_of(at) * 2_000)
+    return [item] + [item[:4]] * ((LARGE - HEADER - len(item) - 16) // (4 + room))
+
+
+def overlapping_entries(count):
+    image = Image(LARGE)
+    rows = [(items, range(len(items))) for items in (long_items(at, 2) for at in range(count))]
+    return recno_of(image, image.linked(RECORD_LEAF, rows, level=1), [len(index) for _, index in rows])
+
+
+def overlapping_data(count):
+    """They are the data of the leaf's key."""
+    image, rows = Image(LARGE), []
+    for at in range(count):
+        items = long_items(at, 4)
+        rows.append(([inline(key_of(at)), *items], [entry for n in range(len(items)) for entry in (0, n + 1)]))
+    return btree_of(image, image.linked(LEAF, rows, level=1), DUPLICATES)
 
 
 def empty_entries(count):

@@ -1,7 +1,7 @@
 #!/usr/bin/env python3
 """Times `bdbtool` beside the original library's tools, both in one run on the same files.
 
-usage: times.py verify|kinds|chains|range|dump|load|convert|stat|salvage|repair [PROGRAM]
+usage: times.py verify|kinds|chains|range|dump|load|convert|stat|survey|salvage|repair [PROGRAM]
        times.py before PROGRAM BEFORE
 
 PROGRAM is the built program; without it, crates/bdbtool/out/bdbtool. The files are made with `db5.3_load` in a temporary folder. Prints a
@@ -15,7 +15,8 @@ and `dump --print` give of such files, of files whose data are lines of 40 to 90
 those of a btree and a hash with their pairs in no order. `convert`
 stands beside `verify` and a copy by `cat`, on a file of each kind, and `stat` beside `verify` and `db5.3_stat -f`: seconds of user time,
 and of user and system time, of runs by turns. `salvage` stands beside `db5.3_dump -r`, on the files of `kinds`, and on each of them with
-every hundredth page overwritten by other bytes: seconds of user time, peak memory, and how many pairs or records each gives. `repair`
+every hundredth page overwritten by other bytes: seconds of user time, peak memory, and how many pairs or records each gives. `survey`
+stands beside `salvage --apart` on these files, and what both write is thrown away: user time, and the peak of `survey`. `repair`
 stands beside `salvage | load`, on the same files: user time of both commands of the pipe together, and the greater peak. `before` has
 `verify` of two programs by turns, on the files of `kinds` and `chains` and on the files of `verify` that have a million pairs, and `dump`
 of both on the files of `dump`: the least user and system time of each, and their ratio. Where the program or the library's tools are
@@ -633,6 +634,28 @@ def piped(program, image):
     return Spent(sum(usage.ru_utime for _, _, usage in ends), 1024 * max(usage.ru_maxrss for _, _, usage in ends)), size
 
 
+SURVEY_COLUMNS = ("File", "Bytes of the file", "`survey`", "`salvage --apart`", "Ratio", "Peak of `survey`, bytes", "Peak by file")
+
+
+def print_survey(name, program, image):
+    """A row of the table of `survey`. Both run by turns, what they write is thrown away, and the least of each counts."""
+    size = image.stat().st_size
+    rounds = [(spent([program, "survey"], image), spent([program, "salvage", "--apart"], image)) for _ in range(BY_TURNS)]
+    own, apart = (min(column) for column in zip(*rounds))
+    times = [f"{own.user:.3g}", f"{apart.user:.3g}", f"{own.user / max(apart.user, 0.001):.3g}"]
+    print_row([name, f"{size:,}", *times, f"{own.peak:,}", f"{own.peak / size:.2f}"])
+
+
+def time_survey(program, folder):
+    """The table of `survey`."""
+    print_head(SURVEY_COLUMNS)
+    for name, image in kinds(folder):
+        print_survey(name, program, image)
+        damage(image)
+        print_survey(f"{name}, damaged", program, image)
+        image.unlink()
+
+
 def print_repair(name, program, image):
     """A row of the table of `repair`. Both run by turns, and the least of each counts. A pipe whose text is longer than an input may be has no time."""
     size = image.stat().st_size
@@ -701,6 +724,7 @@ TABLES = {
     "load": ("db5.3_load", time_load),
     "convert": ("db5.3_load", time_convert),
     "stat": ("db5.3_stat", time_stat),
+    "survey": ("db5.3_load", time_survey),
     "salvage": ("db5.3_dump", time_salvage),
     "repair": ("db5.3_load", time_repair),
 }

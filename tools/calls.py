@@ -10,10 +10,10 @@ TOP = pathlib.Path(__file__).resolve().parent.parent
 PAGE = TOP / "docs/CALLS.md"
 HEAD = """# What each public call may refuse
 
-Every public call of the program's crates returns on all input that meets its `requires`, and refuses nothing but what its
-type says. This page has each call that answers a `Result` or an `Option`: what its comment says, and the clauses of its
-contract, in which the causes stand exactly. `AllocError`, and a variant `Memory`, is lack of memory, the one refusal without
-a cause in the contract. A call that isn't here always answers.
+Every public call of the program's crates returns on all input that meets its `requires`, and refuses nothing but what
+its type says. This page has each call that answers a `Result` or an `Option`: what its comment says, and the clauses of
+its contract, in which the causes stand exactly. `AllocError`, and a variant `Memory`, is lack of memory, the one
+refusal without a cause in the contract. A call that isn't here always answers.
 
 | Crate | Call | Answers | What it says | Clauses |
 |---|---|---|---|---|
@@ -114,4 +114,5 @@ def main():
     PAGE.write_text(text, encoding="utf-8")
 
 
-sys.exit(main())
+if __name__ == "__main__":
+    sys.exit(main())

@@ -16,6 +16,7 @@ that are written over, exchanged, moved, cut off or added. Then
 - what `verify` calls sound is dumped in either spelling, and, unless it has no database or a queue of empty records, loads to a file that is sound, and
   whose dump is the same text; a damaged text that loads does so too;
 - `salvage` without a guess answers with status 0 or 10, with a guess with status 0; its text loads to a sound file, unless that would be too large;
+- `survey` answers as `salvage`, with lines that have their forms and order, and its figures of what is given are those of `salvage --apart` and `--rest`;
 - `repair` answers as `salvage`, unless the file would be too large, with the very file that the text loads to; and of each shape with a sound file.
 
 Prints a line for each run that is otherwise, and then how many copies and runs there were, how often each status came, and the slowest run by its
@@ -36,6 +37,10 @@ MEGABYTE = 1_000_000
 MOST = 1 << 26
 LONGEST_SHOWN = 400
 FAULT = re.compile(r"fault: stage (?P<stage>[1-8]) page (?P<page>0|[1-9]\d*) code (?P<code>[1-9]\d*) (?P<name>[A-Za-z]+)\n")
+SURVEY = re.compile(
+    rb"pages \d+\ncut \d+\nzero \d+\n(unsupported [A-Za-z]+\n)?(refused page \d+ code \d+ [A-Za-z]+\n)*(number \d+ \d+\n)*"
+    rb"(?P<databases>(database (btree|hash|recno|queue) \d+ \d+( [ -~]*)?\n)*)rest (?P<pairs>\d+) (?P<records>\d+)\n"
+)
 UNSUPPORTED = re.compile(r"unsupported: (?P<name>[A-Za-z]+), page (?P<page>0|[1-9]\d*)\n")
 LINES = {
     6: rb"image longer than \d+ bytes\n",
@@ -55,7 +60,8 @@ ALLOWED = {
     "stat": {0, 1, 3},
     "dump": {0, 1, 3, 9},
     "load": {0, 6, 8},
-    "salvage": {0, 10},
+    "survey": {0, 10},
+    "salvage": {0, 3, 10},
     "repair": {0, 3, 6, 10, 14},
 }
 
@@ -275,6 +281,27 @@ def check_salvage(runs, name, image):
             check_repair(runs, name, image, ran.stdout)
 
 
+def lines_of(text):
+    """How many data lines each section of a dump text has."""
+    return [section.count(b"\n ") for section in text.split(b"VERSION=3\n")[1:]]
+
+
+def check_survey(runs, name, image):
+    """Holds that the lines of survey have their forms, and that it counts what salvage --apart and --rest give."""
+    ran, apart, rest = (runs.run(name, words, image) for words in (["survey"], ["salvage", "--apart"], ["salvage", "--rest"]))
+    if ran is None or ran.returncode:
+        return
+    told = SURVEY.fullmatch(ran.stdout)
+    if not told:
+        runs.tell(name, f"survey tells {ran.stdout!r}")
+        return
+    given = [int(line.split()[2]) for line in told["databases"].splitlines()]
+    if apart and apart.returncode == 0 and [2 * count for count in given] != lines_of(apart.stdout):
+        runs.tell(name, "survey counts other than salvage --apart gives")
+    if rest and rest.returncode == 0 and [2 * int(told["pairs"]), 2 * int(told["records"])] != (lines_of(rest.stdout) + [0])[:2]:
+        runs.tell(name, "survey counts other than salvage --rest gives")
+
+
 def check_repair(runs, name, image, text):
     """Holds that what is repaired is what the salvaged text loads to, and that each shape of it is sound."""
     loaded, repaired = runs.run(name, ["load"], text), runs.run(name, ["repair"], image)
@@ -313,6 +340,7 @@ def check_image(runs, name, image):
     if verdict.returncode == 0:
         check_dumps(runs, name, image)
     check_salvage(runs, name, image)
+    check_survey(runs, name, image)
 
 
 def main():

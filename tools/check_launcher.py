@@ -29,7 +29,7 @@ printf '%s' "$GLIBC_TUNABLES" >&2
 exit 9
 """
 TUNABLE = b"glibc.malloc.hugetlb=1"
-COMMANDS = "verify list get range dump load salvage repair convert stat trial".split()
+COMMANDS = "verify list get range dump load survey salvage repair convert stat trial".split()
 VALUES = {
     "--max-bytes": [b"1", b"1073741824", b"0000000512"],
     "--name": [b"a", b"", b"\\\\", b"\\00"],
@@ -89,6 +89,9 @@ NO_COMMANDS = [
     [b"repair", b"--apart", b"--as", b"btree"],
     [b"repair", b"--as", b"hash", b"--dupsort", b"--apart"],
     [b"repair", b"--rest"],
+    [b"survey", b"--apart"],
+    [b"survey", b"--order", b"big"],
+    [b"survey", b"x"],
     [b"dump", b"--apart"],
     [b"convert", b"Big"],
     [b"trial", b"btree", b"2147483648", b"1"],

@@ -26,7 +26,8 @@ OUT_OF_ORDER = TOP / "crates/check_salvage/data/bt_owncmp_1024_be.db"
 LEFT_OUT, NAMED_TWICE = (TOP / "crates/check_images/data" / f"{it}.db" for it in ("stage2-code15-many-1", "stage7-code04-many-0"))
 # The words, the input, and the status of the whole run.
 COMMANDS = [
-    *[([command], file, 0) for command in ("verify", "list", "dump", "salvage") for file in (NAMED, LONG)],
+    *[([command], file, 0) for command in ("verify", "list", "dump", "survey", "salvage") for file in (NAMED, LONG)],
+    (["survey"], NAMED_TWICE, 0),
     *[([command, "--print"], LONG, 0) for command in ("dump", "salvage")],
     (["get", "--name", "only", "a"], NAMED, 0),
     (["range", "--name", "only", "a", "b"], NAMED, 0),

@@ -5,9 +5,9 @@
 # crates/bdb_tool_words/specs/Commands.antt; tools/check_launcher.py compares.
 
 # The program's own line for words that are no command.
-usage='usage: bdbtool verify, list, get, dump, load, salvage, trial, range, convert, stat or repair'
+usage='usage: bdbtool verify, list, get, dump, load, salvage, trial, range, convert, stat, repair or survey'
 
-commands='verify list get range dump load salvage repair convert stat trial'
+commands='verify list get range dump load survey salvage repair convert stat trial'
 
 # The row of a command: how many operands it has, its words but --max-bytes, and what it gives. An option that stands in
 # brackets by itself has no value, every other one takes the next word. Another word has no row.
@@ -21,6 +21,7 @@ look_up() {
         ;;
     dump) set -- 0 'dump [--name NAME] [--print] [--any-order]' 'the dump text of the databases, or of one' ;;
     load) set -- 0 'load [--onto BASE]' 'a file of a dump text, or of BASE with its pairs added' ;;
+    survey) set -- 0 'survey [--order ORDER --page-size SIZE]' 'what a damaged file still has, and what is lost' ;;
     salvage)
         set -- 0 'salvage [--print] [--apart] [--rest] [--order ORDER --page-size SIZE]' \
             'the text of what a damaged file still has'

@@ -40,8 +40,9 @@ scripts into PREFIX/share/doc/bdbtool. The files are made by [files.sh](../tools
 each stands how it is done with the original's tools (`db5.3_verify` and the others of Debian's package `db5.3-util`),
 run on the same files, and what differs.
 
-Take care of `> NEW`: the shell makes that file, or empties it, before the program starts, whatever the status then is. So `NEW` is never the file that is
-read. It takes the place of that one, with its owner and mode, once the status was 0, and while the program that owns the file is stopped:
+Take care of `> NEW`: the shell makes that file, or empties it, before the program starts, whatever the status then
+is. So `NEW` is never the file that is read. It takes the place of that one, with its owner and mode, once the status
+was 0, and while the program that owns the file is stopped:
 
 ```sh
 chown --reference=OLD NEW && chmod --reference=OLD NEW && mv NEW OLD

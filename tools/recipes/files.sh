@@ -1,6 +1,7 @@
 #!/bin/sh
-# Makes the files on which the recipes are tried, in the folder where it runs: postfix's aliases (a hash, its keys and data end in a NUL byte), users
-# (a btree in pages of 512 bytes), a queue, two that are damaged and one that is no database.
+# Makes the files on which the recipes are tried, in the folder where it runs: postfix's aliases (a hash, its keys and
+# data end in a NUL byte), users (a btree in pages of 512 bytes), a queue, two that are damaged and one that is no
+# database.
 mkdir -p lib
 {
     printf 'VERSION=3\nformat=print\ntype=hash\nHEADER=END\n'

@@ -1,5 +1,6 @@
 #!/bin/sh
-# guess.sh < DAMAGED: the options by which salvage gives most pairs and records; on standard error what each guess gives.
+# guess.sh < DAMAGED: the options by which salvage gives most pairs and records; on standard error what each guess
+# gives.
 folder=$(mktemp -d) || exit
 trap 'rm -rf "$folder"' EXIT
 cat >"$folder/file" || exit

@@ -1,5 +1,6 @@
 #!/bin/sh
-# Makes the environment `env` of a program (Perl with BerkeleyDB) that is killed after it stored 30,000 pairs in a transaction and before it wrote their pages.
+# Makes the environment `env` of a program (Perl with BerkeleyDB) that is killed after it stored 30,000 pairs in a
+# transaction and before it wrote their pages.
 mkdir env
 perl -MBerkeleyDB -e '
     my $env = BerkeleyDB::Env->new(-Home => "env", -Cachesize => 64 << 20,

@@ -1,7 +1,7 @@
 #!/bin/sh
-# Makes the maps on which restore, guess and records are tried, each by its program, and damages them: postfix's virtual (a hash) and relocated (a btree), the
-# users of Cyrus SASL, sendmail's access (a hash), an index of names (a btree with sorted data), and lines, records of 12 bytes. postfix reads its settings in
-# `etc`, where MAIL_CONFIG says so.
+# Makes the maps on which restore, guess and records are tried, each by its program, and damages them: postfix's virtual
+# (a hash) and relocated (a btree), the users of Cyrus SASL, sendmail's access (a hash), an index of names (a btree with
+# sorted data), and lines, records of 12 bytes. postfix reads its settings in `etc`, where MAIL_CONFIG says so.
 mkdir -p etc
 echo 'compatibility_level = 3.6' >etc/main.cf
 seq 1 2000 | sed 's/.*/user&@example.org\tuser&/' >lib/virtual

@@ -1,5 +1,6 @@
 #!/bin/sh
-# mend.sh < TEXT > NEW: a text of db_dump -R without what stands before its header, without keys that have no datum, and with its end.
+# mend.sh < TEXT > NEW: a text of db_dump -R without what stands before its header, without keys that have no datum, and
+# with its end.
 awk '
     /^VERSION=/ { begun = 1; ended = 0 }
     !begun { next }

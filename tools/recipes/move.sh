@@ -1,5 +1,6 @@
 #!/bin/sh
-# move.sh ORDER SIZE < OLD > NEW: the same databases in byte order 1234 (low byte first) or 4321, in pages of SIZE bytes.
+# move.sh ORDER SIZE < OLD > NEW: the same databases in byte order 1234 (low byte first) or 4321, in pages of SIZE
+# bytes.
 text=$(mktemp)
 trap 'rm -f "$text"' EXIT
 bdbtool dump >"$text" || exit

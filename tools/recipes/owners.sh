@@ -1,6 +1,6 @@
 #!/bin/sh
-# Makes files with named databases on which restore is tried, and damages each with a page of zeros: those of an archive of reprepro, and a wallet with the
-# database `main`.
+# Makes files with named databases on which restore is tried, and damages each with a page of zeros: those of an archive
+# of reprepro, and a wallet with the database `main`.
 mkdir -p lib archive/conf
 # An archive of 60 packages, in two architectures.
 printf 'Codename: stable\nArchitectures: amd64 arm64\nComponents: main\n' >archive/conf/distributions

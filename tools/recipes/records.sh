@@ -1,6 +1,7 @@
 #!/bin/sh
-# records.sh LENGTH FILE [OPTION..]: puts in the place of a damaged recno a sound one with the records that it still has, of this fixed length (0: of any),
-# with its owner and mode. The damaged one stays beside it as FILE.damaged. The options are those of salvage.
+# records.sh LENGTH FILE [OPTION..]: puts in the place of a damaged recno a sound one with the records that it still
+# has, of this fixed length (0: of any), with its owner and mode. The damaged one stays beside it as FILE.damaged. The
+# options are those of salvage.
 length=$1
 file=$(realpath -- "$2") || exit
 shift 2

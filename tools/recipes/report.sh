@@ -1,5 +1,12 @@
 #!/bin/sh
-# report.sh FOLDER..: a line for each database file below the folders. The status is 1 where one is damaged or can't be read.
+# report.sh FOLDER..: a line for each database file below the folders. The status is 1 where one is damaged or can't be
+# read.
+
+# How many pairs a damaged file still has in each database, and how many are broken, for the end of its line.
+left() {
+    bdbtool survey <"$1" 2>/dev/null |
+        sed -n 's/^database \([a-z]*\) \([0-9]*\) \([0-9]*\)\(.*\)/; \1\4: \2 whole, \3 broken/p' | tr -d '\n'
+}
 damaged=0
 report=$(mktemp)
 trap 'rm -f "$report"' EXIT
@@ -19,9 +26,9 @@ while IFS= read -r file; do
         if bdbtool verify --any-order <"$file" >/dev/null 2>&1; then
             echo "own order   $file: sound but for the order of its keys"
         else
-            echo "DAMAGED     $file: $first"; damaged=1
+            echo "DAMAGED     $file: $first$(left "$file")"; damaged=1
         fi ;;
-    1:*) echo "DAMAGED     $file: $first, and $(echo "$said" | tail -n +2 | wc -l) more${beside:+, in an environment}"; damaged=1 ;;
+    1:*) echo "DAMAGED     $file: $first, and $(echo "$said" | tail -n +2 | wc -l) more${beside:+, in an environment}$(left "$file")"; damaged=1 ;;
     3:*) echo "unsupported $file: $first" ;;
     *) echo "unread      $file: $first"; damaged=1 ;;
     esac

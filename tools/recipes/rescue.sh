@@ -1,7 +1,7 @@
 #!/bin/sh
-# rescue.sh GOOD < DAMAGED > NEW: a new file with the databases of a damaged one and what they still have, and on standard error what it lacks and has beside
-# the last good dump.
-# Each pair of a dump text on a line, behind the name of its database.
+# rescue.sh GOOD < DAMAGED > NEW: a new file with the databases of a damaged one and what they still have, and on
+# standard error what it lacks and has beside the last good dump. Each pair of a dump text on a line, behind the name of
+# its database.
 pairs() {
     awk '/^VERSION=/ { name = "" } /^database=/ { name = $0 } /^ / { if (key == "") key = $0; else { print name "\t" key "\t" $0; key = "" } }' "$1" | LC_ALL=C sort
 }

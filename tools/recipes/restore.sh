@@ -1,6 +1,7 @@
 #!/bin/sh
-# restore.sh FILE [OPTION..]: puts in the place of a damaged file a sound one with its databases and what they still have, with its owner and mode. The damaged
-# one stays beside it as FILE.damaged. The options are those of repair; without --as each database keeps its name, its kind and its flags.
+# restore.sh FILE [OPTION..]: puts in the place of a damaged file a sound one with its databases and what they still
+# have, with its owner and mode. The damaged one stays beside it as FILE.damaged. The options are those of repair;
+# without --as each database keeps its name, its kind and its flags.
 file=$(realpath -- "$1") || exit
 shift
 if bdbtool verify --any-order <"$file" >/dev/null 2>&1; then
@@ -19,4 +20,13 @@ bdbtool list <"$file" | while read -r kind name; do
     lines=$(bdbtool dump ${name:+--name "$name"} <"$file" | grep -c '^ ')
     echo "put back: $kind${name:+ $name}, $((lines / 2)) pairs or records"
 done
-[ -z "$how" ] || echo "of no database: $(($(bdbtool salvage --rest "$@" <"$file.damaged" | grep -c '^ ') / 2))"
+[ -z "$how" ] || bdbtool survey "$@" <"$file.damaged" | while read -r word one two three name; do
+    case $word:$one in
+    zero:0) ;;
+    zero:*) echo "pages of zeros: $one" ;;
+    refused:*) echo "can't be read: page $two" ;;
+    number:*) echo "page $one says that it is page $two" ;;
+    database:*) [ "$three" -eq 0 ] || echo "lost on pages that are there: $three of $one${name:+ $name}" ;;
+    rest:*) echo "of no database: $((one + two))" ;;
+    esac
+done

@@ -86,7 +86,7 @@ by_one {Y = Y} f here (p ∷ ps) = by_test (here p) (by_one f here ps)
     by_test false rest = rest
 
 -- a row by what the pages are below
-row_by : (file : File) (m : ℕ) → filter (λ p. is_some_of m (above file p)) (range_with_len 0 file.count) ≡ row_from (aboves file) m 0
+pub row_by : (file : File) (m : ℕ) → filter (λ p. is_some_of m (above file p)) (range_with_len 0 file.count) ≡ row_from (aboves file) m 0
 row_by file m =
     filter_same (λ p. is_some_of m (above file p)) (is_below (aboves file) m) (range_with_len 0 file.count)
     (λ p inside. ap (is_some_of m) (sym (above_at file p (omega (arith, (of_range 0 file.count p inside).1)))))
@@ -106,7 +106,7 @@ pairs_row file db =
 
 -- Records.
 
-enumerated : (n : ℕ) (items : List Item) → enumerate_from n items ≡ map (λ i. (n + i, slot_at items i)) (range_with_len 0 (length items))
+pub enumerated : (n : ℕ) (items : List Item) → enumerate_from n items ≡ map (λ i. (n + i, slot_at items i)) (range_with_len 0 (length items))
 enumerated n items =
     ext_get_or (0, no_item) (enumerate_from n items) (map (λ i. (n + i, slot_at items i)) (range_with_len 0 (length items)))
     (length-enumerate_from n items ∙ sym (length-map-range_with_len (λ i. (n + i, slot_at items i)) 0 (length items)))
@@ -115,7 +115,7 @@ enumerated n items =
     get_or-enumerate_from n items i (0, no_item) there
     ∙ sym (get_or-map-range_with_len (λ i. (n + i, slot_at items i)) 0 (length items) i i (0, no_item) there (omega arith)))
 
-value_numbered : (file : File) (p i start : ℕ) (items : List Item) → AreOn file p items → map (numbered_at file start) (kept_value file p items i)
+pub value_numbered : (file : File) (p i start : ℕ) (items : List Item) → AreOn file p items → map (numbered_at file start) (kept_value file p items i)
     ≡ numbered_entry file (start + 1 + i, slot_at items i)
 value_numbered file p i start items on =
     let item : Item = slot_at items i in

@@ -74,7 +74,7 @@ of_with dbs db x at = by_name (list_any (has_name (name_of db)) dbs) at
     by_name true here = inr here
     by_name false here = of_put dbs db x here
 
-of_fold : (dbs more : List Found) (x : Found) → Contains (fold with_found dbs more) x → Contains more x ⊎ Contains dbs x
+pub of_fold : (dbs more : List Found) (x : Found) → Contains (fold with_found dbs more) x → Contains more x ⊎ Contains dbs x
 of_fold dbs [] x at = inr at
 of_fold dbs (db ∷ more) x at = elim (of_fold (with_found dbs db) more x at) [
   | inl later ↦ inl (later_member db more x later)

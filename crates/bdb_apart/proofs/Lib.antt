@@ -14,3 +14,8 @@ pub mod SlotLemmas
 pub mod SumLemmas
 pub mod PartLemmas
 pub mod OrderLemmas
+pub mod SectionLemmas
+pub use Rattle.bdb_rescue.proofs as of_rescue
+pub use Rattle.bdb_rescue.proofs.of_format as of_format
+pub use Rattle.bdb_rescue.proofs.of_survey as of_survey
+pub use Rattle.bdb_homes.specs as of_homes

@@ -179,7 +179,7 @@ some_fields page fields at = by_list (tree_fields page) at
     by_list (first ∷ others) some = lt-ltb 0 (length (first ∷ others)) (omega arith)
 
 -- the first with a metadata page is one of them
-found_member : (dbs : List Found) (m : ℕ) (db : Found) → db_at dbs (Some m) ≡ Some db → Contains dbs db
+pub found_member : (dbs : List Found) (m : ℕ) (db : Found) → db_at dbs (Some m) ≡ Some db → Contains dbs db
 found_member [] m db is = absurd (none-some db is)
 found_member (first ∷ others) m db is = by_test (first.meta == m) is (found_member others m db)
   where

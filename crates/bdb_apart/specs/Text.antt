@@ -5,7 +5,9 @@ use Rattle.bdb_rescue.specs.of_format.declared.settings.Settings.{Settings}
 use Rattle.bdb_rescue.specs.of_format.Flags.{has_records}
 use Rattle.bdb_rescue.specs.of_format.Terms.{ListKey, settings_of}
 use Rattle.bdb_rescue.specs.of_text_format.Terms.{section_text}
+use Rattle.bdb_rescue.specs.of_text_format.declared.pairs.TextPair.{TextPair}
 use Rattle.bdb_rescue.specs.of_survey.declared.guess.Guess.{Guess}
+use Rattle.bdb_rescue.specs.Gathered.{loose_pair, stored_pair}
 use Rattle.bdb_rescue.specs.Kept.{Reading}
 use Rattle.bdb_rescue.specs.Text.{bytes_pair, loose_section, numbered_record, stored_section}
 use Rattle.bdb_apart.specs.Given.{FoundIn, found_in, pairs_given, pairs_left, records_given, records_left}
@@ -13,6 +15,10 @@ use Rattle.bdb_apart.specs.Given.{FoundIn, found_in, pairs_given, pairs_left, re
 -- the list of a database that is found
 abbrev pub list_given : FoundIn → List (ListKey × List ℕ)
 list_given it = if has_records it.db.fields then map numbered_record (records_given it) else map bytes_pair (pairs_given it)
+
+-- the same as pairs of a section
+abbrev pub section_pairs : FoundIn → List TextPair
+section_pairs it = if has_records it.db.fields then map loose_pair (records_given it) else map stored_pair (pairs_given it)
 
 -- its settings, with the page size and the order of the guess
 abbrev pub settings_in : FoundIn → Settings

@@ -7,7 +7,7 @@ ghost use Rattle.bdb_rescue.specs.of_survey.Salvage.{stored_on};
 ghost use Rattle.bdb_apart.specs.Found.{Found, found, is_master_leaf};
 ghost use Rattle.bdb_apart.specs.Given.{are_given, found_in, names_by, pairs_left, records_left};
 ghost use Rattle.bdb_apart.specs.Kept.{AreHeld, found_seen, kind_in, row_in};
-ghost use Rattle.bdb_apart.specs.Left.{IsThere, held_at, start_by};
+ghost use Rattle.bdb_apart.specs.Left.{IsThere, held_at, start_by, start_on};
 
 use crate::above::{aboves, meta_of};
 use crate::database::Databases;
@@ -97,7 +97,7 @@ fn held_of(
     Ok(held)
 }
 
-/// Finds the databases of which something is salvaged, and the pages of each.
+/// Finds the databases of which something is salvaged, and the pages of each. An error means that memory ran out.
 pub fn apart_of<'s, 'a, L: Ledger>(
     alloc: Global,
     salvaged: &'s Salvaged<'a>,
@@ -152,7 +152,7 @@ impl<'s, 'a> Apart<'s, 'a> {
     }
 
     /// How many pages there are.
-    pub(crate) fn count(&self) -> u32
+    pub fn count(&self) -> u32
         ensures { result ≡ (file_in self.now).count }
     {
         self.salvaged.pages().count()
@@ -166,7 +166,7 @@ impl<'s, 'a> Apart<'s, 'a> {
     }
 
     /// What is salvaged.
-    pub(crate) fn salvaged(&self) -> &'s Salvaged<'a>
+    pub fn salvaged(&self) -> &'s Salvaged<'a>
         ensures { result.now ≡ self.now }
     {
         self.salvaged
@@ -216,14 +216,14 @@ impl<'s, 'a> Apart<'s, 'a> {
     }
 
     /// The kind of a page.
-    fn kind(&self, page: u32) -> PageKind
+    pub fn kind(&self, page: u32) -> PageKind
         ensures { result ≡ kind_in (page_at (file_in self.now) page) }
     {
         kind_of(&self.salvaged.pages().page(page))
     }
 
     /// Whether the pairs of a page are those of a database that is found.
-    pub(crate) fn are_given(&self, page: u32) -> bool
+    pub fn are_given(&self, page: u32) -> bool
         requires { page < (file_in self.now).count }
         ensures { result ≡ are_given (file_in self.now) (found self.now) page }
     {
@@ -234,7 +234,7 @@ impl<'s, 'a> Apart<'s, 'a> {
     }
 
     /// Whether a page is a leaf of a master: its pairs may name databases.
-    pub(crate) fn is_master_leaf(&self, page: u32) -> bool
+    pub fn is_master_leaf(&self, page: u32) -> bool
         requires { page < (file_in self.now).count }
         ensures { result ≡ is_master_leaf (file_in self.now) page }
     {
@@ -242,14 +242,26 @@ impl<'s, 'a> Apart<'s, 'a> {
     }
 
     /// Whether data name a database that is found.
-    pub(crate) fn names_found(&self, value: &Datum<'_>) -> bool
+    pub fn names_found(&self, value: &Datum<'_>) -> bool
         ensures { result ≡ names_by (found self.now) (datum_seen value.now) }
     {
         self.held_at(page_named(value)).is_some()
     }
 
-    /// How many records come before a leaf of records, and what is held of the database that is found to which it belongs.
-    pub(crate) fn start(&self, page: u32) -> Option<(u32, Holds)>
+    /// How many records come before a page, if it's a leaf of records that has a home.
+    pub fn start_on(&self, page: u32) -> Option<u32>
+        requires { page < (file_in self.now).count }
+        ensures { result ≡ start_on (file_in self.now) page }
+    {
+        if self.kind(page) != PageKind::Records {
+            return None;
+        }
+        let home = self.homes.home(page)?;
+        Some(home.start)
+    }
+
+    /// How many records come before a leaf of records, and what is held of the database that is found to which it belongs; none of a page that is no such leaf.
+    pub fn start(&self, page: u32) -> Option<(u32, Holds)>
         requires { page < (file_in self.now).count }
         ensures { result ≡ start_by (file_in self.now) (found self.now) page }
     {

@@ -1,19 +1,25 @@
-ghost use Rattle.std.specs.Prelude.{◌≡◌};
+ghost use Rattle.std.specs.Prelude.{◌≡◌, IfOk};
 ghost use Rattle.std.specs.Iterator.{YieldsFirst, item_count};
+ghost use Rattle.std.specs.List.{All};
 ghost use Rattle.std.specs.Option.{option_map};
 ghost use Rattle.bdb_rescue.specs.of_format.Flags.{has_records};
+ghost use Rattle.bdb_rescue.specs.Kept.{file_in};
 ghost use Rattle.bdb_rescue.specs.of_overflow.Datum.{datum_seen};
 ghost use Rattle.bdb_apart.specs.Given.{found_in, pairs_given, records_given};
-ghost use Rattle.bdb_apart.specs.Text.{settings_in};
+ghost use Rattle.bdb_apart.specs.Kept.{IsKnown, holds_in, row_in};
+ghost use Rattle.bdb_apart.specs.Left.{IsThere};
+ghost use Rattle.bdb_apart.specs.Text.{section_pairs, settings_in};
 
 use crate::Apart;
 use crate::holds::{Holds, holds_of};
 use crate::pairs::Pairs;
 use crate::place::Place;
 use crate::records::Records;
-use crate::settings::settings_of;
+use crate::rows::Pages;
+use crate::section_pairs::{pairs_of, records_of, slots_of};
 use bdb_homes::Settings;
-use bdb_rescue::Datum;
+use bdb_rescue::{Datum, TextPairs};
+use std::alloc::{AllocError, Global};
 use std::marker::Model;
 
 /// A database that is found.
@@ -49,7 +55,8 @@ impl<'t, 's, 'a> Database<'t, 's, 'a> {
     pub fn settings(&self) -> Settings
         ensures { result ≡ settings_in self.now }
     {
-        settings_of(self.apart.guess(), &self.place.fields)
+        let guess = self.apart.guess();
+        self.place.fields.settings(guess.page_size, guess.order)
     }
 
     /// Whether it has records with numbers, and not pairs.
@@ -62,6 +69,29 @@ impl<'t, 's, 'a> Database<'t, 's, 'a> {
         }
     }
 
+    /// What is salvaged of its file.
+    pub fn apart(&self) -> &'t Apart<'s, 'a>
+        ensures { result.now ≡ self.now.reading }
+    {
+        self.apart
+    }
+
+    /// What its pages hold.
+    pub fn holds(&self) -> Holds
+        ensures holds { result ≡ holds_in self.now.db }
+        ensures known { IsKnown self.now.reading self.now.db }
+    {
+        holds_of(&self.place.fields)
+    }
+
+    /// The pages that may belong to it, in their order.
+    pub fn pages(&self) -> Pages<'t>
+        ensures row { result ≡ row_in self.now.reading self.now.db.meta }
+        ensures there { All (IsThere (file_in self.now.reading)) result }
+    {
+        self.apart.row(self.place.meta)
+    }
+
     /// Its pairs, by page and slot; none where it has records.
     pub fn pairs(&self) -> Pairs<'t, 's, 'a>
         ensures { result ≡ pairs_given self.now }
@@ -71,6 +101,22 @@ impl<'t, 's, 'a> Database<'t, 's, 'a> {
             holds_of(&self.place.fields),
             self.apart.row(self.place.meta),
         )
+    }
+
+    /// Its pairs, or its records with their numbers, as those of a section. They share bytes as a `Gatherer`'s do.
+    pub fn section_pairs(&self, alloc: Global) -> Result<TextPairs, AllocError>
+        ensures { IfOk result (λ pairs. pairs ≡ section_pairs self.now) }
+    {
+        let apart = self.apart;
+        let row = apart.row(self.place.meta);
+        match holds_of(&self.place.fields) {
+            Holds::Leaves => pairs_of(alloc, apart.salvaged(), Holds::Leaves, row),
+            Holds::Buckets => pairs_of(alloc, apart.salvaged(), Holds::Buckets, row),
+            Holds::Records { length } => {
+                records_of(alloc, apart.salvaged(), apart.homes(), length, row)
+            }
+            Holds::Slots => slots_of(alloc, &mut self.records()),
+        }
     }
 
     /// Its records, by page and slot, each with its number; none where it has pairs.

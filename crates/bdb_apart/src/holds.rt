@@ -23,7 +23,7 @@ pub(crate) fn tree_meta(salvaged: &Salvaged<'_>, page: u32) -> Option<Meta>
 
 /// What the pages of a database hold.
 #[derive(Clone, Copy, Debug, PartialEq, Eq)]
-pub(crate) enum Holds {
+pub enum Holds {
     /// Pairs, on leaves.
     Leaves,
     /// Pairs, in buckets.
@@ -53,7 +53,7 @@ pub(crate) fn holds_of(meta: &Meta) -> Holds
 
 /// The kind of a page that holds pairs or records.
 #[derive(Clone, Copy, Debug, PartialEq, Eq)]
-pub(crate) enum PageKind {
+pub enum PageKind {
     Leaf,
     Bucket,
     Records,
@@ -82,7 +82,7 @@ pub(crate) fn is_pair_kind(kind: PageKind) -> bool
 }
 
 /// Whether a page of a kind holds pairs of a database.
-pub(crate) fn holds_pairs(holds: Holds, kind: PageKind) -> bool
+pub fn holds_pairs(holds: Holds, kind: PageKind) -> bool
     ensures { result ≡ pairs_in holds kind }
 {
     match (holds, kind) {

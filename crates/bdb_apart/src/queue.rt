@@ -4,7 +4,7 @@ ghost use Rattle.bdb_rescue.specs.of_format.Terms.{field_rows, first_row, meta_r
 ghost use Rattle.bdb_rescue.specs.of_format.declared.metadata.FileKind.TheVariants.{Queue};
 ghost use Rattle.bdb_apart.specs.Queues.{queue_in, queue_on};
 
-use bdb_homes::{Order, QueueMeta, records_per_page, u32_at};
+use bdb_homes::{Order, PageType, QueueMeta, records_per_page, u32_at};
 use bdb_rescue::Salvaged;
 
 /// Whether a row of metadata above page 0 holds, by the magic number and the version of a queue.
@@ -91,7 +91,7 @@ fn queue_on(page: &[u8], order: Order) -> Option<QueueMeta>
     ensures { result ≡ queue_on order page.now }
 {
     let meta = queue_fields(page, order);
-    if page[25] != 10 || has_row(page, order, &meta) || meta.re_len == 0 {
+    if page[25] != PageType::QUEUE_META || has_row(page, order, &meta) || meta.re_len == 0 {
         return None;
     }
     Some(meta)

@@ -7,7 +7,7 @@ ghost use Rattle.bdb_apart.specs.Left.{fit_left};
 ghost use Rattle.bdb_apart.specs.Queues.{queue_in, queue_records, queue_records_on, queue_slot};
 ghost use Rattle.bdb_apart.specs.Slots.{HasSlots, record_seen};
 
-use bdb_homes::{QueueMeta, u32_at};
+use bdb_homes::{PageType, QueueMeta, u32_at};
 use bdb_rescue::{Datum, Salvaged};
 use std::marker::Model;
 
@@ -161,7 +161,7 @@ fn slots_on<'a>(salvaged: &Salvaged<'a>, meta: &QueueMeta, page: u32) -> Option<
     ensures { fit_left result ≡ queue_records_on salvaged.now meta.now page }
 {
     let bytes = salvaged.bytes_at(page);
-    if bytes[25] != 11 || u32_at(bytes, 8, salvaged.guess().order) != page {
+    if bytes[25] != PageType::QUEUE || u32_at(bytes, 8, salvaged.guess().order) != page {
         return None;
     }
     Some(PageSlots {

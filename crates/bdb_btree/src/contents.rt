@@ -29,7 +29,8 @@ pub fn check(alloc: Global, linked: &Linked<'_>, meta: &BtreeMeta) -> Result<(),
     checked(first, answer)
 }
 
-/// Notes each row on what a btree holds at each page where it holds, in a list of all.
+/// Notes each row on what a btree holds at each page where it holds, in a list of all. An error means that memory ran
+/// out.
 pub fn all_faults(
     alloc: Global,
     linked: &Linked<'_>,

@@ -6,7 +6,7 @@ use Rattle.bdb_any_order.specs.Noted.{HasNotedOthers}
 use Rattle.bdb_recno.specs.of_faults.Notes.{Notes}
 use Rattle.bdb_recno.specs.of_format.declared.kinds.Fault.{Fault}
 
--- a fault of another row was noted behind it, where memory was not wanting
+-- a fault of another row was noted behind it, where memory didn't run out
 pub passed_on : {Sink E : Type 0} (has : Sink → List Fault → Type 0) (found after : Sink) (empty : Bool) (fault : Fault) (answer : Result (Unit {0}) E)
     → is_of_order fault ≡ false → OnOk answer (Notes (has found) (has after) (fault ∷ []))
     → OnOk answer (Notes (HasNotedOthers has found empty) (HasNotedOthers has after false) (fault ∷ []))

@@ -100,7 +100,7 @@ keys_kept image meta forest has keys none two at =
     (none_passes (λ (other : StoredPair × StoredPair). other.1.page == p && is_out_of_order other) (neighbours pairs) two fail.1.1.0 at)
 
 -- no pair of a master has the key of an earlier one
-none_repeats : (file : File) → AreInside file → master_faults file ≡ [] → repeated (master_pairs file) ≡ []
+pub none_repeats : (file : File) → AreInside file → master_faults file ≡ [] → repeated (master_pairs file) ≡ []
 none_repeats file inside none =
     is_empty (repeated (master_pairs file)) (λ pair at. no_member (master_faults file) (fault_at pair.page 4) none (repeat_here file pair inside at))
 

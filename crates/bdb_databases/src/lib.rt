@@ -8,7 +8,6 @@ mod lookup;
 mod named;
 mod readable;
 mod reads;
-mod settings;
 mod under;
 
 pub use bdb_recno::{Bytes, Datum};

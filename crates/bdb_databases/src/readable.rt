@@ -8,7 +8,6 @@ ghost use Rattle.bdb_recno.specs.of_format.Terms.{databases, file_of, head_of, p
 
 use crate::Db;
 use crate::named::NamedMeta;
-use crate::settings::settings_of;
 use bdb_recno::{Head, Linked, Meta, Settings};
 use std::marker::Model;
 
@@ -93,7 +92,8 @@ impl<'a> Readable<'a> {
         requires { db < length (databases (file_of self.now)) }
         ensures { result ≡ settings_of (head_of self.now).page_size (head_of self.now).order (database_at (file_of self.now) db).fields }
     {
-        settings_of(self.head(), self.named(db).meta())
+        let head = self.head();
+        self.named(db).meta().settings(head.page_size, head.order)
     }
 
     /// The database with a name, or the one without a name; `None` exactly where there is none. The names are looked at one by one,

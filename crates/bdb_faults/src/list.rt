@@ -62,6 +62,7 @@ fn drop_repeats(members: &mut Vec<Named>)
 }
 
 impl NamedList {
+    /// An empty list. It takes no memory yet.
     pub fn new(alloc: Global) -> NamedList
         ensures { result ≡ [] }
     {
@@ -79,6 +80,7 @@ impl NamedList {
         Ok(())
     }
 
+    /// How many there are.
     pub fn len(&self) -> usize
         ensures { result ≡ length self.now }
     {

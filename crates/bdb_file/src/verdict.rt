@@ -55,7 +55,8 @@ pub fn verify_by<'a, J: Judge + Drop, L: Ledger>(
     readable::<J, L>(alloc, formed, rows, steps)
 }
 
-/// An image as a sound file: the same, where all rows count.
+/// An image as a sound file: the same, where all rows count. It is refused with the rows that hold, or where memory
+/// runs out.
 #[tactic(auto, using(crate::proofs::RowsLemmas::all_accepted))]
 pub fn sound_by<'a, J: Judge + Drop, L: Ledger>(
     alloc: Global,

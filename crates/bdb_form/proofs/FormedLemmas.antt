@@ -13,7 +13,7 @@ use Rattle.bdb_layout.specs.of_format.declared.pages.ItemFault.TheVariants.{Offs
 use Rattle.bdb_layout.specs.ItemRows.{item_form}
 use Rattle.bdb_layout.proofs.of_format.ItemLemmas.{index_passes, no_index_row, no_item_row}
 use Rattle.bdb_layout.specs.of_format.declared.pages.Header.{Header}
-use Rattle.bdb_layout.proofs.of_format.PageLemmas.{zero_header, length_items, get_item, header_listed, index_offset}
+use Rattle.bdb_layout.proofs.of_format.PageLemmas.{chain_room, zero_header, length_items, get_item, header_listed, index_offset}
 use Rattle.bdb_form.specs.Formed.{HoldsData, IsListed}
 
 -- A page with an index.
@@ -117,7 +117,7 @@ queue_type order number page none other = eqb-true (byte_at page 25) 11 (typed o
 pub holds_data : (order : Order) (page : List ℕ) → length page ≤ 32768 → 26 ≤ length page → body_code order page (page_type (byte_at page 25)) ≡ None
     → page_type (byte_at page 25) ≡ OverflowPage → HoldsData order page
 holds_data order page size header none is =
-    let code : body_code order page OverflowPage ≡ None = sym (ap (body_code order page) is) ∙ none in grind (arith, ltb-false, code)
+    record { size = size; header = header; room = chain_room order page (sym (ap (body_code order page) is) ∙ none) }
 
 -- the page of records that such a page stands for
 pub queue_page : (order : Order) (number : ℕ) (page : List ℕ) → queue_code order number page ≡ None → is_zero page ≡ false

@@ -1,7 +1,7 @@
 -- Laws of a page with an index, and of the rows of its items.
 use Rattle.std.proofs.lemmas.Bool.Decides.{nat_tests}
 use Rattle.std.proofs.Common.{◌≡◌, ℕ, suc, ◌+◌, ◌<◌, ◌≤◌, List, [], ◌∷◌, length, arith, refl, sym, ◌∙◌, ap, eq-eqb, zero, Bool, cond, slice_get, slice_index}
-use Rattle.std.proofs.Common.{replicate, ◌==◌, true, Option, Some, None, Ok, option_map}
+use Rattle.std.proofs.Common.{replicate, ◌==◌, true, false, Option, Some, None, Ok, option_map, ltb-false}
 use Rattle.std.proofs.lemmas.List.{drop-replicate, get_or-replicate, take-replicate}
 use Rattle.std.proofs.Math.Dec.{eqb-suc-zero}
 use Rattle.std.proofs.lemmas.List.FromFn.{length-map-range_with_len, get_or-map-range_with_len}
@@ -9,8 +9,9 @@ use Rattle.std.proofs.lemmas.Option.{slice_get-get_or}
 use Rattle.bdb_format.specs.declared.kinds.Order.{Order}
 use Rattle.bdb_format.specs.declared.kinds.Order.TheVariants.{Big, Little}
 use Rattle.bdb_format.specs.declared.metadata.FileKind.{FileKind}
-use Rattle.bdb_format.specs.Terms.{Row, answer, byte_at, entries_of, field_rows, first_row, four_at, header_of, identity_rows, is_queue, is_queue_type}
-use Rattle.bdb_format.specs.Terms.{is_tree_type, is_zero, listed, may_have_type, metadata_rows, no_header, number, number_at, offset_of, two_at, type_of}
+use Rattle.bdb_format.specs.declared.pages.PageType.TheVariants.{Overflow as OverflowPage}
+use Rattle.bdb_format.specs.Terms.{Row, answer, body_code, byte_at, entries_of, field_rows, first_row, four_at, header_of, identity_rows, is_queue}
+use Rattle.bdb_format.specs.Terms.{is_queue_type, is_tree_type, is_zero, listed, may_have_type, metadata_rows, no_header, number, number_at, offset_of, two_at, type_of}
 use Rattle.std.proofs.lemmas.Bool.{and_parts, eqb-true}
 use Rattle.bdb_format.specs.declared.metadata.FileKind.TheVariants.{Btree, Hash, Queue}
 
@@ -103,3 +104,11 @@ pub some_type : (kind : FileKind) → 8 ≤ type_of kind
 some_type Btree = omega arith
 some_type Hash = omega arith
 some_type Queue = omega arith
+
+-- the bytes of a page of a chain lie on it
+room_of : (past : Bool) → cond {A = Option ℕ} past (Some 25) None ≡ None → past ≡ false
+room_of true none = absurd cc
+room_of false none = refl
+
+pub chain_room : (order : Order) (page : List ℕ) → body_code order page OverflowPage ≡ None → 26 + two_at order page 22 ≤ length page
+chain_room order page none = ltb-false (length page) (26 + two_at order page 22) (room_of _ none)

@@ -1,4 +1,4 @@
--- The fault table: the stage, the code and the name of each row, and the names of the cases that are left out. Source: docs/FORMAT.md, "Faults".
+-- The fault table: the stage, the code and the name of each row, and the names of the cases that aren't supported. Source: docs/FORMAT.md, "Faults".
 use Rattle.std.specs.Prelude.{ℕ, if◌then◌else◌, Bool, List, [], ◌∷◌, Result, Ok, Err, ◌-◌, ◌==◌, codes, get_or}
 use Rattle.bdb_format.specs.declared.kinds.Fault.{Fault}
 use Rattle.bdb_format.specs.declared.rows.FileRow.{FileRow}
@@ -202,7 +202,7 @@ row_names stage =
 unfoldable pub fault_name : ℕ → ℕ → List ℕ
 fault_name stage code = numbered_name (row_names stage) code
 
--- the name of a case that is left out
+-- the name of a case that isn't supported
 abbrev pub unsupported_name : Unsupported → List ℕ
 unsupported_name VersionCase = codes "Version"
 unsupported_name HeapCase = codes "Heap"

@@ -74,7 +74,7 @@ head_rows image =
     ∷ 11 :? is_past kind image
     ∷ []
 
--- the rows that are cases left out by name
+-- the rows of cases that aren't supported
 abbrev pub left_out_as : List (ℕ × Unsupported) → ℕ → MetaFault
 left_out_as [] code = Fault code
 left_out_as (named ∷ names) code = if named.0 == code then LeftOut named.1 else left_out_as names code

@@ -175,10 +175,14 @@ all_item_rows t order page =
 unfoldable pub listed_code : Order → List ℕ → PageType → Option ℕ
 listed_code order page t = first_row (index_rows order page t ++ all_item_rows t order page)
 
+-- the rows of a page of a chain: its bytes lie on it
+abbrev pub overflow_rows : Order → List ℕ → List (Row ℕ)
+overflow_rows order page = 25 :? nat_lt (length page) (26 + two_at order page 22) ∷ []
+
 -- the row of a page of a type, its number and type and metadata aside
 abbrev pub body_code : Order → List ℕ → PageType → Option ℕ
 body_code order page FreePage = None
-body_code order page OverflowPage = first_row (25 :? nat_lt (length page) (26 + two_at order page 22) ∷ [])
+body_code order page OverflowPage = first_row (overflow_rows order page)
 body_code order page HashMetaPage = None
 body_code order page BtreeMetaPage = None
 body_code order page QueueMetaPage = None

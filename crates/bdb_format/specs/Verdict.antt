@@ -153,7 +153,7 @@ abbrev pub first_fault : List Fault → Option Fault
 first_fault [] = None
 first_fault (fault ∷ faults) = Some fault
 
--- what a file is that isn't sound: faulty, by its first fault, or left out by name, with the page of that fault
+-- what a file is that isn't sound: faulty, by its first fault, or not supported, with the page of that fault
 pub data Judgement : Type 0 where
   Faulty : Fault → Judgement
   LeftOut : Unsupported → ℕ → Judgement
@@ -163,7 +163,7 @@ abbrev pub judged : ℕ → ℕ → MetaFault → Judgement
 judged stage page (CodeFault code) = Faulty (record { stage = stage; page = page; code = code })
 judged stage page (NamedCase name) = LeftOut name page
 
--- a fault of stages 1 and 2 may be a case left out; a later one stands as it is
+-- a fault of stages 1 and 2 may be a case that isn't supported; a later one stands as it is
 abbrev pub judgement_of : Fault → Judgement
 judgement_of fault =
     if fault.stage == 1 then judged 1 fault.page (head_fault fault.code)

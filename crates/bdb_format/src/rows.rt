@@ -1,5 +1,5 @@
 //! The rows of the fault table, an enum for each stage, and the table itself: the code and the name of each row, and the case by which a file
-//! with it is left out, if it is one. Source: docs/FORMAT.md, "Faults".
+//! with it isn't supported, if it's such a case. Source: docs/FORMAT.md, "Faults".
 ghost use Rattle.std.specs.Prelude.{◌≡◌, None, Some, ℕ};
 ghost use Rattle.bdb_format.specs.FaultTable.{contents_names, file_names, form_names, master_names, ownership_names, reach_names, reference_names};
 ghost use Rattle.bdb_format.specs.FaultTable.{fault_name, numbered_name, structure_names, unsupported_name};
@@ -156,7 +156,7 @@ fn fault(code: u8, name: &'static str) -> RowEntry
     }
 }
 
-/// A case that is left out.
+/// A case that isn't supported.
 fn left_out(code: u8, name: &'static str, case: Unsupported) -> RowEntry
     ensures code { result.code ≡ code }
     ensures name { result.name.now ≡ name.now }
@@ -189,6 +189,7 @@ impl FileRow {
         self.entry().fault()
     }
 
+    /// Its entry in the fault table: its code, its name, and the case that isn't supported, where it's one.
     pub fn entry(self) -> RowEntry
         ensures code { result.code ≡ file_row_code self }
         ensures name { result.name.now ≡ numbered_name file_names (file_row_code self) }
@@ -220,6 +221,7 @@ impl FormRow {
         self.entry().fault()
     }
 
+    /// Its entry in the fault table: its code, its name, and the case that isn't supported, where it's one.
     pub fn entry(self) -> RowEntry
         ensures code { result.code ≡ form_row_code self }
         ensures name { result.name.now ≡ numbered_name form_names (form_row_code self) }
@@ -257,6 +259,7 @@ impl FormRow {
 }
 
 impl ReferenceRow {
+    /// Its entry in the fault table: its code, its name, and the case that isn't supported, where it's one.
     pub fn entry(self) -> RowEntry
         ensures code { result.code ≡ reference_row_code self }
         ensures name { result.name.now ≡ numbered_name reference_names (reference_row_code self) }
@@ -272,6 +275,7 @@ impl ReferenceRow {
 }
 
 impl OwnershipRow {
+    /// Its entry in the fault table: its code, its name, and the case that isn't supported, where it's one.
     pub fn entry(self) -> RowEntry
         ensures code { result.code ≡ ownership_row_code self }
         ensures name { result.name.now ≡ numbered_name ownership_names (ownership_row_code self) }
@@ -285,6 +289,7 @@ impl OwnershipRow {
 }
 
 impl ReachRow {
+    /// Its entry in the fault table: its code, its name, and the case that isn't supported, where it's one.
     pub fn entry(self) -> RowEntry
         ensures code { result.code ≡ reach_row_code self }
         ensures name { result.name.now ≡ numbered_name reach_names (reach_row_code self) }
@@ -297,6 +302,7 @@ impl ReachRow {
 }
 
 impl StructureRow {
+    /// Its entry in the fault table: its code, its name, and the case that isn't supported, where it's one.
     pub fn entry(self) -> RowEntry
         ensures code { result.code ≡ structure_row_code self }
         ensures name { result.name.now ≡ numbered_name structure_names (structure_row_code self) }
@@ -311,6 +317,7 @@ impl StructureRow {
 }
 
 impl MasterRow {
+    /// Its entry in the fault table: its code, its name, and the case that isn't supported, where it's one.
     pub fn entry(self) -> RowEntry
         ensures code { result.code ≡ master_row_code self }
         ensures name { result.name.now ≡ numbered_name master_names (master_row_code self) }
@@ -327,6 +334,7 @@ impl MasterRow {
 }
 
 impl ContentsRow {
+    /// Its entry in the fault table: its code, its name, and the case that isn't supported, where it's one.
     pub fn entry(self) -> RowEntry
         ensures code { result.code ≡ contents_row_code self }
         ensures name { result.name.now ≡ numbered_name contents_names (contents_row_code self) }

@@ -77,7 +77,7 @@ fn push_pair(
     list.push_lent(pair_key(kind, x, i, room)?, &data[..value_length(kind, x)])
 }
 
-/// So many pairs for a database of this kind, which follow from the seed.
+/// So many pairs for a database of this kind, which follow from the seed. An error means that memory ran out.
 #[tactic(auto, using(crate::proofs::PairLemmas::number_next, crate::proofs::PairLemmas::pairs_none, crate::proofs::PairLemmas::pairs_next))]
 pub fn generate(alloc: Global, kind: Kind, seed: u32, count: u32) -> Result<PairList, AllocError>
     requires seed { seed < 2 ^ 31 }

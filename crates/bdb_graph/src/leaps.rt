@@ -4,7 +4,7 @@ ghost use Rattle.bdb_graph.specs.Leaps.{AllFull, AreLeaps, AreOver};
 
 use std::alloc::{AllocError, Global};
 
-/// No leap yet: each page, and the end behind them, leads to itself.
+/// No leap yet: each page, and the end behind them, leads to itself. An error means that memory ran out.
 #[tactic(auto, using(crate::proofs::Below::range_more))]
 pub fn no_leaps(alloc: Global, len: u32) -> Result<Vec<u32>, AllocError>
     ensures { IfOk result (λ leaps. leaps.items ≡ range_with_len 0 len) }

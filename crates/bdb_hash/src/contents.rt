@@ -109,7 +109,8 @@ pub fn check(alloc: Global, linked: &Linked<'_>, meta: &HashMeta) -> Result<(), 
     checked(first, answer)
 }
 
-/// Notes each row of contents at each page where it holds for the table of this metadata, in a list of all.
+/// Notes each row of contents at each page where it holds for the table of this metadata, in a list of all. An error
+/// means that memory ran out.
 pub fn all_faults(
     alloc: Global,
     linked: &Linked<'_>,

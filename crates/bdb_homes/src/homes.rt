@@ -76,7 +76,8 @@ impl<'a> Model for PageHomes<'a> {
 
 impl<'a> PageHomes<'a> {
     /// Finds the home of each page: its claims are read once, in one step, and what is kept of each page is looked at some times more, up to 255
-    /// of them on the way up to metadata. It takes 60 bytes for each page while it runs, and keeps 12.
+    /// of them on the way up to metadata. It takes 60 bytes for each page while it runs, and keeps 12. An error means
+    /// that memory ran out.
     pub fn of<L: Ledger>(
         alloc: Global,
         pages: WholePages<'a>,

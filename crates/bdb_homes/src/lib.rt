@@ -16,8 +16,7 @@ mod table;
 mod up;
 
 pub use bdb_graph::{
-    BtreeMeta, HashMeta, Kind, Order, PageView, QueueMeta, Settings, Steps, plain_settings,
-    records_per_page, u32_at,
+    Kind, Order, PageType, PageView, QueueMeta, Settings, Steps, records_per_page, u32_at,
 };
 pub use bdb_survey::{Guess, Meta, WholePages};
 pub use home::Home;

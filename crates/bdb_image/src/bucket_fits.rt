@@ -21,7 +21,7 @@ pub struct BucketFits {
 }
 
 impl BucketFits {
-    /// Judges each page as a bucket. It takes 8 bytes for each.
+    /// Judges each page as a bucket. It takes 8 bytes for each. An error means that memory ran out.
     pub fn of(alloc: Global, formed: &Formed<'_>) -> Result<BucketFits, AllocError>
         ensures { IfOk result (λ fits. AreFits (file_of formed.now) fits) }
     {

@@ -193,7 +193,7 @@ impl Misfits {
         }
     }
 
-    /// Notes each of them at the page.
+    /// Notes each of them at the page. An error means that memory ran out.
     pub fn note<F: FaultSink>(self, page: u32, found: &mut F) -> Result<(), AllocError>
         ensures noted { OnOk result (Notes (F.has_noted found.old) (F.has_noted found.new) (misfit_faults self page)) }
         ensures refused { OnErr result (IsTrue F.takes_memory) }

@@ -31,7 +31,7 @@ impl<'a> Model for Formed<'a> {
 
 #[tactic(auto, using(crate::proofs::FirstLemmas::formed_pages))]
 impl<'a> Formed<'a> {
-    // An image for which the two stages are decided.
+    /// An image for which the two stages are decided.
     pub fn over(image: &'a [u8], head: Head, plain: bool) -> Formed<'a>
         requires formed { IsFormed image.now head }
         requires plain { plain ≡ true → ArePlain head image.now }
@@ -40,7 +40,7 @@ impl<'a> Formed<'a> {
         Formed { image, head, plain }
     }
 
-    // Another handle to the same image.
+    /// Another handle to the same image.
     pub fn again(&self) -> Formed<'a>
         ensures same { result ≡ self.now }
         ensures formed { IsFormed self.now (head_of self.now) }
@@ -70,6 +70,7 @@ impl<'a> Formed<'a> {
     }
 
     // The bytes of the file.
+    /// Its bytes.
     pub fn image(&self) -> &'a [u8]
         ensures { result.now ≡ self.now }
     {

@@ -12,6 +12,7 @@ mod meta;
 mod open;
 mod page;
 mod plain;
+mod settings;
 
 pub use bdb_faults::AllError;
 pub use bdb_faults::BtreeMeta;

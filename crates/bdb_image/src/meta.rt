@@ -18,7 +18,8 @@ pub enum Meta {
     Queue(QueueMeta),
 }
 
-/// The numbers of the metadata pages of an image, ascending, 4 bytes for each in a list that grows.
+/// The numbers of the metadata pages of an image, ascending, 4 bytes for each in a list that grows. An error means
+/// that memory ran out.
 pub fn metas_of(alloc: Global, formed: &Formed) -> Result<Vec<u32>, AllocError>
     ensures { IfOk result (λ metas. metas.items ≡ meta_pages (file_of formed.now)) }
 {

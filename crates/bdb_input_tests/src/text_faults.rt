@@ -329,7 +329,7 @@ fn data_lines_are_told(rt: HostRuntime) {
     assert!(rt; are_faulty(rt.alloc(), &DATA_LINES));
 }
 
-// The third line is left out by name.
+// The third line isn't supported.
 const CHECKSUM: [Row; 1] = [(
     b"VERSION=3\ntype=btree\nchksum=1\nHEADER=END\nDATA=END\n",
     3,

@@ -21,12 +21,14 @@ impl Model for Image {
 }
 
 impl Image {
+    /// These bytes as an image.
     pub fn from_bytes(bytes: Bytes) -> Image
         ensures { result ≡ bytes }
     {
         Image { bytes }
     }
 
+    /// Its bytes.
     pub fn bytes(&self) -> &[u8]
         ensures { result.now ≡ self.now }
     {
@@ -34,6 +36,7 @@ impl Image {
     }
 }
 
+/// Why an image wasn't read.
 #[derive(Clone, Copy, Debug, PartialEq, Eq, Error)]
 pub enum ReadError {
     #[error("read fault")]
@@ -46,7 +49,7 @@ pub enum ReadError {
 
 const CHUNK: usize = 65536;
 
-// No bytes yet, with room for so many where memory isn't wanting: so what is read isn't moved while it grows.
+// No bytes yet, with room for so many where memory doesn't run out: so what is read isn't moved while it grows.
 fn with_room(alloc: Global, room: usize) -> Bytes
     ensures { result ≡ [] }
 {
@@ -56,7 +59,8 @@ fn with_room(alloc: Global, room: usize) -> Bytes
     }
 }
 
-/// Reads until a read gives nothing, or one byte more than the limit came.
+/// Reads until a read gives nothing, or one byte more than the limit came. An error says that: the input is longer
+/// than the limit; a read failed; or memory ran out.
 #[tactic(auto, using(bdb_format::proofs::KnownLemmas::consumed))]
 pub fn read_image<S: Source>(alloc: Global, source: &mut S, max: u64) -> Result<Image, ReadError>
     requires { max ≤ 2 ^ 30 }

@@ -24,6 +24,7 @@ impl Model for MemSource {
 }
 
 impl MemSource {
+    /// A source of these bytes, of which no read fails.
     pub fn new(alloc: Global, bytes: Bytes) -> MemSource
         ensures { result ≡ record { bytes = bytes; calls = 0; failing = []; faults = 0 } }
     {
@@ -77,6 +78,7 @@ impl Model for MemSink {
 }
 
 impl MemSink {
+    /// An empty sink, to which no write fails.
     pub fn new(alloc: Global) -> MemSink
         ensures { result ≡ record { bytes = []; calls = 0; failing = []; faults = 0 } }
     {
@@ -107,7 +109,7 @@ impl Sink for MemSink {
 
     ghost faults = { λ s. s.faults };
 
-    /// Appends the whole piece. It also fails where memory is wanting.
+    /// Appends the whole piece. It also fails where memory runs out.
     fn write(&mut self, piece: &[u8]) -> Result<usize, Failed>
         requires { 0 < length piece.now }
         ensures fails { IsToFail self.old.calls self.old.failing → IsErr result }

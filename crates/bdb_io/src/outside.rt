@@ -24,6 +24,7 @@ impl<R> Model for StdSource<R> {
 }
 
 impl<R: Read> StdSource<R> {
+    /// A source that reads from a reader.
     pub fn new(reader: R) -> StdSource<R>
         ensures { result ≡ record { inner = reader; faults = 0 } }
     {
@@ -84,6 +85,7 @@ impl<W> Model for StdSink<W> {
 }
 
 impl<W: Write> StdSink<W> {
+    /// A sink that writes to a writer.
     pub fn new(writer: W) -> StdSink<W>
         ensures { result ≡ record { inner = writer; faults = 0 } }
     {

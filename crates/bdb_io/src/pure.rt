@@ -23,6 +23,7 @@ impl Model for PureSource {
 }
 
 impl PureSource {
+    /// A source of these bytes.
     pub fn new(bytes: Bytes) -> PureSource
         ensures { result ≡ bytes }
     {
@@ -62,6 +63,7 @@ fn copy_front(bytes: &[u8], buf: &mut [u8]) -> usize
 pub struct PureSink;
 
 impl PureSink {
+    /// A sink that keeps nothing.
     pub fn new() -> PureSink {
         PureSink
     }

@@ -2,10 +2,10 @@
 use Rattle.std.proofs.Common.{◌≡◌, ℕ, zero, suc, ◌≤◌, Bool, true, false, refl, ap, ◌∙◌, arith, subst}
 use Rattle.std.specs.Prelude.{◌&&◌, ◌||◌, not, nat_lt, Option, Some, None, option_and_then}
 use Rattle.std.specs.List.{Contains}
-use Rattle.bdb_graph.specs.of_format.declared.references.Sort.{Sort}
-use Rattle.bdb_graph.specs.of_format.Terms.{Asked, File, asked_by, fit_code, fit_rows, is_meta, page_at, targets_in}
-use Rattle.bdb_graph.proofs.of_format.GraphLemmas.{each_fits}
-use Rattle.bdb_graph.proofs.of_format.VerdictLemmas.{AllFail, none_is_first_row}
+use Rattle.bdb_law_whole.specs.of_format.declared.references.Sort.{Sort}
+use Rattle.bdb_law_whole.specs.of_format.Terms.{Asked, File, asked_by, fit_code, fit_rows, is_meta, page_at, targets_in}
+use Rattle.bdb_law_whole.proofs.of_format.GraphLemmas.{each_fits}
+use Rattle.bdb_law_whole.proofs.of_format.VerdictLemmas.{AllFail, none_is_first_row}
 use Rattle.bdb_homes.specs.Claims.{Below, below_in}
 use Rattle.bdb_homes.specs.Homes.{ahead, behind, by_claim, claimed_in, from_side, home, led, numbered, or_else, own_home, page_after, page_before}
 use Rattle.bdb_homes.specs.Homes.{spread}

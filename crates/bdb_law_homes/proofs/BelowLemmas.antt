@@ -2,15 +2,15 @@
 use Rattle.std.proofs.Common.{◌≡◌, ◌⊎◌, ℕ, ◌+◌, List, [], ◌∷◌, map, ap, refl, sym, subst, inl, inr}
 use Rattle.std.specs.List.{Contains, enumerate_from, range_with_len}
 use Rattle.std.proofs.lemmas.List.Elements.{Contains-append_right}
-use Rattle.bdb_graph.specs.of_format.declared.pages.RecnoItem.{RecnoItem}
-use Rattle.bdb_graph.specs.of_format.declared.metadata.FileKind.TheVariants.{Queue}
-use Rattle.bdb_graph.specs.of_format.declared.references.Sort.{Sort}
-use Rattle.bdb_graph.specs.of_format.declared.references.Sort.TheVariants.{Root, Bucket, Child}
-use Rattle.bdb_graph.specs.of_format.declared.references.Reference.{Reference}
-use Rattle.bdb_graph.specs.of_format.Terms.{BtreeFields, File, HashFields, Internal, InternalItem, Meta, Page, QueueFields, RecnoInternal, content_targets}
-use Rattle.bdb_graph.specs.of_format.Terms.{first_free, first_page, internal_targets, page_at, refs, targets_in, targets_of}
-use Rattle.bdb_graph.proofs.of_format.MemberLemmas.{first_member, in_flat_map, in_map, later_member, member_cases, no_member, of_map}
-use Rattle.bdb_graph.proofs.of_format.ReferenceLemmas.{forest_names}
+use Rattle.bdb_law_whole.specs.of_format.declared.pages.RecnoItem.{RecnoItem}
+use Rattle.bdb_law_whole.specs.of_format.declared.metadata.FileKind.TheVariants.{Queue}
+use Rattle.bdb_law_whole.specs.of_format.declared.references.Sort.{Sort}
+use Rattle.bdb_law_whole.specs.of_format.declared.references.Sort.TheVariants.{Root, Bucket, Child}
+use Rattle.bdb_law_whole.specs.of_format.declared.references.Reference.{Reference}
+use Rattle.bdb_law_whole.specs.of_format.Terms.{BtreeFields, File, HashFields, Internal, InternalItem, Meta, Page, QueueFields, RecnoInternal, content_targets}
+use Rattle.bdb_law_whole.specs.of_format.Terms.{first_free, first_page, internal_targets, page_at, refs, targets_in, targets_of}
+use Rattle.bdb_law_whole.proofs.of_format.MemberLemmas.{first_member, in_flat_map, in_map, later_member, member_cases, no_member, of_map}
+use Rattle.bdb_law_whole.proofs.of_format.ReferenceLemmas.{forest_names}
 use Rattle.bdb_homes.specs.Claims.{Below, below_in, counted}
 
 -- a child with the records before it is that of an item

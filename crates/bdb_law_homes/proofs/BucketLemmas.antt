@@ -4,19 +4,19 @@ use Rattle.std.specs.Prelude.{◌==◌, ◌&&◌, ◌||◌, not, nat_lt, Some}
 use Rattle.std.specs.List.{Contains, flat_map, range_with_len}
 use Rattle.std.proofs.lemmas.List.Elements.{Contains-append_right}
 use Rattle.std.proofs.lemmas.Bool.{eq-eqb, eqb-true, not-false, or_parts}
-use Rattle.bdb_graph.specs.of_format.declared.metadata.HashMeta.{HashMeta}
-use Rattle.bdb_graph.specs.of_format.declared.references.Sort.{Sort}
-use Rattle.bdb_graph.specs.of_format.declared.references.Sort.TheVariants.{Bucket, HashNext}
-use Rattle.bdb_graph.specs.of_format.Terms.{File, Hash, HashFields, Item, Listed, Meta, Page, Zero, asked_by, chain_in, content_targets}
-use Rattle.bdb_graph.specs.of_format.Terms.{BtreeFields, QueueFields, contents_in, first_holder, first_page, has_type, header_in, is_meta}
-use Rattle.bdb_graph.specs.of_format.Terms.{is_head_reference, is_zero_page, next_of, owners, page_at, targets_in, type_in, unless_zero}
-use Rattle.bdb_graph.proofs.of_format.MemberLemmas.{first_member, in_map, in_range, member_cases, no_member}
+use Rattle.bdb_law_whole.specs.of_format.declared.metadata.HashMeta.{HashMeta}
+use Rattle.bdb_law_whole.specs.of_format.declared.references.Sort.{Sort}
+use Rattle.bdb_law_whole.specs.of_format.declared.references.Sort.TheVariants.{Bucket, HashNext}
+use Rattle.bdb_law_whole.specs.of_format.Terms.{File, Hash, HashFields, Item, Listed, Meta, Page, Zero, asked_by, chain_in, content_targets}
+use Rattle.bdb_law_whole.specs.of_format.Terms.{BtreeFields, QueueFields, contents_in, first_holder, first_page, has_type, header_in, is_meta}
+use Rattle.bdb_law_whole.specs.of_format.Terms.{is_head_reference, is_zero_page, next_of, owners, page_at, targets_in, type_in, unless_zero}
+use Rattle.bdb_law_whole.proofs.of_format.MemberLemmas.{first_member, in_map, in_range, member_cases, no_member}
 use Rattle.bdb_homes.specs.Claims.{Below, below_in}
 use Rattle.bdb_homes.specs.Homes.{adjoins, ahead, behind, home, is_alike, led, own_home, page_after}
 use Rattle.bdb_homes.specs.Homes.{page_before, previous_of}
 use Rattle.bdb_homes.specs.Homes.{spread}
 use Rattle.bdb_homes.specs.declared.home.Home.{Home}
-use Rattle.bdb_law_sums.proofs.HashLemmas.{no_turn, turn_is}
+use Rattle.bdb_law_whole.proofs.of_law_sums.HashLemmas.{no_turn, turn_is}
 use Rattle.bdb_law_homes.specs.Led.{BucketsAreOfTables, IsLed, IsOwned}
 use Rattle.bdb_law_homes.proofs.BelowLemmas.{IsReferred, below_target, target_referred}
 use Rattle.bdb_law_homes.proofs.AskedLemmas.{IsAsked, asked_fits, had_first, low, only_types, own_top}

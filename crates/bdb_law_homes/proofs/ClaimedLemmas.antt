@@ -1,7 +1,7 @@
 -- Homes by claims, in so many turns and in more; and the leaves of a tree, level by level.
 use Rattle.std.proofs.Common.{◌≡◌, ℕ, zero, suc, ◌≤◌, ◌<◌, ◌^◌, true, [], ◌∷◌, ap, ◌∙◌, arith, refl}
 use Rattle.std.specs.Prelude.{nat_lt, Some, option_and_then}
-use Rattle.bdb_graph.specs.of_format.Terms.{File, children_in, leaves_in, leaves_under, page_at}
+use Rattle.bdb_law_whole.specs.of_format.Terms.{File, children_in, leaves_in, leaves_under, page_at}
 use Rattle.bdb_homes.specs.Homes.{claimed_in, numbered, own_home}
 use Rattle.bdb_homes.specs.declared.home.Home.{Home}
 

@@ -1,10 +1,10 @@
 -- The homes of leaves with pairs, and of hash pages.
-use Rattle.std.proofs.Common.{◌≡◌, ◌⊎◌, ℕ, ◌≤◌, Bool, true, false, List, [], ◌∷◌, ap, ◌∙◌, sym, inl, inr}
+use Rattle.std.proofs.Common.{◌≡◌, ℕ, ◌≤◌, true, [], ◌∷◌, ap, ◌∙◌, sym, inl, inr}
 use Rattle.std.proofs.lemmas.Bool.{cases_Bool, cases_lt}
-use Rattle.bdb_graph.specs.of_format.Terms.{BtreeFields, File, Item, Leaf, Listed, Meta, Metadata, NoType, file_of, has_type, is_recno, page_at, type_in}
-use Rattle.bdb_law_sums.proofs.LeafLemmas.{no_pairs_in_recno, no_pairs_in_set}
+use Rattle.bdb_law_whole.specs.of_format.Terms.{BtreeFields, File, Meta, Metadata, NoType, file_of, has_type, is_recno, page_at, type_in}
+use Rattle.bdb_law_whole.proofs.of_law_sums.LeafLemmas.{no_pairs_in_recno, no_pairs_in_set}
 use Rattle.bdb_law_homes.specs.Led.{IsOwned}
-use Rattle.bdb_law_homes.specs.Owned.{HashPagesHaveHomes, IsLeafOf, IsPageOf, PairLeavesHaveHomes}
+use Rattle.bdb_law_homes.specs.Owned.{HashPagesHaveHomes, IsPageOf, PairLeavesHaveHomes}
 use Rattle.bdb_law_homes.proofs.BucketLemmas.{buckets_are_of_tables}
 use Rattle.bdb_law_homes.proofs.OneLemmas.{hash_pages_are_of_one, leaves_are_of_one}
 use Rattle.bdb_law_homes.proofs.SoundLemmas.{sound_files_are_owned}

@@ -4,16 +4,16 @@ use Rattle.std.proofs.Common.{◌==◌, ◌^◌, ◌&&◌, nat_lt, Option, Some,
 use Rattle.std.specs.List.{Contains, flat_map, range_with_len}
 use Rattle.std.proofs.lemmas.Option.{same_Some}
 use Rattle.std.proofs.lemmas.Bool.{cases_Bool, cases_lt, eqb-true, and_parts}
-use Rattle.bdb_graph.specs.of_format.declared.pages.RecnoItem.{RecnoItem}
-use Rattle.bdb_graph.specs.of_format.declared.metadata.FileKind.{FileKind}
-use Rattle.bdb_graph.specs.of_format.declared.metadata.FileKind.TheVariants.{Btree, Hash as HashFile, Queue as QueueFile}
-use Rattle.bdb_graph.specs.of_format.declared.references.Sort.{Sort}
-use Rattle.bdb_graph.specs.of_format.declared.references.Sort.TheVariants.{Root, Bucket, Child}
-use Rattle.bdb_graph.specs.of_format.Terms.{File, Internal, InternalItem, Page, RecnoInternal, children_in, first_holder, fit_code, is_anchor, is_anchor_in}
-use Rattle.bdb_graph.specs.of_format.Terms.{is_head_reference, is_meta, leaves_in, leaves_under, owners, page_at}
-use Rattle.bdb_graph.proofs.of_format.GraphLemmas.{anchor_unowned, each_fits}
-use Rattle.bdb_graph.proofs.of_format.MemberLemmas.{first_member, in_flat_map, in_map, in_range, later_member, member_cases, no_member, of_flat_map, of_map}
-use Rattle.bdb_graph.proofs.of_format.MemberLemmas.{of_range}
+use Rattle.bdb_law_whole.specs.of_format.declared.pages.RecnoItem.{RecnoItem}
+use Rattle.bdb_law_whole.specs.of_format.declared.metadata.FileKind.{FileKind}
+use Rattle.bdb_law_whole.specs.of_format.declared.metadata.FileKind.TheVariants.{Btree, Hash as HashFile, Queue as QueueFile}
+use Rattle.bdb_law_whole.specs.of_format.declared.references.Sort.{Sort}
+use Rattle.bdb_law_whole.specs.of_format.declared.references.Sort.TheVariants.{Root, Bucket, Child}
+use Rattle.bdb_law_whole.specs.of_format.Terms.{File, Internal, InternalItem, Page, RecnoInternal, children_in, first_holder, fit_code, is_anchor, is_anchor_in}
+use Rattle.bdb_law_whole.specs.of_format.Terms.{is_head_reference, is_meta, leaves_in, leaves_under, owners, page_at}
+use Rattle.bdb_law_whole.proofs.of_format.GraphLemmas.{anchor_unowned, each_fits}
+use Rattle.bdb_law_whole.proofs.of_format.MemberLemmas.{first_member, in_flat_map, in_map, in_range, later_member, member_cases, no_member, of_flat_map, of_map}
+use Rattle.bdb_law_whole.proofs.of_format.MemberLemmas.{of_range}
 use Rattle.bdb_homes.specs.Claims.{Below, Claim, all_claims, below_in, claim, claim_of, counted, first_claim, is_claim, is_fit}
 use Rattle.bdb_homes.specs.Homes.{by_claim, claimed_in, later, numbered, own_home}
 use Rattle.bdb_homes.specs.declared.home.Home.{Home}

@@ -1,7 +1,7 @@
 -- The pages of a bucket behind its first.
 use Rattle.std.proofs.Common.{◌≡◌, ℕ, zero, suc, ◌+◌, ◌^◌, true, ap, ◌∙◌, arith, refl, sym, subst, nat_lt, Option, Some, None, option_and_then}
-use Rattle.bdb_graph.specs.of_format.Terms.{File, Hash, Item, Listed, first_holder, owners, page_at}
-use Rattle.bdb_graph.proofs.of_format.MemberLemmas.{no_member}
+use Rattle.bdb_law_whole.specs.of_format.Terms.{File, Hash, Item, Listed, first_holder, owners, page_at}
+use Rattle.bdb_law_whole.proofs.of_format.MemberLemmas.{no_member}
 use Rattle.bdb_homes.specs.Claims.{Claim, below_in, claim_of}
 use Rattle.bdb_homes.specs.Homes.{adjoins, behind, by_claim, claimed_in, from_side, later, numbered, or_else, own_home, page_before, previous_of, records_on}
 use Rattle.bdb_homes.specs.Homes.{spread}

@@ -4,24 +4,24 @@ use Rattle.std.specs.Prelude.{◌==◌}
 use Rattle.std.specs.List.{Contains, flat_map, range_with_len, sum_by}
 use Rattle.std.proofs.lemmas.Bool.{cases_lt, eq-eqb, eqb-true}
 use Rattle.std.proofs.lemmas.List.Sums.{sum_by-cons}
-use Rattle.bdb_graph.specs.of_format.declared.metadata.FileKind.TheVariants.{Queue}
-use Rattle.bdb_graph.specs.of_format.declared.references.Sort.{Sort}
-use Rattle.bdb_graph.specs.of_format.declared.references.Sort.TheVariants.{DuplicateRoot, Root}
-use Rattle.bdb_graph.specs.of_format.Terms.{BtreeFields, File, HashFields, Meta, Metadata, Owner, QueueFields, all_references, bucket_pages, fields_in}
-use Rattle.bdb_graph.specs.of_format.Terms.{fields_of}
-use Rattle.bdb_graph.specs.of_format.Terms.{file_of, has_type, is_root_reference, is_spare, leaves, page_at, root_references, type_in}
-use Rattle.bdb_graph.specs.of_image.Linked.{FitsDupRoot, FitsTreeRoot, IsForest}
-use Rattle.bdb_graph.proofs.of_format.MemberLemmas.{first_member, in_range, later_member, member_cases, no_member, of_filter, of_flat_map, of_range}
-use Rattle.bdb_graph.proofs.ReadLemmas.{is_of_page}
-use Rattle.bdb_law_sums.specs.Counting.{times}
-use Rattle.bdb_law_sums.specs.Databases.{IsOfSet, buckets_below, leaves_below}
-use Rattle.bdb_law_sums.specs.HashSums.{is_hash_page}
-use Rattle.bdb_law_sums.specs.TreeSums.{leaf_weight}
-use Rattle.bdb_law_sums.proofs.CountLemmas.{sum_none}
-use Rattle.bdb_law_sums.proofs.DatabaseLemmas.{hash_pages_are_of_tables, leaves_are_of_databases}
-use Rattle.bdb_law_sums.proofs.MetaLemmas.{fields_by_page}
-use Rattle.bdb_law_sums.proofs.OneTreeLemmas.{each_leaf_is_in_one_tree}
-use Rattle.bdb_law_sums.proofs.RecordLemmas.{no_leaf_of_both}
+use Rattle.bdb_law_whole.specs.of_format.declared.metadata.FileKind.TheVariants.{Queue}
+use Rattle.bdb_law_whole.specs.of_format.declared.references.Sort.{Sort}
+use Rattle.bdb_law_whole.specs.of_format.declared.references.Sort.TheVariants.{DuplicateRoot, Root}
+use Rattle.bdb_law_whole.specs.of_format.Terms.{BtreeFields, File, HashFields, Meta, Metadata, Owner, QueueFields, all_references, bucket_pages, fields_in}
+use Rattle.bdb_law_whole.specs.of_format.Terms.{fields_of}
+use Rattle.bdb_law_whole.specs.of_format.Terms.{file_of, has_type, is_root_reference, is_spare, leaves, page_at, root_references, type_in}
+use Rattle.bdb_law_whole.specs.of_image.Linked.{FitsDupRoot, FitsTreeRoot, IsForest}
+use Rattle.bdb_law_whole.proofs.of_format.MemberLemmas.{first_member, in_range, later_member, member_cases, no_member, of_filter, of_flat_map, of_range}
+use Rattle.bdb_law_whole.proofs.of_graph.ReadLemmas.{is_of_page}
+use Rattle.bdb_law_whole.specs.of_law_sums.Counting.{times}
+use Rattle.bdb_law_whole.specs.of_law_sums.Databases.{IsOfSet, buckets_below, leaves_below}
+use Rattle.bdb_law_whole.specs.of_law_sums.HashSums.{is_hash_page}
+use Rattle.bdb_law_whole.specs.of_law_sums.TreeSums.{leaf_weight}
+use Rattle.bdb_law_whole.proofs.of_law_sums.CountLemmas.{sum_none}
+use Rattle.bdb_law_whole.proofs.of_law_sums.DatabaseLemmas.{hash_pages_are_of_tables, leaves_are_of_databases}
+use Rattle.bdb_law_whole.proofs.of_law_sums.MetaLemmas.{fields_by_page}
+use Rattle.bdb_law_whole.proofs.of_law_sums.OneTreeLemmas.{each_leaf_is_in_one_tree}
+use Rattle.bdb_law_whole.proofs.of_law_sums.RecordLemmas.{no_leaf_of_both}
 use Rattle.bdb_law_homes.specs.Owned.{HashPagesAreOfOne, IsLeafOf, IsPageOf, LeavesAreOfOne}
 
 -- Sums that aren't 0.

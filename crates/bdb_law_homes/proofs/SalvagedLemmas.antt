@@ -4,14 +4,14 @@ use Rattle.std.specs.Prelude.{◌≢◌, ◌==◌, ◌&&◌, ◌||◌, not, nat_
 use Rattle.std.specs.List.{Contains, flat_map, range_with_len}
 use Rattle.std.specs.Option.{option_and_then, option_map}
 use Rattle.std.proofs.lemmas.Bool.{le-ltb, or_parts}
-use Rattle.bdb_graph.specs.of_format.declared.metadata.FileKind.TheVariants.{Queue}
-use Rattle.bdb_graph.specs.of_format.Terms.{◌:?◌, Asked, File, Page, asked_by, file_of, first_row, fit_code, fit_rows, has_type, head_of, header_in}
-use Rattle.bdb_graph.specs.of_format.Terms.{is_asked, is_meta, is_zero_page, next_of, page_at, type_in}
-use Rattle.bdb_graph.specs.of_image.Linked.{IsForest}
-use Rattle.bdb_graph.proofs.of_format.FileLemmas.{kind_is}
-use Rattle.bdb_graph.proofs.of_format.ListLemmas.{flat_map_same}
-use Rattle.bdb_graph.proofs.of_format.MemberLemmas.{first_member, later_member}
-use Rattle.bdb_survey.proofs.StoredPageLemmas.{last_is}
+use Rattle.bdb_law_whole.specs.of_format.declared.metadata.FileKind.TheVariants.{Queue}
+use Rattle.bdb_law_whole.specs.of_format.Terms.{◌:?◌, Asked, File, Page, asked_by, file_of, first_row, fit_code, fit_rows, has_type, head_of, header_in}
+use Rattle.bdb_law_whole.specs.of_format.Terms.{is_asked, is_meta, is_zero_page, next_of, page_at, type_in}
+use Rattle.bdb_law_whole.specs.of_image.Linked.{IsForest}
+use Rattle.bdb_law_whole.proofs.of_format.FileLemmas.{kind_is}
+use Rattle.bdb_law_whole.proofs.of_format.ListLemmas.{flat_map_same}
+use Rattle.bdb_law_whole.proofs.of_format.MemberLemmas.{first_member, later_member}
+use Rattle.bdb_law_whole.proofs.of_survey.StoredPageLemmas.{last_is}
 use Rattle.bdb_homes.specs.Claims.{Claim, all_claims, below_in, claim, claim_of, first_claim, is_claim, is_fit}
 use Rattle.bdb_homes.specs.Homes.{adjoins, ahead, behind, by_claim, claimed_in, from_side, home, is_same, later, led, numbered, or_else, own_home}
 use Rattle.bdb_homes.specs.Homes.{page_after, page_before, previous_of, records_on, row_of, spread}

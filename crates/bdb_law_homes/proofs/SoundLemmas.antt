@@ -1,8 +1,8 @@
 -- Sound files are owned.
-use Rattle.bdb_graph.specs.of_format.Terms.{file_of, head_of}
-use Rattle.bdb_graph.proofs.of_format.FileLemmas.{past_last}
-use Rattle.bdb_graph.proofs.ForestLemmas.{IsSoundGraph, first_names, sound_graph}
-use Rattle.bdb_graph.proofs.ReachLemmas.{fit_file}
+use Rattle.bdb_law_whole.specs.of_format.Terms.{file_of, head_of}
+use Rattle.bdb_law_whole.proofs.of_format.FileLemmas.{past_last}
+use Rattle.bdb_law_whole.proofs.of_graph.ForestLemmas.{IsSoundGraph, first_names, sound_graph}
+use Rattle.bdb_law_whole.proofs.of_graph.ReachLemmas.{fit_file}
 use Rattle.bdb_law_homes.specs.Led.{SoundFilesAreOwned}
 
 pub sound_files_are_owned : SoundFilesAreOwned

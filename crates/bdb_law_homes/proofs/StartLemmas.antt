@@ -8,16 +8,16 @@ use Rattle.std.proofs.lemmas.Grind.{flat_map-append}
 use Rattle.std.proofs.lemmas.List.Elements.{Contains-append_left, Contains-append_right}
 use Rattle.std.proofs.lemmas.List.Folds.{flat_map-map}
 use Rattle.std.proofs.lemmas.Bool.{cases_lt, eq-eqb, eqb-true, not-false}
-use Rattle.bdb_graph.specs.Forest.{AllDistinct, NotIn}
-use Rattle.bdb_graph.specs.of_format.declared.metadata.BtreeMeta.{BtreeMeta}
-use Rattle.bdb_graph.specs.of_format.declared.pages.RecnoItem.{RecnoItem}
-use Rattle.bdb_graph.specs.of_format.declared.references.Sort.TheVariants.{Child, Root}
-use Rattle.bdb_graph.specs.of_format.Terms.{BtreeFields, File, Internal, Item, Listed, Meta, NoType, Page, RecnoInternal, RecnoLeaf, asked_by}
-use Rattle.bdb_graph.specs.of_format.Terms.{child_types, children_in}
-use Rattle.bdb_graph.specs.of_format.Terms.{entries_in, file_of, has_type, has_wrong_count, header_in, inner_in, inner_pages, is_meta, is_recno}
-use Rattle.bdb_graph.specs.of_format.Terms.{is_zero_page, leaves, leaves_in, leaves_under, page_at, root_types, targets_in, tree_entries, type_in}
-use Rattle.bdb_graph.proofs.LeavesLemmas.{no_leaf_twice}
-use Rattle.bdb_graph.proofs.of_format.MemberLemmas.{first_member, in_filter, in_flat_map, in_map, later_member, member_cases, no_member, none_passes}
+use Rattle.bdb_law_whole.specs.of_graph.Forest.{AllDistinct, NotIn}
+use Rattle.bdb_law_whole.specs.of_format.declared.metadata.BtreeMeta.{BtreeMeta}
+use Rattle.bdb_law_whole.specs.of_format.declared.pages.RecnoItem.{RecnoItem}
+use Rattle.bdb_law_whole.specs.of_format.declared.references.Sort.TheVariants.{Child, Root}
+use Rattle.bdb_law_whole.specs.of_format.Terms.{BtreeFields, File, Internal, Item, Listed, Meta, NoType, Page, RecnoInternal, RecnoLeaf, asked_by}
+use Rattle.bdb_law_whole.specs.of_format.Terms.{child_types, children_in}
+use Rattle.bdb_law_whole.specs.of_format.Terms.{entries_in, file_of, has_type, has_wrong_count, header_in, inner_in, inner_pages, is_meta, is_recno}
+use Rattle.bdb_law_whole.specs.of_format.Terms.{is_zero_page, leaves, leaves_in, leaves_under, page_at, root_types, targets_in, tree_entries, type_in}
+use Rattle.bdb_law_whole.proofs.of_graph.LeavesLemmas.{no_leaf_twice}
+use Rattle.bdb_law_whole.proofs.of_format.MemberLemmas.{first_member, in_filter, in_flat_map, in_map, later_member, member_cases, no_member, none_passes}
 use Rattle.bdb_homes.specs.Claims.{Below, below_in, counted}
 use Rattle.bdb_homes.specs.Homes.{by_claim, claimed_in, later}
 use Rattle.bdb_law_homes.specs.Led.{IsCounted, IsOwned, StartsAreCounts, entries_on}

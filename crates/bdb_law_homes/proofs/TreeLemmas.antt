@@ -4,11 +4,12 @@ use Rattle.std.specs.Prelude.{◌==◌, ◌||◌, Option, Some, None}
 use Rattle.std.specs.List.{Contains}
 use Rattle.std.specs.Option.{option_map}
 use Rattle.std.proofs.lemmas.Bool.{eqb-true, not-false}
-use Rattle.bdb_graph.specs.of_format.declared.metadata.BtreeMeta.{BtreeMeta}
-use Rattle.bdb_graph.specs.of_format.declared.references.Sort.TheVariants.{Child, Root}
-use Rattle.bdb_graph.specs.of_format.Terms.{BtreeFields, File, Internal, InternalItem, Listed, Meta, Page, RecnoInternal, asked_by, child_types, children_in}
-use Rattle.bdb_graph.specs.of_format.Terms.{has_type, header_in, is_meta, is_recno, is_zero_page, leaves_in, leaves_under, page_at, root_types, type_in}
-use Rattle.bdb_graph.proofs.of_format.MemberLemmas.{first_member, in_map, member_cases, no_member, of_flat_map, of_map}
+use Rattle.bdb_law_whole.specs.of_format.declared.metadata.BtreeMeta.{BtreeMeta}
+use Rattle.bdb_law_whole.specs.of_format.declared.references.Sort.TheVariants.{Child, Root}
+use Rattle.bdb_law_whole.specs.of_format.Terms.{BtreeFields, File, Internal, InternalItem, Listed, Meta, Page, RecnoInternal}
+use Rattle.bdb_law_whole.specs.of_format.Terms.{asked_by, child_types, children_in}
+use Rattle.bdb_law_whole.specs.of_format.Terms.{has_type, header_in, is_meta, is_recno, is_zero_page, leaves_in, leaves_under, page_at, root_types, type_in}
+use Rattle.bdb_law_whole.proofs.of_format.MemberLemmas.{first_member, in_map, member_cases, no_member, of_flat_map, of_map}
 use Rattle.bdb_homes.specs.Claims.{Below, below_in}
 use Rattle.bdb_homes.specs.Homes.{by_claim, claimed_in, later}
 use Rattle.bdb_law_homes.specs.Led.{IsOwned, LeavesAreOfBtrees}

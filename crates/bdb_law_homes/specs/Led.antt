@@ -1,15 +1,15 @@
 -- Where the first owners of a page lead, and which home it has by claims. Source: docs/FORMAT.md, "Salvage".
 use Rattle.std.specs.Prelude.{◌≡◌, ◌≢◌, ◌^◌, ℕ, suc, ◌+◌, ◌<◌, ◌≤◌, false, true, List, [], ◌∷◌, ◌++◌, length, Some}
 use Rattle.std.specs.List.{Contains, flat_map}
-use Rattle.bdb_graph.specs.of_format.declared.metadata.BtreeMeta.{BtreeMeta}
-use Rattle.bdb_graph.specs.of_format.declared.metadata.FileKind.TheVariants.{Queue}
-use Rattle.bdb_graph.specs.of_format.declared.metadata.HashMeta.{HashMeta}
-use Rattle.bdb_graph.specs.of_format.declared.references.Reference.{Reference}
-use Rattle.bdb_graph.specs.of_format.Terms.{BtreeFields, File, Hash, HashFields, Item, Listed, Meta, NoType, RecnoLeaf, bucket_pages, entries_in, file_of}
-use Rattle.bdb_graph.specs.of_format.Terms.{first_holder, has_type, has_wrong_count, header_in, inner_pages, is_head_reference, is_meta, is_recno}
-use Rattle.bdb_graph.specs.of_format.Terms.{is_wrong_at, leaves}
-use Rattle.bdb_graph.specs.of_format.Terms.{leaves_in, owners, page_at, reference_faults, refs, type_in}
-use Rattle.bdb_graph.specs.of_image.Linked.{IsForest}
+use Rattle.bdb_law_whole.specs.of_format.declared.metadata.BtreeMeta.{BtreeMeta}
+use Rattle.bdb_law_whole.specs.of_format.declared.metadata.FileKind.TheVariants.{Queue}
+use Rattle.bdb_law_whole.specs.of_format.declared.metadata.HashMeta.{HashMeta}
+use Rattle.bdb_law_whole.specs.of_format.declared.references.Reference.{Reference}
+use Rattle.bdb_law_whole.specs.of_format.Terms.{BtreeFields, File, Hash, HashFields, Item, Listed, Meta, NoType, RecnoLeaf, bucket_pages, entries_in, file_of}
+use Rattle.bdb_law_whole.specs.of_format.Terms.{first_holder, has_type, has_wrong_count, header_in, inner_pages, is_head_reference, is_meta, is_recno}
+use Rattle.bdb_law_whole.specs.of_format.Terms.{is_wrong_at, leaves}
+use Rattle.bdb_law_whole.specs.of_format.Terms.{leaves_in, owners, page_at, reference_faults, refs, type_in}
+use Rattle.bdb_law_whole.specs.of_image.Linked.{IsForest}
 use Rattle.bdb_homes.specs.Claims.{Below, below_in}
 use Rattle.bdb_homes.specs.Homes.{adjoins, behind, claimed_in, home, own_home, page_before, spread}
 use Rattle.bdb_homes.specs.declared.home.Home.{Home}

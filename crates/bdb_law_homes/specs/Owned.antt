@@ -1,15 +1,15 @@
 -- Of what each leaf and each hash page of a sound file is. Source: docs/FORMAT.md, "Stage 4, ownership".
 use Rattle.std.specs.Prelude.{◌≡◌, ◌≢◌, ◌⊎◌, ℕ, ◌≤◌, false, true, List, [], ◌∷◌, Some}
 use Rattle.std.specs.List.{Contains}
-use Rattle.bdb_graph.specs.of_format.declared.metadata.BtreeMeta.{BtreeMeta}
-use Rattle.bdb_graph.specs.of_format.declared.metadata.FileKind.TheVariants.{Queue}
-use Rattle.bdb_graph.specs.of_format.declared.metadata.HashMeta.{HashMeta}
-use Rattle.bdb_graph.specs.of_format.Terms.{BtreeFields, File, HashFields, Item, Leaf, Listed, Meta, bucket_pages, file_of, has_type, header_in, is_recno}
-use Rattle.bdb_graph.specs.of_format.Terms.{is_spare, leaves, page_at, pairs_of, type_in}
-use Rattle.bdb_graph.specs.of_image.Linked.{IsForest}
+use Rattle.bdb_law_whole.specs.of_format.declared.metadata.BtreeMeta.{BtreeMeta}
+use Rattle.bdb_law_whole.specs.of_format.declared.metadata.FileKind.TheVariants.{Queue}
+use Rattle.bdb_law_whole.specs.of_format.declared.metadata.HashMeta.{HashMeta}
+use Rattle.bdb_law_whole.specs.of_format.Terms.{BtreeFields, File, HashFields, Item, Leaf, Listed, Meta, bucket_pages, file_of, has_type, header_in, is_recno}
+use Rattle.bdb_law_whole.specs.of_format.Terms.{is_spare, leaves, page_at, pairs_of, type_in}
+use Rattle.bdb_law_whole.specs.of_image.Linked.{IsForest}
 use Rattle.bdb_homes.specs.Homes.{home}
-use Rattle.bdb_law_sums.specs.Databases.{IsOfSet, IsSoundForest}
-use Rattle.bdb_law_sums.specs.HashSums.{is_hash_page}
+use Rattle.bdb_law_whole.specs.of_law_sums.Databases.{IsOfSet, IsSoundForest}
+use Rattle.bdb_law_whole.specs.of_law_sums.HashSums.{is_hash_page}
 
 -- a page is a leaf of the tree of metadata
 pub record IsLeafOf (file : File) (p : ℕ) : Type 0 where

@@ -1,8 +1,8 @@
 -- What homes are in the file that salvage reads of a sound image. Source: docs/FORMAT.md, "Salvage".
 use Rattle.std.specs.Prelude.{◌≡◌, ◌≢◌, ℕ, List}
-use Rattle.bdb_graph.specs.of_format.declared.metadata.FileKind.TheVariants.{Queue}
-use Rattle.bdb_graph.specs.of_format.Terms.{file_of, head_of}
-use Rattle.bdb_graph.specs.of_image.Linked.{IsForest}
+use Rattle.bdb_law_whole.specs.of_format.declared.metadata.FileKind.TheVariants.{Queue}
+use Rattle.bdb_law_whole.specs.of_format.Terms.{file_of, head_of}
+use Rattle.bdb_law_whole.specs.of_image.Linked.{IsForest}
 use Rattle.bdb_homes.specs.Homes.{home}
 use Rattle.bdb_law_whole.specs.Guessed.{guessed}
 

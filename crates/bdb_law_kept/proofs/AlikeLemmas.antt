@@ -61,11 +61,11 @@ before_alike settings others a b alike (inl below) = inl below
 before_alike settings others a b alike (inr (same, inl kept)) = inr (same, inl (keeps_alike settings others alike ∙ kept))
 before_alike settings others a b alike (inr (same, inr (sorted, below))) = inr (same, inr (sorts_alike settings others alike ∙ sorted, below))
 
-order_alike : (settings others : Settings) (list : List (ListKey × List ℕ)) → LoadsAlike settings others → InOrder others list → InOrder settings list
+pub order_alike : (settings others : Settings) (list : List (ListKey × List ℕ)) → LoadsAlike settings others → InOrder others list → InOrder settings list
 order_alike settings others list alike order =
     later_other (ComesBefore others) (ComesBefore settings) list (λ a b at_a at_b before. before_alike settings others a b alike before) order
 
-length_alike : (settings others : Settings) (pair : ListKey × List ℕ) → LoadsAlike settings others → HasItsLength others pair
+pub length_alike : (settings others : Settings) (pair : ListKey × List ℕ) → LoadsAlike settings others → HasItsLength others pair
     → HasItsLength settings pair
 length_alike settings others pair alike long fixed = let same = alike.fixed fixed in long same.0 ∙ sym same.1
 

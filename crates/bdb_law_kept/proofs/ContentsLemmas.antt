@@ -78,7 +78,7 @@ table_plain image meta pair forest stage has at =
     let within = of_range 0 (meta.max_bucket + 1) found.0 found.1 in
     bucket_plain image meta found.0 pair (table_is image meta forest stage has) has (omega (arith, within.1)) found.2
 
-no_repeats : (image : List ℕ) (meta : HashMeta) → IsForest image → structure_faults (file_of image) ≡ []
+pub no_repeats : (image : List ℕ) (meta : HashMeta) → IsForest image → structure_faults (file_of image) ≡ []
     → HasMetadata (file_of image) (HashFields meta) → database_faults (file_of image) (HashFields meta) ≡ []
     → repeated (table_pairs (file_of image) meta) ≡ []
 no_repeats image meta forest stage has none =

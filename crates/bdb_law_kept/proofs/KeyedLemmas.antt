@@ -49,11 +49,11 @@ pub ascends_rise : (values : List (List ℕ)) → ascends values ≡ true → Ri
 ascends_rise [] ascend = tt
 ascends_rise (value ∷ values) ascend = ((λ other at. ascends_above value values other ascend at), rise_from value values ascend)
 
-later_first : {X : Type 0} (R : X → X → Type 0) (xs ys : List X) → AllLater R (xs ++ ys) → AllLater R xs
+pub later_first : {X : Type 0} (R : X → X → Type 0) (xs ys : List X) → AllLater R (xs ++ ys) → AllLater R xs
 later_first R [] ys all = tt
 later_first R (x ∷ xs) ys all = ((λ y at. all.0 y (Contains-append_left xs ys y at)), later_first R xs ys all.1)
 
-later_across : {X : Type 0} (R : X → X → Type 0) (xs ys : List X) (x y : X) → AllLater R (xs ++ ys) → Contains xs x → Contains ys y → R x y
+pub later_across : {X : Type 0} (R : X → X → Type 0) (xs ys : List X) (x y : X) → AllLater R (xs ++ ys) → Contains xs x → Contains ys y → R x y
 later_across R [] ys x y all at_x at_y = absurd (no_member [] x refl at_x)
 later_across R (z ∷ xs) ys x y all at_x at_y =
     elim (member_cases z xs x at_x) [
@@ -181,7 +181,7 @@ rises_here true below kept is = absurd cc
 rises_here false true kept is = refl
 rises_here false false kept is = absurd cc
 
-climb_from : (pair : StoredPair) (pairs : List StoredPair) → ShareKeys pair.key pairs
+pub climb_from : (pair : StoredPair) (pairs : List StoredPair) → ShareKeys pair.key pairs
     → ((two : StoredPair × StoredPair) → Contains (neighbours_from pair pairs) two → is_out_of_order two ≡ false) → Climb pair.key pairs
 climb_from pair [] shares kept = tt
 climb_from pair (next ∷ pairs) shares kept = (
@@ -194,7 +194,7 @@ climb_step : (key : List ℕ) (pair : StoredPair) (below : List ℕ) (b : Bool) 
 climb_step key pair below true is parts lower = subst (λ k. less below k ≡ true) (parts.0 is) lower
 climb_step key pair below false is parts lower = less_trans below key pair.key lower (parts.1 is)
 
-climb_above : (below key : List ℕ) (pairs : List StoredPair) (pair : StoredPair) → less below key ≡ true → Climb key pairs → Contains pairs pair
+pub climb_above : (below key : List ℕ) (pairs : List StoredPair) (pair : StoredPair) → less below key ≡ true → Climb key pairs → Contains pairs pair
     → less below pair.key ≡ true
 climb_above below key [] pair lower climb at = absurd (no_member [] pair refl at)
 climb_above below key (next ∷ pairs) pair lower climb at =
@@ -377,7 +377,7 @@ apart_after earlier (pair ∷ pairs) none one other at_one at =
       | inr later ↦ apart_after (pair ∷ earlier) pairs parts.1 one other (later_member pair earlier one at_one) later
     ]
 
-later_apart : (earlier pairs : List StoredPair) → repeated_after earlier pairs ≡ []
+pub later_apart : (earlier pairs : List StoredPair) → repeated_after earlier pairs ≡ []
     → AllLater (λ (a b : StoredPair). bytes_eq a.key b.key ≡ false) pairs
 later_apart earlier [] none = tt
 later_apart earlier (pair ∷ pairs) none =
@@ -440,7 +440,7 @@ insert_rises pair (other ∷ others) apart rise =
           rise,
         )
 
-by_key_rises : (pairs : List StoredPair) → AllLater (λ (a b : StoredPair). bytes_eq a.key b.key ≡ false) pairs → KeysRise (by_key pairs)
+pub by_key_rises : (pairs : List StoredPair) → AllLater (λ (a b : StoredPair). bytes_eq a.key b.key ≡ false) pairs → KeysRise (by_key pairs)
 by_key_rises [] apart = tt
 by_key_rises (pair ∷ pairs) apart =
     insert_rises pair (by_key pairs) (λ other at. apart.0 other (of_by_key pairs other at)) (by_key_rises pairs apart.1)

@@ -13,4 +13,5 @@ pub mod SectionLemmas
 pub mod DumpLemmas
 pub use Rattle.bdb_databases.proofs.of_any_order as of_any_order
 pub use Rattle.bdb_databases.proofs as of_databases
+pub use Rattle.bdb_settle.proofs as of_settle
 pub use Rattle.bdb_text.proofs as of_text

@@ -99,7 +99,7 @@ recno_ordered settings file root =
     (later_enumerate 1 (tree_entries file root)))
 
 -- the rows of a recno
-recno_rows : (file : File) (meta : BtreeMeta) (p : ℕ) (b : Bool) → b ≡ true
+pub recno_rows : (file : File) (meta : BtreeMeta) (p : ℕ) (b : Bool) → b ≡ true
     → holding (cond b (recno_contents file meta p) (btree_contents file meta p)) ≡ []
     → holding (recno_contents file meta p) ≡ []
 recno_rows file meta p true is none = none

@@ -22,7 +22,7 @@ use Rattle.bdb_law_kept.proofs.LaterLemmas.{later_map, later_other}
 
 -- Pairs put in turn.
 
-abbrev Stays : Settings → Pair → Pair → Type 0
+abbrev pub Stays : Settings → Pair → Pair → Type 0
 Stays settings a b = stays (stands_before settings) (keeps_data settings) b a ≡ true
 
 -- pairs that stay behind those that are done, and behind each other, are put at the end in turn
@@ -77,7 +77,7 @@ same_keys ab ba sorts keeps m m' ahead back one apart (inr (sorted, less)) = gri
 not_both : (dup sorted records : Bool) → (dup && not sorted && not records) ≡ true → (sorted && not records) ≡ false
 not_both dup sorted records kept = grind (arith, kept)
 
-comes_stays : (settings : Settings) (a b : ListKey × List ℕ) → ComesBefore settings a b → Stays settings (pair_out a) (pair_out b)
+pub comes_stays : (settings : Settings) (a b : ListKey × List ℕ) → ComesBefore settings a b → Stays settings (pair_out a) (pair_out b)
 comes_stays settings a b (inl below) =
     either_way (key_less (key_out a.0) (key_out b.0)) (key_less (key_out b.0) (key_out a.0)) (sorts_data settings) (keeps_data settings)
     (less a.1 b.1) (less b.1 a.1) (key_one_way (key_out a.0) (key_out b.0)) below
@@ -121,7 +121,7 @@ unfilled settings pair long = by_key pair.key (has_length settings) long
     by_key (Bytes bytes) b is = by_length (Bytes bytes) b is
     by_key (Number number) b is = by_length (Number number) b is
 
-all_unfilled : (settings : Settings) (pairs : List TextPair)
+pub all_unfilled : (settings : Settings) (pairs : List TextPair)
     → ((pair : ListKey × List ℕ) → Contains (map pair_in pairs) pair → HasItsLength settings pair)
     → map (loaded_pair settings) pairs ≡ map pair_out (map pair_in pairs)
 all_unfilled settings [] long = refl
@@ -134,7 +134,7 @@ listed_out : (pair : ListKey × List ℕ) → (listed_key (pair_out pair).key, (
 listed_out (BytesKey bytes, value) = refl
 listed_out (NumberKey number, value) = refl
 
-all_listed : (list : List (ListKey × List ℕ)) → listed (map pair_out list) ≡ list
+pub all_listed : (list : List (ListKey × List ℕ)) → listed (map pair_out list) ≡ list
 all_listed [] = refl
 all_listed (pair ∷ list) =
     ap (λ p. p ∷ listed (map pair_out list)) (listed_out pair) ∙ ap (λ ps. pair ∷ ps) (all_listed list)

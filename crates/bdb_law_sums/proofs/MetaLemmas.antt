@@ -139,7 +139,7 @@ named_inside image p forest none at =
     only (Some q) at = ap Some (only_member q p at)
 
 -- a metadata page above page 0 is named once
-named_once : (file : File) (p : ℕ) → master_faults file ≡ [] → p ≤ file.last → 1 ≤ p → is_meta (page_at file p) ≡ true → length (naming file p) ≡ 1
+pub named_once : (file : File) (p : ℕ) → master_faults file ≡ [] → p ≤ file.last → 1 ≤ p → is_meta (page_at file p) ≡ true → length (naming file p) ≡ 1
 named_once file p none low above is =
     let fail = rows_fail file p none low in
     let kind : is_named_kind file p ≡ true = and_from (nat_lt 0 p) (is_meta (page_at file p)) (lt-ltb 0 p above) is in

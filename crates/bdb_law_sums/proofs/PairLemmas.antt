@@ -104,7 +104,7 @@ no_spare_pairs file p (Hash page) entries spare =
 no_spare_pairs file p (Leaf page) entries spare = absurd cc
 no_spare_pairs file p page entries spare = refl
 
-spare_weighs_nothing : (image : List ℕ) (weight : StoredPair → ℕ) (p : ℕ) → p ≤ (file_of image).last → is_spare (page_at (file_of image) p) ≡ true
+pub spare_weighs_nothing : (image : List ℕ) (weight : StoredPair → ℕ) (p : ℕ) → p ≤ (file_of image).last → is_spare (page_at (file_of image) p) ≡ true
     → pairs_weight (file_of image) weight p ≡ 0
 unfolding pairs_of
 spare_weighs_nothing image weight p low is =

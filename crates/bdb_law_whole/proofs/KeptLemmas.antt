@@ -65,7 +65,7 @@ pages_weigh image weight f g sound none same =
 
 -- Above the last page nothing is given.
 
-nothing_stored : (image : List ℕ) (p : ℕ) → IsStructured image → (file_of image).last < p → stored_on (guessed image) p ≡ []
+pub nothing_stored : (image : List ℕ) (p : ℕ) → IsStructured image → (file_of image).last < p → stored_on (guessed image) p ≡ []
 nothing_stored image p sound past =
     ap (flat_map (stored_pair (guessed image)))
     (seen_alike item_pairs image p sound.forest sound.kind refl ∙ ap item_pairs (past_last image p past))
@@ -87,7 +87,7 @@ nothing_loose image p sound past =
 abbrev weight_of : {X : Type 0} → (X → Bool) → X → ℕ
 weight_of test x = if test x then 1 else 0
 
-structured : (image : List ℕ) → IsSoundForest image → IsStructured image
+pub structured : (image : List ℕ) → IsSoundForest image → IsStructured image
 structured image sound =
     record { forest = sound.forest; structure = sound.structure; kind = λ queue. sound.kind (kind_is image ∙ queue) }
 

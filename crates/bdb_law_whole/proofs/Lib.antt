@@ -7,3 +7,8 @@ pub mod PageLemmas
 pub mod PairLemmas
 pub mod SetLemmas
 pub mod TakenLemmas
+pub use Rattle.bdb_survey.proofs.of_format as of_format
+pub use Rattle.bdb_survey.proofs.of_graph as of_graph
+pub use Rattle.bdb_survey.proofs.of_image as of_image
+pub use Rattle.bdb_survey.proofs.of_law_sums as of_law_sums
+pub use Rattle.bdb_survey.proofs as of_survey

@@ -98,11 +98,11 @@ tail_zero image p forest past there =
     no_codes_at 1 (head.last + 1) (head.pages - (head.last + 1)) p (λ q. holding (tail_rows head image q)) none (omega arith) (omega arith) in
     not-false (is_zero (page_bytes head image p)) (all_fail (tail_rows head image p) codes).0
 
-salvaged_zero : (order : Order) (last : ℕ) (page : List ℕ) → is_zero page ≡ true → salvaged_page order last page ≡ Zero
+pub salvaged_zero : (order : Order) (last : ℕ) (page : List ℕ) → is_zero page ≡ true → salvaged_page order last page ≡ Zero
 salvaged_zero order last page zeros =
     both_none order last page (zero_code order (four_at order page 8) page zeros) (zero_none order last page zeros) ∙ zero_page order page zeros
 
-above : (image : List ℕ) (p : ℕ) → IsForest image → (file_of image).last < p
+pub above : (image : List ℕ) (p : ℕ) → IsForest image → (file_of image).last < p
     → (page_at (guessed image) p ≡ Zero) ⊎ (page_at (guessed image) p ≡ NoType)
 above image p forest past =
     let head : Head = head_of image in

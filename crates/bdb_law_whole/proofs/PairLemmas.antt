@@ -46,7 +46,7 @@ live_list file (item ∷ items) each =
       | false ↦ refl
     ]))
 
-entries_whole : (image : List ℕ) (p : ℕ) (page : Page) (item : Item) → IsStructured image → p ≤ (file_of image).last
+pub entries_whole : (image : List ℕ) (p : ℕ) (page : Page) (item : Item) → IsStructured image → p ≤ (file_of image).last
     → page_at (file_of image) p ≡ page
     → Contains (entries_in page) item → whole_values (file_of image) item.content ≡ value_of (file_of image) item.content ∷ []
 entries_whole image p (RecnoLeaf page) item sound low is at =

@@ -73,7 +73,7 @@ abstract_level order page =
       | false ↦ typed_level order page (page_type (byte_at page 25))
     ]
 
-level_fits : (image : List ℕ) (p : ℕ) → AreBytes image → p ≤ (file_of image).last → level (file_of image) p ≤ 255
+pub level_fits : (image : List ℕ) (p : ℕ) → AreBytes image → p ≤ (file_of image).last → level (file_of image) p ≤ 255
 level_fits image p are low =
     let bytes : List ℕ = page_bytes (head_of image) image p in
     let same : level (file_of image) p ≡ (header_in (abstract_page (head_of image).order bytes)).level =

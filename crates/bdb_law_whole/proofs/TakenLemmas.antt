@@ -35,7 +35,7 @@ start_is image items i root set sound has below names =
     ∙ (ap (start_in (guessed image)) names ∙ set.start))
 
 -- a leaf of a set is taken
-taken_all : (image : List ℕ) (q : ℕ) → IsStructured image → AreBytes image → IsOfSet (file_of image) q → is_taken (guessed image) q ≡ true
+pub taken_all : (image : List ℕ) (q : ℕ) → IsStructured image → AreBytes image → IsOfSet (file_of image) q → is_taken (guessed image) q ≡ true
 unfolding is_taken set_starts
 taken_all image q sound are of =
     let set : IsWholeSet image of.root = set_whole image of.root sound are of.set in
@@ -96,7 +96,7 @@ start_of_pair image p i s sound are low below at =
     (start.root, fits, ap (chain (guessed image)) (sym same) ∙ set.row)
 
 -- a page that is taken is a leaf of a set
-taken_only : (image : List ℕ) (q : ℕ) → IsStructured image → AreBytes image → is_taken (guessed image) q ≡ true → IsOfSet (file_of image) q
+pub taken_only : (image : List ℕ) (q : ℕ) → IsStructured image → AreBytes image → is_taken (guessed image) q ≡ true → IsOfSet (file_of image) q
 unfolding is_taken set_starts
 taken_only image q sound are is =
     let leaf = any_member (λ leaf. leaf == q) (flat_map (chain (guessed image)) (set_starts (guessed image))) is in

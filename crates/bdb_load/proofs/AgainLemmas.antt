@@ -2,16 +2,16 @@
 use Rattle.std.proofs.Common.{◌≡◌, ℕ, Bool, true, List, [], ◌∷◌, map, refl, sym, ◌∙◌, ap, subst}
 use Rattle.std.specs.List.{AllZip}
 use Rattle.std.proofs.lemmas.Bool.{and_parts}
-use Rattle.bdb_mkfile.specs.of_format.declared.kinds.Order.{Order}
-use Rattle.bdb_mkfile.specs.of_format.declared.settings.Settings.{Settings}
-use Rattle.bdb_mkfile.specs.of_format.Terms.{Database, ascends, ascends_from, databases, file_of, head_of, less}
-use Rattle.bdb_mkfile.specs.of_text_format.declared.sections.Section.{Section}
-use Rattle.bdb_mkfile.specs.of_text_format.Terms.{header_lines}
-use Rattle.bdb_mkfile.proofs.of_mkleaves.UnitLemmas.{ascends_later}
-use Rattle.bdb_law_kept.specs.Dumps.{AreKept, AreKeptAs, IsLoadedOf, bytes_of_section}
-use Rattle.bdb_law_kept.proofs.DumpLemmas.{dumps_are_kept, loaded_dumps_are_the_same}
+use Rattle.bdb_onto.specs.of_mkfile.of_format.declared.kinds.Order.{Order}
+use Rattle.bdb_onto.specs.of_mkfile.of_format.declared.settings.Settings.{Settings}
+use Rattle.bdb_onto.specs.of_mkfile.of_format.Terms.{Database, ascends, ascends_from, databases, file_of, head_of, less}
+use Rattle.bdb_onto.specs.of_mkfile.of_text_format.declared.sections.Section.{Section}
+use Rattle.bdb_onto.specs.of_mkfile.of_text_format.Terms.{header_lines}
+use Rattle.bdb_onto.proofs.of_mkfile.of_mkleaves.UnitLemmas.{ascends_later}
+use Rattle.bdb_onto.specs.of_law_kept.Dumps.{AreKept, AreKeptAs, IsLoadedOf, bytes_of_section}
+use Rattle.bdb_onto.proofs.of_law_kept.DumpLemmas.{dumps_are_kept, loaded_dumps_are_the_same}
 use Rattle.bdb_load.specs.Again.{DumpsLoadToThemselves, whole_dump}
-use Rattle.bdb_mkfile.specs.Builds.{AreLoadedAs, IsLoadedAs, in_file_of, in_name_order, name_of, put_named}
+use Rattle.bdb_onto.specs.of_mkfile.Builds.{AreLoadedAs, IsLoadedAs, in_file_of, in_name_order, name_of, put_named}
 
 -- sections that stand in the order of their names
 
@@ -52,7 +52,7 @@ loaded_of print image built first (section ∷ sections) (database ∷ all) (oth
     )
 
 -- all databases that are loaded of sections, in a file of the page size and the order of the first
-all_loaded : (print : Bool) (image built : List ℕ) (sections : List Section) (all : List Database) → (all ≡ [] → ⊥)
+pub all_loaded : (print : Bool) (image built : List ℕ) (sections : List Section) (all : List Database) → (all ≡ [] → ⊥)
     → AreKeptAs print image all sections → ascends (map bytes_of_section sections) ≡ true → AreLoadedAs built sections
     → AllZip (IsLoadedOf print built) sections (databases (file_of built))
 all_loaded print image built [] [] some kept rise loads = absurd (some refl)

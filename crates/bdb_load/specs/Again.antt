@@ -1,13 +1,13 @@
 -- A dump of a sound file, loaded and dumped, is the same text. Source: docs/FORMAT.md, "Dump text" and "Loading".
 use Rattle.std.specs.Prelude.{◌≡◌, ℕ, Bool, List, [], None}
-use Rattle.bdb_mkfile.specs.of_format.Terms.{databases, file_of}
-use Rattle.bdb_mkfile.specs.of_text_format.declared.sections.Section.{Section}
-use Rattle.bdb_mkfile.specs.of_text_format.Terms.{Reads, dump_text}
-use Rattle.bdb_mkfile.specs.of_settle.LoadErrors.{load_error}
-use Rattle.bdb_law_kept.specs.of_text.WrittenLaw.{AreBytes}
-use Rattle.bdb_law_kept.specs.Dumps.{HasNoEmptyRecords}
-use Rattle.bdb_law_kept.specs.Kept.{IsSound}
-use Rattle.bdb_mkfile.specs.Builds.{Builds}
+use Rattle.bdb_onto.specs.of_mkfile.of_format.Terms.{databases, file_of}
+use Rattle.bdb_onto.specs.of_mkfile.of_text_format.declared.sections.Section.{Section}
+use Rattle.bdb_onto.specs.of_mkfile.of_text_format.Terms.{Reads, dump_text}
+use Rattle.bdb_onto.specs.of_mkfile.of_settle.LoadErrors.{load_error}
+use Rattle.bdb_onto.specs.of_law_kept.of_text.WrittenLaw.{AreBytes}
+use Rattle.bdb_onto.specs.of_law_kept.Dumps.{HasNoEmptyRecords}
+use Rattle.bdb_onto.specs.of_law_kept.Kept.{IsSound}
+use Rattle.bdb_onto.specs.of_mkfile.Builds.{Builds}
 
 -- the text of all databases of an image
 abbrev pub whole_dump : Bool → List ℕ → List ℕ

@@ -1,9 +1,9 @@
 //! What follows from the definitions alone.
-ghost use Rattle.bdb_mkfile.specs.of_law_join.Alone.{JoinsAlone};
-ghost use Rattle.bdb_mkfile.specs.of_law_join.Masters.{JoinsAll};
-ghost use Rattle.bdb_mkfile.specs.of_law_join.Queues.{QueuesAreSound};
+ghost use Rattle.bdb_onto.specs.of_mkfile.of_law_join.Alone.{JoinsAlone};
+ghost use Rattle.bdb_onto.specs.of_mkfile.of_law_join.Masters.{JoinsAll};
+ghost use Rattle.bdb_onto.specs.of_mkfile.of_law_join.Queues.{QueuesAreSound};
 ghost use Rattle.bdb_load.specs.Again.{DumpsLoadToThemselves};
-ghost use Rattle.bdb_mkfile.specs.Loading.{ReadSectionsAreLoadable};
+ghost use Rattle.bdb_onto.specs.of_mkfile.Loading.{ReadSectionsAreLoadable};
 
 /// The sections that a text is read as are such that `load` takes them.
 pub fn read_sections_are_loadable()

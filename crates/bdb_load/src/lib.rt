@@ -4,5 +4,4 @@
 
 pub mod laws;
 
-pub use bdb_mkfile::{LoadError, in_name_order, load, need, settle};
-pub use bdb_onto::{Base, load_onto, settle_onto};
+pub use bdb_onto::{Base, LoadError, in_name_order, load, load_onto, need, settle, settle_onto};

@@ -48,7 +48,7 @@ fn put_back(alloc: Global, sections: Vec<Section>) -> Result<Sections, AllocErro
     Ok(all)
 }
 
-/// Sections in the byte order of their names. They are moved, not copied.
+/// Sections in the byte order of their names. They are moved, not copied. An error means that memory ran out.
 pub fn in_name_order(alloc: Global, sections: Sections) -> Result<Sections, AllocError>
     ensures { IfOk result (λ all. all ≡ fold with_named [] sections) }
 {

@@ -58,7 +58,8 @@ fn bits_for(size: usize, cost: u64) -> Result<u32, AllocError>
     Err(AllocError)
 }
 
-/// How many bits the number of a bucket has in the table of a list, by what its keys take.
+/// How many bits the number of a bucket has in the table of a list, by what its keys take. An error means that memory
+/// ran out.
 pub fn table_bits(size: usize, list: PairSlice<'_>) -> Result<u32, AllocError>
     requires legal { IsTrue (is_page_size size) }
     requires keys { All (λ pair. HasBytes pair.key) (pairs_of list) }

@@ -11,7 +11,7 @@ use std::alloc::{AllocError, Global};
 impl Leaves {
     /// Lays the levels over the leaves so that the root stands where the first leaf stood, and answers it: of several leaves the
     /// first is moved behind all pages. Items over the leaves say how many pairs or entries these have, where that is counted,
-    /// and else 0.
+    /// and else 0. An error means that memory ran out.
     pub fn finish(
         mut self,
         alloc: Global,

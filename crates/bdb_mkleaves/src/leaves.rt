@@ -24,7 +24,7 @@ pub struct Leaves {
 }
 
 impl Leaves {
-    /// One leaf without entries, behind all pages.
+    /// One leaf without entries, behind all pages. An error means that memory ran out.
     pub fn start(
         alloc: Global,
         pages: &mut Pages,

@@ -49,7 +49,7 @@ fn fill_set(
 }
 
 /// Builds the tree of a key's data, behind all pages, and answers its root. With `sorted` the data ascend, and the items over the
-/// leaves have the first datum of each.
+/// leaves have the first datum of each. An error means that memory ran out.
 pub fn build_set(
     alloc: Global,
     pages: &mut Pages,
@@ -97,7 +97,7 @@ impl Leaves {
 
 impl Leaves {
     /// Puts a key with its data, one at least, after those that are there: on one leaf whole, or in a tree of their own,
-    /// which is sorted where that is asked.
+    /// which is sorted where that is asked. An error means that memory ran out.
     pub fn push_keyed(
         &mut self,
         alloc: Global,

@@ -42,6 +42,7 @@ pub struct TreeBuilder {
 
 impl TreeBuilder {
     /// A tree without units: one leaf, behind all pages. The page size and the order of the settings are those of the pages.
+    /// An error means that memory ran out.
     pub fn start(
         alloc: Global,
         pages: &mut Pages,

@@ -57,7 +57,7 @@ fn unsorted_pages(size: usize, values: Values<'_>) -> u128
     open.tree_pages()
 }
 
-/// The leaves of the tree of a key's data, with the levels over them.
+/// The leaves of the tree of a key's data, with the levels over them. An error means that memory ran out.
 pub fn data_pages(
     alloc: Global,
     size: usize,

@@ -51,6 +51,7 @@ fn sections_pages(alloc: Global, size: u32, sections: &[Section]) -> Result<u128
 
 /// How many pages loading needs: those of the file that is made of the sections once their records are filled up. The page size is that
 /// of the first section; where that has a name, each has one, and there is a master. No record is filled up for that.
+/// An error means that memory ran out.
 pub fn filled_need(alloc: Global, sections: &Sections) -> Result<u128, AllocError>
     requires { AreSettled (map filled_section sections.now) }
     ensures { IfOk result (λ pages. pages ≡ need_of (map filled_section sections.now)) }
@@ -69,7 +70,7 @@ pub fn filled_need(alloc: Global, sections: &Sections) -> Result<u128, AllocErro
 }
 
 /// How many pages loading needs: those of the file that is made of the sections. The page size is that of the first section; where
-/// that has a name, each has one, and there is a master.
+/// that has a name, each has one, and there is a master. An error means that memory ran out.
 pub fn need(alloc: Global, sections: &Sections) -> Result<u128, AllocError>
     requires { AreSettled sections.now }
     ensures { IfOk result (λ pages. pages ≡ need_of sections.now) }

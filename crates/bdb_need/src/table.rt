@@ -57,6 +57,7 @@ fn all_pages(
 }
 
 /// How many pages the table of a list has, its metadata not counted: those of its buckets, the chains and the trees of data.
+/// An error means that memory ran out.
 pub fn table_pages(alloc: Global, settings: &Settings, list: &TextPairs) -> Result<u128, AllocError>
     requires legal { IsTrue (is_page_size settings.now.page_size) }
     requires list { IsTableList settings.now (unlined_pairs list.now) }

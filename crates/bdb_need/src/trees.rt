@@ -12,7 +12,7 @@ use bdb_mkhash::{Kind, Settings, TextPairs};
 use std::alloc::{AllocError, Global};
 
 /// How many pages the tree of a list has once its records are filled up, its root and the chains and trees of its data among them. No
-/// record is filled up for that.
+/// record is filled up for that. An error means that memory ran out.
 pub fn filled_tree_pages(
     alloc: Global,
     settings: &Settings,
@@ -32,7 +32,8 @@ pub fn filled_tree_pages(
     }
 }
 
-/// How many pages the tree of a list has, its root and the chains and trees of its data among them.
+/// How many pages the tree of a list has, its root and the chains and trees of its data among them. An error means
+/// that memory ran out.
 pub fn tree_pages(alloc: Global, settings: &Settings, list: &TextPairs) -> Result<u128, AllocError>
     requires kind { IsTreeKind settings.now.kind }
     requires legal { IsTrue (is_page_size settings.now.page_size) }

@@ -8,5 +8,6 @@ pub mod JoiningLemmas
 pub mod NothingLemmas
 pub mod OntoLemmas
 pub mod SearchLemmas
+pub use Rattle.bdb_law_kept.proofs as of_law_kept
 pub use Rattle.bdb_mkfile.proofs as of_mkfile
 pub use Rattle.bdb_law_kept.proofs.of_text as of_text

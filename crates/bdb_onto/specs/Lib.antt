@@ -4,6 +4,7 @@ pub mod Laws
 pub mod Onto
 pub mod Samples
 pub mod Search
+pub use Rattle.bdb_law_kept.specs as of_law_kept
 pub use Rattle.bdb_mkfile.specs.of_law_sections as of_law_sections
 pub use Rattle.bdb_mkfile.specs as of_mkfile
 pub use Rattle.bdb_mkfile.specs.of_need as of_need

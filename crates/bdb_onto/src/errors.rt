@@ -78,7 +78,7 @@ fn with_section(
     with_pairs(first, &settings, section.pairs.as_slice())
 }
 
-// Adds a place, where memory was wanting for none before, and answers whether it is wanting.
+// Adds a place, where memory ran out for none before, and answers whether it ran out.
 fn push_place(places: &mut Vec<Option<usize>>, wanting: bool, place: Option<usize>) -> bool
     ensures before { result ≡ false → wanting ≡ false }
     ensures places { result ≡ false → places.new.items ≡ places.old.items ++ place ∷ [] }
@@ -89,7 +89,7 @@ fn push_place(places: &mut Vec<Option<usize>>, wanting: bool, place: Option<usiz
     places.push(place).is_err()
 }
 
-// The places of partners, where memory isn't wanting: an error of any section comes before that.
+// The places of partners, where memory doesn't run out: an error of any section comes before that.
 fn placed(
     first: Option<LoadError>,
     places: Vec<Option<usize>>,
@@ -107,7 +107,7 @@ fn placed(
 }
 
 /// The places in a base of the partners of sections, each of which is sought once. An error is the first of the sections on the base; where there is none,
-/// memory may be wanting.
+/// memory may have run out.
 pub(crate) fn partner_places(
     alloc: Global,
     base: &Base,

@@ -10,5 +10,5 @@ mod partners;
 
 pub use base::Base;
 pub use bdb_law_kept::{TextError, read_dump};
-pub use bdb_mkfile::{LoadError, load};
+pub use bdb_mkfile::{LoadError, in_name_order, load, need, settle};
 pub use onto::{load_onto, settle_onto};

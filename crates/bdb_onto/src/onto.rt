@@ -15,7 +15,7 @@ use bdb_mkfile::{LoadError, Sections, filled, in_name_order, load_sound, ordered
 use std::alloc::Global;
 
 /// What loading sections onto a base gives: its databases in the order of their names, with their lists, and without lines. An error is the
-/// first of the sections on the base; where there is none, memory may be wanting.
+/// first of the sections on the base; where there is none, memory may have run out.
 pub fn settle_onto(alloc: Global, base: Base, sections: Sections) -> Result<Sections, LoadError>
     requires base { IsBase base }
     requires fit { AreLoadable sections }

@@ -15,7 +15,7 @@ use Rattle.bdb_graph.specs.of_format.Terms.{is_page_size, is_tree_type, is_zero,
 use Rattle.bdb_graph.specs.of_format.Terms.{page_type, piece_in, pieces_of, refs, targets_in, targets_of, two_at, type_in}
 use Rattle.bdb_graph.proofs.of_format.GraphLemmas.{IsOwner, each_fits, is_owner, type_fits}
 use Rattle.bdb_graph.proofs.of_format.MemberLemmas.{first_member, in_filter}
-use Rattle.bdb_graph.proofs.of_format.PageLemmas.{later_type}
+use Rattle.bdb_graph.proofs.of_format.PageLemmas.{chain_room, later_type}
 use Rattle.bdb_graph.proofs.of_format.VerdictLemmas.{AllFail, none_is_first_row}
 use Rattle.bdb_graph.proofs.ReachLemmas.{AllUpTo, few_distinct}
 use Rattle.bdb_graph.specs.Forest.{AllDistinct, IsWayDown, Names}
@@ -75,10 +75,6 @@ unfolding page_code
 code_none order p page some none = body_none (is_zero page) (first_row (identity_rows order page p is_tree_type))
     (body_code order page (page_type (byte_at page 25))) some none
 
-room_of : (past : Bool) → cond {A = Option ℕ} past (Some 25) None ≡ None → past ≡ false
-room_of true none = absurd cc
-room_of false none = refl
-
 -- the data of a page of type 7 lie on it
 has_room : (image : List ℕ) (p : ℕ) → IsForest image → 1 ≤ p → p ≤ (head_of image).last → is_zero (page_bytes (head_of image) image p) ≡ false
     → byte_at (page_bytes (head_of image) image p) 25 ≡ 7
@@ -91,7 +87,7 @@ has_room image p forest low high some seven =
     let code : page_code head.order p page ≡ None = other_formed head p page kind formed (λ is. omega arith) (λ is. omega arith) in
     let body : body_code head.order page (page_type 7) ≡ None = ap (λ b. body_code head.order page (page_type b)) (sym seven)
     ∙ code_none head.order p page some code in
-    let room : 26 + two_at head.order page 22 ≤ length page = ltb-false (length page) (26 + two_at head.order page 22) (room_of _ body) in
+    let room : 26 + two_at head.order page 22 ≤ length page = chain_room head.order page body in
     omega (arith, room, length_is image p forest high)
 
 -- References to pages of chains.

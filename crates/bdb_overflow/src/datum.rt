@@ -60,7 +60,7 @@ impl<'a> Datum<'a> {
         }
     }
 
-    /// The bytes of the value in one list of their own.
+    /// The bytes of the value in one list of their own. An error means that memory ran out.
     pub fn copy(&self, alloc: Global) -> Result<Bytes, AllocError>
         ensures { IfOk result (λ bytes. bytes ≡ datum_seen self.now) }
     {
@@ -94,7 +94,8 @@ fn put_pieces(pieces: Pieces<'_>, room: &mut Vec<u8>) -> Result<(), AllocError>
     Ok(())
 }
 
-/// The bytes of a value: those of its page, or of its chain, which then lie in the room.
+/// The bytes of a value: those of its page, or of its chain, which then lie in the room. An error means that memory
+/// ran out.
 pub fn bytes_in<'r>(value: Datum<'r>, room: &'r mut Vec<u8>) -> Result<&'r [u8], AllocError>
     ensures { IfOk result (λ bytes. bytes.now ≡ datum_seen value.entry) }
 {

@@ -47,6 +47,7 @@ impl<'a> Model for Key<'a> {
 }
 
 impl<'a> Key<'a> {
+    /// A value as a key.
     pub fn of(datum: Datum<'a>) -> Key<'a>
         ensures { result ≡ datum_seen datum.entry }
     {

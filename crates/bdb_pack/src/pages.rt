@@ -56,7 +56,7 @@ impl Pages {
         Pages::over(Vec::new(alloc), page_size, order)
     }
 
-    /// No pages yet, with room for so many bytes where memory isn't wanting: so they aren't moved while they grow.
+    /// No pages yet, with room for so many bytes where memory doesn't run out: so they aren't moved while they grow.
     pub fn with_room(alloc: Global, page_size: u32, order: Order, room: usize) -> Pages
         requires legal { IsTrue (is_page_size page_size) }
         ensures pages { result.pages ≡ [] }
@@ -124,7 +124,7 @@ impl Pages {
         value.len() <= left * (self.size() - 26)
     }
 
-    /// A zero page at the end, and its number.
+    /// A zero page at the end, and its number. An error means that memory ran out, and leaves the pages as they were.
     pub fn add(&mut self) -> Result<u32, AllocError>
         requires few { length self.old.pages < 2 ^ 21 }
         ensures number { IfOk result (λ number. number ≡ length self.old.pages) }
@@ -137,7 +137,8 @@ impl Pages {
         Ok(number)
     }
 
-    /// A copy of a page at the end, and its number.
+    /// A copy of a page at the end, and its number. An error means that memory ran out, and leaves the pages as they
+    /// were.
     pub fn add_copy(&mut self, number: u32) -> Result<u32, AllocError>
         requires number { number < length self.old.pages }
         requires few { length self.old.pages < 2 ^ 21 }

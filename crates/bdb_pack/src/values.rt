@@ -82,7 +82,8 @@ fn push_piece(pages: &mut Pages, previous: u32, rest: &[u8]) -> Result<(u32, usi
     Ok((number, n))
 }
 
-/// Stores a value: a short one stands on the page of its item, a longer one in a chain of its own.
+/// Stores a value: a short one stands on the page of its item, a longer one in a chain of its own. An error means
+/// that memory ran out.
 pub fn push_value(pages: &mut Pages, value: &[u8]) -> Result<Stored, AllocError>
     requires short { length value.now < 2 ^ 32 }
     requires first { 0 < length pages.old.pages }

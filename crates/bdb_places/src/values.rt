@@ -18,12 +18,14 @@ impl<'a> Values<'a> {
         Values { bytes, places }
     }
 
+    /// How many values there are.
     pub fn len(&self) -> usize
         ensures { result ≡ length (values_seen self.now) }
     {
         self.places.len()
     }
 
+    /// Whether there are none.
     pub fn is_empty(&self) -> bool
         ensures { result ≡ (length (values_seen self.now) == 0) }
     {

@@ -228,7 +228,7 @@ nothing_built max given image reading sections read are none =
     (subst (λ bytes. AreBuilt max (sections_in (record { guess = reading.guess; image = bytes })) (Err NoMeta)) read.image_is
     (subst (λ all. AreBuilt max all (Err NoMeta)) are (none_built max sections none)))
 
--- memory was wanting
+-- memory ran out
 wanting : (max : ℕ) (sections : List Section) → AreBuilt max sections (Err Memory)
 wanting max [] = tt
 wanting max (first ∷ others) = tt

@@ -1,107 +1,43 @@
 -- A file in which no pair replaces another has room for all data that it keeps.
-use Rattle.std.proofs.Common.{◌≡◌, ℕ, zero, suc, ◌+◌, ◌-◌, ◌*◌, ◌<◌, ◌≤◌, Bool, true, false, cond, List, [], ◌∷◌, ◌++◌, length, map, Option, Some, None}
-use Rattle.std.proofs.Common.{add-mul, arith, refl, sym, ap, subst, mul-le-mul_right, ◌||◌, is_some, nat_lt, replicate}
+use Rattle.std.proofs.Common.{◌≡◌, ℕ, zero, suc, ◌+◌, ◌-◌, ◌*◌, ◌<◌, ◌≤◌, true, false, List, [], ◌∷◌, ◌++◌, length, map, Option, Some, None}
+use Rattle.std.proofs.Common.{◌∙◌, add-mul, arith, refl, sym, ap, subst, mul-le-mul_right, is_some, nat_lt, replicate}
 use Rattle.std.specs.List.{All, enumerate_from, fold, sum_by}
-use Rattle.std.specs.Str.{bytes_eq}
 use Rattle.std.proofs.lemmas.Bool.{le-ltb, lt-ltb}
 use Rattle.std.proofs.lemmas.List.Elements.{All-append, All-cons, All-head, All-nil, All-tail, All-weaker}
 use Rattle.std.proofs.lemmas.List.Sums.{sum_by-append, sum_by-cons}
-use Rattle.bdb_model.specs.of_format.declared.kinds.Kind.TheVariants.{Btree, Recno}
+use Rattle.bdb_model.specs.of_format.declared.kinds.Kind.{Kind}
+use Rattle.bdb_model.specs.of_format.declared.kinds.Kind.TheVariants.{Btree, Recno, Hash, Queue}
+use Rattle.bdb_model.specs.of_format.declared.settings.Settings.{Settings}
 use Rattle.bdb_model.specs.of_format.Terms.{File, is_page_size}
 use Rattle.bdb_model.proofs.of_format.SizeLemmas.{long_page}
 use Rattle.bdb_model.specs.of_text_format.declared.pairs.Pair.{Pair}
 use Rattle.bdb_model.specs.of_text_format.declared.pairs.Key.TheVariants.{Number}
 use Rattle.bdb_model.specs.of_text_format.declared.sections.Section.{Section}
-use Rattle.bdb_model.specs.of_text_format.Terms.{number_of}
-use Rattle.bdb_mkfile.specs.of_settle.Loaded.{loaded, loaded_pair, loaded_section, put, stands_before, unlined_pairs, unnumbered, with_loaded}
-use Rattle.bdb_mkfile.specs.of_mkleaves.Units.{TreeUnit, KeyedUnit, EntryUnit}
-use Rattle.bdb_mkfile.specs.of_mktree.Lists.{bytes_in, keyed_units, missing, onto_units, record_units}
+use Rattle.bdb_model.specs.of_text_format.Terms.{holds_records, number_of}
+use Rattle.bdb_mkfile.specs.of_settle.Loaded.{keeps_data, loaded, loaded_pair, loaded_section, put, stands_before, unlined_pairs, unnumbered, with_loaded}
+use Rattle.bdb_mkfile.specs.of_mkleaves.Spread.{tree_size}
+use Rattle.bdb_mkfile.specs.of_mkleaves.Units.{TreeUnit, EntryUnit}
+use Rattle.bdb_mkfile.specs.of_mktree.Lists.{keyed_units, missing, record_units, units_in}
 use Rattle.bdb_mkfile.specs.of_mktree.Units.{leaf_type_of}
+use Rattle.bdb_mkfile.specs.of_need.of_mkhash.Buckets.{table_units}
 use Rattle.bdb_mkfile.specs.of_need.TreePages.{tree_pages}
-use Rattle.bdb_mkfile.specs.of_need.Need.{need_of, section_pages}
+use Rattle.bdb_mkfile.specs.of_need.Need.{list_pages, need_of, section_pages, sized}
 use Rattle.bdb_mkfile.proofs.of_need.NeedLemmas.{listed_again}
 use Rattle.bdb_mkfile.specs.Builds.{image_size}
-use Rattle.bdb_rescue.specs.Text.{loose_settings, stored_settings}
+use Rattle.bdb_rescue.specs.Text.{loose_settings}
 use Rattle.bdb_rescue.specs.of_survey.declared.guess.Guess.{Guess}
 use Rattle.bdb_rescue.specs.of_survey.Salvage.{loose, salvaged_file, stored}
 use Rattle.bdb_model.specs.declared.shape.Duplicates.TheVariants.{No, Unsorted, Sorted}
 use Rattle.bdb_model.specs.declared.shape.Shape.{Shape}
 use Rattle.bdb_model.specs.declared.shape.Shape.TheVariants.{Btree as BtreeShape, Hash as HashShape, Recno as RecnoShape}
 use Rattle.bdb_repair.specs.Laws.{ManyPairsAreTooLarge, PairsTakeRoom}
-use Rattle.bdb_repair.specs.Parts.{loose_pair, loose_pairs, loose_part, loose_section, sections_of_file, shaped_section, stored_pair, stored_pairs}
+use Rattle.bdb_repair.specs.Parts.{loose_pair, loose_pairs, loose_part, loose_section, sections_of_file, shaped_pairs, shaped_section, stored_pairs}
 use Rattle.bdb_repair.specs.Parts.{stored_section}
-use Rattle.bdb_repair.specs.Room.{datum_room, least_room, pair_room}
+use Rattle.bdb_repair.specs.Room.{datum_room, least_room, pair_room, stored_room}
+use Rattle.bdb_repair.specs.Shapes.{shaped_settings}
 use Rattle.bdb_repair.proofs.RoomLemmas.{trees_have_room, unit_room}
-
--- what the datum of a pair takes at least
-abbrev listed_room : Pair → ℕ
-listed_room pair = datum_room pair.value
-
--- a pair that is put behind others stands in the list with all of them
-put_room : (before : Pair → Pair → Bool) (pair : Pair) (list : List Pair)
-    → sum_by listed_room (put before true pair list) ≡ listed_room pair + sum_by listed_room list
-put_room before pair [] = sum_by-cons listed_room pair []
-put_room before pair (other ∷ others) = by_tests (before pair other) (before other pair) (put_room before pair others)
-  where
-    by_tests : (a b : Bool) → sum_by listed_room (put before true pair others) ≡ listed_room pair + sum_by listed_room others
-        → sum_by listed_room (cond a (pair ∷ other ∷ others) (cond (b || true) (other ∷ put before true pair others) (pair ∷ others)))
-        ≡ listed_room pair + sum_by listed_room (other ∷ others)
-    by_tests true b later = sum_by-cons listed_room pair (other ∷ others)
-    by_tests false true later =
-        let one = sum_by-cons listed_room other (put before true pair others) in let two = sum_by-cons listed_room other others in omega
-        (arith, one, two, later)
-    by_tests false false later =
-        let one = sum_by-cons listed_room other (put before true pair others) in let two = sum_by-cons listed_room other others in omega
-        (arith, one, two, later)
-
--- data that are kept as they come lose nothing
-all_room : (guess : Guess) (list : List Pair) (pairs : List (List ℕ × List ℕ))
-    → sum_by listed_room (fold (with_loaded (stored_settings guess)) list (map (loaded_pair (stored_settings guess)) (map stored_pair pairs)))
-    ≡ sum_by listed_room list + sum_by pair_room pairs
-all_room guess list [] = omega arith
-all_room guess list (pair ∷ pairs) =
-    let here : Pair = loaded_pair (stored_settings guess) (stored_pair pair) in
-    let one = put_room (stands_before (stored_settings guess)) here list in
-    let sum = sum_by-cons pair_room pair pairs in
-    let rest = all_room guess (with_loaded (stored_settings guess) list here) pairs in
-    omega (arith, one, sum, rest)
-
--- units have the data of their pairs
-unit_more : (key value : List ℕ) (units : List TreeUnit) → sum_by unit_room (onto_units key value units) ≡ datum_room value + sum_by unit_room units
-unit_more key value [] =
-    let one = sum_by-cons unit_room (KeyedUnit key (value ∷ [])) [] in let two = sum_by-cons datum_room value [] in omega (arith, one, two)
-unit_more key value (KeyedUnit other values ∷ units) = by_test (bytes_eq key other)
-  where
-    by_test : (b : Bool) → sum_by unit_room (cond b (KeyedUnit other (value ∷ values) ∷ units) (KeyedUnit key (value ∷ []) ∷ KeyedUnit other values ∷ units))
-        ≡ datum_room value + sum_by unit_room (KeyedUnit other values ∷ units)
-    by_test true =
-        let one = sum_by-cons unit_room (KeyedUnit other (value ∷ values)) units in
-        let two = sum_by-cons unit_room (KeyedUnit other values) units in
-        let three = sum_by-cons datum_room value values in
-        omega (arith, one, two, three)
-    by_test false =
-        let one = sum_by-cons unit_room (KeyedUnit key (value ∷ [])) (KeyedUnit other values ∷ units) in
-        let two = sum_by-cons datum_room value [] in omega (arith, one, two)
-unit_more key value (EntryUnit other deleted ∷ units) =
-    let one = sum_by-cons unit_room (KeyedUnit key (value ∷ [])) (EntryUnit other deleted ∷ units) in
-    let two = sum_by-cons datum_room value [] in omega (arith, one, two)
-
-keyed_room : (pairs : List Pair) → sum_by unit_room (keyed_units pairs) ≡ sum_by listed_room pairs
-keyed_room [] = refl
-keyed_room (pair ∷ pairs) =
-    let one = unit_more (bytes_in pair.key) pair.value (keyed_units pairs) in
-    let sum = sum_by-cons listed_room pair pairs in
-    omega (arith, one, sum, keyed_room pairs)
-
--- the pages of the tree of the stored pairs have room for their data
-stored_tree : (guess : Guess) (pairs : List (List ℕ × List ℕ)) → is_page_size guess.page_size ≡ true
-    → sum_by pair_room pairs ≤ tree_pages (stored_settings guess) (loaded (stored_settings guess) (stored_pairs pairs)) * guess.page_size
-stored_tree guess pairs legal =
-    let list : List Pair = loaded (stored_settings guess) (stored_pairs pairs) in
-    let units : List TreeUnit = keyed_units list in
-    let weights : sum_by unit_room units ≡ sum_by pair_room pairs =
-    let all = all_room guess [] pairs in omega (arith, keyed_room list, all) in
-    omega (arith, weights, trees_have_room (leaf_type_of Btree) guess.page_size false units (long_page guess.page_size legal))
+use Rattle.bdb_repair.proofs.ListRoomLemmas.{all_kept, keeps_no_records, keyed_room, listed_room}
+use Rattle.bdb_repair.proofs.TableRoomLemmas.{table_room, tables_have_room}
 
 -- Records.
 
@@ -181,18 +117,35 @@ loose_tree guess records legal =
 
 -- Sections.
 
--- the pages of a section have room for what those of its tree have
-stored_pages : (guess : Guess) (section : Section) (pairs : List (List ℕ × List ℕ)) → is_page_size guess.page_size ≡ true
-    → section.settings ≡ stored_settings guess → section.pairs ≡ stored_pairs pairs
-    → sum_by pair_room pairs ≤ section_pages guess.page_size (loaded_section section) * guess.page_size
-stored_pages guess section pairs legal settings are =
-    let size : ℕ = guess.page_size in
-    let list : List Pair = loaded (stored_settings guess) (stored_pairs pairs) in
-    let pages : tree_pages (stored_settings guess) (unlined_pairs (map unnumbered list)) ≡ tree_pages (stored_settings guess) list =
-    ap (tree_pages (stored_settings guess)) (listed_again list) in
-    let some : tree_pages (stored_settings guess) list ≤ section_pages size (loaded_section section) = rw (settings, are) (omega (arith, pages)) in
+-- a list has room in its pages, where it's one of pairs
+list_room : (kind : Kind) (settings : Settings) (list : List Pair) → settings.kind ≡ kind → holds_records kind ≡ false → 512 ≤ settings.page_size
+    → sum_by listed_room list ≤ list_pages kind settings list * settings.page_size
+list_room Btree settings list is none long =
+    let room : sum_by listed_room list
+    ≤ tree_size (leaf_type_of Btree) settings.page_size settings.sorted (keyed_units list) * settings.page_size =
+    omega (arith, keyed_room list, trees_have_room (leaf_type_of Btree) settings.page_size settings.sorted (keyed_units list) long) in
+    subst (λ k. sum_by listed_room list ≤ tree_size (leaf_type_of k) settings.page_size settings.sorted (units_in k list) * settings.page_size) (sym is) room
+list_room Recno settings list is none long = absurd (cc none)
+list_room Hash settings list is none long =
+    omega (arith, table_room list, tables_have_room settings.page_size settings.sorted (table_units list) long)
+list_room Queue settings list is none long = absurd (cc none)
+
+-- the pages of a section have room for all pairs, where none replaces another
+pub kept_pages : (size : ℕ) (section : Section) (pairs : List (List ℕ × List ℕ)) → is_page_size size ≡ true → keeps_data section.settings ≡ true
+    → section.pairs ≡ stored_pairs pairs → sum_by pair_room pairs ≤ section_pages size (loaded_section section) * size
+kept_pages size section pairs legal keeps are =
+    let list : List Pair = loaded section.settings section.pairs in
+    let all : sum_by listed_room list ≡ sum_by pair_room pairs =
+    ap (λ ps. sum_by listed_room (loaded section.settings ps)) are ∙ all_kept section.settings pairs keeps in
+    let again : unlined_pairs (map unnumbered list) ≡ list = listed_again list in
+    let room : sum_by listed_room list ≤ list_pages section.settings.kind (sized size section) list * size =
+    list_room section.settings.kind (sized size section) list refl (keeps_no_records section.settings keeps) (long_page size legal) in
+    let pages : list_pages section.settings.kind (sized size section) (unlined_pairs (map unnumbered list))
+    ≡ list_pages section.settings.kind (sized size section) list =
+    ap (list_pages section.settings.kind (sized size section)) again in
+    let some : list_pages section.settings.kind (sized size section) list ≤ section_pages size (loaded_section section) = omega (arith, pages) in
     let more = mul-le-mul_right size some in
-    omega (arith, stored_tree guess pairs legal, more)
+    omega (arith, all, room, more)
 
 loose_pages : (guess : Guess) (section : Section) (records : List (List ℕ)) → is_page_size guess.page_size ≡ true
     → section.settings ≡ loose_settings guess → section.pairs ≡ loose_pairs records
@@ -230,7 +183,7 @@ named_room guess pairs records legal =
     let some : section_pages size first + sum_by (section_pages size) rest ≤ need_of (first ∷ rest) = omega (arith, sum) in
     let more = mul-le-mul_right size some in
     let split = add-mul (section_pages size first) (sum_by (section_pages size) rest) size in
-    omega (arith, more, split, stored_pages guess (stored_section guess pairs) pairs legal refl refl, part_pages guess records legal)
+    omega (arith, more, split, kept_pages size (stored_section guess pairs) pairs legal refl refl, part_pages guess records legal)
 
 -- one of a section alone
 alone_pages : (size : ℕ) (section : Section) → is_some section.name ≡ false → section.settings.page_size ≡ size
@@ -240,14 +193,21 @@ alone_pages size section unnamed same =
     let only : sum_by (section_pages size) (loaded_section section ∷ []) ≡ section_pages size (loaded_section section) = omega (arith, sum) in
     rw (unnamed, same) (omega (arith, ap (λ n. n * size) only))
 
+-- one of a shape that keeps all pairs
+alone_kept : (guess : Guess) (shape : Shape) (file : File) → is_page_size guess.page_size ≡ true → keeps_data (shaped_settings guess shape) ≡ true
+    → shaped_pairs shape file ≡ stored_pairs (stored file) → stored_room file ≤ image_size (shaped_section guess shape file ∷ [])
+alone_kept guess shape file legal keeps are =
+    let section : Section = shaped_section guess shape file in
+    omega (arith, kept_pages guess.page_size section (stored file) legal keeps are, alone_pages guess.page_size section refl refl)
+
 alone_room : (guess : Guess) (shape : Shape) (file : File) → is_page_size guess.page_size ≡ true
     → least_room (Some shape) file ≤ image_size (shaped_section guess shape file ∷ [])
 alone_room guess (BtreeShape No) file legal = omega arith
-alone_room guess (BtreeShape Unsorted) file legal =
-    let section : Section = shaped_section guess (BtreeShape Unsorted) file in
-    omega (arith, stored_pages guess section (stored file) legal refl refl, alone_pages guess.page_size section refl refl)
+alone_room guess (BtreeShape Unsorted) file legal = alone_kept guess (BtreeShape Unsorted) file legal refl refl
 alone_room guess (BtreeShape Sorted) file legal = omega arith
-alone_room guess (HashShape duplicates) file legal = omega arith
+alone_room guess (HashShape No) file legal = omega arith
+alone_room guess (HashShape Unsorted) file legal = alone_kept guess (HashShape Unsorted) file legal refl refl
+alone_room guess (HashShape Sorted) file legal = omega arith
 alone_room guess RecnoShape file legal =
     let section : Section = shaped_section guess RecnoShape file in
     omega (arith, loose_pages guess section (loose file) legal refl refl, alone_pages guess.page_size section refl refl)

@@ -32,7 +32,7 @@ use Rattle.bdb_apart.specs.Queues.{bytes_at, is_queue_page, queue_from, queue_re
 use Rattle.bdb_apart.specs.Text.{settings_in}
 use Rattle.bdb_rescue.specs.Kept.{Reading, file_in}
 use Rattle.bdb_rescue.specs.of_survey.Salvage.{live_value}
-use Rattle.bdb_repair.specs.Apart.{pairs_in, section_in, told_settings}
+use Rattle.bdb_repair.specs.Apart.{section_in, told_settings}
 use Rattle.bdb_repair.specs.Parts.{loose_pair, stored_pair, stored_pairs}
 use Rattle.bdb_repair.proofs.FoundNameLemmas.{all_flat}
 use Rattle.bdb_repair.proofs.MetaFitLemmas.{IsFitMeta, IsFitQueue, IsFitTree}

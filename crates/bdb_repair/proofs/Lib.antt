@@ -1,4 +1,6 @@
 pub mod RoomLemmas
+pub mod ListRoomLemmas
+pub mod TableRoomLemmas
 pub mod PartLemmas
 pub mod FileRoomLemmas
 pub mod RepairLemmas
@@ -10,6 +12,7 @@ pub mod MetaFitLemmas
 pub mod FoundNameLemmas
 pub mod GivenFitLemmas
 pub mod ApartLemmas
+pub mod ApartRoomLemmas
 pub use Rattle.bdb_law_kept.proofs.of_any_order as of_any_order
 pub use Rattle.bdb_law_kept.proofs.of_databases as of_databases
 pub use Rattle.bdb_model.proofs.of_format as of_format

@@ -40,11 +40,23 @@ spread_bound {A} room cost left page (x ∷ xs) fits =
     ]
 
 -- what begins with an open page has no more than all pages
-spread_room : {A : Type 0} (room : ℕ) (cost : A → ℕ) (xs : List A) → All (λ x. cost x ≤ room) xs
+pub spread_room : {A : Type 0} (room : ℕ) (cost : A → ℕ) (xs : List A) → All (λ x. cost x ≤ room) xs
     → sum_by cost xs ≤ length (spread_on room cost cost room [] xs) * room
 spread_room room cost xs fits = omega (arith, spread_bound room cost room [] xs fits)
 
 -- Values.
+
+-- the chain of a value has room for it
+pub chain_room : (size : ℕ) (value : List ℕ) → 512 ≤ size
+    → length value ≤ (length value + page_room size - 1) / page_room size * size
+chain_room size value long =
+    let room : ℕ = page_room size in
+    let q : ℕ = (length value + room - 1) / room in
+    let some : 0 < room = omega arith in
+    let all : length value + room - 1 < q * room + room = lt-div-mul-add {a = length value + room - 1} {b = room} some in
+    let low : room ≤ size = omega arith in
+    let more : q * room ≤ q * size = mul-le-mul_left q low in
+    omega (arith, all, more)
 
 -- a value has room in its item, with three bytes more, or in its chain
 value_room : (size : ℕ) (value : List ℕ) → 512 ≤ size → length value + 3 ≤ value_cost size value + chain_pages size value * size
@@ -58,13 +70,7 @@ value_room size value long = by_test (nat_le (length value) (size / 8))
 
     by_test : (b : Bool) → n + 3 ≤ cond b ((3 + n + 3) / 4 * 4) 12 + cond b 0 ((n + room - 1) / room) * size
     by_test true = omega arith
-    by_test false =
-        let q : ℕ = (n + room - 1) / room in
-        let some : 0 < room = omega arith in
-        let all : n + room - 1 < q * room + room = lt-div-mul-add {a = n + room - 1} {b = room} some in
-        let low : room ≤ size = omega arith in
-        let more : q * room ≤ q * size = mul-le-mul_left q low in
-        omega (arith, all, more)
+    by_test false = omega (arith, chain_room size value long)
 
 value_small : (size : ℕ) (value : List ℕ) → 512 ≤ size → value_cost size value ≤ size / 8 + 6
 value_small size value long = by_test (nat_le (length value) (size / 8)) (λ short. grind (arith, nat_tests, short))
@@ -139,7 +145,7 @@ leaves_room type size units long =
     let more : leaves * size ≤ leaves_and_levels type size units * size = mul-le-mul_right size some in
     omega (arith, room, wide, more)
 
-set_room : (size : ℕ) (sorted : Bool) (values : List (List ℕ)) → 512 ≤ size → sum_by datum_room values ≤ set_pages size sorted values * size
+pub set_room : (size : ℕ) (sorted : Bool) (values : List (List ℕ)) → 512 ≤ size → sum_by datum_room values ≤ set_pages size sorted values * size
 set_room size sorted values long =
     let units : List TreeUnit = map (λ value. EntryUnit value false) values in
     let parts = add-mul (sum_by (chain_pages size) values) (leaves_and_levels (set_type sorted) size units) size in

@@ -1,22 +1,15 @@
 -- What is salvaged of each database that is found, as sections that can be loaded. Source: docs/FORMAT.md, "Salvage" and "Repair".
 use Rattle.std.specs.Prelude.{◌≡◌, ⊤, ℕ, nat_lt, true, false, List, [], ◌∷◌, map, if◌then◌else◌, Option, Some, None, Result, Ok, Err}
-use Rattle.bdb_model.specs.of_format.Flags.{has_records}
 use Rattle.bdb_model.specs.of_format.declared.settings.Settings.{Settings}
 use Rattle.bdb_model.specs.of_text_format.Written.{shows_length}
-use Rattle.bdb_model.specs.of_text_format.declared.pairs.TextPair.{TextPair}
 use Rattle.bdb_model.specs.of_text_format.declared.sections.Section.{Section}
-use Rattle.bdb_apart.specs.Given.{FoundIn, found_in, pairs_given, records_given}
-use Rattle.bdb_apart.specs.Text.{settings_in}
+use Rattle.bdb_apart.specs.Given.{FoundIn, found_in}
+use Rattle.bdb_apart.specs.Text.{section_pairs, settings_in}
 use Rattle.bdb_mkfile.specs.Builds.{Builds, image_size}
-use Rattle.bdb_repair.specs.Parts.{loose_pair, stored_pairs}
 use Rattle.bdb_repair.specs.declared.error.RepairError.{RepairError}
 use Rattle.bdb_repair.specs.declared.error.RepairError.TheVariants.{NoMeta, TooLarge, Memory}
 use Rattle.bdb_rescue.specs.Kept.{Reading}
 use Rattle.bdb_rescue.specs.of_survey.declared.guess.Guess.{Guess}
-
--- the pairs of a database that is found
-abbrev pub pairs_in : FoundIn → List TextPair
-pairs_in it = if has_records it.db.fields then map loose_pair (records_given it) else stored_pairs (pairs_given it)
 
 -- the settings that the header of a text tells: a length of records that isn't fixed, or of 0 bytes, it doesn't tell
 abbrev pub told_settings : Settings → Settings
@@ -24,7 +17,7 @@ told_settings settings = if shows_length settings then settings else record sett
 
 -- its section, as its text is read
 abbrev pub section_in : FoundIn → Section
-section_in it = record { name = it.db.name; settings = told_settings (settings_in it); header_line = 0; pairs = pairs_in it }
+section_in it = record { name = it.db.name; settings = told_settings (settings_in it); header_line = 0; pairs = section_pairs it }
 
 -- the sections of all of them
 abbrev pub sections_in : Reading → List Section
@@ -35,7 +28,7 @@ apart_sections guess image = sections_in (record { guess = guess; image = image 
 
 -- What is answered.
 
--- where there is a section: an image that is built of them; that it would be too large, exactly where it would; or want of memory
+-- where there is a section: an image that is built of them; that it would be too large, exactly where it would; or that memory ran out
 abbrev pub IsBuiltOf : ℕ → List Section → Result (List ℕ) RepairError → Type 0
 IsBuiltOf max sections (Ok built) = Builds sections built × (nat_lt max (image_size sections) ≡ false)
 IsBuiltOf max sections (Err NoMeta) = ⊥

@@ -1,4 +1,5 @@
 pub mod Apart
+pub mod ApartRoom
 pub mod Laws
 pub mod Parts
 pub mod Reads

@@ -2,6 +2,7 @@
 use Rattle.std.specs.Prelude.{ℕ, ◌+◌, List, length, Option, Some, None}
 use Rattle.std.specs.List.{sum_by}
 use Rattle.bdb_model.specs.of_format.Terms.{File}
+use Rattle.bdb_model.specs.declared.shape.Duplicates.{Duplicates}
 use Rattle.bdb_model.specs.declared.shape.Duplicates.TheVariants.{No, Unsorted, Sorted}
 use Rattle.bdb_model.specs.declared.shape.Shape.{Shape}
 use Rattle.bdb_model.specs.declared.shape.Shape.TheVariants.{Btree as BtreeShape, Hash as HashShape, Recno as RecnoShape}
@@ -25,12 +26,16 @@ stored_room file = sum_by pair_room (stored file)
 abbrev pub loose_room : File → ℕ
 loose_room file = sum_by datum_room (loose file)
 
--- the same of all that a shape keeps, where none of it may replace another
+-- the same of all pairs, where none may replace another
+abbrev pub kept_room : Duplicates → File → ℕ
+kept_room No file = 0
+kept_room Unsorted file = stored_room file
+kept_room Sorted file = 0
+
+-- and of all that a shape keeps so
 abbrev pub room_as : Shape → File → ℕ
-room_as (BtreeShape No) file = 0
-room_as (BtreeShape Unsorted) file = stored_room file
-room_as (BtreeShape Sorted) file = 0
-room_as (HashShape duplicates) file = 0
+room_as (BtreeShape duplicates) file = kept_room duplicates file
+room_as (HashShape duplicates) file = kept_room duplicates file
 room_as RecnoShape file = loose_room file
 
 abbrev pub least_room : Option Shape → File → ℕ

@@ -8,7 +8,7 @@ ghost use Rattle.bdb_rescue.specs.Guesses.{chosen};
 ghost use Rattle.bdb_rescue.specs.of_overflow.Datum.{datum_seen};
 
 use crate::RepairError;
-use crate::copied::pairs_in;
+use crate::apart_room::are_past;
 use crate::repairing::answer_of;
 use bdb_apart::{Apart, Database, Databases, Datum, Kind, Settings, apart_of};
 use bdb_io::Image;
@@ -69,7 +69,7 @@ fn section_in(alloc: Global, db: &Database<'_, '_, '_>) -> Result<Section, Alloc
         name: name_of(alloc, db.name())?,
         settings: told_settings(db.settings()),
         header_line: 0,
-        pairs: pairs_in(alloc, db)?,
+        pairs: db.section_pairs(alloc)?,
     })
 }
 
@@ -97,7 +97,8 @@ fn sections_in(alloc: Global, apart: &Apart<'_, '_>) -> Result<Sections, AllocEr
 }
 
 /// The image of the databases that are found in an image by the given guess, or the one that page 0 tells: a sound file of at most `max` bytes, with what is
-/// salvaged of each under its name, of its kind and with its settings. Where none is found nothing is built.
+/// salvaged of each under its name, of its kind and with its settings. Where none is found nothing is built. Where the data that it keeps have more bytes,
+/// nothing is copied.
 pub fn repair_apart<L: Ledger>(
     alloc: Global,
     image: &[u8],
@@ -113,6 +114,9 @@ pub fn repair_apart<L: Ledger>(
 {
     let salvaged = salvage(alloc, image, guess, steps)?;
     let apart = apart_of(alloc, &salvaged, steps)?;
+    if are_past(&apart, max) {
+        return Err(RepairError::TooLarge);
+    }
     let sections = sections_in(alloc, &apart)?;
     if sections.is_empty() {
         return Err(RepairError::NoMeta);

@@ -1,4 +1,5 @@
 //! What follows from the definitions alone.
+ghost use Rattle.bdb_repair.specs.ApartRoom.{DatabasesTakeRoom};
 ghost use Rattle.bdb_repair.specs.Laws.{ManyPairsAreTooLarge, PairsTakeRoom, PartsAreLoadable, PartsHaveNoErrors};
 ghost use Rattle.bdb_repair.specs.Reads.{LinesHaveNoPart, SalvageIsRead};
 
@@ -20,6 +21,11 @@ pub fn pairs_take_room()
 /// Without a shape, more stored pairs than a fourth of a number of bytes make a file of more bytes.
 pub fn many_pairs_are_too_large()
     ensures { ManyPairsAreTooLarge }
+{}
+
+/// So has the file of the databases that are found, of those where no pair replaces another.
+pub fn databases_take_room()
+    ensures { DatabasesTakeRoom }
 {}
 
 /// The text that salvage writes reads as the sections that are loaded, but for the numbers of their lines, and no error of loading holds for them.

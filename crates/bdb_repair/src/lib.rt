@@ -2,7 +2,7 @@
 #![tactic(auto)]
 
 mod apart;
-mod copied;
+mod apart_room;
 mod error;
 pub mod laws;
 mod parts;

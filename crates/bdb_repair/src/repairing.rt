@@ -71,7 +71,7 @@ pub fn repair_as<L: Ledger>(
     answer_of(load(alloc, sections, max))
 }
 
-/// The same without a shape.
+/// The same without a shape. Refused as there.
 pub fn repair<L: Ledger>(
     alloc: Global,
     image: &[u8],

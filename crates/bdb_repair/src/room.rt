@@ -2,13 +2,13 @@
 ghost use Rattle.std.specs.Prelude.{◌≡◌, ◌+◌, ◌<◌, MatchOption, nat_lt};
 ghost use Rattle.std.specs.List.{sum_by};
 ghost use Rattle.bdb_rescue.specs.Kept.{file_in};
-ghost use Rattle.bdb_repair.specs.Room.{datum_room, entry_room, least_room, room_as, stored_room};
+ghost use Rattle.bdb_repair.specs.Room.{datum_room, entry_room, kept_room, least_room, room_as, stored_room};
 
 use crate::{Duplicates, Shape};
 use bdb_rescue::{SalvageEntries, SalvageEntry, SalvageValues, Salvaged};
 
 // What is left of so many bytes after those of a datum and four more; `None` where they are too few.
-fn after_datum(room: u64, datum: u64) -> Option<u64>
+pub(crate) fn after_datum(room: u64, datum: u64) -> Option<u64>
     ensures { MatchOption result (room < 4 + datum) (λ left. left + (4 + datum) ≡ room) }
 {
     if room < 4 || room - 4 < datum {
@@ -59,16 +59,25 @@ fn after_records(room: u64, found: SalvageValues<'_, '_>) -> Option<u64>
     Some(left)
 }
 
-// What is left of a file after the data of a shape. Where one may take the place of another, none is sure to stand there.
+// The same, where none of them may take the place of another; else none is sure to stand there.
+fn after_kept(room: u64, salvaged: &Salvaged<'_>, duplicates: Duplicates) -> Option<u64>
+    ensures { MatchOption result (room < kept_room duplicates (file_in salvaged.now)) (λ left. left + kept_room duplicates (file_in salvaged.now) ≡ room) }
+{
+    match duplicates {
+        Duplicates::Unsorted => after_stored(room, salvaged),
+        Duplicates::No | Duplicates::Sorted => Some(room),
+    }
+}
+
+// What is left of a file after the data of a shape.
 fn after_shape(room: u64, salvaged: &Salvaged<'_>, shape: Shape) -> Option<u64>
     ensures { MatchOption result (room < room_as shape (file_in salvaged.now)) (λ left. left + room_as shape (file_in salvaged.now) ≡ room) }
 {
     match shape {
-        Shape::Btree(Duplicates::Unsorted) => after_stored(room, salvaged),
-        Shape::Recno => after_records(room, salvaged.loose()),
-        Shape::Btree(Duplicates::No) | Shape::Btree(Duplicates::Sorted) | Shape::Hash(_) => {
-            Some(room)
+        Shape::Btree(duplicates) | Shape::Hash(duplicates) => {
+            after_kept(room, salvaged, duplicates)
         }
+        Shape::Recno => after_records(room, salvaged.loose()),
     }
 }
 

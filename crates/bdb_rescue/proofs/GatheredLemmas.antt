@@ -1,8 +1,8 @@
 -- Pairs in the making, as more of them come.
-use Rattle.std.proofs.Common.{◌≡◌, ℕ, ◌+◌, ◌*◌, ◌^◌, ◌<◌, ◌≤◌, cond, not, List, [], ◌∷◌, ◌++◌, Some, arith, ap, append-nil, append_assoc, drop, false, inl, inr}
+use Rattle.std.proofs.Common.{◌≡◌, ℕ, ◌+◌, ◌*◌, ◌^◌, ◌<◌, ◌≤◌, Bool, true, false, cond, not, List, [], ◌∷◌, ◌++◌, Some, arith, ap, append-nil, append_assoc, drop, false, inl, inr}
 use Rattle.std.proofs.Common.{length, length-append, length-drop, map, refl, subst, sym, take, ◌∙◌, nat_cmp}
 use Rattle.std.specs.BTreeMap.{BTreeMap, Updates, get, is_at}
-use Rattle.std.specs.List.{enumerate_from, flat_map}
+use Rattle.std.specs.List.{enumerate_from, filter, flat_map}
 use Rattle.std.specs.Map.{lookup}
 use Rattle.std.proofs.lemmas.Bool.{cases_eq}
 use Rattle.std.proofs.lemmas.List.{drop-append-le, length-map, map-append, take-append-le, take_all}
@@ -22,10 +22,10 @@ use Rattle.bdb_text_format.proofs.PlacedLemmas.{kept_on, key_stays, key_within}
 use Rattle.bdb_survey.specs.Salvage.{loose}
 use Rattle.bdb_rescue.proofs.LooseCountLemmas.{loose_few}
 use Rattle.bdb_rescue.proofs.LooseLemmas.{loose_is}
-use Rattle.bdb_rescue.specs.Kept.{Reading, data_at, file_in, given, given_live, item_of, loose_values, under, value_at}
+use Rattle.bdb_rescue.specs.Kept.{Reading, data_at, file_in, given, given_live, item_of, loose_values, numbered_at, under, value_at}
 use Rattle.bdb_rescue.specs.declared.kept.KeptPair.{KeptPair}
 use Rattle.bdb_rescue.specs.declared.kept.KeptValue.{KeptValue}
-use Rattle.bdb_rescue.specs.Gathered.{Adds, Grows, HasSets, InHand, IsInHand, StandFrom, chain_value, loose_pair, set_data, stored_pair, with_key}
+use Rattle.bdb_rescue.specs.Gathered.{Adds, Grows, HasSets, InHand, IsInHand, StandFrom, chain_value, is_record_of, loose_pair, set_data, stored_pair, with_key}
 use Rattle.bdb_text_format.proofs.of_format.BoolLemmas.{true_from_not}
 use Rattle.bdb_text_format.proofs.of_format.LessLemmas.{other_number}
 
@@ -246,6 +246,28 @@ more_loose file now new all number left rest place are so_far pushed =
     ap (λ pairs. pairs ++ others) pushed
     ∙ (append_assoc now (with_key (Number (number + 1)) (value_at file place ∷ [])) others
     ∙ (ap (λ places. now ++ map loose_pair (enumerate_from (number + 1) (map (value_at file) places))) (sym are) ∙ so_far))
+
+-- Records of a page.
+
+one_more : {X : Type 0} (test : X → Bool) (x : X) (xs : List X) → filter test (x ∷ []) ++ filter test xs ≡ filter test (x ∷ xs)
+one_more {X} test x xs = by_test (test x)
+  where
+    by_test : (b : Bool) → cond b (x ∷ []) [] ++ filter test xs ≡ cond b (x ∷ filter test xs) (filter test xs)
+    by_test true = refl
+    by_test false = refl
+
+pub more_records : (file : File) (start len : ℕ) (now new all : List TextPair) (left rest : List KeptValue) (place : KeptValue) → left ≡ place ∷ rest
+    → now ++ map loose_pair (filter (is_record_of len) (map (numbered_at file start) left)) ≡ all
+    → new ≡ now ++ map loose_pair (filter (is_record_of len) (numbered_at file start place ∷ []))
+    → new ++ map loose_pair (filter (is_record_of len) (map (numbered_at file start) rest)) ≡ all
+more_records file start len now new all left rest place are so_far pushed =
+    let some : List (ℕ × List ℕ) = filter (is_record_of len) (numbered_at file start place ∷ []) in
+    let more : List (ℕ × List ℕ) = filter (is_record_of len) (map (numbered_at file start) rest) in
+    ap (λ pairs. pairs ++ map loose_pair more) pushed
+    ∙ (append_assoc now (map loose_pair some) (map loose_pair more)
+    ∙ (ap (λ pairs. now ++ pairs) (sym (map-append loose_pair some more)
+    ∙ ap (map loose_pair) (one_more (is_record_of len) (numbered_at file start place) (map (numbered_at file start) rest)))
+    ∙ (ap (λ places. now ++ map loose_pair (filter (is_record_of len) (map (numbered_at file start) places))) (sym are) ∙ so_far)))
 
 -- Records have numbers of four bytes.
 pub number_fits : (reading : Reading) (number : ℕ) (left rest : List KeptValue) (place : KeptValue) → left ≡ place ∷ rest

@@ -1,5 +1,5 @@
 -- What is salvaged as pairs of a section, in the making: each chain stands in their run once, and the data of each set.
-use Rattle.std.specs.Prelude.{◌≡◌, ◌≤◌, ℕ, ◌+◌, List, ◌++◌, Some, drop, length, map, take}
+use Rattle.std.specs.Prelude.{◌≡◌, ◌≤◌, ◌==◌, ◌&&◌, ◌||◌, ◌^◌, nat_lt, ℕ, ◌+◌, Bool, List, ◌++◌, Some, drop, length, map, take}
 use Rattle.std.specs.BTreeMap.{BTreeMap, get}
 use Rattle.std.specs.List.{enumerate_from, flat_map}
 use Rattle.std.specs.Ordering.{nat_cmp}
@@ -20,6 +20,13 @@ loose_pair placed = pair_with (Number placed.0) placed.1 0
 
 abbrev pub loose_pairs : List (List ℕ) → List TextPair
 loose_pairs records = map loose_pair (enumerate_from 1 records)
+
+-- a record has a length that is asked for, where that isn't 0; and one with a number has one of four bytes
+abbrev pub has_length : ℕ → (ℕ × List ℕ) → Bool
+has_length len placed = len == 0 || length placed.1 == len
+
+abbrev pub is_record_of : ℕ → (ℕ × List ℕ) → Bool
+is_record_of len placed = nat_lt placed.0 (2 ^ 32) && has_length len placed
 
 -- a key with each of some data
 abbrev pub with_key : Key → List (List ℕ) → List TextPair

@@ -9,6 +9,7 @@ use Rattle.bdb_rescue.specs.declared.kept.DataPlace.{DataPlace}
 use Rattle.bdb_rescue.specs.declared.kept.DataPlace.TheVariants.{Here, Set as OnLeaves}
 use Rattle.bdb_rescue.specs.declared.kept.KeptPair.{KeptPair}
 use Rattle.bdb_rescue.specs.declared.kept.KeptValue.{KeptValue}
+use Rattle.bdb_rescue.specs.Marks.{Marks}
 use Rattle.bdb_survey.specs.Items.{is_valued, slot_at, slots_in}
 use Rattle.bdb_survey.specs.Rows.{thin_pieces}
 use Rattle.bdb_survey.specs.Salvage.{is_taken, is_whole, live_whole, paired_items, salvaged_file, set_start, set_starts}
@@ -188,12 +189,17 @@ pub record IsKeptPair (file : File) (kept : KeptPair) : Type 0 where
   pub held : kept.place ≡ Here → is_held file (item_of file kept.page (2 * kept.index + 1)).content ≡ true
   pub starts : (leaf : ℕ) → kept.place ≡ OnLeaves leaf → Contains (set_starts file) leaf
 
+-- the leaves of whole sets of pairs with a whole key are marked
+abbrev pub AreTaken : File → List Bool → Type 0
+AreTaken file taken = Marks file.count taken (flat_map (chain file) (set_starts file))
+
 -- what is kept of an image
 pub record IsSalvaged (guess : Guess) (image : List ℕ) (pair_bounds : List ℕ) (pairs : List KeptPair) (value_bounds : List ℕ)
-    (values : List KeptValue) (bounds : List ℕ) (sets : List KeptValue) (thin_bounds thin : List ℕ) : Type 0 where
+    (values : List KeptValue) (taken : List Bool) (bounds : List ℕ) (sets : List KeptValue) (thin_bounds thin : List ℕ) : Type 0 where
   pub legal : is_page_size guess.page_size ≡ true
   pub small : length image ≤ 2 ^ 30
   pub pairs_are : IsTable (kept_on (salvaged_file guess.order guess.page_size image)) (salvaged_file guess.order guess.page_size image).count pair_bounds pairs
   pub values_are : IsTable (untaken_on (salvaged_file guess.order guess.page_size image)) (salvaged_file guess.order guess.page_size image).count value_bounds values
+  pub taken_are : AreTaken (salvaged_file guess.order guess.page_size image) taken
   pub sets_are : IsTable (set_from (salvaged_file guess.order guess.page_size image)) (salvaged_file guess.order guess.page_size image).count bounds sets
   pub thin_are : IsTable (thin_from (salvaged_file guess.order guess.page_size image)) (salvaged_file guess.order guess.page_size image).count thin_bounds thin

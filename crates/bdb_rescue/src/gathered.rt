@@ -1,10 +1,10 @@
 //! What is salvaged as pairs of a section.
-ghost use Rattle.std.specs.Prelude.{◌≡◌, ◌∷◌, ◌+◌, ◌*◌, ◌++◌, ◌≤◌, ◌^◌, [], ℕ, List, IfOk, IfSome, IsTrue, OnOk, drop, length, map, take};
-ghost use Rattle.std.specs.List.{All, Contains};
-ghost use Rattle.bdb_rescue.specs.Gathered.{Adds, Grows, StandFrom, loose_pairs, set_data, stored_pair};
-ghost use Rattle.bdb_rescue.specs.Kept.{IsKeptPair, IsKeptValue, data_at, data_here, file_in, given_live, is_held, item_of, value_at};
+ghost use Rattle.std.specs.Prelude.{◌≡◌, ◌==◌, ◌<◌, ◌∷◌, ◌+◌, ◌*◌, ◌++◌, ◌≤◌, ◌^◌, [], ℕ, List, IfOk, IfSome, IsTrue, OnOk, drop, length, map, take};
+ghost use Rattle.std.specs.List.{All, Contains, filter, flat_map};
+ghost use Rattle.bdb_rescue.specs.Gathered.{Adds, Grows, StandFrom, has_length, is_record_of, loose_pair, loose_pairs, set_data, stored_pair};
+ghost use Rattle.bdb_rescue.specs.Kept.{IsKeptPair, IsKeptValue, data_at, data_here, file_in, given_live, is_held, item_of, numbered_at, untaken_on, value_at};
 ghost use Rattle.bdb_survey.specs.Items.{is_valued};
-ghost use Rattle.bdb_survey.specs.Salvage.{is_whole, loose, set_starts, stored};
+ghost use Rattle.bdb_survey.specs.Salvage.{is_whole, loose, set_starts, stored, stored_on};
 ghost use Rattle.bdb_survey.specs.of_layout.Seen.{content_seen};
 ghost use Rattle.bdb_survey.specs.of_overflow.Datum.{datum_seen};
 ghost use Rattle.bdb_text_format.specs.declared.pairs.TextPair.{TextPair};
@@ -22,9 +22,10 @@ use std::alloc::{AllocError, Global};
 use std::collections::BTreeMap;
 use std::marker::Model;
 
-/// Pairs in the making. The value of a chain stands in their run once, however many items name it, and so do the data of a set.
+/// Pairs of a section in the making, of what is salvaged of an image. The value of a chain stands in their run once, however many items name it, and so do the
+/// data of a set: so a run has at most three times the bytes of the image, and beside it each pair takes a place of 32 bytes.
 #[derive(Drop)]
-struct Gatherer<'s, 'a> {
+pub struct Gatherer<'s, 'a> {
     salvaged: &'s Salvaged<'a>,
     pairs: Gathered,
     // At which pair the data of a set begin, by its first leaf.
@@ -378,8 +379,102 @@ impl<'s, 'a> Gatherer<'s, 'a> {
         Ok(())
     }
 
-    // The pairs.
-    fn into_pairs(self) -> TextPairs
+    // Whether the value at a place has so many bytes. Of a chain its item tells that.
+    #[tactic(auto, unfolding(crate::specs::Below::value_of, crate::specs::Below::is_whole))]
+    fn has_len(&self, place: KeptValue, len: u32) -> bool
+        requires { IsKeptValue (file_in self.now.reading) place }
+        ensures { result ≡ (length (value_at (file_in self.now.reading) place) == len) }
+    {
+        match self
+            .salvaged
+            .pages()
+            .content(place.page, u32::from(place.index))
+        {
+            Content::Inline(bytes) => bytes.len() as u64 == u64::from(len),
+            Content::Overflow { head: _, total } => total == len,
+            Content::Set(_) | Content::OffPage { .. } => len == 0,
+        }
+    }
+
+    // Adds the value at a place as that of a record, where it has a length that is asked for.
+    fn push_numbered(&mut self, number: u32, place: KeptValue, len: u32) -> Result<(), AllocError>
+        requires { IsKeptValue (file_in self.old.reading) place }
+        ensures reading { OnOk result (self.new.reading ≡ self.old.reading) }
+        ensures pairs { OnOk result (self.new.gathered.pairs ≡ self.old.gathered.pairs
+            ++ map loose_pair (filter (has_length len) ((number, value_at (file_in self.old.reading) place) ∷ []))) }
+    {
+        if len != 0 && !self.has_len(place, len) {
+            return Ok(());
+        }
+        self.push_place(PlacedKey::Number(number), place)
+    }
+
+    // Adds the record at a place of a page, where so many come before the page, if it has a number and a length that is asked for.
+    fn push_record(&mut self, start: u32, place: KeptValue, len: u32) -> Result<(), AllocError>
+        requires { IsKeptValue (file_in self.old.reading) place }
+        ensures reading { OnOk result (self.new.reading ≡ self.old.reading) }
+        ensures pairs { OnOk result (self.new.gathered.pairs ≡ self.old.gathered.pairs
+            ++ map loose_pair (filter (is_record_of len) (numbered_at (file_in self.old.reading) start place ∷ []))) }
+    {
+        let number = u64::from(start) + u64::from(place.index) + 1;
+        match u32::try_from(number) {
+            Ok(number) => self.push_numbered(number, place, len),
+            Err(_) => Ok(()),
+        }
+    }
+
+    // Adds what kept pairs give.
+    #[tactic(auto, using(crate::proofs::GatheredLemmas::in_hand, crate::proofs::LeftLemmas::pairs_rest, crate::proofs::LeftLemmas::first_pair))]
+    fn push_kept(&mut self, pairs: &[KeptPair]) -> Result<(), AllocError>
+        requires { All (IsKeptPair (file_in self.old.reading)) pairs.now }
+        ensures reading { OnOk result (self.new.reading ≡ self.old.reading) }
+        ensures pairs { OnOk result (self.new.gathered.pairs ≡ self.old.gathered.pairs
+            ++ map stored_pair (flat_map (given_live (file_in self.old.reading)) pairs.now)) }
+    {
+        for pair in Places::over(pairs) {
+            self.push_pair(pair)?;
+        }
+        Ok(())
+    }
+
+    // Adds the records at places of a page.
+    #[tactic(auto, using(crate::proofs::GatheredLemmas::in_hand, crate::proofs::LeftLemmas::values_rest, crate::proofs::LeftLemmas::first_value))]
+    fn push_records(&mut self, start: u32, places: &[KeptValue], len: u32) -> Result<(), AllocError>
+        requires { All (IsKeptValue (file_in self.old.reading)) places.now }
+        ensures reading { OnOk result (self.new.reading ≡ self.old.reading) }
+        ensures pairs { OnOk result (self.new.gathered.pairs ≡ self.old.gathered.pairs
+            ++ map loose_pair (filter (is_record_of len) (map (numbered_at (file_in self.old.reading) start) places.now))) }
+    {
+        for place in Places::over(places) {
+            self.push_record(start, place, len)?;
+        }
+        Ok(())
+    }
+
+    /// Adds the stored pairs of a page, in the order of slot and place in a set. Fails only where memory runs out.
+    pub fn push_pairs_on(&mut self, page: u32) -> Result<(), AllocError>
+        requires { page < (file_in self.old.reading).count }
+        ensures reading { OnOk result (self.new.reading ≡ self.old.reading) }
+        ensures pairs { OnOk result (self.new.gathered.pairs ≡ self.old.gathered.pairs ++ map stored_pair (stored_on (file_in self.old.reading) page)) }
+    {
+        let pairs = self.salvaged.pairs_at(page);
+        self.push_kept(pairs)
+    }
+
+    /// Adds the loose records of a page, in the order of slot, each with its number where so many come before the page: those whose number has four bytes, and of
+    /// them, where a length is asked for that isn't 0, those that have it. Fails only where memory runs out.
+    pub fn push_records_on(&mut self, page: u32, start: u32, len: u32) -> Result<(), AllocError>
+        requires { page < (file_in self.old.reading).count }
+        ensures reading { OnOk result (self.new.reading ≡ self.old.reading) }
+        ensures pairs { OnOk result (self.new.gathered.pairs ≡ self.old.gathered.pairs
+            ++ map loose_pair (filter (is_record_of len) (map (numbered_at (file_in self.old.reading) start) (untaken_on (file_in self.old.reading) page)))) }
+    {
+        let places = self.salvaged.records_at(page);
+        self.push_records(start, places, len)
+    }
+
+    /// The pairs.
+    pub fn into_pairs(self) -> TextPairs
         ensures { result ≡ self.entry.gathered.pairs }
     {
         self.pairs.into_pairs()
@@ -405,6 +500,16 @@ fn nothing_yet<'s, 'a>(
     })
 }
 
+impl<'s, 'a> Gatherer<'s, 'a> {
+    /// Nothing yet of an image. Fails only where memory runs out.
+    pub fn of(alloc: Global, salvaged: &'s Salvaged<'a>) -> Result<Gatherer<'s, 'a>, AllocError>
+        ensures reading { IfOk result (λ it. it.reading ≡ salvaged.now) }
+        ensures pairs { IfOk result (λ it. it.gathered.pairs ≡ []) }
+    {
+        nothing_yet(alloc, salvaged, 0)
+    }
+}
+
 // How many data a pair has, a set on its page counted as one.
 fn data_count(salvaged: &Salvaged<'_>, pair: KeptPair) -> usize
     requires { IsKeptPair (file_in salvaged.now) pair }
@@ -425,7 +530,7 @@ fn pair_count(salvaged: &Salvaged<'_>) -> usize {
     count
 }
 
-/// The stored pairs of an image as pairs of a section.
+/// The stored pairs of an image as pairs of a section. An error means that memory ran out.
 #[tactic(auto, using(crate::proofs::KeptLemmas::all_pairs, crate::proofs::StoredLemmas::stored_is, crate::proofs::LeftLemmas::pairs_rest, crate::proofs::LeftLemmas::first_pair))]
 pub fn stored_pairs(alloc: Global, salvaged: &Salvaged<'_>) -> Result<TextPairs, AllocError>
     ensures { IfOk result (λ pairs. pairs ≡ map stored_pair (stored (file_in salvaged.now))) }
@@ -437,7 +542,8 @@ pub fn stored_pairs(alloc: Global, salvaged: &Salvaged<'_>) -> Result<TextPairs,
     Ok(all.into_pairs())
 }
 
-/// The loose records of an image as pairs of a section, which are numbered from 1.
+/// The loose records of an image as pairs of a section, which are numbered from 1. An error means that memory ran
+/// out.
 #[tactic(auto, using(crate::proofs::LooseLemmas::loose_is, crate::proofs::KeptLemmas::all_loose, crate::proofs::LeftLemmas::values_rest, crate::proofs::LeftLemmas::first_value))]
 pub fn loose_pairs(alloc: Global, salvaged: &Salvaged<'_>) -> Result<TextPairs, AllocError>
     requires { length salvaged.now.image ≤ 2 ^ 30 }

@@ -21,13 +21,15 @@ mod thin;
 mod values;
 
 pub use bdb_survey::{
-    Datum, Guess, KeyView, Meta, Pieces, Unsupported, WholePages, bytes_in, chain_of, compare_datum,
+    Content, Datum, DupBlocks, Guess, KeyView, Meta, Pieces, Slots, Unsupported, WholePages,
+    bytes_in, chain_of, compare_datum, entry_slots, paired_slots,
 };
-pub use bdb_text_format::{Bytes, FileKind, Order, Steps};
+pub use bdb_text_format::{Bytes, FileKind, KeyRef, Order, PairRef, Steps, TextPairs};
 pub use entries::{SalvageEntries, SalvageEntry};
 pub use error::SalvageError;
-pub use gathered::{loose_pairs, stored_pairs};
+pub use gathered::{Gatherer, loose_pairs, stored_pairs};
 pub use guess::{is_queue_or_master, unsupported_case};
+pub use kept::{DataPlace, KeptPair, KeptValue};
 pub use pairs::SalvagePairs;
 pub use records::SalvageRecords;
 pub use salvaged::{Salvaged, salvage};

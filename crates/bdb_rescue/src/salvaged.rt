@@ -2,13 +2,13 @@ ghost use Rattle.std.specs.Prelude.{◌≡◌, ◌≢◌, ◌^◌, ◌≤◌, �
 ghost use Rattle.std.specs.List.{Contains, flat_map};
 ghost use Rattle.bdb_text_format.specs.of_format.Terms.{Chain, chain, is_page_size, page_at, value_of};
 ghost use Rattle.bdb_rescue.specs.Guesses.{chosen};
-ghost use Rattle.bdb_rescue.specs.Kept.{IsKeptValue, IsTable, file_in, item_of, kept_on, kept_pairs, loose_values, numbered_at, pairs_under, set_from, thin_from, value_at};
+ghost use Rattle.bdb_rescue.specs.Kept.{AreTaken, IsKeptValue, IsTable, file_in, item_of, kept_on, kept_pairs, loose_values, numbered_at, pairs_under, set_from, thin_from, value_at};
 ghost use Rattle.bdb_rescue.specs.Kept.{untaken_on, values_on};
 ghost use Rattle.bdb_rescue.specs.Marks.{Marks};
 ghost use Rattle.bdb_survey.specs.of_layout.Seen.{content_seen};
 ghost use Rattle.bdb_survey.specs.Items.{is_valued, slots_in};
 ghost use Rattle.bdb_survey.specs.of_overflow.Datum.{datum_seen};
-ghost use Rattle.bdb_survey.specs.Salvage.{is_overflow, is_row, is_whole, live_whole, loose, salvaged_file, set_starts, stored, stored_on};
+ghost use Rattle.bdb_survey.specs.Salvage.{is_overflow, is_row, is_taken, is_whole, live_whole, loose, salvaged_file, set_starts, stored, stored_on};
 ghost use Rattle.bdb_rescue.specs.declared.error.SalvageError.TheVariants.{Memory, NoMeta};
 
 use crate::guess::chosen;
@@ -16,7 +16,7 @@ use crate::kept::{KeptPair, KeptValue};
 use crate::kept_pairs::kept_pairs;
 use crate::kept_values::loose_values;
 use crate::sets::{SetTable, set_table};
-use crate::starts::{first_leaves, taken_pages};
+use crate::starts::{first_leaves, is_marked, taken_pages};
 use crate::tables::{Table, part};
 use crate::thin::{ThinTable, thin_table};
 use crate::{Guess, SalvageEntries, SalvageError, SalvagePairs, SalvageRecords, SalvageValues};
@@ -27,13 +27,15 @@ use std::marker::Model;
 use std::sync::ledger::Ledger;
 
 /// What can be had from an image: places of the pairs, of the loose records and of the data of sets that are
-/// whole, at most one for each slot, of at most 16 bytes, and 33 bytes for each page. Values are read where they
+/// whole, at most one for each slot, of at most 16 bytes, and 34 bytes for each page. Values are read where they
 /// lie, but for those of whole chains that have fewer bytes than pages, which are kept.
 pub struct Salvaged<'a> {
     image: &'a [u8],
     guess: Guess,
     pairs: Table<KeptPair>,
     values: Table<KeptValue>,
+    /// Which pages belong to a whole set of a pair whose key is whole.
+    taken: Vec<bool>,
     sets: SetTable,
     thin: ThinTable,
 }
@@ -45,6 +47,7 @@ impl Drop for Salvaged<'_> {
             guess: _guess,
             pairs: _pairs,
             values: _values,
+            taken: _taken,
             sets: _sets,
             thin: _thin,
         } = self;
@@ -59,7 +62,7 @@ impl<'a> Model for Salvaged<'a> {
     ghost view = { λ v. record { guess = v.guess; image = v.image.now } };
 
     ghost invariant = { λ v. IsSalvaged v.guess v.image.now v.pairs.bounds.items v.pairs.all.items v.values.bounds.items v.values.all.items
-        v.sets.bounds.items v.sets.values.items v.thin.bounds.items v.thin.bytes.items };
+        v.taken.items v.sets.bounds.items v.sets.values.items v.thin.bounds.items v.thin.bytes.items };
 }
 
 /// Finds what an image still has, by the given guess or the one that page 0 tells. Where there is neither, no memory is asked for.
@@ -86,33 +89,36 @@ pub fn salvage<'a, L: Ledger>(
     Ok(salvage_as(alloc, image, guess, steps)?)
 }
 
-/// The loose records, where the first leaves of the sets of pairs are marked.
+/// The loose records, and the leaves of the sets of pairs, where the first leaves of these are marked.
 fn loose_beside(
     alloc: Global,
     survey: &Survey<'_>,
     starts: &[bool],
-) -> Result<Table<KeptValue>, AllocError>
+) -> Result<(Table<KeptValue>, Vec<bool>), AllocError>
     requires { Marks survey.now.count starts.now (set_starts survey.now) }
-    ensures { IfOk result (λ kept. IsTable (untaken_on survey.now) survey.now.count kept.bounds.items kept.all.items) }
+    ensures loose { IfOk result (λ kept. IsTable (untaken_on survey.now) survey.now.count kept.0.bounds.items kept.0.all.items) }
+    ensures taken { IfOk result (λ kept. AreTaken survey.now kept.1.items) }
 {
     let taken = taken_pages(alloc, survey.pages(), starts)?;
-    loose_values(alloc, survey, &taken)
+    let values = loose_values(alloc, survey, &taken)?;
+    Ok((values, taken))
 }
 
-/// The loose records, and the values of the sets of pairs.
+/// The loose records, the leaves of the sets of pairs, and the values of these sets.
 fn values_beside(
     alloc: Global,
     survey: &Survey<'_>,
     pairs: &[KeptPair],
-) -> Result<(Table<KeptValue>, SetTable), AllocError>
+) -> Result<(Table<KeptValue>, Vec<bool>, SetTable), AllocError>
     requires { pairs.now ≡ kept_pairs survey.now }
     ensures loose { IfOk result (λ kept. IsTable (untaken_on survey.now) survey.now.count kept.0.bounds.items kept.0.all.items) }
-    ensures sets { IfOk result (λ kept. IsTable (set_from survey.now) survey.now.count kept.1.bounds.items kept.1.values.items) }
+    ensures taken { IfOk result (λ kept. AreTaken survey.now kept.1.items) }
+    ensures sets { IfOk result (λ kept. IsTable (set_from survey.now) survey.now.count kept.2.bounds.items kept.2.values.items) }
 {
     let starts = first_leaves(alloc, survey.pages(), pairs)?;
-    let values = loose_beside(alloc, survey, &starts)?;
+    let (values, taken) = loose_beside(alloc, survey, &starts)?;
     let sets = set_table(alloc, survey, &starts)?;
-    Ok((values, sets))
+    Ok((values, taken, sets))
 }
 
 /// What an image still has, whose pages are surveyed.
@@ -128,13 +134,14 @@ fn salvaged_in<'a>(
     ensures { IfOk result (λ salvaged. salvaged ≡ record { guess = guess; image = image.now }) }
 {
     let pairs = kept_pairs(alloc, survey)?;
-    let (values, sets) = values_beside(alloc, survey, &pairs.all)?;
+    let (values, taken, sets) = values_beside(alloc, survey, &pairs.all)?;
     let thin = thin_table(alloc, survey)?;
     Ok(Salvaged {
         image,
         guess,
         pairs,
         values,
+        taken,
         sets,
         thin,
     })
@@ -209,6 +216,15 @@ impl<'a> Salvaged<'a> {
         WholePages::over(self.image, self.guess)
     }
 
+    /// The image.
+    pub fn image(&self) -> &'a [u8]
+        ensures image { result.now ≡ self.now.image }
+        ensures small { length self.now.image ≤ 2 ^ 30 }
+        ensures legal { IsTrue (is_page_size self.now.guess.page_size) }
+    {
+        self.image
+    }
+
     /// The bytes of a page.
     #[tactic(auto, using(crate::proofs::PageLemmas::page_ends))]
     pub fn bytes_at(&self, number: u32) -> &'a [u8]
@@ -240,7 +256,7 @@ impl<'a> Salvaged<'a> {
     }
 
     /// The places of the pairs of a page.
-    fn pairs_at(&self, page: u32) -> &[KeptPair]
+    pub fn pairs_at(&self, page: u32) -> &[KeptPair]
         requires { page < (file_in self.now).count }
         ensures { result.now ≡ kept_on (file_in self.now) page }
     {
@@ -248,11 +264,20 @@ impl<'a> Salvaged<'a> {
     }
 
     /// The places of the loose records of a page.
-    fn records_at(&self, page: u32) -> &[KeptValue]
+    pub fn records_at(&self, page: u32) -> &[KeptValue]
         requires { page < (file_in self.now).count }
         ensures { result.now ≡ untaken_on (file_in self.now) page }
     {
         part(&self.values.bounds, &self.values.all, page)
+    }
+
+    /// Whether a page belongs to a whole set of a pair whose key is whole.
+    #[tactic(auto, unfolding(crate::specs::Below::is_taken))]
+    pub fn is_taken(&self, page: u32) -> bool
+        requires { page < (file_in self.now).count }
+        ensures { result ≡ is_taken (file_in self.now) page }
+    {
+        is_marked(&self.taken, page)
     }
 
     /// The places of the loose records.
@@ -317,7 +342,7 @@ impl<'a> Salvaged<'a> {
     }
 
     /// The places of the values of the set that begins at a page.
-    pub(crate) fn places_in(&self, leaf: u32) -> &[KeptValue]
+    pub fn places_in(&self, leaf: u32) -> &[KeptValue]
         requires { Contains (set_starts (file_in self.now)) leaf }
         ensures { result.now ≡ flat_map (values_on (file_in self.now)) (chain (file_in self.now) leaf) }
     {

@@ -115,7 +115,7 @@ fn fill_sections_backward(alloc: Global, sections: Sections) -> Result<Vec<Secti
     Ok(all)
 }
 
-/// The sections, in which each record of a fixed length is filled up to it.
+/// The sections, in which each record of a fixed length is filled up to it. An error means that memory ran out.
 pub fn filled(alloc: Global, sections: Sections) -> Result<Sections, AllocError>
     ensures { IfOk result (λ all. all ≡ map filled_section sections) }
 {

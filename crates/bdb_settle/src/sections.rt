@@ -44,7 +44,7 @@ pub fn ordered(alloc: Global, sections: Sections) -> Result<Sections, AllocError
 }
 
 /// What loading makes of the pairs of each section: the sections in the order given, with the same names and settings, and without
-/// lines. An error gives the least line that has one, and the first of its errors; where there is none, memory may be wanting.
+/// lines. An error gives the least line that has one, and the first of its errors; where there is none, memory may have run out.
 pub fn settle(alloc: Global, sections: Sections) -> Result<Sections, LoadError>
     ensures lists { IfOk result (λ all. all ≡ map loaded_section sections) }
     ensures sound { OnOk result (load_error sections ≡ None) }

@@ -20,7 +20,7 @@ pub(crate) fn unless_zero(sort: Sort, target: u32) -> Option<Name>
     Some((sort, u64::from(target)))
 }
 
-/// The page that an item names by what it holds.
+/// The page that an item names by what it holds. None where it names no page.
 pub fn content_name(content: &Content) -> Option<Name>
     ensures { option_to_list result ≡ content_targets (content_seen content.now) }
 {

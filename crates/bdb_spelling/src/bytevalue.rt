@@ -26,7 +26,7 @@ pub fn two_digits(byte: u8) -> [u8; 2]
     digits
 }
 
-/// Adds two digits for each byte; for a first part of the bytes where memory is wanting.
+/// Adds two digits for each byte; for a first part of the bytes where memory runs out.
 pub fn push_digits(text: &mut Bytes, bytes: &[u8]) -> Result<(), AllocError>
     ensures ok { OnOk result (text.new ≡ text.old ++ spelling false bytes.now) }
     ensures part { OnErr result (AddsPart (spelling false) bytes.now text.old text.new) }
@@ -68,7 +68,7 @@ fn fill_line(room: &mut [u8], value: &[u8])
     *feed = b'\n';
 }
 
-/// Adds the data line of a short value: a space, two digits for each byte, and a line feed. Where memory is wanting, nothing is added.
+/// Adds the data line of a short value: a space, two digits for each byte, and a line feed. Where memory runs out, nothing is added.
 pub fn push_short_line(text: &mut Bytes, value: &[u8]) -> Result<(), AllocError>
     requires { length value.now ≤ SHORT_VALUE }
     ensures ok { OnOk result (text.new ≡ text.old ++ line (data_line false value.now)) }

@@ -34,6 +34,7 @@ fn digits_in(text: &[u8], base: u64) -> Option<u64>
 }
 
 /// The number that a value of a header line says: one to ten decimal digits, or `0x` and one to eight hexadecimal digits, below 2^32.
+/// None for other values.
 pub fn number_read(value: &[u8]) -> Option<u32>
     ensures { result ≡ number_read value.now }
 {

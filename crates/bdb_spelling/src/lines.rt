@@ -8,6 +8,7 @@ use bdb_text_format::Bytes;
 use std::alloc::{AllocError, Global};
 
 /// The spelling of bytes, without a space before it or a line feed behind: printed, or two hexadecimal digits a byte.
+/// An error means that memory ran out.
 pub fn line_text(alloc: Global, bytes: &[u8], print: bool) -> Result<Bytes, AllocError>
     ensures { IfOk result (λ text. text ≡ spelling print bytes.now) }
 {
@@ -16,7 +17,7 @@ pub fn line_text(alloc: Global, bytes: &[u8], print: bool) -> Result<Bytes, Allo
     Ok(text)
 }
 
-/// Adds the spelling of bytes to a text. Where memory is wanting, the text has the spelling of a first part of them.
+/// Adds the spelling of bytes to a text. Where memory runs out, the text has the spelling of a first part of them.
 pub fn push_line_text(text: &mut Bytes, bytes: &[u8], print: bool) -> Result<(), AllocError>
     ensures ok { OnOk result (text.new ≡ text.old ++ spelling print bytes.now) }
     ensures part { OnErr result (AddsPart (spelling print) bytes.now text.old text.new) }

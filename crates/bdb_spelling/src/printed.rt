@@ -9,7 +9,7 @@ use crate::spellings::First;
 use bdb_text_format::Bytes;
 use std::alloc::AllocError;
 
-/// Adds bytes as they are printed; a first part of them where memory is wanting.
+/// Adds bytes as they are printed; a first part of them where memory runs out.
 pub fn push_printed(text: &mut Bytes, bytes: &[u8]) -> Result<(), AllocError>
     ensures ok { OnOk result (text.new ≡ text.old ++ spelling true bytes.now) }
     ensures part { OnErr result (AddsPart (spelling true) bytes.now text.old text.new) }

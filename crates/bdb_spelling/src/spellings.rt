@@ -11,7 +11,7 @@ use std::alloc::{AllocError, Global};
 pub enum SpellError {
     /// It is no spelling.
     Bad,
-    /// Memory is wanting.
+    /// Memory ran out.
     Memory,
 }
 

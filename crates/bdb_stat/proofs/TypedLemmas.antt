@@ -7,6 +7,7 @@ use Rattle.bdb_law_turned.specs.of_format.declared.pages.PageType.TheVariants.{H
 use Rattle.bdb_law_turned.specs.of_format.declared.pages.PageType.TheVariants.{Leaf as LeafPage, RecnoLeaf as RecnoLeafPage, DupLeaf as DupLeafPage}
 use Rattle.bdb_law_turned.specs.of_format.declared.pages.PageType.TheVariants.{Overflow as OverflowPage}
 use Rattle.bdb_law_turned.specs.of_format.Terms.{body_code, page_as, two_at}
+use Rattle.bdb_law_turned.proofs.of_format.PageLemmas.{chain_room}
 use Rattle.bdb_stat.specs.Unused.{unused_in}
 
 -- a page of a chain has the bytes behind its piece
@@ -14,7 +15,7 @@ pub chain_unused : (order : Order) (page : List ℕ) (piece : ℕ) → body_code
     → length page - 26 - piece ≡ unused_in (length page) (page_as order page OverflowPage)
 unfolding unused_in
 chain_unused order page piece code piece_is =
-    let room : 26 + two_at order page 22 ≤ length page = grind (arith, nat_tests, code) in
+    let room : 26 + two_at order page 22 ≤ length page = chain_room order page code in
     let long : length (take (two_at order page 22) (drop 26 page)) ≡ min (two_at order page 22) (length page - 26) =
     length-take (two_at order page 22) (drop 26 page) ∙ ap (min (two_at order page 22)) (length-drop 26 page) in
     omega arith

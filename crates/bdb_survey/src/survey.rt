@@ -130,7 +130,7 @@ fn all_rows<L: Ledger>(
 impl<'a> Survey<'a> {
     /// The survey of an image's pages: rows that begin at different pages share none but one on which a walk
     /// ends, so all walks together look at each page at most twice, and once more where a walk begins or where it's
-    /// the first child of an internal page.
+    /// the first child of an internal page. An error means that memory ran out.
     pub fn of<L: Ledger>(
         alloc: Global,
         pages: WholePages<'a>,
@@ -142,6 +142,7 @@ impl<'a> Survey<'a> {
         Ok(Survey { pages, rows })
     }
 
+    /// The pages that it surveys.
     pub fn pages(&self) -> &WholePages<'a>
         ensures { result.now ≡ self.now }
     {

@@ -12,7 +12,7 @@ use bdb_spelling::{PlacedKey, Span, SpellError, TextReason, number_in, read_run}
 pub enum LineError {
     /// The first of its reasons.
     Reason(TextReason),
-    /// Memory is wanting.
+    /// Memory ran out.
     Memory,
 }
 

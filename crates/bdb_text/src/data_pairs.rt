@@ -186,7 +186,7 @@ fn way_of(fields: &[Field<'_>]) -> Way
     }
 }
 
-// An empty run with room for so many bytes, where memory isn't wanting: so it isn't moved while it grows.
+// An empty run with room for so many bytes, where memory doesn't run out: so it isn't moved while it grows.
 fn run_with_room(alloc: Global, room: usize) -> Vec<u8>
     ensures { result.items ≡ [] }
 {

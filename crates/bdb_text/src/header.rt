@@ -25,6 +25,7 @@ pub struct HeaderRow<'a> {
 }
 
 /// The header of the section of a database with this name and these settings, whose data are printed or spelled by digits.
+/// An error means that memory ran out.
 #[tactic(auto, using(crate::proofs::HeaderLemmas::header_by_rows))]
 pub fn header_text(
     alloc: Global,

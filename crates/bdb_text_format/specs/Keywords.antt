@@ -38,16 +38,16 @@ number_read text = if is_number text then fitting (digits_value text) else (if i
 abbrev pub one_of : List (List ℕ) → List ℕ → Judged
 one_of words value = if list_any (bytes_eq value) words then Fits else Bad
 
--- one of these words; one more is left out by name
+-- one of these words; one more isn't supported
 abbrev pub one_of_but : List (List ℕ) → List ℕ → List ℕ → Judged
 one_of_but words other value = if bytes_eq value other then LeftOut else one_of words value
 
--- a number by two tests: what it asks for is left out, or it fits
+-- a number by two tests: what it asks for isn't supported, or it fits
 abbrev pub judged_number : (ℕ → Bool) → (ℕ → Bool) → Option ℕ → Judged
 judged_number fits left_out None = Bad
 judged_number fits left_out (Some n) = if left_out n then LeftOut else (if fits n then Fits else Bad)
 
--- a number that is this or that; another is left out by name
+-- a number that is this or that; another isn't supported
 abbrev pub number_that : (ℕ → Bool) → (ℕ → Bool) → List ℕ → Judged
 number_that fits left_out value = judged_number fits left_out (number_read value)
 

@@ -52,7 +52,7 @@ is_bad Fits = false
 is_bad Bad = true
 is_bad LeftOut = false
 
--- whether what a value asks for is left out by name
+-- whether what a value asks for isn't supported
 abbrev pub is_left_out : Judged → Bool
 is_left_out Fits = false
 is_left_out Bad = false

@@ -17,7 +17,7 @@ pub enum TextReason {
     RepeatedKeyword,
     /// A header ends and says no `type`.
     NoType,
-    /// The value is left out by name.
+    /// The value isn't supported.
     Unsupported,
     /// A data line doesn't begin with a space.
     NoSpace,

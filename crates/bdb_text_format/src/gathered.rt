@@ -1,7 +1,7 @@
 //! Pairs that share bytes of their run.
-ghost use Rattle.std.specs.Prelude.{◌≡◌, ◌-◌, ◌+◌, ◌^◌, ◌<◌, ◌≤◌, [], ℕ, List, IfOk, IfSome, IsSome, OnErr, OnOk, drop, get_or, length, slice_range, take};
+ghost use Rattle.std.specs.Prelude.{◌≡◌, ◌-◌, ◌+◌, ◌^◌, ◌<◌, ◌≤◌, [], ℕ, List, IfOk, IfSome, IsSome, OnErr, OnOk, Some, drop, get_or, length, slice_range, take};
 ghost use Rattle.bdb_places.specs.Places.{span_in};
-ghost use Rattle.bdb_text_format.specs.Gathered.{Extends, HasChains, IsSpanOf, with_again, with_pair};
+ghost use Rattle.bdb_text_format.specs.Gathered.{Extends, HasChains, IsSpanOf, noted, with_again, with_pair};
 ghost use Rattle.bdb_text_format.specs.Placed.{IsKeyPlaced, IsPiecePut, Keeps, pair_with, placed_key};
 ghost use Rattle.bdb_text_format.specs.declared.pairs.TextPair.{TextPair};
 
@@ -34,7 +34,7 @@ impl Model for Gathered {
 
 #[tactic(auto, using(crate::proofs::PlacedLemmas::pairs_placed, crate::proofs::GatheredLemmas::extended))]
 impl Gathered {
-    /// Nothing yet, with room for the places of so many pairs.
+    /// Nothing yet, with room for the places of so many pairs. An error means that memory ran out.
     pub fn new(alloc: Global, pairs: usize) -> Result<Gathered, AllocError>
         ensures pairs { IfOk result (λ it. it.pairs ≡ []) }
         ensures chains { IfOk result (λ it. (value : ℕ → List ℕ) → HasChains value it) }
@@ -74,7 +74,8 @@ impl Gathered {
 
     /// Where the value of the chain with this head stands, if it's there.
     pub fn chain(&self, head: u32) -> Option<Span>
-        ensures { IfSome result (λ span. (value : ℕ → List ℕ) → HasChains value self.now → IsPiecePut self.now.bytes (value head) span) }
+        ensures some { IfSome result (λ span. (value : ℕ → List ℕ) → HasChains value self.now → IsPiecePut self.now.bytes (value head) span) }
+        ensures told { result ≡ noted self.now.chains head }
     {
         match self.chains.get(&head) {
             Some(span) => Some(*span),
@@ -82,12 +83,14 @@ impl Gathered {
         }
     }
 
-    /// Adds the value of the chain with this head, and notes where it stands.
+    /// Adds the value of the chain with this head, and notes where it stands. Refused as `put` is, or where memory
+    /// runs out.
     pub fn put_chain(&mut self, head: u32, piece: &[u8]) -> Result<Span, AllocError>
         ensures kept { Keeps self.old.bytes self.new.bytes }
         ensures pairs { self.new.pairs ≡ self.old.pairs }
         ensures chains { (value : ℕ → List ℕ) → piece.now ≡ value head → HasChains value self.old → HasChains value self.new }
         ensures ok { IfOk result (IsPiecePut self.new.bytes piece.now) }
+        ensures told { IfOk result (λ span. noted self.new.chains head ≡ Some span) }
     {
         let span = put(&mut self.bytes, piece)?;
         self.chains.insert(head, span)?;
@@ -109,7 +112,7 @@ impl Gathered {
         Ok(())
     }
 
-    /// Adds a pair of a key and a datum that stand in the run.
+    /// Adds a pair of a key and a datum that stand in the run. An error means that memory ran out.
     pub fn push(&mut self, key: PlacedKey, value: Span) -> Result<(), AllocError>
         requires key { IsKeyPlaced self.old.bytes key }
         requires value { IsSpanOf self.old.bytes value }
@@ -129,7 +132,8 @@ impl Gathered {
         self.places[i].value
     }
 
-    /// Adds a key with each datum of pairs that are there, from one on up to another.
+    /// Adds a key with each datum of pairs that are there, from one on up to another. An error means that memory ran
+    /// out.
     pub fn push_again(&mut self, key: PlacedKey, from: usize, to: usize) -> Result<(), AllocError>
         requires key { IsKeyPlaced self.old.bytes key }
         requires order { from ≤ to }

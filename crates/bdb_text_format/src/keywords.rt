@@ -3,6 +3,6 @@
 pub enum Judged {
     Fits,
     Bad,
-    /// What it asks for is left out by name.
+    /// What it asks for isn't supported.
     LeftOut,
 }

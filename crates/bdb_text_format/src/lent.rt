@@ -76,12 +76,14 @@ impl<'a> PairSlice<'a> {
         PairSlice { bytes, places }
     }
 
+    /// How many pairs there are.
     pub fn len(&self) -> usize
         ensures { result ≡ length (slice_seen self.now) }
     {
         self.places.len()
     }
 
+    /// Whether there are none.
     pub fn is_empty(&self) -> bool
         ensures { result ≡ (length (slice_seen self.now) == 0) }
     {

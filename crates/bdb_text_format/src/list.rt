@@ -37,6 +37,7 @@ pub fn lent_key(key: &Key) -> KeyRef<'_>
 }
 
 impl PairList {
+    /// An empty list. It takes no memory yet.
     pub fn new(alloc: Global) -> PairList
         ensures { result ≡ [] }
     {
@@ -66,12 +67,14 @@ impl PairList {
         })
     }
 
+    /// How many pairs there are.
     pub fn len(&self) -> usize
         ensures { result ≡ length self.now }
     {
         self.pairs.len()
     }
 
+    /// Whether there are none.
     pub fn is_empty(&self) -> bool
         ensures { result ≡ (length self.now == 0) }
     {

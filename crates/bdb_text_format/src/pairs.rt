@@ -251,6 +251,7 @@ fn owned_pair(alloc: Global, pair: PairRef<'_>) -> Result<TextPair, AllocError>
 }
 
 impl TextPairs {
+    /// An empty list. It takes no memory yet.
     pub fn new(alloc: Global) -> TextPairs
         ensures { result ≡ [] }
     {
@@ -296,7 +297,8 @@ impl TextPairs {
         Ok(near_of(place))
     }
 
-    /// The same of a datum with the key of the last pair, which isn't copied.
+    /// The same of a datum with the key of the last pair, which isn't copied. An error means that memory ran out, and
+    /// leaves the list as it was.
     #[tactic(auto, using(crate::proofs::PlacedLemmas::pairs_placed))]
     pub fn push_value_near(
         &mut self,
@@ -361,12 +363,14 @@ impl TextPairs {
         pushed
     }
 
+    /// How many pairs there are.
     pub fn len(&self) -> usize
         ensures { result ≡ length self.now }
     {
         self.places.len()
     }
 
+    /// Whether there are none.
     pub fn is_empty(&self) -> bool
         ensures { result ≡ (length self.now == 0) }
     {
@@ -394,6 +398,7 @@ impl TextPairs {
         Ok(Some(pair))
     }
 
+    /// The pairs, lent.
     pub fn as_slice(&self) -> PairSlice<'_>
         ensures { slice_seen result ≡ self.now }
     {

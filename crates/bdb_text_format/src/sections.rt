@@ -30,6 +30,7 @@ impl Model for Sections {
 }
 
 impl Sections {
+    /// No sections. It takes no memory yet.
     pub fn new(alloc: Global) -> Sections
         ensures { result ≡ [] }
     {
@@ -47,12 +48,14 @@ impl Sections {
         Ok(())
     }
 
+    /// How many sections there are.
     pub fn len(&self) -> usize
         ensures { result ≡ length self.now }
     {
         self.items.len()
     }
 
+    /// Whether there are none.
     pub fn is_empty(&self) -> bool
         ensures { result ≡ (length self.now == 0) }
     {
@@ -66,6 +69,7 @@ impl Sections {
         self.items.get(i)
     }
 
+    /// The sections.
     pub fn as_slice(&self) -> &[Section]
         ensures { result.now ≡ self.now }
     {

@@ -1,4 +1,4 @@
--- Answers of the commands that build a file, and of `salvage`.
+-- Answers of the commands that build a file, and of `salvage` and `survey`.
 use Rattle.std.proofs.Common.{◌≡◌, ◌⊎◌, ℕ, Bool, true, false, List, [], ◌∷◌, map, ap, refl, sym, subst, arith, inl, inr, Option, Some, None, Result, nat_lt, codes, string_bytes}
 use Rattle.bdb_repair.specs.of_text_format.Terms.{line, text_fault}
 use Rattle.bdb_repair.specs.of_model.Answers.{Answer, done, fault_line, told, unsupported_line}
@@ -10,12 +10,16 @@ use Rattle.bdb_repair.specs.of_apart.Text.{apart_text, rest_text}
 use Rattle.bdb_repair.specs.of_format.declared.kinds.Unsupported.{Unsupported}
 use Rattle.bdb_repair.specs.of_rescue.Kept.{Reading}
 use Rattle.bdb_tool_words.specs.declared.command.Parts.{Parts}
-use Rattle.bdb_tool_words.specs.declared.command.Parts.TheVariants.{Together, Apart, Rest}
+use Rattle.bdb_tool_words.specs.declared.command.Parts.TheVariants as parts
 use Rattle.bdb_repair.specs.of_format.Terms.{Faulty, Judgement, LeftOut, verdict_of}
 use Rattle.bdb_repair.specs.of_rescue.Text.{salvage_text}
 use Rattle.bdb_repair.specs.of_rescue.Guesses.{chosen, unsupported_case}
 use Rattle.bdb_repair.specs.of_survey.declared.guess.Guess.{Guess}
-use Rattle.bdb_tool.specs.Outputs.{apart_answer, found_answer, no_metadata, parts_answer, rest_answer, salvage_answer, salvaged_answer, unless_unsupported}
+use Rattle.bdb_tool.specs.Outputs.{apart_answer, extract_answer, extract_by, no_metadata, parts_answer, salvage_answer, salvaged_answer, survey_answer}
+use Rattle.bdb_tool.specs.Outputs.{unless_unsupported}
+use Rattle.bdb_tool.specs.declared.salvaging.Extract.{Extract}
+use Rattle.bdb_tool.specs.declared.salvaging.Extract.TheVariants as extract
+use Rattle.bdb_tool_ask.specs.of_tool_print.Survey.{survey_text}
 use Rattle.bdb_tool_ask.specs.of_tool_lines.Finished.{Finishes, HasOwnStatus, Reports, Tells}
 use Rattle.bdb_tool.specs.Parts.{Answered, Ends, IsRefusalTold, Unanswered}
 use Rattle.bdb_repair.specs.of_format.declared.kinds.Kind.{Kind}
@@ -121,30 +125,37 @@ salvaged_own (Some guess) print image = low_own (done (salvage_text print guess 
 pub salvage_own : (guess : Option Guess) (print : Bool) (image : List ℕ) → HasOwnStatus (salvage_answer guess print image)
 salvage_own guess print image = salvaged_own (chosen guess image) print image
 
--- What is salvaged database by database.
+-- What is told database by database.
 
-apart_own : (dbs : List Found) (print : Bool) (guess : Guess) (image : List ℕ) → HasOwnStatus (apart_answer dbs print guess image)
-apart_own [] print guess image = low_own_ten
-apart_own (first ∷ others) print guess image = low_own (done (apart_text print guess image)) (omega arith)
+apart_own : (dbs : List Found) (print : Bool) (reading : Reading) → HasOwnStatus (apart_answer dbs print reading)
+apart_own [] print reading = low_own_ten
+apart_own (first ∷ others) print reading = low_own (done (apart_text print reading.guess reading.image)) (omega arith)
 
-found_own : (found : Option Guess) (print : Bool) (image : List ℕ) → HasOwnStatus (found_answer found print image)
-found_own None print image = low_own_ten
-found_own (Some guess) print image = apart_own (found (record { guess = guess; image = image })) print guess image
+known_own : (it : Extract) (reading : Reading) → HasOwnStatus (extract_answer it reading)
+known_own (extract.Apart print) reading = apart_own (found reading) print reading
+known_own (extract.Rest print) reading = low_own (done (rest_text print reading.guess reading.image)) (omega arith)
+known_own (extract.Survey case) reading = low_own (done (survey_text case reading)) (omega arith)
 
-rest_own : (found : Option Guess) (print : Bool) (image : List ℕ) → HasOwnStatus (rest_answer found print image)
-rest_own None print image = low_own_ten
-rest_own (Some guess) print image = low_own (done (rest_text print guess image)) (omega arith)
+extract_own : (guess : Option Guess) (it : Extract) (image : List ℕ) → HasOwnStatus (extract_by guess it image)
+extract_own None it image = low_own_ten
+extract_own (Some guess) it image = known_own it (record { guess = guess; image = image })
 
 unless_own : (left : Option Unsupported) (answer : Answer) → HasOwnStatus answer → HasOwnStatus (unless_unsupported left answer)
 unless_own None answer own = own
 unless_own (Some name) answer own = low_own (told 3 (unsupported_line name 0)) (omega arith)
 
-pub parts_own : (parts : Parts) (guess : Option Guess) (print : Bool) (image : List ℕ) → HasOwnStatus (parts_answer parts guess print image)
-parts_own Together guess print image = salvage_own guess print image
-parts_own Apart guess print image =
-    unless_own (unsupported_case guess image) (found_answer (chosen guess image) print image) (found_own (chosen guess image) print image)
-parts_own Rest guess print image =
-    unless_own (unsupported_case guess image) (rest_answer (chosen guess image) print image) (rest_own (chosen guess image) print image)
+supported_own : (guess : Option Guess) (it : Extract) (image : List ℕ)
+    → HasOwnStatus (unless_unsupported (unsupported_case guess image) (extract_by (chosen guess image) it image))
+supported_own guess it image =
+    unless_own (unsupported_case guess image) (extract_by (chosen guess image) it image) (extract_own (chosen guess image) it image)
+
+pub parts_own : (it : Parts) (guess : Option Guess) (print : Bool) (image : List ℕ) → HasOwnStatus (parts_answer it guess print image)
+parts_own parts.Together guess print image = salvage_own guess print image
+parts_own parts.Apart guess print image = supported_own guess (extract.Apart print) image
+parts_own parts.Rest guess print image = supported_own guess (extract.Rest print) image
+
+pub survey_own : (guess : Option Guess) (image : List ℕ) → HasOwnStatus (survey_answer guess image)
+survey_own guess image = extract_own (chosen guess image) (extract.Survey (unsupported_case None image)) image
 
 -- what is salvaged by the guess that was chosen was written, or cut off, and that was told
 pub salvage_finishes : (given : Option Guess) (print : Bool) (image : List ℕ) (guess : Guess) (read : List ℕ) (out err : Change) (written : Result Unit Cut)
@@ -166,77 +177,56 @@ no_meta_finishes answer written faults err status is tells =
 pub no_salvage : (given : Option Guess) (print : Bool) (image : List ℕ) → chosen given image ≡ None → salvage_answer given print image ≡ no_metadata
 no_salvage given print image none = ap (λ it. salvaged_answer it print image) none
 
-pub no_found : (given : Option Guess) (print : Bool) (image : List ℕ) → chosen given image ≡ None → found_answer (chosen given image) print image ≡ no_metadata
-no_found given print image none = ap (λ it. found_answer it print image) none
-
-pub no_rest : (given : Option Guess) (print : Bool) (image : List ℕ) → chosen given image ≡ None → rest_answer (chosen given image) print image ≡ no_metadata
-no_rest given print image none = ap (λ it. rest_answer it print image) none
+pub no_extract : (given : Option Guess) (it : Extract) (image : List ℕ) → chosen given image ≡ None → extract_by (chosen given image) it image ≡ no_metadata
+no_extract given it image none = ap (λ (guess : Option Guess). extract_by guess it image) none
 
 -- nor where no database is found
-pub no_database : (reading : Reading) (print : Bool) → found_in reading ≡ [] → apart_answer (found reading) print reading.guess reading.image ≡ no_metadata
+pub no_database : (reading : Reading) (print : Bool) → found_in reading ≡ [] → apart_answer (found reading) print reading ≡ no_metadata
 no_database reading print none = by_list (found reading) none
   where
-    by_list : (dbs : List Found) → ◌≡◌ {A = List FoundIn} (map (λ db. record { reading = reading; db = db }) dbs) [] → apart_answer dbs print reading.guess reading.image
-        ≡ no_metadata
+    by_list : (dbs : List Found) → ◌≡◌ {A = List FoundIn} (map (λ db. record { reading = reading; db = db }) dbs) []
+        → apart_answer dbs print reading ≡ no_metadata
     by_list [] none = refl
     by_list (db ∷ dbs) none = absurd (cc none)
 
 -- where one is found the text of all was written, or cut off, and that was told
 pub apart_finishes : (reading : Reading) (print : Bool) (first : FoundIn) (others : List FoundIn) (out err : Change) (written : Result Unit Cut) (status : ℕ)
     → found_in reading ≡ first ∷ others → Writes (apart_text print reading.guess reading.image) out written → Reports written err status
-    → Finishes (apart_answer (found reading) print reading.guess reading.image) out err status
+    → Finishes (apart_answer (found reading) print reading) out err status
 apart_finishes reading print first others out err written status some writes reports = by_list (found reading) some
   where
     by_list : (dbs : List Found) → map (λ db. record { reading = reading; db = db }) dbs ≡ first ∷ others
-        → Finishes (apart_answer dbs print reading.guess reading.image) out err status
+        → Finishes (apart_answer dbs print reading) out err status
     by_list [] none = absurd (cc none)
     by_list (db ∷ dbs) some = written_finishes (apart_text print reading.guess reading.image) out err written status writes reports
 
--- the text of what belongs to none was written, or cut off, and that was told
-pub rest_written : (reading now : Reading) (print : Bool) (out err : Change) (written : Result Unit Cut) (status : ℕ) → reading ≡ now
-    → Writes (rest_text print reading.guess reading.image) out written → Reports written err status
-    → Finishes (done (rest_text print now.guess now.image)) out err status
-rest_written reading now print out err written status same writes reports =
-    written_finishes (rest_text print now.guess now.image) out err written status
-    (subst (λ it. Writes (rest_text print it.guess it.image) out written) same writes) reports
+-- what is told of a reading that is another's
+pub known_as : (it : Extract) (reading now : Reading) (out err : Change) (status : ℕ) → reading ≡ now → Finishes (extract_answer it reading) out err status
+    → Finishes (extract_answer it now) out err status
+known_as it reading now out err status same finishes = subst (λ (r : Reading). Finishes (extract_answer it r) out err status) same finishes
 
-pub apart_memory : (reading : Reading) (print : Bool) (written : Option (List ℕ)) (faults : ℕ) (err : Change) (status : ℕ) → Tells memory_line 7 err status
-    → Finishes (apart_answer (found reading) print reading.guess reading.image) (moved written written faults faults) err status
-apart_memory reading print written faults err status tells =
-    memory_finishes (apart_answer (found reading) print reading.guess reading.image) written faults err status
-    (apart_own (found reading) print reading.guess reading.image) tells
+pub known_memory : (it : Extract) (reading : Reading) (written : Option (List ℕ)) (faults : ℕ) (err : Change) (status : ℕ) → Tells memory_line 7 err status
+    → Finishes (extract_answer it reading) (moved written written faults faults) err status
+known_memory it reading written faults err status tells = memory_finishes (extract_answer it reading) written faults err status (known_own it reading) tells
 
--- what is answered of an image that was read by the guess that was chosen
-pub found_finishes : (given : Option Guess) (print : Bool) (image : List ℕ) (reading : Reading) (out err : Change) (status : ℕ)
-    → chosen given image ≡ Some reading.guess → reading.image ≡ image
-    → Finishes (apart_answer (found reading) print reading.guess reading.image) out err status
-    → Finishes (found_answer (chosen given image) print image) out err status
-found_finishes given print image reading out err status is same finishes =
-    subst (λ it. Finishes (found_answer it print image) out err status) (sym is)
-    (subst (λ bytes. Finishes (apart_answer (found (record { guess = reading.guess; image = bytes })) print reading.guess bytes) out err status) same finishes)
+-- what is told of an image that was read by the guess that was chosen
+pub extract_finishes : (given : Option Guess) (it : Extract) (image : List ℕ) (reading : Reading) (out err : Change) (status : ℕ)
+    → chosen given image ≡ Some reading.guess → reading.image ≡ image → Finishes (extract_answer it reading) out err status
+    → Finishes (extract_by (chosen given image) it image) out err status
+extract_finishes given it image reading out err status is same finishes =
+    subst (λ guess. Finishes (extract_by guess it image) out err status) (sym is)
+    (subst (λ bytes. Finishes (extract_answer it (record { guess = reading.guess; image = bytes })) out err status) same finishes)
 
-pub rest_finishes : (given : Option Guess) (print : Bool) (image : List ℕ) (reading : Reading) (out err : Change) (status : ℕ)
-    → chosen given image ≡ Some reading.guess → reading.image ≡ image
-    → Finishes (done (rest_text print reading.guess reading.image)) out err status → Finishes (rest_answer (chosen given image) print image) out err status
-rest_finishes given print image reading out err status is same finishes =
-    subst (λ it. Finishes (rest_answer it print image) out err status) (sym is)
-    (subst (λ bytes. Finishes (done (rest_text print reading.guess bytes)) out err status) same finishes)
-
--- memory was wanting
+-- memory ran out
 pub salvage_memory : (given : Option Guess) (print : Bool) (image : List ℕ) (written : Option (List ℕ)) (faults : ℕ) (err : Change) (status : ℕ)
     → Tells memory_line 7 err status → Finishes (salvage_answer given print image) (moved written written faults faults) err status
 salvage_memory given print image written faults err status tells =
     memory_finishes (salvage_answer given print image) written faults err status (salvage_own given print image) tells
 
-pub found_memory : (given : Option Guess) (print : Bool) (image : List ℕ) (written : Option (List ℕ)) (faults : ℕ) (err : Change) (status : ℕ)
-    → Tells memory_line 7 err status → Finishes (found_answer (chosen given image) print image) (moved written written faults faults) err status
-found_memory given print image written faults err status tells =
-    memory_finishes (found_answer (chosen given image) print image) written faults err status (found_own (chosen given image) print image) tells
-
-pub rest_memory : (given : Option Guess) (print : Bool) (image : List ℕ) (written : Option (List ℕ)) (faults : ℕ) (err : Change) (status : ℕ)
-    → Tells memory_line 7 err status → Finishes (rest_answer (chosen given image) print image) (moved written written faults faults) err status
-rest_memory given print image written faults err status tells =
-    memory_finishes (rest_answer (chosen given image) print image) written faults err status (rest_own (chosen given image) print image) tells
+pub extract_memory : (given : Option Guess) (it : Extract) (image : List ℕ) (written : Option (List ℕ)) (faults : ℕ) (err : Change) (status : ℕ)
+    → Tells memory_line 7 err status → Finishes (extract_by (chosen given image) it image) (moved written written faults faults) err status
+extract_memory given it image written faults err status tells =
+    memory_finishes (extract_by (chosen given image) it image) written faults err status (extract_own (chosen given image) it image) tells
 
 -- A case that page 0 names.
 

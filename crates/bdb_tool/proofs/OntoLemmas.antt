@@ -35,7 +35,7 @@ use Rattle.bdb_tool.proofs.RunLemmas.{calls_read, ended_runs, finished_runs, lon
 
 -- A base that isn't sound.
 
--- what holds first was told, or that memory was wanting
+-- what holds first was told, or that memory ran out
 pub refused_ends : (error : FirstError) (limit : ℕ) (text image : List ℕ) (written : Option (List ℕ)) (faults : ℕ) (err : Change) (status : ℕ)
     → IsFirstRefusal (faults_of image) error
     → IsRefused error err status → Ends (IsOntoBy limit (verdict_of image) text image) (moved written written faults faults) err status

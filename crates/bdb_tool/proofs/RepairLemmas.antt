@@ -32,7 +32,7 @@ use Rattle.bdb_tool_words.specs.declared.command.Built.TheVariants.{Each, Shaped
 
 -- What is built is an answer.
 
--- the answer to a result is allowed; memory may be wanting
+-- the answer to a result is allowed; memory may have run out
 abbrev pub Allows : (Answer → Type 0) → ℕ → Result (List ℕ) RepairError → Type 0
 Allows allowed limit (Ok built) = allowed (done built)
 Allows allowed limit (Err NoMeta) = allowed no_metadata

@@ -4,7 +4,7 @@ use Rattle.std.specs.Prelude.{Option, Some, None, nat_lt}
 use Rattle.std.specs.Io.KnownBytes.{Consumes, IsAtEnd}
 use Rattle.std.proofs.lemmas.Bool.{le-ltb, lt-ltb}
 use Rattle.bdb_repair.specs.of_model.Answers.{Answer, told, too_large_line}
-use Rattle.bdb_tool_words.specs.Commands.{Ask, Command, Load, Repair, Salvage, Trial, reads_input, usage}
+use Rattle.bdb_tool_words.specs.Commands.{Ask, Command, Load, Repair, Salvage, Survey, Trial, reads_input, usage}
 use Rattle.bdb_repair.specs.of_model.Change.{Change, GainsPart, HasFailed, IsUncalled, Stays}
 use Rattle.bdb_repair.specs.of_any_order.declared.rows.Rows.TheVariants.{All}
 use Rattle.bdb_repair.specs.of_format.Terms.{Rose, Took}
@@ -12,7 +12,7 @@ use Rattle.bdb_repair.specs.of_model.Lines.{memory_line, read_fault_line, write_
 use Rattle.bdb_repair.proofs.of_format.KnownLemmas.{keeps_itself}
 use Rattle.bdb_tool_build.specs.Loads.{IsTextAnswer}
 use Rattle.bdb_tool_build.specs.Trials.{IsTrialAnswer}
-use Rattle.bdb_tool.specs.Outputs.{AnswersInPart, Asked, IsActionAnswer, IsAnswerBySize, IsAnswerTo, IsCommandAnswer, IsInput, IsRepairAnswer, Output, StatusIs, asked_alone, asked_with, parts_answer}
+use Rattle.bdb_tool.specs.Outputs.{AnswersInPart, Asked, IsActionAnswer, IsAnswerBySize, IsAnswerTo, IsCommandAnswer, IsInput, IsRepairAnswer, Output, StatusIs, asked_alone, asked_with, parts_answer, survey_answer}
 use Rattle.bdb_tool_ask.specs.FileAnswers.{asked_answer}
 use Rattle.bdb_tool_ask.specs.of_tool_lines.Finished.{Finishes, Tells}
 use Rattle.bdb_tool.specs.Parts.{Answered, Ends, IsTaskAnswered, IsToldStop, Unanswered}
@@ -23,9 +23,10 @@ use Rattle.bdb_tool_words.specs.declared.command.Trial.{Trial as CodeTrial}
 use Rattle.bdb_tool.specs.declared.task.Stop.{Stop}
 use Rattle.bdb_tool.specs.declared.task.Stop.TheVariants.{Usage, TooLarge, ReadFault, Memory as MemoryStop}
 use Rattle.bdb_tool.specs.declared.task.Task.{Task}
-use Rattle.bdb_tool.specs.declared.task.Task.TheVariants.{Ask as AskTask, Load as LoadTask, Read as ReadTask, Repair as RepairTask, Salvage as SalvageTask, Trial as TrialTask}
+use Rattle.bdb_tool.specs.declared.task.Task.TheVariants.{Ask as AskTask, Load as LoadTask, Read as ReadTask, Repair as RepairTask, Salvage as SalvageTask}
+use Rattle.bdb_tool.specs.declared.task.Task.TheVariants.{Survey as SurveyTask, Trial as TrialTask}
 use Rattle.bdb_tool_ask.proofs.TellingLemmas.{asked_own}
-use Rattle.bdb_tool.proofs.BuiltLemmas.{parts_own, text_own, trial_own}
+use Rattle.bdb_tool.proofs.BuiltLemmas.{parts_own, survey_own, text_own, trial_own}
 use Rattle.bdb_tool_ask.proofs.of_tool_lines.FinishLemmas.{memory_finishes, told_finishes}
 use Rattle.bdb_tool.proofs.RepairLemmas.{repair_own}
 use Rattle.bdb_tool_ask.proofs.of_tool_lines.PrintingLemmas.{moved}
@@ -168,7 +169,7 @@ finished_runs asks source out err input answer status is answers other finishes 
       read_whole = calls.read_whole;
     }
 
--- memory was wanting before an answer was known
+-- memory ran out before an answer was known
 pub unanswered_runs : (asks : Asked) (source out err : Change) (status : ℕ) (command : Command) → asks.command ≡ Some command
     → (reads_input command.action ≡ false → IsUncalled source) → Stays out → Tells memory_line 7 err status
     → RunsAs asks source out err status
@@ -185,7 +186,7 @@ unanswered_runs asks source out err status command is uncalled stays tells = rec
   read_whole = λ other other_is reads answered. absurd (elim tells.status_is [ inl seven ↦ answered.2 seven | inr five ↦ answered.1 five ]);
 }
 
--- an answer of a relation was written, or memory was wanting before one was known
+-- an answer of a relation was written, or memory ran out before one was known
 pub ended_runs : (asks : Asked) (source out err : Change) (input : List ℕ) (command : Command) (allowed : Answer → Type 0) (status : ℕ)
     → IsInput source.before input → asks.command ≡ Some command
     → ((answer : Answer) → allowed answer → IsAnswerTo asks input answer × (answer.status ≢ 4)) → (reads_input command.action ≡ false → IsUncalled source)
@@ -279,6 +280,9 @@ taken_runs asks source out err (SalvageTask asked image) status taken answered =
     (parts_own asked.parts asked.guess asked.print image).no_read_fault answered
 taken_runs asks source out err (RepairTask asked image limit) status taken answered = repaired_runs asks source out err limit asked image status taken.read
     answered
+taken_runs asks source out err (SurveyTask guess image) status taken answered =
+    let command : Command = record { limit = taken.limit; action = Survey guess } in
+    asked_runs asks source out err command image (survey_answer guess image) status taken.read refl (survey_own guess image).no_read_fault answered
 taken_runs asks source out err (TrialTask trial limit) status taken answered = tried_runs asks source out err limit trial status taken.command_is taken.uncalled
     answered
 
@@ -341,7 +345,7 @@ read_fault_runs asks source out err status are failed stays tells = record {
   read_whole = λ _ _ _ answered. absurd (elim tells.status_is [ inl four ↦ answered.0 four | inr five ↦ answered.1 five ]);
 }
 
--- memory was wanting before there was a task
+-- memory ran out before there was a task
 memory_runs : (asks : Asked) (source err : Change) (written : Option (List ℕ)) (faults status : ℕ) → AreReading asks.command → Tells memory_line 7 err status
     → RunsAs asks source (moved written written faults faults) err status
 memory_runs asks source err written faults status are tells =

@@ -1,11 +1,13 @@
 -- From the words and the source to a task.
 use Rattle.std.proofs.Common.{◌≡◌, ℕ, ◌+◌, false, true, List, refl, subst, sym, ◌∙◌, ap, Option, Some, None, IsTrue, is_some}
 use Rattle.bdb_repair.specs.of_model.Change.{Change}
-use Rattle.bdb_tool_words.specs.Commands.{Action, Ask, Command, Load, Repair, Request, Salvage, asking, handed, reads_input, within}
+use Rattle.bdb_tool_words.specs.Commands.{Action, Ask, Command, Load, Repair, Request, Salvage, Survey, asking, handed, reads_input, within}
 use Rattle.bdb_repair.specs.of_any_order.declared.rows.Rows.{Rows}
 use Rattle.bdb_repair.specs.of_any_order.declared.rows.Rows.TheVariants.{All}
 use Rattle.bdb_repair.specs.of_format.Terms.{Took}
+use Rattle.bdb_repair.specs.of_survey.declared.guess.Guess.{Guess}
 use Rattle.bdb_tool_words.specs.declared.command.Action.TheVariants.{Ask as AskWord, Load as LoadWord, Read as ReadWord, Repair as RepairWord, Salvage as SalvageWord}
+use Rattle.bdb_tool_words.specs.declared.command.Action.TheVariants.{Survey as SurveyWord}
 use Rattle.bdb_tool_words.specs.declared.command.Reading.{Reading}
 use Rattle.bdb_tool_words.specs.declared.command.Request.{Request as CodeRequest}
 use Rattle.bdb_tool_words.specs.declared.command.Repair.{Repair as CodeRepair}
@@ -99,3 +101,7 @@ pub repair_unread : (said : Option Command) (source : Change) (limit : ℕ) (ask
     → IsSeen said (record { limit = limit; action = RepairWord asked }) → IsUnreadable limit source stop → IsStopped (handed false said) source stop
 repair_unread said source limit asked stop seen unread = not_read (handed false said) source limit (Repair asked) stop (ap (handed false) seen.0) refl
     unread
+
+pub survey_unread : (said : Option Command) (source : Change) (limit : ℕ) (guess : Option Guess) (stop : Stop)
+    → IsSeen said (record { limit = limit; action = SurveyWord guess }) → IsUnreadable limit source stop → IsStopped (handed false said) source stop
+survey_unread said source limit guess stop seen unread = not_read (handed false said) source limit (Survey guess) stop (ap (handed false) seen.0) refl unread

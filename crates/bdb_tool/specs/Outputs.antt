@@ -1,6 +1,6 @@
 -- The answers to words, an input and a base: a status, and what is written to the output and to the error sink. Source: man/bdbtool.1.
 use Rattle.std.specs.Prelude.{◌≡◌, ◌⊎◌, ℕ, nat_lt, ◌&&◌, Bool, true, false, List, [], ◌∷◌, length, Option, Some, None, codes, is_some, unwrap_or, ⊤}
-use Rattle.bdb_tool_words.specs.Commands.{Action, Ask, Command, Load, LoadOnto, Repair, Salvage, Trial, command_on, reads_input, usage}
+use Rattle.bdb_tool_words.specs.Commands.{Action, Ask, Command, Load, LoadOnto, Repair, Salvage, Survey, Trial, command_on, reads_input, usage}
 use Rattle.bdb_repair.specs.of_model.Answers.{Answer, done, told, too_large_line, unsupported_line}
 use Rattle.bdb_repair.specs.of_model.declared.shape.Shape.{Shape}
 use Rattle.bdb_repair.specs.of_model.Change.{Change, Gains, GainsPart, Stays}
@@ -8,6 +8,7 @@ use Rattle.bdb_repair.specs.of_format.declared.kinds.Unsupported.{Unsupported}
 use Rattle.bdb_repair.specs.of_text_format.Terms.{line}
 use Rattle.bdb_repair.specs.of_apart.Found.{Found, found}
 use Rattle.bdb_repair.specs.of_apart.Text.{apart_text, rest_text}
+use Rattle.bdb_repair.specs.of_rescue.Kept.{Reading}
 use Rattle.bdb_repair.specs.of_rescue.Text.{salvage_text}
 use Rattle.bdb_repair.specs.of_mkfile.Builds.{image_size}
 use Rattle.bdb_repair.specs.Apart.{apart_sections}
@@ -15,16 +16,19 @@ use Rattle.bdb_repair.specs.Parts.{repair_sections}
 use Rattle.bdb_tool_words.specs.declared.command.Built.{Built}
 use Rattle.bdb_tool_words.specs.declared.command.Built.TheVariants.{Each, Shaped}
 use Rattle.bdb_tool_words.specs.declared.command.Parts.{Parts}
-use Rattle.bdb_tool_words.specs.declared.command.Parts.TheVariants.{Together, Apart, Rest}
+use Rattle.bdb_tool_words.specs.declared.command.Parts.TheVariants as parts
 use Rattle.bdb_repair.specs.of_rescue.Guesses.{chosen, is_queue_or_master, unsupported_case}
 use Rattle.bdb_repair.specs.of_survey.declared.guess.Guess.{Guess}
 use Rattle.bdb_repair.specs.of_format.declared.kinds.Unsupported.{Unsupported}
 use Rattle.bdb_repair.specs.of_text_format.declared.sections.Section.{Section}
 use Rattle.bdb_tool.specs.Ontos.{IsOntoAnswer}
+use Rattle.bdb_tool.specs.declared.salvaging.Extract.{Extract}
+use Rattle.bdb_tool.specs.declared.salvaging.Extract.TheVariants as extract
 use Rattle.bdb_tool_build.specs.Lines.{image_too_large_line}
 use Rattle.bdb_tool_build.specs.Loads.{IsImageAnswer, IsTextAnswer}
 use Rattle.bdb_tool_build.specs.Trials.{IsTrialAnswer}
 use Rattle.bdb_tool_ask.specs.FileAnswers.{asked_answer}
+use Rattle.bdb_tool_ask.specs.of_tool_print.Survey.{survey_text}
 
 abbrev pub no_metadata : Answer
 no_metadata = told 10 (line (codes "no metadata page"))
@@ -44,24 +48,32 @@ unless_unsupported None answer = answer
 unless_unsupported (Some name) answer = told 3 (unsupported_line name 0)
 
 -- of the databases that are found, where there are some
-abbrev pub apart_answer : List Found → Bool → Guess → List ℕ → Answer
-apart_answer [] print guess image = no_metadata
-apart_answer (first ∷ others) print guess image = done (apart_text print guess image)
+abbrev pub apart_answer : List Found → Bool → Reading → Answer
+apart_answer [] print reading = no_metadata
+apart_answer (first ∷ others) print reading = done (apart_text print reading.guess reading.image)
 
-abbrev pub found_answer : Option Guess → Bool → List ℕ → Answer
-found_answer None print image = no_metadata
-found_answer (Some guess) print image = apart_answer (found (record { guess = guess; image = image })) print guess image
+-- database by database: what is salvaged of each, what belongs to none, or what the image still has
+abbrev pub extract_answer : Extract → Reading → Answer
+extract_answer (extract.Apart print) reading = apart_answer (found reading) print reading
+extract_answer (extract.Rest print) reading = done (rest_text print reading.guess reading.image)
+extract_answer (extract.Survey case) reading = done (survey_text case reading)
 
--- what belongs to none
-abbrev pub rest_answer : Option Guess → Bool → List ℕ → Answer
-rest_answer None print image = no_metadata
-rest_answer (Some guess) print image = done (rest_text print guess image)
+-- of an image by a guess, if there is one
+abbrev pub extract_by : Option Guess → Extract → List ℕ → Answer
+extract_by None extract image = no_metadata
+extract_by (Some guess) extract image = extract_answer extract (record { guess = guess; image = image })
 
 -- by what is asked for
 abbrev pub parts_answer : Parts → Option Guess → Bool → List ℕ → Answer
-parts_answer Together guess print image = salvage_answer guess print image
-parts_answer Apart guess print image = unless_unsupported (unsupported_case guess image) (found_answer (chosen guess image) print image)
-parts_answer Rest guess print image = unless_unsupported (unsupported_case guess image) (rest_answer (chosen guess image) print image)
+parts_answer parts.Together guess print image = salvage_answer guess print image
+parts_answer parts.Apart guess print image =
+    unless_unsupported (unsupported_case guess image) (extract_by (chosen guess image) (extract.Apart print) image)
+parts_answer parts.Rest guess print image =
+    unless_unsupported (unsupported_case guess image) (extract_by (chosen guess image) (extract.Rest print) image)
+
+-- `survey`: the case that page 0 names is told beside all else, whatever guess is given
+abbrev pub survey_answer : Option Guess → List ℕ → Answer
+survey_answer guess image = extract_by (chosen guess image) (extract.Survey (unsupported_case None image)) image
 
 -- `repair`: some image that is built of what is salvaged, by whether it would be too large
 abbrev pub IsImageBy : Bool → ℕ → List Section → Answer → Type 0
@@ -119,6 +131,7 @@ IsActionAnswer Load limit input base answer = IsTextAnswer limit input answer
 IsActionAnswer (LoadOnto file) limit input base answer = IsOntoAnswer limit input base answer
 IsActionAnswer (Salvage asked) limit input base answer = answer ≡ parts_answer asked.parts asked.guess asked.print input
 IsActionAnswer (Repair asked) limit input base answer = IsRepairAnswer limit asked.built asked.guess input answer
+IsActionAnswer (Survey guess) limit input base answer = answer ≡ survey_answer guess input
 IsActionAnswer (Trial asked) limit input base answer = IsTrialAnswer limit asked.kind asked.seed asked.count answer
 
 -- an answer to an input, by whether it is too long

@@ -11,11 +11,12 @@ use Rattle.bdb_tool_ask.specs.FileAnswers.{asked_answer}
 use Rattle.bdb_repair.specs.declared.error.RepairError.{RepairError}
 use Rattle.bdb_repair.specs.declared.error.RepairError.TheVariants.{NoMeta, TooLarge as TooLargeFile, Memory as WantOfMemory}
 use Rattle.bdb_tool_build.specs.Lines.{image_too_large_line}
-use Rattle.bdb_tool.specs.Outputs.{IsRepairAnswer, no_metadata, parts_answer}
+use Rattle.bdb_tool.specs.Outputs.{IsRepairAnswer, no_metadata, parts_answer, survey_answer}
 use Rattle.bdb_tool.specs.Tasks.{IsInputWithin}
 use Rattle.bdb_tool_words.specs.WordsSeen.{reading_seen, request_seen}
 use Rattle.bdb_tool.specs.declared.task.Task.{Task}
-use Rattle.bdb_tool.specs.declared.task.Task.TheVariants.{Ask as AskTask, Load as LoadTask, Read as ReadTask, Repair as RepairTask, Salvage as SalvageTask, Trial as TrialTask}
+use Rattle.bdb_tool.specs.declared.task.Task.TheVariants.{Ask as AskTask, Load as LoadTask, Read as ReadTask, Repair as RepairTask, Salvage as SalvageTask}
+use Rattle.bdb_tool.specs.declared.task.Task.TheVariants.{Survey as SurveyTask, Trial as TrialTask}
 use Rattle.bdb_tool.specs.declared.task.Stop.{Stop}
 use Rattle.bdb_tool.specs.declared.task.Stop.TheVariants.{Usage, TooLarge, ReadFault, Memory as MemoryStop}
 use Rattle.bdb_tool_build.specs.declared.refusal.Refusal.{Refusal}
@@ -24,14 +25,14 @@ use Rattle.bdb_tool_build.specs.Loads.{IsTextAnswer}
 use Rattle.bdb_tool_build.specs.Trials.{IsTrialAnswer}
 use Rattle.bdb_tool_ask.specs.of_tool_lines.Finished.{Finishes, Tells}
 
--- it was told why there is no task to answer, or that memory was wanting
+-- it was told why there is no task to answer, or that memory ran out
 abbrev pub IsToldStop : Stop → Change → ℕ → Type 0
 IsToldStop Usage err status = Tells usage.err 2 err status
 IsToldStop (TooLarge limit) err status = Tells (too_large_line limit) 6 err status ⊎ Tells memory_line 7 err status
 IsToldStop ReadFault err status = Tells read_fault_line 4 err status
 IsToldStop MemoryStop err status = Tells memory_line 7 err status
 
--- it was told why a base isn't read, or that memory was wanting
+-- it was told why a base isn't read, or that memory ran out
 abbrev pub IsToldOfBase : Stop → Change → ℕ → Type 0
 IsToldOfBase Usage err status = IsToldStop Usage err status
 IsToldOfBase (TooLarge limit) err status = Tells (base_too_large_line limit) 6 err status ⊎ Tells memory_line 7 err status
@@ -50,7 +51,7 @@ TellsWhy limit NoMeta err status = Tells no_metadata.err 10 err status
 TellsWhy limit TooLargeFile err status = Tells (image_too_large_line limit) 6 err status ⊎ Tells memory_line 7 err status
 TellsWhy limit WantOfMemory err status = Tells memory_line 7 err status
 
--- an image that was built was written, or it was told why there is none, or that memory was wanting
+-- an image that was built was written, or it was told why there is none, or that memory ran out
 abbrev pub IsBuiltTold : ℕ → Result (List ℕ) RepairError → Change → Change → ℕ → Type 0
 IsBuiltTold limit (Ok built) out err status = Finishes (done built) out err status
 IsBuiltTold limit (Err NoMeta) out err status = Finishes no_metadata out err status
@@ -58,13 +59,13 @@ IsBuiltTold limit (Err TooLargeFile) out err status =
     Finishes (told 6 (image_too_large_line limit)) out err status ⊎ (Stays out × Tells memory_line 7 err status)
 IsBuiltTold limit (Err WantOfMemory) out err status = Stays out × Tells memory_line 7 err status
 
--- one of the answers that are allowed was written, or memory was wanting before one was known
+-- one of the answers that are allowed was written, or memory ran out before one was known
 pub data Ends (allowed : Answer → Type 0) (out err : Change) (status : ℕ) : Type 0 where
   Answered : (answer : Answer) → allowed answer → Finishes answer out err status → Ends allowed out err status
   Unanswered : Stays out → Tells memory_line 7 err status → Ends allowed out err status
 
--- how a text that was read was loaded onto a base: an answer was written, or memory was wanting; the base was too long, which was told; it failed; or
--- memory was wanting to read it
+-- how a text that was read was loaded onto a base: an answer was written, or memory ran out; the base was too long, which was told; it failed; or
+-- memory ran out to read it
 pub data EndsOnto (limit : ℕ) (text : List ℕ) (base out err : Change) (status : ℕ) : Type 0 where
   BaseRead : (image : List ℕ) → IsInputWithin limit base image → Ends (IsOntoBy limit (verdict_of image) text image) out err status
       → EndsOnto limit text base out err status
@@ -81,4 +82,5 @@ IsTaskAnswered (AskTask request image) out err status =
 IsTaskAnswered (LoadTask text limit) out err status = Ends (IsTextAnswer limit text) out err status
 IsTaskAnswered (SalvageTask asked image) out err status = Finishes (parts_answer asked.parts asked.guess asked.print image) out err status
 IsTaskAnswered (RepairTask asked image limit) out err status = Ends (IsRepairAnswer limit asked.built asked.guess image) out err status
+IsTaskAnswered (SurveyTask guess image) out err status = Finishes (survey_answer guess image) out err status
 IsTaskAnswered (TrialTask trial limit) out err status = Ends (IsTrialAnswer limit trial.kind trial.seed trial.count) out err status

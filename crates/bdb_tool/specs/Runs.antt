@@ -41,7 +41,7 @@ pub record RunsAs (asked : Asked) (source out err : Change) (status : ℕ) : Typ
   pub write_fault_line_told : status ≡ 5 → (HasFailed err → ⊥) → Gains err write_fault_line
   -- or a prefix of one of the error lines, where it did
   pub error_line_begun : status ≡ 5 → HasFailed err → (text : List ℕ) × ErrorLine asked source text × GainsPart err text
-  -- where memory was wanting, the output has a prefix of an answer, and the error sink has the line that says so
+  -- where memory ran out, the output has a prefix of an answer, and the error sink has the line that says so
   pub memory : status ≡ 7 → AnswersInPart asked source out × Gains err memory_line
   -- where there is no command, it is a usage fault, or its line can't be written, and the source isn't called
   pub usage : asked.command ≡ None → ((status ≡ 2) ⊎ (status ≡ 5)) × IsUncalled source

@@ -2,16 +2,18 @@
 use Rattle.std.specs.Prelude.{◌≡◌, ℕ, ◌+◌, ◌≤◌, ◌^◌, IsTrue, true, List, length, Option, Some, None, is_some}
 use Rattle.std.specs.Io.KnownBytes.{Consumes, IsAtEnd}
 use Rattle.bdb_repair.specs.of_model.Change.{Change, HasFailed, IsUncalled}
-use Rattle.bdb_tool_words.specs.Commands.{Ask, Command, Load, Repair, Request, Salvage, Trial, reads_input}
+use Rattle.bdb_tool_words.specs.Commands.{Ask, Command, Load, Repair, Request, Salvage, Survey, Trial, reads_input}
 use Rattle.bdb_repair.specs.of_any_order.declared.rows.Rows.{Rows}
 use Rattle.bdb_repair.specs.of_any_order.declared.rows.Rows.TheVariants.{All}
 use Rattle.bdb_repair.specs.of_format.Terms.{Took}
-use Rattle.bdb_tool_words.specs.WordsSeen.{IsFitRepair, IsFitSalvage, IsFitTrial, reading_seen, request_seen}
+use Rattle.bdb_repair.specs.of_survey.declared.guess.Guess.{Guess}
+use Rattle.bdb_tool_words.specs.WordsSeen.{IsFitGuess, IsFitRepair, IsFitSalvage, IsFitTrial, reading_seen, request_seen}
 use Rattle.bdb_tool_words.specs.declared.command.Repair.{Repair as CodeRepair}
 use Rattle.bdb_tool_words.specs.declared.command.Salvage.{Salvage as CodeSalvage}
 use Rattle.bdb_tool_words.specs.declared.command.Trial.{Trial as CodeTrial}
 use Rattle.bdb_tool.specs.declared.task.Task.{Task}
-use Rattle.bdb_tool.specs.declared.task.Task.TheVariants.{Ask as AskTask, Load as LoadTask, Read as ReadTask, Repair as RepairTask, Salvage as SalvageTask, Trial as TrialTask}
+use Rattle.bdb_tool.specs.declared.task.Task.TheVariants.{Ask as AskTask, Load as LoadTask, Read as ReadTask, Repair as RepairTask, Salvage as SalvageTask}
+use Rattle.bdb_tool.specs.declared.task.Task.TheVariants.{Survey as SurveyTask, Trial as TrialTask}
 use Rattle.bdb_tool.specs.declared.task.Stop.{Stop}
 use Rattle.bdb_tool.specs.declared.task.Stop.TheVariants.{Usage, TooLarge, ReadFault, Memory}
 
@@ -79,6 +81,11 @@ pub record IsSalvageRead (said : Option Command) (source : Change) (asked : Code
 pub record IsRepairRead (said : Option Command) (source : Change) (asked : CodeRepair) (image : List ℕ) (limit : ℕ) : Type 0 where
   pub read : IsRead said source (record { limit = limit; action = Repair asked }) image
 
+-- the words ask what the image still has, which is the input
+pub record IsSurveyRead (said : Option Command) (source : Change) (guess : Option Guess) (image : List ℕ) : Type 0 where
+  pub limit : ℕ
+  pub read : IsRead said source (record { limit = limit; action = Survey guess }) image
+
 -- the words ask for a trial, and nothing was read
 pub record IsTried (said : Option Command) (source : Change) (trial : CodeTrial) (limit : ℕ) : Type 0 where
   pub command_is : said ≡ Some (record { limit = limit; action = Trial trial })
@@ -91,6 +98,7 @@ IsTaskTaken said source (AskTask request image) = IsAsked said source All (reque
 IsTaskTaken said source (LoadTask text limit) = IsTextRead said source text limit
 IsTaskTaken said source (SalvageTask asked image) = IsSalvageRead said source asked image
 IsTaskTaken said source (RepairTask asked image limit) = IsRepairRead said source asked image limit
+IsTaskTaken said source (SurveyTask guess image) = IsSurveyRead said source guess image
 IsTaskTaken said source (TrialTask trial limit) = IsTried said source trial limit
 
 -- a request that was read of words, of an image that isn't too long
@@ -114,4 +122,5 @@ IsFitTask (AskTask request image) = IsFitAsk (request_seen request) image
 IsFitTask (LoadTask text limit) = IsFitLoad text limit
 IsFitTask (SalvageTask asked image) = IsFitSalvage asked × (length image ≤ 2 ^ 30)
 IsFitTask (RepairTask asked image limit) = IsFitToRepair asked image limit
+IsFitTask (SurveyTask guess image) = IsFitGuess guess × (length image ≤ 2 ^ 30)
 IsFitTask (TrialTask trial limit) = IsFitTrial trial × (limit ≤ 2 ^ 30)

@@ -6,7 +6,7 @@ ghost use Rattle.bdb_tool.specs.Tasks.{IsFitTask};
 
 use crate::building::{answer_load, answer_trial};
 use crate::repairing::answer_repair;
-use crate::salvaging::answer_salvage;
+use crate::salvaging::{answer_salvage, answer_survey};
 use crate::task::Task;
 use bdb_repair::{Sink, Steps};
 use bdb_tool_ask::{answer_file, answer_reading};
@@ -33,6 +33,9 @@ pub(crate) fn answer<K: Sink, E: Sink, L: Ledger>(
         Task::Salvage(asked, image) => answer_salvage(alloc, image.bytes(), asked, out, err, steps),
         Task::Repair(asked, image, limit) => {
             answer_repair(alloc, image.bytes(), asked, limit, out, err, steps)
+        }
+        Task::Survey(guess, image) => {
+            answer_survey(alloc, image.bytes(), guess, out, err, steps)
         }
         Task::Trial(trial, limit) => answer_trial(alloc, trial, limit, out, err, steps),
     }

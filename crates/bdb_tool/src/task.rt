@@ -5,7 +5,7 @@ ghost use Rattle.bdb_tool_words.specs.Commands.{Command as ModelCommand, command
 ghost use Rattle.bdb_tool.specs.Tasks.{IsFitTask, IsInputWithin, IsStopped, IsTaskTaken, IsUnreadable};
 ghost use Rattle.bdb_tool_words.specs.WordsSeen.{IsFitCommand, IsSeen, command_seen};
 
-use bdb_repair::{Image, ReadError, Source, Words, read_image};
+use bdb_repair::{Guess, Image, ReadError, Source, Words, read_image};
 use bdb_tool_build::Rows;
 use bdb_tool_words::{Action, Command, Reading, Repair, Request, Salvage, Trial, command_of};
 use std::alloc::Global;
@@ -23,6 +23,8 @@ pub(crate) enum Task<'w> {
     Salvage(Salvage, Image),
     /// An image is repaired.
     Repair(Repair, Image, u32),
+    /// It's told what an image still has, by the guess that is given.
+    Survey(Option<Guess>, Image),
     /// Pairs are generated.
     Trial(Trial, u32),
 }
@@ -84,6 +86,10 @@ fn task_with<'w, S: Source>(
         },
         Action::Repair(asked) => match input_of(alloc, source, command.limit) {
             Ok(image) => Ok(Task::Repair(asked, image, command.limit)),
+            Err(stop) => Err(stop),
+        },
+        Action::Survey(guess) => match input_of(alloc, source, command.limit) {
+            Ok(image) => Ok(Task::Survey(guess, image)),
             Err(stop) => Err(stop),
         },
         Action::Trial(trial) => Ok(Task::Trial(trial, command.limit)),

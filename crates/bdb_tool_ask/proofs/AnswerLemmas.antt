@@ -104,7 +104,7 @@ told_judged : (judgement : Judgement) (request : Request) (image : List ℕ) →
 told_judged (Faulty fault) request image = refl
 told_judged (LeftOut name page) request image = refl
 
--- or that memory was wanting
+-- or that memory ran out
 pub refused_finishes : (all : List Fault) (error : FirstError) (request : Request) (image : List ℕ) (written : Option (List ℕ)) (faults : ℕ) (err : Change)
     (status : ℕ) → IsFirstRefusal all error → IsRefused error err status
     → Finishes (judged_answer (first_judgement all) request image) (moved written written faults faults) err status

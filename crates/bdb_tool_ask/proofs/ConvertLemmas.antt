@@ -37,7 +37,7 @@ flipped_printed order image read flipped out err written status same flips write
     subst (λ (it : List ℕ). Finishes (converted (overlap_in order it) order it) out err status) same
     (flipped_finishes order read flipped out err written status flips.0 flips.1 writes reports)
 
--- the page was told, or that memory was wanting for its line
+-- the page was told, or that memory ran out for its line
 overlap_finishes : (order : Order) (image : List ℕ) (page : ℕ) (written : Option (List ℕ)) (faults : ℕ) (err : Change) (status : ℕ)
     → overlap_in order image ≡ Some page
     → (Tells (overlap_line page) 13 err status ⊎ Tells memory_line 7 err status)

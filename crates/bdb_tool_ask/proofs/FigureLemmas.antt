@@ -6,16 +6,18 @@ use Rattle.bdb_stat.specs.declared.class.Class.TheVariants.{Meta, Internal, Leaf
 use Rattle.bdb_stat.specs.declared.figures.Stat.{Stat}
 use Rattle.bdb_tool_words.specs.of_text_format.Terms.{line}
 use Rattle.bdb_tool_ask.specs.Figures.{figures_text, last_figures, other_figures}
-use Rattle.bdb_tool_ask.specs.FileAnswers.{figure_line, stat_text}
+use Rattle.bdb_tool_ask.specs.FileAnswers.{stat_text}
+use Rattle.bdb_tool_print.specs.Survey.{figure, figure_line}
 
 -- a figure with its name, and what follows
 abbrev pub figure_then : List ℕ → ℕ → List ℕ → List ℕ
-figure_then name figure rest = name ++ (codes " " ++ (decimal figure ++ (10 ∷ rest)))
+figure_then name n rest = name ++ (codes " " ++ (decimal n ++ (10 ∷ rest)))
 
-line_then : (name : List ℕ) (figure : ℕ) (rest : List ℕ) → figure_then name figure rest ≡ figure_line name figure ++ rest
-line_then name figure rest =
-    sym (append_assoc name (codes " " ++ line (decimal figure)) rest
-    ∙ ap (λ (it : List ℕ). name ++ (codes " " ++ it)) (append_assoc (decimal figure) (10 ∷ []) rest))
+line_then : (name : List ℕ) (n : ℕ) (rest : List ℕ) → figure_then name n rest ≡ figure_line name n ++ rest
+unfolding figure figure_line
+line_then name n rest =
+    sym (append_assoc name (codes " " ++ line (decimal n)) rest
+    ∙ ap (λ (it : List ℕ). name ++ (codes " " ++ it)) (append_assoc (decimal n) (10 ∷ []) rest))
 
 -- four lines as they are written
 abbrev pub four_written : (first second third fourth : List ℕ) (a b c d : ℕ) → List ℕ
@@ -24,6 +26,7 @@ four_written first second third fourth a b c d = figure_then first a (figure_the
 pub four_lines : (first second third fourth : List ℕ) (a b c d : ℕ)
     → four_written first second third fourth a b c d
     ≡ figure_line first a ++ (figure_line second b ++ (figure_line third c ++ figure_line fourth d))
+unfolding figure figure_line
 four_lines first second third fourth a b c d =
     line_then first a (figure_then second b (figure_then third c (figure_line fourth d)))
     ∙ ap (λ (it : List ℕ). figure_line first a ++ it) (line_then second b (figure_then third c (figure_line fourth d))

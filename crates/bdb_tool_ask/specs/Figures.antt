@@ -1,6 +1,6 @@
 -- The lines of `stat`. Source: man/bdbtool.1.
 use Rattle.std.specs.Prelude.{ℕ, List, ◌++◌, codes}
-use Rattle.bdb_tool_ask.specs.FileAnswers.{figure_line}
+use Rattle.bdb_tool_print.specs.Survey.{figure_line}
 use Rattle.bdb_stat.specs.declared.figures.Stat.{Stat}
 
 -- of all pages, and of those of trees

@@ -14,6 +14,7 @@ use Rattle.bdb_file.specs.of_any_order.AnyOrder.{faults_by_rows, verdict_by}
 use Rattle.bdb_file.specs.of_any_order.declared.rows.Rows.{Rows}
 use Rattle.bdb_file.specs.of_format.declared.kinds.Fault.{Fault}
 use Rattle.bdb_tool_dump.specs.of_tool_lines.Telling.{faults_text, first_status}
+use Rattle.bdb_tool_print.specs.Survey.{figure_line}
 
 abbrev pub not_found : Answer
 not_found = told 9 (line (codes "not found"))
@@ -77,9 +78,6 @@ converted None order image = done (flip_of order image)
 converted (Some page) order image = told 13 (overlap_line page)
 
 -- `stat`: a line for each figure, with its name
-
-abbrev pub figure_line : List ℕ → ℕ → List ℕ
-figure_line name figure = name ++ (codes " " ++ line (decimal figure))
 
 unfoldable pub stat_text : File → List ℕ
 stat_text file =

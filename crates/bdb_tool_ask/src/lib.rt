@@ -15,6 +15,6 @@ pub use asking::answer_file;
 pub use bdb_tool_dump::{
     pairs_of, put, refuse, report, span, status, tell, tell_case, tell_memory,
 };
-pub use bdb_tool_print::{write_apart, write_rest, write_salvaged};
+pub use bdb_tool_print::{write_apart, write_rest, write_salvaged, write_survey};
 pub use reading::answer_reading;
 pub use usage::tell_usage;

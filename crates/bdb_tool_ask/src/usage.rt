@@ -12,7 +12,7 @@ pub fn tell_usage<E: Sink>(err: &mut E) -> u8
 {
     tell(
         err,
-        b"usage: bdbtool verify, list, get, dump, load, salvage, trial, range, convert, stat or repair\n",
+        b"usage: bdbtool verify, list, get, dump, load, salvage, trial, range, convert, stat, repair or survey\n",
         USAGE,
     )
 }

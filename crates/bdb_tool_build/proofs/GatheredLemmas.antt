@@ -16,7 +16,7 @@ use Rattle.bdb_text_format.specs.declared.pairs.Key.{Key}
 use Rattle.bdb_text_format.specs.declared.pairs.Key.TheVariants.{Bytes, Number}
 use Rattle.bdb_text_format.specs.Terms.{Extends, Gathering, HasChains, IsKeyPlaced, IsPiecePut, pair_with, placed_key}
 use Rattle.bdb_text_format.proofs.GatheredLemmas.{chains_same}
-use Rattle.bdb_text_format.proofs.PlacedLemmas.{key_stays, key_within}
+use Rattle.bdb_text_format.proofs.PlacedLemmas.{kept_on, key_stays, key_within}
 use Rattle.bdb_tool_build.specs.Gathered.{Adds, Grows, HasKey, InHand, with_key}
 
 -- The same pairs with a run that grew, and then more of them.
@@ -57,6 +57,13 @@ adds_on old mid new key some more all first second are =
           ∙ ap (λ pairs. old.gathered.pairs ++ pairs)
           (sym (map-append (λ value. pair_with k value 0) some more) ∙ ap (with_key k) (sym are)))));
     }
+
+pub grows_on : (old mid new : InHand) → Grows old mid → Grows mid new → Grows old new
+grows_on old mid new first second = record {
+  image = second.image ∙ first.image;
+  bytes = kept_on old.gathered.bytes mid.gathered.bytes new.gathered.bytes first.bytes second.bytes;
+  pairs = second.pairs ∙ first.pairs;
+}
 
 pub grown_key : (old new : InHand) (key : PlacedKey) → Grows old new → IsKeyPlaced old.gathered.bytes key → IsKeyPlaced new.gathered.bytes key
 grown_key old new key grows placed = key_within old.gathered.bytes new.gathered.bytes key grows.bytes placed

@@ -13,6 +13,7 @@ ghost use Rattle.bdb_text_format.specs.of_places.Places.{span_in};
 ghost use Rattle.bdb_text_format.specs.Terms.{HasChains, IsKeyPlaced, IsPiecePut, IsSpanOf, Keeps};
 ghost use Rattle.bdb_tool_build.specs.Gathered.{Adds, Grows, HasKey};
 
+use crate::on_leaf::{BesideEntries, OnLeaf};
 use bdb_file::bytes_in;
 use bdb_model::TextPairs;
 use bdb_ranks::{Forest, Held, LeafItem, Pair, is_deleted, leaf_held, tree_entries};
@@ -26,8 +27,6 @@ pub(crate) struct Gatherer<'a> {
     forest: Forest<'a>,
     pairs: Gathered,
     room: Vec<u8>,
-    // Where the last datum begins that stands on a page.
-    last: usize,
 }
 
 impl<'a> Model for Gatherer<'a> {
@@ -72,7 +71,6 @@ impl<'a> Gatherer<'a> {
             forest,
             pairs: Gathered::new(alloc, 0)?,
             room: Vec::new(alloc),
-            last: 0,
         })
     }
 
@@ -95,52 +93,71 @@ impl<'a> Gatherer<'a> {
         put_chain(&self.forest, head, &mut self.room, &mut self.pairs)
     }
 
-    // Where a value stands.
-    fn span(&mut self, held: Held<'a>) -> Result<Span, AllocError>
+    // From where on a leaf stands, which is put there if it doesn't yet.
+    fn leaf_start(&mut self, leaf: &mut OnLeaf<'_>) -> Result<u32, AllocError>
+        ensures { Grows self.old self.new }
+    {
+        if let Some(start) = leaf.copy() {
+            return Ok(start);
+        }
+        let span = self.pairs.put(leaf.bytes())?;
+        leaf.note(span.start);
+        Ok(span.start)
+    }
+
+    // Where bytes stand that are put there, if they don't from one place on.
+    fn found_span(&mut self, bytes: &[u8], from: usize) -> Result<Span, AllocError>
+        ensures grows { Grows self.old self.new }
+        ensures ok { IfOk result (IsPiecePut self.new.gathered.bytes bytes.now) }
+    {
+        match self.pairs.find(from, bytes) {
+            Some(span) => Ok(span),
+            None => self.pairs.put(bytes),
+        }
+    }
+
+    // Where the bytes of the next item of a leaf stand, in the whole leaf.
+    #[tactic(auto, using(crate::proofs::GatheredLemmas::in_hand, crate::proofs::GatheredLemmas::grows_on))]
+    fn span_in_leaf(&mut self, bytes: &[u8], leaf: &mut OnLeaf<'_>) -> Result<Span, AllocError>
+        ensures grows { Grows self.old self.new }
+        ensures ok { IfOk result (IsPiecePut self.new.gathered.bytes bytes.now) }
+    {
+        let start = self.leaf_start(leaf)?;
+        let from = (start as usize).saturating_add(leaf.begin());
+        self.found_span(bytes, from)
+    }
+
+    // Where the bytes of the next item of a leaf stand.
+    fn bytes_span(&mut self, bytes: &[u8], leaf: &mut OnLeaf<'_>) -> Result<Span, AllocError>
+        ensures grows { Grows self.old self.new }
+        ensures ok { IfOk result (IsPiecePut self.new.gathered.bytes bytes.now) }
+    {
+        if leaf.takes(bytes.len()) {
+            return self.pairs.put(bytes);
+        }
+        self.span_in_leaf(bytes, leaf)
+    }
+
+    // Where a value stands, which the next item of a leaf has.
+    fn span(&mut self, held: Held<'a>, leaf: &mut OnLeaf<'_>) -> Result<Span, AllocError>
         requires { FitsHeld (file_of self.old.image) held }
         ensures grows { Grows self.old self.new }
         ensures ok { IfOk result (IsPiecePut self.new.gathered.bytes (value_held (file_of self.old.image) held.entry)) }
     {
         match held {
-            Held::Inline(bytes) => self.pairs.put(bytes),
+            Held::Inline(bytes) => self.bytes_span(bytes, leaf),
             Held::Chained(head) => self.chain_span(head),
         }
     }
 
-    // Where the value of a key stands.
-    fn key_span(&mut self, item: &LeafItem<'a>) -> Result<Span, AllocError>
+    // Where the value of the next item of a leaf stands.
+    fn item_span(&mut self, item: &LeafItem<'a>, leaf: &mut OnLeaf<'_>) -> Result<Span, AllocError>
         requires { FitsContent (file_of self.old.image) (leaf_item_seen item.now).content }
         ensures grows { Grows self.old self.new }
         ensures ok { IfOk result (IsPiecePut self.new.gathered.bytes (value_of (file_of self.old.image) (leaf_item_seen item.now).content)) }
     {
         let held = leaf_held(item);
-        self.span(held)
-    }
-
-    // Where a datum on a page stands: where the last one does, if its bytes are the same, as they are where many entries name one item.
-    fn near_span(&mut self, bytes: &[u8]) -> Result<Span, AllocError>
-        ensures grows { Grows self.old self.new }
-        ensures ok { IfOk result (IsPiecePut self.new.gathered.bytes bytes.now) }
-    {
-        if let Some(span) = self.pairs.find(self.last, bytes) {
-            return Ok(span);
-        }
-        let span = self.pairs.put(bytes)?;
-        self.last = span.start as usize;
-        Ok(span)
-    }
-
-    // Where the datum of an item stands.
-    fn datum_span(&mut self, item: &LeafItem<'a>) -> Result<Span, AllocError>
-        requires { FitsContent (file_of self.old.image) (leaf_item_seen item.now).content }
-        ensures grows { Grows self.old self.new }
-        ensures ok { IfOk result (IsPiecePut self.new.gathered.bytes (value_of (file_of self.old.image) (leaf_item_seen item.now).content)) }
-    {
-        let held = leaf_held(item);
-        match held {
-            Held::Inline(bytes) => self.near_span(bytes),
-            Held::Chained(head) => self.chain_span(head),
-        }
+        self.span(held, leaf)
     }
 
     // Adds a key with a datum that stands there.
@@ -152,18 +169,28 @@ impl<'a> Gatherer<'a> {
         self.pairs.push(key, value)
     }
 
-    // Adds a key with the value of an item.
-    fn push(&mut self, key: PlacedKey, item: &LeafItem<'a>) -> Result<(), AllocError>
+    // Adds a key with the value of the next item of a leaf.
+    fn push(
+        &mut self,
+        key: PlacedKey,
+        item: &LeafItem<'a>,
+        leaf: &mut OnLeaf<'_>,
+    ) -> Result<(), AllocError>
         requires fits { FitsContent (file_of self.old.image) (leaf_item_seen item.now).content }
         requires key { IsKeyPlaced self.old.gathered.bytes key }
         ensures { OnOk result (Adds self.old self.new key (value_of (file_of self.old.image) (leaf_item_seen item.now).content ∷ [])) }
     {
-        let value = self.datum_span(item)?;
+        let value = self.item_span(item, leaf)?;
         self.push_span(key, value)
     }
 
-    // Adds a key with the value of an entry, unless that is deleted.
-    fn push_entry(&mut self, key: PlacedKey, entry: &LeafItem<'a>) -> Result<(), AllocError>
+    // Adds a key with the value of an entry, the next item of a leaf, unless that is deleted.
+    fn push_entry(
+        &mut self,
+        key: PlacedKey,
+        entry: &LeafItem<'a>,
+        leaf: &mut OnLeaf<'_>,
+    ) -> Result<(), AllocError>
         requires fits { FitsContent (file_of self.old.image) (leaf_item_seen entry.now).content }
         requires key { IsKeyPlaced self.old.gathered.bytes key }
         ensures { OnOk result (Adds self.old self.new key (values_of (file_of self.old.image) (leaf_item_seen entry.now ∷ []))) }
@@ -171,7 +198,7 @@ impl<'a> Gatherer<'a> {
         if is_deleted(entry) {
             return Ok(());
         }
-        self.push(key, entry)
+        self.push(key, entry, leaf)
     }
 
     // Adds a key with the data of the set with this root.
@@ -182,15 +209,22 @@ impl<'a> Gatherer<'a> {
         requires key { IsKeyPlaced self.old.gathered.bytes key }
         ensures { OnOk result (Adds self.old self.new key (data_of (file_of self.old.image) (Tree root))) }
     {
+        let mut beside = BesideEntries::over(&self.forest, root);
         for entry in tree_entries(&self.forest, root) {
-            self.push_entry(key, &entry)?;
+            beside.turn();
+            self.push_entry(key, &entry, &mut beside.leaf)?;
         }
         Ok(())
     }
 
-    // Adds a key with the data of a data item.
+    // Adds a key with the data of a data item, the next one of a leaf.
     #[tactic(auto, unfolding(crate::specs::Below::data_of, crate::specs::Below::value_of))]
-    fn push_data(&mut self, key: PlacedKey, item: &LeafItem<'a>) -> Result<(), AllocError>
+    fn push_data(
+        &mut self,
+        key: PlacedKey,
+        item: &LeafItem<'a>,
+        leaf: &mut OnLeaf<'_>,
+    ) -> Result<(), AllocError>
         requires content { FitsContent (file_of self.old.image) (leaf_item_seen item.now).content }
         requires set { FitsSet (file_of self.old.image) (leaf_item_seen item.now).content }
         requires stage { structure_faults (file_of self.old.image) ≡ [] }
@@ -199,30 +233,32 @@ impl<'a> Gatherer<'a> {
     {
         match item {
             LeafItem::Duplicates { root, .. } => self.push_set(key, *root),
-            LeafItem::Inline { .. } | LeafItem::Overflow { .. } => self.push(key, item),
+            LeafItem::Inline { .. } | LeafItem::Overflow { .. } => self.push(key, item, leaf),
         }
     }
 
-    /// Adds a record with its number, unless it's deleted.
+    /// Adds a record with its number, the next item of a leaf, unless it's deleted.
     pub(crate) fn push_record(
         &mut self,
         number: u32,
         entry: &LeafItem<'a>,
+        leaf: &mut OnLeaf<'_>,
     ) -> Result<(), AllocError>
         requires { FitsContent (file_of self.old.image) (leaf_item_seen entry.now).content }
         ensures image { OnOk result (self.new.image ≡ self.old.image) }
         ensures pairs { OnOk result (self.new.gathered.pairs
             ≡ self.old.gathered.pairs ++ map text_pair (listed_entry (file_of self.old.image) (number, leaf_item_seen entry.now))) }
     {
-        self.push_entry(PlacedKey::Number(number), entry)?;
+        self.push_entry(PlacedKey::Number(number), entry, leaf)?;
         Ok(())
     }
 
-    // Where the key of a pair stands: where that of the pair before does, if they share it.
+    // Where the key of a pair stands, the next item of a leaf: where that of the pair before does, if they share it.
     fn key_of(
         &mut self,
         last: Option<PlacedKey>,
         pair: &Pair<LeafItem<'a>>,
+        leaf: &mut OnLeaf<'_>,
     ) -> Result<PlacedKey, AllocError>
         requires fits { FitsContent (file_of self.old.image) (leaf_item_seen pair.now.key).content }
         requires last { pair.now.shares ≡ true → IfSome last (HasKey self.old (value_of (file_of self.old.image) (leaf_item_seen pair.now.key).content)) }
@@ -231,15 +267,16 @@ impl<'a> Gatherer<'a> {
     {
         match last {
             Some(key) if pair.shares => Ok(key),
-            _ => Ok(PlacedKey::Bytes(self.key_span(&pair.key)?)),
+            _ => Ok(PlacedKey::Bytes(self.item_span(&pair.key, leaf)?)),
         }
     }
 
-    /// Adds a stored pair: its key with each of its data. Answers where the key stands.
+    /// Adds a stored pair, the next two items of a leaf, of which it passes the first: its key with each of its data. Answers where the key stands.
     pub(crate) fn push_pair(
         &mut self,
         last: Option<PlacedKey>,
         pair: &Pair<LeafItem<'a>>,
+        leaf: &mut OnLeaf<'_>,
     ) -> Result<PlacedKey, AllocError>
         requires fits { FitsContent (file_of self.old.image) (leaf_item_seen pair.now.key).content }
         requires content { FitsContent (file_of self.old.image) (leaf_item_seen pair.now.value).content }
@@ -251,9 +288,10 @@ impl<'a> Gatherer<'a> {
             ≡ self.old.gathered.pairs ++ map text_pair (listed_pair (file_of self.old.image) (stored_pair (file_of self.old.image) 0 (view_seen leaf_item_seen pair.now)))) }
         ensures key { IfOk result (HasKey self.new (value_of (file_of self.old.image) (leaf_item_seen pair.now.key).content)) }
     {
-        let key = self.key_of(last, pair)?;
+        let key = self.key_of(last, pair, leaf)?;
+        leaf.step();
         if !is_deleted(&pair.value) {
-            self.push_data(key, &pair.value)?;
+            self.push_data(key, &pair.value, leaf)?;
         }
         Ok(key)
     }

@@ -5,6 +5,7 @@ mod base;
 mod copied;
 mod gathered;
 mod loading;
+mod on_leaf;
 mod refusal;
 mod texts;
 mod tree;

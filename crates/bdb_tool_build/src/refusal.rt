@@ -5,6 +5,6 @@ pub enum Refusal {
     Faulty(String),
     /// The image would have more bytes than the limit.
     TooLarge(String),
-    /// Memory is wanting.
+    /// Memory ran out.
     Memory,
 }

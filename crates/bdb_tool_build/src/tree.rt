@@ -7,6 +7,7 @@ ghost use Rattle.bdb_onto.specs.Bases.{text_pair};
 ghost use Rattle.bdb_tool_build.specs.Copied.{Follow};
 
 use crate::gathered::Gatherer;
+use crate::on_leaf::{BesideEntries, OnLeaf};
 use bdb_file::{Linked, tree_leaves};
 use bdb_model::{BtreeMeta, TextPairs};
 use bdb_ranks::{PageView, tree_entries};
@@ -28,9 +29,11 @@ fn push_leaf(page: u32, all: &mut Gatherer<'_>) -> Result<(), AllocError>
         return Ok(());
     };
     let mut pairs = leaf.iter();
+    let mut on = OnLeaf::of(&forest, page);
     let mut last = None;
     while let Some(pair) = pairs.next() {
-        last = Some(all.push_pair(last, &pair)?);
+        last = Some(all.push_pair(last, &pair, &mut on)?);
+        on.step();
     }
     Ok(())
 }
@@ -61,6 +64,15 @@ fn number_after(number: u32) -> Result<u32, AllocError>
     number.checked_add(1).ok_or(AllocError)
 }
 
+// The leaves of a tree, beside its entries.
+fn beside_entries<'a>(linked: &Linked<'a>, meta: &BtreeMeta) -> BesideEntries<'a>
+    requires meta { HasMetadata (file_of linked.now) (BtreeFields meta.now) }
+    requires stage { structure_faults (file_of linked.now) ≡ [] }
+{
+    let forest = linked.forest();
+    BesideEntries::over(&forest, linked.root(meta).number())
+}
+
 // The records of a recno, as if they stood so.
 fn recno_pairs(
     alloc: Global,
@@ -74,10 +86,12 @@ fn recno_pairs(
     let forest = linked.forest();
     let mut entries = tree_entries(&forest, linked.root(meta).number());
     let mut all = Gatherer::new(alloc, forest)?;
+    let mut beside = beside_entries(linked, meta);
     let mut number: u32 = 0;
     while let Some(entry) = entries.next() {
         number = number_after(number)?;
-        all.push_record(number, &entry)?;
+        beside.turn();
+        all.push_record(number, &entry, &mut beside.leaf)?;
     }
     Ok(all.into_pairs())
 }

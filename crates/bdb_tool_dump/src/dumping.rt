@@ -77,7 +77,7 @@ fn sections<K: Sink>(
     Ok(())
 }
 
-/// Writes the section of a database.
+/// Writes the section of a database. An error means that a write failed, or that memory ran out.
 #[tactic(auto, using(bdb_tool_print::proofs::PrinterLemmas::all_cut))]
 pub fn write_section<K: Sink>(
     alloc: Global,
@@ -99,7 +99,7 @@ pub fn write_section<K: Sink>(
     printer.flush()
 }
 
-/// Writes the section of each database.
+/// Writes the section of each database. An error means that a write failed, or that memory ran out.
 #[tactic(auto, using(bdb_tool_print::proofs::PrinterLemmas::all_cut))]
 pub fn write_sections<K: Sink>(
     alloc: Global,

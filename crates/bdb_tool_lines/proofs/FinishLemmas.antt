@@ -32,7 +32,7 @@ told_finishes status text written faults err given no_fault no_memory tells = re
   memory = λ is. absurd (elim tells.status_is [ inl own ↦ no_memory (sym own ∙ is) | inr five ↦ omega arith ]);
 }
 
--- memory was wanting before anything was printed
+-- memory ran out before anything was printed
 pub memory_finishes : (answer : Answer) (written : Option (List ℕ)) (faults : ℕ) (err : Change) (given : ℕ) → HasOwnStatus answer
     → Tells memory_line 7 err given → Finishes answer (moved written written faults faults) err given
 memory_finishes answer written faults err given own tells = record {

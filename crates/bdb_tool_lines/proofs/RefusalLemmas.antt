@@ -1,5 +1,5 @@
 -- What holds at the pages of a file is told, with its status.
-use Rattle.std.proofs.Common.{◌≡◌, ◌∙◌, ℕ, ◌<◌, List, [], ◌∷◌, inl, inr, refl, sym, subst, arith, ◌⊎◌, Ok, Err, Result}
+use Rattle.std.proofs.Common.{◌≡◌, ◌∙◌, ℕ, ◌<◌, List, [], ◌∷◌, inl, inr, refl, sym, subst, arith, ◌⊎◌, Ok, Err, Result, Option, Some, None}
 use Rattle.bdb_tool_lines.specs.Printing.{Writes}
 use Rattle.bdb_tool_lines.specs.Telling.{first_status, judgement_line, judgement_status}
 use Rattle.bdb_tool_lines.specs.declared.cut.Cut.{Cut}
@@ -8,7 +8,7 @@ use Rattle.bdb_faults.specs.of_format.declared.kinds.Unsupported.{Unsupported}
 use Rattle.bdb_model.specs.Answers.{unsupported_line}
 use Rattle.bdb_model.specs.Change.{Change}
 use Rattle.bdb_model.specs.Lines.{memory_line}
-use Rattle.bdb_faults.specs.of_format.Terms.{Faulty, Judgement, LeftOut, judgement_of}
+use Rattle.bdb_faults.specs.of_format.Terms.{Faulty, Judgement, LeftOut, judged_as, judgement_of}
 use Rattle.bdb_faults.specs.of_format.declared.kinds.Fault.{Fault}
 use Rattle.bdb_tool_lines.specs.Finished.{Tells}
 
@@ -64,3 +64,8 @@ pub case_told : (told : Judgement) (name : Unsupported) (err : Change) (status :
     → (Tells (unsupported_line name 0) 3 err status ⊎ Tells memory_line 7 err status)
 case_told told name err status is tells =
     subst (λ (it : Judgement). Tells (judgement_line it) (judgement_status it) err status ⊎ Tells memory_line 7 err status) is tells
+
+-- the case that a row is judged as is its own
+pub case_is : (fault : Fault) (case : Option Unsupported) (name : Unsupported) (page : ℕ) → judged_as fault case ≡ LeftOut name page → case ≡ Some name
+case_is fault None name page is = cc
+case_is fault (Some other) name page is = cc

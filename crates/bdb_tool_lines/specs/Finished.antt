@@ -23,7 +23,7 @@ Reports (Ok unit) err status = (status ≡ 0) × Gains err []
 Reports (Err WriteFault) err status = (status ≡ 5) × ((HasFailed err → ⊥) → Gains err write_fault_line) × GainsPart err write_fault_line
 Reports (Err Memory) err status = Tells memory_line 7 err status
 
--- an answer was written to the output and the error sink, or one of them failed, or memory was wanting
+-- an answer was written to the output and the error sink, or one of them failed, or memory ran out
 pub record Finishes (answer : Answer) (out err : Change) (status : ℕ) : Type 0 where
   pub status_is : (status ≡ answer.status) ⊎ ((status ≡ 5) ⊎ (status ≡ 7))
   pub printed : status ≡ answer.status → Gains out answer.out
@@ -40,7 +40,7 @@ pub record HasOwnStatus (answer : Answer) : Type 0 where
   pub no_write_fault : answer.status ≢ 5
   pub no_memory : answer.status ≢ 7
 
--- what holds first was told, or that memory was wanting
+-- what holds first was told, or that memory ran out
 abbrev pub IsRefused : FirstError → Change → ℕ → Type 0
 IsRefused (FirstFault named) err status =
     Tells (judgement_line (judgement_seen named)) (judgement_status (judgement_seen named)) err status ⊎ Tells memory_line 7 err status

@@ -10,7 +10,7 @@ pub record IsOnItsWay (before now text : List ℕ) (out : Change) : Type 0 where
   pub gained : Gains out written
   pub whole : written ++ now ≡ before ++ text
 
--- a prefix was written, and then a write failed, or memory was wanting
+-- a prefix was written, and then a write failed, or memory ran out
 pub record IsCutOff (before text : List ℕ) (out : Change) (cut : Cut) : Type 0 where
   pub part : GainsPart out (before ++ text)
   pub cause : cut ≡ WriteFault → HasFailed out

@@ -18,7 +18,7 @@ fault_told fault = judgement_line (judgement_of fault)
 unfoldable pub faults_text : List Fault → List ℕ
 faults_text faults = flat_map fault_told faults
 
--- 1 for a fault, 3 for a case that is left out
+-- 1 for a fault, 3 for a case that isn't supported
 abbrev pub judgement_status : Judgement → ℕ
 judgement_status (Faulty fault) = 1
 judgement_status (LeftOut name page) = 3

@@ -19,14 +19,14 @@ pub fn tell<E: Sink>(err: &mut E, text: &[u8], status: u8) -> u8
     }
 }
 
-/// Tells that memory was wanting.
+/// Tells that memory ran out.
 pub fn tell_memory<E: Sink>(err: &mut E) -> u8
     ensures { Tells memory_line 7 (change E.written E.faults err.old err.new) result }
 {
     tell(err, b"out of memory\n", MEMORY)
 }
 
-/// Writes a text to the output.
+/// Writes a text to the output. An error means that a write failed, or that memory ran out.
 #[tactic(auto, using(crate::proofs::FinishLemmas::line_written, crate::proofs::FinishLemmas::line_cut))]
 pub fn put<K: Sink>(out: &mut K, text: &[u8]) -> Result<(), Cut>
     ensures { Writes text.now (change K.written K.faults out.old out.new) result }

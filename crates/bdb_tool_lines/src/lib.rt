@@ -14,6 +14,6 @@ mod telling;
 pub use bdb_io::{Sink, put_all};
 pub use cut::Cut;
 pub use finish::{put, report, tell, tell_memory};
-pub use refusing::{refuse, tell_case, tell_list};
+pub use refusing::{case_name, refuse, tell_case, tell_list};
 pub use room::Room;
 pub use telling::{tell_all, tell_one};

@@ -133,7 +133,7 @@ impl<'k, K: Sink> Printer<'k, K> {
         self.fault_parts(named)
     }
 
-    /// Adds the name of a case that is left out.
+    /// Adds the name of a case that isn't supported.
     #[tactic(auto, unfolding(crate::specs::Telling::case_part))]
     fn case(&mut self, name: &[u8]) -> Result<(), Cut>
         ensures passes { Passes K.written K.faults self.old self.new (case_part name.now) result }
@@ -152,7 +152,7 @@ impl<'k, K: Sink> Printer<'k, K> {
         self.last(b", page ", digits.bytes())
     }
 
-    /// Adds the line of a case that is left out, by its parts.
+    /// Adds the line of a case that isn't supported, by its parts.
     #[tactic(auto, using(crate::proofs::PassingLemmas::then_passes, crate::proofs::PassingLemmas::passes_cut))]
     fn case_parts(&mut self, name: &[u8], page: u32) -> Result<(), Cut>
         ensures passes { Passes K.written K.faults self.old self.new (case_part name.now ++ case_page_part page) result }
@@ -162,7 +162,7 @@ impl<'k, K: Sink> Printer<'k, K> {
         self.case_page(page)
     }
 
-    /// Adds the line of a case that is left out by this name, at a page.
+    /// Adds the line of a case that isn't supported, by its name, at a page.
     #[tactic(auto, using(crate::proofs::LineLemmas::case_line_printed))]
     fn unsupported(&mut self, name: &[u8], page: u32) -> Result<(), Cut>
         ensures passes { (case : Unsupported) → name.now ≡ unsupported_name case

@@ -4,7 +4,7 @@ ghost use Rattle.bdb_model.specs.Change.{change};
 ghost use Rattle.bdb_model.specs.Lines.{memory_line};
 ghost use Rattle.bdb_tool_lines.specs.Telling.{first_status, judgement_line, judgement_status, faults_text};
 ghost use Rattle.bdb_tool_lines.specs.Finished.{IsRefused, Tells};
-ghost use Rattle.bdb_faults.specs.of_format.Terms.{LeftOut, judgement_seen};
+ghost use Rattle.bdb_faults.specs.of_format.Terms.{LeftOut, judgement_seen, unsupported_name};
 ghost use Rattle.bdb_model.specs.Answers.{unsupported_line};
 
 use crate::finish::tell_memory;
@@ -94,6 +94,13 @@ fn case_row(case: Unsupported) -> Row
         Unsupported::OwnHash => Row::Form(FormRow::OwnHash),
         Unsupported::WrappedQueue => Row::Form(FormRow::WrappedQueue),
     }
+}
+
+/// The name of a case that isn't supported.
+pub fn case_name(case: Unsupported) -> &'static str
+    ensures { result.now ≡ unsupported_name case }
+{
+    case_row(case).entry().name
 }
 
 /// Tells a case that isn't supported, which page 0 names, with status 3.

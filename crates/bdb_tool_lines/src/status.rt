@@ -21,7 +21,7 @@ pub const WRITE_FAULT: u8 = 5;
 /// The input is longer than the limit, or the image that is built would be.
 pub const TOO_LARGE: u8 = 6;
 
-/// Memory was wanting.
+/// Memory ran out.
 pub const MEMORY: u8 = 7;
 
 /// The text has a fault, or can't be loaded.

@@ -6,13 +6,13 @@ ghost use Rattle.bdb_text.specs.of_text_format.Terms.{data_end, header_text, lin
 ghost use Rattle.bdb_range.specs.of_overflow.Datum.{datum_seen};
 ghost use Rattle.bdb_tool_print.specs.Printers.{Adds, pair_text};
 ghost use Rattle.bdb_tool_lines.specs.Printing.{Writes};
-ghost use Rattle.bdb_rescue.specs.Text.{bytes_pair, loose_section, loose_settings, numbered_record, stored_section};
-ghost use Rattle.bdb_apart.specs.Given.{pairs_left, records_left};
-ghost use Rattle.bdb_apart.specs.Text.{apart_text, db_section, list_given, rest_text};
+ghost use Rattle.bdb_damage.specs.of_rescue.Text.{bytes_pair, loose_section, loose_settings, numbered_record, stored_section};
+ghost use Rattle.bdb_damage.specs.of_apart.Given.{pairs_left, records_left};
+ghost use Rattle.bdb_damage.specs.of_apart.Text.{apart_text, db_section, list_given, rest_text};
 
 use crate::printing::Printer;
 use crate::salvaging::{loose_settings, stored_settings};
-use bdb_apart::{Apart, Database, Databases, Pairs, PairsLeft, Records, RecordsLeft, bytes_in};
+use bdb_damage::{Apart, Database, Databases, Pairs, PairsLeft, Records, RecordsLeft, bytes_in};
 use bdb_range::{Bytes, Datum, KeyView, Settings};
 use bdb_tool_lines::{Cut, Sink};
 use std::alloc::Global;
@@ -104,7 +104,7 @@ impl<'k, K: Sink> Printer<'k, K> {
     }
 
     /// Prints what is salvaged of each database.
-    #[tactic(auto, unfolding(bdb_apart::specs::Text::apart_text))]
+    #[tactic(auto, unfolding(crate::specs::Below::apart_text))]
     fn apart(&mut self, apart: &Apart<'_, '_>, print: bool) -> Result<(), Cut>
         ensures { Adds K.written K.faults self.old self.new (apart_text print apart.now.guess apart.now.image) result }
     {
@@ -193,7 +193,7 @@ impl<'k, K: Sink> Printer<'k, K> {
     }
 
     /// Prints what belongs to no database.
-    #[tactic(auto, using(crate::proofs::PrinterLemmas::then_adds, crate::proofs::PrinterLemmas::adds_cut), unfolding(bdb_apart::specs::Text::rest_text))]
+    #[tactic(auto, using(crate::proofs::PrinterLemmas::then_adds, crate::proofs::PrinterLemmas::adds_cut), unfolding(crate::specs::Below::rest_text))]
     fn rest(&mut self, apart: &Apart<'_, '_>, print: bool) -> Result<(), Cut>
         ensures { Adds K.written K.faults self.old self.new (rest_text print apart.now.guess apart.now.image) result }
     {
@@ -202,7 +202,8 @@ impl<'k, K: Sink> Printer<'k, K> {
     }
 }
 
-/// Writes what is salvaged of each database that is found, a section for each.
+/// Writes what is salvaged of each database that is found, a section for each. An error means that a write failed, or
+/// that memory ran out.
 #[tactic(auto, using(crate::proofs::PrinterLemmas::all_cut))]
 pub fn write_apart<K: Sink>(
     alloc: Global,
@@ -223,6 +224,7 @@ pub fn write_apart<K: Sink>(
 }
 
 /// Writes what is salvaged and belongs to no database: the section of pairs, and that of records, where there is one.
+/// An error means that a write failed, or that memory ran out.
 #[tactic(auto, using(crate::proofs::PrinterLemmas::all_cut))]
 pub fn write_rest<K: Sink>(
     alloc: Global,

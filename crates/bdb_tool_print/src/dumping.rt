@@ -58,14 +58,14 @@ impl<'k, K: Sink> Printer<'k, K> {
         self.data_line(value, print)
     }
 
-    /// Prints the two data lines of a pair.
+    /// Prints the two data lines of a pair. An error means that a write failed, or that memory ran out.
     pub fn pair(&mut self, key: KeyView<'_>, value: Datum<'_>, print: bool) -> Result<(), Cut>
         ensures { Adds K.written K.faults self.old self.new (pair_text print (key_view_seen key.entry, datum_seen value.entry)) result }
     {
         self.both_lines(&key, &value, print)
     }
 
-    /// Prints the header of a section.
+    /// Prints the header of a section. An error means that a write failed, or that memory ran out.
     pub fn header(
         &mut self,
         name: Option<&[u8]>,

@@ -1,4 +1,4 @@
-//! Texts that are written to a sink as they come: lists, data, ranges, dumps, and what is salvaged.
+//! Texts that are written to a sink as they come: lists, data, ranges, dumps, what is salvaged, and what a damaged file still has.
 #![tactic(auto)]
 
 mod aparting;
@@ -7,6 +7,7 @@ mod naming;
 mod printing;
 mod ranging;
 mod salvaging;
+mod surveying;
 
 pub use aparting::{write_apart, write_rest};
 pub use bdb_range::{RangePairs, pairs_of, span};
@@ -17,3 +18,4 @@ pub use bdb_tool_lines::{
 pub use printing::Printer;
 pub use ranging::write_pairs;
 pub use salvaging::write_salvaged;
+pub use surveying::write_survey;

@@ -68,7 +68,7 @@ impl<'k, K: Sink> Printer<'k, K> {
     }
 }
 
-/// Writes pairs, the key and the datum each on a line.
+/// Writes pairs, the key and the datum each on a line. An error means that a write failed, or that memory ran out.
 #[tactic(auto, using(crate::proofs::PrinterLemmas::all_cut))]
 pub fn write_pairs<K: Sink>(
     alloc: Global,

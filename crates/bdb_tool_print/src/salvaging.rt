@@ -6,14 +6,14 @@ ghost use Rattle.bdb_text.specs.of_text_format.Terms.{data_end, line, section_te
 ghost use Rattle.bdb_range.specs.of_overflow.Datum.{datum_seen};
 ghost use Rattle.bdb_tool_print.specs.Printers.{Adds, pair_text};
 ghost use Rattle.bdb_tool_lines.specs.Printing.{Writes};
-ghost use Rattle.bdb_rescue.specs.Text.{bytes_pair, loose_section, loose_settings, numbered_record, salvage_text};
-ghost use Rattle.bdb_rescue.specs.Text.{stored_section, stored_settings};
-ghost use Rattle.bdb_rescue.specs.Kept.{file_in};
-ghost use Rattle.bdb_rescue.specs.of_survey.Salvage.{loose};
+ghost use Rattle.bdb_damage.specs.of_rescue.Text.{bytes_pair, loose_section, loose_settings, numbered_record, salvage_text};
+ghost use Rattle.bdb_damage.specs.of_rescue.Text.{stored_section, stored_settings};
+ghost use Rattle.bdb_damage.specs.of_rescue.Kept.{file_in};
+ghost use Rattle.bdb_damage.specs.of_survey.Salvage.{loose};
 
 use crate::printing::Printer;
+use bdb_damage::{Guess, SalvagePairs, SalvageValues, Salvaged};
 use bdb_range::{Bytes, Datum, KeyView, Kind, Settings, plain_settings};
-use bdb_rescue::{Guess, SalvagePairs, SalvageValues, Salvaged};
 use bdb_tool_lines::{Cut, Sink};
 use std::alloc::Global;
 
@@ -138,7 +138,7 @@ impl<'k, K: Sink> Printer<'k, K> {
     }
 
     /// Prints what is salvaged.
-    #[tactic(auto, using(crate::proofs::PrinterLemmas::then_adds, crate::proofs::PrinterLemmas::adds_cut), unfolding(bdb_rescue::specs::Text::salvage_text))]
+    #[tactic(auto, using(crate::proofs::PrinterLemmas::then_adds, crate::proofs::PrinterLemmas::adds_cut), unfolding(crate::specs::Below::salvage_text))]
     fn salvaged(&mut self, salvaged: &Salvaged<'_>, print: bool) -> Result<(), Cut>
         requires { length salvaged.now.image ≤ 2 ^ 30 }
         ensures { Adds K.written K.faults self.old self.new (salvage_text print salvaged.now.guess salvaged.now.image) result }
@@ -149,6 +149,7 @@ impl<'k, K: Sink> Printer<'k, K> {
 }
 
 /// Writes what is salvaged from an image: the section of the stored pairs, and that of the loose records, where there is one.
+/// An error means that a write failed, or that memory ran out.
 #[tactic(auto, using(crate::proofs::PrinterLemmas::all_cut))]
 pub fn write_salvaged<K: Sink>(
     alloc: Global,

@@ -42,13 +42,14 @@ pub data Request : Type 0 where
   Stat : Request
 
 -- what a command does: it asks something of a file by the rows that count, loads a text, or loads it onto the file of this word, salvages or repairs an
--- image, or builds a file of pairs that are generated
+-- image, tells by a guess, where one was given, what an image still has, or builds a file of pairs that are generated
 pub data Action : Type 0 where
   Ask : Rows → Request → Action
   Load : Action
   LoadOnto : List ℕ → Action
   Salvage : SalvageAsked → Action
   Repair : RepairAsked → Action
+  Survey : Option Guess → Action
   Trial : TrialAsked → Action
 
 -- a command: the longest input that it takes, or the longest image that it builds, and what it does
@@ -138,11 +139,12 @@ commands =
     ∷ row command.Convert (codes "convert") (max_bytes ∷ []) 1
     ∷ row command.Stat (codes "stat") (max_bytes ∷ []) 0
     ∷ row command.Repair (codes "repair") (max_bytes ∷ order ∷ page_size ∷ as_kind ∷ duplicates ∷ dupsort ∷ apart ∷ []) 0
+    ∷ row command.Survey (codes "survey") (max_bytes ∷ order ∷ page_size ∷ []) 0
     ∷ []
 
 -- words that are none of these
 abbrev pub usage : Answer
-usage = told 2 (line (codes "usage: bdbtool verify, list, get, dump, load, salvage, trial, range, convert, stat or repair"))
+usage = told 2 (line (codes "usage: bdbtool verify, list, get, dump, load, salvage, trial, range, convert, stat, repair or survey"))
 
 -- What words of values mean.
 
@@ -274,7 +276,7 @@ asking rows request = option_map (Ask rows) request
 abbrev pub rows_asked : Arguments → Rows
 rows_asked all = rows_by (has any_order all)
 
--- the guess of `salvage` and `repair`
+-- the guess of `salvage`, `repair` and `survey`
 abbrev pub guess_of : Arguments → Option (Option Guess)
 guess_of all = guess_asked (value_of order all) (value_of page_size all)
 
@@ -311,6 +313,7 @@ action_of command.Convert all = option_map (λ order. Ask All (Convert order)) (
 action_of command.Stat all = Some (Ask All Stat)
 action_of command.Repair all =
     repairing (built_asked (has apart all) (shape_asked (value_of as_kind all) (duplicates_named (has duplicates all) (has dupsort all)))) (guess_of all)
+action_of command.Survey all = option_map Survey (guess_of all)
 
 -- The command that words are.
 

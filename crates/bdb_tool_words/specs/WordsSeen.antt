@@ -2,9 +2,10 @@
 use Rattle.std.specs.Prelude.{ℕ, ◌≡◌, ◌<◌, ◌≤◌, ◌^◌, not, map, List, Option, Some, IfSome, IsTrue, is_some, option_copied, ⊤}
 use Rattle.bdb_any_order.specs.declared.rows.Rows.TheVariants.{All}
 use Rattle.bdb_model.specs.of_format.Terms.{is_page_size}
+use Rattle.bdb_survey.specs.declared.guess.Guess.{Guess}
 use Rattle.bdb_model.specs.of_text_format.Terms.{bytes_spelled}
 use Rattle.bdb_tool_words.specs.ArgumentsSeen.{option_seen}
-use Rattle.bdb_tool_words.specs.Commands.{Action, Command, CommandRow, Convert, ListAll, Load, LoadOnto, Repair, Request, Salvage, Stat, Trial, Verify}
+use Rattle.bdb_tool_words.specs.Commands.{Action, Command, CommandRow, Convert, ListAll, Load, LoadOnto, Repair, Request, Salvage, Stat, Survey, Trial, Verify}
 use Rattle.bdb_tool_words.specs.Commands.{asked_name, asking, bounds_request, command_of, key_request, text_request, within}
 use Rattle.bdb_tool_words.specs.declared.command.CommandRow.{CommandRow as CodeRow}
 use Rattle.bdb_tool_words.specs.declared.command.Reading.{Reading}
@@ -13,7 +14,7 @@ use Rattle.bdb_tool_words.specs.declared.command.Request.{Request as CodeRequest
 use Rattle.bdb_tool_words.specs.declared.command.Request.TheVariants.{Get as GetWord, Range as RangeWord, Convert as ConvertWord, Stat as StatWord}
 use Rattle.bdb_tool_words.specs.declared.command.Action.{Action as CodeAction}
 use Rattle.bdb_tool_words.specs.declared.command.Action.TheVariants.{Ask as AskWord, Read as ReadWord, Load as LoadWord, LoadOnto as LoadOntoWord}
-use Rattle.bdb_tool_words.specs.declared.command.Action.TheVariants.{Salvage as SalvageWord, Repair as RepairWord, Trial as TrialWord}
+use Rattle.bdb_tool_words.specs.declared.command.Action.TheVariants.{Salvage as SalvageWord, Repair as RepairWord, Survey as SurveyWord, Trial as TrialWord}
 use Rattle.bdb_tool_words.specs.declared.command.Command.{Command as CodeCommand}
 use Rattle.bdb_tool_words.specs.declared.command.Repair.{Repair as CodeRepair}
 use Rattle.bdb_tool_words.specs.declared.command.Salvage.{Salvage as CodeSalvage}
@@ -43,6 +44,7 @@ action_seen LoadWord = Some Load
 action_seen (LoadOntoWord file) = Some (LoadOnto file.now)
 action_seen (SalvageWord asked) = Some (Salvage asked)
 action_seen (RepairWord asked) = Some (Repair asked)
+action_seen (SurveyWord guess) = Some (Survey guess)
 action_seen (TrialWord trial) = Some (Trial trial)
 
 -- what is seen of an action is what a command does
@@ -62,15 +64,19 @@ pub record IsFitTrial (trial : CodeTrial) : Type 0 where
   pub count : trial.count ≤ 200000
 
 -- the guess that is given has a legal page size
+abbrev pub IsFitGuess : Option Guess → Type 0
+IsFitGuess guess = IfSome guess (λ it. IsTrue (is_page_size it.page_size))
+
 abbrev pub IsFitSalvage : CodeSalvage → Type 0
-IsFitSalvage asked = IfSome asked.guess (λ guess. IsTrue (is_page_size guess.page_size))
+IsFitSalvage asked = IsFitGuess asked.guess
 
 abbrev pub IsFitRepair : CodeRepair → Type 0
-IsFitRepair asked = IfSome asked.guess (λ guess. IsTrue (is_page_size guess.page_size))
+IsFitRepair asked = IsFitGuess asked.guess
 
 abbrev pub IsFitAction : CodeAction → Type 0
 IsFitAction (SalvageWord asked) = IsFitSalvage asked
 IsFitAction (RepairWord asked) = IsFitRepair asked
+IsFitAction (SurveyWord guess) = IsFitGuess guess
 IsFitAction (TrialWord trial) = IsFitTrial trial
 IsFitAction action = ⊤
 

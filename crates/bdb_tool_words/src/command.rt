@@ -32,6 +32,7 @@ enum CommandName {
     Convert,
     Stat,
     Repair,
+    Survey,
 }
 
 /// What `get` asks, with the name and the key as they are spelled.
@@ -136,6 +137,8 @@ pub enum Action<'w> {
     LoadOnto(&'w [u8]),
     Salvage(Salvage),
     Repair(Repair),
+    /// It's told what an image still has, by the guess that is given.
+    Survey(Option<Guess>),
     Trial(Trial),
 }
 
@@ -161,8 +164,8 @@ struct CommandRow {
     operands: usize,
 }
 
-/// The options of `get` and `range`.
-const COMMANDS: [CommandRow; 11] = [
+/// The table.
+const COMMANDS: [CommandRow; 12] = [
     CommandRow {
         name: CommandName::Verify,
         word: b"verify",
@@ -231,6 +234,12 @@ const COMMANDS: [CommandRow; 11] = [
         ],
         operands: 0,
     },
+    CommandRow {
+        name: CommandName::Survey,
+        word: b"survey",
+        options: &[MAX_BYTES, ORDER, PAGE_SIZE],
+        operands: 0,
+    },
 ];
 
 /// The command that the words are, unless they are none.
@@ -242,7 +251,7 @@ pub fn command_of<'w>(words: &'w Words) -> Option<Command<'w>>
     command_by(row_named(first)?, words)
 }
 
-/// The file that is opened as the base: that of a `load` with `--onto`. It takes no memory.
+/// The file that is opened as the base: that of a `load` with `--onto`. It takes no memory. None for other words.
 pub fn onto_file(words: &Words) -> Option<&[u8]>
     ensures { option_copied result ≡ onto_file words.now }
 {
@@ -252,7 +261,7 @@ pub fn onto_file(words: &Words) -> Option<&[u8]>
     }
 }
 
-/// The limit of a command that asks for a base.
+/// The limit of a command that asks for a base. None for other words.
 pub fn base_limit(words: &Words) -> Option<u32>
     ensures { MatchOption result (command_on words.now true ≡ command_on words.now false) (AreOnto words.now) }
 {
@@ -306,6 +315,7 @@ fn action_of<'w>(name: CommandName, read: &Arguments<'w>) -> Option<Action<'w>>
         CommandName::Convert => convert_action(read),
         CommandName::Stat => Some(Action::Ask(Request::Stat)),
         CommandName::Repair => repair_action(read),
+        CommandName::Survey => survey_action(read),
     }
 }
 
@@ -424,6 +434,15 @@ fn repair_action<'w>(read: &Arguments<'w>) -> Option<Action<'w>>
         guess: guess_asked(read.value(ORDER), read.value(PAGE_SIZE))?,
     };
     Some(Action::Repair(asked))
+}
+
+// What `survey` does.
+fn survey_action<'w>(read: &Arguments<'w>) -> Option<Action<'w>>
+    ensures action { MatchOption result (action_of command.Survey read.now ≡ None) (IsActionSeen (action_of command.Survey read.now)) }
+    ensures fit { IfSome result IsFitAction }
+{
+    let guess = guess_asked(read.value(ORDER), read.value(PAGE_SIZE))?;
+    Some(Action::Survey(guess))
 }
 
 // What `trial` does.

@@ -1,4 +1,4 @@
-//! How an image is read, by the options of `salvage`.
+//! How an image is read, by the options of `salvage`, `repair` and `survey`.
 ghost use Rattle.std.specs.Prelude.{◌≡◌, IfSome, IsTrue, option_copied};
 ghost use Rattle.bdb_model.specs.of_format.Terms.{is_page_size};
 ghost use Rattle.bdb_tool_words.specs.Commands.{guess_asked, order_named, page_size_named};

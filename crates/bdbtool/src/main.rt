@@ -67,7 +67,7 @@ fn input_len(rt: &HostRuntime) -> usize {
     len_of(fs::metadata(rt, "/dev/stdin"))
 }
 
-// The file of a word, opened for reading alone. What can't be opened is shut, but where memory is wanting.
+// The file of a word, opened for reading alone. What can't be opened is shut, but where memory runs out.
 fn base_at(rt: &HostRuntime, file: &[u8]) -> io::Result<BaseSource<File>> {
     let Ok(path) = str::from_utf8(file) else {
         return Ok(BaseSource::Shut { faults: 0 });
@@ -82,7 +82,7 @@ fn base_at(rt: &HostRuntime, file: &[u8]) -> io::Result<BaseSource<File>> {
     }
 }
 
-// Ends where the words can't be collected: memory was wanting, or a word isn't UTF-8.
+// Ends where the words can't be collected: memory ran out, or a word isn't UTF-8.
 fn refuse<E: Sink>(err: &mut E, cause: ErrorKind) -> ExitCode {
     if cause == ErrorKind::OutOfMemory {
         let _ = put_all(err, b"out of memory\n");

@@ -3,8 +3,8 @@ use Rattle.std.specs.Prelude.{⊤}
 use Rattle.sample_contents.proofs.of_sample_pages.Computed.{pages}
 use Rattle.bdb_apart.specs.of_survey.Salvage.{salvaged_page, salvaged_file, is_whole, down_in, down, set_start, whole_values, live_whole}
 use Rattle.bdb_apart.specs.of_survey.Salvage.{whole_data, stored_pair, set_starts, is_taken}
-use Rattle.bdb_homes.specs.Claims.{all_claims, claim_of}
-use Rattle.bdb_homes.specs.Homes.{claimed_in, home, led, own_home, spread}
+use Rattle.bdb_apart.proofs.of_homes.Claims.{all_claims, claim_of}
+use Rattle.bdb_apart.proofs.of_homes.Homes.{claimed_in, home, led, own_home, spread}
 use Rattle.bdb_apart.specs.Found.{entries, found}
 use Rattle.bdb_apart.specs.Given.{pairs_given, pairs_left, records_given, records_left}
 use Rattle.bdb_apart.specs.Queues.{queue_in, queue_records}

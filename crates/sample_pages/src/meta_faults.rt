@@ -54,7 +54,7 @@ pub fn queue()
     ensures wrapped_queue { form_codes form_wrapped_queue ≡ Ok (Some 18 ∷ []) }
 {}
 
-/// The codes of rows that are cases left out by name.
+/// The codes of the rows of cases that aren't supported.
 pub fn left_out()
     ensures file { map head_fault (3 ∷ 4 ∷ 6 ∷ 7 ∷ 8 ∷ 9 ∷ []) ≡ LeftOut Heap ∷ LeftOut Version ∷ LeftOut LargePage ∷ LeftOut Encryption ∷ LeftOut Checksum
         ∷ LeftOut Partition ∷ [] }

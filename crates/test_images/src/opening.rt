@@ -7,7 +7,7 @@ ghost use Rattle.bdb_tree.specs.of_format.Terms.{BtreeFields, file_of, is_recno,
 use bdb_tree::{BtreeMeta, Linked, Meta, check_chains, check_trees};
 use std::alloc::Global;
 
-/// Whether no row of stage 6 holds; not, where memory is wanting.
+/// Whether no row of stage 6 holds; not, where memory runs out.
 #[tactic(auto, using(bdb_tree::proofs::StageLemmas::no_structure_fault))]
 pub fn has_sound_trees(alloc: Global, linked: &Linked<'_>) -> bool
     ensures { IsTrue result → structure_faults (file_of linked.now) ≡ [] }

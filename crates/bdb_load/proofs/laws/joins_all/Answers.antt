@@ -1,4 +1,4 @@
-use Rattle.bdb_mkfile.proofs.of_law_join.NamedLemmas.{joins_all}
+use Rattle.bdb_onto.proofs.of_mkfile.of_law_join.NamedLemmas.{joins_all}
 use Rattle.bdb_load.proofs.laws.joins_all.Goals as goal
 
 pub returns : goal.returns

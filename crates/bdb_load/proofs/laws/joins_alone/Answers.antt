@@ -1,4 +1,4 @@
-use Rattle.bdb_mkfile.proofs.of_law_join.AloneLemmas.{joins_alone}
+use Rattle.bdb_onto.proofs.of_mkfile.of_law_join.AloneLemmas.{joins_alone}
 use Rattle.bdb_load.proofs.laws.joins_alone.Goals as goal
 
 pub returns : goal.returns

@@ -1,4 +1,4 @@
-use Rattle.bdb_mkfile.proofs.of_law_join.QueueLemmas.{queues_are_sound}
+use Rattle.bdb_onto.proofs.of_mkfile.of_law_join.QueueLemmas.{queues_are_sound}
 use Rattle.bdb_load.proofs.laws.queues_are_sound.Goals as goal
 
 pub returns : goal.returns

@@ -5,7 +5,7 @@ use Rattle.bdb_onto.specs.Onto.{onto_errors}
 use Rattle.bdb_onto.specs.Search.{IsPartnerAt}
 use Rattle.bdb_onto.proofs.errors.partner_places.Given as goal
 
--- The first error of the sections so far, and the places of their partners where memory isn't wanting.
+-- The first error of the sections so far, and the places of their partners where memory doesn't run out.
 abbrev pub invariant-loop-section : goal.invariant-loop-section
 invariant-loop-section l = record {
   first : l.first ≡ fold sooner None (flat_map (onto_errors l.base l.alone) (take l.section-index l.section-items));

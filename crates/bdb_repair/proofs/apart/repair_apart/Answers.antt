@@ -1,11 +1,23 @@
-use Rattle.std.proofs.Common.{◌≡◌, ◌<◌, sym, subst, ◌∙◌}
+use Rattle.std.proofs.Common.{◌≡◌, ◌<◌, true, sym, subst, ◌∙◌, nat_lt}
 use Rattle.std.proofs.lemmas.List.Elements.{All-from_get_or}
 use Rattle.bdb_rescue.specs.Guesses.{chosen}
 use Rattle.bdb_rescue.proofs.GuessLemmas.{chosen_legal}
 use Rattle.bdb_law_kept.specs.of_text.WrittenLaw.{AreBytes}
 use Rattle.bdb_repair.specs.Apart.{IsRepairedApart, sections_in}
+use Rattle.bdb_repair.specs.ApartRoom.{apart_room}
+use Rattle.bdb_repair.proofs.ApartRoomLemmas.{found_past}
 use Rattle.bdb_repair.proofs.ApartLemmas.{found_built, found_loadable, found_may_come, nothing_built}
 use Rattle.bdb_repair.proofs.apart.repair_apart.Goals as goal
+
+-- The data alone have too many bytes.
+pub returns-then-are_past-clause-repaired : goal.returns-then-are_past-clause-repaired
+returns-then-are_past-clause-repaired g c =
+    found_past c.args.max (chosen c.args.guess c.args.image.now) c.args.image.now c.in_ok-salvaged.salvaged
+    (record {
+      guess = c.in_ok-salvaged.ensures.guess;
+      image_is = c.in_ok-salvaged.ensures.image;
+      legal = chosen_legal c.args.guess c.args.image.now c.in_ok-salvaged.salvaged.guess c.requires.size c.in_ok-salvaged.ensures.guess;
+    }) (subst (λ it. nat_lt c.args.max (apart_room it) ≡ true) c.in_ok-apart.ensures.apart (sym c.are_past.ensures ∙ c.if-are_past.true))
 
 -- Nothing is found.
 pub returns-then-is_empty-clause-repaired : goal.returns-then-is_empty-clause-repaired

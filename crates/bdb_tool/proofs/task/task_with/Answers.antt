@@ -1,4 +1,4 @@
-use Rattle.bdb_tool.proofs.TaskLemmas.{asked_unread, reading_unread, repair_unread, salvage_unread, text_unread}
+use Rattle.bdb_tool.proofs.TaskLemmas.{asked_unread, reading_unread, repair_unread, salvage_unread, survey_unread, text_unread}
 use Rattle.bdb_tool.proofs.task.task_with.Goals as goal
 
 pub returns-in-Err-clause-task : goal.returns-in-Err-clause-task
@@ -20,3 +20,7 @@ returns-in-Err-input_of-3-clause-task g c = λ words seen. salvage_unread words 
 pub returns-in-Err-input_of-4-clause-task : goal.returns-in-Err-input_of-4-clause-task
 returns-in-Err-input_of-4-clause-task g c =
     λ words seen. repair_unread words _ c.args.command.limit c.in-Repair.asked c.in-Err-input_of-4.stop (rw c.in-Repair.is at seen) c.in-Err-input_of-4.ensures
+
+pub returns-in-Err-input_of-5-clause-task : goal.returns-in-Err-input_of-5-clause-task
+returns-in-Err-input_of-5-clause-task g c =
+    λ words seen. survey_unread words _ c.args.command.limit c.in-Survey.guess c.in-Err-input_of-5.stop (rw c.in-Survey.is at seen) c.in-Err-input_of-5.ensures

@@ -1,7 +1,7 @@
 use Rattle.std.proofs.Common.{ap, map}
 use Rattle.std.specs.List.{flat_map}
 use Rattle.bdb_tool_print.specs.Printers.{pair_text}
-use Rattle.bdb_rescue.specs.Text.{numbered_record}
+use Rattle.bdb_damage.specs.of_rescue.Text.{numbered_record}
 use Rattle.bdb_tool_print.proofs.PrinterLemmas.{begins, cut_up, item_added, item_cut, items_added}
 use Rattle.bdb_tool_print.proofs.printing.Printer.given_records.Goals as goal
 

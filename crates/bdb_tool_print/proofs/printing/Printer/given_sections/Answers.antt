@@ -1,6 +1,6 @@
 use Rattle.std.proofs.Common.{ap}
 use Rattle.std.specs.List.{flat_map}
-use Rattle.bdb_apart.specs.Text.{db_section}
+use Rattle.bdb_damage.specs.of_apart.Text.{db_section}
 use Rattle.bdb_tool_print.proofs.PrinterLemmas.{begins, cut_up, item_added, item_cut, items_added}
 use Rattle.bdb_tool_print.proofs.printing.Printer.given_sections.Goals as goal
 

@@ -1,5 +1,5 @@
 use Rattle.std.specs.List.{flat_map}
-use Rattle.bdb_apart.specs.Text.{db_section}
+use Rattle.bdb_damage.specs.of_apart.Text.{db_section}
 use Rattle.bdb_tool_print.specs.Printers.{HasAdded}
 use Rattle.bdb_tool_print.proofs.printing.Printer.given_sections.Given as goal
 

@@ -1,5 +1,5 @@
 use Rattle.std.proofs.Common.{arith, length, ap}
-use Rattle.bdb_rescue.proofs.LooseCountLemmas.{loose_few}
+use Rattle.bdb_damage.proofs.of_rescue.LooseCountLemmas.{loose_few}
 use Rattle.bdb_tool_print.proofs.printing.Printer.loose_section.Goals as goal
 
 pub records_section-requires : goal.records_section-requires

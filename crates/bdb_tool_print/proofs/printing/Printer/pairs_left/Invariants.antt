@@ -1,7 +1,7 @@
 use Rattle.std.proofs.Common.{map}
 use Rattle.std.specs.List.{flat_map}
 use Rattle.bdb_tool_print.specs.Printers.{HasAdded, pair_text}
-use Rattle.bdb_rescue.specs.Text.{bytes_pair}
+use Rattle.bdb_damage.specs.of_rescue.Text.{bytes_pair}
 use Rattle.bdb_tool_print.proofs.printing.Printer.pairs_left.Given as goal
 
 -- What was printed, and the lines of the pairs that are left, are those of all.

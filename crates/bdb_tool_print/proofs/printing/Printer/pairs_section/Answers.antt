@@ -1,7 +1,7 @@
 use Rattle.std.proofs.Common.{List, ℕ, ◌++◌, Some, codes, map, sym, subst, flat_map}
 use Rattle.bdb_text.specs.of_text_format.Terms.{data_end, header_text, line}
 use Rattle.bdb_tool_print.specs.Printers.{Adds, pair_text}
-use Rattle.bdb_rescue.specs.Text.{bytes_pair, stored_settings}
+use Rattle.bdb_damage.specs.of_rescue.Text.{bytes_pair, stored_settings}
 use Rattle.bdb_tool_print.proofs.DumpLemmas.{section_by_parts}
 use Rattle.bdb_tool_print.proofs.PrinterLemmas.{adds_cut, cut_up}
 use Rattle.bdb_tool_print.proofs.printing.Printer.pairs_section.Goals as goal

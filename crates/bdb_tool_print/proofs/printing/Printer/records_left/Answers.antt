@@ -1,7 +1,7 @@
 use Rattle.std.proofs.Common.{◌+◌, ap, map, length, arith}
 use Rattle.std.specs.List.{enumerate_from}
 use Rattle.bdb_tool_print.specs.Printers.{pair_text}
-use Rattle.bdb_rescue.specs.Text.{numbered_record}
+use Rattle.bdb_damage.specs.of_rescue.Text.{numbered_record}
 use Rattle.bdb_tool_print.proofs.PrinterLemmas.{cut_up, item_added, item_cut}
 use Rattle.bdb_tool_print.proofs.printing.Printer.records_left.Goals as goal
 

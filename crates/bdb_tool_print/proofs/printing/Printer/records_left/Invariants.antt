@@ -1,7 +1,7 @@
 use Rattle.std.proofs.Common.{◌≡◌, ◌+◌, length, map}
 use Rattle.std.specs.List.{enumerate_from, flat_map}
 use Rattle.bdb_tool_print.specs.Printers.{HasAdded, pair_text}
-use Rattle.bdb_rescue.specs.Text.{numbered_record}
+use Rattle.bdb_damage.specs.of_rescue.Text.{numbered_record}
 use Rattle.bdb_tool_print.proofs.printing.Printer.records_left.Given as goal
 
 -- So many records were printed, and what was printed, and the lines of those that are left, are those of all.

@@ -1,6 +1,6 @@
 use Rattle.std.proofs.Common.{ap, map, flat_map}
 use Rattle.bdb_tool_print.specs.Printers.{pair_text}
-use Rattle.bdb_rescue.specs.Text.{bytes_pair}
+use Rattle.bdb_damage.specs.of_rescue.Text.{bytes_pair}
 use Rattle.bdb_tool_print.proofs.PrinterLemmas.{begins, cut_up, item_added, item_cut, items_added}
 use Rattle.bdb_tool_print.proofs.printing.Printer.stored_pairs.Goals as goal
 

@@ -1,6 +1,6 @@
 use Rattle.std.proofs.Common.{map, flat_map}
 use Rattle.bdb_tool_print.specs.Printers.{HasAdded, pair_text}
-use Rattle.bdb_rescue.specs.Text.{bytes_pair}
+use Rattle.bdb_damage.specs.of_rescue.Text.{bytes_pair}
 use Rattle.bdb_tool_print.proofs.printing.Printer.stored_pairs.Given as goal
 
 -- What was printed, and the lines of the pairs that are left, are those of all.

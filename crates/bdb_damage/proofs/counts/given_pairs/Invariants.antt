@@ -1,0 +1,13 @@
+use Rattle.std.proofs.Common.{◌≡◌, ◌++◌, length}
+use Rattle.std.specs.List.{sum_by}
+use Rattle.bdb_apart.specs.of_rescue.Kept.{file_in}
+use Rattle.bdb_apart.specs.Kept.{row_in}
+use Rattle.bdb_apart.specs.Left.{pairs_on}
+use Rattle.bdb_damage.proofs.counts.given_pairs.Given as goal
+
+-- What the pages so far have is counted.
+abbrev pub invariant-loop-page : goal.invariant-loop-page
+invariant-loop-page l = record {
+  counted : l.count ≡ sum_by (λ p. length (pairs_on (file_in l.database.reading) l.holds p)) l.yielded;
+  all : l.yielded ++ l.page-iterator ≡ row_in l.database.reading l.database.db.meta;
+}

@@ -1,0 +1,19 @@
+use Rattle.std.proofs.Common.{Bool, ℕ, arith, ap, cond}
+use Rattle.std.specs.Prelude.{not}
+use Rattle.bdb_apart.specs.of_survey.Slots.{slots_seen}
+use Rattle.bdb_damage.specs.Tallies.{is_live_slot}
+use Rattle.bdb_damage.proofs.StepLemmas.{range_more}
+use Rattle.bdb_damage.proofs.record_counts.live_among.Goals as goal
+
+-- One more.
+pub loop-index-preserved : goal.loop-index-preserved
+loop-index-preserved c = record {
+  counted = omega (
+    arith,
+    c.loop-index.invariant.counted,
+    c.one-count.ensures.value,
+    ap {B = ℕ} (λ (b : Bool). cond (not b) 1 0) c.is_deleted.ensures,
+    range_more (λ i. cond (is_live_slot (slots_seen c.args.slots.now) i) 1 0) c.loop-index.index,
+  );
+  few = omega (arith, c.loop-index.invariant.few, c.one-count.ensures.few);
+}

@@ -1,0 +1,15 @@
+use Rattle.std.proofs.Common.{◌≡◌, ◌-◌}
+use Rattle.bdb_apart.specs.of_rescue.Kept.{file_in}
+use Rattle.bdb_damage.specs.Pages.{is_queue_file}
+use Rattle.bdb_damage.specs.Walks.{renumbered_from}
+use Rattle.bdb_damage.proofs.renumbered.RenumberedPagesIterator.next.Given as goal
+
+-- As much is left as at the beginning.
+abbrev pub invariant-walk : goal.invariant-walk
+invariant-walk l = record {
+  left : renumbered_from l.self-inside.salvaged.now l.self-inside.page ≡ renumbered_from l.initial.self-inside.salvaged.now l.initial.self-inside.page;
+  queue : l.self-inside.queue ≡ is_queue_file l.self-inside.salvaged.now;
+}
+
+abbrev pub decreases-walk : goal.decreases-walk
+decreases-walk l = (file_in l.self-inside.salvaged.now).count - l.self-inside.page

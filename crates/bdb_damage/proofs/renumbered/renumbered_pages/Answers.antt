@@ -1,0 +1,7 @@
+use Rattle.std.proofs.Common.{ap, ◌∙◌}
+use Rattle.bdb_damage.specs.Walks.{renumbered_from}
+use Rattle.bdb_damage.proofs.WalkLemmas.{all_renumbered}
+use Rattle.bdb_damage.proofs.renumbered.renumbered_pages.Goals as goal
+
+pub returns : goal.returns
+returns c = ap (λ r. renumbered_from r 0) c.salvaged-salvaged.ensures ∙ all_renumbered c.args.apart.now

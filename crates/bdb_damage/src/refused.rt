@@ -1,0 +1,73 @@
+ghost use Rattle.std.specs.Prelude.{◌≡◌};
+ghost use Rattle.std.specs.Iterator.{YieldsFirstBy, item_count};
+ghost use Rattle.bdb_apart.specs.of_format.Terms.{fault_seen, form_row_code};
+ghost use Rattle.bdb_damage.specs.Pages.{refused_pages};
+
+use crate::rows::{is_queue_file, row_at};
+use bdb_apart::{Apart, Salvaged};
+use bdb_format::{FormRow, Named, Row};
+use std::marker::Model;
+
+/// The refused pages that are left.
+#[derive(Drop)]
+pub struct RefusedPages<'s, 'a> {
+    salvaged: &'s Salvaged<'a>,
+    queue: bool,
+    page: u32,
+}
+
+impl<'s, 'a> Model for RefusedPages<'s, 'a> {
+    ghost use Rattle.std.specs.Prelude.{◌≡◌, List};
+    ghost use Rattle.bdb_apart.specs.of_format.declared.kinds.Fault.{Fault};
+    ghost use Rattle.bdb_damage.specs.Pages.{is_queue_file};
+    ghost use Rattle.bdb_damage.specs.Walks.{refused_from};
+
+    ghost Value = { List Fault };
+
+    ghost view = { λ v. refused_from v.salvaged.now v.page };
+
+    ghost invariant = { λ v. v.queue ≡ is_queue_file v.salvaged.now };
+}
+
+/// The pages of which a row of stage 2 holds, each with the first such row, by page: by the number that the page carries, and with
+/// the last whole page as the last one.
+pub fn refused_pages<'s, 'a>(apart: &Apart<'s, 'a>) -> RefusedPages<'s, 'a>
+    ensures { result ≡ refused_pages apart.now }
+{
+    let salvaged = apart.salvaged();
+    RefusedPages {
+        salvaged,
+        queue: is_queue_file(salvaged),
+        page: 0,
+    }
+}
+
+/// A row of form at a page.
+fn form_at(row: FormRow, page: u32) -> Named
+    ensures { fault_seen result ≡ record { stage = 2; page = page; code = form_row_code row } }
+{
+    Row::Form(row).at(page)
+}
+
+impl<'s, 'a> Iterator for RefusedPages<'s, 'a> {
+    type Item = Named;
+
+    ghost next_gives = { YieldsFirstBy fault_seen (λ left. left) };
+
+    ghost remaining = { item_count (λ left. left) };
+
+    #[tactic(auto, using(crate::proofs::WalkLemmas::refused_none, crate::proofs::WalkLemmas::refused_some, crate::proofs::WalkLemmas::refused_end))]
+    fn next(&mut self) -> Option<Named> {
+        'walk: loop {
+            let page = self.page;
+            if page >= self.salvaged.pages().count() {
+                return None;
+            }
+            self.page += 1;
+            match row_at(self.salvaged, self.queue, page) {
+                Some(row) => return Some(form_at(row, page)),
+                None => {}
+            }
+        }
+    }
+}

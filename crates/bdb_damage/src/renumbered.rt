@@ -1,0 +1,87 @@
+ghost use Rattle.std.specs.Prelude.{◌≡◌, ◌<◌, ℕ};
+ghost use Rattle.std.specs.Iterator.{YieldsFirst, item_count};
+ghost use Rattle.bdb_apart.specs.of_rescue.Kept.{file_in};
+ghost use Rattle.bdb_apart.specs.Queues.{bytes_at};
+ghost use Rattle.bdb_damage.specs.Pages.{is_queue_file, is_renumbered, number_on, renumbered_pages};
+
+use crate::pages::is_zero_at;
+use crate::rows::{is_queue_file, row_at};
+use bdb_apart::{Apart, Salvaged, u32_at};
+use std::marker::Model;
+
+/// The pages with another number that are left.
+#[derive(Drop)]
+pub struct RenumberedPages<'s, 'a> {
+    salvaged: &'s Salvaged<'a>,
+    queue: bool,
+    page: u32,
+}
+
+impl<'s, 'a> Model for RenumberedPages<'s, 'a> {
+    ghost use Rattle.std.specs.Prelude.{◌≡◌, List, ℕ};
+    ghost use Rattle.bdb_damage.specs.Pages.{is_queue_file};
+    ghost use Rattle.bdb_damage.specs.Walks.{renumbered_from};
+
+    ghost Value = { List (ℕ × ℕ) };
+
+    ghost view = { λ v. renumbered_from v.salvaged.now v.page };
+
+    ghost invariant = { λ v. v.queue ≡ is_queue_file v.salvaged.now };
+}
+
+/// The number that a page carries.
+fn number_on(salvaged: &Salvaged<'_>, page: u32) -> u32
+    requires { page < (file_in salvaged.now).count }
+    ensures { result ≡ number_on salvaged.now.guess.order (bytes_at salvaged.now page) }
+{
+    u32_at(salvaged.bytes_at(page), 8, salvaged.guess().order)
+}
+
+/// Whether a page carries another number than its own, where it isn't refused or zero.
+fn is_renumbered(salvaged: &Salvaged<'_>, queue: bool, page: u32) -> bool
+    requires there { page < (file_in salvaged.now).count }
+    requires queue { queue ≡ is_queue_file salvaged.now }
+    ensures { result ≡ is_renumbered salvaged.now page }
+{
+    if number_on(salvaged, page) == page {
+        return false;
+    }
+    if is_zero_at(salvaged, page) {
+        return false;
+    }
+    row_at(salvaged, queue, page).is_none()
+}
+
+/// The pages that carry another number than their own, each with that number, by page: none that is refused, and none that is zero.
+pub fn renumbered_pages<'s, 'a>(apart: &Apart<'s, 'a>) -> RenumberedPages<'s, 'a>
+    ensures { result ≡ renumbered_pages apart.now }
+{
+    let salvaged = apart.salvaged();
+    RenumberedPages {
+        salvaged,
+        queue: is_queue_file(salvaged),
+        page: 0,
+    }
+}
+
+impl<'s, 'a> Iterator for RenumberedPages<'s, 'a> {
+    type Item = (u32, u32);
+
+    ghost next_gives = { YieldsFirst (λ left. left) };
+
+    ghost remaining = { item_count (λ left. left) };
+
+    #[tactic(auto, using(crate::proofs::WalkLemmas::renumbered_none, crate::proofs::WalkLemmas::renumbered_some, crate::proofs::WalkLemmas::renumbered_end))]
+    fn next(&mut self) -> Option<(u32, u32)> {
+        'walk: loop {
+            let page = self.page;
+            if page >= self.salvaged.pages().count() {
+                return None;
+            }
+            self.page += 1;
+            if is_renumbered(self.salvaged, self.queue, page) {
+                return Some((page, number_on(self.salvaged, page)));
+            }
+        }
+    }
+}

@@ -1,0 +1,4 @@
+//! What `repair --apart` makes of a sound file: the file again.
+#![tactic(auto)]
+
+pub mod laws;

@@ -1,0 +1,16 @@
+use Rattle.bdb_repair.specs.of_apart.Text.{rest_text}
+use Rattle.bdb_tool_ask.proofs.of_tool_lines.FinishLemmas.{written_finishes}
+use Rattle.bdb_tool_ask.specs.of_tool_print.Survey.{survey_text}
+use Rattle.bdb_tool.proofs.salvaging.answer_known.Goals as goal
+
+pub returns-in-Apart : goal.returns-in-Apart
+returns-in-Apart g c = rw c.in-Apart.is c.answer_found.ensures
+
+pub returns-in-Rest : goal.returns-in-Rest
+returns-in-Rest g c =
+    rw c.in-Rest.is
+    (written_finishes (rest_text c.in-Rest.print c.args.apart.now.guess c.args.apart.now.image) _ _ _ _ c.write_rest.ensures c.report.ensures)
+
+pub returns-in-Survey : goal.returns-in-Survey
+returns-in-Survey g c =
+    rw c.in-Survey.is (written_finishes (survey_text c.in-Survey.case c.args.apart.now) _ _ _ _ c.write_survey.ensures c.report-in-Survey.ensures)

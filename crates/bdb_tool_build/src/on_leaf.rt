@@ -1,0 +1,161 @@
+//! Which items of leaves stand in a run of bytes. They may overlap, so together they may have many more bytes than their leaf: where they do, it is put there
+//! once, and what is left of them is found in it. No clause speaks of it, since what is found is compared.
+ghost use Rattle.std.specs.Prelude.{◌≡◌, []};
+ghost use Rattle.bdb_model.specs.of_format.Terms.{file_of, structure_faults};
+ghost use Rattle.bdb_ranks.specs.of_tree.Trees.{IsRoot};
+
+use bdb_model::Order;
+use bdb_ranks::{Forest, Leaves, tree_leaves, u32_at};
+
+// The number in two bytes of a page; 0 where it ends before.
+fn u16_in(page: &[u8], at: usize, order: Order) -> u16 {
+    if page.len() < 4 || at > page.len() - 4 {
+        return 0;
+    }
+    let number = u32_at(page, at, order);
+    match order {
+        Order::Big => (number >> 16) as u16,
+        Order::Little => (number % 65_536) as u16,
+    }
+}
+
+// The bytes of a page; none where the image has none there.
+fn bytes_of<'a>(forest: &Forest<'a>, number: u32) -> &'a [u8] {
+    let size = forest.head().page_size as usize;
+    let first = (number as usize).saturating_mul(size);
+    match forest.image().get(first..first.saturating_add(size)) {
+        Some(bytes) => bytes,
+        None => &[],
+    }
+}
+
+/// A leaf whose items are put into a run: how many bytes they may still have there, which one is next, and from where on the leaf stands there, if it does.
+#[derive(Clone, Copy)]
+pub(crate) struct OnLeaf<'a> {
+    bytes: &'a [u8],
+    order: Order,
+    next: usize,
+    left: usize,
+    copy: Option<u32>,
+}
+
+impl<'a> OnLeaf<'a> {
+    // No leaf.
+    fn none() -> OnLeaf<'a> {
+        OnLeaf {
+            bytes: &[],
+            order: Order::Little,
+            next: 0,
+            left: 0,
+            copy: None,
+        }
+    }
+
+    /// A leaf, with its first item next.
+    pub(crate) fn of(forest: &Forest<'a>, number: u32) -> OnLeaf<'a> {
+        let bytes = bytes_of(forest, number);
+        OnLeaf {
+            bytes,
+            order: forest.head().order,
+            next: 0,
+            left: bytes.len(),
+            copy: None,
+        }
+    }
+
+    /// Its bytes.
+    pub(crate) fn bytes(&self) -> &'a [u8] {
+        self.bytes
+    }
+
+    // How many entries it has.
+    fn entries(&self) -> usize {
+        usize::from(u16_in(self.bytes, 20, self.order))
+    }
+
+    /// Goes to the item after the next one.
+    pub(crate) fn step(&mut self) {
+        self.next = self.next.saturating_add(1);
+    }
+
+    /// Where on the leaf the bytes of the next item begin, behind those of its length and its kind.
+    pub(crate) fn begin(&self) -> usize {
+        let at = self.next.saturating_mul(2).saturating_add(26);
+        usize::from(u16_in(self.bytes, at, self.order)).saturating_add(3)
+    }
+
+    /// Whether so many bytes more are put there by themselves.
+    pub(crate) fn takes(&mut self, bytes: usize) -> bool {
+        if self.left < bytes {
+            return false;
+        }
+        self.left -= bytes;
+        true
+    }
+
+    /// From where on the leaf stands there, if it does.
+    pub(crate) fn copy(&self) -> Option<u32> {
+        self.copy
+    }
+
+    /// Notes that it stands there from this place on.
+    pub(crate) fn note(&mut self, start: u32) {
+        self.copy = Some(start);
+    }
+}
+
+// The next leaf with an entry; after the last one no bytes.
+fn next_leaf<'a>(forest: &Forest<'a>, leaves: &mut Leaves<'a>) -> OnLeaf<'a> {
+    for leaf in leaves {
+        let on = OnLeaf::of(forest, leaf.number());
+        if on.entries() > 0 {
+            return on;
+        }
+    }
+    OnLeaf::none()
+}
+
+/// The leaves of a tree, beside a walk over its entries: on which of them the next entry stands.
+pub(crate) struct BesideEntries<'a> {
+    forest: Forest<'a>,
+    leaves: Leaves<'a>,
+    // How many entries of the leaf are left.
+    left: usize,
+    pub(crate) leaf: OnLeaf<'a>,
+}
+
+impl Drop for BesideEntries<'_> {
+    fn drop(self) {
+        let BesideEntries {
+            forest: _forest,
+            leaves: _leaves,
+            left: _left,
+            leaf: _leaf,
+        } = self;
+    }
+}
+
+impl<'a> BesideEntries<'a> {
+    /// Before the first entry of a tree.
+    pub(crate) fn over(forest: &Forest<'a>, root: u32) -> BesideEntries<'a>
+        requires root { IsRoot (file_of forest.now) root }
+        requires stage { structure_faults (file_of forest.now) ≡ [] }
+    {
+        BesideEntries {
+            forest: forest.again(),
+            leaves: tree_leaves(forest, root),
+            left: 0,
+            leaf: OnLeaf::none(),
+        }
+    }
+
+    /// Goes to the next entry.
+    pub(crate) fn turn(&mut self) {
+        self.leaf.step();
+        if self.left == 0 {
+            self.leaf = next_leaf(&self.forest, &mut self.leaves);
+            self.left = self.leaf.entries();
+        }
+        self.left = self.left.saturating_sub(1);
+    }
+}

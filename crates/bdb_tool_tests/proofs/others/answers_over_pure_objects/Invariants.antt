@@ -1,4 +1,0 @@
-use Rattle.bdb_tool_tests.proofs.others.answers_over_pure_objects.Given as goal
-
-abbrev pub ghosts-pure_status : goal.ghosts-pure_status
-ghosts-pure_status g a = record { name = a.blank.name; parts = a.blank.parts }
