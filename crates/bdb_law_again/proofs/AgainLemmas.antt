@@ -89,7 +89,7 @@ pub built_is_the_file : BuiltIsTheFile
 built_is_the_file print image built sound builds =
     given_again print image built (sections_in (read image)) sound (sections_are_given print image) builds.databases
 
-of_built : (max : ℕ) (sections : List Section) (built : List ℕ) → AreBuilt max sections (Ok built) → Builds sections built
+pub of_built : (max : ℕ) (sections : List Section) (built : List ℕ) → AreBuilt max sections (Ok built) → Builds sections built
 of_built max [] built is = absurd is
 of_built max (section ∷ sections) built is = is.0
 

@@ -1,7 +1,8 @@
 -- What is repaired of a sound queue is the queue again.
-use Rattle.std.proofs.Common.{◌≡◌, ℕ, Bool, true, List, [], ◌∷◌, ◌++◌, map, None, append-nil, refl, sym, ◌∙◌, ap, subst}
+use Rattle.std.proofs.Common.{◌≡◌, ℕ, Bool, true, List, [], ◌∷◌, ◌++◌, map, Some, None, Ok, Err, append-nil, refl, sym, ◌∙◌, ap, subst}
 use Rattle.std.specs.List.{All, AllZip, Contains, flat_map, fold}
 use Rattle.std.proofs.lemmas.List.Elements.{All-head}
+use Rattle.std.proofs.lemmas.Option.{same_Some}
 use Rattle.bdb_repair.specs.of_format.Terms.{QueueFields, databases, file_of, head_of, list_of}
 use Rattle.bdb_repair.proofs.of_format.FileLemmas.{kind_is}
 use Rattle.bdb_repair.proofs.of_format.MemberLemmas.{first_member}
@@ -12,8 +13,9 @@ use Rattle.bdb_repair.specs.of_apart.Found.{found}
 use Rattle.bdb_repair.specs.of_apart.Given.{FoundIn, in_image, records_given}
 use Rattle.bdb_repair.specs.of_apart.Read.{read}
 use Rattle.bdb_repair.specs.of_apart.Text.{apart_text, db_section, list_given, settings_in}
+use Rattle.bdb_repair.specs.of_rescue.Guesses.{chosen}
 use Rattle.bdb_repair.specs.of_mkfile.Builds.{AreLoadedAs}
-use Rattle.bdb_repair.specs.Apart.{section_in, sections_in}
+use Rattle.bdb_repair.specs.Apart.{IsRepairedApart, apart_sections, section_in, sections_in}
 use Rattle.bdb_repair.proofs.GivenFitLemmas.{IsGoodSection, queue_good}
 use Rattle.bdb_repair.proofs.MetaFitLemmas.{queue_fits}
 use Rattle.bdb_load.specs.of_law_kept.Dumps.{AreKeptAs, IsKeptAs}
@@ -26,8 +28,10 @@ use Rattle.bdb_load.proofs.of_law_kept.of_text.WrittenLemmas.{written_is_read}
 use Rattle.bdb_law_apart.specs.Named.{database_of}
 use Rattle.bdb_law_apart.specs.Sections.{IsGivenOf}
 use Rattle.bdb_law_apart.proofs.of_apart.of_rescue.of_overflow.LinkedLemmas.{legal_size}
-use Rattle.bdb_law_again.specs.Again.{BuiltQueueIsTheFile, IsAgain, IsFullQueue, QueueLoadsAgain}
-use Rattle.bdb_law_again.proofs.AgainLemmas.{built_again}
+use Rattle.bdb_law_apart.proofs.of_apart.of_rescue.of_image.FirstLemmas.{formed_accepted}
+use Rattle.bdb_salvage.proofs.ToldLemmas.{guess_is_told}
+use Rattle.bdb_law_again.specs.Again.{BuiltQueueIsTheFile, IsAgain, IsFullQueue, LoadsAgain, QueueLoadsAgain, RepairedQueueIsTheFile}
+use Rattle.bdb_law_again.proofs.AgainLemmas.{built_again, of_built}
 use Rattle.bdb_law_again.proofs.ErrorLemmas.{section_without}
 use Rattle.bdb_law_again.proofs.GivenLemmas.{sections_are_given}
 use Rattle.bdb_law_again.proofs.QueueLemmas.{HasLength, IsQueueRead, found_queue, queue_database, queue_db, queue_found, queue_given, queue_of}
@@ -115,8 +119,8 @@ no_error print image section of read_of =
     ap (λ n. fold sooner None (section_errors n true section ++ [])) (given_of print image (queue_db image) section read_of).page_size
     ∙ ap (λ errors. fold sooner None (errors ++ [])) none
 
-pub queue_loads_again : QueueLoadsAgain
-queue_loads_again print image of =
+read_loads_again : (print : Bool) (image : List ℕ) → IsFullQueue image → LoadsAgain print (apart_text print (read image).guess image) image
+read_loads_again print image of =
     let it : FoundIn = in_image (read image) (queue_db image) in
     let fit : IsFit image (queue_db image) = queue_fit image of in
     let text = written_is_read print None (settings_in it) (list_given it) fit.can in
@@ -134,3 +138,20 @@ queue_loads_again print image of =
       no_error = no_error print image text.0 of read_of;
       again = λ built builds. queue_again print image built (text.0 ∷ []) of given builds.databases;
     }
+
+-- Where no guess is given.
+
+queue_told : (image : List ℕ) → IsFullQueue image → chosen None image ≡ Some (read image).guess
+queue_told image of = guess_is_told image (formed_accepted image (head_of image) (is_read image of).forest.formed).accepted
+
+pub queue_loads_again : QueueLoadsAgain
+queue_loads_again print guess image of chosen_is =
+    let same : (read image).guess ≡ guess = same_Some (read image).guess guess (sym (queue_told image of) ∙ chosen_is) in
+    subst (λ g. LoadsAgain print (apart_text print g image) image) same (read_loads_again print image of)
+
+pub repaired_queue_is_the_file : RepairedQueueIsTheFile
+unfolding apart_sections
+repaired_queue_is_the_file print max image (Ok built) of is =
+    built_queue_is_the_file print image built of
+    (of_built max (sections_in (read image)) built (subst (λ guess. IsRepairedApart max guess image (Ok built)) (queue_told image of) is))
+repaired_queue_is_the_file print max image (Err error) of is = tt

@@ -73,5 +73,12 @@ abbrev pub BuiltQueueIsTheFile : Type 0
 BuiltQueueIsTheFile =
     (print : Bool) (image built : List ℕ) → IsFullQueue image → Builds (sections_in (read image)) built → IsAgain print image built
 
+abbrev pub RepairedQueueIsTheFile : Type 0
+RepairedQueueIsTheFile =
+    (print : Bool) (max : ℕ) (image : List ℕ) (result : Result (List ℕ) RepairError) → IsFullQueue image
+    → IsRepairedApart max (chosen None image) image result → IfOk result (IsAgain print image)
+
 abbrev pub QueueLoadsAgain : Type 0
-QueueLoadsAgain = (print : Bool) (image : List ℕ) → IsFullQueue image → LoadsAgain print (apart_text print (read image).guess image) image
+QueueLoadsAgain =
+    (print : Bool) (guess : Guess) (image : List ℕ) → IsFullQueue image → chosen None image ≡ Some guess
+    → LoadsAgain print (apart_text print guess image) image

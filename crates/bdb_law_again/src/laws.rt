@@ -1,5 +1,5 @@
 //! What follows from the definitions alone.
-ghost use Rattle.bdb_law_again.specs.Again.{ApartLoadsAgain, BuiltIsTheFile, BuiltQueueIsTheFile, QueueLoadsAgain, RepairedIsTheFile, SectionsAreGiven};
+ghost use Rattle.bdb_law_again.specs.Again.{ApartLoadsAgain, BuiltIsTheFile, BuiltQueueIsTheFile, QueueLoadsAgain, RepairedIsTheFile, RepairedQueueIsTheFile, SectionsAreGiven};
 
 /// The sections that `repair --apart` builds are those of what is given of each database.
 pub fn sections_are_given()
@@ -24,6 +24,11 @@ pub fn apart_loads_again()
 /// An image that is built of what is given of a sound queue whose records have bytes is that queue again.
 pub fn built_queue_is_the_file()
     ensures { BuiltQueueIsTheFile }
+{}
+
+/// So it is with the image that `repair_apart` answers where no guess is given.
+pub fn repaired_queue_is_the_file()
+    ensures { RepairedQueueIsTheFile }
 {}
 
 /// And its text is accepted, and each image that is built of it is that queue again.

@@ -87,6 +87,10 @@ told_guess image is =
     (le-ltb (length image) 24 (let long : 512 ≤ length image = is.long in omega arith))
     ∙ (by_order image is ∙ ap (λ guess. Some guess) (own_head image))
 
+-- An image that passes the rows of the whole file is read by what page 0 tells.
+pub guess_is_told : (image : List ℕ) → first_row (head_rows image) ≡ None → chosen None image ≡ Some (guess_told image)
+guess_is_told image none = told_guess image (told image none)
+
 pub salvage_keeps_all : SalvageKeepsAll
 salvage_keeps_all image is =
     let sound : IsSoundForest image = sound_forest image is.small is.sound is.kind in
