@@ -410,7 +410,7 @@ def check_bash(checks, prefix):
         checks.check(f"bash offers for {list(words)}", offered(*words) == sorted(right), offered(*words))
 
     check([""], [*COMMANDS, "help", "--help", "--version"])
-    check(["s"], ["salvage", "stat"])
+    check(["s"], ["salvage", "stat", "survey"])
     check(["help", ""], COMMANDS)
     for command in COMMANDS:
         check([command, "--"], [*options_of(prefix, command), "--help"])
