@@ -69,6 +69,9 @@ def get(*words, status=0):
 NO_PAIRS = b"VERSION=3\nformat=bytevalue\ntype=btree\nduplicates=1\nHEADER=END\nDATA=END\n"
 NO_DUPLICATES = NO_PAIRS.replace(b"duplicates=1\n", b"")
 NO_RECORDS = NO_DUPLICATES.replace(b"btree", b"recno")
+NO_TABLE = NO_DUPLICATES.replace(b"btree", b"hash")
+# More pairs than the base of a class has.
+MANY_PAIRS = b"".join(b" %s\n 61\n" % (b"%06d" % at).hex().encode() for at in range(6_000))
 LOADED, REFUSED, TOO_LARGE = (Run(("load",), 0),), (Run(("load",), 8),), (Run(("load", "--max-bytes", "100000"), 6),)
 SURVEYED = (Run(("survey",), 0),)
 SOUND = (Run(("verify",), 0), Run(("dump",), 0), *SURVEYED, Run(("salvage",), 0))
@@ -82,6 +85,7 @@ REPAIRED = (Run(("repair",), 0),)
 # The data of such a base are far longer than it, too.
 ONTO_CUT_OFF = (Run(("load", "--max-bytes", "1000000"), 6, onto=NO_PAIRS),)
 SINGLE_CUT_OFF = (Run(("load", "--max-bytes", "1000000"), 6, onto=NO_DUPLICATES),)
+TABLE_CUT_OFF = (Run(("load", "--max-bytes", "1000000"), 6, onto=NO_TABLE),)
 RECORDS_CUT_OFF = (Run(("load", "--max-bytes", "1000000"), 6, onto=NO_RECORDS),)
 LONG_CUT_OFF = (Run(("load", "--max-bytes", "4000000"), 6, onto=NO_RECORDS), Run(("repair", "--max-bytes", "4000000"), 6), Run(("repair", "--apart", "--max-bytes", "4000000"), 6))
 OVERLAP_CUT_OFF = (Run(("load", "--max-bytes", "4000000"), 6, onto=NO_PAIRS), *LONG_CUT_OFF[1:])
@@ -91,7 +95,13 @@ ONTO = (Run(("load",), 0, onto=NO_PAIRS),)
 # What is salvaged has no room within the limit that there is without a word.
 MEGABYTES = tuple(Run(("repair", *words), 6) for words in ((), ("--as", "btree"), ("--as", "hash"), ("--apart",)))
 # The base itself is within the limit.
-ONTO_MEGABYTES = (Run(("load", "--max-bytes", "4000000"), 6, onto=NO_DUPLICATES), Run(("repair", "--max-bytes", "4000000"), 6))
+ONTO_MEGABYTES, ONTO_TABLE_MEGABYTES = (
+    (
+        *(Run(("load", "--max-bytes", "4000000"), 6, onto=text.replace(b"DATA=END\n", pairs + b"DATA=END\n")) for pairs in (b"", MANY_PAIRS)),
+        Run(("repair", "--max-bytes", "4000000"), 6),
+    )
+    for text in (NO_DUPLICATES, NO_TABLE)
+)
 # Database by database.
 APART = (Run(("salvage", "--apart"), 0), Run(("salvage", "--rest"), 0), Run(("repair", "--apart"), 0))
 BY_HAND = tuple(Run(("salvage", "--order", "little", "--page-size", size), 0) for size in ("512", "32768"))
@@ -129,10 +139,12 @@ CLASSES = (
     Class("bucket-ring", "a ring of pages of a bucket", files.bucket_ring, 131_072, "Unreached", FAULTY + APART),
     # Items that share one chain of full pages: the texts of these are longer than their files.
     Class("chain-full-btree", "data of a btree share a chain", files.full_chain_btree, 8_000, "", SOUND + (get("00000000"),) + CUT_OFF + SINGLE_CUT_OFF),
+    Class("chain-full-hash", "data of a hash share a chain", files.full_chain_hash, 8_000, "", SOUND + (get("00000000"),) + CUT_OFF + TABLE_CUT_OFF),
     Class("chain-full-recno", "records share a chain", files.full_chain_recno, 8_000, "", JUDGED + CUT_OFF + RECORDS_CUT_OFF),
     Class("chain-full-set", "data of one key share a chain", files.full_chain_set, 8_000, "", SOUND + (get("key"),) + CUT_OFF + KEPT_ONCE + ONTO_CUT_OFF),
     Class("chain-megabyte", "a million pairs name one chain of a megabyte", files.megabyte_chain_btree, 1_000_000, "bytes", MEGABYTES),
     Class("chain-megabyte-base", "data of a sound base are one chain of a megabyte", files.megabyte_chain_btree, 5_000, "bytes", ONTO_MEGABYTES),
+    Class("chain-megabyte-hash", "data of a sound hash are one chain of a megabyte", files.megabyte_chain_hash, 5_000, "bytes", ONTO_TABLE_MEGABYTES),
     # Chains of full pages that aren't written: those of the outputs would be too long to write.
     Class("chain-full-order", "sorted data, two chains that begin alike under each key", files.full_chains_order, 16_000, "", JUDGED + (get("x", status=9),)),
     Class("chain-full-grid", "sorted data, each two of many such chains under a key", files.full_chains_grid, 32_000, "", JUDGED + (get("x", status=9),)),

@@ -371,22 +371,33 @@ def set_of_data(data, kind, flags):
     return make
 
 
+def hash_of_data(data):
+    """What makes a hash of one bucket, whose data share a chain."""
+
+    def make(count):
+        image = Image()
+        datum = hash_long(image.chain(data(counted(count))))
+        return image.hash([image.bucket((hash_inline(key_of(at)), datum) for at in range(count))])
+
+    return make
+
+
+def megabyte(count):
+    """Data of full pages, a megabyte of them, however many share them."""
+    return [b"x" * ROOM] * (2**20 // ROOM)
+
+
 def megabyte_chain_btree(count):
     """The chain counts as many references as one may, however many there are."""
     image = Image()
-    datum = long_item(image.chain([b"x" * ROOM] * (2**20 // ROOM), min(count, MOST_REFERENCES)))
+    datum = long_item(image.chain(megabyte(count), min(count, MOST_REFERENCES)))
     return image.btree(image.tree((inline(key_of(at)), datum) for at in range(count)))
 
 
 full_chain_btree, chain_btree = map(btree_of_data, (full, blank))
+full_chain_hash, chain_hash, megabyte_chain_hash = map(hash_of_data, (full, blank, megabyte))
 full_chain_set, chain_set = (set_of_data(data, RECORD_LEAF, DUPLICATES) for data in (full, blank))
 chain_sorted_set = set_of_data(blank, SORTED_LEAF, SORTED)
-
-
-def chain_hash(count):
-    image = Image()
-    datum = hash_long(image.chain(blank(counted(count))))
-    return image.hash([image.bucket((hash_inline(key_of(at)), datum) for at in range(count))])
 
 
 def chain_duplicates(count):

@@ -10,10 +10,11 @@ TOP = pathlib.Path(__file__).resolve().parent.parent
 PAGE = TOP / "docs/CALLS.md"
 HEAD = """# What each public call may refuse
 
-Every public call of the program's crates returns on all input that meets its `requires`, and refuses nothing but what
-its type says. This page has each call that answers a `Result` or an `Option`: what its comment says, and the clauses of
-its contract, in which the causes stand exactly. `AllocError`, and a variant `Memory`, is lack of memory, the one
-refusal without a cause in the contract. A call that isn't here always answers.
+Every public call of the program's crates returns on all input that meets its `requires`. This page has each call that
+answers a `Result` or an `Option`: what its comment says, and the names of the clauses of its contract, which give the
+exact cause of each refusal. Only `AllocError`, or a variant `Memory`, has a cause that the contract doesn't give:
+memory ran out, or a list, a page number or a count would be too large, as the comments in `bdb_text_format` and the
+`mk` crates say. A call that isn't here always answers.
 
 | Crate | Call | Answers | What it says | Clauses |
 |---|---|---|---|---|

@@ -33,10 +33,10 @@ SUCCEEDED = re.compile(rb"BDB5105 Verification of .* succeeded\.\n")
 COLUMNS = ("Program", "File", "Damage", "As they were", "Lost", "Otherwise")
 INTRODUCTION = """Each program made a file of 600 records. A copy of it was damaged, `bdbtool repair --apart` made a new file of that, and
 the program was asked for every record. The new file was sound for `verify` and for `db5.3_verify`. A record that is
-*lost* stood on a page that the damage took, or in a chain or a set that has such a page. Where the page was lost that
-says what a database is, nothing is made (`no metadata page`), and `repair --as btree` has the pairs. Subversion finds
-no file where the list of their folder is lost, which stands in `strings` as their contents do. The entries of 389 were
-told by `dbscan` from the new file, and imported."""
+*lost* stood on a page that the damage took, or in a chain or a set that has such a page. If the metadata page of the
+only database was lost, nothing is made (`no metadata page`), and `repair --as btree` has the pairs. Subversion finds no
+file if the list of their folder is lost, which stands in `strings` as their contents do. The entries of 389 were read
+by `dbscan` from the new file, and imported."""
 
 
 def run(*words, given=b""):

@@ -17,5 +17,6 @@ pub mod OrderLemmas
 pub mod SectionLemmas
 pub use Rattle.bdb_rescue.proofs as of_rescue
 pub use Rattle.bdb_rescue.proofs.of_format as of_format
+pub use Rattle.bdb_rescue.proofs.of_law_sums as of_law_sums
 pub use Rattle.bdb_rescue.proofs.of_survey as of_survey
 pub use Rattle.bdb_homes.specs as of_homes

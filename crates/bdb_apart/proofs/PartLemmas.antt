@@ -24,7 +24,10 @@ use Rattle.bdb_apart.specs.Queues.{queue_in}
 use Rattle.bdb_apart.specs.Rows.{is_some_of}
 use Rattle.bdb_apart.proofs.KnownLemmas.{known}
 use Rattle.bdb_apart.proofs.LeftLemmas.{at_page}
-use Rattle.bdb_apart.proofs.SumLemmas.{one_marked, one_page, picked, sum_both, sum_joined, sum_map, sum_none, sum_parted, sum_passed, sum_same, sum_turned}
+use Rattle.bdb_rescue.proofs.of_law_sums.CountLemmas.{sum_parts, sum_plus, sum_same}
+use Rattle.bdb_rescue.proofs.of_law_sums.NameLemmas.{sum_map}
+use Rattle.bdb_rescue.proofs.of_law_sums.TreeLemmas.{sum_filter}
+use Rattle.bdb_apart.proofs.SumLemmas.{one_marked, one_page, picked, sum_none, sum_parted, sum_turned}
 
 -- A metadata page is that of one database at most.
 
@@ -108,9 +111,9 @@ once_above file m =
     omega (
       arith,
       sum_by-append (λ db. cond (is_of m db) 1 0) (named_above file) (unnamed_above file),
-      sum_joined (λ db. cond (is_of m db) 1 0) (named_meta file (entries file)) (pages_above file),
-      sum_joined (λ db. cond (is_of m db) 1 0) (unnamed_meta file (entries file)) (pages_above file),
-      sum_both (λ p. count_by (is_of m) (named_meta file (entries file) p)) (λ p. count_by (is_of m) (unnamed_meta file (entries file) p)) (pages_above file),
+      sum_parts (λ db. cond (is_of m db) 1 0) (named_meta file (entries file)) (pages_above file),
+      sum_parts (λ db. cond (is_of m db) 1 0) (unnamed_meta file (entries file)) (pages_above file),
+      sum_plus (λ p. count_by (is_of m) (named_meta file (entries file) p)) (λ p. count_by (is_of m) (unnamed_meta file (entries file) p)) (pages_above file),
       one_page (times file m) m 1 (file.count - 1) (λ p other. never_on file m p (ne_eqb p m other)) (once_on file m m),
     )
 
@@ -187,14 +190,14 @@ each_pair reading test =
     sum_map (λ it. count_by test (pairs_given it)) (in_image reading) dbs
     ∙ (sum_same (λ db. count_by test (pairs_given (in_image reading db))) (λ db. sum_by (given_by db) pages) dbs (λ db at. of_db db)
     ∙ (sum_turned given_by dbs pages ∙ sum_same (λ p. sum_by (λ db. given_by db p) dbs) given_of pages (λ p at. given_on reading p (all_on p)))) in
-    let rest : count_by test (pairs_left reading) ≡ sum_by rest_on pages = sum_joined one (pairs_left_on file dbs) pages in
-    let names : count_by test (pairs_naming reading) ≡ sum_by names_on pages = sum_joined one (pairs_naming_on file dbs) pages in
-    let all : count_by test (stored file) ≡ sum_by all_on pages = sum_joined one (stored_on file) pages in
+    let rest : count_by test (pairs_left reading) ≡ sum_by rest_on pages = sum_parts one (pairs_left_on file dbs) pages in
+    let names : count_by test (pairs_naming reading) ≡ sum_by names_on pages = sum_parts one (pairs_naming_on file dbs) pages in
+    let all : count_by test (stored file) ≡ sum_by all_on pages = sum_parts one (stored_on file) pages in
     let parts : sum_by (λ p. given_of p + (rest_on p + names_on p)) pages ≡ sum_by all_on pages =
     sum_same (λ p. given_of p + (rest_on p + names_on p)) all_on pages (λ p at. left_on file dbs p test) in
     let first : sum_by (λ p. given_of p + (rest_on p + names_on p)) pages ≡ sum_by given_of pages + sum_by (λ p. rest_on p + names_on p) pages =
-    sum_both given_of (λ p. rest_on p + names_on p) pages in
-    let second : sum_by (λ p. rest_on p + names_on p) pages ≡ sum_by rest_on pages + sum_by names_on pages = sum_both rest_on names_on pages in
+    sum_plus given_of (λ p. rest_on p + names_on p) pages in
+    let second : sum_by (λ p. rest_on p + names_on p) pages ≡ sum_by rest_on pages + sum_by names_on pages = sum_plus rest_on names_on pages in
     all ∙ (sym parts ∙ (first ∙ (ap (λ n. sum_by given_of pages + n) second ∙ sym (sums given rest names))))
   where
     file : File
@@ -225,7 +228,7 @@ each_pair reading test =
     names_on p = count_by test (pairs_naming_on file dbs p)
 
     of_db : (db : Found) → count_by test (flat_map (stored_on file) (filter (gives_pairs file db) pages)) ≡ sum_by (given_by db) pages
-    of_db db = sum_joined one (stored_on file) (filter (gives_pairs file db) pages) ∙ sum_passed all_on (gives_pairs file db) pages
+    of_db db = sum_parts one (stored_on file) (filter (gives_pairs file db) pages) ∙ sum_filter all_on (gives_pairs file db) pages
 
     sums : {a b c a' b' c' : ℕ} → a ≡ a' → b ≡ b' → c ≡ c' → a + (b + c) ≡ a' + (b' + c')
     sums e f g = cc
@@ -345,11 +348,11 @@ each_record reading test none =
     sum_map (λ it. count_by of_placed (records_given it)) (in_image reading) dbs
     ∙ (sum_same (λ db. count_by of_placed (records_given (in_image reading db))) (λ db. sum_by (given_by db) pages) dbs of_db
     ∙ sum_turned given_by dbs pages) in
-    let rest : count_by test (records_left reading) ≡ sum_by rest_on pages = sum_joined one (records_left_on file dbs) pages in
-    let all : count_by test (loose file) ≡ sum_by all_on pages = sum_joined one (loose_on file) pages in
+    let rest : count_by test (records_left reading) ≡ sum_by rest_on pages = sum_parts one (records_left_on file dbs) pages in
+    let all : count_by test (loose file) ≡ sum_by all_on pages = sum_parts one (loose_on file) pages in
     let parts : sum_by (λ p. given_of p + rest_on p) pages ≡ sum_by all_on pages =
     sum_same (λ p. given_of p + rest_on p) all_on pages (λ p at. records_parted reading p test) in
-    all ∙ (sym parts ∙ (sum_both given_of rest_on pages ∙ sym (sums given rest)))
+    all ∙ (sym parts ∙ (sum_plus given_of rest_on pages ∙ sym (sums given rest)))
   where
     file : File
     file = file_in reading
@@ -381,7 +384,7 @@ each_record reading test none =
     of_db : (db : Found) → Contains dbs db → count_by of_placed (records_by reading db db.fields) ≡ sum_by (given_by db) pages
     of_db db at =
         ap (count_by of_placed) (given_records reading db db.fields (λ meta is. none-some meta (sym none ∙ known reading db at meta is)))
-        ∙ sum_joined (λ placed. cond (of_placed placed) 1 0) (records_on file db) pages
+        ∙ sum_parts (λ placed. cond (of_placed placed) 1 0) (records_on file db) pages
 
     sums : {a b a' b' : ℕ} → a ≡ a' → b ≡ b' → a + b ≡ a' + b'
     sums e f = cc

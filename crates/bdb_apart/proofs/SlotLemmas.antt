@@ -5,12 +5,12 @@ use Rattle.std.specs.Prelude.{◌==◌, ◌&&◌, ◌||◌, not, nat_lt, Option,
 use Rattle.std.specs.List.{flat_map, range_with_len}
 use Rattle.std.specs.Option.{is_some}
 use Rattle.std.proofs.Math.Nat.{div-mul-le_self, mul-le-mul_right}
-use Rattle.std.proofs.lemmas.Bool.{eq-eqb, eqb-true, not-false, or_parts}
+use Rattle.std.proofs.lemmas.Bool.{and_parts, eq-eqb, eqb-true, not-false, or_parts}
 use Rattle.std.proofs.lemmas.List.{length-take}
 use Rattle.bdb_rescue.specs.of_format.declared.kinds.Order.{Order}
 use Rattle.bdb_rescue.specs.of_format.declared.metadata.FileKind.TheVariants.{Queue}
 use Rattle.bdb_rescue.specs.of_format.declared.metadata.QueueMeta.{QueueMeta}
-use Rattle.bdb_rescue.specs.of_format.Terms.{Row, byte_at, field_rows, first_row, four_at, pad4, queue_fields, records_per_page, type_of}
+use Rattle.bdb_rescue.specs.of_format.Terms.{Row, byte_at, field_rows, first_row, four_at, pad4, queue_fields, records_per_page}
 use Rattle.bdb_rescue.proofs.of_format.VerdictLemmas.{none_is_first_row}
 use Rattle.bdb_rescue.specs.Kept.{Reading, file_in}
 use Rattle.bdb_apart.specs.Queues.{bytes_at, is_queue_meta, is_queue_page, queue_from, queue_in, queue_on, queue_records_on, queue_slot, slots_from}
@@ -92,11 +92,6 @@ is_first_none : (first : Option ℕ) → is_none first ≡ true → first ≡ No
 is_first_none None none = refl
 is_first_none (Some code) none = absurd cc
 
-second : (a b c : Bool) → (a && b && c) ≡ true → b ≡ true
-second true true c is = refl
-second true false c is = absurd cc
-second false b c is = absurd cc
-
 -- what row 16 leaves of the fields
 record IsKept (size : ℕ) (meta : QueueMeta) : Type 0 where
   per_page : meta.per_page ≡ records_per_page size meta.re_len
@@ -132,7 +127,7 @@ on_page : (order : Order) (page : List ℕ) (meta : QueueMeta) (b : Bool) → is
 on_page order page meta true is so =
     let none : first_row (field_rows order page 1 0 Queue) ≡ None =
     is_first_none (first_row (field_rows order page 1 0 Queue))
-    (second (byte_at page 25 == type_of Queue) (is_none (first_row (field_rows order page 1 0 Queue))) (nat_lt 0 (queue_fields order page).re_len) is) in
+    (and_parts _ _ (and_parts _ _ is).0).1 in
     let same : queue_fields order page ≡ meta = cc in
     kept_slots (length page) meta (subst (IsKept (length page)) same (fields_kept order page none))
 on_page order page meta false is so = absurd cc

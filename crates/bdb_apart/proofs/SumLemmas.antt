@@ -1,50 +1,18 @@
 -- Sums over lists of lists, and over the databases of a metadata page.
-use Rattle.std.proofs.Common.{◌≡◌, ℕ, zero, suc, ◌+◌, ◌<◌, ◌≤◌, Bool, true, false, cond, List, [], ◌∷◌, map, arith, refl, sym, ◌∙◌, ap}
+use Rattle.std.proofs.Common.{◌≡◌, ℕ, zero, suc, ◌+◌, ◌<◌, ◌≤◌, Bool, true, false, cond, List, [], ◌∷◌, arith, refl, sym, ◌∙◌, ap}
 use Rattle.std.proofs.Common.{inl, inr}
 use Rattle.std.specs.Prelude.{Option, Some, None, not}
-use Rattle.std.specs.List.{Contains, count_by, filter, find, flat_map, range_with_len, sum_by}
+use Rattle.std.specs.List.{count_by, filter, find, range_with_len, sum_by}
 use Rattle.std.proofs.lemmas.Bool.{cases_eq}
 use Rattle.std.proofs.lemmas.List.Filters.{sum_by-filter_both}
-use Rattle.std.proofs.lemmas.List.Sums.{sum_by-append, sum_by-cons}
-use Rattle.bdb_rescue.proofs.of_format.MemberLemmas.{first_member, later_member}
+use Rattle.std.proofs.lemmas.List.Sums.{sum_by-cons}
+use Rattle.bdb_rescue.proofs.of_law_sums.CountLemmas.{sum_plus, sum_same}
 
 -- Sums.
-
-pub sum_same : {X : Type 0} (f g : X → ℕ) (xs : List X) → ((x : X) → Contains xs x → f x ≡ g x) → sum_by f xs ≡ sum_by g xs
-sum_same f g [] same = refl
-sum_same f g (x ∷ xs) same =
-    omega (arith, sum_by-cons f x xs, sum_by-cons g x xs, same x (first_member x xs), sum_same f g xs (λ y at. same y (later_member x xs y at)))
-
-pub sum_both : {X : Type 0} (f g : X → ℕ) (xs : List X) → sum_by (λ x. f x + g x) xs ≡ sum_by f xs + sum_by g xs
-sum_both f g [] = omega arith
-sum_both f g (x ∷ xs) = omega (arith, sum_by-cons (λ x. f x + g x) x xs, sum_by-cons f x xs, sum_by-cons g x xs, sum_both f g xs)
 
 pub sum_none : {X : Type 0} (f : X → ℕ) (xs : List X) → ((x : X) → f x ≡ 0) → sum_by f xs ≡ 0
 sum_none f [] none = refl
 sum_none f (x ∷ xs) none = omega (arith, sum_by-cons f x xs, none x, sum_none f xs none)
-
-pub sum_map : {X Y : Type 0} (f : Y → ℕ) (g : X → Y) (xs : List X) → sum_by f (map g xs) ≡ sum_by (λ x. f (g x)) xs
-sum_map f g [] = refl
-sum_map f g (x ∷ xs) = omega (arith, sum_by-cons f (g x) (map g xs), sum_by-cons (λ x. f (g x)) x xs, sum_map f g xs)
-
--- of the lists that values give, joined
-pub sum_joined : {X Y : Type 0} (f : Y → ℕ) (g : X → List Y) (xs : List X) → sum_by f (flat_map g xs) ≡ sum_by (λ x. sum_by f (g x)) xs
-sum_joined f g [] = refl
-sum_joined f g (x ∷ xs) =
-    omega (arith, sum_by-append f (g x) (flat_map g xs), sum_by-cons (λ x. sum_by f (g x)) x xs, sum_joined f g xs)
-
--- of those that pass
-pub sum_passed : {X : Type 0} (f : X → ℕ) (test : X → Bool) (xs : List X) → sum_by f (filter test xs) ≡ sum_by (λ x. cond (test x) (f x) 0) xs
-sum_passed f test [] = refl
-sum_passed {X = X} f test (x ∷ xs) = by_test (test x) (sum_passed f test xs) ∙ sym (sum_by-cons (λ x. cond (test x) (f x) 0) x xs)
-  where
-    others : List X
-    others = filter test xs
-
-    by_test : (b : Bool) → sum_by f others ≡ sum_by (λ x. cond (test x) (f x) 0) xs
-        → sum_by f (cond b (x ∷ others) others) ≡ cond b (f x) 0 + sum_by (λ x. cond (test x) (f x) 0) xs
-    by_test true rest = omega (arith, sum_by-cons f x others, rest)
-    by_test false rest = omega (arith, rest)
 
 -- of sums, in the other order
 pub sum_turned : {X Y : Type 0} (f : X → Y → ℕ) (xs : List X) (ys : List Y) → sum_by (λ x. sum_by (f x) ys) xs ≡ sum_by (λ y. sum_by (λ x. f x y) xs) ys
@@ -52,7 +20,7 @@ sum_turned f [] ys = sym (sum_none (λ y. sum_by (λ x. f x y) []) ys (λ y. ref
 sum_turned f (x ∷ xs) ys =
     sum_by-cons (λ x. sum_by (f x) ys) x xs
     ∙ (ap (λ n. sum_by (f x) ys + n) (sum_turned f xs ys)
-    ∙ (sym (sum_both (f x) (λ y. sum_by (λ x. f x y) xs) ys)
+    ∙ (sym (sum_plus (f x) (λ y. sum_by (λ x. f x y) xs) ys)
     ∙ sym (sum_same (λ y. sum_by (λ x. f x y) (x ∷ xs)) (λ y. f x y + sum_by (λ x. f x y) xs) ys (λ y at. sum_by-cons (λ x. f x y) x xs))))
 
 -- those that pass a test, and those that don't

@@ -72,6 +72,14 @@ named_meta file names p = flat_map (λ name. found_on file name p) (option_to_li
 abbrev pub unnamed_meta : File → List (List ℕ × ℕ) → ℕ → List Found
 unnamed_meta file names p = if is_some (name_in p names) then [] else found_on file (codes "page " ++ decimal p) p
 
+-- one of both
+abbrev pub meta_by : Bool → File → List (List ℕ × ℕ) → ℕ → List Found
+meta_by true file names p = named_meta file names p
+meta_by false file names p = unnamed_meta file names p
+
+abbrev pub above_by : Bool → File → List Found
+above_by named file = flat_map (meta_by named file (entries file)) (pages_above file)
+
 -- those that an entry names, page by page
 abbrev pub named_above : File → List Found
 named_above file = flat_map (named_meta file (entries file)) (pages_above file)

@@ -97,7 +97,8 @@ fn held_of(
     Ok(held)
 }
 
-/// Finds the databases of which something is salvaged, and the pages of each. An error means that memory ran out.
+/// Finds the databases of a damaged image and the pages of each, from what `salvage` found. It takes at most as many steps as there are whole pages.
+/// An error means that memory ran out.
 pub fn apart_of<'s, 'a, L: Ledger>(
     alloc: Global,
     salvaged: &'s Salvaged<'a>,
@@ -121,7 +122,7 @@ pub fn apart_of<'s, 'a, L: Ledger>(
 }
 
 impl<'s, 'a> Apart<'s, 'a> {
-    /// How the image is read.
+    /// The byte order and page size by which the image is read.
     pub fn guess(&self) -> Guess
         ensures { result ≡ self.now.guess }
     {
@@ -135,14 +136,14 @@ impl<'s, 'a> Apart<'s, 'a> {
         Databases::over(self)
     }
 
-    /// The pairs that belong to no database, by page and slot: not those of a master that name a database that is found.
+    /// The stored pairs that belong to no database that is found, by page and slot, except the entries of a master that name one.
     pub fn pairs_left<'t>(&'t self) -> PairsLeft<'t, 's, 'a>
         ensures { result ≡ pairs_left self.now }
     {
         PairsLeft::over(self)
     }
 
-    /// The records that belong to no set and no database, by page and slot.
+    /// The loose records that belong to no database that is found, by page and slot.
     pub fn records_left<'t>(&'t self) -> RecordsLeft<'t, 's, 'a>
         ensures records { result ≡ records_left self.now }
         ensures few { length result < 2 ^ 32 }
@@ -151,7 +152,7 @@ impl<'s, 'a> Apart<'s, 'a> {
         RecordsLeft::over(self)
     }
 
-    /// How many pages there are.
+    /// How many whole pages the image has.
     pub fn count(&self) -> u32
         ensures { result ≡ (file_in self.now).count }
     {
@@ -222,7 +223,7 @@ impl<'s, 'a> Apart<'s, 'a> {
         kind_of(&self.salvaged.pages().page(page))
     }
 
-    /// Whether the pairs of a page are those of a database that is found.
+    /// Whether the pairs of a page belong to a database that is found.
     pub fn are_given(&self, page: u32) -> bool
         requires { page < (file_in self.now).count }
         ensures { result ≡ are_given (file_in self.now) (found self.now) page }
@@ -241,14 +242,14 @@ impl<'s, 'a> Apart<'s, 'a> {
         is_master_leaf(self.salvaged, &self.homes, page)
     }
 
-    /// Whether data name a database that is found.
+    /// Whether a datum is the number (four bytes, high byte first) of the metadata page of a database that is found.
     pub fn names_found(&self, value: &Datum<'_>) -> bool
         ensures { result ≡ names_by (found self.now) (datum_seen value.now) }
     {
         self.held_at(page_named(value)).is_some()
     }
 
-    /// How many records come before a page, if it's a leaf of records that has a home.
+    /// How many records of its database come before a page, or `None` if it is no leaf of records or has no home.
     pub fn start_on(&self, page: u32) -> Option<u32>
         requires { page < (file_in self.now).count }
         ensures { result ≡ start_on (file_in self.now) page }
@@ -260,7 +261,8 @@ impl<'s, 'a> Apart<'s, 'a> {
         Some(home.start)
     }
 
-    /// How many records come before a leaf of records, and what is held of the database that is found to which it belongs; none of a page that is no such leaf.
+    /// How many records of its database come before a leaf of records, and what the pages of that database hold; `None` if the page is no such leaf,
+    /// or its database isn't found.
     pub fn start(&self, page: u32) -> Option<(u32, Holds)>
         requires { page < (file_in self.now).count }
         ensures { result ≡ start_by (file_in self.now) (found self.now) page }

@@ -41,7 +41,8 @@ impl<'t, 's, 'a> Model for Database<'t, 's, 'a> {
 }
 
 impl<'t, 's, 'a> Database<'t, 's, 'a> {
-    /// Its name, if it has one.
+    /// Its name, or `None` for the one database of a file without names. One that no entry of a master names is called `page M`, `M` the number of
+    /// its metadata page.
     pub fn name(&self) -> Option<Datum<'t>>
         ensures { option_map datum_seen result ≡ self.now.db.name }
     {
@@ -51,7 +52,7 @@ impl<'t, 's, 'a> Database<'t, 's, 'a> {
         }
     }
 
-    /// Its settings, with the page size and the order by which the image is read.
+    /// Its settings by its metadata, with the page size and byte order of the guess.
     pub fn settings(&self) -> Settings
         ensures { result ≡ settings_in self.now }
     {
@@ -84,7 +85,7 @@ impl<'t, 's, 'a> Database<'t, 's, 'a> {
         holds_of(&self.place.fields)
     }
 
-    /// The pages that may belong to it, in their order.
+    /// The pages whose home is its metadata, in order; of a file's only database, unless it is a queue, also every other page of pairs.
     pub fn pages(&self) -> Pages<'t>
         ensures row { result ≡ row_in self.now.reading self.now.db.meta }
         ensures there { All (IsThere (file_in self.now.reading)) result }
@@ -103,7 +104,8 @@ impl<'t, 's, 'a> Database<'t, 's, 'a> {
         )
     }
 
-    /// Its pairs, or its records with their numbers, as those of a section. They share bytes as a `Gatherer`'s do.
+    /// Its pairs, or its records with their numbers, as pairs of a section whose lines are 0. A chain or a set that several items name is copied
+    /// once. An error means that memory ran out.
     pub fn section_pairs(&self, alloc: Global) -> Result<TextPairs, AllocError>
         ensures { IfOk result (λ pairs. pairs ≡ section_pairs self.now) }
     {

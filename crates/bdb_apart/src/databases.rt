@@ -3,7 +3,7 @@ ghost use Rattle.std.specs.List.{flat_map, fold};
 ghost use Rattle.bdb_rescue.specs.Kept.{file_in};
 ghost use Rattle.bdb_rescue.specs.of_format.Terms.{page_at};
 ghost use Rattle.bdb_rescue.specs.of_image.Metas.{meta_seen};
-ghost use Rattle.bdb_apart.specs.Found.{entries, found, found_under, named_above, named_meta, only_found, unnamed_above, unnamed_meta, with_found};
+ghost use Rattle.bdb_apart.specs.Found.{above_by, entries, found, found_under, meta_by, named_above, only_found, unnamed_above, with_found};
 ghost use Rattle.bdb_apart.specs.Kept.{found_seen};
 ghost use Rattle.bdb_apart.specs.Names.{AreNames, entry_found};
 
@@ -35,77 +35,49 @@ fn put_db<'s>(
     Ok(())
 }
 
-/// Adds the database whose metadata stand on a page, where an entry names it.
-fn put_named<'s>(
-    dbs: &mut BTreeMap<Name<'s>, At>,
-    salvaged: &Salvaged<'_>,
-    names: &[Option<Datum<'s>>],
-    page: u32,
-) -> Result<(), AllocError>
-    requires names { AreNames (file_in salvaged.now).count names.now (entries (file_in salvaged.now)) }
-    requires there { page < (file_in salvaged.now).count }
-    ensures { OnOk result (map entry_found dbs.new.entries
-        ≡ fold with_found (map entry_found dbs.old.entries) (named_meta (file_in salvaged.now) (entries (file_in salvaged.now)) page)) }
-{
-    if let Some(name) = &names[page as usize] {
-        if let Some(fields) = tree_meta(salvaged, page) {
-            put_db(dbs, Name::key(name.again()), page, fields)?;
-        }
-    }
-    Ok(())
-}
-
-/// The same where no entry names it: by its page.
-fn put_unnamed<'s>(
+/// Adds the database whose metadata stand on a page under the name that an entry gives it, or where none does under that of its page:
+/// those that are named, or the others.
+fn put_on<'s>(
     alloc: Global,
     dbs: &mut BTreeMap<Name<'s>, At>,
+    page: u32,
     salvaged: &Salvaged<'_>,
     names: &[Option<Datum<'s>>],
-    page: u32,
+    named: bool,
 ) -> Result<(), AllocError>
     requires names { AreNames (file_in salvaged.now).count names.now (entries (file_in salvaged.now)) }
     requires there { page < (file_in salvaged.now).count }
     ensures { OnOk result (map entry_found dbs.new.entries
-        ≡ fold with_found (map entry_found dbs.old.entries) (unnamed_meta (file_in salvaged.now) (entries (file_in salvaged.now)) page)) }
+        ≡ fold with_found (map entry_found dbs.old.entries) (meta_by named (file_in salvaged.now) (entries (file_in salvaged.now)) page)) }
 {
-    if names[page as usize].is_some() {
+    let name = &names[page as usize];
+    if name.is_some() != named {
         return Ok(());
     }
-    if let Some(fields) = tree_meta(salvaged, page) {
-        put_db(dbs, Name::page(alloc, page)?, page, fields)?;
-    }
-    Ok(())
+    let Some(fields) = tree_meta(salvaged, page) else {
+        return Ok(());
+    };
+    let name = match name {
+        Some(name) => Name::key(name.again()),
+        None => Name::page(alloc, page)?,
+    };
+    put_db(dbs, name, page, fields)
 }
 
-/// Adds the databases that entries name, page by page.
-fn put_all_named<'s>(
-    dbs: &mut BTreeMap<Name<'s>, At>,
-    salvaged: &Salvaged<'_>,
-    names: &[Option<Datum<'s>>],
-) -> Result<(), AllocError>
-    requires { AreNames (file_in salvaged.now).count names.now (entries (file_in salvaged.now)) }
-    ensures { OnOk result (map entry_found dbs.new.entries
-        ≡ fold with_found (map entry_found dbs.old.entries) (named_above (file_in salvaged.now))) }
-{
-    for page in 1..salvaged.pages().count() {
-        put_named(dbs, salvaged, names, page)?;
-    }
-    Ok(())
-}
-
-/// The same of the others.
-fn put_all_unnamed<'s>(
+/// Adds the databases that entries name, or the others, page by page.
+fn put_all<'s>(
     alloc: Global,
     dbs: &mut BTreeMap<Name<'s>, At>,
     salvaged: &Salvaged<'_>,
     names: &[Option<Datum<'s>>],
+    named: bool,
 ) -> Result<(), AllocError>
     requires { AreNames (file_in salvaged.now).count names.now (entries (file_in salvaged.now)) }
     ensures { OnOk result (map entry_found dbs.new.entries
-        ≡ fold with_found (map entry_found dbs.old.entries) (unnamed_above (file_in salvaged.now))) }
+        ≡ fold with_found (map entry_found dbs.old.entries) (above_by named (file_in salvaged.now))) }
 {
     for page in 1..salvaged.pages().count() {
-        put_unnamed(alloc, dbs, salvaged, names, page)?;
+        put_on(alloc, dbs, page, salvaged, names, named)?;
     }
     Ok(())
 }
@@ -122,8 +94,8 @@ fn by_name<'s>(
 {
     let names = names_of(alloc, salvaged, homes)?;
     let mut dbs = BTreeMap::new(alloc);
-    put_all_named(&mut dbs, salvaged, &names)?;
-    put_all_unnamed(alloc, &mut dbs, salvaged, &names)?;
+    put_all(alloc, &mut dbs, salvaged, &names, true)?;
+    put_all(alloc, &mut dbs, salvaged, &names, false)?;
     Ok(dbs)
 }
 

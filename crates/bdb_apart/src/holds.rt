@@ -28,7 +28,7 @@ pub enum Holds {
     Leaves,
     /// Pairs, in buckets.
     Buckets,
-    /// Records on leaves, of so many bytes where that isn't 0.
+    /// Records on leaves; `length` is their fixed length in bytes, or 0 where they have none.
     Records { length: u32 },
     /// Records in the slots of a queue.
     Slots,
@@ -81,7 +81,7 @@ pub(crate) fn is_pair_kind(kind: PageKind) -> bool
     }
 }
 
-/// Whether a page of a kind holds pairs of a database.
+/// Whether a page of a kind holds pairs of a database: a leaf of one that has them on leaves, a page of a bucket of one that has them in buckets.
 pub fn holds_pairs(holds: Holds, kind: PageKind) -> bool
     ensures { result ≡ pairs_in holds kind }
 {

@@ -4,7 +4,7 @@ ghost use Rattle.bdb_rescue.specs.of_format.Terms.{field_rows, first_row, meta_r
 ghost use Rattle.bdb_rescue.specs.of_format.declared.metadata.FileKind.TheVariants.{Queue};
 ghost use Rattle.bdb_apart.specs.Queues.{queue_in, queue_on};
 
-use bdb_homes::{Order, PageType, QueueMeta, records_per_page, u32_at};
+use bdb_homes::{Order, PageType, QueueMeta, queue_fields, records_per_page, u32_at};
 use bdb_rescue::Salvaged;
 
 /// Whether a row of metadata above page 0 holds, by the magic number and the version of a queue.
@@ -68,20 +68,6 @@ fn has_row(page: &[u8], order: Order, meta: &QueueMeta) -> bool
     let by_meta = has_meta_row(page, order);
     let by_fields = has_queue_row(page, order, meta);
     by_meta || by_fields
-}
-
-/// The fields of metadata of a queue.
-fn queue_fields(page: &[u8], order: Order) -> QueueMeta
-    requires { 512 ≤ length page.now }
-    ensures { result ≡ queue_fields order page.now }
-{
-    QueueMeta {
-        first: u32_at(page, 72, order),
-        current: u32_at(page, 76, order),
-        re_len: u32_at(page, 80, order),
-        re_pad: u32_at(page, 84, order),
-        per_page: u32_at(page, 88, order),
-    }
 }
 
 /// The fields of a page, if it's the metadata of a queue whose records have some length.

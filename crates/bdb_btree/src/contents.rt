@@ -15,8 +15,8 @@ use bdb_faults::{FaultSink, First, NamedList, checked};
 use bdb_ranks::{BtreeMeta, CheckError, Forest, Linked, Values};
 use std::alloc::{AllocError, Global};
 
-/// No row on what a btree holds holds. A refusal is the first fault: the least page, and there the least code;
-/// or lack of memory, for chains that are shared.
+/// Checks what a btree holds. A refusal is the first fault: the least page, and there the least code; or that
+/// memory ran out, for chains that are shared.
 pub fn check(alloc: Global, linked: &Linked<'_>, meta: &BtreeMeta) -> Result<(), CheckError>
     requires meta { HasMetadata (file_of linked.now) (BtreeFields meta.now) }
     requires keyed { is_recno meta.now ≡ false }

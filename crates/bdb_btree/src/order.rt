@@ -82,8 +82,8 @@ impl<'a> KeyOrder<'a> {
         }
     }
 
-    /// The next pair: its key has to be above that of the pair before it, unless it shares that. An error is want of
-    /// memory.
+    /// The next pair: its key has to be above that of the pair before it, unless it shares that. An error means that
+    /// memory ran out.
     #[inline(always)]
     pub(crate) fn see(
         &mut self,

@@ -1,11 +1,27 @@
--- The heads of chains whose keys were seen, as more keys are.
-use Rattle.std.proofs.Common.{arith, ◌≡◌, ℕ, Bool, true, false, cond, List, refl, ◌∙◌, Result, Ok, Err, OnOk, OnErr, nat_cmp}
+-- Pairs of one file, and the heads of chains whose keys were seen, as more keys are.
+use Rattle.std.proofs.Common.{arith, ◌≡◌, ℕ, Bool, true, false, cond, List, [], ◌∷◌, map, refl, ◌∙◌, subst, Result, Ok, Err, OnOk, OnErr, nat_cmp}
 use Rattle.std.specs.BTreeSet.{BTreeSet, IsUnchanged, Updates}
 use Rattle.std.specs.Cmp.Lexicographic.{slice_cmp}
 use Rattle.std.proofs.lemmas.Bool.{cases_eq}
 use Rattle.bdb_tree.specs.of_overflow.Keys.{has_key}
 use Rattle.bdb_tree.proofs.of_format.LessLemmas.{other_number}
-use Rattle.bdb_buckets.specs.Chained.{AreAmong, Seen, chain_value}
+use Rattle.bdb_tree.specs.of_format.Terms.{StoredPair}
+use Rattle.bdb_buckets.specs.Chained.{AreAmong, AreOf, Seen, chain_value}
+use Rattle.bdb_buckets.specs.Told.{Told, told}
+
+-- Pairs of one file.
+
+pub first_of : (image : List ℕ) (left rest : List Told) (t : Told) → AreOf image left → left ≡ t ∷ rest → t.image ≡ image
+first_of image left rest t are is = (subst (AreOf image) is are).0
+
+pub rest_of : (image : List ℕ) (left rest : List Told) (t : Told) → AreOf image left → left ≡ t ∷ rest → AreOf image rest
+rest_of image left rest t are is = (subst (AreOf image) is are).1
+
+pub pairs_told : (image : List ℕ) (pairs : List StoredPair) → AreOf image (map (told image) pairs)
+pairs_told image [] = tt
+pairs_told image (pair ∷ pairs) = (refl, pairs_told image pairs)
+
+-- Keys that were seen.
 
 either : (a b : Bool) → b ≡ true → cond a true b ≡ true
 either true b is = refl

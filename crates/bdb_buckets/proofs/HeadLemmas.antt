@@ -1,6 +1,7 @@
 -- The head of a key.
 use Rattle.std.proofs.Common.{◌≡◌, ℕ, ◌*◌, List, ◌∙◌, ap, true, Option, Some}
 use Rattle.bdb_tree.specs.of_format.Terms.{Chain, Content, Hash, Page, file_of, item_at, page_at, value_of}
+use Rattle.bdb_tree.specs.of_overflow.declared.datum.Datum.{Datum}
 use Rattle.bdb_buckets.specs.Chained.{IsHead, IsKeyed, chain_head, chain_value}
 use Rattle.bdb_buckets.specs.Places.{has_pair, key_content, pair_on}
 use Rattle.bdb_buckets.specs.Told.{Told}
@@ -22,5 +23,5 @@ chain_key t head is =
     ∙ page_read t.image t.pair.page is.index (page_at (file_of t.image) t.pair.page) head is.stands.there is.is
 
 -- what is known of a pair that was read tells the head of its key
-pub is_head : (head : Option ℕ) (i : ℕ) (t : Told) → IsKeyed head t.pair.page i t → IsHead head t
-is_head head i t is = record { index = i; stands = is.read.stands; is = is.headed }
+pub is_head : (head : Option ℕ) (key : Datum) (i : ℕ) (t : Told) → IsKeyed head key t.pair.page i t → IsHead head t
+is_head head key i t is = record { index = i; stands = is.read.stands; is = is.headed }

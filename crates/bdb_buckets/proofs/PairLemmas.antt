@@ -1,5 +1,5 @@
 -- What the items of a hash page name is there, and a pair is what its two items say.
-use Rattle.std.proofs.Common.{◌≡◌, ℕ, ◌+◌, ◌-◌, ◌*◌, ◌/◌, ◌<◌, ◌≤◌, false, List, [], map, length, arith, refl, sym, ◌∙◌, ap, subst, Some, None}
+use Rattle.std.proofs.Common.{◌≡◌, ℕ, ◌+◌, ◌-◌, ◌*◌, ◌/◌, ◌<◌, ◌≤◌, false, List, [], map, length, arith, sym, ◌∙◌, ap, subst, Some}
 use Rattle.std.specs.List.{AllByRecursion, Contains, range_with_len, slice_get}
 use Rattle.std.proofs.lemmas.Bool.{lt-ltb}
 use Rattle.std.proofs.lemmas.Option.{slice_get-get_or}
@@ -8,7 +8,7 @@ use Rattle.std.proofs.lemmas.List.FromFn.{get_or-map-range_with_len, length-map-
 use Rattle.bdb_tree.specs.of_form.Pairs.{PairOf, pair_of, pairs_from}
 use Rattle.bdb_tree.specs.of_format.declared.references.Sort.{Sort}
 use Rattle.bdb_tree.specs.of_format.declared.references.Sort.TheVariants.{OverflowHead, DuplicateRoot}
-use Rattle.bdb_tree.specs.of_format.Terms.{Chain, Content, File, Hash, Inline, Item, Listed, Page, Set, Tree, Unknown, content_targets, file_of, no_item}
+use Rattle.bdb_tree.specs.of_format.Terms.{Chain, Content, File, Hash, Inline, Item, Listed, Page, Tree, content_targets, file_of, no_item}
 use Rattle.bdb_tree.specs.of_format.Terms.{page_at, targets_in, value_of}
 use Rattle.bdb_tree.proofs.of_format.MemberLemmas.{first_member, in_map}
 use Rattle.bdb_tree.proofs.of_format.TargetLemmas.{held_named}
@@ -23,13 +23,6 @@ use Rattle.bdb_tree.proofs.of_format.ListLemmas.{member_of}
 use Rattle.bdb_tree.proofs.of_format.ReferenceLemmas.{forest_names}
 
 -- The one value of an item.
-
-pub no_single : (file : File) (content : Content) → None ≡ single_value file content → [] ≡ value_of file content
-unfolding value_of
-no_single file (Set blocks) none = refl
-no_single file (Tree root) none = refl
-no_single file Unknown none = refl
-no_single file content none = absurd cc
 
 pub single : (file : File) (content : Content) (value : List ℕ) → Some value ≡ single_value file content → value ≡ value_of file content
 single file (Inline bytes) value some = cc

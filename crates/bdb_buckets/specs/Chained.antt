@@ -3,8 +3,11 @@ use Rattle.std.specs.Prelude.{◌≡◌, ℕ, true, List, [], ◌∷◌, Option,
 use Rattle.std.specs.BTreeMap.{BTreeMap, get}
 use Rattle.std.specs.BTreeSet.{BTreeSet, contains}
 use Rattle.std.specs.Ordering.{nat_cmp}
+use Rattle.bdb_tree.specs.of_image.Linked.{FitsChain}
+use Rattle.bdb_tree.specs.of_overflow.declared.datum.Datum.{Datum}
+use Rattle.bdb_tree.specs.of_overflow.declared.datum.Datum.TheVariants.{Chained, Inline as InlineDatum}
 use Rattle.bdb_tree.specs.of_overflow.Keys.{has_key}
-use Rattle.bdb_tree.specs.of_format.Terms.{Chain, Content, Inline, Set, Tree, Unknown, file_of, hash5, joined, page_at, pieces_of}
+use Rattle.bdb_tree.specs.of_format.Terms.{Chain, Content, File, Inline, Set, Tree, Unknown, file_of, hash5, joined, page_at, pieces_of}
 use Rattle.bdb_buckets.specs.Places.{IsRead, StandsOn, key_content}
 use Rattle.bdb_buckets.specs.Told.{Told}
 
@@ -34,10 +37,17 @@ chain_head Unknown = None
 abbrev pub head_on : List ℕ → ℕ → ℕ → Option ℕ
 head_on image p i = chain_head (key_content (page_at (file_of image) p) i)
 
--- what the code knows of a pair that it has read, with the head of its key
-pub record IsKeyed (head : Option ℕ) (p i : ℕ) (t : Told) : Type 0 where
+-- a key is in the chain with this head, which fits, or where there is none among the bytes of its page
+abbrev pub IsHeldBy : File → Option ℕ → Datum → Type 0
+IsHeldBy file (Some head) key = FitsChain file head
+IsHeldBy file None (InlineDatum bytes) = Unit {0}
+IsHeldBy file None (Chained pieces) = ⊥
+
+-- what the code knows of a pair that it has read, with its key and the head of this
+pub record IsKeyed (head : Option ℕ) (key : Datum) (p i : ℕ) (t : Told) : Type 0 where
   pub read : IsRead p i t
   pub headed : head ≡ head_on t.image p i
+  pub held : IsHeldBy (file_of t.image) head key
 
 -- the head of the chain that the key of a pair is, if it's one, where the pair stands on its page
 pub record IsHead (head : Option ℕ) (t : Told) : Type 0 where

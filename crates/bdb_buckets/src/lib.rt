@@ -10,8 +10,8 @@ mod place;
 mod table;
 
 pub use bdb_tree::{
-    Datum, Forest, HashMeta, Head, KeyView, Linked, Order, PageView, Steps, bucket_of, hash5,
-    u16_at,
+    Datum, DupBlocks, Forest, HashItem, HashMeta, Head, Held, KeyView, Linked, Order, PageView,
+    Steps, bucket_of, hash5, u16_at,
 };
 pub use bucket::{BucketPages, bucket_pages};
 pub use data::Data;

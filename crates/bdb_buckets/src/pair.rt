@@ -1,17 +1,18 @@
 ghost use Rattle.std.specs.Prelude.{◌≡◌, [], ◌∷◌, IfSome, MatchOption, None};
 ghost use Rattle.bdb_tree.specs.of_form.Pairs.{pair_seen};
 ghost use Rattle.bdb_tree.specs.of_overflow.Datum.{FitsContent, datum_seen};
-ghost use Rattle.bdb_buckets.specs.Chained.{IsHead, chain_head};
+ghost use Rattle.bdb_tree.specs.of_overflow.Held.{FitsHeld, value_held};
+ghost use Rattle.bdb_buckets.specs.Chained.{IsHead, IsHeldBy, chain_head};
 ghost use Rattle.bdb_buckets.specs.Places.{IsAt, IsGiven};
 ghost use Rattle.bdb_buckets.specs.Told.{entry_list, has_key, listed_told, told_pair};
 ghost use Rattle.bdb_buckets.specs.Views.{IsPair, value_on_page};
 ghost use Rattle.bdb_tree.specs.of_layout.Seen.{hash_content_seen, hash_item_seen};
-ghost use Rattle.bdb_tree.specs.of_format.Terms.{Inline, data_of, file_of, is_duplicate, is_wrong_set, value_of};
+ghost use Rattle.bdb_tree.specs.of_format.Terms.{File, Inline, data_of, file_of, is_duplicate, is_wrong_set, value_of};
 ghost use Rattle.bdb_tree.specs.Noted.{set_root};
 
 use crate::Data;
 use crate::place::PairPlace;
-use bdb_tree::{Datum, Forest, HashItem, hash_datum, is_same, is_wrong_root, prefix};
+use bdb_tree::{Datum, Forest, HashItem, Held, is_same, is_wrong_root, prefix};
 use std::marker::Model;
 
 /// A pair of a hash page, with its key.
@@ -49,19 +50,21 @@ impl<'a> Model for Pair<'a> {
 
     ghost view = { λ it. told_as it.forest it.page (datum_seen it.key) (hash_content_seen it.item) };
 
-    ghost invariant = { λ it. IsKeyed it.head it.page it.index (told_as it.forest it.page (datum_seen it.key) (hash_content_seen it.item)) };
+    ghost invariant = { λ it. IsKeyed it.head it.key it.page it.index (told_as it.forest it.page (datum_seen it.key) (hash_content_seen it.item)) };
 }
 
 /// The value of a key, which is never a set.
 #[inline(always)]
-#[tactic(auto, using(crate::proofs::PairLemmas::no_single, crate::proofs::PairLemmas::single))]
+#[tactic(auto, unfolding(crate::specs::Below::value_of))]
 pub(crate) fn key_of<'a>(forest: &Forest<'a>, item: &HashItem<'a>) -> Datum<'a>
     requires { FitsContent (file_of forest.now) (hash_content_seen item.now) }
-    ensures { datum_seen result ≡ value_of (file_of forest.now) (hash_content_seen item.now) }
+    ensures value { datum_seen result ≡ value_of (file_of forest.now) (hash_content_seen item.now) }
+    ensures held { IsHeldBy (file_of forest.now) (chain_head (hash_content_seen item.now)) result }
 {
-    match hash_datum(forest, item) {
-        Some(key) => key,
-        None => Datum::Inline(&[]),
+    match item {
+        HashItem::Inline(bytes) => Datum::Inline(bytes),
+        HashItem::Overflow { head, .. } => Held::Chained(*head).datum(forest),
+        HashItem::Set(_) | HashItem::OffPage { .. } => Datum::Inline(&[]),
     }
 }
 
@@ -117,6 +120,18 @@ impl<'a> Pair<'a> {
         self.head
     }
 
+    /// Its key as its item holds it: bytes of its page, or the head of its chain.
+    pub fn held_key(&self) -> Held<'a>
+        ensures value { value_held (file_of self.now.image) result ≡ self.now.pair.key }
+        ensures fits { FitsHeld (file_of self.now.image) result }
+    {
+        match (self.head, &self.key) {
+            (Some(head), _) => Held::Chained(head),
+            (None, Datum::Inline(bytes)) => Held::Inline(bytes),
+            (None, Datum::Chained(_)) => unreachable!(),
+        }
+    }
+
     /// Its key.
     pub fn key(&self) -> &Datum<'a>
         ensures { datum_seen result.now ≡ self.now.pair.key }
@@ -163,6 +178,23 @@ impl<'a> Pair<'a> {
             item,
         } = self;
         (key, Data::of_item(&forest, item))
+    }
+
+    /// What its data item holds: one datum, or a set, on its page or off it. What that names is there.
+    pub fn into_item(self) -> HashItem<'a>
+        ensures item { hash_content_seen result ≡ self.entry.pair.data_item }
+        ensures pair { IsPair self.entry.image self.entry.pair.data_item }
+        ensures listed { listed_told self.entry ≡ entry_list self.entry.pair.key (data_of (file_of self.entry.image) self.entry.pair.data_item) }
+    {
+        let Pair {
+            forest: _forest,
+            page: _page,
+            index: _index,
+            head: _head,
+            key: _key,
+            item,
+        } = self;
+        item
     }
 
     /// Its datum, if it has one and that stands on its page.

@@ -30,10 +30,8 @@ use Rattle.bdb_apart.specs.of_rescue.declared.kept.DataPlace.TheVariants.{Here, 
 use Rattle.bdb_apart.specs.of_rescue.declared.kept.KeptPair.{KeptPair}
 use Rattle.bdb_apart.specs.Found.{found, is_master_leaf}
 use Rattle.bdb_apart.specs.Given.{above, are_given, names_found, pairs_left_on}
-use Rattle.bdb_apart.specs.Kept.{kind_in, pairs_in, row_in}
-use Rattle.bdb_apart.specs.Left.{pairs_on}
+use Rattle.bdb_apart.specs.Kept.{row_in}
 use Rattle.bdb_apart.specs.Rows.{is_below}
-use Rattle.bdb_apart.specs.declared.holds.Holds.{Holds}
 use Rattle.bdb_apart.proofs.of_format.ChainLemmas.{chain_few}
 use Rattle.bdb_apart.proofs.of_format.SizeLemmas.{size_bounds}
 use Rattle.bdb_apart.proofs.of_rescue.LooseCountLemmas.{joined_short, live_short, slots_short}
@@ -309,27 +307,6 @@ row_few reading m =
       length-range_with_len 0 (file_in reading).count,
     )
 
-row_pairs_short : (reading : Reading) (holds : Holds) (p : ℕ) → IsLegal reading → IsSmall reading
-    → length (pairs_on (file_in reading) holds p) ≤ 4398046511104
-row_pairs_short reading holds p legal small =
-    by_kind (pairs_in holds (kind_in (page_at (file_in reading) p))) (stored_few reading p legal small)
-  where
-    by_kind : (b : Bool) → length (stored_on (file_in reading) p) ≤ 4398046511104
-        → length (cond b (stored_on (file_in reading) p) []) ≤ 4398046511104
-    by_kind true few = few
-    by_kind false few = omega arith
-
--- so many pairs are given at most
-pub given_few : (reading : Reading) (holds : Holds) (m : ℕ) → IsLegal reading → IsSmall reading → (file_in reading).count ≤ 2 ^ 21
-    → length (flat_map (pairs_on (file_in reading) holds) (row_in reading m)) < 2 ^ 64
-given_few reading holds m legal small few =
-    omega (
-      arith,
-      flat_short (pairs_on (file_in reading) holds) 4398046511104 (row_in reading m) (λ p. row_pairs_short reading holds p legal small),
-      row_few reading m,
-      few,
-    )
-
 left_short : (reading : Reading) (p : ℕ) → IsLegal reading → IsSmall reading
     → length (pairs_left_on (file_in reading) (found reading) p) ≤ 4398046511104
 left_short reading p legal small =
@@ -341,7 +318,7 @@ left_short reading p legal small =
     by_given true test few = omega arith
     by_given false test few = omega (arith, fewer_pass test (stored_on (file_in reading) p), few)
 
--- and so many are left
+-- so many pairs are left at most
 pub left_few : (reading : Reading) (n : ℕ) → IsLegal reading → IsSmall reading → n ≤ 2 ^ 21
     → length (flat_map (pairs_left_on (file_in reading) (found reading)) (range_with_len 0 n)) < 2 ^ 64
 left_few reading n legal small few =

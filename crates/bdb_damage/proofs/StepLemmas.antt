@@ -33,16 +33,6 @@ range_most f n (suc m) =
 pub list_more : {X : Type 0} (f : X → ℕ) (xs : List X) (x : X) → sum_by f (xs ++ x ∷ []) ≡ sum_by f xs + f x
 list_more f xs x = omega (arith, sum_by-append f xs (x ∷ []), sum_by-cons f x [])
 
-pub list_most : {X : Type 0} (f : X → ℕ) (before left after all : List X) (x : X) → before ++ left ≡ all → left ≡ x ∷ after
-    → sum_by f before + f x ≤ sum_by f all
-list_most f before left after all x are is =
-    omega (
-      arith,
-      ap (sum_by f) (sym are ∙ ap (λ xs. before ++ xs) is),
-      sum_by-append f before (x ∷ after),
-      sum_by-cons f x after,
-    )
-
 -- those that are left, by the first of them
 pub left_more : {X : Type 0} (test : X → Bool) {old new : List X} {x : X} → old ≡ x ∷ new → count_by test old ≡ cond (test x) 1 0 + count_by test new
 left_more test {old = old} {new = new} {x = x} steps = ap (count_by test) steps ∙ sum_by-cons (λ y. cond (test y) 1 0) x new

@@ -23,7 +23,8 @@ use Rattle.bdb_apart.specs.Kept.{fits_in}
 use Rattle.bdb_apart.specs.Left.{fit_left, fit_on, is_fit, loose_in, numbered_from, start_of, start_on}
 use Rattle.bdb_apart.specs.declared.holds.Holds.{Holds}
 use Rattle.bdb_apart.proofs.GivenLemmas.{enumerated, value_numbered}
-use Rattle.bdb_apart.proofs.SumLemmas.{sum_both, sum_joined, sum_map, sum_same}
+use Rattle.bdb_apart.proofs.of_law_sums.CountLemmas.{sum_parts, sum_plus, sum_same}
+use Rattle.bdb_apart.proofs.of_law_sums.NameLemmas.{sum_map}
 use Rattle.bdb_apart.proofs.of_rescue.LooseCountLemmas.{one_at_most}
 use Rattle.bdb_apart.proofs.of_rescue.LooseLemmas.{set_values}
 use Rattle.bdb_apart.proofs.of_rescue.StoredLemmas.{AreOn}
@@ -80,8 +81,8 @@ pairs_counted file p items indices =
     omega (
       arith,
       sum_map (λ pair. one (is_lost_pair file pair)) (pair_in items) indices,
-      sum_joined (λ place. one (is_kept_live place)) (kept_pair file p items) indices,
-      sum_both lost kept indices,
+      sum_parts (λ place. one (is_kept_live place)) (kept_pair file p items) indices,
+      sum_plus lost kept indices,
       sum_same (λ i. lost i + kept i) (λ i. one (is_live_pair items i)) indices (λ i inside. pair_counted file p items i),
     )
 
@@ -141,8 +142,8 @@ entries_counted file holds p start items indices on =
     omega (
       arith,
       sum_map (λ entry. one (is_lost_by file holds entry)) (λ i. (start + 1 + i, slot_at items i)) indices,
-      sum_joined (λ place. one (is_fit_at file holds start place)) (kept_value file p items) indices,
-      sum_both lost kept indices,
+      sum_parts (λ place. one (is_fit_at file holds start place)) (kept_value file p items) indices,
+      sum_plus lost kept indices,
       sum_same (λ i. lost i + kept i) (λ i. one (is_live_slot items i)) indices (λ i inside. entry_counted file holds p start items i on),
     )
 

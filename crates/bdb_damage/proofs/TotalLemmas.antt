@@ -32,7 +32,8 @@ use Rattle.bdb_apart.specs.declared.holds.Holds.TheVariants.{Leaves, Records, Sl
 use Rattle.bdb_apart.proofs.GivenLemmas.{aboves, filter_same, given_in_slots, given_on_leaves, given_pairs, row_by, start_if, start_is}
 use Rattle.bdb_apart.proofs.KindLemmas.{no_pairs, pairs_kind, takes_those}
 use Rattle.bdb_apart.proofs.SlotLemmas.{has_slots}
-use Rattle.bdb_apart.proofs.SumLemmas.{sum_passed, sum_same}
+use Rattle.bdb_apart.proofs.of_law_sums.CountLemmas.{sum_same}
+use Rattle.bdb_apart.proofs.of_law_sums.TreeLemmas.{sum_filter}
 use Rattle.bdb_apart.proofs.of_format.MemberLemmas.{of_range}
 use Rattle.bdb_apart.proofs.of_format.SizeLemmas.{size_bounds}
 use Rattle.bdb_damage.specs.Pages.{is_zero_at, zero_pages}
@@ -50,7 +51,7 @@ sum_row : (file : File) (m : ℕ) (f g : ℕ → ℕ) → ((p : ℕ) → f p ≡
     → sum_by f (range_with_len 0 file.count) ≡ sum_by g (row_from (aboves file) m 0)
 sum_row file m f g same =
     sum_same f (λ p. cond (is_some_of m (above file p)) (g p) 0) (range_with_len 0 file.count) (λ p inside. same p)
-    ∙ (sym (sum_passed g (λ p. is_some_of m (above file p)) (range_with_len 0 file.count))
+    ∙ (sym (sum_filter g (λ p. is_some_of m (above file p)) (range_with_len 0 file.count))
     ∙ ap (sum_by g) (row_by file m))
 
 by_both : (a b : Bool) (n : ℕ) → cond (a && b) n 0 ≡ cond a (cond b n 0) 0
@@ -59,7 +60,7 @@ by_both false b n = refl
 
 lost_pairs_row : (file : File) (db : Found) → sum_by (lost_in_row file (holds_of db.fields)) (row_from (aboves file) db.meta 0) ≡ lost_pairs file db
 lost_pairs_row file db =
-    sym (sum_passed (lost_pairs_on file) (gives_pairs file db) (range_with_len 0 file.count)
+    sym (sum_filter (lost_pairs_on file) (gives_pairs file db) (range_with_len 0 file.count)
     ∙ sum_row file db.meta (λ p. cond (gives_pairs file db p) (lost_pairs_on file p) 0) (lost_in_row file (holds_of db.fields))
     (λ p. by_both (is_some_of db.meta (above file p)) (holds_pairs db.fields (page_at file p)) (lost_pairs_on file p)
     ∙ ap (λ (b : Bool). cond {A = ℕ} (is_some_of db.meta (above file p)) (cond b (lost_pairs_on file p) 0) 0) (sym (pairs_kind db.fields (page_at file p)))))

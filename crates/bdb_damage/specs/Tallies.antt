@@ -1,6 +1,6 @@
 -- What is counted page by page.
-use Rattle.std.specs.Prelude.{◌≡◌, ◌≤◌, ◌^◌, ℕ, ◌+◌, ◌*◌, ◌/◌, nat_lt, ◌==◌, ◌&&◌, ◌||◌, not, if◌then◌else◌, Bool, true, List, length, map, Option, Some, None}
-use Rattle.std.specs.List.{count_by, enumerate_from, filter, range_with_len, sum_by}
+use Rattle.std.specs.Prelude.{◌≡◌, ◌≤◌, ◌^◌, ℕ, ◌+◌, ◌*◌, ◌/◌, nat_lt, ◌==◌, ◌&&◌, ◌||◌, not, if◌then◌else◌, Bool, true, List, length, Option, Some, None}
+use Rattle.std.specs.List.{count_by, enumerate_from, filter, range_with_len}
 use Rattle.bdb_apart.specs.of_format.Terms.{Chain, Content, File, Inline, Item, Set, Tree, Unknown, entries_in, is_page_size, page_at}
 use Rattle.bdb_apart.specs.of_rescue.Kept.{Reading, file_in, numbered_at, value_at}
 use Rattle.bdb_apart.specs.of_rescue.declared.kept.KeptPair.{KeptPair}
@@ -9,8 +9,10 @@ use Rattle.bdb_apart.specs.of_survey.Items.{slot_at}
 use Rattle.bdb_apart.specs.of_survey.Salvage.{is_taken}
 use Rattle.bdb_apart.specs.Given.{numbered_entry}
 use Rattle.bdb_apart.specs.Kept.{fits_in, kind_in, pairs_in}
-use Rattle.bdb_apart.specs.Left.{start_on}
+use Rattle.bdb_apart.specs.Left.{fit_on, pairs_on, start_on}
 use Rattle.bdb_apart.specs.declared.holds.Holds.{Holds}
+use Rattle.bdb_damage.specs.declared.counts.Tally.{Tally}
+use Rattle.bdb_damage.specs.declared.counts.Tally.TheVariants.{PairsGiven, RecordsGiven, PairsLost, RecordsLost}
 use Rattle.bdb_damage.specs.Counts.{lost_pairs_on}
 use Rattle.bdb_damage.specs.Pages.{is_zero_at}
 
@@ -59,6 +61,13 @@ lost_at file holds p = if is_taken file p then 0 else lost_from file holds p (st
 -- the lost pairs of a page in the row of a database
 abbrev pub lost_in_row : File → Holds → ℕ → ℕ
 lost_in_row file holds p = if pairs_in holds (kind_in (page_at file p)) then lost_pairs_on file p else 0
+
+-- what is counted of a page in the row of a database: the pairs or records that are given, or those that are lost
+abbrev pub tally_on : Tally → File → Holds → ℕ → ℕ
+tally_on PairsGiven file holds p = length (pairs_on file holds p)
+tally_on RecordsGiven file holds p = length (fit_on file holds p)
+tally_on PairsLost file holds p = lost_in_row file holds p
+tally_on RecordsLost file holds p = lost_at file holds p
 
 -- the value at a place has a length that is fixed, where that isn't 0
 abbrev pub has_len : File → ℕ → KeptValue → Bool

@@ -1,7 +1,7 @@
-ghost use Rattle.std.specs.Prelude.{◌≡◌, ◌<◌, ◌^◌, IsTrue, length, not};
-ghost use Rattle.std.specs.List.{filter, flat_map, sum_by};
+ghost use Rattle.std.specs.Prelude.{◌≡◌, ◌<◌, ◌≤◌, ◌^◌, IsTrue, length, not};
+ghost use Rattle.std.specs.List.{filter, sum_by};
 ghost use Rattle.bdb_apart.specs.Found.{found};
-ghost use Rattle.bdb_apart.specs.Given.{names_found, pairs_given, pairs_left_on, records_given};
+ghost use Rattle.bdb_apart.specs.Given.{names_found, pairs_left_on, records_given};
 ghost use Rattle.bdb_apart.specs.Kept.{holds_in, row_in};
 ghost use Rattle.bdb_apart.specs.Left.{pairs_on};
 ghost use Rattle.bdb_apart.specs.declared.holds.Holds.TheVariants.{Slots};
@@ -9,7 +9,7 @@ ghost use Rattle.bdb_apart.specs.of_format.Flags.{has_records};
 ghost use Rattle.bdb_apart.specs.of_rescue.Kept.{file_in};
 ghost use Rattle.bdb_apart.specs.of_survey.Salvage.{stored_on};
 ghost use Rattle.bdb_damage.specs.Counts.{given_count, lost_count, rest_pairs, rest_records};
-ghost use Rattle.bdb_damage.specs.Tallies.{lost_at, lost_in_row};
+ghost use Rattle.bdb_damage.specs.Tallies.{lost_in_row, tally_on};
 
 use crate::one::one;
 use crate::pages::page_count;
@@ -20,7 +20,8 @@ use bdb_apart::{Apart, Database, Holds, holds_pairs};
 /// How many pairs of a page a database gives that holds so.
 fn pairs_given_on(apart: &Apart<'_, '_>, holds: Holds, page: u32) -> u64
     requires { page < (file_in apart.now).count }
-    ensures { result ≡ length (pairs_on (file_in apart.now) holds page) }
+    ensures count { result ≡ length (pairs_on (file_in apart.now) holds page) }
+    ensures few { result ≤ 2 ^ 42 }
 {
     if holds_pairs(holds, apart.kind(page)) {
         pairs_on(apart.salvaged(), page)
@@ -29,31 +30,53 @@ fn pairs_given_on(apart: &Apart<'_, '_>, holds: Holds, page: u32) -> u64
     }
 }
 
-/// How many pairs of a database are given.
-fn given_pairs(database: &Database<'_, '_, '_>) -> u64
-    ensures { result ≡ length (pairs_given database.now) }
+/// How many pairs of a page are lost, where it holds some of a database that holds so.
+fn pairs_lost_on(apart: &Apart<'_, '_>, holds: Holds, page: u32) -> u32
+    requires { page < (file_in apart.now).count }
+    ensures lost { result ≡ lost_in_row (file_in apart.now) holds page }
+    ensures few { result < 2 ^ 32 }
 {
-    let apart = database.apart();
-    let holds = database.holds();
-    let _pages = page_count(apart);
-    let mut count = 0;
-    for page in database.pages() {
-        count += pairs_given_on(apart, holds, page);
+    if holds_pairs(holds, apart.kind(page)) {
+        lost_pairs_on(apart.salvaged(), page)
+    } else {
+        0
     }
-    count
 }
 
-/// How many records of a database that is no queue are given.
-fn given_on_leaves(database: &Database<'_, '_, '_>) -> u64
-    ensures { result ≡ length (flat_map (Rattle.bdb_apart.specs.Left.fit_on (file_in database.now.reading) (holds_in database.now.db))
-        (row_in database.now.reading database.now.db.meta)) }
+/// What is counted of the pages of a database: its pairs or records that are given, or those that are lost.
+#[derive(Clone, Copy)]
+pub(crate) enum Tally {
+    PairsGiven,
+    RecordsGiven,
+    PairsLost,
+    RecordsLost,
+}
+
+/// How many of them a page has.
+fn tally_on(apart: &Apart<'_, '_>, holds: Holds, tally: Tally, page: u32) -> u64
+    requires { page < (file_in apart.now).count }
+    ensures count { result ≡ tally_on tally (file_in apart.now) holds page }
+    ensures few { result ≤ 2 ^ 42 }
+{
+    match tally {
+        Tally::PairsGiven => pairs_given_on(apart, holds, page),
+        Tally::RecordsGiven => u64::from(fit_on(apart, holds, page)),
+        Tally::PairsLost => u64::from(pairs_lost_on(apart, holds, page)),
+        Tally::RecordsLost => u64::from(lost_on(apart, holds, page)),
+    }
+}
+
+/// How many of them the pages of a database have.
+fn tally_of(database: &Database<'_, '_, '_>, tally: Tally) -> u64
+    ensures { result ≡ sum_by (λ p. tally_on tally (file_in database.now.reading) (holds_in database.now.db) p)
+        (row_in database.now.reading database.now.db.meta) }
 {
     let apart = database.apart();
     let holds = database.holds();
     let _pages = page_count(apart);
     let mut count = 0;
     for page in database.pages() {
-        count += u64::from(fit_on(apart, holds, page));
+        count += tally_on(apart, holds, tally, page);
     }
     count
 }
@@ -79,72 +102,32 @@ fn given_records(database: &Database<'_, '_, '_>) -> u64
 {
     match database.holds() {
         Holds::Slots => given_in_slots(database),
-        _ => given_on_leaves(database),
+        _ => tally_of(database, Tally::RecordsGiven),
     }
 }
 
-/// How many pairs or records are given of a database. No set is gone over: its length is known.
+/// How many pairs or records `salvage --apart` gives of a database.
 pub fn given_count(database: &Database<'_, '_, '_>) -> u64
     ensures { result ≡ given_count database.now }
 {
     if database.has_records() {
         given_records(database)
     } else {
-        given_pairs(database)
+        tally_of(database, Tally::PairsGiven)
     }
 }
 
-/// How many pairs of a page are lost, where it holds some of a database that holds so.
-fn pairs_lost_on(apart: &Apart<'_, '_>, holds: Holds, page: u32) -> u32
-    requires { page < (file_in apart.now).count }
-    ensures lost { result ≡ lost_in_row (file_in apart.now) holds page }
-    ensures few { result < 2 ^ 32 }
-{
-    if holds_pairs(holds, apart.kind(page)) {
-        lost_pairs_on(apart.salvaged(), page)
-    } else {
-        0
-    }
-}
-
-/// How many pairs of a database are lost.
-fn lost_pairs(database: &Database<'_, '_, '_>) -> u64
-    ensures { result ≡ sum_by (lost_in_row (file_in database.now.reading) (holds_in database.now.db)) (row_in database.now.reading database.now.db.meta) }
-{
-    let apart = database.apart();
-    let holds = database.holds();
-    let _pages = page_count(apart);
-    let mut count = 0;
-    for page in database.pages() {
-        count += u64::from(pairs_lost_on(apart, holds, page));
-    }
-    count
-}
-
-/// How many records on leaves of a database are lost.
-fn lost_records(database: &Database<'_, '_, '_>) -> u64
-    ensures { result ≡ sum_by (lost_at (file_in database.now.reading) (holds_in database.now.db)) (row_in database.now.reading database.now.db.meta) }
-{
-    let apart = database.apart();
-    let holds = database.holds();
-    let _pages = page_count(apart);
-    let mut count = 0;
-    for page in database.pages() {
-        count += u64::from(lost_on(apart, holds, page));
-    }
-    count
-}
-
-/// How many live pairs or records on the pages of a database aren't given: of a queue none are told.
+/// How many live pairs or records on the pages of a database aren't given: a key or a datum isn't whole, or a record isn't, has another length than
+/// the fixed one or a number of more than four bytes. 0 for a queue.
 pub fn lost_count(database: &Database<'_, '_, '_>) -> u64
     ensures { result ≡ lost_count database.now }
 {
     if !database.has_records() {
-        return lost_pairs(database);
+        return tally_of(database, Tally::PairsLost);
     }
     match database.holds() {
         Holds::Slots => 0,
-        _ => lost_records(database),
+        _ => tally_of(database, Tally::RecordsLost),
     }
 }
 
@@ -175,7 +158,7 @@ fn pairs_left_on(apart: &Apart<'_, '_>, page: u32) -> u64
     pairs_on(apart.salvaged(), page)
 }
 
-/// How many pairs belong to no database. On leaves of a master each pair is looked at, elsewhere no set is gone over.
+/// How many stored pairs belong to no database that is found, as `salvage --rest` gives them.
 pub fn rest_pairs(apart: &Apart<'_, '_>) -> u64
     ensures { result ≡ rest_pairs apart.now }
 {
@@ -186,7 +169,7 @@ pub fn rest_pairs(apart: &Apart<'_, '_>) -> u64
     count
 }
 
-/// How many records belong to no database.
+/// How many loose records belong to no database that is found, as `salvage --rest` gives them.
 pub fn rest_records(apart: &Apart<'_, '_>) -> u64
     ensures { result ≡ rest_records apart.now }
 {

@@ -29,8 +29,8 @@ impl<'s, 'a> Model for RefusedPages<'s, 'a> {
     ghost invariant = { λ v. v.queue ≡ is_queue_file v.salvaged.now };
 }
 
-/// The pages of which a row of stage 2 holds, each with the first such row, by page: by the number that the page carries, and with
-/// the last whole page as the last one.
+/// The pages on which a row of stage 2 holds, in order, each with the first such row. A page is judged as if it stood at the number that it carries,
+/// with the last whole page as the last one: so PageNumber never holds.
 pub fn refused_pages<'s, 'a>(apart: &Apart<'s, 'a>) -> RefusedPages<'s, 'a>
     ensures { result ≡ refused_pages apart.now }
 {

@@ -52,7 +52,7 @@ fn is_renumbered(salvaged: &Salvaged<'_>, queue: bool, page: u32) -> bool
     row_at(salvaged, queue, page).is_none()
 }
 
-/// The pages that carry another number than their own, each with that number, by page: none that is refused, and none that is zero.
+/// The pages that carry another number than their own, in order, each with that number. Refused pages and zero pages aren't among them.
 pub fn renumbered_pages<'s, 'a>(apart: &Apart<'s, 'a>) -> RenumberedPages<'s, 'a>
     ensures { result ≡ renumbered_pages apart.now }
 {

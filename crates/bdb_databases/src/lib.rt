@@ -10,6 +10,7 @@ mod readable;
 mod reads;
 mod under;
 
+pub use bdb_hash_list::{DupBlocks, HashItem, TablePair, TablePairs, pairs_in_order};
 pub use bdb_recno::{Bytes, Datum};
 pub use db::Db;
 pub use listing::Scan;

@@ -20,6 +20,7 @@ pub(crate) enum Entries<'a> {
 
 impl<'a> Entries<'a> {
     /// The first entry that is left.
+    #[inline(always)]
     fn first(&mut self) -> Option<(KeyView<'a>, Datum<'a>)>
         ensures { YieldsFirstBy entry_seen entries_left self.old result self.new }
     {
@@ -60,6 +61,7 @@ impl<'a> Iterator for Scan<'a> {
 
     ghost remaining = { item_count (λ left. left) };
 
+    #[inline(always)]
     fn next(&mut self) -> Option<(KeyView<'a>, Datum<'a>)> {
         self.entries.first()
     }
@@ -78,8 +80,8 @@ fn tree_entries<'a>(linked: &Linked<'a>, meta: &BtreeMeta) -> Entries<'a>
     }
 }
 
-/// The list of a database, in which no key comes twice if it's a table. That of a table takes memory for each of its pairs, another one
-/// none; an error is want of it.
+/// The list of a database, in which no key comes twice if it's a hash. Of a hash it takes memory for each
+/// pair, of other kinds none. An error means that memory ran out.
 pub(crate) fn scan_of<'a>(
     alloc: Global,
     linked: &Linked<'a>,

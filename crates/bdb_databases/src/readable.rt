@@ -71,7 +71,7 @@ impl<'a> Readable<'a> {
         self.databases.len() as u32
     }
 
-    /// The database at a place, from 0.
+    /// The database at a place, from 0, in the order of the master's list.
     pub fn database(&self, i: u32) -> Db
         requires { i < length (databases (file_of self.now)) }
         ensures { result ≡ i }
@@ -79,7 +79,7 @@ impl<'a> Readable<'a> {
         Db::at(i)
     }
 
-    /// The name of a database, if it has one.
+    /// The bytes of a database's name, or `None` for the one database of a file without names.
     pub fn name(&self, db: Db) -> Option<&[u8]>
         requires { db < length (databases (file_of self.now)) }
         ensures { option_copied result ≡ (database_at (file_of self.now) db).name }

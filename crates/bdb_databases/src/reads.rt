@@ -8,8 +8,8 @@ use crate::{Db, Found, Readable, Scan};
 use std::alloc::{AllocError, Global};
 
 impl<'a> Readable<'a> {
-    /// The list of a database: its live pairs in order. That of a table takes memory for each of its pairs,
-    /// another one none; an error is want of it.
+    /// The list of a database: its live pairs in order. Of a hash it takes memory for each pair, of other
+    /// kinds none. An error means that memory ran out.
     #[tactic(auto, using(crate::proofs::ReadableLemmas::has_new_keys))]
     pub fn scan(&self, alloc: Global, db: Db) -> Result<Scan<'a>, AllocError>
         requires { db < length (databases (file_of self.now)) }
@@ -18,8 +18,8 @@ impl<'a> Readable<'a> {
         scan_of(alloc, self.linked(), self.meta(db))
     }
 
-    /// What a database has under a key, in order, whatever order its keys stand in: its list is gone over. Of records the key says the number, in one
-    /// to ten decimal digits. An error means that memory ran out.
+    /// The data that a database has under a key, in order; none if the key isn't there. The list is gone over, so its keys may
+    /// stand in any order. For records the key is the number, in one to ten decimal digits. An error means that memory ran out.
     #[tactic(auto, using(crate::proofs::UnderLemmas::under_key))]
     pub fn find(&self, alloc: Global, db: Db, key: &[u8]) -> Result<Found<'a>, AllocError>
         requires { db < length (databases (file_of self.now)) }

@@ -96,8 +96,8 @@ impl Judge for First {
     ghost alike = { first_alike };
 }
 
-/// What a check of a part of a file answers by the first that it noted in a sink that had noted nothing. An error of the check is want
-/// of memory.
+/// The answer of a check that noted its rows in a sink that was empty: `Ok`, or the first row that it noted;
+/// `Memory` means that memory ran out.
 pub fn checked(first: First, answer: Result<(), AllocError>) -> Result<(), CheckError>
     ensures accepted { (faults : List FaultSeen) → Ascends faults → OnOk answer (HasJust (IsFirst first) faults) → OnOk result (faults ≡ []) }
     ensures refused { (faults : List FaultSeen) → Ascends faults → OnOk answer (HasJust (IsFirst first) faults) → IfErr result (IsFirstOf faults) }

@@ -35,8 +35,8 @@ pub trait Judge: FaultSink {
     ghost alike: { (xs ys : List FaultSeen) (refusal : Self.Refusal) → ((xs ≡ [] → ⊥) → ys ≡ xs) → refuses xs refusal → refuses ys refusal };
 }
 
-/// What a check answered, where it noted nothing. Else a refusal: with what it noted in a sink that had noted nothing, or for
-/// lack of memory.
+/// What a check answered, if it noted nothing in a sink that was empty. Else a refusal: what the judge makes
+/// of what was noted, or that memory ran out.
 pub fn judged<J: Judge + Drop, T: Drop>(
     found: J,
     answer: Result<T, AllocError>,

@@ -11,6 +11,8 @@ pub use bdb_check::{
     NamedList, Order, Pair, Rows, Steps, bytes_in, hash5, is_less, is_same, next_entry, page_pairs,
     pair_entries, tree_leaves,
 };
-pub use bdb_databases::{Db, Found, Readable, Scan};
+pub use bdb_databases::{
+    Db, DupBlocks, Found, HashItem, Readable, Scan, TablePair, TablePairs, pairs_in_order,
+};
 pub use sound::Sound;
 pub use verdict::{sound_by, verify, verify_all, verify_by};

@@ -10,8 +10,8 @@ use std::alloc::{AllocError, Global};
 use std::sync::ledger::Ledger;
 
 impl<'a> Sound<'a> {
-    /// The list of a database: its live pairs in order. That of a table takes memory for each of its pairs,
-    /// another one none; an error is want of it.
+    /// The list of a database: its live pairs, by key or by record number. Of a hash it takes memory for each pair, of other kinds none. An error
+    /// means that memory ran out.
     pub fn scan(&self, alloc: Global, db: Db) -> Result<Scan<'a>, AllocError>
         requires { db < length (databases (file_of self.now)) }
         ensures { IfOk result (λ scan. scan ≡ list_of (file_of self.now) (database_at (file_of self.now) db).fields) }
@@ -19,9 +19,8 @@ impl<'a> Sound<'a> {
         self.readable().scan(alloc, db)
     }
 
-    /// What a database has under a key, in order; none where the key isn't there. Of records the key says the
-    /// number, in one to ten decimal digits. It takes no memory, and a step for each page of the tree or the
-    /// bucket that it looks into.
+    /// The data that a database has under a key, in order; none if the key isn't there. For records the key is the number, in one to ten decimal
+    /// digits. It takes no memory, and one step for each page of the tree, the bucket or the queue that it reads.
     pub fn get<L: Ledger>(&self, db: Db, key: &[u8], steps: &mut Steps<L>) -> Found<'a>
         requires { db < length (databases (file_of self.now)) }
         ensures found { result ≡ data_under (file_of self.now) (database_at (file_of self.now) db).fields key.now }

@@ -35,9 +35,9 @@ fn readable<'a, J: Judge + Drop, L: Ledger>(
     }
 }
 
-/// An image as a file whose databases can be read. A refusal has what holds, of the rows that count, of the first of the eight
-/// stages in which one holds; a case that isn't supported stands among them. It takes no more steps than the image has whole
-/// pages.
+/// Opens an image as a file whose databases can be read: `rows` says which rows of the fault table count. A refusal is what the judge makes of the
+/// rows that count and hold, of the first of the eight stages in which one does, unsupported cases among them; or memory ran out. It takes at most as
+/// many steps as the image has whole pages.
 #[tactic(auto, using(crate::proofs::VerdictLemmas::whole_pages))]
 pub fn verify_by<'a, J: Judge + Drop, L: Ledger>(
     alloc: Global,
@@ -55,8 +55,8 @@ pub fn verify_by<'a, J: Judge + Drop, L: Ledger>(
     readable::<J, L>(alloc, formed, rows, steps)
 }
 
-/// An image as a sound file: the same, where all rows count. It is refused with the rows that hold, or where memory
-/// runs out.
+/// Opens an image as a sound file: as `verify_by`, where all rows count. It is refused with what the judge makes of the rows that hold, or because
+/// memory ran out.
 #[tactic(auto, using(crate::proofs::RowsLemmas::all_accepted))]
 pub fn sound_by<'a, J: Judge + Drop, L: Ledger>(
     alloc: Global,
@@ -73,8 +73,8 @@ pub fn sound_by<'a, J: Judge + Drop, L: Ledger>(
     Ok(Sound::over(readable))
 }
 
-/// The same, or else the verdict on the image: the least page, and there the least row, of the first stage in which a row holds, or
-/// the case that isn't supported. `Memory` means that memory ran out.
+/// Opens an image as a sound file. An error is its verdict: the least page, and there the least row, of the first stage in which a row holds, or the
+/// unsupported case. `Memory` means that memory ran out.
 #[tactic(auto, using(crate::proofs::RowsLemmas::none_judged, crate::proofs::RowsLemmas::first_told))]
 pub fn verify<'a, L: Ledger>(
     alloc: Global,
@@ -93,8 +93,8 @@ pub fn verify<'a, L: Ledger>(
     }
 }
 
-/// The same, or else all that holds, page by page and row by row, each once. `Memory` means that memory ran out; the list takes at most 24
-/// bytes for each fault.
+/// Opens an image as a sound file. An error is the list of all faults of the first stage that has one, by page and then by row, each once. `Memory`
+/// means that memory ran out; the list takes at most 24 bytes for each fault.
 pub fn verify_all<'a, L: Ledger>(
     alloc: Global,
     image: &'a [u8],

@@ -27,7 +27,7 @@ impl Model for Blanks {
 }
 
 impl Blanks {
-    /// Another handle to the same list; none where there are as many as can be counted.
+    /// Another handle to the same list, or `None` if no more handles can be counted.
     pub fn again(&self) -> Option<Blanks>
         ensures { IfSome result (λ blanks. blanks ≡ self.now) }
     {

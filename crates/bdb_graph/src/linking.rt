@@ -45,7 +45,8 @@ pub fn link_by<'a, J: Judge + Drop, L: Ledger>(
     }
 }
 
-/// The same, or else the first fault. `Memory` means that memory ran out.
+/// Links an image as `link_by` does. An error is the first fault: the least page, and there the least row, of the first stage that has one. `Memory` means that
+/// memory ran out.
 pub fn link<'a, L: Ledger>(
     alloc: Global,
     formed: Formed<'a>,
@@ -62,8 +63,8 @@ pub fn link<'a, L: Ledger>(
     }
 }
 
-/// The same, or else all that holds, page by page and row by row, each once. `Memory` means that memory ran out, that for the list of
-/// them too.
+/// Links an image as `link_by` does. An error is the list of all rows that hold in the first stage that has
+/// one, by page and then by row, each once. `Memory` means that memory ran out, that for the list too.
 pub fn link_all<'a, L: Ledger>(
     alloc: Global,
     formed: Formed<'a>,

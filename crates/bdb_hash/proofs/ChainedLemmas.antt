@@ -11,25 +11,16 @@ use Rattle.bdb_ranks.specs.of_overflow.Keys.{has_item, has_key}
 use Rattle.bdb_buckets.specs.Chained.{AreAllOf, AreOf}
 use Rattle.bdb_buckets.specs.Repeat.{repeat_fault}
 use Rattle.bdb_hash.specs.Passed.{NotesRepeats}
-use Rattle.bdb_buckets.specs.Told.{key_of, Told, page_told, told}
+use Rattle.bdb_buckets.specs.Told.{key_of, Told, page_told}
+use Rattle.bdb_buckets.proofs.ChainedLemmas.{pairs_told}
 
 -- Pairs of one file.
-
-pub first_of : (image : List ℕ) (left rest : List Told) (t : Told) → AreOf image left → left ≡ t ∷ rest → t.image ≡ image
-first_of image left rest t are is = (subst (AreOf image) is are).0
-
-pub rest_of : (image : List ℕ) (left rest : List Told) (t : Told) → AreOf image left → left ≡ t ∷ rest → AreOf image rest
-rest_of image left rest t are is = (subst (AreOf image) is are).1
 
 pub first_page_of : (image : List ℕ) (left rest : List (List Told)) (page : List Told) → AreAllOf image left → left ≡ page ∷ rest → AreOf image page
 first_page_of image left rest page are is = (subst (AreAllOf image) is are).0
 
 pub other_pages_of : (image : List ℕ) (left rest : List (List Told)) (page : List Told) → AreAllOf image left → left ≡ page ∷ rest → AreAllOf image rest
 other_pages_of image left rest page are is = (subst (AreAllOf image) is are).1
-
-pairs_told : (image : List ℕ) (pairs : List StoredPair) → AreOf image (map (told image) pairs)
-pairs_told image [] = tt
-pairs_told image (pair ∷ pairs) = (refl, pairs_told image pairs)
 
 pages_told : (image : List ℕ) (ps : List ℕ) → AreAllOf image (map (page_told image) ps)
 pages_told image [] = tt

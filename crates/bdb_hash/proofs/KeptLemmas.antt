@@ -17,7 +17,8 @@ use Rattle.bdb_buckets.specs.Repeat.{repeat_fault}
 use Rattle.bdb_hash.specs.Noted.{repeat_faults}
 use Rattle.bdb_buckets.specs.Told.{stored, Told, bucket_told, joined_pages, page_told}
 use Rattle.bdb_hash.specs.Passed.{IsNoting, NotesRepeats, is_among, is_kept, is_missed, key_hash}
-use Rattle.bdb_hash.proofs.ChainedLemmas.{rest_of, first_of, first_page_of, other_pages_of, bucket_of_file}
+use Rattle.bdb_buckets.proofs.ChainedLemmas.{first_of, rest_of}
+use Rattle.bdb_hash.proofs.ChainedLemmas.{first_page_of, other_pages_of, bucket_of_file}
 use Rattle.bdb_hash.proofs.RepeatLemmas.{all_noting, both_noted, more_noting, none_noting, noted_anew, none_noted}
 use Rattle.bdb_buckets.proofs.TableLemmas.{told_more}
 

@@ -15,7 +15,8 @@ use Rattle.bdb_buckets.specs.Told.{Told, bucket_told, joined_pages, page_told}
 use Rattle.bdb_hash.specs.declared.passed.Passed.{Passed}
 use Rattle.bdb_faults.proofs.SinkLemmas.{notes_nothing, notes_then}
 use Rattle.bdb_ranks.proofs.of_format.ListLemmas.{range_zero_more}
-use Rattle.bdb_hash.proofs.ChainedLemmas.{first_of, rest_of, first_page_of, other_pages_of}
+use Rattle.bdb_buckets.proofs.ChainedLemmas.{first_of, rest_of}
+use Rattle.bdb_hash.proofs.ChainedLemmas.{first_page_of, other_pages_of}
 
 or_assoc : (a b c : Bool) → ((a || b) || c) ≡ (a || (b || c))
 or_assoc true b c = refl

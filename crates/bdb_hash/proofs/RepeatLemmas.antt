@@ -29,7 +29,8 @@ use Rattle.bdb_hash.specs.Passed.{AreKeysOf, IsNoting, NotesRepeats, behind}
 use Rattle.bdb_buckets.proofs.RowLemmas.{buckets_of}
 use Rattle.bdb_ranks.specs.of_format.declared.rows.ContentsRow.TheVariants.{KeyTwice}
 use Rattle.bdb_faults.proofs.SinkLemmas.{notes_nothing, notes_then}
-use Rattle.bdb_hash.proofs.ChainedLemmas.{first_of, rest_of, first_page_of, other_pages_of}
+use Rattle.bdb_buckets.proofs.ChainedLemmas.{first_of, rest_of}
+use Rattle.bdb_hash.proofs.ChainedLemmas.{first_page_of, other_pages_of}
 
 -- Repeats after other pairs.
 

@@ -17,8 +17,8 @@ use bdb_ranks::{CheckError, HashMeta, Linked};
 use std::alloc::{AllocError, Global};
 
 /// Notes the pairs of a table by themselves, and those that have the key of an earlier one of their bucket, while its
-/// pages are at hand. It tells whether the table has a stray. It takes memory for the pairs of one bucket at a time; an
-/// error is want of it, or the sink's.
+/// pages are at hand. It tells whether the table has a stray. It takes memory for the pairs of one bucket at a time. An
+/// error means that memory ran out, for them or for the sink.
 #[tactic(auto, using(crate::proofs::ChainedLemmas::bucket_of_file))]
 fn note_by_bucket<'a, F: FaultSink>(
     alloc: Global,

@@ -14,7 +14,7 @@ use std::alloc::{AllocError, Global};
 use std::collections::BTreeSet;
 
 /// Adds the hashes of the keys of a page.
-#[tactic(auto, using(crate::proofs::ChainedLemmas::first_of, crate::proofs::ChainedLemmas::rest_of))]
+#[tactic(auto, using(bdb_buckets::proofs::ChainedLemmas::first_of, bdb_buckets::proofs::ChainedLemmas::rest_of))]
 fn push_page(
     hashes: &mut Vec<u32>,
     known: &mut Chains<'_>,

@@ -60,7 +60,7 @@ fn has_twice(numbers: &mut Vec<u32>) -> bool
 }
 
 /// Notes the pairs of a bucket that have the key of an earlier one, by the hashes of their keys. Only where two of these
-/// are the same it takes memory for the keys; an error is want of it, or the sink's.
+/// are the same it takes memory for the keys. An error means that memory ran out, for them or for the sink.
 #[tactic(auto, using(crate::proofs::RepeatLemmas::noted_anew))]
 pub(crate) fn note_again<'a, F: FaultSink>(
     alloc: Global,

@@ -86,7 +86,7 @@ fn note_bucket<'a, F: FaultSink>(
 }
 
 /// Notes the pairs of a table that have the key of an earlier one. It takes memory for the hashes of all keys, and for the
-/// keys whose hash another one has too; an error is want of it, or the sink's.
+/// keys whose hash another one has too. An error means that memory ran out, for them or for the sink.
 #[tactic(auto, using(crate::proofs::KeptLemmas::keeping_table))]
 fn note_whole<'a, F: FaultSink>(
     alloc: Global,

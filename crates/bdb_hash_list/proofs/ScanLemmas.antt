@@ -23,7 +23,9 @@ use Rattle.bdb_buckets.proofs.of_format.MemberLemmas.{first_member, in_map, late
 use Rattle.bdb_buckets.specs.of_image.Linked.{HasMetadata}
 use Rattle.bdb_hash_list.specs.Scanned.{KeysDiffer, ranked}
 use Rattle.bdb_buckets.specs.Told.{stored, key_of, Told, listed_told, table_told, told, told_cmp}
+use Rattle.bdb_buckets.specs.Chained.{AreOf}
 use Rattle.bdb_buckets.specs.Views.{IsTable}
+use Rattle.bdb_buckets.proofs.ChainedLemmas.{pairs_told}
 use Rattle.bdb_buckets.proofs.TableLemmas.{table_is_told, table_stored}
 use Rattle.bdb_buckets.proofs.of_overflow.KeyLemmas.{is_order}
 use Rattle.bdb_hash_list.proofs.LookupLemmas.{AreApart, keys_apart, same_key}
@@ -199,3 +201,7 @@ pub ranked_list : (image : List ℕ) (meta : HashMeta) (pairs : List Told) → p
     → flat_map listed_told pairs ≡ hash_list (file_of image) meta
 unfolding hash_list
 ranked_list image meta pairs are = ap (flat_map listed_told) are ∙ flat_map-map listed_told (told image) (by_key (table_pairs (file_of image) meta))
+
+-- and they stand in the file
+pub ranked_of : (image : List ℕ) (meta : HashMeta) (pairs : List Told) → pairs ≡ ranked image meta → AreOf image pairs
+ranked_of image meta pairs are = subst (AreOf image) (sym are) (pairs_told image (by_key (table_pairs (file_of image) meta)))

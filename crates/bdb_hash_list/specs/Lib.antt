@@ -1,1 +1,2 @@
 pub mod Scanned
+pub use Rattle.bdb_buckets.specs as of_buckets

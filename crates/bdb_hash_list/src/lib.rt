@@ -7,7 +7,8 @@ mod near;
 mod ranked;
 mod ranking;
 
-pub use bdb_buckets::Data as Found;
+pub use bdb_buckets::{Data as Found, DupBlocks, HashItem, Pair as TablePair};
 pub use listing::Scan;
 pub use lookup::find;
-pub use ranking::scan;
+pub use ranked::Ranked as TablePairs;
+pub use ranking::{pairs_in_order, scan};

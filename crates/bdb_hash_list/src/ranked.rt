@@ -9,9 +9,9 @@ use bdb_buckets::{Forest, PageView, Pair, PairPlace};
 use std::alloc::{AllocError, Global};
 use std::marker::Model;
 
-/// The pairs at places that are left, each read where it stands.
+/// The pairs of a table that are left, in the order of their keys, each read where it stands.
 #[derive(Drop)]
-pub(crate) struct Ranked<'a> {
+pub struct Ranked<'a> {
     forest: Forest<'a>,
     rest: Near<'a>,
 }

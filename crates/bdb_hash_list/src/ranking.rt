@@ -1,9 +1,11 @@
 ghost use Rattle.std.specs.Prelude.{◌≡◌, ◌+◌, ◌-◌, ◌^◌, [], IfOk, OnOk, length, min};
+ghost use Rattle.std.specs.List.{flat_map};
 ghost use Rattle.std.specs.List.Sorted.{IsPermutation, IsSortedBy};
 ghost use Rattle.bdb_buckets.specs.of_image.Linked.{HasMetadata};
+ghost use Rattle.bdb_buckets.specs.Chained.{AreOf};
 ghost use Rattle.bdb_buckets.specs.Places.{Adds, AreAt, place_less};
 ghost use Rattle.bdb_hash_list.specs.Scanned.{KeysDiffer, ranked};
-ghost use Rattle.bdb_buckets.specs.Told.{joined_pages, table_told};
+ghost use Rattle.bdb_buckets.specs.Told.{joined_pages, listed_told, table_told};
 ghost use Rattle.bdb_buckets.specs.Views.{IsTable};
 ghost use Rattle.bdb_buckets.specs.of_format.Terms.{HashFields, file_of, hash_list, structure_faults};
 
@@ -111,15 +113,32 @@ fn ranked_pairs<'a>(
     Ranked::over(alloc, &forest, places)
 }
 
+/// All pairs of a table without repeated keys, in the order of its keys: what they list, one after another, is the list of the table. It takes sixteen
+/// bytes for each pair. An error means that memory ran out.
+#[tactic(auto, using(crate::proofs::ScanLemmas::ranked_list, crate::proofs::ScanLemmas::ranked_of))]
+pub fn pairs_in_order<'a>(
+    alloc: Global,
+    linked: &Linked<'a>,
+    meta: &HashMeta,
+) -> Result<Ranked<'a>, AllocError>
+    requires meta { HasMetadata (file_of linked.now) (HashFields meta.now) }
+    requires stage { structure_faults (file_of linked.now) ≡ [] }
+    requires keys { KeysDiffer (file_of linked.now) meta.now }
+    ensures list { IfOk result (λ pairs. flat_map listed_told pairs ≡ hash_list (file_of linked.now) meta.now) }
+    ensures image { IfOk result (λ pairs. AreOf linked.now pairs) }
+{
+    let pairs = ranked_pairs(alloc, linked, meta)?;
+    Ok(pairs)
+}
+
 /// The list of a table without repeated keys, in the order of its keys. It takes sixteen bytes for each pair of the table; an error is want
 /// of memory.
-#[tactic(auto, using(crate::proofs::ScanLemmas::ranked_list))]
 pub fn scan<'a>(alloc: Global, linked: &Linked<'a>, meta: &HashMeta) -> Result<Scan<'a>, AllocError>
     requires meta { HasMetadata (file_of linked.now) (HashFields meta.now) }
     requires stage { structure_faults (file_of linked.now) ≡ [] }
     requires keys { KeysDiffer (file_of linked.now) meta.now }
     ensures { IfOk result (λ scan. scan ≡ hash_list (file_of linked.now) meta.now) }
 {
-    let pairs = ranked_pairs(alloc, linked, meta)?;
+    let pairs = pairs_in_order(alloc, linked, meta)?;
     Ok(Scan::over(pairs))
 }

@@ -18,6 +18,6 @@ mod up;
 pub use bdb_graph::{
     Kind, Order, PageType, PageView, QueueMeta, Settings, Steps, records_per_page, u32_at,
 };
-pub use bdb_survey::{Guess, Meta, WholePages};
+pub use bdb_survey::{Guess, Meta, WholePages, queue_fields};
 pub use home::Home;
 pub use homes::PageHomes;

@@ -39,7 +39,7 @@ pub fn open_by<'a, J: Judge + Drop>(
     }
 }
 
-/// The same, or else the verdict on the image.
+/// Opens an image as `open_by` does. An error is the verdict on it.
 #[tactic(auto, using(bdb_faults::proofs::FirstLemmas::first_judged))]
 pub fn open_image<'a>(alloc: Global, image: &'a [u8]) -> Result<Formed<'a>, Verdict>
     requires { length image.now ≤ 2 ^ 30 }
@@ -53,7 +53,8 @@ pub fn open_image<'a>(alloc: Global, image: &'a [u8]) -> Result<Formed<'a>, Verd
     }
 }
 
-/// The same, or else all that holds, page by page and row by row, each once. `Memory` means that memory ran out for the list of them.
+/// Opens an image as `open_by` does. An error is the list of all rows that hold in the first stage that has one, by page and then by row, each once; or
+/// `Memory`: memory for the list ran out.
 pub fn open_all<'a>(alloc: Global, image: &'a [u8]) -> Result<Formed<'a>, AllError>
     requires { length image.now ≤ 2 ^ 30 }
     ensures formed { IfOk result (λ formed. formed ≡ image.now) }

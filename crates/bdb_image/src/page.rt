@@ -9,6 +9,7 @@ use bdb_slots::{page_row as form_row, queue_row};
 
 /// The first row of form that holds for a page up to the last one, if one does.
 #[tactic(auto, using(crate::proofs::CodeLemmas::first_page_code, crate::proofs::CodeLemmas::form_queue))]
+#[inline(always)]
 pub(crate) fn page_row(page: &[u8], head: &Head, number: u32) -> Option<FormRow>
     requires size { IsTrue (is_page_size (length page.now)) }
     requires last { head.now.last < 2 ^ 21 }

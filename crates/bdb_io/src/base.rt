@@ -5,11 +5,11 @@ ghost use Rattle.bdb_io.specs.Base.{FailsWhereShut, faults_of};
 use crate::{Failed, Source, StdSource};
 use std::io::Read;
 
-/// A source over a file that is opened beside the input, or in place of one that can't be opened. It tells no content.
+/// A source over a file that is opened beside the input, or in place of one that can't be opened. It doesn't tell which bytes are left.
 #[derive(Drop)]
 pub enum BaseSource<R> {
     Reader(StdSource<R>),
-    /// Each read fails.
+    /// A file that couldn't be opened: each read fails.
     Shut { faults: u64 },
 }
 

@@ -39,10 +39,13 @@ impl Image {
 /// Why an image wasn't read.
 #[derive(Clone, Copy, Debug, PartialEq, Eq, Error)]
 pub enum ReadError {
+    /// A read failed.
     #[error("read fault")]
     ReadFault,
+    /// The source has more bytes than the limit.
     #[error("input too large")]
     TooLarge,
+    /// Memory ran out.
     #[error("out of memory")]
     Memory,
 }
@@ -59,8 +62,8 @@ fn with_room(alloc: Global, room: usize) -> Bytes
     }
 }
 
-/// Reads until a read gives nothing, or one byte more than the limit came. An error says that: the input is longer
-/// than the limit; a read failed; or memory ran out.
+/// Reads a source to its end, as an image of at most `max` bytes. `TooLarge`: the source has more, and `max + 1` bytes of it
+/// were read; `ReadFault`: a read failed; `Memory`: memory ran out.
 #[tactic(auto, using(bdb_format::proofs::KnownLemmas::consumed))]
 pub fn read_image<S: Source>(alloc: Global, source: &mut S, max: u64) -> Result<Image, ReadError>
     requires { max ≤ 2 ^ 30 }

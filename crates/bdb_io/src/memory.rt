@@ -34,7 +34,7 @@ impl MemSource {
         }
     }
 
-    /// The call with this number, counted from 1, will fail.
+    /// The call with this number, counted from 1, will fail. An error means that memory ran out for the note of it.
     pub fn fail_at(&mut self, call: u64) -> Result<(), AllocError>
         ensures ok { OnOk result (self.new ≡ record self.old { failing = self.old.failing ++ call ∷ [] }) }
         ensures err { OnErr result (self.new ≡ self.old) }
@@ -95,7 +95,7 @@ impl MemSink {
         self.bytes.as_slice()
     }
 
-    /// The call with this number, counted from 1, will fail.
+    /// The call with this number, counted from 1, will fail. An error means that memory ran out for the note of it.
     pub fn fail_at(&mut self, call: u64) -> Result<(), AllocError>
         ensures ok { OnOk result (self.new ≡ record self.old { failing = self.old.failing ++ call ∷ [] }) }
         ensures err { OnErr result (self.new ≡ self.old) }

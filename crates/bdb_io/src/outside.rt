@@ -7,7 +7,7 @@ use crate::{Failed, Sink, Source};
 use std::io::{Read, Write};
 use std::marker::Model;
 
-/// A source over any reader of std. It tells no content.
+/// A source over any reader of std. As a source it doesn't tell which bytes are left.
 #[derive(Drop)]
 pub struct StdSource<R> {
     reader: R,
@@ -31,7 +31,7 @@ impl<R: Read> StdSource<R> {
         StdSource::expecting(reader, 0)
     }
 
-    /// One from which so many bytes are likely to come.
+    /// A source that reads from a reader from which so many bytes are likely to come: who gathers them takes room for so many at once.
     pub fn expecting(reader: R, expected: usize) -> StdSource<R>
         ensures { result ≡ record { inner = reader; faults = 0 } }
     {
@@ -69,7 +69,7 @@ impl<R: Read> Source for StdSource<R> {
     }
 }
 
-/// A sink over any writer of std. It tells no content.
+/// A sink over any writer of std. As a sink it doesn't tell which bytes were written.
 #[derive(Drop)]
 pub struct StdSink<W> {
     writer: W,

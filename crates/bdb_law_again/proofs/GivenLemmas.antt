@@ -11,6 +11,7 @@ use Rattle.bdb_repair.specs.of_apart.Given.{FoundIn, in_image, pairs_given, reco
 use Rattle.bdb_repair.specs.of_apart.Read.{read}
 use Rattle.bdb_repair.specs.of_apart.Text.{list_given, section_pairs, settings_in}
 use Rattle.bdb_repair.specs.Apart.{section_in}
+use Rattle.bdb_repair.proofs.ApartRoomLemmas.{found_size}
 use Rattle.bdb_load.specs.of_law_kept.of_text.WrittenLaw.{pair_in}
 use Rattle.bdb_law_apart.specs.Sections.{IsGivenOf}
 use Rattle.bdb_law_again.specs.Again.{SectionsAreGiven}
@@ -36,15 +37,6 @@ given_in it = by_kind (has_records it.db.fields)
 
 -- Settings.
 
-pub size_is : (size : ℕ) (order : Order) (fields : Metadata) → (settings_of size order fields).page_size ≡ size
-size_is size order (BtreeFields meta) = by_kind (is_recno meta)
-  where
-    by_kind : (b : Bool) → (cond b (recno_settings size order meta) (btree_settings size order meta)).page_size ≡ size
-    by_kind true = refl
-    by_kind false = refl
-size_is size order (HashFields meta) = refl
-size_is size order (QueueFields meta) = refl
-
 pub order_is : (size : ℕ) (order : Order) (fields : Metadata) → (settings_of size order fields).order ≡ order
 order_is size order (BtreeFields meta) = by_kind (is_recno meta)
   where
@@ -63,7 +55,7 @@ section_given print image db =
       name_is = refl;
       lines_are = told_lines print db.name (settings_in it);
       alike = told_alike (settings_in it);
-      page_size = (told_alike (settings_in it)).page_size ∙ size_is (head_of image).page_size (head_of image).order db.fields;
+      page_size = (told_alike (settings_in it)).page_size ∙ found_size (head_of image).page_size (head_of image).order db.fields;
       order = told_order (settings_in it) ∙ order_is (head_of image).page_size (head_of image).order db.fields;
       pairs_are = given_in it;
     }

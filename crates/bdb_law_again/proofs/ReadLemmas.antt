@@ -44,7 +44,8 @@ use Rattle.bdb_law_apart.proofs.DatabaseLemmas.{databases_are_found}
 use Rattle.bdb_law_apart.proofs.FoundLemmas.{no_queue}
 use Rattle.bdb_law_apart.proofs.SeenLemmas.{seen}
 use Rattle.bdb_law_again.proofs.ErrorLemmas.{IsLike, section_without}
-use Rattle.bdb_law_again.proofs.GivenLemmas.{given_in, order_is, size_is}
+use Rattle.bdb_law_again.proofs.GivenLemmas.{given_in, order_is}
+use Rattle.bdb_repair.proofs.ApartRoomLemmas.{found_size}
 use Rattle.bdb_law_again.proofs.HoldLemmas.{given_holds}
 use Rattle.bdb_law_again.proofs.ToldLemmas.{told_lines}
 
@@ -167,7 +168,7 @@ given_of print image db section read_of =
       name_is = read_of.is.name_is;
       lines_are = read_of.is.lines_are;
       alike = loads;
-      page_size = loads.page_size ∙ size_is (head_of image).page_size (head_of image).order db.fields;
+      page_size = loads.page_size ∙ found_size (head_of image).page_size (head_of image).order db.fields;
       order = lines_order print db.name section.settings (settings_in it) read_of.is.lines_are
           ∙ order_is (head_of image).page_size (head_of image).order db.fields;
       pairs_are = read_of.is.list_is;

@@ -2,6 +2,7 @@
 use Rattle.std.proofs.Common.{◌≡◌, ℕ, ◌+◌, ◌-◌, ◌^◌, ◌<◌, Bool, true, false, not, cond, List, [], ◌∷◌, length, Option, Some, None, arith, refl, sym, ◌∙◌, ap}
 use Rattle.std.proofs.Common.{subst, inl, ◌&&◌, ◌||◌, ◌==◌, nat_lt, drop, unwrap_or}
 use Rattle.std.specs.List.{All, Contains, flat_map, range_with_len}
+use Rattle.std.proofs.lemmas.Bool.{and_parts}
 use Rattle.std.proofs.lemmas.Bool.Decides.{nat_tests}
 use Rattle.std.proofs.lemmas.List.Elements.{All-drop, All-nil, All-take}
 use Rattle.bdb_databases.specs.of_format.declared.kinds.Kind.TheVariants.{Queue as QueueKind}
@@ -70,15 +71,10 @@ recno_pairs image meta forest has recno all =
     numbered_pair pair found.0.0 found.2.key (omega (arith, few, among.1))
     (subst AreBytes (sym found.2.value) (tree_entry_holds file meta.root found.0.1 all among.2)))
 
-middle : (a b c : Bool) → (a && b && c) ≡ true → b ≡ true
-middle true true c is = refl
-middle true false c is = absurd cc
-middle false b c is = absurd cc
-
 below_current : (meta : QueueMeta) (p : ℕ) (records : List ℕ) (slot : ℕ) → is_record meta p records slot ≡ true
     → record_number meta p slot < meta.current
 below_current meta p records slot live =
-    let less : nat_lt (record_number meta p slot) meta.current ≡ true = middle _ _ _ live in
+    let less : nat_lt (record_number meta p slot) meta.current ≡ true = (and_parts _ _ (and_parts _ _ live).0).1 in
     grind (arith, nat_tests, less)
 
 queue_records : (page : Page) (number : ℕ) (records : List ℕ) → page ≡ Queue number records → PageHoldsBytes page → AreBytes records

@@ -3,4 +3,4 @@
 
 pub mod laws;
 
-pub use bdb_text::{TextError, push_line_text, read_dump};
+pub use bdb_text::{TextError, push_line_text, read_dump, shows_length};

@@ -12,7 +12,7 @@ use crate::lengths::hash_end;
 use crate::{DupBlocks, HashItem, index_end, offset_at, u32_at};
 use bdb_format::{FormRow, ItemFault, Order};
 
-/// The item of a hash page at a place of its index, or the first thing that is wrong with it.
+/// The item of a hash page at a place of its index, or the first fault of it: where it stands, its type or its extent.
 #[tactic(auto, using(bdb_format::proofs::PageLemmas::answer_value, crate::proofs::RowLemmas::answer_row, crate::proofs::RowLemmas::no_row))]
 pub fn hash_item(page: &[u8], order: Order, index: u16) -> Result<HashItem<'_>, ItemFault>
     requires room { index_end order page.now ≤ length page.now }

@@ -9,7 +9,7 @@ use crate::item_rows::item_fault;
 use crate::{InternalItem, InternalKey, index_end, internal_end, offset_at, u16_at, u32_at};
 use bdb_format::{FormRow, ItemFault, Order};
 
-/// The item of an internal page with keys at a place of its index, or the first thing that is wrong with it.
+/// The item of an internal page with keys at a place of its index, or the first fault of it: where it stands, its type or its extent.
 #[tactic(auto, using(bdb_format::proofs::PageLemmas::answer_value, crate::proofs::RowLemmas::answer_row, crate::proofs::RowLemmas::no_row))]
 pub fn internal_item(page: &[u8], order: Order, index: u16) -> Result<InternalItem<'_>, ItemFault>
     requires room { index_end order page.now ≤ length page.now }

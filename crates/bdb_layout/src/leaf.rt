@@ -10,7 +10,7 @@ use crate::item_rows::item_fault;
 use crate::{LeafItem, index_end, leaf_end, offset_at, page_type, u16_at, u32_at};
 use bdb_format::{FormRow, ItemFault, Order, PageType};
 
-/// The item of a leaf at a place of its index, or the first thing that is wrong with it.
+/// The item of a leaf at a place of its index, or the first fault of it: where it stands, its type or its extent.
 #[tactic(auto, using(bdb_format::proofs::PageLemmas::answer_value, crate::proofs::RowLemmas::answer_row, crate::proofs::RowLemmas::no_row))]
 pub fn leaf_item(page: &[u8], order: Order, index: u16) -> Result<LeafItem<'_>, ItemFault>
     requires room { index_end order page.now ≤ length page.now }

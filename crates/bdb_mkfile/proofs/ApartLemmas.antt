@@ -1,19 +1,8 @@
 -- Sections whose names are apart.
 use Rattle.std.proofs.Common.{◌≡◌, ℕ, ◌+◌, Bool, true, false, cond, not, List, [], ◌∷◌, ◌++◌, map, Option, Some, None, refl, sym, ◌∙◌, ap, subst, arith}
 use Rattle.std.proofs.Common.{true≢false, append_assoc, ◌&&◌, is_none, is_some, unwrap_or}
-use Rattle.std.specs.Str.{bytes_eq}
-use Rattle.std.specs.Cmp.Derive.{both_true}
-use Rattle.std.specs.List.{All, fold, list_any, sum_by}
-use Rattle.std.proofs.lemmas.List.Elements.{All-cons, All-head, All-nil, All-tail}
-use Rattle.std.proofs.lemmas.List.Folds.{list_any-append}
-use Rattle.std.proofs.lemmas.List.Sums.{sum_by-cons}
-use Rattle.std.proofs.lemmas.Bool.{and_parts, or_parts}
-use Rattle.bdb_io.specs.of_format.Terms.{ascends, ascends_from, is_name, less}
-use Rattle.bdb_io.proofs.of_format.LessLemmas.{eq_self, same_unless_less}
-use Rattle.bdb_text_format.specs.declared.sections.Section.{Section}
-use Rattle.bdb_law_sections.specs.Fit.{AreNamedBehind}
-use Rattle.bdb_mkfile.specs.Builds.{in_name_order, name_of, put_named}
-use Rattle.bdb_mkfile.specs.Order.{AreApart, IsApart, named_before, with_named}
+use Rattle.bdb_mkfile.proofs.Common.{bytes_eq, both_true, All, fold, list_any, sum_by, All-cons, All-head, All-nil, All-tail, list_any-append, sum_by-cons, and_parts, or_parts, ascends, ascends_from}
+use Rattle.bdb_mkfile.proofs.Common.{is_name, less, eq_self, same_unless_less, Section, AreNamedBehind, in_name_order, name_of, put_named, AreApart, IsApart, named_before, with_named}
 use Rattle.bdb_mkfile.proofs.NameLemmas.{swapped}
 
 -- What holds of each section.
@@ -21,11 +10,7 @@ use Rattle.bdb_mkfile.proofs.NameLemmas.{swapped}
 pub put_all : (P : Section → Type 0) (section : Section) (list : List Section) → P section → All P list → All P (put_named section list)
 put_all P section [] one all = All-cons P section [] one (All-nil P)
 put_all P section (other ∷ others) one all =
-    by_test (named_before section other) (put_all P section others one (All-tail P other others all))
-  where
-    by_test : (b : Bool) → All P (put_named section others) → All P (cond b (section ∷ other ∷ others) (other ∷ put_named section others))
-    by_test true more = All-cons P section (other ∷ others) one all
-    by_test false more = All-cons P other (put_named section others) (All-head P other others all) more
+    grind (arith, named_before, All-tail, All, put_named, All-cons, All-head, put_all P section others one (All-tail P other others all))
 
 pub order_all : (P : Section → Type 0) (sections : List Section) → All P sections → All P (in_name_order sections)
 order_all P [] all = all
@@ -46,31 +31,18 @@ put_sum f section (other ∷ others) = by_test (named_before section other) (put
 -- a sum over sections doesn't depend on their order
 pub order_sum : (f : Section → ℕ) (sections : List Section) → sum_by f (in_name_order sections) ≡ sum_by f sections
 order_sum f [] = refl
-order_sum f (section ∷ sections) =
-    let put = put_sum f section (in_name_order sections) in
-    let rest = order_sum f sections in
-    let whole = sum_by-cons f section sections in omega (arith, put, rest, whole)
+order_sum f (section ∷ sections) = grind (arith, put_sum, in_name_order, sum_by-cons, order_sum f sections)
 
 -- the order looks at names alone
 put_map : (f : Section → Section) → ((s : Section) → name_of (f s) ≡ name_of s) → (section : Section) (list : List Section)
     → put_named (f section) (map f list) ≡ map f (put_named section list)
 put_map f keeps section [] = refl
-put_map f keeps section (other ∷ others) =
-    ap (λ a. cond (less a (name_of (f other))) (f section ∷ f other ∷ map f others) (f other ∷ put_named (f section) (map f others))) (keeps section)
-    ∙ ap (λ b. cond (less (name_of section) b) (f section ∷ f other ∷ map f others) (f other ∷ put_named (f section) (map f others))) (keeps other)
-    ∙ by_test (named_before section other) (put_map f keeps section others)
-  where
-    by_test : (b : Bool) → put_named (f section) (map f others) ≡ map f (put_named section others)
-        → cond b (f section ∷ f other ∷ map f others) (f other ∷ put_named (f section) (map f others))
-        ≡ map f (cond b (section ∷ other ∷ others) (other ∷ put_named section others))
-    by_test true later = refl
-    by_test false later = ap (λ l. f other ∷ l) later
+put_map f keeps section (other ∷ others) = grind (arith, less, name_of, put_named, named_before, put_map f keeps section others)
 
 pub order_map : (f : Section → Section) → ((s : Section) → name_of (f s) ≡ name_of s) → (sections : List Section)
     → in_name_order (map f sections) ≡ map f (in_name_order sections)
 order_map f keeps [] = refl
-order_map f keeps (section ∷ sections) =
-    ap (put_named (f section)) (order_map f keeps sections) ∙ put_map f keeps section (in_name_order sections)
+order_map f keeps (section ∷ sections) = ap (put_named (f section)) (order_map f keeps sections) ∙ put_map f keeps section (in_name_order sections)
 
 -- Names that are apart.
 
@@ -100,12 +72,7 @@ fold_is_order sections apart = folded [] sections apart ∙ onto_none sections
 -- Names ascend.
 
 after_apart : (a b : Section) → IsApart a b → named_before a b ≡ false → named_before b a ≡ true
-after_apart a b apart not_before = by_tests (named_before a b) (named_before b a) apart not_before
-  where
-    by_tests : (x y : Bool) → (not x && not y) ≡ false → x ≡ false → y ≡ true
-    by_tests x true apart is = refl
-    by_tests true false apart is = absurd cc
-    by_tests false false apart is = absurd cc
+after_apart a b apart not_before = grind (arith, named_before)
 
 ascends_behind : (value : List ℕ) (section : Section) (list : List Section) → less value (name_of section) ≡ true
     → ascends_from value (map name_of list) ≡ true → All (IsApart section) list → ascends_from value (map name_of (put_named section list)) ≡ true
@@ -155,9 +122,7 @@ named_behind : (name : Option (List ℕ)) (names : List (Option (List ℕ))) (se
     → All HasName sections
 named_behind name names [] named = All-nil HasName
 named_behind name names (section ∷ sections) named =
-    All-cons HasName section sections
-    (some_name section.name (or_parts (is_none section.name) (list_any is_none (name ∷ names)) named.0).0)
-    (named_behind name (names ++ (section.name ∷ [])) sections named.2)
+    grind (arith, All-cons, some_name, or_parts, is_none, list_any, named_behind name (names ++ (section.name ∷ [])) sections named.2)
 
 -- where the first section has a name, each has
 pub all_named : (section : Section) (sections : List Section) → HasName section → AreNamedBehind [] (section ∷ sections)
@@ -168,17 +133,11 @@ all_named section sections first named = All-cons HasName section sections first
 pub alone_unnamed : (section : Section) (sections : List Section) → is_some section.name ≡ false → AreNamedBehind [] (section ∷ sections)
     → sections ≡ []
 alone_unnamed section [] unnamed named = refl
-alone_unnamed section (other ∷ others) unnamed named =
-    let some : is_none section.name ≡ false =
-    (or_parts (is_none section.name) false (or_parts (is_none other.name) (list_any is_none (section.name ∷ [])) named.2.0).1).0 in
-    absurd (true≢false (sym (some_name section.name some) ∙ unnamed))
+alone_unnamed section (other ∷ others) unnamed named = grind (arith, is_none, or_parts, list_any, some_name)
 
 not_this : (names more : List (Option (List ℕ))) (name other : Option (List ℕ)) → list_any (is_name other) (names ++ name ∷ more) ≡ false
     → is_name other name ≡ false
-not_this names more name other none =
-    (or_parts (is_name other name) (list_any (is_name other) more)
-    (or_parts (list_any (is_name other) names) (list_any (is_name other) (name ∷ more))
-    (sym (list_any-append (is_name other) names (name ∷ more)) ∙ none)).1).0
+not_this names more name other none = grind (arith, or_parts, is_name, list_any, list_any-append)
 
 later_apart : (names more : List (Option (List ℕ))) (name : Option (List ℕ)) (sections : List Section)
     → AreNamedBehind (names ++ name ∷ more) sections → All (λ (section : Section). is_name section.name name ≡ false) sections

@@ -1,38 +1,18 @@
 -- The image of sections with their lists is one that is built of the sections.
-use Rattle.std.proofs.Common.{◌≡◌, ℕ, ◌+◌, ◌-◌, ◌*◌, Result, Ok, Err, Bool, true, false, cond, List, [], ◌∷◌, length, map, Option, Some, ◌⊎◌, None, refl, sym}
-use Rattle.std.proofs.Common.{◌∙◌, ap, subst, arith, inr, is_some, nat_lt, slice_get, if◌then◌else◌, IfOk}
+use Rattle.std.proofs.Common.{◌≡◌, ℕ, ◌+◌, ◌-◌, ◌*◌, Result, Ok, Err, true, false, cond, List, [], ◌∷◌, length, map, Option, Some, ◌⊎◌, None, refl, sym}
+use Rattle.std.proofs.Common.{◌∙◌, ap, subst, arith, is_some, nat_lt, slice_get, if◌then◌else◌, IfOk}
 use Rattle.std.specs.declared.alloc.AllocError.{AllocError}
-use Rattle.std.specs.List.{All, AllZip, fold, sum_by}
-use Rattle.std.proofs.lemmas.List.Elements.{All-cons, All-nil}
-use Rattle.bdb_io.specs.of_format.declared.kinds.Kind.{Kind}
-use Rattle.bdb_io.specs.of_format.declared.kinds.Kind.TheVariants.{Btree, Recno, Hash, Queue}
-use Rattle.bdb_io.specs.of_format.declared.kinds.Order.{Order}
-use Rattle.bdb_io.specs.of_format.declared.settings.Settings.{Settings}
-use Rattle.bdb_io.specs.of_format.Terms.{Database, HashFields, Metadata, QueueFields, databases, file_of, head_of, list_of, settings_of, verdict_of}
-use Rattle.bdb_text_format.specs.declared.pairs.Pair.{Pair}
-use Rattle.bdb_text_format.specs.declared.sections.Section.{Section}
-use Rattle.bdb_text_format.specs.Terms.{header_lines, listed}
+use Rattle.bdb_mkfile.proofs.Common.{All, AllZip, fold, sum_by, All-cons, All-nil, Kind, Btree, Recno, Hash, Queue, Order, Settings, Database, HashFields, Metadata, QueueFields, databases, file_of}
+use Rattle.bdb_mkfile.proofs.Common.{head_of, list_of, settings_of, verdict_of, Pair, Section, header_lines, listed, TooLarge, Memory, load_error, page_size_in, loaded, loaded_section, HasBuiltTable}
+use Rattle.bdb_mkfile.proofs.Common.{queue_meta, tree_pages, unlined_pairs, list_pages, master_pages, need_of, section_pages, file_settings, own_settings, AreNamed, HasBuiltTables, IsDatabaseOf}
+use Rattle.bdb_mkfile.proofs.Common.{IsNamed, IsNamedImage, names_pages, Builds, IsLoadedAs, image_size, in_file_of, in_name_order, IsLoadRefusal, IsLoadRefusalBy, loading_error, or_else, size_error}
+use Rattle.bdb_mkfile.proofs.Common.{with_named, IsLoneImage, queue_first, queue_pages, table_fields, table_first, table_pages, AreBuildable, AreNamedApart, IsBuildable, IsImageBy, IsImageOfSections}
+use Rattle.bdb_mkfile.proofs.Common.{IsLaidOut, IsListImage, IsSectionImage, IsTreeImage, listed_again}
 use Rattle.bdb_need.specs.of_settle.declared.load_error.LoadError.{LoadError}
-use Rattle.bdb_need.specs.of_settle.declared.load_error.LoadError.TheVariants.{TooLarge, Memory}
-use Rattle.bdb_need.specs.of_settle.LoadErrors.{load_error, page_size_in}
-use Rattle.bdb_need.specs.of_settle.Loaded.{loaded, loaded_section}
-use Rattle.bdb_need.specs.of_law_buckets.Tables.{HasBuiltTable}
-use Rattle.bdb_need.specs.of_mkqueue.Layout.{queue_meta}
-use Rattle.bdb_need.specs.TreePages.{tree_pages, unlined_pairs}
-use Rattle.bdb_need.specs.Need.{list_pages, master_pages, need_of, section_pages}
-use Rattle.bdb_mkfile.specs.FileSettings.{file_settings, own_settings}
 use Rattle.bdb_mkfile.proofs.SettingsLemmas.{own_size, settings_shown}
-use Rattle.bdb_mkfile.specs.NamedImages.{AreNamed, HasBuiltTables, IsDatabaseOf, IsNamed, IsNamedImage, names_pages}
-use Rattle.bdb_mkfile.specs.Builds.{Builds, IsLoadedAs, image_size, in_file_of, in_name_order}
-use Rattle.bdb_mkfile.specs.Loading.{IsLoadRefusal, IsLoadRefusalBy, loading_error, or_else, size_error}
-use Rattle.bdb_mkfile.specs.Order.{with_named}
-use Rattle.bdb_mkfile.specs.LoneImages.{IsLoneImage, queue_first, queue_pages, table_fields, table_first, table_pages}
-use Rattle.bdb_mkfile.specs.Settled.{AreBuildable, AreNamedApart, IsBuildable, IsImageBy, IsImageOfSections, IsLaidOut, IsListImage, IsSectionImage}
-use Rattle.bdb_mkfile.specs.Trees.{IsTreeImage}
 use Rattle.bdb_mkfile.proofs.AlikeLemmas.{pages_own}
 use Rattle.bdb_mkfile.proofs.ApartLemmas.{fold_is_order, order_all, order_map, order_sum}
 use Rattle.bdb_mkfile.proofs.MasterLemmas.{master_same, names_ascend}
-use Rattle.bdb_need.proofs.NeedLemmas.{listed_again}
 
 -- One section alone.
 
@@ -48,39 +28,19 @@ record IsAloneImage (settings : Settings) (pairs : List Pair) (image : List ℕ)
 
 tree_alone : (settings : Settings) (pairs : List Pair) (image : List ℕ) → list_pages settings.kind settings pairs ≡ tree_pages settings pairs
     → IsTreeImage settings pairs image → IsAloneImage settings pairs image
-tree_alone settings pairs image pages is = record {
-  sound = is.sound;
-  size = is.size ∙ ap (λ n. (1 + n) * settings.page_size) (sym pages);
-  fields = is.fields;
-  alone = is.alone;
-  settings_are = is.settings_are;
-  list = is.list;
-  buckets = subst (HasBuiltTable (file_of image)) (sym is.fields_are) tt;
-}
+tree_alone settings pairs image pages is = grind (arith, HasBuiltTable, file_of)
 
 lone_alone : (settings : Settings) (pairs : List Pair) (pages : ℕ) (first : List ℕ) (fields : Metadata) (image : List ℕ)
     → list_pages settings.kind settings pairs ≡ pages → HasBuiltTable (file_of image) fields → IsLoneImage settings pairs (1 + pages) first fields image
     → IsAloneImage settings pairs image
-lone_alone settings pairs pages first fields image pages_are buckets is = record {
-  sound = is.sound;
-  size = is.size ∙ ap (λ n. (1 + n) * settings.page_size) (sym pages_are);
-  fields = fields;
-  alone = is.alone;
-  settings_are = is.settings_are;
-  list = is.list;
-  buckets = buckets;
-}
+lone_alone settings pairs pages first fields image pages_are buckets is = grind arith
 
 image_alone : (k : Kind) (settings : Settings) (pairs : List Pair) (image : List ℕ) → settings.kind ≡ k → IsListImage k settings pairs image
     → IsAloneImage settings pairs image
 image_alone Btree settings pairs image same is = tree_alone settings pairs image (ap (λ k. list_pages k settings pairs) same) is
 image_alone Recno settings pairs image same is = tree_alone settings pairs image (ap (λ k. list_pages k settings pairs) same) is
-image_alone Hash settings pairs image same is =
-    lone_alone settings pairs (table_pages settings pairs) (table_first settings pairs) (HashFields (table_fields settings pairs)) image
-    (ap (λ k. list_pages k settings pairs) same) is.buckets is.is
-image_alone Queue settings pairs image same is =
-    lone_alone settings pairs (queue_pages settings pairs) (queue_first settings pairs) (QueueFields (queue_meta settings pairs)) image
-    (ap (λ k. list_pages k settings pairs) same) tt is
+image_alone Hash settings pairs image same is = grind (arith, lone_alone, table_pages, table_first, HashFields, table_fields, list_pages)
+image_alone Queue settings pairs image same is = grind (arith, lone_alone, queue_pages, queue_first, QueueFields, queue_meta, list_pages)
 
 pub alone_built : (section : Section) (image : List ℕ) → is_some section.name ≡ false
     → IsBuildable section.settings.kind section.settings (unlined_pairs section.pairs) → IsSectionImage section image
@@ -169,12 +129,7 @@ pub named_image_built : (sections sorted : List Section) (found : Section) (resu
     → IfOk result (λ image. IsImageOfSections sections image)
 named_image_built sections sorted found (Err error) built at has are is = tt
 named_image_built sections sorted found (Ok image) built at has are is =
-    let first : Section = built.first in
-    let named : AreNamedApart first.settings.page_size (first ∷ built.rest) =
-    subst (AreNamedApart first.settings.page_size) built.are (built.named (named_first sections found built at has)) in
-    subst (λ ss. IsImageOfSections ss image) (sym built.are)
-    (named_built first built.rest sorted image (named_first sections found built at has) named (are ∙ ap (fold with_named []) built.are)
-    (subst (λ (s : Section). IsNamedImage s.settings.page_size s.settings.order sorted image) (found_first sections found built at) is))
+    grind (arith, Section, AreNamedApart, named_first, IsImageOfSections, named_built, fold, with_named, IsNamedImage, found_first)
 
 -- the only section, which has no name
 pub record IsOnly (sections : List Section) (section : Section) : Type 0 where
@@ -214,13 +169,7 @@ own_alike Queue size order settings = refl
 -- the database of a section with its list is that of the section
 loaded_as : (image : List ℕ) (first : Settings) (section : Section) (database : Database)
     → IsDatabaseOf first.page_size first.order image (loaded_section section) database → IsLoadedAs image first section database
-loaded_as image first section database is = record {
-  name = is.name;
-  list = is.list ∙ ap listed (listed_again (loaded section.settings section.pairs));
-  settings = λ print name.
-      ap (header_lines print name) (is.settings_are ∙ own_alike section.settings.kind first.page_size first.order section.settings)
-      ∙ settings_shown print name (in_file_of first section.settings);
-}
+loaded_as image first section database is = grind (arith, listed, listed_again, loaded, header_lines, own_alike, settings_shown, in_file_of)
 
 all_loaded_as : (image : List ℕ) (first : Settings) (sections : List Section) (all : List Database)
     → AllZip (IsDatabaseOf first.page_size first.order image) (map loaded_section sections) all → AllZip (IsLoadedAs image first) sections all
@@ -274,17 +223,11 @@ counted_size sections settled pages lists pages_are =
 
 pub no_error : (max pages : ℕ) (sections settled : List Section) → load_error sections ≡ None → settled ≡ map loaded_section sections
     → pages ≡ need_of settled → nat_lt max (pages * page_size_in settled) ≡ false → loading_error max sections ≡ None
-no_error max pages sections settled none lists pages_are within =
-    let test : nat_lt max (image_size sections) ≡ false =
-    ap (nat_lt max) (sym (counted_size sections settled pages lists pages_are)) ∙ within in
-    ap (λ e. or_else e (size_error max sections)) none ∙ ap (λ (b : Bool). if b then Some TooLarge else None) test
+no_error max pages sections settled none lists pages_are within = grind (arith, nat_lt, image_size, counted_size, or_else, size_error, Some, TooLarge, None)
 
 pub too_large : (max pages : ℕ) (sections settled : List Section) → settled ≡ map loaded_section sections
     → pages ≡ need_of settled → nat_lt max (pages * page_size_in settled) ≡ true → size_error max sections ≡ Some TooLarge
-too_large max pages sections settled lists pages_are above =
-    let test : nat_lt max (image_size sections) ≡ true =
-    ap (nat_lt max) (sym (counted_size sections settled pages lists pages_are)) ∙ above in
-    ap (λ (b : Bool). if b then Some TooLarge else None) test
+too_large max pages sections settled lists pages_are above = grind (arith, nat_lt, image_size, counted_size, Some, TooLarge, None)
 
 -- Refusals.
 
@@ -296,9 +239,4 @@ refused_late most sections error none is = subst (λ first. IsLoadRefusalBy firs
 -- a refusal is for lack of memory, or gives the error that there is
 pub refusal_found : (most : ℕ) (sections : List Section) (error : LoadError) → IsLoadRefusal most sections error
     → (error ≡ Memory) ⊎ (loading_error most sections ≡ Some error)
-refusal_found most sections error is = by_first (load_error sections) is
-  where
-    by_first : (first : Option LoadError) → IsLoadRefusalBy first (size_error most sections) error
-        → (error ≡ Memory) ⊎ (or_else first (size_error most sections) ≡ Some error)
-    by_first (Some first) is = inr (ap Some (sym is))
-    by_first None is = is
+refusal_found most sections error is = grind (arith, load_error, Option, IsLoadRefusalBy, size_error, Memory, or_else, Some, None)

@@ -1,37 +1,17 @@
 -- The list of a master: it is one that a tree can be built of, and the pages that it takes don't depend on the numbers in it.
-use Rattle.std.proofs.Common.{◌≡◌, ℕ, ◌+◌, ◌-◌, ◌/◌, ◌||◌, ◌&&◌, Bool, true, false, cond, List, [], ◌∷◌, length, map, replicate, arith, refl, sym, ◌∙◌, ap}
-use Rattle.std.proofs.Common.{subst, if◌then◌else◌, nat_le, nat_lt, All, sum_by}
+use Rattle.std.proofs.Common.{◌≡◌, ℕ, ◌+◌, ◌-◌, ◌/◌, ◌||◌, ◌&&◌, Bool, true, false, cond, List, [], ◌∷◌, length, map, replicate, arith, refl, sym, ◌∙◌, ap, subst, if◌then◌else◌, nat_le, nat_lt, All, sum_by}
 use Rattle.std.proofs.Math.Path.{fun_ext}
-use Rattle.std.specs.Cmp.Derive.{both_true}
-use Rattle.std.specs.Str.{bytes_eq}
-use Rattle.std.proofs.lemmas.Bool.{and_parts}
-use Rattle.std.proofs.lemmas.List.{length-map, length-replicate}
-use Rattle.std.proofs.lemmas.List.Elements.{All-cons, All-head, All-nil, All-tail}
-use Rattle.std.proofs.lemmas.List.Sums.{sum_by-cons}
+use Rattle.bdb_mkfile.proofs.Common.{both_true, bytes_eq, and_parts, length-map, length-replicate, All-cons, All-head, All-nil, All-tail, sum_by-cons, Order, Big, ascends, ascends_from, less, pad4}
+use Rattle.bdb_mkfile.proofs.Common.{length-spelled, Pair, Bytes, Section, LeafType, IsShort, inner_cost, leaf_key, leaves_and_levels, own_pages, pages_over, set_pages, set_type, spread_on}
+use Rattle.bdb_mkfile.proofs.Common.{spread_units, tree_size, EntryUnit, KeyedUnit, TreeUnit, chain_pages, has_own_tree, page_room, set_cost, unit_cost, value_cost, IsPairFor, bytes_in, is_in_order}
+use Rattle.bdb_mkfile.proofs.Common.{keyed_units, onto_units, name_in, IsNamed, name_entry, EntriesAreListed, EntriesTakePages, entries_from, entry_of, settings_of_master}
 use Rattle.std.proofs.lemmas.Simd.{map-map}
-use Rattle.bdb_io.specs.of_format.declared.kinds.Order.{Order}
-use Rattle.bdb_io.specs.of_format.declared.kinds.Order.TheVariants.{Big}
-use Rattle.bdb_io.specs.of_format.Terms.{ascends, ascends_from, less, pad4}
-use Rattle.bdb_io.proofs.of_format.SpellingLemmas.{length-spelled}
 use Rattle.bdb_need.specs.of_law_levels.declared.inner_type.InnerType.{InnerType}
 use Rattle.bdb_need.specs.of_law_levels.declared.inner_type.InnerType.TheVariants.{Keyed, Numbered}
-use Rattle.bdb_text_format.specs.declared.pairs.Pair.{Pair}
-use Rattle.bdb_text_format.specs.declared.pairs.Key.TheVariants.{Bytes}
-use Rattle.bdb_text_format.specs.declared.sections.Section.{Section}
-use Rattle.bdb_need.specs.of_mkleaves.declared.leaf_type.LeafType.{LeafType}
 use Rattle.bdb_need.specs.of_mkleaves.declared.leaf_type.LeafType.TheVariants.{Pairs}
 use Rattle.bdb_need.specs.of_mkleaves.Inner.{first_cost}
 use Rattle.bdb_need.specs.of_mkleaves.Laid.{inner_of}
-use Rattle.bdb_need.specs.of_mkleaves.Runs.{IsShort}
-use Rattle.bdb_need.specs.of_mkleaves.Spread.{inner_cost, leaf_key, leaves_and_levels, own_pages, pages_over, set_pages, set_type, spread_on, spread_units}
-use Rattle.bdb_need.specs.of_mkleaves.Spread.{tree_size}
-use Rattle.bdb_need.specs.of_mkleaves.Units.{EntryUnit, KeyedUnit, TreeUnit, chain_pages, has_own_tree, page_room, set_cost, unit_cost, value_cost}
 use Rattle.bdb_need.proofs.of_mkleaves.SpreadLemmas.{spread_map}
-use Rattle.bdb_need.specs.of_mktree.Lists.{IsPairFor, bytes_in, is_in_order, keyed_units, onto_units}
-use Rattle.bdb_need.specs.Need.{name_in}
-use Rattle.bdb_mkfile.specs.NamedImages.{IsNamed, name_entry}
-use Rattle.bdb_mkfile.specs.NamedLaws.{EntriesAreListed, EntriesTakePages}
-use Rattle.bdb_mkfile.specs.Layout.{entries_from, entry_of, settings_of_master}
 use Rattle.bdb_mkfile.proofs.NamingLemmas.{names_of}
 
 -- The list.
@@ -93,26 +73,19 @@ chain_blank size value = ap (λ n. if nat_le n (size / 8) then 0 else (n + page_
 -- a sum of what stays
 sum_stays : {A : Type 0} (f : A → ℕ) (g : A → A) (xs : List A) → ((x : A) → f (g x) ≡ f x) → sum_by f (map g xs) ≡ sum_by f xs
 sum_stays f g [] same = refl
-sum_stays f g (x ∷ xs) same =
-    omega (arith, sum_by-cons f (g x) (map g xs), sum_by-cons f x xs, same x, sum_stays f g xs same)
+sum_stays f g (x ∷ xs) same = omega (arith, sum_by-cons f (g x) (map g xs), sum_by-cons f x xs, same x, sum_stays f g xs same)
 
 -- Units.
 
 set_blank : (size : ℕ) (key : List ℕ) (values : List (List ℕ)) → set_cost size key (map blank_value values) ≡ set_cost size key values
-set_blank size key values =
-    ap (λ n. value_cost size key + n)
-    (sum_stays (λ value. 4 + value_cost size value) blank_value values (λ value. ap (λ n. 4 + n) (value_blank size value)))
+set_blank size key values = grind (arith, value_cost, sum_stays, value_blank)
 
 own_tree_blank : (size : ℕ) (key : List ℕ) (values : List (List ℕ))
     → has_own_tree size key (map blank_value values) ≡ has_own_tree size key values
-own_tree_blank size key values =
-    ap (λ n. nat_lt 1 n && nat_lt ((size - 26) / 4) (set_cost size key (map blank_value values))) (length-map values blank_value)
-    ∙ ap (λ n. nat_lt 1 (length values) && nat_lt ((size - 26) / 4) n) (set_blank size key values)
+own_tree_blank size key values = grind (arith, nat_lt, set_cost, length-map, set_blank)
 
 cost_blank : (size : ℕ) (unit : TreeUnit) → unit_cost size (blank_unit unit) ≡ unit_cost size unit
-cost_blank size (KeyedUnit key values) =
-    ap (λ b. cond b (value_cost size key + 16) (set_cost size key (map blank_value values))) (own_tree_blank size key values)
-    ∙ ap (λ n. cond (has_own_tree size key values) (value_cost size key + 16) n) (set_blank size key values)
+cost_blank size (KeyedUnit key values) = grind (arith, value_cost, set_cost, own_tree_blank, has_own_tree, set_blank)
 cost_blank size (EntryUnit value deleted) = ap (λ n. 2 + n) (value_blank size value)
 
 -- Leaves and levels.
@@ -142,14 +115,7 @@ pages_of type size leaves =
 
 pages_blank : (type : LeafType) (size : ℕ) (leaves : List (List TreeUnit))
     → pages_of type size (map (map blank_unit) leaves) ≡ pages_of type size leaves
-pages_blank type size leaves =
-    let item : List TreeUnit → ℕ = λ leaf. inner_cost (inner_of type) size (leaf_key leaf) in
-    let room : ℕ = page_room size in
-    let first : ℕ = first_cost (inner_of type) in
-    let items : map item (map (map blank_unit) leaves) ≡ map item leaves =
-    map-map item (map blank_unit) leaves ∙ ap (λ (f : List TreeUnit → ℕ). map f leaves) (fun_ext (item_blank (inner_of type) size)) in
-    ap (λ n. n + pages_over n room first (map item (map (map blank_unit) leaves))) (length-map leaves (map blank_unit))
-    ∙ ap (λ costs. length leaves + pages_over (length leaves) room first costs) items
+pages_blank type size leaves = grind (arith, TreeUnit, inner_cost, leaf_key, page_room, map-map, fun_ext, item_blank, pages_over, length-map)
 
 levels_blank : (type : LeafType) (size : ℕ) (units : List TreeUnit)
     → leaves_and_levels type size (map blank_unit units) ≡ leaves_and_levels type size units
@@ -180,37 +146,25 @@ own_blank size sorted (EntryUnit value deleted) = chain_blank size value
 
 tree_blank : (type : LeafType) (size : ℕ) (sorted : Bool) (units : List TreeUnit)
     → tree_size type size sorted (map blank_unit units) ≡ tree_size type size sorted units
-tree_blank type size sorted units =
-    omega (arith, sum_stays (own_pages size sorted) blank_unit units (own_blank size sorted), levels_blank type size units)
+tree_blank type size sorted units = omega (arith, sum_stays (own_pages size sorted) blank_unit units (own_blank size sorted), levels_blank type size units)
 
 -- The units of blank pairs are blank.
 
 with_blank : (key value : List ℕ) (units : List TreeUnit)
     → onto_units key (blank_value value) (map blank_unit units) ≡ map blank_unit (onto_units key value units)
 with_blank key value [] = refl
-with_blank key value (KeyedUnit other values ∷ units) = by_test (bytes_eq key other)
-  where
-    by_test : (b : Bool)
-        → cond b (KeyedUnit other (blank_value value ∷ map blank_value values) ∷ map blank_unit units)
-        (KeyedUnit key (blank_value value ∷ []) ∷ KeyedUnit other (map blank_value values) ∷ map blank_unit units)
-        ≡ map blank_unit (cond b (KeyedUnit other (value ∷ values) ∷ units) (KeyedUnit key (value ∷ []) ∷ KeyedUnit other values ∷ units))
-    by_test true = refl
-    by_test false = refl
+with_blank key value (KeyedUnit other values ∷ units) = grind (arith, bytes_eq, KeyedUnit)
 with_blank key value (EntryUnit other deleted ∷ units) = refl
 
 units_blank : (pairs : List Pair) → keyed_units (map blank_pair pairs) ≡ map blank_unit (keyed_units pairs)
 units_blank [] = refl
-units_blank (pair ∷ pairs) =
-    ap (onto_units (bytes_in pair.key) (blank_value pair.value)) (units_blank pairs)
-    ∙ with_blank (bytes_in pair.key) pair.value (keyed_units pairs)
+units_blank (pair ∷ pairs) = grind (arith, onto_units, bytes_in, with_blank, keyed_units, units_blank pairs)
 
 -- the entries of sections are those of their names with numbers in place of zeros
 entries_blank : (number : ℕ) (sections : List Section) → map blank_pair (entries_from number sections) ≡ map name_entry sections
 entries_blank number [] = refl
 entries_blank number (section ∷ sections) =
-    ap (λ n. let entry : Pair = record { key = Bytes (name_in section.name); value = replicate n 0 } in
-    entry ∷ map blank_pair (entries_from (number + 1) sections)) (length-spelled 4 Big number)
-    ∙ ap (λ entries. name_entry section ∷ entries) (entries_blank (number + 1) sections)
+    grind (arith, Pair, Bytes, name_in, entries_from, length-spelled, Big, name_entry, entries_blank (number + 1) sections)
 
 pub entries_take_pages : EntriesTakePages
 entries_take_pages size order number sections =

@@ -1,16 +1,8 @@
 -- An image whose page 0 is metadata that is written over it.
 use Rattle.std.proofs.Common.{◌≡◌, ℕ, ◌-◌, ◌*◌, List, [], ◌++◌, length, set, take, append_assoc, arith, sym, ◌∙◌, ap, subst}
-use Rattle.std.proofs.lemmas.List.{append-nil, length-set, take_at}
+use Rattle.bdb_mkfile.proofs.Common.{append-nil, length-set, take_at, Head, common_bytes, head_of, size_bounds, AreWhole, Built, joined_pages, with_page, all_size, page_whole, AreLegal, ReadsAs}
+use Rattle.bdb_mkfile.proofs.Common.{reads_common, IsImage, image_head, begins}
 use Rattle.bdb_io.specs.of_format.declared.metadata.FileKind.{FileKind}
-use Rattle.bdb_io.specs.of_format.declared.metadata.Head.{Head}
-use Rattle.bdb_io.specs.of_format.Terms.{common_bytes, head_of}
-use Rattle.bdb_io.proofs.of_format.SizeLemmas.{size_bounds}
-use Rattle.bdb_need.specs.of_pack.Built.{AreWhole, Built, joined_pages, with_page}
-use Rattle.bdb_need.proofs.of_pack.CutLemmas.{all_size, page_whole}
-use Rattle.bdb_need.specs.of_law_join.Written.{AreLegal}
-use Rattle.bdb_need.proofs.of_law_join.CommonLemmas.{ReadsAs, reads_common}
-use Rattle.bdb_need.proofs.of_law_join.HeadLemmas.{IsImage, image_head}
-use Rattle.bdb_need.proofs.of_mkqueue.WrittenLemmas.{begins}
 
 -- the image of pages after metadata of a kind is written over page 0
 pub record IsUnderMeta (built : Built) (kind : FileKind) (page image : List ℕ) : Type 0 where

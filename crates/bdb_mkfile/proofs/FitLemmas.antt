@@ -1,43 +1,15 @@
 -- Sections that are fit, short and without errors: an image can be built of their lists.
 use Rattle.std.proofs.Common.{◌≡◌, ℕ, ◌+◌, ◌-◌, ◌*◌, ◌≤◌, ◌^◌, true, false, List, [], ◌∷◌, length, map, get_or, Option, Some, None, refl, sym, ◌∙◌, ap, subst}
 use Rattle.std.proofs.Common.{arith, inl, inr, true≢false, ◌==◌, IsTrue, is_some, nat_lt, All}
-use Rattle.std.proofs.Math.Nat.{mul-le-mul_right}
-use Rattle.std.proofs.lemmas.Bool.Decides.{nat_tests}
-use Rattle.std.proofs.lemmas.List.Elements.{All-head, All-map}
-use Rattle.bdb_io.specs.of_format.declared.kinds.Kind.{Kind}
-use Rattle.bdb_io.specs.of_format.declared.kinds.Kind.TheVariants.{Btree, Recno, Hash, Queue}
-use Rattle.bdb_io.specs.of_format.declared.settings.Settings.{Settings}
-use Rattle.bdb_io.specs.of_format.Terms.{is_page_size, pad4}
-use Rattle.bdb_text_format.specs.declared.pairs.Pair.{Pair}
-use Rattle.bdb_text_format.specs.declared.pairs.Key.{Key}
-use Rattle.bdb_text_format.specs.declared.pairs.Key.TheVariants.{Bytes, Number}
-use Rattle.bdb_text_format.specs.declared.sections.Section.{Section}
-use Rattle.bdb_text_format.specs.Terms.{holds_records}
-use Rattle.bdb_law_sections.specs.Fit.{AreFit, AreFitSettings, AreNamedBehind, IsFitSection, is_number}
-use Rattle.bdb_need.specs.of_mkleaves.Runs.{IsShort}
-use Rattle.bdb_need.specs.of_mktree.Lists.{IsTreeList}
-use Rattle.bdb_need.specs.of_mktree.Units.{IsTreeKind}
-use Rattle.bdb_need.specs.of_mkhash.Table.{IsTableList}
-use Rattle.bdb_need.specs.of_mkqueue.Lists.{HasNext}
-use Rattle.bdb_need.specs.of_settle.ListLaw.{HasShortBytes, IsFit, IsKeyOf}
-use Rattle.bdb_need.specs.of_settle.LoadErrors.{load_error, page_size_in}
-use Rattle.bdb_need.specs.of_settle.Loaded.{filled_section, loaded, loaded_section, ordered_section, unnumbered}
-use Rattle.bdb_need.proofs.of_settle.FillingLemmas.{sections_filled}
-use Rattle.bdb_need.proofs.of_settle.ErrorLemmas.{sound_pairs}
-use Rattle.bdb_need.proofs.of_settle.ListLawLemmas.{load_into_lists}
-use Rattle.bdb_need.specs.TreePages.{unlined_pairs}
-use Rattle.bdb_need.specs.Need.{AreSettled, IsListOf, IsSettled, list_pages, name_in, need_of, sized}
-use Rattle.bdb_mkfile.specs.LoneImages.{queue_pages}
-use Rattle.bdb_mkfile.specs.Lists.{IsQueueAlone}
-use Rattle.bdb_mkfile.specs.Trees.{IsTreeSettings}
+use Rattle.bdb_mkfile.proofs.Common.{mul-le-mul_right, nat_tests, All-head, All-map, Kind, Btree, Recno, Hash, Queue, Settings, is_page_size, pad4, Pair, Key, Bytes, Number, Section, holds_records}
+use Rattle.bdb_mkfile.proofs.Common.{AreFit, AreFitSettings, AreNamedBehind, IsFitSection, is_number, IsShort, IsTreeList, IsTreeKind, IsTableList, HasNext, HasShortBytes, IsFit, IsKeyOf, load_error}
+use Rattle.bdb_mkfile.proofs.Common.{page_size_in, filled_section, loaded, loaded_section, ordered_section, unnumbered, sections_filled, sound_pairs, load_into_lists, unlined_pairs, AreSettled}
+use Rattle.bdb_mkfile.proofs.Common.{IsListOf, IsSettled, list_pages, name_in, need_of, sized, queue_pages, IsQueueAlone, IsTreeSettings, AreNamedSettings, IsNamed, AreApart, AreBuildable}
+use Rattle.bdb_mkfile.proofs.Common.{AreNamedApart, IsBuildable, IsUnnamedAlone, listed_again}
 use Rattle.bdb_mkfile.proofs.ListLemmas.{load_into_tables, queues_are_alone, records_are_few}
-use Rattle.bdb_mkfile.specs.NamedImages.{AreNamedSettings, IsNamed}
-use Rattle.bdb_mkfile.specs.Order.{AreApart}
-use Rattle.bdb_mkfile.specs.Settled.{AreBuildable, AreNamedApart, IsBuildable, IsUnnamedAlone}
 use Rattle.bdb_mkfile.proofs.AlikeLemmas.{list_alike}
 use Rattle.bdb_mkfile.proofs.ApartLemmas.{HasName, all_named, alone_unnamed, named_apart}
 use Rattle.bdb_mkfile.proofs.ShortLemmas.{HasShortList, loaded_short, settled_apart}
-use Rattle.bdb_need.proofs.NeedLemmas.{listed_again}
 
 -- Each section.
 
@@ -52,10 +24,7 @@ key_of Queue (Bytes bytes) is = absurd (cc is)
 key_of Queue (Number number) is = tt
 
 section_fits : (most : ℕ) (section : Section) → IsFitSection most section → IsFit section
-section_fits most section fit = record {
-  pairs = λ k d low. key_of section.settings.kind (get_or section.pairs k d).key (fit.pairs k d low).key;
-  sorted = fit.settings.sorted;
-}
+section_fits most section fit = grind (arith, key_of)
 
 -- what is so of a section among these when it is loaded
 pub record IsReady (sections : List Section) (section : Section) : Type 0 where
@@ -87,29 +56,15 @@ first_is_queue sections rest first section are queue = let same : first ∷ rest
 list_of_kind : (k : Kind) (sections rest : List Section) (first section : Section) → sections ≡ first ∷ rest → section.settings.kind ≡ k
     → IsReady sections section
     → IsListOf k (sized first.settings.page_size section) (loaded section.settings section.pairs)
-list_of_kind Btree sections rest first section are same ready =
-    list_alike section.settings (sized first.settings.page_size section) (loaded section.settings section.pairs)
-    (record { kind = refl; duplicates = refl; sorted = refl; fixed = λ recno. refl; re_len = λ recno. refl }) (ready.tree (inl same))
-list_of_kind Recno sections rest first section are same ready =
-    list_alike section.settings (sized first.settings.page_size section) (loaded section.settings section.pairs)
-    (record { kind = refl; duplicates = refl; sorted = refl; fixed = λ recno. refl; re_len = λ recno. refl }) (ready.tree (inr same))
-list_of_kind Hash sections rest first section are same ready =
-    list_alike (record section.settings { kind = Btree }) (record (sized first.settings.page_size section) { kind = Btree })
-    (loaded section.settings section.pairs)
-    (record { kind = refl; duplicates = refl; sorted = refl; fixed = λ recno. refl; re_len = λ recno. refl }) (ready.table same)
-list_of_kind Queue sections rest first section are same ready =
-    let alone : IsQueueAlone sections section = ready.queue same in
-    let size : section.settings.page_size ≡ first.settings.page_size =
-    ap (λ (s : Section). s.settings.page_size) (sym (first_is_queue sections rest first section are alone)) in
-    (subst (λ n. pad4 (section.settings.re_len + 1) ≤ n - 28) size alone.room, alone.ascend)
+list_of_kind Btree sections rest first section are same ready = grind (arith, list_alike, sized, loaded)
+list_of_kind Recno sections rest first section are same ready = grind (arith, list_alike, sized, loaded)
+list_of_kind Hash sections rest first section are same ready = grind (arith, list_alike, Btree, sized, loaded)
+list_of_kind Queue sections rest first section are same ready = grind (arith, IsQueueAlone, Section, first_is_queue, pad4)
 
 -- a section with its list, in the file of the first
 settled_list : (sections rest : List Section) (first section : Section) → sections ≡ first ∷ rest → IsReady sections section
     → IsListOf section.settings.kind (sized first.settings.page_size section) (unlined_pairs (map unnumbered (loaded section.settings section.pairs)))
-settled_list sections rest first section are ready =
-    subst (λ ps. IsListOf section.settings.kind (sized first.settings.page_size section) ps)
-    (sym (listed_again (loaded section.settings section.pairs)))
-    (list_of_kind section.settings.kind sections rest first section are refl ready)
+settled_list sections rest first section are ready = grind (arith, IsListOf, sized, listed_again, loaded, list_of_kind)
 
 -- All sections.
 
@@ -156,13 +111,7 @@ are_settled sections settled loading =
 -- A section alone, without a name.
 
 tree_settings : (settings : Settings) → IsTreeKind settings.kind → AreFitSettings settings → IsTreeSettings settings
-tree_settings settings kind fit = record {
-  kind = kind;
-  page_size = fit.page_size;
-  sorted = fit.sorted;
-  counted = fit.counted;
-  records = λ recno. fit.records (ap holds_records recno);
-}
+tree_settings settings kind fit = grind (arith, holds_records)
 
 buildable_kind : (k : Kind) (sections : List Section) (section : Section) → section.settings.kind ≡ k → IsReady sections section
     → (k ≡ Queue → queue_pages section.settings (loaded section.settings section.pairs) * section.settings.page_size ≤ 2 ^ 30)
@@ -170,20 +119,12 @@ buildable_kind : (k : Kind) (sections : List Section) (section : Section) → se
 buildable_kind Btree sections section same ready few = (tree_settings section.settings (inl same) ready.settings, ready.tree (inl same))
 buildable_kind Recno sections section same ready few = (tree_settings section.settings (inr same) ready.settings, ready.tree (inr same))
 buildable_kind Hash sections section same ready few = (ready.settings.page_size, ready.settings.sorted, ready.table same)
-buildable_kind Queue sections section same ready few =
-    let alone : IsQueueAlone sections section = ready.queue same in
-    let list : List Pair = loaded section.settings section.pairs in
-    let next : All HasNext list = records_are_few section.settings list ready.settings.page_size alone.room alone.ascend (few refl) in
-    (ready.settings.page_size, alone.room, record { ascend = alone.ascend; few = next; long = alone.long })
+buildable_kind Queue sections section same ready few = grind (arith, IsQueueAlone, Pair, loaded, All, HasNext, records_are_few)
 
 -- a queue alone has no more pages than are needed
 queue_needs : (first : Section) → first.settings.kind ≡ Queue
     → queue_pages first.settings (loaded first.settings first.pairs) ≤ need_of (map loaded_section (first ∷ []))
-queue_needs first queue =
-    let list : List Pair = loaded first.settings first.pairs in
-    let same : list_pages first.settings.kind first.settings (unlined_pairs (map unnumbered list)) ≡ queue_pages first.settings list =
-    ap (list_pages first.settings.kind first.settings) (listed_again list) ∙ ap (λ k. list_pages k first.settings list) queue in
-    omega (arith, same)
+queue_needs first queue = grind (arith, Pair, loaded, list_pages, unlined_pairs, unnumbered, queue_pages, listed_again)
 
 -- what is needed has no more bytes than there may be
 pub record IsWithin (max pages : ℕ) (settled : List Section) : Type 0 where
@@ -194,12 +135,7 @@ pub record IsWithin (max pages : ℕ) (settled : List Section) : Type 0 where
 queue_few : (max pages : ℕ) (settled : List Section) (first : Section) → settled ≡ map loaded_section (first ∷ []) → IsWithin max pages settled
     → first.settings.kind ≡ Queue → queue_pages first.settings (loaded first.settings first.pairs) * first.settings.page_size ≤ 2 ^ 30
 queue_few max pages settled first are within queue =
-    let needed : pages ≡ need_of (map loaded_section (first ∷ [])) = within.pages_are ∙ ap need_of are in
-    let low : queue_pages first.settings (loaded first.settings first.pairs) ≤ pages = omega (arith, needed, queue_needs first queue) in
-    let test : nat_lt max (pages * first.settings.page_size) ≡ false = sym (ap (λ ss. nat_lt max (pages * page_size_in ss)) are) ∙ within.within in
-    let bytes : pages * first.settings.page_size ≤ max = grind (arith, nat_tests) in
-    let more : queue_pages first.settings (loaded first.settings first.pairs) * first.settings.page_size ≤ pages * first.settings.page_size =
-    mul-le-mul_right first.settings.page_size low in omega (arith, bytes, more, within.max_low)
+    grind (arith, need_of, loaded_section, queue_pages, loaded, queue_needs, nat_lt, page_size_in, nat_tests, mul-le-mul_right)
 
 unnamed_alone : (max pages : ℕ) (sections settled rest : List Section) (first : Section) → sections ≡ first ∷ rest
     → settled ≡ map loaded_section sections → IsReady sections first → rest ≡ [] → IsWithin max pages settled
@@ -219,27 +155,10 @@ unnamed_alone max pages sections settled rest first are lists ready none within 
 
 named_settings : (k : Kind) (size : ℕ) (sections : List Section) (section : Section) → section.settings.kind ≡ k → IsTrue (is_page_size size)
     → IsReady sections section → HasName section → AreNamedSettings (sized size (loaded_section section))
-named_settings Btree size sections section same legal ready has =
-    let fit = ready.settings in
-    inl (record {
-      kind = inl same;
-      page_size = legal;
-      sorted = fit.sorted;
-      counted = fit.counted;
-      records = λ recno. fit.records (ap holds_records recno);
-    })
-named_settings Recno size sections section same legal ready has =
-    let fit = ready.settings in
-    inl (record {
-      kind = inr same;
-      page_size = legal;
-      sorted = fit.sorted;
-      counted = fit.counted;
-      records = λ recno. fit.records (ap holds_records recno);
-    })
+named_settings Btree size sections section same legal ready has = grind (arith, holds_records)
+named_settings Recno size sections section same legal ready has = grind (arith, holds_records)
 named_settings Hash size sections section same legal ready has = inr (same, ready.settings.sorted)
-named_settings Queue size sections section same legal ready has =
-    absurd (true≢false (sym has ∙ ap is_some (ready.queue same).unnamed))
+named_settings Queue size sections section same legal ready has = absurd (true≢false (sym has ∙ ap is_some (ready.queue same).unnamed))
 
 -- a name that there is
 record IsNameOf (name : Option (List ℕ)) : Type 0 where

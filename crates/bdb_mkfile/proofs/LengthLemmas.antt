@@ -1,10 +1,7 @@
 -- Whether all pairs are short, one after the other.
 use Rattle.std.proofs.Common.{◌≡◌, ℕ, ◌+◌, ◌≤◌, Bool, true, List, Some, slice_get, drop, length, ◌∙◌, ap, sym, ◌&&◌}
-use Rattle.std.specs.List.{list_all}
-use Rattle.std.proofs.lemmas.List.{drop_all, drop_more}
+use Rattle.bdb_mkfile.proofs.Common.{list_all, drop_all, drop_more, TextPair, is_short_pair}
 use Rattle.std.proofs.lemmas.Option.{get_or_from_slice_get, slice_get_within}
-use Rattle.bdb_text_format.specs.declared.pairs.TextPair.{TextPair}
-use Rattle.bdb_mkfile.specs.Lengths.{is_short_pair}
 
 pub all_on : (pairs : List TextPair) (i : ℕ) (pair : TextPair) (short : Bool) → slice_get pairs i ≡ Some pair → short ≡ is_short_pair pair
     → list_all is_short_pair (drop i pairs) ≡ (short && list_all is_short_pair (drop (i + 1) pairs))

@@ -1,34 +1,17 @@
 -- Lists that are loaded without errors are such that tables and queues can be built of them.
-use Rattle.std.proofs.Common.{◌≡◌, ℕ, ◌+◌, ◌-◌, ◌*◌, ◌<◌, ◌≤◌, ◌^◌, Bool, true, false, not, List, [], ◌∷◌, ◌++◌, length, map, get_or, Option, Some, None, refl}
+use Rattle.std.proofs.Common.{◌≡◌, ℕ, ◌+◌, ◌-◌, ◌*◌, ◌<◌, ◌≤◌, ◌^◌, Bool, true, false, List, [], ◌∷◌, ◌++◌, length, map, get_or, Option, Some, None, refl}
 use Rattle.std.proofs.Common.{sym, ◌∙◌, ap, subst, arith, inl, ◌&&◌, ◌||◌, ◌==◌, ◌/◌, nat_lt, is_some, All, flat_map}
-use Rattle.std.specs.Cmp.Derive.{both_true}
-use Rattle.std.proofs.Math.Nat.{div-mul-le_self, lt-div-mul-add, mul-le-mul_left}
-use Rattle.std.proofs.lemmas.Bool.Decides.{nat_tests}
-use Rattle.std.proofs.lemmas.Nat.{le-div}
-use Rattle.std.proofs.lemmas.List.Elements.{All-cons, All-head, All-nil, All-tail, All-weaker}
+use Rattle.bdb_mkfile.proofs.Common.{both_true, div-mul-le_self, lt-div-mul-add, mul-le-mul_left, nat_tests, le-div, All-cons, All-head, All-nil, All-tail, All-weaker, Btree, Hash, Queue, Settings}
+use Rattle.bdb_mkfile.proofs.Common.{less, pad4, Pair, Key, Bytes, Number, TextPair, Section, AscendFrom, holds_records, is_queue, number_of, HasNumber, HasShortBytes, IsFit, IsKeyOf, header_errors}
+use Rattle.bdb_mkfile.proofs.Common.{is_among_names, is_too_wide, load_error, page_size_in, pair_errors, section_errors, where_so, QueueAmongNames, RecordTooLong, RecordZero, loaded_pair, keeps_data}
+use Rattle.bdb_mkfile.proofs.Common.{loaded, sorts_data, stands_before, IsSound, sound_pairs, both_empty, each_empty, not_so, load_into_lists, by_numbers, filled_length, Ordered, OrderedFrom}
+use Rattle.bdb_mkfile.proofs.Common.{fold_all, fold_ordered, follows, IsTableList, HasLength, HasNext, IsQueueList, next_number, LoadIntoQueues, LoadIntoTables, QueuesAreAlone, RecordsAreFew, TextHasNext}
 use Rattle.std.proofs.Math.Bool.{and-false}
-use Rattle.bdb_io.specs.of_format.declared.kinds.Kind.TheVariants.{Btree, Hash, Queue}
-use Rattle.bdb_io.specs.of_format.declared.settings.Settings.{Settings}
-use Rattle.bdb_io.specs.of_format.Terms.{less, pad4}
-use Rattle.bdb_text_format.specs.declared.pairs.Pair.{Pair}
-use Rattle.bdb_text_format.specs.declared.pairs.Key.{Key}
-use Rattle.bdb_text_format.specs.declared.pairs.Key.TheVariants.{Bytes, Number}
-use Rattle.bdb_text_format.specs.declared.pairs.TextPair.{TextPair}
-use Rattle.bdb_text_format.specs.declared.sections.Section.{Section}
-use Rattle.bdb_text_format.specs.Terms.{AscendFrom, holds_records, is_queue, number_of}
-use Rattle.bdb_need.specs.of_mktree.Lists.{HasNumber, IsTreeList as IsTreeListFor}
-use Rattle.bdb_need.specs.of_settle.ListLaw.{HasShortBytes, IsFit, IsKeyOf}
-use Rattle.bdb_need.specs.of_settle.LoadErrors.{header_errors, is_among_names, is_too_wide, is_zero, load_error, page_size_in, pair_errors, section_errors}
-use Rattle.bdb_need.specs.of_settle.LoadErrors.{where_so}
-use Rattle.bdb_need.specs.of_settle.declared.load_error.LoadError.TheVariants.{QueueAmongNames, RecordTooLong, RecordZero}
-use Rattle.bdb_need.specs.of_settle.Loaded.{loaded_pair, keeps_data, loaded, sorts_data, stands_before}
-use Rattle.bdb_need.proofs.of_settle.ErrorLemmas.{IsSound, sound_pairs, both_empty, each_empty, no_errors as none_hold, not_so}
-use Rattle.bdb_need.proofs.of_settle.ListLawLemmas.{load_into_lists, by_numbers, filled_length, positive as positive_of}
-use Rattle.bdb_need.proofs.of_settle.OrderedLemmas.{Ordered, OrderedFrom, fold_all, fold_ordered, follows}
-use Rattle.bdb_need.specs.of_mkhash.Table.{IsTableList}
-use Rattle.bdb_need.specs.of_mkqueue.Lists.{HasLength, HasNext, IsQueueList, next_number}
+use Rattle.bdb_need.specs.of_mktree.Lists.{IsTreeList as IsTreeListFor}
+use Rattle.bdb_need.specs.of_settle.LoadErrors.{is_zero}
+use Rattle.bdb_need.proofs.of_settle.ErrorLemmas.{no_errors as none_hold}
+use Rattle.bdb_need.proofs.of_settle.ListLawLemmas.{positive as positive_of}
 use Rattle.bdb_need.proofs.of_mkqueue.RecordLemmas.{next_low}
-use Rattle.bdb_mkfile.specs.Lists.{LoadIntoQueues, LoadIntoTables, QueuesAreAlone, RecordsAreFew, TextHasNext}
 
 -- Errors.
 
@@ -39,10 +22,7 @@ as_btree settings = record settings { kind = Btree }
 
 -- a key that is no record of number 0 has no error there
 btree_sound : (settings : Settings) (pair : TextPair) → IsSound settings pair → IsSound (as_btree settings) pair
-btree_sound settings pair sound = record {
-  short = ap (λ b. b && nat_lt settings.re_len (length pair.value)) (and-false settings.fixed);
-  number = sound.number;
-}
+btree_sound settings pair sound = grind (arith, nat_lt, and-false)
 
 no_pair_errors : (settings : Settings) (pairs : List TextPair) → All (IsSound settings) pairs → flat_map (pair_errors settings) pairs ≡ []
 no_pair_errors settings [] sound = refl
@@ -58,19 +38,10 @@ abbrev btree_section : Section → Section
 btree_section section = record section { settings = as_btree section.settings; name = None }
 
 no_errors : (section : Section) → All (IsSound section.settings) section.pairs → load_error (btree_section section ∷ []) ≡ None
-no_errors section sound =
-    let settings : Settings = as_btree section.settings in
-    let none : flat_map (pair_errors settings) section.pairs ≡ [] =
-    no_pair_errors settings section.pairs
-    (All-weaker (IsSound section.settings) (IsSound settings) (btree_sound section.settings) section.pairs sound) in
-    rw none refl
+no_errors section sound = grind (arith, Settings, flat_map, pair_errors, no_pair_errors, All-weaker, IsSound, btree_sound)
 
 btree_fits : (section : Section) → section.settings.kind ≡ Hash → IsFit section → IsFit (btree_section section)
-btree_fits section hash fit = record {
-  pairs = All-weaker (λ (pair : TextPair). IsKeyOf section.settings.kind pair.key) (λ (pair : TextPair). IsKeyOf Btree pair.key)
-      (λ pair key. subst (λ k. IsKeyOf k pair.key) hash key) section.pairs fit.pairs;
-  sorted = fit.sorted;
-}
+btree_fits section hash fit = grind (arith, All-weaker, TextPair, IsKeyOf, Btree)
 
 loads_alike : (settings : Settings) (pairs : List TextPair) → settings.kind ≡ Hash → loaded settings pairs ≡ loaded (as_btree settings) pairs
 loads_alike settings pairs hash = ap (λ k. loaded (record settings { kind = k }) pairs) hash
@@ -101,13 +72,7 @@ pub record IsRecord (re_len : ℕ) (pair : Pair) : Type 0 where
 
 is_record : (settings : Settings) (pair : TextPair) → settings.kind ≡ Queue → settings.fixed ≡ true → IsKeyOf settings.kind pair.key
     → IsSound settings pair → IsRecord settings.re_len (loaded_pair settings pair)
-is_record settings pair queue fixed key sound =
-    let numbered : HasNumber pair.key = subst (λ k. IsKeyOf k pair.key) queue key in
-    record {
-      numbered = numbered;
-      positive = positive_of pair.key numbered sound.number;
-      long = filled_length settings pair.value (both_true fixed (ap holds_records queue)) sound.short;
-    }
+is_record settings pair queue fixed key sound = grind (arith, HasNumber, IsKeyOf, filled_length, both_true, holds_records)
 
 are_records : (settings : Settings) (pairs : List TextPair) → settings.kind ≡ Queue → settings.fixed ≡ true
     → All (λ (pair : TextPair). IsKeyOf settings.kind pair.key) pairs
@@ -131,12 +96,7 @@ above_last : (settings : Settings) (a b : Key) (first then : List ℕ) → setti
 above_last settings (Bytes bytes) b first then queue has_a has_b after = absurd has_a
 above_last settings (Number m) (Bytes bytes) first then queue has_a has_b after = absurd has_b
 above_last settings (Number m) (Number n) first then queue has_a has_b after =
-    let sorts : sorts_data settings ≡ false = ap (λ k. settings.sorted && not (holds_records k)) queue ∙ and-false settings.sorted in
-    let keeps : keeps_data settings ≡ false =
-    ap (λ k. settings.duplicates && not settings.sorted && not (holds_records k)) queue ∙ and-false (settings.duplicates && not settings.sorted) in
-    let test : nat_lt m n ≡ true =
-    by_numbers (nat_lt m n) (nat_lt n m) (sorts_data settings) (keeps_data settings) (less first then) (less then first) sorts keeps after in
-    grind (arith, nat_tests)
+    grind (arith, sorts_data, holds_records, and-false, keeps_data, nat_lt, by_numbers, less, nat_tests)
 
 ascend_from : (settings : Settings) (pair : Pair) (pairs : List Pair) → settings.kind ≡ Queue → All (IsRecord settings.re_len) (pair ∷ pairs)
     → OrderedFrom (stands_before settings) (keeps_data settings) pair pairs → AscendFrom (number_of pair.key + 1) pairs
@@ -201,14 +161,7 @@ pub record HasSoundHeader (size : ℕ) (alone : Bool) (section : Section) : Type
   pub apart : is_among_names alone section ≡ false
 
 sound_header : (size : ℕ) (alone : Bool) (section : Section) → header_errors size alone section ≡ [] → HasSoundHeader size alone section
-sound_header size alone section none =
-    let wide = where_so (is_too_wide size section.settings) (RecordTooLong section.header_line) in
-    let among = where_so (is_among_names alone section) (QueueAmongNames section.header_line) in
-    let parts = both_empty wide among none in
-    record {
-      narrow = not_so (is_too_wide size section.settings) (RecordTooLong section.header_line) parts.0;
-      apart = not_so (is_among_names alone section) (QueueAmongNames section.header_line) parts.1;
-    }
+sound_header size alone section none = grind (arith, where_so, is_too_wide, RecordTooLong, is_among_names, QueueAmongNames, both_empty, not_so)
 
 -- where no section has an error, no header of one has
 sound_headers : (sections : List Section) → load_error sections ≡ None → All (HasSoundHeader (page_size_in sections) (length sections == 1)) sections
@@ -222,35 +175,14 @@ sound_headers sections none =
 
 queue_header : (size : ℕ) (alone : Bool) (section : Section) → section.settings.kind ≡ Queue → HasSoundHeader size alone section
     → (pad4 (section.settings.re_len + 1) ≤ size - 28) × (section.name ≡ None) × (alone ≡ true)
-queue_header size alone section queue sound =
-    let narrow : nat_lt (size - 28) (pad4 (section.settings.re_len + 1)) ≡ false =
-    sym (ap (λ k. is_queue k && nat_lt (size - 28) (pad4 (section.settings.re_len + 1))) queue) ∙ sound.narrow in
-    let apart : (is_some section.name || not alone) ≡ false =
-    sym (ap (λ k. is_queue k && (is_some section.name || not alone)) queue) ∙ sound.apart in (
-      at_most (size - 28) (pad4 (section.settings.re_len + 1)) narrow,
-      no_name section.name (not alone) apart,
-      is_alone section.name alone apart,
-    )
-  where
-    at_most : (a b : ℕ) → nat_lt a b ≡ false → b ≤ a
-    at_most a b is = grind (arith, nat_tests)
-
-    no_name : (name : Option (List ℕ)) (b : Bool) → (is_some name || b) ≡ false → name ≡ None
-    no_name None b is = refl
-    no_name (Some name) b is = absurd cc
-
-    is_alone : (name : Option (List ℕ)) (b : Bool) → (is_some name || not b) ≡ false → b ≡ true
-    is_alone name true is = refl
-    is_alone None false is = absurd cc
-    is_alone (Some name) false is = absurd cc
+queue_header size alone section queue sound = grind (arith, nat_lt, pad4, is_queue, is_some, nat_tests, Option, None, Some)
 
 -- the only one of sections
 only_one : (sections : List Section) (k : ℕ) (d : Section) → k < length sections → (length sections == 1) ≡ true → sections ≡ get_or sections k d ∷ []
 only_one [] k d low one = absurd (omega arith)
 only_one (section ∷ []) k d low one =
     let first : k ≡ 0 = omega arith in ap (λ i. get_or (section ∷ []) i d ∷ []) (sym first)
-only_one (section ∷ other ∷ others) k d low one =
-    absurd (let is : length (section ∷ other ∷ others) ≡ 1 = grind (arith, nat_tests) in omega (arith, is))
+only_one (section ∷ other ∷ others) k d low one = absurd (let is : length (section ∷ other ∷ others) ≡ 1 = grind (arith, nat_tests) in omega (arith, is))
 
 pub queues_are_alone : QueuesAreAlone
 queues_are_alone sections none k d low queue fixed fit =
@@ -277,17 +209,10 @@ next_fits least (pair ∷ pairs) ascend low =
 
 -- a page has no more records than a quarter of its bytes
 quarter : (size slot : ℕ) → 4 ≤ slot → (size - 28) / slot * 4 ≤ size
-quarter size slot low =
-    let all : (size - 28) / slot * slot ≤ size - 28 = div-mul-le_self (size - 28) slot in
-    let more : (size - 28) / slot * 4 ≤ (size - 28) / slot * slot = mul-le-mul_left ((size - 28) / slot) low in omega (arith, all, more)
+quarter size slot low = grind (arith, div-mul-le_self, mul-le-mul_left)
 
 few_numbers : (number per_page size : ℕ) → 1 ≤ per_page → per_page * 4 ≤ size → (1 + (number - 1) / per_page) * size ≤ 2 ^ 30 → number < 2 ^ 32 - 1
-few_numbers number per_page size some room few =
-    let q : ℕ = (number - 1) / per_page in
-    let below : number - 1 < q * per_page + per_page = lt-div-mul-add {a = number - 1} {b = per_page} some in
-    let whole : (1 + q) * (per_page * 4) ≤ (1 + q) * size = mul-le-mul_left (1 + q) room in
-    let same : (1 + q) * (per_page * 4) ≡ (q * per_page + per_page) * 4 = omega arith in
-    omega (arith, below, whole, same, few)
+few_numbers number per_page size some room few = grind (arith, lt-div-mul-add, mul-le-mul_left)
 
 pub records_are_few : RecordsAreFew
 records_are_few settings [] legal room ascend few = All-nil HasNext

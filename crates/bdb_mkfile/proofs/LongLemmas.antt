@@ -1,72 +1,29 @@
 -- Where the pages of an image have few bytes, so have the keys and data of its lists.
-use Rattle.std.proofs.Common.{◌≡◌, ◌⊎◌, ℕ, ◌+◌, ◌-◌, ◌*◌, ◌<◌, ◌≤◌, ◌^◌, Bool, true, false, cond, List, [], ◌∷◌, length, map, arith, refl, ap, subst, inl, inr}
-use Rattle.std.proofs.Common.{◌/◌, nat_le, replicate, All, sum_by}
-use Rattle.std.specs.Str.{bytes_eq}
-use Rattle.std.proofs.Math.Nat.{lt-div-mul-add, mul-le-mul_left, mul-le-mul_right}
-use Rattle.std.proofs.lemmas.Bool.Decides.{nat_tests}
-use Rattle.std.proofs.lemmas.Bool.{cases_Bool, le-leb}
-use Rattle.std.proofs.lemmas.List.Elements.{All-cons, All-head, All-nil, All-tail, All-weaker}
-use Rattle.std.proofs.lemmas.List.Folds.{fold-map}
-use Rattle.std.proofs.lemmas.List.Sums.{sum_by-append, sum_by-cons}
-use Rattle.bdb_io.specs.of_format.declared.kinds.Kind.TheVariants.{Btree, Recno, Hash}
-use Rattle.bdb_io.specs.of_format.declared.settings.Settings.{Settings}
-use Rattle.bdb_io.specs.of_format.Terms.{is_page_size}
-use Rattle.bdb_io.proofs.of_format.LessLemmas.{eq_same}
-use Rattle.bdb_io.proofs.of_format.SizeLemmas.{size_bounds}
-use Rattle.bdb_text_format.specs.declared.pairs.Pair.{Pair}
-use Rattle.bdb_text_format.specs.declared.pairs.Key.{Key}
-use Rattle.bdb_text_format.specs.declared.pairs.Key.TheVariants.{Bytes, Number}
+use Rattle.std.proofs.Common.{◌≡◌, ◌⊎◌, ℕ, ◌+◌, ◌-◌, ◌*◌, ◌<◌, ◌≤◌, ◌^◌, Bool, true, false, cond, List, [], ◌∷◌, length, arith, refl, ap, subst, inl, inr, ◌/◌, nat_le, replicate, All, sum_by}
+use Rattle.bdb_mkfile.proofs.Common.{bytes_eq, lt-div-mul-add, mul-le-mul_left, mul-le-mul_right, nat_tests, cases_Bool, le-leb, All-cons, All-head, All-nil, All-tail, All-weaker, fold-map}
+use Rattle.bdb_mkfile.proofs.Common.{sum_by-append, sum_by-cons, Btree, Recno, Hash, Settings, is_page_size, eq_same, size_bounds, Pair, Key, Bytes, Number, leaves_and_levels, own_pages, set_pages}
+use Rattle.bdb_mkfile.proofs.Common.{set_type, EntryUnit, KeyedUnit, TreeUnit, chain_pages, has_own_tree, key_of, HasNumber, bytes_in, keyed_units, missing, onto_units, record_units, number_of}
+use Rattle.bdb_mkfile.proofs.Common.{keyed_of, table_units, data_form, keyed_own_pages, pages_in, stand_together, HasShortBytes, list_pages}
 use Rattle.bdb_need.specs.of_mkleaves.Placed.{values_in}
-use Rattle.bdb_need.specs.of_mkleaves.Spread.{leaves_and_levels, own_pages, set_pages, set_type}
-use Rattle.bdb_need.specs.of_mkleaves.Units.{EntryUnit, KeyedUnit, TreeUnit, chain_pages, has_own_tree, key_of}
-use Rattle.bdb_need.specs.of_mktree.Lists.{HasNumber, bytes_in, keyed_units, missing, onto_units, record_units}
-use Rattle.bdb_text_format.specs.Terms.{number_of}
-use Rattle.bdb_need.specs.of_mkhash.Buckets.{keyed_of, table_units}
-use Rattle.bdb_need.specs.of_mkhash.Costs.{data_form, keyed_own_pages, pages_in, stand_together}
 use Rattle.bdb_need.proofs.of_mkhash.CostLemmas.{together_inline}
-use Rattle.bdb_need.specs.of_settle.ListLaw.{HasShortBytes}
-use Rattle.bdb_need.specs.Need.{list_pages}
 
 -- One value.
 
 -- a value has no more bytes than the pages of its chain, or than a page
 pub few_bytes : (size pages : ℕ) (value : List ℕ) → is_page_size size ≡ true → chain_pages size value ≤ pages → pages * size ≤ 2 ^ 30
     → length value < 2 ^ 32
-few_bytes size pages value legal held few = by_test (nat_le (length value) (size / 8)) refl held
-  where
-    bounds : (512 ≤ size) × (size ≤ 32768)
-    bounds = size_bounds size legal
-
-    by_test : (b : Bool) → nat_le (length value) (size / 8) ≡ b → cond b 0 ((length value + (size - 26) - 1) / (size - 26)) ≤ pages → length value < 2 ^ 32
-    by_test true is held =
-        let within : length value ≤ size / 8 = grind (arith, nat_tests) in
-        let most = bounds.1 in omega (arith, within, most)
-    by_test false is held =
-        let room : ℕ = size - 26 in
-        let least = bounds.0 in
-        let below : length value + room - 1 < (length value + room - 1) / room * room + room =
-        lt-div-mul-add {a = length value + room - 1} {b = room} (omega (arith, least)) in
-        let part : (length value + room - 1) / room * room ≤ pages * room = mul-le-mul_right room held in
-        let whole : pages * room ≤ pages * size = mul-le-mul_left pages (omega arith) in
-        let most = bounds.1 in
-        omega (arith, below, part, whole, few, most)
+few_bytes size pages value legal held few = grind (arith, nat_le, size_bounds, nat_tests, lt-div-mul-add, mul-le-mul_right, mul-le-mul_left)
 
 -- Sums.
 
 -- a part of a sum is no more than it
 pub in_sum : {X : Type 0} (f : X → ℕ) (xs : List X) → All (λ x. f x ≤ sum_by f xs) xs
 in_sum f [] = All-nil (λ x. f x ≤ sum_by f [])
-in_sum f (x ∷ xs) =
-    let sum = sum_by-cons f x xs in
-    All-cons (λ y. f y ≤ sum_by f (x ∷ xs)) x xs (omega (arith, sum))
-    (All-weaker (λ y. f y ≤ sum_by f xs) (λ y. f y ≤ sum_by f (x ∷ xs)) (λ y low. omega (arith, sum, low)) xs (in_sum f xs))
+in_sum f (x ∷ xs) = grind (arith, sum_by-cons, All-cons, sum_by, All-weaker, in_sum f xs)
 
 sum_low : {X : Type 0} (f g : X → ℕ) → ((x : X) → f x ≤ g x) → (xs : List X) → sum_by f xs ≤ sum_by g xs
 sum_low f g each [] = omega arith
-sum_low f g each (x ∷ xs) =
-    let one = each x in
-    let rest = sum_low f g each xs in
-    omega (arith, one, rest, sum_by-cons f x xs, sum_by-cons g x xs)
+sum_low f g each (x ∷ xs) = grind (arith, sum_by-cons, sum_low f g each xs)
 
 -- Units.
 
@@ -75,22 +32,14 @@ abbrev chains : ℕ → TreeUnit → ℕ
 chains size unit = chain_pages size (key_of unit) + sum_by (chain_pages size) (values_in unit)
 
 set_holds : (size : ℕ) (sorted : Bool) (values : List (List ℕ)) → sum_by (chain_pages size) values ≤ set_pages size sorted values
-set_holds size sorted values =
-    let n : ℕ = leaves_and_levels (set_type sorted) size (map (λ value. EntryUnit value false) values) in
-    let whole : set_pages size sorted values ≡ sum_by (chain_pages size) values + n = refl in omega (arith, whole)
+set_holds size sorted values = grind (arith, leaves_and_levels, set_type, EntryUnit, set_pages, sum_by, chain_pages)
 
 no_chain : (size : ℕ) → chain_pages size [] ≡ 0
 no_chain size = ap (λ b. cond b 0 ((0 + (size - 26) - 1) / (size - 26))) (le-leb 0 (size / 8) (omega arith))
 
 -- are among the pages of its own in a tree
 own_holds : (size : ℕ) (sorted : Bool) (unit : TreeUnit) → chains size unit ≤ own_pages size sorted unit
-own_holds size sorted (KeyedUnit key values) = by_test (has_own_tree size key values) (set_holds size sorted values)
-  where
-    by_test : (b : Bool) → sum_by (chain_pages size) values ≤ set_pages size sorted values
-        → chain_pages size key + sum_by (chain_pages size) values
-        ≤ chain_pages size key + cond b (set_pages size sorted values) (sum_by (chain_pages size) values)
-    by_test true set = omega (arith, set)
-    by_test false set = omega arith
+own_holds size sorted (KeyedUnit key values) = grind (arith, has_own_tree, set_holds, sum_by, chain_pages, set_pages)
 own_holds size sorted (EntryUnit value deleted) = let none = no_chain size in omega (arith, none)
 
 -- a value in its item has no chain
@@ -126,9 +75,7 @@ IsHeld size pages pair = (chain_pages size (bytes_in pair.key) ≤ pages) × (ch
 onto_holds : (size : ℕ) (key value : List ℕ) (units : List TreeUnit)
     → (chain_pages size key ≤ sum_by (chains size) (onto_units key value units))
     × (chain_pages size value + sum_by (chains size) units ≤ sum_by (chains size) (onto_units key value units))
-onto_holds size key value [] =
-    let one = sum_by-cons (chains size) (KeyedUnit key (value ∷ [])) [] in
-    let two = sum_by-cons (chain_pages size) value [] in (omega (arith, one, two), omega (arith, one, two))
+onto_holds size key value [] = grind (arith, sum_by-cons, KeyedUnit, chain_pages)
 onto_holds size key value (KeyedUnit other values ∷ units) = by_test (bytes_eq key other) refl
   where
     by_test : (b : Bool) → bytes_eq key other ≡ b
@@ -182,17 +129,11 @@ no_bytes (Number number) has = refl
 -- Lists whose pages have few bytes.
 
 short_held : (size pages : ℕ) (pair : Pair) → is_page_size size ≡ true → pages * size ≤ 2 ^ 30 → IsHeld size pages pair → HasShortBytes pair
-short_held size pages pair legal few held = record {
-  key = few_bytes size pages (bytes_in pair.key) legal held.0 few;
-  value = few_bytes size pages pair.value legal held.1 few;
-}
+short_held size pages pair legal few held = grind (arith, few_bytes, bytes_in)
 
 short_pairs : (size held pages : ℕ) (pairs : List Pair) → is_page_size size ≡ true → held ≤ pages → pages * size ≤ 2 ^ 30
     → All (IsHeld size held) pairs → All HasShortBytes pairs
-short_pairs size held pages pairs legal low few all =
-    All-weaker (IsHeld size held) HasShortBytes
-    (λ pair is. short_held size pages pair legal few
-    (let key = is.0 in omega (arith, key, low), let value = is.1 in omega (arith, value, low))) pairs all
+short_pairs size held pages pairs legal low few all = grind (arith, All-weaker, HasShortBytes, short_held)
 
 -- the list of a btree or of a hash
 pub short_keyed : (settings : Settings) (pages : ℕ) (list : List Pair) → is_page_size settings.page_size ≡ true → pages * settings.page_size ≤ 2 ^ 30

@@ -1,14 +1,7 @@
 -- The pairs of the master, in the order of the sections or of their names.
-use Rattle.std.proofs.Common.{◌≡◌, ℕ, Bool, true, false, cond, not, List, [], ◌∷◌, map, get_or, Option, refl, sym, ◌∙◌, ap, ◌&&◌, ◌||◌, All, fold}
-use Rattle.std.proofs.lemmas.List.Elements.{All-head, All-nil, All-tail}
-use Rattle.bdb_io.specs.of_format.Terms.{ascends, less}
-use Rattle.bdb_text_format.specs.declared.sections.Section.{Section}
-use Rattle.bdb_need.specs.of_settle.Loaded.{loaded_pair, with_loaded}
-use Rattle.bdb_need.specs.TreePages.{tree_pages}
-use Rattle.bdb_need.specs.Need.{master_pages, master_settings, name_in, name_pair}
-use Rattle.bdb_mkfile.specs.NamedImages.{name_entry, names_pages}
-use Rattle.bdb_mkfile.specs.Builds.{in_name_order, put_named}
-use Rattle.bdb_mkfile.specs.Order.{AreApart, IsApart, named_before, with_named}
+use Rattle.std.proofs.Common.{arith, ◌≡◌, ℕ, Bool, true, false, cond, not, List, [], ◌∷◌, map, get_or, refl, sym, ◌∙◌, ap, ◌&&◌, ◌||◌, All, fold}
+use Rattle.bdb_mkfile.proofs.Common.{All-head, All-nil, All-tail, ascends, less, Section, loaded_pair, with_loaded, tree_pages, master_pages, master_settings, name_in, name_pair, name_entry}
+use Rattle.bdb_mkfile.proofs.Common.{names_pages, in_name_order, put_named, AreApart, IsApart, named_before, with_named}
 use Rattle.bdb_mkfile.proofs.ApartLemmas.{fold_is_order, order_ascends, put_all}
 
 -- the names of sections in their order ascend
@@ -17,12 +10,7 @@ pub names_ascend : (sections : List Section) → AreApart sections
 names_ascend sections apart = order_ascends sections apart
 
 other_way : (a b : Section) → IsApart a b → less (name_in a.name) (name_in b.name) ≡ false → less (name_in b.name) (name_in a.name) ≡ true
-other_way a b apart is = by_tests (named_before a b) (named_before b a) apart is
-  where
-    by_tests : (x y : Bool) → (not x && not y) ≡ false → x ≡ false → y ≡ true
-    by_tests x true apart is = refl
-    by_tests true false apart is = absurd cc
-    by_tests false false apart is = absurd cc
+other_way a b apart is = grind (arith, named_before)
 
 put_entry : (size : ℕ) (section : Section) (list : List Section) → All (IsApart section) list
     → with_loaded (master_settings size) (map name_entry list) (name_entry section) ≡ map name_entry (put_named section list)
@@ -43,13 +31,7 @@ put_entry size section (other ∷ others) all =
     by_tests false false after same = absurd (let e : false ≡ true = after refl in cc e)
 
 apart_too : (a b : Section) → IsApart a b → IsApart b a
-apart_too a b apart = by_tests (named_before a b) (named_before b a) apart
-  where
-    by_tests : (x y : Bool) → (not x && not y) ≡ false → (not y && not x) ≡ false
-    by_tests true true is = refl
-    by_tests true false is = refl
-    by_tests false true is = refl
-    by_tests false false is = is
+apart_too a b apart = grind (arith, named_before)
 
 put_entries : (size : ℕ) (list sections : List Section) → AreApart sections → All (λ section. All (IsApart section) list) sections
     → fold (with_loaded (master_settings size)) (map name_entry list) (map name_entry sections) ≡ map name_entry (fold with_named list sections)

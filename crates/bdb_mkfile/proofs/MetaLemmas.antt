@@ -1,48 +1,22 @@
 -- The metadata of a table that was built, and the page that says it.
 use Rattle.std.proofs.Common.{◌≡◌, ℕ, zero, suc, ◌+◌, ◌-◌, ◌≤◌, ◌^◌, ◌||◌, ◌&&◌, ◌%◌, Bool, true, false, cond, List, [], ◌∷◌, ◌++◌, length, None, Some, get_or}
-use Rattle.std.proofs.Common.{replicate, append_assoc, pow-suc, arith, refl, sym, ◌∙◌, ap, length-append, count_ones, ◌*◌, ◌/◌, ◌==◌, not, nat_le, nat_lt}
-use Rattle.std.proofs.Common.{unwrap_or}
+use Rattle.std.proofs.Common.{append_assoc, pow-suc, arith, refl, sym, ◌∙◌, ap, length-append, count_ones, ◌*◌, ◌/◌, ◌==◌, not, nat_le, nat_lt, unwrap_or}
 use lib.Count.{ones_step}
-use Rattle.std.specs.Cmp.Derive.{both_true}
-use Rattle.std.specs.Int.{is_power_of_two}
-use Rattle.std.specs.List.{find, flat_map, range_with_len, sum_by}
-use Rattle.std.proofs.lemmas.Bool.{and_right, eq-eqb, le-leb, le-ltb, ne_eqb, or_right}
-use Rattle.std.proofs.lemmas.Nat.{ones_le_self, pow_pos}
-use Rattle.std.proofs.lemmas.List.{get_or_append_left, get_or-replicate, length-replicate}
-use Rattle.std.proofs.lemmas.List.FromFn.{length-map-range_with_len}
-use Rattle.std.proofs.lemmas.List.Sums.{sum_by-cons}
-use Rattle.bdb_io.specs.of_format.declared.kinds.Order.{Order}
+use Rattle.bdb_mkfile.proofs.Common.{both_true, find, flat_map, range_with_len, sum_by, and_right, eq-eqb, le-leb, le-ltb, ne_eqb, or_right, ones_le_self, pow_pos, get_or_append_left}
+use Rattle.bdb_mkfile.proofs.Common.{get_or-replicate, length-replicate, length-map-range_with_len, sum_by-cons, Order, Head, HashMeta, Settings, are_masks, body_code, byte_at, common_bytes}
+use Rattle.bdb_mkfile.proofs.Common.{first_row, form_code, four_at, group, has_bit, hash_fields, identity_rows, is_page_size, is_tree_type, is_zero, lacks_spare, last_field, magic_of, metadata_rows}
+use Rattle.bdb_mkfile.proofs.Common.{page_code, page_type, spelled, table_bytes, version_of, zeros, none_pass, of_range, length-spelled, number_at-in, first_page_code, tree_metadata, ReadsAs}
+use Rattle.bdb_mkfile.proofs.Common.{first_of_none, none_by, spread_on, page_room, Keyed, dealt, table_meta, bits_for, buckets_of, spread_bucket, table_bits, table_size, keyed_cost}
 use Rattle.bdb_io.specs.of_format.declared.metadata.FileKind.TheVariants.{Hash, Queue}
-use Rattle.bdb_io.specs.of_format.declared.metadata.Head.{Head}
-use Rattle.bdb_io.specs.of_format.declared.metadata.HashMeta.{HashMeta}
-use Rattle.bdb_io.specs.of_format.declared.settings.Settings.{Settings}
-use Rattle.bdb_io.specs.of_format.Terms.{are_masks, body_code, byte_at, common_bytes, first_row, form_code, four_at, group, has_bit, hash_fields}
-use Rattle.bdb_io.specs.of_format.Terms.{identity_rows, is_page_size, is_tree_type, is_zero, lacks_spare, last_field, magic_of, metadata_rows, page_code}
-use Rattle.bdb_io.specs.of_format.Terms.{page_type, spelled, table_bytes, version_of, zeros}
-use Rattle.bdb_io.proofs.of_format.MemberLemmas.{none_pass, of_range}
-use Rattle.bdb_io.proofs.of_format.SpellingLemmas.{length-spelled, number_at-in}
-use Rattle.bdb_need.proofs.of_image.CodeLemmas.{first_page_code, tree_metadata}
 use Rattle.bdb_need.proofs.of_meta.CommonLemmas.{length-common}
 use Rattle.bdb_need.proofs.of_meta.SparesLemmas.{length-spares}
-use Rattle.bdb_need.proofs.of_law_join.CommonLemmas.{ReadsAs}
-use Rattle.bdb_need.proofs.of_law_join.HeadLemmas.{first_of_none, none_by}
-use Rattle.bdb_need.specs.of_mkleaves.Spread.{spread_on}
-use Rattle.bdb_need.specs.of_mkleaves.Units.{page_room}
-use Rattle.bdb_need.specs.of_law_buckets.Tables.{Keyed, dealt, table_meta}
-use Rattle.bdb_need.specs.of_mkhash.Buckets.{bits_for, buckets_of, spread_bucket, table_bits, table_size}
-use Rattle.bdb_need.specs.of_mkhash.Costs.{keyed_cost}
 use Rattle.bdb_need.proofs.of_law_buckets.TableLemmas.{group_low}
 
 -- How many bits.
 
 found_from : (test : ℕ → Bool) (least a n d : ℕ) → least ≤ a → least ≤ d → least ≤ unwrap_or (find test (range_with_len a n)) d
 found_from test least a zero d low other = other
-found_from test least a (suc n) d low other = by_test (test a) (found_from test least (a + 1) n d (omega (arith, low)) other)
-  where
-    by_test : (b : Bool) → least ≤ unwrap_or (find test (range_with_len (a + 1) n)) d
-        → least ≤ unwrap_or (cond b (Some a) (find test (range_with_len (a + 1) n))) d
-    by_test true later = low
-    by_test false later = later
+found_from test least a (suc n) d low other = grind (arith, unwrap_or, find, range_with_len, Some, found_from test least (a + 1) n d (omega (arith, low)) other)
 
 pub some_bits : (size cost : ℕ) → 1 ≤ bits_for size cost
 some_bits size cost = found_from (λ bits. nat_le cost (2 ^ bits * (page_room size / 2))) 1 1 31 32 (omega arith) (omega arith)
@@ -59,14 +33,7 @@ few_bits settings order page first bits flags is =
 
 spread_some : {A : Type 0} (room : ℕ) (first cost : A → ℕ) (left : ℕ) (page xs : List A) → 1 ≤ length (spread_on room first cost left page xs)
 spread_some room first cost left page [] = omega arith
-spread_some room first cost left page (x ∷ xs) =
-    by_test (nat_le (cost x) left) (spread_some room first cost (left - cost x) (page ++ (x ∷ [])) xs)
-  where
-    by_test : (b : Bool) → 1 ≤ length (spread_on room first cost (left - cost x) (page ++ (x ∷ [])) xs)
-        → 1 ≤ length (cond b (spread_on room first cost (left - cost x) (page ++ (x ∷ [])) xs)
-        (page ∷ spread_on room first cost (room - first x) (x ∷ []) xs))
-    by_test true same = same
-    by_test false same = omega arith
+spread_some room first cost left page (x ∷ xs) = grind (arith, nat_le, spread_on, spread_some room first cost (left - cost x) (page ++ (x ∷ [])) xs)
 
 sum_some : {A : Type 0} (f : A → ℕ) (xs : List A) → ((x : A) → 1 ≤ f x) → length xs ≤ sum_by f xs
 sum_some f [] each = omega arith
@@ -94,25 +61,10 @@ one_bit (suc k) =
 
 pub masks_right : (settings : Settings) (first bits : ℕ) → 1 ≤ bits → are_masks (table_meta settings first bits) ≡ true
 masks_right settings first zero some = absurd (omega arith)
-masks_right settings first (suc k) some =
-    let most : ℕ = 2 ^ suc k - 1 in
-    let least : ℕ = 2 ^ suc k / 2 - 1 in
-    let double : 2 ^ suc k ≡ 2 ^ k * 2 = pow-suc 2 k in
-    let positive = pow_pos k in
-    let next : most + 1 ≡ 2 ^ suc k = omega (arith, double, positive) in
-    let power : is_power_of_two (most + 1) ≡ true = ap is_power_of_two next ∙ eq-eqb (count_ones (2 ^ suc k)) 1 (one_bit (suc k)) in
-    or_right (most == 0 && most == 0)
-    (nat_le 1 most && is_power_of_two (most + 1) && least == most / 2 && nat_le least most && nat_le most most)
-    (both_true
-    (both_true
-    (both_true (both_true (le-leb 1 most (omega (arith, double, positive))) power) (eq-eqb least (most / 2) (omega (arith, double, positive))))
-    (le-leb least most (omega (arith, double, positive))))
-    (le-leb most most (omega arith)))
+masks_right settings first (suc k) some = grind (arith, pow-suc, pow_pos, eq-eqb, count_ones, one_bit, or_right, nat_le, both_true, le-leb)
 
 spare_is : (settings : Settings) (first bits g : ℕ) → g ≤ bits → get_or (table_meta settings first bits).spares g 0 ≡ first
-spare_is settings first bits g under =
-    get_or_append_left (replicate (bits + 1) first) (replicate (31 - bits) 0) 0 g (omega (arith, under, length-replicate (bits + 1) first))
-    ∙ get_or-replicate (bits + 1) g first 0 (omega (arith, under))
+spare_is settings first bits g under = grind (arith, get_or_append_left, length-replicate, get_or-replicate)
 
 -- each group of a bucket has its spare, where the first page isn't 0
 spares_there : (settings : Settings) (first bits : ℕ) → 1 ≤ first → bits ≤ 31 → lacks_spare (table_meta settings first bits) ≡ false

@@ -1,15 +1,9 @@
 -- Sections in the order of their names.
-use Rattle.std.proofs.Common.{◌≡◌, suc, ◌+◌, Bool, true, false, cond, not, List, [], ◌∷◌, ◌++◌, get_or, refl, sym, ◌∙◌, ap, subst, arith, true≢false}
-use Rattle.std.proofs.Common.{append_assoc, ◌&&◌, All, filter, fold}
+use Rattle.std.proofs.Common.{◌≡◌, suc, ◌+◌, Bool, true, false, cond, not, List, [], ◌∷◌, ◌++◌, get_or, refl, sym, ◌∙◌, ap, subst, arith, true≢false, append_assoc, ◌&&◌, All, filter, fold}
 use Rattle.std.specs.Cmp.{IsStrictWeakOrder}
 use Rattle.std.specs.List.Sorted.{IsSortedBy, IsStableBy, ties}
-use Rattle.std.proofs.lemmas.Bool.{false_from_ne_true, true_from_ne_false}
-use Rattle.std.proofs.lemmas.List.Elements.{All-cons, All-head, All-nil, All-push, All-tail, filter-append}
-use Rattle.bdb_text_format.specs.declared.pairs.Key.TheVariants.{Bytes}
-use Rattle.bdb_text_format.specs.declared.sections.Section.{Section}
+use Rattle.bdb_mkfile.proofs.Common.{false_from_ne_true, true_from_ne_false, All-cons, All-head, All-nil, All-push, All-tail, filter-append, Bytes, Section, name_of, put_named, named_before, with_named}
 use Rattle.bdb_need.proofs.of_settle.KeyOrderLemmas.{key_chain, key_one_way}
-use Rattle.bdb_mkfile.specs.Builds.{name_of, put_named}
-use Rattle.bdb_mkfile.specs.Order.{named_before, with_named}
 
 pub names_weakly : IsStrictWeakOrder named_before
 names_weakly = record {
@@ -88,8 +82,7 @@ split test x rest (y ∷ ys) e = split_at test x rest y ys (test y) refl (split 
 
 none_pass : (test : Section → Bool) (xs : List Section) → All (λ x. test x ≡ false) xs → filter test xs ≡ []
 none_pass test [] none = refl
-none_pass test (x ∷ xs) none =
-    rw (All-head (λ y. test y ≡ false) x xs none) (none_pass test xs (All-tail (λ y. test y ≡ false) x xs none))
+none_pass test (x ∷ xs) none = rw (All-head (λ y. test y ≡ false) x xs none) (none_pass test xs (All-tail (λ y. test y ≡ false) x xs none))
 
 all_fail : (p q : Section → Bool) → ((y : Section) → p y ≡ false → q y ≡ false) → (xs : List Section) → All (λ y. p y ≡ false) xs
     → All (λ y. q y ≡ false) xs
@@ -99,10 +92,7 @@ all_fail p q step (x ∷ xs) none =
 
 without_it : (b : Bool) (x : Section) (front back xs : List Section) → (b ≡ true → front ≡ []) → front ++ cond b (x ∷ back) back ≡ cond b (x ∷ xs) xs
     → front ++ back ≡ xs
-without_it true x front back xs none same =
-    let e : front ≡ [] = none refl in
-    let whole : x ∷ back ≡ x ∷ xs = sym (ap (λ f. f ++ (x ∷ back)) e) ∙ same in
-    ap (λ f. f ++ back) e ∙ cc
+without_it true x front back xs none same = grind arith
 without_it false x front back xs none same = same
 
 not_itself : (x : Section) → named_before x x ≡ false
@@ -112,23 +102,10 @@ tied_itself : (x : Section) → ties named_before x x ≡ true
 tied_itself x = rw (not_itself x) refl
 
 tied_parts : (x y : Section) → ties named_before x y ≡ true → (named_before x y ≡ false) × (named_before y x ≡ false)
-tied_parts x y is = parts (named_before x y) (named_before y x) is
-  where
-    parts : (a b : Bool) → (not a && not b) ≡ true → (a ≡ false) × (b ≡ false)
-    parts true b is = absurd cc
-    parts false true is = absurd cc
-    parts false false is = (refl, refl)
+tied_parts x y is = grind (arith, named_before)
 
 untied : (z x y : Section) → ties named_before z x ≡ true → ties named_before x y ≡ false → ties named_before z y ≡ false
-untied z x y tied apart = false_from_ne_true (ties named_before z y) (λ is.
-    let first = tied_parts z x tied in
-    let second = tied_parts z y is in
-    let xy : named_before x y ≡ false = names_weakly.chain x z y first.1 second.0 in
-    let yx : named_before y x ≡ false = names_weakly.chain y z x second.1 first.0 in
-    true≢false (sym (both xy yx) ∙ apart))
-  where
-    both : named_before x y ≡ false → named_before y x ≡ false → ties named_before x y ≡ true
-    both xy yx = rw (xy, yx) refl
+untied z x y tied apart = grind (arith, false_from_ne_true, named_before, tied_parts, names_weakly)
 
 -- a section that ties with none before it may come first
 first_of_all : (x : Section) (front back list : List Section) → All (λ y. ties named_before x y ≡ false) front
@@ -168,8 +145,7 @@ sorted_rest x xs sorted k d low high =
 
 rises_from : (last : Section) (rest : List Section) → IsSortedBy named_before (last ∷ rest) → Rises last rest
 rises_from last [] sorted = tt
-rises_from last (x ∷ rest) sorted =
-    (sorted 0 x (omega arith) (omega arith), rises_from x rest (sorted_rest last (x ∷ rest) sorted))
+rises_from last (x ∷ rest) sorted = (sorted 0 x (omega arith) (omega arith), rises_from x rest (sorted_rest last (x ∷ rest) sorted))
 
 put_last : (x : Section) (list : List Section) → All (λ other. named_before x other ≡ false) list → put_named x list ≡ list ++ x ∷ []
 put_last x [] all = refl

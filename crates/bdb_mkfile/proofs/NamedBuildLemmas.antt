@@ -1,41 +1,12 @@
 -- Databases that are built under names.
 use Rattle.std.proofs.Common.{◌≡◌, ℕ, ◌+◌, ◌-◌, ◌≤◌, Bool, true, false, List, length, None, arith, refl, sym, ◌∙◌, ap, subst, inl, inr}
-use Rattle.bdb_io.specs.of_format.declared.kinds.Kind.{Kind}
-use Rattle.bdb_io.specs.of_format.declared.kinds.Kind.TheVariants.{Btree, Recno, Hash, Queue}
-use Rattle.bdb_io.specs.of_format.declared.kinds.Order.{Order}
-use Rattle.bdb_io.specs.of_format.declared.metadata.BtreeMeta.{BtreeMeta}
-use Rattle.bdb_io.specs.of_format.declared.metadata.HashMeta.{HashMeta}
-use Rattle.bdb_io.specs.of_format.declared.settings.Settings.{Settings}
-use Rattle.bdb_io.specs.of_format.Terms.{BtreeFields, HashFields, first_row, settings_of, table_bytes}
-use Rattle.bdb_need.specs.of_meta.RowGroups.{flag_rows}
-use Rattle.bdb_need.specs.of_law_grove.Part.{IsPart, between}
-use Rattle.bdb_text_format.specs.declared.pairs.Pair.{Pair}
-use Rattle.bdb_text_format.specs.declared.sections.Section.{Section}
-use Rattle.bdb_text_format.specs.Terms.{listed}
-use Rattle.bdb_need.specs.of_pack.Built.{Built}
-use Rattle.bdb_need.proofs.of_law_join.FiledLemmas.{btrees_are_spelled}
-use Rattle.bdb_need.specs.of_mkleaves.Layout.{AreTreesIn}
-use Rattle.bdb_need.specs.of_mkleaves.Spread.{tree_size}
-use Rattle.bdb_need.proofs.of_mkleaves.LayoutLemmas.{trees_are_in}
-use Rattle.bdb_need.specs.of_mktree.Building.{IsTreeBuilt}
-use Rattle.bdb_need.specs.of_mktree.Lists.{units_in}
-use Rattle.bdb_need.specs.of_mktree.Units.{IsTreeKind, is_counted, leaf_type_of}
-use Rattle.bdb_need.specs.of_law_buckets.Tables.{HasBuiltBuckets, table_meta}
-use Rattle.bdb_need.specs.of_mkhash.Buckets.{table_bits, table_cost, table_size, table_units}
-use Rattle.bdb_need.specs.of_mkhash.Table.{IsTableBuilt}
-use Rattle.bdb_need.specs.TreePages.{unlined_pairs, tree_pages}
-use Rattle.bdb_need.specs.Need.{list_pages, sized}
-use Rattle.bdb_mkfile.specs.FileSettings.{file_settings, own_settings}
-use Rattle.bdb_mkfile.specs.Trees.{IsTreeSettings}
+use Rattle.bdb_mkfile.proofs.Common.{Kind, Btree, Recno, Hash, Queue, Order, BtreeMeta, HashMeta, Settings, BtreeFields, HashFields, first_row, settings_of, table_bytes, flag_rows, IsPart, between}
+use Rattle.bdb_mkfile.proofs.Common.{Pair, Section, listed, Built, btrees_are_spelled, AreTreesIn, tree_size, trees_are_in, IsTreeBuilt, units_in, IsTreeKind, is_counted, leaf_type_of}
+use Rattle.bdb_mkfile.proofs.Common.{HasBuiltBuckets, table_meta, table_bits, table_cost, table_size, table_units, IsTableBuilt, unlined_pairs, tree_pages, list_pages, sized, file_settings}
+use Rattle.bdb_mkfile.proofs.Common.{own_settings, IsTreeSettings, Table, Tree, DatabaseMeta, AreNamedSettings, IsNamed, named_table_meta, named_tree_meta, TreeIsIn, meta_for, settings_in}
+use Rattle.bdb_mkfile.proofs.Common.{CanBeSpelled, Counts, HoldsPart, IsDatabaseBuilt, IsSectionBuilt, part_between, fields_of}
 use Rattle.bdb_mkfile.proofs.MetaLemmas.{buckets_fit, some_bits}
 use Rattle.bdb_mkfile.proofs.SettingsLemmas.{only_duplicates, own_size, own_kind}
-use Rattle.bdb_mkfile.specs.declared.named_metadata.DatabaseMeta.TheVariants.{Table, Tree}
-use Rattle.bdb_mkfile.specs.declared.named_metadata.DatabaseMeta.{DatabaseMeta}
-use Rattle.bdb_mkfile.specs.NamedImages.{AreNamedSettings, IsNamed}
-use Rattle.bdb_mkfile.specs.Layout.{named_table_meta, named_tree_meta}
-use Rattle.bdb_mkfile.specs.Metas.{TreeIsIn, meta_for, settings_in}
-use Rattle.bdb_mkfile.specs.Standing.{CanBeSpelled, Counts, HoldsPart, IsDatabaseBuilt, IsSectionBuilt, part_between}
-use Rattle.bdb_mkfile.specs.WrittenMetadata.{fields_of}
 use Rattle.bdb_mkfile.proofs.TableMetaLemmas.{table_settings, tables_are_spelled, tables_have_names}
 use Rattle.bdb_mkfile.proofs.TreeMetaLemmas.{trees_have_names}
 

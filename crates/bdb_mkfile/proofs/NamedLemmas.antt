@@ -1,46 +1,17 @@
 -- The image of databases under names.
-use Rattle.std.proofs.Common.{◌≡◌, ◌⊎◌, ℕ, ◌+◌, ◌-◌, ◌*◌, ◌<◌, ◌≤◌, ◌^◌, true, IsTrue, List, [], ◌∷◌, length, map, reverse, None}
-use Rattle.std.proofs.Common.{arith, refl, sym, ◌∙◌, ap, subst, inl, inr}
-use Rattle.std.specs.List.{All, AllZip, Contains, sum_by}
-use Rattle.std.proofs.lemmas.Bool.{cases_lt}
-use Rattle.std.proofs.lemmas.List.{length-map, length-reverse}
-use Rattle.std.proofs.lemmas.List.Elements.{All-cons, All-nil}
-use Rattle.bdb_io.specs.of_format.declared.kinds.Order.{Order}
-use Rattle.bdb_io.specs.of_format.declared.metadata.BtreeMeta.{BtreeMeta}
-use Rattle.bdb_io.specs.of_format.Terms.{BtreeFields, Database, File, ListKey, btree_bytes, databases, file_of, first_judgement, first_row, has_duplicates}
-use Rattle.bdb_io.specs.of_format.Terms.{head_of, is_zero, names_databases, page_bytes, page_code}
-use Rattle.bdb_io.specs.of_format.declared.kinds.Kind.TheVariants.{Btree}
-use Rattle.bdb_io.proofs.of_format.MemberLemmas.{first_member, later_member, member_cases}
-use Rattle.bdb_need.specs.of_meta.RowGroups.{flag_rows}
-use Rattle.bdb_need.specs.of_law_grove.Growing.{IsCounted, IsLater}
-use Rattle.bdb_need.specs.of_law_grove.Part.{IsPart, between}
-use Rattle.bdb_need.proofs.of_law_grove.ChainLemmas.{between_is, is_between}
-use Rattle.bdb_text_format.specs.declared.sections.Section.{Section}
-use Rattle.bdb_text_format.specs.Terms.{listed}
-use Rattle.bdb_need.specs.of_pack.Built.{Built, bytes_of, file_so_far, joined_pages, with_zeros}
-use Rattle.bdb_need.proofs.of_pack.CutLemmas.{all_size}
-use Rattle.bdb_need.proofs.of_pack.ImageLemmas.{counted_so_far}
-use Rattle.bdb_need.specs.of_law_join.Filed.{AreFiled, IsSpelled}
-use Rattle.bdb_need.specs.of_law_join.Joining.{IsInPartOf, IsJoined, IsMetaOf, Joint}
-use Rattle.bdb_need.specs.of_law_join.Masters.{MasterPair, IsDatabase, IsSoundUnderMaster, IsUnderMaster}
-use Rattle.bdb_need.specs.of_law_join.Written.{HasHead, SpellsMeta}
-use Rattle.bdb_need.proofs.of_law_join.FiledLemmas.{btrees_are_spelled, filed_parts_are_joined, has_head, later as filed_later, read_back}
+use Rattle.std.proofs.Common.{◌≡◌, ◌⊎◌, ℕ, ◌+◌, ◌-◌, ◌*◌, ◌<◌, ◌≤◌, ◌^◌, true, IsTrue, List, [], ◌∷◌, length, map, reverse, None, arith, refl, sym, ◌∙◌, ap, subst, inl, inr}
+use Rattle.bdb_mkfile.proofs.Common.{All, AllZip, Contains, sum_by, cases_lt, length-map, length-reverse, All-cons, All-nil, Order, BtreeMeta, BtreeFields, Database, File, ListKey, btree_bytes}
+use Rattle.bdb_mkfile.proofs.Common.{databases, file_of, first_judgement, first_row, has_duplicates, head_of, is_zero, names_databases, page_bytes, page_code, Btree, first_member, later_member}
+use Rattle.bdb_mkfile.proofs.Common.{member_cases, flag_rows, IsCounted, IsLater, IsPart, between, between_is, is_between, Section, listed, Built, bytes_of, file_so_far, joined_pages, with_zeros}
+use Rattle.bdb_mkfile.proofs.Common.{all_size, counted_so_far, AreFiled, IsSpelled, IsInPartOf, IsJoined, IsMetaOf, Joint, MasterPair, IsDatabase, IsSoundUnderMaster, IsUnderMaster, HasHead}
+use Rattle.bdb_mkfile.proofs.Common.{SpellsMeta, btrees_are_spelled, filed_parts_are_joined, has_head, read_back, page_read, HasPagesOf, later_self, HasBuiltTable, unlined_pairs, section_pages}
+use Rattle.bdb_mkfile.proofs.Common.{DatabaseMeta, Tree, AreNamed, IsNamedImage, names_pages, AreJointsFrom, entries_from, named_tree_meta, settings_of_master, HaveMetas, TreeIsIn, meta_for}
+use Rattle.bdb_mkfile.proofs.Common.{settings_in, AreAdded, AreDatabasesBuilt, AreLaid, HoldsPart, IsMasterBuilt, Laid, part_between, AreAsMany, ArePut, AreWrittenFrom, IsPut, meta_bytes}
+use Rattle.bdb_need.proofs.of_law_join.FiledLemmas.{later as filed_later}
 use Rattle.bdb_need.proofs.of_law_join.NamedLemmas.{joins_all}
-use Rattle.bdb_need.proofs.of_law_join.ReadLemmas.{page_read}
-use Rattle.bdb_need.specs.of_mkleaves.Layout.{HasPagesOf}
-use Rattle.bdb_need.proofs.of_mkleaves.FilledLemmas.{later_self}
 use Rattle.bdb_need.proofs.of_mkleaves.RunLemmas.{later_before as later_in}
-use Rattle.bdb_need.specs.of_law_buckets.Tables.{HasBuiltTable}
-use Rattle.bdb_need.specs.TreePages.{unlined_pairs}
-use Rattle.bdb_need.specs.Need.{section_pages}
 use Rattle.bdb_mkfile.proofs.TreeLemmas.{first_zero}
-use Rattle.bdb_mkfile.specs.declared.named_metadata.DatabaseMeta.{DatabaseMeta}
-use Rattle.bdb_mkfile.specs.declared.named_metadata.DatabaseMeta.TheVariants.{Tree}
-use Rattle.bdb_mkfile.specs.NamedImages.{AreNamed, IsNamedImage, last_page, names_pages}
-use Rattle.bdb_mkfile.specs.Layout.{AreJointsFrom, entries_from, named_tree_meta, settings_of_master}
-use Rattle.bdb_mkfile.specs.Metas.{HaveMetas, TreeIsIn, meta_for, settings_in}
-use Rattle.bdb_mkfile.specs.Standing.{AreAdded, AreDatabasesBuilt, AreLaid, HoldsPart, IsMasterBuilt, Laid, part_between}
-use Rattle.bdb_mkfile.specs.WrittenMetadata.{AreAsMany, ArePut, AreWrittenFrom, IsPut, meta_bytes}
+use Rattle.bdb_mkfile.specs.NamedImages.{last_page}
 use Rattle.bdb_mkfile.proofs.NamingLemmas.{entries_name_databases, entries_name_metas}
 use Rattle.bdb_mkfile.proofs.RowLemmas.{IsOfRow, above_base, inside_row, joints_are, joints_from, metas_cover, of_row, row_apart, row_covers, row_pages}
 use Rattle.bdb_mkfile.proofs.StandingLemmas.{has_before, holds_still, kept_again}

@@ -1,26 +1,8 @@
 -- The list of a master, and its tree.
 use Rattle.std.proofs.Common.{◌≡◌, ℕ, ◌+◌, ◌<◌, List, [], ◌∷◌, ◌++◌, length, take, get_or, arith, sym, ◌∙◌, ap, subst}
-use Rattle.std.proofs.lemmas.List.{length-take-le, take_more}
-use Rattle.bdb_io.specs.of_format.declared.kinds.Kind.TheVariants.{Btree}
-use Rattle.bdb_io.specs.of_format.declared.metadata.BtreeMeta.{BtreeMeta}
-use Rattle.bdb_io.specs.of_format.declared.settings.Settings.{Settings}
-use Rattle.bdb_io.specs.of_format.Terms.{BtreeFields, settings_of}
-use Rattle.bdb_text_format.specs.declared.pairs.Pair.{Pair}
-use Rattle.bdb_text_format.specs.declared.sections.Section.{Section}
-use Rattle.bdb_text_format.specs.Terms.{listed}
-use Rattle.bdb_need.specs.of_law_grove.Part.{between}
-use Rattle.bdb_need.specs.of_pack.Built.{Built}
-use Rattle.bdb_need.specs.of_mkleaves.Layout.{AreTreesIn}
-use Rattle.bdb_need.specs.of_mkleaves.Spread.{tree_size}
-use Rattle.bdb_need.proofs.of_mkleaves.LayoutLemmas.{trees_are_in}
-use Rattle.bdb_need.specs.of_mktree.Building.{IsTreeBuilt}
-use Rattle.bdb_need.specs.of_mktree.Lists.{IsTreeList, units_in}
-use Rattle.bdb_need.specs.of_mktree.Units.{is_counted, leaf_type_of}
-use Rattle.bdb_need.specs.TreePages.{tree_pages}
-use Rattle.bdb_mkfile.specs.NamedImages.{AreNamed, names_pages}
-use Rattle.bdb_mkfile.specs.Layout.{entries_from, entry_of, named_tree_meta, settings_of_master}
-use Rattle.bdb_mkfile.specs.Metas.{TreeIsIn}
-use Rattle.bdb_mkfile.specs.Standing.{HoldsPart, IsMasterBuilt}
+use Rattle.bdb_mkfile.proofs.Common.{length-take-le, take_more, Btree, BtreeMeta, Settings, BtreeFields, settings_of, Pair, Section, listed, between, Built, AreTreesIn, tree_size, trees_are_in}
+use Rattle.bdb_mkfile.proofs.Common.{IsTreeBuilt, IsTreeList, units_in, is_counted, leaf_type_of, tree_pages, AreNamed, names_pages, entries_from, entry_of, named_tree_meta, settings_of_master}
+use Rattle.bdb_mkfile.proofs.Common.{TreeIsIn, HoldsPart, IsMasterBuilt}
 use Rattle.bdb_mkfile.proofs.NamedBuildLemmas.{tree_is_in}
 use Rattle.bdb_mkfile.proofs.EntryLemmas.{entries_are_listed, entries_take_pages}
 use Rattle.bdb_mkfile.proofs.TreeMetaLemmas.{master_is_said}
@@ -30,11 +12,7 @@ use Rattle.bdb_mkfile.proofs.TreeMetaLemmas.{master_is_said}
 entries_both : (number : ℕ) (one two : List Section)
     → entries_from number (one ++ two) ≡ entries_from number one ++ entries_from (number + length one) two
 entries_both number [] two = ap (λ n. entries_from n two) (let e : number ≡ number + 0 = omega arith in e)
-entries_both number (section ∷ one) two =
-    ap (λ es. entry_of number section ∷ es)
-    (entries_both (number + 1) one two
-    ∙ ap (λ n. entries_from (number + 1) one ++ entries_from n two)
-    (let e : number + 1 + length one ≡ number + length (section ∷ one) = omega arith in e))
+entries_both number (section ∷ one) two = grind (arith, entry_of, entries_from, entries_both (number + 1) one two)
 
 -- the entry of one section more
 pub entries_more : (first i number : ℕ) (sections : List Section) (section : Section) → i < length sections
@@ -80,8 +58,7 @@ pub record IsMasterBehind (sections : List Section) (size : ℕ) (settings : Set
 
 pub settings_again : (settings : Settings) (size : ℕ) (old : Built) → settings ≡ settings_of_master size old.order
     → settings ≡ settings_of_master settings.page_size settings.order
-settings_again settings size old are =
-    are ∙ ap (λ (s : Settings). settings_of_master s.page_size s.order) (sym are)
+settings_again settings size old are = are ∙ ap (λ (s : Settings). settings_of_master s.page_size s.order) (sym are)
 
 pub master_built : (sections : List Section) (size : ℕ) (settings : Settings) (count first : ℕ) (list : List Pair) (old new : Built)
     (root : ℕ) (meta : BtreeMeta) → IsMasterBehind sections size settings count first list old new root meta → IsMasterBuilt sections old new meta

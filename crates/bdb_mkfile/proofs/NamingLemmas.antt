@@ -1,26 +1,11 @@
 -- What the list of a master names: the metadata page of each section, and the databases of the sections.
-use Rattle.std.proofs.Common.{◌≡◌, ◌⊎◌, ℕ, suc, ◌+◌, ◌^◌, ◌<◌, ◌≤◌, Bool, true, false, cond, List, [], ◌∷◌, length, map, Some, None, arith, refl, sym, ◌∙◌, ap}
-use Rattle.std.proofs.Common.{subst, inl, inr, eq-eqb, ◌==◌}
-use Rattle.std.specs.List.{All, AllZip, Contains, filter}
-use Rattle.std.specs.Str.{bytes_eq}
-use Rattle.std.proofs.lemmas.Bool.{and_parts, cases_eq, false_from_ne_true, ne_eqb}
-use Rattle.std.proofs.lemmas.List.Elements.{All-head, All-tail}
-use Rattle.bdb_io.specs.of_format.declared.kinds.Order.{Order}
-use Rattle.bdb_io.specs.of_format.declared.kinds.Order.TheVariants.{Big}
-use Rattle.bdb_io.specs.of_format.Terms.{BytesKey, Database, Less, ascends, ascends_from, databases, file_of, head_of, is_key, is_page, less, list_of}
-use Rattle.bdb_io.specs.of_format.Terms.{number as number_of, page_named, settings_of, spelled}
-use Rattle.bdb_io.proofs.of_format.LessLemmas.{eq_same, less_trans, not_less_same}
-use Rattle.bdb_io.proofs.of_format.MemberLemmas.{first_member, later_member, member_cases, no_member}
-use Rattle.bdb_io.proofs.of_format.SpellingLemmas.{length-spelled, number-spelled}
-use Rattle.bdb_text_format.specs.declared.sections.Section.{Section}
-use Rattle.bdb_text_format.specs.Terms.{listed}
-use Rattle.bdb_need.specs.of_law_join.Joining.{HoldsLists, IsMetaOf, Joint}
-use Rattle.bdb_need.specs.of_law_join.Masters.{AreNamesApart, MasterPair, IsDatabase}
+use Rattle.std.proofs.Common.{◌≡◌, ◌⊎◌, ℕ, suc, ◌+◌, ◌^◌, ◌<◌, ◌≤◌, Bool, true, false, cond, List, [], ◌∷◌, length, map, Some, None, arith, refl, sym, ◌∙◌, ap, subst, inl, inr, eq-eqb, ◌==◌}
+use Rattle.bdb_mkfile.proofs.Common.{All, AllZip, Contains, filter, bytes_eq, and_parts, cases_eq, false_from_ne_true, ne_eqb, All-head, All-tail, Order, Big, BytesKey, Database, Less, ascends}
+use Rattle.bdb_mkfile.proofs.Common.{ascends_from, databases, file_of, head_of, is_key, is_page, less, list_of, page_named, settings_of, spelled, eq_same, less_trans, not_less_same, first_member}
+use Rattle.bdb_mkfile.proofs.Common.{later_member, member_cases, no_member, length-spelled, number-spelled, Section, listed, HoldsLists, IsMetaOf, Joint, AreNamesApart, MasterPair, IsDatabase}
+use Rattle.bdb_mkfile.proofs.Common.{name_in, IsDatabaseOf, IsNamed, EntriesNameDatabases, EntriesNameMetas, AreJointsFrom, IsJointOf, entries_from}
+use Rattle.bdb_io.specs.of_format.Terms.{number as number_of}
 use Rattle.bdb_need.proofs.of_mkleaves.UnitLemmas.{ascends_later}
-use Rattle.bdb_need.specs.Need.{name_in}
-use Rattle.bdb_mkfile.specs.NamedImages.{IsDatabaseOf, IsNamed}
-use Rattle.bdb_mkfile.specs.NamedLaws.{EntriesNameDatabases, EntriesNameMetas}
-use Rattle.bdb_mkfile.specs.Layout.{AreJointsFrom, IsJointOf, entries_from}
 use Rattle.bdb_io.proofs.of_format.ListLemmas.{one_answer}
 
 -- Numbers of pages.
@@ -231,8 +216,4 @@ all_databases size order number (section ∷ sections) (first ∷ left) joints i
 
 pub entries_name_databases : EntriesNameDatabases
 entries_name_databases size order number sections top joints image named some few first are size_is order_is holds is =
-    all_databases size order number sections joints (top ∷ joints) image (databases (file_of image)) named.each few size_is order_is holds are
-    (λ joint at. elim (member_cases top joints joint at) [
-      | inl here ↦ inl (let meta : joint.meta ≡ 0 = ap (λ (j : Joint). j.meta) (sym here) ∙ first in omega (arith, meta, some))
-      | inr later ↦ inr later
-    ]) is
+    grind (arith, all_databases, databases, file_of, member_cases, Joint)

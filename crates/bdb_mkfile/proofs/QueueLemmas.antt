@@ -2,38 +2,19 @@
 use Rattle.std.proofs.Common.{◌≡◌, ℕ, ◌+◌, ◌-◌, ◌*◌, ◌<◌, ◌≤◌, ◌^◌, true, List, [], ◌∷◌, ◌++◌, length, take, None, arith, sym, ◌∙◌, ap}
 use Rattle.bdb_io.specs.of_format.declared.kinds.Kind.TheVariants.{Queue as QueueKind}
 use Rattle.bdb_io.specs.of_format.declared.metadata.FileKind.TheVariants.{Queue}
-use Rattle.bdb_io.specs.of_format.declared.metadata.Head.{Head}
+use Rattle.bdb_mkfile.proofs.Common.{Head, Settings, QueueFields, file_of, is_page_size, list_of, queue_bytes, queue_fields, settings_of, spelled, zeros, size_bounds, Pair, AreWhole, Built, bytes_of}
+use Rattle.bdb_mkfile.proofs.Common.{joined_pages, with_page, with_zeros, written_over, written_whole, AreLegal, queue_meta, queue_size, length-queue, written_queues_are_sound, file_settings}
+use Rattle.bdb_mkfile.proofs.Common.{own_settings, IsQueueImage, queue_first, queue_pages}
 use Rattle.bdb_io.specs.of_format.declared.metadata.QueueMeta.{QueueMeta}
-use Rattle.bdb_io.specs.of_format.declared.settings.Settings.{Settings}
-use Rattle.bdb_io.specs.of_format.Terms.{QueueFields, file_of, is_page_size, list_of, queue_bytes, queue_fields, settings_of, spelled, zeros}
-use Rattle.bdb_io.proofs.of_format.SizeLemmas.{size_bounds}
-use Rattle.bdb_text_format.specs.declared.pairs.Pair.{Pair}
-use Rattle.bdb_need.specs.of_pack.Built.{AreWhole, Built, bytes_of, joined_pages, with_page, with_zeros, written_over}
-use Rattle.bdb_need.proofs.of_pack.CutLemmas.{written_whole}
-use Rattle.bdb_need.specs.of_law_join.Written.{AreLegal}
 use Rattle.bdb_need.specs.of_mkqueue.Building.{IsQueueBuilt}
-use Rattle.bdb_need.specs.of_mkqueue.Layout.{queue_meta, queue_size}
 use Rattle.bdb_need.specs.of_mkqueue.Written.{IsSoundQueueOf, IsWrittenQueue}
-use Rattle.bdb_need.proofs.of_mkqueue.WrittenLemmas.{length-queue, written_queues_are_sound}
-use Rattle.bdb_mkfile.specs.FileSettings.{file_settings, own_settings}
-use Rattle.bdb_mkfile.specs.LoneImages.{IsQueueImage, queue_first, queue_pages}
 use Rattle.bdb_mkfile.proofs.FirstLemmas.{IsUnderMeta, head_is, image_first, image_length}
 
 under_queue : (built : Built) (page : List ℕ) (meta : QueueMeta) (image : List ℕ) → AreLegal built
     → page ≡ queue_bytes built.order built.size (length built.pages - 1) meta → image ≡ joined_pages (with_page built 0 page).pages
     → IsUnderMeta built Queue page image
 unfolding queue_bytes
-under_queue built page meta image legal spelled_as image_is = record {
-  pages = legal;
-  free = 0;
-  flags = 0;
-  behind = spelled 4 built.order meta.first ++ (spelled 4 built.order meta.current ++ (spelled 4 built.order meta.re_len
-      ++ (spelled 4 built.order meta.re_pad ++ (spelled 4 built.order meta.per_page ++ zeros (built.size - 92)))));
-  bytes = spelled_as;
-  long = ap length spelled_as
-      ∙ length-queue built.order built.size (length built.pages - 1) meta (omega (arith, (size_bounds built.size legal.legal).0));
-  image_is = image_is;
-}
+under_queue built page meta image legal spelled_as image_is = grind (arith, spelled, zeros, length-queue, size_bounds)
 
 -- The pages of a queue that was built behind a zero page, and its metadata, which is written over that.
 pub record IsQueueFiled (settings : Settings) (list : List Pair) (empty added built : Built) (meta : QueueMeta) (count : ℕ)

@@ -1,17 +1,7 @@
 -- Databases that stand one behind the other, as joints.
 use Rattle.std.proofs.Common.{◌≡◌, ℕ, ◌+◌, ◌<◌, ◌≤◌, true, List, [], ◌∷◌, length, map, arith, refl, sym, ◌∙◌, ap, inl, inr, Contains, sum_by}
-use Rattle.std.proofs.lemmas.Bool.{cases_lt}
-use Rattle.std.proofs.lemmas.List.Sums.{sum_by-cons}
-use Rattle.bdb_io.proofs.of_format.MemberLemmas.{first_member, later_member, member_cases, no_member}
-use Rattle.bdb_need.proofs.of_law_grove.ChainLemmas.{between_is, is_between}
-use Rattle.bdb_text_format.specs.declared.sections.Section.{Section}
-use Rattle.bdb_need.specs.of_pack.Built.{Built}
-use Rattle.bdb_need.specs.of_law_join.Joining.{IsInPartOf, IsMetaOf, Joint}
-use Rattle.bdb_need.specs.Need.{section_pages}
-use Rattle.bdb_mkfile.specs.declared.named_metadata.DatabaseMeta.{DatabaseMeta}
-use Rattle.bdb_mkfile.specs.Layout.{AreJointsFrom}
-use Rattle.bdb_mkfile.specs.Standing.{AreLaid, IsDatabaseLaid, Laid, part_of}
-use Rattle.bdb_mkfile.specs.WrittenMetadata.{AreWrittenFrom, IsWrittenOn}
+use Rattle.bdb_mkfile.proofs.Common.{cases_lt, sum_by-cons, first_member, later_member, member_cases, no_member, between_is, is_between, Section, Built, IsInPartOf, IsMetaOf, Joint, section_pages}
+use Rattle.bdb_mkfile.proofs.Common.{DatabaseMeta, AreJointsFrom, AreLaid, IsDatabaseLaid, Laid, part_of, AreWrittenFrom, IsWrittenOn}
 
 -- a database under its metadata page
 abbrev pub joint_at : ℕ → Laid → Joint

@@ -1,18 +1,7 @@
 -- Settings and the metadata that says them.
-use Rattle.std.proofs.Common.{◌≡◌, ◌⊎◌, ℕ, ◌&&◌, Bool, true, false, List, [], ◌∷◌, Option, None, refl, sym, ◌∙◌, ap, subst, inl, inr}
-use Rattle.bdb_io.specs.of_format.declared.kinds.Kind.{Kind}
-use Rattle.bdb_io.specs.of_format.declared.kinds.Kind.TheVariants.{Btree, Recno, Hash, Queue}
-use Rattle.bdb_io.specs.of_format.declared.kinds.Order.{Order}
-use Rattle.bdb_io.specs.of_format.declared.metadata.BtreeMeta.{BtreeMeta}
-use Rattle.bdb_io.specs.of_format.declared.settings.Settings.{Settings}
-use Rattle.bdb_io.specs.of_format.Terms.{BtreeFields, first_row, is_page_size, names_databases, plain_settings, settings_of}
-use Rattle.bdb_need.specs.of_meta.RowGroups.{flag_rows}
-use Rattle.bdb_text_format.specs.Terms.{header_lines}
-use Rattle.bdb_text_format.specs.declared.pairs.Pair.{Pair}
-use Rattle.bdb_need.proofs.of_mkleaves.RunLemmas.{all_map}
-use Rattle.bdb_need.specs.of_mktree.Lists.{IsKeyFor, IsTreeList, IsPairFor, is_in_order, may_follow}
-use Rattle.bdb_mkfile.specs.Trees.{IsTreeSettings}
-use Rattle.bdb_mkfile.specs.FileSettings.{file_settings, own_settings, tree_meta}
+use Rattle.std.proofs.Common.{arith, ◌≡◌, ◌⊎◌, ℕ, ◌&&◌, Bool, true, false, List, [], ◌∷◌, Option, None, refl, sym, ◌∙◌, subst, inl, inr}
+use Rattle.bdb_mkfile.proofs.Common.{Kind, Btree, Recno, Hash, Queue, Order, BtreeMeta, Settings, BtreeFields, first_row, is_page_size, names_databases, plain_settings, settings_of, flag_rows}
+use Rattle.bdb_mkfile.proofs.Common.{header_lines, Pair, all_map, IsKeyFor, IsTreeList, IsPairFor, is_in_order, may_follow, IsTreeSettings, file_settings, own_settings, tree_meta}
 
 -- what metadata says of settings
 pub record SaysSettings (settings : Settings) (meta : BtreeMeta) : Type 0 where
@@ -78,30 +67,19 @@ in_order_own : (k : Kind) (size : ℕ) (order : Order) (settings : Settings) (pa
 in_order_own k size order settings [] same = refl
 in_order_own k size order settings (a ∷ []) same = refl
 in_order_own k size order settings (a ∷ b ∷ pairs) same =
-    let first = follow_own k size order settings a b ∙ ap (λ q. may_follow q settings a b) (sym same) in
-    let rest = in_order_own k size order settings (b ∷ pairs) same in
-    ap (λ t. t && is_in_order (own_settings k size order settings) (b ∷ pairs)) first
-    ∙ ap (λ t. may_follow settings.kind settings a b && t) rest
+    grind (arith, follow_own, may_follow, is_in_order, own_settings, in_order_own k size order settings (b ∷ pairs) same)
 
 pair_own : (k : Kind) (size : ℕ) (order : Order) (settings : Settings) (pair : Pair) → settings.kind ≡ k → IsPairFor settings pair
     → IsPairFor (own_settings k size order settings) pair
-pair_own Btree size order settings pair same is =
-    record { key = subst (λ q. IsKeyFor q pair.key) same is.key; short = is.short; long = λ e. absurd (cc e) }
+pair_own Btree size order settings pair same is = record { key = subst (λ q. IsKeyFor q pair.key) same is.key; short = is.short; long = λ e. absurd (cc e) }
 pair_own Recno size order settings pair same is =
     record { key = subst (λ q. IsKeyFor q pair.key) same is.key; short = is.short; long = λ e fixed. is.long same fixed }
-pair_own Hash size order settings pair same is =
-    record { key = subst (λ q. IsKeyFor q pair.key) same is.key; short = is.short; long = λ e. absurd (cc e) }
-pair_own Queue size order settings pair same is =
-    record { key = subst (λ q. IsKeyFor q pair.key) same is.key; short = is.short; long = λ e. absurd (cc e) }
+pair_own Hash size order settings pair same is = record { key = subst (λ q. IsKeyFor q pair.key) same is.key; short = is.short; long = λ e. absurd (cc e) }
+pair_own Queue size order settings pair same is = record { key = subst (λ q. IsKeyFor q pair.key) same is.key; short = is.short; long = λ e. absurd (cc e) }
 
 -- a list for settings is one for the database's own
 pub list_own : (settings : Settings) (pairs : List Pair) → IsTreeList settings pairs → IsTreeList (file_settings settings) pairs
-list_own settings pairs is = record {
-  each =
-      all_map {P = IsPairFor settings} {Q = IsPairFor (file_settings settings)}
-      (λ pair fit. pair_own settings.kind settings.page_size settings.order settings pair refl fit) pairs is.each;
-  in_order = in_order_own settings.kind settings.page_size settings.order settings pairs refl ∙ is.in_order;
-}
+list_own settings pairs is = grind (arith, all_map, IsPairFor, file_settings, pair_own, in_order_own)
 
 -- Settings as a header shows them.
 
@@ -120,14 +98,7 @@ settings_shown print name settings = shown settings.kind print name settings
 fit_own : (k : Kind) (size : ℕ) (order : Order) (settings : Settings) → (k ≡ Btree) ⊎ (k ≡ Recno) → is_page_size size ≡ true
     → (settings.sorted ≡ true → settings.duplicates ≡ true) → (settings.recnum ≡ true → settings.duplicates ≡ false)
     → IsTreeSettings (own_settings k size order settings)
-fit_own Btree size order settings tree legal sorted counted = record {
-  kind = inl refl;
-  page_size = legal;
-  sorted = sorted;
-  counted = counted;
-  records = λ e.
-      absurd (cc e);
-}
+fit_own Btree size order settings tree legal sorted counted = grind arith
 fit_own Recno size order settings tree legal sorted counted =
     record { kind = inr refl; page_size = legal; sorted = λ on. absurd (cc on); counted = λ on. absurd (cc on); records = λ e. refl }
 fit_own Hash size order settings tree legal sorted counted = absurd (elim tree [ inl e ↦ cc e | inr e ↦ cc e ])
@@ -149,6 +120,4 @@ only_duplicates false duplicates means none = refl
 
 -- data are sorted in the file where the settings say so
 pub sorted_in_file : (settings : Settings) → IsTreeSettings settings → (file_settings settings).sorted ≡ settings.sorted
-sorted_in_file settings is =
-    sorted_own settings.kind settings.page_size settings.order settings is.kind
-    (λ recno. only_duplicates settings.sorted settings.duplicates is.sorted (is.records recno))
+sorted_in_file settings is = grind (arith, sorted_own, only_duplicates)

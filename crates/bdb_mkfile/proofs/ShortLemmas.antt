@@ -1,41 +1,12 @@
 -- Lengths of names, keys and data: what a test of them says, and that a long one makes the image too large.
 use Rattle.std.proofs.Common.{◌≡◌, ℕ, ◌+◌, ◌-◌, ◌*◌, ◌<◌, ◌≤◌, ◌^◌, Bool, true, false, cond, List, [], ◌∷◌, ◌++◌, length, map, arith, refl, sym, ◌∙◌, ap, subst}
-use Rattle.std.proofs.Common.{inl, inr, Option, Some, None, get_or, length-append, true≢false, ◌%◌, ◌&&◌, if◌then◌else◌, is_some, nat_lt, replicate}
-use Rattle.std.specs.Cmp.Derive.{both_true}
-use Rattle.std.specs.List.{All, list_all, sum_by}
-use Rattle.std.proofs.lemmas.Bool.{and_parts, lt-ltb}
-use Rattle.std.proofs.lemmas.Bool.Decides.{nat_tests}
-use Rattle.std.proofs.lemmas.List.Elements.{All-cons, All-head, All-map, All-nil, All-tail, All-weaker}
-use Rattle.std.proofs.lemmas.List.Folds.{fold-map}
-use Rattle.bdb_io.specs.of_format.declared.kinds.Kind.{Kind}
-use Rattle.bdb_io.specs.of_format.declared.kinds.Kind.TheVariants.{Btree, Recno, Hash, Queue}
-use Rattle.bdb_io.specs.of_format.declared.settings.Settings.{Settings}
-use Rattle.bdb_io.specs.of_format.Terms.{is_page_size}
-use Rattle.bdb_text_format.specs.declared.pairs.Pair.{Pair}
-use Rattle.bdb_text_format.specs.declared.pairs.Key.{Key}
-use Rattle.bdb_text_format.specs.declared.pairs.Key.TheVariants.{Bytes, Number}
-use Rattle.bdb_text_format.specs.declared.pairs.TextPair.{TextPair}
-use Rattle.bdb_text_format.specs.declared.sections.Section.{Section}
-use Rattle.bdb_text_format.specs.Terms.{holds_records}
-use Rattle.bdb_law_sections.specs.Fit.{AreFit, AreNamedBehind, IsFitPair, IsFitSection, is_number}
-use Rattle.bdb_need.specs.of_mkleaves.Runs.{IsShort}
-use Rattle.bdb_need.specs.of_mktree.Lists.{HasNumber, bytes_in}
-use Rattle.bdb_need.specs.of_settle.declared.load_error.LoadError.TheVariants.{TooLarge}
-use Rattle.bdb_need.specs.of_settle.ListLaw.{HasShortBytes}
-use Rattle.bdb_need.specs.of_settle.LoadErrors.{load_error}
-use Rattle.bdb_need.specs.of_settle.Loaded.{filled_value, has_length, loaded, loaded_pair, loaded_section, ordered, ordered_section, unlined, unlined_pairs}
-use Rattle.bdb_need.specs.of_settle.Loaded.{unnumbered}
-use Rattle.bdb_need.proofs.of_settle.ErrorLemmas.{IsSound, sound_pairs}
-use Rattle.bdb_need.proofs.of_settle.FillingLemmas.{fill, fold_filled}
-use Rattle.bdb_need.proofs.of_settle.ListLawLemmas.{filled_short}
-use Rattle.bdb_need.proofs.of_settle.OrderedLemmas.{fold_all}
-use Rattle.bdb_need.specs.Need.{is_short, list_pages, master_pages, master_settings, name_in, need_of, section_pages, sized}
-use Rattle.bdb_need.proofs.NeedLemmas.{HasShortName, listed_again, short_bytes}
-use Rattle.bdb_mkfile.specs.NamedImages.{name_entry}
-use Rattle.bdb_mkfile.specs.Builds.{image_size, in_name_order, put_named}
-use Rattle.bdb_mkfile.specs.Lengths.{is_short_pair, is_short_section}
-use Rattle.bdb_mkfile.specs.Loading.{size_error}
-use Rattle.bdb_mkfile.specs.Order.{AreApart, IsApart, named_before}
+use Rattle.std.proofs.Common.{inl, inr, Option, Some, None, get_or, length-append, true≢false, ◌%◌, ◌&&◌, if◌then◌else◌, is_some, nat_lt}
+use Rattle.bdb_mkfile.proofs.Common.{both_true, All, list_all, sum_by, and_parts, lt-ltb, nat_tests, All-cons, All-head, All-map, All-nil, All-tail, All-weaker, fold-map, Kind, Btree, Recno, Hash}
+use Rattle.bdb_mkfile.proofs.Common.{Queue, Settings, is_page_size, Pair, Key, Bytes, Number, TextPair, Section, holds_records, AreFit, AreNamedBehind, IsFitPair, IsFitSection, is_number, IsShort}
+use Rattle.bdb_mkfile.proofs.Common.{HasNumber, bytes_in, TooLarge, HasShortBytes, load_error, filled_value, has_length, loaded, loaded_pair, loaded_section, ordered, ordered_section, unnumbered}
+use Rattle.bdb_mkfile.proofs.Common.{IsSound, sound_pairs, fill, fold_filled, filled_short, fold_all, is_short, list_pages, master_pages, master_settings, name_in, need_of, section_pages, sized}
+use Rattle.bdb_mkfile.proofs.Common.{HasShortName, listed_again, short_bytes, name_entry, image_size, in_name_order, put_named, is_short_pair, is_short_section, size_error, AreApart, IsApart, named_before}
+use Rattle.bdb_need.specs.of_settle.Loaded.{unlined, unlined_pairs}
 use Rattle.bdb_mkfile.proofs.ApartLemmas.{all_named, alone_unnamed, named_apart}
 use Rattle.bdb_mkfile.proofs.LongLemmas.{in_sum, no_bytes, short_keyed, short_records}
 use Rattle.bdb_mkfile.proofs.MasterLemmas.{master_same}
@@ -62,14 +33,7 @@ list_short (pair ∷ list) is =
 -- Records that are filled up.
 
 longer : (settings : Settings) (value : List ℕ) → length value ≤ length (filled_value settings value)
-longer settings value = by_length (has_length settings)
-  where
-    filling : List ℕ
-    filling = replicate (settings.re_len - length value) (settings.re_pad % 256)
-
-    by_length : (b : Bool) → length value ≤ length (cond b (value ++ filling) value)
-    by_length true = omega (arith, length-append value filling)
-    by_length false = omega arith
+longer settings value = grind (arith, has_length, length-append)
 
 unfilled : (settings : Settings) (list : List Pair) → All HasShortBytes (map (fill settings) list) → All HasShortBytes list
 unfilled settings [] all = All-nil HasShortBytes
@@ -149,10 +113,7 @@ records_within settings most (pair ∷ pairs) records fixed fit sound =
     (records_within settings most pairs records fixed (All-tail of pair pairs fit) (All-tail (IsSound settings) pair pairs sound))
 
 record_short : (re_len : ℕ) (pair : Pair) → re_len < 2 ^ 32 → IsRecordWithin re_len pair → HasShortBytes pair
-record_short re_len pair below is =
-    let none : length (bytes_in pair.key) ≡ 0 = ap length (no_bytes pair.key is.numbered) in
-    let within = is.within in
-    record { key = omega (arith, none); value = omega (arith, within, below) }
+record_short re_len pair below is = grind (arith, bytes_in, no_bytes, numbered)
 
 -- a section among the pages of an image
 pub record IsAmong (most size pages : ℕ) (section : Section) : Type 0 where
@@ -224,8 +185,7 @@ names_loaded (section ∷ sections) all =
 
 pub settled_apart : (sections : List Section) → AreApart sections → AreApart (map loaded_section sections)
 settled_apart [] apart = tt
-settled_apart (section ∷ sections) apart =
-    (All-map (IsApart (loaded_section section)) loaded_section sections apart.0, settled_apart sections apart.1)
+settled_apart (section ∷ sections) apart = (All-map (IsApart (loaded_section section)) loaded_section sections apart.0, settled_apart sections apart.1)
 
 -- names under a master whose pages have few bytes
 under_master : (size pages : ℕ) (sections : List Section) → is_page_size size ≡ true → pages * size ≤ 2 ^ 30 → AreApart sections

@@ -1,25 +1,9 @@
 -- Databases that stand on their pages while others are built behind them.
 use Rattle.std.proofs.Common.{◌≡◌, ℕ, ◌+◌, ◌<◌, ◌≤◌, true, List, [], ◌∷◌, ◌++◌, length, replicate, arith, refl, sym, ◌∙◌, ap, subst, inl, inr, length-append}
-use Rattle.std.proofs.lemmas.Bool.{cases_lt}
-use Rattle.std.proofs.lemmas.List.{get_or_append_left, reverse-append}
-use Rattle.bdb_need.proofs.of_pack.ImageLemmas.{page_so_far}
-use Rattle.bdb_io.specs.of_format.Terms.{File, ListKey, Metadata, abstract_page, file_of, is_zero, page_at, page_code, settings_of}
-use Rattle.bdb_need.specs.of_law_grove.Growing.{IsLater, IsSamePage}
-use Rattle.bdb_need.specs.of_law_grove.Part.{between}
-use Rattle.bdb_need.proofs.of_law_grove.ChainLemmas.{between_is}
-use Rattle.bdb_text_format.specs.declared.sections.Section.{Section}
-use Rattle.bdb_text_format.specs.Terms.{listed}
-use Rattle.bdb_need.specs.of_pack.Built.{Built, bytes_of, file_so_far, with_zeros}
-use Rattle.bdb_need.proofs.of_pack.AddedLemmas.{added_zero}
-use Rattle.bdb_need.specs.of_mkleaves.Layout.{HasPagesOf}
+use Rattle.bdb_mkfile.proofs.Common.{cases_lt, get_or_append_left, reverse-append, page_so_far, File, ListKey, Metadata, abstract_page, file_of, is_zero, page_at, page_code, settings_of, IsLater}
+use Rattle.bdb_mkfile.proofs.Common.{IsSamePage, between, between_is, Section, listed, Built, bytes_of, file_so_far, with_zeros, added_zero, HasPagesOf, unlined_pairs, list_pages, sized, own_settings}
+use Rattle.bdb_mkfile.proofs.Common.{DatabaseMeta, AreAdded, AreDatabasesBuilt, AreLaid, HoldsPart, IsDatabaseLaid, IsSectionBuilt, Laid, TreeIsIn, meta_for, settings_in, fields_of}
 use Rattle.bdb_need.specs.of_mkleaves.Leaves.{KeepsAll, KeepsBefore}
-use Rattle.bdb_need.specs.TreePages.{unlined_pairs}
-use Rattle.bdb_need.specs.Need.{list_pages, sized}
-use Rattle.bdb_mkfile.specs.FileSettings.{own_settings}
-use Rattle.bdb_mkfile.specs.declared.named_metadata.DatabaseMeta.{DatabaseMeta}
-use Rattle.bdb_mkfile.specs.Standing.{AreAdded, AreDatabasesBuilt, AreLaid, HoldsPart, IsDatabaseLaid, IsSectionBuilt, Laid}
-use Rattle.bdb_mkfile.specs.Metas.{TreeIsIn, meta_for, settings_in}
-use Rattle.bdb_mkfile.specs.WrittenMetadata.{fields_of}
 
 -- Pages that are kept.
 

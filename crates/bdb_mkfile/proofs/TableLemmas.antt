@@ -1,29 +1,12 @@
 -- The image of a table.
-use Rattle.std.proofs.Common.{◌≡◌, ℕ, ◌+◌, ◌-◌, ◌*◌, ◌<◌, ◌≤◌, ◌^◌, Bool, true, false, cond, List, [], ◌∷◌, length, take, None}
-use Rattle.std.proofs.Common.{arith, refl, sym, ◌∙◌, ap, subst}
+use Rattle.std.proofs.Common.{◌≡◌, ℕ, ◌+◌, ◌-◌, ◌*◌, ◌<◌, ◌≤◌, ◌^◌, Bool, true, false, cond, List, [], ◌∷◌, length, take, None, arith, refl, sym, ◌∙◌, ap, subst}
 use Rattle.bdb_io.specs.of_format.declared.kinds.Kind.TheVariants.{Hash as HashKind}
-use Rattle.bdb_io.specs.of_format.declared.kinds.Order.{Order}
+use Rattle.bdb_mkfile.proofs.Common.{Order, Head, HashMeta, Settings, HashFields, file_of, four_at, has_bit, hash_fields, hash_settings, is_page_size, list_of, plain_settings, settings_of}
+use Rattle.bdb_mkfile.proofs.Common.{table_bytes, size_bounds, length-map-range_with_len, Pair, listed, AreWhole, Built, bytes_of, joined_pages, with_zeros, written_over, written_whole, IsSoundAlone}
+use Rattle.bdb_mkfile.proofs.Common.{AreLegal, HasBuiltBuckets, table_meta, table_bits, table_size, table_units, IsTableBuilt, file_settings, own_settings, IsTableImage, table_fields, table_first}
+use Rattle.bdb_mkfile.proofs.Common.{table_pages, IsWrittenTable, table_part}
 use Rattle.bdb_io.specs.of_format.declared.metadata.FileKind.TheVariants.{Hash}
-use Rattle.bdb_io.specs.of_format.declared.metadata.Head.{Head}
-use Rattle.bdb_io.specs.of_format.declared.metadata.HashMeta.{HashMeta}
-use Rattle.bdb_io.specs.of_format.declared.settings.Settings.{Settings}
-use Rattle.bdb_io.specs.of_format.Terms.{HashFields, file_of, four_at, has_bit, hash_fields, hash_settings, is_page_size, list_of, plain_settings, settings_of}
-use Rattle.bdb_io.specs.of_format.Terms.{table_bytes}
-use Rattle.bdb_io.proofs.of_format.SizeLemmas.{size_bounds}
-use Rattle.std.proofs.lemmas.List.FromFn.{length-map-range_with_len}
-use Rattle.bdb_text_format.specs.declared.pairs.Pair.{Pair}
-use Rattle.bdb_text_format.specs.Terms.{listed}
-use Rattle.bdb_need.specs.of_pack.Built.{AreWhole, Built, bytes_of, joined_pages, with_zeros, written_over}
-use Rattle.bdb_need.proofs.of_pack.CutLemmas.{written_whole}
-use Rattle.bdb_need.specs.of_law_join.Alone.{IsSoundAlone}
-use Rattle.bdb_need.specs.of_law_join.Written.{AreLegal}
-use Rattle.bdb_need.specs.of_law_buckets.Tables.{HasBuiltBuckets, table_meta}
-use Rattle.bdb_need.specs.of_mkhash.Buckets.{table_bits, table_size, table_units}
-use Rattle.bdb_need.specs.of_mkhash.Table.{IsTableBuilt}
-use Rattle.bdb_mkfile.specs.FileSettings.{file_settings, own_settings}
 use Rattle.bdb_mkfile.proofs.TreeLemmas.{first_zero}
-use Rattle.bdb_mkfile.specs.LoneImages.{IsTableImage, table_fields, table_first, table_pages}
-use Rattle.bdb_mkfile.specs.WrittenTables.{IsWrittenTable, table_part}
 use Rattle.bdb_mkfile.proofs.FirstLemmas.{IsUnderMeta, head_is, image_first, image_length}
 use Rattle.bdb_mkfile.proofs.MetaLemmas.{length-table}
 use Rattle.bdb_mkfile.proofs.WrittenLemmas.{under_table, written_tables_are_sound}
@@ -43,8 +26,7 @@ said_by size order false false ffactor both = refl
 says_settings : (settings : Settings) (first bits : ℕ) → (settings.sorted ≡ true → settings.duplicates ≡ true)
     → hash_settings settings.page_size settings.order (table_meta settings first bits)
     ≡ own_settings HashKind settings.page_size settings.order settings
-says_settings settings first bits both =
-    said_by settings.page_size settings.order settings.duplicates settings.sorted settings.ffactor both
+says_settings settings first bits both = said_by settings.page_size settings.order settings.duplicates settings.sorted settings.ffactor both
 
 -- The pages of a table that was built behind a zero page, and its metadata, which is written over that.
 pub record IsTableFiled (settings : Settings) (list : List Pair) (empty added built : Built) (meta : HashMeta) (count elements : ℕ)

@@ -1,27 +1,11 @@
 -- The metadata of tables under names.
 use Rattle.std.proofs.Common.{◌≡◌, ℕ, ◌+◌, ◌-◌, ◌<◌, ◌*◌, Bool, true, false, List, ◌++◌, length, arith, refl, sym, ◌∙◌, ap, subst, flat_map}
-use Rattle.std.proofs.lemmas.List.FromFn.{length-map-range_with_len}
+use Rattle.bdb_mkfile.proofs.Common.{length-map-range_with_len, Order, Head, HashMeta, Settings, File, HashFields, Meta, database_rows, four_at, hash_fields, hash_list, is_page_size, settings_of}
+use Rattle.bdb_mkfile.proofs.Common.{spelled, table_bytes, table_pairs, zeros, size_bounds, table_page, Built, bytes_of, head_for, free_of, AreLegal, ReadsAs, reads_common, table_meta, own_settings}
+use Rattle.bdb_mkfile.proofs.Common.{TablesAreSpelled, TablesHaveNames, named_table_meta}
 use Rattle.bdb_io.specs.of_format.declared.kinds.Kind.TheVariants.{Hash as HashKind}
-use Rattle.bdb_io.specs.of_format.declared.kinds.Order.{Order}
 use Rattle.bdb_io.specs.of_format.declared.metadata.FileKind.TheVariants.{Hash}
-use Rattle.bdb_io.specs.of_format.declared.metadata.Head.{Head}
-use Rattle.bdb_io.specs.of_format.declared.metadata.HashMeta.{HashMeta}
-use Rattle.bdb_io.specs.of_format.declared.settings.Settings.{Settings}
-use Rattle.bdb_io.specs.of_format.ByPage.{holding}
-use Rattle.bdb_io.specs.of_format.Terms.{File, HashFields, Meta, database_rows, four_at, hash_fields, hash_list, is_page_size, settings_of, spelled}
-use Rattle.bdb_io.specs.of_format.Terms.{table_bytes, table_pairs, zeros}
-use Rattle.bdb_io.proofs.of_format.SizeLemmas.{size_bounds}
-use Rattle.bdb_need.proofs.of_image.HeldLemmas.{table_page}
-use Rattle.bdb_need.specs.of_pack.Built.{Built, bytes_of}
-use Rattle.bdb_need.specs.of_law_join.Filed.{head_for}
-use Rattle.bdb_need.specs.of_law_join.Joining.{free_of}
-use Rattle.bdb_need.specs.of_law_join.Written.{AreLegal}
-use Rattle.bdb_need.proofs.of_law_join.CommonLemmas.{ReadsAs, reads_common}
-use Rattle.bdb_need.specs.of_law_buckets.Tables.{table_meta}
-use Rattle.bdb_mkfile.specs.FileSettings.{own_settings}
 use Rattle.bdb_mkfile.proofs.MetaLemmas.{IsTablePage, few_flags, keyed_right, length-table, table_accepted}
-use Rattle.bdb_mkfile.specs.NamedLaws.{TablesAreSpelled, TablesHaveNames}
-use Rattle.bdb_mkfile.specs.Layout.{named_table_meta}
 
 -- Settings.
 
@@ -52,14 +36,7 @@ rows_by g settings first bits p false false = refl
 
 pub tables_have_names : TablesHaveNames
 unfolding table_pairs hash_list
-tables_have_names g pages settings first bits list is =
-    record {
-      branch = is.branch;
-      entered = record { fit = is.entered.fit; once = is.entered.once };
-      trees = is.trees;
-      contents = λ p. ap holding (rows_by g settings first bits p settings.duplicates settings.sorted) ∙ is.contents p;
-      list = is.list;
-    }
+tables_have_names g pages settings first bits list is = grind (arith, rows_by)
 
 -- The page.
 
@@ -81,11 +58,7 @@ reads_page built number elements page meta pages there bytes =
 page_length : (built : Built) (number elements : ℕ) (page : List ℕ) (meta : HashMeta) → AreLegal built
     → page ≡ table_bytes built.order built.size number (length built.pages - 1) elements meta → hash_fields built.order page ≡ meta
     → length page ≡ built.size
-page_length built number elements page meta pages bytes fields =
-    let spares : length meta.spares ≡ 32 =
-    sym (ap (λ (m : HashMeta). length m.spares) fields) ∙ length-map-range_with_len (λ g. four_at built.order page (96 + 4 * g)) 0 32 in
-    ap length bytes
-    ∙ length-table built.order built.size number (length built.pages - 1) elements meta (omega (arith, (size_bounds built.size pages.legal).0)) spares
+page_length built number elements page meta pages bytes fields = grind (arith, HashMeta, length-map-range_with_len, four_at, length-table, size_bounds)
 
 pub tables_are_spelled : TablesAreSpelled
 tables_are_spelled built joint settings first bits elements pages above there some from room is bytes fields =

@@ -1,41 +1,12 @@
 -- A tree under the metadata that is written over page 0.
-use Rattle.std.proofs.Common.{◌≡◌, ℕ, ◌+◌, ◌-◌, ◌*◌, ◌<◌, ◌≤◌, ◌^◌, true, List, [], ◌∷◌, length, replicate, take, Bool}
-use Rattle.std.proofs.Common.{arith, refl, sym, ◌∙◌, ap, subst, length-append, IsTrue}
-use Rattle.std.proofs.lemmas.List.{length-set, take_at}
-use Rattle.bdb_io.specs.of_format.declared.kinds.Order.{Order}
-use Rattle.bdb_io.specs.of_format.declared.metadata.BtreeMeta.{BtreeMeta}
-use Rattle.bdb_io.specs.of_format.declared.settings.Settings.{Settings}
-use Rattle.bdb_io.specs.of_format.Terms.{BtreeFields, btree_bytes, btree_fields, file_of, head_of, is_page_size, is_zero, settings_of}
-use Rattle.bdb_io.proofs.of_format.SizeLemmas.{size_bounds}
-use Rattle.bdb_text_format.specs.declared.pairs.Pair.{Pair}
-use Rattle.bdb_text_format.specs.Terms.{listed}
-use Rattle.bdb_need.specs.of_law_grove.Growing.{IsCounted, IsLater}
-use Rattle.bdb_need.specs.of_law_grove.Part.{between}
-use Rattle.bdb_need.proofs.of_law_grove.ChainLemmas.{between_is}
-use Rattle.bdb_need.specs.of_pack.Built.{AreWhole, Built, bytes_of, file_so_far, joined_pages, with_page, with_zeros, written_over}
-use Rattle.bdb_need.proofs.of_pack.AddedLemmas.{added_zero}
-use Rattle.bdb_need.proofs.of_pack.CutLemmas.{all_size, page_whole, written_whole}
-use Rattle.bdb_need.proofs.of_pack.ImageLemmas.{counted_so_far}
-use Rattle.bdb_need.specs.of_law_join.Alone.{IsSoundAlone}
-use Rattle.bdb_need.proofs.of_law_join.ReadLemmas.{page_read}
-use Rattle.bdb_need.specs.of_law_join.Written.{HasHead, HoldsTree, IsWritten, tree_part}
+use Rattle.std.proofs.Common.{◌≡◌, ℕ, ◌+◌, ◌-◌, ◌*◌, ◌<◌, ◌≤◌, ◌^◌, true, List, [], ◌∷◌, length, replicate, take, Bool, arith, refl, sym, ◌∙◌, ap, subst, length-append, IsTrue}
+use Rattle.bdb_mkfile.proofs.Common.{length-set, take_at, Order, BtreeMeta, Settings, BtreeFields, btree_bytes, btree_fields, file_of, head_of, is_page_size, is_zero, settings_of, size_bounds, Pair}
+use Rattle.bdb_mkfile.proofs.Common.{listed, IsCounted, IsLater, between, between_is, AreWhole, Built, bytes_of, file_so_far, joined_pages, with_page, with_zeros, written_over, added_zero, all_size}
+use Rattle.bdb_mkfile.proofs.Common.{page_whole, written_whole, counted_so_far, IsSoundAlone, page_read, HasHead, HoldsTree, IsWritten, tree_part, AreTreesIn, HasPagesOf, tree_size, TreeUnit}
+use Rattle.bdb_mkfile.proofs.Common.{LeafType, later_self, trees_are_in, later_before, begins, IsTreeBuilt, units_in, is_counted, leaf_type_of, tree_pages, IsTreeImage, IsTreeSettings, tree_first}
+use Rattle.bdb_mkfile.proofs.Common.{file_settings, tree_meta, length-btree}
 use Rattle.bdb_need.proofs.of_law_join.WrittenLemmas.{above_stay, written_pages_are_read, written_trees_are_sound}
-use Rattle.bdb_need.specs.of_mkleaves.Layout.{AreTreesIn, HasPagesOf}
-use Rattle.bdb_need.specs.of_mkleaves.Spread.{tree_size}
-use Rattle.bdb_need.specs.of_mkleaves.Units.{TreeUnit}
-use Rattle.bdb_need.specs.of_mkleaves.declared.leaf_type.LeafType.{LeafType}
-use Rattle.bdb_need.proofs.of_mkleaves.FilledLemmas.{later_self}
-use Rattle.bdb_need.proofs.of_mkleaves.LayoutLemmas.{trees_are_in}
-use Rattle.bdb_need.proofs.of_mkleaves.RunLemmas.{later_before}
-use Rattle.bdb_need.proofs.of_mkqueue.WrittenLemmas.{begins}
-use Rattle.bdb_need.specs.of_mktree.Building.{IsTreeBuilt}
-use Rattle.bdb_need.specs.of_mktree.Lists.{units_in}
-use Rattle.bdb_need.specs.of_mktree.Units.{is_counted, leaf_type_of}
-use Rattle.bdb_need.specs.TreePages.{tree_pages}
-use Rattle.bdb_mkfile.specs.Trees.{IsTreeImage, IsTreeSettings, tree_first}
-use Rattle.bdb_mkfile.specs.FileSettings.{file_settings, tree_meta}
 use Rattle.bdb_mkfile.proofs.SettingsLemmas.{SaysSettings, says_settings}
-use Rattle.bdb_need.proofs.of_law_join.FiledLemmas.{length-btree}
 
 -- the metadata of page 0 as it is written through the lent page
 pub first_written : (old : Built) (page written : List ℕ) (order : Order) (last : ℕ) (meta : BtreeMeta) → 1 ≤ length old.pages → AreWhole old
@@ -43,15 +14,7 @@ pub first_written : (old : Built) (page written : List ℕ) (order : Order) (las
     → written ≡ btree_bytes order (length page) 0 last meta
     → written_over old 0 written ≡ with_page old 0 (btree_bytes old.order old.size 0 (length old.pages - 1) meta)
 first_written old page written order last meta some whole legal ordered counted lent is =
-    let low : 0 < length old.pages = omega (arith, some) in
-    let long : length page ≡ old.size = ap length lent ∙ whole 0 low in
-    let new : List ℕ = btree_bytes old.order old.size 0 (length old.pages - 1) meta in
-    let same : written ≡ new =
-    is ∙ (ap (λ o. btree_bytes o (length page) 0 last meta) ordered
-    ∙ (ap (λ n. btree_bytes old.order n 0 last meta) long ∙ ap (λ n. btree_bytes old.order old.size 0 n meta) counted)) in
-    ap (written_over old 0) same
-    ∙ written_whole old 0 new whole low
-    (length-btree old.order old.size 0 (length old.pages - 1) meta (omega (arith, (size_bounds old.size legal).0)))
+    grind (arith, btree_bytes, written_over, written_whole, length-btree, size_bounds)
 
 -- Pages of a tree above a page kept for its metadata, and that metadata.
 pub record IsTopped (settings : Settings) (list : List Pair) (old built : Built) (root : ℕ) (meta : BtreeMeta) : Type 0 where

@@ -1,16 +1,7 @@
 -- The metadata of trees under names, and of the master.
 use Rattle.std.proofs.Common.{◌≡◌, ℕ, ◌≤◌, Bool, true, false, None, arith, refl, sym, inl, inr, subst, ◌==◌}
-use Rattle.std.proofs.lemmas.Bool.{ne_eqb}
-use Rattle.bdb_io.specs.of_format.declared.kinds.Kind.{Kind}
-use Rattle.bdb_io.specs.of_format.declared.kinds.Kind.TheVariants.{Btree, Recno}
-use Rattle.bdb_io.specs.of_format.declared.kinds.Order.{Order}
-use Rattle.bdb_io.specs.of_format.declared.settings.Settings.{Settings}
-use Rattle.bdb_io.specs.of_format.Terms.{BtreeFields, first_row, has_duplicates, names_databases, plain_settings, settings_of}
-use Rattle.bdb_need.specs.of_meta.RowGroups.{flag_rows}
-use Rattle.bdb_mkfile.specs.FileSettings.{own_settings}
-use Rattle.bdb_mkfile.specs.Trees.{IsTreeSettings}
-use Rattle.bdb_mkfile.specs.NamedLaws.{TreesHaveNames}
-use Rattle.bdb_mkfile.specs.Layout.{named_tree_meta, settings_of_master}
+use Rattle.bdb_mkfile.proofs.Common.{ne_eqb, Kind, Btree, Recno, Order, Settings, BtreeFields, first_row, has_duplicates, names_databases, plain_settings, settings_of, flag_rows, own_settings}
+use Rattle.bdb_mkfile.proofs.Common.{IsTreeSettings, TreesHaveNames, named_tree_meta, settings_of_master}
 
 -- Trees.
 
@@ -64,5 +55,4 @@ pub record IsMasterMeta (size : ℕ) (order : Order) (root : ℕ) : Type 0 where
   pub root_is : (named_tree_meta (settings_of_master size order) root).root ≡ root
 
 pub master_is_said : (size : ℕ) (order : Order) (root : ℕ) → IsMasterMeta size order root
-master_is_said size order root =
-    record { settings_are = refl; no_row = refl; master = refl; plain = refl; no_free = refl; root_is = refl }
+master_is_said size order root = record { settings_are = refl; no_row = refl; master = refl; plain = refl; no_free = refl; root_is = refl }

@@ -1,13 +1,7 @@
 -- Metadata that is written over pages.
-use Rattle.std.proofs.Common.{◌≡◌, ◌⊎◌, ℕ, ◌+◌, ◌-◌, ◌<◌, ◌≤◌, List, [], ◌∷◌, ◌++◌, length, reverse, take, get_or}
-use Rattle.std.proofs.Common.{arith, refl, sym, ◌∙◌, ap, subst, inl, inr, length-append}
-use Rattle.std.proofs.lemmas.List.{get_or-set_other, get_or-set_same, length-set, length-take-le, reverse-append, take_more}
-use Rattle.bdb_io.specs.of_format.declared.kinds.Order.{Order}
-use Rattle.bdb_need.specs.of_pack.Built.{Built, bytes_of, with_page, written_over}
-use Rattle.bdb_need.proofs.of_pack.CutLemmas.{page_whole, written_whole}
-use Rattle.bdb_need.specs.of_law_join.Written.{AreLegal}
-use Rattle.bdb_mkfile.specs.declared.named_metadata.DatabaseMeta.{DatabaseMeta}
-use Rattle.bdb_mkfile.specs.WrittenMetadata.{AreAsMany, ArePut, AreWrittenFrom, IsPut, IsWrittenOn, ReadsBack, meta_bytes}
+use Rattle.std.proofs.Common.{◌≡◌, ◌⊎◌, ℕ, ◌+◌, ◌-◌, ◌<◌, ◌≤◌, List, [], ◌∷◌, ◌++◌, length, reverse, take, get_or, arith, refl, sym, ◌∙◌, ap, subst, inl, inr, length-append}
+use Rattle.bdb_mkfile.proofs.Common.{get_or-set_other, get_or-set_same, length-set, length-take-le, reverse-append, take_more, Order, Built, bytes_of, with_page, written_over, page_whole}
+use Rattle.bdb_mkfile.proofs.Common.{written_whole, AreLegal, DatabaseMeta, AreAsMany, ArePut, AreWrittenFrom, IsPut, IsWrittenOn, ReadsBack, meta_bytes}
 
 -- what is written through the lent page
 pub record IsLentTo (old : Built) (number : ℕ) (page written : List ℕ) (order : Order) (last : ℕ) (meta : DatabaseMeta) : Type 0 where
@@ -82,13 +76,11 @@ still_written old new number (meta ∷ metas) many same are = (
 
 -- as many as before, twice
 pub many_again : (old now new : Built) → AreAsMany old now → AreAsMany now new → AreAsMany old new
-many_again old now new first second =
-    record { size = second.size ∙ first.size; order = second.order ∙ first.order; count = second.count ∙ first.count }
+many_again old now new first second = record { size = second.size ∙ first.size; order = second.order ∙ first.order; count = second.count ∙ first.count }
 
 -- nothing is written yet
 pub put_none : (old : Built) (beyond : ℕ) → ArePut old old beyond []
-put_none old beyond =
-    record { many = record { size = refl; order = refl; count = refl }; written = tt; same = λ p where_so. refl }
+put_none old beyond = record { many = record { size = refl; order = refl; count = refl }; written = tt; same = λ p where_so. refl }
 
 -- metadata on one page more, below the others
 pub put_more : (old now new : Built) (beyond number : ℕ) (metas : List DatabaseMeta) (meta : DatabaseMeta) → ArePut old now beyond metas

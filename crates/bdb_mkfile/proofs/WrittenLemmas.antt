@@ -1,48 +1,25 @@
 -- A table under metadata that is written over page 0.
 use Rattle.std.proofs.Common.{◌≡◌, ℕ, zero, suc, ◌+◌, ◌-◌, ◌<◌, ◌≤◌, true, List, [], ◌++◌, length, None, arith, refl, sym, ◌∙◌, ap, subst, flat_map, ◌*◌}
-use Rattle.std.proofs.lemmas.List.{get_or-set_other, get_or-set_same, length-set}
-use Rattle.std.proofs.lemmas.List.FromFn.{length-map-range_with_len}
+use Rattle.bdb_mkfile.proofs.Common.{get_or-set_other, get_or-set_same, length-set, length-map-range_with_len, Head, HashMeta, HashFields, Meta, abstract_page, file_of, form_code, four_at, head_of}
+use Rattle.bdb_mkfile.proofs.Common.{is_meta, is_page_size, page_at, page_bytes, spelled, table_bytes, zeros, size_bounds, tree_passed, table_page, tree_page, IsLater, IsSamePage, IsPart, Part}
+use Rattle.bdb_mkfile.proofs.Common.{between, between_is, is_between, Built, bytes_of, file_so_far, with_page, images_are_later, page_so_far, StandsAlone, HasForm, ReadsAs, head_accepted, page_read}
+use Rattle.bdb_mkfile.proofs.Common.{table_meta, table_bits, table_cost, IsWrittenTable, WrittenTablesAreSound, table_part}
 use Rattle.bdb_io.specs.of_format.declared.metadata.FileKind.TheVariants.{Hash}
-use Rattle.bdb_io.specs.of_format.declared.metadata.Head.{Head}
-use Rattle.bdb_io.specs.of_format.declared.metadata.HashMeta.{HashMeta}
-use Rattle.bdb_io.specs.of_format.Terms.{HashFields, Meta, abstract_page, file_of, form_code, four_at, head_of, is_meta, is_page_size, page_at, page_bytes}
-use Rattle.bdb_io.specs.of_format.Terms.{spelled, table_bytes, zeros}
 use Rattle.bdb_io.proofs.of_format.FileLemmas.{last_page, page_is}
 use Rattle.bdb_io.proofs.of_format.TypeLemmas.{byte_as}
-use Rattle.bdb_io.proofs.of_format.SizeLemmas.{size_bounds}
-use Rattle.bdb_need.proofs.of_image.CodeLemmas.{tree_passed}
-use Rattle.bdb_need.proofs.of_image.HeldLemmas.{table_page, tree_page}
-use Rattle.bdb_need.specs.of_law_grove.Growing.{IsLater, IsSamePage}
-use Rattle.bdb_need.specs.of_law_grove.Part.{IsPart, Part, between}
-use Rattle.bdb_need.proofs.of_law_grove.ChainLemmas.{between_is, is_between}
-use Rattle.bdb_need.specs.of_pack.Built.{Built, bytes_of, file_so_far, with_page}
 use Rattle.bdb_need.specs.of_pack.Stored.{IsLaterImage, TellsPages}
-use Rattle.bdb_need.proofs.of_pack.ImageLemmas.{images_are_later, page_so_far}
-use Rattle.bdb_need.specs.of_law_join.Alone.{StandsAlone}
-use Rattle.bdb_need.specs.of_law_join.Joining.{HasForm}
 use Rattle.bdb_need.proofs.of_law_join.AloneLemmas.{joins_alone, no_other_meta}
-use Rattle.bdb_need.proofs.of_law_join.CommonLemmas.{ReadsAs}
-use Rattle.bdb_need.proofs.of_law_join.HeadLemmas.{head_accepted}
-use Rattle.bdb_need.proofs.of_law_join.ReadLemmas.{page_read}
-use Rattle.bdb_need.specs.of_law_buckets.Tables.{table_meta}
-use Rattle.bdb_need.specs.of_mkhash.Buckets.{table_bits, table_cost}
-use Rattle.bdb_mkfile.specs.WrittenTables.{IsWrittenTable, WrittenTablesAreSound, table_part}
 use Rattle.bdb_mkfile.proofs.FirstLemmas.{IsUnderMeta, head_for, head_is, reads_page, says_head, still_whole}
 use Rattle.bdb_mkfile.proofs.MetaLemmas.{IsTablePage, buckets_fit, few_flags, keyed_right, length-table, some_bits, table_accepted}
 
 -- the metadata has a spare for each group
 spares_long : (built : Built) (page : List ℕ) (elements : ℕ) (meta : HashMeta) (image : List ℕ) → IsWrittenTable built page elements meta image
     → length meta.spares ≡ 32
-spares_long built page elements meta image is =
-    sym (ap (λ (m : HashMeta). length m.spares) is.fields)
-    ∙ length-map-range_with_len (λ g. four_at built.order page (96 + 4 * g)) 0 32
+spares_long built page elements meta image is = grind (arith, HashMeta, length-map-range_with_len, four_at)
 
 pub page_long : (built : Built) (page : List ℕ) (elements : ℕ) (meta : HashMeta) (image : List ℕ) → IsWrittenTable built page elements meta image
     → length page ≡ built.size
-page_long built page elements meta image is =
-    ap length is.bytes
-    ∙ length-table built.order built.size 0 (length built.pages - 1) elements meta (omega (arith, (size_bounds built.size is.pages.legal).0))
-    (spares_long built page elements meta image is)
+page_long built page elements meta image is = grind (arith, length-table, size_bounds, spares_long)
 
 pub under_table : (built : Built) (page : List ℕ) (elements : ℕ) (meta : HashMeta) (image : List ℕ) → IsWrittenTable built page elements meta image
     → IsUnderMeta built Hash page image

@@ -10,9 +10,9 @@ use bdb_need::Pages;
 use bdb_text_format::Sections;
 use std::alloc::{AllocError, Global};
 
-/// The image of sections under their names, in a file of this page size and order: page 0 is the metadata of the master, its tree
-/// follows, then the metadata of each section, and then the pages of their databases. The sections stand in the byte order of their
-/// names. Room for `room` bytes is taken at once. It is also refused where there would be more than 2^21 pages, and where a number doesn't fit its field.
+/// The image of sections under their names, in a file of this page size and order: page 0 is the metadata of the master, its tree follows, then the
+/// metadata of each section, and then the pages of their databases. The sections stand in the byte order of their names. Room for `room` bytes is
+/// taken at once. An error means that memory ran out, that there would be more than 2^21 pages, or that a number doesn't fit its field.
 pub fn named_image(
     alloc: Global,
     page_size: u32,

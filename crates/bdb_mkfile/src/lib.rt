@@ -20,7 +20,7 @@ pub use bdb_need::{
     Linked, LoadError, Meta, filled, hash5, is_among_names, is_too_wide, name_of, need, ordered,
     settle, sooner_where, with_pairs,
 };
-pub use bdb_text_format::{PairSlice, PlacedPairs, Section, Sections, TextPairs};
+pub use bdb_text_format::{KeyRef, PairSlice, PlacedPairs, Section, Sections, TextPairs};
 pub use image::named_image;
 pub use loading::{load, load_sound};
 pub use metadata::{file_settings, tree_meta};

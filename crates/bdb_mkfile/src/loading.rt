@@ -77,10 +77,10 @@ pub fn load_sound(alloc: Global, sections: Sections, max: u64) -> Result<Image, 
     Ok(settled_image(alloc, settled, room_for(pages, size))?)
 }
 
-/// The image of sections: a sound file with their databases, of at most `max` bytes, in the page size and the order of the first. Pages of
-/// buckets have type 2, and the root of a tree of data says how many there are. Metadata, its flags and the roots that it names, and the pages under these
-/// are those of `tree_image`, `table_image`, `queue_image` or `named_image`. An error is the first of the sections; where there is none, that the image
-/// would have more than `max` bytes, or lack of memory.
+/// A sound file of at most `max` bytes with the databases of sections, in the page size and byte order of the first. Pages of buckets have type 2,
+/// and the root of a tree of data says how many there are. Metadata, its flags and the roots that it names, and the pages under these are those of
+/// `tree_image`, `table_image`, `queue_image` or `named_image`. An error is the first load error of the sections (docs/FORMAT.md, "Loading"), by line
+/// and then by code; where there is none, that the file would have more than `max` bytes, or that memory ran out.
 pub fn load(alloc: Global, sections: Sections, max: u64) -> Result<Image, LoadError>
     requires max { max ≤ 2 ^ 30 }
     requires fit { AreLoadable sections }

@@ -11,8 +11,8 @@ use bdb_need::{Pages, build_queue, put_queue_meta};
 use bdb_text_format::PairSlice;
 use std::alloc::{AllocError, Global};
 
-/// The image of a queue with these settings and this list: page 0 is its metadata, and its pages follow. It is also refused where a record
-/// would stand on a page of 2^21 or above.
+/// The image of a queue with these settings and this list: page 0 is its metadata, and its pages follow. An
+/// error means that memory ran out, or that a record would stand on a page of 2^21 or above.
 pub fn queue_image(
     alloc: Global,
     settings: &Settings,

@@ -22,8 +22,9 @@ pub fn element_count(list: PairSlice<'_>) -> Result<u32, AllocError>
     }
 }
 
-/// The image of a hash with these settings and this list: page 0 is its metadata, and the pages of its table follow, those of buckets of type 2.
-/// It is also refused where there would be more than 2^21 pages, or where the number of pairs doesn't fit its field. Room for `room` bytes is taken at once.
+/// The image of a hash with these settings and this list: page 0 is its metadata, and the pages of its table follow, those of buckets of type 2. Room for
+/// `room` bytes is taken at once. An error means that memory ran out, that there would be more than 2^21 pages, or that the number of pairs doesn't fit its
+/// field.
 pub fn table_image(
     alloc: Global,
     settings: &Settings,

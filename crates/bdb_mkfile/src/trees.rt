@@ -27,8 +27,8 @@ fn put_first(pages: &mut Pages, meta: &BtreeMeta)
     put_btree_meta(pages.page_mut(0), order, 0, last, meta);
 }
 
-/// The image of a btree or recno with these settings and this list: page 0 is its metadata, and the pages of its tree follow. It is also
-/// refused where there would be more than 2^21 pages, and where a sum of counts doesn't fit its field. Room for `room` bytes is taken at once.
+/// The image of a btree or recno with these settings and this list: page 0 is its metadata, and the pages of its tree follow. Room for `room` bytes
+/// is taken at once. An error means that memory ran out, that there would be more than 2^21 pages, or that a sum of counts doesn't fit its field.
 pub fn tree_image(
     alloc: Global,
     settings: &Settings,

@@ -1,17 +1,10 @@
 -- The number of buckets, and keys that are dealt into them.
 use Rattle.std.proofs.Common.{◌≡◌, ℕ, zero, suc, ◌+◌, ◌-◌, ◌*◌, ◌<◌, ◌≤◌, Bool, true, false, cond, List, [], ◌∷◌, ◌++◌, get_or, set, drop, map, length}
 use Rattle.std.proofs.Common.{replicate, append_assoc, pow-suc, arith, refl, sym, ◌∙◌, ap, inl, inr, ◌^◌, ◌/◌, ◌==◌, nat_le, unwrap_or}
-use Rattle.std.specs.List.{find, range_with_len}
-use Rattle.std.proofs.lemmas.Bool.{cases_eq, eq-eqb, le-leb, lt-leb, ne_eqb}
-use Rattle.std.proofs.lemmas.List.{append-nil, get_or-map, get_or-set_other, get_or-set_same, length-set, map-set, same_lists}
-use Rattle.std.proofs.lemmas.List.Elements.{filter-append}
-use Rattle.std.proofs.lemmas.List.FromFn.{get_or-map-range_with_len, length-map-range_with_len}
+use Rattle.bdb_mkhash.proofs.Common.{find, range_with_len, cases_eq, eq-eqb, le-leb, lt-leb, ne_eqb, append-nil, get_or-map, get_or-set_other, get_or-set_same, length-set, map-set, same_lists}
+use Rattle.bdb_mkhash.proofs.Common.{filter-append, get_or-map-range_with_len, length-map-range_with_len, Pair, KeyedUnit, page_room, IsRunAt, Keyed, bucket_among, dealt, bits_for, buckets_of}
+use Rattle.bdb_mkhash.proofs.Common.{keyed_of, table_units}
 use Rattle.std.proofs.lemmas.Nat.{pow_pos}
-use Rattle.bdb_mktree.specs.of_text_format.declared.pairs.Pair.{Pair}
-use Rattle.bdb_mktree.specs.of_mkleaves.Units.{KeyedUnit, page_room}
-use Rattle.bdb_mktree.specs.Lists.{IsRunAt}
-use Rattle.bdb_law_buckets.specs.Tables.{Keyed, bucket_among, dealt}
-use Rattle.bdb_mkhash.specs.Buckets.{bits_for, buckets_of, keyed_of, table_units}
 
 -- How many buckets.
 
@@ -123,8 +116,7 @@ pushed_seen f items b old new unit low there grown = grind (arith, map-set, set,
 
 fill_one : (g m a : ℕ) → set (replicate g a ++ replicate (suc m) 0) g a ≡ replicate (g + 1) a ++ replicate m 0
 fill_one zero m a = refl
-fill_one (suc g) m a =
-    ap (λ xs. a ∷ xs) (fill_one g m a) ∙ ap (λ k. replicate k a ++ replicate m 0) (let e : suc (g + 1) ≡ suc g + 1 = omega arith in e)
+fill_one (suc g) m a = ap (λ xs. a ∷ xs) (fill_one g m a) ∙ ap (λ k. replicate k a ++ replicate m 0) (let e : suc (g + 1) ≡ suc g + 1 = omega arith in e)
 
 -- one spare more
 pub spare_filled : (spares : List ℕ) (g a : ℕ) → spares ≡ replicate g a ++ replicate (32 - g) 0 → g < 32

@@ -1,41 +1,24 @@
 -- The table of a list.
-use Rattle.std.proofs.Common.{◌≡◌, ℕ, zero, suc, ◌+◌, ◌<◌, ◌≤◌, Bool, true, false, cond, List, [], ◌∷◌, ◌++◌, map, length, arith, refl, sym, ◌∙◌, ap, subst}
-use Rattle.std.proofs.Common.{inl, inr, ◌^◌, ◌==◌}
-use Rattle.std.specs.List.{All, flat_map, range_with_len, sum_by}
-use Rattle.std.proofs.lemmas.Bool.{cases_lt}
-use Rattle.std.proofs.lemmas.List.{get_or-map, length-map, map-append}
-use Rattle.std.proofs.lemmas.List.Elements.{All-cons, All-contains, All-head, All-nil, All-tail}
-use Rattle.std.proofs.lemmas.List.FromFn.{get_or-map-range_with_len, length-map-range_with_len}
-use Rattle.std.proofs.lemmas.List.Sums.{sum_by-append, sum_by-cons}
+use Rattle.std.proofs.Common.{◌≡◌, ℕ, zero, suc, ◌+◌, ◌<◌, ◌≤◌, Bool, true, false, cond, List, [], ◌∷◌, ◌++◌, map, length, arith, refl, sym, ◌∙◌, ap, subst, inl, inr, ◌^◌, ◌==◌}
+use Rattle.bdb_mkhash.proofs.Common.{All, flat_map, range_with_len, sum_by, cases_lt, get_or-map, length-map, map-append, All-cons, All-contains, All-head, All-nil, All-tail}
+use Rattle.bdb_mkhash.proofs.Common.{get_or-map-range_with_len, length-map-range_with_len, sum_by-append, sum_by-cons, File, HashFields, ascends, less, IsLater, IsPart, between, between_is}
+use Rattle.bdb_mkhash.proofs.Common.{is_between, Pair, Built, file_so_far, KeepsAll, EntryUnit, KeyedUnit, TreeUnit, listed_keyed, later_before, HasBytes, keyed_units, HasBuiltBuckets, Keyed}
+use Rattle.bdb_mkhash.proofs.Common.{PlacedUnit, SuitsTable, TableStands, bucket_among, dealt, key_of, listed_unit, table_meta, unit_of, units_on, buckets_of, keyed_of, spread_bucket, table_bits}
+use Rattle.bdb_mkhash.proofs.Common.{table_units, keyed_own_pages, AreFilled, of_buckets, IsShortUnit}
 use Rattle.bdb_mktree.specs.of_format.declared.kinds.Kind.TheVariants.{Btree}
 use Rattle.bdb_mktree.specs.of_format.declared.metadata.HashMeta.{HashMeta}
 use Rattle.bdb_mktree.specs.of_format.declared.settings.Settings.{Settings}
-use Rattle.bdb_mktree.specs.of_format.Terms.{File, HashFields, ascends, less}
 use Rattle.bdb_mktree.proofs.of_format.ListLemmas.{all_of}
 use Rattle.bdb_mktree.proofs.of_format.MemberLemmas.{of_filter}
-use Rattle.bdb_mktree.specs.of_law_grove.Growing.{IsLater}
-use Rattle.bdb_mktree.specs.of_law_grove.Part.{IsPart, between}
-use Rattle.bdb_mktree.proofs.of_law_grove.ChainLemmas.{between_is, is_between}
 use Rattle.bdb_mktree.specs.of_text_format.Terms.{listed}
-use Rattle.bdb_mktree.specs.of_text_format.declared.pairs.Pair.{Pair}
-use Rattle.bdb_mktree.specs.of_pack.Built.{Built, file_so_far}
-use Rattle.bdb_mktree.specs.of_mkleaves.Leaves.{KeepsAll}
-use Rattle.bdb_mktree.specs.of_mkleaves.Units.{EntryUnit, KeyedUnit, TreeUnit, key_of as tree_key, listed_keyed}
-use Rattle.bdb_mktree.proofs.of_mkleaves.RunLemmas.{later_before}
-use Rattle.bdb_mktree.specs.Lists.{HasBytes, keyed_units}
+use Rattle.bdb_mktree.specs.of_mkleaves.Units.{key_of as tree_key}
 use Rattle.bdb_mktree.specs.Units.{IsShortUnit as IsShortTreeUnit, Suits}
 use Rattle.bdb_mktree.proofs.ListLemmas.{units_listed}
 use Rattle.bdb_mktree.proofs.OrderLemmas.{FitUnits, keys_fit, units_fit}
-use Rattle.bdb_law_buckets.specs.Tables.{HasBuiltBuckets, Keyed, PlacedUnit, SuitsTable, TableStands, bucket_among, dealt, key_of, listed_unit, table_meta}
-use Rattle.bdb_law_buckets.specs.Tables.{unit_of, units_on}
 use Rattle.bdb_law_buckets.proofs.DealLemmas.{deal, dealt_back, insert_unit, units_by_key}
 use Rattle.bdb_law_buckets.proofs.TableLemmas.{among_low, tables_are_parts}
 use Rattle.bdb_law_buckets.proofs.UnsortedLemmas.{tables_are_built}
-use Rattle.bdb_mkhash.specs.Buckets.{buckets_of, keyed_of, spread_bucket, table_bits, table_units}
-use Rattle.bdb_mkhash.specs.Costs.{keyed_own_pages}
-use Rattle.bdb_mkhash.specs.Filling.{AreFilled, of_buckets}
 use Rattle.bdb_mkhash.specs.Table.{IsTableBuilt, IsTableList}
-use Rattle.bdb_mkhash.specs.Units.{IsShortUnit}
 use Rattle.bdb_mkhash.proofs.SpreadLemmas.{spread_all}
 use Rattle.bdb_mkhash.proofs.TableLemmas.{are_first, are_further, buckets_is}
 
@@ -110,8 +93,7 @@ one_listed (EntryUnit value deleted) = refl
 
 all_listed : (units : List TreeUnit) → flat_map listed_unit (map keyed_of units) ≡ flat_map listed_keyed units
 all_listed [] = refl
-all_listed (unit ∷ units) =
-    ap (λ xs. xs ++ flat_map listed_unit (map keyed_of units)) (one_listed unit) ∙ ap (λ xs. listed_keyed unit ++ xs) (all_listed units)
+all_listed (unit ∷ units) = ap (λ xs. xs ++ flat_map listed_unit (map keyed_of units)) (one_listed unit) ∙ ap (λ xs. listed_keyed unit ++ xs) (all_listed units)
 
 list_back : (settings : Settings) (pairs : List Pair) → IsTableList settings pairs → flat_map listed_unit (table_units pairs) ≡ listed pairs
 list_back settings pairs list = all_listed (keyed_units pairs) ∙ units_listed Btree pairs (inl refl) (keys_are settings pairs list)
@@ -148,8 +130,7 @@ sum_dealt f bits units rise =
 
 joined_units : (pages : List (List PlacedUnit)) → flat_map (λ page. page) (map (map unit_of) pages) ≡ units_on pages
 joined_units [] = refl
-joined_units (page ∷ pages) =
-    ap (λ us. map unit_of page ++ us) (joined_units pages) ∙ sym (map-append unit_of page (flat_map (λ p. p) pages))
+joined_units (page ∷ pages) = ap (λ us. map unit_of page ++ us) (joined_units pages) ∙ sym (map-append unit_of page (flat_map (λ p. p) pages))
 
 each_joined : (buckets : List (List (List PlacedUnit))) → map (flat_map (λ page. page)) (map (map (map unit_of)) buckets) ≡ map units_on buckets
 each_joined [] = refl

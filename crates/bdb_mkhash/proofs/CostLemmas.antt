@@ -1,17 +1,11 @@
 -- What data take of a page of a table.
 use Rattle.std.proofs.Common.{◌≡◌, ℕ, ◌+◌, ◌-◌, ◌<◌, ◌≤◌, Bool, true, false, cond, List, [], ◌∷◌, length, get_or, take, arith, refl, sym, ◌∙◌, ap, inl, inr}
-use Rattle.std.specs.Prelude.{◌/◌, ◌&&◌, nat_le, Some, None}
-use Rattle.std.specs.List.{All, list_all, sum_by}
-use Rattle.std.proofs.lemmas.Bool.{and_left, and_parts, and_right, cases_lt, le-leb, leb-true, lt-leb}
-use Rattle.std.proofs.lemmas.List.Elements.{All-cons, All-nil}
+use Rattle.bdb_mkhash.proofs.Common.{◌/◌, ◌&&◌, nat_le, Some, None, All, list_all, sum_by, and_left, and_parts, and_right, cases_lt, le-leb, leb-true, lt-leb, All-cons, All-nil, sum_by-take-le}
+use Rattle.bdb_mkhash.proofs.Common.{sum_by_more, sum_by_more_le, is_page_size, size_bounds, page_room, cost_in, data_cost, data_form, first_value, is_inline, hash_item_cost, blocks_cost, set_or_none}
+use Rattle.bdb_mkhash.proofs.Common.{stand_together, One}
 use Rattle.std.proofs.lemmas.List.Folds.{list_all_at, list_all_more}
-use Rattle.std.proofs.lemmas.List.Sums.{sum_by-take-le, sum_by_more, sum_by_more_le}
-use Rattle.bdb_mktree.specs.of_format.Terms.{is_page_size}
-use Rattle.bdb_mktree.proofs.of_format.SizeLemmas.{size_bounds}
-use Rattle.bdb_mktree.specs.of_mkleaves.Units.{page_room}
-use Rattle.bdb_mkhash.specs.Costs.{cost_in, data_cost, data_form, first_value, is_inline, hash_item_cost, blocks_cost, set_or_none, stand_together}
 use Rattle.bdb_mkhash.specs.declared.form.DataForm.{DataForm}
-use Rattle.bdb_mkhash.specs.declared.form.DataForm.TheVariants.{One, Set, Tree}
+use Rattle.bdb_mkhash.specs.declared.form.DataForm.TheVariants.{Set, Tree}
 
 abbrev block_cost : List ℕ → ℕ
 block_cost value = 4 + length value

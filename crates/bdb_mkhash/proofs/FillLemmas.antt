@@ -1,27 +1,11 @@
 -- Keys that are put on a page one after the other, and pages that follow.
-use Rattle.std.proofs.Common.{◌≡◌, ℕ, ◌+◌, ◌-◌, ◌<◌, ◌≤◌, Bool, true, List, [], ◌∷◌, ◌++◌, length, get_or, take, drop, arith, refl, sym, ◌∙◌, ap, subst, inl}
-use Rattle.std.proofs.Common.{inr, length-drop, ◌^◌, ◌%◌, All, sum_by}
-use Rattle.std.proofs.lemmas.Bool.{cases_lt}
-use Rattle.std.proofs.lemmas.Grind.{flat_map-append}
-use Rattle.std.proofs.lemmas.List.{append-nil, drop-map, get_or-map, get_or-set_other, length-map, length-set, map-append, take_all, take_more}
-use Rattle.std.proofs.lemmas.List.Elements.{All-drop}
-use Rattle.std.proofs.lemmas.List.Sums.{sum_by-append, sum_by_push}
-use Rattle.bdb_mktree.specs.of_format.Terms.{Content, File, is_page_size, page_code}
-use Rattle.bdb_mktree.proofs.of_format.SizeLemmas.{size_bounds}
-use Rattle.bdb_mktree.specs.of_law_grove.Growing.{IsLater}
-use Rattle.bdb_mktree.specs.of_law_grove.Part.{between}
-use Rattle.bdb_mktree.proofs.of_law_grove.ChainLemmas.{between_is, is_between}
-use Rattle.bdb_mktree.specs.of_pack.Built.{AreWhole, Built, bytes_of, file_so_far, with_page}
-use Rattle.bdb_mktree.proofs.of_pack.OpenLemmas.{open_is}
-use Rattle.bdb_mktree.specs.of_mkleaves.Leaves.{KeepsAll}
-use Rattle.bdb_mktree.specs.of_mkleaves.Units.{page_room}
-use Rattle.bdb_mktree.proofs.of_mkleaves.RunLemmas.{later_before}
-use Rattle.bdb_law_buckets.specs.Tables.{Keyed, PlacedUnit, UnitStands, UnitsStand, contents_of, contents_on, unit_of}
-use Rattle.bdb_mkhash.specs.Costs.{keyed_own_pages, keyed_cost}
-use Rattle.bdb_mkhash.specs.Filling.{AreEmptyPages, ArePut, IsEmptyPage, IsFollowed, IsOpenPage, IsUnitPut, IsWholePage, no_unit}
-use Rattle.bdb_mkhash.specs.Units.{IsShortUnit, unit_seen, units_seen}
+use Rattle.std.proofs.Common.{◌≡◌, ℕ, ◌+◌, ◌-◌, ◌<◌, ◌≤◌, Bool, true, List, [], ◌∷◌, ◌++◌, length, get_or, take, drop, arith, refl, sym, ◌∙◌, ap, subst, inl, inr, length-drop, ◌^◌, ◌%◌, All, sum_by}
+use Rattle.bdb_mkhash.proofs.Common.{cases_lt, flat_map-append, append-nil, drop-map, get_or-map, get_or-set_other, length-map, length-set, map-append, take_all, take_more, All-drop, sum_by-append}
+use Rattle.bdb_mkhash.proofs.Common.{sum_by_push, Content, File, is_page_size, page_code, size_bounds, IsLater, between, between_is, is_between, AreWhole, Built, bytes_of, file_so_far, with_page}
+use Rattle.bdb_mkhash.proofs.Common.{open_is, KeepsAll, page_room, later_before, Keyed, PlacedUnit, UnitStands, UnitsStand, contents_of, contents_on, unit_of, keyed_own_pages, keyed_cost}
+use Rattle.bdb_mkhash.proofs.Common.{AreEmptyPages, ArePut, IsEmptyPage, IsFollowed, IsOpenPage, IsUnitPut, IsWholePage, no_unit, IsShortUnit, unit_seen, units_seen, HoldsContents, HoldsContentsOn}
+use Rattle.bdb_mkhash.proofs.Common.{content_cost, with_hash_page, with_next}
 use Rattle.bdb_mkhash.specs.declared.unit.Unit.{Unit as CodeUnit}
-use Rattle.bdb_mkhash.specs.Pages.{HoldsContents, HoldsContentsOn, content_cost, with_hash_page, with_next}
 use Rattle.bdb_mkhash.proofs.CostLemmas.{data_few, item_few}
 use Rattle.bdb_mkhash.proofs.PageLemmas.{added_keeps}
 use Rattle.bdb_mkhash.proofs.StoreLemmas.{keeps_others, later_of}
@@ -159,8 +143,7 @@ seen_any units n d low = sym (get_or-map unit_seen units n d no_unit low)
 
 -- the units of a list from a place on
 pub seen_rest : (units : List CodeUnit) (n : ℕ) → units_seen (take (length units - n) (drop n units)) ≡ drop n (units_seen units)
-seen_rest units n =
-    ap units_seen (take_all (length units - n) (drop n units) (omega (arith, length-drop n units))) ∙ sym (drop-map unit_seen n units)
+seen_rest units n = ap units_seen (take_all (length units - n) (drop n units) (omega (arith, length-drop n units))) ∙ sym (drop-map unit_seen n units)
 
 pub short_rest : (units : List CodeUnit) (n : ℕ) → All IsShortUnit (units_seen units)
     → All IsShortUnit (units_seen (take (length units - n) (drop n units)))

@@ -1,4 +1,5 @@
 pub mod BucketLemmas
+pub mod Common
 pub mod CostLemmas
 pub mod FillLemmas
 pub mod OpenLemmas

@@ -1,22 +1,11 @@
 -- The keys of a bucket, page by page.
 use Rattle.std.proofs.Common.{◌≡◌, ◌⊎◌, ℕ, ◌+◌, ◌-◌, ◌<◌, ◌≤◌, Bool, true, List, [], ◌∷◌, ◌++◌, map, length, get_or, take, take-add, drop, None, append_assoc}
 use Rattle.std.proofs.Common.{arith, refl, sym, ◌∙◌, ap, subst, inl, inr, length-append, length-drop, ◌==◌, ◌&&◌, not, sum_by}
-use Rattle.std.proofs.lemmas.Bool.{and_parts, cases_eq, cases_lt, eq-eqb, eqb-true, ne_eqb, or_cases, or_left, or_right}
-use Rattle.std.proofs.lemmas.List.{drop_all, drop-drop, drop_more, get_or-drop, get_or-map, map-append, take_all}
-use Rattle.std.proofs.lemmas.List.Sums.{sum_by-append}
-use Rattle.bdb_mktree.specs.of_format.Terms.{Content, File, Hash, Item, Listed, NoType, Overflow, Page, abstract_page, is_page_size, page_at, page_code}
-use Rattle.bdb_mktree.specs.of_law_grove.Growing.{IsCounted, IsLater, IsSamePage}
-use Rattle.bdb_mktree.specs.of_law_grove.Part.{between}
-use Rattle.bdb_mktree.proofs.of_law_grove.ChainLemmas.{between_is, is_between}
-use Rattle.bdb_mktree.specs.of_pack.Built.{Built, bytes_of, file_so_far}
-use Rattle.bdb_mktree.specs.of_mkleaves.Spread.{spread_on}
-use Rattle.bdb_mktree.specs.of_mkleaves.Units.{page_room}
-use Rattle.bdb_mktree.proofs.of_mkleaves.RunLemmas.{later_before}
-use Rattle.bdb_law_buckets.specs.Pages.{IsHashIn}
-use Rattle.bdb_law_buckets.specs.Tables.{BucketStands, Keyed, PlacedUnit, UnitsStand, contents_on, unit_of}
-use Rattle.bdb_mkhash.specs.Costs.{keyed_own_pages, keyed_cost}
-use Rattle.bdb_mkhash.specs.Filling.{IsBucketFilled, IsBucketOpen, IsFollowed, IsPageFilled, closed_of, no_unit, of_bucket, room_on}
-use Rattle.bdb_mkhash.specs.Pages.{HoldsContentsOn}
+use Rattle.bdb_mkhash.proofs.Common.{and_parts, cases_eq, cases_lt, eq-eqb, eqb-true, ne_eqb, or_cases, or_left, or_right, drop_all, drop-drop, drop_more, get_or-drop, get_or-map, map-append}
+use Rattle.bdb_mkhash.proofs.Common.{take_all, sum_by-append, Content, File, Hash, Item, Listed, NoType, Overflow, Page, abstract_page, is_page_size, page_at, page_code, IsCounted, IsLater}
+use Rattle.bdb_mkhash.proofs.Common.{IsSamePage, between, between_is, is_between, Built, bytes_of, file_so_far, spread_on, page_room, later_before, IsHashIn, BucketStands, Keyed, PlacedUnit}
+use Rattle.bdb_mkhash.proofs.Common.{UnitsStand, contents_on, unit_of, keyed_own_pages, keyed_cost, IsBucketFilled, IsBucketOpen, IsFollowed, IsPageFilled, closed_of, no_unit, of_bucket, room_on}
+use Rattle.bdb_mkhash.proofs.Common.{HoldsContentsOn}
 use Rattle.bdb_mkhash.proofs.FillLemmas.{contents_even, unit_fits}
 use Rattle.bdb_mkhash.proofs.PageLemmas.{hash_pages_are_formed, hash_pages_stand}
 use Rattle.bdb_mkhash.proofs.SpreadLemmas.{spread_over, spread_taken}

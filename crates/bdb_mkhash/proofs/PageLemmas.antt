@@ -1,33 +1,22 @@
 -- A page of a table that begins, takes an item, or gets a next page, and what it is in a file.
-use Rattle.std.proofs.Common.{◌≡◌, ℕ, ◌+◌, ◌-◌, ◌<◌, ◌≤◌, true, List, [], ◌∷◌, ◌++◌, length, drop, replicate, arith, refl, sym, ◌∙◌, ap, subst, length-append}
-use Rattle.std.proofs.Common.{◌^◌, ◌%◌, ◌==◌, sum_by}
-use Rattle.std.proofs.lemmas.List.{get_or-set_other, get_or_append_left, get_or_push, length-map, length-replicate, length-set, map-append}
-use Rattle.std.proofs.lemmas.List.Sums.{sum_by_push}
-use Rattle.bdb_mktree.specs.of_format.declared.kinds.Order.{Order}
+use Rattle.std.proofs.Common.{◌≡◌, ℕ, ◌+◌, ◌-◌, ◌<◌, ◌≤◌, true, List, [], ◌∷◌, ◌++◌, length, drop, replicate, arith, refl, sym, ◌∙◌, ap, subst, length-append, ◌^◌, ◌%◌, ◌==◌, sum_by}
+use Rattle.bdb_mkhash.proofs.Common.{get_or-set_other, get_or_append_left, get_or_push, length-map, length-replicate, length-set, map-append, sum_by_push, Order, Content, Hash, Item, Listed, byte_at}
+use Rattle.bdb_mkhash.proofs.Common.{entries_of, four_at, hash_bytes, hash_item_at, header_bytes, header_of, index_end, is_page_size, is_wrong_entry_count, is_wrong_level, listed, offset_of}
+use Rattle.bdb_mkhash.proofs.Common.{page_type, spelled, length-overwritten, length-spelled, size_bounds, Built, bytes_of, with_page, with_zeros, HasPlace, IsWritable, OnHash, extent, holds_item}
+use Rattle.bdb_mkhash.proofs.Common.{open_is, HasLinks, linked_begun, linked_page, offset_linked, with_links, hash_item, IsGrown, CanTakeContent, HashPagesAreFormed, HashPagesStand, HoldsContents}
+use Rattle.bdb_mkhash.proofs.Common.{HoldsContentsOn, content_cost, page_header, room_of, with_hash_page, with_next}
 use Rattle.bdb_mktree.specs.of_format.declared.pages.Header.{Header}
-use Rattle.bdb_mktree.specs.of_format.Terms.{Content, Hash, Item, Listed, byte_at, entries_of, four_at, hash_bytes, hash_item_at, header_bytes, header_of}
-use Rattle.bdb_mktree.specs.of_format.Terms.{index_end, is_page_size, is_wrong_entry_count, is_wrong_level, listed, offset_of, page_type, spelled}
 use Rattle.bdb_mktree.proofs.of_format.PageLemmas.{header_listed, length_items}
-use Rattle.bdb_mktree.proofs.of_format.SpellingLemmas.{length-overwritten, length-spelled}
-use Rattle.bdb_mktree.proofs.of_format.SizeLemmas.{size_bounds}
-use Rattle.bdb_mktree.specs.of_pack.Built.{Built, bytes_of, with_page, with_zeros}
-use Rattle.bdb_mktree.specs.of_pack.Items.{HasPlace, IsWritable, OnHash, extent, holds_item}
 use Rattle.bdb_mktree.specs.of_pack.OnPages.{HasPlaceOn, with_item_on}
 use Rattle.bdb_mktree.specs.of_pack.Placing.{HasRoom, begun_header, begun_page, empty_listed, high_free_of, page_and_item, page_with, place_below, with_item}
 use Rattle.bdb_mktree.proofs.of_pack.BegunLemmas.{begun_stays}
 use Rattle.bdb_mktree.proofs.of_pack.FormLemmas.{begun_is_formed}
 use Rattle.bdb_mktree.proofs.of_pack.HeaderLemmas.{begun_pages_take_items, header_read, length-header}
-use Rattle.bdb_mktree.proofs.of_pack.OpenLemmas.{open_is}
 use Rattle.bdb_mktree.proofs.of_pack.PlacedLemmas.{IsPlaced, is_below}
 use Rattle.bdb_mktree.proofs.of_pack.PlaceLemmas.{behind, byte_same, number_before, number_here, number_same}
 use Rattle.bdb_mktree.proofs.of_pack.PlacingLaws.{items_are_placed}
 use Rattle.bdb_mktree.proofs.of_pack.StandingLemmas.{end_same, hash_item_same, typed}
 use Rattle.bdb_mktree.proofs.of_mkleaves.EntryLemmas.{bytes_with}
-use Rattle.bdb_mktree.proofs.of_mkleaves.LeafLemmas.{HasLinks, linked_begun, linked_page, offset_linked, with_links}
-use Rattle.bdb_law_buckets.specs.Pages.{hash_item}
-use Rattle.bdb_mkhash.specs.Filling.{IsGrown}
-use Rattle.bdb_mkhash.specs.Pages.{CanTakeContent, HashPagesAreFormed, HashPagesStand, HoldsContents, HoldsContentsOn, content_cost, page_header, room_of}
-use Rattle.bdb_mkhash.specs.Pages.{with_hash_page, with_next}
 use Rattle.bdb_mktree.proofs.of_pack.NewRowLemmas.{hash_least as some_bytes}
 
 -- The page by its bytes.

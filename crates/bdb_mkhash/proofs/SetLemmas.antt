@@ -1,10 +1,6 @@
 -- A set that is spelled is a run of its blocks.
 use Rattle.std.proofs.Common.{◌≡◌, ℕ, ◌<◌, List, [], ◌∷◌, length, ap, ◌∙◌, arith, ◌^◌, Some, option_map, All, flat_map}
-use Rattle.std.proofs.lemmas.List.{append-nil, drop_all}
-use Rattle.bdb_mktree.specs.of_format.declared.kinds.Order.{Order}
-use Rattle.bdb_mktree.specs.of_format.Terms.{block_bytes, blocks_of, overwritten, spelled}
-use Rattle.bdb_mktree.proofs.of_format.SpellingLemmas.{length-spelled}
-use Rattle.bdb_mktree.specs.of_layout.Blocks.{run_in}
+use Rattle.bdb_mkhash.proofs.Common.{append-nil, drop_all, Order, block_bytes, blocks_of, overwritten, spelled, length-spelled, run_in}
 use Rattle.bdb_mktree.proofs.of_layout.ReadBackLemmas.{blocks_of-back}
 
 -- two bytes that are written whole

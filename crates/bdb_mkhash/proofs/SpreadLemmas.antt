@@ -1,10 +1,6 @@
 -- How keys are spread over the pages of a bucket.
-use Rattle.std.proofs.Common.{◌≡◌, ℕ, zero, suc, ◌+◌, ◌-◌, ◌<◌, ◌≤◌, cond, List, [], ◌∷◌, ◌++◌, take, drop, append_assoc, arith, refl, ◌∙◌, ap, flat_map}
-use Rattle.std.proofs.Common.{sum_by}
-use Rattle.std.proofs.lemmas.Bool.{le-leb, lt-leb}
-use Rattle.std.proofs.lemmas.List.{append-nil}
-use Rattle.std.proofs.lemmas.List.Sums.{sum_by-cons}
-use Rattle.bdb_mktree.specs.of_mkleaves.Spread.{spread_on}
+use Rattle.std.proofs.Common.{◌≡◌, ℕ, zero, suc, ◌+◌, ◌-◌, ◌<◌, ◌≤◌, cond, List, [], ◌∷◌, ◌++◌, take, drop, append_assoc, arith, refl, ◌∙◌, ap, flat_map, sum_by}
+use Rattle.bdb_mkhash.proofs.Common.{le-leb, lt-leb, append-nil, sum_by-cons, spread_on}
 
 -- the first things stand on the open page
 pub spread_taken : {A : Type 0} (room : ℕ) (first cost : A → ℕ) (left : ℕ) (page xs : List A) (n : ℕ) → sum_by cost (take n xs) ≤ left

@@ -1,42 +1,24 @@
 -- Values, sets and trees of data that are put on a page of a table.
 use Rattle.std.proofs.Common.{◌≡◌, ℕ, ◌+◌, ◌-◌, ◌*◌, ◌<◌, ◌≤◌, Bool, true, false, cond, List, [], ◌∷◌, ◌++◌, length, get_or, None, Some, arith, refl, sym, ◌∙◌}
 use Rattle.std.proofs.Common.{ap, subst, inl, inr, length-append, ◌^◌, ◌/◌, Option, option_map, All, flat_map, sum_by}
-use Rattle.std.proofs.lemmas.Bool.{cases_lt, le-leb, lt-leb}
-use Rattle.std.proofs.lemmas.List.{append_assoc}
-use Rattle.std.proofs.lemmas.List.Sums.{sum_by-cons, sum_by_push}
-use Rattle.std.proofs.lemmas.List.Elements.{All-cons, All-nil}
-use Rattle.bdb_mktree.specs.of_format.declared.kinds.Order.{Order}
-use Rattle.bdb_mktree.specs.of_format.Terms.{Chain, Content, File, Inline, Set, Tree, Unknown, block_bytes, blocks_of, data_of, hash_bytes, is_page_size}
-use Rattle.bdb_mktree.specs.of_format.Terms.{is_set, is_wrong_set, page_code, spelled, value_of}
-use Rattle.bdb_mktree.specs.of_layout.Blocks.{BlockRun, run_in}
+use Rattle.bdb_mkhash.proofs.Common.{cases_lt, le-leb, lt-leb, append_assoc, sum_by-cons, sum_by_push, All-cons, All-nil, Order, Chain, Content, File, Inline, Set, Tree, Unknown, block_bytes}
+use Rattle.bdb_mkhash.proofs.Common.{blocks_of, data_of, hash_bytes, is_page_size, is_set, is_wrong_set, page_code, spelled, value_of, BlockRun, run_in, length-spelled, size_bounds, IsCounted}
+use Rattle.bdb_mkhash.proofs.Common.{IsLater, between, between_is, is_between, Built, bytes_of, file_so_far, IsWritable, OnLeaf, HasChain, open_is, KeepsAll, KeepsOthers, later_before, ContentsStand}
+use Rattle.bdb_mkhash.proofs.Common.{HasSum, Keyed, PlacedUnit, cost_in, data_cost, data_form, first_value, hash_item_cost, pages_in, blocks_cost, stand_together, keyed_cost, AreDataPut, DataStand}
+use Rattle.bdb_mkhash.proofs.Common.{IsGrown, IsHalfPage, IsHashItem, IsOpenPage, IsUnitPut, IsValuePut, IsWholePage, room_on, CanTakeContent, HoldsContents, HoldsContentsOn, content_cost, room_of, One}
 use Rattle.bdb_mktree.proofs.of_layout.WritingLemmas.{length-hash_chain, length-hash_inline, length-hash_tree}
-use Rattle.bdb_mktree.proofs.of_format.SpellingLemmas.{length-spelled}
-use Rattle.bdb_mktree.proofs.of_format.SizeLemmas.{size_bounds}
-use Rattle.bdb_mktree.specs.of_law_grove.Growing.{IsCounted, IsLater}
 use Rattle.bdb_mktree.specs.of_law_grove.Leaves.{ContentFits}
-use Rattle.bdb_mktree.specs.of_law_grove.Part.{between}
 use Rattle.bdb_mktree.proofs.of_law_grove.BranchLemmas.{no_branch}
-use Rattle.bdb_mktree.proofs.of_law_grove.ChainLemmas.{between_is, is_between}
-use Rattle.bdb_mktree.specs.of_pack.Built.{Built, bytes_of, file_so_far}
-use Rattle.bdb_mktree.specs.of_pack.Items.{IsWritable, OnLeaf}
-use Rattle.bdb_mktree.specs.of_pack.Values.{HasChain}
-use Rattle.bdb_mktree.proofs.of_pack.OpenLemmas.{open_is}
-use Rattle.bdb_mktree.specs.of_mkleaves.Leaves.{KeepsAll, KeepsOthers}
 use Rattle.bdb_mktree.specs.of_mkleaves.Puts.{ValueStands}
 use Rattle.bdb_mktree.specs.of_mkleaves.Sets.{IsSetBuilt}
 use Rattle.bdb_mktree.proofs.of_mkleaves.FilledLemmas.{value_read}
 use Rattle.bdb_mktree.proofs.of_mkleaves.PutLemmas.{chain_item, inline_item}
-use Rattle.bdb_mktree.proofs.of_mkleaves.RunLemmas.{later_before}
 use Rattle.bdb_mktree.proofs.of_mkleaves.StandLemmas.{values_stand_on}
-use Rattle.bdb_law_buckets.specs.Tables.{ContentsStand, HasSum, Keyed, PlacedUnit}
 use Rattle.bdb_law_buckets.proofs.OverLemmas.{contents_follow}
-use Rattle.bdb_mkhash.specs.Costs.{cost_in, data_cost, data_form, first_value, hash_item_cost, pages_in, blocks_cost, stand_together, keyed_cost}
-use Rattle.bdb_mkhash.specs.Filling.{AreDataPut, DataStand, IsGrown, IsHalfPage, IsHashItem, IsOpenPage, IsUnitPut, IsValuePut, IsWholePage, room_on}
-use Rattle.bdb_mkhash.specs.Pages.{CanTakeContent, HoldsContents, HoldsContentsOn, content_cost, room_of}
 use Rattle.bdb_mkhash.proofs.CostLemmas.{together_inline}
 use Rattle.bdb_mkhash.proofs.SetLemmas.{set_read}
 use Rattle.bdb_mkhash.proofs.SumLemmas.{set_summed}
-use Rattle.bdb_mkhash.specs.declared.form.DataForm.TheVariants.{One, Set as OnPage, Tree as OffPage}
+use Rattle.bdb_mkhash.specs.declared.form.DataForm.TheVariants.{Set as OnPage, Tree as OffPage}
 
 -- Items of values.
 

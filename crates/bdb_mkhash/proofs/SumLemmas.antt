@@ -1,22 +1,14 @@
 -- The root of a tree of data says how many data there are.
 use Rattle.std.proofs.Common.{◌≡◌, ℕ, suc, ◌<◌, Bool, true, false, List, [], ◌∷◌, ◌++◌, length, map, arith, refl, sym, ◌∙◌, ap, length-append, None, is_some}
-use Rattle.std.specs.List.{AllZip, flat_map, sum_by}
-use Rattle.std.proofs.lemmas.Grind.{flat_map-append}
-use Rattle.std.proofs.lemmas.List.{length-map, map-append}
-use Rattle.std.proofs.lemmas.List.Sums.{sum_by-cons}
-use Rattle.bdb_mktree.specs.of_format.Terms.{File, Item, Listed, Tree, children_in, data_of, header_in, page_at}
-use Rattle.bdb_mktree.specs.of_law_grove.Growing.{IsCounted, IsLater}
+use Rattle.bdb_mkhash.proofs.Common.{AllZip, flat_map, sum_by, flat_map-append, length-map, map-append, sum_by-cons, File, Item, Listed, Tree, children_in, data_of, header_in, page_at, IsCounted}
+use Rattle.bdb_mkhash.proofs.Common.{IsLater, Built, file_so_far, set_type, spread_units, page_room, HasSum}
 use Rattle.bdb_mktree.specs.of_law_levels.Nodes.{IsTower, Node}
-use Rattle.bdb_mktree.specs.of_pack.Built.{Built, file_so_far}
 use Rattle.bdb_mktree.specs.of_mkleaves.Laid.{AreLaid, Counts, IsNodeOf, IsTreeLaid, entries_on, inner_of, number_on}
 use Rattle.bdb_mktree.specs.of_mkleaves.Layout.{IsTreeOn, live_entry}
 use Rattle.bdb_mktree.specs.of_mkleaves.LeafEntries.{leaf_of}
 use Rattle.bdb_mktree.specs.of_mkleaves.Placed.{LeafUnits, Placed, PlacedEntry, PlacedPairs, PlacedTree, entries_of, unit_of}
-use Rattle.bdb_mktree.specs.of_mkleaves.Spread.{set_type, spread_units}
-use Rattle.bdb_mktree.specs.of_mkleaves.Units.{page_room}
 use Rattle.bdb_mktree.specs.of_mkleaves.declared.leaf_type.LeafType.{LeafType}
 use Rattle.bdb_mktree.specs.of_mkleaves.declared.leaf_type.LeafType.TheVariants.{Pairs, Records, SortedData}
-use Rattle.bdb_law_buckets.specs.Tables.{HasSum}
 use Rattle.bdb_mkhash.proofs.SpreadLemmas.{spread_all}
 
 -- How many entries leaves have.
@@ -40,8 +32,7 @@ units_below placed = flat_map (λ (leaf : LeafUnits). leaf.units) placed
 
 entries_below : (placed : List LeafUnits) → flat_map entries_on placed ≡ flat_map entries_of (units_below placed)
 entries_below [] = refl
-entries_below (leaf ∷ placed) =
-    ap (λ es. entries_on leaf ++ es) (entries_below placed) ∙ sym (flat_map-append entries_of leaf.units (units_below placed))
+entries_below (leaf ∷ placed) = ap (λ es. entries_on leaf ++ es) (entries_below placed) ∙ sym (flat_map-append entries_of leaf.units (units_below placed))
 
 counted_below : (sorted : Bool) (placed : List LeafUnits) (nodes : List Node) → AllZip (Counts (set_type sorted)) placed nodes
     → sum_by (λ (node : Node). node.count) nodes ≡ length (flat_map entries_on placed)
@@ -58,8 +49,7 @@ counted_below sorted (leaf ∷ placed) (node ∷ nodes) (here, rest) =
 units_spread : (placed : List LeafUnits)
     → flat_map (λ units. units) (map (λ (leaf : LeafUnits). map unit_of leaf.units) placed) ≡ map unit_of (units_below placed)
 units_spread [] = refl
-units_spread (leaf ∷ placed) =
-    ap (λ us. map unit_of leaf.units ++ us) (units_spread placed) ∙ sym (map-append unit_of leaf.units (units_below placed))
+units_spread (leaf ∷ placed) = ap (λ us. map unit_of leaf.units ++ us) (units_spread placed) ∙ sym (map-append unit_of leaf.units (units_below placed))
 
 -- all data of a set are entries of its leaves
 data_counted : (sorted : Bool) (size : ℕ) (placed : List LeafUnits) (nodes : List Node) (values : List (List ℕ))

@@ -1,20 +1,9 @@
 -- The keys of all buckets, and the table.
 use Rattle.std.proofs.Common.{◌≡◌, ◌⊎◌, ℕ, suc, ◌+◌, ◌<◌, ◌≤◌, Bool, true, false, List, [], ◌∷◌, ◌++◌, map, length, get_or, take, None, arith, refl, sym, ◌∙◌}
 use Rattle.std.proofs.Common.{ap, subst, inl, inr, length-append, length-take, true≢false, ◌||◌, sum_by}
-use Rattle.std.proofs.lemmas.Bool.{cases_eq, cases_lt, or_cases, or_right}
-use Rattle.std.proofs.lemmas.List.{length-map, map-append, take_more}
-use Rattle.std.proofs.lemmas.List.Sums.{sum_by_push}
-use Rattle.bdb_mktree.specs.of_format.Terms.{File, page_code}
-use Rattle.bdb_mktree.specs.of_law_grove.Growing.{IsLater}
-use Rattle.bdb_mktree.specs.of_law_grove.Part.{between}
-use Rattle.bdb_mktree.proofs.of_law_grove.ChainLemmas.{between_is, is_between}
-use Rattle.bdb_mktree.specs.of_pack.Built.{Built, bytes_of, file_so_far}
-use Rattle.bdb_mktree.proofs.of_mkleaves.RunLemmas.{later_before}
-use Rattle.bdb_law_buckets.specs.Tables.{BucketStands, Keyed, PlacedUnit, TableStands, unit_of}
-use Rattle.bdb_mkhash.specs.Buckets.{spread_bucket}
-use Rattle.bdb_mkhash.specs.Costs.{keyed_own_pages}
-use Rattle.bdb_mkhash.specs.Filling.{AreEmptyPages, AreFilled, IsBucketFilled, of_bucket, of_buckets}
-use Rattle.bdb_mkhash.specs.Pages.{HoldsContentsOn}
+use Rattle.bdb_mkhash.proofs.Common.{cases_eq, cases_lt, or_cases, or_right, length-map, map-append, take_more, sum_by_push, File, page_code, IsLater, between, between_is, is_between, Built, bytes_of}
+use Rattle.bdb_mkhash.proofs.Common.{file_so_far, later_before, BucketStands, Keyed, PlacedUnit, TableStands, unit_of, spread_bucket, keyed_own_pages, AreEmptyPages, AreFilled, IsBucketFilled}
+use Rattle.bdb_mkhash.proofs.Common.{of_bucket, of_buckets, HoldsContentsOn}
 use Rattle.bdb_mkhash.proofs.OpenLemmas.{bucket_is, holds_kept, is_first, is_further}
 
 -- Buckets that stand one after the other.

@@ -49,8 +49,8 @@ fn table_meta(settings: &Settings, first: u32, bits: u32) -> HashMeta
     }
 }
 
-/// Builds the table of a list behind all pages, and answers its metadata. The page size and the order of the settings are
-/// those of the pages. It is also refused where there are 2^21 pages.
+/// Builds the table of a list behind all pages, and answers its metadata. The page size and the order of the settings are those of the
+/// pages. An error means that memory ran out, that there would be more than 2^21 pages, or that a sum of counts doesn't fit its field.
 pub fn build_table(
     alloc: Global,
     pages: &mut Pages,

@@ -1,15 +1,7 @@
 -- The leaves of a tree as pages of its lowest level.
 use Rattle.std.proofs.Common.{Bool, ◌≡◌, ℕ, suc, zero, ◌+◌, ◌<◌, List, [], ◌∷◌, ◌++◌, length, get_or, take, arith, refl, sym, ◌∙◌, ap, subst, length-append}
-use Rattle.std.proofs.lemmas.List.{get_or_append_left, get_or_push, take_all, take_more}
-use Rattle.bdb_pack.specs.Built.{Built}
-use Rattle.bdb_mkleaves.specs.LeafChildren.{leaf_child, leaf_children}
-use Rattle.bdb_mkleaves.specs.LeafEntries.{Entry, HoldsEntriesOn}
-use Rattle.bdb_mkleaves.specs.Leaves.{first_of}
-use Rattle.bdb_mkleaves.specs.Levels.{no_child}
-use Rattle.bdb_mkleaves.specs.Moved.{AreLinked, LinkedFrom, numbers_of}
-use Rattle.bdb_mkleaves.specs.declared.leaf_type.LeafType.{LeafType}
-use Rattle.bdb_mkleaves.specs.declared.leaves.Leaves.{Leaves}
-use Rattle.bdb_mkleaves.specs.declared.levels.Child.{Child}
+use Rattle.bdb_mkleaves.proofs.Common.{get_or_append_left, get_or_push, take_all, take_more, Built, leaf_child, leaf_children, Entry, HoldsEntriesOn, first_of, no_child, AreLinked, LinkedFrom}
+use Rattle.bdb_mkleaves.proofs.Common.{numbers_of, LeafType, Leaves, Child}
 
 -- a leaf among linked ones
 linked_at : (type : LeafType) (built : Built) (previous : ℕ) (ps : List ℕ) (all : List (List Entry)) (beyond i : ℕ)

@@ -1,14 +1,7 @@
 -- How many pages leaves and their finished tree have.
-use Rattle.std.proofs.Common.{◌≡◌, ℕ, ◌+◌, Bool, true, false, if◌then◌else◌, List, [], ◌∷◌, ◌++◌, length, map, arith, refl, sym, ◌∙◌, ap, subst, length-append}
-use Rattle.std.proofs.Common.{flat_map, sum_by}
-use Rattle.std.proofs.lemmas.List.{append_assoc, map-append}
-use Rattle.std.proofs.lemmas.List.Sums.{sum_by_push}
+use Rattle.std.proofs.Common.{◌≡◌, ℕ, ◌+◌, Bool, true, false, if◌then◌else◌, List, [], ◌∷◌, ◌++◌, length, map, arith, refl, sym, ◌∙◌, ap, subst, length-append, flat_map, sum_by}
+use Rattle.bdb_mkleaves.proofs.Common.{append_assoc, map-append, sum_by_push, AreSpreadOver, FilledNow, SpreadNow, has_room, Placed, unit_of, own_pages, unit_cost}
 use Rattle.bdb_mkleaves.specs.Counted.{BegunLeavesAreCounted, CountedNow, FinishedTreesHaveSize, PushedUnitsAreCounted}
-use Rattle.bdb_mkleaves.specs.Filled.{AreSpreadOver, FilledNow, SpreadNow}
-use Rattle.bdb_mkleaves.specs.Leaves.{has_room}
-use Rattle.bdb_mkleaves.specs.Placed.{Placed, unit_of}
-use Rattle.bdb_mkleaves.specs.Spread.{own_pages}
-use Rattle.bdb_mkleaves.specs.Units.{unit_cost}
 use Rattle.bdb_mkleaves.proofs.NodesLemmas.{all_units}
 use Rattle.bdb_mkleaves.proofs.PushedLaws.{pushed_units_spread}
 use Rattle.bdb_mkleaves.proofs.TreeCountLemmas.{finished_trees_are_counted}

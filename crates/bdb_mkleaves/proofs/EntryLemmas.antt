@@ -1,33 +1,15 @@
 -- A leaf that takes an entry holds one entry more.
-use Rattle.std.proofs.Common.{Bool, ◌≡◌, ℕ, ◌+◌, ◌-◌, ◌<◌, ◌≤◌, true, false, List, [], ◌∷◌, ◌++◌, length, get_or, arith, refl, sym, ◌∙◌, ap, subst, inl, inr}
-use Rattle.std.proofs.Common.{None, length-append, ◌==◌, ◌%◌, sum_by}
-use Rattle.std.proofs.lemmas.Bool.{cases_lt, and_left, and_right, eq-eqb, le-leb, lt-leb, ne_eqb}
-use Rattle.std.proofs.lemmas.List.{get_or-set_same, get_or_append_left, get_or_push, length-map, map-append}
-use Rattle.std.proofs.lemmas.List.{get_or-map}
-use Rattle.std.proofs.lemmas.List.Sums.{sum_by_push}
-use Rattle.bdb_places.specs.of_format.declared.kinds.Order.{Order}
-use Rattle.bdb_places.specs.of_format.Terms.{Chain, Content, Inline, IsLeafContent, Item, Leaf, Listed, Set, Tree, Unknown, abstract_page, byte_at, entries_of}
-use Rattle.bdb_places.specs.of_format.Terms.{four_at, index_end, is_shared_key, item_row, leaf_bytes, leaf_item_at, listed, no_item, offset_of, pad4, page_as}
-use Rattle.bdb_places.specs.of_format.Terms.{page_type}
+use Rattle.std.proofs.Common.{Bool, ◌≡◌, ℕ, ◌+◌, ◌-◌, ◌<◌, ◌≤◌, true, false, List, [], ◌∷◌, ◌++◌, length, get_or, arith, refl, sym, ◌∙◌, ap, subst, inl, inr, None, length-append, ◌==◌, ◌%◌, sum_by}
+use Rattle.bdb_mkleaves.proofs.Common.{cases_lt, and_left, and_right, eq-eqb, le-leb, lt-leb, ne_eqb, get_or-set_same, get_or_append_left, get_or_push, length-map, map-append, get_or-map, sum_by_push}
+use Rattle.bdb_mkleaves.proofs.Common.{Order, Chain, Content, Inline, IsLeafContent, Item, Leaf, Listed, Set, Tree, Unknown, abstract_page, byte_at, four_at, index_end, is_shared_key, item_row}
+use Rattle.bdb_mkleaves.proofs.Common.{leaf_bytes, leaf_item_at, listed, no_item, offset_of, pad4, page_as, page_type, index_offset, length_items, leaf_item_is, length-leaf_chain, length-leaf_inline}
+use Rattle.bdb_mkleaves.proofs.Common.{length-leaf_tree, Built, bytes_of, with_page, HasPlaceOn, with_item_on, HasPlace, IsWritable, OnLeaf, extent, holds_item, CanShare, HasRoom, IsBegun}
+use Rattle.bdb_mkleaves.proofs.Common.{high_free_of, page_again, page_and_item, page_and_shared, page_with, place_below, with_item, begun_stays, open_is, IsEntered, IsPlaced, is_below, is_entered}
+use Rattle.bdb_mkleaves.proofs.Common.{pad-le, items_are_placed, typed, CanShareKey, CanTakeEntry, Entry, HoldsEntries, HoldsEntriesOn, entry_cost, item_cost, leaf_of, no_entry, own_entry, room_of}
+use Rattle.bdb_mkleaves.proofs.Common.{shared_key, type_number, LeafType, Pairs, Records, SortedData}
+use Rattle.bdb_places.specs.of_format.Terms.{entries_of}
 use Rattle.bdb_places.specs.of_format.declared.pages.PageType.TheVariants.{Leaf as LeafPage}
-use Rattle.bdb_places.proofs.of_format.PageLemmas.{index_offset, length_items}
-use Rattle.bdb_places.proofs.of_format.LeafLemmas.{leaf_item_is}
-use Rattle.bdb_pack.proofs.of_layout.WritingLemmas.{length-leaf_chain, length-leaf_inline, length-leaf_tree}
-use Rattle.bdb_pack.specs.Built.{Built, bytes_of, with_page}
-use Rattle.bdb_pack.specs.OnPages.{HasPlaceOn, with_item_on}
-use Rattle.bdb_pack.specs.Items.{HasPlace, IsWritable, OnLeaf, extent, holds_item}
-use Rattle.bdb_pack.specs.Placing.{CanShare, HasRoom, IsBegun, high_free_of, page_again, page_and_item, page_and_shared, page_with, place_below}
-use Rattle.bdb_pack.specs.Placing.{with_item}
-use Rattle.bdb_pack.proofs.BegunLemmas.{begun_stays}
-use Rattle.bdb_pack.proofs.OpenLemmas.{open_is}
-use Rattle.bdb_pack.proofs.PlacedLemmas.{IsEntered, IsPlaced, is_below, is_entered, pad-le}
-use Rattle.bdb_pack.proofs.PlacingLaws.{items_are_placed}
 use Rattle.bdb_pack.proofs.SharedLemmas.{begins_within, entries_are_shared}
-use Rattle.bdb_pack.proofs.StandingLemmas.{typed}
-use Rattle.bdb_mkleaves.specs.LeafEntries.{CanShareKey, CanTakeEntry, Entry, HoldsEntries, HoldsEntriesOn, entry_cost, item_cost, leaf_of, no_entry}
-use Rattle.bdb_mkleaves.specs.LeafEntries.{own_entry, room_of, shared_key, type_number}
-use Rattle.bdb_mkleaves.specs.declared.leaf_type.LeafType.{LeafType}
-use Rattle.bdb_mkleaves.specs.declared.leaf_type.LeafType.TheVariants.{Pairs, Records, SortedData}
 
 -- What the types of leaves have in common.
 

@@ -1,27 +1,9 @@
 -- Units that are put on leaves.
 use Rattle.std.proofs.Common.{◌≡◌, ℕ, suc, ◌+◌, ◌<◌, ◌≤◌, Bool, false, List, [], ◌∷◌, length, map, arith, refl, sym, ◌∙◌, ap, subst, All, flat_map, sum_by}
-use Rattle.std.proofs.lemmas.Simd.{map-map}
-use Rattle.std.proofs.lemmas.List.Elements.{All-cons, All-nil}
-use Rattle.std.proofs.lemmas.List.Sums.{sum_by-cons}
-use Rattle.bdb_places.specs.of_format.Terms.{Chain, Content, File, Inline, Set, Tree, Unknown, value_of}
-use Rattle.bdb_pack.specs.of_law_grove.Growing.{IsLater}
-use Rattle.bdb_pack.specs.of_law_grove.Leaves.{AscendIn, content_pages}
-use Rattle.bdb_pack.specs.of_law_grove.Part.{between}
-use Rattle.bdb_pack.specs.Built.{Built, file_so_far}
-use Rattle.bdb_pack.proofs.ImageLemmas.{counted_so_far}
-use Rattle.bdb_mkleaves.specs.Filled.{IsUnitPut, StandOn, unit_contents}
-use Rattle.bdb_mkleaves.specs.Layout.{HasTreeOn}
-use Rattle.bdb_mkleaves.specs.LeafEntries.{own_content}
-use Rattle.bdb_mkleaves.specs.Leaves.{AreSomeLeaves}
-use Rattle.bdb_mkleaves.specs.Placed.{HasValue, IsDatum, IsOneValue, IsPlacedBySize, IsStoredBySize, Placed, PlacedEntry, PlacedPairs, StandsBySize}
-use Rattle.bdb_mkleaves.specs.Placed.{StandsPlaced, ValueItem, entries_of, further_entries, unit_of}
-use Rattle.bdb_mkleaves.specs.Spread.{own_pages}
-use Rattle.bdb_mkleaves.specs.Units.{chain_pages, has_own_tree}
-use Rattle.bdb_mkleaves.specs.Puts.{CountsOneFrom, IsPut, ValueStands}
-use Rattle.bdb_mkleaves.specs.Runs.{ArePairsPut, IsLiveItem, IsRunPut, ValuesStand, held_by_item}
-use Rattle.bdb_mkleaves.specs.declared.leaf_type.LeafType.{LeafType}
-use Rattle.bdb_mkleaves.specs.declared.leaf_type.LeafType.TheVariants.{Pairs, Records, SortedData}
-use Rattle.bdb_mkleaves.specs.declared.leaves.Leaves.{Leaves}
+use Rattle.bdb_mkleaves.proofs.Common.{map-map, All-cons, All-nil, sum_by-cons, Chain, Content, File, Inline, Set, Tree, Unknown, value_of, IsLater, AscendIn, content_pages, between, Built}
+use Rattle.bdb_mkleaves.proofs.Common.{file_so_far, counted_so_far, IsUnitPut, StandOn, unit_contents, HasTreeOn, own_content, AreSomeLeaves, HasValue, IsDatum, IsOneValue, IsPlacedBySize}
+use Rattle.bdb_mkleaves.proofs.Common.{IsStoredBySize, Placed, PlacedEntry, PlacedPairs, StandsBySize, StandsPlaced, ValueItem, entries_of, further_entries, unit_of, own_pages, chain_pages}
+use Rattle.bdb_mkleaves.proofs.Common.{has_own_tree, CountsOneFrom, IsPut, ValueStands, ArePairsPut, IsLiveItem, IsRunPut, ValuesStand, held_by_item, LeafType, Pairs, Records, SortedData, Leaves}
 use Rattle.bdb_mkleaves.proofs.RunLemmas.{put_is_run}
 use Rattle.bdb_mkleaves.proofs.StandLemmas.{inline_read, values_stand_on}
 

@@ -1,23 +1,9 @@
 -- Levels of which the last page, the root, is placed on an earlier one.
-use Rattle.std.proofs.Common.{◌≡◌, ℕ, zero, suc, ◌+◌, ◌-◌, ◌<◌, ◌≤◌, ◌&&◌, not, Bool, true, List, [], ◌∷◌, length, replicate}
-use Rattle.std.proofs.Common.{arith, refl, sym, ◌∙◌, ap, subst, length-take}
-use Rattle.std.specs.List.{Contains, flat_map, range_with_len, sum_by}
-use Rattle.std.proofs.lemmas.Bool.{and_parts, eqb-false, ne_eqb, not-true}
-use Rattle.std.proofs.lemmas.List.{get_or-take}
-use Rattle.std.proofs.lemmas.List.Sums.{sum_by-cons}
-use Rattle.std.proofs.Math.Dec.{eqb}
-use Rattle.bdb_pack.proofs.ImageLemmas.{page_so_far}
-use Rattle.bdb_places.specs.of_format.Terms.{abstract_page, byte_at, entries_of, page_at, page_code}
-use Rattle.bdb_places.proofs.of_format.MemberLemmas.{of_flat_map}
-use Rattle.bdb_pack.specs.of_law_grove.Growing.{IsLater, IsSamePage}
-use Rattle.bdb_law_levels.specs.declared.inner_type.InnerType.{InnerType}
-use Rattle.bdb_law_levels.specs.Nodes.{Node}
-use Rattle.bdb_pack.specs.Built.{Built, bytes_of, file_so_far, without_last}
-use Rattle.bdb_mkleaves.specs.Finished.{HasTowerOn, IsRootPlaced}
-use Rattle.bdb_mkleaves.specs.Inner.{HasLiveKeys, HoldsChildrenOn}
-use Rattle.bdb_mkleaves.specs.Levels.{AreChildren, heads_of, node_over}
-use Rattle.bdb_mkleaves.specs.Tower.{EndsInRoot, HasTower}
-use Rattle.bdb_mkleaves.specs.declared.levels.Child.{Child}
+use Rattle.std.proofs.Common.{◌≡◌, ℕ, zero, suc, ◌+◌, ◌-◌, ◌<◌, ◌≤◌, ◌&&◌, not, Bool, true, List, [], ◌∷◌, length, replicate, arith, refl, sym, ◌∙◌, ap, subst, length-take}
+use Rattle.bdb_mkleaves.proofs.Common.{Contains, flat_map, range_with_len, sum_by, and_parts, eqb-false, ne_eqb, not-true, get_or-take, sum_by-cons, eqb, page_so_far, abstract_page, byte_at, page_at}
+use Rattle.bdb_mkleaves.proofs.Common.{page_code, of_flat_map, IsLater, IsSamePage, InnerType, Node, Built, bytes_of, file_so_far, without_last, HasTowerOn, IsRootPlaced, HasLiveKeys, HoldsChildrenOn}
+use Rattle.bdb_mkleaves.proofs.Common.{AreChildren, heads_of, node_over, EndsInRoot, HasTower, Child}
+use Rattle.bdb_places.specs.of_format.Terms.{entries_of}
 use Rattle.bdb_mkleaves.proofs.InnerLemmas.{children_are_formed}
 use Rattle.bdb_mkleaves.proofs.LevelLawLemmas.{keys_of}
 use Rattle.bdb_mkleaves.proofs.LevelLemmas.{as_many}

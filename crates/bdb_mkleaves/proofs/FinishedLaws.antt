@@ -1,38 +1,15 @@
 -- Filled leaves with levels over them, of which the root stands where the first leaf stood, are a tree that is laid.
-use Rattle.std.proofs.Common.{◌≡◌, ℕ, suc, ◌+◌, ◌-◌, ◌<◌, ◌≤◌, Bool, true, false, List, [], ◌∷◌, ◌++◌, length, map, drop, arith, refl, sym, ◌∙◌, ap, subst, inl}
-use Rattle.std.proofs.Common.{inr, true≢false, ◌||◌}
-use Rattle.std.specs.List.{All, Contains, flat_map, range_with_len}
-use Rattle.std.proofs.lemmas.Bool.{cases_Bool, cases_eq, cases_lt, false_from_ne_true, or_left, or_right, or_cases}
-use Rattle.std.proofs.lemmas.Grind.{flat_map-append}
-use Rattle.std.proofs.lemmas.List.Elements.{Contains-append_cases, Contains-append_left, Contains-append_right}
-use Rattle.bdb_pack.proofs.ImageLemmas.{page_so_far}
-use Rattle.bdb_places.specs.of_format.Terms.{header_in, page_at, page_code}
-use Rattle.bdb_places.proofs.of_format.MemberLemmas.{first_member, in_range, later_member, member_cases, of_range}
-use Rattle.bdb_places.proofs.of_format.ListLemmas.{only_member}
-use Rattle.bdb_pack.specs.of_law_grove.Growing.{IsLater, IsSamePage}
-use Rattle.bdb_pack.specs.of_law_grove.Leaves.{Ascend, ContentFits, content_pages}
-use Rattle.bdb_pack.specs.of_law_grove.Part.{IsBranch, between}
-use Rattle.bdb_pack.proofs.of_law_grove.BranchLemmas.{of_list}
-use Rattle.bdb_pack.proofs.of_law_grove.ChainLemmas.{between_is, is_between, same_test}
-use Rattle.bdb_pack.proofs.of_law_grove.LeafLemmas.{above_low, ascend_once}
-use Rattle.bdb_pack.proofs.of_law_grove.SeveralLemmas.{count, count-append}
-use Rattle.bdb_pack.proofs.of_law_grove.AscendLemmas.{ascend_strictly}
-use Rattle.bdb_law_levels.specs.Nodes.{Node}
-use Rattle.bdb_law_levels.specs.Roots.{is_of, pages_of as level_pages}
-use Rattle.bdb_pack.specs.Built.{Built, bytes_of, file_so_far}
-use Rattle.bdb_mkleaves.specs.Filled.{AllStand, all_contents, rest_of}
-use Rattle.bdb_mkleaves.specs.Finished.{FinishedTreesAreLaid, FinishedTreesKeepPages}
-use Rattle.bdb_mkleaves.specs.Laid.{entries_on, held_by_leaves, inner_of, is_laid, tree_pages}
-use Rattle.bdb_mkleaves.specs.LeafEntries.{contents_of}
-use Rattle.bdb_mkleaves.specs.Moved.{LinkedFrom, first_leaf, numbers_of, second_leaf}
-use Rattle.bdb_mkleaves.specs.Placed.{LeafUnits, Placed, StandsPlaced, entries_of, pages_of}
-use Rattle.bdb_mkleaves.specs.Rooted.{placed_on}
-use Rattle.bdb_mkleaves.specs.Tower.{levels_to}
-use Rattle.bdb_mkleaves.specs.declared.leaf_type.LeafType.{LeafType}
+use Rattle.std.proofs.Common.{◌≡◌, ℕ, suc, ◌+◌, ◌-◌, ◌<◌, ◌≤◌, Bool, true, false, List, [], ◌∷◌, ◌++◌, length, map, drop, arith, refl, sym, ◌∙◌, ap, subst, inl, inr, true≢false, ◌||◌}
+use Rattle.bdb_mkleaves.proofs.Common.{All, Contains, flat_map, range_with_len, cases_Bool, cases_eq, cases_lt, false_from_ne_true, or_left, or_right, or_cases, flat_map-append, Contains-append_cases}
+use Rattle.bdb_mkleaves.proofs.Common.{Contains-append_left, Contains-append_right, page_so_far, header_in, page_at, page_code, first_member, in_range, later_member, member_cases, of_range}
+use Rattle.bdb_mkleaves.proofs.Common.{only_member, IsLater, IsSamePage, Ascend, ContentFits, content_pages, IsBranch, between, of_list, between_is, is_between, same_test, above_low, ascend_once}
+use Rattle.bdb_mkleaves.proofs.Common.{count, count-append, ascend_strictly, Node, is_of, Built, bytes_of, file_so_far, AllStand, all_contents, rest_of, FinishedTreesAreLaid, FinishedTreesKeepPages}
+use Rattle.bdb_mkleaves.proofs.Common.{entries_on, held_by_leaves, inner_of, is_laid, tree_pages, contents_of, LinkedFrom, first_leaf, numbers_of, second_leaf, LeafUnits, Placed, StandsPlaced}
+use Rattle.bdb_mkleaves.proofs.Common.{entries_of, pages_of, placed_on, levels_to, LeafType}
+use Rattle.bdb_law_levels.specs.Roots.{pages_of as level_pages}
 use Rattle.bdb_mkleaves.proofs.FinishLemmas.{but_are, is_but, pages_but}
 use Rattle.bdb_mkleaves.proofs.FinishedLemmas.{first_two, moved_from, moved_pages, others_of}
-use Rattle.bdb_mkleaves.proofs.GrownLemmas.{all_joined, as_many, contents_held, heads_among, laid_leaves, pages_named, rise_on, zip_all}
-use Rattle.bdb_mkleaves.proofs.GrownLemmas.{zip_pages}
+use Rattle.bdb_mkleaves.proofs.GrownLemmas.{all_joined, as_many, contents_held, heads_among, laid_leaves, pages_named, rise_on, zip_all, zip_pages}
 use Rattle.bdb_mkleaves.proofs.LaterLemmas.{later_chain, later_fewer}
 use Rattle.bdb_mkleaves.proofs.NumberedLemmas.{AreNumbered, are_numbered}
 use Rattle.bdb_mkleaves.proofs.RestLemmas.{is_one, is_rest, rest_is}

@@ -1,27 +1,10 @@
 -- Filled leaves, of which the first is moved, as the lowest level of their tree.
 use Rattle.std.proofs.Common.{◌≡◌, ℕ, suc, zero, ◌+◌, ◌<◌, ◌≤◌, Bool, true, List, [], ◌∷◌, ◌++◌, length, map, drop, set, arith, refl, sym, ◌∙◌, ap, subst, inl}
 use Rattle.std.proofs.Common.{inr, length-append, length-set, All, Contains, flat_map}
-use Rattle.std.proofs.lemmas.List.{map-append}
-use Rattle.std.proofs.lemmas.List.Elements.{All-push}
-use Rattle.bdb_places.specs.of_format.Terms.{Chain, Content, Inline, Set, Tree, Unknown, byte_at, is_page_size}
-use Rattle.bdb_places.proofs.of_format.MemberLemmas.{first_member, later_member, member_cases, no_member}
-use Rattle.bdb_law_levels.specs.Nodes.{Node}
-use Rattle.bdb_law_levels.specs.declared.inner_type.InnerType.{InnerType}
-use Rattle.bdb_pack.specs.Built.{Built, bytes_of}
-use Rattle.bdb_mkleaves.specs.Filled.{AreFilled, all_contents, unit_contents}
-use Rattle.bdb_mkleaves.specs.Finished.{HasRootOn, HasTowerOn}
-use Rattle.bdb_mkleaves.specs.Inner.{CountsOne, child_cost}
-use Rattle.bdb_mkleaves.specs.Laid.{inner_of}
-use Rattle.bdb_mkleaves.specs.LeafChildren.{leaf_children, leaf_nodes}
-use Rattle.bdb_mkleaves.specs.LeafEntries.{Entry, type_number}
-use Rattle.bdb_mkleaves.specs.Leaves.{AreLeaves, LeavesFrom}
-use Rattle.bdb_mkleaves.specs.Levels.{AreChildren}
-use Rattle.bdb_mkleaves.specs.Moved.{AreLinked, IsFirstMoved, LinkedFrom, first_leaf, numbers_of, second_leaf}
-use Rattle.bdb_mkleaves.specs.Placed.{IsPlacedBySize, Placed, entries_of}
-use Rattle.bdb_mkleaves.specs.Puts.{CountsOneFrom}
-use Rattle.bdb_mkleaves.specs.declared.leaf_type.LeafType.{LeafType}
-use Rattle.bdb_mkleaves.specs.declared.leaves.Leaves.{Leaves}
-use Rattle.bdb_mkleaves.specs.declared.levels.Child.{Child}
+use Rattle.bdb_mkleaves.proofs.Common.{map-append, All-push, Chain, Content, Inline, Set, Tree, Unknown, byte_at, is_page_size, first_member, later_member, member_cases, no_member, Node, InnerType}
+use Rattle.bdb_mkleaves.proofs.Common.{Built, bytes_of, AreFilled, all_contents, unit_contents, HasRootOn, HasTowerOn, CountsOne, child_cost, inner_of, leaf_children, leaf_nodes, Entry, type_number}
+use Rattle.bdb_mkleaves.proofs.Common.{AreLeaves, LeavesFrom, AreChildren, AreLinked, IsFirstMoved, LinkedFrom, first_leaf, numbers_of, second_leaf, IsPlacedBySize, Placed, entries_of, CountsOneFrom}
+use Rattle.bdb_mkleaves.proofs.Common.{LeafType, Leaves, Child}
 use Rattle.bdb_mkleaves.proofs.ChildrenLemmas.{length-children}
 use Rattle.bdb_mkleaves.proofs.LeavesLemmas.{leaf_closed}
 use Rattle.bdb_mkleaves.proofs.MovedLemmas.{two_leaves}

@@ -1,24 +1,8 @@
 -- Finished trees are laid, and those of data are sets.
 use Rattle.std.proofs.Common.{◌≡◌, ℕ, Bool, List, [], ◌∷◌, ◌++◌, length, map, refl, sym, ◌∙◌, ap, subst, inl, inr}
-use Rattle.std.specs.List.{AllZip, Contains, flat_map}
-use Rattle.std.proofs.lemmas.List.Elements.{All-cons, All-nil}
-use Rattle.std.proofs.lemmas.List.Folds.{flat_map-map}
-use Rattle.bdb_places.specs.of_format.Terms.{Tree, data_of, is_wrong_set}
-use Rattle.bdb_places.proofs.of_format.ListLemmas.{map_joined}
-use Rattle.bdb_pack.specs.of_law_grove.Growing.{IsLater}
-use Rattle.bdb_pack.specs.of_law_grove.Leaves.{ContentFits, SetFits}
-use Rattle.bdb_pack.specs.of_law_grove.Part.{between}
-use Rattle.bdb_pack.proofs.of_law_grove.BranchLemmas.{branch_is_known}
-use Rattle.bdb_pack.specs.Built.{Built, file_so_far}
-use Rattle.bdb_mkleaves.specs.Filled.{rest_of}
-use Rattle.bdb_mkleaves.specs.Finished.{FirstRootsAreLaid, HasLaidTree}
-use Rattle.bdb_mkleaves.specs.Grown.{GrownSetsStand, live_entry}
-use Rattle.bdb_mkleaves.specs.Laid.{IsNodeOf, has_sorted_data, is_laid, live_value}
-use Rattle.bdb_mkleaves.specs.Leaves.{first_of}
-use Rattle.bdb_mkleaves.specs.Moved.{numbers_of}
-use Rattle.bdb_mkleaves.specs.Placed.{LeafUnits, Placed, unit_of, units_in}
-use Rattle.bdb_mkleaves.specs.Rooted.{CountsLeaves, leaf_with, placed_on, zip_units}
-use Rattle.bdb_mkleaves.specs.Tower.{levels_to}
+use Rattle.bdb_mkleaves.proofs.Common.{AllZip, Contains, flat_map, All-cons, All-nil, flat_map-map, Tree, data_of, is_wrong_set, map_joined, IsLater, ContentFits, SetFits, between, branch_is_known}
+use Rattle.bdb_mkleaves.proofs.Common.{Built, file_so_far, rest_of, FirstRootsAreLaid, HasLaidTree, GrownSetsStand, live_entry, IsNodeOf, has_sorted_data, is_laid, live_value, first_of, numbers_of}
+use Rattle.bdb_mkleaves.proofs.Common.{LeafUnits, Placed, unit_of, units_in, CountsLeaves, leaf_with, placed_on, zip_units, levels_to}
 use Rattle.bdb_mkleaves.proofs.FinishedLaws.{finished_trees_are_laid}
 use Rattle.bdb_mkleaves.proofs.FinishedLemmas.{moved_from}
 use Rattle.bdb_mkleaves.proofs.GrownLemmas.{as_many, zip_groups}

@@ -1,32 +1,10 @@
 -- Filled leaves as the leaves of a tree, with what they hold.
 use Rattle.std.proofs.Common.{◌≡◌, ℕ, suc, ◌<◌, List, [], ◌∷◌, ◌++◌, length, map, arith, refl, ap, subst, inl, inr, append-nil}
-use Rattle.std.specs.List.{All, AllZip, Contains, flat_map, range_with_len}
-use Rattle.std.proofs.lemmas.Grind.{flat_map-append}
-use Rattle.std.proofs.lemmas.List.Elements.{All-contains, All-head, All-tail}
-use Rattle.std.proofs.lemmas.List.Folds.{flat_map-map}
-use Rattle.bdb_places.specs.of_format.Terms.{File, Item, Listed, Page, abstract_page, first_or_zero, page_at}
-use Rattle.bdb_places.proofs.of_format.ListLemmas.{all_of, flat_map_same, flat_map_twice, map_joined}
-use Rattle.bdb_places.proofs.of_format.MemberLemmas.{first_member, in_flat_map, later_member, no_member, of_flat_map}
-use Rattle.bdb_pack.specs.of_law_grove.Growing.{IsSamePage}
-use Rattle.bdb_pack.specs.of_law_grove.Leaves.{Ascend, content_pages}
-use Rattle.bdb_pack.proofs.of_law_grove.SeveralLemmas.{some_count}
-use Rattle.bdb_pack.proofs.of_law_grove.AscendLemmas.{range_ascends}
-use Rattle.bdb_law_levels.specs.Nodes.{Node}
-use Rattle.bdb_law_levels.specs.Roots.{key_heads}
-use Rattle.bdb_law_levels.specs.declared.inner_type.InnerType.{InnerType}
-use Rattle.bdb_law_levels.specs.declared.inner_type.InnerType.TheVariants.{Keyed, Numbered}
-use Rattle.bdb_pack.specs.Built.{Built, bytes_of}
-use Rattle.bdb_law_levels.proofs.TakenLemmas.{counted_member}
-use Rattle.bdb_mkleaves.specs.Filled.{unit_contents}
-use Rattle.bdb_mkleaves.specs.Laid.{AreLaid, IsNodeOf, entries_on, held_by_leaves, inner_of}
-use Rattle.bdb_mkleaves.specs.LeafEntries.{Entry, IsLeafIn, contents_of, leaf_of, own_content}
-use Rattle.bdb_mkleaves.specs.Leaves.{first_of}
-use Rattle.bdb_mkleaves.specs.Levels.{heads_of}
-use Rattle.bdb_mkleaves.specs.Moved.{LinkedFrom}
-use Rattle.bdb_mkleaves.specs.Placed.{LeafUnits, Placed, StandsPlaced, entries_of, pages_of}
-use Rattle.bdb_mkleaves.specs.Rooted.{zip_units}
-use Rattle.bdb_mkleaves.specs.declared.leaf_type.LeafType.{LeafType}
-use Rattle.bdb_mkleaves.specs.declared.leaf_type.LeafType.TheVariants.{Pairs, Records, SortedData}
+use Rattle.bdb_mkleaves.proofs.Common.{All, AllZip, Contains, flat_map, range_with_len, flat_map-append, All-contains, All-head, All-tail, flat_map-map, File, Item, Listed, Page, abstract_page}
+use Rattle.bdb_mkleaves.proofs.Common.{first_or_zero, page_at, all_of, flat_map_same, flat_map_twice, map_joined, first_member, in_flat_map, later_member, no_member, of_flat_map, IsSamePage, Ascend}
+use Rattle.bdb_mkleaves.proofs.Common.{content_pages, some_count, range_ascends, Node, key_heads, InnerType, Keyed, Numbered, Built, bytes_of, counted_member, unit_contents, AreLaid, IsNodeOf}
+use Rattle.bdb_mkleaves.proofs.Common.{entries_on, held_by_leaves, inner_of, Entry, IsLeafIn, contents_of, leaf_of, own_content, first_of, heads_of, LinkedFrom, LeafUnits, Placed, StandsPlaced}
+use Rattle.bdb_mkleaves.proofs.Common.{entries_of, pages_of, zip_units, LeafType, Pairs, Records, SortedData}
 use Rattle.bdb_mkleaves.proofs.HeldLemmas.{leaves_stand}
 use Rattle.bdb_mkleaves.proofs.LaidBranchLemmas.{heads_of_nodes}
 use Rattle.bdb_mkleaves.proofs.PushLemmas.{whole_units}
@@ -67,8 +45,7 @@ zip_all ps closed units many = grind (arith, zip_joined, flat_map-append, append
 
 -- what holds of all that lists have holds of what each has
 pub all_joined : {X Y : Type 0} (P : Y → Type 0) (f : X → List Y) (xs : List X) → All P (flat_map f xs) → All (λ x. All P (f x)) xs
-all_joined P f xs all =
-    all_of (λ x. All P (f x)) xs (λ x at. all_of P (f x) (λ y among. All-contains P (flat_map f xs) y all (in_flat_map f xs x y at among)))
+all_joined P f xs all = all_of (λ x. All P (f x)) xs (λ x at. all_of P (f x) (λ y among. All-contains P (flat_map f xs) y all (in_flat_map f xs x y at among)))
 
 -- Leaves in a later file.
 

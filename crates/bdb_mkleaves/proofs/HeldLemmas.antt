@@ -1,24 +1,11 @@
 -- What a leaf holds, by its entries.
 use Rattle.std.proofs.Common.{◌≡◌, ℕ, suc, zero, ◌+◌, ◌*◌, ◌<◌, Bool, false, cond, List, [], ◌∷◌, length, map, get_or, arith, refl, sym, ◌∙◌, ap, ◌/◌, ◌%◌}
-use Rattle.std.specs.List.{flat_map, range_with_len}
-use Rattle.std.proofs.lemmas.Bool.{ne_eqb}
-use Rattle.std.proofs.lemmas.List.{get_or-map, get_or_default, length-map, same_lists}
-use Rattle.std.proofs.lemmas.Simd.{map-map}
-use Rattle.std.proofs.lemmas.List.FromFn.{get_or-map-range_with_len, length-map-range_with_len}
-use Rattle.std.proofs.lemmas.List.Folds.{flat_map-map}
-use Rattle.bdb_places.specs.of_format.declared.pages.Header.{Header}
-use Rattle.bdb_places.specs.of_format.Terms.{Content, File, Item, Leaf, Listed, StoredPair, byte_at, contents_in, entries_of, header_of, is_shared_key}
-use Rattle.bdb_places.specs.of_format.Terms.{is_wrong_entry_count, is_wrong_level, item_at, leaf_item_at, no_item, page_type, pair_at, pairs_in}
-use Rattle.bdb_places.proofs.of_format.MemberLemmas.{of_range}
-use Rattle.bdb_places.proofs.of_format.PageLemmas.{header_listed}
+use Rattle.bdb_mkleaves.proofs.Common.{flat_map, range_with_len, ne_eqb, get_or-map, get_or_default, length-map, same_lists, map-map, get_or-map-range_with_len, length-map-range_with_len}
+use Rattle.bdb_mkleaves.proofs.Common.{flat_map-map, Header, Content, File, Item, Leaf, Listed, StoredPair, byte_at, contents_in, header_of, is_shared_key, is_wrong_entry_count, is_wrong_level}
+use Rattle.bdb_mkleaves.proofs.Common.{item_at, leaf_item_at, no_item, page_type, pair_at, pairs_in, of_range, header_listed, flat_map_same, bytes_of, begun_is_formed, Entry, HoldsIn, LeavesAreFormed}
+use Rattle.bdb_mkleaves.proofs.Common.{LeavesStand, contents_of, leaf_of, no_entry, own_content, own_entry, pair_in, pairs_from, type_number, LeafType, Pairs, Records, SortedData}
+use Rattle.bdb_places.specs.of_format.Terms.{entries_of}
 use Rattle.bdb_places.proofs.of_format.TargetLemmas.{each_own}
-use Rattle.bdb_places.proofs.of_format.ListLemmas.{flat_map_same}
-use Rattle.bdb_pack.specs.Built.{bytes_of}
-use Rattle.bdb_pack.proofs.FormLemmas.{begun_is_formed}
-use Rattle.bdb_mkleaves.specs.LeafEntries.{Entry, HoldsIn, LeavesAreFormed, LeavesStand, contents_of, leaf_of, no_entry, own_content, own_entry}
-use Rattle.bdb_mkleaves.specs.LeafEntries.{pair_in, pairs_from, type_number}
-use Rattle.bdb_mkleaves.specs.declared.leaf_type.LeafType.{LeafType}
-use Rattle.bdb_mkleaves.specs.declared.leaf_type.LeafType.TheVariants.{Pairs, Records, SortedData}
 use Rattle.bdb_mkleaves.proofs.EntryLemmas.{entries_held, page_is}
 
 -- its form
@@ -58,8 +45,7 @@ record HasEntries (page : Listed Item) (entries : List Entry) : Type 0 where
 
 item_held : (page : Listed Item) (entries : List Entry) (k : ℕ) → HasEntries page entries → k < length entries
     → item_at page k ≡ (get_or entries k no_entry).item
-item_held page entries k has low =
-    ap (λ items. get_or items k no_item) has.items ∙ get_or-map (λ (entry : Entry). entry.item) entries k no_entry no_item low
+item_held page entries k has low = ap (λ items. get_or items k no_item) has.items ∙ get_or-map (λ (entry : Entry). entry.item) entries k no_entry no_item low
 
 contents_held : (type : LeafType) (page : Listed Item) (entries : List Entry) → HasEntries page entries
     → contents_in (leaf_of type page) ≡ contents_of type entries

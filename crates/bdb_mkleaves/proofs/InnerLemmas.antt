@@ -1,43 +1,17 @@
 -- An internal page that takes the item of a child holds one child more; the head of a chain that counts two references is the page of before.
 use Rattle.std.proofs.Common.{◌≡◌, ℕ, suc, ◌+◌, ◌-◌, ◌<◌, ◌≤◌, ◌^◌, true, false, not, List, [], ◌∷◌, ◌++◌, length, take, drop, replicate, Option, Some, None}
 use Rattle.std.proofs.Common.{arith, refl, sym, ◌∙◌, ap, subst, inr, length-append, ◌==◌, nat_lt}
-use Rattle.std.proofs.lemmas.Bool.{ne_eqb}
-use Rattle.std.proofs.lemmas.List.{get_or_push, length-map, length-replicate, map-append}
-use Rattle.std.proofs.lemmas.List.Sums.{sum_by_push}
-use Rattle.bdb_places.specs.of_format.declared.kinds.Order.{Order}
-use Rattle.bdb_places.specs.of_format.declared.pages.Header.{Header}
-use Rattle.bdb_places.specs.of_format.declared.pages.RecnoItem.{RecnoItem}
-use Rattle.bdb_places.specs.of_format.Terms.{Chain, Content, Inline, Internal, InternalItem, IsKey, Listed, Overflow, Page, RecnoInternal, Set, Tree, Unknown}
-use Rattle.bdb_places.specs.of_format.Terms.{abstract_page, byte_at, entries_of, first_row, four_at, header_bytes, header_of, index_end, internal_bytes}
-use Rattle.bdb_places.specs.of_format.Terms.{internal_item_at, is_page_size, is_tree_type, is_wrong_entry_count, is_wrong_level, listed, number_at}
-use Rattle.bdb_places.specs.of_format.Terms.{overwritten, pad4, page_code, page_type, recno_item_at, spelled, two_at, ◌:?◌}
-use Rattle.bdb_places.proofs.of_format.PageLemmas.{header_listed, length_items}
-use Rattle.bdb_places.proofs.of_format.SpellingLemmas.{length-overwritten, length-spelled}
-use Rattle.bdb_places.proofs.of_format.SizeLemmas.{size_bounds}
-use Rattle.bdb_pack.specs.of_law_grove.Growing.{IsSamePage}
-use Rattle.bdb_pack.proofs.of_law_grove.GroveLemmas.{above}
-use Rattle.bdb_pack.proofs.of_layout.WritingLemmas.{length-internal_chain, length-internal_inline}
-use Rattle.bdb_law_levels.specs.declared.inner_type.InnerType.{InnerType}
-use Rattle.bdb_law_levels.specs.declared.inner_type.InnerType.TheVariants.{Keyed, Numbered}
-use Rattle.bdb_law_levels.specs.Nodes.{Node, keyed_item, keyed_items, numbered_item}
-use Rattle.bdb_pack.specs.Built.{AreWhole, Built, bytes_of, with_page, with_zeros, written_over}
-use Rattle.bdb_pack.specs.Items.{HasPlace, IsWritable, OnInternal, OnRecno, PageItem, extent, holds_item, item_bytes, takes_items}
-use Rattle.bdb_pack.specs.OnPages.{with_item_on}
-use Rattle.bdb_pack.specs.Placing.{HasRoom, begun_header, begun_page, empty_listed, empty_page, high_free_of, page_and_item, page_with, place_below}
-use Rattle.bdb_pack.specs.Placing.{with_item}
-use Rattle.bdb_pack.proofs.BegunLemmas.{begun_stays}
-use Rattle.bdb_pack.proofs.CutLemmas.{written_whole}
-use Rattle.bdb_pack.proofs.FormLemmas.{begun_is_formed}
-use Rattle.bdb_pack.proofs.HeaderLemmas.{begun_pages_take_items, header_read, length-header}
-use Rattle.bdb_pack.proofs.OpenLemmas.{recno_length, open_is}
-use Rattle.bdb_pack.proofs.PlaceLemmas.{behind, byte_same, drop_same, number_before, number_here, number_same}
-use Rattle.bdb_pack.proofs.PlacedLemmas.{IsPlaced, is_below}
-use Rattle.bdb_pack.proofs.PlacingLaws.{items_are_placed}
-use Rattle.bdb_pack.proofs.StandingLemmas.{not_zero, typed}
-use Rattle.bdb_mkleaves.specs.Inner.{CanTakeChild, ChildrenAreFormed, ChildrenStand, CountsFew, HasNodes, HoldsChildren, HoldsChildrenOn}
-use Rattle.bdb_mkleaves.specs.Inner.{RaisedPagesStand, added_key, child_cost, child_item, counting_two, first_cost, inner_header, inner_number}
-use Rattle.bdb_mkleaves.specs.Inner.{key_cost, nodes_cost, raised, with_inner}
-use Rattle.bdb_mkleaves.specs.LeafEntries.{room_of}
+use Rattle.bdb_mkleaves.proofs.Common.{ne_eqb, get_or_push, length-map, length-replicate, map-append, sum_by_push, Order, Header, RecnoItem, Chain, Content, Inline, Internal, InternalItem, IsKey}
+use Rattle.bdb_mkleaves.proofs.Common.{Listed, Overflow, Page, RecnoInternal, Set, Tree, Unknown, abstract_page, byte_at, first_row, four_at, header_bytes, header_of, index_end, internal_bytes}
+use Rattle.bdb_mkleaves.proofs.Common.{internal_item_at, is_page_size, is_tree_type, is_wrong_entry_count, is_wrong_level, listed, number_at, overwritten, pad4, page_code, page_type, recno_item_at}
+use Rattle.bdb_mkleaves.proofs.Common.{spelled, two_at, ◌:?◌, header_listed, length_items, length-overwritten, length-spelled, size_bounds, IsSamePage, above, length-internal_chain}
+use Rattle.bdb_mkleaves.proofs.Common.{length-internal_inline, InnerType, Keyed, Numbered, Node, keyed_item, keyed_items, numbered_item, AreWhole, Built, bytes_of, with_page, with_zeros, written_over}
+use Rattle.bdb_mkleaves.proofs.Common.{HasPlace, IsWritable, OnInternal, OnRecno, PageItem, extent, holds_item, item_bytes, takes_items, with_item_on, HasRoom, begun_header, begun_page, empty_listed}
+use Rattle.bdb_mkleaves.proofs.Common.{empty_page, high_free_of, page_and_item, page_with, place_below, with_item, begun_stays, written_whole, begun_is_formed, begun_pages_take_items, header_read}
+use Rattle.bdb_mkleaves.proofs.Common.{length-header, recno_length, open_is, behind, byte_same, drop_same, number_before, number_here, number_same, IsPlaced, is_below, items_are_placed, not_zero}
+use Rattle.bdb_mkleaves.proofs.Common.{typed, CanTakeChild, ChildrenAreFormed, ChildrenStand, CountsFew, HasNodes, HoldsChildren, HoldsChildrenOn, RaisedPagesStand, added_key, child_cost, child_item}
+use Rattle.bdb_mkleaves.proofs.Common.{counting_two, first_cost, inner_header, inner_number, key_cost, nodes_cost, raised, with_inner, room_of}
+use Rattle.bdb_places.specs.of_format.Terms.{entries_of}
 use Rattle.bdb_mkleaves.proofs.EntryLemmas.{bytes_with}
 use Rattle.bdb_mkleaves.proofs.LiveLemmas.{live_added}
 
@@ -64,8 +38,7 @@ takes_inner Numbered = refl
 items_more : (nodes : List Node) (node : Node) → keyed_items nodes ++ (keyed_item (added_key nodes node) node ∷ [])
     ≡ keyed_items (nodes ++ (node ∷ []))
 items_more [] node = refl
-items_more (other ∷ others) node =
-    ap (λ items. keyed_item (Inline []) other ∷ items) (sym (map-append (λ (n : Node). keyed_item n.key n) others (node ∷ [])))
+items_more (other ∷ others) node = ap (λ items. keyed_item (Inline []) other ∷ items) (sym (map-append (λ (n : Node). keyed_item n.key n) others (node ∷ [])))
 
 nodes_more : (inner : InnerType) (q : Page) (at : ℕ) (nodes : List Node) (node : Node) → HasNodes inner q nodes
     → HasNodes inner (page_with q at (child_item inner (added_key nodes node) node)) (nodes ++ (node ∷ []))

@@ -1,26 +1,9 @@
 -- What a finished tree leaves of the pages: those since its leaves were begun have no row of form, and older ones stay.
 use Rattle.std.proofs.Common.{◌≡◌, ℕ, ◌<◌, ◌≤◌, List, [], ◌∷◌, ◌++◌, drop, length, map, false, None, arith, refl, sym, ◌∙◌, ap, subst, inl, inr, true≢false}
-use Rattle.std.specs.List.{All, AllZip, Contains, flat_map}
-use Rattle.std.proofs.lemmas.Bool.{cases_Bool, cases_eq, cases_lt}
-use Rattle.std.proofs.lemmas.List.Elements.{All-head, All-tail}
-use Rattle.bdb_places.specs.of_format.Terms.{File, page_code}
-use Rattle.bdb_places.proofs.of_format.MemberLemmas.{first_member, later_member, member_cases, no_member}
-use Rattle.bdb_pack.specs.of_law_grove.Leaves.{content_pages}
-use Rattle.bdb_pack.proofs.of_law_grove.BranchLemmas.{of_list}
-use Rattle.bdb_law_levels.specs.Nodes.{Node}
-use Rattle.bdb_law_levels.specs.Roots.{is_of}
-use Rattle.bdb_pack.specs.Built.{Built, bytes_of, file_so_far}
-use Rattle.bdb_pack.proofs.ImageLemmas.{counted_so_far}
-use Rattle.bdb_mkleaves.specs.Filled.{AllStand, AreFilled, all_contents, rest_of}
-use Rattle.bdb_mkleaves.specs.Finished.{FinishedTreesAreFormed, FinishedTreesKeepOlderPages}
-use Rattle.bdb_mkleaves.specs.Laid.{IsNodeOf, held_by_leaves, inner_of}
-use Rattle.bdb_mkleaves.specs.Leaves.{first_of}
-use Rattle.bdb_mkleaves.specs.Levels.{heads_of}
-use Rattle.bdb_mkleaves.specs.Moved.{IsFirstMoved, LinkedFrom, first_leaf, numbers_of, second_leaf}
-use Rattle.bdb_mkleaves.specs.Placed.{LeafUnits, Placed, StandsPlaced, entries_of}
-use Rattle.bdb_mkleaves.specs.Rooted.{placed_on}
-use Rattle.bdb_mkleaves.specs.declared.leaf_type.LeafType.{LeafType}
-use Rattle.bdb_mkleaves.specs.declared.leaves.Leaves.{Leaves}
+use Rattle.bdb_mkleaves.proofs.Common.{All, AllZip, Contains, flat_map, cases_Bool, cases_eq, cases_lt, All-head, All-tail, File, page_code, first_member, later_member, member_cases, no_member}
+use Rattle.bdb_mkleaves.proofs.Common.{content_pages, of_list, Node, is_of, Built, bytes_of, file_so_far, counted_so_far, AllStand, AreFilled, all_contents, rest_of, FinishedTreesAreFormed}
+use Rattle.bdb_mkleaves.proofs.Common.{FinishedTreesKeepOlderPages, IsNodeOf, held_by_leaves, inner_of, first_of, heads_of, IsFirstMoved, LinkedFrom, first_leaf, numbers_of, second_leaf, LeafUnits}
+use Rattle.bdb_mkleaves.proofs.Common.{Placed, StandsPlaced, entries_of, placed_on, LeafType, Leaves}
 use Rattle.bdb_mkleaves.proofs.FilledLemmas.{later_self}
 use Rattle.bdb_mkleaves.proofs.FinishedLemmas.{first_two, moved_from, moved_pages, others_of}
 use Rattle.bdb_mkleaves.proofs.GrownLemmas.{as_many, contents_held, heads_among, pages_named, zip_all}

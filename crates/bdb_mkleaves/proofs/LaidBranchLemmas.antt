@@ -1,35 +1,20 @@
 -- A tree that is laid is a branch: its leaves stand over what they name, and the levels over them.
-use Rattle.std.proofs.Common.{◌≡◌, ◌⊎◌, ℕ, ◌+◌, ◌≤◌, Bool, true, false, List, [], ◌∷◌, ◌++◌, get_or, map, length, Some, append-nil, arith, refl, sym, ◌∙◌, ap}
-use Rattle.std.proofs.Common.{subst, inl, inr, true≢false, ◌==◌, ◌||◌}
-use Rattle.std.specs.List.{All, AllZip, Contains, filter, flat_map, list_any, range_with_len}
-use Rattle.std.proofs.lemmas.Bool.{eqb-false, false_from_ne_true, or_from, or_left, or_cases}
-use Rattle.std.proofs.lemmas.Simd.{map-map}
-use Rattle.std.proofs.lemmas.List.Elements.{All-head, All-map, Contains-append_left, Contains-append_right, Contains-get_or}
+use Rattle.std.proofs.Common.{◌≡◌, ◌⊎◌, ℕ, ◌+◌, ◌≤◌, Bool, true, false, List, [], ◌∷◌, ◌++◌, get_or, map, length, Some, append-nil, arith, refl, sym, ◌∙◌, ap, subst, inl, inr, true≢false, ◌==◌, ◌||◌}
+use Rattle.bdb_mkleaves.proofs.Common.{All, AllZip, Contains, filter, flat_map, list_any, range_with_len, eqb-false, false_from_ne_true, or_from, or_left, or_cases, map-map, All-head, All-map}
+use Rattle.bdb_mkleaves.proofs.Common.{Contains-append_left, Contains-append_right, Contains-get_or, Chain, Content, File, Inline, Item, Listed, Set, Tree, Unknown, content_chains, content_targets}
+use Rattle.bdb_mkleaves.proofs.Common.{contents_in, has_type, held_by, is_head_reference, is_wrong_length, page_at, refs, targets_in, type_in, first_member, in_flat_map, in_map, member_cases}
+use Rattle.bdb_mkleaves.proofs.Common.{no_member, none_pass, of_filter, of_map, IsBranch, are_heads_alone, owners_among, ChainFits, ContentFits, FilledLeaf, IsFilled, content_pages, pages_held}
+use Rattle.bdb_mkleaves.proofs.Common.{of_list, all_names, ascend_once, chain_fits, leaf_names, leaves_stand_over, names_fit, count, count-append, named_count, named_not, named_reference, once_apart}
+use Rattle.bdb_mkleaves.proofs.Common.{some_count, Node, IsHeadOnce, IsOfLevel, KeyStands, KeysStand, is_of, key_heads, types_below, InnerType, Keyed, Numbered, all_heads, Entry, contents_of, leaf_of}
+use Rattle.bdb_mkleaves.proofs.Common.{own_entry, type_number, IsKeyOf, IsTreeLaid, IsNodeOf, LaidTreesAreBranches, entries_on, filled_leaf, held_by_leaves, inner_of, tree_pages, HoldsUnits}
+use Rattle.bdb_mkleaves.proofs.Common.{IsOneValue, LeafUnits, Placed, PlacedEntry, PlacedPairs, PlacedTree, entries_of, further_entries, pages_of, tree_item, LeafType, Pairs, Records, SortedData}
 use Rattle.bdb_places.specs.of_format.declared.references.Reference.{Reference}
-use Rattle.bdb_places.specs.of_format.Terms.{Chain, Content, File, Inline, Item, Listed, Set, Tree, Unknown, content_chains, content_targets, contents_in}
-use Rattle.bdb_places.specs.of_format.Terms.{has_type, held_by, is_head_reference, is_wrong_length, page_at, refs, targets_in, type_in}
-use Rattle.bdb_places.proofs.of_format.MemberLemmas.{first_member, in_flat_map, in_map, member_cases, no_member, none_pass, of_filter, of_map}
-use Rattle.bdb_pack.specs.of_law_grove.Part.{IsBranch, are_heads_alone, owners_among}
-use Rattle.bdb_pack.specs.of_law_grove.Leaves.{ChainFits, ContentFits, FilledLeaf, IsFilled, content_pages, pages_held}
 use Rattle.bdb_pack.specs.of_law_grove.Standing.{named_by, names}
-use Rattle.bdb_pack.proofs.of_law_grove.BranchLemmas.{of_list}
-use Rattle.bdb_pack.proofs.of_law_grove.LeafLemmas.{all_names, ascend_once, chain_fits, leaf_names, leaves_stand_over, names_fit}
 use Rattle.bdb_pack.proofs.of_law_grove.OwnerLemmas.{filter_first, names_page, one_of_range}
-use Rattle.bdb_pack.proofs.of_law_grove.SeveralLemmas.{count, count-append, named_count, named_not, named_reference, once_apart, some_count}
 use Rattle.bdb_pack.proofs.of_law_grove.TakeLemmas.{filter_inner}
 use Rattle.bdb_law_levels.specs.Branches.{KeyHasLength}
-use Rattle.bdb_law_levels.specs.Nodes.{Node}
-use Rattle.bdb_law_levels.specs.Roots.{IsHeadOnce, IsOfLevel, KeyStands, KeysStand, is_of, key_heads, pages_of as level_pages, types_below}
-use Rattle.bdb_law_levels.specs.declared.inner_type.InnerType.{InnerType}
-use Rattle.bdb_law_levels.specs.declared.inner_type.InnerType.TheVariants.{Keyed, Numbered}
+use Rattle.bdb_law_levels.specs.Roots.{pages_of as level_pages}
 use Rattle.bdb_law_levels.proofs.BranchLemmas.{towers_are_branches}
-use Rattle.bdb_law_levels.proofs.TakenLemmas.{all_heads}
-use Rattle.bdb_mkleaves.specs.LeafEntries.{Entry, contents_of, leaf_of, own_entry, type_number}
-use Rattle.bdb_mkleaves.specs.Laid.{IsKeyOf, IsTreeLaid, IsNodeOf, LaidTreesAreBranches, entries_on, filled_leaf, held_by_leaves, inner_of, tree_pages}
-use Rattle.bdb_mkleaves.specs.Placed.{HoldsUnits, IsOneValue, LeafUnits, Placed, PlacedEntry, PlacedPairs, PlacedTree, entries_of, further_entries}
-use Rattle.bdb_mkleaves.specs.Placed.{pages_of, tree_item}
-use Rattle.bdb_mkleaves.specs.declared.leaf_type.LeafType.{LeafType}
-use Rattle.bdb_mkleaves.specs.declared.leaf_type.LeafType.TheVariants.{Pairs, Records, SortedData}
 use Rattle.bdb_mkleaves.proofs.LaidLemmas.{at_bottom, hold_units, node_pages, of_leaves}
 
 -- Leaves over the rest.
@@ -102,8 +87,7 @@ IsFirst type entries key = (more : List Content) × (contents_of type entries �
 
 first_is : (type : LeafType) (item : Item) (entries : List Entry) (key : Content) → (key ≡ item.content) × IsOneValue key
     → IsFirst type (own_entry item ∷ entries) key
-first_is type item entries key is =
-    (contents_of type entries, begins type item entries ∙ ap (λ content. content ∷ contents_of type entries) (sym is.0), is.1)
+first_is type item entries key is = (contents_of type entries, begins type item entries ∙ ap (λ content. content ∷ contents_of type entries) (sym is.0), is.1)
 
 pub key_first : (type : LeafType) (units : List Placed) (key : Content) → IsKeyOf Keyed (flat_map entries_of units) key
     → ((bytes : List ℕ) × (key ≡ Inline bytes)) ⊎ IsFirst type (flat_map entries_of units) key
@@ -111,8 +95,7 @@ key_first type [] key is = inl is
 key_first type (PlacedEntry entry ∷ units) key is = inr (first_is type entry.item (flat_map entries_of units) key is)
 key_first type (PlacedPairs own first more ∷ units) key is =
     inr (first_is type own.item (own_entry first.item ∷ (flat_map (further_entries own) more ++ flat_map entries_of units)) key is)
-key_first type (PlacedTree own root values ∷ units) key is =
-    inr (first_is type own.item (own_entry (tree_item root) ∷ flat_map entries_of units) key is)
+key_first type (PlacedTree own root values ∷ units) key is = inr (first_is type own.item (own_entry (tree_item root) ∷ flat_map entries_of units) key is)
 
 heads_named : (key : Content) → IsOneValue key → key_heads key ≡ content_pages key
 heads_named (Inline bytes) one = refl

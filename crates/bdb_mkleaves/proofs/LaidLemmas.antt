@@ -1,21 +1,11 @@
 -- Leaves with their units, under the levels over them.
 use Rattle.std.proofs.Common.{arith, ◌≡◌, ◌⊎◌, ℕ, ◌+◌, Option, inl, inr, Bool, true, get_or, List, [], ◌∷◌, map, Some, None, refl, ◌∙◌, ap, subst}
-use Rattle.std.specs.List.{All, AllZip, flat_map, list_any}
-use Rattle.std.proofs.lemmas.List.Elements.{All-cons, All-head, All-map, All-nil, All-tail}
-use Rattle.bdb_places.specs.of_format.Terms.{File, children_in, has_type, header_in, leaves_in, page_at, places_from, type_in}
-use Rattle.bdb_pack.specs.of_law_grove.Part.{is_wrong_place}
-use Rattle.bdb_law_levels.specs.Links.{AreLinked, leaf_types}
-use Rattle.bdb_law_levels.specs.Nodes.{HasLeaves, IsOver, IsTower, Node}
-use Rattle.bdb_law_levels.specs.declared.inner_type.InnerType.{InnerType}
-use Rattle.bdb_law_levels.specs.declared.inner_type.InnerType.TheVariants.{Keyed, Numbered}
+use Rattle.bdb_mkleaves.proofs.Common.{All, AllZip, flat_map, list_any, All-cons, All-head, All-map, All-nil, All-tail, File, children_in, has_type, header_in, leaves_in, page_at, places_from}
+use Rattle.bdb_mkleaves.proofs.Common.{type_in, is_wrong_place, leaf_types, HasLeaves, IsOver, IsTower, Node, InnerType, Keyed, Numbered, all_over, towers_have_leaves, inner_number, Entry, IsLeafIn}
+use Rattle.bdb_mkleaves.proofs.Common.{type_number, AreLaid, IsTreeLaid, IsNodeOf, LaidTreesAreLinked, LaidTreesHaveLeaves, entries_on, inner_of, HoldsUnits, LeafUnits, pages_of, LeafType, Pairs}
+use Rattle.bdb_mkleaves.proofs.Common.{Records, SortedData}
+use Rattle.bdb_law_levels.specs.Links.{AreLinked}
 use Rattle.bdb_law_levels.proofs.LinkLemmas.{links_of_towers, links_stand}
-use Rattle.bdb_law_levels.proofs.NodeLemmas.{all_over, towers_have_leaves}
-use Rattle.bdb_mkleaves.specs.Inner.{inner_number}
-use Rattle.bdb_mkleaves.specs.LeafEntries.{Entry, IsLeafIn, type_number}
-use Rattle.bdb_mkleaves.specs.Laid.{AreLaid, IsTreeLaid, IsNodeOf, LaidTreesAreLinked, LaidTreesHaveLeaves, entries_on, inner_of}
-use Rattle.bdb_mkleaves.specs.Placed.{HoldsUnits, LeafUnits, pages_of}
-use Rattle.bdb_mkleaves.specs.declared.leaf_type.LeafType.{LeafType}
-use Rattle.bdb_mkleaves.specs.declared.leaf_type.LeafType.TheVariants.{Pairs, Records, SortedData}
 
 -- A page that is a leaf.
 

@@ -1,41 +1,20 @@
 -- A tree that is laid is the part of a database.
-use Rattle.std.proofs.Common.{◌≡◌, ℕ, ◌/◌, ◌<◌, Bool, true, false, not, cond, List, [], ◌∷◌, append-nil, map, length, Some, None, arith, refl, sym, ◌∙◌, ap}
-use Rattle.std.proofs.Common.{subst, inl, inr, ◌==◌, ◌&&◌}
-use Rattle.std.specs.List.{All, Contains, flat_map, list_any}
-use Rattle.std.proofs.lemmas.Bool.{and_right}
-use Rattle.std.proofs.lemmas.List.{length-map}
-use Rattle.std.proofs.lemmas.List.Elements.{All-contains, All-head}
-use Rattle.bdb_places.specs.of_format.declared.metadata.BtreeMeta.{BtreeMeta}
-use Rattle.bdb_places.specs.of_format.declared.references.Sort.TheVariants.{Root}
-use Rattle.bdb_places.specs.of_format.Terms.{BtreeFields, File, ListKey, Meta, StoredPair, ascends, btree_contents, btree_kind, children_in, counts_records}
-use Rattle.bdb_places.specs.of_format.Terms.{database_rows, entries_in, first_row, fit_rows, has_duplicate, has_duplicates, has_type, has_unsorted}
-use Rattle.bdb_places.specs.of_format.Terms.{has_wrong_count, has_wrong_record, has_wrong_separator, has_wrong_set, inner_in, inner_pages, is_fixed}
-use Rattle.bdb_places.specs.of_format.Terms.{is_out_of_order, is_sorted, is_wrong_at, leaves, list_of, neighbours, page_at, pairs_of, recno_contents}
-use Rattle.bdb_places.specs.of_format.Terms.{root_types, tree_pairs, type_in, value_of}
+use Rattle.std.proofs.Common.{◌≡◌, ℕ, ◌/◌, ◌<◌, Bool, true, false, not, cond, List, [], ◌∷◌, append-nil, map, length, Some, None, arith, refl, sym, ◌∙◌, ap, subst, inl, inr, ◌==◌, ◌&&◌}
+use Rattle.bdb_mkleaves.proofs.Common.{All, Contains, flat_map, list_any, and_right, length-map, All-contains, All-head, BtreeMeta, Root, BtreeFields, File, ListKey, Meta, StoredPair, ascends}
+use Rattle.bdb_mkleaves.proofs.Common.{btree_contents, btree_kind, children_in, counts_records, database_rows, entries_in, first_row, fit_rows, has_duplicate, has_duplicates, has_type, has_unsorted}
+use Rattle.bdb_mkleaves.proofs.Common.{has_wrong_count, has_wrong_record, has_wrong_separator, has_wrong_set, inner_in, inner_pages, is_fixed, is_out_of_order, is_sorted, is_wrong_at, leaves, list_of}
+use Rattle.bdb_mkleaves.proofs.Common.{neighbours, page_at, pairs_of, recno_contents, root_types, tree_pairs, type_in, value_of, flat_map_twice, only_member, first_member, none_pass, of_map, IsBranch}
+use Rattle.bdb_mkleaves.proofs.Common.{IsPart, entrance_asks, has_wrong_place, fits_asked, one_at_most, BeginsWith, Follow, entries_below, pairs_below, leaf_types, HasLeaves, IsTower, Node, Keyed}
+use Rattle.bdb_mkleaves.proofs.Common.{type_number, key_of, list_of_units, Counts, HasUnits, IsKeyOf, IsTreeLaid, IsNodeOf, LaidTreesAreParts, SuitsBtree, SuitsRecno, entries_on, inner_of, is_laid}
+use Rattle.bdb_mkleaves.proofs.Common.{HasLength, HoldsUnits, LeafUnits, Placed, PlacedEntry, PlacedPairs, PlacedTree, StandsPlaced, entries_of, pages_of, pairs_on, unit_of, units_in, LeafType, Pairs}
+use Rattle.bdb_mkleaves.proofs.Common.{Records, SortedData}
 use Rattle.bdb_places.specs.of_format.declared.kinds.Kind.TheVariants.{Btree, Recno}
 use Rattle.bdb_places.specs.of_format.ByPage.{holding}
-use Rattle.bdb_places.proofs.of_format.ListLemmas.{flat_map_twice, only_member}
-use Rattle.bdb_places.proofs.of_format.MemberLemmas.{first_member, none_pass, of_map}
 use Rattle.bdb_places.proofs.of_format.VerdictLemmas.{AllFail, none_holds}
-use Rattle.bdb_pack.specs.of_law_grove.Part.{IsBranch, IsPart, entrance_asks, has_wrong_place}
-use Rattle.bdb_pack.proofs.of_law_grove.GroveLemmas.{fits_asked}
-use Rattle.bdb_pack.proofs.of_law_grove.SeveralLemmas.{one_at_most}
-use Rattle.bdb_law_levels.specs.Contents.{AreLeaves, BeginsWith, Follow, entries_below, pairs_below}
-use Rattle.bdb_law_levels.specs.Links.{leaf_types}
-use Rattle.bdb_law_levels.specs.Nodes.{HasLeaves, IsTower, Node}
-use Rattle.bdb_law_levels.specs.declared.inner_type.InnerType.TheVariants.{Keyed}
+use Rattle.bdb_law_levels.specs.Contents.{AreLeaves}
 use Rattle.bdb_law_levels.proofs.ContentLemmas.{counts_of_records, counts_of_towers, separators_of_towers}
-use Rattle.bdb_mkleaves.specs.LeafEntries.{type_number}
-use Rattle.bdb_mkleaves.specs.Units.{key_of, list_of_units}
-use Rattle.bdb_mkleaves.specs.Laid.{Counts, HasUnits, IsKeyOf, IsTreeLaid, IsNodeOf, LaidTreesAreParts, SuitsBtree, SuitsRecno, entries_on, inner_of}
-use Rattle.bdb_mkleaves.specs.Laid.{is_laid}
-use Rattle.bdb_mkleaves.specs.Placed.{HasLength, HoldsUnits, LeafUnits, Placed, PlacedEntry, PlacedPairs, PlacedTree, StandsPlaced, entries_of}
-use Rattle.bdb_mkleaves.specs.Placed.{pages_of, pairs_on, unit_of, units_in}
-use Rattle.bdb_mkleaves.specs.declared.leaf_type.LeafType.{LeafType}
-use Rattle.bdb_mkleaves.specs.declared.leaf_type.LeafType.TheVariants.{Pairs, Records, SortedData}
 use Rattle.bdb_mkleaves.proofs.LaidBranchLemmas.{laid_trees_are_branches}
-use Rattle.bdb_mkleaves.proofs.LaidLemmas.{at_bottom, both_zip, have_leaves, hold_units, laid_trees_are_linked, laid_trees_have_leaves, node_leaves}
-use Rattle.bdb_mkleaves.proofs.LaidLemmas.{of_leaves, root_type_is}
+use Rattle.bdb_mkleaves.proofs.LaidLemmas.{at_bottom, both_zip, have_leaves, hold_units, laid_trees_are_linked, laid_trees_have_leaves, node_leaves, of_leaves, root_type_is}
 use Rattle.bdb_mkleaves.proofs.LaidSetLemmas.{entries_are}
 use Rattle.bdb_mkleaves.proofs.PlacedLaws.{unless, pairs_follow, records_keep_length, units_are_listed, units_keep_rules}
 use Rattle.bdb_mkleaves.proofs.HeldLemmas.{length-pairs_from}
@@ -81,8 +60,7 @@ pairs_counted g leaf holds = grind (arith, length-pairs_from)
 
 pair_count : (g : File) (leaf : LeafUnits) (node : Node) → IsNodeOf Pairs leaf node × Counts Pairs leaf node → HoldsUnits Pairs g leaf
     → node.count ≡ length (pairs_below g node)
-pair_count g leaf node both holds =
-    both.1 ∙ (sym (pairs_counted g leaf holds) ∙ ap length (sym (below_leaf Pairs (pairs_of g) leaf node both.0)))
+pair_count g leaf node both holds = both.1 ∙ (sym (pairs_counted g leaf holds) ∙ ap length (sym (below_leaf Pairs (pairs_of g) leaf node both.0)))
 
 entry_count : (g : File) (leaf : LeafUnits) (node : Node) → IsNodeOf Records leaf node × Counts Records leaf node → HoldsUnits Records g leaf
     → node.count ≡ length (entries_below g node)

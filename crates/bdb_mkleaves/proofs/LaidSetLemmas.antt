@@ -1,17 +1,8 @@
 -- What a set holds that is laid as a tree.
 use Rattle.std.proofs.Common.{arith, ◌≡◌, ℕ, Some, Bool, true, false, not, cond, List, [], ◌∷◌, ◌++◌, map, refl, sym, ◌∙◌, ap, All, filter, flat_map}
-use Rattle.std.proofs.lemmas.Grind.{flat_map-append}
-use Rattle.std.proofs.lemmas.List.Elements.{All-head, All-tail, All-weaker}
-use Rattle.bdb_places.specs.of_format.declared.references.Sort.TheVariants.{DuplicateRoot}
-use Rattle.bdb_places.specs.of_format.Terms.{File, Item, data_of, entries_in, has_type, live_values, page_at, value_of, wrong_set_types}
-use Rattle.bdb_law_levels.specs.Links.{leaf_types}
-use Rattle.bdb_mkleaves.specs.Inner.{inner_number}
-use Rattle.bdb_mkleaves.specs.LeafEntries.{Entry, IsLeafIn, type_number}
-use Rattle.bdb_mkleaves.specs.Laid.{LaidSetsHoldData, entries_on, has_sorted_data, inner_of, live_value}
-use Rattle.bdb_mkleaves.specs.Placed.{HoldsUnits, LeafUnits, Placed, PlacedEntry, PlacedPairs, PlacedTree, StandsPlaced, entries_of, pages_of, unit_of}
-use Rattle.bdb_mkleaves.specs.Placed.{units_in}
-use Rattle.bdb_mkleaves.specs.declared.leaf_type.LeafType.{LeafType}
-use Rattle.bdb_mkleaves.specs.declared.leaf_type.LeafType.TheVariants.{Pairs, Records, SortedData}
+use Rattle.bdb_mkleaves.proofs.Common.{flat_map-append, All-head, All-tail, All-weaker, DuplicateRoot, File, Item, data_of, entries_in, has_type, live_values, page_at, value_of, wrong_set_types}
+use Rattle.bdb_mkleaves.proofs.Common.{leaf_types, inner_number, Entry, IsLeafIn, type_number, LaidSetsHoldData, entries_on, has_sorted_data, inner_of, live_value, HoldsUnits, LeafUnits, Placed}
+use Rattle.bdb_mkleaves.proofs.Common.{PlacedEntry, PlacedPairs, PlacedTree, StandsPlaced, entries_of, pages_of, unit_of, units_in, LeafType, Pairs, Records, SortedData}
 use Rattle.bdb_mkleaves.proofs.LaidLemmas.{hold_units, laid_trees_are_linked, laid_trees_have_leaves, root_type_is}
 
 -- Its leaves.

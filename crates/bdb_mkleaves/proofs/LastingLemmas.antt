@@ -1,19 +1,11 @@
 -- Heads of chains, and trees that stay on later pages.
 use Rattle.std.proofs.Common.{◌≡◌, ℕ, ◌<◌, ◌≤◌, Bool, true, List, [], length, map, refl, sym, ◌∙◌, ap, subst, All, Contains, flat_map}
-use Rattle.std.proofs.lemmas.List.Elements.{All-contains}
-use Rattle.bdb_places.specs.of_format.Terms.{Chain, Content, File, Inline, Set, Tree, Unknown, entries_of as count_on}
-use Rattle.bdb_places.proofs.of_format.ListLemmas.{only_member}
-use Rattle.bdb_places.proofs.of_format.MemberLemmas.{no_member, of_flat_map}
-use Rattle.bdb_pack.specs.of_law_grove.Growing.{IsLater}
-use Rattle.bdb_law_levels.specs.Roots.{key_heads, pages_of as level_pages}
-use Rattle.bdb_pack.specs.Built.{Built, bytes_of, file_so_far}
-use Rattle.bdb_mkleaves.specs.Inner.{CountsOne, HasLiveKeys}
-use Rattle.bdb_mkleaves.specs.Layout.{HasTreeOn, HeadCounts, IsLaidOut, IsTreeOn, TreeParts, heads_named, leaf_heads, live_entry}
-use Rattle.bdb_mkleaves.specs.Placed.{Placed, PlacedEntry, PlacedPairs, PlacedTree}
-use Rattle.bdb_mkleaves.specs.Puts.{CountsOneFrom}
-use Rattle.bdb_mkleaves.specs.Spread.{set_type}
-use Rattle.bdb_mkleaves.specs.Units.{TreeUnit}
-use Rattle.bdb_mkleaves.specs.declared.leaf_type.LeafType.{LeafType}
+use Rattle.bdb_mkleaves.proofs.Common.{All-contains, Chain, Content, File, Inline, Set, Tree, Unknown, only_member, no_member, of_flat_map, IsLater, key_heads, Built, bytes_of, file_so_far, CountsOne}
+use Rattle.bdb_mkleaves.proofs.Common.{HasLiveKeys, HasTreeOn, HeadCounts, IsLaidOut, IsTreeOn, TreeParts, heads_named, leaf_heads, Placed, PlacedEntry, PlacedPairs, PlacedTree, CountsOneFrom}
+use Rattle.bdb_mkleaves.proofs.Common.{set_type, TreeUnit, LeafType}
+use Rattle.bdb_places.specs.of_format.Terms.{entries_of as count_on}
+use Rattle.bdb_law_levels.specs.Roots.{pages_of as level_pages}
+use Rattle.bdb_mkleaves.specs.Layout.{live_entry}
 
 -- the head that a content names counts one reference
 pub head_one : (low : ℕ) (built : Built) (content : Content) (h : ℕ) → CountsOneFrom low built content → Contains (key_heads content) h

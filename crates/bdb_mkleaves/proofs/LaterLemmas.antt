@@ -1,7 +1,6 @@
 -- A later file of a later file.
 use Rattle.std.proofs.Common.{◌≡◌, ℕ, Bool, true, arith, sym, subst, inl, inr}
-use Rattle.bdb_places.specs.of_format.Terms.{File, Page}
-use Rattle.bdb_pack.specs.of_law_grove.Growing.{IsLater, IsSamePage}
+use Rattle.bdb_mkleaves.proofs.Common.{File, Page, IsLater, IsSamePage}
 
 -- what a page keeps twice, it keeps
 same_chain : (old middle new : Page) → IsSamePage old middle → IsSamePage middle new → IsSamePage old new

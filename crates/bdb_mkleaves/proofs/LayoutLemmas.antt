@@ -1,41 +1,16 @@
 -- Finished trees are laid out, and the heads of their chains count their references.
 use Rattle.std.proofs.Common.{◌≡◌, ℕ, ◌-◌, ◌<◌, Bool, true, List, [], ◌∷◌, ◌++◌, length, map, arith, refl, sym, ◌∙◌, ap, subst, inl, inr, false, true≢false}
-use Rattle.std.specs.List.{All, AllZip, Contains, flat_map, range_with_len}
-use Rattle.std.proofs.lemmas.Grind.{flat_map-append}
-use Rattle.std.proofs.lemmas.List.Elements.{All-contains, Contains-append_cases, Contains-append_left, Contains-append_right}
-use Rattle.std.proofs.lemmas.Simd.{map-map}
-use Rattle.bdb_places.specs.of_format.Terms.{Content, File, Tree, byte_at, entries_of as count_on, file_of, has_type, head_of, is_wrong_set, page_bytes}
-use Rattle.bdb_places.proofs.of_format.ListLemmas.{only_member}
-use Rattle.bdb_places.proofs.of_format.MemberLemmas.{no_member, of_flat_map, of_range}
-use Rattle.bdb_pack.specs.of_law_grove.Growing.{IsCounted, IsLater}
-use Rattle.bdb_pack.specs.of_law_grove.Part.{between}
-use Rattle.bdb_pack.proofs.of_law_grove.ChainLemmas.{is_between}
-use Rattle.bdb_pack.proofs.of_law_grove.AscendLemmas.{ascend_bounds}
-use Rattle.bdb_law_levels.specs.declared.inner_type.InnerType.{InnerType}
-use Rattle.bdb_law_levels.specs.declared.inner_type.InnerType.TheVariants.{Keyed, Numbered}
-use Rattle.bdb_law_levels.specs.Nodes.{Node}
-use Rattle.bdb_law_levels.specs.Roots.{key_heads, pages_of as level_pages}
-use Rattle.bdb_pack.specs.Built.{Built, bytes_of, file_so_far}
-use Rattle.bdb_pack.proofs.ImageLemmas.{counted_so_far}
-use Rattle.bdb_mkleaves.specs.Filled.{AreFilled, AreSpreadOver, all_contents, rest_of}
-use Rattle.bdb_mkleaves.specs.Finished.{FinishedTreesAreLaidOut, FinishedTreesKeepTrees, HasRootOn}
-use Rattle.bdb_mkleaves.specs.Inner.{HasLiveKeys}
-use Rattle.bdb_mkleaves.specs.Laid.{IsKeyOf, IsTreeLaid, IsNodeOf, entries_on, inner_of, is_laid}
-use Rattle.bdb_mkleaves.specs.Layout.{HasPagesOf, HasTreeIn, HasTreeOn, HeadCounts, IsLevelPage, IsTreeIn, IsTreeOn, TreeParts, TreesAreIn, TreesAreSorted}
-use Rattle.bdb_mkleaves.specs.Layout.{contents_below, heads_named, leaf_heads, live_entry, placed_below}
-use Rattle.bdb_mkleaves.specs.LeafEntries.{contents_of}
-use Rattle.bdb_mkleaves.specs.Leaves.{KeepsBefore, first_of}
-use Rattle.bdb_mkleaves.specs.Levels.{heads_of}
-use Rattle.bdb_mkleaves.specs.Moved.{first_leaf, numbers_of, second_leaf}
-use Rattle.bdb_mkleaves.specs.Placed.{IsPlacedBySize, LeafUnits, Placed, PlacedEntry, PlacedPairs, PlacedTree, entries_of, unit_of}
-use Rattle.bdb_mkleaves.specs.Puts.{CountsOneFrom}
-use Rattle.bdb_mkleaves.specs.Rooted.{CountsLeaves, leaf_with, placed_on, zip_units}
-use Rattle.bdb_mkleaves.specs.Spread.{AreSpreadLevels, named_heads, set_type, spread_units}
-use Rattle.bdb_mkleaves.specs.Tower.{levels_to}
-use Rattle.bdb_mkleaves.specs.Units.{TreeUnit, page_room}
-use Rattle.bdb_mkleaves.specs.declared.leaf_type.LeafType.{LeafType}
-use Rattle.bdb_mkleaves.specs.declared.leaf_type.LeafType.TheVariants.{Records, SortedData}
-use Rattle.bdb_mkleaves.specs.declared.leaves.Leaves.{Leaves}
+use Rattle.bdb_mkleaves.proofs.Common.{All, AllZip, Contains, flat_map, range_with_len, flat_map-append, All-contains, Contains-append_cases, Contains-append_left, Contains-append_right, map-map}
+use Rattle.bdb_mkleaves.proofs.Common.{Content, File, Tree, byte_at, file_of, has_type, head_of, is_wrong_set, page_bytes, only_member, no_member, of_flat_map, of_range, IsCounted, IsLater, between}
+use Rattle.bdb_mkleaves.proofs.Common.{is_between, ascend_bounds, InnerType, Keyed, Numbered, Node, key_heads, Built, bytes_of, file_so_far, counted_so_far, AreFilled, AreSpreadOver, all_contents}
+use Rattle.bdb_mkleaves.proofs.Common.{rest_of, FinishedTreesAreLaidOut, FinishedTreesKeepTrees, HasRootOn, HasLiveKeys, IsKeyOf, IsTreeLaid, IsNodeOf, entries_on, inner_of, is_laid, HasPagesOf}
+use Rattle.bdb_mkleaves.proofs.Common.{HasTreeIn, HasTreeOn, HeadCounts, IsLevelPage, IsTreeIn, IsTreeOn, TreeParts, TreesAreIn, TreesAreSorted, contents_below, heads_named, leaf_heads, placed_below}
+use Rattle.bdb_mkleaves.proofs.Common.{contents_of, KeepsBefore, first_of, heads_of, first_leaf, numbers_of, second_leaf, IsPlacedBySize, LeafUnits, Placed, PlacedEntry, PlacedPairs, PlacedTree}
+use Rattle.bdb_mkleaves.proofs.Common.{entries_of, unit_of, CountsOneFrom, CountsLeaves, leaf_with, placed_on, zip_units, AreSpreadLevels, named_heads, set_type, spread_units, levels_to, TreeUnit}
+use Rattle.bdb_mkleaves.proofs.Common.{page_room, LeafType, Records, SortedData, Leaves}
+use Rattle.bdb_places.specs.of_format.Terms.{entries_of as count_on}
+use Rattle.bdb_law_levels.specs.Roots.{pages_of as level_pages}
+use Rattle.bdb_mkleaves.specs.Layout.{live_entry}
 use Rattle.bdb_mkleaves.proofs.FilledLemmas.{later_self}
 use Rattle.bdb_mkleaves.proofs.FinishLemmas.{zero_at}
 use Rattle.bdb_mkleaves.proofs.FinishedLaws.{finished_trees_are_laid, finished_trees_keep_pages}
@@ -56,8 +31,7 @@ use Rattle.bdb_mkleaves.proofs.RunLemmas.{all_map}
 heads_held : (type : LeafType) (placed : List LeafUnits) (closed : List (List Placed)) (units : List Placed)
     → flat_map (λ (leaf : LeafUnits). leaf.units) placed ≡ flat_map (λ leaf. leaf) closed ++ units
     → leaf_heads type placed ≡ flat_map key_heads (all_contents type closed units)
-heads_held type placed closed units is =
-    ap (flat_map key_heads) (sym (contents_held type placed (flat_map (λ leaf. leaf) closed ++ units) is))
+heads_held type placed closed units is = ap (flat_map key_heads) (sym (contents_held type placed (flat_map (λ leaf. leaf) closed ++ units) is))
 
 -- the heads that the keys of nodes name are among them
 key_held : (type : LeafType) (leaf : LeafUnits) (key : Content) (h : ℕ) → IsKeyOf Keyed (entries_on leaf) key → Contains (key_heads key) h

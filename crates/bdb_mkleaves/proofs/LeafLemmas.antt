@@ -1,29 +1,13 @@
 -- A leaf that is added, and a leaf whose links change.
-use Rattle.std.proofs.Common.{◌≡◌, ℕ, ◌+◌, ◌-◌, ◌*◌, ◌<◌, ◌≤◌, ◌^◌, true, List, [], ◌∷◌, map, length, drop, replicate, arith, refl, sym, ◌∙◌, ap}
-use Rattle.std.proofs.Common.{subst, length-append}
-use Rattle.std.specs.List.{range_with_len, sum_by}
-use Rattle.std.proofs.lemmas.List.{get_or_push, length-replicate, same_lists}
-use Rattle.std.proofs.lemmas.List.FromFn.{get_or-map-range_with_len, length-map-range_with_len}
-use Rattle.bdb_places.specs.of_format.declared.kinds.Order.{Order}
-use Rattle.bdb_places.specs.of_format.declared.pages.Header.{Header}
-use Rattle.bdb_places.specs.of_format.Terms.{Listed, abstract_page, byte_at, entries_of, four_at, header_bytes, header_of, index_end, is_page_size, item_row}
-use Rattle.bdb_places.specs.of_format.Terms.{leaf_item_at, listed, offset_of, overwritten, page_type, spelled, two_at}
-use Rattle.bdb_places.proofs.of_format.SpellingLemmas.{length-overwritten, length-spelled}
-use Rattle.bdb_places.proofs.of_format.SizeLemmas.{size_bounds}
-use Rattle.bdb_pack.proofs.of_law_grove.GroveLemmas.{above}
-use Rattle.bdb_pack.specs.Built.{AreWhole, Built, bytes_of, with_page, with_zeros, written_over}
-use Rattle.bdb_pack.specs.Items.{takes_items}
-use Rattle.bdb_pack.specs.Placing.{IsBegun, begun_header, begun_page, empty_listed, empty_page, high_free_of}
-use Rattle.bdb_pack.proofs.CutLemmas.{written_whole}
-use Rattle.bdb_pack.proofs.HeaderLemmas.{begun_pages_take_items, header_read, length-header}
+use Rattle.std.proofs.Common.{◌≡◌, ℕ, ◌+◌, ◌-◌, ◌*◌, ◌<◌, ◌≤◌, ◌^◌, true, List, [], ◌∷◌, map, length, drop, replicate, arith, refl, sym, ◌∙◌, ap, subst, length-append}
+use Rattle.bdb_mkleaves.proofs.Common.{range_with_len, sum_by, get_or_push, length-replicate, same_lists, get_or-map-range_with_len, length-map-range_with_len, Order, Header, Listed, abstract_page}
+use Rattle.bdb_mkleaves.proofs.Common.{byte_at, four_at, header_bytes, header_of, index_end, is_page_size, item_row, leaf_item_at, listed, offset_of, overwritten, page_type, spelled, two_at}
+use Rattle.bdb_mkleaves.proofs.Common.{length-overwritten, length-spelled, size_bounds, above, AreWhole, Built, bytes_of, with_page, with_zeros, written_over, takes_items, IsBegun, begun_header}
+use Rattle.bdb_mkleaves.proofs.Common.{begun_page, empty_listed, empty_page, high_free_of, written_whole, begun_pages_take_items, header_read, length-header, open_is, behind, byte_same, number_before}
+use Rattle.bdb_mkleaves.proofs.Common.{number_here, number_same, leaf_item_same, listing, Entry, HoldsEntries, HoldsEntriesOn, entry_cost, leaf_header, leaf_of, room_of, type_number, with_field}
+use Rattle.bdb_mkleaves.proofs.Common.{with_leaf, LeafType, Pairs, Records, SortedData}
+use Rattle.bdb_places.specs.of_format.Terms.{entries_of}
 use Rattle.bdb_pack.proofs.KeptLemmas.{IsKept, rows_same}
-use Rattle.bdb_pack.proofs.OpenLemmas.{open_is}
-use Rattle.bdb_pack.proofs.PlaceLemmas.{behind, byte_same, number_before, number_here, number_same}
-use Rattle.bdb_pack.proofs.StandingLemmas.{leaf_item_same, listing}
-use Rattle.bdb_mkleaves.specs.LeafEntries.{Entry, HoldsEntries, HoldsEntriesOn, entry_cost, leaf_header, leaf_of, room_of, type_number, with_field}
-use Rattle.bdb_mkleaves.specs.LeafEntries.{with_leaf}
-use Rattle.bdb_mkleaves.specs.declared.leaf_type.LeafType.{LeafType}
-use Rattle.bdb_mkleaves.specs.declared.leaf_type.LeafType.TheVariants.{Pairs, Records, SortedData}
 use Rattle.bdb_mkleaves.proofs.EntryLemmas.{bytes_with, leaf_typed, page_is}
 
 -- functions that agree below a number
@@ -128,8 +112,7 @@ field_body order page at number low long =
 
 pub length-field : (order : Order) (page : List ℕ) (at number : ℕ) → at + 4 ≤ 20 → 26 ≤ length page
     → length (with_field order page at number) ≡ length page
-length-field order page at number low long =
-    length-overwritten page at (spelled 4 order number) (omega (arith, length-spelled 4 order number, low, long))
+length-field order page at number low long = length-overwritten page at (spelled 4 order number) (omega (arith, length-spelled 4 order number, low, long))
 
 -- a field behind the one that is written
 field_behind : (order : Order) (page : List ℕ) (at number x : ℕ) → at + 4 ≤ x → 26 ≤ length page → at ≤ 20

@@ -1,14 +1,7 @@
 -- The leaves of a tree that is being built.
-use Rattle.std.proofs.Common.{◌≡◌, ℕ, ◌+◌, ◌<◌, ◌≤◌, List, [], ◌∷◌, ◌++◌, length, replicate, arith, refl, sym, ◌∙◌, ap, subst, inl, inr, length-append}
-use Rattle.std.proofs.Common.{length-set, true≢false, Contains}
-use Rattle.std.proofs.lemmas.List.{get_or-set_other, get_or_append_left}
-use Rattle.bdb_places.proofs.of_format.MemberLemmas.{first_member, later_member, member_cases, no_member}
-use Rattle.bdb_pack.specs.Built.{Built, bytes_of, with_page, with_zeros}
-use Rattle.bdb_mkleaves.specs.LeafEntries.{Entry, HoldsEntries, HoldsEntriesOn, with_field, with_leaf}
-use Rattle.bdb_mkleaves.specs.Leaves.{AreSomeLeaves, IsOpened, KeepsOthers, LeavesFrom, first_of, last_of}
-use Rattle.bdb_mkleaves.specs.Puts.{IsGrown}
-use Rattle.bdb_mkleaves.specs.declared.leaf_type.LeafType.{LeafType}
-use Rattle.bdb_mkleaves.specs.declared.leaves.Leaves.{Leaves}
+use Rattle.std.proofs.Common.{◌≡◌, ℕ, ◌+◌, ◌<◌, ◌≤◌, List, [], ◌∷◌, ◌++◌, length, replicate, arith, refl, sym, ◌∙◌, ap, subst, inl, inr, length-append, length-set, true≢false, Contains}
+use Rattle.bdb_mkleaves.proofs.Common.{get_or-set_other, get_or_append_left, first_member, later_member, member_cases, no_member, Built, bytes_of, with_page, with_zeros, Entry, HoldsEntries}
+use Rattle.bdb_mkleaves.proofs.Common.{HoldsEntriesOn, with_field, with_leaf, AreSomeLeaves, IsOpened, KeepsOthers, LeavesFrom, first_of, last_of, IsGrown, LeafType, Leaves}
 
 -- a leaf whose page stays
 pub leaf_stays : (type : LeafType) (old new : Built) (p previous next : ℕ) (entries : List Entry) → new.order ≡ old.order

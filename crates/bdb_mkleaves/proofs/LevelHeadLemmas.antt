@@ -1,11 +1,6 @@
 -- Pages of which some, heads of chains, count two references.
 use Rattle.std.proofs.Common.{◌≡◌, ◌⊎◌, ℕ, ◌<◌, ◌≤◌, List, [], ◌∷◌, ◌++◌, length, arith, refl, sym, ◌∙◌, ap, subst, inl, inr, length-set, Contains}
-use Rattle.std.proofs.lemmas.Bool.{cases_eq}
-use Rattle.std.proofs.lemmas.List.{get_or-set_other}
-use Rattle.bdb_places.proofs.of_format.MemberLemmas.{first_member, later_member, member_cases, no_member}
-use Rattle.bdb_pack.specs.Built.{AreWhole, Built, bytes_of}
-use Rattle.bdb_mkleaves.specs.Inner.{CountsFew, counting_two, raised}
-use Rattle.bdb_mkleaves.specs.Levels.{raising}
+use Rattle.bdb_mkleaves.proofs.Common.{cases_eq, get_or-set_other, first_member, later_member, member_cases, no_member, AreWhole, Built, bytes_of, CountsFew, counting_two, raised, raising}
 use Rattle.bdb_mkleaves.proofs.EntryLemmas.{bytes_with}
 use Rattle.bdb_mkleaves.proofs.InnerLemmas.{IsRaised, few_raised, is_raised, raised_again}
 

@@ -1,25 +1,10 @@
 -- A level that is laid stands over its nodes in each later file.
-use Rattle.std.proofs.Common.{◌≡◌, ℕ, zero, suc, ◌+◌, ◌-◌, ◌<◌, ◌≤◌, List, [], ◌∷◌, length, map, get_or, None, arith, refl, sym, ◌∙◌, ap, subst}
-use Rattle.std.proofs.Common.{inl, inr, length-append}
-use Rattle.std.specs.List.{All, Contains, flat_map, range_with_len}
-use Rattle.std.proofs.lemmas.Bool.{cases_lt}
-use Rattle.bdb_pack.proofs.ImageLemmas.{page_so_far}
-use Rattle.bdb_places.specs.of_format.declared.pages.Header.{Header}
-use Rattle.bdb_places.specs.of_format.Terms.{Chain, Content, File, Inline, Internal, Overflow, Page, RecnoInternal, Set, Tree, Unknown, abstract_page}
-use Rattle.bdb_places.specs.of_format.Terms.{header_in, header_of, page_at, page_code}
-use Rattle.bdb_places.proofs.of_format.MemberLemmas.{first_member, in_flat_map, later_member, member_cases, member_or_not, no_member}
-use Rattle.bdb_pack.specs.of_law_grove.Growing.{IsSamePage}
-use Rattle.bdb_law_levels.specs.declared.inner_type.InnerType.{InnerType}
-use Rattle.bdb_law_levels.specs.declared.inner_type.InnerType.TheVariants.{Keyed, Numbered}
-use Rattle.bdb_law_levels.specs.Nodes.{AreOver, CountsTwo, IsOver, Node, no_node}
-use Rattle.bdb_law_levels.specs.Roots.{key_heads}
-use Rattle.bdb_pack.specs.Built.{Built, bytes_of, file_so_far}
-use Rattle.bdb_pack.proofs.PlaceLemmas.{byte_same}
-use Rattle.bdb_mkleaves.specs.Inner.{CountsFew, HasLiveKeys, HasNodes, HoldsChildrenOn, KeysCount, child_cost, first_cost, nodes_cost}
-use Rattle.bdb_mkleaves.specs.Levels.{AreChildren, HasKey, IsChild, IsLevelLaid, IsLaidBy, KeyStandsOn, IsKeptPage, LevelsAreFormed, LevelsAreLater}
-use Rattle.bdb_mkleaves.specs.Levels.{LevelsAreNumbered, LevelsGoOn, LevelsKeepPages, LevelsShrink, LevelsStand, heads_in, heads_of, heads_under}
-use Rattle.bdb_mkleaves.specs.Levels.{no_child, node_over, nodes_over}
-use Rattle.bdb_mkleaves.specs.declared.levels.Child.{Child}
+use Rattle.std.proofs.Common.{◌≡◌, ℕ, zero, suc, ◌+◌, ◌-◌, ◌<◌, ◌≤◌, List, [], ◌∷◌, length, map, get_or, None, arith, refl, sym, ◌∙◌, ap, subst, inl, inr, length-append}
+use Rattle.bdb_mkleaves.proofs.Common.{All, Contains, flat_map, range_with_len, cases_lt, page_so_far, Header, Chain, Content, File, Inline, Internal, Overflow, Page, RecnoInternal, Set, Tree}
+use Rattle.bdb_mkleaves.proofs.Common.{Unknown, abstract_page, header_in, header_of, page_at, page_code, first_member, in_flat_map, later_member, member_cases, member_or_not, no_member, IsSamePage}
+use Rattle.bdb_mkleaves.proofs.Common.{InnerType, Keyed, Numbered, AreOver, CountsTwo, IsOver, Node, no_node, key_heads, Built, bytes_of, file_so_far, byte_same, CountsFew, HasLiveKeys, HasNodes}
+use Rattle.bdb_mkleaves.proofs.Common.{HoldsChildrenOn, KeysCount, child_cost, first_cost, nodes_cost, AreChildren, HasKey, IsChild, IsLevelLaid, IsLaidBy, KeyStandsOn, IsKeptPage, LevelsAreFormed}
+use Rattle.bdb_mkleaves.proofs.Common.{LevelsAreLater, LevelsAreNumbered, LevelsGoOn, LevelsKeepPages, LevelsShrink, LevelsStand, heads_in, heads_of, heads_under, no_child, node_over, nodes_over, Child}
 use Rattle.bdb_mkleaves.proofs.InnerLemmas.{IsRaised, chain_as, children_are_formed, children_stand, few_raised, raised_stands}
 use Rattle.bdb_mkleaves.proofs.LevelHeadLemmas.{raising_head, raising_other}
 use Rattle.bdb_mkleaves.proofs.LevelLemmas.{laid_keeps}

@@ -1,19 +1,9 @@
 -- A level of internal pages that takes a child: on its last page, or on a new one.
 use Rattle.std.proofs.Common.{◌≡◌, ℕ, zero, suc, ◌+◌, ◌-◌, ◌<◌, Bool, false, List, [], ◌∷◌, ◌++◌, length, get_or, set, Option, Some, arith, refl, sym, ◌∙◌, ap}
 use Rattle.std.proofs.Common.{subst, inl, inr, length-append, length-set, append_assoc, SomeIff, Contains, flat_map, sum_by}
-use Rattle.std.proofs.lemmas.Bool.{cases_lt}
-use Rattle.std.proofs.lemmas.Grind.{flat_map-append}
-use Rattle.std.proofs.lemmas.List.{append-nil, get_or_default, get_or-set_other, get_or-set_same, get_or_append_left, get_or_push}
-use Rattle.std.proofs.lemmas.List.Elements.{Contains-append_cases}
-use Rattle.std.proofs.lemmas.List.Sums.{sum_by_push}
-use Rattle.bdb_places.proofs.of_format.MemberLemmas.{no_member}
-use Rattle.bdb_law_levels.specs.declared.inner_type.InnerType.{InnerType}
-use Rattle.bdb_law_levels.specs.Nodes.{Node, no_node}
-use Rattle.bdb_pack.specs.Built.{AreWhole, Built, bytes_of}
-use Rattle.bdb_mkleaves.specs.Inner.{HoldsChildren, HoldsChildrenOn, child_cost, nodes_cost}
-use Rattle.bdb_mkleaves.specs.Levels.{AreChildren, CanBeAsked, CanPush, HasKey, IsChild, IsLevelLaid, IsLaidBy, IsLaidPage, IsStarted, TakesNode, LacksRoom}
-use Rattle.bdb_mkleaves.specs.Levels.{LaidNow, TakesNow, heads_in, heads_of, heads_under, no_child, raising}
-use Rattle.bdb_mkleaves.specs.declared.levels.Child.{Child}
+use Rattle.bdb_mkleaves.proofs.Common.{cases_lt, flat_map-append, append-nil, get_or_default, get_or-set_other, get_or-set_same, get_or_append_left, get_or_push, Contains-append_cases, sum_by_push}
+use Rattle.bdb_mkleaves.proofs.Common.{no_member, InnerType, Node, no_node, AreWhole, Built, bytes_of, HoldsChildren, HoldsChildrenOn, child_cost, nodes_cost, AreChildren, CanBeAsked, CanPush, HasKey}
+use Rattle.bdb_mkleaves.proofs.Common.{IsChild, IsLevelLaid, IsLaidBy, IsLaidPage, IsStarted, TakesNode, LacksRoom, LaidNow, TakesNow, heads_in, heads_of, heads_under, no_child, raising, Child}
 use Rattle.bdb_mkleaves.proofs.LevelHeadLemmas.{raising_append, raising_count, raising_like, raising_order}
 use Rattle.bdb_mkleaves.proofs.LevelTakeLemmas.{HeadsFew, Keeps, heads_few, holds_kept, key_kept, raising_keeps}
 

@@ -1,37 +1,17 @@
 -- Keys of leaves, and an internal page that takes a child or has no room for it, or is started with one.
 use Rattle.std.proofs.Common.{◌≡◌, ℕ, ◌+◌, ◌-◌, ◌<◌, ◌≤◌, true, false, List, [], ◌∷◌, ◌++◌, length, get_or, replicate, Option, Some, None, arith, refl, sym}
 use Rattle.std.proofs.Common.{◌∙◌, ap, subst, inl, inr, length-set, length-append, option_map, Contains}
-use Rattle.std.proofs.lemmas.Bool.{cases_eq, leb-false, leb-true}
-use Rattle.std.proofs.lemmas.List.{get_or-set_other, get_or_append_left, get_or_push, length-replicate}
-use Rattle.bdb_places.specs.of_format.declared.kinds.Order.{Order}
+use Rattle.bdb_mkleaves.proofs.Common.{cases_eq, leb-false, leb-true, get_or-set_other, get_or_append_left, get_or_push, length-replicate, Order, RecnoItem, Chain, Content, Inline, InternalItem, Item}
+use Rattle.bdb_mkleaves.proofs.Common.{Listed, Set, Tree, Unknown, byte_at, first_row, header_bytes, index_end, is_page_size, item_code, item_row, leaf_item_at, leaf_rows, no_item, pad4, page_type}
+use Rattle.bdb_mkleaves.proofs.Common.{first_member, member_cases, no_member, length-overwritten, leaf_item_is, size_bounds, InnerType, Keyed, Numbered, Node, keyed_item, numbered_item, key_heads}
+use Rattle.bdb_mkleaves.proofs.Common.{AreWhole, Built, bytes_of, with_page, with_zeros, IsWritable, PageItem, extent, item_bytes, HasRoomOn, has_room_on, with_item_on, HasRoom, begun_header}
+use Rattle.bdb_mkleaves.proofs.Common.{high_free_of, page_and_item, length-header, open_is, is_below, CanTakeChild, CountsFew, HoldsChildren, HoldsChildrenOn, added_key, child_cost, child_item}
+use Rattle.bdb_mkleaves.proofs.Common.{inner_header, inner_number, with_inner, Entry, HoldsEntries, room_of, type_number, BeginsWithKey, HasKey, IsStarted, TakesNode, KeyStandsOn, LacksRoom, heads_of}
+use Rattle.bdb_mkleaves.proofs.Common.{raising, stored_heads, stored_key, LeafType, Pairs, Records, SortedData, Child}
 use Rattle.bdb_places.specs.of_format.declared.pages.ItemFault.{ItemFault}
-use Rattle.bdb_places.specs.of_format.declared.pages.RecnoItem.{RecnoItem}
-use Rattle.bdb_places.specs.of_format.Terms.{Chain, Content, Inline, InternalItem, Item, Listed, Set, Tree, Unknown, byte_at, entries_of, first_row}
-use Rattle.bdb_places.specs.of_format.Terms.{header_bytes, index_end, is_page_size, item_code, item_row, leaf_item_at, leaf_rows, no_item, pad4, page_type}
-use Rattle.bdb_places.proofs.of_format.MemberLemmas.{first_member, member_cases, no_member}
-use Rattle.bdb_places.proofs.of_format.SpellingLemmas.{length-overwritten}
-use Rattle.bdb_places.proofs.of_format.LeafLemmas.{leaf_item_is}
-use Rattle.bdb_places.proofs.of_format.SizeLemmas.{size_bounds}
-use Rattle.bdb_law_levels.specs.declared.inner_type.InnerType.{InnerType}
-use Rattle.bdb_law_levels.specs.declared.inner_type.InnerType.TheVariants.{Keyed, Numbered}
-use Rattle.bdb_law_levels.specs.Nodes.{Node, keyed_item, numbered_item}
-use Rattle.bdb_law_levels.specs.Roots.{key_heads}
-use Rattle.bdb_pack.specs.Built.{AreWhole, Built, bytes_of, with_page, with_zeros}
+use Rattle.bdb_places.specs.of_format.Terms.{entries_of}
 use Rattle.bdb_pack.specs.declared.values.Stored.{Stored}
 use Rattle.bdb_pack.specs.declared.values.Stored.TheVariants.{Inline as OnPage, Chain as InChain}
-use Rattle.bdb_pack.specs.Items.{IsWritable, PageItem, extent, item_bytes}
-use Rattle.bdb_pack.specs.OnPages.{HasRoomOn, has_room_on, with_item_on}
-use Rattle.bdb_pack.specs.Placing.{HasRoom, begun_header, high_free_of, page_and_item}
-use Rattle.bdb_pack.proofs.HeaderLemmas.{length-header}
-use Rattle.bdb_pack.proofs.OpenLemmas.{open_is}
-use Rattle.bdb_pack.proofs.PlacedLemmas.{is_below}
-use Rattle.bdb_mkleaves.specs.Inner.{CanTakeChild, CountsFew, HoldsChildren, HoldsChildrenOn, added_key, child_cost, child_item, inner_header}
-use Rattle.bdb_mkleaves.specs.Inner.{inner_number, with_inner}
-use Rattle.bdb_mkleaves.specs.LeafEntries.{Entry, HoldsEntries, room_of, type_number}
-use Rattle.bdb_mkleaves.specs.Levels.{BeginsWithKey, HasKey, IsStarted, TakesNode, KeyStandsOn, LacksRoom, heads_of, raising, stored_heads, stored_key}
-use Rattle.bdb_mkleaves.specs.declared.leaf_type.LeafType.{LeafType}
-use Rattle.bdb_mkleaves.specs.declared.leaf_type.LeafType.TheVariants.{Pairs, Records, SortedData}
-use Rattle.bdb_mkleaves.specs.declared.levels.Child.{Child}
 use Rattle.bdb_mkleaves.proofs.EntryLemmas.{bytes_with, entries_held, page_is}
 use Rattle.bdb_mkleaves.proofs.InnerLemmas.{HasShape, ShapeOf, first_cost_is, inner_extent, item_cost_is}
 use Rattle.bdb_mkleaves.proofs.LevelHeadLemmas.{raising_count, raising_few, raising_order, raising_other, raising_size, raising_whole}

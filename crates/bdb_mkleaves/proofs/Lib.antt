@@ -1,4 +1,5 @@
 pub mod ChildrenLemmas
+pub mod Common
 pub mod CountedLaws
 pub mod EntryLemmas
 pub mod FilledLemmas

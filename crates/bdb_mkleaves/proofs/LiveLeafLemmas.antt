@@ -1,16 +1,8 @@
 -- No item of a leaf is marked deleted where no unit is.
 use Rattle.std.proofs.Common.{arith, ◌≡◌, ℕ, false, List, [], ◌∷◌, map, refl, ◌∙◌, ap}
-use Rattle.std.specs.List.{All, flat_map, list_any}
-use Rattle.std.proofs.lemmas.List.Elements.{All-append, All-cons, All-head, All-map, All-nil, All-tail}
-use Rattle.std.proofs.lemmas.List.Folds.{list_any_none}
-use Rattle.bdb_places.specs.of_format.Terms.{File, Item, Listed, page_at}
-use Rattle.bdb_mkleaves.specs.Laid.{AreLaid, IsLiveUnit, LaidTreesAreLive, has_deleted}
-use Rattle.bdb_mkleaves.specs.LeafEntries.{Entry, IsLeafIn, leaf_of, own_entry}
-use Rattle.bdb_mkleaves.specs.Placed.{IsDatum, LeafUnits, Placed, PlacedEntry, PlacedPairs, PlacedTree, StandsPlaced, ValueItem, entries_of}
-use Rattle.bdb_mkleaves.specs.Placed.{further_entries, unit_of, units_in}
-use Rattle.bdb_mkleaves.specs.declared.leaf_type.LeafType.{LeafType}
-use Rattle.bdb_mkleaves.specs.declared.leaf_type.LeafType.TheVariants.{Pairs, Records, SortedData}
-use Rattle.bdb_law_levels.proofs.NodeLemmas.{all_left, all_right}
+use Rattle.bdb_mkleaves.proofs.Common.{All, flat_map, list_any, All-append, All-cons, All-head, All-map, All-nil, All-tail, list_any_none, File, Item, Listed, page_at, AreLaid, IsLiveUnit}
+use Rattle.bdb_mkleaves.proofs.Common.{LaidTreesAreLive, has_deleted, Entry, IsLeafIn, leaf_of, own_entry, IsDatum, LeafUnits, Placed, PlacedEntry, PlacedPairs, PlacedTree, StandsPlaced, ValueItem}
+use Rattle.bdb_mkleaves.proofs.Common.{entries_of, further_entries, unit_of, units_in, LeafType, Pairs, Records, SortedData, all_left, all_right}
 
 abbrev IsLiveEntry : Entry → Type 0
 IsLiveEntry entry = entry.item.deleted ≡ false

@@ -1,18 +1,8 @@
 -- No key of an internal page is marked deleted.
 use Rattle.std.proofs.Common.{◌≡◌, ℕ, ◌<◌, ◌≤◌, false, List, ◌++◌, drop, arith, sym, ◌∙◌}
-use Rattle.std.proofs.lemmas.Bool.{cases_lt}
-use Rattle.std.proofs.lemmas.List.{append_assoc}
-use Rattle.bdb_places.specs.of_format.declared.kinds.Order.{Order}
-use Rattle.bdb_places.specs.of_format.Terms.{Chain, Content, Inline, IsKey, Set, Tree, Unknown, byte_at, entries_of, internal_bytes, is_deleted, offset_of}
-use Rattle.bdb_places.proofs.of_format.SpellingLemmas.{byte_at-in, length-spelled}
-use Rattle.bdb_law_levels.specs.declared.inner_type.InnerType.{InnerType}
-use Rattle.bdb_law_levels.specs.declared.inner_type.InnerType.TheVariants.{Keyed, Numbered}
-use Rattle.bdb_law_levels.specs.Nodes.{Node}
-use Rattle.bdb_pack.specs.Items.{IsWritable, item_bytes}
-use Rattle.bdb_pack.specs.Placing.{IsBegun}
-use Rattle.bdb_pack.proofs.PlaceLemmas.{byte_same}
-use Rattle.bdb_pack.proofs.PlacedLemmas.{IsPlaced}
-use Rattle.bdb_mkleaves.specs.Inner.{HasLiveKeys, child_item, inner_number}
+use Rattle.bdb_mkleaves.proofs.Common.{cases_lt, append_assoc, Order, Chain, Content, Inline, IsKey, Set, Tree, Unknown, byte_at, internal_bytes, is_deleted, offset_of, byte_at-in, length-spelled}
+use Rattle.bdb_mkleaves.proofs.Common.{InnerType, Keyed, Numbered, Node, IsWritable, item_bytes, IsBegun, byte_same, IsPlaced, HasLiveKeys, child_item, inner_number}
+use Rattle.bdb_places.specs.of_format.Terms.{entries_of}
 
 -- an item isn't, as it is spelled
 spelled_live : (order : Order) (page : List ℕ) (at child count : ℕ) (key : Content) (rest : List ℕ) → IsKey key

@@ -1,21 +1,8 @@
 -- A leaf that is moved behind all pages.
-use Rattle.std.proofs.Common.{◌≡◌, ℕ, ◌+◌, ◌<◌, ◌≤◌, ◌^◌, true, List, [], ◌∷◌, ◌++◌, length, drop, get_or, replicate, set, arith, refl, sym, ◌∙◌, ap, subst}
-use Rattle.std.proofs.Common.{length-append, length-set, Contains}
-use Rattle.std.proofs.lemmas.List.{get_or-set_other, get_or_append_left, get_or_push, length-replicate}
-use Rattle.bdb_places.specs.of_format.Terms.{is_page_size}
-use Rattle.bdb_places.proofs.of_format.MemberLemmas.{first_member, later_member}
-use Rattle.bdb_places.proofs.of_format.SizeLemmas.{size_bounds}
-use Rattle.bdb_pack.specs.of_law_grove.Leaves.{Ascend}
-use Rattle.bdb_pack.proofs.of_law_grove.LeafLemmas.{above_low}
-use Rattle.bdb_pack.specs.Built.{AreWhole, Built, bytes_of, with_copy, with_page, written_over}
-use Rattle.bdb_pack.specs.OnPages.{IsBegunOn}
-use Rattle.bdb_pack.specs.Placing.{IsBegun}
-use Rattle.bdb_pack.proofs.CutLemmas.{more_whole, page_whole, written_whole}
-use Rattle.bdb_mkleaves.specs.LeafEntries.{Entry, HoldsEntries, HoldsEntriesOn, with_field}
-use Rattle.bdb_mkleaves.specs.Leaves.{AreLeaves, AreSomeLeaves, KeepsOthers, LeavesFrom, first_of, last_of}
-use Rattle.bdb_mkleaves.specs.Moved.{IsFirstMoved, IsMoved, LinkedFrom, first_leaf, numbers_of, second_leaf}
-use Rattle.bdb_mkleaves.specs.declared.leaf_type.LeafType.{LeafType}
-use Rattle.bdb_mkleaves.specs.declared.leaves.Leaves.{Leaves}
+use Rattle.std.proofs.Common.{◌≡◌, ℕ, ◌+◌, ◌<◌, ◌≤◌, ◌^◌, true, List, [], ◌∷◌, ◌++◌, length, drop, get_or, replicate, set, arith, refl, sym, ◌∙◌, ap, subst, length-append, length-set, Contains}
+use Rattle.bdb_mkleaves.proofs.Common.{get_or-set_other, get_or_append_left, get_or_push, length-replicate, is_page_size, first_member, later_member, size_bounds, Ascend, above_low, AreWhole, Built}
+use Rattle.bdb_mkleaves.proofs.Common.{bytes_of, with_copy, with_page, written_over, IsBegunOn, IsBegun, more_whole, page_whole, written_whole, Entry, HoldsEntries, HoldsEntriesOn, with_field}
+use Rattle.bdb_mkleaves.proofs.Common.{AreLeaves, AreSomeLeaves, KeepsOthers, LeavesFrom, first_of, last_of, IsFirstMoved, IsMoved, LinkedFrom, first_leaf, numbers_of, second_leaf, LeafType, Leaves}
 use Rattle.bdb_mkleaves.proofs.EntryLemmas.{bytes_with}
 use Rattle.bdb_mkleaves.proofs.LeafLemmas.{length-field, numbered, previous_set}
 use Rattle.bdb_mkleaves.proofs.LeavesLemmas.{at_most_last, last_closed, leaf_closed, leaf_stays, page_written}

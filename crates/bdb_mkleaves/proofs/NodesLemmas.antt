@@ -1,29 +1,10 @@
 -- Filled leaves as the lowest level of their tree.
 use Rattle.std.proofs.Common.{Bool, ◌≡◌, ◌⊎◌, ℕ, suc, ◌+◌, ◌<◌, ◌≤◌, true, false, List, [], ◌∷◌, ◌++◌, length, map, arith, refl, ◌∙◌, ap, subst, inl, inr}
-use Rattle.std.specs.List.{All, AllZip, Contains, flat_map}
-use Rattle.std.proofs.lemmas.List.{append-nil}
-use Rattle.std.proofs.lemmas.Grind.{flat_map-append}
-use Rattle.std.proofs.lemmas.List.Elements.{All-cons, All-nil}
-use Rattle.bdb_places.specs.of_format.Terms.{Chain, Content, Inline, Set, Tree, Unknown, is_page_size}
-use Rattle.bdb_places.proofs.of_format.MemberLemmas.{first_member, later_member, member_cases, no_member}
-use Rattle.bdb_places.proofs.of_format.SizeLemmas.{size_bounds}
-use Rattle.bdb_law_levels.specs.Nodes.{Node}
-use Rattle.bdb_law_levels.proofs.NodeLemmas.{all_left, all_right}
-use Rattle.bdb_pack.specs.Built.{AreWhole, Built}
-use Rattle.bdb_mkleaves.specs.Filled.{AreFilled, unit_contents}
-use Rattle.bdb_mkleaves.specs.Inner.{child_cost}
-use Rattle.bdb_mkleaves.specs.Laid.{Counts, HasUnits, IsNodeOf, inner_of}
-use Rattle.bdb_mkleaves.specs.LeafChildren.{leaf_child, leaf_children, leaf_node, leaf_nodes}
-use Rattle.bdb_mkleaves.specs.LeafEntries.{Entry, HoldsEntriesOn}
-use Rattle.bdb_mkleaves.specs.Leaves.{AreLeaves, LeavesFrom, first_of}
-use Rattle.bdb_mkleaves.specs.Levels.{AreChildren, IsChild, KeyStandsOn}
-use Rattle.bdb_mkleaves.specs.Moved.{LinkedFrom}
-use Rattle.bdb_mkleaves.specs.declared.leaves.Leaves.{Leaves}
-use Rattle.bdb_mkleaves.specs.Placed.{IsOneValue, IsPlacedBySize, Placed, PlacedEntry, PlacedPairs, PlacedTree, StandsBySize, entries_of}
-use Rattle.bdb_mkleaves.specs.Puts.{CountsOneFrom}
-use Rattle.bdb_mkleaves.specs.Rooted.{CountsLeaves, IsOneLeaf, zip_units}
-use Rattle.bdb_mkleaves.specs.declared.leaf_type.LeafType.{LeafType}
-use Rattle.bdb_mkleaves.specs.declared.leaf_type.LeafType.TheVariants.{Pairs, Records, SortedData}
+use Rattle.bdb_mkleaves.proofs.Common.{All, AllZip, Contains, flat_map, append-nil, flat_map-append, All-cons, All-nil, Chain, Content, Inline, Set, Tree, Unknown, is_page_size, first_member}
+use Rattle.bdb_mkleaves.proofs.Common.{later_member, member_cases, no_member, size_bounds, Node, all_left, all_right, AreWhole, Built, AreFilled, unit_contents, child_cost, Counts, HasUnits, IsNodeOf}
+use Rattle.bdb_mkleaves.proofs.Common.{inner_of, leaf_child, leaf_children, leaf_node, leaf_nodes, Entry, HoldsEntriesOn, AreLeaves, LeavesFrom, first_of, AreChildren, IsChild, KeyStandsOn}
+use Rattle.bdb_mkleaves.proofs.Common.{LinkedFrom, Leaves, IsOneValue, IsPlacedBySize, Placed, PlacedEntry, PlacedPairs, PlacedTree, StandsBySize, entries_of, CountsOneFrom, CountsLeaves, IsOneLeaf}
+use Rattle.bdb_mkleaves.proofs.Common.{zip_units, LeafType, Pairs, Records, SortedData}
 
 -- The first entry of a unit.
 
@@ -197,8 +178,7 @@ each_content P type (units ∷ groups) all =
 
 pub all_units : (closed : List (List Placed)) (units : List Placed)
     → flat_map (λ leaf. leaf) (closed ++ (units ∷ [])) ≡ flat_map (λ leaf. leaf) closed ++ units
-all_units closed units =
-    flat_map-append (λ leaf. leaf) closed (units ∷ []) ∙ ap (λ us. flat_map (λ leaf. leaf) closed ++ us) (append-nil units)
+all_units closed units = flat_map-append (λ leaf. leaf) closed (units ∷ []) ∙ ap (λ us. flat_map (λ leaf. leaf) closed ++ us) (append-nil units)
 
 -- Counts.
 

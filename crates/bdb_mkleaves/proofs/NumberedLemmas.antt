@@ -1,32 +1,9 @@
 -- Filled leaves with their numbers, and a tree that is one of them.
-use Rattle.std.proofs.Common.{◌≡◌, ℕ, ◌<◌, ◌≤◌, Bool, true, false, List, [], ◌∷◌, ◌++◌, length, map, arith, refl, sym, ◌∙◌, ap, subst, inl, inr, true≢false}
-use Rattle.std.proofs.Common.{append-nil, ◌||◌}
-use Rattle.std.specs.List.{All, AllZip, Contains, flat_map}
-use Rattle.std.proofs.lemmas.Bool.{cases_Bool, false_from_ne_true, or_left, or_right, or_cases}
-use Rattle.std.proofs.lemmas.List.{map-append}
-use Rattle.bdb_pack.proofs.ImageLemmas.{page_so_far}
-use Rattle.bdb_places.specs.of_format.Terms.{File, page_at}
-use Rattle.bdb_places.proofs.of_format.MemberLemmas.{no_member}
-use Rattle.bdb_pack.specs.of_law_grove.Growing.{IsCounted, IsLater, IsSamePage}
-use Rattle.bdb_pack.specs.of_law_grove.Leaves.{Ascend, ContentFits, content_pages}
-use Rattle.bdb_pack.specs.of_law_grove.Part.{IsBranch, between}
-use Rattle.bdb_pack.proofs.of_law_grove.BranchLemmas.{of_list}
-use Rattle.bdb_pack.proofs.of_law_grove.ChainLemmas.{between_is, is_between, same_test}
-use Rattle.bdb_pack.proofs.of_law_grove.LeafLemmas.{ascend_once}
-use Rattle.bdb_pack.proofs.of_law_grove.SeveralLemmas.{count}
-use Rattle.bdb_pack.proofs.of_law_grove.AscendLemmas.{ascend_strictly}
-use Rattle.bdb_law_levels.specs.Nodes.{Node}
-use Rattle.bdb_law_levels.specs.Roots.{is_of}
-use Rattle.bdb_pack.specs.Built.{Built, file_so_far}
-use Rattle.bdb_mkleaves.specs.Filled.{AllStand, AreFilled, all_contents, rest_of}
-use Rattle.bdb_mkleaves.specs.Laid.{IsTreeLaid, IsNodeOf, entries_on, held_by_leaves, is_laid, tree_pages}
-use Rattle.bdb_mkleaves.specs.LeafEntries.{contents_of}
-use Rattle.bdb_mkleaves.specs.Leaves.{LeavesFrom}
-use Rattle.bdb_mkleaves.specs.Moved.{numbers_of}
-use Rattle.bdb_mkleaves.specs.Placed.{LeafUnits, Placed, StandsPlaced, entries_of, pages_of}
-use Rattle.bdb_mkleaves.specs.Rooted.{placed_on}
-use Rattle.bdb_mkleaves.specs.declared.leaf_type.LeafType.{LeafType}
-use Rattle.bdb_mkleaves.specs.declared.leaves.Leaves.{Leaves}
+use Rattle.std.proofs.Common.{◌≡◌, ℕ, ◌<◌, ◌≤◌, Bool, true, false, List, [], ◌∷◌, ◌++◌, length, map, arith, refl, sym, ◌∙◌, ap, subst, inl, inr, true≢false, append-nil, ◌||◌}
+use Rattle.bdb_mkleaves.proofs.Common.{All, AllZip, Contains, flat_map, cases_Bool, false_from_ne_true, or_left, or_right, or_cases, map-append, page_so_far, File, page_at, no_member, IsCounted}
+use Rattle.bdb_mkleaves.proofs.Common.{IsLater, IsSamePage, Ascend, ContentFits, content_pages, IsBranch, between, of_list, between_is, is_between, same_test, ascend_once, count, ascend_strictly}
+use Rattle.bdb_mkleaves.proofs.Common.{Node, is_of, Built, file_so_far, AllStand, AreFilled, all_contents, rest_of, IsTreeLaid, IsNodeOf, entries_on, held_by_leaves, is_laid, tree_pages, contents_of}
+use Rattle.bdb_mkleaves.proofs.Common.{LeavesFrom, numbers_of, LeafUnits, Placed, StandsPlaced, entries_of, pages_of, placed_on, LeafType, Leaves}
 use Rattle.bdb_mkleaves.proofs.GrownLemmas.{all_joined, as_many, contents_held, laid_leaves, pages_named, zip_all, zip_groups, zip_pages}
 use Rattle.bdb_mkleaves.proofs.LaterLemmas.{later_fewer}
 use Rattle.bdb_mkleaves.proofs.LeavesLemmas.{leaf_closed}

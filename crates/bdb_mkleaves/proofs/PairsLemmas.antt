@@ -1,23 +1,9 @@
 -- A key with its data that is put on the last leaf.
-use Rattle.std.proofs.Common.{◌≡◌, ℕ, suc, ◌+◌, ◌-◌, ◌*◌, ◌<◌, ◌≤◌, false, List, [], ◌∷◌, ◌++◌, length, map, get_or, take, arith, refl, sym, ◌∙◌, ap, subst}
-use Rattle.std.proofs.Common.{length-append, ◌%◌, All, sum_by}
-use Rattle.std.proofs.lemmas.List.{append_assoc, get_or-append-add, map-append, take_more}
-use Rattle.std.proofs.lemmas.List.Elements.{All-push}
-use Rattle.std.proofs.lemmas.List.Sums.{sum_by-append, sum_by-cons, sum_by-take-le, sum_by_push}
-use Rattle.std.proofs.lemmas.Grind.{flat_map-append}
-use Rattle.bdb_places.specs.of_format.declared.kinds.Order.{Order}
-use Rattle.bdb_places.specs.of_format.Terms.{Content, Item, page_code}
-use Rattle.bdb_pack.specs.of_law_grove.Part.{between}
-use Rattle.bdb_pack.proofs.of_law_grove.ChainLemmas.{between_is, is_between}
-use Rattle.bdb_pack.specs.Built.{Built, bytes_of}
-use Rattle.bdb_mkleaves.specs.LeafEntries.{CanShareKey, Entry, HoldsEntriesOn, entry_cost, no_entry, own_entry, room_of, shared_entry, shared_key}
-use Rattle.bdb_mkleaves.specs.Leaves.{AreLeaves, AreSomeLeaves, last_of}
-use Rattle.bdb_mkleaves.specs.Placed.{ValueItem}
-use Rattle.bdb_mkleaves.specs.Puts.{IsGrown, IsPut}
-use Rattle.bdb_mkleaves.specs.Units.{value_cost}
-use Rattle.bdb_mkleaves.specs.Runs.{ArePairsPut, ValuesStand, HasWholePairs, IsLiveItem, IsRunPut, held_by_item, more_cost, more_entries, pair_entries}
-use Rattle.bdb_mkleaves.specs.Runs.{pairs_cost}
-use Rattle.bdb_mkleaves.specs.declared.leaves.Leaves.{Leaves}
+use Rattle.std.proofs.Common.{◌≡◌, ℕ, suc, ◌+◌, ◌-◌, ◌*◌, ◌<◌, ◌≤◌, false, List, [], ◌∷◌, ◌++◌, length, map, get_or, take, arith, refl, sym, ◌∙◌, ap, subst, length-append, ◌%◌, All, sum_by}
+use Rattle.bdb_mkleaves.proofs.Common.{append_assoc, get_or-append-add, map-append, take_more, All-push, sum_by-append, sum_by-cons, sum_by-take-le, sum_by_push, flat_map-append, Order, Content, Item}
+use Rattle.bdb_mkleaves.proofs.Common.{page_code, between, between_is, is_between, Built, bytes_of, CanShareKey, Entry, HoldsEntriesOn, entry_cost, no_entry, own_entry, room_of, shared_entry}
+use Rattle.bdb_mkleaves.proofs.Common.{shared_key, AreLeaves, AreSomeLeaves, last_of, ValueItem, IsGrown, IsPut, value_cost, ArePairsPut, ValuesStand, HasWholePairs, IsLiveItem, IsRunPut}
+use Rattle.bdb_mkleaves.proofs.Common.{held_by_item, more_cost, more_entries, pair_entries, pairs_cost, Leaves}
 use Rattle.bdb_mkleaves.proofs.HeldLemmas.{after_two}
 use Rattle.bdb_mkleaves.proofs.RunLemmas.{all_map, one_kept, later_before, leaf_room, put_is_run, runs_follow, some_after}
 

@@ -1,22 +1,14 @@
 -- What the entries of a unit take of their leaf.
 use Rattle.std.proofs.Common.{◌≡◌, ℕ, ◌+◌, ◌/◌, Bool, false, List, [], ◌∷◌, length, map, arith, refl, ◌∙◌, ap, All, flat_map, sum_by}
-use Rattle.std.proofs.lemmas.Bool.{le-leb, lt-leb}
-use Rattle.std.proofs.lemmas.List.Elements.{All-head, All-tail}
-use Rattle.std.proofs.lemmas.List.Sums.{sum_by-cons}
-use Rattle.bdb_places.specs.of_format.declared.kinds.Order.{Order}
-use Rattle.bdb_places.specs.of_format.Terms.{Chain, Content, Inline, Set, Tree, Unknown, pad4}
-use Rattle.bdb_pack.proofs.of_layout.WritingLemmas.{length-leaf_chain, length-leaf_inline, length-leaf_tree}
-use Rattle.bdb_mkleaves.specs.LeafEntries.{Entry, entry_cost, item_cost, own_entry, shared_entry}
-use Rattle.bdb_mkleaves.specs.Units.{value_cost}
-use Rattle.bdb_mkleaves.specs.Placed.{IsStoredBySize, PlacedEntry, PlacedPairs, PlacedTree, StandsBySize, UnitsCost, ValueItem, further_entries}
-use Rattle.bdb_mkleaves.specs.Placed.{tree_item}
+use Rattle.bdb_mkleaves.proofs.Common.{le-leb, lt-leb, All-head, All-tail, sum_by-cons, Order, Chain, Content, Inline, Set, Tree, Unknown, pad4, length-leaf_chain, length-leaf_inline}
+use Rattle.bdb_mkleaves.proofs.Common.{length-leaf_tree, Entry, entry_cost, item_cost, own_entry, shared_entry, value_cost, IsStoredBySize, PlacedEntry, PlacedPairs, PlacedTree, StandsBySize}
+use Rattle.bdb_mkleaves.proofs.Common.{UnitsCost, ValueItem, further_entries, tree_item}
 
 content_cost : (order : Order) (size : ℕ) (content : Content) (deleted : Bool) (value : List ℕ) → StandsBySize size content value
     → item_cost order (record { content = content; deleted = deleted }) ≡ value_cost size value
 content_cost order size (Inline bytes) deleted value stands =
     rw (length-leaf_inline order bytes deleted, stands.0, le-leb (length value) (size / 8) stands.1) refl
-content_cost order size (Chain head total) deleted value stands =
-    rw (length-leaf_chain order head total deleted, lt-leb (length value) (size / 8) stands) refl
+content_cost order size (Chain head total) deleted value stands = rw (length-leaf_chain order head total deleted, lt-leb (length value) (size / 8) stands) refl
 content_cost order size (Set blocks) deleted value stands = absurd stands
 content_cost order size (Tree root) deleted value stands = absurd stands
 content_cost order size Unknown deleted value stands = absurd stands
@@ -49,8 +41,7 @@ further_cost order size key (datum ∷ more) all =
     )
 
 pub units_cost : UnitsCost
-units_cost order size (PlacedEntry entry) placed =
-    sum_by-cons (entry_cost order) (own_entry entry.item) [] ∙ omega (arith, stored_cost order size entry placed)
+units_cost order size (PlacedEntry entry) placed = sum_by-cons (entry_cost order) (own_entry entry.item) [] ∙ omega (arith, stored_cost order size entry placed)
 units_cost order size (PlacedPairs key first more) placed =
     two_entries order (own_entry key.item) (own_entry first.item) (flat_map (further_entries key) more)
     ∙ rw placed.2 (omega (

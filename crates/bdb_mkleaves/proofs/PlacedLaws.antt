@@ -1,24 +1,11 @@
 -- What leaves hold by the units that were put on them.
-use Rattle.std.proofs.Common.{arith, ◌≡◌, ℕ, Bool, true, false, not, List, [], ◌∷◌, length, map, get_or, refl, sym, ◌∙◌, ap, subst, eq-eqb, true≢false, ◌==◌}
-use Rattle.std.proofs.Common.{◌&&◌}
-use Rattle.std.specs.List.{All, enumerate_from, flat_map, list_any}
-use Rattle.std.proofs.lemmas.Bool.{or_from}
-use Rattle.std.proofs.lemmas.List.{append-nil, map-append}
-use Rattle.std.proofs.lemmas.Simd.{map-map}
-use Rattle.std.proofs.lemmas.List.Elements.{All-cons, All-head, All-map, All-nil, All-tail}
-use Rattle.bdb_places.specs.of_format.declared.metadata.BtreeMeta.{BtreeMeta}
-use Rattle.bdb_places.specs.of_format.Terms.{Chain, Content, File, Inline, Set, StoredPair, Tree, Unknown, ascends, btree_list, entries_in, has_duplicate}
-use Rattle.bdb_places.specs.of_format.Terms.{has_unsorted, is_duplicate, is_set, is_wrong_record, is_wrong_set, leaves, page_at, pairs_of, recno_list}
-use Rattle.bdb_places.specs.of_format.Terms.{tree_entries, tree_pairs}
-use Rattle.bdb_law_levels.specs.Contents.{BeginsWith, Follow}
-use Rattle.bdb_mkleaves.specs.LeafEntries.{Entry}
-use Rattle.bdb_mkleaves.specs.Units.{entry_unit, group_unit, key_of, keyed_units, listed_keyed, listed_record}
-use Rattle.bdb_mkleaves.specs.Placed.{HasLength, HoldsUnits, IsAllowed, IsOneValue, KeepsRules, LeafUnits, PairsFollow, Placed, PlacedEntry}
-use Rattle.bdb_mkleaves.specs.Placed.{PlacedPairs, PlacedTree, RecordsKeepLength, StandsPlaced, UnitsAreListed, UnitsAreRead, UnitsKeepRules}
-use Rattle.bdb_mkleaves.specs.Placed.{entries_of, has_several, has_wrong_root, pages_of, unit_of, units_in, values_in}
-use Rattle.bdb_mkleaves.specs.declared.leaf_type.LeafType.TheVariants.{Pairs, Records}
-use Rattle.bdb_mkleaves.proofs.UnitLemmas.{Group, IsRun, IsSorted, all_in_order, all_of_group, keys_of, list_of_records, list_of_runs, none_at}
-use Rattle.bdb_mkleaves.proofs.UnitLemmas.{none_unsorted, runs_follow, units_of_runs}
+use Rattle.std.proofs.Common.{arith, ◌≡◌, ℕ, Bool, true, false, not, List, [], ◌∷◌, length, map, get_or, refl, sym, ◌∙◌, ap, subst, eq-eqb, true≢false, ◌==◌, ◌&&◌}
+use Rattle.bdb_mkleaves.proofs.Common.{All, enumerate_from, flat_map, list_any, or_from, append-nil, map-append, map-map, All-cons, All-head, All-map, All-nil, All-tail, BtreeMeta, Chain, Content}
+use Rattle.bdb_mkleaves.proofs.Common.{File, Inline, Set, StoredPair, Tree, Unknown, ascends, btree_list, entries_in, has_duplicate, has_unsorted, is_duplicate, is_set, is_wrong_record, is_wrong_set}
+use Rattle.bdb_mkleaves.proofs.Common.{leaves, page_at, pairs_of, recno_list, tree_entries, tree_pairs, BeginsWith, Follow, Entry, entry_unit, group_unit, key_of, keyed_units, listed_keyed}
+use Rattle.bdb_mkleaves.proofs.Common.{listed_record, HasLength, HoldsUnits, IsAllowed, IsOneValue, KeepsRules, LeafUnits, PairsFollow, Placed, PlacedEntry, PlacedPairs, PlacedTree, RecordsKeepLength}
+use Rattle.bdb_mkleaves.proofs.Common.{StandsPlaced, UnitsAreListed, UnitsAreRead, UnitsKeepRules, entries_of, has_several, has_wrong_root, pages_of, unit_of, units_in, values_in, Pairs, Records}
+use Rattle.bdb_mkleaves.proofs.UnitLemmas.{Group, IsRun, IsSorted, all_in_order, all_of_group, keys_of, list_of_records, list_of_runs, none_at, none_unsorted, runs_follow, units_of_runs}
 use Rattle.bdb_mkleaves.proofs.PlacedLemmas.{Located, all_are_runs, all_located, all_pairs_are_runs, all_stand, Stands, further_pair, is_run}
 use Rattle.bdb_mkleaves.proofs.PlacedLemmas.{located_in, located_on, pairs_are_runs, run_of, runs_on, unit_of_run, units_located, units_of_located}
 
@@ -181,10 +168,8 @@ right_lengths g meta (PlacedEntry entry ∷ units) all long =
     ∙ right_length entry.item.deleted entry.value meta.re_len (All-head (HasLength meta.re_len) (PlacedEntry entry) units long))
     (right_lengths g meta units (All-tail (StandsPlaced Records g) (PlacedEntry entry) units all)
     (All-tail (HasLength meta.re_len) (PlacedEntry entry) units long))
-right_lengths g meta (PlacedPairs key first more ∷ units) all long =
-    absurd (All-head (StandsPlaced Records g) (PlacedPairs key first more) units all)
-right_lengths g meta (PlacedTree key root values ∷ units) all long =
-    absurd (All-head (StandsPlaced Records g) (PlacedTree key root values) units all)
+right_lengths g meta (PlacedPairs key first more ∷ units) all long = absurd (All-head (StandsPlaced Records g) (PlacedPairs key first more) units all)
+right_lengths g meta (PlacedTree key root values ∷ units) all long = absurd (All-head (StandsPlaced Records g) (PlacedTree key root values) units all)
 
 pub records_keep_length : RecordsKeepLength
 records_keep_length g meta leaf holds long = grind (arith, right_lengths)

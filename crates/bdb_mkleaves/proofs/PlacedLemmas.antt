@@ -1,15 +1,8 @@
 -- The pairs of leaves are runs, one for each unit that was put on them.
 use Rattle.std.proofs.Common.{arith, ◌≡◌, ℕ, not, List, [], ◌∷◌, ◌++◌, map, get_or, refl, sym, ◌∙◌, ap, All, flat_map}
-use Rattle.std.proofs.lemmas.List.{append-nil, map-append}
-use Rattle.std.proofs.lemmas.Simd.{map-map}
-use Rattle.std.proofs.lemmas.Grind.{flat_map-append}
-use Rattle.std.proofs.lemmas.List.Elements.{All-append, All-cons, All-head, All-map, All-nil, All-tail}
-use Rattle.bdb_places.specs.of_format.Terms.{Chain, Content, File, Inline, Set, StoredPair, Tree, Unknown, data_of, pairs_in, pairs_of, value_of}
-use Rattle.bdb_mkleaves.specs.LeafEntries.{Entry, own_entry, pair_in, pairs_from, shared_entry}
-use Rattle.bdb_mkleaves.specs.Units.{group_unit}
-use Rattle.bdb_mkleaves.specs.Placed.{HoldsUnits, IsDatum, IsOneValue, LeafUnits, Placed, PlacedEntry, PlacedPairs, PlacedTree, StandsPlaced, ValueItem}
-use Rattle.bdb_mkleaves.specs.Placed.{entries_of, further_entries, pairs_on, tree_item, unit_of, units_in}
-use Rattle.bdb_mkleaves.specs.declared.leaf_type.LeafType.TheVariants.{Pairs}
+use Rattle.bdb_mkleaves.proofs.Common.{append-nil, map-append, map-map, flat_map-append, All-append, All-cons, All-head, All-map, All-nil, All-tail, Chain, Content, File, Inline, Set, StoredPair}
+use Rattle.bdb_mkleaves.proofs.Common.{Tree, Unknown, data_of, pairs_in, pairs_of, value_of, Entry, own_entry, pair_in, pairs_from, shared_entry, group_unit, HoldsUnits, IsDatum, IsOneValue}
+use Rattle.bdb_mkleaves.proofs.Common.{LeafUnits, Placed, PlacedEntry, PlacedPairs, PlacedTree, StandsPlaced, ValueItem, entries_of, further_entries, pairs_on, tree_item, unit_of, units_in, Pairs}
 use Rattle.bdb_mkleaves.proofs.UnitLemmas.{Group, HasKey, IsRun, Shares, all_of_group, data_in}
 
 -- a unit and its page
@@ -70,8 +63,7 @@ leaf_pairs g p (unit ∷ units) all = grind (arith, unit_pairs, All-head, All-ta
 pub pairs_are_runs : (g : File) (leaf : LeafUnits) → HoldsUnits Pairs g leaf
     → pairs_of g leaf.page ≡ flat_map all_of_group (map (run_of g) (located_on leaf))
 unfolding pairs_of
-pairs_are_runs g leaf holds =
-    ap (pairs_in g leaf.page) holds.is_leaf.is ∙ (holds.is_leaf.holds ∙ leaf_pairs g leaf.page leaf.units holds.stand)
+pairs_are_runs g leaf holds = ap (pairs_in g leaf.page) holds.is_leaf.is ∙ (holds.is_leaf.holds ∙ leaf_pairs g leaf.page leaf.units holds.stand)
 
 pub all_pairs_are_runs : (g : File) (placed : List LeafUnits) → All (HoldsUnits Pairs g) placed
     → pairs_on g placed ≡ flat_map all_of_group (runs_on g placed)
@@ -102,14 +94,12 @@ pub unit_of_run : (g : File) (at : Located) → Stands g at → group_unit g (ru
 unit_of_run g (p, PlacedEntry entry) stands = absurd stands
 unit_of_run g (p, PlacedPairs key first more) stands =
     rw (stands.0.value, one_datum g first.item.content first.value stands.1.one stands.1.value, further_data g p key more stands.2) refl
-unit_of_run g (p, PlacedTree key root values) stands =
-    rw (stands.0.value, append-nil (data_of g (Tree root)), stands.1) refl
+unit_of_run g (p, PlacedTree key root values) stands = rw (stands.0.value, append-nil (data_of g (Tree root)), stands.1) refl
 
 pub units_of_located : (g : File) (all : List Located) → All (Stands g) all
     → map (group_unit g) (map (run_of g) all) ≡ map (λ (at : Located). unit_of at.1) all
 units_of_located g [] stand = refl
-units_of_located g (at ∷ all) stand =
-    rw (unit_of_run g at (All-head (Stands g) at all stand), units_of_located g all (All-tail (Stands g) at all stand)) refl
+units_of_located g (at ∷ all) stand = rw (unit_of_run g at (All-head (Stands g) at all stand), units_of_located g all (All-tail (Stands g) at all stand)) refl
 
 pub units_located : (placed : List LeafUnits) → map (λ (at : Located). unit_of at.1) (located_in placed) ≡ units_in placed
 units_located [] = refl

@@ -1,23 +1,9 @@
 -- A root that is placed on another page.
 use Rattle.std.proofs.Common.{◌≡◌, ℕ, ◌+◌, ◌-◌, ◌<◌, ◌≤◌, ◌^◌, true, List, [], length, arith, refl, sym, ◌∙◌, ap, subst, length-set, length-take}
-use Rattle.std.proofs.lemmas.List.{get_or-set_other, get_or-take}
-use Rattle.bdb_places.specs.of_format.declared.kinds.Order.{Order}
-use Rattle.bdb_places.specs.of_format.declared.pages.RecnoItem.{RecnoItem}
-use Rattle.bdb_places.specs.of_format.Terms.{Internal, InternalItem, Listed, RecnoInternal, abstract_page, byte_at, entries_of, four_at, internal_item_at}
-use Rattle.bdb_places.specs.of_format.Terms.{is_page_size, listed, recno_item_at}
-use Rattle.bdb_places.proofs.of_format.SizeLemmas.{size_bounds}
-use Rattle.bdb_law_levels.specs.declared.inner_type.InnerType.{InnerType}
-use Rattle.bdb_law_levels.specs.declared.inner_type.InnerType.TheVariants.{Keyed, Numbered}
-use Rattle.bdb_law_levels.specs.Nodes.{Node}
-use Rattle.bdb_pack.specs.Built.{AreWhole, Built, bytes_of, with_page, without_last}
-use Rattle.bdb_pack.specs.Placing.{high_free_of}
-use Rattle.bdb_pack.proofs.CutLemmas.{page_whole}
-use Rattle.bdb_pack.proofs.OpenLemmas.{open_is}
-use Rattle.bdb_pack.proofs.PlaceLemmas.{byte_same, number_same}
-use Rattle.bdb_pack.proofs.StandingLemmas.{internal_item_same, recno_item_same, typed}
-use Rattle.bdb_mkleaves.specs.Finished.{IsRootPlaced}
-use Rattle.bdb_mkleaves.specs.Inner.{HasNodes, HoldsChildren, inner_number, nodes_cost}
-use Rattle.bdb_mkleaves.specs.LeafEntries.{room_of, with_field}
+use Rattle.bdb_mkleaves.proofs.Common.{get_or-set_other, get_or-take, Order, RecnoItem, Internal, InternalItem, Listed, RecnoInternal, abstract_page, byte_at, four_at, internal_item_at, is_page_size}
+use Rattle.bdb_mkleaves.proofs.Common.{listed, recno_item_at, size_bounds, InnerType, Keyed, Numbered, Node, AreWhole, Built, bytes_of, with_page, without_last, high_free_of, page_whole, open_is}
+use Rattle.bdb_mkleaves.proofs.Common.{byte_same, number_same, internal_item_same, recno_item_same, typed, IsRootPlaced, HasNodes, HoldsChildren, inner_number, nodes_cost, room_of, with_field}
+use Rattle.bdb_places.specs.of_format.Terms.{entries_of}
 use Rattle.bdb_mkleaves.proofs.EntryLemmas.{bytes_with}
 use Rattle.bdb_mkleaves.proofs.LiveLemmas.{live_same}
 use Rattle.bdb_mkleaves.proofs.LeafLemmas.{HasLinks, length-field, linked_begun, linked_page, number_written, previous_written, offset_linked, with_links}
@@ -112,8 +98,7 @@ sum_here order page sum small long =
 
 copied_whole : (old : Built) (first root : ℕ) → AreWhole old → first < root → root + 1 ≡ length old.pages
     → AreWhole (with_page old first (bytes_of old root))
-copied_whole old first root whole low last =
-    page_whole old first (bytes_of old root) whole (omega (arith, low, last)) (whole root (omega (arith, last)))
+copied_whole old first root whole low last = page_whole old first (bytes_of old root) whole (omega (arith, low, last)) (whole root (omega (arith, last)))
 
 -- with its new number it is whole
 pub renamed_whole : (old copied numbered : Built) (first root : ℕ) → AreWhole old → is_page_size old.size ≡ true → first < root

@@ -1,25 +1,11 @@
 -- A unit that is pushed: the last leaf has room for it, or a new one.
 use Rattle.std.proofs.Common.{Bool, ◌≡◌, ℕ, suc, ◌+◌, ◌-◌, ◌<◌, ◌≤◌, true, false, if◌then◌else◌, List, [], ◌∷◌, ◌++◌, length, map, arith, refl, sym, ◌∙◌, ap}
 use Rattle.std.proofs.Common.{subst, inl, inr, length-append, true≢false, ◌⊎◌, ◌/◌, ◌%◌, ◌&&◌, nat_lt, get_or, take, All, flat_map}
-use Rattle.std.proofs.lemmas.List.{take_all}
+use Rattle.bdb_mkleaves.proofs.Common.{take_all, sum_by-cons, cases_lt, leb-false, le-ltb, leb-true, lt-ltb, File, is_page_size, size_bounds, all_right, AreWhole, Built, bytes_of, file_so_far}
+use Rattle.bdb_mkleaves.proofs.Common.{counted_so_far, AreFilled, AreSomeFilled, FilledNow, IsPushed, IsReady, IsUnitPut, UnitsFit, rest_of, room_of, AreSomeLeaves, HasRoomNow, KeepsOthers, has_room}
+use Rattle.bdb_mkleaves.proofs.Common.{Placed, PlacedEntry, PlacedPairs, PlacedTree, StandsPlaced, ValueItem, entries_of, further_entries, unit_of, IsPut, ArePairsPut, HasWholePairs, more_cost}
+use Rattle.bdb_mkleaves.proofs.Common.{pairs_cost, own_pages, EntryUnit, KeyedUnit, TreeUnit, has_own_tree, page_room, set_cost, unit_cost, unit_has_tree, value_cost, Pairs, Leaves}
 use Rattle.std.specs.Cmp.Derive.{both_true}
-use Rattle.std.proofs.lemmas.List.Sums.{sum_by-cons}
-use Rattle.std.proofs.lemmas.Bool.{cases_lt, leb-false, le-ltb, leb-true, lt-ltb}
-use Rattle.bdb_places.specs.of_format.Terms.{File, is_page_size}
-use Rattle.bdb_places.proofs.of_format.SizeLemmas.{size_bounds}
-use Rattle.bdb_law_levels.proofs.NodeLemmas.{all_right}
-use Rattle.bdb_pack.specs.Built.{AreWhole, Built, bytes_of, file_so_far}
-use Rattle.bdb_pack.proofs.ImageLemmas.{counted_so_far}
-use Rattle.bdb_mkleaves.specs.Filled.{AreFilled, AreSomeFilled, FilledNow, IsPushed, IsReady, IsUnitPut, UnitsFit, rest_of}
-use Rattle.bdb_mkleaves.specs.LeafEntries.{room_of}
-use Rattle.bdb_mkleaves.specs.Leaves.{AreSomeLeaves, HasRoomNow, KeepsOthers, has_room}
-use Rattle.bdb_mkleaves.specs.Placed.{Placed, PlacedEntry, PlacedPairs, PlacedTree, StandsPlaced, ValueItem, entries_of, further_entries, unit_of}
-use Rattle.bdb_mkleaves.specs.Puts.{IsPut}
-use Rattle.bdb_mkleaves.specs.Runs.{ArePairsPut, HasWholePairs, more_cost, pairs_cost}
-use Rattle.bdb_mkleaves.specs.Spread.{own_pages}
-use Rattle.bdb_mkleaves.specs.Units.{EntryUnit, KeyedUnit, TreeUnit, has_own_tree, page_room, set_cost, unit_cost, unit_has_tree, value_cost}
-use Rattle.bdb_mkleaves.specs.declared.leaf_type.LeafType.TheVariants.{Pairs}
-use Rattle.bdb_mkleaves.specs.declared.leaves.Leaves.{Leaves}
 use Rattle.bdb_mkleaves.proofs.FilledLemmas.{entry_is_unit, later_self, pairs_are_unit}
 use Rattle.bdb_mkleaves.proofs.PairsLemmas.{cost_left, cost_more}
 use Rattle.bdb_mkleaves.proofs.RestLemmas.{leaf_opened, unit_added}
@@ -136,8 +122,7 @@ kept_now false leaves next old one new there opened more = grind arith
 -- the leaf that was added, if one was
 pub room_count : (b : Bool) (leaves next : Leaves) (old one : Built) → HasRoomNow b leaves next old one
     → (length one.pages ≡ length old.pages + (if b then 0 else 1)) × (one.size ≡ old.size)
-room_count true leaves next old one (same, kept) =
-    (ap (λ (b : Built). length b.pages) kept ∙ omega arith, ap (λ (b : Built). b.size) kept)
+room_count true leaves next old one (same, kept) = (ap (λ (b : Built). length b.pages) kept ∙ omega arith, ap (λ (b : Built). b.size) kept)
 room_count false leaves next old one opened = (opened.count, opened.kept.size)
 
 unfoldable pub pushed : (leaves next : Leaves) (old one new : Built) (unit : TreeUnit) (placed : Placed) → AreSomeFilled leaves old

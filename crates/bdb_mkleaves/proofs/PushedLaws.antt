@@ -1,19 +1,7 @@
 -- Units that are pushed are spread over their leaves.
 use Rattle.std.proofs.Common.{◌≡◌, ℕ, ◌+◌, ◌<◌, ◌≤◌, Bool, true, false, List, [], ◌∷◌, ◌++◌, map, arith, refl, sym, ◌∙◌, ap, All, flat_map, sum_by}
-use Rattle.std.proofs.lemmas.Bool.{leb-false, leb-true}
-use Rattle.std.proofs.lemmas.List.{append_assoc, map-append}
-use Rattle.std.proofs.lemmas.List.Elements.{All-head, All-tail}
-use Rattle.std.proofs.lemmas.List.Sums.{sum_by-append, sum_by-cons}
-use Rattle.bdb_places.specs.of_format.declared.kinds.Order.{Order}
-use Rattle.bdb_law_levels.proofs.NodeLemmas.{all_right}
-use Rattle.bdb_pack.specs.Built.{AreWhole, Built, bytes_of}
-use Rattle.bdb_mkleaves.specs.Filled.{AreFilled, PushedUnitsSpread, SpreadNow}
-use Rattle.bdb_mkleaves.specs.LeafEntries.{entry_cost, room_of}
-use Rattle.bdb_mkleaves.specs.Leaves.{has_room}
-use Rattle.bdb_mkleaves.specs.Placed.{IsPlacedBySize, Placed, entries_of, unit_of}
-use Rattle.bdb_mkleaves.specs.Spread.{spread_units}
-use Rattle.bdb_mkleaves.specs.Units.{TreeUnit, page_room, unit_cost}
-use Rattle.bdb_mkleaves.specs.declared.leaves.Leaves.{Leaves}
+use Rattle.bdb_mkleaves.proofs.Common.{leb-false, leb-true, append_assoc, map-append, All-head, All-tail, sum_by-append, sum_by-cons, Order, all_right, AreWhole, Built, bytes_of, AreFilled}
+use Rattle.bdb_mkleaves.proofs.Common.{PushedUnitsSpread, SpreadNow, entry_cost, room_of, has_room, IsPlacedBySize, Placed, entries_of, unit_of, spread_units, TreeUnit, page_room, unit_cost, Leaves}
 use Rattle.bdb_mkleaves.proofs.NodesLemmas.{all_units}
 use Rattle.bdb_mkleaves.proofs.PlacedCostLemmas.{units_cost}
 use Rattle.bdb_mkleaves.proofs.SpreadLemmas.{IsSpreadOn, spread_more}

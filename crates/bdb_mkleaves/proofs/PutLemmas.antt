@@ -1,26 +1,13 @@
 -- A value that is stored, and put on the last leaf.
-use Rattle.std.proofs.Common.{◌≡◌, ℕ, suc, zero, ◌+◌, ◌-◌, ◌*◌, ◌<◌, ◌≤◌, ◌^◌, Bool, true, List, [], ◌∷◌, ◌++◌, length, get_or, None, arith, refl, sym, ◌∙◌, ap}
-use Rattle.std.proofs.Common.{subst, inl, inr, length-append, ◌/◌}
+use Rattle.std.proofs.Common.{◌≡◌, ℕ, suc, zero, ◌+◌, ◌-◌, ◌*◌, ◌<◌, ◌≤◌, ◌^◌, Bool, true, List, [], ◌∷◌, ◌++◌, length, get_or, None, arith, refl, sym, ◌∙◌, ap, subst, inl, inr, length-append, ◌/◌}
 use Rattle.std.proofs.Math.Nat.{mul-le-mul_right}
-use Rattle.std.proofs.lemmas.Bool.{cases_lt, le-leb, lt-leb}
-use Rattle.std.proofs.lemmas.List.{get_or-append-add, get_or_append_left}
+use Rattle.bdb_mkleaves.proofs.Common.{cases_lt, le-leb, lt-leb, get_or-append-add, get_or_append_left, Order, Chain, Inline, Item, is_page_size, page_code, size_bounds, length-leaf_chain}
+use Rattle.bdb_mkleaves.proofs.Common.{length-leaf_inline, Built, bytes_of, IsWritable, OnLeaf, AreChainPages, HasChain, chain_page, CountsOne, CanTakeEntry, Entry, HoldsEntries, item_cost, room_of}
+use Rattle.bdb_mkleaves.proofs.Common.{type_number, AreLeaves, AreSomeLeaves, KeepsAll, last_of, IsItemOf, chain_pages, value_cost, Leaves}
 use Rattle.std.proofs.lemmas.Nat.{div-mul-add}
-use Rattle.bdb_places.specs.of_format.declared.kinds.Order.{Order}
-use Rattle.bdb_places.specs.of_format.Terms.{Chain, Inline, Item, is_page_size, page_code}
-use Rattle.bdb_places.proofs.of_format.SizeLemmas.{size_bounds}
-use Rattle.bdb_pack.proofs.of_layout.WritingLemmas.{length-leaf_chain, length-leaf_inline}
-use Rattle.bdb_pack.specs.Built.{Built, bytes_of}
-use Rattle.bdb_pack.specs.Items.{IsWritable, OnLeaf}
-use Rattle.bdb_pack.specs.Values.{AreChainPages, HasChain, chain_page}
 use Rattle.bdb_pack.proofs.PieceLemmas.{chain_pages_are_formed}
 use Rattle.bdb_pack.proofs.CountLemmas.{chains_are_counted}
 use Rattle.bdb_pack.proofs.StoredLemmas.{stored_values_stand}
-use Rattle.bdb_mkleaves.specs.Inner.{CountsOne}
-use Rattle.bdb_mkleaves.specs.LeafEntries.{CanTakeEntry, Entry, HoldsEntries, item_cost, room_of, type_number}
-use Rattle.bdb_mkleaves.specs.Leaves.{AreLeaves, AreSomeLeaves, KeepsAll, last_of}
-use Rattle.bdb_mkleaves.specs.Puts.{IsItemOf}
-use Rattle.bdb_mkleaves.specs.Units.{chain_pages, value_cost}
-use Rattle.bdb_mkleaves.specs.declared.leaves.Leaves.{Leaves}
 use Rattle.bdb_mkleaves.proofs.LeavesLemmas.{leaves_kept, at_most_last}
 
 -- A short value.
@@ -155,8 +142,7 @@ pages_stay leaves old new is closed entries hold =
 
 pub leaves_stay : (leaves : Leaves) (old new : Built) (value : List ℕ) (deleted : Bool) (item : Item) → IsItemOf old new value deleted item
     → (closed : List (List Entry)) (entries : List Entry) → AreLeaves leaves old closed entries → AreLeaves leaves new closed entries
-leaves_stay leaves old new value deleted item is =
-    pages_stay leaves old new is.kept
+leaves_stay leaves old new value deleted item is = pages_stay leaves old new is.kept
 
 pub some_stay : (leaves : Leaves) (old new : Built) (value : List ℕ) (deleted : Bool) (item : Item) → IsItemOf old new value deleted item
     → AreSomeLeaves leaves old → AreSomeLeaves leaves new

@@ -1,33 +1,12 @@
 -- The pages that are no leaves, as units are put on leaves.
 use Rattle.std.proofs.Common.{◌≡◌, ℕ, ◌+◌, ◌<◌, ◌≤◌, Bool, true, false, not, List, [], ◌∷◌, ◌++◌, length, map, arith, refl, sym, ◌∙◌, ap, ◌⊎◌, subst, inl, inr}
 use Rattle.std.proofs.Common.{true≢false, ◌==◌, ◌&&◌, ◌||◌, All, Contains, flat_map}
-use Rattle.std.proofs.lemmas.Bool.{and_parts, cases_Bool, cases_lt, eq-eqb, ne_eqb, not-true, or_left, or_right, or_cases}
-use Rattle.std.proofs.lemmas.List.{append-nil, append_assoc, map-append}
-use Rattle.std.proofs.lemmas.List.Elements.{All-append, All-cons, All-nil, All-push, Contains-append_cases, Contains-append_left}
-use Rattle.std.proofs.lemmas.List.Elements.{Contains-append_right}
-use Rattle.std.proofs.lemmas.Grind.{flat_map-append}
-use Rattle.bdb_places.specs.of_format.Terms.{Content, File, page_code}
-use Rattle.bdb_places.proofs.of_format.ListLemmas.{only_member}
-use Rattle.bdb_places.proofs.of_format.MemberLemmas.{first_member, none_pass, none_passes}
-use Rattle.bdb_pack.specs.of_law_grove.Growing.{IsLater}
-use Rattle.bdb_pack.specs.of_law_grove.Leaves.{AscendIn, ContentFits, content_pages}
-use Rattle.bdb_pack.specs.of_law_grove.Part.{IsBranch, between}
-use Rattle.bdb_pack.proofs.of_law_grove.BranchLemmas.{branch_is_known, branches_stand_together, no_branch}
-use Rattle.bdb_pack.proofs.of_law_grove.ChainLemmas.{between_is, is_between, same_test}
-use Rattle.bdb_law_levels.specs.Roots.{key_heads}
-use Rattle.bdb_law_levels.specs.Roots.{is_of}
-use Rattle.bdb_pack.specs.Built.{Built, bytes_of, file_so_far}
-use Rattle.bdb_mkleaves.specs.Filled.{AllStand, AreFilled, IsUnitPut, StandOn, all_contents, rest_of, unit_contents}
-use Rattle.bdb_mkleaves.specs.Layout.{HasTreeOn}
-use Rattle.bdb_mkleaves.specs.LeafEntries.{Entry, HoldsEntriesOn, type_number}
-use Rattle.bdb_pack.proofs.of_law_grove.BranchLemmas.{of_list}
-use Rattle.bdb_pack.proofs.of_law_grove.AscendLemmas.{ascend_bounds, ascend_follow, ascend_on}
-use Rattle.bdb_mkleaves.specs.Puts.{CountsOneFrom}
-use Rattle.bdb_mkleaves.specs.declared.leaf_type.LeafType.TheVariants.{Pairs, Records, SortedData}
-use Rattle.bdb_mkleaves.specs.Leaves.{AreLeaves, IsOpened, KeepsOthers}
-use Rattle.bdb_mkleaves.specs.Placed.{IsPlacedBySize, Placed, StandsPlaced, entries_of}
-use Rattle.bdb_mkleaves.specs.declared.leaf_type.LeafType.{LeafType}
-use Rattle.bdb_mkleaves.specs.declared.leaves.Leaves.{Leaves}
+use Rattle.bdb_mkleaves.proofs.Common.{and_parts, cases_Bool, cases_lt, eq-eqb, ne_eqb, not-true, or_left, or_right, or_cases, append-nil, append_assoc, map-append, All-append, All-cons, All-nil}
+use Rattle.bdb_mkleaves.proofs.Common.{All-push, Contains-append_cases, Contains-append_left, Contains-append_right, flat_map-append, Content, File, page_code, only_member, first_member, none_pass}
+use Rattle.bdb_mkleaves.proofs.Common.{none_passes, IsLater, AscendIn, ContentFits, content_pages, IsBranch, between, branch_is_known, branches_stand_together, no_branch, between_is, is_between}
+use Rattle.bdb_mkleaves.proofs.Common.{same_test, key_heads, is_of, Built, bytes_of, file_so_far, AllStand, AreFilled, IsUnitPut, StandOn, all_contents, rest_of, unit_contents, HasTreeOn, Entry}
+use Rattle.bdb_mkleaves.proofs.Common.{HoldsEntriesOn, type_number, of_list, ascend_bounds, ascend_follow, ascend_on, CountsOneFrom, Pairs, Records, SortedData, AreLeaves, IsOpened, KeepsOthers}
+use Rattle.bdb_mkleaves.proofs.Common.{IsPlacedBySize, Placed, StandsPlaced, entries_of, LeafType, Leaves}
 use Rattle.bdb_mkleaves.proofs.LastingLemmas.{has_tree_stays, heads_one}
 use Rattle.bdb_mkleaves.proofs.LeavesLemmas.{at_most_last}
 use Rattle.bdb_mkleaves.proofs.RunLemmas.{all_map, one_kept, later_before}

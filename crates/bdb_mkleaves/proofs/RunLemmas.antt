@@ -1,22 +1,8 @@
 -- Entries that are put on the last leaf one after the other.
 use Rattle.std.proofs.Common.{Bool, ◌≡◌, ℕ, ◌+◌, ◌-◌, ◌<◌, ◌≤◌, true, List, [], ◌∷◌, ◌++◌, length, get_or, arith, refl, sym, ◌∙◌, ap, subst, inl, inr}
-use Rattle.std.specs.List.{All, sum_by}
-use Rattle.std.proofs.lemmas.Bool.{cases_lt}
-use Rattle.std.proofs.lemmas.List.{append_assoc}
-use Rattle.std.proofs.lemmas.List.Sums.{sum_by-append, sum_by-cons}
-use Rattle.bdb_places.specs.of_format.Terms.{Chain, Content, File, Inline, Set, Tree, Unknown, page_code}
-use Rattle.bdb_pack.specs.of_law_grove.Growing.{IsLater}
-use Rattle.bdb_pack.specs.of_law_grove.Part.{between}
-use Rattle.bdb_pack.proofs.of_law_grove.ChainLemmas.{between_is, is_between}
-use Rattle.bdb_pack.specs.Built.{Built, bytes_of, file_so_far}
-use Rattle.bdb_mkleaves.specs.LeafEntries.{Entry, entry_cost, own_entry, room_of}
-use Rattle.bdb_mkleaves.specs.Leaves.{AreLeaves, AreSomeLeaves}
-use Rattle.bdb_mkleaves.specs.Puts.{CountsOneFrom, IsPut, ValueStands}
-use Rattle.std.proofs.lemmas.List.Elements.{All-append, All-cons, All-nil}
-use Rattle.bdb_pack.proofs.ImageLemmas.{page_so_far}
-use Rattle.bdb_mkleaves.specs.Runs.{IsRunPut, ValuesStand}
-use Rattle.bdb_mkleaves.specs.Units.{chain_pages}
-use Rattle.bdb_mkleaves.specs.declared.leaves.Leaves.{Leaves}
+use Rattle.bdb_mkleaves.proofs.Common.{All, sum_by, cases_lt, append_assoc, sum_by-append, sum_by-cons, Chain, Content, File, Inline, Set, Tree, Unknown, page_code, IsLater, between, between_is}
+use Rattle.bdb_mkleaves.proofs.Common.{is_between, Built, bytes_of, file_so_far, Entry, entry_cost, own_entry, room_of, AreLeaves, AreSomeLeaves, CountsOneFrom, IsPut, ValueStands, All-append}
+use Rattle.bdb_mkleaves.proofs.Common.{All-cons, All-nil, page_so_far, IsRunPut, ValuesStand, chain_pages, Leaves}
 use Rattle.bdb_mkleaves.proofs.PutLemmas.{leaves_stay}
 
 -- the room of the last leaf is what its entries leave

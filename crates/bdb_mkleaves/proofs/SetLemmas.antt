@@ -1,30 +1,9 @@
 -- Sets of the data of a key.
-use Rattle.std.proofs.Common.{◌≡◌, ℕ, ◌+◌, ◌<◌, ◌≤◌, Bool, true, false, if◌then◌else◌, List, [], ◌∷◌, ◌++◌, length, map, arith, refl, sym, ◌∙◌, ap, subst, inr}
-use Rattle.std.proofs.Common.{length-append, flat_map, sum_by}
-use Rattle.std.proofs.lemmas.List.{append_assoc, map-append}
-use Rattle.std.proofs.lemmas.List.Elements.{Contains-append_right}
-use Rattle.std.proofs.lemmas.List.Sums.{sum_by_push}
-use Rattle.bdb_places.specs.of_format.Terms.{File, Tree, is_wrong_set}
-use Rattle.bdb_places.proofs.of_format.MemberLemmas.{first_member}
-use Rattle.bdb_pack.specs.of_law_grove.Growing.{IsCounted, IsLater}
-use Rattle.bdb_pack.specs.of_law_grove.Part.{between}
-use Rattle.bdb_pack.proofs.of_law_grove.ChainLemmas.{between_is}
-use Rattle.bdb_pack.specs.Built.{Built, file_so_far}
-use Rattle.bdb_pack.proofs.ImageLemmas.{counted_so_far}
-use Rattle.bdb_mkleaves.specs.Filled.{AreFilled, AreSpreadOver, FilledNow, IsPushed, SpreadNow}
-use Rattle.bdb_mkleaves.specs.Finished.{HasFirstRoot}
-use Rattle.bdb_mkleaves.specs.Grown.{live_entry}
-use Rattle.bdb_mkleaves.specs.Laid.{has_sorted_data}
-use Rattle.bdb_mkleaves.specs.Layout.{IsTreeOn}
-use Rattle.bdb_mkleaves.specs.Leaves.{KeepsAll, KeepsBefore, KeepsOthers, has_room}
-use Rattle.bdb_mkleaves.specs.Moved.{numbers_of}
-use Rattle.bdb_mkleaves.specs.Placed.{Placed, unit_of}
-use Rattle.bdb_mkleaves.specs.Sets.{IsSetBuilt, IsSetFilled, SetStands, set_type}
-use Rattle.bdb_mkleaves.specs.Spread.{leaves_and_levels}
-use Rattle.bdb_mkleaves.specs.Units.{chain_pages, unit_cost}
-use Rattle.bdb_mkleaves.specs.declared.leaf_type.LeafType.{LeafType}
-use Rattle.bdb_mkleaves.specs.declared.leaf_type.LeafType.TheVariants.{Pairs}
-use Rattle.bdb_mkleaves.specs.declared.leaves.Leaves.{Leaves}
+use Rattle.std.proofs.Common.{◌≡◌, ℕ, ◌+◌, ◌<◌, ◌≤◌, Bool, true, false, if◌then◌else◌, List, [], ◌∷◌, ◌++◌, length, map, arith, refl, sym, ◌∙◌, ap, subst, inr, length-append, flat_map, sum_by}
+use Rattle.bdb_mkleaves.proofs.Common.{append_assoc, map-append, Contains-append_right, sum_by_push, File, Tree, is_wrong_set, first_member, IsCounted, IsLater, between, between_is, Built}
+use Rattle.bdb_mkleaves.proofs.Common.{file_so_far, counted_so_far, AreFilled, AreSpreadOver, FilledNow, IsPushed, SpreadNow, HasFirstRoot, live_entry, has_sorted_data, IsTreeOn, KeepsAll}
+use Rattle.bdb_mkleaves.proofs.Common.{KeepsBefore, KeepsOthers, has_room, numbers_of, Placed, unit_of, IsSetBuilt, IsSetFilled, SetStands, leaves_and_levels, chain_pages, unit_cost, LeafType, Pairs, Leaves}
+use Rattle.bdb_mkleaves.specs.Sets.{set_type}
 use Rattle.bdb_mkleaves.proofs.FilledLemmas.{later_self}
 use Rattle.bdb_mkleaves.proofs.GrownLaws.{grown_sets_stand}
 use Rattle.bdb_mkleaves.proofs.KeptLemmas.{finished_trees_are_formed, finished_trees_keep_older_pages}

@@ -1,38 +1,16 @@
 -- A key whose data have a tree of their own.
 use Rattle.std.proofs.Common.{◌≡◌, ℕ, ◌+◌, ◌-◌, ◌<◌, ◌≤◌, Bool, true, false, if◌then◌else◌, List, [], ◌∷◌, ◌++◌, length, arith, refl, sym, ◌∙◌, ap, map, subst}
 use Rattle.std.proofs.Common.{inl, inr, length-append, true≢false, ◌^◌, All, Contains, flat_map}
-use Rattle.std.proofs.lemmas.Bool.{cases_lt, cases_Bool}
-use Rattle.std.proofs.lemmas.Grind.{flat_map-append}
-use Rattle.std.proofs.lemmas.List.{append_assoc}
-use Rattle.std.proofs.lemmas.List.Elements.{All-append, All-cons, All-head, All-nil}
-use Rattle.std.proofs.lemmas.List.Sums.{sum_by-cons}
-use Rattle.bdb_places.specs.of_format.Terms.{Content, File, Tree, page_code}
-use Rattle.bdb_pack.specs.of_law_grove.Growing.{IsCounted, IsLater}
-use Rattle.bdb_pack.specs.of_law_grove.Leaves.{AscendIn, ContentFits, content_pages}
-use Rattle.bdb_pack.specs.of_law_grove.Part.{IsBranch, between}
-use Rattle.bdb_pack.proofs.of_law_grove.BranchLemmas.{branches_follow}
-use Rattle.bdb_pack.proofs.of_law_grove.ChainLemmas.{between_is, is_between}
-use Rattle.bdb_pack.proofs.of_law_grove.AscendLemmas.{ascend_bounds, ascend_follow}
-use Rattle.bdb_law_levels.specs.Roots.{key_heads, pages_of as level_pages}
-use Rattle.bdb_pack.specs.Built.{Built, bytes_of, file_so_far}
-use Rattle.bdb_pack.proofs.ImageLemmas.{counted_so_far}
-use Rattle.bdb_mkleaves.specs.Filled.{AreSomeFilled, IsPushed, IsReady, StandOn, unit_contents, FilledNow, rest_of}
-use Rattle.bdb_mkleaves.specs.Layout.{IsTreeOn, TreeParts, leaf_heads, live_entry}
-use Rattle.bdb_mkleaves.specs.LeafEntries.{CanTakeEntry, Entry, HoldsEntriesOn, entry_cost, own_entry, room_of}
-use Rattle.bdb_mkleaves.specs.Leaves.{AreLeaves, AreSomeLeaves, HasRoomNow, has_room, last_of}
-use Rattle.bdb_mkleaves.specs.Placed.{Placed, PlacedTree, StandsPlaced, ValueItem, tree_item, IsPlacedBySize, PlacedEntry, PlacedPairs, has_wrong_root}
-use Rattle.bdb_mkleaves.specs.Placed.{unit_of}
-use Rattle.bdb_mkleaves.specs.Puts.{CountsOneFrom, IsGrown, IsPut}
-use Rattle.bdb_mkleaves.specs.Runs.{HasWholePairs, IsRunPut, ValuesStand}
-use Rattle.bdb_mkleaves.specs.Sets.{IsSetBuilt, IsTreePut, SetStands, IsKeyedPushed}
-use Rattle.bdb_mkleaves.specs.Spread.{own_pages, set_pages, set_type}
-use Rattle.bdb_mkleaves.specs.Units.{KeyedUnit, chain_pages, has_own_tree, set_cost, unit_cost, value_cost}
-use Rattle.bdb_law_levels.specs.Roots.{is_of}
-use Rattle.bdb_law_levels.proofs.NodeLemmas.{all_right}
+use Rattle.bdb_mkleaves.proofs.Common.{cases_lt, cases_Bool, flat_map-append, append_assoc, All-append, All-cons, All-head, All-nil, sum_by-cons, Content, File, Tree, page_code, IsCounted, IsLater}
+use Rattle.bdb_mkleaves.proofs.Common.{AscendIn, ContentFits, content_pages, IsBranch, between, branches_follow, between_is, is_between, ascend_bounds, ascend_follow, key_heads, Built, bytes_of}
+use Rattle.bdb_mkleaves.proofs.Common.{file_so_far, counted_so_far, AreSomeFilled, IsPushed, IsReady, StandOn, unit_contents, FilledNow, rest_of, IsTreeOn, TreeParts, leaf_heads, CanTakeEntry, Entry}
+use Rattle.bdb_mkleaves.proofs.Common.{HoldsEntriesOn, entry_cost, own_entry, room_of, AreLeaves, AreSomeLeaves, HasRoomNow, has_room, last_of, Placed, PlacedTree, StandsPlaced, ValueItem, tree_item}
+use Rattle.bdb_mkleaves.proofs.Common.{IsPlacedBySize, PlacedEntry, PlacedPairs, has_wrong_root, unit_of, CountsOneFrom, IsGrown, IsPut, HasWholePairs, IsRunPut, ValuesStand, IsSetBuilt, IsTreePut}
+use Rattle.bdb_mkleaves.proofs.Common.{SetStands, IsKeyedPushed, own_pages, set_pages, set_type, KeyedUnit, chain_pages, has_own_tree, set_cost, unit_cost, value_cost, is_of, all_right, LeafType}
+use Rattle.bdb_mkleaves.proofs.Common.{Pairs, Records, SortedData, Leaves}
+use Rattle.bdb_law_levels.specs.Roots.{pages_of as level_pages}
+use Rattle.bdb_mkleaves.specs.Layout.{live_entry}
 use Rattle.bdb_mkleaves.proofs.RestLemmas.{is_rest, leaves_low}
-use Rattle.bdb_mkleaves.specs.declared.leaf_type.LeafType.{LeafType}
-use Rattle.bdb_mkleaves.specs.declared.leaf_type.LeafType.TheVariants.{Pairs, Records, SortedData}
-use Rattle.bdb_mkleaves.specs.declared.leaves.Leaves.{Leaves}
 use Rattle.bdb_mkleaves.proofs.FilledLemmas.{by_size, later_self, value_read}
 use Rattle.bdb_mkleaves.proofs.LastingLemmas.{heads_one, tree_stays}
 use Rattle.bdb_mkleaves.proofs.PairsLemmas.{live_put, some_of}

@@ -1,14 +1,7 @@
 -- Things that are put on pages from left to right.
-use Rattle.std.proofs.Common.{◌≡◌, ℕ, suc, ◌+◌, ◌-◌, ◌<◌, ◌≤◌, List, [], ◌∷◌, ◌++◌, length, map, get_or, arith, refl, sym, ◌∙◌, ap, subst, inl, inr}
-use Rattle.std.proofs.Common.{length-append, flat_map, sum_by}
-use Rattle.std.proofs.lemmas.Bool.{cases_lt, le-leb, lt-leb}
-use Rattle.std.proofs.lemmas.List.{append-nil, append_assoc, map-append}
-use Rattle.std.proofs.lemmas.List.Sums.{sum_by-cons, sum_by_push}
-use Rattle.bdb_law_levels.specs.declared.inner_type.InnerType.{InnerType}
-use Rattle.bdb_law_levels.specs.Nodes.{Node, no_node}
-use Rattle.bdb_mkleaves.specs.Inner.{child_cost, first_cost, nodes_cost}
-use Rattle.bdb_mkleaves.specs.Spread.{spread_items, spread_nodes, spread_on, spread_units}
-use Rattle.bdb_mkleaves.specs.Units.{TreeUnit, page_room, unit_cost}
+use Rattle.std.proofs.Common.{◌≡◌, ℕ, suc, ◌+◌, ◌-◌, ◌<◌, ◌≤◌, List, [], ◌∷◌, ◌++◌, length, map, get_or, arith, refl, sym, ◌∙◌, ap, subst, inl, inr, length-append, flat_map, sum_by}
+use Rattle.bdb_mkleaves.proofs.Common.{cases_lt, le-leb, lt-leb, append-nil, append_assoc, map-append, sum_by-cons, sum_by_push, InnerType, Node, no_node, child_cost, first_cost, nodes_cost}
+use Rattle.bdb_mkleaves.proofs.Common.{spread_items, spread_nodes, spread_on, spread_units, TreeUnit, page_room, unit_cost}
 
 -- Steps.
 

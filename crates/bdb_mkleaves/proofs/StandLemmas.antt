@@ -1,17 +1,8 @@
 -- Values that stand one after the other are a branch, and fit.
 use Rattle.std.proofs.Common.{◌≡◌, ℕ, ◌+◌, ◌-◌, ◌<◌, ◌≤◌, not, List, [], ◌∷◌, ◌++◌, length, map, Some, arith, refl, sym, ◌∙◌, ap, subst, flat_map}
-use Rattle.std.proofs.lemmas.Bool.{eq-eqb}
-use Rattle.std.proofs.lemmas.List.Elements.{All-cons, All-nil}
-use Rattle.bdb_places.specs.of_format.Terms.{Chain, Content, File, Inline, Set, Tree, Unknown, header_in, joined, page_at, pieces_of, type_in, value_of}
-use Rattle.bdb_pack.specs.of_law_grove.Growing.{IsCounted, IsRun}
-use Rattle.bdb_pack.specs.of_law_grove.Leaves.{AscendIn, ChainFits, ContentFits, content_pages}
-use Rattle.bdb_pack.specs.of_law_grove.Part.{IsBranch, between}
-use Rattle.bdb_pack.proofs.of_law_grove.BranchLemmas.{branches_follow, chain_is_branch, no_branch}
-use Rattle.bdb_pack.proofs.of_law_grove.AscendLemmas.{ascend_from}
+use Rattle.bdb_mkleaves.proofs.Common.{eq-eqb, All-cons, All-nil, Chain, Content, File, Inline, Set, Tree, Unknown, header_in, joined, page_at, pieces_of, type_in, value_of, IsCounted, IsRun}
+use Rattle.bdb_mkleaves.proofs.Common.{AscendIn, ChainFits, ContentFits, content_pages, IsBranch, between, branches_follow, chain_is_branch, no_branch, ascend_from, StandOn, ValueStands, ValuesStand}
 use Rattle.bdb_pack.specs.Stored.{AreFull, StandsIn}
-use Rattle.bdb_mkleaves.specs.Filled.{StandOn}
-use Rattle.bdb_mkleaves.specs.Puts.{ValueStands}
-use Rattle.bdb_mkleaves.specs.Runs.{ValuesStand}
 
 -- Chains.
 

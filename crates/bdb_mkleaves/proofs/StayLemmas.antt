@@ -1,17 +1,7 @@
 -- What a pushed unit leaves as it was: the number of the first leaf, and the pages that are no leaves.
 use Rattle.std.proofs.Common.{Bool, ◌≡◌, ℕ, ◌+◌, ◌<◌, ◌≤◌, true, false, List, [], ◌∷◌, ◌++◌, length, arith, refl, sym, ◌∙◌, ap}
-use Rattle.std.proofs.lemmas.List.Elements.{Contains-append_right}
-use Rattle.bdb_places.specs.of_format.Terms.{File}
-use Rattle.bdb_places.proofs.of_format.MemberLemmas.{first_member}
-use Rattle.bdb_pack.specs.of_law_grove.Growing.{IsLater}
-use Rattle.bdb_pack.proofs.of_law_grove.AscendLemmas.{ascend_bounds}
-use Rattle.bdb_law_levels.specs.Roots.{is_of}
-use Rattle.bdb_pack.specs.Built.{Built, file_so_far}
-use Rattle.bdb_mkleaves.specs.Filled.{AreFilled, rest_of}
-use Rattle.bdb_mkleaves.specs.Leaves.{HasRoomNow, KeepsOthers, first_of}
-use Rattle.bdb_mkleaves.specs.Moved.{first_leaf, numbers_of}
-use Rattle.bdb_mkleaves.specs.Placed.{Placed}
-use Rattle.bdb_mkleaves.specs.declared.leaves.Leaves.{Leaves}
+use Rattle.bdb_mkleaves.proofs.Common.{Contains-append_right, File, first_member, IsLater, ascend_bounds, is_of, Built, file_so_far, AreFilled, rest_of, HasRoomNow, KeepsOthers, first_of, first_leaf}
+use Rattle.bdb_mkleaves.proofs.Common.{numbers_of, Placed, Leaves}
 use Rattle.bdb_mkleaves.proofs.RestLemmas.{is_one, is_rest, leaves_low, rest_is, rest_opened}
 use Rattle.bdb_mkleaves.proofs.RunLemmas.{later_before}
 
@@ -22,8 +12,7 @@ first_closed (p ∷ ps) last next = refl
 -- the first leaf stays the first
 pub first_now : (b : Bool) (leaves next : Leaves) (old one : Built) → HasRoomNow b leaves next old one → first_leaf next ≡ first_leaf leaves
 first_now true leaves next old one (same, kept) = ap first_leaf same
-first_now false leaves next old one opened =
-    ap (λ ps. first_of ps next.last) opened.numbers ∙ first_closed leaves.closed.items leaves.last next.last
+first_now false leaves next old one opened = ap (λ ps. first_of ps next.last) opened.numbers ∙ first_closed leaves.closed.items leaves.last next.last
 
 -- a page that is no leaf doesn't become one
 stays_rest : (b : Bool) (leaves next : Leaves) (old one new : Built) (before : ℕ) → before ≤ length old.pages

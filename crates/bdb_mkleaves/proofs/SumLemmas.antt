@@ -1,18 +1,7 @@
 -- The sum that the root of a tree says, as later files have it.
 use Rattle.std.proofs.Common.{◌≡◌, ℕ, ◌<◌, List, length, arith, refl, sym, ◌∙◌, ap, inl, inr}
-use Rattle.std.proofs.lemmas.Bool.{cases_lt}
-use Rattle.std.proofs.lemmas.List.{get_or_past}
-use Rattle.bdb_places.specs.of_format.declared.kinds.Order.{Order}
-use Rattle.bdb_places.specs.of_format.declared.pages.Header.{Header}
-use Rattle.bdb_places.specs.of_format.Terms.{File, Page, abstract_page, byte_at, four_at, header_in, internal_item_at, page_at, recno_item_at}
-use Rattle.bdb_places.proofs.of_format.PageLemmas.{header_listed}
-use Rattle.bdb_pack.specs.of_law_grove.Growing.{IsSamePage}
-use Rattle.bdb_law_levels.specs.declared.inner_type.InnerType.{InnerType}
-use Rattle.bdb_law_levels.specs.declared.inner_type.InnerType.TheVariants.{Keyed, Numbered}
-use Rattle.bdb_pack.specs.Built.{Built, bytes_of, file_so_far}
-use Rattle.bdb_pack.proofs.ImageLemmas.{page_so_far}
-use Rattle.bdb_pack.proofs.StandingLemmas.{typed}
-use Rattle.bdb_mkleaves.specs.Inner.{inner_number}
+use Rattle.bdb_mkleaves.proofs.Common.{cases_lt, get_or_past, Order, Header, File, Page, abstract_page, byte_at, four_at, header_in, internal_item_at, page_at, recno_item_at, header_listed}
+use Rattle.bdb_mkleaves.proofs.Common.{IsSamePage, InnerType, Keyed, Numbered, Built, bytes_of, file_so_far, page_so_far, typed, inner_number}
 
 -- an internal page has its header
 header_as : (inner : InnerType) (order : Order) (bytes : List ℕ) → 25 < length bytes → byte_at bytes 25 ≡ inner_number inner
@@ -31,8 +20,7 @@ is_long inner bytes is = grind (arith, cases_lt, get_or_past)
 -- a page that stays has the same page before it
 same_previous : (old new : Page) → IsSamePage old new → (header_in new).previous ≡ (header_in old).previous
 same_previous old new (inl same) = ap (λ page. (header_in page).previous) same
-same_previous old new (inr more) =
-    ap (λ page. (header_in page).previous) more.after ∙ sym (ap (λ page. (header_in page).previous) more.before)
+same_previous old new (inr more) = ap (λ page. (header_in page).previous) more.after ∙ sym (ap (λ page. (header_in page).previous) more.before)
 
 pub sum_stands : (inner : InnerType) (built : Built) (g : File) (p : ℕ) → p < length built.pages → byte_at (bytes_of built p) 25 ≡ inner_number inner
     → IsSamePage (page_at (file_so_far built) p) (page_at g p) → (header_in (page_at g p)).previous ≡ four_at built.order (bytes_of built p) 12

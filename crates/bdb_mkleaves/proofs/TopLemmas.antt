@@ -1,25 +1,12 @@
 -- The last level of a tree, and its root.
-use Rattle.std.proofs.Common.{◌≡◌, ◌⊎◌, ℕ, ◌+◌, ◌-◌, ◌<◌, ◌≤◌, Bool, true, List, [], ◌∷◌, ◌++◌, length, get_or}
-use Rattle.std.proofs.Common.{arith, refl, sym, ◌∙◌, ap, subst, inl, inr, length-take}
-use Rattle.std.specs.List.{AllZip, Contains, flat_map, range_with_len}
-use Rattle.std.proofs.lemmas.List.{append-nil, get_or-take}
-use Rattle.bdb_pack.proofs.ImageLemmas.{page_so_far}
-use Rattle.bdb_places.specs.of_format.Terms.{abstract_page, header_in, page_at}
-use Rattle.bdb_places.proofs.of_format.MemberLemmas.{in_flat_map}
-use Rattle.bdb_pack.specs.of_law_grove.Growing.{IsLater, IsSamePage}
-use Rattle.bdb_law_levels.specs.declared.inner_type.InnerType.{InnerType}
-use Rattle.bdb_law_levels.specs.Nodes.{AreOver, IsOver, Node}
-use Rattle.bdb_pack.specs.Built.{Built, file_so_far, without_last}
-use Rattle.bdb_mkleaves.specs.Inner.{HoldsChildrenOn}
-use Rattle.bdb_mkleaves.specs.Levels.{AreChildren, IsLevelLaid, heads_in, heads_of, heads_under, no_child, node_over}
-use Rattle.bdb_mkleaves.specs.Spread.{IsNodeOver, spread_nodes}
-use Rattle.bdb_mkleaves.specs.Tower.{CountsAll, EndsInRoot}
-use Rattle.bdb_mkleaves.specs.declared.levels.Child.{Child}
+use Rattle.std.proofs.Common.{◌≡◌, ◌⊎◌, ℕ, ◌+◌, ◌-◌, ◌<◌, ◌≤◌, Bool, true, List, [], ◌∷◌, ◌++◌, length, get_or, arith, refl, sym, ◌∙◌, ap, subst, inl, inr, length-take}
+use Rattle.bdb_mkleaves.proofs.Common.{AllZip, Contains, flat_map, range_with_len, append-nil, get_or-take, page_so_far, abstract_page, header_in, page_at, in_flat_map, IsLater, IsSamePage, InnerType}
+use Rattle.bdb_mkleaves.proofs.Common.{AreOver, IsOver, Node, Built, file_so_far, without_last, HoldsChildrenOn, AreChildren, IsLevelLaid, heads_in, heads_of, heads_under, no_child, node_over}
+use Rattle.bdb_mkleaves.proofs.Common.{IsNodeOver, spread_nodes, CountsAll, EndsInRoot, Child}
 use Rattle.bdb_mkleaves.proofs.LaterLemmas.{later_chain, later_fewer}
 use Rattle.bdb_mkleaves.proofs.LevelLawLemmas.{group_node, head_counts, levels_are_later, member_at, page_over}
 use Rattle.bdb_mkleaves.proofs.LevelLemmas.{as_many}
-use Rattle.bdb_mkleaves.proofs.TowerLemmas.{IsBuilding, counts_more, heads_among, heads_in_are, heads_low, is_under, level_spread, pages_under}
-use Rattle.bdb_mkleaves.proofs.TowerLemmas.{under_are}
+use Rattle.bdb_mkleaves.proofs.TowerLemmas.{IsBuilding, counts_more, heads_among, heads_in_are, heads_low, is_under, level_spread, pages_under, under_are}
 
 -- a level was laid over those so far
 pub record IsTopped (inner : InnerType) (old now : Built) (nodes : List Node) (above : List Child) : Type 0 where

@@ -1,29 +1,14 @@
 -- Levels that are laid over pages of a tree, one after the other.
-use Rattle.std.proofs.Common.{◌≡◌, ℕ, zero, suc, ◌+◌, ◌-◌, ◌<◌, ◌≤◌, ◌&&◌, Bool, true, List, [], ◌∷◌, ◌++◌, length, map, get_or, None, arith, refl}
-use Rattle.std.proofs.Common.{sym, ◌∙◌, ap, subst, inl, inr}
-use Rattle.std.specs.List.{AllZip, Contains, flat_map, range_with_len}
-use Rattle.std.proofs.lemmas.Bool.{and_parts, cases_lt, lt-leb, lt-ltb, ltb-true}
-use Rattle.std.proofs.lemmas.Grind.{flat_map-append}
-use Rattle.std.proofs.lemmas.List.{append-nil, append_assoc, get_or_default, length-map}
-use Rattle.std.proofs.lemmas.List.Elements.{Contains-append_cases, Contains-append_left, Contains-append_right}
-use Rattle.std.proofs.Math.Dec.{ltb}
-use Rattle.bdb_places.specs.of_format.Terms.{File, entries_of, page_code}
-use Rattle.bdb_places.proofs.of_format.MemberLemmas.{first_member, in_flat_map, later_member, member_cases, member_or_not, no_member, of_flat_map}
-use Rattle.bdb_places.proofs.of_format.ListLemmas.{range_parts}
-use Rattle.bdb_pack.specs.of_law_grove.Growing.{IsLater}
-use Rattle.bdb_law_levels.specs.declared.inner_type.InnerType.{InnerType}
-use Rattle.bdb_law_levels.specs.declared.inner_type.InnerType.TheVariants.{Keyed, Numbered}
-use Rattle.bdb_law_levels.specs.Nodes.{IsTower, Node, no_node}
-use Rattle.bdb_law_levels.specs.Roots.{key_heads, pages_of}
-use Rattle.bdb_pack.specs.Built.{AreWhole, Built, bytes_of, file_so_far}
-use Rattle.bdb_mkleaves.specs.Inner.{HasLiveKeys, child_cost, first_cost, key_cost}
-use Rattle.bdb_mkleaves.specs.Levels.{AreChildren, IsLevelLaid, heads_in, heads_of, heads_under, no_child, node_over, nodes_over}
-use Rattle.bdb_mkleaves.specs.Spread.{AreSpreadLevels, IsNodeOver, first_or, named_heads, pages_over, spread_items, spread_nodes}
-use Rattle.bdb_mkleaves.specs.Tower.{CountsAll, EndsInRoot, HasTower}
-use Rattle.bdb_mkleaves.specs.declared.levels.Child.{Child}
+use Rattle.std.proofs.Common.{◌≡◌, ℕ, zero, suc, ◌+◌, ◌-◌, ◌<◌, ◌≤◌, ◌&&◌, Bool, true, List, [], ◌∷◌, ◌++◌, length, map, get_or, None, arith, refl, sym, ◌∙◌, ap, subst, inl, inr}
+use Rattle.bdb_mkleaves.proofs.Common.{AllZip, Contains, flat_map, range_with_len, and_parts, cases_lt, lt-leb, lt-ltb, ltb-true, flat_map-append, append-nil, append_assoc, get_or_default, length-map}
+use Rattle.bdb_mkleaves.proofs.Common.{Contains-append_cases, Contains-append_left, Contains-append_right, ltb, File, page_code, first_member, in_flat_map, later_member, member_cases, member_or_not}
+use Rattle.bdb_mkleaves.proofs.Common.{no_member, of_flat_map, range_parts, IsLater, InnerType, Keyed, Numbered, IsTower, Node, no_node, key_heads, AreWhole, Built, bytes_of, file_so_far, HasLiveKeys}
+use Rattle.bdb_mkleaves.proofs.Common.{child_cost, first_cost, key_cost, AreChildren, IsLevelLaid, heads_in, heads_of, heads_under, no_child, node_over, nodes_over, AreSpreadLevels, IsNodeOver}
+use Rattle.bdb_mkleaves.proofs.Common.{first_or, named_heads, pages_over, spread_items, spread_nodes, CountsAll, EndsInRoot, HasTower, Child}
+use Rattle.bdb_places.specs.of_format.Terms.{entries_of}
+use Rattle.bdb_law_levels.specs.Roots.{pages_of}
 use Rattle.bdb_mkleaves.proofs.FilledLemmas.{later_self}
-use Rattle.bdb_mkleaves.proofs.LevelLawLemmas.{keys_of, levels_are_formed, levels_are_later, levels_go_on, levels_keep_pages, levels_shrink, numbers_over}
-use Rattle.bdb_mkleaves.proofs.LevelLawLemmas.{levels_live, levels_stand, member_at}
+use Rattle.bdb_mkleaves.proofs.LevelLawLemmas.{keys_of, levels_are_formed, levels_are_later, levels_go_on, levels_keep_pages, levels_shrink, numbers_over, levels_live, levels_stand, member_at}
 use Rattle.bdb_mkleaves.proofs.LaterLemmas.{later_chain}
 use Rattle.bdb_mkleaves.proofs.LevelLemmas.{as_many}
 use Rattle.bdb_mkleaves.proofs.LevelTakeLemmas.{heads_few}

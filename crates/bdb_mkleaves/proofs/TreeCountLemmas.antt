@@ -1,26 +1,9 @@
 -- How many pages a tree has over its leaves.
-use Rattle.std.proofs.Common.{◌≡◌, ℕ, zero, suc, ◌+◌, ◌-◌, ◌≤◌, List, [], ◌∷◌, ◌++◌, length, map, arith, refl, sym, ◌∙◌, ap, subst, inl, inr, length-append}
-use Rattle.std.proofs.Common.{length-set, ◌/◌}
-use Rattle.std.specs.List.{All, AllZip, flat_map}
-use Rattle.std.proofs.lemmas.Bool.{le-leb, lt-leb}
-use Rattle.std.proofs.lemmas.List.{length-map}
-use Rattle.std.proofs.lemmas.List.Elements.{All-head, All-tail}
-use Rattle.bdb_places.specs.of_format.Terms.{Chain, Content, Inline, Set, Tree, Unknown}
-use Rattle.bdb_law_levels.specs.declared.inner_type.InnerType.{InnerType}
-use Rattle.bdb_law_levels.specs.declared.inner_type.InnerType.TheVariants.{Keyed, Numbered}
-use Rattle.bdb_law_levels.specs.Nodes.{Node}
-use Rattle.bdb_pack.specs.Built.{Built}
-use Rattle.bdb_mkleaves.specs.Filled.{AreFilled, AreSpreadOver}
-use Rattle.bdb_mkleaves.specs.Finished.{FinishedTreesAreCounted}
-use Rattle.bdb_mkleaves.specs.Inner.{child_cost, first_cost, key_cost}
-use Rattle.bdb_mkleaves.specs.Laid.{HasUnits, IsKeyOf, IsNodeOf, inner_of}
-use Rattle.bdb_mkleaves.specs.Moved.{numbers_of}
-use Rattle.bdb_mkleaves.specs.Placed.{IsPlacedBySize, Placed, PlacedEntry, PlacedPairs, PlacedTree, StandsBySize, entries_of, unit_of}
-use Rattle.bdb_mkleaves.specs.Rooted.{leaf_with, zip_units}
-use Rattle.bdb_mkleaves.specs.Spread.{inner_cost, key_item_cost, leaf_key, leaves_and_levels, pages_over, unit_key}
-use Rattle.bdb_mkleaves.specs.Units.{TreeUnit}
-use Rattle.bdb_mkleaves.specs.declared.leaf_type.LeafType.{LeafType}
-use Rattle.bdb_mkleaves.specs.declared.leaves.Leaves.{Leaves}
+use Rattle.std.proofs.Common.{◌≡◌, ℕ, zero, suc, ◌+◌, ◌-◌, ◌≤◌, List, [], ◌∷◌, ◌++◌, length, map, arith, refl, sym, ◌∙◌, ap, subst, inl, inr, length-append, length-set, ◌/◌}
+use Rattle.bdb_mkleaves.proofs.Common.{All, AllZip, flat_map, le-leb, lt-leb, length-map, All-head, All-tail, Chain, Content, Inline, Set, Tree, Unknown, InnerType, Keyed, Numbered, Node, Built}
+use Rattle.bdb_mkleaves.proofs.Common.{AreFilled, AreSpreadOver, FinishedTreesAreCounted, child_cost, first_cost, key_cost, HasUnits, IsKeyOf, IsNodeOf, inner_of, numbers_of, IsPlacedBySize, Placed}
+use Rattle.bdb_mkleaves.proofs.Common.{PlacedEntry, PlacedPairs, PlacedTree, StandsBySize, entries_of, unit_of, leaf_with, zip_units, inner_cost, key_item_cost, leaf_key, leaves_and_levels}
+use Rattle.bdb_mkleaves.proofs.Common.{pages_over, unit_key, TreeUnit, LeafType, Leaves}
 use Rattle.bdb_mkleaves.proofs.GrownLemmas.{as_many}
 use Rattle.bdb_mkleaves.proofs.MovedLemmas.{any_order}
 use Rattle.bdb_mkleaves.proofs.NodesLemmas.{all_units, each_leaf}
@@ -38,10 +21,8 @@ leaf_cost : (inner : InnerType) (size : ℕ) (unit : Placed) (units : List Place
     → IsKeyOf inner (flat_map entries_of (unit ∷ units)) node.key → child_cost inner node ≡ inner_cost inner size (unit_key (unit_of unit))
 leaf_cost Numbered size unit units node sizes key = refl
 leaf_cost Keyed size (PlacedEntry entry) units node sizes key = ap key_cost key.0 ∙ content_key_cost size entry.item.content entry.value sizes
-leaf_cost Keyed size (PlacedPairs first datum more) units node sizes key =
-    ap key_cost key.0 ∙ content_key_cost size first.item.content first.value sizes.0
-leaf_cost Keyed size (PlacedTree first root values) units node sizes key =
-    ap key_cost key.0 ∙ content_key_cost size first.item.content first.value sizes.0
+leaf_cost Keyed size (PlacedPairs first datum more) units node sizes key = ap key_cost key.0 ∙ content_key_cost size first.item.content first.value sizes.0
+leaf_cost Keyed size (PlacedTree first root values) units node sizes key = ap key_cost key.0 ∙ content_key_cost size first.item.content first.value sizes.0
 
 -- those over leaves with units
 abbrev costs_of : InnerType → ℕ → List (List Placed) → List ℕ

@@ -1,16 +1,8 @@
 -- Pairs that are whole units: runs, each of a pair with its own key and of pairs that share it.
 use Rattle.std.proofs.Common.{arith, ◌≡◌, ℕ, ◌+◌, Bool, true, false, not, cond, List, [], ◌∷◌, ◌++◌, map, get_or, refl, sym, ◌∙◌, ap, inl, inr, ◌==◌, ◌&&◌}
-use Rattle.std.specs.List.{All, enumerate_from, filter, flat_map, list_any, take_while}
-use Rattle.std.proofs.lemmas.Bool.{and_parts, and_right, or_from}
-use Rattle.std.proofs.lemmas.List.{map-append}
-use Rattle.std.proofs.lemmas.Grind.{flat_map-append}
-use Rattle.std.proofs.lemmas.List.Elements.{All-append, All-head, All-nil, All-tail}
-use Rattle.std.proofs.lemmas.List.Folds.{list_any_none}
-use Rattle.std.proofs.lemmas.List.Sums.{take_while-cons}
-use Rattle.bdb_places.specs.of_format.Terms.{BytesKey, File, Item, StoredPair, ascends, ascends_from, data_of, groups, has_unsorted, is_out_of_order}
-use Rattle.bdb_places.specs.of_format.Terms.{is_unsorted, less, listed_entry, listed_pair, live_data, neighbours, neighbours_from}
-use Rattle.bdb_law_levels.specs.Contents.{Follow, FollowFrom, Follows}
-use Rattle.bdb_mkleaves.specs.Units.{entry_unit, group_unit, keyed_units, listed_keyed, listed_record}
+use Rattle.bdb_mkleaves.proofs.Common.{All, enumerate_from, filter, flat_map, list_any, take_while, and_parts, and_right, or_from, map-append, flat_map-append, All-append, All-head, All-nil, All-tail}
+use Rattle.bdb_mkleaves.proofs.Common.{list_any_none, take_while-cons, BytesKey, File, Item, StoredPair, ascends, ascends_from, data_of, groups, has_unsorted, is_out_of_order, is_unsorted, less}
+use Rattle.bdb_mkleaves.proofs.Common.{listed_entry, listed_pair, live_data, neighbours, neighbours_from, Follow, FollowFrom, Follows, entry_unit, group_unit, keyed_units, listed_keyed, listed_record}
 
 abbrev pub Group : Type 0
 Group = StoredPair × List StoredPair
@@ -115,8 +107,7 @@ follow_more key last (pair ∷ more) rest is share each after =
 
 follow_run : (run : Group) (rest : List StoredPair) → IsRun run → ((pair : StoredPair) → pair.key ≡ run.0.key → FollowFrom pair rest)
     → FollowFrom run.0 (run.1 ++ rest)
-follow_run run rest this after =
-    follow_more run.0.key run.0 run.1 rest refl this.share (All-tail (HasKey run.0.key) run.0 run.1 this.each) after
+follow_run run rest this after = follow_more run.0.key run.0 run.1 rest refl this.share (All-tail (HasKey run.0.key) run.0 run.1 this.each) after
 
 follow_after : (runs : List Group) (key : List ℕ) → All IsRun runs → ascends_from key (keys_of runs) ≡ true
     → (pair : StoredPair) → pair.key ≡ key → FollowFrom pair (flat_map all_of_group runs)
@@ -175,8 +166,7 @@ ascends_end (x ∷ xs) ys ascend = ascends_end xs ys (ascends_later x (xs ++ ys)
 
 live_data_are : (g : File) (key : List ℕ) (pairs : List StoredPair) → All (HasKey key) pairs → flat_map (live_data g) pairs ≡ data_in g pairs
 live_data_are g key [] all = refl
-live_data_are g key (pair ∷ pairs) all =
-    rw ((All-head (HasKey key) pair pairs all).live, live_data_are g key pairs (All-tail (HasKey key) pair pairs all)) refl
+live_data_are g key (pair ∷ pairs) all = rw ((All-head (HasKey key) pair pairs all).live, live_data_are g key pairs (All-tail (HasKey key) pair pairs all)) refl
 
 sorted_here : (g : File) (key : List ℕ) (pair : StoredPair) (more rest : List StoredPair) (p : ℕ) → All Shares more → All (HasKey key) (pair ∷ more)
     → BeginsOwn rest → ascends (data_in g (pair ∷ more)) ≡ true

@@ -9,9 +9,9 @@ use bdb_pack::Pages;
 use std::alloc::{AllocError, Global};
 
 impl Leaves {
-    /// Lays the levels over the leaves so that the root stands where the first leaf stood, and answers it: of several leaves the
-    /// first is moved behind all pages. Items over the leaves say how many pairs or entries these have, where that is counted,
-    /// and else 0. An error means that memory ran out.
+    /// Lays the levels over the leaves so that the root stands where the first leaf stood, and answers it: of several leaves the first is
+    /// moved behind all pages. Items over the leaves say how many pairs or entries these have, where that is counted, and else 0. An error
+    /// means that memory ran out, that there would be more than 2^21 pages, or that a sum of counts doesn't fit its field.
     pub fn finish(
         mut self,
         alloc: Global,

@@ -24,7 +24,7 @@ pub struct Leaves {
 }
 
 impl Leaves {
-    /// One leaf without entries, behind all pages. An error means that memory ran out.
+    /// One leaf without entries, behind all pages. An error means that memory ran out, or that there would be more than 2^21 pages.
     pub fn start(
         alloc: Global,
         pages: &mut Pages,

@@ -48,8 +48,8 @@ fn fill_set(
     Ok(leaves)
 }
 
-/// Builds the tree of a key's data, behind all pages, and answers its root. With `sorted` the data ascend, and the items over the
-/// leaves have the first datum of each. An error means that memory ran out.
+/// Builds the tree of a key's data, behind all pages, and answers its root. With `sorted` the data ascend, and the items over the leaves have the
+/// first datum of each. An error means that memory ran out, that there would be more than 2^21 pages, or that a sum of counts doesn't fit its field.
 pub fn build_set(
     alloc: Global,
     pages: &mut Pages,
@@ -96,8 +96,8 @@ impl Leaves {
 }
 
 impl Leaves {
-    /// Puts a key with its data, one at least, after those that are there: on one leaf whole, or in a tree of their own,
-    /// which is sorted where that is asked. An error means that memory ran out.
+    /// Puts a key with its data, one at least, after those that are there: on one leaf whole, or in a tree of their own, which is sorted where that
+    /// is asked. An error means that memory ran out, that there would be more than 2^21 pages, or that a sum of counts doesn't fit its field.
     pub fn push_keyed(
         &mut self,
         alloc: Global,

@@ -11,8 +11,8 @@ use bdb_pack::Pages;
 use std::alloc::AllocError;
 
 impl Leaves {
-    /// Puts a record, or a datum of a set, after those that are there. A deleted one has no bytes. An error means
-    /// that memory ran out.
+    /// Puts a record, or a datum of a set, after those that are there. A deleted one has no bytes. An error
+    /// means that memory ran out, or that there would be more than 2^21 pages.
     pub fn push_entry(
         &mut self,
         pages: &mut Pages,

@@ -1,17 +1,7 @@
 -- What is promised of a queue that was built.
-use Rattle.std.proofs.Common.{◌≡◌, ℕ, ◌+◌, ◌-◌, ◌^◌, ◌<◌, ◌≤◌, Bool, false, cond, List, [], ◌∷◌, length, Option, Some, None, arith, refl, sym, ◌∙◌, ap, subst}
-use Rattle.std.proofs.Common.{◌||◌, All}
-use Rattle.std.proofs.Math.Nat.{div-le_self}
-use Rattle.std.proofs.lemmas.Bool.{eq-eqb, le-ltb, ne_eqb}
-use Rattle.bdb_text_format.specs.of_format.declared.metadata.QueueMeta.{QueueMeta}
-use Rattle.bdb_text_format.specs.of_format.declared.settings.Settings.{Settings}
-use Rattle.bdb_text_format.specs.of_format.Terms.{first_row, queue_code, queue_rows}
-use Rattle.bdb_text_format.specs.declared.pairs.Pair.{Pair}
-use Rattle.bdb_text_format.specs.Terms.{AscendFrom}
-use Rattle.bdb_law_join.specs.of_pack.Built.{Built}
-use Rattle.bdb_mkqueue.specs.Building.{HasRoom, IsQueueBuilt, IsQueueOn, KeepsFirst, SaysQueue}
-use Rattle.bdb_mkqueue.specs.Layout.{queue_meta, queue_size, slots_of}
-use Rattle.bdb_mkqueue.specs.Lists.{HasLength, HasNext, IsQueueList, first_number, next_number}
+use Rattle.std.proofs.Common.{◌≡◌, ℕ, ◌+◌, ◌-◌, ◌^◌, ◌<◌, ◌≤◌, Bool, false, cond, List, [], ◌∷◌, length, Option, Some, None, arith, refl, sym, ◌∙◌, ap, subst, ◌||◌, All}
+use Rattle.bdb_mkqueue.proofs.Common.{div-le_self, eq-eqb, le-ltb, ne_eqb, QueueMeta, Settings, first_row, queue_code, queue_rows, Pair, AscendFrom, Built, HasRoom, IsQueueBuilt, IsQueueOn}
+use Rattle.bdb_mkqueue.proofs.Common.{KeepsFirst, SaysQueue, queue_meta, queue_size, slots_of, HasLength, HasNext, IsQueueList, first_number, next_number}
 use Rattle.bdb_mkqueue.proofs.LastLemmas.{next_last}
 use Rattle.bdb_mkqueue.proofs.ListLemmas.{SaysList, queue_listed}
 use Rattle.bdb_mkqueue.proofs.PageLemmas.{page_formed}

@@ -1,16 +1,7 @@
 -- The file of a queue, as a caller of `Pages` makes it: the queue is built behind a zero page, and its metadata written over that.
 use Rattle.std.proofs.Common.{◌≡◌, ℕ, ◌-◌, ◌^◌, ◌<◌, ◌≤◌, true, List, [], length, arith, sym, ◌∙◌, ap, subst}
-use Rattle.bdb_text_format.specs.of_format.declared.metadata.QueueMeta.{QueueMeta}
-use Rattle.bdb_text_format.specs.of_format.declared.settings.Settings.{Settings}
-use Rattle.bdb_text_format.specs.of_format.Terms.{is_page_size, is_zero, queue_bytes, queue_fields}
-use Rattle.bdb_text_format.proofs.of_format.SizeLemmas.{size_bounds}
-use Rattle.bdb_text_format.specs.declared.pairs.Pair.{Pair}
-use Rattle.bdb_law_join.specs.of_pack.Built.{AreWhole, Built, bytes_of, joined_pages, with_zeros, written_over}
-use Rattle.bdb_law_join.proofs.of_pack.AddedLemmas.{added_zero}
-use Rattle.bdb_law_join.proofs.of_pack.CutLemmas.{written_whole}
-use Rattle.bdb_mkqueue.specs.Building.{IsQueueBuilt, KeepsFirst}
-use Rattle.bdb_mkqueue.specs.Layout.{queue_meta}
-use Rattle.bdb_mkqueue.specs.Written.{IsSoundQueueOf, IsWrittenQueue}
+use Rattle.bdb_mkqueue.proofs.Common.{QueueMeta, Settings, is_page_size, is_zero, queue_bytes, queue_fields, size_bounds, Pair, AreWhole, Built, bytes_of, joined_pages, with_zeros, written_over}
+use Rattle.bdb_mkqueue.proofs.Common.{added_zero, written_whole, IsQueueBuilt, KeepsFirst, queue_meta, IsSoundQueueOf, IsWrittenQueue}
 use Rattle.bdb_mkqueue.proofs.WrittenLemmas.{length-queue, written_queues_are_sound}
 
 -- the page that is kept for the metadata is a zero page

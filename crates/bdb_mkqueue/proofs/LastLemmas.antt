@@ -1,12 +1,8 @@
 -- The last record of a list.
 use Rattle.std.proofs.Common.{◌≡◌, ℕ, ◌+◌, ◌-◌, ◌<◌, List, [], ◌∷◌, length, get_or, Some, None, arith, refl, sym, ◌∙◌, ap, slice_get}
-use Rattle.std.proofs.lemmas.List.{get_or-map, length-map}
+use Rattle.bdb_mkqueue.proofs.Common.{get_or-map, length-map, number_of, unlined, unlined_pairs, Pair, Key, first_number, next_number}
 use Rattle.std.proofs.lemmas.Option.{get_or_from_slice_get, slice_get-get_or, slice_get_within}
-use Rattle.bdb_text_format.specs.Terms.{number_of, unlined, unlined_pairs}
-use Rattle.bdb_text_format.specs.declared.pairs.Pair.{Pair}
-use Rattle.bdb_text_format.specs.declared.pairs.Key.{Key}
 use Rattle.bdb_text_format.specs.declared.pairs.TextPair.{TextPair}
-use Rattle.bdb_mkqueue.specs.Lists.{first_number, next_number}
 use Rattle.bdb_mkqueue.proofs.StepLemmas.{no_pair, pair_at}
 
 next_of : (x : Pair) (xs : List Pair) → next_number (number_of x.key + 1) xs ≡ number_of (pair_at (x ∷ xs) (length xs)).key + 1

@@ -1,26 +1,11 @@
 -- The list of a queue that was built.
 use Rattle.std.proofs.Common.{◌≡◌, ℕ, zero, suc, ◌+◌, ◌-◌, ◌*◌, ◌^◌, ◌<◌, ◌≤◌, Bool, true, false, cond, List, [], ◌∷◌, ◌++◌, length, map, drop, get_or, Option}
 use Rattle.std.proofs.Common.{Some, None, append_assoc, arith, refl, sym, ◌∙◌, ap, inl, inr, ◌&&◌, ◌||◌, is_some, nat_le, nat_lt, slice_range, slice_index}
-use Rattle.std.specs.List.{flat_map, list_any, range_with_len}
-use Rattle.std.proofs.lemmas.Bool.{cases_Bool, cases_eq, cases_lt, le-leb, lt-ltb}
+use Rattle.bdb_mkqueue.proofs.Common.{flat_map, list_any, range_with_len, cases_Bool, cases_eq, cases_lt, le-leb, lt-ltb, append-nil, get_or-map-range_with_len, length-map-range_with_len, Order}
+use Rattle.bdb_mkqueue.proofs.Common.{QueueMeta, File, ListKey, NumberKey, QueueFields, abstract_page, has_bit, is_record, list_of, listed_slot, pad4, page_at, page_records, queue_list, record_number}
+use Rattle.bdb_mkqueue.proofs.Common.{slot_at, zeros, range_more, range_parts, byte_at-in, slice_range-in, AscendFrom, listed, listed_key, number_of, Pair, Key, Bytes, Number, Built, suc-times}
+use Rattle.bdb_mkqueue.proofs.Common.{HasPages, HasRoom, IsQueueOn, page_of_record, queue_page, queue_size, record_of, records_page, slot_bytes, slot_of, slots_of, first_number, next_number}
 use Rattle.std.proofs.lemmas.Grind.{flat_map-append}
-use Rattle.std.proofs.lemmas.List.{append-nil}
-use Rattle.std.proofs.lemmas.List.FromFn.{get_or-map-range_with_len, length-map-range_with_len}
-use Rattle.bdb_text_format.specs.of_format.declared.kinds.Order.{Order}
-use Rattle.bdb_text_format.specs.of_format.declared.metadata.QueueMeta.{QueueMeta}
-use Rattle.bdb_text_format.specs.of_format.Terms.{File, ListKey, NumberKey, QueueFields, abstract_page, has_bit, is_record, list_of, listed_slot, pad4}
-use Rattle.bdb_text_format.specs.of_format.Terms.{page_at, page_records, queue_list, record_number, slot_at, zeros}
-use Rattle.bdb_text_format.proofs.of_format.ListLemmas.{range_more, range_parts}
-use Rattle.bdb_text_format.proofs.of_format.SpellingLemmas.{byte_at-in, slice_range-in}
-use Rattle.bdb_text_format.specs.Terms.{AscendFrom, listed, listed_key, number_of}
-use Rattle.bdb_text_format.specs.declared.pairs.Pair.{Pair}
-use Rattle.bdb_text_format.specs.declared.pairs.Key.{Key}
-use Rattle.bdb_text_format.specs.declared.pairs.Key.TheVariants.{Bytes, Number}
-use Rattle.bdb_law_join.specs.of_pack.Built.{Built}
-use Rattle.bdb_law_join.proofs.of_pack.CutLemmas.{suc-times}
-use Rattle.bdb_mkqueue.specs.Building.{HasPages, HasRoom, IsQueueOn}
-use Rattle.bdb_mkqueue.specs.Layout.{page_of_record, queue_page, queue_size, record_of, records_page, slot_bytes, slot_of, slots_of}
-use Rattle.bdb_mkqueue.specs.Lists.{first_number, next_number}
 use Rattle.bdb_mkqueue.proofs.NumberLemmas.{place_of, slot_low}
 use Rattle.bdb_mkqueue.proofs.PageLemmas.{AllFit, FitsSlot, OnPage, from_slot, records_stand, tail_of, zeros_stand}
 use Rattle.bdb_mkqueue.proofs.RecordLemmas.{next_low, none_below, none_past, record_first, record_other}

@@ -1,8 +1,7 @@
 -- The pages and slots of records.
 use Rattle.std.proofs.Common.{◌≡◌, ℕ, ◌+◌, ◌-◌, ◌*◌, ◌<◌, ◌≤◌, arith}
-use Rattle.std.proofs.Math.Nat.{div-mul-le_self}
+use Rattle.bdb_mkqueue.proofs.Common.{div-mul-le_self, page_of_record, slot_of}
 use Rattle.std.proofs.lemmas.Nat.{div-add-mod', div-mul-add, le-div, mod_below}
-use Rattle.bdb_mkqueue.specs.Layout.{page_of_record, slot_of}
 
 -- a record stands in its slot of its page
 pub place_of : (k n : ℕ) → 1 ≤ n → (page_of_record k n - 1) * k + 1 + slot_of k n ≡ n

@@ -1,22 +1,13 @@
 -- The bytes of a page of records.
 use Rattle.std.proofs.Common.{◌≡◌, ℕ, zero, suc, ◌+◌, ◌-◌, ◌*◌, ◌^◌, ◌<◌, ◌≤◌, Bool, true, false, cond, List, [], ◌∷◌, ◌++◌, length, drop, set, get_or, Option}
 use Rattle.std.proofs.Common.{Some, None, arith, append_assoc, refl, sym, ◌∙◌, ap, length-append, is_some}
-use Rattle.std.specs.List.{flat_map, list_any}
+use Rattle.bdb_mkqueue.proofs.Common.{flat_map, list_any, eq-eqb, length-replicate, length-set, replicate-append-replicate, Order, Queue, Zero, abstract_page, byte_at, first_row, four_at}
+use Rattle.bdb_mkqueue.proofs.Common.{header_bytes, header_of, identity_rows, is_queue_type, is_zero, overwritten, pad4, page_type, queue_code, zeros, code_by, zeros_are, suc-times, header_read}
+use Rattle.bdb_mkqueue.proofs.Common.{length-header, queue_page, records_header, records_page, slot_bytes, none_by}
 use Rattle.std.proofs.Math.Seq.{drop-append-add, drop-append_seam, take-append-add}
-use Rattle.std.proofs.lemmas.Bool.{eq-eqb}
-use Rattle.std.proofs.lemmas.List.{length-replicate, length-set, replicate-append-replicate}
 use Rattle.std.proofs.lemmas.List.Folds.{list_all_at}
-use Rattle.bdb_text_format.specs.of_format.declared.kinds.Order.{Order}
 use Rattle.bdb_text_format.specs.of_format.declared.pages.Header.{Header}
-use Rattle.bdb_text_format.specs.of_format.Terms.{Queue, Zero, abstract_page, byte_at, first_row, four_at, header_bytes, header_of, identity_rows}
-use Rattle.bdb_text_format.specs.of_format.Terms.{is_queue_type, is_zero, overwritten, pad4, page_type, queue_code, zeros}
 use Rattle.bdb_text_format.proofs.of_format.GraphLemmas.{typed_page, zero_page}
-use Rattle.bdb_law_join.proofs.of_image.CodeLemmas.{code_by}
-use Rattle.bdb_law_join.proofs.of_pack.AddedLemmas.{zeros_are}
-use Rattle.bdb_law_join.proofs.of_pack.CutLemmas.{suc-times}
-use Rattle.bdb_law_join.proofs.of_pack.HeaderLemmas.{header_read, length-header}
-use Rattle.bdb_mkqueue.specs.Layout.{queue_page, records_header, records_page, slot_bytes}
-use Rattle.bdb_law_join.proofs.HeadLemmas.{none_by}
 
 -- Slots.
 

@@ -1,11 +1,6 @@
 -- The records of a list that grows.
-use Rattle.std.proofs.Common.{◌≡◌, ℕ, ◌+◌, ◌-◌, ◌<◌, ◌≤◌, Bool, true, false, cond, List, [], ◌∷◌, ◌++◌, Option, Some, None, arith, refl, sym, ◌∙◌, ap, inl, inr}
-use Rattle.std.proofs.Common.{◌==◌, is_some}
-use Rattle.std.proofs.lemmas.Bool.{cases_Bool, eq-eqb, ne_eqb}
-use Rattle.bdb_text_format.specs.declared.pairs.Pair.{Pair}
-use Rattle.bdb_text_format.specs.Terms.{AscendFrom, number_of}
-use Rattle.bdb_mkqueue.specs.Layout.{record_of}
-use Rattle.bdb_mkqueue.specs.Lists.{next_number}
+use Rattle.std.proofs.Common.{◌≡◌, ℕ, ◌+◌, ◌-◌, ◌<◌, ◌≤◌, Bool, true, false, cond, List, [], ◌∷◌, ◌++◌, Option, Some, None, arith, refl, sym, ◌∙◌, ap, inl, inr, ◌==◌, is_some}
+use Rattle.bdb_mkqueue.proofs.Common.{cases_Bool, eq-eqb, ne_eqb, Pair, AscendFrom, number_of, record_of, next_number}
 
 -- numbers that ascend, cut in two
 pub ascend_both : (least : ℕ) (xs ys : List Pair) → AscendFrom least (xs ++ ys) → AscendFrom least xs × AscendFrom (next_number least xs) ys

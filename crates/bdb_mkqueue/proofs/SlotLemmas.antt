@@ -1,15 +1,8 @@
 -- The slots of a page, while a list grows.
-use Rattle.std.proofs.Common.{◌≡◌, ℕ, zero, suc, ◌+◌, ◌-◌, ◌*◌, ◌<◌, ◌≤◌, true, false, List, [], ◌∷◌, ◌++◌, map, set, Some, None, arith, refl, sym, ◌∙◌, ap}
-use Rattle.std.proofs.Common.{inl, inr, is_some}
-use Rattle.std.specs.List.{list_any, range_with_len}
-use Rattle.std.proofs.lemmas.Bool.{cases_lt}
-use Rattle.bdb_text_format.proofs.of_format.ListLemmas.{passes_here}
+use Rattle.std.proofs.Common.{◌≡◌, ℕ, zero, suc, ◌+◌, ◌-◌, ◌*◌, ◌<◌, ◌≤◌, true, false, List, [], ◌∷◌, ◌++◌, map, set, Some, None, arith, refl, sym, ◌∙◌, ap, inl, inr, is_some}
+use Rattle.bdb_mkqueue.proofs.Common.{list_any, range_with_len, cases_lt, passes_here, Pair, AscendFrom, number_of, page_of_record, queue_size, record_of, slot_of, slots_of, next_number}
 use Rattle.bdb_text_format.proofs.of_format.MemberLemmas.{in_map, in_range, none_pass, of_map, of_range}
-use Rattle.bdb_text_format.specs.declared.pairs.Pair.{Pair}
-use Rattle.bdb_text_format.specs.Terms.{AscendFrom, number_of}
 use Rattle.bdb_law_join.proofs.of_pack.StandingLemmas.{map_same}
-use Rattle.bdb_mkqueue.specs.Layout.{page_of_record, queue_size, record_of, slot_of, slots_of}
-use Rattle.bdb_mkqueue.specs.Lists.{next_number}
 use Rattle.bdb_mkqueue.proofs.NumberLemmas.{page_here, page_rises, place_of, slot_low}
 use Rattle.bdb_mkqueue.proofs.RecordLemmas.{last_there, next-append, next_low, none_past, record_last, record_more}
 

@@ -1,26 +1,12 @@
 -- A record that is put behind those of a queue.
 use Rattle.std.proofs.Common.{◌≡◌, ℕ, ◌+◌, ◌-◌, ◌*◌, ◌<◌, ◌≤◌, Bool, true, false, cond, List, [], ◌∷◌, ◌++◌, length, take, drop, set, get_or, replicate, Option}
 use Rattle.std.proofs.Common.{Some, None, arith, refl, sym, ◌∙◌, ap, subst, inl, inr, length-append, is_some, nat_lt}
-use Rattle.std.specs.List.{All, list_any}
-use Rattle.std.proofs.Math.Nat.{mul-le-mul_right}
-use Rattle.std.proofs.lemmas.Bool.{cases_eq, cases_lt, le-ltb, lt-ltb}
-use Rattle.std.proofs.lemmas.List.{get_or-append_right, get_or-replicate, get_or-set_other, get_or-set_same, get_or_append_left}
-use Rattle.std.proofs.lemmas.List.{length-replicate, length-set, take-append-drop, take_more}
+use Rattle.bdb_mkqueue.proofs.Common.{All, list_any, mul-le-mul_right, cases_eq, cases_lt, le-ltb, lt-ltb, get_or-append_right, get_or-replicate, get_or-set_other, get_or-set_same, get_or_append_left}
+use Rattle.bdb_mkqueue.proofs.Common.{length-replicate, length-set, take-append-drop, take_more, get_or-map-range_with_len, length-map-range_with_len, Order, QueueMeta, header_bytes, overwritten}
+use Rattle.bdb_mkqueue.proofs.Common.{pad4, zeros, length-overwritten, Pair, Number, AscendFrom, number_of, AreWhole, Built, bytes_of, with_page, written_over, suc-times, written_whole, length-header}
+use Rattle.bdb_mkqueue.proofs.Common.{HasRoom, IsQueueOn, KeepsFirst, reached, with_header, with_more, with_record, page_of_record, queue_page, queue_size, record_of, records_header, records_page}
+use Rattle.bdb_mkqueue.proofs.Common.{slot_of, slots_of, HasLength, next_number}
 use Rattle.std.proofs.lemmas.List.Elements.{All-tail, All-take}
-use Rattle.std.proofs.lemmas.List.FromFn.{get_or-map-range_with_len, length-map-range_with_len}
-use Rattle.bdb_text_format.specs.of_format.declared.kinds.Order.{Order}
-use Rattle.bdb_text_format.specs.of_format.declared.metadata.QueueMeta.{QueueMeta}
-use Rattle.bdb_text_format.specs.of_format.Terms.{header_bytes, overwritten, pad4, zeros}
-use Rattle.bdb_text_format.proofs.of_format.SpellingLemmas.{length-overwritten}
-use Rattle.bdb_text_format.specs.declared.pairs.Pair.{Pair}
-use Rattle.bdb_text_format.specs.declared.pairs.Key.TheVariants.{Number}
-use Rattle.bdb_text_format.specs.Terms.{AscendFrom, number_of}
-use Rattle.bdb_law_join.specs.of_pack.Built.{AreWhole, Built, bytes_of, with_page, written_over}
-use Rattle.bdb_law_join.proofs.of_pack.CutLemmas.{suc-times, written_whole}
-use Rattle.bdb_law_join.proofs.of_pack.HeaderLemmas.{length-header}
-use Rattle.bdb_mkqueue.specs.Building.{HasRoom, IsQueueOn, KeepsFirst, reached, with_header, with_more, with_record}
-use Rattle.bdb_mkqueue.specs.Layout.{page_of_record, queue_page, queue_size, record_of, records_header, records_page, slot_of, slots_of}
-use Rattle.bdb_mkqueue.specs.Lists.{HasLength, next_number}
 use Rattle.bdb_mkqueue.proofs.ListLemmas.{slots_on}
 use Rattle.bdb_mkqueue.proofs.NumberLemmas.{place_of, slot_low}
 use Rattle.bdb_mkqueue.proofs.PageLemmas.{page_begun, record_written}

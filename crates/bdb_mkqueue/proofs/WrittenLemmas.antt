@@ -1,33 +1,21 @@
 -- A queue under metadata that is written over page 0.
-use Rattle.std.proofs.Common.{◌≡◌, ℕ, zero, suc, ◌+◌, ◌-◌, ◌*◌, ◌<◌, ◌≤◌, List, [], ◌∷◌, ◌++◌, length, set, None}
-use Rattle.std.proofs.Common.{append_assoc, arith, refl, sym, ◌∙◌, ap, subst, length-append}
-use Rattle.std.proofs.lemmas.Bool.{eq-eqb}
-use Rattle.std.proofs.lemmas.List.{append-nil, get_or-set_same, length-replicate, length-set, replicate-append-replicate}
-use Rattle.bdb_text_format.specs.of_format.declared.kinds.Order.{Order}
+use Rattle.std.proofs.Common.{◌≡◌, ℕ, zero, suc, ◌+◌, ◌-◌, ◌*◌, ◌<◌, ◌≤◌, List, [], ◌∷◌, ◌++◌, length, set, None, append_assoc, arith, refl, sym, ◌∙◌, ap, subst, length-append}
+use Rattle.bdb_mkqueue.proofs.Common.{eq-eqb, append-nil, get_or-set_same, length-replicate, length-set, replicate-append-replicate, Order, QueueMeta, Database, Meta, QueueFields, abstract_page}
+use Rattle.bdb_mkqueue.proofs.Common.{common_bytes, faults_in, file_of, first_row, form_code, four_at, head_of, head_rows, is_page_size, metadata_rows, or_else, page_at, page_bytes, queue_bytes}
+use Rattle.bdb_mkqueue.proofs.Common.{queue_rows, spelled, tail_faults, zeros, length-spelled, number_at-in, size_bounds, first_page_code, form_queue, AreWhole, Built, bytes_of, joined_pages}
+use Rattle.bdb_mkqueue.proofs.Common.{with_page, all_size, page_whole, IsImage, first_of_none, head_accepted, image_head, HasPages, SaysQueue, IsWrittenQueue, WrittenQueuesAreSound}
 use Rattle.bdb_text_format.specs.of_format.declared.metadata.FileKind.TheVariants.{Queue}
 use Rattle.bdb_text_format.specs.of_format.declared.metadata.Head.{Head}
-use Rattle.bdb_text_format.specs.of_format.declared.metadata.QueueMeta.{QueueMeta}
-use Rattle.bdb_text_format.specs.of_format.Terms.{Database, Meta, QueueFields, abstract_page, common_bytes, faults_in, file_of, first_row, form_code, four_at}
-use Rattle.bdb_text_format.specs.of_format.Terms.{head_of, head_rows, is_page_size, metadata_rows, or_else, page_at, page_bytes, queue_bytes, queue_rows}
-use Rattle.bdb_text_format.specs.of_format.Terms.{spelled, tail_faults, zeros}
-use Rattle.bdb_text_format.proofs.of_format.SpellingLemmas.{length-spelled, number_at-in}
 use Rattle.bdb_text_format.proofs.of_format.VerdictLemmas.{none_in, none_is_first_row}
 use Rattle.bdb_text_format.proofs.of_format.FileLemmas.{kind_is, last_page, page_is}
-use Rattle.bdb_text_format.proofs.of_format.SizeLemmas.{size_bounds}
-use Rattle.bdb_law_join.proofs.of_image.CodeLemmas.{first_page_code, form_queue}
 use Rattle.bdb_law_join.proofs.of_image.MetaLemmas.{queue_page}
 use Rattle.bdb_law_join.proofs.of_meta.CommonLemmas.{length-common}
 use Rattle.bdb_law_join.proofs.of_meta.FilledLemmas.{zeros-spelled}
-use Rattle.bdb_law_join.specs.of_pack.Built.{AreWhole, Built, bytes_of, joined_pages, with_page}
-use Rattle.bdb_law_join.proofs.of_pack.CutLemmas.{all_size, page_whole}
 use Rattle.bdb_law_join.specs.Queues.{IsSoundQueue}
 use Rattle.bdb_law_join.proofs.CommonLemmas.{ReadsAs, reads_common}
-use Rattle.bdb_law_join.proofs.HeadLemmas.{IsImage, first_of_none, head_accepted, image_head}
 use Rattle.bdb_law_join.proofs.QueueLemmas.{queues_are_sound}
 use Rattle.bdb_law_join.proofs.ReadLemmas.{page_read}
 use Rattle.bdb_law_join.proofs.StageLemmas.{form_none, head_none, tail_none}
-use Rattle.bdb_mkqueue.specs.Building.{HasPages, SaysQueue}
-use Rattle.bdb_mkqueue.specs.Written.{IsWrittenQueue, WrittenQueuesAreSound}
 use Rattle.bdb_law_join.proofs.WrittenLemmas.{above_stay as later_page}
 
 -- The page of metadata.
@@ -101,8 +89,7 @@ begins (first ∷ pages) page some = (joined_pages pages, refl)
 
 after_whole : (built : Built) (page : List ℕ) (meta : QueueMeta) (image : List ℕ) → IsWrittenQueue built page meta image
     → AreWhole (with_page built 0 page)
-after_whole built page meta image is =
-    page_whole built 0 page is.pages.whole (omega (arith, is.pages.some)) (page_long built page meta image is)
+after_whole built page meta image is = page_whole built 0 page is.pages.whole (omega (arith, is.pages.some)) (page_long built page meta image is)
 
 says_head : (built : Built) (page : List ℕ) (meta : QueueMeta) (image : List ℕ) → IsWrittenQueue built page meta image
     → IsImage (head_for built) image

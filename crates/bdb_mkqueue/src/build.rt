@@ -126,8 +126,8 @@ fn queue_meta(page_size: usize, settings: &Settings, list: PairSlice<'_>) -> Que
     }
 }
 
-/// Builds the queue of a list behind a page that is kept for its metadata, and answers that. The page size and the order of the settings are
-/// those of the pages. It is also refused where the page of a record would be one of 2^21 or above.
+/// Builds the queue of a list behind a page that is kept for its metadata, and answers that. The page size and the order of the settings
+/// are those of the pages. An error means that memory ran out, or that the page of a record would be one of 2^21 or above.
 pub fn build_queue(
     pages: &mut Pages,
     settings: &Settings,

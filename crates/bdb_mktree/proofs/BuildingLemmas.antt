@@ -1,40 +1,18 @@
 -- Trees that are being built: the units that are read from their leaves, and one more.
-use Rattle.std.proofs.Common.{Bool, ◌≡◌, ℕ, ◌+◌, ◌<◌, ◌≤◌, true, false, List, [], ◌∷◌, ◌++◌, length, map, arith, refl, sym, ◌∙◌, ap, subst, inl, inr}
-use Rattle.std.proofs.Common.{length-append, ◌⊎◌, All, flat_map}
-use Rattle.std.proofs.lemmas.List.{append_assoc, map-append}
-use Rattle.std.proofs.lemmas.List.Elements.{All-head, All-nil, All-push, All-tail, Contains-append_right}
+use Rattle.std.proofs.Common.{Bool, ◌≡◌, ℕ, ◌+◌, ◌<◌, ◌≤◌, true, false, List, [], ◌∷◌, ◌++◌, length, map, arith, refl, sym, ◌∙◌, ap, subst, inl, inr, length-append, ◌⊎◌, All, flat_map}
+use Rattle.bdb_mktree.proofs.Common.{append_assoc, map-append, All-head, All-nil, All-push, All-tail, Contains-append_right, Kind, Settings, File, is_page_size, map_joined, IsLater, Built}
+use Rattle.bdb_mktree.proofs.Common.{file_so_far, AreFilled, IsPushed, rest_of, AreLaid, KeepsBefore, KeepsOthers, LeavesFrom, first_of, has_room, first_leaf, numbers_of, placed_on, HoldsUnits}
+use Rattle.bdb_mktree.proofs.Common.{LeafUnits, Placed, PlacedEntry, PlacedPairs, PlacedTree, StandsPlaced, entries_of, has_wrong_root, pages_of, unit_of, IsKeyedPushed, EntryUnit, TreeUnit}
+use Rattle.bdb_mktree.proofs.Common.{unit_cost, units_on, LeafType, Leaves, begun_leaves_are_counted, pushed_units_are_counted, all_joined, laid_leaves, all_units, is_one, Building, all_placed}
+use Rattle.bdb_mktree.proofs.Common.{units_of, IsNext, IsTreeKind, KeysAscend, Suits, leaf_type_of, TreeBuilder}
 use Rattle.bdb_mkleaves.proofs.of_pack.ImageLemmas.{counted_so_far, page_so_far}
-use Rattle.bdb_text_format.specs.of_format.declared.kinds.Kind.{Kind}
-use Rattle.bdb_text_format.specs.of_format.declared.settings.Settings.{Settings}
-use Rattle.bdb_text_format.specs.of_format.Terms.{File, is_page_size}
 use Rattle.bdb_text_format.proofs.of_format.MemberLemmas.{first_member}
-use Rattle.bdb_text_format.proofs.of_format.ListLemmas.{map_joined}
-use Rattle.bdb_mkleaves.specs.of_law_grove.Growing.{IsLater}
-use Rattle.bdb_mkleaves.specs.of_pack.Built.{Built, file_so_far}
 use Rattle.bdb_mkleaves.specs.Counted.{AreCounted, CountedNow}
-use Rattle.bdb_mkleaves.specs.Filled.{AreFilled, IsPushed, rest_of}
-use Rattle.bdb_mkleaves.specs.Laid.{AreLaid}
-use Rattle.bdb_mkleaves.specs.Leaves.{KeepsBefore, KeepsOthers, LeavesFrom, first_of, has_room}
-use Rattle.bdb_mkleaves.specs.Moved.{first_leaf, numbers_of}
-use Rattle.bdb_mkleaves.specs.Rooted.{placed_on}
-use Rattle.bdb_mkleaves.specs.Placed.{HoldsUnits, LeafUnits, Placed, PlacedEntry, PlacedPairs, PlacedTree, StandsPlaced, entries_of, has_wrong_root, pages_of}
-use Rattle.bdb_mkleaves.specs.Placed.{unit_of}
-use Rattle.bdb_mkleaves.specs.Sets.{IsKeyedPushed}
-use Rattle.bdb_mkleaves.specs.Units.{EntryUnit, TreeUnit, unit_cost, units_on}
-use Rattle.bdb_mkleaves.specs.declared.leaf_type.LeafType.{LeafType}
-use Rattle.bdb_mkleaves.specs.declared.leaves.Leaves.{Leaves}
-use Rattle.bdb_mkleaves.proofs.CountedLaws.{begun_leaves_are_counted, pushed_units_are_counted}
 use Rattle.bdb_mkleaves.proofs.FilledLemmas.{later_self}
 use Rattle.bdb_mkleaves.proofs.NumberedLemmas.{AreNumbered, are_numbered}
-use Rattle.bdb_mkleaves.proofs.GrownLemmas.{all_joined, laid_leaves}
 use Rattle.bdb_mkleaves.proofs.LaidLemmas.{hold_units}
 use Rattle.bdb_mkleaves.proofs.MovedLemmas.{any_order}
-use Rattle.bdb_mkleaves.proofs.NodesLemmas.{all_units}
 use Rattle.bdb_mkleaves.proofs.PlacedLaws.{units_are_read}
-use Rattle.bdb_mkleaves.proofs.RestLemmas.{is_one}
-use Rattle.bdb_mktree.specs.Building.{Building, all_placed, units_of}
-use Rattle.bdb_mktree.specs.Units.{IsNext, IsTreeKind, KeysAscend, Suits, leaf_type_of}
-use Rattle.bdb_mktree.specs.declared.builder.TreeBuilder.{TreeBuilder}
 
 -- The units that are read.
 

@@ -1,47 +1,26 @@
 -- A tree that is finished is the part of its database.
 use Rattle.std.proofs.Common.{Bool, ◌≡◌, ℕ, ◌+◌, ◌≤◌, true, false, cond, List, [], ◌∷◌, ◌++◌, length, map, arith, refl, sym, ◌∙◌, ap, subst, inl, inr}
 use Rattle.std.proofs.Math.Path.{fun_ext}
-use Rattle.std.specs.List.{All, AllZip, flat_map}
-use Rattle.std.proofs.lemmas.Bool.{and_parts, cases_Bool, ltb-true}
-use Rattle.std.proofs.lemmas.List.Elements.{All-cons, All-head, All-nil, All-tail}
-use Rattle.bdb_text_format.specs.of_format.declared.kinds.Kind.{Kind}
-use Rattle.bdb_text_format.specs.of_format.declared.kinds.Kind.TheVariants.{Btree, Recno}
+use Rattle.bdb_mktree.proofs.Common.{All, AllZip, flat_map, and_parts, cases_Bool, ltb-true, All-cons, All-head, All-nil, All-tail, Kind, Btree, Recno, Settings, BtreeFields, File, ascends}
+use Rattle.bdb_mktree.proofs.Common.{btree_kind, counts_records, has_duplicates, is_fixed, is_recno, is_sorted, settings_of, map_joined, IsCounted, IsLater, Built, file_so_far, AreFilled, rest_of}
+use Rattle.bdb_mktree.proofs.Common.{HasFirstRoot, HasLaidTree, Counts, first_leaf, numbers_of, HasLength, IsAllowed, IsPlacedBySize, LeafUnits, Placed, PlacedEntry, PlacedPairs, PlacedTree}
+use Rattle.bdb_mktree.proofs.Common.{has_several, has_wrong_root, unit_of, values_in, CountsLeaves, key_of, list_of_units, LeafType, Leaves, finished_trees_have_size, all_joined, contents_held}
+use Rattle.bdb_mktree.proofs.Common.{all_units, rest_is, Building, IsTreeBuilt, all_placed, units_of, Suits, is_counted, leaf_type_of, TreeBuilder}
 use Rattle.bdb_text_format.specs.of_format.declared.kinds.Order.{Order}
 use Rattle.bdb_text_format.specs.of_format.declared.metadata.BtreeMeta.{BtreeMeta}
-use Rattle.bdb_text_format.specs.of_format.declared.settings.Settings.{Settings}
-use Rattle.bdb_text_format.specs.of_format.Terms.{BtreeFields, File, ascends, btree_kind, counts_records, has_duplicates, is_fixed, is_recno, is_sorted}
-use Rattle.bdb_text_format.specs.of_format.Terms.{settings_of}
-use Rattle.bdb_text_format.proofs.of_format.ListLemmas.{map_joined}
-use Rattle.bdb_mkleaves.specs.of_law_grove.Growing.{IsCounted, IsLater}
 use Rattle.bdb_mkleaves.specs.of_law_grove.Part.{IsPart, between}
 use Rattle.bdb_mkleaves.proofs.of_law_grove.ChainLemmas.{is_between}
-use Rattle.bdb_mkleaves.specs.of_pack.Built.{Built, file_so_far}
-use Rattle.bdb_mkleaves.specs.Filled.{AreFilled, rest_of}
-use Rattle.bdb_mkleaves.specs.Finished.{HasFirstRoot, HasLaidTree}
-use Rattle.bdb_mkleaves.specs.Laid.{Counts, Suits as SuitsTree}
+use Rattle.bdb_mkleaves.specs.Laid.{Suits as SuitsTree}
 use Rattle.bdb_mkleaves.specs.Layout.{HasTreeOn, HaveTreesOn, IsTreeOn, contents_below, placed_below}
-use Rattle.bdb_mkleaves.specs.Moved.{first_leaf, numbers_of}
-use Rattle.bdb_mkleaves.specs.Placed.{HasLength, IsAllowed, IsPlacedBySize, LeafUnits, Placed, PlacedEntry, PlacedPairs, PlacedTree, has_several}
-use Rattle.bdb_mkleaves.specs.Placed.{has_wrong_root, unit_of, units_in, values_in}
-use Rattle.bdb_mkleaves.specs.Rooted.{CountsLeaves}
+use Rattle.bdb_mkleaves.specs.Placed.{units_in}
 use Rattle.bdb_mkleaves.specs.Spread.{tree_size}
-use Rattle.bdb_mkleaves.specs.Units.{key_of, list_of_units}
-use Rattle.bdb_mkleaves.specs.declared.leaf_type.LeafType.{LeafType}
 use Rattle.bdb_mkleaves.specs.declared.leaf_type.LeafType.TheVariants.{Pairs, Records}
-use Rattle.bdb_mkleaves.specs.declared.leaves.Leaves.{Leaves}
-use Rattle.bdb_mkleaves.proofs.CountedLaws.{finished_trees_have_size}
 use Rattle.bdb_mkleaves.proofs.FinishedLaws.{finished_trees_keep_pages}
 use Rattle.bdb_mkleaves.proofs.GrownLaws.{first_roots_are_laid}
-use Rattle.bdb_mkleaves.proofs.GrownLemmas.{all_joined, contents_held}
 use Rattle.bdb_mkleaves.proofs.KeptLemmas.{finished_trees_are_formed, finished_trees_keep_older_pages}
 use Rattle.bdb_mkleaves.proofs.LaidPartLemmas.{laid_trees_are_parts}
 use Rattle.bdb_mkleaves.proofs.LayoutLemmas.{finished_trees_are_laid_out, finished_trees_keep_trees}
 use Rattle.bdb_mkleaves.proofs.LaterLemmas.{later_chain, later_fewer}
-use Rattle.bdb_mkleaves.proofs.NodesLemmas.{all_units}
-use Rattle.bdb_mkleaves.proofs.RestLemmas.{rest_is}
-use Rattle.bdb_mktree.specs.Building.{Building, IsTreeBuilt, all_placed, units_of}
-use Rattle.bdb_mktree.specs.Units.{Suits, is_counted, leaf_type_of}
-use Rattle.bdb_mktree.specs.declared.builder.TreeBuilder.{TreeBuilder}
 use Rattle.bdb_mktree.proofs.BuildingLemmas.{building_read}
 
 -- What metadata with some settings says.

@@ -1,4 +1,5 @@
 pub mod BuildingLemmas
+pub mod Common
 pub mod FinishLemmas
 pub mod ListLemmas
 pub mod OrderLemmas

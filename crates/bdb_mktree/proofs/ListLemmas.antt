@@ -1,25 +1,14 @@
 -- Lists and their units: the run of a key, the record that comes next, and the list that units give back.
 use Rattle.std.proofs.Common.{Bool, ◌≡◌, ℕ, suc, zero, ◌+◌, ◌-◌, ◌<◌, ◌≤◌, ◌^◌, true, false, cond, get_or, slice_get, None, Option, Some, option_map, List, []}
 use Rattle.std.proofs.Common.{◌∷◌, ◌++◌, length, map, take, drop, replicate, arith, refl, sym, ◌∙◌, ap, inl, inr, true≢false}
-use Rattle.std.specs.List.{All, enumerate_from, flat_map, prefix_len}
-use Rattle.std.specs.Str.{bytes_eq}
-use Rattle.std.proofs.lemmas.Bool.{cases_Bool}
-use Rattle.std.proofs.lemmas.List.{drop-drop, drop-map, drop_all, drop_more, get_or-map, length-drop, length-map, length-take-le, take-map}
+use Rattle.bdb_mktree.proofs.Common.{All, enumerate_from, flat_map, prefix_len, bytes_eq, cases_Bool, drop-drop, drop-map, drop_all, drop_more, get_or-map, length-drop, length-map, length-take-le}
+use Rattle.bdb_mktree.proofs.Common.{take-map, All-drop, All-head, All-tail, Kind, BytesKey, NumberKey, eq_same, eq_self, AscendFrom, keys_of, listed, listed_key, number_of, unlined, unlined_pairs}
+use Rattle.bdb_mktree.proofs.Common.{values_of, Pair, TextPair, EntryUnit, KeyedUnit, TreeUnit, list_of_units, listed_keyed, listed_record, AreKeysOf, HasBytes, IsRecordAt, IsRunAt, bytes_in, has_key}
+use Rattle.bdb_mktree.proofs.Common.{has_key_at, keyed_units, missing, record_units, units_in, onto_units, IsTreeKind}
 use Rattle.std.proofs.lemmas.Option.{get_or_from_slice_get, none-some, same_Some, slice_get_within}
-use Rattle.std.proofs.lemmas.List.Elements.{All-drop, All-head, All-tail}
 use Rattle.std.proofs.lemmas.List.Sums.{prefix_len-le-length}
-use Rattle.bdb_text_format.specs.of_format.declared.kinds.Kind.{Kind}
-use Rattle.bdb_text_format.specs.of_format.Terms.{BytesKey, NumberKey}
-use Rattle.bdb_text_format.proofs.of_format.LessLemmas.{eq_same, eq_self}
-use Rattle.bdb_text_format.specs.Terms.{AscendFrom, keys_of, listed, listed_key, number_of, unlined, unlined_pairs, values_of}
-use Rattle.bdb_text_format.specs.declared.pairs.Pair.{Pair}
-use Rattle.bdb_text_format.specs.declared.pairs.TextPair.{TextPair}
 use Rattle.bdb_text_format.specs.declared.pairs.Key.{Key}
 use Rattle.bdb_text_format.specs.declared.pairs.Key.TheVariants.{Bytes, Number}
-use Rattle.bdb_mkleaves.specs.Units.{EntryUnit, KeyedUnit, TreeUnit, list_of_units, listed_keyed, listed_record}
-use Rattle.bdb_mktree.specs.Lists.{AreKeysOf, HasBytes, IsRecordAt, IsRunAt, bytes_in, has_key, has_key_at, keyed_units, missing, record_units, units_in}
-use Rattle.bdb_mktree.specs.Lists.{onto_units}
-use Rattle.bdb_mktree.specs.Units.{IsTreeKind}
 
 -- Keys.
 
@@ -127,8 +116,7 @@ pairs_from pairs i pair at =
     drop_more pairs i pair (slice_get_within pairs i pair at) ∙ ap (λ p. p ∷ drop (i + 1) pairs) (get_or_from_slice_get pairs i pair pair at)
 
 pub pair_at : (pairs : List TextPair) (i : ℕ) (pair : TextPair) → slice_get pairs i ≡ Some pair → get_or (unlined_pairs pairs) i no_pair ≡ unlined pair
-pair_at pairs i pair at =
-    get_or-map unlined pairs i pair no_pair (slice_get_within pairs i pair at) ∙ ap unlined (get_or_from_slice_get pairs i pair pair at)
+pair_at pairs i pair at = get_or-map unlined pairs i pair no_pair (slice_get_within pairs i pair at) ∙ ap unlined (get_or_from_slice_get pairs i pair pair at)
 
 pub has_bytes_at : (pairs : List TextPair) (i : ℕ) (pair : TextPair) → All (λ (pair : Pair). HasBytes pair.key) (unlined_pairs pairs)
     → slice_get pairs i ≡ Some pair → HasBytes pair.key

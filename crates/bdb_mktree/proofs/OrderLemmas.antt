@@ -1,21 +1,9 @@
 -- Lists in their order, and the rules that their units keep.
-use Rattle.std.proofs.Common.{Bool, ◌≡◌, ℕ, suc, zero, ◌+◌, ◌-◌, ◌<◌, ◌≤◌, true, false, cond, not, List, [], ◌∷◌, map, replicate, arith, refl, sym, ◌∙◌, ap}
-use Rattle.std.proofs.Common.{subst, inl, inr, true≢false, ◌&&◌, ◌||◌, All}
-use Rattle.std.specs.Cmp.Derive.{both_true}
-use Rattle.std.specs.Str.{bytes_eq}
-use Rattle.std.proofs.lemmas.Bool.{and_parts, ltb-true, or_cases}
-use Rattle.std.proofs.lemmas.List.Elements.{All-append, All-cons, All-head, All-nil, All-tail}
-use Rattle.bdb_text_format.specs.of_format.declared.kinds.Kind.TheVariants.{Btree, Recno}
-use Rattle.bdb_text_format.specs.of_format.declared.settings.Settings.{Settings}
-use Rattle.bdb_text_format.specs.of_format.Terms.{ascends, less}
-use Rattle.bdb_text_format.proofs.of_format.LessLemmas.{eq_same, less_self}
-use Rattle.bdb_text_format.specs.declared.pairs.Pair.{Pair}
-use Rattle.bdb_text_format.specs.Terms.{AscendFrom, number_of}
+use Rattle.std.proofs.Common.{Bool, ◌≡◌, ℕ, suc, zero, ◌+◌, ◌-◌, ◌<◌, ◌≤◌, true, false, cond, not, List, [], ◌∷◌, map, replicate, arith, refl, sym, ◌∙◌, ap, subst, inl, inr, true≢false, ◌&&◌, ◌||◌, All}
+use Rattle.bdb_mktree.proofs.Common.{both_true, bytes_eq, and_parts, ltb-true, or_cases, All-append, All-cons, All-head, All-nil, All-tail, Btree, Recno, Settings, ascends, less, eq_same, less_self}
+use Rattle.bdb_mktree.proofs.Common.{Pair, AscendFrom, number_of, EntryUnit, KeyedUnit, TreeUnit, key_of, AreKeysOf, HasBytes, IsKeyFor, IsTreeList, IsPairFor, bytes_in, is_further, is_in_order}
+use Rattle.bdb_mktree.proofs.Common.{keyed_units, may_follow, missing, record_units, units_in, onto_units, IsShortUnit, IsTreeKind, KeysAscend, Suits}
 use Rattle.bdb_mkleaves.specs.Runs.{IsShort}
-use Rattle.bdb_mkleaves.specs.Units.{EntryUnit, KeyedUnit, TreeUnit, key_of}
-use Rattle.bdb_mktree.specs.Lists.{AreKeysOf, HasBytes, IsKeyFor, IsTreeList, IsPairFor, bytes_in, is_further, is_in_order, keyed_units, may_follow, missing}
-use Rattle.bdb_mktree.specs.Lists.{record_units, units_in, onto_units}
-use Rattle.bdb_mktree.specs.Units.{IsShortUnit, IsTreeKind, KeysAscend, Suits}
 
 -- Keys.
 
@@ -120,8 +108,7 @@ have_bytes settings (pair ∷ pairs) btree each =
 
 records_rise : (settings : Settings) (next : ℕ) (pair : Pair) (pairs : List Pair) → settings.kind ≡ Recno → All (IsPairFor settings) (pair ∷ pairs)
     → is_in_order settings (pair ∷ pairs) ≡ true → next ≤ number_of pair.key → AscendFrom next (pair ∷ pairs)
-records_rise settings next pair [] recno each in_order low =
-    (low, tt)
+records_rise settings next pair [] recno each in_order low = (low, tt)
 records_rise settings next pair (other ∷ pairs) recno each in_order low =
     let parts = and_parts (may_follow settings.kind settings pair other) (is_in_order settings (other ∷ pairs)) in_order in
     let above : number_of pair.key < number_of other.key =

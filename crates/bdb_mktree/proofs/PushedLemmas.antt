@@ -1,18 +1,7 @@
 -- Units that are pushed one after the other.
 use Rattle.std.proofs.Common.{◌≡◌, ℕ, true, List, [], ◌∷◌, ◌++◌, map, arith, refl, sym, ◌∙◌, ap, subst}
-use Rattle.std.specs.Cmp.Derive.{both_true}
-use Rattle.std.proofs.lemmas.Bool.{and_parts}
-use Rattle.std.proofs.lemmas.List.{append-nil, append_assoc, map-append}
-use Rattle.std.proofs.lemmas.List.Elements.{All-head, All-tail}
-use Rattle.bdb_text_format.specs.of_format.declared.settings.Settings.{Settings}
-use Rattle.bdb_text_format.specs.of_format.Terms.{ListKey, ascends, ascends_from, less}
-use Rattle.bdb_mkleaves.specs.of_pack.Built.{Built}
-use Rattle.bdb_mkleaves.specs.Leaves.{KeepsBefore}
-use Rattle.bdb_mkleaves.specs.Moved.{first_leaf}
-use Rattle.bdb_mkleaves.specs.Units.{TreeUnit, key_of, list_of_units}
-use Rattle.bdb_mktree.specs.Building.{ArePushed, Building, CanBePushed, IsTreeBuilt, units_of}
-use Rattle.bdb_mktree.specs.Units.{IsNext, IsShortUnit, KeysAscend, Suits}
-use Rattle.bdb_mktree.specs.declared.builder.TreeBuilder.{TreeBuilder}
+use Rattle.bdb_mktree.proofs.Common.{both_true, and_parts, append-nil, append_assoc, map-append, All-head, All-tail, Settings, ListKey, ascends, ascends_from, less, Built, KeepsBefore, first_leaf}
+use Rattle.bdb_mktree.proofs.Common.{TreeUnit, key_of, list_of_units, ArePushed, Building, CanBePushed, IsTreeBuilt, units_of, IsNext, IsShortUnit, KeysAscend, Suits, TreeBuilder}
 use Rattle.bdb_mktree.proofs.OrderLemmas.{FitUnits}
 
 -- Keys before others ascend as all do.

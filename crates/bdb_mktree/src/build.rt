@@ -104,8 +104,8 @@ fn push_list(
     }
 }
 
-/// Builds the tree of a list behind all pages, and answers its root, which is the tree's first page. The page size and the order of
-/// the settings are those of the pages. It is also refused where there are 2^21 pages, and where a sum of counts doesn't fit its field.
+/// Builds the tree of a list behind all pages, and answers its root, which is the tree's first page. The page size and the order of the settings are
+/// those of the pages. An error means that memory ran out, that there would be more than 2^21 pages, or that a sum of counts doesn't fit its field.
 pub fn build_tree(
     alloc: Global,
     pages: &mut Pages,

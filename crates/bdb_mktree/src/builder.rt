@@ -41,8 +41,8 @@ pub struct TreeBuilder {
 }
 
 impl TreeBuilder {
-    /// A tree without units: one leaf, behind all pages. The page size and the order of the settings are those of the pages.
-    /// An error means that memory ran out.
+    /// A tree without units: one leaf, behind all pages. The page size and the order of the settings are
+    /// those of the pages. An error means that memory ran out, or that there would be more than 2^21 pages.
     pub fn start(
         alloc: Global,
         pages: &mut Pages,
@@ -66,8 +66,9 @@ impl TreeBuilder {
         })
     }
 
-    /// Puts a unit after those that are there: on the last leaf where that has room for what it takes there, and else on a new
-    /// one. Its long values and the tree of its data are made whole behind all pages. It is also refused where there are 2^21 pages.
+    /// Puts a unit after those that are there: on the last leaf where that has room for what it takes there, and else on a new one. Its long values and the
+    /// tree of its data are made whole behind all pages. An error means that memory ran out, that there would be more than 2^21 pages, or that a sum of counts
+    /// doesn't fit its field.
     pub fn push(&mut self, pages: &mut Pages, unit: &Unit<'_>) -> Result<(), AllocError>
         requires building { Building self.old pages.old }
         requires suits { Suits self.old.settings (unit_seen unit.now) }
@@ -89,8 +90,8 @@ impl TreeBuilder {
         Ok(())
     }
 
-    /// Lays the levels over the leaves, and answers the root, which is the tree's first page. It is also refused where there are
-    /// 2^21 pages, and where a sum of counts doesn't fit its field.
+    /// Lays the levels over the leaves, and answers the root, which is the tree's first page. An error means that
+    /// memory ran out, that there would be more than 2^21 pages, or that a sum of counts doesn't fit its field.
     pub fn finish(self, pages: &mut Pages) -> Result<u32, AllocError>
         requires building { Building self pages.old }
         ensures { IfOk result (λ root. IsTreeBuilt self.settings (first_leaf self.leaves) pages.old pages.new

@@ -7,7 +7,7 @@ mod words;
 pub use bdb_faults::{Named, NamedList};
 pub use bdb_text_format::{
     BtreeMeta, Bytes, CheckError, Fault, FileKind, HashMeta, Head, Header, ItemFault, Judged, Key,
-    KeyRef, Kind, MetaFault, Near, Order, Pair, PairList, PairRef, PairSlice, QueueMeta, RecnoItem,
+    KeyRef, Kind, MetaFault, Order, Pair, PairList, PairRef, PairSlice, QueueMeta, RecnoItem,
     Reference, Section, Sections, Settings, Sort, Span, Steps, TextFault, TextPair, TextPairs,
     TextReason, Unsupported, Verdict, number_in, plain_settings,
 };

@@ -9,7 +9,7 @@ pub enum Duplicates {
     Sorted,
 }
 
-/// The one database that what is salvaged is put into: a btree or a hash with the stored pairs, or a recno with the loose records.
+/// The one database that repair puts what it salvages into: a btree or a hash with the stored pairs, or a recno with the loose records.
 #[derive(Clone, Copy, Debug, PartialEq, Eq)]
 pub enum Shape {
     Btree(Duplicates),

@@ -1,11 +1,7 @@
 -- Pages behind an open one: what is put on pages from left to right begins them.
-use Rattle.std.proofs.Common.{◌≡◌, ℕ, zero, suc, ◌+◌, ◌-◌, ◌*◌, ◌<◌, ◌≤◌, List, [], ◌∷◌, ◌++◌, length, map, replicate, arith, refl, sym, ◌∙◌, ap, inl, inr, ◌/◌}
-use Rattle.std.proofs.Common.{◌%◌, nat_le, if◌then◌else◌, All}
-use Rattle.std.proofs.lemmas.Bool.{cases_lt, le-leb, lt-leb}
-use Rattle.std.proofs.lemmas.List.{append-nil, append_assoc, length-replicate, replicate-append-replicate}
-use Rattle.std.proofs.lemmas.List.Elements.{All-cons, All-head, All-nil, All-tail}
-use Rattle.std.proofs.lemmas.Nat.{mul-le}
-use Rattle.bdb_mkhash.specs.of_mkleaves.Spread.{first_or, pages_over, spread_items, spread_on}
+use Rattle.std.proofs.Common.{◌≡◌, ℕ, zero, suc, ◌+◌, ◌-◌, ◌*◌, ◌<◌, ◌≤◌, List, [], ◌∷◌, ◌++◌, length, map, replicate, arith, refl, sym, ◌∙◌, ap, inl, inr, ◌/◌, ◌%◌, nat_le, if◌then◌else◌, All}
+use Rattle.bdb_need.proofs.Common.{cases_lt, le-leb, lt-leb, append-nil, append_assoc, length-replicate, replicate-append-replicate, All-cons, All-head, All-nil, All-tail, mul-le, first_or}
+use Rattle.bdb_need.proofs.Common.{pages_over, spread_items, spread_on}
 use Rattle.bdb_mkhash.proofs.of_mkleaves.SpreadLemmas.{put_on_new, put_on_open}
 
 -- What the first things of the pages behind the open one are told by, as things are put on pages from left to right.
@@ -151,8 +147,7 @@ behind_full room first (suc full) each some c left rest first_is none some_is fe
 
 pub heads_of_items : (room first c : ℕ) (cs : List ℕ)
     → map (first_or 0) (spread_items room first (c ∷ cs)) ≡ c ∷ behind room (λ (x : ℕ). first) self self (room - first) cs
-heads_of_items room first c cs =
-    spread_behind room (λ (x : ℕ). first) self self (first_or 0) (room - first) c [] cs (λ x more. refl)
+heads_of_items room first c cs = spread_behind room (λ (x : ℕ). first) self self (first_or 0) (room - first) c [] cs (λ x more. refl)
 
 pub level_on : (most room first c : ℕ) (cs : List ℕ) → 0 < length cs
     → pages_over (suc most) room first (c ∷ cs)

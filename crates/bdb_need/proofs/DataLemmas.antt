@@ -1,11 +1,6 @@
 -- The data of pairs, one after the other.
 use Rattle.std.proofs.Common.{◌≡◌, ℕ, ◌+◌, ◌*◌, ◌<◌, ◌≤◌, List, [], length, get_or, take, arith, sym, ◌∙◌, ap, All, sum_by}
-use Rattle.std.proofs.lemmas.List.{get_or-map, length-map, take_all}
-use Rattle.std.proofs.lemmas.List.Elements.{All-get_or}
-use Rattle.std.proofs.lemmas.List.Sums.{sum_by_more}
-use Rattle.bdb_mkhash.specs.of_text_format.declared.pairs.TextPair.{TextPair}
-use Rattle.bdb_mkhash.specs.of_mkleaves.Runs.{IsShort}
-use Rattle.bdb_need.specs.Counting.{values_in}
+use Rattle.bdb_need.proofs.Common.{get_or-map, length-map, take_all, All-get_or, sum_by_more, TextPair, IsShort, values_in}
 
 -- there is a datum for each pair
 pub length-values : (pairs : List TextPair) → length (values_in pairs) ≡ length pairs

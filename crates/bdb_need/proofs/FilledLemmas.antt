@@ -1,22 +1,10 @@
 -- Sections whose records are filled up, and what is counted of those that aren't yet.
-use Rattle.std.proofs.Common.{arith, ◌≡◌, Bool, ℕ, ◌+◌, ◌-◌, List, [], ◌∷◌, map, Some, refl, sym, ◌∙◌, ap, subst, inl, inr, ◌&&◌, if◌then◌else◌, is_some}
-use Rattle.std.proofs.Common.{slice_get, All, sum_by}
-use Rattle.std.proofs.Math.Bool.{and-false}
-use Rattle.std.proofs.lemmas.List.Elements.{All-cons, All-head, All-nil, All-tail}
-use Rattle.std.proofs.lemmas.List.Sums.{sum_by-cons}
+use Rattle.std.proofs.Common.{arith, ◌≡◌, Bool, ℕ, ◌+◌, ◌-◌, List, [], ◌∷◌, map, Some, refl, sym, ◌∙◌, ap, subst, inl, inr, ◌&&◌, if◌then◌else◌, is_some, slice_get, All, sum_by}
+use Rattle.bdb_need.proofs.Common.{and-false, All-cons, All-head, All-nil, All-tail, sum_by-cons, Btree, Recno, Hash, Queue, Settings, page_of_record, queue_size, next_number, unlined_pairs}
+use Rattle.bdb_need.proofs.Common.{tree_pages, TextPair, Section, AscendFrom, holds_records, number_of, filled_pairs, filled_section, loaded, as_they_are, AreSettled, IsListOf, IsSettled}
+use Rattle.bdb_need.proofs.Common.{master_pages, master_settings, name_pair, need_of, section_pages, sized}
 use Rattle.bdb_mkhash.specs.of_format.declared.kinds.Kind.{Kind}
-use Rattle.bdb_mkhash.specs.of_format.declared.kinds.Kind.TheVariants.{Btree, Recno, Hash, Queue}
-use Rattle.bdb_mkhash.specs.of_format.declared.settings.Settings.{Settings}
-use Rattle.bdb_mkqueue.specs.Layout.{page_of_record, queue_size}
-use Rattle.bdb_mkqueue.specs.Lists.{next_number}
 use Rattle.bdb_need.proofs.SectionLemmas.{filled_before}
-use Rattle.bdb_need.specs.TreePages.{unlined_pairs, tree_pages}
-use Rattle.bdb_mkhash.specs.of_text_format.declared.pairs.TextPair.{TextPair}
-use Rattle.bdb_mkhash.specs.of_text_format.declared.sections.Section.{Section}
-use Rattle.bdb_mkhash.specs.of_text_format.Terms.{AscendFrom, holds_records, number_of}
-use Rattle.bdb_settle.specs.Loaded.{filled_pairs, filled_section, loaded}
-use Rattle.bdb_settle.proofs.FillingLemmas.{as_they_are}
-use Rattle.bdb_need.specs.Need.{AreSettled, IsListOf, IsSettled, master_pages, master_settings, name_pair, need_of, section_pages, sized}
 
 -- Lists.
 

@@ -1,8 +1,6 @@
 -- A list in which the items that begin pages are moved to the front.
 use Rattle.std.proofs.Common.{◌≡◌, ℕ, ◌+◌, ◌-◌, ◌<◌, ◌≤◌, List, [], ◌∷◌, ◌++◌, drop, get_or, length, map, take, arith, refl, sym, ◌∙◌, ap}
-use Rattle.std.proofs.Math.ListN.{drop_of_length-le, set}
-use Rattle.std.proofs.lemmas.List.{append-nil, append_assoc, drop-set-lt, drop_more, length-set, take_more_set}
-use Rattle.bdb_mkhash.specs.of_mkleaves.Spread.{first_or, spread_items}
+use Rattle.bdb_need.proofs.Common.{drop_of_length-le, set, append-nil, append_assoc, drop-set-lt, drop_more, length-set, take_more_set, first_or, spread_items}
 use Rattle.bdb_need.proofs.BehindLemmas.{behind, behind_new, behind_open, heads_of_items, self}
 
 -- those that the rest of a level's items will add, where the open page has so many bytes left
@@ -20,8 +18,7 @@ firsts_begun room all = record { low = omega arith; long = refl; sum = refl }
 
 here : (room left at cost : ℕ) (items : List ℕ) → at < length items → cost ≡ get_or items at cost
     → added room left (drop at items) ≡ added room left (cost ∷ drop (at + 1) items)
-here room left at cost items within is =
-    ap (added room left) (drop_more items at cost within ∙ ap (λ n. n ∷ drop (at + 1) items) (sym is))
+here room left at cost items within is = ap (added room left) (drop_more items at cost within ∙ ap (λ n. n ∷ drop (at + 1) items) (sym is))
 
 -- an item that fits the open page
 pub next_fits : (room left left_now kept kept_now at cost : ℕ) (items items_now all : List ℕ) → FirstsKept room left kept at items all

@@ -1,18 +1,8 @@
 -- The units of a btree: the run of a key, and what is counted of those that were passed.
 use Rattle.std.proofs.Common.{◌≡◌, ℕ, ◌+◌, ◌*◌, ◌<◌, ◌≤◌, ◌^◌, Bool, List, [], ◌∷◌, length, drop, arith, refl, ◌∙◌, ap, subst, ◌⊎◌, ◌/◌, All, sum_by}
-use Rattle.std.proofs.Math.ListN.{drop_of_length-le}
-use Rattle.std.proofs.lemmas.List.{length-map}
-use Rattle.std.proofs.lemmas.List.Elements.{All-head, All-tail}
-use Rattle.std.proofs.lemmas.List.Sums.{sum_by-cons}
-use Rattle.bdb_mkhash.specs.of_text_format.declared.pairs.Pair.{Pair}
-use Rattle.bdb_mkhash.specs.of_text_format.declared.pairs.TextPair.{TextPair}
-use Rattle.bdb_mkhash.specs.of_mkleaves.Spread.{own_pages, pages_over, tree_size}
+use Rattle.bdb_need.proofs.Common.{drop_of_length-le, length-map, All-head, All-tail, sum_by-cons, Pair, TextPair, own_pages, pages_over, tree_size, TreeUnit, page_room, Pairs, IsRunAt, keyed_units}
+use Rattle.bdb_need.proofs.Common.{IsShortUnit, unlined_pairs, unlined}
 use Rattle.bdb_mkhash.specs.of_mkleaves.Placed.{values_in}
-use Rattle.bdb_mkhash.specs.of_mkleaves.Units.{TreeUnit, page_room}
-use Rattle.bdb_mkhash.specs.of_mkleaves.declared.leaf_type.LeafType.TheVariants.{Pairs}
-use Rattle.bdb_mkhash.specs.of_mktree.Lists.{IsRunAt, keyed_units}
-use Rattle.bdb_mkhash.specs.of_mktree.Units.{IsShortUnit}
-use Rattle.bdb_need.specs.TreePages.{unlined_pairs, unlined}
 use Rattle.bdb_need.proofs.TreeLemmas.{KeyedTo, keyed_begun, keyed_end}
 
 pub length-pairs : (pairs : List TextPair) → length (unlined_pairs pairs) ≡ length pairs

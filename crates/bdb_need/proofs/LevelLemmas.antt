@@ -1,10 +1,7 @@
 -- Levels that are counted one after the other.
 use Rattle.std.proofs.Common.{◌≡◌, ℕ, zero, suc, ◌+◌, ◌-◌, ◌*◌, ◌<◌, ◌≤◌, List, ◌∷◌, length, map, replicate, arith, sym, ◌∙◌, ap, ◌/◌, All}
-use Rattle.std.proofs.lemmas.List.{length-replicate}
-use Rattle.std.proofs.lemmas.List.Elements.{All-replicate}
-use Rattle.std.proofs.lemmas.Nat.{mul-le}
+use Rattle.bdb_need.proofs.Common.{length-replicate, All-replicate, mul-le, first_or, pages_over, spread_items}
 use Rattle.bdb_mkhash.proofs.of_mkleaves.TreeCountLemmas.{few_over}
-use Rattle.bdb_mkhash.specs.of_mkleaves.Spread.{first_or, pages_over, spread_items}
 use Rattle.bdb_need.proofs.BehindLemmas.{All-behind, behind, equal_level, heads_of_items, level_halves, level_on, levels_few, self}
 
 -- Items that all take 10 bytes.

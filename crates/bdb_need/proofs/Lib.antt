@@ -1,4 +1,5 @@
 pub mod BehindLemmas
+pub mod Common
 pub mod DataLemmas
 pub mod FirstsLemmas
 pub mod KeyLemmas

@@ -1,24 +1,12 @@
 -- The sections of a file, and its master.
-use Rattle.std.proofs.Common.{◌≡◌, ℕ, ◌+◌, Bool, true, false, cond, List, ◌++◌, [], ◌∷◌, map, Some, None, arith, refl, sym, ◌∙◌, ap, subst, inl, is_some}
-use Rattle.std.proofs.Common.{slice_get}
-use Rattle.std.specs.List.{All, list_all, sum_by}
-use Rattle.std.proofs.lemmas.Bool.{and_parts}
+use Rattle.std.proofs.Common.{◌≡◌, ℕ, ◌+◌, Bool, true, false, cond, List, ◌++◌, [], ◌∷◌, map, Some, None, arith, refl, sym, ◌∙◌, ap, subst, inl, is_some, slice_get}
+use Rattle.bdb_need.proofs.Common.{All, list_all, sum_by, and_parts, All-cons, All-head, All-nil, All-tail, Btree, Settings, Pair, TextPair, Section, IsShort, IsTreeList, unlined_pairs, tree_pages}
+use Rattle.bdb_need.proofs.Common.{loaded, loaded_pair, loaded_section, unnumbered, AreSettled, is_short, master_pages, master_settings, name_in, name_pair, need_of, section_pages}
 use Rattle.std.proofs.lemmas.Bool.Decides.{nat_tests}
-use Rattle.std.proofs.lemmas.List.Elements.{All-cons, All-head, All-nil, All-tail}
-use Rattle.bdb_mkhash.specs.of_format.declared.kinds.Kind.TheVariants.{Btree}
-use Rattle.bdb_mkhash.specs.of_format.declared.settings.Settings.{Settings}
-use Rattle.bdb_mkhash.specs.of_text_format.declared.pairs.Pair.{Pair}
-use Rattle.bdb_mkhash.specs.of_text_format.declared.pairs.TextPair.{TextPair}
-use Rattle.bdb_mkhash.specs.of_text_format.declared.sections.Section.{Section}
-use Rattle.bdb_mkhash.specs.of_mkleaves.Runs.{IsShort}
-use Rattle.bdb_mkhash.specs.of_mktree.Lists.{IsTreeList}
-use Rattle.bdb_need.specs.TreePages.{unlined_pairs, tree_pages}
 use Rattle.bdb_settle.specs.ListLaw.{HasShortBytes, IsKeyOf}
 use Rattle.bdb_settle.specs.LoadErrors.{load_error}
-use Rattle.bdb_settle.specs.Loaded.{loaded, loaded_pair, loaded_section, unnumbered}
 use Rattle.bdb_settle.proofs.ListLawLemmas.{load_into_lists}
 use Rattle.bdb_settle.proofs.OrderedLemmas.{fold_all}
-use Rattle.bdb_need.specs.Need.{AreSettled, is_short, master_pages, master_settings, name_in, name_pair, need_of, section_pages}
 
 pub listed_again : (pairs : List Pair) → unlined_pairs (map unnumbered pairs) ≡ pairs
 listed_again [] = refl

@@ -1,9 +1,6 @@
 -- Pages on which things are put, and how many they are.
-use Rattle.std.proofs.Common.{◌≡◌, ℕ, zero, suc, ◌+◌, ◌-◌, ◌*◌, ◌<◌, ◌≤◌, List, [], ◌∷◌, ◌++◌, length, replicate, arith, refl, sym, ◌∙◌, ap, subst}
-use Rattle.std.proofs.Common.{length-append, ◌/◌, ◌%◌}
-use Rattle.std.proofs.lemmas.List.{append_assoc, length-replicate, replicate-append-replicate}
-use Rattle.std.proofs.lemmas.Nat.{mul-le}
-use Rattle.bdb_need.specs.Counting.{ArePut, pages_on}
+use Rattle.std.proofs.Common.{◌≡◌, ℕ, zero, suc, ◌+◌, ◌-◌, ◌*◌, ◌<◌, ◌≤◌, List, [], ◌∷◌, ◌++◌, length, replicate, arith, refl, sym, ◌∙◌, ap, subst, length-append, ◌/◌, ◌%◌}
+use Rattle.bdb_need.proofs.Common.{append_assoc, length-replicate, replicate-append-replicate, mul-le, ArePut, pages_on}
 use Rattle.bdb_need.proofs.BehindLemmas.{behind, behind_fit, behind_full, behind_new, behind_open, length-spread, self}
 
 pub pages-behind : (room left : ℕ) (costs : List ℕ) → pages_on room left costs ≡ suc (length (behind room self self self left costs))
@@ -21,13 +18,11 @@ pages_new room left c rest full =
 
 pub put_open : (room closed left c : ℕ) → c ≤ left
     → ArePut (record { room = room; closed = closed; left = left }) (record { room = room; closed = closed; left = left - c }) (c ∷ [])
-put_open room closed left c fits =
-    record { room = refl; pages = λ rest. ap (λ n. closed + n) (pages_open room left c rest fits); few = omega arith }
+put_open room closed left c fits = record { room = refl; pages = λ rest. ap (λ n. closed + n) (pages_open room left c rest fits); few = omega arith }
 
 pub put_new : (room closed left c : ℕ) → left < c
     → ArePut (record { room = room; closed = closed; left = left }) (record { room = room; closed = closed + 1; left = room - c }) (c ∷ [])
-put_new room closed left c full =
-    record { room = refl; pages = λ rest. (let new = pages_new room left c rest full in omega (arith, new)); few = omega arith }
+put_new room closed left c full = record { room = refl; pages = λ rest. (let new = pages_new room left c rest full in omega (arith, new)); few = omega arith }
 
 -- Many that take the same.
 

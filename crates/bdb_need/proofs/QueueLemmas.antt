@@ -1,13 +1,8 @@
 -- The greatest record of a queue.
 use Rattle.std.proofs.Common.{◌≡◌, ℕ, ◌+◌, ◌-◌, ◌≤◌, List, [], ◌∷◌, length, get_or, Option, Some, arith, refl, sym, ◌∙◌, ap, subst, slice_get, ◌/◌, option_map}
-use Rattle.std.proofs.lemmas.Option.{get_or_from_slice_get, slice_get_within}
-use Rattle.bdb_mkhash.specs.of_text_format.declared.pairs.TextPair.{TextPair}
+use Rattle.bdb_need.proofs.Common.{get_or_from_slice_get, slice_get_within, TextPair, AscendFrom, key_seen, number_of, pair_seen, queue_size, next_number, unlined_pairs}
 use Rattle.bdb_mkhash.specs.of_text_format.declared.lent.PairRef.{PairRef}
-use Rattle.bdb_mkhash.specs.of_text_format.Terms.{AscendFrom, key_seen, number_of, pair_seen}
-use Rattle.bdb_mkqueue.specs.Layout.{queue_size}
-use Rattle.bdb_mkqueue.specs.Lists.{next_number}
 use Rattle.bdb_mkqueue.proofs.RecordLemmas.{next_low}
-use Rattle.bdb_need.specs.TreePages.{unlined_pairs}
 
 -- the number after the last
 next_of : (x : TextPair) (xs : List TextPair) (d : TextPair)

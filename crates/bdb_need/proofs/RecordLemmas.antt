@@ -1,24 +1,9 @@
 -- The units of a recno: what is counted of those that were passed.
-use Rattle.std.proofs.Common.{◌≡◌, ℕ, zero, suc, ◌+◌, ◌-◌, ◌*◌, ◌<◌, ◌≤◌, ◌^◌, Bool, false, List, [], ◌∷◌, length, map, replicate, get_or, slice_get, Some}
-use Rattle.std.proofs.Common.{drop, arith, refl, sym, ◌∙◌, ap, subst, ◌/◌, sum_by}
-use Rattle.std.proofs.Math.ListN.{drop_of_length-le}
-use Rattle.std.proofs.lemmas.Bool.{le-leb}
-use Rattle.std.proofs.lemmas.List.{drop_more, get_or-map, length-map, length-replicate}
+use Rattle.std.proofs.Common.{◌≡◌, ℕ, zero, suc, ◌+◌, ◌-◌, ◌*◌, ◌<◌, ◌≤◌, ◌^◌, Bool, false, List, [], ◌∷◌, length, map, replicate, get_or, slice_get, Some, drop, arith, refl, sym, ◌∙◌, ap, subst, ◌/◌, sum_by}
+use Rattle.bdb_need.proofs.Common.{drop_of_length-le, le-leb, drop_more, get_or-map, length-map, length-replicate, sum_by-append, sum_by-cons, get_or_from_slice_get, slice_get_within, Settings, Pair}
+use Rattle.bdb_need.proofs.Common.{TextPair, AscendFrom, number_of, own_pages, pages_over, tree_size, EntryUnit, TreeUnit, chain_pages, unit_cost, Records, missing, record_units, filled_pair}
+use Rattle.bdb_need.proofs.Common.{filled_pairs, OpenPage, ArePut, values_in, unlined_pairs, unlined}
 use Rattle.std.proofs.lemmas.List.Folds.{sum_by-replicate}
-use Rattle.std.proofs.lemmas.List.Sums.{sum_by-append, sum_by-cons}
-use Rattle.std.proofs.lemmas.Option.{get_or_from_slice_get, slice_get_within}
-use Rattle.bdb_mkhash.specs.of_format.declared.settings.Settings.{Settings}
-use Rattle.bdb_mkhash.specs.of_text_format.declared.pairs.Pair.{Pair}
-use Rattle.bdb_mkhash.specs.of_text_format.declared.pairs.TextPair.{TextPair}
-use Rattle.bdb_mkhash.specs.of_text_format.Terms.{AscendFrom, number_of}
-use Rattle.bdb_mkhash.specs.of_mkleaves.Spread.{own_pages, pages_over, tree_size}
-use Rattle.bdb_mkhash.specs.of_mkleaves.Units.{EntryUnit, TreeUnit, chain_pages, unit_cost}
-use Rattle.bdb_mkhash.specs.of_mkleaves.declared.leaf_type.LeafType.TheVariants.{Records}
-use Rattle.bdb_mkhash.specs.of_mktree.Lists.{missing, record_units}
-use Rattle.bdb_settle.specs.Loaded.{filled_pair, filled_pairs}
-use Rattle.bdb_need.specs.declared.open_page.OpenPage.{OpenPage}
-use Rattle.bdb_need.specs.Counting.{ArePut, values_in}
-use Rattle.bdb_need.specs.TreePages.{unlined_pairs, unlined}
 use Rattle.bdb_need.proofs.TreeLemmas.{CountedTo, counted_end, counted_next}
 
 -- A missing record.

@@ -1,21 +1,9 @@
 -- What lists in their order give to the calls that count.
 use Rattle.std.proofs.Common.{◌≡◌, ℕ, Bool, true, false, List, [], ◌∷◌, length, refl, ◌∙◌, ap, subst, arith, inl, inr, ◌&&◌, All}
-use Rattle.std.proofs.lemmas.List.{append-nil}
-use Rattle.std.proofs.Math.Bool.{and-false}
-use Rattle.std.proofs.lemmas.List.Elements.{All-cons, All-head, All-nil, All-tail}
-use Rattle.bdb_mkhash.specs.of_format.declared.kinds.Kind.TheVariants.{Btree, Recno}
-use Rattle.bdb_mkhash.specs.of_format.declared.settings.Settings.{Settings}
-use Rattle.bdb_mkhash.specs.of_text_format.declared.pairs.Pair.{Pair}
-use Rattle.bdb_mkhash.specs.of_text_format.declared.pairs.TextPair.{TextPair}
-use Rattle.bdb_mkhash.specs.of_text_format.Terms.{AscendFrom, holds_records}
-use Rattle.bdb_mkhash.specs.of_mkleaves.Runs.{IsShort}
-use Rattle.bdb_mkhash.specs.of_mktree.Lists.{AreKeysOf, HasBytes, IsTreeList, IsPairFor, keyed_units, units_in}
-use Rattle.bdb_mkhash.specs.of_mktree.Units.{IsShortUnit, IsTreeKind}
-use Rattle.bdb_settle.specs.Loaded.{filled_pair, filled_pairs, filled_value, has_length}
-use Rattle.bdb_settle.proofs.FillingLemmas.{as_they_are, value_as_is}
+use Rattle.bdb_need.proofs.Common.{append-nil, and-false, All-cons, All-head, All-nil, All-tail, Btree, Recno, Settings, Pair, TextPair, AscendFrom, holds_records, IsShort, AreKeysOf, HasBytes}
+use Rattle.bdb_need.proofs.Common.{IsTreeList, IsPairFor, keyed_units, units_in, IsShortUnit, IsTreeKind, filled_pair, filled_pairs, filled_value, has_length, as_they_are, value_as_is, values_in}
+use Rattle.bdb_need.proofs.Common.{unlined_pairs, unlined}
 use Rattle.bdb_mkhash.proofs.of_mktree.OrderLemmas.{keys_fit, units_fit}
-use Rattle.bdb_need.specs.Counting.{values_in}
-use Rattle.bdb_need.specs.TreePages.{unlined_pairs, unlined}
 
 pub short_units : (settings : Settings) (pairs : List TextPair) → settings.kind ≡ Btree → IsTreeList settings (unlined_pairs pairs)
     → All IsShortUnit (keyed_units (unlined_pairs pairs))
@@ -24,13 +12,11 @@ short_units settings pairs btree list =
 
 pub keys_have_bytes : (settings : Settings) (pairs : List TextPair) → settings.kind ≡ Btree → IsTreeList settings (unlined_pairs pairs)
     → All (λ (pair : Pair). HasBytes pair.key) (unlined_pairs pairs)
-keys_have_bytes settings pairs btree list =
-    subst (λ k. AreKeysOf k (unlined_pairs pairs)) btree (keys_fit settings (unlined_pairs pairs) (inl btree) list)
+keys_have_bytes settings pairs btree list = subst (λ k. AreKeysOf k (unlined_pairs pairs)) btree (keys_fit settings (unlined_pairs pairs) (inl btree) list)
 
 pub numbers_ascend : (settings : Settings) (pairs : List TextPair) → settings.kind ≡ Recno → IsTreeList settings (unlined_pairs pairs)
     → AscendFrom 1 (unlined_pairs pairs)
-numbers_ascend settings pairs recno list =
-    subst (λ k. AreKeysOf k (unlined_pairs pairs)) recno (keys_fit settings (unlined_pairs pairs) (inr recno) list)
+numbers_ascend settings pairs recno list = subst (λ k. AreKeysOf k (unlined_pairs pairs)) recno (keys_fit settings (unlined_pairs pairs) (inr recno) list)
 
 short_pairs : (settings : Settings) (pairs : List TextPair) → All (IsPairFor settings) (unlined_pairs pairs) → All IsShort (values_in pairs)
 short_pairs settings [] all = All-nil IsShort
@@ -45,8 +31,7 @@ short_values settings pairs list = short_pairs settings pairs list.each
 
 -- keys have no records
 pub keyed_as_is : (settings : Settings) (pairs : List TextPair) → settings.kind ≡ Btree → filled_pairs settings pairs ≡ pairs
-keyed_as_is settings pairs btree =
-    as_they_are settings pairs (ap (λ k. settings.fixed && holds_records k) btree ∙ and-false settings.fixed)
+keyed_as_is settings pairs btree = as_they_are settings pairs (ap (λ k. settings.fixed && holds_records k) btree ∙ and-false settings.fixed)
 
 value_before : (settings : Settings) (value : List ℕ) → length value ≡ settings.re_len → (b : Bool) → has_length settings ≡ b
     → filled_value settings value ≡ value

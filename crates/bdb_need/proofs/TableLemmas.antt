@@ -1,20 +1,9 @@
 -- The buckets of a table: how many they are, and their pages, counted as keys are put on them one after the other.
-use Rattle.std.proofs.Common.{◌≡◌, ℕ, zero, suc, ◌+◌, ◌-◌, ◌*◌, ◌<◌, ◌≤◌, ◌^◌, Bool, cond, List, [], ◌∷◌, length, map, replicate, get_or, set, drop, arith}
-use Rattle.std.proofs.Common.{refl, sym, ◌∙◌, ap, subst, inl, inr, ◌/◌}
-use Rattle.std.specs.List.{range_with_len, sum_by}
-use Rattle.std.proofs.Math.ListN.{drop_of_length-le}
-use Rattle.std.proofs.lemmas.Bool.{cases_eq, eq-eqb, ne_eqb}
-use Rattle.std.proofs.lemmas.List.{get_or-set_other, get_or-set_same, get_or_default, length-replicate, length-set}
-use Rattle.std.proofs.lemmas.List.Sums.{sum_by-cons}
-use Rattle.bdb_mkhash.specs.of_text_format.declared.pairs.Pair.{Pair}
-use Rattle.bdb_mkhash.specs.of_text_format.declared.pairs.TextPair.{TextPair}
-use Rattle.bdb_mkhash.specs.of_mkleaves.Units.{KeyedUnit, TreeUnit, page_room}
-use Rattle.bdb_mkhash.specs.of_mktree.Lists.{IsRunAt}
+use Rattle.std.proofs.Common.{◌≡◌, ℕ, zero, suc, ◌+◌, ◌-◌, ◌*◌, ◌<◌, ◌≤◌, ◌^◌, Bool, cond, List, [], ◌∷◌, length, map, replicate, get_or, set, drop, arith, refl, sym, ◌∙◌, ap, subst, inl, inr, ◌/◌}
+use Rattle.bdb_need.proofs.Common.{range_with_len, sum_by, drop_of_length-le, cases_eq, eq-eqb, ne_eqb, get_or-set_other, get_or-set_same, get_or_default, length-replicate, length-set, sum_by-cons}
+use Rattle.bdb_need.proofs.Common.{Pair, TextPair, KeyedUnit, TreeUnit, page_room, IsRunAt, buckets_of, keyed_of, spread_bucket, table_units, keyed, keyed_cost, keyed_own_pages, unlined_pairs}
 use Rattle.bdb_mkhash.specs.of_law_buckets.Tables.{Keyed, bucket_among, dealt}
-use Rattle.bdb_mkhash.specs.Buckets.{buckets_of, keyed_of, spread_bucket, table_units}
-use Rattle.bdb_mkhash.specs.Costs.{keyed, keyed_cost, keyed_own_pages}
 use Rattle.bdb_mkhash.proofs.BucketLemmas.{run_unit}
-use Rattle.bdb_need.specs.TreePages.{unlined_pairs}
 use Rattle.bdb_need.proofs.BehindLemmas.{behind, behind_new, behind_open, length-spread}
 use Rattle.bdb_need.proofs.KeyLemmas.{length-pairs}
 
@@ -100,8 +89,7 @@ dealt_here bits unit rest b is = ap (λ t. cond t (unit ∷ dealt bits rest b) (
 
 dealt_other : (bits : ℕ) (unit : Keyed) (rest : List Keyed) (b : ℕ) → (bucket_among bits unit.key ≡ b → ⊥)
     → dealt bits (unit ∷ rest) b ≡ dealt bits rest b
-dealt_other bits unit rest b differs =
-    ap (λ t. cond t (unit ∷ dealt bits rest b) (dealt bits rest b)) (ne_eqb (bucket_among bits unit.key) b differs)
+dealt_other bits unit rest b differs = ap (λ t. cond t (unit ∷ dealt bits rest b) (dealt bits rest b)) (ne_eqb (bucket_among bits unit.key) b differs)
 
 -- where one bucket's open page changes, the rest begins so many pages fewer
 placed : (size bits pages more b left_now : ℕ) (all rest : List Keyed) (unit : Keyed) (left : List ℕ) → ArePlaced size bits all (unit ∷ rest) pages left

@@ -1,20 +1,12 @@
 -- Trees whose units are counted one after the other.
-use Rattle.std.proofs.Common.{◌≡◌, ℕ, suc, ◌+◌, ◌-◌, ◌<◌, ◌≤◌, false, List, [], ◌∷◌, ◌++◌, length, map, replicate, get_or, drop, arith, refl, sym, ◌∙◌, ap}
-use Rattle.std.proofs.Common.{subst, inl, inr, All}
-use Rattle.std.proofs.Math.ListN.{drop_of_length-le}
-use Rattle.std.proofs.lemmas.Bool.{cases_lt}
-use Rattle.std.proofs.lemmas.List.{append-nil, append_assoc, drop_more, length-map, map-append}
-use Rattle.std.proofs.lemmas.List.Elements.{All-nil, All-push}
+use Rattle.std.proofs.Common.{◌≡◌, ℕ, suc, ◌+◌, ◌-◌, ◌<◌, ◌≤◌, false, List, [], ◌∷◌, ◌++◌, length, map, replicate, get_or, drop, arith, refl, sym, ◌∙◌, ap, subst, inl, inr, All}
+use Rattle.bdb_need.proofs.Common.{drop_of_length-le, cases_lt, append-nil, append_assoc, drop_more, length-map, map-append, All-nil, All-push, inner_cost, key_item_cost, leaf_key, leaves_and_levels}
+use Rattle.bdb_need.proofs.Common.{pages_over, spread_units, unit_key, EntryUnit, TreeUnit, page_room, unit_cost, Records, OpenPage, ArePut, data_units, pages_on}
 use Rattle.bdb_mkhash.specs.of_law_levels.declared.inner_type.InnerType.{InnerType}
 use Rattle.bdb_mkhash.specs.of_law_levels.declared.inner_type.InnerType.TheVariants.{Keyed}
 use Rattle.bdb_mkhash.specs.of_mkleaves.Inner.{first_cost}
 use Rattle.bdb_mkhash.specs.of_mkleaves.Laid.{inner_of}
-use Rattle.bdb_mkhash.specs.of_mkleaves.Spread.{inner_cost, key_item_cost, leaf_key, leaves_and_levels, pages_over, spread_units, unit_key}
-use Rattle.bdb_mkhash.specs.of_mkleaves.Units.{EntryUnit, TreeUnit, page_room, unit_cost}
 use Rattle.bdb_mkhash.specs.of_mkleaves.declared.leaf_type.LeafType.{LeafType}
-use Rattle.bdb_mkhash.specs.of_mkleaves.declared.leaf_type.LeafType.TheVariants.{Records}
-use Rattle.bdb_need.specs.declared.open_page.OpenPage.{OpenPage}
-use Rattle.bdb_need.specs.Counting.{ArePut, data_units, pages_on}
 use Rattle.bdb_need.proofs.BehindLemmas.{behind, behind-map, behind_new, behind_open, length-spread, self, spread_from}
 use Rattle.bdb_need.proofs.OpenLemmas.{pages-behind}
 
@@ -144,8 +136,7 @@ keyed_end type size total left room all items keyed counted room_is is =
 
 pub data_here : (values : List (List ℕ)) (i : ℕ) (value : List ℕ) → i < length values → value ≡ get_or values i []
     → data_units (drop i values) ≡ EntryUnit value false ∷ data_units (drop (i + 1) values)
-data_here values i value within is =
-    ap data_units (drop_more values i [] within) ∙ ap (λ v. EntryUnit v false ∷ data_units (drop (i + 1) values)) (sym is)
+data_here values i value within is = ap data_units (drop_more values i [] within) ∙ ap (λ v. EntryUnit v false ∷ data_units (drop (i + 1) values)) (sym is)
 
 pub data_past : (values : List (List ℕ)) (i : ℕ) → length values ≤ i → data_units (drop i values) ≡ []
 data_past values i past = ap data_units (drop_of_length-le values past)

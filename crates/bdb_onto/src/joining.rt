@@ -10,7 +10,7 @@ ghost use Rattle.bdb_onto.specs.Search.{IsPartnerAt, IsWithin};
 
 use crate::Base;
 use bdb_format::{Order, Settings};
-use bdb_mkfile::{PairSlice, PlacedPairs, Section, Sections, TextPairs};
+use bdb_mkfile::{KeyRef, PairSlice, PlacedPairs, Section, Sections, TextPairs};
 use std::alloc::{AllocError, Global};
 
 /// A section, and the place of its partner in the base, where it has one.
@@ -48,11 +48,32 @@ fn pairs_before(before: PairSlice<'_>, pairs: TextPairs) -> Result<TextPairs, Al
     Ok(turned(all, count))
 }
 
-// Pairs and others behind them, in the run of those that are more: so the fewer are copied.
+// How many bytes a key has.
+fn key_length(key: KeyRef<'_>) -> u64 {
+    match key {
+        KeyRef::Bytes(bytes) => bytes.len() as u64,
+        KeyRef::Number(_) => 0,
+    }
+}
+
+// How many bytes copies of pairs have, with a place of 32 for each. Items of a file may be one, or overlap: then these are more than those of their run.
+fn copied_length(pairs: PairSlice<'_>) -> u64 {
+    let mut length: u64 = 0;
+    for i in 0..pairs.len() {
+        let pair = pairs.at(i);
+        length = length.saturating_add(key_length(pair.key));
+        length = length
+            .saturating_add(pair.value.len() as u64)
+            .saturating_add(32);
+    }
+    length
+}
+
+// Pairs and others behind them, in the run of those whose copies are longer: so the shorter ones are copied, which are no longer than the text.
 fn pairs_of_both(before: TextPairs, pairs: TextPairs) -> Result<TextPairs, AllocError>
     ensures { IfOk result (λ all. all ≡ before ++ pairs) }
 {
-    if before.len() < pairs.len() {
+    if copied_length(before.as_slice()) < copied_length(pairs.as_slice()) {
         pairs_before(before.as_slice(), pairs)
     } else {
         pairs_behind(before, pairs.as_slice())
@@ -147,7 +168,7 @@ fn with_left(all: Sections, places: Vec<Option<Section>>) -> Result<Sections, Al
 }
 
 /// Sections behind their partners, which stand at these places in the base, and the databases of the base that are left. Pairs are moved, but where a section
-/// has a partner the fewer of both are copied, behind the others in their run.
+/// has a partner those of both are copied whose copies are shorter, behind the others in their run.
 pub(crate) fn joined(
     alloc: Global,
     base: Base,

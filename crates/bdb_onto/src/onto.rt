@@ -14,8 +14,9 @@ use bdb_io::Image;
 use bdb_mkfile::{LoadError, Sections, filled, in_name_order, load_sound, ordered};
 use std::alloc::Global;
 
-/// What loading sections onto a base gives: its databases in the order of their names, with their lists, and without lines. An error is the
-/// first of the sections on the base; where there is none, memory may have run out.
+/// The databases that come of loading sections onto a base, in the order of their names, each with its list; their lines are 0. An error is the first
+/// load error of the sections on the base (docs/FORMAT.md, "Loading onto a file"), by line and then by code; where there is none, memory may have run
+/// out.
 pub fn settle_onto(alloc: Global, base: Base, sections: Sections) -> Result<Sections, LoadError>
     requires base { IsBase base }
     requires fit { AreLoadable sections }
@@ -30,9 +31,9 @@ pub fn settle_onto(alloc: Global, base: Base, sections: Sections) -> Result<Sect
     Ok(in_name_order(alloc, settled)?)
 }
 
-/// The image of sections that are loaded onto a base: a sound file with the databases of both, of at most `max` bytes, in the page size and
-/// the order of the base. Pages of buckets have type 2, and the root of a tree of data says how many there are. Metadata and pages are as `load` lays them
-/// out. An error is the first of the sections on the base; where there is none, that the image would have more than `max` bytes, or lack of memory.
+/// A sound file of at most `max` bytes with the databases of a base and the sections loaded onto them, in the page size and byte order of the base,
+/// laid out as by `load`. An error is the first load error of the sections on the base; where there is none, that the file would have more than `max`
+/// bytes, or that memory ran out.
 pub fn load_onto(
     alloc: Global,
     base: Base,

@@ -11,8 +11,8 @@ use bdb_graph::{
 };
 use std::alloc::AllocError;
 
-/// Each chain has the length that the items which name it tell. A refusal is the first fault: the least
-/// page of which an item tells another. No memory is taken.
+/// Checks that each chain has the length that the items that name it tell. A refusal is the first fault: the
+/// least page of which an item tells another. No memory is taken.
 pub fn check_chains(linked: &Linked<'_>) -> Result<(), Fault>
     ensures accepted { OnOk result (chain_faults (file_of linked.now) ≡ []) }
     ensures refusal { IfErr result (λ fault. first_fault (chain_faults (file_of linked.now)) ≡ Some fault) }
@@ -27,16 +27,16 @@ pub fn check_chains(linked: &Linked<'_>) -> Result<(), Fault>
     }
 }
 
-/// Notes each page of which an item tells another length than its chain has, in a list of all. An error is want of
-/// memory.
+/// Notes each page of which an item tells another length than its chain has, in a list of all. An error means
+/// that memory ran out.
 pub fn chain_faults(linked: &Linked<'_>, found: &mut NamedList) -> Result<(), AllocError>
     ensures { OnOk result (NotesAll (HasNoted found.old) (HasNoted found.new) (chain_faults (file_of linked.now))) }
 {
     note_chains(linked, found)
 }
 
-/// Notes each page of which an item tells another length than its chain has. An error is want of the sink's memory;
-/// none else is taken.
+/// Notes each page of which an item tells another length than its chain has. An error means that memory ran
+/// out for the sink; no other memory is taken.
 #[tactic(auto, using(crate::proofs::UnchainedLemmas::nothing_to_note))]
 pub fn note_chains<F: FaultSink>(linked: &Linked<'_>, found: &mut F) -> Result<(), AllocError>
     ensures noted { OnOk result (NotesAll (F.has_noted found.old) (F.has_noted found.new) (chain_faults (file_of linked.now))) }

@@ -31,15 +31,6 @@ impl<'a> Datum<'a> {
         }
     }
 
-    /// A number by which the value of a chain may be known again; `None` where its bytes stand on one page. Nothing is said of the value by it: values of one
-    /// number may differ.
-    pub fn mark(&self) -> Option<u32> {
-        match self {
-            Datum::Inline(_) => None,
-            Datum::Chained(pieces) => Some(pieces.mark()),
-        }
-    }
-
     /// How many bytes the value has.
     pub fn len(&self) -> u64
         ensures { result ≡ length (datum_seen self.now) }

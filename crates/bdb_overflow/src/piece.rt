@@ -141,11 +141,6 @@ impl<'a> Pieces<'a> {
         }
     }
 
-    /// The page where they go on. Nothing is said of the pieces by it: it's a mark by which those of one chain may be known again.
-    pub(crate) fn mark(&self) -> u32 {
-        self.next
-    }
-
     /// How many bytes the pieces have together.
     #[tactic(auto, using(crate::proofs::TakenLemmas::taken_short))]
     pub(crate) fn length(&self) -> u64

@@ -71,8 +71,8 @@ impl<'a> Values<'a> {
         self.forest.again()
     }
 
-    /// Whether a value is less than another. A chain isn't less than itself, which takes no look at its pages. An error is want
-    /// of memory, for a chain that is shared. Most values are bytes of pages.
+    /// Whether a value is less than another. A chain isn't less than itself, which takes no look at its
+    /// pages. An error means that memory ran out, for a chain that is shared. Most values are bytes of pages.
     pub fn is_less(&mut self, a: Held<'_>, b: Held<'_>) -> Result<bool, AllocError>
         requires first { FitsHeld (file_of self.old) a }
         requires second { FitsHeld (file_of self.old) b }

@@ -1,13 +1,6 @@
 -- A page that is added, and begun.
 use Rattle.std.proofs.Common.{◌≡◌, ℕ, zero, suc, true, List, [], ◌∷◌, length, replicate, arith, refl, ap, ◌∙◌, length-append}
-use Rattle.std.proofs.Math.Seq.{get_or-append_seam}
-use Rattle.std.proofs.lemmas.List.{length-replicate}
-use Rattle.bdb_layout.specs.of_format.declared.pages.Header.{Header}
-use Rattle.bdb_layout.specs.of_format.Terms.{is_page_size, is_zero}
-use Rattle.bdb_pack.specs.Built.{Built, bytes_of, with_page, with_zeros}
-use Rattle.bdb_pack.specs.Items.{takes_items}
-use Rattle.bdb_pack.specs.OnPages.{IsBegunOn}
-use Rattle.bdb_pack.specs.Placing.{FitsFields, begun_page}
+use Rattle.bdb_pack.proofs.Common.{get_or-append_seam, length-replicate, Header, is_page_size, is_zero, Built, bytes_of, with_page, with_zeros, takes_items, IsBegunOn, FitsFields, begun_page}
 use Rattle.bdb_pack.proofs.BegunLemmas.{begun_on}
 use Rattle.bdb_pack.proofs.HeaderLemmas.{begun_pages_take_items}
 

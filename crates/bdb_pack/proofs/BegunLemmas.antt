@@ -1,14 +1,8 @@
 -- A page that takes an item goes on to take items.
 use Rattle.std.proofs.Common.{◌≡◌, ◌⊎◌, ℕ, ◌+◌, ◌-◌, ◌<◌, ◌≤◌, true, cond, List, [], length, drop, None, arith, sym, ◌∙◌, ap, subst, inl, inr}
-use Rattle.std.proofs.lemmas.Bool.{cases_order, eqb-true}
-use Rattle.bdb_layout.specs.of_format.declared.kinds.Order.{Order}
-use Rattle.bdb_layout.specs.of_format.Terms.{byte_at, entries_of, hash_end, index_end, is_page_size, item_row, offset_of, pad4, page_type}
-use Rattle.std.proofs.lemmas.List.{get_or-set_same}
-use Rattle.bdb_law_grove.proofs.GroveLemmas.{above}
-use Rattle.bdb_pack.specs.Built.{Built, bytes_of, with_page}
-use Rattle.bdb_pack.specs.OnPages.{HasPlaceOn, HasRoomOn, IsBegunOn, holds_on, with_item_on}
-use Rattle.bdb_pack.specs.Items.{HasPlace, IsWritable, OnHash, OnInternal, OnLeaf, OnRecno, PageItem, extent, holds_item, is_hash_type, item_bytes, takes_items}
-use Rattle.bdb_pack.specs.Placing.{BegunStays, IsBegun, high_free_of, page_and_item, place_below}
+use Rattle.bdb_pack.proofs.Common.{cases_order, eqb-true, Order, byte_at, entries_of, hash_end, index_end, is_page_size, item_row, offset_of, pad4, page_type, get_or-set_same, above, Built, bytes_of}
+use Rattle.bdb_pack.proofs.Common.{with_page, HasPlaceOn, HasRoomOn, IsBegunOn, holds_on, with_item_on, HasPlace, IsWritable, OnHash, OnInternal, OnLeaf, OnRecno, PageItem, extent, holds_item}
+use Rattle.bdb_pack.proofs.Common.{is_hash_type, item_bytes, takes_items, BegunStays, IsBegun, high_free_of, page_and_item, place_below}
 use Rattle.bdb_pack.proofs.KeptLemmas.{IsKept, rows_same}
 use Rattle.bdb_pack.proofs.NewRowLemmas.{IsNew, hash_least, hash_row_none, internal_row_none, leaf_row_none, recno_row_none}
 use Rattle.bdb_pack.proofs.OpenLemmas.{open_is}

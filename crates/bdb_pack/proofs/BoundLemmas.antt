@@ -1,17 +1,8 @@
 -- A page is begun where no row holds for its items, and its high free offset is the least of their offsets.
 use Rattle.std.proofs.Common.{◌≡◌, ℕ, zero, suc, ◌+◌, ◌≤◌, Bool, true, false, List, [], ◌∷◌, length, None, arith, refl, nat_le, nat_lt, ◌||◌, option_map}
-use Rattle.std.proofs.lemmas.Bool.{ltb-false, or_parts}
-use Rattle.std.proofs.lemmas.Bool.Decides.{nat_tests}
-use Rattle.bdb_layout.specs.of_format.declared.kinds.Order.{Order}
-use Rattle.bdb_layout.specs.of_format.declared.pages.ItemFault.{ItemFault}
-use Rattle.bdb_layout.specs.of_format.declared.pages.ItemFault.TheVariants.{Offset}
-use Rattle.bdb_layout.specs.of_format.Terms.{byte_at, entries_of, first_row, hash_rows, index_end, internal_rows, item_code, item_row, leaf_rows, offset_of}
-use Rattle.bdb_layout.specs.of_format.Terms.{page_type, recno_rows, ◌:?◌}
-use Rattle.bdb_layout.specs.of_format.declared.pages.PageType.{PageType}
-use Rattle.bdb_layout.specs.of_format.declared.pages.PageType.TheVariants.{Hash as HashPage, Internal as InternalPage, Leaf as LeafPage}
-use Rattle.bdb_layout.specs.of_format.declared.pages.PageType.TheVariants.{RecnoInternal as RecnoInternalPage}
-use Rattle.bdb_layout.proofs.of_format.SizeLemmas.{size_bounds}
-use Rattle.bdb_pack.specs.Placing.{RowsBegin, high_free_of}
+use Rattle.bdb_pack.proofs.Common.{ltb-false, or_parts, nat_tests, Order, ItemFault, Offset, byte_at, entries_of, first_row, hash_rows, index_end, internal_rows, item_code, item_row, leaf_rows}
+use Rattle.bdb_pack.proofs.Common.{offset_of, page_type, recno_rows, ◌:?◌, PageType, size_bounds, RowsBegin, high_free_of}
+use Rattle.bdb_layout.specs.of_format.declared.pages.PageType.TheVariants.{Hash as HashPage, Internal as InternalPage, Leaf as LeafPage, RecnoInternal as RecnoInternalPage}
 use Rattle.bdb_pack.proofs.RowsLemmas.{none_of_three}
 
 -- an offset between the index and the page's end

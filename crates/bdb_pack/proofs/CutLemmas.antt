@@ -1,16 +1,10 @@
 -- Bytes that are cut into pages.
 use Rattle.std.proofs.Common.{◌≡◌, ℕ, zero, suc, ◌+◌, ◌-◌, ◌*◌, ◌<◌, ◌≤◌, List, [], ◌∷◌, ◌++◌, length, take, drop, get_or, set, replicate, arith, refl, sym}
 use Rattle.std.proofs.Common.{◌∙◌, ap, length-append, length-drop, length-take, min}
-use Rattle.std.proofs.lemmas.List.{length-take-le, take-append-drop, drop-drop, drop-take, get_or_append_left, get_or_push, get_or-set_other, get_or-set_same}
-use Rattle.std.proofs.lemmas.List.{length-replicate, length-set, drop_all, append-nil, take-take, take_all, take-append-le, drop-append-le, take_at, drop_at}
-use Rattle.std.proofs.lemmas.List.{append_assoc, nil_from_length}
-use Rattle.std.specs.List.{copy_within}
-use Rattle.std.proofs.Math.Seq.{paste}
+use Rattle.bdb_pack.proofs.Common.{length-take-le, take-append-drop, drop-drop, drop-take, get_or_append_left, get_or_push, get_or-set_other, get_or-set_same, length-replicate, length-set, drop_all}
+use Rattle.bdb_pack.proofs.Common.{append-nil, take-take, take_all, take-append-le, drop-append-le, take_at, drop_at, append_assoc, nil_from_length, copy_within, paste, cases_eq, cases_lt}
+use Rattle.bdb_pack.proofs.Common.{overwritten, Order, AreWhole, Built, built_of, bytes_of, cut, joined_pages, with_page, with_zeros, written_over}
 use Rattle.std.proofs.Math.Nat.{mul-le-mul_right}
-use Rattle.std.proofs.lemmas.Bool.{cases_eq, cases_lt}
-use Rattle.bdb_layout.specs.of_format.Terms.{overwritten}
-use Rattle.bdb_layout.specs.of_format.declared.kinds.Order.{Order}
-use Rattle.bdb_pack.specs.Built.{AreWhole, Built, built_of, bytes_of, cut, joined_pages, with_page, with_zeros, written_over}
 
 pub length_cut : (size count : ℕ) (bytes : List ℕ) → length (cut size count bytes) ≡ count
 length_cut size zero bytes = refl

@@ -1,8 +1,7 @@
 -- What has room on a page fits its fields.
 use Rattle.std.proofs.Common.{ℕ, ◌<◌, ◌≤◌, ◌^◌, List, [], ◌∷◌, ◌++◌, length, arith, length-append, All, flat_map}
 use Rattle.std.proofs.lemmas.List.Elements.{All-cons, All-nil}
-use Rattle.bdb_layout.specs.of_format.declared.kinds.Order.{Order}
-use Rattle.bdb_layout.specs.of_format.Terms.{Set, block_bytes, hash_bytes, spelled}
+use Rattle.bdb_pack.proofs.Common.{Order, Set, block_bytes, hash_bytes, spelled}
 
 blocks_fit : (order : Order) (blocks : List (List ℕ)) → length (flat_map (block_bytes order) blocks) < 2 ^ 16 → All (λ block. length block < 2 ^ 16) blocks
 blocks_fit order [] short = All-nil (λ (block : List ℕ). length block < 2 ^ 16)

@@ -1,13 +1,8 @@
 -- A page that takes items has no row of form.
 use Rattle.std.proofs.Common.{◌≡◌, ℕ, zero, suc, ◌<◌, ◌≤◌, false, not, List, length, Option, Some, None, arith, refl, sym, ◌∙◌, ap, ◌==◌}
-use Rattle.std.proofs.lemmas.Bool.{eq-eqb}
-use Rattle.bdb_layout.specs.of_format.declared.kinds.Order.{Order}
-use Rattle.bdb_layout.specs.of_format.Terms.{body_code, byte_at, entries_of, first_row, four_at, identity_rows, index_end, index_rows, is_tree_type}
-use Rattle.bdb_layout.specs.of_format.Terms.{is_wrong_entry_count, is_wrong_level, is_zero, item_row, lesser, page_code, page_type}
-use Rattle.bdb_layout.specs.of_format.declared.pages.PageType.{PageType}
+use Rattle.bdb_pack.proofs.Common.{eq-eqb, Order, body_code, byte_at, entries_of, first_row, four_at, identity_rows, index_end, index_rows, is_tree_type, is_wrong_entry_count, is_wrong_level, is_zero}
+use Rattle.bdb_pack.proofs.Common.{item_row, lesser, page_code, page_type, PageType, above, BegunIsFormed}
 use Rattle.bdb_layout.proofs.of_format.ItemLemmas.{items_next, least_below, least_items}
-use Rattle.bdb_law_grove.proofs.GroveLemmas.{above}
-use Rattle.bdb_pack.specs.Placing.{BegunIsFormed}
 use Rattle.bdb_pack.proofs.OpenLemmas.{open_is}
 use Rattle.bdb_pack.proofs.StandingLemmas.{not_zero}
 use Rattle.bdb_pack.proofs.TypeLemmas.{Takes, takes}

@@ -1,15 +1,9 @@
 -- A header that was written is read, and its page takes items.
 use Rattle.std.proofs.Common.{◌≡◌, ℕ, ◌+◌, ◌^◌, ◌<◌, List, [], ◌∷◌, ◌++◌, length, drop, arith, refl, sym, ◌∙◌, ap, length-append}
-use Rattle.std.proofs.lemmas.List.{append_assoc}
-use Rattle.bdb_layout.specs.of_format.declared.kinds.Order.{Order}
-use Rattle.bdb_layout.specs.of_format.declared.pages.Header.{Header}
-use Rattle.bdb_layout.specs.of_format.Terms.{DupLeaf, Hash, Internal, Leaf, RecnoInternal, RecnoLeaf, byte_at, entries_of, header_bytes, header_of}
-use Rattle.bdb_layout.specs.of_format.Terms.{is_page_size, listed, lsn_bytes, number_at, page_as, page_type, spelled, two_at}
-use Rattle.bdb_layout.proofs.of_format.SpellingLemmas.{length-overwritten, length-spelled, number_at-first}
+use Rattle.bdb_pack.proofs.Common.{append_assoc, Order, Header, DupLeaf, Hash, Internal, Leaf, RecnoInternal, RecnoLeaf, byte_at, entries_of, header_bytes, header_of, is_page_size, listed, lsn_bytes}
+use Rattle.bdb_pack.proofs.Common.{number_at, page_as, page_type, spelled, two_at, length-overwritten, length-spelled, number_at-first, size_bounds, takes_items, BegunPagesTakeItems, begun_header}
+use Rattle.bdb_pack.proofs.Common.{begun_page, empty_listed, empty_page}
 use Rattle.bdb_layout.proofs.of_format.TurnLemmas.{byte_at_past, number_at_past}
-use Rattle.bdb_layout.proofs.of_format.SizeLemmas.{size_bounds}
-use Rattle.bdb_pack.specs.Items.{takes_items}
-use Rattle.bdb_pack.specs.Placing.{BegunPagesTakeItems, begun_header, begun_page, empty_listed, empty_page}
 use Rattle.bdb_pack.proofs.StandingLemmas.{listing, typed}
 use Rattle.bdb_pack.proofs.TypeLemmas.{Takes, by_type, takes}
 

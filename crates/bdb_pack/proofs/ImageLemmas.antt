@@ -1,14 +1,10 @@
 -- The bytes of all pages as an image.
 use Rattle.std.proofs.Common.{◌≡◌, ℕ, ◌*◌, ◌<◌, ◌≤◌, List, [], length, take, drop, get_or, arith, sym, ◌∙◌, ap}
-use Rattle.std.proofs.lemmas.List.{get_or-map, length-map}
+use Rattle.bdb_pack.proofs.Common.{get_or-map, length-map, NoType, abstract_page, file_of, head_of, page_at, IsCounted, AreWhole, Built, bytes_of, file_so_far, joined_pages, ImagesAreLater}
 use Rattle.std.proofs.lemmas.List.FromFn.{length-range_with_len}
 use Rattle.bdb_layout.specs.of_format.declared.metadata.FileKind.TheVariants.{Queue}
-use Rattle.bdb_layout.specs.of_format.Terms.{NoType, abstract_page, file_of, head_of, page_at}
 use Rattle.bdb_layout.proofs.of_format.FileLemmas.{last_page, page_is}
-use Rattle.bdb_law_grove.specs.Growing.{IsCounted}
-use Rattle.bdb_pack.specs.Built.{AreWhole, Built, bytes_of, file_so_far, joined_pages}
 use Rattle.bdb_pack.proofs.CutLemmas.{all_size, page_of_cut}
-use Rattle.bdb_pack.specs.Stored.{ImagesAreLater}
 
 counted_of : (image : List ℕ) → ((head_of image).kind ≡ Queue → ⊥) → (head_of image).last < (head_of image).pages → IsCounted (file_of image)
 unfolding file_of

@@ -1,8 +1,6 @@
 -- The rows of the items that stay are the same after an entry is added.
 use Rattle.std.proofs.Common.{◌≡◌, ℕ, ◌+◌, ◌-◌, ◌≤◌, false, cond, List, length, drop, arith, refl, ◌∙◌, ap, ◌==◌, nat_lt, slice_range}
-use Rattle.bdb_layout.specs.of_format.declared.kinds.Order.{Order}
-use Rattle.bdb_layout.specs.of_format.Terms.{byte_at, hash_end, hash_rows, index_end, internal_rows, item_row, leaf_rows, offset_of, recno_rows}
-use Rattle.bdb_layout.specs.of_format.declared.pages.PageType.{PageType}
+use Rattle.bdb_pack.proofs.Common.{Order, byte_at, hash_end, hash_rows, index_end, internal_rows, item_row, leaf_rows, offset_of, recno_rows, PageType}
 use Rattle.bdb_pack.proofs.PlaceLemmas.{byte_same, number_same}
 use Rattle.bdb_pack.proofs.StandingLemmas.{slice_same}
 

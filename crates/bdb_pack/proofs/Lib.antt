@@ -1,6 +1,7 @@
 pub mod AddedLemmas
 pub mod BegunLemmas
 pub mod BoundLemmas
+pub mod Common
 pub mod CountLemmas
 pub mod CutLemmas
 pub mod FitLemmas

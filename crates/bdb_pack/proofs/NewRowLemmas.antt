@@ -1,21 +1,11 @@
 -- No row of an item holds that was just placed.
 use Rattle.std.proofs.Common.{◌≡◌, ℕ, zero, suc, ◌+◌, ◌-◌, ◌<◌, ◌≤◌, Bool, true, false, not, cond, List, [], ◌∷◌, ◌++◌, length, drop, Option, Some, None, arith}
 use Rattle.std.proofs.Common.{refl, ◌∙◌, ap, length-append, ◌==◌, ◌||◌, ◌&&◌, ◌%◌, is_none, nat_le, nat_lt, slice_range, flat_map, unwrap_or}
-use Rattle.std.proofs.lemmas.Bool.{and_right, eq-eqb, or_from}
-use Rattle.std.proofs.lemmas.List.{append_assoc}
-use Rattle.bdb_layout.specs.of_format.declared.kinds.Order.{Order}
-use Rattle.bdb_layout.specs.of_format.declared.pages.RecnoItem.{RecnoItem}
-use Rattle.bdb_layout.specs.of_format.Terms.{Chain, Content, Inline, IsHashContent, IsKey, IsLeafContent, Item, Set, Tree, Unknown, block_bytes, blocks_of}
-use Rattle.bdb_layout.specs.of_format.Terms.{byte_at, hash_bytes, hash_end, hash_item_at, hash_rows, index_end, internal_bytes, internal_rows, is_hash_kind}
-use Rattle.bdb_layout.specs.of_format.Terms.{is_leaf_kind, item_row, kind_at, kind_byte, leaf_bytes, leaf_end, leaf_rows, offset_of, recno_bytes, recno_rows}
-use Rattle.bdb_layout.specs.of_format.Terms.{spelled, two_at, zeros}
-use Rattle.bdb_layout.specs.of_format.declared.pages.PageType.TheVariants.{Hash as HashPage, Internal as InternalPage, Leaf as LeafPage}
-use Rattle.bdb_layout.specs.of_format.declared.pages.PageType.TheVariants.{RecnoInternal as RecnoInternalPage}
-use Rattle.bdb_layout.proofs.of_format.SpellingLemmas.{byte_at-in, length-spelled, number_at-in, slice_range-in}
-use Rattle.bdb_layout.proofs.WritingLemmas.{length-hash_chain, length-hash_tree, length-internal_chain, length-internal_inline, length-leaf_chain}
-use Rattle.bdb_layout.proofs.WritingLemmas.{length-leaf_tree}
-use Rattle.bdb_law_grove.proofs.GroveLemmas.{above}
-use Rattle.bdb_pack.specs.Items.{IsHashPlace, IsLeafPlace}
+use Rattle.bdb_pack.proofs.Common.{and_right, eq-eqb, or_from, append_assoc, Order, RecnoItem, Chain, Content, Inline, IsHashContent, IsKey, IsLeafContent, Item, Set, Tree, Unknown, block_bytes}
+use Rattle.bdb_pack.proofs.Common.{blocks_of, byte_at, hash_bytes, hash_end, hash_item_at, hash_rows, index_end, internal_bytes, internal_rows, is_hash_kind, is_leaf_kind, item_row, kind_at}
+use Rattle.bdb_pack.proofs.Common.{kind_byte, leaf_bytes, leaf_end, leaf_rows, offset_of, recno_bytes, recno_rows, spelled, two_at, zeros, byte_at-in, length-spelled, number_at-in, slice_range-in}
+use Rattle.bdb_pack.proofs.Common.{length-hash_chain, length-hash_tree, length-internal_chain, length-internal_inline, length-leaf_chain, length-leaf_tree, above, IsHashPlace, IsLeafPlace}
+use Rattle.bdb_layout.specs.of_format.declared.pages.PageType.TheVariants.{Hash as HashPage, Internal as InternalPage, Leaf as LeafPage, RecnoInternal as RecnoInternalPage}
 use Rattle.bdb_pack.proofs.OpenLemmas.{recno_length}
 use Rattle.bdb_pack.proofs.RowsLemmas.{three_none}
 use Rattle.bdb_pack.proofs.StandingLemmas.{hash_here}

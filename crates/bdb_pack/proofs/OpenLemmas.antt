@@ -1,12 +1,6 @@
 -- What is known of a page before it is written.
 use Rattle.std.proofs.Common.{◌≡◌, ℕ, ◌*◌, ◌<◌, ◌≤◌, true, List, length, arith, ◌∙◌, ap, subst}
-use Rattle.bdb_layout.specs.of_format.declared.kinds.Order.{Order}
-use Rattle.bdb_layout.specs.of_format.declared.pages.RecnoItem.{RecnoItem}
-use Rattle.bdb_layout.specs.of_format.Terms.{is_page_size, recno_bytes}
-use Rattle.bdb_layout.proofs.of_format.SpellingLemmas.{length-pair}
-use Rattle.bdb_layout.proofs.of_format.SizeLemmas.{size_bounds}
-use Rattle.bdb_pack.specs.Placing.{IsBegun, IsOpen}
-use Rattle.bdb_pack.specs.Built.{Built, built_of, bytes_of, with_page, written_over}
+use Rattle.bdb_pack.proofs.Common.{Order, RecnoItem, is_page_size, recno_bytes, length-pair, size_bounds, IsBegun, IsOpen, Built, built_of, bytes_of, with_page, written_over}
 use Rattle.bdb_pack.proofs.CutLemmas.{length_cut, page_length, written_page}
 
 -- a page that takes items leaves room for them

@@ -1,14 +1,7 @@
 -- A page of a chain is read, and has no row of form.
 use Rattle.std.proofs.Common.{◌≡◌, ℕ, ◌+◌, ◌^◌, ◌<◌, ◌≤◌, Bool, true, false, cond, not, List, ◌++◌, length, take, drop, replicate, arith, refl, ◌∙◌, ap}
-use Rattle.std.specs.Prelude.{◌==◌, nat_lt}
-use Rattle.std.proofs.lemmas.Bool.{eq-eqb}
-use Rattle.std.proofs.lemmas.List.{drop_at, length-take-le, take_at}
-use Rattle.bdb_layout.specs.of_format.declared.kinds.Order.{Order}
-use Rattle.bdb_layout.specs.of_format.declared.pages.Header.{Header}
-use Rattle.bdb_layout.specs.of_format.Terms.{Overflow, body_code, byte_at, four_at, header_bytes, header_of, overwritten, page_type, two_at}
-use Rattle.bdb_layout.proofs.of_format.SizeLemmas.{size_bounds}
-use Rattle.bdb_law_grove.proofs.GroveLemmas.{above}
-use Rattle.bdb_pack.specs.Values.{ChainPagesAreFormed, chain_page, piece_header, piece_length, piece_next}
+use Rattle.bdb_pack.proofs.Common.{◌==◌, nat_lt, eq-eqb, drop_at, length-take-le, take_at, Order, Header, Overflow, body_code, byte_at, four_at, header_bytes, header_of, overwritten, page_type}
+use Rattle.bdb_pack.proofs.Common.{two_at, size_bounds, above, ChainPagesAreFormed, chain_page, piece_header, piece_length, piece_next}
 use Rattle.bdb_pack.proofs.FormLemmas.{code_none}
 use Rattle.bdb_pack.proofs.HeaderLemmas.{Fits, header_read, length-header}
 use Rattle.bdb_pack.proofs.StandingLemmas.{not_zero, typed}

@@ -1,10 +1,7 @@
 -- Bytes that are written over elsewhere stay.
 use Rattle.std.proofs.Common.{◌≡◌, ℕ, ◌+◌, ◌-◌, ◌^◌, ◌<◌, ◌≤◌, List, ◌++◌, length, take, drop, arith, sym, ◌∙◌, ap, length-drop}
-use Rattle.std.proofs.Math.Seq.{drop-append-add}
-use Rattle.std.proofs.lemmas.List.{drop-append-le, drop-drop, drop-take, get_or_append_left, get_or-take, length-take-le, take-append-le, take-take}
-use Rattle.bdb_layout.specs.of_format.declared.kinds.Order.{Order}
-use Rattle.bdb_layout.specs.of_format.Terms.{byte_at, number, number_at, overwritten, spelled}
-use Rattle.bdb_layout.proofs.of_format.SpellingLemmas.{byte_at-from, number_at-from, number_at-spelled}
+use Rattle.bdb_pack.proofs.Common.{drop-append-add, drop-append-le, drop-drop, drop-take, get_or_append_left, get_or-take, length-take-le, take-append-le, take-take, Order, byte_at, number, number_at}
+use Rattle.bdb_pack.proofs.Common.{overwritten, spelled, byte_at-from, number_at-from, number_at-spelled}
 
 pub number_before : (n : ℕ) (order : Order) (bytes : List ℕ) (at : ℕ) (piece : List ℕ) (x : ℕ) → x + n ≤ at → at ≤ length bytes
     → number_at n order (overwritten bytes at piece) x ≡ number_at n order bytes x

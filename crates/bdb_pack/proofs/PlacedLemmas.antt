@@ -1,10 +1,7 @@
 -- What is read from a page after an entry is added, and after an item is placed.
 use Rattle.std.proofs.Common.{◌≡◌, ℕ, ◌+◌, ◌*◌, ◌<◌, ◌≤◌, List, ◌++◌, length, drop, arith, refl, ◌∙◌}
-use Rattle.bdb_layout.specs.of_format.declared.kinds.Order.{Order}
-use Rattle.bdb_layout.specs.of_format.Terms.{byte_at, entries_of, header_of, index_end, number_at, offset_of, overwritten, pad4, spelled, two_at}
-use Rattle.bdb_layout.proofs.of_format.SpellingLemmas.{length-overwritten, length-spelled}
-use Rattle.bdb_pack.specs.Items.{extent}
-use Rattle.bdb_pack.specs.Placing.{HasRoom, IsOpen, entered, high_free_of, page_and_item, place_below, placed, with_entry}
+use Rattle.bdb_pack.proofs.Common.{Order, byte_at, entries_of, header_of, index_end, number_at, offset_of, overwritten, pad4, spelled, two_at, length-overwritten, length-spelled, extent, HasRoom}
+use Rattle.bdb_pack.proofs.Common.{IsOpen, entered, high_free_of, page_and_item, place_below, placed, with_entry}
 use Rattle.bdb_pack.proofs.PlaceLemmas.{behind, byte_before, byte_same, drop_same, from_here, number_before, number_here, number_same}
 
 -- What is read from a page after an entry is added.

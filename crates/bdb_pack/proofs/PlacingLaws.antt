@@ -1,16 +1,11 @@
 -- The bytes of a page stand, after an item is placed, for the page with the item at its end.
 use Rattle.std.proofs.Common.{◌≡◌, ℕ, ◌+◌, ◌<◌, ◌≤◌, true, false, List, length, arith, ◌∙◌, ◌==◌}
-use Rattle.std.proofs.lemmas.Bool.{eqb-true}
-use Rattle.bdb_layout.specs.of_format.declared.kinds.Order.{Order}
-use Rattle.bdb_layout.specs.of_format.declared.pages.RecnoItem.{RecnoItem}
-use Rattle.bdb_layout.specs.of_format.Terms.{Content, InternalItem, IsHashContent, IsLeafContent, Item, abstract_page, byte_at, entries_of, hash_end}
-use Rattle.bdb_layout.specs.of_format.Terms.{hash_item_at, internal_item_at, leaf_item_at, listed, page_as, page_type, recno_item_at}
-use Rattle.bdb_pack.specs.Items.{IsWritable, OnHash, OnInternal, OnLeaf, OnRecno, PageItem, holds_item, is_hash_type, is_leaf_type, item_bytes}
-use Rattle.bdb_pack.specs.Placing.{IsBegun, ItemsArePlaced, high_free_of, page_with, with_item}
+use Rattle.bdb_pack.proofs.Common.{eqb-true, Order, RecnoItem, Content, InternalItem, IsHashContent, IsLeafContent, Item, abstract_page, byte_at, entries_of, hash_end, hash_item_at, internal_item_at}
+use Rattle.bdb_pack.proofs.Common.{leaf_item_at, listed, page_as, page_type, recno_item_at, IsWritable, OnHash, OnInternal, OnLeaf, OnRecno, PageItem, holds_item, is_hash_type, is_leaf_type}
+use Rattle.bdb_pack.proofs.Common.{item_bytes, IsBegun, ItemsArePlaced, high_free_of, page_with, with_item}
 use Rattle.bdb_pack.proofs.OpenLemmas.{open_is}
 use Rattle.bdb_pack.proofs.PlacedLemmas.{IsPlaced, extent-le, is_below}
-use Rattle.bdb_pack.proofs.StandingLemmas.{end_same, hash_here, hash_item_same, internal_here, internal_item_same, leaf_here, leaf_item_same, listed_more}
-use Rattle.bdb_pack.proofs.StandingLemmas.{recno_here, recno_item_same, typed}
+use Rattle.bdb_pack.proofs.StandingLemmas.{end_same, hash_here, hash_item_same, internal_here, internal_item_same, leaf_here, leaf_item_same, listed_more, recno_here, recno_item_same, typed}
 use Rattle.bdb_pack.proofs.TypeLemmas.{cases_hash, cases_leaf, hash_page}
 use Rattle.bdb_pack.proofs.RowsLemmas.{least_is_last}
 

@@ -1,15 +1,9 @@
 -- The rows of an item, as tests.
-use Rattle.std.proofs.Common.{◌≡◌, ℕ, zero, suc, ◌+◌, ◌-◌, ◌<◌, ◌≤◌, true, false, Bool, cond, List, [], ◌∷◌, length, arith, refl, sym, ◌∙◌, ap, subst, None}
-use Rattle.std.proofs.Common.{nat_le, ◌||◌, option_map}
-use Rattle.std.proofs.lemmas.Bool.{ne_eqb}
-use Rattle.std.proofs.lemmas.Bool.Decides.{nat_tests}
-use Rattle.bdb_layout.specs.of_format.declared.kinds.Order.{Order}
-use Rattle.bdb_layout.specs.of_format.declared.pages.ItemFault.{ItemFault}
-use Rattle.bdb_layout.specs.of_format.declared.pages.ItemFault.TheVariants.{Extent, Kind, Offset}
-use Rattle.bdb_layout.specs.of_format.Terms.{byte_at, entries_of, first_row, hash_end, hash_rows, item_code, item_row, offset_of, page_type, ◌:?◌}
+use Rattle.std.proofs.Common.{◌≡◌, ℕ, zero, suc, ◌+◌, ◌-◌, ◌<◌, ◌≤◌, true, false, Bool, cond, List, [], ◌∷◌, length, arith, refl, sym, ◌∙◌, ap, subst, None, nat_le, ◌||◌, option_map}
+use Rattle.bdb_pack.proofs.Common.{ne_eqb, nat_tests, Order, ItemFault, Extent, Kind, Offset, byte_at, entries_of, first_row, hash_end, hash_rows, item_code, item_row, offset_of, page_type, ◌:?◌}
+use Rattle.bdb_pack.proofs.Common.{IsBegun, high_free_of}
 use Rattle.bdb_layout.specs.of_format.declared.pages.PageType.TheVariants.{Hash as HashPage}
 use Rattle.bdb_layout.proofs.of_format.BoolLemmas.{second_false}
-use Rattle.bdb_pack.specs.Placing.{IsBegun, high_free_of}
 
 pub none_of_three : (a b c : Bool) → option_map item_code (first_row {Code = ItemFault} (Offset :? a ∷ Kind :? b ∷ Extent :? c ∷ [])) ≡ None
     → (a ≡ false) × (b ≡ false) × (c ≡ false)

@@ -1,12 +1,9 @@
 -- An entry that is shared.
 use Rattle.std.proofs.Common.{◌≡◌, ℕ, ◌+◌, ◌-◌, ◌≤◌, List, length, drop, None, arith, refl, sym, ◌∙◌, ap, subst, ◌%◌, option_map}
-use Rattle.std.proofs.lemmas.Bool.{ltb-false, or_parts}
-use Rattle.bdb_layout.specs.of_format.declared.kinds.Order.{Order}
-use Rattle.bdb_layout.specs.of_format.Terms.{Leaf, byte_at, entries_of, first_row, index_end, item_code, item_row, leaf_item_at, leaf_rows, listed, offset_of}
-use Rattle.bdb_layout.specs.of_format.Terms.{page_type}
+use Rattle.bdb_pack.proofs.Common.{ltb-false, or_parts, Order, Leaf, byte_at, entries_of, first_row, index_end, item_code, item_row, leaf_item_at, leaf_rows, listed, offset_of, page_type}
+use Rattle.bdb_pack.proofs.Common.{EntriesAreShared, high_free_of, page_again, page_and_shared, with_item}
 use Rattle.bdb_layout.specs.of_format.declared.pages.PageType.TheVariants.{Leaf as LeafPage}
 use Rattle.bdb_layout.proofs.of_format.LeafLemmas.{one_offset}
-use Rattle.bdb_pack.specs.Placing.{EntriesAreShared, high_free_of, page_again, page_and_shared, with_item}
 use Rattle.bdb_pack.proofs.BegunLemmas.{grown_stays, still_none}
 use Rattle.bdb_pack.proofs.OpenLemmas.{open_is}
 use Rattle.bdb_pack.proofs.PlacedLemmas.{IsEntered, is_entered}

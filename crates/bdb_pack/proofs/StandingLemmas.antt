@@ -1,20 +1,12 @@
 -- After an item is placed, the others stand as they did, and it stands at the end.
 use Rattle.std.proofs.Common.{◌≡◌, ℕ, zero, suc, ◌+◌, ◌-◌, ◌^◌, ◌<◌, ◌≤◌, false, List, [], ◌∷◌, ◌++◌, map, length, take, drop, arith, refl, sym, ◌∙◌, ap}
-use Rattle.std.specs.Prelude.{◌==◌, ◌%◌, nat_le, slice_range}
-use Rattle.std.specs.List.{range_with_len}
-use Rattle.std.proofs.lemmas.Bool.{ne_eqb}
-use Rattle.std.proofs.lemmas.List.{length-take-le, map-append, take-append-drop}
+use Rattle.bdb_pack.proofs.Common.{◌==◌, ◌%◌, nat_le, slice_range, range_with_len, ne_eqb, length-take-le, map-append, take-append-drop, Order, Header, RecnoItem, Chain, Content, Inline, InternalItem}
+use Rattle.bdb_pack.proofs.Common.{IsHashContent, IsKey, IsLeafContent, Item, Listed, abstract_page, byte_at, entries_of, four_at, hash_bytes, hash_content, hash_end, hash_item_at, internal_bytes}
+use Rattle.bdb_pack.proofs.Common.{internal_item_at, internal_key, is_deleted, is_zero, kind_at, leaf_bytes, leaf_content, leaf_item_at, listed, offset_of, page_as, page_type, recno_bytes}
+use Rattle.bdb_pack.proofs.Common.{recno_item_at, two_at, with_item}
 use Rattle.std.proofs.lemmas.List.Folds.{list_all_at}
-use Rattle.bdb_layout.specs.of_format.declared.kinds.Order.{Order}
-use Rattle.bdb_layout.specs.of_format.declared.pages.Header.{Header}
-use Rattle.bdb_layout.specs.of_format.declared.pages.RecnoItem.{RecnoItem}
-use Rattle.bdb_layout.specs.of_format.Terms.{Chain, Content, Inline, InternalItem, IsHashContent, IsKey, IsLeafContent, Item, Listed, abstract_page, byte_at}
-use Rattle.bdb_layout.specs.of_format.Terms.{entries_of, four_at, hash_bytes, hash_content, hash_end, hash_item_at, internal_bytes, internal_item_at}
-use Rattle.bdb_layout.specs.of_format.Terms.{internal_key, is_deleted, is_zero, kind_at, leaf_bytes, leaf_content, leaf_item_at, listed, offset_of, page_as}
-use Rattle.bdb_layout.specs.of_format.Terms.{page_type, recno_bytes, recno_item_at, two_at}
 use Rattle.bdb_layout.proofs.of_format.ListLemmas.{range_more}
 use Rattle.bdb_layout.proofs.ReadBackLemmas.{hash_items_read_back, internal_items_read_back, leaf_items_read_back, recno_items_read_back}
-use Rattle.bdb_pack.specs.Placing.{with_item}
 use Rattle.bdb_pack.proofs.PlaceLemmas.{byte_same, drop_same, number_same}
 use Rattle.bdb_pack.proofs.PlacedLemmas.{IsEntered, header_entered}
 

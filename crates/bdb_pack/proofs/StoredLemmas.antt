@@ -1,15 +1,9 @@
 -- The pages of a stored value, read back, are a chain of it.
 use Rattle.std.proofs.Common.{◌≡◌, ℕ, suc, ◌+◌, ◌-◌, ◌^◌, ◌<◌, ◌≤◌, true, false, cond, List, [], ◌∷◌, ◌++◌, length, take, drop, get_or, arith, refl, sym, ◌∙◌}
 use Rattle.std.proofs.Common.{inl, inr, subst, ap, length-append, length-drop, nat_lt}
-use Rattle.std.proofs.lemmas.Bool.{lt-ltb}
-use Rattle.std.proofs.lemmas.List.{append-nil, get_or-append-add, get_or-map, length-take-le, take-append-drop}
-use Rattle.bdb_layout.specs.of_format.declared.kinds.Order.{Order}
-use Rattle.bdb_layout.specs.of_format.Terms.{File, NoType, Overflow, Page, abstract_page, is_page_size, joined, page_at}
-use Rattle.bdb_law_grove.specs.Growing.{IsLink, IsRun, IsSamePage, chain_header}
+use Rattle.bdb_pack.proofs.Common.{lt-ltb, append-nil, get_or-append-add, get_or-map, length-take-le, take-append-drop, Order, File, NoType, Overflow, Page, abstract_page, is_page_size, joined}
+use Rattle.bdb_pack.proofs.Common.{page_at, IsLink, IsRun, IsSamePage, chain_header, bytes_of, file_so_far, AreFull, StoredValuesStand, AreChainPages, chain_page, piece_length, piece_next}
 use Rattle.bdb_law_grove.proofs.ChainLemmas.{chains_stand, is_between}
-use Rattle.bdb_pack.specs.Built.{bytes_of, file_so_far}
-use Rattle.bdb_pack.specs.Stored.{AreFull, StoredValuesStand}
-use Rattle.bdb_pack.specs.Values.{AreChainPages, chain_page, piece_length, piece_next}
 use Rattle.bdb_pack.proofs.PieceLemmas.{chain_pages_are_formed}
 
 -- A page of a chain.

@@ -1,11 +1,7 @@
 -- The types of pages that take items.
 use Rattle.std.proofs.Common.{arith, ◌≡◌, ℕ, true, false, List, [], ◌∷◌, sym, ap, inl, inr, refl, subst, ◌⊎◌, ◌==◌}
-use Rattle.std.specs.List.{list_any}
-use Rattle.std.proofs.lemmas.Bool.{cases_Bool, eqb-true}
+use Rattle.bdb_pack.proofs.Common.{list_any, cases_Bool, eqb-true, Order, body_code, is_tree_type, listed_code, page_type, is_hash_type, is_leaf_type, takes_items}
 use Rattle.bdb_layout.specs.of_format.declared.pages.PageType.TheVariants.{Hash as HashPage}
-use Rattle.bdb_layout.specs.of_format.declared.kinds.Order.{Order}
-use Rattle.bdb_layout.specs.of_format.Terms.{body_code, is_tree_type, listed_code, page_type}
-use Rattle.bdb_pack.specs.Items.{is_hash_type, is_leaf_type, takes_items}
 
 -- the first of a list of types, or one of the others
 step : (byte t : ℕ) (others : List ℕ) → list_any (λ x. x == byte) (t ∷ others) ≡ true → (byte ≡ t) ⊎ (list_any (λ x. x == byte) others ≡ true)

@@ -1,13 +1,7 @@
 -- A value that is stored page by page.
-use Rattle.std.proofs.Common.{◌≡◌, ℕ, suc, min, ◌+◌, ◌-◌, ◌*◌, ◌^◌, ◌<◌, ◌≤◌, List, [], length, take, drop, replicate, arith, ◌∙◌}
-use Rattle.std.proofs.Common.{ap, subst, length-append, length-drop}
-use Rattle.std.proofs.lemmas.List.{append_assoc, append-nil, get_or_push, length-replicate, length-take-le, set_at}
-use Rattle.bdb_layout.specs.of_format.declared.kinds.Order.{Order}
-use Rattle.bdb_layout.specs.of_format.Terms.{header_bytes, overwritten}
-use Rattle.bdb_layout.proofs.of_format.SpellingLemmas.{length-overwritten}
-use Rattle.bdb_pack.specs.Built.{AreWhole, Built, bytes_of, with_zeros, written_over}
-use Rattle.bdb_pack.specs.Values.{AreChainPages, HasChain, chain_page, piece_header, piece_length, piece_next, with_piece}
-use Rattle.bdb_pack.specs.ValueLoop.{IsBegunChain}
+use Rattle.std.proofs.Common.{◌≡◌, ℕ, suc, min, ◌+◌, ◌-◌, ◌*◌, ◌^◌, ◌<◌, ◌≤◌, List, [], length, take, drop, replicate, arith, ◌∙◌, ap, subst, length-append, length-drop}
+use Rattle.bdb_pack.proofs.Common.{append_assoc, append-nil, get_or_push, length-replicate, length-take-le, set_at, Order, header_bytes, overwritten, length-overwritten, AreWhole, Built, bytes_of}
+use Rattle.bdb_pack.proofs.Common.{with_zeros, written_over, AreChainPages, HasChain, chain_page, piece_header, piece_length, piece_next, with_piece, IsBegunChain}
 use Rattle.bdb_pack.proofs.HeaderLemmas.{length-header}
 use Rattle.bdb_pack.proofs.CutLemmas.{suc-times, written_whole, zeros_whole}
 

@@ -46,7 +46,7 @@ told_size settings = by_test (shows_length settings)
     by_test true = refl
     by_test false = refl
 
-found_size : (size : ℕ) (order : Order) (fields : Metadata) → (settings_of size order fields).page_size ≡ size
+pub found_size : (size : ℕ) (order : Order) (fields : Metadata) → (settings_of size order fields).page_size ≡ size
 found_size size order (BtreeFields meta) = by_test (is_recno meta)
   where
     by_test : (b : Bool) → (cond b (recno_settings size order meta) (btree_settings size order meta)).page_size ≡ size

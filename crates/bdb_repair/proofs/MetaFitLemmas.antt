@@ -1,12 +1,11 @@
 -- The metadata of databases that are found in a damaged file.
-use Rattle.std.proofs.Common.{◌≡◌, ℕ, ◌+◌, ◌-◌, ◌*◌, ◌/◌, ◌<◌, ◌≤◌, ◌^◌, Bool, true, false, cond, List, [], ◌∷◌, ◌++◌, length, map, take, drop, Option, Some, None}
+use Rattle.std.proofs.Common.{◌≡◌, ℕ, ◌+◌, ◌-◌, ◌*◌, ◌/◌, ◌<◌, ◌≤◌, ◌^◌, Bool, true, false, cond, List, [], ◌∷◌, ◌++◌, length, take, drop, Option, Some, None}
 use Rattle.std.proofs.Math.Nat.{div-mul-le_self, mul-le-mul_right}
-use Rattle.std.proofs.Common.{arith, refl, sym, ◌∙◌, ap, subst, inl, inr}
+use Rattle.std.proofs.Common.{arith, refl, sym, ◌∙◌, subst, inl, inr}
 use Rattle.std.specs.Prelude.{◌==◌, ◌&&◌, ◌||◌, nat_lt, is_none}
-use Rattle.std.specs.List.{All, flat_map, fold}
-use Rattle.std.proofs.lemmas.Bool.{cases_lt, ltb-true}
+use Rattle.std.proofs.lemmas.Bool.{and_parts, cases_lt, ltb-true}
 use Rattle.std.proofs.lemmas.Bool.Decides.{nat_tests}
-use Rattle.std.proofs.lemmas.List.Elements.{All-append, All-cons, All-drop, All-head, All-nil, All-tail, All-take}
+use Rattle.std.proofs.lemmas.List.Elements.{All-drop, All-take}
 use Rattle.bdb_model.specs.of_format.declared.kinds.Order.{Order}
 use Rattle.bdb_model.specs.of_format.declared.metadata.BtreeMeta.{BtreeMeta}
 use Rattle.bdb_model.specs.of_format.declared.metadata.FileKind.TheVariants.{Btree, Hash as HashFile, Queue as QueueFile}
@@ -14,7 +13,7 @@ use Rattle.bdb_model.specs.of_format.declared.metadata.HashMeta.{HashMeta}
 use Rattle.bdb_model.specs.of_format.declared.metadata.QueueMeta.{QueueMeta}
 use Rattle.bdb_model.specs.of_format.declared.pages.PageType.{PageType}
 use Rattle.bdb_model.specs.of_format.declared.pages.PageType.TheVariants.{HashMeta as HashMetaPage, BtreeMeta as BtreeMetaPage}
-use Rattle.bdb_model.specs.of_format.Terms.{BtreeFields, File, HashFields, Meta, Metadata, Page, QueueFields, Row, Zero, abstract_page, are_wrong_flags}
+use Rattle.bdb_model.specs.of_format.Terms.{BtreeFields, HashFields, Meta, Metadata, Page, QueueFields, Row, Zero, abstract_page, are_wrong_flags}
 use Rattle.bdb_model.specs.of_format.Terms.{btree_fields, byte_at, field_rows, first_row, four_at, hash_fields, is_zero, metadata_rows, page_as, page_at, page_code, page_type}
 use Rattle.bdb_model.specs.of_format.Terms.{queue_fields, records_per_page}
 use Rattle.bdb_model.specs.of_format.Numbers.{pad4}
@@ -148,11 +147,6 @@ is_nothing : (code : Option ℕ) → is_none code ≡ true → code ≡ None
 is_nothing None is = refl
 is_nothing (Some code) is = absurd (cc is)
 
-both : (a b c : Bool) → (a && b && c) ≡ true → b ≡ true
-both true true c is = refl
-both true false c is = absurd (cc is)
-both false b c is = absurd (cc is)
-
 first_of : (a b : Bool) → (a || b) ≡ false → a ≡ false
 first_of true b none = absurd (cc none)
 first_of false b none = refl
@@ -170,7 +164,7 @@ queue_by : (order : Order) (page : List ℕ) (meta : QueueMeta) → AreBytes pag
 queue_by order page meta bytes is =
     let fields = some_fields (is_queue_meta order page) (queue_fields order page) meta is in
     let rows : List (Row ℕ) = field_rows order page 1 0 QueueFile in
-    let fail : AllFail rows = none_is_first_row rows (is_nothing (first_row rows) (both _ _ _ fields.0)) in
+    let fail : AllFail rows = none_is_first_row rows (is_nothing (first_row rows) (and_parts _ _ (and_parts _ _ fields.0).0).1) in
     let len : ℕ = (queue_fields order page).re_len in
     let room : (records_per_page (length page) len == 0) ≡ false = first_of _ _ fail.1.1.1.1.1.1.1.0 in
     subst (IsFitQueue (length page)) fields.1 (record {

@@ -3,15 +3,15 @@ ghost use Rattle.std.specs.Prelude.{◌≡◌, ◌++◌, ◌∷◌, ◌≤◌, �
 ghost use Rattle.bdb_mkfile.specs.NamedImages.{HasBuiltTables};
 ghost use Rattle.bdb_model.specs.of_format.Terms.{is_page_size};
 ghost use Rattle.bdb_repair.specs.Apart.{IsRepairedApart, section_in, sections_in, told_settings};
-ghost use Rattle.bdb_model.specs.of_text_format.Written.{shows_length};
 ghost use Rattle.bdb_rescue.specs.Guesses.{chosen};
 ghost use Rattle.bdb_rescue.specs.of_overflow.Datum.{datum_seen};
 
 use crate::RepairError;
 use crate::apart_room::are_past;
 use crate::repairing::answer_of;
-use bdb_apart::{Apart, Database, Databases, Datum, Kind, Settings, apart_of};
+use bdb_apart::{Apart, Database, Databases, Datum, Settings, apart_of};
 use bdb_io::Image;
+use bdb_law_kept::shows_length;
 use bdb_mkfile::load;
 use bdb_model::{Bytes, Section, Sections, Steps};
 use bdb_rescue::{Guess, salvage};
@@ -35,18 +35,7 @@ fn name_of(alloc: Global, name: Option<Datum<'_>>) -> Result<Option<Bytes>, Allo
     }
 }
 
-// Whether the header of a text tells a length of records.
-fn shows_length(settings: &Settings) -> bool
-    ensures { result ≡ shows_length settings.now }
-{
-    match settings.kind {
-        Kind::Queue => true,
-        Kind::Recno => settings.fixed && settings.re_len != 0,
-        Kind::Btree | Kind::Hash => false,
-    }
-}
-
-// The settings that it tells.
+// The settings that the header of a text tells.
 fn told_settings(settings: Settings) -> Settings
     ensures { result ≡ told_settings settings }
 {
@@ -96,8 +85,9 @@ fn sections_in(alloc: Global, apart: &Apart<'_, '_>) -> Result<Sections, AllocEr
     Ok(sections)
 }
 
-/// The image of the databases that are found in an image by the given guess, or the one that page 0 tells: a sound file of at most `max` bytes, with what is
-/// salvaged of each under its name, of its kind and with its settings. Where none is found nothing is built. Where the data that it keeps have more bytes,
+/// A sound file of at most `max` bytes with the databases that are found in an image, by the given guess or else that of page 0: each with its name,
+/// its kind, its settings and what is salvaged of it. `NoMeta` without a guess, or where no database is found; `TooLarge` exactly where the file
+/// would have more bytes; or memory ran out. If the data of btrees and hashes in which none may replace another have more bytes by themselves,
 /// nothing is copied.
 pub fn repair_apart<L: Ledger>(
     alloc: Global,

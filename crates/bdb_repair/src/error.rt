@@ -3,10 +3,10 @@ ghost use Rattle.std.specs.Prelude.{◌≡◌};
 use bdb_rescue::SalvageError;
 use std::alloc::AllocError;
 
-/// Why nothing is repaired.
+/// Why no file is built.
 #[derive(Clone, Copy, Debug, PartialEq, Eq)]
 pub enum RepairError {
-    /// No guess is given, and page 0 tells none.
+    /// No guess is given, and page 0 gives none. Of `repair_apart` also: no database is found.
     NoMeta,
     /// The file would have more bytes than the limit.
     TooLarge,

@@ -1,12 +1,12 @@
 //! What is salvaged, as sections that can be loaded.
 ghost use Rattle.std.specs.Prelude.{◌≡◌, ◌≤◌, ◌^◌, IfOk, Some, length};
-ghost use Rattle.bdb_repair.specs.Parts.{loose_section, named_sections, repair_sections, shaped_pairs, shaped_section, stored_section};
+ghost use Rattle.bdb_repair.specs.Parts.{loose_section, named_sections, repair_sections, shaped_section, stored_section};
 ghost use Rattle.bdb_rescue.specs.Kept.{file_in};
 ghost use Rattle.bdb_rescue.specs.of_survey.Salvage.{loose, stored};
 
 use crate::shape::shaped_settings;
 use crate::{Duplicates, Shape};
-use bdb_model::{Bytes, Section, Sections, TextPairs};
+use bdb_model::{Bytes, Section, Sections};
 use bdb_rescue::{Salvaged, loose_pairs, stored_pairs};
 use std::alloc::{AllocError, Global};
 
@@ -57,21 +57,6 @@ fn named_sections(alloc: Global, salvaged: &Salvaged<'_>) -> Result<Sections, Al
     Ok(sections)
 }
 
-// The pairs of the one section of a shape.
-fn shaped_pairs(
-    alloc: Global,
-    shape: Shape,
-    salvaged: &Salvaged<'_>,
-) -> Result<TextPairs, AllocError>
-    requires { length salvaged.now.image ≤ 2 ^ 30 }
-    ensures { IfOk result (λ pairs. pairs ≡ shaped_pairs shape (file_in salvaged.now)) }
-{
-    match shape {
-        Shape::Btree(_) | Shape::Hash(_) => stored_pairs(alloc, salvaged),
-        Shape::Recno => loose_pairs(alloc, salvaged),
-    }
-}
-
 // The one section of a shape.
 fn shaped_section(
     alloc: Global,
@@ -81,11 +66,15 @@ fn shaped_section(
     requires { length salvaged.now.image ≤ 2 ^ 30 }
     ensures { IfOk result (λ section. section ≡ shaped_section salvaged.now.guess shape (file_in salvaged.now)) }
 {
+    let pairs = match shape {
+        Shape::Btree(_) | Shape::Hash(_) => stored_pairs(alloc, salvaged)?,
+        Shape::Recno => loose_pairs(alloc, salvaged)?,
+    };
     Ok(Section {
         name: None,
         settings: shaped_settings(salvaged.guess(), shape),
         header_line: 0,
-        pairs: shaped_pairs(alloc, shape, salvaged)?,
+        pairs,
     })
 }
 

@@ -45,10 +45,11 @@ pub(crate) fn answer_of(loaded: Result<Image, LoadError>) -> Result<Image, Repai
     }
 }
 
-/// The image of what is salvaged of an image by the given guess, or the one that page 0 tells: a sound file of at most `max` bytes, with one database
-/// of a shape where one is given, and else with those that `salvage` names. Where the data that it keeps have more bytes, nothing is copied. What is copied has
-/// at most three times the bytes of the image: a chain is copied once, however many items name it, and so is a set. Beside it each pair takes a place of
-/// 32 bytes.
+/// A sound file of at most `max` bytes with what is salvaged of an image, by the given guess or else that of page 0. With a shape it has one database
+/// without a name, of that kind and those duplicates; without one the databases that `salvage` writes, `salvaged` and, if there are loose records,
+/// `loose`. `NoMeta` without a guess; `TooLarge` exactly where the file would have more bytes; or memory ran out. If no datum may replace another,
+/// and the data to keep have more bytes by themselves, nothing is copied. Copies have at most three times the bytes of the image, since a chain or a
+/// set is copied once, however many items name it; beside them each pair takes 32 bytes.
 pub fn repair_as<L: Ledger>(
     alloc: Global,
     image: &[u8],
@@ -71,7 +72,7 @@ pub fn repair_as<L: Ledger>(
     answer_of(load(alloc, sections, max))
 }
 
-/// The same without a shape. Refused as there.
+/// `repair_as` without a shape: the databases `salvaged` and, if there are loose records, `loose`. The errors are the same.
 pub fn repair<L: Ledger>(
     alloc: Global,
     image: &[u8],

@@ -18,7 +18,7 @@ use Rattle.bdb_text_format.specs.of_places.Places.{span_in}
 use Rattle.bdb_text_format.specs.of_places.declared.span.Span.{Span}
 use Rattle.bdb_text_format.specs.Terms.{Extends, Gathering, IsKeyPlaced, IsPiecePut, key_again, pair_with, placed_key}
 use Rattle.bdb_text_format.proofs.GatheredLemmas.{chains_same}
-use Rattle.bdb_text_format.proofs.PlacedLemmas.{kept_on, key_stays, key_within}
+use Rattle.bdb_text_format.proofs.PlacedLemmas.{key_stays, key_within}
 use Rattle.bdb_survey.specs.Salvage.{loose}
 use Rattle.bdb_rescue.proofs.LooseCountLemmas.{loose_few}
 use Rattle.bdb_rescue.proofs.LooseLemmas.{loose_is}
@@ -67,13 +67,6 @@ adds_on old mid new key some more all first second are =
           ∙ ap (λ pairs. old.gathered.pairs ++ pairs)
           (sym (map-append (λ value. pair_with k value 0) some more) ∙ ap (with_key k) (sym are)))));
     }
-
-pub grows_on : (old mid new : InHand) → Grows old mid → Grows mid new → Grows old new
-grows_on old mid new first second = record {
-  reading = second.reading ∙ first.reading;
-  bytes = kept_on old.gathered.bytes mid.gathered.bytes new.gathered.bytes first.bytes second.bytes;
-  pairs = second.pairs ∙ first.pairs;
-}
 
 pub grown_key : (old new : InHand) (key : PlacedKey) → Grows old new → IsKeyPlaced old.gathered.bytes key → IsKeyPlaced new.gathered.bytes key
 grown_key old new key grows placed = key_within old.gathered.bytes new.gathered.bytes key grows.bytes placed

@@ -50,7 +50,7 @@ impl<'s, 'a> SalvageEntry<'s, 'a> {
         self.key.again()
     }
 
-    /// The next datum.
+    /// The next datum, or `None` after the last.
     pub fn next(&mut self) -> Option<Datum<'s>>
         ensures datum { YieldsFirstBy datum_seen (λ left. left) self.old.1 result self.new.1 }
         ensures key { self.new.0 ≡ self.old.0 }

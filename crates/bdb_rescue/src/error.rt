@@ -6,7 +6,7 @@ use thiserror::Error;
 /// Why nothing is salvaged.
 #[derive(Clone, Copy, Debug, PartialEq, Eq, Error)]
 pub enum SalvageError {
-    /// No guess is given, and page 0 tells none.
+    /// No guess is given, and page 0 gives none.
     #[error("no metadata page")]
     NoMeta,
     #[error("out of memory")]

@@ -14,7 +14,7 @@ ghost use Rattle.bdb_text_format.specs.of_format.Terms.{Chain, value_of};
 
 use crate::Salvaged;
 use crate::kept::{DataPlace, KeptPair, KeptValue};
-use crate::on_page::{ItemAt, OnPage, begin_of};
+use crate::on_page::{ItemAt, OnPages, begin_of};
 use crate::places::Places;
 use bdb_survey::{Content, Datum, DupBlocks, bytes_in};
 use bdb_text_format::{Gathered, PlacedKey, Span, TextPairs};
@@ -22,8 +22,8 @@ use std::alloc::{AllocError, Global};
 use std::collections::BTreeMap;
 use std::marker::Model;
 
-/// Pairs of a section in the making, of what is salvaged of an image. The value of a chain stands in their run once, however many items name it, and so do the
-/// data of a set: so a run has at most three times the bytes of the image, and beside it each pair takes a place of 32 bytes.
+/// Pairs of a section in the making, of what is salvaged of an image. The value of a chain and the data of a set are copied once, however many items
+/// name them: so the copies have at most three times the bytes of the image. Beside them each pair takes 32 bytes.
 #[derive(Drop)]
 pub struct Gatherer<'s, 'a> {
     salvaged: &'s Salvaged<'a>,
@@ -31,9 +31,7 @@ pub struct Gatherer<'s, 'a> {
     // At which pair the data of a set begin, by its first leaf.
     sets: BTreeMap<u32, usize>,
     room: Vec<u8>,
-    // The pages whose items are put there: of pairs, and of values.
-    paired: OnPage,
-    placed: OnPage,
+    on: OnPages,
 }
 
 impl<'s, 'a> Model for Gatherer<'s, 'a> {
@@ -79,83 +77,16 @@ impl<'s, 'a> Gatherer<'s, 'a> {
         put_chain(head, value, &mut self.room, &mut self.pairs)
     }
 
-    // Whether so many bytes of an item are put there by themselves.
-    fn takes(&mut self, item: ItemAt, bytes: usize) -> bool
-        ensures { self.new ≡ self.old }
-    {
-        let size = self.salvaged.guess().page_size;
-        if item.paired {
-            self.paired.takes(item.page, size, bytes)
-        } else {
-            self.placed.takes(item.page, size, bytes)
-        }
-    }
-
-    // From where on the page of an item stands there, if it does.
-    fn copy_of(&self, item: ItemAt) -> Option<u32> {
-        if item.paired {
-            self.paired.copy()
-        } else {
-            self.placed.copy()
-        }
-    }
-
-    // Notes from where on the page of an item stands there.
-    fn note_copy(&mut self, item: ItemAt, start: u32)
-        ensures { self.new ≡ self.old }
-    {
-        if item.paired {
-            self.paired.note(start);
-        } else {
-            self.placed.note(start);
-        }
-    }
-
-    // From where on the page of an item stands there, which is put there if it doesn't yet.
-    fn page_start(&mut self, item: ItemAt, page: &[u8]) -> Result<u32, AllocError>
-        ensures { Grows self.old self.new }
-    {
-        if let Some(start) = self.copy_of(item) {
-            return Ok(start);
-        }
-        let span = self.pairs.put(page)?;
-        self.note_copy(item, span.start);
-        Ok(span.start)
-    }
-
-    // Where bytes stand that are put there, if they don't from one place on.
-    fn found_span(&mut self, bytes: &[u8], from: usize) -> Result<Span, AllocError>
-        ensures grows { Grows self.old self.new }
-        ensures ok { IfOk result (IsPiecePut self.new.gathered.bytes bytes.now) }
-    {
-        match self.pairs.find(from, bytes) {
-            Some(span) => Ok(span),
-            None => self.pairs.put(bytes),
-        }
-    }
-
-    // Where bytes of an item stand, so many behind where it begins, in the whole page.
-    #[tactic(auto, using(crate::proofs::GatheredLemmas::in_hand, crate::proofs::GatheredLemmas::grows_on))]
-    fn paged_span(&mut self, bytes: &[u8], item: ItemAt, skip: usize) -> Result<Span, AllocError>
-        ensures grows { Grows self.old self.new }
-        ensures ok { IfOk result (IsPiecePut self.new.gathered.bytes bytes.now) }
-    {
-        let page = self.salvaged.page_bytes(item.page);
-        let start = self.page_start(item, page)?;
-        let begin = begin_of(page, self.salvaged.guess().order, item.index);
-        let from = (start as usize).saturating_add(begin).saturating_add(skip);
-        self.found_span(bytes, from)
-    }
-
     // Where bytes of an item stand, so many behind where it begins.
     fn bytes_span(&mut self, bytes: &[u8], item: ItemAt, skip: usize) -> Result<Span, AllocError>
         ensures grows { Grows self.old self.new }
         ensures ok { IfOk result (IsPiecePut self.new.gathered.bytes bytes.now) }
     {
-        if self.takes(item, bytes.len()) {
-            return self.pairs.put(bytes);
-        }
-        self.paged_span(bytes, item, skip)
+        let page = self.salvaged.page_bytes(item.page);
+        let begin = begin_of(page, self.salvaged.guess().order, item.index);
+        let room = self.on.room(item, page.len());
+        self.pairs
+            .put_item(bytes, page, begin.saturating_add(skip), room)
     }
 
     // Where the value of an item stands that has one by itself.
@@ -451,7 +382,7 @@ impl<'s, 'a> Gatherer<'s, 'a> {
         Ok(())
     }
 
-    /// Adds the stored pairs of a page, in the order of slot and place in a set. Fails only where memory runs out.
+    /// Adds the stored pairs of a page, in the order of slot and place in a set. An error means that memory ran out.
     pub fn push_pairs_on(&mut self, page: u32) -> Result<(), AllocError>
         requires { page < (file_in self.old.reading).count }
         ensures reading { OnOk result (self.new.reading ≡ self.old.reading) }
@@ -461,8 +392,8 @@ impl<'s, 'a> Gatherer<'s, 'a> {
         self.push_kept(pairs)
     }
 
-    /// Adds the loose records of a page, in the order of slot, each with its number where so many come before the page: those whose number has four bytes, and of
-    /// them, where a length is asked for that isn't 0, those that have it. Fails only where memory runs out.
+    /// Adds the loose records of a page, in the order of slot, each with its number, where `start` records come before the page: those with a number
+    /// below 2^32 and, unless `len` is 0, of `len` bytes. An error means that memory ran out.
     pub fn push_records_on(&mut self, page: u32, start: u32, len: u32) -> Result<(), AllocError>
         requires { page < (file_in self.old.reading).count }
         ensures reading { OnOk result (self.new.reading ≡ self.old.reading) }
@@ -495,13 +426,12 @@ fn nothing_yet<'s, 'a>(
         pairs: Gathered::new(alloc, pairs)?,
         sets: BTreeMap::new(alloc),
         room: Vec::new(alloc),
-        paired: OnPage::none(),
-        placed: OnPage::none(),
+        on: OnPages::none(),
     })
 }
 
 impl<'s, 'a> Gatherer<'s, 'a> {
-    /// Nothing yet of an image. Fails only where memory runs out.
+    /// No pairs yet, of an image. An error means that memory ran out.
     pub fn of(alloc: Global, salvaged: &'s Salvaged<'a>) -> Result<Gatherer<'s, 'a>, AllocError>
         ensures reading { IfOk result (λ it. it.reading ≡ salvaged.now) }
         ensures pairs { IfOk result (λ it. it.gathered.pairs ≡ []) }
@@ -530,7 +460,7 @@ fn pair_count(salvaged: &Salvaged<'_>) -> usize {
     count
 }
 
-/// The stored pairs of an image as pairs of a section. An error means that memory ran out.
+/// The stored pairs of an image as pairs of a section, whose lines are 0. An error means that memory ran out.
 #[tactic(auto, using(crate::proofs::KeptLemmas::all_pairs, crate::proofs::StoredLemmas::stored_is, crate::proofs::LeftLemmas::pairs_rest, crate::proofs::LeftLemmas::first_pair))]
 pub fn stored_pairs(alloc: Global, salvaged: &Salvaged<'_>) -> Result<TextPairs, AllocError>
     ensures { IfOk result (λ pairs. pairs ≡ map stored_pair (stored (file_in salvaged.now))) }
@@ -542,8 +472,7 @@ pub fn stored_pairs(alloc: Global, salvaged: &Salvaged<'_>) -> Result<TextPairs,
     Ok(all.into_pairs())
 }
 
-/// The loose records of an image as pairs of a section, which are numbered from 1. An error means that memory ran
-/// out.
+/// The loose records of an image as pairs of a section, numbered from 1, whose lines are 0. An error means that memory ran out.
 #[tactic(auto, using(crate::proofs::LooseLemmas::loose_is, crate::proofs::KeptLemmas::all_loose, crate::proofs::LeftLemmas::values_rest, crate::proofs::LeftLemmas::first_value))]
 pub fn loose_pairs(alloc: Global, salvaged: &Salvaged<'_>) -> Result<TextPairs, AllocError>
     requires { length salvaged.now.image ≤ 2 ^ 30 }

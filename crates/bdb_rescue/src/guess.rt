@@ -47,7 +47,7 @@ fn is_known_magic(number: u32) -> bool
         || number == magic_of(FileKind::Queue)
 }
 
-/// The first case that isn't supported which page 0 names; none where a guess is given, or page 0 tells none.
+/// The first unsupported case that page 0 names, by the guess that it gives; `None` if it names none, if a guess is given, or if page 0 gives none.
 pub fn unsupported_case(guess: Option<Guess>, image: &[u8]) -> Option<Unsupported>
     ensures { result ≡ unsupported_case guess image.now }
 {
@@ -57,8 +57,7 @@ pub fn unsupported_case(guess: Option<Guess>, image: &[u8]) -> Option<Unsupporte
     }
 }
 
-/// Whether page 0 is metadata of a queue, or of a btree whose pairs name databases; false where a guess is given, or page 0
-/// tells none.
+/// Whether page 0, by the guess that it gives, is that of a queue, or of a master; false if a guess is given, or if page 0 gives none.
 pub fn is_queue_or_master(guess: Option<Guess>, image: &[u8]) -> bool
     ensures { result ≡ is_queue_or_master guess image.now }
 {

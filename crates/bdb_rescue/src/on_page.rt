@@ -1,7 +1,6 @@
-//! Which bytes of a page stand in a run of bytes. Items of a page may overlap, so together they may have many more bytes than it has: where they do, the page is
-//! put there once, and what is left of them is found in it.
+//! Where the items that are put into a run stand on their pages.
 use bdb_survey::u16_at;
-use bdb_text_format::{Order, PageType};
+use bdb_text_format::{Order, PageRoom, PageType};
 
 /// Where an item stands: on a page of pairs, or on one of values by themselves.
 #[derive(Clone, Copy, Debug)]
@@ -11,46 +10,55 @@ pub(crate) struct ItemAt {
     pub(crate) paired: bool,
 }
 
-/// A page whose items are put into a run, how many bytes they may still have there, and from where on the whole page stands there, if it does.
+// A page whose items are put into a run.
 #[derive(Clone, Copy, Debug)]
-pub(crate) struct OnPage {
+struct OnPage {
     number: u32,
-    left: usize,
-    copy: Option<u32>,
+    room: PageRoom,
 }
 
 impl OnPage {
-    /// No page yet.
-    pub(crate) fn none() -> OnPage {
+    // No page yet.
+    fn none() -> OnPage {
         OnPage {
             number: 0,
-            left: 0,
-            copy: None,
+            room: PageRoom::new(0),
         }
     }
 
-    /// Whether so many bytes more of a page of this size are put there by themselves.
-    pub(crate) fn takes(&mut self, number: u32, size: u32, bytes: usize) -> bool {
+    // The room of a page of so many bytes.
+    fn room(&mut self, number: u32, size: usize) -> &mut PageRoom {
         if self.number != number {
             self.number = number;
-            self.left = size as usize;
-            self.copy = None;
+            self.room = PageRoom::new(size);
         }
-        if self.left < bytes {
-            return false;
+        &mut self.room
+    }
+}
+
+/// The pages whose items are put into a run: of pairs, and of values.
+#[derive(Clone, Copy, Debug)]
+pub(crate) struct OnPages {
+    paired: OnPage,
+    placed: OnPage,
+}
+
+impl OnPages {
+    /// No pages yet.
+    pub(crate) fn none() -> OnPages {
+        OnPages {
+            paired: OnPage::none(),
+            placed: OnPage::none(),
         }
-        self.left -= bytes;
-        true
     }
 
-    /// From where on the page stands there, if it does.
-    pub(crate) fn copy(&self) -> Option<u32> {
-        self.copy
-    }
-
-    /// Notes that it stands there from this place on.
-    pub(crate) fn note(&mut self, start: u32) {
-        self.copy = Some(start);
+    /// The room of the page of an item, which has so many bytes.
+    pub(crate) fn room(&mut self, item: ItemAt, size: usize) -> &mut PageRoom {
+        if item.paired {
+            self.paired.room(item.page, size)
+        } else {
+            self.placed.room(item.page, size)
+        }
     }
 }
 

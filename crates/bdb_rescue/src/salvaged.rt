@@ -26,9 +26,9 @@ use std::alloc::{AllocError, Global};
 use std::marker::Model;
 use std::sync::ledger::Ledger;
 
-/// What can be had from an image: places of the pairs, of the loose records and of the data of sets that are
-/// whole, at most one for each slot, of at most 16 bytes, and 34 bytes for each page. Values are read where they
-/// lie, but for those of whole chains that have fewer bytes than pages, which are kept.
+/// What can be had from an image. Kept are the places of the whole pairs, of the loose records and of the data of whole sets, at most one for each
+/// slot, of at most 16 bytes, and 34 bytes for each page. Values are read where they lie; only those of whole chains with fewer bytes than pages are
+/// kept.
 pub struct Salvaged<'a> {
     image: &'a [u8],
     guess: Guess,
@@ -65,10 +65,10 @@ impl<'a> Model for Salvaged<'a> {
         v.taken.items v.sets.bounds.items v.sets.values.items v.thin.bounds.items v.thin.bytes.items };
 }
 
-/// Finds what an image still has, by the given guess or the one that page 0 tells. Where there is neither, no memory is asked for.
+/// Finds what an image still has, by the given guess or else that of page 0. `NoMeta` without a guess, and then no memory is asked for; or memory ran
+/// out.
 ///
-/// While it runs it keeps 18 bytes for each page, above all the verdict on the row that begins there, so that a chain
-/// or a set is followed once, however many items name it.
+/// While it runs it keeps 18 bytes for each page, above all what begins there: so a chain or a set is followed once, however many items name it.
 #[tactic(auto, using(crate::proofs::GuessLemmas::chosen_legal))]
 pub fn salvage<'a, L: Ledger>(
     alloc: Global,
@@ -163,7 +163,7 @@ fn salvage_as<'a, L: Ledger>(
 }
 
 impl<'a> Salvaged<'a> {
-    /// How the image is read.
+    /// The byte order and page size by which the image is read.
     pub fn guess(&self) -> Guess
         ensures { result ≡ self.now.guess }
     {
@@ -201,7 +201,7 @@ impl<'a> Salvaged<'a> {
         SalvagePairs::among(self, self.pairs_at(page))
     }
 
-    /// The loose records of a page, in the order of slot, each with its number where so many come before the page.
+    /// The loose records of a page, in the order of slot, each with its number, where `start` records come before the page.
     pub fn records_on<'s>(&'s self, page: u32, start: u32) -> SalvageRecords<'s, 'a>
         requires { page < (file_in self.now).count }
         ensures { result ≡ map (numbered_at (file_in self.now) start) (untaken_on (file_in self.now) page) }
@@ -209,7 +209,7 @@ impl<'a> Salvaged<'a> {
         SalvageRecords::over(self, start, self.records_at(page))
     }
 
-    /// The pages of the image.
+    /// The whole pages of the image.
     pub fn pages(&self) -> WholePages<'a>
         ensures { result ≡ file_in self.now }
     {
@@ -255,7 +255,7 @@ impl<'a> Salvaged<'a> {
         &self.pairs.all
     }
 
-    /// The places of the pairs of a page.
+    /// The places of the pairs of a page whose key and data are whole, live or deleted.
     pub fn pairs_at(&self, page: u32) -> &[KeptPair]
         requires { page < (file_in self.now).count }
         ensures { result.now ≡ kept_on (file_in self.now) page }

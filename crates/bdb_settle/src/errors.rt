@@ -25,7 +25,7 @@ fn sooner(first: Option<LoadError>, error: LoadError) -> Option<LoadError>
     }
 }
 
-/// The first error, where another one holds or doesn't.
+/// The first, by line and then by code, of an error and of another one if that holds; `None` if there is neither.
 pub fn sooner_where(first: Option<LoadError>, holds: bool, error: LoadError) -> Option<LoadError>
     ensures { result ≡ fold sooner first (where_so holds error) }
 {
@@ -61,7 +61,7 @@ fn with_pair(first: Option<LoadError>, settings: &Settings, pair: PairRef<'_>) -
     sooner_where(first, is_zero(pair.key), LoadError::RecordZero(pair.line))
 }
 
-/// The first error, with those of pairs.
+/// The first, by line and then by code, of an error and of those of pairs; `None` if there is none.
 pub fn with_pairs(
     first: Option<LoadError>,
     settings: &Settings,

@@ -43,8 +43,8 @@ pub fn ordered(alloc: Global, sections: Sections) -> Result<Sections, AllocError
     turned(alloc, order_backward(alloc, sections)?)
 }
 
-/// What loading makes of the pairs of each section: the sections in the order given, with the same names and settings, and without
-/// lines. An error gives the least line that has one, and the first of its errors; where there is none, memory may have run out.
+/// The sections in the order given, with the same names and settings, each with the list that loading makes of its pairs; their
+/// lines are 0. An error is the first load error, by line and then by code; where there is none, memory may have run out.
 pub fn settle(alloc: Global, sections: Sections) -> Result<Sections, LoadError>
     ensures lists { IfOk result (λ all. all ≡ map loaded_section sections) }
     ensures sound { OnOk result (load_error sections ≡ None) }

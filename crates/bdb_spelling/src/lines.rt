@@ -17,7 +17,8 @@ pub fn line_text(alloc: Global, bytes: &[u8], print: bool) -> Result<Bytes, Allo
     Ok(text)
 }
 
-/// Adds the spelling of bytes to a text. Where memory runs out, the text has the spelling of a first part of them.
+/// Adds the spelling of bytes to a text: printed with `print`, else two hexadecimal digits a byte. An error means that memory ran out; the text has the
+/// spelling of a first part of them then.
 pub fn push_line_text(text: &mut Bytes, bytes: &[u8], print: bool) -> Result<(), AllocError>
     ensures ok { OnOk result (text.new ≡ text.old ++ spelling print bytes.now) }
     ensures part { OnErr result (AddsPart (spelling print) bytes.now text.old text.new) }

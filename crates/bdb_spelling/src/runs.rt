@@ -22,7 +22,8 @@ pub struct Run<'t, 'p> {
     pub rest: &'t [u8],
 }
 
-/// Adds the bytes that a text spells, printed or by two digits each. `Bad` comes only where the text is no spelling, and `Ok` only where it is one.
+/// Adds the bytes that a text spells, printed or by two digits each, to the end of a list. `Bad` comes only where the text is no spelling, and `Ok` only where
+/// it is one. `Memory` means that memory ran out.
 pub fn read_run(text: &[u8], print: bool, bytes: &mut Vec<u8>) -> Result<(), SpellError>
     ensures ok { OnOk result (joined bytes.old.items (bytes_spelled print text.now) ≡ Some bytes.new.items) }
     ensures err { IfErr result (IsSpellError print text.now) }

@@ -2,20 +2,20 @@
 #[derive(Clone, Copy, Debug, PartialEq, Eq)]
 pub enum Class {
     Meta,
-    /// Of a tree, above its leaves.
+    /// A page above the leaves of a tree.
     Internal,
-    /// Of a tree, a tree of duplicates too.
+    /// A leaf of a tree, also of a tree of duplicates.
     Leaf,
-    /// Of a table.
+    /// A page of a bucket of a hash, or one of its zero pages.
     Hash,
-    /// Of a chain.
+    /// A page of a chain.
     Overflow,
-    /// On the list of free pages.
+    /// A page on the list of free pages.
     Free,
-    /// Held back by a table: no reference names it.
+    /// Held back by a hash: no reference names it.
     Reserve,
-    /// Of a queue, behind its metadata.
+    /// A page of a queue, not its metadata.
     Queue,
-    /// Above the last page.
+    /// A page above the last page that page 0 names.
     Tail,
 }

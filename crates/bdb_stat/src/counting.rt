@@ -30,8 +30,8 @@ fn tree_level(linked: &Linked<'_>, class: Class, number: u32) -> u8
     }
 }
 
-/// What the pages of a sound file are; or lack of memory, an eighth of a page's size of which is taken. The image is the one that the file was
-/// linked from.
+/// The figures of a sound file's pages. `image` is the image that `linked` was made of. It takes memory for an eighth of a page. An error means that
+/// memory ran out.
 pub fn stat(alloc: Global, linked: &Linked<'_>, image: &[u8]) -> Result<Stat, AllocError>
     requires { image.now ≡ linked.now }
     ensures { IfOk result (IsStat (file_of linked.now)) }

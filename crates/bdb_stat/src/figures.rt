@@ -5,8 +5,8 @@ ghost use Rattle.bdb_stat.specs.Figures.{Counts, count_in};
 
 use crate::class::Class;
 
-/// What the pages of a file are: how many there are, how many of each class, the greatest level of a tree, and how many bytes of
-/// pages hold nothing.
+/// The figures of a file's pages: how many there are, how many of each class, the greatest level of a page of a tree (a leaf has level 1; 0 without
+/// trees), and how many bytes in them hold nothing.
 #[derive(Clone, Copy, Debug, PartialEq, Eq)]
 pub struct Stat {
     pub pages: u32,

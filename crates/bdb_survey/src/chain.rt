@@ -8,8 +8,8 @@ use crate::whole_pages::WholePages;
 use bdb_law_sums::{Pieces, Steps};
 use std::sync::ledger::Ledger;
 
-/// The pieces of the chain with this head, whose data have this length in bytes; `None` exactly where it isn't
-/// whole. No more steps than the image has whole pages; no memory is taken.
+/// The pieces of the chain with this head, whose data have this length in bytes; `None` exactly where it
+/// isn't whole. It takes at most as many steps as the image has whole pages, and no memory.
 pub fn chain_of<'a, L: Ledger>(
     image: &'a [u8],
     guess: Guess,

@@ -14,7 +14,8 @@ mod whole_pages;
 
 pub use bdb_law_sums::{Datum, KeyView, Meta, Pieces, bytes_in, compare_datum};
 pub use bdb_meta::{
-    Content, DupBlocks, Unsupported, first_page_case, first_page_is_queue_or_master, u16_at, u32_at,
+    Content, DupBlocks, Unsupported, first_page_case, first_page_is_queue_or_master, queue_fields,
+    u16_at, u32_at,
 };
 pub use chain::chain_of;
 pub use guess::Guess;

@@ -28,9 +28,9 @@ impl From<AllocError> for FlipError {
     }
 }
 
-/// The image of a linked file in a byte order: a copy of it where it has that order, and else one with each number of each
-/// page byte-swapped. It's refused exactly where the order is the other one and items of some page overlap, with the first
-/// such page.
+/// A copy of the image of a linked file in a byte order: the same bytes if it has that order, else with each number of each page byte-swapped.
+/// `Overlap` has the first page on which items overlap, exactly where the order is the other one and there is such a page; `Memory` means that memory
+/// ran out.
 pub fn flip(
     alloc: Global,
     linked: &Linked<'_>,

@@ -206,8 +206,8 @@ fn pairs_in(bytes: Vec<u8>, places: Vec<Place>) -> TextPairs
     TextPairs::from_placed(PlacedPairs { bytes, places })
 }
 
-/// The pairs of a section with this header, whose bytes are decoded where they stand then. The number is that of the text's first line, which stands behind the
-/// header's end. Room for `room` bytes is taken at once, and what isn't used of it is given back.
+/// The pairs of a section, from the text behind its header `fields` on: `start` is the number of the text's first line. `Fault` is the first fault of
+/// the data lines. Memory for `room` bytes is taken at once, and what isn't used of it is given back.
 pub fn read_pairs<'a>(
     alloc: Global,
     text: &'a [u8],

@@ -27,7 +27,8 @@ pub struct Read<'a> {
     pub number: u64,
 }
 
-/// The sections of a dump text, or its first fault.
+/// The sections of a dump text of at most 2^30 bytes. `Fault` is its first fault, with its line (from 1) and its reason (docs/FORMAT.md, "Reasons");
+/// `Memory` means that memory ran out.
 pub fn read_dump(alloc: Global, text: &[u8]) -> Result<Sections, TextError>
     requires { length text.now ≤ 2 ^ 30 }
     ensures ok { IfOk result (λ sections. Reads text.now sections) }

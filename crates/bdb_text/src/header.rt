@@ -24,8 +24,8 @@ pub struct HeaderRow<'a> {
     pub holds: bool,
 }
 
-/// The header of the section of a database with this name and these settings, whose data are printed or spelled by digits.
-/// An error means that memory ran out.
+/// The header lines of the section of a database with this name and these settings, from `VERSION=3` to `HEADER=END`, each with its line feed.
+/// `print` says whether the data lines behind it are printed, or else spelled by digits. An error means that memory ran out.
 #[tactic(auto, using(crate::proofs::HeaderLemmas::header_by_rows))]
 pub fn header_text(
     alloc: Global,
@@ -139,7 +139,7 @@ fn format_word(print: bool) -> &'static [u8]
     if print { b"print" } else { b"bytevalue" }
 }
 
-/// The word for a kind of databases.
+/// The word for a kind in a header: `btree`, `recno`, `hash` or `queue`.
 pub fn kind_word(kind: Kind) -> &'static [u8]
     ensures { result.now ≡ kind_text kind }
 {
@@ -211,8 +211,9 @@ fn shows_ffactor(settings: &Settings) -> bool
     }
 }
 
-// The length of records and their pad byte are written.
-fn shows_length(settings: &Settings) -> bool
+/// Whether a header tells the length of records and their pad byte: that of a queue always, that of a recno where it's fixed and not 0. Source:
+/// docs/FORMAT.md, "Dump text".
+pub fn shows_length(settings: &Settings) -> bool
     ensures { result ≡ shows_length settings.now }
 {
     match settings.kind {

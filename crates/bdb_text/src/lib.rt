@@ -20,5 +20,5 @@ pub use bdb_spelling::{
     push_short_line, read_spelling,
 };
 pub use dump::read_dump;
-pub use header::{header_text, kind_word};
+pub use header::{header_text, kind_word, shows_length};
 pub use text_errors::TextError;

@@ -7,7 +7,7 @@ use thiserror::Error;
 /// Why a dump text isn't read.
 #[derive(Clone, Copy, Debug, PartialEq, Eq, Error)]
 pub enum TextError {
-    /// It has this fault.
+    /// The first fault of the text: its line, from 1, and its reason.
     #[error("fault in the text")]
     Fault(TextFault),
     #[error("out of memory")]

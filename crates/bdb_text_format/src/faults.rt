@@ -7,31 +7,31 @@ ghost use Rattle.bdb_text_format.specs.ReasonTable.{reason_code, reason_name};
 pub enum TextReason {
     /// The first line of a section doesn't begin with `VERSION=`, or the text has no lines.
     NoVersion,
-    /// It begins so and isn't `VERSION=3`.
+    /// The first line of a section begins with `VERSION=`, and isn't `VERSION=3`.
     Version,
     /// A header line has no keyword of the table.
     UnknownKeyword,
-    /// Its value isn't one of its keyword.
+    /// The value of a header line isn't one that its keyword takes.
     BadValue,
-    /// Its keyword stood before.
+    /// The keyword of a header line stood in the header before.
     RepeatedKeyword,
-    /// A header ends and says no `type`.
+    /// A header ends without `type`.
     NoType,
-    /// The value isn't supported.
+    /// The value of a header line isn't supported.
     Unsupported,
     /// A data line doesn't begin with a space.
     NoSpace,
-    /// It is no spelling by digits.
+    /// Behind its space a data line has no spelling by digits.
     BadDigit,
-    /// It is no printed spelling.
+    /// Behind its space a data line has no printed spelling.
     BadEscape,
-    /// A section ends behind a key.
+    /// A section ends after a key without its datum.
     KeyWithoutData,
     /// A key isn't the number of a record.
     BadNumber,
     /// The text ends within a section.
     NoEnd,
-    /// A section among others has no name.
+    /// One of several sections has no name.
     NameMissing,
     /// An earlier section has the name.
     NameTwice,
@@ -78,14 +78,14 @@ impl TextReason {
         }
     }
 
-    /// The number of the reason in the table.
+    /// The number of the reason (docs/FORMAT.md, "Reasons").
     pub fn code(self) -> u8
         ensures { result ≡ reason_code self }
     {
         self.entry().code
     }
 
-    /// Its name there.
+    /// The name of the reason there.
     pub fn name(self) -> &'static str
         ensures { result.now ≡ reason_name self }
     {

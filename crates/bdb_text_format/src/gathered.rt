@@ -34,7 +34,7 @@ impl Model for Gathered {
 
 #[tactic(auto, using(crate::proofs::PlacedLemmas::pairs_placed, crate::proofs::GatheredLemmas::extended))]
 impl Gathered {
-    /// Nothing yet, with room for the places of so many pairs. An error means that memory ran out.
+    /// No pairs yet, with room for the places of so many. An error means that memory ran out.
     pub fn new(alloc: Global, pairs: usize) -> Result<Gathered, AllocError>
         ensures pairs { IfOk result (λ it. it.pairs ≡ []) }
         ensures chains { IfOk result (λ it. (value : ℕ → List ℕ) → HasChains value it) }
@@ -53,7 +53,8 @@ impl Gathered {
         self.places.len()
     }
 
-    /// Adds bytes at the end of the run, and answers where they stand. Refused only where the run would have 2^32 bytes, or more than it has room for.
+    /// Adds bytes at the end of the run, and answers where they stand. An error means that the run would have 2^32 bytes or more, or that memory for more than
+    /// its room ran out.
     pub fn put(&mut self, piece: &[u8]) -> Result<Span, AllocError>
         ensures kept { Keeps self.old.bytes self.new.bytes }
         ensures pairs { self.new.pairs ≡ self.old.pairs }
@@ -64,7 +65,7 @@ impl Gathered {
         put(&mut self.bytes, piece)
     }
 
-    /// Where bytes stand, if they do from one place of the run on.
+    /// Where bytes stand in the run, if they begin at the place `from` of it; else `None`.
     pub fn find(&self, from: usize, piece: &[u8]) -> Option<Span>
         ensures some { IfSome result (IsPiecePut self.now.bytes piece.now) }
         ensures told { length self.now.bytes < 2 ^ 32 → from + length piece.now ≤ length self.now.bytes → slice_range self.now.bytes from (from + length piece.now) ≡ piece.now → IsSome result }
@@ -83,8 +84,8 @@ impl Gathered {
         }
     }
 
-    /// Adds the value of the chain with this head, and notes where it stands. Refused as `put` is, or where memory
-    /// runs out.
+    /// Adds the value of the chain with this head, and notes where it stands. The errors are those of `put`;
+    /// memory may also run out for the note.
     pub fn put_chain(&mut self, head: u32, piece: &[u8]) -> Result<Span, AllocError>
         ensures kept { Keeps self.old.bytes self.new.bytes }
         ensures pairs { self.new.pairs ≡ self.old.pairs }
@@ -132,8 +133,7 @@ impl Gathered {
         self.places[i].value
     }
 
-    /// Adds a key with each datum of pairs that are there, from one on up to another. An error means that memory ran
-    /// out.
+    /// Adds a key with each datum of the pairs at the places `from..to`. An error means that memory ran out.
     pub fn push_again(&mut self, key: PlacedKey, from: usize, to: usize) -> Result<(), AllocError>
         requires key { IsKeyPlaced self.old.bytes key }
         requires order { from ≤ to }

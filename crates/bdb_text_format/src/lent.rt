@@ -98,7 +98,7 @@ impl<'a> PairSlice<'a> {
         pair_at(self.bytes, self.places[i])
     }
 
-    /// The pair at a place, or `None` exactly where there are no more than so many pairs.
+    /// The pair at a place, from 0, or `None` exactly where the list ends before it.
     pub fn get(&self, i: usize) -> Option<PairRef<'a>>
         ensures { option_map pair_seen result ≡ slice_get (slice_seen self.now) i }
     {

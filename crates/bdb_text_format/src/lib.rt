@@ -6,6 +6,7 @@ mod gathered;
 mod keywords;
 mod lent;
 mod list;
+mod page_room;
 mod pairs;
 mod sections;
 
@@ -19,5 +20,6 @@ pub use gathered::Gathered;
 pub use keywords::Judged;
 pub use lent::{KeyRef, PairRef, PairSlice, are_one, key_at, number_of, pair_at};
 pub use list::{PairList, lent_key};
-pub use pairs::{Key, Near, Pair, PlacedPairs, TextPair, TextPairs};
+pub use page_room::PageRoom;
+pub use pairs::{Key, Pair, PlacedPairs, TextPair, TextPairs};
 pub use sections::{Section, Sections};

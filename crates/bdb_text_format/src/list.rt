@@ -46,7 +46,8 @@ impl PairList {
         }
     }
 
-    /// Adds a pair at the end; on a refusal the list is as before, and the pair is dropped.
+    /// Adds a pair at the end. An error means that memory ran out, or that keys and data would have 2^32 bytes or more; the list is as before
+    /// then, and the pair is dropped.
     pub fn push(&mut self, pair: Pair) -> Result<(), AllocError>
         ensures ok { OnOk result (self.new ≡ self.old ++ pair ∷ []) }
         ensures err { OnErr result (self.new ≡ self.old) }
@@ -54,7 +55,8 @@ impl PairList {
         self.push_lent(lent_key(&pair.key), pair.value.as_slice())
     }
 
-    /// Adds a copy of a key and its datum at the end; on a refusal the list is as before.
+    /// Adds a copy of a key and its datum at the end. An error means that memory ran out, or that keys and data would have 2^32 bytes or more;
+    /// the list is as before then.
     #[tactic(auto, using(crate::proofs::ListLemmas::lists_grow))]
     pub fn push_lent(&mut self, key: KeyRef<'_>, value: &[u8]) -> Result<(), AllocError>
         ensures ok { OnOk result (self.new ≡ self.old ++ listed_as (key_seen key.entry) value.now ∷ []) }
@@ -81,7 +83,7 @@ impl PairList {
         self.pairs.is_empty()
     }
 
-    /// The pair at a place, lent, with the line 0; `None` exactly where there are no more than so many pairs.
+    /// The pair at a place, from 0, lent, with the line 0; `None` exactly where the list ends before it.
     #[tactic(auto, using(crate::proofs::ListLemmas::listed_pair))]
     pub fn get(&self, i: usize) -> Option<PairRef<'_>>
         ensures { option_map pair_seen result ≡ option_map unnumbered (slice_get self.now i) }

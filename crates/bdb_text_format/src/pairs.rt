@@ -59,13 +59,6 @@ impl Model for TextPairs {
     ghost invariant = { λ pairs. ArePlaced pairs.bytes.items pairs.places.items };
 }
 
-/// Where a key and a datum may stand in the run of pairs, as far as that's told.
-#[derive(Clone, Copy, Debug, PartialEq, Eq)]
-pub struct Near {
-    pub key: Option<Span>,
-    pub value: Option<Span>,
-}
-
 // Adds bytes at the end of a run, and answers where they stand. Refused only where the run would have 2^32 bytes, or more than it has room for.
 #[tactic(auto, using(crate::proofs::PlacedLemmas::kept_all, crate::proofs::PlacedLemmas::kept_more, crate::proofs::PlacedLemmas::piece_put))]
 pub(crate) fn put(bytes: &mut Vec<u8>, piece: &[u8]) -> Result<Span, AllocError>
@@ -96,80 +89,6 @@ pub(crate) fn found(bytes: &[u8], from: usize, piece: &[u8]) -> Option<Span>
     let start = u32::try_from(from).ok()?;
     let end = u32::try_from(to).ok()?;
     Some(Span { start, end })
-}
-
-// Where bytes stand in a run, if they do at a place that is told.
-fn standing(bytes: &[u8], piece: &[u8], near: Option<Span>) -> Option<Span>
-    ensures { IfSome result (IsPiecePut bytes.now piece.now) }
-{
-    found(bytes, near?.start as usize, piece)
-}
-
-// Adds bytes at the end of a run, but where they stand from a place on that is told.
-#[tactic(auto, using(crate::proofs::PlacedLemmas::kept_all))]
-fn put_near(bytes: &mut Vec<u8>, piece: &[u8], near: Option<Span>) -> Result<Span, AllocError>
-    ensures kept { Keeps bytes.old.items bytes.new.items }
-    ensures ok { IfOk result (IsPiecePut bytes.new.items piece.now) }
-{
-    match standing(bytes.as_slice(), piece, near) {
-        Some(span) => Ok(span),
-        None => put(bytes, piece),
-    }
-}
-
-// The same of a key.
-#[tactic(auto, using(crate::proofs::PlacedLemmas::kept_all))]
-fn put_key_near(
-    bytes: &mut Vec<u8>,
-    key: KeyRef<'_>,
-    near: Option<Span>,
-) -> Result<PlacedKey, AllocError>
-    ensures kept { Keeps bytes.old.items bytes.new.items }
-    ensures ok { IfOk result (IsKeyPut bytes.new.items key.entry) }
-{
-    match key {
-        KeyRef::Bytes(key) => Ok(PlacedKey::Bytes(put_near(bytes, key, near)?)),
-        KeyRef::Number(number) => Ok(PlacedKey::Number(number)),
-    }
-}
-
-// The same of a datum, as that of a key which is there.
-#[tactic(auto, using(crate::proofs::PlacedLemmas::pair_put))]
-fn put_value_near(
-    bytes: &mut Vec<u8>,
-    key: PlacedKey,
-    value: &[u8],
-    line: u64,
-    near: Option<Span>,
-) -> Result<Place, AllocError>
-    requires { IsKeyPlaced bytes.old.items key }
-    ensures kept { Keeps bytes.old.items bytes.new.items }
-    ensures ok { IfOk result (IsPairPut bytes.new.items (pair_with (placed_key bytes.old.items key) value.now line)) }
-{
-    let value = put_near(bytes, value, near)?;
-    Ok(Place { key, value, line })
-}
-
-// The same of a pair.
-#[tactic(auto, using(crate::proofs::PlacedLemmas::kept_on))]
-fn put_pair_near(bytes: &mut Vec<u8>, pair: PairRef<'_>, near: Near) -> Result<Place, AllocError>
-    ensures kept { Keeps bytes.old.items bytes.new.items }
-    ensures ok { IfOk result (IsPairPut bytes.new.items (pair_seen pair.entry)) }
-{
-    let key = put_key_near(bytes, pair.key, near.key)?;
-    put_value_near(bytes, key, pair.value, pair.line, near.value)
-}
-
-// Where the key and the datum of a pair stand.
-fn near_of(place: Place) -> Near {
-    let key = match place.key {
-        PlacedKey::Bytes(span) => Some(span),
-        PlacedKey::Number(_) => None,
-    };
-    Near {
-        key,
-        value: Some(place.value),
-    }
 }
 
 // Adds a key at the end of a run, where that has bytes.
@@ -261,7 +180,7 @@ impl TextPairs {
         }
     }
 
-    /// Adds a copy of a pair at the end; on a refusal the pairs are as before.
+    /// Adds a copy of a pair at the end. An error means that memory ran out, or that keys and data would have 2^32 bytes or more; the pairs are as before then.
     #[tactic(auto, using(crate::proofs::PlacedLemmas::pairs_placed))]
     pub fn push(&mut self, pair: PairRef<'_>) -> Result<(), AllocError>
         ensures ok { OnOk result (self.new ≡ self.old ++ pair_seen pair.entry ∷ []) }
@@ -272,7 +191,8 @@ impl TextPairs {
         Ok(())
     }
 
-    /// Adds a datum with the key of the last pair, which isn't copied; on a refusal the pairs are as before.
+    /// Adds a copy of a datum with the key of the last pair, which isn't copied. An error means that memory ran out, or that keys and data would have 2^32
+    /// bytes or more; the pairs are as before then.
     #[tactic(auto, using(crate::proofs::PlacedLemmas::pairs_placed))]
     pub fn push_with_last_key(&mut self, value: &[u8], line: u64) -> Result<(), AllocError>
         requires { 0 < length self.old }
@@ -283,37 +203,6 @@ impl TextPairs {
         let place = put_value(&mut self.bytes, key, value, line)?;
         self.places.push(place)?;
         Ok(())
-    }
-
-    /// Adds a pair at the end, and answers where its key and datum stand. They are copied, but where they stand at the places that are told, as
-    /// they may by an answer before. On a refusal the pairs are as before.
-    #[tactic(auto, using(crate::proofs::PlacedLemmas::pairs_placed))]
-    pub fn push_near(&mut self, pair: PairRef<'_>, near: Near) -> Result<Near, AllocError>
-        ensures ok { OnOk result (self.new ≡ self.old ++ pair_seen pair.entry ∷ []) }
-        ensures err { OnErr result (self.new ≡ self.old) }
-    {
-        let place = put_pair_near(&mut self.bytes, pair, near)?;
-        self.places.push(place)?;
-        Ok(near_of(place))
-    }
-
-    /// The same of a datum with the key of the last pair, which isn't copied. An error means that memory ran out, and
-    /// leaves the list as it was.
-    #[tactic(auto, using(crate::proofs::PlacedLemmas::pairs_placed))]
-    pub fn push_value_near(
-        &mut self,
-        value: &[u8],
-        line: u64,
-        near: Option<Span>,
-    ) -> Result<Span, AllocError>
-        requires { 0 < length self.old }
-        ensures ok { OnOk result (self.new ≡ self.old ++ pair_with (last_key self.old) value.now line ∷ []) }
-        ensures err { OnErr result (self.new ≡ self.old) }
-    {
-        let key = last_place(self.places.as_slice()).key;
-        let place = put_value_near(&mut self.bytes, key, value, line, near)?;
-        self.places.push(place)?;
-        Ok(place.value)
     }
 
     // Adds a copy of a pair at the end, but not of its key where that is the last one.
@@ -349,8 +238,8 @@ impl TextPairs {
         Ok(())
     }
 
-    /// Adds copies of pairs at the end; on a refusal the pairs are as before. A key that several of them have one behind the other, and that is
-    /// one for them, is copied once.
+    /// Adds copies of pairs at the end. A key that several of them have one behind the other, and that is one for them, is copied once. An
+    /// error means that memory ran out, or that keys and data would have 2^32 bytes or more; the pairs are as before then.
     pub fn push_all(&mut self, pairs: PairSlice<'_>) -> Result<(), AllocError>
         ensures ok { OnOk result (self.new ≡ self.old ++ slice_seen pairs.entry) }
         ensures err { OnErr result (self.new ≡ self.old) }
@@ -377,14 +266,15 @@ impl TextPairs {
         self.places.is_empty()
     }
 
-    /// The pair at a place, lent; `None` exactly where there are no more than so many pairs.
+    /// The pair at a place, from 0, lent; `None` exactly where the list ends before it.
     pub fn get(&self, i: usize) -> Option<PairRef<'_>>
         ensures { option_map pair_seen result ≡ slice_get self.now i }
     {
         self.as_slice().get(i)
     }
 
-    /// Takes the last pair away, and answers a copy of it; `None` exactly where there is none. On a refusal the pairs are as before.
+    /// Takes the last pair away, and answers a copy of it; `None` exactly where there is none. An error
+    /// means that memory ran out; the pairs are as before then.
     pub fn pop(&mut self, alloc: Global) -> Result<Option<TextPair>, AllocError>
         ensures ok { IfOk result (λ pair. pair ≡ slice_get self.old (length self.old - 1)) }
         ensures rest { OnOk result (self.new ≡ take (length self.old - 1) self.old) }

@@ -5,7 +5,7 @@ use bdb_places::{Bytes, Settings};
 use std::alloc::{AllocError, Global};
 use std::marker::Model;
 
-/// A section of a dump text: its name where it has one, its settings, the number of its line `HEADER=END`, and its pairs.
+/// A section of a dump text: its name if it has one, its settings, the number of its line `HEADER=END`, from 1 (0: not of a text), and its pairs.
 #[derive(Drop)]
 pub struct Section {
     pub name: Option<Bytes>,
@@ -39,7 +39,7 @@ impl Sections {
         }
     }
 
-    /// Adds a section at the end; on a refusal the section is dropped.
+    /// Adds a section at the end. An error means that memory ran out; the sections are as before then, and the section is dropped.
     pub fn push(&mut self, section: Section) -> Result<(), AllocError>
         ensures ok { OnOk result (self.new ≡ self.old ++ section ∷ []) }
         ensures err { OnErr result (self.new ≡ self.old) }

@@ -55,8 +55,8 @@ fn run_pure_onto<L: Ledger>(
     )
 }
 
-/// Over a source, a base, where one is handed in, and sinks that never fail, a run is neither a read fault nor a write fault, and but for want of
-/// memory it is the answer to the words, these bytes and those of the base.
+/// With a source, a base if there is one, and sinks that never fail, a run never ends with a read or write fault; unless memory runs out, it answers
+/// the arguments on these bytes and those of the base.
 pub fn run_pure<L: Ledger>(
     alloc: Global,
     words: &Words,
@@ -74,7 +74,7 @@ pub fn run_pure<L: Ledger>(
     }
 }
 
-/// On a file on which no row of order holds, what is asked is answered in any order as by all rows.
+/// On a file on which no row of order holds, a command with `--any-order` answers what it answers without.
 #[tactic(auto, using(crate::proofs::OrderLemmas::same_answers_without_order))]
 pub fn same_answers_without_order()
     ensures { SameAnswersWithoutOrder }

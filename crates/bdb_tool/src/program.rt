@@ -17,8 +17,9 @@ use bdb_tool_words::base_limit;
 use std::alloc::Global;
 use std::sync::ledger::{Blank, Ledger};
 
-/// All that the program does: reads the source where the words ask for it, and the base behind it where they ask for that, writes to
-/// `out` and `err`, and answers the exit status, one of those in `status`.
+/// All that the program does. Reads the source if the arguments ask for it, and then the base, a second file, if they ask for one that is handed in;
+/// writes the answer to `out` and lines on what is wrong to `err`; and answers the exit status, one of the constants in `status`. `steps` counts the
+/// pages whose references are read.
 pub fn run<S: Source, B: Source, K: Sink, E: Sink, L: Ledger>(
     alloc: Global,
     words: &Words,
@@ -37,7 +38,7 @@ pub fn run<S: Source, B: Source, K: Sink, E: Sink, L: Ledger>(
     }
 }
 
-/// The same with a counter of its own, which nobody reads, and without a base.
+/// `run` without a base, and with a counter of its own, which nobody reads.
 pub fn run_counted<L: Ledger, S: Source, K: Sink, E: Sink>(
     alloc: Global,
     words: &Words,
@@ -56,7 +57,7 @@ pub fn run_counted<L: Ledger, S: Source, K: Sink, E: Sink>(
     run::<S, PureSource, K, E, L>(alloc, words, source, None, out, err, &mut steps)
 }
 
-/// The same with a counter of its own, and with a base.
+/// `run` with a base, and with a counter of its own, which nobody reads.
 pub fn run_onto<L: Ledger, S: Source, B: Source, K: Sink, E: Sink>(
     alloc: Global,
     words: &Words,

@@ -23,7 +23,7 @@ pub(crate) enum Task<'w> {
     Salvage(Salvage, Image),
     /// An image is repaired.
     Repair(Repair, Image, u32),
-    /// It's told what an image still has, by the guess that is given.
+    /// What an image still has is counted, by the given guess.
     Survey(Option<Guess>, Image),
     /// Pairs are generated.
     Trial(Trial, u32),

@@ -39,7 +39,8 @@ fn answer_sound<K: Sink, E: Sink, L: Ledger>(
     }
 }
 
-/// Answers what is asked of a file: of one that isn't sound the first that holds is told.
+/// Answers a request for a sound file: writes the answer to `out` or a line to `err`, and answers the exit status. Of a file that isn't sound the
+/// first row that holds is told, a fault or an unsupported case.
 pub fn answer_file<K: Sink, E: Sink, L: Ledger>(
     alloc: Global,
     image: &[u8],

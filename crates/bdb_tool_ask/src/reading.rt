@@ -161,7 +161,8 @@ fn answer_get<K: Sink, E: Sink, L: Ledger>(
     }
 }
 
-/// Answers what is read of a file.
+/// Answers `verify`, `list`, `get` or `dump` by the rows that count: writes the answer to `out` or lines to `err`, and answers the exit status. Where
+/// one of these rows holds for the file, `verify` tells all that hold in the first stage that has one, and the others the first.
 pub fn answer_reading<K: Sink, E: Sink, L: Ledger>(
     alloc: Global,
     image: &[u8],

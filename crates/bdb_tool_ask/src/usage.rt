@@ -6,7 +6,7 @@ use bdb_swap::Sink;
 use bdb_tool_dump::status::USAGE;
 use bdb_tool_dump::tell;
 
-/// Tells the names of all commands, where the words are none of them, and answers the status of that or of a write fault.
+/// Writes the line with the names of all commands to `err`, and answers the status of arguments that are no command; or that of a write fault.
 pub fn tell_usage<E: Sink>(err: &mut E) -> u8
     ensures { Tells usage.err 2 (change E.written E.faults err.old err.new) result }
 {

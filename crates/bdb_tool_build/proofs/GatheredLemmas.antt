@@ -1,8 +1,9 @@
--- Pairs of a btree in the making, as more of them come.
+-- Pairs of a database in the making, as more of them come.
 use Rattle.std.proofs.Common.{◌≡◌, ℕ, Bool, true, false, cond, not, List, [], ◌∷◌, ◌++◌, ap, append-nil, append_assoc, map, refl, subst, sym, ◌∙◌}
 use Rattle.std.proofs.lemmas.List.{map-append}
 use Rattle.std.proofs.lemmas.List.Elements.{All-head}
 use Rattle.bdb_file.specs.of_btree.Pairs.{stored_pair}
+use Rattle.bdb_file.specs.of_buckets.Told.{Told, entry_list, listed_told}
 use Rattle.bdb_model.specs.of_format.Terms.{BytesKey, File, Item, ListKey, data_of, file_of, listed_entry, listed_pair, value_of}
 use Rattle.bdb_onto.specs.Bases.{text_pair}
 use Rattle.bdb_ranks.specs.of_form.Pairs.{PairOf}
@@ -16,7 +17,7 @@ use Rattle.bdb_text_format.specs.declared.pairs.Key.{Key}
 use Rattle.bdb_text_format.specs.declared.pairs.Key.TheVariants.{Bytes, Number}
 use Rattle.bdb_text_format.specs.Terms.{Extends, Gathering, HasChains, IsKeyPlaced, IsPiecePut, pair_with, placed_key}
 use Rattle.bdb_text_format.proofs.GatheredLemmas.{chains_same}
-use Rattle.bdb_text_format.proofs.PlacedLemmas.{kept_on, key_stays, key_within}
+use Rattle.bdb_text_format.proofs.PlacedLemmas.{key_stays, key_within}
 use Rattle.bdb_tool_build.specs.Gathered.{Adds, Grows, HasKey, InHand, with_key}
 
 -- The same pairs with a run that grew, and then more of them.
@@ -58,13 +59,6 @@ adds_on old mid new key some more all first second are =
           (sym (map-append (λ value. pair_with k value 0) some more) ∙ ap (with_key k) (sym are)))));
     }
 
-pub grows_on : (old mid new : InHand) → Grows old mid → Grows mid new → Grows old new
-grows_on old mid new first second = record {
-  image = second.image ∙ first.image;
-  bytes = kept_on old.gathered.bytes mid.gathered.bytes new.gathered.bytes first.bytes second.bytes;
-  pairs = second.pairs ∙ first.pairs;
-}
-
 pub grown_key : (old new : InHand) (key : PlacedKey) → Grows old new → IsKeyPlaced old.gathered.bytes key → IsKeyPlaced new.gathered.bytes key
 grown_key old new key grows placed = key_within old.gathered.bytes new.gathered.bytes key grows.bytes placed
 
@@ -92,20 +86,24 @@ pub record AddsSoFar (old new : InHand) (key : PlacedKey) (all left : List (List
 pub so_far_none : (it : InHand) (key : PlacedKey) (all : List (List ℕ)) → IsKeyPlaced it.gathered.bytes key → AddsSoFar it it key all all
 so_far_none it key all placed = record { passed = []; are = refl; adds = adds_none it key placed }
 
+-- some more of them
+pub so_far_more : (old mid new : InHand) (key : PlacedKey) (all left more rest : List (List ℕ)) → AddsSoFar old mid key all left → left ≡ more ++ rest
+    → Adds mid new key more → AddsSoFar old new key all rest
+so_far_more old mid new key all left more rest so_far are adds = record {
+  passed = so_far.passed ++ more;
+  are = so_far.are ∙ (ap (λ values. so_far.passed ++ values) are ∙ sym (append_assoc so_far.passed more rest));
+  adds = adds_on old mid new key so_far.passed more (so_far.passed ++ more) so_far.adds adds refl;
+}
+
 -- one more entry, in the image that is at hand
 pub so_far_entry : (old mid new : InHand) (key : PlacedKey) (all : List (List ℕ)) (left rest : List Item) (entry : Item)
     → AddsSoFar old mid key all (values_of (file_of old.image) left) → left ≡ entry ∷ rest
     → Adds mid new key (values_of (file_of mid.image) (entry ∷ [])) → AddsSoFar old new key all (values_of (file_of old.image) rest)
 so_far_entry old mid new key all left rest entry so_far are adds =
     let file : File = file_of old.image in
-    let more : List (List ℕ) = values_of file (entry ∷ []) in
-    let here : Adds mid new key more = subst (λ (image : List ℕ). Adds mid new key (values_of (file_of image) (entry ∷ []))) so_far.adds.image adds in
-    record {
-      passed = so_far.passed ++ more;
-      are = so_far.are ∙ (ap (λ values. so_far.passed ++ values) (ap (values_of file) are ∙ entries_on file entry rest)
-          ∙ sym (append_assoc so_far.passed more (values_of file rest)));
-      adds = adds_on old mid new key so_far.passed more (so_far.passed ++ more) so_far.adds here refl;
-    }
+    so_far_more old mid new key all (values_of file left) (values_of file (entry ∷ [])) (values_of file rest) so_far
+    (ap (values_of file) are ∙ entries_on file entry rest)
+    (subst (λ (image : List ℕ). Adds mid new key (values_of (file_of image) (entry ∷ []))) so_far.adds.image adds)
 
 -- what the next one names is there
 pub entry_fits : (image same : List ℕ) (left rest : List Item) (entry : Item) → left ≡ entry ∷ rest → same ≡ image → AreFit (file_of image) left
@@ -149,3 +147,16 @@ record_given file number entry = by_test entry.deleted refl
     by_test : (b : Bool) → entry.deleted ≡ b → with_key (Number number) (values_of file (entry ∷ [])) ≡ map text_pair (listed_entry file (number, entry))
     by_test true is = rw (is) refl
     by_test false is = rw (is) refl
+
+-- what a pair of a hash lists
+pub told_given : (old mid new : InHand) (key : PlacedKey) (t : Told) → t.image ≡ old.image → Grows old mid → HasKey mid t.pair.key key
+    → Adds mid new key (data_of (file_of t.image) t.pair.data_item)
+    → listed_told t ≡ entry_list t.pair.key (data_of (file_of t.image) t.pair.data_item)
+    → new.gathered.pairs ≡ old.gathered.pairs ++ map text_pair (listed_told t)
+told_given old mid new key t is grows has adds listed =
+    let values : List (List ℕ) = data_of (file_of t.image) t.pair.data_item in
+    adds.pairs
+    ∙ (ap (λ pairs. pairs ++ with_key (placed_key mid.gathered.bytes key) values) grows.pairs
+    ∙ (ap (λ k. old.gathered.pairs ++ with_key k values) has.same
+    ∙ (ap (λ more. old.gathered.pairs ++ more) (listed_keyed t.pair.key values)
+    ∙ ap (λ more. old.gathered.pairs ++ map text_pair more) (sym listed))))

@@ -1,9 +1,9 @@
 pub mod BaseLemmas
 mod Below
-pub mod CopiedLemmas
 pub mod GatheredLemmas
 pub mod LoadLemmas
 pub mod OntoLemmas
 pub mod RefusalLemmas
+pub mod TableLemmas
 pub mod TreeLemmas
 pub mod TrialLemmas

@@ -21,7 +21,7 @@ leaf_fit image p forest fits = each_of (FitsPair (file_of image)) (pairs_of (fil
 -- Lists, one more at a time.
 
 -- some more of what is listed
-listed_more : (all now new : List TextPair) (here rest both : List (ListKey × List ℕ)) → both ≡ here ++ rest → all ≡ now ++ map text_pair both
+pub listed_more : (all now new : List TextPair) (here rest both : List (ListKey × List ℕ)) → both ≡ here ++ rest → all ≡ now ++ map text_pair both
     → new ≡ now ++ map text_pair here → all ≡ new ++ map text_pair rest
 listed_more all now new here rest both are so_far pushed =
     so_far

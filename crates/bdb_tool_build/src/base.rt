@@ -1,16 +1,16 @@
 //! The databases of a sound file, copied out of it.
-ghost use Rattle.std.specs.Prelude.{◌≡◌, ◌<◌, ◌≤◌, ◌^◌, IfErr, IfOk, IfSome, None, OnOk, is_some, length, map, option_copied};
+ghost use Rattle.std.specs.Prelude.{◌≡◌, ◌<◌, ◌≤◌, ◌^◌, IfErr, IfOk, None, OnOk, is_some, length, map, option_copied};
 ghost use Rattle.bdb_file.specs.of_databases.Named.{database_at};
 ghost use Rattle.bdb_file.specs.of_faults.Refusals.{IsFirstRefusal};
-ghost use Rattle.bdb_model.specs.of_format.Terms.{BtreeFields, databases, faults_of, file_of, list_of, master_in, page_at, verdict_of};
-ghost use Rattle.bdb_file.specs.of_image.Metas.{meta_seen};
+ghost use Rattle.bdb_model.specs.of_format.Terms.{databases, faults_of, file_of, list_of, master_in, page_at, verdict_of};
 ghost use Rattle.bdb_onto.specs.Bases.{IsBaseOf, base_of, base_section, text_pair};
 
-use crate::copied::{Rooms, push_listed};
+use crate::copied::Rooms;
+use crate::table::table_pairs;
 use crate::tree::tree_pairs;
 use bdb_file::{Db, First, FirstError, Meta, Scan, Sound, sound_by};
 use bdb_io::Image;
-use bdb_model::{BtreeMeta, Bytes, Section, Sections, Steps, TextPairs};
+use bdb_model::{Bytes, Section, Sections, Steps, TextPairs};
 use bdb_onto::Base;
 use std::alloc::{AllocError, Global};
 use std::sync::ledger::Ledger;
@@ -28,74 +28,47 @@ fn copied_name(alloc: Global, name: Option<&[u8]>) -> Result<Option<Bytes>, Allo
 }
 
 // The pairs of a list, as if they stood in a text without numbers of lines.
-fn listed_pairs(
-    alloc: Global,
-    list: &mut Scan<'_>,
-    rooms: &mut Rooms,
-) -> Result<TextPairs, AllocError>
+fn listed_pairs(alloc: Global, list: &mut Scan<'_>) -> Result<TextPairs, AllocError>
     ensures { IfOk result (λ pairs. pairs ≡ map text_pair list.old) }
 {
+    let mut rooms = Rooms::new(alloc);
     let mut pairs = TextPairs::new(alloc);
     for (key, value) in list {
-        push_listed(key, value, rooms, &mut pairs)?;
+        rooms.push(key, value, &mut pairs)?;
     }
     Ok(pairs)
 }
 
 // The pairs of a database, by its list.
-fn scanned_pairs(
-    alloc: Global,
-    sound: &Sound<'_>,
-    db: Db,
-    rooms: &mut Rooms,
-) -> Result<TextPairs, AllocError>
+fn scanned_pairs(alloc: Global, sound: &Sound<'_>, db: Db) -> Result<TextPairs, AllocError>
     requires { db < length (databases (file_of sound.now)) }
     ensures { IfOk result (λ pairs. pairs ≡ map text_pair (list_of (file_of sound.now) (database_at (file_of sound.now) db).fields)) }
 {
     match sound.scan(alloc, db) {
-        Ok(mut list) => listed_pairs(alloc, &mut list, rooms),
+        Ok(mut list) => listed_pairs(alloc, &mut list),
         Err(_) => Err(AllocError),
     }
 }
 
-// The metadata of a btree or a recno; `None` of another kind.
-fn btree_meta(meta: &Meta) -> Option<&BtreeMeta>
-    ensures { IfSome result (λ btree. meta_seen meta.now ≡ BtreeFields btree.now) }
-{
-    match meta {
-        Meta::Btree(meta) => Some(meta),
-        _ => None,
-    }
-}
-
-// The pairs of a database: of a btree and a recno leaf by leaf, so that no key and no chain is copied twice or compared with itself.
-fn base_pairs(
-    alloc: Global,
-    sound: &Sound<'_>,
-    db: Db,
-    rooms: &mut Rooms,
-) -> Result<TextPairs, AllocError>
+// The pairs of a database: of a btree and a recno leaf by leaf, of a hash pair by pair, so that no key and no chain is copied twice.
+fn base_pairs(alloc: Global, sound: &Sound<'_>, db: Db) -> Result<TextPairs, AllocError>
     requires { db < length (databases (file_of sound.now)) }
     ensures { IfOk result (λ pairs. pairs ≡ map text_pair (list_of (file_of sound.now) (database_at (file_of sound.now) db).fields)) }
 {
-    match btree_meta(sound.meta(db)) {
-        Some(meta) => tree_pairs(alloc, sound.linked(), meta),
-        None => scanned_pairs(alloc, sound, db, rooms),
+    match sound.meta(db) {
+        Meta::Btree(meta) => tree_pairs(alloc, sound.linked(), meta),
+        Meta::Hash(meta) => table_pairs(alloc, sound.linked(), meta),
+        Meta::Queue(_) => scanned_pairs(alloc, sound, db),
     }
 }
 
 // A database as a section with its list.
-fn base_section(
-    alloc: Global,
-    sound: &Sound<'_>,
-    db: Db,
-    rooms: &mut Rooms,
-) -> Result<Section, AllocError>
+fn base_section(alloc: Global, sound: &Sound<'_>, db: Db) -> Result<Section, AllocError>
     requires { db < length (databases (file_of sound.now)) }
     ensures { IfOk result (λ section. section ≡ base_section sound.now (database_at (file_of sound.now) db)) }
 {
     let name = copied_name(alloc, sound.name(db))?;
-    let pairs = base_pairs(alloc, sound, db, rooms)?;
+    let pairs = base_pairs(alloc, sound, db)?;
     Ok(Section {
         name,
         settings: sound.settings(db),
@@ -105,16 +78,12 @@ fn base_section(
 }
 
 // All databases, in their order.
-fn base_sections(
-    alloc: Global,
-    sound: &Sound<'_>,
-    rooms: &mut Rooms,
-) -> Result<Sections, AllocError>
+fn base_sections(alloc: Global, sound: &Sound<'_>) -> Result<Sections, AllocError>
     ensures { IfOk result (λ all. all ≡ map (base_section sound.now) (databases (file_of sound.now))) }
 {
     let mut all = Sections::new(alloc);
     for i in 0..sound.databases() {
-        all.push(base_section(alloc, sound, sound.database(i), rooms)?)?;
+        all.push(base_section(alloc, sound, sound.database(i))?)?;
     }
     Ok(all)
 }
@@ -133,8 +102,7 @@ fn has_master(sound: &Sound<'_>) -> bool
 fn sound_base(alloc: Global, sound: &Sound<'_>) -> Result<Base, AllocError>
     ensures { IfOk result (λ base. base ≡ base_of sound.now) }
 {
-    let mut rooms = Rooms::new(alloc);
-    let databases = base_sections(alloc, sound, &mut rooms)?;
+    let databases = base_sections(alloc, sound)?;
     let head = sound.head();
     Ok(Base {
         master: has_master(sound),
@@ -165,8 +133,8 @@ fn base_in<L: Ledger>(alloc: Global, image: &[u8], steps: &mut Steps<L>) -> Resu
     }
 }
 
-/// The base that an image is, where it is sound; else the first fault, or lack of memory. A key is copied once for all its data, each datum once, and the image
-/// is given up.
+/// The base that a sound image is: its databases with their lists. `Fault` is the first row that holds, an unsupported case among them; `Memory`
+/// means that memory ran out. A key is copied once for all its data, and each datum once. The image is dropped.
 pub fn base_of<L: Ledger>(
     alloc: Global,
     image: Image,

@@ -1,32 +1,19 @@
-//! Keys and data, copied out of a file.
-ghost use Rattle.std.specs.Prelude.{◌≡◌, ◌++◌, ◌∷◌, ◌<◌, [], true, IfOk, OnOk, length};
+//! Keys and data of a list, copied out of a file.
+ghost use Rattle.std.specs.Prelude.{◌≡◌, ◌++◌, ◌∷◌, [], IfOk, OnOk};
 ghost use Rattle.bdb_file.specs.of_overflow.Datum.{datum_seen, key_view_seen};
-ghost use Rattle.bdb_model.specs.of_text_format.Terms.{key_seen, last_key, pair_with};
-ghost use Rattle.bdb_model.specs.of_text_format.declared.pairs.Key.TheVariants.{Bytes};
+ghost use Rattle.bdb_model.specs.of_text_format.Terms.{key_seen};
 ghost use Rattle.bdb_onto.specs.Bases.{text_pair};
 ghost use Rattle.bdb_tool_build.specs.Ontos.{list_key};
-ghost use Rattle.bdb_tool_build.specs.Copied.{EndsWith};
 
-use bdb_file::{Datum, KeyView, bytes_in, is_same};
-use bdb_model::{KeyRef, Near, PairRef, Span, TextPairs};
+use bdb_file::{Datum, KeyView, bytes_in};
+use bdb_model::{KeyRef, PairRef, TextPairs};
 use std::alloc::{AllocError, Global};
-use std::collections::BTreeMap;
 
-/// Rooms in which the bytes of chains are joined, for all keys and data of a base, and by its mark where a chain was put that was copied last: so each is
-/// copied once for a database, however many items name it.
+/// Rooms in which the bytes of a key and of a datum are joined.
 #[derive(Drop)]
 pub(crate) struct Rooms {
     key: Vec<u8>,
     value: Vec<u8>,
-    chains: BTreeMap<u32, Span>,
-}
-
-// The mark of a key's chain, if it's in one.
-fn mark_of(key: &KeyView<'_>) -> Option<u32> {
-    match key {
-        KeyView::Bytes(value) => value.mark(),
-        KeyView::Number(_) => None,
-    }
 }
 
 // The key of a list, to be copied.
@@ -42,86 +29,13 @@ fn key_of<'r>(key: KeyView<'r>, room: &'r mut Vec<u8>) -> Result<KeyRef<'r>, All
     }
 }
 
-// Whether bytes are those of a key.
-#[tactic(auto, using(crate::proofs::Below::eq_same))]
-fn is_key(bytes: &[u8], key: &KeyView<'_>) -> bool
-    ensures { result ≡ true → list_key (key_view_seen key.now) ≡ Bytes bytes.now }
-{
-    match key {
-        KeyView::Bytes(key) => is_same(&Datum::Inline(bytes), key),
-        KeyView::Number(_) => false,
-    }
-}
-
-// Whether the last pair has this key, of bytes.
-fn has_last_key(pairs: &TextPairs, key: &KeyView<'_>) -> bool
-    ensures { result ≡ true → EndsWith (list_key (key_view_seen key.now)) pairs.now }
-{
-    let Some(last) = pairs.as_slice().last() else {
-        return false;
-    };
-    match last.key {
-        KeyRef::Bytes(bytes) => is_key(bytes, key),
-        KeyRef::Number(_) => false,
-    }
-}
-
 impl Rooms {
     /// Rooms without bytes.
     pub(crate) fn new(alloc: Global) -> Rooms {
         Rooms {
             key: Vec::new(alloc),
             value: Vec::new(alloc),
-            chains: BTreeMap::new(alloc),
         }
-    }
-
-    // Where a chain may stand, by its mark.
-    fn near(&self, mark: Option<u32>) -> Option<Span> {
-        match self.chains.get(&mark?) {
-            Some(span) => Some(*span),
-            None => None,
-        }
-    }
-
-    // Notes where a chain stands, by its mark.
-    fn note(&mut self, mark: Option<u32>, span: Option<Span>) -> Result<(), AllocError> {
-        if let (Some(mark), Some(span)) = (mark, span) {
-            self.chains.insert(mark, span)?;
-        }
-        Ok(())
-    }
-
-    // Adds a pair of a list, and answers where it stands: near a place that is told, or behind all others.
-    fn put(
-        &mut self,
-        key: KeyView<'_>,
-        value: Datum<'_>,
-        near: Near,
-        pairs: &mut TextPairs,
-    ) -> Result<Near, AllocError>
-        ensures { OnOk result (pairs.new ≡ pairs.old ++ text_pair (key_view_seen key.entry, datum_seen value.entry) ∷ []) }
-    {
-        let pair = PairRef {
-            key: key_of(key, &mut self.key)?,
-            value: bytes_in(value, &mut self.value)?,
-            line: 0,
-        };
-        pairs.push_near(pair, near)
-    }
-
-    // The same of a datum, with the key of the last pair.
-    fn put_beside(
-        &mut self,
-        value: Datum<'_>,
-        near: Option<Span>,
-        pairs: &mut TextPairs,
-    ) -> Result<Span, AllocError>
-        requires { 0 < length pairs.old }
-        ensures { OnOk result (pairs.new ≡ pairs.old ++ pair_with (last_key pairs.old) (datum_seen value.entry) 0 ∷ []) }
-    {
-        let bytes = bytes_in(value, &mut self.value)?;
-        pairs.push_value_near(bytes, 0, near)
     }
 
     /// Adds a pair of a list, as if it stood in a text without numbers of lines.
@@ -133,45 +47,11 @@ impl Rooms {
     ) -> Result<(), AllocError>
         ensures { OnOk result (pairs.new ≡ pairs.old ++ text_pair (key_view_seen key.entry, datum_seen value.entry) ∷ []) }
     {
-        let of_key = mark_of(&key);
-        let of_value = value.mark();
-        let near = Near {
-            key: self.near(of_key),
-            value: self.near(of_value),
+        let pair = PairRef {
+            key: key_of(key, &mut self.key)?,
+            value: bytes_in(value, &mut self.value)?,
+            line: 0,
         };
-        let put = self.put(key, value, near, pairs)?;
-        self.note(of_key, put.key)?;
-        self.note(of_value, put.value)
-    }
-
-    /// Adds a datum with the key of the last pair, which isn't copied again.
-    pub(crate) fn push_beside(
-        &mut self,
-        value: Datum<'_>,
-        pairs: &mut TextPairs,
-    ) -> Result<(), AllocError>
-        requires { 0 < length pairs.old }
-        ensures { OnOk result (pairs.new ≡ pairs.old ++ pair_with (last_key pairs.old) (datum_seen value.entry) 0 ∷ []) }
-    {
-        let mark = value.mark();
-        let near = self.near(mark);
-        let put = self.put_beside(value, near, pairs)?;
-        self.note(mark, Some(put))
-    }
-}
-
-/// Adds a pair of a list, whose key isn't copied again where it's that of the last pair.
-pub(crate) fn push_listed(
-    key: KeyView<'_>,
-    value: Datum<'_>,
-    rooms: &mut Rooms,
-    pairs: &mut TextPairs,
-) -> Result<(), AllocError>
-    ensures { OnOk result (pairs.new ≡ pairs.old ++ text_pair (key_view_seen key.entry, datum_seen value.entry) ∷ []) }
-{
-    if has_last_key(pairs, &key) {
-        rooms.push_beside(value, pairs)
-    } else {
-        rooms.push(key, value, pairs)
+        pairs.push(pair)
     }
 }

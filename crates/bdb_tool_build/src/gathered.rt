@@ -1,11 +1,13 @@
-//! Pairs of a btree in the making. The value of a chain stands in their run once, however many items name it.
+//! Pairs of a database in the making. The value of a chain stands in their run once, however many items name it.
 ghost use Rattle.std.specs.Prelude.{◌≡◌, ◌∷◌, ◌++◌, [], IfOk, IfSome, OnOk, true, map};
 ghost use Rattle.bdb_file.specs.of_btree.Pairs.{FitsSet, stored_pair};
+ghost use Rattle.bdb_file.specs.of_buckets.Told.{listed_told};
+ghost use Rattle.bdb_file.specs.of_buckets.Views.{IsPair};
 ghost use Rattle.bdb_model.specs.of_format.Terms.{Tree, data_of, file_of, listed_entry, listed_pair, structure_faults, value_of};
 ghost use Rattle.bdb_onto.specs.Bases.{text_pair};
 ghost use Rattle.bdb_ranks.specs.of_form.Pairs.{pair_seen as view_seen};
 ghost use Rattle.bdb_ranks.specs.of_image.Linked.{FitsChain, FitsDupRoot};
-ghost use Rattle.bdb_ranks.specs.of_layout.Seen.{leaf_item_seen};
+ghost use Rattle.bdb_ranks.specs.of_layout.Seen.{hash_content_seen, leaf_item_seen};
 ghost use Rattle.bdb_ranks.specs.of_overflow.Datum.{FitsContent};
 ghost use Rattle.bdb_ranks.specs.of_overflow.Held.{FitsHeld, chain_value, value_held};
 ghost use Rattle.bdb_ranks.specs.of_tree.Entries.{values_of};
@@ -14,14 +16,14 @@ ghost use Rattle.bdb_text_format.specs.Terms.{HasChains, IsKeyPlaced, IsPiecePut
 ghost use Rattle.bdb_tool_build.specs.Gathered.{Adds, Grows, HasKey};
 
 use crate::on_leaf::{BesideEntries, OnLeaf};
-use bdb_file::bytes_in;
+use bdb_file::{DupBlocks, HashItem, TablePair, bytes_in};
 use bdb_model::TextPairs;
 use bdb_ranks::{Forest, Held, LeafItem, Pair, is_deleted, leaf_held, tree_entries};
 use bdb_text_format::{Gathered, PlacedKey, Span};
 use std::alloc::{AllocError, Global};
 use std::marker::Model;
 
-/// Pairs of the btrees of an image, in the making.
+/// Pairs of a database of an image, in the making.
 #[derive(Drop)]
 pub(crate) struct Gatherer<'a> {
     forest: Forest<'a>,
@@ -93,49 +95,14 @@ impl<'a> Gatherer<'a> {
         put_chain(&self.forest, head, &mut self.room, &mut self.pairs)
     }
 
-    // From where on a leaf stands, which is put there if it doesn't yet.
-    fn leaf_start(&mut self, leaf: &mut OnLeaf<'_>) -> Result<u32, AllocError>
-        ensures { Grows self.old self.new }
-    {
-        if let Some(start) = leaf.copy() {
-            return Ok(start);
-        }
-        let span = self.pairs.put(leaf.bytes())?;
-        leaf.note(span.start);
-        Ok(span.start)
-    }
-
-    // Where bytes stand that are put there, if they don't from one place on.
-    fn found_span(&mut self, bytes: &[u8], from: usize) -> Result<Span, AllocError>
-        ensures grows { Grows self.old self.new }
-        ensures ok { IfOk result (IsPiecePut self.new.gathered.bytes bytes.now) }
-    {
-        match self.pairs.find(from, bytes) {
-            Some(span) => Ok(span),
-            None => self.pairs.put(bytes),
-        }
-    }
-
-    // Where the bytes of the next item of a leaf stand, in the whole leaf.
-    #[tactic(auto, using(crate::proofs::GatheredLemmas::in_hand, crate::proofs::GatheredLemmas::grows_on))]
-    fn span_in_leaf(&mut self, bytes: &[u8], leaf: &mut OnLeaf<'_>) -> Result<Span, AllocError>
-        ensures grows { Grows self.old self.new }
-        ensures ok { IfOk result (IsPiecePut self.new.gathered.bytes bytes.now) }
-    {
-        let start = self.leaf_start(leaf)?;
-        let from = (start as usize).saturating_add(leaf.begin());
-        self.found_span(bytes, from)
-    }
-
     // Where the bytes of the next item of a leaf stand.
     fn bytes_span(&mut self, bytes: &[u8], leaf: &mut OnLeaf<'_>) -> Result<Span, AllocError>
         ensures grows { Grows self.old self.new }
         ensures ok { IfOk result (IsPiecePut self.new.gathered.bytes bytes.now) }
     {
-        if leaf.takes(bytes.len()) {
-            return self.pairs.put(bytes);
-        }
-        self.span_in_leaf(bytes, leaf)
+        let page = leaf.bytes();
+        let begin = leaf.begin();
+        self.pairs.put_item(bytes, page, begin, &mut leaf.room)
     }
 
     // Where a value stands, which the next item of a leaf has.
@@ -158,6 +125,18 @@ impl<'a> Gatherer<'a> {
     {
         let held = leaf_held(item);
         self.span(held, leaf)
+    }
+
+    // Where a value stands, which is put there by itself or in its chain.
+    fn held_span(&mut self, held: Held<'a>) -> Result<Span, AllocError>
+        requires { FitsHeld (file_of self.old.image) held }
+        ensures grows { Grows self.old self.new }
+        ensures ok { IfOk result (IsPiecePut self.new.gathered.bytes (value_held (file_of self.old.image) held.entry)) }
+    {
+        match held {
+            Held::Inline(bytes) => self.pairs.put(bytes),
+            Held::Chained(head) => self.chain_span(head),
+        }
     }
 
     // Adds a key with a datum that stands there.
@@ -294,6 +273,65 @@ impl<'a> Gatherer<'a> {
             self.push_data(key, &pair.value, leaf)?;
         }
         Ok(key)
+    }
+
+    // Adds a key with a datum.
+    fn push_held(&mut self, key: PlacedKey, held: Held<'a>) -> Result<(), AllocError>
+        requires fits { FitsHeld (file_of self.old.image) held }
+        requires key { IsKeyPlaced self.old.gathered.bytes key }
+        ensures { OnOk result (Adds self.old self.new key (value_held (file_of self.old.image) held.entry ∷ [])) }
+    {
+        let value = self.held_span(held)?;
+        self.push_span(key, value)
+    }
+
+    // Adds a key with the data of a set on its page.
+    #[tactic(auto, using(crate::proofs::GatheredLemmas::so_far_adds))]
+    fn push_blocks(&mut self, key: PlacedKey, blocks: DupBlocks<'a>) -> Result<(), AllocError>
+        requires { IsKeyPlaced self.old.gathered.bytes key }
+        ensures { OnOk result (Adds self.old self.new key blocks.entry.blocks) }
+    {
+        for block in blocks {
+            self.push_held(key, Held::Inline(block))?;
+        }
+        Ok(())
+    }
+
+    // Adds a key with the data of a data item of a hash page.
+    #[tactic(auto, unfolding(crate::specs::Below::data_of, crate::specs::Below::value_of))]
+    fn push_item(&mut self, key: PlacedKey, item: HashItem<'a>) -> Result<(), AllocError>
+        requires pair { IsPair self.old.image (hash_content_seen item) }
+        requires key { IsKeyPlaced self.old.gathered.bytes key }
+        ensures { OnOk result (Adds self.old self.new key (data_of (file_of self.old.image) (hash_content_seen item.entry))) }
+    {
+        match item {
+            HashItem::Inline(bytes) => self.push_held(key, Held::Inline(bytes)),
+            HashItem::Overflow { head, .. } => self.push_held(key, Held::Chained(head)),
+            HashItem::Set(blocks) => self.push_blocks(key, blocks),
+            HashItem::OffPage { root } => self.push_set(key, root),
+        }
+    }
+
+    // Where a key stands, which is put there if it's in no chain that does.
+    fn put_key(&mut self, held: Held<'a>) -> Result<PlacedKey, AllocError>
+        requires { FitsHeld (file_of self.old.image) held }
+        ensures grows { Grows self.old self.new }
+        ensures ok { IfOk result (HasKey self.new (value_held (file_of self.old.image) held.entry)) }
+    {
+        Ok(PlacedKey::Bytes(self.held_span(held)?))
+    }
+
+    /// Adds a pair of a hash: its key with each of its data.
+    pub(crate) fn push_table_pair(&mut self, pair: TablePair<'a>) -> Result<(), AllocError>
+        requires { pair.image ≡ self.old.image }
+        ensures image { OnOk result (self.new.image ≡ self.old.image) }
+        ensures pairs { OnOk result (self.new.gathered.pairs ≡ self.old.gathered.pairs ++ map text_pair (listed_told pair.entry)) }
+    {
+        let held = pair.held_key();
+        let key = self.put_key(held)?;
+        let item = pair.into_item();
+        self.push_item(key, item)?;
+        Ok(())
     }
 
     /// The pairs.

@@ -7,6 +7,7 @@ mod gathered;
 mod loading;
 mod on_leaf;
 mod refusal;
+mod table;
 mod texts;
 mod tree;
 mod trial;

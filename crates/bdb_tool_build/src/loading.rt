@@ -97,7 +97,9 @@ fn load_sections_onto(
     }
 }
 
-/// The image of a dump text, of at most `limit` bytes, or why there is none. The text is given up as soon as it is read.
+/// A sound file of at most `limit` bytes with the sections of a dump text, as `load` builds it. A refusal is the first fault of the text, or its
+/// first load error, or that the file would have more than `limit` bytes, each with its line; or memory ran out. The text is dropped as soon as it is
+/// read.
 pub fn load_text(alloc: Global, text: Image, limit: u32) -> Result<Image, Refusal>
     requires text { length text ≤ 2 ^ 30 }
     requires limit { limit ≤ 2 ^ 30 }
@@ -107,7 +109,8 @@ pub fn load_text(alloc: Global, text: Image, limit: u32) -> Result<Image, Refusa
     load_sections(alloc, sections, limit)
 }
 
-/// The image of a dump text that is loaded onto a base, of at most `limit` bytes, or why there is none. The text is given up as soon as it is read.
+/// A sound file of at most `limit` bytes with the databases of a base and the sections of a dump text loaded onto them, as `load_onto` builds it. It
+/// is refused as `load_text` is, with the load errors of the sections on the base. The text is dropped as soon as it is read.
 pub fn load_text_onto(alloc: Global, text: Image, base: Base, limit: u32) -> Result<Image, Refusal>
     requires text { length text ≤ 2 ^ 30 }
     requires limit { limit ≤ 2 ^ 30 }

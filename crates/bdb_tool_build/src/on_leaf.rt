@@ -1,11 +1,11 @@
-//! Which items of leaves stand in a run of bytes. They may overlap, so together they may have many more bytes than their leaf: where they do, it is put there
-//! once, and what is left of them is found in it. No clause speaks of it, since what is found is compared.
+//! Where the items that are put into a run stand on their leaves. No clause speaks of it, since what is found there is compared.
 ghost use Rattle.std.specs.Prelude.{◌≡◌, []};
 ghost use Rattle.bdb_model.specs.of_format.Terms.{file_of, structure_faults};
 ghost use Rattle.bdb_ranks.specs.of_tree.Trees.{IsRoot};
 
 use bdb_model::Order;
 use bdb_ranks::{Forest, Leaves, tree_leaves, u32_at};
+use bdb_text_format::PageRoom;
 
 // The number in two bytes of a page; 0 where it ends before.
 fn u16_in(page: &[u8], at: usize, order: Order) -> u16 {
@@ -29,14 +29,13 @@ fn bytes_of<'a>(forest: &Forest<'a>, number: u32) -> &'a [u8] {
     }
 }
 
-/// A leaf whose items are put into a run: how many bytes they may still have there, which one is next, and from where on the leaf stands there, if it does.
+/// A leaf whose items are put into a run, and which one is next.
 #[derive(Clone, Copy)]
 pub(crate) struct OnLeaf<'a> {
     bytes: &'a [u8],
     order: Order,
     next: usize,
-    left: usize,
-    copy: Option<u32>,
+    pub(crate) room: PageRoom,
 }
 
 impl<'a> OnLeaf<'a> {
@@ -46,8 +45,7 @@ impl<'a> OnLeaf<'a> {
             bytes: &[],
             order: Order::Little,
             next: 0,
-            left: 0,
-            copy: None,
+            room: PageRoom::new(0),
         }
     }
 
@@ -58,8 +56,7 @@ impl<'a> OnLeaf<'a> {
             bytes,
             order: forest.head().order,
             next: 0,
-            left: bytes.len(),
-            copy: None,
+            room: PageRoom::new(bytes.len()),
         }
     }
 
@@ -82,25 +79,6 @@ impl<'a> OnLeaf<'a> {
     pub(crate) fn begin(&self) -> usize {
         let at = self.next.saturating_mul(2).saturating_add(26);
         usize::from(u16_in(self.bytes, at, self.order)).saturating_add(3)
-    }
-
-    /// Whether so many bytes more are put there by themselves.
-    pub(crate) fn takes(&mut self, bytes: usize) -> bool {
-        if self.left < bytes {
-            return false;
-        }
-        self.left -= bytes;
-        true
-    }
-
-    /// From where on the leaf stands there, if it does.
-    pub(crate) fn copy(&self) -> Option<u32> {
-        self.copy
-    }
-
-    /// Notes that it stands there from this place on.
-    pub(crate) fn note(&mut self, start: u32) {
-        self.copy = Some(start);
     }
 }
 

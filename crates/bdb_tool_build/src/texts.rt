@@ -26,7 +26,7 @@ pub(crate) fn error_line(alloc: Global, error: LoadError) -> Result<String, Allo
     format!(in alloc; "line {line}: load error {code} {name}\n")
 }
 
-/// The line of an image that would be longer than this many bytes. An error means that memory ran out.
+/// The line that an image would be longer than this many bytes. An error means that memory ran out.
 pub fn image_too_large_line(alloc: Global, limit: u32) -> Result<String, AllocError>
     ensures { IfOk result (λ text. string_bytes text ≡ image_too_large_line limit) }
 {

@@ -122,7 +122,8 @@ fn lines_of<L: Ledger>(
     )
 }
 
-/// The two lines of a trial of so many pairs from a seed, with an image of at most `limit` bytes, or why there are none.
+/// The two lines of `trial`: of how many generated pairs of a kind the image is made, and how many pages of 4096 bytes it has; and its hash. It is
+/// refused where the image would have more than `limit` bytes, or where memory ran out.
 pub fn trial_text<L: Ledger>(
     alloc: Global,
     kind: Kind,

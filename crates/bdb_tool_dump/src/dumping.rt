@@ -16,7 +16,7 @@ use std::alloc::Global;
 fn pairs<K: Sink>(printer: &mut Printer<'_, K>, list: &mut Scan<'_>, print: bool) -> Result<(), Cut>
     ensures { Adds K.written K.faults printer.old printer.new (flat_map (pair_text print) list.old) result }
 {
-    for (key, value) in list {
+    while let Some((key, value)) = list.next() {
         printer.pair(key, value, print)?;
     }
     Ok(())
@@ -77,7 +77,8 @@ fn sections<K: Sink>(
     Ok(())
 }
 
-/// Writes the section of a database. An error means that a write failed, or that memory ran out.
+/// Writes the section of a database: its header, its data lines, printed or else spelled by digits, and `DATA=END`. An error means that a write failed, or that
+/// memory ran out.
 #[tactic(auto, using(bdb_tool_print::proofs::PrinterLemmas::all_cut))]
 pub fn write_section<K: Sink>(
     alloc: Global,

@@ -63,7 +63,8 @@ fn found<K: Sink>(
     found_lines(printer, &first, &mut others, print)
 }
 
-/// Writes the line of each database. An error means that a write failed, or that memory ran out.
+/// Writes the lines of `list`, one for each database: its kind and, if it has one, its name, printed. An error means that a write
+/// failed, or that memory ran out.
 #[tactic(auto, using(bdb_tool_print::proofs::PrinterLemmas::all_cut))]
 pub fn write_list<K: Sink>(alloc: Global, out: &mut K, readable: &Readable<'_>) -> Result<(), Cut>
     ensures { Writes (list_text (databases (file_of readable.now))) (change K.written K.faults out.old out.new) result }
@@ -78,7 +79,7 @@ pub fn write_list<K: Sink>(alloc: Global, out: &mut K, readable: &Readable<'_>) 
     printer.flush()
 }
 
-/// Writes a value and others, each on a line of its own. An error means that a write failed, or that memory ran out.
+/// Writes the data of a key, each on a line, printed or else spelled by digits. An error means that a write failed, or that memory ran out.
 #[tactic(auto, using(bdb_tool_print::proofs::PrinterLemmas::all_cut))]
 pub fn write_found<K: Sink>(
     alloc: Global,

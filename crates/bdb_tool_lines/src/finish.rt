@@ -8,7 +8,7 @@ use crate::cut::Cut;
 use crate::status::{DONE, MEMORY, WRITE_FAULT};
 use bdb_io::{Sink, put_all};
 
-/// Writes an error line, and answers its status.
+/// Writes an error line to `err`, and answers its status; or that of a write fault where the line isn't written whole.
 pub fn tell<E: Sink>(err: &mut E, text: &[u8], status: u8) -> u8
     requires { status ≢ 5 }
     ensures { Tells text.now status (change E.written E.faults err.old err.new) result }
@@ -19,14 +19,14 @@ pub fn tell<E: Sink>(err: &mut E, text: &[u8], status: u8) -> u8
     }
 }
 
-/// Tells that memory ran out.
+/// Writes the line that memory ran out to `err`, and answers its status; or that of a write fault where the line isn't written whole.
 pub fn tell_memory<E: Sink>(err: &mut E) -> u8
     ensures { Tells memory_line 7 (change E.written E.faults err.old err.new) result }
 {
     tell(err, b"out of memory\n", MEMORY)
 }
 
-/// Writes a text to the output. An error means that a write failed, or that memory ran out.
+/// Writes a text to the output, or a prefix of it where a write fails, which is the one error.
 #[tactic(auto, using(crate::proofs::FinishLemmas::line_written, crate::proofs::FinishLemmas::line_cut))]
 pub fn put<K: Sink>(out: &mut K, text: &[u8]) -> Result<(), Cut>
     ensures { Writes text.now (change K.written K.faults out.old out.new) result }
@@ -37,7 +37,7 @@ pub fn put<K: Sink>(out: &mut K, text: &[u8]) -> Result<(), Cut>
     }
 }
 
-/// The status of a text that was written, with the line of what kept it from being written whole.
+/// The status of an answer that was written to the output: `DONE`, or why it wasn't written whole, with the line that says so on `err`.
 #[tactic(auto, using(crate::proofs::Below::appends_nothing))]
 pub fn report<E: Sink>(written: Result<(), Cut>, err: &mut E) -> u8
     ensures { Reports written (change E.written E.faults err.old err.new) result }

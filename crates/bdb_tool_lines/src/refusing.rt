@@ -52,7 +52,8 @@ fn tell_named<E: Sink>(alloc: Global, named: Named, err: &mut E) -> u8
     }
 }
 
-/// Tells all that holds at the pages of a file, of which there is one thing at least.
+/// Writes a line to `err` for each row that holds at the pages of a file, at least one, and answers the status by the first: a fault or an
+/// unsupported case. Where memory runs out the line of that is written instead; where a write fails the status says so.
 #[tactic(auto, using(crate::proofs::RefusalLemmas::told_whole, crate::proofs::RefusalLemmas::told_in_part))]
 pub fn tell_list<E: Sink>(alloc: Global, all: &NamedList, err: &mut E) -> u8
     requires { 0 < length all.now }
@@ -68,7 +69,8 @@ pub fn tell_list<E: Sink>(alloc: Global, all: &NamedList, err: &mut E) -> u8
     }
 }
 
-/// Tells why a file isn't sound: the first that holds.
+/// Writes the line of why a file isn't sound to `err`, by the first row that holds, and answers its status: a fault, an unsupported case, or that
+/// memory ran out; or that of a write fault.
 pub fn refuse<E: Sink>(alloc: Global, error: FirstError, err: &mut E) -> u8
     ensures { IsRefused error (change E.written E.faults err.old err.new) result }
 {
@@ -96,14 +98,14 @@ fn case_row(case: Unsupported) -> Row
     }
 }
 
-/// The name of a case that isn't supported.
+/// The name of an unsupported case in its line, as the fault table has it.
 pub fn case_name(case: Unsupported) -> &'static str
     ensures { result.now ≡ unsupported_name case }
 {
     case_row(case).entry().name
 }
 
-/// Tells a case that isn't supported, which page 0 names, with status 3.
+/// Writes the line of an unsupported case that page 0 names to `err`, and answers its status, 3; or that of memory that ran out, or of a write fault.
 pub fn tell_case<E: Sink>(alloc: Global, case: Unsupported, err: &mut E) -> u8
     ensures { Tells (unsupported_line case 0) 3 (change E.written E.faults err.old err.new) result
         ⊎ Tells memory_line 7 (change E.written E.faults err.old err.new) result }

@@ -24,7 +24,7 @@ impl Model for Room {
 }
 
 impl Room {
-    /// Takes the room. An error means that memory ran out.
+    /// An empty room, of 16384 bytes. An error means that memory ran out.
     pub fn new(alloc: Global) -> Result<Room, AllocError>
         ensures { IfOk result (λ room. room ≡ []) }
     {

@@ -47,7 +47,8 @@ fn write_one<K: Sink>(out: &mut K, room: &mut Room, named: Named) -> Result<(), 
     printer.flush()
 }
 
-/// Writes a line for each of these to a sink. The room has nothing in it at the start, nor afterwards. An error is a write that failed.
+/// Writes a line to a sink for each of these, which hold at pages of a file. The room is empty at the start, and again afterwards. An error is a
+/// write that failed.
 pub fn tell_all<K: Sink>(out: &mut K, room: &mut Room, all: &NamedList) -> Result<(), Cut>
     requires { room.old ≡ [] }
     ensures lines { Writes (faults_text all.now) (change K.written K.faults out.old out.new) result }
@@ -59,7 +60,7 @@ pub fn tell_all<K: Sink>(out: &mut K, room: &mut Room, all: &NamedList) -> Resul
     told
 }
 
-/// Writes the line of what holds at a page to a sink. The room has nothing in it at the start, nor afterwards. An error is a write that failed.
+/// Writes the line of a row that holds at a page to a sink. The room is empty at the start, and again afterwards. An error is a write that failed.
 pub fn tell_one<K: Sink>(out: &mut K, room: &mut Room, named: Named) -> Result<(), Cut>
     requires { room.old ≡ [] }
     ensures lines { Writes (judgement_line (judgement_seen named)) (change K.written K.faults out.old out.new) result }

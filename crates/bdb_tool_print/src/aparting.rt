@@ -202,8 +202,8 @@ impl<'k, K: Sink> Printer<'k, K> {
     }
 }
 
-/// Writes what is salvaged of each database that is found, a section for each. An error means that a write failed, or
-/// that memory ran out.
+/// Writes what `salvage --apart` gives: a section for each database that is found, with what is salvaged of it. `print` says whether data lines are
+/// printed, or else spelled by digits. An error means that a write failed, or that memory ran out.
 #[tactic(auto, using(crate::proofs::PrinterLemmas::all_cut))]
 pub fn write_apart<K: Sink>(
     alloc: Global,
@@ -223,8 +223,9 @@ pub fn write_apart<K: Sink>(
     printer.flush()
 }
 
-/// Writes what is salvaged and belongs to no database: the section of pairs, and that of records, where there is one.
-/// An error means that a write failed, or that memory ran out.
+/// Writes what `salvage --rest` gives, the pairs and records that belong to no database that is found: the section `salvaged` and, if there are such
+/// records, the section `loose`. `print` says whether data lines are printed, or else spelled by digits. An error means that a write failed, or that
+/// memory ran out.
 #[tactic(auto, using(crate::proofs::PrinterLemmas::all_cut))]
 pub fn write_rest<K: Sink>(
     alloc: Global,

@@ -58,14 +58,15 @@ impl<'k, K: Sink> Printer<'k, K> {
         self.data_line(value, print)
     }
 
-    /// Prints the two data lines of a pair. An error means that a write failed, or that memory ran out.
+    /// Adds the two data lines of a pair, printed or else spelled by digits: that of its key (of a record's number, that of its decimal digits) and
+    /// that of its datum. An error means that a write failed, or that memory ran out.
     pub fn pair(&mut self, key: KeyView<'_>, value: Datum<'_>, print: bool) -> Result<(), Cut>
         ensures { Adds K.written K.faults self.old self.new (pair_text print (key_view_seen key.entry, datum_seen value.entry)) result }
     {
         self.both_lines(&key, &value, print)
     }
 
-    /// Prints the header of a section. An error means that a write failed, or that memory ran out.
+    /// Adds the header of the section of a database, from `VERSION=3` to `HEADER=END`. An error means that a write failed, or that memory ran out.
     pub fn header(
         &mut self,
         name: Option<&[u8]>,

@@ -38,8 +38,8 @@ impl<'k, K: Sink> Printer<'k, K> {
         self.name(name)
     }
 
-    /// Prints the line of a database: its kind, and its name where it has one. An error means that a write failed, or
-    /// that memory ran out.
+    /// Adds the line of a database: its kind and, if it has a name, a space and its name, printed. An error means that a write failed, or that memory
+    /// ran out.
     #[tactic(auto, using(crate::proofs::PrinterLemmas::then_adds, crate::proofs::PrinterLemmas::adds_cut))]
     pub fn database_line(&mut self, kind: Kind, name: Option<&[u8]>) -> Result<(), Cut>
         ensures { Adds K.written K.faults self.old self.new (line (kind_text kind ++ name_text (option_copied name.entry))) result }

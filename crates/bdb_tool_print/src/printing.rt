@@ -13,7 +13,7 @@ use std::alloc::Global;
 /// How many bytes are gathered before they are written.
 const PIECE: usize = 65536;
 
-/// A text on its way to a sink: what was printed is written to it, or pending.
+/// A text on its way to a sink: what was added is written to it, or pending. What is pending is written once it has 65536 bytes.
 #[derive(Drop)]
 pub struct Printer<'k, K: Sink> {
     pub alloc: Global,
@@ -22,7 +22,7 @@ pub struct Printer<'k, K: Sink> {
 }
 
 impl<'k, K: Sink> Printer<'k, K> {
-    /// Writes what is pending. An error means that a write failed, or that memory ran out.
+    /// Writes what is pending, and then nothing is. An error is a write that failed.
     pub fn flush(&mut self) -> Result<(), Cut>
         ensures prints { Adds K.written K.faults self.old self.new [] result }
         ensures empty { OnOk result (self.new.pending.now ≡ []) }
@@ -46,7 +46,7 @@ impl<'k, K: Sink> Printer<'k, K> {
         self.flush()
     }
 
-    /// Prints a text as it is. An error means that a write failed, or that memory ran out.
+    /// Adds a text as it is. An error means that a write failed, or that memory ran out.
     pub fn text(&mut self, text: &[u8]) -> Result<(), Cut>
         ensures { Adds K.written K.faults self.old self.new text.now result }
     {
@@ -56,7 +56,7 @@ impl<'k, K: Sink> Printer<'k, K> {
         }
     }
 
-    /// Prints the spelling of bytes. An error means that a write failed, or that memory ran out.
+    /// Adds the spelling of bytes: printed, or else by digits. An error means that a write failed, or that memory ran out.
     pub fn spelled(&mut self, bytes: &[u8], print: bool) -> Result<(), Cut>
         ensures { Adds K.written K.faults self.old self.new (spelling print bytes.now) result }
     {
@@ -66,8 +66,8 @@ impl<'k, K: Sink> Printer<'k, K> {
         }
     }
 
-    /// Prints the data line of a short value by digits: it's gathered before it is added, since most lines are such.
-    /// An error means that a write failed, or that memory ran out.
+    /// Adds the data line of a value of at most 127 bytes: a space, its spelling by digits and a line feed. It is put together before it is added,
+    /// since most lines are such. An error means that a write failed, or that memory ran out.
     pub fn short_line(&mut self, value: &[u8]) -> Result<(), Cut>
         requires { length value.now ≤ SHORT_VALUE }
         ensures { Adds K.written K.faults self.old self.new (line (data_line false value.now)) result }
@@ -88,7 +88,7 @@ impl<'k, K: Sink> Printer<'k, K> {
         Ok(())
     }
 
-    /// Prints the spelling of a value. An error means that a write failed, or that memory ran out.
+    /// Adds the spelling of a value: printed, or else by digits. An error means that a write failed, or that memory ran out.
     pub fn datum(&mut self, value: &Datum<'_>, print: bool) -> Result<(), Cut>
         ensures { Adds K.written K.faults self.old self.new (spelling print (datum_seen value.now)) result }
     {
@@ -98,7 +98,8 @@ impl<'k, K: Sink> Printer<'k, K> {
         }
     }
 
-    /// Prints the spelling of a value, and ends its line. An error means that a write failed, or that memory ran out.
+    /// Adds the line of a value: its spelling, printed or else by digits, and a line feed. An error means that a write failed, or that memory ran
+    /// out.
     #[tactic(auto, using(crate::proofs::PrinterLemmas::then_adds, crate::proofs::PrinterLemmas::adds_cut))]
     pub fn value_line(&mut self, value: &Datum<'_>, print: bool) -> Result<(), Cut>
         ensures { Adds K.written K.faults self.old self.new (value_line print (datum_seen value.now)) result }
@@ -107,7 +108,7 @@ impl<'k, K: Sink> Printer<'k, K> {
         self.text(b"\n")
     }
 
-    /// Prints a value of several on a line of its own. An error means that a write failed, or that memory ran out.
+    /// As `value_line`, of a value that is dropped. An error means that a write failed, or that memory ran out.
     pub fn found_line(&mut self, value: Datum<'_>, print: bool) -> Result<(), Cut>
         ensures { Adds K.written K.faults self.old self.new (value_line print (datum_seen value.entry)) result }
     {

@@ -68,7 +68,8 @@ impl<'k, K: Sink> Printer<'k, K> {
     }
 }
 
-/// Writes pairs, the key and the datum each on a line. An error means that a write failed, or that memory ran out.
+/// Writes the pairs of a range: the spellings of the key and of the datum each on a line, printed or else by digits. An error means that a write
+/// failed, or that memory ran out.
 #[tactic(auto, using(crate::proofs::PrinterLemmas::all_cut))]
 pub fn write_pairs<K: Sink>(
     alloc: Global,

@@ -148,8 +148,8 @@ impl<'k, K: Sink> Printer<'k, K> {
     }
 }
 
-/// Writes what is salvaged from an image: the section of the stored pairs, and that of the loose records, where there is one.
-/// An error means that a write failed, or that memory ran out.
+/// Writes what `salvage` gives: the section `salvaged` with the stored pairs and, if there are loose records, the section `loose` with them. `print`
+/// says whether data lines are printed, or else spelled by digits. An error means that a write failed, or that memory ran out.
 #[tactic(auto, using(crate::proofs::PrinterLemmas::all_cut))]
 pub fn write_salvaged<K: Sink>(
     alloc: Global,

@@ -343,7 +343,8 @@ impl<'k, K: Sink> Printer<'k, K> {
     }
 }
 
-/// Writes what an image still has, with the case that its page 0 names. An error means that a write failed, or that memory ran out.
+/// Writes the lines of `survey` (docs/FORMAT.md, "Survey"); `case` is the unsupported case that page 0 names, if it names one. An error means that a
+/// write failed, or that memory ran out.
 #[tactic(auto, using(crate::proofs::PrinterLemmas::all_cut))]
 pub fn write_survey<K: Sink>(
     alloc: Global,

@@ -35,7 +35,7 @@ enum CommandName {
     Survey,
 }
 
-/// What `get` asks, with the name and the key as they are spelled.
+/// What `get` asks, with the name (printed) and the key as they are spelled.
 #[derive(Clone, Copy)]
 pub struct Lookup<'w> {
     pub name: Option<&'w [u8]>,
@@ -46,7 +46,7 @@ pub struct Lookup<'w> {
     pub print: bool,
 }
 
-/// What `dump` asks: the database with a name, as it is spelled, or all.
+/// What `dump` asks: the database with a name as it is spelled (printed), or all.
 #[derive(Clone, Copy)]
 pub struct Selection<'w> {
     pub name: Option<&'w [u8]>,
@@ -54,7 +54,7 @@ pub struct Selection<'w> {
     pub print: bool,
 }
 
-/// What `range` asks, with the name and the bounds as they are spelled.
+/// What `range` asks, with the name (printed) and the bounds as they are spelled.
 #[derive(Clone, Copy)]
 pub struct Bounds<'w> {
     pub name: Option<&'w [u8]>,
@@ -84,7 +84,7 @@ pub enum Request<'w> {
     Range(Bounds<'w>),
     /// The file in a byte order.
     Convert(Order),
-    /// What its pages are.
+    /// The figures of its pages.
     Stat,
 }
 
@@ -104,7 +104,7 @@ pub struct Salvage {
     pub parts: Parts,
 }
 
-/// What a repaired file has: each database that is found, or one of a shape, where one is given.
+/// What a repaired file has: each database that is found, one of a shape, or without a shape those that `salvage` writes.
 #[derive(Clone, Copy)]
 pub enum Built {
     Each,
@@ -137,12 +137,12 @@ pub enum Action<'w> {
     LoadOnto(&'w [u8]),
     Salvage(Salvage),
     Repair(Repair),
-    /// It's told what an image still has, by the guess that is given.
+    /// What an image still has is counted, by the given guess.
     Survey(Option<Guess>),
     Trial(Trial),
 }
 
-/// A command: the longest input that it takes, or the longest image that it builds, in bytes, and what it does.
+/// A command: what it does, and its limit in bytes, for its input, a base and an image that it builds.
 #[derive(Clone, Copy)]
 pub struct Command<'w> {
     pub limit: u32,
@@ -242,7 +242,7 @@ const COMMANDS: [CommandRow; 12] = [
     },
 ];
 
-/// The command that the words are, unless they are none.
+/// The command that the words behind the program's name are, or `None` if they are none. It takes no memory.
 pub fn command_of<'w>(words: &'w Words) -> Option<Command<'w>>
     ensures command { MatchOption result (command_of words.now ≡ None) (IsSeen (command_of words.now)) }
     ensures fit { IfSome result IsFitCommand }
@@ -251,7 +251,7 @@ pub fn command_of<'w>(words: &'w Words) -> Option<Command<'w>>
     command_by(row_named(first)?, words)
 }
 
-/// The file that is opened as the base: that of a `load` with `--onto`. It takes no memory. None for other words.
+/// The file that is opened as the base: the value of `--onto` of a `load`, or `None` for other words. It takes no memory.
 pub fn onto_file(words: &Words) -> Option<&[u8]>
     ensures { option_copied result ≡ onto_file words.now }
 {
@@ -261,7 +261,7 @@ pub fn onto_file(words: &Words) -> Option<&[u8]>
     }
 }
 
-/// The limit of a command that asks for a base. None for other words.
+/// The limit in bytes of a `load` with `--onto`, for the text, the base and the image; or `None` for other words.
 pub fn base_limit(words: &Words) -> Option<u32>
     ensures { MatchOption result (command_on words.now true ≡ command_on words.now false) (AreOnto words.now) }
 {

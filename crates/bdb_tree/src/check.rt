@@ -34,9 +34,9 @@ pub fn tree_faults(
     note_trees(alloc, linked, found)
 }
 
-/// Each leaf of a tree has a type that the tree may have, and names its neighbours in the tree. A refusal is
-/// the first fault: the least page, and there the least code. It keeps the leaves of one tree at a time;
-/// `Memory` means that memory ran out.
+/// Checks that each leaf of a tree has a type that the tree may have, and names its neighbours in the tree. A
+/// refusal is the first fault: the least page, and there the least code. It keeps the leaves of one tree at a
+/// time; `Memory` means that memory ran out.
 pub fn check_trees(alloc: Global, linked: &Linked<'_>) -> Result<(), CheckError>
     ensures accepted { OnOk result (tree_faults (file_of linked.now) ≡ []) }
     ensures refusal { IfErr result (IsFirstOf (tree_faults (file_of linked.now))) }

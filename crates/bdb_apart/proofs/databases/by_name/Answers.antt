@@ -11,7 +11,7 @@ pub returns : goal.returns
 returns c =
     let file = file_in c.args.salvaged.now in
     let none : map entry_found c.new-dbs.result.entries ≡ [] = ap (map entry_found) c.new-dbs.ensures.empty in
-    c.in_ok-put_all_unnamed.ensures
+    c.in_ok-put_all-2.ensures
     ∙ (ap (λ dbs. fold with_found dbs (unnamed_above file))
-    (c.in_ok-put_all_named.ensures ∙ ap (λ dbs. fold with_found dbs (named_above file)) none)
+    (c.in_ok-put_all.ensures ∙ ap (λ dbs. fold with_found dbs (named_above file)) none)
     ∙ sym (fold-append with_found [] (named_above file) (unnamed_above file)))

@@ -20,4 +20,4 @@ pub returns-in-Hash : goal.returns-in-Hash
 returns-in-Hash c =
     key_here c.args.forest.now c.args.place.now c.in-Hash.view c.key.result (datum_seen c.key_of.result)
     (omega (arith, c.head.ensures.last)) (sym c.in-Hash.ensures.page)
-    (omega (arith, c.pairs.ensures)) c.key.ensures c.key_of.ensures
+    (omega (arith, c.pairs.ensures)) c.key.ensures c.key_of.ensures.value

@@ -1,10 +1,5 @@
 use Rattle.std.proofs.Common.{List, sym, subst, IfOk}
-use Rattle.bdb_io.specs.of_format.declared.settings.Settings.{Settings}
-use Rattle.bdb_text_format.specs.Terms.{pairs_of}
-use Rattle.bdb_text_format.specs.declared.pairs.TextPair.{TextPair}
-use Rattle.bdb_need.specs.TreePages.{unlined_pairs}
-use Rattle.bdb_mkfile.specs.FileSettings.{file_settings}
-use Rattle.bdb_mkfile.specs.Settled.{IsBuildable, IsListImage}
+use Rattle.bdb_mkfile.proofs.Common.{Settings, pairs_of, TextPair, unlined_pairs, file_settings, IsBuildable, IsListImage}
 use Rattle.bdb_mkfile.proofs.AlikeLemmas.{buildable_own}
 use Rattle.bdb_mkfile.proofs.alone.section_image.Goals as goal
 

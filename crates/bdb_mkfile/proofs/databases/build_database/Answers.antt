@@ -1,7 +1,6 @@
 use Rattle.std.proofs.Common.{◌∙◌, ap}
-use Rattle.std.proofs.lemmas.Result.{IfOk-weaker}
-use Rattle.bdb_text_format.specs.Terms.{pairs_of, unlined_pairs}
-use Rattle.bdb_mkfile.specs.FileSettings.{own_settings}
+use Rattle.bdb_mkfile.proofs.Common.{IfOk-weaker, pairs_of, own_settings}
+use Rattle.bdb_text_format.specs.Terms.{unlined_pairs}
 use Rattle.bdb_mkfile.proofs.NamedBuildLemmas.{section_built}
 use Rattle.bdb_mkfile.proofs.databases.build_database.Goals as goal
 

@@ -1,6 +1,5 @@
 use Rattle.std.proofs.Common.{◌≡◌, ◌∷◌, ◌++◌, [], append_assoc, sym, ◌∙◌, ap, subst}
-use Rattle.bdb_need.proofs.of_settle.SettlingLemmas.{none_left}
-use Rattle.bdb_mkfile.specs.Standing.{AreDatabasesBuilt}
+use Rattle.bdb_mkfile.proofs.Common.{none_left, AreDatabasesBuilt}
 use Rattle.bdb_mkfile.proofs.StandingLemmas.{built_more}
 use Rattle.bdb_mkfile.proofs.databases.build_databases.Goals as goal
 

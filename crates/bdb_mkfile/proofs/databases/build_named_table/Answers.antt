@@ -1,6 +1,5 @@
 use Rattle.std.proofs.Common.{◌∙◌, sym}
-use Rattle.std.proofs.lemmas.List.{length-map}
-use Rattle.bdb_text_format.specs.Terms.{pairs_of, slice_seen, unlined}
+use Rattle.bdb_mkfile.proofs.Common.{length-map, pairs_of, slice_seen, unlined}
 use Rattle.bdb_mkfile.proofs.NamedBuildLemmas.{table_built}
 use Rattle.bdb_mkfile.proofs.databases.build_named_table.Goals as goal
 

@@ -1,7 +1,5 @@
 use Rattle.std.proofs.Common.{◌+◌, ◌∙◌, ap, arith, drop, sym, ◌&&◌}
-use Rattle.std.specs.List.{list_all}
-use Rattle.bdb_text_format.specs.Terms.{slice_seen}
-use Rattle.bdb_mkfile.specs.Lengths.{is_short_pair}
+use Rattle.bdb_mkfile.proofs.Common.{list_all, slice_seen, is_short_pair}
 use Rattle.bdb_mkfile.proofs.LengthLemmas.{all_on, all_past}
 use Rattle.bdb_mkfile.proofs.lengths.are_short_pairs.Goals as goal
 

@@ -1,7 +1,5 @@
 use Rattle.std.proofs.Common.{◌≡◌, drop}
-use Rattle.std.specs.List.{list_all}
-use Rattle.bdb_text_format.specs.Terms.{slice_seen}
-use Rattle.bdb_mkfile.specs.Lengths.{is_short_pair}
+use Rattle.bdb_mkfile.proofs.Common.{list_all, slice_seen, is_short_pair}
 use Rattle.bdb_mkfile.proofs.lengths.are_short_pairs.Given as goal
 
 -- The pairs passed are short.

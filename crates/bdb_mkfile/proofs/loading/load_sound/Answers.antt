@@ -1,10 +1,5 @@
 use Rattle.std.proofs.Common.{◌≡◌, ◌*◌, true, false, inr, map, sym, ◌∙◌, ap, nat_lt}
-use Rattle.std.specs.List.{list_all}
-use Rattle.bdb_need.specs.of_settle.declared.load_error.LoadError.TheVariants.{TooLarge}
-use Rattle.bdb_need.specs.of_settle.LoadErrors.{page_size_in}
-use Rattle.bdb_need.specs.of_settle.Loaded.{filled_section}
-use Rattle.bdb_need.specs.Need.{need_of}
-use Rattle.bdb_mkfile.specs.Lengths.{is_short_section}
+use Rattle.bdb_mkfile.proofs.Common.{list_all, TooLarge, page_size_in, filled_section, need_of, is_short_section}
 use Rattle.bdb_mkfile.proofs.BuildLemmas.{builds, laid_out_as, no_error, refused_late, too_large, built_tables}
 use Rattle.bdb_mkfile.proofs.FitLemmas.{are_buildable, are_settled, filled_size, lists_filled}
 use Rattle.bdb_mkfile.proofs.ShortLemmas.{all_short, too_long}

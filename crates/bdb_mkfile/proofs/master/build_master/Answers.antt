@@ -1,8 +1,6 @@
 use Rattle.std.proofs.Common.{◌≡◌, ◌+◌, ◌∙◌, ap, sym, arith, subst}
-use Rattle.bdb_text_format.specs.Terms.{pairs_of, unlined_pairs}
-use Rattle.bdb_io.specs.of_format.declared.settings.Settings.{Settings}
-use Rattle.bdb_mkfile.specs.NamedImages.{AreNamed}
-use Rattle.bdb_mkfile.specs.Layout.{settings_of_master}
+use Rattle.bdb_mkfile.proofs.Common.{pairs_of, Settings, AreNamed, settings_of_master}
+use Rattle.bdb_text_format.specs.Terms.{unlined_pairs}
 use Rattle.bdb_mkfile.proofs.NamedMasterLemmas.{entries_listed, master_built}
 use Rattle.bdb_mkfile.proofs.master.build_master.Goals as goal
 

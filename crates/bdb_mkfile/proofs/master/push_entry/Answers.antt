@@ -1,9 +1,6 @@
 use Rattle.std.proofs.Common.{◌≡◌, ◌++◌, ◌∷◌, [], ◌∙◌, ap, refl}
-use Rattle.std.proofs.lemmas.List.{map-append}
-use Rattle.bdb_text_format.specs.Terms.{unlined, unlined_pairs}
-use Rattle.bdb_text_format.specs.declared.pairs.Key.TheVariants.{Bytes}
-use Rattle.bdb_text_format.specs.declared.pairs.TextPair.{TextPair}
-use Rattle.bdb_mkfile.specs.Layout.{entry_of}
+use Rattle.bdb_mkfile.proofs.Common.{map-append, unlined, Bytes, TextPair, entry_of}
+use Rattle.bdb_text_format.specs.Terms.{unlined_pairs}
 use Rattle.bdb_mkfile.proofs.master.push_entry.Goals as goal
 
 pub returns : goal.returns

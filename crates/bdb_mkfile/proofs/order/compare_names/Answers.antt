@@ -1,6 +1,5 @@
 use Rattle.std.proofs.Common.{◌∙◌, ap}
-use Rattle.bdb_io.specs.of_format.Terms.{less}
-use Rattle.bdb_mkfile.specs.Builds.{name_of}
+use Rattle.bdb_mkfile.proofs.Common.{less, name_of}
 use Rattle.bdb_mkfile.proofs.order.compare_names.Goals as goal
 use Rattle.bdb_need.proofs.of_layout.KeyLemmas.{by_bytes}
 

@@ -1,7 +1,6 @@
 use Rattle.std.proofs.Common.{rules}
-use Rattle.std.proofs.lemmas.Result.{on_ok_weaker}
+use Rattle.bdb_mkfile.proofs.Common.{on_ok_weaker, named_before}
 use Rattle.std.proofs.lemmas.Fn.{always_returns_same}
-use Rattle.bdb_mkfile.specs.Order.{named_before}
 use Rattle.bdb_mkfile.proofs.NameLemmas.{names_weakly}
 use Rattle.bdb_mkfile.proofs.order.sort_names.Goals as goal
 

@@ -1,7 +1,5 @@
 use Rattle.std.proofs.Common.{arith, sym, ◌∙◌, subst, IsTrue}
-use Rattle.bdb_text_format.specs.Terms.{pairs_of, slice_seen, unlined}
-use Rattle.std.proofs.lemmas.List.{length-map}
-use Rattle.bdb_io.specs.of_format.Terms.{is_zero}
+use Rattle.bdb_mkfile.proofs.Common.{pairs_of, slice_seen, unlined, length-map, is_zero}
 use Rattle.bdb_mkfile.proofs.TreeLemmas.{first_zero, still_zero}
 use Rattle.bdb_mkfile.proofs.TableLemmas.{table_filed}
 use Rattle.bdb_mkfile.proofs.table.table_image.Goals as goal

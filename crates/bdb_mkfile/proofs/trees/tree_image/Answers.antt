@@ -1,8 +1,5 @@
 use Rattle.std.proofs.Common.{ℕ, ◌∙◌, ap, subst, arith}
-use Rattle.bdb_text_format.specs.Terms.{listed, pairs_of}
-use Rattle.bdb_need.specs.of_pack.Built.{Built, joined_pages}
-use Rattle.bdb_need.specs.of_mktree.Building.{IsTreeBuilt}
-use Rattle.bdb_need.specs.of_mktree.Lists.{units_in}
+use Rattle.bdb_mkfile.proofs.Common.{listed, pairs_of, Built, joined_pages, IsTreeBuilt, units_in}
 use Rattle.bdb_mkfile.proofs.TreeLemmas.{first_zero, still_zero, topped_image}
 use Rattle.bdb_mkfile.proofs.trees.tree_image.Goals as goal
 

@@ -1,10 +1,5 @@
 use Rattle.std.proofs.Common.{List, ℕ, [], ◌++◌, ◌∷◌, ◌∙◌, ap, arith, drop, get_or, map, set, subst, sym}
-use Rattle.std.proofs.lemmas.List.{length-map, map-append}
-use Rattle.bdb_mktree.specs.of_places.Places.{values_seen}
-use Rattle.bdb_mktree.specs.of_text_format.Terms.{pairs_of}
-use Rattle.bdb_law_buckets.specs.Tables.{Keyed}
-use Rattle.bdb_mkhash.specs.Units.{unit_seen, units_seen}
-use Rattle.bdb_mkhash.specs.Buckets.{table_units}
+use Rattle.bdb_mkhash.proofs.Common.{length-map, map-append, values_seen, pairs_of, Keyed, unit_seen, units_seen, table_units}
 use Rattle.bdb_mkhash.proofs.BucketLemmas.{AreDealt, dealt_length, none_dealt, one_dealt, pushed_seen, run_unit}
 use Rattle.bdb_mkhash.proofs.buckets.deal.Goals as goal
 

@@ -1,7 +1,5 @@
 use Rattle.std.proofs.Common.{◌-◌, ◌≤◌, drop, length, map}
-use Rattle.bdb_mktree.specs.of_text_format.Terms.{pairs_of, slice_seen}
-use Rattle.bdb_mkhash.specs.Buckets.{table_units}
-use Rattle.bdb_mkhash.specs.Units.{units_seen}
+use Rattle.bdb_mkhash.proofs.Common.{pairs_of, slice_seen, table_units, units_seen}
 use Rattle.bdb_mkhash.proofs.BucketLemmas.{AreDealt}
 use Rattle.bdb_mkhash.proofs.buckets.deal.Given as goal
 

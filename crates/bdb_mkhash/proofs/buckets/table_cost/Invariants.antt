@@ -1,6 +1,5 @@
 use Rattle.std.proofs.Common.{◌≡◌, ◌+◌, ◌-◌, ◌≤◌, drop, length}
-use Rattle.bdb_mktree.specs.of_text_format.Terms.{pairs_of, slice_seen}
-use Rattle.bdb_mkhash.specs.Buckets.{table_cost, table_units}
+use Rattle.bdb_mkhash.proofs.Common.{pairs_of, slice_seen, table_cost, table_units}
 use Rattle.bdb_mkhash.proofs.buckets.table_cost.Given as goal
 
 -- The keys passed have the cost.

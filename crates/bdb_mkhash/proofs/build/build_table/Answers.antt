@@ -1,11 +1,5 @@
 use Rattle.std.proofs.Common.{◌∙◌, ap, arith, length, map, subst, sym, ◌+◌, ◌^◌, ◌≡◌, All}
-use Rattle.std.proofs.lemmas.List.{length-map}
-use Rattle.std.proofs.lemmas.List.FromFn.{length-map-range_with_len}
-use Rattle.bdb_mktree.specs.of_text_format.Terms.{pairs_of}
-use Rattle.bdb_law_buckets.specs.Tables.{dealt, table_meta}
-use Rattle.bdb_mkhash.specs.Buckets.{table_bits, table_units}
-use Rattle.bdb_mkhash.specs.Filling.{AreEmptyPages, AreFilled}
-use Rattle.bdb_mkhash.specs.Units.{IsShortUnit, units_seen}
+use Rattle.bdb_mkhash.proofs.Common.{length-map, length-map-range_with_len, pairs_of, dealt, table_meta, table_bits, table_units, AreEmptyPages, AreFilled, IsShortUnit, units_seen}
 use Rattle.bdb_mkhash.proofs.BuildLemmas.{all_seen, all_short, buckets_short, keys_are, table_built}
 use Rattle.bdb_mkhash.proofs.BucketLemmas.{two_at_least}
 use Rattle.bdb_mkhash.proofs.build.build_table.Goals as goal

@@ -1,6 +1,5 @@
 use Rattle.std.proofs.Common.{[], ◌∙◌, sym, subst}
-use Rattle.bdb_mktree.specs.of_places.Places.{values_seen}
-use Rattle.bdb_mkhash.specs.Filling.{IsValuePut}
+use Rattle.bdb_mkhash.proofs.Common.{values_seen, IsValuePut}
 use Rattle.bdb_mkhash.proofs.CostLemmas.{first_is, one_long}
 use Rattle.bdb_mkhash.proofs.StoreLemmas.{one_put}
 use Rattle.bdb_mkhash.proofs.data.put_one.Goals as goal

@@ -1,8 +1,5 @@
 use Rattle.std.proofs.Common.{◌∙◌, ap, subst, sym}
-use Rattle.bdb_mktree.specs.of_places.Places.{values_seen}
-use Rattle.bdb_mktree.specs.of_format.Terms.{Set}
-use Rattle.bdb_mkhash.specs.Filling.{IsGrown}
-use Rattle.bdb_mkhash.specs.Pages.{CanTakeContent}
+use Rattle.bdb_mkhash.proofs.Common.{values_seen, Set, IsGrown, CanTakeContent}
 use Rattle.bdb_mkhash.proofs.StoreLemmas.{set_found, set_put, set_short, set_there, takes_set}
 use Rattle.bdb_mkhash.proofs.data.put_set.Goals as goal
 

@@ -1,6 +1,5 @@
 use Rattle.std.proofs.Common.{◌≡◌, ◌+◌, ◌<◌, ◌≤◌, length, ◌^◌}
-use Rattle.bdb_mktree.specs.of_mkleaves.Leaves.{KeepsAll}
-use Rattle.bdb_mkhash.specs.Filling.{AreEmptyPages}
+use Rattle.bdb_mkhash.proofs.Common.{KeepsAll, AreEmptyPages}
 use Rattle.bdb_mkhash.proofs.fill.add_buckets.Given as goal
 
 -- So many pages are added.

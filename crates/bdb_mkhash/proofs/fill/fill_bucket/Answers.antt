@@ -1,6 +1,5 @@
 use Rattle.std.proofs.Common.{arith, subst}
-use Rattle.bdb_mkhash.specs.Filling.{IsPageFilled}
-use Rattle.bdb_mkhash.specs.Units.{units_seen}
+use Rattle.bdb_mkhash.proofs.Common.{IsPageFilled, units_seen}
 use Rattle.bdb_mkhash.proofs.FillLemmas.{seen_long, seen_rest, short_rest}
 use Rattle.bdb_mkhash.proofs.OpenLemmas.{bucket_begun, bucket_done, bucket_more, some_taken}
 use Rattle.bdb_mkhash.proofs.fill.fill_bucket.Goals as goal

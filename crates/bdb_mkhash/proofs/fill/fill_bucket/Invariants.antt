@@ -1,6 +1,5 @@
 use Rattle.std.proofs.Common.{◌-◌, length}
-use Rattle.bdb_mkhash.specs.Filling.{IsBucketOpen}
-use Rattle.bdb_mkhash.specs.Units.{units_seen}
+use Rattle.bdb_mkhash.proofs.Common.{IsBucketOpen, units_seen}
 use Rattle.bdb_mkhash.proofs.fill.fill_bucket.Given as goal
 
 -- The units passed are on the pages so far.

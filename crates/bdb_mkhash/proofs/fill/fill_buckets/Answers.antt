@@ -1,6 +1,5 @@
 use Rattle.std.proofs.Common.{◌∙◌, [], ap, arith, length, map, sym}
-use Rattle.std.proofs.lemmas.List.{get_or-map, length-map}
-use Rattle.bdb_mkhash.specs.Units.{units_seen}
+use Rattle.bdb_mkhash.proofs.Common.{get_or-map, length-map, units_seen}
 use Rattle.bdb_mkhash.proofs.TableLemmas.{at_bucket, bucket_next}
 use Rattle.bdb_mkhash.proofs.fill.fill_buckets.Goals as goal
 

@@ -1,6 +1,5 @@
 use Rattle.std.proofs.Common.{◌≡◌, ◌+◌, map, take}
-use Rattle.bdb_mkhash.specs.Filling.{AreFilled}
-use Rattle.bdb_mkhash.specs.Units.{units_seen}
+use Rattle.bdb_mkhash.proofs.Common.{AreFilled, units_seen}
 use Rattle.bdb_mkhash.proofs.fill.fill_buckets.Given as goal
 
 -- The buckets passed are filled.

@@ -1,6 +1,5 @@
 use Rattle.std.proofs.Common.{◌+◌, ap, arith, refl, subst, sym}
-use Rattle.bdb_mkhash.specs.Filling.{no_unit}
-use Rattle.bdb_mkhash.specs.Units.{IsShortUnit, units_seen}
+use Rattle.bdb_mkhash.proofs.Common.{no_unit, IsShortUnit, units_seen}
 use Rattle.bdb_mkhash.proofs.FillLemmas.{none_put, page_whole, put_next, seen_any, seen_long}
 use Rattle.bdb_mkhash.proofs.fill.fill_page.Goals as goal
 
@@ -13,8 +12,7 @@ keyed_cost-requires-clause-some c =
     (c.requires.short c.loop-unit.unit-index no_unit (omega (arith, seen_long c.args.units.now, c.loop-unit-test.true)))).some
 
 pub room-requires-clause-begun : goal.room-requires-clause-begun
-room-requires-clause-begun c =
-    (page_whole c.args.page c.args.pages.now c.loop-unit.pages c.args.sorted _ c.requires.empty c.loop-unit.invariant.1).holds.begun
+room-requires-clause-begun c = (page_whole c.args.page c.args.pages.now c.loop-unit.pages c.args.sorted _ c.requires.empty c.loop-unit.invariant.1).holds.begun
 
 pub put_unit-requires-clause-open : goal.put_unit-requires-clause-open
 put_unit-requires-clause-open c = page_whole c.args.page c.args.pages.now c.loop-unit.pages c.args.sorted _ c.requires.empty c.loop-unit.invariant.1

@@ -1,6 +1,5 @@
 use Rattle.std.proofs.Common.{◌≡◌, take}
-use Rattle.bdb_mkhash.specs.Filling.{ArePut}
-use Rattle.bdb_mkhash.specs.Units.{units_seen}
+use Rattle.bdb_mkhash.proofs.Common.{ArePut, units_seen}
 use Rattle.bdb_mkhash.proofs.fill.fill_page.Given as goal
 
 -- The units passed are on the page.

@@ -1,6 +1,5 @@
 use Rattle.std.proofs.Common.{arith, ◌∙◌, ap}
-use Rattle.bdb_mktree.specs.of_format.Terms.{is_zero}
-use Rattle.bdb_mktree.specs.of_pack.Built.{bytes_of, with_zeros}
+use Rattle.bdb_mkhash.proofs.Common.{is_zero, bytes_of, with_zeros}
 use Rattle.bdb_mktree.proofs.of_pack.AddedLemmas.{added_zero}
 use Rattle.bdb_mkhash.proofs.PageLemmas.{page_added}
 use Rattle.bdb_mkhash.proofs.page.add_page.Goals as goal

@@ -1,7 +1,4 @@
-use Rattle.std.specs.Prelude.{◌≡◌, take}
-use Rattle.std.specs.List.{flat_map}
-use Rattle.bdb_mktree.specs.of_places.Places.{values_seen}
-use Rattle.bdb_mktree.specs.of_format.Terms.{block_bytes}
+use Rattle.bdb_mkhash.proofs.Common.{◌≡◌, take, flat_map, values_seen, block_bytes}
 use Rattle.bdb_mkhash.proofs.sets.spell_set.Given as goal
 
 -- The data passed are spelled.

@@ -1,6 +1,5 @@
 use Rattle.std.proofs.Common.{arith, refl, subst}
-use Rattle.bdb_mktree.specs.of_pack.Values.{IsStored}
-use Rattle.bdb_mktree.proofs.of_format.SizeLemmas.{size_bounds}
+use Rattle.bdb_mkhash.proofs.Common.{IsStored, size_bounds}
 use Rattle.bdb_mkhash.proofs.StoreLemmas.{chain_stored, inline_stored}
 use Rattle.bdb_mkhash.proofs.store.store.Goals as goal
 

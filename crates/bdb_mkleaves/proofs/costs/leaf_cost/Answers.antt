@@ -1,7 +1,5 @@
 use Rattle.std.proofs.Common.{arith, ◌+◌, ◌∙◌, ap}
-use Rattle.bdb_places.proofs.of_format.SizeLemmas.{size_bounds}
-use Rattle.bdb_places.specs.Places.{values_seen}
-use Rattle.bdb_mkleaves.specs.Units.{KeyedUnit, value_cost}
+use Rattle.bdb_mkleaves.proofs.Common.{size_bounds, values_seen, KeyedUnit, value_cost}
 use Rattle.bdb_mkleaves.proofs.PushLemmas.{keyed_more, keyed_small, keyed_tree, keyed_whole, units_fit}
 use Rattle.bdb_mkleaves.proofs.costs.leaf_cost.Goals as goal
 

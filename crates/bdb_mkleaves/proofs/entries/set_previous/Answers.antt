@@ -9,5 +9,4 @@ returns-clause-page c =
     c.page_mut.ensures.value c.put_u32.ensures
 
 pub returns-clause-holds : goal.returns-clause-holds
-returns-clause-holds c =
-    λ type. previous_set type c.args.pages.now _ c.args.leaf c.args.previous c.requires.leaf (omega arith) (returns-clause-page c)
+returns-clause-holds c = λ type. previous_set type c.args.pages.now _ c.args.leaf c.args.previous c.requires.leaf (omega arith) (returns-clause-page c)

@@ -1,7 +1,5 @@
 use Rattle.std.proofs.Common.{arith, ◌∙◌, ap}
-use Rattle.bdb_places.specs.of_format.Terms.{is_zero}
-use Rattle.bdb_pack.specs.Built.{bytes_of, with_zeros}
-use Rattle.bdb_pack.proofs.AddedLemmas.{added_zero}
+use Rattle.bdb_mkleaves.proofs.Common.{is_zero, bytes_of, with_zeros, added_zero}
 use Rattle.bdb_mkleaves.proofs.InnerLemmas.{inner_added}
 use Rattle.bdb_mkleaves.proofs.inner.add_inner.Goals as goal
 

@@ -1,7 +1,5 @@
 use Rattle.std.proofs.Common.{ap}
-use Rattle.bdb_pack.specs.of_layout.Seen.{internal_item_seen}
-use Rattle.bdb_law_levels.specs.declared.inner_type.InnerType.TheVariants.{Keyed}
-use Rattle.bdb_pack.specs.Items.{OnInternal}
+use Rattle.bdb_mkleaves.proofs.Common.{internal_item_seen, Keyed, OnInternal}
 use Rattle.bdb_mkleaves.proofs.InnerLemmas.{child_held}
 use Rattle.bdb_mkleaves.proofs.inner.append_child.Goals as goal
 

@@ -1,6 +1,5 @@
 use Rattle.std.proofs.Common.{ap}
-use Rattle.bdb_law_levels.specs.declared.inner_type.InnerType.TheVariants.{Numbered}
-use Rattle.bdb_pack.specs.Items.{OnRecno}
+use Rattle.bdb_mkleaves.proofs.Common.{Numbered, OnRecno}
 use Rattle.bdb_mkleaves.proofs.InnerLemmas.{child_held}
 use Rattle.bdb_mkleaves.proofs.inner.append_count.Goals as goal
 

@@ -1,6 +1,5 @@
 use Rattle.std.proofs.Common.{arith, refl, subst}
-use Rattle.bdb_pack.specs.Values.{IsStored}
-use Rattle.bdb_places.proofs.of_format.SizeLemmas.{size_bounds}
+use Rattle.bdb_mkleaves.proofs.Common.{IsStored, size_bounds}
 use Rattle.bdb_mkleaves.proofs.PutLemmas.{chain_item, inline_item}
 use Rattle.bdb_mkleaves.proofs.leaves.store.Goals as goal
 

@@ -1,6 +1,5 @@
 use Rattle.std.proofs.Common.{List, ℕ, ◌++◌, sym, ◌∙◌, ap}
-use Rattle.bdb_places.specs.of_format.Terms.{Inline}
-use Rattle.bdb_pack.specs.of_layout.Seen.{leaf_item_seen}
+use Rattle.bdb_mkleaves.proofs.Common.{Inline, leaf_item_seen}
 use Rattle.bdb_mkleaves.proofs.LevelTakeLemmas.{key_read, no_tree, row_read}
 use Rattle.bdb_mkleaves.proofs.levels.key_of_leaf.Goals as goal
 

@@ -1,6 +1,5 @@
 use Rattle.std.proofs.Common.{[], get_or, length, refl, sym, subst, ◌-◌, arith}
-use Rattle.bdb_mkleaves.specs.Levels.{CanBeAsked, TakesNow, no_child}
-use Rattle.bdb_mkleaves.specs.declared.levels.Child.{Child}
+use Rattle.bdb_mkleaves.proofs.Common.{CanBeAsked, TakesNow, no_child, Child}
 use Rattle.bdb_mkleaves.proofs.LevelLemmas.{can_be_asked, laid_takes, last_child, last_takes_now, sum_is}
 use Rattle.bdb_mkleaves.proofs.levels.last_takes.Goals as goal
 

@@ -1,10 +1,6 @@
 use Rattle.std.proofs.Common.{List, [], ℕ, suc, ◌+◌, ◌≡◌, take, get_or, arith, sym, subst, ap, ◌∙◌, IsTrue}
 use Rattle.std.proofs.Math.Seq.{take-suc}
-use Rattle.std.proofs.lemmas.List.{take_all}
-use Rattle.bdb_places.specs.of_format.Terms.{is_page_size}
-use Rattle.bdb_law_levels.specs.Nodes.{Node, no_node}
-use Rattle.bdb_mkleaves.specs.Levels.{AreChildren, IsLevelLaid}
-use Rattle.bdb_mkleaves.specs.declared.levels.Child.{Child}
+use Rattle.bdb_mkleaves.proofs.Common.{take_all, is_page_size, Node, no_node, AreChildren, IsLevelLaid, Child}
 use Rattle.bdb_mkleaves.proofs.LevelLemmas.{as_many, child_at, laid_none}
 use Rattle.bdb_mkleaves.proofs.levels.lay_level.Goals as goal
 

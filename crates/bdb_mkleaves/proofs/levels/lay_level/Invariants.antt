@@ -1,7 +1,5 @@
 use Rattle.std.proofs.Common.{List, take, IsTrue}
-use Rattle.bdb_places.specs.of_format.Terms.{is_page_size}
-use Rattle.bdb_law_levels.specs.Nodes.{Node}
-use Rattle.bdb_mkleaves.specs.Levels.{AreChildren, IsLevelLaid}
+use Rattle.bdb_mkleaves.proofs.Common.{is_page_size, Node, AreChildren, IsLevelLaid}
 use Rattle.bdb_mkleaves.proofs.levels.lay_level.Given as goal
 
 abbrev pub invariant-loop-child : goal.invariant-loop-child

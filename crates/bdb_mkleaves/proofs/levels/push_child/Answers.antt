@@ -1,8 +1,5 @@
 use Rattle.std.proofs.Common.{List, [], ◌∷◌, ◌++◌, sym, subst, ap, ◌∙◌, IsTrue}
-use Rattle.bdb_places.specs.of_format.Terms.{is_page_size}
-use Rattle.bdb_pack.specs.Built.{AreWhole, Built}
-use Rattle.bdb_mkleaves.specs.Levels.{IsLevelLaid, IsStarted, LaidNow}
-use Rattle.bdb_mkleaves.specs.declared.levels.Child.{Child}
+use Rattle.bdb_mkleaves.proofs.Common.{is_page_size, AreWhole, Built, IsLevelLaid, IsStarted, LaidNow, Child}
 use Rattle.bdb_mkleaves.proofs.LevelLemmas.{laid_started, stays_as}
 use Rattle.bdb_mkleaves.proofs.levels.push_child.Goals as goal
 

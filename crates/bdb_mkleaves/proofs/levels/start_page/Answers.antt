@@ -1,9 +1,5 @@
 use Rattle.std.proofs.Common.{[], sym, ◌∙◌, ap, subst, arith}
-use Rattle.bdb_places.specs.of_format.Terms.{Inline, Unknown}
-use Rattle.bdb_law_levels.specs.Nodes.{Node}
-use Rattle.bdb_law_levels.specs.declared.inner_type.InnerType.TheVariants.{Keyed, Numbered}
-use Rattle.bdb_mkleaves.specs.Inner.{HoldsChildrenOn, with_inner}
-use Rattle.bdb_mkleaves.specs.Levels.{IsStarted}
+use Rattle.bdb_mkleaves.proofs.Common.{Inline, Unknown, Node, Keyed, Numbered, HoldsChildrenOn, with_inner, IsStarted}
 use Rattle.bdb_mkleaves.proofs.LevelTakeLemmas.{can_start, keyed_same, numbered_same, started}
 use Rattle.bdb_mkleaves.proofs.levels.start_page.Goals as goal
 

@@ -1,14 +1,6 @@
 use Rattle.std.proofs.Common.{◌≡◌, refl, sym, ◌∙◌, ap}
-use Rattle.bdb_places.specs.of_format.Terms.{internal_bytes}
-use Rattle.bdb_pack.specs.of_layout.Seen.{key_seen}
-use Rattle.bdb_law_levels.specs.Nodes.{keyed_item}
-use Rattle.bdb_law_levels.specs.declared.inner_type.InnerType.TheVariants.{Keyed}
-use Rattle.bdb_pack.specs.Items.{OnInternal, PageItem}
-use Rattle.bdb_pack.specs.OnPages.{has_room_on}
-use Rattle.bdb_law_levels.specs.Roots.{key_heads}
-use Rattle.bdb_mkleaves.specs.Levels.{raising, stored_heads, stored_key}
-use Rattle.bdb_mkleaves.proofs.LevelTakeLemmas.{added_later, can_take, has_shape, head_there, heads_few, keeps_raised, keyed_same, lacks}
-use Rattle.bdb_mkleaves.proofs.LevelTakeLemmas.{stored_heads_are, taken}
+use Rattle.bdb_mkleaves.proofs.Common.{internal_bytes, key_seen, keyed_item, Keyed, OnInternal, PageItem, has_room_on, key_heads, raising, stored_heads, stored_key}
+use Rattle.bdb_mkleaves.proofs.LevelTakeLemmas.{added_later, can_take, has_shape, head_there, heads_few, keeps_raised, keyed_same, lacks, stored_heads_are, taken}
 use Rattle.bdb_mkleaves.proofs.levels.take_keyed.Goals as goal
 
 pub returns-then-not-has_room_for_internal : goal.returns-then-not-has_room_for_internal

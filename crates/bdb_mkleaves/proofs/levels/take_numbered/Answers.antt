@@ -1,10 +1,5 @@
 use Rattle.std.proofs.Common.{refl, sym, ◌∙◌, ap, subst}
-use Rattle.std.proofs.lemmas.Bool.{leb-true}
-use Rattle.bdb_places.specs.of_format.Terms.{recno_bytes}
-use Rattle.bdb_law_levels.specs.declared.inner_type.InnerType.TheVariants.{Numbered}
-use Rattle.bdb_pack.specs.Items.{OnRecno}
-use Rattle.bdb_pack.specs.OnPages.{has_room_on}
-use Rattle.bdb_mkleaves.specs.Levels.{TakesNow}
+use Rattle.bdb_mkleaves.proofs.Common.{leb-true, recno_bytes, Numbered, OnRecno, has_room_on, TakesNow}
 use Rattle.bdb_mkleaves.proofs.LevelTakeLemmas.{heads_few, lacks, numbered_same, taken}
 use Rattle.bdb_mkleaves.proofs.levels.take_numbered.Goals as goal
 

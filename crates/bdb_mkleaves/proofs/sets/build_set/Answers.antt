@@ -1,6 +1,5 @@
 use Rattle.std.proofs.Common.{subst}
-use Rattle.bdb_places.specs.Places.{values_seen}
-use Rattle.bdb_mkleaves.specs.Sets.{IsSetFilled}
+use Rattle.bdb_mkleaves.proofs.Common.{values_seen, IsSetFilled}
 use Rattle.bdb_mkleaves.proofs.SetLemmas.{set_built}
 use Rattle.bdb_mkleaves.proofs.sets.build_set.Goals as goal
 

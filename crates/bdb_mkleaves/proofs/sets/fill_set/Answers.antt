@@ -1,9 +1,5 @@
 use Rattle.std.proofs.Common.{[], arith, sym, subst}
-use Rattle.std.proofs.lemmas.List.{take_more}
-use Rattle.bdb_places.specs.Places.{values_seen}
-use Rattle.bdb_mkleaves.specs.Filled.{IsPushed}
-use Rattle.bdb_mkleaves.specs.Grown.{live_entry}
-use Rattle.bdb_mkleaves.specs.Sets.{IsSetFilled}
+use Rattle.bdb_mkleaves.proofs.Common.{take_more, values_seen, IsPushed, live_entry, IsSetFilled}
 use Rattle.bdb_mkleaves.proofs.SetLemmas.{set_begun, set_grown}
 use Rattle.bdb_mkleaves.proofs.sets.fill_set.Goals as goal
 

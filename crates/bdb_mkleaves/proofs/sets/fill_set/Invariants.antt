@@ -1,6 +1,4 @@
-use Rattle.std.specs.Prelude.{take}
-use Rattle.bdb_places.specs.Places.{values_seen}
-use Rattle.bdb_mkleaves.specs.Sets.{IsSetFilled}
+use Rattle.bdb_mkleaves.proofs.Common.{take, values_seen, IsSetFilled}
 use Rattle.bdb_mkleaves.proofs.sets.fill_set.Given as goal
 
 -- The values passed are on the leaves.

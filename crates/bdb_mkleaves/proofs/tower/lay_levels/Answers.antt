@@ -1,9 +1,5 @@
 use Rattle.std.proofs.Common.{◌+◌, ◌<◌, ◌≡◌, List, length, arith, inl, inr, refl, sym, subst, ap, ◌∙◌}
-use Rattle.std.proofs.lemmas.List.{get_or_default}
-use Rattle.bdb_law_levels.specs.Nodes.{Node}
-use Rattle.bdb_mkleaves.specs.Levels.{AreChildren, IsLevelLaid, no_child}
-use Rattle.bdb_mkleaves.specs.Tower.{HasTower}
-use Rattle.bdb_mkleaves.specs.declared.levels.Child.{Child}
+use Rattle.bdb_mkleaves.proofs.Common.{get_or_default, Node, AreChildren, IsLevelLaid, no_child, HasTower, Child}
 use Rattle.bdb_mkleaves.proofs.LevelLemmas.{as_many, sum_is}
 use Rattle.bdb_mkleaves.proofs.TopLemmas.{ends_in_root, is_topped}
 use Rattle.bdb_mkleaves.proofs.TowerLemmas.{IsBuilding, level_built, level_shrinks, none_built, some_laid, tower_built}

@@ -1,6 +1,5 @@
 use Rattle.std.proofs.Common.{◌≡◌, ◌⊎◌, ◌≤◌, ◌<◌, List, length}
-use Rattle.bdb_law_levels.specs.Nodes.{Node}
-use Rattle.bdb_mkleaves.specs.Levels.{AreChildren}
+use Rattle.bdb_mkleaves.proofs.Common.{Node, AreChildren}
 use Rattle.bdb_mkleaves.proofs.TopLemmas.{IsTopped}
 use Rattle.bdb_mkleaves.proofs.TowerLemmas.{IsBuilding}
 use Rattle.bdb_mkleaves.proofs.tower.lay_levels.Given as goal

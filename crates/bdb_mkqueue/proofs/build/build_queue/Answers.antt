@@ -1,7 +1,5 @@
 use Rattle.std.proofs.Common.{◌≤◌, length, arith, subst}
-use Rattle.std.proofs.lemmas.List.{length-map, take_all}
-use Rattle.bdb_text_format.specs.Terms.{pairs_of, slice_seen, unlined}
-use Rattle.bdb_mkqueue.specs.Building.{IsQueueOn}
+use Rattle.bdb_mkqueue.proofs.Common.{length-map, take_all, pairs_of, slice_seen, unlined, IsQueueOn}
 use Rattle.bdb_mkqueue.proofs.BuiltLemmas.{lengths_for, queue_built}
 use Rattle.bdb_mkqueue.proofs.build.build_queue.Goals as goal
 
@@ -15,5 +13,4 @@ returns c =
     c.loop-place.invariant.kept
 
 pub push_record-requires-clause-long : goal.push_record-requires-clause-long
-push_record-requires-clause-long c =
-    lengths_for c.args.settings.now (pairs_of c.args.list) c.queue_meta-meta.result c.requires.list c.queue_meta-meta.ensures
+push_record-requires-clause-long c = lengths_for c.args.settings.now (pairs_of c.args.list) c.queue_meta-meta.result c.requires.list c.queue_meta-meta.ensures

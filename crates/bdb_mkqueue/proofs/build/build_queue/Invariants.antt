@@ -1,6 +1,5 @@
 use Rattle.std.proofs.Common.{take}
-use Rattle.bdb_text_format.specs.Terms.{pairs_of}
-use Rattle.bdb_mkqueue.specs.Building.{HasRoom, IsQueueOn, KeepsFirst}
+use Rattle.bdb_mkqueue.proofs.Common.{pairs_of, HasRoom, IsQueueOn, KeepsFirst}
 use Rattle.bdb_mkqueue.proofs.build.build_queue.Given as goal
 
 abbrev pub invariant-loop-place : goal.invariant-loop-place

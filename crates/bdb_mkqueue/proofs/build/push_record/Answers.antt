@@ -1,7 +1,5 @@
 use Rattle.std.proofs.Common.{◌≤◌, arith, sym, subst, ap, ◌∙◌}
-use Rattle.std.proofs.lemmas.List.{length-map}
-use Rattle.bdb_text_format.specs.Terms.{pairs_of, slice_seen, unlined}
-use Rattle.bdb_mkqueue.specs.Layout.{page_of_record, slot_of}
+use Rattle.bdb_mkqueue.proofs.Common.{length-map, pairs_of, slice_seen, unlined, page_of_record, slot_of}
 use Rattle.bdb_mkqueue.proofs.LastLemmas.{key_here, value_here}
 use Rattle.bdb_mkqueue.proofs.StepLemmas.{IsPushed, number_some, page_there, pushed, slot_room}
 use Rattle.bdb_mkqueue.proofs.build.push_record.Goals as goal

@@ -1,6 +1,5 @@
 use Rattle.std.proofs.Common.{length}
-use Rattle.bdb_text_format.specs.Terms.{listed, pairs_of}
-use Rattle.bdb_mktree.specs.Lists.{units_in}
+use Rattle.bdb_mktree.proofs.Common.{listed, pairs_of, units_in}
 use Rattle.bdb_mktree.proofs.ListLemmas.{units_listed}
 use Rattle.bdb_mktree.proofs.OrderLemmas.{keys_fit, units_fit}
 use Rattle.bdb_mktree.proofs.PushedLemmas.{all_built, can_begin}

@@ -1,7 +1,5 @@
 use Rattle.std.proofs.Common.{◌≤◌, ◌-◌, drop, length}
-use Rattle.bdb_text_format.specs.Terms.{pairs_of, slice_seen}
-use Rattle.bdb_mktree.specs.Building.{ArePushed}
-use Rattle.bdb_mktree.specs.Lists.{keyed_units}
+use Rattle.bdb_mktree.proofs.Common.{pairs_of, slice_seen, ArePushed, keyed_units}
 use Rattle.bdb_mktree.proofs.build.push_keys.Given as goal
 
 -- The keys before the place are pushed.

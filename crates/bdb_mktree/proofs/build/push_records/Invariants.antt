@@ -1,7 +1,5 @@
 use Rattle.std.proofs.Common.{◌≤◌, drop, length}
-use Rattle.bdb_text_format.specs.Terms.{AscendFrom, pairs_of}
-use Rattle.bdb_mktree.specs.Building.{ArePushed}
-use Rattle.bdb_mktree.specs.Lists.{record_units}
+use Rattle.bdb_mktree.proofs.Common.{AscendFrom, pairs_of, ArePushed, record_units}
 use Rattle.bdb_mktree.proofs.build.push_records.Given as goal
 
 -- The records below the number are pushed.

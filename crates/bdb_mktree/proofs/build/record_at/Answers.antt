@@ -1,9 +1,5 @@
 use Rattle.std.proofs.Common.{◌+◌, ◌∙◌, ap, arith, subst, sym, false}
-use Rattle.std.proofs.lemmas.List.{length-map}
-use Rattle.bdb_mkleaves.specs.Units.{EntryUnit}
-use Rattle.bdb_text_format.specs.Terms.{number_of, pairs_of, slice_seen, unlined}
-use Rattle.bdb_text_format.specs.declared.pairs.Pair.{Pair}
-use Rattle.bdb_mktree.specs.Lists.{IsRecordAt}
+use Rattle.bdb_mktree.proofs.Common.{length-map, EntryUnit, number_of, pairs_of, slice_seen, unlined, Pair, IsRecordAt}
 use Rattle.bdb_mktree.proofs.ListLemmas.{is_missing, is_there, pair_at}
 use Rattle.bdb_mktree.proofs.build.record_at.Goals as goal
 

@@ -1,17 +1,11 @@
 use Rattle.std.proofs.Common.{◌+◌, ◌-◌, ◌≡◌, List, ◌∙◌, ap, arith, drop, length, map, subst, sym, take}
-use Rattle.std.specs.List.{prefix_len}
-use Rattle.std.proofs.lemmas.List.{length-drop}
+use Rattle.bdb_mktree.proofs.Common.{prefix_len, length-drop, key_seen, keys_of, pairs_of, slice_seen, unlined_pairs, TextPair, KeyedUnit, HasBytes, IsRunAt, has_key}
 use Rattle.bdb_text_format.specs.of_places.Places.{values_seen}
-use Rattle.bdb_text_format.specs.Terms.{key_seen, keys_of, pairs_of, slice_seen, unlined_pairs}
-use Rattle.bdb_text_format.specs.declared.pairs.TextPair.{TextPair}
-use Rattle.bdb_mkleaves.specs.Units.{KeyedUnit}
-use Rattle.bdb_mktree.specs.Lists.{HasBytes, IsRunAt, has_key}
 use Rattle.bdb_mktree.proofs.ListLemmas.{first_has_key, has_bytes_at, is_run, run_long}
 use Rattle.bdb_mktree.proofs.runs.run_at.Goals as goal
 
 pub unreachable-requires : goal.unreachable-requires
-unreachable-requires c =
-    subst HasBytes (ap key_seen c.in_default.is) (has_bytes_at (slice_seen c.args.list) c.args.start _ c.requires.keys c.at.ensures)
+unreachable-requires c = subst HasBytes (ap key_seen c.in_default.is) (has_bytes_at (slice_seen c.args.list) c.args.start _ c.requires.keys c.at.ensures)
 
 pub run_length-requires : goal.run_length-requires
 run_length-requires c =

@@ -1,6 +1,5 @@
 use Rattle.std.proofs.Common.{arith, ap, subst, Some, true, ◌≡◌, ◌∙◌}
-use Rattle.bdb_text_format.specs.Terms.{slice_seen}
-use Rattle.bdb_mktree.specs.Lists.{has_key_at}
+use Rattle.bdb_mktree.proofs.Common.{slice_seen, has_key_at}
 use Rattle.bdb_mktree.proofs.ListLemmas.{ends_at, goes_on_at, key_within, run_over}
 use Rattle.bdb_mktree.proofs.runs.run_length.Goals as goal
 

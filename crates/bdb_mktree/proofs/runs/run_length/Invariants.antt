@@ -1,7 +1,5 @@
 use Rattle.std.proofs.Common.{◌≡◌, ◌+◌, ◌-◌, Some, drop, true}
-use Rattle.std.specs.List.{prefix_len}
-use Rattle.bdb_text_format.specs.Terms.{keys_of, pairs_of, slice_seen, unlined_pairs}
-use Rattle.bdb_mktree.specs.Lists.{has_key, has_key_at}
+use Rattle.bdb_mktree.proofs.Common.{prefix_len, keys_of, pairs_of, slice_seen, unlined_pairs, has_key, has_key_at}
 use Rattle.bdb_mktree.proofs.runs.run_length.Given as goal
 
 -- All keys passed are this one, and so is the last of them.

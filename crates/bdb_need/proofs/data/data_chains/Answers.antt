@@ -1,6 +1,5 @@
 use Rattle.std.proofs.Common.{◌^◌, arith}
-use Rattle.bdb_mkhash.specs.of_places.Places.{values_seen}
-use Rattle.bdb_mkhash.specs.of_mkleaves.Units.{chain_pages}
+use Rattle.bdb_need.proofs.Common.{values_seen, chain_pages}
 use Rattle.bdb_need.proofs.DataLemmas.{short_here, sum_end, sum_more}
 use Rattle.bdb_need.proofs.data.data_chains.Goals as goal
 
@@ -17,5 +16,4 @@ loop-i-preserved c =
     c.loop-i.invariant c.chain_pages-pages.ensures.pages c.chain_pages-pages.ensures.few
 
 pub returns-clause-pages : goal.returns-clause-pages
-returns-clause-pages c =
-    sum_end (chain_pages c.args.size) (values_seen c.args.values) c.loop-i.i c.loop-i.pages (omega arith) c.loop-i.invariant.0
+returns-clause-pages c = sum_end (chain_pages c.args.size) (values_seen c.args.values) c.loop-i.i c.loop-i.pages (omega arith) c.loop-i.invariant.0

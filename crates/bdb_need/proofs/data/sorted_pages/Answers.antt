@@ -1,8 +1,5 @@
 use Rattle.std.proofs.Common.{false, ◌+◌, ◌∙◌, arith, drop, refl, subst}
-use Rattle.bdb_mkhash.specs.of_places.Places.{values_seen}
-use Rattle.bdb_mkhash.specs.of_mkleaves.Units.{EntryUnit}
-use Rattle.bdb_mkhash.specs.of_mkleaves.declared.leaf_type.LeafType.TheVariants.{SortedData}
-use Rattle.bdb_need.specs.Counting.{data_units}
+use Rattle.bdb_need.proofs.Common.{values_seen, EntryUnit, SortedData, data_units}
 use Rattle.bdb_need.proofs.TreeLemmas.{KeyedTo, data_here, data_past, keyed_end, keyed_next}
 use Rattle.bdb_need.proofs.data.sorted_pages.Goals as goal
 

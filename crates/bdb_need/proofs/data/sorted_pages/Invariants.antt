@@ -1,7 +1,5 @@
 use Rattle.std.proofs.Common.{◌≡◌, ◌≤◌, drop, length}
-use Rattle.bdb_mkhash.specs.of_places.Places.{values_seen}
-use Rattle.bdb_mkhash.specs.of_mkleaves.Units.{page_room}
-use Rattle.bdb_need.specs.Counting.{data_units}
+use Rattle.bdb_need.proofs.Common.{values_seen, page_room, data_units}
 use Rattle.bdb_need.proofs.TreeLemmas.{KeyedTo}
 use Rattle.bdb_need.proofs.data.sorted_pages.Given as goal
 

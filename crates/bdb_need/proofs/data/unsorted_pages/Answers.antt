@@ -1,7 +1,5 @@
 use Rattle.std.proofs.Common.{false, [], ◌∷◌, ◌+◌, ap, arith, drop, subst}
-use Rattle.bdb_mkhash.specs.of_places.Places.{values_seen}
-use Rattle.bdb_mkhash.specs.of_mkleaves.Units.{EntryUnit}
-use Rattle.bdb_need.specs.Counting.{data_units}
+use Rattle.bdb_need.proofs.Common.{values_seen, EntryUnit, data_units}
 use Rattle.bdb_need.proofs.TreeLemmas.{CountedTo, counted_end, counted_next, data_here, data_past}
 use Rattle.bdb_need.proofs.data.unsorted_pages.Goals as goal
 

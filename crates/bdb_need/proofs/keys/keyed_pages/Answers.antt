@@ -1,9 +1,5 @@
 use Rattle.std.proofs.Common.{◌∙◌, arith, drop}
-use Rattle.bdb_mkhash.specs.of_places.Places.{values_seen}
-use Rattle.bdb_mkhash.specs.of_text_format.Terms.{pairs_of, slice_seen}
-use Rattle.bdb_mkhash.specs.of_mkleaves.Spread.{own_pages}
-use Rattle.bdb_mkhash.specs.of_mkleaves.Units.{KeyedUnit}
-use Rattle.bdb_mkhash.specs.of_mktree.Lists.{keyed_units}
+use Rattle.bdb_need.proofs.Common.{values_seen, pairs_of, slice_seen, own_pages, KeyedUnit, keyed_units}
 use Rattle.bdb_need.proofs.KeyLemmas.{keys_end, leaves_here, own_next, unit_short}
 use Rattle.bdb_need.proofs.TreeLemmas.{keyed_next}
 use Rattle.bdb_need.proofs.keys.keyed_pages.Goals as goal

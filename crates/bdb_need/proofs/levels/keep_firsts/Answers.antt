@@ -4,8 +4,7 @@ use Rattle.bdb_need.proofs.levels.keep_firsts.Goals as goal
 use Rattle.bdb_need.proofs.levels.keep_firsts.Goals.{then-from-left, else-from-left}
 
 pub index-cost-requires : goal.index-cost-requires
-index-cost-requires c =
-    omega (arith, c.loop-at-test.true, c.len-at-end.ensures, c.args.items.now.ok.0, c.loop-at.invariant.long, c.loop-at.items.ok.0)
+index-cost-requires c = omega (arith, c.loop-at-test.true, c.len-at-end.ensures, c.args.items.now.ok.0, c.loop-at.invariant.long, c.loop-at.items.ok.0)
 
 pub index_mut-requires : goal.index_mut-requires
 index_mut-requires c =

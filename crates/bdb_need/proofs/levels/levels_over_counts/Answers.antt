@@ -16,8 +16,7 @@ loop-below-preserved c =
     counts_next c.args.room c.args.pages c.loop-below.total c.loop-below.below c.requires.room c.loop-below-test.true c.loop-below.invariant
 
 pub returns-clause-pages : goal.returns-clause-pages
-returns-clause-pages c =
-    counts_end c.args.room c.args.pages c.loop-below.total c.loop-below.below c.loop-below-test.false c.loop-below.invariant
+returns-clause-pages c = counts_end c.args.room c.args.pages c.loop-below.total c.loop-below.below c.loop-below-test.false c.loop-below.invariant
 
 pub returns-clause-few : goal.returns-clause-few
 returns-clause-few c = counts_few c.args.room c.args.pages c.loop-below.total c.loop-below.below c.requires.room c.loop-below.invariant

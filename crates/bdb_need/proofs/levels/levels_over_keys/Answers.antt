@@ -24,8 +24,7 @@ overflow_add-total-in-loop-items c =
     omega (arith, few, c.len.ensures, c.keep_firsts.new.items.ok.0)
 
 pub loop-items-smaller : goal.loop-items-smaller
-loop-items-smaller c =
-    keys_fewer c.args.room c.loop-items.items.items c.keep_firsts.new.items.items c.keep_firsts.ensures c.loop-items.invariant.fit (some c)
+loop-items-smaller c = keys_fewer c.args.room c.loop-items.items.items c.keep_firsts.new.items.items c.keep_firsts.ensures c.loop-items.invariant.fit (some c)
 
 pub loop-items-preserved : goal.loop-items-preserved
 loop-items-preserved c =

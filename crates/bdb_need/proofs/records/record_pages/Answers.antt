@@ -1,8 +1,5 @@
 use Rattle.std.proofs.Common.{◌^◌, refl, ◌∙◌, ap, arith}
-use Rattle.bdb_mkhash.specs.of_mkleaves.Units.{chain_pages, length_chain, record_cost}
-use Rattle.bdb_mkhash.specs.of_text_format.Terms.{pair_seen, slice_seen}
-use Rattle.bdb_settle.specs.Loaded.{filled_pair, filled_pairs, filled_value}
-use Rattle.bdb_need.specs.Counting.{values_in}
+use Rattle.bdb_need.proofs.Common.{chain_pages, length_chain, record_cost, pair_seen, slice_seen, filled_pair, filled_pairs, filled_value, values_in}
 use Rattle.bdb_need.proofs.DataLemmas.{short_here, sum_end, sum_more, value_here, values_past, values_within}
 use Rattle.bdb_need.proofs.RecordLemmas.{filled_here, filled_past, filled_within, number_after, pair_here, records_end, records_next}
 use Rattle.bdb_need.proofs.records.record_pages.Goals as goal

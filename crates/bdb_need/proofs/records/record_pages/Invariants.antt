@@ -1,9 +1,6 @@
 use Rattle.std.proofs.Common.{◌≡◌, ◌≤◌, ◌*◌, ◌^◌, take, sum_by}
-use Rattle.bdb_mkhash.specs.of_text_format.Terms.{slice_seen}
-use Rattle.bdb_mkhash.specs.of_mkleaves.Units.{chain_pages}
-use Rattle.bdb_need.specs.Counting.{values_in}
+use Rattle.bdb_need.proofs.Common.{slice_seen, chain_pages, values_in, filled_pairs}
 use Rattle.bdb_need.proofs.RecordLemmas.{RecordsPassed}
-use Rattle.bdb_settle.specs.Loaded.{filled_pairs}
 use Rattle.bdb_need.proofs.records.record_pages.Given as goal
 
 -- The records passed are counted, and their chains.

@@ -1,8 +1,5 @@
 use Rattle.std.proofs.Common.{◌≡◌, ◌+◌, ◌∙◌, true, false, ap, arith, map, subst, sym, IsTrue, is_some, All, sum_by}
-use Rattle.bdb_mkhash.specs.of_format.Terms.{is_page_size}
-use Rattle.bdb_mkhash.specs.of_text_format.declared.sections.Section.{Section}
-use Rattle.bdb_settle.specs.Loaded.{filled_section}
-use Rattle.bdb_need.specs.Need.{IsSettled, master_pages, section_pages}
+use Rattle.bdb_need.proofs.Common.{is_page_size, Section, filled_section, IsSettled, master_pages, section_pages}
 use Rattle.bdb_need.proofs.FilledLemmas.{each_before, first_filled, same_master, sums_filled}
 use Rattle.bdb_need.proofs.NeedLemmas.{first_is, need_named, need_unnamed}
 use Rattle.bdb_need.proofs.sections.filled_need.Goals as goal

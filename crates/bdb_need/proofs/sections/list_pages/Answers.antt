@@ -1,10 +1,6 @@
 use Rattle.std.proofs.Common.{◌≡◌, ◌∙◌, ap, subst, sym, IfOk}
-use Rattle.bdb_mkhash.specs.of_format.Terms.{records_per_page}
-use Rattle.bdb_mkhash.specs.Buckets.{table_size, table_units}
+use Rattle.bdb_need.proofs.Common.{records_per_page, table_size, table_units, unlined_pairs, filled_pairs, IsListOf, list_pages}
 use Rattle.bdb_mkhash.specs.Table.{IsTableList}
-use Rattle.bdb_need.specs.TreePages.{unlined_pairs}
-use Rattle.bdb_settle.specs.Loaded.{filled_pairs}
-use Rattle.bdb_need.specs.Need.{IsListOf, list_pages}
 use Rattle.bdb_need.proofs.FilledLemmas.{ascend_before, queue_filled, table_as_is}
 use Rattle.bdb_need.proofs.sections.list_pages.Goals as goal
 

@@ -7,5 +7,4 @@ pub filled_need-requires : goal.filled_need-requires
 filled_need-requires c = settled_filled c.args.sections.now c.requires
 
 pub returns : goal.returns
-returns c =
-    subst (λ n. IfOk c.filled_need.result (λ pages. pages ≡ n)) (need_before c.args.sections.now c.requires) c.filled_need.ensures
+returns c = subst (λ n. IfOk c.filled_need.result (λ pages. pages ≡ n)) (need_before c.args.sections.now c.requires) c.filled_need.ensures

@@ -1,10 +1,5 @@
 use Rattle.std.proofs.Common.{◌≡◌, ℕ, ◌+◌, ◌∙◌, ap, arith, sym, subst, get_or}
-use Rattle.std.proofs.lemmas.List.Sums.{sum_by_more}
-use Rattle.bdb_mkhash.specs.of_format.declared.settings.Settings.{Settings}
-use Rattle.bdb_need.specs.TreePages.{unlined_pairs}
-use Rattle.bdb_settle.specs.Loaded.{filled_pairs, filled_section}
-use Rattle.bdb_mkhash.specs.of_text_format.declared.sections.Section.{Section}
-use Rattle.bdb_need.specs.Need.{IsListOf, IsSettled, list_pages, section_pages}
+use Rattle.bdb_need.proofs.Common.{sum_by_more, Settings, unlined_pairs, filled_pairs, filled_section, Section, IsListOf, IsSettled, list_pages, section_pages}
 use Rattle.bdb_need.proofs.sections.sections_pages.Goals as goal
 
 pub list_pages-requires-clause-list : goal.list_pages-requires-clause-list

@@ -1,6 +1,5 @@
 use Rattle.std.proofs.Common.{◌≡◌, take, sum_by}
-use Rattle.bdb_need.specs.Need.{section_pages}
-use Rattle.bdb_settle.specs.Loaded.{filled_section}
+use Rattle.bdb_need.proofs.Common.{section_pages, filled_section}
 use Rattle.bdb_need.proofs.sections.sections_pages.Given as goal
 
 -- The sections passed are counted.

@@ -1,8 +1,5 @@
 use Rattle.std.proofs.Common.{◌+◌, ◌<◌, ◌∙◌, arith, refl}
-use Rattle.bdb_mkhash.specs.of_places.Places.{values_seen}
-use Rattle.bdb_mkhash.specs.of_text_format.Terms.{pairs_of, slice_seen}
-use Rattle.bdb_mkhash.specs.of_mkleaves.Units.{KeyedUnit}
-use Rattle.bdb_mkhash.specs.of_mktree.Lists.{keyed_units}
+use Rattle.bdb_need.proofs.Common.{values_seen, pairs_of, slice_seen, KeyedUnit, keyed_units}
 use Rattle.bdb_need.proofs.KeyLemmas.{own_begun, own_end, own_next, run_some, unit_short}
 use Rattle.bdb_need.proofs.TableLemmas.{key_new, key_open, keys_begun, keys_end, own_in_table, own_units}
 use Rattle.bdb_need.proofs.table.all_pages.Goals as goal

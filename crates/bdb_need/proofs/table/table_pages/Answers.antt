@@ -1,8 +1,5 @@
 use Rattle.std.proofs.Common.{refl, subst, sym, All}
-use Rattle.bdb_mkhash.specs.of_format.declared.kinds.Kind.TheVariants.{Btree}
-use Rattle.bdb_mkhash.specs.of_mktree.Lists.{keyed_units}
-use Rattle.bdb_mkhash.specs.of_mktree.Units.{IsShortUnit}
-use Rattle.bdb_need.specs.TreePages.{unlined_pairs}
+use Rattle.bdb_need.proofs.Common.{Btree, keyed_units, IsShortUnit, unlined_pairs}
 use Rattle.bdb_need.proofs.SectionLemmas.{short_units}
 use Rattle.bdb_need.proofs.table.table_pages.Goals as goal
 

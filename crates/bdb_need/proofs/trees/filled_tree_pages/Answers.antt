@@ -1,13 +1,6 @@
 use Rattle.std.proofs.Common.{◌≡◌, ◌∙◌, ap, subst, sym, IfOk, All}
-use Rattle.bdb_mkhash.specs.of_mkleaves.Runs.{IsShort}
-use Rattle.bdb_mkhash.specs.of_mkleaves.Spread.{tree_size}
-use Rattle.bdb_mkhash.specs.of_mkleaves.declared.leaf_type.LeafType.TheVariants.{Pairs, Records}
-use Rattle.bdb_mkhash.specs.of_text_format.Terms.{AscendFrom, pairs_of}
-use Rattle.bdb_mkhash.specs.of_mktree.Lists.{HasBytes, IsTreeList, keyed_units, record_units, units_in}
-use Rattle.bdb_mkhash.specs.of_mktree.Units.{IsShortUnit, leaf_type_of}
-use Rattle.bdb_settle.specs.Loaded.{filled_pairs}
-use Rattle.bdb_need.specs.Counting.{values_in}
-use Rattle.bdb_need.specs.TreePages.{unlined_pairs, tree_pages}
+use Rattle.bdb_need.proofs.Common.{IsShort, tree_size, Pairs, Records, AscendFrom, pairs_of, HasBytes, IsTreeList, keyed_units, record_units, units_in, IsShortUnit, leaf_type_of, filled_pairs}
+use Rattle.bdb_need.proofs.Common.{values_in, unlined_pairs, tree_pages}
 use Rattle.bdb_need.proofs.SectionLemmas.{keyed_as_is, keys_have_bytes, numbers_ascend, short_units, short_values}
 use Rattle.bdb_need.proofs.trees.filled_tree_pages.Goals as goal
 

@@ -1,6 +1,5 @@
 use Rattle.std.proofs.Common.{◌≡◌, subst, sym, IfOk}
-use Rattle.bdb_mkhash.specs.of_mktree.Lists.{IsTreeList}
-use Rattle.bdb_need.specs.TreePages.{unlined_pairs, tree_pages}
+use Rattle.bdb_need.proofs.Common.{IsTreeList, unlined_pairs, tree_pages}
 use Rattle.bdb_need.proofs.SectionLemmas.{filled_before}
 use Rattle.bdb_need.proofs.trees.tree_pages.Goals as goal
 

@@ -1,7 +1,5 @@
 use Rattle.std.proofs.Common.{ℕ, ◌≡◌, [], sym, ◌∙◌, ap, subst, IfOk}
-use Rattle.bdb_mkhash.specs.of_places.Places.{values_seen}
-use Rattle.bdb_mkhash.specs.of_mkleaves.Units.{chain_pages}
-use Rattle.bdb_mkhash.specs.Costs.{pages_in}
+use Rattle.bdb_need.proofs.Common.{values_seen, chain_pages, pages_in}
 use Rattle.bdb_mkhash.proofs.CostLemmas.{first_is, one_long}
 use Rattle.bdb_need.proofs.units.data_own_pages.Goals as goal
 
@@ -14,8 +12,7 @@ returns-in-One-clause-pages c =
     ∙ ap (λ f. pages_in f c.args.size c.args.sorted values) form)
 
 pub returns-in-Set-clause-pages : goal.returns-in-Set-clause-pages
-returns-in-Set-clause-pages c =
-    ap (λ f. pages_in f c.args.size c.args.sorted (values_seen c.args.values)) (sym c.in-Set.is ∙ c.data_form.ensures)
+returns-in-Set-clause-pages c = ap (λ f. pages_in f c.args.size c.args.sorted (values_seen c.args.values)) (sym c.in-Set.is ∙ c.data_form.ensures)
 
 pub returns-in-Tree-clause-pages : goal.returns-in-Tree-clause-pages
 returns-in-Tree-clause-pages c =

@@ -1,7 +1,5 @@
 use Rattle.std.proofs.Common.{length, subst, sym, arith, ap}
-use Rattle.bdb_layout.specs.of_format.Terms.{IsKey, internal_bytes}
-use Rattle.bdb_layout.specs.Seen.{key_seen}
-use Rattle.bdb_layout.proofs.WritingLemmas.{length-internal_inline}
+use Rattle.bdb_pack.proofs.Common.{IsKey, internal_bytes, key_seen, length-internal_inline}
 use Rattle.bdb_pack.proofs.pages.fit_internal.Goals as goal
 
 pub returns-in-Inline : goal.returns-in-Inline

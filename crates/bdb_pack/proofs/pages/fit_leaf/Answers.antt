@@ -1,7 +1,5 @@
 use Rattle.std.proofs.Common.{◌≤◌, length, subst, sym, arith}
-use Rattle.bdb_layout.specs.of_format.Terms.{IsLeafContent, leaf_bytes}
-use Rattle.bdb_layout.specs.Seen.{leaf_item_seen}
-use Rattle.bdb_layout.proofs.WritingLemmas.{length-leaf_inline}
+use Rattle.bdb_pack.proofs.Common.{IsLeafContent, leaf_bytes, leaf_item_seen, length-leaf_inline}
 use Rattle.bdb_pack.proofs.pages.fit_leaf.Goals as goal
 
 pub returns-in-Inline : goal.returns-in-Inline

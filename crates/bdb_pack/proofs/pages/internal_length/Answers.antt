@@ -1,7 +1,5 @@
 use Rattle.std.proofs.Common.{sym, ◌∙◌, ap, length}
-use Rattle.bdb_layout.specs.of_format.Terms.{internal_bytes}
-use Rattle.bdb_layout.specs.Seen.{key_seen}
-use Rattle.bdb_layout.proofs.WritingLemmas.{length-internal_chain, length-internal_inline}
+use Rattle.bdb_pack.proofs.Common.{internal_bytes, key_seen, length-internal_chain, length-internal_inline}
 use Rattle.bdb_pack.proofs.pages.internal_length.Goals as goal
 
 pub returns-in-Inline : goal.returns-in-Inline

@@ -1,7 +1,5 @@
 use Rattle.std.proofs.Common.{sym, ◌∙◌, ap, length}
-use Rattle.bdb_layout.specs.of_format.Terms.{leaf_bytes}
-use Rattle.bdb_layout.specs.Seen.{leaf_item_seen}
-use Rattle.bdb_layout.proofs.WritingLemmas.{length-leaf_chain, length-leaf_inline, length-leaf_tree}
+use Rattle.bdb_pack.proofs.Common.{leaf_bytes, leaf_item_seen, length-leaf_chain, length-leaf_inline, length-leaf_tree}
 use Rattle.bdb_pack.proofs.pages.leaf_length.Goals as goal
 
 pub returns-in-Inline : goal.returns-in-Inline

@@ -1,6 +1,5 @@
 use Rattle.std.proofs.Common.{◌≤◌, arith, ◌∙◌, ap}
-use Rattle.bdb_layout.proofs.of_format.SizeLemmas.{size_bounds}
-use Rattle.bdb_pack.specs.Values.{piece_length, piece_next}
+use Rattle.bdb_pack.proofs.Common.{size_bounds, piece_length, piece_next}
 use Rattle.bdb_pack.proofs.ValueLemmas.{piece_added}
 use Rattle.bdb_pack.proofs.values.push_piece.Goals as goal
 

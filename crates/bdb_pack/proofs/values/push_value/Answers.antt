@@ -1,8 +1,5 @@
 use Rattle.std.proofs.Common.{◌≡◌, ℕ, ◌-◌, ◌^◌, ◌<◌, length, subst, drop, arith, refl, sym, ◌∙◌, ap, length-drop, ◌/◌}
-use Rattle.std.proofs.lemmas.Bool.{eqb-false, eqb-true}
-use Rattle.std.proofs.lemmas.List.{nil_from_length, take_all}
-use Rattle.bdb_layout.proofs.of_format.SizeLemmas.{size_bounds}
-use Rattle.bdb_pack.specs.ValueLoop.{IsBegunChain}
+use Rattle.bdb_pack.proofs.Common.{eqb-false, eqb-true, nil_from_length, take_all, size_bounds, IsBegunChain}
 use Rattle.bdb_pack.proofs.ValueLemmas.{begun_chain, next_piece, page_left, whole_chain}
 use Rattle.bdb_pack.proofs.values.push_value.Goals as goal
 

@@ -1,12 +1,10 @@
-use Rattle.std.proofs.Common.{ap, flat_map}
+use Rattle.std.proofs.Common.{refl}
 use Rattle.bdb_tool_print.specs.Printers.{pair_text}
 use Rattle.bdb_tool_print.proofs.PrinterLemmas.{begins, cut_up, item_added, item_cut, items_added}
 use Rattle.bdb_tool_dump.proofs.dumping.pairs.Goals as goal
 
 pub loop-key-init : goal.loop-key-init
-loop-key-init g c =
-    let same = c.into_iter-key-iterator.ensures.into_iter_gives in
-    begins _ _ _ _ _ (ap (λ list. flat_map (pair_text c.args.print) list.now) same)
+loop-key-init g c = begins _ _ _ _ _ refl
 
 pub loop-key-preserved : goal.loop-key-preserved
 loop-key-preserved g c = item_added _ _ _ _ _ (pair_text c.args.print) _ _ _ _ _ c.in-Some.ensures.steps c.in_ok-pair.was c.loop-key.invariant c.pair.ensures
@@ -17,4 +15,4 @@ returns-in_err-pair g c =
     item_cut _ _ _ _ _ (pair_text c.args.print) _ _ _ _ _ _ _ c.in-Some.ensures.steps c.in_err-pair.was is c.loop-key.invariant c.pair.ensures
 
 pub returns : goal.returns
-returns g c = items_added _ _ _ _ (pair_text c.args.print) _ _ c.in-None.ensures.steps.0 c.loop-key.invariant
+returns g c = items_added _ _ _ _ (pair_text c.args.print) _ _ c.in_default.ensures.steps.0 c.loop-key.invariant

@@ -5,4 +5,4 @@ use Rattle.bdb_tool_dump.proofs.dumping.pairs.Given as goal
 -- What was printed, and the lines of the pairs that are left, are those of all.
 abbrev pub invariant-loop-key : goal.invariant-loop-key
 invariant-loop-key g l =
-    HasAdded g.K.Sink.written g.K.Sink.faults l.initial.printer l.printer (flat_map (pair_text l.print) l.key-iterator) (flat_map (pair_text l.print) l.fn.list)
+    HasAdded g.K.Sink.written g.K.Sink.faults l.initial.printer l.printer (flat_map (pair_text l.print) l.list) (flat_map (pair_text l.print) l.fn.list)

@@ -9,5 +9,5 @@ use Rattle.bdb_buckets.proofs.pair.Pair.head.Goals as goal
 pub returns : goal.returns
 returns c =
     subst (IsHead c.self.inside.head) c.self.view_is
-    (is_head c.self.inside.head c.self.inside.index
+    (is_head c.self.inside.head c.self.inside.key c.self.inside.index
     (told_as c.self.inside.forest c.self.inside.page (datum_seen c.self.inside.key) (hash_content_seen c.self.inside.item)) c.self.invariant)

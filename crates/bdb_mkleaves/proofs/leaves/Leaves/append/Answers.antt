@@ -1,5 +1,4 @@
-use Rattle.bdb_pack.specs.of_layout.Seen.{leaf_item_seen}
-use Rattle.bdb_mkleaves.specs.LeafEntries.{own_entry}
+use Rattle.bdb_mkleaves.proofs.Common.{leaf_item_seen, own_entry}
 use Rattle.bdb_mkleaves.proofs.LeavesLemmas.{grown, page_written}
 use Rattle.bdb_mkleaves.proofs.leaves.Leaves.append.Goals as goal
 

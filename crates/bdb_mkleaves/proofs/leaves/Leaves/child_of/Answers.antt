@@ -1,9 +1,5 @@
 use Rattle.std.proofs.Common.{sym, ◌∙◌, ap}
-use Rattle.bdb_places.specs.of_format.Terms.{two_at}
-use Rattle.bdb_pack.specs.Built.{bytes_of}
-use Rattle.bdb_mkleaves.specs.LeafChildren.{leaf_child}
-use Rattle.bdb_mkleaves.specs.LeafEntries.{count_of}
-use Rattle.bdb_mkleaves.specs.declared.levels.Child.{Child}
+use Rattle.bdb_mkleaves.proofs.Common.{two_at, bytes_of, leaf_child, count_of, Child}
 use Rattle.bdb_mkleaves.proofs.EntryLemmas.{entries_held}
 use Rattle.bdb_mkleaves.proofs.leaves.Leaves.child_of.Goals as goal
 

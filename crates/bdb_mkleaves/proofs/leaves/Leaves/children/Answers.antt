@@ -1,6 +1,5 @@
 use Rattle.std.proofs.Common.{◌∷◌, [], length, get_or, arith, sym, ap, subst, Contains}
-use Rattle.std.proofs.lemmas.List.Elements.{Contains-append_left, Contains-append_right, Contains-get_or}
-use Rattle.bdb_places.proofs.of_format.MemberLemmas.{first_member}
+use Rattle.bdb_mkleaves.proofs.Common.{Contains-append_left, Contains-append_right, Contains-get_or, first_member}
 use Rattle.bdb_mkleaves.proofs.ChildrenLemmas.{all_children, closed_more}
 use Rattle.bdb_mkleaves.proofs.leaves.Leaves.children.Goals as goal
 

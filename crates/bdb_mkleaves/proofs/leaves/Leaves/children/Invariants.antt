@@ -1,7 +1,4 @@
-use Rattle.std.specs.Prelude.{◌≡◌, List, take}
-use Rattle.bdb_mkleaves.specs.LeafChildren.{leaf_children}
-use Rattle.bdb_mkleaves.specs.LeafEntries.{Entry}
-use Rattle.bdb_mkleaves.specs.Moved.{AreLinked, numbers_of}
+use Rattle.bdb_mkleaves.proofs.Common.{◌≡◌, List, take, leaf_children, Entry, AreLinked, numbers_of}
 use Rattle.bdb_mkleaves.proofs.leaves.Leaves.children.Given as goal
 
 -- The children so far are those of the closed leaves passed.

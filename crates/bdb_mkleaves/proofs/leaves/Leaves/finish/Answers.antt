@@ -1,9 +1,5 @@
 use Rattle.std.proofs.Common.{IsTrue, subst, ◌≡◌, ◌≤◌, [], ◌∷◌, ◌++◌, map, length, arith, sym, ap, inl, inr, flat_map}
-use Rattle.std.proofs.lemmas.Bool.{eqb-false, eqb-true}
-use Rattle.std.proofs.lemmas.List.{nil_from_length}
-use Rattle.bdb_places.specs.of_format.Terms.{is_page_size}
-use Rattle.bdb_mkleaves.specs.Leaves.{first_of}
-use Rattle.bdb_mkleaves.specs.Placed.{entries_of}
+use Rattle.bdb_mkleaves.proofs.Common.{eqb-false, eqb-true, nil_from_length, is_page_size, first_of, entries_of}
 use Rattle.bdb_mkleaves.proofs.FinishedLemmas.{leaves_rooted_on, moved_children, moved_linked, moved_there, several_children, some_of}
 use Rattle.bdb_mkleaves.proofs.NodesLemmas.{last_has_unit, leaf_rooted}
 use Rattle.bdb_mkleaves.proofs.leaves.Leaves.finish.Goals as goal

@@ -1,7 +1,5 @@
 use Rattle.std.proofs.Common.{arith, false, refl, true, ◌∙◌, ap, subst}
-use Rattle.std.proofs.lemmas.Bool.{le-leb, lt-leb}
-use Rattle.bdb_pack.specs.Built.{bytes_of, with_page}
-use Rattle.bdb_mkleaves.specs.LeafEntries.{HoldsEntriesOn, with_field}
+use Rattle.bdb_mkleaves.proofs.Common.{le-leb, lt-leb, bytes_of, with_page, HoldsEntriesOn, with_field}
 use Rattle.bdb_mkleaves.proofs.LeavesLemmas.{opened}
 use Rattle.bdb_mkleaves.proofs.PushLemmas.{ready, some_leaves}
 use Rattle.bdb_mkleaves.proofs.leaves.Leaves.make_room.Goals as goal

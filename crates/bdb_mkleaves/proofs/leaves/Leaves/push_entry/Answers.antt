@@ -1,6 +1,5 @@
 use Rattle.std.proofs.Common.{ap, length, subst, ◌∙◌}
-use Rattle.bdb_mkleaves.specs.Filled.{IsReady}
-use Rattle.bdb_mkleaves.specs.Units.{EntryUnit, record_cost}
+use Rattle.bdb_mkleaves.proofs.Common.{IsReady, EntryUnit, record_cost}
 use Rattle.bdb_mkleaves.proofs.PushLemmas.{entry_pushed, some_pushed}
 use Rattle.bdb_mkleaves.proofs.leaves.Leaves.push_entry.Goals as goal
 

@@ -1,20 +1,14 @@
 use Rattle.std.proofs.Common.{◌∙◌, ◌∷◌, ◌≡◌, ap, false, subst, sym, All}
-use Rattle.std.proofs.lemmas.List.Elements.{All-head, All-tail}
-use Rattle.bdb_places.specs.Places.{values_seen}
-use Rattle.bdb_mkleaves.specs.Filled.{IsPushed, IsReady}
-use Rattle.bdb_mkleaves.specs.Runs.{IsShort}
-use Rattle.bdb_mkleaves.specs.Units.{KeyedUnit, has_own_tree, unit_cost}
+use Rattle.bdb_mkleaves.proofs.Common.{All-head, All-tail, values_seen, IsPushed, IsReady, IsShort, KeyedUnit, has_own_tree, unit_cost}
 use Rattle.bdb_mkleaves.proofs.PushLemmas.{pairs_pushed, some_pushed}
 use Rattle.bdb_mkleaves.proofs.SetPutLemmas.{pairs_keyed, tree_pushed}
 use Rattle.bdb_mkleaves.proofs.leaves.Leaves.push_keyed.Goals as goal
 
 pub put_pairs-requires-clause-first : goal.put_pairs-requires-clause-first
-put_pairs-requires-clause-first c =
-    All-head IsShort c.in-Some.first.now (values_seen c.in-Some.more) (subst (All IsShort) c.in-Some.ensures c.requires.short)
+put_pairs-requires-clause-first c = All-head IsShort c.in-Some.first.now (values_seen c.in-Some.more) (subst (All IsShort) c.in-Some.ensures c.requires.short)
 
 pub put_pairs-requires-clause-more : goal.put_pairs-requires-clause-more
-put_pairs-requires-clause-more c =
-    All-tail IsShort c.in-Some.first.now (values_seen c.in-Some.more) (subst (All IsShort) c.in-Some.ensures c.requires.short)
+put_pairs-requires-clause-more c = All-tail IsShort c.in-Some.first.now (values_seen c.in-Some.more) (subst (All IsShort) c.in-Some.ensures c.requires.short)
 
 pub returns-then-taken-clause-pushed : goal.returns-then-taken-clause-pushed
 returns-then-taken-clause-pushed c =

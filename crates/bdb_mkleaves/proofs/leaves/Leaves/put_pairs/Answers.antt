@@ -1,12 +1,5 @@
 use Rattle.std.proofs.Common.{arith, sym, ◌∙◌, ap, subst, ◌+◌, ◌≤◌}
-use Rattle.std.proofs.lemmas.List.{take_all}
-use Rattle.bdb_places.specs.Places.{values_seen}
-use Rattle.bdb_places.specs.of_format.Terms.{is_page_size}
-use Rattle.bdb_pack.specs.Built.{bytes_of}
-use Rattle.bdb_mkleaves.specs.LeafEntries.{room_of}
-use Rattle.bdb_mkleaves.specs.Puts.{IsPut}
-use Rattle.bdb_mkleaves.specs.Units.{value_cost}
-use Rattle.bdb_mkleaves.specs.Runs.{ArePairsPut}
+use Rattle.bdb_mkleaves.proofs.Common.{take_all, values_seen, is_page_size, bytes_of, room_of, IsPut, value_cost, ArePairsPut}
 use Rattle.bdb_mkleaves.proofs.PairsLemmas.{first_pair, first_room, more_pairs, room_again, some_of, takes_key}
 use Rattle.bdb_mkleaves.proofs.RunLemmas.{some_after}
 use Rattle.bdb_mkleaves.proofs.leaves.Leaves.put_pairs.Goals as goal
@@ -44,8 +37,7 @@ put-requires-in-loop-i-clause-leaves c =
     c.append_shared_key.ensures.count).0
 
 pub put-requires-in-loop-i-clause-legal : goal.put-requires-in-loop-i-clause-legal
-put-requires-in-loop-i-clause-legal c =
-    ap is_page_size (c.append_shared_key.ensures.grown.kept.size ∙ c.loop-i.invariant.run.kept.size) ∙ c.requires.legal
+put-requires-in-loop-i-clause-legal c = ap is_page_size (c.append_shared_key.ensures.grown.kept.size ∙ c.loop-i.invariant.run.kept.size) ∙ c.requires.legal
 
 pub put-requires-in-loop-i-clause-room : goal.put-requires-in-loop-i-clause-room
 put-requires-in-loop-i-clause-room c =

@@ -1,6 +1,4 @@
-use Rattle.std.specs.Prelude.{take}
-use Rattle.bdb_places.specs.Places.{values_seen}
-use Rattle.bdb_mkleaves.specs.Runs.{ArePairsPut}
+use Rattle.bdb_mkleaves.proofs.Common.{take, values_seen, ArePairsPut}
 use Rattle.bdb_mkleaves.proofs.leaves.Leaves.put_pairs.Given as goal
 
 -- The key is put with its first datum and so many others.

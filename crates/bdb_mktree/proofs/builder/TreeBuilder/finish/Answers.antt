@@ -1,6 +1,5 @@
 use Rattle.std.proofs.Common.{subst}
-use Rattle.bdb_mkleaves.specs.Finished.{HasFirstRoot}
-use Rattle.bdb_mkleaves.specs.Moved.{first_leaf}
+use Rattle.bdb_mktree.proofs.Common.{HasFirstRoot, first_leaf}
 use Rattle.bdb_mktree.proofs.FinishLemmas.{tree_built}
 use Rattle.bdb_mktree.proofs.builder.TreeBuilder.finish.Goals as goal
 

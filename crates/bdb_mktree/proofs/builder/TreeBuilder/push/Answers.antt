@@ -1,7 +1,5 @@
 use Rattle.std.proofs.Common.{ap, sym, subst}
-use Rattle.bdb_mkleaves.specs.Moved.{first_leaf}
-use Rattle.bdb_mkleaves.specs.Sets.{IsKeyedPushed}
-use Rattle.bdb_mktree.specs.Units.{unit_seen}
+use Rattle.bdb_mktree.proofs.Common.{first_leaf, IsKeyedPushed, unit_seen}
 use Rattle.bdb_mktree.proofs.BuildingLemmas.{before_kept, building_pushed, entry_keyed}
 use Rattle.bdb_mktree.proofs.builder.TreeBuilder.push.Goals as goal
 

@@ -1,6 +1,5 @@
 use Rattle.std.proofs.Common.{[], length, ap, sym, ◌+◌, ◌∙◌, ◌≡◌, true, subst}
-use Rattle.bdb_text_format.specs.of_format.Terms.{is_page_size}
-use Rattle.bdb_mkleaves.specs.Filled.{AreFilled}
+use Rattle.bdb_mktree.proofs.Common.{is_page_size, AreFilled}
 use Rattle.bdb_mktree.proofs.BuildingLemmas.{begun_building, first_begun, units_read}
 use Rattle.bdb_mktree.proofs.builder.TreeBuilder.start.Goals as goal
 

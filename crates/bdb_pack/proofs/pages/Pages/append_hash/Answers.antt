@@ -1,6 +1,4 @@
-use Rattle.bdb_layout.specs.of_format.Terms.{hash_bytes}
-use Rattle.bdb_layout.specs.Seen.{hash_content_seen}
-use Rattle.bdb_pack.specs.Placing.{page_and_item}
+use Rattle.bdb_pack.proofs.Common.{hash_bytes, hash_content_seen, page_and_item}
 use Rattle.bdb_pack.proofs.OpenLemmas.{edited}
 use Rattle.bdb_pack.proofs.pages.Pages.append_hash.Goals as goal
 

@@ -1,6 +1,4 @@
-use Rattle.bdb_layout.specs.of_format.Terms.{internal_bytes}
-use Rattle.bdb_layout.specs.Seen.{internal_item_seen}
-use Rattle.bdb_pack.specs.Placing.{page_and_item}
+use Rattle.bdb_pack.proofs.Common.{internal_bytes, internal_item_seen, page_and_item}
 use Rattle.bdb_pack.proofs.OpenLemmas.{edited}
 use Rattle.bdb_pack.proofs.pages.Pages.append_internal.Goals as goal
 

@@ -1,5 +1,4 @@
-use Rattle.bdb_layout.specs.of_format.Terms.{recno_bytes}
-use Rattle.bdb_pack.specs.Placing.{page_and_item}
+use Rattle.bdb_pack.proofs.Common.{recno_bytes, page_and_item}
 use Rattle.bdb_pack.proofs.OpenLemmas.{edited}
 use Rattle.bdb_pack.proofs.pages.Pages.append_recno.Goals as goal
 

@@ -1,6 +1,5 @@
 use Rattle.std.proofs.Common.{◌*◌, ◌++◌, length, take, drop, IsTrue, refl, sym, subst, ◌∙◌, ap, arith}
-use Rattle.bdb_layout.specs.of_format.Terms.{is_page_size}
-use Rattle.bdb_pack.specs.Built.{AreWhole, Built, bytes_of, cut, written_over}
+use Rattle.bdb_pack.proofs.Common.{is_page_size, AreWhole, Built, bytes_of, cut, written_over}
 use Rattle.bdb_pack.proofs.CutLemmas.{kept, length_cut, lent, long_enough, page_length, page_of_cut}
 use Rattle.bdb_pack.proofs.pages.Pages.page_mut.Goals as goal
 
